@@ -1,0 +1,60 @@
+// Why a source text is refused.
+
+use idx_core::Span;
+
+/// The codes of the faults of a source text, in the order of its checks (own choice): `E` for what the
+/// language refuses, `L` for a limit that is passed.
+#[derive(Clone, Copy, Debug, PartialEq, Eq, Drop)]
+pub enum Code {
+    /// A byte begins no token.
+    E01,
+    /// A number is out of range.
+    E02,
+    /// A token that no program can have at its place.
+    E03,
+    /// The text ends before the program does.
+    E04,
+    /// A value name without a binder.
+    E05,
+    /// A type name without a binder.
+    E06,
+    /// What is applied is not a function.
+    E07,
+    /// The argument has another type than the function takes.
+    E08,
+    /// What is applied to a type is not polymorphic.
+    E09,
+    /// What is projected is not a tuple.
+    E10,
+    /// The tuple has no such field.
+    E11,
+    /// An operand, or the test of an `if0`, is not an integer.
+    E12,
+    /// The branches of an `if0` have two types.
+    E13,
+    /// The body of a function has not the declared type.
+    E14,
+    /// The program is not an integer.
+    E15,
+    /// The compiler does not take this form yet.
+    E20,
+    /// The text has more than 1048576 bytes.
+    L1,
+    /// More than 200 constructs are open.
+    L2,
+    /// The term has more than 1000 nodes.
+    L3,
+    /// A type is deeper than 200.
+    L4,
+    /// A type has more than 10000 nodes.
+    L5,
+}
+
+/// Why a call on a source gave no answer.
+#[derive(Clone, Copy, Debug, PartialEq, Eq, Drop)]
+pub enum FFault {
+    /// Memory was wanted and not had.
+    Memory,
+    /// The source is refused: by which rule, and at which place.
+    Refused { code: Code, span: Span },
+}

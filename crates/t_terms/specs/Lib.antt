@@ -1,0 +1,5 @@
+pub mod Read
+pub mod Spanned
+pub mod Tree
+pub mod TreeLaws
+pub mod Whole

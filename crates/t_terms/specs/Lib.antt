@@ -1,5 +1,7 @@
 pub mod Read
 pub mod Spanned
+pub mod Text
+pub mod Tokens
 pub mod Tree
 pub mod TreeLaws
 pub mod Whole

@@ -1,4 +1,5 @@
 pub mod Read
+pub mod Shapes
 pub mod Spanned
 pub mod Tree
 pub mod TreeLaws

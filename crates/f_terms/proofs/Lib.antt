@@ -1,1 +1,4 @@
 mod Rows
+mod TextRows
+mod Texts
+mod Trees

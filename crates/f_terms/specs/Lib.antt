@@ -1,6 +1,8 @@
 pub mod Eval
+pub mod Laws
 pub mod Limits
 pub mod Read
+pub mod Text
 pub mod Tm
 pub mod Ty
 pub mod TyLaws

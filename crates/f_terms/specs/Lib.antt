@@ -1,4 +1,6 @@
+pub mod Accepted
 pub mod Eval
+pub mod Faults
 pub mod Laws
 pub mod Limits
 pub mod Read

@@ -11,7 +11,7 @@ returns-then-len t c =
     let same : tree c.args.a.now ≡ tree c.args.b.now → map tree c.in-Tuple-Tuple.ss.items ≡ map tree c.in-Tuple-Tuple.ts.items =
     λ h. tuple_parts _ _ (sym (tree_parts _ _ _ c.in-Tuple-Tuple.is-0 refl) ∙ h ∙ tree_parts _ _ _ c.in-Tuple-Tuple.is-1 refl) in (
       λ h. absurd (true≢false (sym h)),
-      λ h. absurd (c.if-len.true (omega (arith, c.len.ensures, c.len-in-Tuple-Tuple.ensures, c.in-Tuple-Tuple.ss.ok.0, c.in-Tuple-Tuple.ts.ok.0, length-map c.in-Tuple-Tuple.ss.items tree, length-map c.in-Tuple-Tuple.ts.items tree, ap length (same h)))),
+      λ h. absurd (omega (arith, c.if-len.true, c.len.ensures, c.len-in-Tuple-Tuple.ensures, c.in-Tuple-Tuple.ss.ok.0, c.in-Tuple-Tuple.ts.ok.0, length-map c.in-Tuple-Tuple.ss.items tree, length-map c.in-Tuple-Tuple.ts.items tree, ap length (same h))),
     )
 
 pub returns-then-not-eq : goal.returns-then-not-eq

@@ -1,0 +1,7 @@
+pub mod Eval
+pub mod Limits
+pub mod Read
+pub mod Tm
+pub mod Ty
+pub mod TyLaws
+pub mod Typing

@@ -1,0 +1,6 @@
+pub mod Read
+pub mod Shapes
+pub mod Spanned
+pub mod Tree
+pub mod TreeLaws
+pub mod Whole

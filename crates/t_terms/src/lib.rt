@@ -5,10 +5,12 @@ pub mod block;
 pub mod fault;
 pub mod instr;
 pub mod program;
+pub mod token;
 pub mod value;
 
 pub use block::Block;
 pub use fault::{TCode, TFault};
 pub use instr::{End, Instr};
 pub use program::TProgram;
+pub use token::{Kind, Token};
 pub use value::{Base, Value};

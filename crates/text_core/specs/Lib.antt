@@ -1,0 +1,3 @@
+pub mod Byte
+pub mod Tokens
+pub mod Lexeme

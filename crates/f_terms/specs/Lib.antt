@@ -1,0 +1,11 @@
+pub mod Accepted
+pub mod Eval
+pub mod Faults
+pub mod Laws
+pub mod Limits
+pub mod Read
+pub mod Text
+pub mod Tm
+pub mod Ty
+pub mod TyLaws
+pub mod Typing

@@ -1,6 +1,5 @@
 -- The laws of shift and put, proved once for every kind of tree.
 use Rattle.std.proofs.Common.{◌≡◌, ℕ, zero, suc, ◌+◌, ◌-◌, ◌<◌, ◌≤◌, ◌⊎◌, inl, inr, sym, ap, ◌∙◌, refl, arith, zero-add, subst}
-use Rattle.std.specs.Prelude.{nat_lt, if◌then◌else◌, ◌==◌}
 use Rattle.std.proofs.lemmas.Bool.Decides.{nat_tests}
 use Rattle.std.proofs.lemmas.Bool.{cases_lt, cases_order}
 use Rattle.idx_core.specs.Over.{deep, At, Over, shifted, putted, IsOver, IsPart, Each, IsEach, IsEachPart, BelowAt, AnyDepth}

@@ -1,0 +1,12 @@
+mod Closing
+mod FaultRows
+mod Faulty
+mod Limited
+mod OneType
+mod Refusals
+mod Rows
+mod Sound
+mod TextRows
+mod Texts
+mod Trees
+mod Turns

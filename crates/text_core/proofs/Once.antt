@@ -1,6 +1,6 @@
 -- A text is cut in one way, and not at all where a fault stands; its first fault is one.
-use Rattle.std.proofs.Common.{◌≡◌, ◌≢◌, ◌≤◌, ◌<◌, ℕ, zero, suc, ◌+◌, List, [], ◌∷◌, ◌++◌, length, drop, refl, sym, ◌∙◌, ap, subst, arith}
-use Rattle.text_core.specs.Tokens.{Tokens, Spells, s_word, s_plain, s_negative, s_sign, s_pair, IsGap, g_space, g_comment, Item, Gap, Spelling, Nothing, Next, n_gap, n_spelling, n_nothing, Cut, c_end, c_gap, c_token, Reaches, r_here, r_gap, r_token, Reason, NoToken, OutOfRange, Wrong, w_none, w_bounds, FirstWrong, HasSigns}
+use Rattle.std.proofs.Common.{◌≡◌, ◌<◌, ℕ, ◌+◌, List, [], ◌∷◌, ◌++◌, length, drop, refl, sym, ◌∙◌, subst, arith}
+use Rattle.text_core.specs.Tokens.{Tokens, Spells, s_word, s_plain, s_negative, s_sign, s_pair, IsGap, g_space, g_comment, Item, Gap, Spelling, Nothing, Next, n_gap, n_spelling, n_nothing, Cut, c_end, c_gap, c_token, Reaches, r_here, r_gap, r_token, Reason, Wrong, w_none, w_bounds, FirstWrong, HasSigns}
 use Rattle.text_core.proofs.Items.{one_next}
 
 -- an item is not empty
@@ -61,11 +61,11 @@ module _ (g : Tokens) (signs : HasSigns g) where
       tokens r (b_end p e) = absurd (no_item h p)
       tokens r (b_gap m o x) = let e = one_next g signs s (Spelling k n) (Gap m) h o in absurd (cc)
       tokens r (b_token m j u o p x e) =
-        let f = one_next g signs s (Spelling k n) (Spelling j m) h o in
-        let a : m ≡ n = cc in
-        let b : j ≡ k = cc in
-        let y = r u (subst (λ (a : ℕ). Cut g (i + a) (drop a s) u) a x) in
-        rw (y, ← a, ← b) (sym e)
+          let f = one_next g signs s (Spelling k n) (Spelling j m) h o in
+          let a : m ≡ n = cc in
+          let b : j ≡ k = cc in
+          let y = r u (subst (λ (a : ℕ). Cut g (i + a) (drop a s) u) a x) in
+          rw (y, ← a, ← b) (sym e)
 
   -- a cut goes on from each place that is reached
   record GoesOn (j : ℕ) (r : List ℕ) : Type 0 where
@@ -100,8 +100,8 @@ module _ (g : Tokens) (signs : HasSigns g) where
       large (b_end p e) = no_item h p
       large (b_gap m o y) = let e = one_next g signs s (Spelling k n) (Gap m) h o in cc
       large (b_token m l u o p y e) =
-        let z = one_next g signs s (Spelling k n) (Spelling l m) h o in
-        let q : l ≡ k = cc in f (subst (λ (x : g.Kind). g.Keeps x) q p)
+          let z = one_next g signs s (Spelling k n) (Spelling l m) h o in
+          let q : l ≡ k = cc in f (subst (λ (x : g.Kind). g.Keeps x) q p)
 
   -- a cut text has no fault
   pub cut_or_wrong : (text : List ℕ) (w : List g.Token) (why : Reason) (start end : ℕ) → Cut g 0 text w → FirstWrong g text why start end → ⊥
@@ -129,8 +129,8 @@ module _ (g : Tokens) (signs : HasSigns g) where
   stays (w_none {s} h) (r_token {n = m} {k = l} o p x) = let e = one_next g signs s Nothing (Spelling l m) h o in absurd (cc)
   stays (w_bounds {s} {k} {n} h f) (r_gap {n = m} o x) = let e = one_next g signs s (Spelling k n) (Gap m) h o in absurd (cc)
   stays (w_bounds {s} {k} {n} h f) (r_token {n = m} {k = l} o p x) =
-    let e = one_next g signs s (Spelling k n) (Spelling l m) h o in
-    let q : l ≡ k = cc in absurd (f (subst (λ (y : g.Kind). g.Keeps y) q p))
+      let e = one_next g signs s (Spelling k n) (Spelling l m) h o in
+      let q : l ≡ k = cc in absurd (f (subst (λ (y : g.Kind). g.Keeps y) q p))
 
   -- what a way to another place begins with
   data Leads (i : ℕ) (s : List ℕ) (j : ℕ) (r : List ℕ) : Type 0 where
@@ -145,8 +145,8 @@ module _ (g : Tokens) (signs : HasSigns g) where
 
   here_only : {i j j' : ℕ} {s r r' : List ℕ} {why : Reason} {n : ℕ} → SamePlace i s j' r' → Wrong g r' why n → Reaches g i s j r → SamePlace j r j' r'
   here_only {s} {why} {n} e k x =
-    let f = stays (subst (λ (z : List ℕ). Wrong g z why n) (sym e.rest) k) x in
-    record { place = sym f.place ∙ e.place; rest = sym f.rest ∙ e.rest }
+      let f = stays (subst (λ (z : List ℕ). Wrong g z why n) (sym e.rest) k) x in
+      record { place = sym f.place ∙ e.place; rest = sym f.rest ∙ e.rest }
 
   one_place : {i j j' : ℕ} {s r r' : List ℕ} {why why' : Reason} {n n' : ℕ} → Reaches g i s j r → Wrong g r why n → Reaches g i s j' r' → Wrong g r' why' n' → SamePlace j r j' r'
   one_place r_here h y k = stays h y
@@ -170,8 +170,8 @@ module _ (g : Tokens) (signs : HasSigns g) where
     pub ends : end ≡ end'
 
   pub one_wrong : (text : List ℕ) (why : Reason) (start end : ℕ) (why' : Reason) (start' end' : ℕ) → FirstWrong g text why start end → FirstWrong g text why' start' end' →
-    SameFault why start end why' start' end'
+      SameFault why start end why' start' end'
   one_wrong text why start end why' start' end' f h =
-    let p = one_place f.reached f.wrong h.reached h.wrong in
-    let w = same_wrong f.wrong (subst (λ (z : List ℕ). Wrong g z why' h.length) (sym p.rest) h.wrong) in
-    record { reason = w.reason; starts = p.place; ends = f.ends ∙ (omega (arith, p.place, w.length) ∙ sym h.ends) }
+      let p = one_place f.reached f.wrong h.reached h.wrong in
+      let w = same_wrong f.wrong (subst (λ (z : List ℕ). Wrong g z why' h.length) (sym p.rest) h.wrong) in
+      record { reason = w.reason; starts = p.place; ends = f.ends ∙ (omega (arith, p.place, w.length) ∙ sym h.ends) }

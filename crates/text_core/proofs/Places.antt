@@ -1,5 +1,5 @@
 -- Equal places in a text.
-use Rattle.std.proofs.Common.{◌≡◌, ℕ}
+use Rattle.std.proofs.Common.{◌≡◌}
 use Rattle.idx_core.specs.declared.span.Span.{Span}
 
 pub same_span : (a b : Span) → a.start ≡ b.start → a.end ≡ b.end → a ≡ b

@@ -1,9 +1,8 @@
 -- Runs of bytes of one kind, by place.
-use Rattle.std.proofs.Common.{◌≡◌, ◌≢◌, ◌≤◌, ◌<◌, ℕ, zero, suc, ◌+◌, ◌-◌, ◌*◌, ◌/◌, ◌^◌, List, [], ◌∷◌, ◌++◌, length, take, drop, get_or, Bool, true, false, refl, sym, ◌∙◌, ap, arith, ◌&&◌, lit≤, drop-cons, add-one}
-use Rattle.std.specs.Prelude.{nat_lt, if◌then◌else◌}
+use Rattle.std.proofs.Common.{◌≡◌, ◌≤◌, ◌<◌, ℕ, ◌+◌, ◌-◌, ◌*◌, ◌/◌, ◌^◌, List, [], ◌∷◌, ◌++◌, length, drop, get_or, Bool, true, false, refl, sym, ◌∙◌, ap, arith, lit≤, drop-cons, add-one}
+use Rattle.std.specs.Prelude.{nat_lt}
 use Rattle.std.specs.List.{prefix_len, take_while, list_all}
 use Rattle.std.proofs.lemmas.Bool.{ltb-true, and_parts}
-use Rattle.std.proofs.lemmas.List.{take-append-drop}
 use Rattle.std.proofs.lemmas.List.Sums.{prefix_len-drop_yes, take_while-cons}
 use Rattle.std.proofs.Math.Nat.{le_trans, lt_of_lt_of_le}
 use Rattle.std.proofs.Math.ListN.{drop_of_length-le}
@@ -40,9 +39,9 @@ run_all p (b ∷ s) = go (p b) refl (run_all p s)
 pub run_longest : (p : ℕ → Bool) (u r : List ℕ) → list_all p u ≡ true → length u ≤ prefix_len p (u ++ r)
 run_longest p [] r h = omega arith
 run_longest p (b ∷ u) r h =
-  let x = and_parts (p b) (list_all p u) h in
-  let y = run_longest p u r x.1 in
-  rw x.0 (omega arith)
+    let x = and_parts (p b) (list_all p u) h in
+    let y = run_longest p u r x.1 in
+    rw x.0 (omega arith)
 
 -- the value of digits
 
@@ -72,30 +71,32 @@ module _ (t : List ℕ) (at i v : ℕ) (f : Bool) (h : DigitsSoFar t at i v f) (
 
   pub digits_more : v ≤ (2 ^ 63 - (get_or t i 0 - 48)) / 10 → DigitsSoFar t at (i + 1) (v * 10 + (get_or t i 0 - 48)) f
   digits_more m =
-    let r = digit_range (get_or t i 0) n in
-    let k : get_or t i 0 - 48 ≤ 10 = omega arith in
-    record {
-      in_range = omega arith;
-      same_end = ends;
-      bound = room (2 ^ 63) v (get_or t i 0 - 48) (le_trans k (lit≤ tt)) m;
-      small = λ x. ap (λ (w : List ℕ). value_from v w) (sym (run_more digit t i l n)) ∙ h.small x;
-      large = h.large }
+      let r = digit_range (get_or t i 0) n in
+      let k : get_or t i 0 - 48 ≤ 10 = omega arith in
+      record {
+        in_range = omega arith;
+        same_end = ends;
+        bound = room (2 ^ 63) v (get_or t i 0 - 48) (le_trans k (lit≤ tt)) m;
+        small = λ x. ap (λ (w : List ℕ). value_from v w) (sym (run_more digit t i l n)) ∙ h.small x;
+        large = h.large;
+      }
 
   pub digits_large : (f ≡ true → (2 ^ 63 - (get_or t i 0 - 48)) / 10 < v) → DigitsSoFar t at (i + 1) v false
   digits_large m = record {
-      in_range = omega arith;
-      same_end = ends;
-      bound = h.bound;
-      small = λ x. absurd (cc);
-      large = λ x. by_flag f refl }
+    in_range = omega arith;
+    same_end = ends;
+    bound = h.bound;
+    small = λ x. absurd (cc);
+    large = λ x. by_flag f refl;
+  }
     where
       by_flag : (g : Bool) → f ≡ g → 2 ^ 63 < value (take_while digit (drop at t))
       by_flag false p = h.large p
       by_flag true p =
-        let a = grows (take_while digit (drop (i + 1) t)) (v * 10 + (get_or t i 0 - 48)) in
-        let b = no_room (2 ^ 63) v (get_or t i 0 - 48) (m p) in
-        let c : value_from v (take_while digit (drop i t)) ≡ value_from (v * 10 + (get_or t i 0 - 48)) (take_while digit (drop (i + 1) t)) = ap (λ (w : List ℕ). value_from v w) (run_more digit t i l n) in
-        rw (← h.small p, c) (lt_of_lt_of_le b a)
+          let a = grows (take_while digit (drop (i + 1) t)) (v * 10 + (get_or t i 0 - 48)) in
+          let b = no_room (2 ^ 63) v (get_or t i 0 - 48) (m p) in
+          let c : value_from v (take_while digit (drop i t)) ≡ value_from (v * 10 + (get_or t i 0 - 48)) (take_while digit (drop (i + 1) t)) = ap (λ (w : List ℕ). value_from v w) (run_more digit t i l n) in
+          rw (← h.small p, c) (lt_of_lt_of_le b a)
 
 pub digits_start : (t : List ℕ) (at : ℕ) → at ≤ length t → DigitsSoFar t at at 0 true
 digits_start t at l = record { in_range = l; same_end = refl; bound = lit≤ tt; small = λ x. refl; large = λ x. absurd (cc) }
@@ -103,5 +104,6 @@ digits_start t at l = record { in_range = l; same_end = refl; bound = lit≤ tt;
 -- where the digits end
 pub digits_done : (t : List ℕ) (at i v : ℕ) (f : Bool) → DigitsSoFar t at i v f → take_while digit (drop i t) ≡ [] → IsValue v f (take_while digit (drop at t))
 digits_done t at i v f h e = record {
-    small = λ x. let q : v ≡ value (take_while digit (drop at t)) = ap (λ (w : List ℕ). value_from v w) (sym e) ∙ h.small x in (q, rw q at h.bound);
-    large = h.large }
+  small = λ x. let q : v ≡ value (take_while digit (drop at t)) = ap (λ (w : List ℕ). value_from v w) (sym e) ∙ h.small x in (q, rw q at h.bound);
+  large = h.large;
+}

@@ -3,7 +3,6 @@ use Rattle.std.specs.Prelude.{◌≡◌, ◌≤◌, ◌<◌, ℕ, ◌+◌, ◌-�
 use Rattle.std.specs.List.{prefix_len}
 use Rattle.text_core.specs.Byte.{space, digit, letter, of_word, of_line, value}
 use Rattle.text_core.specs.Tokens.{Tokens, Item, Gap, Spelling, Nothing}
-use Rattle.text_core.specs.declared.lexeme.Digits.{Digits}
 use Rattle.text_core.specs.declared.lexeme.Lexeme.{Lexeme}
 use Rattle.text_core.specs.declared.lexeme.Lexeme.TheVariants.{Blank, Word, Plain, Negative, Other}
 use Rattle.text_core.specs.declared.lexeme.Found.{Found}
@@ -30,12 +29,12 @@ at_negative (b ∷ (c ∷ s)) = b == 126 && digit c
 abbrev pub piece : List ℕ → Piece
 piece [] = POther
 piece (b ∷ s) =
-  if space b then PGap 1
-  else if at_dashes (b ∷ s) then PGap (2 + prefix_len of_line (drop 1 s))
-  else if letter b then PWord (1 + prefix_len of_word s)
-  else if digit b then PPlain (1 + prefix_len digit s)
-  else if at_negative (b ∷ s) then PNegative (1 + prefix_len digit s)
-  else POther
+    if space b then PGap 1
+    else if at_dashes (b ∷ s) then PGap (2 + prefix_len of_line (drop 1 s))
+    else if letter b then PWord (1 + prefix_len of_word s)
+    else if digit b then PPlain (1 + prefix_len digit s)
+    else if at_negative (b ∷ s) then PNegative (1 + prefix_len digit s)
+    else POther
 
 -- the sign that stands next, of two bytes where there is one
 abbrev pub of_sign : {K : Type 0} → Option K → Item K

@@ -1,5 +1,5 @@
 -- The tokens of a text over any set of tokens: gaps and longest spellings in turn.
-use Rattle.std.specs.Prelude.{◌≡◌, ◌≢◌, ◌≤◌, ◌<◌, ℕ, ◌+◌, ◌==◌, if◌then◌else◌, List, [], ◌∷◌, ◌++◌, length, drop, true, Option, Some, None}
+use Rattle.std.specs.Prelude.{◌≡◌, ◌≢◌, ◌≤◌, ℕ, ◌+◌, ◌==◌, if◌then◌else◌, List, [], ◌∷◌, ◌++◌, length, drop, true, Option, Some, None}
 use Rattle.std.specs.List.{list_all}
 use Rattle.text_core.specs.Byte.{space, digit, letter, of_word, of_line, mark, value}
 
@@ -68,7 +68,7 @@ pub data Cut (g : Tokens) : ℕ → List ℕ → List g.Token → Type 0 where
   c_end : {i : ℕ} → Cut g i [] []
   c_gap : {i n : ℕ} {s : List ℕ} {w : List g.Token} → Next g s (Gap n) → Cut g (i + n) (drop n s) w → Cut g i s w
   c_token : {i n : ℕ} {k : g.Kind} {s : List ℕ} {w : List g.Token} → Next g s (Spelling k n) → g.Keeps k → Cut g (i + n) (drop n s) w →
-    Cut g i s (g.token k i (i + n) ∷ w)
+      Cut g i s (g.token k i (i + n) ∷ w)
 
 -- from the place i with the bytes s after it, the place j with the bytes r after it is reached by gaps and by spellings that keep their bounds
 pub data Reaches (g : Tokens) : ℕ → List ℕ → ℕ → List ℕ → Type 0 where

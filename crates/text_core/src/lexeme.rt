@@ -114,7 +114,11 @@ pub fn read_digits(text: &[u8], at: usize) -> Digits
         }
         i += 1;
     }
-    Digits { value, fits, end: i }
+    Digits {
+        value,
+        fits,
+        end: i,
+    }
 }
 
 fn is_comment(text: &[u8], at: usize) -> bool

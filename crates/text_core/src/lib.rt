@@ -3,4 +3,7 @@
 
 pub mod lexeme;
 
-pub use lexeme::{Digits, Found, Lexeme, is_digit, is_letter, is_of_word, line_end, next_lexeme, read_digits, word_end};
+pub use lexeme::{
+    Digits, Found, Lexeme, is_digit, is_letter, is_of_word, line_end, next_lexeme, read_digits,
+    word_end,
+};

@@ -6,7 +6,8 @@ use Rattle.text_core.proofs.lexeme.line_end.Given as goal
 abbrev pub invariant-loop-i : goal.invariant-loop-i
 invariant-loop-i l = record {
   in_range : l.i ≤ length l.text;
-  same_end : l.i + prefix_len byte.of_line (drop l.i l.text) ≡ l.at + prefix_len byte.of_line (drop l.at l.text) }
+  same_end : l.i + prefix_len byte.of_line (drop l.i l.text) ≡ l.at + prefix_len byte.of_line (drop l.at l.text);
+}
 
 abbrev pub decreases-loop-i : goal.decreases-loop-i
 decreases-loop-i l = length l.text - l.i

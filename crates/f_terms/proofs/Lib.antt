@@ -2,7 +2,6 @@ mod Closing
 mod FaultRows
 mod Faulty
 mod Limited
-mod OneType
 mod Refusals
 mod Rows
 mod Sound

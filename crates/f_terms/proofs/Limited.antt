@@ -8,7 +8,7 @@ use Rattle.f_terms.specs.Typing.{ty_at, field_ty, raised, in_fix, HasType, HaveT
 use Rattle.f_terms.specs.Faults.{Passes, PassAll}
 use Rattle.f_terms.specs.Accepted.{TypeWithin, KeepsLimits, AllKeepLimits}
 use Rattle.f_terms.specs.Laws.{AllWithin, PassesWhereTyped}
-use Rattle.f_terms.proofs.OneType.{one_type, some_is}
+use Rattle.f_terms.specs.OneType.{one_type, some_is}
 use Rattle.f_terms.proofs.Faulty.{has_type}
 
 -- a shift keeps size and depth

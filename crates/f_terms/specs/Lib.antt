@@ -3,6 +3,8 @@ pub mod Eval
 pub mod Faults
 pub mod Laws
 pub mod Limits
+pub mod OneType
+pub mod Props
 pub mod Read
 pub mod Text
 pub mod Tm

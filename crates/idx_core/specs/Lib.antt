@@ -1,3 +1,4 @@
 pub mod Arith
 pub mod Laws
 pub mod Over
+pub mod Steps

@@ -1,0 +1,16 @@
+-- When a program means the same as a term of the source.
+use Rattle.std.specs.Prelude.{◌≡◌, ℕ, ℤ, List}
+use Rattle.f_terms.specs.Tm.{Term, MNum}
+use Rattle.f_terms.specs.Eval.{Evaluates}
+use Rattle.t_terms.specs.Tree.{TBlock}
+use Rattle.t_rules.specs.Machine.{HaltsWithin, Halts}
+
+-- where the term evaluates to i, the program halts with i; and where the program halts with i within n
+-- instructions, the term evaluates to i within n turns
+pub record SameMeaning (e : Term) (P : List TBlock) : Type 0 where
+  pub forth : (n : ℕ) (i : ℤ) → Evaluates e n i → Halts P i
+  pub back : (n : ℕ) (i : ℤ) → HaltsWithin P n i → Evaluates e n i
+
+-- the term is one integer
+abbrev pub IsNumber : Term → Type 0
+IsNumber e = (i : ℤ) × (e ≡ MNum i)

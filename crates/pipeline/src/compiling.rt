@@ -1,0 +1,89 @@
+// Compiling.
+ghost use Rattle.std.specs.Prelude.{◌≡◌, IfOk};
+ghost use Rattle.f_terms.specs.Read.{term_of};
+ghost use Rattle.pipeline.specs.Meaning.{IsNumber, SameMeaning};
+ghost use Rattle.t_rules.specs.Rules.{Accepted};
+ghost use Rattle.t_terms.specs.Read.{blocks_of};
+ghost use Rattle.t_terms.specs.Shapes.{operations, one_move, IsOneMove};
+
+use f_terms::{FForm, FTerm};
+use idx_core::{OutOfMemory, Span};
+use std::alloc::Global;
+use t_terms::{Base, Block, End, Instr, TProgram, Value};
+use t_types::RegFile;
+
+/// The program of a term: the typing rules accept it, and it halts with the integer that the term evaluates to.
+/// Only a term that is one integer is compiled yet.
+pub fn compile(alloc: Global, term: &FTerm) -> Result<TProgram, OutOfMemory>
+    requires { IsNumber (term_of term.now) }
+    ensures meaning { IfOk result (λ p. SameMeaning (term_of term.now) (blocks_of p.blocks.items)) }
+    ensures accepted { IfOk result (λ p. Accepted (blocks_of p.blocks.items)) }
+    ensures arithmetic { IfOk result (λ p. operations (blocks_of p.blocks.items) ≡ 0) }
+    ensures shape { IfOk result (λ p. IsOneMove (blocks_of p.blocks.items)) }
+{
+    match &term.form {
+        FForm::Int(i) => move_and_halt(alloc, *i, term.span),
+        _ => unreachable!(),
+    }
+}
+
+// One block: the integer is moved into register 1.
+fn move_and_halt(alloc: Global, i: i64, span: Span) -> Result<TProgram, OutOfMemory>
+    ensures { IfOk result (λ p. blocks_of p.blocks.items ≡ one_move i) }
+{
+    let v = Value::Plain {
+        base: Base::Int(i),
+        types: Vec::new(alloc),
+    };
+    let mut body = Vec::new(alloc);
+    body.push((Instr::Mov { rd: 1, v }, span))?;
+    let block = Block {
+        name: span,
+        owes: 0,
+        regs: RegFile {
+            regs: Vec::new(alloc),
+        },
+        body,
+        end: End::Halt,
+        end_span: span,
+    };
+    let mut blocks = Vec::new(alloc);
+    blocks.push(block)?;
+    Ok(TProgram { blocks })
+}
+
+#[cfg(test)]
+mod tests {
+    use super::*;
+
+    // the program of 7 has one block, whose one instruction moves 7 into register 1
+    #[test]
+    fn one_number(rt: HostRuntime) -> Result<(), OutOfMemory> {
+        let term = FTerm {
+            span: Span { start: 0, end: 1 },
+            form: FForm::Int(7),
+        };
+        let program = compile(rt.alloc(), &term)?;
+        assert_eq!(rt; program.blocks.len(), 1);
+        for block in &program.blocks {
+            assert_eq!(rt; block.body.len(), 1);
+            for entry in &block.body {
+                assert_eq!(rt; moved(&entry.0), 7);
+            }
+        }
+        Ok(())
+    }
+
+    fn moved(i: &Instr) -> i64 {
+        match i {
+            Instr::Mov {
+                rd: 1,
+                v: Value::Plain {
+                    base: Base::Int(i),
+                    types: _,
+                },
+            } => *i,
+            _ => 0,
+        }
+    }
+}

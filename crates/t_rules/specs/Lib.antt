@@ -1,0 +1,4 @@
+pub mod Machine
+pub mod Registers
+pub mod Rules
+pub mod Times

@@ -1,0 +1,1 @@
+-- What the general laws of shift and put ask of values, instructions, sequences and blocks: one case for each constructor.

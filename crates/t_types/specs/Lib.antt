@@ -1,0 +1,6 @@
+pub mod Fields
+pub mod Fits
+pub mod Read
+pub mod Tree
+pub mod TreeLaws
+pub mod WellFormed

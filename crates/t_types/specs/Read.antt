@@ -1,0 +1,34 @@
+-- The plain trees of the program's values.
+use Rattle.std.specs.Prelude.{ℕ, Bool, List, [], ◌∷◌}
+use Rattle.t_types.specs.Tree.{Ty, IntTy, VarTy, CodeTy, ExistsTy, TupleTy, TFile, NoRegs, MoreRegs, TFields, NoFields, MoreFields}
+use Rattle.t_types.specs.declared.types.TType.{TType, Row_of-RegFile-regs-2 as RegRow, end_of-RegFile-regs-2 as end_of_regs, more_of-RegFile-regs-2 as more_of_regs, Row_of-TType-Tuple-0-2 as FieldRow, end_of-TType-Tuple-0-2 as end_of_fields, more_of-TType-Tuple-0-2 as more_of_fields}
+use Rattle.t_types.specs.declared.types.TType.TheVariants.{Int, Var, Code', Exists', Tuple'}
+
+abbrev mutual
+  pub tree : TType → Ty
+  tree Int = IntTy
+  tree (Var i) = VarTy i
+  tree (Code' owes n row) = CodeTy owes (row_file row)
+  tree (Exists' p t) = ExistsTy (tree t)
+  tree (Tuple' n row) = TupleTy (row_fields row)
+
+  pub row_file : {n : _} → RegRow n → TFile
+  row_file end_of_regs = NoRegs
+  row_file (more_of_regs r t rest) = MoreRegs r (tree t) (row_file rest)
+
+  pub row_fields : {n : _} → FieldRow n → TFields
+  row_fields end_of_fields = NoFields
+  row_fields (more_of_fields t flag rest) = MoreFields (tree t) flag (row_fields rest)
+
+-- the same of the items of a vector
+abbrev pub file : List (ℕ × TType) → TFile
+file [] = NoRegs
+file (x ∷ xs) = MoreRegs x.0 (tree x.1) (file xs)
+
+abbrev pub fields : List (TType × Bool) → TFields
+fields [] = NoFields
+fields (x ∷ xs) = MoreFields (tree x.0) x.1 (fields xs)
+
+abbrev pub types : List TType → List Ty
+types [] = []
+types (t ∷ ts) = tree t ∷ types ts

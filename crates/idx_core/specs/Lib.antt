@@ -2,3 +2,4 @@ pub mod Arith
 pub mod Laws
 pub mod Names
 pub mod Over
+pub mod Steps

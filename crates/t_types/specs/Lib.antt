@@ -1,6 +1,8 @@
 pub mod Fields
 pub mod Fits
+pub mod Laws
 pub mod Read
+pub mod Rising
 pub mod Tree
 pub mod TreeLaws
 pub mod WellFormed

@@ -1,3 +1,5 @@
+pub mod Faults
+pub mod LawsFaults
 pub mod Machine
 pub mod Registers
 pub mod Rules

@@ -1,6 +1,9 @@
 pub mod Fields
 pub mod Fits
+pub mod FitsLaws
+pub mod PutLaws
 pub mod Read
+pub mod Scope
 pub mod Tree
 pub mod TreeLaws
 pub mod WellFormed

@@ -1,5 +1,7 @@
 pub mod Faults
+pub mod HeapTypes
 pub mod LawsFaults
+pub mod LawsSound
 pub mod Machine
 pub mod Registers
 pub mod Rules

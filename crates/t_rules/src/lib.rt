@@ -2,5 +2,11 @@
 #![tactic(auto)]
 
 pub mod faults;
+pub mod soundness;
 
 pub use faults::{accepted_programs_have_no_fault, one_fault, one_file, one_type};
+pub use soundness::{
+    accepted_programs_are_never_stuck, accepted_programs_go_on, heap_fields_only_fill,
+    jumps_enter_with_types, loaded_fields_are_full, registers_may_be_older, runs_are_unique,
+    states_are_typed, words_are_used_at_their_kind,
+};

@@ -1,5 +1,7 @@
+pub mod Erase
 pub mod Faults
 pub mod HeapTypes
+pub mod LawsErased
 pub mod LawsFaults
 pub mod LawsSound
 pub mod Machine

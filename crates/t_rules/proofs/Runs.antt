@@ -1,21 +1,18 @@
 -- The states of accepted programs are typed, and what follows of each.
-use Rattle.std.proofs.Common.{◌≡◌, ℕ, zero, suc, ◌+◌, ◌-◌, ◌<◌, ◌≤◌, Bool, true, false, List, [], ◌∷◌, length, Option, Some, None, refl, sym, ap, ap₂, ◌∙◌, subst, arith, inl, inr, ◌⊎◌, ⊎_elim, slice_get, IsTrue}
+use Rattle.std.proofs.Common.{◌≡◌, ℕ, zero, suc, ◌+◌, ◌-◌, ◌<◌, ◌≤◌, List, [], ◌∷◌, length, Some, None, refl, sym, ap, ◌∙◌, subst, arith, inl, inr, ◌⊎◌, ⊎_elim, slice_get}
 use Rattle.std.proofs.lemmas.Bool.{cases_lt}
-use Rattle.std.specs.Prelude.{ℤ, option_and_then}
-use Rattle.t_types.specs.Tree.{Ty, IntTy, CodeTy, ExistsTy, TupleTy, TFields, put, Below, BelowFile}
-use Rattle.t_types.specs.Fields.{AField, field}
-use Rattle.t_types.specs.Fits.{FieldsFit, RegTypes, lookup}
-use Rattle.t_types.specs.FitsLaws.{field_fits}
+use Rattle.std.specs.Prelude.{ℤ}
+use Rattle.t_types.specs.Tree.{Ty, BelowFile}
+use Rattle.t_types.specs.Fits.{lookup}
 use Rattle.t_types.specs.Scope.{regs_below}
-use Rattle.t_terms.specs.Tree.{TValue, Arith, Bnz, Ld, Malloc, Mov, St, Unpack, Jmp, Halt, TSeq, Then, Ends, TBlock}
+use Rattle.t_terms.specs.Tree.{TSeq, TBlock}
 use Rattle.t_terms.specs.Whole.{WellFormedBlock, WellFormedBlocks, Whole}
-use Rattle.t_rules.specs.Rules.{label_type, SeqAccepted, BlockAccepted, BlocksAccepted, FirstTakesNothing, Accepted}
-use Rattle.t_rules.specs.Machine.{Word, IntWord, AddressWord, LabelWord, EmptyWord, PackWord, Heap, RegWords, State, At, Means, Where, Next, Into, Step, HaltedWith, Stuck, Start, Place, After, HaltsWithin}
-use Rattle.t_rules.specs.HeapTypes.{HeapTypes, WordHas, FieldHas, HeapHas, RegsHave, StateTyped, Rises, stored_at, types_after, heap_types}
-use Rattle.t_rules.specs.LawsSound.{Reached, NeverStuck, OneStep, NoStep, HaltedOrOneStep, RunsOn, OneRun, OneAnswer, IsFull, word_at, LoadedFieldsAreFull, EntersWithTypes, JumpsEnterWithTypes, BranchesEnterWithTypes, UsesAtKind, WordsAreUsedAtTheirKind, StatesAreTyped, heap_of, regs_of, code_of, HeapFieldsOnlyFill, RegistersMayBeOlder}
+use Rattle.t_rules.specs.Rules.{SeqAccepted, BlockAccepted, BlocksAccepted, Accepted}
+use Rattle.t_rules.specs.Machine.{State, At, Where, Step, HaltedWith, Start, Place, After}
+use Rattle.t_rules.specs.HeapTypes.{HeapTypes, StateTyped, types_after, heap_types}
+use Rattle.t_rules.specs.LawsSound.{Reached, NeverStuck, HaltedOrOneStep, RunsOn, OneRun, OneAnswer, StatesAreTyped}
 use Rattle.t_rules.proofs.Puts.{ClosedLabels}
-use Rattle.t_rules.proofs.Words.{word_rises, tuple_at, types_at, word_of_field, field_of_word, is_address, rises_same, rises_next, rises_filled, rises_pushed}
-use Rattle.t_rules.proofs.OneStep.{means_one, step_one, after_one, before, halted_no_step, halted_one}
+use Rattle.t_rules.proofs.OneStep.{step_one, after_one, before, halted_no_step, halted_one}
 use Rattle.t_rules.proofs.Safe.{BlocksTyped, GoesOn, safe}
 
 well_formed_at : (p : ℕ) (bs : List TBlock) → WellFormedBlocks p bs → (l : ℕ) (b : TBlock) → slice_get bs l ≡ Some b → WellFormedBlock p b
@@ -48,14 +45,14 @@ start_typed (b ∷ bs) acc s k =
     let no : (q : ℕ) (t : Ty) → lookup b.file q ≡ Some t → ⊥ = λ q t z. let y : None ≡ Some t = sym (ap (λ f. lookup f q) file) ∙ z in cc in
     let m : TSeq → Type 0 = SeqAccepted (b ∷ bs) 0 (lookup b.file) in
     subst (StateTyped (b ∷ bs) []) (ap (At [] _) (ap (λ x. x.code) e) ∙ sym k.2)
-      (tt, (lookup b.file, (λ q t z. absurd (no q t z)), subst (λ n. SeqAccepted (b ∷ bs) n (lookup b.file) b.code) acc.0.0 acc.1.0))
+    (tt, (lookup b.file, (λ q t z. absurd (no q t z)), subst (λ n. SeqAccepted (b ∷ bs) n (lookup b.file) b.code) acc.0.0 acc.1.0))
 
 pub states_typed : StatesAreTyped
 states_typed P whole acc zero s p run = start_typed P acc s run.0
 states_typed P whole acc (suc m) s p run = ⊎_elim
     (λ (x : (i : ℤ) × HaltedWith run.0 i). absurd (halted_no_step P run.0 x.0 x.1 run.2 s run.4))
     (λ (x : (k : Where) × (t : State) × Step P run.0 k t × StateTyped P (types_after run.0 (heap_types P m run.0 run.1 run.3)) t).
-      subst (StateTyped P (types_after run.0 (heap_types P m run.0 run.1 run.3))) (step_one P run.0 x.1 s x.0 run.2 x.2 run.4).1 x.3)
+    subst (StateTyped P (types_after run.0 (heap_types P m run.0 run.1 run.3))) (step_one P run.0 x.1 s x.0 run.2 x.2 run.4).1 x.3)
     (goes_on P whole acc (heap_types P m run.0 run.1 run.3) run.0 (states_typed P whole acc m run.0 run.1 run.3))
 
 -- a reached state, with types of its heap
@@ -66,9 +63,9 @@ pub halted_or_on : (P : List TBlock) (s : State) → Reached P s → ((i : ℤ) 
 halted_or_on P s k =
     let x = typed_of P s k in
     ⊎_elim
-      (λ (y : (i : ℤ) × HaltedWith s i). inl y)
-      (λ (y : (k : Where) × (t : State) × Step P s k t × StateTyped P (types_after s x.0) t). inr (y.0, y.1, y.2))
-      (goes_on P k.0 k.1 x.0 s x.1)
+    (λ (y : (i : ℤ) × HaltedWith s i). inl y)
+    (λ (y : (k : Where) × (t : State) × Step P s k t × StateTyped P (types_after s x.0) t). inr (y.0, y.1, y.2))
+    (goes_on P k.0 k.1 x.0 s x.1)
 
 pub never_stuck : NeverStuck
 never_stuck P s k z = ⊎_elim
@@ -93,9 +90,9 @@ runs_on [] whole acc zero = absurd acc.0
 runs_on (b ∷ bs) whole acc zero = inl (_, _, ((b, refl, refl), refl))
 runs_on P whole acc (suc m) = ⊎_elim
     (λ (x : Here P m). ⊎_elim
-      (λ (y : (i : ℤ) × HaltedWith x.0 i). inr (m, x.0, x.1, y.0, omega arith, x.2, y.1))
-      (λ (y : (k : Where) × (t : State) × Step P x.0 k t). inl (y.1, _, (x.0, x.1, y.0, x.2, y.2, refl)))
-      (halted_or_on P x.0 (whole, acc, (m, x.1, x.2))))
+    (λ (y : (i : ℤ) × HaltedWith x.0 i). inr (m, x.0, x.1, y.0, omega arith, x.2, y.1))
+    (λ (y : (k : Where) × (t : State) × Step P x.0 k t). inl (y.1, _, (x.0, x.1, y.0, x.2, y.2, refl)))
+    (halted_or_on P x.0 (whole, acc, (m, x.1, x.2))))
     (λ (x : Earlier P m). let le = x.4 in inr (x.0, x.1, x.2, x.3, omega arith, x.5, x.6))
     (runs_on P whole acc m)
 
@@ -114,10 +111,10 @@ pub one_answer : OneAnswer
 one_answer P n m i j h k = ⊎_elim
     (λ (lt : h.0 < k.0). absurd (halts_first P h.0 k.0 h.1 k.1 h.2 k.2 i h.4 h.5 k.4 lt))
     (λ (ge : k.0 ≤ h.0). ⊎_elim
-      (λ (lt : k.0 < h.0). absurd (halts_first P k.0 h.0 k.1 h.1 k.2 h.2 j k.4 k.5 h.4 lt))
-      (λ (le : h.0 ≤ k.0).
-        let e : h.0 ≡ k.0 = omega arith in
-        let same = after_one P k.0 h.1 k.1 h.2 k.2 (subst (λ a. After P a h.1 h.2) e h.4) k.4 in
-        halted_one k.1 i j (subst (λ s. HaltedWith s i) same.0 h.5) k.5)
-      (cases_lt k.0 h.0))
+    (λ (lt : k.0 < h.0). absurd (halts_first P k.0 h.0 k.1 h.1 k.2 h.2 j k.4 k.5 h.4 lt))
+    (λ (le : h.0 ≤ k.0).
+    let e : h.0 ≡ k.0 = omega arith in
+    let same = after_one P k.0 h.1 k.1 h.2 k.2 (subst (λ a. After P a h.1 h.2) e h.4) k.4 in
+    halted_one k.1 i j (subst (λ s. HaltedWith s i) same.0 h.5) k.5)
+    (cases_lt k.0 h.0))
     (cases_lt h.0 k.0)

@@ -1,5 +1,5 @@
 -- Laws of accepted programs: what is accepted never gets stuck, and what this means for each kind of word.
-use Rattle.std.specs.Prelude.{◌≡◌, ℕ, ℤ, ◌<◌, ◌≤◌, Bool, IsTrue, List, [], ◌∷◌, length, Option, Some, None, option_and_then, ◌⊎◌, slice_get}
+use Rattle.std.specs.Prelude.{◌≡◌, ℕ, ℤ, ◌<◌, ◌≤◌, Bool, IsTrue, List, length, Option, Some, option_and_then, ◌⊎◌, slice_get}
 use Rattle.t_types.specs.Tree.{Ty, TupleTy, TFields}
 use Rattle.t_types.specs.Fits.{FieldsFit, RegTypes}
 use Rattle.t_terms.specs.Tree.{TValue, Arith, Bnz, Ld, Malloc, Mov, St, Unpack, Jmp, Halt, TSeq, Then, Ends, TBlock}
@@ -140,4 +140,4 @@ RegistersMayBeOlder =
     (P : List TBlock) → Whole P → Accepted P → (m : ℕ) (s : State) (p : Place) (run : After P m s p) →
     (g : RegTypes) × SeqAccepted P 0 g (code_of s)
     × ((q : ℕ) (fs : TFields) → g q ≡ Some (TupleTy fs) →
-        (a : ℕ) × (now : TFields) × (regs_of s q ≡ Some (AddressWord a)) × (slice_get (heap_types P m s p run) a ≡ Some now) × FieldsFit now fs)
+    (a : ℕ) × (now : TFields) × (regs_of s q ≡ Some (AddressWord a)) × (slice_get (heap_types P m s p run) a ≡ Some now) × FieldsFit now fs)

@@ -1,8 +1,8 @@
 -- Laws of fits: it is an order, it goes through each walk, and fields are found and filled through it.
-use Rattle.std.proofs.Common.{◌≡◌, ℕ, zero, suc, Bool, true, false, List, [], ◌∷◌, Option, Some, None, inl, inr, refl, sym, ap, ap₂, ◌∙◌, subst, IsTrue}
+use Rattle.std.proofs.Common.{◌≡◌, ℕ, zero, suc, Bool, true, false, List, [], ◌∷◌, Some, inl, inr, refl, ap, ap₂, ◌∙◌, IsTrue}
 use Rattle.idx_core.specs.Over.{At}
-use Rattle.t_types.specs.Tree.{Ty, TupleTy, TFields, NoFields, MoreFields, over, over_fields, over_types}
-use Rattle.t_types.specs.Fields.{TField, AField, field, filled, empty_fields}
+use Rattle.t_types.specs.Tree.{Ty, TFields, NoFields, MoreFields, over, over_fields, over_types}
+use Rattle.t_types.specs.Fields.{AField, field, filled, empty_fields}
 use Rattle.t_types.specs.Fits.{FieldsFit, Fits}
 
 pub fields_fit_same : (fs : TFields) → FieldsFit fs fs

@@ -74,8 +74,8 @@ put_past_put {over_tree = over_tree} is c d k s u t le =
     put_below_is is c (d + k) (d + k) s (over_tree (putted VarTy over k (shift k 0 u)) k t) (omega arith) (omega arith)
     ∙ put_put types_part is k (d + k) (shift k 0 u) (shift (d + k - c) 0 s) t (omega arith)
     ∙ ap₂ (λ x y. over_tree (putted VarTy over k x) k (over_tree (putted VarTy over (d + k + 1) y) (d + k + 1) t))
-      (sym (put_below_is types_over c (d + k) (d + k) s (shift k 0 u) (omega arith) (omega arith)) ∙ put_shifted types_over c d k s u le)
-      (shift_past (d + k - c) 1 k s (omega arith) ∙ ap (λ n. shift n 0 s) far)
+    (sym (put_below_is types_over c (d + k) (d + k) s (shift k 0 u) (omega arith) (omega arith)) ∙ put_shifted types_over c d k s u le)
+    (shift_past (d + k - c) 1 k s (omega arith) ∙ ap (λ n. shift n 0 s) far)
     ∙ ap (over_tree (putted VarTy over k (shift k 0 (put_from c s d u))) k) (sym (put_below_is is c (d + k + 1) (d + k + 1) s t (omega arith) (omega arith)))
 
 -- past a put for the innermost variable

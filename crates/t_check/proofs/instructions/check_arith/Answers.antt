@@ -1,0 +1,26 @@
+use Rattle.std.proofs.Common.{◌≡◌, ◌≢◌, ◌∙◌, sym, subst, ap, refl, Result, true, false, true≢false}
+use Rattle.t_types.specs.Read.{tree, file}
+use Rattle.t_terms.specs.Read.{value, blocks_of}
+use Rattle.t_terms.specs.declared.fault.TFault.{TFault}
+use Rattle.t_check.specs.Known.{known}
+use Rattle.t_types.specs.Tree.{Ty}
+use Rattle.t_terms.specs.Tree.{Arith}
+use Rattle.t_rules.specs.Rules.{Has}
+use Rattle.t_check.specs.Verdict.{IsStep}
+use Rattle.t_check.proofs.Typing.{operand}
+use Rattle.t_check.proofs.instructions.check_arith.Goals as goal
+
+pub returns-then-not-is_int : goal.returns-then-not-is_int
+returns-then-not-is_int c = λ op.
+    let P = blocks_of c.args.blocks.now in
+    let k = c.args.registers.now in
+    let v = value c.args.v.now in
+    subst (λ (r : Result (Unit {0}) TFault). IsStep P k k c.args.span (Arith op c.args.rd c.args.rs v) r) (sym c.refused.ensures)
+    (operand P k c.args.span op c.args.rd c.args.rs v (tree c.in-Ok-type_of_value.t) c.in-Ok.ensures c.in-Ok-type_of_value.ensures.0 (λ e. absurd (true≢false (sym (c.if-not-is_int.ensures.1 e)))))
+
+pub returns-in-Ok-note : goal.returns-in-Ok-note
+returns-in-Ok-note c = λ op.
+    let P = blocks_of c.args.blocks.now in
+    let k = c.args.registers.now in
+    let v = value c.args.v.now in
+    ((c.in-Ok.ensures, subst (Has P (known k) v) (c.if-not-is_int.ensures.0 refl) c.in-Ok-type_of_value.ensures.0, c.in-Ok-note.ensures.0), c.in-Ok-note.ensures.1, c.in-Ok-note.ensures.2)

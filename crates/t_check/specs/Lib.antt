@@ -1,0 +1,4 @@
+pub mod Bounds
+pub mod Checked
+pub mod Known
+pub mod Verdict

@@ -1,0 +1,16 @@
+//! The checker of the typed assembly language: whether the typing rules accept a program, or else its first fault.
+#![tactic(auto)]
+
+pub mod checked;
+pub mod checker;
+mod entering;
+mod instructions;
+mod parts;
+mod program;
+mod registers;
+#[cfg(test)]
+mod tests;
+mod values;
+
+pub use checked::Checked;
+pub use checker::{check, seal};

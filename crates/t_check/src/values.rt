@@ -1,0 +1,197 @@
+// The types of small values.
+ghost use Rattle.std.specs.Prelude.{◌≡◌, ◌+◌, ◌-◌, ◌≤◌, IfOk, length};
+ghost use Rattle.idx_core.specs.Over.{IsWord, PutFitsAt};
+ghost use Rattle.t_types.specs.Tree.{CodeTy, each, each_file, put_file};
+ghost use Rattle.t_types.specs.WellFormed.{max_names, WellFormed, WellFormedTypes};
+ghost use Rattle.t_types.specs.Read.{tree, file, types as type_trees};
+ghost use Rattle.t_terms.specs.Tree.{Plain};
+ghost use Rattle.t_terms.specs.Read.{base as base_tree, value, blocks_of};
+ghost use Rattle.t_terms.specs.Whole.{WellFormedBase, WellFormedValue};
+ghost use Rattle.t_rules.specs.Registers.{inst_file};
+ghost use Rattle.t_check.specs.Bounds.{OwedFile};
+ghost use Rattle.t_check.specs.Verdict.{IsReady, IsTypeOfBase, IsTypeOf, IsPacked};
+
+use crate::parts::{code_parts, refused};
+use crate::registers::Registers;
+use idx_core::{OutOfMemory, Scoped, Span};
+use std::alloc::Global;
+use t_terms::{Base, Block, TCode, TFault, Value};
+use t_types::{RegFile, TType, copy, copy_file, fits};
+
+// The type of a value.
+pub(crate) fn type_of_value(
+    alloc: Global,
+    blocks: &[Block],
+    known: &Registers,
+    v: &Value,
+    span: Span,
+) -> Result<TType, TFault>
+    requires ready { IsReady blocks.now known.now }
+    requires value { WellFormedValue (length blocks.now) known.now.names (value v.now) }
+    ensures { IsTypeOf (blocks_of blocks.now) known.now span (value v.now) result }
+{
+    match v {
+        Value::Plain { base, types } => type_of_plain(alloc, blocks, known, *base, types, span),
+        Value::Pack {
+            hidden,
+            inner,
+            shape,
+        } => {
+            let found = match type_of_value(alloc, blocks, known, inner, span) {
+                Ok(t) => t,
+                Err(e) => return Err(e),
+            };
+            pack(alloc, known.names, hidden, &found, shape, span)
+        }
+    }
+}
+
+// The type of a base that is applied to types.
+fn type_of_plain(
+    alloc: Global,
+    blocks: &[Block],
+    known: &Registers,
+    base: Base,
+    types: &[TType],
+    span: Span,
+) -> Result<TType, TFault>
+    requires ready { IsReady blocks.now known.now }
+    requires base { WellFormedBase (length blocks.now) (base_tree base) }
+    requires types { WellFormedTypes known.now.names (type_trees types.now) }
+    ensures { IsTypeOf (blocks_of blocks.now) known.now span (Plain (base_tree base) (type_trees types.now)) result }
+{
+    let found = match type_of_base(alloc, blocks, known, base, span) {
+        Ok(t) => t,
+        Err(e) => return Err(e),
+    };
+    if types.is_empty() {
+        return Ok(found);
+    }
+    let (owes, regs) = match code_parts(found) {
+        Some(parts) => parts,
+        None => return refused(TCode::T17, span),
+    };
+    let count = types.len() as u64;
+    if count > owes {
+        return refused(TCode::T17, span);
+    }
+    match instantiate(alloc, known.names, owes, regs, types) {
+        Ok(regs) => Ok(TType::Code {
+            owes: owes - count,
+            regs,
+        }),
+        Err(_) => Err(TFault::Memory),
+    }
+}
+
+fn type_of_base(
+    alloc: Global,
+    blocks: &[Block],
+    known: &Registers,
+    base: Base,
+    span: Span,
+) -> Result<TType, TFault>
+    requires ready { IsReady blocks.now known.now }
+    requires base { WellFormedBase (length blocks.now) (base_tree base) }
+    ensures { IsTypeOfBase (blocks_of blocks.now) known.now span (base_tree base) result }
+{
+    match base {
+        Base::Reg(r) => match known.find(r) {
+            Some(entry) => match known.shown(alloc, entry) {
+                Ok(t) => Ok(t),
+                Err(_) => Err(TFault::Memory),
+            },
+            None => refused(TCode::T08, span),
+        },
+        Base::Int(_) => Ok(TType::Int),
+        Base::Label(l) => match label_type(alloc, &blocks[l as usize]) {
+            Ok(t) => Ok(t),
+            Err(_) => Err(TFault::Memory),
+        },
+    }
+}
+
+// A label is code that owes what its block owes.
+fn label_type(alloc: Global, block: &Block) -> Result<TType, OutOfMemory>
+    ensures { IfOk result (λ t. tree t ≡ CodeTy block.now.owes (file block.now.regs.regs.items)) }
+{
+    let regs = copy_file(alloc, &block.regs)?;
+    Ok(TType::Code {
+        owes: block.owes,
+        regs,
+    })
+}
+
+// The registers' types of code that owes `owes` types, where the types in order are put for the first ones.
+fn instantiate(
+    alloc: Global,
+    names: u64,
+    owes: u64,
+    regs: RegFile,
+    types: &[TType],
+) -> Result<RegFile, OutOfMemory>
+    requires few { names ≤ max_names }
+    requires owes { owes ≤ max_names }
+    requires enough { length types.now ≤ owes }
+    requires types { WellFormedTypes names (type_trees types.now) }
+    requires file { OwedFile names owes (file regs.regs.items) }
+    ensures { IfOk result (λ r. (file r.regs.items ≡ inst_file (type_trees types.now) owes (file regs.regs.items)) × OwedFile names (owes - length types.now) (file r.regs.items)) }
+{
+    let mut regs = regs.regs;
+    let mut left = owes;
+    for t in types {
+        left -= 1;
+        let what = t.shift(alloc, left, 0)?;
+        regs = put_regs(alloc, &regs, left, &what)?;
+    }
+    Ok(RegFile { regs })
+}
+
+// The registers' types, where a type is put for a variable.
+fn put_regs(
+    alloc: Global,
+    regs: &[(u64, TType)],
+    at: u64,
+    what: &TType,
+) -> Result<Vec<(u64, TType)>, OutOfMemory>
+    requires { each_file (PutFitsAt each at (tree what.now)) IsWord at (file regs.now) }
+    ensures { IfOk result (λ r. file r.items ≡ put_file at (tree what.now) (file regs.now)) }
+{
+    let mut made = Vec::new(alloc);
+    for reg in regs {
+        let t = reg.1.put(alloc, at, what)?;
+        made.push((reg.0, t))?;
+    }
+    Ok(made)
+}
+
+// The type of a package: its shape, where the type that was found fits it with `hidden` put for what it hides.
+fn pack(
+    alloc: Global,
+    names: u64,
+    hidden: &TType,
+    found: &TType,
+    shape: &TType,
+    span: Span,
+) -> Result<TType, TFault>
+    requires few { names ≤ max_names }
+    requires hidden { WellFormed names (tree hidden.now) }
+    requires shape { WellFormed names (tree shape.now) }
+    ensures { IsPacked (tree hidden.now) (tree found.now) (tree shape.now) span result }
+{
+    let body = match shape {
+        TType::Exists(body) => body,
+        _ => return refused(TCode::T15, span),
+    };
+    let wanted = match body.put(alloc, 0, hidden) {
+        Ok(t) => t,
+        Err(_) => return Err(TFault::Memory),
+    };
+    if !fits(found, &wanted) {
+        return refused(TCode::T15, span);
+    }
+    match copy(alloc, shape) {
+        Ok(t) => Ok(t),
+        Err(_) => Err(TFault::Memory),
+    }
+}

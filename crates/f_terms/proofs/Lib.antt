@@ -1,11 +1,11 @@
 mod Closing
 mod FaultRows
 mod Faulty
-mod Limited
+pub mod Limited
 mod Refusals
 mod Rows
 mod Sound
 mod TextRows
 mod Texts
-mod Trees
+pub mod Trees
 mod Turns

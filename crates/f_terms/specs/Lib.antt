@@ -6,6 +6,7 @@ pub mod Limits
 pub mod OneType
 pub mod Props
 pub mod Read
+pub mod Scope
 pub mod Text
 pub mod Tm
 pub mod Ty

@@ -6,7 +6,7 @@ use Rattle.f_terms.specs.Typing.{field_ty, raised, in_fix, HasType, HaveTypes}
 use Rattle.f_terms.specs.Faults.{Passes, PassAll, refuse, Fault, FaultAll}
 use Rattle.f_terms.specs.Laws.{NoFaultBesideAPass, OneFault}
 use Rattle.f_terms.specs.declared.fault.Code.TheVariants.{E11}
-use Rattle.f_terms.proofs.OneType.{one_type, one_list}
+use Rattle.f_terms.specs.OneType.{one_type, one_list}
 use Rattle.f_terms.proofs.Refusals.{Clear, clear_nothing, clear_check, clear_part, clear_limits, clear_some, One, one_nothing, one_refuse, one_check, one_part, one_limits, one_arrow, one_all, one_tuple, one_none}
 
 mutual

@@ -1,12 +1,12 @@
 mod Closing
 mod FaultRows
-mod Faulty
-mod Limited
-mod OneType
-mod Refusals
+pub mod Faulty
+pub mod Limited
+pub mod Refusals
 mod Rows
 mod Sound
+pub mod Terms
 mod TextRows
 mod Texts
-mod Trees
+pub mod Trees
 mod Turns

@@ -8,7 +8,7 @@ use Rattle.f_terms.specs.Typing.{ty_at, field_ty, raised, in_fix, HasType, HaveT
 use Rattle.f_terms.specs.Faults.{Passes, PassAll}
 use Rattle.f_terms.specs.Accepted.{TypeWithin, KeepsLimits, AllKeepLimits}
 use Rattle.f_terms.specs.Laws.{AllWithin, PassesWhereTyped}
-use Rattle.f_terms.proofs.OneType.{one_type, some_is}
+use Rattle.f_terms.specs.OneType.{one_type, some_is}
 use Rattle.f_terms.proofs.Faulty.{has_type}
 
 -- a shift keeps size and depth
@@ -35,32 +35,32 @@ module _ (k : ℕ) where
 pub shift_within : (k : ℕ) (t : Ty) → Within t → Within (over (shifted TVar k) 0 t)
 shift_within k t h = let x = same k 0 t in (omega (arith, x.1, h.0), omega (arith, x.0, h.1))
 
-raised_within : (g : Tys) → AllWithin g → AllWithin (raised g)
+pub raised_within : (g : Tys) → AllWithin g → AllWithin (raised g)
 raised_within NoTys h = tt
 raised_within (MoreTys t ts) h = (shift_within 1 t h.0, raised_within ts h.1)
 
 -- parts of a type that keeps the limits
-arrow_within : (a b : Ty) → Within (TArrow a b) → Within a × Within b
+pub arrow_within : (a b : Ty) → Within (TArrow a b) → Within a × Within b
 arrow_within a b h = ((omega (arith, h.0), omega (arith, h.1)), (omega (arith, h.0), omega (arith, h.1)))
 
 none_is_no_some : {A : Type 0} {a : A} → None ≡ Some a → ⊥
 none_is_no_some e = cc
 
-at_within : (g : Tys) (i : ℕ) (t : Ty) → AllWithin g → ty_at g i ≡ Some t → Within t
+pub at_within : (g : Tys) (i : ℕ) (t : Ty) → AllWithin g → ty_at g i ≡ Some t → Within t
 at_within NoTys i t h e = absurd (none_is_no_some e)
 at_within (MoreTys u g) zero t h e = subst Within (some_is e) h.0
 at_within (MoreTys u g) (suc i) t h e = at_within g i t h.1 e
 
-fields_within : (ts : Tys) → depths ts ≤ 199 → sizes ts ≤ 9999 → AllWithin ts
+pub fields_within : (ts : Tys) → depths ts ≤ 199 → sizes ts ≤ 9999 → AllWithin ts
 fields_within NoTys d s = tt
 fields_within (MoreTys t ts) d s = ((omega (arith, d), omega (arith, s)), fields_within ts (omega (arith, d)) (omega (arith, s)))
 
-field_within : (ts : Tys) (i : ℕ) (t : Ty) → Within (TTuple ts) → field_ty ts i ≡ Some t → Within t
+pub field_within : (ts : Tys) (i : ℕ) (t : Ty) → Within (TTuple ts) → field_ty ts i ≡ Some t → Within t
 field_within ts zero t h e = absurd (none_is_no_some e)
 field_within ts (suc i) t h e = at_within ts i t (fields_within ts (omega (arith, h.0)) (omega (arith, h.1))) e
 
 -- the type of what passes keeps the limits
-passed_within : (e : Tm) (n : ℕ) (g : Tys) (t : Ty) → AllWithin g → Passes e n g t → Within t
+pub passed_within : (e : Tm) (n : ℕ) (g : Tys) (t : Ty) → AllWithin g → Passes e n g t → Within t
 passed_within (SVar s i) n g t w h = at_within g i t w h
 passed_within (SNum s i) n g t w h = subst Within (sym h) (omega arith, omega arith)
 passed_within (SFix s arg res e) n g t w h = subst Within (sym h.0) h.3

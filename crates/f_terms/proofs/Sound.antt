@@ -7,7 +7,7 @@ use Rattle.f_terms.specs.Tm.{Term, MVar, MNum, MFix, MApp, MGen, MInst, MTuple, 
 use Rattle.f_terms.specs.Typing.{ty_at, field_ty, raised, in_fix, HasType, HaveTypes}
 use Rattle.f_terms.specs.Eval.{Val, VInt, VTup, VFun, VSus, Vals, Empty, And, Result, Gives, Spent, Stuck, Results, GiveAll, SpentAll, StuckAll, then_eval, then_all, all_then, as_tuple, value_at, given, project, Enter, apply, inst, operate, choose, eval_by, eval_all, enter_by, eval, Evaluates, IsSpent}
 use Rattle.f_terms.specs.Laws.{NeverStuck}
-use Rattle.f_terms.proofs.OneType.{some_is, result_is, body_is, fields_are}
+use Rattle.f_terms.specs.OneType.{some_is, result_is, body_is, fields_are}
 use Rattle.f_terms.proofs.Closing.{close, close_all, AllClosed, count, close_int, close_arrow, close_tuple, fields_are_closed, close_under, close_raised, close_put, close_more, close_is_closed}
 
 -- values of closed types: a body keeps the closed types ss that stand for its type variables

@@ -3,7 +3,10 @@ pub mod Eval
 pub mod Faults
 pub mod Laws
 pub mod Limits
+pub mod OneType
+pub mod Props
 pub mod Read
+pub mod Scope
 pub mod Text
 pub mod Tm
 pub mod Ty

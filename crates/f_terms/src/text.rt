@@ -82,6 +82,7 @@ fn write_type(text: &mut Vec<u8>, t: &FType, depth: u64) -> Result<(), OutOfMemo
         }
         FType::All(body) => {
             write_binder(text, depth)?;
+            // a length is a number of 64 bits, and so is one binder more
             let _length = text.len();
             write_type(text, body, depth + 1)
         }

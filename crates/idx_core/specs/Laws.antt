@@ -105,7 +105,7 @@ module _ {P : Type 0} {var : ℕ → P} {over_part : Over P P} (part : IsPart P 
             (at_shift_ge n (c + e) (i + m) (omega arith) ∙ ap var (omega arith) ∙ sym (at_shift_ge m (d + n + e) (i + n) (omega arith)))
 
   -- a shift of what was shifted further than the cut
-  shift_past : (m n c : ℕ) (u : P) → c ≤ m → shift_part n c (shift_part m 0 u) ≡ shift_part (m + n) 0 u
+  pub shift_past : (m n c : ℕ) (u : P) → c ≤ m → shift_part n c (shift_part m 0 u) ≡ shift_part (m + n) 0 u
   shift_past m n c u le = part.is_over.after (shifted var m) (shifted var n) (shifted var (m + n)) 0 c 0 (λ e i. here e i (cases_lt i e)) u
     where
       here : (e i : ℕ) → (i < e) ⊎ (e ≤ i) → over_part (shifted var n) (deep c e) (shifted var m (deep 0 e) i) ≡ shifted var (m + n) (deep 0 e) i
@@ -113,7 +113,7 @@ module _ {P : Type 0} {var : ℕ → P} {over_part : Over P P} (part : IsPart P 
       here e i (inr h) = rw (deep_is c e, deep_is 0 e, shifted_ge var m (0 + e) i (omega arith), shifted_ge var (m + n) (0 + e) i (omega arith)) (at_shift_ge n (c + e) (i + m) (omega arith) ∙ ap var (omega arith))
 
   -- what is put past a shift
-  put_past : (e j : ℕ) (v u : P) → over_part (putted var over_part j v) (j + e) (shift_part e 0 u) ≡ shift_part e 0 (put_part j v u)
+  pub put_past : (e j : ℕ) (v u : P) → over_part (putted var over_part j v) (j + e) (shift_part e 0 u) ≡ shift_part e 0 (put_part j v u)
   put_past e j v u =
       meets part.is_over (shifted var e) (putted var over_part j v) (putted var over_part j v) (shifted var e) 0 (j + e) j 0 (λ x i. here x i (cases_lt i x) (cases_order i (j + x))) u
     where

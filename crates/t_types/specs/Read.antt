@@ -1,6 +1,6 @@
 -- The plain trees of the program's values.
-use Rattle.std.specs.Prelude.{ℕ, Bool, List, [], ◌∷◌}
-use Rattle.t_types.specs.Tree.{Ty, IntTy, VarTy, CodeTy, ExistsTy, TupleTy, TFile, NoRegs, MoreRegs, TFields, NoFields, MoreFields}
+use Rattle.std.specs.Prelude.{ℕ, Bool, List, map}
+use Rattle.t_types.specs.Tree.{Ty, IntTy, VarTy, CodeTy, ExistsTy, TupleTy, TFile, NoRegs, MoreRegs, TFields, NoFields, MoreFields, regs, flagged}
 use Rattle.t_types.specs.declared.types.TType.{TType, Row_of-RegFile-regs-2 as RegRow, end_of-RegFile-regs-2 as end_of_regs, more_of-RegFile-regs-2 as more_of_regs, Row_of-TType-Tuple-0-2 as FieldRow, end_of-TType-Tuple-0-2 as end_of_fields, more_of-TType-Tuple-0-2 as more_of_fields}
 use Rattle.t_types.specs.declared.types.TType.TheVariants.{Int, Var, Code', Exists', Tuple'}
 
@@ -21,14 +21,17 @@ abbrev mutual
   row_fields (more_of_fields t flag rest) = MoreFields (tree t) flag (row_fields rest)
 
 -- the same of the items of a vector
+abbrev pub reg : ℕ × TType → ℕ × Ty
+reg x = (x.0, tree x.1)
+
 abbrev pub file : List (ℕ × TType) → TFile
-file [] = NoRegs
-file (x ∷ xs) = MoreRegs x.0 (tree x.1) (file xs)
+file xs = regs (map reg xs)
+
+abbrev pub flag : TType × Bool → Ty × Bool
+flag x = (tree x.0, x.1)
 
 abbrev pub fields : List (TType × Bool) → TFields
-fields [] = NoFields
-fields (x ∷ xs) = MoreFields (tree x.0) x.1 (fields xs)
+fields xs = flagged (map flag xs)
 
 abbrev pub types : List TType → List Ty
-types [] = []
-types (t ∷ ts) = tree t ∷ types ts
+types ts = map tree ts

@@ -1,5 +1,5 @@
 -- Types of the assembly language as plain trees, and the walks over their variables.
-use Rattle.std.specs.Prelude.{ℕ, ◌+◌, Bool, List, [], ◌∷◌}
+use Rattle.std.specs.Prelude.{ℕ, ◌+◌, Bool, List, [], ◌∷◌, map}
 use Rattle.idx_core.specs.Over.{Over, Each, shifted, putted, IsWord, ShiftFitsAt, PutFitsAt, BelowAt, AnyDepth}
 
 mutual
@@ -79,6 +79,12 @@ put_fields c s = over_fields (putted VarTy over c s) c
 abbrev pub put_from : ℕ → Ty → ℕ → Ty → Ty
 put_from c s = over (putted VarTy over c s)
 
+abbrev pub put_file_from : ℕ → Ty → ℕ → TFile → TFile
+put_file_from c s = over_file (putted VarTy over c s)
+
+abbrev pub put_fields_from : ℕ → Ty → ℕ → TFields → TFields
+put_fields_from c s = over_fields (putted VarTy over c s)
+
 -- each sum that the shift, or the put at depth d, forms is a u64
 abbrev pub ShiftFits : ℕ → ℕ → Ty → Type 0
 ShiftFits k c = each (ShiftFitsAt k) IsWord c
@@ -93,11 +99,22 @@ Below n = each BelowAt AnyDepth n
 abbrev pub BelowFile : ℕ → TFile → Type 0
 BelowFile n = each_file BelowAt AnyDepth n
 
+abbrev pub BelowFields : ℕ → TFields → Type 0
+BelowFields n = each_fields BelowAt AnyDepth n
+
 -- the walks over a list of types
 abbrev pub over_types : Over Ty (List Ty)
-over_types f d [] = []
-over_types f d (t ∷ ts) = over f d t ∷ over_types f d ts
+over_types f d ts = map (over f d) ts
 
 abbrev pub each_types : Each (List Ty)
 each_types V B d [] = Unit {0}
 each_types V B d (t ∷ ts) = each V B d t × each_types V B d ts
+
+-- a file and fields of a list
+abbrev pub regs : List (ℕ × Ty) → TFile
+regs [] = NoRegs
+regs (x ∷ xs) = MoreRegs x.0 x.1 (regs xs)
+
+abbrev pub flagged : List (Ty × Bool) → TFields
+flagged [] = NoFields
+flagged (x ∷ xs) = MoreFields x.0 x.1 (flagged xs)

@@ -1,6 +1,17 @@
 //! Types of the typed assembly language: trees, shift and put, equality, and which type fits which.
 #![tactic(auto)]
 
+pub mod copying;
+pub mod equality;
+pub mod fitting;
+pub mod laws;
+#[cfg(test)]
+mod tests;
 pub mod types;
+pub mod walks;
 
+pub use copying::{copy, copy_file};
+pub use equality::eq;
+pub use fitting::{find, fits, fits_file};
+pub use laws::{puts_exchange, puts_under};
 pub use types::{RegFile, TType};

@@ -16,16 +16,26 @@ pub enum Fault {
 }
 
 impl Fault {
-    ghost use Rattle.talc_core.specs.Fault.{status_of};
+    ghost use Rattle.talc_core.specs.Fault.{is_limit, status_of};
 
-    /// `Limit` where a limit is passed, and else `Refused`.
+    fn is_limit(self) -> bool
+        ensures { result ≡ is_limit self }
+    {
+        match self {
+            Fault::Source(Code::L1 | Code::L2 | Code::L3 | Code::L4 | Code::L5, _) => true,
+            Fault::Tal(TCode::M1, _) => true,
+            _ => false,
+        }
+    }
+
+    /// The status of a call that refuses a text by this fault: `Limit` where a limit is passed, else `Refused`.
     pub fn status(self) -> Status
         ensures { result ≡ status_of self }
     {
-        match self {
-            Fault::Source(Code::L1 | Code::L2 | Code::L3 | Code::L4 | Code::L5, _) => Status::Limit,
-            Fault::Tal(TCode::M1, _) => Status::Limit,
-            _ => Status::Refused,
+        if self.is_limit() {
+            Status::Limit
+        } else {
+            Status::Refused
         }
     }
 }

@@ -132,12 +132,7 @@ fn write_span(line: &mut Vec<u8>, span: Span) -> Result<(), OutOfMemory>
     Ok(())
 }
 
-fn make_line(
-    alloc: Global,
-    code: &[u8],
-    span: Span,
-    words: &[u8],
-) -> Result<Vec<u8>, OutOfMemory>
+fn make_line(alloc: Global, code: &[u8], span: Span, words: &[u8]) -> Result<Vec<u8>, OutOfMemory>
     ensures { IfOk result (λ line. line.items ≡ line_text code.now span words.now) }
 {
     let mut line = Vec::from_slice(alloc, code)?;

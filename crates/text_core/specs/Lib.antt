@@ -1,3 +1,6 @@
 pub mod Byte
-pub mod Tokens
+pub mod Going
 pub mod Lexeme
+pub mod Shapes
+pub mod Table
+pub mod Tokens

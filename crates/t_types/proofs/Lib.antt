@@ -1,0 +1,4 @@
+pub mod Equal
+pub mod Files
+pub mod FitPlaces
+pub mod Trees

@@ -1,0 +1,14 @@
+-- Statements on shift and put of types, beside those that every tree with numbered variables has.
+use Rattle.std.specs.Prelude.{◌≡◌, ℕ, ◌+◌, ◌≤◌}
+use Rattle.t_types.specs.Tree.{Ty, CodeTy, ExistsTy, TFile, shift, put, put_file}
+
+-- two puts exchange, the one put into the other
+abbrev pub PutsExchange : Type 0
+PutsExchange = (i j : ℕ) (u v t : Ty) → i ≤ j → put j v (put i u t) ≡ put i (put j v u) (put (j + 1) (shift 1 i v) t)
+
+-- under a binder the index grows by 1, and what is put is shifted by 1; under the n binders of code, by n
+abbrev pub PutUnderExists : Type 0
+PutUnderExists = (at : ℕ) (s t : Ty) → put at s (ExistsTy t) ≡ ExistsTy (put (at + 1) (shift 1 0 s) t)
+
+abbrev pub PutUnderCode : Type 0
+PutUnderCode = (at n : ℕ) (s : Ty) (file : TFile) → put at s (CodeTy n file) ≡ CodeTy n (put_file (at + n) (shift n 0 s) file)

@@ -1,0 +1,278 @@
+// Shift and put of types, and how many of their variables are free.
+ghost use Rattle.std.specs.Prelude.{◌≡◌, ℕ, ◌<◌, ◌≤◌, ◌^◌, ◌↔◌, IfOk, IsTrue};
+ghost use Rattle.idx_core.specs.Over.{IsWord, ShiftFitsAt, PutFitsAt, BelowAt, AnyDepth};
+ghost use Rattle.t_types.specs.Read.{tree, file, fields};
+ghost use Rattle.t_types.specs.Tree.{Ty, VarTy, over, over_file, over_fields, each, each_file, each_fields, shift, shift_file, shift_fields, put_from, put_file_from, put_fields_from, ShiftFits, PutFits, Below, BelowFile, BelowFields};
+ghost use Rattle.t_types.specs.TreeLaws.{types_part, types_over};
+
+use crate::types::{RegFile, TType};
+use idx_core::{OutOfMemory, Scoped};
+use std::alloc::Global;
+
+#[cycle(shift)]
+fn shift_type(t: &TType, alloc: Global, by: u64, cut: u64) -> Result<TType, OutOfMemory>
+    requires fits { ShiftFits by cut (tree t.now) }
+    ensures { IfOk result (λ r. tree r ≡ shift by cut (tree t.now)) }
+{
+    match t {
+        TType::Int => Ok(TType::Int),
+        TType::Var(i) => {
+            if *i < cut {
+                Ok(TType::Var(*i))
+            } else {
+                Ok(TType::Var(*i + by))
+            }
+        }
+        TType::Code { owes, regs } => {
+            let regs = shift_regs(&regs.regs, alloc, by, cut + *owes)?;
+            Ok(TType::Code {
+                owes: *owes,
+                regs: RegFile { regs },
+            })
+        }
+        TType::Exists(t) => {
+            let t = shift_type(t, alloc, by, cut + 1)?;
+            Ok(TType::Exists(Box::new(alloc, t)?))
+        }
+        TType::Tuple(fs) => {
+            let fs = shift_flagged(fs, alloc, by, cut)?;
+            Ok(TType::Tuple(fs))
+        }
+    }
+}
+
+#[cycle(shift)]
+fn shift_regs(
+    regs: &[(u64, TType)],
+    alloc: Global,
+    by: u64,
+    cut: u64,
+) -> Result<Vec<(u64, TType)>, OutOfMemory>
+    requires fits { each_file (ShiftFitsAt by) IsWord cut (file regs.now) }
+    ensures { IfOk result (λ r. file r.items ≡ shift_file by cut (file regs.now)) }
+{
+    let mut made = Vec::new(alloc);
+    for reg in regs {
+        let t = shift_type(&reg.1, alloc, by, cut)?;
+        made.push((reg.0, t))?;
+    }
+    Ok(made)
+}
+
+#[cycle(shift)]
+fn shift_flagged(
+    fs: &[(TType, bool)],
+    alloc: Global,
+    by: u64,
+    cut: u64,
+) -> Result<Vec<(TType, bool)>, OutOfMemory>
+    requires fits { each_fields (ShiftFitsAt by) IsWord cut (fields fs.now) }
+    ensures { IfOk result (λ r. fields r.items ≡ shift_fields by cut (fields fs.now)) }
+{
+    let mut made = Vec::new(alloc);
+    for field in fs {
+        let t = shift_type(&field.0, alloc, by, cut)?;
+        made.push((t, field.1))?;
+    }
+    Ok(made)
+}
+
+// Puts `what` for the variable that was `at` at the root, where the walk stands at `depth`.
+#[cycle(put)]
+fn put_type(
+    t: &TType,
+    alloc: Global,
+    at: u64,
+    depth: u64,
+    what: &TType,
+) -> Result<TType, OutOfMemory>
+    requires deep { at ≤ depth }
+    requires fits { PutFits at (tree what.now) depth (tree t.now) }
+    ensures { IfOk result (λ r. tree r ≡ put_from at (tree what.now) depth (tree t.now)) }
+{
+    match t {
+        TType::Int => Ok(TType::Int),
+        TType::Var(i) => {
+            if *i < depth {
+                Ok(TType::Var(*i))
+            } else if *i == depth {
+                shift_type(what, alloc, depth - at, 0)
+            } else {
+                Ok(TType::Var(*i - 1))
+            }
+        }
+        TType::Code { owes, regs } => {
+            let regs = put_regs(&regs.regs, alloc, at, depth + *owes, what)?;
+            Ok(TType::Code {
+                owes: *owes,
+                regs: RegFile { regs },
+            })
+        }
+        TType::Exists(t) => {
+            let t = put_type(t, alloc, at, depth + 1, what)?;
+            Ok(TType::Exists(Box::new(alloc, t)?))
+        }
+        TType::Tuple(fs) => {
+            let fs = put_flagged(fs, alloc, at, depth, what)?;
+            Ok(TType::Tuple(fs))
+        }
+    }
+}
+
+#[cycle(put)]
+fn put_regs(
+    regs: &[(u64, TType)],
+    alloc: Global,
+    at: u64,
+    depth: u64,
+    what: &TType,
+) -> Result<Vec<(u64, TType)>, OutOfMemory>
+    requires deep { at ≤ depth }
+    requires fits { each_file (PutFitsAt each at (tree what.now)) IsWord depth (file regs.now) }
+    ensures { IfOk result (λ r. file r.items ≡ put_file_from at (tree what.now) depth (file regs.now)) }
+{
+    let mut made = Vec::new(alloc);
+    for reg in regs {
+        let t = put_type(&reg.1, alloc, at, depth, what)?;
+        made.push((reg.0, t))?;
+    }
+    Ok(made)
+}
+
+#[cycle(put)]
+fn put_flagged(
+    fs: &[(TType, bool)],
+    alloc: Global,
+    at: u64,
+    depth: u64,
+    what: &TType,
+) -> Result<Vec<(TType, bool)>, OutOfMemory>
+    requires deep { at ≤ depth }
+    requires fits { each_fields (PutFitsAt each at (tree what.now)) IsWord depth (fields fs.now) }
+    ensures { IfOk result (λ r. fields r.items ≡ put_fields_from at (tree what.now) depth (fields fs.now)) }
+{
+    let mut made = Vec::new(alloc);
+    for field in fs {
+        let t = put_type(&field.0, alloc, at, depth, what)?;
+        made.push((t, field.1))?;
+    }
+    Ok(made)
+}
+
+// True: every index is a u64.
+#[cycle(words)]
+fn has_words(t: &TType) -> bool
+    ensures is_true { IsTrue result }
+    ensures below { (m : ℕ) → 2 ^ 64 ≤ m → Below m (tree t.now) }
+{
+    match t {
+        TType::Int => true,
+        TType::Var(i) => *i <= u64::MAX,
+        TType::Code { owes: _, regs } => regs_have_words(&regs.regs),
+        TType::Exists(t) => has_words(t),
+        TType::Tuple(fs) => fields_have_words(fs),
+    }
+}
+
+#[cycle(words)]
+fn regs_have_words(regs: &[(u64, TType)]) -> bool
+    ensures is_true { IsTrue result }
+    ensures below { (m : ℕ) → 2 ^ 64 ≤ m → BelowFile m (file regs.now) }
+{
+    for reg in regs {
+        let _ = has_words(&reg.1);
+    }
+    true
+}
+
+#[cycle(words)]
+fn fields_have_words(fs: &[(TType, bool)]) -> bool
+    ensures is_true { IsTrue result }
+    ensures below { (m : ℕ) → 2 ^ 64 ≤ m → BelowFields m (fields fs.now) }
+{
+    for field in fs {
+        let _ = has_words(&field.0);
+    }
+    true
+}
+
+#[cycle(below)]
+fn type_below(t: &TType, n: u64) -> bool
+    ensures { IsTrue result ↔ Below n (tree t.now) }
+{
+    match t {
+        TType::Int => true,
+        TType::Var(i) => *i < n,
+        TType::Code { owes, regs } => match n.checked_add(*owes) {
+            Some(m) => regs_below(&regs.regs, m),
+            None => regs_have_words(&regs.regs),
+        },
+        TType::Exists(t) => match n.checked_add(1) {
+            Some(m) => type_below(t, m),
+            None => has_words(t),
+        },
+        TType::Tuple(fs) => fields_below(fs, n),
+    }
+}
+
+#[cycle(below)]
+fn regs_below(regs: &[(u64, TType)], n: u64) -> bool
+    ensures { IsTrue result ↔ BelowFile n (file regs.now) }
+{
+    for reg in regs {
+        if !type_below(&reg.1, n) {
+            return false;
+        }
+    }
+    true
+}
+
+#[cycle(below)]
+fn fields_below(fs: &[(TType, bool)], n: u64) -> bool
+    ensures { IsTrue result ↔ BelowFields n (fields fs.now) }
+{
+    for field in fs {
+        if !type_below(&field.0, n) {
+            return false;
+        }
+    }
+    true
+}
+
+impl Scoped for TType {
+    type Part = TType;
+
+    ghost Tree = { Ty };
+
+    ghost PartTree = { Ty };
+
+    ghost tree = { tree };
+
+    ghost part_tree = { tree };
+
+    ghost var = { VarTy };
+
+    ghost over_part = { over };
+
+    ghost over = { over };
+
+    ghost each_part = { each };
+
+    ghost each = { each };
+
+    fn shift(&self, alloc: Global, by: u64, cut: u64) -> Result<TType, OutOfMemory> {
+        shift_type(self, alloc, by, cut)
+    }
+
+    fn put(&self, alloc: Global, at: u64, what: &TType) -> Result<TType, OutOfMemory> {
+        put_type(self, alloc, at, at, what)
+    }
+
+    fn below(&self, n: u64) -> bool {
+        type_below(self, n)
+    }
+
+    ghost is_part = { types_part };
+
+    ghost is_over = { types_over };
+}

@@ -1,7 +1,7 @@
 -- Worked programs on the machine: that go on, that stick, whose registers are older than the heap, that are counted, and
 -- erased. The comment above a program is its text, with a bar for a line end.
-use Rattle.std.proofs.Common.{◌≡◌, ◌∷◌, ◌∙◌, ◌⊎◌, ℕ, zero, suc, true, false, List, [], Option, Some, refl, ap, inl, inr, ⊎_elim, arith, slice_get, option_and_then}
-use Rattle.std.specs.Prelude.{ℤ, pos}
+use Rattle.std.proofs.Common.{◌≡◌, ◌∷◌, ◌∙◌, ◌⊎◌, ℕ, zero, suc, true, false, List, [], Option, Some, refl, sym, ap, inl, inr, ⊎_elim, arith, length, slice_get, option_and_then}
+use Rattle.std.specs.Prelude.{ℤ, pos, option_map}
 use Rattle.std.specs.Int.{int_wrap}
 use Rattle.t_types.specs.Tree.{IntTy, TupleTy, NoRegs, MoreRegs, NoFields, MoreFields}
 use Rattle.t_types.specs.Fits.{lookup}
@@ -16,7 +16,7 @@ use Rattle.t_rules.specs.Times.{Times, Entries, program_size}
 use Rattle.t_rules.specs.Erase.{ESeq, EState, EAt, EGoes, erase_block, erase_blocks, estep, EHaltedWith}
 use Rattle.t_rules.specs.LawsErased.{no_ewords}
 use Rattle.t_rules.proofs.RowsAccepted.{polymorphic, countdown, older_at_a_jump, object}
-use Rattle.t_rules.proofs.RowsRefused.{alias_keeps_its_type, empty_field_loaded}
+use Rattle.t_rules.proofs.RowsRefused.{alias_keeps_its_type, empty_field_loaded, types_still_owed}
 use Rattle.t_rules.proofs.Rows.{span, block, Run, start, step, IsRunning}
 
 -- A program that goes on: after any number of steps it is there and not halted.
@@ -83,20 +83,49 @@ alias_halts =
 empty_field_sticks : (s : State) × (p : Place) × After (plain_blocks empty_field_loaded) 1 s p × Stuck (plain_blocks empty_field_loaded) s
 empty_field_sticks =
     let s0 = start (plain_blocks empty_field_loaded) _ refl in
-    let s1 = step s0 Next _ (refl, refl) in (
+    let s1 = step s0 Next _ (refl, refl) in
+    (
       _,
       _,
       s1.after,
       (
         (λ i h. h),
         (λ k t x.
-            let a = x.3 in
-            let address : 0 ≡ x.0 = cc in
-            let tuple : Some (EmptyWord IntTy ∷ []) ≡ Some x.1 = ap (slice_get ((EmptyWord IntTy ∷ []) ∷ [])) address ∙ x.4 in
-            let same : EmptyWord IntTy ∷ [] ≡ x.1 = cc in
-            let word : Some (EmptyWord IntTy) ≡ Some x.2 = ap (λ ws. slice_get ws 0) same ∙ x.5 in
-            let is : x.2 ≡ EmptyWord IntTy = cc in
-            x.6 IntTy is),
+          let a = x.3 in
+          let address : 0 ≡ x.0 = cc in
+          let tuple : Some (EmptyWord IntTy ∷ []) ≡ Some x.1 = ap (slice_get ((EmptyWord IntTy ∷ []) ∷ [])) address ∙ x.4 in
+          let same : EmptyWord IntTy ∷ [] ≡ x.1 = cc in
+          let word : Some (EmptyWord IntTy) ≡ Some x.2 = ap (λ ws. slice_get ws 0) same ∙ x.5 in
+          let is : x.2 ≡ EmptyWord IntTy = cc in
+          x.6 IntTy is),
+      ),
+    )
+
+-- So is a jump into a block that owes types.
+types_owed_stick : (s : State) × (p : Place) × After (plain_blocks types_still_owed) 2 s p × Stuck (plain_blocks types_still_owed) s
+types_owed_stick =
+    let s0 = start (plain_blocks types_still_owed) _ refl in
+    let s1 = step s0 Next _ (_, refl, refl, refl) in
+    let s2 = step s1 Next _ (_, refl, refl, refl) in
+    (
+      _,
+      _,
+      s2.after,
+      (
+        (λ i h. h),
+        (λ k t x.
+          let means = x.3 in
+          let entry = x.4 in
+          let label = entry.2 in
+          let there = entry.3 in
+          let number = entry.4 in
+          let first : x.1 ≡ 1 = cc in
+          let none : entry.0 ≡ [] = cc in
+          let block : Some entry.1 ≡ slice_get (plain_blocks types_still_owed) 1 = sym there ∙ ap (slice_get (plain_blocks types_still_owed)) first in
+          let owed = ap (option_map (λ b. b.owes)) block in
+          let length = ap (λ ts. length ts) none in
+          let one : entry.1.owes ≡ 1 = cc in
+          omega (arith, length, number, one)),
       ),
     )
 

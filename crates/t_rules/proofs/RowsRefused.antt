@@ -143,7 +143,7 @@ package_of_no_existential_fault : ProgramFault package_of_no_existential T15 (sp
 package_of_no_existential_fault = inr ((refl, refl), inl (inl (inr (_, refl, (refl, refl)))))
 
 -- tal 1 | L0: code[]{}. mov r1, 5 mov r2, L2 jmp L1 | L1: code[a]{r1:a, r2:all[]{r1:a}}. jmp r2 | L2: code[]{r1:int}. halt[int]
-abbrev types_still_owed : List SBlock
+abbrev pub types_still_owed : List SBlock
 types_still_owed =
     block (span 6 8) 0 NoRegs ((Mov 1 (Plain (Int (pos 5)) []), span 20 29) ∷ (Mov 2 (Plain (Label 2) []), span 30 40) ∷ []) (Jmp (Plain (Label 1) [])) (span 41 47)
     ∷ block (span 48 50) 1 (MoreRegs 1 (VarTy 0) (MoreRegs 2 (CodeTy 0 (MoreRegs 1 (VarTy 0) NoRegs)) NoRegs)) [] (Jmp (Plain (Reg 2) [])) (span 83 89)

@@ -124,6 +124,9 @@ second_field = refl
 gen_is_typed : IsTyped (MGen (MNum (pos 1))) (TAll TInt)
 gen_is_typed = (TInt, refl, refl)
 
+gen_is_no_program : IsProgram (MGen (MNum (pos 1))) → ⊥
+gen_is_no_program h = let e : TInt ≡ TAll h.0 = h.1 in cc
+
 -- ((gen a. fix f(x:a):int -> a. fix g(y:int):a. x)[int] 8) 1
 constant_in_three_turns :
     EvaluatesLeaving

@@ -1,6 +1,13 @@
+pub mod Accepted
 pub mod Eval
+pub mod Faults
+pub mod Laws
 pub mod Limits
+pub mod OneType
+pub mod Props
 pub mod Read
+pub mod Scope
+pub mod Text
 pub mod Tm
 pub mod Ty
 pub mod TyLaws

@@ -68,6 +68,10 @@ PutFits c s d = each (PutFitsAt each c s) IsWord d
 abbrev pub Below : ℕ → Ty → Type 0
 Below n = each BelowAt AnyDepth n
 
+-- no index is free
+abbrev pub Closed : Ty → Type 0
+Closed t = Below 0 t
+
 -- the number of nodes
 abbrev mutual
   pub size : Ty → ℕ

@@ -1,10 +1,23 @@
 //! The source calculus: its types and terms, and the faults of a source text.
 #![tactic(auto)]
 
+pub mod count;
 pub mod fault;
+pub mod laws;
+pub mod shift;
 pub mod term;
+#[cfg(test)]
+mod tests;
+pub mod text;
 pub mod types;
 
+pub use count::{depth, eq, size};
 pub use fault::{Code, FFault};
+pub use laws::{
+    evaluation_keeps_its_rules, evaluation_leaves_at_most_its_turns, more_turns_keep_the_value,
+    no_fault_beside_a_pass, one_answer, one_fault, one_type, passes_where_typed,
+    programs_are_never_stuck, puts_exchange,
+};
 pub use term::{FForm, FTerm};
+pub use text::type_text;
 pub use types::FType;

@@ -1,4 +1,5 @@
 pub mod Arith
 pub mod Laws
+pub mod Names
 pub mod Over
 pub mod Steps

@@ -3,10 +3,14 @@
 
 pub mod arith;
 pub mod memory;
+pub mod names;
 pub mod scoped;
 pub mod span;
+#[cfg(test)]
+mod tests;
 
 pub use arith::{Op, compute};
 pub use memory::OutOfMemory;
+pub use names::Names;
 pub use scoped::Scoped;
 pub use span::Span;

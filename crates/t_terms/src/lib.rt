@@ -10,6 +10,7 @@ pub mod program;
 pub mod scopes;
 #[cfg(test)]
 mod tests;
+pub mod token;
 pub mod value;
 pub mod walks;
 
@@ -18,5 +19,6 @@ pub use fault::{TCode, TFault};
 pub use instr::{End, Instr};
 pub use laws::{places_aside, puts_exchange};
 pub use program::TProgram;
+pub use token::{Kind, Token};
 pub use value::{Base, Value};
 pub use walks::names_after;

@@ -1,8 +1,11 @@
 pub mod Fields
 pub mod Fits
+pub mod FitsLaws
 pub mod Laws
+pub mod PutLaws
 pub mod Read
 pub mod Rising
+pub mod Scope
 pub mod Tree
 pub mod TreeLaws
 pub mod WellFormed

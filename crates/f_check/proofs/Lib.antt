@@ -1,0 +1,7 @@
+mod Exact
+mod Fields
+mod Finds
+mod Forms
+mod Puts
+mod Rows
+mod Types

@@ -1,0 +1,5 @@
+use Rattle.f_lexer.proofs.Exact as exact
+use Rattle.f_lexer.proofs.laws.cut_or_fault.Goals as goal
+
+pub returns : goal.returns
+returns c = exact.cut_or_fault

@@ -1,0 +1,5 @@
+use Rattle.f_lexer.proofs.Exact as exact
+use Rattle.f_lexer.proofs.laws.one_cut.Goals as goal
+
+pub returns : goal.returns
+returns c = exact.one_cut

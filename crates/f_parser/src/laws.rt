@@ -1,0 +1,17 @@
+// What the definition of a text's term says in all.
+ghost use Rattle.f_parser.specs.Text.{OneTerm, TermOrFault, OneFault};
+
+/// No text stands for two terms.
+pub fn one_term()
+    ensures { OneTerm }
+{}
+
+/// A text that stands for a term has no fault.
+pub fn term_or_fault()
+    ensures { TermOrFault }
+{}
+
+/// Two first faults of one text are equal.
+pub fn one_fault()
+    ensures { OneFault }
+{}

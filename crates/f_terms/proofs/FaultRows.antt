@@ -1,0 +1,210 @@
+-- Worked rows on the first fault of typing. The comment above each row is its text.
+use Rattle.std.proofs.Common.{◌≡◌, ℕ, zero, suc, ◌+◌, ◌-◌, ◌≤◌, pos, refl, ap, arith, inl, inr, lit<, lit≤}
+use Rattle.idx_core.specs.declared.arith.Op.TheVariants.{Add}
+use Rattle.f_terms.specs.declared.fault.Code.TheVariants.{E07, E08, E09, E10, E11, E12, E13, E14, L4, L5}
+use Rattle.f_terms.specs.Ty.{Ty, TInt, TVar, TArrow, TAll, TTuple, Tys, NoTys, MoreTys, put, size, sizes, depth, depths, Below}
+use Rattle.f_terms.specs.TyLaws.{shift_none}
+use Rattle.f_terms.specs.Tm.{Spn, Tm, SVar, SNum, SFix, SApp, SGen, SInst, STuple, SProj, SArith, SIf0, NoTms, MoreTms}
+use Rattle.f_terms.specs.Limits.{Within}
+use Rattle.f_terms.specs.Faults.{Passes, Fault}
+
+abbrev one : Spn → Tm
+one s = SNum s (pos 1)
+
+int_within : Within TInt
+int_within = (lit≤ tt, lit≤ tt)
+
+unit_passes : (s : Spn) → Passes (STuple s NoTms) 0 NoTys (TTuple NoTys)
+unit_passes s = (NoTys, refl, refl, (lit≤ tt, lit≤ tt))
+
+-- 1 2
+not_a_function : Fault (SApp (0, 3) (one (0, 1)) (SNum (2, 3) (pos 2))) 0 NoTys E07 (0, 1)
+not_a_function = inr (TInt, refl, (refl, refl))
+
+-- (fix f(x:int):int. x) <>
+argument_of_another_type : Fault (SApp (0, 24) (SFix (1, 20) TInt TInt (SVar (19, 20) 0)) (STuple (22, 24) NoTms)) 0 NoTys E08 (22, 24)
+argument_of_another_type =
+    inr (TArrow TInt TInt, (refl, tt, tt, (lit≤ tt, lit≤ tt), refl), inr (TTuple NoTys, unit_passes (22, 24), inl (λ e. cc, (refl, refl))))
+
+-- 1[int]
+not_polymorphic : Fault (SInst (0, 6) (one (0, 1)) TInt) 0 NoTys E09 (0, 1)
+not_polymorphic = inr (TInt, refl, (refl, refl))
+
+-- #1 2
+not_a_tuple : Fault (SProj (0, 4) 1 (SNum (3, 4) (pos 2))) 0 NoTys E10 (3, 4)
+not_a_tuple = inr (TInt, refl, (refl, refl))
+
+-- #3 <1,2>
+no_such_field : Fault (SProj (0, 8) 3 (STuple (3, 8) (MoreTms (one (4, 5)) (MoreTms (SNum (6, 7) (pos 2)) NoTms)))) 0 NoTys E11 (0, 8)
+no_such_field =
+    inr (
+      TTuple (MoreTys TInt (MoreTys TInt NoTys)),
+      (MoreTys TInt (MoreTys TInt NoTys), refl, (TInt, MoreTys TInt NoTys, refl, refl, (TInt, NoTys, refl, refl, refl)), (lit≤ tt, lit≤ tt)),
+      (refl, refl),
+    )
+
+-- 1 + <>
+right_operand : Fault (SArith (0, 6) Add (one (0, 1)) (STuple (4, 6) NoTms)) 0 NoTys E12 (4, 6)
+right_operand = inr (TInt, refl, inr (refl, inr (TTuple NoTys, unit_passes (4, 6), inl (λ e. cc, (refl, refl)))))
+
+-- <> + 1
+left_operand : Fault (SArith (0, 6) Add (STuple (0, 2) NoTms) (one (5, 6))) 0 NoTys E12 (0, 2)
+left_operand = inr (TTuple NoTys, unit_passes (0, 2), inl (λ e. cc, (refl, refl)))
+
+-- if0(<>, 1, 1)
+test_is_no_integer : Fault (SIf0 (0, 13) (STuple (4, 6) NoTms) (one (8, 9)) (one (11, 12))) 0 NoTys E12 (4, 6)
+test_is_no_integer = inr (TTuple NoTys, unit_passes (4, 6), inl (λ e. cc, (refl, refl)))
+
+-- if0(0, 1, <>)
+branches_of_two_types : Fault (SIf0 (0, 13) (SNum (4, 5) (pos 0)) (one (7, 8)) (STuple (10, 12) NoTms)) 0 NoTys E13 (10, 12)
+branches_of_two_types =
+    inr (TInt, refl, inr (refl, inr (TInt, refl, inr (TTuple NoTys, unit_passes (10, 12), inl (λ e. cc, (refl, refl))))))
+
+-- (fix f(x:int):int. <x>) 1: the first fault is in the function
+body_not_as_declared :
+    Fault (SApp (0, 25) (SFix (1, 22) TInt TInt (STuple (19, 22) (MoreTms (SVar (20, 21) 0) NoTms))) (one (24, 25))) 0 NoTys E14 (19, 22)
+body_not_as_declared =
+    inl (inr (lit≤ tt, inr (lit≤ tt, inr (TTuple (MoreTys TInt NoTys), (MoreTys TInt NoTys, refl, (TInt, NoTys, refl, refl, refl), (lit≤ tt, lit≤ tt)), inl (λ e. cc, (refl, refl))))))
+
+-- as many times `<` as k, 1, and as many times `>`, where the 1 stands at 200
+nested : ℕ → Tm
+nested zero = one (200, 201)
+nested (suc k) = STuple (199 - k, 202 + k) (MoreTms (nested k) NoTms)
+
+nested_type : ℕ → Ty
+nested_type zero = TInt
+nested_type (suc k) = TTuple (MoreTys (nested_type k) NoTys)
+
+nested_depth : (k : ℕ) → depth (nested_type k) ≡ suc k
+unfolding nested_type
+nested_depth zero = refl
+nested_depth (suc k) = omega (arith, nested_depth k)
+
+nested_size : (k : ℕ) → size (nested_type k) ≡ suc k
+unfolding nested_type
+nested_size zero = refl
+nested_size (suc k) = omega (arith, nested_size k)
+
+nested_within : (k : ℕ) → k ≤ 199 → Within (nested_type k)
+nested_within k le = (omega (arith, nested_depth k), omega (arith, nested_size k))
+
+-- 199 of each
+nested_passes : (n k : ℕ) → k ≤ 199 → Passes (nested k) n NoTys (nested_type k)
+unfolding nested nested_type
+nested_passes n zero le = refl
+nested_passes n (suc k) le =
+    (MoreTys (nested_type k) NoTys, refl, (nested_type k, NoTys, refl, nested_passes n k (omega arith), refl), nested_within (suc k) le)
+
+too_deep : (k : ℕ) → 200 ≤ k → depth (nested_type k) ≤ 200 → ⊥
+too_deep k le h = omega (arith, nested_depth k)
+
+-- 200 of each
+tuple_too_deep : Fault (nested 200) 0 NoTys L4 (0, 401)
+unfolding nested nested_type
+tuple_too_deep =
+    inr (MoreTys (nested_type 199) NoTys, (nested_type 199, NoTys, refl, nested_passes 0 199 (omega arith), refl), inl (too_deep 200 (omega arith), (refl, refl)))
+
+-- fix f(x:T):int. 1, with a T of depth 200
+function_too_deep : (s : Spn) (e : Tm) → Fault (SFix s (nested_type 199) TInt e) 0 NoTys L4 s
+function_too_deep s e = inl (λ h. omega (arith, nested_depth 199, h), (refl, refl))
+
+-- gen a. and the 199 of each
+abstraction_too_deep : (s : Spn) → Fault (SGen s (nested 199)) 0 NoTys L4 s
+abstraction_too_deep s = inr (nested_type 199, nested_passes 1 199 (omega arith), inl (λ h. omega (arith, nested_depth 199, h), (refl, refl)))
+
+-- (gen a. 1)[T], with a T of depth 201
+put_type_too_deep : (s r : Spn) → Fault (SInst s (SGen r (one r)) (nested_type 200)) 0 NoTys L4 s
+put_type_too_deep s r = inr (TAll TInt, (TInt, refl, refl, (lit≤ tt, lit≤ tt)), inl (too_deep 200 (omega arith), (refl, refl)))
+
+-- gen a. fix f(x:a):a. x
+abbrev identity : Spn → Tm
+identity r = SGen r (SFix r (TVar 0) (TVar 0) (SVar r 0))
+
+abbrev identity_type : Ty
+identity_type = TAll (TArrow (TVar 0) (TVar 0))
+
+identity_passes : (r : Spn) → Passes (identity r) 0 NoTys identity_type
+identity_passes r = (TArrow (TVar 0) (TVar 0), refl, (refl, lit< tt, lit< tt, (lit≤ tt, lit≤ tt), refl), (lit≤ tt, lit≤ tt))
+
+at_type : (t : Ty) → put 0 t (TArrow (TVar 0) (TVar 0)) ≡ TArrow t t
+at_type t = ap (λ u. TArrow u u) (shift_none t)
+
+-- the same at a T of depth 200: the result is an arrow of depth 201
+result_too_deep : (s r : Spn) → Fault (SInst s (identity r) (nested_type 199)) 0 NoTys L4 s
+result_too_deep s r =
+    let within = nested_within 199 (omega arith) in
+    inr (identity_type, identity_passes r, inr (within.0, inr (within.1, inl (λ h. omega (arith, ap depth (at_type (nested_type 199)), nested_depth 199, h), (refl, refl)))))
+
+-- as many times int as k
+ints : ℕ → Tys
+ints zero = NoTys
+ints (suc k) = MoreTys TInt (ints k)
+
+ints_size : (k : ℕ) → sizes (ints k) ≡ k
+unfolding ints
+ints_size zero = refl
+ints_size (suc k) = omega (arith, ints_size k)
+
+ints_depth : (k : ℕ) → depths (ints k) ≤ 1
+unfolding ints
+ints_depth zero = omega arith
+ints_depth (suc k) = omega (arith, ints_depth k)
+
+ints_below : (n k : ℕ) → Below n (TTuple (ints k))
+unfolding ints
+ints_below n zero = tt
+ints_below n (suc k) = (tt, ints_below n k)
+
+-- fix f(x:<int,..,int>):int. 1
+abbrev wide : ℕ → Spn → Tm
+wide k s = SFix s (TTuple (ints k)) TInt (one s)
+
+abbrev wide_type : ℕ → Ty
+wide_type k = TArrow (TTuple (ints k)) TInt
+
+wide_within : (k : ℕ) → k ≤ 9997 → Within (wide_type k)
+wide_within k le = (omega (arith, ints_depth k), omega (arith, ints_size k))
+
+-- with 9997 times int
+wide_passes : (n k : ℕ) (s : Spn) → k ≤ 9997 → Passes (wide k s) n NoTys (wide_type k)
+wide_passes n k s le = (refl, ints_below n k, tt, wide_within k le, refl)
+
+-- with 9998
+function_too_large : (s : Spn) → Fault (wide 9998 s) 0 NoTys L5 s
+function_too_large s = inr (omega (arith, ints_depth 9998), inl (λ h. omega (arith, ints_size 9998, h), (refl, refl)))
+
+-- gen a. and the function with 9997
+abstraction_too_large : (s r : Spn) → Fault (SGen s (wide 9997 r)) 0 NoTys L5 s
+abstraction_too_large s r =
+    inr (wide_type 9997, wide_passes 1 9997 r (omega arith), inr (omega (arith, ints_depth 9997), inl (λ h. omega (arith, ints_size 9997, h), (refl, refl))))
+
+-- (gen a. 1)[<int,..,int>] with 10000
+put_type_too_large : (s r : Spn) → Fault (SInst s (SGen r (one r)) (TTuple (ints 10000))) 0 NoTys L5 s
+put_type_too_large s r =
+    inr (TAll TInt, (TInt, refl, refl, (lit≤ tt, lit≤ tt)), inr (omega (arith, ints_depth 10000), inl (λ h. omega (arith, ints_size 10000, h), (refl, refl))))
+
+-- (gen a. fix f(x:a):a. x)[<int,..,int>] with 4999
+result_too_large : (s r : Spn) → Fault (SInst s (identity r) (TTuple (ints 4999))) 0 NoTys L5 s
+result_too_large s r =
+    let t = TTuple (ints 4999) in
+    inr (
+      identity_type,
+      identity_passes r,
+      inr (
+        omega (arith, ints_depth 4999),
+        inr (
+          omega (arith, ints_size 4999),
+          inr (omega (arith, ap depth (at_type (TTuple (ints 4999))), ints_depth 4999), inl (λ h. omega (arith, ap size (at_type (TTuple (ints 4999))), ints_size 4999, h), (refl, refl))),
+        ),
+      ),
+    )
+
+-- two functions with 4997
+tuple_too_large : (s r : Spn) → Fault (STuple s (MoreTms (wide 4997 r) (MoreTms (wide 4997 r) NoTms))) 0 NoTys L5 s
+tuple_too_large s r =
+    let each = wide_passes 0 4997 r (omega arith) in
+    inr (
+      MoreTys (wide_type 4997) (MoreTys (wide_type 4997) NoTys),
+      (wide_type 4997, MoreTys (wide_type 4997) NoTys, refl, each, (wide_type 4997, NoTys, refl, each, refl)),
+      inr (omega (arith, ints_depth 4997), inl (λ h. omega (arith, ints_size 4997, h), (refl, refl))),
+    )

@@ -1,0 +1,36 @@
+-- The text of a type.
+use Rattle.std.specs.Prelude.{ℕ, ◌+◌, ◌-◌, ◌==◌, List, [], ◌++◌, Bool, true, false, if◌then◌else◌, codes, decimal}
+use Rattle.f_terms.specs.Ty.{Ty, TInt, TVar, TArrow, TAll, TTuple, Tys, NoTys, MoreTys}
+
+-- the variable of an `all` that stands inside d others
+abbrev pub name_text : ℕ → List ℕ
+name_text d = codes "t" ++ decimal d
+
+-- what stands in parentheses on the left of an arrow
+abbrev pub is_grouped : Ty → Bool
+is_grouped (TArrow a b) = true
+is_grouped (TAll t) = true
+is_grouped TInt = false
+is_grouped (TVar i) = false
+is_grouped (TTuple ts) = false
+
+-- what stands between a field of a tuple and the k fields before it
+abbrev pub separator : ℕ → List ℕ
+separator k = if k == 0 then [] else codes ", "
+
+-- the text inside d `all`s: the variable i is that of the `all` with i others between
+abbrev mutual
+  pub text_at : ℕ → Ty → List ℕ
+  text_at d TInt = codes "int"
+  text_at d (TVar i) = name_text (d - 1 - i)
+  text_at d (TArrow a b) = (if is_grouped a then codes "(" else []) ++ text_at d a ++ (if is_grouped a then codes ")" else []) ++ codes " -> " ++ text_at d b
+  text_at d (TAll t) = codes "all " ++ name_text d ++ codes ". " ++ text_at (d + 1) t
+  text_at d (TTuple ts) = codes "<" ++ texts_at d 0 ts ++ codes ">"
+
+  pub texts_at : ℕ → ℕ → Tys → List ℕ
+  texts_at d k NoTys = []
+  texts_at d k (MoreTys t ts) = separator k ++ text_at d t ++ texts_at d (k + 1) ts
+
+-- the text of a closed type
+abbrev pub type_text : Ty → List ℕ
+type_text t = text_at 0 t

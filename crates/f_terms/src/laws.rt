@@ -1,0 +1,53 @@
+// Laws of the source calculus, as functions with an empty body that callers cite.
+ghost use Rattle.f_terms.specs.Laws.{PutsExchange, OneType, PassesWhereTyped, NoFaultBesideAPass, OneFault, KeepsRules, MoreTurnsKeepTheValue, LeavesAtMost, OneAnswer, NeverStuck};
+
+/// For i at most j, a put of u for i and then of v for j is a put of v, shifted, for j + 1 and then of u, with v put
+/// into it, for i.
+pub fn puts_exchange()
+    ensures { PutsExchange }
+{}
+
+/// A term has at most one type in a context.
+pub fn one_type()
+    ensures { OneType }
+{}
+
+/// Each check of a term holds exactly where the term is typed and its types keep the limits.
+pub fn passes_where_typed()
+    ensures { PassesWhereTyped }
+{}
+
+/// A term on which each check holds has no first fault.
+pub fn no_fault_beside_a_pass()
+    ensures { NoFaultBesideAPass }
+{}
+
+/// Two first faults of a term are equal, in code and place.
+pub fn one_fault()
+    ensures { OneFault }
+{}
+
+/// Evaluation keeps its rules with no bound on how deep bodies are entered.
+pub fn evaluation_keeps_its_rules()
+    ensures { KeepsRules }
+{}
+
+/// What gives a value within some turns gives it within more, with as many more turns left.
+pub fn more_turns_keep_the_value()
+    ensures { MoreTurnsKeepTheValue }
+{}
+
+/// An evaluation leaves at most the turns that it was allowed.
+pub fn evaluation_leaves_at_most_its_turns()
+    ensures { LeavesAtMost }
+{}
+
+/// A term evaluates to one integer at most, whatever the turns.
+pub fn one_answer()
+    ensures { OneAnswer }
+{}
+
+/// A closed term of type `int` evaluates, within any number of turns, to an integer or is spent.
+pub fn programs_are_never_stuck()
+    ensures { NeverStuck }
+{}

@@ -1,0 +1,86 @@
+-- What the calls of files and of a sink do.
+use Rattle.std.specs.Prelude.{◌≡◌, ◌≢◌, ◌⊎◌, ℕ, ◌<◌, ◌≤◌, List, ◌++◌, Option, Some, None, IfSome, Result, Ok, Err, Vec, refl}
+use Rattle.std.specs.Option.{option_map}
+use Rattle.std.specs.Ordering.{nat_cmp}
+use Rattle.std.specs.Cmp.Lexicographic.{slice_cmp}
+use Rattle.std.specs.Coded.{Coded, code_by, coded×, coded_ℕ, coded_list, coded_option}
+use Rattle.std.specs.FinMap as map
+use Rattle.std.specs.FinMap.{FinMap, get, insert}
+use Rattle.std.specs.declared.alloc.Global.{Global}
+use Rattle.io_core.specs.declared.outside.Stop.{Stop}
+use Rattle.io_core.specs.declared.outside.Stop.TheVariants.{Memory, Failed}
+
+-- a finite map from names to contents, both as bytes
+abbrev pub FileMap : Type 0
+FileMap = FinMap (slice_cmp nat_cmp) (List ℕ)
+
+-- the map, where it is told, and how often a read and a write have failed
+pub record FilesState : Type 0 where
+  pub told : Option FileMap
+  pub reads : ℕ
+  pub writes : ℕ
+
+-- the bytes taken, where they are told, and how often a put has failed
+pub record SinkState : Type 0 where
+  pub taken : Option (List ℕ)
+  pub faults : ℕ
+
+-- how a proof tells two file maps, and two states of files, apart
+abbrev pub file_map_code : Coded FileMap
+file_map_code = map.code (coded_list coded_ℕ) (coded_list coded_ℕ)
+
+abbrev pub files_code : Coded FilesState
+files_code =
+    code_by (Option FileMap × (ℕ × ℕ)) (coded× (coded_option file_map_code) (coded× coded_ℕ coded_ℕ)) (λ s. (s.told, (s.reads, s.writes))) (λ p. record { told = p.0; reads = p.1.0; writes = p.1.1 }) (λ _. refl)
+
+-- the last value of a counter of 64 bits
+abbrev pub last_count : ℕ
+last_count = 18446744073709551615
+
+-- a fault was counted, or the counter stands at its last value
+abbrev pub Faulted : ℕ → ℕ → Type 0
+Faulted before after = (before < after) ⊎ (after ≡ last_count)
+
+-- the told map has no such name
+abbrev pub IsAbsent : Option FileMap → List ℕ → Type 0
+IsAbsent None name = ⊥
+IsAbsent (Some files) name = get files name ≡ None
+
+-- where a map is told, it has this content at the name
+abbrev pub Holds : Option FileMap → List ℕ → List ℕ → Type 0
+Holds told name bytes = IfSome told (λ files. get files name ≡ Some bytes)
+
+-- the new map is the old one with the name set to the bytes; none is told where none was
+abbrev pub with_file : Option FileMap → List ℕ → List ℕ → Option FileMap
+with_file told name bytes = option_map (λ files. insert files name bytes) told
+
+-- both maps are told, or none, and every other name is as before
+abbrev pub SameBut : List ℕ → Option FileMap → Option FileMap → Type 0
+SameBut name None new = new ≡ None
+SameBut name (Some files) new = (changed : FileMap) × (new ≡ Some changed) × ((other : List ℕ) → other ≢ name → get changed other ≡ get files other)
+
+-- a read gives the whole content, or fails by a counted fault or since the name is absent, or wants memory and changes nothing
+abbrev pub IsRead : FilesState → FilesState → List ℕ → Result (Vec ℕ Global) Stop → Type 0
+IsRead old new name (Ok bytes) = Holds old.told name bytes.items × (new.told ≡ old.told) × (old.reads ≤ new.reads) × (new.writes ≡ old.writes)
+IsRead old new name (Err Failed) = (Faulted old.reads new.reads ⊎ IsAbsent old.told name) × (new.told ≡ old.told) × (old.reads ≤ new.reads) × (new.writes ≡ old.writes)
+IsRead old new name (Err Memory) = new ≡ old
+
+-- a write sets that name alone, or fails by a counted fault and leaves every other name, or wants memory and changes nothing
+abbrev pub IsWrite : FilesState → FilesState → List ℕ → List ℕ → Result (Unit {0}) Stop → Type 0
+IsWrite old new name bytes (Ok done) = (new.told ≡ with_file old.told name bytes) × (old.writes ≤ new.writes) × (new.reads ≡ old.reads)
+IsWrite old new name bytes (Err Failed) = Faulted old.writes new.writes × SameBut name old.told new.told × (old.writes ≤ new.writes) × (new.reads ≡ old.reads)
+IsWrite old new name bytes (Err Memory) = new ≡ old
+
+-- these bytes went onto what was told
+abbrev pub gained : Option (List ℕ) → List ℕ → Option (List ℕ)
+gained taken bytes = option_map (λ before. before ++ bytes) taken
+
+-- some first bytes of these went onto what was told
+abbrev pub GainedPart : Option (List ℕ) → List ℕ → Option (List ℕ) → Type 0
+GainedPart old bytes new = (part rest : List ℕ) × (part ++ rest ≡ bytes) × (new ≡ gained old part)
+
+-- a put takes the whole piece, or fails by a counted fault and takes a first part, or wants memory and changes nothing
+abbrev pub IsPut : SinkState → SinkState → List ℕ → Result (Unit {0}) Stop → Type 0
+IsPut old new bytes (Ok done) = (new.taken ≡ gained old.taken bytes) × (old.faults ≤ new.faults)
+IsPut old new bytes (Err Failed) = Faulted old.faults new.faults × GainedPart old.taken bytes new.taken × (old.faults ≤ new.faults)
+IsPut old new bytes (Err Memory) = new ≡ old

@@ -1,0 +1,128 @@
+// Files of the disk. No clause knows what the disk holds, so they tell no content, and count each fault.
+ghost use Rattle.std.specs.Prelude.{◌≡◌};
+
+use crate::outside::{Files, Stop};
+use std::alloc::Global;
+use std::fs;
+use std::io::{ErrorKind, Read};
+use std::marker::Model;
+use std::rt::Files as HostFiles;
+
+// How many read calls a file may take.
+const MOST_READS: u64 = 4294967296;
+
+/// Files of the disk, by way of the system's (own choice). They tell no content. Each fault of the system is
+/// counted, an absent name's too, up to `u64::MAX`.
+#[derive(Drop)]
+pub struct DiskFiles<R> {
+    host: R,
+    reads: u64,
+    writes: u64,
+}
+
+impl<R> Model for DiskFiles<R> {
+    ghost use Rattle.std.specs.Prelude.{None};
+    ghost use Rattle.io_core.specs.Outside.{FilesState, files_code};
+
+    ghost Value = { FilesState };
+
+    ghost coded = { files_code };
+
+    ghost view = { λ d. record { told = None; reads = d.reads; writes = d.writes } };
+}
+
+// Reads to the end of a file. A read call that a signal interrupts is made again, and counts.
+fn read_file<R: HostFiles>(host: &R, alloc: Global, name: &str) -> Result<Vec<u8>, Stop> {
+    let Ok(mut file) = fs::open(host, name) else {
+        return Err(Stop::Failed);
+    };
+    let mut bytes = Vec::new(alloc);
+    let mut buffer = [0u8; 4096];
+    for _ in 0..MOST_READS {
+        match file.read(&mut buffer) {
+            Ok(0) => return Ok(bytes),
+            Ok(count) => bytes.extend_from_slice(&buffer[..count])?,
+            Err(error) if error.kind() == ErrorKind::Interrupted => {}
+            Err(_) => return Err(Stop::Failed),
+        }
+    }
+    Err(Stop::Failed)
+}
+
+impl<R> DiskFiles<R> {
+    /// The files that the system hands out.
+    pub fn new(host: R) -> DiskFiles<R>
+        ensures { result ≡ record { told = None; reads = 0; writes = 0 } }
+    {
+        DiskFiles {
+            host,
+            reads: 0,
+            writes: 0,
+        }
+    }
+}
+
+impl<R: HostFiles> Files for DiskFiles<R> {
+    ghost state = { λ d. d };
+
+    /// Reads in at most 4294967296 read calls, and counts a fault where these do not reach the end.
+    fn read_all(&mut self, alloc: Global, name: &str) -> Result<Vec<u8>, Stop> {
+        match read_file(&self.host, alloc, name) {
+            Ok(bytes) => Ok(bytes),
+            Err(Stop::Memory) => Err(Stop::Memory),
+            Err(Stop::Failed) => {
+                self.reads = self.reads.saturating_add(1);
+                Err(Stop::Failed)
+            }
+        }
+    }
+
+    fn write_all(&mut self, _alloc: Global, name: &str, bytes: &[u8]) -> Result<(), Stop> {
+        match fs::write(&self.host, name, bytes) {
+            Ok(()) => Ok(()),
+            Err(_) => {
+                self.writes = self.writes.saturating_add(1);
+                Err(Stop::Failed)
+            }
+        }
+    }
+}
+
+#[cfg(test)]
+mod tests {
+    use super::*;
+    use std::test::Fail;
+
+    fn is_content(read: &Result<Vec<u8>, Stop>, content: &[u8]) -> bool {
+        match read {
+            Ok(bytes) => bytes.as_slice() == content,
+            Err(_) => false,
+        }
+    }
+
+    #[test]
+    fn a_written_file_is_read_back_whole(rt: HostRuntime) -> Result<(), Fail> {
+        let alloc = rt.alloc();
+        let name = "io_core_disk_files_test";
+        let content = vec![in alloc; 7u8; 10000]?;
+        assert_eq!(rt; content.len(), 10000);
+        let mut files = DiskFiles::new(&rt);
+        assert_eq!(rt; files.write_all(alloc, name, &content), Ok(()));
+        assert_eq!(rt; files.write_all(alloc, name, &content[1..]), Ok(()));
+        let read = files.read_all(alloc, name);
+        fs::remove_file(&rt, name)?;
+        assert!(rt; is_content(&read, &content[1..]));
+        assert_eq!(rt; (files.reads, files.writes), (0, 0));
+        assert_eq!(rt;
+            files.read_all(alloc, name).err(),
+            Some(Stop::Failed),
+            "an absent name"
+        );
+        assert_eq!(rt;
+            files.write_all(alloc, "/dev/full", b"7"),
+            Err(Stop::Failed)
+        );
+        assert_eq!(rt; (files.reads, files.writes), (1, 1));
+        Ok(())
+    }
+}

@@ -1,0 +1,17 @@
+//! What the compiler reads and writes: files and sinks, in memory and at the system.
+#![tactic(auto)]
+
+pub mod disk_files;
+mod failing;
+pub mod mem_files;
+pub mod mem_sink;
+pub mod out_sink;
+pub mod outside;
+#[cfg(test)]
+mod tests;
+
+pub use disk_files::DiskFiles;
+pub use mem_files::MemFiles;
+pub use mem_sink::MemSink;
+pub use out_sink::OutSink;
+pub use outside::{Files, Sink, Stop};

@@ -1,0 +1,132 @@
+// Files in memory, with calls that fail where a list says so.
+ghost use Rattle.std.specs.Prelude.{◌≡◌, [], OnOk, OnErr};
+ghost use Rattle.std.specs.Option.{option_copied};
+ghost use Rattle.std.specs.FinMap.{get, insert};
+ghost use Rattle.io_core.specs.Outside.{IsRead, IsWrite};
+ghost use Rattle.io_core.specs.MemFiles.{file_map, files_state, fresh_files, MemReads, MemWrites};
+
+use crate::failing::{failing_at, first_bytes};
+use crate::outside::{Files, Stop};
+use std::alloc::{AllocError, Global};
+use std::collections::BTreeMap;
+use std::marker::Model;
+
+/// Files in memory (own choice). Calls are numbered from 0, reads and writes together; one that answers `Memory`
+/// takes no number, and the number stays at `u64::MAX` once it is there. A call whose number stands first in a pair
+/// of a list fails, by the first such pair, and is counted; a failing write leaves as many first bytes of the new
+/// content as the pair's second number says, or all where there are fewer.
+#[derive(Drop)]
+pub struct MemFiles {
+    files: BTreeMap<String, Vec<u8>>,
+    failing: Vec<(u64, u64)>,
+    next: u64,
+    reads: u64,
+    writes: u64,
+}
+
+impl Model for MemFiles {
+    ghost use Rattle.io_core.specs.MemFiles.{MemFilesState, mem_files_code, file_map};
+
+    ghost Value = { MemFilesState };
+
+    ghost coded = { mem_files_code };
+
+    ghost view = { λ m. record { files = file_map m.files; failing = m.failing.items; next = m.next; reads = m.reads; writes = m.writes } };
+}
+
+// The content of a name.
+fn content<'a>(files: &'a BTreeMap<String, Vec<u8>>, name: &str) -> Option<&'a [u8]>
+    ensures { option_copied result ≡ get (file_map files.now) name.now }
+{
+    match files.get(name) {
+        Some(content) => Some(content.as_slice()),
+        None => None,
+    }
+}
+
+// Sets a name to these bytes; where memory is wanting, the files are as before.
+fn set_file(
+    alloc: Global,
+    files: &mut BTreeMap<String, Vec<u8>>,
+    name: &str,
+    bytes: &[u8],
+) -> Result<(), AllocError>
+    ensures ok { OnOk result (file_map files.new ≡ insert (file_map files.old) name.now bytes.now) }
+    ensures err { OnErr result (file_map files.new ≡ file_map files.old) }
+{
+    let key = String::from_str(alloc, name)?;
+    let content = Vec::from_slice(alloc, bytes)?;
+    files.insert(key, content)?;
+    Ok(())
+}
+
+impl MemFiles {
+    /// Files with these contents. `failing` has the numbers of the calls that fail, each with the number of bytes
+    /// that a write leaves then.
+    pub fn new(files: BTreeMap<String, Vec<u8>>, failing: Vec<(u64, u64)>) -> MemFiles
+        ensures { result ≡ fresh_files (file_map files) failing.items }
+    {
+        MemFiles {
+            files,
+            failing,
+            next: 0,
+            reads: 0,
+            writes: 0,
+        }
+    }
+
+    /// The names and their contents as they stand.
+    pub fn files(&self) -> &BTreeMap<String, Vec<u8>>
+        ensures { file_map result.now ≡ self.now.files }
+    {
+        &self.files
+    }
+
+    /// How many reads, and how many writes, have failed by the list.
+    pub fn faults(&self) -> (u64, u64)
+        ensures { result ≡ (self.now.reads, self.now.writes) }
+    {
+        (self.reads, self.writes)
+    }
+}
+
+impl Files for MemFiles {
+    ghost state = { files_state };
+
+    fn read_all(&mut self, alloc: Global, name: &str) -> Result<Vec<u8>, Stop>
+        ensures read { IsRead (files_state self.old) (files_state self.new) name.now result }
+        ensures rules { MemReads self.old self.new name.now result }
+    {
+        if failing_at(&self.failing, self.next).is_some() {
+            self.next = self.next.saturating_add(1);
+            self.reads = self.reads.saturating_add(1);
+            return Err(Stop::Failed);
+        }
+        let Some(content) = content(&self.files, name) else {
+            self.next = self.next.saturating_add(1);
+            return Err(Stop::Failed);
+        };
+        let copy = Vec::from_slice(alloc, content)?;
+        self.next = self.next.saturating_add(1);
+        Ok(copy)
+    }
+
+    fn write_all(&mut self, alloc: Global, name: &str, bytes: &[u8]) -> Result<(), Stop>
+        ensures written { IsWrite (files_state self.old) (files_state self.new) name.now bytes.now result }
+        ensures rules { MemWrites self.old self.new name.now bytes.now result }
+    {
+        match failing_at(&self.failing, self.next) {
+            Some(most) => {
+                set_file(alloc, &mut self.files, name, first_bytes(bytes, most))?;
+                self.next = self.next.saturating_add(1);
+                self.writes = self.writes.saturating_add(1);
+                Err(Stop::Failed)
+            }
+            None => {
+                set_file(alloc, &mut self.files, name, bytes)?;
+                self.next = self.next.saturating_add(1);
+                Ok(())
+            }
+        }
+    }
+}

@@ -1,0 +1,73 @@
+// A stream of the system, as the standard output. No clause knows what the system shows, so it tells no content, and
+// counts each fault.
+ghost use Rattle.std.specs.Prelude.{◌≡◌};
+
+use crate::outside::{Sink, Stop};
+use std::alloc::Global;
+use std::io::Write;
+use std::marker::Model;
+
+/// A stream of the system as a sink (own choice). It tells no content. Each fault of the system is counted, up to
+/// `u64::MAX`; a write that takes nothing of a rest that is not empty is one.
+#[derive(Drop)]
+pub struct OutSink<W> {
+    writer: W,
+    faults: u64,
+}
+
+impl<W> Model for OutSink<W> {
+    ghost use Rattle.std.specs.Prelude.{None};
+    ghost use Rattle.io_core.specs.Outside.{SinkState};
+
+    ghost Value = { SinkState };
+
+    ghost view = { λ s. record { taken = None; faults = s.faults } };
+}
+
+impl<W> OutSink<W> {
+    /// A sink that writes each piece at once.
+    pub fn new(writer: W) -> OutSink<W>
+        ensures { result ≡ record { taken = None; faults = 0 } }
+    {
+        OutSink { writer, faults: 0 }
+    }
+}
+
+impl<W: Write> Sink for OutSink<W> {
+    ghost state = { λ s. s };
+
+    fn put(&mut self, _alloc: Global, bytes: &[u8]) -> Result<(), Stop> {
+        match self.writer.write_all(bytes) {
+            Ok(()) => Ok(()),
+            Err(_) => {
+                self.faults = self.faults.saturating_add(1);
+                Err(Stop::Failed)
+            }
+        }
+    }
+}
+
+#[cfg(test)]
+mod tests {
+    use super::*;
+    use std::fs;
+    use std::fs::File;
+    use std::test::Fail;
+
+    #[test]
+    fn a_stream_takes_each_piece_or_counts_a_fault(rt: HostRuntime) -> Result<(), Fail> {
+        let alloc = rt.alloc();
+        let name = "io_core_out_sink_test";
+        let mut sink = OutSink::new(File::create(&rt, name)?);
+        assert_eq!(rt; sink.put(alloc, b"int 4\n"), Ok(()));
+        assert_eq!(rt; sink.put(alloc, b"int 5\n"), Ok(()));
+        assert_eq!(rt; sink.faults, 0);
+        let written = fs::read(&rt, name)?;
+        fs::remove_file(&rt, name)?;
+        assert!(rt; written.as_slice() == b"int 4\nint 5\n".as_slice());
+        let mut full = OutSink::new(File::create(&rt, "/dev/full")?);
+        assert_eq!(rt; full.put(alloc, b"int 4\n"), Err(Stop::Failed));
+        assert_eq!(rt; full.faults, 1);
+        Ok(())
+    }
+}

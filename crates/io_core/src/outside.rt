@@ -1,0 +1,49 @@
+// The two traits by which the compiler reaches the outside.
+ghost use Rattle.std.specs.Prelude.{◌≡◌};
+ghost use Rattle.io_core.specs.Outside.{FilesState, SinkState, IsRead, IsWrite, IsPut};
+ghost use Rattle.io_core.specs.declared.outside.Stop.TheVariants.{Memory};
+
+use std::alloc::{AllocError, Global};
+
+/// Why a call of the outside did not do its work.
+#[derive(Clone, Copy, Debug, PartialEq, Eq, Drop)]
+pub enum Stop {
+    /// Memory was wanted and not had; nothing has changed.
+    Memory,
+    /// The outside failed, which it has counted, or the file to read is not there.
+    Failed,
+}
+
+impl From<AllocError> for Stop {
+    ghost from_gives = { λ _ e. e ≡ Memory };
+
+    fn from(_: AllocError) -> Stop {
+        Stop::Memory
+    }
+}
+
+/// Files (own choice): a finite map from names to bytes, where an implementation tells one, and two counts of
+/// faults, of reads and of writes, that never fall. A call leaves the other kind's count as it was. It answers
+/// `Failed` only where the count of its kind rose or stands at its last value, or a read's name is not in the map.
+pub trait Files {
+    ghost state: { Self → FilesState };
+
+    /// The whole content of a name. The files stay as they are.
+    fn read_all(&mut self, alloc: Global, name: &str) -> Result<Vec<u8>, Stop>
+        ensures read { IsRead (state self.old) (state self.new) name.now result };
+
+    /// Sets a name to these bytes; it is made where it was absent. Where it fails, the name may hold anything or
+    /// be absent, and every other name is as before.
+    fn write_all(&mut self, alloc: Global, name: &str, bytes: &[u8]) -> Result<(), Stop>
+        ensures written { IsWrite (state self.old) (state self.new) name.now bytes.now result };
+}
+
+/// A sink (own choice): the bytes taken, where an implementation tells them, and a count of faults that never falls.
+pub trait Sink {
+    ghost state: { Self → SinkState };
+
+    /// Takes the whole piece. `Failed` comes only where the count rose or stands at its last value, and some first
+    /// part of the piece is taken then.
+    fn put(&mut self, alloc: Global, bytes: &[u8]) -> Result<(), Stop>
+        ensures put { IsPut (state self.old) (state self.new) bytes.now result };
+}

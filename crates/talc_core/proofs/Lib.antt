@@ -1,0 +1,3 @@
+pub mod ExactLemmas
+mod FaultLemmas
+mod Rows

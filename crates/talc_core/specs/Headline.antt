@@ -1,0 +1,105 @@
+-- What a call of the compiler does, by its status.
+use Rattle.std.specs.Prelude.{◌≡◌, ◌⊎◌, ℕ, List, MatchOption}
+use Rattle.io_core.specs.Outside.{FilesState, SinkState, Faulted, IsAbsent, Holds, SameBut, with_file, gained, GainedPart}
+use Rattle.talc_core.specs.declared.status.Status.{Status}
+use Rattle.talc_core.specs.declared.status.Status.TheVariants.{Done, Refused, Usage, Limit, ReadFault, WriteFault, Memory}
+use Rattle.talc_core.specs.declared.fault.Fault.{Fault}
+use Rattle.talc_core.specs.Fault.{status_of}
+use Rattle.talc_core.specs.FirstFault.{FirstFault}
+use Rattle.talc_core.specs.Compiled.{IsCompiled}
+use Rattle.talc_core.specs.Command.{Asked, Compiles, command_of}
+use Rattle.talc_core.specs.Lines.{fault_line, usage_line, read_line, write_line, memory_line}
+
+-- what the call reaches: the files, the output and the error output
+pub record Outside : Type 0 where
+  pub files : FilesState
+  pub out : SinkState
+  pub err : SinkState
+
+-- the line went onto the sink; a first part of it where the sink's count rose or stands at its last value
+abbrev pub Shows : SinkState → SinkState → List ℕ → Type 0
+Shows old new line = (new.taken ≡ gained old.taken line) ⊎ (Faulted old.faults new.faults × GainedPart old.taken line new.taken)
+
+-- the same, or nothing where memory was wanted
+abbrev pub ShowsOrNot : SinkState → SinkState → List ℕ → Type 0
+ShowsOrNot old new line = (new.taken ≡ old.taken) ⊎ Shows old new line
+
+-- 0: the output's file is set to what the input's text compiles to, and nothing else is done
+pub record CompileDone (input output : List ℕ) (old new : Outside) : Type 0 where
+  pub source : List ℕ
+  pub target : List ℕ
+  pub read : Holds old.files.told input source
+  pub compiled : IsCompiled source target
+  pub written : new.files.told ≡ with_file old.files.told output target
+  pub out : new.out ≡ old.out
+  pub err : new.err ≡ old.err
+
+-- 1 and 3: the input's text has this first fault, which leads to this status; the line names it
+pub record SourceRefused (status : Status) (input : List ℕ) (old new : Outside) : Type 0 where
+  pub source : List ℕ
+  pub fault : Fault
+  pub read : Holds old.files.told input source
+  pub first : FirstFault source fault
+  pub leads : status_of fault ≡ status
+  pub line : Shows old.err new.err (fault_line fault)
+  pub out : new.out ≡ old.out
+  pub files : new.files.told ≡ old.files.told
+
+-- 5: the count of reads rose or stands at its last value, or there is no such file
+pub record NotRead (input : List ℕ) (old new : Outside) : Type 0 where
+  pub cause : Faulted old.files.reads new.files.reads ⊎ IsAbsent old.files.told input
+  pub line : Shows old.err new.err read_line
+  pub out : new.out ≡ old.out
+  pub files : new.files.told ≡ old.files.told
+
+-- 6: the text was compiled, and the count of writes rose or stands at its last value; every other file is as before
+pub record CompileNotWritten (input output : List ℕ) (old new : Outside) : Type 0 where
+  pub source : List ℕ
+  pub target : List ℕ
+  pub read : Holds old.files.told input source
+  pub compiled : IsCompiled source target
+  pub cause : Faulted old.files.writes new.files.writes
+  pub line : ShowsOrNot old.err new.err write_line
+  pub out : new.out ≡ old.out
+  pub files : SameBut output old.files.told new.files.told
+
+-- 7: nothing is written
+pub record OutOfMemory (old new : Outside) : Type 0 where
+  pub line : ShowsOrNot old.err new.err memory_line
+  pub out : new.out ≡ old.out
+  pub files : new.files.told ≡ old.files.told
+
+-- what `compile` does; other statuses never come
+abbrev pub CompileAnswer : List ℕ → List ℕ → Outside → Outside → Status → Type 0
+CompileAnswer input output old new Done = CompileDone input output old new
+CompileAnswer input output old new Refused = SourceRefused Refused input old new
+CompileAnswer input output old new Limit = SourceRefused Limit input old new
+CompileAnswer input output old new ReadFault = NotRead input old new
+CompileAnswer input output old new WriteFault = CompileNotWritten input output old new
+CompileAnswer input output old new Memory = OutOfMemory old new
+CompileAnswer input output old new other = ⊥
+
+-- 2: the words are no command; the usage line is shown, and the files are left alone
+pub record UsageShown (old new : Outside) : Type 0 where
+  pub line : Shows old.err new.err usage_line
+  pub out : new.out ≡ old.out
+  pub files : new.files ≡ old.files
+
+-- 7 where the words are no command: there was no memory for the usage line
+pub record UsageNotShown (old new : Outside) : Type 0 where
+  pub err : new.err ≡ old.err
+  pub out : new.out ≡ old.out
+  pub files : new.files ≡ old.files
+
+abbrev pub UsageAnswer : Outside → Outside → Status → Type 0
+UsageAnswer old new Usage = UsageShown old new
+UsageAnswer old new Memory = UsageNotShown old new
+UsageAnswer old new other = ⊥
+
+-- what the command does
+abbrev pub Does : Outside → Outside → Status → Asked → Type 0
+Does old new status (Compiles input output) = CompileAnswer input output old new status
+
+-- The whole of it: what the words ask for is done, or the usage is shown.
+abbrev pub Headline : List (List ℕ) → Outside → Outside → Status → Type 0
+Headline words old new status = MatchOption (command_of words) (UsageAnswer old new status) (Does old new status)

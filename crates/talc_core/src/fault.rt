@@ -1,0 +1,41 @@
+// The faults of both kinds of text.
+ghost use Rattle.std.specs.Prelude.{◌≡◌};
+
+use crate::status::Status;
+use f_terms::Code;
+use idx_core::Span;
+use t_terms::TCode;
+
+/// The first fault of a text: the rule or limit that it breaks, and the place.
+#[derive(Clone, Copy, Debug, PartialEq, Eq, Drop)]
+pub enum Fault {
+    /// Of a source text.
+    Source(Code, Span),
+    /// Of an assembly text.
+    Tal(TCode, Span),
+}
+
+impl Fault {
+    ghost use Rattle.talc_core.specs.Fault.{is_limit, status_of};
+
+    fn is_limit(self) -> bool
+        ensures { result ≡ is_limit self }
+    {
+        match self {
+            Fault::Source(Code::L1 | Code::L2 | Code::L3 | Code::L4 | Code::L5, _) => true,
+            Fault::Tal(TCode::M1, _) => true,
+            _ => false,
+        }
+    }
+
+    /// The status of a call that refuses a text by this fault: `Limit` where a limit is passed, else `Refused`.
+    pub fn status(self) -> Status
+        ensures { result ≡ status_of self }
+    {
+        if self.is_limit() {
+            Status::Limit
+        } else {
+            Status::Refused
+        }
+    }
+}

@@ -1,0 +1,187 @@
+// The worked examples of the top call, over files and sinks in memory.
+ghost use Rattle.io_core.specs.Outside.{SinkState};
+ghost use Rattle.std.specs.Prelude.{None};
+
+use crate::{Fault, Status, fault_line, talc};
+use f_terms::Code;
+use idx_core::Span;
+use io_core::{MemFiles, MemSink, Sink, Stop};
+use std::alloc::{AllocError, Global};
+use std::collections::BTreeMap;
+use std::test::Fail;
+use t_terms::TCode;
+
+const SEVEN: &[u8] = b"tal 1\nL0: code[]{}.\nmov r1, 7\nhalt[int]\n";
+
+// Words of a command line.
+fn words(alloc: Global, texts: &[&str]) -> Result<Vec<String>, AllocError> {
+    let mut words = Vec::new(alloc);
+    for text in texts {
+        words.push(String::from_str(alloc, text)?)?;
+    }
+    Ok(words)
+}
+
+// Files of one name.
+fn one_file(
+    alloc: Global,
+    name: &str,
+    content: &[u8],
+    failing: Vec<(u64, u64)>,
+) -> Result<MemFiles, AllocError> {
+    let mut files = BTreeMap::new(alloc);
+    files.insert(
+        String::from_str(alloc, name)?,
+        Vec::from_slice(alloc, content)?,
+    )?;
+    Ok(MemFiles::new(files, failing))
+}
+
+fn holds(files: &MemFiles, name: &str, content: &[u8]) -> bool {
+    match files.files().get(name) {
+        Some(bytes) => bytes.as_slice() == content,
+        None => false,
+    }
+}
+
+fn has_taken(sink: &MemSink, content: &[u8]) -> bool {
+    sink.taken().as_slice() == content
+}
+
+#[test]
+fn a_number_is_compiled(rt: HostRuntime) -> Result<(), Fail> {
+    let alloc = rt.alloc();
+    let words = words(alloc, &["talc", "compile", "x.f", "x.tal"])?;
+    let mut files = one_file(alloc, "x.f", b"7", Vec::new(alloc))?;
+    let mut out = MemSink::new(alloc, Vec::new(alloc));
+    let mut err = MemSink::new(alloc, Vec::new(alloc));
+    let status = talc(alloc, &words, &mut files, &mut out, &mut err);
+    assert_eq!(rt; status, Status::Done);
+    assert!(rt; holds(&files, "x.tal", SEVEN));
+    assert!(rt; holds(&files, "x.f", b"7"));
+    assert!(rt; has_taken(&out, b""));
+    assert!(rt; has_taken(&err, b""));
+    Ok(())
+}
+
+#[test]
+fn a_file_is_compiled_into_itself(rt: HostRuntime) -> Result<(), Fail> {
+    let alloc = rt.alloc();
+    let words = words(alloc, &["talc", "compile", "x", "x"])?;
+    let mut files = one_file(alloc, "x", b"\n 7\t-- seven", Vec::new(alloc))?;
+    let mut out = MemSink::new(alloc, Vec::new(alloc));
+    let mut err = MemSink::new(alloc, Vec::new(alloc));
+    let status = talc(alloc, &words, &mut files, &mut out, &mut err);
+    assert_eq!(rt; status, Status::Done);
+    assert!(rt; holds(&files, "x", SEVEN));
+    assert_eq!(rt; files.files().len(), 1);
+    Ok(())
+}
+
+#[test]
+fn a_failing_write_keeps_its_first_bytes(rt: HostRuntime) -> Result<(), Fail> {
+    let alloc = rt.alloc();
+    let words = words(alloc, &["talc", "compile", "x.f", "x.tal"])?;
+    let mut files = one_file(alloc, "x.f", b"7", vec![in alloc; (1, 4)]?)?;
+    let mut out = MemSink::new(alloc, Vec::new(alloc));
+    let mut err = MemSink::new(alloc, Vec::new(alloc));
+    let status = talc(alloc, &words, &mut files, &mut out, &mut err);
+    assert_eq!(rt; status, Status::WriteFault);
+    assert!(rt; holds(&files, "x.tal", b"tal "));
+    assert_eq!(rt; files.faults(), (0, 1));
+    assert!(rt; has_taken(&err, b"write fault\n"));
+    Ok(())
+}
+
+#[test]
+fn an_absent_file_is_a_read_fault(rt: HostRuntime) -> Result<(), Fail> {
+    let alloc = rt.alloc();
+    let words = words(alloc, &["talc", "compile", "no.f", "x"])?;
+    let mut files = one_file(alloc, "x.f", b"7", Vec::new(alloc))?;
+    let mut out = MemSink::new(alloc, Vec::new(alloc));
+    let mut err = MemSink::new(alloc, vec![in alloc; (0, 3)]?);
+    let status = talc(alloc, &words, &mut files, &mut out, &mut err);
+    assert_eq!(rt; status, Status::ReadFault);
+    assert!(rt;
+        has_taken(&err, b"rea"),
+        "a failing put changes nothing of the status"
+    );
+    assert_eq!(rt; files.files().len(), 1);
+    Ok(())
+}
+
+#[test]
+fn other_words_are_no_command(rt: HostRuntime) -> Result<(), Fail> {
+    let alloc = rt.alloc();
+    let lines = [
+        words(alloc, &["talc"])?,
+        words(alloc, &["talc", "run", "x.tal"])?,
+        words(alloc, &["talc", "compile", "x.tal", "-o"])?,
+    ];
+    for words in &lines {
+        let mut files = one_file(alloc, "x.tal", b"7", Vec::new(alloc))?;
+        let mut out = MemSink::new(alloc, Vec::new(alloc));
+        let mut err = MemSink::new(alloc, Vec::new(alloc));
+        let status = talc(alloc, words, &mut files, &mut out, &mut err);
+        assert_eq!(rt; status, Status::Usage);
+        assert!(rt; has_taken(&err, b"usage: talc compile IN OUT\n"));
+        assert!(rt; has_taken(&out, b""));
+    }
+    Ok(())
+}
+
+#[test]
+fn any_other_text_is_refused_whole(rt: HostRuntime) -> Result<(), Fail> {
+    let alloc = rt.alloc();
+    let words = words(alloc, &["talc", "compile", "x.f", "x.tal"])?;
+    let mut files = one_file(alloc, "x.f", b"7 8", Vec::new(alloc))?;
+    let mut out = MemSink::new(alloc, Vec::new(alloc));
+    let mut err = MemSink::new(alloc, Vec::new(alloc));
+    let status = talc(alloc, &words, &mut files, &mut out, &mut err);
+    assert_eq!(rt; status, Status::Refused);
+    assert!(rt; has_taken(&err, b"E20 0..3 form not compiled yet\n"));
+    assert_eq!(rt; files.files().len(), 1);
+    Ok(())
+}
+
+// A sink that never finds memory.
+#[derive(Drop)]
+struct NoMemory;
+
+impl Sink for NoMemory {
+    ghost state = { λ _. record { taken = None; faults = 0 } };
+
+    fn put(&mut self, _alloc: Global, _bytes: &[u8]) -> Result<(), Stop> {
+        Err(Stop::Memory)
+    }
+}
+
+#[test]
+fn a_line_without_memory_changes_all_but_a_write_fault(rt: HostRuntime) -> Result<(), Fail> {
+    let alloc = rt.alloc();
+    let words = words(alloc, &["talc", "compile", "x.f", "x.tal"])?;
+    let cases = [
+        ("x.f", "7 8", Status::Memory),
+        ("y.f", "7", Status::Memory),
+        ("x.f", "7", Status::WriteFault),
+    ];
+    for (name, content, wanted) in cases {
+        let mut files = one_file(alloc, name, content.as_bytes(), vec![in alloc; (1, 0)]?)?;
+        let mut out = MemSink::new(alloc, Vec::new(alloc));
+        let status = talc(alloc, &words, &mut files, &mut out, &mut NoMemory);
+        assert_eq!(rt; status, wanted, "{content} in {name}");
+    }
+    Ok(())
+}
+
+#[test]
+fn fault_lines_name_code_place_and_words(rt: HostRuntime) -> Result<(), Fail> {
+    let alloc = rt.alloc();
+    let large = Fault::Source(Code::E02, Span { start: 0, end: 19 });
+    let line = fault_line(alloc, &large)?;
+    assert!(rt; line.as_slice() == b"E02 0..19 number out of range\n".as_slice());
+    let empty = Fault::Tal(TCode::T12, Span { start: 69, end: 81 });
+    let line = fault_line(alloc, &empty)?;
+    assert!(rt; line.as_slice() == b"T12 69..81 field not initialised\n".as_slice());
+    Ok(())
+}

@@ -1,0 +1,14 @@
+pub mod Assembly
+pub mod Claims
+pub mod Going
+pub mod Items
+pub mod Once
+pub mod Pieces
+pub mod Places
+pub mod Reading
+pub mod Rules
+pub mod Runs
+pub mod Signs
+pub mod Unique
+pub mod Walk
+pub mod Whole

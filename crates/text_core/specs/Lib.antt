@@ -1,0 +1,6 @@
+pub mod Byte
+pub mod Going
+pub mod Lexeme
+pub mod Shapes
+pub mod Table
+pub mod Tokens

@@ -9,9 +9,10 @@ use Rattle.f_terms.proofs.Limited.{shift_within}
 -- a type of the scope, as it stands now
 pub shifted_type : (d k : ℕ) (t r : Ty) → k ≤ d → Below k t → Within t → r ≡ shift (d - k) 0 t → Below d r × Within r
 shifted_type d k t r le low small e =
-    let sum : k + (d - k) ≡ d = omega (arith, le) in
-    (subst (Below d) (sym e) (subst (λ n. Below n (shift (d - k) 0 t)) sum (shift_bound (d - k) k t low)),
-     subst Within (sym e) (shift_within (d - k) t small))
+    let sum : k + (d - k) ≡ d = omega (arith, le) in (
+      subst (Below d) (sym e) (subst (λ n. Below n (shift (d - k) 0 t)) sum (shift_bound (d - k) k t low)),
+      subst Within (sym e) (shift_within (d - k) t small),
+    )
 
 -- a name past the two of a function
 pub past_two : (g : Tys) (a r : Ty) (i : ℕ) → 1 < i → ty_at (in_fix a r g) i ≡ ty_at g (i - 2)

@@ -1,3 +1,4 @@
+mod Admits
 mod Exact
 mod Fields
 mod Finds

@@ -89,9 +89,11 @@ module _ (n : ℕ) (g : Tys) where
 
   pub tuple_ok : (s : Spn) (xs : List FTerm) (i : ℕ) (ts : List Ty) (u : Ty) → AllPass n g (map spanned (take i xs)) ts → length xs ≤ i → u ≡ TTuple (tys ts) → Within (TTuple (tys ts)) → IsTypeOf (STuple s (tms (map spanned xs))) n g u
   tuple_ok s xs i ts u h le eu w =
-      let all = whole_pass xs i ts h le in
-      ((tys ts, eu, pass_all (map spanned xs) ts all, w),
-       subst (Below n) (sym eu) (below_all (map spanned xs) ts all), subst Within (sym eu) w)
+      let all = whole_pass xs i ts h le in (
+        (tys ts, eu, pass_all (map spanned xs) ts all, w),
+        subst (Below n) (sym eu) (below_all (map spanned xs) ts all),
+        subst Within (sym eu) w,
+      )
 
   pub tuple_limit : (s : Spn) (xs : List FTerm) (i : ℕ) (ts : List Ty) → AllPass n g (map spanned (take i xs)) ts → length xs ≤ i → (c : Code) (p : Spn) → limits (TTuple (tys ts)) s nothing c p → Fault (STuple s (tms (map spanned xs))) n g c p
   tuple_limit s xs i ts h le c p k = inr (tys ts, pass_all (map spanned xs) ts (whole_pass xs i ts h le), k)

@@ -15,9 +15,7 @@ ghost use Rattle.f_check.specs.Verdict.{Says};
 use crate::rules::type_of;
 use crate::scope::Scope;
 use crate::typed::Typed;
-use f_terms::{
-    FFault, FTerm, no_fault_beside_a_pass, one_fault, one_type, passes_where_typed,
-};
+use f_terms::{FFault, FTerm, no_fault_beside_a_pass, one_fault, one_type, passes_where_typed};
 use std::alloc::Global;
 
 /// The type of a closed term by the typing rules of the source, where the type of each of its parts keeps the limits

@@ -37,13 +37,7 @@ pub(crate) fn put_size(t: &FType, at: u64, what: u64) -> u64
 {
     match t {
         FType::Int => 1,
-        FType::Var(i) => {
-            if *i == at {
-                what
-            } else {
-                1
-            }
-        }
+        FType::Var(i) => { if *i == at { what } else { 1 } }
         FType::Arrow(a, b) => {
             let parts = put_size(a, at, what).saturating_add(put_size(b, at, what));
             parts.saturating_add(1)
@@ -66,13 +60,7 @@ pub(crate) fn put_depth(t: &FType, at: u64, what: u64) -> u64
 {
     match t {
         FType::Int => 1,
-        FType::Var(i) => {
-            if *i == at {
-                what
-            } else {
-                1
-            }
-        }
+        FType::Var(i) => { if *i == at { what } else { 1 } }
         FType::Arrow(a, b) => {
             let most = put_depth(a, at, what).max(put_depth(b, at, what));
             most.saturating_add(1)

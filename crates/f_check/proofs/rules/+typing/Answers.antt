@@ -47,9 +47,9 @@ pub type_of-returns-in-If0 : goal.type_of-returns-in-If0
 type_of-returns-in-If0 t c =
     let p = place c.args.term.now.span in
     let whole =
-        ap (form_tree p) c.in-If0.is
-        ∙ sym (ap (λ x. SIf0 p (spanned x) (spanned c.in-If0.a.value) (spanned c.in-If0.b.value)) c.deref-in-If0.ensures)
-        ∙ sym (ap₂ (λ a b. SIf0 p (spanned c.deref-in-If0.result.now) (spanned a) (spanned b)) c.deref-in-If0-2.ensures c.deref-in-If0-3.ensures) in
+    ap (form_tree p) c.in-If0.is
+    ∙ sym (ap (λ x. SIf0 p (spanned x) (spanned c.in-If0.a.value) (spanned c.in-If0.b.value)) c.deref-in-If0.ensures)
+    ∙ sym (ap₂ (λ a b. SIf0 p (spanned c.deref-in-If0.result.now) (spanned a) (spanned b)) c.deref-in-If0-2.ensures c.deref-in-If0-3.ensures) in
     subst (λ z. IsVerdict z c.args.around (names c.args.around c.args.scope.now) c.type_of_if0.result) (sym whole) (c.type_of_if0.ensures p)
 
 -- a function
@@ -60,8 +60,8 @@ type_of_fix-returns-in-Err-type_of t c =
     let r = tree c.args.res.now in
     let w : Within (TArrow a r) = (omega (arith, c.in-Ok.ensures.ok.0), omega (arith, c.in-Ok.ensures.ok.1)) in
     says_map c.in-Err-type_of.e _ (Fault (SFix (place c.args.span) a r (spanned c.args.body.now)) c.args.around g)
-      (fix_body c.args.around g (place c.args.span) a r (spanned c.args.body.now) _ (body_names c.args.around a r g) w)
-      c.in-Err-type_of.ensures
+    (fix_body c.args.around g (place c.args.span) a r (spanned c.args.body.now) _ (body_names c.args.around a r g) w)
+    c.in-Err-type_of.ensures
 
 pub type_of_fix-returns-then-not-eq : goal.type_of_fix-returns-then-not-eq
 type_of_fix-returns-then-not-eq t c =
@@ -70,7 +70,7 @@ type_of_fix-returns-then-not-eq t c =
     let r = tree c.args.res.now in
     let w : Within (TArrow a r) = (omega (arith, c.in-Ok.ensures.ok.0), omega (arith, c.in-Ok.ensures.ok.1)) in
     fix_res c.args.around g (place c.args.span) a r (tree c.in-Ok-type_of.t) (spanned c.args.body.now) _ (place c.args.body.now.span) (body_names c.args.around a r g) w
-      c.in-Ok-type_of.ensures.0 (λ e. absurd (true≢false (sym (c.if-not-eq.ensures.1 e)))) (span_at c.args.body.now)
+    c.in-Ok-type_of.ensures.0 (λ e. absurd (true≢false (sym (c.if-not-eq.ensures.1 e)))) (span_at c.args.body.now)
 
 pub type_of_fix-shift_arrow-requires : goal.type_of_fix-shift_arrow-requires
 type_of_fix-shift_arrow-requires t c =
@@ -84,7 +84,7 @@ type_of_fix-returns-in-Ok-shift_arrow t c =
     let r = tree c.args.res.now in
     let w : Within (TArrow a r) = (omega (arith, c.in-Ok.ensures.ok.0), omega (arith, c.in-Ok.ensures.ok.1)) in
     fix_ok c.args.around g (place c.args.span) a r (tree c.in-Ok-type_of.t) (tree c.in-Ok-shift_arrow.t) (spanned c.args.body.now) _ (body_names c.args.around a r g) w
-      c.requires.1.0 c.requires.1.1 c.in-Ok-type_of.ensures.0 (c.if-not-eq.ensures.0 refl) (c.in-Ok-shift_arrow.ensures ∙ shift_none (TArrow a r))
+    c.requires.1.0 c.requires.1.1 c.in-Ok-type_of.ensures.0 (c.if-not-eq.ensures.0 refl) (c.in-Ok-shift_arrow.ensures ∙ shift_none (TArrow a r))
 
 -- an application
 pub type_of_app-type_of-requires : goal.type_of_app-type_of-requires
@@ -108,7 +108,7 @@ type_of_app-type_of-requires-2 t c =
 pub type_of_app-returns-then-not-eq : goal.type_of_app-returns-then-not-eq
 type_of_app-returns-then-not-eq t c = λ s.
     app_arg c.args.around (names c.args.around c.args.scope.now) s (spanned c.args.f.now) (spanned c.args.x.now) (tree c.in-Ok.t) _ _ (tree c.in-Ok-type_of.t) (place c.args.x.now.span)
-      c.in-Ok.ensures.0 c.in-Some.ensures c.in-Ok-type_of.ensures.0 (λ e. absurd (true≢false (sym (c.if-not-eq.ensures.1 e)))) (span_at c.args.x.now)
+    c.in-Ok.ensures.0 c.in-Some.ensures c.in-Ok-type_of.ensures.0 (λ e. absurd (true≢false (sym (c.if-not-eq.ensures.1 e)))) (span_at c.args.x.now)
 
 -- a type abstraction
 pub type_of_gen-type_of-requires : goal.type_of_gen-type_of-requires
@@ -122,22 +122,22 @@ pub type_of_gen-returns-in-Err : goal.type_of_gen-returns-in-Err
 type_of_gen-returns-in-Err t c =
     let g = names c.args.around c.args.scope.now in
     says_map c.in-Err.e _ (Fault (SGen (place c.args.span) (spanned c.args.body.now)) c.args.around g)
-      (gen_body c.args.around g (place c.args.span) (spanned c.args.body.now) _ (raised_names c.args.around c.args.scope.now c.requires.0))
-      c.in-Err.ensures
+    (gen_body c.args.around g (place c.args.span) (spanned c.args.body.now) _ (raised_names c.args.around c.args.scope.now c.requires.0))
+    c.in-Err.ensures
 
 pub type_of_gen-returns-in-Err-limit : goal.type_of_gen-returns-in-Err-limit
 type_of_gen-returns-in-Err-limit t c =
     let g = names c.args.around c.args.scope.now in
     says_map c.in-Err-limit.e _ (Fault (SGen (place c.args.span) (spanned c.args.body.now)) c.args.around g)
-      (λ d p h. gen_limit c.args.around g (place c.args.span) (spanned c.args.body.now) _ (tree c.in-Ok.t) (raised_names c.args.around c.args.scope.now c.requires.0) c.in-Ok.ensures.0 d p
-        (limits_of (TAll (tree c.in-Ok.t)) _ _ (place c.args.span) (omega (arith, c.saturating_add-deep.ensures, c.depth.ensures)) (omega (arith, c.saturating_add-wide.ensures, c.size.ensures)) d p h))
-      c.in-Err-limit.ensures.fault
+    (λ d p h. gen_limit c.args.around g (place c.args.span) (spanned c.args.body.now) _ (tree c.in-Ok.t) (raised_names c.args.around c.args.scope.now c.requires.0) c.in-Ok.ensures.0 d p
+    (limits_of (TAll (tree c.in-Ok.t)) _ _ (place c.args.span) (omega (arith, c.saturating_add-deep.ensures, c.depth.ensures)) (omega (arith, c.saturating_add-wide.ensures, c.size.ensures)) d p h))
+    c.in-Err-limit.ensures.fault
 
 pub type_of_gen-returns-in-Ok-new : goal.type_of_gen-returns-in-Ok-new
 type_of_gen-returns-in-Ok-new t c =
     let w : Within (TAll (tree c.in-Ok.t)) = within (TAll (tree c.in-Ok.t)) _ _ (omega (arith, c.saturating_add-deep.ensures, c.depth.ensures)) (omega (arith, c.saturating_add-wide.ensures, c.size.ensures)) c.in-Ok-limit.ensures.ok in
     gen_ok c.args.around (names c.args.around c.args.scope.now) (place c.args.span) (spanned c.args.body.now) _ (tree c.in-Ok.t) _ (raised_names c.args.around c.args.scope.now c.requires.0)
-      c.in-Ok.ensures w (ap TAll (ap tree c.in-Ok-new.ensures.ok))
+    c.in-Ok.ensures w (ap TAll (ap tree c.in-Ok-new.ensures.ok))
 
 -- a type application
 pub type_of_inst-returns-in-None : goal.type_of_inst-returns-in-None
@@ -167,8 +167,8 @@ pub type_of_tuple-returns-in-Err : goal.type_of_tuple-returns-in-Err
 type_of_tuple-returns-in-Err t c =
     let g = names c.args.around c.args.scope.now in
     says_map c.in-Err.e _ (Fault (STuple (place c.args.span) (tms (map spanned c.args.es.now))) c.args.around g)
-      (tuple_part c.args.around g (place c.args.span) c.args.es.now c.loop-e.e-index c.e-item.result (map tree c.loop-e.parts.items) c.loop-e-test.true c.e-item.is c.loop-e.invariant.passed)
-      c.in-Err.ensures
+    (tuple_part c.args.around g (place c.args.span) c.args.es.now c.loop-e.e-index c.e-item.result (map tree c.loop-e.parts.items) c.loop-e-test.true c.e-item.is c.loop-e.invariant.passed)
+    c.in-Err.ensures
 
 pub type_of_tuple-loop-e-preserved : goal.type_of_tuple-loop-e-preserved
 type_of_tuple-loop-e-preserved t c =
@@ -191,9 +191,9 @@ type_of_tuple-returns-in-Err-limit t c =
     let g = names c.args.around c.args.scope.now in
     let ts = map tree c.loop-e.parts.items in
     says_map c.in-Err-limit.e _ (Fault (STuple (place c.args.span) (tms (map spanned c.args.es.now))) c.args.around g)
-      (λ d p h. tuple_limit c.args.around g (place c.args.span) c.args.es.now c.loop-e.e-index ts c.loop-e.invariant.passed c.loop-e-test.false d p
-        (limits_of (TTuple (tys ts)) _ _ (place c.args.span) (omega (arith, c.saturating_add.ensures, c.loop-e.invariant.depth)) (omega (arith, c.loop-e.invariant.size)) d p h))
-      c.in-Err-limit.ensures.fault
+    (λ d p h. tuple_limit c.args.around g (place c.args.span) c.args.es.now c.loop-e.e-index ts c.loop-e.invariant.passed c.loop-e-test.false d p
+    (limits_of (TTuple (tys ts)) _ _ (place c.args.span) (omega (arith, c.saturating_add.ensures, c.loop-e.invariant.depth)) (omega (arith, c.loop-e.invariant.size)) d p h))
+    c.in-Err-limit.ensures.fault
 
 -- a projection
 pub type_of_proj-returns-in-None : goal.type_of_proj-returns-in-None
@@ -248,4 +248,4 @@ type_of_if0-type_of-requires-2 t c =
 pub type_of_if0-returns-then-not-eq : goal.type_of_if0-returns-then-not-eq
 type_of_if0-returns-then-not-eq t c = λ s.
     if_branches c.args.around (names c.args.around c.args.scope.now) s (spanned c.args.c.now) (spanned c.args.a.now) (spanned c.args.b.now) (tree c.in-Ok-type_of.t) (tree c.in-Ok-type_of-2.t) (place c.args.b.now.span)
-      c.in-Ok.ensures c.in-Ok-type_of.ensures.0 c.in-Ok-type_of-2.ensures.0 (λ e. absurd (true≢false (sym (c.if-not-eq.ensures.1 e)))) (span_at c.args.b.now)
+    c.in-Ok.ensures c.in-Ok-type_of.ensures.0 c.in-Ok-type_of-2.ensures.0 (λ e. absurd (true≢false (sym (c.if-not-eq.ensures.1 e)))) (span_at c.args.b.now)

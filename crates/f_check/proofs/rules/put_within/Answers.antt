@@ -26,19 +26,25 @@ returns-in-Err-limit c =
     let p = place c.args.span in
     let w = within s c.depth-deep.result c.size-wide.result c.depth-deep.ensures c.size-wide.ensures c.in-Ok.ensures.ok in
     says_map c.in-Err-limit.e _ (limits s p (limits (put 0 s t) p nothing))
-      (λ d q h. inr (w.0, inr (w.1,
+    (λ d q h. inr (
+      w.0,
+      inr (
+        w.1,
         limits_of (put 0 s t) _ _ p
-        (depth_made s t c.depth-deep.result _ c.depth-deep.ensures c.in-Ok.ensures.ok.0 c.put_depth-made_deep.ensures)
-        (size_made s t c.size-wide.result _ c.size-wide.ensures c.in-Ok.ensures.ok.1 c.put_size-made_wide.ensures) d q h)))
-      c.in-Err-limit.ensures.fault
+            (depth_made s t c.depth-deep.result _ c.depth-deep.ensures c.in-Ok.ensures.ok.0 c.put_depth-made_deep.ensures)
+            (size_made s t c.size-wide.result _ c.size-wide.ensures c.in-Ok.ensures.ok.1 c.put_size-made_wide.ensures) d q h,
+      ),
+    ))
+    c.in-Err-limit.ensures.fault
 
 pub returns-in-Ok-put : goal.returns-in-Ok-put
 returns-in-Ok-put c =
     let s = tree c.args.what.now in
-    let t = tree c.args.body.now in
-    (c.in-Ok-put.ensures,
-     within s c.depth-deep.result c.size-wide.result c.depth-deep.ensures c.size-wide.ensures c.in-Ok.ensures.ok,
-     within (put 0 s t) c.put_depth-made_deep.result c.put_size-made_wide.result
-       (depth_made s t c.depth-deep.result _ c.depth-deep.ensures c.in-Ok.ensures.ok.0 c.put_depth-made_deep.ensures)
-       (size_made s t c.size-wide.result _ c.size-wide.ensures c.in-Ok.ensures.ok.1 c.put_size-made_wide.ensures)
-       c.in-Ok-limit.ensures.ok)
+    let t = tree c.args.body.now in (
+      c.in-Ok-put.ensures,
+      within s c.depth-deep.result c.size-wide.result c.depth-deep.ensures c.size-wide.ensures c.in-Ok.ensures.ok,
+      within (put 0 s t) c.put_depth-made_deep.result c.put_size-made_wide.result
+          (depth_made s t c.depth-deep.result _ c.depth-deep.ensures c.in-Ok.ensures.ok.0 c.put_depth-made_deep.ensures)
+          (size_made s t c.size-wide.result _ c.size-wide.ensures c.in-Ok.ensures.ok.1 c.put_size-made_wide.ensures)
+          c.in-Ok-limit.ensures.ok,
+    )

@@ -56,14 +56,16 @@ returns-then-left-eq0 c =
     let arg = tree c.in-Body-at.arg.now in
     let by = c.args.around - c.in-Body-at.bound in
     IfOk-weaker c.shift.result (λ r. tree r ≡ shift by 0 arg) (λ r. (ty_at (names c.args.around c.args.scope.now) c.args.name ≡ Some (tree r)) × Below c.args.around (tree r) × Within (tree r))
-      (λ r e.
-        let w = shifted_type c.args.around c.in-Body-at.bound arg (tree r) ok.0 ok.1 (arrow_within arg (tree c.in-Body-at.res.now) ok.3).0 e in
-        (c.loop-left.invariant.same
+    (λ r e.
+    let w = shifted_type c.args.around c.in-Body-at.bound arg (tree r) ok.0 ok.1 (arrow_within arg (tree c.in-Body-at.res.now) ok.3).0 e in (
+      c.loop-left.invariant.same
           ∙ ap (λ s. ty_at (names c.args.around s) c.loop-left.left) c.in-Body-at.is
           ∙ name_zero (names c.args.around c.in-Body-at.outer.now) _ _ c.loop-left.left (search (rules, c.if-left-eq0.true))
           ∙ ap Some (sym e),
-         w.0, w.1))
-      c.shift.ensures
+      w.0,
+      w.1,
+    ))
+    c.shift.ensures
 
 pub returns-else-left-eq0 : goal.returns-else-left-eq0
 returns-else-left-eq0 c =
@@ -72,11 +74,13 @@ returns-else-left-eq0 c =
     let by = c.args.around - c.in-Body-at.bound in
     let one : c.loop-left.left ≡ 1 = grind arith in
     IfOk-weaker c.shift_arrow.result (λ r. tree r ≡ shift by 0 whole) (λ r. (ty_at (names c.args.around c.args.scope.now) c.args.name ≡ Some (tree r)) × Below c.args.around (tree r) × Within (tree r))
-      (λ r e.
-        let w = shifted_type c.args.around c.in-Body-at.bound whole (tree r) ok.0 (ok.1, ok.2) ok.3 e in
-        (c.loop-left.invariant.same
+    (λ r e.
+    let w = shifted_type c.args.around c.in-Body-at.bound whole (tree r) ok.0 (ok.1, ok.2) ok.3 e in (
+      c.loop-left.invariant.same
           ∙ ap (λ s. ty_at (names c.args.around s) c.loop-left.left) c.in-Body-at.is
           ∙ name_one (names c.args.around c.in-Body-at.outer.now) _ _ c.loop-left.left one
           ∙ ap Some (sym e),
-         w.0, w.1))
-      c.shift_arrow.ensures
+      w.0,
+      w.1,
+    ))
+    c.shift_arrow.ensures

@@ -6,7 +6,9 @@ ghost use Rattle.t_types.specs.Tree.{Ty, TFile, VarTy, over, over_file, over_typ
 ghost use Rattle.t_types.specs.TreeLaws.{types_part, file_over};
 
 use crate::types::{RegFile, TType};
-use crate::walks::{has_words, put_regs, put_type, regs_below, regs_have_words, shift_regs, type_below};
+use crate::walks::{
+    has_words, put_regs, put_type, regs_below, regs_have_words, shift_regs, type_below,
+};
 use idx_core::{OutOfMemory, Scoped};
 use std::alloc::Global;
 

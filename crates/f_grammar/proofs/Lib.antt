@@ -1,0 +1,5 @@
+pub mod Complete
+pub mod Extent
+pub mod Filling
+pub mod Instance
+pub mod Rows

@@ -3,3 +3,4 @@ pub mod Extent
 pub mod Filling
 pub mod Instance
 pub mod Rows
+pub mod Typing

@@ -1,6 +1,7 @@
 //! The term that a source text stands for, or the first fault of the text.
 #![tactic(auto)]
 
+pub mod kept;
 pub mod laws;
 pub mod reader;
 

@@ -1,9 +1,8 @@
 -- A piece goes from the start of its first token to the end of its last.
-use Rattle.std.proofs.Common.{◌≡◌, ℕ, List, [], ◌∷◌, ◌++◌, refl, sym, subst, append_assoc}
-use Rattle.idx_core.specs.declared.span.Span.{Span}
+use Rattle.std.proofs.Common.{◌≡◌, ℕ, List, [], ◌∷◌, ◌++◌, refl, subst, append_assoc}
 use Rattle.f_lexer.specs.declared.token.Token.{Token}
 use Rattle.f_lexer.specs.declared.kind.Kind.TheVariants as k
-use Rattle.f_grammar.specs.Raw.{Piece, RawTm, RawTy}
+use Rattle.f_grammar.specs.Raw.{Piece}
 use Rattle.f_grammar.specs.Grammar.{tok, E, S, M, A, P, e_fix, e_gen, e_sum, s_plus, s_minus, s_product, m_star, m_call, a_call, a_inst, a_part, p_name, p_plain, p_negative, p_paren, p_unit, p_tuple, p_proj, p_if0}
 
 pub data Starts : List Token → ℕ → Type 0 where
@@ -51,7 +50,7 @@ mutual
 mutual
   pub end_E : {w : List Token} {e : Piece} → E w e → Ends w e.end
   end_E (e_fix {u} {v} f n o x c p d s t r e) =
-    ends_more (tok k.Fix f ∷ (tok k.Name n ∷ (tok k.LeftParen o ∷ (tok k.Name x ∷ (tok k.Colon c ∷ []))))) (ends_more u (ends_more (tok k.RightParen p ∷ (tok k.Colon d ∷ [])) (ends_more v (ends_more (tok k.Dot s ∷ []) (end_E e)))))
+      ends_more (tok k.Fix f ∷ (tok k.Name n ∷ (tok k.LeftParen o ∷ (tok k.Name x ∷ (tok k.Colon c ∷ []))))) (ends_more u (ends_more (tok k.RightParen p ∷ (tok k.Colon d ∷ [])) (ends_more v (ends_more (tok k.Dot s ∷ []) (end_E e)))))
   end_E (e_gen g a d e) = ends_more (tok k.Gen g ∷ (tok k.Name a ∷ (tok k.Dot d ∷ []))) (end_E e)
   end_E (e_sum s) = end_S s
 
@@ -78,4 +77,4 @@ mutual
   end_P (p_tuple {w} o c x) = ends (tok k.LeftAngle o ∷ w) (tok k.RightAngle c) _ refl
   end_P (p_proj h n s p) = ends_more (tok k.Hash h ∷ (tok (k.Plain n) s ∷ [])) (end_P p)
   end_P (p_if0 {u} {v} {w} i o p q l a b c) =
-    ends_more (tok k.If0 i ∷ (tok k.LeftParen o ∷ [])) (ends_more u (ends_more (tok k.Comma p ∷ v) (ends (tok k.Comma q ∷ w) (tok k.RightParen l) _ refl)))
+      ends_more (tok k.If0 i ∷ (tok k.LeftParen o ∷ [])) (ends_more u (ends_more (tok k.Comma p ∷ v) (ends (tok k.Comma q ∷ w) (tok k.RightParen l) _ refl)))

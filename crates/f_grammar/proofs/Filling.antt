@@ -1,17 +1,17 @@
 -- What was begun can be completed.
-use Rattle.std.proofs.Common.{pos, ◌≡◌, ℕ, suc, ◌<◌, List, [], ◌∷◌, ◌++◌, refl, sym, ◌∙◌, ap, Option, Some, None, Bool, true, false, arith}
+use Rattle.std.proofs.Common.{pos, ◌≡◌, ℕ, suc, ◌<◌, List, [], ◌∷◌, ◌++◌, refl, ◌∙◌, true, false, arith}
 use Rattle.idx_core.specs.declared.span.Span.{Span}
 use Rattle.f_lexer.specs.declared.token.Token.{Token}
 use Rattle.f_lexer.specs.declared.kind.Kind.{Kind}
 use Rattle.f_lexer.specs.declared.kind.Kind.TheVariants as k
 use Rattle.f_grammar.specs.declared.cursor.Wanted.TheVariants as want
 use Rattle.f_grammar.specs.Grammar.{tok}
-use Rattle.f_grammar.specs.Raw.{var, RInt, RawTm, RawTy}
-use Rattle.text_core.specs.Table.{Tm, Nt, Do, Mark, Seen}
+use Rattle.f_grammar.specs.Raw.{var, RInt}
+use Rattle.text_core.specs.Table.{Nt, Do, Mark, Seen}
 use Rattle.text_core.proofs.Reading as reading
 use Rattle.text_core.proofs.Rules as rules
 use Rattle.text_core.proofs.Rules.{Filling, good_row, quiet_row, AtLeast, Least}
-use Rattle.f_grammar.specs.Machine.{table, Class, Line, LE, LP, LParam, LBranches, LFields, MoreParts, MoreFactors, MoreSums, MoreFields, LT, LU, LTypes, MoreArrow, MoreTypes, Act, MakeVar, MakeUnit, TypeInt, TypeUnit, Stack, Val, OfToken, OfTerm, OfTerms, OfType, OfTypes, fits, after, may_end, sum_tail, type_tail, marks, exec, Outcome, act}
+use Rattle.f_grammar.specs.Machine.{table, Class, Line, LE, LP, LParam, LBranches, LFields, MoreParts, MoreFactors, MoreSums, MoreFields, LT, LU, LTypes, MoreArrow, MoreTypes, Act, MakeVar, MakeUnit, TypeInt, TypeUnit, Stack, Val, OfToken, OfTerm, OfType, fits, after, may_end, sum_tail, type_tail, marks, exec, Outcome, act}
 
 abbrev here : Span
 here = record { start = 0; end = 0 }
@@ -29,6 +29,8 @@ token want.Colon = tok k.Colon here
 token want.All = tok k.All here
 token want.Arrow = tok k.Arrow here
 token want.Star = tok k.Star here
+token want.Fix = tok k.Fix here
+token want.Gen = tok k.Gen here
 
 abbrev pub least : Line → List Token
 least LE = tok k.Name here ∷ []
@@ -72,6 +74,8 @@ fits_token want.Colon = refl
 fits_token want.All = refl
 fits_token want.Arrow = refl
 fits_token want.Star = refl
+fits_token want.Fix = refl
+fits_token want.Gen = refl
 
 pub goods : (n : Line) (c : Kind) → good_row table filling n (after n c) ≡ true
 goods LE k.Fix = refl
@@ -117,13 +121,22 @@ mark_now : (w : List Token) (s : Stack) (vs : List Val) → exec w (Mark ∷ s) 
 mark_now w s vs = reading.mark_now table w s vs
 
 pub reads : (n : Line) → may_end n ≡ false → (w : List Token) → AtLeast table filling (wants n) w → (s : Stack) (vs : List Val) → Least table n (least n) w s vs
-reads LE e w h s vs = record { made = OfTerm (var here) ∷ vs; counts = marks s ∷ [];
-  leads = next (marks s) (do_now w MakeVar (sum_tail ++ s) _ ∙ (silent MoreParts refl w h (Nt MoreFactors ∷ (Nt MoreSums ∷ s)) _ ∙ (silent MoreFactors refl w h (Nt MoreSums ∷ s) _ ∙ silent MoreSums refl w h s _))) }
+reads LE e w h s vs = record {
+  made = OfTerm (var here) ∷ vs;
+  counts = marks s ∷ [];
+  leads = next (marks s) (do_now w MakeVar (sum_tail ++ s) _ ∙ (silent MoreParts refl w h (Nt MoreFactors ∷ (Nt MoreSums ∷ s)) _ ∙ (silent MoreFactors refl w h (Nt MoreSums ∷ s) _ ∙ silent MoreSums refl w h s _)));
+}
 reads LP e w h s vs = record { made = OfTerm (var here) ∷ vs; counts = marks s ∷ []; leads = next (marks s) (do_now w MakeVar s _) }
-reads LParam e w h s vs = record { made = _; counts = suc (marks s) ∷ (suc (marks s) ∷ (suc (marks s) ∷ (suc (marks s) ∷ (suc (marks s) ∷ []))));
-  leads = next _ (next _ (next _ (next _ (next _ (mark_now w s _))))) }
-reads LBranches e w h s vs = record { made = _; counts = suc (marks s) ∷ (suc (marks s) ∷ (suc (marks s) ∷ (suc (marks s) ∷ (suc (marks s) ∷ (suc (marks s) ∷ (suc (marks s) ∷ []))))));
-  leads = next _ (next _ (next _ (next _ (next _ (next _ (next _ (mark_now w s _))))))) }
+reads LParam e w h s vs = record {
+  made = _;
+  counts = suc (marks s) ∷ (suc (marks s) ∷ (suc (marks s) ∷ (suc (marks s) ∷ (suc (marks s) ∷ []))));
+  leads = next _ (next _ (next _ (next _ (next _ (mark_now w s _)))));
+}
+reads LBranches e w h s vs = record {
+  made = _;
+  counts = suc (marks s) ∷ (suc (marks s) ∷ (suc (marks s) ∷ (suc (marks s) ∷ (suc (marks s) ∷ (suc (marks s) ∷ (suc (marks s) ∷ []))))));
+  leads = next _ (next _ (next _ (next _ (next _ (next _ (next _ (mark_now w s _)))))));
+}
 reads LFields e w h s vs = record { made = act MakeUnit (OfToken (tok k.RightAngle here) ∷ vs); counts = marks s ∷ []; leads = next (marks s) (do_now w MakeUnit s _) }
 reads LT e w h s vs = record { made = OfType RInt ∷ vs; counts = marks s ∷ []; leads = next (marks s) (do_now w TypeInt (type_tail ++ s) _ ∙ silent MoreArrow refl w h s _) }
 reads LU e w h s vs = record { made = OfType RInt ∷ vs; counts = marks s ∷ []; leads = next (marks s) (do_now w TypeInt s _) }

@@ -1,14 +1,14 @@
 -- The source grammar meets the rules, so its verdicts are exact, and its trees unique.
-use Rattle.std.proofs.Common.{◌≡◌, ℕ, List, [], ◌∷◌, ◌++◌, refl, sym, subst}
+use Rattle.std.proofs.Common.{◌≡◌, ℕ, List, [], refl}
 use Rattle.f_lexer.specs.declared.token.Token.{Token}
-use Rattle.f_grammar.specs.Raw.{Piece, RawTm, RawTy}
-use Rattle.f_grammar.specs.Grammar.{tok, E}
-use Rattle.text_core.specs.Table.{Table, Verdict, bounded, whole}
+use Rattle.f_grammar.specs.Raw.{Piece}
+use Rattle.f_grammar.specs.Grammar.{E}
+use Rattle.text_core.specs.Table.{Verdict, bounded, whole}
 use Rattle.text_core.specs.Shapes.{Says}
 use Rattle.text_core.proofs.Claims.{Sound, Claims}
 use Rattle.text_core.proofs.Rules.{Rules, claims_of, exact_by}
 use Rattle.text_core.proofs.Unique as unique
-use Rattle.f_grammar.specs.Machine.{table, Val, OfTerm, LE}
+use Rattle.f_grammar.specs.Machine.{table, Val, LE}
 use Rattle.f_grammar.proofs.Complete.{read_shape}
 use Rattle.f_grammar.proofs.Rows.{Sem, sem_E, meaning, is_of, row, empty}
 use Rattle.f_grammar.proofs.Filling.{filling, fits_token, goods, quiet, reads, wanted}
@@ -30,7 +30,8 @@ rules = record {
   goods = λ n c. goods n c.kind;
   quiet = λ n c. quiet n c.kind c.span;
   least = λ n e w h s vs. reads n e w h s vs;
-  wanted = λ n. wanted n }
+  wanted = λ n. wanted n;
+}
 
 pub source_exact : (limit : ℕ) (w : List Token) → Says table limit w (bounded table limit w (whole table w))
 source_exact limit w = exact_by table rules limit w

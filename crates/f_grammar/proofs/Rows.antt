@@ -1,5 +1,5 @@
 -- What is read stands in the grammar: one row for each production.
-use Rattle.std.proofs.Common.{ℤ, ◌≡◌, ℕ, List, [], ◌∷◌, ◌++◌, refl, sym, ◌∙◌, ap, subst, append_assoc, Option, Some, None, Bool, true, false}
+use Rattle.std.proofs.Common.{ℤ, ◌≡◌, List, [], ◌∷◌, ◌++◌, refl, ◌∙◌, ap, subst, append_assoc, true}
 use Rattle.std.proofs.lemmas.List.{append-nil}
 use Rattle.idx_core.specs.declared.span.Span.{Span}
 use Rattle.f_lexer.specs.declared.token.Token.{Token}
@@ -8,12 +8,12 @@ use Rattle.f_lexer.specs.declared.kind.Kind.TheVariants as k
 use Rattle.f_grammar.specs.declared.cursor.Wanted.TheVariants as want
 use Rattle.idx_core.specs.declared.arith.Op.{Op}
 use Rattle.idx_core.specs.declared.arith.Op.TheVariants.{Add, Sub, Mul}
-use Rattle.f_grammar.specs.Raw.{RawTy, RTuple, RArrow, Piece, call, inst, arith, RawTm}
+use Rattle.f_grammar.specs.Raw.{RawTy, RArrow, Piece, arith, RawTm}
 use Rattle.f_grammar.specs.Grammar.{tok, T, U, Ts, t_all, t_arrow, t_part, u_int, u_name, u_unit, u_tuple, u_paren, ts_one, ts_more, E, S, M, A, P, Es, e_fix, e_gen, e_sum, s_plus, s_minus, s_product, m_star, m_call, a_call, a_inst, a_part, p_name, p_plain, p_negative, p_paren, p_unit, p_tuple, p_proj, p_if0, es_one, es_more}
 use Rattle.text_core.specs.Table.{Tm, Nt, Do, Mark}
 use Rattle.text_core.proofs.Rules as rules
 use Rattle.text_core.proofs.Rules.{Meaning, Matches, m_end, m_tm, m_nt, m_do, m_mark, Row, Made, Extends}
-use Rattle.f_grammar.specs.Machine.{table, Class, Line, LE, LP, LParam, LBranches, LFields, MoreParts, MoreFactors, MoreSums, MoreFields, LT, LU, LTypes, MoreArrow, MoreTypes, Act, MakeVar, MakeNumber, MakeFix, MakeGen, MakeParen, MakeUnit, MakeTuple, MakeProj, MakeIf0, MakeCall, MakeInst, MakeArith, MakeFirst, MakeNext, TypeInt, TypeName, TypeParen, TypeUnit, TypeTuple, TypeAll, TypeArrow, TypeFirst, TypeNext, Stack, Val, OfToken, OfTerm, OfTerms, OfType, OfTypes, fits, act, part_after, sum_tail, expr_after, fields_after, fields_tail, parts_after, parts_tail, unit_after, type_after, type_tail, types_after, types_tail, term_owed, may_end, after}
+use Rattle.f_grammar.specs.Machine.{table, Class, Line, LE, LP, LParam, LBranches, LFields, MoreParts, MoreFactors, MoreSums, MoreFields, LT, LU, LTypes, MoreArrow, MoreTypes, MakeVar, MakeNumber, MakeFix, MakeGen, MakeParen, MakeUnit, MakeTuple, MakeProj, MakeIf0, MakeCall, MakeInst, MakeArith, MakeNext, TypeInt, TypeName, TypeParen, TypeUnit, TypeTuple, TypeAll, TypeArrow, TypeNext, Stack, Val, OfToken, OfTerm, OfTerms, OfType, OfTypes, fits, act, part_after, sum_tail, expr_after, fields_after, fields_tail, parts_after, parts_tail, unit_after, type_after, type_tail, types_after, types_tail, term_owed, may_end, after}
 
 -- tokens of a class
 pub data Is : Class → Token → Type 0 where
@@ -29,6 +29,8 @@ pub data Is : Class → Token → Type 0 where
   is_all : (s : Span) → Is want.All (tok k.All s)
   is_arrow : (s : Span) → Is want.Arrow (tok k.Arrow s)
   is_star : (s : Span) → Is want.Star (tok k.Star s)
+  is_fix : (s : Span) → Is want.Fix (tok k.Fix s)
+  is_gen : (s : Span) → Is want.Gen (tok k.Gen s)
 
 pub is_of : (c : Class) (t : Kind) (s : Span) → fits c t ≡ true → Is c (tok t s)
 is_of want.Name k.Name s e = is_name s
@@ -43,6 +45,8 @@ is_of want.Colon k.Colon s e = is_colon s
 is_of want.All k.All s e = is_all s
 is_of want.Arrow k.Arrow s e = is_arrow s
 is_of want.Star k.Star s e = is_star s
+is_of want.Fix k.Fix s e = is_fix s
+is_of want.Gen k.Gen s e = is_gen s
 is_of _ _ s e = absurd (cc)
 
 abbrev piece : Piece → Val
@@ -62,9 +66,9 @@ pub data Sem : Line → List Val → List Token → List Val → Type 0 where
   sem_E : {vs : List Val} {w : List Token} {e : Piece} → E w e → Sem LE vs w (OfTerm e ∷ vs)
   sem_P : {vs : List Val} {w : List Token} {e : Piece} → P w e → Sem LP vs w (OfTerm e ∷ vs)
   sem_param : {vs : List Val} {w : List Token} {t : RawTy} (o x c p : Span) → T w t →
-    Sem LParam vs (tok k.LeftParen o ∷ (tok k.Name x ∷ (tok k.Colon c ∷ (w ++ tok k.RightParen p ∷ [])))) (OfToken (tok k.RightParen p) ∷ (OfType t ∷ (OfToken (tok k.Colon c) ∷ (OfToken (tok k.Name x) ∷ (OfToken (tok k.LeftParen o) ∷ vs)))))
+      Sem LParam vs (tok k.LeftParen o ∷ (tok k.Name x ∷ (tok k.Colon c ∷ (w ++ tok k.RightParen p ∷ [])))) (OfToken (tok k.RightParen p) ∷ (OfType t ∷ (OfToken (tok k.Colon c) ∷ (OfToken (tok k.Name x) ∷ (OfToken (tok k.LeftParen o) ∷ vs)))))
   sem_branches : {vs : List Val} {u v w : List Token} {a b c : Piece} (o p q l : Span) → E u a → E v b → E w c →
-    Sem LBranches vs (tok k.LeftParen o ∷ (u ++ tok k.Comma p ∷ (v ++ tok k.Comma q ∷ (w ++ tok k.RightParen l ∷ []))))
+      Sem LBranches vs (tok k.LeftParen o ∷ (u ++ tok k.Comma p ∷ (v ++ tok k.Comma q ∷ (w ++ tok k.RightParen l ∷ []))))
       (OfToken (tok k.RightParen l) ∷ (OfTerm c ∷ (OfToken (tok k.Comma q) ∷ (OfTerm b ∷ (OfToken (tok k.Comma p) ∷ (OfTerm a ∷ (OfToken (tok k.LeftParen o) ∷ vs)))))))
   sem_no_fields : {vs : List Val} (c : Span) → Sem LFields vs (tok k.RightAngle c ∷ []) (OfToken (tok k.RightAngle c) ∷ (OfTerms [] ∷ vs))
   sem_fields : {vs : List Val} {w : List Token} {ts : (List RawTm)} (c : Span) → Es w ts → Sem LFields vs (w ++ tok k.RightAngle c ∷ []) (OfToken (tok k.RightAngle c) ∷ (OfTerms ts ∷ vs))
@@ -114,22 +118,22 @@ row_all o s vs r _ (m_tm (is_name n) (m_tm (is_dot d) (m_nt (sem_T t) (m_mark (m
 
 row_unit : (s : Stack) (vs r : List Val) (w : List Token) → Meets (Nt LU ∷ (Nt MoreArrow ∷ s)) vs w r → Meets (Nt LT ∷ s) vs w r
 row_unit s vs r _ (m_nt (sem_U d) (m_nt (sem_arrow f) m)) =
-  let h = f _ _ vs refl d in along (m_nt (sem_T h.whole) (with_values h.is m)) (simp append_assoc)
+    let h = f _ _ vs refl d in along (m_nt (sem_T h.whole) (with_values h.is m)) (simp append_assoc)
 
 row_arrow : (o : Span) → Begun MoreArrow k.Arrow (Nt LT ∷ (Mark ∷ (Do TypeArrow ∷ []))) o
 row_arrow o s vs r _ (m_nt {u} (sem_T {t} d) (m_mark (m_do m))) =
-  m_nt {u = tok k.Arrow o ∷ u} (sem_arrow (λ x a below q h. record { value = RArrow a t; whole = t_arrow o h d; is = ap (λ (l : List Val). act TypeArrow (OfType t ∷ (OfToken (tok k.Arrow o) ∷ l))) q })) m
+    m_nt {u = tok k.Arrow o ∷ u} (sem_arrow (λ x a below q h. record { value = RArrow a t; whole = t_arrow o h d; is = ap (λ (l : List Val). act TypeArrow (OfType t ∷ (OfToken (tok k.Arrow o) ∷ l))) q })) m
 
 row_no_types : (o : Span) → Begun LTypes k.RightAngle (Do TypeUnit ∷ []) o
 row_no_types o s vs r w (m_do m) = m_nt (sem_no_types o) m
 
 row_types : (s : Stack) (vs r : List Val) (w : List Token) → Meets (Nt LT ∷ (types_tail ++ s)) vs w r → Meets (Nt LTypes ∷ s) vs w r
 row_types s vs r _ (m_nt (sem_T d) (m_do (m_nt (sem_type_commas f) (m_tm (is_right_angle c) m)))) =
-  let h = f _ _ vs refl (ts_one d) in along (m_nt (sem_types c h.whole) (with_values (ap (λ (l : List Val). OfToken (tok k.RightAngle c) ∷ l) h.is) m)) (simp append_assoc)
+    let h = f _ _ vs refl (ts_one d) in along (m_nt (sem_types c h.whole) (with_values (ap (λ (l : List Val). OfToken (tok k.RightAngle c) ∷ l) h.is) m)) (simp append_assoc)
 
 row_type_comma : (o : Span) → Begun MoreTypes k.Comma (Nt LT ∷ (Do TypeNext ∷ (Nt MoreTypes ∷ []))) o
 row_type_comma o s vs r _ (m_nt {u} (sem_T {t} d) (m_do (m_nt {u = v} (sem_type_commas f) m))) =
-  along (m_nt {u = tok k.Comma o ∷ (u ++ v)} (sem_type_commas (λ x a below q h.
+    along (m_nt {u = tok k.Comma o ∷ (u ++ v)} (sem_type_commas (λ x a below q h.
     rules.moved table types Ts (f _ _ below (ap (λ (l : List Val). act TypeNext (OfType t ∷ (OfToken (tok k.Comma o) ∷ l))) q) (ts_more o h d)) (simp append_assoc))) m) (simp append_assoc)
 
 -- terms
@@ -157,14 +161,14 @@ row_if0 i s vs r _ (m_nt (sem_branches o p q l a b c) (m_do m)) = m_nt (sem_P (p
 
 row_branches : (o : Span) → Begun LBranches k.LeftParen (Nt LE ∷ (Tm want.Comma ∷ (Nt LE ∷ (Tm want.Comma ∷ (Nt LE ∷ (Tm want.RightParen ∷ (Mark ∷ []))))))) o
 row_branches o s vs r _ (m_nt (sem_E a) (m_tm (is_comma p) (m_nt (sem_E b) (m_tm (is_comma q) (m_nt (sem_E c) (m_tm (is_right_paren l) (m_mark m))))))) =
-  along (m_nt (sem_branches o p q l a b c) m) (simp append_assoc)
+    along (m_nt (sem_branches o p q l a b c) m) (simp append_assoc)
 
 row_param : (o : Span) → Begun LParam k.LeftParen (Tm want.Name ∷ (Tm want.Colon ∷ (Nt LT ∷ (Tm want.RightParen ∷ (Mark ∷ []))))) o
 row_param o s vs r _ (m_tm (is_name x) (m_tm (is_colon c) (m_nt (sem_T t) (m_tm (is_right_paren p) (m_mark m))))) = along (m_nt (sem_param o x c p t) m) (simp append_assoc)
 
 row_fix : (o : Span) → Begun LE k.Fix (Tm want.Name ∷ (Nt LParam ∷ (Tm want.Colon ∷ (Nt LT ∷ (Tm want.Dot ∷ (Nt LE ∷ (Mark ∷ (Do MakeFix ∷ [])))))))) o
 row_fix f s vs r _ (m_tm (is_name n) (m_nt (sem_param o x c p t) (m_tm (is_colon d) (m_nt (sem_T y) (m_tm (is_dot b) (m_nt (sem_E e) (m_mark (m_do m)))))))) =
-  along (m_nt (sem_E (e_fix f n o x c p d b t y e)) m) (simp append_assoc)
+    along (m_nt (sem_E (e_fix f n o x c p d b t y e)) m) (simp append_assoc)
 
 row_gen : (o : Span) → Begun LE k.Gen (Tm want.Name ∷ (Tm want.Dot ∷ (Nt LE ∷ (Mark ∷ (Do MakeGen ∷ []))))) o
 row_gen o s vs r _ (m_tm (is_name n) (m_tm (is_dot d) (m_nt (sem_E e) (m_mark (m_do m))))) = m_nt (sem_E (e_gen o n d e)) m
@@ -176,7 +180,7 @@ chain_M : {b : Piece} {u v x : List Token} {vs us ws : List Val} → P u b → S
 chain_M {u} {v} {vs} d p (sem_factors f) = let h = chain_A d p in f (u ++ v) h.value vs h.is (m_call h.whole)
 
 chain_S : {b : Piece} {u v x y : List Token} {vs us ws zs : List Val} → P u b → Sem MoreParts (OfTerm b ∷ vs) v us → Sem MoreFactors us x ws → Sem MoreSums ws y zs →
-  Made table piece S (((u ++ v) ++ x) ++ y) vs zs
+    Made table piece S (((u ++ v) ++ x) ++ y) vs zs
 chain_S {u} {v} {x} {vs} d p q (sem_sums f) = let h = chain_M d p q in f ((u ++ v) ++ x) h.value vs h.is (s_product h.whole)
 
 row_sum : (s : Stack) (vs r : List Val) (w : List Token) → Meets (Nt LP ∷ (sum_tail ++ s)) vs w r → Meets (Nt LE ∷ s) vs w r
@@ -184,24 +188,24 @@ row_sum s vs r _ (m_nt (sem_P d) (m_nt p (m_nt q (m_nt z m)))) = let h = chain_S
 
 row_call : (s : Stack) (vs r : List Val) (w : List Token) → Meets (Nt LP ∷ (parts_tail ++ s)) vs w r → Meets (Nt MoreParts ∷ s) vs w r
 row_call s vs r _ (m_nt {u} (sem_P {e} d) (m_do (m_nt {u = v} (sem_parts f) m))) =
-  along (m_nt {u = u ++ v} (sem_parts (λ x a below q h.
+    along (m_nt {u = u ++ v} (sem_parts (λ x a below q h.
     rules.moved table piece A (f _ _ below (ap (λ (l : List Val). act MakeCall (OfTerm e ∷ l)) q) (a_call h d)) (simp append_assoc))) m) (simp append_assoc)
 
 row_inst : (o : Span) → Begun MoreParts k.LeftBracket (Nt LT ∷ (Tm want.RightBracket ∷ (Mark ∷ (Do MakeInst ∷ (Nt MoreParts ∷ []))))) o
 row_inst o s vs r _ (m_nt {u} (sem_T {t} d) (m_tm (is_right_bracket c) (m_mark (m_do (m_nt {u = v} (sem_parts f) m))))) =
-  along (m_nt {u = tok k.LeftBracket o ∷ (u ++ tok k.RightBracket c ∷ v)} (sem_parts (λ x a below q h.
+    along (m_nt {u = tok k.LeftBracket o ∷ (u ++ tok k.RightBracket c ∷ v)} (sem_parts (λ x a below q h.
     rules.moved table piece A (f _ _ below (ap (λ (l : List Val). act MakeInst (OfToken (tok k.RightBracket c) ∷ (OfType t ∷ (OfToken (tok k.LeftBracket o) ∷ l)))) q) (a_inst o c h d)) (simp append_assoc))) m) (simp append_assoc)
 
 row_times : (o : Span) → Begun MoreFactors k.Star (Nt LP ∷ (Nt MoreParts ∷ (Do (MakeArith Mul) ∷ (Nt MoreFactors ∷ [])))) o
 row_times o s vs r _ (m_nt {u} (sem_P d) (m_nt {us} {u = v} p (m_do (m_nt {u = x} (sem_factors f) m)))) =
-  let b = chain_A d p in
-  along (m_nt {u = tok k.Star o ∷ (u ++ (v ++ x))} (sem_factors (λ y a below q h.
+    let b = chain_A d p in
+    along (m_nt {u = tok k.Star o ∷ (u ++ (v ++ x))} (sem_factors (λ y a below q h.
     rules.moved table piece M (f _ _ below (ap (λ (l : List Val). act (MakeArith Mul) l) b.is ∙ ap (λ (l : List Val). act (MakeArith Mul) (OfTerm b.value ∷ (OfToken (tok k.Star o) ∷ l))) q) (m_star o h b.whole)) (simp append_assoc))) m) (simp append_assoc)
 
 row_term : (op : Op) (c : Kind) → ((u v : List Token) (a b : Piece) (s : Span) → S u a → M v b → S (u ++ tok c s ∷ v) (arith op a b)) → (o : Span) → Begun MoreSums c (term_owed op) o
 row_term op c z o s vs r _ (m_nt {u} (sem_P d) (m_nt {u = v} p (m_nt {u = y} g (m_do (m_nt {u = x} (sem_sums f) m))))) =
-  let b = chain_M d p g in
-  along (m_nt {u = tok c o ∷ (u ++ (v ++ (y ++ x)))} (sem_sums (λ i a below q h.
+    let b = chain_M d p g in
+    along (m_nt {u = tok c o ∷ (u ++ (v ++ (y ++ x)))} (sem_sums (λ i a below q h.
     rules.moved table piece S (f _ _ below (ap (λ (l : List Val). act (MakeArith op) l) b.is ∙ ap (λ (l : List Val). act (MakeArith op) (OfTerm b.value ∷ (OfToken (tok c o) ∷ l))) q) (z _ _ _ _ o h b.whole)) (simp append_assoc))) m) (simp append_assoc)
 
 row_no_fields : (o : Span) → Begun LFields k.RightAngle (Do MakeUnit ∷ []) o
@@ -209,11 +213,11 @@ row_no_fields o s vs r w (m_do m) = m_nt (sem_no_fields o) m
 
 row_fields : (s : Stack) (vs r : List Val) (w : List Token) → Meets (Nt LE ∷ (fields_tail ++ s)) vs w r → Meets (Nt LFields ∷ s) vs w r
 row_fields s vs r _ (m_nt (sem_E d) (m_do (m_nt (sem_commas f) (m_tm (is_right_angle c) m)))) =
-  let h = f _ _ vs refl (es_one d) in along (m_nt (sem_fields c h.whole) (with_values (ap (λ (l : List Val). OfToken (tok k.RightAngle c) ∷ l) h.is) m)) (simp append_assoc)
+    let h = f _ _ vs refl (es_one d) in along (m_nt (sem_fields c h.whole) (with_values (ap (λ (l : List Val). OfToken (tok k.RightAngle c) ∷ l) h.is) m)) (simp append_assoc)
 
 row_comma : (o : Span) → Begun MoreFields k.Comma (Nt LE ∷ (Do MakeNext ∷ (Nt MoreFields ∷ []))) o
 row_comma o s vs r _ (m_nt {u} (sem_E {e} d) (m_do (m_nt {u = v} (sem_commas f) m))) =
-  along (m_nt {u = tok k.Comma o ∷ (u ++ v)} (sem_commas (λ x a below q h.
+    along (m_nt {u = tok k.Comma o ∷ (u ++ v)} (sem_commas (λ x a below q h.
     rules.moved table pieces Es (f _ _ below (ap (λ (l : List Val). act MakeNext (OfTerm e ∷ (OfToken (tok k.Comma o) ∷ l))) q) (es_more o h d)) (simp append_assoc))) m) (simp append_assoc)
 
 -- the rows of each line

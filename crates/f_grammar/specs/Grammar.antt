@@ -41,7 +41,7 @@ mutual
   pub data E : List Token → Piece → Type 0 where
     -- E ::= fix name ( name : T ) : T . E
     e_fix : {u v w : List Token} {t r : RawTy} {e : Piece} (f n o x c p d s : Span) → T u t → T v r → E w e →
-      E (tok k.Fix f ∷ (tok k.Name n ∷ (tok k.LeftParen o ∷ (tok k.Name x ∷ (tok k.Colon c ∷ (u ++ tok k.RightParen p ∷ (tok k.Colon d ∷ (v ++ tok k.Dot s ∷ w))))))))
+        E (tok k.Fix f ∷ (tok k.Name n ∷ (tok k.LeftParen o ∷ (tok k.Name x ∷ (tok k.Colon c ∷ (u ++ tok k.RightParen p ∷ (tok k.Colon d ∷ (v ++ tok k.Dot s ∷ w))))))))
         (func f n x t r e)
     -- E ::= gen name . E
     e_gen : {w : List Token} {e : Piece} (g a d : Span) → E w e → E (tok k.Gen g ∷ (tok k.Name a ∷ (tok k.Dot d ∷ w))) (gen g a e)
@@ -86,7 +86,7 @@ mutual
     p_proj : {w : List Token} {e : Piece} (h : Span) (z : ℤ) (s : Span) → P w e → P (tok k.Hash h ∷ (tok (k.Plain z) s ∷ w)) (proj h (nat_abs z) e)
     -- P ::= if0 ( E , E , E )
     p_if0 : {u v w : List Token} {a b c : Piece} (i o p q l : Span) → E u a → E v b → E w c →
-      P (tok k.If0 i ∷ (tok k.LeftParen o ∷ (u ++ tok k.Comma p ∷ (v ++ tok k.Comma q ∷ (w ++ tok k.RightParen l ∷ []))))) (if0 i a b c l)
+        P (tok k.If0 i ∷ (tok k.LeftParen o ∷ (u ++ tok k.Comma p ∷ (v ++ tok k.Comma q ∷ (w ++ tok k.RightParen l ∷ []))))) (if0 i a b c l)
 
   -- E , .. , E
   pub data Es : List Token → List RawTm → Type 0 where
@@ -115,7 +115,7 @@ abbrev mutual
 abbrev mutual
   pub open_E : {w : List Token} {e : Piece} → E w e → ℕ → List ℕ
   open_E (e_fix f n o x c p k s t r e) d =
-    suc d ∷ (suc d ∷ (suc (suc d) ∷ (suc (suc d) ∷ (suc (suc d) ∷ (open_T t (suc (suc d)) ++ suc (suc d) ∷ (suc d ∷ (open_T r (suc d) ++ suc d ∷ open_E e (suc d))))))))
+      suc d ∷ (suc d ∷ (suc (suc d) ∷ (suc (suc d) ∷ (suc (suc d) ∷ (open_T t (suc (suc d)) ++ suc (suc d) ∷ (suc d ∷ (open_T r (suc d) ++ suc d ∷ open_E e (suc d))))))))
   open_E (e_gen g a s e) d = suc d ∷ (suc d ∷ (suc d ∷ open_E e (suc d)))
   open_E (e_sum s) d = open_S s d
 
@@ -142,7 +142,7 @@ abbrev mutual
   open_P (p_tuple o c x) d = suc d ∷ (open_Es x (suc d) ++ suc d ∷ [])
   open_P (p_proj h z s p) d = suc d ∷ (suc d ∷ open_P p (suc d))
   open_P (p_if0 i o p q l a b c) d =
-    d ∷ (suc d ∷ (open_E a (suc d) ++ suc d ∷ (open_E b (suc d) ++ suc d ∷ (open_E c (suc d) ++ suc d ∷ []))))
+      d ∷ (suc d ∷ (open_E a (suc d) ++ suc d ∷ (open_E b (suc d) ++ suc d ∷ (open_E c (suc d) ++ suc d ∷ []))))
 
   pub open_Es : {w : List Token} {ts : List RawTm} → Es w ts → ℕ → List ℕ
   open_Es (es_one e) d = open_E e d

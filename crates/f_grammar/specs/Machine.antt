@@ -1,5 +1,5 @@
 -- The table of the grammar: how it is read one token ahead.
-use Rattle.std.specs.Prelude.{ℕ, ℤ, pos, suc, nat_abs, List, [], ◌∷◌, ◌++◌, Option, Some, None, Bool, true, false}
+use Rattle.std.specs.Prelude.{ℕ, ℤ, pos, nat_abs, List, [], ◌∷◌, ◌++◌, Option, Some, None, Bool, true, false}
 use Rattle.idx_core.specs.declared.arith.Op.{Op}
 use Rattle.idx_core.specs.declared.arith.Op.TheVariants.{Add, Sub, Mul}
 use Rattle.f_lexer.specs.declared.token.Token.{Token}
@@ -83,6 +83,8 @@ fits want.Colon k.Colon = true
 fits want.All k.All = true
 fits want.Arrow k.Arrow = true
 fits want.Star k.Star = true
+fits want.Fix k.Fix = true
+fits want.Gen k.Gen = true
 fits _ _ = false
 
 -- the value of a number
@@ -95,7 +97,7 @@ abbrev pub act : Act → List Val → List Val
 act MakeVar (OfToken n ∷ vs) = OfTerm (var n.span) ∷ vs
 act MakeNumber (OfToken n ∷ vs) = OfTerm (number (value_of n.kind) n.span) ∷ vs
 act MakeFix (OfTerm e ∷ OfToken s ∷ OfType r ∷ OfToken d ∷ OfToken p ∷ OfType t ∷ OfToken c ∷ OfToken x ∷ OfToken o ∷ OfToken n ∷ OfToken f ∷ vs) =
-  OfTerm (func f.span n.span x.span t r e) ∷ vs
+    OfTerm (func f.span n.span x.span t r e) ∷ vs
 act MakeGen (OfTerm e ∷ OfToken d ∷ OfToken a ∷ OfToken g ∷ vs) = OfTerm (gen g.span a.span e) ∷ vs
 act MakeParen (OfToken c ∷ OfTerm e ∷ OfToken o ∷ vs) = OfTerm (within o.span.start c.span.end e) ∷ vs
 act MakeUnit (OfToken c ∷ vs) = OfToken c ∷ (OfTerms [] ∷ vs)
@@ -234,8 +236,23 @@ may_end MoreTypes = true
 may_end _ = false
 
 abbrev pub table : Table
-table = record { Tok = Token; Tree = Piece; Shape = λ w t. E w t; opens = λ w t e. open_E e 0; Class = Class; Line = Line; Act = Act; Val = Val;
-  fits = λ c t. fits c t.kind; value = λ t. OfToken t; after = λ n t. after n t.kind; may_end = may_end; act = act; tree = λ t. OfTerm t; first = LE }
+table = record {
+  Tok = Token;
+  Tree = Piece;
+  Shape = λ w t. E w t;
+  opens = λ w t e. open_E e 0;
+  Class = Class;
+  Line = Line;
+  Act = Act;
+  Val = Val;
+  fits = λ c t. fits c t.kind;
+  value = λ t. OfToken t;
+  after = λ n t. after n t.kind;
+  may_end = may_end;
+  act = act;
+  tree = λ t. OfTerm t;
+  first = LE;
+}
 
 abbrev pub Outcome : Type 0
 Outcome = table_of.Outcome table

@@ -1,5 +1,5 @@
 -- What the reading functions promise, by the table.
-use Rattle.std.specs.Prelude.{◌≡◌, ℕ, List, [], ◌∷◌, map, drop}
+use Rattle.std.specs.Prelude.{ℕ, List, [], ◌∷◌, map, drop}
 use Rattle.f_lexer.specs.declared.token.Token.{Token}
 use Rattle.text_core.specs.Table.{Nt, Tm}
 use Rattle.text_core.specs.Table as table_of

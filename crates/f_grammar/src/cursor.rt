@@ -25,6 +25,8 @@ pub enum Wanted {
     All,
     Arrow,
     Star,
+    Fix,
+    Gen,
 }
 
 /// Why a reading stopped: at the number of a token, or of the end.
@@ -74,6 +76,8 @@ fn fits_kind(wanted: Wanted, kind: Kind) -> bool
         Wanted::All => matches!(kind, Kind::All),
         Wanted::Arrow => matches!(kind, Kind::Arrow),
         Wanted::Star => matches!(kind, Kind::Star),
+        Wanted::Fix => matches!(kind, Kind::Fix),
+        Wanted::Gen => matches!(kind, Kind::Gen),
     }
 }
 
@@ -91,10 +95,8 @@ pub fn take(tokens: &[Token], at: usize, wanted: Wanted) -> Option<Token>
 
 /// The token at a place, which must be one that is wanted.
 pub fn expect(tokens: &[Token], at: usize, wanted: Wanted) -> Result<Token, Stopped>
-    ensures {
-        MatchResult result (λ t. next_of table wanted (slice_get tokens.now at) ≡ Some t)
-            (λ e. (e ≡ stopped.Unexpected at) × (next_of table wanted (slice_get tokens.now at) ≡ None))
-    }
+    ensures { MatchResult result (λ t. next_of table wanted (slice_get tokens.now at) ≡ Some t)
+        (λ e. (e ≡ stopped.Unexpected at) × (next_of table wanted (slice_get tokens.now at) ≡ None)) }
 {
     match take(tokens, at, wanted) {
         Some(token) => Ok(token),

@@ -19,7 +19,12 @@ pub struct FoundParameter {
 }
 
 /// ( name : T )
-pub fn parameter(alloc: Global, tokens: &[Token], at: usize, depth: u64) -> Result<FoundParameter, Stopped>
+pub fn parameter(
+    alloc: Global,
+    tokens: &[Token],
+    at: usize,
+    depth: u64,
+) -> Result<FoundParameter, Stopped>
     requires depth { depth ≤ 200 }
     requires at { at ≤ length tokens.now }
     ensures { MatchResult result (λ f. ReadsParameter tokens.now depth at f) (λ e. Fails tokens.now depth at (Nt LParam ∷ []) [] e) }

@@ -41,7 +41,12 @@ fn all(alloc: Global, name: Span, body: RawType) -> Result<RawType, Stopped>
 
 /// T ::= all name . T | U -> T | U
 #[cycle(types)]
-pub fn whole_type(alloc: Global, tokens: &[Token], at: usize, depth: u64) -> Result<FoundType, Stopped>
+pub fn whole_type(
+    alloc: Global,
+    tokens: &[Token],
+    at: usize,
+    depth: u64,
+) -> Result<FoundType, Stopped>
     requires depth { depth ≤ 200 }
     requires at { at ≤ length tokens.now }
     ensures { MatchResult result (λ f. ReadsType LT tokens.now depth at f) (λ e. Fails tokens.now depth at (Nt LT ∷ []) [] e) }
@@ -53,7 +58,10 @@ pub fn whole_type(alloc: Global, tokens: &[Token], at: usize, depth: u64) -> Res
             expect(tokens, at + 2, Wanted::Dot)?;
             let body = whole_type(alloc, tokens, at + 3, inner)?;
             let ty = all(alloc, name.span, body.ty)?;
-            Ok(FoundType { ty, next: body.next })
+            Ok(FoundType {
+                ty,
+                next: body.next,
+            })
         }
         None => {
             let left = part_type(alloc, tokens, at, depth)?;
@@ -63,7 +71,10 @@ pub fn whole_type(alloc: Global, tokens: &[Token], at: usize, depth: u64) -> Res
                     let inner = opened(left.next, depth)?;
                     let right = whole_type(alloc, tokens, left.next + 1, inner)?;
                     let ty = arrow(alloc, left.ty, right.ty)?;
-                    Ok(FoundType { ty, next: right.next })
+                    Ok(FoundType {
+                        ty,
+                        next: right.next,
+                    })
                 }
             }
         }
@@ -72,7 +83,12 @@ pub fn whole_type(alloc: Global, tokens: &[Token], at: usize, depth: u64) -> Res
 
 /// U ::= int | name | < > | < T , .. , T > | ( T )
 #[cycle(types)]
-pub fn part_type(alloc: Global, tokens: &[Token], at: usize, depth: u64) -> Result<FoundType, Stopped>
+pub fn part_type(
+    alloc: Global,
+    tokens: &[Token],
+    at: usize,
+    depth: u64,
+) -> Result<FoundType, Stopped>
     requires depth { depth ≤ 200 }
     requires at { at ≤ length tokens.now }
     ensures { MatchResult result (λ f. ReadsType LU tokens.now depth at f) (λ e. Fails tokens.now depth at (Nt LU ∷ []) [] e) }

@@ -199,7 +199,13 @@ pub fn applied(alloc: Global, a: FoundTerm, b: FoundTerm) -> Result<FoundTerm, S
 }
 
 /// An application to a type.
-pub fn instantiated(alloc: Global, a: FoundTerm, ty: RawType, close: Span, next: usize) -> Result<FoundTerm, Stopped>
+pub fn instantiated(
+    alloc: Global,
+    a: FoundTerm,
+    ty: RawType,
+    close: Span,
+    next: usize,
+) -> Result<FoundTerm, Stopped>
     ensures { MatchResult result (λ f. (f.next ≡ next) × ((p : Piece) → Stands a p → Stands f (inst p (type_of ty) close))) (λ e. e ≡ stopped.Memory) }
 {
     let span = Span {
@@ -209,12 +215,7 @@ pub fn instantiated(alloc: Global, a: FoundTerm, ty: RawType, close: Span, next:
     match form_of_one(a.kept) {
         Some(one) => {
             let function = Box::new(alloc, one.part)?;
-            Ok(whole(
-                RawTerm::Inst(span, function, ty),
-                one.nodes,
-                span,
-                next,
-            ))
+            Ok(whole(RawTerm::Inst(span, function, ty), one.nodes, span, next))
         }
         None => Ok(too_many(span, next)),
     }
@@ -233,12 +234,7 @@ pub fn joined(alloc: Global, op: Op, a: FoundTerm, b: FoundTerm) -> Result<Found
         Some(two) => {
             let left = Box::new(alloc, two.left)?;
             let right = Box::new(alloc, two.right)?;
-            Ok(whole(
-                RawTerm::Arith(span, op, left, right),
-                two.nodes,
-                span,
-                next,
-            ))
+            Ok(whole(RawTerm::Arith(span, op, left, right), two.nodes, span, next))
         }
         None => Ok(too_many(span, next)),
     }
@@ -256,12 +252,7 @@ pub fn projected(alloc: Global, hash: Span, field: u64, a: FoundTerm) -> Result<
     match form_of_one(a.kept) {
         Some(one) => {
             let tuple = Box::new(alloc, one.part)?;
-            Ok(whole(
-                RawTerm::Proj(span, field, tuple),
-                one.nodes,
-                span,
-                next,
-            ))
+            Ok(whole(RawTerm::Proj(span, field, tuple), one.nodes, span, next))
         }
         None => Ok(too_many(span, next)),
     }
@@ -279,12 +270,7 @@ pub fn abstracted(alloc: Global, word: Span, name: Span, a: FoundTerm) -> Result
     match form_of_one(a.kept) {
         Some(one) => {
             let body = Box::new(alloc, one.part)?;
-            Ok(whole(
-                RawTerm::Gen(span, name, body),
-                one.nodes,
-                span,
-                next,
-            ))
+            Ok(whole(RawTerm::Gen(span, name, body), one.nodes, span, next))
         }
         None => Ok(too_many(span, next)),
     }
@@ -302,12 +288,10 @@ pub struct Head {
 
 /// A recursive function.
 pub fn recursive(alloc: Global, head: Head, a: FoundTerm) -> Result<FoundTerm, Stopped>
-    ensures {
-        MatchResult result
-            (λ f. (f.next ≡ a.next)
-                × ((p : Piece) → Stands a p → Stands f (func head.word head.name head.parameter (type_of head.takes) (type_of head.gives) p)))
-            (λ e. e ≡ stopped.Memory)
-    }
+    ensures { MatchResult result
+        (λ f. (f.next ≡ a.next)
+        × ((p : Piece) → Stands a p → Stands f (func head.word head.name head.parameter (type_of head.takes) (type_of head.gives) p)))
+        (λ e. e ≡ stopped.Memory) }
 {
     let span = Span {
         start: head.word.start,
@@ -332,12 +316,18 @@ pub fn recursive(alloc: Global, head: Head, a: FoundTerm) -> Result<FoundTerm, S
 }
 
 /// A choice of two terms by a third.
-pub fn chosen(alloc: Global, word: Span, a: FoundTerm, b: FoundTerm, c: FoundTerm, close: Span, next: usize) -> Result<FoundTerm, Stopped>
-    ensures {
-        MatchResult result
-            (λ f. (f.next ≡ next) × ((p q r : Piece) → Stands a p → Stands b q → Stands c r → Stands f (if0 word p q r close)))
-            (λ e. e ≡ stopped.Memory)
-    }
+pub fn chosen(
+    alloc: Global,
+    word: Span,
+    a: FoundTerm,
+    b: FoundTerm,
+    c: FoundTerm,
+    close: Span,
+    next: usize,
+) -> Result<FoundTerm, Stopped>
+    ensures { MatchResult result
+        (λ f. (f.next ≡ next) × ((p q r : Piece) → Stands a p → Stands b q → Stands c r → Stands f (if0 word p q r close)))
+        (λ e. e ≡ stopped.Memory) }
 {
     let span = Span {
         start: word.start,

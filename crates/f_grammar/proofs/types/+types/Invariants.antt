@@ -1,4 +1,4 @@
-use Rattle.std.proofs.Common.{◌≡◌, List, [], ◌∷◌, ◌+◌, ◌<◌, ◌≤◌, ℕ, length, ◌-◌, ◌*◌, map}
+use Rattle.std.proofs.Common.{◌+◌, length, ◌-◌, ◌*◌, map}
 use Rattle.f_grammar.specs.Reads.{type_of, ReadsSome}
 use Rattle.f_grammar.proofs.types.+types.Given as goal
 

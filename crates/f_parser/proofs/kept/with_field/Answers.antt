@@ -3,7 +3,7 @@ use Rattle.f_parser.proofs.kept.with_field.Goals as goal
 
 pub returns-in_ok-push-in-Some : goal.returns-in_ok-push-in-Some
 returns-in_ok-push-in-Some c = λ us t h g.
-  fields_push us t c.args.fields c.args.field c.in-Terms.terms c.in-Terms.count c.in-Term.by c.in-Some.nodes c.in-Term.term c.push.new.self.items c.in-Terms.is c.in-Term.is
+    fields_push us t c.args.fields c.args.field c.in-Terms.terms c.in-Terms.count c.in-Term.by c.in-Some.nodes c.in-Term.term c.push.new.self.items c.in-Terms.is c.in-Term.is
     c.in_ok-push-in-Some.ensures.items c.in-Some.ensures.0 c.in-Some.ensures.1 h g
 
 pub returns-in-None : goal.returns-in-None

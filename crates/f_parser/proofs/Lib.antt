@@ -1,3 +1,4 @@
 pub mod Exact
 pub mod Fields
 pub mod Heading
+pub mod Terming

@@ -43,8 +43,8 @@ invariant-sums-loop-op l = ReadsTo sums_owed (Nt MoreSums ∷ []) l.tokens l.dep
 abbrev pub decreases-sums-loop-op : goal.decreases-sums-loop-op
 decreases-sums-loop-op l = length l.tokens - l.left.next
 
-abbrev pub invariant-fields-loop-next : goal.invariant-fields-loop-next
-invariant-fields-loop-next l = ReadsSome l.tokens l.depth l.at l.next l.fields
+abbrev pub invariant-fields-loop-fields : goal.invariant-fields-loop-fields
+invariant-fields-loop-fields l = ReadsSome l.tokens l.depth l.at l.next l.fields
 
-abbrev pub decreases-fields-loop-next : goal.decreases-fields-loop-next
-decreases-fields-loop-next l = length l.tokens - l.next
+abbrev pub decreases-fields-loop-fields : goal.decreases-fields-loop-fields
+decreases-fields-loop-fields l = length l.tokens - l.next

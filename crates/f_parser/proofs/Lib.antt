@@ -1,4 +1,2 @@
+pub mod Bound
 pub mod Exact
-pub mod Fields
-pub mod Heading
-pub mod Terming

@@ -1,3 +1,3 @@
-pub mod Kept
-pub mod Reads
+pub mod Resolve
+pub mod Scope
 pub mod Text

@@ -6,7 +6,7 @@ ghost use Rattle.f_grammar.specs.Machine.{LE, table};
 ghost use Rattle.f_grammar.specs.Reads.{Fails};
 ghost use Rattle.f_grammar.specs.declared.cursor.Stopped.TheVariants as stopped;
 ghost use Rattle.f_grammar.specs.declared.cursor.Wanted.TheVariants as want;
-ghost use Rattle.f_parser.specs.Reads.{argument_next, sign_next, IsNumber, ReadsHead, ReadsGenHead};
+ghost use Rattle.f_reader.specs.Reads.{argument_next, sign_next, IsNumber, ReadsHead, ReadsGenHead};
 
 use crate::kept::Head;
 use f_grammar::{Stopped, Wanted, expect, opened, parameter, peek, take, whole_type};

@@ -3,7 +3,7 @@ ghost use Rattle.std.specs.Prelude.{◌≡◌, ◌+◌, ◌≤◌, ◌<◌, List
 ghost use Rattle.f_grammar.specs.Raw.{RawTm, Piece, nodes, nodes_all, raw_tms, within, var, number, func, gen, call, inst, tuple, proj, arith, if0};
 ghost use Rattle.f_grammar.specs.Reads.{type_of};
 ghost use Rattle.f_grammar.specs.declared.cursor.Stopped.TheVariants as stopped;
-ghost use Rattle.f_parser.specs.Kept.{tree_of, Keeps, KeepsFields, Stands, IsOne, IsTwo, IsThree};
+ghost use Rattle.f_reader.specs.Kept.{tree_of, Keeps, KeepsFields, Stands, IsOne, IsTwo, IsThree};
 
 use f_grammar::{RawTerm, RawType, Stopped};
 use f_lexer::Token;

@@ -13,14 +13,14 @@ use Rattle.f_grammar.specs.Raw.{RawTm, Piece}
 use Rattle.f_grammar.specs.Machine.{table, Line, Stack, Val, OfToken, OfTerm, OfTerms, OfType, value_of, LE, LP, LFields, LBranches, MoreParts, MoreFactors, MoreSums, MoreFields, MakeFix, MakeGen}
 use Rattle.f_grammar.specs.Reads.{type_of}
 use Rattle.f_grammar.specs.declared.cursor.Wanted.TheVariants as want
-use Rattle.f_parser.specs.declared.kept.FoundTerm.{FoundTerm}
-use Rattle.f_parser.specs.declared.kept.KeptFields.{KeptFields}
-use Rattle.f_parser.specs.declared.heads.FoundHead.{FoundHead}
-use Rattle.f_parser.specs.declared.heads.Argument.{Argument}
-use Rattle.f_parser.specs.declared.heads.Argument.TheVariants.{Part, Bracket}
-use Rattle.f_parser.specs.declared.terms.FoundFields.{FoundFields}
-use Rattle.f_parser.specs.declared.terms.FoundBranches.{FoundBranches}
-use Rattle.f_parser.specs.Kept.{Stands, KeepsFields}
+use Rattle.f_reader.specs.declared.kept.FoundTerm.{FoundTerm}
+use Rattle.f_reader.specs.declared.kept.KeptFields.{KeptFields}
+use Rattle.f_reader.specs.declared.heads.FoundHead.{FoundHead}
+use Rattle.f_reader.specs.declared.heads.Argument.{Argument}
+use Rattle.f_reader.specs.declared.heads.Argument.TheVariants.{Part, Bracket}
+use Rattle.f_reader.specs.declared.terms.FoundFields.{FoundFields}
+use Rattle.f_reader.specs.declared.terms.FoundBranches.{FoundBranches}
+use Rattle.f_reader.specs.Kept.{Stands, KeepsFields}
 
 -- what a token begins that may follow on a part: another part, or a type in brackets
 abbrev pub argument_of : Kind → Option Argument

@@ -1,8 +1,8 @@
 use Rattle.std.proofs.Common.{[], ◌∷◌, ◌+◌, ◌-◌, ◌*◌, length}
 use Rattle.text_core.specs.Table.{Nt}
 use Rattle.f_grammar.specs.Machine.{MoreParts, MoreFactors, MoreSums}
-use Rattle.f_parser.specs.Reads.{ReadsSome, ReadsTo, calls_owed, products_owed, sums_owed}
-use Rattle.f_parser.proofs.terms.+terms.Given as goal
+use Rattle.f_reader.specs.Reads.{ReadsSome, ReadsTo, calls_owed, products_owed, sums_owed}
+use Rattle.f_reader.proofs.terms.+terms.Given as goal
 
 abbrev pub decreases-part : goal.decreases-part
 decreases-part l = 6 * (length l.tokens.now - l.at)

@@ -3,7 +3,7 @@ ghost use Rattle.std.specs.Prelude.{[], ◌∷◌, ◌≤◌, length, MatchResul
 ghost use Rattle.text_core.specs.Table.{Nt};
 ghost use Rattle.f_grammar.specs.Machine.{LE, LP, LFields, LBranches};
 ghost use Rattle.f_grammar.specs.Reads.{Fails};
-ghost use Rattle.f_parser.specs.Reads.{calls_owed, products_owed, sums_owed, ReadsTerm, ReadsFields, ReadsBranches};
+ghost use Rattle.f_reader.specs.Reads.{calls_owed, products_owed, sums_owed, ReadsTerm, ReadsFields, ReadsBranches};
 
 use crate::heads::{Argument, field_number, function_head, gen_head, next_argument, next_sign};
 use crate::kept::{

@@ -11,10 +11,10 @@ use Rattle.f_grammar.specs.Machine.{table, Stack, LE, LP, LT, LFields, LBranches
 use Rattle.f_grammar.specs.Reads.{type_of}
 use Rattle.f_grammar.proofs.Typing.{fails_after, fails_call, fails_expect} 
 use Rattle.f_grammar.proofs.Typing as typing
-use Rattle.f_parser.specs.Reads.{calls_owed, products_owed, sums_owed, argument_next, sign_next}
-use Rattle.f_parser.specs.declared.heads.Argument.TheVariants.{Part, Bracket}
-use Rattle.f_parser.proofs.Terming.{expr_1, expr_whole, fix_whole, gen_whole, argument_within, sign_within, no_part, no_part_end, none_of, call_1, call_whole, bracket_deep, bracket_1, bracket_2, bracket_whole, calls_end, star_1, star_whole, products_end, sign_1, sign_whole, sums_end, name_whole, plain_whole, negative_whole, open_1, open_deep, paren_2, paren_whole, tuple_whole, proj_2, proj_whole, if0_1, if0_whole, no_branches, branches_deep, branches_1, branches_2, branches_3, branches_4, branches_5, branches_6, branches_whole, none_whole, first_1, first_whole, comma_1, comma_whole, list_1, list_whole}
-use Rattle.f_parser.proofs.terms.+terms.Goals as goal
+use Rattle.f_reader.specs.Reads.{calls_owed, products_owed, sums_owed, argument_next, sign_next}
+use Rattle.f_reader.specs.declared.heads.Argument.TheVariants.{Part, Bracket}
+use Rattle.f_reader.proofs.Terming.{expr_1, expr_whole, fix_whole, gen_whole, argument_within, sign_within, no_part, no_part_end, none_of, call_1, call_whole, bracket_deep, bracket_1, bracket_2, bracket_whole, calls_end, star_1, star_whole, products_end, sign_1, sign_whole, sums_end, name_whole, plain_whole, negative_whole, open_1, open_deep, paren_2, paren_whole, tuple_whole, proj_2, proj_whole, if0_1, if0_whole, no_branches, branches_deep, branches_1, branches_2, branches_3, branches_4, branches_5, branches_6, branches_whole, none_whole, first_1, first_whole, comma_1, comma_whole, list_1, list_whole}
+use Rattle.f_reader.proofs.terms.+terms.Goals as goal
 
 pub calls-returns-in_err-right-in-Part : goal.calls-returns-in_err-right-in-Part
 calls-returns-in_err-right-in-Part t c =

@@ -1,5 +1,5 @@
-use Rattle.f_parser.proofs.Fields.{fields_push, fields_full, field_large, fields_large}
-use Rattle.f_parser.proofs.kept.with_field.Goals as goal
+use Rattle.f_reader.proofs.Fields.{fields_push, fields_full, field_large, fields_large}
+use Rattle.f_reader.proofs.kept.with_field.Goals as goal
 
 pub returns-in_ok-push-in-Some : goal.returns-in_ok-push-in-Some
 returns-in_ok-push-in-Some c = λ us t h g.

@@ -16,8 +16,8 @@ use Rattle.f_grammar.specs.declared.cursor.Stopped.TheVariants.{TooDeep}
 use Rattle.f_grammar.specs.declared.params.FoundParameter.{FoundParameter}
 use Rattle.f_grammar.specs.declared.types.FoundType.{FoundType}
 use Rattle.f_grammar.proofs.Typing.{Moves, by_token, by_line, fails_deep, within}
-use Rattle.f_parser.specs.declared.heads.FoundHead.{FoundHead}
-use Rattle.f_parser.specs.Reads.{fix_body, gen_body, ReadsHead, ReadsGenHead}
+use Rattle.f_reader.specs.declared.heads.FoundHead.{FoundHead}
+use Rattle.f_reader.specs.Reads.{fix_body, gen_body, ReadsHead, ReadsGenHead}
 
 abbrev pub gen_owed : Stack
 gen_owed = Tm want.Name ∷ (Tm want.Dot ∷ gen_body)

@@ -4,14 +4,14 @@ use Rattle.f_grammar.specs.Raw.{RawTm, RVar, RNum, RFix, RGen, RApp, RInst, RFie
 use Rattle.f_grammar.specs.Reads.{type_of}
 use Rattle.f_grammar.specs.declared.raw.RawTerm.{RawTerm, Row_of-RawTerm, end_of-RawTerm, more_of-RawTerm}
 use Rattle.f_grammar.specs.declared.raw.RawTerm.TheVariants.{Var, Num, Fix', Gen', App', Inst', Tuple', Proj', Arith', If0'}
-use Rattle.f_parser.specs.declared.kept.Kept.{Kept}
-use Rattle.f_parser.specs.declared.kept.Kept.TheVariants as kept
-use Rattle.f_parser.specs.declared.kept.KeptFields.{KeptFields}
-use Rattle.f_parser.specs.declared.kept.KeptFields.TheVariants as fields
-use Rattle.f_parser.specs.declared.kept.FoundTerm.{FoundTerm}
-use Rattle.f_parser.specs.declared.kept.One.{One}
-use Rattle.f_parser.specs.declared.kept.Two.{Two}
-use Rattle.f_parser.specs.declared.kept.Three.{Three}
+use Rattle.f_reader.specs.declared.kept.Kept.{Kept}
+use Rattle.f_reader.specs.declared.kept.Kept.TheVariants as kept
+use Rattle.f_reader.specs.declared.kept.KeptFields.{KeptFields}
+use Rattle.f_reader.specs.declared.kept.KeptFields.TheVariants as fields
+use Rattle.f_reader.specs.declared.kept.FoundTerm.{FoundTerm}
+use Rattle.f_reader.specs.declared.kept.One.{One}
+use Rattle.f_reader.specs.declared.kept.Two.{Two}
+use Rattle.f_reader.specs.declared.kept.Three.{Three}
 
 -- the tree of a term that was read
 abbrev mutual

@@ -5,9 +5,9 @@ use Rattle.f_grammar.specs.Machine.{LParam, LT}
 use Rattle.f_grammar.specs.Reads.{type_of}
 use Rattle.f_grammar.specs.declared.cursor.Wanted.TheVariants as want
 use Rattle.f_grammar.proofs.Typing.{fails_after, fails_call, fails_expect, within}
-use Rattle.f_parser.specs.Reads.{fix_body}
-use Rattle.f_parser.proofs.Heading.{fix_deep, fix_1, fix_2, fix_3, fix_4, fix_5, fix_6}
-use Rattle.f_parser.proofs.heads.function_head.Goals as goal
+use Rattle.f_reader.specs.Reads.{fix_body}
+use Rattle.f_reader.proofs.Heading.{fix_deep, fix_1, fix_2, fix_3, fix_4, fix_5, fix_6}
+use Rattle.f_reader.proofs.heads.function_head.Goals as goal
 
 pub returns-in_err-inner : goal.returns-in_err-inner
 returns-in_err-inner c =

@@ -2,8 +2,8 @@ use Rattle.std.proofs.Common.{[], ◌∷◌, ◌+◌}
 use Rattle.std.proofs.lemmas.Result.{err_from_is_err_and}
 use Rattle.f_grammar.specs.declared.cursor.Wanted.TheVariants as want
 use Rattle.f_grammar.proofs.Typing.{fails_after, fails_expect}
-use Rattle.f_parser.proofs.Heading.{gen_deep, gen_1, gen_2, gen_read}
-use Rattle.f_parser.proofs.heads.gen_head.Goals as goal
+use Rattle.f_reader.proofs.Heading.{gen_deep, gen_1, gen_2, gen_read}
+use Rattle.f_reader.proofs.heads.gen_head.Goals as goal
 
 pub returns-in_err-opened : goal.returns-in_err-opened
 returns-in_err-opened c =

@@ -6,12 +6,12 @@ use Rattle.idx_core.specs.declared.span.Span.{Span}
 use Rattle.f_grammar.specs.Raw.{RawTm, RFields, RawTms, MoreRawTms, raw_tms, nodes, nodes_all, tuple}
 use Rattle.f_grammar.specs.declared.raw.RawTerm.{RawTerm, Row_of-RawTerm, end_of-RawTerm, more_of-RawTerm, items-the_row-RawTerm, items_hidden-the_row-RawTerm-0}
 use Rattle.f_grammar.specs.declared.raw.RawTerm.TheVariants.{Tuple, Tuple'}
-use Rattle.f_parser.specs.declared.kept.Kept.{Kept}
-use Rattle.f_parser.specs.declared.kept.Kept.TheVariants as kept
-use Rattle.f_parser.specs.declared.kept.KeptFields.{KeptFields}
-use Rattle.f_parser.specs.declared.kept.KeptFields.TheVariants as fields
-use Rattle.f_parser.specs.declared.kept.FoundTerm.{FoundTerm}
-use Rattle.f_parser.specs.Kept.{tree_of, trees_of, Keeps, KeepsFields, Stands}
+use Rattle.f_reader.specs.declared.kept.Kept.{Kept}
+use Rattle.f_reader.specs.declared.kept.Kept.TheVariants as kept
+use Rattle.f_reader.specs.declared.kept.KeptFields.{KeptFields}
+use Rattle.f_reader.specs.declared.kept.KeptFields.TheVariants as fields
+use Rattle.f_reader.specs.declared.kept.FoundTerm.{FoundTerm}
+use Rattle.f_reader.specs.Kept.{tree_of, trees_of, Keeps, KeepsFields, Stands}
 
 -- the tree of a tuple
 abbrev row_of : RawTerm → (n : Count) × Row_of-RawTerm n

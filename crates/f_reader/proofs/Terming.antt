@@ -23,11 +23,11 @@ use Rattle.f_grammar.specs.Reads.{Fails, type_of}
 use Rattle.f_grammar.proofs.Complete.{parts_part}
 use Rattle.f_grammar.proofs.Typing.{Moves, by_token, by_line, not_fits, fails_after, fails_call, fails_expect, fails_deep}
 use Rattle.f_grammar.proofs.Typing as typing
-use Rattle.f_parser.specs.declared.heads.Argument.{Argument}
-use Rattle.f_parser.specs.declared.heads.Argument.TheVariants.{Part, Bracket}
-use Rattle.f_parser.specs.declared.heads.FoundHead.{FoundHead}
-use Rattle.f_parser.specs.Reads.{argument_of, argument_next, sign_of, sign_next, calls_owed, products_owed, sums_owed, IsNumber, ReadsHead, ReadsGenHead, fix_body, gen_body}
-use Rattle.f_parser.specs.Reads as reads
+use Rattle.f_reader.specs.declared.heads.Argument.{Argument}
+use Rattle.f_reader.specs.declared.heads.Argument.TheVariants.{Part, Bracket}
+use Rattle.f_reader.specs.declared.heads.FoundHead.{FoundHead}
+use Rattle.f_reader.specs.Reads.{argument_of, argument_next, sign_of, sign_next, calls_owed, products_owed, sums_owed, IsNumber, ReadsHead, ReadsGenHead, fix_body, gen_body}
+use Rattle.f_reader.specs.Reads as reads
 
 -- rows
 pub record Next (ts : List Token) (i : ℕ) (P : Kind → Type 0) : Type 0 where

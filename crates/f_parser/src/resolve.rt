@@ -1,0 +1,167 @@
+// The binding of names.
+ghost use Rattle.std.specs.Prelude.{◌≡◌, MatchResult, OnOk};
+ghost use Rattle.idx_core.specs.Names.{Name};
+ghost use Rattle.f_terms.specs.Ty.{TArrow, TAll};
+ghost use Rattle.f_terms.specs.Tm.{SFix, SApp, SGen, SInst, SProj, SArith, SIf0};
+ghost use Rattle.f_terms.specs.Read.{tree, spanned, place};
+ghost use Rattle.f_grammar.specs.Reads.{type_of};
+ghost use Rattle.f_reader.specs.Kept.{tree_of};
+ghost use Rattle.f_parser.specs.Scope.{spelled, TypeOf, TermOf, type_uses, uses};
+ghost use Rattle.f_parser.specs.Resolve.{StopsAt};
+ghost use Rattle.f_parser.specs.declared.resolve.Unresolved.TheVariants as stopped;
+
+use f_grammar::{RawTerm, RawType};
+use f_terms::{FForm, FTerm, FType};
+use idx_core::{Names, Op, OutOfMemory, Span};
+use std::alloc::{AllocError, AllocFailed, Global};
+
+/// Why the names of a tree are not resolved: the place of the first name that has no binder.
+#[derive(Debug, Drop)]
+pub enum Unresolved {
+    Memory,
+    Value(Span),
+    Type(Span),
+}
+
+impl From<OutOfMemory> for Unresolved {
+    ghost from_gives = { λ _ e. e ≡ stopped.Memory };
+
+    fn from(_: OutOfMemory) -> Unresolved {
+        Unresolved::Memory
+    }
+}
+
+impl From<AllocError> for Unresolved {
+    ghost from_gives = { λ _ e. e ≡ stopped.Memory };
+
+    fn from(_: AllocError) -> Unresolved {
+        Unresolved::Memory
+    }
+}
+
+impl<T: Drop> From<AllocFailed<T>> for Unresolved {
+    ghost from_gives = { λ _ e. e ≡ stopped.Memory };
+
+    fn from(_: AllocFailed<T>) -> Unresolved {
+        Unresolved::Memory
+    }
+}
+
+/// The bytes of a text at a place, as far as it has them.
+pub fn spelling<'a>(text: &'a [u8], span: Span) -> &'a [u8]
+    ensures { result.now ≡ spelled text.now span }
+{
+    let end = (span.end as usize).min(text.len());
+    let start = (span.start as usize).min(end);
+    &text[start..end]
+}
+
+fn arrow(alloc: Global, a: FType, b: FType) -> Result<FType, Unresolved>
+    ensures { MatchResult result (λ t. tree t ≡ TArrow (tree a) (tree b)) (λ e. e ≡ stopped.Memory) }
+{
+    Ok(FType::Arrow(Box::new(alloc, a)?, Box::new(alloc, b)?))
+}
+
+fn all(alloc: Global, body: FType) -> Result<FType, Unresolved>
+    ensures { MatchResult result (λ t. tree t ≡ TAll (tree body)) (λ e. e ≡ stopped.Memory) }
+{
+    Ok(FType::All(Box::new(alloc, body)?))
+}
+
+fn whole(span: Span, form: FForm) -> FTerm
+    ensures { result ≡ record { span = span; form = form } }
+{
+    FTerm { span, form }
+}
+
+fn fix(alloc: Global, span: Span, arg: FType, res: FType, body: FTerm) -> Result<FTerm, Unresolved>
+    ensures { MatchResult result (λ t. spanned t ≡ SFix (place span) (tree arg) (tree res) (spanned body)) (λ e. e ≡ stopped.Memory) }
+{
+    let body = Box::new(alloc, body)?;
+    Ok(whole(span, FForm::Fix { arg, res, body }))
+}
+
+fn app(alloc: Global, span: Span, a: FTerm, b: FTerm) -> Result<FTerm, Unresolved>
+    ensures { MatchResult result (λ t. spanned t ≡ SApp (place span) (spanned a) (spanned b)) (λ e. e ≡ stopped.Memory) }
+{
+    let function = Box::new(alloc, a)?;
+    let argument = Box::new(alloc, b)?;
+    Ok(whole(span, FForm::App(function, argument)))
+}
+
+fn gen(alloc: Global, span: Span, body: FTerm) -> Result<FTerm, Unresolved>
+    ensures { MatchResult result (λ t. spanned t ≡ SGen (place span) (spanned body)) (λ e. e ≡ stopped.Memory) }
+{
+    let body = Box::new(alloc, body)?;
+    Ok(whole(span, FForm::Gen(body)))
+}
+
+fn inst(alloc: Global, span: Span, a: FTerm, ty: FType) -> Result<FTerm, Unresolved>
+    ensures { MatchResult result (λ t. spanned t ≡ SInst (place span) (spanned a) (tree ty)) (λ e. e ≡ stopped.Memory) }
+{
+    let function = Box::new(alloc, a)?;
+    Ok(whole(span, FForm::Inst(function, ty)))
+}
+
+fn proj(alloc: Global, span: Span, field: u64, a: FTerm) -> Result<FTerm, Unresolved>
+    ensures { MatchResult result (λ t. spanned t ≡ SProj (place span) field (spanned a)) (λ e. e ≡ stopped.Memory) }
+{
+    let tuple = Box::new(alloc, a)?;
+    Ok(whole(span, FForm::Proj(field, tuple)))
+}
+
+fn arith(alloc: Global, span: Span, op: Op, a: FTerm, b: FTerm) -> Result<FTerm, Unresolved>
+    ensures { MatchResult result (λ t. spanned t ≡ SArith (place span) op (spanned a) (spanned b)) (λ e. e ≡ stopped.Memory) }
+{
+    let left = Box::new(alloc, a)?;
+    let right = Box::new(alloc, b)?;
+    Ok(whole(span, FForm::Arith(op, left, right)))
+}
+
+fn if0(alloc: Global, span: Span, a: FTerm, b: FTerm, c: FTerm) -> Result<FTerm, Unresolved>
+    ensures { MatchResult result (λ t. spanned t ≡ SIf0 (place span) (spanned a) (spanned b) (spanned c)) (λ e. e ≡ stopped.Memory) }
+{
+    let test = Box::new(alloc, a)?;
+    let second = Box::new(alloc, b)?;
+    let third = Box::new(alloc, c)?;
+    Ok(whole(span, FForm::If0(test, second, third)))
+}
+
+/// A type with its names resolved, where these type names are in scope. They are as before where the answer is a
+/// type.
+pub fn type_in_scope(alloc: Global, text: &[u8], ty: &RawType, types: &mut Names) -> Result<FType, Unresolved>
+    ensures kept { OnOk result (types.new ≡ types.old) }
+    ensures right {
+        MatchResult result (λ t. TypeOf text.now types.old (type_of ty.now) (tree t))
+            (λ e. StopsAt text.now (type_uses text.now types.old (type_of ty.now)) e)
+    }
+{
+    match ty {
+        RawType::Int => Ok(FType::Int),
+        RawType::Name(span) => match types.find(spelling(text, *span)) {
+            Some(place) => Ok(FType::Var(place)),
+            None => Err(Unresolved::Type(*span)),
+        },
+        RawType::Tuple(parts) => {
+            let mut found = Vec::new(alloc);
+            for part in parts {
+                let one = type_in_scope(alloc, text, part, types)?;
+                found.push(one)?;
+            }
+            Ok(FType::Tuple(found))
+        }
+        RawType::Arrow(a, b) => {
+            let left = type_in_scope(alloc, text, a, types)?;
+            let right = type_in_scope(alloc, text, b, types)?;
+            let whole = arrow(alloc, left, right)?;
+            Ok(whole)
+        }
+        RawType::All(name, body) => {
+            types.push(spelling(text, *name))?;
+            let inner = type_in_scope(alloc, text, body, types)?;
+            types.pop();
+            let whole = all(alloc, inner)?;
+            Ok(whole)
+        }
+    }
+}

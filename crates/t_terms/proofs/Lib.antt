@@ -1,1 +1,2 @@
+pub mod BodyWalks
 pub mod TokenLaws

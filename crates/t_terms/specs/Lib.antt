@@ -1,6 +1,8 @@
+pub mod Laws
 pub mod Read
 pub mod Shapes
 pub mod Spanned
+pub mod SpannedLaws
 pub mod Text
 pub mod Tokens
 pub mod Tree

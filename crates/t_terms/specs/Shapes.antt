@@ -1,7 +1,7 @@
 -- Words on the shape of a program.
 use Rattle.std.specs.Prelude.{◌≡◌, ℕ, ℤ, ◌+◌, List, [], ◌∷◌}
 use Rattle.t_types.specs.Tree.{NoRegs}
-use Rattle.t_terms.specs.Tree.{Int, Plain, TInstr, Arith, Bnz, Ld, Malloc, Mov, St, Unpack, Halt, TSeq, Then, Ends, TBlock}
+use Rattle.t_terms.specs.Tree.{Int, Plain, Arith, Bnz, Ld, Malloc, Mov, St, Unpack, Halt, TSeq, Then, Ends, TBlock}
 
 -- how many instructions of a sequence, and of a program, are arithmetic
 abbrev pub operations_of : TSeq → ℕ

@@ -25,7 +25,7 @@ pub data IsNumber : Kind → ℤ → Type 0 where
 -- I ::= mov reg , N
 pub data IsInstr : List Token → TInstr → Span → Type 0 where
   i_mov : (a b c d : Span) (r : ℕ) {n : Kind} {i : ℤ} → IsNumber n i →
-    IsInstr (tok k.Mov a ∷ (tok (k.Register r) b ∷ (tok k.Comma c ∷ (tok n d ∷ [])))) (Mov r (Plain (Int i) [])) (across a d)
+      IsInstr (tok k.Mov a ∷ (tok (k.Register r) b ∷ (tok k.Comma c ∷ (tok n d ∷ [])))) (Mov r (Plain (Int i) [])) (across a d)
 
 -- any number of instructions
 pub data AreInstrs : List Token → List (TInstr × Span) → Type 0 where
@@ -39,7 +39,7 @@ pub data IsEnd : List Token → TEnd → Span → Type 0 where
 -- Block ::= label : code [ ] { } . I .. I End
 pub data IsBlock : List Token → SBlock → Type 0 where
   b_block : (name a b c d e f g : Span) {u w : List Token} {body : List (TInstr × Span)} {last : TEnd} {last_span : Span} → AreInstrs u body → IsEnd w last last_span →
-    IsBlock
+      IsBlock
       (tok k.Name name ∷ (tok k.Colon a ∷ (tok k.Code b ∷ (tok k.LeftBracket c ∷ (tok k.RightBracket d ∷ (tok k.LeftBrace e ∷ (tok k.RightBrace f ∷ (tok k.Dot g ∷ (u ++ w)))))))))
       (record { name = name; owes = 0; file = NoRegs; body = body; last = last; last_span = last_span })
 

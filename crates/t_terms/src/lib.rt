@@ -2,15 +2,23 @@
 #![tactic(auto)]
 
 pub mod block;
+pub mod bodies;
 pub mod fault;
 pub mod instr;
+pub mod laws;
 pub mod program;
+pub mod scopes;
+#[cfg(test)]
+mod tests;
 pub mod token;
 pub mod value;
+pub mod walks;
 
 pub use block::Block;
 pub use fault::{TCode, TFault};
 pub use instr::{End, Instr};
+pub use laws::{places_aside, puts_exchange};
 pub use program::TProgram;
 pub use token::{Kind, Token};
 pub use value::{Base, Value};
+pub use walks::names_after;

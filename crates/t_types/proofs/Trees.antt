@@ -7,8 +7,8 @@ use Rattle.idx_core.specs.Over.{At}
 use Rattle.t_types.specs.declared.types.TType.{TType, Row_of-RegFile-regs-2 as RegRow, end_of-RegFile-regs-2 as end_of_regs, more_of-RegFile-regs-2 as more_of_regs, Row_of-TType-Tuple-0-2 as FieldRow, end_of-TType-Tuple-0-2 as end_of_fields, more_of-TType-Tuple-0-2 as more_of_fields, items-the_row-TType-Tuple-0-2, items_hidden-the_row-TType-Tuple-0-2-1, items-the_row-RegFile-regs-2, items_hidden-the_row-RegFile-regs-2-0}
 use Rattle.t_types.specs.declared.types.TType.TheVariants.{Code, Tuple, Code', Tuple'}
 use Rattle.t_types.specs.declared.types.RegFile.{RegFile}
-use Rattle.t_types.specs.Tree.{Ty, CodeTy, TupleTy, MoreRegs, MoreFields, regs, flagged, over, over_file, over_fields, each, each_file, each_fields}
-use Rattle.t_types.specs.Read.{tree, row_file, row_fields, reg, file, flag, fields}
+use Rattle.t_types.specs.Tree.{Ty, CodeTy, TupleTy, MoreRegs, MoreFields, regs, flagged, over, over_file, over_fields, over_types, each, each_file, each_fields, each_types}
+use Rattle.t_types.specs.Read.{tree, row_file, row_fields, reg, file, flag, fields, types}
 
 abbrev field_row : TType → (n : Count) × FieldRow n
 field_row (Tuple' _ row) = (_, row)
@@ -107,3 +107,23 @@ copied_file ys xs n done all = ap regs (done ∙ ap (λ (zs : List (ℕ × TType
 
 pub copied_fields : (ys xs : List (TType × Bool)) (n : ℕ) → map flag ys ≡ map flag (take n xs) → length xs ≤ n → fields ys ≡ fields xs
 copied_fields ys xs n done all = ap flagged (done ∙ ap (λ (zs : List (TType × Bool)). map flag zs) (take_all n xs all))
+
+-- lists of types
+module _ (V : ℕ → ℕ → Type 0) (B : ℕ → Type 0) (d : ℕ) where
+  pub types_have : (ts : List TType) → each_types V B d (types ts) → All (λ t. each V B d (tree t)) ts
+  types_have [] h = All-nil (λ t. each V B d (tree t))
+  types_have (t ∷ ts) h = All-cons (λ u. each V B d (tree u)) t ts h.0 (types_have ts h.1)
+
+  list_has : (ts : List TType) → All (λ t. each V B d (tree t)) ts → each_types V B d (types ts)
+  list_has [] h = tt
+  list_has (t ∷ ts) h = (All-head (λ u. each V B d (tree u)) t ts h, list_has ts (All-tail (λ u. each V B d (tree u)) t ts h))
+
+  pub types_have_all : (ts : List TType) (n : ℕ) → All (λ t. each V B d (tree t)) (take n ts) → length ts ≤ n → each_types V B d (types ts)
+  types_have_all ts n h all = list_has ts (subst (λ (us : List TType). All (λ t. each V B d (tree t)) us) (take_all n ts all) h)
+
+over_list : (f : At Ty) (d : ℕ) (ts : List TType) → over_types f d (types ts) ≡ map (λ t. over f d (tree t)) ts
+over_list f d [] = refl
+over_list f d (t ∷ ts) = ap (λ (us : List Ty). over f d (tree t) ∷ us) (over_list f d ts)
+
+pub made_list : (f : At Ty) (d : ℕ) (us ts : List TType) (n : ℕ) → map tree us ≡ map (λ t. over f d (tree t)) (take n ts) → length ts ≤ n → types us ≡ over_types f d (types ts)
+made_list f d us ts n done all = done ∙ ap (λ (xs : List TType). map (λ t. over f d (tree t)) xs) (take_all n ts all) ∙ sym (over_list f d ts)

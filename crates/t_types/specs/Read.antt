@@ -2,6 +2,7 @@
 use Rattle.std.specs.Prelude.{ℕ, Bool, List, map}
 use Rattle.t_types.specs.Tree.{Ty, IntTy, VarTy, CodeTy, ExistsTy, TupleTy, TFile, NoRegs, MoreRegs, TFields, NoFields, MoreFields, regs, flagged}
 use Rattle.t_types.specs.declared.types.TType.{TType, Row_of-RegFile-regs-2 as RegRow, end_of-RegFile-regs-2 as end_of_regs, more_of-RegFile-regs-2 as more_of_regs, Row_of-TType-Tuple-0-2 as FieldRow, end_of-TType-Tuple-0-2 as end_of_fields, more_of-TType-Tuple-0-2 as more_of_fields}
+use Rattle.t_types.specs.declared.types.RegFile.{RegFile}
 use Rattle.t_types.specs.declared.types.TType.TheVariants.{Int, Var, Code', Exists', Tuple'}
 
 abbrev mutual
@@ -35,3 +36,6 @@ fields xs = flagged (map flag xs)
 
 abbrev pub types : List TType → List Ty
 types ts = map tree ts
+
+abbrev pub file_tree : RegFile → TFile
+file_tree r = file r.regs.items

@@ -5,6 +5,7 @@ pub mod copying;
 pub mod equality;
 pub mod fitting;
 pub mod laws;
+pub mod lists;
 #[cfg(test)]
 mod tests;
 pub mod types;
@@ -14,4 +15,6 @@ pub use copying::{copy, copy_file};
 pub use equality::eq;
 pub use fitting::{find, fits, fits_file};
 pub use laws::{puts_exchange, puts_under};
+pub use lists::{file_below, is_below, put_types, shift_types, types_below};
 pub use types::{RegFile, TType};
+pub use walks::{put_regs, put_type};

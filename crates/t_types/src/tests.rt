@@ -86,3 +86,23 @@ fn files(rt: HostRuntime) -> Result<(), OutOfMemory> {
     assert!(rt; fits_file(&two, &again));
     Ok(())
 }
+
+// A tuple of one field.
+fn tuple_of(alloc: Global, t: TType, flag: bool) -> Result<TType, OutOfMemory> {
+    let mut fields = Vec::new(alloc);
+    fields.push((t, flag))?;
+    Ok(TType::Tuple(fields))
+}
+
+// a flag may be forgotten in a tuple, and not in the types of its fields, which are compared by equality
+#[test]
+fn flags_inside_a_field(rt: HostRuntime) -> Result<(), OutOfMemory> {
+    let alloc = rt.alloc();
+    let full = tuple_of(alloc, TType::Int, true)?;
+    let empty = tuple_of(alloc, TType::Int, false)?;
+    assert!(rt; fits(&full, &empty) && !fits(&empty, &full));
+    let around_full = tuple_of(alloc, full, true)?;
+    let around_empty = tuple_of(alloc, empty, true)?;
+    assert!(rt; !fits(&around_full, &around_empty));
+    Ok(())
+}

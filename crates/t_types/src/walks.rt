@@ -42,7 +42,7 @@ fn shift_type(t: &TType, alloc: Global, by: u64, cut: u64) -> Result<TType, OutO
 }
 
 #[cycle(shift)]
-fn shift_regs(
+pub(crate) fn shift_regs(
     regs: &[(u64, TType)],
     alloc: Global,
     by: u64,
@@ -77,9 +77,9 @@ fn shift_flagged(
     Ok(made)
 }
 
-// Puts `what` for the variable that was `at` at the root, where the walk stands at `depth`.
+/// Puts `what` for the variable that was `at` at the root, where the walk stands at `depth`.
 #[cycle(put)]
-fn put_type(
+pub fn put_type(
     t: &TType,
     alloc: Global,
     at: u64,
@@ -119,8 +119,10 @@ fn put_type(
     }
 }
 
+/// Puts `what` into each type of a list of registers for the variable that was `at` at the root, where the walk
+/// stands at `depth`.
 #[cycle(put)]
-fn put_regs(
+pub fn put_regs(
     regs: &[(u64, TType)],
     alloc: Global,
     at: u64,
@@ -161,7 +163,7 @@ fn put_flagged(
 
 // True: every index is a u64.
 #[cycle(words)]
-fn has_words(t: &TType) -> bool
+pub(crate) fn has_words(t: &TType) -> bool
     ensures is_true { IsTrue result }
     ensures below { (m : ℕ) → 2 ^ 64 ≤ m → Below m (tree t.now) }
 {
@@ -175,7 +177,7 @@ fn has_words(t: &TType) -> bool
 }
 
 #[cycle(words)]
-fn regs_have_words(regs: &[(u64, TType)]) -> bool
+pub(crate) fn regs_have_words(regs: &[(u64, TType)]) -> bool
     ensures is_true { IsTrue result }
     ensures below { (m : ℕ) → 2 ^ 64 ≤ m → BelowFile m (file regs.now) }
 {
@@ -197,7 +199,7 @@ fn fields_have_words(fs: &[(TType, bool)]) -> bool
 }
 
 #[cycle(below)]
-fn type_below(t: &TType, n: u64) -> bool
+pub(crate) fn type_below(t: &TType, n: u64) -> bool
     ensures { IsTrue result ↔ Below n (tree t.now) }
 {
     match t {
@@ -216,7 +218,7 @@ fn type_below(t: &TType, n: u64) -> bool
 }
 
 #[cycle(below)]
-fn regs_below(regs: &[(u64, TType)], n: u64) -> bool
+pub(crate) fn regs_below(regs: &[(u64, TType)], n: u64) -> bool
     ensures { IsTrue result ↔ BelowFile n (file regs.now) }
 {
     for reg in regs {

@@ -52,7 +52,7 @@ keeps_neg n h = omega (arith, ints)
 
 -- a number, with a line end after it
 number : (z : ℤ) → InRange z → (i : ℕ) (r : List ℕ) (w : List Token) → Cut assembly (i + length (number_text z)) (10 ∷ r) w →
-  (n : Kind) × (s : Span) × IsNumber n z × Cut assembly i (number_text z ++ 10 ∷ r) (tok n s ∷ w)
+    (n : Kind) × (s : Span) × IsNumber n z × Cut assembly i (number_text z ++ 10 ∷ r) (tok n s ∷ w)
 number (pos n) h i r w c =
     let small : n < 2 ^ 64 = omega arith in
     let some = decimal_nonempty n small in
@@ -70,11 +70,17 @@ number (negsuc n) h i r w c =
 whole : (z : ℤ) → InRange z → StandsFor (codes "tal 1\nL0: code[]{}.\nmov r1, " ++ (number_text z ++ codes "\nhalt[int]\n")) (one_move z)
 whole z h =
     let end = last_line (28 + length (number_text z)) in
-    let n = number z h 28 (codes "halt[int]\n") end.0 end.2 in
-    (_, (_, c_token (next 116 _) tt (c_gap (next 32 _) (c_token (next 49 _) (keeps_pos 1 (omega arith)) (c_gap (next 10 _)
-      (c_token (next 76 _) tt (c_token (next 58 _) tt (c_gap (next 32 _) (c_token (next 99 _) tt (c_token (next 91 _) tt (c_token (next 93 _) tt (c_token (next 123 _) tt (c_token (next 125 _) tt (c_token (next 46 _) tt (c_gap (next 10 _)
-      (c_token (next 109 _) tt (c_gap (next 32 _) (c_token (next 114 _) (omega arith, omega arith) (c_token (next 44 _) tt (c_gap (next 32 _) n.3)))))))))))))))))),
-      p_program _ _ (b_block _ _ _ _ _ _ _ _ (b_more (i_mov _ _ _ _ 1 n.2) b_none) end.3)), refl)
+    let n = number z h 28 (codes "halt[int]\n") end.0 end.2 in (
+      _,
+      (
+        _,
+        c_token (next 116 _) tt (c_gap (next 32 _) (c_token (next 49 _) (keeps_pos 1 (omega arith)) (c_gap (next 10 _)
+            (c_token (next 76 _) tt (c_token (next 58 _) tt (c_gap (next 32 _) (c_token (next 99 _) tt (c_token (next 91 _) tt (c_token (next 93 _) tt (c_token (next 123 _) tt (c_token (next 125 _) tt (c_token (next 46 _) tt (c_gap (next 10 _)
+            (c_token (next 109 _) tt (c_gap (next 32 _) (c_token (next 114 _) (omega arith, omega arith) (c_token (next 44 _) tt (c_gap (next 32 _) n.3)))))))))))))))))),
+        p_program _ _ (b_block _ _ _ _ _ _ _ _ (b_more (i_mov _ _ _ _ 1 n.2) b_none) end.3),
+      ),
+      refl,
+    )
 
 pub move_stands : (z : ℤ) → FitsSigned w64 z → (text : List ℕ) → text ≡ move_text z → (P : List TBlock) → P ≡ one_move z → StandsFor text P
 move_stands z f text is P same = rw (is, same, append_assoc (codes "tal 1\nL0: code[]{}.\nmov r1, ") (number_text z) (codes "\nhalt[int]\n")) (whole z (in_range z f))

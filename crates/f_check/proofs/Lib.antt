@@ -1,0 +1,8 @@
+mod Admits
+mod Exact
+mod Fields
+mod Finds
+mod Forms
+mod Puts
+mod Rows
+mod Types

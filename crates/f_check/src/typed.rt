@@ -1,0 +1,77 @@
+// Terms whose type is known.
+ghost use Rattle.std.specs.Prelude.{◌≤◌};
+ghost use Rattle.f_terms.specs.Ty.{TInt, Closed};
+ghost use Rattle.f_terms.specs.Limits.{nodes};
+ghost use Rattle.f_terms.specs.Scope.{IsClosed};
+ghost use Rattle.f_terms.specs.Accepted.{IsAccepted};
+ghost use Rattle.f_terms.specs.Props.{accepted_prop, below_prop};
+ghost use Rattle.f_terms.specs.Read.{tree, term_of};
+ghost use Rattle.f_check.specs.Props.{closed_prop};
+
+use f_terms::{FTerm, FType};
+use idx_core::Span;
+
+/// A closed term with its type by the typing rules of the source. The type of each of its parts keeps the limits on
+/// types (own choice).
+#[derive(Drop)]
+pub struct Typed {
+    pub(crate) term: FTerm,
+    pub(crate) ty: FType,
+    pub ghost closed: { IsClosed (term_of term) } by { closed_prop (term_of term) },
+    pub ghost closed_type: { Closed (tree ty) } by { below_prop 0 (tree ty) },
+    pub ghost few: { nodes (term_of term) ≤ 4294967295 },
+    pub ghost accepted: { IsAccepted (term_of term) (tree ty) } by { accepted_prop (term_of term) (tree ty) },
+}
+
+/// A closed term of type `int` (own choice). The type of each of its parts keeps the limits on types.
+#[derive(Drop)]
+pub struct Program {
+    pub(crate) term: FTerm,
+    pub ghost closed: { IsClosed (term_of term) } by { closed_prop (term_of term) },
+    pub ghost few: { nodes (term_of term) ≤ 4294967295 },
+    pub ghost accepted: { IsAccepted (term_of term) TInt } by { accepted_prop (term_of term) TInt },
+}
+
+impl Typed {
+    ghost use Rattle.std.specs.Prelude.{◌≡◌, ◌≢◌, MatchResult};
+    ghost use Rattle.f_check.specs.Typed.{typed_term, typed_type, program_term};
+
+    /// The term.
+    pub fn term(&self) -> &FTerm
+        ensures { result.now ≡ typed_term self.now }
+    {
+        &self.term
+    }
+
+    /// Its type.
+    pub fn ty(&self) -> &FType
+        ensures { result.now ≡ typed_type self.now }
+    {
+        &self.ty
+    }
+
+    /// The term as a program: refused where its type is not `int`, with the place of the term.
+    pub fn program(self) -> Result<Program, (Typed, Span)>
+        ensures { MatchResult result (λ p. (program_term p ≡ typed_term self) × (tree (typed_type self) ≡ TInt)) (λ r. (r.0 ≡ self) × (r.1 ≡ (typed_term self).span) × (tree (typed_type self) ≢ TInt)) }
+    {
+        match self.ty {
+            FType::Int => Ok(Program { term: self.term }),
+            _ => {
+                let span = self.term.span;
+                Err((self, span))
+            }
+        }
+    }
+}
+
+impl Program {
+    ghost use Rattle.std.specs.Prelude.{◌≡◌};
+    ghost use Rattle.f_check.specs.Typed.{program_term};
+
+    /// The term.
+    pub fn term(&self) -> &FTerm
+        ensures { result.now ≡ program_term self.now }
+    {
+        &self.term
+    }
+}

@@ -1,0 +1,6 @@
+pub mod Complete
+pub mod Extent
+pub mod Filling
+pub mod Instance
+pub mod Rows
+pub mod Typing

@@ -1,0 +1,120 @@
+-- Terms and types before names are resolved: a name is the place where it stands. And pieces: a tree and the extent of its tokens.
+use Rattle.std.specs.Prelude.{ℕ, ℤ, ◌+◌, List, [], ◌∷◌}
+use Rattle.idx_core.specs.declared.span.Span.{Span}
+use Rattle.idx_core.specs.declared.arith.Op.{Op}
+
+mutual
+  pub data RawTy : Type 0 where
+    RInt : RawTy
+    RName : Span → RawTy
+    RTuple : RawTys → RawTy
+    RArrow : RawTy → RawTy → RawTy
+    -- the name that is bound, the body
+    RAll : Span → RawTy → RawTy
+
+  pub data RawTys : Type 0 where
+    NoRawTys : RawTys
+    MoreRawTys : RawTy → RawTys → RawTys
+
+-- the place of each form comes first
+mutual
+  pub data RawTm : Type 0 where
+    RVar : Span → RawTm
+    RNum : Span → ℤ → RawTm
+    -- its name, its parameter, the parameter's type, the body's type, the body
+    RFix : Span → Span → Span → RawTy → RawTy → RawTm → RawTm
+    -- the name that is bound, the body
+    RGen : Span → Span → RawTm → RawTm
+    RApp : Span → RawTm → RawTm → RawTm
+    RInst : Span → RawTm → RawTy → RawTm
+    RFields : Span → RawTms → RawTm
+    RProj : Span → ℕ → RawTm → RawTm
+    RArith : Span → Op → RawTm → RawTm → RawTm
+    RIf0 : Span → RawTm → RawTm → RawTm → RawTm
+
+  pub data RawTms : Type 0 where
+    NoRawTms : RawTms
+    MoreRawTms : RawTm → RawTms → RawTms
+
+abbrev pub raw_tys : List RawTy → RawTys
+raw_tys [] = NoRawTys
+raw_tys (t ∷ ts) = MoreRawTys t (raw_tys ts)
+
+abbrev pub raw_tms : List RawTm → RawTms
+raw_tms [] = NoRawTms
+raw_tms (e ∷ es) = MoreRawTms e (raw_tms es)
+
+-- the place of the whole form
+abbrev pub place_of : RawTm → Span
+place_of (RVar s) = s
+place_of (RNum s z) = s
+place_of (RFix s f x t r e) = s
+place_of (RGen s n e) = s
+place_of (RApp s a b) = s
+place_of (RInst s e t) = s
+place_of (RFields s es) = s
+place_of (RProj s n e) = s
+place_of (RArith s op a b) = s
+place_of (RIf0 s a b c) = s
+
+-- the nodes of a term
+abbrev mutual
+  pub nodes : RawTm → ℕ
+  nodes (RVar s) = 1
+  nodes (RNum s z) = 1
+  nodes (RFix s f x t r e) = 1 + nodes e
+  nodes (RGen s n e) = 1 + nodes e
+  nodes (RApp s a b) = 1 + nodes a + nodes b
+  nodes (RInst s e t) = 1 + nodes e
+  nodes (RFields s es) = 1 + nodes_all es
+  nodes (RProj s n e) = 1 + nodes e
+  nodes (RArith s op a b) = 1 + nodes a + nodes b
+  nodes (RIf0 s a b c) = 1 + nodes a + nodes b + nodes c
+
+  pub nodes_all : RawTms → ℕ
+  nodes_all NoRawTms = 0
+  nodes_all (MoreRawTms e es) = nodes e + nodes_all es
+
+-- a tree, from the start of its first token to the end of its last
+pub record Piece : Type 0 where
+  pub tree : RawTm
+  pub start : ℕ
+  pub end : ℕ
+
+-- a form from `start` to `end`
+abbrev pub form : (Span → RawTm) → ℕ → ℕ → Piece
+form f s e = record { tree = f (record { start = s; end = e }); start = s; end = e }
+
+-- the same tree with another extent: in parentheses
+abbrev pub within : ℕ → ℕ → Piece → Piece
+within s e p = record { tree = p.tree; start = s; end = e }
+
+abbrev pub var : Span → Piece
+var s = form (λ i. RVar i) s.start s.end
+
+abbrev pub number : ℤ → Span → Piece
+number z s = form (λ i. RNum i z) s.start s.end
+
+abbrev pub func : Span → Span → Span → RawTy → RawTy → Piece → Piece
+func f n x t r e = form (λ i. RFix i n x t r e.tree) f.start e.end
+
+abbrev pub gen : Span → Span → Piece → Piece
+gen g a e = form (λ i. RGen i a e.tree) g.start e.end
+
+abbrev pub call : Piece → Piece → Piece
+call a b = form (λ i. RApp i a.tree b.tree) a.start b.end
+
+abbrev pub inst : Piece → RawTy → Span → Piece
+inst a t c = form (λ i. RInst i a.tree t) a.start c.end
+
+abbrev pub tuple : Span → List RawTm → Span → Piece
+tuple o ts c = form (λ i. RFields i (raw_tms ts)) o.start c.end
+
+abbrev pub proj : Span → ℕ → Piece → Piece
+proj h n e = form (λ i. RProj i n e.tree) h.start e.end
+
+abbrev pub arith : Op → Piece → Piece → Piece
+arith op a b = form (λ i. RArith i op a.tree b.tree) a.start b.end
+
+abbrev pub if0 : Span → Piece → Piece → Piece → Span → Piece
+if0 i a b c k = form (λ s. RIf0 s a.tree b.tree c.tree) i.start k.end

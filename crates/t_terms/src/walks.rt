@@ -1,0 +1,270 @@
+// Shift and put of the types in values, instructions and ends, and how many of their variables are free.
+ghost use Rattle.std.specs.Prelude.{◌≡◌, ℕ, ◌<◌, ◌≤◌, ◌^◌, ◌↔◌, IfOk, IsTrue};
+ghost use Rattle.idx_core.specs.Over.{IsWord, ShiftFitsAt, PutFitsAt, BelowAt, AnyDepth, shifted, putted};
+ghost use Rattle.t_types.specs.Read.{tree};
+ghost use Rattle.t_types.specs.Tree.{VarTy, over, each};
+ghost use Rattle.t_terms.specs.Read.{value, instr, end_of};
+ghost use Rattle.t_terms.specs.Tree.{over_value, over_instr, over_end, each_value, each_instr, each_end, names_after};
+
+use crate::instr::{End, Instr};
+use crate::value::Value;
+use idx_core::{OutOfMemory, Scoped};
+use std::alloc::Global;
+use t_types::{TType, is_below, put_type, put_types, shift_types, types_below};
+
+pub(crate) fn shift_value(v: &Value, alloc: Global, by: u64, cut: u64) -> Result<Value, OutOfMemory>
+    requires { each_value (ShiftFitsAt by) IsWord cut (value v.now) }
+    ensures { IfOk result (λ r. value r ≡ over_value (shifted VarTy by) cut (value v.now)) }
+{
+    match v {
+        Value::Plain { base, types } => {
+            let types = shift_types(types, alloc, by, cut)?;
+            Ok(Value::Plain { base: *base, types })
+        }
+        Value::Pack {
+            hidden,
+            inner,
+            shape,
+        } => {
+            let hidden = hidden.shift(alloc, by, cut)?;
+            let inner = shift_value(inner, alloc, by, cut)?;
+            let shape = shape.shift(alloc, by, cut)?;
+            Ok(Value::Pack {
+                hidden,
+                inner: Box::new(alloc, inner)?,
+                shape,
+            })
+        }
+    }
+}
+
+pub(crate) fn shift_instr(i: &Instr, alloc: Global, by: u64, cut: u64) -> Result<Instr, OutOfMemory>
+    requires { each_instr (ShiftFitsAt by) IsWord cut (instr i.now) }
+    ensures { IfOk result (λ r. instr r ≡ over_instr (shifted VarTy by) cut (instr i.now)) }
+{
+    match i {
+        Instr::Arith { op, rd, rs, v } => {
+            let v = shift_value(v, alloc, by, cut)?;
+            Ok(Instr::Arith {
+                op: *op,
+                rd: *rd,
+                rs: *rs,
+                v,
+            })
+        }
+        Instr::Bnz { r, v } => {
+            let v = shift_value(v, alloc, by, cut)?;
+            Ok(Instr::Bnz { r: *r, v })
+        }
+        Instr::Ld { rd, rs, field } => Ok(Instr::Ld {
+            rd: *rd,
+            rs: *rs,
+            field: *field,
+        }),
+        Instr::Malloc { rd, types } => {
+            let types = shift_types(types, alloc, by, cut)?;
+            Ok(Instr::Malloc { rd: *rd, types })
+        }
+        Instr::Mov { rd, v } => {
+            let v = shift_value(v, alloc, by, cut)?;
+            Ok(Instr::Mov { rd: *rd, v })
+        }
+        Instr::St { rd, field, rs } => Ok(Instr::St {
+            rd: *rd,
+            field: *field,
+            rs: *rs,
+        }),
+        Instr::Unpack { rd, v } => {
+            let v = shift_value(v, alloc, by, cut)?;
+            Ok(Instr::Unpack { rd: *rd, v })
+        }
+    }
+}
+
+pub(crate) fn shift_end(e: &End, alloc: Global, by: u64, cut: u64) -> Result<End, OutOfMemory>
+    requires { each_end (ShiftFitsAt by) IsWord cut (end_of e.now) }
+    ensures { IfOk result (λ r. end_of r ≡ over_end (shifted VarTy by) cut (end_of e.now)) }
+{
+    match e {
+        End::Jmp(v) => {
+            let v = shift_value(v, alloc, by, cut)?;
+            Ok(End::Jmp(v))
+        }
+        End::Halt => Ok(End::Halt),
+    }
+}
+
+// Puts `what` for the variable that was `at` at the root, where the walk stands at `depth`.
+pub(crate) fn put_value(
+    v: &Value,
+    alloc: Global,
+    at: u64,
+    depth: u64,
+    what: &TType,
+) -> Result<Value, OutOfMemory>
+    requires deep { at ≤ depth }
+    requires fits { each_value (PutFitsAt each at (tree what.now)) IsWord depth (value v.now) }
+    ensures { IfOk result (λ r. value r ≡ over_value (putted VarTy over at (tree what.now)) depth (value v.now)) }
+{
+    match v {
+        Value::Plain { base, types } => {
+            let types = put_types(types, alloc, at, depth, what)?;
+            Ok(Value::Plain { base: *base, types })
+        }
+        Value::Pack {
+            hidden,
+            inner,
+            shape,
+        } => {
+            let hidden = put_type(hidden, alloc, at, depth, what)?;
+            let inner = put_value(inner, alloc, at, depth, what)?;
+            let shape = put_type(shape, alloc, at, depth, what)?;
+            Ok(Value::Pack {
+                hidden,
+                inner: Box::new(alloc, inner)?,
+                shape,
+            })
+        }
+    }
+}
+
+pub(crate) fn put_instr(
+    i: &Instr,
+    alloc: Global,
+    at: u64,
+    depth: u64,
+    what: &TType,
+) -> Result<Instr, OutOfMemory>
+    requires deep { at ≤ depth }
+    requires fits { each_instr (PutFitsAt each at (tree what.now)) IsWord depth (instr i.now) }
+    ensures { IfOk result (λ r. instr r ≡ over_instr (putted VarTy over at (tree what.now)) depth (instr i.now)) }
+{
+    match i {
+        Instr::Arith { op, rd, rs, v } => {
+            let v = put_value(v, alloc, at, depth, what)?;
+            Ok(Instr::Arith {
+                op: *op,
+                rd: *rd,
+                rs: *rs,
+                v,
+            })
+        }
+        Instr::Bnz { r, v } => {
+            let v = put_value(v, alloc, at, depth, what)?;
+            Ok(Instr::Bnz { r: *r, v })
+        }
+        Instr::Ld { rd, rs, field } => Ok(Instr::Ld {
+            rd: *rd,
+            rs: *rs,
+            field: *field,
+        }),
+        Instr::Malloc { rd, types } => {
+            let types = put_types(types, alloc, at, depth, what)?;
+            Ok(Instr::Malloc { rd: *rd, types })
+        }
+        Instr::Mov { rd, v } => {
+            let v = put_value(v, alloc, at, depth, what)?;
+            Ok(Instr::Mov { rd: *rd, v })
+        }
+        Instr::St { rd, field, rs } => Ok(Instr::St {
+            rd: *rd,
+            field: *field,
+            rs: *rs,
+        }),
+        Instr::Unpack { rd, v } => {
+            let v = put_value(v, alloc, at, depth, what)?;
+            Ok(Instr::Unpack { rd: *rd, v })
+        }
+    }
+}
+
+pub(crate) fn put_end(
+    e: &End,
+    alloc: Global,
+    at: u64,
+    depth: u64,
+    what: &TType,
+) -> Result<End, OutOfMemory>
+    requires deep { at ≤ depth }
+    requires fits { each_end (PutFitsAt each at (tree what.now)) IsWord depth (end_of e.now) }
+    ensures { IfOk result (λ r. end_of r ≡ over_end (putted VarTy over at (tree what.now)) depth (end_of e.now)) }
+{
+    match e {
+        End::Jmp(v) => {
+            let v = put_value(v, alloc, at, depth, what)?;
+            Ok(End::Jmp(v))
+        }
+        End::Halt => Ok(End::Halt),
+    }
+}
+
+pub(crate) fn value_below(v: &Value, n: u128) -> bool
+    ensures { IsTrue result ↔ each_value BelowAt AnyDepth n (value v.now) }
+{
+    match v {
+        Value::Plain { base: _, types } => types_below(types, n),
+        Value::Pack {
+            hidden,
+            inner,
+            shape,
+        } => is_below(hidden, n) && value_below(inner, n) && is_below(shape, n),
+    }
+}
+
+pub(crate) fn instr_below(i: &Instr, n: u128) -> bool
+    ensures { IsTrue result ↔ each_instr BelowAt AnyDepth n (instr i.now) }
+{
+    match i {
+        Instr::Arith {
+            op: _,
+            rd: _,
+            rs: _,
+            v,
+        } => value_below(v, n),
+        Instr::Bnz { r: _, v } => value_below(v, n),
+        Instr::Ld {
+            rd: _,
+            rs: _,
+            field: _,
+        } => true,
+        Instr::Malloc { rd: _, types } => types_below(types, n),
+        Instr::Mov { rd: _, v } => value_below(v, n),
+        Instr::St {
+            rd: _,
+            field: _,
+            rs: _,
+        } => true,
+        Instr::Unpack { rd: _, v } => value_below(v, n),
+    }
+}
+
+pub(crate) fn end_below(e: &End, n: u128) -> bool
+    ensures { IsTrue result ↔ each_end BelowAt AnyDepth n (end_of e.now) }
+{
+    match e {
+        End::Jmp(v) => value_below(v, n),
+        End::Halt => true,
+    }
+}
+
+/// The number of type names after an instruction, where there are `names` before it: an unpack binds one.
+pub fn names_after(i: &Instr, names: u64) -> u64
+    requires { IsWord (names_after (instr i.now) names) }
+    ensures { result ≡ names_after (instr i.now) names }
+{
+    match i {
+        Instr::Unpack { rd: _, v: _ } => names + 1,
+        _ => names,
+    }
+}
+
+// The same of a number that may be more than a u64.
+pub(crate) fn depth_after(i: &Instr, depth: u128) -> u128
+    requires { depth < 2 ^ 100 }
+    ensures { result ≡ names_after (instr i.now) depth }
+{
+    match i {
+        Instr::Unpack { rd: _, v: _ } => depth + 1,
+        _ => depth,
+    }
+}

@@ -1,0 +1,123 @@
+// Shift and put of register files and of lists of types.
+ghost use Rattle.std.specs.Prelude.{◌≡◌, ◌≤◌, ◌↔◌, IfOk, IsTrue};
+ghost use Rattle.idx_core.specs.Over.{IsWord, ShiftFitsAt, PutFitsAt, BelowAt, AnyDepth, shifted, putted};
+ghost use Rattle.t_types.specs.Read.{tree, types, file_tree};
+ghost use Rattle.t_types.specs.Tree.{Ty, TFile, VarTy, over, over_file, over_types, each, each_file, each_types, Below, BelowFile};
+ghost use Rattle.t_types.specs.TreeLaws.{types_part, file_over};
+
+use crate::types::{RegFile, TType};
+use crate::walks::{
+    has_words, put_regs, put_type, regs_below, regs_have_words, shift_regs, type_below,
+};
+use idx_core::{OutOfMemory, Scoped};
+use std::alloc::Global;
+
+impl Scoped for RegFile {
+    type Part = TType;
+
+    ghost Tree = { TFile };
+
+    ghost PartTree = { Ty };
+
+    ghost tree = { file_tree };
+
+    ghost part_tree = { tree };
+
+    ghost var = { VarTy };
+
+    ghost over_part = { over };
+
+    ghost over = { over_file };
+
+    ghost each_part = { each };
+
+    ghost each = { each_file };
+
+    fn shift(&self, alloc: Global, by: u64, cut: u64) -> Result<RegFile, OutOfMemory> {
+        let regs = shift_regs(&self.regs, alloc, by, cut)?;
+        Ok(RegFile { regs })
+    }
+
+    fn put(&self, alloc: Global, at: u64, what: &TType) -> Result<RegFile, OutOfMemory> {
+        let regs = put_regs(&self.regs, alloc, at, at, what)?;
+        Ok(RegFile { regs })
+    }
+
+    fn below(&self, n: u64) -> bool {
+        regs_below(&self.regs, n)
+    }
+
+    ghost is_part = { types_part };
+
+    ghost is_over = { file_over };
+}
+
+/// Each type of a list shifted.
+pub fn shift_types(
+    ts: &[TType],
+    alloc: Global,
+    by: u64,
+    cut: u64,
+) -> Result<Vec<TType>, OutOfMemory>
+    requires { each_types (ShiftFitsAt by) IsWord cut (types ts.now) }
+    ensures { IfOk result (λ r. types r.items ≡ over_types (shifted VarTy by) cut (types ts.now)) }
+{
+    let mut made = Vec::new(alloc);
+    for t in ts {
+        let t = t.shift(alloc, by, cut)?;
+        made.push(t)?;
+    }
+    Ok(made)
+}
+
+/// `what` put into each type of a list for the variable that was `at` at the root, where the walk stands at `depth`.
+pub fn put_types(
+    ts: &[TType],
+    alloc: Global,
+    at: u64,
+    depth: u64,
+    what: &TType,
+) -> Result<Vec<TType>, OutOfMemory>
+    requires deep { at ≤ depth }
+    requires fits { each_types (PutFitsAt each at (tree what.now)) IsWord depth (types ts.now) }
+    ensures { IfOk result (λ r. types r.items ≡ over_types (putted VarTy over at (tree what.now)) depth (types ts.now)) }
+{
+    let mut made = Vec::new(alloc);
+    for t in ts {
+        let t = put_type(t, alloc, at, depth, what)?;
+        made.push(t)?;
+    }
+    Ok(made)
+}
+
+/// Whether each free index of a type is less than n, which may be more than a u64.
+pub fn is_below(t: &TType, n: u128) -> bool
+    ensures { IsTrue result ↔ Below n (tree t.now) }
+{
+    match u64::try_from(n) {
+        Ok(n) => type_below(t, n),
+        Err(_) => has_words(t),
+    }
+}
+
+/// Whether each free index of a list of types is less than n.
+pub fn types_below(ts: &[TType], n: u128) -> bool
+    ensures { IsTrue result ↔ each_types BelowAt AnyDepth n (types ts.now) }
+{
+    for t in ts {
+        if !is_below(t, n) {
+            return false;
+        }
+    }
+    true
+}
+
+/// Whether each free index of a register file is less than n.
+pub fn file_below(regs: &RegFile, n: u128) -> bool
+    ensures { IsTrue result ↔ BelowFile n (file_tree regs.now) }
+{
+    match u64::try_from(n) {
+        Ok(n) => regs_below(&regs.regs, n),
+        Err(_) => regs_have_words(&regs.regs),
+    }
+}

@@ -1,0 +1,25 @@
+-- The description of the command line, as `clap` reads it.
+use Rattle.std.specs.Prelude.{true, Some, codes}
+use Rattle.clap.specs.Words.{App, Rule, Text, new_app, new_rule, with_rule, with_subcommand}
+use Rattle.clap.specs.Simple.{on_top}
+use Rattle.clap.specs.declared.builder.action.ArgAction.TheVariants.{Set}
+
+-- a required text of one value
+abbrev pub file_rule : Text → Rule
+file_rule name = record (new_rule name) { required = true; action = Some Set }
+
+-- compile IN OUT
+abbrev pub compile_app : App
+compile_app = with_rule (with_rule (new_app (codes "compile")) (file_rule (codes "IN"))) (file_rule (codes "OUT"))
+
+-- typeof IN
+abbrev pub typeof_app : App
+typeof_app = with_rule (new_app (codes "typeof")) (file_rule (codes "IN"))
+
+-- the command line without its subcommands: one must be given, and there is no `help` among them
+abbrev pub bare_app : App
+bare_app = on_top (λ s. record s { subcommand_required = true; disable_help_subcommand = true }) (new_app (codes "talc"))
+
+-- the whole: one subcommand for each command
+abbrev pub talc_app : App
+talc_app = with_subcommand (with_subcommand bare_app compile_app.top) typeof_app.top

@@ -1,0 +1,19 @@
+-- What a reading of words answers.
+use Rattle.std.specs.Prelude.{◌≡◌, List, Some, None, Result, Ok, Err}
+use Rattle.clap.specs.Words.{Text}
+use Rattle.words.specs.declared.command.Command.{Command}
+use Rattle.words.specs.declared.command.Command.TheVariants.{Compile, Typeof}
+use Rattle.words.specs.declared.command.NoCommand.{NoCommand}
+use Rattle.words.specs.declared.command.NoCommand.TheVariants.{Usage, Memory}
+use Rattle.words.specs.Command.{Asked, Compiles, Types, command_of}
+
+-- what a command as the code has it asks for
+abbrev pub asked_by : Command → Asked
+asked_by (Compile input output) = Compiles input.now output.now
+asked_by (Typeof input) = Types input.now
+
+-- a command only where the words are this one, and a text only where they are none
+abbrev pub Reads : List Text → Result Command NoCommand → Type 0
+Reads words (Ok command) = command_of words ≡ Some (asked_by command)
+Reads words (Err (Usage text)) = command_of words ≡ None
+Reads words (Err Memory) = Unit {0}

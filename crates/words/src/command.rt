@@ -1,0 +1,19 @@
+// What the words of a command line come to.
+
+/// A command and its values (own choice). The names of files are as they stand among the words.
+#[derive(Clone, Copy, Debug, PartialEq, Eq, Drop)]
+pub enum Command<'a> {
+    /// `compile IN OUT`: compiles the source text of one file into the assembly text of another.
+    Compile { input: &'a str, output: &'a str },
+    /// `typeof IN`: shows the type of the source text of a file.
+    Typeof { input: &'a str },
+}
+
+/// Why words come to no command.
+#[derive(Debug, Drop)]
+pub enum NoCommand {
+    /// They are none. The text for the user is `clap`'s: what is wrong, or the help that was asked for.
+    Usage(Vec<u8>),
+    /// Memory was wanted and not had.
+    Memory,
+}

@@ -1,0 +1,51 @@
+// The description of the command line, as `clap` takes it.
+ghost use Rattle.std.specs.Prelude.{◌≡◌, IfOk, false};
+ghost use Rattle.clap.specs.Words.{app_of, rule_of};
+ghost use Rattle.words.specs.Description.{file_rule, compile_app, typeof_app, bare_app, talc_app};
+
+use clap::{Arg, ArgAction, Command};
+use std::alloc::{AllocError, Global};
+
+// A required text of one value, the name of a file.
+fn file<'a>(alloc: Global, name: &'a str) -> Arg<'a>
+    ensures rule { rule_of result ≡ file_rule name.entry.now }
+    ensures local { result.global ≡ false }
+{
+    Arg::new(alloc, name).required(true).action(ArgAction::Set)
+}
+
+fn compile_words<'a>(alloc: Global) -> Result<Command<'a>, AllocError>
+    ensures { IfOk result (λ c. app_of c ≡ compile_app) }
+{
+    Command::new(alloc, "compile")
+        .about("Compiles the source text IN into the TAL text OUT")
+        .arg(file(alloc, "IN"))?
+        .arg(file(alloc, "OUT"))
+}
+
+fn typeof_words<'a>(alloc: Global) -> Result<Command<'a>, AllocError>
+    ensures { IfOk result (λ c. app_of c ≡ typeof_app) }
+{
+    Command::new(alloc, "typeof")
+        .about("Shows the type of the source text IN")
+        .arg(file(alloc, "IN"))
+}
+
+// The command line without its subcommands: one must be given, and there is no `help` among them.
+fn bare_words<'a>(alloc: Global) -> Command<'a>
+    ensures { app_of result ≡ bare_app }
+{
+    Command::new(alloc, "talc")
+        .subcommand_required(true)
+        .disable_help_subcommand(true)
+}
+
+// The whole description.
+pub(crate) fn talc_words<'a>(alloc: Global) -> Result<Command<'a>, AllocError>
+    ensures { IfOk result (λ c. app_of c ≡ talc_app) }
+{
+    let compile = compile_words(alloc)?;
+    let type_of = typeof_words(alloc)?;
+    let all = bare_words(alloc).subcommand(compile)?.subcommand(type_of)?;
+    Ok(all)
+}

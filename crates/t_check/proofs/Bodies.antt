@@ -110,10 +110,11 @@ module _ (P : List TBlock) (bs : List Block) (i : ℕ) where
 -- the whole program, by its blocks
 pub program_is : (bs : List Block) (b : Block) → 0 < length bs → b ≡ get_or bs 0 b → ((block b).owes ≡ 0) × ((block b).file ≡ NoRegs) → (r : Result (Unit {0}) TFault) → AreBlocks (blocks_of bs) (spanned_blocks bs) r → IsProgram (spanned_blocks bs) r
 program_is [] b some is first r h = absurd (omega arith)
-program_is (x ∷ bs) b some is first (Ok u) h =
-    (subst (λ (y : Block). ((block y).owes ≡ 0) × ((block y).file ≡ NoRegs)) is first,
-     subst (λ Q. BlocksAccepted Q (plain_blocks (spanned_blocks (x ∷ bs)))) (sym (plain_spanned (x ∷ bs))) h)
+program_is (x ∷ bs) b some is first (Ok u) h = (
+  subst (λ (y : Block). ((block y).owes ≡ 0) × ((block y).file ≡ NoRegs)) is first,
+  subst (λ Q. BlocksAccepted Q (plain_blocks (spanned_blocks (x ∷ bs)))) (sym (plain_spanned (x ∷ bs))) h,
+)
 program_is (x ∷ bs) b some is first (Err f) h =
     says_map f (BlocksFault (blocks_of (x ∷ bs)) (spanned_blocks (x ∷ bs))) (ProgramFault (spanned_blocks (x ∷ bs)))
-      (λ c p k. inr (subst (λ (y : Block). ((block y).owes ≡ 0) × ((block y).file ≡ NoRegs)) is first, subst (λ Q. BlocksFault Q (spanned_blocks (x ∷ bs)) c p) (sym (plain_spanned (x ∷ bs))) k))
-      h
+    (λ c p k. inr (subst (λ (y : Block). ((block y).owes ≡ 0) × ((block y).file ≡ NoRegs)) is first, subst (λ Q. BlocksFault Q (spanned_blocks (x ∷ bs)) c p) (sym (plain_spanned (x ∷ bs))) k))
+    h

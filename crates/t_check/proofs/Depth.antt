@@ -92,9 +92,10 @@ shallow_shift_fits n k t few h =
 
 pub shift_fits : (n k : ℕ) (t : Ty) → n + k ≤ max_names → Bounded n t → ShiftFits k 0 t
 shift_fits n k (CodeTy owes file) few h =
-    let less = h.0 in
-    (omega arith,
-     weaker_file (OwedAt n owes) (ShiftFitsAt k) OwedBelow IsWord (0 + owes) (0 + owes) (λ e i x. let a = x.0 in let b = x.1 in λ le. omega arith) (λ e x. omega arith) file h.1)
+    let less = h.0 in (
+      omega arith,
+      weaker_file (OwedAt n owes) (ShiftFitsAt k) OwedBelow IsWord (0 + owes) (0 + owes) (λ e i x. let a = x.0 in let b = x.1 in λ le. omega arith) (λ e x. omega arith) file h.1,
+    )
 shift_fits n k IntTy few h = tt
 shift_fits n k (VarTy i) few h = shallow_shift_fits n k (VarTy i) (omega arith) h
 shift_fits n k (ExistsTy t) few h = shallow_shift_fits n k (ExistsTy t) (omega arith) h
@@ -108,12 +109,13 @@ shallow_shift n k t h =
     (λ e x. x) t h
 
 pub bounded_shift : (n k : ℕ) (t : Ty) → Bounded n t → Bounded (n + k) (shift k 0 t)
-bounded_shift n k (CodeTy owes file) h =
-    (h.0,
-     file_each.made (OwedAt n owes) (OwedAt (n + k) owes) OwedBelow OwedBelow (shifted VarTy k) (0 + owes) (0 + owes) (0 + owes)
-     (λ e i x. let a = x.0 in let b = x.2 in
-        at_shifted k (deep (0 + owes) e) i (λ u. each (OwedAt (n + k) owes) OwedBelow (deep (0 + owes) e) u) (λ lt. (omega arith, x.1, x.2)) (λ le. (omega arith, x.1, λ lt. absurd (omega arith))))
-     (λ e x. x) file h.1)
+bounded_shift n k (CodeTy owes file) h = (
+  h.0,
+  file_each.made (OwedAt n owes) (OwedAt (n + k) owes) OwedBelow OwedBelow (shifted VarTy k) (0 + owes) (0 + owes) (0 + owes)
+      (λ e i x. let a = x.0 in let b = x.2 in
+      at_shifted k (deep (0 + owes) e) i (λ u. each (OwedAt (n + k) owes) OwedBelow (deep (0 + owes) e) u) (λ lt. (omega arith, x.1, x.2)) (λ le. (omega arith, x.1, λ lt. absurd (omega arith))))
+      (λ e x. x) file h.1,
+)
 bounded_shift n k IntTy h = tt
 bounded_shift n k (VarTy i) h = bounded (n + k) (shift k 0 (VarTy i)) (shallow_shift n k (VarTy i) h)
 bounded_shift n k (ExistsTy t) h = bounded (n + k) (shift k 0 (ExistsTy t)) (shallow_shift n k (ExistsTy t) h)
@@ -128,19 +130,19 @@ module _ (n k : ℕ) (u : Ty) (file : TFile) (some : 1 ≤ k) (few : k ≤ max_n
   inst_put_fits =
       weaker_file (OwedAt n k) (PutFitsAt each (k - 1) (shift (k - 1) 0 u)) OwedBelow IsWord (0 + k) (k - 1)
       (λ e i x. λ is.
-        let less = x.2 (omega arith) (omega arith) in
-        shallow_shift_fits (n + (k - 1)) (k - 1 + e - (k - 1)) (shift (k - 1) 0 u) (omega arith) (shallow_shift n (k - 1) u hu))
+      let less = x.2 (omega arith) (omega arith) in
+      shallow_shift_fits (n + (k - 1)) (k - 1 + e - (k - 1)) (shift (k - 1) 0 u) (omega arith) (shallow_shift n (k - 1) u hu))
       (λ e x. omega arith) file hf
 
   placed : (j p : ℕ) → j ≤ p → p ≤ max_names → each (OwedAt n j) OwedBelow p (shift p 0 u)
   placed j p le less =
       types_each.has.made (ShallowAt n) (OwedAt n j) ShallowBelow OwedBelow (shifted VarTy p) 0 0 p
       (λ e i x. subst (λ d. each (OwedAt n j) OwedBelow d (shifted VarTy p (deep 0 e) i)) (sym (deep_is p e))
-        (let a = subst (λ d. ShallowAt n d i) (deep_is 0 e) x in let b = a.0 in let c = a.1 in
-         subst (λ d. each (OwedAt n j) OwedBelow (p + e) (shifted VarTy p d i)) (sym (deep_is 0 e))
-         (at_shifted p (0 + e) i (λ t. each (OwedAt n j) OwedBelow (p + e) t)
-           (λ lt. (omega arith, omega arith, λ y z. absurd (omega arith)))
-           (λ ge. (omega arith, omega arith, λ y z. absurd (omega arith))))))
+      (let a = subst (λ d. ShallowAt n d i) (deep_is 0 e) x in let b = a.0 in let c = a.1 in
+      subst (λ d. each (OwedAt n j) OwedBelow (p + e) (shifted VarTy p d i)) (sym (deep_is 0 e))
+      (at_shifted p (0 + e) i (λ t. each (OwedAt n j) OwedBelow (p + e) t)
+      (λ lt. (omega arith, omega arith, λ y z. absurd (omega arith)))
+      (λ ge. (omega arith, omega arith, λ y z. absurd (omega arith))))))
       (λ e x. let y : 0 + e ≤ max_names = subst ShallowBelow (deep_is 0 e) x in subst OwedBelow (sym (deep_is p e)) (omega arith)) u hu
 
   moves : (e i : ℕ) → OwedAt n k (0 + k + e) i → each (OwedAt n (k - 1)) OwedBelow (0 + (k - 1) + e) (putted VarTy over (k - 1) (shift (k - 1) 0 u) (k - 1 + e) i)
@@ -149,20 +151,20 @@ module _ (n k : ℕ) (u : Ty) (file : TFile) (some : 1 ≤ k) (few : k ≤ max_n
       at_putted (k - 1) (k - 1 + e) i (shift (k - 1) 0 u) (λ t. each (OwedAt n (k - 1)) OwedBelow (0 + (k - 1) + e) t)
       (λ lt. (omega arith, omega arith, λ y z. let less = own (omega arith) (omega arith) in omega arith))
       (λ is.
-        let less = own (omega arith) (omega arith) in
-        let by : k - 1 + (k - 1 + e - (k - 1)) ≡ 0 + (k - 1) + e = omega arith in
-        subst (λ t. each (OwedAt n (k - 1)) OwedBelow (0 + (k - 1) + e) t)
-          (sym (shift_add_law types_part types_over (k - 1) (k - 1 + e - (k - 1)) 0 u ∙ ap (λ m. shift m 0 u) by))
-          (placed (k - 1) (0 + (k - 1) + e) (omega arith) (omega arith)))
+      let less = own (omega arith) (omega arith) in
+      let by : k - 1 + (k - 1 + e - (k - 1)) ≡ 0 + (k - 1) + e = omega arith in
+      subst (λ t. each (OwedAt n (k - 1)) OwedBelow (0 + (k - 1) + e) t)
+      (sym (shift_add_law types_part types_over (k - 1) (k - 1 + e - (k - 1)) 0 u ∙ ap (λ m. shift m 0 u) by))
+      (placed (k - 1) (0 + (k - 1) + e) (omega arith) (omega arith)))
       (λ gt. (omega arith, omega arith, λ y z. absurd (omega arith)))
 
   pub inst_put : OwedFile n (k - 1) (put_file (k - 1) (shift (k - 1) 0 u) file)
   inst_put =
       file_each.made (OwedAt n k) (OwedAt n (k - 1)) OwedBelow OwedBelow (putted VarTy over (k - 1) (shift (k - 1) 0 u)) (k - 1) (0 + k) (0 + (k - 1))
       (λ e i x.
-        subst (λ d. each (OwedAt n (k - 1)) OwedBelow d (putted VarTy over (k - 1) (shift (k - 1) 0 u) (deep (k - 1) e) i)) (sym (deep_is (0 + (k - 1)) e))
-        (subst (λ d. each (OwedAt n (k - 1)) OwedBelow (0 + (k - 1) + e) (putted VarTy over (k - 1) (shift (k - 1) 0 u) d i)) (sym (deep_is (k - 1) e))
-        (moves e i (subst (λ d. OwedAt n k d i) (deep_is (0 + k) e) x))))
+      subst (λ d. each (OwedAt n (k - 1)) OwedBelow d (putted VarTy over (k - 1) (shift (k - 1) 0 u) (deep (k - 1) e) i)) (sym (deep_is (0 + (k - 1)) e))
+      (subst (λ d. each (OwedAt n (k - 1)) OwedBelow (0 + (k - 1) + e) (putted VarTy over (k - 1) (shift (k - 1) 0 u) d i)) (sym (deep_is (k - 1) e))
+      (moves e i (subst (λ d. OwedAt n k d i) (deep_is (0 + k) e) x))))
       (λ e x. let y : 0 + k + e ≤ 2 * max_names = subst OwedBelow (deep_is (0 + k) e) x in subst OwedBelow (sym (deep_is (0 + (k - 1)) e)) (omega arith)) file hf
 
 -- a type put for the one that a package hides

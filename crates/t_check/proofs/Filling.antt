@@ -41,7 +41,8 @@ module _ (n r i at : ℕ) (es : List Entry) (there : IsThere es r at) (e : Entry
     filled_entries h all =
         let own = item_has (IsEntry n) es at e is there.within all in
         let shape = subst (λ t. Bounded e.names t) h.3 own.1 in
-        All-set (IsEntry n) es at f
-        (subst (λ k. k ≤ n) (sym names) own.0,
-         subst (λ k. Bounded k (tree f.ty)) (sym names) (subst (λ t. Bounded e.names t) (sym (made h.0 h.3)) (filled_shallow e.names h.0 i shape)))
+        All-set (IsEntry n) es at f (
+          subst (λ k. k ≤ n) (sym names) own.0,
+          subst (λ k. Bounded k (tree f.ty)) (sym names) (subst (λ t. Bounded e.names t) (sym (made h.0 h.3)) (filled_shallow e.names h.0 i shape)),
+        )
         all

@@ -73,9 +73,10 @@ module _ (P : List TBlock) (k : Registers) (s : Span) where
     plain_ok [] t r owes rest file made some h small is le left done owed e = absurd (omega arith)
     plain_ok (u ∷ us) t r owes rest file made some h small is le left done owed e =
         let few = subst (Bounded k.names) is small in
-        let less = few.0 in
-        ((owes, file, subst (BaseHas P (known k) b) is h, le, e ∙ ap₂ CodeTy left done),
-         subst (Bounded k.names) (sym e) (omega arith, owed))
+        let less = few.0 in (
+          (owes, file, subst (BaseHas P (known k) b) is h, le, e ∙ ap₂ CodeTy left done),
+          subst (Bounded k.names) (sym e) (omega arith, owed),
+        )
 
   -- a package
   pub pack_part : (hidden shape : Ty) (v : TValue) (c : TCode) (p : Span) → ValueFault P (known k) s v c p → ValueFault P (known k) s (Pack hidden v shape) c p

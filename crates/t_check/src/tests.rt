@@ -112,6 +112,9 @@ fn program(alloc: Global, body: Vec<(Instr, Span)>) -> Result<TProgram, OutOfMem
 fn aliases_keep_their_older_type(rt: HostRuntime) -> Result<(), OutOfMemory> {
     let alloc = rt.alloc();
     assert_eq!(rt; fault(check(alloc, stored(alloc, 1)?)), None);
-    assert_eq!(rt; fault(check(alloc, stored(alloc, 2)?)), refused(TCode::T12, 4));
+    assert_eq!(rt;
+        fault(check(alloc, stored(alloc, 2)?)),
+        refused(TCode::T12, 4)
+    );
     Ok(())
 }

@@ -43,4 +43,4 @@ returns-in-Ok-false c =
     let p = c.in-Some.parts in
     subst (λ (r : Result (Unit {0}) TFault). IsEntered P (known k) c.args.span v r) (sym c.refused-in-Ok-false.ensures)
     (enter_regs P k c.args.span v (tree c.in-Ok.t) p.0 (file p.1.regs.items) c.in-Ok.ensures.0 c.in-Some.ensures c.if-owes-ne0.false
-      (λ h. true≢false (sym (c.in-Ok-false.ensures.1 (subst (λ (xs : List (ℕ × TType)). FitsFile (known k) (file xs)) (sym c.deref.ensures.value) h)) ∙ c.in-Ok-false.field-0-test)))
+    (λ h. true≢false (sym (c.in-Ok-false.ensures.1 (subst (λ (xs : List (ℕ × TType)). FitsFile (known k) (file xs)) (sym c.deref.ensures.value) h)) ∙ c.in-Ok-false.field-0-test)))

@@ -6,9 +6,10 @@ use Rattle.t_check.proofs.entering.fits_known.Goals as goal
 
 pub returns-then-not-branch : goal.returns-then-not-branch
 returns-then-not-branch c =
-    let g = known c.args.registers.now in
-    ((λ h. cc),
-     λ h. sym c.if-not-branch.true ∙ c.in_ok-fits_entry-in-Some.ensures.1 (entry_fits g c.reg-item.result _ c.in-Some.ensures.0 (item_has (RegFits g) _ _ _ c.reg-item.is c.loop-reg-test.true (regs_fit g c.args.regs.now h))))
+    let g = known c.args.registers.now in (
+      (λ h. cc),
+      λ h. sym c.if-not-branch.true ∙ c.in_ok-fits_entry-in-Some.ensures.1 (entry_fits g c.reg-item.result _ c.in-Some.ensures.0 (item_has (RegFits g) _ _ _ c.reg-item.is c.loop-reg-test.true (regs_fit g c.args.regs.now h))),
+    )
 
 pub returns-in-None : goal.returns-in-None
 returns-in-None c =

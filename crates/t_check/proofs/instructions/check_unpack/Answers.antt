@@ -33,6 +33,8 @@ returns-in-Ok-note c =
     let P = blocks_of c.args.blocks.now in
     let k = c.args.registers.now in
     let v = value c.args.v.now in
-    let t = tree c.in-Some.body in
-    ((t, subst (Has P (known k) v) c.in-Some.ensures c.in-Ok.ensures.0, c.in-Ok-note.ensures.0 ∙ ap (λ (g : RegTypes). with_reg g c.args.rd t) c.bind.ensures.known),
-     c.in-Ok-note.ensures.1, c.in-Ok-note.ensures.2 ∙ c.bind.ensures.names)
+    let t = tree c.in-Some.body in (
+      (t, subst (Has P (known k) v) c.in-Some.ensures c.in-Ok.ensures.0, c.in-Ok-note.ensures.0 ∙ ap (λ (g : RegTypes). with_reg g c.args.rd t) c.bind.ensures.known),
+      c.in-Ok-note.ensures.1,
+      c.in-Ok-note.ensures.2 ∙ c.bind.ensures.names,
+    )

@@ -44,6 +44,9 @@ returns-in-Ok c =
     let is = ap tree c.in-Tuple.is ∙ tree_Tuple c.in-Tuple.fields in
     let test = c.if-field-len.false in
     let lt : i < length xs = omega (arith, c.in-Tuple.fields.ok.0) in
-    let ok = c.in-Some.ensures.1 in
-    (shown_fields k.names e xs is ok i, c.in-Some.ensures.0 ∙ ap Some (shown_tuple k.names e xs is ok i),
-     part_field k.names e xs is ok i x lt c.index-found.ensures t c.in-Ok.ensures, part_bounded k.names e xs is ok i x lt c.index-found.ensures t c.in-Ok.ensures)
+    let ok = c.in-Some.ensures.1 in (
+      shown_fields k.names e xs is ok i,
+      c.in-Some.ensures.0 ∙ ap Some (shown_tuple k.names e xs is ok i),
+      part_field k.names e xs is ok i x lt c.index-found.ensures t c.in-Ok.ensures,
+      part_bounded k.names e xs is ok i x lt c.index-found.ensures t c.in-Ok.ensures,
+    )

@@ -23,9 +23,9 @@ loop-step-init c =
     record {
       sound = c.in-Ok.ensures.1;
       formed = subst (λ (ys : List (Instr × Span)). WellFormedSeq (length c.args.blocks.now) k.names (seq_of (body ys) (end_of b.«end»))) (sym c.deref-step-items.ensures.value)
-        (subst (λ m. WellFormedSeq (length c.args.blocks.now) m (seq_of (body b.body.items) (end_of b.«end»))) (sym c.in-Ok.ensures.2) formed);
+          (subst (λ m. WellFormedSeq (length c.args.blocks.now) m (seq_of (body b.body.items) (end_of b.«end»))) (sym c.in-Ok.ensures.2) formed);
       left = left_all P (end_of b.«end») b.end_span b.owes k.names (lookup (file b.regs.regs.items)) (known k) xs c.in-Ok.ensures.2
-        (c.in-Ok.ensures.0 ∙ ap (λ (ys : List (ℕ × TType)). lookup (file ys)) c.deref.ensures.value);
+          (c.in-Ok.ensures.0 ∙ ap (λ (ys : List (ℕ × TType)). lookup (file ys)) c.deref.ensures.value);
     }
 
 pub returns-in-Err-check_instr : goal.returns-in-Err-check_instr
@@ -36,9 +36,9 @@ returns-in-Err-check_instr c =
     let items = subst (λ (ys : List (Instr × Span)). IsLeft P (end_of b.«end») b.end_span b.owes l.registers.names (lookup (file b.regs.regs.items)) (known l.registers) ys (drop l.step-index ys)) c.deref-step-items.ensures.value l.invariant.left in
     let lt : l.step-index < length b.body.items = subst (λ (ys : List (Instr × Span)). l.step-index < length ys) c.deref-step-items.ensures.value c.loop-step-test.true in
     says_map c.in-Err-check_instr.e _ (BlockFault P (spanned b))
-      (left_fault P (end_of b.«end») b.end_span b.owes l.registers.names (lookup (file b.regs.regs.items)) (known l.registers) b.body.items l.step-index c.step-item.result lt
-        (subst (λ (ys : List (Instr × Span)). c.step-item.result ≡ get_or ys l.step-index c.step-item.result) c.deref-step-items.ensures.value c.step-item.is) items)
-      c.in-Err-check_instr.ensures
+    (left_fault P (end_of b.«end») b.end_span b.owes l.registers.names (lookup (file b.regs.regs.items)) (known l.registers) b.body.items l.step-index c.step-item.result lt
+    (subst (λ (ys : List (Instr × Span)). c.step-item.result ≡ get_or ys l.step-index c.step-item.result) c.deref-step-items.ensures.value c.step-item.is) items)
+    c.in-Err-check_instr.ensures
 
 pub loop-step-preserved : goal.loop-step-preserved
 loop-step-preserved c =

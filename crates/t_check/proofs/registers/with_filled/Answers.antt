@@ -1,4 +1,4 @@
-use Rattle.std.proofs.Common.{◌≡◌, true,  arith, ap, sym, ◌∙◌}
+use Rattle.std.proofs.Common.{◌≡◌, true, arith, ap, sym, ◌∙◌}
 use Rattle.std.specs.Vec.{with_item}
 use Rattle.t_types.specs.Tree.{TFields, TupleTy}
 use Rattle.t_types.specs.Fields.{AField, field, filled}

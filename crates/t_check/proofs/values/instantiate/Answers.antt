@@ -68,6 +68,7 @@ returns c =
     let count = c.loop-t.invariant.count in
     let stop = c.loop-t.auto.t-index-end in
     let test = c.loop-t-test.false in
-    let left : c.loop-t.left ≡ c.args.owes - length ts = omega arith in
-    (sym (c.loop-t.invariant.same ∙ ap (λ (us : List TType). inst_file (types us) c.loop-t.left (file c.loop-t.regs.items)) rest),
-     subst (λ m. OwedFile n m (file c.loop-t.regs.items)) left c.loop-t.invariant.file)
+    let left : c.loop-t.left ≡ c.args.owes - length ts = omega arith in (
+      sym (c.loop-t.invariant.same ∙ ap (λ (us : List TType). inst_file (types us) c.loop-t.left (file c.loop-t.regs.items)) rest),
+      subst (λ m. OwedFile n m (file c.loop-t.regs.items)) left c.loop-t.invariant.file,
+    )

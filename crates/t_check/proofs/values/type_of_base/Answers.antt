@@ -17,9 +17,10 @@ returns-in-Ok c =
     let k = c.args.known.now in
     let e = c.in-Some.entry.now in
     let t = tree c.in-Ok.t in
-    let found = c.in-Some.ensures in
-    (subst (λ (b : Base). BaseHas (blocks_of c.args.blocks.now) (known k) (base b) t) (sym c.in-Reg.is) (found.0 ∙ ap Some (sym c.in-Ok.ensures)),
-     entry_bounded k.names e t found.1 c.in-Ok.ensures)
+    let found = c.in-Some.ensures in (
+      subst (λ (b : Base). BaseHas (blocks_of c.args.blocks.now) (known k) (base b) t) (sym c.in-Reg.is) (found.0 ∙ ap Some (sym c.in-Ok.ensures)),
+      entry_bounded k.names e t found.1 c.in-Ok.ensures,
+    )
 
 pub returns-in-Ok-label_type : goal.returns-in-Ok-label_type
 returns-in-Ok-label_type c =
@@ -28,6 +29,7 @@ returns-in-Ok-label_type c =
     let b = c.index-blocks-l.result in
     let t = tree c.in-Ok-label_type.t in
     let lt : c.in-Label.l < length bs = subst (λ (x : Base). WellFormedBase (length bs) (base x)) c.in-Label.is c.requires.base in
-    let formed = whole_at bs c.in-Label.l b lt c.index-blocks-l.is c.requires.ready.0 in
-    (subst (λ (x : Base). BaseHas (blocks_of bs) (known k) (base x) t) (sym c.in-Label.is) (block b, block_at bs c.in-Label.l b lt c.index-blocks-l.is, c.in-Ok-label_type.ensures),
-     subst (Bounded k.names) (sym c.in-Ok-label_type.ensures) (label_bounded k.names b.owes (file b.regs.regs.items) formed.0 formed.1))
+    let formed = whole_at bs c.in-Label.l b lt c.index-blocks-l.is c.requires.ready.0 in (
+      subst (λ (x : Base). BaseHas (blocks_of bs) (known k) (base x) t) (sym c.in-Label.is) (block b, block_at bs c.in-Label.l b lt c.index-blocks-l.is, c.in-Ok-label_type.ensures),
+      subst (Bounded k.names) (sym c.in-Ok-label_type.ensures) (label_bounded k.names b.owes (file b.regs.regs.items) formed.0 formed.1),
+    )

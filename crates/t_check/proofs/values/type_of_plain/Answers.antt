@@ -42,4 +42,4 @@ returns-in-Ok-instantiate c =
     let rest = c.in-Some.parts.0 - length us in
     let le = c.if-count-owes.false in
     plain_ok P k c.args.span (base c.args.base) (types us) (tree c.in-Ok.t) (tree (T.Code rest c.in-Ok-instantiate.regs)) c.in-Some.parts.0 rest (file c.in-Some.parts.1.regs.items) (file c.in-Ok-instantiate.regs.regs.items)
-      (some us c.if-is_empty.ensures) c.in-Ok.ensures.0 c.in-Ok.ensures.1 c.in-Some.ensures (omega arith) (omega arith) c.in-Ok-instantiate.ensures.0 c.in-Ok-instantiate.ensures.1 (tree_Code rest c.in-Ok-instantiate.regs)
+    (some us c.if-is_empty.ensures) c.in-Ok.ensures.0 c.in-Ok.ensures.1 c.in-Some.ensures (omega arith) (omega arith) c.in-Ok-instantiate.ensures.0 c.in-Ok-instantiate.ensures.1 (tree_Code rest c.in-Ok-instantiate.regs)

@@ -15,14 +15,15 @@ returns-in-Ok c =
     let e : Entry = record { reg = r; ty = c.args.ty; names = k.names } in
     let es = k.entries.items in
     let at = c.in-Ok.at in
-    let there = c.in-Ok.ensures in
-    (set_known k.names r e refl es at there ∙ ap (with_reg (known_in k.names es) r) (seen_now k.names e refl),
-     record {
-       few = c.requires.sound.few;
-       rising = set_rising k.names r e refl es at there c.requires.sound.rising;
-       entries = All-set (IsEntry k.names) es at e (omega arith, c.requires.bounded) c.requires.sound.entries;
-     },
-     refl)
+    let there = c.in-Ok.ensures in (
+      set_known k.names r e refl es at there ∙ ap (with_reg (known_in k.names es) r) (seen_now k.names e refl),
+      record {
+        few = c.requires.sound.few;
+        rising = set_rising k.names r e refl es at there c.requires.sound.rising;
+        entries = All-set (IsEntry k.names) es at e (omega arith, c.requires.bounded) c.requires.sound.entries;
+      },
+      refl,
+    )
 
 pub returns-in_ok-insert-in-Err : goal.returns-in_ok-insert-in-Err
 returns-in_ok-insert-in-Err c =
@@ -33,11 +34,12 @@ returns-in_ok-insert-in-Err c =
     let at = c.in-Err.at in
     let gap = c.in-Err.ensures in
     let made : c.insert.new.self.items ≡ insert es at e = search rules in
-    let some = c.requires.register in
-    (ap (known_in k.names) made ∙ insert_known k.names r e refl es at gap ∙ ap (with_reg (known_in k.names es) r) (seen_now k.names e refl),
-     record {
-       few = c.requires.sound.few;
-       rising = subst (Rising 0) (sym made) (insert_rising k.names r e refl es at (omega arith) gap c.requires.sound.rising);
-       entries = All-same (IsEntry k.names) c.insert.new.self.items (insert es at e) made (insert_all (IsEntry k.names) es at e (omega arith, c.requires.bounded) c.requires.sound.entries);
-     },
-     refl)
+    let some = c.requires.register in (
+      ap (known_in k.names) made ∙ insert_known k.names r e refl es at gap ∙ ap (with_reg (known_in k.names es) r) (seen_now k.names e refl),
+      record {
+        few = c.requires.sound.few;
+        rising = subst (Rising 0) (sym made) (insert_rising k.names r e refl es at (omega arith) gap c.requires.sound.rising);
+        entries = All-same (IsEntry k.names) c.insert.new.self.items (insert es at e) made (insert_all (IsEntry k.names) es at e (omega arith, c.requires.bounded) c.requires.sound.entries);
+      },
+      refl,
+    )

@@ -11,7 +11,8 @@ returns c =
     let es = c.loop-reg.entries.items in
     let xs = c.args.regs.now in
     let same : map noted es ≡ map reg xs = c.loop-reg.invariant.same ∙ ap (λ (ys : List (ℕ × TType)). map reg ys) (take_all c.loop-reg.reg-index xs c.loop-reg-test.false) in
-    let names = c.loop-reg.invariant.names in
-    (block_known n es xs same names,
-     record { few = c.requires.few; rising = block_rising n es xs same names c.requires.file; entries = block_entries n es xs same names c.requires.file },
-     refl)
+    let names = c.loop-reg.invariant.names in (
+      block_known n es xs same names,
+      record { few = c.requires.few; rising = block_rising n es xs same names c.requires.file; entries = block_entries n es xs same names c.requires.file },
+      refl,
+    )

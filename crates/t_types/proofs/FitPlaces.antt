@@ -4,6 +4,7 @@ use Rattle.t_types.specs.declared.types.TType.{TType}
 use Rattle.t_types.specs.Tree.{Ty, TupleTy, TFields, NoFields, MoreFields}
 use Rattle.t_types.specs.Fits.{Fits, FieldsFit}
 use Rattle.t_types.specs.Read.{tree, fields}
+use Rattle.t_types.specs.FitsLaws.{fields_fit_same}
 use Rattle.t_types.proofs.Equal.{get_any}
 
 abbrev pub FieldFits : TType × Bool → TType × Bool → Type 0
@@ -31,14 +32,9 @@ fit_all (x ∷ a) (y ∷ b) e h =
 fit_all [] (y ∷ b) e h = absurd (omega arith)
 fit_all (x ∷ a) [] e h = absurd (omega arith)
 
--- fields fit themselves
-pub fields_refl : (fs : TFields) → FieldsFit fs fs
-fields_refl NoFields = tt
-fields_refl (MoreFields t flag fs) = (refl, (λ h. h), fields_refl fs)
-
 -- tuple types fit only where their fields do
 pub tuples_fit : (t u : Ty) (fs gs : TFields) → t ≡ TupleTy fs → u ≡ TupleTy gs → Fits t u → FieldsFit fs gs
-tuples_fit t u fs gs a b (inl e) = let same : fs ≡ gs = cc in subst (FieldsFit fs) same (fields_refl fs)
+tuples_fit t u fs gs a b (inl e) = let same : fs ≡ gs = cc in subst (FieldsFit fs) same (fields_fit_same fs)
 tuples_fit t u fs gs a b (inr h) =
     let e = h.2 in let k = h.3 in
     let left : fs ≡ h.0 = cc in

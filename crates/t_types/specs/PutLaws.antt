@@ -2,40 +2,15 @@
 use Rattle.std.proofs.Common.{◌≡◌, ℕ, ◌+◌, ◌-◌, ◌<◌, ◌≤◌, ◌⊎◌, inl, inr, refl, sym, ap, ap₂, ◌∙◌, arith}
 use Rattle.std.proofs.lemmas.Bool.{cases_lt, cases_order}
 use Rattle.idx_core.specs.Over.{At, Over, deep, shifted, putted, IsOver}
-use Rattle.idx_core.specs.Laws.{deep_is, shifted_lt, shifted_ge, putted_lt, putted_eq, putted_gt, shift_add, shift_shift, put_put, shift_zero_law}
+use Rattle.idx_core.specs.Laws.{deep_is, shifted_lt, shifted_ge, putted_lt, putted_eq, putted_gt, shift_past, put_put, shift_zero_law}
+use Rattle.idx_core.specs.Steps.{put_step}
 use Rattle.t_types.specs.Tree.{Ty, VarTy, over, shift, put, put_from}
 use Rattle.t_types.specs.TreeLaws.{types_part, types_over}
 
--- what a shift shifts further
-pub shift_past : (m n c : ℕ) (u : Ty) → c ≤ m → shift n c (shift m 0 u) ≡ shift (m + n) 0 u
-shift_past m n c u le =
-    let back : m - c + c ≡ m = omega arith in
-    let on : m - c + n + c ≡ m + n = omega arith in
-    let start : 0 + c ≡ c = omega arith in
-    ap (shift n c) (sym (shift_add types_part types_over (m - c) c 0 u ∙ ap (λ k. shift k 0 u) back))
-    ∙ sym (shift_shift types_part types_over n 0 c 0 (shift (m - c) 0 u) (omega arith) ∙ ap (λ k. shift n k (shift c 0 (shift (m - c) 0 u))) start)
-    ∙ ap (shift c 0) (shift_add types_part types_over (m - c) n 0 u)
-    ∙ shift_add types_part types_over (m - c + n) c 0 u
-    ∙ ap (λ k. shift k 0 u) on
-
 module _ {T : Type 0} {over_tree : Over Ty T} (is : IsOver Ty T VarTy over over_tree) where
-  -- walks that agree from their depths on
-  pub same_walk : (f g : At Ty) (a c : ℕ) → ((e i : ℕ) → f (deep a e) i ≡ g (deep c e) i) → (t : T) → over_tree f a t ≡ over_tree g c t
-  same_walk f g a c h t =
-      sym (is.keeps (λ d i. VarTy i) a (λ e i. refl) (over_tree f a t))
-      ∙ is.after f (λ d i. VarTy i) g a a c (λ e i. types_over.keeps (λ d j. VarTy j) (deep a e) (λ x j. refl) (f (deep a e) i) ∙ h e i) t
-
   -- a put for c, seen below d - c binders, is a put for d
   pub put_below_is : (c d x : ℕ) (s : Ty) (t : T) → c ≤ d → d ≤ x → over_tree (putted VarTy over c s) x t ≡ over_tree (putted VarTy over d (shift (d - c) 0 s)) x t
-  put_below_is c d x s t h k = same_walk (putted VarTy over c s) (putted VarTy over d (shift (d - c) 0 s)) x x (λ e i. rw (deep_is x e) (here e i (cases_order i (x + e)))) t
-    where
-      here : (e i : ℕ) → (i ≡ x + e) ⊎ ((i < x + e) ⊎ (x + e < i)) → putted VarTy over c s (x + e) i ≡ putted VarTy over d (shift (d - c) 0 s) (x + e) i
-      here e i (inl o) =
-          let sum : d - c + (x + e - d) ≡ x + e - c = omega arith in
-          putted_eq VarTy over c s (x + e) i o
-          ∙ sym (putted_eq VarTy over d (shift (d - c) 0 s) (x + e) i o ∙ shift_add types_part types_over (d - c) (x + e - d) 0 s ∙ ap (λ n. shift n 0 s) sum)
-      here e i (inr (inl o)) = putted_lt VarTy over c s (x + e) i o ∙ sym (putted_lt VarTy over d (shift (d - c) 0 s) (x + e) i o)
-      here e i (inr (inr o)) = putted_gt VarTy over c s (x + e) i o ∙ sym (putted_gt VarTy over d (shift (d - c) 0 s) (x + e) i o)
+  put_below_is c d x s t h k = put_step types_part is c d x s t h k
 
   -- a put past a shift: the shift of the put
   pub put_shifted : (c d k : ℕ) (s : Ty) (t : T) → c ≤ d → over_tree (putted VarTy over c s) (d + k) (over_tree (shifted VarTy k) 0 t) ≡ over_tree (shifted VarTy k) 0 (over_tree (putted VarTy over c s) d t)
@@ -56,7 +31,7 @@ module _ {T : Type 0} {over_tree : Over Ty T} (is : IsOver Ty T VarTy over over_
       here e i (inr g) (inl o) =
           let far : d + k + e - c ≡ d + (0 + e) - c + k = omega arith in
           ap (over (putted VarTy over c s) (d + k + e)) (shifted_ge VarTy k (0 + e) i g) ∙ putted_eq VarTy over c s (d + k + e) (i + k) (omega arith) ∙ ap (λ n. shift n 0 s) far
-          ∙ sym (ap (shift k (0 + e)) (putted_eq VarTy over c s (d + (0 + e)) i (omega arith)) ∙ shift_past (d + (0 + e) - c) k (0 + e) s (omega arith))
+          ∙ sym (ap (shift k (0 + e)) (putted_eq VarTy over c s (d + (0 + e)) i (omega arith)) ∙ shift_past types_part (d + (0 + e) - c) k (0 + e) s (omega arith))
       here e i (inr g) (inr (inl o)) =
           ap (over (putted VarTy over c s) (d + k + e)) (shifted_ge VarTy k (0 + e) i g) ∙ putted_lt VarTy over c s (d + k + e) (i + k) (omega arith)
           ∙ sym (ap (shift k (0 + e)) (putted_lt VarTy over c s (d + (0 + e)) i (omega arith)) ∙ shifted_ge VarTy k (0 + e) i g)
@@ -75,7 +50,7 @@ put_past_put {over_tree = over_tree} is c d k s u t le =
     ∙ put_put types_part is k (d + k) (shift k 0 u) (shift (d + k - c) 0 s) t (omega arith)
     ∙ ap₂ (λ x y. over_tree (putted VarTy over k x) k (over_tree (putted VarTy over (d + k + 1) y) (d + k + 1) t))
     (sym (put_below_is types_over c (d + k) (d + k) s (shift k 0 u) (omega arith) (omega arith)) ∙ put_shifted types_over c d k s u le)
-    (shift_past (d + k - c) 1 k s (omega arith) ∙ ap (λ n. shift n 0 s) far)
+    (shift_past types_part (d + k - c) 1 k s (omega arith) ∙ ap (λ n. shift n 0 s) far)
     ∙ ap (over_tree (putted VarTy over k (shift k 0 (put_from c s d u))) k) (sym (put_below_is is c (d + k + 1) (d + k + 1) s t (omega arith) (omega arith)))
 
 -- past a put for the innermost variable

@@ -1,1 +1,3 @@
+pub mod Resolve
+pub mod Scope
 pub mod Text

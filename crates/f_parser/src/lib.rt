@@ -3,5 +3,6 @@
 
 pub mod laws;
 pub mod reader;
+pub mod resolve;
 
 pub use reader::parse;

@@ -1,0 +1,160 @@
+-- How the resolving of a whole follows from that of its parts.
+use Rattle.std.specs.Prelude.{Result, Ok, Err, MatchResult, Box}
+use Rattle.std.proofs.Common.{◌≡◌, ◌<◌, ◌≤◌, ◌+◌, ℕ, List, [], ◌∷◌, ◌++◌, map, take, drop, length, get_or, Vec, Global, refl, sym, ◌∙◌, ap, subst, append_assoc, arith, true, false}
+use Rattle.std.proofs.lemmas.List.{append-nil, map-append, take_more, take-append-drop, drop_more, take_all}
+use mathlib.Core.Former.{Count}
+use Rattle.idx_core.specs.declared.span.Span.{Span}
+use Rattle.idx_core.specs.Names.{Name, IsAbsent}
+use Rattle.f_terms.specs.declared.types.FType.{FType, Row_of-FType, end_of-FType, more_of-FType, items-the_row-FType, items_hidden-the_row-FType-0}
+use Rattle.f_terms.specs.declared.types.FType.TheVariants as ftype
+use Rattle.f_terms.specs.declared.term.FTerm.{FTerm}
+use Rattle.f_terms.specs.declared.term.FForm.{FForm, Row_of-FTerm, end_of-FTerm, more_of-FTerm, items-the_row-FTerm, items_hidden-the_row-FTerm-0}
+use Rattle.f_terms.specs.declared.term.FForm.TheVariants as fform
+use Rattle.f_terms.specs.Ty.{Ty, TTuple, Tys, MoreTys, tys}
+use Rattle.f_terms.specs.Tm.{Tm, STuple, Spn, Tms, MoreTms, tms}
+use Rattle.f_terms.specs.Read.{tree, trees, spanned, form_tree, row_trees, place}
+use Rattle.f_grammar.specs.Raw.{RawTy, RTuple, RawTys, raw_tys, RawTm, RFields, RawTms, raw_tms}
+use Rattle.f_grammar.specs.Reads.{type_of}
+use Rattle.f_grammar.specs.declared.raw.RawType.{RawType}
+use Rattle.f_grammar.specs.declared.raw.RawType.TheVariants as rtype
+use Rattle.f_grammar.proofs.Typing.{type_Tuple}
+use Rattle.f_grammar.specs.declared.raw.RawTerm.{RawTerm}
+use Rattle.f_grammar.specs.declared.raw.RawTerm.TheVariants as rterm
+use Rattle.f_reader.specs.Kept.{tree_of}
+use Rattle.f_reader.proofs.Fields.{tree_Tuple}
+use Rattle.f_parser.specs.Scope.{spelled, use_at, TypeOf, of_tuple, TypesOf, of_no_types, of_more_types, TermOf, of_fields, TermsOf, of_no_terms, of_more_terms, Use, type_uses, types_uses, uses, all_uses, AllBound, IsFirstUnbound}
+use Rattle.f_parser.specs.Resolve.{StopsAt}
+use Rattle.f_parser.specs.declared.resolve.Unresolved.{Unresolved}
+use Rattle.f_parser.specs.declared.resolve.Unresolved.TheVariants.{Memory, Value, «Type»}
+use Rattle.f_parser.proofs.Bound.{joined, type_bound, types_bound, term_bound, terms_bound, first_left, first_right}
+
+-- a stop in a part
+pub stops_left : (text : List ℕ) (a b : List Use) (e : Unresolved) → StopsAt text a e → StopsAt text (a ++ b) e
+stops_left text a b Memory h = tt
+stops_left text a b (Value s) h = (h.0, first_left text a b h.0 h.1, h.2, h.3)
+stops_left text a b («Type» s) h = (h.0, first_left text a b h.0 h.1, h.2, h.3)
+
+pub stops_right : (text : List ℕ) (a b : List Use) (e : Unresolved) → AllBound text a → StopsAt text b e → StopsAt text (a ++ b) e
+stops_right text a b Memory g h = tt
+stops_right text a b (Value s) g h = (h.0, first_right text a b h.0 g h.1, h.2, h.3)
+stops_right text a b («Type» s) g h = (h.0, first_right text a b h.0 g h.1, h.2, h.3)
+
+-- the tree of a tuple type, and of a tuple
+abbrev type_row : FType → (n : Count) × Row_of-FType n
+type_row (ftype.Tuple' _ row) = (_, row)
+type_row _ = (_, end_of-FType)
+
+types_items : (n : _) (row : Row_of-FType n) → trees row ≡ tys (map tree (items-the_row-FType n row))
+types_items n end_of-FType = refl
+types_items n (more_of-FType t rest) = ap (λ (ts : Tys). MoreTys (tree t) ts) (types_items _ rest)
+
+pub tuple_type : (ts : Vec FType Global) → tree (ftype.Tuple ts) ≡ TTuple (tys (map tree ts.items))
+tuple_type ts =
+  let row = type_row (ftype.Tuple ts) in
+  ap TTuple (types_items row.0 row.1 ∙ ap (λ (xs : List FType). tys (map tree xs)) (items_hidden-the_row-FType-0 ts))
+
+abbrev term_row : FForm → (n : Count) × Row_of-FTerm n
+term_row (fform.Tuple' _ row) = (_, row)
+term_row _ = (_, end_of-FTerm)
+
+terms_items : (n : _) (row : Row_of-FTerm n) → row_trees row ≡ tms (map spanned (items-the_row-FTerm n row))
+terms_items n end_of-FTerm = refl
+terms_items n (more_of-FTerm s e rest) = ap (λ (ts : Tms). MoreTms (form_tree (place s) e) ts) (terms_items _ rest)
+
+pub tuple_term : (s : Spn) (ts : Vec FTerm Global) → form_tree s (fform.Tuple ts) ≡ STuple s (tms (map spanned ts.items))
+tuple_term s ts =
+  let row = term_row (fform.Tuple ts) in
+  ap (λ (x : Tms). STuple s x) (terms_items row.0 row.1 ∙ ap (λ (xs : List FTerm). tms (map spanned xs)) (items_hidden-the_row-FTerm-0 ts))
+
+-- types one after the other
+module _ (text : List ℕ) (a : List Name) where
+  pub types_push : (us : List RawTy) (ws : List Ty) (u : RawTy) (w : Ty) → TypesOf text a (raw_tys us) (tys ws) → TypeOf text a u w → TypesOf text a (raw_tys (us ++ u ∷ [])) (tys (ws ++ w ∷ []))
+  types_push [] [] u w h g = of_more_types g of_no_types
+  types_push [] (x ∷ ws) u w h g = absurd (elim h [ ])
+  types_push (x ∷ us) [] u w h g = absurd (elim h [ ])
+  types_push (x ∷ us) (y ∷ ws) u w (of_more_types p h) g = of_more_types p (types_push us ws u w h g)
+
+  pub types_uses_append : (us vs : List RawTy) → types_uses text a (raw_tys (us ++ vs)) ≡ types_uses text a (raw_tys us) ++ types_uses text a (raw_tys vs)
+  types_uses_append [] vs = refl
+  types_uses_append (u ∷ us) vs = ap (λ (x : List Use). type_uses text a u ++ x) (types_uses_append us vs) ∙ sym (append_assoc (type_uses text a u) (types_uses text a (raw_tys us)) (types_uses text a (raw_tys vs)))
+
+  -- a stop at one of them
+  pub types_stop : (us vs : List RawTy) (u : RawTy) (ws : List Ty) (e : Unresolved) → TypesOf text a (raw_tys us) (tys ws) → StopsAt text (type_uses text a u) e →
+    StopsAt text (types_uses text a (raw_tys (us ++ u ∷ vs))) e
+  types_stop us vs u ws e h g = rw types_uses_append
+    (stops_right text (types_uses text a (raw_tys us)) (type_uses text a u ++ types_uses text a (raw_tys vs)) e (types_bound h) (stops_left text (type_uses text a u) (types_uses text a (raw_tys vs)) e g))
+
+-- terms one after the other
+module _ (text : List ℕ) (v a : List Name) where
+  pub terms_push : (us : List RawTm) (ws : List Tm) (u : RawTm) (w : Tm) → TermsOf text v a (raw_tms us) (tms ws) → TermOf text v a u w → TermsOf text v a (raw_tms (us ++ u ∷ [])) (tms (ws ++ w ∷ []))
+  terms_push [] [] u w h g = of_more_terms g of_no_terms
+  terms_push [] (x ∷ ws) u w h g = absurd (elim h [ ])
+  terms_push (x ∷ us) [] u w h g = absurd (elim h [ ])
+  terms_push (x ∷ us) (y ∷ ws) u w (of_more_terms p h) g = of_more_terms p (terms_push us ws u w h g)
+
+  pub all_uses_append : (us vs : List RawTm) → all_uses text v a (raw_tms (us ++ vs)) ≡ all_uses text v a (raw_tms us) ++ all_uses text v a (raw_tms vs)
+  all_uses_append [] vs = refl
+  all_uses_append (u ∷ us) vs = ap (λ (x : List Use). uses text v a u ++ x) (all_uses_append us vs) ∙ sym (append_assoc (uses text v a u) (all_uses text v a (raw_tms us)) (all_uses text v a (raw_tms vs)))
+
+  pub terms_stop : (us vs : List RawTm) (u : RawTm) (ws : List Tm) (e : Unresolved) → TermsOf text v a (raw_tms us) (tms ws) → StopsAt text (uses text v a u) e →
+    StopsAt text (all_uses text v a (raw_tms (us ++ u ∷ vs))) e
+  terms_stop us vs u ws e h g = rw all_uses_append
+    (stops_right text (all_uses text v a (raw_tms us)) (uses text v a u ++ all_uses text v a (raw_tms vs)) e (terms_bound h) (stops_left text (uses text v a u) (all_uses text v a (raw_tms vs)) e g))
+
+-- a list by an item that a loop reads
+split_at : {X Y : Type 0} (f : X → Y) (xs : List X) (i : ℕ) (x : X) → x ≡ get_or xs i x → i < length xs → map f xs ≡ map f (take i xs) ++ f x ∷ map f (drop (i + 1) xs)
+split_at {X} f xs i x e l =
+  let d : drop i xs ≡ x ∷ drop (i + 1) xs = drop_more xs i x l ∙ ap (λ (y : X). y ∷ drop (i + 1) xs) (sym e) in
+  ap (λ (ys : List X). map f ys) (sym (take-append-drop i xs)) ∙ (map-append f (take i xs) (drop i xs) ∙ rw d refl)
+
+map_take : {X Y : Type 0} (f : X → Y) (xs : List X) (i : ℕ) (x : X) → x ≡ get_or xs i x → i < length xs → map f (take (i + 1) xs) ≡ map f (take i xs) ++ f x ∷ []
+map_take {X} f xs i x e l = ap (λ (ys : List X). map f ys) (take_more xs i x l ∙ ap (λ (y : X). take i xs ++ y ∷ []) (sym e)) ∙ map-append f (take i xs) (x ∷ [])
+
+-- the loop over the parts of a tuple type
+module _ (text : List ℕ) (a : List Name) (self : RawType) (parts : Vec RawType Global) (xs : List RawType) (is : self ≡ rtype.Tuple parts) (same : xs ≡ parts.items) where
+  type_tree : type_of self ≡ RTuple (raw_tys (map type_of xs))
+  type_tree = ap type_of is ∙ (type_Tuple parts ∙ ap (λ (ys : List RawType). RTuple (raw_tys (map type_of ys))) (sym same))
+
+  pub type_parts_stop : (i : ℕ) (x : RawType) (ws : List Ty) (e : Unresolved) → x ≡ get_or xs i x → i < length xs → TypesOf text a (raw_tys (map type_of (take i xs))) (tys ws) →
+    StopsAt text (type_uses text a (type_of x)) e → StopsAt text (type_uses text a (type_of self)) e
+  type_parts_stop i x ws e g l h s = rw (type_tree, split_at type_of xs i x g l)
+    (types_stop text a (map type_of (take i xs)) (map type_of (drop (i + 1) xs)) (type_of x) ws e h s)
+
+  pub type_parts_whole : (n : ℕ) (made : Vec FType Global) → length xs ≤ n → TypesOf text a (raw_tys (map type_of (take n xs))) (tys (map tree made.items)) → TypeOf text a (type_of self) (tree (ftype.Tuple made))
+  type_parts_whole n made l h = rw (type_tree, tuple_type made) (of_tuple (subst (λ (ys : List RawType). TypesOf text a (raw_tys (map type_of ys)) (tys (map tree made.items))) (take_all n xs l) h))
+
+pub type_parts_more : (text : List ℕ) (a : List Name) (xs : List RawType) (i : ℕ) (x : RawType) (old new : List FType) (t : FType) → x ≡ get_or xs i x → i < length xs → new ≡ old ++ t ∷ [] →
+  TypesOf text a (raw_tys (map type_of (take i xs))) (tys (map tree old)) → TypeOf text a (type_of x) (tree t) → TypesOf text a (raw_tys (map type_of (take (i + 1) xs))) (tys (map tree new))
+type_parts_more text a xs i x old new t g l e h s =
+  rw (map_take type_of xs i x g l, e, map-append tree old (t ∷ [])) (types_push text a (map type_of (take i xs)) (map tree old) (type_of x) (tree t) h s)
+
+-- the loop over the fields of a tuple
+module _ (text : List ℕ) (v a : List Name) (self : RawTerm) (span : _) (parts : Vec RawTerm Global) (xs : List RawTerm) (is : self ≡ rterm.Tuple span parts) (same : xs ≡ parts.items) where
+  term_tree : tree_of self ≡ RFields span (raw_tms (map tree_of xs))
+  term_tree = ap tree_of is ∙ (tree_Tuple span parts ∙ ap (λ (ys : List RawTerm). RFields span (raw_tms (map tree_of ys))) (sym same))
+
+  pub parts_stop : (i : ℕ) (x : RawTerm) (ws : List Tm) (e : Unresolved) → x ≡ get_or xs i x → i < length xs → TermsOf text v a (raw_tms (map tree_of (take i xs))) (tms ws) →
+    StopsAt text (uses text v a (tree_of x)) e → StopsAt text (uses text v a (tree_of self)) e
+  parts_stop i x ws e g l h s = rw (term_tree, split_at tree_of xs i x g l)
+    (terms_stop text v a (map tree_of (take i xs)) (map tree_of (drop (i + 1) xs)) (tree_of x) ws e h s)
+
+  pub parts_whole : (n : ℕ) (made : Vec FTerm Global) → length xs ≤ n → TermsOf text v a (raw_tms (map tree_of (take n xs))) (tms (map spanned made.items)) → TermOf text v a (tree_of self) (form_tree (place span) (fform.Tuple made))
+  parts_whole n made l h = rw (term_tree, tuple_term (place span) made) (of_fields span (subst (λ (ys : List RawTerm). TermsOf text v a (raw_tms (map tree_of ys)) (tms (map spanned made.items))) (take_all n xs l) h))
+
+pub parts_more : (text : List ℕ) (v a : List Name) (xs : List RawTerm) (i : ℕ) (x : RawTerm) (old new : List FTerm) (t : FTerm) → x ≡ get_or xs i x → i < length xs → new ≡ old ++ t ∷ [] →
+  TermsOf text v a (raw_tms (map tree_of (take i xs))) (tms (map spanned old)) → TermOf text v a (tree_of x) (spanned t) → TermsOf text v a (raw_tms (map tree_of (take (i + 1) xs))) (tms (map spanned new))
+parts_more text v a xs i x old new t g l e h s =
+  rw (map_take tree_of xs i x g l, e, map-append spanned old (t ∷ [])) (terms_push text v a (map tree_of (take i xs)) (map spanned old) (tree_of x) (spanned t) h s)
+
+-- a name that has no binder
+pub type_name_stop : (text : List ℕ) (a : List Name) (self : RawType) (s : Span) → self ≡ rtype.Name s → IsAbsent (spelled text s) a → StopsAt text (type_uses text a (type_of self)) («Type» s)
+type_name_stop text a self s is h = rw is (use_at s true a, record { before = []; after = []; place = refl; bound = tt; unbound = h }, refl, refl)
+
+pub name_stop : (text : List ℕ) (v a : List Name) (self : RawTerm) (s : Span) → self ≡ rterm.Var s → IsAbsent (spelled text s) v → StopsAt text (uses text v a (tree_of self)) (Value s)
+name_stop text v a self s is h = rw is (use_at s false v, record { before = []; after = []; place = refl; bound = tt; unbound = h }, refl, refl)
+
+-- a term that is made in a box, with the names in scope as before
+pub made : (text : List ℕ) (v a w b : List Name) (raw : RawTm) (whole : FTerm) (r : Result (Box FTerm Global) Unresolved) → MatchResult r (λ t. t.value ≡ whole) (λ e. e ≡ Memory) → w ≡ v → b ≡ a →
+  TermOf text v a raw (spanned whole) → MatchResult r (λ t. (w ≡ v) × (b ≡ a) × TermOf text v a raw (spanned t.value)) (λ e. StopsAt text (uses text v a raw) e)
+made text v a w b raw whole (Ok t) h p q x = (p, q, rw h x)
+made text v a w b raw whole (Err e) h p q x = rw h tt

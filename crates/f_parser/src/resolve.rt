@@ -1,0 +1,190 @@
+// The binding of names.
+ghost use Rattle.std.specs.Prelude.{◌≡◌, MatchResult, OnOk};
+ghost use Rattle.idx_core.specs.Names.{Name};
+ghost use Rattle.f_terms.specs.Ty.{TArrow, TAll};
+ghost use Rattle.f_terms.specs.Read.{tree, spanned};
+ghost use Rattle.f_grammar.specs.Reads.{type_of};
+ghost use Rattle.f_reader.specs.Kept.{tree_of};
+ghost use Rattle.f_parser.specs.Scope.{spelled, TypeOf, TermOf, type_uses, uses};
+ghost use Rattle.f_parser.specs.Resolve.{StopsAt};
+ghost use Rattle.f_parser.specs.declared.resolve.Unresolved.TheVariants as stopped;
+
+use f_grammar::{RawTerm, RawType};
+use f_terms::{FForm, FTerm, FType};
+use idx_core::{Names, OutOfMemory, Span};
+use std::alloc::{AllocError, AllocFailed, Global};
+
+/// Why the names of a tree are not resolved: the place of the first name that has no binder.
+#[derive(Debug, Drop)]
+pub enum Unresolved {
+    Memory,
+    Value(Span),
+    Type(Span),
+}
+
+impl From<OutOfMemory> for Unresolved {
+    ghost from_gives = { λ _ e. e ≡ stopped.Memory };
+
+    fn from(_: OutOfMemory) -> Unresolved {
+        Unresolved::Memory
+    }
+}
+
+impl From<AllocError> for Unresolved {
+    ghost from_gives = { λ _ e. e ≡ stopped.Memory };
+
+    fn from(_: AllocError) -> Unresolved {
+        Unresolved::Memory
+    }
+}
+
+impl<T: Drop> From<AllocFailed<T>> for Unresolved {
+    ghost from_gives = { λ _ e. e ≡ stopped.Memory };
+
+    fn from(_: AllocFailed<T>) -> Unresolved {
+        Unresolved::Memory
+    }
+}
+
+/// The bytes of a text at a place, as far as it has them.
+pub fn spelling<'a>(text: &'a [u8], span: Span) -> &'a [u8]
+    ensures { result.now ≡ spelled text.now span }
+{
+    let end = (span.end as usize).min(text.len());
+    let start = (span.start as usize).min(end);
+    &text[start..end]
+}
+
+fn arrow(alloc: Global, a: FType, b: FType) -> Result<FType, Unresolved>
+    ensures { MatchResult result (λ t. tree t ≡ TArrow (tree a) (tree b)) (λ e. e ≡ stopped.Memory) }
+{
+    Ok(FType::Arrow(Box::new(alloc, a)?, Box::new(alloc, b)?))
+}
+
+fn all(alloc: Global, body: FType) -> Result<FType, Unresolved>
+    ensures { MatchResult result (λ t. tree t ≡ TAll (tree body)) (λ e. e ≡ stopped.Memory) }
+{
+    Ok(FType::All(Box::new(alloc, body)?))
+}
+
+// a term in a box, as a part of another one
+fn boxed(alloc: Global, span: Span, form: FForm) -> Result<Box<FTerm>, Unresolved>
+    ensures { MatchResult result (λ t. t.value ≡ record { span = span; form = form }) (λ e. e ≡ stopped.Memory) }
+{
+    Ok(Box::new(alloc, FTerm { span, form })?)
+}
+
+/// A type with its names resolved, where these type names are in scope. They are as before where the answer is a
+/// type.
+pub fn type_in_scope(alloc: Global, text: &[u8], ty: &RawType, types: &mut Names) -> Result<FType, Unresolved>
+    ensures kept { OnOk result (types.new ≡ types.old) }
+    ensures right {
+        MatchResult result (λ t. TypeOf text.now types.old (type_of ty.now) (tree t))
+            (λ e. StopsAt text.now (type_uses text.now types.old (type_of ty.now)) e)
+    }
+{
+    match ty {
+        RawType::Int => Ok(FType::Int),
+        RawType::Name(span) => match types.find(spelling(text, *span)) {
+            Some(place) => Ok(FType::Var(place)),
+            None => Err(Unresolved::Type(*span)),
+        },
+        RawType::Tuple(parts) => {
+            let mut found = Vec::new(alloc);
+            for part in parts {
+                let one = type_in_scope(alloc, text, part, types)?;
+                found.push(one)?;
+            }
+            Ok(FType::Tuple(found))
+        }
+        RawType::Arrow(a, b) => {
+            let left = type_in_scope(alloc, text, a, types)?;
+            let right = type_in_scope(alloc, text, b, types)?;
+            let whole = arrow(alloc, left, right)?;
+            Ok(whole)
+        }
+        RawType::All(name, body) => {
+            types.push(spelling(text, *name))?;
+            let inner = type_in_scope(alloc, text, body, types)?;
+            types.pop();
+            let whole = all(alloc, inner)?;
+            Ok(whole)
+        }
+    }
+}
+
+/// A term with its names resolved, where these value names and type names are in scope. They are as before where the
+/// answer is a term.
+#[tactic(none)]
+pub fn term_in_scope(alloc: Global, text: &[u8], term: &RawTerm, values: &mut Names, types: &mut Names) -> Result<Box<FTerm>, Unresolved>
+    ensures {
+        MatchResult result
+            (λ t. (values.new ≡ values.old) × (types.new ≡ types.old)
+                × TermOf text.now values.old types.old (tree_of term.now) (spanned t.value))
+            (λ e. StopsAt text.now (uses text.now values.old types.old (tree_of term.now)) e)
+    }
+{
+    match term {
+        RawTerm::Var(span) => match values.find(spelling(text, *span)) {
+            Some(place) => boxed(alloc, *span, FForm::Var(place)),
+            None => Err(Unresolved::Value(*span)),
+        },
+        RawTerm::Num(span, value) => boxed(alloc, *span, FForm::Int(*value)),
+        RawTerm::Fix {
+            span,
+            name,
+            parameter,
+            takes,
+            gives,
+            body,
+        } => {
+            let arg = type_in_scope(alloc, text, takes, types)?;
+            let res = type_in_scope(alloc, text, gives, types)?;
+            values.push(spelling(text, *name))?;
+            values.push(spelling(text, *parameter))?;
+            let body = term_in_scope(alloc, text, body, values, types)?;
+            values.pop();
+            values.pop();
+            boxed(alloc, *span, FForm::Fix { arg, res, body })
+        }
+        RawTerm::Gen(span, name, body) => {
+            types.push(spelling(text, *name))?;
+            let body = term_in_scope(alloc, text, body, values, types)?;
+            types.pop();
+            boxed(alloc, *span, FForm::Gen(body))
+        }
+        RawTerm::App(span, a, b) => {
+            let function = term_in_scope(alloc, text, a, values, types)?;
+            let argument = term_in_scope(alloc, text, b, values, types)?;
+            boxed(alloc, *span, FForm::App(function, argument))
+        }
+        RawTerm::Inst(span, a, ty) => {
+            let function = term_in_scope(alloc, text, a, values, types)?;
+            let ty = type_in_scope(alloc, text, ty, types)?;
+            boxed(alloc, *span, FForm::Inst(function, ty))
+        }
+        RawTerm::Tuple(span, parts) => {
+            let mut fields = Vec::new(alloc);
+            for part in parts {
+                let field = term_in_scope(alloc, text, part, values, types)?;
+                fields.push(Box::into_inner(field))?;
+            }
+            boxed(alloc, *span, FForm::Tuple(fields))
+        }
+        RawTerm::Proj(span, field, a) => {
+            let tuple = term_in_scope(alloc, text, a, values, types)?;
+            boxed(alloc, *span, FForm::Proj(*field, tuple))
+        }
+        RawTerm::Arith(span, op, a, b) => {
+            let left = term_in_scope(alloc, text, a, values, types)?;
+            let right = term_in_scope(alloc, text, b, values, types)?;
+            boxed(alloc, *span, FForm::Arith(*op, left, right))
+        }
+        RawTerm::If0(span, a, b, c) => {
+            let test = term_in_scope(alloc, text, a, values, types)?;
+            let second = term_in_scope(alloc, text, b, values, types)?;
+            let third = term_in_scope(alloc, text, c, values, types)?;
+            boxed(alloc, *span, FForm::If0(test, second, third))
+        }
+    }
+}

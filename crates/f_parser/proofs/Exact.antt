@@ -1,54 +1,127 @@
 -- The laws of texts and terms, and the clauses of `parse` by them.
-use Rattle.std.proofs.Common.{◌≡◌, ◌≤◌, ◌<◌, get_or, arith, ℕ, ℤ, List, [], ◌∷◌, length, refl, sym, ◌∙◌, ap, subst, Some, None}
+use Rattle.std.proofs.Common.{◌≡◌, ◌≤◌, ◌<◌, ◌⊎◌, inl, inr, arith, ℕ, List, [], ◌∷◌, ◌++◌, length, refl, sym, ◌∙◌, ap, subst}
 use Rattle.idx_core.specs.declared.span.Span.{Span}
+use Rattle.text_core.specs.Table.{Verdict, Fine, Unexpected, Passed}
+use Rattle.text_core.specs.Shapes.{IsFine, IsUnexpected, IsCutShort, IsPassed, Says}
 use Rattle.f_terms.specs.declared.fault.Code.{Code}
-use Rattle.f_terms.specs.declared.fault.Code.TheVariants.{E20}
+use Rattle.f_terms.specs.declared.fault.Code.TheVariants as code
 use Rattle.f_terms.specs.declared.fault.FFault.TheVariants.{Refused}
-use Rattle.f_terms.specs.Tm.{Tm, SNum}
-use Rattle.f_terms.specs.Read.{place}
+use Rattle.f_terms.specs.Tm.{Tm, plain}
+use Rattle.f_terms.specs.Limits as limits
 use Rattle.f_lexer.specs.declared.token.Token.{Token}
 use Rattle.f_lexer.specs.Source.{IsCut, FirstTokenFault}
-use Rattle.f_lexer.proofs.Exact.{one_cut, cut_or_fault}
-use Rattle.f_parser.specs.Text.{number, Source, FirstFault, OneTerm, TermOrFault, OneFault}
+use Rattle.f_lexer.proofs.Exact as lexer
+use Rattle.f_grammar.specs.Raw.{Piece, RawTm, nodes, place_of}
+use Rattle.f_grammar.specs.Grammar.{E}
+use Rattle.f_grammar.specs.Machine.{table, Val, OfTerm}
+use Rattle.f_grammar.proofs.Instance.{one_tree, one_verdict}
+use Rattle.f_parser.specs.Scope.{TermOf, Use, uses, IsFirstUnbound, unbound_code}
+use Rattle.f_parser.specs.Text.{Source, SourceWithin, FewBytes, FewOpen, whole_of, end_of, HasTokens, HasShape, FirstFault, too_long, no_token, unexpected, cut_short, too_deep, too_large, unbound, OneTerm, TermOrFault, OneFault, ClosedTerms}
+use Rattle.f_parser.proofs.Bound as names
+use Rattle.f_parser.proofs.Closed.{term_in_scope, same_nodes}
+
+-- what a fault after the reading of tokens says, by the tree
+data AfterShape (text : List ℕ) (t : RawTm) (c : Code) (s : Span) : Type 0 where
+  large : 1000 < nodes t → c ≡ code.L3 → s ≡ place_of t → AfterShape text t c s
+  name : (u : Use) → nodes t ≤ 1000 → IsFirstUnbound text (uses text [] [] t) u → c ≡ unbound_code u.of_type → s ≡ u.at → AfterShape text t c s
+
+-- what a fault after the cutting into tokens says, by the verdict on them
+data AfterCut (text : List ℕ) : Verdict table → Code → Span → Type 0 where
+  at_token : (t : Token) (z : List Token) {c : Code} {s : Span} → c ≡ code.E03 → s ≡ t.span → AfterCut text (Unexpected (t ∷ z)) c s
+  at_end : {c : Code} {s : Span} → c ≡ code.E04 → s ≡ end_of text → AfterCut text (Unexpected []) c s
+  at_opener : (t : Token) (z : List Token) {c : Code} {s : Span} → c ≡ code.L2 → s ≡ t.span → AfterCut text (Passed (t ∷ z)) c s
+  in_shape : (p : Piece) {c : Code} {s : Span} → AfterShape text p.tree c s → AfterCut text (Fine (OfTerm p ∷ [])) c s
+
+-- how far the checks came
+data Stage (text : List ℕ) (c : Code) (s : Span) : Type 0 where
+  bytes : 1048576 < length text → c ≡ code.L1 → s ≡ whole_of text → Stage text c s
+  token : FewBytes text → FirstTokenFault text c s → Stage text c s
+  later : (w : List Token) (v : Verdict table) → HasTokens text w → Says table 200 w v → AfterCut text v c s → Stage text c s
+
+fine : (text : List ℕ) (p : Piece) (h : HasShape text p) → IsFine table 200 h.tokens (OfTerm p ∷ [])
+fine text p h = record { value = p; shape = h.is_shape; is = refl; within = h.few_open }
+
+stage : (text : List ℕ) (c : Code) (s : Span) → FirstFault text c s → Stage text c s
+stage text _ _ (too_long l) = bytes l refl refl
+stage text c s (no_token h f) = token h f
+stage text _ _ (unexpected {w} u t z h f) = later w (Unexpected (t ∷ z)) h (u, f) (at_token t z refl refl)
+stage text _ _ (cut_short {w} h f) = later w (Unexpected []) h f (at_end refl refl)
+stage text _ _ (too_deep {w} u t z h f) = later w (Passed (t ∷ z)) h (u, f) (at_opener t z refl refl)
+stage text _ _ (too_large p h l) = later h.tokens (Fine (OfTerm p ∷ [])) h.has_tokens (fine text p h) (in_shape p (large l refl refl))
+stage text _ _ (unbound p u h l f) = later h.tokens (Fine (OfTerm p ∷ [])) h.has_tokens (fine text p h) (in_shape p (name u l f refl refl))
+
+-- two verdicts on the tokens of one text
+verdicts : (text : List ℕ) (w w' : List Token) (v v' : Verdict table) → IsCut text w → IsCut text w' → Says table 200 w v → Says table 200 w' v' → v ≡ v'
+verdicts text w w' v v' cut cut' x y =
+    let e : w' ≡ w = lexer.one_cut text w' w cut' cut in
+    one_verdict 200 w v v' x (subst (λ (u : List Token). Says table 200 u v') e y)
+
+Same : Code → Code → Span → Span → Type 0
+Same c c' s s' = (c ≡ c') × (s ≡ s')
+
+after_shape : (text : List ℕ) (t : RawTm) (c c' : Code) (s s' : Span) → AfterShape text t c s → AfterShape text t c' s' → (c ≡ c') × (s ≡ s')
+after_shape text t c c' s s' (large l e p) (large k f q) = (e ∙ sym f, p ∙ sym q)
+after_shape text t c c' s s' (large l e p) (name u k h f q) = absurd (omega arith)
+after_shape text t c c' s s' (name u k h e p) (large l f q) = absurd (omega arith)
+after_shape text t c c' s s' (name u k h e p) (name u' k' h' f q) =
+    let i : u ≡ u' = names.one_first text (uses text [] [] t) u u' h h' in
+    (e ∙ (ap (λ (x : Use). unbound_code x.of_type) i ∙ sym f), p ∙ (ap (λ (x : Use). x.at) i ∙ sym q))
+
+after_cut : (text : List ℕ) (v : Verdict table) (c c' : Code) (s s' : Span) → AfterCut text v c s → AfterCut text v c' s' → (c ≡ c') × (s ≡ s')
+after_cut text _ c c' s s' (at_token t z e p) (at_token _ _ f q) = (e ∙ sym f, p ∙ sym q)
+after_cut text _ c c' s s' (at_end e p) (at_end f q) = (e ∙ sym f, p ∙ sym q)
+after_cut text _ c c' s s' (at_opener t z e p) (at_opener _ _ f q) = (e ∙ sym f, p ∙ sym q)
+after_cut text _ c c' s s' (in_shape p x) (in_shape _ y) = after_shape text p.tree c c' s s' x y
+
+stages : (text : List ℕ) (c c' : Code) (s s' : Span) → Stage text c s → Stage text c' s' → (c ≡ c') × (s ≡ s')
+stages text c c' s s' (bytes l e p) (bytes k f q) = (e ∙ sym f, p ∙ sym q)
+stages text c c' s s' (bytes l e p) (token h f) = absurd (omega arith)
+stages text c c' s s' (bytes l e p) (later w v h x y) = let k = h.few_bytes in absurd (omega arith)
+stages text c c' s s' (token h f) (bytes l e p) = absurd (omega arith)
+stages text c c' s s' (token h f) (token k g) = lexer.one_token_fault text c c' s s' f g
+stages text c c' s s' (token h f) (later w v k x y) = absurd (lexer.cut_or_fault text w c s k.cut f)
+stages text c c' s s' (later w v h x y) (bytes l e p) = let k = h.few_bytes in absurd (omega arith)
+stages text c c' s s' (later w v h x y) (token k g) = absurd (lexer.cut_or_fault text w c' s' h.cut g)
+stages text c c' s s' (later w v h x y) (later w' v' h' x' y') =
+    let e : v' ≡ v = sym (verdicts text w w' v v' h.cut h'.cut x x') in
+    after_cut text v c c' s s' y (subst (λ (u : Verdict table). AfterCut text u c' s') e y')
+
+pub one_fault : OneFault
+one_fault text c c' s s' f g = stages text c c' s s' (stage text c s f) (stage text c' s' g)
+
+-- what stands for a term within the limits
+few : (text : List ℕ) (a : Tm) (x : SourceWithin text a) → nodes x.source.shape.tree ≤ 1000
+few text a x = let e = same_nodes x.source.bound in let l = x.few_nodes in omega (arith, e, l)
+
+none_after_shape : (text : List ℕ) (t : RawTm) (a : Tm) (c : Code) (s : Span) → TermOf text [] [] t a → nodes t ≤ 1000 → ¬ AfterShape text t c s
+none_after_shape text t a c s b l (large k e p) = omega arith
+none_after_shape text t a c s b l (name u k h e p) = names.not_first text (uses text [] [] t) u (names.term_bound b) h
+
+none_after_cut : (text : List ℕ) (p : Piece) (v : Verdict table) (a : Tm) (c : Code) (s : Span) → TermOf text [] [] p.tree a → nodes p.tree ≤ 1000 → v ≡ Fine (OfTerm p ∷ []) → ¬ AfterCut text v c s
+none_after_cut text p _ a c s b l e (at_token t z f q) = cc
+none_after_cut text p _ a c s b l e (at_end f q) = cc
+none_after_cut text p _ a c s b l e (at_opener t z f q) = cc
+none_after_cut text p _ a c s b l e (in_shape r x) =
+    let i : r ≡ p = cc in none_after_shape text p.tree a c s b l (subst (λ (y : Piece). AfterShape text y.tree c s) i x)
+
+none_at : (text : List ℕ) (a : Tm) (c : Code) (s : Span) → SourceWithin text a → ¬ Stage text c s
+none_at text a c s x (bytes l e p) = let h = x.few_bytes in omega arith
+none_at text a c s x (token h f) = lexer.cut_or_fault text x.source.tokens c s x.source.cut f
+none_at text a c s x (later w v h y z) =
+    let f : IsFine table 200 x.source.tokens (OfTerm x.source.shape ∷ []) = record { value = x.source.shape; shape = x.source.is_shape; is = refl; within = x.few_open } in
+    none_after_cut text x.source.shape v a c s x.source.bound (few text a x) (verdicts text w x.source.tokens v (Fine (OfTerm x.source.shape ∷ [])) h.cut x.source.cut y f) z
+
+pub term_or_fault : TermOrFault
+term_or_fault text a c s x f = none_at text a c s x (stage text c s f)
 
 pub one_term : OneTerm
 one_term text a b x y =
-    let e : (x.token ∷ []) ≡ (y.token ∷ []) = one_cut text (x.token ∷ []) (y.token ∷ []) x.cut y.cut in
-    let t : x.token ≡ y.token = cc in
-    let v : Some x.value ≡ Some y.value = sym x.is_number ∙ (ap (λ (u : Token). number u.kind) t ∙ y.is_number) in
-    let z : x.value ≡ y.value = cc in
-    x.is ∙ (rw (t, z) (sym y.is))
+    let e : y.tokens ≡ x.tokens = lexer.one_cut text y.tokens x.tokens y.cut x.cut in
+    let p : y.shape ≡ x.shape = one_tree (subst (λ (w : List Token). E w y.shape) e y.is_shape) x.is_shape in
+    names.one_term x.bound (subst (λ (q : Piece). TermOf text [] [] q.tree b) p y.bound)
 
-pub term_or_fault : TermOrFault
-term_or_fault text a c span x f = f.no_term a x
+pub closed_terms : ClosedTerms
+closed_terms text a x = term_in_scope x.bound
 
-pub one_fault : OneFault
-one_fault text c c' span span' f h = (f.is_code ∙ sym h.is_code, f.whole ∙ sym h.whole)
-
-pub refused : (text : List ℕ) → ((tm : Tm) → ¬ Source text tm) → FirstFault text E20 (record { start = 0; end = length text })
-refused text none = record { is_code = refl; whole = refl; no_term = none }
-
-pub same_fault : (text : List ℕ) (c : Code) (span : Span) → FirstFault text c span → Refused E20 (record { start = 0; end = length text }) ≡ Refused c span
-same_fault text c span f = rw (f.is_code, f.whole) refl
-
-pub no_tokens : (text : List ℕ) (c : Code) (span : Span) → FirstTokenFault text c span → (tm : Tm) → ¬ Source text tm
-no_tokens text c span f tm x = cut_or_fault text (x.token ∷ []) c span x.cut f
-
-module _ (text : List ℕ) (w : List Token) (cut : IsCut text w) where
-  pub no_one : (length w ≡ 1 → ⊥) → (tm : Tm) → ¬ Source text tm
-  no_one n tm x = n (ap (λ (v : List Token). length v) (one_cut text w (x.token ∷ []) cut x.cut))
-
-  pub no_number : (t : Token) → w ≡ t ∷ [] → number t.kind ≡ None → (tm : Tm) → ¬ Source text tm
-  no_number t e n tm x =
-      let p : (t ∷ []) ≡ (x.token ∷ []) = sym e ∙ one_cut text w (x.token ∷ []) cut x.cut in
-      let q : t ≡ x.token = cc in
-      let r = x.is_number in
-      let s : number x.token.kind ≡ None = ap (λ (u : Token). number u.kind) (sym q) ∙ n in cc
-
-  pub is_number : (t : Token) (z : ℤ) → w ≡ t ∷ [] → number t.kind ≡ Some z → Source text (SNum (place t.span) z)
-  is_number t z e n = record { token = t; value = z; cut = subst (λ (v : List Token). IsCut text v) e cut; is_number = n; is = refl }
-
-pub single : (w : List Token) (d : Token) → 1 ≤ length w → length w < 2 → w ≡ get_or w 0 d ∷ []
-single [] d a b = absurd (omega arith)
-single (t ∷ []) d a b = refl
-single (t ∷ (u ∷ w)) d a b = absurd (omega arith)
+pub same_fault : (text : List ℕ) (c c' : Code) (s s' : Span) → FirstFault text c s → FirstFault text c' s' → Refused c s ≡ Refused c' s'
+same_fault text c c' s s' f g = let e = one_fault text c c' s s' f g in let p = e.0 in let q = e.1 in cc

@@ -1,3 +1,5 @@
 pub mod Bound
+pub mod Closed
 pub mod Exact
+pub mod Reading
 pub mod Resolving

@@ -4,5 +4,8 @@
 pub mod laws;
 pub mod reader;
 pub mod resolve;
+#[cfg(test)]
+mod tests;
 
+pub use laws::{closed_terms, one_fault, one_term, term_or_fault};
 pub use reader::parse;

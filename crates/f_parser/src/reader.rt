@@ -1,110 +1,113 @@
 // From the bytes of a text to its term.
-ghost use Rattle.std.specs.Prelude.{◌≡◌, ◌≢◌, length, MatchResult, IsErrAnd};
+ghost use Rattle.std.specs.Prelude.{◌≡◌, ◌≢◌, [], ◌∷◌, length, MatchResult, IsErrAnd};
 ghost use Rattle.idx_core.specs.declared.span.Span as place;
+ghost use Rattle.text_core.specs.Table.{Nt};
 ghost use Rattle.f_terms.specs.declared.fault.Code as codes;
-ghost use Rattle.f_terms.specs.declared.fault.Code.TheVariants.{E20};
 ghost use Rattle.f_terms.specs.declared.fault.FFault.TheVariants as fault;
 ghost use Rattle.f_terms.specs.Tm.{Tm};
 ghost use Rattle.f_terms.specs.Read.{spanned};
-ghost use Rattle.f_parser.specs.Text.{number, Source, FirstFault, IsFault};
+ghost use Rattle.f_grammar.specs.Machine.{LE};
+ghost use Rattle.f_grammar.specs.Reads.{Fails};
+ghost use Rattle.f_reader.specs.Kept.{tree_of};
+ghost use Rattle.f_parser.specs.Text.{SourceWithin, FirstFault, IsFault, HasTokens, FewBytes, whole_of, end_of};
+ghost use Rattle.f_parser.specs.Reader.{HasTree};
 
-use f_lexer::{Kind, tokens};
-use f_terms::{Code, FFault, FForm, FTerm};
-use idx_core::Span;
+use crate::resolve::{Unresolved, term_in_scope};
+use f_grammar::{RawTerm, Stopped, peek};
+use f_lexer::{Token, tokens};
+use f_reader::{Kept, whole_term};
+use f_terms::{Code, FFault, FTerm};
+use idx_core::{Names, Span};
 use std::alloc::Global;
 
-fn number(kind: Kind) -> Option<i64>
-    ensures { result ≡ number kind }
+/// How many bytes a text may have.
+pub const BYTES: usize = 1_048_576;
+
+fn refused(code: Code, span: Span) -> FFault
+    ensures { result ≡ fault.Refused code span }
 {
-    match kind {
-        Kind::Plain(value) => Some(value),
-        Kind::Negative(value) => Some(value),
-        _ => None,
+    FFault::Refused { code, span }
+}
+
+fn whole(text: &[u8]) -> Span
+    ensures { result ≡ whole_of text.now }
+{
+    Span {
+        start: 0,
+        end: text.len() as u64,
     }
 }
 
-// the fault of a text that the compiler does not take yet
-fn not_yet(text: &[u8]) -> FFault
-    ensures { result ≡ fault.Refused E20 (record { start = 0; end = length text.now }) }
+fn end(text: &[u8]) -> Span
+    ensures { result ≡ end_of text.now }
 {
-    FFault::Refused {
-        code: Code::E20,
-        span: Span {
-            start: 0,
-            end: text.len() as u64,
+    let at = text.len() as u64;
+    Span { start: at, end: at }
+}
+
+// the fault at the token, or the end, at which the reading stopped
+fn stopped_fault(text: &[u8], tokens: &[Token], stopped: Stopped) -> FFault
+    requires tokens { HasTokens text.now tokens.now }
+    requires stopped { Fails tokens.now 0 0 (Nt LE ∷ []) [] stopped }
+    ensures { IsFault text.now result }
+{
+    match stopped {
+        Stopped::Memory => FFault::Memory,
+        Stopped::Unexpected(at) => match peek(tokens, at) {
+            Some(token) => refused(Code::E03, token.span),
+            None => refused(Code::E04, end(text)),
         },
+        Stopped::TooDeep(at) => refused(Code::L2, tokens[at].span),
     }
 }
 
-/// The term that a text stands for (own choice). The compiler takes one number alone yet: any other text is
-/// refused whole by E20.
+// the tree of all tokens, its names not yet bound
+fn whole_tree(alloc: Global, text: &[u8], tokens: &[Token]) -> Result<RawTerm, FFault>
+    requires { HasTokens text.now tokens.now }
+    ensures { MatchResult result (λ t. HasTree text.now (tree_of t)) (λ f. IsFault text.now f) }
+{
+    let found = match whole_term(alloc, tokens, 0, 0) {
+        Ok(found) => found,
+        Err(stopped) => return Err(stopped_fault(text, tokens, stopped)),
+    };
+    if let Some(token) = peek(tokens, found.next) {
+        return Err(refused(Code::E03, token.span));
+    }
+    match found.kept {
+        Kept::Term(term, _) => Ok(term),
+        Kept::TooMany(span) => Err(refused(Code::L3, span)),
+    }
+}
+
+// the term of the tree, where no name is in scope around it
+fn closed_term(alloc: Global, text: &[u8], tree: &RawTerm) -> Result<FTerm, FFault>
+    requires { HasTree text.now (tree_of tree.now) }
+    ensures { MatchResult result (λ e. SourceWithin text.now (spanned e)) (λ f. IsFault text.now f) }
+{
+    let mut values = Names::new(alloc);
+    let mut types = Names::new(alloc);
+    match term_in_scope(alloc, text, tree, &mut values, &mut types) {
+        Ok(term) => Ok(Box::into_inner(term)),
+        Err(Unresolved::Memory) => Err(FFault::Memory),
+        Err(Unresolved::Value(span)) => Err(refused(Code::E05, span)),
+        Err(Unresolved::Type(span)) => Err(refused(Code::E06, span)),
+    }
+}
+
+/// The term that a text stands for, by the grammar and the binding rules of the source, within the limits L1 to L3.
+/// Else the first fault of the text, in this order: L1 over the whole of it, the first of E01 and E02, the first of
+/// E03, E04 and L2 in the order of tokens, L3 over the whole expression, the first of E05 and E06 (order and limits
+/// are an own choice). Places are counted in bytes.
 pub fn parse(alloc: Global, text: &[u8]) -> Result<FTerm, FFault>
-    ensures right { MatchResult result (λ e. Source text.now (spanned e)) (λ f. IsFault text.now f) }
-    ensures term { (tm : Tm) → Source text.now tm → MatchResult result (λ e. spanned e ≡ tm) (λ f. f ≡ fault.Memory) }
+    ensures right { MatchResult result (λ e. SourceWithin text.now (spanned e)) (λ f. IsFault text.now f) }
+    ensures term { (tm : Tm) → SourceWithin text.now tm → MatchResult result (λ e. spanned e ≡ tm) (λ f. f ≡ fault.Memory) }
     ensures refused { (code : codes.Code) (span : place.Span) → FirstFault text.now code span → IsErrAnd result (λ f. f ≢ fault.Memory → f ≡ fault.Refused code span) }
 {
-    let tokens = match tokens(alloc, text) {
-        Ok(tokens) => tokens,
-        Err(FFault::Memory) => return Err(FFault::Memory),
-        Err(FFault::Refused { .. }) => return Err(not_yet(text)),
-    };
-    match tokens.as_slice() {
-        [token] => match number(token.kind) {
-            Some(value) => Ok(FTerm {
-                span: token.span,
-                form: FForm::Int(value),
-            }),
-            None => Err(not_yet(text)),
-        },
-        _ => Err(not_yet(text)),
+    if text.len() > BYTES {
+        return Err(refused(Code::L1, whole(text)));
     }
-}
-
-#[cfg(test)]
-mod tests {
-    use super::*;
-
-    fn shown(answer: Result<FTerm, FFault>) -> Result<(i64, Span), FFault> {
-        match answer? {
-            FTerm {
-                span,
-                form: FForm::Int(n),
-            } => Ok((n, span)),
-            FTerm { span, .. } => Ok((0, span)),
-        }
-    }
-
-    #[test]
-    fn takes_one_number(rt: HostRuntime) {
-        let rows: [(&[u8], i64, u64, u64); 3] = [
-            (b"7", 7, 0, 1),
-            (b" ~9223372036854775808\n", i64::MIN, 1, 21),
-            (b"-- a\n007", 7, 5, 8),
-        ];
-        for (text, value, start, end) in rows {
-            assert_eq!(rt;
-                shown(parse(rt.alloc(), text)),
-                Ok((value, Span { start, end }))
-            );
-        }
-    }
-
-    #[test]
-    fn refuses_any_other_text_whole(rt: HostRuntime) {
-        let rows: [(&[u8], u64); 5] = [
-            (b"", 0),
-            (b"x", 1),
-            (b"1 2", 3),
-            (b"9223372036854775808", 19),
-            (b"1 $", 3),
-        ];
-        for (text, end) in rows {
-            let span = Span { start: 0, end };
-            let code = Code::E20;
-            assert_eq!(rt;
-                shown(parse(rt.alloc(), text)),
-                Err(FFault::Refused { code, span })
-            );
-        }
-    }
+    let tokens = tokens(alloc, text)?;
+    let tree = whole_tree(alloc, text, &tokens)?;
+    let term = closed_term(alloc, text, &tree)?;
+    Ok(term)
 }

@@ -1,0 +1,94 @@
+-- From what the tokens and the tree say to what the text says.
+use Rattle.std.proofs.Common.{◌≡◌, ◌<◌, ◌≤◌, ◌+◌, ◌⊎◌, inl, inr, ℕ, List, [], ◌∷◌, length, slice_get, get_or, drop, refl, sym, ◌∙◌, ap, subst, Some, None, true, false, arith}
+use Rattle.std.proofs.lemmas.Option.{slice_get_cases, slice_get-get_or}
+use Rattle.idx_core.specs.declared.span.Span.{Span}
+use Rattle.text_core.specs.Table.{Nt}
+use Rattle.text_core.specs.Shapes.{IsFine}
+use Rattle.text_core.proofs.Going.{next_is, no_next}
+use Rattle.text_core.proofs.Whole.{whole_fine, whole_more, whole_unexpected, whole_cut, whole_deep, never_deep}
+use Rattle.f_terms.specs.declared.fault.Code.TheVariants as code
+use Rattle.f_terms.specs.Tm.{Tm, plain}
+use Rattle.f_terms.specs.Limits as limits
+use Rattle.f_lexer.specs.declared.token.Token.{Token}
+use Rattle.f_grammar.specs.Raw.{RawTm, Piece, nodes, place_of}
+use Rattle.f_grammar.specs.Grammar.{E}
+use Rattle.f_grammar.specs.Machine.{table, LE, Val, OfTerm}
+use Rattle.f_grammar.specs.Reads.{Fails}
+use Rattle.f_grammar.specs.declared.cursor.Stopped.TheVariants as stopped
+use Rattle.f_grammar.proofs.Instance.{claims}
+use Rattle.f_reader.specs.Kept.{tree_of, Keeps}
+use Rattle.f_reader.specs.Reads.{ReadsTerm}
+use Rattle.f_reader.specs.declared.kept.FoundTerm.{FoundTerm}
+use Rattle.f_reader.specs.declared.kept.Kept.TheVariants as kept
+use Rattle.f_grammar.specs.declared.raw.RawTerm.{RawTerm}
+use Rattle.f_parser.specs.Scope.{TermOf, Use, uses, IsFirstUnbound, unbound_code}
+use Rattle.f_parser.specs.Resolve.{StopsAt}
+use Rattle.f_parser.specs.declared.resolve.Unresolved.TheVariants.{Value, «Type»}
+use Rattle.f_parser.specs.Text.{SourceWithin, end_of, HasTokens, HasShape, FirstFault, unexpected, cut_short, too_deep, too_large, unbound}
+use Rattle.f_parser.specs.Reader.{HasTree}
+use Rattle.f_parser.proofs.Closed.{same_nodes}
+
+-- where the reading of the tokens stops
+module _ (text : List ℕ) (w : List Token) (h : HasTokens text w) (i : ℕ) where
+  pub stops_at_token : (t : Token) → Fails w 0 0 (Nt LE ∷ []) [] (stopped.Unexpected i) → slice_get w i ≡ Some t → FirstFault text code.E03 t.span
+  stops_at_token t f e =
+    let u = whole_unexpected table claims 200 w i t (drop (i + 1) w) f (next_is w i t e) in
+    unexpected u.0 t (drop (i + 1) w) h u.1
+
+  pub stops_at_end : Fails w 0 0 (Nt LE ∷ []) [] (stopped.Unexpected i) → slice_get w i ≡ None → FirstFault text code.E04 (end_of text)
+  stops_at_end f e = cut_short h (whole_cut table claims 200 w i f (no_next w i e))
+
+  pub deep_within : Fails w 0 0 (Nt LE ∷ []) [] (stopped.TooDeep i) → i < length w
+  deep_within f = by_place (slice_get_cases w i).1
+    where
+      by_place : ((t : Token) × (i < length w) × (slice_get w i ≡ Some t) × (get_or w i t ≡ t)) ⊎ ((length w ≤ i) × (slice_get w i ≡ None)) → i < length w
+      by_place (inl x) = x.1
+      by_place (inr x) = absurd (never_deep table claims 200 w i f (no_next w i x.1))
+
+  pub stops_at_opener : (t : Token) → Fails w 0 0 (Nt LE ∷ []) [] (stopped.TooDeep i) → slice_get w i ≡ Some t → FirstFault text code.L2 t.span
+  stops_at_opener t f e =
+    let u = whole_deep table claims 200 w i t (drop (i + 1) w) f (next_is w i t e) in
+    too_deep u.0 t (drop (i + 1) w) h u.1
+
+-- where an expression was read
+module _ (text : List ℕ) (w : List Token) (h : HasTokens text w) (f : FoundTerm) (r : ReadsTerm (Nt LE ∷ []) w 0 0 f) where
+  pub goes_on : (t : Token) → slice_get w f.next ≡ Some t → FirstFault text code.E03 t.span
+  goes_on t e =
+    let u = whole_more table claims 200 w f.next (OfTerm r.piece ∷ []) t (drop (f.next + 1) w) r.reads.same (next_is w f.next t e) in
+    unexpected u.0 t (drop (f.next + 1) w) h u.1
+
+  has_shape : slice_get w f.next ≡ None → HasShape text r.piece
+  has_shape e =
+    let x = whole_fine table claims 200 w f.next (OfTerm r.piece ∷ []) r.reads.same (no_next w f.next e) in
+    let i = x.is in
+    let p : x.value ≡ r.piece = cc in
+    record { tokens = w; has_tokens = h; is_shape = subst (λ (q : Piece). E w q) p x.shape; few_open = x.within }
+
+  pub whole_kept : (t : RawTerm) (n : ℕ) → slice_get w f.next ≡ None → f.kept ≡ kept.Term t n → HasTree text (tree_of t)
+  whole_kept t n e k =
+    let x = subst (λ y. Keeps y r.piece.tree) k r.stands.keeps in
+    record { shape = r.piece; has_shape = has_shape e; few_nodes = subst (λ (m : ℕ). m ≤ 1000) x.1 x.2; is = x.0 }
+
+  pub whole_large : (s : Span) → slice_get w f.next ≡ None → f.kept ≡ kept.TooMany s → FirstFault text code.L3 s
+  whole_large s e k =
+    let x = subst (λ y. Keeps y r.piece.tree) k r.stands.keeps in
+    subst (λ (q : Span). FirstFault text code.L3 q) x.0 (too_large r.piece (has_shape e) x.1)
+
+-- where the names of a tree are bound, or one is not
+module _ (text : List ℕ) (t : RawTm) (h : HasTree text t) where
+  pub bound : (tm : Tm) → TermOf text [] [] t tm → SourceWithin text tm
+  bound tm b = record {
+    source = record { tokens = h.has_shape.tokens; shape = h.shape; cut = h.has_shape.has_tokens.cut; is_shape = h.has_shape.is_shape;
+      bound = subst (λ (u : RawTm). TermOf text [] [] u tm) h.is b };
+    few_bytes = h.has_shape.has_tokens.few_bytes;
+    few_open = h.has_shape.few_open;
+    few_nodes = subst (λ (n : ℕ). n ≤ 1000) (sym (same_nodes b ∙ ap nodes h.is)) h.few_nodes }
+
+  is_unbound : (u : Use) → IsFirstUnbound text (uses text [] [] t) u → FirstFault text (unbound_code u.of_type) u.at
+  is_unbound u f = unbound h.shape u h.has_shape h.few_nodes (subst (λ (x : RawTm). IsFirstUnbound text (uses text [] [] x) u) h.is f)
+
+  pub value_unbound : (s : Span) → StopsAt text (uses text [] [] t) (Value s) → FirstFault text code.E05 s
+  value_unbound s x = rw (x.3) (subst (λ y. FirstFault text (unbound_code y) x.0.at) x.2 (is_unbound x.0 x.1))
+
+  pub type_unbound : (s : Span) → StopsAt text (uses text [] [] t) («Type» s) → FirstFault text code.E06 s
+  type_unbound s x = rw (x.3) (subst (λ y. FirstFault text (unbound_code y) x.0.at) x.2 (is_unbound x.0 x.1))

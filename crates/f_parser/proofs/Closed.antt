@@ -1,5 +1,5 @@
 -- What stands for a tree where names are in scope has no other free names, and as many nodes as the tree.
-use Rattle.std.proofs.Common.{◌≡◌, ◌<◌, ◌≤◌, ◌+◌, ℕ, zero, suc, List, [], ◌∷◌, length, refl, sym, ◌∙◌, ap, subst, arith, add-one}
+use Rattle.std.proofs.Common.{◌≡◌, ◌<◌, ◌+◌, ℕ, zero, suc, List, [], ◌∷◌, length, refl, ap, subst, arith}
 use Rattle.idx_core.specs.Names.{Name, IsPlace}
 use Rattle.f_terms.specs.Ty.{Ty, Tys, Below, each_all}
 use Rattle.f_terms.specs.Tm.{Tm, Tms, plain, plain_all}
@@ -14,13 +14,19 @@ place_below x [] i p = absurd p
 place_below x (n ∷ ns) zero p = omega arith
 place_below x (n ∷ ns) (suc i) p = let h = place_below x ns i p.1 in omega arith
 
+one_more : (n : ℕ) → suc n ≡ n + 1
+one_more n = omega arith
+
+two_more : (n : ℕ) → suc (suc n) ≡ n + 2
+two_more n = omega arith
+
 mutual
   pub type_below : {text : List ℕ} {a : List Name} {t : RawTy} {u : Ty} → TypeOf text a t u → Below (length a) u
   type_below of_int = tt
   type_below (of_name s i p) = place_below _ _ i p
   type_below (of_tuple p) = types_below p
   type_below (of_arrow p q) = (type_below p, type_below q)
-  type_below {a} (of_all {u} n p) = (tt, rw ← add-one at type_below p)
+  type_below (of_all {a} {t} {u} n p) = (tt, subst (λ (k : ℕ). Below k u) (one_more (length a)) (type_below p))
 
   pub types_below : {text : List ℕ} {a : List Name} {ts : RawTys} {us : Tys} → TypesOf text a ts us → each_all BelowAt AnyDepth (length a) us
   types_below of_no_types = tt
@@ -30,8 +36,8 @@ mutual
   pub term_in_scope : {text : List ℕ} {v a : List Name} {e : RawTm} {d : Tm} → TermOf text v a e d → InScope (plain d) (length a) (length v)
   term_in_scope (of_var s i p) = place_below _ _ i p
   term_in_scope (of_num s n) = tt
-  term_in_scope (of_fix s f x p q r) = (type_below p, type_below q, term_in_scope r)
-  term_in_scope (of_gen s n p) = term_in_scope p
+  term_in_scope (of_fix {v} {a} {t} {r} {e} {t'} {r'} {e'} s f x p q i) = (type_below p, type_below q, subst (λ (k : ℕ). InScope (plain e') (length a) k) (two_more (length v)) (term_in_scope i))
+  term_in_scope (of_gen {v} {a} {e} {e'} s n p) = subst (λ (k : ℕ). InScope (plain e') k (length v)) (one_more (length a)) (term_in_scope p)
   term_in_scope (of_app s p q) = (term_in_scope p, term_in_scope q)
   term_in_scope (of_inst s p q) = (term_in_scope p, type_below q)
   term_in_scope (of_fields s p) = terms_in_scope p

@@ -1,22 +1,26 @@
 -- The laws of texts and terms, and the clauses of `parse` by them.
-use Rattle.std.proofs.Common.{◌≡◌, ◌≤◌, ◌<◌, ◌⊎◌, inl, inr, arith, ℕ, List, [], ◌∷◌, ◌++◌, length, refl, sym, ◌∙◌, ap, subst}
+use Rattle.std.specs.Prelude.{Result, Ok, Err, MatchResult, IsErrAnd}
+use Rattle.std.proofs.Common.{◌≡◌, ◌≢◌, ◌≤◌, ◌<◌, arith, ℕ, List, [], ◌∷◌, ◌++◌, length, refl, sym, ◌∙◌, ap, subst}
 use Rattle.idx_core.specs.declared.span.Span.{Span}
 use Rattle.text_core.specs.Table.{Verdict, Fine, Unexpected, Passed}
 use Rattle.text_core.specs.Shapes.{IsFine, IsUnexpected, IsCutShort, IsPassed, Says}
 use Rattle.f_terms.specs.declared.fault.Code.{Code}
 use Rattle.f_terms.specs.declared.fault.Code.TheVariants as code
-use Rattle.f_terms.specs.declared.fault.FFault.TheVariants.{Refused}
+use Rattle.f_terms.specs.declared.fault.FFault.{FFault}
+use Rattle.f_terms.specs.declared.fault.FFault.TheVariants.{Memory, Refused}
+use Rattle.f_terms.specs.declared.term.FTerm.{FTerm}
+use Rattle.f_terms.specs.Read.{spanned}
 use Rattle.f_terms.specs.Tm.{Tm, plain}
 use Rattle.f_terms.specs.Limits as limits
 use Rattle.f_lexer.specs.declared.token.Token.{Token}
-use Rattle.f_lexer.specs.Source.{IsCut, FirstTokenFault}
+use Rattle.f_lexer.specs.Source.{IsCut, FirstTokenFault, IsTokenFault}
 use Rattle.f_lexer.proofs.Exact as lexer
 use Rattle.f_grammar.specs.Raw.{Piece, RawTm, nodes, place_of}
 use Rattle.f_grammar.specs.Grammar.{E}
 use Rattle.f_grammar.specs.Machine.{table, Val, OfTerm}
 use Rattle.f_grammar.proofs.Instance.{one_tree, one_verdict}
 use Rattle.f_parser.specs.Scope.{TermOf, Use, uses, IsFirstUnbound, unbound_code}
-use Rattle.f_parser.specs.Text.{Source, SourceWithin, FewBytes, FewOpen, whole_of, end_of, HasTokens, HasShape, FirstFault, too_long, no_token, unexpected, cut_short, too_deep, too_large, unbound, OneTerm, TermOrFault, OneFault, ClosedTerms}
+use Rattle.f_parser.specs.Text.{Source, SourceWithin, FewBytes, FewOpen, whole_of, end_of, HasTokens, HasShape, IsFault, FirstFault, too_long, no_token, unexpected, cut_short, too_deep, too_large, unbound, OneTerm, TermOrFault, OneFault, ClosedTerms}
 use Rattle.f_parser.proofs.Bound as names
 use Rattle.f_parser.proofs.Closed.{term_in_scope, same_nodes}
 
@@ -55,9 +59,6 @@ verdicts : (text : List ℕ) (w w' : List Token) (v v' : Verdict table) → IsCu
 verdicts text w w' v v' cut cut' x y =
     let e : w' ≡ w = lexer.one_cut text w' w cut' cut in
     one_verdict 200 w v v' x (subst (λ (u : List Token). Says table 200 u v') e y)
-
-Same : Code → Code → Span → Span → Type 0
-Same c c' s s' = (c ≡ c') × (s ≡ s')
 
 after_shape : (text : List ℕ) (t : RawTm) (c c' : Code) (s s' : Span) → AfterShape text t c s → AfterShape text t c' s' → (c ≡ c') × (s ≡ s')
 after_shape text t c c' s s' (large l e p) (large k f q) = (e ∙ sym f, p ∙ sym q)
@@ -123,5 +124,40 @@ one_term text a b x y =
 pub closed_terms : ClosedTerms
 closed_terms text a x = term_in_scope x.bound
 
-pub same_fault : (text : List ℕ) (c c' : Code) (s s' : Span) → FirstFault text c s → FirstFault text c' s' → Refused c s ≡ Refused c' s'
+same_fault : (text : List ℕ) (c c' : Code) (s s' : Span) → FirstFault text c s → FirstFault text c' s' → Refused c s ≡ Refused c' s'
 same_fault text c c' s s' f g = let e = one_fault text c c' s s' f g in let p = e.0 in let q = e.1 in cc
+
+-- an answer that is right is the only one, but for want of memory
+not_refused : (text : List ℕ) (f : FFault) (tm : Tm) → IsFault text f → SourceWithin text tm → f ≡ Memory
+not_refused text Memory tm h x = refl
+not_refused text (Refused c s) tm h x = absurd (term_or_fault text tm c s x h)
+
+no_other : (text : List ℕ) (f : FFault) (c : Code) (s : Span) → IsFault text f → FirstFault text c s → f ≢ Memory → f ≡ Refused c s
+no_other text Memory c s h x n = absurd (n refl)
+no_other text (Refused c' s') c s h x n = same_fault text c' c s' s h x
+
+module _ (text : List ℕ) (r : Result FTerm FFault) (h : MatchResult r (λ e. SourceWithin text (spanned e)) (λ f. IsFault text f)) where
+  pub only_term : (tm : Tm) → SourceWithin text tm → MatchResult r (λ e. spanned e ≡ tm) (λ f. f ≡ Memory)
+  only_term tm x = by_case r h
+    where
+      by_case : (q : Result FTerm FFault) → MatchResult q (λ e. SourceWithin text (spanned e)) (λ f. IsFault text f) → MatchResult q (λ e. spanned e ≡ tm) (λ f. f ≡ Memory)
+      by_case (Ok e) y = one_term text (spanned e) tm y.source x.source
+      by_case (Err f) y = not_refused text f tm y x
+
+  pub only_fault : (c : Code) (s : Span) → FirstFault text c s → IsErrAnd r (λ f. f ≢ Memory → f ≡ Refused c s)
+  only_fault c s x = by_case r h
+    where
+      by_case : (q : Result FTerm FFault) → MatchResult q (λ e. SourceWithin text (spanned e)) (λ f. IsFault text f) → IsErrAnd q (λ f. f ≢ Memory → f ≡ Refused c s)
+      by_case (Ok e) y = absurd (term_or_fault text (spanned e) c s y x)
+      by_case (Err f) y = no_other text f c s y x
+
+-- the answers of `parse`, a fault that is passed on and one of the tokens
+pub passed_on : (text : List ℕ) (r : Result FTerm FFault) (f g : FFault) → r ≡ Err g → g ≡ f → IsFault text f → MatchResult r (λ e. SourceWithin text (spanned e)) (λ x. IsFault text x)
+passed_on text r f g p q h = rw (p, q) h
+
+pub token_fault : (text : List ℕ) (f : FFault) → FewBytes text → IsTokenFault text f → IsFault text f
+token_fault text Memory h x = tt
+token_fault text (Refused c s) h x = no_token h x
+
+pub long_fault : (text : List ℕ) (f : FFault) (s : Span) → f ≡ Refused code.L1 s → s ≡ whole_of text → 1048576 < length text → IsFault text f
+long_fault text f s p q l = rw (p, q) (too_long l)

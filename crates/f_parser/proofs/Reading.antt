@@ -1,6 +1,6 @@
 -- From what the tokens and the tree say to what the text says.
-use Rattle.std.proofs.Common.{◌≡◌, ◌<◌, ◌≤◌, ◌+◌, ◌⊎◌, inl, inr, ℕ, List, [], ◌∷◌, length, slice_get, get_or, drop, refl, sym, ◌∙◌, ap, subst, Some, None, true, false, arith}
-use Rattle.std.proofs.lemmas.Option.{slice_get_cases, slice_get-get_or}
+use Rattle.std.specs.Prelude.{Result, Ok, Err, MatchResult}
+use Rattle.std.proofs.Common.{◌≡◌, ◌<◌, ◌≤◌, ◌+◌, ℕ, List, [], ◌∷◌, length, slice_get, drop, refl, sym, ◌∙◌, ap, subst, Some, None, true, false, arith}
 use Rattle.idx_core.specs.declared.span.Span.{Span}
 use Rattle.text_core.specs.Table.{Nt}
 use Rattle.text_core.specs.Shapes.{IsFine}
@@ -19,12 +19,13 @@ use Rattle.f_grammar.proofs.Instance.{claims}
 use Rattle.f_reader.specs.Kept.{tree_of, Keeps}
 use Rattle.f_reader.specs.Reads.{ReadsTerm}
 use Rattle.f_reader.specs.declared.kept.FoundTerm.{FoundTerm}
-use Rattle.f_reader.specs.declared.kept.Kept.TheVariants as kept
+use Rattle.f_terms.specs.declared.fault.FFault.{FFault}
+use Rattle.f_terms.specs.declared.fault.FFault.TheVariants.{Refused}
 use Rattle.f_grammar.specs.declared.raw.RawTerm.{RawTerm}
 use Rattle.f_parser.specs.Scope.{TermOf, Use, uses, IsFirstUnbound, unbound_code}
 use Rattle.f_parser.specs.Resolve.{StopsAt}
 use Rattle.f_parser.specs.declared.resolve.Unresolved.TheVariants.{Value, «Type»}
-use Rattle.f_parser.specs.Text.{SourceWithin, end_of, HasTokens, HasShape, FirstFault, unexpected, cut_short, too_deep, too_large, unbound}
+use Rattle.f_parser.specs.Text.{SourceWithin, end_of, IsFault, HasTokens, HasShape, FirstFault, unexpected, cut_short, too_deep, too_large, unbound}
 use Rattle.f_parser.specs.Reader.{HasTree}
 use Rattle.f_parser.proofs.Closed.{same_nodes}
 
@@ -38,12 +39,8 @@ module _ (text : List ℕ) (w : List Token) (h : HasTokens text w) (i : ℕ) whe
   pub stops_at_end : Fails w 0 0 (Nt LE ∷ []) [] (stopped.Unexpected i) → slice_get w i ≡ None → FirstFault text code.E04 (end_of text)
   stops_at_end f e = cut_short h (whole_cut table claims 200 w i f (no_next w i e))
 
-  pub deep_within : Fails w 0 0 (Nt LE ∷ []) [] (stopped.TooDeep i) → i < length w
-  deep_within f = by_place (slice_get_cases w i).1
-    where
-      by_place : ((t : Token) × (i < length w) × (slice_get w i ≡ Some t) × (get_or w i t ≡ t)) ⊎ ((length w ≤ i) × (slice_get w i ≡ None)) → i < length w
-      by_place (inl x) = x.1
-      by_place (inr x) = absurd (never_deep table claims 200 w i f (no_next w i x.1))
+  pub deep_at_end : Fails w 0 0 (Nt LE ∷ []) [] (stopped.TooDeep i) → slice_get w i ≡ None → ⊥
+  deep_at_end f e = never_deep table claims 200 w i f (no_next w i e)
 
   pub stops_at_opener : (t : Token) → Fails w 0 0 (Nt LE ∷ []) [] (stopped.TooDeep i) → slice_get w i ≡ Some t → FirstFault text code.L2 t.span
   stops_at_opener t f e =
@@ -64,15 +61,16 @@ module _ (text : List ℕ) (w : List Token) (h : HasTokens text w) (f : FoundTer
     let p : x.value ≡ r.piece = cc in
     record { tokens = w; has_tokens = h; is_shape = subst (λ (q : Piece). E w q) p x.shape; few_open = x.within }
 
-  pub whole_kept : (t : RawTerm) (n : ℕ) → slice_get w f.next ≡ None → f.kept ≡ kept.Term t n → HasTree text (tree_of t)
-  whole_kept t n e k =
-    let x = subst (λ y. Keeps y r.piece.tree) k r.stands.keeps in
-    record { shape = r.piece; has_shape = has_shape e; few_nodes = subst (λ (m : ℕ). m ≤ 1000) x.1 x.2; is = x.0 }
-
-  pub whole_large : (s : Span) → slice_get w f.next ≡ None → f.kept ≡ kept.TooMany s → FirstFault text code.L3 s
-  whole_large s e k =
-    let x = subst (λ y. Keeps y r.piece.tree) k r.stands.keeps in
-    subst (λ (q : Span). FirstFault text code.L3 q) x.0 (too_large r.piece (has_shape e) x.1)
+  -- what is kept of the tree, and what comes of that
+  pub whole_kept : slice_get w f.next ≡ None → (result : Result RawTerm FFault) →
+    ((t : RawTm) → Keeps f.kept t → MatchResult result (λ e. (tree_of e ≡ t) × (nodes t ≤ 1000)) (λ x. (x ≡ Refused code.L3 (place_of t)) × (1000 < nodes t))) →
+    MatchResult result (λ t. HasTree text (tree_of t)) (λ x. IsFault text x)
+  whole_kept e (Ok t) k =
+    let x = k r.piece.tree r.stands.keeps in
+    record { shape = r.piece; has_shape = has_shape e; few_nodes = x.1; is = x.0 }
+  whole_kept e (Err x) k =
+    let y = k r.piece.tree r.stands.keeps in
+    rw (y.0) (too_large r.piece (has_shape e) y.1)
 
 -- where the names of a tree are bound, or one is not
 module _ (text : List ℕ) (t : RawTm) (h : HasTree text t) where

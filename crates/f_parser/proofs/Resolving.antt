@@ -1,6 +1,6 @@
 -- How the resolving of a whole follows from that of its parts.
 use Rattle.std.specs.Prelude.{Result, Ok, Err, MatchResult, Box}
-use Rattle.std.proofs.Common.{◌≡◌, ◌<◌, ◌≤◌, ◌+◌, ℕ, List, [], ◌∷◌, ◌++◌, map, take, drop, length, get_or, Vec, Global, refl, sym, ◌∙◌, ap, subst, append_assoc, arith, true, false}
+use Rattle.std.proofs.Common.{◌≡◌, ◌<◌, ◌≤◌, ◌+◌, ℕ, ℤ, List, [], ◌∷◌, ◌++◌, map, take, drop, length, get_or, Vec, Global, refl, sym, ◌∙◌, ap, subst, append_assoc, arith, true, false}
 use Rattle.std.proofs.lemmas.List.{append-nil, map-append, take_more, take-append-drop, drop_more, take_all}
 use mathlib.Core.Former.{Count}
 use Rattle.idx_core.specs.declared.span.Span.{Span}
@@ -11,7 +11,7 @@ use Rattle.f_terms.specs.declared.term.FTerm.{FTerm}
 use Rattle.f_terms.specs.declared.term.FForm.{FForm, Row_of-FTerm, end_of-FTerm, more_of-FTerm, items-the_row-FTerm, items_hidden-the_row-FTerm-0}
 use Rattle.f_terms.specs.declared.term.FForm.TheVariants as fform
 use Rattle.f_terms.specs.Ty.{Ty, TTuple, Tys, MoreTys, tys}
-use Rattle.f_terms.specs.Tm.{Tm, STuple, Spn, Tms, MoreTms, tms}
+use Rattle.f_terms.specs.Tm.{Tm, SNum, STuple, Spn, Tms, MoreTms, tms}
 use Rattle.f_terms.specs.Read.{tree, trees, spanned, form_tree, row_trees, place}
 use Rattle.f_grammar.specs.Raw.{RawTy, RTuple, RawTys, raw_tys, RawTm, RFields, RawTms, raw_tms}
 use Rattle.f_grammar.specs.Reads.{type_of}
@@ -22,7 +22,7 @@ use Rattle.f_grammar.specs.declared.raw.RawTerm.{RawTerm}
 use Rattle.f_grammar.specs.declared.raw.RawTerm.TheVariants as rterm
 use Rattle.f_reader.specs.Kept.{tree_of}
 use Rattle.f_reader.proofs.Fields.{tree_Tuple}
-use Rattle.f_parser.specs.Scope.{spelled, use_at, TypeOf, of_tuple, TypesOf, of_no_types, of_more_types, TermOf, of_fields, TermsOf, of_no_terms, of_more_terms, Use, type_uses, types_uses, uses, all_uses, AllBound, IsFirstUnbound}
+use Rattle.f_parser.specs.Scope.{spelled, use_at, TypeOf, of_tuple, TypesOf, of_no_types, of_more_types, TermOf, of_num, of_fields, TermsOf, of_no_terms, of_more_terms, Use, type_uses, types_uses, uses, all_uses, AllBound, IsFirstUnbound}
 use Rattle.f_parser.specs.Resolve.{StopsAt}
 use Rattle.f_parser.specs.declared.resolve.Unresolved.{Unresolved}
 use Rattle.f_parser.specs.declared.resolve.Unresolved.TheVariants.{Memory, Value, «Type»}
@@ -158,3 +158,14 @@ pub made : (text : List ℕ) (v a w b : List Name) (raw : RawTm) (whole : FTerm)
   TermOf text v a raw (spanned whole) → MatchResult r (λ t. (w ≡ v) × (b ≡ a) × TermOf text v a raw (spanned t.value)) (λ e. StopsAt text (uses text v a raw) e)
 made text v a w b raw whole (Ok t) h p q x = (p, q, rw h x)
 made text v a w b raw whole (Err e) h p q x = rw h tt
+
+-- a number, which the code keeps in 64 bits
+pub number_bound : (text : List ℕ) (v a : List Name) (self : RawTerm) (s : Span) (n m : ℤ) → self ≡ rterm.Num s n → m ≡ n → TermOf text v a (tree_of self) (SNum (place s) m)
+number_bound text v a self s n m is e = rw (is, e) (of_num s n)
+
+-- names as they were before one was pushed and popped, and before two were
+pub popped_one : {v b d e : List Name} {x : Name} → b ≡ x ∷ v → d ≡ b → e ≡ drop 1 d → e ≡ v
+popped_one p q r = r ∙ ap (λ (l : List Name). drop 1 l) (q ∙ p)
+
+pub popped_two : {v b d e f g : List Name} {x y : Name} → b ≡ y ∷ v → d ≡ x ∷ b → e ≡ d → f ≡ drop 1 e → g ≡ drop 1 f → g ≡ v
+popped_two p q r s t = t ∙ ap (λ (l : List Name). drop 1 l) (popped_one q r s ∙ p)

@@ -1,15 +1,17 @@
 // From the bytes of a text to its term.
-ghost use Rattle.std.specs.Prelude.{◌≡◌, ◌≢◌, [], ◌∷◌, length, MatchResult, IsErrAnd};
+ghost use Rattle.std.specs.Prelude.{◌≡◌, ◌≢◌, ◌≤◌, ◌<◌, [], ◌∷◌, MatchResult, IsErrAnd};
 ghost use Rattle.idx_core.specs.declared.span.Span as place;
 ghost use Rattle.text_core.specs.Table.{Nt};
 ghost use Rattle.f_terms.specs.declared.fault.Code as codes;
 ghost use Rattle.f_terms.specs.declared.fault.FFault.TheVariants as fault;
 ghost use Rattle.f_terms.specs.Tm.{Tm};
 ghost use Rattle.f_terms.specs.Read.{spanned};
+ghost use Rattle.f_terms.specs.declared.fault.Code.TheVariants.{L3};
+ghost use Rattle.f_grammar.specs.Raw.{RawTm, nodes, place_of};
 ghost use Rattle.f_grammar.specs.Machine.{LE};
 ghost use Rattle.f_grammar.specs.Reads.{Fails};
-ghost use Rattle.f_reader.specs.Kept.{tree_of};
-ghost use Rattle.f_parser.specs.Text.{SourceWithin, FirstFault, IsFault, HasTokens, FewBytes, whole_of, end_of};
+ghost use Rattle.f_reader.specs.Kept.{tree_of, Keeps};
+ghost use Rattle.f_parser.specs.Text.{SourceWithin, FirstFault, IsFault, HasTokens, whole_of, end_of};
 ghost use Rattle.f_parser.specs.Reader.{HasTree};
 
 use crate::resolve::{Unresolved, term_in_scope};
@@ -57,7 +59,20 @@ fn stopped_fault(text: &[u8], tokens: &[Token], stopped: Stopped) -> FFault
             Some(token) => refused(Code::E03, token.span),
             None => refused(Code::E04, end(text)),
         },
-        Stopped::TooDeep(at) => refused(Code::L2, tokens[at].span),
+        Stopped::TooDeep(at) => match peek(tokens, at) {
+            Some(token) => refused(Code::L2, token.span),
+            None => unreachable!(),
+        },
+    }
+}
+
+// the tree, or the fault where it has too many nodes
+fn kept_tree(kept: Kept) -> Result<RawTerm, FFault>
+    ensures { (t : RawTm) → Keeps kept t → MatchResult result (λ e. (tree_of e ≡ t) × (nodes t ≤ 1000)) (λ f. (f ≡ fault.Refused L3 (place_of t)) × (1000 < nodes t)) }
+{
+    match kept {
+        Kept::Term(tree, _) => Ok(tree),
+        Kept::TooMany(span) => Err(refused(Code::L3, span)),
     }
 }
 
@@ -66,16 +81,12 @@ fn whole_tree(alloc: Global, text: &[u8], tokens: &[Token]) -> Result<RawTerm, F
     requires { HasTokens text.now tokens.now }
     ensures { MatchResult result (λ t. HasTree text.now (tree_of t)) (λ f. IsFault text.now f) }
 {
-    let found = match whole_term(alloc, tokens, 0, 0) {
-        Ok(found) => found,
-        Err(stopped) => return Err(stopped_fault(text, tokens, stopped)),
-    };
-    if let Some(token) = peek(tokens, found.next) {
-        return Err(refused(Code::E03, token.span));
-    }
-    match found.kept {
-        Kept::Term(term, _) => Ok(term),
-        Kept::TooMany(span) => Err(refused(Code::L3, span)),
+    match whole_term(alloc, tokens, 0, 0) {
+        Ok(found) => match peek(tokens, found.next) {
+            Some(token) => Err(refused(Code::E03, token.span)),
+            None => kept_tree(found.kept),
+        },
+        Err(stopped) => Err(stopped_fault(text, tokens, stopped)),
     }
 }
 

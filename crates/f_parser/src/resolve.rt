@@ -115,7 +115,6 @@ pub fn type_in_scope(alloc: Global, text: &[u8], ty: &RawType, types: &mut Names
 
 /// A term with its names resolved, where these value names and type names are in scope. They are as before where the
 /// answer is a term.
-#[tactic(none)]
 pub fn term_in_scope(alloc: Global, text: &[u8], term: &RawTerm, values: &mut Names, types: &mut Names) -> Result<Box<FTerm>, Unresolved>
     ensures {
         MatchResult result

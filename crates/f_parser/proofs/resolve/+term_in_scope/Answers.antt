@@ -1,8 +1,8 @@
-use Rattle.std.proofs.Common.{◌≡◌, ◌∙◌, sym, refl, ap}
+use Rattle.std.proofs.Common.{◌≡◌, ◌∙◌, sym, refl, ap, rules}
 use Rattle.std.proofs.lemmas.Result.{err_from_is_err_and}
 use Rattle.f_parser.specs.Scope.{of_var, of_num, of_fix, of_gen, of_app, of_inst, of_proj, of_arith, of_if0, of_no_terms}
 use Rattle.f_parser.proofs.Bound.{type_bound, term_bound}
-use Rattle.f_parser.proofs.Resolving.{stops_left, stops_right, name_stop, parts_stop, parts_whole, parts_more, made}
+use Rattle.f_parser.proofs.Resolving.{stops_left, stops_right, name_stop, number_bound, popped_one, popped_two, parts_stop, parts_whole, parts_more, made}
 use Rattle.f_parser.proofs.resolve.+term_in_scope.Goals as goal
 
 pub returns-in_err-arg-in-Fix : goal.returns-in_err-arg-in-Fix
@@ -88,7 +88,7 @@ loop-part-preserved t c =
   let x = c.in_ok-field-in-Tuple.ensures in
   record { values_kept = x.0 ∙ l.invariant.values_kept; types_kept = x.1 ∙ l.invariant.types_kept;
     resolved = parts_more c.args.text.now c.args.values.now c.args.types.now c.deref-part-items.result.now l.part-index c.part-item.result l.fields.items c.push-in-loop-part.new.self.items _
-      c.part-item.is c.loop-part-test.true c.in_ok-push-in-Tuple.ensures.items l.invariant.resolved (rw (l.invariant.values_kept, l.invariant.types_kept) at x.2) }
+      c.part-item.is c.loop-part-test.true c.in_ok-push-in-Tuple.ensures.items l.invariant.resolved (rw c.into_inner.ensures (rw (l.invariant.values_kept, l.invariant.types_kept) at x.2)) }
 
 pub returns-in_err-tuple-in-Proj : goal.returns-in_err-tuple-in-Proj
 returns-in_err-tuple-in-Proj t c =
@@ -137,21 +137,22 @@ returns-in-None t c =
 pub returns-in-Num : goal.returns-in-Num
 returns-in-Num t c =
   made c.args.text.now c.args.values.now c.args.types.now _ _ _ _ c.boxed-in-Num.result c.boxed-in-Num.ensures refl refl
-    (rw c.in-Num.is (of_num c.in-Num.span c.in-Num.value))
+    (number_bound c.args.text.now c.args.values.now c.args.types.now c.args.term.now c.in-Num.span c.in-Num.value _ c.in-Num.is (search rules))
 
 pub returns-in_ok-body-in-Fix : goal.returns-in_ok-body-in-Fix
 returns-in_ok-body-in-Fix t c =
   let x = c.in_ok-arg-in-Fix.ensures in
   let y = c.in_ok-res-in-Fix.ensures in
   let z = c.in_ok-body-in-Fix.ensures in
-  made c.args.text.now c.args.values.now c.args.types.now _ _ _ _ c.boxed-in-Fix.result c.boxed-in-Fix.ensures ? ?
+  made c.args.text.now c.args.values.now c.args.types.now _ _ _ _ c.boxed-in-Fix.result c.boxed-in-Fix.ensures
+    (popped_two c.in_ok-push-in-Fix.ensures.pushed c.in_ok-push-in-Fix-2.ensures.pushed z.0 c.pop.ensures c.pop-in-Fix.ensures) (z.1 ∙ (y.kept ∙ x.kept))
     (rw c.in-Fix.is (of_fix c.in-Fix.span c.in-Fix.name c.in-Fix.parameter x.right (rw x.kept at y.right)
     (rw (c.in_ok-push-in-Fix-2.ensures.pushed, c.in_ok-push-in-Fix.ensures.pushed, c.spelling-in-Fix.ensures, c.spelling-in-Fix-2.ensures, y.kept, x.kept, c.deref.ensures) at z.2)))
 
 pub returns-in_ok-body-in-Gen : goal.returns-in_ok-body-in-Gen
 returns-in_ok-body-in-Gen t c =
   let z = c.in_ok-body-in-Gen.ensures in
-  made c.args.text.now c.args.values.now c.args.types.now _ _ _ _ c.boxed-in-Gen.result c.boxed-in-Gen.ensures ? ?
+  made c.args.text.now c.args.values.now c.args.types.now _ _ _ _ c.boxed-in-Gen.result c.boxed-in-Gen.ensures z.0 (popped_one c.in_ok-push-in-Gen.ensures.pushed z.1 c.pop-in-Gen.ensures)
     (rw c.in-Gen.is (of_gen c.in-Gen.span c.in-Gen.name (rw (c.in_ok-push-in-Gen.ensures.pushed, c.spelling-in-Gen.ensures, c.deref-in-Gen.ensures) at z.2)))
 
 pub returns-in_ok-argument-in-App : goal.returns-in_ok-argument-in-App

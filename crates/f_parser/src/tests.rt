@@ -184,7 +184,7 @@ fn knows_where_a_cut_text_ends(rt: HostRuntime) {
 fn type_places(ty: &FType, out: &mut Vec<(u64, u64, u64)>) -> Result<(), AllocError> {
     match ty {
         FType::Int => Ok(()),
-        FType::Var(i) => out.push((0, 0, *i)),
+        FType::Var(i) => Ok(out.push((0, 0, *i))?),
         FType::Arrow(a, b) => {
             type_places(a, out)?;
             type_places(b, out)

@@ -1,2 +1,6 @@
-pub mod Digits
-pub mod Moves
+pub mod Coded
+pub mod Items
+pub mod Placed
+pub mod Rendered
+pub mod Scopes
+pub mod WroteTypes

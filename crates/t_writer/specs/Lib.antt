@@ -1,1 +1,3 @@
+pub mod Ints
+pub mod Lexeme
 pub mod Written

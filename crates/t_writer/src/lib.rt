@@ -1,7 +1,9 @@
 //! Texts of programs of the typed assembly language.
 #![tactic(auto)]
 
+mod code;
+mod names;
 mod number;
 mod program;
-
-pub use program::write;
+mod types;
+mod values;

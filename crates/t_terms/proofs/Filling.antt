@@ -11,7 +11,8 @@ use Rattle.t_terms.specs.Grammar.{tok}
 use Rattle.text_core.specs.Table.{Tm, Nt, Do, Mark, Seen}
 use Rattle.text_core.proofs.Reading as reading
 use Rattle.text_core.proofs.Rules as rules
-use Rattle.text_core.proofs.Rules.{Filling, good_row, quiet_row, AtLeast, Least}
+use Rattle.text_core.proofs.Rules.{Filling, quiet_row, AtLeast, Least}
+use Rattle.t_terms.proofs.Completing.{good_row}
 use Rattle.t_terms.specs.Machine.{table, Line, LProgram, LBlock, MoreBlocks, LBinds, LNames, MoreNames, LFile, LRegs, MoreRegs, LT, LFields, MoreFields, LTypes, LTypeList, LSomeTypes, MoreTypes, LV, LArgs, LPacked, LTo, LAt, LIndex, LTarget, LInt, LI, MoreSteps, LEnd, Act, Stack, Val, OfValue, fits, after, may_end, marks, exec, Outcome, act, MakeBinds, MakeFile, NoNames, NoRegs, TypeInt, NoFields, MakeTypes, NoTypes, MakeBase, MakePacked, MakeTo, MakeIndex, MakeAt, MakeTarget, MakeInt, MakeMalloc, MakeHalt, NoSteps, MakeBlock, FirstBlock, MakeProgram, FirstType, CloseTypes}
 
 abbrev here : Span

@@ -1,6 +1,6 @@
 -- That a table is exact where its lines may follow on one another: a line that is owed may be followed by one that is
 -- completed by a token of its number or more.
-use Rattle.std.proofs.Common.{◌≡◌, ℕ, ◌<◌, ◌≤◌, List, [], ◌∷◌, ◌++◌, refl, ◌∙◌, ap, subst, append_assoc, Option, Some, None, Bool, true, false, arith, nat_lt, if◌then◌else◌}
+use Rattle.std.proofs.Common.{◌≡◌, ℕ, ◌<◌, ◌≤◌, List, [], ◌∷◌, ◌++◌, refl, ◌∙◌, ap, subst, Option, Some, None, Bool, true, false, arith, nat_lt, if◌then◌else◌}
 use Rattle.std.proofs.lemmas.List.{append-nil}
 use Rattle.std.proofs.lemmas.Bool.{ltb-false, le-ltb}
 use Rattle.text_core.specs.Table.{Tm, Nt, Do, Mark, Table, Stack, State, step, finish, Outcome, Done, Seen, seen, marks, at_end, go, exec, whole, on_line, bounded}

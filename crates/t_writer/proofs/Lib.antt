@@ -1,6 +1,10 @@
 pub mod Coded
 pub mod Items
+pub mod Nested
 pub mod Placed
 pub mod Rendered
 pub mod Scopes
+pub mod Texts
+pub mod WroteBlocks
+pub mod WroteCode
 pub mod WroteTypes

@@ -5,16 +5,18 @@ ghost use Rattle.t_terms.specs.Tree.{names_after as names_then};
 ghost use Rattle.t_terms.specs.Read.{instr as instr_of, body as body_of, end_of, block as block_of, blocks_of};
 ghost use Rattle.t_terms.specs.Spanned.{seq_of};
 ghost use Rattle.t_terms.specs.Whole.{WellFormedSeq, WellFormedBlock, WellFormedBlocks};
+ghost use Rattle.t_terms.specs.Text.{most_open, StandsFor};
 ghost use Rattle.t_writer.specs.Ints.{SeqFits, BlocksFit};
 ghost use Rattle.t_writer.specs.Lexeme.{render};
-ghost use Rattle.t_writer.specs.Written.{seq_written, block_written, program_written};
+ghost use Rattle.t_writer.specs.Nesting.{nesting, ReadsBack};
+ghost use Rattle.t_writer.specs.Written.{seq_written, block_written, program_written, HasHeader};
 
 use crate::code::{write_end, write_instr};
 use crate::names::{write_binds, write_name};
 use crate::types::write_file;
 use idx_core::{OutOfMemory, Span};
 use std::alloc::Global;
-use t_terms::{Block, End, Instr};
+use t_terms::{Block, End, Instr, TProgram};
 
 // The number of type names in the rest of a block after an instruction.
 fn names_after(instr: &Instr, depth: u64) -> u64
@@ -57,6 +59,17 @@ fn write_block(text: &mut Vec<u8>, number: u64, block: &Block) -> Result<(), Out
     text.extend_from_slice(b".\n")?;
     write_code(text, &block.body, &block.end, block.owes)?;
     Ok(())
+}
+
+/// A text that stands for the program, places aside. It begins with `tal 1` and a line end. Where the program's
+/// nesting keeps the limit on open constructs, the text does, and so it reads as the program.
+pub fn write(alloc: Global, program: &TProgram) -> Result<Vec<u8>, OutOfMemory>
+    ensures stands { IfOk result (λ text. StandsFor text.items (blocks_of program.now.blocks.items)) }
+    ensures header { IfOk result (λ text. HasHeader text.items) }
+    ensures reads { IfOk result (λ text. nesting (blocks_of program.now.blocks.items) ≤ most_open → ReadsBack text.items (blocks_of program.now.blocks.items)) }
+{
+    let text = write_blocks(alloc, &program.blocks)?;
+    Ok(text)
 }
 
 // The blocks in turn, after the words of the first version of the language.

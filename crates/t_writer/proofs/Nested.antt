@@ -1,17 +1,22 @@
 -- The constructs that are open at the tokens of a text, counted by the program that the text stands for.
 use Rattle.std.proofs.Common.{◌≡◌, ◌≤◌, ◌<◌, ℕ, zero, suc, ◌+◌, max, nat_lt, if◌then◌else◌, List, [], ◌∷◌, ◌++◌, length, map, slice_index, Bool, true, false, refl, sym, ap, ap₂, ◌∙◌, arith, subst, append_assoc}
+use Rattle.std.proofs.lemmas.Bool.{ltb-false}
 use Rattle.idx_core.specs.declared.span.Span.{Span}
 use Rattle.idx_core.specs.Names.{Name}
-use Rattle.text_core.specs.Shapes.{Passes, NonePasses}
+use Rattle.text_core.specs.Shapes.{NonePasses, Says}
+use Rattle.text_core.specs.Table.{Done, seen, Fine, Passed, bounded}
 use Rattle.t_types.specs.Tree.{Ty, TFile, NoRegs, MoreRegs}
 use Rattle.t_terms.specs.declared.token.Token.{Token}
 use Rattle.t_terms.specs.Tree.{TBlock}
 use Rattle.t_terms.specs.Spanned.{SBlock, seq_of, plain_blocks}
 use Rattle.t_terms.specs.Raw.{RawTy, RInt, RName, RCode, RSome, RTuple, RawRegs, NoRawRegs, MoreRawRegs, RawFields, NoRawFields, MoreRawFields, RawReg, RawField, raw_regs, raw_fields, RawBase, RawValue, RPlain, RPack, RawInstr, RArith, RBnz, RLd, RMalloc, RMov, RSt, RUnpack, RawEnd, RJmp, RHalt, RawBlock, Piece, ending}
 use Rattle.t_terms.specs.Grammar.{Names, ns_one, ns_more, Binds, bs_none, bs_names, T, t_int, t_name, t_code, t_some, t_unit, t_tuple, File, f_none, f_regs, Rs, rs_one, rs_more, Fs, fs_one, fs_more, Ts, ts_one, ts_more, V, v_base, v_apply, v_pack, I, i_arith, i_bnz, i_ld, i_malloc_none, i_malloc, i_mov, i_st, i_unpack, Is, is_none, is_more, End, e_jmp, e_halt, Block, b_block, Blocks, bs_one, bs_more, Program, p_program, open_Names, open_Binds, open_T, open_File, open_Rs, open_Fs, open_Ts, open_V, open_I, open_Is, open_End, open_Block, open_Blocks, open_Program}
-use Rattle.t_terms.specs.Machine.{table}
+use Rattle.t_terms.specs.Machine.{table, Val, OfBlocks}
 use Rattle.t_terms.specs.Names.{insert_reg, type_of, file_of, fields_of, types_of, value_of, instr_of, names_after, names_after_all, body_of, end_of, block_of, labels_of, program_of, bind, spelled}
 use Rattle.t_terms.specs.Text.{most_open, Stands, StandsFor, KeepsLimit}
+use Rattle.t_terms.proofs.Complete.{read_shape}
+use Rattle.t_terms.proofs.Instance.{assembly_exact, one_verdict}
+use Rattle.t_terms.proofs.TextExact.{one_cut}
 use Rattle.t_writer.specs.Nesting.{type_nesting, regs_nesting, fields_nesting, types_nesting, value_nesting, instr_nesting, end_nesting, seq_nesting, block_nesting, nesting, greatest, CountsOpen, KeepsByNesting}
 
 greatest-append : (a b : List ℕ) → greatest (a ++ b) ≡ max (greatest a) (greatest b)
@@ -240,14 +245,44 @@ at_most_greatest [] i = omega arith
 at_most_greatest (n ∷ ns) zero = omega arith
 at_most_greatest (n ∷ ns) (suc i) = omega (arith, at_most_greatest ns i)
 
-pub keeps_by_nesting : KeepsByNesting
-keeps_by_nesting text P (Q, s, is) h = (s.tokens, s.cut, none)
+-- no more than the limit are open anywhere, where the machine takes the tokens
+never_more : (ns : List ℕ) (w : List Token) (vs us : List Val) → bounded table most_open w (seen table ns (Done vs)) ≡ Fine us → greatest ns ≤ most_open
+never_more [] w vs us e = omega arith
+never_more (n ∷ ns) [] vs us e = absurd (cc)
+never_more (n ∷ ns) (c ∷ w) vs us e = by_test (nat_lt most_open n) refl e (never_more ns w vs us)
   where
-    none : NonePasses table most_open s.tokens
-    none u c z e x =
-        let q : s.tokens ≡ (u ++ c ∷ []) ++ z = e ∙ sym (append_assoc u (c ∷ []) z) in
-        let p : Program ((u ++ c ∷ []) ++ z) s.raw = subst (λ (w : List Token). Program w s.raw) q s.shape in
-        let n : slice_index (open_Program p 0) (length u) ≡ x.number = x.holds z s.raw p in
-        let all : greatest (open_Program p 0) ≡ nesting P = program_open p ∙ (sym (blocks_same text (labels_of text s.raw) s.raw) ∙ (ap (λ (R : List SBlock). nesting (plain_blocks R)) (sym s.is) ∙ ap nesting is)) in
-        let m = at_most_greatest (open_Program p 0) (length u) in
-        omega (arith, x.more)
+    by_test : (x : Bool) → nat_lt most_open n ≡ x → (if x then Passed (c ∷ w) else bounded table most_open w (seen table ns (Done vs))) ≡ Fine us →
+        (bounded table most_open w (seen table ns (Done vs)) ≡ Fine us → greatest ns ≤ most_open) → max n (greatest ns) ≤ most_open
+    by_test true f e ih = absurd (cc)
+    by_test false f e ih = omega (arith, ltb-false most_open n f, ih e)
+
+module _ (text : List ℕ) (P : List TBlock) (stand : StandsFor text P) where
+  abbrev it : Stands text stand.0
+  it = stand.1
+
+  -- the greatest number in any shape with the raw tree of the text
+  all_open : {w : List Token} (p : Program w it.raw) → greatest (open_Program p 0) ≡ nesting P
+  all_open p = program_open p ∙ (sym (blocks_same text (labels_of text it.raw) it.raw) ∙ (ap (λ (R : List SBlock). nesting (plain_blocks R)) (sym it.is) ∙ ap nesting stand.2))
+
+  pub keeps : nesting P ≤ most_open → NonePasses table most_open it.tokens
+  keeps h u c z e x =
+      let q : it.tokens ≡ (u ++ c ∷ []) ++ z = e ∙ sym (append_assoc u (c ∷ []) z) in
+      let p : Program ((u ++ c ∷ []) ++ z) it.raw = subst (λ (w : List Token). Program w it.raw) q it.shape in
+      let n : slice_index (open_Program p 0) (length u) ≡ x.number = x.holds z it.raw p in
+      let all = all_open p in
+      let m = at_most_greatest (open_Program p 0) (length u) in
+      omega (arith, x.more)
+
+  pub kept : KeepsLimit text → nesting P ≤ most_open
+  kept k =
+      let none = subst (λ (w : List Token). NonePasses table most_open w) (one_cut text k.0 it.tokens k.1 it.cut) k.2 in
+      let says = assembly_exact most_open it.tokens in
+      let fine : Says table most_open it.tokens (Fine (OfBlocks it.raw ∷ [])) = record { value = it.raw; shape = it.shape; is = refl; within = none } in
+      let q = one_verdict most_open it.tokens _ _ says fine in
+      let r : bounded table most_open it.tokens (seen table (open_Program it.shape 0) (Done (OfBlocks it.raw ∷ []))) ≡ Fine (OfBlocks it.raw ∷ []) =
+        ap (bounded table most_open it.tokens) (sym (read_shape it.shape)) ∙ q in
+      let most = never_more (open_Program it.shape 0) it.tokens (OfBlocks it.raw ∷ []) (OfBlocks it.raw ∷ []) r in
+      omega (arith, all_open it.shape)
+
+pub keeps_by_nesting : KeepsByNesting
+keeps_by_nesting text P s = (λ k. kept text P s k, λ h. (s.1.tokens, s.1.cut, keeps text P s h))

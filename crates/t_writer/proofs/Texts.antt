@@ -20,4 +20,4 @@ pub text_stands : (text : List ℕ) (bs : List Block) → length bs < 2 ^ 63 →
 text_stands text bs few h f e = written_stands text (blocks_of bs) (omega (arith, blocks_count bs)) h f e
 
 pub reads_back : (text : List ℕ) (P : List TBlock) → StandsFor text P → nesting P ≤ most_open → ReadsBack text P
-reads_back text P (Q, s, is) h = (Q, record { stands = s; within = keeps_by_nesting text P (Q, s, is) h }, is)
+reads_back text P (Q, s, is) h = (Q, record { stands = s; within = (keeps_by_nesting text P (Q, s, is)).1 h }, is)

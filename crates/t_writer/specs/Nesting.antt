@@ -1,6 +1,6 @@
 -- How many constructs are open at once in the text of a program, whatever text stands for it: brackets `<`, `[` and `{`
 -- up to their closing ones, and `some` up to the end of its type.
-use Rattle.std.specs.Prelude.{◌≡◌, ◌≤◌, ℕ, ◌+◌, max, List, [], ◌∷◌}
+use Rattle.std.specs.Prelude.{◌≡◌, ◌≤◌, ◌↔◌, ℕ, ◌+◌, max, List, [], ◌∷◌}
 use Rattle.t_types.specs.Tree.{Ty, IntTy, VarTy, CodeTy, ExistsTy, TupleTy, TFile, NoRegs, MoreRegs, TFields, NoFields, MoreFields}
 use Rattle.t_terms.specs.Tree.{TValue, Plain, Pack, TInstr, Arith, Bnz, Ld, Malloc, Mov, St, Unpack, TEnd, Jmp, Halt, TSeq, Then, Ends, TBlock}
 use Rattle.t_terms.specs.Spanned.{SBlock, plain_blocks}
@@ -69,9 +69,9 @@ greatest (n ∷ ns) = max n (greatest ns)
 abbrev pub CountsOpen : Type 0
 CountsOpen = (text : List ℕ) (P : List SBlock) (s : Stands text P) → greatest (open_Program s.shape 0) ≡ nesting (plain_blocks P)
 
--- a text that stands for a program whose nesting is within the limit keeps the limit
+-- a text that stands for a program keeps the limit exactly where the program's nesting is within it
 abbrev pub KeepsByNesting : Type 0
-KeepsByNesting = (text : List ℕ) (P : List TBlock) → StandsFor text P → nesting P ≤ most_open → KeepsLimit text
+KeepsByNesting = (text : List ℕ) (P : List TBlock) → StandsFor text P → KeepsLimit text ↔ (nesting P ≤ most_open)
 
 -- the text reads as the program, places aside
 abbrev pub ReadsBack : List ℕ → List TBlock → Type 0

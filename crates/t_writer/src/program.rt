@@ -1,8 +1,6 @@
 // Blocks and programs.
 ghost use Rattle.std.specs.Prelude.{◌≡◌, ◌++◌, ◌≤◌, ℕ, OnOk, IfOk};
-ghost use Rattle.t_types.specs.WellFormed.{max_names};
-ghost use Rattle.t_terms.specs.Tree.{names_after as names_then};
-ghost use Rattle.t_terms.specs.Read.{instr as instr_of, body as body_of, end_of, block as block_of, blocks_of};
+ghost use Rattle.t_terms.specs.Read.{body as body_of, end_of, block as block_of, blocks_of};
 ghost use Rattle.t_terms.specs.Spanned.{seq_of};
 ghost use Rattle.t_terms.specs.Whole.{WellFormedSeq, WellFormedBlock, WellFormedBlocks};
 ghost use Rattle.t_terms.specs.Text.{most_open, StandsFor};
@@ -16,18 +14,7 @@ use crate::names::{write_binds, write_name};
 use crate::types::write_file;
 use idx_core::{OutOfMemory, Span};
 use std::alloc::Global;
-use t_terms::{Block, End, Instr, TProgram};
-
-// The number of type names in the rest of a block after an instruction.
-fn names_after(instr: &Instr, depth: u64) -> u64
-    requires { names_then (instr_of instr.now) depth ≤ max_names }
-    ensures { result ≡ names_then (instr_of instr.now) depth }
-{
-    match instr {
-        Instr::Unpack { rd: _, v: _ } => depth + 1,
-        _ => depth,
-    }
-}
+use t_terms::{Block, End, Instr, TProgram, names_after};
 
 // Instructions and an end inside `depth` type names, a line for each.
 fn write_code(text: &mut Vec<u8>, body: &[(Instr, Span)], end: &End, depth: u64) -> Result<(), OutOfMemory>

@@ -1,5 +1,5 @@
 -- What stands at the start of written bytes: each lexeme is one item, where what follows it ends it.
-use Rattle.std.proofs.Common.{◌≡◌, ◌≤◌, ◌<◌, ◌^◌, ◌≤ℤ◌, ℕ, zero, suc, ◌+◌, ◌-◌, ◌*◌, List, [], ◌∷◌, ◌++◌, length, take, drop, Bool, true, false, cond, if◌then◌else◌, ◌&&◌, ◌||◌, not, ◌==◌, refl, sym, ap, ◌∙◌, arith, ℤ, pos, negsuc, neg_ℤ, subst, decimal, Option, Some, None}
+use Rattle.std.proofs.Common.{◌≡◌, ◌≤◌, ◌<◌, ◌^◌, ℕ, suc, ◌+◌, List, [], ◌∷◌, ◌++◌, length, take, drop, Bool, true, false, ◌&&◌, ◌||◌, not, ◌==◌, refl, ap, ◌∙◌, arith, pos, negsuc, neg_ℤ, decimal, Some}
 use Rattle.std.specs.List.{prefix_len, list_all}
 use Rattle.std.proofs.lemmas.Bool.{and_parts}
 use Rattle.std.proofs.lemmas.Bool.Decides.{nat_tests}
@@ -9,12 +9,12 @@ use Rattle.std.proofs.lemmas.Fmt.{digits_decimal, digits_value-decimal, decimal_
 use Rattle.std.proofs.Math.Seq.{take-append_seam}
 use Rattle.text_core.specs.Byte.{space, digit, letter, of_word, value, value_from}
 use Rattle.text_core.specs.Tokens.{Item, Gap, Spelling, look}
-use Rattle.text_core.specs.Lexeme.{Piece, PGap, PWord, PPlain, PNegative, POther, at_dashes, at_negative, piece, of_piece, sign_item, item}
+use Rattle.text_core.specs.Lexeme.{Piece, PWord, PPlain, PNegative, POther, at_dashes, at_negative, piece, of_piece, sign_item, item}
 use Rattle.t_terms.specs.declared.token.Kind.{Kind}
 use Rattle.t_terms.specs.declared.token.Kind.TheVariants as k
-use Rattle.t_terms.specs.Tokens.{assembly, Keeps, word, words, word_in, signs, is_register}
+use Rattle.t_terms.specs.Tokens.{assembly, Keeps, word, signs}
 use Rattle.t_writer.specs.Ints.{IntFits}
-use Rattle.t_writer.specs.Lexeme.{Lexeme, Reserved, TypeName, LabelName, Register, Number, Digit, Sign, Blank, bytes, number_text, number_kind}
+use Rattle.t_writer.specs.Lexeme.{Lexeme, Reserved, TypeName, LabelName, Register, Number, Digit, Sign, Blank, bytes, number_kind}
 
 -- all bytes are digits
 abbrev AreDigits : List ℕ → Type 0

@@ -3,6 +3,7 @@ pub mod Items
 pub mod Nested
 pub mod Placed
 pub mod Rendered
+mod Rows
 pub mod Scopes
 pub mod Texts
 pub mod WroteBlocks

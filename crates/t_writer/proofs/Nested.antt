@@ -1,5 +1,5 @@
 -- The constructs that are open at the tokens of a text, counted by the program that the text stands for.
-use Rattle.std.proofs.Common.{◌≡◌, ◌≤◌, ◌<◌, ℕ, zero, suc, ◌+◌, max, nat_lt, if◌then◌else◌, List, [], ◌∷◌, ◌++◌, length, map, slice_index, Bool, true, false, refl, sym, ap, ap₂, ◌∙◌, arith, subst, append_assoc}
+use Rattle.std.proofs.Common.{◌≡◌, ◌≤◌, ℕ, zero, suc, ◌+◌, max, nat_lt, if◌then◌else◌, List, [], ◌∷◌, ◌++◌, length, map, slice_index, Bool, true, false, refl, sym, ap, ap₂, ◌∙◌, arith, subst, append_assoc}
 use Rattle.std.proofs.lemmas.Bool.{ltb-false}
 use Rattle.idx_core.specs.declared.span.Span.{Span}
 use Rattle.idx_core.specs.Names.{Name}
@@ -9,15 +9,15 @@ use Rattle.t_types.specs.Tree.{Ty, TFile, NoRegs, MoreRegs}
 use Rattle.t_terms.specs.declared.token.Token.{Token}
 use Rattle.t_terms.specs.Tree.{TBlock}
 use Rattle.t_terms.specs.Spanned.{SBlock, seq_of, plain_blocks}
-use Rattle.t_terms.specs.Raw.{RawTy, RInt, RName, RCode, RSome, RTuple, RawRegs, NoRawRegs, MoreRawRegs, RawFields, NoRawFields, MoreRawFields, RawReg, RawField, raw_regs, raw_fields, RawBase, RawValue, RPlain, RPack, RawInstr, RArith, RBnz, RLd, RMalloc, RMov, RSt, RUnpack, RawEnd, RJmp, RHalt, RawBlock, Piece, ending}
+use Rattle.t_terms.specs.Raw.{RawTy, RInt, RName, RCode, RSome, RTuple, RawRegs, NoRawRegs, MoreRawRegs, RawFields, NoRawFields, MoreRawFields, RawReg, RawField, raw_regs, raw_fields, RawBase, RawValue, RPlain, RPack, RawInstr, RArith, RBnz, RLd, RMalloc, RMov, RSt, RUnpack, RawEnd, RJmp, RHalt, RawBlock, Piece}
 use Rattle.t_terms.specs.Grammar.{Names, ns_one, ns_more, Binds, bs_none, bs_names, T, t_int, t_name, t_code, t_some, t_unit, t_tuple, File, f_none, f_regs, Rs, rs_one, rs_more, Fs, fs_one, fs_more, Ts, ts_one, ts_more, V, v_base, v_apply, v_pack, I, i_arith, i_bnz, i_ld, i_malloc_none, i_malloc, i_mov, i_st, i_unpack, Is, is_none, is_more, End, e_jmp, e_halt, Block, b_block, Blocks, bs_one, bs_more, Program, p_program, open_Names, open_Binds, open_T, open_File, open_Rs, open_Fs, open_Ts, open_V, open_I, open_Is, open_End, open_Block, open_Blocks, open_Program}
 use Rattle.t_terms.specs.Machine.{table, Val, OfBlocks}
-use Rattle.t_terms.specs.Names.{insert_reg, type_of, file_of, fields_of, types_of, value_of, instr_of, names_after, names_after_all, body_of, end_of, block_of, labels_of, program_of, bind, spelled}
+use Rattle.t_terms.specs.Names.{insert_reg, type_of, file_of, fields_of, types_of, value_of, instr_of, names_after, names_after_all, body_of, end_of, block_of, labels_of, bind, spelled}
 use Rattle.t_terms.specs.Text.{most_open, Stands, StandsFor, KeepsLimit}
 use Rattle.t_terms.proofs.Complete.{read_shape}
 use Rattle.t_terms.proofs.Instance.{assembly_exact, one_verdict}
 use Rattle.t_terms.proofs.TextExact.{one_cut}
-use Rattle.t_writer.specs.Nesting.{type_nesting, regs_nesting, fields_nesting, types_nesting, value_nesting, instr_nesting, end_nesting, seq_nesting, block_nesting, nesting, greatest, CountsOpen, KeepsByNesting}
+use Rattle.t_writer.specs.Nesting.{type_nesting, regs_nesting, fields_nesting, types_nesting, value_nesting, instr_nesting, end_nesting, seq_nesting, nesting, greatest, CountsOpen, KeepsByNesting}
 
 greatest-append : (a b : List ℕ) → greatest (a ++ b) ≡ max (greatest a) (greatest b)
 greatest-append [] b = omega arith
@@ -226,8 +226,16 @@ body_open (is_more {is} {i} x y) = omega (arith, greatest-append (open_Is x 0) (
 
 block_open : {w : List Token} {b : RawBlock} (x : Block w b) → greatest (open_Block x 0) ≡ raw_block b
 block_open (b_block l c e p x y z last) =
-    omega (arith, greatest-append (open_Binds x 0) (open_File y 0 ++ 0 ∷ (open_Is z 0 ++ open_End last 0)), greatest-append (open_File y 0) (0 ∷ (open_Is z 0 ++ open_End last 0)), greatest-append (open_Is z 0) (open_End last 0),
-      binds_open x 0, file_open y 0, body_open z, end_open last 0)
+    omega (
+      arith,
+      greatest-append (open_Binds x 0) (open_File y 0 ++ 0 ∷ (open_Is z 0 ++ open_End last 0)),
+      greatest-append (open_File y 0) (0 ∷ (open_Is z 0 ++ open_End last 0)),
+      greatest-append (open_Is z 0) (open_End last 0),
+      binds_open x 0,
+      file_open y 0,
+      body_open z,
+      end_open last 0,
+    )
 
 blocks_open : {w : List Token} {bs : List RawBlock} (x : Blocks w bs) → greatest (open_Blocks x 0) ≡ raw_blocks bs
 blocks_open (bs_one x) = omega (arith, block_open x)
@@ -280,7 +288,7 @@ module _ (text : List ℕ) (P : List TBlock) (stand : StandsFor text P) where
       let fine : Says table most_open it.tokens (Fine (OfBlocks it.raw ∷ [])) = record { value = it.raw; shape = it.shape; is = refl; within = none } in
       let q = one_verdict most_open it.tokens _ _ says fine in
       let r : bounded table most_open it.tokens (seen table (open_Program it.shape 0) (Done (OfBlocks it.raw ∷ []))) ≡ Fine (OfBlocks it.raw ∷ []) =
-        ap (bounded table most_open it.tokens) (sym (read_shape it.shape)) ∙ q in
+      ap (bounded table most_open it.tokens) (sym (read_shape it.shape)) ∙ q in
       let most = never_more (open_Program it.shape 0) it.tokens (OfBlocks it.raw ∷ []) (OfBlocks it.raw ∷ []) r in
       omega (arith, all_open it.shape)
 

@@ -1,21 +1,20 @@
 -- The tokens of written bytes, with their places, and that the bytes are cut into them.
-use Rattle.std.proofs.Common.{◌≡◌, ◌≤◌, ◌<◌, ◌^◌, ℕ, zero, suc, ◌+◌, ◌-◌, List, [], ◌∷◌, ◌++◌, length, take, drop, Bool, true, false, not, refl, sym, ap, ◌∙◌, arith, subst, append_assoc, length-append, decimal}
+use Rattle.std.proofs.Common.{◌≡◌, ℕ, ◌+◌, ◌-◌, List, [], ◌∷◌, ◌++◌, length, drop, Bool, true, false, refl, sym, ap, ◌∙◌, arith, subst, append_assoc, length-append}
 use Rattle.std.specs.Prelude.{slice_range}
 use Rattle.std.proofs.lemmas.List.{drop-drop}
 use Rattle.std.proofs.lemmas.Bool.Decides.{nat_tests}
 use Rattle.std.proofs.Math.Seq.{take-append_seam, drop-append_seam}
 use Rattle.idx_core.specs.declared.span.Span.{Span}
 use Rattle.text_core.specs.Byte.{space, of_word}
-use Rattle.text_core.specs.Tokens.{Item, Gap, Spelling, Next, Cut, c_end, c_gap, c_token}
+use Rattle.text_core.specs.Tokens.{Gap, Spelling, Next, Cut, c_end, c_gap, c_token}
 use Rattle.text_core.specs.Lexeme.{item}
 use Rattle.text_core.proofs.Items.{some_next}
 use Rattle.t_terms.specs.declared.token.Kind.{Kind}
 use Rattle.t_terms.specs.declared.token.Token.{Token}
-use Rattle.t_terms.specs.Tokens.{assembly, Keeps}
+use Rattle.t_terms.specs.Tokens.{assembly}
 use Rattle.t_terms.specs.Grammar.{tok}
 use Rattle.t_terms.proofs.TokenLaws.{assembly_signs}
 use Rattle.t_writer.specs.Lexeme.{Lexeme, Reserved, TypeName, LabelName, Register, Number, Digit, Sign, Blank, bytes, render}
-use Rattle.t_writer.proofs.Rendered.{render_append}
 use Rattle.t_writer.proofs.Items.{Stops, Valid, plain_sign, kind_of, lexeme_item, lexeme_keeps}
 
 -- the length of what is written

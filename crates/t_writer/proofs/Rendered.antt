@@ -1,11 +1,11 @@
 -- The bytes of lists of lexemes, and of lists that a loop writes item by item.
-use Rattle.std.proofs.Common.{Bool, ◌≡◌, ◌≤◌, ◌<◌, ℕ, zero, suc, ◌+◌, ◌-◌, List, [], ◌∷◌, ◌++◌, length, drop, get_or, map, refl, sym, ◌∙◌, ap, subst, arith, append_assoc, add-one, drop-cons, codes, decimal}
+use Rattle.std.proofs.Common.{Bool, ◌≡◌, ◌≤◌, ◌<◌, ℕ, suc, ◌+◌, ◌-◌, List, [], ◌∷◌, ◌++◌, length, drop, get_or, refl, sym, ◌∙◌, ap, subst, arith, append_assoc, add-one, drop-cons, codes, decimal}
 use Rattle.std.specs.Prelude.{All}
 use Rattle.std.proofs.lemmas.List.{append-nil}
 use Rattle.std.proofs.lemmas.List.Elements.{All-nil, All-cons}
 use Rattle.std.proofs.Math.ListN.{drop_of_length-le}
 use Rattle.t_types.specs.declared.types.TType.{TType}
-use Rattle.t_types.specs.Tree.{Ty, CodeTy, ExistsTy, TupleTy, TFile, TFields}
+use Rattle.t_types.specs.Tree.{Ty, CodeTy, TupleTy, TFile, TFields}
 use Rattle.t_types.specs.Read.{tree, file, fields, types}
 use Rattle.t_types.specs.WellFormed.{WellFormed, RegsAbove, WellFormedFields, WellFormedTypes}
 use Rattle.t_terms.specs.declared.token.Kind.TheVariants as k
@@ -52,7 +52,7 @@ left_more item text next i xs x whole is lt h e =
     let d : drop i xs ≡ x ∷ drop (suc i) xs = drop-cons xs i x lt ∙ ap (λ (y : _). y ∷ drop (suc i) xs) (sym is) in
     let w : text ++ render (listed item i (x ∷ drop (suc i) xs)) ≡ whole = subst (λ ys. text ++ render (listed item i ys) ≡ whole) d h in
     let j : text ++ (render (separator i) ++ (render (item x) ++ render (listed item (suc i) (drop (suc i) xs)))) ≡ whole =
-      ap (λ (s : List ℕ). text ++ s) (sym (render_append (separator i) (item x ++ listed item (suc i) (drop (suc i) xs)) ∙ ap (λ (s : List ℕ). render (separator i) ++ s) (render_append (item x) (listed item (suc i) (drop (suc i) xs))))) ∙ w in
+    ap (λ (s : List ℕ). text ++ s) (sym (render_append (separator i) (item x ++ listed item (suc i) (drop (suc i) xs)) ∙ ap (λ (s : List ℕ). render (separator i) ++ s) (render_append (item x) (listed item (suc i) (drop (suc i) xs))))) ∙ w in
     rw (add-one i, e) (simp append_assoc j)
 
 pub left_none : {A : Type 0} (item : A → List Lexeme) (text : List ℕ) (i : ℕ) (xs : List A) (whole : List ℕ) → Left item text i xs whole → length xs ≤ i → text ≡ whole

@@ -1,25 +1,23 @@
 -- Blocks and programs that are written stand for themselves.
-use Rattle.std.proofs.Common.{◌≡◌, ◌≤◌, ◌<◌, ◌^◌, pos, ℕ, zero, suc, ◌+◌, List, [], ◌∷◌, ◌++◌, length, map, codes, Bool, true, false, if◌then◌else◌, refl, sym, ap, ap₂, ◌∙◌, arith, subst, append_assoc, zero-add}
+use Rattle.std.proofs.Common.{◌≡◌, ◌≤◌, ◌<◌, ◌^◌, ℕ, suc, ◌+◌, List, [], ◌∷◌, ◌++◌, length, map, codes, Bool, true, refl, sym, ap, ap₂, ◌∙◌, arith, subst, append_assoc, zero-add}
 use Rattle.std.proofs.lemmas.List.{append-nil}
 use Rattle.idx_core.specs.declared.span.Span.{Span}
 use Rattle.idx_core.specs.Names.{Name}
 use Rattle.t_types.specs.WellFormed.{max_names}
-use Rattle.t_terms.specs.declared.fault.TCode.{TCode}
 use Rattle.t_terms.specs.declared.token.Kind.TheVariants as k
 use Rattle.t_terms.specs.declared.token.Token.{Token}
 use Rattle.t_terms.specs.Tree.{TSeq, Then, Ends, TBlock}
 use Rattle.t_terms.specs.Tree as tree_of
 use Rattle.t_terms.specs.Spanned.{seq_of, plain, plain_blocks}
 use Rattle.t_terms.specs.Raw.{RawInstr, RawEnd, RawBlock}
-use Rattle.t_terms.specs.Tokens.{assembly, IsCut}
-use Rattle.t_terms.specs.Grammar.{tok, Is, is_none, is_more, End, Block, b_block, Blocks, bs_one, bs_more, Program, p_program}
-use Rattle.t_terms.specs.Names.{spelled, is_among, bind, names_after_all, body_of, end_of, block_of, labels_of, program_of}
+use Rattle.t_terms.specs.Grammar.{Is, is_none, is_more, End, Block, b_block, Blocks, bs_one, bs_more, Program, p_program}
+use Rattle.t_terms.specs.Names.{spelled, bind, names_after_all, body_of, end_of, block_of, labels_of, program_of}
 use Rattle.t_terms.specs.NameFaults.{body_faults, end_faults, block_faults, blocks_faults, program_faults}
 use Rattle.t_terms.specs.Whole.{WellFormedSeq, WellFormedBlock, WellFormedBlocks, Whole}
-use Rattle.t_terms.specs.Text.{Stands, StandsFor}
+use Rattle.t_terms.specs.Text.{StandsFor}
 use Rattle.t_writer.specs.Ints.{SeqFits, BlocksFit}
-use Rattle.t_writer.specs.Lexeme.{Lexeme, Reserved, LabelName, Digit, Sign, Blank, bytes, render}
-use Rattle.t_writer.specs.Written.{space, line_end, binds_written, file_written, instr_written, end_written, seq_written, block_written, blocks_written, program_written}
+use Rattle.t_writer.specs.Lexeme.{Lexeme, Reserved, LabelName, Digit, Sign, bytes, render}
+use Rattle.t_writer.specs.Written.{line_end, binds_written, file_written, instr_written, end_written, seq_written, block_written, blocks_written, program_written}
 use Rattle.t_writer.proofs.Placed as placing
 use Rattle.t_writer.proofs.Placed.{size, placed, placed_append, cut_placed, stops, Fine, fine_append, Written, written_append, written_at}
 use Rattle.t_writer.proofs.Scopes.{label_name, labels_from, before, not_before, scope}
@@ -113,9 +111,24 @@ module _ (text : List ℕ) (p : ℕ) (few : p ≤ 2 ^ 64) where
         raw = record { name = s; names = a.spans; file = file.piece.tree; body = c.body; last = c.last };
         whole = rw (placed_append j bs (fs ++ dot), placed_append m fs dot, c.at)
             (b_block s (placing.place_of (i + length (bytes (LabelName l))) (Sign 58 k.Colon)) (placing.place_of (i + length (bytes (LabelName l)) + 1 + 1) (Reserved (codes "code") k.Code)) (placing.place_of q (Sign 46 k.Dot))
-              a.whole file.whole (c.extend [] [] is_none) c.ends);
-        fine = λ x. (small, refl, ((refl, refl, tt), tt, (refl, tt, ((refl, refl, tt), refl,
-            fine_append bs (fs ++ dot) x (a.fine true) (fine_append fs dot x (file.fine true) ((refl, refl, tt), tt, (refl, tt, c.fine x)))))));
+            a.whole file.whole (c.extend [] [] is_none) c.ends);
+        fine = λ x. (
+          small,
+          refl,
+          (
+            (refl, refl, tt),
+            tt,
+            (
+              refl,
+              tt,
+              (
+                (refl, refl, tt),
+                refl,
+                fine_append bs (fs ++ dot) x (a.fine true) (fine_append fs dot x (file.fine true) ((refl, refl, tt), tt, (refl, tt, c.fine x))),
+              ),
+            ),
+          ),
+        );
         means = rw (a.count, e, file.means, c.means) refl;
         none = rw (e, file.none, c.none, c.none_last) refl;
         name = w.0;
@@ -174,7 +187,7 @@ module _ (text : List ℕ) (b : TBlock) (bs : List TBlock) (few : length (b ∷ 
       let spell : labels_of text raw ≡ here = ap₂ (λ (x : Name) (xs : List Name). x ∷ xs) a.name r.spell in
       let fine : Fine ls true = ((refl, refl, tt), refl, (refl, tt, (omega arith, refl, (refl, tt, fine_append (block_written 0 b) rest true (a.fine (stops rest true)) (r.fine true))))) in
       let shape : Program (placed 0 ls) raw = rw (placed_append 6 (block_written 0 b) rest)
-          (p_program (placing.place_of 0 (Reserved (codes "tal") k.Tal)) (placing.place_of 4 (Digit 1)) (r.extend _ (a.raw ∷ []) (bs_one a.whole))) in
+      (p_program (placing.place_of 0 (Reserved (codes "tal") k.Tal)) (placing.place_of 4 (Digit 1)) (r.extend _ (a.raw ∷ []) (bs_one a.whole))) in
       let named : program_faults text raw ≡ [] = subst (λ (ns : List Name). blocks_faults text ns [] raw ≡ []) (sym spell) (rw (a.none, a.name) r.none) in
       let means : plain_blocks (program_of text raw) ≡ b ∷ bs = subst (λ (ns : List Name). plain_blocks (map (block_of text ns) raw) ≡ b ∷ bs) (sym spell) (ap₂ (λ (c : TBlock) (cs : List TBlock). c ∷ cs) a.means r.means) in
       (program_of text raw, record { tokens = placed 0 ls; cut = rw e (cut_placed 0 ls fine); raw = raw; shape = shape; named = named; is = refl }, means)

@@ -1,6 +1,6 @@
 -- A value, an instruction and an end that are written stand for themselves, where the names around them are those of
 -- their depth and the labels those of the blocks in turn.
-use Rattle.std.proofs.Common.{◌≡◌, ◌≤◌, ◌<◌, ◌^◌, ℤ, pos, negsuc, ℕ, zero, suc, ◌+◌, ◌-◌, List, [], ◌∷◌, ◌++◌, length, codes, Bool, true, false, not, if◌then◌else◌, refl, sym, ap, ap₂, ◌∙◌, arith, subst, append_assoc}
+use Rattle.std.proofs.Common.{◌≡◌, ◌≤◌, ◌^◌, pos, negsuc, ℕ, ◌+◌, ◌-◌, List, [], ◌∷◌, ◌++◌, length, codes, true, refl, sym, ap, ap₂, ◌∙◌, arith}
 use Rattle.std.proofs.lemmas.Int.{ints}
 use Rattle.idx_core.specs.declared.span.Span.{Span}
 use Rattle.idx_core.specs.declared.arith.Op.{Op}
@@ -8,24 +8,23 @@ use Rattle.idx_core.specs.declared.arith.Op.TheVariants.{Add, Sub, Mul}
 use Rattle.idx_core.specs.Names.{Name}
 use Rattle.t_types.specs.Tree.{Ty}
 use Rattle.t_types.specs.WellFormed.{max_names, max_number}
-use Rattle.t_terms.specs.declared.fault.TCode.{TCode}
 use Rattle.t_terms.specs.declared.token.Kind.{Kind}
 use Rattle.t_terms.specs.declared.token.Kind.TheVariants as k
 use Rattle.t_terms.specs.declared.token.Token.{Token}
 use Rattle.t_terms.specs.Tree.{TBase, Reg, Int, Label, TValue, Plain, Pack, TInstr, Arith, Bnz, Ld, Malloc, Mov, St, Unpack, TEnd, Jmp, Halt}
 use Rattle.t_terms.specs.Tree as tree_of
-use Rattle.t_terms.specs.Raw.{RawTy, RawBase, RReg, RNum, RLabel, RawValue, RPlain, RPack, RawInstr, RArith, RBnz, RLd, RMalloc, RMov, RSt, RUnpack, RawEnd, RJmp, RHalt, Piece, ending, up_to}
+use Rattle.t_terms.specs.Raw.{RawBase, RReg, RNum, RLabel, RawValue, RPlain, RPack, RawInstr, RArith, RBnz, RLd, RMalloc, RMov, RSt, RUnpack, RawEnd, RJmp, RHalt, Piece, ending, up_to}
 use Rattle.t_terms.specs.Grammar.{tok, N, n_reg, n_plain, n_negative, n_label, V, v_base, v_apply, v_pack, IsOp, is_add, is_sub, is_mul, I, i_arith, i_bnz, i_ld, i_malloc_none, i_malloc, i_mov, i_st, i_unpack, End, e_jmp, e_halt}
-use Rattle.t_terms.specs.Names.{spelled, is_among, base_of, value_of, instr_of, names_after, end_of}
+use Rattle.t_terms.specs.Names.{spelled, base_of, value_of, instr_of, names_after, end_of}
 use Rattle.t_terms.specs.NameFaults.{base_faults, value_faults, instr_faults, end_faults}
 use Rattle.t_terms.specs.Whole.{WellFormedBase, WellFormedValue, WellFormedInstr, WellFormedEnd}
 use Rattle.t_writer.specs.Ints.{IntFits, BaseFits, ValueFits, InstrFits, EndFits}
-use Rattle.t_writer.specs.Lexeme.{Lexeme, Reserved, TypeName, LabelName, Register, Number, Sign, Blank, bytes}
+use Rattle.t_writer.specs.Lexeme.{Lexeme, Reserved, TypeName, LabelName, Register, Number, Sign, bytes}
 use Rattle.t_writer.specs.Written.{comma, space, type_written, types_written, list_written, base_written, value_written, op_written, instr_written, end_written}
 use Rattle.t_writer.proofs.Items.{Valid}
 use Rattle.t_writer.proofs.Placed as placing
 use Rattle.t_writer.proofs.Placed.{size, placed, token_of, placed_append, stops, Follows, Fine, fine_append, Written, written_append}
-use Rattle.t_writer.proofs.Scopes.{label_name, labels_from, scope, scope_next, Found, in_labels}
+use Rattle.t_writer.proofs.Scopes.{labels_from, scope, scope_next, Found, in_labels}
 use Rattle.t_writer.proofs.WroteTypes.{wrote_type, wrote_types}
 
 -- where a register ends that stands at a place
@@ -156,8 +155,16 @@ module _ (text : List ℕ) (p : ℕ) (few : p ≤ 2 ^ 64) where
       record {
         piece = ending (RPack a.piece.tree b.piece.tree r.piece.tree) r.piece.end;
         whole = rw (placed_append j (type_written d t) rest, placed_append m (value_written d v) last) (v_pack _ _ _ _ _ a.whole b.whole r.whole);
-        fine = ((refl, refl, tt), refl, ((refl, refl, tt), tt, fine_append (type_written d t) rest true a.fine
-            ((refl, refl, tt), tt, (refl, tt, fine_append (value_written d v) last true b.fine ((refl, refl, tt), tt, (refl, tt, ((refl, refl, tt), refl, (refl, tt, r.fine))))))));
+        fine = (
+          (refl, refl, tt),
+          refl,
+          (
+            (refl, refl, tt),
+            tt,
+            fine_append (type_written d t) rest true a.fine
+                ((refl, refl, tt), tt, (refl, tt, fine_append (value_written d v) last true b.fine ((refl, refl, tt), tt, (refl, tt, ((refl, refl, tt), refl, (refl, tt, r.fine)))))),
+          ),
+        );
         means = rw (a.means, b.means, r.means) refl;
         none = rw (a.none, b.none, r.none) refl;
       }

@@ -1,27 +1,24 @@
 -- A type that is written stands for itself, where the names around it are those of its depth.
-use Rattle.std.proofs.Common.{◌≡◌, ◌≢◌, ◌≤◌, ◌<◌, ◌^◌, pos, ℕ, zero, suc, ◌+◌, ◌-◌, List, [], ◌∷◌, ◌++◌, length, codes, Bool, true, false, not, if◌then◌else◌, nat_eq, nat_lt, refl, sym, ap, ap₂, ◌∙◌, arith, subst, append_assoc, decimal, add-one}
+use Rattle.std.proofs.Common.{◌≡◌, ◌≤◌, ◌<◌, pos, ℕ, zero, suc, ◌+◌, ◌-◌, List, [], ◌∷◌, ◌++◌, length, codes, Bool, true, false, nat_eq, refl, sym, ap, ap₂, ◌∙◌, arith, append_assoc}
 use Rattle.std.specs.List.{list_any}
 use Rattle.std.proofs.lemmas.List.{append-nil}
 use Rattle.std.proofs.lemmas.Bool.{le-ltb, ne_eqb}
-use Rattle.std.proofs.lemmas.Bool.Decides.{nat_tests}
 use Rattle.idx_core.specs.declared.span.Span.{Span}
 use Rattle.idx_core.specs.Names.{Name}
 use Rattle.t_types.specs.Tree.{Ty, IntTy, VarTy, CodeTy, ExistsTy, TupleTy, TFile, NoRegs, MoreRegs, TFields, NoFields, MoreFields}
 use Rattle.t_types.specs.WellFormed.{max_names, WellFormed, WellFormedFile, RegsAbove, WellFormedFields, WellFormedTypes}
-use Rattle.t_terms.specs.declared.fault.TCode.{TCode}
-use Rattle.t_terms.specs.declared.fault.TCode.TheVariants.{T06, T07}
 use Rattle.t_terms.specs.declared.token.Kind.{Kind}
 use Rattle.t_terms.specs.declared.token.Kind.TheVariants as k
 use Rattle.t_terms.specs.declared.token.Token.{Token}
 use Rattle.t_terms.specs.Raw.{RawTy, RInt, RName, RCode, RSome, RTuple, RawRegs, RawReg, raw_regs, RawField, raw_fields, Piece, ending}
 use Rattle.t_terms.specs.Grammar.{tok, Names, ns_one, ns_more, Binds, bs_none, bs_names, IsFlag, is_zero, is_one, T, t_int, t_name, t_code, t_some, t_unit, t_tuple, File, f_none, f_regs, Rs, rs_one, rs_more, Fs, fs_one, fs_more, Ts, ts_one, ts_more}
-use Rattle.t_terms.specs.Names.{spelled, bind, is_among, place_of, insert_reg, type_of, file_of, fields_of, types_of}
-use Rattle.t_terms.specs.NameFaults.{only_if, type_faults, regs_faults, fields_faults, types_faults}
-use Rattle.t_writer.specs.Lexeme.{Lexeme, Reserved, TypeName, Register, Digit, Sign, Blank, bytes, render}
-use Rattle.t_writer.specs.Written.{comma, space, bit, flag_written, names_written, binds_written, type_written, regs_written, fields_written, file_written, types_written, list_written}
+use Rattle.t_terms.specs.Names.{spelled, bind, insert_reg, type_of, file_of, fields_of, types_of}
+use Rattle.t_terms.specs.NameFaults.{type_faults, regs_faults, fields_faults, types_faults}
+use Rattle.t_writer.specs.Lexeme.{Reserved, TypeName, Register, Sign, bytes}
+use Rattle.t_writer.specs.Written.{comma, bit, flag_written, names_written, binds_written, type_written, regs_written, fields_written, file_written, types_written}
 use Rattle.t_writer.proofs.Placed as placing
 use Rattle.t_writer.proofs.Placed.{size, placed, placed_append, stops, Fine, fine_append, Written, written_append}
-use Rattle.t_writer.proofs.Scopes.{type_name, scope, scope_next, Found, in_scope}
+use Rattle.t_writer.proofs.Scopes.{scope, scope_next, Found, in_scope}
 
 -- the names of a binder after the first
 record MoreNames (i d n nth : ℕ) : Type 0 where
@@ -230,7 +227,7 @@ module _ (text : List ℕ) where
           piece = ending (RTuple (raw_fields (f ∷ r.raw))) (i + 1 + size ls + 1);
           whole = rw (placed_append (i + 1) ls last, placed_append (i + 1) (type_written d t) (Sign 94 k.Caret ∷ (flag_written flag ∷ more)))
               (t_tuple (placing.place_of i (Sign 60 k.LeftAngle)) (placing.place_of (i + 1 + size ls) (Sign 62 k.RightAngle))
-                (simp append_assoc at (r.extend _ (f ∷ []) (fs_one (placing.place_of m (Sign 94 k.Caret)) (placing.place_of (m + 1) (flag_written flag)) a.whole (flag_is flag)))));
+              (simp append_assoc at (r.extend _ (f ∷ []) (fs_one (placing.place_of m (Sign 94 k.Caret)) (placing.place_of (m + 1) (flag_written flag)) a.whole (flag_is flag)))));
           fine = ((refl, refl, tt), tt, fine_append ls last true (fine_append (type_written d t) (Sign 94 k.Caret ∷ (flag_written flag ∷ more)) true a.fine ((refl, refl, tt), tt, (flag_valid flag, stops_fields 0 d fields, r.fine))) ((refl, refl, tt), tt, tt));
           means = ap₂ (λ (u : Ty) (us : TFields). TupleTy (MoreFields u flag us)) a.means r.means;
           none = rw (a.none, r.none) refl;
@@ -259,9 +256,13 @@ module _ (text : List ℕ) where
           piece = ending (raw_regs (f ∷ q.regs)) (i + 1 + size ls + 1);
           whole = rw (placed_append (i + 1) ls last, placed_append j (type_written d t) more)
               (f_regs (placing.place_of i (Sign 123 k.LeftBrace)) (placing.place_of (i + 1 + size ls) (Sign 125 k.RightBrace))
-                (q.extend _ (f ∷ []) (rs_one r s (placing.place_of (i + 1 + length (bytes (Register r))) (Sign 58 k.Colon)) a.whole)));
-          fine = λ b. ((refl, refl, tt), tt, fine_append ls last b
-              ((omega (arith, h.0), h.1), refl, ((refl, refl, tt), tt, fine_append (type_written d t) more true (rw (stops_regs 0 d file) a.fine) q.fine)) ((refl, refl, tt), tt, tt));
+              (q.extend _ (f ∷ []) (rs_one r s (placing.place_of (i + 1 + length (bytes (Register r))) (Sign 58 k.Colon)) a.whole)));
+          fine = λ b. (
+            (refl, refl, tt),
+            tt,
+            fine_append ls last b
+                ((omega (arith, h.0), h.1), refl, ((refl, refl, tt), tt, fine_append (type_written d t) more true (rw (stops_regs 0 d file) a.fine) q.fine)) ((refl, refl, tt), tt, tt),
+          );
           means = rw (a.means, q.means) (insert_low r d t file h.3);
           none = rw (a.none, q.none (r ∷ []) (omega arith, tt)) refl;
         }

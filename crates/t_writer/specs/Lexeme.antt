@@ -1,12 +1,7 @@
 -- What a text is written of: tokens and the white space between them.
-use Rattle.std.specs.Prelude.{◌≡◌, ◌≤◌, ◌<◌, ◌^◌, ℕ, suc, ◌+◌, ◌&&◌, List, [], ◌∷◌, ◌++◌, length, ℤ, pos, negsuc, Bool, true, false, decimal, slice_range, Some}
-use Rattle.idx_core.specs.declared.span.Span.{Span}
-use Rattle.text_core.specs.Byte.{space}
-use Rattle.text_core.specs.Tokens.{look}
+use Rattle.std.specs.Prelude.{ℕ, suc, ◌+◌, List, [], ◌∷◌, ◌++◌, ℤ, pos, negsuc, decimal}
 use Rattle.t_terms.specs.declared.token.Kind.{Kind}
 use Rattle.t_terms.specs.declared.token.Kind.TheVariants as k
-use Rattle.t_terms.specs.declared.token.Token.{Token}
-use Rattle.t_terms.specs.Tokens.{signs}
 
 -- a number in decimal, a negative one with a tilde
 abbrev pub number_text : ℤ → List ℕ

@@ -6,6 +6,8 @@ mod laws;
 mod names;
 mod number;
 mod program;
+#[cfg(test)]
+mod tests;
 mod types;
 mod values;
 

@@ -17,7 +17,12 @@ use std::alloc::Global;
 use t_terms::{Block, End, Instr, TProgram, names_after};
 
 // Instructions and an end inside `depth` type names, a line for each.
-fn write_code(text: &mut Vec<u8>, body: &[(Instr, Span)], end: &End, depth: u64) -> Result<(), OutOfMemory>
+fn write_code(
+    text: &mut Vec<u8>,
+    body: &[(Instr, Span)],
+    end: &End,
+    depth: u64,
+) -> Result<(), OutOfMemory>
     requires { (blocks : ℕ) × WellFormedSeq blocks depth (seq_of (body_of body.now) (end_of end.now)) }
     ensures written { OnOk result (text.new.items ≡ text.old.items ++ render (seq_written depth (seq_of (body_of body.now) (end_of end.now)))) }
     ensures ints { OnOk result (SeqFits (seq_of (body_of body.now) (end_of end.now))) }

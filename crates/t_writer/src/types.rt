@@ -64,7 +64,11 @@ pub(crate) fn write_type(text: &mut Vec<u8>, t: &TType, depth: u64) -> Result<()
 
 // A register file, in braces.
 #[cycle(types)]
-pub(crate) fn write_file(text: &mut Vec<u8>, regs: &[(u64, TType)], depth: u64) -> Result<(), OutOfMemory>
+pub(crate) fn write_file(
+    text: &mut Vec<u8>,
+    regs: &[(u64, TType)],
+    depth: u64,
+) -> Result<(), OutOfMemory>
     requires { WellFormedFile depth (file regs.now) }
     ensures { OnOk result (text.new.items ≡ text.old.items ++ render (file_written depth (file regs.now))) }
 {

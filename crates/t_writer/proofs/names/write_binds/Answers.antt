@@ -1,4 +1,4 @@
-use Rattle.std.proofs.Common.{◌≡◌, ◌++◌, ◌+◌, ◌-◌, ap₂, arith}
+use Rattle.std.proofs.Common.{◌++◌, ap₂, arith}
 use Rattle.t_writer.specs.Lexeme.{render}
 use Rattle.t_writer.specs.Written.{names_written}
 use Rattle.t_writer.proofs.Rendered.{names_more, names_none, binds_done}

@@ -1,6 +1,6 @@
-use Rattle.std.proofs.Common.{rules, refl, subst, ap, ◌∙◌, sym, ◌++◌, ◌≡◌, List, ℕ}
+use Rattle.std.proofs.Common.{rules, refl, subst, ap, ◌∙◌, sym, ◌++◌}
 use Rattle.t_types.specs.declared.types.TType.TheViews.{the_lemmas}
-use Rattle.t_types.specs.Tree.{Ty, CodeTy, TupleTy}
+use Rattle.t_types.specs.Tree.{Ty}
 use Rattle.t_types.specs.Read.{file, fields}
 use Rattle.t_types.specs.WellFormed.{WellFormed}
 use Rattle.t_types.proofs.Trees.{tree_is_tuple, tree_is_code}

@@ -1,2 +1,10 @@
 pub mod BodyWalks
+pub mod Complete
+pub mod Completing
+pub mod Filling
+pub mod Instance
+pub mod Rows
+pub mod TextExact
+mod TextRows
 pub mod TokenLaws
+pub mod Worked

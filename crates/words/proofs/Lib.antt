@@ -1,2 +1,4 @@
-pub mod WordsLemmas
+mod Commands
 mod Rows
+mod Taken
+pub mod WordsLemmas

@@ -19,6 +19,11 @@ dashed_name : command_of (codes "talc" ∷ codes "typeof" ∷ codes "--" ∷ cod
 unfolding command_of clap_on_literals
 dashed_name = refl
 
+-- no words at all
+no_name : command_of [] ≡ None
+unfolding command_of clap_on_literals
+no_name = refl
+
 -- talc
 no_words : command_of (codes "talc" ∷ []) ≡ None
 unfolding command_of clap_on_literals

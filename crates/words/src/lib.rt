@@ -3,7 +3,9 @@
 
 pub mod command;
 mod description;
+pub mod laws;
 pub mod reading;
 
 pub use command::{Command, NoCommand};
+pub use laws::command_where_taken;
 pub use reading::read;

@@ -72,7 +72,7 @@ pub fn read<'a>(alloc: Global, words: &'a Vec<String>) -> Result<Command<'a>, No
     match description.try_get_matches_from(words.as_slice()) {
         Ok(matches) => match asked(&matches) {
             Some(command) => Ok(command),
-            None => Err(NoCommand::Usage(Vec::new(alloc))),
+            None => unreachable!(),
         },
         Err(error) => Err(not_taken(alloc, &error)),
     }

@@ -1,7 +1,7 @@
 -- What `clap` takes by the description is a command.
-use Rattle.std.proofs.Common.{◌≡◌, ◌⊎◌, ◌∙◌, ◌||◌, ◌&&◌, Bool, true, false, not, cond, List, [], ◌∷◌, drop, Option, Some, None, IsSome, is_some, option_map, refl, sym, ap, subst, inl, inr, codes}
+use Rattle.std.proofs.Common.{◌≡◌, ◌||◌, Bool, true, false, not, cond, List, [], ◌∷◌, drop, Option, Some, None, IsSome, is_some, option_map, refl, subst, inl, inr, codes}
 use Rattle.std.specs.Option.{option_map_or}
-use Rattle.clap.specs.Walk.{Row, Rule, Text, Held, answers_to, first_of, rows_after, settled, walk, walk_from, nothing_held}
+use Rattle.clap.specs.Walk.{Row, Rule, Text, Held, answers_to, finished, rows_after, settled, walk, walk_from, nothing_held}
 use Rattle.clap.specs.Simple.{App, Shape, built, entered, names_of, rows_at, subcommand_of}
 use Rattle.clap.specs.Takes.{is_given}
 use Rattle.clap.specs.Faults as f
@@ -9,7 +9,7 @@ use Rattle.clap.specs.Faults.{fault_of, entered_fault, settle_fault, walk_fault}
 use Rattle.clap.specs.Kinds.{Kinds}
 use Rattle.clap.specs.declared.error.kind.ErrorKind.TheVariants.{MissingRequiredArgument}
 use Rattle.words.specs.Description.{talc_app}
-use Rattle.words.specs.Command.{Asked, asked_in, asked_of, command_of, compiles, types, where_none}
+use Rattle.words.specs.Command.{Asked, asked_in, asked_of, command_of, where_none}
 use Rattle.words.specs.Laws.{CommandWhereTaken}
 use Rattle.words.proofs.Taken.{IsAmong, IsPlain, ArePlain, AreRows, none_first, none_next, level_rows, level_given, first_given}
 
@@ -101,7 +101,7 @@ taken_asks words none =
     let walked_on = none_next (walk_fault app.top (names_of app) (walk_from nothing_held) after) _ none in
     let below : entered_fault app stop ≡ [] = none_first (entered_fault app stop) _ walked_on in
     let checked = none_next (f.defaults_fault (settled app.top.rules end).rows app.top.rules) _ (none_next (settle_fault app.top.rules app.top.args_override_self end) _ (none_next (entered_fault app stop) _ walked_on)) in
-    where_taken (fault_of talc_app words) (asked_of (entered app stop)) none (stopped_asks stop below (met _ (is_some (entered app stop)) checked))
+    where_taken (fault_of talc_app words) (asked_of (entered app stop)) none (stopped_asks stop below (met (finished app.top.rules end) (is_some (entered app stop)) checked))
 
 none_where : (kinds : Kinds) (o : Option Asked) → IsSome (where_none kinds o) → kinds ≡ []
 none_where [] o asks = refl

@@ -1,6 +1,6 @@
 -- Where `clap` finds no error in the words of a simple command, each argument that has a row has a value that its parser
 -- takes.
-use Rattle.std.proofs.Common.{◌≡◌, ◌⊎◌, ◌∙◌, ◌&&◌, ◌==◌, ℕ, Bool, true, false, zero, suc, not, nat_lt, cond, List, [], ◌∷◌, ◌++◌, length, drop, Option, Some, None, is_some, refl, sym, ap, subst, inl, inr, codes, IfSome, true≢false, option_and_then}
+use Rattle.std.proofs.Common.{◌≡◌, ◌⊎◌, ◌∙◌, ◌&&◌, ℕ, Bool, true, false, zero, suc, cond, List, [], ◌∷◌, ◌++◌, length, drop, Option, Some, None, is_some, refl, sym, ap, subst, inl, inr, IfSome, true≢false, option_and_then}
 use Rattle.std.specs.Prelude.{find, fold, encode_utf8, slice_get}
 use Rattle.std.specs.Option.{option_map_or}
 use Rattle.std.specs.Str.{bytes_eq, chars}
@@ -14,10 +14,9 @@ use Rattle.clap.specs.Simple.{Shape}
 use Rattle.clap.specs.Faults as f
 use Rattle.clap.specs.Faults.{use_fault, action_fault, values_fault, settle_fault, react_fault, option_fault, long_fault, flags_fault, bundle_fault, flag_word_fault, word_fault, step_fault, turn_fault, walk_fault}
 use Rattle.clap.specs.declared.error.kind.ErrorKind.TheVariants.{TooManyValues}
-use Rattle.clap.specs.declared.builder.action.ArgAction.{ArgAction}
 use Rattle.clap.specs.declared.builder.action.ArgAction.TheVariants.{Set, Help}
 use Rattle.clap.specs.declared.parser.matches.ValueSource.{ValueSource}
-use Rattle.clap.specs.declared.parser.matches.ValueSource.TheVariants.{CommandLine, DefaultValue}
+use Rattle.clap.specs.declared.parser.matches.ValueSource.TheVariants.{CommandLine}
 
 -- no kind comes of two steps where none comes of either
 pub none_first : (a b : Kinds) → or_else a b ≡ [] → a ≡ []
@@ -41,6 +40,7 @@ found_among p (b ∷ bs) = go (p b) (found_among p bs)
     weaker : (o : Option Rule) → IfSome o (λ a. IsAmong a bs) → IfSome o (λ a. (b ≡ a) ⊎ IsAmong a bs)
     weaker None h = tt
     weaker (Some a) h = inr h
+
     go : (x : Bool) → IfSome (find p bs) (λ a. IsAmong a bs) → IfSome (cond x (Some b) (find p bs)) (λ a. (b ≡ a) ⊎ IsAmong a bs)
     go true h = inl refl
     go false h = weaker (find p bs) h

@@ -14,16 +14,16 @@ returns-in-Some c =
     ∙ ap (option_map asked_by) c.in-Some.is
 
 -- words in which no error is found ask for something
-pub prove-unreachable-requires : goal.prove-unreachable-requires
-prove-unreachable-requires c =
+pub unreachable-requires : goal.unreachable-requires
+unreachable-requires c =
     let app_is : app_of c.in-Ok.description ≡ talc_app = c.in-Ok.ensures in
     let words_are : map string_bytes c.as_slice.result.now ≡ map string_bytes c.args.words.now.items = ap (map string_bytes) c.as_slice.ensures.value in
     let none = c.in-Ok-try_get_matches_from.ensures.kinds (ap is_simple_and_free app_is ∙ talc_is_free) in
     nothing_asked _ _ _ _ (option_map asked_by c.asked.result) app_is words_are none (c.in-Ok-try_get_matches_from.ensures.matches (ap is_simple app_is ∙ talc_is_simple)).1 c.asked.ensures
     (ap (option_map asked_by) c.in-None.is)
 
-pub returns : goal.returns
-returns c =
+pub returns-in-Err : goal.returns-in-Err
+returns-in-Err c =
     let app_is : app_of c.in-Ok.description ≡ talc_app = c.in-Ok.ensures in
     let words_are : map string_bytes c.as_slice.result.now ≡ map string_bytes c.args.words.now.items = ap (map string_bytes) c.as_slice.ensures.value in
     refusal_reads _ _ _ _ c.not_taken.result app_is words_are (c.in-Err.ensures.kinds (ap is_simple_and_free app_is ∙ talc_is_free)) c.not_taken.ensures

@@ -1,4 +1,5 @@
 mod Commands
+pub mod NumberLemmas
 mod Rows
 mod Taken
 pub mod WordsLemmas

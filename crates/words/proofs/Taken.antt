@@ -1,6 +1,6 @@
 -- Where `clap` finds no error in the words of a simple command, each argument that has a row has a value that its parser
 -- takes.
-use Rattle.std.proofs.Common.{◌≡◌, ◌⊎◌, ◌∙◌, ◌&&◌, ℕ, Bool, true, false, zero, suc, cond, List, [], ◌∷◌, ◌++◌, length, drop, Option, Some, None, is_some, refl, sym, ap, subst, inl, inr, IfSome, true≢false, option_and_then}
+use Rattle.std.proofs.Common.{◌≡◌, ◌⊎◌, ◌∙◌, ◌&&◌, ℕ, Bool, true, false, zero, suc, cond, List, [], ◌∷◌, ◌++◌, length, drop, Option, Some, None, is_some, refl, sym, ap, subst, inl, inr, IfSome, true≢false, option_and_then, option_map, IsSome}
 use Rattle.std.specs.Prelude.{find, fold, encode_utf8, slice_get}
 use Rattle.std.specs.Option.{option_map_or}
 use Rattle.std.specs.Str.{bytes_eq, chars}
@@ -9,12 +9,18 @@ use Rattle.clap.specs.Facts.{explicit_source, parser_of_value, unwrap_or_range}
 use Rattle.clap.specs.Takes.{is_given}
 use Rattle.clap.specs.Kinds.{Kinds, or_else, range_kinds, value_kinds}
 use Rattle.clap.specs.Walk as w
-use Rattle.clap.specs.Walk.{Held, Names, Row, Rule, Text, Waiting, Walk, action_of, reading_by, arg_by_id, arg_by_long, arg_by_short, arg_by_index, takes_values, takes_several, is_pending, most_values, attached_value, used, used_as, values_or_missing, at_row, with_values, without, more_values, settled, settled_rows, reacted, option_met, long_met, bundle_met, bundle, plain_word, option_word, after_flag, word_met, positional_held, walked, walk, walk_from, nothing_held, with_default, finished, rows_after, subcommand_met, first_of}
+use Rattle.clap.specs.Walk.{Held, Names, Row, Rule, Text, Waiting, Walk, action_of, reading_by, arg_by_id, arg_by_long, arg_by_short, arg_by_index, takes_values, takes_several, is_pending, most_values, attached_value, used, used_as, values_or_missing, at_row, with_values, without, more_values, settled, settled_rows, reacted, one_of, row_text, option_met, long_met, bundle_met, bundle, plain_word, option_word, after_flag, word_met, positional_held, walked, walk, walk_from, nothing_held, with_default, finished, rows_after, subcommand_met, first_of}
 use Rattle.clap.specs.Simple.{Shape}
 use Rattle.clap.specs.Faults as f
 use Rattle.clap.specs.Faults.{use_fault, action_fault, values_fault, settle_fault, react_fault, option_fault, long_fault, flags_fault, bundle_fault, flag_word_fault, word_fault, step_fault, turn_fault, walk_fault}
 use Rattle.clap.specs.declared.error.kind.ErrorKind.TheVariants.{TooManyValues}
 use Rattle.clap.specs.declared.builder.action.ArgAction.TheVariants.{Set, Help}
+use Rattle.clap.specs.Values.{read_as, reading_of}
+use Rattle.clap.specs.declared.builder.value_parser.ValueParser.{ValueParser}
+use Rattle.clap.specs.declared.builder.value_parser.Reading.TheVariants.{AsWritten}
+use Rattle.words.specs.Command.{number_in, number_of}
+use Rattle.words.specs.Description.{whole_number}
+use Rattle.words.proofs.NumberLemmas.{taken_number}
 use Rattle.clap.specs.declared.parser.matches.ValueSource.{ValueSource}
 use Rattle.clap.specs.declared.parser.matches.ValueSource.TheVariants.{CommandLine}
 
@@ -44,6 +50,16 @@ found_among p (b ∷ bs) = go (p b) (found_among p bs)
     go : (x : Bool) → IfSome (find p bs) (λ a. IsAmong a bs) → IfSome (cond x (Some b) (find p bs)) (λ a. (b ≡ a) ⊎ IsAmong a bs)
     go true h = inl refl
     go false h = weaker (find p bs) h
+
+-- P of each rule
+abbrev pub Each : (Rule → Type 0) → List Rule → Type 0
+Each P [] = Unit {0}
+Each P (a ∷ rules) = P a × Each P rules
+
+pub each : (P : Rule → Type 0) (rules : List Rule) → Each P rules → (a : Rule) → IsAmong a rules → P a
+each P [] all a among = absurd among
+each P (b ∷ bs) all a (inl e) = subst P e all.0
+each P (b ∷ bs) all a (inr among) = each P bs all.1 a among
 
 -- the argument takes a value at each use, or asks for help
 abbrev pub IsPlain : Rule → Type 0
@@ -290,3 +306,20 @@ first_given rules id rows held given =
     let found = value_of rules id rows held given in
     let value = first_value found.2.rule found.0.values found.2.value in
     (value.0, ap (λ (o : Option Row). option_and_then (λ (r : Row). slice_get r.values 0) o) found.1 ∙ value.1)
+
+-- what has the id is an option of whole numbers
+abbrev pub IsNumberIf : Text → Rule → Type 0
+IsNumberIf id a = bytes_eq a.id id ≡ true → (a.parser ≡ Some whole_number) × (a.ignore_case ≡ false)
+
+-- such an option that was given has a number
+pub number_given : (rules : List Rule) (id : Text) (rows : List Row) → ((a : Rule) → IsAmong a rules → IsNumberIf id a) → AreRows rules rows → is_given id rows ≡ true → IsSome (number_in id rows)
+number_given rules id rows numbers held given =
+    let found = value_of rules id rows held given in
+    let number = numbers found.2.rule found.2.known (subst (λ (t : Text). bytes_eq t id ≡ true) found.2.id found.3) in
+    let value = first_value found.2.rule found.0.values found.2.value in
+    let in_case : value_kinds false (parser_of_value found.2.rule.parser) value.0 ≡ [] = subst (λ (b : Bool). value_kinds b (parser_of_value found.2.rule.parser) value.0 ≡ []) number.1 value.2 in
+    let taken : value_kinds false whole_number value.0 ≡ [] = subst (λ (p : Option ValueParser). value_kinds false (parser_of_value p) value.0 ≡ []) number.0 in_case in
+    let how : found.0.reading ≡ AsWritten = found.2.how ∙ ap (λ (p : Option ValueParser). reading_of (parser_of_value p)) number.0 in
+    let text : option_map (read_as found.0.reading) (slice_get found.0.values 0) ≡ Some value.0 = ap (option_map (read_as found.0.reading)) value.1 ∙ ap (λ h. Some (read_as h value.0)) how in
+    let one : one_of id rows ≡ Some value.0 = ap (λ (o : Option Row). option_and_then row_text o) found.1 ∙ text in
+    subst (λ (o : Option Text). IsSome (option_and_then number_of o)) (sym one) (taken_number value.0 taken)

@@ -5,6 +5,8 @@ pub mod command;
 mod description;
 pub mod laws;
 pub mod reading;
+#[cfg(test)]
+mod tests;
 
 pub use command::{Command, NoCommand};
 pub use laws::command_where_taken;

@@ -1,2 +1,5 @@
-pub mod WordsLemmas
+mod Commands
+pub mod NumberLemmas
 mod Rows
+mod Taken
+pub mod WordsLemmas

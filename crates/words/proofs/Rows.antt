@@ -2,7 +2,7 @@
 use Rattle.std.proofs.Common.{◌≡◌, [], ◌∷◌, Some, None, refl}
 use Rattle.std.specs.Prelude.{codes}
 use Rattle.clap.proofs.OnLiterals.{clap_on_literals}
-use Rattle.words.specs.Command.{Compiles, Types, command_of}
+use Rattle.words.specs.Command.{Compiles, Evaluates, Types, command_of}
 
 -- talc compile x.f x.tal
 compile_words : command_of (codes "talc" ∷ codes "compile" ∷ codes "x.f" ∷ codes "x.tal" ∷ []) ≡ Some (Compiles (codes "x.f") (codes "x.tal"))
@@ -18,6 +18,86 @@ typeof_words = refl
 dashed_name : command_of (codes "talc" ∷ codes "typeof" ∷ codes "--" ∷ codes "-x.f" ∷ []) ≡ Some (Types (codes "-x.f"))
 unfolding command_of clap_on_literals
 dashed_name = refl
+
+-- talc eval x.f --turns 6
+eval_words : command_of (codes "talc" ∷ codes "eval" ∷ codes "x.f" ∷ codes "--turns" ∷ codes "6" ∷ []) ≡ Some (Evaluates (codes "x.f") 6)
+unfolding command_of clap_on_literals
+eval_words = refl
+
+-- the option may be one word, stand before the file's name, and its number after a plus or zeros
+eval_equals : command_of (codes "talc" ∷ codes "eval" ∷ codes "x.f" ∷ codes "--turns=6" ∷ []) ≡ Some (Evaluates (codes "x.f") 6)
+unfolding command_of clap_on_literals
+eval_equals = refl
+
+eval_option_first : command_of (codes "talc" ∷ codes "eval" ∷ codes "--turns" ∷ codes "6" ∷ codes "x.f" ∷ []) ≡ Some (Evaluates (codes "x.f") 6)
+unfolding command_of clap_on_literals
+eval_option_first = refl
+
+eval_plus : command_of (codes "talc" ∷ codes "eval" ∷ codes "x.f" ∷ codes "--turns" ∷ codes "+6" ∷ []) ≡ Some (Evaluates (codes "x.f") 6)
+unfolding command_of clap_on_literals
+eval_plus = refl
+
+eval_zeros : command_of (codes "talc" ∷ codes "eval" ∷ codes "x.f" ∷ codes "--turns" ∷ codes "006" ∷ []) ≡ Some (Evaluates (codes "x.f") 6)
+unfolding command_of clap_on_literals
+eval_zeros = refl
+
+-- the most turns
+eval_most : command_of (codes "talc" ∷ codes "eval" ∷ codes "x.f" ∷ codes "--turns" ∷ codes "18446744073709551615" ∷ []) ≡ Some (Evaluates (codes "x.f") 18446744073709551615)
+unfolding command_of clap_on_literals
+eval_most = refl
+
+-- more than the most
+eval_more : command_of (codes "talc" ∷ codes "eval" ∷ codes "x.f" ∷ codes "--turns" ∷ codes "18446744073709551616" ∷ []) ≡ None
+unfolding command_of clap_on_literals
+eval_more = refl
+
+-- a text that is no number
+eval_negative : command_of (codes "talc" ∷ codes "eval" ∷ codes "x.f" ∷ codes "--turns" ∷ codes "~1" ∷ []) ≡ None
+unfolding command_of clap_on_literals
+eval_negative = refl
+
+eval_minus : command_of (codes "talc" ∷ codes "eval" ∷ codes "x.f" ∷ codes "--turns" ∷ codes "-1" ∷ []) ≡ None
+unfolding command_of clap_on_literals
+eval_minus = refl
+
+eval_no_digits : command_of (codes "talc" ∷ codes "eval" ∷ codes "x.f" ∷ codes "--turns=" ∷ []) ≡ None
+unfolding command_of clap_on_literals
+eval_no_digits = refl
+
+-- without the option, its value, or the file's name, or with the option twice
+eval_missing_option : command_of (codes "talc" ∷ codes "eval" ∷ codes "x.f" ∷ []) ≡ None
+unfolding command_of clap_on_literals
+eval_missing_option = refl
+
+eval_missing_number : command_of (codes "talc" ∷ codes "eval" ∷ codes "x.f" ∷ codes "--turns" ∷ []) ≡ None
+unfolding command_of clap_on_literals
+eval_missing_number = refl
+
+eval_missing_file : command_of (codes "talc" ∷ codes "eval" ∷ codes "--turns" ∷ codes "6" ∷ []) ≡ None
+unfolding command_of clap_on_literals
+eval_missing_file = refl
+
+eval_twice : command_of (codes "talc" ∷ codes "eval" ∷ codes "x.f" ∷ codes "--turns" ∷ codes "6" ∷ codes "--turns" ∷ codes "6" ∷ []) ≡ None
+unfolding command_of clap_on_literals
+eval_twice = refl
+
+-- there is no short name, no beginning of a name, and no other option
+eval_short : command_of (codes "talc" ∷ codes "eval" ∷ codes "x.f" ∷ codes "-t" ∷ codes "6" ∷ []) ≡ None
+unfolding command_of clap_on_literals
+eval_short = refl
+
+eval_beginning : command_of (codes "talc" ∷ codes "eval" ∷ codes "x.f" ∷ codes "--turn" ∷ codes "6" ∷ []) ≡ None
+unfolding command_of clap_on_literals
+eval_beginning = refl
+
+eval_other : command_of (codes "talc" ∷ codes "eval" ∷ codes "x.f" ∷ codes "--fuel" ∷ codes "6" ∷ []) ≡ None
+unfolding command_of clap_on_literals
+eval_other = refl
+
+-- no words at all
+no_name : command_of [] ≡ None
+unfolding command_of clap_on_literals
+no_name = refl
 
 -- talc
 no_words : command_of (codes "talc" ∷ []) ≡ None

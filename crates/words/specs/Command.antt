@@ -1,13 +1,26 @@
 -- When words are a command, and what they ask for.
-use Rattle.std.specs.Prelude.{List, [], ◌∷◌, Option, Some, None, option_and_then, if◌then◌else◌, codes}
+use Rattle.std.specs.Prelude.{ℕ, false, List, [], ◌∷◌, Option, Some, None, option_and_then, if◌then◌else◌, codes}
 use Rattle.std.specs.Str.{bytes_eq}
-use Rattle.clap.specs.Words.{Kinds, Row, Text, fault_of, first_of, subcommand_of}
-use Rattle.words.specs.Description.{talc_app}
+use Rattle.std.specs.Str.Parse.{digits_value, without_leading_plus}
+use Rattle.clap.specs.ValueTests.{accepts}
+use Rattle.clap.specs.Words.{Kinds, Row, Text, fault_of, first_of, one_of, subcommand_of}
+use Rattle.words.specs.Description.{talc_app, whole_number}
 
--- what the words ask for: to compile the file IN into the file OUT, or to show the type of the text of the file IN
+-- what the words ask for: to compile the file IN into the file OUT, to show the type of the text of the file IN, or to
+-- evaluate that text within N turns
 pub data Asked : Type 0 where
   Compiles : (input output : Text) → Asked
   Types : (input : Text) → Asked
+  Evaluates : (input : Text) (turns : ℕ) → Asked
+
+-- the number that a text writes, where `clap`'s reader of whole numbers takes it: decimal digits, perhaps after a plus,
+-- of a number below 2 ^ 64
+abbrev pub number_of : Text → Option ℕ
+number_of text = if accepts false whole_number text then Some (digits_value 10 (without_leading_plus text)) else None
+
+-- the number that `clap` reads from the first value of an argument
+abbrev pub number_in : Text → List Row → Option ℕ
+number_in name rows = option_and_then number_of (one_of name rows)
 
 abbrev pub compiles : Option Text → Option Text → Option Asked
 compiles (Some input) (Some output) = Some (Compiles input output)
@@ -17,11 +30,16 @@ abbrev pub types : Option Text → Option Asked
 types (Some input) = Some (Types input)
 types None = None
 
+abbrev pub evaluates : Option Text → Option ℕ → Option Asked
+evaluates (Some input) (Some turns) = Some (Evaluates input turns)
+evaluates _ _ = None
+
 -- what a subcommand asks for, by its name and the values that `clap` gives its arguments
 abbrev pub asked_in : Text → List Row → Option Asked
 asked_in name rows =
     if bytes_eq name (codes "compile") then compiles (first_of (codes "IN") rows) (first_of (codes "OUT") rows)
-    else (if bytes_eq name (codes "typeof") then types (first_of (codes "IN") rows) else None)
+    else (if bytes_eq name (codes "typeof") then types (first_of (codes "IN") rows)
+    else (if bytes_eq name (codes "eval") then evaluates (first_of (codes "IN") rows) (number_in (codes "turns") rows) else None))
 
 abbrev pub asked_of : Option (Text × List Row) → Option Asked
 asked_of entered = option_and_then (λ p. asked_in p.0 p.1) entered

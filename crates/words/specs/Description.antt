@@ -3,10 +3,20 @@ use Rattle.std.specs.Prelude.{true, Some, codes}
 use Rattle.clap.specs.Words.{App, Rule, Text, new_app, new_rule, with_rule, with_subcommand}
 use Rattle.clap.specs.Simple.{on_top}
 use Rattle.clap.specs.declared.builder.action.ArgAction.TheVariants.{Set}
+use Rattle.clap.specs.declared.builder.value_parser.ValueParser.{ValueParser}
+use Rattle.clap.specs.declared.builder.value_parser.ValueParser.TheVariants.{Unsigned}
 
 -- a required text of one value
 abbrev pub file_rule : Text → Rule
 file_rule name = record (new_rule name) { required = true; action = Some Set }
+
+-- the reader of whole numbers below 2 ^ 64
+abbrev pub whole_number : ValueParser
+whole_number = Unsigned 0 18446744073709551615
+
+-- a required option of one such number, called by its name, with N for its value in the help
+abbrev pub number_rule : Text → Rule
+number_rule name = record (new_rule name) { long = Some name; value_names = 1; required = true; action = Some Set; parser = Some whole_number }
 
 -- compile IN OUT
 abbrev pub compile_app : App
@@ -16,10 +26,14 @@ compile_app = with_rule (with_rule (new_app (codes "compile")) (file_rule (codes
 abbrev pub typeof_app : App
 typeof_app = with_rule (new_app (codes "typeof")) (file_rule (codes "IN"))
 
+-- eval IN --turns N
+abbrev pub eval_app : App
+eval_app = with_rule (with_rule (new_app (codes "eval")) (file_rule (codes "IN"))) (number_rule (codes "turns"))
+
 -- the command line without its subcommands: one must be given, and there is no `help` among them
 abbrev pub bare_app : App
 bare_app = on_top (λ s. record s { subcommand_required = true; disable_help_subcommand = true }) (new_app (codes "talc"))
 
 -- the whole: one subcommand for each command
 abbrev pub talc_app : App
-talc_app = with_subcommand (with_subcommand bare_app compile_app.top) typeof_app.top
+talc_app = with_subcommand (with_subcommand (with_subcommand bare_app compile_app.top) typeof_app.top) eval_app.top

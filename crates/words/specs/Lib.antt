@@ -1,3 +1,4 @@
 pub mod Description
 pub mod Command
+pub mod Laws
 pub mod Reads

@@ -2,15 +2,16 @@
 use Rattle.std.specs.Prelude.{◌≡◌, List, Some, None, Result, Ok, Err}
 use Rattle.clap.specs.Words.{Text}
 use Rattle.words.specs.declared.command.Command.{Command}
-use Rattle.words.specs.declared.command.Command.TheVariants.{Compile, Typeof}
+use Rattle.words.specs.declared.command.Command.TheVariants.{Compile, Typeof, Eval}
 use Rattle.words.specs.declared.command.NoCommand.{NoCommand}
 use Rattle.words.specs.declared.command.NoCommand.TheVariants.{Usage, Memory}
-use Rattle.words.specs.Command.{Asked, Compiles, Types, command_of}
+use Rattle.words.specs.Command.{Asked, Compiles, Types, Evaluates, command_of}
 
 -- what a command as the code has it asks for
 abbrev pub asked_by : Command → Asked
 asked_by (Compile input output) = Compiles input.now output.now
 asked_by (Typeof input) = Types input.now
+asked_by (Eval input turns) = Evaluates input.now turns
 
 -- a command only where the words are this one, and a text only where they are none
 abbrev pub Reads : List Text → Result Command NoCommand → Type 0

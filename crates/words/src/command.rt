@@ -7,6 +7,8 @@ pub enum Command<'a> {
     Compile { input: &'a str, output: &'a str },
     /// `typeof IN`: shows the type of the source text of a file.
     Typeof { input: &'a str },
+    /// `eval IN --turns N`: evaluates the source text of a file within a number of turns.
+    Eval { input: &'a str, turns: u64 },
 }
 
 /// Why words come to no command.

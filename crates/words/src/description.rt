@@ -1,17 +1,30 @@
 // The description of the command line, as `clap` takes it.
 ghost use Rattle.std.specs.Prelude.{◌≡◌, IfOk, false};
 ghost use Rattle.clap.specs.Words.{app_of, rule_of};
-ghost use Rattle.words.specs.Description.{file_rule, compile_app, typeof_app, bare_app, talc_app};
+ghost use Rattle.words.specs.Description.{file_rule, number_rule, compile_app, typeof_app, eval_app, bare_app, talc_app};
 
-use clap::{Arg, ArgAction, Command};
+use clap::{Arg, ArgAction, Command, value_parser};
 use std::alloc::{AllocError, Global};
 
 // A required text of one value, the name of a file.
-fn file<'a>(alloc: Global, name: &'a str) -> Arg<'a>
+fn file<'a>(alloc: Global, name: &'a str, help: &'a str) -> Arg<'a>
     ensures rule { rule_of result ≡ file_rule name.entry.now }
     ensures local { result.global ≡ false }
 {
-    Arg::new(alloc, name).required(true).action(ArgAction::Set)
+    let arg = Arg::new(alloc, name).help(help);
+    arg.required(true).action(ArgAction::Set)
+}
+
+// A required option of one whole number below 2 ^ 64, called by its name.
+fn number<'a>(alloc: Global, name: &'a str, help: &'a str) -> Arg<'a>
+    ensures rule { rule_of result ≡ number_rule name.entry.now }
+    ensures local { result.global ≡ false }
+{
+    let arg = Arg::new(alloc, name).help(help).long(name);
+    arg.value_name("N")
+        .required(true)
+        .action(ArgAction::Set)
+        .value_parser(value_parser!(u64))
 }
 
 fn compile_words<'a>(alloc: Global) -> Result<Command<'a>, AllocError>
@@ -19,8 +32,8 @@ fn compile_words<'a>(alloc: Global) -> Result<Command<'a>, AllocError>
 {
     Command::new(alloc, "compile")
         .about("Compiles the source text IN into the TAL text OUT")
-        .arg(file(alloc, "IN"))?
-        .arg(file(alloc, "OUT"))
+        .arg(file(alloc, "IN", "The file to read"))?
+        .arg(file(alloc, "OUT", "The file to write over"))
 }
 
 fn typeof_words<'a>(alloc: Global) -> Result<Command<'a>, AllocError>
@@ -28,7 +41,16 @@ fn typeof_words<'a>(alloc: Global) -> Result<Command<'a>, AllocError>
 {
     Command::new(alloc, "typeof")
         .about("Shows the type of the source text IN")
-        .arg(file(alloc, "IN"))
+        .arg(file(alloc, "IN", "The file to read"))
+}
+
+fn eval_words<'a>(alloc: Global) -> Result<Command<'a>, AllocError>
+    ensures { IfOk result (λ c. app_of c ≡ eval_app) }
+{
+    Command::new(alloc, "eval")
+        .about("Evaluates the source text IN within N turns")
+        .arg(file(alloc, "IN", "The file to read"))?
+        .arg(number(alloc, "turns", "The most turns to take"))
 }
 
 // The command line without its subcommands: one must be given, and there is no `help` among them.
@@ -46,6 +68,10 @@ pub(crate) fn talc_words<'a>(alloc: Global) -> Result<Command<'a>, AllocError>
 {
     let compile = compile_words(alloc)?;
     let type_of = typeof_words(alloc)?;
-    let all = bare_words(alloc).subcommand(compile)?.subcommand(type_of)?;
+    let evaluate = eval_words(alloc)?;
+    let all = bare_words(alloc)
+        .subcommand(compile)?
+        .subcommand(type_of)?
+        .subcommand(evaluate)?;
     Ok(all)
 }

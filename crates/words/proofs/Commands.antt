@@ -1,0 +1,133 @@
+-- What `clap` takes by the description is a command.
+use Rattle.std.proofs.Common.{◌≡◌, ◌||◌, ℕ, Bool, true, false, not, cond, List, [], ◌∷◌, drop, Option, Some, None, IsSome, is_some, option_map, refl, inl, inr, codes}
+use Rattle.std.specs.Option.{option_map_or}
+use Rattle.clap.specs.Walk.{Row, Rule, Text, Held, answers_to, finished, rows_after, settled, walk, walk_from, nothing_held}
+use Rattle.clap.specs.Simple.{App, Shape, built, entered, names_of, rows_at, subcommand_of}
+use Rattle.clap.specs.Takes.{is_given}
+use Rattle.clap.specs.Faults as f
+use Rattle.clap.specs.Faults.{fault_of, entered_fault, settle_fault, walk_fault}
+use Rattle.clap.specs.Kinds.{Kinds}
+use Rattle.clap.specs.declared.error.kind.ErrorKind.TheVariants.{MissingRequiredArgument}
+use Rattle.words.specs.Description.{talc_app}
+use Rattle.words.specs.Command.{Asked, asked_in, asked_of, command_of, evaluates, number_in, where_none}
+use Rattle.words.specs.Laws.{CommandWhereTaken}
+use Rattle.words.proofs.Taken.{IsAmong, IsPlain, ArePlain, AreRows, Each, IsNumberIf, each, none_first, none_next, level_rows, level_given, first_given, number_given}
+
+abbrev leaf : List Shape → Shape
+leaf [] = (built talc_app).top
+leaf (s ∷ rest) = s
+
+-- the subcommands, with what building adds to each
+abbrev compile_leaf : Shape
+compile_leaf = leaf (built talc_app).subs
+
+abbrev typeof_leaf : Shape
+typeof_leaf = leaf (drop 1 (built talc_app).subs)
+
+abbrev eval_leaf : Shape
+eval_leaf = leaf (drop 2 (built talc_app).subs)
+
+-- the argument takes a value at each use or asks for help, and has no default
+abbrev IsOrdinary : Rule → Type 0
+IsOrdinary a = IsPlain a × (a.defaults ≡ [])
+
+compile_ordinary : Each IsOrdinary compile_leaf.rules
+compile_ordinary = ((inl (refl, refl), refl), ((inl (refl, refl), refl), ((inr refl, refl), tt)))
+
+typeof_ordinary : Each IsOrdinary typeof_leaf.rules
+typeof_ordinary = ((inl (refl, refl), refl), ((inr refl, refl), tt))
+
+eval_ordinary : Each IsOrdinary eval_leaf.rules
+eval_ordinary = ((inl (refl, refl), refl), ((inl (refl, refl), refl), ((inr refl, refl), tt)))
+
+eval_numbers : Each (IsNumberIf (codes "turns")) eval_leaf.rules
+eval_numbers = (λ named. cc, (λ named. (refl, refl), (λ named. cc, tt)))
+
+-- nothing that is required is missing
+both_given : (a b : Bool) → cond (not a || (not b || false)) (MissingRequiredArgument ∷ []) [] ≡ [] → (a ≡ true) × (b ≡ true)
+both_given true true e = (refl, refl)
+both_given true false e = cc
+both_given false b e = cc
+
+one_given : (a : Bool) → cond (not a || false) (MissingRequiredArgument ∷ []) [] ≡ [] → a ≡ true
+one_given true e = refl
+one_given false e = cc
+
+-- the values of a level in which no error is found
+compile_asks : (rows : List Row) → AreRows compile_leaf.rules rows → f.check_fault compile_leaf rows false ≡ [] → IsSome (asked_in (codes "compile") rows)
+compile_asks rows held none =
+    let given = both_given (is_given (codes "IN") rows) (is_given (codes "OUT") rows) none in
+    let input = first_given compile_leaf.rules (codes "IN") rows held given.0 in
+    let output = first_given compile_leaf.rules (codes "OUT") rows held given.1 in
+    rw (input.1, output.1) refl
+
+typeof_asks : (rows : List Row) → AreRows typeof_leaf.rules rows → f.check_fault typeof_leaf rows false ≡ [] → IsSome (asked_in (codes "typeof") rows)
+typeof_asks rows held none =
+    let input = first_given typeof_leaf.rules (codes "IN") rows held (one_given (is_given (codes "IN") rows) none) in
+    rw input.1 refl
+
+evaluates_some : (input : Text) (turns : Option ℕ) → IsSome turns → IsSome (evaluates (Some input) turns)
+evaluates_some input None some = cc
+evaluates_some input (Some n) some = refl
+
+eval_asks : (rows : List Row) → AreRows eval_leaf.rules rows → f.check_fault eval_leaf rows false ≡ [] → IsSome (asked_in (codes "eval") rows)
+eval_asks rows held none =
+    let given = both_given (is_given (codes "IN") rows) (is_given (codes "turns") rows) none in
+    let input = first_given eval_leaf.rules (codes "IN") rows held given.0 in
+    let turns = number_given eval_leaf.rules (codes "turns") rows (each (IsNumberIf (codes "turns")) eval_leaf.rules eval_numbers) held given.1 in
+    rw input.1 (evaluates_some input.0 (number_in (codes "turns") rows) turns)
+
+-- a level of the parse of a subcommand, and no error in it
+level_asks : (s : Shape) → Each IsOrdinary s.rules → ((rows : List Row) → AreRows s.rules rows → f.check_fault s rows false ≡ [] → IsSome (asked_in s.name rows))
+    → (words : List Text) → f.level_fault s [] nothing_held words false [] ≡ [] → IsSome (asked_of (Some (rows_at s words)))
+level_asks s ordinary asks words none =
+    let plain : ArePlain s.rules = λ a among. (each IsOrdinary s.rules ordinary a among).0 in
+    let defaults : (a : Rule) → IsAmong a s.rules → a.defaults ≡ [] = λ a among. (each IsOrdinary s.rules ordinary a among).1 in
+    asks (rows_after s.rules [] words) (level_rows s plain defaults words none) (level_given s plain words none)
+
+-- the first subcommand for which its test holds
+abbrev chosen : (compiles typesof evals : Bool) → Option Shape
+chosen compiles typesof evals = cond compiles (Some compile_leaf) (cond typesof (Some typeof_leaf) (cond evals (Some eval_leaf) None))
+
+entered_asks : (compiles typesof evals : Bool) (words : List Text) → option_map_or (λ s. f.level_fault s [] nothing_held words false []) (chosen compiles typesof evals) [] ≡ []
+    → (is_some (option_map (λ s. rows_at s words) (chosen compiles typesof evals)) ≡ true) → IsSome (asked_of (option_map (λ s. rows_at s words) (chosen compiles typesof evals)))
+entered_asks true b c words none entered = level_asks compile_leaf compile_ordinary compile_asks words none
+entered_asks false true c words none entered = level_asks typeof_leaf typeof_ordinary typeof_asks words none
+entered_asks false false true words none entered = level_asks eval_leaf eval_ordinary eval_asks words none
+entered_asks false false false words none entered = cc
+
+stopped_asks : (stop : Option (Text × List Text)) → entered_fault (built talc_app) stop ≡ [] → is_some (entered (built talc_app) stop) ≡ true → IsSome (asked_of (entered (built talc_app) stop))
+stopped_asks None none entered = cc
+stopped_asks (Some p) none entered = entered_asks (answers_to p.0 (codes "compile", [])) (answers_to p.0 (codes "typeof", [])) (answers_to p.0 (codes "eval", [])) p.1 none entered
+
+-- a subcommand is required
+met : (rows : List Row) (has : Bool) → f.check_fault (built talc_app).top rows has ≡ [] → has ≡ true
+met rows true e = refl
+met rows false e = cc
+
+where_taken : (kinds : Kinds) (o : Option Asked) → kinds ≡ [] → IsSome o → IsSome (where_none kinds o)
+where_taken [] o none asks = asks
+where_taken (k ∷ ks) o none asks = cc
+
+taken_asks : (words : List Text) → fault_of talc_app words ≡ [] → IsSome (command_of words)
+unfolding command_of
+taken_asks words none =
+    let app : App = built talc_app in
+    let after : List Text = drop 1 words in
+    let end : Held = (walk app.top.rules (names_of app) nothing_held after).held in
+    let stop : Option (Text × List Text) = (walk app.top.rules (names_of app) nothing_held after).stopped in
+    let walked_on = none_next (walk_fault app.top (names_of app) (walk_from nothing_held) after) _ none in
+    let below : entered_fault app stop ≡ [] = none_first (entered_fault app stop) _ walked_on in
+    let checked = none_next (f.defaults_fault (settled app.top.rules end).rows app.top.rules) _ (none_next (settle_fault app.top.rules app.top.args_override_self end) _ (none_next (entered_fault app stop) _ walked_on)) in
+    where_taken (fault_of talc_app words) (asked_of (entered app stop)) none (stopped_asks stop below (met (finished app.top.rules end) (is_some (entered app stop)) checked))
+
+none_where : (kinds : Kinds) (o : Option Asked) → IsSome (where_none kinds o) → kinds ≡ []
+none_where [] o asks = refl
+none_where (k ∷ ks) o asks = cc
+
+command_taken : (words : List Text) → IsSome (command_of words) → fault_of talc_app words ≡ []
+unfolding command_of
+command_taken words asks = none_where (fault_of talc_app words) (asked_of (subcommand_of talc_app words)) asks
+
+pub command_where_taken : CommandWhereTaken
+command_where_taken words = (command_taken words, taken_asks words)

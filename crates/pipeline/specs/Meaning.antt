@@ -3,6 +3,7 @@ use Rattle.std.specs.Prelude.{◌≡◌, ℕ, ℤ, List}
 use Rattle.f_terms.specs.Tm.{Term, MNum}
 use Rattle.f_terms.specs.Eval.{Evaluates}
 use Rattle.t_terms.specs.Tree.{TBlock}
+use Rattle.t_terms.specs.Shapes.{one_move}
 use Rattle.t_rules.specs.Machine.{HaltsWithin, Halts}
 
 -- where the term evaluates to i, the program halts with i; and where the program halts with i within n
@@ -14,3 +15,7 @@ pub record SameMeaning (e : Term) (P : List TBlock) : Type 0 where
 -- the term is one integer
 abbrev pub IsNumber : Term → Type 0
 IsNumber e = (i : ℤ) × (e ≡ MNum i)
+
+-- the term is one integer, and the program moves it to register 1
+abbrev pub IsProgramOf : Term → List TBlock → Type 0
+IsProgramOf e P = (i : ℤ) × (e ≡ MNum i) × (P ≡ one_move i)

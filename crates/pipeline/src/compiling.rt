@@ -1,7 +1,8 @@
 // Compiling.
 ghost use Rattle.std.specs.Prelude.{◌≡◌, IfOk};
 ghost use Rattle.f_terms.specs.Read.{term_of};
-ghost use Rattle.pipeline.specs.Meaning.{IsNumber, SameMeaning};
+ghost use Rattle.pipeline.specs.Meaning.{IsNumber, IsProgramOf, SameMeaning};
+ghost use Rattle.t_check.specs.Checked.{checked_program};
 ghost use Rattle.t_rules.specs.Rules.{Accepted};
 ghost use Rattle.t_terms.specs.Read.{blocks_of};
 ghost use Rattle.t_terms.specs.Shapes.{operations, one_move, IsOneMove};
@@ -9,17 +10,27 @@ ghost use Rattle.t_terms.specs.Shapes.{operations, one_move, IsOneMove};
 use f_terms::{FForm, FTerm};
 use idx_core::{OutOfMemory, Span};
 use std::alloc::Global;
+use t_check::{Checked, seal};
 use t_terms::{Base, Block, End, Instr, TProgram, Value};
 use t_types::RegFile;
 
 /// The program of a term: the typing rules accept it, and it halts with the integer that the term evaluates to.
 /// Only a term that is one integer is compiled yet.
-pub fn compile(alloc: Global, term: &FTerm) -> Result<TProgram, OutOfMemory>
+pub fn compile(alloc: Global, term: &FTerm) -> Result<Checked, OutOfMemory>
     requires { IsNumber (term_of term.now) }
-    ensures meaning { IfOk result (λ p. SameMeaning (term_of term.now) (blocks_of p.blocks.items)) }
-    ensures accepted { IfOk result (λ p. Accepted (blocks_of p.blocks.items)) }
-    ensures arithmetic { IfOk result (λ p. operations (blocks_of p.blocks.items) ≡ 0) }
-    ensures shape { IfOk result (λ p. IsOneMove (blocks_of p.blocks.items)) }
+    ensures meaning { IfOk result (λ p. SameMeaning (term_of term.now) (blocks_of (checked_program p).blocks.items)) }
+    ensures accepted { IfOk result (λ p. Accepted (blocks_of (checked_program p).blocks.items)) }
+    ensures arithmetic { IfOk result (λ p. operations (blocks_of (checked_program p).blocks.items) ≡ 0) }
+    ensures shape { IfOk result (λ p. IsOneMove (blocks_of (checked_program p).blocks.items)) }
+{
+    let program = program_of(alloc, term)?;
+    Ok(seal(program))
+}
+
+// The program of a term that is one integer.
+fn program_of(alloc: Global, term: &FTerm) -> Result<TProgram, OutOfMemory>
+    requires { IsNumber (term_of term.now) }
+    ensures { IfOk result (λ p. IsProgramOf (term_of term.now) (blocks_of p.blocks.items)) }
 {
     match &term.form {
         FForm::Int(i) => move_and_halt(alloc, *i, term.span),
@@ -64,8 +75,8 @@ mod tests {
             form: FForm::Int(7),
         };
         let program = compile(rt.alloc(), &term)?;
-        assert_eq!(rt; program.blocks.len(), 1);
-        for block in &program.blocks {
+        assert_eq!(rt; program.program().blocks.len(), 1);
+        for block in &program.program().blocks {
             assert_eq!(rt; block.body.len(), 1);
             for entry in &block.body {
                 assert_eq!(rt; moved(&entry.0), 7);

@@ -26,7 +26,7 @@ fn compile_text(alloc: Global, source: &[u8]) -> Result<Vec<u8>, Failure>
     let Ok(program) = compile(alloc, &term) else {
         return Err(Failure::Memory);
     };
-    let Ok(target) = write(alloc, &program) else {
+    let Ok(target) = write(alloc, program.program()) else {
         return Err(Failure::Memory);
     };
     Ok(target)

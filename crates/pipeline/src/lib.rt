@@ -1,6 +1,6 @@
-//! The compiler: from a term of the source to a program of the assembly language.
+//! The compiler: from a program of the source to a program of the assembly language.
 #![tactic(auto)]
 
 mod compiling;
 
-pub use compiling::compile;
+pub use compiling::{compile, is_number};

@@ -4,7 +4,7 @@
 mod code;
 mod laws;
 mod names;
-mod number;
+pub mod number;
 mod program;
 #[cfg(test)]
 mod tests;
@@ -12,4 +12,5 @@ mod types;
 mod values;
 
 pub use laws::{counts_open, keeps_by_nesting, one_move_is_shallow};
+pub use number::{write_integer, write_natural};
 pub use program::write;

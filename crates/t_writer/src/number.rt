@@ -5,7 +5,8 @@ ghost use Rattle.t_writer.specs.Lexeme.{number_text};
 use idx_core::OutOfMemory;
 use itoa::Buffer;
 
-pub(crate) fn write_natural(text: &mut Vec<u8>, n: u64) -> Result<(), OutOfMemory>
+/// Puts a natural number in decimal at the end of a text.
+pub fn write_natural(text: &mut Vec<u8>, n: u64) -> Result<(), OutOfMemory>
     ensures { OnOk result (text.new.items ≡ text.old.items ++ decimal n) }
 {
     let mut buffer = Buffer::new();
@@ -13,8 +14,8 @@ pub(crate) fn write_natural(text: &mut Vec<u8>, n: u64) -> Result<(), OutOfMemor
     Ok(())
 }
 
-// A negative number has a tilde before it.
-pub(crate) fn write_integer(text: &mut Vec<u8>, value: i64) -> Result<(), OutOfMemory>
+/// Puts an integer in decimal at the end of a text, with a tilde before a negative one.
+pub fn write_integer(text: &mut Vec<u8>, value: i64) -> Result<(), OutOfMemory>
     ensures { OnOk result (text.new.items ≡ text.old.items ++ number_text value) }
 {
     if value < 0 {

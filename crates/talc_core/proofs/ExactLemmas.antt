@@ -1,13 +1,20 @@
 -- The cause of each status, from what a call does by its status.
-use Rattle.std.proofs.Common.{◌≡◌, ◌⊎◌, ◌↔◌, ℕ, List, Option, Some, None, MatchOption, refl, sym, subst, ap, ◌∙◌, inl, inr}
+use Rattle.std.proofs.Common.{◌≡◌, ◌⊎◌, ◌↔◌, ℕ, Bool, true, false, cond, List, [], Option, Some, None, MatchOption, refl, sym, subst, ap, ◌∙◌, inl, inr}
 use Rattle.io_core.specs.Outside.{FileMap, Faulted, IsAbsent, Holds}
+use Rattle.talc_core.specs.declared.fault.Fault.{Fault}
 use Rattle.talc_core.specs.declared.status.Status.{Status}
 use Rattle.talc_core.specs.declared.status.Status.TheVariants.{Done, Refused, Usage, Limit, Budget, ReadFault, WriteFault, Memory}
-use Rattle.talc_core.specs.Fault.{status_of}
-use Rattle.talc_core.specs.Command.{Asked, Compiles, command_of}
-use Rattle.talc_core.specs.Headline.{Outside, Headline, CompileAnswer, UsageAnswer, Does}
-use Rattle.talc_core.specs.Exact.{IsSettled, Tells, LeadsTo, IsTaken, NoFaults, Exactly}
-use Rattle.talc_core.proofs.FaultLemmas.{one_fault, not_taken}
+use Rattle.talc_core.specs.Fault.{is_limit, status_of}
+use Rattle.f_terms.specs.Tm.{plain}
+use Rattle.f_terms.specs.Eval.{Gives, Spent, EvaluatesLeaving, IsSpent}
+use Rattle.talc_core.specs.FirstFault.{Need, AnyTerm, AProgram, IsTaken}
+use Rattle.talc_core.specs.Command.{Asked, Compiles, Types, Evaluates, command_of, need_of, input_of}
+use Rattle.talc_core.specs.Shown.{Showing, ShowsType, ShowsValue, ValueShown}
+use Rattle.talc_core.specs.Headline.{Outside, Headline, TextRefused, LineAnswer, UsageAnswer, Does}
+use Rattle.talc_core.specs.Exact.{IsSettled, Tells, LeadsTo, CannotWrite, HasBudget, GoesOn, NoFaults, Works, Exactly}
+use Rattle.talc_core.proofs.FaultLemmas.{one_fault, taken_or_fault, same_term}
+
+-- ---- files
 
 -- a read gives what the map tells
 same_content : (told : Option FileMap) (name a b : List ℕ) → Holds told name a → Tells told name b → a ≡ b
@@ -23,6 +30,8 @@ told_not_absent : (told : Option FileMap) (name a : List ℕ) → Tells told nam
 told_not_absent None name a tells absent = tells
 told_not_absent (Some files) name a tells absent = let e : Some a ≡ None = cc in cc
 
+-- ---- a command, or none
+
 at_some : (P : Type 0) (Q : Asked → Type 0) (o : Option Asked) (a : Asked) → MatchOption o P Q → o ≡ Some a → Q a
 at_some P Q None a h e = cc
 at_some P Q (Some b) a h e = let same : b ≡ a = cc in subst Q same h
@@ -31,90 +40,200 @@ at_none : (P : Type 0) (Q : Asked → Type 0) (o : Option Asked) → MatchOption
 at_none P Q None h e = h
 at_none P Q (Some b) h e = cc
 
+-- ---- what a settled status says of the text
+
+-- the text is what is needed, it does not go on after the budget, and the work is done
+pub record IsDone (asked : Asked) (source : List ℕ) (status : Status) : Type 0 where
+  pub taken : IsTaken (need_of asked) source
+  pub ends : ¬ GoesOn asked source
+  pub done : status ≡ Done
+
+-- the text is what is needed, it goes on after the budget, and the budget is used up
+pub record IsOver (asked : Asked) (source : List ℕ) (status : Status) : Type 0 where
+  pub taken : IsTaken (need_of asked) source
+  pub goes_on : GoesOn asked source
+  pub has : HasBudget asked
+  pub over : status ≡ Budget
+
+-- or the text has a first fault, and this is the status of it
+abbrev Judged : Asked → List ℕ → Status → Type 0
+Judged asked source status = IsDone asked source status ⊎ (IsOver asked source status ⊎ LeadsTo (need_of asked) source status)
+
+-- what goes on after the budget is what is needed
+goes_on_taken : (asked : Asked) (source : List ℕ) → GoesOn asked source → IsTaken (need_of asked) source
+goes_on_taken (Compiles input output) source more = absurd more
+goes_on_taken (Types input) source more = absurd more
+goes_on_taken (Evaluates input turns) source more = (more.0, more.1)
+
 -- a text whose first fault leads to one status has none that leads to another
-one_status : (source : List ℕ) (a b : Status) → LeadsTo source a → LeadsTo source b → a ≡ b
-one_status source a b x y = sym x.2 ∙ ap status_of (one_fault source x.0 y.0 x.1 y.1) ∙ y.2
+one_status : (need : Need) (source : List ℕ) (a b : Status) → LeadsTo need source a → LeadsTo need source b → a ≡ b
+one_status need source a b x y = sym x.2 ∙ ap status_of (one_fault need source x.0 y.0 x.1 y.1) ∙ y.2
 
-module _ (input output source : List ℕ) (old new : Outside) where
-  refused_at : (status : Status) → CompileAnswer input output old new status → Tells old.files.told input source → IsSettled status → (status ≡ Refused) ↔ LeadsTo source Refused
-  refused_at Done answer tells settled =
-      let same : answer.source ≡ source = same_content old.files.told input answer.source source answer.read tells in
-      (λ e. cc, λ fault. absurd (not_taken source fault.0 (rw (← same) (answer.compiled.term, answer.compiled.parsed)) fault.1))
-  refused_at Refused answer tells settled =
-      let same : answer.source ≡ source = same_content old.files.told input answer.source source answer.read tells in
-      (λ e. rw (← same) (answer.fault, answer.first, answer.leads), λ fault. refl)
-  refused_at Limit answer tells settled =
-      let same : answer.source ≡ source = same_content old.files.told input answer.source source answer.read tells in
-      (λ e. cc, λ fault. let found : LeadsTo source Limit = rw (← same) (answer.fault, answer.first, answer.leads) in one_status source Limit Refused found fault)
-  refused_at Usage answer tells settled = absurd answer
-  refused_at Budget answer tells settled = absurd answer
-  refused_at ReadFault answer tells settled = absurd settled
-  refused_at WriteFault answer tells settled = absurd settled
-  refused_at Memory answer tells settled = absurd settled
+-- a fault leads to no other status than these
+leads_there : (s : Status) (fault : Fault) → status_of fault ≡ s → (s ≡ Refused) ⊎ (s ≡ Limit)
+leads_there s fault e = go (is_limit fault) e
+  where
+    go : (b : Bool) → cond b Limit Refused ≡ s → (s ≡ Refused) ⊎ (s ≡ Limit)
+    go true h = inr (sym h)
+    go false h = inl (sym h)
 
-  limit_at : (status : Status) → CompileAnswer input output old new status → Tells old.files.told input source → IsSettled status → (status ≡ Limit) ↔ LeadsTo source Limit
-  limit_at Done answer tells settled =
-      let same : answer.source ≡ source = same_content old.files.told input answer.source source answer.read tells in
-      (λ e. cc, λ fault. absurd (not_taken source fault.0 (rw (← same) (answer.compiled.term, answer.compiled.parsed)) fault.1))
-  limit_at Refused answer tells settled =
-      let same : answer.source ≡ source = same_content old.files.told input answer.source source answer.read tells in
-      (λ e. cc, λ fault. let found : LeadsTo source Refused = rw (← same) (answer.fault, answer.first, answer.leads) in one_status source Refused Limit found fault)
-  limit_at Limit answer tells settled =
-      let same : answer.source ≡ source = same_content old.files.told input answer.source source answer.read tells in
-      (λ e. rw (← same) (answer.fault, answer.first, answer.leads), λ fault. refl)
-  limit_at Usage answer tells settled = absurd answer
-  limit_at Budget answer tells settled = absurd answer
-  limit_at ReadFault answer tells settled = absurd settled
-  limit_at WriteFault answer tells settled = absurd settled
-  limit_at Memory answer tells settled = absurd settled
+module _ (asked : Asked) (source : List ℕ) (status : Status) where
+  -- a status that a fault leads to comes exactly where the first fault leads to it
+  leads_at : (wanted : Status) → Judged asked source status → (wanted ≡ Done → ⊥) → (wanted ≡ Budget → ⊥) → (status ≡ wanted) ↔ LeadsTo (need_of asked) source wanted
+  leads_at wanted (inl is) other over = (λ e. absurd (other (sym e ∙ is.done)), λ fault. absurd (taken_or_fault (need_of asked) source fault.0 is.taken fault.1))
+  leads_at wanted (inr (inl is)) other over = (λ e. absurd (over (sym e ∙ is.over)), λ fault. absurd (taken_or_fault (need_of asked) source fault.0 is.taken fault.1))
+  leads_at wanted (inr (inr found)) other over = (λ e. subst (LeadsTo (need_of asked) source) e found, λ fault. one_status (need_of asked) source status wanted found fault)
 
-  complete_at : (status : Status) → CompileAnswer input output old new status → Tells old.files.told input source → IsTaken source → NoFaults old new → (status ≡ Done) ⊎ (status ≡ Memory)
-  complete_at Done answer tells taken none = inl refl
-  complete_at Refused answer tells taken none =
-      let same : answer.source ≡ source = same_content old.files.told input answer.source source answer.read tells in
-      absurd (not_taken source answer.fault taken (rw (← same) answer.first))
-  complete_at Limit answer tells taken none =
-      let same : answer.source ≡ source = same_content old.files.told input answer.source source answer.read tells in
-      absurd (not_taken source answer.fault taken (rw (← same) answer.first))
-  complete_at Usage answer tells taken none = absurd answer
-  complete_at Budget answer tells taken none = absurd answer
-  complete_at ReadFault answer tells taken none =
-      elim answer.cause [ inl rose ↦ absurd (none.reads rose) | inr absent ↦ absurd (told_not_absent old.files.told input source tells absent) ]
-  complete_at WriteFault answer tells taken none = absurd (none.writes answer.cause)
-  complete_at Memory answer tells taken none = inr refl
+  refused_judged : Judged asked source status → (status ≡ Refused) ↔ LeadsTo (need_of asked) source Refused
+  refused_judged judged = leads_at Refused judged (λ e. cc) (λ e. cc)
 
-module _ (input output : List ℕ) (old new : Outside) where
-  absent_at : (status : Status) → CompileAnswer input output old new status → IsAbsent old.files.told input → (status ≡ ReadFault) ⊎ (status ≡ Memory)
-  absent_at Done answer absent = absurd (not_absent old.files.told input answer.source answer.read absent)
-  absent_at Refused answer absent = absurd (not_absent old.files.told input answer.source answer.read absent)
-  absent_at Limit answer absent = absurd (not_absent old.files.told input answer.source answer.read absent)
-  absent_at Usage answer absent = absurd answer
-  absent_at Budget answer absent = absurd answer
-  absent_at ReadFault answer absent = inl refl
-  absent_at WriteFault answer absent = absurd (not_absent old.files.told input answer.source answer.read absent)
-  absent_at Memory answer absent = inr refl
+  limit_judged : Judged asked source status → (status ≡ Limit) ↔ LeadsTo (need_of asked) source Limit
+  limit_judged judged = leads_at Limit judged (λ e. cc) (λ e. cc)
 
-  read_fault_at : (status : Status) → CompileAnswer input output old new status → status ≡ ReadFault → Faulted old.files.reads new.files.reads ⊎ IsAbsent old.files.told input
-  read_fault_at status answer e = let here : CompileAnswer input output old new ReadFault = subst (CompileAnswer input output old new) e answer in here.cause
+  -- a text with a fault leads to another status than the budget's
+  no_budget_by_fault : LeadsTo (need_of asked) source status → status ≡ Budget → ⊥
+  no_budget_by_fault found e = elim (leads_there status found.0 found.2) [ inl refused ↦ cc | inr limit ↦ cc ]
+
+  budget_judged : Judged asked source status → (status ≡ Budget) ↔ GoesOn asked source
+  budget_judged (inl is) = (λ e. let done = is.done in cc, λ more. absurd (is.ends more))
+  budget_judged (inr (inl is)) = (λ e. is.goes_on, λ more. is.over)
+  budget_judged (inr (inr found)) =
+      (λ e. absurd (no_budget_by_fault found e), λ more. absurd (taken_or_fault (need_of asked) source found.0 (goes_on_taken asked source more) found.1))
+
+  works_judged : Judged asked source status → IsTaken (need_of asked) source → Works asked status
+  works_judged (inl is) taken = inl is.done
+  works_judged (inr (inl is)) taken = inr (is.has, is.over)
+  works_judged (inr (inr found)) taken = absurd (taken_or_fault (need_of asked) source found.0 taken found.1)
+
+-- ---- what the lines say
+
+-- a text that stands for a program has no other
+value_ends : (turns : ℕ) (source line : List ℕ) → ValueShown turns source line → GoesOn (Evaluates [] turns) source → ⊥
+value_ends turns source line shown more =
+    let same : shown.term ≡ more.0 = same_term source shown.term more.0 shown.checked.0 more.1.0 in
+    let spent : IsSpent (plain shown.term) turns = subst (λ t. IsSpent (plain t) turns) (sym same) more.2 in
+    let value : EvaluatesLeaving (plain shown.term) turns shown.value shown.left = shown.evaluates in
+    let e : Gives _ _ ≡ Spent = sym value ∙ spent in
+    cc
+
+-- a line with the status 0 is shown of a text that is what is needed and ends within the budget, one with 4 of a text that goes on
+pub record IsSound (asked : Asked) (Says : Showing) : Type 0 where
+  pub done : (source line : List ℕ) → Says Done source line → IsTaken (need_of asked) source × (¬ GoesOn asked source)
+  pub over : (source line : List ℕ) → Says Budget source line → IsTaken (need_of asked) source × GoesOn asked source × HasBudget asked
+
+type_sound : (input : List ℕ) → IsSound (Types input) ShowsType
+type_sound input = record {
+  done = λ source line shown. ((shown.term, shown.type, shown.checked), λ more. more);
+  over = λ source line shown. absurd shown;
+}
+
+value_sound : (input : List ℕ) (turns : ℕ) → IsSound (Evaluates input turns) (ShowsValue turns)
+value_sound input turns = record {
+  done = λ source line shown. ((shown.term, shown.checked), value_ends turns source line shown);
+  over = λ source line shown. ((shown.term, shown.checked), (shown.term, shown.checked, shown.spent), tt);
+}
+
+-- ---- by the command and the status
 
 module _ (old new : Outside) where
-  usage_at : (o : Option Asked) (status : Status) → MatchOption o (UsageAnswer old new status) (Does old new status) → IsSettled status → (status ≡ Usage) ↔ (o ≡ None)
-  usage_at None Usage answer settled = (λ _. refl, λ _. refl)
-  usage_at None Done answer settled = absurd answer
-  usage_at None Refused answer settled = absurd answer
-  usage_at None Limit answer settled = absurd answer
-  usage_at None Budget answer settled = absurd answer
-  usage_at None ReadFault answer settled = absurd settled
-  usage_at None WriteFault answer settled = absurd settled
-  usage_at None Memory answer settled = absurd settled
-  usage_at (Some (Compiles input output)) Usage answer settled = absurd answer
-  usage_at (Some asked) Done answer settled = (λ e. cc, λ e. cc)
-  usage_at (Some asked) Refused answer settled = (λ e. cc, λ e. cc)
-  usage_at (Some asked) Limit answer settled = (λ e. cc, λ e. cc)
-  usage_at (Some asked) Budget answer settled = (λ e. cc, λ e. cc)
-  usage_at (Some asked) ReadFault answer settled = absurd settled
-  usage_at (Some asked) WriteFault answer settled = absurd settled
-  usage_at (Some asked) Memory answer settled = absurd settled
+  leads : (asked : Asked) (source : List ℕ) (status : Status) → TextRefused status (need_of asked) (input_of asked) old new → Tells old.files.told (input_of asked) source → Judged asked source status
+  leads asked source status refused tells =
+      let same : refused.source ≡ source = same_content old.files.told (input_of asked) refused.source source refused.read tells in
+      inr (inr (subst (λ text. LeadsTo (need_of asked) text status) same (refused.fault, refused.first, refused.leads)))
+
+  -- of the commands that show a line
+  line_judged : (asked : Asked) (Says : Showing) → IsSound asked Says → (source : List ℕ) (status : Status) → LineAnswer Says (need_of asked) (input_of asked) old new status → Tells old.files.told (input_of asked) source → IsSettled status → Judged asked source status
+  line_judged asked Says sound source Done answer tells settled =
+      let same : answer.source ≡ source = same_content old.files.told (input_of asked) answer.source source answer.read tells in
+      let shown = sound.done answer.source answer.line answer.says in
+      inl (record { taken = subst (IsTaken (need_of asked)) same shown.0; ends = subst (λ text. ¬ GoesOn asked text) same shown.1; done = refl })
+  line_judged asked Says sound source Budget answer tells settled =
+      let same : answer.source ≡ source = same_content old.files.told (input_of asked) answer.source source answer.read tells in
+      let shown = sound.over answer.source answer.line answer.says in
+      inr (inl (record { taken = subst (IsTaken (need_of asked)) same shown.0; goes_on = subst (GoesOn asked) same shown.1; has = shown.2; over = refl }))
+  line_judged asked Says sound source Refused answer tells settled = leads asked source Refused answer tells
+  line_judged asked Says sound source Limit answer tells settled = leads asked source Limit answer tells
+  line_judged asked Says sound source Usage answer tells settled = absurd answer
+  line_judged asked Says sound source ReadFault answer tells settled = absurd settled
+  line_judged asked Says sound source WriteFault answer tells settled = absurd settled
+  line_judged asked Says sound source Memory answer tells settled = absurd settled
+
+  judged : (asked : Asked) (source : List ℕ) (status : Status) → Does old new status asked → Tells old.files.told (input_of asked) source → IsSettled status → Judged asked source status
+  judged (Types input) source status answer tells settled = line_judged (Types input) ShowsType (type_sound input) source status answer tells settled
+  judged (Evaluates input turns) source status answer tells settled = line_judged (Evaluates input turns) (ShowsValue turns) (value_sound input turns) source status answer tells settled
+  judged (Compiles input output) source Done answer tells settled =
+      let same : answer.source ≡ source = same_content old.files.told input answer.source source answer.read tells in
+      let done = answer.compiled in
+      inl (record { taken = subst (IsTaken (need_of (Compiles input output))) same (done.term, done.checked, done.is_number); ends = λ more. more; done = refl })
+  judged (Compiles input output) source Refused answer tells settled = leads (Compiles input output) source Refused answer tells
+  judged (Compiles input output) source Limit answer tells settled = leads (Compiles input output) source Limit answer tells
+  judged (Compiles input output) source Usage answer tells settled = absurd answer
+  judged (Compiles input output) source Budget answer tells settled = absurd answer
+  judged (Compiles input output) source ReadFault answer tells settled = absurd settled
+  judged (Compiles input output) source WriteFault answer tells settled = absurd settled
+  judged (Compiles input output) source Memory answer tells settled = absurd settled
+
+  -- only these statuses come where the file is absent
+  line_absent : (Says : Showing) (need : Need) (input : List ℕ) (status : Status) → LineAnswer Says need input old new status → IsAbsent old.files.told input → (status ≡ ReadFault) ⊎ (status ≡ Memory)
+  line_absent Says need input Done answer absent = absurd (not_absent old.files.told input answer.source answer.read absent)
+  line_absent Says need input Budget answer absent = absurd (not_absent old.files.told input answer.source answer.read absent)
+  line_absent Says need input Refused answer absent = absurd (not_absent old.files.told input answer.source answer.read absent)
+  line_absent Says need input Limit answer absent = absurd (not_absent old.files.told input answer.source answer.read absent)
+  line_absent Says need input WriteFault answer absent = absurd (not_absent old.files.told input answer.source answer.read absent)
+  line_absent Says need input Usage answer absent = absurd answer
+  line_absent Says need input ReadFault answer absent = inl refl
+  line_absent Says need input Memory answer absent = inr refl
+
+  absent_at : (asked : Asked) (status : Status) → Does old new status asked → IsAbsent old.files.told (input_of asked) → (status ≡ ReadFault) ⊎ (status ≡ Memory)
+  absent_at (Types input) status answer absent = line_absent ShowsType AnyTerm input status answer absent
+  absent_at (Evaluates input turns) status answer absent = line_absent (ShowsValue turns) AProgram input status answer absent
+  absent_at (Compiles input output) Done answer absent = absurd (not_absent old.files.told input answer.source answer.read absent)
+  absent_at (Compiles input output) Refused answer absent = absurd (not_absent old.files.told input answer.source answer.read absent)
+  absent_at (Compiles input output) Limit answer absent = absurd (not_absent old.files.told input answer.source answer.read absent)
+  absent_at (Compiles input output) WriteFault answer absent = absurd (not_absent old.files.told input answer.source answer.read absent)
+  absent_at (Compiles input output) Usage answer absent = absurd answer
+  absent_at (Compiles input output) Budget answer absent = absurd answer
+  absent_at (Compiles input output) ReadFault answer absent = inl refl
+  absent_at (Compiles input output) Memory answer absent = inr refl
+
+  read_fault_at : (asked : Asked) → Does old new ReadFault asked → Faulted old.files.reads new.files.reads ⊎ IsAbsent old.files.told (input_of asked)
+  read_fault_at (Compiles input output) answer = answer.cause
+  read_fault_at (Types input) answer = answer.cause
+  read_fault_at (Evaluates input turns) answer = answer.cause
+
+  write_fault_at : (asked : Asked) → Does old new WriteFault asked → CannotWrite asked old new
+  write_fault_at (Compiles input output) answer = answer.cause
+  write_fault_at (Types input) answer = answer.cause
+  write_fault_at (Evaluates input turns) answer = answer.cause
+
+  cannot : (asked : Asked) → NoFaults old new → CannotWrite asked old new → ⊥
+  cannot (Compiles input output) none rose = none.writes rose
+  cannot (Types input) none rose = none.puts rose
+  cannot (Evaluates input turns) none rose = none.puts rose
+
+  no_usage : (asked : Asked) → Does old new Usage asked → ⊥
+  no_usage (Compiles input output) answer = answer
+  no_usage (Types input) answer = answer
+  no_usage (Evaluates input turns) answer = answer
+
+  budget_has : (asked : Asked) → Does old new Budget asked → HasBudget asked
+  budget_has (Compiles input output) answer = answer
+  budget_has (Types input) answer = answer.says
+  budget_has (Evaluates input turns) answer = tt
+
+  -- a settled status is that of the text, any other has its cause
+  complete_at : (asked : Asked) (source : List ℕ) (status : Status) → Does old new status asked → Tells old.files.told (input_of asked) source → IsTaken (need_of asked) source → NoFaults old new → Works asked status ⊎ (status ≡ Memory)
+  complete_at asked source ReadFault answer tells taken none =
+      elim (read_fault_at asked answer) [ inl rose ↦ absurd (none.reads rose) | inr absent ↦ absurd (told_not_absent old.files.told (input_of asked) source tells absent) ]
+  complete_at asked source WriteFault answer tells taken none = absurd (cannot asked none (write_fault_at asked answer))
+  complete_at asked source Memory answer tells taken none = inr refl
+  complete_at asked source Done answer tells taken none = inl (works_judged asked source Done (judged asked source Done answer tells tt) taken)
+  complete_at asked source Refused answer tells taken none = inl (works_judged asked source Refused (judged asked source Refused answer tells tt) taken)
+  complete_at asked source Limit answer tells taken none = inl (works_judged asked source Limit (judged asked source Limit answer tells tt) taken)
+  complete_at asked source Usage answer tells taken none = absurd (no_usage asked answer)
+  complete_at asked source Budget answer tells taken none = inl (works_judged asked source Budget (judged asked source Budget answer tells tt) taken)
+
+  -- ---- where the words are none
 
   no_command_at : (status : Status) → UsageAnswer old new status → (status ≡ Usage) ⊎ (status ≡ Memory)
   no_command_at Usage answer = inl refl
@@ -126,23 +245,28 @@ module _ (old new : Outside) where
   no_command_at ReadFault answer = absurd answer
   no_command_at WriteFault answer = absurd answer
 
-  no_budget_at : (o : Option Asked) → MatchOption o (UsageAnswer old new Budget) (Does old new Budget) → ⊥
-  no_budget_at None answer = answer
-  no_budget_at (Some (Compiles input output)) answer = answer
+  settled_usage : (status : Status) → (status ≡ Usage) ⊎ (status ≡ Memory) → IsSettled status → status ≡ Usage
+  settled_usage status (inl usage) settled = usage
+  settled_usage status (inr memory) settled = absurd (subst IsSettled memory settled)
 
-  write_fault_at : (o : Option Asked) → MatchOption o (UsageAnswer old new WriteFault) (Does old new WriteFault) → Faulted old.files.writes new.files.writes
-  write_fault_at None answer = absurd answer
-  write_fault_at (Some (Compiles input output)) answer = answer.cause
+  usage_at : (o : Option Asked) (status : Status) → MatchOption o (UsageAnswer old new status) (Does old new status) → IsSettled status → (status ≡ Usage) ↔ (o ≡ None)
+  usage_at None status answer settled = (λ _. refl, λ _. settled_usage status (no_command_at status answer) settled)
+  usage_at (Some asked) status answer settled = (λ e. absurd (no_usage asked (subst (λ s. Does old new s asked) e answer)), λ e. cc)
+
+  has_budget_at : (o : Option Asked) → MatchOption o (UsageAnswer old new Budget) (Does old new Budget) → (asked : Asked) × (o ≡ Some asked) × HasBudget asked
+  has_budget_at None answer = absurd answer
+  has_budget_at (Some asked) answer = (asked, refl, budget_has asked answer)
 
 pub exactly : (words : List (List ℕ)) (old new : Outside) (status : Status) → Headline words old new status → Exactly words old new status
 exactly words old new status headline = record {
   usage = usage_at old new (command_of words) status headline;
   no_command = λ none. no_command_at old new status (at_none _ _ _ headline none);
-  refused = λ source asks settled. refused_at asks.0 asks.1.0 source old new status (at_some _ _ _ _ headline asks.1.1) asks.2 settled;
-  limit = λ source asks settled. limit_at asks.0 asks.1.0 source old new status (at_some _ _ _ _ headline asks.1.1) asks.2 settled;
-  budget = λ e. no_budget_at old new (command_of words) (subst (Headline words old new) e headline);
-  read_fault = λ input asks e. read_fault_at input asks.0 old new status (at_some _ _ _ _ headline asks.1) e;
-  absent = λ input asks absent. absent_at input asks.0 old new status (at_some _ _ _ _ headline asks.1) absent;
-  write_fault = λ e. write_fault_at old new (command_of words) (subst (Headline words old new) e headline);
-  complete = λ source asks taken none. complete_at asks.0 asks.1.0 source old new status (at_some _ _ _ _ headline asks.1.1) asks.2 taken none;
+  refused = λ asked source asks settled. refused_judged asked source status (judged old new asked source status (at_some _ _ _ _ headline asks.0) asks.1 settled);
+  limit = λ asked source asks settled. limit_judged asked source status (judged old new asked source status (at_some _ _ _ _ headline asks.0) asks.1 settled);
+  budget = λ asked source asks settled. budget_judged asked source status (judged old new asked source status (at_some _ _ _ _ headline asks.0) asks.1 settled);
+  has_budget = λ e. has_budget_at old new (command_of words) (subst (Headline words old new) e headline);
+  read_fault = λ asked asks e. read_fault_at old new asked (subst (λ s. Does old new s asked) e (at_some _ _ _ _ headline asks));
+  absent = λ asked asks absent. absent_at old new asked status (at_some _ _ _ _ headline asks) absent;
+  write_fault = λ asked asks e. write_fault_at old new asked (subst (λ s. Does old new s asked) e (at_some _ _ _ _ headline asks));
+  complete = λ asked source asks taken none. complete_at old new asked source status (at_some _ _ _ _ headline asks.0) asks.1 taken none;
 }

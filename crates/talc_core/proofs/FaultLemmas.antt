@@ -1,22 +1,94 @@
 -- First faults of a source text.
-use Rattle.std.proofs.Common.{◌≡◌, ℕ, List}
+use Rattle.std.proofs.Common.{◌≡◌, ◌∙◌, ℕ, List, sym, ap, subst, inl, inr}
+use Rattle.idx_core.specs.declared.span.Span.{Span}
+use Rattle.text_core.proofs.Places.{same_span}
+use Rattle.f_terms.specs.declared.fault.Code.{Code}
+use Rattle.f_terms.specs.Ty.{Ty, TInt, NoTys}
+use Rattle.f_terms.specs.Tm.{Tm, plain, span_of}
+use Rattle.f_terms.specs.Read.{place}
+use Rattle.f_terms.specs.Accepted.{IsAccepted}
+use Rattle.f_terms.specs.Faults as typing
+use Rattle.f_terms.specs.OneType.{one_type}
+use Rattle.f_terms.proofs.Faulty as faulty
+use Rattle.f_terms.proofs.Limited.{passes_where_typed}
 use Rattle.f_parser.proofs.Exact as parser
-use Rattle.talc_core.specs.declared.fault.Fault.{Fault}
+use Rattle.pipeline.specs.Meaning.{IsNumber}
 use Rattle.talc_core.specs.declared.fault.Fault.TheVariants.{Source, Tal}
-use Rattle.talc_core.specs.FirstFault.{FirstFault}
-use Rattle.talc_core.specs.Exact.{IsTaken}
+use Rattle.talc_core.specs.FirstFault.{AnyTerm, AProgram, ANumber, IsRead, IsChecked, TermFault, ProgramFault, CompilerFault, OneFault, TakenOrFault}
 
--- two first faults of a text are equal
-pub one_fault : (source : List ℕ) (a b : Fault) → FirstFault source a → FirstFault source b → a ≡ b
-one_fault source (Source c s) (Source d t) x y =
-    let same = parser.one_fault source c d s t x y in
-    let code = same.0 in
-    let place = same.1 in
+-- code and place of two faults agree
+abbrev Same : Code → Span → Code → Span → Type 0
+Same c s d t = (c ≡ d) × (place s ≡ place t)
+
+same_source : (c d : Code) (s t : Span) → Same c s d t → Source c s ≡ Source d t
+same_source c d s t same =
+    let code : c ≡ d = same.0 in
+    let span : s ≡ t = same_span s t (ap (λ (p : ℕ × ℕ). p.0) same.1) (ap (λ (p : ℕ × ℕ). p.1) same.1) in
     cc
-one_fault source (Source c s) (Tal d t) x y = absurd y
-one_fault source (Tal c s) b x y = absurd x
 
--- a text that the compiler takes has no fault
-pub not_taken : (source : List ℕ) (a : Fault) → IsTaken source → FirstFault source a → ⊥
-not_taken source (Source c s) taken x = parser.term_or_fault source taken.0 c s taken.1 x
-not_taken source (Tal c s) taken x = x
+-- what is accepted passes every check
+passes : (term : Tm) (type : Ty) → IsAccepted (plain term) type → typing.Passes term 0 NoTys type
+passes term type accepted = (passes_where_typed term 0 NoTys type tt).1 accepted
+
+-- the same text is read as the same term
+pub same_term : (text : List ℕ) (a b : Tm) → IsRead text a → IsRead text b → a ≡ b
+same_term text a b x y = parser.one_term text a b x.source y.source
+
+-- ---- no fault beside a text that is what is needed
+
+no_term_fault : (text : List ℕ) (c : Code) (s : Span) (term : Tm) (type : Ty) → IsChecked text term type → TermFault text c s → ⊥
+no_term_fault text c s term type checked (inl reading) = parser.term_or_fault text term c s checked.0 reading
+no_term_fault text c s term type checked (inr checking) =
+    let same : checking.term ≡ term = same_term text checking.term term checking.read checked.0 in
+    faulty.no_fault_beside term 0 NoTys type c (place s) (passes term type checked.1) (subst (λ e. typing.Fault e 0 NoTys c (place s)) same checking.fault)
+
+no_program_fault : (text : List ℕ) (c : Code) (s : Span) (term : Tm) → IsChecked text term TInt → ProgramFault text c s → ⊥
+no_program_fault text c s term checked (inl fault) = no_term_fault text c s term TInt checked fault
+no_program_fault text c s term checked (inr other) =
+    let same : other.term ≡ term = same_term text other.term term other.checked.0 checked.0 in
+    other.other (one_type (plain term) 0 NoTys other.type TInt (subst (λ e. IsAccepted (plain e) other.type) same other.checked.1).0 checked.1.0)
+
+no_compiler_fault : (text : List ℕ) (c : Code) (s : Span) (term : Tm) → IsChecked text term TInt → IsNumber (plain term) → CompilerFault text c s → ⊥
+no_compiler_fault text c s term checked number (inl fault) = no_program_fault text c s term checked fault
+no_compiler_fault text c s term checked number (inr other) =
+    let same : other.term ≡ term = same_term text other.term term other.checked.0 checked.0 in
+    other.other (subst (λ e. IsNumber (plain e)) (sym same) number)
+
+pub taken_or_fault : TakenOrFault
+taken_or_fault AnyTerm text (Source c s) taken fault = no_term_fault text c s taken.0 taken.1 taken.2 fault
+taken_or_fault AProgram text (Source c s) taken fault = no_program_fault text c s taken.0 taken.1 fault
+taken_or_fault ANumber text (Source c s) taken fault = no_compiler_fault text c s taken.0 taken.1 taken.2 fault
+taken_or_fault need text (Tal c s) taken fault = absurd fault
+
+-- ---- one fault
+
+one_term_fault : (text : List ℕ) (c d : Code) (s t : Span) → TermFault text c s → TermFault text d t → Same c s d t
+one_term_fault text c d s t (inl x) (inl y) = let same = parser.one_fault text c d s t x y in (same.0, ap place same.1)
+one_term_fault text c d s t (inl x) (inr y) = absurd (parser.term_or_fault text y.term c s y.read x)
+one_term_fault text c d s t (inr x) (inl y) = absurd (parser.term_or_fault text x.term d t x.read y)
+one_term_fault text c d s t (inr x) (inr y) =
+    let same : x.term ≡ y.term = same_term text x.term y.term x.read y.read in
+    faulty.one_fault y.term 0 NoTys c d (place s) (place t) (subst (λ e. typing.Fault e 0 NoTys c (place s)) same x.fault) y.fault
+
+one_program_fault : (text : List ℕ) (c d : Code) (s t : Span) → ProgramFault text c s → ProgramFault text d t → Same c s d t
+one_program_fault text c d s t (inl x) (inl y) = one_term_fault text c d s t x y
+one_program_fault text c d s t (inl x) (inr y) = absurd (no_term_fault text c s y.term y.type y.checked x)
+one_program_fault text c d s t (inr x) (inl y) = absurd (no_term_fault text d t x.term x.type x.checked y)
+one_program_fault text c d s t (inr x) (inr y) =
+    let same : x.term ≡ y.term = same_term text x.term y.term x.checked.0 y.checked.0 in
+    (x.is_code ∙ sym y.is_code, x.whole ∙ ap span_of same ∙ sym y.whole)
+
+one_compiler_fault : (text : List ℕ) (c d : Code) (s t : Span) → CompilerFault text c s → CompilerFault text d t → Same c s d t
+one_compiler_fault text c d s t (inl x) (inl y) = one_program_fault text c d s t x y
+one_compiler_fault text c d s t (inl x) (inr y) = absurd (no_program_fault text c s y.term y.checked x)
+one_compiler_fault text c d s t (inr x) (inl y) = absurd (no_program_fault text d t x.term x.checked y)
+one_compiler_fault text c d s t (inr x) (inr y) =
+    let same : x.term ≡ y.term = same_term text x.term y.term x.checked.0 y.checked.0 in
+    (x.is_code ∙ sym y.is_code, x.whole ∙ ap span_of same ∙ sym y.whole)
+
+pub one_fault : OneFault
+one_fault AnyTerm text (Source c s) (Source d t) x y = same_source c d s t (one_term_fault text c d s t x y)
+one_fault AProgram text (Source c s) (Source d t) x y = same_source c d s t (one_program_fault text c d s t x y)
+one_fault ANumber text (Source c s) (Source d t) x y = same_source c d s t (one_compiler_fault text c d s t x y)
+one_fault need text (Source c s) (Tal d t) x y = absurd y
+one_fault need text (Tal c s) b x y = absurd x

@@ -1,3 +1,4 @@
 pub mod ExactLemmas
 mod FaultLemmas
 mod Rows
+mod SourceLemmas

@@ -1,30 +1,14 @@
--- Examples of command lines, of fault lines and of their statuses.
-use Rattle.std.proofs.Common.{◌≡◌, [], ◌∷◌, Some, None, refl}
+-- Examples of lines, and of the statuses of faults.
+use Rattle.std.proofs.Common.{◌≡◌, refl}
 use Rattle.std.specs.Prelude.{codes}
 use Rattle.std.specs.Fmt.{digits}
+use Rattle.f_terms.specs.Ty.{TInt, TVar, TArrow, TAll}
 use Rattle.f_terms.specs.declared.fault.Code.TheVariants.{E02, E04, L3}
 use Rattle.t_terms.specs.declared.fault.TCode.TheVariants.{T12, M1}
 use Rattle.talc_core.specs.declared.status.Status.TheVariants.{Refused, Limit}
 use Rattle.talc_core.specs.declared.fault.Fault.TheVariants.{Source, Tal}
 use Rattle.talc_core.specs.Fault.{status_of}
-use Rattle.talc_core.specs.Command.{Compiles, command_of}
-use Rattle.talc_core.specs.Lines.{fault_line}
-
--- talc compile x.f x.tal
-compile_words : command_of (codes "talc" ∷ codes "compile" ∷ codes "x.f" ∷ codes "x.tal" ∷ []) ≡ Some (Compiles (codes "x.f") (codes "x.tal"))
-compile_words = refl
-
--- talc
-no_words : command_of (codes "talc" ∷ []) ≡ None
-no_words = refl
-
--- talc run x.tal
-other_words : command_of (codes "talc" ∷ codes "run" ∷ codes "x.tal" ∷ []) ≡ None
-other_words = refl
-
--- talc compile x.f --help
-dashed_words : command_of (codes "talc" ∷ codes "compile" ∷ codes "x.f" ∷ codes "--help" ∷ []) ≡ None
-dashed_words = refl
+use Rattle.talc_core.specs.Lines.{fault_line, type_line}
 
 -- a number out of range, from the byte 0 up to the byte 19
 out_of_range : fault_line (Source E02 (record { start = 0; end = 19 })) ≡ codes "E02 0..19 number out of range\n"
@@ -49,3 +33,8 @@ limits_of_assembly = refl
 
 faults : status_of (Source E02 (record { start = 0; end = 19 })) ≡ Refused
 faults = refl
+
+-- the line of a type
+line_of_type : type_line (TAll (TArrow (TVar 0) TInt)) ≡ codes "all t0. t0 -> int\n"
+unfolding digits
+line_of_type = refl

@@ -1,17 +1,16 @@
--- What the words of the command line ask for.
-use Rattle.std.specs.Prelude.{ℕ, Bool, false, not, ◌&&◌, ◌==◌, List, [], ◌∷◌, Option, Some, None, if◌then◌else◌, codes}
-use Rattle.std.specs.Str.{bytes_eq}
+-- What the words of the command line ask for: see the crate of the words, where it is a definition over `clap`'s rules.
+use Rattle.std.specs.Prelude.{List, ℕ}
+use Rattle.talc_core.specs.FirstFault.{Need, AnyTerm, AProgram, ANumber}
+pub use Rattle.words.specs.Command.{Asked, Compiles, Types, Evaluates, command_of}
 
-pub data Asked : Type 0 where
-  Compiles : (input output : List ℕ) → Asked
+-- what the command needs of the source text that it reads
+abbrev pub need_of : Asked → Need
+need_of (Compiles input output) = ANumber
+need_of (Types input) = AnyTerm
+need_of (Evaluates input turns) = AProgram
 
--- the word begins with a dash
-abbrev pub is_option : List ℕ → Bool
-is_option [] = false
-is_option (first ∷ rest) = first == 45
-
--- The words are a command exactly where there are four, the second is `compile`, and neither of the last two, which
--- are the file to read and the file to write, begins with a dash. The first is the program's name.
-abbrev pub command_of : List (List ℕ) → Option Asked
-command_of (program ∷ word ∷ input ∷ output ∷ []) = if bytes_eq word (codes "compile") && not (is_option input) && not (is_option output) then Some (Compiles input output) else None
-command_of words = None
+-- the name of the file that it reads
+abbrev pub input_of : Asked → List ℕ
+input_of (Compiles input output) = input
+input_of (Types input) = input
+input_of (Evaluates input turns) = input

@@ -2,14 +2,15 @@
 use Rattle.std.specs.Prelude.{◌≡◌, ◌⊎◌, ◌↔◌, ℕ, List, Option, Some, None}
 use Rattle.std.specs.FinMap.{get}
 use Rattle.io_core.specs.Outside.{FileMap, Faulted, IsAbsent}
-use Rattle.f_terms.specs.Tm.{Tm}
-use Rattle.f_parser.specs.Text.{Source}
 use Rattle.talc_core.specs.declared.status.Status.{Status}
 use Rattle.talc_core.specs.declared.status.Status.TheVariants.{Done, Refused, Usage, Limit, Budget, ReadFault, WriteFault, Memory}
 use Rattle.talc_core.specs.declared.fault.Fault.{Fault}
 use Rattle.talc_core.specs.Fault.{status_of}
-use Rattle.talc_core.specs.FirstFault.{FirstFault}
-use Rattle.talc_core.specs.Command.{Compiles, command_of}
+use Rattle.f_terms.specs.Ty.{TInt}
+use Rattle.f_terms.specs.Tm.{Tm, plain}
+use Rattle.f_terms.specs.Eval.{IsSpent}
+use Rattle.talc_core.specs.FirstFault.{Need, FirstFault, IsChecked, IsTaken}
+use Rattle.talc_core.specs.Command.{Asked, Compiles, Types, Evaluates, command_of, need_of, input_of}
 use Rattle.talc_core.specs.Headline.{Outside}
 
 -- no fault of the outside, and no want of memory
@@ -24,26 +25,41 @@ abbrev pub Tells : Option FileMap → List ℕ → List ℕ → Type 0
 Tells None name bytes = ⊥
 Tells (Some files) name bytes = get files name ≡ Some bytes
 
--- the words ask to compile the file of this name
-abbrev pub AsksToCompile : List (List ℕ) → List ℕ → Type 0
-AsksToCompile words input = (output : List ℕ) × (command_of words ≡ Some (Compiles input output))
-
--- the words ask to compile a file with this content
-abbrev pub Compiling : List (List ℕ) → Outside → List ℕ → Type 0
-Compiling words old source = (input : List ℕ) × AsksToCompile words input × Tells old.files.told input source
+-- the words ask for this to be done with a file that has this content
+abbrev pub Asking : List (List ℕ) → Outside → Asked → List ℕ → Type 0
+Asking words old asked source = (command_of words ≡ Some asked) × Tells old.files.told (input_of asked) source
 
 -- the first fault of the text leads to this status
-abbrev pub LeadsTo : List ℕ → Status → Type 0
-LeadsTo source status = (fault : Fault) × FirstFault source fault × (status_of fault ≡ status)
+abbrev pub LeadsTo : Need → List ℕ → Status → Type 0
+LeadsTo need source status = (fault : Fault) × FirstFault need source fault × (status_of fault ≡ status)
 
--- the compiler takes the text: it is a text of a term
-abbrev pub IsTaken : List ℕ → Type 0
-IsTaken source = (e : Tm) × Source source e
+-- what may have failed where the status is a fault of writing: the write of the output's file, or the put of the line
+abbrev pub CannotWrite : Asked → Outside → Outside → Type 0
+CannotWrite (Compiles input output) old new = Faulted old.files.writes new.files.writes
+CannotWrite (Types input) old new = Faulted old.out.faults new.out.faults
+CannotWrite (Evaluates input turns) old new = Faulted old.out.faults new.out.faults
 
--- no count of faults of the files rises in the call or stands at its last value
+-- the command has a budget
+abbrev pub HasBudget : Asked → Type 0
+HasBudget (Compiles input output) = ⊥
+HasBudget (Types input) = ⊥
+HasBudget (Evaluates input turns) = Unit {0}
+
+-- the text is what the command needs, and the end isn't reached within the budget
+abbrev pub GoesOn : Asked → List ℕ → Type 0
+GoesOn (Compiles input output) source = ⊥
+GoesOn (Types input) source = ⊥
+GoesOn (Evaluates input turns) source = (term : Tm) × IsChecked source term TInt × IsSpent (plain term) turns
+
+-- no count of faults of the files or of the output rises in the call or stands at its last value
 pub record NoFaults (old new : Outside) : Type 0 where
   pub reads : Faulted old.files.reads new.files.reads → ⊥
   pub writes : Faulted old.files.writes new.files.writes → ⊥
+  pub puts : Faulted old.out.faults new.out.faults → ⊥
+
+-- the work is done, or its budget is used up
+abbrev pub Works : Asked → Status → Type 0
+Works asked status = (status ≡ Done) ⊎ (HasBudget asked × (status ≡ Budget))
 
 -- the cause of each status, exactly; the causes of want of memory are left open
 pub record Exactly (words : List (List ℕ)) (old new : Outside) (status : Status) : Type 0 where
@@ -51,13 +67,15 @@ pub record Exactly (words : List (List ℕ)) (old new : Outside) (status : Statu
   pub usage : IsSettled status → (status ≡ Usage) ↔ (command_of words ≡ None)
   pub no_command : command_of words ≡ None → (status ≡ Usage) ⊎ (status ≡ Memory)
   -- refused exactly where the first fault is no limit, and at a limit exactly where it is one
-  pub refused : (source : List ℕ) → Compiling words old source → IsSettled status → (status ≡ Refused) ↔ LeadsTo source Refused
-  pub limit : (source : List ℕ) → Compiling words old source → IsSettled status → (status ≡ Limit) ↔ LeadsTo source Limit
-  pub budget : status ≡ Budget → ⊥
+  pub refused : (asked : Asked) (source : List ℕ) → Asking words old asked source → IsSettled status → (status ≡ Refused) ↔ LeadsTo (need_of asked) source Refused
+  pub limit : (asked : Asked) (source : List ℕ) → Asking words old asked source → IsSettled status → (status ≡ Limit) ↔ LeadsTo (need_of asked) source Limit
+  -- the budget is used up exactly where the text goes on after it, and only in a command that has one
+  pub budget : (asked : Asked) (source : List ℕ) → Asking words old asked source → IsSettled status → (status ≡ Budget) ↔ GoesOn asked source
+  pub has_budget : status ≡ Budget → (asked : Asked) × (command_of words ≡ Some asked) × HasBudget asked
   -- a fault of reading only by its cause, and where the file is absent nothing else but want of memory
-  pub read_fault : (input : List ℕ) → AsksToCompile words input → status ≡ ReadFault → Faulted old.files.reads new.files.reads ⊎ IsAbsent old.files.told input
-  pub absent : (input : List ℕ) → AsksToCompile words input → IsAbsent old.files.told input → (status ≡ ReadFault) ⊎ (status ≡ Memory)
-  -- a fault of writing only by the count of writes
-  pub write_fault : status ≡ WriteFault → Faulted old.files.writes new.files.writes
-  -- a text that the compiler takes is compiled
-  pub complete : (source : List ℕ) → Compiling words old source → IsTaken source → NoFaults old new → (status ≡ Done) ⊎ (status ≡ Memory)
+  pub read_fault : (asked : Asked) → command_of words ≡ Some asked → status ≡ ReadFault → Faulted old.files.reads new.files.reads ⊎ IsAbsent old.files.told (input_of asked)
+  pub absent : (asked : Asked) → command_of words ≡ Some asked → IsAbsent old.files.told (input_of asked) → (status ≡ ReadFault) ⊎ (status ≡ Memory)
+  -- a fault of writing only by the count of what the command writes to
+  pub write_fault : (asked : Asked) → command_of words ≡ Some asked → status ≡ WriteFault → CannotWrite asked old new
+  -- the work is done on a text that is what the command needs, as far as the budget goes
+  pub complete : (asked : Asked) (source : List ℕ) → Asking words old asked source → IsTaken (need_of asked) source → NoFaults old new → Works asked status ⊎ (status ≡ Memory)

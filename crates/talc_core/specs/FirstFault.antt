@@ -1,9 +1,90 @@
--- The first fault of a source text.
-use Rattle.std.specs.Prelude.{ℕ, List}
+-- The first fault of a source text, in the one order: reading, checking, and what a command needs beyond that.
+use Rattle.std.specs.Prelude.{◌≡◌, ◌≢◌, ◌⊎◌, ℕ, List}
+use Rattle.idx_core.specs.declared.span.Span.{Span}
+use Rattle.f_terms.specs.declared.fault.Code.{Code}
+use Rattle.f_terms.specs.declared.fault.Code.TheVariants.{E15, E20}
+use Rattle.f_terms.specs.Ty.{Ty, TInt, NoTys}
+use Rattle.f_terms.specs.Tm.{Tm, plain, span_of}
+use Rattle.f_terms.specs.Read.{place}
+use Rattle.f_terms.specs.Accepted.{IsAccepted}
+use Rattle.f_terms.specs.Faults as typing
 use Rattle.f_parser.specs.Text as parser
+use Rattle.pipeline.specs.Meaning.{IsNumber}
 use Rattle.talc_core.specs.declared.fault.Fault.{Fault}
 use Rattle.talc_core.specs.declared.fault.Fault.TheVariants.{Source, Tal}
 
-abbrev pub FirstFault : List ℕ → Fault → Type 0
-FirstFault source (Source code span) = parser.FirstFault source code span
-FirstFault source (Tal code span) = ⊥
+-- what a command needs of a source text: a term of any type, a program, or a program that the compiler takes
+pub data Need : Type 0 where
+  AnyTerm : Need
+  AProgram : Need
+  ANumber : Need
+
+-- the text is read: it stands for the term, within the limits of reading
+abbrev pub IsRead : List ℕ → Tm → Type 0
+IsRead text term = parser.SourceWithin text term
+
+-- the text is read, and its term has the type and keeps the limits on types
+abbrev pub IsChecked : List ℕ → Tm → Ty → Type 0
+IsChecked text term type = IsRead text term × IsAccepted (plain term) type
+
+-- the text is not read, by the first fault of reading
+abbrev pub ReadingFault : List ℕ → Code → Span → Type 0
+ReadingFault text code span = parser.FirstFault text code span
+
+-- the text is read, and this is its term's first fault in checking order
+pub record CheckingFault (text : List ℕ) (code : Code) (span : Span) : Type 0 where
+  pub term : Tm
+  pub read : IsRead text term
+  pub fault : typing.Fault term 0 NoTys code (place span)
+
+-- E15, at the whole term: the type is not int
+pub record NotAProgram (text : List ℕ) (code : Code) (span : Span) : Type 0 where
+  pub term : Tm
+  pub type : Ty
+  pub checked : IsChecked text term type
+  pub other : type ≢ TInt
+  pub is_code : code ≡ E15
+  pub whole : place span ≡ span_of term
+
+-- E20, at the whole term: the program is not one integer, and the compiler takes no other yet
+pub record NotYetCompiled (text : List ℕ) (code : Code) (span : Span) : Type 0 where
+  pub term : Tm
+  pub checked : IsChecked text term TInt
+  pub other : ¬ IsNumber (plain term)
+  pub is_code : code ≡ E20
+  pub whole : place span ≡ span_of term
+
+-- of a text that is to be a term: the first fault of reading, then of checking
+abbrev pub TermFault : List ℕ → Code → Span → Type 0
+TermFault text code span = ReadingFault text code span ⊎ CheckingFault text code span
+
+-- of a text that is to be a program: then E15
+abbrev pub ProgramFault : List ℕ → Code → Span → Type 0
+ProgramFault text code span = TermFault text code span ⊎ NotAProgram text code span
+
+-- of a text that is to be compiled: then E20
+abbrev pub CompilerFault : List ℕ → Code → Span → Type 0
+CompilerFault text code span = ProgramFault text code span ⊎ NotYetCompiled text code span
+
+-- the first fault of a source text of which this is needed
+abbrev pub FirstFault : Need → List ℕ → Fault → Type 0
+FirstFault AnyTerm text (Source code span) = TermFault text code span
+FirstFault AProgram text (Source code span) = ProgramFault text code span
+FirstFault ANumber text (Source code span) = CompilerFault text code span
+FirstFault need text (Tal code span) = ⊥
+
+-- the text is one of which this is needed
+abbrev pub IsTaken : Need → List ℕ → Type 0
+IsTaken AnyTerm text = (term : Tm) × (type : Ty) × IsChecked text term type
+IsTaken AProgram text = (term : Tm) × IsChecked text term TInt
+IsTaken ANumber text = (term : Tm) × IsChecked text term TInt × IsNumber (plain term)
+
+-- The laws.
+
+-- two first faults of a text are equal
+abbrev pub OneFault : Type 0
+OneFault = (need : Need) (text : List ℕ) (a b : Fault) → FirstFault need text a → FirstFault need text b → a ≡ b
+
+-- a text that is what is needed has no fault
+abbrev pub TakenOrFault : Type 0
+TakenOrFault = (need : Need) (text : List ℕ) (a : Fault) → IsTaken need text → FirstFault need text a → ⊥

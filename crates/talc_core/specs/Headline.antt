@@ -2,13 +2,14 @@
 use Rattle.std.specs.Prelude.{◌≡◌, ◌⊎◌, ℕ, List, MatchOption}
 use Rattle.io_core.specs.Outside.{FilesState, SinkState, Faulted, IsAbsent, Holds, SameBut, with_file, gained, GainedPart}
 use Rattle.talc_core.specs.declared.status.Status.{Status}
-use Rattle.talc_core.specs.declared.status.Status.TheVariants.{Done, Refused, Usage, Limit, ReadFault, WriteFault, Memory}
+use Rattle.talc_core.specs.declared.status.Status.TheVariants.{Done, Refused, Usage, Limit, Budget, ReadFault, WriteFault, Memory}
 use Rattle.talc_core.specs.declared.fault.Fault.{Fault}
 use Rattle.talc_core.specs.Fault.{status_of}
-use Rattle.talc_core.specs.FirstFault.{FirstFault}
+use Rattle.talc_core.specs.FirstFault.{Need, AnyTerm, AProgram, ANumber, FirstFault}
 use Rattle.talc_core.specs.Compiled.{IsCompiled}
-use Rattle.talc_core.specs.Command.{Asked, Compiles, command_of}
-use Rattle.talc_core.specs.Lines.{fault_line, usage_line, read_line, write_line, memory_line}
+use Rattle.talc_core.specs.Shown.{Showing, ShowsType, ShowsValue}
+use Rattle.talc_core.specs.Command.{Asked, Compiles, Types, Evaluates, command_of}
+use Rattle.talc_core.specs.Lines.{fault_line, read_line, write_line, memory_line}
 
 -- what the call reaches: the files, the output and the error output
 pub record Outside : Type 0 where
@@ -24,22 +25,14 @@ Shows old new line = (new.taken ≡ gained old.taken line) ⊎ (Faulted old.faul
 abbrev pub ShowsOrNot : SinkState → SinkState → List ℕ → Type 0
 ShowsOrNot old new line = (new.taken ≡ old.taken) ⊎ Shows old new line
 
--- 0: the output's file is set to what the input's text compiles to, and nothing else is done
-pub record CompileDone (input output : List ℕ) (old new : Outside) : Type 0 where
-  pub source : List ℕ
-  pub target : List ℕ
-  pub read : Holds old.files.told input source
-  pub compiled : IsCompiled source target
-  pub written : new.files.told ≡ with_file old.files.told output target
-  pub out : new.out ≡ old.out
-  pub err : new.err ≡ old.err
+-- ---- what several commands do
 
 -- 1 and 3: the input's text has this first fault, which leads to this status; the line names it
-pub record SourceRefused (status : Status) (input : List ℕ) (old new : Outside) : Type 0 where
+pub record TextRefused (status : Status) (need : Need) (input : List ℕ) (old new : Outside) : Type 0 where
   pub source : List ℕ
   pub fault : Fault
   pub read : Holds old.files.told input source
-  pub first : FirstFault source fault
+  pub first : FirstFault need source fault
   pub leads : status_of fault ≡ status
   pub line : Shows old.err new.err (fault_line fault)
   pub out : new.out ≡ old.out
@@ -52,6 +45,24 @@ pub record NotRead (input : List ℕ) (old new : Outside) : Type 0 where
   pub out : new.out ≡ old.out
   pub files : new.files.told ≡ old.files.told
 
+-- 7: nothing is written
+pub record OutOfMemory (old new : Outside) : Type 0 where
+  pub line : ShowsOrNot old.err new.err memory_line
+  pub out : new.out ≡ old.out
+  pub files : new.files.told ≡ old.files.told
+
+-- ---- the command `compile`
+
+-- 0: the output's file is set to what the input's text compiles to, and nothing else is done
+pub record CompileDone (input output : List ℕ) (old new : Outside) : Type 0 where
+  pub source : List ℕ
+  pub target : List ℕ
+  pub read : Holds old.files.told input source
+  pub compiled : IsCompiled source target
+  pub written : new.files.told ≡ with_file old.files.told output target
+  pub out : new.out ≡ old.out
+  pub err : new.err ≡ old.err
+
 -- 6: the text was compiled, and the count of writes rose or stands at its last value; every other file is as before
 pub record CompileNotWritten (input output : List ℕ) (old new : Outside) : Type 0 where
   pub source : List ℕ
@@ -63,31 +74,63 @@ pub record CompileNotWritten (input output : List ℕ) (old new : Outside) : Typ
   pub out : new.out ≡ old.out
   pub files : SameBut output old.files.told new.files.told
 
--- 7: nothing is written
-pub record OutOfMemory (old new : Outside) : Type 0 where
-  pub line : ShowsOrNot old.err new.err memory_line
-  pub out : new.out ≡ old.out
-  pub files : new.files.told ≡ old.files.told
-
 -- what `compile` does; other statuses never come
 abbrev pub CompileAnswer : List ℕ → List ℕ → Outside → Outside → Status → Type 0
 CompileAnswer input output old new Done = CompileDone input output old new
-CompileAnswer input output old new Refused = SourceRefused Refused input old new
-CompileAnswer input output old new Limit = SourceRefused Limit input old new
+CompileAnswer input output old new Refused = TextRefused Refused ANumber input old new
+CompileAnswer input output old new Limit = TextRefused Limit ANumber input old new
 CompileAnswer input output old new ReadFault = NotRead input old new
 CompileAnswer input output old new WriteFault = CompileNotWritten input output old new
 CompileAnswer input output old new Memory = OutOfMemory old new
 CompileAnswer input output old new other = ⊥
 
--- 2: the words are no command; the usage line is shown, and the files are left alone
+-- ---- the commands that show a line
+
+-- 0 and 4: the line is on the output, and nothing else is done
+pub record LineShown (Says : List ℕ → List ℕ → Type 0) (input : List ℕ) (old new : Outside) : Type 0 where
+  pub source : List ℕ
+  pub line : List ℕ
+  pub read : Holds old.files.told input source
+  pub says : Says source line
+  pub out : new.out.taken ≡ gained old.out.taken line
+  pub err : new.err ≡ old.err
+  pub files : new.files.told ≡ old.files.told
+
+-- 6: the output's count rose or stands at its last value, and it has taken a first part of the line
+pub record LineNotShown (Says : Showing) (input : List ℕ) (old new : Outside) : Type 0 where
+  pub source : List ℕ
+  pub shown : List ℕ
+  pub ending : Status
+  pub read : Holds old.files.told input source
+  pub says : Says ending source shown
+  pub cause : Faulted old.out.faults new.out.faults
+  pub line : ShowsOrNot old.err new.err write_line
+  pub out : GainedPart old.out.taken shown new.out.taken
+  pub files : new.files.told ≡ old.files.told
+
+-- what such a command does, which needs this of the text and may show these lines
+abbrev pub LineAnswer : Showing → Need → List ℕ → Outside → Outside → Status → Type 0
+LineAnswer Says need input old new Done = LineShown (Says Done) input old new
+LineAnswer Says need input old new Budget = LineShown (Says Budget) input old new
+LineAnswer Says need input old new Refused = TextRefused Refused need input old new
+LineAnswer Says need input old new Limit = TextRefused Limit need input old new
+LineAnswer Says need input old new ReadFault = NotRead input old new
+LineAnswer Says need input old new WriteFault = LineNotShown Says input old new
+LineAnswer Says need input old new Memory = OutOfMemory old new
+LineAnswer Says need input old new Usage = ⊥
+
+-- ---- the whole
+
+-- 2: the words are no command; some text for the user is shown, and the files are left alone
 pub record UsageShown (old new : Outside) : Type 0 where
-  pub line : Shows old.err new.err usage_line
+  pub text : List ℕ
+  pub line : Shows old.err new.err text
   pub out : new.out ≡ old.out
   pub files : new.files ≡ old.files
 
--- 7 where the words are no command: there was no memory for the usage line
+-- 7 where the words are no command: there was no memory to say so
 pub record UsageNotShown (old new : Outside) : Type 0 where
-  pub err : new.err ≡ old.err
+  pub line : ShowsOrNot old.err new.err memory_line
   pub out : new.out ≡ old.out
   pub files : new.files ≡ old.files
 
@@ -99,7 +142,9 @@ UsageAnswer old new other = ⊥
 -- what the command does
 abbrev pub Does : Outside → Outside → Status → Asked → Type 0
 Does old new status (Compiles input output) = CompileAnswer input output old new status
+Does old new status (Types input) = LineAnswer ShowsType AnyTerm input old new status
+Does old new status (Evaluates input turns) = LineAnswer (ShowsValue turns) AProgram input old new status
 
--- The whole of it: what the words ask for is done, or the usage is shown.
+-- The whole of it: what the words ask for is done, or the user is told that they are no command.
 abbrev pub Headline : List (List ℕ) → Outside → Outside → Status → Type 0
 Headline words old new status = MatchOption (command_of words) (UsageAnswer old new status) (Does old new status)

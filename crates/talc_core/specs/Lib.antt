@@ -1,10 +1,10 @@
 pub mod Status
 pub mod Fault
 pub mod Lines
-pub mod Command
-pub mod Asks
 pub mod FirstFault
+pub mod Command
 pub mod Compiled
+pub mod Shown
 pub mod Headline
 pub mod Steps
 pub mod Exact

@@ -1,10 +1,13 @@
--- The lines that are put on the error output.
-use Rattle.std.specs.Prelude.{ℕ, List, ◌++◌, codes, decimal}
+-- The lines that are put on the output and on the error output.
+use Rattle.std.specs.Prelude.{ℕ, ℤ, List, ◌++◌, codes, decimal}
 use Rattle.idx_core.specs.declared.span.Span.{Span}
+use Rattle.f_terms.specs.Ty.{Ty}
+use Rattle.f_terms.specs.Text.{type_text}
 use Rattle.f_terms.specs.declared.fault.Code.{Code}
 use Rattle.f_terms.specs.declared.fault.Code.TheVariants.{E01, E02, E03, E04, E05, E06, E07, E08, E09, E10, E11, E12, E13, E14, E15, E20, L1, L2, L3, L4, L5}
 use Rattle.t_terms.specs.declared.fault.TCode.{TCode}
 use Rattle.t_terms.specs.declared.fault.TCode.TheVariants.{T01, T02, T03, T04, T05, T06, T07, T08, T09, T10, T11, T12, T13, T14, T15, T16, T17, T18, T19, T20, M1}
+use Rattle.t_writer.specs.Lexeme.{number_text}
 use Rattle.talc_core.specs.declared.fault.Fault.{Fault}
 use Rattle.talc_core.specs.declared.fault.Fault.TheVariants.{Source, Tal}
 
@@ -117,8 +120,17 @@ abbrev pub fault_line : Fault → List ℕ
 fault_line (Source code span) = line_text (source_code code) span (source_words code)
 fault_line (Tal code span) = line_text (tal_code code) span (tal_words code)
 
-abbrev pub usage_line : List ℕ
-usage_line = codes "usage: talc compile IN OUT\n"
+-- the text of a type, and a line end
+abbrev pub type_line : Ty → List ℕ
+type_line type = type_text type ++ codes "\n"
+
+-- an integer with the turns that were used
+abbrev pub value_line : ℤ → ℕ → List ℕ
+value_line i used = codes "int " ++ (number_text i ++ (codes " after " ++ (decimal used ++ codes " turns\n")))
+
+-- it goes on after so many turns
+abbrev pub more_turns_line : ℕ → List ℕ
+more_turns_line turns = codes "running after " ++ (decimal turns ++ codes " turns\n")
 
 abbrev pub read_line : List ℕ
 read_line = codes "read fault\n"

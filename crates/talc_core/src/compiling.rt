@@ -1,46 +1,36 @@
 // The command `compile`.
 ghost use Rattle.talc_core.specs.Headline.{CompileAnswer};
-ghost use Rattle.talc_core.specs.Steps.{CompilesText, CompilesFile, ReadsInput};
+ghost use Rattle.talc_core.specs.Steps.{CompilesText, CompilesFile};
 
 use crate::fault::Fault;
+use crate::outside::read_input;
 use crate::report::{Failure, report};
+use crate::source::read_program;
 use crate::status::Status;
-use f_parser::parse;
-use f_terms::FFault;
+use f_terms::Code;
 use io_core::{Files, Sink, Stop};
-use pipeline::compile;
+use pipeline::{compile, is_number};
 use std::alloc::Global;
-use t_writer::write;
+use t_writer::{keeps_by_nesting, one_move_is_shallow, write};
 
-// The text of a program for the source text, or why there is none.
+// The assembly text of the source text, or why there is none.
 fn compile_text(alloc: Global, source: &[u8]) -> Result<Vec<u8>, Failure>
     ensures { CompilesText source.now result }
 {
-    let term = match parse(alloc, source) {
-        Ok(term) => term,
-        Err(FFault::Refused { code, span }) => {
-            return Err(Failure::Refused(Fault::Source(code, span)));
-        }
-        Err(FFault::Memory) => return Err(Failure::Memory),
-    };
-    let Ok(program) = compile(alloc, &term) else {
+    let program = read_program(alloc, source)?;
+    if !is_number(&program) {
+        let span = program.term().span;
+        return Err(Failure::Refused(Fault::Source(Code::E20, span)));
+    }
+    let Ok(compiled) = compile(alloc, &program) else {
         return Err(Failure::Memory);
     };
-    let Ok(target) = write(alloc, program.program()) else {
+    one_move_is_shallow();
+    keeps_by_nesting();
+    let Ok(target) = write(alloc, compiled.program()) else {
         return Err(Failure::Memory);
     };
     Ok(target)
-}
-
-// The whole content of the input.
-fn read_input<F: Files>(alloc: Global, files: &mut F, input: &str) -> Result<Vec<u8>, Failure>
-    ensures { ReadsInput input.now (F.state files.old) (F.state files.new) result }
-{
-    match files.read_all(alloc, input) {
-        Ok(source) => Ok(source),
-        Err(Stop::Failed) => Err(Failure::Read),
-        Err(Stop::Memory) => Err(Failure::Memory),
-    }
 }
 
 // Reads the input wholly, and writes the output once.

@@ -11,6 +11,9 @@ use std::collections::BTreeMap;
 use std::test::Fail;
 use t_terms::TCode;
 
+mod source_rows;
+mod value_rows;
+
 const SEVEN: &[u8] = b"tal 1\nL0: code[]{}.\nmov r1, 7\nhalt[int]\n";
 
 // Words of a command line.
@@ -46,6 +49,39 @@ fn holds(files: &MemFiles, name: &str, content: &[u8]) -> bool {
 
 fn has_taken(sink: &MemSink, content: &[u8]) -> bool {
     sink.taken().as_slice() == content
+}
+
+// Runs the words over the file `x` with this content; the wanted status, output, error output, and the files unchanged.
+fn shows(
+    rt: HostRuntime,
+    texts: &[&str],
+    content: &[u8],
+    wanted: Status,
+    shown: &[u8],
+    said: &[u8],
+) -> Result<(), Fail> {
+    let alloc = rt.alloc();
+    let words = words(alloc, texts)?;
+    let mut files = one_file(alloc, "x", content, Vec::new(alloc))?;
+    let mut out = MemSink::new(alloc, Vec::new(alloc));
+    let mut err = MemSink::new(alloc, Vec::new(alloc));
+    let status = talc(alloc, &words, &mut files, &mut out, &mut err);
+    assert_eq!(rt; status, wanted, "{texts:?}");
+    assert_eq!(rt; out.taken().as_slice(), shown, "{texts:?}");
+    assert_eq!(rt; err.taken().as_slice(), said, "{texts:?}");
+    assert_eq!(rt; files.files().len(), 1);
+    assert!(rt; holds(&files, "x", content));
+    Ok(())
+}
+
+// A text that is one piece, some others so many times, and one at the end.
+fn repeated(alloc: Global, first: &str, piece: &str, times: usize, last: &str) -> Result<Vec<u8>, AllocError> {
+    let mut text = Vec::from_slice(alloc, first.as_bytes())?;
+    for _ in 0..times {
+        text.extend_from_slice(piece.as_bytes())?;
+    }
+    text.extend_from_slice(last.as_bytes())?;
+    Ok(text)
 }
 
 #[test]
@@ -113,34 +149,63 @@ fn an_absent_file_is_a_read_fault(rt: HostRuntime) -> Result<(), Fail> {
 #[test]
 fn other_words_are_no_command(rt: HostRuntime) -> Result<(), Fail> {
     let alloc = rt.alloc();
-    let lines = [
-        words(alloc, &["talc"])?,
-        words(alloc, &["talc", "run", "x.tal"])?,
-        words(alloc, &["talc", "compile", "x.tal", "-o"])?,
+    let lines: [&[&str]; 14] = [
+        &[],
+        &["talc"],
+        &["talc", "run", "x.tal"],
+        &["talc", "help"],
+        &["talc", "--help"],
+        &["talc", "compile", "--help"],
+        &["talc", "typeof", "x.f", "-h"],
+        &["talc", "compile", "x.f"],
+        &["talc", "typeof", "x.f", "y.f"],
+        &["talc", "compile", "x.f", "x.tal", "-o"],
+        &["talc", "eval", "x.f"],
+        &["talc", "eval", "x.f", "--turns"],
+        &["talc", "eval", "x.f", "--turns", "x"],
+        &["talc", "eval", "x.f", "--turns", "18446744073709551616"],
     ];
-    for words in &lines {
-        let mut files = one_file(alloc, "x.tal", b"7", Vec::new(alloc))?;
+    for line in lines {
+        let words = words(alloc, line)?;
+        let mut files = one_file(alloc, "x.f", b"7", vec![in alloc; (0, 0)]?)?;
         let mut out = MemSink::new(alloc, Vec::new(alloc));
         let mut err = MemSink::new(alloc, Vec::new(alloc));
-        let status = talc(alloc, words, &mut files, &mut out, &mut err);
-        assert_eq!(rt; status, Status::Usage);
-        assert!(rt; has_taken(&err, b"usage: talc compile IN OUT\n"));
+        let status = talc(alloc, &words, &mut files, &mut out, &mut err);
+        assert_eq!(rt; status, Status::Usage, "{line:?}");
+        assert_eq!(rt; files.faults(), (0, 0), "no file is read");
         assert!(rt; has_taken(&out, b""));
+        assert!(rt; !err.taken().is_empty());
     }
     Ok(())
 }
 
 #[test]
-fn any_other_text_is_refused_whole(rt: HostRuntime) -> Result<(), Fail> {
+fn help_of_a_command_goes_to_the_error_output(rt: HostRuntime) -> Result<(), Fail> {
     let alloc = rt.alloc();
-    let words = words(alloc, &["talc", "compile", "x.f", "x.tal"])?;
-    let mut files = one_file(alloc, "x.f", b"7 8", Vec::new(alloc))?;
+    let words = words(alloc, &["talc", "typeof", "--help"])?;
+    let mut files = one_file(alloc, "x.f", b"7", Vec::new(alloc))?;
     let mut out = MemSink::new(alloc, Vec::new(alloc));
     let mut err = MemSink::new(alloc, Vec::new(alloc));
     let status = talc(alloc, &words, &mut files, &mut out, &mut err);
-    assert_eq!(rt; status, Status::Refused);
-    assert!(rt; has_taken(&err, b"E20 0..3 form not compiled yet\n"));
-    assert_eq!(rt; files.files().len(), 1);
+    assert_eq!(rt; status, Status::Usage);
+    let wanted =
+        b"Shows the type of the source text IN\n\nUsage: talc typeof <IN>\n\nArguments:\n  <IN>  \n\nOptions:\n  -h, --help  Print help\n";
+    assert!(rt; has_taken(&err, wanted.as_slice()));
+    assert!(rt; has_taken(&out, b""));
+    Ok(())
+}
+
+#[test]
+fn a_failing_output_is_a_write_fault(rt: HostRuntime) -> Result<(), Fail> {
+    let alloc = rt.alloc();
+    let words = words(alloc, &["talc", "typeof", "x.f"])?;
+    let mut files = one_file(alloc, "x.f", b"7", Vec::new(alloc))?;
+    let mut out = MemSink::new(alloc, vec![in alloc; (0, 2)]?);
+    let mut err = MemSink::new(alloc, Vec::new(alloc));
+    let status = talc(alloc, &words, &mut files, &mut out, &mut err);
+    assert_eq!(rt; status, Status::WriteFault);
+    assert!(rt; has_taken(&out, b"in"));
+    assert!(rt; has_taken(&err, b"write fault\n"));
     Ok(())
 }
 
@@ -161,7 +226,7 @@ fn a_line_without_memory_changes_all_but_a_write_fault(rt: HostRuntime) -> Resul
     let alloc = rt.alloc();
     let words = words(alloc, &["talc", "compile", "x.f", "x.tal"])?;
     let cases = [
-        ("x.f", "7 8", Status::Memory),
+        ("x.f", "7 $", Status::Memory),
         ("y.f", "7", Status::Memory),
         ("x.f", "7", Status::WriteFault),
     ];

@@ -3,12 +3,14 @@ ghost use Rattle.std.specs.Prelude.{map, string_bytes};
 ghost use Rattle.talc_core.specs.Headline.{Headline};
 ghost use Rattle.talc_core.specs.Exact.{Exactly};
 
-use crate::command::{Command, read_command};
+use crate::answering::run_question;
 use crate::compiling::run_compile;
-use crate::report::show;
+use crate::question::Question;
+use crate::report::{Failure, report, show};
 use crate::status::Status;
 use io_core::{Files, Sink};
 use std::alloc::Global;
+use words::{Command, NoCommand, read};
 
 // Does what the words ask for.
 fn do_words<F: Files, O: Sink, E: Sink>(
@@ -23,11 +25,18 @@ fn do_words<F: Files, O: Sink, E: Sink>(
         (record { files = F.state files.new; out = O.state out.new; err = E.state err.new })
         result }
 {
-    match read_command(words) {
-        None => show(alloc, err, b"usage: talc compile IN OUT\n", Status::Usage),
-        Some(Command::Compile { input, output }) => {
+    match read(alloc, words) {
+        Ok(Command::Compile { input, output }) => {
             run_compile(alloc, files, out, err, input, output)
         }
+        Ok(Command::Typeof { input }) => {
+            run_question(alloc, files, out, err, input, Question::TypeOf)
+        }
+        Ok(Command::Eval { input, turns }) => {
+            run_question(alloc, files, out, err, input, Question::ValueOf { turns })
+        }
+        Err(NoCommand::Usage(text)) => show(alloc, err, &text, Status::Usage),
+        Err(NoCommand::Memory) => report(alloc, err, Failure::Memory),
     }
 }
 

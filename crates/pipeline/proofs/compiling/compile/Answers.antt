@@ -11,17 +11,17 @@ use Rattle.pipeline.proofs.OneMove as one
 use Rattle.pipeline.proofs.compiling.compile.Goals as goal
 
 pub seal-requires : goal.seal-requires
-seal-requires c = let made = c.in_ok-program.ensures in subst Accepted (sym made.2) (one.accepted made.0)
+seal-requires c = let made = c.in_ok-compiled.ensures in subst Accepted (sym made.2) (one.accepted made.0)
 
 pub returns-clause-meaning : goal.returns-clause-meaning
 returns-clause-meaning c =
-    let made = c.in_ok-program.ensures in
+    let made = c.in_ok-compiled.ensures in
     let same = ap (λ (p : TProgram). blocks_of p.blocks.items) c.seal.ensures ∙ made.2 in
     subst (λ (e : Term). SameMeaning e (blocks_of (checked_program c.seal.result).blocks.items)) (sym made.1)
     (subst (λ (P : List TBlock). SameMeaning (MNum made.0) P) (sym same) (one.same made.0))
 
 pub returns-clause-accepted : goal.returns-clause-accepted
 returns-clause-accepted c =
-    let made = c.in_ok-program.ensures in
+    let made = c.in_ok-compiled.ensures in
     let same = ap (λ (p : TProgram). blocks_of p.blocks.items) c.seal.ensures ∙ made.2 in
     subst Accepted (sym same) (one.accepted made.0)

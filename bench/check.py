@@ -1,0 +1,54 @@
+"""Checking of assembly programs: `talc check` beside wabt's wasm-validate, as a ratio in one run.
+
+Both read a program of 100000 instructions in 1000 blocks (functions), and one half as large.
+"""
+from measure import available, best, folder, program
+
+BLOCKS = 1000
+
+
+def assembly(blocks, each):
+    lines = ["tal 1"]
+    for i in range(blocks):
+        lines.append(f"L{i}: code[]{{}}." if i == 0 else f"L{i}: code[]{{r1:int, r2:<int^1>}}.")
+        if i == 0:
+            lines += ["malloc r2[int]", "mov r1, 1", "st r2[0], r1"]
+        body = ["ld r3, r2[0]", "add r1, r1, r3", "mul r4, r1, 7", "st r2[0], r4", "bnz r4, L1"]
+        count = each - 1 - (3 if i == 0 else 0)
+        lines += [body[k % len(body)] if not (k % len(body) == 4 and k < 5 and i == 0) else "mov r5, 2" for k in range(count)]
+        lines.append(f"jmp L{i + 1}" if i + 1 < blocks else "halt[int]")
+    return "\n".join(lines) + "\n"
+
+
+def module(blocks, each):
+    lines = ["(module (memory 1)"]
+    for i in range(blocks):
+        lines.append(f"(func (param i64) (result i64)")
+        lines += ["local.get 0"] + ["i64.const 7", "i64.add"] * ((each - 2) // 2)
+        lines.append(")")
+    lines.append(")")
+    return "\n".join(lines) + "\n"
+
+
+def main():
+    talc, to_wasm, validate = program(), available("wat2wasm"), available("wasm-validate")
+    with folder() as place:
+        def times(each):
+            with open(f"{place}/p.tal", "w") as file:
+                file.write(assembly(BLOCKS, each))
+            with open(f"{place}/p.wat", "w") as file:
+                file.write(module(BLOCKS, each))
+            best([to_wasm, f"{place}/p.wat", "-o", f"{place}/p.wasm"], times=1)
+            ours = best([talc, "check", f"{place}/p.tal"], wanted=(0, "accepted\n"))
+            theirs = best([validate, f"{place}/p.wasm"])
+            text = best([to_wasm, f"{place}/p.wat", "-o", f"{place}/p.wasm"])
+            return ours, theirs, text
+
+        whole, half = times(100), times(50)
+        print(f"talc check, 100000 instructions: {whole[0].seconds:.3f} s, {100000 / whole[0].seconds:.2e} instructions a second")
+        print(f"times the half: {whole[0].seconds / half[0].seconds:.2f}")
+        print(f"times wasm-validate, which reads binary: {whole[0].seconds / max(whole[1].seconds, 1e-3):.1f}")
+        print(f"times wat2wasm, which reads and checks a text: {whole[0].seconds / max(whole[2].seconds, 1e-3):.1f}")
+
+
+main()

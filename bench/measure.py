@@ -1,0 +1,55 @@
+"""What the benchmarks share: the built program, one timed run, and how results are printed."""
+import os
+import subprocess
+import sys
+import tempfile
+from pathlib import Path
+
+ROOT = Path(__file__).resolve().parent.parent
+TALC = ROOT / "crates" / "talc" / "out" / "talc"
+
+
+def program():
+    """The built program; it is not built here."""
+    if not TALC.exists():
+        sys.exit(f"{TALC} is missing: run ./talc once, which builds it")
+    return str(TALC)
+
+
+def folder():
+    return tempfile.TemporaryDirectory(prefix="talc-bench-")
+
+
+class Run:
+    """One run of a command: processor seconds, peak memory in bytes, what it printed, its status."""
+
+    def __init__(self, words):
+        with tempfile.TemporaryFile() as out:
+            child = subprocess.Popen(words, stdout=out, stderr=subprocess.STDOUT)
+            _, status, usage = os.wait4(child.pid, 0)
+            child.returncode = os.waitstatus_to_exitcode(status)
+            out.seek(0)
+            self.text = out.read().decode(errors="replace")
+        self.status = child.returncode
+        self.seconds = usage.ru_utime + usage.ru_stime
+        self.peak = usage.ru_maxrss * 1024
+
+
+def best(words, times=3, wanted=None):
+    """The run with the fewest processor seconds of several; each must end with the wanted status and text."""
+    runs = []
+    for _ in range(times):
+        run = Run(words)
+        status, text = wanted if wanted else (0, None)
+        if run.status != status or (text is not None and run.text != text):
+            sys.exit(f"{' '.join(words)}: status {run.status}, {run.text[:200]!r}")
+        runs.append(run)
+    return min(runs, key=lambda r: r.seconds)
+
+
+def available(name):
+    """A command of another package, or the end of the script where it is not installed."""
+    for place in os.environ.get("PATH", "").split(":"):
+        if os.access(os.path.join(place, name), os.X_OK):
+            return os.path.join(place, name)
+    sys.exit(f"{name} is not installed")

@@ -1,0 +1,76 @@
+"""The machine: `talc run` beside wabt's wasm-interp on the same loops, as ratios in one run.
+
+One loop makes 100000000 steps, the other allocates 10000000 small tuples.
+"""
+from measure import available, best, folder, program
+
+LOOP = """tal 1
+L0: code[]{}.
+mov r1, 25000000
+jmp L1
+L1: code[]{r1:int}.
+sub r1, r1, 1
+mov r2, 5
+add r2, r2, 3
+bnz r1, L1
+halt[int]
+"""
+
+# the same four instructions a turn, as wasm-interp counts them more
+LOOP_WAT = """(module (func (export "loop") (result i64) (local i64 i64)
+i64.const 25000000 local.set 0
+(loop
+local.get 0 i64.const 1 i64.sub local.set 0
+i64.const 5 local.set 1
+local.get 1 i64.const 3 i64.add local.set 1
+local.get 0 i64.const 0 i64.ne br_if 0)
+local.get 0))
+"""
+
+TUPLES = """tal 1
+L0: code[]{}.
+mov r1, 10000000
+jmp L1
+L1: code[]{r1:int}.
+malloc r2[int, int]
+st r2[0], r1
+st r2[1], r1
+sub r1, r1, 1
+bnz r1, L1
+halt[int]
+"""
+
+# a bump allocator over a memory that holds all tuples
+TUPLES_WAT = """(module (memory 2500) (func (export "tuples") (result i64) (local i64 i32)
+i64.const 10000000 local.set 0
+(loop
+local.get 1 local.get 0 i64.store
+local.get 1 local.get 0 i64.store offset=8
+local.get 1 i32.const 16 i32.add local.set 1
+local.get 0 i64.const 1 i64.sub local.set 0
+local.get 0 i64.const 0 i64.ne br_if 0)
+local.get 0))
+"""
+
+
+def main():
+    talc, to_wasm, interp = program(), available("wat2wasm"), available("wasm-interp")
+    with folder() as place:
+        def compared(name, text, wat, steps):
+            with open(f"{place}/p.tal", "w") as file:
+                file.write(text)
+            with open(f"{place}/p.wat", "w") as file:
+                file.write(wat)
+            best([to_wasm, f"{place}/p.wat", "-o", f"{place}/p.wasm"], times=1)
+            ours = best([talc, "run", f"{place}/p.tal", "--fuel", "1000000000"], wanted=(0, "int 0\n"))
+            theirs = best([interp, f"{place}/p.wasm", "--run-all-exports"])
+            print(
+                f"{name}: {ours.seconds:.2f} s, {steps / ours.seconds:.2e} instructions a second, "
+                f"times wasm-interp's time: {ours.seconds / theirs.seconds:.2f}, {ours.peak / 1e6:.0f} MB"
+            )
+
+        compared("a loop of 100000000 steps", LOOP, LOOP_WAT, 100000002)
+        compared("10000000 tuples", TUPLES, TUPLES_WAT, 50000002)
+
+
+main()

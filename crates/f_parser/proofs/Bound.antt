@@ -1,12 +1,11 @@
 -- A tree stands for a term exactly where all its names are bound, and for one alone; there is one first unbound name.
-use Rattle.std.proofs.Common.{◌≡◌, ◌≢◌, ℕ, zero, suc, List, [], ◌∷◌, ◌++◌, refl, sym, ◌∙◌, ap, subst, append_assoc, Bool, true, false}
-use Rattle.idx_core.specs.declared.span.Span.{Span}
+use Rattle.std.proofs.Common.{◌≡◌, ℕ, zero, suc, List, [], ◌∷◌, ◌++◌, refl, sym, ◌∙◌, ap, subst, append_assoc}
 use Rattle.idx_core.specs.Names.{Name, IsPlace, IsAbsent}
-use Rattle.f_terms.specs.Ty.{Ty, TInt, TVar, TArrow, TAll, TTuple, Tys, NoTys, MoreTys}
-use Rattle.f_terms.specs.Tm.{Tm, SVar, SNum, SFix, SApp, SGen, SInst, STuple, SProj, SArith, SIf0, Tms, NoTms, MoreTms}
+use Rattle.f_terms.specs.Ty.{Ty, TVar, TAll, TTuple, Tys}
+use Rattle.f_terms.specs.Tm.{Tm, SVar, Tms}
 use Rattle.f_terms.specs.Read.{place}
-use Rattle.f_grammar.specs.Raw.{RawTy, RInt, RName, RTuple, RArrow, RAll, RawTys, NoRawTys, MoreRawTys, RawTm, RVar, RNum, RFix, RGen, RApp, RInst, RFields, RProj, RArith, RIf0, RawTms, NoRawTms, MoreRawTms}
-use Rattle.f_parser.specs.Scope.{spelled, TypeOf, of_int, of_name, of_tuple, of_arrow, of_all, TypesOf, of_no_types, of_more_types, TermOf, of_var, of_num, of_fix, of_gen, of_app, of_inst, of_fields, of_proj, of_arith, of_if0, TermsOf, of_no_terms, of_more_terms, Use, use_at, type_uses, types_uses, uses, all_uses, IsBound, IsUnbound, AllBound, IsFirstUnbound}
+use Rattle.f_grammar.specs.Raw.{RawTy, RawTys, RawTm, RawTms}
+use Rattle.f_parser.specs.Scope.{TypeOf, of_int, of_name, of_tuple, of_arrow, of_all, TypesOf, of_no_types, of_more_types, TermOf, of_var, of_num, of_fix, of_gen, of_app, of_inst, of_fields, of_proj, of_arith, of_if0, TermsOf, of_no_terms, of_more_terms, Use, type_uses, types_uses, uses, all_uses, IsBound, IsUnbound, AllBound, IsFirstUnbound}
 
 pub joined : (text : List ℕ) (a b : List Use) → AllBound text a → AllBound text b → AllBound text (a ++ b)
 joined text [] b h g = g
@@ -94,22 +93,32 @@ mutual
 
 -- the first unbound name: where it is passed on by the code, and that there is one
 pub first_left : (text : List ℕ) (a b : List Use) (u : Use) → IsFirstUnbound text a u → IsFirstUnbound text (a ++ b) u
-first_left text a b u h = record { before = h.before; after = h.after ++ b; bound = h.bound; unbound = h.unbound;
-  place = ap (λ (x : List Use). x ++ b) h.place ∙ append_assoc h.before (u ∷ h.after) b }
+first_left text a b u h = record {
+  before = h.before;
+  after = h.after ++ b;
+  bound = h.bound;
+  unbound = h.unbound;
+  place = ap (λ (x : List Use). x ++ b) h.place ∙ append_assoc h.before (u ∷ h.after) b;
+}
 
 pub first_right : (text : List ℕ) (a b : List Use) (u : Use) → AllBound text a → IsFirstUnbound text b u → IsFirstUnbound text (a ++ b) u
-first_right text a b u g h = record { before = a ++ h.before; after = h.after; bound = joined text a h.before g h.bound; unbound = h.unbound;
-  place = ap (λ (x : List Use). a ++ x) h.place ∙ sym (append_assoc a h.before (u ∷ h.after)) }
+first_right text a b u g h = record {
+  before = a ++ h.before;
+  after = h.after;
+  bound = joined text a h.before g h.bound;
+  unbound = h.unbound;
+  place = ap (λ (x : List Use). a ++ x) h.place ∙ sym (append_assoc a h.before (u ∷ h.after));
+}
 
 one_first' : (text : List ℕ) (a b c d : List Use) (u v : Use) → a ++ u ∷ c ≡ b ++ v ∷ d → AllBound text a → AllBound text b → IsUnbound text u → IsUnbound text v → (a ≡ b) × (u ≡ v)
 one_first' text [] [] c d u v e g h i j = (refl, cc)
 one_first' text [] (y ∷ b) c d u v e g h i j = let q : y ≡ u = cc in let b : IsBound text u = subst (λ (x : Use). IsBound text x) q h.0 in absurd (not_both _ _ b.0 b.1 i)
 one_first' text (y ∷ a) [] c d u v e g h i j = let q : y ≡ v = cc in let b : IsBound text v = subst (λ (x : Use). IsBound text x) q g.0 in absurd (not_both _ _ b.0 b.1 j)
 one_first' text (y ∷ a) (z ∷ b) c d u v e g h i j =
-  let q : y ≡ z = cc in
-  let r : a ++ u ∷ c ≡ b ++ v ∷ d = cc in
-  let p = one_first' text a b c d u v r g.1 h.1 i j in
-  let s = p.0 in (cc, p.1)
+    let q : y ≡ z = cc in
+    let r : a ++ u ∷ c ≡ b ++ v ∷ d = cc in
+    let p = one_first' text a b c d u v r g.1 h.1 i j in
+    let s = p.0 in (cc, p.1)
 
 pub one_first : (text : List ℕ) (us : List Use) (u v : Use) → IsFirstUnbound text us u → IsFirstUnbound text us v → u ≡ v
 one_first text us u v h g = (one_first' text h.before g.before h.after g.after u v (sym h.place ∙ g.place) h.bound g.bound h.unbound g.unbound).1

@@ -1,26 +1,25 @@
 -- The laws of texts and terms, and the clauses of `parse` by them.
 use Rattle.std.specs.Prelude.{Result, Ok, Err, MatchResult, IsErrAnd}
-use Rattle.std.proofs.Common.{◌≡◌, ◌≢◌, ◌≤◌, ◌<◌, arith, ℕ, List, [], ◌∷◌, ◌++◌, length, refl, sym, ◌∙◌, ap, subst}
+use Rattle.std.proofs.Common.{◌≡◌, ◌≢◌, ◌≤◌, ◌<◌, arith, ℕ, List, [], ◌∷◌, length, refl, sym, ◌∙◌, ap, subst}
 use Rattle.idx_core.specs.declared.span.Span.{Span}
 use Rattle.text_core.specs.Table.{Verdict, Fine, Unexpected, Passed}
-use Rattle.text_core.specs.Shapes.{IsFine, IsUnexpected, IsCutShort, IsPassed, Says}
+use Rattle.text_core.specs.Shapes.{IsFine, Says}
 use Rattle.f_terms.specs.declared.fault.Code.{Code}
 use Rattle.f_terms.specs.declared.fault.Code.TheVariants as code
 use Rattle.f_terms.specs.declared.fault.FFault.{FFault}
 use Rattle.f_terms.specs.declared.fault.FFault.TheVariants.{Memory, Refused}
 use Rattle.f_terms.specs.declared.term.FTerm.{FTerm}
 use Rattle.f_terms.specs.Read.{spanned}
-use Rattle.f_terms.specs.Tm.{Tm, plain}
-use Rattle.f_terms.specs.Limits as limits
+use Rattle.f_terms.specs.Tm.{Tm}
 use Rattle.f_lexer.specs.declared.token.Token.{Token}
 use Rattle.f_lexer.specs.Source.{IsCut, FirstTokenFault, IsTokenFault}
 use Rattle.f_lexer.proofs.Exact as lexer
 use Rattle.f_grammar.specs.Raw.{Piece, RawTm, nodes, place_of}
 use Rattle.f_grammar.specs.Grammar.{E}
-use Rattle.f_grammar.specs.Machine.{table, Val, OfTerm}
+use Rattle.f_grammar.specs.Machine.{table, OfTerm}
 use Rattle.f_grammar.proofs.Instance.{one_tree, one_verdict}
 use Rattle.f_parser.specs.Scope.{TermOf, Use, uses, IsFirstUnbound, unbound_code}
-use Rattle.f_parser.specs.Text.{Source, SourceWithin, FewBytes, FewOpen, whole_of, end_of, HasTokens, HasShape, IsFault, FirstFault, too_long, no_token, unexpected, cut_short, too_deep, too_large, unbound, OneTerm, TermOrFault, OneFault, ClosedTerms}
+use Rattle.f_parser.specs.Text.{SourceWithin, FewBytes, whole_of, end_of, HasTokens, HasShape, IsFault, FirstFault, too_long, no_token, unexpected, cut_short, too_deep, too_large, unbound, OneTerm, TermOrFault, OneFault, ClosedTerms}
 use Rattle.f_parser.proofs.Bound as names
 use Rattle.f_parser.proofs.Closed.{term_in_scope, same_nodes}
 

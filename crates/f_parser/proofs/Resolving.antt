@@ -1,7 +1,7 @@
 -- How the resolving of a whole follows from that of its parts.
 use Rattle.std.specs.Prelude.{Result, Ok, Err, MatchResult, Box}
-use Rattle.std.proofs.Common.{◌≡◌, ◌<◌, ◌≤◌, ◌+◌, ℕ, ℤ, List, [], ◌∷◌, ◌++◌, map, take, drop, length, get_or, Vec, Global, refl, sym, ◌∙◌, ap, subst, append_assoc, arith, true, false}
-use Rattle.std.proofs.lemmas.List.{append-nil, map-append, take_more, take-append-drop, drop_more, take_all}
+use Rattle.std.proofs.Common.{◌≡◌, ◌<◌, ◌≤◌, ◌+◌, ℕ, ℤ, List, [], ◌∷◌, ◌++◌, map, take, drop, length, get_or, Vec, Global, refl, sym, ◌∙◌, ap, subst, append_assoc, true, false}
+use Rattle.std.proofs.lemmas.List.{map-append, take_more, take-append-drop, drop_more, take_all}
 use mathlib.Core.Former.{Count}
 use Rattle.idx_core.specs.declared.span.Span.{Span}
 use Rattle.idx_core.specs.Names.{Name, IsAbsent}
@@ -13,7 +13,7 @@ use Rattle.f_terms.specs.declared.term.FForm.TheVariants as fform
 use Rattle.f_terms.specs.Ty.{Ty, TTuple, Tys, MoreTys, tys}
 use Rattle.f_terms.specs.Tm.{Tm, SNum, STuple, Spn, Tms, MoreTms, tms}
 use Rattle.f_terms.specs.Read.{tree, trees, spanned, form_tree, row_trees, place}
-use Rattle.f_grammar.specs.Raw.{RawTy, RTuple, RawTys, raw_tys, RawTm, RFields, RawTms, raw_tms}
+use Rattle.f_grammar.specs.Raw.{RawTy, RTuple, raw_tys, RawTm, RFields, raw_tms}
 use Rattle.f_grammar.specs.Reads.{type_of}
 use Rattle.f_grammar.specs.declared.raw.RawType.{RawType}
 use Rattle.f_grammar.specs.declared.raw.RawType.TheVariants as rtype
@@ -22,11 +22,11 @@ use Rattle.f_grammar.specs.declared.raw.RawTerm.{RawTerm}
 use Rattle.f_grammar.specs.declared.raw.RawTerm.TheVariants as rterm
 use Rattle.f_reader.specs.Kept.{tree_of}
 use Rattle.f_reader.proofs.Fields.{tree_Tuple}
-use Rattle.f_parser.specs.Scope.{spelled, use_at, TypeOf, of_tuple, TypesOf, of_no_types, of_more_types, TermOf, of_num, of_fields, TermsOf, of_no_terms, of_more_terms, Use, type_uses, types_uses, uses, all_uses, AllBound, IsFirstUnbound}
+use Rattle.f_parser.specs.Scope.{spelled, use_at, TypeOf, of_tuple, TypesOf, of_no_types, of_more_types, TermOf, of_num, of_fields, TermsOf, of_no_terms, of_more_terms, Use, type_uses, types_uses, uses, all_uses, AllBound}
 use Rattle.f_parser.specs.Resolve.{StopsAt}
 use Rattle.f_parser.specs.declared.resolve.Unresolved.{Unresolved}
 use Rattle.f_parser.specs.declared.resolve.Unresolved.TheVariants.{Memory, Value, «Type»}
-use Rattle.f_parser.proofs.Bound.{joined, type_bound, types_bound, term_bound, terms_bound, first_left, first_right}
+use Rattle.f_parser.proofs.Bound.{types_bound, terms_bound, first_left, first_right}
 
 -- a stop in a part
 pub stops_left : (text : List ℕ) (a b : List Use) (e : Unresolved) → StopsAt text a e → StopsAt text (a ++ b) e
@@ -50,8 +50,8 @@ types_items n (more_of-FType t rest) = ap (λ (ts : Tys). MoreTys (tree t) ts) (
 
 pub tuple_type : (ts : Vec FType Global) → tree (ftype.Tuple ts) ≡ TTuple (tys (map tree ts.items))
 tuple_type ts =
-  let row = type_row (ftype.Tuple ts) in
-  ap TTuple (types_items row.0 row.1 ∙ ap (λ (xs : List FType). tys (map tree xs)) (items_hidden-the_row-FType-0 ts))
+    let row = type_row (ftype.Tuple ts) in
+    ap TTuple (types_items row.0 row.1 ∙ ap (λ (xs : List FType). tys (map tree xs)) (items_hidden-the_row-FType-0 ts))
 
 abbrev term_row : FForm → (n : Count) × Row_of-FTerm n
 term_row (fform.Tuple' _ row) = (_, row)
@@ -63,8 +63,8 @@ terms_items n (more_of-FTerm s e rest) = ap (λ (ts : Tms). MoreTms (form_tree (
 
 pub tuple_term : (s : Spn) (ts : Vec FTerm Global) → form_tree s (fform.Tuple ts) ≡ STuple s (tms (map spanned ts.items))
 tuple_term s ts =
-  let row = term_row (fform.Tuple ts) in
-  ap (λ (x : Tms). STuple s x) (terms_items row.0 row.1 ∙ ap (λ (xs : List FTerm). tms (map spanned xs)) (items_hidden-the_row-FTerm-0 ts))
+    let row = term_row (fform.Tuple ts) in
+    ap (λ (x : Tms). STuple s x) (terms_items row.0 row.1 ∙ ap (λ (xs : List FTerm). tms (map spanned xs)) (items_hidden-the_row-FTerm-0 ts))
 
 -- types one after the other
 module _ (text : List ℕ) (a : List Name) where
@@ -80,9 +80,9 @@ module _ (text : List ℕ) (a : List Name) where
 
   -- a stop at one of them
   pub types_stop : (us vs : List RawTy) (u : RawTy) (ws : List Ty) (e : Unresolved) → TypesOf text a (raw_tys us) (tys ws) → StopsAt text (type_uses text a u) e →
-    StopsAt text (types_uses text a (raw_tys (us ++ u ∷ vs))) e
+      StopsAt text (types_uses text a (raw_tys (us ++ u ∷ vs))) e
   types_stop us vs u ws e h g = rw types_uses_append
-    (stops_right text (types_uses text a (raw_tys us)) (type_uses text a u ++ types_uses text a (raw_tys vs)) e (types_bound h) (stops_left text (type_uses text a u) (types_uses text a (raw_tys vs)) e g))
+      (stops_right text (types_uses text a (raw_tys us)) (type_uses text a u ++ types_uses text a (raw_tys vs)) e (types_bound h) (stops_left text (type_uses text a u) (types_uses text a (raw_tys vs)) e g))
 
 -- terms one after the other
 module _ (text : List ℕ) (v a : List Name) where
@@ -97,15 +97,15 @@ module _ (text : List ℕ) (v a : List Name) where
   all_uses_append (u ∷ us) vs = ap (λ (x : List Use). uses text v a u ++ x) (all_uses_append us vs) ∙ sym (append_assoc (uses text v a u) (all_uses text v a (raw_tms us)) (all_uses text v a (raw_tms vs)))
 
   pub terms_stop : (us vs : List RawTm) (u : RawTm) (ws : List Tm) (e : Unresolved) → TermsOf text v a (raw_tms us) (tms ws) → StopsAt text (uses text v a u) e →
-    StopsAt text (all_uses text v a (raw_tms (us ++ u ∷ vs))) e
+      StopsAt text (all_uses text v a (raw_tms (us ++ u ∷ vs))) e
   terms_stop us vs u ws e h g = rw all_uses_append
-    (stops_right text (all_uses text v a (raw_tms us)) (uses text v a u ++ all_uses text v a (raw_tms vs)) e (terms_bound h) (stops_left text (uses text v a u) (all_uses text v a (raw_tms vs)) e g))
+      (stops_right text (all_uses text v a (raw_tms us)) (uses text v a u ++ all_uses text v a (raw_tms vs)) e (terms_bound h) (stops_left text (uses text v a u) (all_uses text v a (raw_tms vs)) e g))
 
 -- a list by an item that a loop reads
 split_at : {X Y : Type 0} (f : X → Y) (xs : List X) (i : ℕ) (x : X) → x ≡ get_or xs i x → i < length xs → map f xs ≡ map f (take i xs) ++ f x ∷ map f (drop (i + 1) xs)
 split_at {X} f xs i x e l =
-  let d : drop i xs ≡ x ∷ drop (i + 1) xs = drop_more xs i x l ∙ ap (λ (y : X). y ∷ drop (i + 1) xs) (sym e) in
-  ap (λ (ys : List X). map f ys) (sym (take-append-drop i xs)) ∙ (map-append f (take i xs) (drop i xs) ∙ rw d refl)
+    let d : drop i xs ≡ x ∷ drop (i + 1) xs = drop_more xs i x l ∙ ap (λ (y : X). y ∷ drop (i + 1) xs) (sym e) in
+    ap (λ (ys : List X). map f ys) (sym (take-append-drop i xs)) ∙ (map-append f (take i xs) (drop i xs) ∙ rw d refl)
 
 map_take : {X Y : Type 0} (f : X → Y) (xs : List X) (i : ℕ) (x : X) → x ≡ get_or xs i x → i < length xs → map f (take (i + 1) xs) ≡ map f (take i xs) ++ f x ∷ []
 map_take {X} f xs i x e l = ap (λ (ys : List X). map f ys) (take_more xs i x l ∙ ap (λ (y : X). take i xs ++ y ∷ []) (sym e)) ∙ map-append f (take i xs) (x ∷ [])
@@ -116,17 +116,17 @@ module _ (text : List ℕ) (a : List Name) (self : RawType) (parts : Vec RawType
   type_tree = ap type_of is ∙ (type_Tuple parts ∙ ap (λ (ys : List RawType). RTuple (raw_tys (map type_of ys))) (sym same))
 
   pub type_parts_stop : (i : ℕ) (x : RawType) (ws : List Ty) (e : Unresolved) → x ≡ get_or xs i x → i < length xs → TypesOf text a (raw_tys (map type_of (take i xs))) (tys ws) →
-    StopsAt text (type_uses text a (type_of x)) e → StopsAt text (type_uses text a (type_of self)) e
+      StopsAt text (type_uses text a (type_of x)) e → StopsAt text (type_uses text a (type_of self)) e
   type_parts_stop i x ws e g l h s = rw (type_tree, split_at type_of xs i x g l)
-    (types_stop text a (map type_of (take i xs)) (map type_of (drop (i + 1) xs)) (type_of x) ws e h s)
+      (types_stop text a (map type_of (take i xs)) (map type_of (drop (i + 1) xs)) (type_of x) ws e h s)
 
   pub type_parts_whole : (n : ℕ) (made : Vec FType Global) → length xs ≤ n → TypesOf text a (raw_tys (map type_of (take n xs))) (tys (map tree made.items)) → TypeOf text a (type_of self) (tree (ftype.Tuple made))
   type_parts_whole n made l h = rw (type_tree, tuple_type made) (of_tuple (subst (λ (ys : List RawType). TypesOf text a (raw_tys (map type_of ys)) (tys (map tree made.items))) (take_all n xs l) h))
 
 pub type_parts_more : (text : List ℕ) (a : List Name) (xs : List RawType) (i : ℕ) (x : RawType) (old new : List FType) (t : FType) → x ≡ get_or xs i x → i < length xs → new ≡ old ++ t ∷ [] →
-  TypesOf text a (raw_tys (map type_of (take i xs))) (tys (map tree old)) → TypeOf text a (type_of x) (tree t) → TypesOf text a (raw_tys (map type_of (take (i + 1) xs))) (tys (map tree new))
+    TypesOf text a (raw_tys (map type_of (take i xs))) (tys (map tree old)) → TypeOf text a (type_of x) (tree t) → TypesOf text a (raw_tys (map type_of (take (i + 1) xs))) (tys (map tree new))
 type_parts_more text a xs i x old new t g l e h s =
-  rw (map_take type_of xs i x g l, e, map-append tree old (t ∷ [])) (types_push text a (map type_of (take i xs)) (map tree old) (type_of x) (tree t) h s)
+    rw (map_take type_of xs i x g l, e, map-append tree old (t ∷ [])) (types_push text a (map type_of (take i xs)) (map tree old) (type_of x) (tree t) h s)
 
 -- the loop over the fields of a tuple
 module _ (text : List ℕ) (v a : List Name) (self : RawTerm) (span : _) (parts : Vec RawTerm Global) (xs : List RawTerm) (is : self ≡ rterm.Tuple span parts) (same : xs ≡ parts.items) where
@@ -134,17 +134,17 @@ module _ (text : List ℕ) (v a : List Name) (self : RawTerm) (span : _) (parts 
   term_tree = ap tree_of is ∙ (tree_Tuple span parts ∙ ap (λ (ys : List RawTerm). RFields span (raw_tms (map tree_of ys))) (sym same))
 
   pub parts_stop : (i : ℕ) (x : RawTerm) (ws : List Tm) (e : Unresolved) → x ≡ get_or xs i x → i < length xs → TermsOf text v a (raw_tms (map tree_of (take i xs))) (tms ws) →
-    StopsAt text (uses text v a (tree_of x)) e → StopsAt text (uses text v a (tree_of self)) e
+      StopsAt text (uses text v a (tree_of x)) e → StopsAt text (uses text v a (tree_of self)) e
   parts_stop i x ws e g l h s = rw (term_tree, split_at tree_of xs i x g l)
-    (terms_stop text v a (map tree_of (take i xs)) (map tree_of (drop (i + 1) xs)) (tree_of x) ws e h s)
+      (terms_stop text v a (map tree_of (take i xs)) (map tree_of (drop (i + 1) xs)) (tree_of x) ws e h s)
 
   pub parts_whole : (n : ℕ) (made : Vec FTerm Global) → length xs ≤ n → TermsOf text v a (raw_tms (map tree_of (take n xs))) (tms (map spanned made.items)) → TermOf text v a (tree_of self) (form_tree (place span) (fform.Tuple made))
   parts_whole n made l h = rw (term_tree, tuple_term (place span) made) (of_fields span (subst (λ (ys : List RawTerm). TermsOf text v a (raw_tms (map tree_of ys)) (tms (map spanned made.items))) (take_all n xs l) h))
 
 pub parts_more : (text : List ℕ) (v a : List Name) (xs : List RawTerm) (i : ℕ) (x : RawTerm) (old new : List FTerm) (t : FTerm) → x ≡ get_or xs i x → i < length xs → new ≡ old ++ t ∷ [] →
-  TermsOf text v a (raw_tms (map tree_of (take i xs))) (tms (map spanned old)) → TermOf text v a (tree_of x) (spanned t) → TermsOf text v a (raw_tms (map tree_of (take (i + 1) xs))) (tms (map spanned new))
+    TermsOf text v a (raw_tms (map tree_of (take i xs))) (tms (map spanned old)) → TermOf text v a (tree_of x) (spanned t) → TermsOf text v a (raw_tms (map tree_of (take (i + 1) xs))) (tms (map spanned new))
 parts_more text v a xs i x old new t g l e h s =
-  rw (map_take tree_of xs i x g l, e, map-append spanned old (t ∷ [])) (terms_push text v a (map tree_of (take i xs)) (map spanned old) (tree_of x) (spanned t) h s)
+    rw (map_take tree_of xs i x g l, e, map-append spanned old (t ∷ [])) (terms_push text v a (map tree_of (take i xs)) (map spanned old) (tree_of x) (spanned t) h s)
 
 -- a name that has no binder
 pub type_name_stop : (text : List ℕ) (a : List Name) (self : RawType) (s : Span) → self ≡ rtype.Name s → IsAbsent (spelled text s) a → StopsAt text (type_uses text a (type_of self)) («Type» s)
@@ -155,7 +155,7 @@ name_stop text v a self s is h = rw is (use_at s false v, record { before = []; 
 
 -- a term that is made in a box, with the names in scope as before
 pub made : (text : List ℕ) (v a w b : List Name) (raw : RawTm) (whole : FTerm) (r : Result (Box FTerm Global) Unresolved) → MatchResult r (λ t. t.value ≡ whole) (λ e. e ≡ Memory) → w ≡ v → b ≡ a →
-  TermOf text v a raw (spanned whole) → MatchResult r (λ t. (w ≡ v) × (b ≡ a) × TermOf text v a raw (spanned t.value)) (λ e. StopsAt text (uses text v a raw) e)
+    TermOf text v a raw (spanned whole) → MatchResult r (λ t. (w ≡ v) × (b ≡ a) × TermOf text v a raw (spanned t.value)) (λ e. StopsAt text (uses text v a raw) e)
 made text v a w b raw whole (Ok t) h p q x = (p, q, rw h x)
 made text v a w b raw whole (Err e) h p q x = rw h tt
 

@@ -34,7 +34,7 @@ mutual
     of_num : {v a : List Name} (s : Span) (z : _) → TermOf text v a (RNum s z) (SNum (place s) z)
     -- the parameter hides the function
     of_fix : {v a : List Name} {t r : RawTy} {e : RawTm} {t' r' : Ty} {e' : Tm} (s f x : Span) → TypeOf text a t t' → TypeOf text a r r' →
-      TermOf text (spelled text x ∷ (spelled text f ∷ v)) a e e' → TermOf text v a (RFix s f x t r e) (SFix (place s) t' r' e')
+        TermOf text (spelled text x ∷ (spelled text f ∷ v)) a e e' → TermOf text v a (RFix s f x t r e) (SFix (place s) t' r' e')
     of_gen : {v a : List Name} {e : RawTm} {e' : Tm} (s n : Span) → TermOf text v (spelled text n ∷ a) e e' → TermOf text v a (RGen s n e) (SGen (place s) e')
     of_app : {v a : List Name} {d e : RawTm} {d' e' : Tm} (s : Span) → TermOf text v a d d' → TermOf text v a e e' → TermOf text v a (RApp s d e) (SApp (place s) d' e')
     of_inst : {v a : List Name} {e : RawTm} {t : RawTy} {e' : Tm} {t' : Ty} (s : Span) → TermOf text v a e e' → TypeOf text a t t' → TermOf text v a (RInst s e t) (SInst (place s) e' t')
@@ -42,7 +42,7 @@ mutual
     of_proj : {v a : List Name} {e : RawTm} {e' : Tm} (s : Span) (n : ℕ) → TermOf text v a e e' → TermOf text v a (RProj s n e) (SProj (place s) n e')
     of_arith : {v a : List Name} {d e : RawTm} {d' e' : Tm} (s : Span) (op : Op) → TermOf text v a d d' → TermOf text v a e e' → TermOf text v a (RArith s op d e) (SArith (place s) op d' e')
     of_if0 : {v a : List Name} {c d e : RawTm} {c' d' e' : Tm} (s : Span) → TermOf text v a c c' → TermOf text v a d d' → TermOf text v a e e' →
-      TermOf text v a (RIf0 s c d e) (SIf0 (place s) c' d' e')
+        TermOf text v a (RIf0 s c d e) (SIf0 (place s) c' d' e')
 
   pub data TermsOf (text : List ℕ) : List Name → List Name → RawTms → Tms → Type 0 where
     of_no_terms : {v a : List Name} → TermsOf text v a NoRawTms NoTms

@@ -76,12 +76,15 @@ fn boxed(alloc: Global, span: Span, form: FForm) -> Result<Box<FTerm>, Unresolve
 
 /// A type with its names resolved, where these type names are in scope. They are as before where the answer is a
 /// type.
-pub fn type_in_scope(alloc: Global, text: &[u8], ty: &RawType, types: &mut Names) -> Result<FType, Unresolved>
+pub fn type_in_scope(
+    alloc: Global,
+    text: &[u8],
+    ty: &RawType,
+    types: &mut Names,
+) -> Result<FType, Unresolved>
     ensures kept { OnOk result (types.new ≡ types.old) }
-    ensures right {
-        MatchResult result (λ t. TypeOf text.now types.old (type_of ty.now) (tree t))
-            (λ e. StopsAt text.now (type_uses text.now types.old (type_of ty.now)) e)
-    }
+    ensures right { MatchResult result (λ t. TypeOf text.now types.old (type_of ty.now) (tree t))
+        (λ e. StopsAt text.now (type_uses text.now types.old (type_of ty.now)) e) }
 {
     match ty {
         RawType::Int => Ok(FType::Int),
@@ -115,13 +118,17 @@ pub fn type_in_scope(alloc: Global, text: &[u8], ty: &RawType, types: &mut Names
 
 /// A term with its names resolved, where these value names and type names are in scope. They are as before where the
 /// answer is a term.
-pub fn term_in_scope(alloc: Global, text: &[u8], term: &RawTerm, values: &mut Names, types: &mut Names) -> Result<Box<FTerm>, Unresolved>
-    ensures {
-        MatchResult result
-            (λ t. (values.new ≡ values.old) × (types.new ≡ types.old)
-                × TermOf text.now values.old types.old (tree_of term.now) (spanned t.value))
-            (λ e. StopsAt text.now (uses text.now values.old types.old (tree_of term.now)) e)
-    }
+pub fn term_in_scope(
+    alloc: Global,
+    text: &[u8],
+    term: &RawTerm,
+    values: &mut Names,
+    types: &mut Names,
+) -> Result<Box<FTerm>, Unresolved>
+    ensures { MatchResult result
+        (λ t. (values.new ≡ values.old) × (types.new ≡ types.old)
+        × TermOf text.now values.old types.old (tree_of term.now) (spanned t.value))
+        (λ e. StopsAt text.now (uses text.now values.old types.old (tree_of term.now)) e) }
 {
     match term {
         RawTerm::Var(span) => match values.find(spelling(text, *span)) {

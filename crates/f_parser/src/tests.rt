@@ -259,9 +259,20 @@ fn gives_each_form_its_place(rt: HostRuntime) -> Result<(), Fail> {
     let found = places_in(alloc, b"(1) + (2)")?;
     assert!(rt; found.as_slice() == [(0, 9, 0), (1, 2, 1), (7, 8, 2)].as_slice());
     let found = places_in(alloc, b" #7 <1, ~2>[int] ")?;
-    assert!(rt; found.as_slice() == [(1, 16, 0), (1, 11, 7), (4, 11, 0), (5, 6, 1), (8, 10, 2)].as_slice());
+    assert!(rt;
+        found.as_slice() == [(1, 16, 0), (1, 11, 7), (4, 11, 0), (5, 6, 1), (8, 10, 2)].as_slice()
+    );
     let found = places_in(alloc, b"if0(1, 2 * 3 - 4, 5)")?;
-    let wanted = [(0, 20, 0), (4, 5, 1), (7, 16, 0), (7, 12, 0), (7, 8, 2), (11, 12, 3), (15, 16, 4), (18, 19, 5)];
+    let wanted = [
+        (0, 20, 0),
+        (4, 5, 1),
+        (7, 16, 0),
+        (7, 12, 0),
+        (7, 8, 2),
+        (11, 12, 3),
+        (15, 16, 4),
+        (18, 19, 5),
+    ];
     assert!(rt; found.as_slice() == wanted.as_slice());
     Ok(())
 }
@@ -276,7 +287,17 @@ fn numbers_names_from_the_innermost(rt: HostRuntime) -> Result<(), Fail> {
     assert!(rt; found.as_slice() == [(0, 19, 0), (18, 19, 0)].as_slice());
     // type names and value names are counted apart
     let found = places_in(alloc, b"gen a. gen b. fix f(x:a):all c. b -> c. x[a]")?;
-    let wanted = [(0, 44, 0), (7, 44, 0), (14, 44, 0), (0, 0, 1), (0, 0, 1), (0, 0, 0), (40, 44, 0), (40, 41, 0), (0, 0, 1)];
+    let wanted = [
+        (0, 44, 0),
+        (7, 44, 0),
+        (14, 44, 0),
+        (0, 0, 1),
+        (0, 0, 1),
+        (0, 0, 0),
+        (40, 44, 0),
+        (40, 41, 0),
+        (0, 0, 1),
+    ];
     assert!(rt; found.as_slice() == wanted.as_slice());
     Ok(())
 }

@@ -10,4 +10,5 @@ abbrev pub invariant-loop-part : goal.invariant-loop-part
 invariant-loop-part l = record {
   values_kept : l.values ≡ l.initial.values;
   types_kept : l.types ≡ l.initial.types;
-  resolved : TermsOf l.text l.initial.values l.initial.types (raw_tms (map tree_of (take l.part-index l.part-items))) (tms (map spanned l.fields.items)) }
+  resolved : TermsOf l.text l.initial.values l.initial.types (raw_tms (map tree_of (take l.part-index l.part-items))) (tms (map spanned l.fields.items));
+}

@@ -1,8 +1,9 @@
 -- Worked texts: what they stand for, and their first faults.
-use Rattle.std.proofs.Common.{◌≡◌, ℕ, List, [], ◌∷◌, ◌++◌, map, take, replicate, codes, refl, pos, true, false}
+use Rattle.std.proofs.Common.{◌≡◌, ℕ, List, [], ◌∷◌, ◌++◌, map, take, replicate, codes, refl, pos, negsuc, true, false}
+use Rattle.idx_core.specs.declared.arith.Op.TheVariants.{Add, Sub, Mul}
 use Rattle.t_types.specs.Tree.{IntTy, VarTy, CodeTy, ExistsTy, TupleTy, NoRegs, MoreRegs, NoFields, MoreFields}
 use Rattle.t_terms.specs.declared.fault.TCode.TheVariants.{T01, T02, T03, T04, T05, T06, T07, M1}
-use Rattle.t_terms.specs.Tree.{Reg, Int, Label, Plain, Malloc, Mov, Jmp, Halt, TBlock, Then, Ends}
+use Rattle.t_terms.specs.Tree.{Reg, Int, Label, Plain, Pack, Arith, Bnz, Ld, Malloc, Mov, St, Unpack, Jmp, Halt, TBlock, Then, Ends}
 use Rattle.t_terms.specs.Spanned.{SBlock, plain_blocks}
 use Rattle.t_terms.specs.Text.{ReadsAs, FirstFault}
 use Rattle.t_terms.proofs.Worked.{Answer, Stand, Fault, Open, answer, reads, faulty}
@@ -79,6 +80,36 @@ first_text = refl
 second_text : shown (answer (codes "tal 1\n-- L0\nL0: code[]{}. mov r1, 5 mov r2, L2 jmp L1[int]\n-- L1\nL1: code[zz]{r2:all[]{r1:zz}, r1:zz}. jmp r2\n-- L2\nL2: code[]{r1:int}. halt[int]")) ≡ three_blocks
 second_text = refl
 
+-- one text for each of the other forms
+stored : shown (answer (codes "tal 1\nL0: code[]{}.\nmalloc r1[int]\nmov r2, r1\nmov r3, 5\nst r1[0], r3\nld r1, r2[0]\nhalt[int]\n")) ≡
+    (record {
+      owes = 0;
+      file = NoRegs;
+      code = Then (Malloc 1 (IntTy ∷ [])) (Then (Mov 2 (Plain (Reg 1) [])) (Then (Mov 3 (Plain (Int (pos 5)) [])) (Then (St 1 0 3) (Then (Ld 1 2 0) (Ends Halt)))));
+    } ∷ [])
+stored = refl
+
+two_blocks : shown (answer (codes "tal 1\nL0: code[]{}. mov r1, 5 mov r2, 6 jmp L1\nL1: code[]{r1:int}. halt[int]")) ≡
+    (record { owes = 0; file = NoRegs; code = Then (Mov 1 (Plain (Int (pos 5)) [])) (Then (Mov 2 (Plain (Int (pos 6)) [])) (Ends (Jmp (Plain (Label 1) [])))) } ∷
+    (record { owes = 0; file = MoreRegs 1 IntTy NoRegs; code = Ends Halt } ∷ []))
+two_blocks = refl
+
+packed : shown (answer (codes "tal 1\nL0: code[]{}. mov r1, pack[int,3] as some a. a unpack[b,r1], r1 add r1, r1, 1 halt[int]")) ≡
+    (record {
+      owes = 0;
+      file = NoRegs;
+      code = Then (Mov 1 (Pack IntTy (Plain (Int (pos 3)) []) (ExistsTy (VarTy 0)))) (Then (Unpack 1 (Plain (Reg 1) [])) (Then (Arith Add 1 1 (Plain (Int (pos 1)) [])) (Ends Halt)));
+    } ∷ [])
+packed = refl
+
+branching : shown (answer (codes "tal 1\nL0: code[]{}. mul r1, r2, ~7 sub r2, r1, r3 bnz r1, L0 st r1[10], r4 jmp L0")) ≡
+    (record {
+      owes = 0;
+      file = NoRegs;
+      code = Then (Arith Mul 1 2 (Plain (Int (negsuc 6)) [])) (Then (Arith Sub 2 1 (Plain (Reg 3) [])) (Then (Bnz 1 (Plain (Label 0) [])) (Then (St 1 10 4) (Ends (Jmp (Plain (Label 0) []))))));
+    } ∷ [])
+branching = refl
+
 -- an equal later name hides an earlier one, and an inner one an outer one; a number is its value
 hidden : shown (answer (codes "tal 01 L : code[a,a]{r2:all[b]{r1:a},r1:a}. malloc r1[<int^~0,some a. a^1>] mov r003, ~0 halt[int]")) ≡
     (record {
@@ -88,6 +119,9 @@ hidden : shown (answer (codes "tal 01 L : code[a,a]{r2:all[b]{r1:a},r1:a}. mallo
     } ∷ [])
 hidden = refl
 
--- one construct more than may be open
+-- as many constructs as may be open, and one more
+deep : FirstFault (codes "tal 1\nL0: code[]{}. malloc r1[" ++ replicate 1999 60) T03 (record { start = 2029; end = 2029 })
+deep = faulty _ _ _ _ refl
+
 too_deep : FirstFault (codes "tal 1\nL0: code[]{}. malloc r1[" ++ replicate 2000 60) M1 (record { start = 2029; end = 2030 })
 too_deep = faulty _ _ _ _ refl

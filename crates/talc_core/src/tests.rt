@@ -75,7 +75,13 @@ fn shows(
 }
 
 // A text that is one piece, some others so many times, and one at the end.
-fn repeated(alloc: Global, first: &str, piece: &str, times: usize, last: &str) -> Result<Vec<u8>, AllocError> {
+fn repeated(
+    alloc: Global,
+    first: &str,
+    piece: &str,
+    times: usize,
+    last: &str,
+) -> Result<Vec<u8>, AllocError> {
     let mut text = Vec::from_slice(alloc, first.as_bytes())?;
     for _ in 0..times {
         text.extend_from_slice(piece.as_bytes())?;

@@ -8,7 +8,14 @@ fn typeof_shows(rt: HostRuntime, text: &[u8], line: &[u8]) -> Result<(), Fail> {
 }
 
 fn typeof_refuses(rt: HostRuntime, text: &[u8], line: &[u8]) -> Result<(), Fail> {
-    shows(rt, &["talc", "typeof", "x"], text, Status::Refused, b"", line)
+    shows(
+        rt,
+        &["talc", "typeof", "x"],
+        text,
+        Status::Refused,
+        b"",
+        line,
+    )
 }
 
 fn typeof_passes_a_limit(rt: HostRuntime, text: &[u8], line: &[u8]) -> Result<(), Fail> {
@@ -25,7 +32,10 @@ fn types_of_texts(rt: HostRuntime) -> Result<(), Fail> {
             "gen b. (gen a. gen b. fix f(x:a):b -> a. fix g(y:b):a. x)[b]",
             "all t0. all t1. t0 -> t1 -> t0\n",
         ),
-        ("<fix f(x:int -> int):<>. <>, 1>", "<(int -> int) -> <>, int>\n"),
+        (
+            "<fix f(x:int -> int):<>. <>, 1>",
+            "<(int -> int) -> <>, int>\n",
+        ),
         ("fix f(f:int):int. f", "int -> int\n"),
     ];
     for (text, line) in rows {
@@ -45,13 +55,19 @@ fn first_faults_of_texts(rt: HostRuntime) -> Result<(), Fail> {
         ("x", "E05 0..1 unbound name\n"),
         ("fix f(x:b):int. 1", "E06 8..9 unbound type name\n"),
         ("1 2", "E07 0..1 not a function\n"),
-        ("(fix f(x:int):int. x) <>", "E08 22..24 argument of another type\n"),
+        (
+            "(fix f(x:int):int. x) <>",
+            "E08 22..24 argument of another type\n",
+        ),
         ("1[int]", "E09 0..1 not polymorphic\n"),
         ("#1 2", "E10 3..4 not a tuple\n"),
         ("#3 <1,2>", "E11 0..8 no such field\n"),
         ("1 + <>", "E12 4..6 operand is not int\n"),
         ("if0(0, 1, <>)", "E13 10..12 branches of two types\n"),
-        ("(fix f(x:int):int. <x>) 1", "E14 19..22 body not of the declared type\n"),
+        (
+            "(fix f(x:int):int. <x>) 1",
+            "E14 19..22 body not of the declared type\n",
+        ),
         ("$ 9223372036854775808 )", "E01 0..1 byte begins no token\n"),
         ("x )", "E03 2..3 unexpected token\n"),
         ("fix f(x:b):int. y", "E06 8..9 unbound type name\n"),

@@ -35,7 +35,11 @@ fn values_with_their_turns(rt: HostRuntime) -> Result<(), Fail> {
             "int 9223372036854775807 after 0 turns\n",
         ),
         ("(fix f(x:<>):int. 4) <>", "1", "int 4 after 1 turns\n"),
-        ("0 - 9223372036854775807 - 1", "0", "int ~9223372036854775808 after 0 turns\n"),
+        (
+            "0 - 9223372036854775807 - 1",
+            "0",
+            "int ~9223372036854775808 after 0 turns\n",
+        ),
         ("#2 <1, 2, <>> - 5", "0", "int ~3 after 0 turns\n"),
     ];
     for (text, turns, line) in rows {
@@ -51,7 +55,12 @@ fn factorials(rt: HostRuntime) -> Result<(), Fail> {
     evaluates(rt, &five, "6", "int 120 after 6 turns\n")?;
     goes_on(rt, &five, "5", "running after 5 turns\n")?;
     let more = repeated(alloc, FACTORIAL, "21", 1, "")?;
-    evaluates(rt, &more, "100", "int ~4249290049419214848 after 22 turns\n")
+    evaluates(
+        rt,
+        &more,
+        "100",
+        "int ~4249290049419214848 after 22 turns\n",
+    )
 }
 
 #[test]
@@ -87,7 +96,14 @@ fn faults_come_before_values(rt: HostRuntime) -> Result<(), Fail> {
         ("1 2", "E07 0..1 not a function\n"),
     ];
     for (text, line) in rows {
-        shows(rt, &words, text.as_bytes(), Status::Refused, b"", line.as_bytes())?;
+        shows(
+            rt,
+            &words,
+            text.as_bytes(),
+            Status::Refused,
+            b"",
+            line.as_bytes(),
+        )?;
     }
     let large = repeated(alloc, "1", " + 1", 500, "")?;
     let line = b"L3 0..2001 more than 1000 nodes\n";

@@ -8,6 +8,7 @@ use idx_core::Span;
 use io_core::{MemFiles, MemSink, Sink, Stop};
 use std::alloc::{AllocError, Global};
 use std::collections::BTreeMap;
+use std::process::Abort;
 use std::test::Fail;
 use t_terms::TCode;
 
@@ -53,14 +54,14 @@ fn has_taken(sink: &MemSink, content: &[u8]) -> bool {
 
 // Runs the words over the file `x` with this content; the wanted status, output, error output, and the files unchanged.
 fn shows(
-    rt: HostRuntime,
+    rt: &impl Abort,
+    alloc: Global,
     texts: &[&str],
     content: &[u8],
     wanted: Status,
     shown: &[u8],
     said: &[u8],
 ) -> Result<(), Fail> {
-    let alloc = rt.alloc();
     let words = words(alloc, texts)?;
     let mut files = one_file(alloc, "x", content, Vec::new(alloc))?;
     let mut out = MemSink::new(alloc, Vec::new(alloc));
@@ -195,7 +196,7 @@ fn help_of_a_command_goes_to_the_error_output(rt: HostRuntime) -> Result<(), Fai
     let status = talc(alloc, &words, &mut files, &mut out, &mut err);
     assert_eq!(rt; status, Status::Usage);
     let wanted =
-        b"Shows the type of the source text IN\n\nUsage: talc typeof <IN>\n\nArguments:\n  <IN>  \n\nOptions:\n  -h, --help  Print help\n";
+        b"Shows the type of the source text IN\n\nUsage: talc typeof <IN>\n\nArguments:\n  <IN>  The file to read\n\nOptions:\n  -h, --help  Print help\n";
     assert!(rt; has_taken(&err, wanted.as_slice()));
     assert!(rt; has_taken(&out, b""));
     Ok(())

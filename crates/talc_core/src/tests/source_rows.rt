@@ -1,15 +1,26 @@
 // Types of source texts, and their first faults.
 use super::{repeated, shows};
 use crate::Status;
+use std::alloc::Global;
+use std::process::Abort;
 use std::test::Fail;
 
-fn typeof_shows(rt: HostRuntime, text: &[u8], line: &[u8]) -> Result<(), Fail> {
-    shows(rt, &["talc", "typeof", "x"], text, Status::Done, line, b"")
-}
-
-fn typeof_refuses(rt: HostRuntime, text: &[u8], line: &[u8]) -> Result<(), Fail> {
+fn typeof_shows(rt: &impl Abort, alloc: Global, text: &[u8], line: &[u8]) -> Result<(), Fail> {
     shows(
         rt,
+        alloc,
+        &["talc", "typeof", "x"],
+        text,
+        Status::Done,
+        line,
+        b"",
+    )
+}
+
+fn typeof_refuses(rt: &impl Abort, alloc: Global, text: &[u8], line: &[u8]) -> Result<(), Fail> {
+    shows(
+        &rt,
+        alloc,
         &["talc", "typeof", "x"],
         text,
         Status::Refused,
@@ -18,12 +29,26 @@ fn typeof_refuses(rt: HostRuntime, text: &[u8], line: &[u8]) -> Result<(), Fail>
     )
 }
 
-fn typeof_passes_a_limit(rt: HostRuntime, text: &[u8], line: &[u8]) -> Result<(), Fail> {
-    shows(rt, &["talc", "typeof", "x"], text, Status::Limit, b"", line)
+fn typeof_passes_a_limit(
+    rt: &impl Abort,
+    alloc: Global,
+    text: &[u8],
+    line: &[u8],
+) -> Result<(), Fail> {
+    shows(
+        rt,
+        alloc,
+        &["talc", "typeof", "x"],
+        text,
+        Status::Limit,
+        b"",
+        line,
+    )
 }
 
 #[test]
 fn types_of_texts(rt: HostRuntime) -> Result<(), Fail> {
+    let alloc = rt.alloc();
     let rows: [(&str, &str); 6] = [
         ("7", "int\n"),
         ("#1 <1>", "int\n"),
@@ -39,13 +64,14 @@ fn types_of_texts(rt: HostRuntime) -> Result<(), Fail> {
         ("fix f(f:int):int. f", "int -> int\n"),
     ];
     for (text, line) in rows {
-        typeof_shows(rt, text.as_bytes(), line.as_bytes())?;
+        typeof_shows(&rt, alloc, text.as_bytes(), line.as_bytes())?;
     }
     Ok(())
 }
 
 #[test]
 fn first_faults_of_texts(rt: HostRuntime) -> Result<(), Fail> {
+    let alloc = rt.alloc();
     let rows: [(&str, &str); 19] = [
         ("1 $", "E01 2..3 byte begins no token\n"),
         ("9223372036854775808", "E02 0..19 number out of range\n"),
@@ -74,7 +100,7 @@ fn first_faults_of_texts(rt: HostRuntime) -> Result<(), Fail> {
         ("<1> + y", "E05 6..7 unbound name\n"),
     ];
     for (text, line) in rows {
-        typeof_refuses(rt, text.as_bytes(), line.as_bytes())?;
+        typeof_refuses(&rt, alloc, text.as_bytes(), line.as_bytes())?;
     }
     Ok(())
 }
@@ -84,9 +110,14 @@ fn bytes_are_limited(rt: HostRuntime) -> Result<(), Fail> {
     let alloc = rt.alloc();
     let most = repeated(alloc, "", " ", 1_048_576, "")?;
     let line = b"E04 1048576..1048576 unexpected end of text\n";
-    typeof_refuses(rt, &most, line)?;
+    typeof_refuses(&rt, alloc, &most, line)?;
     let more = repeated(alloc, "", " ", 1_048_577, "")?;
-    typeof_passes_a_limit(rt, &more, b"L1 0..1048577 more than 1048576 bytes\n")
+    typeof_passes_a_limit(
+        &rt,
+        alloc,
+        &more,
+        b"L1 0..1048577 more than 1048576 bytes\n",
+    )
 }
 
 #[test]
@@ -94,19 +125,24 @@ fn open_constructs_are_limited(rt: HostRuntime) -> Result<(), Fail> {
     let alloc = rt.alloc();
     let mut most = repeated(alloc, "", "(", 200, "1")?;
     most.extend_from_slice(&repeated(alloc, "", ")", 200, "")?)?;
-    typeof_shows(rt, &most, b"int\n")?;
+    typeof_shows(&rt, alloc, &most, b"int\n")?;
     let mut more = repeated(alloc, "", "(", 201, "1")?;
     more.extend_from_slice(&repeated(alloc, "", ")", 201, "")?)?;
-    typeof_passes_a_limit(rt, &more, b"L2 200..201 more than 200 open constructs\n")
+    typeof_passes_a_limit(
+        &rt,
+        alloc,
+        &more,
+        b"L2 200..201 more than 200 open constructs\n",
+    )
 }
 
 #[test]
 fn nodes_are_limited(rt: HostRuntime) -> Result<(), Fail> {
     let alloc = rt.alloc();
     let most = repeated(alloc, "1", " + 1", 499, "")?;
-    typeof_shows(rt, &most, b"int\n")?;
+    typeof_shows(&rt, alloc, &most, b"int\n")?;
     let more = repeated(alloc, "1", " + 1", 500, "")?;
-    typeof_passes_a_limit(rt, &more, b"L3 0..2001 more than 1000 nodes\n")
+    typeof_passes_a_limit(&rt, alloc, &more, b"L3 0..2001 more than 1000 nodes\n")
 }
 
 #[test]
@@ -116,10 +152,10 @@ fn depths_of_types_are_limited(rt: HostRuntime) -> Result<(), Fail> {
     most.extend_from_slice(&repeated(alloc, "", ">", 199, "")?)?;
     let mut line = repeated(alloc, "", "<", 199, "int")?;
     line.extend_from_slice(&repeated(alloc, "", ">", 199, "\n")?)?;
-    typeof_shows(rt, &most, &line)?;
+    typeof_shows(&rt, alloc, &most, &line)?;
     let mut more = repeated(alloc, "", "<", 200, "1")?;
     more.extend_from_slice(&repeated(alloc, "", ">", 200, "")?)?;
-    typeof_passes_a_limit(rt, &more, b"L4 0..401 type deeper than 200\n")
+    typeof_passes_a_limit(&rt, alloc, &more, b"L4 0..401 type deeper than 200\n")
 }
 
 #[test]
@@ -127,13 +163,19 @@ fn sizes_of_types_are_limited(rt: HostRuntime) -> Result<(), Fail> {
     let alloc = rt.alloc();
     let most = repeated(alloc, "fix f(x:<int", ",int", 9_996, ">):int. 1")?;
     let line = repeated(alloc, "<int", ", int", 9_996, "> -> int\n")?;
-    typeof_shows(rt, &most, &line)?;
+    typeof_shows(&rt, alloc, &most, &line)?;
     let more = repeated(alloc, "fix f(x:<int", ",int", 9_997, ">):int. 1")?;
-    typeof_passes_a_limit(rt, &more, b"L5 0..40009 type of more than 10000 nodes\n")
+    typeof_passes_a_limit(
+        &rt,
+        alloc,
+        &more,
+        b"L5 0..40009 type of more than 10000 nodes\n",
+    )
 }
 
 #[test]
 fn only_numbers_are_compiled(rt: HostRuntime) -> Result<(), Fail> {
+    let alloc = rt.alloc();
     let rows: [(&str, &str); 6] = [
         ("#1 <1>", "E20 0..6 form not compiled yet\n"),
         ("(1) + (2)", "E20 0..9 form not compiled yet\n"),
@@ -144,7 +186,8 @@ fn only_numbers_are_compiled(rt: HostRuntime) -> Result<(), Fail> {
     ];
     for (text, line) in rows {
         shows(
-            rt,
+            &rt,
+            alloc,
             &["talc", "compile", "x", "y"],
             text.as_bytes(),
             Status::Refused,

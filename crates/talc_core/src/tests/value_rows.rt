@@ -1,22 +1,45 @@
 // What source texts evaluate to.
 use super::{repeated, shows};
 use crate::Status;
+use std::alloc::Global;
+use std::process::Abort;
 use std::test::Fail;
 
 const FACTORIAL: &str = "(fix f(n:int):int. if0(n, 1, n * f(n - 1))) ";
 
-fn evaluates(rt: HostRuntime, text: &[u8], turns: &str, line: &str) -> Result<(), Fail> {
+fn evaluates(
+    rt: &impl Abort,
+    alloc: Global,
+    text: &[u8],
+    turns: &str,
+    line: &str,
+) -> Result<(), Fail> {
     let words = ["talc", "eval", "x", "--turns", turns];
-    shows(rt, &words, text, Status::Done, line.as_bytes(), b"")
+    shows(rt, alloc, &words, text, Status::Done, line.as_bytes(), b"")
 }
 
-fn goes_on(rt: HostRuntime, text: &[u8], turns: &str, line: &str) -> Result<(), Fail> {
+fn goes_on(
+    rt: &impl Abort,
+    alloc: Global,
+    text: &[u8],
+    turns: &str,
+    line: &str,
+) -> Result<(), Fail> {
     let words = ["talc", "eval", "x", "--turns", turns];
-    shows(rt, &words, text, Status::Budget, line.as_bytes(), b"")
+    shows(
+        rt,
+        alloc,
+        &words,
+        text,
+        Status::Budget,
+        line.as_bytes(),
+        b"",
+    )
 }
 
 #[test]
 fn values_with_their_turns(rt: HostRuntime) -> Result<(), Fail> {
+    let alloc = rt.alloc();
     let rows: [(&str, &str, &str); 7] = [
         ("7", "0", "int 7 after 0 turns\n"),
         (
@@ -43,7 +66,7 @@ fn values_with_their_turns(rt: HostRuntime) -> Result<(), Fail> {
         ("#2 <1, 2, <>> - 5", "0", "int ~3 after 0 turns\n"),
     ];
     for (text, turns, line) in rows {
-        evaluates(rt, text.as_bytes(), turns, line)?;
+        evaluates(&rt, alloc, text.as_bytes(), turns, line)?;
     }
     Ok(())
 }
@@ -52,11 +75,12 @@ fn values_with_their_turns(rt: HostRuntime) -> Result<(), Fail> {
 fn factorials(rt: HostRuntime) -> Result<(), Fail> {
     let alloc = rt.alloc();
     let five = repeated(alloc, FACTORIAL, "5", 1, "")?;
-    evaluates(rt, &five, "6", "int 120 after 6 turns\n")?;
-    goes_on(rt, &five, "5", "running after 5 turns\n")?;
+    evaluates(&rt, alloc, &five, "6", "int 120 after 6 turns\n")?;
+    goes_on(&rt, alloc, &five, "5", "running after 5 turns\n")?;
     let more = repeated(alloc, FACTORIAL, "21", 1, "")?;
     evaluates(
-        rt,
+        &rt,
+        alloc,
         &more,
         "100",
         "int ~4249290049419214848 after 22 turns\n",
@@ -65,25 +89,33 @@ fn factorials(rt: HostRuntime) -> Result<(), Fail> {
 
 #[test]
 fn what_does_not_end(rt: HostRuntime) -> Result<(), Fail> {
+    let alloc = rt.alloc();
     let text = b"(fix f(x:int):int. f x) 0";
-    goes_on(rt, text, "1000", "running after 1000 turns\n")?;
-    goes_on(rt, text, "0", "running after 0 turns\n")
+    goes_on(&rt, alloc, text, "1000", "running after 1000 turns\n")?;
+    goes_on(&rt, alloc, text, "0", "running after 0 turns\n")
 }
 
 #[test]
 fn calls_are_as_deep_as_memory_allows(rt: HostRuntime) -> Result<(), Fail> {
+    let alloc = rt.alloc();
     let text = b"(fix f(n:int):int. if0(n, 0, 1 + f(n - 1))) 100000";
-    evaluates(rt, text, "200000", "int 100000 after 100001 turns\n")
+    evaluates(
+        &rt,
+        alloc,
+        text,
+        "200000",
+        "int 100000 after 100001 turns\n",
+    )
 }
 
 #[test]
 fn long_sums_and_deep_parentheses(rt: HostRuntime) -> Result<(), Fail> {
     let alloc = rt.alloc();
     let sum = repeated(alloc, "1", " + 1", 499, "")?;
-    evaluates(rt, &sum, "0", "int 500 after 0 turns\n")?;
+    evaluates(&rt, alloc, &sum, "0", "int 500 after 0 turns\n")?;
     let mut deep = repeated(alloc, "", "(", 200, "1")?;
     deep.extend_from_slice(&repeated(alloc, "", ")", 200, "")?)?;
-    evaluates(rt, &deep, "0", "int 1 after 0 turns\n")
+    evaluates(&rt, alloc, &deep, "0", "int 1 after 0 turns\n")
 }
 
 #[test]
@@ -97,7 +129,8 @@ fn faults_come_before_values(rt: HostRuntime) -> Result<(), Fail> {
     ];
     for (text, line) in rows {
         shows(
-            rt,
+            &rt,
+            alloc,
             &words,
             text.as_bytes(),
             Status::Refused,
@@ -107,9 +140,9 @@ fn faults_come_before_values(rt: HostRuntime) -> Result<(), Fail> {
     }
     let large = repeated(alloc, "1", " + 1", 500, "")?;
     let line = b"L3 0..2001 more than 1000 nodes\n";
-    shows(rt, &words, &large, Status::Limit, b"", line)?;
+    shows(&rt, alloc, &words, &large, Status::Limit, b"", line)?;
     let mut deep = repeated(alloc, "", "(", 201, "1")?;
     deep.extend_from_slice(&repeated(alloc, "", ")", 201, "")?)?;
     let line = b"L2 200..201 more than 200 open constructs\n";
-    shows(rt, &words, &deep, Status::Limit, b"", line)
+    shows(&rt, alloc, &words, &deep, Status::Limit, b"", line)
 }

@@ -9,7 +9,6 @@ mod laws;
 mod loading;
 mod machine;
 mod places;
-mod running;
 mod word;
 
 pub use laws::{first_runs_tell, runs_answer_exactly};

@@ -2,7 +2,7 @@
 ghost use Rattle.std.specs.Prelude.{◌≡◌, ℕ, List, [], ◌∷◌, ◌++◌, IfOk, OnOk};
 ghost use Rattle.t_terms.specs.Read.{base as base_tree, value as value_tree, instr as instr_tree, end_of, block as block_tree, blocks_of};
 ghost use Rattle.t_check.specs.Checked.{checked_program};
-ghost use Rattle.t_rules.specs.Erase.{ESeq, erase_value, erase_instr, erase_end, erase_block, erase_blocks};
+ghost use Rattle.t_rules.specs.Erase.{ESeq, EMov, erase_value, erase_instr, erase_end, erase_block, erase_blocks};
 ghost use Rattle.t_machine.specs.Places.{Extends};
 ghost use Rattle.t_machine.specs.Code.{IsBase, IsInstr, IsEnd, IsCode};
 ghost use Rattle.t_machine.specs.Runs.{Stands};
@@ -96,11 +96,7 @@ fn load_instr(places: &mut Places, i: &Instr) -> Result<Instruction, OutOfMemory
                 size: types.len(),
             })
         }
-        Instr::Mov { rd, v } => {
-            let rd = places.place(*rd)?;
-            let v = load_value(places, v)?;
-            Ok(Instruction::Mov { rd, v })
-        }
+        Instr::Mov { rd, v } => load_move(places, *rd, v),
         Instr::St { rd, field, rs } => {
             let rd = places.place(*rd)?;
             let rs = places.place(*rs)?;
@@ -110,12 +106,18 @@ fn load_instr(places: &mut Places, i: &Instr) -> Result<Instruction, OutOfMemory
                 rs,
             })
         }
-        Instr::Unpack { rd, v } => {
-            let rd = places.place(*rd)?;
-            let v = load_value(places, v)?;
-            Ok(Instruction::Mov { rd, v })
-        }
+        Instr::Unpack { rd, v } => load_move(places, *rd, v),
     }
+}
+
+// A move, or an unpack, which is one without types.
+fn load_move(places: &mut Places, rd: u64, v: &Value) -> Result<Instruction, OutOfMemory>
+    ensures same { IfOk result (λ o. IsInstr places.new o (EMov rd (erase_value (value_tree v.now)))) }
+    ensures kept { OnOk result (Extends places.old places.new) }
+{
+    let rd = places.place(rd)?;
+    let v = load_value(places, v)?;
+    Ok(Instruction::Mov { rd, v })
 }
 
 fn load_end(places: &mut Places, end: &End) -> Result<Instruction, OutOfMemory>

@@ -1,0 +1,9 @@
+pub mod Loads
+pub mod Cells
+pub mod Registers
+pub mod Inverses
+pub mod Onwards
+pub mod Standing
+pub mod Starting
+pub mod Stepping
+pub mod Exactly

@@ -1,0 +1,143 @@
+-- Code that holds blocks, while it is loaded and after it.
+use Rattle.std.proofs.Common.{◌≡◌, ℕ, zero, suc, ◌+◌, ◌<◌, ◌≤◌, List, [], ◌∷◌, ◌++◌, length, take, drop, get_or, Some, refl, sym, ap, ◌∙◌, subst, arith, inl, inr, ◌⊎◌, ⊎_elim, slice_get, append_assoc}
+use Rattle.std.proofs.lemmas.Bool.{cases_lt}
+use Rattle.std.proofs.lemmas.List.{drop-append-le, drop_all}
+use Rattle.std.proofs.Math.Seq.{drop-append_seam}
+use Rattle.t_terms.specs.Tree.{TBase, TBlock}
+use Rattle.t_terms.specs.Read.{block, blocks_of}
+use Rattle.t_terms.specs.declared.block.Block.{Block}
+use Rattle.t_rules.specs.Erase.{EInstr, ESeq, EThen, EJmp, EHalt, erase_block, erase_blocks, drop_seq}
+use Rattle.t_machine.specs.Places.{PlaceList, place_of, Extends}
+use Rattle.t_machine.specs.Code.{IsBase, IsInstr, IsEnd, Holds, HoldsBlocks}
+use Rattle.t_machine.specs.Lowering.{IsLoaded}
+use Rattle.t_machine.specs.declared.code.Operand.{Operand}
+use Rattle.t_machine.specs.declared.code.Operand.TheVariants.{Register, Int, Label}
+use Rattle.t_machine.specs.declared.code.Instruction.{Instruction}
+use Rattle.t_machine.specs.declared.code.Instruction.TheVariants.{Arith, Bnz, Ld, Malloc, Mov, St, Jmp, Halt}
+
+module _ (m n : PlaceList) (e : Extends m n) where
+  pub base_extends : (v : Operand) (b : TBase) → IsBase m v b → IsBase n v b
+  base_extends (Register k) b h = (h.0, e h.0 k h.1, h.2)
+  base_extends (Int i) b h = h
+  base_extends (Label l) b h = h
+
+  pub instr_extends : (o : Instruction) (i : EInstr) → IsInstr m o i → IsInstr n o i
+  instr_extends (Arith op d s v) i h = (h.0, h.1, h.2, e h.0 d h.3, e h.1 s h.4, base_extends v h.2 h.5, h.6)
+  instr_extends (Bnz s v) i h = (h.0, h.1, e h.0 s h.2, base_extends v h.1 h.3, h.4)
+  instr_extends (Ld d s f) i h = (h.0, h.1, e h.0 d h.2, e h.1 s h.3, h.4)
+  instr_extends (Malloc d k) i h = (h.0, e h.0 d h.1, h.2)
+  instr_extends (Mov d v) i h = (h.0, h.1, e h.0 d h.2, base_extends v h.1 h.3, h.4)
+  instr_extends (St d f s) i h = (h.0, h.1, e h.0 d h.2, e h.1 s h.3, h.4)
+  instr_extends (Jmp v) i h = absurd h
+  instr_extends (Halt s) i h = absurd h
+
+  pub end_extends : (o : Instruction) (c : ESeq) → IsEnd m o c → IsEnd n o c
+  end_extends (Jmp v) c h = (h.0, base_extends v h.0 h.1, h.2)
+  end_extends (Halt s) c h = (e 1 s h.0, h.1)
+  end_extends (Arith op d s v) c h = absurd h
+  end_extends (Bnz s v) c h = absurd h
+  end_extends (Ld d s f) c h = absurd h
+  end_extends (Malloc d k) c h = absurd h
+  end_extends (Mov d v) c h = absurd h
+  end_extends (St d f s) c h = absurd h
+
+  holds_extends : (os more : List Instruction) (c : ESeq) → Holds m os c → Holds n (os ++ more) c
+  holds_extends [] more c h = absurd h
+  holds_extends (o ∷ os) more c h = ⊎_elim
+      (λ (x : (i : EInstr) × (rest : ESeq) × IsInstr m o i × (c ≡ EThen i rest) × Holds m os rest). inl (x.0, x.1, instr_extends o x.0 x.2, x.3, holds_extends os more x.1 x.4))
+      (λ (x : IsEnd m o c). inr (end_extends o c x))
+      h
+
+  from_extends : (k : ℕ) (os more : List Instruction) (c : ESeq) → Holds m (drop k os) c → Holds n (drop k (os ++ more)) c
+  from_extends k os more c h = ⊎_elim
+      (λ (lt : length os < k). absurd (subst (λ xs. Holds m xs c) (drop_all k os (omega arith)) h))
+      (λ (le : k ≤ length os). subst (λ xs. Holds n xs c) (sym (drop-append-le k os more le)) (holds_extends (drop k os) more c h))
+      (cases_lt (length os) k)
+
+  -- one more block
+  pub block_added : (os low : List Instruction) (ks : List ℕ) (cs : List ESeq) (c : ESeq) → HoldsBlocks m os ks cs → Holds n low c → HoldsBlocks n (os ++ low) (ks ++ length os ∷ []) (cs ++ c ∷ [])
+  block_added os low [] [] c h last = (subst (λ xs. Holds n xs c) (sym (drop-append_seam os low)) last, tt)
+  block_added os low (k ∷ ks) (b ∷ cs) c h last = (from_extends k os low b h.0, block_added os low ks cs c h.1 last)
+  block_added os low [] (b ∷ cs) c h last = absurd h
+  block_added os low (k ∷ ks) [] c h last = absurd h
+
+pub extends_same : (m : PlaceList) → Extends m m
+extends_same m r k h = h
+
+pub extends_both : (m n p : PlaceList) → Extends m n → Extends n p → Extends m p
+extends_both m n p e f r k h = f r k (e r k h)
+
+-- a block from its first instruction on
+pub loaded_none : (m : PlaceList) (c : ESeq) → IsLoaded m [] c c
+loaded_none m c n e more h = h
+
+-- one instruction more
+pub loaded_more : (m p : PlaceList) → Extends m p → (done : List Instruction) (o : Instruction) (i : EInstr) (left all : ESeq) → IsInstr p o i → IsLoaded m done (EThen i left) all → IsLoaded p (done ++ o ∷ []) left all
+loaded_more m p e done o i left all is h n f more k =
+    subst (λ xs. Holds n xs all) (sym (append_assoc done (o ∷ []) more)) (h n (extends_both m p n e f) (o ∷ more) (inl (i, left, instr_extends p n f o i is, refl, k)))
+
+-- and the end
+pub loaded_all : (m p : PlaceList) → Extends m p → (done : List Instruction) (o : Instruction) (left all : ESeq) → IsEnd p o left → IsLoaded m done left all → Holds p (done ++ o ∷ []) all
+loaded_all m p e done o left all is h = h p e (o ∷ []) (inr is)
+
+-- where a block is entered
+pub at_entry : (m : PlaceList) (os : List Instruction) (ks : List ℕ) (cs : List ESeq) → HoldsBlocks m os ks cs → (l : ℕ) (c : ESeq) → slice_get cs l ≡ Some c → (k : ℕ) × (slice_get ks l ≡ Some k) × Holds m (drop k os) c
+at_entry m os [] [] h l c e = cc
+at_entry m os (k ∷ ks) (b ∷ cs) h zero c e = let same : b ≡ c = cc in (k, refl, subst (Holds m (drop k os)) same h.0)
+at_entry m os (k ∷ ks) (b ∷ cs) h (suc l) c e = at_entry m os ks cs h.1 l c e
+at_entry m os [] (b ∷ cs) h l c e = absurd h
+at_entry m os (k ∷ ks) [] h l c e = absurd h
+
+-- further on in a block
+pub holds_on : (m : PlaceList) (os : List Instruction) (c : ESeq) (i : ℕ) (rest : ESeq) → Holds m os c → drop_seq i c ≡ Some rest → Holds m (drop i os) rest
+holds_on m os c zero rest h e = let same : c ≡ rest = cc in subst (Holds m os) same h
+holds_on m [] c (suc i) rest h e = absurd h
+holds_on m (o ∷ os) (EThen j c) (suc i) rest h e = ⊎_elim
+    (λ (x : (k : EInstr) × (tail : ESeq) × IsInstr m o k × (EThen j c ≡ EThen k tail) × Holds m os tail). let eq = x.3 in let same : x.1 ≡ c = cc in holds_on m os c i rest (subst (Holds m os) same x.4) e)
+    (λ (x : IsEnd m o (EThen j c)). absurd (no_end o j c x))
+    h
+  where
+    no_end : (p : Instruction) (k : EInstr) (d : ESeq) → IsEnd m p (EThen k d) → ⊥
+    no_end (Jmp v) k d x = let y = x.2 in cc
+    no_end (Halt s) k d x = let y = x.1 in cc
+    no_end (Arith op d s v) k b x = x
+    no_end (Bnz s v) k b x = x
+    no_end (Ld d s f) k b x = x
+    no_end (Malloc d t) k b x = x
+    no_end (Mov d v) k b x = x
+    no_end (St d f s) k b x = x
+holds_on m (o ∷ os) (EJmp b) (suc i) rest h e = cc
+holds_on m (o ∷ os) EHalt (suc i) rest h e = cc
+
+abbrev no_code : List Instruction
+no_code = []
+
+drop_none : (k : ℕ) → drop k (no_code) ≡ no_code
+drop_none zero = refl
+drop_none (suc k) = refl
+
+-- the instruction at a place
+pub instruction_at : (os : List Instruction) (k : ℕ) → (drop k os ≡ []) ⊎ ((o : Instruction) × (slice_get os k ≡ Some o) × (drop k os ≡ o ∷ drop (suc k) os))
+instruction_at [] k = inl (drop_none k)
+instruction_at (o ∷ os) zero = inr (o, refl, refl)
+instruction_at (o ∷ os) (suc k) = instruction_at os k
+
+-- the blocks up to a place
+taken_one : (bs : List Block) (i : ℕ) (x : Block) → i < length bs → x ≡ get_or bs i x → erase_blocks (blocks_of (take (suc i) bs)) ≡ erase_blocks (blocks_of (take i bs)) ++ erase_block (block x) ∷ []
+taken_one [] i x lt is = absurd (omega arith)
+taken_one (b ∷ bs) zero x lt is = ap (λ (y : Block). erase_block (block y) ∷ []) (sym is)
+taken_one (b ∷ bs) (suc i) x lt is = ap (λ z. erase_block (block b) ∷ z) (taken_one bs i x (omega arith) is)
+
+pub blocks_taken : (bs : List Block) (i : ℕ) (x : Block) → i < length bs → x ≡ get_or bs i x → erase_blocks (blocks_of (take (i + 1) bs)) ≡ erase_blocks (blocks_of (take i bs)) ++ erase_block (block x) ∷ []
+blocks_taken bs i x lt is = let more : i + 1 ≡ suc i = omega arith in ap (λ k. erase_blocks (blocks_of (take k bs))) more ∙ taken_one bs i x lt is
+
+-- the first block's entry
+pub first_entry : (m : PlaceList) (os : List Instruction) (ks : List ℕ) (cs : List ESeq) → HoldsBlocks m os ks cs → 0 < length cs → 0 < length ks
+first_entry m os [] [] h lt = lt
+first_entry m os (k ∷ ks) (c ∷ cs) h lt = omega arith
+first_entry m os [] (c ∷ cs) h lt = absurd h
+first_entry m os (k ∷ ks) [] h lt = absurd h
+
+pub erased_count : (P : List TBlock) → 1 ≤ length P → 0 < length (erase_blocks P)
+erased_count [] some = omega arith
+erased_count (b ∷ bs) some = omega arith

@@ -1,0 +1,8 @@
+use Rattle.std.proofs.Common.{take}
+use Rattle.t_terms.specs.Read.{blocks_of}
+use Rattle.t_rules.specs.Erase.{erase_blocks}
+use Rattle.t_machine.specs.Code.{IsCode}
+use Rattle.t_machine.proofs.loading.load_blocks.Given as goal
+
+abbrev pub invariant-loop-block : goal.invariant-loop-block
+invariant-loop-block l = IsCode l.code (erase_blocks (blocks_of (take l.block-index l.blocks)))

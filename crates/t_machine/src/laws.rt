@@ -1,0 +1,16 @@
+// Laws of runs, as functions with an empty body that callers cite.
+ghost use Rattle.t_machine.specs.Runs.{HaltedExactly, SpentExactly, FirstRuns};
+
+/// The answer of a run is exact, want of memory aside: where the program is halted after at most as many steps as the
+/// run is allowed, the run says with which integer and after how many steps; where it goes on after all of them, the run
+/// says that they are spent.
+pub fn runs_answer_exactly()
+    ensures halted { HaltedExactly }
+    ensures spent { SpentExactly }
+{}
+
+/// What the first run of a loaded program says of it: it halts with the integer within the steps that were allowed; or
+/// its state after all of them is neither halted nor stuck.
+pub fn first_runs_tell()
+    ensures { FirstRuns }
+{}

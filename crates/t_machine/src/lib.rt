@@ -1,0 +1,16 @@
+//! The running machine of the typed assembly language. An accepted program is loaded once, without its types, and is
+//! then run a number of steps at a time.
+#![tactic(auto)]
+
+mod code;
+mod executing;
+mod heap;
+mod laws;
+mod loading;
+mod machine;
+mod places;
+mod word;
+
+pub use laws::{first_runs_tell, runs_answer_exactly};
+pub use loading::load;
+pub use machine::{Machine, Ran};

@@ -1,0 +1,165 @@
+// Loading: registers get places, and types and packages are left out.
+ghost use Rattle.std.specs.Prelude.{◌≡◌, ℕ, List, [], ◌∷◌, ◌++◌, IfOk, OnOk};
+ghost use Rattle.t_terms.specs.Read.{base as base_tree, value as value_tree, instr as instr_tree, end_of, block as block_tree, blocks_of};
+ghost use Rattle.t_check.specs.Checked.{checked_program};
+ghost use Rattle.t_rules.specs.Erase.{ESeq, EMov, erase_value, erase_instr, erase_end, erase_block, erase_blocks};
+ghost use Rattle.t_machine.specs.Places.{Extends};
+ghost use Rattle.t_machine.specs.Code.{IsBase, IsInstr, IsEnd, IsCode};
+ghost use Rattle.t_machine.specs.Runs.{Stands};
+
+use crate::code::{Code, Instruction, Operand};
+use crate::heap::Heap;
+use crate::machine::Machine;
+use crate::places::Places;
+use crate::word::Word;
+use idx_core::OutOfMemory;
+use std::alloc::Global;
+use t_check::Checked;
+use t_terms::{Base, Block, End, Instr, Value};
+
+/// A machine that stands at the start of the program. It takes a place for each register that the program names, and
+/// the code; a run takes memory at a `malloc` alone.
+pub fn load(alloc: Global, program: &Checked) -> Result<Machine, OutOfMemory>
+    ensures { IfOk result (Stands (blocks_of (checked_program program.now).blocks.items) 0) }
+{
+    let code = load_blocks(alloc, &program.program().blocks)?;
+    let count = code.places.len();
+    let mut registers = Vec::new(alloc);
+    registers.resize(count, Word::Empty)?;
+    let at = code.entries[0];
+    Ok(Machine {
+        heap: Heap::new(alloc),
+        registers,
+        code,
+        at,
+    })
+}
+
+// The code of the blocks.
+fn load_blocks(alloc: Global, blocks: &[Block]) -> Result<Code, OutOfMemory>
+    ensures { IfOk result (λ x. IsCode x (erase_blocks (blocks_of blocks.now))) }
+{
+    let mut code = Code {
+        instructions: Vec::new(alloc),
+        entries: Vec::new(alloc),
+        places: Places::new(alloc),
+    };
+    for block in blocks {
+        load_block(&mut code, block)?;
+    }
+    Ok(code)
+}
+
+// Puts a block after the blocks of the code.
+fn load_block(code: &mut Code, block: &Block) -> Result<(), OutOfMemory>
+    ensures { OnOk result ((cs : List ESeq) → IsCode code.old cs → IsCode code.new (cs ++ erase_block (block_tree block.now) ∷ [])) }
+{
+    code.entries.push(code.instructions.len())?;
+    for step in &block.body {
+        let instruction = load_instr(&mut code.places, &step.0)?;
+        code.instructions.push(instruction)?;
+    }
+    let last = load_end(&mut code.places, &block.end)?;
+    code.instructions.push(last)?;
+    Ok(())
+}
+
+fn load_instr(places: &mut Places, i: &Instr) -> Result<Instruction, OutOfMemory>
+    ensures same { IfOk result (λ o. IsInstr places.new o (erase_instr (instr_tree i.now))) }
+    ensures kept { OnOk result (Extends places.old places.new) }
+{
+    match i {
+        Instr::Arith { op, rd, rs, v } => {
+            let rd = places.place(*rd)?;
+            let rs = places.place(*rs)?;
+            let v = load_value(places, v)?;
+            Ok(Instruction::Arith { op: *op, rd, rs, v })
+        }
+        Instr::Bnz { r, v } => {
+            let r = places.place(*r)?;
+            let v = load_value(places, v)?;
+            Ok(Instruction::Bnz { r, v })
+        }
+        Instr::Ld { rd, rs, field } => {
+            let rd = places.place(*rd)?;
+            let rs = places.place(*rs)?;
+            Ok(Instruction::Ld {
+                rd,
+                rs,
+                field: *field as usize,
+            })
+        }
+        Instr::Malloc { rd, types } => {
+            let rd = places.place(*rd)?;
+            Ok(Instruction::Malloc {
+                rd,
+                size: types.len(),
+            })
+        }
+        Instr::Mov { rd, v } => load_move(places, *rd, v),
+        Instr::St { rd, field, rs } => {
+            let rd = places.place(*rd)?;
+            let rs = places.place(*rs)?;
+            Ok(Instruction::St {
+                rd,
+                field: *field as usize,
+                rs,
+            })
+        }
+        Instr::Unpack { rd, v } => load_move(places, *rd, v),
+    }
+}
+
+// A move, or an unpack, which is one without types.
+fn load_move(places: &mut Places, rd: u64, v: &Value) -> Result<Instruction, OutOfMemory>
+    ensures same { IfOk result (λ o. IsInstr places.new o (EMov rd (erase_value (value_tree v.now)))) }
+    ensures kept { OnOk result (Extends places.old places.new) }
+{
+    let rd = places.place(rd)?;
+    let v = load_value(places, v)?;
+    Ok(Instruction::Mov { rd, v })
+}
+
+fn load_end(places: &mut Places, end: &End) -> Result<Instruction, OutOfMemory>
+    ensures same { IfOk result (λ o. IsEnd places.new o (erase_end (end_of end.now))) }
+    ensures kept { OnOk result (Extends places.old places.new) }
+{
+    match end {
+        End::Jmp(v) => {
+            let v = load_value(places, v)?;
+            Ok(Instruction::Jmp { v })
+        }
+        End::Halt => {
+            let r = places.place(1)?;
+            Ok(Instruction::Halt { r })
+        }
+    }
+}
+
+fn load_value(places: &mut Places, v: &Value) -> Result<Operand, OutOfMemory>
+    ensures same { IfOk result (λ o. IsBase places.new o (erase_value (value_tree v.now))) }
+    ensures kept { OnOk result (Extends places.old places.new) }
+{
+    match base_of(v) {
+        Base::Reg(r) => {
+            let place = places.place(r)?;
+            Ok(Operand::Register(place))
+        }
+        Base::Int(i) => Ok(Operand::Int(i)),
+        Base::Label(l) => Ok(Operand::Label(l as usize)),
+    }
+}
+
+// What a value is without its types and packages.
+fn base_of(v: &Value) -> Base
+    ensures { base_tree result ≡ erase_value (value_tree v.now) }
+{
+    match v {
+        Value::Plain { base, types: _ } => *base,
+        Value::Pack {
+            hidden: _,
+            inner,
+            shape: _,
+        } => base_of(inner),
+    }
+}

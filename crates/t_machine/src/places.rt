@@ -1,0 +1,56 @@
+// Places of registers.
+ghost use Rattle.std.specs.Prelude.{◌≡◌, Some, IfOk, OnOk, length, []};
+ghost use Rattle.t_machine.specs.Places.{PlaceList, place_of, ArePlaces, Extends};
+
+use idx_core::OutOfMemory;
+use std::alloc::Global;
+use std::collections::BTreeMap;
+use std::marker::Model;
+
+/// A place for the word of each register that a program names, whatever the register's number. The places count from 0.
+/// Contracts see it as the list of the registers, each with its place.
+#[derive(Drop)]
+pub(crate) struct Places {
+    map: BTreeMap<u64, usize>,
+}
+
+impl Model for Places {
+    ghost use Rattle.t_machine.specs.Places.{PlaceList, ArePlaces};
+
+    ghost Value = { PlaceList };
+
+    ghost view = { λ s. s.map.entries };
+
+    ghost invariant = { λ s. ArePlaces s.map.entries };
+}
+
+impl Places {
+    pub(crate) fn new(alloc: Global) -> Places
+        ensures { result ≡ [] }
+    {
+        Places {
+            map: BTreeMap::new(alloc),
+        }
+    }
+
+    // How many places there are.
+    pub(crate) fn len(&self) -> usize
+        ensures len { result ≡ length self.now }
+        ensures places { ArePlaces self.now }
+    {
+        self.map.len()
+    }
+
+    // The place of a register, a new one where it has none yet.
+    pub(crate) fn place(&mut self, register: u64) -> Result<usize, OutOfMemory>
+        ensures place { IfOk result (λ k. place_of self.new register ≡ Some k) }
+        ensures kept { OnOk result (Extends self.old self.new) }
+    {
+        if let Some(place) = self.map.get(&register) {
+            return Ok(*place);
+        }
+        let place = self.map.len();
+        self.map.insert(register, place)?;
+        Ok(place)
+    }
+}

@@ -9,7 +9,7 @@ use Rattle.clap.specs.Faults.{fault_of, entered_fault, settle_fault, walk_fault}
 use Rattle.clap.specs.Kinds.{Kinds}
 use Rattle.clap.specs.declared.error.kind.ErrorKind.TheVariants.{MissingRequiredArgument}
 use Rattle.words.specs.Description.{talc_app}
-use Rattle.words.specs.Command.{Asked, asked_in, asked_of, command_of, evaluates, number_in, where_none}
+use Rattle.words.specs.Command.{Asked, Evaluates, Runs, asked_in, asked_of, asked_with, command_of, number_in, where_none}
 use Rattle.words.specs.Laws.{CommandWhereTaken}
 use Rattle.words.proofs.Taken.{IsAmong, IsPlain, ArePlain, AreRows, Each, IsNumberIf, each, none_first, none_next, level_rows, level_given, first_given, number_given}
 
@@ -21,11 +21,17 @@ leaf (s ∷ rest) = s
 abbrev compile_leaf : Shape
 compile_leaf = leaf (built talc_app).subs
 
+abbrev check_leaf : Shape
+check_leaf = leaf (drop 1 (built talc_app).subs)
+
+abbrev run_leaf : Shape
+run_leaf = leaf (drop 2 (built talc_app).subs)
+
 abbrev typeof_leaf : Shape
-typeof_leaf = leaf (drop 1 (built talc_app).subs)
+typeof_leaf = leaf (drop 3 (built talc_app).subs)
 
 abbrev eval_leaf : Shape
-eval_leaf = leaf (drop 2 (built talc_app).subs)
+eval_leaf = leaf (drop 4 (built talc_app).subs)
 
 -- the argument takes a value at each use or asks for help, and has no default
 abbrev IsOrdinary : Rule → Type 0
@@ -34,11 +40,20 @@ IsOrdinary a = IsPlain a × (a.defaults ≡ [])
 compile_ordinary : Each IsOrdinary compile_leaf.rules
 compile_ordinary = ((inl (refl, refl), refl), ((inl (refl, refl), refl), ((inr refl, refl), tt)))
 
+check_ordinary : Each IsOrdinary check_leaf.rules
+check_ordinary = ((inl (refl, refl), refl), ((inr refl, refl), tt))
+
+run_ordinary : Each IsOrdinary run_leaf.rules
+run_ordinary = ((inl (refl, refl), refl), ((inl (refl, refl), refl), ((inr refl, refl), tt)))
+
 typeof_ordinary : Each IsOrdinary typeof_leaf.rules
 typeof_ordinary = ((inl (refl, refl), refl), ((inr refl, refl), tt))
 
 eval_ordinary : Each IsOrdinary eval_leaf.rules
 eval_ordinary = ((inl (refl, refl), refl), ((inl (refl, refl), refl), ((inr refl, refl), tt)))
+
+run_numbers : Each (IsNumberIf (codes "fuel")) run_leaf.rules
+run_numbers = (λ named. cc, (λ named. (refl, refl), (λ named. cc, tt)))
 
 eval_numbers : Each (IsNumberIf (codes "turns")) eval_leaf.rules
 eval_numbers = (λ named. cc, (λ named. (refl, refl), (λ named. cc, tt)))
@@ -61,21 +76,33 @@ compile_asks rows held none =
     let output = first_given compile_leaf.rules (codes "OUT") rows held given.1 in
     rw (input.1, output.1) refl
 
+check_asks : (rows : List Row) → AreRows check_leaf.rules rows → f.check_fault check_leaf rows false ≡ [] → IsSome (asked_in (codes "check") rows)
+check_asks rows held none =
+    let input = first_given check_leaf.rules (codes "IN") rows held (one_given (is_given (codes "IN") rows) none) in
+    rw input.1 refl
+
 typeof_asks : (rows : List Row) → AreRows typeof_leaf.rules rows → f.check_fault typeof_leaf rows false ≡ [] → IsSome (asked_in (codes "typeof") rows)
 typeof_asks rows held none =
     let input = first_given typeof_leaf.rules (codes "IN") rows held (one_given (is_given (codes "IN") rows) none) in
     rw input.1 refl
 
-evaluates_some : (input : Text) (turns : Option ℕ) → IsSome turns → IsSome (evaluates (Some input) turns)
-evaluates_some input None some = cc
-evaluates_some input (Some n) some = refl
+numbered : (asks : Text → ℕ → Asked) (input : Text) (number : Option ℕ) → IsSome number → IsSome (asked_with asks (Some input) number)
+numbered asks input None some = cc
+numbered asks input (Some n) some = refl
+
+run_asks : (rows : List Row) → AreRows run_leaf.rules rows → f.check_fault run_leaf rows false ≡ [] → IsSome (asked_in (codes "run") rows)
+run_asks rows held none =
+    let given = both_given (is_given (codes "IN") rows) (is_given (codes "fuel") rows) none in
+    let input = first_given run_leaf.rules (codes "IN") rows held given.0 in
+    let fuel = number_given run_leaf.rules (codes "fuel") rows (each (IsNumberIf (codes "fuel")) run_leaf.rules run_numbers) held given.1 in
+    rw input.1 (numbered Runs input.0 (number_in (codes "fuel") rows) fuel)
 
 eval_asks : (rows : List Row) → AreRows eval_leaf.rules rows → f.check_fault eval_leaf rows false ≡ [] → IsSome (asked_in (codes "eval") rows)
 eval_asks rows held none =
     let given = both_given (is_given (codes "IN") rows) (is_given (codes "turns") rows) none in
     let input = first_given eval_leaf.rules (codes "IN") rows held given.0 in
     let turns = number_given eval_leaf.rules (codes "turns") rows (each (IsNumberIf (codes "turns")) eval_leaf.rules eval_numbers) held given.1 in
-    rw input.1 (evaluates_some input.0 (number_in (codes "turns") rows) turns)
+    rw input.1 (numbered Evaluates input.0 (number_in (codes "turns") rows) turns)
 
 -- a level of the parse of a subcommand, and no error in it
 level_asks : (s : Shape) → Each IsOrdinary s.rules → ((rows : List Row) → AreRows s.rules rows → f.check_fault s rows false ≡ [] → IsSome (asked_in s.name rows))
@@ -86,19 +113,23 @@ level_asks s ordinary asks words none =
     asks (rows_after s.rules [] words) (level_rows s plain defaults words none) (level_given s plain words none)
 
 -- the first subcommand for which its test holds
-abbrev chosen : (compiles typesof evals : Bool) → Option Shape
-chosen compiles typesof evals = cond compiles (Some compile_leaf) (cond typesof (Some typeof_leaf) (cond evals (Some eval_leaf) None))
+abbrev chosen : (compiles checks runs types evaluates : Bool) → Option Shape
+chosen compiles checks runs types evaluates =
+    cond compiles (Some compile_leaf) (cond checks (Some check_leaf) (cond runs (Some run_leaf) (cond types (Some typeof_leaf) (cond evaluates (Some eval_leaf) None))))
 
-entered_asks : (compiles typesof evals : Bool) (words : List Text) → option_map_or (λ s. f.level_fault s [] nothing_held words false []) (chosen compiles typesof evals) [] ≡ []
-    → (is_some (option_map (λ s. rows_at s words) (chosen compiles typesof evals)) ≡ true) → IsSome (asked_of (option_map (λ s. rows_at s words) (chosen compiles typesof evals)))
-entered_asks true b c words none entered = level_asks compile_leaf compile_ordinary compile_asks words none
-entered_asks false true c words none entered = level_asks typeof_leaf typeof_ordinary typeof_asks words none
-entered_asks false false true words none entered = level_asks eval_leaf eval_ordinary eval_asks words none
-entered_asks false false false words none entered = cc
+entered_asks : (compiles checks runs types evaluates : Bool) (words : List Text) → option_map_or (λ s. f.level_fault s [] nothing_held words false []) (chosen compiles checks runs types evaluates) [] ≡ []
+    → (is_some (option_map (λ s. rows_at s words) (chosen compiles checks runs types evaluates)) ≡ true) → IsSome (asked_of (option_map (λ s. rows_at s words) (chosen compiles checks runs types evaluates)))
+entered_asks true b1 b2 b3 b4 words none entered = level_asks compile_leaf compile_ordinary compile_asks words none
+entered_asks false true b2 b3 b4 words none entered = level_asks check_leaf check_ordinary check_asks words none
+entered_asks false false true b3 b4 words none entered = level_asks run_leaf run_ordinary run_asks words none
+entered_asks false false false true b4 words none entered = level_asks typeof_leaf typeof_ordinary typeof_asks words none
+entered_asks false false false false true words none entered = level_asks eval_leaf eval_ordinary eval_asks words none
+entered_asks false false false false false words none entered = cc
 
 stopped_asks : (stop : Option (Text × List Text)) → entered_fault (built talc_app) stop ≡ [] → is_some (entered (built talc_app) stop) ≡ true → IsSome (asked_of (entered (built talc_app) stop))
 stopped_asks None none entered = cc
-stopped_asks (Some p) none entered = entered_asks (answers_to p.0 (codes "compile", [])) (answers_to p.0 (codes "typeof", [])) (answers_to p.0 (codes "eval", [])) p.1 none entered
+stopped_asks (Some p) none entered =
+    entered_asks (answers_to p.0 (codes "compile", [])) (answers_to p.0 (codes "check", [])) (answers_to p.0 (codes "run", [])) (answers_to p.0 (codes "typeof", [])) (answers_to p.0 (codes "eval", [])) p.1 none entered
 
 -- a subcommand is required
 met : (rows : List Row) (has : Bool) → f.check_fault (built talc_app).top rows has ≡ [] → has ≡ true

@@ -2,12 +2,44 @@
 use Rattle.std.proofs.Common.{◌≡◌, [], ◌∷◌, Some, None, refl}
 use Rattle.std.specs.Prelude.{codes}
 use Rattle.clap.proofs.OnLiterals.{clap_on_literals}
-use Rattle.words.specs.Command.{Compiles, Evaluates, Types, command_of}
+use Rattle.words.specs.Command.{Checks, Compiles, Evaluates, Runs, Types, command_of}
 
 -- talc compile x.f x.tal
 compile_words : command_of (codes "talc" ∷ codes "compile" ∷ codes "x.f" ∷ codes "x.tal" ∷ []) ≡ Some (Compiles (codes "x.f") (codes "x.tal"))
 unfolding command_of clap_on_literals
 compile_words = refl
+
+-- talc check x.tal
+check_words : command_of (codes "talc" ∷ codes "check" ∷ codes "x.tal" ∷ []) ≡ Some (Checks (codes "x.tal"))
+unfolding command_of clap_on_literals
+check_words = refl
+
+-- talc run x.tal --fuel 100
+run_words : command_of (codes "talc" ∷ codes "run" ∷ codes "x.tal" ∷ codes "--fuel" ∷ codes "100" ∷ []) ≡ Some (Runs (codes "x.tal") 100)
+unfolding command_of clap_on_literals
+run_words = refl
+
+-- the same with the option first and in one word
+run_equals : command_of (codes "talc" ∷ codes "run" ∷ codes "--fuel=100" ∷ codes "x.tal" ∷ []) ≡ Some (Runs (codes "x.tal") 100)
+unfolding command_of clap_on_literals
+run_equals = refl
+
+run_most : command_of (codes "talc" ∷ codes "run" ∷ codes "x.tal" ∷ codes "--fuel" ∷ codes "18446744073709551615" ∷ []) ≡ Some (Runs (codes "x.tal") 18446744073709551615)
+unfolding command_of clap_on_literals
+run_most = refl
+
+run_more : command_of (codes "talc" ∷ codes "run" ∷ codes "x.tal" ∷ codes "--fuel" ∷ codes "18446744073709551616" ∷ []) ≡ None
+unfolding command_of clap_on_literals
+run_more = refl
+
+-- the option of another command
+run_turns : command_of (codes "talc" ∷ codes "run" ∷ codes "x.tal" ∷ codes "--turns" ∷ codes "100" ∷ []) ≡ None
+unfolding command_of clap_on_literals
+run_turns = refl
+
+run_missing_number : command_of (codes "talc" ∷ codes "run" ∷ codes "x.tal" ∷ codes "--fuel" ∷ []) ≡ None
+unfolding command_of clap_on_literals
+run_missing_number = refl
 
 -- talc typeof x.f
 typeof_words : command_of (codes "talc" ∷ codes "typeof" ∷ codes "x.f" ∷ []) ≡ Some (Types (codes "x.f"))
@@ -104,8 +136,13 @@ no_words : command_of (codes "talc" ∷ []) ≡ None
 unfolding command_of clap_on_literals
 no_words = refl
 
+-- talc run x.tal, without the option
+missing_fuel : command_of (codes "talc" ∷ codes "run" ∷ codes "x.tal" ∷ []) ≡ None
+unfolding command_of clap_on_literals
+missing_fuel = refl
+
 -- a command that has not come
-other_words : command_of (codes "talc" ∷ codes "run" ∷ codes "x.tal" ∷ []) ≡ None
+other_words : command_of (codes "talc" ∷ codes "gen" ∷ codes "--seed" ∷ codes "1" ∷ codes "x.f" ∷ []) ≡ None
 unfolding command_of clap_on_literals
 other_words = refl
 

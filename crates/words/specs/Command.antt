@@ -1,15 +1,17 @@
 -- When words are a command, and what they ask for.
-use Rattle.std.specs.Prelude.{ℕ, false, List, [], ◌∷◌, Option, Some, None, option_and_then, if◌then◌else◌, codes}
+use Rattle.std.specs.Prelude.{ℕ, false, List, [], ◌∷◌, Option, Some, None, option_and_then, option_map, if◌then◌else◌, codes}
 use Rattle.std.specs.Str.{bytes_eq}
 use Rattle.std.specs.Str.Parse.{digits_value, without_leading_plus}
 use Rattle.clap.specs.ValueTests.{accepts}
 use Rattle.clap.specs.Words.{Kinds, Row, Text, fault_of, first_of, one_of, subcommand_of}
 use Rattle.words.specs.Description.{talc_app, whole_number}
 
--- what the words ask for: to compile the file IN into the file OUT, to show the type of the text of the file IN, or to
--- evaluate that text within N turns
+-- what the words ask for: to compile the source text of the file IN into the file OUT, to check the TAL text of IN, to
+-- run it for so many instructions, to show the type of the source text of IN, or to evaluate it within so many turns
 pub data Asked : Type 0 where
   Compiles : (input output : Text) → Asked
+  Checks : (input : Text) → Asked
+  Runs : (input : Text) (fuel : ℕ) → Asked
   Types : (input : Text) → Asked
   Evaluates : (input : Text) (turns : ℕ) → Asked
 
@@ -22,24 +24,21 @@ number_of text = if accepts false whole_number text then Some (digits_value 10 (
 abbrev pub number_in : Text → List Row → Option ℕ
 number_in name rows = option_and_then number_of (one_of name rows)
 
-abbrev pub compiles : Option Text → Option Text → Option Asked
-compiles (Some input) (Some output) = Some (Compiles input output)
-compiles _ _ = None
-
-abbrev pub types : Option Text → Option Asked
-types (Some input) = Some (Types input)
-types None = None
-
-abbrev pub evaluates : Option Text → Option ℕ → Option Asked
-evaluates (Some input) (Some turns) = Some (Evaluates input turns)
-evaluates _ _ = None
+-- what both values ask for, where both are there
+abbrev pub asked_with : {X : Type 0} → (Text → X → Asked) → Option Text → Option X → Option Asked
+asked_with asks (Some input) (Some more) = Some (asks input more)
+asked_with asks _ _ = None
 
 -- what a subcommand asks for, by its name and the values that `clap` gives its arguments
 abbrev pub asked_in : Text → List Row → Option Asked
 asked_in name rows =
-    if bytes_eq name (codes "compile") then compiles (first_of (codes "IN") rows) (first_of (codes "OUT") rows)
-    else (if bytes_eq name (codes "typeof") then types (first_of (codes "IN") rows)
-    else (if bytes_eq name (codes "eval") then evaluates (first_of (codes "IN") rows) (number_in (codes "turns") rows) else None))
+    let input = first_of (codes "IN") rows in
+    if bytes_eq name (codes "compile") then asked_with Compiles input (first_of (codes "OUT") rows)
+    else (if bytes_eq name (codes "check") then option_map Checks input
+    else (if bytes_eq name (codes "run") then asked_with Runs input (number_in (codes "fuel") rows)
+    else (if bytes_eq name (codes "typeof") then option_map Types input
+    else (if bytes_eq name (codes "eval") then asked_with Evaluates input (number_in (codes "turns") rows)
+    else None))))
 
 abbrev pub asked_of : Option (Text × List Row) → Option Asked
 asked_of entered = option_and_then (λ p. asked_in p.0 p.1) entered

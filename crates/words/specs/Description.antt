@@ -1,5 +1,5 @@
 -- The description of the command line, as `clap` reads it.
-use Rattle.std.specs.Prelude.{true, Some, codes}
+use Rattle.std.specs.Prelude.{true, [], ◌∷◌, Some, codes, fold}
 use Rattle.clap.specs.Words.{App, Rule, Text, new_app, new_rule, with_rule, with_subcommand}
 use Rattle.clap.specs.Simple.{on_top}
 use Rattle.clap.specs.declared.builder.action.ArgAction.TheVariants.{Set}
@@ -22,6 +22,14 @@ number_rule name = record (new_rule name) { long = Some name; value_names = 1; r
 abbrev pub compile_app : App
 compile_app = with_rule (with_rule (new_app (codes "compile")) (file_rule (codes "IN"))) (file_rule (codes "OUT"))
 
+-- check IN
+abbrev pub check_app : App
+check_app = with_rule (new_app (codes "check")) (file_rule (codes "IN"))
+
+-- run IN --fuel N
+abbrev pub run_app : App
+run_app = with_rule (with_rule (new_app (codes "run")) (file_rule (codes "IN"))) (number_rule (codes "fuel"))
+
 -- typeof IN
 abbrev pub typeof_app : App
 typeof_app = with_rule (new_app (codes "typeof")) (file_rule (codes "IN"))
@@ -36,4 +44,4 @@ bare_app = on_top (λ s. record s { subcommand_required = true; disable_help_sub
 
 -- the whole: one subcommand for each command
 abbrev pub talc_app : App
-talc_app = with_subcommand (with_subcommand (with_subcommand bare_app compile_app.top) typeof_app.top) eval_app.top
+talc_app = fold with_subcommand bare_app (compile_app.top ∷ check_app.top ∷ run_app.top ∷ typeof_app.top ∷ eval_app.top ∷ [])

@@ -2,14 +2,16 @@
 use Rattle.std.specs.Prelude.{◌≡◌, List, Some, None, Result, Ok, Err}
 use Rattle.clap.specs.Words.{Text}
 use Rattle.words.specs.declared.command.Command.{Command}
-use Rattle.words.specs.declared.command.Command.TheVariants.{Compile, Typeof, Eval}
+use Rattle.words.specs.declared.command.Command.TheVariants.{Compile, Check, Run, Typeof, Eval}
 use Rattle.words.specs.declared.command.NoCommand.{NoCommand}
 use Rattle.words.specs.declared.command.NoCommand.TheVariants.{Usage, Memory}
-use Rattle.words.specs.Command.{Asked, Compiles, Types, Evaluates, command_of}
+use Rattle.words.specs.Command.{Asked, Compiles, Checks, Runs, Types, Evaluates, command_of}
 
 -- what a command as the code has it asks for
 abbrev pub asked_by : Command → Asked
 asked_by (Compile input output) = Compiles input.now output.now
+asked_by (Check input) = Checks input.now
+asked_by (Run input fuel) = Runs input.now fuel
 asked_by (Typeof input) = Types input.now
 asked_by (Eval input turns) = Evaluates input.now turns
 

@@ -5,6 +5,10 @@
 pub enum Command<'a> {
     /// `compile IN OUT`: compiles the source text of one file into the assembly text of another.
     Compile { input: &'a str, output: &'a str },
+    /// `check IN`: checks the assembly text of a file.
+    Check { input: &'a str },
+    /// `run IN --fuel N`: runs the assembly text of a file for a number of instructions.
+    Run { input: &'a str, fuel: u64 },
     /// `typeof IN`: shows the type of the source text of a file.
     Typeof { input: &'a str },
     /// `eval IN --turns N`: evaluates the source text of a file within a number of turns.

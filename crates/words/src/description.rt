@@ -1,7 +1,7 @@
 // The description of the command line, as `clap` takes it.
 ghost use Rattle.std.specs.Prelude.{◌≡◌, IfOk, false};
 ghost use Rattle.clap.specs.Words.{app_of, rule_of};
-ghost use Rattle.words.specs.Description.{file_rule, number_rule, compile_app, typeof_app, eval_app, bare_app, talc_app};
+ghost use Rattle.words.specs.Description.{file_rule, number_rule, compile_app, check_app, run_app, typeof_app, eval_app, bare_app, talc_app};
 
 use clap::{Arg, ArgAction, Command, value_parser};
 use std::alloc::{AllocError, Global};
@@ -36,6 +36,23 @@ fn compile_words<'a>(alloc: Global) -> Result<Command<'a>, AllocError>
         .arg(file(alloc, "OUT", "The file to write over"))
 }
 
+fn check_words<'a>(alloc: Global) -> Result<Command<'a>, AllocError>
+    ensures { IfOk result (λ c. app_of c ≡ check_app) }
+{
+    Command::new(alloc, "check")
+        .about("Checks the TAL text IN")
+        .arg(file(alloc, "IN", "The file to read"))
+}
+
+fn run_words<'a>(alloc: Global) -> Result<Command<'a>, AllocError>
+    ensures { IfOk result (λ c. app_of c ≡ run_app) }
+{
+    Command::new(alloc, "run")
+        .about("Runs the TAL text IN for at most N instructions")
+        .arg(file(alloc, "IN", "The file to read"))?
+        .arg(number(alloc, "fuel", "The most instructions to make"))
+}
+
 fn typeof_words<'a>(alloc: Global) -> Result<Command<'a>, AllocError>
     ensures { IfOk result (λ c. app_of c ≡ typeof_app) }
 {
@@ -67,10 +84,14 @@ pub(crate) fn talc_words<'a>(alloc: Global) -> Result<Command<'a>, AllocError>
     ensures { IfOk result (λ c. app_of c ≡ talc_app) }
 {
     let compile = compile_words(alloc)?;
+    let check = check_words(alloc)?;
+    let run = run_words(alloc)?;
     let type_of = typeof_words(alloc)?;
     let evaluate = eval_words(alloc)?;
     let all = bare_words(alloc)
         .subcommand(compile)?
+        .subcommand(check)?
+        .subcommand(run)?
         .subcommand(type_of)?
         .subcommand(evaluate)?;
     Ok(all)

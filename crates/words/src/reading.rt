@@ -31,22 +31,24 @@ fn entered<'a>(name: &str, matches: &ArgMatches<'a>) -> Option<Command<'a>>
     ensures { option_map asked_by result ≡ asked_in name.now (rows_of (found_of matches.now)) }
 {
     if name == "compile" {
-        return match (value(matches, "IN"), value(matches, "OUT")) {
-            (Some(input), Some(output)) => Some(Command::Compile { input, output }),
-            _ => None,
-        };
+        let (input, output) = (value(matches, "IN")?, value(matches, "OUT")?);
+        return Some(Command::Compile { input, output });
+    }
+    if name == "check" {
+        let input = value(matches, "IN")?;
+        return Some(Command::Check { input });
+    }
+    if name == "run" {
+        let (input, fuel) = (value(matches, "IN")?, number(matches, "fuel")?);
+        return Some(Command::Run { input, fuel });
     }
     if name == "typeof" {
-        return match value(matches, "IN") {
-            Some(input) => Some(Command::Typeof { input }),
-            None => None,
-        };
+        let input = value(matches, "IN")?;
+        return Some(Command::Typeof { input });
     }
     if name == "eval" {
-        return match (value(matches, "IN"), number(matches, "turns")) {
-            (Some(input), Some(turns)) => Some(Command::Eval { input, turns }),
-            _ => None,
-        };
+        let (input, turns) = (value(matches, "IN")?, number(matches, "turns")?);
+        return Some(Command::Eval { input, turns });
     }
     None
 }

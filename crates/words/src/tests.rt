@@ -26,6 +26,18 @@ fn compile_and_typeof_have_their_values(rt: HostRuntime) -> Result<(), Fail> {
 }
 
 #[test]
+fn check_and_run_have_their_values(rt: HostRuntime) -> Result<(), Fail> {
+    let alloc = rt.alloc();
+    let input = "x.tal";
+    let check = words(alloc, &["talc", "check", "x.tal"])?;
+    assert_eq!(rt; read(alloc, &check).ok(), Some(Command::Check { input }));
+    let run = words(alloc, &["talc", "run", "x.tal", "--fuel=100"])?;
+    let fuel = 100;
+    assert_eq!(rt; read(alloc, &run).ok(), Some(Command::Run { input, fuel }));
+    Ok(())
+}
+
+#[test]
 fn eval_has_its_values(rt: HostRuntime) -> Result<(), Fail> {
     let alloc = rt.alloc();
     let cases: [(&[&str], u64); 4] = [
@@ -49,11 +61,11 @@ fn eval_has_its_values(rt: HostRuntime) -> Result<(), Fail> {
 }
 
 // Each words with the text that they get.
-static OTHERS: [(&[&str], &str); 12] = [
+static OTHERS: [(&[&str], &str); 15] = [
     (
         &["talc"],
         "error: 'talc' requires a subcommand but one was not provided
-  [subcommands: compile, typeof, eval]
+  [subcommands: compile, check, run, typeof, eval]
 
 Usage: talc <COMMAND>
 
@@ -61,8 +73,8 @@ For more information, try '--help'.
 ",
     ),
     (
-        &["talc", "run", "x.tal"],
-        "error: unrecognized subcommand 'run'
+        &["talc", "gen", "x.f"],
+        "error: unrecognized subcommand 'gen'
 
 Usage: talc <COMMAND>
 
@@ -125,6 +137,8 @@ For more information, try '--help'.
 
 Commands:
   compile  Compiles the source text IN into the TAL text OUT
+  check    Checks the TAL text IN
+  run      Runs the TAL text IN for at most N instructions
   typeof   Shows the type of the source text IN
   eval     Evaluates the source text IN within N turns
 
@@ -144,6 +158,43 @@ Arguments:
 
 Options:
   -h, --help  Print help
+",
+    ),
+    (
+        &["talc", "check", "--help"],
+        "Checks the TAL text IN
+
+Usage: talc check <IN>
+
+Arguments:
+  <IN>  The file to read
+
+Options:
+  -h, --help  Print help
+",
+    ),
+    (
+        &["talc", "run", "--help"],
+        "Runs the TAL text IN for at most N instructions
+
+Usage: talc run --fuel <N> <IN>
+
+Arguments:
+  <IN>  The file to read
+
+Options:
+      --fuel <N>  The most instructions to make
+  -h, --help      Print help
+",
+    ),
+    (
+        &["talc", "run", "x.tal"],
+        "error: the following required arguments were not provided:
+  --fuel <N>
+
+Usage: talc run --fuel <N> <IN>
+
+For more information, try '--help'.
 ",
     ),
     (

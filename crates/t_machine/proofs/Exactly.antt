@@ -32,7 +32,7 @@ both_halted P n m i j h k = ⊎_elim
     (cases_lt m n))
     (cases_lt n m)
 
-going_not_halted : (P : List TBlock) (n m : ℕ) (i : ℤ) → HaltedAfter P n i → GoesOnAfter P m → n ≤ m → ⊥
+pub going_not_halted : (P : List TBlock) (n m : ℕ) (i : ℤ) → HaltedAfter P n i → GoesOnAfter P m → n ≤ m → ⊥
 going_not_halted P n m i h k le = ⊎_elim
     (λ (lt : n < m). no_later P n m i k.0 k.1 h k.2 lt)
     (λ (ge : m ≤ n). let e : n ≡ m = omega arith in k.3 i (halted_state P m i k.0 k.1 (subst (λ a. HaltedAfter P a i) e h) k.2))

@@ -7,12 +7,15 @@ use Rattle.talc_core.specs.declared.status.Status.TheVariants.{Done, Refused, Us
 use Rattle.talc_core.specs.Fault.{is_limit, status_of}
 use Rattle.f_terms.specs.Tm.{plain}
 use Rattle.f_terms.specs.Eval.{Gives, Spent, EvaluatesLeaving, IsSpent}
-use Rattle.talc_core.specs.FirstFault.{Need, AnyTerm, AProgram, IsTaken}
-use Rattle.talc_core.specs.Command.{Asked, Compiles, Types, Evaluates, command_of, need_of, input_of}
-use Rattle.talc_core.specs.Shown.{Showing, ShowsType, ShowsValue, ValueShown}
+use Rattle.t_terms.specs.Spanned.{SBlock, plain_blocks}
+use Rattle.t_machine.specs.Runs.{GoesOnAfter}
+use Rattle.t_machine.proofs.Exactly.{going_not_halted}
+use Rattle.talc_core.specs.FirstFault.{Need, AnyTerm, AProgram, AnAssembly, IsTaken}
+use Rattle.talc_core.specs.Command.{Asked, Compiles, Types, Evaluates, Checks, Runs, command_of, need_of, input_of}
+use Rattle.talc_core.specs.Shown.{Showing, ShowsType, ShowsValue, ValueShown, ShowsAccepted, ShowsRun, HaltedShown}
 use Rattle.talc_core.specs.Headline.{Outside, Headline, TextRefused, LineAnswer, UsageAnswer, Does}
 use Rattle.talc_core.specs.Exact.{IsSettled, Tells, LeadsTo, CannotWrite, HasBudget, GoesOn, NoFaults, Works, Exactly}
-use Rattle.talc_core.proofs.FaultLemmas.{one_fault, taken_or_fault, same_term}
+use Rattle.talc_core.proofs.FaultLemmas.{one_fault, taken_or_fault, same_term, same_program}
 
 -- ---- files
 
@@ -64,6 +67,8 @@ goes_on_taken : (asked : Asked) (source : List ℕ) → GoesOn asked source → 
 goes_on_taken (Compiles input output) source more = absurd more
 goes_on_taken (Types input) source more = absurd more
 goes_on_taken (Evaluates input turns) source more = (more.0, more.1)
+goes_on_taken (Checks input) source more = absurd more
+goes_on_taken (Runs input fuel) source more = (more.0, more.1)
 
 -- a text whose first fault leads to one status has none that leads to another
 one_status : (need : Need) (source : List ℕ) (a b : Status) → LeadsTo need source a → LeadsTo need source b → a ≡ b
@@ -116,6 +121,13 @@ value_ends turns source line shown more =
     let e : Gives _ _ ≡ Spent = sym value ∙ spent in
     cc
 
+run_ends : (fuel : ℕ) (text line : List ℕ) → HaltedShown fuel text line → GoesOn (Runs [] fuel) text → ⊥
+run_ends fuel text line shown more =
+    let same : shown.program ≡ more.0 = same_program text shown.program more.0 shown.accepted.0 more.1.0 in
+    let goes_on : GoesOnAfter (plain_blocks shown.program) fuel = subst (λ P. GoesOnAfter (plain_blocks P) fuel) (sym same) more.2 in
+    let halts = shown.halts in
+    going_not_halted (plain_blocks shown.program) halts.0 fuel shown.value (halts.1, halts.2, halts.4, halts.5) goes_on halts.3
+
 -- a line with the status 0 is shown of a text that is what is needed and ends within the budget, one with 4 of a text that goes on
 pub record IsSound (asked : Asked) (Says : Showing) : Type 0 where
   pub done : (source line : List ℕ) → Says Done source line → IsTaken (need_of asked) source × (¬ GoesOn asked source)
@@ -131,6 +143,18 @@ value_sound : (input : List ℕ) (turns : ℕ) → IsSound (Evaluates input turn
 value_sound input turns = record {
   done = λ source line shown. ((shown.term, shown.checked), value_ends turns source line shown);
   over = λ source line shown. ((shown.term, shown.checked), (shown.term, shown.checked, shown.spent), tt);
+}
+
+accepted_sound : (input : List ℕ) → IsSound (Checks input) ShowsAccepted
+accepted_sound input = record {
+  done = λ text line shown. ((shown.program, shown.accepted), λ more. more);
+  over = λ text line shown. absurd shown;
+}
+
+run_sound : (input : List ℕ) (fuel : ℕ) → IsSound (Runs input fuel) (ShowsRun fuel)
+run_sound input fuel = record {
+  done = λ text line shown. ((shown.program, shown.accepted), run_ends fuel text line shown);
+  over = λ text line shown. ((shown.program, shown.accepted), (shown.program, shown.accepted, shown.goes_on), tt);
 }
 
 -- ---- by the command and the status
@@ -161,6 +185,8 @@ module _ (old new : Outside) where
   judged : (asked : Asked) (source : List ℕ) (status : Status) → Does old new status asked → Tells old.files.told (input_of asked) source → IsSettled status → Judged asked source status
   judged (Types input) source status answer tells settled = line_judged (Types input) ShowsType (type_sound input) source status answer tells settled
   judged (Evaluates input turns) source status answer tells settled = line_judged (Evaluates input turns) (ShowsValue turns) (value_sound input turns) source status answer tells settled
+  judged (Checks input) source status answer tells settled = line_judged (Checks input) ShowsAccepted (accepted_sound input) source status answer tells settled
+  judged (Runs input fuel) source status answer tells settled = line_judged (Runs input fuel) (ShowsRun fuel) (run_sound input fuel) source status answer tells settled
   judged (Compiles input output) source Done answer tells settled =
       let same : answer.source ≡ source = same_content old.files.told input answer.source source answer.read tells in
       let done = answer.compiled in
@@ -187,6 +213,8 @@ module _ (old new : Outside) where
   absent_at : (asked : Asked) (status : Status) → Does old new status asked → IsAbsent old.files.told (input_of asked) → (status ≡ ReadFault) ⊎ (status ≡ Memory)
   absent_at (Types input) status answer absent = line_absent ShowsType AnyTerm input status answer absent
   absent_at (Evaluates input turns) status answer absent = line_absent (ShowsValue turns) AProgram input status answer absent
+  absent_at (Checks input) status answer absent = line_absent ShowsAccepted AnAssembly input status answer absent
+  absent_at (Runs input fuel) status answer absent = line_absent (ShowsRun fuel) AnAssembly input status answer absent
   absent_at (Compiles input output) Done answer absent = absurd (not_absent old.files.told input answer.source answer.read absent)
   absent_at (Compiles input output) Refused answer absent = absurd (not_absent old.files.told input answer.source answer.read absent)
   absent_at (Compiles input output) Limit answer absent = absurd (not_absent old.files.told input answer.source answer.read absent)
@@ -200,26 +228,36 @@ module _ (old new : Outside) where
   read_fault_at (Compiles input output) answer = answer.cause
   read_fault_at (Types input) answer = answer.cause
   read_fault_at (Evaluates input turns) answer = answer.cause
+  read_fault_at (Checks input) answer = answer.cause
+  read_fault_at (Runs input fuel) answer = answer.cause
 
   write_fault_at : (asked : Asked) → Does old new WriteFault asked → CannotWrite asked old new
   write_fault_at (Compiles input output) answer = answer.cause
   write_fault_at (Types input) answer = answer.cause
   write_fault_at (Evaluates input turns) answer = answer.cause
+  write_fault_at (Checks input) answer = answer.cause
+  write_fault_at (Runs input fuel) answer = answer.cause
 
   cannot : (asked : Asked) → NoFaults old new → CannotWrite asked old new → ⊥
   cannot (Compiles input output) none rose = none.writes rose
   cannot (Types input) none rose = none.puts rose
   cannot (Evaluates input turns) none rose = none.puts rose
+  cannot (Checks input) none rose = none.puts rose
+  cannot (Runs input fuel) none rose = none.puts rose
 
   no_usage : (asked : Asked) → Does old new Usage asked → ⊥
   no_usage (Compiles input output) answer = answer
   no_usage (Types input) answer = answer
   no_usage (Evaluates input turns) answer = answer
+  no_usage (Checks input) answer = answer
+  no_usage (Runs input fuel) answer = answer
 
   budget_has : (asked : Asked) → Does old new Budget asked → HasBudget asked
   budget_has (Compiles input output) answer = answer
   budget_has (Types input) answer = answer.says
   budget_has (Evaluates input turns) answer = tt
+  budget_has (Checks input) answer = answer.says
+  budget_has (Runs input fuel) answer = tt
 
   -- a settled status is that of the text, any other has its cause
   complete_at : (asked : Asked) (source : List ℕ) (status : Status) → Does old new status asked → Tells old.files.told (input_of asked) source → IsTaken (need_of asked) source → NoFaults old new → Works asked status ⊎ (status ≡ Memory)

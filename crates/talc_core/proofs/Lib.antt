@@ -1,3 +1,4 @@
+mod AssemblyLemmas
 pub mod ExactLemmas
 mod FaultLemmas
 mod Rows

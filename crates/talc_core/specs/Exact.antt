@@ -9,8 +9,10 @@ use Rattle.talc_core.specs.Fault.{status_of}
 use Rattle.f_terms.specs.Ty.{TInt}
 use Rattle.f_terms.specs.Tm.{Tm, plain}
 use Rattle.f_terms.specs.Eval.{IsSpent}
-use Rattle.talc_core.specs.FirstFault.{Need, FirstFault, IsChecked, IsTaken}
-use Rattle.talc_core.specs.Command.{Asked, Compiles, Types, Evaluates, command_of, need_of, input_of}
+use Rattle.t_terms.specs.Spanned.{SBlock, plain_blocks}
+use Rattle.t_machine.specs.Runs.{GoesOnAfter}
+use Rattle.talc_core.specs.FirstFault.{Need, FirstFault, IsChecked, IsAcceptedText, IsTaken}
+use Rattle.talc_core.specs.Command.{Asked, Compiles, Types, Evaluates, Checks, Runs, command_of, need_of, input_of}
 use Rattle.talc_core.specs.Headline.{Outside}
 
 -- no fault of the outside, and no want of memory
@@ -38,18 +40,24 @@ abbrev pub CannotWrite : Asked → Outside → Outside → Type 0
 CannotWrite (Compiles input output) old new = Faulted old.files.writes new.files.writes
 CannotWrite (Types input) old new = Faulted old.out.faults new.out.faults
 CannotWrite (Evaluates input turns) old new = Faulted old.out.faults new.out.faults
+CannotWrite (Checks input) old new = Faulted old.out.faults new.out.faults
+CannotWrite (Runs input fuel) old new = Faulted old.out.faults new.out.faults
 
 -- the command has a budget
 abbrev pub HasBudget : Asked → Type 0
 HasBudget (Compiles input output) = ⊥
 HasBudget (Types input) = ⊥
 HasBudget (Evaluates input turns) = Unit {0}
+HasBudget (Checks input) = ⊥
+HasBudget (Runs input fuel) = Unit {0}
 
 -- the text is what the command needs, and the end isn't reached within the budget
 abbrev pub GoesOn : Asked → List ℕ → Type 0
 GoesOn (Compiles input output) source = ⊥
 GoesOn (Types input) source = ⊥
 GoesOn (Evaluates input turns) source = (term : Tm) × IsChecked source term TInt × IsSpent (plain term) turns
+GoesOn (Checks input) source = ⊥
+GoesOn (Runs input fuel) source = (program : List SBlock) × IsAcceptedText source program × GoesOnAfter (plain_blocks program) fuel
 
 -- no count of faults of the files or of the output rises in the call or stands at its last value
 pub record NoFaults (old new : Outside) : Type 0 where

@@ -1,4 +1,4 @@
--- The first fault of a source text, in the one order: reading, checking, and what a command needs beyond that.
+-- The first fault of a text, in the one order: reading, checking, and what a command needs beyond that.
 use Rattle.std.specs.Prelude.{◌≡◌, ◌≢◌, ◌⊎◌, ℕ, List}
 use Rattle.idx_core.specs.declared.span.Span.{Span}
 use Rattle.f_terms.specs.declared.fault.Code.{Code}
@@ -9,15 +9,22 @@ use Rattle.f_terms.specs.Read.{place}
 use Rattle.f_terms.specs.Accepted.{IsAccepted}
 use Rattle.f_terms.specs.Faults as typing
 use Rattle.f_parser.specs.Text as parser
+use Rattle.t_terms.specs.declared.fault.TCode.{TCode}
+use Rattle.t_terms.specs.Spanned.{SBlock, plain_blocks}
+use Rattle.t_terms.specs.Text as assembly
+use Rattle.t_rules.specs.Rules.{Accepted}
+use Rattle.t_rules.specs.Faults as checking
 use Rattle.pipeline.specs.Meaning.{IsNumber}
 use Rattle.talc_core.specs.declared.fault.Fault.{Fault}
 use Rattle.talc_core.specs.declared.fault.Fault.TheVariants.{Source, Tal}
 
--- what a command needs of a source text: a term of any type, a program, or a program that the compiler takes
+-- what a command needs of a text: a term of any type, a program, a program that the compiler takes, or an assembly
+-- program that the typing rules accept
 pub data Need : Type 0 where
   AnyTerm : Need
   AProgram : Need
   ANumber : Need
+  AnAssembly : Need
 
 -- the text is read: it stands for the term, within the limits of reading
 abbrev pub IsRead : List ℕ → Tm → Type 0
@@ -66,18 +73,41 @@ ProgramFault text code span = TermFault text code span ⊎ NotAProgram text code
 abbrev pub CompilerFault : List ℕ → Code → Span → Type 0
 CompilerFault text code span = ProgramFault text code span ⊎ NotYetCompiled text code span
 
--- the first fault of a source text of which this is needed
+-- the assembly text is read: it stands for the program, within the limit on open constructs
+abbrev pub IsAssembly : List ℕ → List SBlock → Type 0
+IsAssembly text program = assembly.ReadsAs text program
+
+-- the assembly text is read, and the typing rules accept its program
+abbrev pub IsAcceptedText : List ℕ → List SBlock → Type 0
+IsAcceptedText text program = IsAssembly text program × Accepted (plain_blocks program)
+
+-- the assembly text is read, and this is its program's first fault in checking order
+pub record AcceptingFault (text : List ℕ) (code : TCode) (span : Span) : Type 0 where
+  pub program : List SBlock
+  pub read : IsAssembly text program
+  pub fault : checking.ProgramFault program code span
+
+-- of an assembly text: the first fault of reading, then of checking
+abbrev pub AssemblyFault : List ℕ → TCode → Span → Type 0
+AssemblyFault text code span = assembly.FirstFault text code span ⊎ AcceptingFault text code span
+
+-- the first fault of a text of which this is needed
 abbrev pub FirstFault : Need → List ℕ → Fault → Type 0
 FirstFault AnyTerm text (Source code span) = TermFault text code span
 FirstFault AProgram text (Source code span) = ProgramFault text code span
 FirstFault ANumber text (Source code span) = CompilerFault text code span
-FirstFault need text (Tal code span) = ⊥
+FirstFault AnAssembly text (Tal code span) = AssemblyFault text code span
+FirstFault AnyTerm text (Tal code span) = ⊥
+FirstFault AProgram text (Tal code span) = ⊥
+FirstFault ANumber text (Tal code span) = ⊥
+FirstFault AnAssembly text (Source code span) = ⊥
 
 -- the text is one of which this is needed
 abbrev pub IsTaken : Need → List ℕ → Type 0
 IsTaken AnyTerm text = (term : Tm) × (type : Ty) × IsChecked text term type
 IsTaken AProgram text = (term : Tm) × IsChecked text term TInt
 IsTaken ANumber text = (term : Tm) × IsChecked text term TInt × IsNumber (plain term)
+IsTaken AnAssembly text = (program : List SBlock) × IsAcceptedText text program
 
 -- The laws.
 

@@ -5,10 +5,10 @@ use Rattle.talc_core.specs.declared.status.Status.{Status}
 use Rattle.talc_core.specs.declared.status.Status.TheVariants.{Done, Refused, Usage, Limit, Budget, ReadFault, WriteFault, Memory}
 use Rattle.talc_core.specs.declared.fault.Fault.{Fault}
 use Rattle.talc_core.specs.Fault.{status_of}
-use Rattle.talc_core.specs.FirstFault.{Need, AnyTerm, AProgram, ANumber, FirstFault}
+use Rattle.talc_core.specs.FirstFault.{Need, AnyTerm, AProgram, ANumber, AnAssembly, FirstFault}
 use Rattle.talc_core.specs.Compiled.{IsCompiled}
-use Rattle.talc_core.specs.Shown.{Showing, ShowsType, ShowsValue}
-use Rattle.talc_core.specs.Command.{Asked, Compiles, Types, Evaluates, command_of}
+use Rattle.talc_core.specs.Shown.{Showing, ShowsType, ShowsValue, ShowsAccepted, ShowsRun}
+use Rattle.talc_core.specs.Command.{Asked, Compiles, Types, Evaluates, Checks, Runs, command_of}
 use Rattle.talc_core.specs.Lines.{fault_line, read_line, write_line, memory_line}
 
 -- what the call reaches: the files, the output and the error output
@@ -144,6 +144,8 @@ abbrev pub Does : Outside → Outside → Status → Asked → Type 0
 Does old new status (Compiles input output) = CompileAnswer input output old new status
 Does old new status (Types input) = LineAnswer ShowsType AnyTerm input old new status
 Does old new status (Evaluates input turns) = LineAnswer (ShowsValue turns) AProgram input old new status
+Does old new status (Checks input) = LineAnswer ShowsAccepted AnAssembly input old new status
+Does old new status (Runs input fuel) = LineAnswer (ShowsRun fuel) AnAssembly input old new status
 
 -- The whole of it: what the words ask for is done, or the user is told that they are no command.
 abbrev pub Headline : List (List ℕ) → Outside → Outside → Status → Type 0

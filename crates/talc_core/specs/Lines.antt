@@ -128,9 +128,22 @@ type_line type = type_text type ++ codes "\n"
 abbrev pub value_line : ℤ → ℕ → List ℕ
 value_line i used = codes "int " ++ (number_text i ++ (codes " after " ++ (decimal used ++ codes " turns\n")))
 
--- it goes on after so many turns
+-- it goes on after so many of something
+abbrev pub more_line : ℕ → List ℕ → List ℕ
+more_line count what = codes "running after " ++ (decimal count ++ what)
+
 abbrev pub more_turns_line : ℕ → List ℕ
-more_turns_line turns = codes "running after " ++ (decimal turns ++ codes " turns\n")
+more_turns_line turns = more_line turns (codes " turns\n")
+
+abbrev pub more_instructions_line : ℕ → List ℕ
+more_instructions_line count = more_line count (codes " instructions\n")
+
+-- the integer with which a program halts
+abbrev pub integer_line : ℤ → List ℕ
+integer_line i = codes "int " ++ (number_text i ++ codes "\n")
+
+abbrev pub accepted_line : List ℕ
+accepted_line = codes "accepted\n"
 
 abbrev pub read_line : List ℕ
 read_line = codes "read fault\n"

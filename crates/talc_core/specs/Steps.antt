@@ -10,17 +10,23 @@ use Rattle.f_terms.specs.declared.fault.FFault.TheVariants as source
 use Rattle.f_check.specs.Typed.{typed_term, typed_type, program_term}
 use Rattle.f_check.specs.declared.typed.Typed.{Typed}
 use Rattle.f_check.specs.declared.typed.Program.{Program}
-use Rattle.talc_core.specs.declared.fault.Fault.TheVariants.{Source}
+use Rattle.talc_core.specs.declared.fault.Fault.TheVariants.{Source, Tal}
+use Rattle.t_terms.specs.Read.{spanned_blocks}
+use Rattle.t_terms.specs.declared.program.TProgram.{TProgram}
+use Rattle.t_terms.specs.declared.fault.TFault.{TFault}
+use Rattle.t_terms.specs.declared.fault.TFault.TheVariants as assembly
+use Rattle.t_check.specs.Checked.{checked_program}
+use Rattle.t_check.specs.declared.checked.Checked.{Checked}
 use Rattle.talc_core.specs.declared.status.Status.{Status}
 use Rattle.talc_core.specs.declared.status.Status.TheVariants as status
 use Rattle.talc_core.specs.declared.report.Failure.{Failure}
 use Rattle.talc_core.specs.declared.report.Failure.TheVariants.{Refused, Read, Write, Memory}
 use Rattle.talc_core.specs.Fault.{status_of}
-use Rattle.talc_core.specs.FirstFault.{Need, AnyTerm, AProgram, ANumber, IsRead, IsChecked, ReadingFault, FirstFault}
+use Rattle.talc_core.specs.FirstFault.{Need, AnyTerm, AProgram, ANumber, AnAssembly, IsRead, IsChecked, IsAssembly, IsAcceptedText, ReadingFault, FirstFault}
 use Rattle.talc_core.specs.Compiled.{IsCompiled}
-use Rattle.talc_core.specs.Shown.{Showing, ShowsType, ShowsValue}
+use Rattle.talc_core.specs.Shown.{Showing, ShowsType, ShowsValue, ShowsAccepted, ShowsRun}
 use Rattle.talc_core.specs.declared.question.Question.{Question}
-use Rattle.talc_core.specs.declared.question.Question.TheVariants.{TypeOf, ValueOf}
+use Rattle.talc_core.specs.declared.question.Question.TheVariants.{TypeOf, ValueOf, Acceptance, RunOf}
 use Rattle.talc_core.specs.declared.question.Ending.{Ending}
 use Rattle.talc_core.specs.declared.question.Ending.TheVariants.{Ends, GoesOn}
 use Rattle.talc_core.specs.declared.question.Reply.{Reply}
@@ -65,14 +71,33 @@ abbrev pub CompilesText : List ℕ → Result (Vec ℕ Global) Failure → Type 
 CompilesText source (Ok target) = IsCompiled source target.items
 CompilesText source (Err failure) = RefusedBy ANumber source failure
 
+-- why there is no answer, from a fault of the assembly
+abbrev pub failure_of_assembly : TFault → Failure
+failure_of_assembly assembly.Memory = Memory
+failure_of_assembly (assembly.Refused code span) = Refused (Tal code span)
+
+-- the program of an assembly text, or the first fault of reading
+abbrev pub ReadsAssembly : List ℕ → Result TProgram Failure → Type 0
+ReadsAssembly text (Ok program) = IsAssembly text (spanned_blocks program.blocks.items)
+ReadsAssembly text (Err failure) = RefusedBy AnAssembly text failure
+
+-- the accepted program of an assembly text, or its first fault
+abbrev pub ChecksAssembly : List ℕ → Result Checked Failure → Type 0
+ChecksAssembly text (Ok checked) = IsAcceptedText text (spanned_blocks (checked_program checked).blocks.items)
+ChecksAssembly text (Err failure) = RefusedBy AnAssembly text failure
+
 -- the lines that may be shown, and what is needed of the text
 abbrev pub showing : Question → Showing
 showing TypeOf = ShowsType
 showing (ValueOf turns) = ShowsValue turns
+showing Acceptance = ShowsAccepted
+showing (RunOf fuel) = ShowsRun fuel
 
 abbrev pub needs : Question → Need
 needs TypeOf = AnyTerm
 needs (ValueOf turns) = AProgram
+needs Acceptance = AnAssembly
+needs (RunOf fuel) = AnAssembly
 
 -- the line to be shown of a text of which this is needed, or its first fault
 abbrev pub ShowsText : Showing → Need → List ℕ → Result Reply Failure → Type 0

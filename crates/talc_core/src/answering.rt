@@ -2,10 +2,12 @@
 ghost use Rattle.talc_core.specs.Headline.{LineAnswer};
 ghost use Rattle.talc_core.specs.Steps.{showing, needs, ShowsText, ShowsFile};
 
+use crate::accepting::acceptance_of_text;
 use crate::evaluating::value_of_text;
 use crate::outside::{put_line, read_input};
 use crate::question::{Ending, Question, Reply};
 use crate::report::{Failure, report};
+use crate::running::run_of_text;
 use crate::status::Status;
 use crate::typing::type_of_text;
 use io_core::{Files, Sink};
@@ -18,6 +20,8 @@ fn reply(alloc: Global, text: &[u8], question: Question) -> Result<Reply, Failur
     match question {
         Question::TypeOf => type_of_text(alloc, text),
         Question::ValueOf { turns } => value_of_text(alloc, text, turns),
+        Question::Acceptance => acceptance_of_text(alloc, text),
+        Question::RunOf { fuel } => run_of_text(alloc, text, fuel),
     }
 }
 

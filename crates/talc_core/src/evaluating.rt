@@ -5,6 +5,7 @@ ghost use Rattle.talc_core.specs.Lines.{value_line, more_turns_line};
 ghost use Rattle.talc_core.specs.Shown.{ShowsValue};
 ghost use Rattle.talc_core.specs.Steps.{ShowsText};
 
+use crate::lines::more_line;
 use crate::question::{Ending, Reply};
 use crate::report::Failure;
 use crate::source::read_program;
@@ -29,10 +30,7 @@ fn value_line(alloc: Global, value: i64, used: u64) -> Result<Vec<u8>, OutOfMemo
 fn more_turns_line(alloc: Global, turns: u64) -> Result<Vec<u8>, OutOfMemory>
     ensures { IfOk result (λ line. line.items ≡ more_turns_line turns) }
 {
-    let mut line = Vec::from_slice(alloc, b"running after ")?;
-    write_natural(&mut line, turns)?;
-    line.extend_from_slice(b" turns\n")?;
-    Ok(line)
+    more_line(alloc, turns, b" turns\n")
 }
 
 // What a source text evaluates to within so many turns.

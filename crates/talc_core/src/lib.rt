@@ -1,7 +1,9 @@
 //! The top call of the compiler: what the words of the command line ask for, with its answer and its lines.
 #![tactic(auto)]
 
+mod accepting;
 mod answering;
+mod assembly;
 mod compiling;
 mod evaluating;
 pub mod fault;
@@ -10,6 +12,7 @@ pub mod lines;
 mod outside;
 mod question;
 mod report;
+mod running;
 mod source;
 pub mod status;
 #[cfg(test)]

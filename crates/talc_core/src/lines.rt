@@ -1,6 +1,6 @@
-// The lines that are put on the error output.
+// The lines that are put on the error output, and the one of what goes on.
 ghost use Rattle.std.specs.Prelude.{◌≡◌, ◌++◌, IfOk, OnOk};
-ghost use Rattle.talc_core.specs.Lines.{source_code, source_words, tal_code, tal_words, span_text, line_text, fault_line};
+ghost use Rattle.talc_core.specs.Lines.{source_code, source_words, tal_code, tal_words, span_text, line_text, fault_line, more_line};
 
 use crate::fault::Fault;
 use f_terms::Code;
@@ -8,6 +8,7 @@ use idx_core::{OutOfMemory, Span};
 use itoa::Buffer;
 use std::alloc::Global;
 use t_terms::TCode;
+use t_writer::write_natural;
 
 fn source_code(code: Code) -> &'static [u8]
     ensures { result.now ≡ source_code code }
@@ -153,4 +154,14 @@ pub fn fault_line(alloc: Global, fault: &Fault) -> Result<Vec<u8>, OutOfMemory>
         Fault::Source(code, span) => make_line(alloc, source_code(code), span, source_words(code)),
         Fault::Tal(code, span) => make_line(alloc, tal_code(code), span, tal_words(code)),
     }
+}
+
+// The line of what goes on after so many of something.
+pub(crate) fn more_line(alloc: Global, count: u64, what: &[u8]) -> Result<Vec<u8>, OutOfMemory>
+    ensures { IfOk result (λ line. line.items ≡ more_line count what.now) }
+{
+    let mut line = Vec::from_slice(alloc, b"running after ")?;
+    write_natural(&mut line, count)?;
+    line.extend_from_slice(what)?;
+    Ok(line)
 }

@@ -7,6 +7,10 @@ pub(crate) enum Question {
     TypeOf,
     // What a source text evaluates to within so many turns.
     ValueOf { turns: u64 },
+    // Whether the program of an assembly text is accepted.
+    Acceptance,
+    // How the program of an assembly text runs within so many instructions.
+    RunOf { fuel: u64 },
 }
 
 // Whether the end was reached, or the budget is used up and the program goes on.

@@ -12,6 +12,7 @@ use std::process::Abort;
 use std::test::Fail;
 use t_terms::TCode;
 
+mod assembly_rows;
 mod source_rows;
 mod value_rows;
 
@@ -156,10 +157,13 @@ fn an_absent_file_is_a_read_fault(rt: HostRuntime) -> Result<(), Fail> {
 #[test]
 fn other_words_are_no_command(rt: HostRuntime) -> Result<(), Fail> {
     let alloc = rt.alloc();
-    let lines: [&[&str]; 14] = [
+    let lines: [&[&str]; 17] = [
         &[],
         &["talc"],
         &["talc", "run", "x.tal"],
+        &["talc", "check"],
+        &["talc", "run", "x.tal", "--turns", "1"],
+        &["talc", "gen", "--seed", "0", "g.f"],
         &["talc", "help"],
         &["talc", "--help"],
         &["talc", "compile", "--help"],

@@ -35,6 +35,12 @@ fn do_words<F: Files, O: Sink, E: Sink>(
         Ok(Command::Eval { input, turns }) => {
             run_question(alloc, files, out, err, input, Question::ValueOf { turns })
         }
+        Ok(Command::Check { input }) => {
+            run_question(alloc, files, out, err, input, Question::Acceptance)
+        }
+        Ok(Command::Run { input, fuel }) => {
+            run_question(alloc, files, out, err, input, Question::RunOf { fuel })
+        }
         Err(NoCommand::Usage(text)) => show(alloc, err, &text, Status::Usage),
         Err(NoCommand::Memory) => report(alloc, err, Failure::Memory),
     }

@@ -1,0 +1,76 @@
+// The line of `run`.
+ghost use Rattle.std.specs.Prelude.{◌≡◌, IfOk};
+ghost use Rattle.t_terms.specs.Read.{blocks_of, spanned_blocks};
+ghost use Rattle.t_terms.specs.Spanned.{plain_blocks};
+ghost use Rattle.t_rules.specs.Rules.{Accepted};
+ghost use Rattle.t_check.specs.Checked.{checked_program};
+ghost use Rattle.t_machine.specs.Runs.{FirstRun};
+ghost use Rattle.talc_core.specs.FirstFault.{AnAssembly};
+ghost use Rattle.talc_core.specs.Lines.{integer_line, more_instructions_line};
+ghost use Rattle.talc_core.specs.Shown.{ShowsRun};
+ghost use Rattle.talc_core.specs.Steps.{ShowsText};
+
+use crate::assembly::check_assembly;
+use crate::lines::more_line;
+use crate::question::{Ending, Reply};
+use crate::report::Failure;
+use idx_core::OutOfMemory;
+use std::alloc::Global;
+use t_check::Checked;
+use t_machine::{Ran, first_runs_tell, load};
+use t_writer::write_integer;
+
+// The line of the integer with which a program halts.
+fn integer_line(alloc: Global, value: i64) -> Result<Vec<u8>, OutOfMemory>
+    ensures { IfOk result (λ line. line.items ≡ integer_line value) }
+{
+    let mut line = Vec::from_slice(alloc, b"int ")?;
+    write_integer(&mut line, value)?;
+    line.extend_from_slice(b"\n")?;
+    Ok(line)
+}
+
+// The line of a program that goes on after so many instructions.
+fn more_instructions_line(alloc: Global, count: u64) -> Result<Vec<u8>, OutOfMemory>
+    ensures { IfOk result (λ line. line.items ≡ more_instructions_line count) }
+{
+    more_line(alloc, count, b" instructions\n")
+}
+
+// The first run of the program.
+fn first_run(alloc: Global, program: &Checked, fuel: u64) -> Result<Ran, OutOfMemory>
+    requires { Accepted (blocks_of (checked_program program.now).blocks.items) }
+    ensures { IfOk result (λ ran. FirstRun (blocks_of (checked_program program.now).blocks.items) fuel ran) }
+{
+    first_runs_tell();
+    let mut machine = load(alloc, program)?;
+    let ran = machine.run(fuel);
+    Ok(ran)
+}
+
+// The same, of the program with its places.
+fn run_accepted(alloc: Global, program: &Checked, fuel: u64) -> Result<Ran, OutOfMemory>
+    requires { Accepted (plain_blocks (spanned_blocks (checked_program program.now).blocks.items)) }
+    ensures { IfOk result (λ ran. FirstRun (plain_blocks (spanned_blocks (checked_program program.now).blocks.items)) fuel ran) }
+{
+    first_run(alloc, program, fuel)
+}
+
+// How the program of an assembly text runs within so many instructions.
+pub(crate) fn run_of_text(alloc: Global, text: &[u8], fuel: u64) -> Result<Reply, Failure>
+    ensures { ShowsText (ShowsRun fuel) AnAssembly text.now result }
+{
+    let program = check_assembly(alloc, text)?;
+    let Ok(ran) = run_accepted(alloc, &program, fuel) else {
+        return Err(Failure::Memory);
+    };
+    let (ending, line) = match ran {
+        Ran::Halted { value, .. } => (Ending::Ends, integer_line(alloc, value)),
+        Ran::Spent => (Ending::GoesOn, more_instructions_line(alloc, fuel)),
+        Ran::NoMemory { .. } => return Err(Failure::Memory),
+    };
+    let Ok(line) = line else {
+        return Err(Failure::Memory);
+    };
+    Ok(Reply { ending, line })
+}

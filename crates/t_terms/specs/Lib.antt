@@ -1,4 +1,9 @@
+pub mod Grammar
 pub mod Laws
+pub mod Machine
+pub mod NameFaults
+pub mod Names
+pub mod Raw
 pub mod Read
 pub mod Shapes
 pub mod Spanned

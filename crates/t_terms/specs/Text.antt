@@ -1,56 +1,81 @@
--- Which program a text stands for: the lines of the grammar, over whole lists of tokens. So far a program has one
--- block that takes nothing, whose instructions move integers to registers.
-use Rattle.std.specs.Prelude.{◌≡◌, ℕ, ℤ, pos, List, [], ◌∷◌, ◌++◌}
+-- Which program a text stands for, which texts keep the limit on open constructs, and the first fault of a text.
+use Rattle.std.specs.Prelude.{◌≡◌, ℕ, List, [], ◌∷◌, length}
 use Rattle.idx_core.specs.declared.span.Span.{Span}
-use Rattle.t_types.specs.Tree.{NoRegs}
-use Rattle.t_terms.specs.declared.token.Kind.{Kind}
-use Rattle.t_terms.specs.declared.token.Kind.TheVariants as k
+use Rattle.text_core.specs.Tokens.{Reason, NoToken, OutOfRange, FirstWrong}
+use Rattle.text_core.specs.Shapes.{NonePasses, IsUnexpected, IsCutShort, IsPassed}
+use Rattle.t_terms.specs.declared.fault.TCode.{TCode}
+use Rattle.t_terms.specs.declared.fault.TCode.TheVariants.{T01, T02, T03, M1}
+use Rattle.t_terms.specs.declared.fault.TFault.{TFault}
+use Rattle.t_terms.specs.declared.fault.TFault.TheVariants.{Memory, Refused}
 use Rattle.t_terms.specs.declared.token.Token.{Token}
-use Rattle.t_terms.specs.Tokens.{IsCut}
-use Rattle.t_terms.specs.Tree.{Int, TValue, Plain, TInstr, Mov, TEnd, Halt, TBlock}
+use Rattle.t_terms.specs.Tree.{TBlock}
 use Rattle.t_terms.specs.Spanned.{SBlock, plain_blocks}
+use Rattle.t_terms.specs.Tokens.{assembly, IsCut}
+use Rattle.t_terms.specs.Raw.{RawBlock}
+use Rattle.t_terms.specs.Grammar.{Program}
+use Rattle.t_terms.specs.Machine.{table}
+use Rattle.t_terms.specs.Names.{program_of}
+use Rattle.t_terms.specs.NameFaults.{program_faults}
 
-abbrev pub tok : Kind → Span → Token
-tok kind span = record { kind = kind; span = span }
+-- how many constructs may be open at a token
+abbrev pub most_open : ℕ
+most_open = 2000
 
--- from the start of one place to the end of another
-abbrev pub across : Span → Span → Span
-across a b = record { start = a.start; end = b.end }
-
--- N ::= number
-pub data IsNumber : Kind → ℤ → Type 0 where
-  n_plain : (i : ℤ) → IsNumber (k.Plain i) i
-  n_negative : (i : ℤ) → IsNumber (k.Negative i) i
-
--- I ::= mov reg , N
-pub data IsInstr : List Token → TInstr → Span → Type 0 where
-  i_mov : (a b c d : Span) (r : ℕ) {n : Kind} {i : ℤ} → IsNumber n i →
-      IsInstr (tok k.Mov a ∷ (tok (k.Register r) b ∷ (tok k.Comma c ∷ (tok n d ∷ [])))) (Mov r (Plain (Int i) [])) (across a d)
-
--- any number of instructions
-pub data AreInstrs : List Token → List (TInstr × Span) → Type 0 where
-  b_none : AreInstrs [] []
-  b_more : {u w : List Token} {i : TInstr} {s : Span} {body : List (TInstr × Span)} → IsInstr u i s → AreInstrs w body → AreInstrs (u ++ w) ((i, s) ∷ body)
-
--- End ::= halt [ int ]
-pub data IsEnd : List Token → TEnd → Span → Type 0 where
-  e_halt : (a b c d : Span) → IsEnd (tok k.Halt a ∷ (tok k.LeftBracket b ∷ (tok k.Int c ∷ (tok k.RightBracket d ∷ [])))) Halt (across a d)
-
--- Block ::= label : code [ ] { } . I .. I End
-pub data IsBlock : List Token → SBlock → Type 0 where
-  b_block : (name a b c d e f g : Span) {u w : List Token} {body : List (TInstr × Span)} {last : TEnd} {last_span : Span} → AreInstrs u body → IsEnd w last last_span →
-      IsBlock
-      (tok k.Name name ∷ (tok k.Colon a ∷ (tok k.Code b ∷ (tok k.LeftBracket c ∷ (tok k.RightBracket d ∷ (tok k.LeftBrace e ∷ (tok k.RightBrace f ∷ (tok k.Dot g ∷ (u ++ w)))))))))
-      (record { name = name; owes = 0; file = NoRegs; body = body; last = last; last_span = last_span })
-
--- Program ::= tal 1 Block
-pub data IsProgram : List Token → List SBlock → Type 0 where
-  p_program : (a b : Span) {w : List Token} {block : SBlock} → IsBlock w block → IsProgram (tok k.Tal a ∷ (tok (k.Plain (pos 1)) b ∷ w)) (block ∷ [])
-
--- the text stands for the program, with its places
-abbrev pub Stands : List ℕ → List SBlock → Type 0
-Stands text P = (w : List Token) × IsCut text w × IsProgram w P
+-- the text stands for the program, with its places: it is cut into tokens, they are a program of the grammar, its
+-- names and registers are as they should, and each name stands for what it names
+pub record Stands (text : List ℕ) (P : List SBlock) : Type 0 where
+  pub tokens : List Token
+  pub cut : IsCut text tokens
+  pub raw : List RawBlock
+  pub shape : Program tokens raw
+  pub named : program_faults text raw ≡ []
+  pub is : P ≡ program_of text raw
 
 -- the text stands for the program, places aside
 abbrev pub StandsFor : List ℕ → List TBlock → Type 0
 StandsFor text P = (Q : List SBlock) × Stands text Q × (plain_blocks Q ≡ P)
+
+-- the text is cut into tokens at none of which the limit on open constructs is passed
+abbrev pub KeepsLimit : List ℕ → Type 0
+KeepsLimit text = (w : List Token) × IsCut text w × NonePasses table most_open w
+
+-- the text stands for the program within the limit
+pub record ReadsAs (text : List ℕ) (P : List SBlock) : Type 0 where
+  pub stands : Stands text P
+  pub within : KeepsLimit text
+
+abbrev pub code_of : Reason → TCode
+code_of NoToken = T01
+code_of OutOfRange = T02
+
+-- the first fault of a text: of its tokens; else of the grammar or of the limit on open constructs, in the order of the
+-- tokens; else of its names and registers, in the order of the text
+pub data FirstFault (text : List ℕ) : TCode → Span → Type 0 where
+  in_tokens : {span : Span} (why : Reason) → FirstWrong assembly text why span.start span.end → FirstFault text (code_of why) span
+  unexpected : {w u : List Token} {c : Token} {z : List Token} → IsCut text w → IsUnexpected table most_open w u c z → FirstFault text T03 c.span
+  cut_short : {w : List Token} → IsCut text w → IsCutShort table most_open w → FirstFault text T03 (record { start = length text; end = length text })
+  too_deep : {w u : List Token} {c : Token} {z : List Token} → IsCut text w → IsPassed table most_open w u c z → FirstFault text M1 c.span
+  in_names : {w : List Token} {raw : List RawBlock} {code : TCode} {span : Span} {rest : List (TCode × Span)} → IsCut text w → Program w raw → NonePasses table most_open w →
+      program_faults text raw ≡ (code, span) ∷ rest → FirstFault text code span
+
+abbrev pub IsFirstFault : List ℕ → TFault → Type 0
+IsFirstFault text Memory = Unit {0}
+IsFirstFault text (Refused code span) = FirstFault text code span
+
+-- The laws.
+
+-- no text stands for two programs
+abbrev pub OneProgram : Type 0
+OneProgram = (text : List ℕ) (P Q : List SBlock) → Stands text P → Stands text Q → P ≡ Q
+
+-- a text that stands for a program within the limit has no fault
+abbrev pub ProgramOrFault : Type 0
+ProgramOrFault = (text : List ℕ) (P : List SBlock) (code : TCode) (span : Span) → ReadsAs text P → ¬ FirstFault text code span
+
+-- a text whose first fault is not that of the limit stands for no program
+abbrev pub FaultOrProgram : Type 0
+FaultOrProgram = (text : List ℕ) (P : List SBlock) (code : TCode) (span : Span) → FirstFault text code span → (code ≡ M1 → ⊥) → ¬ Stands text P
+
+-- two first faults of a text are equal
+abbrev pub OneFault : Type 0
+OneFault = (text : List ℕ) (code code' : TCode) (span span' : Span) → FirstFault text code span → FirstFault text code' span' → (code ≡ code') × (span ≡ span')

@@ -10,9 +10,11 @@ pub mod program;
 pub mod scopes;
 #[cfg(test)]
 mod tests;
+pub mod text_laws;
 pub mod token;
 pub mod value;
 pub mod walks;
+pub mod wanted;
 
 pub use block::Block;
 pub use fault::{TCode, TFault};
@@ -22,3 +24,4 @@ pub use program::TProgram;
 pub use token::{Kind, Token};
 pub use value::{Base, Value};
 pub use walks::names_after;
+pub use wanted::Wanted;

@@ -1,0 +1,194 @@
+-- What was begun can be completed.
+use Rattle.std.proofs.Common.{pos, ◌≡◌, ℕ, suc, ◌<◌, List, [], ◌∷◌, ◌++◌, refl, sym, ◌∙◌, ap, Option, Some, None, Bool, true, false, arith}
+use Rattle.idx_core.specs.declared.span.Span.{Span}
+use Rattle.t_terms.specs.declared.token.Kind.{Kind}
+use Rattle.t_terms.specs.declared.token.Kind.TheVariants as k
+use Rattle.t_terms.specs.declared.token.Token.{Token}
+use Rattle.t_terms.specs.declared.wanted.Wanted.{Wanted}
+use Rattle.t_terms.specs.declared.wanted.Wanted.TheVariants as want
+use Rattle.t_terms.specs.Raw.{RawTy, RInt, RawValue, RPlain, RNum, ending}
+use Rattle.t_terms.specs.Grammar.{tok}
+use Rattle.text_core.specs.Table.{Tm, Nt, Do, Mark, Seen}
+use Rattle.text_core.proofs.Reading as reading
+use Rattle.text_core.proofs.Rules as rules
+use Rattle.text_core.proofs.Rules.{Filling, good_row, quiet_row, AtLeast, Least}
+use Rattle.t_terms.specs.Machine.{table, Line, LProgram, LBlock, MoreBlocks, LBinds, LNames, MoreNames, LFile, LRegs, MoreRegs, LT, LFields, MoreFields, LTypes, LTypeList, LSomeTypes, MoreTypes, LV, LArgs, LPacked, LTo, LAt, LIndex, LTarget, LInt, LI, MoreSteps, LEnd, Act, Stack, Val, OfValue, fits, after, may_end, marks, exec, Outcome, act, MakeBinds, MakeFile, NoNames, NoRegs, TypeInt, NoFields, MakeTypes, NoTypes, MakeBase, MakePacked, MakeTo, MakeIndex, MakeAt, MakeTarget, MakeInt, MakeMalloc, MakeHalt, NoSteps, MakeBlock, FirstBlock, MakeProgram, FirstType, CloseTypes}
+
+abbrev here : Span
+here = record { start = 0; end = 0 }
+
+abbrev one : Kind → List Token
+one kind = tok kind here ∷ []
+
+abbrev pub token : Wanted → Token
+token want.Name = tok k.Name here
+token want.Register = tok (k.Register 1) here
+token want.Number = tok (k.Plain (pos 0)) here
+token want.One = tok (k.Plain (pos 1)) here
+token want.Flag = tok (k.Plain (pos 0)) here
+token want.LeftBracket = tok k.LeftBracket here
+token want.RightBracket = tok k.RightBracket here
+token want.LeftBrace = tok k.LeftBrace here
+token want.RightBrace = tok k.RightBrace here
+token want.RightAngle = tok k.RightAngle here
+token want.Comma = tok k.Comma here
+token want.Dot = tok k.Dot here
+token want.Colon = tok k.Colon here
+token want.Caret = tok k.Caret here
+token want.Tal = tok k.Tal here
+token want.Code = tok k.Code here
+token want.As = tok k.As here
+token want.Int = tok k.Int here
+
+abbrev index : List Token
+index = tok k.LeftBracket here ∷ (tok (k.Plain (pos 0)) here ∷ one k.RightBracket)
+
+abbrev brackets : List Token
+brackets = tok k.LeftBracket here ∷ one k.RightBracket
+
+abbrev int : List Token
+int = tok k.LeftBracket here ∷ (tok k.Int here ∷ one k.RightBracket)
+
+abbrev pub least : Line → List Token
+least LProgram = tok k.Tal here ∷ (tok (k.Plain (pos 1)) here ∷ (tok k.Name here ∷ (tok k.Colon here ∷ (tok k.Code here ∷ (tok k.LeftBracket here ∷ (tok k.RightBracket here ∷ (tok k.LeftBrace here ∷ (tok k.RightBrace here ∷ (tok k.Dot here ∷ (tok k.Halt here ∷ int))))))))))
+least LBlock = tok k.Name here ∷ (tok k.Colon here ∷ (tok k.Code here ∷ (tok k.LeftBracket here ∷ (tok k.RightBracket here ∷ (tok k.LeftBrace here ∷ (tok k.RightBrace here ∷ (tok k.Dot here ∷ (tok k.Halt here ∷ int))))))))
+least LBinds = brackets
+least LNames = one k.RightBracket
+least LFile = tok k.LeftBrace here ∷ one k.RightBrace
+least LRegs = one k.RightBrace
+least LT = one k.Int
+least LFields = one k.RightAngle
+least LTypes = brackets
+least LTypeList = one k.RightBracket
+least LSomeTypes = tok k.Int here ∷ one k.RightBracket
+least LV = one (k.Plain (pos 0))
+least LPacked = tok k.LeftBracket here ∷ (tok k.Int here ∷ (tok k.Comma here ∷ (tok (k.Plain (pos 0)) here ∷ one k.RightBracket)))
+least LTo = tok (k.Register 1) here ∷ one k.Comma
+least LAt = tok (k.Register 1) here ∷ index
+least LIndex = index
+least LTarget = tok k.LeftBracket here ∷ (tok k.Name here ∷ (tok k.Comma here ∷ (tok (k.Register 1) here ∷ one k.RightBracket)))
+least LInt = int
+least LI = tok k.Malloc here ∷ (tok (k.Register 1) here ∷ brackets)
+least LEnd = tok k.Halt here ∷ int
+least _ = []
+
+-- 2: no line goes on with it; 1: only lists do
+abbrev pub level : Kind → ℕ
+level (k.Register r) = 2
+level (k.Plain z) = 2
+level k.RightBracket = 2
+level k.LeftBrace = 2
+level k.RightBrace = 2
+level k.RightAngle = 2
+level k.Dot = 2
+level k.Caret = 2
+level k.As = 2
+level k.Int = 2
+level k.Jmp = 2
+level k.Halt = 2
+level k.Comma = 1
+level _ = 0
+
+abbrev pub wants : Line → ℕ
+wants MoreNames = 2
+wants MoreRegs = 2
+wants MoreFields = 2
+wants MoreTypes = 2
+wants _ = 1
+
+abbrev pub filling : Filling table
+filling = record { token = token; least = least; level = λ t. level t.kind; wants = wants }
+
+pub fits_token : (c : Wanted) → fits c (token c).kind ≡ true
+fits_token want.Name = refl
+fits_token _ = refl
+
+pub goods : (n : Line) (c : Kind) → good_row table filling n (after n c) ≡ true
+goods LProgram k.Tal = refl
+goods LBlock k.Name = refl
+goods MoreBlocks k.Name = refl
+goods LBinds k.LeftBracket = refl
+goods LNames k.Name = refl
+goods MoreNames k.Comma = refl
+goods LFile k.LeftBrace = refl
+goods LRegs k.RightBrace = refl
+goods MoreRegs k.Comma = refl
+goods LT k.All = refl
+goods LFields k.RightAngle = refl
+goods MoreFields k.Comma = refl
+goods LTypes k.LeftBracket = refl
+goods LTypeList k.RightBracket = refl
+goods LSomeTypes k.Int = refl
+goods MoreTypes k.Comma = refl
+goods LV k.Pack = refl
+goods LArgs k.LeftBracket = refl
+goods LPacked k.LeftBracket = refl
+goods LTo k.Name = refl
+goods LAt k.Name = refl
+goods LIndex k.LeftBracket = refl
+goods LTarget k.LeftBracket = refl
+goods LInt k.LeftBracket = refl
+goods LI k.Add = refl
+goods MoreSteps k.Add = refl
+goods LEnd k.Jmp = refl
+goods _ _ = refl
+
+pub quiet : (n : Line) (c : Kind) (s : Span) → quiet_row table filling n (tok c s) ≡ true
+quiet MoreBlocks k.Name s = refl
+quiet MoreNames k.Comma s = refl
+quiet MoreRegs k.Comma s = refl
+quiet MoreFields k.Comma s = refl
+quiet MoreTypes k.Comma s = refl
+quiet LArgs k.LeftBracket s = refl
+quiet MoreSteps k.Add s = refl
+quiet _ _ s = refl
+
+pub wanted : (n : Line) → 0 < wants n
+wanted MoreNames = omega arith
+wanted MoreRegs = omega arith
+wanted MoreFields = omega arith
+wanted MoreTypes = omega arith
+wanted _ = omega arith
+
+silent : (n : Line) → may_end n ≡ true → (w : List Token) → AtLeast table filling (wants n) w → (s : Stack) (vs : List Val) → exec w (Nt n ∷ s) vs ≡ exec w s vs
+silent n e w h s vs = rules.silent table filling (λ m c. quiet m c.kind c.span) n e w h s vs
+
+next : (n : ℕ) {x y : Outcome} → x ≡ y → Seen n x ≡ Seen n y
+next n e = reading.next table n e
+
+do_now : (w : List Token) (a : Act) (s : Stack) (vs : List Val) → exec w (Do a ∷ s) vs ≡ exec w s (act a vs)
+do_now w a s vs = reading.do_now table w a s vs
+
+marked : (w : List Token) (a : Act) (s : Stack) (vs : List Val) → exec w (Mark ∷ (Do a ∷ s)) vs ≡ exec w s (act a vs)
+marked w a s vs = reading.marked table w a s vs
+
+abbrev Filled : Line → List Token → Stack → List Val → Type 0
+Filled n w s vs = Least table n (least n) w s vs
+
+pub reads : (n : Line) → may_end n ≡ false → (w : List Token) → AtLeast table filling (wants n) w → (s : Stack) (vs : List Val) → Filled n w s vs
+reads LProgram e w h s vs = record { made = _; counts = _ ∷ (_ ∷ (_ ∷ (_ ∷ (_ ∷ (_ ∷ (_ ∷ (_ ∷ (_ ∷ (_ ∷ (_ ∷ (_ ∷ (_ ∷ (_ ∷ [])))))))))))));
+  leads = next _ (next _ (next _ (next _ (next _ (next _ (next _ (next _ (next _ (next _ (next _ (next _ (next _ (next _
+    (marked w MakeInt (Do MakeHalt ∷ (Do MakeBlock ∷ (Do FirstBlock ∷ (Nt MoreBlocks ∷ (Do MakeProgram ∷ s))))) _ ∙ (do_now w MakeHalt _ _ ∙ (do_now w MakeBlock _ _ ∙ (do_now w FirstBlock _ _ ∙
+      (silent MoreBlocks refl w h (Do MakeProgram ∷ s) _ ∙ do_now w MakeProgram s _)))))))))))))))))) }
+reads LBlock e w h s vs = record { made = _; counts = _ ∷ (_ ∷ (_ ∷ (_ ∷ (_ ∷ (_ ∷ (_ ∷ (_ ∷ (_ ∷ (_ ∷ (_ ∷ (_ ∷ [])))))))))));
+  leads = next _ (next _ (next _ (next _ (next _ (next _ (next _ (next _ (next _ (next _ (next _ (next _
+    (marked w MakeInt (Do MakeHalt ∷ (Do MakeBlock ∷ s)) _ ∙ (do_now w MakeHalt _ _ ∙ do_now w MakeBlock s _))))))))))))) }
+reads LBinds e w h s vs = record { made = _; counts = _ ∷ (_ ∷ []); leads = next _ (next _ (do_now w NoNames _ _ ∙ marked w MakeBinds s _)) }
+reads LNames e w h s vs = record { made = _; counts = _ ∷ []; leads = next _ (do_now w NoNames s _) }
+reads LFile e w h s vs = record { made = _; counts = _ ∷ (_ ∷ []); leads = next _ (next _ (do_now w NoRegs _ _ ∙ marked w MakeFile s _)) }
+reads LRegs e w h s vs = record { made = _; counts = _ ∷ []; leads = next _ (do_now w NoRegs s _) }
+reads LT e w h s vs = record { made = _; counts = _ ∷ []; leads = next _ (do_now w TypeInt s _) }
+reads LFields e w h s vs = record { made = _; counts = _ ∷ []; leads = next _ (do_now w NoFields s _) }
+reads LTypes e w h s vs = record { made = _; counts = _ ∷ (_ ∷ []); leads = next _ (next _ (do_now w NoTypes _ _ ∙ marked w MakeTypes s _)) }
+reads LTypeList e w h s vs = record { made = _; counts = _ ∷ []; leads = next _ (do_now w NoTypes s _) }
+reads LSomeTypes e w h s vs = record { made = _; counts = _ ∷ (_ ∷ []); leads = next _ (next _ (do_now w CloseTypes s _)) }
+reads LV e w h s vs = record { made = OfValue (ending (RPlain (RNum (pos 0)) []) 0) ∷ vs; counts = marks s ∷ []; leads = next _ (do_now w MakeBase (Nt LArgs ∷ s) _ ∙ silent LArgs refl w h s _) }
+reads LPacked e w h s vs = record { made = _; counts = _ ∷ (_ ∷ (_ ∷ (_ ∷ (_ ∷ [])))); leads = next _ (next _ (next _ (next _ (next _ (marked w MakePacked s _))))) }
+reads LTo e w h s vs = record { made = _; counts = _ ∷ (_ ∷ []); leads = next _ (next _ (do_now w MakeTo s _)) }
+reads LAt e w h s vs = record { made = _; counts = _ ∷ (_ ∷ (_ ∷ (_ ∷ []))); leads = next _ (next _ (next _ (next _ (marked w MakeIndex (Do MakeAt ∷ s) _ ∙ do_now w MakeAt s _)))) }
+reads LIndex e w h s vs = record { made = _; counts = _ ∷ (_ ∷ (_ ∷ [])); leads = next _ (next _ (next _ (marked w MakeIndex s _))) }
+reads LTarget e w h s vs = record { made = _; counts = _ ∷ (_ ∷ (_ ∷ (_ ∷ (_ ∷ [])))); leads = next _ (next _ (next _ (next _ (next _ (marked w MakeTarget s _))))) }
+reads LInt e w h s vs = record { made = _; counts = _ ∷ (_ ∷ (_ ∷ [])); leads = next _ (next _ (next _ (marked w MakeInt s _))) }
+reads LI e w h s vs = record { made = _; counts = _ ∷ (_ ∷ (_ ∷ (_ ∷ []))); leads = next _ (next _ (next _ (next _ (do_now w NoTypes _ _ ∙ (marked w MakeTypes (Do MakeMalloc ∷ s) _ ∙ do_now w MakeMalloc s _))))) }
+reads LEnd e w h s vs = record { made = _; counts = _ ∷ (_ ∷ (_ ∷ (_ ∷ []))); leads = next _ (next _ (next _ (next _ (marked w MakeInt (Do MakeHalt ∷ s) _ ∙ do_now w MakeHalt s _)))) }
+reads _ e w h s vs = absurd (cc)

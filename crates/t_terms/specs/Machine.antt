@@ -1,0 +1,479 @@
+-- The table of the grammar: how it is read one token ahead.
+use Rattle.std.specs.Prelude.{ℕ, ℤ, pos, nat_abs, ◌==◌, ◌||◌, List, [], ◌∷◌, ◌++◌, Option, Some, None, Bool, true, false}
+use Rattle.idx_core.specs.declared.span.Span.{Span}
+use Rattle.idx_core.specs.declared.arith.Op.{Op}
+use Rattle.idx_core.specs.declared.arith.Op.TheVariants.{Add, Sub, Mul}
+use Rattle.t_terms.specs.declared.token.Kind.{Kind}
+use Rattle.t_terms.specs.declared.token.Kind.TheVariants as k
+use Rattle.t_terms.specs.declared.token.Token.{Token}
+use Rattle.t_terms.specs.declared.wanted.Wanted.{Wanted}
+use Rattle.t_terms.specs.declared.wanted.Wanted.TheVariants as want
+use Rattle.text_core.specs.Table as table_of
+use Rattle.text_core.specs.Table.{Sym, Tm, Nt, Do, Mark, Table}
+use Rattle.t_terms.specs.Raw.{RawTy, RInt, RName, RCode, RSome, RTuple, RawRegs, RawReg, RawField, raw_regs, raw_fields, RawBase, RReg, RNum, RLabel, RawValue, RPlain, RPack, RawInstr, RArith, RBnz, RLd, RMalloc, RMov, RSt, RUnpack, RawEnd, RJmp, RHalt, RawBlock, Piece, ending, up_to}
+use Rattle.t_terms.specs.Grammar.{Program, open_Program}
+
+-- the lines: those of the grammar, what stands in brackets of its forms, and what may follow on a part
+pub data Line : Type 0 where
+  LProgram : Line
+  LBlock : Line
+  MoreBlocks : Line
+  -- [ names ], and what follows on the bracket
+  LBinds : Line
+  LNames : Line
+  MoreNames : Line
+  -- { .. }, and what follows on the brace
+  LFile : Line
+  LRegs : Line
+  MoreRegs : Line
+  LT : Line
+  LFields : Line
+  MoreFields : Line
+  -- [ ] or [ T , .. , T ], what follows on the bracket, and T , .. , T ]
+  LTypes : Line
+  LTypeList : Line
+  LSomeTypes : Line
+  MoreTypes : Line
+  LV : Line
+  -- [ T , .. , T ] after a base, or nothing
+  LArgs : Line
+  -- [ T , V ]
+  LPacked : Line
+  -- reg ,
+  LTo : Line
+  -- reg [ n ], and [ n ]
+  LAt : Line
+  LIndex : Line
+  -- [ name , reg ]
+  LTarget : Line
+  -- [ int ]
+  LInt : Line
+  LI : Line
+  MoreSteps : Line
+  LEnd : Line
+
+-- what is made where a form is whole
+pub data Act : Type 0 where
+  NoNames : Act
+  FirstName : Act
+  NextName : Act
+  CloseNames : Act
+  MakeBinds : Act
+  NoRegs : Act
+  FirstReg : Act
+  NextReg : Act
+  CloseRegs : Act
+  MakeFile : Act
+  TypeInt : Act
+  TypeName : Act
+  TypeCode : Act
+  TypeSome : Act
+  NoFields : Act
+  FirstField : Act
+  NextField : Act
+  CloseFields : Act
+  TypeTuple : Act
+  NoTypes : Act
+  FirstType : Act
+  NextType : Act
+  CloseTypes : Act
+  MakeTypes : Act
+  MakeBase : Act
+  MakeApply : Act
+  MakePacked : Act
+  MakePack : Act
+  MakeTo : Act
+  MakeIndex : Act
+  MakeAt : Act
+  MakeTarget : Act
+  MakeInt : Act
+  MakeArith : Op → Act
+  MakeBnz : Act
+  MakeLd : Act
+  MakeMalloc : Act
+  MakeMov : Act
+  MakeSt : Act
+  MakeUnpack : Act
+  NoSteps : Act
+  NextStep : Act
+  MakeJmp : Act
+  MakeHalt : Act
+  MakeBlock : Act
+  FirstBlock : Act
+  NextBlock : Act
+  MakeProgram : Act
+
+abbrev pub Stack : Type 0
+Stack = List (Sym Wanted Line Act)
+
+-- a type and a value in brackets; a register with a field, and a name with a register, where their brackets end
+pub record Packed : Type 0 where
+  pub hidden : RawTy
+  pub inner : RawValue
+
+pub record At : Type 0 where
+  pub reg : ℕ
+  pub field : ℕ
+  pub end : ℕ
+
+pub record Target : Type 0 where
+  pub name : Span
+  pub reg : ℕ
+
+-- the values: tokens, and the trees made of them
+pub data Val : Type 0 where
+  OfToken : Token → Val
+  OfNames : List Span → Val
+  OfType : Piece RawTy → Val
+  OfRegs : List RawReg → Val
+  OfFile : Piece RawRegs → Val
+  OfFields : List RawField → Val
+  OfTypes : List RawTy → Val
+  OfList : Piece (List RawTy) → Val
+  OfValue : Piece RawValue → Val
+  OfPacked : Packed → Val
+  OfReg : ℕ → Val
+  OfIndex : Piece ℕ → Val
+  OfAt : At → Val
+  OfTarget : Target → Val
+  OfPlace : ℕ → Val
+  OfStep : RawInstr × Span → Val
+  OfSteps : List (RawInstr × Span) → Val
+  OfEnd : RawEnd × Span → Val
+  OfBlock : RawBlock → Val
+  OfBlocks : List RawBlock → Val
+
+abbrev pub one_value : ℤ → Bool
+one_value (pos n) = n == 1
+one_value _ = false
+
+abbrev pub flag_value : ℤ → Bool
+flag_value (pos n) = n == 0 || n == 1
+flag_value _ = false
+
+abbrev pub zero_value : ℤ → Bool
+zero_value (pos n) = n == 0
+zero_value _ = false
+
+abbrev pub fits : Wanted → Kind → Bool
+fits want.Name k.Name = true
+fits want.Register (k.Register r) = true
+fits want.Number (k.Plain z) = true
+fits want.One (k.Plain z) = one_value z
+fits want.Flag (k.Plain z) = flag_value z
+fits want.Flag (k.Negative z) = zero_value z
+fits want.LeftBracket k.LeftBracket = true
+fits want.RightBracket k.RightBracket = true
+fits want.LeftBrace k.LeftBrace = true
+fits want.RightBrace k.RightBrace = true
+fits want.RightAngle k.RightAngle = true
+fits want.Comma k.Comma = true
+fits want.Dot k.Dot = true
+fits want.Colon k.Colon = true
+fits want.Caret k.Caret = true
+fits want.Tal k.Tal = true
+fits want.Code k.Code = true
+fits want.As k.As = true
+fits want.Int k.Int = true
+fits _ _ = false
+
+-- the number of a register token, the value of a number, and the flag that it is
+abbrev pub register_of : Kind → ℕ
+register_of (k.Register r) = r
+register_of _ = 0
+
+abbrev pub value_of : Kind → ℤ
+value_of (k.Plain z) = z
+value_of (k.Negative z) = z
+value_of _ = pos 0
+
+abbrev pub flag_of : Kind → Bool
+flag_of n = one_value (value_of n)
+
+-- what a value begins with
+abbrev pub base_of : Kind → Span → RawBase
+base_of (k.Register r) s = RReg r
+base_of (k.Plain z) s = RNum z
+base_of (k.Negative z) s = RNum z
+base_of _ s = RLabel s
+
+abbrev pub applied : RawValue → List RawTy → RawValue
+applied (RPlain b us) ts = RPlain b ts
+applied (RPack t v s) ts = RPack t v s
+
+abbrev pub reg_of : Token → RawTy → RawReg
+reg_of r t = record { reg = register_of r.kind; place = r.span; ty = t }
+
+abbrev pub field_of : RawTy → Token → RawField
+field_of t n = record { ty = t; flag = flag_of n.kind }
+
+abbrev pub act : Act → List Val → List Val
+act NoNames (OfToken c ∷ vs) = OfNames [] ∷ vs
+act FirstName (OfToken n ∷ vs) = OfNames (n.span ∷ []) ∷ vs
+act NextName (OfToken n ∷ OfToken c ∷ OfNames ns ∷ vs) = OfNames (ns ++ n.span ∷ []) ∷ vs
+act CloseNames (OfToken c ∷ vs) = vs
+act MakeBinds (OfNames ns ∷ OfToken o ∷ vs) = OfNames ns ∷ vs
+act NoRegs (OfToken c ∷ vs) = OfFile (ending (raw_regs []) c.span.end) ∷ vs
+act FirstReg (OfType t ∷ OfToken c ∷ OfToken r ∷ vs) = OfRegs (reg_of r t.tree ∷ []) ∷ vs
+act NextReg (OfType t ∷ OfToken d ∷ OfToken r ∷ OfToken c ∷ OfRegs rs ∷ vs) = OfRegs (rs ++ reg_of r t.tree ∷ []) ∷ vs
+act CloseRegs (OfToken c ∷ OfRegs rs ∷ vs) = OfFile (ending (raw_regs rs) c.span.end) ∷ vs
+act MakeFile (OfFile f ∷ OfToken o ∷ vs) = OfFile f ∷ vs
+act TypeInt (OfToken i ∷ vs) = OfType (ending RInt i.span.end) ∷ vs
+act TypeName (OfToken n ∷ vs) = OfType (ending (RName n.span) n.span.end) ∷ vs
+act TypeCode (OfFile f ∷ OfNames ns ∷ OfToken a ∷ vs) = OfType (ending (RCode ns f.tree) f.end) ∷ vs
+act TypeSome (OfType t ∷ OfToken d ∷ OfToken n ∷ OfToken s ∷ vs) = OfType (ending (RSome n.span t.tree) t.end) ∷ vs
+act NoFields (OfToken c ∷ vs) = OfType (ending (RTuple (raw_fields [])) c.span.end) ∷ vs
+act FirstField (OfToken n ∷ OfToken h ∷ OfType t ∷ vs) = OfFields (field_of t.tree n ∷ []) ∷ vs
+act NextField (OfToken n ∷ OfToken h ∷ OfType t ∷ OfToken c ∷ OfFields fs ∷ vs) = OfFields (fs ++ field_of t.tree n ∷ []) ∷ vs
+act CloseFields (OfToken c ∷ OfFields fs ∷ vs) = OfType (ending (RTuple (raw_fields fs)) c.span.end) ∷ vs
+act TypeTuple (OfType t ∷ OfToken o ∷ vs) = OfType t ∷ vs
+act NoTypes (OfToken c ∷ vs) = OfList (ending [] c.span.end) ∷ vs
+act FirstType (OfType t ∷ vs) = OfTypes (t.tree ∷ []) ∷ vs
+act NextType (OfType t ∷ OfToken c ∷ OfTypes ts ∷ vs) = OfTypes (ts ++ t.tree ∷ []) ∷ vs
+act CloseTypes (OfToken c ∷ OfTypes ts ∷ vs) = OfList (ending ts c.span.end) ∷ vs
+act MakeTypes (OfList l ∷ OfToken o ∷ vs) = OfList l ∷ vs
+act MakeBase (OfToken b ∷ vs) = OfValue (ending (RPlain (base_of b.kind b.span) []) b.span.end) ∷ vs
+act MakeApply (OfList l ∷ OfToken o ∷ OfValue v ∷ vs) = OfValue (ending (applied v.tree l.tree) l.end) ∷ vs
+act MakePacked (OfToken c ∷ OfValue v ∷ OfToken m ∷ OfType t ∷ OfToken o ∷ vs) = OfPacked (record { hidden = t.tree; inner = v.tree }) ∷ vs
+act MakePack (OfType s ∷ OfToken a ∷ OfPacked x ∷ OfToken p ∷ vs) = OfValue (ending (RPack x.hidden x.inner s.tree) s.end) ∷ vs
+act MakeTo (OfToken c ∷ OfToken r ∷ vs) = OfReg (register_of r.kind) ∷ vs
+act MakeIndex (OfToken c ∷ OfToken n ∷ OfToken o ∷ vs) = OfIndex (ending (nat_abs (value_of n.kind)) c.span.end) ∷ vs
+act MakeAt (OfIndex i ∷ OfToken r ∷ vs) = OfAt (record { reg = register_of r.kind; field = i.tree; end = i.end }) ∷ vs
+act MakeTarget (OfToken c ∷ OfToken r ∷ OfToken m ∷ OfToken n ∷ OfToken o ∷ vs) = OfTarget (record { name = n.span; reg = register_of r.kind }) ∷ vs
+act MakeInt (OfToken c ∷ OfToken i ∷ OfToken o ∷ vs) = OfPlace c.span.end ∷ vs
+act (MakeArith op) (OfValue v ∷ OfReg rs ∷ OfReg rd ∷ OfToken a ∷ vs) = OfStep (RArith op rd rs v.tree, up_to a.span v.end) ∷ vs
+act MakeBnz (OfValue v ∷ OfReg r ∷ OfToken a ∷ vs) = OfStep (RBnz r v.tree, up_to a.span v.end) ∷ vs
+act MakeLd (OfAt x ∷ OfReg rd ∷ OfToken a ∷ vs) = OfStep (RLd rd x.reg x.field, up_to a.span x.end) ∷ vs
+act MakeMalloc (OfList l ∷ OfToken r ∷ OfToken a ∷ vs) = OfStep (RMalloc (register_of r.kind) l.tree, up_to a.span l.end) ∷ vs
+act MakeMov (OfValue v ∷ OfReg rd ∷ OfToken a ∷ vs) = OfStep (RMov rd v.tree, up_to a.span v.end) ∷ vs
+act MakeSt (OfToken r ∷ OfToken c ∷ OfAt x ∷ OfToken a ∷ vs) = OfStep (RSt x.reg x.field (register_of r.kind), up_to a.span r.span.end) ∷ vs
+act MakeUnpack (OfValue v ∷ OfToken c ∷ OfTarget x ∷ OfToken a ∷ vs) = OfStep (RUnpack x.name x.reg v.tree, up_to a.span v.end) ∷ vs
+act NoSteps vs = OfSteps [] ∷ vs
+act NextStep (OfStep i ∷ OfSteps is ∷ vs) = OfSteps (is ++ i ∷ []) ∷ vs
+act MakeJmp (OfValue v ∷ OfToken a ∷ vs) = OfEnd (RJmp v.tree, up_to a.span v.end) ∷ vs
+act MakeHalt (OfPlace e ∷ OfToken a ∷ vs) = OfEnd (RHalt, up_to a.span e) ∷ vs
+act MakeBlock (OfEnd e ∷ OfSteps is ∷ OfToken p ∷ OfFile f ∷ OfNames ns ∷ OfToken d ∷ OfToken c ∷ OfToken l ∷ vs) = OfBlock (record { name = l.span; names = ns; file = f.tree; body = is; last = e }) ∷ vs
+act FirstBlock (OfBlock b ∷ vs) = OfBlocks (b ∷ []) ∷ vs
+act NextBlock (OfBlock b ∷ OfBlocks bs ∷ vs) = OfBlocks (bs ++ b ∷ []) ∷ vs
+act MakeProgram (OfBlocks bs ∷ OfToken n ∷ OfToken t ∷ vs) = OfBlocks bs ∷ vs
+act _ vs = vs
+
+-- what is still owed of a line after its first token, or none where it cannot begin with it
+abbrev pub then_more : Option Stack → Stack → Option Stack
+then_more None s = None
+then_more (Some r) s = Some (r ++ s)
+
+abbrev pub binds_after : Kind → Option Stack
+binds_after k.LeftBracket = Some (Nt LNames ∷ (Mark ∷ (Do MakeBinds ∷ [])))
+binds_after _ = None
+
+abbrev pub names_after : Kind → Option Stack
+names_after k.RightBracket = Some (Do NoNames ∷ [])
+names_after k.Name = Some (Do FirstName ∷ (Nt MoreNames ∷ (Tm want.RightBracket ∷ (Do CloseNames ∷ []))))
+names_after _ = None
+
+abbrev pub name_commas_after : Kind → Option Stack
+name_commas_after k.Comma = Some (Tm want.Name ∷ (Do NextName ∷ (Nt MoreNames ∷ [])))
+name_commas_after _ = None
+
+abbrev pub file_after : Kind → Option Stack
+file_after k.LeftBrace = Some (Nt LRegs ∷ (Mark ∷ (Do MakeFile ∷ [])))
+file_after _ = None
+
+abbrev pub regs_after : Kind → Option Stack
+regs_after k.RightBrace = Some (Do NoRegs ∷ [])
+regs_after (k.Register r) = Some (Tm want.Colon ∷ (Nt LT ∷ (Do FirstReg ∷ (Nt MoreRegs ∷ (Tm want.RightBrace ∷ (Do CloseRegs ∷ []))))))
+regs_after _ = None
+
+abbrev pub reg_commas_after : Kind → Option Stack
+reg_commas_after k.Comma = Some (Tm want.Register ∷ (Tm want.Colon ∷ (Nt LT ∷ (Do NextReg ∷ (Nt MoreRegs ∷ [])))))
+reg_commas_after _ = None
+
+abbrev pub type_after : Kind → Option Stack
+type_after k.Int = Some (Do TypeInt ∷ [])
+type_after k.Name = Some (Do TypeName ∷ [])
+type_after k.All = Some (Nt LBinds ∷ (Nt LFile ∷ (Do TypeCode ∷ [])))
+type_after k.Some = Some (Tm want.Name ∷ (Tm want.Dot ∷ (Nt LT ∷ (Mark ∷ (Do TypeSome ∷ [])))))
+type_after k.LeftAngle = Some (Nt LFields ∷ (Mark ∷ (Do TypeTuple ∷ [])))
+type_after _ = None
+
+abbrev pub fields_tail : Stack
+fields_tail = Tm want.Caret ∷ (Tm want.Flag ∷ (Do FirstField ∷ (Nt MoreFields ∷ (Tm want.RightAngle ∷ (Do CloseFields ∷ [])))))
+
+abbrev pub fields_after : Kind → Option Stack
+fields_after k.RightAngle = Some (Do NoFields ∷ [])
+fields_after c = then_more (type_after c) fields_tail
+
+abbrev pub field_commas_after : Kind → Option Stack
+field_commas_after k.Comma = Some (Nt LT ∷ (Tm want.Caret ∷ (Tm want.Flag ∷ (Do NextField ∷ (Nt MoreFields ∷ [])))))
+field_commas_after _ = None
+
+abbrev pub types_after : Kind → Option Stack
+types_after k.LeftBracket = Some (Nt LTypeList ∷ (Mark ∷ (Do MakeTypes ∷ [])))
+types_after _ = None
+
+abbrev pub types_tail : Stack
+types_tail = Do FirstType ∷ (Nt MoreTypes ∷ (Tm want.RightBracket ∷ (Do CloseTypes ∷ [])))
+
+abbrev pub some_types_after : Kind → Option Stack
+some_types_after c = then_more (type_after c) types_tail
+
+abbrev pub type_list_after : Kind → Option Stack
+type_list_after k.RightBracket = Some (Do NoTypes ∷ [])
+type_list_after c = then_more (type_after c) types_tail
+
+abbrev pub type_commas_after : Kind → Option Stack
+type_commas_after k.Comma = Some (Nt LT ∷ (Do NextType ∷ (Nt MoreTypes ∷ [])))
+type_commas_after _ = None
+
+abbrev pub base_owed : Stack
+base_owed = Do MakeBase ∷ (Nt LArgs ∷ [])
+
+abbrev pub value_after : Kind → Option Stack
+value_after (k.Register r) = Some base_owed
+value_after (k.Plain z) = Some base_owed
+value_after (k.Negative z) = Some base_owed
+value_after k.Name = Some base_owed
+value_after k.Pack = Some (Nt LPacked ∷ (Tm want.As ∷ (Nt LT ∷ (Do MakePack ∷ []))))
+value_after _ = None
+
+abbrev pub args_after : Kind → Option Stack
+args_after k.LeftBracket = Some (Nt LSomeTypes ∷ (Mark ∷ (Do MakeApply ∷ [])))
+args_after _ = None
+
+abbrev pub packed_after : Kind → Option Stack
+packed_after k.LeftBracket = Some (Nt LT ∷ (Tm want.Comma ∷ (Nt LV ∷ (Tm want.RightBracket ∷ (Mark ∷ (Do MakePacked ∷ []))))))
+packed_after _ = None
+
+abbrev pub to_after : Kind → Option Stack
+to_after (k.Register r) = Some (Tm want.Comma ∷ (Do MakeTo ∷ []))
+to_after _ = None
+
+abbrev pub at_after : Kind → Option Stack
+at_after (k.Register r) = Some (Nt LIndex ∷ (Do MakeAt ∷ []))
+at_after _ = None
+
+abbrev pub index_after : Kind → Option Stack
+index_after k.LeftBracket = Some (Tm want.Number ∷ (Tm want.RightBracket ∷ (Mark ∷ (Do MakeIndex ∷ []))))
+index_after _ = None
+
+abbrev pub target_after : Kind → Option Stack
+target_after k.LeftBracket = Some (Tm want.Name ∷ (Tm want.Comma ∷ (Tm want.Register ∷ (Tm want.RightBracket ∷ (Mark ∷ (Do MakeTarget ∷ []))))))
+target_after _ = None
+
+abbrev pub int_after : Kind → Option Stack
+int_after k.LeftBracket = Some (Tm want.Int ∷ (Tm want.RightBracket ∷ (Mark ∷ (Do MakeInt ∷ []))))
+int_after _ = None
+
+abbrev pub arith_owed : Op → Stack
+arith_owed op = Nt LTo ∷ (Nt LTo ∷ (Nt LV ∷ (Do (MakeArith op) ∷ [])))
+
+abbrev pub instr_after : Kind → Option Stack
+instr_after k.Add = Some (arith_owed Add)
+instr_after k.Sub = Some (arith_owed Sub)
+instr_after k.Mul = Some (arith_owed Mul)
+instr_after k.Bnz = Some (Nt LTo ∷ (Nt LV ∷ (Do MakeBnz ∷ [])))
+instr_after k.Ld = Some (Nt LTo ∷ (Nt LAt ∷ (Do MakeLd ∷ [])))
+instr_after k.Malloc = Some (Tm want.Register ∷ (Nt LTypes ∷ (Do MakeMalloc ∷ [])))
+instr_after k.Mov = Some (Nt LTo ∷ (Nt LV ∷ (Do MakeMov ∷ [])))
+instr_after k.St = Some (Nt LAt ∷ (Tm want.Comma ∷ (Tm want.Register ∷ (Do MakeSt ∷ []))))
+instr_after k.Unpack = Some (Nt LTarget ∷ (Tm want.Comma ∷ (Nt LV ∷ (Do MakeUnpack ∷ []))))
+instr_after _ = None
+
+abbrev pub steps_tail : Stack
+steps_tail = Do NextStep ∷ (Nt MoreSteps ∷ [])
+
+abbrev pub steps_after : Kind → Option Stack
+steps_after c = then_more (instr_after c) steps_tail
+
+abbrev pub end_after : Kind → Option Stack
+end_after k.Jmp = Some (Nt LV ∷ (Do MakeJmp ∷ []))
+end_after k.Halt = Some (Nt LInt ∷ (Do MakeHalt ∷ []))
+end_after _ = None
+
+abbrev pub block_owed : Stack
+block_owed = Tm want.Colon ∷ (Tm want.Code ∷ (Nt LBinds ∷ (Nt LFile ∷ (Tm want.Dot ∷ (Do NoSteps ∷ (Nt MoreSteps ∷ (Nt LEnd ∷ (Do MakeBlock ∷ []))))))))
+
+abbrev pub block_after : Kind → Option Stack
+block_after k.Name = Some block_owed
+block_after _ = None
+
+abbrev pub blocks_tail : Stack
+blocks_tail = Do NextBlock ∷ (Nt MoreBlocks ∷ [])
+
+abbrev pub blocks_after : Kind → Option Stack
+blocks_after c = then_more (block_after c) blocks_tail
+
+abbrev pub program_after : Kind → Option Stack
+program_after k.Tal = Some (Tm want.One ∷ (Nt LBlock ∷ (Do FirstBlock ∷ (Nt MoreBlocks ∷ (Do MakeProgram ∷ [])))))
+program_after _ = None
+
+abbrev pub after : Line → Kind → Option Stack
+after LProgram c = program_after c
+after LBlock c = block_after c
+after MoreBlocks c = blocks_after c
+after LBinds c = binds_after c
+after LNames c = names_after c
+after MoreNames c = name_commas_after c
+after LFile c = file_after c
+after LRegs c = regs_after c
+after MoreRegs c = reg_commas_after c
+after LT c = type_after c
+after LFields c = fields_after c
+after MoreFields c = field_commas_after c
+after LTypes c = types_after c
+after LTypeList c = type_list_after c
+after LSomeTypes c = some_types_after c
+after MoreTypes c = type_commas_after c
+after LV c = value_after c
+after LArgs c = args_after c
+after LPacked c = packed_after c
+after LTo c = to_after c
+after LAt c = at_after c
+after LIndex c = index_after c
+after LTarget c = target_after c
+after LInt c = int_after c
+after LI c = instr_after c
+after MoreSteps c = steps_after c
+after LEnd c = end_after c
+
+abbrev pub may_end : Line → Bool
+may_end MoreBlocks = true
+may_end MoreNames = true
+may_end MoreRegs = true
+may_end MoreFields = true
+may_end MoreTypes = true
+may_end LArgs = true
+may_end MoreSteps = true
+may_end _ = false
+
+abbrev pub table : Table
+table = record {
+  Tok = Token;
+  Tree = List RawBlock;
+  Shape = λ w t. Program w t;
+  opens = λ w t e. open_Program e 0;
+  Class = Wanted;
+  Line = Line;
+  Act = Act;
+  Val = Val;
+  fits = λ c t. fits c t.kind;
+  value = λ t. OfToken t;
+  after = λ n t. after n t.kind;
+  may_end = may_end;
+  act = act;
+  tree = λ t. OfBlocks t;
+  first = LProgram;
+}
+
+abbrev pub Outcome : Type 0
+Outcome = table_of.Outcome table
+
+abbrev pub marks : Stack → ℕ
+marks = table_of.marks table
+
+abbrev pub seen : List ℕ → Outcome → Outcome
+seen = table_of.seen table
+
+abbrev pub exec : List Token → Stack → List Val → Outcome
+exec = table_of.exec table

@@ -1,0 +1,25 @@
+// The classes of tokens that a form may owe.
+
+/// The classes of tokens that a form of an assembly text may owe (own choice). `Number` is a plain number, `One` a
+/// number whose value is 1, and `Flag` one whose value is 0 or 1.
+#[derive(Clone, Copy, Debug, PartialEq, Eq)]
+pub enum Wanted {
+    Name,
+    Register,
+    Number,
+    One,
+    Flag,
+    LeftBracket,
+    RightBracket,
+    LeftBrace,
+    RightBrace,
+    RightAngle,
+    Comma,
+    Dot,
+    Colon,
+    Caret,
+    Tal,
+    Code,
+    As,
+    Int,
+}

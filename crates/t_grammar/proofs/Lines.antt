@@ -1,14 +1,13 @@
 -- The lines of types and lists by their first tokens.
-use Rattle.std.proofs.Common.{◌≡◌, ◌≢◌, ℕ, List, [], ◌∷◌, ◌++◌, slice_get, refl, Option, Some, None, Bool, true, false, if◌then◌else◌, subst}
+use Rattle.std.proofs.Common.{◌≡◌, ◌≢◌, [], ◌∷◌, ◌++◌, slice_get, refl, Some, None, true, false, if◌then◌else◌}
 use Rattle.text_core.specs.Table.{Tm, Nt, Do, Mark, then_more}
 use Rattle.text_core.proofs.Going as step
-use Rattle.t_terms.specs.declared.token.Token.{Token}
 use Rattle.t_terms.specs.declared.token.Kind.{Kind}
 use Rattle.t_terms.specs.declared.token.Kind.TheVariants as k
 use Rattle.t_terms.specs.declared.wanted.Wanted.TheVariants as want
-use Rattle.t_terms.specs.Machine.{table, Stack, LBinds, LNames, MoreNames, MakeBinds, FirstName, NextName, CloseNames, LFile, LRegs, MoreRegs, MakeFile, FirstReg, NextReg, CloseRegs, LT, LFields, MoreFields, FirstField, NextField, CloseFields, fits, after, type_after, fields_after, fields_tail}
+use Rattle.t_terms.specs.Machine.{table, LBinds, LNames, MoreNames, MakeBinds, FirstName, NextName, CloseNames, LFile, LRegs, MoreRegs, MakeFile, FirstReg, NextReg, CloseRegs, LT, LFields, MoreFields, FirstField, NextField, CloseFields, fits, after, type_after, fields_after, fields_tail}
 use Rattle.t_grammar.specs.Reads.{entry_owed, field_owed}
-use Rattle.t_grammar.proofs.Stepping.{Misses, not_fits, Opens, as_token, ListLine}
+use Rattle.t_grammar.proofs.Stepping.{not_fits, Opens, as_token, ListLine}
 
 pub opens_binds : Opens LBinds want.LeftBracket (Nt LNames ∷ (Mark ∷ (Do MakeBinds ∷ [])))
 opens_binds = record { takes = λ c e. takes c e; no_other = λ c e. no_other c e }

@@ -1,10 +1,9 @@
 -- How the reading functions follow one another, over plain variables.
-use Rattle.std.proofs.Common.{◌≡◌, ℕ, ◌+◌, ◌<◌, ◌≤◌, ◌⊎◌, inl, inr, List, [], ◌∷◌, ◌++◌, length, slice_get, drop, refl, sym, ◌∙◌, ap, subst, Option, Some, None, arith, Bool, true, false, if◌then◌else◌, append_assoc}
+use Rattle.std.proofs.Common.{◌≡◌, ℕ, ◌+◌, ◌<◌, ◌≤◌, inl, inr, List, [], ◌∷◌, ◌++◌, length, slice_get, refl, sym, ◌∙◌, subst, Option, Some, None, arith, Bool, true, false, if◌then◌else◌, append_assoc}
 use Rattle.std.proofs.lemmas.Option.{slice_get_within}
 use Rattle.std.proofs.lemmas.List.{append-nil}
 use Rattle.text_core.specs.Table.{Tm, Nt, Do, Mark, marks}
-use Rattle.text_core.specs.Table as table_of
-use Rattle.text_core.specs.Going.{Goes, Stops, Lacks, at_the_end, other, next_of}
+use Rattle.text_core.specs.Going.{Goes, Lacks, at_the_end, other, next_of}
 use Rattle.text_core.proofs.Going as step
 use Rattle.t_terms.specs.declared.token.Token.{Token}
 use Rattle.t_terms.specs.declared.token.Kind.{Kind}
@@ -176,13 +175,17 @@ module _ (n q : Line) (w : Wanted) (item : Stack) (first next close : Act) (l : 
   abbrev SoFar : ℕ → Val → Type 0
   SoFar j v = ReadsSome n (list_left q w close) ts d i j v
 
-  pub list_first : (j : ℕ) (us : List Val) (v : Val) → Misses ts i w → ReadsOwed item ts d i j us → ((below : List Val) → act first (us ++ below) ≡ v ∷ below) → SoFar j v
-  list_first j us v e r k = record {
+  pub list_first_from : (j : ℕ) (us : List Val) (v : Val) → Moves ts d i (Nt n ∷ []) [] i (item ++ (Do first ∷ list_left q w close)) [] → ReadsOwed item ts d i j us →
+      ((below : List Val) → act first (us ++ below) ≡ v ∷ below) → SoFar j v
+  list_first_from j us v b r k = record {
     forward = r.forward;
     in_range = r.in_range;
     same = by_do first (list_left q w close) us (v ∷ [])
-        (subst (λ (x : List Val). Moves ts d i (Nt n ∷ []) [] j (Do first ∷ list_left q w close) x) (append-nil us) (by_call d (Do first ∷ list_left q w close) [] (l.begin ts d i e) (omega arith) r.same)) k;
+        (subst (λ (x : List Val). Moves ts d i (Nt n ∷ []) [] j (Do first ∷ list_left q w close) x) (append-nil us) (by_call d (Do first ∷ list_left q w close) [] b (omega arith) r.same)) k;
   }
+
+  pub list_first : (j : ℕ) (us : List Val) (v : Val) → Misses ts i w → ReadsOwed item ts d i j us → ((below : List Val) → act first (us ++ below) ≡ v ∷ below) → SoFar j v
+  list_first j us v e r k = list_first_from j us v (l.begin ts d i e) r k
 
   pub list_first_stops : (e : Stopped) → Misses ts i w → Fails ts d i item [] e → Fails ts d i (Nt n ∷ []) [] e
   list_first_stops e m f = stop_call e item d (Do first ∷ list_left q w close) [] (l.begin ts d i m) (omega arith) f

@@ -1,5 +1,5 @@
 -- What the reading of a token promises.
-use Rattle.std.specs.Prelude.{◌≡◌, ℕ, ◌+◌, ◌⊎◌, List, slice_get, Option, Some, None}
+use Rattle.std.specs.Prelude.{◌≡◌, ℕ, ◌+◌, ◌⊎◌, List, slice_get, Some, None}
 use Rattle.text_core.specs.Going.{next_of}
 use Rattle.t_terms.specs.declared.token.Token.{Token}
 use Rattle.t_terms.specs.declared.wanted.Wanted.{Wanted}

@@ -1,5 +1,5 @@
 -- The trees of what is read, before names are resolved.
-use Rattle.std.specs.Prelude.{ℕ, Bool, List, map}
+use Rattle.std.specs.Prelude.{ℕ, Bool, map}
 use Rattle.idx_core.specs.declared.span.Span.{Span}
 use Rattle.t_terms.specs.Raw.{RawTy, RInt, RName, RCode, RSome, RTuple, RawRegs, NoRawRegs, MoreRawRegs, RawFields, NoRawFields, MoreRawFields, RawReg, RawField, raw_regs}
 use Rattle.t_grammar.specs.declared.raw.RawType.{RawType, Row_of-RawFile-regs-3 as RegRow, end_of-RawFile-regs-3 as end_of_regs, more_of-RawFile-regs-3 as more_of_regs, Row_of-RawType-Tuple-0-2 as FieldRow, end_of-RawType-Tuple-0-2 as end_of_fields, more_of-RawType-Tuple-0-2 as more_of_fields}

@@ -9,4 +9,4 @@ pub mod types;
 pub use cursor::{OPEN, Stopped, expect, expect_two, opened, peek, take};
 pub use names::{FoundNames, binds};
 pub use raw::{RawFile, RawType};
-pub use types::{FoundFile, FoundType, file, whole_type};
+pub use types::{FoundFile, FoundType, file, register_number, whole_type};

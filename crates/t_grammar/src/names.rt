@@ -17,12 +17,7 @@ pub struct FoundNames {
 }
 
 /// [ names ], where names ::= nothing | name , .. , name
-pub fn binds(
-    alloc: Global,
-    tokens: &[Token],
-    at: usize,
-    depth: u64,
-) -> Result<FoundNames, Stopped>
+pub fn binds(alloc: Global, tokens: &[Token], at: usize, depth: u64) -> Result<FoundNames, Stopped>
     requires depth { depth ≤ 2000 }
     requires at { at ≤ length tokens.now }
     ensures { MatchResult result (λ f. Reads LBinds tokens.now depth at f.next (OfNames f.names.items ∷ [])) (λ e. Fails tokens.now depth at (Nt LBinds ∷ []) [] e) }

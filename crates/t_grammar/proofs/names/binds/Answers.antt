@@ -1,6 +1,5 @@
-use Rattle.std.proofs.Common.{[], ◌∷◌, refl, arith}
+use Rattle.std.proofs.Common.{refl, arith}
 use Rattle.std.proofs.lemmas.Result.{err_from_is_err_and}
-use Rattle.text_core.specs.Table.{Nt, Do, Mark}
 use Rattle.t_terms.specs.declared.wanted.Wanted.TheVariants as want
 use Rattle.t_terms.specs.Machine.{LBinds, LNames, MakeBinds, OfNames}
 use Rattle.t_grammar.proofs.Stepping.{within, not_opening, too_deep, bracketed, bracketed_stops}

@@ -1,7 +1,7 @@
 use Rattle.std.proofs.Common.{◌≡◌, [], ◌∷◌, ◌++◌, ◌+◌, List, refl, sym, ◌∙◌, ap, arith}
 use Rattle.std.proofs.lemmas.Result.{err_from_is_err_and}
 use Rattle.idx_core.specs.declared.span.Span.{Span}
-use Rattle.text_core.specs.Table.{Tm, Nt, Do}
+use Rattle.text_core.specs.Table.{Tm}
 use Rattle.t_terms.specs.declared.wanted.Wanted.TheVariants as want
 use Rattle.t_terms.specs.Machine.{LNames, MoreNames, FirstName, NextName, CloseNames, OfNames, OfToken}
 use Rattle.t_grammar.proofs.Stepping.{within, list_first, list_first_stops, list_next, list_next_stops, list_whole, list_close_stops, one_read, one_missed}

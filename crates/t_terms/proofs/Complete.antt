@@ -1,5 +1,5 @@
 -- Each shape is read whole.
-use Rattle.std.proofs.Common.{pos, ◌≡◌, ℕ, suc, ◌+◌, List, [], ◌∷◌, ◌++◌, refl, sym, ◌∙◌, ap, append_assoc, Option, Some, None, Bool, true, false, arith}
+use Rattle.std.proofs.Common.{pos, ◌≡◌, ℕ, suc, List, [], ◌∷◌, ◌++◌, refl, ◌∙◌, ap, append_assoc, Option, Some, Bool}
 use Rattle.std.proofs.lemmas.List.{append-nil}
 use Rattle.idx_core.specs.declared.span.Span.{Span}
 use Rattle.idx_core.specs.declared.arith.Op.{Op}
@@ -12,7 +12,7 @@ use Rattle.t_terms.specs.Grammar.{tok, Names, ns_one, ns_more, Binds, bs_none, b
 use Rattle.text_core.specs.Table.{Tm, Nt, Do, Mark, Done, Seen}
 use Rattle.text_core.proofs.Reading as reading
 use Rattle.text_core.proofs.Reading.{Opens, opens}
-use Rattle.t_terms.specs.Machine.{table, Line, LProgram, LBlock, MoreBlocks, LBinds, LNames, MoreNames, LFile, LRegs, MoreRegs, LT, LFields, MoreFields, LTypes, LTypeList, LSomeTypes, MoreTypes, LV, LArgs, LPacked, LTo, LAt, LIndex, LTarget, LInt, LI, MoreSteps, LEnd, Act, NoNames, FirstName, NextName, CloseNames, MakeBinds, NoRegs, FirstReg, NextReg, CloseRegs, MakeFile, TypeInt, TypeName, TypeCode, TypeSome, NoFields, FirstField, NextField, CloseFields, TypeTuple, NoTypes, FirstType, NextType, CloseTypes, MakeTypes, MakeBase, MakeApply, MakePacked, MakePack, MakeTo, MakeIndex, MakeAt, MakeTarget, MakeInt, MakeArith, MakeBnz, MakeLd, MakeMalloc, MakeMov, MakeSt, MakeUnpack, NoSteps, NextStep, MakeJmp, MakeHalt, MakeBlock, FirstBlock, NextBlock, MakeProgram, Stack, Val, OfToken, OfNames, OfType, OfRegs, OfFile, OfFields, OfTypes, OfList, OfValue, OfReg, OfStep, OfSteps, OfEnd, OfBlock, OfBlocks, act, then_more, type_after, fields_after, fields_tail, type_list_after, some_types_after, types_tail, instr_after, steps_after, steps_tail, block_after, blocks_after, blocks_tail, Outcome, marks, seen, exec}
+use Rattle.t_terms.specs.Machine.{table, Line, LProgram, LBlock, MoreBlocks, LBinds, LNames, MoreNames, LFile, LRegs, MoreRegs, LT, LFields, MoreFields, LTypeList, LSomeTypes, MoreTypes, LV, LArgs, LTo, LI, MoreSteps, LEnd, Act, NoNames, FirstName, NextName, CloseNames, MakeBinds, NoRegs, FirstReg, NextReg, CloseRegs, MakeFile, TypeInt, TypeName, TypeCode, TypeSome, NoFields, FirstField, NextField, CloseFields, TypeTuple, NoTypes, FirstType, NextType, CloseTypes, MakeTypes, MakeBase, MakeApply, MakePacked, MakePack, MakeTo, MakeIndex, MakeAt, MakeInt, MakeArith, MakeBnz, MakeLd, MakeMalloc, MakeMov, MakeSt, MakeUnpack, NoSteps, NextStep, MakeJmp, MakeHalt, MakeBlock, FirstBlock, NextBlock, MakeProgram, Stack, Val, OfToken, OfNames, OfType, OfRegs, OfFile, OfFields, OfTypes, OfValue, OfStep, OfSteps, OfEnd, OfBlock, OfBlocks, act, then_more, type_after, fields_after, fields_tail, type_list_after, some_types_after, types_tail, instr_after, steps_after, steps_tail, block_after, blocks_after, blocks_tail, Outcome, marks, seen, exec}
 
 do_now : (w : List Token) (a : Act) (s : Stack) (vs : List Val) → exec w (Do a ∷ s) vs ≡ exec w s (act a vs)
 do_now w a s vs = reading.do_now table w a s vs
@@ -197,8 +197,12 @@ mutual
       rw (append_assoc w (tok k.Caret h ∷ (tok n p ∷ [])) rest, seen_append (open_T x (marks s)) (marks s ∷ (marks s ∷ [])))
       (read_T x (fields_tail ++ s) vs (tok k.Caret h ∷ (tok n p ∷ rest)) ∙ under (open_T x (marks s)) (read_flag f h p t s vs rest))
   read_Fs (fs_more {u} {v} {fs} {t} {n} c h p x y f) s vs rest =
-      rw (append_assoc u (tok k.Comma c ∷ (v ++ tok k.Caret h ∷ (tok n p ∷ []))) rest, append_assoc v (tok k.Caret h ∷ (tok n p ∷ [])) rest,
-        seen_append (open_Fs x (marks s)) (marks s ∷ (open_T y (marks s) ++ marks s ∷ (marks s ∷ []))), seen_append (open_T y (marks s)) (marks s ∷ (marks s ∷ [])))
+      rw (
+        append_assoc u (tok k.Comma c ∷ (v ++ tok k.Caret h ∷ (tok n p ∷ []))) rest,
+        append_assoc v (tok k.Caret h ∷ (tok n p ∷ [])) rest,
+        seen_append (open_Fs x (marks s)) (marks s ∷ (open_T y (marks s) ++ marks s ∷ (marks s ∷ []))),
+        seen_append (open_T y (marks s)) (marks s ∷ (marks s ∷ [])),
+      )
       (read_Fs x s vs (tok k.Comma c ∷ (v ++ tok k.Caret h ∷ (tok n p ∷ rest))) ∙ under (open_Fs x (marks s)) (next (marks s)
       (read_T y (Tm want.Caret ∷ (Tm want.Flag ∷ (Do NextField ∷ (Nt MoreFields ∷ (Tm want.RightAngle ∷ (Do CloseFields ∷ s)))))) (OfToken (tok k.Comma c) ∷ (OfFields fs ∷ vs)) (tok k.Caret h ∷ (tok n p ∷ rest)) ∙
       under (open_T y (marks s)) (read_next_flag f h p t (tok k.Comma c) fs (Tm want.RightAngle ∷ (Do CloseFields ∷ s)) vs rest))))
@@ -234,8 +238,12 @@ read_V (v_pack {u} {v} {w} {t} {s = t'} {x = i} p o m c a x y z) s vs rest g =
     let after_t = Tm want.Comma ∷ (Nt LV ∷ (Tm want.RightBracket ∷ (Mark ∷ (Do MakePacked ∷ (Tm want.As ∷ (Nt LT ∷ (Do MakePack ∷ s))))))) in
     let after_v = Tm want.RightBracket ∷ (Mark ∷ (Do MakePacked ∷ (Tm want.As ∷ (Nt LT ∷ (Do MakePack ∷ s))))) in
     next n (next (suc n)
-    (rw (append_assoc u (tok k.Comma m ∷ (v ++ tok k.RightBracket c ∷ (tok k.As a ∷ w))) rest, append_assoc v (tok k.RightBracket c ∷ (tok k.As a ∷ w)) rest,
-      seen_append (open_T x (suc n)) (suc n ∷ (open_V y (suc n) ++ suc n ∷ (n ∷ open_T z n))), seen_append (open_V y (suc n)) (suc n ∷ (n ∷ open_T z n)))
+    (rw (
+      append_assoc u (tok k.Comma m ∷ (v ++ tok k.RightBracket c ∷ (tok k.As a ∷ w))) rest,
+      append_assoc v (tok k.RightBracket c ∷ (tok k.As a ∷ w)) rest,
+      seen_append (open_T x (suc n)) (suc n ∷ (open_V y (suc n) ++ suc n ∷ (n ∷ open_T z n))),
+      seen_append (open_V y (suc n)) (suc n ∷ (n ∷ open_T z n)),
+    )
     (read_T x after_t us (tok k.Comma m ∷ (v ++ tok k.RightBracket c ∷ (tok k.As a ∷ (w ++ rest)))) ∙ under (open_T x (suc n)) (next (suc n)
     (read_V y after_v (OfToken (tok k.Comma m) ∷ (OfType t ∷ us)) (tok k.RightBracket c ∷ (tok k.As a ∷ (w ++ rest))) (λ _ _. refl) ∙ under (open_V y (suc n)) (next (suc n) (next n
     (read_T z (Do MakePack ∷ s) _ rest ∙ under (open_T z n) (do_now rest MakePack s _)))))))))
@@ -299,8 +307,14 @@ read_Block (b_block {u} {v} {w} {x} l c d p a f i e) s vs rest g =
     let after_is = Nt LEnd ∷ (Do MakeBlock ∷ s) in
     let after_file = Tm want.Dot ∷ (Do NoSteps ∷ (Nt MoreSteps ∷ after_is)) in
     next m (next m (next m
-    (rw (append_assoc u (v ++ tok k.Dot p ∷ (w ++ x)) rest, append_assoc v (tok k.Dot p ∷ (w ++ x)) rest, append_assoc w x rest,
-      seen_append (open_Binds a m) (open_File f m ++ m ∷ (open_Is i m ++ open_End e m)), seen_append (open_File f m) (m ∷ (open_Is i m ++ open_End e m)), seen_append (open_Is i m) (open_End e m))
+    (rw (
+      append_assoc u (v ++ tok k.Dot p ∷ (w ++ x)) rest,
+      append_assoc v (tok k.Dot p ∷ (w ++ x)) rest,
+      append_assoc w x rest,
+      seen_append (open_Binds a m) (open_File f m ++ m ∷ (open_Is i m ++ open_End e m)),
+      seen_append (open_File f m) (m ∷ (open_Is i m ++ open_End e m)),
+      seen_append (open_Is i m) (open_End e m),
+    )
     (read_Binds a (Nt LFile ∷ after_file) _ (v ++ tok k.Dot p ∷ (w ++ (x ++ rest))) ∙ under (open_Binds a m)
     (read_File f after_file _ (tok k.Dot p ∷ (w ++ (x ++ rest))) ∙ under (open_File f m) (next m
     (do_now (w ++ (x ++ rest)) NoSteps (Nt MoreSteps ∷ after_is) _ ∙
@@ -319,5 +333,5 @@ read_Blocks (bs_more {u} {v} {bs} x y) s vs rest g =
 pub read_shape : {w : List Token} {bs : List RawBlock} (e : Program w bs) → exec w (Nt LProgram ∷ []) [] ≡ seen (open_Program e 0) (Done (OfBlocks bs ∷ []))
 read_shape (p_program {w} {bs} t n x) =
     let h : exec (w ++ []) (Nt LBlock ∷ (Do FirstBlock ∷ (Nt MoreBlocks ∷ (Do MakeProgram ∷ [])))) (OfToken (tok (k.Plain (pos 1)) n) ∷ (OfToken (tok k.Tal t) ∷ [])) ≡ seen (open_Blocks x 0) (Done (OfBlocks bs ∷ [])) =
-      read_Blocks x (Do MakeProgram ∷ []) _ [] (λ _ _. refl) in
+    read_Blocks x (Do MakeProgram ∷ []) _ [] (λ _ _. refl) in
     next 0 (next 0 (rw append-nil at h))

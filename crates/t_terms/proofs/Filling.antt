@@ -1,18 +1,19 @@
 -- What was begun can be completed.
-use Rattle.std.proofs.Common.{pos, ◌≡◌, ℕ, suc, ◌<◌, List, [], ◌∷◌, ◌++◌, refl, sym, ◌∙◌, ap, Option, Some, None, Bool, true, false, arith}
+use Rattle.std.proofs.Common.{pos, ◌≡◌, ℕ, ◌<◌, List, [], ◌∷◌, refl, ◌∙◌, true, false, arith}
 use Rattle.idx_core.specs.declared.span.Span.{Span}
 use Rattle.t_terms.specs.declared.token.Kind.{Kind}
 use Rattle.t_terms.specs.declared.token.Kind.TheVariants as k
 use Rattle.t_terms.specs.declared.token.Token.{Token}
 use Rattle.t_terms.specs.declared.wanted.Wanted.{Wanted}
 use Rattle.t_terms.specs.declared.wanted.Wanted.TheVariants as want
-use Rattle.t_terms.specs.Raw.{RawTy, RInt, RawValue, RPlain, RNum, ending}
+use Rattle.t_terms.specs.Raw.{RPlain, RNum, ending}
 use Rattle.t_terms.specs.Grammar.{tok}
-use Rattle.text_core.specs.Table.{Tm, Nt, Do, Mark, Seen}
+use Rattle.text_core.specs.Table.{Nt, Do, Mark, Seen}
 use Rattle.text_core.proofs.Reading as reading
 use Rattle.text_core.proofs.Rules as rules
-use Rattle.text_core.proofs.Rules.{Filling, good_row, quiet_row, AtLeast, Least}
-use Rattle.t_terms.specs.Machine.{table, Line, LProgram, LBlock, MoreBlocks, LBinds, LNames, MoreNames, LFile, LRegs, MoreRegs, LT, LFields, MoreFields, LTypes, LTypeList, LSomeTypes, MoreTypes, LV, LArgs, LPacked, LTo, LAt, LIndex, LTarget, LInt, LI, MoreSteps, LEnd, Act, Stack, Val, OfValue, fits, after, may_end, marks, exec, Outcome, act, MakeBinds, MakeFile, NoNames, NoRegs, TypeInt, NoFields, MakeTypes, NoTypes, MakeBase, MakePacked, MakeTo, MakeIndex, MakeAt, MakeTarget, MakeInt, MakeMalloc, MakeHalt, NoSteps, MakeBlock, FirstBlock, MakeProgram, FirstType, CloseTypes}
+use Rattle.text_core.proofs.Rules.{Filling, quiet_row, AtLeast, Least}
+use Rattle.t_terms.proofs.Completing.{good_row}
+use Rattle.t_terms.specs.Machine.{table, Line, LProgram, LBlock, MoreBlocks, LBinds, LNames, MoreNames, LFile, LRegs, MoreRegs, LT, LFields, MoreFields, LTypes, LTypeList, LSomeTypes, MoreTypes, LV, LArgs, LPacked, LTo, LAt, LIndex, LTarget, LInt, LI, MoreSteps, LEnd, Act, Stack, Val, OfValue, fits, after, may_end, marks, exec, Outcome, act, MakeBinds, MakeFile, NoNames, NoRegs, TypeInt, NoFields, MakeTypes, NoTypes, MakeBase, MakePacked, MakeTo, MakeIndex, MakeAt, MakeTarget, MakeInt, MakeMalloc, MakeHalt, MakeBlock, FirstBlock, MakeProgram, CloseTypes}
 
 abbrev here : Span
 here = record { start = 0; end = 0 }
@@ -166,13 +167,19 @@ abbrev Filled : Line → List Token → Stack → List Val → Type 0
 Filled n w s vs = Least table n (least n) w s vs
 
 pub reads : (n : Line) → may_end n ≡ false → (w : List Token) → AtLeast table filling (wants n) w → (s : Stack) (vs : List Val) → Filled n w s vs
-reads LProgram e w h s vs = record { made = _; counts = _ ∷ (_ ∷ (_ ∷ (_ ∷ (_ ∷ (_ ∷ (_ ∷ (_ ∷ (_ ∷ (_ ∷ (_ ∷ (_ ∷ (_ ∷ (_ ∷ [])))))))))))));
+reads LProgram e w h s vs = record {
+  made = _;
+  counts = _ ∷ (_ ∷ (_ ∷ (_ ∷ (_ ∷ (_ ∷ (_ ∷ (_ ∷ (_ ∷ (_ ∷ (_ ∷ (_ ∷ (_ ∷ (_ ∷ [])))))))))))));
   leads = next _ (next _ (next _ (next _ (next _ (next _ (next _ (next _ (next _ (next _ (next _ (next _ (next _ (next _
-    (marked w MakeInt (Do MakeHalt ∷ (Do MakeBlock ∷ (Do FirstBlock ∷ (Nt MoreBlocks ∷ (Do MakeProgram ∷ s))))) _ ∙ (do_now w MakeHalt _ _ ∙ (do_now w MakeBlock _ _ ∙ (do_now w FirstBlock _ _ ∙
-      (silent MoreBlocks refl w h (Do MakeProgram ∷ s) _ ∙ do_now w MakeProgram s _)))))))))))))))))) }
-reads LBlock e w h s vs = record { made = _; counts = _ ∷ (_ ∷ (_ ∷ (_ ∷ (_ ∷ (_ ∷ (_ ∷ (_ ∷ (_ ∷ (_ ∷ (_ ∷ (_ ∷ [])))))))))));
+      (marked w MakeInt (Do MakeHalt ∷ (Do MakeBlock ∷ (Do FirstBlock ∷ (Nt MoreBlocks ∷ (Do MakeProgram ∷ s))))) _ ∙ (do_now w MakeHalt _ _ ∙ (do_now w MakeBlock _ _ ∙ (do_now w FirstBlock _ _ ∙
+      (silent MoreBlocks refl w h (Do MakeProgram ∷ s) _ ∙ do_now w MakeProgram s _))))))))))))))))));
+}
+reads LBlock e w h s vs = record {
+  made = _;
+  counts = _ ∷ (_ ∷ (_ ∷ (_ ∷ (_ ∷ (_ ∷ (_ ∷ (_ ∷ (_ ∷ (_ ∷ (_ ∷ (_ ∷ [])))))))))));
   leads = next _ (next _ (next _ (next _ (next _ (next _ (next _ (next _ (next _ (next _ (next _ (next _
-    (marked w MakeInt (Do MakeHalt ∷ (Do MakeBlock ∷ s)) _ ∙ (do_now w MakeHalt _ _ ∙ do_now w MakeBlock s _))))))))))))) }
+      (marked w MakeInt (Do MakeHalt ∷ (Do MakeBlock ∷ s)) _ ∙ (do_now w MakeHalt _ _ ∙ do_now w MakeBlock s _)))))))))))));
+}
 reads LBinds e w h s vs = record { made = _; counts = _ ∷ (_ ∷ []); leads = next _ (next _ (do_now w NoNames _ _ ∙ marked w MakeBinds s _)) }
 reads LNames e w h s vs = record { made = _; counts = _ ∷ []; leads = next _ (do_now w NoNames s _) }
 reads LFile e w h s vs = record { made = _; counts = _ ∷ (_ ∷ []); leads = next _ (next _ (do_now w NoRegs _ _ ∙ marked w MakeFile s _)) }

@@ -10,12 +10,12 @@ use Rattle.t_terms.specs.declared.token.Kind.TheVariants as k
 use Rattle.t_terms.specs.declared.token.Token.{Token}
 use Rattle.t_terms.specs.declared.wanted.Wanted.{Wanted}
 use Rattle.t_terms.specs.declared.wanted.Wanted.TheVariants as want
-use Rattle.t_terms.specs.Raw.{RawTy, RTuple, RawRegs, RawReg, RawField, raw_regs, raw_fields, RawBase, RawValue, RPlain, RawInstr, RArith, RawEnd, RawBlock, Piece, ending}
+use Rattle.t_terms.specs.Raw.{RawTy, RTuple, RawRegs, RawReg, RawField, raw_regs, raw_fields, RawBase, RawValue, RPlain, RawInstr, RawEnd, RawBlock, Piece, ending}
 use Rattle.t_terms.specs.Grammar.{tok, Names, ns_one, ns_more, Binds, bs_none, bs_names, IsFlag, is_zero, is_one, is_minus_zero, T, t_int, t_name, t_code, t_some, t_unit, t_tuple, File, f_none, f_regs, Rs, rs_one, rs_more, Fs, fs_one, fs_more, Ts, ts_one, ts_more, N, n_reg, n_plain, n_negative, n_label, V, v_base, v_apply, v_pack, IsOp, is_add, is_sub, is_mul, I, i_arith, i_bnz, i_ld, i_malloc_none, i_malloc, i_mov, i_st, i_unpack, Is, is_none, is_more, End, e_jmp, e_halt, Block, b_block, Blocks, bs_one, bs_more, Program, p_program}
 use Rattle.text_core.specs.Table.{Tm, Nt, Do, Mark}
 use Rattle.text_core.proofs.Rules as rules
 use Rattle.text_core.proofs.Rules.{Meaning, Matches, m_end, m_tm, m_nt, m_do, m_mark, Row, Made, Extends}
-use Rattle.t_terms.specs.Machine.{table, Line, LProgram, LBlock, MoreBlocks, LBinds, LNames, MoreNames, LFile, LRegs, MoreRegs, LT, LFields, MoreFields, LTypes, LTypeList, LSomeTypes, MoreTypes, LV, LArgs, LPacked, LTo, LAt, LIndex, LTarget, LInt, LI, MoreSteps, LEnd, Act, NoNames, FirstName, NextName, CloseNames, MakeBinds, NoRegs, FirstReg, NextReg, CloseRegs, MakeFile, TypeInt, TypeName, TypeCode, TypeSome, NoFields, FirstField, NextField, CloseFields, TypeTuple, NoTypes, FirstType, NextType, CloseTypes, MakeTypes, MakeBase, MakeApply, MakePacked, MakePack, MakeTo, MakeIndex, MakeAt, MakeTarget, MakeInt, MakeArith, MakeBnz, MakeLd, MakeMalloc, MakeMov, MakeSt, MakeUnpack, NoSteps, NextStep, MakeJmp, MakeHalt, MakeBlock, FirstBlock, NextBlock, MakeProgram, Stack, Val, OfToken, OfNames, OfType, OfRegs, OfFile, OfFields, OfTypes, OfList, OfValue, OfPacked, OfReg, OfIndex, OfAt, OfTarget, OfPlace, OfStep, OfSteps, OfEnd, OfBlock, OfBlocks, one_value, flag_value, zero_value, fits, flag_of, applied, field_of, act, after, may_end, type_after, fields_tail, fields_after, types_tail, some_types_after, type_list_after, base_owed, value_after, arith_owed, instr_after, steps_tail, steps_after, block_owed, block_after, blocks_tail, blocks_after, then_more}
+use Rattle.t_terms.specs.Machine.{table, Line, LProgram, LBlock, MoreBlocks, LBinds, LNames, MoreNames, LFile, LRegs, MoreRegs, LT, LFields, MoreFields, LTypes, LTypeList, LSomeTypes, MoreTypes, LV, LArgs, LPacked, LTo, LAt, LIndex, LTarget, LInt, LI, MoreSteps, LEnd, NoNames, FirstName, NextName, CloseNames, MakeBinds, NoRegs, FirstReg, NextReg, CloseRegs, MakeFile, TypeInt, TypeName, TypeCode, TypeSome, NoFields, NextField, CloseFields, TypeTuple, NoTypes, NextType, CloseTypes, MakeTypes, MakeBase, MakeApply, MakePacked, MakePack, MakeTo, MakeIndex, MakeAt, MakeTarget, MakeInt, MakeBnz, MakeLd, MakeMalloc, MakeMov, MakeSt, MakeUnpack, NextStep, MakeJmp, MakeHalt, MakeBlock, FirstBlock, NextBlock, MakeProgram, Stack, Val, OfToken, OfNames, OfType, OfRegs, OfFile, OfFields, OfTypes, OfList, OfValue, OfPacked, OfReg, OfIndex, OfAt, OfTarget, OfPlace, OfStep, OfSteps, OfEnd, OfBlock, OfBlocks, one_value, flag_value, zero_value, fits, flag_of, applied, act, after, may_end, type_after, fields_tail, fields_after, types_tail, some_types_after, type_list_after, base_owed, value_after, arith_owed, instr_after, steps_tail, steps_after, block_owed, blocks_tail, then_more}
 
 -- tokens of a class
 pub data IsOf : Wanted → Token → Type 0 where
@@ -225,7 +225,7 @@ row_field_comma : (o : Span) → Begun MoreFields k.Comma (Nt LT ∷ (Tm want.Ca
 row_field_comma o s vs r _ (m_nt {u} (sem_T {t} d) (m_tm (of_caret c) (m_tm (of_flag {n} {flag} p g) (m_do (m_nt {u = v} (sem_field_commas f) m))))) =
     along (m_nt {u = tok k.Comma o ∷ (u ++ tok k.Caret c ∷ (tok n p ∷ v))} (sem_field_commas (λ x a below q h.
     rules.moved table fields Fs (f _ _ below (ap (λ (l : List Val). act NextField (OfToken (tok n p) ∷ (OfToken (tok k.Caret c) ∷ (OfType t ∷ (OfToken (tok k.Comma o) ∷ l))))) q ∙
-      ap (λ (b : Bool). OfFields (a ++ record { ty = t.tree; flag = b } ∷ []) ∷ below) (flag_is g)) (fs_more o c p h d g)) (simp append_assoc))) m) (simp append_assoc)
+    ap (λ (b : Bool). OfFields (a ++ record { ty = t.tree; flag = b } ∷ []) ∷ below) (flag_is g)) (fs_more o c p h d g)) (simp append_assoc))) m) (simp append_assoc)
 
 -- lists of types
 row_list : (o : Span) → Begun LTypes k.LeftBracket (Nt LTypeList ∷ (Mark ∷ (Do MakeTypes ∷ []))) o

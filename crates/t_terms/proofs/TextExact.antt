@@ -1,6 +1,5 @@
 -- A text stands for at most one program, has at most one first fault, and not both.
 use Rattle.std.proofs.Common.{◌≡◌, ℕ, List, [], ◌∷◌, ◌++◌, length, refl, sym, ◌∙◌, ap, subst, append_assoc}
-use Rattle.std.proofs.lemmas.List.{append-nil}
 use Rattle.idx_core.specs.declared.span.Span.{Span}
 use Rattle.text_core.specs.Tokens.{Reason, FirstWrong}
 use Rattle.text_core.specs.Table.{Verdict, Fine, Unexpected, Passed}
@@ -14,10 +13,10 @@ use Rattle.t_terms.specs.Spanned.{SBlock}
 use Rattle.t_terms.specs.Tokens.{assembly, IsCut}
 use Rattle.t_terms.specs.Raw.{RawBlock}
 use Rattle.t_terms.specs.Grammar.{Program}
-use Rattle.t_terms.specs.Machine.{table, Val, OfBlocks}
+use Rattle.t_terms.specs.Machine.{table, OfBlocks}
 use Rattle.t_terms.specs.Names.{program_of}
 use Rattle.t_terms.specs.NameFaults.{program_faults}
-use Rattle.t_terms.specs.Text.{most_open, Stands, ReadsAs, code_of, FirstFault, in_tokens, unexpected, cut_short, too_deep, in_names, OneProgram, ProgramOrFault, FaultOrProgram, OneFault}
+use Rattle.t_terms.specs.Text.{most_open, ReadsAs, code_of, FirstFault, in_tokens, unexpected, cut_short, too_deep, in_names, OneProgram, ProgramOrFault, FaultOrProgram, OneFault}
 use Rattle.t_terms.proofs.TokenLaws.{assembly_signs}
 use Rattle.t_terms.proofs.Instance.{one_tree, one_verdict}
 

@@ -1,7 +1,6 @@
 -- Worked texts: what they stand for, and their first faults.
 use Rattle.std.proofs.Common.{◌≡◌, ℕ, List, [], ◌∷◌, ◌++◌, map, take, replicate, codes, refl, pos, true, false}
-use Rattle.t_types.specs.Tree.{Ty, IntTy, VarTy, CodeTy, ExistsTy, TupleTy, NoRegs, MoreRegs, NoFields, MoreFields}
-use Rattle.t_terms.specs.declared.fault.TCode.{TCode}
+use Rattle.t_types.specs.Tree.{IntTy, VarTy, CodeTy, ExistsTy, TupleTy, NoRegs, MoreRegs, NoFields, MoreFields}
 use Rattle.t_terms.specs.declared.fault.TCode.TheVariants.{T01, T02, T03, T04, T05, T06, T07, M1}
 use Rattle.t_terms.specs.Tree.{Reg, Int, Label, Plain, Malloc, Mov, Jmp, Halt, TBlock, Then, Ends}
 use Rattle.t_terms.specs.Spanned.{SBlock, plain_blocks}
@@ -82,8 +81,11 @@ second_text = refl
 
 -- an equal later name hides an earlier one, and an inner one an outer one; a number is its value
 hidden : shown (answer (codes "tal 01 L : code[a,a]{r2:all[b]{r1:a},r1:a}. malloc r1[<int^~0,some a. a^1>] mov r003, ~0 halt[int]")) ≡
-    (record { owes = 2; file = MoreRegs 1 (VarTy 0) (MoreRegs 2 (CodeTy 1 (MoreRegs 1 (VarTy 1) NoRegs)) NoRegs);
-      code = Then (Malloc 1 (TupleTy (MoreFields IntTy false (MoreFields (ExistsTy (VarTy 0)) true NoFields)) ∷ [])) (Then (Mov 3 (Plain (Int (pos 0)) [])) (Ends Halt)) } ∷ [])
+    (record {
+      owes = 2;
+      file = MoreRegs 1 (VarTy 0) (MoreRegs 2 (CodeTy 1 (MoreRegs 1 (VarTy 1) NoRegs)) NoRegs);
+      code = Then (Malloc 1 (TupleTy (MoreFields IntTy false (MoreFields (ExistsTy (VarTy 0)) true NoFields)) ∷ [])) (Then (Mov 3 (Plain (Int (pos 0)) [])) (Ends Halt));
+    } ∷ [])
 hidden = refl
 
 -- one construct more than may be open

@@ -1,5 +1,5 @@
 -- Working out what a text stands for, or its first fault.
-use Rattle.std.proofs.Common.{◌≡◌, ◌≤◌, ◌≤ℤ◌, ℕ, zero, suc, ◌+◌, ℤ, pos, negsuc, ◌&&◌, nat_le, List, [], ◌∷◌, length, drop, Bool, true, false, if◌then◌else◌, Option, Some, None, refl, sym, ◌∙◌, ap, subst, arith, codes}
+use Rattle.std.proofs.Common.{◌≡◌, ℕ, zero, suc, ◌+◌, pos, negsuc, ◌&&◌, nat_le, List, [], ◌∷◌, length, drop, Bool, true, false, if◌then◌else◌, refl, subst, arith}
 use Rattle.std.proofs.lemmas.Bool.{leb-true, leb-false, and_parts}
 use Rattle.std.proofs.lemmas.Int.{ints}
 use Rattle.idx_core.specs.declared.span.Span.{Span}
@@ -17,7 +17,7 @@ use Rattle.t_terms.specs.Spanned.{SBlock}
 use Rattle.t_terms.specs.Tokens.{assembly, IsCut, Keeps}
 use Rattle.t_terms.specs.Raw.{RawBlock}
 use Rattle.t_terms.specs.Grammar.{Program}
-use Rattle.t_terms.specs.Machine.{table, Val, OfBlocks}
+use Rattle.t_terms.specs.Machine.{table, OfBlocks}
 use Rattle.t_terms.specs.Names.{program_of}
 use Rattle.t_terms.specs.NameFaults.{program_faults}
 use Rattle.t_terms.specs.Text.{most_open, ReadsAs, code_of, FirstFault, in_tokens, unexpected, cut_short, too_deep, in_names}

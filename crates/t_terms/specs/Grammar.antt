@@ -54,13 +54,13 @@ mutual
   pub data Rs : List Token → List RawReg → Type 0 where
     rs_one : {w : List Token} {t : Piece RawTy} (r : ℕ) (s c : Span) → T w t → Rs (tok (k.Register r) s ∷ (tok k.Colon c ∷ w)) (record { reg = r; place = s; ty = t.tree } ∷ [])
     rs_more : {u v : List Token} {rs : List RawReg} {t : Piece RawTy} (c : Span) (r : ℕ) (s d : Span) → Rs u rs → T v t →
-      Rs (u ++ tok k.Comma c ∷ (tok (k.Register r) s ∷ (tok k.Colon d ∷ v))) (rs ++ record { reg = r; place = s; ty = t.tree } ∷ [])
+        Rs (u ++ tok k.Comma c ∷ (tok (k.Register r) s ∷ (tok k.Colon d ∷ v))) (rs ++ record { reg = r; place = s; ty = t.tree } ∷ [])
 
   -- F , .. , F, where F ::= T ^ 0 | T ^ 1
   pub data Fs : List Token → List RawField → Type 0 where
     fs_one : {w : List Token} {t : Piece RawTy} {n : Kind} {flag : Bool} (h s : Span) → T w t → IsFlag n flag → Fs (w ++ tok k.Caret h ∷ (tok n s ∷ [])) (record { ty = t.tree; flag = flag } ∷ [])
     fs_more : {u v : List Token} {fs : List RawField} {t : Piece RawTy} {n : Kind} {flag : Bool} (c h s : Span) → Fs u fs → T v t → IsFlag n flag →
-      Fs (u ++ tok k.Comma c ∷ (v ++ tok k.Caret h ∷ (tok n s ∷ []))) (fs ++ record { ty = t.tree; flag = flag } ∷ [])
+        Fs (u ++ tok k.Comma c ∷ (v ++ tok k.Caret h ∷ (tok n s ∷ []))) (fs ++ record { ty = t.tree; flag = flag } ∷ [])
 
 -- T , .. , T
 pub data Ts : List Token → List RawTy → Type 0 where
@@ -81,7 +81,7 @@ pub data V : List Token → Piece RawValue → Type 0 where
   v_apply : {b : Token} {base : RawBase} {w : List Token} {ts : List RawTy} (o c : Span) → N b base → Ts w ts → V (b ∷ (tok k.LeftBracket o ∷ (w ++ tok k.RightBracket c ∷ []))) (ending (RPlain base ts) c.end)
   -- V ::= pack [ T , V ] as T
   v_pack : {u v w : List Token} {t s : Piece RawTy} {x : Piece RawValue} (p o m c a : Span) → T u t → V v x → T w s →
-    V (tok k.Pack p ∷ (tok k.LeftBracket o ∷ (u ++ tok k.Comma m ∷ (v ++ tok k.RightBracket c ∷ (tok k.As a ∷ w))))) (ending (RPack t.tree x.tree s.tree) s.end)
+      V (tok k.Pack p ∷ (tok k.LeftBracket o ∷ (u ++ tok k.Comma m ∷ (v ++ tok k.RightBracket c ∷ (tok k.As a ∷ w))))) (ending (RPack t.tree x.tree s.tree) s.end)
 
 -- add | sub | mul
 pub data IsOp : Kind → Op → Type 0 where
@@ -92,27 +92,27 @@ pub data IsOp : Kind → Op → Type 0 where
 pub data I : List Token → RawInstr × Span → Type 0 where
   -- I ::= add reg , reg , V | sub reg , reg , V | mul reg , reg , V
   i_arith : {n : Kind} {op : Op} {w : List Token} {v : Piece RawValue} (a b c d e : Span) (rd rs : ℕ) → IsOp n op → V w v →
-    I (tok n a ∷ (tok (k.Register rd) b ∷ (tok k.Comma c ∷ (tok (k.Register rs) d ∷ (tok k.Comma e ∷ w))))) (RArith op rd rs v.tree, up_to a v.end)
+      I (tok n a ∷ (tok (k.Register rd) b ∷ (tok k.Comma c ∷ (tok (k.Register rs) d ∷ (tok k.Comma e ∷ w))))) (RArith op rd rs v.tree, up_to a v.end)
   -- I ::= bnz reg , V
   i_bnz : {w : List Token} {v : Piece RawValue} (a b c : Span) (r : ℕ) → V w v → I (tok k.Bnz a ∷ (tok (k.Register r) b ∷ (tok k.Comma c ∷ w))) (RBnz r v.tree, up_to a v.end)
   -- I ::= ld reg , reg [ n ], where n is a plain number, so that it is its own absolute value
   i_ld : (a b c d o f e : Span) (rd rs : ℕ) (n : ℤ) →
-    I (tok k.Ld a ∷ (tok (k.Register rd) b ∷ (tok k.Comma c ∷ (tok (k.Register rs) d ∷ (tok k.LeftBracket o ∷ (tok (k.Plain n) f ∷ (tok k.RightBracket e ∷ [])))))))
+      I (tok k.Ld a ∷ (tok (k.Register rd) b ∷ (tok k.Comma c ∷ (tok (k.Register rs) d ∷ (tok k.LeftBracket o ∷ (tok (k.Plain n) f ∷ (tok k.RightBracket e ∷ [])))))))
       (RLd rd rs (nat_abs n), up_to a e.end)
   -- I ::= malloc reg [ ]
   i_malloc_none : (a b o c : Span) (rd : ℕ) → I (tok k.Malloc a ∷ (tok (k.Register rd) b ∷ (tok k.LeftBracket o ∷ (tok k.RightBracket c ∷ [])))) (RMalloc rd [], up_to a c.end)
   -- I ::= malloc reg [ T , .. , T ]
   i_malloc : {w : List Token} {ts : List RawTy} (a b o c : Span) (rd : ℕ) → Ts w ts →
-    I (tok k.Malloc a ∷ (tok (k.Register rd) b ∷ (tok k.LeftBracket o ∷ (w ++ tok k.RightBracket c ∷ [])))) (RMalloc rd ts, up_to a c.end)
+      I (tok k.Malloc a ∷ (tok (k.Register rd) b ∷ (tok k.LeftBracket o ∷ (w ++ tok k.RightBracket c ∷ [])))) (RMalloc rd ts, up_to a c.end)
   -- I ::= mov reg , V
   i_mov : {w : List Token} {v : Piece RawValue} (a b c : Span) (rd : ℕ) → V w v → I (tok k.Mov a ∷ (tok (k.Register rd) b ∷ (tok k.Comma c ∷ w))) (RMov rd v.tree, up_to a v.end)
   -- I ::= st reg [ n ] , reg
   i_st : (a b o f e c d : Span) (rd rs : ℕ) (n : ℤ) →
-    I (tok k.St a ∷ (tok (k.Register rd) b ∷ (tok k.LeftBracket o ∷ (tok (k.Plain n) f ∷ (tok k.RightBracket e ∷ (tok k.Comma c ∷ (tok (k.Register rs) d ∷ [])))))))
+      I (tok k.St a ∷ (tok (k.Register rd) b ∷ (tok k.LeftBracket o ∷ (tok (k.Plain n) f ∷ (tok k.RightBracket e ∷ (tok k.Comma c ∷ (tok (k.Register rs) d ∷ [])))))))
       (RSt rd (nat_abs n) rs, up_to a d.end)
   -- I ::= unpack [ name , reg ] , V
   i_unpack : {w : List Token} {v : Piece RawValue} (a o n b d c e : Span) (rd : ℕ) → V w v →
-    I (tok k.Unpack a ∷ (tok k.LeftBracket o ∷ (tok k.Name n ∷ (tok k.Comma b ∷ (tok (k.Register rd) d ∷ (tok k.RightBracket c ∷ (tok k.Comma e ∷ w))))))) (RUnpack n rd v.tree, up_to a v.end)
+      I (tok k.Unpack a ∷ (tok k.LeftBracket o ∷ (tok k.Name n ∷ (tok k.Comma b ∷ (tok (k.Register rd) d ∷ (tok k.RightBracket c ∷ (tok k.Comma e ∷ w))))))) (RUnpack n rd v.tree, up_to a v.end)
 
 -- I .. I, any number of them
 pub data Is : List Token → List (RawInstr × Span) → Type 0 where
@@ -128,7 +128,7 @@ pub data End : List Token → RawEnd × Span → Type 0 where
 -- Block ::= label : code [ names ] File . I .. I End
 pub data Block : List Token → RawBlock → Type 0 where
   b_block : {u v w x : List Token} {ns : List Span} {file : Piece RawRegs} {is : List (RawInstr × Span)} {last : RawEnd × Span} (l c d p : Span) → Binds u ns → File v file → Is w is → End x last →
-    Block (tok k.Name l ∷ (tok k.Colon c ∷ (tok k.Code d ∷ (u ++ (v ++ tok k.Dot p ∷ (w ++ x)))))) (record { name = l; names = ns; file = file.tree; body = is; last = last })
+      Block (tok k.Name l ∷ (tok k.Colon c ∷ (tok k.Code d ∷ (u ++ (v ++ tok k.Dot p ∷ (w ++ x)))))) (record { name = l; names = ns; file = file.tree; body = is; last = last })
 
 -- Block .. Block, one or more
 pub data Blocks : List Token → List RawBlock → Type 0 where

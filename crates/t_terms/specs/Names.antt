@@ -1,5 +1,5 @@
 -- The names of a text: what each stands for.
-use Rattle.std.specs.Prelude.{ℕ, suc, nat_lt, if◌then◌else◌, Bool, List, [], ◌∷◌, length, map, slice_range, bytes_eq}
+use Rattle.std.specs.Prelude.{ℕ, nat_lt, if◌then◌else◌, Bool, List, [], ◌∷◌, length, map, slice_range, bytes_eq}
 use Rattle.std.specs.List.{list_any, position_or_len}
 use Rattle.idx_core.specs.declared.span.Span.{Span}
 use Rattle.idx_core.specs.Names.{Name}

@@ -1,2 +1,11 @@
-pub mod Digits
-pub mod Moves
+pub mod Coded
+pub mod Items
+pub mod Nested
+pub mod Placed
+pub mod Rendered
+mod Rows
+pub mod Scopes
+pub mod Texts
+pub mod WroteBlocks
+pub mod WroteCode
+pub mod WroteTypes

@@ -1,1 +1,4 @@
+pub mod Ints
+pub mod Lexeme
+pub mod Nesting
 pub mod Written

@@ -1,14 +1,128 @@
--- The bytes that are written.
-use Rattle.std.specs.Prelude.{◌≡◌, ℕ, suc, List, ◌∷◌, ◌++◌, ℤ, pos, negsuc, codes, decimal}
+-- How a program is written. Inside d type names the next one is `T` and d; a label is `L` and the number of its block.
+use Rattle.std.specs.Prelude.{◌≡◌, ℕ, zero, suc, ◌+◌, ◌-◌, List, [], ◌∷◌, ◌++◌, pos, Bool, true, false, codes}
+use Rattle.idx_core.specs.declared.arith.Op.{Op}
+use Rattle.idx_core.specs.declared.arith.Op.TheVariants.{Add, Sub, Mul}
+use Rattle.t_types.specs.Tree.{Ty, IntTy, VarTy, CodeTy, ExistsTy, TupleTy, TFile, NoRegs, MoreRegs, TFields, NoFields, MoreFields}
+use Rattle.t_terms.specs.declared.token.Kind.TheVariants as k
+use Rattle.t_terms.specs.Tree.{TBase, Reg, Int, Label, TValue, Plain, Pack, TInstr, Arith, Bnz, Ld, Malloc, Mov, St, Unpack, TEnd, Jmp, Halt, TSeq, Then, Ends, TBlock, names_after}
+use Rattle.t_writer.specs.Lexeme.{Lexeme, Reserved, TypeName, LabelName, Register, Number, Digit, Sign, Blank}
 
--- a number in decimal, a negative one with a tilde
-abbrev pub number_text : ℤ → List ℕ
-number_text (pos n) = decimal n
-number_text (negsuc n) = 126 ∷ decimal (suc n)
+abbrev pub comma : Lexeme
+comma = Sign 44 k.Comma
 
--- the text of the program that moves i to register 1
-abbrev pub move_text : ℤ → List ℕ
-move_text i = codes "tal 1\nL0: code[]{}.\nmov r1, " ++ number_text i ++ codes "\nhalt[int]\n"
+abbrev pub space : Lexeme
+space = Blank 32
+
+abbrev pub line_end : Lexeme
+line_end = Blank 10
+
+-- what stands between an item of a list and the i items before it
+abbrev pub separator : ℕ → List Lexeme
+separator zero = []
+separator (suc i) = comma ∷ (space ∷ [])
+
+-- count names from the depth d on, with i before them
+abbrev pub names_written : ℕ → ℕ → ℕ → List Lexeme
+names_written i d zero = []
+names_written i d (suc count) = separator i ++ TypeName d ∷ names_written (suc i) (d + 1) count
+
+-- [ names ]
+abbrev pub binds_written : ℕ → ℕ → List Lexeme
+binds_written d count = Sign 91 k.LeftBracket ∷ (names_written 0 d count ++ Sign 93 k.RightBracket ∷ [])
+
+abbrev pub bit : Bool → ℕ
+bit true = 1
+bit false = 0
+
+abbrev pub flag_written : Bool → Lexeme
+flag_written flag = Digit (bit flag)
+
+abbrev mutual
+  pub type_written : ℕ → Ty → List Lexeme
+  type_written d IntTy = Reserved (codes "int") k.Int ∷ []
+  type_written d (VarTy i) = TypeName (d - 1 - i) ∷ []
+  type_written d (CodeTy owes file) = Reserved (codes "all") k.All ∷ (binds_written d owes ++ (Sign 123 k.LeftBrace ∷ (regs_written 0 (d + owes) file ++ Sign 125 k.RightBrace ∷ [])))
+  type_written d (ExistsTy t) = Reserved (codes "some") k.Some ∷ (space ∷ (TypeName d ∷ (Sign 46 k.Dot ∷ (space ∷ type_written (d + 1) t))))
+  type_written d (TupleTy fields) = Sign 60 k.LeftAngle ∷ (fields_written 0 d fields ++ Sign 62 k.RightAngle ∷ [])
+
+  -- registers with their types, with i before them
+  pub regs_written : ℕ → ℕ → TFile → List Lexeme
+  regs_written i d NoRegs = []
+  regs_written i d (MoreRegs r t file) = separator i ++ (Register r ∷ (Sign 58 k.Colon ∷ (type_written d t ++ regs_written (suc i) d file)))
+
+  -- types with their flags, with i before them
+  pub fields_written : ℕ → ℕ → TFields → List Lexeme
+  fields_written i d NoFields = []
+  fields_written i d (MoreFields t flag fields) = separator i ++ (type_written d t ++ (Sign 94 k.Caret ∷ (flag_written flag ∷ fields_written (suc i) d fields)))
+
+abbrev pub file_written : ℕ → TFile → List Lexeme
+file_written d file = Sign 123 k.LeftBrace ∷ (regs_written 0 d file ++ Sign 125 k.RightBrace ∷ [])
+
+-- types, with i before them
+abbrev pub types_written : ℕ → ℕ → List Ty → List Lexeme
+types_written i d [] = []
+types_written i d (t ∷ ts) = separator i ++ (type_written d t ++ types_written (suc i) d ts)
+
+-- [ types ]
+abbrev pub list_written : ℕ → List Ty → List Lexeme
+list_written d ts = Sign 91 k.LeftBracket ∷ (types_written 0 d ts ++ Sign 93 k.RightBracket ∷ [])
+
+abbrev pub base_written : TBase → Lexeme
+base_written (Reg r) = Register r
+base_written (Int i) = Number i
+base_written (Label l) = LabelName l
+
+abbrev pub args_written : ℕ → List Ty → List Lexeme
+args_written d [] = []
+args_written d (t ∷ ts) = list_written d (t ∷ ts)
+
+abbrev pub value_written : ℕ → TValue → List Lexeme
+value_written d (Plain b ts) = base_written b ∷ args_written d ts
+value_written d (Pack t v s) =
+    Reserved (codes "pack") k.Pack ∷ (Sign 91 k.LeftBracket ∷ (type_written d t ++ (comma ∷ (space ∷ (value_written d v ++ (Sign 93 k.RightBracket ∷ (space ∷ (Reserved (codes "as") k.As ∷ (space ∷ type_written d s)))))))))
+
+abbrev pub op_written : Op → Lexeme
+op_written Add = Reserved (codes "add") k.Add
+op_written Sub = Reserved (codes "sub") k.Sub
+op_written Mul = Reserved (codes "mul") k.Mul
+
+-- reg [ n ]
+abbrev pub place_written : ℕ → ℕ → List Lexeme
+place_written r i = Register r ∷ (Sign 91 k.LeftBracket ∷ (Number (pos i) ∷ (Sign 93 k.RightBracket ∷ [])))
+
+-- unpack [ name , reg ] and a comma
+abbrev pub unpacked_written : ℕ → ℕ → List Lexeme
+unpacked_written d rd = Reserved (codes "unpack") k.Unpack ∷ (Sign 91 k.LeftBracket ∷ (TypeName d ∷ (comma ∷ (space ∷ (Register rd ∷ (Sign 93 k.RightBracket ∷ (comma ∷ (space ∷ []))))))))
+
+abbrev pub instr_written : ℕ → TInstr → List Lexeme
+instr_written d (Arith op rd rs v) = op_written op ∷ (space ∷ (Register rd ∷ (comma ∷ (space ∷ (Register rs ∷ (comma ∷ (space ∷ value_written d v)))))))
+instr_written d (Bnz r v) = Reserved (codes "bnz") k.Bnz ∷ (space ∷ (Register r ∷ (comma ∷ (space ∷ value_written d v))))
+instr_written d (Ld rd rs i) = Reserved (codes "ld") k.Ld ∷ (space ∷ (Register rd ∷ (comma ∷ (space ∷ place_written rs i))))
+instr_written d (Malloc rd ts) = Reserved (codes "malloc") k.Malloc ∷ (space ∷ (Register rd ∷ list_written d ts))
+instr_written d (Mov rd v) = Reserved (codes "mov") k.Mov ∷ (space ∷ (Register rd ∷ (comma ∷ (space ∷ value_written d v))))
+instr_written d (St rd i rs) = Reserved (codes "st") k.St ∷ (space ∷ (place_written rd i ++ (comma ∷ (space ∷ (Register rs ∷ [])))))
+instr_written d (Unpack rd v) = unpacked_written d rd ++ value_written d v
+
+abbrev pub end_written : ℕ → TEnd → List Lexeme
+end_written d (Jmp v) = Reserved (codes "jmp") k.Jmp ∷ (space ∷ value_written d v)
+end_written d Halt = Reserved (codes "halt") k.Halt ∷ (Sign 91 k.LeftBracket ∷ (Reserved (codes "int") k.Int ∷ (Sign 93 k.RightBracket ∷ [])))
+
+-- one line for each instruction, and for the end
+abbrev pub seq_written : ℕ → TSeq → List Lexeme
+seq_written d (Then i rest) = instr_written d i ++ (line_end ∷ seq_written (names_after i d) rest)
+seq_written d (Ends e) = end_written d e ++ line_end ∷ []
+
+abbrev pub block_written : ℕ → TBlock → List Lexeme
+block_written l b =
+    LabelName l ∷ (Sign 58 k.Colon ∷ (space ∷ (Reserved (codes "code") k.Code ∷ (binds_written 0 b.owes ++ (file_written b.owes b.file ++ (Sign 46 k.Dot ∷ (line_end ∷ seq_written b.owes b.code)))))))
+
+-- blocks, with l before them
+abbrev pub blocks_written : ℕ → List TBlock → List Lexeme
+blocks_written l [] = []
+blocks_written l (b ∷ bs) = block_written l b ++ blocks_written (suc l) bs
+
+abbrev pub program_written : List TBlock → List Lexeme
+program_written bs = Reserved (codes "tal") k.Tal ∷ (space ∷ (Digit 1 ∷ (line_end ∷ blocks_written 0 bs)))
 
 -- the text begins with the words of the first version of the language, and a line end
 abbrev pub HasHeader : List ℕ → Type 0

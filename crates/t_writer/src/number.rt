@@ -1,11 +1,11 @@
 // Numbers in decimal.
 ghost use Rattle.std.specs.Prelude.{◌≡◌, ◌++◌, decimal, OnOk};
-ghost use Rattle.t_writer.specs.Written.{number_text};
+ghost use Rattle.t_writer.specs.Lexeme.{number_text};
 
 use idx_core::OutOfMemory;
 use itoa::Buffer;
 
-fn write_natural(text: &mut Vec<u8>, n: u64) -> Result<(), OutOfMemory>
+pub(crate) fn write_natural(text: &mut Vec<u8>, n: u64) -> Result<(), OutOfMemory>
     ensures { OnOk result (text.new.items ≡ text.old.items ++ decimal n) }
 {
     let mut buffer = Buffer::new();

@@ -1,69 +1,78 @@
-// Texts of programs.
-ghost use Rattle.std.specs.Prelude.{◌≡◌, ℤ, [], IfOk};
-ghost use Rattle.t_terms.specs.Tree.{Int, Plain, Mov};
-ghost use Rattle.t_terms.specs.Read.{blocks_of};
-ghost use Rattle.t_terms.specs.Read.{instr as instr_of};
-ghost use Rattle.t_terms.specs.Shapes.{one_move, IsOneMove};
-ghost use Rattle.t_terms.specs.Text.{StandsFor};
-ghost use Rattle.t_writer.specs.Written.{move_text, HasHeader};
+// Blocks and programs.
+ghost use Rattle.std.specs.Prelude.{◌≡◌, ◌++◌, ◌≤◌, ℕ, OnOk, IfOk};
+ghost use Rattle.t_terms.specs.Read.{body as body_of, end_of, block as block_of, blocks_of};
+ghost use Rattle.t_terms.specs.Spanned.{seq_of};
+ghost use Rattle.t_terms.specs.Whole.{WellFormedSeq, WellFormedBlock, WellFormedBlocks};
+ghost use Rattle.t_terms.specs.Text.{most_open, StandsFor};
+ghost use Rattle.t_writer.specs.Ints.{SeqFits, BlocksFit};
+ghost use Rattle.t_writer.specs.Lexeme.{render};
+ghost use Rattle.t_writer.specs.Nesting.{nesting, ReadsBack};
+ghost use Rattle.t_writer.specs.Written.{seq_written, block_written, program_written, HasHeader};
 
-use crate::number::write_integer;
-use idx_core::OutOfMemory;
+use crate::code::{write_end, write_instr};
+use crate::names::{write_binds, write_name};
+use crate::types::write_file;
+use idx_core::{OutOfMemory, Span};
 use std::alloc::Global;
-use t_terms::{Base, Instr, TProgram, Value};
+use t_terms::{Block, End, Instr, TProgram, names_after};
 
-// The integer that an instruction moves to register 1.
-fn moved_by(instr: &Instr) -> i64
-    requires { (i : ℤ) × (instr_of instr.now ≡ Mov 1 (Plain (Int i) [])) }
-    ensures { instr_of instr.now ≡ Mov 1 (Plain (Int result) []) }
+// Instructions and an end inside `depth` type names, a line for each.
+fn write_code(
+    text: &mut Vec<u8>,
+    body: &[(Instr, Span)],
+    end: &End,
+    depth: u64,
+) -> Result<(), OutOfMemory>
+    requires { (blocks : ℕ) × WellFormedSeq blocks depth (seq_of (body_of body.now) (end_of end.now)) }
+    ensures written { OnOk result (text.new.items ≡ text.old.items ++ render (seq_written depth (seq_of (body_of body.now) (end_of end.now)))) }
+    ensures ints { OnOk result (SeqFits (seq_of (body_of body.now) (end_of end.now))) }
 {
-    match instr {
-        Instr::Mov {
-            rd: _,
-            v: Value::Plain {
-                base: Base::Int(value),
-                types: _,
-            },
-        } => *value,
-        _ => unreachable!(),
+    let mut names = depth;
+    for entry in body {
+        write_instr(text, &entry.0, names)?;
+        text.push(b'\n')?;
+        names = names_after(&entry.0, names);
     }
+    write_end(text, end, names)?;
+    text.push(b'\n')?;
+    Ok(())
 }
 
-// The integer that the program moves to register 1.
-fn moved(program: &TProgram) -> i64
-    requires { IsOneMove (blocks_of program.now.blocks.items) }
-    ensures { blocks_of program.now.blocks.items ≡ one_move result }
+// A block by its number: a line for its label and what it takes, and then its code.
+fn write_block(text: &mut Vec<u8>, number: u64, block: &Block) -> Result<(), OutOfMemory>
+    requires { (blocks : ℕ) × WellFormedBlock blocks (block_of block.now) }
+    ensures written { OnOk result (text.new.items ≡ text.old.items ++ render (block_written number (block_of block.now))) }
+    ensures ints { OnOk result (SeqFits (block_of block.now).code) }
 {
-    let block = &program.blocks[0];
-    let entry = &block.body[0];
-    moved_by(&entry.0)
+    write_name(text, b'L', number)?;
+    text.extend_from_slice(b": code")?;
+    write_binds(text, 0, block.owes)?;
+    write_file(text, &block.regs.regs, block.owes)?;
+    text.extend_from_slice(b".\n")?;
+    write_code(text, &block.body, &block.end, block.owes)?;
+    Ok(())
 }
 
-/// A text that stands for the program, places aside. It begins with `tal 1` and a line end. Only a program that
-/// moves one integer to register 1 and halts is written yet.
+/// A text that stands for the program, places aside. It begins with `tal 1` and a line end. Where the program's
+/// nesting keeps the limit on open constructs, the text does, and so it reads as the program.
 pub fn write(alloc: Global, program: &TProgram) -> Result<Vec<u8>, OutOfMemory>
-    requires { IsOneMove (blocks_of program.now.blocks.items) }
     ensures stands { IfOk result (λ text. StandsFor text.items (blocks_of program.now.blocks.items)) }
     ensures header { IfOk result (λ text. HasHeader text.items) }
+    ensures reads { IfOk result (λ text. nesting (blocks_of program.now.blocks.items) ≤ most_open → ReadsBack text.items (blocks_of program.now.blocks.items)) }
 {
-    write_move(alloc, moved(program))
-}
-
-// The text of a move.
-fn move_to_first(alloc: Global, value: i64) -> Result<Vec<u8>, OutOfMemory>
-    ensures { IfOk result (λ text. text.items ≡ move_text value) }
-{
-    let mut text = Vec::from_slice(alloc, b"tal 1\nL0: code[]{}.\nmov r1, ")?;
-    write_integer(&mut text, value)?;
-    text.extend_from_slice(b"\nhalt[int]\n")?;
+    let text = write_blocks(alloc, &program.blocks)?;
     Ok(text)
 }
 
-// A text that stands for a move.
-fn write_move(alloc: Global, value: i64) -> Result<Vec<u8>, OutOfMemory>
-    ensures stands { IfOk result (λ text. StandsFor text.items (one_move value)) }
-    ensures header { IfOk result (λ text. HasHeader text.items) }
+// The blocks in turn, after the words of the first version of the language.
+fn write_blocks(alloc: Global, blocks: &[Block]) -> Result<Vec<u8>, OutOfMemory>
+    requires { (count : ℕ) × WellFormedBlocks count (blocks_of blocks.now) }
+    ensures written { IfOk result (λ text. text.items ≡ render (program_written (blocks_of blocks.now))) }
+    ensures ints { IfOk result (λ _. BlocksFit (blocks_of blocks.now)) }
 {
-    let text = move_to_first(alloc, value)?;
+    let mut text = Vec::from_slice(alloc, b"tal 1\n")?;
+    for (i, block) in blocks.iter().enumerate() {
+        write_block(&mut text, i as u64, block)?;
+    }
     Ok(text)
 }

@@ -1,0 +1,47 @@
+-- Worked programs: their texts, and how many constructs are open in them.
+use Rattle.std.proofs.Common.{◌≡◌, [], ◌∷◌, pos, negsuc, codes, refl, true, false}
+use Rattle.std.specs.Fmt.{digits}
+use Rattle.idx_core.specs.declared.arith.Op.TheVariants.{Mul}
+use Rattle.t_types.specs.Tree.{IntTy, VarTy, CodeTy, ExistsTy, TupleTy, NoRegs, MoreRegs, NoFields, MoreFields}
+use Rattle.t_terms.specs.Tree.{Reg, Int, Label, Plain, Pack, Arith, Bnz, Ld, Malloc, Mov, St, Unpack, Jmp, Halt, Then, Ends, TBlock}
+use Rattle.t_terms.specs.Shapes.{one_move}
+use Rattle.t_writer.specs.Lexeme.{render}
+use Rattle.t_writer.specs.Nesting.{nesting}
+use Rattle.t_writer.specs.Written.{program_written}
+
+-- each instruction once
+abbrev first : TBlock
+first = record {
+  owes = 0;
+  file = NoRegs;
+  code = Then (Malloc 2 (IntTy ∷ (ExistsTy (VarTy 0) ∷ []))) (Then (Mov 1 (Plain (Int (negsuc 4)) [])) (Then (St 2 0 1) (Then (Ld 3 2 0)
+      (Then (Mov 4 (Pack IntTy (Plain (Reg 3) []) (ExistsTy (VarTy 0)))) (Then (Unpack 5 (Plain (Reg 4) [])) (Then (Arith Mul 1 3 (Plain (Int (pos 2)) []))
+      (Then (Bnz 1 (Plain (Label 1) (VarTy 0 ∷ (IntTy ∷ [])))) (Then (Malloc 6 []) (Ends Halt)))))))));
+}
+
+-- two type names, registers and flags
+abbrev second : TBlock
+second = record {
+  owes = 2;
+  file = MoreRegs 1 (VarTy 1) (MoreRegs 2 (CodeTy 1 (MoreRegs 1 (TupleTy (MoreFields (VarTy 0) false (MoreFields (VarTy 1) true NoFields))) NoRegs)) NoRegs);
+  code = Ends (Jmp (Plain (Reg 2) (VarTy 0 ∷ [])));
+}
+
+two_blocks : render (program_written (first ∷ (second ∷ []))) ≡
+    codes "tal 1\nL0: code[]{}.\nmalloc r2[int, some T0. T0]\nmov r1, ~5\nst r2[0], r1\nld r3, r2[0]\nmov r4, pack[int, r3] as some T0. T0\nunpack[T0, r5], r4\nmul r1, r3, 2\nbnz r1, L1[T0, int]\nmalloc r6[]\nhalt[int]\nL1: code[T0, T1]{r1:T0, r2:all[T2]{r1:<T2^0, T1^1>}}.\njmp r2[T1]\n"
+unfolding digits
+two_blocks = refl
+
+-- the brackets of `malloc`, and `some` in them; the braces of the file, those of its code type, and the tuple's angles
+first_nesting : nesting (first ∷ []) ≡ 2
+first_nesting = refl
+
+second_nesting : nesting (second ∷ []) ≡ 3
+second_nesting = refl
+
+move_nesting : nesting (one_move (pos 7)) ≡ 1
+move_nesting = refl
+
+-- packages: the hidden type and the value are in brackets, and the last type is not
+pack_nesting : nesting (record { owes = 0; file = NoRegs; code = Ends (Jmp (Pack IntTy (Pack IntTy (Plain (Int (pos 0)) []) IntTy) (ExistsTy (ExistsTy (ExistsTy IntTy))))) } ∷ []) ≡ 3
+pack_nesting = refl

@@ -1,0 +1,197 @@
+-- Blocks and programs that are written stand for themselves.
+use Rattle.std.proofs.Common.{◌≡◌, ◌≤◌, ◌<◌, ◌^◌, ℕ, suc, ◌+◌, List, [], ◌∷◌, ◌++◌, length, map, codes, Bool, true, refl, sym, ap, ap₂, ◌∙◌, arith, subst, append_assoc, zero-add}
+use Rattle.std.proofs.lemmas.List.{append-nil}
+use Rattle.idx_core.specs.declared.span.Span.{Span}
+use Rattle.idx_core.specs.Names.{Name}
+use Rattle.t_types.specs.WellFormed.{max_names}
+use Rattle.t_terms.specs.declared.token.Kind.TheVariants as k
+use Rattle.t_terms.specs.declared.token.Token.{Token}
+use Rattle.t_terms.specs.Tree.{TSeq, Then, Ends, TBlock}
+use Rattle.t_terms.specs.Tree as tree_of
+use Rattle.t_terms.specs.Spanned.{seq_of, plain, plain_blocks}
+use Rattle.t_terms.specs.Raw.{RawInstr, RawEnd, RawBlock}
+use Rattle.t_terms.specs.Grammar.{Is, is_none, is_more, End, Block, b_block, Blocks, bs_one, bs_more, Program, p_program}
+use Rattle.t_terms.specs.Names.{spelled, bind, names_after_all, body_of, end_of, block_of, labels_of, program_of}
+use Rattle.t_terms.specs.NameFaults.{body_faults, end_faults, block_faults, blocks_faults, program_faults}
+use Rattle.t_terms.specs.Whole.{WellFormedSeq, WellFormedBlock, WellFormedBlocks, Whole}
+use Rattle.t_terms.specs.Text.{StandsFor}
+use Rattle.t_writer.specs.Ints.{SeqFits, BlocksFit}
+use Rattle.t_writer.specs.Lexeme.{Lexeme, Reserved, LabelName, Digit, Sign, bytes, render}
+use Rattle.t_writer.specs.Written.{line_end, binds_written, file_written, instr_written, end_written, seq_written, block_written, blocks_written, program_written}
+use Rattle.t_writer.proofs.Placed as placing
+use Rattle.t_writer.proofs.Placed.{size, placed, placed_append, cut_placed, stops, Fine, fine_append, Written, written_append, written_at}
+use Rattle.t_writer.proofs.Scopes.{label_name, labels_from, before, not_before, scope}
+use Rattle.t_writer.proofs.WroteTypes.{wrote_binds, wrote_file}
+use Rattle.t_writer.proofs.WroteCode.{labels, wrote_instr, wrote_end}
+
+-- one block more, and then others
+blocks_along : (u x y : List Token) (rs more : List RawBlock) (r : RawBlock) → Blocks ((u ++ x) ++ y) ((rs ++ r ∷ []) ++ more) → Blocks (u ++ (x ++ y)) (rs ++ r ∷ more)
+blocks_along u x y rs more r h = simp append_assoc at h
+
+module _ (text : List ℕ) (p : ℕ) (few : p ≤ 2 ^ 64) where
+  abbrev names : List Name
+  names = labels text p few
+
+  -- instructions and an end, each on its line
+  record WroteSeq (i d : ℕ) (c : TSeq) : Type 0 where
+    body : List (RawInstr × Span)
+    last : RawEnd × Span
+    code : List Token
+    tail : List Token
+    at : placed i (seq_written d c) ≡ code ++ tail
+    extend : (u : List Token) (is : List (RawInstr × Span)) → Is u is → Is (u ++ code) (is ++ body)
+    ends : End tail last
+    fine : (b : Bool) → Fine (seq_written d c) b
+    means : seq_of (body_of text names (scope d) body) (end_of text names (names_after_all text body (scope d)) last.0) ≡ c
+    none : body_faults text names (scope d) body ≡ []
+    none_last : end_faults text names (names_after_all text body (scope d)) last.0 ≡ []
+
+  wrote_seq : (i d : ℕ) (c : TSeq) → d ≤ max_names → WellFormedSeq p d c → SeqFits c → Written text i (seq_written d c) → WroteSeq i d c
+  wrote_seq i d (Ends e) n h f w =
+      let r = wrote_end text p few i d e n h f (written_append text i (end_written d e) (line_end ∷ []) w).0 in
+      record {
+        body = [];
+        last = r.raw;
+        code = [];
+        tail = placed i (end_written d e);
+        at = placed_append i (end_written d e) (line_end ∷ []) ∙ append-nil (placed i (end_written d e));
+        extend = λ u is x. rw (append-nil, append-nil) x;
+        ends = r.whole;
+        fine = λ b. fine_append (end_written d e) (line_end ∷ []) b r.fine (refl, tt, tt);
+        means = ap Ends r.means;
+        none = refl;
+        none_last = r.none;
+      }
+  wrote_seq i d (Then x c) n h f w =
+      let d' = tree_of.names_after x d in
+      let rest = line_end ∷ seq_written d' c in
+      let j = i + size (instr_written d x) in
+      let v = written_append text i (instr_written d x) rest w in
+      let a = wrote_instr text p few i d x n h.0 f.0 v.0 in
+      let r = wrote_seq (j + 1) d' c h.1 h.2 f.1 v.1.1 in
+      record {
+        body = a.raw ∷ r.body;
+        last = r.last;
+        code = placed i (instr_written d x) ++ r.code;
+        tail = r.tail;
+        at = placed_append i (instr_written d x) rest ∙ (ap (λ (ts : List Token). placed i (instr_written d x) ++ ts) r.at ∙ sym (append_assoc (placed i (instr_written d x)) r.code r.tail));
+        extend = λ u is y. simp append_assoc at (r.extend (u ++ placed i (instr_written d x)) (is ++ a.raw ∷ []) (is_more y a.whole));
+        ends = r.ends;
+        fine = λ b. fine_append (instr_written d x) rest b a.fine (refl, tt, r.fine b);
+        means = rw (a.means, a.after) (ap (Then x) r.means);
+        none = rw (a.none, a.after) r.none;
+        none_last = rw a.after r.none_last;
+      }
+
+  record WroteBlock (l i : ℕ) (b : TBlock) : Type 0 where
+    raw : RawBlock
+    whole : Block (placed i (block_written l b)) raw
+    fine : (x : Bool) → Fine (block_written l b) x
+    means : plain (block_of text names raw) ≡ b
+    none : block_faults text names raw ≡ []
+    name : spelled text raw.name ≡ label_name l
+
+  wrote_block : (l i : ℕ) (b : TBlock) → l < 2 ^ 64 → WellFormedBlock p b → SeqFits b.code → Written text i (block_written l b) → WroteBlock l i b
+  wrote_block l i b small h f w =
+      let bs = binds_written 0 b.owes in
+      let fs = file_written b.owes b.file in
+      let code = seq_written b.owes b.code in
+      let dot = Sign 46 k.Dot ∷ (line_end ∷ code) in
+      let s = placing.place_of i (LabelName l) in
+      let j = i + length (bytes (LabelName l)) + 1 + 1 + 4 in
+      let m = j + size bs in
+      let q = m + size fs in
+      let x = written_append text j bs (fs ++ dot) w.1.1.1.1 in
+      let y = written_append text m fs dot x.1 in
+      let a = wrote_binds j 0 b.owes (omega (arith, h.0)) in
+      let file = wrote_file text m b.owes b.file h.0 h.1 y.0 in
+      let c = wrote_seq (q + 1 + 1) b.owes b.code h.0 h.2 f y.1.1.1 in
+      let e : bind text a.spans [] ≡ scope b.owes = a.bound text x.0 ∙ ap scope (zero-add b.owes) in
+      record {
+        raw = record { name = s; names = a.spans; file = file.piece.tree; body = c.body; last = c.last };
+        whole = rw (placed_append j bs (fs ++ dot), placed_append m fs dot, c.at)
+            (b_block s (placing.place_of (i + length (bytes (LabelName l))) (Sign 58 k.Colon)) (placing.place_of (i + length (bytes (LabelName l)) + 1 + 1) (Reserved (codes "code") k.Code)) (placing.place_of q (Sign 46 k.Dot))
+            a.whole file.whole (c.extend [] [] is_none) c.ends);
+        fine = λ x. (
+          small,
+          refl,
+          (
+            (refl, refl, tt),
+            tt,
+            (
+              refl,
+              tt,
+              (
+                (refl, refl, tt),
+                refl,
+                fine_append bs (fs ++ dot) x (a.fine true) (fine_append fs dot x (file.fine true) ((refl, refl, tt), tt, (refl, tt, c.fine x))),
+              ),
+            ),
+          ),
+        );
+        means = rw (a.count, e, file.means, c.means) refl;
+        none = rw (e, file.none, c.none, c.none_last) refl;
+        name = w.0;
+      }
+
+  -- blocks after the first
+  record MoreBlocks (l i : ℕ) (bs : List TBlock) : Type 0 where
+    raw : List RawBlock
+    extend : (u : List Token) (rs : List RawBlock) → Blocks u rs → Blocks (u ++ placed i (blocks_written l bs)) (rs ++ raw)
+    fine : (x : Bool) → Fine (blocks_written l bs) x
+    means : plain_blocks (map (block_of text names) raw) ≡ bs
+    spell : labels_of text raw ≡ labels_from l (length bs)
+    none : blocks_faults text names (before l) raw ≡ []
+
+  more_blocks : (l i : ℕ) (bs : List TBlock) → l + length bs ≤ 2 ^ 64 → WellFormedBlocks p bs → BlocksFit bs → Written text i (blocks_written l bs) → MoreBlocks l i bs
+  more_blocks l i [] small h f w = record {
+    raw = [];
+    extend = λ u rs x. rw (append-nil, append-nil) x;
+    fine = λ x. tt;
+    means = refl;
+    spell = refl;
+    none = refl;
+  }
+  more_blocks l i (b ∷ bs) small h f w =
+      let v = written_append text i (block_written l b) (blocks_written (suc l) bs) w in
+      let a = wrote_block l i b (omega arith) h.0 f.0 v.0 in
+      let r = more_blocks (suc l) (i + size (block_written l b)) bs (omega arith) h.1 f.1 v.1 in
+      record {
+        raw = a.raw ∷ r.raw;
+        extend = λ u rs x. rw (placed_append i (block_written l b) (blocks_written (suc l) bs))
+            (blocks_along u (placed i (block_written l b)) (placed (i + size (block_written l b)) (blocks_written (suc l) bs)) rs r.raw a.raw (r.extend _ _ (bs_more x a.whole)));
+        fine = λ x. fine_append (block_written l b) (blocks_written (suc l) bs) x (a.fine (stops (blocks_written (suc l) bs) x)) (r.fine x);
+        means = ap₂ (λ (c : TBlock) (cs : List TBlock). c ∷ cs) a.means r.means;
+        spell = ap₂ (λ (x : Name) (xs : List Name). x ∷ xs) a.name r.spell;
+        none = rw (a.name, not_before l l (omega arith) (omega arith), a.none) r.none;
+      }
+
+-- the whole text
+module _ (text : List ℕ) (b : TBlock) (bs : List TBlock) (few : length (b ∷ bs) ≤ 2 ^ 64) (h : Whole (b ∷ bs)) (f : BlocksFit (b ∷ bs)) (e : text ≡ render (program_written (b ∷ bs))) where
+  abbrev ls : List Lexeme
+  ls = program_written (b ∷ bs)
+
+  abbrev here : List Name
+  here = labels text (length (b ∷ bs)) few
+
+  at_place : Written text 6 (blocks_written 0 (b ∷ bs))
+  at_place = (written_at text 0 ls [] (e ∙ sym (append-nil (render ls)))).1.1.1.1
+
+  pub stands_for : StandsFor text (b ∷ bs)
+  stands_for =
+      let rest = blocks_written 1 bs in
+      let v = written_append text 6 (block_written 0 b) rest at_place in
+      let a = wrote_block text (length (b ∷ bs)) few 0 6 b (omega arith) h.1.0 f.0 v.0 in
+      let r = more_blocks text (length (b ∷ bs)) few 1 (6 + size (block_written 0 b)) bs (omega arith) h.1.1 f.1 v.1 in
+      let raw = a.raw ∷ r.raw in
+      let spell : labels_of text raw ≡ here = ap₂ (λ (x : Name) (xs : List Name). x ∷ xs) a.name r.spell in
+      let fine : Fine ls true = ((refl, refl, tt), refl, (refl, tt, (omega arith, refl, (refl, tt, fine_append (block_written 0 b) rest true (a.fine (stops rest true)) (r.fine true))))) in
+      let shape : Program (placed 0 ls) raw = rw (placed_append 6 (block_written 0 b) rest)
+      (p_program (placing.place_of 0 (Reserved (codes "tal") k.Tal)) (placing.place_of 4 (Digit 1)) (r.extend _ (a.raw ∷ []) (bs_one a.whole))) in
+      let named : program_faults text raw ≡ [] = subst (λ (ns : List Name). blocks_faults text ns [] raw ≡ []) (sym spell) (rw (a.none, a.name) r.none) in
+      let means : plain_blocks (program_of text raw) ≡ b ∷ bs = subst (λ (ns : List Name). plain_blocks (map (block_of text ns) raw) ≡ b ∷ bs) (sym spell) (ap₂ (λ (c : TBlock) (cs : List TBlock). c ∷ cs) a.means r.means) in
+      (program_of text raw, record { tokens = placed 0 ls; cut = rw e (cut_placed 0 ls fine); raw = raw; shape = shape; named = named; is = refl }, means)
+
+pub written_stands : (text : List ℕ) (bs : List TBlock) → length bs ≤ 2 ^ 64 → Whole bs → BlocksFit bs → text ≡ render (program_written bs) → StandsFor text bs
+written_stands text [] few h f e = absurd (omega (arith, h.0))
+written_stands text (b ∷ bs) few h f e = stands_for text b bs few h f e

@@ -1,0 +1,287 @@
+-- A value, an instruction and an end that are written stand for themselves, where the names around them are those of
+-- their depth and the labels those of the blocks in turn.
+use Rattle.std.proofs.Common.{◌≡◌, ◌≤◌, ◌^◌, pos, negsuc, ℕ, ◌+◌, ◌-◌, List, [], ◌∷◌, ◌++◌, length, codes, true, refl, sym, ap, ap₂, ◌∙◌, arith}
+use Rattle.std.proofs.lemmas.Int.{ints}
+use Rattle.idx_core.specs.declared.span.Span.{Span}
+use Rattle.idx_core.specs.declared.arith.Op.{Op}
+use Rattle.idx_core.specs.declared.arith.Op.TheVariants.{Add, Sub, Mul}
+use Rattle.idx_core.specs.Names.{Name}
+use Rattle.t_types.specs.Tree.{Ty}
+use Rattle.t_types.specs.WellFormed.{max_names, max_number}
+use Rattle.t_terms.specs.declared.token.Kind.{Kind}
+use Rattle.t_terms.specs.declared.token.Kind.TheVariants as k
+use Rattle.t_terms.specs.declared.token.Token.{Token}
+use Rattle.t_terms.specs.Tree.{TBase, Reg, Int, Label, TValue, Plain, Pack, TInstr, Arith, Bnz, Ld, Malloc, Mov, St, Unpack, TEnd, Jmp, Halt}
+use Rattle.t_terms.specs.Tree as tree_of
+use Rattle.t_terms.specs.Raw.{RawBase, RReg, RNum, RLabel, RawValue, RPlain, RPack, RawInstr, RArith, RBnz, RLd, RMalloc, RMov, RSt, RUnpack, RawEnd, RJmp, RHalt, Piece, ending, up_to}
+use Rattle.t_terms.specs.Grammar.{tok, N, n_reg, n_plain, n_negative, n_label, V, v_base, v_apply, v_pack, IsOp, is_add, is_sub, is_mul, I, i_arith, i_bnz, i_ld, i_malloc_none, i_malloc, i_mov, i_st, i_unpack, End, e_jmp, e_halt}
+use Rattle.t_terms.specs.Names.{spelled, base_of, value_of, instr_of, names_after, end_of}
+use Rattle.t_terms.specs.NameFaults.{base_faults, value_faults, instr_faults, end_faults}
+use Rattle.t_terms.specs.Whole.{WellFormedBase, WellFormedValue, WellFormedInstr, WellFormedEnd}
+use Rattle.t_writer.specs.Ints.{IntFits, BaseFits, ValueFits, InstrFits, EndFits}
+use Rattle.t_writer.specs.Lexeme.{Lexeme, Reserved, TypeName, LabelName, Register, Number, Sign, bytes}
+use Rattle.t_writer.specs.Written.{comma, space, type_written, types_written, list_written, base_written, value_written, op_written, instr_written, end_written}
+use Rattle.t_writer.proofs.Items.{Valid}
+use Rattle.t_writer.proofs.Placed as placing
+use Rattle.t_writer.proofs.Placed.{size, placed, token_of, placed_append, stops, Follows, Fine, fine_append, Written, written_append}
+use Rattle.t_writer.proofs.Scopes.{labels_from, scope, scope_next, Found, in_labels}
+use Rattle.t_writer.proofs.WroteTypes.{wrote_type, wrote_types}
+
+-- where a register ends that stands at a place
+abbrev after_reg : ℕ → ℕ → ℕ
+after_reg i r = i + length (bytes (Register r))
+
+-- a field's number
+number_fits : (n : ℕ) → n ≤ max_number → IntFits (pos n)
+number_fits n h = (omega (arith, ints), omega (arith, ints))
+
+-- the word of an operation
+record WroteOp (i : ℕ) (op : Op) : Type 0 where
+  kind : Kind
+  at : token_of i (op_written op) ≡ tok kind (placing.place_of i (op_written op)) ∷ []
+  is : IsOp kind op
+  valid : Valid (op_written op)
+  follows : (ls : List Lexeme) → Follows (op_written op) (space ∷ ls) true
+
+wrote_op : (i : ℕ) (op : Op) → WroteOp i op
+wrote_op i Add = record { kind = k.Add; at = refl; is = is_add; valid = (refl, refl, tt); follows = λ ls. refl }
+wrote_op i Sub = record { kind = k.Sub; at = refl; is = is_sub; valid = (refl, refl, tt); follows = λ ls. refl }
+wrote_op i Mul = record { kind = k.Mul; at = refl; is = is_mul; valid = (refl, refl, tt); follows = λ ls. refl }
+
+-- in a program of p blocks
+module _ (text : List ℕ) (p : ℕ) (few : p ≤ 2 ^ 64) where
+  abbrev pub labels : List Name
+  labels = labels_from 0 p
+
+  record WroteBase (i : ℕ) (b : TBase) : Type 0 where
+    token : Token
+    raw : RawBase
+    at : token_of i (base_written b) ≡ token ∷ []
+    whole : N token raw
+    valid : Valid (base_written b)
+    follows : (ls : List Lexeme) → stops ls true ≡ true → Follows (base_written b) ls true
+    means : base_of text labels raw ≡ b
+    none : base_faults text labels raw ≡ []
+
+  wrote_base : (i : ℕ) (b : TBase) → WellFormedBase p b → BaseFits b → Written text i (base_written b ∷ []) → WroteBase i b
+  wrote_base i (Reg r) h f w = record {
+    token = tok (k.Register r) (placing.place_of i (Register r));
+    raw = RReg r;
+    at = refl;
+    whole = n_reg r (placing.place_of i (Register r));
+    valid = h;
+    follows = λ ls e. e;
+    means = refl;
+    none = refl;
+  }
+  wrote_base i (Int (pos n)) h f w = record {
+    token = tok (k.Plain (pos n)) (placing.place_of i (Number (pos n)));
+    raw = RNum (pos n);
+    at = refl;
+    whole = n_plain (pos n) (placing.place_of i (Number (pos n)));
+    valid = f;
+    follows = λ ls e. e;
+    means = refl;
+    none = refl;
+  }
+  wrote_base i (Int (negsuc n)) h f w = record {
+    token = tok (k.Negative (negsuc n)) (placing.place_of i (Number (negsuc n)));
+    raw = RNum (negsuc n);
+    at = refl;
+    whole = n_negative (negsuc n) (placing.place_of i (Number (negsuc n)));
+    valid = f;
+    follows = λ ls e. e;
+    means = refl;
+    none = refl;
+  }
+  wrote_base i (Label l) h f w =
+      let s = placing.place_of i (LabelName l) in
+      let g : Found (spelled text s) labels (l - 0) = rw w.0 (in_labels 0 p l (omega arith) (omega arith) (omega arith)) in
+      record {
+        token = tok k.Name s;
+        raw = RLabel s;
+        at = refl;
+        whole = n_label s;
+        valid = omega arith;
+        follows = λ ls e. e;
+        means = let e : l - 0 ≡ l = omega arith in ap Label (g.at ∙ e);
+        none = rw g.among refl;
+      }
+
+  pub record WroteValue (i d : ℕ) (v : TValue) : Type 0 where
+    pub piece : Piece RawValue
+    pub whole : V (placed i (value_written d v)) piece
+    pub fine : Fine (value_written d v) true
+    pub means : value_of text labels (scope d) piece.tree ≡ v
+    pub none : value_faults text labels (scope d) piece.tree ≡ []
+
+  pub wrote_value : (i d : ℕ) (v : TValue) → d ≤ max_names → WellFormedValue p d v → ValueFits v → Written text i (value_written d v) → WroteValue i d v
+  wrote_value i d (Plain b []) n h f w =
+      let a = wrote_base i b h.0 f (w.0, tt) in
+      record {
+        piece = ending (RPlain a.raw []) a.token.span.end;
+        whole = rw a.at (v_base a.whole);
+        fine = (a.valid, a.follows [] refl, tt);
+        means = ap (λ (x : TBase). Plain x []) a.means;
+        none = rw a.none refl;
+      }
+  wrote_value i d (Plain b (t ∷ ts)) n h f w =
+      let last = Sign 93 k.RightBracket ∷ [] in
+      let ls = types_written 0 d (t ∷ ts) in
+      let j = i + length (bytes (base_written b)) + 1 in
+      let a = wrote_base i b h.0 f (w.0, tt) in
+      let r = wrote_types text j d t ts n h.1 (written_append text j ls last w.1.1).0 in
+      let o = placing.place_of (i + length (bytes (base_written b))) (Sign 91 k.LeftBracket) in
+      let c = placing.place_of (j + size ls) (Sign 93 k.RightBracket) in
+      record {
+        piece = ending (RPlain a.raw r.raw) c.end;
+        whole = rw (a.at, placed_append j ls last) (v_apply o c a.whole r.whole);
+        fine = (a.valid, a.follows (list_written d (t ∷ ts)) refl, ((refl, refl, tt), tt, fine_append ls last true r.fine ((refl, refl, tt), tt, tt)));
+        means = ap₂ (λ (x : TBase) (us : List Ty). Plain x us) a.means r.means;
+        none = rw (a.none, r.none) refl;
+      }
+  wrote_value i d (Pack t v s) n h f w =
+      let last = Sign 93 k.RightBracket ∷ (space ∷ (Reserved (codes "as") k.As ∷ (space ∷ type_written d s))) in
+      let rest = comma ∷ (space ∷ (value_written d v ++ last)) in
+      let j = i + 4 + 1 in
+      let c = j + size (type_written d t) in
+      let m = c + 1 + 1 in
+      let e = m + size (value_written d v) in
+      let x = written_append text j (type_written d t) rest w.1.1 in
+      let y = written_append text m (value_written d v) last x.1.1.1 in
+      let a = wrote_type text j d t n h.0 x.0 in
+      let b = wrote_value m d v n h.1 f y.0 in
+      let r = wrote_type text (e + 1 + 1 + 2 + 1) d s n h.2 y.1.1.1.1.1 in
+      record {
+        piece = ending (RPack a.piece.tree b.piece.tree r.piece.tree) r.piece.end;
+        whole = rw (placed_append j (type_written d t) rest, placed_append m (value_written d v) last) (v_pack _ _ _ _ _ a.whole b.whole r.whole);
+        fine = (
+          (refl, refl, tt),
+          refl,
+          (
+            (refl, refl, tt),
+            tt,
+            fine_append (type_written d t) rest true a.fine
+                ((refl, refl, tt), tt, (refl, tt, fine_append (value_written d v) last true b.fine ((refl, refl, tt), tt, (refl, tt, ((refl, refl, tt), refl, (refl, tt, r.fine)))))),
+          ),
+        );
+        means = rw (a.means, b.means, r.means) refl;
+        none = rw (a.none, b.none, r.none) refl;
+      }
+
+  pub record WroteInstr (i d : ℕ) (x : TInstr) : Type 0 where
+    pub raw : RawInstr × Span
+    pub whole : I (placed i (instr_written d x)) raw
+    pub fine : Fine (instr_written d x) true
+    pub means : instr_of text labels (scope d) raw.0 ≡ x
+    pub none : instr_faults text labels (scope d) raw.0 ≡ []
+    pub after : names_after text raw.0 (scope d) ≡ scope (tree_of.names_after x d)
+
+  pub wrote_instr : (i d : ℕ) (x : TInstr) → d ≤ max_names → WellFormedInstr p d x → InstrFits x → Written text i (instr_written d x) → WroteInstr i d x
+  wrote_instr i d (Arith op rd rs v) n h f w =
+      let o = wrote_op i op in
+      let a = i + length (bytes (op_written op)) in
+      let j = after_reg (after_reg (a + 1) rd + 1 + 1) rs + 1 + 1 in
+      let r = wrote_value j d v n h.2 f w.1.1.1.1.1.1.1.1 in
+      record {
+        raw = (RArith op rd rs r.piece.tree, up_to (placing.place_of i (op_written op)) r.piece.end);
+        whole = rw o.at (i_arith _ _ _ _ _ rd rs o.is r.whole);
+        fine = (o.valid, o.follows _, (refl, tt, (h.0, refl, ((refl, refl, tt), tt, (refl, tt, (h.1, refl, ((refl, refl, tt), tt, (refl, tt, r.fine))))))));
+        means = ap (Arith op rd rs) r.means;
+        none = r.none;
+        after = refl;
+      }
+  wrote_instr i d (Bnz x v) n h f w =
+      let r = wrote_value (after_reg (i + 3 + 1) x + 1 + 1) d v n h.1 f w.1.1.1.1.1 in
+      record {
+        raw = (RBnz x r.piece.tree, up_to (placing.place_of i (Reserved (codes "bnz") k.Bnz)) r.piece.end);
+        whole = i_bnz _ _ _ x r.whole;
+        fine = ((refl, refl, tt), refl, (refl, tt, (h.0, refl, ((refl, refl, tt), tt, (refl, tt, r.fine)))));
+        means = ap (Bnz x) r.means;
+        none = r.none;
+        after = refl;
+      }
+  wrote_instr i d (Ld rd rs x) n h f w = record {
+    raw = (RLd rd rs x, up_to (placing.place_of i (Reserved (codes "ld") k.Ld)) (after_reg (after_reg (i + 2 + 1) rd + 1 + 1) rs + 1 + length (bytes (Number (pos x))) + 1));
+    whole = i_ld _ _ _ _ _ _ _ rd rs (pos x);
+    fine = ((refl, refl, tt), refl, (refl, tt, (h.0, refl, ((refl, refl, tt), tt, (refl, tt, (h.1, refl, ((refl, refl, tt), tt, (number_fits x h.2, refl, ((refl, refl, tt), tt, tt)))))))));
+    means = refl;
+    none = refl;
+    after = refl;
+  }
+  wrote_instr i d (Malloc rd []) n h f w = record {
+    raw = (RMalloc rd [], up_to (placing.place_of i (Reserved (codes "malloc") k.Malloc)) (after_reg (i + 6 + 1) rd + 1 + 1));
+    whole = i_malloc_none _ _ _ _ rd;
+    fine = ((refl, refl, tt), refl, (refl, tt, (h.0, refl, ((refl, refl, tt), tt, ((refl, refl, tt), tt, tt)))));
+    means = refl;
+    none = refl;
+    after = refl;
+  }
+  wrote_instr i d (Malloc rd (t ∷ ts)) n h f w =
+      let last = Sign 93 k.RightBracket ∷ [] in
+      let ls = types_written 0 d (t ∷ ts) in
+      let j = after_reg (i + 6 + 1) rd + 1 in
+      let r = wrote_types text j d t ts n h.1 (written_append text j ls last w.1.1.1.1).0 in
+      record {
+        raw = (RMalloc rd r.raw, up_to (placing.place_of i (Reserved (codes "malloc") k.Malloc)) (j + size ls + 1));
+        whole = rw (placed_append j ls last) (i_malloc _ _ _ _ rd r.whole);
+        fine = ((refl, refl, tt), refl, (refl, tt, (h.0, refl, ((refl, refl, tt), tt, fine_append ls last true r.fine ((refl, refl, tt), tt, tt)))));
+        means = ap (Malloc rd) r.means;
+        none = r.none;
+        after = refl;
+      }
+  wrote_instr i d (Mov rd v) n h f w =
+      let r = wrote_value (after_reg (i + 3 + 1) rd + 1 + 1) d v n h.1 f w.1.1.1.1.1 in
+      record {
+        raw = (RMov rd r.piece.tree, up_to (placing.place_of i (Reserved (codes "mov") k.Mov)) r.piece.end);
+        whole = i_mov _ _ _ rd r.whole;
+        fine = ((refl, refl, tt), refl, (refl, tt, (h.0, refl, ((refl, refl, tt), tt, (refl, tt, r.fine)))));
+        means = ap (Mov rd) r.means;
+        none = r.none;
+        after = refl;
+      }
+  wrote_instr i d (St rd x rs) n h f w = record {
+    raw = (RSt rd x rs, up_to (placing.place_of i (Reserved (codes "st") k.St)) (after_reg (after_reg (i + 2 + 1) rd + 1 + length (bytes (Number (pos x))) + 1 + 1 + 1) rs));
+    whole = i_st _ _ _ _ _ _ _ rd rs (pos x);
+    fine = ((refl, refl, tt), refl, (refl, tt, (h.0, refl, ((refl, refl, tt), tt, (number_fits x h.1, refl, ((refl, refl, tt), tt, ((refl, refl, tt), tt, (refl, tt, (h.2, refl, tt)))))))));
+    means = refl;
+    none = refl;
+    after = refl;
+  }
+  wrote_instr i d (Unpack rd v) n h f w =
+      let s = placing.place_of (i + 6 + 1) (TypeName d) in
+      let b = i + 6 + 1 + length (bytes (TypeName d)) + 1 + 1 in
+      let r = wrote_value (after_reg b rd + 1 + 1 + 1) d v n h.1 f w.1.1.1.1.1.1.1.1.1 in
+      record {
+        raw = (RUnpack s rd r.piece.tree, up_to (placing.place_of i (Reserved (codes "unpack") k.Unpack)) r.piece.end);
+        whole = i_unpack _ _ _ _ _ _ _ rd r.whole;
+        fine = ((refl, refl, tt), refl, ((refl, refl, tt), tt, (omega arith, refl, ((refl, refl, tt), tt, (refl, tt, (h.0, refl, ((refl, refl, tt), tt, ((refl, refl, tt), tt, (refl, tt, r.fine)))))))));
+        means = ap (Unpack rd) r.means;
+        none = r.none;
+        after = ap (λ (x : Name). x ∷ scope d) w.1.1.0 ∙ sym (scope_next d);
+      }
+
+  pub record WroteEnd (i d : ℕ) (e : TEnd) : Type 0 where
+    pub raw : RawEnd × Span
+    pub whole : End (placed i (end_written d e)) raw
+    pub fine : Fine (end_written d e) true
+    pub means : end_of text labels (scope d) raw.0 ≡ e
+    pub none : end_faults text labels (scope d) raw.0 ≡ []
+
+  pub wrote_end : (i d : ℕ) (e : TEnd) → d ≤ max_names → WellFormedEnd p d e → EndFits e → Written text i (end_written d e) → WroteEnd i d e
+  wrote_end i d (Jmp v) n h f w =
+      let r = wrote_value (i + 3 + 1) d v n h f w.1.1 in
+      record {
+        raw = (RJmp r.piece.tree, up_to (placing.place_of i (Reserved (codes "jmp") k.Jmp)) r.piece.end);
+        whole = e_jmp _ r.whole;
+        fine = ((refl, refl, tt), refl, (refl, tt, r.fine));
+        means = ap Jmp r.means;
+        none = r.none;
+      }
+  wrote_end i d Halt n h f w = record {
+    raw = (RHalt, up_to (placing.place_of i (Reserved (codes "halt") k.Halt)) (i + 4 + 1 + 3 + 1));
+    whole = e_halt _ _ _ _;
+    fine = ((refl, refl, tt), refl, ((refl, refl, tt), tt, ((refl, refl, tt), refl, ((refl, refl, tt), tt, tt))));
+    means = refl;
+    none = refl;
+  }

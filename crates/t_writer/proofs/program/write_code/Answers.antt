@@ -1,0 +1,12 @@
+use Rattle.t_terms.specs.Read.{end_of}
+use Rattle.t_writer.proofs.Coded.{coding_more, coding_end}
+use Rattle.t_writer.proofs.program.write_code.Goals as goal
+
+pub loop-entry-preserved : goal.loop-entry-preserved
+loop-entry-preserved c =
+    coding_more c.args.body.now (end_of c.args.end.now) c.loop-entry.entry-index c.loop-entry.names _ _ _ c.loop-entry.invariant c.entry-item.result c.entry-item.is c.loop-entry-test.true _ _ _
+    c.in_ok-write_instr.ensures.written c.in_ok-push.ensures.items c.names_after-names.ensures c.in_ok-write_instr.ensures.ints
+
+pub returns-clause-written : goal.returns-clause-written
+returns-clause-written c =
+    coding_end c.args.body.now (end_of c.args.end.now) c.loop-entry.entry-index c.loop-entry.names _ _ _ c.loop-entry.invariant c.loop-entry-test.false _ _ c.in_ok-write_end.ensures.written c.in_ok-push-2.ensures.items

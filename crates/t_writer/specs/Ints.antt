@@ -1,0 +1,36 @@
+-- The integers of a program have 64 bits.
+use Rattle.std.specs.Prelude.{◌≤ℤ◌, ℤ, pos, negsuc, List, [], ◌∷◌}
+use Rattle.t_terms.specs.Tree.{TBase, Reg, Int, Label, TValue, Plain, Pack, TInstr, Arith, Bnz, Ld, Malloc, Mov, St, Unpack, TEnd, Jmp, Halt, TSeq, Then, Ends, TBlock}
+
+abbrev pub IntFits : ℤ → Type 0
+IntFits z = (negsuc 9223372036854775807 ≤ℤ z) × (z ≤ℤ pos 9223372036854775807)
+
+abbrev pub BaseFits : TBase → Type 0
+BaseFits (Reg r) = Unit {0}
+BaseFits (Int i) = IntFits i
+BaseFits (Label l) = Unit {0}
+
+abbrev pub ValueFits : TValue → Type 0
+ValueFits (Plain b ts) = BaseFits b
+ValueFits (Pack t v s) = ValueFits v
+
+abbrev pub InstrFits : TInstr → Type 0
+InstrFits (Arith op rd rs v) = ValueFits v
+InstrFits (Bnz r v) = ValueFits v
+InstrFits (Ld rd rs i) = Unit {0}
+InstrFits (Malloc rd ts) = Unit {0}
+InstrFits (Mov rd v) = ValueFits v
+InstrFits (St rd i rs) = Unit {0}
+InstrFits (Unpack rd v) = ValueFits v
+
+abbrev pub EndFits : TEnd → Type 0
+EndFits (Jmp v) = ValueFits v
+EndFits Halt = Unit {0}
+
+abbrev pub SeqFits : TSeq → Type 0
+SeqFits (Then i rest) = InstrFits i × SeqFits rest
+SeqFits (Ends e) = EndFits e
+
+abbrev pub BlocksFit : List TBlock → Type 0
+BlocksFit [] = Unit {0}
+BlocksFit (b ∷ bs) = SeqFits b.code × BlocksFit bs

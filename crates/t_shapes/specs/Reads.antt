@@ -1,14 +1,16 @@
 -- What the reading functions promise, by the table.
 use Rattle.std.specs.Prelude.{◌≡◌, ◌≤◌, ℕ, List, [], ◌∷◌, length, map, drop, is_some, Bool, false, Option, Some, None}
 use Rattle.idx_core.specs.declared.arith.Op.{Op}
+use Rattle.idx_core.specs.declared.span.Span.{Span}
 use Rattle.text_core.specs.Table.{Nt, Tm, Do, Fine, bounded, whole}
 use Rattle.text_core.specs.Table as table_of
 use Rattle.text_core.specs.Going.{Goes}
 use Rattle.text_core.specs.Going as going
 use Rattle.t_terms.specs.declared.token.Token.{Token}
 use Rattle.t_terms.specs.declared.wanted.Wanted.TheVariants as want
+use Rattle.t_terms.specs.Raw as tree
 use Rattle.t_terms.specs.Raw.{ending}
-use Rattle.t_terms.specs.Machine.{table, Stack, LTo, LV, LAt, LTypes, LTarget, LBinds, LFile, MoreSteps, MakeBnz, MakeLd, MakeMalloc, MakeMov, MakeSt, MakeUnpack, NoSteps, arith_owed, instr_after, OfToken, OfStep, OfSteps, OfFile, OfNames, OfBlocks}
+use Rattle.t_terms.specs.Machine.{table, Stack, LTo, LV, LAt, LTypes, LTarget, LBinds, LFile, LProgram, MoreSteps, MoreBlocks, MakeProgram, MakeBnz, MakeLd, MakeMalloc, MakeMov, MakeSt, MakeUnpack, NoSteps, arith_owed, instr_after, OfToken, OfStep, OfSteps, OfFile, OfNames, OfBlocks}
 use Rattle.t_grammar.specs.Raw.{raw_file}
 use Rattle.t_grammar.specs.Reads.{ReadsOwed}
 use Rattle.t_grammar.specs.declared.cursor.Stopped.{Stopped}
@@ -71,6 +73,19 @@ pub record ReadsSteps (ts : List Token) (i : ℕ) (f : FoundSteps) : Type 0 wher
   pub forward : i ≤ f.next
   pub in_range : f.next ≤ length ts
   pub same : Goes table 2000 ts 0 i steps_owed [] f.next [] (OfSteps (map raw_step f.steps.items) ∷ [])
+
+-- some instructions were read, and there may be more
+pub record ReadsSomeSteps (ts : List Token) (i j : ℕ) (is : List (tree.RawInstr × Span)) : Type 0 where
+  pub forward : i ≤ j
+  pub in_range : j ≤ length ts
+  pub same : Goes table 2000 ts 0 i steps_owed [] j (Nt MoreSteps ∷ []) (OfSteps is ∷ [])
+
+-- some blocks were read, and there may be more
+pub record ReadsSomeBlocks (ts : List Token) (j : ℕ) (bs : List tree.RawBlock) : Type 0 where
+  pub tal : Token
+  pub one : Token
+  pub in_range : j ≤ length ts
+  pub same : Goes table 2000 ts 0 0 (Nt LProgram ∷ []) [] j (Nt MoreBlocks ∷ (Do MakeProgram ∷ [])) (OfBlocks bs ∷ (OfToken one ∷ (OfToken tal ∷ [])))
 
 -- all the tokens are a program, with these blocks; or the reading of them stops
 abbrev pub IsProgram : List Token → List RawBlock → Type 0

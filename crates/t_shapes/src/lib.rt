@@ -7,10 +7,10 @@ pub mod ends;
 pub mod heads;
 pub mod lists;
 pub mod parts;
-pub mod program;
 pub mod raw;
 pub mod steps;
 pub mod values;
+pub mod whole;
 
-pub use program::program;
 pub use raw::{RawBase, RawBlock, RawEnd, RawInstr, RawValue};
+pub use whole::program;

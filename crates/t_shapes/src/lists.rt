@@ -19,12 +19,7 @@ pub struct FoundTypes {
 }
 
 /// [ ] or [ T , .. , T ]
-pub fn types(
-    alloc: Global,
-    tokens: &[Token],
-    at: usize,
-    depth: u64,
-) -> Result<FoundTypes, Stopped>
+pub fn types(alloc: Global, tokens: &[Token], at: usize, depth: u64) -> Result<FoundTypes, Stopped>
     requires depth { depth ≤ 2000 }
     requires at { at ≤ length tokens.now }
     ensures { MatchResult result (λ f. Reads LTypes tokens.now depth at f.next (OfList (ending (map raw f.types.items) f.end) ∷ [])) (λ e. Fails tokens.now depth at (Nt LTypes ∷ []) [] e) }
@@ -36,12 +31,7 @@ pub fn types(
 }
 
 // types and the closing bracket, or the bracket alone
-fn type_list(
-    alloc: Global,
-    tokens: &[Token],
-    at: usize,
-    depth: u64,
-) -> Result<FoundTypes, Stopped>
+fn type_list(alloc: Global, tokens: &[Token], at: usize, depth: u64) -> Result<FoundTypes, Stopped>
     requires depth { depth ≤ 2000 }
     requires at { at ≤ length tokens.now }
     ensures { MatchResult result (λ f. Reads LTypeList tokens.now depth at f.next (OfList (ending (map raw f.types.items) f.end) ∷ [])) (λ e. Fails tokens.now depth at (Nt LTypeList ∷ []) [] e) }

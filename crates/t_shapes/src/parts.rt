@@ -10,20 +10,23 @@ use t_grammar::{Stopped, expect, expect_two, register_number};
 use t_terms::{Kind, Token, Wanted};
 
 /// A number in brackets, and the end of the closing bracket.
-pub struct Index {
+#[derive(Drop)]
+pub struct FoundIndex {
     pub field: u64,
     pub end: u64,
 }
 
 /// A register with a field's number in brackets, and the end of the closing bracket.
-pub struct Place {
+#[derive(Drop)]
+pub struct FoundPlace {
     pub reg: u64,
     pub field: u64,
     pub end: u64,
 }
 
 /// A name and a register in brackets.
-pub struct Target {
+#[derive(Drop)]
+pub struct FoundTarget {
     pub name: Span,
     pub reg: u64,
 }
@@ -40,26 +43,26 @@ fn magnitude(token: Token) -> u64
 }
 
 /// [ n ]
-pub fn index(tokens: &[Token], at: usize) -> Result<Index, Stopped>
+pub fn index(tokens: &[Token], at: usize) -> Result<FoundIndex, Stopped>
     requires { at ≤ length tokens.now }
     ensures { MatchResult result (λ f. Reads LIndex tokens.now 0 at (at + 3) (OfIndex (ending f.field f.end) ∷ [])) (λ e. Fails tokens.now 0 at (Nt LIndex ∷ []) [] e) }
 {
     expect(tokens, at, Wanted::LeftBracket)?;
     let (number, close) = expect_two(tokens, at + 1, Wanted::Number, Wanted::RightBracket)?;
-    Ok(Index {
+    Ok(FoundIndex {
         field: magnitude(number),
         end: close.span.end,
     })
 }
 
 /// reg [ n ]
-pub fn place(tokens: &[Token], at: usize) -> Result<Place, Stopped>
+pub fn place(tokens: &[Token], at: usize) -> Result<FoundPlace, Stopped>
     requires { at ≤ length tokens.now }
     ensures { MatchResult result (λ f. Reads LAt tokens.now 0 at (at + 4) (OfAt (record { reg = f.reg; field = f.field; end = f.end }) ∷ [])) (λ e. Fails tokens.now 0 at (Nt LAt ∷ []) [] e) }
 {
     let reg = expect(tokens, at, Wanted::Register)?;
     let found = index(tokens, at + 1)?;
-    Ok(Place {
+    Ok(FoundPlace {
         reg: register_number(reg),
         field: found.field,
         end: found.end,
@@ -67,14 +70,14 @@ pub fn place(tokens: &[Token], at: usize) -> Result<Place, Stopped>
 }
 
 /// [ name , reg ]
-pub fn target(tokens: &[Token], at: usize) -> Result<Target, Stopped>
+pub fn target(tokens: &[Token], at: usize) -> Result<FoundTarget, Stopped>
     requires { at ≤ length tokens.now }
     ensures { MatchResult result (λ f. Reads LTarget tokens.now 0 at (at + 5) (OfTarget (record { name = f.name; reg = f.reg }) ∷ [])) (λ e. Fails tokens.now 0 at (Nt LTarget ∷ []) [] e) }
 {
     expect(tokens, at, Wanted::LeftBracket)?;
     let (name, _) = expect_two(tokens, at + 1, Wanted::Name, Wanted::Comma)?;
     let (reg, _) = expect_two(tokens, at + 3, Wanted::Register, Wanted::RightBracket)?;
-    Ok(Target {
+    Ok(FoundTarget {
         name: name.span,
         reg: register_number(reg),
     })

@@ -54,12 +54,7 @@ fn arith(
 }
 
 // reg , V
-fn bnz(
-    alloc: Global,
-    tokens: &[Token],
-    at: usize,
-    word: Token,
-) -> Result<FoundStep, Stopped>
+fn bnz(alloc: Global, tokens: &[Token], at: usize, word: Token) -> Result<FoundStep, Stopped>
     requires { at ≤ length tokens.now }
     ensures { MatchResult result (λ f. ReadsStep bnz_left tokens.now at word f) (λ e. Fails tokens.now 0 at bnz_left (OfToken word ∷ []) e) }
 {
@@ -73,12 +68,7 @@ fn bnz(
 }
 
 // reg , V
-fn mov(
-    alloc: Global,
-    tokens: &[Token],
-    at: usize,
-    word: Token,
-) -> Result<FoundStep, Stopped>
+fn mov(alloc: Global, tokens: &[Token], at: usize, word: Token) -> Result<FoundStep, Stopped>
     requires { at ≤ length tokens.now }
     ensures { MatchResult result (λ f. ReadsStep mov_left tokens.now at word f) (λ e. Fails tokens.now 0 at mov_left (OfToken word ∷ []) e) }
 {
@@ -106,12 +96,7 @@ fn ld(tokens: &[Token], at: usize, word: Token) -> Result<FoundStep, Stopped>
 }
 
 // reg [ T , .. , T ]
-fn malloc(
-    alloc: Global,
-    tokens: &[Token],
-    at: usize,
-    word: Token,
-) -> Result<FoundStep, Stopped>
+fn malloc(alloc: Global, tokens: &[Token], at: usize, word: Token) -> Result<FoundStep, Stopped>
     requires { at ≤ length tokens.now }
     ensures { MatchResult result (λ f. ReadsStep malloc_left tokens.now at word f) (λ e. Fails tokens.now 0 at malloc_left (OfToken word ∷ []) e) }
 {
@@ -139,12 +124,7 @@ fn st(tokens: &[Token], at: usize, word: Token) -> Result<FoundStep, Stopped>
 }
 
 // [ name , reg ] , V
-fn unpack(
-    alloc: Global,
-    tokens: &[Token],
-    at: usize,
-    word: Token,
-) -> Result<FoundStep, Stopped>
+fn unpack(alloc: Global, tokens: &[Token], at: usize, word: Token) -> Result<FoundStep, Stopped>
     requires { at ≤ length tokens.now }
     ensures { MatchResult result (λ f. ReadsStep unpack_left tokens.now at word f) (λ e. Fails tokens.now 0 at unpack_left (OfToken word ∷ []) e) }
 {

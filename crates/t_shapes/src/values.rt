@@ -1,5 +1,5 @@
 // The reading of values.
-ghost use Rattle.std.specs.Prelude.{◌≡◌, ◌≤◌, [], ◌∷◌, length, slice_get, Some, MatchOption, MatchResult};
+ghost use Rattle.std.specs.Prelude.{◌≡◌, ◌≤◌, [], ◌∷◌, length, slice_get, Some, true, false, MatchOption, MatchResult};
 ghost use Rattle.text_core.specs.Table.{Nt};
 ghost use Rattle.t_terms.specs.Raw.{RPack, ending};
 ghost use Rattle.t_terms.specs.Machine.{LV, LPacked, OfValue, OfPacked, base_of, value_after, base_owed};
@@ -90,12 +90,7 @@ fn plain(
 
 /// V ::= N | N [ T , .. , T ] | pack [ T , V ] as T
 #[cycle(values)]
-pub fn value(
-    alloc: Global,
-    tokens: &[Token],
-    at: usize,
-    depth: u64,
-) -> Result<FoundValue, Stopped>
+pub fn value(alloc: Global, tokens: &[Token], at: usize, depth: u64) -> Result<FoundValue, Stopped>
     requires depth { depth ≤ 2000 }
     requires at { at ≤ length tokens.now }
     ensures { MatchResult result (λ f. Reads LV tokens.now depth at f.next (OfValue (ending (raw_value f.value) f.end) ∷ [])) (λ e. Fails tokens.now depth at (Nt LV ∷ []) [] e) }
@@ -126,12 +121,7 @@ pub fn value(
 
 // [ T , V ]
 #[cycle(values)]
-fn packed(
-    alloc: Global,
-    tokens: &[Token],
-    at: usize,
-    depth: u64,
-) -> Result<FoundPacked, Stopped>
+fn packed(alloc: Global, tokens: &[Token], at: usize, depth: u64) -> Result<FoundPacked, Stopped>
     requires depth { depth ≤ 2000 }
     requires at { at ≤ length tokens.now }
     ensures { MatchResult result (λ f. Reads LPacked tokens.now depth at f.next (OfPacked (record { hidden = raw f.hidden; inner = raw_value f.inner }) ∷ [])) (λ e. Fails tokens.now depth at (Nt LPacked ∷ []) [] e) }

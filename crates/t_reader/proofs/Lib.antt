@@ -1,0 +1,4 @@
+pub mod Filing
+pub mod Found
+pub mod Naming
+pub mod Valuing

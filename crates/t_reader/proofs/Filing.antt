@@ -86,7 +86,7 @@ has_insert : (r : ℕ) (u v : Entries) (y : ℕ × TType) → has r (u ++ y ∷ 
 has_insert r [] v y = refl
 has_insert r (x ∷ u) v y = ap (λ (b : Bool). nat_eq r x.0 || b) (has_insert r u v y) ∙ swap_or (nat_eq r x.0) (nat_eq r y.0) (has r (u ++ v))
 
-differs : (r q : ℕ) → r ≢ q → nat_eq r q ≡ false
+pub differs : (r q : ℕ) → r ≢ q → nat_eq r q ≡ false
 differs r q n = by_test (nat_eq r q) refl
   where
     by_test : (b : Bool) → nat_eq r q ≡ b → nat_eq r q ≡ false

@@ -14,7 +14,7 @@ use Rattle.t_reader.specs.Resolve.{StopsAt, IsFound}
 use Rattle.t_reader.specs.declared.scope.Stop.{Stop}
 use Rattle.t_reader.specs.declared.scope.Stop.TheVariants.{Memory, At}
 
-same_name : (x n : Name) → x ≡ n → bytes_eq x n ≡ true
+pub same_name : (x n : Name) → x ≡ n → bytes_eq x n ≡ true
 same_name x n e = (bytes_eq-Decides x n).1 e
 
 other_name : (x n : Name) → x ≢ n → bytes_eq x n ≡ false

@@ -57,6 +57,8 @@ pub record IsShape (text : List ℕ) (raw : List RawBlock) : Type 0 where
   pub cut : IsCut text tokens
   pub shape : Program tokens raw
   pub within : NonePasses table most_open tokens
+  -- no memory holds more
+  pub short : length tokens ≤ 9223372036854775807
 
 -- the text has a first fault before its names are looked at
 abbrev pub IsShapeFault : List ℕ → TFault → Type 0

@@ -7,7 +7,7 @@ use Rattle.t_reader.proofs.resolve.+value_in.Goals as goal
 pub returns-in_err-base-in-Plain : goal.returns-in_err-base-in-Plain
 returns-in_err-base-in-Plain t c =
     let p = err_from_is_err_and c.from_residual.result c.from_residual.ensures.1 in
-    rw (p.1, p.2) (plain_base_stop c.args.text.now c.args.labels.now c.args.scope.now c.args.value.now c.in-Plain.base c.in-Plain.types c.deref.result.now c.in-Plain.is c.deref.ensures.value _ c.in_err-base-in-Plain.ensures)
+    rw (p.1, p.2) (plain_base_stop c.args.text.now c.args.labels.now c.args.scope.now c.args.value.now c.in-Plain.base c.in-Plain.types c.in-Plain.types.items c.in-Plain.is refl _ c.in_err-base-in-Plain.ensures)
 
 pub returns-in_err-types-in-Plain : goal.returns-in_err-types-in-Plain
 returns-in_err-types-in-Plain t c =
@@ -21,7 +21,7 @@ returns-in_ok-types-in-Plain t c =
 pub returns-in_err-hidden-in-Pack : goal.returns-in_err-hidden-in-Pack
 returns-in_err-hidden-in-Pack t c =
     let p = err_from_is_err_and c.from_residual-in_err-hidden-in-Pack.result c.from_residual-in_err-hidden-in-Pack.ensures.1 in
-    rw (p.1, p.2) (pack_1_stop c.args.text.now c.args.labels.now c.args.scope.now c.args.value.now c.in-Pack.hidden c.in-Pack.inner c.in-Pack.shape c.deref-in-Pack.result.now c.in-Pack.is (sym c.deref-in-Pack.ensures) _ c.in_err-hidden-in-Pack.ensures)
+    rw (p.1, p.2) (pack_1_stop c.args.text.now c.args.labels.now c.args.scope.now c.args.value.now c.in-Pack.hidden c.in-Pack.inner c.in-Pack.shape _ c.in-Pack.is refl _ c.in_err-hidden-in-Pack.ensures)
 
 pub returns-in_err-inner-in-Pack : goal.returns-in_err-inner-in-Pack
 returns-in_err-inner-in-Pack t c =

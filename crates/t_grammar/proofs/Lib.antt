@@ -1,0 +1,4 @@
+pub mod Empty
+pub mod Lines
+pub mod Raws
+pub mod Stepping

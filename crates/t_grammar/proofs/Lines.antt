@@ -1,0 +1,127 @@
+-- The lines of types and lists by their first tokens.
+use Rattle.std.proofs.Common.{◌≡◌, ◌≢◌, [], ◌∷◌, ◌++◌, slice_get, refl, Some, None, true, false, if◌then◌else◌}
+use Rattle.text_core.specs.Table.{Tm, Nt, Do, Mark, then_more}
+use Rattle.text_core.proofs.Going as step
+use Rattle.t_terms.specs.declared.token.Kind.{Kind}
+use Rattle.t_terms.specs.declared.token.Kind.TheVariants as k
+use Rattle.t_terms.specs.declared.wanted.Wanted.TheVariants as want
+use Rattle.t_terms.specs.Machine.{table, LBinds, LNames, MoreNames, MakeBinds, FirstName, NextName, CloseNames, LFile, LRegs, MoreRegs, MakeFile, FirstReg, NextReg, CloseRegs, LT, LFields, MoreFields, FirstField, NextField, CloseFields, fits, after, type_after, fields_after, fields_tail}
+use Rattle.t_grammar.specs.Reads.{entry_owed, field_owed}
+use Rattle.t_grammar.proofs.Stepping.{not_fits, Opens, as_token, ListLine}
+
+pub opens_binds : Opens LBinds want.LeftBracket (Nt LNames ∷ (Mark ∷ (Do MakeBinds ∷ [])))
+opens_binds = record { takes = λ c e. takes c e; no_other = λ c e. no_other c e }
+  where
+    takes : (c : Kind) → fits want.LeftBracket c ≡ true → after LBinds c ≡ Some (Nt LNames ∷ (Mark ∷ (Do MakeBinds ∷ [])))
+    takes k.LeftBracket e = refl
+    takes _ e = absurd (cc)
+
+    no_other : (c : Kind) → fits want.LeftBracket c ≡ false → after LBinds c ≡ None
+    no_other k.LeftBracket e = absurd (cc)
+    no_other _ e = refl
+
+pub opens_file : Opens LFile want.LeftBrace (Nt LRegs ∷ (Mark ∷ (Do MakeFile ∷ [])))
+opens_file = record { takes = λ c e. takes c e; no_other = λ c e. no_other c e }
+  where
+    takes : (c : Kind) → fits want.LeftBrace c ≡ true → after LFile c ≡ Some (Nt LRegs ∷ (Mark ∷ (Do MakeFile ∷ [])))
+    takes k.LeftBrace e = refl
+    takes _ e = absurd (cc)
+
+    no_other : (c : Kind) → fits want.LeftBrace c ≡ false → after LFile c ≡ None
+    no_other k.LeftBrace e = absurd (cc)
+    no_other _ e = refl
+
+-- the commas of the lists
+comma_names : Opens MoreNames want.Comma (Tm want.Name ∷ (Do NextName ∷ (Nt MoreNames ∷ [])))
+comma_names = record { takes = λ c e. takes c e; no_other = λ c e. no_other c e }
+  where
+    takes : (c : Kind) → fits want.Comma c ≡ true → after MoreNames c ≡ Some (Tm want.Name ∷ (Do NextName ∷ (Nt MoreNames ∷ [])))
+    takes k.Comma e = refl
+    takes _ e = absurd (cc)
+
+    no_other : (c : Kind) → fits want.Comma c ≡ false → after MoreNames c ≡ None
+    no_other k.Comma e = absurd (cc)
+    no_other _ e = refl
+
+comma_regs : Opens MoreRegs want.Comma (entry_owed ++ (Do NextReg ∷ (Nt MoreRegs ∷ [])))
+comma_regs = record { takes = λ c e. takes c e; no_other = λ c e. no_other c e }
+  where
+    takes : (c : Kind) → fits want.Comma c ≡ true → after MoreRegs c ≡ Some (entry_owed ++ (Do NextReg ∷ (Nt MoreRegs ∷ [])))
+    takes k.Comma e = refl
+    takes _ e = absurd (cc)
+
+    no_other : (c : Kind) → fits want.Comma c ≡ false → after MoreRegs c ≡ None
+    no_other k.Comma e = absurd (cc)
+    no_other _ e = refl
+
+comma_fields : Opens MoreFields want.Comma (field_owed ++ (Do NextField ∷ (Nt MoreFields ∷ [])))
+comma_fields = record { takes = λ c e. takes c e; no_other = λ c e. no_other c e }
+  where
+    takes : (c : Kind) → fits want.Comma c ≡ true → after MoreFields c ≡ Some (field_owed ++ (Do NextField ∷ (Nt MoreFields ∷ [])))
+    takes k.Comma e = refl
+    takes _ e = absurd (cc)
+
+    no_other : (c : Kind) → fits want.Comma c ≡ false → after MoreFields c ≡ None
+    no_other k.Comma e = absurd (cc)
+    no_other _ e = refl
+
+-- how a list begins that is not empty
+names_begin : (c : Kind) → fits want.RightBracket c ≡ false → after LNames c ≡ (if fits want.Name c then Some (Do FirstName ∷ (Nt MoreNames ∷ (Tm want.RightBracket ∷ (Do CloseNames ∷ [])))) else None)
+names_begin k.RightBracket e = absurd (cc)
+names_begin k.Name e = refl
+names_begin _ e = refl
+
+regs_begin : (c : Kind) → fits want.RightBrace c ≡ false → after LRegs c ≡ (if fits want.Register c then Some (Tm want.Colon ∷ (Nt LT ∷ (Do FirstReg ∷ (Nt MoreRegs ∷ (Tm want.RightBrace ∷ (Do CloseRegs ∷ [])))))) else None)
+regs_begin k.RightBrace e = absurd (cc)
+regs_begin (k.Register r) e = refl
+regs_begin _ e = refl
+
+fields_begin : (c : Kind) → fits want.RightAngle c ≡ false → fields_after c ≡ then_more table (type_after c) fields_tail
+fields_begin k.RightAngle e = absurd (cc)
+fields_begin _ e = refl
+
+pub list_names : ListLine LNames MoreNames want.RightBracket (Tm want.Name ∷ []) FirstName NextName CloseNames
+list_names = record {
+  begin = λ ts d i e. as_token ts d i LNames want.Name _ refl (λ c q. names_begin c.kind (not_fits want.RightBracket (slice_get ts i) c e q));
+  comma = comma_names;
+  ends = refl;
+  flat = refl;
+}
+
+pub list_regs : ListLine LRegs MoreRegs want.RightBrace entry_owed FirstReg NextReg CloseRegs
+list_regs = record {
+  begin = λ ts d i e. as_token ts d i LRegs want.Register _ refl (λ c q. regs_begin c.kind (not_fits want.RightBrace (slice_get ts i) c e q));
+  comma = comma_regs;
+  ends = refl;
+  flat = refl;
+}
+
+pub list_fields : ListLine LFields MoreFields want.RightAngle field_owed FirstField NextField CloseFields
+list_fields = record {
+  begin = λ ts d i e. step.as_any table 2000 ts d i LT LFields fields_tail [] [] refl refl (λ c q. fields_begin c.kind (not_fits want.RightAngle (slice_get ts i) c e q));
+  comma = comma_fields;
+  ends = refl;
+  flat = refl;
+}
+
+-- a list of nothing
+pub no_names : (c : Kind) → fits want.RightBracket c ≡ true → c ≡ k.RightBracket
+no_names k.RightBracket e = refl
+no_names _ e = absurd (cc)
+
+pub no_regs : (c : Kind) → fits want.RightBrace c ≡ true → c ≡ k.RightBrace
+no_regs k.RightBrace e = refl
+no_regs _ e = absurd (cc)
+
+pub no_fields : (c : Kind) → fits want.RightAngle c ≡ true → c ≡ k.RightAngle
+no_fields k.RightAngle e = refl
+no_fields _ e = absurd (cc)
+
+-- no type begins
+pub no_type : (c : Kind) → c ≢ k.Int → c ≢ k.Name → c ≢ k.All → c ≢ k.Some → c ≢ k.LeftAngle → type_after c ≡ None
+no_type k.Int a b d e f = absurd (a refl)
+no_type k.Name a b d e f = absurd (b refl)
+no_type k.All a b d e f = absurd (d refl)
+no_type k.Some a b d e f = absurd (e refl)
+no_type k.LeftAngle a b d e f = absurd (f refl)
+no_type _ a b d e f = refl

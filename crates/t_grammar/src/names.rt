@@ -1,0 +1,57 @@
+// The reading of the names that a form binds.
+ghost use Rattle.std.specs.Prelude.{◌≡◌, ◌≤◌, [], ◌∷◌, length, MatchResult};
+ghost use Rattle.text_core.specs.Table.{Nt};
+ghost use Rattle.t_terms.specs.Machine.{LBinds, LNames, OfNames};
+ghost use Rattle.t_grammar.specs.Reads.{Reads, Fails};
+
+use crate::cursor::{Stopped, expect, opened, take};
+use idx_core::Span;
+use std::alloc::Global;
+use t_terms::{Token, Wanted};
+
+/// Names in brackets that were read, each by its place, and the number of the token after them.
+#[derive(Drop)]
+pub struct FoundNames {
+    pub names: Vec<Span>,
+    pub next: usize,
+}
+
+/// [ names ], where names ::= nothing | name , .. , name
+pub fn binds(alloc: Global, tokens: &[Token], at: usize, depth: u64) -> Result<FoundNames, Stopped>
+    requires depth { depth ≤ 2000 }
+    requires at { at ≤ length tokens.now }
+    ensures { MatchResult result (λ f. Reads LBinds tokens.now depth at f.next (OfNames f.names.items ∷ [])) (λ e. Fails tokens.now depth at (Nt LBinds ∷ []) [] e) }
+{
+    expect(tokens, at, Wanted::LeftBracket)?;
+    let inner = opened(at, depth)?;
+    let found = names(alloc, tokens, at + 1, inner)?;
+    Ok(found)
+}
+
+// names and the closing bracket, or the bracket alone
+fn names(alloc: Global, tokens: &[Token], at: usize, depth: u64) -> Result<FoundNames, Stopped>
+    requires depth { depth ≤ 2000 }
+    requires at { at ≤ length tokens.now }
+    ensures { MatchResult result (λ f. Reads LNames tokens.now depth at f.next (OfNames f.names.items ∷ [])) (λ e. Fails tokens.now depth at (Nt LNames ∷ []) [] e) }
+{
+    let mut names = Vec::new(alloc);
+    if let Some(_) = take(tokens, at, Wanted::RightBracket) {
+        return Ok(FoundNames {
+            names,
+            next: at + 1,
+        });
+    }
+    let first = expect(tokens, at, Wanted::Name)?;
+    names.push(first.span)?;
+    let mut next = at + 1;
+    while let Some(_) = take(tokens, next, Wanted::Comma) {
+        let name = expect(tokens, next + 1, Wanted::Name)?;
+        names.push(name.span)?;
+        next += 2;
+    }
+    expect(tokens, next, Wanted::RightBracket)?;
+    Ok(FoundNames {
+        names,
+        next: next + 1,
+    })
+}

@@ -1,0 +1,233 @@
+// The reading of types by recursive descent, one token ahead.
+ghost use Rattle.std.specs.Prelude.{◌≡◌, ◌≤◌, List, [], ◌∷◌, length, MatchResult};
+ghost use Rattle.text_core.specs.Table.{Nt};
+ghost use Rattle.t_terms.specs.Raw.{RSome, ending};
+ghost use Rattle.t_terms.specs.Machine.{LT, LFile, LRegs, LFields, OfType, OfFile, register_of, flag_of};
+ghost use Rattle.t_grammar.specs.Raw.{raw, raw_file};
+ghost use Rattle.t_grammar.specs.Reads.{Reads, Fails, ReadsEntry, ReadsField, entry_owed, field_owed};
+ghost use Rattle.t_grammar.specs.declared.cursor.Stopped.TheVariants as stopped;
+
+use crate::cursor::{Stopped, expect, expect_two, opened, peek, take};
+use crate::names::binds;
+use crate::raw::{RawFile, RawType};
+use idx_core::Span;
+use std::alloc::Global;
+use t_terms::{Kind, Token, Wanted};
+
+/// A type that was read, the end of its last token, and the number of the token after it.
+#[derive(Drop)]
+pub struct FoundType {
+    pub ty: RawType,
+    pub end: u64,
+    pub next: usize,
+}
+
+/// A register file type that was read, the end of its last token, and the number of the token after it.
+#[derive(Drop)]
+pub struct FoundFile {
+    pub file: RawFile,
+    pub end: u64,
+    pub next: usize,
+}
+
+// a register with its place and its type, and the number of the token after them
+#[derive(Drop)]
+struct FoundEntry {
+    entry: (u64, Span, RawType),
+    next: usize,
+}
+
+// a type with its flag, and the number of the token after them
+#[derive(Drop)]
+struct FoundField {
+    field: (RawType, bool),
+    next: usize,
+}
+
+/// The number of a register token, and 0 of any other.
+pub fn register_number(token: Token) -> u64
+    ensures { result ≡ register_of token.kind }
+{
+    match token.kind {
+        Kind::Register(number) => number,
+        _ => 0,
+    }
+}
+
+// whether a token is a number of the value 1
+fn is_set(token: Token) -> bool
+    ensures { result ≡ flag_of token.kind }
+{
+    match token.kind {
+        Kind::Plain(value) => value == 1,
+        Kind::Negative(value) => value == 1,
+        _ => false,
+    }
+}
+
+fn exists(alloc: Global, name: Span, body: RawType) -> Result<RawType, Stopped>
+    ensures { MatchResult result (λ t. raw t ≡ RSome name (raw body)) (λ e. e ≡ stopped.Memory) }
+{
+    Ok(RawType::Some(name, Box::new(alloc, body)?))
+}
+
+/// T ::= int | name | all [ names ] File | some name . T | < > | < F , .. , F >
+#[cycle(types)]
+pub fn whole_type(
+    alloc: Global,
+    tokens: &[Token],
+    at: usize,
+    depth: u64,
+) -> Result<FoundType, Stopped>
+    requires depth { depth ≤ 2000 }
+    requires at { at ≤ length tokens.now }
+    ensures { MatchResult result (λ f. Reads LT tokens.now depth at f.next (OfType (ending (raw f.ty) f.end) ∷ [])) (λ e. Fails tokens.now depth at (Nt LT ∷ []) [] e) }
+{
+    let token = match peek(tokens, at) {
+        Some(token) => token,
+        None => return Err(Stopped::Unexpected(at)),
+    };
+    let end = token.span.end;
+    let next = at + 1;
+    match token.kind {
+        Kind::Int => {
+            let ty = RawType::Int;
+            Ok(FoundType { ty, end, next })
+        }
+        Kind::Name => {
+            let ty = RawType::Name(token.span);
+            Ok(FoundType { ty, end, next })
+        }
+        Kind::All => {
+            let names = binds(alloc, tokens, next, depth)?;
+            let found = file(alloc, tokens, names.next, depth)?;
+            Ok(FoundType {
+                ty: RawType::Code(names.names, found.file),
+                end: found.end,
+                next: found.next,
+            })
+        }
+        Kind::Some => {
+            let inner = opened(at, depth)?;
+            let (name, _) = expect_two(tokens, next, Wanted::Name, Wanted::Dot)?;
+            let body = whole_type(alloc, tokens, at + 3, inner)?;
+            let ty = exists(alloc, name.span, body.ty)?;
+            Ok(FoundType {
+                ty,
+                end: body.end,
+                next: body.next,
+            })
+        }
+        Kind::LeftAngle => {
+            let inner = opened(at, depth)?;
+            let found = fields(alloc, tokens, next, inner)?;
+            Ok(found)
+        }
+        _ => Err(Stopped::Unexpected(at)),
+    }
+}
+
+/// File ::= { } | { reg : T , .. , reg : T }
+#[cycle(types)]
+pub fn file(alloc: Global, tokens: &[Token], at: usize, depth: u64) -> Result<FoundFile, Stopped>
+    requires depth { depth ≤ 2000 }
+    requires at { at ≤ length tokens.now }
+    ensures { MatchResult result (λ f. Reads LFile tokens.now depth at f.next (OfFile (ending (raw_file f.file) f.end) ∷ [])) (λ e. Fails tokens.now depth at (Nt LFile ∷ []) [] e) }
+{
+    expect(tokens, at, Wanted::LeftBrace)?;
+    let inner = opened(at, depth)?;
+    let found = regs(alloc, tokens, at + 1, inner)?;
+    Ok(found)
+}
+
+// reg : T , .. , reg : T and the closing brace, or the brace alone
+#[cycle(types)]
+fn regs(alloc: Global, tokens: &[Token], at: usize, depth: u64) -> Result<FoundFile, Stopped>
+    requires depth { depth ≤ 2000 }
+    requires at { at ≤ length tokens.now }
+    ensures { MatchResult result (λ f. Reads LRegs tokens.now depth at f.next (OfFile (ending (raw_file f.file) f.end) ∷ [])) (λ e. Fails tokens.now depth at (Nt LRegs ∷ []) [] e) }
+{
+    let mut regs = Vec::new(alloc);
+    if let Some(close) = take(tokens, at, Wanted::RightBrace) {
+        return Ok(FoundFile {
+            file: RawFile { regs },
+            end: close.span.end,
+            next: at + 1,
+        });
+    }
+    let first = entry(alloc, tokens, at, depth)?;
+    let mut next = first.next;
+    regs.push(first.entry)?;
+    while let Some(_) = take(tokens, next, Wanted::Comma) {
+        let found = entry(alloc, tokens, next + 1, depth)?;
+        next = found.next;
+        regs.push(found.entry)?;
+    }
+    let close = expect(tokens, next, Wanted::RightBrace)?;
+    Ok(FoundFile {
+        file: RawFile { regs },
+        end: close.span.end,
+        next: next + 1,
+    })
+}
+
+// reg : T
+#[cycle(types)]
+fn entry(alloc: Global, tokens: &[Token], at: usize, depth: u64) -> Result<FoundEntry, Stopped>
+    requires depth { depth ≤ 2000 }
+    requires at { at ≤ length tokens.now }
+    ensures { MatchResult result (λ f. ReadsEntry tokens.now depth at f) (λ e. Fails tokens.now depth at entry_owed [] e) }
+{
+    let (reg, _) = expect_two(tokens, at, Wanted::Register, Wanted::Colon)?;
+    let found = whole_type(alloc, tokens, at + 2, depth)?;
+    Ok(FoundEntry {
+        entry: (register_number(reg), reg.span, found.ty),
+        next: found.next,
+    })
+}
+
+// F , .. , F and the closing bracket, or the bracket alone
+#[cycle(types)]
+fn fields(alloc: Global, tokens: &[Token], at: usize, depth: u64) -> Result<FoundType, Stopped>
+    requires depth { depth ≤ 2000 }
+    requires at { at ≤ length tokens.now }
+    ensures { MatchResult result (λ f. Reads LFields tokens.now depth at f.next (OfType (ending (raw f.ty) f.end) ∷ [])) (λ e. Fails tokens.now depth at (Nt LFields ∷ []) [] e) }
+{
+    let mut fields = Vec::new(alloc);
+    if let Some(close) = take(tokens, at, Wanted::RightAngle) {
+        return Ok(FoundType {
+            ty: RawType::Tuple(fields),
+            end: close.span.end,
+            next: at + 1,
+        });
+    }
+    let first = field(alloc, tokens, at, depth)?;
+    let mut next = first.next;
+    fields.push(first.field)?;
+    while let Some(_) = take(tokens, next, Wanted::Comma) {
+        let found = field(alloc, tokens, next + 1, depth)?;
+        next = found.next;
+        fields.push(found.field)?;
+    }
+    let close = expect(tokens, next, Wanted::RightAngle)?;
+    Ok(FoundType {
+        ty: RawType::Tuple(fields),
+        end: close.span.end,
+        next: next + 1,
+    })
+}
+
+// F ::= T ^ 0 | T ^ 1
+#[cycle(types)]
+fn field(alloc: Global, tokens: &[Token], at: usize, depth: u64) -> Result<FoundField, Stopped>
+    requires depth { depth ≤ 2000 }
+    requires at { at ≤ length tokens.now }
+    ensures { MatchResult result (λ f. ReadsField tokens.now depth at f) (λ e. Fails tokens.now depth at field_owed [] e) }
+{
+    let found = whole_type(alloc, tokens, at, depth)?;
+    let (_, flag) = expect_two(tokens, found.next, Wanted::Caret, Wanted::Flag)?;
+    Ok(FoundField {
+        field: (found.ty, is_set(flag)),
+        next: found.next + 2,
+    })
+}

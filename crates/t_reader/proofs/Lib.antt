@@ -1,0 +1,10 @@
+pub mod Blocking
+pub mod Filing
+pub mod Fitting
+pub mod Found
+pub mod Naming
+pub mod Numbering
+pub mod Answered
+pub mod Shaped
+pub mod Valuing
+pub mod Well

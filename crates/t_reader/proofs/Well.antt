@@ -1,0 +1,210 @@
+-- The program that is read is whole.
+use Rattle.std.proofs.Common.{◌≡◌, ◌≢◌, ℕ, ◌+◌, ◌<◌, ◌≤◌, List, [], ◌∷◌, ◌++◌, length, map, refl, sym, ◌∙◌, ap, subst, Bool, true, false, not, ◌||◌, if◌then◌else◌, arith}
+use Rattle.std.specs.Prelude.{nat_eq, nat_lt, bytes_eq}
+use Rattle.std.specs.List.{list_any}
+use Rattle.std.proofs.lemmas.Bool.{eq-eqb, ltb-true, ltb-false}
+use Rattle.idx_core.specs.declared.span.Span.{Span}
+use Rattle.idx_core.specs.Names.{Name}
+use Rattle.t_types.specs.Tree.{Ty, TFile, NoRegs, MoreRegs}
+use Rattle.t_types.specs.WellFormed.{max_number, IsRegister, WellFormed, RegsAbove, WellFormedFields, WellFormedFile, WellFormedTypes}
+use Rattle.t_terms.specs.declared.fault.TCode.{TCode}
+use Rattle.t_terms.specs.declared.fault.TCode.TheVariants.{T05, T06, T07}
+use Rattle.t_terms.specs.declared.block.Block as code
+use Rattle.t_terms.specs.Tree as tree
+use Rattle.t_terms.specs.Tree.{TBlock}
+use Rattle.t_terms.specs.Spanned.{SBlock, plain, plain_blocks}
+use Rattle.t_terms.specs.Read.{spanned, spanned_blocks, blocks_of}
+use Rattle.std.proofs.lemmas.List.{length-map}
+use Rattle.t_terms.specs.Whole.{Whole, WellFormedBase, WellFormedValue, WellFormedInstr, WellFormedEnd, WellFormedSeq, WellFormedBlock, WellFormedBlocks}
+use Rattle.t_terms.specs.Spanned.{seq_of}
+use Rattle.t_terms.specs.Raw.{RawTy, RInt, RName, RCode, RSome, RTuple, RawRegs, NoRawRegs, MoreRawRegs, RawFields, NoRawFields, MoreRawFields, RawBase, RReg, RNum, RLabel, RawValue, RPlain, RPack, RawInstr, RArith, RBnz, RLd, RMalloc, RMov, RSt, RUnpack, RawEnd, RJmp, RHalt, RawBlock}
+use Rattle.t_terms.specs.Names.{spelled, is_among, place_of, bind, insert_reg, type_of, file_of, fields_of, types_of, base_of, value_of, instr_of, body_of, end_of, names_after, names_after_all, labels_of, block_of, program_of}
+use Rattle.t_terms.specs.NameFaults.{only_if, type_faults, regs_faults, fields_faults, types_faults, base_faults, value_faults, instr_faults, body_faults, end_faults, block_faults, blocks_faults, program_faults}
+use Rattle.t_reader.specs.Resolve.{IsShape}
+use Rattle.t_reader.proofs.Fitting.{FitsTy, FitsRegs, FitsFields, FitsTys, FitsBase, FitsValue, FitsInstr, after_raw, after_steps, FitsSteps, FitsEnd, FitsBlock, FitsBlocks, fits_Program, kept_cut}
+
+none_left : {A : Type 0} (u v : List A) → u ++ v ≡ [] → u ≡ []
+none_left [] v e = refl
+none_left (x ∷ u) v e = absurd (cc)
+
+none_right : {A : Type 0} (u v : List A) → u ++ v ≡ [] → v ≡ []
+none_right [] v e = e
+none_right (x ∷ u) v e = absurd (cc)
+
+-- no fault, so the test failed
+no_fault : (b : Bool) (c : TCode) (s : Span) → only_if b c s ≡ [] → b ≡ false
+no_fault true c s e = absurd (cc)
+no_fault false c s e = refl
+
+not_not : (b : Bool) → not b ≡ false → b ≡ true
+not_not true e = refl
+not_not false e = absurd (cc)
+
+place_within : (x : Name) (ns : List Name) → is_among x ns ≡ true → place_of x ns < length ns
+place_within x [] e = absurd (cc)
+place_within x (n ∷ ns) e = by_test (bytes_eq x n) (place_within x ns) e
+  where
+    by_test : (b : Bool) → (is_among x ns ≡ true → place_of x ns < length ns) → (b || is_among x ns) ≡ true → (if not b then 1 + place_of x ns else 0) < length (n ∷ ns)
+    by_test true h q = omega arith
+    by_test false h q = let l = h q in omega arith
+
+bind_length : (text : List ℕ) (ns : List Span) (a : List Name) → length (bind text ns a) ≡ length a + length ns
+bind_length text [] a = omega arith
+bind_length text (n ∷ ns) a = let h = bind_length text ns (spelled text n ∷ a) in omega (arith, h)
+
+-- a register that is not in a file
+abbrev Absent : ℕ → TFile → Type 0
+Absent r NoRegs = Unit {0}
+Absent r (MoreRegs q t f) = (r ≢ q) × Absent r f
+
+absent_insert : (r q : ℕ) (t : Ty) (f : TFile) → r ≢ q → Absent r f → Absent r (insert_reg q t f)
+absent_insert r q t NoRegs n h = (n, tt)
+absent_insert r q t (MoreRegs p u f) n h = by_test (nat_lt p q) (absent_insert r q t f n h.1)
+  where
+    by_test : (b : Bool) → Absent r (insert_reg q t f) → Absent r (if b then MoreRegs p u (insert_reg q t f) else MoreRegs q t (MoreRegs p u f))
+    by_test true g = (h.0, g)
+    by_test false g = (n, h)
+
+insert_above : (low n r : ℕ) (t : Ty) (f : TFile) → RegsAbove low n f → low < r → r ≤ max_number → WellFormed n t → Absent r f → RegsAbove low n (insert_reg r t f)
+insert_above low n r t NoRegs h a b d e = (a, b, d, tt)
+insert_above low n r t (MoreRegs p u f) h a b d e = by_test (nat_lt p r) refl (λ l. insert_above p n r t f h.3 l b d e.1)
+  where
+    by_test : (x : Bool) → nat_lt p r ≡ x → (p < r → RegsAbove p n (insert_reg r t f)) → RegsAbove low n (if x then MoreRegs p u (insert_reg r t f) else MoreRegs r t (MoreRegs p u f))
+    by_test true q g = (h.0, h.1, h.2, g (ltb-true p r q))
+    by_test false q g = let m = ltb-false p r q in let z = e.0 in (a, b, d, (less r p m z, h.1, h.2, h.3))
+      where
+        less : (x y : ℕ) → x ≤ y → x ≢ y → x < y
+        less x y l n = omega (arith, l, n)
+
+here : (r : ℕ) (before : List ℕ) → list_any (nat_eq r) (r ∷ before) ≡ true
+here r before = rw (eq-eqb r r refl) refl
+
+-- the registers of a file that were there before are none of it
+not_in : (text : List ℕ) (a : List Name) (before : List ℕ) (rs : RawRegs) → regs_faults text a before rs ≡ [] → (r : ℕ) → list_any (nat_eq r) before ≡ true → Absent r (file_of text a rs)
+not_in text a before NoRawRegs e r m = tt
+not_in text a before (MoreRawRegs q s t rs) e r m =
+    let f = none_right _ _ (none_right _ _ e) in
+    let o : only_if (list_any (nat_eq q) before) T07 s ≡ [] = none_left _ _ e in
+    let n = no_fault (list_any (nat_eq q) before) T07 s o in
+    absent_insert r q (type_of text a t) (file_of text a rs) (λ z. let y = subst (λ (x : ℕ). list_any (nat_eq x) before ≡ true) z m in cc) (not_in text a (q ∷ before) rs f r (more (nat_eq r q) (list_any (nat_eq r) before) m))
+  where
+    more : (x y : Bool) → y ≡ true → (x || y) ≡ true
+    more true y e = refl
+    more false y e = e
+
+mutual
+  well_type : (text : List ℕ) (a : List Name) (t : RawTy) → FitsTy (length a) t → type_faults text a t ≡ [] → WellFormed (length a) (type_of text a t)
+  well_type text a RInt h e = tt
+  well_type text a (RName s) h e = place_within (spelled text s) a (not_not (is_among (spelled text s) a) (no_fault (not (is_among (spelled text s) a)) T06 s e))
+  well_type text a (RCode ns rs) h e =
+      let l = bind_length text ns a in
+      (h.0, subst (λ (n : ℕ). RegsAbove 0 n (file_of text (bind text ns a) rs)) l (well_regs text (bind text ns a) [] rs (subst (λ (n : ℕ). FitsRegs n rs) (sym l) h.1) e))
+  well_type text a (RSome s t) h e =
+      let l : length (spelled text s ∷ a) ≡ length a + 1 = omega arith in
+      (h.0, subst (λ (n : ℕ). WellFormed n (type_of text (spelled text s ∷ a) t)) l (well_type text (spelled text s ∷ a) t (subst (λ (n : ℕ). FitsTy n t) (sym l) h.1) e))
+  well_type text a (RTuple fs) h e = well_fields text a fs h e
+
+  well_regs : (text : List ℕ) (a : List Name) (before : List ℕ) (rs : RawRegs) → FitsRegs (length a) rs → regs_faults text a before rs ≡ [] → RegsAbove 0 (length a) (file_of text a rs)
+  well_regs text a before NoRawRegs h e = tt
+  well_regs text a before (MoreRawRegs r s t rs) h e =
+      let f = none_right _ _ e in
+      let i = none_left _ _ f in
+      let j = none_right _ _ f in
+      insert_above 0 (length a) r (type_of text a t) (file_of text a rs) (well_regs text a (r ∷ before) rs h.2 j) h.0.0 h.0.1 (well_type text a t h.1 i) (not_in text a (r ∷ before) rs j r (here r before))
+
+  well_fields : (text : List ℕ) (a : List Name) (fs : RawFields) → FitsFields (length a) fs → fields_faults text a fs ≡ [] → WellFormedFields (length a) (fields_of text a fs)
+  well_fields text a NoRawFields h e = tt
+  well_fields text a (MoreRawFields t b fs) h e = (well_type text a t h.0 (none_left _ _ e), well_fields text a fs h.1 (none_right _ _ e))
+
+well_types : (text : List ℕ) (a : List Name) (ts : List RawTy) → FitsTys (length a) ts → types_faults text a ts ≡ [] → WellFormedTypes (length a) (types_of text a ts)
+well_types text a [] h e = tt
+well_types text a (t ∷ ts) h e = (well_type text a t h.0 (none_left _ _ e), well_types text a ts h.1 (none_right _ _ e))
+
+well_base : (text : List ℕ) (ls : List Name) (b : RawBase) → FitsBase b → base_faults text ls b ≡ [] → WellFormedBase (length ls) (base_of text ls b)
+well_base text ls (RReg r) h e = h
+well_base text ls (RNum z) h e = tt
+well_base text ls (RLabel s) h e = place_within (spelled text s) ls (not_not (is_among (spelled text s) ls) (no_fault (not (is_among (spelled text s) ls)) T05 s e))
+
+well_value : (text : List ℕ) (ls a : List Name) (v : RawValue) → FitsValue (length a) v → value_faults text ls a v ≡ [] → WellFormedValue (length ls) (length a) (value_of text ls a v)
+well_value text ls a (RPlain b ts) h e = (well_base text ls b h.0 (none_left _ _ e), well_types text a ts h.1 (none_right _ _ e))
+well_value text ls a (RPack t v s) h e =
+    let f = none_right _ _ e in
+    (well_type text a t h.0 (none_left _ _ e), well_value text ls a v h.1 (none_left _ _ f), well_type text a s h.2 (none_right _ _ f))
+
+well_instr : (text : List ℕ) (ls a : List Name) (i : RawInstr) → FitsInstr (length a) i → instr_faults text ls a i ≡ [] → WellFormedInstr (length ls) (length a) (instr_of text ls a i)
+well_instr text ls a (RArith op rd rs v) h e = (h.0, h.1, well_value text ls a v h.2 e)
+well_instr text ls a (RBnz r v) h e = (h.0, well_value text ls a v h.1 e)
+well_instr text ls a (RLd rd rs i) h e = h
+well_instr text ls a (RMalloc rd ts) h e = (h.0, well_types text a ts h.1 e)
+well_instr text ls a (RMov rd v) h e = (h.0, well_value text ls a v h.1 e)
+well_instr text ls a (RSt rd i rs) h e = h
+well_instr text ls a (RUnpack n rd v) h e = (h.0, well_value text ls a v h.1 e)
+
+-- the number of names after an instruction, read and resolved
+after_length : (text : List ℕ) (i : RawInstr) (a : List Name) → length (names_after text i a) ≡ after_raw i (length a)
+after_length text (RArith op rd rs v) a = refl
+after_length text (RBnz r v) a = refl
+after_length text (RLd rd rs i) a = refl
+after_length text (RMalloc rd ts) a = refl
+after_length text (RMov rd v) a = refl
+after_length text (RSt rd i rs) a = refl
+after_length text (RUnpack n rd v) a = omega arith
+
+after_same : (text : List ℕ) (ls a : List Name) (i : RawInstr) (n : ℕ) → tree.names_after (instr_of text ls a i) n ≡ after_raw i n
+after_same text ls a (RArith op rd rs v) n = refl
+after_same text ls a (RBnz r v) n = refl
+after_same text ls a (RLd rd rs i) n = refl
+after_same text ls a (RMalloc rd ts) n = refl
+after_same text ls a (RMov rd v) n = refl
+after_same text ls a (RSt rd i rs) n = refl
+after_same text ls a (RUnpack m rd v) n = refl
+
+well_end : (text : List ℕ) (ls a : List Name) (e : RawEnd) → FitsEnd (length a) e → end_faults text ls a e ≡ [] → WellFormedEnd (length ls) (length a) (end_of text ls a e)
+well_end text ls a (RJmp v) h e = well_value text ls a v h e
+well_end text ls a RHalt h e = tt
+
+well_seq : (text : List ℕ) (ls a : List Name) (is : List (RawInstr × Span)) (last : RawEnd) → FitsSteps (length a) is → FitsEnd (after_steps is (length a)) last → body_faults text ls a is ≡ [] →
+    end_faults text ls (names_after_all text is a) last ≡ [] → WellFormedSeq (length ls) (length a) (seq_of (body_of text ls a is) (end_of text ls (names_after_all text is a) last))
+well_seq text ls a [] last h g e f = well_end text ls a last g f
+well_seq text ls a (i ∷ is) last h g e f =
+    let l = after_length text i.0 a in
+    let s = after_same text ls a i.0 (length a) in
+    let p : length (names_after text i.0 a) ≡ tree.names_after (instr_of text ls a i.0) (length a) = l ∙ sym s in
+    (
+      well_instr text ls a i.0 h.0 (none_left _ _ e),
+      rw s h.1,
+      subst (λ (n : ℕ). WellFormedSeq (length ls) n (seq_of (body_of text ls (names_after text i.0 a) is) (end_of text ls (names_after_all text is (names_after text i.0 a)) last))) p
+      (well_seq text ls (names_after text i.0 a) is last (subst (λ (n : ℕ). FitsSteps n is) (sym l) h.2) (subst (λ (n : ℕ). FitsEnd (after_steps is n) last) (sym l) g) (none_right _ _ e) f)
+    )
+
+well_block : (text : List ℕ) (ls : List Name) (b : RawBlock) → FitsBlock b → block_faults text ls b ≡ [] → WellFormedBlock (length ls) (plain (block_of text ls b))
+well_block text ls b h e =
+    let l : length (bind text b.names []) ≡ length b.names = bind_length text b.names [] ∙ omega arith in
+    let f = none_right _ _ e in
+    (
+      h.0,
+      subst (λ (n : ℕ). RegsAbove 0 n (file_of text (bind text b.names []) b.file)) l (well_regs text (bind text b.names []) [] b.file (subst (λ (n : ℕ). FitsRegs n b.file) (sym l) h.1) (none_left _ _ e)),
+      subst (λ (n : ℕ). WellFormedSeq (length ls) n (seq_of (body_of text ls (bind text b.names []) b.body) (end_of text ls (names_after_all text b.body (bind text b.names [])) b.last.0))) l
+      (well_seq text ls (bind text b.names []) b.body b.last.0 (subst (λ (n : ℕ). FitsSteps n b.body) (sym l) h.2) (subst (λ (n : ℕ). FitsEnd (after_steps b.body n) b.last.0) (sym l) h.3) (none_left _ _ f) (none_right _ _ f))
+    )
+
+well_blocks : (text : List ℕ) (ls before : List Name) (bs : List RawBlock) → FitsBlocks bs → blocks_faults text ls before bs ≡ [] → WellFormedBlocks (length ls) (plain_blocks (map (block_of text ls) bs))
+well_blocks text ls before [] h e = tt
+well_blocks text ls before (b ∷ bs) h e =
+    let f = none_right _ _ e in (well_block text ls b h.0 (none_left _ _ f), well_blocks text ls (spelled text b.name ∷ before) bs h.1 (none_right _ _ f))
+
+plain_of : (bs : List code.Block) → blocks_of bs ≡ plain_blocks (spanned_blocks bs)
+plain_of [] = refl
+plain_of (b ∷ bs) = ap (λ (x : List TBlock). plain (spanned b) ∷ x) (plain_of bs)
+
+plain_length : (bs : List SBlock) → length (plain_blocks bs) ≡ length bs
+plain_length [] = refl
+plain_length (b ∷ bs) = let h = plain_length bs in omega (arith, h)
+
+pub is_whole : (text : List ℕ) (raw : List RawBlock) (bs : List code.Block) → IsShape text raw → program_faults text raw ≡ [] → spanned_blocks bs ≡ program_of text raw → Whole (blocks_of bs)
+is_whole text raw bs h f e =
+    let p = fits_Program h.shape (kept_cut h.cut) h.short in
+    let q : blocks_of bs ≡ plain_blocks (program_of text raw) = plain_of bs ∙ ap plain_blocks e in
+    let l : length (plain_blocks (program_of text raw)) ≡ length raw = plain_length (program_of text raw) ∙ length-map raw (block_of text (labels_of text raw)) in
+    let m : length (labels_of text raw) ≡ length (plain_blocks (program_of text raw)) = length-map raw (λ (b : RawBlock). spelled text b.name) ∙ sym l in
+    subst Whole (sym q) (omega (arith, l, p.1), subst (λ (n : ℕ). WellFormedBlocks n (plain_blocks (program_of text raw))) m (well_blocks text (labels_of text raw) [] raw p.0 f))

@@ -1,0 +1,12 @@
+use Rattle.std.proofs.Common.{◌≡◌, ℕ, ◌+◌, ◌-◌, List, [], ◌∷◌, ◌++◌, refl, sym, ◌∙◌, ap, arith, length, drop}
+use Rattle.std.proofs.lemmas.Result.{err_from_is_err_and}
+use Rattle.t_reader.proofs.Answered.{by_program, by_fault}
+use Rattle.t_reader.proofs.reader.read.Goals as goal
+
+pub returns-clause-program : goal.returns-clause-program
+returns-clause-program c =
+    λ P h. by_program c.args.text.now P c.reading.result c.reading.ensures h
+
+pub returns-clause-refused : goal.returns-clause-refused
+returns-clause-refused c =
+    λ code span h. by_fault c.args.text.now code span c.reading.result c.reading.ensures h

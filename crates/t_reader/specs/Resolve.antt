@@ -1,0 +1,65 @@
+-- What the resolving of names promises.
+use Rattle.std.specs.Prelude.{◌≡◌, ◌≤◌, ◌<◌, ◌+◌, ℕ, Bool, true, false, List, [], ◌∷◌, length, slice_get, nat_eq, Option, Some, None}
+use Rattle.std.specs.List.{list_any}
+use Rattle.std.proofs.Common.{get_or}
+use Rattle.idx_core.specs.declared.span.Span.{Span}
+use Rattle.idx_core.specs.Names.{Name}
+use Rattle.text_core.specs.Shapes.{NonePasses}
+use Rattle.t_types.specs.declared.types.TType.{TType}
+use Rattle.t_terms.specs.declared.token.Token.{Token}
+use Rattle.t_terms.specs.declared.fault.TCode.{TCode}
+use Rattle.t_terms.specs.declared.fault.TFault.{TFault}
+use Rattle.t_terms.specs.Tokens.{IsCut}
+use Rattle.t_terms.specs.Raw.{RawBlock}
+use Rattle.t_terms.specs.Grammar.{Program}
+use Rattle.t_terms.specs.Machine.{table}
+use Rattle.t_terms.specs.Names.{is_among, place_of}
+use Rattle.t_terms.specs.Text.{most_open, IsFirstFault}
+use Rattle.t_reader.specs.declared.scope.Stop.{Stop}
+use Rattle.t_reader.specs.declared.scope.Stop.TheVariants.{Memory, At}
+
+-- the first of the faults in the order of the text, or want of memory
+abbrev pub StopsAt : List (TCode × Span) → Stop → Type 0
+StopsAt faults Memory = Unit {0}
+StopsAt faults (At code span) = (rest : List (TCode × Span)) × (faults ≡ (code, span) ∷ rest)
+
+-- the place of a name among names, or none exactly where it is not there
+abbrev pub IsFound : Name → List Name → Option ℕ → Type 0
+IsFound x names None = is_among x names ≡ false
+IsFound x names (Some i) = (is_among x names ≡ true) × (place_of x names ≡ i)
+
+-- the registers from the place k on are greater than r, and the one before it is less
+pub record Follows (xs : List (ℕ × TType)) (r k : ℕ) : Type 0 where
+  pub within : k ≤ length xs
+  pub above : (j : ℕ) (d : ℕ × TType) → k ≤ j → j < length xs → r < (get_or xs j d).0
+  pub before : (j : ℕ) (d : ℕ × TType) → j + 1 ≡ k → (get_or xs j d).0 < r
+
+-- a register is there
+abbrev pub has : ℕ → List (ℕ × TType) → Bool
+has r xs = list_any (λ x. nat_eq r x.0) xs
+
+-- the place where a register goes, or none where it is there
+abbrev pub IsPlaceIn : List (ℕ × TType) → ℕ → Option ℕ → Type 0
+IsPlaceIn xs r None = has r xs ≡ true
+IsPlaceIn xs r (Some k) = Follows xs r k
+
+-- the place of a token, or the end of the text
+abbrev pub span_of : List ℕ → Option Token → Span
+span_of text None = record { start = length text; end = length text }
+span_of text (Some c) = c.span
+
+abbrev pub place_at : List ℕ → List Token → ℕ → Span
+place_at text ts i = span_of text (slice_get ts i)
+
+-- the text is cut into tokens that are these blocks within the limit on open constructs
+pub record IsShape (text : List ℕ) (raw : List RawBlock) : Type 0 where
+  pub tokens : List Token
+  pub cut : IsCut text tokens
+  pub shape : Program tokens raw
+  pub within : NonePasses table most_open tokens
+  -- no memory holds more
+  pub short : length tokens ≤ 9223372036854775807
+
+-- the text has a first fault before its names are looked at
+abbrev pub IsShapeFault : List ℕ → TFault → Type 0
+IsShapeFault text f = IsFirstFault text f

@@ -1,0 +1,107 @@
+// From the bytes of a text to its program.
+ghost use Rattle.std.specs.Prelude.{◌≡◌, ◌≢◌, List, [], nat_eq, not, ◌&&◌, MatchResult, IsErrAnd};
+ghost use Rattle.idx_core.specs.declared.span.Span as place;
+ghost use Rattle.t_terms.specs.declared.fault.TCode as codes;
+ghost use Rattle.t_terms.specs.declared.fault.TFault.TheVariants as fault;
+ghost use Rattle.t_terms.specs.Spanned.{SBlock};
+ghost use Rattle.t_terms.specs.Read.{spanned_blocks};
+ghost use Rattle.t_terms.specs.Text.{ReadsAs, FirstFault, IsFirstFault};
+ghost use Rattle.t_terms.specs.Names.{program_of, is_among, place_of};
+ghost use Rattle.t_terms.specs.NameFaults.{program_faults};
+ghost use Rattle.t_shapes.specs.Raw.{raw_blocks};
+ghost use Rattle.t_reader.specs.Resolve.{StopsAt, IsShape, IsShapeFault, place_at};
+
+use crate::labels::labels_in;
+use crate::resolve::block_in;
+use crate::scope::{Stop, find, spelling};
+use idx_core::{Names, Span};
+use std::alloc::Global;
+use t_grammar::Stopped;
+use t_lexer::tokens;
+use t_shapes::{RawBlock, program};
+use t_terms::{Block, TCode, TFault, TProgram, Token};
+
+// the place of a token, or the end of the text
+fn place(text: &[u8], tokens: &[Token], at: usize) -> Span
+    ensures { result ≡ place_at text.now tokens.now at }
+{
+    match tokens.get(at) {
+        Some(token) => token.span,
+        None => Span {
+            start: text.len() as u64,
+            end: text.len() as u64,
+        },
+    }
+}
+
+// the blocks of a text before names are resolved
+fn shape(alloc: Global, text: &[u8]) -> Result<Vec<RawBlock>, TFault>
+    ensures { MatchResult result (λ bs. IsShape text.now (raw_blocks bs.items)) (λ f. IsShapeFault text.now f) }
+{
+    let tokens = tokens(alloc, text)?;
+    match program(alloc, &tokens) {
+        Ok(blocks) => Ok(blocks),
+        Err(Stopped::Memory) => Err(TFault::Memory),
+        Err(Stopped::Unexpected(at)) => Err(TFault::Refused {
+            code: TCode::T03,
+            span: place(text, &tokens, at),
+        }),
+        Err(Stopped::TooDeep(at)) => Err(TFault::Refused {
+            code: TCode::M1,
+            span: place(text, &tokens, at),
+        }),
+    }
+}
+
+// whether a label is that of a block before the one with this number
+fn stood_before(labels: &Names, name: &[u8], number: usize) -> bool
+    ensures { result ≡ not (is_among name.now labels.now && nat_eq (place_of name.now labels.now) number) }
+{
+    match find(labels, name) {
+        Some(place) => place != number as u64,
+        None => true,
+    }
+}
+
+// the blocks of a text with their names resolved
+fn blocks_in(alloc: Global, text: &[u8], raw: &[RawBlock]) -> Result<Vec<Block>, Stop>
+    ensures { MatchResult result
+        (λ bs. (program_faults text.now (raw_blocks raw.now) ≡ []) × (spanned_blocks bs.items ≡ program_of text.now (raw_blocks raw.now)))
+        (λ e. StopsAt (program_faults text.now (raw_blocks raw.now)) e) }
+{
+    let labels = labels_in(alloc, text, raw)?;
+    let mut blocks = Vec::new(alloc);
+    let mut number = 0usize;
+    for block in raw {
+        if stood_before(&labels, spelling(text, block.name), number) {
+            return Err(Stop::At(TCode::T04, block.name));
+        }
+        let made = block_in(alloc, text, &labels, block)?;
+        blocks.push(made)?;
+        number += 1;
+    }
+    Ok(blocks)
+}
+
+// the program or the first fault of a text
+fn reading(alloc: Global, text: &[u8]) -> Result<TProgram, TFault>
+    ensures { MatchResult result (λ p. ReadsAs text.now (spanned_blocks p.blocks.items)) (λ f. IsFirstFault text.now f) }
+{
+    let raw = shape(alloc, text)?;
+    match blocks_in(alloc, text, &raw) {
+        Ok(blocks) => Ok(TProgram { blocks }),
+        Err(Stop::Memory) => Err(TFault::Memory),
+        Err(Stop::At(code, span)) => Err(TFault::Refused { code, span }),
+    }
+}
+
+/// The program that an assembly text stands for. Refused by T01 to T07 and M1: by the first fault of the tokens, else
+/// of the grammar or of the limit on open constructs, in the order of the tokens, else of names and registers, in the
+/// order of the text (own choice).
+pub fn read(alloc: Global, text: &[u8]) -> Result<TProgram, TFault>
+    ensures right { MatchResult result (λ p. ReadsAs text.now (spanned_blocks p.blocks.items)) (λ f. IsFirstFault text.now f) }
+    ensures program { (P : List SBlock) → ReadsAs text.now P → MatchResult result (λ p. spanned_blocks p.blocks.items ≡ P) (λ f. f ≡ fault.Memory) }
+    ensures refused { (code : codes.TCode) (span : place.Span) → FirstFault text.now code span → IsErrAnd result (λ f. f ≢ fault.Memory → f ≡ fault.Refused code span) }
+{
+    reading(alloc, text)
+}

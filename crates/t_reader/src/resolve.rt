@@ -1,0 +1,163 @@
+// The names of values, instructions and blocks.
+ghost use Rattle.std.specs.Prelude.{◌≡◌, List, [], map, MatchResult};
+ghost use Rattle.t_types.specs.Read.{tree};
+ghost use Rattle.t_terms.specs.Tree.{Pack};
+ghost use Rattle.t_terms.specs.Names.{base_of, value_of, instr_of, body_of, end_of, block_of, names_after, names_after_all};
+ghost use Rattle.t_terms.specs.NameFaults.{base_faults, value_faults, instr_faults, body_faults, end_faults, block_faults};
+ghost use Rattle.t_terms.specs.Read as read;
+ghost use Rattle.t_shapes.specs.Raw.{raw_base, raw_value, raw_instr, raw_step, raw_end, raw_block};
+ghost use Rattle.t_reader.specs.Resolve.{StopsAt};
+ghost use Rattle.t_reader.specs.declared.scope.Stop.TheVariants as stop;
+
+use crate::scope::{Stop, bind_all, find, spelling};
+use crate::types::{file_in, type_in, types_in};
+use idx_core::{Names, Span};
+use std::alloc::Global;
+use t_shapes::{RawBase, RawBlock, RawEnd, RawInstr, RawValue};
+use t_terms::{Base, Block, End, Instr, TCode, Value};
+use t_types::{RegFile, TType};
+
+// N ::= reg | number | label
+fn base_in(text: &[u8], labels: &Names, base: &RawBase) -> Result<Base, Stop>
+    ensures { MatchResult result
+        (λ b. (base_faults text.now labels.now (raw_base base.now) ≡ []) × (read.base b ≡ base_of text.now labels.now (raw_base base.now)))
+        (λ e. StopsAt (base_faults text.now labels.now (raw_base base.now)) e) }
+{
+    match base {
+        RawBase::Reg(reg) => Ok(Base::Reg(*reg)),
+        RawBase::Num(value) => Ok(Base::Int(*value)),
+        RawBase::Label(span) => match find(labels, spelling(text, *span)) {
+            Some(number) => Ok(Base::Label(number)),
+            None => Err(Stop::At(TCode::T05, *span)),
+        },
+    }
+}
+
+fn package(alloc: Global, hidden: TType, inner: Value, shape: TType) -> Result<Value, Stop>
+    ensures { MatchResult result (λ v. read.value v ≡ Pack (tree hidden) (read.value inner) (tree shape)) (λ e. e ≡ stop.Memory) }
+{
+    Ok(Value::Pack {
+        hidden,
+        inner: Box::new(alloc, inner)?,
+        shape,
+    })
+}
+
+/// The value that a value of a text is.
+pub fn value_in(alloc: Global, text: &[u8], labels: &Names, value: &RawValue, scope: &mut Names) -> Result<Value, Stop>
+    ensures { MatchResult result
+        (λ v. (scope.new ≡ scope.old) × (value_faults text.now labels.now scope.old (raw_value value.now) ≡ []) × (read.value v ≡ value_of text.now labels.now scope.old (raw_value value.now)))
+        (λ e. StopsAt (value_faults text.now labels.now scope.old (raw_value value.now)) e) }
+{
+    match value {
+        RawValue::Plain(base, types) => {
+            let base = base_in(text, labels, base)?;
+            let types = types_in(alloc, text, types, scope)?;
+            Ok(Value::Plain { base, types })
+        }
+        RawValue::Pack(hidden, inner, shape) => {
+            let hidden = type_in(alloc, text, hidden, scope)?;
+            let inner = value_in(alloc, text, labels, inner, scope)?;
+            let shape = type_in(alloc, text, shape, scope)?;
+            let whole = package(alloc, hidden, inner, shape)?;
+            Ok(whole)
+        }
+    }
+}
+
+/// The instruction that an instruction of a text is. An `unpack` leaves its name bound.
+pub fn instr_in(alloc: Global, text: &[u8], labels: &Names, instr: &RawInstr, scope: &mut Names) -> Result<Instr, Stop>
+    ensures { MatchResult result
+        (λ i. (scope.new ≡ names_after text.now (raw_instr instr.now) scope.old) × (instr_faults text.now labels.now scope.old (raw_instr instr.now) ≡ []) × (read.instr i ≡ instr_of text.now labels.now scope.old (raw_instr instr.now)))
+        (λ e. StopsAt (instr_faults text.now labels.now scope.old (raw_instr instr.now)) e) }
+{
+    match instr {
+        RawInstr::Arith(op, rd, rs, v) => {
+            let v = value_in(alloc, text, labels, v, scope)?;
+            Ok(Instr::Arith {
+                op: *op,
+                rd: *rd,
+                rs: *rs,
+                v,
+            })
+        }
+        RawInstr::Bnz(r, v) => {
+            let v = value_in(alloc, text, labels, v, scope)?;
+            Ok(Instr::Bnz { r: *r, v })
+        }
+        RawInstr::Ld(rd, rs, field) => Ok(Instr::Ld {
+            rd: *rd,
+            rs: *rs,
+            field: *field,
+        }),
+        RawInstr::Malloc(rd, types) => {
+            let types = types_in(alloc, text, types, scope)?;
+            Ok(Instr::Malloc { rd: *rd, types })
+        }
+        RawInstr::Mov(rd, v) => {
+            let v = value_in(alloc, text, labels, v, scope)?;
+            Ok(Instr::Mov { rd: *rd, v })
+        }
+        RawInstr::St(rd, field, rs) => Ok(Instr::St {
+            rd: *rd,
+            field: *field,
+            rs: *rs,
+        }),
+        RawInstr::Unpack(name, rd, v) => {
+            let v = value_in(alloc, text, labels, v, scope)?;
+            scope.push(spelling(text, *name))?;
+            Ok(Instr::Unpack { rd: *rd, v })
+        }
+    }
+}
+
+/// The instructions of a body, whose names stay bound.
+pub fn body_in(alloc: Global, text: &[u8], labels: &Names, body: &[(RawInstr, Span)], scope: &mut Names) -> Result<Vec<(Instr, Span)>, Stop>
+    ensures { MatchResult result
+        (λ is. (scope.new ≡ names_after_all text.now (map raw_step body.now) scope.old) × (body_faults text.now labels.now scope.old (map raw_step body.now) ≡ []) × (read.body is.items ≡ body_of text.now labels.now scope.old (map raw_step body.now)))
+        (λ e. StopsAt (body_faults text.now labels.now scope.old (map raw_step body.now)) e) }
+{
+    let mut made = Vec::new(alloc);
+    for step in body {
+        let instr = instr_in(alloc, text, labels, &step.0, scope)?;
+        made.push((instr, step.1))?;
+    }
+    Ok(made)
+}
+
+/// The end that an end of a text is.
+pub fn end_in(alloc: Global, text: &[u8], labels: &Names, end: &RawEnd, scope: &mut Names) -> Result<End, Stop>
+    ensures { MatchResult result
+        (λ e. (end_faults text.now labels.now scope.old (raw_end end.now) ≡ []) × (read.end_of e ≡ end_of text.now labels.now scope.old (raw_end end.now)))
+        (λ e. StopsAt (end_faults text.now labels.now scope.old (raw_end end.now)) e) }
+{
+    match end {
+        RawEnd::Jmp(v) => {
+            let v = value_in(alloc, text, labels, v, scope)?;
+            Ok(End::Jmp(v))
+        }
+        RawEnd::Halt => Ok(End::Halt),
+    }
+}
+
+/// The block that a block of a text is.
+pub fn block_in(alloc: Global, text: &[u8], labels: &Names, block: &RawBlock) -> Result<Block, Stop>
+    ensures { MatchResult result
+        (λ b. (block_faults text.now labels.now (raw_block block.now) ≡ []) × (read.spanned b ≡ block_of text.now labels.now (raw_block block.now)))
+        (λ e. StopsAt (block_faults text.now labels.now (raw_block block.now)) e) }
+{
+    let mut scope = Names::new(alloc);
+    let names = block.names.as_slice();
+    bind_all(text, names, &mut scope)?;
+    let regs = file_in(alloc, text, &block.file.regs, &mut scope)?;
+    let body = body_in(alloc, text, labels, &block.body, &mut scope)?;
+    let end = end_in(alloc, text, labels, &block.last.0, &mut scope)?;
+    Ok(Block {
+        name: block.name,
+        owes: names.len() as u64,
+        regs: RegFile { regs },
+        body,
+        end,
+        end_span: block.last.1,
+    })
+}

@@ -1,0 +1,123 @@
+// The names of types.
+ghost use Rattle.std.specs.Prelude.{◌≡◌, ◌≤◌, List, [], map, length, MatchResult};
+ghost use Rattle.t_types.specs.Tree.{ExistsTy};
+ghost use Rattle.t_types.specs.Read.{tree, types, file};
+ghost use Rattle.t_terms.specs.Raw.{raw_regs, raw_fields};
+ghost use Rattle.t_terms.specs.Names.{type_of, types_of, file_of};
+ghost use Rattle.t_terms.specs.NameFaults.{type_faults, types_faults, regs_faults};
+ghost use Rattle.t_grammar.specs.Raw.{raw, raw_reg};
+ghost use Rattle.t_reader.specs.Resolve.{StopsAt, IsPlaceIn};
+ghost use Rattle.t_reader.specs.declared.scope.Stop.TheVariants as stop;
+
+use crate::scope::{Stop, bind_all, find, release, spelling};
+use idx_core::{Names, Span};
+use std::alloc::Global;
+use t_grammar::RawType;
+use t_terms::TCode;
+use t_types::{RegFile, TType};
+
+fn exists(alloc: Global, body: TType) -> Result<TType, Stop>
+    ensures { MatchResult result (λ t. tree t ≡ ExistsTy (tree body)) (λ e. e ≡ stop.Memory) }
+{
+    Ok(TType::Exists(Box::new(alloc, body)?))
+}
+
+// The place of a register in a file that is in ascending order, after each smaller one; none where it is there.
+fn place_in(regs: &[(u64, TType)], reg: u64) -> Option<usize>
+    ensures { IsPlaceIn regs.now reg result }
+{
+    let mut at = regs.len();
+    while at > 0 {
+        let last = regs[at - 1].0;
+        if last == reg {
+            return None;
+        }
+        if last < reg {
+            return Some(at);
+        }
+        at -= 1;
+    }
+    Some(0)
+}
+
+/// The type that a type of a text is, where these type names are in scope. They are as before where the answer is a
+/// type.
+#[cycle(types)]
+pub fn type_in(alloc: Global, text: &[u8], ty: &RawType, scope: &mut Names) -> Result<TType, Stop>
+    ensures {
+        MatchResult result
+            (λ t. (scope.new ≡ scope.old) × (type_faults text.now scope.old (raw ty.now) ≡ []) × (tree t ≡ type_of text.now scope.old (raw ty.now)))
+            (λ e. StopsAt (type_faults text.now scope.old (raw ty.now)) e)
+    }
+{
+    match ty {
+        RawType::Int => Ok(TType::Int),
+        RawType::Name(span) => match find(scope, spelling(text, *span)) {
+            Some(place) => Ok(TType::Var(place)),
+            None => Err(Stop::At(TCode::T06, *span)),
+        },
+        RawType::Code(names, file) => {
+            let names = names.as_slice();
+            let count = names.len();
+            bind_all(text, names, scope)?;
+            let regs = file_in(alloc, text, &file.regs, scope)?;
+            release(count, scope);
+            Ok(TType::Code {
+                owes: count as u64,
+                regs: RegFile { regs },
+            })
+        }
+        RawType::Some(name, body) => {
+            scope.push(spelling(text, *name))?;
+            let inner = type_in(alloc, text, body, scope)?;
+            scope.pop();
+            let whole = exists(alloc, inner)?;
+            Ok(whole)
+        }
+        RawType::Tuple(fields) => {
+            let mut made = Vec::new(alloc);
+            for field in fields {
+                let part = type_in(alloc, text, &field.0, scope)?;
+                made.push((part, field.1))?;
+            }
+            Ok(TType::Tuple(made))
+        }
+    }
+}
+
+/// The register file type that a file of a text is, its registers in ascending order.
+#[cycle(types)]
+pub fn file_in(alloc: Global, text: &[u8], regs: &[(u64, Span, RawType)], scope: &mut Names) -> Result<Vec<(u64, TType)>, Stop>
+    ensures {
+        MatchResult result
+            (λ f. (scope.new ≡ scope.old) × (regs_faults text.now scope.old [] (raw_regs (map raw_reg regs.now)) ≡ []) × (file f.items ≡ file_of text.now scope.old (raw_regs (map raw_reg regs.now))))
+            (λ e. StopsAt (regs_faults text.now scope.old [] (raw_regs (map raw_reg regs.now))) e)
+    }
+{
+    let mut made = Vec::new(alloc);
+    for reg in regs {
+        let at = match place_in(&made, reg.0) {
+            Some(at) => at,
+            None => return Err(Stop::At(TCode::T07, reg.1)),
+        };
+        let ty = type_in(alloc, text, &reg.2, scope)?;
+        made.insert(at, (reg.0, ty))?;
+    }
+    Ok(made)
+}
+
+/// The types of a list.
+pub fn types_in(alloc: Global, text: &[u8], list: &[RawType], scope: &mut Names) -> Result<Vec<TType>, Stop>
+    ensures {
+        MatchResult result
+            (λ ts. (scope.new ≡ scope.old) × (types_faults text.now scope.old (map raw list.now) ≡ []) × (types ts.items ≡ types_of text.now scope.old (map raw list.now)))
+            (λ e. StopsAt (types_faults text.now scope.old (map raw list.now)) e)
+    }
+{
+    let mut made = Vec::new(alloc);
+    for ty in list {
+        let ty = type_in(alloc, text, ty, scope)?;
+        made.push(ty)?;
+    }
+    Ok(made)
+}

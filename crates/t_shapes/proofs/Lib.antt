@@ -1,0 +1,5 @@
+pub mod Lines
+pub mod Bracketed
+pub mod Based
+pub mod Blocked
+pub mod Stepped

@@ -1,0 +1,163 @@
+-- The lines of values, instructions and blocks by their first tokens.
+use Rattle.std.proofs.Common.{◌≡◌, ◌≢◌, ℕ, List, [], ◌∷◌, ◌++◌, slice_get, refl, Some, None, true, false, if◌then◌else◌}
+use Rattle.text_core.specs.Table.{Tm, Nt, Do, Mark, then_more}
+use Rattle.text_core.proofs.Going as step
+use Rattle.t_terms.specs.declared.token.Token.{Token}
+use Rattle.t_terms.specs.declared.token.Kind.{Kind}
+use Rattle.t_terms.specs.declared.token.Kind.TheVariants as k
+use Rattle.t_terms.specs.declared.wanted.Wanted.TheVariants as want
+use Rattle.t_terms.specs.Machine.{table, LT, LTypes, LTypeList, LSomeTypes, MoreTypes, MakeTypes, FirstType, NextType, CloseTypes, NoTypes, LV, LArgs, LPacked, MakeApply, MakePacked, LTo, MakeTo, LAt, MakeAt, LIndex, MakeIndex, LTarget, MakeTarget, LInt, MakeInt, LBlock, MoreBlocks, LProgram, FirstBlock, MakeProgram, fits, after, type_list_after, some_types_after, types_tail, value_after, base_owed, instr_after, block_owed, blocks_tail, end_after}
+use Rattle.t_grammar.proofs.Stepping.{Misses, Moves, not_fits, Opens, ListLine}
+use Rattle.t_shapes.specs.Raw.{is_base}
+
+pub opens_types : Opens LTypes want.LeftBracket (Nt LTypeList ∷ (Mark ∷ (Do MakeTypes ∷ [])))
+opens_types = record { takes = λ c e. takes c e; no_other = λ c e. no_other c e }
+  where
+    takes : (c : Kind) → fits want.LeftBracket c ≡ true → after LTypes c ≡ Some (Nt LTypeList ∷ (Mark ∷ (Do MakeTypes ∷ [])))
+    takes k.LeftBracket e = refl
+    takes _ e = absurd (cc)
+
+    no_other : (c : Kind) → fits want.LeftBracket c ≡ false → after LTypes c ≡ None
+    no_other k.LeftBracket e = absurd (cc)
+    no_other _ e = refl
+
+pub comma_types : Opens MoreTypes want.Comma (Nt LT ∷ (Do NextType ∷ (Nt MoreTypes ∷ [])))
+comma_types = record { takes = λ c e. takes c e; no_other = λ c e. no_other c e }
+  where
+    takes : (c : Kind) → fits want.Comma c ≡ true → after MoreTypes c ≡ Some (Nt LT ∷ (Do NextType ∷ (Nt MoreTypes ∷ [])))
+    takes k.Comma e = refl
+    takes _ e = absurd (cc)
+
+    no_other : (c : Kind) → fits want.Comma c ≡ false → after MoreTypes c ≡ None
+    no_other k.Comma e = absurd (cc)
+    no_other _ e = refl
+
+pub some_begin : (ts : List Token) (d i : ℕ) → Moves ts d i (Nt LSomeTypes ∷ []) [] i (Nt LT ∷ types_tail) []
+some_begin ts d i = step.as_any table 2000 ts d i LT LSomeTypes types_tail [] [] refl refl (λ c q. refl)
+
+pub list_types : ListLine LSomeTypes MoreTypes want.RightBracket (Nt LT ∷ []) FirstType NextType CloseTypes
+list_types = record { begin = λ ts d i e. some_begin ts d i; comma = comma_types; ends = refl; flat = refl }
+
+types_begin : (c : Kind) → fits want.RightBracket c ≡ false → type_list_after c ≡ then_more table (some_types_after c) []
+types_begin k.RightBracket e = absurd (cc)
+types_begin _ e = refl
+
+pub as_some : (ts : List Token) (d i : ℕ) → Misses ts i want.RightBracket → Moves ts d i (Nt LTypeList ∷ []) [] i (Nt LSomeTypes ∷ []) []
+as_some ts d i e = step.as_any table 2000 ts d i LSomeTypes LTypeList [] [] [] refl refl (λ c q. types_begin c.kind (not_fits want.RightBracket (slice_get ts i) c e q))
+
+pub no_types : (c : Kind) → fits want.RightBracket c ≡ true → type_list_after c ≡ Some (Do NoTypes ∷ [])
+no_types k.RightBracket e = refl
+no_types _ e = absurd (cc)
+
+pub opens_args : Opens LArgs want.LeftBracket (Nt LSomeTypes ∷ (Mark ∷ (Do MakeApply ∷ [])))
+opens_args = record { takes = λ c e. takes c e; no_other = λ c e. no_other c e }
+  where
+    takes : (c : Kind) → fits want.LeftBracket c ≡ true → after LArgs c ≡ Some (Nt LSomeTypes ∷ (Mark ∷ (Do MakeApply ∷ [])))
+    takes k.LeftBracket e = refl
+    takes _ e = absurd (cc)
+
+    no_other : (c : Kind) → fits want.LeftBracket c ≡ false → after LArgs c ≡ None
+    no_other k.LeftBracket e = absurd (cc)
+    no_other _ e = refl
+
+pub opens_packed : Opens LPacked want.LeftBracket (Nt LT ∷ (Tm want.Comma ∷ (Nt LV ∷ (Tm want.RightBracket ∷ (Mark ∷ (Do MakePacked ∷ []))))))
+opens_packed = record { takes = λ c e. takes c e; no_other = λ c e. no_other c e }
+  where
+    takes : (c : Kind) → fits want.LeftBracket c ≡ true → after LPacked c ≡ Some (Nt LT ∷ (Tm want.Comma ∷ (Nt LV ∷ (Tm want.RightBracket ∷ (Mark ∷ (Do MakePacked ∷ []))))))
+    takes k.LeftBracket e = refl
+    takes _ e = absurd (cc)
+
+    no_other : (c : Kind) → fits want.LeftBracket c ≡ false → after LPacked c ≡ None
+    no_other k.LeftBracket e = absurd (cc)
+    no_other _ e = refl
+
+pub opens_index : Opens LIndex want.LeftBracket (Tm want.Number ∷ (Tm want.RightBracket ∷ (Mark ∷ (Do MakeIndex ∷ []))))
+opens_index = record { takes = λ c e. takes c e; no_other = λ c e. no_other c e }
+  where
+    takes : (c : Kind) → fits want.LeftBracket c ≡ true → after LIndex c ≡ Some (Tm want.Number ∷ (Tm want.RightBracket ∷ (Mark ∷ (Do MakeIndex ∷ []))))
+    takes k.LeftBracket e = refl
+    takes _ e = absurd (cc)
+
+    no_other : (c : Kind) → fits want.LeftBracket c ≡ false → after LIndex c ≡ None
+    no_other k.LeftBracket e = absurd (cc)
+    no_other _ e = refl
+
+pub opens_target : Opens LTarget want.LeftBracket (Tm want.Name ∷ (Tm want.Comma ∷ (Tm want.Register ∷ (Tm want.RightBracket ∷ (Mark ∷ (Do MakeTarget ∷ []))))))
+opens_target = record { takes = λ c e. takes c e; no_other = λ c e. no_other c e }
+  where
+    takes : (c : Kind) → fits want.LeftBracket c ≡ true → after LTarget c ≡ Some (Tm want.Name ∷ (Tm want.Comma ∷ (Tm want.Register ∷ (Tm want.RightBracket ∷ (Mark ∷ (Do MakeTarget ∷ []))))))
+    takes k.LeftBracket e = refl
+    takes _ e = absurd (cc)
+
+    no_other : (c : Kind) → fits want.LeftBracket c ≡ false → after LTarget c ≡ None
+    no_other k.LeftBracket e = absurd (cc)
+    no_other _ e = refl
+
+pub opens_int : Opens LInt want.LeftBracket (Tm want.Int ∷ (Tm want.RightBracket ∷ (Mark ∷ (Do MakeInt ∷ []))))
+opens_int = record { takes = λ c e. takes c e; no_other = λ c e. no_other c e }
+  where
+    takes : (c : Kind) → fits want.LeftBracket c ≡ true → after LInt c ≡ Some (Tm want.Int ∷ (Tm want.RightBracket ∷ (Mark ∷ (Do MakeInt ∷ []))))
+    takes k.LeftBracket e = refl
+    takes _ e = absurd (cc)
+
+    no_other : (c : Kind) → fits want.LeftBracket c ≡ false → after LInt c ≡ None
+    no_other k.LeftBracket e = absurd (cc)
+    no_other _ e = refl
+
+pub to_begins : (c : Kind) → after LTo c ≡ (if fits want.Register c then Some (Tm want.Comma ∷ (Do MakeTo ∷ [])) else None)
+to_begins (k.Register r) = refl
+to_begins _ = refl
+
+pub at_begins : (c : Kind) → after LAt c ≡ (if fits want.Register c then Some (Nt LIndex ∷ (Do MakeAt ∷ [])) else None)
+at_begins (k.Register r) = refl
+at_begins _ = refl
+
+pub block_begins : (c : Kind) → after LBlock c ≡ (if fits want.Name c then Some (block_owed) else None)
+block_begins k.Name = refl
+block_begins _ = refl
+
+pub program_begins : (c : Kind) → after LProgram c ≡ (if fits want.Tal c then Some (Tm want.One ∷ (Nt LBlock ∷ (Do FirstBlock ∷ (Nt MoreBlocks ∷ (Do MakeProgram ∷ []))))) else None)
+program_begins k.Tal = refl
+program_begins _ = refl
+
+-- a value that begins with a base, and none
+pub base_begins : (c : Kind) → is_base c ≡ true → value_after c ≡ Some base_owed
+base_begins (k.Register r) e = refl
+base_begins (k.Plain z) e = refl
+base_begins (k.Negative z) e = refl
+base_begins k.Name e = refl
+base_begins _ e = absurd (cc)
+
+pub no_value : (c : Kind) → is_base c ≡ false → c ≢ k.Pack → value_after c ≡ None
+no_value (k.Register r) e n = absurd (cc)
+no_value (k.Plain z) e n = absurd (cc)
+no_value (k.Negative z) e n = absurd (cc)
+no_value k.Name e n = absurd (cc)
+no_value k.Pack e n = absurd (n refl)
+no_value _ e n = refl
+
+pub no_step : (c : Kind) → c ≢ k.Add → c ≢ k.Sub → c ≢ k.Mul → c ≢ k.Bnz → c ≢ k.Ld → c ≢ k.Malloc → c ≢ k.Mov → c ≢ k.St → c ≢ k.Unpack → instr_after c ≡ None
+no_step k.Add a b d e f g h i j = absurd (a refl)
+no_step k.Sub a b d e f g h i j = absurd (b refl)
+no_step k.Mul a b d e f g h i j = absurd (d refl)
+no_step k.Bnz a b d e f g h i j = absurd (e refl)
+no_step k.Ld a b d e f g h i j = absurd (f refl)
+no_step k.Malloc a b d e f g h i j = absurd (g refl)
+no_step k.Mov a b d e f g h i j = absurd (h refl)
+no_step k.St a b d e f g h i j = absurd (i refl)
+no_step k.Unpack a b d e f g h i j = absurd (j refl)
+no_step _ a b d e f g h i j = refl
+
+pub no_end : (c : Kind) → c ≢ k.Jmp → c ≢ k.Halt → end_after c ≡ None
+no_end k.Jmp a b = absurd (a refl)
+no_end k.Halt a b = absurd (b refl)
+no_end _ a b = refl
+
+-- a block that follows on blocks, and none
+pub block_follows : (c : Kind) → fits want.Name c ≡ true → (after LBlock c ≡ Some block_owed) × (after MoreBlocks c ≡ Some (block_owed ++ blocks_tail))
+block_follows k.Name e = (refl, refl)
+block_follows _ e = absurd (cc)
+
+pub no_block : (c : Kind) → fits want.Name c ≡ false → after MoreBlocks c ≡ None
+no_block k.Name e = absurd (cc)
+no_block _ e = refl

@@ -1,0 +1,8 @@
+use Rattle.std.proofs.Common.{length, ◌-◌}
+use Rattle.t_shapes.proofs.values.+values.Given as goal
+
+abbrev pub decreases-value : goal.decreases-value
+decreases-value l = length l.tokens.now - l.at
+
+abbrev pub decreases-packed : goal.decreases-packed
+decreases-packed l = length l.tokens.now - l.at

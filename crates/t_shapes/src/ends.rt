@@ -1,0 +1,51 @@
+// The reading of the ends of blocks.
+ghost use Rattle.std.specs.Prelude.{◌≤◌, [], ◌∷◌, length, MatchResult};
+ghost use Rattle.text_core.specs.Table.{Nt};
+ghost use Rattle.t_terms.specs.Machine.{LEnd, OfEnd};
+ghost use Rattle.t_grammar.specs.Reads.{Reads, Fails};
+ghost use Rattle.t_shapes.specs.Raw.{raw_last};
+
+use crate::parts::int;
+use crate::raw::RawEnd;
+use crate::steps::up_to;
+use crate::values::value;
+use idx_core::Span;
+use std::alloc::Global;
+use t_grammar::{Stopped, peek};
+use t_terms::{Kind, Token};
+
+/// The end of a block that was read, with its place, and the number of the token after it.
+#[derive(Drop)]
+pub struct FoundEnd {
+    pub last: (RawEnd, Span),
+    pub next: usize,
+}
+
+/// End ::= jmp V | halt [ int ]
+pub fn end(alloc: Global, tokens: &[Token], at: usize) -> Result<FoundEnd, Stopped>
+    requires { at ≤ length tokens.now }
+    ensures { MatchResult result (λ f. Reads LEnd tokens.now 0 at f.next (OfEnd (raw_last f.last) ∷ [])) (λ e. Fails tokens.now 0 at (Nt LEnd ∷ []) [] e) }
+{
+    let word = match peek(tokens, at) {
+        Some(word) => word,
+        None => return Err(Stopped::Unexpected(at)),
+    };
+    let next = at + 1;
+    match word.kind {
+        Kind::Jmp => {
+            let target = value(alloc, tokens, next, 0)?;
+            Ok(FoundEnd {
+                last: (RawEnd::Jmp(target.value), up_to(word, target.end)),
+                next: target.next,
+            })
+        }
+        Kind::Halt => {
+            let close = int(tokens, next)?;
+            Ok(FoundEnd {
+                last: (RawEnd::Halt, up_to(word, close)),
+                next: at + 4,
+            })
+        }
+        _ => Err(Stopped::Unexpected(at)),
+    }
+}

@@ -1,0 +1,48 @@
+// Values, instructions and blocks before names are resolved.
+
+use idx_core::{Op, Span};
+use t_grammar::{RawFile, RawType};
+
+/// What a value begins with: a register, an integer, or the place of a label.
+#[derive(Clone, Copy, Debug, Drop)]
+pub enum RawBase {
+    Reg(u64),
+    Num(i64),
+    Label(Span),
+}
+
+/// A value: a base with the types that it is applied to, or a package: its hidden type, its value, and its type.
+#[derive(Drop)]
+pub enum RawValue {
+    Plain(RawBase, Vec<RawType>),
+    Pack(RawType, Box<RawValue>, RawType),
+}
+
+/// An instruction. `Unpack` has the place of the name that it binds.
+#[derive(Drop)]
+pub enum RawInstr {
+    Arith(Op, u64, u64, RawValue),
+    Bnz(u64, RawValue),
+    Ld(u64, u64, u64),
+    Malloc(u64, Vec<RawType>),
+    Mov(u64, RawValue),
+    St(u64, u64, u64),
+    Unpack(Span, u64, RawValue),
+}
+
+/// The end of a block.
+#[derive(Drop)]
+pub enum RawEnd {
+    Jmp(RawValue),
+    Halt,
+}
+
+/// A block: its label, the names that it binds, its file, and its instructions and its end, each with its place.
+#[derive(Drop)]
+pub struct RawBlock {
+    pub name: Span,
+    pub names: Vec<Span>,
+    pub file: RawFile,
+    pub body: Vec<(RawInstr, Span)>,
+    pub last: (RawEnd, Span),
+}

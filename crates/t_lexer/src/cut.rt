@@ -8,7 +8,6 @@ ghost use Rattle.t_terms.specs.Tokens.{IsCut};
 ghost use Rattle.t_lexer.specs.Cut.{IsTokenFault, FirstTokenFault};
 
 use crate::scan::find;
-
 use idx_core::Span;
 use std::alloc::Global;
 use t_terms::{TCode, TFault, Token};
@@ -124,7 +123,8 @@ mod tests {
 
     #[test]
     fn knows_every_word_and_sign(rt: HostRuntime) {
-        let text = b"tal code all some pack as unpack add sub mul bnz ld st mov malloc jmp halt int data x 1 ~1 r2[]{}<>,.:^";
+        let text =
+            b"tal code all some pack as unpack add sub mul bnz ld st mov malloc jmp halt int data x 1 ~1 r2[]{}<>,.:^";
         let want = [
             Kind::Tal,
             Kind::Code,

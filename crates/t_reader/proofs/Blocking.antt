@@ -40,5 +40,5 @@ module _ (text : List ℕ) (ls : List Name) (b : RawBlock) (ns : List Span) (p :
           (block_faults text ls (raw_block b) ≡ []) × (read.spanned (record { name = b.name; owes = length ns; regs = record { regs = regs }; body = body; end = last; end_span = b.last.1 }) ≡ block_of text ls (raw_block b))
       block_whole last h = (
         rw (← p, ← n, ← q, ← r) (none_both _ _ d.1 (none_both _ _ (rw d.0 at g.1) (rw (g.0, d.0) at h.0))),
-        rw (← p, ← n, ← q, ← r, d.2, rw d.0 at g.2, rw (g.0, d.0) at h.1) refl
+        rw (← p, ← n, ← q, ← r, d.2, rw d.0 at g.2, rw (g.0, d.0) at h.1) refl,
       )

@@ -51,7 +51,7 @@ module _ (text : List ℕ) (a : List Name) (ty : RawType) where
     code_whole c d ts k l u v g h = (
       v ∙ (ap (λ (x : List Name). drop k x) (u ∙ n) ∙ (ap (λ (x : ℕ). drop x (bind text ns a)) l ∙ drop_bind text ns a)),
       rw (is_code, ← p, ← q, ← n) g,
-      tree_Code k (record { regs = ts }) ∙ rw (is_code, ← p, ← q, ← n, l) (ap (CodeTy (length ns)) h)
+      tree_Code k (record { regs = ts }) ∙ rw (is_code, ← p, ← q, ← n, l) (ap (CodeTy (length ns)) h),
     )
 
   module _ (s : Span) (x : Box RawType Global) (body : RawType) (e : ty ≡ R.Some s x) (y : x.value ≡ body) (b : List Name) (n : b ≡ spelled text s ∷ a) where

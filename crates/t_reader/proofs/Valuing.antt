@@ -72,7 +72,7 @@ module _ (text : List ℕ) (ls a : List Name) (v : RawValue) where
         pack_whole f u h z q = (
           h.0 ∙ (g.0 ∙ d.0),
           rw (e, y) (none_both _ _ d.1 (none_both _ _ (rw d.0 at g.1) (rw (g.0, d.0) at h.1))),
-          q ∙ rw (e, y, d.2, rw d.0 at g.2, rw (g.0, d.0) at h.2) refl
+          q ∙ rw (e, y, d.2, rw d.0 at g.2, rw (g.0, d.0) at h.2) refl,
         )
 
 -- a body, of which the instructions from k on are left

@@ -16,24 +16,66 @@ fn finds_the_first_fault(rt: HostRuntime) {
     let rows: [(&[u8], Option<TFault>); 20] = [
         (b"", fault(TCode::T03, 0, 0)),
         (b"tal 1 $", fault(TCode::T01, 6, 7)),
-        (b"tal 1\nL0: code[]{}. mov r0, 1 halt[int]", fault(TCode::T02, 24, 26)),
-        (b"tal 1\nL0: code[]{}. jmp L0\nL0: code[]{}. jmp L0", fault(TCode::T04, 27, 29)),
+        (
+            b"tal 1\nL0: code[]{}. mov r0, 1 halt[int]",
+            fault(TCode::T02, 24, 26),
+        ),
+        (
+            b"tal 1\nL0: code[]{}. jmp L0\nL0: code[]{}. jmp L0",
+            fault(TCode::T04, 27, 29),
+        ),
         (b"tal 1\nL0: code[]{}. jmp L9", fault(TCode::T05, 24, 26)),
-        (b"tal 1\nL0: code[]{}. malloc r1[a] jmp L0", fault(TCode::T06, 30, 31)),
-        (b"tal 1\nL0: code[]{r1:int,r1:int}. halt[int]", fault(TCode::T07, 24, 26)),
+        (
+            b"tal 1\nL0: code[]{}. malloc r1[a] jmp L0",
+            fault(TCode::T06, 30, 31),
+        ),
+        (
+            b"tal 1\nL0: code[]{r1:int,r1:int}. halt[int]",
+            fault(TCode::T07, 24, 26),
+        ),
         (b"tal 2\nL0: code[]{}. halt[int]", fault(TCode::T03, 4, 5)),
         (b"tal 1 data", fault(TCode::T03, 6, 10)),
-        (b"tal 1\nL0: code[]{}. malloc r1[<int^2>] halt[int]", fault(TCode::T03, 35, 36)),
-        (b"tal 1\nL0: code[]{}. ld r1, r1[~0] halt[int]", fault(TCode::T03, 30, 32)),
-        (b"tal 1\nL0: code[a,a]{r2:all[b]{r1:a},r1:a}. malloc r1[<int^~0,some a. a^1>] halt[int]", None),
+        (
+            b"tal 1\nL0: code[]{}. malloc r1[<int^2>] halt[int]",
+            fault(TCode::T03, 35, 36),
+        ),
+        (
+            b"tal 1\nL0: code[]{}. ld r1, r1[~0] halt[int]",
+            fault(TCode::T03, 30, 32),
+        ),
+        (
+            b"tal 1\nL0: code[a,a]{r2:all[b]{r1:a},r1:a}. malloc r1[<int^~0,some a. a^1>] halt[int]",
+            None,
+        ),
         (b"tal 01 L : code[]{}. mov r003, ~0 halt[int]", None),
-        (b"tal 1\nL0: code[]{}. jmp L0 halt[int]", fault(TCode::T03, 27, 31)),
-        (b"tal 1\nL0: code[]{}. unpack[a,r1], r1 mov r2, r1[a] jmp L0[a]", None),
-        (b"tal 1\nL0: code[]{}. mov r2, r1[a] unpack[a,r1], r1 jmp L0", fault(TCode::T06, 32, 33)),
-        (b"tal 1\nL0: code[]{r2:int,r1:b,r2:c}. jmp L9", fault(TCode::T06, 27, 28)),
-        (b"tal 1\nL0: code[]{}. jmp L1\nL1: code[]{r2:int,r2:c}. jmp L9\nL0: code[]{}. jmp L9", fault(TCode::T07, 43, 45)),
-        (b"tal 1\nL0: code[]{}. mov r1, pack[a, L9] as int halt[int]", fault(TCode::T06, 34, 35)),
-        (b"tal 1\nL0: code[]{}. mov r1, pack[int, L9] as a halt[int]", fault(TCode::T05, 39, 41)),
+        (
+            b"tal 1\nL0: code[]{}. jmp L0 halt[int]",
+            fault(TCode::T03, 27, 31),
+        ),
+        (
+            b"tal 1\nL0: code[]{}. unpack[a,r1], r1 mov r2, r1[a] jmp L0[a]",
+            None,
+        ),
+        (
+            b"tal 1\nL0: code[]{}. mov r2, r1[a] unpack[a,r1], r1 jmp L0",
+            fault(TCode::T06, 32, 33),
+        ),
+        (
+            b"tal 1\nL0: code[]{r2:int,r1:b,r2:c}. jmp L9",
+            fault(TCode::T06, 27, 28),
+        ),
+        (
+            b"tal 1\nL0: code[]{}. jmp L1\nL1: code[]{r2:int,r2:c}. jmp L9\nL0: code[]{}. jmp L9",
+            fault(TCode::T07, 43, 45),
+        ),
+        (
+            b"tal 1\nL0: code[]{}. mov r1, pack[a, L9] as int halt[int]",
+            fault(TCode::T06, 34, 35),
+        ),
+        (
+            b"tal 1\nL0: code[]{}. mov r1, pack[int, L9] as a halt[int]",
+            fault(TCode::T05, 39, 41),
+        ),
     ];
     for (text, want) in rows {
         assert_eq!(rt; read(rt.alloc(), text).err(), want);
@@ -61,10 +103,12 @@ fn jump_of(text: &[u8], rt: &HostRuntime) -> Option<u64> {
     let program = read(rt.alloc(), text).ok()?;
     let first = program.blocks.get(0)?;
     match &first.end {
-        End::Jmp(Value::Plain {
-            base: Base::Label(label),
-            ..
-        }) => Some(*label),
+        End::Jmp(
+            Value::Plain {
+                base: Base::Label(label),
+                ..
+            },
+        ) => Some(*label),
         _ => None,
     }
 }

@@ -6,10 +6,18 @@ use std::alloc::Global;
 use std::process::Abort;
 use std::test::Fail;
 
-const OLDER_REGISTER: &str = "tal 1\nL0: code[]{}.\nmalloc r1[int]\nmov r2, r1\nmov r3, 5\nst r1[0], r3\nld r1, r2[0]\nhalt[int]\n";
-const FIRST_REGISTER: &str = "tal 1\nL0: code[]{}.\nmalloc r1[int]\nmov r2, r1\nmov r3, 5\nst r1[0], r3\nld r1, r1[0]\nhalt[int]\n";
-const EXTRA_REGISTER: &str = "tal 1\nL0: code[]{}. mov r1, 5 mov r2, 6 jmp L1\nL1: code[]{r1:int}. halt[int]";
-const POLYMORPHIC: &str = "tal 1\nL0: code[]{}. mov r1, 5 mov r2, L2 jmp L1[int]\nL1: code[a]{r1:a, r2:all[]{r1:a}}. jmp r2\nL2: code[]{r1:int}. halt[int]";
+const OLDER_REGISTER: &str =
+    "tal 1\nL0: code[]{}.\nmalloc r1[int]\nmov r2, r1\nmov r3, 5\nst r1[0], r3\nld r1, r2[0]\nhalt[int]\n";
+
+const FIRST_REGISTER: &str =
+    "tal 1\nL0: code[]{}.\nmalloc r1[int]\nmov r2, r1\nmov r3, 5\nst r1[0], r3\nld r1, r1[0]\nhalt[int]\n";
+
+const EXTRA_REGISTER: &str =
+    "tal 1\nL0: code[]{}. mov r1, 5 mov r2, 6 jmp L1\nL1: code[]{r1:int}. halt[int]";
+
+const POLYMORPHIC: &str =
+    "tal 1\nL0: code[]{}. mov r1, 5 mov r2, L2 jmp L1[int]\nL1: code[a]{r1:a, r2:all[]{r1:a}}. jmp r2\nL2: code[]{r1:int}. halt[int]";
+
 const FOREVER: &str = "tal 1\nL0: code[]{}. jmp L0";
 
 fn checks(
@@ -21,7 +29,15 @@ fn checks(
     said: &str,
 ) -> Result<(), Fail> {
     let words = ["talc", "check", "x"];
-    shows(rt, alloc, &words, text, wanted, shown.as_bytes(), said.as_bytes())
+    shows(
+        rt,
+        alloc,
+        &words,
+        text,
+        wanted,
+        shown.as_bytes(),
+        said.as_bytes(),
+    )
 }
 
 fn runs(
@@ -33,14 +49,29 @@ fn runs(
     shown: &str,
 ) -> Result<(), Fail> {
     let words = ["talc", "run", "x", "--fuel", fuel];
-    shows(rt, alloc, &words, text.as_bytes(), wanted, shown.as_bytes(), b"")
+    shows(
+        rt,
+        alloc,
+        &words,
+        text.as_bytes(),
+        wanted,
+        shown.as_bytes(),
+        b"",
+    )
 }
 
 #[test]
 fn accepted_texts(rt: HostRuntime) -> Result<(), Fail> {
     let texts = [FIRST_REGISTER, EXTRA_REGISTER, POLYMORPHIC, FOREVER];
     for text in texts {
-        checks(&rt, rt.alloc(), text.as_bytes(), Status::Done, "accepted\n", "")?;
+        checks(
+            &rt,
+            rt.alloc(),
+            text.as_bytes(),
+            Status::Done,
+            "accepted\n",
+            "",
+        )?;
     }
     Ok(())
 }
@@ -73,29 +104,59 @@ fn one_text_for_each_fault(rt: HostRuntime) -> Result<(), Fail> {
     let rows: [(&str, &str); 17] = [
         ("", "T03 0..0 unexpected token or end\n"),
         ("tal 1 $", "T01 6..7 byte begins no token\n"),
-        ("tal 1\nL0: code[]{}. mov r0, 1 halt[int]", "T02 24..26 number out of range\n"),
-        ("tal 1\nL0: code[]{}. jmp L0\nL0: code[]{}. jmp L0", "T04 27..29 duplicate label\n"),
+        (
+            "tal 1\nL0: code[]{}. mov r0, 1 halt[int]",
+            "T02 24..26 number out of range\n",
+        ),
+        (
+            "tal 1\nL0: code[]{}. jmp L0\nL0: code[]{}. jmp L0",
+            "T04 27..29 duplicate label\n",
+        ),
         ("tal 1\nL0: code[]{}. jmp L9", "T05 24..26 unknown label\n"),
-        ("tal 1\nL0: code[]{}. malloc r1[a] jmp L0", "T06 30..31 unbound type name\n"),
+        (
+            "tal 1\nL0: code[]{}. malloc r1[a] jmp L0",
+            "T06 30..31 unbound type name\n",
+        ),
         (
             "tal 1\nL0: code[]{r1:int,r1:int}. halt[int]",
             "T07 24..26 register twice in one file type\n",
         ),
-        ("tal 1\nL0: code[]{}. add r1, r2, 1 halt[int]", "T08 20..33 register without a type\n"),
-        ("tal 1\nL0: code[]{}. mov r1, 5 ld r1, r1[0] halt[int]", "T10 30..42 not a tuple\n"),
-        ("tal 1\nL0: code[]{}. malloc r1[] ld r1, r1[0] halt[int]", "T11 32..44 no such field\n"),
+        (
+            "tal 1\nL0: code[]{}. add r1, r2, 1 halt[int]",
+            "T08 20..33 register without a type\n",
+        ),
+        (
+            "tal 1\nL0: code[]{}. mov r1, 5 ld r1, r1[0] halt[int]",
+            "T10 30..42 not a tuple\n",
+        ),
+        (
+            "tal 1\nL0: code[]{}. malloc r1[] ld r1, r1[0] halt[int]",
+            "T11 32..44 no such field\n",
+        ),
         (
             "tal 1\nL0: code[]{}. malloc r1[int] mov r2, r1 st r1[0], r2 halt[int]",
             "T13 46..58 stored value of another type\n",
         ),
-        ("tal 1\nL0: code[]{}. unpack[a,r1], 5 halt[int]", "T14 20..35 not an existential\n"),
+        (
+            "tal 1\nL0: code[]{}. unpack[a,r1], 5 halt[int]",
+            "T14 20..35 not an existential\n",
+        ),
         (
             "tal 1\nL0: code[]{}. mov r1, pack[int,3] as some a. <> halt[int]",
             "T15 20..53 pack does not fit\n",
         ),
-        ("tal 1\nL0: code[]{}. jmp L0[int]", "T17 20..31 too many type arguments\n"),
-        ("tal 1\nL0: code[]{}. halt[int]", "T19 20..29 r1 is not int at halt\n"),
-        ("tal 1\nL0: code[]{r1:int}. halt[int]", "T20 6..8 first block takes something\n"),
+        (
+            "tal 1\nL0: code[]{}. jmp L0[int]",
+            "T17 20..31 too many type arguments\n",
+        ),
+        (
+            "tal 1\nL0: code[]{}. halt[int]",
+            "T19 20..29 r1 is not int at halt\n",
+        ),
+        (
+            "tal 1\nL0: code[]{r1:int}. halt[int]",
+            "T20 6..8 first block takes something\n",
+        ),
         (
             "tal 1\nL0: code[]{r1:int}. mov r1, r2 jmp L9",
             "T05 39..41 unknown label\n",
@@ -139,7 +200,11 @@ fn texts_that_halt(rt: HostRuntime) -> Result<(), Fail> {
         (FIRST_REGISTER, "5", "int 5\n"),
         (EXTRA_REGISTER, "3", "int 5\n"),
         (POLYMORPHIC, "4", "int 5\n"),
-        ("tal 1\nL0: code[]{}. mov r1, ~7 halt[int]", "18446744073709551615", "int ~7\n"),
+        (
+            "tal 1\nL0: code[]{}. mov r1, ~7 halt[int]",
+            "18446744073709551615",
+            "int ~7\n",
+        ),
         (
             "tal 1\nL0: code[]{}. mov r1, 9223372036854775807 mul r1, r1, 3 halt[int]",
             "2",
@@ -150,7 +215,11 @@ fn texts_that_halt(rt: HostRuntime) -> Result<(), Fail> {
             "2",
             "int 5\n",
         ),
-        ("tal 1\nL0: code[]{}. mov r2, 0 bnz r2, L0 mov r1, 3 halt[int]", "3", "int 3\n"),
+        (
+            "tal 1\nL0: code[]{}. mov r2, 0 bnz r2, L0 mov r1, 3 halt[int]",
+            "3",
+            "int 3\n",
+        ),
         (
             "tal 1\nL0: code[]{}. mov r1, pack[int,3] as some a. a unpack[b,r2], r1 mov r1, 9 halt[int]",
             "3",
@@ -186,7 +255,15 @@ fn texts_that_go_on(rt: HostRuntime) -> Result<(), Fail> {
 fn a_refused_text_is_not_run(rt: HostRuntime) -> Result<(), Fail> {
     let words = ["talc", "run", "x", "--fuel", "5"];
     let line = b"T12 69..81 field not initialised\n";
-    shows(&rt, rt.alloc(), &words, OLDER_REGISTER.as_bytes(), Status::Refused, b"", line)
+    shows(
+        &rt,
+        rt.alloc(),
+        &words,
+        OLDER_REGISTER.as_bytes(),
+        Status::Refused,
+        b"",
+        line,
+    )
 }
 
 // What `compile` writes of a number runs to that number.

@@ -159,7 +159,7 @@ fn one_text_for_each_fault(rt: HostRuntime) -> Result<(), Fail> {
         ),
         (
             "tal 1\nL0: code[]{r1:int}. mov r1, r2 jmp L9",
-            "T05 39..41 unknown label\n",
+            "T05 41..43 unknown label\n",
         ),
     ];
     for (text, line) in rows {

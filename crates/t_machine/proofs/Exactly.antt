@@ -1,12 +1,12 @@
 -- The answers of runs are exact.
-use Rattle.std.proofs.Common.{◌≡◌, ℕ, suc, ◌+◌, ◌-◌, ◌<◌, ◌≤◌, List, sym, ap, subst, arith, ◌⊎◌, ⊎_elim}
+use Rattle.std.proofs.Common.{◌≡◌, ℕ, suc, ◌+◌, ◌-◌, ◌<◌, ◌≤◌, List, sym, subst, arith, ⊎_elim}
 use Rattle.std.proofs.lemmas.Bool.{cases_lt}
 use Rattle.std.specs.Prelude.{ℤ}
 use Rattle.t_terms.specs.Tree.{TBlock}
 use Rattle.t_rules.specs.Machine.{State, Place, Step, HaltedWith, After}
 use Rattle.t_rules.specs.LawsErased.{HaltedAfter}
 use Rattle.t_rules.proofs.OneStep.{after_one, before, halted_no_step, halted_one}
-use Rattle.t_machine.specs.Runs.{GoesOnAfter, BeforeMalloc, RanFrom, HaltedExactly, SpentExactly, FirstRuns}
+use Rattle.t_machine.specs.Runs.{GoesOnAfter, HaltedExactly, SpentExactly}
 use Rattle.t_machine.specs.declared.machine.Ran.TheVariants.{Halted, Spent, NoMemory}
 
 -- there is no state after more steps than it takes to halt

@@ -1,5 +1,5 @@
 -- What a step of the erased machine tells of the words that it reads.
-use Rattle.std.proofs.Common.{◌≡◌, ℕ, List, Option, Some, None, refl, sym, ◌∙◌, cond, Bool, true, false, option_and_then}
+use Rattle.std.proofs.Common.{◌≡◌, ℕ, Option, Some, None, refl, cond, Bool, true, false, option_and_then}
 use Rattle.std.specs.Prelude.{ℤ, option_map}
 use Rattle.t_rules.specs.Erase.{EWord, EInt, EAddress, ELabel, EEmpty, on_int, on_address, on_label, on_full}
 

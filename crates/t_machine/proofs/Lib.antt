@@ -1,6 +1,7 @@
 pub mod Loads
 pub mod Cells
 pub mod Registers
+pub mod Formed
 pub mod Inverses
 pub mod Onwards
 pub mod Standing

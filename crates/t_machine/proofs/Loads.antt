@@ -7,7 +7,7 @@ use Rattle.t_terms.specs.Tree.{TBase, TBlock}
 use Rattle.t_terms.specs.Read.{block, blocks_of}
 use Rattle.t_terms.specs.declared.block.Block.{Block}
 use Rattle.t_rules.specs.Erase.{EInstr, ESeq, EThen, EJmp, EHalt, erase_block, erase_blocks, drop_seq}
-use Rattle.t_machine.specs.Places.{PlaceList, place_of, Extends}
+use Rattle.t_machine.specs.Places.{PlaceList, Extends}
 use Rattle.t_machine.specs.Code.{IsBase, IsInstr, IsEnd, Holds, HoldsBlocks}
 use Rattle.t_machine.specs.Lowering.{IsLoaded}
 use Rattle.t_machine.specs.declared.code.Operand.{Operand}

@@ -1,5 +1,5 @@
 -- Where the erased machine has a step, the instruction is ready, and what it does leads to the state after the step.
-use Rattle.std.proofs.Common.{◌≡◌, ℕ, ◌+◌, ◌<◌, List, [], ◌∷◌, ◌++◌, length, Option, Some, None, refl, sym, ap, ap₂, ◌∙◌, subst, arith, cond, nat_lt, Bool, true, false, slice_get, slice_set, option_and_then, replicate, get_or, ◌⊎◌, ⊎_elim}
+use Rattle.std.proofs.Common.{◌≡◌, ℕ, ◌+◌, ◌<◌, List, [], ◌∷◌, ◌++◌, length, Option, Some, None, refl, sym, ap, ap₂, ◌∙◌, subst, arith, cond, nat_lt, true, false, slice_get, slice_set, option_and_then, replicate, get_or, ⊎_elim}
 use Rattle.std.specs.Prelude.{ℤ, option_map}
 use Rattle.std.proofs.lemmas.Bool.Decides.{nat_tests}
 use Rattle.std.proofs.lemmas.Option.{slice_get_within, slice_get-get_or, get_or_from_slice_get}
@@ -8,14 +8,14 @@ use Rattle.idx_core.specs.Arith.{compute, is_zero}
 use Rattle.t_terms.specs.Tree.{TBase}
 use Rattle.t_rules.specs.Registers.{with_reg}
 use Rattle.t_rules.specs.Machine.{Where, Next, Into}
-use Rattle.t_rules.specs.Erase.{EWord, EInt, EAddress, ELabel, EEmpty, EInstr, EArith, EBnz, ELd, EMalloc, EMov, ESt, ESeq, EThen, EJmp, EHalt, EHeap, ERegs, EState, EAt, EStep, EGoes, base_word, on_int, on_address, on_label, on_full, enter, estep}
+use Rattle.t_rules.specs.Erase.{EWord, EInt, EAddress, ELabel, EEmpty, EInstr, EArith, EBnz, ELd, EMalloc, EMov, ESt, ESeq, EThen, EHeap, ERegs, EAt, EStep, EGoes, base_word, on_int, on_address, on_label, on_full, enter, estep}
 use Rattle.t_machine.specs.Places.{PlaceList, place_of, ArePlaces}
-use Rattle.t_machine.specs.Words.{word, held, regs_of, IsInteger}
+use Rattle.t_machine.specs.Words.{word, held, regs_of}
 use Rattle.t_machine.specs.Heap.{IsHeap, HasField, cell_of, field_of}
 use Rattle.t_machine.specs.Code.{IsBase, IsInstr, IsEnd, HoldsBlocks}
-use Rattle.t_machine.specs.Steps.{InRange, at_place, value_of, EntersBlock, entry_of, tests_zero, computed, IsReady, Leads}
+use Rattle.t_machine.specs.Steps.{at_place, value_of, EntersBlock, entry_of, tests_zero, computed, IsReady, Leads}
 use Rattle.t_machine.specs.declared.word.Word.{Word}
-use Rattle.t_machine.specs.declared.word.Word.TheVariants.{Int, Address, Label, Empty}
+use Rattle.t_machine.specs.declared.word.Word.TheVariants.{Int, Address}
 use Rattle.t_machine.specs.declared.heap.Heap.{Heap}
 use Rattle.t_machine.specs.declared.code.Operand.{Operand}
 use Rattle.t_machine.specs.declared.code.Instruction.{Instruction}

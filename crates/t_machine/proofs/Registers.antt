@@ -1,5 +1,5 @@
 -- Registers that are read and written.
-use Rattle.std.proofs.Common.{◌≡◌, ◌≢◌, ℕ, zero, suc, ◌+◌, ◌<◌, ◌≤◌, List, [], ◌∷◌, length, Option, Some, None, refl, sym, ap, ◌∙◌, subst, arith, cond, nat_eq, true, false, slice_get, slice_set, get_or, option_and_then, replicate, inl, inr, ◌⊎◌, ⊎_elim}
+use Rattle.std.proofs.Common.{◌≡◌, ◌≢◌, ℕ, zero, suc, ◌<◌, ◌≤◌, List, [], ◌∷◌, length, Option, Some, None, refl, sym, ap, ◌∙◌, subst, arith, cond, nat_eq, true, false, slice_get, slice_set, get_or, option_and_then, replicate, inl, inr, ◌⊎◌, ⊎_elim}
 use Rattle.std.proofs.lemmas.Bool.{cases_lt}
 use Rattle.std.proofs.lemmas.Option.{get_or_from_slice_get, slice_get_read, slice_get-get_or}
 use Rattle.std.proofs.Math.Path.{fun_ext}
@@ -7,7 +7,7 @@ use Rattle.std.proofs.lemmas.Bool.Decides.{nat_tests}
 use Rattle.std.specs.Prelude.{ℤ}
 use Rattle.t_terms.specs.Tree.{TBase}
 use Rattle.t_rules.specs.Registers.{with_reg}
-use Rattle.t_rules.specs.Erase.{EWord, EInt, EAddress, ELabel, EEmpty, ERegs, base_word}
+use Rattle.t_rules.specs.Erase.{EWord, EInt, EAddress, ELabel, EEmpty, base_word}
 use Rattle.t_rules.specs.LawsErased.{no_ewords}
 use Rattle.t_machine.specs.Places.{PlaceList, place_of, ArePlaces}
 use Rattle.t_machine.specs.Words.{word, held, regs_of, IsInteger}

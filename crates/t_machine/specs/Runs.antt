@@ -1,5 +1,5 @@
 -- What a run of the machine tells of the program that it runs.
-use Rattle.std.specs.Prelude.{◌≡◌, ℕ, suc, ◌+◌, ◌<◌, ◌≤◌, ℤ, List, Option, Some, slice_get}
+use Rattle.std.specs.Prelude.{◌≡◌, ℕ, ◌+◌, ◌<◌, ◌≤◌, ℤ, List, Some, slice_get}
 use Rattle.t_types.specs.Tree.{Ty}
 use Rattle.t_terms.specs.Tree.{TBlock, TSeq, Then, Malloc}
 use Rattle.t_terms.specs.Whole.{Whole}

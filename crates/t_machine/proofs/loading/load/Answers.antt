@@ -1,14 +1,8 @@
-use Rattle.std.proofs.Common.{◌≡◌, ◌∙◌, List, length, refl, sym, ap, subst, arith, replicate}
+use Rattle.std.proofs.Common.{subst}
 use Rattle.std.proofs.Math.Logic.{∥∥₁_map}
-use Rattle.std.proofs.lemmas.Option.{slice_get_read}
-use Rattle.t_terms.specs.Tree.{TBlock}
 use Rattle.t_terms.specs.Read.{blocks_of}
-use Rattle.t_terms.specs.declared.block.Block.{Block}
 use Rattle.t_terms.specs.declared.program.TProgram.{TProgram}
-use Rattle.t_rules.specs.Erase.{erase_blocks}
-use Rattle.t_machine.specs.Code.{IsCode}
 use Rattle.t_machine.specs.State.{Shows}
-use Rattle.t_machine.specs.declared.word.Word.TheVariants.{Empty}
 use Rattle.t_machine.proofs.Starting.{starts}
 use Rattle.t_machine.proofs.loading.load.Goals as goal
 

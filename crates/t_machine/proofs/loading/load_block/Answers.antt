@@ -1,10 +1,10 @@
-use Rattle.std.proofs.Common.{◌≡◌, ◌+◌, ◌≤◌, List, [], ◌∷◌, ◌++◌, length, drop, sym, ap, ◌∙◌, subst, append_assoc}
+use Rattle.std.proofs.Common.{◌+◌, List, [], ◌∷◌, ◌++◌, length, drop, sym, ap, ◌∙◌, subst, append_assoc}
 use Rattle.std.proofs.lemmas.List.{drop_more, drop_all}
 use Rattle.idx_core.specs.declared.span.Span.{Span}
 use Rattle.t_terms.specs.Spanned.{seq_of}
 use Rattle.t_terms.specs.Read.{instr, body, end_of}
 use Rattle.t_terms.specs.declared.instr.Instr.{Instr}
-use Rattle.t_rules.specs.Erase.{ESeq, erase_instr, erase_end, erase_seq}
+use Rattle.t_rules.specs.Erase.{erase_instr, erase_end, erase_seq}
 use Rattle.t_machine.specs.Code.{HoldsBlocks}
 use Rattle.t_machine.specs.Lowering.{IsLoaded}
 use Rattle.t_machine.specs.declared.code.Instruction.{Instruction}

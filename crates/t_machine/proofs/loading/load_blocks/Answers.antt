@@ -1,4 +1,4 @@
-use Rattle.std.proofs.Common.{List, ◌+◌, take, sym, subst}
+use Rattle.std.proofs.Common.{List, take, sym, subst}
 use Rattle.t_terms.specs.Read.{blocks_of}
 use Rattle.t_rules.specs.Erase.{ESeq, erase_blocks}
 use Rattle.t_machine.specs.Code.{IsCode}

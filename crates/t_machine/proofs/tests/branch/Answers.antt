@@ -1,0 +1,6 @@
+use Rattle.std.proofs.Common.{arith}
+use Rattle.t_machine.proofs.Formed.{formed}
+use Rattle.t_machine.proofs.tests.branch.Goals as goal
+
+pub one_block-requires : goal.one_block-requires
+one_block-requires c = formed 1 _ _ _ c.in_ok-body.ensures.items (c.mov.ensures 1 tt, (c.bnz.ensures 1 (omega arith), (c.mov-2.ensures 1 tt, tt))) tt

@@ -1,0 +1,5 @@
+use Rattle.std.proofs.Common.{refl}
+use Rattle.t_machine.proofs.tests.mov.Goals as goal
+
+pub returns : goal.returns
+returns c = λ p h. ((c.requires, c.plain-v.ensures p 0 h), refl)

@@ -1,14 +1,11 @@
 -- The names of blocks: how a whole follows from its parts.
-use Rattle.std.proofs.Common.{◌≡◌, ℕ, List, [], ◌∷◌, ◌++◌, length, map, Vec, Global, refl, sym, ◌∙◌, ap}
+use Rattle.std.proofs.Common.{◌≡◌, ℕ, List, [], length, map, Vec, Global, refl}
 use Rattle.idx_core.specs.declared.span.Span.{Span}
 use Rattle.idx_core.specs.Names.{Name}
 use Rattle.t_types.specs.declared.types.TType.{TType}
-use Rattle.t_types.specs.declared.types.RegFile.{RegFile}
 use Rattle.t_types.specs.Read.{file}
-use Rattle.t_terms.specs.declared.fault.TCode.{TCode}
 use Rattle.t_terms.specs.declared.instr.Instr.{Instr}
 use Rattle.t_terms.specs.declared.instr.End.{End}
-use Rattle.t_terms.specs.declared.block.Block.{Block}
 use Rattle.t_terms.specs.Raw.{raw_regs}
 use Rattle.t_terms.specs.Read as read
 use Rattle.t_terms.specs.Names.{bind, file_of, body_of, end_of, block_of, names_after_all}
@@ -40,5 +37,5 @@ module _ (text : List ℕ) (ls : List Name) (b : RawBlock) (ns : List Span) (p :
           (block_faults text ls (raw_block b) ≡ []) × (read.spanned (record { name = b.name; owes = length ns; regs = record { regs = regs }; body = body; end = last; end_span = b.last.1 }) ≡ block_of text ls (raw_block b))
       block_whole last h = (
         rw (← p, ← n, ← q, ← r) (none_both _ _ d.1 (none_both _ _ (rw d.0 at g.1) (rw (g.0, d.0) at h.0))),
-        rw (← p, ← n, ← q, ← r, d.2, rw d.0 at g.2, rw (g.0, d.0) at h.1) refl
+        rw (← p, ← n, ← q, ← r, d.2, rw d.0 at g.2, rw (g.0, d.0) at h.1) refl,
       )

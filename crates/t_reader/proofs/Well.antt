@@ -6,7 +6,7 @@ use Rattle.std.proofs.lemmas.Bool.{eq-eqb, ltb-true, ltb-false}
 use Rattle.idx_core.specs.declared.span.Span.{Span}
 use Rattle.idx_core.specs.Names.{Name}
 use Rattle.t_types.specs.Tree.{Ty, TFile, NoRegs, MoreRegs}
-use Rattle.t_types.specs.WellFormed.{max_number, IsRegister, WellFormed, RegsAbove, WellFormedFields, WellFormedFile, WellFormedTypes}
+use Rattle.t_types.specs.WellFormed.{max_number, WellFormed, RegsAbove, WellFormedFields, WellFormedTypes}
 use Rattle.t_terms.specs.declared.fault.TCode.{TCode}
 use Rattle.t_terms.specs.declared.fault.TCode.TheVariants.{T05, T06, T07}
 use Rattle.t_terms.specs.declared.block.Block as code
@@ -169,23 +169,21 @@ well_seq text ls a [] last h g e f = well_end text ls a last g f
 well_seq text ls a (i ∷ is) last h g e f =
     let l = after_length text i.0 a in
     let s = after_same text ls a i.0 (length a) in
-    let p : length (names_after text i.0 a) ≡ tree.names_after (instr_of text ls a i.0) (length a) = l ∙ sym s in
-    (
+    let p : length (names_after text i.0 a) ≡ tree.names_after (instr_of text ls a i.0) (length a) = l ∙ sym s in (
       well_instr text ls a i.0 h.0 (none_left _ _ e),
       rw s h.1,
       subst (λ (n : ℕ). WellFormedSeq (length ls) n (seq_of (body_of text ls (names_after text i.0 a) is) (end_of text ls (names_after_all text is (names_after text i.0 a)) last))) p
-      (well_seq text ls (names_after text i.0 a) is last (subst (λ (n : ℕ). FitsSteps n is) (sym l) h.2) (subst (λ (n : ℕ). FitsEnd (after_steps is n) last) (sym l) g) (none_right _ _ e) f)
+          (well_seq text ls (names_after text i.0 a) is last (subst (λ (n : ℕ). FitsSteps n is) (sym l) h.2) (subst (λ (n : ℕ). FitsEnd (after_steps is n) last) (sym l) g) (none_right _ _ e) f),
     )
 
 well_block : (text : List ℕ) (ls : List Name) (b : RawBlock) → FitsBlock b → block_faults text ls b ≡ [] → WellFormedBlock (length ls) (plain (block_of text ls b))
 well_block text ls b h e =
     let l : length (bind text b.names []) ≡ length b.names = bind_length text b.names [] ∙ omega arith in
-    let f = none_right _ _ e in
-    (
+    let f = none_right _ _ e in (
       h.0,
       subst (λ (n : ℕ). RegsAbove 0 n (file_of text (bind text b.names []) b.file)) l (well_regs text (bind text b.names []) [] b.file (subst (λ (n : ℕ). FitsRegs n b.file) (sym l) h.1) (none_left _ _ e)),
       subst (λ (n : ℕ). WellFormedSeq (length ls) n (seq_of (body_of text ls (bind text b.names []) b.body) (end_of text ls (names_after_all text b.body (bind text b.names [])) b.last.0))) l
-      (well_seq text ls (bind text b.names []) b.body b.last.0 (subst (λ (n : ℕ). FitsSteps n b.body) (sym l) h.2) (subst (λ (n : ℕ). FitsEnd (after_steps b.body n) b.last.0) (sym l) h.3) (none_left _ _ f) (none_right _ _ f))
+          (well_seq text ls (bind text b.names []) b.body b.last.0 (subst (λ (n : ℕ). FitsSteps n b.body) (sym l) h.2) (subst (λ (n : ℕ). FitsEnd (after_steps b.body n) b.last.0) (sym l) h.3) (none_left _ _ f) (none_right _ _ f)),
     )
 
 well_blocks : (text : List ℕ) (ls before : List Name) (bs : List RawBlock) → FitsBlocks bs → blocks_faults text ls before bs ≡ [] → WellFormedBlocks (length ls) (plain_blocks (map (block_of text ls) bs))

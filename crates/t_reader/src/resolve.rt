@@ -44,7 +44,13 @@ fn package(alloc: Global, hidden: TType, inner: Value, shape: TType) -> Result<V
 }
 
 /// The value that a value of a text is.
-pub fn value_in(alloc: Global, text: &[u8], labels: &Names, value: &RawValue, scope: &mut Names) -> Result<Value, Stop>
+pub fn value_in(
+    alloc: Global,
+    text: &[u8],
+    labels: &Names,
+    value: &RawValue,
+    scope: &mut Names,
+) -> Result<Value, Stop>
     ensures { MatchResult result
         (λ v. (scope.new ≡ scope.old) × (value_faults text.now labels.now scope.old (raw_value value.now) ≡ []) × (read.value v ≡ value_of text.now labels.now scope.old (raw_value value.now)))
         (λ e. StopsAt (value_faults text.now labels.now scope.old (raw_value value.now)) e) }
@@ -66,7 +72,13 @@ pub fn value_in(alloc: Global, text: &[u8], labels: &Names, value: &RawValue, sc
 }
 
 /// The instruction that an instruction of a text is. An `unpack` leaves its name bound.
-pub fn instr_in(alloc: Global, text: &[u8], labels: &Names, instr: &RawInstr, scope: &mut Names) -> Result<Instr, Stop>
+pub fn instr_in(
+    alloc: Global,
+    text: &[u8],
+    labels: &Names,
+    instr: &RawInstr,
+    scope: &mut Names,
+) -> Result<Instr, Stop>
     ensures { MatchResult result
         (λ i. (scope.new ≡ names_after text.now (raw_instr instr.now) scope.old) × (instr_faults text.now labels.now scope.old (raw_instr instr.now) ≡ []) × (read.instr i ≡ instr_of text.now labels.now scope.old (raw_instr instr.now)))
         (λ e. StopsAt (instr_faults text.now labels.now scope.old (raw_instr instr.now)) e) }
@@ -112,7 +124,13 @@ pub fn instr_in(alloc: Global, text: &[u8], labels: &Names, instr: &RawInstr, sc
 }
 
 /// The instructions of a body, whose names stay bound.
-pub fn body_in(alloc: Global, text: &[u8], labels: &Names, body: &[(RawInstr, Span)], scope: &mut Names) -> Result<Vec<(Instr, Span)>, Stop>
+pub fn body_in(
+    alloc: Global,
+    text: &[u8],
+    labels: &Names,
+    body: &[(RawInstr, Span)],
+    scope: &mut Names,
+) -> Result<Vec<(Instr, Span)>, Stop>
     ensures { MatchResult result
         (λ is. (scope.new ≡ names_after_all text.now (map raw_step body.now) scope.old) × (body_faults text.now labels.now scope.old (map raw_step body.now) ≡ []) × (read.body is.items ≡ body_of text.now labels.now scope.old (map raw_step body.now)))
         (λ e. StopsAt (body_faults text.now labels.now scope.old (map raw_step body.now)) e) }
@@ -126,7 +144,13 @@ pub fn body_in(alloc: Global, text: &[u8], labels: &Names, body: &[(RawInstr, Sp
 }
 
 /// The end that an end of a text is.
-pub fn end_in(alloc: Global, text: &[u8], labels: &Names, end: &RawEnd, scope: &mut Names) -> Result<End, Stop>
+pub fn end_in(
+    alloc: Global,
+    text: &[u8],
+    labels: &Names,
+    end: &RawEnd,
+    scope: &mut Names,
+) -> Result<End, Stop>
     ensures { MatchResult result
         (λ e. (end_faults text.now labels.now scope.old (raw_end end.now) ≡ []) × (read.end_of e ≡ end_of text.now labels.now scope.old (raw_end end.now)))
         (λ e. StopsAt (end_faults text.now labels.now scope.old (raw_end end.now)) e) }

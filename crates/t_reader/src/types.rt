@@ -44,11 +44,9 @@ fn place_in(regs: &[(u64, TType)], reg: u64) -> Option<usize>
 /// type.
 #[cycle(types)]
 pub fn type_in(alloc: Global, text: &[u8], ty: &RawType, scope: &mut Names) -> Result<TType, Stop>
-    ensures {
-        MatchResult result
-            (λ t. (scope.new ≡ scope.old) × (type_faults text.now scope.old (raw ty.now) ≡ []) × (tree t ≡ type_of text.now scope.old (raw ty.now)))
-            (λ e. StopsAt (type_faults text.now scope.old (raw ty.now)) e)
-    }
+    ensures { MatchResult result
+        (λ t. (scope.new ≡ scope.old) × (type_faults text.now scope.old (raw ty.now) ≡ []) × (tree t ≡ type_of text.now scope.old (raw ty.now)))
+        (λ e. StopsAt (type_faults text.now scope.old (raw ty.now)) e) }
 {
     match ty {
         RawType::Int => Ok(TType::Int),
@@ -87,12 +85,15 @@ pub fn type_in(alloc: Global, text: &[u8], ty: &RawType, scope: &mut Names) -> R
 
 /// The register file type that a file of a text is, its registers in ascending order.
 #[cycle(types)]
-pub fn file_in(alloc: Global, text: &[u8], regs: &[(u64, Span, RawType)], scope: &mut Names) -> Result<Vec<(u64, TType)>, Stop>
-    ensures {
-        MatchResult result
-            (λ f. (scope.new ≡ scope.old) × (regs_faults text.now scope.old [] (raw_regs (map raw_reg regs.now)) ≡ []) × (file f.items ≡ file_of text.now scope.old (raw_regs (map raw_reg regs.now))))
-            (λ e. StopsAt (regs_faults text.now scope.old [] (raw_regs (map raw_reg regs.now))) e)
-    }
+pub fn file_in(
+    alloc: Global,
+    text: &[u8],
+    regs: &[(u64, Span, RawType)],
+    scope: &mut Names,
+) -> Result<Vec<(u64, TType)>, Stop>
+    ensures { MatchResult result
+        (λ f. (scope.new ≡ scope.old) × (regs_faults text.now scope.old [] (raw_regs (map raw_reg regs.now)) ≡ []) × (file f.items ≡ file_of text.now scope.old (raw_regs (map raw_reg regs.now))))
+        (λ e. StopsAt (regs_faults text.now scope.old [] (raw_regs (map raw_reg regs.now))) e) }
 {
     let mut made = Vec::new(alloc);
     for reg in regs {
@@ -107,12 +108,15 @@ pub fn file_in(alloc: Global, text: &[u8], regs: &[(u64, Span, RawType)], scope:
 }
 
 /// The types of a list.
-pub fn types_in(alloc: Global, text: &[u8], list: &[RawType], scope: &mut Names) -> Result<Vec<TType>, Stop>
-    ensures {
-        MatchResult result
-            (λ ts. (scope.new ≡ scope.old) × (types_faults text.now scope.old (map raw list.now) ≡ []) × (types ts.items ≡ types_of text.now scope.old (map raw list.now)))
-            (λ e. StopsAt (types_faults text.now scope.old (map raw list.now)) e)
-    }
+pub fn types_in(
+    alloc: Global,
+    text: &[u8],
+    list: &[RawType],
+    scope: &mut Names,
+) -> Result<Vec<TType>, Stop>
+    ensures { MatchResult result
+        (λ ts. (scope.new ≡ scope.old) × (types_faults text.now scope.old (map raw list.now) ≡ []) × (types ts.items ≡ types_of text.now scope.old (map raw list.now)))
+        (λ e. StopsAt (types_faults text.now scope.old (map raw list.now)) e) }
 {
     let mut made = Vec::new(alloc);
     for ty in list {

@@ -1,5 +1,5 @@
 -- The program that is read, and the first fault.
-use Rattle.std.proofs.Common.{◌≡◌, ◌≢◌, ℕ, List, [], ◌∷◌, refl, sym, ◌∙◌, ap, Result, Ok, Err}
+use Rattle.std.proofs.Common.{◌≡◌, ◌≢◌, ℕ, List, [], refl, Result, Ok, Err}
 use Rattle.std.specs.Result.{MatchResult, IsErrAnd}
 use Rattle.idx_core.specs.declared.span.Span.{Span}
 use Rattle.t_terms.specs.declared.fault.TCode.{TCode}
@@ -11,7 +11,7 @@ use Rattle.t_terms.specs.Read.{spanned_blocks}
 use Rattle.t_terms.specs.Raw.{RawBlock}
 use Rattle.t_terms.specs.Names.{program_of}
 use Rattle.t_terms.specs.NameFaults.{program_faults}
-use Rattle.t_terms.specs.Text.{Stands, ReadsAs, FirstFault, in_names, IsFirstFault}
+use Rattle.t_terms.specs.Text.{ReadsAs, FirstFault, in_names, IsFirstFault}
 use Rattle.t_terms.proofs.TextExact.{one_program, program_or_fault, one_fault}
 use Rattle.t_reader.specs.Resolve.{IsShape, StopsAt}
 use Rattle.t_reader.specs.declared.scope.Stop.TheVariants.{At}

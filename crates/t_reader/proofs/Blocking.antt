@@ -1,14 +1,11 @@
 -- The names of blocks: how a whole follows from its parts.
-use Rattle.std.proofs.Common.{◌≡◌, ℕ, List, [], ◌∷◌, ◌++◌, length, map, Vec, Global, refl, sym, ◌∙◌, ap}
+use Rattle.std.proofs.Common.{◌≡◌, ℕ, List, [], length, map, Vec, Global, refl}
 use Rattle.idx_core.specs.declared.span.Span.{Span}
 use Rattle.idx_core.specs.Names.{Name}
 use Rattle.t_types.specs.declared.types.TType.{TType}
-use Rattle.t_types.specs.declared.types.RegFile.{RegFile}
 use Rattle.t_types.specs.Read.{file}
-use Rattle.t_terms.specs.declared.fault.TCode.{TCode}
 use Rattle.t_terms.specs.declared.instr.Instr.{Instr}
 use Rattle.t_terms.specs.declared.instr.End.{End}
-use Rattle.t_terms.specs.declared.block.Block.{Block}
 use Rattle.t_terms.specs.Raw.{raw_regs}
 use Rattle.t_terms.specs.Read as read
 use Rattle.t_terms.specs.Names.{bind, file_of, body_of, end_of, block_of, names_after_all}

@@ -1,5 +1,5 @@
 -- Register files in ascending order: how one grows by an entry.
-use Rattle.std.proofs.Common.{◌≡◌, ◌≢◌, ℕ, zero, suc, ◌+◌, ◌-◌, ◌<◌, ◌≤◌, List, [], ◌∷◌, ◌++◌, length, map, take, drop, get_or, refl, sym, ◌∙◌, ap, subst, Bool, true, false, ◌||◌, if◌then◌else◌, arith, ◌⊎◌, inl, inr}
+use Rattle.std.proofs.Common.{◌≡◌, ◌≢◌, ℕ, zero, suc, ◌+◌, ◌-◌, ◌<◌, ◌≤◌, List, [], ◌∷◌, ◌++◌, length, map, take, drop, get_or, refl, sym, ◌∙◌, ap, subst, Bool, true, false, ◌||◌, if◌then◌else◌, arith}
 use Rattle.std.specs.Prelude.{nat_lt, nat_eq, nat_le}
 use Rattle.std.specs.List.{list_any}
 use Rattle.std.proofs.lemmas.Bool.{eqb-true, eq-eqb, lt-ltb, le-ltb, ltb-true, ltb-false, leb-true, leb-false}
@@ -15,7 +15,6 @@ use Rattle.t_terms.specs.Names.{insert_reg, file_of, type_of}
 use Rattle.t_terms.specs.NameFaults.{regs_faults, type_faults}
 use Rattle.t_grammar.specs.declared.raw.RawType.{RawType}
 use Rattle.t_grammar.specs.Raw.{raw, raw_reg}
-use Rattle.t_terms.specs.declared.fault.TCode.{TCode}
 use Rattle.t_terms.specs.declared.fault.TCode.TheVariants.{T07}
 use Rattle.t_reader.specs.Resolve.{StopsAt, Follows, has}
 use Rattle.t_reader.specs.declared.scope.Stop.{Stop}

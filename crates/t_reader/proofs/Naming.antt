@@ -1,18 +1,16 @@
 -- The names of types: how a whole follows from its parts.
-use Rattle.std.proofs.Common.{◌≡◌, ℕ, ◌+◌, ◌<◌, ◌≤◌, List, [], ◌∷◌, ◌++◌, length, map, drop, get_or, Vec, Global, refl, sym, ◌∙◌, ap, ap₂, subst, Some, true, false, Bool, append_assoc, Box}
+use Rattle.std.proofs.Common.{◌≡◌, ℕ, ◌+◌, ◌<◌, ◌≤◌, List, [], ◌∷◌, ◌++◌, length, map, drop, get_or, Vec, Global, refl, sym, ◌∙◌, ap, true, false, Bool, append_assoc, Box}
 use Rattle.std.proofs.lemmas.List.{map-append, append-nil}
 use Rattle.std.proofs.Math.ListN.{drop_of_length-le}
 use Rattle.idx_core.specs.declared.span.Span.{Span}
 use Rattle.idx_core.specs.Names.{Name}
 use Rattle.t_types.specs.declared.types.TType.{TType}
 use Rattle.t_types.specs.declared.types.TType.TheVariants as T
-use Rattle.t_types.specs.declared.types.RegFile.{RegFile}
-use Rattle.t_types.specs.Tree.{Ty, CodeTy, ExistsTy, TupleTy, TFile, TFields, MoreFields, flagged}
+use Rattle.t_types.specs.Tree.{Ty, CodeTy, ExistsTy, TupleTy, MoreFields, flagged}
 use Rattle.t_types.specs.Read.{tree, flag, file, types}
 use Rattle.t_types.proofs.Trees.{tree_Tuple, tree_Code}
-use Rattle.t_terms.specs.declared.fault.TCode.{TCode}
 use Rattle.t_terms.specs.declared.fault.TCode.TheVariants.{T06}
-use Rattle.t_terms.specs.Raw.{RawTy, RCode, RawField, raw_regs, raw_fields}
+use Rattle.t_terms.specs.Raw.{RCode, raw_regs, raw_fields}
 use Rattle.t_terms.specs.Names.{spelled, is_among, place_of, bind, type_of, file_of, fields_of, types_of}
 use Rattle.t_terms.specs.NameFaults.{type_faults, regs_faults, fields_faults, types_faults}
 use Rattle.t_grammar.specs.declared.raw.RawType.{RawType}
@@ -20,10 +18,10 @@ use Rattle.t_grammar.specs.declared.raw.RawType.TheVariants as R
 use Rattle.t_grammar.specs.declared.raw.RawFile.{RawFile}
 use Rattle.t_grammar.specs.Raw.{raw, raw_reg, raw_field}
 use Rattle.t_grammar.proofs.Raws.{raw_Tuple, raw_Code}
-use Rattle.t_reader.specs.Resolve.{StopsAt, IsFound}
+use Rattle.t_reader.specs.Resolve.{StopsAt}
 use Rattle.t_reader.specs.declared.scope.Stop.{Stop}
 use Rattle.t_reader.specs.declared.scope.Stop.TheVariants.{At}
-use Rattle.t_reader.proofs.Found.{here_at, drop_bind, stop_left, none_both}
+use Rattle.t_reader.proofs.Found.{here_at, drop_bind, stop_left}
 
 -- the type that was found, with the names in scope after it
 abbrev pub Done : List ℕ → List Name → RawType → List Name → TType → Type 0

@@ -1,12 +1,10 @@
 -- Blocks in turn: a label is that of its first block.
-use Rattle.std.proofs.Common.{◌≡◌, ℕ, suc, ◌+◌, ◌<◌, ◌≤◌, List, [], ◌∷◌, ◌++◌, length, map, drop, get_or, refl, sym, ◌∙◌, ap, Bool, true, false, not, ◌||◌, ◌&&◌, if◌then◌else◌, append_assoc, arith}
+use Rattle.std.proofs.Common.{◌≡◌, ℕ, ◌+◌, ◌<◌, ◌≤◌, List, [], ◌∷◌, ◌++◌, length, map, drop, get_or, refl, sym, ◌∙◌, ap, Bool, true, false, not, ◌||◌, ◌&&◌, if◌then◌else◌, append_assoc, arith}
 use Rattle.std.specs.Prelude.{nat_eq, bytes_eq}
-use Rattle.std.proofs.lemmas.Bool.{eqb-true, eq-eqb}
+use Rattle.std.proofs.lemmas.Bool.{eq-eqb}
 use Rattle.std.proofs.lemmas.List.{append-nil, length-append}
 use Rattle.std.proofs.Math.ListN.{drop_of_length-le}
-use Rattle.idx_core.specs.declared.span.Span.{Span}
 use Rattle.idx_core.specs.Names.{Name}
-use Rattle.t_terms.specs.declared.fault.TCode.{TCode}
 use Rattle.t_terms.specs.declared.fault.TCode.TheVariants.{T04}
 use Rattle.t_terms.specs.declared.block.Block.{Block}
 use Rattle.t_terms.specs.Spanned.{SBlock}
@@ -18,7 +16,7 @@ use Rattle.t_shapes.specs.Raw.{raw_block, raw_blocks}
 use Rattle.t_reader.specs.Resolve.{StopsAt}
 use Rattle.t_reader.specs.declared.scope.Stop.{Stop}
 use Rattle.t_reader.specs.declared.scope.Stop.TheVariants.{At}
-use Rattle.t_reader.proofs.Found.{here_at, stop_left, stop_right, same_name}
+use Rattle.t_reader.proofs.Found.{here_at, stop_left, same_name}
 use Rattle.t_reader.proofs.Filing.{differs}
 
 -- a name that is among the first names has its place there, and one that is not comes after them

@@ -1,6 +1,5 @@
 -- The shape of a text, and its first fault before its names are looked at.
 use Rattle.std.proofs.Common.{◌≡◌, ℕ, ◌+◌, ◌≤◌, List, [], ◌∷◌, length, slice_get, drop, refl, sym, ◌∙◌, ap, subst, Option, Some, None}
-use Rattle.idx_core.specs.declared.span.Span.{Span}
 use Rattle.text_core.specs.Table.{Verdict, Fine, Unexpected, Passed, bounded, whole}
 use Rattle.text_core.specs.Shapes.{Says}
 use Rattle.text_core.proofs.Going.{next_is, no_next}
@@ -12,11 +11,11 @@ use Rattle.t_terms.specs.declared.token.Token.{Token}
 use Rattle.t_terms.specs.Tokens.{IsCut}
 use Rattle.t_terms.specs.Raw.{RawBlock}
 use Rattle.t_terms.specs.Grammar.{Program}
-use Rattle.t_terms.specs.Machine.{table, Val, OfBlocks}
-use Rattle.t_terms.specs.Text.{most_open, code_of, FirstFault, in_tokens, unexpected, cut_short, too_deep, IsFirstFault}
+use Rattle.t_terms.specs.Machine.{table, OfBlocks}
+use Rattle.t_terms.specs.Text.{most_open, FirstFault, in_tokens, unexpected, cut_short, too_deep, IsFirstFault}
 use Rattle.t_terms.proofs.Instance.{assembly_exact}
-use Rattle.t_lexer.specs.Cut.{IsTokenFault, FirstTokenFault}
-use Rattle.t_reader.specs.Resolve.{IsShape, place_at, span_of}
+use Rattle.t_lexer.specs.Cut.{IsTokenFault}
+use Rattle.t_reader.specs.Resolve.{IsShape, place_at}
 
 pub token_fault : (text : List ℕ) (f : TFault) → IsTokenFault text f → IsFirstFault text f
 token_fault text Memory h = tt

@@ -1,12 +1,11 @@
 -- The names of values and of bodies: how a whole follows from its parts.
-use Rattle.std.proofs.Common.{◌≡◌, ℕ, ◌+◌, ◌<◌, ◌≤◌, List, [], ◌∷◌, ◌++◌, length, map, drop, get_or, Vec, Global, refl, sym, ◌∙◌, ap, subst, Some, true, false, append_assoc, Box}
-use Rattle.std.proofs.lemmas.List.{map-append, append-nil}
+use Rattle.std.proofs.Common.{◌≡◌, ℕ, ◌+◌, ◌<◌, ◌≤◌, List, [], ◌∷◌, ◌++◌, length, map, drop, get_or, Vec, Global, refl, sym, ◌∙◌, ap, true, false, append_assoc, Box}
+use Rattle.std.proofs.lemmas.List.{append-nil}
 use Rattle.std.proofs.Math.ListN.{drop_of_length-le}
 use Rattle.idx_core.specs.declared.span.Span.{Span}
 use Rattle.idx_core.specs.Names.{Name}
 use Rattle.t_types.specs.declared.types.TType.{TType}
 use Rattle.t_types.specs.Read.{tree, types}
-use Rattle.t_terms.specs.declared.fault.TCode.{TCode}
 use Rattle.t_terms.specs.declared.fault.TCode.TheVariants.{T05}
 use Rattle.t_terms.specs.declared.value.Base.{Base}
 use Rattle.t_terms.specs.declared.value.Base.TheVariants as B
@@ -15,7 +14,7 @@ use Rattle.t_terms.specs.declared.value.Value.TheVariants as V
 use Rattle.t_terms.specs.declared.instr.Instr.{Instr}
 use Rattle.t_terms.specs.Tree.{TInstr, Pack}
 use Rattle.t_terms.specs.Read as read
-use Rattle.t_terms.specs.Names.{spelled, is_among, place_of, type_of, types_of, base_of, value_of, instr_of, body_of, names_after, names_after_all}
+use Rattle.t_terms.specs.Names.{spelled, is_among, place_of, types_of, base_of, value_of, instr_of, body_of, names_after, names_after_all}
 use Rattle.t_terms.specs.NameFaults.{type_faults, types_faults, base_faults, value_faults, instr_faults, body_faults}
 use Rattle.t_grammar.specs.declared.raw.RawType.{RawType}
 use Rattle.t_grammar.specs.Raw.{raw}

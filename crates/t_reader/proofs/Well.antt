@@ -6,7 +6,7 @@ use Rattle.std.proofs.lemmas.Bool.{eq-eqb, ltb-true, ltb-false}
 use Rattle.idx_core.specs.declared.span.Span.{Span}
 use Rattle.idx_core.specs.Names.{Name}
 use Rattle.t_types.specs.Tree.{Ty, TFile, NoRegs, MoreRegs}
-use Rattle.t_types.specs.WellFormed.{max_number, IsRegister, WellFormed, RegsAbove, WellFormedFields, WellFormedFile, WellFormedTypes}
+use Rattle.t_types.specs.WellFormed.{max_number, WellFormed, RegsAbove, WellFormedFields, WellFormedTypes}
 use Rattle.t_terms.specs.declared.fault.TCode.{TCode}
 use Rattle.t_terms.specs.declared.fault.TCode.TheVariants.{T05, T06, T07}
 use Rattle.t_terms.specs.declared.block.Block as code

@@ -2,7 +2,8 @@
 
 use crate::read;
 use idx_core::Span;
-use t_terms::{Base, End, Instr, TCode, TFault, Value};
+use std::alloc::{AllocError, Global};
+use t_terms::{Base, End, TCode, TFault, Value};
 
 fn fault(code: TCode, start: u64, end: u64) -> Option<TFault> {
     Some(TFault::Refused {
@@ -58,7 +59,7 @@ fn finds_the_first_fault(rt: HostRuntime) {
         ),
         (
             b"tal 1\nL0: code[]{}. mov r2, r1[a] unpack[a,r1], r1 jmp L0",
-            fault(TCode::T06, 32, 33),
+            fault(TCode::T06, 31, 32),
         ),
         (
             b"tal 1\nL0: code[]{r2:int,r1:b,r2:c}. jmp L9",
@@ -66,15 +67,15 @@ fn finds_the_first_fault(rt: HostRuntime) {
         ),
         (
             b"tal 1\nL0: code[]{}. jmp L1\nL1: code[]{r2:int,r2:c}. jmp L9\nL0: code[]{}. jmp L9",
-            fault(TCode::T07, 43, 45),
+            fault(TCode::T07, 45, 47),
         ),
         (
             b"tal 1\nL0: code[]{}. mov r1, pack[a, L9] as int halt[int]",
-            fault(TCode::T06, 34, 35),
+            fault(TCode::T06, 33, 34),
         ),
         (
             b"tal 1\nL0: code[]{}. mov r1, pack[int, L9] as a halt[int]",
-            fault(TCode::T05, 39, 41),
+            fault(TCode::T05, 38, 40),
         ),
     ];
     for (text, want) in rows {
@@ -96,6 +97,99 @@ fn refuses_each_beginning_of_a_text(rt: HostRuntime) {
         assert_eq!(rt; read(rt.alloc(), &text[..end]).err(), want);
     }
     assert_eq!(rt; read(rt.alloc(), text).err(), None);
+}
+
+// a text of a head, n times a piece, a middle and n times another piece, and a tail
+fn nested(
+    alloc: Global,
+    head: &[u8],
+    piece: &[u8],
+    middle: &[u8],
+    close: &[u8],
+    tail: &[u8],
+    n: usize,
+) -> Result<Vec<u8>, AllocError> {
+    let mut text = Vec::new(alloc);
+    text.extend_from_slice(head)?;
+    for _ in 0..n {
+        text.extend_from_slice(piece)?;
+    }
+    text.extend_from_slice(middle)?;
+    for _ in 0..n {
+        text.extend_from_slice(close)?;
+    }
+    text.extend_from_slice(tail)?;
+    Ok(text)
+}
+
+// what is read of a nest: nothing is refused, or this fault
+fn nest_fault(
+    rt: &HostRuntime,
+    head: &[u8],
+    piece: &[u8],
+    middle: &[u8],
+    close: &[u8],
+    tail: &[u8],
+    n: usize,
+) -> Option<TFault> {
+    match nested(rt.alloc(), head, piece, middle, close, tail, n) {
+        Ok(text) => read(rt.alloc(), &text).err(),
+        Err(_) => Some(TFault::Memory),
+    }
+}
+
+#[test]
+fn takes_two_thousand_open_constructs(rt: HostRuntime) {
+    let types: &[u8] = b"tal 1\nL0: code[]{}. malloc r1[";
+    let values: &[u8] = b"tal 1\nL0: code[]{}. mov r1, ";
+    let tail: &[u8] = b"] halt[int]";
+    let end: &[u8] = b" halt[int]";
+    assert_eq!(rt;
+        nest_fault(&rt, types, b"<", b"int", b"^1>", tail, 1999),
+        None
+    );
+    assert_eq!(rt;
+        nest_fault(&rt, types, b"<", b"int", b"^1>", tail, 2000),
+        fault(TCode::M1, 30 + 1999, 30 + 2000)
+    );
+    assert_eq!(rt;
+        nest_fault(&rt, types, b"some a. ", b"a", b"", tail, 1999),
+        None
+    );
+    assert_eq!(rt;
+        nest_fault(&rt, types, b"some a. ", b"a", b"", tail, 2000),
+        fault(TCode::M1, 30 + 8 * 1999, 30 + 8 * 1999 + 4)
+    );
+    assert_eq!(rt;
+        nest_fault(&rt, types, b"all[]{r1:", b"int", b"}", tail, 1999),
+        None
+    );
+    assert_eq!(rt;
+        nest_fault(&rt, types, b"all[]{r1:", b"int", b"}", tail, 2000),
+        fault(TCode::M1, 30 + 9 * 1999 + 3, 30 + 9 * 1999 + 4)
+    );
+    assert_eq!(rt;
+        nest_fault(&rt, values, b"pack[int,", b"1", b"] as int", end, 2000),
+        None
+    );
+    assert_eq!(rt;
+        nest_fault(&rt, values, b"pack[int,", b"1", b"] as int", end, 2001),
+        fault(TCode::M1, 28 + 9 * 2000 + 4, 28 + 9 * 2000 + 5)
+    );
+}
+
+// 2000 openers of which none closes: the row of a malicious text
+#[test]
+fn refuses_the_opener_after_the_limit(rt: HostRuntime) {
+    let types: &[u8] = b"tal 1\nL0: code[]{}. malloc r1[";
+    assert_eq!(rt;
+        nest_fault(&rt, types, b"<", b"", b"", b"", 2000),
+        fault(TCode::M1, 2029, 2030)
+    );
+    assert_eq!(rt;
+        nest_fault(&rt, types, b"<", b"", b"", b"", 1999),
+        fault(TCode::T03, 2029, 2029)
+    );
 }
 
 // the number of the label that the first block jumps to

@@ -1,8 +1,5 @@
-use Rattle.std.proofs.Common.{◌≡◌, ℕ, ◌+◌, ◌-◌, List, [], ◌∷◌, ◌++◌, refl, sym, ◌∙◌, ap, arith, length, drop}
-use Rattle.std.proofs.lemmas.Result.{err_from_is_err_and}
+use Rattle.std.proofs.Common.{◌≡◌, ◌-◌, [], refl, arith, length, drop}
 use Rattle.std.proofs.Math.ListN.{drop_of_length-le}
-use Rattle.std.proofs.Common.{◌≤◌}
-use Rattle.t_shapes.specs.declared.raw.RawBlock.{RawBlock}
 use Rattle.t_reader.proofs.Found.{labels_next}
 use Rattle.t_reader.proofs.labels.labels_in.Goals as goal
 

@@ -1,4 +1,4 @@
-use Rattle.std.proofs.Common.{◌≡◌, ℕ, ◌+◌, ◌-◌, List, [], ◌∷◌, ◌++◌, refl, sym, ◌∙◌, ap, arith, length, drop}
+use Rattle.std.proofs.Common.{refl, arith}
 use Rattle.std.proofs.lemmas.Result.{err_from_is_err_and}
 use Rattle.t_reader.proofs.Numbering.{blocks_start, block_twice, block_stop, block_next, blocks_whole}
 use Rattle.t_reader.proofs.reader.blocks_in.Goals as goal

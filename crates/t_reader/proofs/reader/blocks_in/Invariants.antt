@@ -1,6 +1,4 @@
 use Rattle.std.proofs.Common.{◌≡◌}
-use Rattle.t_terms.specs.Names.{labels_of}
-use Rattle.t_shapes.specs.Raw.{raw_blocks}
 use Rattle.t_reader.proofs.Numbering.{BlocksLeft}
 use Rattle.t_reader.proofs.reader.blocks_in.Given as goal
 

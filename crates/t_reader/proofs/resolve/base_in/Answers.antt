@@ -1,7 +1,5 @@
-use Rattle.std.proofs.Common.{◌≡◌, ℕ, ◌+◌, ◌-◌, List, [], ◌∷◌, ◌++◌, refl, sym, ◌∙◌, ap, arith, length, drop}
-use Rattle.std.proofs.lemmas.Result.{err_from_is_err_and}
-use Rattle.t_reader.proofs.Found.{stop_left, stop_right, none_both}
-use Rattle.t_reader.proofs.Valuing.{label_stop, label_whole, plain_base_stop, plain_types_stop, plain_whole, pack_1_stop, pack_2_stop, pack_3_stop, pack_whole, body_start, body_stop, body_next, body_whole}
+use Rattle.std.proofs.Common.{◌≡◌, refl, ap}
+use Rattle.t_reader.proofs.Valuing.{label_stop, label_whole}
 use Rattle.std.proofs.Common.{rules, w64, to_z, of_z}
 use Rattle.t_terms.specs.Tree.{Int}
 use Rattle.t_reader.proofs.resolve.base_in.Goals as goal

@@ -1,4 +1,3 @@
-use Rattle.std.proofs.Common.{◌≡◌, ℕ, ◌+◌, ◌-◌, List, [], ◌∷◌, ◌++◌, refl, sym, ◌∙◌, ap, arith, length, drop}
 use Rattle.std.proofs.lemmas.Result.{err_from_is_err_and}
 use Rattle.t_reader.proofs.Blocking.{block_1_stop, block_2_stop, block_3_stop, block_whole}
 use Rattle.t_reader.proofs.resolve.block_in.Goals as goal

@@ -1,6 +1,3 @@
-use Rattle.std.proofs.Common.{◌≡◌, ℕ, ◌+◌, List, [], ◌∷◌, ◌++◌, refl, sym, ◌∙◌, ap, arith, length, drop}
-use Rattle.std.proofs.lemmas.Result.{err_from_is_err_and}
-use Rattle.t_terms.specs.Names.{bind}
 use Rattle.t_reader.proofs.Found.{bind_next, bind_done}
 use Rattle.t_reader.proofs.scope.bind_all.Goals as goal
 

@@ -1,5 +1,4 @@
-use Rattle.std.proofs.Common.{◌≡◌, ℕ, ◌+◌, List, [], ◌∷◌, ◌++◌, refl, sym, ◌∙◌, ap, arith, length, drop}
-use Rattle.std.proofs.lemmas.Result.{err_from_is_err_and}
+use Rattle.std.proofs.Common.{◌≡◌, List, refl, ◌∙◌, ap, arith, drop}
 use Rattle.std.proofs.lemmas.List.{drop-drop}
 use Rattle.idx_core.specs.Names.{Name}
 use Rattle.t_reader.proofs.scope.release.Goals as goal

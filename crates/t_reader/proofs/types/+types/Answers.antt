@@ -1,4 +1,4 @@
-use Rattle.std.proofs.Common.{◌≡◌, ℕ, ◌+◌, List, [], ◌∷◌, ◌++◌, refl, sym, ◌∙◌, ap, arith, length, drop}
+use Rattle.std.proofs.Common.{refl, sym}
 use Rattle.std.proofs.lemmas.Result.{err_from_is_err_and}
 use Rattle.t_reader.proofs.Naming.{int_whole, name_stop, name_whole, code_stop, code_whole, some_stop, some_whole, fields_start, fields_stop, fields_next, fields_whole, fields_stop_whole}
 use Rattle.t_reader.proofs.Filing.{file_start, file_twice, file_stop, file_next, file_whole}

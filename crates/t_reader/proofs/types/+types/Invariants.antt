@@ -1,4 +1,3 @@
-use Rattle.std.proofs.Common.{◌≡◌, [], ◌∷◌}
 use Rattle.t_reader.proofs.Naming.{FieldsLeft}
 use Rattle.t_reader.proofs.Filing.{FileLeft}
 use Rattle.t_reader.proofs.types.+types.Given as goal

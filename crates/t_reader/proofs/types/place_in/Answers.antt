@@ -1,7 +1,5 @@
-use Rattle.std.proofs.Common.{◌≡◌, ℕ, ◌+◌, ◌-◌, List, [], ◌∷◌, ◌++◌, refl, sym, ◌∙◌, ap, arith, length, drop}
-use Rattle.std.proofs.lemmas.Result.{err_from_is_err_and}
-use Rattle.std.proofs.Common.{◌<◌, ◌≤◌, get_or}
-use Rattle.t_types.specs.declared.types.TType.{TType}
+use Rattle.std.proofs.Common.{◌-◌, arith}
+use Rattle.std.proofs.Common.{◌<◌, get_or}
 use Rattle.t_reader.proofs.Filing.{has_at, one_before, one_more}
 use Rattle.t_reader.proofs.types.place_in.Goals as goal
 

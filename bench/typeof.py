@@ -8,7 +8,7 @@ from measure import best, folder, program
 
 def spaces(n):
     line = b"-- a comment of the source\n   \t\n"
-    text = line * (n // len(line))
+    text = line * ((n - 1) // len(line))
     return text + b" " * (n - 1 - len(text)) + b"7"
 
 

@@ -1,0 +1,52 @@
+// What is written of a text reads as the same program: each text is written out of its program, and so is what was
+// written.
+use std::alloc::Global;
+use std::test::Fail;
+use t_reader::read;
+use t_writer::write;
+
+const POLYMORPHIC: &[u8] =
+    b"tal 1\nL0: code[]{}. mov r1, 5 mov r2, L2 jmp L1[int]\nL1: code[a]{r1:a, r2:all[]{r1:a}}. jmp r2\nL2: code[]{r1:int}. halt[int]";
+
+// The same with other names, its files in the other order, other numbers of zeros, and comments.
+const OTHER: &[u8] =
+    b"-- the same\ntal 01\n-- first\nstart: code[]{}. mov r01, 0005 mov r2, end jmp middle[int]\n-- second\nmiddle: code[zz]{r2:all[]{r1:zz}, r1:zz}. jmp r2\n-- third\nend: code[]{r1:int}. halt[int]";
+
+const WRITTEN: &[u8] =
+    b"tal 1\nL0: code[]{}.\nmov r1, 5\nmov r2, L2\njmp L1[int]\nL1: code[T0]{r1:T0, r2:all[]{r1:T0}}.\njmp r2\nL2: code[]{r1:int}.\nhalt[int]\n";
+
+// Every form of type, value and instruction.
+const FORMS: &[u8] =
+    b"tal 1\nL0: code[]{}. malloc r1[int, <int^1, int^~0>, all[a, b]{r1:b}] mov r2, pack[int, ~5] as some c. c\nunpack[d, r3], r2 st r1[0], r3 ld r4, r1[0] add r5, r4, 1 sub r5, r5, r4 mul r5, r5, ~2 bnz r5, L0 jmp r6[d, <>]";
+
+// The text of the program that a text stands for; nothing where it stands for none.
+fn again(alloc: Global, text: &[u8]) -> Option<Vec<u8>> {
+    let program = read(alloc, text).ok()?;
+    write(alloc, &program).ok()
+}
+
+fn is_written(alloc: Global, text: &[u8], wanted: &[u8]) -> bool {
+    match again(alloc, text) {
+        Some(written) => written.as_slice() == wanted,
+        None => false,
+    }
+}
+
+#[test]
+fn one_program_has_one_written_text(rt: HostRuntime) -> Result<(), Fail> {
+    let texts: [&[u8]; 3] = [POLYMORPHIC, OTHER, WRITTEN];
+    for text in texts {
+        assert!(rt; is_written(rt.alloc(), text, WRITTEN));
+    }
+    Ok(())
+}
+
+#[test]
+fn what_is_written_is_written_again(rt: HostRuntime) -> Result<(), Fail> {
+    let alloc = rt.alloc();
+    match again(alloc, FORMS) {
+        Some(written) => assert!(rt; is_written(alloc, &written, &written)),
+        None => assert!(rt; false, "the text stands for a program"),
+    }
+    Ok(())
+}

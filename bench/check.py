@@ -8,14 +8,13 @@ BLOCKS = 1000
 
 
 def assembly(blocks, each):
+    """Blocks of so many instructions, ends included; each jumps to the next, the last halts."""
+    body = ["ld r3, r2[0]", "add r1, r1, r3", "mul r4, r1, 7", "st r2[0], r4", "bnz r4, L1"]
     lines = ["tal 1"]
     for i in range(blocks):
+        start = ["malloc r2[int]", "mov r1, 1", "st r2[0], r1"] if i == 0 else []
         lines.append(f"L{i}: code[]{{}}." if i == 0 else f"L{i}: code[]{{r1:int, r2:<int^1>}}.")
-        if i == 0:
-            lines += ["malloc r2[int]", "mov r1, 1", "st r2[0], r1"]
-        body = ["ld r3, r2[0]", "add r1, r1, r3", "mul r4, r1, 7", "st r2[0], r4", "bnz r4, L1"]
-        count = each - 1 - (3 if i == 0 else 0)
-        lines += [body[k % len(body)] if not (k % len(body) == 4 and k < 5 and i == 0) else "mov r5, 2" for k in range(count)]
+        lines += start + [body[k % len(body)] for k in range(each - 1 - len(start))]
         lines.append(f"jmp L{i + 1}" if i + 1 < blocks else "halt[int]")
     return "\n".join(lines) + "\n"
 
@@ -23,7 +22,7 @@ def assembly(blocks, each):
 def module(blocks, each):
     lines = ["(module (memory 1)"]
     for i in range(blocks):
-        lines.append(f"(func (param i64) (result i64)")
+        lines.append("(func (param i64) (result i64)")
         lines += ["local.get 0"] + ["i64.const 7", "i64.add"] * ((each - 2) // 2)
         lines.append(")")
     lines.append(")")

@@ -1,4 +1,3 @@
-mod Admits
 mod Exact
 mod Fields
 mod Finds

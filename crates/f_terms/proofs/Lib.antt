@@ -1,3 +1,4 @@
+pub mod Admits
 mod Closing
 mod FaultRows
 pub mod Faulty

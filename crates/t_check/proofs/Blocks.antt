@@ -7,10 +7,7 @@ use Rattle.t_types.specs.Read.{types}
 use Rattle.t_terms.specs.Read.{block, blocks_of}
 use Rattle.t_terms.specs.Whole.{WellFormedBlock, WellFormedBlocks, Whole}
 use Rattle.t_terms.specs.declared.block.Block.{Block}
-
-pub blocks_count : (bs : List Block) → length (blocks_of bs) ≡ length bs
-blocks_count [] = refl
-blocks_count (b ∷ bs) = ap suc (blocks_count bs)
+use Rattle.t_terms.proofs.Blocks.{blocks_count}
 
 pub block_at : (bs : List Block) (l : ℕ) (x : Block) → l < length bs → x ≡ get_or bs l x → slice_get (blocks_of bs) l ≡ Some (block x)
 block_at [] l x lt is = absurd (omega arith)

@@ -11,6 +11,7 @@ use Rattle.t_terms.specs.Spanned.{SBlock, seq_of, plain, plain_blocks}
 use Rattle.t_terms.specs.Read.{instr, end_of, body, block, spanned, spanned_blocks, blocks_of}
 use Rattle.t_terms.specs.Whole.{WellFormedInstr, WellFormedSeq, WellFormedEnd}
 use Rattle.t_terms.specs.declared.block.Block.{Block}
+use Rattle.t_terms.proofs.Blocks.{plain_spanned}
 use Rattle.t_terms.specs.declared.instr.Instr.{Instr}
 use Rattle.t_terms.specs.declared.fault.TCode.{TCode}
 use Rattle.t_terms.specs.declared.fault.TFault.{TFault}
@@ -85,10 +86,6 @@ block_end P b m i h le left (Err f) e =
 pub record AreLeft (P : List TBlock) (bs left : List Block) : Type 0 where
   pub accepted : BlocksAccepted P (blocks_of left) → BlocksAccepted P (blocks_of bs)
   pub fault : (c : TCode) (p : Span) → BlocksFault P (spanned_blocks left) c p → BlocksFault P (spanned_blocks bs) c p
-
-pub plain_spanned : (bs : List Block) → plain_blocks (spanned_blocks bs) ≡ blocks_of bs
-plain_spanned [] = refl
-plain_spanned (b ∷ bs) = ap (λ Q. block b ∷ Q) (plain_spanned bs)
 
 module _ (P : List TBlock) (bs : List Block) (i : ℕ) where
   module _ (x : Block) (lt : i < length bs) (is : x ≡ get_or bs i x) where

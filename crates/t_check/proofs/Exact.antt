@@ -11,7 +11,7 @@ use Rattle.t_rules.specs.Rules.{Accepted}
 use Rattle.t_rules.specs.Faults.{ProgramFault}
 use Rattle.t_rules.specs.LawsFaults.{NoFaultWhereAccepted, OneFault}
 use Rattle.t_check.specs.Verdict.{Says}
-use Rattle.t_check.proofs.Bodies.{plain_spanned}
+use Rattle.t_terms.proofs.Blocks.{plain_spanned}
 
 module _ (bs : List Block) where
   pub accepted : Accepted (plain_blocks (spanned_blocks bs)) → Accepted (blocks_of bs)

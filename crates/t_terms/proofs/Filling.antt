@@ -11,8 +11,7 @@ use Rattle.t_terms.specs.Grammar.{tok}
 use Rattle.text_core.specs.Table.{Nt, Do, Mark, Seen}
 use Rattle.text_core.proofs.Reading as reading
 use Rattle.text_core.proofs.Rules as rules
-use Rattle.text_core.proofs.Rules.{Filling, quiet_row, AtLeast, Least}
-use Rattle.t_terms.proofs.Completing.{good_row}
+use Rattle.text_core.proofs.Rules.{Filling, quiet_row, good_row, AtLeast, Least}
 use Rattle.t_terms.specs.Machine.{table, Line, LProgram, LBlock, MoreBlocks, LBinds, LNames, MoreNames, LFile, LRegs, MoreRegs, LT, LFields, MoreFields, LTypes, LTypeList, LSomeTypes, MoreTypes, LV, LArgs, LPacked, LTo, LAt, LIndex, LTarget, LInt, LI, MoreSteps, LEnd, Act, Stack, Val, OfValue, fits, after, may_end, marks, exec, Outcome, act, MakeBinds, MakeFile, NoNames, NoRegs, TypeInt, NoFields, MakeTypes, NoTypes, MakeBase, MakePacked, MakeTo, MakeIndex, MakeAt, MakeTarget, MakeInt, MakeMalloc, MakeHalt, MakeBlock, FirstBlock, MakeProgram, CloseTypes}
 
 abbrev here : Span

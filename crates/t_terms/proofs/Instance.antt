@@ -8,7 +8,7 @@ use Rattle.text_core.specs.Shapes.{Says}
 use Rattle.text_core.proofs.Claims.{Sound, Claims}
 use Rattle.text_core.proofs.Unique as unique
 use Rattle.t_terms.specs.Machine.{table, Val, LProgram}
-use Rattle.t_terms.proofs.Completing.{Rules, claims_of, exact_by}
+use Rattle.text_core.proofs.Rules.{Rules, claims_of, exact_by}
 use Rattle.t_terms.proofs.Complete.{read_shape}
 use Rattle.t_terms.proofs.Rows.{Sem, sem_program, meaning, is_of, row, empty}
 use Rattle.t_terms.proofs.Filling.{filling, fits_token, goods, quiet, reads, wanted}

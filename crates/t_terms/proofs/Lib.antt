@@ -1,6 +1,6 @@
+pub mod Blocks
 pub mod BodyWalks
 pub mod Complete
-pub mod Completing
 pub mod Filling
 pub mod Instance
 pub mod Rows

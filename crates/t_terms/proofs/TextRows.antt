@@ -119,6 +119,11 @@ hidden : shown (answer (codes "tal 01 L : code[a,a]{r2:all[b]{r1:a},r1:a}. mallo
     } ∷ [])
 hidden = refl
 
+-- of four names the last is the innermost
+in_order : shown (answer (codes "tal 1\nL: code[a,b,a,c]{r1:a,r2:b,r3:c}. halt[int]")) ≡
+    (record { owes = 4; file = MoreRegs 1 (VarTy 1) (MoreRegs 2 (VarTy 2) (MoreRegs 3 (VarTy 0) NoRegs)); code = Ends Halt } ∷ [])
+in_order = refl
+
 -- as many constructs as may be open, and one more
 deep : FirstFault (codes "tal 1\nL0: code[]{}. malloc r1[" ++ replicate 1999 60) T03 (record { start = 2029; end = 2029 })
 deep = faulty _ _ _ _ refl

@@ -5,16 +5,13 @@ use Rattle.t_terms.specs.Tree.{TBlock}
 use Rattle.t_terms.specs.Read.{blocks_of}
 use Rattle.t_terms.specs.Whole.{Whole}
 use Rattle.t_terms.specs.Text.{most_open, StandsFor}
+use Rattle.t_terms.proofs.Blocks.{blocks_count}
 use Rattle.t_writer.specs.Ints.{BlocksFit}
 use Rattle.t_writer.specs.Lexeme.{render}
 use Rattle.t_writer.specs.Nesting.{nesting, ReadsBack}
 use Rattle.t_writer.specs.Written.{program_written}
 use Rattle.t_writer.proofs.Nested.{keeps_by_nesting}
 use Rattle.t_writer.proofs.WroteBlocks.{written_stands}
-
-blocks_count : (bs : List Block) → length (blocks_of bs) ≡ length bs
-blocks_count [] = refl
-blocks_count (b ∷ bs) = ap (λ n. suc n) (blocks_count bs)
 
 pub text_stands : (text : List ℕ) (bs : List Block) → length bs < 2 ^ 63 → Whole (blocks_of bs) → BlocksFit (blocks_of bs) → text ≡ render (program_written (blocks_of bs)) → StandsFor text (blocks_of bs)
 text_stands text bs few h f e = written_stands text (blocks_of bs) (omega (arith, blocks_count bs)) h f e

@@ -6,17 +6,13 @@ use Rattle.t_terms.specs.Spanned.{plain_blocks}
 use Rattle.t_terms.specs.Whole.{Whole}
 use Rattle.t_terms.specs.declared.block.Block.{Block}
 use Rattle.t_terms.specs.declared.program.TProgram.{TProgram}
+use Rattle.t_terms.proofs.Blocks.{plain_spanned}
 use Rattle.t_rules.specs.Rules.{Accepted}
 use Rattle.t_rules.specs.Machine.{State, Place, After, HaltedWith}
 use Rattle.t_rules.proofs.Runs as runs
 use Rattle.talc_core.specs.FirstFault.{IsAssembly, IsAcceptedText}
 use Rattle.talc_core.specs.Lines.{accepted_line}
 use Rattle.talc_core.specs.Shown.{NeverSticks, AcceptedShown}
-
--- the plain blocks of a program, by its blocks with their places
-pub plain_spanned : (bs : List Block) → plain_blocks (spanned_blocks bs) ≡ blocks_of bs
-plain_spanned [] = refl
-plain_spanned (b ∷ bs) = ap (λ (P : List TBlock). block b ∷ P) (plain_spanned bs)
 
 pub accepted_text : (text : List ℕ) (p q : TProgram) → IsAssembly text (spanned_blocks p.blocks.items) → q ≡ p → Accepted (blocks_of p.blocks.items) → IsAcceptedText text (spanned_blocks q.blocks.items)
 accepted_text text p q read same accepted =

@@ -48,11 +48,16 @@ abbrev pub both : Bool → Bool → Bool
 both true b = b
 both false b = false
 
+-- the number of the first token of a list
+abbrev pub first_level : (g : Table) → Filling g → List g.Tok → ℕ
+first_level g f [] = 0
+first_level g f (c ∷ w) = f.level c
+
 -- the number of the first token of what completes s, where what comes after s has the number e
 abbrev pub level_of : (g : Table) → Filling g → Stack g → ℕ → ℕ
 level_of g f [] e = e
 level_of g f (Tm k ∷ s) e = f.level (f.token k)
-level_of g f (Nt n ∷ s) e = if g.may_end n then level_of g f s e else 0
+level_of g f (Nt n ∷ s) e = if g.may_end n then level_of g f s e else first_level g f (f.least n)
 level_of g f (Do a ∷ s) e = level_of g f s e
 level_of g f (Mark ∷ s) e = level_of g f s e
 
@@ -209,18 +214,18 @@ less_not a b h = rw (le-ltb a b h) refl
 level_more : (g : Table) (f : Filling g) (s : Stack g) (a b : ℕ) → a ≤ b → level_of g f s a ≤ level_of g f s b
 level_more g f [] a b h = h
 level_more g f (Tm k ∷ s) a b h = omega arith
-level_more g f (Nt n ∷ s) a b h = by_end (g.may_end n) (level_more g f s a b h)
+level_more g f (Nt n ∷ s) a b h = by_end (first_level g f (f.least n)) (g.may_end n) (level_more g f s a b h)
   where
-    by_end : (x : Bool) → level_of g f s a ≤ level_of g f s b → (if x then level_of g f s a else 0) ≤ (if x then level_of g f s b else 0)
-    by_end true i = i
-    by_end false i = omega arith
+    by_end : (l : ℕ) (x : Bool) → level_of g f s a ≤ level_of g f s b → (if x then level_of g f s a else l) ≤ (if x then level_of g f s b else l)
+    by_end l true i = i
+    by_end l false i = omega arith
 level_more g f (Do x ∷ s) a b h = level_more g f s a b h
 level_more g f (Mark ∷ s) a b h = level_more g f s a b h
 
 level_append : (g : Table) (f : Filling g) (s t : Stack g) (e : ℕ) → level_of g f (s ++ t) e ≡ level_of g f s (level_of g f t e)
 level_append g f [] t e = refl
 level_append g f (Tm k ∷ s) t e = refl
-level_append g f (Nt n ∷ s) t e = ap (λ (i : ℕ). if g.may_end n then i else 0) (level_append g f s t e)
+level_append g f (Nt n ∷ s) t e = ap (λ (i : ℕ). if g.may_end n then i else first_level g f (f.least n)) (level_append g f s t e)
 level_append g f (Do x ∷ s) t e = level_append g f s t e
 level_append g f (Mark ∷ s) t e = level_append g f s t e
 
@@ -235,14 +240,18 @@ good_append g f (Nt n ∷ s) t a e h l k =
 good_append g f (Do x ∷ s) t a e h l k = good_append g f s t a e h l k
 good_append g f (Mark ∷ s) t a e h l k = good_append g f s t a e h l k
 
+at_least_first : (g : Table) (f : Filling g) (w v : List g.Tok) (n : ℕ) → 0 < n → n ≤ first_level g f w → AtLeast g f n (w ++ v)
+at_least_first g f [] v n p h = absurd (omega arith)
+at_least_first g f (c ∷ w) v n p h = h
+
 at_least : (g : Table) (f : Filling g) (s : Stack g) (n e : ℕ) → 0 < n → n ≤ level_of g f s e → AtLeast g f n (fill g f s)
 at_least g f [] n e p h = tt
 at_least g f (Tm k ∷ s) n e p h = h
 at_least g f (Nt m ∷ s) n e p h = by_end (g.may_end m) (at_least g f s n e p) h
   where
-    by_end : (x : Bool) → (n ≤ level_of g f s e → AtLeast g f n (fill g f s)) → n ≤ (if x then level_of g f s e else 0) → AtLeast g f n (if x then fill g f s else (f.least m ++ fill g f s))
+    by_end : (x : Bool) → (n ≤ level_of g f s e → AtLeast g f n (fill g f s)) → n ≤ (if x then level_of g f s e else first_level g f (f.least m)) → AtLeast g f n (if x then fill g f s else (f.least m ++ fill g f s))
     by_end true i h = i h
-    by_end false i h = absurd (omega arith)
+    by_end false i h = at_least_first g f (f.least m) (fill g f s) n p h
 at_least g f (Do a ∷ s) n e p h = at_least g f s n e p h
 at_least g f (Mark ∷ s) n e p h = at_least g f s n e p h
 

@@ -3,7 +3,8 @@ use Rattle.t_terms.specs.Tree.{TBlock}
 use Rattle.t_terms.specs.Read.{blocks_of}
 use Rattle.t_rules.specs.Rules.{BlocksAccepted}
 use Rattle.t_check.proofs.Blocks.{whole_at}
-use Rattle.t_check.proofs.Bodies.{plain_spanned, blocks_end}
+use Rattle.t_terms.proofs.Blocks.{plain_spanned}
+use Rattle.t_check.proofs.Bodies.{blocks_end}
 use Rattle.t_check.proofs.program.check_blocks.Goals as goal
 
 pub check_block-requires-clause-formed : goal.check_block-requires-clause-formed

@@ -1,5 +1,5 @@
 use Rattle.std.proofs.Common.{◌<◌, length, arith, refl}
-use Rattle.t_check.proofs.Blocks.{blocks_count}
+use Rattle.t_terms.proofs.Blocks.{blocks_count}
 use Rattle.t_check.proofs.Bodies.{program_is}
 use Rattle.t_check.proofs.program.check_program.Goals as goal
 

@@ -7,7 +7,7 @@ use Rattle.t_rules.specs.Rules.{Accepted}
 use Rattle.t_check.specs.Checked.{checked_program}
 use Rattle.t_machine.specs.Runs.{FirstRun}
 use Rattle.t_machine.specs.declared.machine.Ran.{Ran}
-use Rattle.talc_core.proofs.AssemblyLemmas.{plain_spanned}
+use Rattle.t_terms.proofs.Blocks.{plain_spanned}
 use Rattle.talc_core.proofs.running.run_accepted.Goals as goal
 
 pub first_run-requires : goal.first_run-requires

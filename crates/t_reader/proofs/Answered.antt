@@ -14,7 +14,7 @@ use Rattle.t_terms.specs.NameFaults.{program_faults}
 use Rattle.t_terms.specs.Text.{ReadsAs, FirstFault, in_names, IsFirstFault}
 use Rattle.t_terms.proofs.TextExact.{one_program, program_or_fault, one_fault}
 use Rattle.t_reader.specs.Resolve.{IsShape, StopsAt}
-use Rattle.t_reader.specs.declared.scope.Stop.TheVariants.{At}
+use Rattle.t_reader.specs.declared.stop.Stop.TheVariants.{At}
 
 pub reads : (text : List ℕ) (raw : List RawBlock) (P : List SBlock) → IsShape text raw → program_faults text raw ≡ [] → P ≡ program_of text raw → ReadsAs text P
 reads text raw P h f e = record { stands = record { tokens = h.tokens; cut = h.cut; raw = raw; shape = h.shape; named = f; is = e }; within = (h.tokens, h.cut, h.within) }

@@ -16,7 +16,7 @@ use Rattle.t_shapes.specs.declared.raw.RawInstr.{RawInstr}
 use Rattle.t_shapes.specs.declared.raw.RawBlock.{RawBlock}
 use Rattle.t_shapes.specs.Raw.{raw_step, raw_end, raw_block}
 use Rattle.t_reader.specs.Resolve.{StopsAt}
-use Rattle.t_reader.specs.declared.scope.Stop.{Stop}
+use Rattle.t_reader.specs.declared.stop.Stop.{Stop}
 use Rattle.t_reader.proofs.Found.{stop_left, stop_right, none_both}
 
 module _ (text : List ℕ) (ls : List Name) (b : RawBlock) (ns : List Span) (p : ns ≡ b.names.items) (a : List Name) (n : a ≡ bind text ns []) (rs : List (ℕ × Span × RawType)) (q : rs ≡ b.file.regs.items) where

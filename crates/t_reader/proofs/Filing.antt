@@ -1,9 +1,11 @@
 -- Register files in ascending order: how one grows by an entry.
-use Rattle.std.proofs.Common.{◌≡◌, ◌≢◌, ℕ, zero, suc, ◌+◌, ◌-◌, ◌<◌, ◌≤◌, List, [], ◌∷◌, ◌++◌, length, map, take, drop, get_or, refl, sym, ◌∙◌, ap, subst, Bool, true, false, ◌||◌, if◌then◌else◌, arith}
-use Rattle.std.specs.Prelude.{nat_lt, nat_eq, nat_le}
+use Rattle.std.proofs.Common.{◌≡◌, ◌≢◌, ℕ, ◌+◌, ◌<◌, ◌≤◌, List, [], ◌∷◌, ◌++◌, length, map, drop, get_or, refl, sym, ◌∙◌, ap, Bool, true, false, ◌||◌, if◌then◌else◌, arith, cond, is_some, Some, ◌⊎◌, inl, inr, ⊎_elim, Less, Equal, Greater}
+use Rattle.std.specs.Prelude.{nat_lt, nat_eq}
 use Rattle.std.specs.List.{list_any}
-use Rattle.std.proofs.lemmas.Bool.{eqb-true, eq-eqb, lt-ltb, le-ltb, ltb-true, ltb-false, leb-true, leb-false}
-use Rattle.std.proofs.lemmas.List.{take-append-drop}
+use Rattle.std.proofs.lemmas.Bool.{eqb-true, eqb-false, eq-eqb, lt-ltb, le-ltb, ltb-true, ltb-false}
+use Rattle.std.specs.BTreeMap.{insert_entry}
+use Rattle.std.specs.Map.{lookup}
+use Rattle.std.specs.Ordering.{nat_cmp, is_eq, match_ordering}
 use Rattle.std.proofs.Math.ListN.{drop_of_length-le}
 use Rattle.idx_core.specs.declared.span.Span.{Span}
 use Rattle.idx_core.specs.Names.{Name}
@@ -16,9 +18,9 @@ use Rattle.t_terms.specs.NameFaults.{regs_faults, type_faults}
 use Rattle.t_grammar.specs.declared.raw.RawType.{RawType}
 use Rattle.t_grammar.specs.Raw.{raw, raw_reg}
 use Rattle.t_terms.specs.declared.fault.TCode.TheVariants.{T07}
-use Rattle.t_reader.specs.Resolve.{StopsAt, Follows, has}
-use Rattle.t_reader.specs.declared.scope.Stop.{Stop}
-use Rattle.t_reader.specs.declared.scope.Stop.TheVariants.{At}
+use Rattle.t_reader.specs.Resolve.{StopsAt, has}
+use Rattle.t_reader.specs.declared.stop.Stop.{Stop}
+use Rattle.t_reader.specs.declared.stop.Stop.TheVariants.{At}
 use Rattle.t_reader.proofs.Found.{here_at, stop_left}
 use Rattle.t_reader.proofs.Naming.{Done}
 
@@ -40,50 +42,10 @@ merged (x ∷ xs) f = insert_reg x.0 (tree x.1) (merged xs f)
 abbrev pub Entries : Type 0
 Entries = List (ℕ × TType)
 
--- each register is less than r, and each is greater
-abbrev Below : ℕ → Entries → Type 0
-Below r [] = Unit {0}
-Below r (x ∷ xs) = (x.0 < r) × Below r xs
-
-abbrev Above : ℕ → Entries → Type 0
-Above r [] = Unit {0}
-Above r (x ∷ xs) = (r < x.0) × Above r xs
-
-all_above : (r : ℕ) (xs : Entries) → ((j : ℕ) (d : ℕ × TType) → j < length xs → r < (get_or xs j d).0) → Above r xs
-all_above r [] h = tt
-all_above r (x ∷ xs) h = (h 0 x (omega arith), all_above r xs (λ j d l. h (suc j) d (omega arith)))
-
-above_drop : (r : ℕ) (xs : Entries) (k : ℕ) → ((j : ℕ) (d : ℕ × TType) → k ≤ j → j < length xs → r < (get_or xs j d).0) → Above r (drop k xs)
-above_drop r xs zero h = all_above r xs (λ j d l. h j d (omega arith) l)
-above_drop r [] (suc k) h = tt
-above_drop r (x ∷ xs) (suc k) h = above_drop r xs k (λ j d p l. h (suc j) d (omega arith) (omega arith))
-
-below_take : (r : ℕ) (xs : Entries) (k : ℕ) → Sorted xs → k ≤ length xs → ((j : ℕ) (d : ℕ × TType) → j + 1 ≡ k → (get_or xs j d).0 < r) → Below r (take k xs)
-below_take r xs zero s l h = tt
-below_take r [] (suc k) s l h = tt
-below_take r (x ∷ xs) (suc zero) s l h = (h 0 x (omega arith), tt)
-below_take r (x ∷ []) (suc (suc k)) s l h = absurd (omega arith)
-below_take r (x ∷ (y ∷ ys)) (suc (suc k)) s l h =
-    let b : Below r (take (suc k) (y ∷ ys)) = below_take r (y ∷ ys) (suc k) s.1 (omega arith) (λ j d e. h (suc j) d (omega arith)) in (omega (arith, s.0, b.0), b)
-
-rises_insert : (low : ℕ) (u v : Entries) (y : ℕ × TType) → Rises low (u ++ v) → Below y.0 u → Above y.0 v → low < y.0 → Rises low (u ++ y ∷ v)
-rises_insert low [] [] y h b a l = (l, tt)
-rises_insert low [] (z ∷ v) y h b a l = (l, (a.0, h.1))
-rises_insert low (x ∷ u) v y h b a l = (h.0, rises_insert x.0 u v y h.1 b.1 a b.0)
-
-sorted_insert : (u v : Entries) (y : ℕ × TType) → Sorted (u ++ v) → Below y.0 u → Above y.0 v → Sorted (u ++ y ∷ v)
-sorted_insert [] [] y h b a = tt
-sorted_insert [] (z ∷ v) y h b a = (a.0, h)
-sorted_insert (x ∷ u) v y h b a = rises_insert x.0 u v y h b.1 a b.0
-
 swap_or : (a b c : Bool) → (a || (b || c)) ≡ (b || (a || c))
 swap_or true true c = refl
 swap_or true false c = refl
 swap_or false b c = refl
-
-has_insert : (r : ℕ) (u v : Entries) (y : ℕ × TType) → has r (u ++ y ∷ v) ≡ (nat_eq r y.0 || has r (u ++ v))
-has_insert r [] v y = refl
-has_insert r (x ∷ u) v y = ap (λ (b : Bool). nat_eq r x.0 || b) (has_insert r u v y) ∙ swap_or (nat_eq r x.0) (nat_eq r y.0) (has r (u ++ v))
 
 pub differs : (r q : ℕ) → r ≢ q → nat_eq r q ≡ false
 differs r q n = by_test (nat_eq r q) refl
@@ -92,42 +54,57 @@ differs r q n = by_test (nat_eq r q) refl
     by_test true e = absurd (n (eqb-true r q e))
     by_test false e = e
 
-not_there : (r : ℕ) (u v : Entries) → Below r u → Above r v → has r (u ++ v) ≡ false
-not_there r [] [] b a = refl
-not_there r [] (x ∷ v) b a = rw (differs r x.0 (λ e. omega (arith, a.0, e))) (not_there r [] v tt a.1)
-not_there r (x ∷ u) v b a = rw (differs r x.0 (λ e. omega (arith, b.0, e))) (not_there r u v b.1 a)
+-- a register with its type in the entries
+abbrev put : ℕ → TType → Entries → Entries
+put r t xs = insert_entry nat_cmp xs r t
 
-pub has_at : (r : ℕ) (xs : Entries) (j : ℕ) (d : ℕ × TType) → j < length xs → (get_or xs j d).0 ≡ r → has r xs ≡ true
-has_at r [] j d l e = absurd (omega arith)
-has_at r (x ∷ xs) zero d l e = rw (eq-eqb r x.0 (sym e)) refl
-has_at r (x ∷ xs) (suc j) d l e = or_true (nat_eq r x.0) (has r xs) (has_at r xs j d (omega arith) e)
+-- whether a register is there, as the map tells it
+pub is_there : (r : ℕ) (xs : Entries) → is_some (lookup (λ k. is_eq (nat_cmp r k)) xs) ≡ has r xs
+is_there r [] = refl
+is_there r (x ∷ xs) = by_tests (nat_lt r x.0) (nat_eq r x.0) refl refl (is_there r xs)
   where
-    or_true : (a b : Bool) → b ≡ true → (a || b) ≡ true
-    or_true true b e = refl
-    or_true false b e = e
+    by_tests : (a b : Bool) → nat_lt r x.0 ≡ a → nat_eq r x.0 ≡ b → is_some (lookup (λ k. is_eq (nat_cmp r k)) xs) ≡ has r xs →
+        is_some (cond (is_eq (cond a Less (cond b Equal Greater))) (Some x.1) (lookup (λ k. is_eq (nat_cmp r k)) xs)) ≡ (b || has r xs)
+    by_tests true true p q h = absurd (let l = ltb-true r x.0 p in let e = eqb-true r x.0 q in omega (arith, l, e))
+    by_tests true false p q h = h
+    by_tests false true p q h = refl
+    by_tests false false p q h = h
 
--- an element that is there, whatever stands for one that is not
-same_at : (xs : Entries) (j : ℕ) (d e : ℕ × TType) → j < length xs → get_or xs j d ≡ get_or xs j e
-same_at [] j d e l = absurd (omega arith)
-same_at (x ∷ xs) zero d e l = refl
-same_at (x ∷ xs) (suc j) d e l = same_at xs j d e (omega arith)
-
--- a search from the end on
-pub one_more : (xs : Entries) (r k : ℕ) (e : ℕ × TType) → 0 < k → k ≤ length xs → ((j : ℕ) (d : ℕ × TType) → k ≤ j → j < length xs → r < (get_or xs j d).0) → r < (get_or xs (k - 1) e).0 →
-    (j : ℕ) (d : ℕ × TType) → k - 1 ≤ j → j < length xs → r < (get_or xs j d).0
-one_more xs r k e p l h m j d a b = by_test (nat_le k j) refl
+-- a new register goes in front of a greater one, and behind a smaller one
+put_at : (r : ℕ) (t : TType) (x : ℕ × TType) (xs : Entries) → has r (x ∷ xs) ≡ false →
+    ((r < x.0) × (put r t (x ∷ xs) ≡ (r, t) ∷ (x ∷ xs))) ⊎ ((x.0 < r) × (has r xs ≡ false) × (put r t (x ∷ xs) ≡ x ∷ put r t xs))
+put_at r t x xs n = by_tests (nat_lt r x.0) (nat_eq r x.0) refl refl n
   where
-    by_test : (t : Bool) → nat_le k j ≡ t → r < (get_or xs j d).0
-    by_test true q = h j d (leb-true k j q) b
-    by_test false q =
-        let n = leb-false k j q in
-        let z : k - 1 ≡ j = omega (arith, n, a, p) in
-        subst (λ (x : ℕ × TType). r < x.0) (ap (λ (i : ℕ). get_or xs i e) z ∙ same_at xs j e d b) m
+    by_tests : (a b : Bool) → nat_lt r x.0 ≡ a → nat_eq r x.0 ≡ b → (b || has r xs) ≡ false →
+        ((r < x.0) × (match_ordering (cond a Less (cond b Equal Greater)) ((r, t) ∷ (x ∷ xs)) ((x.0, t) ∷ xs) (x ∷ put r t xs) ≡ (r, t) ∷ (x ∷ xs)))
+        ⊎ ((x.0 < r) × (has r xs ≡ false) × (match_ordering (cond a Less (cond b Equal Greater)) ((r, t) ∷ (x ∷ xs)) ((x.0, t) ∷ xs) (x ∷ put r t xs) ≡ x ∷ put r t xs))
+    by_tests true b p q m = inl (ltb-true r x.0 p, refl)
+    by_tests false true p q m = absurd (cc)
+    by_tests false false p q m = inr (let l = ltb-false r x.0 p in let u = eqb-false r x.0 q in omega (arith, l, u), m, refl)
 
-pub one_before : (xs : Entries) (r k : ℕ) (e : ℕ × TType) → k ≤ length xs → (get_or xs (k - 1) e).0 < r → (j : ℕ) (d : ℕ × TType) → j + 1 ≡ k → (get_or xs j d).0 < r
-one_before xs r k e l m j d q =
-    let z : k - 1 ≡ j = omega (arith, q) in
-    subst (λ (x : ℕ × TType). x.0 < r) (ap (λ (i : ℕ). get_or xs i e) z ∙ same_at xs j e d (omega (arith, q, l))) m
+has_put : (q r : ℕ) (t : TType) (xs : Entries) → has r xs ≡ false → has q (put r t xs) ≡ (nat_eq q r || has q xs)
+has_put q r t [] n = refl
+has_put q r t (x ∷ xs) n =
+    ⊎_elim
+    (λ f. rw f.1 refl)
+    (λ f. rw f.2 (ap (λ (b : Bool). nat_eq q x.0 || b) (has_put q r t xs f.1) ∙ swap_or (nat_eq q x.0) (nat_eq q r) (has q xs)))
+    (put_at r t x xs n)
+
+rises_put : (low r : ℕ) (t : TType) (xs : Entries) → Rises low xs → has r xs ≡ false → low < r → Rises low (put r t xs)
+rises_put low r t [] h n l = (l, tt)
+rises_put low r t (x ∷ xs) h n l =
+    ⊎_elim
+    (λ f. rw f.1 (l, (f.0, h.1)))
+    (λ f. rw f.2 (h.0, rises_put x.0 r t xs h.1 f.1 f.0))
+    (put_at r t x xs n)
+
+sorted_put : (r : ℕ) (t : TType) (xs : Entries) → Sorted xs → has r xs ≡ false → Sorted (put r t xs)
+sorted_put r t [] h n = tt
+sorted_put r t (x ∷ xs) h n =
+    ⊎_elim
+    (λ f. rw f.1 (f.0, h))
+    (λ f. rw f.2 (rises_put x.0 r t xs h f.1 f.0))
+    (put_at r t x xs n)
 
 -- two entries may be put in either order
 swap_lt : (r q : ℕ) (t u : Ty) (f : TFile) → q < r → insert_reg r t (insert_reg q u f) ≡ insert_reg q u (insert_reg r t f)
@@ -156,13 +133,13 @@ pushed (x ∷ v) y f h = by_test (nat_eq y.0 x.0) refl h (λ g. pushed v y f g)
     by_test true e g i = absurd (cc)
     by_test false e g i = ap (insert_reg x.0 (tree x.1)) (i g) ∙ swap x.0 y.0 (tree x.1) (tree y.1) (merged v f) (λ q. absurd (let z = eq-eqb y.0 x.0 (sym q) in cc))
 
-or_right : (a b : Bool) → (a || b) ≡ false → b ≡ false
-or_right true b e = absurd (cc)
-or_right false b e = e
-
-merged_insert : (u v : Entries) (y : ℕ × TType) (f : TFile) → has y.0 (u ++ v) ≡ false → merged (u ++ y ∷ v) f ≡ merged (u ++ v) (insert_reg y.0 (tree y.1) f)
-merged_insert [] v y f h = sym (pushed v y f h)
-merged_insert (x ∷ u) v y f h = ap (insert_reg x.0 (tree x.1)) (merged_insert u v y f (or_right (nat_eq y.0 x.0) (has y.0 (u ++ v)) h))
+merged_put : (r : ℕ) (t : TType) (xs : Entries) (f : TFile) → has r xs ≡ false → merged (put r t xs) f ≡ merged xs (insert_reg r (tree t) f)
+merged_put r t [] f n = refl
+merged_put r t (x ∷ xs) f n =
+    ⊎_elim
+    (λ g. rw g.1 (sym (pushed (x ∷ xs) (r, t) f n)))
+    (λ g. rw g.2 (ap (insert_reg x.0 (tree x.1)) (merged_put r t xs f g.1)))
+    (put_at r t x xs n)
 
 in_front : (x : ℕ × TType) (xs : Entries) → Rises x.0 xs → insert_reg x.0 (tree x.1) (file xs) ≡ file (x ∷ xs)
 in_front x [] h = refl
@@ -197,31 +174,20 @@ module _ (text : List ℕ) (a : List Name) (xs : List (ℕ × Span × RawType)) 
     pub file_twice : has x.0 made ≡ true → StopsAt (regs_faults text a [] (raw_regs (map raw_reg xs))) (At T07 x.1)
     file_twice t = (type_faults text a (raw x.2) ++ regs_faults text a (x.0 ∷ h.before) (raw_regs (map raw_reg (drop (k + 1) xs))), at_entry ∙ rw t refl)
 
-    module _ (at : ℕ) (f : Follows made x.0 at) where
-      below : Below x.0 (take at made)
-      below = below_take x.0 made at h.sorted f.within f.before
-
-      above : Above x.0 (drop at made)
-      above = above_drop x.0 made at f.above
-
-      once : has x.0 made ≡ false
-      once = subst (λ (ys : Entries). has x.0 ys ≡ false) (take-append-drop at made) (not_there x.0 (take at made) (drop at made) below above)
-
+    module _ (once : has x.0 made ≡ false) where
       pub file_stop : (s : Stop) → StopsAt (type_faults text b (raw x.2)) s → StopsAt (regs_faults text a [] (raw_regs (map raw_reg xs))) s
       file_stop s g = rw (at_entry, once) (stop_left _ _ s (rw h.kept at g))
 
-      pub file_next : (c : List Name) (t : TType) (more : Entries) → Done text b x.2 c t → more ≡ take at made ++ (x.0, t) ∷ drop at made → FileLeft text a xs (k + 1) c more
+      pub file_next : (c : List Name) (t : TType) (more : Entries) → Done text b x.2 c t → more ≡ insert_entry nat_cmp made x.0 t → FileLeft text a xs (k + 1) c more
       file_next c t more d m =
-          let same : take at made ++ drop at made ≡ made = take-append-drop at made in
           let e : tree t ≡ type_of text a (raw x.2) = d.2 ∙ ap (λ (z : List Name). type_of text z (raw x.2)) h.kept in
-          let o : has x.0 (take at made ++ drop at made) ≡ false = rw same once in
           record {
             kept = d.0 ∙ h.kept;
             before = x.0 ∷ h.before;
-            known = λ r. rw (m, has_insert r (take at made) (drop at made) (x.0, t), same, h.known r) refl;
-            sorted = rw m (sorted_insert (take at made) (drop at made) (x.0, t) (rw same h.sorted) below above);
+            known = λ r. rw (m, has_put r x.0 t made once, h.known r) refl;
+            sorted = rw m (sorted_put x.0 t made h.sorted once);
             faults = at_entry ∙ rw (once, rw h.kept at d.1) refl;
-            trees = h.trees ∙ rw (m, merged_insert (take at made) (drop at made) (x.0, t) (file_of text a (raw_regs (map raw_reg (drop (k + 1) xs)))) o, same, here_at xs k x l i, e) refl;
+            trees = h.trees ∙ rw (m, merged_put x.0 t made (file_of text a (raw_regs (map raw_reg (drop (k + 1) xs)))) once, here_at xs k x l i, e) refl;
           }
 
   pub file_whole : (k : ℕ) (b : List Name) (made : Entries) → length xs ≤ k → FileLeft text a xs k b made →

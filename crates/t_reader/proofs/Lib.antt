@@ -1,3 +1,7 @@
+mod Rows
+pub mod Leveled
+pub mod FirstBlocks
+pub mod Places
 pub mod Blocking
 pub mod Filing
 pub mod Fitting

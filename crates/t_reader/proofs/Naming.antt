@@ -19,8 +19,8 @@ use Rattle.t_grammar.specs.declared.raw.RawFile.{RawFile}
 use Rattle.t_grammar.specs.Raw.{raw, raw_reg, raw_field}
 use Rattle.t_grammar.proofs.Raws.{raw_Tuple, raw_Code}
 use Rattle.t_reader.specs.Resolve.{StopsAt}
-use Rattle.t_reader.specs.declared.scope.Stop.{Stop}
-use Rattle.t_reader.specs.declared.scope.Stop.TheVariants.{At}
+use Rattle.t_reader.specs.declared.stop.Stop.{Stop}
+use Rattle.t_reader.specs.declared.stop.Stop.TheVariants.{At}
 use Rattle.t_reader.proofs.Found.{here_at, drop_bind, stop_left}
 
 -- the type that was found, with the names in scope after it

@@ -22,11 +22,12 @@ use Rattle.t_shapes.specs.declared.raw.RawBase.{RawBase}
 use Rattle.t_shapes.specs.declared.raw.RawBase.TheVariants as RB
 use Rattle.t_shapes.specs.declared.raw.RawValue.{RawValue}
 use Rattle.t_shapes.specs.declared.raw.RawValue.TheVariants as RV
+use Rattle.t_shapes.specs.declared.raw.RawPack.{RawPack}
 use Rattle.t_shapes.specs.declared.raw.RawInstr.{RawInstr}
 use Rattle.t_shapes.specs.Raw.{raw_base, raw_value, raw_instr, raw_step}
 use Rattle.t_reader.specs.Resolve.{StopsAt}
-use Rattle.t_reader.specs.declared.scope.Stop.{Stop}
-use Rattle.t_reader.specs.declared.scope.Stop.TheVariants.{At}
+use Rattle.t_reader.specs.declared.stop.Stop.{Stop}
+use Rattle.t_reader.specs.declared.stop.Stop.TheVariants.{At}
 use Rattle.t_reader.proofs.Found.{here_at, stop_left, stop_right, none_both}
 use Rattle.t_reader.proofs.Naming.{Done}
 
@@ -55,19 +56,19 @@ module _ (text : List ℕ) (ls a : List Name) (v : RawValue) where
           (c ≡ a) × (types_faults text a (map raw us) ≡ []) × (types made.items ≡ types_of text a (map raw us)) → Valued text ls a v c (V.Plain b made)
       plain_whole made c g h = (h.0, rw (e, ← p) (none_both _ _ g.0 h.1), rw (e, ← p, g.1, h.2) refl)
 
-  module _ (hidden : RawType) (box : Box RawValue Global) (shape : RawType) (inner : RawValue) (e : v ≡ RV.Pack hidden box shape) (y : box.value ≡ inner) where
-    pub pack_1_stop : (s : Stop) → StopsAt (type_faults text a (raw hidden)) s → StopsAt (value_faults text ls a (raw_value v)) s
+  module _ (box : Box RawPack Global) (pack : RawPack) (e : v ≡ RV.Pack box) (y : box.value ≡ pack) where
+    pub pack_1_stop : (s : Stop) → StopsAt (type_faults text a (raw pack.hidden)) s → StopsAt (value_faults text ls a (raw_value v)) s
     pack_1_stop s h = rw (e, y) (stop_left _ _ s h)
 
-    module _ (b : List Name) (t : TType) (d : Done text a hidden b t) where
-      pub pack_2_stop : (s : Stop) → StopsAt (value_faults text ls b (raw_value inner)) s → StopsAt (value_faults text ls a (raw_value v)) s
+    module _ (b : List Name) (t : TType) (d : Done text a pack.hidden b t) where
+      pub pack_2_stop : (s : Stop) → StopsAt (value_faults text ls b (raw_value pack.inner)) s → StopsAt (value_faults text ls a (raw_value v)) s
       pack_2_stop s h = rw (e, y) (stop_right _ _ s d.1 (stop_left _ _ s (rw d.0 at h)))
 
-      module _ (c : List Name) (x : Value) (g : Valued text ls b inner c x) where
-        pub pack_3_stop : (s : Stop) → StopsAt (type_faults text c (raw shape)) s → StopsAt (value_faults text ls a (raw_value v)) s
+      module _ (c : List Name) (x : Value) (g : Valued text ls b pack.inner c x) where
+        pub pack_3_stop : (s : Stop) → StopsAt (type_faults text c (raw pack.shape)) s → StopsAt (value_faults text ls a (raw_value v)) s
         pack_3_stop s h = rw (e, y) (stop_right _ _ s d.1 (stop_right _ _ s (rw d.0 at g.1) (rw (g.0, d.0) at h)))
 
-        pub pack_whole : (f : List Name) (u : TType) → Done text c shape f u → (z : Value) → read.value z ≡ Pack (tree t) (read.value x) (tree u) → Valued text ls a v f z
+        pub pack_whole : (f : List Name) (u : TType) → Done text c pack.shape f u → (z : Value) → read.value z ≡ Pack (tree t) (read.value x) (tree u) → Valued text ls a v f z
         pack_whole f u h z q = (
           h.0 ∙ (g.0 ∙ d.0),
           rw (e, y) (none_both _ _ d.1 (none_both _ _ (rw d.0 at g.1) (rw (g.0, d.0) at h.1))),

@@ -1,1 +1,3 @@
 pub mod Resolve
+pub mod Levels
+pub mod FirstBlocks

@@ -1,22 +1,23 @@
 -- What the resolving of names promises.
-use Rattle.std.specs.Prelude.{◌≡◌, ◌≤◌, ◌<◌, ◌+◌, ℕ, Bool, true, false, List, ◌∷◌, length, slice_get, nat_eq, Option, Some, None}
+use Rattle.std.specs.Prelude.{◌≡◌, ◌≤◌, ℕ, Bool, true, false, List, ◌∷◌, length, slice_get, nat_eq, Option, Some, None, not, if◌then◌else◌, ◌&&◌, [], ◌++◌}
 use Rattle.std.specs.List.{list_any}
-use Rattle.std.proofs.Common.{get_or}
 use Rattle.idx_core.specs.declared.span.Span.{Span}
 use Rattle.idx_core.specs.Names.{Name}
 use Rattle.text_core.specs.Shapes.{NonePasses}
 use Rattle.t_types.specs.declared.types.TType.{TType}
 use Rattle.t_terms.specs.declared.token.Token.{Token}
 use Rattle.t_terms.specs.declared.fault.TCode.{TCode}
+use Rattle.t_terms.specs.declared.fault.TCode.TheVariants.{T04}
 use Rattle.t_terms.specs.declared.fault.TFault.{TFault}
 use Rattle.t_terms.specs.Tokens.{IsCut}
 use Rattle.t_terms.specs.Raw.{RawBlock}
 use Rattle.t_terms.specs.Grammar.{Program}
 use Rattle.t_terms.specs.Machine.{table}
-use Rattle.t_terms.specs.Names.{is_among, place_of}
+use Rattle.t_terms.specs.Names.{spelled, is_among, place_of}
+use Rattle.t_terms.specs.NameFaults.{block_faults}
 use Rattle.t_terms.specs.Text.{most_open, IsFirstFault}
-use Rattle.t_reader.specs.declared.scope.Stop.{Stop}
-use Rattle.t_reader.specs.declared.scope.Stop.TheVariants.{Memory, At}
+use Rattle.t_reader.specs.declared.stop.Stop.{Stop}
+use Rattle.t_reader.specs.declared.stop.Stop.TheVariants.{Memory, At}
 
 -- the first of the faults in the order of the text, or want of memory
 abbrev pub StopsAt : List (TCode × Span) → Stop → Type 0
@@ -28,20 +29,17 @@ abbrev pub IsFound : Name → List Name → Option ℕ → Type 0
 IsFound x names None = is_among x names ≡ false
 IsFound x names (Some i) = (is_among x names ≡ true) × (place_of x names ≡ i)
 
--- the registers from the place k on are greater than r, and the one before it is less
-pub record Follows (xs : List (ℕ × TType)) (r k : ℕ) : Type 0 where
-  pub within : k ≤ length xs
-  pub above : (j : ℕ) (d : ℕ × TType) → k ≤ j → j < length xs → r < (get_or xs j d).0
-  pub before : (j : ℕ) (d : ℕ × TType) → j + 1 ≡ k → (get_or xs j d).0 < r
+-- whether a label is that of a block before the one with this number
+abbrev pub stands_before : Name → List Name → ℕ → Bool
+stands_before x labels k = not (is_among x labels && nat_eq (place_of x labels) k)
+
+-- the faults of a block with this number: its label stands before, and those of its names
+abbrev pub numbered_faults : List ℕ → List Name → ℕ → RawBlock → List (TCode × Span)
+numbered_faults text labels k b = (if stands_before (spelled text b.name) labels k then (T04, b.name) ∷ [] else []) ++ block_faults text labels b
 
 -- a register is there
 abbrev pub has : ℕ → List (ℕ × TType) → Bool
 has r xs = list_any (λ x. nat_eq r x.0) xs
-
--- the place where a register goes, or none where it is there
-abbrev pub IsPlaceIn : List (ℕ × TType) → ℕ → Option ℕ → Type 0
-IsPlaceIn xs r None = has r xs ≡ true
-IsPlaceIn xs r (Some k) = Follows xs r k
 
 -- the place of a token, or the end of the text
 abbrev pub span_of : List ℕ → Option Token → Span

@@ -5,6 +5,7 @@ pub mod labels;
 pub mod reader;
 pub mod resolve;
 pub mod scope;
+pub mod stop;
 #[cfg(test)]
 mod tests;
 pub mod types;

@@ -1,20 +1,21 @@
 // From the bytes of a text to its program.
-ghost use Rattle.std.specs.Prelude.{◌≡◌, ◌≢◌, List, [], nat_eq, not, ◌&&◌, MatchResult, IsErrAnd};
+ghost use Rattle.std.specs.Prelude.{◌≡◌, ◌≢◌, List, [], MatchResult, IsErrAnd};
 ghost use Rattle.idx_core.specs.declared.span.Span as place;
 ghost use Rattle.t_terms.specs.declared.fault.TCode as codes;
 ghost use Rattle.t_terms.specs.declared.fault.TFault.TheVariants as fault;
 ghost use Rattle.t_terms.specs.Spanned.{SBlock};
-ghost use Rattle.t_terms.specs.Read.{spanned_blocks};
+ghost use Rattle.t_terms.specs.Read.{spanned, spanned_blocks};
 ghost use Rattle.t_terms.specs.Text.{ReadsAs, FirstFault, IsFirstFault};
-ghost use Rattle.t_terms.specs.Names.{program_of, is_among, place_of};
+ghost use Rattle.t_terms.specs.Names.{program_of, block_of};
 ghost use Rattle.t_terms.specs.NameFaults.{program_faults};
-ghost use Rattle.t_shapes.specs.Raw.{raw_blocks};
-ghost use Rattle.t_reader.specs.Resolve.{StopsAt, IsShape, IsShapeFault, place_at};
+ghost use Rattle.t_shapes.specs.Raw.{raw_block, raw_blocks};
+ghost use Rattle.t_reader.specs.Resolve.{StopsAt, IsShape, IsShapeFault, place_at, stands_before, numbered_faults};
 
-use crate::labels::labels_in;
+use crate::labels::{Labels, labels_in};
 use crate::resolve::block_in;
-use crate::scope::{Stop, find, spelling};
-use idx_core::{Names, Span};
+use crate::scope::spelling;
+use crate::stop::Stop;
+use idx_core::Span;
 use std::alloc::Global;
 use t_grammar::Stopped;
 use t_lexer::tokens;
@@ -54,29 +55,60 @@ fn shape(alloc: Global, text: &[u8]) -> Result<Vec<RawBlock>, TFault>
 }
 
 // whether a label is that of a block before the one with this number
-fn stood_before(labels: &Names, name: &[u8], number: usize) -> bool
-    ensures { result ≡ not (is_among name.now labels.now && nat_eq (place_of name.now labels.now) number) }
+fn stood_before(labels: &Labels<'_>, name: &[u8], number: usize) -> bool
+    ensures { result ≡ stands_before name.now labels.now number }
 {
-    match find(labels, name) {
+    match labels.find(name) {
         Some(place) => place != number as u64,
         None => true,
     }
 }
 
-// the blocks of a text with their names resolved
-fn blocks_in(alloc: Global, text: &[u8], raw: &[RawBlock]) -> Result<Vec<Block>, Stop>
+// the block of a raw one with this number, whose label may not stand before
+fn numbered_block(
+    alloc: Global,
+    text: &[u8],
+    labels: &Labels<'_>,
+    number: usize,
+    block: &RawBlock,
+) -> Result<Block, Stop>
     ensures { MatchResult result
-        (λ bs. (program_faults text.now (raw_blocks raw.now) ≡ []) × (spanned_blocks bs.items ≡ program_of text.now (raw_blocks raw.now)))
-        (λ e. StopsAt (program_faults text.now (raw_blocks raw.now)) e) }
+        (λ b. (numbered_faults text.now labels.now number (raw_block block.now) ≡ []) × (spanned b ≡ block_of text.now labels.now (raw_block block.now)))
+        (λ e. StopsAt (numbered_faults text.now labels.now number (raw_block block.now)) e) }
 {
-    let labels = labels_in(alloc, text, raw)?;
+    if stood_before(labels, spelling(text, block.name), number) {
+        return Err(Stop::At(TCode::T04, block.name));
+    }
+    block_in(alloc, text, labels, block)
+}
+
+// the same of a raw block that is dropped after it
+fn taken_block(
+    alloc: Global,
+    text: &[u8],
+    labels: &Labels<'_>,
+    number: usize,
+    block: RawBlock,
+) -> Result<Block, Stop>
+    ensures { MatchResult result
+        (λ b. (numbered_faults text.now labels.now number (raw_block block) ≡ []) × (spanned b ≡ block_of text.now labels.now (raw_block block)))
+        (λ e. StopsAt (numbered_faults text.now labels.now number (raw_block block)) e) }
+{
+    numbered_block(alloc, text, labels, number, &block)
+}
+
+// The blocks of a text with their names resolved. Each raw block is dropped as soon as its own is made, so that the
+// two trees are never both whole in memory.
+fn blocks_in(alloc: Global, text: &[u8], raw: Vec<RawBlock>) -> Result<Vec<Block>, Stop>
+    ensures { MatchResult result
+        (λ bs. (program_faults text.now (raw_blocks raw.items) ≡ []) × (spanned_blocks bs.items ≡ program_of text.now (raw_blocks raw.items)))
+        (λ e. StopsAt (program_faults text.now (raw_blocks raw.items)) e) }
+{
+    let labels = labels_in(alloc, text, &raw)?;
     let mut blocks = Vec::new(alloc);
     let mut number = 0usize;
     for block in raw {
-        if stood_before(&labels, spelling(text, block.name), number) {
-            return Err(Stop::At(TCode::T04, block.name));
-        }
-        let made = block_in(alloc, text, &labels, block)?;
+        let made = taken_block(alloc, text, &labels, number, block)?;
         blocks.push(made)?;
         number += 1;
     }
@@ -88,7 +120,7 @@ fn reading(alloc: Global, text: &[u8]) -> Result<TProgram, TFault>
     ensures { MatchResult result (λ p. ReadsAs text.now (spanned_blocks p.blocks.items)) (λ f. IsFirstFault text.now f) }
 {
     let raw = shape(alloc, text)?;
-    match blocks_in(alloc, text, &raw) {
+    match blocks_in(alloc, text, raw) {
         Ok(blocks) => Ok(TProgram { blocks }),
         Err(Stop::Memory) => Err(TFault::Memory),
         Err(Stop::At(code, span)) => Err(TFault::Refused { code, span }),

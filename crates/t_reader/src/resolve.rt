@@ -7,18 +7,20 @@ ghost use Rattle.t_terms.specs.NameFaults.{base_faults, value_faults, instr_faul
 ghost use Rattle.t_terms.specs.Read as read;
 ghost use Rattle.t_shapes.specs.Raw.{raw_base, raw_value, raw_instr, raw_step, raw_end, raw_block};
 ghost use Rattle.t_reader.specs.Resolve.{StopsAt};
-ghost use Rattle.t_reader.specs.declared.scope.Stop.TheVariants as stop;
+ghost use Rattle.t_reader.specs.declared.stop.Stop.TheVariants as stop;
 
-use crate::scope::{Stop, bind_all, find, spelling};
+use crate::labels::Labels;
+use crate::scope::{Scope, bind_all, spelling};
+use crate::stop::Stop;
 use crate::types::{file_in, type_in, types_in};
-use idx_core::{Names, Span};
+use idx_core::Span;
 use std::alloc::Global;
 use t_shapes::{RawBase, RawBlock, RawEnd, RawInstr, RawValue};
 use t_terms::{Base, Block, End, Instr, TCode, Value};
 use t_types::{RegFile, TType};
 
 // N ::= reg | number | label
-fn base_in(text: &[u8], labels: &Names, base: &RawBase) -> Result<Base, Stop>
+fn base_in(text: &[u8], labels: &Labels<'_>, base: &RawBase) -> Result<Base, Stop>
     ensures { MatchResult result
         (λ b. (base_faults text.now labels.now (raw_base base.now) ≡ []) × (read.base b ≡ base_of text.now labels.now (raw_base base.now)))
         (λ e. StopsAt (base_faults text.now labels.now (raw_base base.now)) e) }
@@ -26,7 +28,7 @@ fn base_in(text: &[u8], labels: &Names, base: &RawBase) -> Result<Base, Stop>
     match base {
         RawBase::Reg(reg) => Ok(Base::Reg(*reg)),
         RawBase::Num(value) => Ok(Base::Int(*value)),
-        RawBase::Label(span) => match find(labels, spelling(text, *span)) {
+        RawBase::Label(span) => match labels.find(spelling(text, *span)) {
             Some(number) => Ok(Base::Label(number)),
             None => Err(Stop::At(TCode::T05, *span)),
         },
@@ -44,12 +46,12 @@ fn package(alloc: Global, hidden: TType, inner: Value, shape: TType) -> Result<V
 }
 
 /// The value that a value of a text is.
-pub fn value_in(
+pub fn value_in<'a>(
     alloc: Global,
-    text: &[u8],
-    labels: &Names,
+    text: &'a [u8],
+    labels: &Labels<'_>,
     value: &RawValue,
-    scope: &mut Names,
+    scope: &mut Scope<'a>,
 ) -> Result<Value, Stop>
     ensures { MatchResult result
         (λ v. (scope.new ≡ scope.old) × (value_faults text.now labels.now scope.old (raw_value value.now) ≡ []) × (read.value v ≡ value_of text.now labels.now scope.old (raw_value value.now)))
@@ -61,10 +63,11 @@ pub fn value_in(
             let types = types_in(alloc, text, types, scope)?;
             Ok(Value::Plain { base, types })
         }
-        RawValue::Pack(hidden, inner, shape) => {
-            let hidden = type_in(alloc, text, hidden, scope)?;
-            let inner = value_in(alloc, text, labels, inner, scope)?;
-            let shape = type_in(alloc, text, shape, scope)?;
+        RawValue::Pack(pack) => {
+            let pack = &**pack;
+            let hidden = type_in(alloc, text, &pack.hidden, scope)?;
+            let inner = value_in(alloc, text, labels, &pack.inner, scope)?;
+            let shape = type_in(alloc, text, &pack.shape, scope)?;
             let whole = package(alloc, hidden, inner, shape)?;
             Ok(whole)
         }
@@ -72,12 +75,12 @@ pub fn value_in(
 }
 
 /// The instruction that an instruction of a text is. An `unpack` leaves its name bound.
-pub fn instr_in(
+pub fn instr_in<'a>(
     alloc: Global,
-    text: &[u8],
-    labels: &Names,
+    text: &'a [u8],
+    labels: &Labels<'_>,
     instr: &RawInstr,
-    scope: &mut Names,
+    scope: &mut Scope<'a>,
 ) -> Result<Instr, Stop>
     ensures { MatchResult result
         (λ i. (scope.new ≡ names_after text.now (raw_instr instr.now) scope.old) × (instr_faults text.now labels.now scope.old (raw_instr instr.now) ≡ []) × (read.instr i ≡ instr_of text.now labels.now scope.old (raw_instr instr.now)))
@@ -124,12 +127,12 @@ pub fn instr_in(
 }
 
 /// The instructions of a body, whose names stay bound.
-pub fn body_in(
+pub fn body_in<'a>(
     alloc: Global,
-    text: &[u8],
-    labels: &Names,
+    text: &'a [u8],
+    labels: &Labels<'_>,
     body: &[(RawInstr, Span)],
-    scope: &mut Names,
+    scope: &mut Scope<'a>,
 ) -> Result<Vec<(Instr, Span)>, Stop>
     ensures { MatchResult result
         (λ is. (scope.new ≡ names_after_all text.now (map raw_step body.now) scope.old) × (body_faults text.now labels.now scope.old (map raw_step body.now) ≡ []) × (read.body is.items ≡ body_of text.now labels.now scope.old (map raw_step body.now)))
@@ -144,12 +147,12 @@ pub fn body_in(
 }
 
 /// The end that an end of a text is.
-pub fn end_in(
+pub fn end_in<'a>(
     alloc: Global,
-    text: &[u8],
-    labels: &Names,
+    text: &'a [u8],
+    labels: &Labels<'_>,
     end: &RawEnd,
-    scope: &mut Names,
+    scope: &mut Scope<'a>,
 ) -> Result<End, Stop>
     ensures { MatchResult result
         (λ e. (end_faults text.now labels.now scope.old (raw_end end.now) ≡ []) × (read.end_of e ≡ end_of text.now labels.now scope.old (raw_end end.now)))
@@ -165,12 +168,17 @@ pub fn end_in(
 }
 
 /// The block that a block of a text is.
-pub fn block_in(alloc: Global, text: &[u8], labels: &Names, block: &RawBlock) -> Result<Block, Stop>
+pub fn block_in(
+    alloc: Global,
+    text: &[u8],
+    labels: &Labels<'_>,
+    block: &RawBlock,
+) -> Result<Block, Stop>
     ensures { MatchResult result
         (λ b. (block_faults text.now labels.now (raw_block block.now) ≡ []) × (read.spanned b ≡ block_of text.now labels.now (raw_block block.now)))
         (λ e. StopsAt (block_faults text.now labels.now (raw_block block.now)) e) }
 {
-    let mut scope = Names::new(alloc);
+    let mut scope = Scope::new(alloc);
     let names = block.names.as_slice();
     bind_all(text, names, &mut scope)?;
     let regs = file_in(alloc, text, &block.file.regs, &mut scope)?;

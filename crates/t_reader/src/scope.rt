@@ -1,41 +1,104 @@
 // Type names in scope.
-ghost use Rattle.std.specs.Prelude.{◌≡◌, drop, OnOk, OnErr, Err};
+ghost use Rattle.std.specs.Prelude.{◌≡◌, [], ◌∷◌, drop, OnOk, OnErr, Err};
+ghost use Rattle.indexmap.specs.IndexMap.{IsEmpty};
 ghost use Rattle.t_terms.specs.Names.{spelled, bind};
 ghost use Rattle.t_reader.specs.Resolve.{IsFound};
-ghost use Rattle.t_reader.specs.declared.scope.Stop.TheVariants as stop;
+ghost use Rattle.t_reader.specs.Levels.{level_of};
+ghost use Rattle.t_reader.specs.declared.stop.Stop.TheVariants as stop;
 
-use idx_core::{Names, OutOfMemory, Span};
-use std::alloc::{AllocError, AllocFailed, Global};
-use t_terms::TCode;
+use crate::stop::Stop;
+use idx_core::{OutOfMemory, Span};
+use indexmap::IndexMap;
+use std::alloc::Global;
+use std::hash::{BuildHasherDefault, DefaultHasher};
+use std::marker::Model;
 
-/// Why the names of a tree are not resolved: the first fault.
-#[derive(Debug, Drop)]
-pub enum Stop {
-    Memory,
-    At(TCode, Span),
+/// Numbers by spellings. Whoever writes a text picks its names, so the hasher is SipHash, for which names that collide
+/// must be searched out; its keys are fixed (own choice).
+pub type BySpelling<'a> = IndexMap<&'a [u8], u64, BuildHasherDefault<DefaultHasher>>;
+
+/// An empty map.
+pub fn by_spelling<'a>(alloc: Global) -> BySpelling<'a>
+    ensures { IsEmpty result }
+{
+    IndexMap::with_hasher(alloc, BuildHasherDefault::new())
 }
 
-impl From<OutOfMemory> for Stop {
-    ghost from_gives = { λ _ e. e ≡ stop.Memory };
+/// The type names in scope. Contracts see them as the list of their spellings, innermost first.
+#[derive(Drop)]
+pub struct Scope<'a> {
+    // how many names there were with the innermost of each spelling, or 0 where none is left
+    levels: BySpelling<'a>,
+    // the names, innermost last, each with what its spelling had before it
+    bound: Vec<(&'a [u8], u64)>,
+}
 
-    fn from(_: OutOfMemory) -> Stop {
-        Stop::Memory
+impl<'a> Model for Scope<'a> {
+    ghost use Rattle.std.specs.Prelude.{ℕ, List, reverse};
+    ghost use Rattle.t_reader.specs.Levels.{names_of, KeepsHidden, HasLevels};
+
+    ghost Value = { List (List ℕ) };
+
+    ghost view = { λ s. names_of (reverse s.bound.items) };
+
+    ghost invariant = { λ s. HasLevels s.levels (names_of (reverse s.bound.items)) × KeepsHidden (reverse s.bound.items) };
+}
+
+impl<'a> Scope<'a> {
+    /// No names.
+    pub fn new(alloc: Global) -> Scope<'a>
+        ensures { result ≡ [] }
+    {
+        Scope {
+            levels: by_spelling(alloc),
+            bound: Vec::new(alloc),
+        }
     }
-}
 
-impl From<AllocError> for Stop {
-    ghost from_gives = { λ _ e. e ≡ stop.Memory };
-
-    fn from(_: AllocError) -> Stop {
-        Stop::Memory
+    // how many names there were with the innermost of this spelling, or 0 where there is none
+    fn level(&self, name: &[u8]) -> u64
+        ensures { result ≡ level_of name.now self.now }
+    {
+        self.levels.get(name).copied().unwrap_or(0)
     }
-}
 
-impl<T: Drop> From<AllocFailed<T>> for Stop {
-    ghost from_gives = { λ _ e. e ≡ stop.Memory };
+    /// Makes a name the innermost one. Where memory is wanted, the names are as before.
+    pub fn push(&mut self, name: &'a [u8]) -> Result<(), OutOfMemory>
+        ensures pushed { OnOk result (self.new ≡ name.now ∷ self.old) }
+        ensures kept { OnErr result (self.new ≡ self.old) }
+    {
+        let hidden = self.level(name);
+        self.bound.push((name, hidden))?;
+        let level = self.bound.len() as u64;
+        match self.levels.insert(name, level) {
+            Ok(_) => Ok(()),
+            Err(_) => {
+                self.bound.pop();
+                Err(OutOfMemory)
+            }
+        }
+    }
 
-    fn from(_: AllocFailed<T>) -> Stop {
-        Stop::Memory
+    /// Takes the innermost name away, which undoes a push. Where there is none, it does nothing.
+    pub fn pop(&mut self)
+        ensures { self.new ≡ drop 1 self.old }
+    {
+        if let Some((name, hidden)) = self.bound.pop() {
+            if let Some(level) = self.levels.get_mut(name) {
+                *level = hidden;
+            }
+        }
+    }
+
+    /// The place of a name in the names in scope, counted from the innermost, or none where it is not there.
+    pub fn find(&self, name: &[u8]) -> Option<u64>
+        ensures { IsFound name.now self.now result }
+    {
+        let level = self.level(name);
+        if level == 0 {
+            return None;
+        }
+        Some(self.bound.len() as u64 - level)
     }
 }
 
@@ -48,15 +111,8 @@ pub fn spelling<'a>(text: &'a [u8], span: Span) -> &'a [u8]
     &text[start..end]
 }
 
-/// The place of a name in the names in scope, or none where it is not there.
-pub fn find(scope: &Names, name: &[u8]) -> Option<u64>
-    ensures { IsFound name.now scope.now result }
-{
-    scope.find(name)
-}
-
 /// Binds the names at these places in turn, the last innermost.
-pub fn bind_all(text: &[u8], names: &[Span], scope: &mut Names) -> Result<(), Stop>
+pub fn bind_all<'a>(text: &'a [u8], names: &[Span], scope: &mut Scope<'a>) -> Result<(), Stop>
     ensures bound { OnOk result (scope.new ≡ bind text.now names.now scope.old) }
     ensures memory { OnErr result (result ≡ Err stop.Memory) }
 {
@@ -67,7 +123,7 @@ pub fn bind_all(text: &[u8], names: &[Span], scope: &mut Names) -> Result<(), St
 }
 
 /// Takes as many of the innermost names away.
-pub fn release(count: usize, scope: &mut Names)
+pub fn release(count: usize, scope: &mut Scope<'_>)
     ensures { scope.new ≡ drop count scope.old }
 {
     for _ in 0..count {

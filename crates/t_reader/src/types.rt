@@ -6,12 +6,14 @@ ghost use Rattle.t_terms.specs.Raw.{raw_regs, raw_fields};
 ghost use Rattle.t_terms.specs.Names.{type_of, types_of, file_of};
 ghost use Rattle.t_terms.specs.NameFaults.{type_faults, types_faults, regs_faults};
 ghost use Rattle.t_grammar.specs.Raw.{raw, raw_reg};
-ghost use Rattle.t_reader.specs.Resolve.{StopsAt, IsPlaceIn};
-ghost use Rattle.t_reader.specs.declared.scope.Stop.TheVariants as stop;
+ghost use Rattle.t_reader.specs.Resolve.{StopsAt, has};
+ghost use Rattle.t_reader.specs.declared.stop.Stop.TheVariants as stop;
 
-use crate::scope::{Stop, bind_all, find, release, spelling};
-use idx_core::{Names, Span};
+use crate::scope::{Scope, bind_all, release, spelling};
+use crate::stop::Stop;
+use idx_core::Span;
 use std::alloc::Global;
+use std::collections::BTreeMap;
 use t_grammar::RawType;
 use t_terms::TCode;
 use t_types::{RegFile, TType};
@@ -22,35 +24,40 @@ fn exists(alloc: Global, body: TType) -> Result<TType, Stop>
     Ok(TType::Exists(Box::new(alloc, body)?))
 }
 
-// The place of a register in a file that is in ascending order, after each smaller one; none where it is there.
-fn place_in(regs: &[(u64, TType)], reg: u64) -> Option<usize>
-    ensures { IsPlaceIn regs.now reg result }
+// whether a register is in a file
+fn has_reg(file: &BTreeMap<u64, TType>, reg: u64) -> bool
+    ensures { result ≡ has reg file.now.entries }
 {
-    let mut at = regs.len();
-    while at > 0 {
-        let last = regs[at - 1].0;
-        if last == reg {
-            return None;
-        }
-        if last < reg {
-            return Some(at);
-        }
-        at -= 1;
+    file.contains_key(&reg)
+}
+
+// the registers of a file with their types, in ascending order
+fn in_order(alloc: Global, file: BTreeMap<u64, TType>) -> Result<Vec<(u64, TType)>, Stop>
+    ensures { MatchResult result (λ regs. regs.items ≡ file.entries) (λ e. e ≡ stop.Memory) }
+{
+    let mut regs = Vec::new(alloc);
+    for entry in file {
+        regs.push(entry)?;
     }
-    Some(0)
+    Ok(regs)
 }
 
 /// The type that a type of a text is, where these type names are in scope. They are as before where the answer is a
 /// type.
 #[cycle(types)]
-pub fn type_in(alloc: Global, text: &[u8], ty: &RawType, scope: &mut Names) -> Result<TType, Stop>
+pub fn type_in<'a>(
+    alloc: Global,
+    text: &'a [u8],
+    ty: &RawType,
+    scope: &mut Scope<'a>,
+) -> Result<TType, Stop>
     ensures { MatchResult result
         (λ t. (scope.new ≡ scope.old) × (type_faults text.now scope.old (raw ty.now) ≡ []) × (tree t ≡ type_of text.now scope.old (raw ty.now)))
         (λ e. StopsAt (type_faults text.now scope.old (raw ty.now)) e) }
 {
     match ty {
         RawType::Int => Ok(TType::Int),
-        RawType::Name(span) => match find(scope, spelling(text, *span)) {
+        RawType::Name(span) => match scope.find(spelling(text, *span)) {
             Some(place) => Ok(TType::Var(place)),
             None => Err(Stop::At(TCode::T06, *span)),
         },
@@ -85,34 +92,34 @@ pub fn type_in(alloc: Global, text: &[u8], ty: &RawType, scope: &mut Names) -> R
 
 /// The register file type that a file of a text is, its registers in ascending order.
 #[cycle(types)]
-pub fn file_in(
+pub fn file_in<'a>(
     alloc: Global,
-    text: &[u8],
+    text: &'a [u8],
     regs: &[(u64, Span, RawType)],
-    scope: &mut Names,
+    scope: &mut Scope<'a>,
 ) -> Result<Vec<(u64, TType)>, Stop>
     ensures { MatchResult result
         (λ f. (scope.new ≡ scope.old) × (regs_faults text.now scope.old [] (raw_regs (map raw_reg regs.now)) ≡ []) × (file f.items ≡ file_of text.now scope.old (raw_regs (map raw_reg regs.now))))
         (λ e. StopsAt (regs_faults text.now scope.old [] (raw_regs (map raw_reg regs.now))) e) }
 {
-    let mut made = Vec::new(alloc);
+    let mut made = BTreeMap::new(alloc);
     for reg in regs {
-        let at = match place_in(&made, reg.0) {
-            Some(at) => at,
-            None => return Err(Stop::At(TCode::T07, reg.1)),
-        };
+        if has_reg(&made, reg.0) {
+            return Err(Stop::At(TCode::T07, reg.1));
+        }
         let ty = type_in(alloc, text, &reg.2, scope)?;
-        made.insert(at, (reg.0, ty))?;
+        made.insert(reg.0, ty)?;
     }
+    let made = in_order(alloc, made)?;
     Ok(made)
 }
 
 /// The types of a list.
-pub fn types_in(
+pub fn types_in<'a>(
     alloc: Global,
-    text: &[u8],
+    text: &'a [u8],
     list: &[RawType],
-    scope: &mut Names,
+    scope: &mut Scope<'a>,
 ) -> Result<Vec<TType>, Stop>
     ensures { MatchResult result
         (λ ts. (scope.new ≡ scope.old) × (types_faults text.now scope.old (map raw list.now) ≡ []) × (types ts.items ≡ types_of text.now scope.old (map raw list.now)))

@@ -31,7 +31,7 @@ raw_base (B.Label s) = RLabel s
 
 abbrev pub raw_value : RawValue → tree.RawValue
 raw_value (V.Plain b ts) = RPlain (raw_base b) (map raw ts.items)
-raw_value (V.Pack' hidden p inner shape) = RPack (raw hidden) (raw_value inner) (raw shape)
+raw_value (V.Pack' p hidden inner shape) = RPack (raw hidden) (raw_value inner) (raw shape)
 
 abbrev pub raw_instr : RawInstr → tree.RawInstr
 raw_instr (I.Arith op rd rs v) = RArith op rd rs (raw_value v)

@@ -12,5 +12,5 @@ pub mod steps;
 pub mod values;
 pub mod whole;
 
-pub use raw::{RawBase, RawBlock, RawEnd, RawInstr, RawValue};
+pub use raw::{RawBase, RawBlock, RawEnd, RawInstr, RawPack, RawValue};
 pub use whole::program;

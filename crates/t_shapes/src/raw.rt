@@ -11,11 +11,22 @@ pub enum RawBase {
     Label(Span),
 }
 
-/// A value: a base with the types that it is applied to, or a package: its hidden type, its value, and its type.
+/// A value: a base with the types that it is applied to, or a package.
 #[derive(Drop)]
+#[cycle(values)]
 pub enum RawValue {
     Plain(RawBase, Vec<RawType>),
-    Pack(RawType, Box<RawValue>, RawType),
+    Pack(Box<RawPack>),
+}
+
+/// A package: its hidden type, its value, and its type. It stands apart, so that the many values that are none stay
+/// small.
+#[derive(Drop)]
+#[cycle(values)]
+pub struct RawPack {
+    pub hidden: RawType,
+    pub inner: RawValue,
+    pub shape: RawType,
 }
 
 /// An instruction. `Unpack` has the place of the name that it binds.

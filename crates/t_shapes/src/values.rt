@@ -9,7 +9,7 @@ ghost use Rattle.t_grammar.specs.declared.cursor.Stopped.TheVariants as stopped;
 ghost use Rattle.t_shapes.specs.Raw.{raw_base, raw_value, is_base};
 
 use crate::lists::some_types;
-use crate::raw::{RawBase, RawValue};
+use crate::raw::{RawBase, RawPack, RawValue};
 use std::alloc::Global;
 use t_grammar::{RawType, Stopped, expect, opened, peek, take, whole_type};
 use t_terms::{Kind, Token, Wanted};
@@ -51,7 +51,14 @@ fn package(
 ) -> Result<RawValue, Stopped>
     ensures { MatchResult result (λ v. raw_value v ≡ RPack (raw hidden) (raw_value inner) (raw shape)) (λ e. e ≡ stopped.Memory) }
 {
-    Ok(RawValue::Pack(hidden, Box::new(alloc, inner)?, shape))
+    Ok(RawValue::Pack(Box::new(
+        alloc,
+        RawPack {
+            hidden,
+            inner,
+            shape,
+        },
+    )?))
 }
 
 // N | N [ T , .. , T ], where the base is the token at a place

@@ -1,21 +1,36 @@
-use Rattle.std.proofs.Common.{◌≡◌, ◌-◌, [], refl, arith, length, drop}
-use Rattle.std.proofs.Math.ListN.{drop_of_length-le}
-use Rattle.t_reader.proofs.Found.{labels_next}
+use Rattle.std.proofs.Common.{◌≡◌, ℕ, ◌+◌, ◌<◌, List, [], ◌∷◌, ◌++◌, length, map, take, get_or, add-one, refl, arith}
+use Rattle.std.proofs.lemmas.List.{map-append, length-map, take_all}
+use Rattle.std.proofs.Math.ListN.{length-take}
+use Rattle.std.proofs.Math.Seq.{take-suc}
+use Rattle.t_terms.specs.Names.{labels_of, spelled}
+use Rattle.t_shapes.specs.declared.raw.RawBlock.{RawBlock}
+use Rattle.t_shapes.specs.Raw.{raw_block, raw_blocks}
 use Rattle.t_reader.proofs.labels.labels_in.Goals as goal
 
-pub loop-at-init : goal.loop-at-init
-loop-at-init c =
-    let n : drop (length c.args.blocks.now) c.args.blocks.now ≡ [] = drop_of_length-le c.args.blocks.now (omega arith) in
-    record { within = omega arith; are = rw (n, c.new-labels.ensures) refl }
+next_label : (text : List ℕ) (bs : List RawBlock) (k : ℕ) (b : RawBlock) → k < length bs → b ≡ get_or bs k b → labels_of text (raw_blocks (take (k + 1) bs)) ≡ labels_of text (raw_blocks (take k bs)) ++ spelled text b.name ∷ []
+next_label text bs k b l e = rw (add-one, take-suc bs k b l, ← e, map-append raw_block (take k bs) (b ∷ [])) (map-append _ (raw_blocks (take k bs)) (raw_block b ∷ []))
 
-pub loop-at-preserved : goal.loop-at-preserved
-loop-at-preserved c =
-    let l = c.loop-at in
-    let v = l.invariant in
-    record { within = omega (arith, v.within); are = labels_next c.args.text.now c.args.blocks.now l.at (l.at - 1) c.index-blocks-at.result _ _ v.are (omega (arith, c.loop-at-test.true)) v.within c.index-blocks-at.is (rw c.spelling.ensures at c.in_ok-push.ensures.pushed) }
+so_many : (text : List ℕ) (bs : List RawBlock) (k : ℕ) → k < length bs → length (labels_of text (raw_blocks (take k bs))) ≡ k
+so_many text bs k l = simp (length-map, length-take) (omega (arith, l))
+
+pub loop-block-preserved : goal.loop-block-preserved
+loop-block-preserved c =
+    let l = c.loop-block in
+    let text = c.args.text.now in
+    let m = next_label text c.args.blocks.now l.block-index c.block-item.result c.loop-block-test.true c.block-item.is in
+    let n = so_many text c.args.blocks.now l.block-index c.loop-block-test.true in
+    record {
+      count = omega (arith, l.invariant.count);
+      places = rw (m, c.in_ok-push.ensures.items, ← l.invariant.places) (map-append _ l.places.items (c.block-item.result.name ∷ []));
+      firsts = rw m (rw c.spelling.ensures at (c.in_ok-keep_first.ensures _ l.invariant.firsts (omega (arith, n, l.invariant.count))));
+    }
+
+pub invariant_of-result : goal.invariant_of-result
+invariant_of-result c =
+    let l = c.loop-block in
+    rw l.invariant.places l.invariant.firsts
 
 pub returns : goal.returns
 returns c =
-    let v = c.loop-at.invariant in
-    let z : c.loop-at.at ≡ 0 = omega (arith, c.loop-at-test.false) in
-    rw z at v.are
+    let l = c.loop-block in
+    rw (l.invariant.places, take_all l.block-index c.args.blocks.now c.loop-block-test.false) refl

@@ -10,12 +10,12 @@ returns-in_err-raw c =
 
 pub invariant_of-result : goal.invariant_of-result
 invariant_of-result c =
-    let h = c.in-Ok.ensures in record { whole = is_whole c.args.text.now _ _ c.in_ok-raw.ensures (rw c.deref.ensures.value at h.0) (rw c.deref.ensures.value at h.1) }
+    let h = c.in-Ok.ensures in record { whole = is_whole c.args.text.now _ _ c.in_ok-raw.ensures h.0 h.1 }
 
 pub returns-in-Ok : goal.returns-in-Ok
 returns-in-Ok c =
-    let h = c.in-Ok.ensures in reads c.args.text.now _ _ c.in_ok-raw.ensures (rw c.deref.ensures.value at h.0) (rw c.deref.ensures.value at h.1)
+    let h = c.in-Ok.ensures in reads c.args.text.now _ _ c.in_ok-raw.ensures h.0 h.1
 
-pub returns : goal.returns
-returns c =
-    name_fault c.args.text.now _ _ _ c.in_ok-raw.ensures (rw (c.in-Err-At.field-0-is, c.deref.ensures.value) at c.in-Err-At.ensures)
+pub returns-in-Err-At : goal.returns-in-Err-At
+returns-in-Err-At c =
+    name_fault c.args.text.now _ _ _ c.in_ok-raw.ensures (rw c.in-Err-At.field-0-is at c.in-Err-At.ensures)

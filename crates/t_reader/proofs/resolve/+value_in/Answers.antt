@@ -20,18 +20,18 @@ returns-in_ok-types-in-Plain t c =
 pub returns-in_err-hidden-in-Pack : goal.returns-in_err-hidden-in-Pack
 returns-in_err-hidden-in-Pack t c =
     let p = err_from_is_err_and c.from_residual-in_err-hidden-in-Pack.result c.from_residual-in_err-hidden-in-Pack.ensures.1 in
-    rw (p.1, p.2) (pack_1_stop c.args.text.now c.args.labels.now c.args.scope.now c.args.value.now c.in-Pack.hidden c.in-Pack.inner c.in-Pack.shape _ c.in-Pack.is refl _ c.in_err-hidden-in-Pack.ensures)
+    rw (p.1, p.2) (pack_1_stop c.args.text.now c.args.labels.now c.args.scope.now c.args.value.now c.in-Pack.pack c.deref-pack.result.now c.in-Pack.is (sym c.deref-pack.ensures) _ c.in_err-hidden-in-Pack.ensures)
 
 pub returns-in_err-inner-in-Pack : goal.returns-in_err-inner-in-Pack
 returns-in_err-inner-in-Pack t c =
     let p = err_from_is_err_and c.from_residual-in_err-inner-in-Pack.result c.from_residual-in_err-inner-in-Pack.ensures.1 in
-    rw (p.1, p.2) (pack_2_stop c.args.text.now c.args.labels.now c.args.scope.now c.args.value.now c.in-Pack.hidden c.in-Pack.inner c.in-Pack.shape c.deref-in-Pack.result.now c.in-Pack.is (sym c.deref-in-Pack.ensures) _ c.in_ok-hidden-in-Pack.hidden c.in_ok-hidden-in-Pack.ensures _ c.in_err-inner-in-Pack.ensures)
+    rw (p.1, p.2) (pack_2_stop c.args.text.now c.args.labels.now c.args.scope.now c.args.value.now c.in-Pack.pack c.deref-pack.result.now c.in-Pack.is (sym c.deref-pack.ensures) _ c.in_ok-hidden-in-Pack.hidden c.in_ok-hidden-in-Pack.ensures _ c.in_err-inner-in-Pack.ensures)
 
 pub returns-in_err-shape-in-Pack : goal.returns-in_err-shape-in-Pack
 returns-in_err-shape-in-Pack t c =
     let p = err_from_is_err_and c.from_residual-in_err-shape-in-Pack.result c.from_residual-in_err-shape-in-Pack.ensures.1 in
-    rw (p.1, p.2) (pack_3_stop c.args.text.now c.args.labels.now c.args.scope.now c.args.value.now c.in-Pack.hidden c.in-Pack.inner c.in-Pack.shape c.deref-in-Pack.result.now c.in-Pack.is (sym c.deref-in-Pack.ensures) _ c.in_ok-hidden-in-Pack.hidden c.in_ok-hidden-in-Pack.ensures _ c.in_ok-inner-in-Pack.inner c.in_ok-inner-in-Pack.ensures _ c.in_err-shape-in-Pack.ensures)
+    rw (p.1, p.2) (pack_3_stop c.args.text.now c.args.labels.now c.args.scope.now c.args.value.now c.in-Pack.pack c.deref-pack.result.now c.in-Pack.is (sym c.deref-pack.ensures) _ c.in_ok-hidden-in-Pack.hidden c.in_ok-hidden-in-Pack.ensures _ c.in_ok-inner-in-Pack.inner c.in_ok-inner-in-Pack.ensures _ c.in_err-shape-in-Pack.ensures)
 
 pub returns-in_ok-whole-in-Pack : goal.returns-in_ok-whole-in-Pack
 returns-in_ok-whole-in-Pack t c =
-    pack_whole c.args.text.now c.args.labels.now c.args.scope.now c.args.value.now c.in-Pack.hidden c.in-Pack.inner c.in-Pack.shape c.deref-in-Pack.result.now c.in-Pack.is (sym c.deref-in-Pack.ensures) _ c.in_ok-hidden-in-Pack.hidden c.in_ok-hidden-in-Pack.ensures _ c.in_ok-inner-in-Pack.inner c.in_ok-inner-in-Pack.ensures _ c.in_ok-shape-in-Pack.shape c.in_ok-shape-in-Pack.ensures _ c.in_ok-whole-in-Pack.ensures
+    pack_whole c.args.text.now c.args.labels.now c.args.scope.now c.args.value.now c.in-Pack.pack c.deref-pack.result.now c.in-Pack.is (sym c.deref-pack.ensures) _ c.in_ok-hidden-in-Pack.hidden c.in_ok-hidden-in-Pack.ensures _ c.in_ok-inner-in-Pack.inner c.in_ok-inner-in-Pack.ensures _ c.in_ok-shape-in-Pack.shape c.in_ok-shape-in-Pack.ensures _ c.in_ok-whole-in-Pack.ensures

@@ -1,4 +1,4 @@
-use Rattle.std.proofs.Common.{refl, sym}
+use Rattle.std.proofs.Common.{refl, sym, ◌∙◌}
 use Rattle.std.proofs.lemmas.Result.{err_from_is_err_and}
 use Rattle.t_reader.proofs.Naming.{int_whole, name_stop, name_whole, code_stop, code_whole, some_stop, some_whole, fields_start, fields_stop, fields_next, fields_whole, fields_stop_whole}
 use Rattle.t_reader.proofs.Filing.{file_start, file_twice, file_stop, file_next, file_whole}
@@ -90,25 +90,25 @@ type_in-returns-after-loop-field t c =
 
 pub file_in-loop-reg-init : goal.file_in-loop-reg-init
 file_in-loop-reg-init t c =
-    rw c.new-made.ensures.items (file_start c.args.text.now c.args.scope.now c.args.regs.now)
+    rw c.new-made.ensures.empty (file_start c.args.text.now c.args.scope.now c.args.regs.now)
 
 pub file_in-loop-reg-preserved : goal.file_in-loop-reg-preserved
 file_in-loop-reg-preserved t c =
     let l = c.loop-reg in
-    file_next c.args.text.now c.args.scope.now c.args.regs.now l.reg-index _ l.made.items c.reg-item.result c.loop-reg-test.true c.reg-item.is l.invariant c.in-Some.at (rw c.deref.ensures.value at c.in-Some.ensures) _ c.in_ok-ty.ty _ c.in_ok-ty.ensures c.in_ok-insert.ensures.items
+    file_next c.args.text.now c.args.scope.now c.args.regs.now l.reg-index _ l.made.entries c.reg-item.result c.loop-reg-test.true c.reg-item.is l.invariant (sym c.has_reg.ensures ∙ c.if-has_reg.false) _ c.in_ok-ty.ty _ c.in_ok-ty.ensures c.in_ok-insert.ensures.entries
 
-pub file_in-returns-in-None : goal.file_in-returns-in-None
-file_in-returns-in-None t c =
+pub file_in-returns-then-has_reg : goal.file_in-returns-then-has_reg
+file_in-returns-then-has_reg t c =
     let l = c.loop-reg in
-    file_twice c.args.text.now c.args.scope.now c.args.regs.now l.reg-index _ l.made.items c.reg-item.result c.loop-reg-test.true c.reg-item.is l.invariant (rw c.deref.ensures.value at c.in-None.ensures)
+    file_twice c.args.text.now c.args.scope.now c.args.regs.now l.reg-index _ l.made.entries c.reg-item.result c.loop-reg-test.true c.reg-item.is l.invariant (sym c.has_reg.ensures ∙ c.if-has_reg.true)
 
 pub file_in-returns-in_err-ty : goal.file_in-returns-in_err-ty
 file_in-returns-in_err-ty t c =
     let l = c.loop-reg in
     let p = err_from_is_err_and c.from_residual.result c.from_residual.ensures.1 in
-    rw (p.1, p.2) (file_stop c.args.text.now c.args.scope.now c.args.regs.now l.reg-index _ l.made.items c.reg-item.result c.loop-reg-test.true c.reg-item.is l.invariant c.in-Some.at (rw c.deref.ensures.value at c.in-Some.ensures) _ c.in_err-ty.ensures)
+    rw (p.1, p.2) (file_stop c.args.text.now c.args.scope.now c.args.regs.now l.reg-index _ l.made.entries c.reg-item.result c.loop-reg-test.true c.reg-item.is l.invariant (sym c.has_reg.ensures ∙ c.if-has_reg.false) _ c.in_err-ty.ensures)
 
 pub file_in-returns : goal.file_in-returns
 file_in-returns t c =
     let l = c.loop-reg in
-    file_whole c.args.text.now c.args.scope.now c.args.regs.now l.reg-index _ l.made.items c.loop-reg-test.false l.invariant
+    rw c.in_ok-made.ensures (file_whole c.args.text.now c.args.scope.now c.args.regs.now l.reg-index _ l.made.entries c.loop-reg-test.false l.invariant)

@@ -2,11 +2,25 @@ use crate::parse;
 use f_terms::{Code, FFault, FForm, FTerm, FType};
 use idx_core::Span;
 use std::alloc::{AllocError, Global};
+use std::process::Abort;
 use std::test::Fail;
 
-// The fault of a text, or none where it is read.
-fn fault(alloc: Global, text: &[u8]) -> Option<FFault> {
-    parse(alloc, text).err()
+// A text in pieces, each so many times.
+type Pieces<'a> = &'a [(&'a str, usize)];
+
+fn add_times(text: &mut Vec<u8>, piece: &[u8], times: usize) -> Result<(), AllocError> {
+    for _ in 0..times {
+        text.extend_from_slice(piece)?;
+    }
+    Ok(())
+}
+
+fn built(alloc: Global, pieces: Pieces) -> Result<Vec<u8>, AllocError> {
+    let mut text = Vec::new(alloc);
+    for (piece, times) in pieces {
+        add_times(&mut text, piece.as_bytes(), *times)?;
+    }
+    Ok(text)
 }
 
 fn at(code: Code, start: u64, end: u64) -> Option<FFault> {
@@ -16,168 +30,173 @@ fn at(code: Code, start: u64, end: u64) -> Option<FFault> {
     })
 }
 
-// So many times the bytes.
-fn put(out: &mut Vec<u8>, times: usize, bytes: &[u8]) -> Result<(), AllocError> {
-    for _ in 0..times {
-        out.extend_from_slice(bytes)?;
+// The text has this fault, or none where it is read.
+fn has_fault(rt: &impl Abort, alloc: Global, text: &[u8], wanted: Option<FFault>) {
+    assert_eq!(rt; parse(alloc, text).err(), wanted);
+}
+
+fn each_read(rt: &impl Abort, alloc: Global, texts: &[&str]) {
+    for text in texts {
+        has_fault(rt, alloc, text.as_bytes(), None);
     }
+}
+
+// Each text with its fault, and where that starts and ends.
+fn each_refused(rt: &impl Abort, alloc: Global, rows: &[(&str, Code, u64, u64)]) {
+    for (text, code, start, end) in rows {
+        has_fault(rt, alloc, text.as_bytes(), at(*code, *start, *end));
+    }
+}
+
+fn is_read(rt: &impl Abort, alloc: Global, pieces: Pieces) -> Result<(), Fail> {
+    let text = built(alloc, pieces)?;
+    has_fault(rt, alloc, &text, None);
     Ok(())
 }
 
-// So many openers, a one, and as many closers.
-fn nested(alloc: Global, times: usize, open: &[u8], close: &[u8]) -> Result<Vec<u8>, AllocError> {
-    let mut text = Vec::new(alloc);
-    put(&mut text, times, open)?;
-    put(&mut text, 1, b"1")?;
-    put(&mut text, times, close)?;
-    Ok(text)
-}
-
-// So many items, joined.
-fn list(alloc: Global, times: usize, item: &[u8], sign: &[u8]) -> Result<Vec<u8>, AllocError> {
-    let mut text = Vec::new(alloc);
-    put(&mut text, 1, item)?;
-    for _ in 1..times {
-        put(&mut text, 1, sign)?;
-        put(&mut text, 1, item)?;
-    }
-    Ok(text)
+fn is_refused(
+    rt: &impl Abort,
+    alloc: Global,
+    pieces: Pieces,
+    code: Code,
+    start: u64,
+    end: u64,
+) -> Result<(), Fail> {
+    let text = built(alloc, pieces)?;
+    has_fault(rt, alloc, &text, at(code, start, end));
+    Ok(())
 }
 
 #[test]
 fn refuses_by_the_first_fault(rt: HostRuntime) {
-    let rows: [(&[u8], Option<FFault>); 12] = [
-        (b"1 $", at(Code::E01, 2, 3)),
-        (b"\xc8", at(Code::E01, 0, 1)),
-        (b"9223372036854775808", at(Code::E02, 0, 19)),
-        (b"1 )", at(Code::E03, 2, 3)),
-        (b"", at(Code::E04, 0, 0)),
-        (b"(1 +", at(Code::E04, 4, 4)),
-        (b"x", at(Code::E05, 0, 1)),
-        (b"fix f(x:b):int. 1", at(Code::E06, 8, 9)),
-        (b"1 2", None),
-        (b"#1 2", None),
-        (b"1[int]", None),
-        (b"if0(0, 1, <>)", None),
-    ];
-    for (text, wanted) in rows {
-        assert_eq!(rt; fault(rt.alloc(), text), wanted);
-    }
+    let alloc = rt.alloc();
+    each_refused(
+        &rt,
+        alloc,
+        &[
+            ("1 $", Code::E01, 2, 3),
+            ("9223372036854775808", Code::E02, 0, 19),
+            ("1 )", Code::E03, 2, 3),
+            ("", Code::E04, 0, 0),
+            ("(1 +", Code::E04, 4, 4),
+            ("x", Code::E05, 0, 1),
+            ("fix f(x:b):int. 1", Code::E06, 8, 9),
+        ],
+    );
+    has_fault(&rt, alloc, b"\xc8", at(Code::E01, 0, 1));
+    each_read(&rt, alloc, &["1 2", "#1 2", "1[int]", "if0(0, 1, <>)"]);
 }
 
 #[test]
 fn keeps_the_order_of_the_checks(rt: HostRuntime) {
-    let rows: [(&[u8], Option<FFault>); 10] = [
-        (b"1 ) 9223372036854775808 $", at(Code::E02, 4, 23)),
-        (b"1 ) $", at(Code::E01, 4, 5)),
-        (b"x )", at(Code::E03, 2, 3)),
-        (b"(x", at(Code::E04, 2, 2)),
-        (b"fix f(x:b):c. y", at(Code::E06, 8, 9)),
-        (b"fix f(x:int):c. y", at(Code::E06, 13, 14)),
-        (b"y[b]", at(Code::E05, 0, 1)),
-        (b"<gen a. 1[a], 1[a]>", at(Code::E06, 16, 17)),
-        (b"(fix f(x:int):int. x) f", at(Code::E05, 22, 23)),
-        (b"fix f(x:all a. a):a. 1", at(Code::E06, 18, 19)),
-    ];
-    for (text, wanted) in rows {
-        assert_eq!(rt; fault(rt.alloc(), text), wanted);
-    }
+    each_refused(
+        &rt,
+        rt.alloc(),
+        &[
+            ("1 ) 9223372036854775808 $", Code::E02, 4, 23),
+            ("1 ) $", Code::E01, 4, 5),
+            ("x )", Code::E03, 2, 3),
+            ("(x", Code::E04, 2, 2),
+            ("fix f(x:b):c. y", Code::E06, 8, 9),
+            ("fix f(x:int):c. y", Code::E06, 13, 14),
+            ("y[b]", Code::E05, 0, 1),
+            ("<gen a. 1[a], 1[a]>", Code::E06, 16, 17),
+            ("(fix f(x:int):int. x) f", Code::E05, 22, 23),
+            ("fix f(x:all a. a):a. 1", Code::E06, 18, 19),
+        ],
+    );
 }
 
 #[test]
-fn counts_open_constructs(rt: HostRuntime) -> Result<(), Fail> {
+fn counts_open_parentheses(rt: HostRuntime) -> Result<(), Fail> {
     let alloc = rt.alloc();
-    let rows: [(&[u8], &[u8]); 2] = [(b"(", b")"), (b"<", b">")];
-    for (open, close) in rows {
-        let text = nested(alloc, 200, open, close)?;
-        assert_eq!(rt; fault(alloc, &text), None);
-        let text = nested(alloc, 201, open, close)?;
-        assert_eq!(rt; fault(alloc, &text), at(Code::L2, 200, 201));
-        // a token that is unexpected comes before the opener that would be one too many
-        let mut text = Vec::new(alloc);
-        put(&mut text, 200, open)?;
-        put(&mut text, 1, b"]")?;
-        put(&mut text, 1, open)?;
-        assert_eq!(rt; fault(alloc, &text), at(Code::E03, 200, 201));
-    }
-    Ok(())
+    is_read(&rt, alloc, &[("(", 200), ("1", 1), (")", 200)])?;
+    let more = &[("(", 201), ("1", 1), (")", 201)];
+    is_refused(&rt, alloc, more, Code::L2, 200, 201)?;
+    // a token that is unexpected comes before the opener that would be one too many
+    let other = &[("(", 200), ("]", 1), ("(", 1)];
+    is_refused(&rt, alloc, other, Code::E03, 200, 201)
+}
+
+#[test]
+fn counts_open_tuples(rt: HostRuntime) -> Result<(), Fail> {
+    let alloc = rt.alloc();
+    is_read(&rt, alloc, &[("<", 200), ("1", 1), (">", 200)])?;
+    let more = &[("<", 201), ("1", 1), (">", 201)];
+    is_refused(&rt, alloc, more, Code::L2, 200, 201)?;
+    let other = &[("<", 200), ("]", 1), ("<", 1)];
+    is_refused(&rt, alloc, other, Code::E03, 200, 201)
 }
 
 #[test]
 fn counts_nodes(rt: HostRuntime) -> Result<(), Fail> {
     let alloc = rt.alloc();
-    let text = list(alloc, 500, b"1", b" + ")?;
-    assert_eq!(rt; fault(alloc, &text), None);
-    let text = list(alloc, 501, b"1", b" + ")?;
-    assert_eq!(rt; fault(alloc, &text), at(Code::L3, 0, 2001));
-    // 1000 nodes, and 1001; the place is that of the expression, which the parentheses do not widen
-    let mut text = Vec::new(alloc);
-    put(&mut text, 1, b"#1 (")?;
-    text.extend_from_slice(&list(alloc, 500, b"1", b" + ")?)?;
-    put(&mut text, 1, b")")?;
-    assert_eq!(rt; fault(alloc, &text), None);
-    let mut text = Vec::new(alloc);
-    put(&mut text, 1, b" (#1 #1 (")?;
-    text.extend_from_slice(&list(alloc, 500, b"1", b" + ")?)?;
-    put(&mut text, 1, b")) ")?;
-    assert_eq!(rt; fault(alloc, &text), at(Code::L3, 2, 2007));
+    is_read(&rt, alloc, &[("1", 1), (" + 1", 499)])?;
+    let more = &[("1", 1), (" + 1", 500)];
+    is_refused(&rt, alloc, more, Code::L3, 0, 2001)?;
     // before names are bound
-    let text = list(alloc, 501, b"x", b" + ")?;
-    assert_eq!(rt; fault(alloc, &text), at(Code::L3, 0, 2001));
-    Ok(())
+    let unbound = &[("x", 1), (" + x", 500)];
+    is_refused(&rt, alloc, unbound, Code::L3, 0, 2001)
+}
+
+// 1000 nodes, and 1001; the place is that of the expression, which the parentheses do not widen.
+#[test]
+fn counts_nodes_in_parentheses(rt: HostRuntime) -> Result<(), Fail> {
+    let alloc = rt.alloc();
+    is_read(
+        &rt,
+        alloc,
+        &[("#1 (", 1), ("1", 1), (" + 1", 499), (")", 1)],
+    )?;
+    let more = &[(" (#1 #1 (", 1), ("1", 1), (" + 1", 499), (")) ", 1)];
+    is_refused(&rt, alloc, more, Code::L3, 2, 2007)
 }
 
 #[test]
 fn takes_large_types(rt: HostRuntime) -> Result<(), Fail> {
-    let alloc = rt.alloc();
-    let mut text = Vec::new(alloc);
-    put(&mut text, 1, b"fix f(x:<")?;
-    text.extend_from_slice(&list(alloc, 9998, b"int", b",")?)?;
-    put(&mut text, 1, b">):int. 1")?;
-    assert_eq!(rt; fault(alloc, &text), None);
-    Ok(())
+    let text = &[("fix f(x:<int", 1), (",int", 9997), (">):int. 1", 1)];
+    is_read(&rt, rt.alloc(), text)
 }
 
 #[test]
 fn counts_bytes(rt: HostRuntime) -> Result<(), Fail> {
     let alloc = rt.alloc();
-    let mut text = Vec::new(alloc);
-    put(&mut text, 1_048_576, b" ")?;
-    assert_eq!(rt; fault(alloc, &text), at(Code::E04, 1_048_576, 1_048_576));
-    put(&mut text, 1, b" ")?;
-    assert_eq!(rt; fault(alloc, &text), at(Code::L1, 0, 1_048_577));
-    Ok(())
+    let most = &[(" ", 1_048_576)];
+    is_refused(&rt, alloc, most, Code::E04, 1_048_576, 1_048_576)?;
+    let more = &[(" ", 1_048_577)];
+    is_refused(&rt, alloc, more, Code::L1, 0, 1_048_577)
 }
 
 // A sum as long as a text may be: no tree is kept of it.
 #[test]
 fn reads_the_longest_sum(rt: HostRuntime) -> Result<(), Fail> {
     let alloc = rt.alloc();
-    let mut text = list(alloc, 524_288, b"1", b"+")?;
-    assert_eq!(rt; text.len(), 1_048_575);
-    assert_eq!(rt; fault(alloc, &text), at(Code::L3, 0, 1_048_575));
-    text.truncate(1_048_574);
-    put(&mut text, 1, b")")?;
-    assert_eq!(rt; fault(alloc, &text), at(Code::E03, 1_048_574, 1_048_575));
-    Ok(())
+    let sum = &[("1", 1), ("+1", 524_287)];
+    is_refused(&rt, alloc, sum, Code::L3, 0, 1_048_575)?;
+    let cut = &[("1", 1), ("+1", 524_286), ("+)", 1)];
+    is_refused(&rt, alloc, cut, Code::E03, 1_048_574, 1_048_575)
+}
+
+// The fault of so many first bytes of the text below.
+fn fault_of_cut(bytes: usize) -> Option<FFault> {
+    let end = bytes as u64;
+    match bytes {
+        11 => at(Code::E03, 9, 11),
+        16 => at(Code::E03, 14, 16),
+        43 => None,
+        44 => None,
+        45 => None,
+        _ => at(Code::E04, end, end),
+    }
 }
 
 #[test]
 fn knows_where_a_cut_text_ends(rt: HostRuntime) {
     let whole: &[u8] = b"(fix f(n:int):int. if0(n, 1, n * f(n - 1))) 5";
     assert_eq!(rt; whole.len(), 45);
-    for k in 0..45usize {
-        let end = k as u64;
-        let wanted = match k {
-            11 => at(Code::E03, 9, 11),
-            16 => at(Code::E03, 14, 16),
-            43 => None,
-            44 => None,
-            _ => at(Code::E04, end, end),
-        };
-        assert_eq!(rt; fault(rt.alloc(), &whole[..k]), wanted);
+    for k in 0..46usize {
+        has_fault(&rt, rt.alloc(), &whole[..k], fault_of_cut(k));
     }
-    assert_eq!(rt; fault(rt.alloc(), whole), None);
 }
 
 // The indices in a type, in the order of the text.
@@ -252,18 +271,25 @@ fn places_in(alloc: Global, text: &[u8]) -> Result<Vec<(u64, u64, u64)>, AllocEr
     Ok(out)
 }
 
+fn has_places(
+    rt: &impl Abort,
+    alloc: Global,
+    text: &str,
+    wanted: &[(u64, u64, u64)],
+) -> Result<(), Fail> {
+    let found = places_in(alloc, text.as_bytes())?;
+    assert!(rt; found.as_slice() == wanted, "{text}");
+    Ok(())
+}
+
 #[test]
 fn gives_each_form_its_place(rt: HostRuntime) -> Result<(), Fail> {
     let alloc = rt.alloc();
     // parentheses widen what stands around them, not what stands in them
-    let found = places_in(alloc, b"(1) + (2)")?;
-    assert!(rt; found.as_slice() == [(0, 9, 0), (1, 2, 1), (7, 8, 2)].as_slice());
-    let found = places_in(alloc, b" #7 <1, ~2>[int] ")?;
-    assert!(rt;
-        found.as_slice() == [(1, 16, 0), (1, 11, 7), (4, 11, 0), (5, 6, 1), (8, 10, 2)].as_slice()
-    );
-    let found = places_in(alloc, b"if0(1, 2 * 3 - 4, 5)")?;
-    let wanted = [
+    has_places(&rt, alloc, "(1) + (2)", &[(0, 9, 0), (1, 2, 1), (7, 8, 2)])?;
+    let wanted = &[(1, 16, 0), (1, 11, 7), (4, 11, 0), (5, 6, 1), (8, 10, 2)];
+    has_places(&rt, alloc, " #7 <1, ~2>[int] ", wanted)?;
+    let wanted = &[
         (0, 20, 0),
         (4, 5, 1),
         (7, 16, 0),
@@ -273,21 +299,19 @@ fn gives_each_form_its_place(rt: HostRuntime) -> Result<(), Fail> {
         (15, 16, 4),
         (18, 19, 5),
     ];
-    assert!(rt; found.as_slice() == wanted.as_slice());
-    Ok(())
+    has_places(&rt, alloc, "if0(1, 2 * 3 - 4, 5)", wanted)
 }
 
 #[test]
 fn numbers_names_from_the_innermost(rt: HostRuntime) -> Result<(), Fail> {
     let alloc = rt.alloc();
-    let found = places_in(alloc, b"fix f(x:int):int. f x")?;
-    assert!(rt; found.as_slice() == [(0, 21, 0), (18, 21, 0), (18, 19, 1), (20, 21, 0)].as_slice());
+    let wanted = &[(0, 21, 0), (18, 21, 0), (18, 19, 1), (20, 21, 0)];
+    has_places(&rt, alloc, "fix f(x:int):int. f x", wanted)?;
     // the parameter hides the function
-    let found = places_in(alloc, b"fix f(f:int):int. f")?;
-    assert!(rt; found.as_slice() == [(0, 19, 0), (18, 19, 0)].as_slice());
+    let wanted = &[(0, 19, 0), (18, 19, 0)];
+    has_places(&rt, alloc, "fix f(f:int):int. f", wanted)?;
     // type names and value names are counted apart
-    let found = places_in(alloc, b"gen a. gen b. fix f(x:a):all c. b -> c. x[a]")?;
-    let wanted = [
+    let wanted = &[
         (0, 44, 0),
         (7, 44, 0),
         (14, 44, 0),
@@ -298,6 +322,6 @@ fn numbers_names_from_the_innermost(rt: HostRuntime) -> Result<(), Fail> {
         (40, 41, 0),
         (0, 0, 1),
     ];
-    assert!(rt; found.as_slice() == wanted.as_slice());
-    Ok(())
+    let text = "gen a. gen b. fix f(x:a):all c. b -> c. x[a]";
+    has_places(&rt, alloc, text, wanted)
 }

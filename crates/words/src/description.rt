@@ -1,6 +1,7 @@
 // The description of the command line, as `clap` takes it.
-ghost use Rattle.std.specs.Prelude.{◌≡◌, IfOk, false};
-ghost use Rattle.clap.specs.Words.{app_of, rule_of};
+ghost use Rattle.std.specs.Prelude.{◌≡◌, IfOk, false, true};
+ghost use Rattle.std.specs.Result.{IsOkAnd};
+ghost use Rattle.clap.specs.Words.{app_of, rule_of, with_subcommand};
 ghost use Rattle.words.specs.Description.{file_rule, number_rule, compile_app, check_app, run_app, typeof_app, eval_app, bare_app, talc_app};
 
 use clap::{Arg, ArgAction, Command, value_parser};
@@ -79,20 +80,26 @@ fn bare_words<'a>(alloc: Global) -> Command<'a>
         .disable_help_subcommand(true)
 }
 
+// The command line with one more subcommand, where no argument of that is global.
+fn with_words<'a>(
+    all: Command<'a>,
+    sub: Result<Command<'a>, AllocError>,
+) -> Result<Command<'a>, AllocError>
+    ensures { IfOk result (λ c. IsOkAnd sub.entry (λ s. (app_of s).top.is_plain ≡ true → app_of c ≡ with_subcommand (app_of all.entry) (app_of s).top)) }
+{
+    let sub = sub?;
+    let all = all.subcommand(sub)?;
+    Ok(all)
+}
+
 // The whole description.
 pub(crate) fn talc_words<'a>(alloc: Global) -> Result<Command<'a>, AllocError>
     ensures { IfOk result (λ c. app_of c ≡ talc_app) }
 {
-    let compile = compile_words(alloc)?;
-    let check = check_words(alloc)?;
-    let run = run_words(alloc)?;
-    let type_of = typeof_words(alloc)?;
-    let evaluate = eval_words(alloc)?;
-    let all = bare_words(alloc)
-        .subcommand(compile)?
-        .subcommand(check)?
-        .subcommand(run)?
-        .subcommand(type_of)?
-        .subcommand(evaluate)?;
+    let compile = with_words(bare_words(alloc), compile_words(alloc))?;
+    let check = with_words(compile, check_words(alloc))?;
+    let run = with_words(check, run_words(alloc))?;
+    let type_of = with_words(run, typeof_words(alloc))?;
+    let all = with_words(type_of, eval_words(alloc))?;
     Ok(all)
 }

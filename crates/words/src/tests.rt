@@ -1,139 +1,180 @@
 use crate::{Command, NoCommand, read};
 use std::alloc::{AllocError, Global};
+use std::process::Abort;
 use std::test::Fail;
 
-fn words(alloc: Global, texts: &[&str]) -> Result<Vec<String>, AllocError> {
+// The words of a command line.
+fn words(alloc: Global, line: &str) -> Result<Vec<String>, AllocError> {
     let mut words = Vec::new(alloc);
-    for text in texts {
-        words.push(String::from_str(alloc, text)?)?;
+    for word in line.split_whitespace() {
+        words.push(String::from_str(alloc, word)?)?;
     }
     Ok(words)
+}
+
+fn asks(rt: &impl Abort, alloc: Global, line: &str, wanted: Command) -> Result<(), Fail> {
+    let words = words(alloc, line)?;
+    assert_eq!(rt; read(alloc, &words).ok(), Some(wanted), "{line}");
+    Ok(())
 }
 
 #[test]
 fn compile_and_typeof_have_their_values(rt: HostRuntime) -> Result<(), Fail> {
     let alloc = rt.alloc();
-    let compile = words(alloc, &["talc", "compile", "x.f", "x.tal"])?;
     let (input, output) = ("x.f", "x.tal");
-    assert_eq!(rt;
-        read(alloc, &compile).ok(),
-        Some(Command::Compile { input, output })
-    );
-    let type_of = words(alloc, &["talc", "typeof", "--", "-x.f"])?;
+    let line = "talc compile x.f x.tal";
+    asks(&rt, alloc, line, Command::Compile { input, output })?;
     let input = "-x.f";
-    assert_eq!(rt; read(alloc, &type_of).ok(), Some(Command::Typeof { input }));
-    Ok(())
+    asks(&rt, alloc, "talc typeof -- -x.f", Command::Typeof { input })
 }
 
 #[test]
 fn check_and_run_have_their_values(rt: HostRuntime) -> Result<(), Fail> {
     let alloc = rt.alloc();
     let input = "x.tal";
-    let check = words(alloc, &["talc", "check", "x.tal"])?;
-    assert_eq!(rt; read(alloc, &check).ok(), Some(Command::Check { input }));
-    let run = words(alloc, &["talc", "run", "x.tal", "--fuel=100"])?;
+    asks(&rt, alloc, "talc check x.tal", Command::Check { input })?;
     let fuel = 100;
-    assert_eq!(rt; read(alloc, &run).ok(), Some(Command::Run { input, fuel }));
+    let line = "talc run x.tal --fuel=100";
+    asks(&rt, alloc, line, Command::Run { input, fuel })
+}
+
+// Each words with their turns.
+fn each_evaluates(rt: &impl Abort, alloc: Global, rows: &[(&str, u64)]) -> Result<(), Fail> {
+    for (line, turns) in rows {
+        let (input, turns) = ("x.f", *turns);
+        asks(rt, alloc, line, Command::Eval { input, turns })?;
+    }
     Ok(())
 }
 
 #[test]
 fn eval_has_its_values(rt: HostRuntime) -> Result<(), Fail> {
-    let alloc = rt.alloc();
-    let cases: [(&[&str], u64); 4] = [
-        (&["talc", "eval", "x.f", "--turns", "6"], 6),
-        (&["talc", "eval", "--turns=0", "x.f"], 0),
-        (&["talc", "eval", "--turns", "+007", "x.f"], 7),
-        (
-            &["talc", "eval", "x.f", "--turns", "18446744073709551615"],
-            u64::MAX,
-        ),
-    ];
-    for (texts, turns) in cases {
-        let words = words(alloc, texts)?;
-        let input = "x.f";
-        assert_eq!(rt;
-            read(alloc, &words).ok(),
-            Some(Command::Eval { input, turns })
-        );
+    each_evaluates(
+        &rt,
+        rt.alloc(),
+        &[
+            ("talc eval x.f --turns 6", 6),
+            ("talc eval --turns=0 x.f", 0),
+            ("talc eval --turns +007 x.f", 7),
+            ("talc eval x.f --turns 18446744073709551615", u64::MAX),
+        ],
+    )
+}
+
+fn is_text(read: Result<Command, NoCommand>, wanted: &str) -> bool {
+    match read {
+        Err(NoCommand::Usage(text)) => text.as_slice() == wanted.as_bytes(),
+        _ => false,
+    }
+}
+
+// Each words with the text that they get.
+fn each_gets_text(rt: &impl Abort, alloc: Global, rows: &[(&str, &str)]) -> Result<(), Fail> {
+    for (line, wanted) in rows {
+        let words = words(alloc, line)?;
+        assert!(rt; is_text(read(alloc, &words), wanted), "{line}");
     }
     Ok(())
 }
 
-// Each words with the text that they get.
-static OTHERS: [(&[&str], &str); 15] = [
-    (
-        &["talc"],
-        "error: 'talc' requires a subcommand but one was not provided
+#[test]
+fn other_words_get_a_text(rt: HostRuntime) -> Result<(), Fail> {
+    each_gets_text(
+        &rt,
+        rt.alloc(),
+        &[
+            (
+                "talc",
+                "error: 'talc' requires a subcommand but one was not provided
   [subcommands: compile, check, run, typeof, eval]
 
 Usage: talc <COMMAND>
 
 For more information, try '--help'.
 ",
-    ),
-    (
-        &["talc", "gen", "x.f"],
-        "error: unrecognized subcommand 'gen'
+            ),
+            (
+                "talc gen x.f",
+                "error: unrecognized subcommand 'gen'
 
 Usage: talc <COMMAND>
 
 For more information, try '--help'.
 ",
-    ),
-    (
-        &["talc", "compile", "x.f"],
-        "error: the following required arguments were not provided:
+            ),
+            (
+                "talc compile x.f",
+                "error: the following required arguments were not provided:
   <OUT>
 
 Usage: talc compile <IN> <OUT>
 
 For more information, try '--help'.
 ",
-    ),
-    (
-        &["talc", "typeof", "x.f", "y.f"],
-        "error: unexpected argument 'y.f' found
+            ),
+            (
+                "talc typeof x.f y.f",
+                "error: unexpected argument 'y.f' found
 
 Usage: talc typeof <IN>
 
 For more information, try '--help'.
 ",
-    ),
-    (
-        &["talc", "eval", "x.f"],
-        "error: the following required arguments were not provided:
+            ),
+            (
+                "talc eval x.f",
+                "error: the following required arguments were not provided:
   --turns <N>
 
 Usage: talc eval --turns <N> <IN>
 
 For more information, try '--help'.
 ",
-    ),
-    (
-        &["talc", "eval", "x.f", "--turns", "~1"],
-        "error: invalid value '~1' for '--turns <N>': invalid digit found in string
+            ),
+            (
+                "talc eval x.f --turns ~1",
+                "error: invalid value '~1' for '--turns <N>': invalid digit found in string
 
 For more information, try '--help'.
 ",
-    ),
-    (
-        &["talc", "eval", "x.f", "--turns", "18446744073709551616"],
-        "error: invalid value '18446744073709551616' for '--turns <N>': number too large to fit in target type
+            ),
+            (
+                "talc eval x.f --turns 18446744073709551616",
+                "error: invalid value '18446744073709551616' for '--turns <N>': number too large to fit in target type
 
 For more information, try '--help'.
 ",
-    ),
-    (
-        &["talc", "eval", "x.f", "--turns"],
-        "error: a value is required for '--turns <N>' but none was supplied
+            ),
+            (
+                "talc eval x.f --turns",
+                "error: a value is required for '--turns <N>' but none was supplied
 
 For more information, try '--help'.
 ",
-    ),
-    (
-        &["talc", "--help"],
-        "Usage: talc <COMMAND>
+            ),
+            (
+                "talc run x.tal",
+                "error: the following required arguments were not provided:
+  --fuel <N>
+
+Usage: talc run --fuel <N> <IN>
+
+For more information, try '--help'.
+",
+            ),
+        ],
+    )
+}
+
+#[test]
+fn who_asks_for_help_gets_it(rt: HostRuntime) -> Result<(), Fail> {
+    each_gets_text(
+        &rt,
+        rt.alloc(),
+        &[
+            (
+                "talc --help",
+                "Usage: talc <COMMAND>
 
 Commands:
   compile  Compiles the source text IN into the TAL text OUT
@@ -145,10 +186,10 @@ Commands:
 Options:
   -h, --help  Print help
 ",
-    ),
-    (
-        &["talc", "compile", "--help"],
-        "Compiles the source text IN into the TAL text OUT
+            ),
+            (
+                "talc compile --help",
+                "Compiles the source text IN into the TAL text OUT
 
 Usage: talc compile <IN> <OUT>
 
@@ -159,10 +200,10 @@ Arguments:
 Options:
   -h, --help  Print help
 ",
-    ),
-    (
-        &["talc", "check", "--help"],
-        "Checks the TAL text IN
+            ),
+            (
+                "talc check --help",
+                "Checks the TAL text IN
 
 Usage: talc check <IN>
 
@@ -172,10 +213,10 @@ Arguments:
 Options:
   -h, --help  Print help
 ",
-    ),
-    (
-        &["talc", "run", "--help"],
-        "Runs the TAL text IN for at most N instructions
+            ),
+            (
+                "talc run --help",
+                "Runs the TAL text IN for at most N instructions
 
 Usage: talc run --fuel <N> <IN>
 
@@ -186,20 +227,10 @@ Options:
       --fuel <N>  The most instructions to make
   -h, --help      Print help
 ",
-    ),
-    (
-        &["talc", "run", "x.tal"],
-        "error: the following required arguments were not provided:
-  --fuel <N>
-
-Usage: talc run --fuel <N> <IN>
-
-For more information, try '--help'.
-",
-    ),
-    (
-        &["talc", "typeof", "-h"],
-        "Shows the type of the source text IN
+            ),
+            (
+                "talc typeof -h",
+                "Shows the type of the source text IN
 
 Usage: talc typeof <IN>
 
@@ -209,10 +240,10 @@ Arguments:
 Options:
   -h, --help  Print help
 ",
-    ),
-    (
-        &["talc", "eval", "--help"],
-        "Evaluates the source text IN within N turns
+            ),
+            (
+                "talc eval --help",
+                "Evaluates the source text IN within N turns
 
 Usage: talc eval --turns <N> <IN>
 
@@ -223,21 +254,7 @@ Options:
       --turns <N>  The most turns to take
   -h, --help       Print help
 ",
-    ),
-];
-
-#[test]
-fn other_words_get_a_text(rt: HostRuntime) -> Result<(), Fail> {
-    let alloc = rt.alloc();
-    for (texts, wanted) in OTHERS {
-        let words = words(alloc, texts)?;
-        match read(alloc, &words) {
-            Err(NoCommand::Usage(text)) => assert!(rt;
-                text.as_slice() == wanted.as_bytes(),
-                "{wanted}"
             ),
-            _ => assert!(rt; false, "{wanted}"),
-        }
-    }
-    Ok(())
+        ],
+    )
 }

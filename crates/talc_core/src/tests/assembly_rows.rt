@@ -1,7 +1,9 @@
 // Assembly texts: which are accepted, their first faults, and how they run.
-use super::{has_taken, one_file, repeated, shows, words};
-use crate::{Status, talc};
-use io_core::MemSink;
+use super::memory::{
+    After, each_refused, each_shows, leaves, outside_of, shows, shows_of, with_file,
+};
+use super::output_fails;
+use crate::Status;
 use std::alloc::Global;
 use std::process::Abort;
 use std::test::Fail;
@@ -20,249 +22,228 @@ const POLYMORPHIC: &str =
 
 const FOREVER: &str = "tal 1\nL0: code[]{}. jmp L0";
 
-fn checks(
+const CHECK: &str = "talc check x";
+
+// Each text, the most instructions, and the line.
+fn each_runs(
     rt: &impl Abort,
     alloc: Global,
-    text: &[u8],
     wanted: Status,
-    shown: &str,
-    said: &str,
+    rows: &[(&str, &str, &str)],
 ) -> Result<(), Fail> {
-    let words = ["talc", "check", "x"];
-    shows(
-        rt,
-        alloc,
-        &words,
-        text,
-        wanted,
-        shown.as_bytes(),
-        said.as_bytes(),
-    )
-}
-
-fn runs(
-    rt: &impl Abort,
-    alloc: Global,
-    text: &str,
-    fuel: &str,
-    wanted: Status,
-    shown: &str,
-) -> Result<(), Fail> {
-    let words = ["talc", "run", "x", "--fuel", fuel];
-    shows(
-        rt,
-        alloc,
-        &words,
-        text.as_bytes(),
-        wanted,
-        shown.as_bytes(),
-        b"",
-    )
-}
-
-#[test]
-fn accepted_texts(rt: HostRuntime) -> Result<(), Fail> {
-    let texts = [FIRST_REGISTER, EXTRA_REGISTER, POLYMORPHIC, FOREVER];
-    for text in texts {
-        checks(
-            &rt,
-            rt.alloc(),
+    for (text, fuel, out) in rows {
+        let line = format!(in alloc; "talc run x --fuel {fuel}")?;
+        shows(
+            rt,
+            alloc,
+            &line,
             text.as_bytes(),
-            Status::Done,
-            "accepted\n",
-            "",
+            wanted,
+            out.as_bytes(),
+            b"",
         )?;
     }
     Ok(())
 }
 
 #[test]
+fn accepted_texts(rt: HostRuntime) -> Result<(), Fail> {
+    each_shows(
+        &rt,
+        rt.alloc(),
+        CHECK,
+        Status::Done,
+        &[
+            (FIRST_REGISTER, "accepted\n"),
+            (EXTRA_REGISTER, "accepted\n"),
+            (POLYMORPHIC, "accepted\n"),
+            (FOREVER, "accepted\n"),
+        ],
+    )
+}
+
+#[test]
 fn refused_texts(rt: HostRuntime) -> Result<(), Fail> {
-    let rows: [(&str, &str); 4] = [
-        (OLDER_REGISTER, "T12 69..81 field not initialised\n"),
-        (
-            "tal 1\nL0: code[]{}. mov r2, 6 jmp L1\nL1: code[]{r1:int}. halt[int]",
-            "T18 30..36 registers do not fit\n",
-        ),
-        (
-            "tal 1\nL0: code[]{}. mov r1, 5 mov r2, L2 jmp L1\nL1: code[a]{r1:a, r2:all[]{r1:a}}. jmp r2\nL2: code[]{r1:int}. halt[int]",
-            "T16 41..47 target is not code without types owed\n",
-        ),
-        (
-            "tal 1\nL0: code[]{}. mov r1, pack[int,3] as some a. a unpack[b,r1], r1 add r1, r1, 1 halt[int]",
-            "T09 70..83 not int\n",
-        ),
-    ];
-    for (text, line) in rows {
-        checks(&rt, rt.alloc(), text.as_bytes(), Status::Refused, "", line)?;
-    }
-    Ok(())
+    each_refused(
+        &rt,
+        rt.alloc(),
+        CHECK,
+        &[
+            (OLDER_REGISTER, "T12 69..81 field not initialised\n"),
+            (
+                "tal 1\nL0: code[]{}. mov r2, 6 jmp L1\nL1: code[]{r1:int}. halt[int]",
+                "T18 30..36 registers do not fit\n",
+            ),
+            (
+                "tal 1\nL0: code[]{}. mov r1, 5 mov r2, L2 jmp L1\nL1: code[a]{r1:a, r2:all[]{r1:a}}. jmp r2\nL2: code[]{r1:int}. halt[int]",
+                "T16 41..47 target is not code without types owed\n",
+            ),
+            (
+                "tal 1\nL0: code[]{}. mov r1, pack[int,3] as some a. a unpack[b,r1], r1 add r1, r1, 1 halt[int]",
+                "T09 70..83 not int\n",
+            ),
+        ],
+    )
 }
 
 #[test]
 fn one_text_for_each_fault(rt: HostRuntime) -> Result<(), Fail> {
-    let rows: [(&str, &str); 17] = [
-        ("", "T03 0..0 unexpected token or end\n"),
-        ("tal 1 $", "T01 6..7 byte begins no token\n"),
-        (
-            "tal 1\nL0: code[]{}. mov r0, 1 halt[int]",
-            "T02 24..26 number out of range\n",
-        ),
-        (
-            "tal 1\nL0: code[]{}. jmp L0\nL0: code[]{}. jmp L0",
-            "T04 27..29 duplicate label\n",
-        ),
-        ("tal 1\nL0: code[]{}. jmp L9", "T05 24..26 unknown label\n"),
-        (
-            "tal 1\nL0: code[]{}. malloc r1[a] jmp L0",
-            "T06 30..31 unbound type name\n",
-        ),
-        (
-            "tal 1\nL0: code[]{r1:int,r1:int}. halt[int]",
-            "T07 24..26 register twice in one file type\n",
-        ),
-        (
-            "tal 1\nL0: code[]{}. add r1, r2, 1 halt[int]",
-            "T08 20..33 register without a type\n",
-        ),
-        (
-            "tal 1\nL0: code[]{}. mov r1, 5 ld r1, r1[0] halt[int]",
-            "T10 30..42 not a tuple\n",
-        ),
-        (
-            "tal 1\nL0: code[]{}. malloc r1[] ld r1, r1[0] halt[int]",
-            "T11 32..44 no such field\n",
-        ),
-        (
-            "tal 1\nL0: code[]{}. malloc r1[int] mov r2, r1 st r1[0], r2 halt[int]",
-            "T13 46..58 stored value of another type\n",
-        ),
-        (
-            "tal 1\nL0: code[]{}. unpack[a,r1], 5 halt[int]",
-            "T14 20..35 not an existential\n",
-        ),
-        (
-            "tal 1\nL0: code[]{}. mov r1, pack[int,3] as some a. <> halt[int]",
-            "T15 20..53 pack does not fit\n",
-        ),
-        (
-            "tal 1\nL0: code[]{}. jmp L0[int]",
-            "T17 20..31 too many type arguments\n",
-        ),
-        (
-            "tal 1\nL0: code[]{}. halt[int]",
-            "T19 20..29 r1 is not int at halt\n",
-        ),
-        (
-            "tal 1\nL0: code[]{r1:int}. halt[int]",
-            "T20 6..8 first block takes something\n",
-        ),
-        (
-            "tal 1\nL0: code[]{r1:int}. mov r1, r2 jmp L9",
-            "T05 41..43 unknown label\n",
-        ),
-    ];
-    for (text, line) in rows {
-        checks(&rt, rt.alloc(), text.as_bytes(), Status::Refused, "", line)?;
-    }
-    Ok(())
+    each_refused(
+        &rt,
+        rt.alloc(),
+        CHECK,
+        &[
+            ("", "T03 0..0 unexpected token or end\n"),
+            ("tal 1 $", "T01 6..7 byte begins no token\n"),
+            (
+                "tal 1\nL0: code[]{}. mov r0, 1 halt[int]",
+                "T02 24..26 number out of range\n",
+            ),
+            (
+                "tal 1\nL0: code[]{}. jmp L0\nL0: code[]{}. jmp L0",
+                "T04 27..29 duplicate label\n",
+            ),
+            ("tal 1\nL0: code[]{}. jmp L9", "T05 24..26 unknown label\n"),
+            (
+                "tal 1\nL0: code[]{}. malloc r1[a] jmp L0",
+                "T06 30..31 unbound type name\n",
+            ),
+            (
+                "tal 1\nL0: code[]{r1:int,r1:int}. halt[int]",
+                "T07 24..26 register twice in one file type\n",
+            ),
+            (
+                "tal 1\nL0: code[]{}. add r1, r2, 1 halt[int]",
+                "T08 20..33 register without a type\n",
+            ),
+            (
+                "tal 1\nL0: code[]{}. mov r1, 5 ld r1, r1[0] halt[int]",
+                "T10 30..42 not a tuple\n",
+            ),
+            (
+                "tal 1\nL0: code[]{}. malloc r1[] ld r1, r1[0] halt[int]",
+                "T11 32..44 no such field\n",
+            ),
+            (
+                "tal 1\nL0: code[]{}. malloc r1[int] mov r2, r1 st r1[0], r2 halt[int]",
+                "T13 46..58 stored value of another type\n",
+            ),
+            (
+                "tal 1\nL0: code[]{}. unpack[a,r1], 5 halt[int]",
+                "T14 20..35 not an existential\n",
+            ),
+            (
+                "tal 1\nL0: code[]{}. mov r1, pack[int,3] as some a. <> halt[int]",
+                "T15 20..53 pack does not fit\n",
+            ),
+            (
+                "tal 1\nL0: code[]{}. jmp L0[int]",
+                "T17 20..31 too many type arguments\n",
+            ),
+            (
+                "tal 1\nL0: code[]{}. halt[int]",
+                "T19 20..29 r1 is not int at halt\n",
+            ),
+            (
+                "tal 1\nL0: code[]{r1:int}. halt[int]",
+                "T20 6..8 first block takes something\n",
+            ),
+            (
+                "tal 1\nL0: code[]{r1:int}. mov r1, r2 jmp L9",
+                "T05 41..43 unknown label\n",
+            ),
+        ],
+    )
 }
 
 #[test]
 fn open_constructs_of_assembly_are_limited(rt: HostRuntime) -> Result<(), Fail> {
     let alloc = rt.alloc();
     let header = "tal 1\nL0: code[]{}. malloc r1[";
-    let mut most = repeated(alloc, header, "<", 1_999, "")?;
-    most.extend_from_slice(&repeated(alloc, ">", "^0>", 1_998, "] jmp L0")?)?;
-    checks(&rt, alloc, &most, Status::Done, "accepted\n", "")?;
-    let more = repeated(alloc, header, "<", 2_000, "")?;
-    let line = "M1 2029..2030 more than 2000 open constructs\n";
-    checks(&rt, alloc, &more, Status::Limit, "", line)
+    let most = &[
+        (header, 1),
+        ("<", 1_999),
+        (">", 1),
+        ("^0>", 1_998),
+        ("] jmp L0", 1),
+    ];
+    shows_of(&rt, alloc, CHECK, most, Status::Done, "accepted\n", "")?;
+    let more = &[(header, 1), ("<", 2_000)];
+    let err = "M1 2029..2030 more than 2000 open constructs\n";
+    shows_of(&rt, alloc, CHECK, more, Status::Limit, "", err)
 }
 
 #[test]
 fn a_failing_output_of_check(rt: HostRuntime) -> Result<(), Fail> {
-    let alloc = rt.alloc();
-    let words = words(alloc, &["talc", "check", "x"])?;
-    let mut files = one_file(alloc, "x", FOREVER.as_bytes(), Vec::new(alloc))?;
-    let mut out = MemSink::new(alloc, vec![in alloc; (0, 3)]?);
-    let mut err = MemSink::new(alloc, Vec::new(alloc));
-    let status = talc(alloc, &words, &mut files, &mut out, &mut err);
-    assert_eq!(rt; status, Status::WriteFault);
-    assert!(rt; has_taken(&out, b"acc"));
-    assert!(rt; has_taken(&err, b"write fault\n"));
-    Ok(())
+    output_fails(&rt, rt.alloc(), CHECK, FOREVER.as_bytes(), 3, b"acc")
 }
 
 #[test]
 fn texts_that_halt(rt: HostRuntime) -> Result<(), Fail> {
-    let rows: [(&str, &str, &str); 8] = [
-        (FIRST_REGISTER, "5", "int 5\n"),
-        (EXTRA_REGISTER, "3", "int 5\n"),
-        (POLYMORPHIC, "4", "int 5\n"),
-        (
-            "tal 1\nL0: code[]{}. mov r1, ~7 halt[int]",
-            "18446744073709551615",
-            "int ~7\n",
-        ),
-        (
-            "tal 1\nL0: code[]{}. mov r1, 9223372036854775807 mul r1, r1, 3 halt[int]",
-            "2",
-            "int 9223372036854775805\n",
-        ),
-        (
-            "tal 1\nL0: code[]{}. mov r9223372036854775807, 5 mov r1, r9223372036854775807 halt[int]",
-            "2",
-            "int 5\n",
-        ),
-        (
-            "tal 1\nL0: code[]{}. mov r2, 0 bnz r2, L0 mov r1, 3 halt[int]",
-            "3",
-            "int 3\n",
-        ),
-        (
-            "tal 1\nL0: code[]{}. mov r1, pack[int,3] as some a. a unpack[b,r2], r1 mov r1, 9 halt[int]",
-            "3",
-            "int 9\n",
-        ),
-    ];
-    for (text, fuel, line) in rows {
-        runs(&rt, rt.alloc(), text, fuel, Status::Done, line)?;
-    }
-    Ok(())
+    each_runs(
+        &rt,
+        rt.alloc(),
+        Status::Done,
+        &[
+            (FIRST_REGISTER, "5", "int 5\n"),
+            (EXTRA_REGISTER, "3", "int 5\n"),
+            (POLYMORPHIC, "4", "int 5\n"),
+            (
+                "tal 1\nL0: code[]{}. mov r1, ~7 halt[int]",
+                "18446744073709551615",
+                "int ~7\n",
+            ),
+            (
+                "tal 1\nL0: code[]{}. mov r1, 9223372036854775807 mul r1, r1, 3 halt[int]",
+                "2",
+                "int 9223372036854775805\n",
+            ),
+            (
+                "tal 1\nL0: code[]{}. mov r9223372036854775807, 5 mov r1, r9223372036854775807 halt[int]",
+                "2",
+                "int 5\n",
+            ),
+            (
+                "tal 1\nL0: code[]{}. mov r2, 0 bnz r2, L0 mov r1, 3 halt[int]",
+                "3",
+                "int 3\n",
+            ),
+            (
+                "tal 1\nL0: code[]{}. mov r1, pack[int,3] as some a. a unpack[b,r2], r1 mov r1, 9 halt[int]",
+                "3",
+                "int 9\n",
+            ),
+        ],
+    )
 }
 
 #[test]
 fn texts_that_go_on(rt: HostRuntime) -> Result<(), Fail> {
-    let rows: [(&str, &str, &str); 5] = [
-        (FIRST_REGISTER, "4", "running after 4 instructions\n"),
-        (FOREVER, "0", "running after 0 instructions\n"),
-        (FOREVER, "10", "running after 10 instructions\n"),
-        (
-            "tal 1\nL0: code[]{}. malloc r1[int] jmp L0",
-            "1000",
-            "running after 1000 instructions\n",
-        ),
-        (POLYMORPHIC, "3", "running after 3 instructions\n"),
-    ];
-    for (text, fuel, line) in rows {
-        runs(&rt, rt.alloc(), text, fuel, Status::Budget, line)?;
-    }
-    Ok(())
+    each_runs(
+        &rt,
+        rt.alloc(),
+        Status::Budget,
+        &[
+            (FIRST_REGISTER, "4", "running after 4 instructions\n"),
+            (FOREVER, "0", "running after 0 instructions\n"),
+            (FOREVER, "10", "running after 10 instructions\n"),
+            (
+                "tal 1\nL0: code[]{}. malloc r1[int] jmp L0",
+                "1000",
+                "running after 1000 instructions\n",
+            ),
+            (POLYMORPHIC, "3", "running after 3 instructions\n"),
+        ],
+    )
 }
 
 #[test]
 fn a_refused_text_is_not_run(rt: HostRuntime) -> Result<(), Fail> {
-    let words = ["talc", "run", "x", "--fuel", "5"];
-    let line = b"T12 69..81 field not initialised\n";
-    shows(
+    each_refused(
         &rt,
         rt.alloc(),
-        &words,
-        OLDER_REGISTER.as_bytes(),
-        Status::Refused,
-        b"",
-        line,
+        "talc run x --fuel 5",
+        &[(OLDER_REGISTER, "T12 69..81 field not initialised\n")],
     )
 }
 
@@ -270,16 +251,20 @@ fn a_refused_text_is_not_run(rt: HostRuntime) -> Result<(), Fail> {
 #[test]
 fn a_compiled_number_runs(rt: HostRuntime) -> Result<(), Fail> {
     let alloc = rt.alloc();
-    let compile = words(alloc, &["talc", "compile", "x", "x"])?;
-    let mut files = one_file(alloc, "x", b"~9223372036854775808", Vec::new(alloc))?;
-    let mut out = MemSink::new(alloc, Vec::new(alloc));
-    let mut err = MemSink::new(alloc, Vec::new(alloc));
-    let status = talc(alloc, &compile, &mut files, &mut out, &mut err);
-    assert_eq!(rt; status, Status::Done);
-    let run = words(alloc, &["talc", "run", "x", "--fuel", "1000000"])?;
-    let status = talc(alloc, &run, &mut files, &mut out, &mut err);
-    assert_eq!(rt; status, Status::Done);
-    assert!(rt; has_taken(&out, b"int ~9223372036854775808\n"));
-    assert!(rt; has_taken(&err, b""));
-    Ok(())
+    let text = b"tal 1\nL0: code[]{}.\nmov r1, ~9223372036854775808\nhalt[int]\n";
+    let mut outside = outside_of(alloc, with_file("x", b"~9223372036854775808"))?;
+    let compiled = After {
+        status: Status::Done,
+        out: b"",
+        err: b"",
+        files: &[("x", text)],
+        faults: (0, 0),
+    };
+    leaves(&rt, alloc, "talc compile x x", &mut outside, compiled)?;
+    let ran = After {
+        out: b"int ~9223372036854775808\n",
+        ..compiled
+    };
+    let line = "talc run x --fuel 1000000";
+    leaves(&rt, alloc, line, &mut outside, ran)
 }

@@ -1,24 +1,19 @@
-use Rattle.std.proofs.Common.{◌≡◌, ◌∙◌, ◌&&◌, Bool, true, false, not, ap, ap₂, refl}
-use Rattle.clap.specs.Words.{AddsSubcommand, App, app_of, with_subcommand}
+use Rattle.std.proofs.Common.{◌≡◌, ◌∙◌, true, Result, Ok, Err, IfOk, ap, ap₂, refl}
+use Rattle.std.specs.Result.{IsOkAnd}
+use Rattle.clap.specs.Words.{App, app_of, with_subcommand}
 use Rattle.clap.specs.declared.builder.command.Command.{Command}
 use Rattle.words.proofs.description.talc_words.Goals as goal
 
--- a plain command has no global argument
-local : (a b g rest : Bool) → (a && (b && (not g && rest))) ≡ true → g ≡ false
-local true true true rest e = cc
-local true false g rest e = cc
-local false b g rest e = cc
-local true true false rest e = refl
-
 -- a plain subcommand is the last of those that there are
-added : (old sub new : Command) (above below : App) → AddsSubcommand old sub new → app_of old ≡ above → app_of sub ≡ below → below.top.is_plain ≡ true → app_of new ≡ with_subcommand above below.top
-added old sub new above below adds old_is sub_is plain =
-    adds.shape (local _ _ _ _ (ap (λ (a : App). a.top.is_plain) sub_is ∙ plain)) ∙ ap₂ with_subcommand old_is (ap (λ (a : App). a.top) sub_is)
+added : {E : Type 0} (old new : Command) (sub : Result Command E) (above below : App) → IsOkAnd sub (λ s. (app_of s).top.is_plain ≡ true → app_of new ≡ with_subcommand (app_of old) (app_of s).top) → app_of old ≡ above → IfOk sub (λ s. app_of s ≡ below) → below.top.is_plain ≡ true → app_of new ≡ with_subcommand above below.top
+added old new (Ok s) above below adds old_is sub_is plain =
+    adds (ap (λ (a : App). a.top.is_plain) sub_is ∙ plain) ∙ ap₂ with_subcommand old_is (ap (λ (a : App). a.top) sub_is)
+added old new (Err e) above below adds old_is sub_is plain = absurd adds
 
 pub returns : goal.returns
 returns c =
-    let compile = added _ _ _ _ _ c.in_ok-subcommand.ensures c.bare_words.ensures c.in_ok-compile.ensures refl in
-    let check = added _ _ _ _ _ c.in_ok-subcommand-2.ensures compile c.in_ok-check.ensures refl in
-    let run = added _ _ _ _ _ c.in_ok-subcommand-3.ensures check c.in_ok-run.ensures refl in
-    let type_of = added _ _ _ _ _ c.in_ok-subcommand-4.ensures run c.in_ok-type_of.ensures refl in
-    added _ _ _ _ _ c.in_ok-all.ensures type_of c.in_ok-evaluate.ensures refl
+    let compile = added _ _ _ _ _ c.in_ok-compile.ensures c.bare_words.ensures c.compile_words.ensures refl in
+    let check = added _ _ _ _ _ c.in_ok-check.ensures compile c.check_words.ensures refl in
+    let run = added _ _ _ _ _ c.in_ok-run.ensures check c.run_words.ensures refl in
+    let type_of = added _ _ _ _ _ c.in_ok-type_of.ensures run c.typeof_words.ensures refl in
+    added _ _ _ _ _ c.in_ok-all.ensures type_of c.eval_words.ensures refl

@@ -129,22 +129,29 @@ type_parts_more text a xs i x old new t g l e h s =
     rw (map_take type_of xs i x g l, e, map-append tree old (t ∷ [])) (types_push text a (map type_of (take i xs)) (map tree old) (type_of x) (tree t) h s)
 
 -- the loop over the fields of a tuple
+module _ (text : List ℕ) (v a : List Name) (xs : List RawTerm) where
+  pub fields_stop : (i : ℕ) (x : RawTerm) (ws : List Tm) (e : Unresolved) → x ≡ get_or xs i x → i < length xs → TermsOf text v a (raw_tms (map tree_of (take i xs))) (tms ws) →
+      StopsAt text (uses text v a (tree_of x)) e → StopsAt text (all_uses text v a (raw_tms (map tree_of xs))) e
+  fields_stop i x ws e g l h s = rw (split_at tree_of xs i x g l) (terms_stop text v a (map tree_of (take i xs)) (map tree_of (drop (i + 1) xs)) (tree_of x) ws e h s)
+
+  pub fields_whole : (n : ℕ) (made : Vec FTerm Global) → length xs ≤ n → TermsOf text v a (raw_tms (map tree_of (take n xs))) (tms (map spanned made.items)) → TermsOf text v a (raw_tms (map tree_of xs)) (tms (map spanned made.items))
+  fields_whole n made l h = subst (λ (ys : List RawTerm). TermsOf text v a (raw_tms (map tree_of ys)) (tms (map spanned made.items))) (take_all n xs l) h
+
+  pub fields_more : (i : ℕ) (x : RawTerm) (old new : List FTerm) (t : FTerm) → x ≡ get_or xs i x → i < length xs → new ≡ old ++ t ∷ [] →
+      TermsOf text v a (raw_tms (map tree_of (take i xs))) (tms (map spanned old)) → TermOf text v a (tree_of x) (spanned t) → TermsOf text v a (raw_tms (map tree_of (take (i + 1) xs))) (tms (map spanned new))
+  fields_more i x old new t g l e h s =
+      rw (map_take tree_of xs i x g l, e, map-append spanned old (t ∷ [])) (terms_push text v a (map tree_of (take i xs)) (map spanned old) (tree_of x) (spanned t) h s)
+
+-- a tuple by its fields
 module _ (text : List ℕ) (v a : List Name) (self : RawTerm) (span : _) (parts : Vec RawTerm Global) (xs : List RawTerm) (is : self ≡ rterm.Tuple span parts) (same : xs ≡ parts.items) where
   term_tree : tree_of self ≡ RFields span (raw_tms (map tree_of xs))
   term_tree = ap tree_of is ∙ (tree_Tuple span parts ∙ ap (λ (ys : List RawTerm). RFields span (raw_tms (map tree_of ys))) (sym same))
 
-  pub parts_stop : (i : ℕ) (x : RawTerm) (ws : List Tm) (e : Unresolved) → x ≡ get_or xs i x → i < length xs → TermsOf text v a (raw_tms (map tree_of (take i xs))) (tms ws) →
-      StopsAt text (uses text v a (tree_of x)) e → StopsAt text (uses text v a (tree_of self)) e
-  parts_stop i x ws e g l h s = rw (term_tree, split_at tree_of xs i x g l)
-      (terms_stop text v a (map tree_of (take i xs)) (map tree_of (drop (i + 1) xs)) (tree_of x) ws e h s)
+  pub tuple_stop : (e : Unresolved) → StopsAt text (all_uses text v a (raw_tms (map tree_of xs))) e → StopsAt text (uses text v a (tree_of self)) e
+  tuple_stop e h = rw term_tree h
 
-  pub parts_whole : (n : ℕ) (made : Vec FTerm Global) → length xs ≤ n → TermsOf text v a (raw_tms (map tree_of (take n xs))) (tms (map spanned made.items)) → TermOf text v a (tree_of self) (form_tree (place span) (fform.Tuple made))
-  parts_whole n made l h = rw (term_tree, tuple_term (place span) made) (of_fields span (subst (λ (ys : List RawTerm). TermsOf text v a (raw_tms (map tree_of ys)) (tms (map spanned made.items))) (take_all n xs l) h))
-
-pub parts_more : (text : List ℕ) (v a : List Name) (xs : List RawTerm) (i : ℕ) (x : RawTerm) (old new : List FTerm) (t : FTerm) → x ≡ get_or xs i x → i < length xs → new ≡ old ++ t ∷ [] →
-    TermsOf text v a (raw_tms (map tree_of (take i xs))) (tms (map spanned old)) → TermOf text v a (tree_of x) (spanned t) → TermsOf text v a (raw_tms (map tree_of (take (i + 1) xs))) (tms (map spanned new))
-parts_more text v a xs i x old new t g l e h s =
-    rw (map_take tree_of xs i x g l, e, map-append spanned old (t ∷ [])) (terms_push text v a (map tree_of (take i xs)) (map spanned old) (tree_of x) (spanned t) h s)
+  pub tuple_whole : (made : Vec FTerm Global) → TermsOf text v a (raw_tms (map tree_of xs)) (tms (map spanned made.items)) → TermOf text v a (tree_of self) (form_tree (place span) (fform.Tuple made))
+  tuple_whole made h = rw (term_tree, tuple_term (place span) made) (of_fields span h)
 
 -- a name that has no binder
 pub type_name_stop : (text : List ℕ) (a : List Name) (self : RawType) (s : Span) → self ≡ rtype.Name s → IsAbsent (spelled text s) a → StopsAt text (type_uses text a (type_of self)) («Type» s)

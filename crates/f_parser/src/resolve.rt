@@ -1,11 +1,13 @@
 // The binding of names.
-ghost use Rattle.std.specs.Prelude.{◌≡◌, MatchResult, OnOk};
+ghost use Rattle.std.specs.Prelude.{◌≡◌, MatchResult, OnOk, map};
 ghost use Rattle.idx_core.specs.Names.{Name};
 ghost use Rattle.f_terms.specs.Ty.{TArrow, TAll};
+ghost use Rattle.f_terms.specs.Tm.{tms};
 ghost use Rattle.f_terms.specs.Read.{tree, spanned};
+ghost use Rattle.f_grammar.specs.Raw.{raw_tms};
 ghost use Rattle.f_grammar.specs.Reads.{type_of};
 ghost use Rattle.f_reader.specs.Kept.{tree_of};
-ghost use Rattle.f_parser.specs.Scope.{spelled, TypeOf, TermOf, type_uses, uses};
+ghost use Rattle.f_parser.specs.Scope.{spelled, TypeOf, TermOf, TermsOf, IsBinder, type_uses, uses, all_uses};
 ghost use Rattle.f_parser.specs.Resolve.{StopsAt};
 ghost use Rattle.f_parser.specs.declared.resolve.Unresolved.TheVariants as stopped;
 
@@ -118,6 +120,7 @@ pub fn type_in_scope(
 
 /// A term with its names resolved, where these value names and type names are in scope. They are as before where the
 /// answer is a term.
+#[cycle(terms)]
 pub fn term_in_scope(
     alloc: Global,
     text: &[u8],
@@ -136,6 +139,56 @@ pub fn term_in_scope(
             None => Err(Unresolved::Value(*span)),
         },
         RawTerm::Num(span, value) => boxed(alloc, *span, FForm::Int(*value)),
+        RawTerm::Fix { .. } => binder_in_scope(alloc, text, term, values, types),
+        RawTerm::Gen(..) => binder_in_scope(alloc, text, term, values, types),
+        RawTerm::App(span, a, b) => {
+            let function = term_in_scope(alloc, text, a, values, types)?;
+            let argument = term_in_scope(alloc, text, b, values, types)?;
+            boxed(alloc, *span, FForm::App(function, argument))
+        }
+        RawTerm::Inst(span, a, ty) => {
+            let function = term_in_scope(alloc, text, a, values, types)?;
+            let ty = type_in_scope(alloc, text, ty, types)?;
+            boxed(alloc, *span, FForm::Inst(function, ty))
+        }
+        RawTerm::Tuple(span, parts) => {
+            let fields = fields_in_scope(alloc, text, parts, values, types)?;
+            boxed(alloc, *span, FForm::Tuple(fields))
+        }
+        RawTerm::Proj(span, field, a) => {
+            let tuple = term_in_scope(alloc, text, a, values, types)?;
+            boxed(alloc, *span, FForm::Proj(*field, tuple))
+        }
+        RawTerm::Arith(span, op, a, b) => {
+            let left = term_in_scope(alloc, text, a, values, types)?;
+            let right = term_in_scope(alloc, text, b, values, types)?;
+            boxed(alloc, *span, FForm::Arith(*op, left, right))
+        }
+        RawTerm::If0(span, a, b, c) => {
+            let test = term_in_scope(alloc, text, a, values, types)?;
+            let second = term_in_scope(alloc, text, b, values, types)?;
+            let third = term_in_scope(alloc, text, c, values, types)?;
+            boxed(alloc, *span, FForm::If0(test, second, third))
+        }
+    }
+}
+
+// the same of a term that binds names
+#[cycle(terms)]
+fn binder_in_scope(
+    alloc: Global,
+    text: &[u8],
+    term: &RawTerm,
+    values: &mut Names,
+    types: &mut Names,
+) -> Result<Box<FTerm>, Unresolved>
+    requires { IsBinder (tree_of term.now) }
+    ensures { MatchResult result
+        (λ t. (values.new ≡ values.old) × (types.new ≡ types.old)
+        × TermOf text.now values.old types.old (tree_of term.now) (spanned t.value))
+        (λ e. StopsAt text.now (uses text.now values.old types.old (tree_of term.now)) e) }
+{
+    match term {
         RawTerm::Fix {
             span,
             name,
@@ -159,38 +212,28 @@ pub fn term_in_scope(
             types.pop();
             boxed(alloc, *span, FForm::Gen(body))
         }
-        RawTerm::App(span, a, b) => {
-            let function = term_in_scope(alloc, text, a, values, types)?;
-            let argument = term_in_scope(alloc, text, b, values, types)?;
-            boxed(alloc, *span, FForm::App(function, argument))
-        }
-        RawTerm::Inst(span, a, ty) => {
-            let function = term_in_scope(alloc, text, a, values, types)?;
-            let ty = type_in_scope(alloc, text, ty, types)?;
-            boxed(alloc, *span, FForm::Inst(function, ty))
-        }
-        RawTerm::Tuple(span, parts) => {
-            let mut fields = Vec::new(alloc);
-            for part in parts {
-                let field = term_in_scope(alloc, text, part, values, types)?;
-                fields.push(Box::into_inner(field))?;
-            }
-            boxed(alloc, *span, FForm::Tuple(fields))
-        }
-        RawTerm::Proj(span, field, a) => {
-            let tuple = term_in_scope(alloc, text, a, values, types)?;
-            boxed(alloc, *span, FForm::Proj(*field, tuple))
-        }
-        RawTerm::Arith(span, op, a, b) => {
-            let left = term_in_scope(alloc, text, a, values, types)?;
-            let right = term_in_scope(alloc, text, b, values, types)?;
-            boxed(alloc, *span, FForm::Arith(*op, left, right))
-        }
-        RawTerm::If0(span, a, b, c) => {
-            let test = term_in_scope(alloc, text, a, values, types)?;
-            let second = term_in_scope(alloc, text, b, values, types)?;
-            let third = term_in_scope(alloc, text, c, values, types)?;
-            boxed(alloc, *span, FForm::If0(test, second, third))
-        }
+        _ => unreachable!(),
     }
+}
+
+// the same of the fields of a tuple
+#[cycle(terms)]
+fn fields_in_scope(
+    alloc: Global,
+    text: &[u8],
+    parts: &[RawTerm],
+    values: &mut Names,
+    types: &mut Names,
+) -> Result<Vec<FTerm>, Unresolved>
+    ensures { MatchResult result
+        (λ ts. (values.new ≡ values.old) × (types.new ≡ types.old)
+        × TermsOf text.now values.old types.old (raw_tms (map tree_of parts.now)) (tms (map spanned ts.items)))
+        (λ e. StopsAt text.now (all_uses text.now values.old types.old (raw_tms (map tree_of parts.now))) e) }
+{
+    let mut fields = Vec::new(alloc);
+    for part in parts {
+        let field = term_in_scope(alloc, text, part, values, types)?;
+        fields.push(Box::into_inner(field))?;
+    }
+    Ok(fields)
 }

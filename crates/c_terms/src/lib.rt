@@ -1,0 +1,2 @@
+//! The closed calculus.
+#![tactic(auto)]

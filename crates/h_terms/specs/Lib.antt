@@ -1,0 +1,3 @@
+pub mod H
+pub mod Meaning
+pub mod Typing

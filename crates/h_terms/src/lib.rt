@@ -1,0 +1,2 @@
+//! Hoisted programs.
+#![tactic(auto)]

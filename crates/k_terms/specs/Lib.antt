@@ -1,0 +1,10 @@
+pub mod K
+pub mod Walks
+pub mod TyLaws
+pub mod Meaning
+pub mod Typing
+pub mod Each
+pub mod Reach
+pub mod Size
+pub mod Bound
+pub mod Laws

@@ -1,0 +1,2 @@
+//! What the inner calculi share: how runs end, and numbers under binders.
+#![tactic(auto)]

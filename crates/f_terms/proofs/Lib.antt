@@ -1,3 +1,4 @@
+mod Admitting
 mod Closing
 mod FaultRows
 pub mod Faulty
@@ -8,6 +9,7 @@ pub mod Refusals
 mod Rows
 pub mod Shapes
 mod Sound
+pub mod Stacking
 mod TextRows
 mod Texts
 pub mod Trees

@@ -1,16 +1,22 @@
 //! The source calculus: its types and terms, and the faults of a source text.
 #![tactic(auto)]
 
+pub mod admission;
 pub mod count;
 pub mod fault;
 pub mod laws;
+pub mod make;
+pub mod node;
 pub mod shift;
+pub mod stack;
+pub mod step;
 pub mod term;
 #[cfg(test)]
 mod tests;
 pub mod text;
 pub mod types;
 
+pub use admission::admit;
 pub use count::{depth, eq, size};
 pub use fault::{Code, FFault};
 pub use laws::{
@@ -18,6 +24,7 @@ pub use laws::{
     no_fault_beside_a_pass, one_answer, one_fault, one_type, passes_where_typed,
     programs_are_never_stuck, puts_exchange,
 };
-pub use term::{FForm, FTerm};
+pub use node::{FNode, FParts, FShape, FTerm};
+pub use stack::{FStack, FStep};
 pub use text::type_text;
 pub use types::FType;

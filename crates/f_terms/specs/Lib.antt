@@ -4,6 +4,7 @@ pub mod Faults
 pub mod Laws
 pub mod Limits
 pub mod Made
+pub mod Noted
 pub mod OneType
 pub mod Props
 pub mod Read

@@ -7,4 +7,13 @@ pub mod Each
 pub mod Reach
 pub mod Size
 pub mod Bound
+pub mod Types
+pub mod Stream
+pub mod Read
+pub mod Scope
+pub mod Decode
+pub mod Back
+pub mod Props
+pub mod Whole
+pub mod Counts
 pub mod Laws

@@ -8,4 +8,6 @@ pub mod Reach
 pub mod Size
 pub mod Bound
 pub mod Puts
+pub mod Stream
+pub mod Read
 pub mod Laws

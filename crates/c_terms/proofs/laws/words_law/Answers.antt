@@ -1,5 +1,5 @@
 use Rattle.c_terms.proofs.Bridge.{ren_lift, cput_is, sub_put, in_below, below_in}
-use Rattle.c_terms.proofs.words_law.Goals as goal
+use Rattle.c_terms.proofs.laws.words_law.Goals as goal
 
 pub returns-clause-lifts : goal.returns-clause-lifts
 returns-clause-lifts c = ren_lift

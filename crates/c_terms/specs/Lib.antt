@@ -10,4 +10,9 @@ pub mod Bound
 pub mod Puts
 pub mod Stream
 pub mod Read
+pub mod Scope
+pub mod Decode
+pub mod Props
+pub mod Program
+pub mod Term
 pub mod Laws

@@ -1,7 +1,7 @@
 // Laws of the closed calculus.
 
 ghost use Rattle.c_terms.specs.Laws.{TypedIsAny, WithinIsTyped, FitsMore, PutsExchange, LiftIsShift, FirstIsPut};
-ghost use Rattle.c_terms.specs.Laws.{CPutIsPut, InIsBelow};
+ghost use Rattle.c_terms.specs.Laws.{CPutIsPut, InIsBelow, TypedIsScoped, ReadsBack, OneTerm};
 ghost use Rattle.c_terms.specs.Puts.{OneByOne};
 
 /// Typing is typing with the property that every type has.
@@ -35,4 +35,15 @@ pub fn words_law()
 /// Types put one after the other are put at once.
 pub fn one_by_one_law()
     ensures { OneByOne }
+{}
+
+/// The names of a typed term are in scope.
+pub fn typed_is_scoped_law()
+    ensures { TypedIsScoped }
+{}
+
+/// The nodes of a term in scope are read back, and so they are of one term.
+pub fn read_back_law()
+    ensures back { ReadsBack }
+    ensures one { OneTerm }
 {}

@@ -5,3 +5,11 @@ pub mod Types
 pub mod TypeEnvs
 pub mod Ranges
 pub mod Meaning
+pub mod Fitting
+pub mod Kept
+pub mod ReachLaws
+pub mod Typing
+pub mod BothTypings
+pub mod BodySizes
+pub mod HowMany
+pub mod Fits

@@ -1,12 +1,12 @@
 -- The sizes of bodies after closure conversion.
-use Rattle.std.proofs.Common.{◌≡◌, ◌≤◌, ℕ, zero, suc, ◌+◌, ◌*◌, Bool, true, false, ◌||◌, nat_eq, List, [], ◌∷◌, ◌++◌, Option, Some, None, refl, sym, ap, ◌∙◌, arith, ⊎_elim}
+use Rattle.std.proofs.Common.{◌≡◌, ◌≤◌, ℕ, zero, suc, ◌+◌, ◌*◌, Bool, true, false, ◌||◌, nat_eq, [], ◌∷◌, Option, Some, None, refl, sym, ap, ◌∙◌, arith, ⊎_elim}
 use Rattle.std.proofs.lemmas.Bool.{eq-eqb, ne_eqb, cases_eq}
 use Rattle.c_law.specs.Places.{Places, place, kept_count}
 use Rattle.term_core.specs.Ends.{lift, after_one}
 use Rattle.k_terms.specs.K.{KTys, KVal, KVar, KInt, KTuple, KCode, KVals, NoKVals, MoreKVals, KDecl, KName, KProj, KArith, KPack, KUnpack, KCell, KGet, KSet, KTm, KLet, KCall, KIf, KHalt, kcount}
 use Rattle.c_law.specs.Free.{occurs_v, occurs_vs, occurs_d, occurs_t}
 use Rattle.k_terms.specs.Size.{ksize_v, ksize_vs, ksize_d, ksize_t}
-use Rattle.c_terms.specs.C.{CVal, CVar, CInt, CTuple, CCode, CApply, CPack, CVals, NoCVals, MoreCVals, CName, CProj, CArith, CUnpack, CCell, CGet, CSet, CTm, CLet, CCall, CIf, CHalt, ccount, cv_next, ct_next}
+use Rattle.c_terms.specs.C.{CVal, CVals, NoCVals, CTm}
 use Rattle.c_law.specs.Close.{Scope, keeps, uses, var_value, pick_one, picked, projections, named, rebuilt, closed_body, inner, with_decl, in_call, no_scope, close_v, close_vs, close_d, close_t, close_of}
 use Rattle.c_terms.specs.Size.{cown_v, cown_vs, cown_d, cown_t, CSmall_v, CSmall_vs, CSmall_d, CSmall_t, CSmall}
 use Rattle.c_law.proofs.Ranges.{lift_back}

@@ -1,6 +1,6 @@
 -- The bound of programs is kept.
-use Rattle.std.proofs.Common.{ℕ, ◌+◌, ◌*◌, ◌≤◌, [], arith}
-use Rattle.k_terms.specs.K.{KTm, kt_next}
+use Rattle.std.proofs.Common.{ℕ, ◌+◌, ◌*◌, arith}
+use Rattle.k_terms.specs.K.{KTm}
 use Rattle.k_terms.specs.Bound.{KFits, KBound}
 use Rattle.k_terms.specs.Size.{ksize_t}
 use Rattle.c_terms.specs.Bound.{CFits, CBound}

@@ -1,18 +1,18 @@
 -- How the target's scope fits the source's, and types around codes and calls.
-use Rattle.std.proofs.Common.{None, ◌≡◌, ◌<◌, ℕ, zero, suc, Bool, true, false, ◌||◌, ◌&&◌, List, [], ◌∷◌, ◌++◌, refl, sym, ap, ◌∙◌, subst, subst₂, ap₂, arith, eq-eqb}
-use Rattle.c_law.specs.Places.{Places, further, from_on, kept_places, kept_count}
+use Rattle.std.proofs.Common.{◌≡◌, ◌<◌, ℕ, zero, suc, Bool, true, false, ◌||◌, ◌&&◌, List, [], ◌∷◌, refl, sym, ap, ◌∙◌, subst, ap₂, arith}
+use Rattle.c_law.specs.Places.{further}
 use Rattle.term_core.specs.Ends.{lift, under, after_one}
-use Rattle.k_terms.specs.K.{KTy, KTys, TKInt, TKVar, TKTuple, TKCode, TKSome, TKRef, NoKTys, MoreKTys, KVal, KVar, KInt, KTuple, KCode, KVals, NoKVals, MoreKVals, KDecl, KName, KProj, KArith, KPack, KUnpack, KCell, KGet, KSet, KTm, KLet, KCall, KIf, KHalt, kcount, kren, krens_scope, kargs_onto, kbody_scope, opens}
-use Rattle.c_law.specs.Free.{tfree, tfrees, tfree_v, tfree_vs, tfree_d, tfree_t, occurs_v, occurs_vs, occurs_d, occurs_t}
-use Rattle.k_terms.specs.Types.{kv_type, kd_type}
-use Rattle.c_terms.specs.C.{CTy, CTys, TCVar, TCTuple, TCCode, TCSome, TCRef, NoCTys, MoreCTys, CVal, CVar, CTuple, NoCVals, MoreCVals, CTm, ccount}
-use Rattle.k_terms.specs.Typing.{KIn, KIns, KField, KHas, KHave, KGives, KGood, kscons, ksub, ksubs, knames}
-use Rattle.c_terms.specs.Typing.{CIn, CIns, CAt, CField, CHas, CHave, CGood, cren, crens, cup, csub, csubs, scons, names, cargs_onto, crens_scope}
-use Rattle.c_law.specs.Close.{Scope, ctype, ctypes, rank, picked_tvars, pick_type, picked_types, picked, tfree_kept, keeps, uses, named, tkeeps, env_type, closure, outside, inner, rebuilt, projections, closed_args, closed_code, with_var, open_if, with_decl, in_call, no_scope, close_v, close_vs, close_t, close_of}
-use Rattle.c_law.proofs.Envs.{or_left, or_right, lift_suc, lift_zero}
-use Rattle.c_law.proofs.Types.{under_lift, ren_ctype, cup_under, cup_lift, sub_ctype, sub_ctypes, gen_ctype, gen_ctypes, scons_gen, names_gen, names_past, picked_names, kept_name, picked_count}
-use Rattle.c_law.proofs.TypeEnvs.{AgreeT, SameLength, ScopeIn, same_length, agreeT_at, agreeT_further, agreeT_fewer, agreeT_ren, agreeT_open, picked_have, keep_type, kept_types, onto_kept, tsize, kept_tsize, kept_ccount, good_projections, at_append, at_onto, gdrop, gdrop_append, kept_agreeT, ctypes_of, glength, kargs_append, cargs_of, kargs_length, args_agreeT}
-use Rattle.c_law.proofs.Ranges.{or_split, and_split, lift_lt, under_lt, in_kren, scope_in_kren, scope_in_args, in_ctype, in_ctypes, kept_lt, kept_fewer, rank_lt, tfree_back, kept_back, lift_back, kept_args, d_in, v_type, d_type, d_free, v_range, t_range}
+use Rattle.k_terms.specs.K.{KTy, KTys, TKVar, NoKTys, MoreKTys, KDecl, KTm, KLet, kcount, krens_scope, opens}
+use Rattle.c_law.specs.Free.{tfree, tfree_d, tfree_t, occurs_d, occurs_t}
+use Rattle.k_terms.specs.Types.{kd_type}
+use Rattle.c_terms.specs.C.{CTy, CTys, TCVar, TCTuple, NoCTys, MoreCTys}
+use Rattle.k_terms.specs.Typing.{KIn, KField, KGives, ksubs, knames}
+use Rattle.c_terms.specs.Typing.{CIn, CIns, CField, cren, crens, cup, csub, csubs, names, crens_scope}
+use Rattle.c_law.specs.Close.{Scope, ctype, ctypes, picked_tvars, pick_type, picked_types, tfree_kept, keeps, env_type, with_var, open_if, with_decl, in_call}
+use Rattle.c_law.proofs.Envs.{or_left, or_right}
+use Rattle.c_law.proofs.Types.{ren_ctype, sub_ctype, gen_ctypes, names_gen, names_past}
+use Rattle.c_law.proofs.TypeEnvs.{AgreeT, ScopeIn, agreeT_further, agreeT_fewer, agreeT_ren, agreeT_open}
+use Rattle.c_law.proofs.Ranges.{or_split, and_split, scope_in_kren, in_ctype, kept_fewer, kept_back, lift_back, d_in, d_type, d_free}
 use Rattle.c_law.proofs.Meaning.{ctypes_count}
 
 -- the target's scope fits the live variables
@@ -91,10 +91,10 @@ fits_more true t live tlive s n cg i c a f = record {
     below_of zero e = omega arith
     below_of (suc j) e =
         let b = f j (or_split (tlive (suc j)) ((live 0 && tfree (suc j) t) || tfree_kept (suc j) (λ i. live (suc i)) (krens_scope suc s.types))
-            (λ d. or_left (tlive (suc j)) _ d)
-            (λ d. or_right (tlive (suc j)) _ (or_split (live 0 && tfree (suc j) t) (tfree_kept (suc j) (λ i. live (suc i)) (krens_scope suc s.types))
-            (λ c. or_left (live 0 && tfree (suc j) t) _ c)
-            (λ c. or_right (live 0 && tfree (suc j) t) _ (kept_back s.types (λ i. live (suc i)) suc j (suc j) (λ i q. lift_back 1 i j q) c)) d)) e) in
+        (λ d. or_left (tlive (suc j)) _ d)
+        (λ d. or_right (tlive (suc j)) _ (or_split (live 0 && tfree (suc j) t) (tfree_kept (suc j) (λ i. live (suc i)) (krens_scope suc s.types))
+        (λ c. or_left (live 0 && tfree (suc j) t) _ c)
+        (λ c. or_right (live 0 && tfree (suc j) t) _ (kept_back s.types (λ i. live (suc i)) suc j (suc j) (λ i q. lift_back 1 i j q) c)) d)) e) in
         omega (arith, b)
 
 pub fits_let : (d : KDecl) (t : KTm) (s : Scope) (n : ℕ) (cg : List CTy) (u : KTy) → KGives s.tcount s.types d u → Fits (λ i. occurs_t i (KLet d t)) (λ j. tfree_t j (KLet d t)) s n cg → Fits (λ i. occurs_t i t) (λ j. tfree_t j t) (with_decl d s) (after_one (opens d) n) (ctype (open_if (opens d) s).tvar (kd_type s.types d) ∷ cscope_more (opens d) cg)
@@ -103,15 +103,15 @@ fits_let d t s n cg u g h =
     (subst (KIn (after_one (opens d) s.tcount)) (sym (d_type d s.tcount s.types u g)) (d_in d s.tcount s.types u h.scoped g)) h.scoped
     (agreeT_fewer (λ i. occurs_t i (KLet d t)) (λ i. occurs_t (suc i) t) s.vars s.types s.tvar cg (λ i. or_right (occurs_d i d) (occurs_t (suc i) t)) h.agree)
     (λ j e. h.below j (
-      let T = tfree_t (after_one (opens d) j) t in
-      or_split T ((occurs_t 0 t && tfree (after_one (opens d) j) (kd_type s.types d)) || tfree_kept j (λ i. occurs_t (suc i) t) s.types)
-      (λ c. or_left (tfree_d j d || T) _ (or_right (tfree_d j d) T c))
-      (λ c. or_split (occurs_t 0 t && tfree (after_one (opens d) j) (kd_type s.types d)) (tfree_kept j (λ i. occurs_t (suc i) t) s.types)
-      (λ b. or_split (tfree_d j d) (tfree_kept j (λ i. occurs_d i d) s.types)
-      (λ a. or_left (tfree_d j d || T) _ (or_left (tfree_d j d) T a))
-      (λ a. or_right (tfree_d j d || T) _ (kept_fewer s.types (λ i. occurs_t i (KLet d t)) (λ i. occurs_d i d) j (λ i. or_left (occurs_d i d) (occurs_t (suc i) t)) a))
-      (d_free d s.types j (and_split (occurs_t 0 t) (tfree (after_one (opens d) j) (kd_type s.types d)) b).1))
-      (λ b. or_right (tfree_d j d || T) _ (kept_fewer s.types (λ i. occurs_t i (KLet d t)) (λ i. occurs_t (suc i) t) j (λ i. or_right (occurs_d i d) (occurs_t (suc i) t)) b)) c) e))
+    let T = tfree_t (after_one (opens d) j) t in
+    or_split T ((occurs_t 0 t && tfree (after_one (opens d) j) (kd_type s.types d)) || tfree_kept j (λ i. occurs_t (suc i) t) s.types)
+    (λ c. or_left (tfree_d j d || T) _ (or_right (tfree_d j d) T c))
+    (λ c. or_split (occurs_t 0 t && tfree (after_one (opens d) j) (kd_type s.types d)) (tfree_kept j (λ i. occurs_t (suc i) t) s.types)
+    (λ b. or_split (tfree_d j d) (tfree_kept j (λ i. occurs_d i d) s.types)
+    (λ a. or_left (tfree_d j d || T) _ (or_left (tfree_d j d) T a))
+    (λ a. or_right (tfree_d j d || T) _ (kept_fewer s.types (λ i. occurs_t i (KLet d t)) (λ i. occurs_d i d) j (λ i. or_left (occurs_d i d) (occurs_t (suc i) t)) a))
+    (d_free d s.types j (and_split (occurs_t 0 t) (tfree (after_one (opens d) j) (kd_type s.types d)) b).1))
+    (λ b. or_right (tfree_d j d || T) _ (kept_fewer s.types (λ i. occurs_t i (KLet d t)) (λ i. occurs_t (suc i) t) j (λ i. or_right (occurs_d i d) (occurs_t (suc i) t)) b)) c) e))
 
 -- under the names that a call makes
 pub fits_call : (live tlive : ℕ → Bool) (s : Scope) (n : ℕ) (cg : List CTy) (x y z : CTy) → Fits live tlive s n cg → Fits live tlive (in_call s) (suc n) (z ∷ y ∷ x ∷ crens_scope suc cg)

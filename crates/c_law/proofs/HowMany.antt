@@ -1,13 +1,11 @@
 -- The numbers of codes and choices.
-use Rattle.std.proofs.Common.{◌≡◌, ◌≤◌, ℕ, zero, suc, ◌+◌, Bool, true, false, List, [], ◌∷◌, ◌++◌, Option, Some, None, refl, ◌∙◌, arith}
+use Rattle.std.proofs.Common.{◌≡◌, ◌≤◌, ℕ, zero, suc, ◌+◌, Bool, true, false, [], ◌∷◌, Option, Some, None, refl, ◌∙◌, arith}
 use Rattle.c_law.specs.Places.{Places, place, kept_count}
 use Rattle.k_terms.specs.K.{KVal, KVar, KInt, KTuple, KCode, KVals, NoKVals, MoreKVals, KDecl, KName, KProj, KArith, KPack, KUnpack, KCell, KGet, KSet, KTm, KLet, KCall, KIf, KHalt, kcount, kv_next, kvs_next, kd_next, kt_next}
-use Rattle.k_terms.specs.Types.{kd_type}
 use Rattle.k_terms.specs.Size.{ksize_v, ksize_vs, ksize_d, ksize_t}
-use Rattle.c_terms.specs.C.{CVal, CVar, CInt, CTuple, CCode, CApply, CPack, CVals, NoCVals, MoreCVals, CName, CProj, CArith, CUnpack, CCell, CGet, CSet, CTm, CLet, CCall, CIf, CHalt, ccount, cv_next, ct_next}
+use Rattle.c_terms.specs.C.{CVal, CVals, NoCVals, CTm}
 use Rattle.c_law.specs.Close.{Scope, keeps, uses, var_value, pick_one, picked, projections, named, rebuilt, inner, with_decl, in_call, no_scope, close_v, close_vs, close_d, close_t, close_of}
 use Rattle.c_terms.specs.Size.{cifs_v, cifs_vs, cifs_d, cifs_t}
-use Rattle.c_law.proofs.Numbers.{t_next}
 
 -- how many choices stand in a term
 abbrev mutual

@@ -1,7 +1,7 @@
 -- What a property of types must be for the conversion to keep it.
 use Rattle.std.proofs.Common.{ℕ, zero, suc, ◌+◌, ◌≤◌, Bool, true, false, List, [], ◌∷◌, arith}
-use Rattle.term_core.specs.Ends.{lift, under, after_one}
-use Rattle.k_terms.specs.K.{KTy, KTys, TKCode, NoKTys, MoreKTys, KTm, kren, krens_scope, kargs_onto}
+use Rattle.term_core.specs.Ends.{lift, after_one}
+use Rattle.k_terms.specs.K.{KTy, KTys, TKCode, NoKTys, MoreKTys, KTm, kren}
 use Rattle.c_terms.specs.C.{CTy, CTys, TCVar, TCTuple, TCCode, NoCTys, MoreCTys}
 use Rattle.c_terms.specs.Each.{CProp, CAll}
 use Rattle.c_law.specs.Close.{ctype, ctypes, rank, picked_tvars, pick_type, env_type}

@@ -13,3 +13,5 @@ pub mod BothTypings
 pub mod BodySizes
 pub mod HowMany
 pub mod Fits
+pub mod Closing
+pub mod Closed

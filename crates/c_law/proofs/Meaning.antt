@@ -1,5 +1,5 @@
 -- The program after the conversion does what the program before it does.
-use Rattle.std.proofs.Common.{pos, ◌≡◌, ℕ, zero, suc, Bool, true, false, ◌||◌, nat_eq, ◌&&◌, [], ◌∷◌, Option, Some, None, refl, sym, ap, ◌∙◌, subst, subst₂, ap₂, arith, eq-eqb, eqb-true}
+use Rattle.std.proofs.Common.{◌≡◌, ℕ, zero, suc, Bool, true, false, ◌||◌, nat_eq, ◌&&◌, [], ◌∷◌, Option, Some, None, refl, sym, ap, ◌∙◌, subst, subst₂, ap₂, arith, eq-eqb, eqb-true}
 use Rattle.std.proofs.Math.Dec.{eqb-suc-suc}
 use Rattle.idx_core.specs.Arith.{is_zero}
 use Rattle.term_core.specs.Ends.{if_fits, pick, lift, Result, enters, End, Halted, Spent, Stuck}

@@ -1,15 +1,15 @@
 -- The reach of types under renamings and the conversion.
-use Rattle.std.proofs.Common.{◌≡◌, ◌≤◌, ℕ, zero, suc, ◌+◌, Bool, true, false, List, [], ◌∷◌, refl, ap, ap₂, arith}
+use Rattle.std.proofs.Common.{◌≡◌, ◌≤◌, ℕ, suc, ◌+◌, Bool, true, false, List, [], ◌∷◌, refl, ap, ap₂, arith}
 use Rattle.std.specs.Prelude.{max}
-use Rattle.term_core.specs.Ends.{lift, under, after_one}
-use Rattle.k_terms.specs.K.{KTy, KTys, TKInt, TKVar, TKTuple, TKCode, TKSome, TKRef, NoKTys, MoreKTys, KTm, kren, krens, krens_scope, kargs_onto}
+use Rattle.term_core.specs.Ends.{under}
+use Rattle.k_terms.specs.K.{KTy, KTys, TKInt, TKVar, TKTuple, TKCode, TKSome, TKRef, NoKTys, MoreKTys, KTm, kren, krens}
 use Rattle.c_terms.specs.C.{CTy, CTys, TCVar, TCTuple, TCCode, NoCTys, MoreCTys}
 use Rattle.k_terms.specs.Reach.{kreach, kreaches, kbinds, kbinds_all}
-use Rattle.c_terms.specs.Each.{CProp, CAll}
+use Rattle.c_terms.specs.Each.{CProp}
 use Rattle.c_terms.specs.Reach.{creach, creaches, cbinds, cbinds_all}
-use Rattle.c_law.proofs.Kept.{Have, HaveAll, IsKept, lift_le}
+use Rattle.c_law.proofs.Kept.{Have, HaveAll, IsKept}
 use Rattle.c_terms.specs.Reach.{CWithin}
-use Rattle.c_law.specs.Close.{env_type, keeps, ctype, ctypes, rank, picked_tvars, pick_type, picked_types}
+use Rattle.c_law.specs.Close.{env_type, keeps, ctype, ctypes, pick_type, picked_types}
 
 mutual
   pub reach_ctype : (t : KTy) (r : ℕ → ℕ) → creach (ctype r t) ≡ kreach t

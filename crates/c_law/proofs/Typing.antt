@@ -6,10 +6,10 @@ use Rattle.term_core.specs.Ends.{lift, under, after_one}
 use Rattle.k_terms.specs.K.{KTy, KTys, TKInt, TKVar, TKTuple, TKCode, TKSome, TKRef, NoKTys, MoreKTys, KVal, KVar, KInt, KTuple, KCode, KVals, NoKVals, MoreKVals, KDecl, KName, KProj, KArith, KPack, KUnpack, KCell, KGet, KSet, KTm, KLet, KCall, KIf, KHalt, kcount, kren, krens_scope, kargs_onto, kbody_scope, opens, scope_more}
 use Rattle.c_law.specs.Free.{tfree, tfrees, tfree_v, tfree_vs, tfree_t, occurs_v, occurs_vs, occurs_t}
 use Rattle.k_terms.specs.Types.{kv_type, kd_type}
-use Rattle.c_terms.specs.C.{CTy, CTys, TCVar, TCTuple, TCCode, TCSome, TCRef, NoCTys, MoreCTys, CVal, CVar, CTuple, NoCVals, MoreCVals, CTm, ccount, TCInt, CVals}
+use Rattle.c_terms.specs.C.{CTy, CTys, TCVar, TCTuple, TCCode, TCSome, TCRef, NoCTys, MoreCTys, CVal, CVar, CTuple, NoCVals, MoreCVals, CTm, ccount, CVals}
 use Rattle.k_terms.specs.Typing.{KIns, KGood, kscons, ksub, ksubs, knames, KAt}
 use Rattle.c_terms.specs.Typing.{CAt, CField, cup, csubs, scons, names, cargs_onto, crens_scope}
-use Rattle.c_law.specs.Close.{Scope, ctype, ctypes, rank, picked_tvars, pick_type, picked_types, picked, tfree_kept, keeps, uses, named, tkeeps, env_type, closure, outside, inner, rebuilt, projections, closed_args, closed_code, with_var, with_decl, opened, in_call, no_scope, close_v, close_vs, close_t, close_of, var_value, pick_one}
+use Rattle.c_law.specs.Close.{Scope, ctype, ctypes, rank, picked_tvars, pick_type, picked_types, picked, tfree_kept, keeps, uses, named, tkeeps, env_type, closure, outside, inner, rebuilt, projections, closed_args, closed_code, with_decl, in_call, no_scope, close_v, close_vs, close_t, close_of, var_value, pick_one}
 use Rattle.c_law.proofs.Envs.{or_left, or_right, lift_suc, lift_zero}
 use Rattle.c_law.proofs.Types.{gen_ctype, scons_gen, under_lift, cup_under, cup_lift, sub_ctypes, picked_names, kept_name, picked_count}
 use Rattle.c_law.proofs.TypeEnvs.{AgreeT, SameLength, ScopeIn, same_length, keep_type, kept_types, onto_kept, tsize, kept_tsize, kept_ccount, at_append, at_onto, gdrop, gdrop_append, kept_agreeT, ctypes_of, glength, kargs_append, cargs_of, kargs_length, args_agreeT, CVarAt, tdrop, tdrop_step}

@@ -1,5 +1,5 @@
 -- The free variables and the free type variables of terms, by index.
-use Rattle.std.specs.Prelude.{ℕ, suc, Bool, true, false, ◌||◌, nat_eq}
+use Rattle.std.specs.Prelude.{◌≡◌, ℕ, suc, Bool, true, false, ◌||◌, nat_eq}
 use Rattle.term_core.specs.Ends.{lift, after_one}
 use Rattle.k_terms.specs.K.{KTy, KTys, TKInt, TKVar, TKTuple, TKCode, TKSome, TKRef, NoKTys, MoreKTys, KVal, KVar, KInt, KTuple, KCode, KVals, NoKVals, MoreKVals, KDecl, KName, KProj, KArith, KPack, KUnpack, KCell, KGet, KSet, KTm, KLet, KCall, KIf, KHalt, kcount, opens}
 
@@ -72,3 +72,7 @@ abbrev mutual
   tfree_t j (KCall f ts vs) = tfree_v j f || (tfrees j ts || tfree_vs j vs)
   tfree_t j (KIf v t u) = tfree_v j v || (tfree_t j t || tfree_t j u)
   tfree_t j (KHalt v) = tfree_v j v
+
+-- no variable and no type variable is free
+abbrev pub IsClosed : KTm → Type 0
+IsClosed t = ((i : ℕ) → occurs_t i t ≡ true → ⊥) × ((j : ℕ) → tfree_t j t ≡ true → ⊥)

@@ -1,0 +1,17 @@
+pub mod Numbers
+pub mod Envs
+pub mod Rel
+pub mod Types
+pub mod TypeEnvs
+pub mod Ranges
+pub mod Meaning
+pub mod Fitting
+pub mod Kept
+pub mod ReachLaws
+pub mod Typing
+pub mod BothTypings
+pub mod BodySizes
+pub mod HowMany
+pub mod Fits
+pub mod Closing
+pub mod Closed

@@ -1,0 +1,4 @@
+pub mod Places
+pub mod Free
+pub mod Close
+pub mod Laws

@@ -1,0 +1,4 @@
+pub mod Emit
+pub mod Sweep
+pub mod Know
+pub mod TSweep

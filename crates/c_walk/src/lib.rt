@@ -1,0 +1,2 @@
+//! Closure conversion as walks along the nodes of a term.
+#![tactic(auto)]

@@ -1,3 +1,4 @@
 pub mod C
 pub mod Meaning
 pub mod Typing
+pub mod Each

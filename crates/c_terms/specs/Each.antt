@@ -1,9 +1,10 @@
 -- Typing of the closed calculus where each type that is written, or that typing gives to a value or a name, has a property.
-use Rattle.std.specs.Prelude.{◌≡◌, ◌≤◌, ◌+◌, ℕ, suc, List, [], ◌∷◌, max}
+use Rattle.std.specs.Prelude.{◌≡◌, ℕ, suc, List, [], ◌∷◌}
 use Rattle.term_core.specs.Ends.{lift}
-use Rattle.c_terms.specs.C.{CApply, CArith, CCall, CCell, CCode, CGet, CHalt, CIf, CInt, CLet, CName, CPack, CProj, CSet, CTm, CTuple, CTy, CTys, CUnpack, CVal, CVals, CVar, MoreCTys, MoreCVals, NoCTys, NoCVals, TCCode, TCInt, TCRef, TCSome, TCTuple, TCVar, ccount}
-use Rattle.c_terms.specs.Typing.{CAt, CField, CIn, CIns, cargs_onto, crens_scope, csub, csubs, cup, names, scons}
+use Rattle.c_terms.specs.C.{CTy, CTys, TCInt, TCVar, TCTuple, TCCode, TCSome, TCRef, NoCTys, MoreCTys, CVal, CVar, CInt, CTuple, CCode, CApply, CPack, CVals, NoCVals, MoreCVals, CName, CProj, CArith, CUnpack, CCell, CGet, CSet, CTm, CLet, CCall, CIf, CHalt, ccount}
+use Rattle.c_terms.specs.Typing.{CIn, CIns, CAt, CField, cup, csub, csubs, scons, names, cargs_onto, crens_scope}
 
+-- a property of types under n names
 abbrev pub CProp : Type 1
 CProp = ℕ → CTy → Type 0
 
@@ -35,34 +36,3 @@ abbrev mutual
   CGoodP P n g (CCall f ts vs) = (us : CTys) × CHasP P n g f (TCCode (ccount ts) us) × CIns n ts × CAll P n ts × CHaveP P n g vs (csubs (names ts TCVar) us)
   CGoodP P n g (CIf v t u) = CHasP P n g v TCInt × CGoodP P n g t × CGoodP P n g u
   CGoodP P n g (CHalt v) = CHasP P n g v TCInt
-
--- the greatest number of constructs open at one place of the image, each brace counted twice
-abbrev mutual
-  pub creach : CTy → ℕ
-  creach TCInt = 0
-  creach (TCVar i) = 0
-  creach (TCTuple ts) = suc (creaches ts)
-  creach (TCCode n ts) = suc (suc (creaches ts))
-  creach (TCSome t) = suc (creach t)
-  creach (TCRef t) = suc (creach t)
-
-  pub creaches : CTys → ℕ
-  creaches NoCTys = 0
-  creaches (MoreCTys t ts) = max (creach t) (creaches ts)
-
--- the greatest number of type names bound around one place
-abbrev mutual
-  pub cbinds : CTy → ℕ
-  cbinds TCInt = 0
-  cbinds (TCVar i) = 0
-  cbinds (TCTuple ts) = cbinds_all ts
-  cbinds (TCCode n ts) = n + cbinds_all ts
-  cbinds (TCSome t) = suc (cbinds t)
-  cbinds (TCRef t) = cbinds t
-
-  pub cbinds_all : CTys → ℕ
-  cbinds_all NoCTys = 0
-  cbinds_all (MoreCTys t ts) = max (cbinds t) (cbinds_all ts)
-
-abbrev pub CWithin : (names reach binds : ℕ) → CProp
-CWithin names reach binds n t = (n ≤ names) × (creach t ≤ reach) × (cbinds t ≤ binds)

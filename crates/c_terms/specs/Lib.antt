@@ -1,4 +1,11 @@
 pub mod C
+pub mod Walks
+pub mod TyLaws
 pub mod Meaning
 pub mod Typing
 pub mod Each
+pub mod Reach
+pub mod Size
+pub mod Bound
+pub mod Puts
+pub mod Laws

@@ -1,4 +1,3 @@
-pub mod Puts
 pub mod Sound
 pub mod Each
 pub mod Mono

@@ -1,7 +1,8 @@
 -- Typing with a property is typing with any weaker one.
 use Rattle.std.proofs.Common.{◌≤◌, ℕ, suc, List, [], ◌∷◌, arith}
 use Rattle.c_terms.specs.C.{CTy, CTys, MoreCTys, NoCTys, TCInt, TCRef, TCSome, TCTuple}
-use Rattle.c_terms.specs.Each.{CAll, CProp, CWithin}
+use Rattle.c_terms.specs.Each.{CAll, CProp}
+use Rattle.c_terms.specs.Reach.{CWithin}
 use Rattle.c_terms.specs.Typing.{cargs_onto, crens_scope}
 use Rattle.h_terms.specs.Bound.{HFits}
 use Rattle.h_terms.specs.Each.{AllGoodP, HGoodP, HHasP, HHaveP, HProgramP}

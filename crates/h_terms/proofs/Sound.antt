@@ -1,11 +1,11 @@
 -- A hoisted program that has a type is never stuck.
 use Rattle.std.proofs.Common.{◌≡◌, ℤ, ℕ, zero, suc, Bool, true, false, nat_eq, List, [], ◌∷◌, ◌++◌, Option, Some, None, refl, sym, ap, ◌∙◌, subst, subst₂, eq-eqb}
-use Rattle.idx_core.specs.Arith.{is_zero}
 use Rattle.idx_core.specs.declared.arith.Op.{Op}
+use Rattle.idx_core.specs.Arith.{is_zero}
 use Rattle.term_core.specs.Ends.{End, Halted, Result, Spent, Stuck, if_fits, lift, pick}
+use Rattle.c_terms.proofs.Putting.{cup_cup, names_sub, names_up, scons_sub, sub_ren, sub_sub, sub_up, subs_sub}
 use Rattle.c_terms.specs.C.{CTy, CTys, MoreCTys, NoCTys, TCCode, TCInt, TCRef, TCSome, TCTuple, TCVar, ccount}
 use Rattle.c_terms.specs.Typing.{CAt, CField, cargs_onto, cren, crens_scope, csub, csubs, cup, names, scons}
-use Rattle.h_terms.proofs.Puts.{cup_cup, names_sub, names_up, scons_sub, sub_ren, sub_sub, sub_up, subs_sub}
 use Rattle.h_terms.specs.H.{HApply, HArith, HBlk, HBlks, HCall, HCell, HGet, HHalt, HIf, HInt, HLabel, HLet, HName, HPack, HProj, HSet, HTm, HTuple, HUnpack, HVal, HVals, HVar, MoreHVals, NoHVals, block_at}
 use Rattle.h_terms.specs.Meaning.{HEnter, HFails, HGives, HMade, HWord, HWords, MoreHWords, NoHWords, YCell, YInt, YLabel, YTuple, hat, hat_zero, henter, hfield, hget, hgiven, hhalt_with, hheld, hhold, hone_more, honto, hopen, hoperate, hproject, hrun, hset, hsize, hterm, hv_value, hvs_value, hwith_value, with_block}
 use Rattle.h_terms.specs.Typing.{AllGood, HGood, HHas, HHave}

@@ -1,6 +1,6 @@
 -- Bounds on a hoisted program.
 use Rattle.std.specs.Prelude.{ℕ, ◌≤◌, ◌+◌, length}
-use Rattle.c_terms.specs.Each.{CWithin}
+use Rattle.c_terms.specs.Reach.{CWithin}
 use Rattle.h_terms.specs.Each.{HProgramP}
 use Rattle.h_terms.specs.H.{HBlks, HTm}
 use Rattle.h_terms.specs.Size.{HSmall, all_hifs, hifs_t}

@@ -1,7 +1,7 @@
 -- Laws of hoisted programs.
 use Rattle.std.specs.Prelude.{◌≢◌, ◌↔◌, ◌≤◌, ℕ}
 use Rattle.term_core.specs.Ends.{Stuck}
-use Rattle.c_terms.specs.Each.{CWithin}
+use Rattle.c_terms.specs.Reach.{CWithin}
 use Rattle.h_terms.specs.Bound.{HFits}
 use Rattle.h_terms.specs.Each.{HProgramP}
 use Rattle.h_terms.specs.H.{HBlks, HTm}

@@ -1,5 +1,5 @@
 use Rattle.h_terms.proofs.h_within_is_typed_law.Goals as goal
-use Rattle.c_terms.specs.Each.{CWithin}
+use Rattle.c_terms.specs.Reach.{CWithin}
 use Rattle.h_terms.proofs.Each.{plain_program}
 
 pub returns : goal.returns

@@ -1,0 +1,4 @@
+pub mod Each
+pub mod Mono
+pub mod Bridge
+pub mod Putting

@@ -2,3 +2,6 @@ pub mod Each
 pub mod Mono
 pub mod Bridge
 pub mod Putting
+pub mod Backs
+pub mod Scoping
+pub mod Held

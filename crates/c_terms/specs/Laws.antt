@@ -8,6 +8,9 @@ use Rattle.c_terms.specs.Each.{CGoodP}
 use Rattle.c_terms.specs.Reach.{CWithin}
 use Rattle.c_terms.specs.Bound.{CFits}
 use Rattle.c_terms.specs.Puts.{cput}
+use Rattle.c_terms.specs.Scope.{CScoped}
+use Rattle.c_terms.specs.Stream.{clin_t}
+use Rattle.c_terms.specs.Decode.{cdecode}
 
 -- typing is typing with the property that every type has
 abbrev pub TypedIsAny : Type 0
@@ -37,3 +40,14 @@ CPutIsPut = (n : ℕ) (s t : CTy) → cput n s t ≡ put n s t
 
 abbrev pub InIsBelow : Type 0
 InIsBelow = (n : ℕ) (t : CTy) → CIn n t ↔ Below n t
+
+-- the names of a typed term are in scope
+abbrev pub TypedIsScoped : Type 0
+TypedIsScoped = (t : CTm) → CGood 0 [] t → CScoped 0 t
+
+-- the nodes of a term in scope are read back
+abbrev pub ReadsBack : Type 0
+ReadsBack = (t : CTm) → CScoped 0 t → cdecode (clin_t 0 t []) ≡ t
+
+abbrev pub OneTerm : Type 0
+OneTerm = (t u : CTm) → CScoped 0 t → CScoped 0 u → clin_t 0 t [] ≡ clin_t 0 u [] → t ≡ u

@@ -8,4 +8,11 @@ pub mod Reach
 pub mod Size
 pub mod Bound
 pub mod Puts
+pub mod Stream
+pub mod Read
+pub mod Scope
+pub mod Decode
+pub mod Props
+pub mod Program
+pub mod Term
 pub mod Laws

@@ -1,39 +1,12 @@
-//! The closed calculus.
+//! The closed calculus: its types, its terms as flat streams of nodes, and its programs.
 #![tactic(auto)]
 
-ghost use Rattle.c_terms.specs.Laws.{TypedIsAny, WithinIsTyped, FitsMore, PutsExchange, LiftIsShift, FirstIsPut};
-ghost use Rattle.c_terms.specs.Laws.{CPutIsPut, InIsBelow};
-ghost use Rattle.c_terms.specs.Puts.{OneByOne};
+pub mod access;
+pub mod laws;
+pub mod node;
+pub mod program;
+pub mod types;
 
-/// Typing is typing with the property that every type has.
-pub fn typed_is_any_law()
-    ensures { TypedIsAny }
-{}
-
-/// Typing within bounds is typing.
-pub fn within_is_typed_law()
-    ensures { WithinIsTyped }
-{}
-
-/// Who keeps to a bound keeps to any larger one.
-pub fn fits_more_law()
-    ensures { FitsMore }
-{}
-
-/// Two puts exchange.
-pub fn puts_exchange()
-    ensures { PutsExchange }
-{}
-
-/// What typing calls lifting, putting and scope is shift, put and below.
-pub fn words_law()
-    ensures lifts { LiftIsShift }
-    ensures puts { FirstIsPut }
-    ensures one { CPutIsPut }
-    ensures scopes { InIsBelow }
-{}
-
-/// Types put one after the other are put at once.
-pub fn one_by_one_law()
-    ensures { OneByOne }
-{}
+pub use node::CNode;
+pub use program::CProgram;
+pub use types::CType;

@@ -2,6 +2,7 @@
 #![tactic(auto)]
 
 pub mod access;
+pub mod copying;
 pub mod laws;
 pub mod node;
 pub mod program;

@@ -1,3 +1,11 @@
 pub mod H
 pub mod Meaning
 pub mod Typing
+pub mod Each
+pub mod Size
+pub mod Bound
+pub mod Row
+pub mod Nodes
+pub mod Props
+pub mod Program
+pub mod Laws

@@ -1,0 +1,9 @@
+pub mod Bound
+pub mod Each
+pub mod Meaning
+pub mod SizeLaws
+pub mod Sizes
+pub mod Tree
+pub mod TreeLaws
+pub mod TypeLaws
+pub mod Typing

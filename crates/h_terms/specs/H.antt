@@ -3,7 +3,6 @@ use Rattle.std.specs.Prelude.{ℤ, ℕ, zero, suc, List, [], ◌∷◌, Option, 
 use Rattle.idx_core.specs.declared.arith.Op.{Op}
 use Rattle.c_terms.specs.C.{CTy, CTys}
 
-
 mutual
   pub data HVal : Type 0 where
     HVar : ℕ → HVal

@@ -7,4 +7,7 @@ pub mod Each
 pub mod Reach
 pub mod Size
 pub mod Bound
+pub mod Types
+pub mod Stream
+pub mod Read
 pub mod Laws

@@ -1,5 +1,5 @@
 -- What a term of the CPS calculus does. Types are not used.
-use Rattle.std.specs.Prelude.{ℤ, pos, ℕ, zero, suc, Bool, true, false, nat_eq, ◌&&◌, Option, Some, None}
+use Rattle.std.specs.Prelude.{ℤ, pos, ℕ, zero, suc, nat_eq, ◌&&◌, Option, Some, None}
 use Rattle.idx_core.specs.declared.arith.Op.{Op}
 use Rattle.idx_core.specs.Arith.{compute, is_zero}
 use Rattle.term_core.specs.Ends.{if_fits, pick, Halted, Spent, Stuck, Result, stops, enters}

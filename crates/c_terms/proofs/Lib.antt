@@ -1,0 +1,7 @@
+pub mod Each
+pub mod Mono
+pub mod Bridge
+pub mod Putting
+pub mod Backs
+pub mod Scoping
+pub mod Held

@@ -1,0 +1,5 @@
+use Rattle.h_pass.proofs.hoist_meaning_law.Goals as goal
+use Rattle.h_pass.proofs.Hoisting.{hoist_kept}
+
+pub returns : goal.returns
+returns c = hoist_kept

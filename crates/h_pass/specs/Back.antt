@@ -1,0 +1,94 @@
+-- Each code put back for its label, and inside the code its own name.
+use Rattle.std.specs.Prelude.{◌≡◌, pos, ℕ, zero, suc, Bool, true, false, nat_eq, List, [], ◌∷◌, ◌++◌}
+use Rattle.c_terms.specs.C.{CApply, CArith, CCall, CCell, CCode, CDecl, CGet, CHalt, CIf, CInt, CLet, CName, CPack, CProj, CSet, CTm, CTuple, CUnpack, CVal, CVals, CVar, MoreCVals, NoCVals, ccount}
+use Rattle.h_terms.specs.H.{HApply, HArith, HBlks, HCall, HCell, HDecl, HGet, HHalt, HIf, HInt, HLabel, HLet, HName, HPack, HProj, HSet, HTm, HTuple, HUnpack, HVal, HVals, HVar, MoreHVals, NoHVals}
+use Rattle.h_pass.specs.Hoist.{Code, Nobody, Own}
+
+-- the code of a label, where the list begins with label b
+abbrev pub code_at : ℕ → List CVal → ℕ → CVal
+code_at b [] l = CInt (pos 0)
+code_at zero (v ∷ vs) zero = v
+code_at zero (v ∷ vs) (suc l) = code_at zero vs l
+code_at (suc b) (v ∷ vs) zero = CInt (pos 0)
+code_at (suc b) (v ∷ vs) (suc l) = code_at b (v ∷ vs) l
+
+abbrev pub if_own : Bool → CVal → CVal → CVal
+if_own true v w = v
+if_own false v w = w
+
+-- under d variables the name of the code around has index d
+abbrev pub name_or : Own → ℕ → ℕ → CVal → CVal
+name_or Nobody d l v = v
+name_or (Code b) d l v = if_own (nat_eq b l) (CVar d) v
+
+-- under d variables, where f gives the code of each label
+abbrev mutual
+  pub back_v : Own → ℕ → (ℕ → CVal) → HVal → CVal
+  back_v own d f (HVar i) = CVar i
+  back_v own d f (HInt n) = CInt n
+  back_v own d f (HLabel l) = name_or own d l (f l)
+  back_v own d f (HTuple vs) = CTuple (back_vs own d f vs)
+  back_v own d f (HApply v ts) = CApply (back_v own d f v) ts
+  back_v own d f (HPack h v s) = CPack h (back_v own d f v) s
+
+  pub back_vs : Own → ℕ → (ℕ → CVal) → HVals → CVals
+  back_vs own d f NoHVals = NoCVals
+  back_vs own d f (MoreHVals v vs) = MoreCVals (back_v own d f v) (back_vs own d f vs)
+
+abbrev pub back_d : Own → ℕ → (ℕ → CVal) → HDecl → CDecl
+back_d own d f (HName v) = CName (back_v own d f v)
+back_d own d f (HProj i v) = CProj i (back_v own d f v)
+back_d own d f (HArith op v w) = CArith op (back_v own d f v) (back_v own d f w)
+back_d own d f (HUnpack v) = CUnpack (back_v own d f v)
+back_d own d f (HCell v) = CCell (back_v own d f v)
+back_d own d f (HGet v) = CGet (back_v own d f v)
+back_d own d f (HSet v w) = CSet (back_v own d f v) (back_v own d f w)
+
+abbrev pub back_t : Own → ℕ → (ℕ → CVal) → HTm → CTm
+back_t own d f (HLet e t) = CLet (back_d own d f e) (back_t own (suc d) f t)
+back_t own d f (HCall g ts vs) = CCall (back_v own d f g) ts (back_vs own d f vs)
+back_t own d f (HIf v t u) = CIf (back_v own d f v) (back_t own d f t) (back_t own d f u)
+back_t own d f (HHalt v) = CHalt (back_v own d f v)
+
+-- the codes of the blocks from label b on: a body sees its own name and the codes of later blocks
+abbrev pub codes : ℕ → HBlks → List CVal
+codes b [] = []
+codes b (k ∷ ks) = CCode k.owes k.args (back_t (Code b) (ccount k.args) (code_at (suc b) (codes (suc b) ks)) k.body) ∷ codes (suc b) ks
+
+-- the closed term: each block's code stands for its label
+abbrev pub put_back : HBlks → HTm → CTm
+put_back ks t = back_t Nobody 0 (code_at 0 (codes 0 ks)) t
+
+-- the codes of a closed term, each before those inside it
+abbrev mutual
+  pub codes_v : CVal → List CVal
+  codes_v (CVar i) = []
+  codes_v (CInt n) = []
+  codes_v (CTuple vs) = codes_vs vs
+  codes_v (CCode owes args body) = CCode owes args body ∷ codes_t body
+  codes_v (CApply v ts) = codes_v v
+  codes_v (CPack h v s) = codes_v v
+
+  pub codes_vs : CVals → List CVal
+  codes_vs NoCVals = []
+  codes_vs (MoreCVals v vs) = codes_v v ++ codes_vs vs
+
+  pub codes_d : CDecl → List CVal
+  codes_d (CName v) = codes_v v
+  codes_d (CProj i v) = codes_v v
+  codes_d (CArith op v w) = codes_v v ++ codes_v w
+  codes_d (CUnpack v) = codes_v v
+  codes_d (CCell v) = codes_v v
+  codes_d (CGet v) = codes_v v
+  codes_d (CSet v w) = codes_v v ++ codes_v w
+
+  pub codes_t : CTm → List CVal
+  codes_t (CLet e t) = codes_d e ++ codes_t t
+  codes_t (CCall f ts vs) = codes_v f ++ codes_vs vs
+  codes_t (CIf v t u) = codes_v v ++ (codes_t t ++ codes_t u)
+  codes_t (CHalt v) = codes_v v
+
+-- a program is the hoisted form of a closed term: each code has one block of its own, the codes in order, and there is no other block;
+-- and each block's code put back for its label gives the term
+abbrev pub IsHoisted : HBlks → HTm → CTm → Type 0
+IsHoisted ks t closed = (codes 0 ks ≡ codes_t closed) × (put_back ks t ≡ closed)

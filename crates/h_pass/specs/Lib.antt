@@ -1,0 +1,4 @@
+pub mod Hoist
+pub mod Back
+pub mod Scoped
+pub mod Statements

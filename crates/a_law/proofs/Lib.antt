@@ -1,0 +1,6 @@
+mod CLaws
+mod Cells
+mod Meaning
+mod Rel
+mod Tuples
+mod Types

@@ -1,5 +1,0 @@
-use Rattle.c_terms.proofs.Mono.{fits_more}
-use Rattle.c_terms.proofs.fits_more_law.Goals as goal
-
-pub returns : goal.returns
-returns c = fits_more

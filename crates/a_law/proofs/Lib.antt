@@ -4,3 +4,4 @@ mod Meaning
 mod Rel
 mod Tuples
 mod Types
+mod Typing

@@ -1,0 +1,167 @@
+-- Hoisted values and allocated words; variables by level.
+use Rattle.std.proofs.Common.{pos, ◌≡◌, ◌<◌, ℕ, zero, suc, ◌-◌, List, [], ◌∷◌, ◌++◌, length, Option, Some, None, refl, ap, ◌∙◌, arith}
+use Rattle.std.specs.Prelude.{map, slice_get, slice_set}
+use Rattle.a_law.specs.Allocate.{v_next, val, vals, var_of}
+use Rattle.a_terms.specs.Meaning.{AHeap, AWord, ZInt, ZLabel, ZTuple, value, values, with_first}
+use Rattle.h_terms.specs.H.{HVal, HVals, MoreHVals, NoHVals}
+use Rattle.h_terms.specs.Meaning.{HWord, HWords, MoreHWords, NoHWords, YCell, YInt, YLabel, YTuple, hat, hheld, hsize}
+
+-- no cell has this address; m: the address of each cell, by place
+abbrev pub Apart : List ℕ → ℕ → Type 0
+Apart m a = (p : ℕ) → slice_get m p ≡ Some a → ⊥
+
+abbrev mutual
+  pub Rel : List ℕ → AHeap → HWord → AWord → Type 0
+  Rel m h (YInt n) w = w ≡ ZInt n
+  Rel m h (YTuple ys) w = (a : ℕ) × (ws : List AWord) × (w ≡ ZTuple a) × (slice_get h a ≡ Some (map Some ws)) × Apart m a × Rels m h ys ws
+  Rel m h (YLabel l) w = w ≡ ZLabel l
+  Rel m h (YCell p) w = (a : ℕ) × (w ≡ ZTuple a) × (slice_get m p ≡ Some a)
+
+  pub Rels : List ℕ → AHeap → HWords → List AWord → Type 0
+  Rels m h NoHWords ws = ws ≡ []
+  Rels m h (MoreHWords y ys) ws = (x : AWord) × (xs : List AWord) × (ws ≡ x ∷ xs) × Rel m h y x × Rels m h ys xs
+
+-- the heap grows, and nothing in it changes
+abbrev pub Grows : AHeap → AHeap → Type 0
+Grows h h2 = (a : ℕ) (fs : List (Option AWord)) → slice_get h a ≡ Some fs → slice_get h2 a ≡ Some fs
+
+-- the heap and the cells grow, and nothing but cells changes
+pub record Moves (m : List ℕ) (h : AHeap) (m2 : List ℕ) (h2 : AHeap) : Type 0 where
+  pub cells : (p a : ℕ) → slice_get m p ≡ Some a → slice_get m2 p ≡ Some a
+  pub tuples : (a : ℕ) (fs : List (Option AWord)) → slice_get h a ≡ Some fs → Apart m a → slice_get h2 a ≡ Some fs
+  pub apart : (a : ℕ) (fs : List (Option AWord)) → slice_get h a ≡ Some fs → Apart m a → Apart m2 a
+
+mutual
+  pub rel_moves : (y : HWord) (w : AWord) (m m2 : List ℕ) (h h2 : AHeap) → Moves m h m2 h2 → Rel m h y w → Rel m2 h2 y w
+  rel_moves (YInt n) w m m2 h h2 g r = r
+  rel_moves (YTuple ys) w m m2 h h2 g r =
+      (r.0, r.1, r.2, g.tuples r.0 (map Some r.1) r.3 r.4, g.apart r.0 (map Some r.1) r.3 r.4, rels_move ys r.1 m m2 h h2 g r.5)
+  rel_moves (YLabel l) w m m2 h h2 g r = r
+  rel_moves (YCell p) w m m2 h h2 g r = (r.0, r.1, g.cells p r.0 r.2)
+
+  pub rels_move : (ys : HWords) (ws : List AWord) (m m2 : List ℕ) (h h2 : AHeap) → Moves m h m2 h2 → Rels m h ys ws → Rels m2 h2 ys ws
+  rels_move NoHWords ws m m2 h h2 g r = r
+  rels_move (MoreHWords y ys) ws m m2 h h2 g r = (r.0, r.1, r.2, rel_moves y r.0 m m2 h h2 g r.3, rels_move ys r.1 m m2 h h2 g r.4)
+
+pub moves_grow : (m : List ℕ) (h h2 : AHeap) → Grows h h2 → Moves m h m h2
+moves_grow m h h2 g = record { cells = λ p a e. e; tuples = λ a fs e k. g a fs e; apart = λ a fs e k. k }
+
+pub moves_on : (m m2 m3 : List ℕ) (h h2 h3 : AHeap) → Moves m h m2 h2 → Moves m2 h2 m3 h3 → Moves m h m3 h3
+moves_on m m2 m3 h h2 h3 x y = record {
+  cells = λ p a e. y.cells p a (x.cells p a e);
+  tuples = λ a fs e k. y.tuples a fs (x.tuples a fs e k) (x.apart a fs e k);
+  apart = λ a fs e k. y.apart a fs (x.tuples a fs e k) (x.apart a fs e k);
+}
+
+pub rel_grows : (y : HWord) (w : AWord) (m : List ℕ) (h h2 : AHeap) → Grows h h2 → Rel m h y w → Rel m h2 y w
+rel_grows y w m h h2 g r = rel_moves y w m m h h2 (moves_grow m h h2 g) r
+
+pub rels_grow : (ys : HWords) (ws : List AWord) (m : List ℕ) (h h2 : AHeap) → Grows h h2 → Rels m h ys ws → Rels m h2 ys ws
+rels_grow ys ws m h h2 g r = rels_move ys ws m m h h2 (moves_grow m h h2 g) r
+
+-- each cell's address is one of the heap's
+abbrev pub Valid : List ℕ → AHeap → Type 0
+Valid m h = (p a : ℕ) → slice_get m p ≡ Some a → (fs : List (Option AWord)) × (slice_get h a ≡ Some fs)
+
+pub valid_grows : (m : List ℕ) (h h2 : AHeap) → Grows h h2 → Valid m h → Valid m h2
+valid_grows m h h2 g k p a e = let r = k p a e in (r.0, g a r.0 r.1)
+
+pub nth_end : {A : Type 0} (xs : List A) (x : A) → slice_get xs (length xs) ≡ Some x → ⊥
+nth_end [] x e = cc
+nth_end (y ∷ xs) x e = nth_end xs x e
+
+-- a new address
+pub fresh : (m : List ℕ) (h : AHeap) → Valid m h → Apart m (length h)
+fresh m h k p e = let r = k p (length h) e in nth_end h r.0 r.1
+
+-- the store: cell p holds what stands for place p's value
+pub record Stores (m : List ℕ) (h : AHeap) (st : HWords) : Type 0 where
+  pub long : length m ≡ hsize st
+  pub holds : (p : ℕ) (y : HWord) → hheld p st ≡ Some y → (a : ℕ) × (w : AWord) × (slice_get m p ≡ Some a) × (slice_get h a ≡ Some (Some w ∷ [])) × Rel m h y w
+  pub once : (p q a : ℕ) → slice_get m p ≡ Some a → slice_get m q ≡ Some a → p ≡ q
+
+-- x has level l among d
+abbrev pub At : {A : Type 0} → ℕ → List A → ℕ → A → Type 0
+At d xs l x = (l < d) × (slice_get xs (d - suc l) ≡ Some x)
+
+pub at_more : {A : Type 0} (d : ℕ) (xs : List A) (l : ℕ) (x y : A) → At d xs l x → At (suc d) (y ∷ xs) l x
+at_more d xs l x y a =
+    let e : d - l ≡ suc (d - suc l) = omega (arith, a.0) in
+    let f : suc d - suc l ≡ suc (d - suc l) = omega (arith, a.0) in
+    let b : l < suc d = omega (arith, a.0) in
+    (b, ap (slice_get (y ∷ xs)) f ∙ a.1)
+
+pub at_new : {A : Type 0} (d : ℕ) (xs : List A) (y : A) → At (suc d) (y ∷ xs) d y
+at_new d xs y =
+    let f : suc d - suc d ≡ 0 = omega arith in
+    let b : d < suc d = omega arith in
+    (b, ap (slice_get (y ∷ xs)) f)
+
+-- every level's word stays
+abbrev pub Later : {A : Type 0} → ℕ → List A → ℕ → List A → Type 0
+Later {A} d xs d2 xs2 = (l : ℕ) (x : A) → At d xs l x → At d2 xs2 l x
+
+abbrev pub Agree : List ℕ → AHeap → ℕ → List ℕ → HWords → List AWord → Type 0
+Agree m h d [] NoHWords env = Unit {0}
+Agree m h d [] (MoreHWords y ys) env = ⊥
+Agree m h d (l ∷ ls) NoHWords env = ⊥
+Agree m h d (l ∷ ls) (MoreHWords y ys) env = ((w : AWord) × Rel m h y w × At d env l w) × Agree m h d ls ys env
+
+pub agree_later : (ls : List ℕ) (ys : HWords) (m m2 : List ℕ) (h h2 : AHeap) (d d2 : ℕ) (env env2 : List AWord) → Moves m h m2 h2 → Later d env d2 env2 → Agree m h d ls ys env → Agree m2 h2 d2 ls ys env2
+agree_later [] NoHWords m m2 h h2 d d2 env env2 g k a = tt
+agree_later [] (MoreHWords y ys) m m2 h h2 d d2 env env2 g k a = absurd a
+agree_later (l ∷ ls) NoHWords m m2 h h2 d d2 env env2 g k a = absurd a
+agree_later (l ∷ ls) (MoreHWords y ys) m m2 h h2 d d2 env env2 g k a =
+    ((a.0.0, rel_moves y a.0.0 m m2 h h2 g a.0.1, k l a.0.0 a.0.2), agree_later ls ys m m2 h h2 d d2 env env2 g k a.1)
+
+-- what is left of a value reads w, from depth d on
+abbrev pub Read : List ℕ → ℕ → HVal → AWord → ℕ → List AWord → Type 0
+Read ls e v w d env = (d3 : ℕ) (env3 : List AWord) → Later d env d3 env3 → value env3 (val ls e d3 v) ≡ Some w
+
+abbrev pub Reads : List ℕ → ℕ → HVals → List AWord → ℕ → List AWord → Type 0
+Reads ls e NoHVals [] d env = Unit {0}
+Reads ls e NoHVals (w ∷ ws) d env = ⊥
+Reads ls e (MoreHVals v vs) [] d env = ⊥
+Reads ls e (MoreHVals v vs) (w ∷ ws) d env = Read ls e v w d env × Reads ls (v_next e v) vs ws d env
+
+pub reads_later : (vs : HVals) (ws : List AWord) (ls : List ℕ) (e d d2 : ℕ) (env env2 : List AWord) → Later d env d2 env2 → Reads ls e vs ws d env → Reads ls e vs ws d2 env2
+reads_later NoHVals [] ls e d d2 env env2 k r = tt
+reads_later NoHVals (w ∷ ws) ls e d d2 env env2 k r = absurd r
+reads_later (MoreHVals v vs) [] ls e d d2 env env2 k r = absurd r
+reads_later (MoreHVals v vs) (w ∷ ws) ls e d d2 env env2 k r =
+    (λ d3 env3 q. r.0 d3 env3 (λ l x a. q l x (k l x a)), reads_later vs ws ls (v_next e v) d d2 env env2 k r.1)
+
+pub all_read : (vs : HVals) (ws : List AWord) (ls : List ℕ) (e d : ℕ) (env : List AWord) → Reads ls e vs ws d env → values env (vals ls e d vs) ≡ Some ws
+all_read NoHVals [] ls e d env r = refl
+all_read NoHVals (w ∷ ws) ls e d env r = absurd r
+all_read (MoreHVals v vs) [] ls e d env r = absurd r
+all_read (MoreHVals v vs) (w ∷ ws) ls e d env r =
+    ap (λ o. with_first o (values env (vals ls (v_next e v) d vs))) (r.0 d env (λ l x a. a)) ∙ ap (with_first (Some w)) (all_read vs ws ls (v_next e v) d env r.1)
+
+pub var_read : (m : List ℕ) (h : AHeap) (ls : List ℕ) (ys : HWords) (i d : ℕ) (env : List AWord) → Agree m h d ls ys env → (w : AWord) × Rel m h (hat ys i) w × ((d3 : ℕ) (env3 : List AWord) → Later d env d3 env3 → value env3 (var_of d3 (slice_get ls i)) ≡ Some w)
+var_read m h [] NoHWords i d env a = (ZInt (pos 0), refl, λ d3 env3 k. refl)
+var_read m h [] (MoreHWords y ys) i d env a = absurd a
+var_read m h (l ∷ ls) NoHWords i d env a = absurd a
+var_read m h (l ∷ ls) (MoreHWords y ys) zero d env a = (a.0.0, a.0.1, λ d3 env3 k. (k l a.0.0 a.0.2).1)
+var_read m h (l ∷ ls) (MoreHWords y ys) (suc i) d env a = var_read m h ls ys i d env a.1
+
+-- lists
+pub nth_seam : {A : Type 0} (xs ys : List A) (y : A) (i : ℕ) → i ≡ length xs → slice_get (xs ++ y ∷ ys) i ≡ Some y
+nth_seam [] ys y zero e = refl
+nth_seam [] ys y (suc i) e = absurd (omega arith)
+nth_seam (x ∷ xs) ys y zero e = absurd (omega arith)
+nth_seam (x ∷ xs) ys y (suc i) e = nth_seam xs ys y i (omega arith)
+
+pub put_seam : {A : Type 0} (xs ys : List A) (y z : A) (i : ℕ) → i ≡ length xs → slice_set (xs ++ y ∷ ys) i z ≡ xs ++ z ∷ ys
+put_seam [] ys y z zero e = refl
+put_seam [] ys y z (suc i) e = absurd (omega arith)
+put_seam (x ∷ xs) ys y z zero e = absurd (omega arith)
+put_seam (x ∷ xs) ys y z (suc i) e = ap (λ q. x ∷ q) (put_seam xs ys y z i (omega arith))
+
+pub nth_more : {A : Type 0} (xs ys : List A) (i : ℕ) (x : A) → slice_get xs i ≡ Some x → slice_get (xs ++ ys) i ≡ Some x
+nth_more [] ys i x e = absurd (impossible e)
+  where
+    impossible : None ≡ Some x → ⊥
+    impossible q = cc
+nth_more (z ∷ xs) ys zero x e = e
+nth_more (z ∷ xs) ys (suc i) x e = nth_more xs ys i x e

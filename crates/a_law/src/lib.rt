@@ -1,0 +1,2 @@
+//! Allocation on plain trees, and what it keeps.
+#![tactic(auto)]

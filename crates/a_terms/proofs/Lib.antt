@@ -1,0 +1,5 @@
+mod Closing
+mod Parts
+mod Rows
+mod Sound
+mod Trees

@@ -1,0 +1,7 @@
+use Rattle.std.proofs.Common.{◌∙◌}
+use Rattle.idx_core.specs.Laws.{shift_zero_law}
+use Rattle.a_terms.specs.TreeLaws.{a_types_over}
+use Rattle.a_terms.proofs.walks.copies.Goals as goal
+
+pub returns : goal.returns
+returns c = c.in_ok-made.ensures ∙ shift_zero_law a_types_over 0 _

@@ -1,0 +1,14 @@
+pub mod Arity
+pub mod Bound
+pub mod Each
+pub mod Laws
+pub mod Meaning
+pub mod NodeTrees
+pub mod Read
+pub mod Row
+pub mod SizeLaws
+pub mod Sizes
+pub mod Tree
+pub mod TreeLaws
+pub mod TypeLaws
+pub mod Typing

@@ -1,0 +1,183 @@
+-- Typing of allocated programs: the type of a value is computed, and the rest is checked.
+use Rattle.std.specs.Prelude.{◌≡◌, ℕ, zero, suc, List, [], ◌∷◌, true, false, Bool, Option, Some, None, slice_get, map}
+use Rattle.a_terms.specs.Tree.{ATy, AInt, AVar, ATuple, ACode, AExists, ATys, NoATys, MoreATys, AFields, NoAFields, MoreAFields, AVal, Var, Num, Lab, Data, Apply, Pack, ADecl, Value, Proj, Arith, Unpack, Malloc, Init, ATm, Let, Call, If0, Halt, ABlk, AConst, AConsts, AProg, ashift, aput, aput_types, ABelow, ABelow-types}
+
+-- code applied to types, the first name first
+abbrev pub aapply : ATy → ATys → Option ATy
+aapply s NoATys = Some s
+aapply AInt (MoreATys t ts) = None
+aapply (AVar n) (MoreATys t ts) = None
+aapply (ATuple fs) (MoreATys t ts) = None
+aapply (ACode zero us) (MoreATys t ts) = None
+aapply (ACode (suc n) us) (MoreATys t ts) = aapply (ACode n (aput_types n (ashift n 0 t) us)) ts
+aapply (AExists u) (MoreATys t ts) = None
+
+abbrev pub afield_type : AFields → ℕ → Option ATy
+afield_type NoAFields i = None
+afield_type (MoreAFields t f fs) zero = Some t
+afield_type (MoreAFields t f fs) (suc i) = afield_type fs i
+
+abbrev pub afield_flag : AFields → ℕ → Bool
+afield_flag NoAFields i = false
+afield_flag (MoreAFields t f fs) zero = f
+afield_flag (MoreAFields t f fs) (suc i) = afield_flag fs i
+
+abbrev pub afilled : AFields → ℕ → AFields
+afilled NoAFields i = NoAFields
+afilled (MoreAFields t f fs) zero = MoreAFields t true fs
+afilled (MoreAFields t f fs) (suc i) = MoreAFields t f (afilled fs i)
+
+abbrev pub aunset : ATys → AFields
+aunset NoATys = NoAFields
+aunset (MoreATys t ts) = MoreAFields t false (aunset ts)
+
+abbrev pub code_type : Option ABlk → Option ATy
+code_type None = None
+code_type (Some b) = Some (ACode b.owes b.args)
+
+-- the fields of a data tuple, all initialised
+abbrev pub data_fields : AConsts → AFields
+data_fields [] = NoAFields
+data_fields (c ∷ cs) = MoreAFields c.kind true (data_fields cs)
+
+abbrev pub data_type : Option AConsts → Option ATy
+data_type None = None
+data_type (Some x) = Some (ATuple (data_fields x))
+
+abbrev pub applied : Option ATy → ATys → Option ATy
+applied None ts = None
+applied (Some s) ts = aapply s ts
+
+-- the type of a value, where the types of the variables are g
+abbrev pub type_of : AProg → List ATy → AVal → Option ATy
+type_of p g (Var n) = slice_get g n
+type_of p g (Num i) = Some AInt
+type_of p g (Lab l) = code_type (slice_get p.blocks l)
+type_of p g (Data n) = data_type (slice_get p.tuples n)
+type_of p g (Apply v ts) = applied (type_of p g v) ts
+type_of p g (Pack h v s) = Some s
+
+-- what a value's typing checks besides
+abbrev pub Fine : AProg → ℕ → List ATy → AVal → Type 0
+Fine p k g (Var n) = Unit {0}
+Fine p k g (Num i) = Unit {0}
+Fine p k g (Lab l) = Unit {0}
+Fine p k g (Data n) = Unit {0}
+Fine p k g (Apply v ts) = Fine p k g v × ABelow-types k ts
+Fine p k g (Pack h v s) = (u : ATy) × Fine p k g v × ABelow k h × ABelow k s × (s ≡ AExists u) × (type_of p g v ≡ Some (aput 0 h u))
+
+-- under k type variables
+pub record Has (p : AProg) (k : ℕ) (g : List ATy) (v : AVal) (t : ATy) : Type 0 where
+  pub fine : Fine p k g v
+  pub is : type_of p g v ≡ Some t
+
+abbrev pub or_int : Option ATy → ATy
+or_int None = AInt
+or_int (Some t) = t
+
+abbrev pub field_of : ℕ → Option ATy → ATy
+field_of i None = AInt
+field_of i (Some AInt) = AInt
+field_of i (Some (AVar n)) = AInt
+field_of zero (Some (ATuple fs)) = AInt
+field_of (suc i) (Some (ATuple fs)) = or_int (afield_type fs i)
+field_of i (Some (ACode n ts)) = AInt
+field_of i (Some (AExists t)) = AInt
+
+abbrev pub body_of : Option ATy → ATy
+body_of None = AInt
+body_of (Some AInt) = AInt
+body_of (Some (AVar n)) = AInt
+body_of (Some (ATuple fs)) = AInt
+body_of (Some (ACode n ts)) = AInt
+body_of (Some (AExists t)) = t
+
+abbrev pub filled_of : ℕ → Option ATy → ATy
+filled_of i None = AInt
+filled_of i (Some AInt) = AInt
+filled_of i (Some (AVar n)) = AInt
+filled_of zero (Some (ATuple fs)) = AInt
+filled_of (suc i) (Some (ATuple fs)) = ATuple (afilled fs i)
+filled_of i (Some (ACode n ts)) = AInt
+filled_of i (Some (AExists t)) = AInt
+
+-- the types of the variables after a declaration
+abbrev pub declared : AProg → List ATy → ADecl → List ATy
+declared p g (Value v) = or_int (type_of p g v) ∷ g
+declared p g (Proj i v) = field_of i (type_of p g v) ∷ g
+declared p g (Arith o v w) = AInt ∷ g
+declared p g (Unpack v) = body_of (type_of p g v) ∷ map (ashift 1 0) g
+declared p g (Malloc ts) = ATuple (aunset ts) ∷ g
+declared p g (Init v i w) = filled_of i (type_of p g v) ∷ g
+
+abbrev pub more_vars : ADecl → ℕ → ℕ
+more_vars (Value v) k = k
+more_vars (Proj i v) k = k
+more_vars (Arith o v w) k = k
+more_vars (Unpack v) k = suc k
+more_vars (Malloc ts) k = k
+more_vars (Init v i w) k = k
+
+abbrev pub Decl-ok : AProg → ℕ → List ATy → ADecl → Type 0
+Decl-ok p k g (Value v) = (t : ATy) × Has p k g v t
+Decl-ok p k g (Proj i v) = (fs : AFields) × (j : ℕ) × (t : ATy) × Has p k g v (ATuple fs) × (i ≡ suc j) × (afield_type fs j ≡ Some t) × (afield_flag fs j ≡ true)
+Decl-ok p k g (Arith o v w) = Has p k g v AInt × Has p k g w AInt
+Decl-ok p k g (Unpack v) = (t : ATy) × Has p k g v (AExists t)
+Decl-ok p k g (Malloc ts) = ABelow-types k ts
+Decl-ok p k g (Init v i w) = (fs : AFields) × (j : ℕ) × (t : ATy) × Has p k g v (ATuple fs) × Has p k g w t × (i ≡ suc j) × (afield_type fs j ≡ Some t)
+
+abbrev pub All-have : AProg → ℕ → List ATy → List AVal → ATys → Type 0
+All-have p k g [] NoATys = Unit {0}
+All-have p k g [] (MoreATys t ts) = ⊥
+All-have p k g (v ∷ vs) NoATys = ⊥
+All-have p k g (v ∷ vs) (MoreATys t ts) = Has p k g v t × All-have p k g vs ts
+
+abbrev pub Term-ok : AProg → ℕ → List ATy → ATm → Type 0
+Term-ok p k g (Let x e) = Decl-ok p k g x × Term-ok p (more_vars x k) (declared p g x) e
+Term-ok p k g (Call v ts vs) = (s : ATy) × (us : ATys) × Has p k g v s × ABelow-types k ts × (aapply s ts ≡ Some (ACode 0 us)) × All-have p k g vs us
+Term-ok p k g (If0 v a b) = Has p k g v AInt × Term-ok p k g a × Term-ok p k g b
+Term-ok p k g (Halt v) = Has p k g v AInt
+
+abbrev pub types_of : ATys → List ATy → List ATy
+types_of NoATys g = g
+types_of (MoreATys t ts) g = types_of ts (t ∷ g)
+
+-- blocks under the types that they owe and their arguments
+abbrev pub Blocks-ok : AProg → List ABlk → Type 0
+Blocks-ok p [] = Unit {0}
+Blocks-ok p (b ∷ bs) = (ABelow-types b.owes b.args × Term-ok p b.owes (types_of b.args []) b.body) × Blocks-ok p bs
+
+-- no pack in it
+abbrev pub Unpacked : AVal → Type 0
+Unpacked (Var n) = Unit {0}
+Unpacked (Num i) = Unit {0}
+Unpacked (Lab l) = Unit {0}
+Unpacked (Data n) = Unit {0}
+Unpacked (Apply v ts) = Unpacked v
+Unpacked (Pack h v s) = ⊥
+
+-- no pack inside a pack
+abbrev pub Flat : AVal → Type 0
+Flat (Var n) = Unit {0}
+Flat (Num i) = Unit {0}
+Flat (Lab l) = Unit {0}
+Flat (Data n) = Unit {0}
+Flat (Apply v ts) = Flat v
+Flat (Pack h v s) = Unpacked v
+
+-- a data tuple's values are typed under no variable and no type variable
+abbrev pub Const-ok : AProg → AConst → Type 0
+Const-ok p c = Has p 0 [] c.value c.kind × ABelow 0 c.kind × Flat c.value
+
+abbrev pub Data-ok : AProg → AConsts → Type 0
+Data-ok p [] = Unit {0}
+Data-ok p (c ∷ cs) = Const-ok p c × Data-ok p cs
+
+abbrev pub Tuples-ok : AProg → List AConsts → Type 0
+Tuples-ok p [] = Unit {0}
+Tuples-ok p (x ∷ xs) = Data-ok p x × Tuples-ok p xs
+
+pub record Program-ok (p : AProg) (main : ATm) : Type 0 where
+  pub blocks : Blocks-ok p p.blocks
+  pub tuples : Tuples-ok p p.tuples
+  pub main_ok : Term-ok p 0 [] main

@@ -4,7 +4,7 @@ use Rattle.f_lexer.specs.declared.token.Token.{Token}
 use Rattle.f_grammar.specs.Raw.{Piece}
 use Rattle.f_grammar.specs.Grammar.{E}
 use Rattle.text_core.specs.Table.{Verdict, bounded, whole}
-use Rattle.text_core.specs.Shapes.{Says}
+use Rattle.text_core.specs.Verdicts.{Says}
 use Rattle.text_core.proofs.Claims.{Sound, Claims}
 use Rattle.text_core.proofs.Rules.{Rules, claims_of, exact_by}
 use Rattle.text_core.proofs.Unique as unique

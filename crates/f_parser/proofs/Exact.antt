@@ -3,7 +3,7 @@ use Rattle.std.specs.Prelude.{Result, Ok, Err, MatchResult, IsErrAnd}
 use Rattle.std.proofs.Common.{◌≡◌, ◌≢◌, ◌≤◌, ◌<◌, arith, ℕ, List, [], ◌∷◌, length, refl, sym, ◌∙◌, ap, subst}
 use Rattle.idx_core.specs.declared.span.Span.{Span}
 use Rattle.text_core.specs.Table.{Verdict, Fine, Unexpected, Passed}
-use Rattle.text_core.specs.Shapes.{IsFine, Says}
+use Rattle.text_core.specs.Verdicts.{IsFine, Says}
 use Rattle.f_terms.specs.declared.fault.Code.{Code}
 use Rattle.f_terms.specs.declared.fault.Code.TheVariants as code
 use Rattle.f_terms.specs.declared.fault.FFault.{FFault}

@@ -3,7 +3,7 @@ use Rattle.std.specs.Prelude.{codes}
 use Rattle.std.proofs.Common.{◌≡◌, ◌≢◌, ℕ, List, [], ◌∷◌, ◌<◌, pos, refl, ap, arith, lit≤, lit<, false}
 use Rattle.idx_core.specs.declared.span.Span.{Span}
 use Rattle.text_core.specs.Tokens.{c_end, c_gap, c_token}
-use Rattle.text_core.specs.Shapes.{Says}
+use Rattle.text_core.specs.Verdicts.{Says}
 use Rattle.text_core.specs.Table.{Fine, Unexpected}
 use Rattle.text_core.proofs.Items.{some_next}
 use Rattle.f_terms.specs.declared.fault.Code.TheVariants.{E03, E04, E05}

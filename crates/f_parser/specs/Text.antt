@@ -1,7 +1,7 @@
 -- Which text stands for which term, and the first fault of a text.
 use Rattle.std.specs.Prelude.{◌≡◌, ◌≤◌, ◌<◌, ℕ, List, [], length}
 use Rattle.idx_core.specs.declared.span.Span.{Span}
-use Rattle.text_core.specs.Shapes.{NonePasses, IsUnexpected, IsCutShort, IsPassed}
+use Rattle.text_core.specs.Shapes.{Grammar, NonePasses, IsUnexpected, IsCutShort, IsPassed}
 use Rattle.f_terms.specs.declared.fault.Code.{Code}
 use Rattle.f_terms.specs.declared.fault.Code.TheVariants as code
 use Rattle.f_terms.specs.declared.fault.FFault.{FFault}
@@ -12,9 +12,12 @@ use Rattle.f_terms.specs.Scope.{IsClosed}
 use Rattle.f_lexer.specs.declared.token.Token.{Token}
 use Rattle.f_lexer.specs.Source.{IsCut, FirstTokenFault}
 use Rattle.f_grammar.specs.Raw.{Piece, nodes, place_of}
-use Rattle.f_grammar.specs.Grammar.{E}
-use Rattle.f_grammar.specs.Machine.{table}
+use Rattle.f_grammar.specs.Grammar.{E, open_E}
 use Rattle.f_parser.specs.Scope.{TermOf, Use, uses, IsFirstUnbound, unbound_code}
+
+-- the grammar of expressions, with the number of constructs that are open at each token
+abbrev pub source_grammar : Grammar
+source_grammar = record { Tok = Token; Tree = Piece; Shape = λ w t. E w t; opens = λ w t e. open_E e 0 }
 
 -- the text is cut into these tokens, they are an expression of the grammar, and the term is that expression with its
 -- names bound, where no name is in scope around it
@@ -31,7 +34,7 @@ FewBytes text = length text ≤ 1048576
 
 -- L2: at each token so many constructs are open at most
 abbrev pub FewOpen : List Token → Type 0
-FewOpen w = NonePasses table 200 w
+FewOpen w = NonePasses source_grammar 200 w
 
 -- the text stands for the term, within the limits on bytes, on open constructs and on nodes
 pub record SourceWithin (text : List ℕ) (tm : Tm) : Type 0 where
@@ -66,11 +69,11 @@ pub data FirstFault (text : List ℕ) : Code → Span → Type 0 where
   -- E01 and E02, whichever comes first: a byte that begins no token, a number out of range
   no_token : {c : Code} {s : Span} → FewBytes text → FirstTokenFault text c s → FirstFault text c s
   -- E03, E04 and L2, whichever comes first. E03: the tokens before t begin a shape, and with it none
-  unexpected : {w : List Token} (u : List Token) (t : Token) (z : List Token) → HasTokens text w → IsUnexpected table 200 w u t z → FirstFault text code.E03 t.span
+  unexpected : {w : List Token} (u : List Token) (t : Token) (z : List Token) → HasTokens text w → IsUnexpected source_grammar 200 w u t z → FirstFault text code.E03 t.span
   -- E04: all tokens begin a shape, and are none
-  cut_short : {w : List Token} → HasTokens text w → IsCutShort table 200 w → FirstFault text code.E04 (end_of text)
+  cut_short : {w : List Token} → HasTokens text w → IsCutShort source_grammar 200 w → FirstFault text code.E04 (end_of text)
   -- L2: the tokens up to and with t begin a shape, and too many constructs are open at t
-  too_deep : {w : List Token} (u : List Token) (t : Token) (z : List Token) → HasTokens text w → IsPassed table 200 w u t z → FirstFault text code.L2 t.span
+  too_deep : {w : List Token} (u : List Token) (t : Token) (z : List Token) → HasTokens text w → IsPassed source_grammar 200 w u t z → FirstFault text code.L2 t.span
   -- L3: too many nodes
   too_large : (p : Piece) → HasShape text p → 1000 < nodes p.tree → FirstFault text code.L3 (place_of p.tree)
   -- E05 and E06, whichever comes first: a value name, a type name that has no binder around it

@@ -1,15 +1,13 @@
--- The blocks of a program: how many they are, with and without their places.
+-- The blocks and the data of a program: how many they are.
 use Rattle.std.proofs.Common.{◌≡◌, suc, List, [], ◌∷◌, length, refl, ap}
-use Rattle.t_terms.specs.Tree.{TBlock}
-use Rattle.t_terms.specs.Spanned.{plain_blocks}
-use Rattle.t_terms.specs.Read.{block, spanned_blocks, blocks_of}
+use Rattle.t_terms.specs.Read.{blocks_of, data_of}
 use Rattle.t_terms.specs.declared.block.Block.{Block}
+use Rattle.t_terms.specs.declared.data.Data.{Data}
 
 pub blocks_count : (bs : List Block) → length (blocks_of bs) ≡ length bs
 blocks_count [] = refl
 blocks_count (b ∷ bs) = ap suc (blocks_count bs)
 
--- the plain blocks of a program, by its blocks with their places
-pub plain_spanned : (bs : List Block) → plain_blocks (spanned_blocks bs) ≡ blocks_of bs
-plain_spanned [] = refl
-plain_spanned (b ∷ bs) = ap (λ (P : List TBlock). block b ∷ P) (plain_spanned bs)
+pub data_count : (xs : List Data) → length (data_of xs) ≡ length xs
+data_count [] = refl
+data_count (x ∷ xs) = ap suc (data_count xs)

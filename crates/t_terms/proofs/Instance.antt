@@ -4,7 +4,7 @@ use Rattle.t_terms.specs.declared.token.Token.{Token}
 use Rattle.t_terms.specs.Raw.{RawBlock}
 use Rattle.t_terms.specs.Grammar.{Program}
 use Rattle.text_core.specs.Table.{Verdict, bounded, whole}
-use Rattle.text_core.specs.Shapes.{Says}
+use Rattle.text_core.specs.Verdicts.{Says}
 use Rattle.text_core.proofs.Claims.{Sound, Claims}
 use Rattle.text_core.proofs.Unique as unique
 use Rattle.t_terms.specs.Machine.{table, Val, LProgram}

@@ -1,10 +1,11 @@
+mod TextRows
 pub mod Blocks
 pub mod BodyWalks
 pub mod Complete
 pub mod Filling
 pub mod Instance
+pub mod Nested
 pub mod Rows
 pub mod TextExact
-mod TextRows
 pub mod TokenLaws
 pub mod Worked

@@ -3,20 +3,21 @@ use Rattle.std.proofs.Common.{◌≡◌, ℕ, List, [], ◌∷◌, ◌++◌, len
 use Rattle.idx_core.specs.declared.span.Span.{Span}
 use Rattle.text_core.specs.Tokens.{Reason, FirstWrong}
 use Rattle.text_core.specs.Table.{Verdict, Fine, Unexpected, Passed}
-use Rattle.text_core.specs.Shapes.{NonePasses, Says}
+use Rattle.text_core.specs.Shapes.{NonePasses}
+use Rattle.text_core.specs.Verdicts.{Says}
 use Rattle.text_core.proofs.Once as once
 use Rattle.text_core.proofs.Places.{same_span}
 use Rattle.t_terms.specs.declared.fault.TCode.{TCode}
 use Rattle.t_terms.specs.declared.fault.TCode.TheVariants.{T03, M1}
 use Rattle.t_terms.specs.declared.token.Token.{Token}
-use Rattle.t_terms.specs.Spanned.{SBlock}
+use Rattle.t_terms.specs.Spanned.{SProg}
 use Rattle.t_terms.specs.Tokens.{assembly, IsCut}
 use Rattle.t_terms.specs.Raw.{RawBlock}
-use Rattle.t_terms.specs.Grammar.{Program}
+use Rattle.t_terms.specs.Grammar.{Program, assembly_grammar}
 use Rattle.t_terms.specs.Machine.{table, OfBlocks}
 use Rattle.t_terms.specs.Names.{program_of}
 use Rattle.t_terms.specs.NameFaults.{program_faults}
-use Rattle.t_terms.specs.Text.{most_open, ReadsAs, code_of, FirstFault, in_tokens, unexpected, cut_short, too_deep, in_names, OneProgram, ProgramOrFault, FaultOrProgram, OneFault}
+use Rattle.t_terms.specs.Text.{most_open, ReadsAs, code_of, FirstFault, in_tokens, unexpected, cut_short, too_deep, in_names, AtMostOneProgram, NoFaultWhereRead, NoProgramWhereFaulty, AtMostOneFault}
 use Rattle.t_terms.proofs.TokenLaws.{assembly_signs}
 use Rattle.t_terms.proofs.Instance.{one_tree, one_verdict}
 
@@ -27,8 +28,8 @@ one_cut text w v x y = once.one_cut assembly assembly_signs x v y
 same_raw : (text : List ℕ) {w v : List Token} {a b : List RawBlock} → IsCut text w → IsCut text v → Program w a → Program v b → a ≡ b
 same_raw text {w} {v} {a} x y p q = one_tree (subst (λ (u : List Token). Program u a) (one_cut text w v x y) p) q
 
-pub one_program : OneProgram
-one_program text P Q a b = a.is ∙ (ap (program_of text) (same_raw text a.cut b.cut a.shape b.shape) ∙ sym b.is)
+pub at_most_one_program : AtMostOneProgram
+at_most_one_program text P Q a b = a.is ∙ (ap (program_of text) (same_raw text a.cut b.cut a.shape b.shape) ∙ sym b.is)
 
 -- what a verdict on the tokens shows of a fault
 abbrev Shows : List ℕ → List Token → Verdict table → TCode → Span → Type 0
@@ -43,7 +44,7 @@ data Stage (text : List ℕ) : TCode → Span → Type 0 where
   s_tokens : {span : Span} (why : Reason) → FirstWrong assembly text why span.start span.end → Stage text (code_of why) span
   s_cut : {code : TCode} {span : Span} (w : List Token) (v : Verdict table) → IsCut text w → Says table most_open w v → Shows text w v code span → Stage text code span
 
-fine : {w : List Token} {raw : List RawBlock} → Program w raw → NonePasses table most_open w → Says table most_open w (Fine (OfBlocks raw ∷ []))
+fine : {w : List Token} {raw : List RawBlock} → Program w raw → NonePasses assembly_grammar most_open w → Says table most_open w (Fine (OfBlocks raw ∷ []))
 fine {raw} p n = record { value = raw; shape = p; is = refl; within = n }
 
 stage : {text : List ℕ} {code : TCode} {span : Span} → FirstFault text code span → Stage text code span
@@ -82,14 +83,14 @@ same_stage (s_cut w v x s e) (s_tokens {span} why f) = absurd (no_wrong {span = 
 same_stage {text} (s_cut {code} {span} w v x s e) (s_cut u v' y t f) =
     same_names text v' x y (subst (λ (z : Verdict table). Shows text w z code span) (same_verdict x y s t) e) f
 
-pub one_fault : OneFault
-one_fault text code code' span span' f h = same_stage (stage f) (stage h)
+pub at_most_one_fault : AtMostOneFault
+at_most_one_fault text code code' span span' f h = same_stage (stage f) (stage h)
 
 -- what a program excludes
-no_stage : {text : List ℕ} {P : List SBlock} {code : TCode} {span : Span} → ReadsAs text P → Stage text code span → ⊥
+no_stage : {text : List ℕ} {P : SProg} {code : TCode} {span : Span} → ReadsAs text P → Stage text code span → ⊥
 no_stage r (s_tokens {span} why f) = no_wrong {span = span} r.stands.cut f
 no_stage {text} r (s_cut {code} {span} w v x s e) =
-    let n = subst (λ (y : List Token). NonePasses table most_open y) (one_cut text r.within.0 r.stands.tokens r.within.1 r.stands.cut) r.within.2 in
+    let n = subst (λ (y : List Token). NonePasses assembly_grammar most_open y) (one_cut text r.within.0 r.stands.tokens r.within.1 r.stands.cut) r.within.2 in
     none v (same_verdict x r.stands.cut s (fine r.stands.shape n)) e
   where
     none : (v : Verdict table) → v ≡ Fine (OfBlocks r.stands.raw ∷ []) → Shows text w v code span → ⊥
@@ -99,16 +100,16 @@ no_stage {text} r (s_cut {code} {span} w v x s e) =
     none (Unexpected c) q p = cc
     none (Passed c) q p = cc
 
-pub program_or_fault : ProgramOrFault
-program_or_fault text P code span r f = no_stage r (stage f)
+pub no_fault_where_read : NoFaultWhereRead
+no_fault_where_read text P code span r f = no_stage r (stage f)
 
-pub fault_or_program : FaultOrProgram
-fault_or_program text P _ span (in_tokens why f) m s = no_wrong {span = span} s.cut f
-fault_or_program text P _ _ (unexpected {w} {u} {c} {z} x f) m s =
+pub no_program_where_faulty : NoProgramWhereFaulty
+no_program_where_faulty text P _ span (in_tokens why f) m s = no_wrong {span = span} s.cut f
+no_program_where_faulty text P _ _ (unexpected {w} {u} {c} {z} x f) m s =
     let q : s.tokens ≡ (u ++ c ∷ []) ++ z = one_cut text s.tokens w s.cut x ∙ (f.place ∙ sym (append_assoc u (c ∷ []) z)) in
     f.with_it (z, (s.raw, subst (λ (y : List Token). Program y s.raw) q s.shape))
-fault_or_program text P _ _ (cut_short {w} x f) m s = f.none (s.raw, subst (λ (y : List Token). Program y s.raw) (one_cut text s.tokens w s.cut x) s.shape)
-fault_or_program text P _ _ (too_deep x f) m s = m refl
-fault_or_program text P code span (in_names {raw} {rest} x p n e) m s =
+no_program_where_faulty text P _ _ (cut_short {w} x f) m s = f.none (s.raw, subst (λ (y : List Token). Program y s.raw) (one_cut text s.tokens w s.cut x) s.shape)
+no_program_where_faulty text P _ _ (too_deep x f) m s = m refl
+no_program_where_faulty text P code span (in_names {raw} {rest} x p n e) m s =
     let g : program_faults text raw ≡ program_faults text s.raw = ap (program_faults text) (same_raw text x s.cut p s.shape) in
     let h : (code, span) ∷ rest ≡ [] = sym e ∙ (g ∙ s.named) in cc

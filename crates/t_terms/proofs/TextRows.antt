@@ -4,7 +4,7 @@ use Rattle.idx_core.specs.declared.arith.Op.TheVariants.{Add, Sub, Mul}
 use Rattle.t_types.specs.Tree.{IntTy, VarTy, CodeTy, ExistsTy, TupleTy, NoRegs, MoreRegs, NoFields, MoreFields}
 use Rattle.t_terms.specs.declared.fault.TCode.TheVariants.{T01, T02, T03, T04, T05, T06, T07, M1}
 use Rattle.t_terms.specs.Tree.{Reg, Int, Label, Plain, Pack, Arith, Bnz, Ld, Malloc, Mov, St, Unpack, Jmp, Halt, TBlock, Then, Ends}
-use Rattle.t_terms.specs.Spanned.{SBlock, plain_blocks}
+use Rattle.t_terms.specs.Spanned.{SProg, plain_program}
 use Rattle.t_terms.specs.Text.{ReadsAs, FirstFault}
 use Rattle.t_terms.proofs.Worked.{Answer, Stand, Fault, Open, answer, reads, faulty}
 
@@ -12,8 +12,11 @@ use Rattle.t_terms.proofs.Worked.{Answer, Stand, Fault, Open, answer, reads, fau
 abbrev jump_text : List ℕ
 jump_text = codes "tal 1\nL0: code[]{}. jmp L0"
 
-abbrev jumps : List SBlock
-jumps = record { name = record { start = 6; end = 8 }; owes = 0; file = NoRegs; body = []; last = Jmp (Plain (Label 0) []); last_span = record { start = 20; end = 26 } } ∷ []
+abbrev jumps : SProg
+jumps = record {
+  blocks = record { name = record { start = 6; end = 8 }; owes = 0; file = NoRegs; body = []; last = Jmp (Plain (Label 0) []); last_span = record { start = 20; end = 26 } } ∷ [];
+  heap = [];
+}
 
 jump : ReadsAs jump_text jumps
 jump = reads _ _ refl
@@ -63,7 +66,7 @@ reserved = faulty _ _ _ _ refl
 
 -- the program that an answer shows
 abbrev shown : Answer → List TBlock
-shown (Stand P) = plain_blocks P
+shown (Stand P) = (plain_program P).blocks
 shown (Fault code span) = []
 shown Open = []
 

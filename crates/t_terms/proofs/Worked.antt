@@ -1,26 +1,29 @@
 -- Working out what a text stands for, or its first fault.
-use Rattle.std.proofs.Common.{◌≡◌, ℕ, zero, suc, ◌+◌, pos, negsuc, ◌&&◌, nat_le, List, [], ◌∷◌, length, drop, Bool, true, false, if◌then◌else◌, refl, subst, arith}
+use Rattle.std.proofs.Common.{◌≡◌, ◌≢◌, ◌<◌, ◌≤◌, ◌⊎◌, inl, inr, ℕ, zero, suc, ◌+◌, pos, negsuc, ◌&&◌, nat_le, List, [], ◌∷◌, length, drop, Bool, true, false, if◌then◌else◌, refl, subst, arith}
 use Rattle.std.proofs.lemmas.Bool.{leb-true, leb-false, and_parts}
 use Rattle.std.proofs.lemmas.Int.{ints}
+use Rattle.std.proofs.lemmas.List.{length-drop}
 use Rattle.idx_core.specs.declared.span.Span.{Span}
-use Rattle.text_core.specs.Tokens.{Item, Gap, Spelling, Nothing, Next, Cut, c_end, c_gap, c_token, Reaches, r_here, r_gap, r_token, Reason, NoToken, OutOfRange, Wrong, w_none, w_bounds}
+use Rattle.text_core.specs.Tokens.{Tokens, Item, Gap, Spelling, Nothing, Next, n_gap, n_spelling, n_nothing, Cut, c_end, c_gap, c_token, Reaches, r_here, r_gap, r_token, Reason, NoToken, OutOfRange, Wrong, w_none, w_bounds}
 use Rattle.text_core.specs.Lexeme.{item}
 use Rattle.text_core.specs.Table.{Verdict, Fine, Unexpected, Passed, bounded, whole}
-use Rattle.text_core.specs.Shapes.{Says}
+use Rattle.text_core.specs.Shapes.{NonePasses}
+use Rattle.text_core.specs.Verdicts.{Says}
+use Rattle.text_core.proofs.Once.{gap_long, spelling_long}
 use Rattle.text_core.proofs.Items.{some_next}
 use Rattle.t_terms.specs.declared.fault.TCode.{TCode}
 use Rattle.t_terms.specs.declared.fault.TCode.TheVariants.{T03, M1}
 use Rattle.t_terms.specs.declared.token.Kind.{Kind}
 use Rattle.t_terms.specs.declared.token.Kind.TheVariants as k
 use Rattle.t_terms.specs.declared.token.Token.{Token}
-use Rattle.t_terms.specs.Spanned.{SBlock}
+use Rattle.t_terms.specs.Spanned.{SProg}
 use Rattle.t_terms.specs.Tokens.{assembly, IsCut, Keeps}
 use Rattle.t_terms.specs.Raw.{RawBlock}
-use Rattle.t_terms.specs.Grammar.{Program}
+use Rattle.t_terms.specs.Grammar.{Program, assembly_grammar}
 use Rattle.t_terms.specs.Machine.{table, OfBlocks}
 use Rattle.t_terms.specs.Names.{program_of}
 use Rattle.t_terms.specs.NameFaults.{program_faults}
-use Rattle.t_terms.specs.Text.{most_open, ReadsAs, code_of, FirstFault, in_tokens, unexpected, cut_short, too_deep, in_names}
+use Rattle.t_terms.specs.Text.{most_open, ReadsAs, code_of, FirstFault, in_tokens, unexpected, cut_short, too_deep, in_names, ProgramOrFault}
 use Rattle.t_terms.proofs.TokenLaws.{assembly_signs}
 use Rattle.t_terms.proofs.Instance.{assembly_exact}
 
@@ -104,7 +107,7 @@ tells (suc steps) i (b ∷ s) = at (λ n. tells steps (i + n) (drop n (b ∷ s))
 
 -- what a text stands for, or its first fault
 pub data Answer : Type 0 where
-  Stand : List SBlock → Answer
+  Stand : SProg → Answer
   Fault : TCode → Span → Answer
   Open : Answer
 
@@ -157,8 +160,60 @@ is_answer text = of_tokens (cut_in (length text) 0 text) (tells (length text) 0 
     of_tokens (Bad why a b) (r, n, x, y, e) = in_tokens why (record { rest = r; length = n; reached = x; wrong = y; ends = e })
     of_tokens Unfinished h = tt
 
-pub reads : (text : List ℕ) (P : List SBlock) → answer text ≡ Stand P → ReadsAs text P
+pub reads : (text : List ℕ) (P : SProg) → answer text ≡ Stand P → ReadsAs text P
 reads text P e = subst (λ (x : Answer). IsAnswer text x) e (is_answer text)
 
 pub faulty : (text : List ℕ) (code : TCode) (start end : ℕ) → answer text ≡ Fault code (record { start = start; end = end }) → FirstFault text code (record { start = start; end = end })
 faulty text code start end e = subst (λ (x : Answer). IsAnswer text x) e (is_answer text)
+
+-- each text is read or has a first fault
+abbrev Decided : List ℕ → Type 0
+Decided text = ((P : SProg) × ReadsAs text P) ⊎ ((code : TCode) × (span : Span) × FirstFault text code span)
+
+-- an item takes a byte at least, so the cutting ends
+taken : (g : Tokens) {s : List ℕ} {x : Item g.Kind} → Next g s x → ((n : ℕ) → x ≡ Gap n → 0 < n) × ((k : g.Kind) (n : ℕ) → x ≡ Spelling k n → 0 < n)
+taken g (n_gap {u} {r} h) = (λ n e. let l = gap_long u r h in let same : length u ≡ n = cc in omega (arith, same), λ k n e. absurd (cc))
+taken g (n_spelling {u} {r} {k} m l) =
+    (λ n e. absurd (cc), λ j n e. let o = spelling_long g u k l.spells in let same : length u ≡ n = cc in omega (arith, same))
+taken g (n_nothing z m f) = (λ n e. absurd (cc), λ k n e. absurd (cc))
+
+finished : (steps i : ℕ) (s : List ℕ) → length s ≤ steps → cut_in steps i s ≢ Unfinished
+finished steps i [] le = λ e. cc
+finished zero i (b ∷ s) le = absurd (omega arith)
+finished (suc steps) i (b ∷ s) le =
+    at (λ n lt. finished steps (i + n) (drop n (b ∷ s)) (omega (arith, length-drop n (b ∷ s)))) (item assembly (b ∷ s)) (taken assembly (some_next assembly assembly_signs b s))
+  where
+    kept : (t : Token) (x : Tokenized) → x ≢ Unfinished → then_token t x ≢ Unfinished
+    kept t (All w) h = λ e. cc
+    kept t (Bad why j k) h = λ e. cc
+    kept t Unfinished h = λ e. h refl
+
+    at : ((n : ℕ) → 0 < n → cut_in steps (i + n) (drop n (b ∷ s)) ≢ Unfinished) → (x : Item Kind) →
+        ((n : ℕ) → x ≡ Gap n → 0 < n) × ((k : Kind) (n : ℕ) → x ≡ Spelling k n → 0 < n) →
+        by_item (λ n. cut_in steps (i + n) (drop n (b ∷ s))) i x ≢ Unfinished
+    at f (Gap n) t = f n (t.0 n refl)
+    at f (Spelling k n) t = by_bounds (keeps k)
+      where
+        by_bounds : (y : Bool) → (if y then then_token (record { kind = k; span = record { start = i; end = i + n } }) (cut_in steps (i + n) (drop n (b ∷ s))) else Bad OutOfRange i (i + n)) ≢ Unfinished
+        by_bounds true = kept _ _ (f n (t.1 k n refl))
+        by_bounds false = λ e. cc
+    at f Nothing t = λ e. cc
+
+pub program_or_fault : ProgramOrFault
+program_or_fault text = of_tokens (cut_in (length text) 0 text) (tells (length text) 0 text) (finished (length text) 0 text (omega arith))
+  where
+    named : (w : List Token) (raw : List RawBlock) → IsCut text w → Program w raw → NonePasses assembly_grammar most_open w → (fs : List (TCode × Span)) → program_faults text raw ≡ fs → Decided text
+    named w raw c p n [] e = inl (program_of text raw, record { stands = record { tokens = w; cut = c; raw = raw; shape = p; named = e; is = refl }; within = (w, c, n) })
+    named w raw c p n (f ∷ rest) e = inr (f.0, f.1, in_names c p n e)
+
+    of_verdict : (w : List Token) → IsCut text w → (v : Verdict table) → Says table most_open w v → Decided text
+    of_verdict w c (Fine vs) h = named w h.value c h.shape h.within (program_faults text h.value) refl
+    of_verdict w c (Unexpected []) h = inr (T03, _, cut_short c h)
+    of_verdict w c (Unexpected (t ∷ z)) (u, h) = inr (T03, t.span, unexpected c h)
+    of_verdict w c (Passed []) h = absurd h
+    of_verdict w c (Passed (t ∷ z)) (u, h) = inr (M1, t.span, too_deep c h)
+
+    of_tokens : (x : Tokenized) → Tells 0 text x → x ≢ Unfinished → Decided text
+    of_tokens (All w) h f = of_verdict w h (bounded table most_open w (whole table w)) (assembly_exact most_open w)
+    of_tokens (Bad why a b) (r, n, x, y, e) f = inr (code_of why, record { start = a; end = b }, in_tokens why (record { rest = r; length = n; reached = x; wrong = y; ends = e }))
+    of_tokens Unfinished h f = absurd (f refl)

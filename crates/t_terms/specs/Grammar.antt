@@ -4,6 +4,7 @@ use Rattle.std.specs.Prelude.{ℕ, ℤ, pos, suc, nat_abs, Bool, true, false, Li
 use Rattle.idx_core.specs.declared.span.Span.{Span}
 use Rattle.idx_core.specs.declared.arith.Op.{Op}
 use Rattle.idx_core.specs.declared.arith.Op.TheVariants.{Add, Sub, Mul}
+use Rattle.text_core.specs.Shapes.{Grammar}
 use Rattle.t_terms.specs.declared.token.Kind.{Kind}
 use Rattle.t_terms.specs.declared.token.Kind.TheVariants as k
 use Rattle.t_terms.specs.declared.token.Token.{Token}
@@ -206,3 +207,7 @@ open_Blocks (bs_more x y) d = open_Blocks x d ++ open_Block y d
 
 abbrev pub open_Program : {w : List Token} {bs : List RawBlock} → Program w bs → ℕ → List ℕ
 open_Program (p_program t n x) d = d ∷ (d ∷ open_Blocks x d)
+
+-- the grammar of assembly texts, with the number of constructs that are open at each token
+abbrev pub assembly_grammar : Grammar
+assembly_grammar = record { Tok = Token; Tree = List RawBlock; Shape = λ w t. Program w t; opens = λ w t e. open_Program e 0 }

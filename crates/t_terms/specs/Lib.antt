@@ -3,8 +3,10 @@ pub mod Laws
 pub mod Machine
 pub mod NameFaults
 pub mod Names
+pub mod Nesting
 pub mod Raw
 pub mod Read
+pub mod ReadProgram
 pub mod Shapes
 pub mod Spanned
 pub mod SpannedLaws

@@ -1,12 +1,12 @@
 -- What is wrong with the names and registers of a text, in its order.
-use Rattle.std.specs.Prelude.{ℕ, nat_eq, not, if◌then◌else◌, Bool, List, [], ◌∷◌, ◌++◌}
+use Rattle.std.specs.Prelude.{ℕ, nat_eq, not, is_none, if◌then◌else◌, Bool, List, [], ◌∷◌, ◌++◌}
 use Rattle.std.specs.List.{list_any}
 use Rattle.idx_core.specs.declared.span.Span.{Span}
 use Rattle.idx_core.specs.Names.{Name}
 use Rattle.t_terms.specs.declared.fault.TCode.{TCode}
 use Rattle.t_terms.specs.declared.fault.TCode.TheVariants.{T04, T05, T06, T07}
 use Rattle.t_terms.specs.Raw.{RawTy, RInt, RName, RCode, RSome, RTuple, RawRegs, NoRawRegs, MoreRawRegs, RawFields, NoRawFields, MoreRawFields, RawBase, RReg, RNum, RLabel, RawValue, RPlain, RPack, RawInstr, RArith, RBnz, RLd, RMalloc, RMov, RSt, RUnpack, RawEnd, RJmp, RHalt, RawBlock}
-use Rattle.t_terms.specs.Names.{spelled, is_among, bind, names_after, names_after_all, labels_of}
+use Rattle.t_terms.specs.Names.{Labels, spelled, is_among, bind, named_by, names_after, names_after_all, labels_of}
 
 -- a fault at a place, where there is one
 abbrev pub only_if : Bool → TCode → Span → List (TCode × Span)
@@ -33,17 +33,17 @@ abbrev pub types_faults : List ℕ → List Name → List RawTy → List (TCode 
 types_faults text a [] = []
 types_faults text a (t ∷ ts) = type_faults text a t ++ types_faults text a ts
 
--- a label that no block has
-abbrev pub base_faults : List ℕ → List Name → RawBase → List (TCode × Span)
+-- a label that names nothing
+abbrev pub base_faults : List ℕ → Labels → RawBase → List (TCode × Span)
 base_faults text ls (RReg r) = []
 base_faults text ls (RNum z) = []
-base_faults text ls (RLabel s) = only_if (not (is_among (spelled text s) ls)) T05 s
+base_faults text ls (RLabel s) = only_if (is_none (named_by (spelled text s) ls)) T05 s
 
-abbrev pub value_faults : List ℕ → List Name → List Name → RawValue → List (TCode × Span)
+abbrev pub value_faults : List ℕ → Labels → List Name → RawValue → List (TCode × Span)
 value_faults text ls a (RPlain b ts) = base_faults text ls b ++ types_faults text a ts
 value_faults text ls a (RPack t v s) = type_faults text a t ++ (value_faults text ls a v ++ type_faults text a s)
 
-abbrev pub instr_faults : List ℕ → List Name → List Name → RawInstr → List (TCode × Span)
+abbrev pub instr_faults : List ℕ → Labels → List Name → RawInstr → List (TCode × Span)
 instr_faults text ls a (RArith op rd rs v) = value_faults text ls a v
 instr_faults text ls a (RBnz r v) = value_faults text ls a v
 instr_faults text ls a (RLd rd rs i) = []
@@ -52,21 +52,21 @@ instr_faults text ls a (RMov rd v) = value_faults text ls a v
 instr_faults text ls a (RSt rd i rs) = []
 instr_faults text ls a (RUnpack n rd v) = value_faults text ls a v
 
-abbrev pub body_faults : List ℕ → List Name → List Name → List (RawInstr × Span) → List (TCode × Span)
+abbrev pub body_faults : List ℕ → Labels → List Name → List (RawInstr × Span) → List (TCode × Span)
 body_faults text ls a [] = []
 body_faults text ls a (i ∷ is) = instr_faults text ls a i.0 ++ body_faults text ls (names_after text i.0 a) is
 
-abbrev pub end_faults : List ℕ → List Name → List Name → RawEnd → List (TCode × Span)
+abbrev pub end_faults : List ℕ → Labels → List Name → RawEnd → List (TCode × Span)
 end_faults text ls a (RJmp v) = value_faults text ls a v
 end_faults text ls a RHalt = []
 
-abbrev pub block_faults : List ℕ → List Name → RawBlock → List (TCode × Span)
+abbrev pub block_faults : List ℕ → Labels → RawBlock → List (TCode × Span)
 block_faults text ls b =
     regs_faults text (bind text b.names []) [] b.file ++
     (body_faults text ls (bind text b.names []) b.body ++ end_faults text ls (names_after_all text b.body (bind text b.names [])) b.last.0)
 
 -- a label that a block before has
-abbrev pub blocks_faults : List ℕ → List Name → List Name → List RawBlock → List (TCode × Span)
+abbrev pub blocks_faults : List ℕ → Labels → List Name → List RawBlock → List (TCode × Span)
 blocks_faults text ls before [] = []
 blocks_faults text ls before (b ∷ bs) =
     only_if (is_among (spelled text b.name) before) T04 b.name ++ (block_faults text ls b ++ blocks_faults text ls (spelled text b.name ∷ before) bs)

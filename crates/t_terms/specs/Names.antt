@@ -1,11 +1,11 @@
 -- The names of a text: what each stands for.
-use Rattle.std.specs.Prelude.{ℕ, nat_lt, if◌then◌else◌, Bool, List, [], ◌∷◌, length, map, slice_range, bytes_eq}
+use Rattle.std.specs.Prelude.{ℕ, suc, nat_lt, if◌then◌else◌, Bool, List, [], ◌∷◌, length, map, slice_range, bytes_eq, Option, Some, None}
 use Rattle.std.specs.List.{list_any, position_or_len}
 use Rattle.idx_core.specs.declared.span.Span.{Span}
 use Rattle.idx_core.specs.Names.{Name}
 use Rattle.t_types.specs.Tree.{Ty, IntTy, VarTy, CodeTy, ExistsTy, TupleTy, TFile, NoRegs, MoreRegs, TFields, NoFields, MoreFields}
 use Rattle.t_terms.specs.Tree.{TBase, Reg, Int, Label, TValue, Plain, Pack, TInstr, Arith, Bnz, Ld, Malloc, Mov, St, Unpack, TEnd, Jmp, Halt}
-use Rattle.t_terms.specs.Spanned.{SBlock}
+use Rattle.t_terms.specs.Spanned.{SBlock, SProg}
 use Rattle.t_terms.specs.Raw.{RawTy, RInt, RName, RCode, RSome, RTuple, RawRegs, NoRawRegs, MoreRawRegs, RawFields, NoRawFields, MoreRawFields, RawBase, RReg, RNum, RLabel, RawValue, RPlain, RPack, RawInstr, RArith, RBnz, RLd, RMalloc, RMov, RSt, RUnpack, RawEnd, RJmp, RHalt, RawBlock}
 
 -- the bytes of the text at a place
@@ -49,17 +49,31 @@ abbrev mutual
 abbrev pub types_of : List ℕ → List Name → List RawTy → List Ty
 types_of text a ts = map (type_of text a) ts
 
--- The rest of a program, where these are the labels of its blocks in turn: a label is the number of its block.
-abbrev pub base_of : List ℕ → List Name → RawBase → TBase
+-- the labels of a program, each with the block or the data tuple that it names
+abbrev pub Labels : Type 0
+Labels = List (Name × TBase)
+
+-- what a label names: where several are equal, what the first of them does
+abbrev pub named_by : Name → Labels → Option TBase
+named_by x [] = None
+named_by x (l ∷ ls) = if bytes_eq x l.0 then Some l.1 else named_by x ls
+
+-- a label that names nothing is a fault of names, and then it does not matter what is put for it
+abbrev pub or_first : Option TBase → TBase
+or_first (Some b) = b
+or_first None = Label 0
+
+-- The rest of a program, where these are its labels.
+abbrev pub base_of : List ℕ → Labels → RawBase → TBase
 base_of text ls (RReg r) = Reg r
 base_of text ls (RNum z) = Int z
-base_of text ls (RLabel s) = Label (place_of (spelled text s) ls)
+base_of text ls (RLabel s) = or_first (named_by (spelled text s) ls)
 
-abbrev pub value_of : List ℕ → List Name → List Name → RawValue → TValue
+abbrev pub value_of : List ℕ → Labels → List Name → RawValue → TValue
 value_of text ls a (RPlain b ts) = Plain (base_of text ls b) (types_of text a ts)
 value_of text ls a (RPack t v s) = Pack (type_of text a t) (value_of text ls a v) (type_of text a s)
 
-abbrev pub instr_of : List ℕ → List Name → List Name → RawInstr → TInstr
+abbrev pub instr_of : List ℕ → Labels → List Name → RawInstr → TInstr
 instr_of text ls a (RArith op rd rs v) = Arith op rd rs (value_of text ls a v)
 instr_of text ls a (RBnz r v) = Bnz r (value_of text ls a v)
 instr_of text ls a (RLd rd rs i) = Ld rd rs i
@@ -82,15 +96,15 @@ abbrev pub names_after_all : List ℕ → List (RawInstr × Span) → List Name 
 names_after_all text [] a = a
 names_after_all text (i ∷ is) a = names_after_all text is (names_after text i.0 a)
 
-abbrev pub body_of : List ℕ → List Name → List Name → List (RawInstr × Span) → List (TInstr × Span)
+abbrev pub body_of : List ℕ → Labels → List Name → List (RawInstr × Span) → List (TInstr × Span)
 body_of text ls a [] = []
 body_of text ls a (i ∷ is) = (instr_of text ls a i.0, i.1) ∷ body_of text ls (names_after text i.0 a) is
 
-abbrev pub end_of : List ℕ → List Name → List Name → RawEnd → TEnd
+abbrev pub end_of : List ℕ → Labels → List Name → RawEnd → TEnd
 end_of text ls a (RJmp v) = Jmp (value_of text ls a v)
 end_of text ls a RHalt = Halt
 
-abbrev pub block_of : List ℕ → List Name → RawBlock → SBlock
+abbrev pub block_of : List ℕ → Labels → RawBlock → SBlock
 block_of text ls b = record {
   name = b.name;
   owes = length b.names;
@@ -100,8 +114,14 @@ block_of text ls b = record {
   last_span = b.last.1;
 }
 
-abbrev pub labels_of : List ℕ → List RawBlock → List Name
-labels_of text bs = map (λ b. spelled text b.name) bs
+-- the labels of blocks in turn, with k blocks before them
+abbrev pub block_labels : List ℕ → ℕ → List RawBlock → Labels
+block_labels text k [] = []
+block_labels text k (b ∷ bs) = (spelled text b.name, Label k) ∷ block_labels text (suc k) bs
 
-abbrev pub program_of : List ℕ → List RawBlock → List SBlock
-program_of text bs = map (block_of text (labels_of text bs)) bs
+abbrev pub labels_of : List ℕ → List RawBlock → Labels
+labels_of text bs = block_labels text 0 bs
+
+-- a text of this grammar has no data
+abbrev pub program_of : List ℕ → List RawBlock → SProg
+program_of text bs = record { blocks = map (block_of text (labels_of text bs)) bs; heap = [] }

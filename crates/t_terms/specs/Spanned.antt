@@ -4,7 +4,7 @@ use Rattle.std.specs.Prelude.{ℕ, ◌+◌, List, [], ◌∷◌}
 use Rattle.idx_core.specs.Over.{At, Over, Each, BelowAt, AnyDepth}
 use Rattle.idx_core.specs.declared.span.Span.{Span}
 use Rattle.t_types.specs.Tree.{Ty, TFile, over_file, each_file}
-use Rattle.t_terms.specs.Tree.{TInstr, TEnd, TSeq, Then, Ends, TBlock, names_after, over_instr, over_end, each_instr, each_end}
+use Rattle.t_terms.specs.Tree.{TValue, TInstr, TEnd, TSeq, Then, Ends, TBlock, TDatum, TData, TProg, names_after, over_instr, over_end, each_instr, each_end}
 
 -- a block with the places of its label, of its instructions and of its end
 pub record SBlock : Type 0 where
@@ -14,6 +14,21 @@ pub record SBlock : Type 0 where
   pub body : List (TInstr × Span)
   pub last : TEnd
   pub last_span : Span
+
+-- a field of a data tuple, with the place of its value
+pub record SDatum : Type 0 where
+  pub value : TValue
+  pub ty : Ty
+  pub span : Span
+
+-- a data tuple with the place of its label
+pub record SData : Type 0 where
+  pub name : Span
+  pub fields : List SDatum
+
+pub record SProg : Type 0 where
+  pub blocks : List SBlock
+  pub heap : List SData
 
 -- the sequence of a body and an end
 abbrev pub seq_of : List (TInstr × Span) → TEnd → TSeq
@@ -31,6 +46,20 @@ plain b = record { owes = b.owes; file = b.file; code = seq_of b.body b.last }
 abbrev pub plain_blocks : List SBlock → List TBlock
 plain_blocks [] = []
 plain_blocks (b ∷ bs) = plain b ∷ plain_blocks bs
+
+abbrev pub plain_datum : SDatum → TDatum
+plain_datum x = record { value = x.value; ty = x.ty }
+
+abbrev pub plain_fields : List SDatum → TData
+plain_fields [] = []
+plain_fields (x ∷ xs) = plain_datum x ∷ plain_fields xs
+
+abbrev pub plain_heap : List SData → List TData
+plain_heap [] = []
+plain_heap (x ∷ xs) = plain_fields x.fields ∷ plain_heap xs
+
+abbrev pub plain_program : SProg → TProg
+plain_program P = record { blocks = plain_blocks P.blocks; heap = plain_heap P.heap }
 
 -- the number of type names after a body, where there are d before it
 abbrev pub body_depth : List (TInstr × Span) → ℕ → ℕ

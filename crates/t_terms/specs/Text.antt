@@ -1,5 +1,5 @@
 -- Which program a text stands for, which texts keep the limit on open constructs, and the first fault of a text.
-use Rattle.std.specs.Prelude.{◌≡◌, ℕ, List, [], ◌∷◌, length}
+use Rattle.std.specs.Prelude.{◌≡◌, ℕ, List, [], ◌∷◌, length, ◌⊎◌}
 use Rattle.idx_core.specs.declared.span.Span.{Span}
 use Rattle.text_core.specs.Tokens.{Reason, NoToken, OutOfRange, FirstWrong}
 use Rattle.text_core.specs.Shapes.{NonePasses, IsUnexpected, IsCutShort, IsPassed}
@@ -8,12 +8,11 @@ use Rattle.t_terms.specs.declared.fault.TCode.TheVariants.{T01, T02, T03, M1}
 use Rattle.t_terms.specs.declared.fault.TFault.{TFault}
 use Rattle.t_terms.specs.declared.fault.TFault.TheVariants.{Memory, Refused}
 use Rattle.t_terms.specs.declared.token.Token.{Token}
-use Rattle.t_terms.specs.Tree.{TBlock}
-use Rattle.t_terms.specs.Spanned.{SBlock, plain_blocks}
+use Rattle.t_terms.specs.Tree.{TProg}
+use Rattle.t_terms.specs.Spanned.{SProg, plain_program}
 use Rattle.t_terms.specs.Tokens.{assembly, IsCut}
 use Rattle.t_terms.specs.Raw.{RawBlock}
-use Rattle.t_terms.specs.Grammar.{Program}
-use Rattle.t_terms.specs.Machine.{table}
+use Rattle.t_terms.specs.Grammar.{Program, assembly_grammar}
 use Rattle.t_terms.specs.Names.{program_of}
 use Rattle.t_terms.specs.NameFaults.{program_faults}
 
@@ -23,7 +22,7 @@ most_open = 2000
 
 -- the text stands for the program, with its places: it is cut into tokens, they are a program of the grammar, its
 -- names and registers are as they should, and each name stands for what it names
-pub record Stands (text : List ℕ) (P : List SBlock) : Type 0 where
+pub record Stands (text : List ℕ) (P : SProg) : Type 0 where
   pub tokens : List Token
   pub cut : IsCut text tokens
   pub raw : List RawBlock
@@ -32,17 +31,21 @@ pub record Stands (text : List ℕ) (P : List SBlock) : Type 0 where
   pub is : P ≡ program_of text raw
 
 -- the text stands for the program, places aside
-abbrev pub StandsFor : List ℕ → List TBlock → Type 0
-StandsFor text P = (Q : List SBlock) × Stands text Q × (plain_blocks Q ≡ P)
+abbrev pub StandsFor : List ℕ → TProg → Type 0
+StandsFor text P = (Q : SProg) × Stands text Q × (plain_program Q ≡ P)
 
 -- the text is cut into tokens at none of which the limit on open constructs is passed
 abbrev pub KeepsLimit : List ℕ → Type 0
-KeepsLimit text = (w : List Token) × IsCut text w × NonePasses table most_open w
+KeepsLimit text = (w : List Token) × IsCut text w × NonePasses assembly_grammar most_open w
 
 -- the text stands for the program within the limit
-pub record ReadsAs (text : List ℕ) (P : List SBlock) : Type 0 where
+pub record ReadsAs (text : List ℕ) (P : SProg) : Type 0 where
   pub stands : Stands text P
   pub within : KeepsLimit text
+
+-- the text reads as the program within the limit, places aside
+abbrev pub ReadsBack : List ℕ → TProg → Type 0
+ReadsBack text P = (Q : SProg) × ReadsAs text Q × (plain_program Q ≡ P)
 
 abbrev pub code_of : Reason → TCode
 code_of NoToken = T01
@@ -52,10 +55,10 @@ code_of OutOfRange = T02
 -- tokens; else of its names and registers, in the order of the text
 pub data FirstFault (text : List ℕ) : TCode → Span → Type 0 where
   in_tokens : {span : Span} (why : Reason) → FirstWrong assembly text why span.start span.end → FirstFault text (code_of why) span
-  unexpected : {w u : List Token} {c : Token} {z : List Token} → IsCut text w → IsUnexpected table most_open w u c z → FirstFault text T03 c.span
-  cut_short : {w : List Token} → IsCut text w → IsCutShort table most_open w → FirstFault text T03 (record { start = length text; end = length text })
-  too_deep : {w u : List Token} {c : Token} {z : List Token} → IsCut text w → IsPassed table most_open w u c z → FirstFault text M1 c.span
-  in_names : {w : List Token} {raw : List RawBlock} {code : TCode} {span : Span} {rest : List (TCode × Span)} → IsCut text w → Program w raw → NonePasses table most_open w →
+  unexpected : {w u : List Token} {c : Token} {z : List Token} → IsCut text w → IsUnexpected assembly_grammar most_open w u c z → FirstFault text T03 c.span
+  cut_short : {w : List Token} → IsCut text w → IsCutShort assembly_grammar most_open w → FirstFault text T03 (record { start = length text; end = length text })
+  too_deep : {w u : List Token} {c : Token} {z : List Token} → IsCut text w → IsPassed assembly_grammar most_open w u c z → FirstFault text M1 c.span
+  in_names : {w : List Token} {raw : List RawBlock} {code : TCode} {span : Span} {rest : List (TCode × Span)} → IsCut text w → Program w raw → NonePasses assembly_grammar most_open w →
       program_faults text raw ≡ (code, span) ∷ rest → FirstFault text code span
 
 abbrev pub IsFirstFault : List ℕ → TFault → Type 0
@@ -64,18 +67,22 @@ IsFirstFault text (Refused code span) = FirstFault text code span
 
 -- The laws.
 
--- no text stands for two programs
-abbrev pub OneProgram : Type 0
-OneProgram = (text : List ℕ) (P Q : List SBlock) → Stands text P → Stands text Q → P ≡ Q
+-- a text stands for one program at most
+abbrev pub AtMostOneProgram : Type 0
+AtMostOneProgram = (text : List ℕ) (P Q : SProg) → Stands text P → Stands text Q → P ≡ Q
+
+-- a text has one first fault at most
+abbrev pub AtMostOneFault : Type 0
+AtMostOneFault = (text : List ℕ) (code code' : TCode) (span span' : Span) → FirstFault text code span → FirstFault text code' span' → (code ≡ code') × (span ≡ span')
 
 -- a text that stands for a program within the limit has no fault
-abbrev pub ProgramOrFault : Type 0
-ProgramOrFault = (text : List ℕ) (P : List SBlock) (code : TCode) (span : Span) → ReadsAs text P → ¬ FirstFault text code span
+abbrev pub NoFaultWhereRead : Type 0
+NoFaultWhereRead = (text : List ℕ) (P : SProg) (code : TCode) (span : Span) → ReadsAs text P → ¬ FirstFault text code span
 
 -- a text whose first fault is not that of the limit stands for no program
-abbrev pub FaultOrProgram : Type 0
-FaultOrProgram = (text : List ℕ) (P : List SBlock) (code : TCode) (span : Span) → FirstFault text code span → (code ≡ M1 → ⊥) → ¬ Stands text P
+abbrev pub NoProgramWhereFaulty : Type 0
+NoProgramWhereFaulty = (text : List ℕ) (P : SProg) (code : TCode) (span : Span) → FirstFault text code span → (code ≡ M1 → ⊥) → ¬ Stands text P
 
--- two first faults of a text are equal
-abbrev pub OneFault : Type 0
-OneFault = (text : List ℕ) (code code' : TCode) (span span' : Span) → FirstFault text code span → FirstFault text code' span' → (code ≡ code') × (span ≡ span')
+-- each text stands for a program within the limit, or has a first fault
+abbrev pub ProgramOrFault : Type 0
+ProgramOrFault = (text : List ℕ) → ((P : SProg) × ReadsAs text P) ⊎ ((code : TCode) × (span : Span) × FirstFault text code span)

@@ -4,11 +4,12 @@ use Rattle.idx_core.specs.Over.{Over, Each, shifted, putted}
 use Rattle.idx_core.specs.declared.arith.Op.{Op}
 use Rattle.t_types.specs.Tree.{Ty, VarTy, TFile, over, over_file, over_types, each, each_file, each_types}
 
--- a register, an integer, or a label: the number of a block
+-- a register, an integer, or a label: the number of a block, or of a data tuple
 pub data TBase : Type 0 where
   Reg : (r : ℕ) → TBase
   Int : (i : ℤ) → TBase
   Label : (l : ℕ) → TBase
+  Data : (d : ℕ) → TBase
 
 -- a small value: a base applied to types, or an existential package
 pub data TValue : Type 0 where
@@ -38,6 +39,20 @@ pub record TBlock : Type 0 where
   pub owes : ℕ
   pub file : TFile
   pub code : TSeq
+
+-- a field of a data tuple: its value, and the type that is written for it
+pub record TDatum : Type 0 where
+  pub value : TValue
+  pub ty : Ty
+
+-- a tuple that stands in the heap from the start
+abbrev pub TData : Type 0
+TData = List TDatum
+
+-- a program: its blocks, and the tuples of its heap; both are numbered from 0, each by itself
+pub record TProg : Type 0 where
+  pub blocks : List TBlock
+  pub heap : List TData
 
 -- the number of type names in the rest after an instruction, where there are d before it
 abbrev pub names_after : TInstr → ℕ → ℕ

@@ -2,80 +2,126 @@
 use Rattle.std.specs.Prelude.{ℕ, ◌<◌, ◌≤◌, List, [], ◌∷◌, length}
 use Rattle.std.specs.Coded.{le_prop, Unit-prop}
 use Rattle.t_types.specs.WellFormed.{max_number, max_names, IsRegister, WellFormed, WellFormedFile, WellFormedTypes, well_formed_prop, regs_above_prop, types_prop}
-use Rattle.t_terms.specs.Tree.{TBase, Reg, Int, Label, TValue, Plain, Pack, TInstr, Arith, Bnz, Ld, Malloc, Mov, St, Unpack, TEnd, Jmp, Halt, TSeq, Then, Ends, TBlock, names_after}
+use Rattle.t_terms.specs.Tree.{TBase, Reg, Int, Label, Data, TValue, Plain, Pack, TInstr, Arith, Bnz, Ld, Malloc, Mov, St, Unpack, TEnd, Jmp, Halt, TSeq, Then, Ends, TBlock, TDatum, TData, TProg, names_after}
 
--- in a program of p blocks, under n type names: labels, registers, fields and type indices are in range
-abbrev pub WellFormedBase : ℕ → TBase → Type 0
-WellFormedBase p (Reg r) = IsRegister r
-WellFormedBase p (Int i) = Unit {0}
-WellFormedBase p (Label l) = l < p
+-- in a program of p blocks and q data tuples, under n type names: labels, registers, fields and type indices are in range
+abbrev pub WellFormedBase : ℕ → ℕ → TBase → Type 0
+WellFormedBase p q (Reg r) = IsRegister r
+WellFormedBase p q (Int i) = Unit {0}
+WellFormedBase p q (Label l) = l < p
+WellFormedBase p q (Data d) = d < q
 
-abbrev pub WellFormedValue : ℕ → ℕ → TValue → Type 0
-WellFormedValue p n (Plain b ts) = WellFormedBase p b × WellFormedTypes n ts
-WellFormedValue p n (Pack t v s) = WellFormed n t × WellFormedValue p n v × WellFormed n s
+abbrev pub WellFormedValue : ℕ → ℕ → ℕ → TValue → Type 0
+WellFormedValue p q n (Plain b ts) = WellFormedBase p q b × WellFormedTypes n ts
+WellFormedValue p q n (Pack t v s) = WellFormed n t × WellFormedValue p q n v × WellFormed n s
 
-abbrev pub WellFormedInstr : ℕ → ℕ → TInstr → Type 0
-WellFormedInstr p n (Arith op rd rs v) = IsRegister rd × IsRegister rs × WellFormedValue p n v
-WellFormedInstr p n (Bnz r v) = IsRegister r × WellFormedValue p n v
-WellFormedInstr p n (Ld rd rs i) = IsRegister rd × IsRegister rs × (i ≤ max_number)
-WellFormedInstr p n (Malloc rd ts) = IsRegister rd × WellFormedTypes n ts
-WellFormedInstr p n (Mov rd v) = IsRegister rd × WellFormedValue p n v
-WellFormedInstr p n (St rd i rs) = IsRegister rd × (i ≤ max_number) × IsRegister rs
-WellFormedInstr p n (Unpack rd v) = IsRegister rd × WellFormedValue p n v
+abbrev pub WellFormedInstr : ℕ → ℕ → ℕ → TInstr → Type 0
+WellFormedInstr p q n (Arith op rd rs v) = IsRegister rd × IsRegister rs × WellFormedValue p q n v
+WellFormedInstr p q n (Bnz r v) = IsRegister r × WellFormedValue p q n v
+WellFormedInstr p q n (Ld rd rs i) = IsRegister rd × IsRegister rs × (i ≤ max_number)
+WellFormedInstr p q n (Malloc rd ts) = IsRegister rd × WellFormedTypes n ts
+WellFormedInstr p q n (Mov rd v) = IsRegister rd × WellFormedValue p q n v
+WellFormedInstr p q n (St rd i rs) = IsRegister rd × (i ≤ max_number) × IsRegister rs
+WellFormedInstr p q n (Unpack rd v) = IsRegister rd × WellFormedValue p q n v
 
-abbrev pub WellFormedEnd : ℕ → ℕ → TEnd → Type 0
-WellFormedEnd p n (Jmp v) = WellFormedValue p n v
-WellFormedEnd p n Halt = Unit {0}
+abbrev pub WellFormedEnd : ℕ → ℕ → ℕ → TEnd → Type 0
+WellFormedEnd p q n (Jmp v) = WellFormedValue p q n v
+WellFormedEnd p q n Halt = Unit {0}
 
 -- not too many type names are bound around a place
-abbrev pub WellFormedSeq : ℕ → ℕ → TSeq → Type 0
-WellFormedSeq p n (Then i rest) = WellFormedInstr p n i × (names_after i n ≤ max_names) × WellFormedSeq p (names_after i n) rest
-WellFormedSeq p n (Ends e) = WellFormedEnd p n e
+abbrev pub WellFormedSeq : ℕ → ℕ → ℕ → TSeq → Type 0
+WellFormedSeq p q n (Then i rest) = WellFormedInstr p q n i × (names_after i n ≤ max_names) × WellFormedSeq p q (names_after i n) rest
+WellFormedSeq p q n (Ends e) = WellFormedEnd p q n e
 
-abbrev pub WellFormedBlock : ℕ → TBlock → Type 0
-WellFormedBlock p b = (b.owes ≤ max_names) × WellFormedFile b.owes b.file × WellFormedSeq p b.owes b.code
+abbrev pub WellFormedBlock : ℕ → ℕ → TBlock → Type 0
+WellFormedBlock p q b = (b.owes ≤ max_names) × WellFormedFile b.owes b.file × WellFormedSeq p q b.owes b.code
 
-abbrev pub WellFormedBlocks : ℕ → List TBlock → Type 0
-WellFormedBlocks p [] = Unit {0}
-WellFormedBlocks p (b ∷ bs) = WellFormedBlock p b × WellFormedBlocks p bs
+abbrev pub WellFormedBlocks : ℕ → ℕ → List TBlock → Type 0
+WellFormedBlocks p q [] = Unit {0}
+WellFormedBlocks p q (b ∷ bs) = WellFormedBlock p q b × WellFormedBlocks p q bs
 
--- the program has a block, and each block is well formed in it
-abbrev pub Whole : List TBlock → Type 0
-Whole bs = (1 ≤ length bs) × WellFormedBlocks (length bs) bs
+-- the value names no register
+abbrev pub HasNoRegister : TValue → Type 0
+HasNoRegister (Plain (Reg r) ts) = ⊥
+HasNoRegister (Plain (Int i) ts) = Unit {0}
+HasNoRegister (Plain (Label l) ts) = Unit {0}
+HasNoRegister (Plain (Data d) ts) = Unit {0}
+HasNoRegister (Pack t v s) = HasNoRegister v
+
+-- a field of a data tuple: a closed type, and a value under no type names that names no register
+abbrev pub WellFormedDatum : ℕ → ℕ → TDatum → Type 0
+WellFormedDatum p q x = WellFormedValue p q 0 x.value × HasNoRegister x.value × WellFormed 0 x.ty
+
+abbrev pub WellFormedData : ℕ → ℕ → TData → Type 0
+WellFormedData p q [] = Unit {0}
+WellFormedData p q (x ∷ xs) = WellFormedDatum p q x × WellFormedData p q xs
+
+abbrev pub WellFormedHeap : ℕ → ℕ → List TData → Type 0
+WellFormedHeap p q [] = Unit {0}
+WellFormedHeap p q (x ∷ xs) = WellFormedData p q x × WellFormedHeap p q xs
+
+-- the program has a block, and each block and each data tuple is well formed in it
+abbrev pub Whole : TProg → Type 0
+Whole P =
+    (1 ≤ length P.blocks) × WellFormedBlocks (length P.blocks) (length P.heap) P.blocks
+    × WellFormedHeap (length P.blocks) (length P.heap) P.heap
 
 -- there is one proof of it at most
-base_prop : (p : ℕ) (b : TBase) → IsProp (WellFormedBase p b)
-base_prop p (Reg r) = hlevel le_prop
-base_prop p (Int i) = Unit-prop
-base_prop p (Label l) = le_prop
+base_prop : (p q : ℕ) (b : TBase) → IsProp (WellFormedBase p q b)
+base_prop p q (Reg r) = hlevel le_prop
+base_prop p q (Int i) = Unit-prop
+base_prop p q (Label l) = le_prop
+base_prop p q (Data d) = le_prop
 
-value_prop : (p n : ℕ) (v : TValue) → IsProp (WellFormedValue p n v)
-value_prop p n (Plain b ts) = let x = base_prop p b in let y = types_prop n ts in hlevel (x, y)
-value_prop p n (Pack t v s) = let x = well_formed_prop n t in let y = value_prop p n v in let z = well_formed_prop n s in hlevel (x, y, z)
+value_prop : (p q n : ℕ) (v : TValue) → IsProp (WellFormedValue p q n v)
+value_prop p q n (Plain b ts) = let x = base_prop p q b in let y = types_prop n ts in hlevel (x, y)
+value_prop p q n (Pack t v s) = let x = well_formed_prop n t in let y = value_prop p q n v in let z = well_formed_prop n s in hlevel (x, y, z)
 
-instr_prop : (p n : ℕ) (i : TInstr) → IsProp (WellFormedInstr p n i)
-instr_prop p n (Arith op rd rs v) = let x = value_prop p n v in hlevel (le_prop, x)
-instr_prop p n (Bnz r v) = let x = value_prop p n v in hlevel (le_prop, x)
-instr_prop p n (Ld rd rs i) = hlevel le_prop
-instr_prop p n (Malloc rd ts) = let x = types_prop n ts in hlevel (le_prop, x)
-instr_prop p n (Mov rd v) = let x = value_prop p n v in hlevel (le_prop, x)
-instr_prop p n (St rd i rs) = hlevel le_prop
-instr_prop p n (Unpack rd v) = let x = value_prop p n v in hlevel (le_prop, x)
+instr_prop : (p q n : ℕ) (i : TInstr) → IsProp (WellFormedInstr p q n i)
+instr_prop p q n (Arith op rd rs v) = let x = value_prop p q n v in hlevel (le_prop, x)
+instr_prop p q n (Bnz r v) = let x = value_prop p q n v in hlevel (le_prop, x)
+instr_prop p q n (Ld rd rs i) = hlevel le_prop
+instr_prop p q n (Malloc rd ts) = let x = types_prop n ts in hlevel (le_prop, x)
+instr_prop p q n (Mov rd v) = let x = value_prop p q n v in hlevel (le_prop, x)
+instr_prop p q n (St rd i rs) = hlevel le_prop
+instr_prop p q n (Unpack rd v) = let x = value_prop p q n v in hlevel (le_prop, x)
 
-end_prop : (p n : ℕ) (e : TEnd) → IsProp (WellFormedEnd p n e)
-end_prop p n (Jmp v) = value_prop p n v
-end_prop p n Halt = Unit-prop
+end_prop : (p q n : ℕ) (e : TEnd) → IsProp (WellFormedEnd p q n e)
+end_prop p q n (Jmp v) = value_prop p q n v
+end_prop p q n Halt = Unit-prop
 
-seq_prop : (p n : ℕ) (c : TSeq) → IsProp (WellFormedSeq p n c)
-seq_prop p n (Then i rest) = let x = instr_prop p n i in let y = seq_prop p (names_after i n) rest in hlevel (le_prop, x, y)
-seq_prop p n (Ends e) = end_prop p n e
+seq_prop : (p q n : ℕ) (c : TSeq) → IsProp (WellFormedSeq p q n c)
+seq_prop p q n (Then i rest) = let x = instr_prop p q n i in let y = seq_prop p q (names_after i n) rest in hlevel (le_prop, x, y)
+seq_prop p q n (Ends e) = end_prop p q n e
 
-block_prop : (p : ℕ) (b : TBlock) → IsProp (WellFormedBlock p b)
-block_prop p b = let x = regs_above_prop 0 b.owes b.file in let y = seq_prop p b.owes b.code in hlevel (le_prop, x, y)
+block_prop : (p q : ℕ) (b : TBlock) → IsProp (WellFormedBlock p q b)
+block_prop p q b = let x = regs_above_prop 0 b.owes b.file in let y = seq_prop p q b.owes b.code in hlevel (le_prop, x, y)
 
-blocks_prop : (p : ℕ) (bs : List TBlock) → IsProp (WellFormedBlocks p bs)
-blocks_prop p [] = Unit-prop
-blocks_prop p (b ∷ bs) = let x = block_prop p b in let y = blocks_prop p bs in hlevel (x, y)
+blocks_prop : (p q : ℕ) (bs : List TBlock) → IsProp (WellFormedBlocks p q bs)
+blocks_prop p q [] = Unit-prop
+blocks_prop p q (b ∷ bs) = let x = block_prop p q b in let y = blocks_prop p q bs in hlevel (x, y)
 
-pub whole_prop : (bs : List TBlock) → IsProp (Whole bs)
-whole_prop bs = let x = blocks_prop (length bs) bs in hlevel (le_prop, x)
+no_register_prop : (v : TValue) → IsProp (HasNoRegister v)
+no_register_prop (Plain (Reg r) ts) = hlevel
+no_register_prop (Plain (Int i) ts) = Unit-prop
+no_register_prop (Plain (Label l) ts) = Unit-prop
+no_register_prop (Plain (Data d) ts) = Unit-prop
+no_register_prop (Pack t v s) = no_register_prop v
+
+datum_prop : (p q : ℕ) (x : TDatum) → IsProp (WellFormedDatum p q x)
+datum_prop p q x =
+    let y = value_prop p q 0 x.value in let z = no_register_prop x.value in let w = well_formed_prop 0 x.ty in hlevel (y, z, w)
+
+data_prop : (p q : ℕ) (xs : TData) → IsProp (WellFormedData p q xs)
+data_prop p q [] = Unit-prop
+data_prop p q (x ∷ xs) = let y = datum_prop p q x in let z = data_prop p q xs in hlevel (y, z)
+
+heap_prop : (p q : ℕ) (xs : List TData) → IsProp (WellFormedHeap p q xs)
+heap_prop p q [] = Unit-prop
+heap_prop p q (x ∷ xs) = let y = data_prop p q x in let z = heap_prop p q xs in hlevel (y, z)
+
+pub whole_prop : (P : TProg) → IsProp (Whole P)
+whole_prop P =
+    let x = blocks_prop (length P.blocks) (length P.heap) P.blocks in
+    let y = heap_prop (length P.blocks) (length P.heap) P.heap in
+    hlevel (le_prop, x, y)

@@ -1,6 +1,10 @@
 // Why an assembly text is refused.
 
-use idx_core::Span;
+ghost use Rattle.std.specs.Prelude.{◌≡◌};
+ghost use Rattle.t_terms.specs.declared.fault.TFault.TheVariants as fault;
+
+use idx_core::{OutOfMemory, Span};
+use std::alloc::{AllocError, AllocFailed};
 
 /// The codes of the faults of an assembly text, in the order of its checks (own choice): `T` for what the
 /// language refuses, `M` for a limit that is passed.
@@ -57,4 +61,28 @@ pub enum TFault {
     Memory,
     /// The text is refused: by which rule, and at which place.
     Refused { code: TCode, span: Span },
+}
+
+impl From<OutOfMemory> for TFault {
+    ghost from_gives = { λ _ e. e ≡ fault.Memory };
+
+    fn from(_: OutOfMemory) -> TFault {
+        TFault::Memory
+    }
+}
+
+impl From<AllocError> for TFault {
+    ghost from_gives = { λ _ e. e ≡ fault.Memory };
+
+    fn from(_: AllocError) -> TFault {
+        TFault::Memory
+    }
+}
+
+impl<T: Drop> From<AllocFailed<T>> for TFault {
+    ghost from_gives = { λ _ e. e ≡ fault.Memory };
+
+    fn from(_: AllocFailed<T>) -> TFault {
+        TFault::Memory
+    }
 }

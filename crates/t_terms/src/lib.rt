@@ -1,26 +1,34 @@
-//! Programs of the typed assembly language: values, instructions, blocks, and the faults of a text.
+//! Programs of the typed assembly language: values, instructions, blocks, data, and the faults of a text.
 #![tactic(auto)]
 
-pub mod block;
-pub mod bodies;
-pub mod fault;
-pub mod instr;
-pub mod laws;
-pub mod program;
-pub mod scopes;
+mod block;
+mod bodies;
+mod data;
+mod fault;
+mod instr;
+mod laws;
+mod nesting_laws;
+mod program;
+mod scopes;
 #[cfg(test)]
 mod tests;
-pub mod text_laws;
-pub mod token;
-pub mod value;
-pub mod walks;
-pub mod wanted;
+mod text_laws;
+mod token;
+mod value;
+mod walks;
+mod wanted;
 
 pub use block::Block;
+pub use data::Data;
 pub use fault::{TCode, TFault};
 pub use instr::{End, Instr};
 pub use laws::{places_aside, puts_exchange};
+pub use nesting_laws::{counts_open, keeps_by_nesting};
 pub use program::TProgram;
+pub use text_laws::{
+    at_most_one_fault, at_most_one_program, no_fault_where_read, no_program_where_faulty,
+    program_or_fault,
+};
 pub use token::{Kind, Token};
 pub use value::{Base, Value};
 pub use walks::names_after;

@@ -1,15 +1,18 @@
 // Programs.
-ghost use Rattle.t_terms.specs.Read.{blocks_of};
+ghost use Rattle.t_terms.specs.Read.{parts};
 ghost use Rattle.t_terms.specs.Whole.{Whole, whole_prop};
 
 use crate::block::Block;
+use crate::data::Data;
 
-/// A program. A label is the number of a block, from 0, and the machine starts in the first block.
+/// A program: blocks, and the tuples of the heap at the start. Blocks and data are numbered from 0, each by itself,
+/// and the machine starts in the first block.
 /// It has a block; its labels, type indices, registers and field numbers are in range; each of its register
-/// files has its registers in ascending order, each once; and around no place more than 4611686018427387904
-/// type names are bound.
+/// files has its registers in ascending order, each once; around no place more than 4611686018427387904 type names
+/// are bound; and in data the types are closed and no value names a register.
 #[derive(Drop)]
 pub struct TProgram {
     pub blocks: Vec<Block>,
-    ghost whole: { Whole (blocks_of blocks.items) } by { whole_prop (blocks_of blocks.items) },
+    pub heap: Vec<Data>,
+    ghost whole: { Whole (parts blocks.items heap.items) } by { whole_prop (parts blocks.items heap.items) },
 }

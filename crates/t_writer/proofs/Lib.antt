@@ -1,6 +1,5 @@
 pub mod Coded
 pub mod Items
-pub mod Nested
 pub mod Placed
 pub mod Rendered
 mod Rows

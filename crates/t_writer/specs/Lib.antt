@@ -1,4 +1,3 @@
 pub mod Ints
 pub mod Lexeme
-pub mod Nesting
 pub mod Written

@@ -4,7 +4,8 @@ use Rattle.std.proofs.lemmas.List.{append-nil, length-append}
 use Rattle.std.proofs.Math.Seq.{get_or-append_seam}
 use Rattle.std.proofs.lemmas.Bool.{ltb-true, ltb-false}
 use Rattle.text_core.specs.Table.{Table, State, step, finish, Outcome, Done, Stop, seen, marks, at_end, go, exec, whole, Passed, bounded}
-use Rattle.text_core.specs.Shapes.{Begins, Passes, NonePasses, Says}
+use Rattle.text_core.specs.Shapes.{Begins, Passes, NonePasses}
+use Rattle.text_core.specs.Verdicts.{grammar_of, Says}
 use Rattle.text_core.proofs.Claims.{Filled, Sound, Claims}
 use Rattle.text_core.proofs.Reading.{seen_append}
 
@@ -35,13 +36,13 @@ shape : (g : Table) (k : Claims g) {limit : ℕ} {u : List g.Tok} {b : State g} 
 shape g k {u} h f = k.sound (u ++ f.rest) f.made (h.counts ++ f.counts)
     (h.leads f.rest ∙ (ap (λ (o : Outcome g). seen g h.counts o) f.done ∙ sym (seen_append g h.counts f.counts (Done f.made))))
 
-came_begins : (g : Table) (k : Claims g) {limit : ℕ} {u : List g.Tok} {b : State g} → Came g k limit u b → Begins g u
+came_begins : (g : Table) (k : Claims g) {limit : ℕ} {u : List g.Tok} {b : State g} → Came g k limit u b → Begins (grammar_of g) u
 came_begins g k h = let f = completes g k h in let s = shape g k h f in (f.rest, (s.value, s.shape))
 
 regroup : {A : Type 0} (u : List A) (c : A) (v w : List A) → (u ++ c ∷ v) ++ w ≡ (u ++ c ∷ []) ++ (v ++ w)
 regroup u c v w = simp append_assoc
 
-none_passes : (g : Table) (k : Claims g) {limit : ℕ} {u : List g.Tok} {b : State g} → Came g k limit u b → NonePasses g limit u
+none_passes : (g : Table) (k : Claims g) {limit : ℕ} {u : List g.Tok} {b : State g} → Came g k limit u b → NonePasses (grammar_of g) limit u
 none_passes g k {limit} {u} {b} h u1 c u2 q p =
     let f = completes g k h in
     let s = shape g k h f in
@@ -72,7 +73,7 @@ came_next g k {limit} {u} {b} h c d f m = record {
 }
 
 passes : (g : Table) (k : Claims g) {limit : ℕ} {u : List g.Tok} {b : State g} → Came g k limit u b → (c : g.Tok) (d : State g) → step g b.owed b.made c ≡ Some d →
-    limit < marks g d.owed → Passes g limit u c
+    limit < marks g d.owed → Passes (grammar_of g) limit u c
 unfolding came_next
 passes g k {limit} {u} {b} h c d f m =
     let long = came_next g k {limit = marks g d.owed} (record {
@@ -108,7 +109,7 @@ says_end g k limit u b h None f = rw append-nil (record {
 says_end g k limit u b h (Some vs) f =
     let q : whole g (u ++ []) ≡ seen g h.counts (Done vs) = h.leads [] ∙ ap (λ (o : Option (List g.Val)). seen g h.counts (at_end g o)) f in
     let s : Sound g (u ++ []) vs = k.sound (u ++ []) vs h.counts q in
-    let n : NonePasses g limit (u ++ []) = rw append-nil (none_passes g k h) in
+    let n : NonePasses (grammar_of g) limit (u ++ []) = rw append-nil (none_passes g k h) in
     record { value = s.value; shape = s.shape; is = s.is; within = n }
 
 says_more : (g : Table) (k : Claims g) (limit : ℕ) (u : List g.Tok) (c : g.Tok) (w : List g.Tok) →

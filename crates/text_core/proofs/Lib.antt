@@ -6,6 +6,7 @@ pub mod Once
 pub mod Pieces
 pub mod Places
 pub mod Reading
+pub mod Refusals
 pub mod Rules
 pub mod Runs
 pub mod Signs

@@ -4,11 +4,11 @@ use Rattle.text_core.specs.Tokens.{Tokens, Spells, s_word, s_plain, s_negative, 
 use Rattle.text_core.proofs.Items.{one_next}
 
 -- an item is not empty
-gap_long : (u r : List ℕ) → IsGap u r → 0 < length u
+pub gap_long : (u r : List ℕ) → IsGap u r → 0 < length u
 gap_long _ r (g_space b h) = omega arith
 gap_long _ r (g_comment h l) = omega arith
 
-spelling_long : (g : Tokens) (u : List ℕ) (k : g.Kind) → Spells g u k → 0 < length u
+pub spelling_long : (g : Tokens) (u : List ℕ) (k : g.Kind) → Spells g u k → 0 < length u
 spelling_long g _ _ (s_word b s l h) = omega arith
 spelling_long g _ _ (s_plain b s h) = omega arith
 spelling_long g _ _ (s_negative b s h) = omega arith

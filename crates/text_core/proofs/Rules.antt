@@ -3,7 +3,7 @@ use Rattle.std.proofs.Common.{◌≡◌, ℕ, ◌<◌, ◌≤◌, List, [], ◌�
 use Rattle.std.proofs.lemmas.List.{append-nil}
 use Rattle.std.proofs.lemmas.Bool.{ltb-false, le-ltb}
 use Rattle.text_core.specs.Table.{Tm, Nt, Do, Mark, Table, Stack, State, step, finish, Outcome, Done, Seen, seen, marks, at_end, go, exec, whole, on_line, then_more, bounded}
-use Rattle.text_core.specs.Shapes.{Says}
+use Rattle.text_core.specs.Verdicts.{Says}
 use Rattle.text_core.proofs.Claims.{Claims, Sound}
 use Rattle.text_core.proofs.Reading.{do_now, mark_now, seen_append}
 use Rattle.text_core.proofs.Assembly.{exact}

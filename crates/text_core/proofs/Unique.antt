@@ -2,7 +2,8 @@
 use Rattle.std.proofs.Common.{◌≡◌, ℕ, List, [], ◌∷◌, ◌++◌, refl, sym, ◌∙◌, ap, subst, append_assoc}
 use Rattle.std.proofs.lemmas.List.{append-nil}
 use Rattle.text_core.specs.Table.{Table, Done, seen, Verdict, Fine, Unexpected, Passed}
-use Rattle.text_core.specs.Shapes.{Begins, Passes, NonePasses, IsUnexpected, IsPassed, Says}
+use Rattle.text_core.specs.Shapes.{Begins, Passes, NonePasses, IsUnexpected, IsPassed}
+use Rattle.text_core.specs.Verdicts.{grammar_of, Says}
 use Rattle.text_core.proofs.Claims.{Claims}
 
 -- which of two places in one list is the earlier
@@ -28,20 +29,20 @@ order g (a ∷ u) c z (b ∷ u') c' z' e =
 -- a place where the reading stops
 record Halts (g : Table) (limit : ℕ) (w u : List g.Tok) (c : g.Tok) (z : List g.Tok) : Type 0 where
   place : w ≡ u ++ c ∷ z
-  begins : Begins g u
-  quiet : NonePasses g limit u
-  blocks : Begins g (u ++ c ∷ []) → Passes g limit u c
+  begins : Begins (grammar_of g) u
+  quiet : NonePasses (grammar_of g) limit u
+  blocks : Begins (grammar_of g) (u ++ c ∷ []) → Passes (grammar_of g) limit u c
 
-begins_part : (g : Table) → (u : List g.Tok) (c : g.Tok) (y : List g.Tok) → Begins g ((u ++ c ∷ []) ++ y) → Begins g (u ++ c ∷ [])
+begins_part : (g : Table) → (u : List g.Tok) (c : g.Tok) (y : List g.Tok) → Begins (grammar_of g) ((u ++ c ∷ []) ++ y) → Begins (grammar_of g) (u ++ c ∷ [])
 begins_part g u c y (z, s) = (y ++ z, rw append_assoc at s)
 
-begins_up_to : (g : Table) → (w u : List g.Tok) (c : g.Tok) (z : List g.Tok) → w ≡ u ++ c ∷ z → Begins g w → Begins g (u ++ c ∷ [])
-begins_up_to g w u c z q b = begins_part g u c z (subst (λ (x : List g.Tok). Begins g x) (q ∙ sym (append_assoc u (c ∷ []) z)) b)
+begins_up_to : (g : Table) → (w u : List g.Tok) (c : g.Tok) (z : List g.Tok) → w ≡ u ++ c ∷ z → Begins (grammar_of g) w → Begins (grammar_of g) (u ++ c ∷ [])
+begins_up_to g w u c z q b = begins_part g u c z (subst (λ (x : List g.Tok). Begins (grammar_of g) x) (q ∙ sym (append_assoc u (c ∷ []) z)) b)
 
-begins_less : (g : Table) → (u : List g.Tok) (c : g.Tok) → Begins g (u ++ c ∷ []) → Begins g u
+begins_less : (g : Table) → (u : List g.Tok) (c : g.Tok) → Begins (grammar_of g) (u ++ c ∷ []) → Begins (grammar_of g) u
 begins_less g u c (z, s) = (c ∷ z, rw append_assoc at s)
 
-not_whole : (g : Table) → (limit : ℕ) (w u : List g.Tok) (c : g.Tok) (z : List g.Tok) → Begins g w → NonePasses g limit w → Halts g limit w u c z → ⊥
+not_whole : (g : Table) → (limit : ℕ) (w u : List g.Tok) (c : g.Tok) (z : List g.Tok) → Begins (grammar_of g) w → NonePasses (grammar_of g) limit w → Halts g limit w u c z → ⊥
 not_whole g limit w u c z b n h = n u c z h.place (h.blocks (begins_up_to g w u c z h.place b))
 
 not_later : (g : Table) → (limit : ℕ) (w u : List g.Tok) (c : g.Tok) (z u' : List g.Tok) (c' : g.Tok) (z' y : List g.Tok) → Halts g limit w u c z → Halts g limit w u' c' z' →
@@ -62,13 +63,13 @@ one_place g limit w u c z u' c' z' h k = by_order (order g u c z u' c' z' (sym h
     by_order (before y q) = absurd (not_later g limit w u c z u' c' z' y h k q)
     by_order (after y q) = absurd (not_later g limit w u' c' z' u c z y k h q)
 
-halts_unexpected : (g : Table) → {limit : ℕ} {w u : List g.Tok} {c : g.Tok} {z : List g.Tok} → IsUnexpected g limit w u c z → Halts g limit w u c z
+halts_unexpected : (g : Table) → {limit : ℕ} {w u : List g.Tok} {c : g.Tok} {z : List g.Tok} → IsUnexpected (grammar_of g) limit w u c z → Halts g limit w u c z
 halts_unexpected g f = record { place = f.place; begins = f.before; quiet = f.within; blocks = λ b. absurd (f.with_it b) }
 
-halts_passed : (g : Table) → {limit : ℕ} {w u : List g.Tok} {c : g.Tok} {z : List g.Tok} → IsPassed g limit w u c z → Halts g limit w u c z
+halts_passed : (g : Table) → {limit : ℕ} {w u : List g.Tok} {c : g.Tok} {z : List g.Tok} → IsPassed (grammar_of g) limit w u c z → Halts g limit w u c z
 halts_passed g {limit} {w} {u} {c} f = record { place = f.place; begins = begins_less g u c f.passes.begins; quiet = f.within; blocks = λ b. f.passes }
 
-begins_whole : (g : Table) → (w : List g.Tok) (t : g.Tree) → g.Shape w t → Begins g w
+begins_whole : (g : Table) → (w : List g.Tok) (t : g.Tree) → g.Shape w t → Begins (grammar_of g) w
 begins_whole g w t e = ([], (t, rw append-nil e))
 
 last_same : (g : Table) (a b : List ℕ) (t r : List g.Val) → seen g a (Done t) ≡ seen g b (Done r) → t ≡ r
@@ -82,14 +83,14 @@ one_tree g k {w} {t} {r} x y =
     let q : (g.tree t ∷ []) ≡ (g.tree r ∷ []) = last_same g (g.opens w t x) (g.opens w r y) (g.tree t ∷ []) (g.tree r ∷ []) (sym (k.complete w t x) ∙ k.complete w r y) in
     k.same_tree t r (cc)
 
-mixed : (g : Table) → (limit : ℕ) (w u : List g.Tok) (c : g.Tok) (z u' : List g.Tok) (c' : g.Tok) (z' : List g.Tok) → IsUnexpected g limit w u c z → IsPassed g limit w u' c' z' → ⊥
+mixed : (g : Table) → (limit : ℕ) (w u : List g.Tok) (c : g.Tok) (z u' : List g.Tok) (c' : g.Tok) (z' : List g.Tok) → IsUnexpected (grammar_of g) limit w u c z → IsPassed (grammar_of g) limit w u' c' z' → ⊥
 mixed g limit w u c z u' c' z' f k =
     let o = one_place g limit w u c z u' c' z' (halts_unexpected g f) (halts_passed g k) in
     let p = o.before in
     let q = o.rest in
     let r : c ≡ c' = cc in
     let s : u ++ c ∷ [] ≡ u' ++ c' ∷ [] = cc in
-    f.with_it (subst (λ (x : List g.Tok). Begins g x) (sym s) k.passes.begins)
+    f.with_it (subst (λ (x : List g.Tok). Begins (grammar_of g) x) (sym s) k.passes.begins)
 
 pub one_verdict : (g : Table) → Claims g → (limit : ℕ) (w : List g.Tok) (a b : Verdict g) → Says g limit w a → Says g limit w b → a ≡ b
 one_verdict g k limit w (Fine t) (Fine r) x y =

@@ -1,4 +1,4 @@
-use Rattle.t_terms.proofs.TextExact.{program_or_fault}
+use Rattle.t_terms.proofs.Worked.{program_or_fault}
 use Rattle.t_terms.proofs.text_laws.program_or_fault.Goals as goal
 
 pub returns : goal.returns

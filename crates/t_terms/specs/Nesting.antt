@@ -2,10 +2,10 @@
 -- up to their closing ones, and `some` up to the end of its type.
 use Rattle.std.specs.Prelude.{◌≡◌, ◌≤◌, ◌↔◌, ℕ, ◌+◌, max, List, [], ◌∷◌}
 use Rattle.t_types.specs.Tree.{Ty, IntTy, VarTy, CodeTy, ExistsTy, TupleTy, TFile, NoRegs, MoreRegs, TFields, NoFields, MoreFields}
-use Rattle.t_terms.specs.Tree.{TValue, Plain, Pack, TInstr, Arith, Bnz, Ld, Malloc, Mov, St, Unpack, TEnd, Jmp, Halt, TSeq, Then, Ends, TBlock}
-use Rattle.t_terms.specs.Spanned.{SBlock, plain_blocks}
+use Rattle.t_terms.specs.Tree.{TValue, Plain, Pack, TInstr, Arith, Bnz, Ld, Malloc, Mov, St, Unpack, TEnd, Jmp, Halt, TSeq, Then, Ends, TBlock, TDatum, TData, TProg}
+use Rattle.t_terms.specs.Spanned.{SProg, plain_program}
 use Rattle.t_terms.specs.Grammar.{open_Program}
-use Rattle.t_terms.specs.Text.{most_open, Stands, StandsFor, KeepsLimit, ReadsAs}
+use Rattle.t_terms.specs.Text.{most_open, Stands, StandsFor, KeepsLimit}
 
 abbrev mutual
   pub type_nesting : Ty → ℕ
@@ -54,9 +54,24 @@ seq_nesting (Ends e) = end_nesting e
 abbrev pub block_nesting : TBlock → ℕ
 block_nesting b = max (1 + regs_nesting b.file) (seq_nesting b.code)
 
-abbrev pub nesting : List TBlock → ℕ
-nesting [] = 0
-nesting (b ∷ bs) = max (block_nesting b) (nesting bs)
+abbrev pub blocks_nesting : List TBlock → ℕ
+blocks_nesting [] = 0
+blocks_nesting (b ∷ bs) = max (block_nesting b) (blocks_nesting bs)
+
+abbrev pub datum_nesting : TDatum → ℕ
+datum_nesting x = max (value_nesting x.value) (type_nesting x.ty)
+
+abbrev pub data_nesting : TData → ℕ
+data_nesting [] = 0
+data_nesting (x ∷ xs) = max (datum_nesting x) (data_nesting xs)
+
+-- a data tuple stands in angle brackets
+abbrev pub heap_nesting : List TData → ℕ
+heap_nesting [] = 0
+heap_nesting (x ∷ xs) = max (1 + data_nesting x) (heap_nesting xs)
+
+abbrev pub nesting : TProg → ℕ
+nesting P = max (blocks_nesting P.blocks) (heap_nesting P.heap)
 
 -- the greatest number of a list
 abbrev pub greatest : List ℕ → ℕ
@@ -67,12 +82,8 @@ greatest (n ∷ ns) = max n (greatest ns)
 
 -- the nesting of a program is the greatest number of constructs that are open at a token of a text that stands for it
 abbrev pub CountsOpen : Type 0
-CountsOpen = (text : List ℕ) (P : List SBlock) (s : Stands text P) → greatest (open_Program s.shape 0) ≡ nesting (plain_blocks P)
+CountsOpen = (text : List ℕ) (P : SProg) (s : Stands text P) → greatest (open_Program s.shape 0) ≡ nesting (plain_program P)
 
 -- a text that stands for a program keeps the limit exactly where the program's nesting is within it
 abbrev pub KeepsByNesting : Type 0
-KeepsByNesting = (text : List ℕ) (P : List TBlock) → StandsFor text P → KeepsLimit text ↔ (nesting P ≤ most_open)
-
--- the text reads as the program, places aside
-abbrev pub ReadsBack : List ℕ → List TBlock → Type 0
-ReadsBack text P = (Q : List SBlock) × ReadsAs text Q × (plain_blocks Q ≡ P)
+KeepsByNesting = (text : List ℕ) (P : TProg) → StandsFor text P → KeepsLimit text ↔ (nesting P ≤ most_open)

@@ -3,21 +3,23 @@ use Rattle.std.proofs.Common.{◌≡◌, ◌≤◌, ℕ, zero, suc, ◌+◌, max
 use Rattle.std.proofs.lemmas.Bool.{ltb-false}
 use Rattle.idx_core.specs.declared.span.Span.{Span}
 use Rattle.idx_core.specs.Names.{Name}
-use Rattle.text_core.specs.Shapes.{NonePasses, Says}
+use Rattle.text_core.specs.Shapes.{NonePasses}
+use Rattle.text_core.specs.Verdicts.{Says}
 use Rattle.text_core.specs.Table.{Done, seen, Fine, Passed, bounded}
 use Rattle.t_types.specs.Tree.{Ty, TFile, NoRegs, MoreRegs}
 use Rattle.t_terms.specs.declared.token.Token.{Token}
-use Rattle.t_terms.specs.Tree.{TBlock}
-use Rattle.t_terms.specs.Spanned.{SBlock, seq_of, plain_blocks}
+use Rattle.t_terms.specs.Tree.{TProg}
+use Rattle.t_terms.specs.Spanned.{SProg, seq_of, plain_blocks, plain_program}
 use Rattle.t_terms.specs.Raw.{RawTy, RInt, RName, RCode, RSome, RTuple, RawRegs, NoRawRegs, MoreRawRegs, RawFields, NoRawFields, MoreRawFields, RawReg, RawField, raw_regs, raw_fields, RawBase, RawValue, RPlain, RPack, RawInstr, RArith, RBnz, RLd, RMalloc, RMov, RSt, RUnpack, RawEnd, RJmp, RHalt, RawBlock, Piece}
 use Rattle.t_terms.specs.Grammar.{Names, ns_one, ns_more, Binds, bs_none, bs_names, T, t_int, t_name, t_code, t_some, t_unit, t_tuple, File, f_none, f_regs, Rs, rs_one, rs_more, Fs, fs_one, fs_more, Ts, ts_one, ts_more, V, v_base, v_apply, v_pack, I, i_arith, i_bnz, i_ld, i_malloc_none, i_malloc, i_mov, i_st, i_unpack, Is, is_none, is_more, End, e_jmp, e_halt, Block, b_block, Blocks, bs_one, bs_more, Program, p_program, open_Names, open_Binds, open_T, open_File, open_Rs, open_Fs, open_Ts, open_V, open_I, open_Is, open_End, open_Block, open_Blocks, open_Program}
+use Rattle.t_terms.specs.Grammar.{assembly_grammar}
 use Rattle.t_terms.specs.Machine.{table, Val, OfBlocks}
-use Rattle.t_terms.specs.Names.{insert_reg, type_of, file_of, fields_of, types_of, value_of, instr_of, names_after, names_after_all, body_of, end_of, block_of, labels_of, bind, spelled}
+use Rattle.t_terms.specs.Names.{insert_reg, type_of, file_of, fields_of, types_of, value_of, instr_of, names_after, names_after_all, body_of, end_of, block_of, program_of, labels_of, Labels, bind, spelled}
 use Rattle.t_terms.specs.Text.{most_open, Stands, StandsFor, KeepsLimit}
 use Rattle.t_terms.proofs.Complete.{read_shape}
 use Rattle.t_terms.proofs.Instance.{assembly_exact, one_verdict}
 use Rattle.t_terms.proofs.TextExact.{one_cut}
-use Rattle.t_writer.specs.Nesting.{type_nesting, regs_nesting, fields_nesting, types_nesting, value_nesting, instr_nesting, end_nesting, seq_nesting, nesting, greatest, CountsOpen, KeepsByNesting}
+use Rattle.t_terms.specs.Nesting.{blocks_nesting, type_nesting, regs_nesting, fields_nesting, types_nesting, value_nesting, instr_nesting, end_nesting, seq_nesting, nesting, greatest, CountsOpen, KeepsByNesting}
 
 greatest-append : (a b : List ℕ) → greatest (a ++ b) ≡ max (greatest a) (greatest b)
 greatest-append [] b = omega arith
@@ -104,7 +106,7 @@ module _ (text : List ℕ) where
   types_same a [] = refl
   types_same a (t ∷ ts) = ap₂ max (type_same a t) (types_same a ts)
 
-  module _ (ls : List Name) where
+  module _ (ls : Labels) where
     value_same : (a : List Name) (v : RawValue) → value_nesting (value_of text ls a v) ≡ raw_value v
     value_same a (RPlain b []) = refl
     value_same a (RPlain b (t ∷ ts)) = ap (λ n. 1 + n) (types_same a (t ∷ ts))
@@ -127,10 +129,14 @@ module _ (text : List ℕ) where
     seq_same a [] e = end_same a e ∙ omega arith
     seq_same a (i ∷ is) e = ap₂ max (instr_same a i.0) (seq_same (names_after text i.0 a) is e) ∙ omega arith
 
-    blocks_same : (bs : List RawBlock) → nesting (plain_blocks (map (block_of text ls) bs)) ≡ raw_blocks bs
+    blocks_same : (bs : List RawBlock) → blocks_nesting (plain_blocks (map (block_of text ls) bs)) ≡ raw_blocks bs
     blocks_same [] = refl
     blocks_same (b ∷ bs) =
         ap₂ max (ap₂ (λ m n. max (1 + m) n) (file_same (bind text b.names []) b.file) (seq_same (bind text b.names []) b.body b.last.0)) (blocks_same bs)
+
+  -- a text of this grammar has no data
+  program_same : (bs : List RawBlock) → nesting (plain_program (program_of text bs)) ≡ raw_blocks bs
+  program_same bs = omega (arith, blocks_same (labels_of text bs) bs)
 
 -- lists grow at their end
 file-append : (rs : List RawReg) (r : RawReg) → raw_file (raw_regs (rs ++ r ∷ [])) ≡ max (raw_file (raw_regs rs)) (raw_type r.ty)
@@ -245,7 +251,7 @@ program_open : {w : List Token} {bs : List RawBlock} (x : Program w bs) → grea
 program_open (p_program t n x) = omega (arith, blocks_open x)
 
 pub counts_open : CountsOpen
-counts_open text P s = program_open s.shape ∙ (sym (blocks_same text (labels_of text s.raw) s.raw) ∙ ap (λ (Q : List SBlock). nesting (plain_blocks Q)) (sym s.is))
+counts_open text P s = program_open s.shape ∙ (sym (program_same text s.raw) ∙ ap (λ (Q : SProg). nesting (plain_program Q)) (sym s.is))
 
 -- a number at a place is at most the greatest
 at_most_greatest : (ns : List ℕ) (i : ℕ) → slice_index ns i ≤ greatest ns
@@ -264,15 +270,15 @@ never_more (n ∷ ns) (c ∷ w) vs us e = by_test (nat_lt most_open n) refl e (n
     by_test true f e ih = absurd (cc)
     by_test false f e ih = omega (arith, ltb-false most_open n f, ih e)
 
-module _ (text : List ℕ) (P : List TBlock) (stand : StandsFor text P) where
+module _ (text : List ℕ) (P : TProg) (stand : StandsFor text P) where
   abbrev it : Stands text stand.0
   it = stand.1
 
   -- the greatest number in any shape with the raw tree of the text
   all_open : {w : List Token} (p : Program w it.raw) → greatest (open_Program p 0) ≡ nesting P
-  all_open p = program_open p ∙ (sym (blocks_same text (labels_of text it.raw) it.raw) ∙ (ap (λ (R : List SBlock). nesting (plain_blocks R)) (sym it.is) ∙ ap nesting stand.2))
+  all_open p = program_open p ∙ (sym (program_same text it.raw) ∙ (ap (λ (R : SProg). nesting (plain_program R)) (sym it.is) ∙ ap nesting stand.2))
 
-  pub keeps : nesting P ≤ most_open → NonePasses table most_open it.tokens
+  pub keeps : nesting P ≤ most_open → NonePasses assembly_grammar most_open it.tokens
   keeps h u c z e x =
       let q : it.tokens ≡ (u ++ c ∷ []) ++ z = e ∙ sym (append_assoc u (c ∷ []) z) in
       let p : Program ((u ++ c ∷ []) ++ z) it.raw = subst (λ (w : List Token). Program w it.raw) q it.shape in
@@ -283,7 +289,7 @@ module _ (text : List ℕ) (P : List TBlock) (stand : StandsFor text P) where
 
   pub kept : KeepsLimit text → nesting P ≤ most_open
   kept k =
-      let none = subst (λ (w : List Token). NonePasses table most_open w) (one_cut text k.0 it.tokens k.1 it.cut) k.2 in
+      let none = subst (λ (w : List Token). NonePasses assembly_grammar most_open w) (one_cut text k.0 it.tokens k.1 it.cut) k.2 in
       let says = assembly_exact most_open it.tokens in
       let fine : Says table most_open it.tokens (Fine (OfBlocks it.raw ∷ [])) = record { value = it.raw; shape = it.shape; is = refl; within = none } in
       let q = one_verdict most_open it.tokens _ _ says fine in

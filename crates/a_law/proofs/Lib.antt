@@ -1,7 +1,10 @@
 mod CLaws
 mod Cells
+mod Fits
 mod Meaning
+mod Regs
 mod Rel
+mod Thirds
 mod Tuples
 mod Types
 mod Typing

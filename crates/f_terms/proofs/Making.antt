@@ -6,7 +6,7 @@ use Rattle.idx_core.specs.declared.arith.Op.{Op}
 use Rattle.f_terms.specs.Tm.{Tm, Spn, SArith}
 use Rattle.f_terms.specs.Shape.{children, shape_tree}
 use Rattle.f_terms.specs.ReadTerm.{size_of, part, IsLoose}
-use Rattle.arena.specs.Roots.{Differ, Among, roots}
+use Rattle.arena.specs.Roots.{Among, roots}
 use Rattle.f_terms.specs.Made.{IsAdded, Makes}
 use Rattle.arena.proofs.Roots.{differ_push, differ_front, differ_split, among_push, among_first, not_among, all_before, all_after, of_among, roots_low}
 use Rattle.f_terms.specs.Shape.{kids}

@@ -38,7 +38,7 @@ module _ (p : FParts) (ks js : List ℕ) (h : IsStack p (ks ++ js)) where
     stack_trees =
         map-append (part q) ks (n ∷ []) ∙ ap₂ (λ (xs ys : List Tm). xs ++ ys) (same_trees (part p) (part q) (size_of p) a.same ks kept) (ap (λ (u : Tm). u ∷ []) a.tree)
 
-long : (f : ℕ → Tm) (ns : List ℕ) → length (map f ns) ≡ length ns
+pub long : (f : ℕ → Tm) (ns : List ℕ) → length (map f ns) ≡ length ns
 long f [] = refl
 long f (n ∷ ns) = omega (arith, long f ns)
 

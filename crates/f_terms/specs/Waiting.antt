@@ -8,7 +8,7 @@ use Rattle.f_terms.specs.Read.{tree}
 use Rattle.f_terms.specs.ReadTerm.{count, node_at, term_of}
 use Rattle.f_terms.specs.declared.node.FTerm.{FTerm}
 use Rattle.f_terms.specs.declared.node.FShape.{FShape}
-use Rattle.f_terms.specs.declared.node.FShape.TheVariants.{Var, Int, Fix, App, Gen, Inst, Tuple, Proj, Arith, If0}
+use Rattle.f_terms.specs.declared.node.FShape.TheVariants.{Var, Fix, Gen, Inst}
 use Rattle.f_terms.specs.declared.admission.Waiting.{Waiting}
 
 -- the names of a form itself, its parts aside, are among n type names and m value names

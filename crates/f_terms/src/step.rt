@@ -37,19 +37,6 @@ fn shape_of(alloc: Global, step: FStep, parts: &[u64]) -> Result<FShape, OutOfMe
     })
 }
 
-// How many parts a form has.
-fn arity_of(step: &FStep) -> u64
-    ensures { result ≡ arity step.now }
-{
-    match step {
-        FStep::Var(_) | FStep::Int(_) => 0,
-        FStep::Fix { .. } | FStep::Gen | FStep::Inst(_) | FStep::Proj(_) => 1,
-        FStep::App | FStep::Arith(_) => 2,
-        FStep::If0 => 3,
-        FStep::Tuple(n) => *n,
-    }
-}
-
 // A part more, whose form is dropped where memory is wanted.
 fn add(parts: &mut FParts, shape: FShape, span: Span) -> Result<u64, OutOfMemory>
     requires loose { All (λ k. IsLoose parts.old k) (children shape) }
@@ -63,6 +50,21 @@ fn out_of_memory(refused: (FShape, OutOfMemory)) -> OutOfMemory {
     refused.1
 }
 
+impl FStep {
+    /// How many parts the form has.
+    pub fn arity(&self) -> u64
+        ensures { result ≡ arity self.now }
+    {
+        match self {
+            FStep::Var(_) | FStep::Int(_) => 0,
+            FStep::Fix { .. } | FStep::Gen | FStep::Inst(_) | FStep::Proj(_) => 1,
+            FStep::App | FStep::Arith(_) => 2,
+            FStep::If0 => 3,
+            FStep::Tuple(n) => *n,
+        }
+    }
+}
+
 impl FStack {
     /// No terms.
     pub fn new(alloc: Global) -> FStack
@@ -74,6 +76,13 @@ impl FStack {
         }
     }
 
+    /// How many terms there are.
+    pub fn len(&self) -> u64
+        ensures { result ≡ length (trees_of self.now) }
+    {
+        self.numbers.len() as u64
+    }
+
     /// One form more: it takes its parts from the top of the stack, and is put in their place.
     pub fn put(self, alloc: Global, step: FStep, span: Span) -> Result<FStack, OutOfMemory>
         requires { arity step ≤ length (trees_of self) }
@@ -81,7 +90,7 @@ impl FStack {
     {
         let mut parts = self.parts;
         let mut numbers = self.numbers;
-        let below = numbers.len() - arity_of(&step) as usize;
+        let below = numbers.len() - step.arity() as usize;
         let shape = shape_of(alloc, step, &numbers[below..])?;
         let part = add(&mut parts, shape, span)?;
         numbers.truncate(below);

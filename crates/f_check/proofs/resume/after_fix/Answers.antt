@@ -1,4 +1,4 @@
-use Rattle.std.proofs.Common.{rules, ◌∙◌, true≢false, sym, refl}
+use Rattle.std.proofs.Common.{◌∙◌, true≢false, sym, refl}
 use Rattle.f_check.proofs.Resumes.{fix_ready, fix_refused, fix_given}
 use Rattle.f_terms.specs.Ty.{TArrow}
 use Rattle.f_terms.specs.TyLaws.{shift_none}

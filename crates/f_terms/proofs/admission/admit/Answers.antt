@@ -11,7 +11,7 @@ pub returns-then-not-is_bound : goal.returns-then-not-is_bound
 returns-then-not-is_bound c = (
   λ h. absurd (true≢false (sym h)),
   λ k. absurd (not_bound c.args.term.now c.pop.new.self.items c.in-Some.part c.node.result.now c.node.ensures.tree c.node.ensures.before
-    (subst (Holds c.args.term.now) c.in-Some.ensures.items c.loop-part.invariant) (λ b. true≢false (sym (c.if-not-is_bound.ensures.1 b))) k.0),
+      (subst (Holds c.args.term.now) c.in-Some.ensures.items c.loop-part.invariant) (λ b. true≢false (sym (c.if-not-is_bound.ensures.1 b))) k.0),
 )
 
 pub push_parts-requires-clause-types : goal.push_parts-requires-clause-types
@@ -27,9 +27,9 @@ loop-part-smaller c =
     let at = node_at c.args.term.now in
     subst (λ ws. waiting_nodes at c.push_parts.new.waiting.items < waiting_nodes at ws) (sym c.in-Some.ensures.items)
     (looked c.args.term.now c.pop.new.self.items c.in-Some.part c.node.result.now c.node.ensures.tree c.node.ensures.before
-      (subst (Holds c.args.term.now) c.in-Some.ensures.items c.loop-part.invariant) (c.if-not-is_bound.ensures.0 refl) c.push_parts.new.waiting.items c.in_ok-push_parts.ensures).1
+    (subst (Holds c.args.term.now) c.in-Some.ensures.items c.loop-part.invariant) (c.if-not-is_bound.ensures.0 refl) c.push_parts.new.waiting.items c.in_ok-push_parts.ensures).1
 
 pub loop-part-preserved : goal.loop-part-preserved
 loop-part-preserved c =
     (looked c.args.term.now c.pop.new.self.items c.in-Some.part c.node.result.now c.node.ensures.tree c.node.ensures.before
-      (subst (Holds c.args.term.now) c.in-Some.ensures.items c.loop-part.invariant) (c.if-not-is_bound.ensures.0 refl) c.push_parts.new.waiting.items c.in_ok-push_parts.ensures).0
+    (subst (Holds c.args.term.now) c.in-Some.ensures.items c.loop-part.invariant) (c.if-not-is_bound.ensures.0 refl) c.push_parts.new.waiting.items c.in_ok-push_parts.ensures).0

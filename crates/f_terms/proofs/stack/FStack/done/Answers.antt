@@ -1,4 +1,4 @@
-use Rattle.std.proofs.Common.{List, ℕ, ap, ap₂, sym, ◌∙◌, ◌∷◌, [], map}
+use Rattle.std.proofs.Common.{ap, sym, ◌∙◌, ◌∷◌, [], map}
 use Rattle.f_terms.specs.Tm.{Tm}
 use Rattle.f_terms.specs.ReadTerm.{part}
 use Rattle.f_terms.proofs.Stacking.{one_part}

@@ -7,6 +7,7 @@ pub mod laws;
 pub mod make;
 pub mod node;
 pub mod shift;
+pub mod table;
 pub mod term;
 #[cfg(test)]
 mod tests;
@@ -21,5 +22,6 @@ pub use laws::{
     programs_are_never_stuck, puts_exchange,
 };
 pub use node::{FNode, FParts, FShape, FTerm};
+pub use table::typed_node;
 pub use text::type_text;
 pub use types::FType;

@@ -5,3 +5,6 @@ pub mod Fields
 pub mod Gives
 pub mod Ends
 pub mod Inside
+pub mod Scopes
+pub mod Known
+pub mod Holds

@@ -4,6 +4,7 @@ mod FaultRows
 pub mod Faulty
 pub mod Limited
 pub mod Making
+pub mod NotedNodes
 pub mod Parts
 pub mod Refusals
 mod Rows

@@ -10,6 +10,7 @@ pub mod node;
 pub mod shift;
 pub mod stack;
 pub mod step;
+pub mod table;
 pub mod term;
 #[cfg(test)]
 mod tests;
@@ -26,5 +27,6 @@ pub use laws::{
 };
 pub use node::{FNode, FParts, FShape, FTerm};
 pub use stack::{FStack, FStep};
+pub use table::typed_node;
 pub use text::type_text;
 pub use types::FType;

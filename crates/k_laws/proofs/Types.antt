@@ -10,7 +10,7 @@ use Rattle.k_laws.specs.Translates.{cps_program}
 use Rattle.k_laws.proofs.Fits.{meets_program}
 
 mutual
-  type_is : (e : Term) (n : ℕ) (g : Tys) (t : Ty) → HasType e n g t → type_of e g ≡ t
+  pub type_is : (e : Term) (n : ℕ) (g : Tys) (t : Ty) → HasType e n g t → type_of e g ≡ t
   type_is (MVar i) n g t h = ap or_int h
   type_is (MNum i) n g t h = sym h
   type_is (MFix arg res e) n g t h = sym h.0
@@ -22,7 +22,7 @@ mutual
   type_is (MArith op a b) n g t h = sym h.0
   type_is (MIf0 c a b) n g t h = type_is a n g t h.1
 
-  types_are : (es : Terms) (n : ℕ) (g ts : Tys) → HaveTypes es n g ts → types_of es g ≡ ts
+  pub types_are : (es : Terms) (n : ℕ) (g ts : Tys) → HaveTypes es n g ts → types_of es g ≡ ts
   types_are NoTerms n g ts h = sym h
   types_are (MoreTerms e es) n g ts h = ap₂ MoreTys (type_is e n g h.0 h.3) (types_are es n g h.1 h.4) ∙ sym h.2
 

@@ -1,7 +1,8 @@
 -- What a translation to continuation-passing style keeps.
-use Rattle.std.specs.Prelude.{◌≡◌, ℕ, ℤ, ◌+◌, ◌*◌, ◌≤◌, []}
+use Rattle.std.specs.Prelude.{◌≡◌, false, ℕ, ℤ, ◌+◌, ◌*◌, ◌≤◌, []}
 use Rattle.f_terms.specs.Tm.{Term}
-use Rattle.f_terms.specs.Ty.{TInt}
+use Rattle.f_terms.specs.Ty.{TInt, NoTys}
+use Rattle.f_terms.specs.Noted.{Noted, bare, Beside}
 use Rattle.f_terms.specs.Typing.{IsProgram}
 use Rattle.f_terms.specs.Eval.{Evaluates}
 use Rattle.f_terms.specs.Limits.{nodes}
@@ -16,6 +17,8 @@ use Rattle.k_terms.specs.Size.{ksize_t}
 use Rattle.k_terms.specs.Bound.{KFits, KBound}
 use Rattle.k_laws.specs.Translates.{cps_program}
 use Rattle.k_laws.specs.Annotate.{cps_term}
+use Rattle.k_laws.specs.Annotated.{Annotated}
+use Rattle.k_laws.specs.Cps.{cps_of}
 use Rattle.k_laws.specs.Count.{count}
 
 -- the term halts with the integer within so many calls
@@ -65,3 +68,7 @@ CpsFits = (e : Term) → IsAccepted e TInt → KFits (7 * nodes e + 598) 1600 (c
 
 abbrev pub CpsKeepsBound : Type 0
 CpsKeepsBound = (e : Term) → IsAccepted e TInt → nodes e ≤ 4294967295 → KBound (cps_term e)
+
+-- where types stand beside a program that are its own, they are annotations, and the conversion is the program's
+abbrev pub OneConversion : Type 0
+OneConversion = (e : Noted) → IsProgram (bare e) → Beside e NoTys → Annotated false e 0 NoTys TInt × (cps_of e ≡ cps_term (bare e))

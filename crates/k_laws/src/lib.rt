@@ -1,7 +1,7 @@
 //! Laws of conversion to continuation-passing style.
 #![tactic(auto)]
 
-ghost use Rattle.k_laws.specs.Correct.{KeepsMeaning, KeepsTypes, KeepsReach, IsTranslated, CpsKeepsMeaning, CpsKeepsTypes, CpsKeepsReach, SizeIs, CpsFits, CpsKeepsBound};
+ghost use Rattle.k_laws.specs.Correct.{KeepsMeaning, KeepsTypes, KeepsReach, IsTranslated, CpsKeepsMeaning, CpsKeepsTypes, CpsKeepsReach, SizeIs, CpsFits, CpsKeepsBound, OneConversion};
 ghost use Rattle.k_laws.specs.Sites.{CodesAreSites};
 
 /// Every translation keeps the meaning.
@@ -57,4 +57,9 @@ pub fn conversion_fits()
 /// The conversion of a program keeps the bound of programs.
 pub fn conversion_keeps_the_bound()
     ensures { CpsKeepsBound }
+{}
+
+/// Where types stand beside a program that are its own, the conversion reads them as the program's.
+pub fn one_conversion()
+    ensures { OneConversion }
 {}

@@ -1,0 +1,47 @@
+-- The tree of a term with a table of types beside it, by the numbers of its nodes: each is the type of its node.
+use Rattle.std.specs.Prelude.{ℕ, pos, ◌-◌, List, [], ◌∷◌, map}
+use Rattle.arena.specs.Arena.{parts}
+use Rattle.f_terms.specs.Ty.{Ty, TAll}
+use Rattle.f_terms.specs.Noted.{Noted, EVar, ENum, EFix, EApp, EGen, EInst, ETuple, EProj, EArith, EIf, noteds}
+use Rattle.f_terms.specs.Read.{tree}
+use Rattle.f_terms.specs.ReadTerm.{count}
+use Rattle.f_terms.specs.declared.types.FType.{FType}
+use Rattle.f_terms.specs.declared.types.FType.TheVariants as T
+use Rattle.f_terms.specs.declared.node.FShape.{FShape}
+use Rattle.f_terms.specs.declared.node.FShape.TheVariants.{Var, Int, Fix, App, Gen, Inst, Tuple, Proj, Arith, If0}
+use Rattle.f_terms.specs.declared.node.FNode.{FNode}
+use Rattle.f_terms.specs.declared.node.FTerm.{FTerm}
+
+-- what an `all` stands before
+abbrev pub under_all : Ty → Ty
+under_all (TAll t) = t
+under_all t = t
+
+-- the tree of a form whose type is t, where at has those of its children
+abbrev pub noted_shape : (ℕ → Noted) → Ty → FShape → Noted
+noted_shape at t (Var i) = EVar i
+noted_shape at t (Int n) = ENum n
+noted_shape at t (Fix a r b) = EFix (tree a) (tree r) (at b)
+noted_shape at t (App f x) = EApp (at f) (at x) t
+noted_shape at t (Gen b) = EGen (at b) (under_all t)
+noted_shape at t (Inst e s) = EInst (at e) (tree s) t
+noted_shape at t (Tuple es) = ETuple (noteds (map at es.items)) t
+noted_shape at t (Proj i e) = EProj i (at e) t
+noted_shape at t (Arith op a b) = EArith op (at a) (at b)
+noted_shape at t (If0 c a b) = EIf (at c) (at a) (at b) t
+
+abbrev pub noted_node : (ℕ → Noted) → FNode × FType → Noted
+noted_node at n = noted_shape at (tree n.1) n.0.shape
+
+-- each node with its type
+abbrev pub beside : List FNode → List FType → List (FNode × FType)
+beside [] ts = []
+beside (n ∷ ns) [] = (n, T.Int) ∷ beside ns []
+beside (n ∷ ns) (t ∷ ts) = (n, t) ∷ beside ns ts
+
+-- the tree of each node, and of the whole
+abbrev pub noted_at : FTerm → List FType → ℕ → Noted
+noted_at f ts = parts (ENum (pos 0)) noted_node (beside f.nodes.items ts)
+
+abbrev pub noted_of : FTerm → List FType → Noted
+noted_of f ts = noted_at f ts (count f - 1)

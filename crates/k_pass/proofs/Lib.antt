@@ -1,0 +1,10 @@
+pub mod Stacks
+pub mod Moves
+pub mod TypeLists
+pub mod Fields
+pub mod Gives
+pub mod Ends
+pub mod Inside
+pub mod Scopes
+pub mod Known
+pub mod Holds

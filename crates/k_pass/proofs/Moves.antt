@@ -1,0 +1,276 @@
+-- The moves of the conversion.
+use Rattle.std.proofs.Common.{◌≡◌, ℕ, zero, suc, ◌+◌, ◌-◌, ◌<◌, ◌≤◌, List, [], ◌∷◌, ◌++◌, Option, Some, None, map, length, take, get_or, refl, sym, ap, ap₂, ◌∙◌, subst, arith, sum_by, Vec, Global, Bor}
+use Rattle.k_terms.specs.K as K
+use Rattle.k_terms.specs.Stream.{NVar, NTuple, NCode, NEnd, NName, NProj, NArith, NCall, NIf, NElse, NHalt}
+use Rattle.k_terms.specs.Read.{knode, ktree, ktys}
+use Rattle.k_terms.specs.declared.node.KNode.{KNode}
+use Rattle.k_terms.specs.declared.types.KType.{KType}
+use Rattle.f_terms.specs.Ty.{Ty, TArrow, TAll}
+use Rattle.f_terms.specs.Read.{tree}
+use Rattle.f_terms.specs.declared.types.FType.{FType}
+use Rattle.f_terms.specs.Noted.{Noted, EFix, EGen, EIf}
+use Rattle.k_laws.specs.Cps as s
+use Rattle.k_laws.specs.Cps.{Level, kty, taking}
+use Rattle.k_pass.specs.Emit.{Rest, Bind, Pass, Place, atom_node, atom_nodes, deliver, named, as_value, bound_once, rest_args, fix_args, gen_args, to_call, to_inst, to_arith, to_proj, to_tuple, emit, emit_all, halting}
+use Rattle.k_pass.specs.Machine.{Nodes, atom, folded, scope, inner, at, Rests, top, below, branches, through, rests, Todo, then, todo, says, stream, written, steps, steps_all, frame_steps, pending_steps, control_steps, owed, Begins, Steps, Goes, Hands, FieldsGo, after, rest_of, IsRestless, tail_of}
+use Rattle.k_pass.specs.declared.work.Atom.{Atom}
+use Rattle.k_pass.specs.declared.work.Atom.TheVariants as A
+use Rattle.k_pass.specs.declared.work.Frame.{Frame}
+use Rattle.k_pass.specs.declared.work.Frame.TheVariants as F
+use Rattle.k_pass.specs.declared.work.Pending.{Pending}
+use Rattle.k_pass.specs.declared.work.Pending.TheVariants as P
+use Rattle.k_pass.specs.declared.work.Control.{Control}
+use Rattle.k_pass.specs.declared.work.Control.TheVariants as C
+use Rattle.k_pass.specs.declared.work.Work.{Work}
+use Rattle.k_pass.proofs.Stacks.{folded_push, sum_push, arrives, pushed, wrote}
+
+pub pop_is : {A : Type 0} (old rest : List A) (x y : A) → old ≡ rest ++ x ∷ [] → x ≡ y → old ≡ rest ++ y ∷ []
+pop_is old rest x y e is = e ∙ ap (λ z. rest ++ z ∷ []) is
+
+-- a move to a state whose stacks are known
+pub finish : (t : ℕ → Noted) (w w' : Work) (ns : Nodes) (n : ℕ) (c : Control) (ks : Rests) (td : Todo) (p : Place) →
+    rests t w'.frames.items ≡ ks → todo t w'.pending.items ≡ td → at w' ≡ p →
+    written w' ++ says t ks td p c ≡ written w ++ ns → control_steps t c + owed t w' < n + owed t w → Begins t w ns n w' c
+finish t w w' ns n c ks td p e f g same less = (sym same ∙ ap (λ (x : Nodes). written w' ++ x) (sym (arrives t w' c ks td p e f g)), less)
+
+-- a function: its body comes first, in tail place, under its own name, its argument's and that of what comes after
+pub fixes : (t : ℕ → Noted) (w w' : Work) (arg res : Bor FType) (body d first level inside : ℕ) (xs : List ℕ) (tys : K.KTys) →
+    ((ns : Nodes) → written w' ++ ns ≡ written w ++ NCode d w.types 0 tys ∷ ns) →
+    tys ≡ fix_args (tree arg.now) (tree res.now) →
+    w'.frames.items ≡ w.frames.items ++ F.Tail level ∷ [] → w'.pending.items ≡ w.pending.items ++ P.Fix d arg res ∷ [] →
+    xs ≡ w.names.items ++ d ∷ [] → w'.names.items ≡ xs ++ first ∷ [] → w'.types ≡ w.types →
+    first ≡ suc d → level ≡ suc first → inside ≡ suc level →
+    Goes t w (EFix (tree arg.now) (tree res.now) (t body)) d w' (C.Walk body inside)
+fixes t w w' arg res body d first level inside xs tys wr tyse fse pse xse xse' tve e1 e2 e3 =
+    let names = scope w.names.items in
+    let tv = w.types in
+    let ks = rests t w.frames.items in
+    let td = todo t w.pending.items in
+    let R : Nodes = NEnd ∷ named (kty (TArrow (tree arg.now) (tree res.now))) (top ks (tv, names)) d (td (tv, names) (below ks)) in
+    let E : ℕ → ℕ → ℕ → Nodes = λ x y z. emit (t body) z (tv, x ∷ d ∷ names) (Pass tv y) R in
+    let T : K.KTys = fix_args (tree arg.now) (tree res.now) in
+    let f1 : level ≡ suc (suc d) = e2 ∙ ap suc e1 in
+    let f2 : inside ≡ suc (suc (suc d)) = e3 ∙ ap suc f1 in
+    finish t w w' _ (steps (EFix (tree arg.now) (tree res.now) (t body))) (C.Walk body inside) (through t (F.Tail level) ks) (then t (P.Fix d arg res) td) (tv, first ∷ d ∷ names)
+    (folded_push (through t) [] _ _ (F.Tail level) fse)
+    (folded_push (then t) (λ ns qs. []) _ _ (P.Fix d arg res) pse)
+    (ap₂ (λ (x : ℕ) (ns : List ℕ). (x, ns)) tve (folded_push (λ x ns. x ∷ ns) [] _ _ first xse' ∙ ap (λ (ns : List ℕ). first ∷ ns) (folded_push (λ x ns. x ∷ ns) [] _ _ d xse)))
+    (wr (E first level inside)
+    ∙ ap (λ (u : K.KTys). written w ++ NCode d tv 0 u ∷ E first level inside) tyse
+    ∙ ap (λ x. written w ++ NCode d tv 0 T ∷ E x level inside) e1
+    ∙ ap (λ x. written w ++ NCode d tv 0 T ∷ E (suc d) x inside) f1
+    ∙ ap (λ x. written w ++ NCode d tv 0 T ∷ E (suc d) (suc (suc d)) x) f2)
+    (omega (arith, sum_push (frame_steps t) _ _ _ fse, sum_push (pending_steps t) _ _ _ pse))
+
+pub gens : (t : ℕ → Noted) (w w' : Work) (ty : Bor FType) (body d level inside tv' : ℕ) (tys : K.KTys) →
+    ((ns : Nodes) → written w' ++ ns ≡ written w ++ NCode d w.types 1 tys ∷ ns) →
+    tys ≡ gen_args (tree ty.now) →
+    w'.frames.items ≡ w.frames.items ++ F.Tail level ∷ [] → w'.pending.items ≡ w.pending.items ++ P.Gen d w.types ty ∷ [] → w'.names.items ≡ w.names.items →
+    w'.types ≡ tv' → tv' ≡ suc w.types → level ≡ suc d → inside ≡ suc level →
+    Goes t w (EGen (t body) (tree ty.now)) d w' (C.Walk body inside)
+gens t w w' ty body d level inside tv' tys wr tyse fse pse xse tve tve' e1 e2 =
+    let names = scope w.names.items in
+    let tv = w.types in
+    let ks = rests t w.frames.items in
+    let td = todo t w.pending.items in
+    let R : Nodes = NEnd ∷ named (kty (TAll (tree ty.now))) (top ks (tv, names)) d (td (tv, names) (below ks)) in
+    let E : ℕ → ℕ → Nodes = λ y z. emit (t body) z (suc tv, names) (Pass (suc tv) y) R in
+    let T : K.KTys = gen_args (tree ty.now) in
+    let f2 : inside ≡ suc (suc d) = e2 ∙ ap suc e1 in
+    finish t w w' _ (steps (EGen (t body) (tree ty.now))) (C.Walk body inside) (through t (F.Tail level) ks) (then t (P.Gen d tv ty) td) (suc tv, names)
+    (folded_push (through t) [] _ _ (F.Tail level) fse)
+    (folded_push (then t) (λ ns qs. []) _ _ (P.Gen d tv ty) pse)
+    (ap₂ (λ (x : ℕ) (ns : List ℕ). (x, ns)) (tve ∙ tve') (ap scope xse))
+    (wr (E level inside)
+    ∙ ap (λ (u : K.KTys). written w ++ NCode d tv 1 u ∷ E level inside) tyse
+    ∙ ap (λ x. written w ++ NCode d tv 1 T ∷ E x inside) e1
+    ∙ ap (λ x. written w ++ NCode d tv 1 T ∷ E (suc d) x) f2)
+    (omega (arith, sum_push (frame_steps t) _ _ _ fse, sum_push (pending_steps t) _ _ _ pse))
+
+-- an `if0` in tail place
+pub if_tail : (t : ℕ → Noted) (w : Work) (v v2 : Vec Frame Global) (ty : Ty) (c a b d l : ℕ) →
+    w.frames.items ≡ v.items ++ F.Tail l ∷ [] → v2.items ≡ v.items ++ F.Test a b l ∷ [] →
+    Goes t w (EIf (t c) (t a) (t b) ty) d (record w { frames = v2 }) (C.Walk c d)
+if_tail t w v v2 ty c a b d l e f =
+    let p = at w in
+    let td = todo t w.pending.items in (
+      ap (λ (ks : Rests). written w ++ emit (EIf (t c) (t a) (t b) ty) d p (top ks p) (td p (below ks))) (folded_push (through t) [] _ _ (F.Tail l) e)
+          ∙ ap (λ (ks : Rests). written w ++ says t ks td p (C.Walk c d)) (sym (folded_push (through t) [] _ _ (F.Test a b l) f)),
+      omega (arith, sum_push (frame_steps t) _ _ _ e, sum_push (frame_steps t) _ _ _ f),
+    )
+
+-- one that isn't: what comes after it is named first, and comes now
+pub if_rest : (t : ℕ → Noted) (w w' : Work) (ty : Bor FType) (c a b d level inside : ℕ) (tys : K.KTys) →
+    IsRestless t w.frames.items →
+    ((ns : Nodes) → written w' ++ ns ≡ written w ++ NCode d w.types 0 tys ∷ ns) →
+    tys ≡ rest_args (kty (tree ty.now)) →
+    w'.frames.items ≡ w.frames.items → w'.pending.items ≡ w.pending.items ++ P.If0 c a b d ty ∷ [] → w'.names.items ≡ w.names.items → w'.types ≡ w.types →
+    level ≡ suc d → inside ≡ suc level →
+    Goes t w (EIf (t c) (t a) (t b) (tree ty.now)) d w' (C.Give (A.Level level) inside)
+if_rest t w w' ty c a b d level inside tys restless wr tyse fse pse xse tve e1 e2 =
+    let p = at w in
+    let tv = w.types in
+    let ks = rests t w.frames.items in
+    let td = todo t w.pending.items in
+    let R : Nodes = td p (below ks) in
+    let S : Nodes = NEnd ∷ NName d (taking (kty (tree ty.now))) ∷ emit (t c) (suc d) p (branches (t a) (t b) d p) R in
+    let f2 : inside ≡ suc (suc d) = e2 ∙ ap suc e1 in
+    let G : Rest → Nodes = λ k. bound_once tv (kty (tree ty.now)) k d (λ d1 l. emit (t c) d1 p (branches (t a) (t b) l p)) R in
+    let H : Rest → ℕ → ℕ → Nodes = λ k x z. deliver k z (Level x) S in
+    let T : K.KTys = rest_args (kty (tree ty.now)) in
+    finish t w w' (G (top ks p)) (steps (EIf (t c) (t a) (t b) (tree ty.now))) (C.Give (A.Level level) inside) ks (then t (P.If0 c a b d ty) td) p
+    (ap (rests t) fse)
+    (folded_push (then t) (λ ns qs. []) _ _ (P.If0 c a b d ty) pse)
+    (ap₂ (λ (x : ℕ) (ns : List ℕ). (x, ns)) tve (ap scope xse))
+    (wr (H (top ks p) level inside)
+    ∙ ap (λ (u : K.KTys). written w ++ NCode d tv 0 u ∷ H (top ks p) level inside) tyse
+    ∙ ap (λ x. written w ++ NCode d tv 0 T ∷ H (top ks p) x inside) e1
+    ∙ ap (λ x. written w ++ NCode d tv 0 T ∷ H (top ks p) (suc d) x) f2
+    ∙ ap (λ (k : Rest). written w ++ NCode d tv 0 T ∷ H k (suc d) (suc (suc d))) (restless p).1
+    ∙ sym (ap (λ (k : Rest). written w ++ G k) (restless p).1))
+    (omega (arith, ap (sum_by (frame_steps t)) fse, sum_push (pending_steps t) _ _ _ pse))
+
+-- what comes after a term is handed over
+pub hand_tail : (t : ℕ → Noted) (w : Work) (o : Vec KNode Global) (v : Vec Frame Global) (ty : K.KTy) (d l : ℕ) →
+    w.frames.items ≡ v.items ++ F.Tail l ∷ [] →
+    ((ns : Nodes) → map knode o.items ++ ns ≡ written w ++ NVar l ∷ ns) →
+    Hands t w ty d (record w { out = o; frames = v }) C.Ended
+hand_tail t w o v ty d l e wr =
+    let p = at w in
+    let td = todo t w.pending.items in (
+      ap (λ (ks : Rests). written w ++ as_value w.types ty (top ks p) d (td p (below ks))) (folded_push (through t) [] _ _ (F.Tail l) e)
+          ∙ sym (wr (td p (rests t v.items))),
+      omega (arith, sum_push (frame_steps t) _ _ _ e),
+    )
+
+pub hand_rest : (t : ℕ → Noted) (w w' : Work) (ty : K.KTy) (d level inside : ℕ) (tys : K.KTys) →
+    IsRestless t w.frames.items →
+    ((ns : Nodes) → written w' ++ ns ≡ written w ++ NCode d w.types 0 tys ∷ ns) →
+    tys ≡ rest_args ty →
+    w'.frames.items ≡ w.frames.items → w'.pending.items ≡ w.pending.items ++ P.End ∷ [] → w'.names.items ≡ w.names.items → w'.types ≡ w.types →
+    level ≡ suc d → inside ≡ suc level →
+    Hands t w ty d w' (C.Give (A.Level level) inside)
+hand_rest t w w' ty d level inside tys restless wr tyse fse pse xse tve e1 e2 =
+    let p = at w in
+    let tv = w.types in
+    let ks = rests t w.frames.items in
+    let td = todo t w.pending.items in
+    let R : Nodes = td p (below ks) in
+    let f2 : inside ≡ suc (suc d) = e2 ∙ ap suc e1 in
+    let G : Rest → Nodes = λ k. as_value tv ty k d R in
+    let H : Rest → ℕ → ℕ → Nodes = λ k x z. deliver k z (Level x) (NEnd ∷ R) in
+    let T : K.KTys = rest_args ty in
+    finish t w w' (G (top ks p)) 3 (C.Give (A.Level level) inside) ks (then t P.End td) p
+    (ap (rests t) fse) (folded_push (then t) (λ ns qs. []) _ _ P.End pse) (ap₂ (λ (x : ℕ) (ns : List ℕ). (x, ns)) tve (ap scope xse))
+    (wr (H (top ks p) level inside)
+    ∙ ap (λ (u : K.KTys). written w ++ NCode d tv 0 u ∷ H (top ks p) level inside) tyse
+    ∙ ap (λ x. written w ++ NCode d tv 0 T ∷ H (top ks p) x inside) e1
+    ∙ ap (λ x. written w ++ NCode d tv 0 T ∷ H (top ks p) (suc d) x) f2
+    ∙ ap (λ (k : Rest). written w ++ NCode d tv 0 T ∷ H k (suc d) (suc (suc d))) (restless p).1
+    ∙ sym (ap (λ (k : Rest). written w ++ G k) (restless p).1))
+    (omega (arith, ap (sum_by (frame_steps t)) fse, sum_push (pending_steps t) _ _ _ pse))
+
+-- the last frame
+abbrev IsBinding : Rest → Type 0
+IsBinding k = (form : ℕ → s.Atom → Nodes → Nodes) × (k ≡ Bind form)
+
+binds : (t : ℕ → Noted) (f : Frame) (ks : Rests) (p : Place) → tail_of f ≡ None → IsBinding (top (through t f ks) p)
+binds t (F.Fun x ty) ks names e = (_, refl)
+binds t (F.Arg f ty) ks names e = (_, refl)
+binds t (F.Inst arg ty) ks names e = (_, refl)
+binds t (F.Left op b) ks names e = (_, refl)
+binds t (F.Right op a) ks names e = (_, refl)
+binds t (F.Proj i ty) ks names e = (_, refl)
+binds t (F.Fields rest done ty) ks names e = (_, refl)
+binds t (F.Tail l) ks names e = let h : Some l ≡ None = e in cc
+binds t (F.Test a b l) ks names e = (_, refl)
+
+is_tail : (f : Frame) (l : ℕ) → tail_of f ≡ Some l → f ≡ F.Tail l
+is_tail (F.Tail k) l e = let h : Some k ≡ Some l = e in cc
+is_tail (F.Fun x ty) l e = let h : None ≡ Some l = e in cc
+is_tail (F.Arg f ty) l e = let h : None ≡ Some l = e in cc
+is_tail (F.Inst arg ty) l e = let h : None ≡ Some l = e in cc
+is_tail (F.Left op b) l e = let h : None ≡ Some l = e in cc
+is_tail (F.Right op a) l e = let h : None ≡ Some l = e in cc
+is_tail (F.Proj i ty) l e = let h : None ≡ Some l = e in cc
+is_tail (F.Fields rest done ty) l e = let h : None ≡ Some l = e in cc
+is_tail (F.Test a b k) l e = let h : None ≡ Some l = e in cc
+
+last_is : {A : Type 0} (xs : List A) (n : ℕ) (x : A) → length xs ≡ suc n → x ≡ get_or xs n x → xs ≡ take n xs ++ x ∷ []
+last_is [] n x e at = absurd (omega (arith, e))
+last_is (y ∷ []) zero x e at = ap (λ z. z ∷ []) (sym at)
+last_is (y ∷ []) (suc n) x e at = absurd (omega (arith, e))
+last_is (y ∷ z ∷ xs) zero x e at = absurd (omega (arith, e))
+last_is (y ∷ z ∷ xs) (suc n) x e at = ap (λ (ys : List _). y ∷ ys) (last_is (z ∷ xs) n x (omega (arith, e)) at)
+
+pub tail_taken : (xs ys : List Frame) (n : ℕ) (x : Frame) (l : ℕ) → length xs ≡ suc n → x ≡ get_or xs n x → tail_of x ≡ Some l → ys ≡ take n xs → xs ≡ ys ++ F.Tail l ∷ []
+tail_taken xs ys n x l e at tail taken = last_is xs n x e at ∙ ap₂ (λ (zs : List Frame) (z : Frame). zs ++ z ∷ []) (sym taken) (is_tail x l tail)
+
+pub restless : (t : ℕ → Noted) (xs : List Frame) (n : ℕ) (x : Frame) → length xs ≡ suc n → x ≡ get_or xs n x → tail_of x ≡ None → IsRestless t xs
+restless t xs n x e at none names =
+    subst (λ (ks : Rests). IsBinding (top ks names)) (sym (folded_push (through t) [] _ _ x (last_is xs n x e at))) (binds t x (rests t (take n xs)) names none)
+
+pub restless_empty : (t : ℕ → Noted) (xs : List Frame) → length xs ≡ 0 → IsRestless t xs
+restless_empty t [] e names = (_, refl)
+restless_empty t (x ∷ xs) e names = absurd (omega (arith, e))
+
+-- the innermost source name goes
+inner_go : (ls : List ℕ) (x : ℕ) (xs : List ℕ) → folded (λ y ns. y ∷ ns) ls (take (length xs) (x ∷ xs)) ≡ inner (folded (λ y ns. y ∷ ns) (x ∷ ls) xs)
+inner_go ls x [] = refl
+inner_go ls x (y ∷ xs) = inner_go (x ∷ ls) y xs
+
+pub scope_inner : (xs ys : List ℕ) → ys ≡ take (length xs - 1) xs → scope ys ≡ inner (scope xs)
+scope_inner [] ys e = ap scope e
+scope_inner (x ∷ xs) ys e = ap scope (e ∙ ap (λ (n : ℕ). take n (x ∷ xs)) (let h : suc (length xs) - 1 ≡ length xs = omega arith in h)) ∙ inner_go [] x xs
+
+-- what was kept for later comes
+pub resumed : (t : ℕ → Noted) (w : Work) (v : Vec Pending Global) (p : Pending) (w' : Work) (c' : Control) →
+    w.pending.items ≡ v.items ++ p ∷ [] →
+    Begins t (record w { pending = v }) (then t p (todo t v.items) (at w) (rests t w.frames.items)) (pending_steps t p) w' c' →
+    Steps t w C.Ended w' c'
+resumed t w v p w' c' e (b, l) = (
+  ap (λ (td : Todo). written w ++ td (at w) (rests t w.frames.items)) (folded_push (then t) (λ ns qs. []) _ _ p e) ∙ b,
+  omega (arith, l, sum_push (pending_steps t) _ _ p e),
+)
+
+-- a function or a suspended body is named, where the names and the type variables around it are known again
+pub comes_name : (t : ℕ → Noted) (w : Work) (o : Vec KNode Global) (v : Vec ℕ Global) (tv d inside : ℕ) (q : Place) (ty u : K.KTy) →
+    ((ns : Nodes) → map knode o.items ++ ns ≡ written w ++ NEnd ∷ NName d u ∷ ns) → u ≡ ty →
+    (tv, scope v.items) ≡ q → inside ≡ suc d →
+    Begins t w (NEnd ∷ named ty (top (rests t w.frames.items) q) d (todo t w.pending.items q (below (rests t w.frames.items)))) 2 (record w { out = o; names = v; types = tv }) (C.Give (A.Level d) inside)
+comes_name t w o v tv d inside q ty u wr tye qe e =
+    let w' : Work = record w { out = o; names = v; types = tv } in
+    let ks = rests t w.frames.items in
+    let td = todo t w.pending.items in
+    let R : Place → ℕ → Nodes = λ p x. deliver (top ks p) x (Level d) (td p (below ks)) in (
+      ap (λ (p : Place). written w ++ NEnd ∷ NName d ty ∷ R p (suc d)) (sym qe)
+          ∙ ap (λ (x : ℕ). written w ++ NEnd ∷ NName d ty ∷ R (at w') x) (sym e)
+          ∙ ap (λ (x : K.KTy). written w ++ NEnd ∷ NName d x ∷ R (at w') inside) (sym tye)
+          ∙ sym (wr (R (at w') inside)),
+      omega arith,
+    )
+
+pub comes_term : (t : ℕ → Noted) (w : Work) (o : Vec KNode Global) (v : Vec Frame Global) (i d l : ℕ) →
+    ((ns : Nodes) → map knode o.items ++ ns ≡ written w ++ NElse w.types ∷ ns) → v.items ≡ w.frames.items ++ F.Tail l ∷ [] →
+    Begins t w (then t (P.Other i d l) (todo t w.pending.items) (at w) (rests t w.frames.items)) (1 + steps (t i)) (record w { out = o; frames = v }) (C.Walk i d)
+comes_term t w o v i d l wr e =
+    let R : Nodes = emit (t i) d (at w) (Pass w.types l) (todo t w.pending.items (at w) (rests t w.frames.items)) in
+    wrote t w (record w { out = o }) (record w { out = o; frames = v }) (C.Walk i d) (1 + steps (t i)) R (NElse w.types ∷ R) (wr R) refl
+    (pushed t (record w { out = o }) v (F.Tail l) R (1 + steps (t i)) (C.Walk i d) e refl (omega arith))
+
+pub comes_test : (t : ℕ → Noted) (w : Work) (o : Vec KNode Global) (v : Vec Frame Global) (c a b d inside : ℕ) (ty : Bor FType) (u : K.KTy) →
+    ((ns : Nodes) → map knode o.items ++ ns ≡ written w ++ NEnd ∷ NName d u ∷ ns) → u ≡ taking (kty (tree ty.now)) →
+    v.items ≡ w.frames.items ++ F.Test a b d ∷ [] → inside ≡ suc d →
+    Begins t w (then t (P.If0 c a b d ty) (todo t w.pending.items) (at w) (rests t w.frames.items)) (2 + (steps (t c) + steps (t a) + steps (t b))) (record w { out = o; frames = v }) (C.Walk c inside)
+comes_test t w o v c a b d inside ty u wr tye e f =
+    let R : Nodes = emit (t c) (suc d) (at w) (branches (t a) (t b) d (at w)) (todo t w.pending.items (at w) (rests t w.frames.items)) in
+    wrote t w (record w { out = o }) (record w { out = o; frames = v }) (C.Walk c inside) (2 + (steps (t c) + steps (t a) + steps (t b))) R (NEnd ∷ NName d (taking (kty (tree ty.now))) ∷ R)
+    (wr R ∙ ap (λ (x : K.KTy). written w ++ NEnd ∷ NName d x ∷ R) tye) refl
+    (pushed t (record w { out = o }) v (F.Test a b d) R (2 + (steps (t c) + steps (t a) + steps (t b))) (C.Walk c inside) e
+    (ap (λ (x : ℕ). emit (t c) x (at w) (branches (t a) (t b) d (at w)) (todo t w.pending.items (at w) (rests t w.frames.items))) (sym f))
+    (omega arith))
+
+pub comes_end : (t : ℕ → Noted) (w : Work) (o : Vec KNode Global) →
+    ((ns : Nodes) → map knode o.items ++ ns ≡ written w ++ NEnd ∷ ns) →
+    Begins t w (then t P.End (todo t w.pending.items) (at w) (rests t w.frames.items)) 1 (record w { out = o }) C.Ended
+comes_end t w o wr = (sym (wr (todo t w.pending.items (at w) (rests t w.frames.items))), omega arith)

@@ -1,0 +1,9 @@
+use Rattle.std.proofs.Common.{subst, rules}
+use Rattle.f_terms.proofs.Trees.{tree_parts}
+use Rattle.k_pass.proofs.TypeLists.{made_tuple}
+use Rattle.k_pass.proofs.types.+k_type.Goals as goal
+
+pub returns-after-loop-part : goal.returns-after-loop-part
+returns-after-loop-part t c =
+    let whole = tree_parts _ _ _ c.in-Tuple.is c.deref-part-items.ensures.value in
+    made_tuple _ c.loop-part.parts _ _ whole c.loop-part.invariant c.loop-part-test.false

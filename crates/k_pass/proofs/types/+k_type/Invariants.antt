@@ -1,0 +1,8 @@
+use Rattle.std.proofs.Common.{◌≡◌, take, map}
+use Rattle.f_terms.specs.Read.{tree}
+use Rattle.k_terms.specs.Read.{ktree, ktys}
+use Rattle.k_laws.specs.Cps.{kty}
+use Rattle.k_pass.proofs.types.+k_type.Given as goal
+
+abbrev pub invariant-loop-part : goal.invariant-loop-part
+invariant-loop-part l = map ktree l.parts.items ≡ map (λ t. kty (tree t)) (take l.part-index l.part-items)

@@ -1,0 +1,13 @@
+use Rattle.std.proofs.Common.{◌∙◌, ◌++◌, ◌∷◌, List, [], ap, ap₂}
+use Rattle.k_terms.specs.K as K
+use Rattle.k_terms.specs.K.{TKCode, NoKTys, MoreKTys}
+use Rattle.k_terms.specs.Read.{ktree, ktys}
+use Rattle.k_terms.specs.declared.types.KType.{KType}
+use Rattle.k_terms.proofs.Trees.{tree_Code}
+use Rattle.k_pass.proofs.types.all_type.Goals as goal
+
+pub returns : goal.returns
+returns c =
+    tree_Code 1 c.push.new.self
+    ∙ ap (λ (xs : List KType). TKCode 1 (ktys xs)) (c.in_ok-push.ensures.items ∙ ap (λ (xs : List KType). xs ++ c.in_ok-rest.rest ∷ []) c.new-args.ensures.items)
+    ∙ ap (λ (t : K.KTy). TKCode 1 (MoreKTys t NoKTys)) c.in_ok-rest.ensures

@@ -1,0 +1,10 @@
+use Rattle.std.proofs.Common.{◌∙◌, ◌++◌, ◌∷◌, List, [], ap, ap₂}
+use Rattle.k_terms.specs.K as K
+use Rattle.k_terms.specs.K.{TKCode, NoKTys, MoreKTys}
+use Rattle.k_terms.specs.Read.{ktree, ktys}
+use Rattle.k_terms.specs.declared.types.KType.{KType}
+use Rattle.k_terms.proofs.Trees.{tree_Code}
+use Rattle.k_pass.proofs.types.taking_type.Goals as goal
+
+pub returns : goal.returns
+returns c = tree_Code 0 c.push.new.self ∙ ap (λ (xs : List KType). TKCode 0 (ktys xs)) (c.in_ok-push.ensures.items ∙ ap (λ (xs : List KType). xs ++ c.args.t ∷ []) c.new-args.ensures.items)

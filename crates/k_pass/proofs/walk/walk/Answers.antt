@@ -1,0 +1,91 @@
+use Rattle.std.proofs.Common.{◌∙◌, ap, sym, refl, map}
+use Rattle.f_terms.specs.Read.{tree}
+use Rattle.f_terms.specs.Noted.{EApp, EInst, EProj, EArith, EIf}
+use Rattle.f_terms.specs.NotedTerm.{noted_at, noted_shape}
+use Rattle.f_terms.specs.ReadTerm.{count}
+use Rattle.k_pass.specs.declared.work.Control.TheVariants as C
+use Rattle.k_pass.proofs.Gives.{walks, goes_app, goes_inst, goes_proj, goes_arith}
+use Rattle.std.proofs.Common.{length, ◌<◌}
+use Rattle.f_terms.specs.Shape.{children}
+use Rattle.k_pass.specs.Machine.{FrameIn, PendingIn}
+use Rattle.k_pass.proofs.Inside.{all_push, all_pop, all_same, all_two, kids_one, kids_two, kids_three}
+use Rattle.k_pass.proofs.walk.walk.Goals as goal
+
+pub returns-in_ok-push-in-App-clause-steps : goal.returns-in_ok-push-in-App-clause-steps
+returns-in_ok-push-in-App-clause-steps c =
+    let t = noted_at c.args.term.now c.args.types.now in
+    let s = c.in-App in
+    walks t c.args.work.now c.args.node c.args.depth (EApp (t s.f) (t s.x) (tree c.node_at-found.result.1.now))
+    (record { out = c.args.work.now.out; frames = c.push.new.self; pending = c.args.work.now.pending; names = c.args.work.now.names; types = c.args.work.now.types }) (C.Walk s.f c.args.depth)
+    (c.node_at-found.ensures.tree ∙ ap (noted_shape t (tree c.node_at-found.result.1.now)) s.is) (goes_app t c.args.work.now c.push.new.self s.f s.x _ c.args.depth c.in_ok-push-in-App.ensures.items)
+
+pub returns-in_ok-push-in-Inst-clause-steps : goal.returns-in_ok-push-in-Inst-clause-steps
+returns-in_ok-push-in-Inst-clause-steps c =
+    let t = noted_at c.args.term.now c.args.types.now in
+    let s = c.in-Inst in
+    walks t c.args.work.now c.args.node c.args.depth (EInst (t s.e) (tree s.arg) (tree c.node_at-found.result.1.now))
+    (record { out = c.args.work.now.out; frames = c.push-in-Inst.new.self; pending = c.args.work.now.pending; names = c.args.work.now.names; types = c.args.work.now.types }) (C.Walk s.e c.args.depth)
+    (c.node_at-found.ensures.tree ∙ ap (noted_shape t (tree c.node_at-found.result.1.now)) s.is) (goes_inst t c.args.work.now c.push-in-Inst.new.self s.e _ _ c.args.depth c.in_ok-push-in-Inst.ensures.items)
+
+pub returns-in_ok-push-in-Proj-clause-steps : goal.returns-in_ok-push-in-Proj-clause-steps
+returns-in_ok-push-in-Proj-clause-steps c =
+    let t = noted_at c.args.term.now c.args.types.now in
+    let s = c.in-Proj in
+    walks t c.args.work.now c.args.node c.args.depth (EProj s.i (t s.e) (tree c.node_at-found.result.1.now))
+    (record { out = c.args.work.now.out; frames = c.push-in-Proj.new.self; pending = c.args.work.now.pending; names = c.args.work.now.names; types = c.args.work.now.types }) (C.Walk s.e c.args.depth)
+    (c.node_at-found.ensures.tree ∙ ap (noted_shape t (tree c.node_at-found.result.1.now)) s.is) (goes_proj t c.args.work.now c.push-in-Proj.new.self s.i s.e _ c.args.depth c.in_ok-push-in-Proj.ensures.items)
+
+pub returns-in_ok-push-in-Arith-clause-steps : goal.returns-in_ok-push-in-Arith-clause-steps
+returns-in_ok-push-in-Arith-clause-steps c =
+    let t = noted_at c.args.term.now c.args.types.now in
+    let s = c.in-Arith in
+    walks t c.args.work.now c.args.node c.args.depth (EArith s.op (t s.a) (t s.b))
+    (record { out = c.args.work.now.out; frames = c.push-in-Arith.new.self; pending = c.args.work.now.pending; names = c.args.work.now.names; types = c.args.work.now.types }) (C.Walk s.a c.args.depth)
+    (c.node_at-found.ensures.tree ∙ ap (noted_shape t (tree c.node_at-found.result.1.now)) s.is) (goes_arith t c.args.work.now c.push-in-Arith.new.self s.op s.a s.b c.args.depth c.in_ok-push-in-Arith.ensures.items)
+
+pub returns-in_ok-push-in-App-clause-inside : goal.returns-in_ok-push-in-App-clause-inside
+returns-in_ok-push-in-App-clause-inside c =
+    let m = count c.args.term.now in
+    λ kept. let k = kids_two m c.node_at-found.result.0.now.shape c.in-App.f c.in-App.x (ap children c.in-App.is) c.node_at-found.ensures.kids in (k.0, all_push (FrameIn m) _ _ _ c.in_ok-push-in-App.ensures.items kept.0 k.1, kept.1)
+
+pub returns-in_ok-push-in-Arith-clause-inside : goal.returns-in_ok-push-in-Arith-clause-inside
+returns-in_ok-push-in-Arith-clause-inside c =
+    let m = count c.args.term.now in
+    λ kept. let k = kids_two m c.node_at-found.result.0.now.shape c.in-Arith.a c.in-Arith.b (ap children c.in-Arith.is) c.node_at-found.ensures.kids in (k.0, all_push (FrameIn m) _ _ _ c.in_ok-push-in-Arith.ensures.items kept.0 k.1, kept.1)
+
+pub returns-in_ok-push-in-Inst-clause-inside : goal.returns-in_ok-push-in-Inst-clause-inside
+returns-in_ok-push-in-Inst-clause-inside c =
+    let m = count c.args.term.now in
+    λ kept. (kids_one m c.node_at-found.result.0.now.shape c.in-Inst.e (ap children c.in-Inst.is) c.node_at-found.ensures.kids, all_push (FrameIn m) _ _ _ c.in_ok-push-in-Inst.ensures.items kept.0 tt, kept.1)
+
+pub returns-in_ok-push-in-Proj-clause-inside : goal.returns-in_ok-push-in-Proj-clause-inside
+returns-in_ok-push-in-Proj-clause-inside c =
+    let m = count c.args.term.now in
+    λ kept. (kids_one m c.node_at-found.result.0.now.shape c.in-Proj.e (ap children c.in-Proj.is) c.node_at-found.ensures.kids, all_push (FrameIn m) _ _ _ c.in_ok-push-in-Proj.ensures.items kept.0 tt, kept.1)
+
+pub returns-in_ok-next-in-Fix-clause-inside : goal.returns-in_ok-next-in-Fix-clause-inside
+returns-in_ok-next-in-Fix-clause-inside c =
+    let m = count c.args.term.now in
+    λ kept. c.in_ok-next-in-Fix.ensures.inside m (kids_one m c.node_at-found.result.0.now.shape c.in-Fix.body (ap children c.in-Fix.is) c.node_at-found.ensures.kids) kept
+
+pub returns-in_ok-next-in-Gen-clause-inside : goal.returns-in_ok-next-in-Gen-clause-inside
+returns-in_ok-next-in-Gen-clause-inside c =
+    let m = count c.args.term.now in
+    λ kept. c.in_ok-next-in-Gen.ensures.inside m (kids_one m c.node_at-found.result.0.now.shape c.in-Gen.body (ap children c.in-Gen.is) c.node_at-found.ensures.kids) kept
+
+pub returns-in_ok-next-in-If0-clause-inside : goal.returns-in_ok-next-in-If0-clause-inside
+returns-in_ok-next-in-If0-clause-inside c =
+    let m = count c.args.term.now in
+    λ kept. let k = kids_three m c.node_at-found.result.0.now.shape c.in-If0.test c.in-If0.zero c.in-If0.other (ap children c.in-If0.is) c.node_at-found.ensures.kids in c.in_ok-next-in-If0.ensures.inside m k.0 k.1 k.2 kept
+
+pub returns-in_ok-next-in-Tuple-clause-inside : goal.returns-in_ok-next-in-Tuple-clause-inside
+returns-in_ok-next-in-Tuple-clause-inside c =
+    let m = count c.args.term.now in
+    λ kept. c.in_ok-next-in-Tuple.ensures.inside m (all_same (λ k. k < m) _ c.deref-in-Tuple.result.now (c.deref-in-Tuple.ensures.value ∙ sym (ap children c.in-Tuple.is)) c.node_at-found.ensures.kids) kept
+
+pub returns-in_ok-next-in-If0-clause-steps : goal.returns-in_ok-next-in-If0-clause-steps
+returns-in_ok-next-in-If0-clause-steps c =
+    let t = noted_at c.args.term.now c.args.types.now in
+    let s = c.in-If0 in
+    walks t c.args.work.now c.args.node c.args.depth (EIf (t s.test) (t s.zero) (t s.other) (tree c.node_at-found.result.1.now)) c.walk_if0.new.work c.in_ok-next-in-If0.next
+    (c.node_at-found.ensures.tree ∙ ap (noted_shape t (tree c.node_at-found.result.1.now)) s.is) (c.in_ok-next-in-If0.ensures.steps t)

@@ -1,0 +1,27 @@
+use Rattle.f_terms.specs.Noted.{EVar}
+use Rattle.std.proofs.Common.{◌∙◌, ap, sym, refl}
+use Rattle.f_terms.specs.Read.{tree}
+use Rattle.k_laws.specs.Cps.{kty}
+use Rattle.k_pass.specs.Machine.{written}
+use Rattle.k_pass.proofs.Moves.{if_tail, if_rest}
+use Rattle.std.proofs.Common.{[]}
+use Rattle.k_pass.specs.Machine.{FrameIn, PendingIn}
+use Rattle.k_pass.proofs.Inside.{all_push, all_pop, all_same, all_two}
+use Rattle.k_pass.proofs.walk.walk_if0.Goals as goal
+
+pub returns-in_ok-push-in-Some-clause-steps : goal.returns-in_ok-push-in-Some-clause-steps
+returns-in_ok-push-in-Some-clause-steps c = λ t.
+    if_tail t c.args.work.now c.take_tail.new.stack c.push.new.self (tree c.args.ty.now) c.args.test c.args.zero c.args.other c.args.depth c.in-Some.level (c.in-Some.ensures t) c.in_ok-push-in-Some.ensures.items
+
+pub returns-in_ok-inside-in-None-clause-steps : goal.returns-in_ok-inside-in-None-clause-steps
+returns-in_ok-inside-in-None-clause-steps c = λ t.
+    if_rest t c.args.work.now (record { out = c.put.new.out; frames = c.take_tail.new.stack; pending = c.push-in-None.new.self; names = c.args.work.now.names; types = c.args.work.now.types })
+    c.args.ty c.args.test c.args.zero c.args.other c.args.depth c.in_ok-level-in-None.level c.in_ok-inside-in-None.inside _ (c.in-None.ensures t).1
+    c.in_ok-put-in-None.ensures c.in_ok-args-in-None.ensures
+    (c.in-None.ensures t).0 c.in_ok-push-in-None.ensures.items refl refl c.in_ok-level-in-None.ensures c.in_ok-inside-in-None.ensures
+
+pub returns-in_ok-push-in-Some-clause-inside : goal.returns-in_ok-push-in-Some-clause-inside
+returns-in_ok-push-in-Some-clause-inside c = λ m low a b kept. (low, all_push (FrameIn m) _ _ _ c.in_ok-push-in-Some.ensures.items (all_pop (FrameIn m) _ _ _ (c.in-Some.ensures (λ i. EVar 0)) kept.0).0 (a, b), kept.1)
+
+pub returns-in_ok-inside-in-None-clause-inside : goal.returns-in_ok-inside-in-None-clause-inside
+returns-in_ok-inside-in-None-clause-inside c = λ m low a b kept. (tt, all_same (FrameIn m) _ _ (c.in-None.ensures (λ i. EVar 0)).0 kept.0, all_push (PendingIn m) _ _ _ c.in_ok-push-in-None.ensures.items kept.1 (low, a, b))

@@ -1,0 +1,222 @@
+-- What a state of the conversion is still to write.
+use Rattle.std.specs.Prelude.{◌≡◌, ℕ, zero, suc, ◌+◌, ◌<◌, List, [], ◌∷◌, ◌++◌, map, Option, Some, None}
+use Rattle.std.specs.List.{All, sum_by}
+use Rattle.f_terms.specs.Ty.{TArrow, TAll}
+use Rattle.f_terms.specs.Read.{tree}
+use Rattle.k_terms.specs.K as K
+use Rattle.k_terms.specs.Stream as n
+use Rattle.k_terms.specs.Read.{knode}
+use Rattle.f_terms.specs.Noted.{Noted, EVar, ENum, EFix, EApp, EGen, EInst, ETuple, EProj, EArith, EIf, Noteds, NoNoteds, MoreNoteds, noteds}
+use Rattle.k_laws.specs.Cps as s
+use Rattle.k_laws.specs.Cps.{Level, Literal, kty, taking}
+use Rattle.k_pass.specs.Emit.{Rest, Bind, Pass, Place, atom_node, deliver, named, as_value, to_call, to_inst, to_arith, to_proj, to_tuple, emit, emit_all, halting}
+use Rattle.k_pass.specs.declared.work.Atom.{Atom}
+use Rattle.k_pass.specs.declared.work.Atom.TheVariants as A
+use Rattle.k_pass.specs.declared.work.Frame.{Frame}
+use Rattle.k_pass.specs.declared.work.Frame.TheVariants as F
+use Rattle.k_pass.specs.declared.work.Pending.{Pending}
+use Rattle.k_pass.specs.declared.work.Pending.TheVariants as P
+use Rattle.k_pass.specs.declared.work.Control.{Control}
+use Rattle.k_pass.specs.declared.work.Control.TheVariants as C
+use Rattle.k_pass.specs.declared.work.Work.{Work}
+
+abbrev pub Nodes : Type 0
+Nodes = List n.KNd
+
+abbrev pub atom : Atom → s.Atom
+atom (A.Level l) = Level l
+atom (A.Literal n) = Literal n
+
+-- a stack in a vector, whose last item is the top
+abbrev pub folded : {A B : Type 0} → (A → B → B) → B → List A → B
+folded f b [] = b
+folded f b (x ∷ xs) = folded f (f x b) xs
+
+-- the levels of the source's names, innermost first
+abbrev pub scope : List ℕ → List ℕ
+scope xs = folded (λ x names. x ∷ names) [] xs
+
+abbrev pub inner : List ℕ → List ℕ
+inner [] = []
+inner (x ∷ names) = names
+
+-- where a state is
+abbrev pub at : Work → Place
+at w = (w.types, scope w.names.items)
+
+-- the rests of the terms that are open, the innermost first, each for its place
+abbrev pub Rests : Type 0
+Rests = List (Place → Rest)
+
+abbrev pub top : Rests → Place → Rest
+top [] p = halting
+top (k ∷ ks) p = k p
+
+abbrev pub below : Rests → Rests
+below [] = []
+below (k ∷ ks) = ks
+
+-- both branches, for the name of a level
+abbrev pub branches : Noted → Noted → ℕ → Place → Rest
+branches a b l p = Bind (λ d c ns. atom_node c ∷ n.NIf ∷ emit a d p (Pass p.0 l) (n.NElse p.0 ∷ emit b d p (Pass p.0 l) ns))
+
+abbrev pub through : (ℕ → Noted) → Frame → Rests → Rests
+through t (F.Fun x ty) ks = (λ p. Bind (λ d f. emit (t x) d p (to_call p.0 f (kty (tree ty.now)) (top ks p)))) ∷ below ks
+through t (F.Arg f ty) ks = (λ p. to_call p.0 (atom f) (kty (tree ty.now)) (top ks p)) ∷ below ks
+through t (F.Inst arg ty) ks = (λ p. to_inst p.0 (kty (tree arg.now)) (kty (tree ty.now)) (top ks p)) ∷ below ks
+through t (F.Left op b) ks = (λ p. Bind (λ d a. emit (t b) d p (to_arith op a (top ks p)))) ∷ below ks
+through t (F.Right op a) ks = (λ p. to_arith op (atom a) (top ks p)) ∷ below ks
+through t (F.Proj i ty) ks = (λ p. to_proj i (kty (tree ty.now)) (top ks p)) ∷ below ks
+through t (F.Fields rest done ty) ks =
+    (λ p. Bind (λ d a. emit_all (noteds (map t rest.now)) d p (map atom done.items ++ a ∷ []) (to_tuple (kty (tree ty.now)) (top ks p)))) ∷ below ks
+through t (F.Tail l) ks = (λ p. Pass p.0 l) ∷ ks
+through t (F.Test a b l) ks = (λ p. branches (t a) (t b) l p) ∷ ks
+
+abbrev pub rests : (ℕ → Noted) → List Frame → Rests
+rests t fs = folded (through t) [] fs
+
+-- what comes after the terms that are open
+abbrev pub Todo : Type 0
+Todo = Place → Rests → Nodes
+
+abbrev pub then : (ℕ → Noted) → Pending → Todo → Todo
+then t (P.Fix d arg res) td p ks =
+    let outer : Place = (p.0, inner (inner p.1)) in n.NEnd ∷ named (kty (TArrow (tree arg.now) (tree res.now))) (top ks outer) d (td outer (below ks))
+then t (P.Gen d tv ty) td p ks =
+    let outer : Place = (tv, p.1) in n.NEnd ∷ named (kty (TAll (tree ty.now))) (top ks outer) d (td outer (below ks))
+then t (P.Other e d l) td p ks = n.NElse p.0 ∷ emit (t e) d p (Pass p.0 l) (td p ks)
+then t (P.If0 c a b d ty) td p ks = n.NEnd ∷ n.NName d (taking (kty (tree ty.now))) ∷ emit (t c) (suc d) p (branches (t a) (t b) d p) (td p ks)
+then t P.End td p ks = n.NEnd ∷ td p ks
+
+abbrev pub todo : (ℕ → Noted) → List Pending → Todo
+todo t ps = folded (then t) (λ p ks. []) ps
+
+abbrev pub says : (ℕ → Noted) → Rests → Todo → Place → Control → Nodes
+says t ks td p (C.Walk i d) = emit (t i) d p (top ks p) (td p (below ks))
+says t ks td p (C.Give a d) = deliver (top ks p) d (atom a) (td p (below ks))
+says t ks td p C.Ended = td p ks
+
+-- the nodes that a state is still to write
+abbrev pub stream : (ℕ → Noted) → Work → Control → Nodes
+stream t w c = says t (rests t w.frames.items) (todo t w.pending.items) (at w) c
+
+abbrev pub written : Work → Nodes
+written w = map knode w.out.items
+
+-- how many steps are left, at most
+abbrev mutual
+  pub steps : Noted → ℕ
+  steps (EVar i) = 2
+  steps (ENum n) = 2
+  steps (EFix arg res e) = 3 + steps e
+  steps (EGen e t) = 3 + steps e
+  steps (EApp f x t) = 3 + (steps f + steps x)
+  steps (EInst e s t) = 3 + steps e
+  steps (ETuple es t) = 1 + (1 + steps_all es)
+  steps (EProj i e t) = 2 + steps e
+  steps (EArith op a b) = 2 + (steps a + steps b)
+  steps (EIf c a b t) = 4 + (steps c + steps a + steps b)
+
+  pub steps_all : Noteds → ℕ
+  steps_all NoNoteds = 0
+  steps_all (MoreNoteds e es) = steps e + steps_all es
+
+abbrev pub frame_steps : (ℕ → Noted) → Frame → ℕ
+frame_steps t (F.Fun x ty) = 2 + steps (t x)
+frame_steps t (F.Arg f ty) = 2
+frame_steps t (F.Inst arg ty) = 2
+frame_steps t (F.Left op b) = 1 + steps (t b)
+frame_steps t (F.Right op a) = 1
+frame_steps t (F.Proj i ty) = 1
+frame_steps t (F.Fields rest done ty) = 1 + steps_all (noteds (map t rest.now))
+frame_steps t (F.Tail l) = 0
+frame_steps t (F.Test a b l) = 1 + (steps (t a) + steps (t b))
+
+abbrev pub pending_steps : (ℕ → Noted) → Pending → ℕ
+pending_steps t (P.Fix d arg res) = 2
+pending_steps t (P.Gen d tv ty) = 2
+pending_steps t (P.Other e d l) = 1 + steps (t e)
+pending_steps t (P.If0 c a b d ty) = 2 + (steps (t c) + steps (t a) + steps (t b))
+pending_steps t P.End = 1
+
+abbrev pub control_steps : (ℕ → Noted) → Control → ℕ
+control_steps t (C.Walk i d) = steps (t i)
+control_steps t (C.Give a d) = 1
+control_steps t C.Ended = 0
+
+-- the same of all that is kept for later
+abbrev pub owed : (ℕ → Noted) → Work → ℕ
+owed t w = sum_by (frame_steps t) w.frames.items + sum_by (pending_steps t) w.pending.items
+
+-- from a state that is still to write these nodes, by at most n steps more than it keeps for later, to one with fewer steps left
+abbrev pub Begins : (ℕ → Noted) → Work → Nodes → ℕ → Work → Control → Type 0
+Begins t w ns n w' c' = (written w ++ ns ≡ written w' ++ stream t w' c') × (control_steps t c' + owed t w' < n + owed t w)
+
+-- a step: what is written and still to be written stays the same
+abbrev pub Steps : (ℕ → Noted) → Work → Control → Work → Control → Type 0
+Steps t w c w' c' = Begins t w (stream t w c) (control_steps t c) w' c'
+
+-- the same where a term itself is to be converted, where what comes after it is to be handed over, and where fields are
+abbrev pub after : (ℕ → Noted) → Work → Nodes
+after t w = todo t w.pending.items (at w) (below (rests t w.frames.items))
+
+abbrev pub rest_of : (ℕ → Noted) → Work → Rest
+rest_of t w = top (rests t w.frames.items) (at w)
+
+abbrev pub Goes : (ℕ → Noted) → Work → Noted → ℕ → Work → Control → Type 0
+Goes t w e d w' c' = Begins t w (emit e d (at w) (rest_of t w) (after t w)) (steps e) w' c'
+
+abbrev pub Hands : (ℕ → Noted) → Work → K.KTy → ℕ → Work → Control → Type 0
+Hands t w ty d w' c' = Begins t w (as_value w.types ty (rest_of t w) d (after t w)) 3 w' c'
+
+abbrev pub FieldsGo : (ℕ → Noted) → Work → List ℕ → List s.Atom → K.KTy → ℕ → Work → Control → Type 0
+FieldsGo t w es done ty d w' c' =
+    Begins t w (emit_all (noteds (map t es)) d (at w) done (to_tuple ty (rest_of t w)) (after t w)) (1 + (1 + steps_all (noteds (map t es)))) w' c'
+
+-- the level of the name that a frame hands its atom to
+abbrev pub tail_of : Frame → Option ℕ
+tail_of (F.Tail l) = Some l
+tail_of _ = None
+
+-- the innermost term isn't in tail place
+abbrev pub IsRestless : (ℕ → Noted) → List Frame → Type 0
+IsRestless t fs = (p : Place) → (form : ℕ → s.Atom → Nodes → Nodes) × (top (rests t fs) p ≡ Bind form)
+
+-- a step where a term has ended, or nothing is left to write
+abbrev pub ResumeIs : (ℕ → Noted) → Work → Work → Option Control → Type 0
+ResumeIs t w w' None = written w ++ stream t w C.Ended ≡ written w'
+ResumeIs t w w' (Some c') = Steps t w C.Ended w' c'
+
+-- the numbers of nodes that are kept are less than m
+abbrev pub FrameIn : ℕ → Frame → Type 0
+FrameIn m (F.Fun x ty) = x < m
+FrameIn m (F.Arg f ty) = Unit {0}
+FrameIn m (F.Inst arg ty) = Unit {0}
+FrameIn m (F.Left op b) = b < m
+FrameIn m (F.Right op a) = Unit {0}
+FrameIn m (F.Proj i ty) = Unit {0}
+FrameIn m (F.Fields rest done ty) = All (λ i. i < m) rest.now
+FrameIn m (F.Tail l) = Unit {0}
+FrameIn m (F.Test a b l) = (a < m) × (b < m)
+
+abbrev pub PendingIn : ℕ → Pending → Type 0
+PendingIn m (P.Fix d arg res) = Unit {0}
+PendingIn m (P.Gen d tv ty) = Unit {0}
+PendingIn m (P.Other e d l) = e < m
+PendingIn m (P.If0 c a b d ty) = (c < m) × (a < m) × (b < m)
+PendingIn m P.End = Unit {0}
+
+abbrev pub ControlIn : ℕ → Control → Type 0
+ControlIn m (C.Walk i d) = i < m
+ControlIn m (C.Give a d) = Unit {0}
+ControlIn m C.Ended = Unit {0}
+
+abbrev pub KeptIn : ℕ → Work → Type 0
+KeptIn m w = All (FrameIn m) w.frames.items × All (PendingIn m) w.pending.items
+
+abbrev pub Inside : ℕ → Work → Control → Type 0
+Inside m w c = ControlIn m c × All (FrameIn m) w.frames.items × All (PendingIn m) w.pending.items
+
+abbrev pub NextIn : ℕ → Work → Option Control → Type 0
+NextIn m w None = Unit {0}
+NextIn m w (Some c) = Inside m w c

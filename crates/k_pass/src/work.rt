@@ -1,0 +1,86 @@
+// What the conversion has made, and what is still to be done.
+
+use f_terms::FType;
+use idx_core::Op;
+use k_terms::KNode;
+
+/// What stands in place: a name, by the number of names outside it, or an integer.
+#[derive(Clone, Copy)]
+pub(crate) enum Atom {
+    Level(u64),
+    Literal(i64),
+}
+
+/// What is done with an atom that comes.
+#[derive(Drop)]
+pub(crate) enum Frame<'a> {
+    /// It is the function: the argument is next.
+    Fun { x: u64, ty: &'a FType },
+    /// It is the argument.
+    Arg { f: Atom, ty: &'a FType },
+    /// It is applied to a type.
+    Inst { arg: &'a FType, ty: &'a FType },
+    /// It is the left operand: the right one is next.
+    Left { op: Op, b: u64 },
+    /// It is the right operand.
+    Right { op: Op, a: Atom },
+    /// A field is taken of it.
+    Proj { i: u64, ty: &'a FType },
+    /// It is a field: those after it are next.
+    Fields { rest: &'a [u64], done: Vec<Atom>, ty: &'a FType },
+    /// It is handed to the name of this level, and the term ends.
+    Tail { level: u64 },
+    /// It is tested: both branches hand their atom to the name of this level, and the term ends.
+    Test { zero: u64, other: u64, level: u64 },
+}
+
+/// What comes where a term has ended.
+#[derive(Clone, Copy)]
+pub(crate) enum Pending<'a> {
+    /// The term was the body of a `fix`, which gets a name.
+    Fix {
+        depth: u64,
+        arg: &'a FType,
+        res: &'a FType,
+    },
+    /// The term was the body of a `gen`, which gets a name; so many type variables are around it.
+    Gen {
+        depth: u64,
+        types: u64,
+        ty: &'a FType,
+    },
+    /// The other branch.
+    Other {
+        node: u64,
+        depth: u64,
+        level: u64,
+    },
+    /// The term was what comes after an `if0`: its test and its branches come now.
+    If0 {
+        test: u64,
+        zero: u64,
+        other: u64,
+        depth: u64,
+        ty: &'a FType,
+    },
+    /// The term was the body of a code that is handed over.
+    End,
+}
+
+/// What is next.
+#[derive(Clone, Copy)]
+pub(crate) enum Control {
+    Walk { node: u64, depth: u64 },
+    Give { atom: Atom, depth: u64 },
+    Ended,
+}
+
+/// The nodes so far, the frames, what comes where a term ends, the levels of the source's names, and the number of type variables in scope.
+#[derive(Drop)]
+pub(crate) struct Work<'a> {
+    pub(crate) out: Vec<KNode>,
+    pub(crate) frames: Vec<Frame<'a>>,
+    pub(crate) pending: Vec<Pending<'a>>,
+    pub(crate) names: Vec<u64>,
+    pub(crate) types: u64,
+}

@@ -7,6 +7,7 @@ use Rattle.c_law.specs.Free.{tfree, tfrees, tfree_v, tfree_vs, tfree_d, tfree_t}
 use Rattle.c_law.specs.Close.{Scope, ctype, ctypes, inner, with_var, open_if, with_decl, in_call, no_scope}
 use Rattle.k_terms.specs.Stream.{KNd, NTuple, NEnd, NName, NProj, NArith, NPack, NUnpack, NCell, NGet, NSet, NCall, NIf, NElse, NHalt, klin_v, klin_vs, klin_d, klin_t, kwidth}
 use Rattle.c_walk.specs.Emit.{notes_v, notes_vs, notes_d, notes_t, Calls, Packs, info_of, infos_v, infos_vs, infos_d, infos_t}
+use Rattle.c_walk.specs.Walks.{top_side}
 use Rattle.c_walk.specs.Know.{with_note, Clue, Bound, Side, Known, side_var, side_of, info_from, bind, bind_all, side_depth, with_info, side_with, know, clue_of, clues_v, clues_vs, clues_d, clues_t}
 use Rattle.c_walk.proofs.Spots.{lift_add}
 use Rattle.c_walk.proofs.Fusion.{or_left, or_right}
@@ -208,9 +209,6 @@ mutual
       (λ ys p. know_t t d s ys f o fs us (clues_t d td u cs) R1 (still_holds td d xs ys s.types p h) fit (left td b e (right td a both c))
         (λ zs o1 b1 q. let r = keeps_more d xs ys zs p q in ap (λ n. know (klin_t d td s.types u rest) zs (side_with n false f) fs (clues_t d td u cs)) (back f o td fit.deep) ∙ know_t u d s zs f o fs rest cs R (still_holds td d xs zs s.types r h) fit (right td b e (right td a both c)) (λ ws o2 b2 w. k ws o2 b2 (keeps_more d xs zs ws r w))))
   know_t (KHalt v) d s xs f o fs rest cs R h fit c k = know_v v d s xs f o false fs (NHalt ∷ rest) cs R h fit c (λ ys p. k ys o false p)
-
-abbrev pub top_side : Side
-top_side = record { depth = 0; owes = 0; kept = []; calling = false }
 
 pub know_is : (t : KTm) → ((j : ℕ) → tfree_t j t ≡ true → ⊥) →
     know (klin_t 0 0 [] t []) [] top_side [] (clues_t 0 0 t []) ≡ (let k : Known = record { infos = infos_t 0 no_scope t []; notes = notes_t no_scope t [] } in k)

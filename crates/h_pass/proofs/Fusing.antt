@@ -1,5 +1,5 @@
 -- A walk along the nodes of a tree.
-use Rattle.std.proofs.Common.{◌≡◌, ◌<◌, ◌≤◌, ℕ, zero, suc, ◌+◌, ◌-◌, Bool, true, false, ◌⊎◌, inl, inr, List, [], ◌∷◌, ◌++◌, Option, Some, None, refl, sym, ap, ap₂, ◌∙◌, subst, append_assoc, length, take, drop, arith}
+use Rattle.std.proofs.Common.{◌≡◌, ◌<◌, ℕ, zero, suc, ◌-◌, Bool, ◌⊎◌, inl, inr, List, [], ◌∷◌, ◌++◌, Option, Some, None, refl, sym, ap, ap₂, ◌∙◌, subst, append_assoc, length, take, drop, arith}
 use Rattle.std.proofs.lemmas.List.{length-append, append-nil}
 use Rattle.term_core.specs.Ends.{lift}
 use Rattle.term_core.specs.Levels.{level_of}
@@ -7,7 +7,7 @@ use Rattle.c_terms.specs.C.{CApply, CArith, CCall, CCell, CCode, CDecl, CGet, CH
 use Rattle.c_terms.specs.Scope.{CScoped, CScoped_d, CScoped_v, CScoped_vs}
 use Rattle.c_terms.specs.Stream.{CNd, MApply, MArith, MCall, MCell, MCode, MElse, MEnd, MGet, MHalt, MIf, MInt, MName, MPack, MProj, MSet, MTuple, MUnpack, MVar, clin_d, clin_t, clin_v, clin_vs, cwidth}
 use Rattle.h_terms.specs.H.{HApply, HBlks, HCall, HDecl, HIf, HLabel, HLet, HPack, HTm, HTuple, HVal, HVals, HVar, MoreHVals, NoHVals}
-use Rattle.h_terms.specs.Nodes.{at_last, no_term, tied, tupled, values}
+use Rattle.h_terms.specs.Nodes.{at_last, no_term, tied, tupled}
 use Rattle.h_terms.specs.Row.{others, top}
 use Rattle.h_pass.proofs.Spots.{deep, deep_suc, first_or, level_below, lift_add, near, self}
 use Rattle.h_pass.specs.Hoist.{Code, Nobody, Own, blocks_d, blocks_t, blocks_v, blocks_vs, hoist_d, hoist_t, hoist_v, hoist_vs, spot, spot_value}
@@ -190,7 +190,7 @@ mutual
       let e = deep own d in
       fuse_v v own d b ds [] None fs (MIf ∷ clin_t e t (MElse ∷ clin_t e u rest)) h.0
       ∙ ap (λ r. with (blocks_v b v) (if_fine (hoist_v own d b v) r))
-        (fuse_t t own d c1 (e ∷ ds) fs (MElse ∷ clin_t e u rest) tt h.1 ∙ ap (and_term (hoist_t own d c1 t) (blocks_t c1 t)) (fuse_t u own d c2 ds fs rest ends h.2))
+      (fuse_t t own d c1 (e ∷ ds) fs (MElse ∷ clin_t e u rest) tt h.1 ∙ ap (and_term (hoist_t own d c1 t) (blocks_t c1 t)) (fuse_t u own d c2 ds fs rest ends h.2))
       ∙ with_if (hoist_v own d b v) (hoist_t own d c1 t) (hoist_t own d c2 u) (blocks_v b v) (blocks_t c1 t) (blocks_t c2 u) _
   fuse_t (CHalt v) own d b ds fs rest ends h = fuse_v v own d b ds [] None fs (MHalt ∷ rest) h
 

@@ -6,3 +6,4 @@ pub mod PutsBack
 pub mod ScopedProps
 pub mod Fusing
 pub mod Stepping
+pub mod Finishing

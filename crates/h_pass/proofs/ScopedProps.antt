@@ -1,5 +1,5 @@
 -- That names are in scope is a proposition.
-use Rattle.std.proofs.Common.{ℕ, suc, ◌<◌}
+use Rattle.std.proofs.Common.{ℕ, suc}
 use Rattle.std.proofs.Props.{props}
 use Rattle.term_core.specs.Ends.{lift}
 use Rattle.c_terms.specs.C.{CApply, CArith, CCall, CCell, CCode, CDecl, CGet, CHalt, CIf, CInt, CLet, CName, CPack, CProj, CSet, CTm, CTuple, CUnpack, CVal, CVals, CVar, MoreCVals, NoCVals, ccount}

@@ -1,5 +1,5 @@
 -- The steps of the walk.
-use Rattle.std.proofs.Common.{◌≡◌, ◌<◌, ◌≤◌, ℕ, zero, suc, ◌+◌, ◌-◌, Bool, true, false, List, [], ◌∷◌, ◌++◌, Option, Some, None, refl, sym, ap, ap₂, ◌∙◌, subst, append_assoc, length, get_or, slice_set, arith, Vec, Global, Result, OnOk}
+use Rattle.std.proofs.Common.{◌≡◌, ◌<◌, ◌≤◌, ℕ, zero, suc, Bool, true, false, List, [], ◌∷◌, ◌++◌, Option, Some, None, refl, sym, ap, ap₂, ◌∙◌, subst, append_assoc, length, get_or, slice_set, arith, Vec, Global, Result, OnOk}
 use Rattle.std.proofs.lemmas.List.{length-append, append-nil}
 use Rattle.std.proofs.lemmas.Result.{on_ok_weaker}
 use Rattle.c_terms.specs.Stream as S
@@ -138,7 +138,7 @@ emitted form parts r bs own ns new ds after fs p is kids st =
       rows = st.rows;
       begun = λ rest h.
           subst (λ xs. HRow xs 1) (sym (ap (λ xs. xs ++ rest) is ∙ append_assoc ns (node ∷ []) rest))
-            (st.begun (node ∷ rest) (subst (HRow (node ∷ rest)) (sym (some_long ds some)) (arity_of form (reads [] parts.items) (both_right (is_some ds) ok tests), subst (HRow rest) (kids some) h)));
+          (st.begun (node ∷ rest) (subst (HRow (node ∷ rest)) (sym (some_long ds some)) (arity_of form (reads [] parts.items) (both_right (is_some ds) ok tests), subst (HRow rest) (kids some) h)));
       all = st.all;
       labelled = st.labelled;
     }
@@ -157,9 +157,9 @@ begins k r bs new b e cur ns ds after fs p is at row long ns_is after_is st = re
   same =
       ap (λ (t : HTm). closes cur.own (body_with cur.nodes.items (top [] r.outer)) fs (others r.outer) (filled b t (h_blocks new ++ r.blocks))) (ap (λ xs. body_with xs r.terms) ns_is)
       ∙ ap (closes cur.own (body_with cur.nodes.items (top [] r.outer)) fs (others r.outer))
-        (ap₂ (λ l xs. filled l (top no_term r.terms) (h_blocks xs ++ r.blocks)) at is
-         ∙ ap (filled (length bs) (top no_term r.terms)) (blocks_push bs k r.blocks)
-         ∙ fill_new bs (h_block k) r.blocks (top no_term r.terms))
+      (ap₂ (λ l xs. filled l (top no_term r.terms) (h_blocks xs ++ r.blocks)) at is
+      ∙ ap (filled (length bs) (top no_term r.terms)) (blocks_push bs k r.blocks)
+      ∙ fill_new bs (h_block k) r.blocks (top no_term r.terms))
       ∙ st.same;
   rows = subst HRows (sym is) (rows_push bs k st.rows row);
   begun = λ rest h. subst (λ xs. HRow (xs ++ rest) 1) (sym ns_is) (subst (λ xs. HRow rest (length xs)) after_is h);
@@ -197,7 +197,7 @@ starts rest bs ns ds ps fs e1 e2 e3 e4 e5 fine =
     (subst (λ x. Stands (found_in rest 0 Nobody x (reads [] ps) None (around fs)) [] None [] x fs ((hoisted rest).blocks, top no_term (hoisted rest).terms)) (sym e3)
     (subst (λ x. Stands (found_in rest 0 Nobody (0 ∷ []) (reads [] x) None (around fs)) [] None [] (0 ∷ []) fs ((hoisted rest).blocks, top no_term (hoisted rest).terms)) (sym e4)
     (subst (λ x. Stands (found_in rest 0 Nobody (0 ∷ []) [] None (around x)) [] None [] (0 ∷ []) x ((hoisted rest).blocks, top no_term (hoisted rest).terms)) (sym e5)
-      (record { fine = fine; same = refl; rows = tt; begun = λ more h. h; all = tt; labelled = tt })))))
+    (record { fine = fine; same = refl; rows = tt; begun = λ more h. h; all = tt; labelled = tt })))))
 
 no_outer : (fs : List Open) → is_none (around fs) ≡ true → fs ≡ []
 no_outer [] h = refl
@@ -231,7 +231,7 @@ emits form parts n after rest b o ds ds2 c fs bs own ns new left gs p made none 
     let old : Stands (built form vs (both (is_some ds) (arity form vs)) r) bs own ns ds gs p = subst (λ x. Stands x bs own ns ds gs p) (makes rest b o ds vs c fs) st in
     subst (λ xs. Stands (found_in rest b o xs (reads [] left) c fs) bs own new xs gs p) (sym deep)
     (subst (λ (xs : List HPart). Stands (found_in rest b o (after ds) (reads [] xs) c fs) bs own new (after ds) gs p) (sym none)
-      (emitted form parts r bs own ns new ds (after ds) gs p made kids old))
+    (emitted form parts r bs own ns new ds (after ds) gs p made kids old))
 
 pub declared : (form : HForm) (ds : List ℕ) → h_kids form ≡ 1 → is_some ds ≡ true → length (one_name ds) ≡ lift (h_kids form) (length (others ds))
 declared form ds one s = sym (ap (λ k. lift k (length (others ds))) one)
@@ -247,11 +247,11 @@ calls types parts rest b o ds ds2 old now fs bs own ns new left gs p ends e1 e2 
     let r = found_in rest b o (others ds) [] None fs in
     let vs = reads [] parts.items in
     let before : Stands (built (F.Call types) vs (both (is_some ds) (is_some vs)) r) bs own ns ds gs p =
-      quiet (found_in rest b o ds vs (waiting old) fs) (built (F.Call types) vs (both (is_some ds) (is_some vs)) r) bs own ns ds gs p (sym (ap (λ (x : Option (Vec CType Global)). found_in rest b o ds vs (waiting x) fs) e1 ∙ call_ends rest b o ds vs (ctys types.items) fs ends)) st in
+    quiet (found_in rest b o ds vs (waiting old) fs) (built (F.Call types) vs (both (is_some ds) (is_some vs)) r) bs own ns ds gs p (sym (ap (λ (x : Option (Vec CType Global)). found_in rest b o ds vs (waiting x) fs) e1 ∙ call_ends rest b o ds vs (ctys types.items) fs ends)) st in
     subst (λ (x : Option (Vec CType Global)). Stands (found_in rest b o ds2 (reads [] left) (waiting x) fs) bs own new ds2 gs p) (sym e2)
     (subst (λ xs. Stands (found_in rest b o xs (reads [] left) None fs) bs own new xs gs p) (sym deep)
     (subst (λ (xs : List HPart). Stands (found_in rest b o (others ds) (reads [] xs) None fs) bs own new (others ds) gs p) (sym none)
-      (emitted (F.Call types) parts r bs own ns new ds (others ds) gs p made (λ s. refl) before)))
+    (emitted (F.Call types) parts r bs own ns new ds (others ds) gs p made (λ s. refl) before)))
 
 pub as_node : (w : Walk) (n k : S.CNd) (rest : List S.CNd) (p : HBlks × HTm) → n ≡ k → Walked w (n ∷ rest) p → Walked w (k ∷ rest) p
 as_node w n k rest p is st = subst (λ x. Walked w (x ∷ rest) p) is st
@@ -271,7 +271,7 @@ close_none rest w p call out st =
     let ds = w.current.depths.items in
     let vs = reads [] w.current.parts.items in
     let one : (found_in (S.MEnd ∷ rest) (length bs) (own_of w.current.own) ds vs None (around w.outer.items)).fine ≡ true =
-      subst (λ (x : Option (Vec CType Global)). (found_in (S.MEnd ∷ rest) (length bs) (own_of w.current.own) ds vs (waiting x) (around w.outer.items)).fine ≡ true) call st.fine in
+    subst (λ (x : Option (Vec CType Global)). (found_in (S.MEnd ∷ rest) (length bs) (own_of w.current.own) ds vs (waiting x) (around w.outer.items)).fine ≡ true) call st.fine in
     off (subst (λ (x : List Open). (found_in (S.MEnd ∷ rest) (length bs) (own_of w.current.own) ds vs None (around x)).fine ≡ true) out one)
 
 -- the label of the code that closes
@@ -290,15 +290,15 @@ end_goes rest w f cur inner gs outer l new p call out is cur_is outer_is mine lt
     let vs = reads [] w.current.parts.items in
     let nodes : inner.nodes.items ≡ ns = ap (λ (x : Open). x.nodes.items) is in
     let now : h_blocks new ≡ filled l (h_tree ns) (h_blocks bs) =
-      made ∙ ap (λ (x : Open). fill_own x.own (h_tree x.nodes.items) (h_blocks bs)) is ∙ ap (λ (x : Option ℕ). fill_own x (h_tree ns) (h_blocks bs)) mine in
+    made ∙ ap (λ (x : Open). fill_own x.own (h_tree x.nodes.items) (h_blocks bs)) is ∙ ap (λ (x : Option ℕ). fill_own x (h_tree ns) (h_blocks bs)) mine in
     let s1 : Stands (found_in (S.MEnd ∷ rest) (length bs) (own_of w.current.own) ds vs None (around w.outer.items)) bs w.current.own ns ds w.outer.items p =
-      subst (λ (x : Option (Vec CType Global)). Stands (found_in (S.MEnd ∷ rest) (length bs) (own_of w.current.own) ds vs (waiting x) (around w.outer.items)) bs w.current.own ns ds w.outer.items p) call st in
+    subst (λ (x : Option (Vec CType Global)). Stands (found_in (S.MEnd ∷ rest) (length bs) (own_of w.current.own) ds vs (waiting x) (around w.outer.items)) bs w.current.own ns ds w.outer.items p) call st in
     let s2 : Stands (out_found (is_none ds) (at_open rest (length bs) f gs)) bs w.current.own ns ds (f ∷ gs) p =
-      subst (λ (x : List Open). Stands (found_in (S.MEnd ∷ rest) (length bs) (own_of w.current.own) ds vs None (around x)) bs w.current.own ns ds x p) out s1 in
+    subst (λ (x : List Open). Stands (found_in (S.MEnd ∷ rest) (length bs) (own_of w.current.own) ds vs None (around x)) bs w.current.own ns ds x p) out s1 in
     let s3 : Stands (out_found (is_none ds) (at_open rest (length bs) f gs)) bs (Some l) ns ds (f ∷ gs) p =
-      subst (λ (x : Option ℕ). Stands (out_found (is_none ds) (at_open rest (length bs) f gs)) bs x ns ds (f ∷ gs) p) mine s2 in
+    subst (λ (x : Option ℕ). Stands (out_found (is_none ds) (at_open rest (length bs) f gs)) bs x ns ds (f ∷ gs) p) mine s2 in
     let s4 : Stands (at_open rest (length bs) f gs) new f.own f.nodes.items f.depths.items gs p =
-      ends l (at_open rest (length bs) f gs) bs new ns ds f gs p lt count now (λ h. rows (subst (λ (x : List HNode). HRow x 1) (sym nodes) h)) s3 in
+    ends l (at_open rest (length bs) f gs) bs new ns ds f gs p lt count now (λ h. rows (subst (λ (x : List HNode). HRow x 1) (sym nodes) h)) s3 in
     subst (λ (x : Open). Stands (at_open rest (length new) x outer) new x.own x.nodes.items x.depths.items outer p) (sym cur_is)
     (subst (λ (x : List Open). Stands (at_open rest (length new) f x) new f.own f.nodes.items f.depths.items x p) (sym outer_is)
     (subst (λ n. Stands (at_open rest n f gs) new f.own f.nodes.items f.depths.items gs p) (sym count) s4))
@@ -309,7 +309,7 @@ pub close_goes : (rest : List S.CNd) (w : Walk) (f cur inner : Open) (gs outer :
     Walked w (S.MEnd ∷ rest) p → Stands (at_open rest (length new) cur outer) new cur.own cur.nodes.items cur.depths.items outer p
 close_goes rest w f cur inner gs outer new p call out is cur_is outer_is count made rows st =
     its_label (length w.blocks.items) w.current.own f gs (subst (Labelled (length w.blocks.items) w.current.own) out st.labelled)
-      (λ l mine lt. end_goes rest w f cur inner gs outer l new p call out is cur_is outer_is mine lt count made rows st)
+    (λ l mine lt. end_goes rest w f cur inner gs outer l new p call out is cur_is outer_is mine lt count made rows st)
 
 count_is : (ts : List CType) → ccount (ctys ts) ≡ length ts
 count_is [] = refl
@@ -335,16 +335,16 @@ begin_goes rest w owes args body parts inner cur outer label count new p is row 
     let outs : outer ≡ g ∷ w.outer.items = outer_is ∙ ap (λ (x : Open). x ∷ w.outer.items) cur_is in
     let long : length new ≡ suc b = ap length is ∙ length-append bs (k ∷ []) ∙ omega arith in
     let same : at_open rest (length new) inner outer ≡ r =
-      ap (λ n. at_open rest n inner outer) long
-      ∙ ap (λ (x : Option ℕ). found_in rest (suc b) (own_of x) inner.depths.items (reads [] inner.parts.items) (waiting inner.call) (around outer)) mine
-      ∙ ap (λ x. found_in rest (suc b) (Code b) x (reads [] inner.parts.items) (waiting inner.call) (around outer)) deep
-      ∙ ap (λ (x : List HPart). found_in rest (suc b) (Code b) (e ∷ []) (reads [] x) (waiting inner.call) (around outer)) none
-      ∙ ap (λ (x : Option (Vec CType Global)). found_in rest (suc b) (Code b) (e ∷ []) [] (waiting x) (around outer)) call
-      ∙ ap (λ (x : List Open). found_in rest (suc b) (Code b) (e ∷ []) [] None (around x)) outs
-      ∙ ap (λ (x : List HVal). found_in rest (suc b) (Code b) (e ∷ []) [] None ((let y : Around = record { own = own_of w.current.own; depths = w.current.depths.items; values = x; call = waiting w.current.call } in y) ∷ fs))
-        (put ∙ ap (λ l. reads [] w.current.parts.items ++ HLabel l ∷ []) at) in
+    ap (λ n. at_open rest n inner outer) long
+    ∙ ap (λ (x : Option ℕ). found_in rest (suc b) (own_of x) inner.depths.items (reads [] inner.parts.items) (waiting inner.call) (around outer)) mine
+    ∙ ap (λ x. found_in rest (suc b) (Code b) x (reads [] inner.parts.items) (waiting inner.call) (around outer)) deep
+    ∙ ap (λ (x : List HPart). found_in rest (suc b) (Code b) (e ∷ []) (reads [] x) (waiting inner.call) (around outer)) none
+    ∙ ap (λ (x : Option (Vec CType Global)). found_in rest (suc b) (Code b) (e ∷ []) [] (waiting x) (around outer)) call
+    ∙ ap (λ (x : List Open). found_in rest (suc b) (Code b) (e ∷ []) [] None (around x)) outs
+    ∙ ap (λ (x : List HVal). found_in rest (suc b) (Code b) (e ∷ []) [] None ((let y : Around = record { own = own_of w.current.own; depths = w.current.depths.items; values = x; call = waiting w.current.call } in y) ∷ fs))
+    (put ∙ ap (λ l. reads [] w.current.parts.items ++ HLabel l ∷ []) at) in
     let s1 : Stands r new (Some b) inner.nodes.items inner.depths.items (g ∷ w.outer.items) p =
-      begins k r bs new b e g inner.nodes.items w.current.depths.items inner.depths.items w.outer.items p is refl row refl nodes deep st in
+    begins k r bs new b e g inner.nodes.items w.current.depths.items inner.depths.items w.outer.items p is refl row refl nodes deep st in
     let s2 : Stands r new inner.own inner.nodes.items inner.depths.items (g ∷ w.outer.items) p = subst (λ (x : Option ℕ). Stands r new x inner.nodes.items inner.depths.items (g ∷ w.outer.items) p) (sym mine) s1 in
     let s3 : Stands r new inner.own inner.nodes.items inner.depths.items outer p = subst (λ (x : List Open). Stands r new inner.own inner.nodes.items inner.depths.items x p) (sym outs) s2 in
     quiet r (at_open rest (length new) inner outer) new inner.own inner.nodes.items inner.depths.items outer p same s3
@@ -355,7 +355,7 @@ moved_on w ns ms p e st = subst (λ x. Walked w x p) e st
 pub whole_of : (w : Walk) (p : HBlks × HTm) → w.current.call ≡ None → Walked w [] p → Whole w.blocks.items w.current.nodes.items p
 whole_of w p e st =
     finished w.blocks.items w.current.own w.current.nodes.items w.current.depths.items w.outer.items p
-      (subst (λ (x : Option (Vec CType Global)). Stands (found_in [] (length w.blocks.items) (own_of w.current.own) w.current.depths.items (reads [] w.current.parts.items) (waiting x) (around w.outer.items)) w.blocks.items w.current.own w.current.nodes.items w.current.depths.items w.outer.items p) e st)
+    (subst (λ (x : Option (Vec CType Global)). Stands (found_in [] (length w.blocks.items) (own_of w.current.own) w.current.depths.items (reads [] w.current.parts.items) (waiting x) (around w.outer.items)) w.blocks.items w.current.own w.current.nodes.items w.current.depths.items w.outer.items p) e st)
 
 pub at_end : (w v : Walk) (left : List CNode) (p : HBlks × HTm) → left ≡ [] → Walked w (written left []) p → v.current.call ≡ None → ((rest : List S.CNd) → Ends rest → Goes w rest v rest) → Whole v.blocks.items v.current.nodes.items p
 at_end w v left p none st call goes = whole_of v p call (goes [] tt p (moved_on w (written left []) [] p (ap (λ (xs : List CNode). written xs []) none) st))

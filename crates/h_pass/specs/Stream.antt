@@ -1,5 +1,5 @@
 -- Hoisting along the nodes.
-use Rattle.std.specs.Prelude.{◌≡◌, ◌<◌, ℕ, zero, suc, ◌+◌, ◌-◌, Bool, true, false, List, [], ◌∷◌, ◌++◌, Option, Some, None}
+use Rattle.std.specs.Prelude.{◌≡◌, ℕ, zero, suc, ◌-◌, Bool, true, false, List, [], ◌∷◌, ◌++◌, Option, Some, None}
 use Rattle.term_core.specs.Ends.{lift}
 use Rattle.c_terms.specs.C.{CTm, CTys, ccount}
 use Rattle.c_terms.specs.Stream.{CNd, MApply, MArith, MCall, MCell, MCode, MElse, MEnd, MGet, MHalt, MIf, MInt, MName, MPack, MProj, MSet, MTuple, MUnpack, MVar}

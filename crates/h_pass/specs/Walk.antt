@@ -1,5 +1,5 @@
 -- What the walk keeps.
-use Rattle.std.specs.Prelude.{◌≡◌, ◌<◌, ℕ, zero, suc, ◌+◌, Bool, true, false, List, [], ◌∷◌, ◌++◌, Option, Some, None, length}
+use Rattle.std.specs.Prelude.{◌≡◌, ◌<◌, ℕ, zero, suc, Bool, true, List, [], ◌∷◌, ◌++◌, Option, Some, None, length}
 use Rattle.std.proofs.Common.{Vec, Global}
 use Rattle.c_terms.specs.Stream as S
 use Rattle.c_terms.specs.declared.types.CType.{CType}

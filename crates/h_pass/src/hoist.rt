@@ -31,10 +31,8 @@ pub fn hoist(alloc: Global, program: &CProgram) -> Result<HProgram, OutOfMemory>
     ensures main { IfOk result (λ r. main_in r ≡ main_of (term_of program.now)) }
     ensures back { IfOk result (λ r. IsHoisted (blocks_in r) (main_in r) (term_of program.now)) }
     ensures meaning { IfOk result (λ r. (n : ℕ) → hrun n (blocks_in r) (main_in r) ≡ crun n (term_of program.now)) }
-    ensures reach {
-        IfOk result (λ r. (N R B : ℕ) →
-            CGoodP (CWithin N R B) 0 [] (term_of program.now) → HProgramP (CWithin N R B) (blocks_in r) (main_in r))
-    }
+    ensures reach { IfOk result (λ r. (N R B : ℕ) →
+        CGoodP (CWithin N R B) 0 [] (term_of program.now) → HProgramP (CWithin N R B) (blocks_in r) (main_in r)) }
 {
     bound_is_scoped_law();
     scoped_is_back_law();
@@ -77,7 +75,17 @@ fn made(walk: Walk) -> HProgram
     ensures blocks { blocks_in result ≡ h_blocks walk.blocks.items }
     ensures main { main_in result ≡ h_tree walk.current.nodes.items }
 {
-    let Walk { blocks, current, outer: _ } = walk;
-    let Open { own: _, nodes, parts: _, call: _, depths: _ } = current;
+    let Walk {
+        blocks,
+        current,
+        outer: _,
+    } = walk;
+    let Open {
+        own: _,
+        nodes,
+        parts: _,
+        call: _,
+        depths: _,
+    } = current;
     HProgram::new(blocks, nodes)
 }

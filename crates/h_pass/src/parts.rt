@@ -124,12 +124,16 @@ pub fn hole(alloc: Global) -> Result<Vec<HNode>, OutOfMemory>
 // The nodes of a code become the body of its block. A code of no block is skipped.
 pub fn put_body(blocks: &mut Vec<HBlock>, code: Open)
     ensures count { length blocks.new.items ≡ length blocks.old.items }
-    ensures made {
-        h_blocks blocks.new.items ≡ fill_own code.own (h_tree code.nodes.items) (h_blocks blocks.old.items)
-    }
+    ensures made { h_blocks blocks.new.items ≡ fill_own code.own (h_tree code.nodes.items) (h_blocks blocks.old.items) }
     ensures rows { HRow code.nodes.items 1 → HRows blocks.old.items → HRows blocks.new.items }
 {
-    let Open { own, nodes, parts: _, call: _, depths: _ } = code;
+    let Open {
+        own,
+        nodes,
+        parts: _,
+        call: _,
+        depths: _,
+    } = code;
     match own {
         None => (),
         Some(label) => fill(blocks, label, nodes),

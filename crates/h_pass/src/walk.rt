@@ -130,7 +130,12 @@ impl Walk {
     fn declare(&mut self, alloc: Global, form: HForm) -> Result<(), OutOfMemory>
         ensures { OnOk result ((n : S.CNd) → Declares form n → Steps self.old n self.new) }
     {
-        emit(alloc, &mut self.current.nodes, &mut self.current.parts, form)?;
+        emit(
+            alloc,
+            &mut self.current.nodes,
+            &mut self.current.parts,
+            form,
+        )?;
         deepen(&mut self.current.depths)?;
         Ok(())
     }
@@ -152,7 +157,12 @@ impl Walk {
         match mem::replace(&mut self.current.call, None) {
             None => Ok(()),
             Some(types) => {
-                emit(alloc, &mut self.current.nodes, &mut self.current.parts, HForm::Call(types))?;
+                emit(
+                    alloc,
+                    &mut self.current.nodes,
+                    &mut self.current.parts,
+                    HForm::Call(types),
+                )?;
                 shorten(&mut self.current.depths);
                 Ok(())
             }
@@ -163,7 +173,12 @@ impl Walk {
     fn choose(&mut self, alloc: Global) -> Result<(), OutOfMemory>
         ensures { OnOk result (Steps self.old S.MIf self.new) }
     {
-        emit(alloc, &mut self.current.nodes, &mut self.current.parts, HForm::If0)?;
+        emit(
+            alloc,
+            &mut self.current.nodes,
+            &mut self.current.parts,
+            HForm::If0,
+        )?;
         let here = depth(&self.current.depths);
         self.current.depths.push_front(here)?;
         Ok(())
@@ -181,7 +196,12 @@ impl Walk {
     fn halt(&mut self, alloc: Global) -> Result<(), OutOfMemory>
         ensures { OnOk result (Steps self.old S.MHalt self.new) }
     {
-        emit(alloc, &mut self.current.nodes, &mut self.current.parts, HForm::Halt)?;
+        emit(
+            alloc,
+            &mut self.current.nodes,
+            &mut self.current.parts,
+            HForm::Halt,
+        )?;
         shorten(&mut self.current.depths);
         Ok(())
     }

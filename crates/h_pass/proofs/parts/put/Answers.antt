@@ -1,4 +1,4 @@
-use Rattle.std.proofs.Common.{◌≡◌, ◌∙◌, ap, []}
+use Rattle.std.proofs.Common.{◌∙◌, ap, []}
 use Rattle.h_pass.proofs.parts.put.Goals as goal
 use Rattle.h_terms.specs.Nodes.{reads}
 use Rattle.h_pass.proofs.Stepping.{reads_push}

@@ -1,6 +1,6 @@
 use Rattle.std.proofs.Common.{◌≡◌, Some, None, rules}
 use Rattle.h_pass.proofs.state.Walk.finish_call.Goals as goal
-use Rattle.h_pass.proofs.Stepping.{calls, ends}
+use Rattle.h_pass.proofs.Stepping.{calls}
 
 pub returns-in_ok-emit-in-Some-clause-goes : goal.returns-in_ok-emit-in-Some-clause-goes
 returns-in_ok-emit-in-Some-clause-goes c = λ rest ends p st.

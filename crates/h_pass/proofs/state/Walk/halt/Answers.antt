@@ -8,4 +8,4 @@ use Rattle.h_pass.proofs.Stepping.{emits}
 pub returns : goal.returns
 returns c = λ rest p st.
     emits F.Halt c.args.self.now.current.parts S.MHalt others rest _ _ _ _ _ _ _ _ _ _ _ _ p
-      c.in_ok-emit.ensures.nodes c.in_ok-emit.ensures.parts c.shorten.ensures (λ s. refl) (λ ns b own xs vs w fs. refl) st
+    c.in_ok-emit.ensures.nodes c.in_ok-emit.ensures.parts c.shorten.ensures (λ s. refl) (λ ns b own xs vs w fs. refl) st

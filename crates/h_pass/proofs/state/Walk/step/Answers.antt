@@ -1,4 +1,4 @@
-use Rattle.std.proofs.Common.{◌≡◌, refl, ap, sym, ◌∙◌, ◌∷◌, [], ◌++◌, rules, to_z, of_z, w64}
+use Rattle.std.proofs.Common.{◌≡◌, refl, ap, sym, ◌∙◌, rules, to_z, of_z, w64}
 use Rattle.std.proofs.lemmas.Result.{on_ok_weaker}
 use Rattle.h_terms.specs.declared.node.HForm.TheVariants as F
 use Rattle.h_terms.specs.declared.node.HPart.TheVariants as P
@@ -38,7 +38,7 @@ pub returns-in-Int : goal.returns-in-Int
 returns-in-Int c =
     let same : to_z w64 (of_z w64 c.in-Int.n) ≡ c.in-Int.n = search rules in
     part_step c.part.result (P.Int (to_z w64 (of_z w64 c.in-Int.n))) _ (S.MInt (to_z w64 (of_z w64 c.in-Int.n))) c.args.self.now c.part.new.self
-      (ap cnode c.in-Int.is ∙ ap S.MInt (sym same)) (λ ns b own ds vs w fs. refl) c.part.ensures
+    (ap cnode c.in-Int.is ∙ ap S.MInt (sym same)) (λ ns b own ds vs w fs. refl) c.part.ensures
 
 pub returns-in-Tuple : goal.returns-in-Tuple
 returns-in-Tuple c = part_step c.part-in-Tuple.result (P.Tuple c.in-Tuple.count) _ _ c.args.self.now c.part-in-Tuple.new.self (ap cnode c.in-Tuple.is) (λ ns b own ds vs w fs. refl) c.part-in-Tuple.ensures

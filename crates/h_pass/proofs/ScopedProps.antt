@@ -1,0 +1,34 @@
+-- That names are in scope is a proposition.
+use Rattle.std.proofs.Common.{ℕ, suc}
+use Rattle.std.proofs.Props.{props}
+use Rattle.term_core.specs.Ends.{lift}
+use Rattle.c_terms.specs.C.{CApply, CArith, CCall, CCell, CCode, CDecl, CGet, CHalt, CIf, CInt, CLet, CName, CPack, CProj, CSet, CTm, CTuple, CUnpack, CVal, CVals, CVar, MoreCVals, NoCVals, ccount}
+use Rattle.c_terms.specs.Scope.{CScoped, CScoped_d, CScoped_v, CScoped_vs}
+
+mutual
+  prop_v : (e : ℕ) (v : CVal) → IsProp (CScoped_v e v)
+  prop_v e (CVar i) = hlevel props
+  prop_v e (CInt n) = hlevel
+  prop_v e (CTuple vs) = prop_vs e vs
+  prop_v e (CCode owes args body) = scoped_prop (lift (ccount args) 1) body
+  prop_v e (CApply v ts) = prop_v e v
+  prop_v e (CPack h v s) = prop_v e v
+
+  prop_vs : (e : ℕ) (vs : CVals) → IsProp (CScoped_vs e vs)
+  prop_vs e NoCVals = hlevel
+  prop_vs e (MoreCVals v vs) = hlevel (prop_v e v, prop_vs e vs)
+
+  prop_d : (e : ℕ) (x : CDecl) → IsProp (CScoped_d e x)
+  prop_d e (CName v) = prop_v e v
+  prop_d e (CProj i v) = prop_v e v
+  prop_d e (CArith op v w) = hlevel (prop_v e v, prop_v e w)
+  prop_d e (CUnpack v) = prop_v e v
+  prop_d e (CCell v) = prop_v e v
+  prop_d e (CGet v) = prop_v e v
+  prop_d e (CSet v w) = hlevel (prop_v e v, prop_v e w)
+
+  pub scoped_prop : (e : ℕ) (t : CTm) → IsProp (CScoped e t)
+  scoped_prop e (CLet x t) = hlevel (prop_d e x, scoped_prop (suc e) t)
+  scoped_prop e (CCall f ts vs) = hlevel (prop_v e f, prop_vs e vs)
+  scoped_prop e (CIf v t u) = hlevel (prop_v e v, scoped_prop e t, scoped_prop e u)
+  scoped_prop e (CHalt v) = prop_v e v

@@ -2,8 +2,10 @@ mod CLaws
 mod Cells
 mod Fits
 mod Meaning
+mod PutBack
 mod Regs
 mod Rel
+mod Scopes
 mod Thirds
 mod Tuples
 mod Types

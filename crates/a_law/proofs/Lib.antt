@@ -6,6 +6,7 @@ mod PutBack
 mod Regs
 mod Rel
 mod Scopes
+mod Standing
 mod Thirds
 mod Tuples
 mod Types

@@ -97,9 +97,15 @@ module _ (ks : HBlks) where
     settle : (e : HDecl) (o : Option HWord) (m : List ℕ) (h heap : A.AHeap) (d : ℕ) (env vars : List A.AWord) (st : HWords) → ((rest : ATm) → A.term next (pre_d ks g ls d e rest) env h log ≡ A.term next rest vars heap log) → Later d env (d_next d e) vars → Grows h heap → Stores m h st → OptRel m heap o (A.decl (dcl ls d e) vars heap) → Declared e m h d env (hgiven o st)
     settle e None m h heap d env vars st run k gr s r = tt
     settle e (Some y) m h heap d env vars st run k gr s r = record {
-      cells = m; heap = heap; vars = vars; word = r.0;
+      cells = m;
+      heap = heap;
+      vars = vars;
+      word = r.0;
       runs = λ rest. (run (Let (dcl ls d e) rest) ∙ ap (λ q. A.made q log (λ w h2. A.term next rest (w ∷ vars) h2 log)) r.1);
-      later = k; moves = moves_grow m h heap gr; stores = stores_grow m h heap st gr s; good = r.2;
+      later = k;
+      moves = moves_grow m h heap gr;
+      stores = stores_grow m h heap st gr s;
+      good = r.2;
     }
 
     -- an assignment
@@ -118,7 +124,10 @@ module _ (ks : HBlks) where
         let d2 = v_next (v_next d v) w in
         let init : A.decl (Init (val ls d d2 v) 1 (val ls (v_next d v) d2 w)) vars heap ≡ A.Gives (A.ZTuple a) h2 = rw (ev, r.1, ew, old.3) refl in
         record {
-          cells = m; heap = h2 ++ [] ∷ []; vars = A.ZTuple a ∷ vars; word = A.ZTuple (length h2);
+          cells = m;
+          heap = h2 ++ [] ∷ [];
+          vars = A.ZTuple a ∷ vars;
+          word = A.ZTuple (length h2);
           runs = λ rest.
               (run (Let (Init (val ls d d2 v) 1 (val ls (v_next d v) d2 w)) (Let (Malloc NoATys) rest))
               ∙ ap (λ u. A.made u log (λ x h3. A.term next (Let (Malloc NoATys) rest) (x ∷ vars) h3 log)) init);
@@ -166,7 +175,10 @@ module _ (ks : HBlks) where
         let h2 = x.heap ++ (Some w ∷ []) ∷ [] in
         let s2 = stores_grow m h x.heap st x.grows s in
         record {
-          cells = m ++ at ∷ []; heap = h2; vars = vars; word = A.ZTuple at;
+          cells = m ++ at ∷ [];
+          heap = h2;
+          vars = vars;
+          word = A.ZTuple at;
           runs = λ rest.
               (x.runs (Let (Malloc (atypes (MoreCTys (h_type ks g v) NoCTys))) (Let (Init (Rattle.a_terms.specs.Tree.Var 0) 1 (val ls d (suc l) v)) rest))
               ∙ ap (λ u. A.made u log (λ z h3. A.term next rest (z ∷ vars) h3 log)) step);

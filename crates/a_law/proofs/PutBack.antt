@@ -1,5 +1,5 @@
 -- Putting the tuples back gives the hoisted program.
-use Rattle.std.proofs.Common.{◌≡◌, ◌<◌, ℕ, zero, suc, ◌+◌, ◌-◌, List, [], ◌∷◌, length, Some, None, refl, sym, ap, ◌∙◌, ap₂, arith}
+use Rattle.std.proofs.Common.{◌≡◌, ◌<◌, ℕ, zero, suc, ◌+◌, ◌-◌, List, [], ◌∷◌, Some, None, refl, sym, ap, ◌∙◌, ap₂, arith}
 use Rattle.std.specs.Prelude.{slice_get}
 use Rattle.a_law.proofs.Rel.{At, Later, at_more, at_new}
 use Rattle.a_law.proofs.Scopes.{InT, InV, InVs, args_length, in_t}
@@ -196,7 +196,6 @@ module _ (ks : HBlks) where
       let x = comes_v k ks g ls v d env s c a in
       let d1 = v_next d v in
       x.runs (Halt (val ls d d1 v)) ∙ ap HHalt (x.good d1 x.vars (λ p z q. q))
-
   back_is (HLet (HCell v) t) g ls k d env s c a = absurd c.0
   back_is (HLet (HGet v) t) g ls k d env s c a = absurd c.0
   back_is (HLet (HSet v w) t) g ls k d env s c a = absurd c.0

@@ -126,14 +126,14 @@ depth_is : (ts : CTys) (d : ℕ) → arg_depth d ts ≡ d + ccount ts
 depth_is NoCTys d = omega arith
 depth_is (MoreCTys t ts) d = let r = depth_is ts (suc d) in omega (arith, r)
 
-blocks_regs : (M : ℕ) (ks xs : HBlks) → HAllSmall M xs → AAllRegs (3 * M) (alloc_all ks xs)
-blocks_regs M ks [] h = tt
-blocks_regs M ks (x ∷ xs) h =
+blocks_regs : (N M : ℕ) → 3 * N ≤ M → (ks xs : HBlks) → HAllSmall N xs → AAllRegs M (alloc_all ks xs)
+blocks_regs N M le ks [] h = tt
+blocks_regs N M le ks (x ∷ xs) h =
     let a = arity_is x.args in
     let d = depth_is x.args 0 in
     let e : arg_depth 0 x.args ≡ arity (atypes x.args) = omega (arith, a, d) in
-    let r = regs_t (3 * M) x.body ks (cargs_onto x.args []) (arg_levels 0 [] x.args) (arg_depth 0 x.args) (omega (arith, d, h.0)) in
-    (subst (λ n. ARegs (3 * M) n (alloc_t ks (cargs_onto x.args []) (arg_levels 0 [] x.args) (arg_depth 0 x.args) x.body)) e r, blocks_regs M ks xs h.1)
+    let r = regs_t M x.body ks (cargs_onto x.args []) (arg_levels 0 [] x.args) (arg_depth 0 x.args) (omega (arith, d, h.0)) in
+    (subst (λ n. ARegs M n (alloc_t ks (cargs_onto x.args []) (arg_levels 0 [] x.args) (arg_depth 0 x.args) x.body)) e r, blocks_regs N M le ks xs h.1)
 
-pub alloc_small : (M : ℕ) (ks : HBlks) (t : HTm) → HSmall M ks t → ASmall (3 * M) (alloc_prog ks) (alloc_main ks t)
-alloc_small M ks t h = (blocks_regs M ks ks h.0, regs_t (3 * M) t ks [] [] 0 (omega (arith, h.1)))
+pub alloc_small : (N M : ℕ) → 3 * N ≤ M → (ks : HBlks) (t : HTm) → HSmall N ks t → ASmall M (alloc_prog ks) (alloc_main ks t)
+alloc_small N M le ks t h = (blocks_regs N M le ks ks h.0, regs_t M t ks [] [] 0 (omega (arith, h.1)))

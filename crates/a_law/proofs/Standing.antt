@@ -1,12 +1,12 @@
 -- The allocation of a typed program stands for it.
-use Rattle.std.proofs.Common.{◌≡◌, ◌<◌, ◌⊎◌, inl, inr, ℕ, zero, suc, ◌+◌, ◌-◌, List, [], ◌∷◌, ◌++◌, length, Some, None, refl, sym, ap, ap₂, ◌∙◌, subst, arith, slice_get, length-append}
-use Rattle.c_terms.specs.C.{CTy, CTys, NoCTys, MoreCTys, TCRef, TCTuple}
+use Rattle.std.proofs.Common.{◌≡◌, ◌<◌, inl, inr, ℕ, zero, suc, ◌+◌, ◌-◌, List, [], ◌∷◌, ◌++◌, length, Some, None, refl, sym, ap, ap₂, ◌∙◌, subst, arith, slice_get, length-append}
+use Rattle.c_terms.specs.C.{CTy, CTys, NoCTys, MoreCTys}
 use Rattle.c_terms.specs.Typing.{cargs_onto}
-use Rattle.h_terms.specs.H.{HVal, HVar, HInt, HLabel, HTuple, HApply, HPack, HVals, NoHVals, MoreHVals, HDecl, HName, HProj, HArith, HUnpack, HCell, HGet, HSet, HTm, HLet, HCall, HIf, HHalt, HBlk, HBlks}
-use Rattle.h_terms.specs.Typing.{HGood, AllGood, HProgramGood}
+use Rattle.h_terms.specs.H.{HVal, HVar, HInt, HLabel, HTuple, HApply, HPack, HVals, NoHVals, MoreHVals, HName, HProj, HArith, HUnpack, HCell, HGet, HSet, HTm, HLet, HCall, HIf, HHalt, HBlks}
+use Rattle.h_terms.specs.Typing.{AllGood}
 use Rattle.a_terms.specs.Tree.{ATm, ATys, NoATys, AVal, Var, Let, Malloc, Init, Call, If0, Halt, arity}
-use Rattle.a_law.specs.Allocate.{atypes, h_type, h_types, d_types, final, v_next, vs_next, var_of, val, vals, fill, pre_v, pre_vs, dcl, alloc_t, arg_depth, arg_levels, alloc_all, alloc_prog, alloc_main}
-use Rattle.a_law.specs.Stands.{Shown, named, at_all, Thing, Is, Making, Gone, thing_at, Means, Stands_v, Stands_vs, Any, Content, Unit_named, Stands_t, arg_things, Stands_all, Stands, AllocStands}
+use Rattle.a_law.specs.Allocate.{atypes, h_type, h_types, d_types, final, v_next, vs_next, var_of, val, vals, fill, pre_v, pre_vs, dcl, alloc_t, arg_depth, arg_levels, alloc_all}
+use Rattle.a_law.specs.Stands.{Shown, named, at_all, Thing, Is, Making, Gone, thing_at, Means, Stands_v, Stands_vs, Any, Stands_t, arg_things, Stands_all, AllocStands}
 use Rattle.a_law.proofs.Rel.{At, at_more, at_new, Later}
 use Rattle.a_law.proofs.Scopes.{InV, InVs, InT, in_t, args_length}
 use Rattle.a_law.specs.Back.{arg_count}
@@ -146,7 +146,9 @@ module _ (k0 : ℕ) where
     mutual
       comes_v : (v : HVal) (d : ℕ) (env : List Thing) → InV k0 v → Agree d ls k0 env → Comes d env (pre_v ks g ls d v) (v_next d v) (Read ls d v (v_next d v))
       comes_v (HVar i) d env s a = record {
-        vars = env; shows = λ rest h x. x; later = λ p x q. q;
+        vars = env;
+        shows = λ rest h x. x;
+        later = λ p x q. q;
         good = λ d3 env3 q m. (let z : k0 ≡ k0 + 0 = omega arith in let y : 0 + i ≡ i = omega arith in
             subst (λ n. Stands_v env3 m (var_of d3 (slice_get ls i)) (again m (HVar n))) y (var_read ls k0 0 i d env z s a d3 env3 q m));
       }
@@ -211,9 +213,15 @@ module _ (ks : HBlks) where
       let d2 = v_next d1 w in
       let rest = alloc_t ks (d_types ks g (HArith op v w)) (d2 ∷ ls) (suc d2) t in
       let end = Let (dcl ls d (HArith op v w)) rest in
-      x.shows (pre_v ks g ls d1 w end) _ (y.shows end _
-      (v, w, t, refl, read_now k ks g ls d v d1 x.vars s.0.0 x.good d2 y.vars y.later, read_now k ks g ls d1 w d2 y.vars s.0.1 y.good d2 y.vars (λ p u q. q),
-      stands_is t (d_types ks g (HArith op v w)) (d2 ∷ ls) (suc k) (suc d2) (Is (named k) ∷ y.vars) s.1 (further ls k d d2 env y.vars (λ p u q. y.later p u (x.later p u q)) a)))
+      x.shows (pre_v ks g ls d1 w end) _ (y.shows end _ (
+        v,
+        w,
+        t,
+        refl,
+        read_now k ks g ls d v d1 x.vars s.0.0 x.good d2 y.vars y.later,
+        read_now k ks g ls d1 w d2 y.vars s.0.1 y.good d2 y.vars (λ p u q. q),
+        stands_is t (d_types ks g (HArith op v w)) (d2 ∷ ls) (suc k) (suc d2) (Is (named k) ∷ y.vars) s.1 (further ls k d d2 env y.vars (λ p u q. y.later p u (x.later p u q)) a),
+      ))
   stands_is (HLet (HUnpack v) t) g ls k d env s a =
       let x = comes_v k ks g ls v d env s.0 a in
       let d2 = v_next d v in
@@ -223,9 +231,15 @@ module _ (ks : HBlks) where
       let d1 = v_next d v in
       let on : Later d1 x.vars (suc d1) (Gone ∷ x.vars) = λ p u q. at_more d1 x.vars p u Gone q in
       let rest = alloc_t ks (d_types ks g (HCell v)) (suc d1 ∷ ls) (suc (suc d1)) t in
-      x.shows (Let (Malloc (atypes (MoreCTys (h_type ks g v) NoCTys))) (Let (dcl ls d (HCell v)) rest)) _ (inr
-      (v, t, refl, refl, refl, read_now k ks g ls d v d1 x.vars s.0 x.good (suc d1) (Gone ∷ x.vars) on,
-      stands_is t (d_types ks g (HCell v)) (suc d1 ∷ ls) (suc k) (suc (suc d1)) (Is (named k) ∷ Gone ∷ x.vars) s.1 (further ls k d (suc d1) env (Gone ∷ x.vars) (λ p u q. on p u (x.later p u q)) a)))
+      x.shows (Let (Malloc (atypes (MoreCTys (h_type ks g v) NoCTys))) (Let (dcl ls d (HCell v)) rest)) _ (inr (
+        v,
+        t,
+        refl,
+        refl,
+        refl,
+        read_now k ks g ls d v d1 x.vars s.0 x.good (suc d1) (Gone ∷ x.vars) on,
+        stands_is t (d_types ks g (HCell v)) (suc d1 ∷ ls) (suc k) (suc (suc d1)) (Is (named k) ∷ Gone ∷ x.vars) s.1 (further ls k d (suc d1) env (Gone ∷ x.vars) (λ p u q. on p u (x.later p u q)) a),
+      ))
   stands_is (HLet (HGet v) t) g ls k d env s a =
       let x = comes_v k ks g ls v d env s.0 a in
       let d2 = v_next d v in
@@ -238,18 +252,31 @@ module _ (ks : HBlks) where
       let on : Later d2 y.vars (suc d2) (Gone ∷ y.vars) = λ p u q. at_more d2 y.vars p u Gone q in
       let rest = alloc_t ks (d_types ks g (HSet v w)) (suc d2 ∷ ls) (suc (suc d2)) t in
       let end = Let (Init (val ls d d2 v) 1 (val ls d1 d2 w)) (Let (Malloc NoATys) rest) in
-      x.shows (pre_v ks g ls d1 w end) _ (y.shows end _ (inr
-      (v, w, t, refl, refl, read_now k ks g ls d v d1 x.vars s.0.0 x.good d2 y.vars y.later, read_now k ks g ls d1 w d2 y.vars s.0.1 y.good d2 y.vars (λ p u q. q),
-      (refl, stands_is t (d_types ks g (HSet v w)) (suc d2 ∷ ls) (suc k) (suc (suc d2)) (Is (named k) ∷ Gone ∷ y.vars) s.1 (further ls k d (suc d2) env (Gone ∷ y.vars) (λ p u q. on p u (y.later p u (x.later p u q))) a)))))
+      x.shows (pre_v ks g ls d1 w end) _ (y.shows end _ (inr (
+        v,
+        w,
+        t,
+        refl,
+        refl,
+        read_now k ks g ls d v d1 x.vars s.0.0 x.good d2 y.vars y.later,
+        read_now k ks g ls d1 w d2 y.vars s.0.1 y.good d2 y.vars (λ p u q. q),
+        (refl, stands_is t (d_types ks g (HSet v w)) (suc d2 ∷ ls) (suc k) (suc (suc d2)) (Is (named k) ∷ Gone ∷ y.vars) s.1 (further ls k d (suc d2) env (Gone ∷ y.vars) (λ p u q. on p u (y.later p u (x.later p u q))) a)),
+      )))
   stands_is (HCall f ts vs) g ls k d env s a =
       let x = comes_v k ks g ls f d env s.0 a in
       let d1 = v_next d f in
       let y = comes_vs k ks g ls vs d1 x.vars s.1 (agree_later ls k d d1 env x.vars x.later a) in
       let d2 = vs_next d1 vs in
       let end = Call (val ls d d2 f) (atypes ts) (vals ls d1 d2 vs) in
-      x.shows (pre_vs ks g ls d1 vs end) _ (y.shows end _
-      (f, ts, vs, refl, refl, read_now k ks g ls d f d1 x.vars s.0 x.good d2 y.vars y.later,
-      subst (λ ws. Stands_vs y.vars k (vals ls d1 d2 vs) ws) (agains_same k vs s.1) (all_read k vs ls d1 d2 k y.vars y.good)))
+      x.shows (pre_vs ks g ls d1 vs end) _ (y.shows end _ (
+        f,
+        ts,
+        vs,
+        refl,
+        refl,
+        read_now k ks g ls d f d1 x.vars s.0 x.good d2 y.vars y.later,
+        subst (λ ws. Stands_vs y.vars k (vals ls d1 d2 vs) ws) (agains_same k vs s.1) (all_read k vs ls d1 d2 k y.vars y.good),
+      ))
   stands_is (HIf v t u) g ls k d env s a =
       let x = comes_v k ks g ls v d env s.0 a in
       let d1 = v_next d v in

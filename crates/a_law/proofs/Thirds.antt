@@ -1,5 +1,5 @@
 -- Allocation keeps the number of choices.
-use Rattle.std.proofs.Common.{◌≡◌, ℕ, suc, ◌+◌, List, [], ◌∷◌, length, refl, ap, ◌∙◌, arith}
+use Rattle.std.proofs.Common.{◌≡◌, ℕ, suc, List, [], ◌∷◌, length, refl, ap, ◌∙◌, arith}
 use Rattle.a_law.specs.Allocate.{alloc_all, alloc_t, arg_depth, arg_levels, atypes, d_next, d_types, dcl, fill, h_type, h_types, pre_d, pre_v, pre_vs, v_next, val, vs_next}
 use Rattle.a_terms.specs.Bound.{all_thirds, thirds}
 use Rattle.a_terms.specs.Tree.{ATm, If0, Init, Let, Malloc}

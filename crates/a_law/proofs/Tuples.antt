@@ -90,8 +90,11 @@ module _ (next : Next) (log : List ℕ) where
                 ∙ z.runs rest);
             grows = λ p fs q. more p fs (f.grows p fs q);
             later = λ k x y. z.later k x (on k x (f.later k x y));
-            good = (ZTuple at, (at, f.good.0, refl, nth_seam f.heap [] full at refl, fresh m f.heap (valid_grows m h f.heap f.grows k0), rels_grow (hvs_value vs ys) f.good.0 m f.heap (f.heap ++ full ∷ []) more f.good.1),
-            λ d3 env3 k. (k (final l vs) (ZTuple at) (at_new (final l vs) z.vars (ZTuple at))).1);
+            good = (
+              ZTuple at,
+              (at, f.good.0, refl, nth_seam f.heap [] full at refl, fresh m f.heap (valid_grows m h f.heap f.grows k0), rels_grow (hvs_value vs ys) f.good.0 m f.heap (f.heap ++ full ∷ []) more f.good.1),
+              λ d3 env3 k. (k (final l vs) (ZTuple at) (at_new (final l vs) z.vars (ZTuple at))).1,
+            );
           }
       comes_v (HApply v ts) h d env k0 a = let r = comes_v v h d env k0 a in record { heap = r.heap; vars = r.vars; runs = r.runs; grows = r.grows; later = r.later; good = r.good }
       comes_v (HPack hid v s) h d env k0 a = let r = comes_v v h d env k0 a in record { heap = r.heap; vars = r.vars; runs = r.runs; grows = r.grows; later = r.later; good = r.good }
@@ -108,6 +111,9 @@ module _ (next : Next) (log : List ℕ) where
             runs = λ rest. (x.runs (pre_vs ks g ls d2 vs rest) ∙ y.runs rest);
             grows = λ p fs q. y.grows p fs (x.grows p fs q);
             later = λ k u q. y.later k u (x.later k u q);
-            good = (x.good.0 ∷ y.good.0, (x.good.0, y.good.0, refl, rel_grows (hv_value v ys) x.good.0 m x.heap y.heap y.grows x.good.1, y.good.1),
-            (λ d3 env3 k. x.good.2 d3 env3 (λ p u q. k p u (y.later p u q)), y.good.2));
+            good = (
+              x.good.0 ∷ y.good.0,
+              (x.good.0, y.good.0, refl, rel_grows (hv_value v ys) x.good.0 m x.heap y.heap y.grows x.good.1, y.good.1),
+              (λ d3 env3 k. x.good.2 d3 env3 (λ p u q. k p u (y.later p u q)), y.good.2),
+            );
           }

@@ -20,6 +20,7 @@ use Rattle.c_terms.specs.Typing.{CAt, CField, cargs_onto, crens_scope, csub, csu
 use Rattle.h_terms.specs.Each.{AllGoodP, HGoodP, HHasP, HHaveP, HProgramP}
 use Rattle.h_terms.specs.H.{HApply, HArith, HBlk, HBlks, HCall, HCell, HDecl, HGet, HHalt, HIf, HInt, HLabel, HLet, HName, HPack, HProj, HSet, HTm, HTuple, HUnpack, HVal, HVals, HVar, MoreHVals, NoHVals, block_at}
 use Rattle.term_core.specs.Ends.{lift}
+
 pub at_read : (g : List CTy) (i : ℕ) (t : CTy) → CAt g i t → type_or (slice_get g i) ≡ t
 at_read [] i t h = absurd h
 at_read (u ∷ g) zero t h = sym h

@@ -1,7 +1,6 @@
 -- The tuples of an allocated program slice_set back into its values, and the flags of its types dropped: the hoisted program
 -- that it was made from, where no cell stands in that.
 use Rattle.std.specs.Prelude.{pos, ◌≡◌, ℕ, zero, suc, ◌-◌, List, [], ◌∷◌}
-use Rattle.std.specs.Prelude.{slice_set}
 use Rattle.a_law.specs.Allocate.{alloc_main, alloc_prog}
 use Rattle.a_terms.specs.Tree.{ABlk, ACode, AExists, AFields, AInt, ATm, ATuple, ATy, ATys, AVal, AVar, Apply, Arith, Call, Data, Halt, If0, Init, Lab, Let, Malloc, MoreAFields, MoreATys, NoAFields, NoATys, Num, Pack, Proj, Unpack, Value, Var}
 use Rattle.c_terms.specs.C.{CTy, CTys, MoreCTys, NoCTys, TCCode, TCInt, TCRef, TCSome, TCTuple, TCVar}

@@ -3,7 +3,7 @@
 -- like a tuple of one field, so at a malloc, an initialisation and a projection either may be meant.
 use Rattle.std.specs.Prelude.{◌≡◌, ◌⊎◌, ◌++◌, ℕ, zero, suc, ◌-◌, List, [], ◌∷◌, length}
 use Rattle.c_terms.specs.C.{CTy, CTys}
-use Rattle.h_terms.specs.H.{HVal, HVar, HInt, HLabel, HTuple, HApply, HPack, HVals, NoHVals, MoreHVals, HName, HProj, HArith, HUnpack, HCell, HGet, HSet, HTm, HLet, HCall, HIf, HHalt, HBlk, HBlks}
+use Rattle.h_terms.specs.H.{HVal, HVar, HInt, HLabel, HTuple, HApply, HPack, HVals, NoHVals, MoreHVals, HName, HProj, HArith, HUnpack, HCell, HGet, HSet, HTm, HLet, HCall, HIf, HHalt, HBlks}
 use Rattle.h_terms.specs.Typing.{HProgramGood}
 use Rattle.a_terms.specs.Tree.{ATys, NoATys, MoreATys, AVal, Var, Num, Lab, Data, Apply, Pack, Value, Proj, Arith, Unpack, Malloc, Init, ATm, Let, Call, If0, Halt, ABlk, AProg, arity}
 use Rattle.a_law.specs.Allocate.{atype, atypes, alloc_prog, alloc_main}

@@ -3,9 +3,10 @@ use Rattle.std.proofs.Common.{◌≡◌, ◌<◌, ℕ, zero, suc, ◌+◌, ◌-�
 use Rattle.std.specs.Prelude.{slice_get}
 use Rattle.a_law.proofs.Rel.{At, Later, at_more, at_new}
 use Rattle.a_law.proofs.Scopes.{InT, InV, InVs, args_length, in_t}
-use Rattle.a_law.specs.Allocate.{afull, alloc_all, alloc_block, alloc_t, arg_depth, arg_levels, atype, atypes, d_types, dcl, fill, final, h_types, pre_v, pre_vs, v_next, val, vals, var_of, vs_next}
+use Rattle.a_law.specs.Allocate.{afull, alloc_all, alloc_block, alloc_t, arg_depth, arg_levels, atype, atypes, d_types, dcl, fill, final, pre_v, pre_vs, v_next, v_types, val, vals, var_of, vs_next}
 use Rattle.a_law.specs.Back.{NoCell_t, NoCell_v, NoCell_vs, NoCells, NoRef, NoRefs, PutsBack, Shown, add_field, add_last, arg_count, arg_names, back_all, back_block, back_t, back_v, back_vs, drop, drop_fields, drops, named, shown_at}
-use Rattle.a_terms.specs.Tree.{ATm, Call, Halt, If0, Let, Malloc}
+use Rattle.a_terms.specs.Tree.{ATm, ATy, Call, Halt, If0, Let, Malloc}
+use Rattle.a_terms.specs.Typing.{types_of}
 use Rattle.c_terms.specs.C.{CTy, CTys, MoreCTys, NoCTys, TCCode, TCInt, TCRef, TCSome, TCTuple, TCVar}
 use Rattle.c_terms.specs.Typing.{cargs_onto}
 use Rattle.h_terms.specs.H.{HApply, HArith, HBlk, HBlks, HCall, HCell, HGet, HHalt, HIf, HInt, HLabel, HLet, HName, HPack, HProj, HSet, HTm, HTuple, HUnpack, HVal, HVals, HVar, MoreHVals, NoHVals}
@@ -110,7 +111,7 @@ module _ (k0 : ℕ) where
       let z = filled vs (add_last done v) ls (v_next e v) (suc l) (suc i) new (f ∷ env) is_new (reads_later vs ls (v_next e v) (suc l) (suc (suc l)) (f ∷ env) (new ∷ f ∷ env) on r.1) in
       record { last = z.last; vars = z.vars; runs = λ rest. z.runs rest; later = λ p x a. z.later p x (on p x a); is = z.is ∙ ap HTuple (then_last done v vs) }
 
-  module _ (ks : HBlks) (g : List CTy) (ls : List ℕ) where
+  module _ (ks : HBlks) (g : List ATy) (ls : List ℕ) where
     mutual
       comes_v : (v : HVal) (d : ℕ) (env : List Shown) → InV k0 v → NoCell_v v → Agree d ls k0 env → Comes d env (pre_v ks g ls d v) (v_next d v) (Read ls d v (v_next d v))
       comes_v (HVar i) d env s c a = record { vars = env; runs = λ rest. refl; later = λ p x q. q; good = λ d3 env3 q. (let z : k0 ≡ k0 + 0 = omega arith in let y : 0 + i ≡ i = omega arith in var_read ls k0 0 i d env z s a d3 env3 q ∙ ap HVar y) }
@@ -124,7 +125,7 @@ module _ (k0 : ℕ) where
           let z = filled vs NoHVals ls d l 1 none f.vars refl (reads_later vs ls d l (suc l) f.vars (none ∷ f.vars) on f.good) in
           record {
             vars = z.last ∷ z.vars;
-            runs = λ rest. (f.runs (Let (Malloc (atypes (h_types ks g vs))) (fill ls d l 1 vs rest)) ∙ z.runs rest);
+            runs = λ rest. (f.runs (Let (Malloc (v_types ks g vs)) (fill ls d l 1 vs rest)) ∙ z.runs rest);
             later = λ p x q. z.later p x (on p x (f.later p x q));
             good = λ d3 env3 q.
                 (ap (λ x. x k0) (shown_nth env3 (d3 - suc (final l vs)) z.last (q (final l vs) z.last (at_new (final l vs) z.vars z.last)).1) ∙ z.is);
@@ -153,7 +154,7 @@ module _ (ks : HBlks) where
   further : (ls : List ℕ) (k d d2 : ℕ) (env vars : List Shown) → Later d env d2 vars → Agree d ls k env → Agree (suc d2) (d2 ∷ ls) (suc k) (named k ∷ vars)
   further ls k d d2 env vars q a = (at_new d2 vars (named k), agree_later ls k d (suc d2) env (named k ∷ vars) (λ p u b. at_more d2 vars p u (named k) (q p u b)) a)
 
-  back_is : (t : HTm) (g : List CTy) (ls : List ℕ) (k d : ℕ) (env : List Shown) → InT k t → NoCell_t t → Agree d ls k env → back_t env k (alloc_t ks g ls d t) ≡ t
+  back_is : (t : HTm) (g : List ATy) (ls : List ℕ) (k d : ℕ) (env : List Shown) → InT k t → NoCell_t t → Agree d ls k env → back_t env k (alloc_t ks g ls d t) ≡ t
   back_is (HLet (HName v) t) g ls k d env s c a =
       let x = comes_v k ks g ls v d env s.0 c.0 a in
       let d2 = v_next d v in
@@ -207,7 +208,7 @@ module _ (ks : HBlks) where
   block_back : (x : HBlk) → NoRefs x.args → NoCell_t x.body → HGood ks x.owes (cargs_onto x.args []) x.body → back_block (alloc_block ks x) ≡ x
   block_back x r c h =
       let s = in_t ks x.owes (cargs_onto x.args []) (arg_count 0 (atypes x.args)) (args_length x.args [] 0 refl) x.body h in
-      let b = back_is x.body (cargs_onto x.args []) (arg_levels 0 [] x.args) (arg_count 0 (atypes x.args)) (arg_depth 0 x.args) (arg_names 0 [] (atypes x.args)) s c (agree_args x.args [] 0 0 [] tt) in
+      let b = back_is x.body (types_of (atypes x.args) []) (arg_levels 0 [] x.args) (arg_count 0 (atypes x.args)) (arg_depth 0 x.args) (arg_names 0 [] (atypes x.args)) s c (agree_args x.args [] 0 0 [] tt) in
       ap₂ (λ p q. record { owes = x.owes; args = p; body = q }) (drops_are x.args r) b
 
   blocks_back : (xs : HBlks) → NoCells xs → AllGood ks xs → back_all (alloc_all ks xs) ≡ xs

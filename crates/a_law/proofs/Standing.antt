@@ -1,15 +1,16 @@
 -- The allocation of a typed program stands for it.
 use Rattle.std.proofs.Common.{◌≡◌, ◌<◌, inl, inr, ℕ, zero, suc, ◌+◌, ◌-◌, List, [], ◌∷◌, ◌++◌, length, Some, None, refl, sym, ap, ap₂, ◌∙◌, subst, arith, slice_get, length-append}
-use Rattle.c_terms.specs.C.{CTy, CTys, NoCTys, MoreCTys}
+use Rattle.a_law.proofs.Rel.{At, Later, at_more, at_new}
+use Rattle.a_law.proofs.Scopes.{InT, InV, InVs, args_length, in_t}
+use Rattle.a_law.specs.Allocate.{alloc_all, alloc_t, arg_depth, arg_levels, atypes, d_types, dcl, fill, final, pre_v, pre_vs, v_next, v_type, v_types, val, vals, var_of, vs_next}
+use Rattle.a_law.specs.Back.{Shown, arg_count, named}
+use Rattle.a_law.specs.Stands.{AllocStands, Any, Gone, Is, Making, Means, Stands_all, Stands_t, Stands_v, Stands_vs, Thing, arg_things, at_all, thing_at}
+use Rattle.a_terms.specs.Tree.{ATm, ATy, ATys, Call, Halt, If0, Init, Let, Malloc, MoreATys, NoATys, arity}
+use Rattle.a_terms.specs.Typing.{types_of}
+use Rattle.c_terms.specs.C.{CTys, MoreCTys, NoCTys}
 use Rattle.c_terms.specs.Typing.{cargs_onto}
-use Rattle.h_terms.specs.H.{HVal, HVar, HInt, HLabel, HTuple, HApply, HPack, HVals, NoHVals, MoreHVals, HName, HProj, HArith, HUnpack, HCell, HGet, HSet, HTm, HLet, HCall, HIf, HHalt, HBlks}
+use Rattle.h_terms.specs.H.{HApply, HArith, HBlks, HCall, HCell, HGet, HHalt, HIf, HInt, HLabel, HLet, HName, HPack, HProj, HSet, HTm, HTuple, HUnpack, HVal, HVals, HVar, MoreHVals, NoHVals}
 use Rattle.h_terms.specs.Typing.{AllGood}
-use Rattle.a_terms.specs.Tree.{ATm, ATys, NoATys, AVal, Var, Let, Malloc, Init, Call, If0, Halt, arity}
-use Rattle.a_law.specs.Allocate.{atypes, h_type, h_types, d_types, final, v_next, vs_next, var_of, val, vals, fill, pre_v, pre_vs, dcl, alloc_t, arg_depth, arg_levels, alloc_all}
-use Rattle.a_law.specs.Stands.{Shown, named, at_all, Thing, Is, Making, Gone, thing_at, Means, Stands_v, Stands_vs, Any, Stands_t, arg_things, Stands_all, AllocStands}
-use Rattle.a_law.proofs.Rel.{At, at_more, at_new, Later}
-use Rattle.a_law.proofs.Scopes.{InV, InVs, InT, in_t, args_length}
-use Rattle.a_law.specs.Back.{arg_count}
 
 thing_nth : (env : List Thing) (i : ℕ) (x : Thing) → slice_get env i ≡ Some x → thing_at env i ≡ x
 thing_nth [] i x e = absurd (impossible e)
@@ -24,7 +25,7 @@ abbrev many : HVals → ℕ
 many NoHVals = 0
 many (MoreHVals v vs) = suc (many vs)
 
-many_types : (ks : HBlks) (g : List CTy) (vs : HVals) → arity (atypes (h_types ks g vs)) ≡ many vs
+many_types : (ks : HBlks) (g : List ATy) (vs : HVals) → arity (v_types ks g vs) ≡ many vs
 many_types ks g NoHVals = refl
 many_types ks g (MoreHVals v vs) = ap suc (many_types ks g vs)
 
@@ -142,7 +143,7 @@ module _ (k0 : ℕ) where
         later = λ p x a. z.later p x (on p x a);
       }
 
-  module _ (ks : HBlks) (g : List CTy) (ls : List ℕ) where
+  module _ (ks : HBlks) (g : List ATy) (ls : List ℕ) where
     mutual
       comes_v : (v : HVal) (d : ℕ) (env : List Thing) → InV k0 v → Agree d ls k0 env → Comes d env (pre_v ks g ls d v) (v_next d v) (Read ls d v (v_next d v))
       comes_v (HVar i) d env s a = record {
@@ -163,7 +164,7 @@ module _ (k0 : ℕ) where
           let full = Making (then_all [] vs) 0 in
           record {
             vars = full ∷ z.vars;
-            shows = λ rest h x. f.shows (Let (Malloc (atypes (h_types ks g vs))) (fill ls d l 1 vs rest)) h
+            shows = λ rest h x. f.shows (Let (Malloc (v_types ks g vs)) (fill ls d l 1 vs rest)) h
                 (inl (subst (λ n. Stands_t Any (Making [] n ∷ f.vars) k0 (fill ls d l 1 vs rest) h) (sym (many_types ks g vs)) (z.shows rest h x)));
             later = λ p x q. z.later p x (on p x (f.later p x q));
             good = λ d3 env3 q m.
@@ -197,7 +198,7 @@ module _ (ks : HBlks) where
   further : (ls : List ℕ) (k d d2 : ℕ) (env vars : List Thing) → Later d env d2 vars → Agree d ls k env → Agree (suc d2) (d2 ∷ ls) (suc k) (Is (named k) ∷ vars)
   further ls k d d2 env vars q a = (at_new d2 vars (Is (named k)), agree_later ls k d (suc d2) env (Is (named k) ∷ vars) (λ p u b. at_more d2 vars p u (Is (named k)) (q p u b)) a)
 
-  stands_is : (t : HTm) (g : List CTy) (ls : List ℕ) (k d : ℕ) (env : List Thing) → InT k t → Agree d ls k env → Stands_t Any env k (alloc_t ks g ls d t) t
+  stands_is : (t : HTm) (g : List ATy) (ls : List ℕ) (k d : ℕ) (env : List Thing) → InT k t → Agree d ls k env → Stands_t Any env k (alloc_t ks g ls d t) t
   stands_is (HLet (HName v) t) g ls k d env s a =
       let x = comes_v k ks g ls v d env s.0 a in
       let d2 = v_next d v in
@@ -231,7 +232,7 @@ module _ (ks : HBlks) where
       let d1 = v_next d v in
       let on : Later d1 x.vars (suc d1) (Gone ∷ x.vars) = λ p u q. at_more d1 x.vars p u Gone q in
       let rest = alloc_t ks (d_types ks g (HCell v)) (suc d1 ∷ ls) (suc (suc d1)) t in
-      x.shows (Let (Malloc (atypes (MoreCTys (h_type ks g v) NoCTys))) (Let (dcl ls d (HCell v)) rest)) _ (inr (
+      x.shows (Let (Malloc (MoreATys (v_type ks g v) NoATys)) (Let (dcl ls d (HCell v)) rest)) _ (inr (
         v,
         t,
         refl,
@@ -300,9 +301,9 @@ module _ (ks : HBlks) where
   all_stand [] h = tt
   all_stand (x ∷ xs) h =
       let s = in_t ks x.owes (cargs_onto x.args []) (arg_count 0 (atypes x.args)) (args_length x.args [] 0 refl) x.body h.0.1 in
-      let b = stands_is x.body (cargs_onto x.args []) (arg_levels 0 [] x.args) (arg_count 0 (atypes x.args)) (arg_depth 0 x.args) (arg_things 0 [] (atypes x.args)) s (agree_args x.args [] 0 0 [] tt) in
+      let b = stands_is x.body (types_of (atypes x.args) []) (arg_levels 0 [] x.args) (arg_count 0 (atypes x.args)) (arg_depth 0 x.args) (arg_things 0 [] (atypes x.args)) s (agree_args x.args [] 0 0 [] tt) in
       let n : arg_count 0 (atypes x.args) ≡ arity (atypes x.args) = count_is (atypes x.args) 0 ∙ omega arith in
-      ((refl, refl, subst (λ k. Stands_t Any (arg_things 0 [] (atypes x.args)) k (alloc_t ks (cargs_onto x.args []) (arg_levels 0 [] x.args) (arg_depth 0 x.args) x.body) x.body) n b), all_stand xs h.1)
+      ((refl, refl, subst (λ k. Stands_t Any (arg_things 0 [] (atypes x.args)) k (alloc_t ks (types_of (atypes x.args) []) (arg_levels 0 [] x.args) (arg_depth 0 x.args) x.body) x.body) n b), all_stand xs h.1)
 
 pub alloc_stands : AllocStands
 alloc_stands ks t h = (refl, all_stand ks ks h.0, stands_is ks t [] [] 0 0 [] (in_t ks 0 [] 0 refl t h.1) tt)

@@ -9,7 +9,7 @@ ghost use Rattle.a_law.specs.Statements.{AllocFits, AllocKept, AllocTypesKept};
 pub fn meaning_is_kept()
     ensures { AllocKept }
 {
-    h_terms::h_never_stuck_law();
+    h_terms::laws::h_never_stuck_law();
 }
 
 /// The allocation of a typed program is typed.
@@ -18,7 +18,7 @@ pub fn types_are_kept()
 {
     c_terms::laws::words_law();
     c_terms::laws::one_by_one_law();
-    h_terms::h_typed_is_any_law();
+    h_terms::laws::h_typed_is_any_law();
 }
 
 /// The allocation of a program within bounds is within bounds.

@@ -8,11 +8,11 @@ use Rattle.a_law.proofs.CLaws.{CLaws}
 use Rattle.a_law.proofs.Meaning.{block_is}
 use Rattle.a_law.proofs.Rel.{At, Later, at_more, at_new}
 use Rattle.a_law.proofs.Types.{apply_is, atype_hidden, atype_suc, below_is, types_below}
-use Rattle.a_law.specs.Allocate.{afull, alloc_all, alloc_block, alloc_main, alloc_prog, alloc_t, arg_depth, arg_levels, atype, atypes, d_types, dcl, fill, final, full, h_code, pre_v, pre_vs, v_next, v_type, v_types, val, vals, var_of, vs_next}
+use Rattle.a_law.specs.Allocate.{afull, alloc_all, alloc_block, alloc_main, alloc_prog, alloc_t, arg_depth, arg_levels, atype, atypes, d_types, dcl, fill, final, h_code, pre_v, pre_vs, v_next, v_type, v_types, val, vals, var_of, vs_next}
 use Rattle.a_terms.specs.Each.{AAll, AProp, BsEach, DEach, ProgramEach, TEach, VEach, VsEach}
 use Rattle.a_terms.specs.Tree.{ABelow-types, ABlk, ACode, AConsts, ADecl, AFields, AInt, AProg, ATm, ATuple, ATy, AVal, Call, Halt, If0, Init, Let, Malloc, MoreAFields, MoreATys, NoAFields, NoATys, Var, ashift}
 use Rattle.a_terms.specs.TypeLaws.{All-below, Args-below, below_args, declared_below, type_below}
-use Rattle.a_terms.specs.Typing.{All-have, Blocks-ok, Decl-ok, Fine, Has, Program-ok, Term-ok, aapply, afield_flag, afield_type, afilled, applied, aunset, body_of, code_type, declared, field_of, filled_of, more_vars, or_int, type_of, types_of}
+use Rattle.a_terms.specs.Typing.{All-have, Blocks-ok, Decl-ok, Fine, Has, Program-ok, Term-ok, aapply, afield_flag, afield_type, afilled, applied, aset, aunset, body_of, code_type, declared, field_of, filled_of, more_vars, or_int, type_of, types_of}
 use Rattle.c_terms.specs.C.{CTy, CTys, MoreCTys, NoCTys, TCCode, TCInt, TCRef, TCSome, TCTuple, TCVar, ccount}
 use Rattle.c_terms.specs.Each.{CAll, CProp}
 use Rattle.c_terms.specs.Typing.{CAt, CField, cargs_onto, crens_scope, csub, csubs, names, scons}
@@ -25,7 +25,7 @@ at_read [] i t h = absurd h
 at_read (u ∷ g) zero t h = ap atype (sym h)
 at_read (u ∷ g) (suc i) t h = at_read g i t h
 
-full_is : (ts : CTys) → full (atypes ts) ≡ afull ts
+full_is : (ts : CTys) → aset (atypes ts) ≡ afull ts
 full_is NoCTys = refl
 full_is (MoreCTys t ts) = ap (MoreAFields (atype t) true) (full_is ts)
 
@@ -35,7 +35,7 @@ module _ (Q : CProp) (law : CLaws) (ks : HBlks) where
     type_read n g (HVar i) t h = at_read g i t h.1
     type_read n g (HInt m) t h = ap atype (sym h.1)
     type_read n g (HLabel l) t h = ap h_code h.2 ∙ ap atype (sym h.3)
-    type_read n g (HTuple vs) t h = ap (λ x. ATuple (full x)) (types_read n g vs h.1 h.3) ∙ ap ATuple (full_is h.1) ∙ ap atype (sym h.2)
+    type_read n g (HTuple vs) t h = ap (λ x. ATuple (aset x)) (types_read n g vs h.1 h.3) ∙ ap ATuple (full_is h.1) ∙ ap atype (sym h.2)
     type_read n g (HApply v ts) t h =
         ap (λ u. or_int (aapply u (atypes ts))) (type_read n g v (TCCode (lift h.1 (ccount ts)) h.2) h.4) ∙ ap or_int (apply_is law ts h.1 h.2) ∙ ap atype (sym h.3)
     type_read n g (HPack hid v s) t h = ap atype (sym h.3)
@@ -271,14 +271,14 @@ module _ (P : AProp) (Q : CProp) (law : CLaws) (pa : (n : ℕ) (t : CTy) → Q n
             let b2 : All-below n (old ∷ f.types) = declared_below p ok n f.types f.below (Malloc (atypes us)) dec in
             let on : Later l f.types (suc l) (old ∷ f.types) = λ k x q. at_more l f.types k x old q in
             let z = filled vs us NoCTys ls d l 0 f.types refl qt (typed_later vs us ls d l (suc l) f.types (old ∷ f.types) on f.good) b2 in
-            let full = ATuple (afull us) in
+            let whole = ATuple (afull us) in
             record {
-              types = full ∷ z.types;
+              types = whole ∷ z.types;
               checks = λ rest c. f.checks (Let (Malloc (v_types ks (map atype g) vs)) (fill ls d l 1 vs rest)) (subst (λ ts. Both P p n f.types (Let (Malloc ts) (fill ls d l 1 vs rest))) (sym read) (both_let P p n f.types (Malloc (atypes us)) (fill ls d l 1 vs rest) dec de (z.checks rest c)));
               later = λ k x q. z.later k x (on k x (f.later k x q));
               below = z.below;
               good = λ d3 ag3 k.
-                  (let e : slice_get ag3 (d3 - suc (final l vs)) ≡ Some (atype t) = (k (final l vs) full (at_new (final l vs) z.types full)).1 ∙ ap (λ x. Some (atype x)) (sym h.2) in
+                  (let e : slice_get ag3 (d3 - suc (final l vs)) ≡ Some (atype t) = (k (final l vs) whole (at_new (final l vs) z.types whole)).1 ∙ ap (λ x. Some (atype x)) (sym h.2) in
                   record { fine = tt; is = e; each = subst (λ o. P n (or_int o)) (sym e) (pa n t h.0) });
             }
         comes_v (HApply v ts) t d ag h a b =

@@ -2,7 +2,7 @@
 use Rattle.std.specs.Prelude.{pos, ℕ, suc, ◌-◌, List, [], ◌∷◌, Option, Some, None, true}
 use Rattle.std.specs.Prelude.{map, slice_get}
 use Rattle.a_terms.specs.Tree.{ABlk, AProg, ACode, ADecl, AExists, AFields, AInt, ATm, ATuple, ATy, ATys, AVal, AVar, Apply, Arith, Call, Halt, If0, Init, Lab, Let, Malloc, MoreAFields, MoreATys, NoAFields, NoATys, Num, Pack, Proj, Unpack, Value, Var, ashift}
-use Rattle.a_terms.specs.Typing.{aapply, body_of, field_of, or_int, types_of}
+use Rattle.a_terms.specs.Typing.{aapply, aset, body_of, field_of, or_int, types_of}
 use Rattle.c_terms.specs.C.{CTy, CTys, MoreCTys, NoCTys, TCCode, TCInt, TCRef, TCSome, TCTuple, TCVar}
 use Rattle.h_terms.specs.H.{HApply, HArith, HBlk, HBlks, HCall, HCell, HDecl, HGet, HHalt, HIf, HInt, HLabel, HLet, HName, HPack, HProj, HSet, HTm, HTuple, HUnpack, HVal, HVals, HVar, MoreHVals, NoHVals, block_at}
 
@@ -29,18 +29,13 @@ abbrev pub h_code : Option HBlk → ATy
 h_code None = AInt
 h_code (Some k) = ACode k.owes (atypes k.args)
 
--- fields that are all initialised
-abbrev pub full : ATys → AFields
-full NoATys = NoAFields
-full (MoreATys t ts) = MoreAFields t true (full ts)
-
 -- the type of a value's allocation, where g are those of the variables; any type where it has none
 abbrev mutual
   pub v_type : HBlks → List ATy → HVal → ATy
   v_type ks g (HVar i) = or_int (slice_get g i)
   v_type ks g (HInt n) = AInt
   v_type ks g (HLabel l) = h_code (block_at ks l)
-  v_type ks g (HTuple vs) = ATuple (full (v_types ks g vs))
+  v_type ks g (HTuple vs) = ATuple (aset (v_types ks g vs))
   v_type ks g (HApply v ts) = or_int (aapply (v_type ks g v) (atypes ts))
   v_type ks g (HPack h v s) = atype s
 

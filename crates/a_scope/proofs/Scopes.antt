@@ -1,0 +1,199 @@
+-- Variables in scope, and types of values.
+use Rattle.std.proofs.Common.{◌≡◌, ℕ, zero, suc, ◌+◌, ◌-◌, ◌<◌, ◌≤◌, ◌++◌, List, [], ◌∷◌, length, map, drop, take, get_or, Bool, true, slice_get, set, Option, Some, None, refl, sym, ap, ap₂, ◌∙◌, subst, arith, length-append}
+use Rattle.std.proofs.lemmas.List.{drop_more, take_more, take_all}
+use Rattle.idx_core.specs.Laws.{shift_zero_law, shift_add_law}
+use Rattle.a_terms.specs.Tree as a
+use Rattle.a_terms.specs.Tree.{ashift, ashift_fields, aput_types}
+use Rattle.a_terms.specs.TreeLaws.{a_part, a_over}
+use Rattle.a_terms.specs.Typing.{applied, type_of, code_type, data_fields, data_type, afilled, field_of, filled_of, declared, more_vars}
+use Rattle.a_terms.specs.Read.{atree, atrees, afields}
+use Rattle.a_terms.specs.declared.types.AType.{AType}
+use Rattle.a_terms.specs.NodeTrees.{wrap, wrapped, a_blocks, a_consts, a_data}
+use Rattle.a_terms.specs.declared.nodes.AWrap.{AWrap}
+use Rattle.a_terms.specs.declared.nodes.AData.{AData}
+use Rattle.a_terms.specs.declared.nodes.AWrap.TheVariants.{Apply, Pack}
+use Rattle.a_terms.specs.declared.nodes.ABlock.{ABlock}
+use Rattle.a_scope.specs.Scope.{shown, scope, Under, wrap_type, decl_ty}
+use Rattle.a_scope.specs.declared.scope.Entry.{Entry}
+
+-- fields
+pub field_in : (by : ℕ) (xs : List (AType × Bool)) (i k : ℕ) (x : AType × Bool) → i ≡ suc k → k < length xs → x ≡ get_or xs k x → ashift by 0 (atree x.0) ≡ field_of i (Some (a.ATuple (ashift_fields by 0 (afields xs))))
+field_in by xs i k x e lt is = go xs k lt is ∙ ap (λ j. field_of j (Some (a.ATuple (ashift_fields by 0 (afields xs))))) (sym e)
+  where
+    go : (ys : List (AType × Bool)) (k : ℕ) → k < length ys → x ≡ get_or ys k x → ashift by 0 (atree x.0) ≡ field_of (suc k) (Some (a.ATuple (ashift_fields by 0 (afields ys))))
+    go [] k lt is = absurd (omega arith)
+    go (y ∷ ys) zero lt is = ap (λ (z : AType × Bool). ashift by 0 (atree z.0)) is
+    go (y ∷ ys) (suc k) lt is = go ys k (omega arith) is
+
+pub field_zero : (i : ℕ) (t : a.ATy) → field_of i (Some (ashift 0 0 t)) ≡ field_of i (Some t)
+field_zero i t = ap (λ u. field_of i (Some u)) (shift_zero_law a_over 0 t)
+
+pub field_out : (by : ℕ) (xs : List (AType × Bool)) (i k : ℕ) → i ≡ suc k → length xs ≤ k → a.AInt ≡ field_of i (Some (a.ATuple (ashift_fields by 0 (afields xs))))
+field_out by xs i k e le = go xs k le ∙ ap (λ j. field_of j (Some (a.ATuple (ashift_fields by 0 (afields xs))))) (sym e)
+  where
+    go : (ys : List (AType × Bool)) (k : ℕ) → length ys ≤ k → a.AInt ≡ field_of (suc k) (Some (a.ATuple (ashift_fields by 0 (afields ys))))
+    go [] k le = refl
+    go (y ∷ ys) zero le = absurd (omega arith)
+    go (y ∷ ys) (suc k) le = go ys k (omega arith)
+
+pub filled_in : (xs : List (AType × Bool)) (i k : ℕ) (x : AType × Bool) → i ≡ suc k → k < length xs → x ≡ get_or xs k x → a.ATuple (afields (set xs k (x.0, true))) ≡ filled_of i (Some (a.ATuple (afields xs)))
+filled_in xs i k x e lt is = ap a.ATuple (go xs k lt is) ∙ ap (λ j. filled_of j (Some (a.ATuple (afields xs)))) (sym e)
+  where
+    go : (ys : List (AType × Bool)) (k : ℕ) → k < length ys → x ≡ get_or ys k x → afields (set ys k (x.0, true)) ≡ afilled (afields ys) k
+    go [] k lt is = absurd (omega arith)
+    go (y ∷ ys) zero lt is = ap (λ (z : AType × Bool). a.MoreAFields (atree z.0) true (afields ys)) is
+    go (y ∷ ys) (suc k) lt is = ap (a.MoreAFields (atree y.0) y.1) (go ys k (omega arith) is)
+
+pub filled_out : (xs : List (AType × Bool)) (i k : ℕ) → i ≡ suc k → length xs ≤ k → a.ATuple (afields xs) ≡ filled_of i (Some (a.ATuple (afields xs)))
+filled_out xs i k e le = ap a.ATuple (sym (go xs k le)) ∙ ap (λ j. filled_of j (Some (a.ATuple (afields xs)))) (sym e)
+  where
+    go : (ys : List (AType × Bool)) (k : ℕ) → length ys ≤ k → afilled (afields ys) k ≡ afields ys
+    go [] k le = refl
+    go (y ∷ ys) zero le = absurd (omega arith)
+    go (y ∷ ys) (suc k) le = ap (a.MoreAFields (atree y.0) y.1) (go ys k (omega arith))
+
+-- places in lists
+get_front : {T : Type 0} (xs ys : List T) (n : ℕ) → n < length xs → slice_get (xs ++ ys) n ≡ slice_get xs n
+get_front [] ys n lt = absurd (omega arith)
+get_front (x ∷ xs) ys zero lt = refl
+get_front (x ∷ xs) ys (suc n) lt = get_front xs ys n (omega arith)
+
+get_last : {T : Type 0} (xs : List T) (y : T) (n : ℕ) → n ≡ length xs → slice_get (xs ++ y ∷ []) n ≡ Some y
+get_last [] y zero e = refl
+get_last [] y (suc n) e = absurd (omega arith)
+get_last (x ∷ xs) y zero e = absurd (omega arith)
+get_last (x ∷ xs) y (suc n) e = get_last xs y n (omega arith)
+
+get_out : {T : Type 0} (xs : List T) (n : ℕ) → length xs ≤ n → slice_get xs n ≡ None
+get_out [] n le = refl
+get_out (x ∷ xs) zero le = absurd (omega arith)
+get_out (x ∷ xs) (suc n) le = get_out xs n (omega arith)
+
+pub length_scope : (k : ℕ) (es : List Entry) → length (scope k es) ≡ length es
+length_scope k [] = refl
+length_scope k (e ∷ es) = omega (arith, length-append (scope k es) (shown k e ∷ []), length_scope k es)
+
+pub var_in : (k : ℕ) (es : List Entry) (n j : ℕ) (e : Entry) → j + suc n ≡ length es → e ≡ get_or es j e → Some (shown k e) ≡ slice_get (scope k es) n
+var_in k [] n j e s is = absurd (omega arith)
+var_in k (x ∷ es) n zero e s is = ap (λ (y : Entry). Some (shown k y)) is ∙ sym (get_last (scope k es) (shown k x) n (omega (arith, length_scope k es)))
+var_in k (x ∷ es) n (suc j) e s is = var_in k es n j e (omega arith) is ∙ sym (get_front (scope k es) (shown k x ∷ []) n (omega (arith, length_scope k es)))
+
+pub var_out : (k : ℕ) (es : List Entry) (n : ℕ) → length es ≤ n → None ≡ slice_get (scope k es) n
+var_out k es n le = sym (get_out (scope k es) n (omega (arith, length_scope k es)))
+
+length_blocks : (ks : List ABlock) → length (a_blocks ks) ≡ length ks
+length_blocks [] = refl
+length_blocks (k ∷ ks) = ap suc (length_blocks ks)
+
+pub block_in : (ks : List ABlock) (l : ℕ) (b : ABlock) → l < length ks → b ≡ get_or ks l b → Some (a.ACode b.owes (atrees b.args.items)) ≡ code_type (slice_get (a_blocks ks) l)
+block_in [] l b lt is = absurd (omega arith)
+block_in (k ∷ ks) zero b lt is = ap (λ (x : ABlock). Some (a.ACode x.owes (atrees x.args.items))) is
+block_in (k ∷ ks) (suc l) b lt is = block_in ks l b (omega arith) is
+
+pub block_out : (ks : List ABlock) (l : ℕ) → length ks ≤ l → None ≡ code_type (slice_get (a_blocks ks) l)
+block_out ks l le = ap code_type (sym (get_out (a_blocks ks) l (omega (arith, length_blocks ks))))
+
+-- data tuples
+pub datum_in : (ds : List AData) (n : ℕ) (d : AData) → n < length ds → d ≡ get_or ds n d → Some (a.ATuple (data_fields (a_consts d.fields.items))) ≡ data_type (slice_get (a_data ds) n)
+datum_in [] n d lt is = absurd (omega arith)
+datum_in (x ∷ ds) zero d lt is = ap (λ (y : AData). Some (a.ATuple (data_fields (a_consts y.fields.items)))) is
+datum_in (x ∷ ds) (suc n) d lt is = datum_in ds n d (omega arith) is
+
+length_data : (ds : List AData) → length (a_data ds) ≡ length ds
+length_data [] = refl
+length_data (d ∷ ds) = ap suc (length_data ds)
+
+pub datum_out : (ds : List AData) (n : ℕ) → length ds ≤ n → None ≡ data_type (slice_get (a_data ds) n)
+datum_out ds n le = ap data_type (sym (get_out (a_data ds) n (omega (arith, length_data ds))))
+
+-- types go to code one by one
+pub applied_one : (n m : ℕ) (us : a.ATys) (t : a.ATy) → n ≡ suc m → Some (a.ACode m (aput_types m (ashift m 0 t) us)) ≡ applied (Some (a.ACode n us)) (a.MoreATys t a.NoATys)
+applied_one zero m us t e = absurd (omega arith)
+applied_one (suc n) m us t e = let x : m ≡ n = omega arith in ap (λ i. Some (a.ACode i (aput_types i (ashift i 0 t) us))) x
+
+split : (o : Option a.ATy) (t : a.ATy) (ts : a.ATys) → applied o (a.MoreATys t ts) ≡ applied (applied o (a.MoreATys t a.NoATys)) ts
+split None t ts = refl
+split (Some a.AInt) t ts = refl
+split (Some (a.AVar n)) t ts = refl
+split (Some (a.ATuple fs)) t ts = refl
+split (Some (a.ACode zero us)) t ts = refl
+split (Some (a.ACode (suc n) us)) t ts = refl
+split (Some (a.AExists u)) t ts = refl
+
+pub apply_next : (o p q : Option a.ATy) (ts : List AType) (i : ℕ) (t : AType) → i < length ts → t ≡ get_or ts i t → p ≡ applied o (a.MoreATys (atree t) a.NoATys) → applied o (atrees (drop i ts)) ≡ q → applied p (atrees (drop (i + 1) ts)) ≡ q
+apply_next o p q ts i t lt is e h =
+    ap (λ x. applied x (atrees (drop (i + 1) ts))) e ∙ sym (split o (atree t) (atrees (drop (i + 1) ts)))
+    ∙ ap (applied o) (ap (λ y. a.MoreATys (atree y) (atrees (drop (i + 1) ts))) is ∙ sym (ap atrees (drop_more ts i t lt))) ∙ h
+
+none_applied : (o : Option a.ATy) → applied o a.NoATys ≡ o
+none_applied None = refl
+none_applied (Some s) = refl
+
+nil_drop : {T : Type 0} (xs : List T) (i : ℕ) → length xs ≤ i → drop i xs ≡ []
+nil_drop [] zero le = refl
+nil_drop [] (suc i) le = refl
+nil_drop (x ∷ xs) zero le = absurd (omega arith)
+nil_drop (x ∷ xs) (suc i) le = nil_drop xs i (omega arith)
+
+pub apply_end : (o q : Option a.ATy) (ts : List AType) (i : ℕ) → length ts ≤ i → applied o (atrees (drop i ts)) ≡ q → o ≡ q
+apply_end o q ts i le h = sym (none_applied o) ∙ ap (λ us. applied o (atrees us)) (sym (nil_drop ts i le)) ∙ h
+
+-- what is put round a value
+pub wrapped_snoc : (v : a.AVal) (ws : List AWrap) (w : AWrap) → wrapped v (ws ++ w ∷ []) ≡ wrap w (wrapped v ws)
+wrapped_snoc v [] w = refl
+wrapped_snoc v (x ∷ ws) w = wrapped_snoc (wrap x v) ws w
+
+pub wrapped_more : (v : a.AVal) (ws : List AWrap) (i : ℕ) (w : AWrap) → i < length ws → w ≡ get_or ws i w → wrapped v (take (i + 1) ws) ≡ wrap w (wrapped v (take i ws))
+wrapped_more v ws i w lt is = ap (wrapped v) (take_more ws i w lt ∙ ap (λ y. take i ws ++ y ∷ []) (sym is)) ∙ wrapped_snoc v (take i ws) w
+
+type_wrap : (p : a.AProg) (g : List a.ATy) (w : AWrap) (v : a.AVal) → type_of p g (wrap w v) ≡ wrap_type w (type_of p g v)
+type_wrap p g (Apply ts) v = refl
+type_wrap p g (Pack h s) v = refl
+
+pub type_more : (p : a.AProg) (g : List a.ATy) (v : a.AVal) (ws : List AWrap) (i : ℕ) (w : AWrap) (o q : Option a.ATy) → i < length ws → w ≡ get_or ws i w → q ≡ wrap_type w o → o ≡ type_of p g (wrapped v (take i ws)) → q ≡ type_of p g (wrapped v (take (i + 1) ws))
+type_more p g v ws i w o q lt is e h =
+    e ∙ ap (wrap_type w) h ∙ sym (type_wrap p g w (wrapped v (take i ws))) ∙ ap (type_of p g) (sym (wrapped_more v ws i w lt is))
+
+-- the same over a slice of it
+pub type_more_of : (p : a.AProg) (g : List a.ATy) (v : a.AVal) (ws xs : List AWrap) → xs ≡ ws → (i : ℕ) (w : AWrap) (o q : Option a.ATy) → i < length xs → w ≡ get_or xs i w → q ≡ wrap_type w o → o ≡ type_of p g (wrapped v (take i ws)) → q ≡ type_of p g (wrapped v (take (i + 1) ws))
+type_more_of p g v ws xs same i w o q lt is e h = type_more p g v ws i w o q (subst (λ ys. i < length ys) same lt) (is ∙ ap (λ ys. get_or ys i w) same) e h
+
+pub taken : {T : Type 0} (ws xs : List T) → xs ≡ ws → (i : ℕ) → length xs ≤ i → take i ws ≡ ws
+taken ws xs same i le = take_all i ws (subst (λ ys. length ys ≤ i) same le)
+
+-- one more variable
+pub scope_snoc : (k : ℕ) (es : List Entry) (e : Entry) → scope k (es ++ e ∷ []) ≡ shown k e ∷ scope k es
+scope_snoc k [] e = refl
+scope_snoc k (x ∷ es) e = ap (λ g. g ++ shown k x ∷ []) (scope_snoc k es e)
+
+pub shown_own : (k : ℕ) (e : Entry) → e.names ≡ k → shown k e ≡ atree e.ty
+shown_own k e same =
+    let z : k - e.names ≡ 0 = omega (arith, same) in
+    ap (λ n. ashift n 0 (atree e.ty)) z ∙ shift_zero_law a_over 0 (atree e.ty)
+
+shown_more : (k : ℕ) (e : Entry) → e.names ≤ k → shown (suc k) e ≡ ashift 1 0 (shown k e)
+shown_more k e le =
+    let s : suc k - e.names ≡ k - e.names + 1 = omega (arith, le) in
+    ap (λ n. ashift n 0 (atree e.ty)) s ∙ sym (shift_add_law a_part a_over (k - e.names) 1 0 (atree e.ty))
+
+map_snoc : (f : a.ATy → a.ATy) (xs : List a.ATy) (x : a.ATy) → map f (xs ++ x ∷ []) ≡ map f xs ++ f x ∷ []
+map_snoc f [] x = refl
+map_snoc f (y ∷ ys) x = ap (λ zs. f y ∷ zs) (map_snoc f ys x)
+
+pub scope_more : (k : ℕ) (es : List Entry) → Under k es → scope (suc k) es ≡ map (ashift 1 0) (scope k es)
+scope_more k [] u = refl
+scope_more k (e ∷ es) u = ap₂ (λ g t. g ++ t ∷ []) (scope_more k es u.1) (shown_more k e u.0) ∙ sym (map_snoc (ashift 1 0) (scope k es) (shown k e))
+
+one_more : (k : ℕ) (es : List Entry) (e : Entry) (t : a.ATy) → e.names ≡ k → atree e.ty ≡ t → scope k (es ++ e ∷ []) ≡ t ∷ scope k es
+one_more k es e t n is = scope_snoc k es e ∙ ap (λ u. u ∷ scope k es) (shown_own k e n ∙ is)
+
+pub declared_is : (p : a.AProg) (x : a.ADecl) (k : ℕ) (es new : List Entry) (e : Entry) → new ≡ es ++ e ∷ [] → Under k es → atree e.ty ≡ decl_ty p (scope k es) x → e.names ≡ more_vars x k → scope (more_vars x k) new ≡ declared p (scope k es) x
+declared_is p x k es new e is u t n = ap (scope (more_vars x k)) is ∙ go x t n
+  where
+    go : (y : a.ADecl) → atree e.ty ≡ decl_ty p (scope k es) y → e.names ≡ more_vars y k → scope (more_vars y k) (es ++ e ∷ []) ≡ declared p (scope k es) y
+    go (a.Value v) t n = one_more k es e _ n t
+    go (a.Proj i v) t n = one_more k es e _ n t
+    go (a.Arith o v w) t n = one_more k es e _ n t
+    go (a.Unpack v) t n = one_more (suc k) es e _ n t ∙ ap (λ g. decl_ty p (scope k es) (a.Unpack v) ∷ g) (scope_more k es u)
+    go (a.Malloc ts) t n = one_more k es e _ n t
+    go (a.Init v i w) t n = one_more k es e _ n t

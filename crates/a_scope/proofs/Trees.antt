@@ -1,0 +1,56 @@
+-- The trees of what holds a vector, by the vector's items.
+use Rattle.std.proofs.Common.{◌≡◌, ℕ, List, [], ◌∷◌, Vec, Global, refl, ap, ◌∙◌, sym, Bool, ◌++◌, ◌<◌, ◌+◌, length, take, get_or}
+use mathlib.Core.Former.{Count}
+use Rattle.std.proofs.lemmas.List.{take_more}
+use Rattle.a_terms.specs.Tree as a
+use Rattle.a_terms.specs.Read.{atree, atrees, afields, arow, afield_row}
+use Rattle.a_terms.specs.declared.types.AType.{AType, Row_of-AType-Tuple-0-2 as FieldRow, end_of-AType-Tuple-0-2 as end_of_fields, more_of-AType-Tuple-0-2 as more_of_fields, Row_of-AType, end_of-AType, more_of-AType, items-the_row-AType, items_hidden-the_row-AType-1, items-the_row-AType-Tuple-0-2, items_hidden-the_row-AType-Tuple-0-2-0}
+use Rattle.a_terms.specs.declared.types.AType.TheVariants as A
+
+abbrev a_row : AType → (n : Count) × Row_of-AType n
+a_row (A.Code' _ _ row) = (_, row)
+a_row _ = (_, end_of-AType)
+
+abbrev field_row : AType → (n : Count) × FieldRow n
+field_row (A.Tuple' _ row) = (_, row)
+field_row _ = (_, end_of_fields)
+
+a_items : (n : Count) (row : Row_of-AType n) → arow row ≡ atrees (items-the_row-AType n row)
+a_items n end_of-AType = refl
+a_items n (more_of-AType t rest) = ap (a.MoreATys (atree t)) (a_items _ rest)
+
+field_items : (n : Count) (row : FieldRow n) → afield_row row ≡ afields (items-the_row-AType-Tuple-0-2 n row)
+field_items n end_of_fields = refl
+field_items n (more_of_fields t b rest) = ap (a.MoreAFields (atree t) b) (field_items _ rest)
+
+pub a_tuple : (v : Vec (AType × Bool) Global) → atree (A.Tuple v) ≡ a.ATuple (afields v.items)
+a_tuple v = let row = field_row (A.Tuple v) in ap a.ATuple (field_items row.0 row.1 ∙ ap afields (items_hidden-the_row-AType-Tuple-0-2-0 v))
+
+pub a_code : (owes : ℕ) (v : Vec AType Global) → atree (A.Code owes v) ≡ a.ACode owes (atrees v.items)
+a_code owes v = let row = a_row (A.Code owes v) in ap (a.ACode owes) (a_items row.0 row.1 ∙ ap atrees (items_hidden-the_row-AType-1 v))
+
+pub is_tuple : (self : AType) (v : Vec (AType × Bool) Global) (xs : List (AType × Bool)) → self ≡ A.Tuple v → xs ≡ v.items → atree self ≡ a.ATuple (afields xs)
+is_tuple self v xs is same = ap atree is ∙ a_tuple v ∙ ap (λ ys. a.ATuple (afields ys)) (sym same)
+
+pub is_code : (self : AType) (owes : ℕ) (v : Vec AType Global) (xs : List AType) → self ≡ A.Code owes v → xs ≡ v.items → atree self ≡ a.ACode owes (atrees xs)
+is_code self owes v xs is same = ap atree is ∙ a_code owes v ∙ ap (λ ys. a.ACode owes (atrees ys)) (sym same)
+
+-- one more type at the end
+abbrev pub asnoc : a.ATys → a.ATy → a.ATys
+asnoc a.NoATys t = a.MoreATys t a.NoATys
+asnoc (a.MoreATys u us) t = a.MoreATys u (asnoc us t)
+
+abbrev pub fsnoc : a.AFields → a.ATy → Bool → a.AFields
+fsnoc a.NoAFields t b = a.MoreAFields t b a.NoAFields
+fsnoc (a.MoreAFields u c us) t b = a.MoreAFields u c (fsnoc us t b)
+
+pub atrees_snoc : (xs : List AType) (x : AType) → atrees (xs ++ x ∷ []) ≡ asnoc (atrees xs) (atree x)
+atrees_snoc [] x = refl
+atrees_snoc (y ∷ ys) x = ap (a.MoreATys (atree y)) (atrees_snoc ys x)
+
+pub afields_snoc : (xs : List (AType × Bool)) (x : AType × Bool) → afields (xs ++ x ∷ []) ≡ fsnoc (afields xs) (atree x.0) x.1
+afields_snoc [] x = refl
+afields_snoc (y ∷ ys) x = ap (a.MoreAFields (atree y.0) y.1) (afields_snoc ys x)
+
+pub took : {T : Type 0} (ts : List T) (i : ℕ) (t : T) → i < length ts → t ≡ get_or ts i t → take (i + 1) ts ≡ take i ts ++ t ∷ []
+took ts i t lt is = take_more ts i t lt ∙ ap (λ y. take i ts ++ y ∷ []) (sym is)

@@ -1,0 +1,12 @@
+//! The variables in scope of allocated terms, and the types of values.
+#![tactic(auto)]
+
+pub mod applying;
+pub mod declaring;
+pub mod fields;
+pub mod scope;
+pub mod value;
+
+pub use declaring::declare;
+pub use scope::{Entry, less, show};
+pub use value::{first, second, type_of_value};

@@ -1,0 +1,187 @@
+// The types of values.
+ghost use Rattle.std.specs.Prelude.{◌≡◌, ◌≤◌, IfOk, MatchOption, length, slice_get};
+ghost use Rattle.a_terms.specs.Tree.{Var as TheVar};
+ghost use Rattle.a_terms.specs.Typing.{type_of, code_type, data_type, field_of as the_field_of};
+ghost use Rattle.a_terms.specs.Read.{atree};
+ghost use Rattle.a_terms.specs.NodeTrees.{base as base_tree, a_value, a_values, a_blocks, a_data, no_value};
+ghost use Rattle.a_terms.specs.Row.{top, others};
+ghost use Rattle.a_scope.specs.Program.{parts};
+ghost use Rattle.a_scope.specs.Scope.{maybe, scope, wrap_type};
+
+use crate::applying::apply_all;
+use crate::fields::{field_of, field_under, full_tuple};
+use crate::scope::{Entry, less, show};
+use a_terms::{ABase, ABlock, AData, AProgram, AType, AValue, AWrap, copies, copy};
+use idx_core::OutOfMemory;
+use std::alloc::Global;
+
+fn variable(alloc: Global, vars: &[Entry], names: u64, n: u64) -> Result<Option<AType>, OutOfMemory>
+    ensures { IfOk result (λ r. maybe r ≡ slice_get (scope names vars.now) n) }
+{
+    let count = vars.len();
+    if n < count as u64 {
+        let made = show(alloc, &vars[count - 1 - n as usize], names)?;
+        Ok(Some(made))
+    } else {
+        Ok(None)
+    }
+}
+
+fn label(alloc: Global, blocks: &[ABlock], l: u64) -> Result<Option<AType>, OutOfMemory>
+    ensures { IfOk result (λ r. maybe r ≡ code_type (slice_get (a_blocks blocks.now) l)) }
+{
+    if l < blocks.len() as u64 {
+        let block = &blocks[l as usize];
+        let args = copies(alloc, &block.args)?;
+        Ok(Some(AType::Code {
+            owes: block.owes,
+            args,
+        }))
+    } else {
+        Ok(None)
+    }
+}
+
+fn datum(alloc: Global, tuples: &[AData], n: u64) -> Result<Option<AType>, OutOfMemory>
+    ensures { IfOk result (λ r. maybe r ≡ data_type (slice_get (a_data tuples.now) n)) }
+{
+    if n < tuples.len() as u64 {
+        let tuple = &tuples[n as usize];
+        let made = full_tuple(alloc, &tuple.fields)?;
+        Ok(Some(made))
+    } else {
+        Ok(None)
+    }
+}
+
+fn type_of_base(
+    alloc: Global,
+    program: &AProgram,
+    vars: &[Entry],
+    names: u64,
+    base: ABase,
+) -> Result<Option<AType>, OutOfMemory>
+    ensures { IfOk result (λ r. maybe r ≡ type_of (parts program.now) (scope names vars.now) (base_tree base)) }
+{
+    match base {
+        ABase::Var(n) => {
+            let made = variable(alloc, vars, names, n)?;
+            Ok(made)
+        }
+        ABase::Int(_) => Ok(Some(AType::Int)),
+        ABase::Label(l) => {
+            let made = label(alloc, program.blocks(), l)?;
+            Ok(made)
+        }
+        ABase::Data(n) => {
+            let made = datum(alloc, program.data(), n)?;
+            Ok(made)
+        }
+    }
+}
+
+fn type_of_wrap(alloc: Global, ty: Option<AType>, w: &AWrap) -> Result<Option<AType>, OutOfMemory>
+    ensures { IfOk result (λ r. maybe r ≡ wrap_type w.now (maybe ty)) }
+{
+    match w {
+        AWrap::Apply(types) => {
+            let made = apply_all(alloc, ty, types)?;
+            Ok(made)
+        }
+        AWrap::Pack { hidden: _, shape } => {
+            let made = copy(alloc, shape)?;
+            Ok(Some(made))
+        }
+    }
+}
+
+/// The type of a value.
+pub fn type_of_value(
+    alloc: Global,
+    program: &AProgram,
+    vars: &[Entry],
+    names: u64,
+    v: &AValue,
+) -> Result<Option<AType>, OutOfMemory>
+    ensures { IfOk result (λ r. maybe r ≡ type_of (parts program.now) (scope names vars.now) (a_value v.now)) }
+{
+    let mut made = type_of_base(alloc, program, vars, names, v.base)?;
+    for w in &v.wraps {
+        made = type_of_wrap(alloc, made, w)?;
+    }
+    Ok(made)
+}
+
+// The type of field i of a variable. The type of the whole tuple is not copied.
+fn field_of_variable(
+    alloc: Global,
+    vars: &[Entry],
+    names: u64,
+    n: u64,
+    i: u64,
+) -> Result<AType, OutOfMemory>
+    ensures { IfOk result (λ r. atree r ≡ the_field_of i (slice_get (scope names vars.now) n)) }
+{
+    let count = vars.len();
+    if n < count as u64 {
+        let entry = &vars[count - 1 - n as usize];
+        let by = less(names, entry.names);
+        let made = field_under(alloc, &entry.ty, by, i)?;
+        Ok(made)
+    } else {
+        Ok(AType::Int)
+    }
+}
+
+/// The variable that a value is, if it is one with nothing around it.
+fn bare_variable(v: &AValue) -> Option<u64>
+    ensures { MatchOption result (Unit {0}) (λ n. a_value v.now ≡ TheVar n) }
+{
+    if v.wraps.len() > 0 {
+        return None;
+    }
+    match v.base {
+        ABase::Var(n) => Some(n),
+        ABase::Int(_) | ABase::Label(_) | ABase::Data(_) => None,
+    }
+}
+
+/// The type of field i of a value, from 1 on.
+pub fn field_of_value(
+    alloc: Global,
+    program: &AProgram,
+    vars: &[Entry],
+    names: u64,
+    v: &AValue,
+    i: u64,
+) -> Result<AType, OutOfMemory>
+    ensures { IfOk result (λ r. atree r ≡ the_field_of i (type_of (parts program.now) (scope names vars.now) (a_value v.now))) }
+{
+    match bare_variable(v) {
+        Some(n) => {
+            let made = field_of_variable(alloc, vars, names, n, i)?;
+            Ok(made)
+        }
+        None => {
+            let ty = type_of_value(alloc, program, vars, names, v)?;
+            let made = field_of(alloc, ty, i)?;
+            Ok(made)
+        }
+    }
+}
+
+/// The first value.
+pub fn first(values: &[AValue]) -> &AValue
+    requires { 1 ≤ length values.now }
+    ensures { a_value result.now ≡ top no_value (a_values values.now) }
+{
+    &values[0]
+}
+
+/// The second value.
+pub fn second(values: &[AValue]) -> &AValue
+    requires { 2 ≤ length values.now }
+    ensures { a_value result.now ≡ top no_value (others (a_values values.now)) }
+{
+    &values[1]
+}

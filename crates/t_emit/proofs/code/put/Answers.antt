@@ -1,0 +1,7 @@
+use Rattle.std.proofs.Common.{ap, ◌∙◌}
+use Rattle.t_emit.specs.Code.{onto}
+use Rattle.t_emit.proofs.Bodies.{onto_snoc}
+use Rattle.t_emit.proofs.code.put.Goals as goal
+
+pub returns : goal.returns
+returns c = λ rest. ap (λ xs. onto xs rest) c.in_ok-push.ensures.items ∙ onto_snoc c.args.code.now.items (c.args.i, _) rest

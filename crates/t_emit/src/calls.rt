@@ -1,0 +1,77 @@
+// Instructions are emitted for calls.
+ghost use Rattle.std.specs.Prelude.{◌≡◌, ◌+◌, ◌<◌, ◌≤◌, ◌^◌, suc, length, IfOk, OnOk};
+ghost use Rattle.t_terms.specs.Tree.{TSeq, Jmp, Plain, Reg};
+ghost use Rattle.t_terms.specs.Read.{end_of};
+ghost use Rattle.t_emit.specs.Code.{onto};
+ghost use Rattle.gen_law.specs.Gen.{into, intos, downs, above as the_above, tys};
+ghost use Rattle.a_terms.specs.Read.{atrees};
+ghost use Rattle.a_terms.specs.NodeTrees.{a_values, no_value};
+ghost use Rattle.a_terms.specs.Row.{top, others, IsSome};
+
+use crate::values::emit_value;
+use a_nodes::AValue;
+use a_scope::value::first;
+use a_types::AType;
+use a_types::walks::written_all;
+use idx_core::{OutOfMemory, Span};
+use std::alloc::Global;
+use t_code::code::emit_downs;
+use t_terms::{Base, End, Instr, Value};
+
+// The arguments, which follow on the first value, in the registers from `above + 1` on.
+fn emit_arguments(
+    alloc: Global,
+    code: &mut Vec<(Instr, Span)>,
+    depth: u64,
+    above: u64,
+    values: &[AValue],
+) -> Result<(), OutOfMemory>
+    requires some { 1 ≤ length values.now }
+    requires room { above + length values.now < 2 ^ 64 }
+    ensures { OnOk result ((rest : TSeq) → onto code.new.items rest ≡ onto code.old.items (intos depth (suc above) (others (a_values values.now)) rest)) }
+{
+    for i in 1..values.len() {
+        emit_value(alloc, code, depth, above + i as u64, &values[i])?;
+    }
+    Ok(())
+}
+
+/// The jump of a call.
+pub fn jump(alloc: Global, above: u64, types: &[AType]) -> Result<End, OutOfMemory>
+    ensures { IfOk result (λ r. end_of r ≡ Jmp (Plain (Reg above) (tys (atrees types.now)))) }
+{
+    let types = written_all(alloc, types)?;
+    Ok(End::Jmp(Value::Plain {
+        base: Base::Reg(above),
+        types,
+    }))
+}
+
+/// The first register above all that a call uses for its arguments.
+pub fn above_all(depth: u64, values: &[AValue]) -> u64
+    requires some { IsSome (a_values values.now) }
+    requires room { depth + length values.now < 2 ^ 64 }
+    ensures { result ≡ the_above depth (others (a_values values.now)) }
+{
+    depth + values.len() as u64
+}
+
+/// The instructions of a call before its jump.
+pub fn emit_call(
+    alloc: Global,
+    code: &mut Vec<(Instr, Span)>,
+    depth: u64,
+    above: u64,
+    values: &[AValue],
+) -> Result<(), OutOfMemory>
+    requires some { IsSome (a_values values.now) }
+    requires above { above ≡ the_above depth (others (a_values values.now)) }
+    requires room { above + length values.now + 1 < 2 ^ 64 }
+    ensures { OnOk result ((rest : TSeq) → onto code.new.items rest ≡ onto code.old.items (into depth (the_above depth (others (a_values values.now))) (top no_value (a_values values.now)) (intos depth (suc (the_above depth (others (a_values values.now)))) (others (a_values values.now)) (downs (length (others (a_values values.now))) 1 (suc (the_above depth (others (a_values values.now)))) rest)))) }
+{
+    emit_value(alloc, code, depth, above, first(values))?;
+    emit_arguments(alloc, code, depth, above, values)?;
+    let count = values.len() as u64 - 1;
+    emit_downs(alloc, code, above + 1, count)?;
+    Ok(())
+}

@@ -1,0 +1,77 @@
+// Instructions are emitted for declarations.
+ghost use Rattle.std.specs.Prelude.{◌≡◌, ◌+◌, ◌<◌, ◌^◌, true, OnOk};
+ghost use Rattle.t_terms.specs.Tree.{TSeq};
+ghost use Rattle.t_emit.specs.Code.{onto};
+ghost use Rattle.gen_law.specs.Gen.{decl_code};
+ghost use Rattle.a_terms.specs.NodeTrees.{a_values, is_decl, a_decl};
+ghost use Rattle.a_terms.specs.Arity.{AArity};
+
+use crate::values::{emit_one, emit_two, emit_value};
+use a_nodes::{AForm, AValue};
+use a_scope::scope::less;
+use a_scope::value::{first, second};
+use a_types::walks::written_all;
+use idx_core::{OutOfMemory, Span};
+use std::alloc::Global;
+use t_code::code::{plain, put};
+use t_terms::{Base, Instr};
+
+/// The instructions of a declaration.
+pub fn emit_declaration(
+    alloc: Global,
+    code: &mut Vec<(Instr, Span)>,
+    depth: u64,
+    form: &AForm,
+    values: &[AValue],
+) -> Result<(), OutOfMemory>
+    requires room { depth + 2 < 2 ^ 64 }
+    requires form { is_decl form.now ≡ true }
+    requires arity { AArity form.now (a_values values.now) }
+    ensures { OnOk result ((rest : TSeq) → onto code.new.items rest ≡ onto code.old.items (decl_code depth (a_decl form.now (a_values values.now)) rest)) }
+{
+    let rd = depth + 1;
+    match form {
+        AForm::Value => {
+            emit_value(alloc, code, depth, rd, first(values))?;
+            Ok(())
+        }
+        AForm::Proj(i) => {
+            let field = less(*i, 1);
+            let last = Instr::Ld { rd, rs: rd, field };
+            emit_one(alloc, code, depth, first(values), last)?;
+            Ok(())
+        }
+        AForm::Arith(op) => {
+            let v = plain(alloc, Base::Reg(rd + 1));
+            let last = Instr::Arith {
+                op: *op,
+                rd,
+                rs: rd,
+                v,
+            };
+            emit_two(alloc, code, depth, first(values), second(values), last)?;
+            Ok(())
+        }
+        AForm::Unpack => {
+            let v = plain(alloc, Base::Reg(rd));
+            emit_one(alloc, code, depth, first(values), Instr::Unpack { rd, v })?;
+            Ok(())
+        }
+        AForm::Malloc(types) => {
+            let types = written_all(alloc, types)?;
+            put(code, Instr::Malloc { rd, types })?;
+            Ok(())
+        }
+        AForm::Init(i) => {
+            let field = less(*i, 1);
+            let last = Instr::St {
+                rd,
+                field,
+                rs: rd + 1,
+            };
+            emit_two(alloc, code, depth, first(values), second(values), last)?;
+            Ok(())
+        }
+        _ => unreachable!(),
+    }
+}

@@ -1,0 +1,65 @@
+// The header of a third part.
+ghost use Rattle.std.specs.Prelude.{◌≡◌, ◌+◌, ◌<◌, ◌^◌, ◌++◌, ◌∷◌, [], suc, length, IfOk, OnOk};
+ghost use Rattle.t_types.specs.Read.{file as file_tree};
+ghost use Rattle.t_terms.specs.Tree.{TSeq, Then, Bnz, Plain, Label};
+ghost use Rattle.t_terms.specs.Read.{blocks_of};
+ghost use Rattle.t_emit.specs.Code.{onto};
+ghost use Rattle.t_emit.specs.Code.{reserved};
+ghost use Rattle.gen_law.specs.Gen.{into, tvars, file};
+ghost use Rattle.a_terms.specs.NodeTrees.{a_value};
+ghost use Rattle.a_scope.specs.Scope.{scope};
+
+use crate::values::emit_one;
+use a_nodes::AValue;
+use a_scope::{Entry, show};
+use a_types::walks::written;
+use idx_core::{OutOfMemory, Span};
+use std::alloc::Global;
+use t_code::blocks::reserve;
+use t_code::place::names_in_scope;
+use t_terms::{Base, Block, Instr, Value};
+use t_types::TType;
+
+/// The registers of the variables, from 1 on, with their types.
+pub fn header(alloc: Global, vars: &[Entry], names: u64) -> Result<Vec<(u64, TType)>, OutOfMemory>
+    ensures { IfOk result (λ r. file_tree r.items ≡ file (scope names vars.now)) }
+{
+    let mut regs = Vec::new(alloc);
+    let mut r = 1;
+    for entry in vars {
+        let shown = show(alloc, entry, names)?;
+        let ty = written(alloc, &shown)?;
+        regs.push((r, ty))?;
+        r += 1;
+    }
+    Ok(regs)
+}
+
+/// The instructions of an `if0` up to its second part; the block of its third part is reserved at the end.
+pub fn emit_if0(
+    alloc: Global,
+    out: &mut Vec<Block>,
+    code: &mut Vec<(Instr, Span)>,
+    vars: &[Entry],
+    names: u64,
+    v: &AValue,
+) -> Result<(), OutOfMemory>
+    ensures code { OnOk result ((rest : TSeq) → onto code.new.items rest ≡ onto code.old.items (into (length vars.now) (suc (length vars.now)) (a_value v.now) (Then (Bnz (suc (length vars.now)) (Plain (Label (length out.old.items)) (tvars names))) rest))) }
+    ensures out { OnOk result (blocks_of out.new.items ≡ blocks_of out.old.items ++ reserved names (file (scope names vars.now)) ∷ []) }
+{
+    let depth = vars.len() as u64;
+    let block = out.len() as u64;
+    let types = names_in_scope(alloc, names)?;
+    let target = Value::Plain {
+        base: Base::Label(block),
+        types,
+    };
+    let last = Instr::Bnz {
+        r: depth + 1,
+        v: target,
+    };
+    emit_one(alloc, code, depth, v, last)?;
+    let registers = header(alloc, vars, names)?;
+    reserve(alloc, out, names, registers)?;
+    Ok(())
+}

@@ -1,0 +1,103 @@
+-- The bodies of a program, one after the other.
+use Rattle.std.proofs.Common.{◌≡◌, ℕ, zero, suc, ◌+◌, ◌<◌, ◌≤◌, ◌++◌, List, [], ◌∷◌, length, take, drop, get_or, refl, sym, ap, ap₂, ◌∙◌, subst, arith, length-append}
+use Rattle.std.proofs.lemmas.List.{drop_more}
+use Rattle.t_types.specs.Tree.{NoRegs, TFile}
+use Rattle.t_terms.specs.Tree.{TBlock}
+use Rattle.t_gen.specs.Filling.{Job, finish, reserves, jobs}
+use Rattle.t_emit.specs.Code.{fill, reserved}
+use Rattle.t_gen.proofs.Filled.{fill_length, generated_is}
+use Rattle.gen_law.specs.Gen.{code, extras, generated, ty_args}
+use Rattle.a_terms.specs.Bound.{thirds}
+use Rattle.gen_law.proofs.Places.{length_extras}
+use Rattle.a_terms.specs.Tree as a
+use Rattle.a_terms.specs.Typing.{types_of}
+use Rattle.a_terms.specs.Read.{atree, atrees}
+use Rattle.a_terms.specs.declared.types.AType.{AType}
+use Rattle.a_scope.proofs.Trees.{asnoc, atrees_snoc, took}
+use Rattle.a_terms.specs.NodeTrees.{a_tree, a_blocks}
+use Rattle.a_terms.specs.Arity.{ARow, ARows}
+use Rattle.a_terms.specs.declared.nodes.ANode.{ANode}
+use Rattle.a_terms.specs.declared.nodes.ABlock.{ABlock}
+use Rattle.a_scope.specs.Scope.{scope}
+use Rattle.a_scope.specs.declared.scope.Entry.{Entry}
+use Rattle.a_scope.proofs.Scopes.{scope_snoc, shown_own}
+use Rattle.t_gen.specs.Pending.{body_job}
+
+-- one body, and then others
+grows : (bs : List a.ABlk) (o n : List TBlock) (j : Job) → n ≡ finish bs (length o) o (j ∷ []) → length n ≡ length o + thirds j.term
+grows bs o n j e =
+    let c = code j.names (length j.vars) (length o) j.term in
+    let es = extras bs j.names (length j.vars) j.vars (length o) j.term in
+    ap length e ∙ length-append (fill j.block c o) es ∙ ap₂ (λ x y. x + y) (fill_length j.block c o) (length_extras bs j.names (length j.vars) j.vars (length o) j.term)
+
+pub chain : (bs : List a.ABlk) (o n : List TBlock) (j : Job) (js : List Job) → n ≡ finish bs (length o) o (j ∷ []) → finish bs (length n) n js ≡ finish bs (length o) o (j ∷ js)
+chain bs o n j js e = ap₂ (λ i x. finish bs i x js) (grows bs o n j e) e
+
+pub longer : (bs : List a.ABlk) (o n : List TBlock) (j : Job) → n ≡ finish bs (length o) o (j ∷ []) → length o ≤ length n
+longer bs o n j e = omega (arith, grows bs o n j e)
+
+length_reserves : (bs : List a.ABlk) → length (reserves bs) ≡ length bs
+length_reserves [] = refl
+length_reserves (b ∷ bs) = ap suc (length_reserves bs)
+
+pub length_a_blocks : (ks : List ABlock) → length (a_blocks ks) ≡ length ks
+length_a_blocks [] = refl
+length_a_blocks (k ∷ ks) = ap suc (length_a_blocks ks)
+
+pub begins : (bs : List a.ABlk) (main : List ANode) (es : List Entry) (o n : List TBlock) → o ≡ reserved 0 NoRegs ∷ reserves bs → es ≡ [] → n ≡ finish bs (length o) o (body_job 0 0 (scope 0 es) main ∷ []) → finish bs (length n) n (jobs 1 bs) ≡ generated bs (a_tree main)
+begins bs main es o n is none e =
+    chain bs o n (body_job 0 0 (scope 0 es) main) (jobs 1 bs) e
+    ∙ ap₂ (λ x vs. finish bs (length x) x (body_job 0 0 (scope 0 vs) main ∷ jobs 1 bs)) is none
+    ∙ ap (λ i. finish bs i (reserved 0 NoRegs ∷ reserves bs) (body_job 0 0 [] main ∷ jobs 1 bs)) (ap suc (length_reserves bs))
+    ∙ generated_is bs (a_tree main)
+
+pub begins_long : (bs : List a.ABlk) (main : List ANode) (es : List Entry) (o n : List TBlock) → o ≡ reserved 0 NoRegs ∷ reserves bs → n ≡ finish bs (length o) o (body_job 0 0 (scope 0 es) main ∷ []) → suc (length bs) ≤ length n
+begins_long bs main es o n is e = omega (arith, longer bs o n (body_job 0 0 (scope 0 es) main) e, ap length is, length_reserves bs)
+
+-- one more block
+pub block_next : (bs : List a.ABlk) (ks : List ABlock) (i : ℕ) (k : ABlock) (o n : List TBlock) (all : List TBlock) → i < length ks → k ≡ get_or ks i k → n ≡ finish bs (length o) o (jobs (i + 1) (a_blocks (k ∷ []))) → finish bs (length o) o (jobs (i + 1) (a_blocks (drop i ks))) ≡ all →
+    finish bs (length n) n (jobs (i + 1 + 1) (a_blocks (drop (i + 1) ks))) ≡ all
+block_next bs ks i k o n all lt is e h =
+    let next : i + 1 + 1 ≡ suc (i + 1) = omega arith in
+    let j : Job = record { block = i + 1; names = k.owes; vars = types_of (atrees k.args.items) []; term = a_tree k.body.items } in
+    ap (λ m. finish bs (length n) n (jobs m (a_blocks (drop (i + 1) ks)))) next
+    ∙ chain bs o n j (jobs (suc (i + 1)) (a_blocks (drop (i + 1) ks))) e
+    ∙ ap (λ xs. finish bs (length o) o (jobs (i + 1) (a_blocks xs))) (sym (drop_more ks i k lt ∙ ap (λ x. x ∷ drop (i + 1) ks) (sym is)))
+    ∙ h
+
+pub block_long : (bs : List a.ABlk) (at : ℕ) (k : ABlock) (o n : List TBlock) → n ≡ finish bs (length o) o (jobs at (a_blocks (k ∷ []))) → length o ≤ length n
+block_long bs at k o n e = longer bs o n (record { block = at; names = k.owes; vars = types_of (atrees k.args.items) []; term = a_tree k.body.items }) e
+
+nil_drop : {T : Type 0} (xs : List T) (i : ℕ) → length xs ≤ i → drop i xs ≡ []
+nil_drop [] zero le = refl
+nil_drop [] (suc i) le = refl
+nil_drop (x ∷ xs) zero le = absurd (omega arith)
+nil_drop (x ∷ xs) (suc i) le = nil_drop xs i (omega arith)
+
+pub blocks_end : (bs : List a.ABlk) (ks : List ABlock) (i : ℕ) (o all : List TBlock) → length ks ≤ i → finish bs (length o) o (jobs (i + 1) (a_blocks (drop i ks))) ≡ all → o ≡ all
+blocks_end bs ks i o all le h = ap (λ (xs : List ABlock). finish bs (length o) o (jobs (i + 1) (a_blocks xs))) (sym (nil_drop ks i le)) ∙ h
+
+pub rows_at : (ks : List ABlock) (i : ℕ) (k : ABlock) → i < length ks → k ≡ get_or ks i k → ARows ks → ARow k.body.items 1
+rows_at [] i k lt is h = absurd (omega arith)
+rows_at (x ∷ ks) zero k lt is h = subst (λ (y : ABlock). ARow y.body.items 1) (sym is) h.0
+rows_at (x ∷ ks) (suc i) k lt is h = rows_at ks i k (omega arith) is h.1
+
+-- reserved blocks
+reserves_snoc : (ks : List ABlock) (k : ABlock) → reserves (a_blocks (ks ++ k ∷ [])) ≡ reserves (a_blocks ks) ++ reserved k.owes (ty_args (atrees k.args.items) 1) ∷ []
+reserves_snoc [] k = refl
+reserves_snoc (x ∷ ks) k = ap (λ bs. reserved x.owes (ty_args (atrees x.args.items) 1) ∷ bs) (reserves_snoc ks k)
+
+pub reserves_push : (ks : List ABlock) (i : ℕ) (k : ABlock) (o n : List TBlock) (f : TFile) → i < length ks → k ≡ get_or ks i k → n ≡ o ++ reserved k.owes f ∷ [] → f ≡ ty_args (atrees k.args.items) 1 → o ≡ reserved 0 NoRegs ∷ reserves (a_blocks (take i ks)) → n ≡ reserved 0 NoRegs ∷ reserves (a_blocks (take (i + 1) ks))
+reserves_push ks i k o n f lt is e g h =
+    e ∙ ap₂ (λ x y. x ++ reserved k.owes y ∷ []) h g
+    ∙ sym (ap (λ xs. reserved 0 NoRegs ∷ reserves (a_blocks xs)) (took ks i k lt is) ∙ ap (λ xs. reserved 0 NoRegs ∷ xs) (reserves_snoc (take i ks) k))
+
+-- arguments
+types_snoc : (ts : a.ATys) (t : a.ATy) (g : List a.ATy) → types_of (asnoc ts t) g ≡ t ∷ types_of ts g
+types_snoc a.NoATys t g = refl
+types_snoc (a.MoreATys u us) t g = types_snoc us t (u ∷ g)
+
+pub argument_push : (k : ℕ) (es new : List Entry) (e : Entry) (ts : List AType) (i : ℕ) (t : AType) → i < length ts → t ≡ get_or ts i t → new ≡ es ++ e ∷ [] → e.names ≡ k → atree e.ty ≡ atree t → scope k es ≡ types_of (atrees (take i ts)) [] → scope k new ≡ types_of (atrees (take (i + 1) ts)) []
+argument_push k es new e ts i t lt is n names same h =
+    ap (scope k) n ∙ scope_snoc k es e ∙ ap₂ (λ u g. u ∷ g) (shown_own k e names ∙ same) h
+    ∙ sym (ap (λ us. types_of us []) (ap atrees (took ts i t lt is) ∙ atrees_snoc (take i ts) t) ∙ types_snoc (atrees (take i ts)) (atree t) [])

@@ -1,0 +1,94 @@
+-- What further variables leave as it is.
+use Rattle.std.proofs.Common.{◌≡◌, ℕ, zero, suc, ◌+◌, ◌≤◌, ◌++◌, List, [], ◌∷◌, length, take, drop, refl, sym, ap, ap₂, ◌∙◌, subst, arith}
+use Rattle.t_terms.specs.Tree.{TSeq, TBlock}
+use Rattle.t_emit.specs.Code.{onto}
+use Rattle.t_gen.specs.Filling.{Job, finish, finish_from}
+use Rattle.gen_law.specs.Gen.{code, extras}
+use Rattle.a_terms.specs.Bound.{thirds}
+use Rattle.t_emit.specs.Code.{fill}
+use Rattle.a_terms.specs.Tree as a
+use Rattle.a_terms.specs.Row.{top, others}
+use Rattle.a_terms.specs.NodeTrees.{no_term}
+use Rattle.a_scope.specs.Scope.{scope, Under}
+use Rattle.a_scope.specs.declared.scope.Entry.{Entry}
+use Rattle.t_gen.specs.declared.state.Place.{Place}
+use Rattle.t_gen.specs.Pending.{tops, jobs_at, pend, Fit}
+
+pub take_front : {T : Type 0} (xs ys : List T) (v : ℕ) → v ≤ length xs → take v (xs ++ ys) ≡ take v xs
+take_front xs ys zero le = refl
+take_front [] ys (suc v) le = absurd (omega arith)
+take_front (x ∷ xs) ys (suc v) le = ap (λ zs. x ∷ zs) (take_front xs ys v (omega arith))
+
+pub whole : {T : Type 0} (xs : List T) (v : ℕ) → length xs ≤ v → take v xs ≡ xs
+whole [] zero le = refl
+whole [] (suc v) le = refl
+whole (x ∷ xs) zero le = absurd (omega arith)
+whole (x ∷ xs) (suc v) le = ap (λ zs. x ∷ zs) (whole xs v (omega arith))
+
+split : {T : Type 0} (xs : List T) (v : ℕ) → take v xs ++ drop v xs ≡ xs
+split xs zero = refl
+split [] (suc v) = refl
+split (x ∷ xs) (suc v) = ap (λ zs. x ∷ zs) (split xs v)
+
+length_take_le : {T : Type 0} (xs : List T) (v : ℕ) → v ≤ length xs → length (take v xs) ≡ v
+length_take_le xs zero le = refl
+length_take_le [] (suc v) le = absurd (omega arith)
+length_take_le (x ∷ xs) (suc v) le = ap suc (length_take_le xs v (omega arith))
+
+pub tops_push : (ps : List Place) (p : Place) → tops (ps ++ p ∷ []) ≡ p ∷ tops ps
+tops_push [] p = refl
+tops_push (q ∷ ps) p = ap (λ qs. qs ++ q ∷ []) (tops_push ps p)
+
+pub jobs_keep : (b m : ℕ) (es ys : List Entry) (ps : List Place) (ts : List a.ATm) → Fit b es m ps → m ≤ length es → jobs_at (es ++ ys) ps ts ≡ jobs_at es ps ts
+jobs_keep b m es ys [] ts f le = refl
+jobs_keep b m es ys (p ∷ ps) ts f le =
+    ap₂ (λ g js. record { block = p.block; names = p.names; vars = scope p.names g; term = top no_term ts } ∷ js) (take_front es ys p.vars (omega (arith, f.1))) (jobs_keep b p.vars es ys ps (others ts) f.3 (omega (arith, f.1)))
+
+pub fit_keep : (b c m n : ℕ) (es ys : List Entry) (ps : List Place) → Fit b es m ps → m ≤ length es → b ≤ c → m ≤ n → Fit c (es ++ ys) n ps
+fit_keep b c m n es ys [] f le bc mn = tt
+fit_keep b c m n es ys (p ∷ ps) f le bc mn =
+    (omega (arith, f.0), omega (arith, f.1), subst (Under p.names) (sym (take_front es ys p.vars (omega (arith, f.1)))) f.2, fit_keep b c p.vars p.vars es ys ps f.3 (omega (arith, f.1)) bc (omega arith))
+
+fit_back : (b m : ℕ) (es ys : List Entry) (ps : List Place) → Fit b (es ++ ys) m ps → m ≤ length es → Fit b es m ps
+fit_back b m es ys [] f le = tt
+fit_back b m es ys (p ∷ ps) f le =
+    (f.0, f.1, subst (Under p.names) (take_front es ys p.vars (omega (arith, f.1))) f.2, fit_back b p.vars es ys ps f.3 (omega (arith, f.1)))
+
+-- the same with a bound that is larger
+pub fit_more : (b c m n : ℕ) (es : List Entry) (ps : List Place) → Fit b es m ps → b ≤ c → m ≤ n → Fit c es n ps
+fit_more b c m n es [] f bc mn = tt
+fit_more b c m n es (p ∷ ps) f bc mn = (omega (arith, f.0), omega (arith, f.1), f.2, fit_more b c p.vars p.vars es ps f.3 bc (omega arith))
+
+-- the variables of the first place alone
+pub fit_cut : (b : ℕ) (es kept : List Entry) (p : Place) (ps : List Place) → kept ≡ take p.vars es → Fit b es (length es) (p ∷ ps) → Fit b kept (length kept) (p ∷ ps)
+fit_cut b es kept p ps cut f =
+    let n : length kept ≡ p.vars = ap length cut ∙ length_take_le es p.vars f.1 in
+    let same : es ≡ kept ++ drop p.vars es = sym (split es p.vars) ∙ ap (λ xs. xs ++ drop p.vars es) (sym cut) in
+    let g : Fit b (kept ++ drop p.vars es) p.vars ps = subst (λ xs. Fit b xs p.vars ps) same f.3 in
+    (f.0, omega (arith, n), subst (Under p.names) (sym cut ∙ sym (whole kept p.vars (omega (arith, n)))) f.2, fit_back b p.vars kept (drop p.vars es) ps g (omega (arith, n)))
+
+pub count_cut : (b : ℕ) (es kept : List Entry) (p : Place) (ps : List Place) → kept ≡ take p.vars es → Fit b es (length es) (p ∷ ps) → p.vars ≡ length kept
+count_cut b es kept p ps cut f = sym (ap length cut ∙ length_take_le es p.vars f.1)
+
+pub pend_cut : (bs : List a.ABlk) (b : ℕ) (es kept : List Entry) (out : List TBlock) (pre : TSeq → TSeq) (p : Place) (ps : List Place) (ts : List a.ATm) → kept ≡ take p.vars es → Fit b es (length es) (p ∷ ps) →
+    pend bs kept out pre (p ∷ ps) ts ≡ pend bs es out pre (p ∷ ps) ts
+pend_cut bs b es kept out pre p ps ts cut f =
+    let n : length kept ≡ p.vars = ap length cut ∙ length_take_le es p.vars f.1 in
+    let same : es ≡ kept ++ drop p.vars es = sym (split es p.vars) ∙ ap (λ xs. xs ++ drop p.vars es) (sym cut) in
+    let g = fit_cut b es kept p ps cut f in
+    let js : jobs_at kept ps (others ts) ≡ jobs_at es ps (others ts) = sym (ap (λ xs. jobs_at xs ps (others ts)) same ∙ jobs_keep b p.vars kept (drop p.vars es) ps (others ts) g.3 (omega (arith, n))) in
+    ap₂ (λ vs ks. finish_from bs (length out) out pre (record { block = p.block; names = p.names; vars = scope p.names vs; term = top no_term ts }) ks) (whole kept p.vars (omega (arith, n)) ∙ cut) js
+
+-- code that is the same
+pub from_same : (bs : List a.ABlk) (at : ℕ) (out : List TBlock) (pre pro : TSeq → TSeq) (j : Job) (js : List Job) → ((rest : TSeq) → pre rest ≡ pro rest) → finish_from bs at out pre j js ≡ finish_from bs at out pro j js
+from_same bs at out pre pro j js h =
+    ap (λ c. finish bs (at + thirds j.term) (fill j.block c out ++ extras bs j.names (length j.vars) j.vars at j.term) js) (h (code j.names (length j.vars) at j.term))
+
+-- where no code stands yet
+pub pend_finish : (bs : List a.ABlk) (es : List Entry) (out : List TBlock) (ps : List Place) (ts : List a.ATm) → pend bs es out (onto []) ps ts ≡ finish bs (length out) out (jobs_at es ps ts)
+pend_finish bs es out [] ts = refl
+pend_finish bs es out (p ∷ ps) ts = refl
+
+pub under_push : (k j : ℕ) (es : List Entry) (e : Entry) → Under k es → k ≤ j → e.names ≤ j → Under j (es ++ e ∷ [])
+under_push k j [] e u le n = (n, tt)
+under_push k j (x ∷ es) e u le n = (omega (arith, u.0), under_push k j es e u.1 le n)

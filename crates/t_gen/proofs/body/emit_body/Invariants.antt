@@ -1,0 +1,13 @@
+use Rattle.std.proofs.Common.{◌∷◌, [], drop, length}
+use Rattle.t_terms.specs.Read.{blocks_of}
+use Rattle.t_gen.specs.Filling.{finish}
+use Rattle.a_terms.specs.NodeTrees.{a_blocks}
+use Rattle.a_scope.specs.Scope.{scope}
+use Rattle.t_gen.specs.Pending.{body_job}
+use Rattle.t_gen.proofs.Walking.{Walked}
+use Rattle.t_gen.proofs.body.emit_body.Given as goal
+
+abbrev pub invariant-loop-node : goal.invariant-loop-node
+invariant-loop-node l =
+    Walked (a_blocks l.blocks) (drop l.node-index l.nodes) l.vars.items l.places.items l.out.items l.code.items
+      (finish (a_blocks l.blocks) (length (blocks_of l.fn.out.items)) (blocks_of l.fn.out.items) (body_job l.block l.names (scope l.names l.fn.vars.items) l.nodes ∷ []))

@@ -1,0 +1,19 @@
+use Rattle.std.proofs.Common.{◌∷◌, [], ◌∙◌, ap, ap₂, sym, subst, length}
+use Rattle.t_terms.specs.Read.{blocks_of}
+use Rattle.t_gen.specs.Filling.{finish}
+use Rattle.a_terms.specs.Typing.{types_of}
+use Rattle.a_terms.specs.Read.{atrees}
+use Rattle.a_terms.specs.NodeTrees.{a_blocks}
+use Rattle.a_terms.specs.Arity.{ARow}
+use Rattle.t_gen.specs.Pending.{body_job}
+use Rattle.t_gen.proofs.program.emit_block.Goals as goal
+
+pub emit_body-requires-clause-one : goal.emit_body-requires-clause-one
+emit_body-requires-clause-one c = subst (λ ns. ARow ns 1) (sym c.deref-2.ensures.value) c.requires.one
+
+pub returns : goal.returns
+returns c =
+    let bs = a_blocks c.args.blocks.now in
+    let o = blocks_of c.args.out.now.items in
+    c.in_ok-emit_body.ensures
+    ∙ ap₂ (λ g ns. finish bs (length o) o (body_job c.args.at c.args.block.now.owes g ns ∷ [])) (c.in_ok-vars.ensures.scope ∙ ap (λ xs. types_of (atrees xs) []) c.deref.ensures.value) c.deref-2.ensures.value

@@ -1,0 +1,28 @@
+use Rattle.std.proofs.Common.{length, ◌∙◌, ap}
+use Rattle.t_terms.specs.Tree as T
+use Rattle.t_terms.specs.Tree.{Ends}
+use Rattle.t_terms.specs.Read.{blocks_of}
+use Rattle.t_emit.specs.Code.{onto}
+use Rattle.t_emit.specs.Code.{fill}
+use Rattle.t_gen.proofs.Filled.{halt_step}
+use Rattle.gen_law.specs.Gen.{into}
+use Rattle.a_terms.specs.Tree as a
+use Rattle.a_terms.specs.NodeTrees.{a_values, no_value}
+use Rattle.a_terms.specs.Row.{top}
+use Rattle.t_gen.proofs.Stepping.{end_stepped}
+use Rattle.t_gen.proofs.step.step_halt.Goals as goal
+
+pub returns : goal.returns
+returns c = λ bs ps f.
+    let v = top no_value (a_values c.args.values.now) in
+    let es = c.args.vars.now in
+    let o = blocks_of c.args.out.now.items in
+    let p = c.args.place in
+    let old = c.args.code.now.items in
+    let d = length es in
+    let t = a.Halt v in
+    end_stepped bs p t es ps c.args.out.now.items c.close_block.new.out.items old c.close_block.new.code.items
+      c.requires.vars c.close_block.ensures.empty
+      (c.close_block.ensures.filled
+       ∙ ap (λ x. fill p.block x o) (c.in_ok-emit_value.ensures (Ends T.Halt) ∙ ap (λ u. onto old (into d 1 u (Ends T.Halt))) c.first.ensures))
+      f (λ out at k g js. halt_step bs at out (onto old) p.block k g v js)

@@ -1,0 +1,24 @@
+use Rattle.std.proofs.Common.{◌≡◌, ◌++◌, ◌∷◌, [], List, suc, length, rules, ◌∙◌, ap, refl}
+use Rattle.t_terms.specs.Tree as T
+use Rattle.t_terms.specs.Tree.{Then}
+use Rattle.t_emit.specs.Code.{onto}
+use Rattle.gen_law.specs.Gen.{into, tvars}
+use Rattle.a_terms.specs.NodeTrees.{a_values, no_value}
+use Rattle.a_terms.specs.Row.{top}
+use Rattle.t_gen.proofs.Stepping.{if_stepped}
+use Rattle.t_gen.specs.declared.state.Place.{Place}
+use Rattle.t_gen.proofs.step.step_if.Goals as goal
+
+pub returns : goal.returns
+returns c = λ bs f.
+    let v = top no_value (a_values c.args.values.now) in
+    let es = c.args.vars.now in
+    let p = c.args.place in
+    let old = c.args.code.now.items in
+    let o = c.args.out.now.items in
+    let q : Place = record { block = c.len-block.result; names = p.names; vars = p.vars } in
+    let long : c.len-block.result ≡ length o = search rules in
+    if_stepped bs p q v es c.args.places.now.items c.push-2.new.self.items o c.emit_if0.new.out.items old c.emit_if0.new.code.items
+      c.requires.vars long refl refl (c.in_ok-push-2.ensures.items ∙ ap (λ (ps : List Place). ps ++ p ∷ []) c.in_ok-push.ensures.items)
+      (λ rest. c.in_ok-emit_if0.ensures.code rest ∙ ap (λ u. onto old (into (length es) (suc (length es)) u (Then (T.Bnz (suc (length es)) (T.Plain (T.Label (length o)) (tvars p.names))) rest))) c.first.ensures)
+      c.in_ok-emit_if0.ensures.out f

@@ -1,0 +1,48 @@
+-- Terms that are still to come, and what one node does.
+use Rattle.std.specs.Prelude.{◌≡◌, ℕ, ◌<◌, ◌≤◌, ◌++◌, List, [], ◌∷◌, length, take}
+use Rattle.idx_core.specs.declared.span.Span.{Span}
+use Rattle.t_terms.specs.Tree.{TSeq, TBlock}
+use Rattle.t_terms.specs.Read.{blocks_of}
+use Rattle.t_terms.specs.declared.block.Block.{Block}
+use Rattle.t_terms.specs.declared.instr.Instr.{Instr}
+use Rattle.t_emit.specs.Code.{onto}
+use Rattle.t_gen.specs.Filling.{Job, finish_from}
+use Rattle.a_terms.specs.Tree as a
+use Rattle.a_terms.specs.Row.{top, others}
+use Rattle.a_terms.specs.NodeTrees.{no_term, a_tree}
+use Rattle.term_core.specs.Ends.{lift}
+use Rattle.a_terms.specs.declared.nodes.ANode.{ANode}
+use Rattle.a_scope.specs.Scope.{scope, Under}
+use Rattle.a_scope.specs.declared.scope.Entry.{Entry}
+use Rattle.t_gen.specs.declared.state.Place.{Place}
+
+-- the newest first
+abbrev pub tops : List Place → List Place
+tops [] = []
+tops (p ∷ ps) = tops ps ++ p ∷ []
+
+abbrev pub body_job : ℕ → ℕ → List a.ATy → List ANode → Job
+body_job n k g ns = record { block = n; names = k; vars = g; term = a_tree ns }
+
+abbrev pub job : List Entry → Place → a.ATm → Job
+job es p t = record { block = p.block; names = p.names; vars = scope p.names (take p.vars es); term = t }
+
+abbrev pub jobs_at : List Entry → List Place → List a.ATm → List Job
+jobs_at es [] ts = []
+jobs_at es (p ∷ ps) ts = job es p (top no_term ts) ∷ jobs_at es ps (others ts)
+
+-- the blocks in the end, where the code of the first place stands behind pre
+abbrev pub pend : List a.ABlk → List Entry → List TBlock → (TSeq → TSeq) → List Place → List a.ATm → List TBlock
+pend bs es out pre [] ts = out
+pend bs es out pre (p ∷ ps) ts = finish_from bs (length out) out pre (job es p (top no_term ts)) (jobs_at es ps (others ts))
+
+-- each place has a block, and fewer variables than the one before
+abbrev pub Fit : ℕ → List Entry → ℕ → List Place → Type 0
+Fit b es m [] = Unit {0}
+Fit b es m (p ∷ ps) = (p.block < b) × (p.vars ≤ m) × Under p.names (take p.vars es) × Fit b es p.vars ps
+
+-- what one node does, which makes a term of `kids` terms
+pub record Stepped (bs : List a.ABlk) (p : Place) (build : List a.ATm → List a.ATm) (kids : ℕ) (es fs : List Entry) (ps qs : List Place) (o n : List Block) (c d : List (Instr × Span)) : Type 0 where
+  pub walked : (ts : List a.ATm) → pend bs fs (blocks_of n) (onto d) (tops qs) ts ≡ pend bs es (blocks_of o) (onto c) (p ∷ tops ps) (build ts)
+  pub fit : Fit (length (blocks_of n)) fs (length fs) (tops qs)
+  pub count : length qs ≡ lift kids (length ps)

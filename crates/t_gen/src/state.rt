@@ -1,0 +1,55 @@
+// What code generation keeps while it walks.
+ghost use Rattle.std.specs.Prelude.{◌≡◌, ◌<◌, [], length};
+ghost use Rattle.t_terms.specs.Tree.{Ends};
+ghost use Rattle.t_terms.specs.Read.{blocks_of, end_of};
+ghost use Rattle.t_emit.specs.Code.{onto};
+ghost use Rattle.t_emit.specs.Code.{fill};
+ghost use Rattle.a_terms.specs.NodeTrees.{is_decl};
+
+use a_nodes::AForm;
+use idx_core::Span;
+use std::alloc::Global;
+use std::mem;
+use t_code::blocks::close;
+use t_terms::{Block, End, Instr};
+
+/// A term that is still to come: into which block its code goes, and how many type names and variables are in scope.
+#[derive(Clone, Copy, Drop)]
+pub struct Place {
+    pub block: usize,
+    pub names: u64,
+    pub vars: usize,
+}
+
+/// The block's code is whole; the next code begins.
+pub fn close_block(
+    alloc: Global,
+    out: &mut Vec<Block>,
+    code: &mut Vec<(Instr, Span)>,
+    at: usize,
+    end: End,
+)
+    requires { at < length out.old.items }
+    ensures filled { blocks_of out.new.items ≡ fill at (onto code.old.items (Ends (end_of end))) (blocks_of out.old.items) }
+    ensures empty { code.new.items ≡ [] }
+{
+    let whole = mem::replace(code, Vec::new(alloc));
+    close(out, at, whole, end);
+}
+
+/// Whether a node is a declaration.
+pub fn declares(form: &AForm) -> bool
+    ensures { result ≡ is_decl form.now }
+{
+    match form {
+        AForm::Value => true,
+        AForm::Proj(_) => true,
+        AForm::Arith(_) => true,
+        AForm::Unpack => true,
+        AForm::Malloc(_) => true,
+        AForm::Init(_) => true,
+        AForm::Call(_) => false,
+        AForm::If0 => false,
+        AForm::Halt => false,
+    }
+}

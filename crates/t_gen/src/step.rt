@@ -1,0 +1,158 @@
+// One node.
+ghost use Rattle.std.specs.Prelude.{◌≡◌, ◌<◌, ℕ, List, ◌∷◌, true, length, OnOk};
+ghost use Rattle.t_terms.specs.Read.{blocks_of};
+ghost use Rattle.t_terms.specs.declared.block.Block.{Block as TheBlock};
+ghost use Rattle.a_terms.specs.Tree.{ATm, Call, If0, Halt, ABlk as ABlockTree};
+ghost use Rattle.t_gen.specs.declared.state.Place.{Place as ThePlace};
+ghost use Rattle.a_terms.specs.Read.{atrees};
+ghost use Rattle.a_terms.specs.NodeTrees.{a_values, a_blocks, a_build, a_decl, a_let, is_decl, no_value, no_term};
+ghost use Rattle.a_terms.specs.Arity.{a_kids, AArity};
+ghost use Rattle.a_terms.specs.Row.{IsOne, IsSome, top, others};
+ghost use Rattle.t_gen.specs.Pending.{tops, Fit, Stepped};
+
+use crate::state::{Place, close_block, declares};
+use a_nodes::{ABlock, AForm, ANode, AValue};
+use a_scope::{Entry, declare, first};
+use a_types::AType;
+use idx_core::{OutOfMemory, Span};
+use std::alloc::Global;
+use t_terms::{Block, End, Instr};
+use t_write::calls::{above_all, emit_call, jump};
+use t_write::decls::emit_declaration;
+use t_write::headers::emit_if0;
+use t_write::values::emit_value;
+
+// A declaration.
+fn step_let(
+    alloc: Global,
+    blocks: &[ABlock],
+    code: &mut Vec<(Instr, Span)>,
+    vars: &mut Vec<Entry>,
+    places: &mut Vec<Place>,
+    place: Place,
+    form: &AForm,
+    values: &[AValue],
+) -> Result<(), OutOfMemory>
+    requires form { is_decl form.now ≡ true }
+    requires arity { AArity form.now (a_values values.now) }
+    requires vars { place.vars ≡ length vars.old.items }
+    requires fit { (b : ℕ) × Fit b vars.old.items (length vars.old.items) (place ∷ tops places.old.items) }
+    ensures { OnOk result ((o : List TheBlock) → Fit (length (blocks_of o)) vars.old.items (length vars.old.items) (place ∷ tops places.old.items) → Stepped (a_blocks blocks.now) place (a_let (a_decl form.now (a_values values.now))) 1 vars.old.items vars.new.items places.old.items places.new.items o o code.old.items code.new.items) }
+{
+    let depth = vars.len() as u64;
+    emit_declaration(alloc, code, depth, form, values)?;
+    let names = declare(alloc, blocks, vars, place.names, form, values)?;
+    let count = vars.len();
+    places.push(Place {
+        block: place.block,
+        names,
+        vars: count,
+    })?;
+    Ok(())
+}
+
+// A call.
+fn step_call(
+    alloc: Global,
+    out: &mut Vec<Block>,
+    code: &mut Vec<(Instr, Span)>,
+    vars: &[Entry],
+    place: Place,
+    types: &[AType],
+    values: &[AValue],
+) -> Result<(), OutOfMemory>
+    requires arity { IsSome (a_values values.now) }
+    requires vars { place.vars ≡ length vars.now }
+    requires block { place.block < length out.old.items }
+    ensures { OnOk result ((bs : List ABlockTree) (ps : List ThePlace) → Fit (length (blocks_of out.old.items)) vars.now (length vars.now) (place ∷ tops ps) → Stepped bs place (λ ts. Call (top no_value (a_values values.now)) (atrees types.now) (others (a_values values.now)) ∷ ts) 0 vars.now vars.now ps ps out.old.items out.new.items code.old.items code.new.items) }
+{
+    let depth = vars.len() as u64;
+    let above = above_all(depth, values);
+    emit_call(alloc, code, depth, above, values)?;
+    let end = jump(alloc, above, types)?;
+    close_block(alloc, out, code, place.block, end);
+    Ok(())
+}
+
+// The end of the program.
+fn step_halt(
+    alloc: Global,
+    out: &mut Vec<Block>,
+    code: &mut Vec<(Instr, Span)>,
+    vars: &[Entry],
+    place: Place,
+    values: &[AValue],
+) -> Result<(), OutOfMemory>
+    requires arity { IsOne (a_values values.now) }
+    requires vars { place.vars ≡ length vars.now }
+    requires block { place.block < length out.old.items }
+    ensures { OnOk result ((bs : List ABlockTree) (ps : List ThePlace) → Fit (length (blocks_of out.old.items)) vars.now (length vars.now) (place ∷ tops ps) → Stepped bs place (λ ts. Halt (top no_value (a_values values.now)) ∷ ts) 0 vars.now vars.now ps ps out.old.items out.new.items code.old.items code.new.items) }
+{
+    let depth = vars.len() as u64;
+    emit_value(alloc, code, depth, 1, first(values))?;
+    close_block(alloc, out, code, place.block, End::Halt);
+    Ok(())
+}
+
+// A branch: the third part waits below the second.
+fn step_if(
+    alloc: Global,
+    out: &mut Vec<Block>,
+    code: &mut Vec<(Instr, Span)>,
+    vars: &[Entry],
+    places: &mut Vec<Place>,
+    place: Place,
+    values: &[AValue],
+) -> Result<(), OutOfMemory>
+    requires arity { IsOne (a_values values.now) }
+    requires vars { place.vars ≡ length vars.now }
+    ensures { OnOk result ((bs : List ABlockTree) → Fit (length (blocks_of out.old.items)) vars.now (length vars.now) (place ∷ tops places.old.items) → Stepped bs place (λ ts. If0 (top no_value (a_values values.now)) (top no_term ts) (top no_term (others ts)) ∷ others (others ts)) 2 vars.now vars.now places.old.items places.new.items out.old.items out.new.items code.old.items code.new.items) }
+{
+    let block = out.len();
+    emit_if0(alloc, out, code, vars, place.names, first(values))?;
+    places.push(Place {
+        block,
+        names: place.names,
+        vars: place.vars,
+    })?;
+    places.push(place)?;
+    Ok(())
+}
+
+/// One node, at a place.
+pub fn step(
+    alloc: Global,
+    blocks: &[ABlock],
+    out: &mut Vec<Block>,
+    code: &mut Vec<(Instr, Span)>,
+    vars: &mut Vec<Entry>,
+    places: &mut Vec<Place>,
+    place: Place,
+    node: &ANode,
+) -> Result<(), OutOfMemory>
+    requires arity { AArity node.now.form (a_values node.now.values.items) }
+    requires vars { place.vars ≡ length vars.old.items }
+    requires fit { Fit (length (blocks_of out.old.items)) vars.old.items (length vars.old.items) (place ∷ tops places.old.items) }
+    ensures { OnOk result (Stepped (a_blocks blocks.now) place (a_build node.now.form (a_values node.now.values.items)) (a_kids node.now.form) vars.old.items vars.new.items places.old.items places.new.items out.old.items out.new.items code.old.items code.new.items) }
+{
+    let values = node.values.as_slice();
+    if declares(&node.form) {
+        step_let(alloc, blocks, code, vars, places, place, &node.form, values)?;
+        return Ok(());
+    }
+    match &node.form {
+        AForm::Call(types) => {
+            step_call(alloc, out, code, vars, place, types, values)?;
+            Ok(())
+        }
+        AForm::Halt => {
+            step_halt(alloc, out, code, vars, place, values)?;
+            Ok(())
+        }
+        AForm::If0 => {
+            step_if(alloc, out, code, vars, places, place, values)?;
+            Ok(())
+        }
+        _ => unreachable!(),
+    }
+}

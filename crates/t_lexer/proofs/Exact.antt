@@ -14,21 +14,21 @@ use Rattle.t_terms.specs.declared.token.Token.{Token}
 use Rattle.t_terms.specs.Tokens.{assembly, Keeps}
 use Rattle.t_terms.specs.Text.{code_of}
 use Rattle.t_terms.proofs.TokenLaws.{assembly_signs}
-use Rattle.t_lexer.specs.Cut.{FirstTokenFault, OneCut, CutOrFault, OneTokenFault}
+use Rattle.t_lexer.specs.Cut.{FirstTokenFault, AtMostOneCut, NoTokenFaultWhereCut, AtMostOneTokenFault}
 
-pub one_cut : OneCut
-one_cut text w v x y = once.one_cut assembly assembly_signs x v y
+pub at_most_one_cut : AtMostOneCut
+at_most_one_cut text w v x y = once.one_cut assembly assembly_signs x v y
 
-pub cut_or_fault : CutOrFault
-cut_or_fault text w c span x f = once.cut_or_wrong assembly assembly_signs text w f.why span.start span.end x f.wrong
+pub no_token_fault_where_cut : NoTokenFaultWhereCut
+no_token_fault_where_cut text w c span x f = once.cut_or_wrong assembly assembly_signs text w f.why span.start span.end x f.wrong
 
-pub one_token_fault : OneTokenFault
-one_token_fault text c c' span span' f h =
+pub at_most_one_token_fault : AtMostOneTokenFault
+at_most_one_token_fault text c c' span span' f h =
     let e = once.one_wrong assembly assembly_signs text f.why span.start span.end h.why span'.start span'.end f.wrong h.wrong in
     (f.is_code ∙ (ap (λ (y : Reason). code_of y) e.reason ∙ sym h.is_code), same_span span span' e.starts e.ends)
 
 pub same_fault : (text : List ℕ) (c c' : TCode) (span span' : Span) → FirstTokenFault text c span → FirstTokenFault text c' span' → Refused c span ≡ Refused c' span'
-same_fault text c c' span span' f h = let e = one_token_fault text c c' span span' f h in let p = e.0 in let q = e.1 in cc
+same_fault text c c' span span' f h = let e = at_most_one_token_fault text c c' span span' f h in let p = e.0 in let q = e.1 in cc
 
 -- the faults that a walk through a text comes to
 module _ (t : List ℕ) (i : ℕ) (out : List Token) (h : SoFar assembly t i out) (l : i < length t) where

@@ -11,6 +11,7 @@ use Rattle.text_core.specs.Lexeme.{Piece, PWord, PPlain, PNegative, piece, of_pi
 use Rattle.text_core.specs.declared.lexeme.Digits.{Digits}
 use Rattle.text_core.specs.declared.lexeme.Found.{Found}
 use Rattle.text_core.specs.declared.lexeme.Found.TheVariants.{Read, Large, Skip, Bad}
+use Rattle.t_types.specs.WellFormed.{max_number}
 use Rattle.t_terms.specs.declared.token.Kind.{Kind}
 use Rattle.t_terms.specs.declared.token.Kind.TheVariants as k
 use Rattle.t_terms.specs.Tokens.{assembly, words, word, word_in, is_register, after_first, Keeps}
@@ -74,11 +75,11 @@ pub name_found : (u : List ℕ) (end : ℕ) → is_register u ≡ false → IsWo
 name_found u end e = (refl, rw e refl, keeps_in words words_keep u)
 
 -- a register, within its bounds and out of them
-pub register_is_found : (u : List ℕ) (end : ℕ) (d : Digits) → is_register u ≡ true → IsValue d.value d.fits (after_first u) → d.fits ≡ true → 1 ≤ d.value → d.value ≤ 9223372036854775807 →
+pub register_is_found : (u : List ℕ) (end : ℕ) (d : Digits) → is_register u ≡ true → IsValue d.value d.fits (after_first u) → d.fits ≡ true → 1 ≤ d.value → d.value ≤ max_number →
     IsWordFound u end (Read (k.Register d.value) end)
 register_is_found u end d e v f l m = let s = (v.small f).0 in (refl, rw (e, s) refl, (l, m))
 
-pub register_is_large : (u : List ℕ) (end : ℕ) (d : Digits) → is_register u ≡ true → IsValue d.value d.fits (after_first u) → (d.fits ≡ true → ¬ ((1 ≤ d.value) × (d.value ≤ 9223372036854775807))) →
+pub register_is_large : (u : List ℕ) (end : ℕ) (d : Digits) → is_register u ≡ true → IsValue d.value d.fits (after_first u) → (d.fits ≡ true → ¬ ((1 ≤ d.value) × (d.value ≤ max_number))) →
     IsWordFound u end (Large end)
 register_is_large u end d e v n = (refl, by_fit d.fits refl)
   where
@@ -94,7 +95,7 @@ word_is_found t at end Bad w p h = absurd h
 
 pub plain_is_found : (t : List ℕ) (at : ℕ) (d : Digits) → Within t at d.end → piece (drop at t) ≡ PPlain (d.end - at) → IsValue d.value d.fits (take (d.end - at) (drop at t)) →
     IsFound assembly t at (plain_found d)
-plain_is_found t at d w p v = go d.fits refl (nat_le d.value 9223372036854775807) refl
+plain_is_found t at d w p v = go d.fits refl (nat_le d.value max_number) refl
   where
     u : List ℕ
     u = take (d.end - at) (drop at t)
@@ -102,9 +103,9 @@ plain_is_found t at d w p v = go d.fits refl (nat_le d.value 9223372036854775807
     is : item assembly (drop at t) ≡ Spelling (k.Plain (pos (value u))) (d.end - at)
     is = ap (λ (x : Piece). of_piece assembly (drop at t) x) p
 
-    go : (f : Bool) → d.fits ≡ f → (l : Bool) → nat_le d.value 9223372036854775807 ≡ l → IsFound assembly t at (plain_found d)
-    go true e true q = let s = (v.small e).0 in let m = leb-true d.value 9223372036854775807 q in rw (e, q) (w, rw s is, omega (arith, ints))
-    go true e false q = let s = (v.small e).0 in let m = leb-false d.value 9223372036854775807 q in rw (e, q) (w, (k.Plain (pos (value u)), is, λ x. omega (arith, ints)))
+    go : (f : Bool) → d.fits ≡ f → (l : Bool) → nat_le d.value max_number ≡ l → IsFound assembly t at (plain_found d)
+    go true e true q = let s = (v.small e).0 in let m = leb-true d.value max_number q in rw (e, q) (w, rw s is, omega (arith, ints))
+    go true e false q = let s = (v.small e).0 in let m = leb-false d.value max_number q in rw (e, q) (w, (k.Plain (pos (value u)), is, λ x. omega (arith, ints)))
     go false e l q = let s = v.large e in rw e (w, (k.Plain (pos (value u)), is, λ x. omega (arith, ints)))
 
 pub negative_is_found : (t : List ℕ) (at : ℕ) (d : Digits) → Within t at d.end → piece (drop at t) ≡ PNegative (d.end - at) → IsValue d.value d.fits (drop 1 (take (d.end - at) (drop at t))) →

@@ -21,14 +21,15 @@ IsTokenFault text (Refused c span) = FirstTokenFault text c span
 
 -- The laws.
 
--- no text is cut in two ways
-abbrev pub OneCut : Type 0
-OneCut = (text : List ℕ) (w v : List Token) → IsCut text w → IsCut text v → w ≡ v
+-- a text is cut in one way at most
+abbrev pub AtMostOneCut : Type 0
+AtMostOneCut = (text : List ℕ) (w v : List Token) → IsCut text w → IsCut text v → w ≡ v
 
 -- a text that is cut has no fault in its tokens
-abbrev pub CutOrFault : Type 0
-CutOrFault = (text : List ℕ) (w : List Token) (c : TCode) (span : Span) → IsCut text w → ¬ FirstTokenFault text c span
+abbrev pub NoTokenFaultWhereCut : Type 0
+NoTokenFaultWhereCut = (text : List ℕ) (w : List Token) (c : TCode) (span : Span) → IsCut text w → ¬ FirstTokenFault text c span
 
--- two first faults of a text's tokens are equal
-abbrev pub OneTokenFault : Type 0
-OneTokenFault = (text : List ℕ) (c c' : TCode) (span span' : Span) → FirstTokenFault text c span → FirstTokenFault text c' span' → (c ≡ c') × (span ≡ span')
+-- a text has one first fault in its tokens at most
+abbrev pub AtMostOneTokenFault : Type 0
+AtMostOneTokenFault =
+    (text : List ℕ) (c c' : TCode) (span span' : Span) → FirstTokenFault text c span → FirstTokenFault text c' span' → (c ≡ c') × (span ≡ span')

@@ -4,12 +4,13 @@ use Rattle.text_core.specs.declared.lexeme.Digits.{Digits}
 use Rattle.text_core.specs.declared.lexeme.Found.{Found}
 use Rattle.text_core.specs.declared.lexeme.Found.TheVariants.{Read, Large, Skip, Bad}
 use Rattle.text_core.specs.Lexeme.{IsValue}
+use Rattle.t_types.specs.WellFormed.{max_number}
 use Rattle.t_terms.specs.declared.token.Kind.{Kind}
 use Rattle.t_terms.specs.declared.token.Kind.TheVariants as k
 use Rattle.t_terms.specs.Tokens.{is_register, after_first, word, Keeps}
 
 abbrev pub plain_found : Digits → Found Kind
-plain_found d = if d.fits && nat_le d.value 9223372036854775807 then Read (k.Plain (pos d.value)) d.end else Large d.end
+plain_found d = if d.fits && nat_le d.value max_number then Read (k.Plain (pos d.value)) d.end else Large d.end
 
 abbrev pub negative_found : Digits → Found Kind
 negative_found d = if d.fits then Read (k.Negative (neg_ℤ (pos d.value))) d.end else Large d.end

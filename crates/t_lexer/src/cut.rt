@@ -44,10 +44,8 @@ pub fn tokens(alloc: Global, text: &[u8]) -> Result<Vec<Token>, TFault>
                     start: at as u64,
                     end: end as u64,
                 };
-                match out.push(Token { kind, span }) {
-                    Ok(()) => at = end,
-                    Err(_) => return Err(TFault::Memory),
-                }
+                out.push(Token { kind, span })?;
+                at = end;
             }
             Found::Large(end) => return Err(refused(TCode::T02, at, end)),
             Found::Bad => return Err(refused(TCode::T01, at, at + 1)),

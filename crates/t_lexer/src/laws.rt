@@ -1,17 +1,17 @@
 // What the definition of an assembly text's tokens says in all.
-ghost use Rattle.t_lexer.specs.Cut.{OneCut, CutOrFault, OneTokenFault};
+ghost use Rattle.t_lexer.specs.Cut.{AtMostOneCut, AtMostOneTokenFault, NoTokenFaultWhereCut};
 
 /// No text is cut into tokens in two ways.
-pub fn one_cut()
-    ensures { OneCut }
-{}
-
-/// A text that is cut into tokens has no fault in them.
-pub fn cut_or_fault()
-    ensures { CutOrFault }
+pub fn at_most_one_cut()
+    ensures { AtMostOneCut }
 {}
 
 /// Two first faults of the tokens of one text are equal.
-pub fn one_token_fault()
-    ensures { OneTokenFault }
+pub fn at_most_one_token_fault()
+    ensures { AtMostOneTokenFault }
+{}
+
+/// A text that is cut into tokens has no fault in them.
+pub fn no_token_fault_where_cut()
+    ensures { NoTokenFaultWhereCut }
 {}

@@ -1,8 +1,9 @@
 //! The tokens of an assembly text.
 #![tactic(auto)]
 
-pub mod cut;
-pub mod laws;
-pub mod scan;
+mod cut;
+mod laws;
+mod scan;
 
 pub use cut::tokens;
+pub use laws::{at_most_one_cut, at_most_one_token_fault, no_token_fault_where_cut};

@@ -19,8 +19,8 @@ use Rattle.t_grammar.specs.declared.raw.RawType.{RawType}
 use Rattle.t_grammar.specs.Raw.{raw, raw_reg}
 use Rattle.t_terms.specs.declared.fault.TCode.TheVariants.{T07}
 use Rattle.t_reader.specs.Resolve.{StopsAt, has}
-use Rattle.t_reader.specs.declared.stop.Stop.{Stop}
-use Rattle.t_reader.specs.declared.stop.Stop.TheVariants.{At}
+use Rattle.t_terms.specs.declared.fault.TFault.{TFault}
+use Rattle.t_terms.specs.declared.fault.TFault.TheVariants.{Refused}
 use Rattle.t_reader.proofs.Found.{here_at, stop_left}
 use Rattle.t_reader.proofs.Naming.{Done}
 
@@ -171,11 +171,11 @@ module _ (text : List ℕ) (a : List Name) (xs : List (ℕ × Span × RawType)) 
         (if has x.0 made then (T07, x.1) ∷ [] else []) ++ (type_faults text a (raw x.2) ++ regs_faults text a (x.0 ∷ h.before) (raw_regs (map raw_reg (drop (k + 1) xs))))
     at_entry = h.faults ∙ rw (here_at xs k x l i, h.known x.0) refl
 
-    pub file_twice : has x.0 made ≡ true → StopsAt (regs_faults text a [] (raw_regs (map raw_reg xs))) (At T07 x.1)
+    pub file_twice : has x.0 made ≡ true → StopsAt (regs_faults text a [] (raw_regs (map raw_reg xs))) (Refused T07 x.1)
     file_twice t = (type_faults text a (raw x.2) ++ regs_faults text a (x.0 ∷ h.before) (raw_regs (map raw_reg (drop (k + 1) xs))), at_entry ∙ rw t refl)
 
     module _ (once : has x.0 made ≡ false) where
-      pub file_stop : (s : Stop) → StopsAt (type_faults text b (raw x.2)) s → StopsAt (regs_faults text a [] (raw_regs (map raw_reg xs))) s
+      pub file_stop : (s : TFault) → StopsAt (type_faults text b (raw x.2)) s → StopsAt (regs_faults text a [] (raw_regs (map raw_reg xs))) s
       file_stop s g = rw (at_entry, once) (stop_left _ _ s (rw h.kept at g))
 
       pub file_next : (c : List Name) (t : TType) (more : Entries) → Done text b x.2 c t → more ≡ insert_entry nat_cmp made x.0 t → FileLeft text a xs (k + 1) c more

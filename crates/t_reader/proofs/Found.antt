@@ -7,8 +7,8 @@ use Rattle.idx_core.specs.Names.{Name}
 use Rattle.t_terms.specs.declared.fault.TCode.{TCode}
 use Rattle.t_terms.specs.Names.{spelled, bind}
 use Rattle.t_reader.specs.Resolve.{StopsAt}
-use Rattle.t_reader.specs.declared.stop.Stop.{Stop}
-use Rattle.t_reader.specs.declared.stop.Stop.TheVariants.{Memory, At}
+use Rattle.t_terms.specs.declared.fault.TFault.{TFault}
+use Rattle.t_terms.specs.declared.fault.TFault.TheVariants.{Memory, Refused}
 
 -- the rest of a list from an element on
 pub here_at : {A : Type 0} (xs : List A) (k : ℕ) (x : A) → k < length xs → x ≡ get_or xs k x → drop k xs ≡ x ∷ drop (k + 1) xs
@@ -22,11 +22,11 @@ drop_bind text (n ∷ ns) a =
     rw (q, ← drop-drop 1 (length ns) (bind text ns (spelled text n ∷ a)), drop_bind text ns (spelled text n ∷ a)) refl
 
 -- a stop in a part
-pub stop_left : (a b : List (TCode × Span)) (e : Stop) → StopsAt a e → StopsAt (a ++ b) e
+pub stop_left : (a b : List (TCode × Span)) (e : TFault) → StopsAt a e → StopsAt (a ++ b) e
 stop_left a b Memory h = tt
-stop_left a b (At code span) h = (h.0 ++ b, rw h.1 refl)
+stop_left a b (Refused code span) h = (h.0 ++ b, rw h.1 refl)
 
-pub stop_right : (a b : List (TCode × Span)) (e : Stop) → a ≡ [] → StopsAt b e → StopsAt (a ++ b) e
+pub stop_right : (a b : List (TCode × Span)) (e : TFault) → a ≡ [] → StopsAt b e → StopsAt (a ++ b) e
 stop_right a b e q h = rw q h
 
 pub none_both : (a b : List (TCode × Span)) → a ≡ [] → b ≡ [] → a ++ b ≡ []

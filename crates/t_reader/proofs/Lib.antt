@@ -1,14 +1,14 @@
 mod Rows
-pub mod Leveled
-pub mod FirstBlocks
-pub mod Places
+pub mod Agreeing
+pub mod Answered
 pub mod Blocking
 pub mod Filing
 pub mod Fitting
 pub mod Found
+pub mod Labelled
+pub mod Leveled
 pub mod Naming
 pub mod Numbering
-pub mod Answered
 pub mod Shaped
 pub mod Valuing
 pub mod Well

@@ -19,8 +19,8 @@ use Rattle.t_grammar.specs.declared.raw.RawFile.{RawFile}
 use Rattle.t_grammar.specs.Raw.{raw, raw_reg, raw_field}
 use Rattle.t_grammar.proofs.Raws.{raw_Tuple, raw_Code}
 use Rattle.t_reader.specs.Resolve.{StopsAt}
-use Rattle.t_reader.specs.declared.stop.Stop.{Stop}
-use Rattle.t_reader.specs.declared.stop.Stop.TheVariants.{At}
+use Rattle.t_terms.specs.declared.fault.TFault.{TFault}
+use Rattle.t_terms.specs.declared.fault.TFault.TheVariants.{Refused}
 use Rattle.t_reader.proofs.Found.{here_at, drop_bind, stop_left}
 
 -- the type that was found, with the names in scope after it
@@ -31,7 +31,7 @@ module _ (text : List ℕ) (a : List Name) (ty : RawType) where
   pub int_whole : ty ≡ R.Int → Done text a ty a T.Int
   int_whole e = rw e (refl, refl, refl)
 
-  pub name_stop : (s : Span) → ty ≡ R.Name s → is_among (spelled text s) a ≡ false → StopsAt (type_faults text a (raw ty)) (At T06 s)
+  pub name_stop : (s : Span) → ty ≡ R.Name s → is_among (spelled text s) a ≡ false → StopsAt (type_faults text a (raw ty)) (Refused T06 s)
   name_stop s e f = ([], rw (e, f) refl)
 
   pub name_whole : (s : Span) (i : ℕ) → ty ≡ R.Name s → (is_among (spelled text s) a ≡ true) × (place_of (spelled text s) a ≡ i) → Done text a ty a (T.Var i)
@@ -41,7 +41,7 @@ module _ (text : List ℕ) (a : List Name) (ty : RawType) where
     is_code : raw ty ≡ RCode names.items (raw_regs (map raw_reg f.regs.items))
     is_code = ap raw e ∙ raw_Code names f
 
-    pub code_stop : (s : Stop) → StopsAt (regs_faults text b [] (raw_regs (map raw_reg rs))) s → StopsAt (type_faults text a (raw ty)) s
+    pub code_stop : (s : TFault) → StopsAt (regs_faults text b [] (raw_regs (map raw_reg rs))) s → StopsAt (type_faults text a (raw ty)) s
     code_stop s h = rw (is_code, ← p, ← q, ← n) h
 
     pub code_whole : (c d : List Name) (ts : Vec (ℕ × TType) Global) (k : ℕ) → k ≡ length ns → c ≡ b → d ≡ drop k c → regs_faults text b [] (raw_regs (map raw_reg rs)) ≡ [] →
@@ -53,7 +53,7 @@ module _ (text : List ℕ) (a : List Name) (ty : RawType) where
     )
 
   module _ (s : Span) (x : Box RawType Global) (body : RawType) (e : ty ≡ R.Some s x) (y : x.value ≡ body) (b : List Name) (n : b ≡ spelled text s ∷ a) where
-    pub some_stop : (z : Stop) → StopsAt (type_faults text b (raw body)) z → StopsAt (type_faults text a (raw ty)) z
+    pub some_stop : (z : TFault) → StopsAt (type_faults text b (raw body)) z → StopsAt (type_faults text a (raw ty)) z
     some_stop z h = rw (e, y, ← n) h
 
     pub some_whole : (c d : List Name) (t u : TType) → Done text b body c t → d ≡ drop 1 c → tree u ≡ ExistsTy (tree t) → Done text a ty d u
@@ -81,7 +81,7 @@ module _ (text : List ℕ) (a : List Name) (xs : List (RawType × Bool)) where
     at_field : fields_faults text a (raw_fields (map raw_field xs)) ≡ type_faults text a (raw x.0) ++ fields_faults text a (raw_fields (map raw_field (drop (k + 1) xs)))
     at_field = h.faults ∙ rw (here_at xs k x l i) refl
 
-    pub fields_stop : (s : Stop) → StopsAt (type_faults text b (raw x.0)) s → StopsAt (fields_faults text a (raw_fields (map raw_field xs))) s
+    pub fields_stop : (s : TFault) → StopsAt (type_faults text b (raw x.0)) s → StopsAt (fields_faults text a (raw_fields (map raw_field xs))) s
     fields_stop s f = rw at_field (stop_left _ _ s (rw h.kept at f))
 
     pub fields_next : (c : List Name) (t : TType) (more : List (TType × Bool)) → Done text b x.0 c t → more ≡ made ++ (t, x.1) ∷ [] → FieldsLeft text a xs (k + 1) c more
@@ -101,7 +101,7 @@ module _ (text : List ℕ) (a : List Name) (xs : List (RawType × Bool)) where
       let g : ty_fields text a xs ≡ map flag made.items = h.trees ∙ (rw n refl ∙ append-nil (map flag made.items)) in
       (h.kept, rw (ap raw e ∙ raw_Tuple v, ← p) f, tree_Tuple made ∙ rw (ap raw e ∙ raw_Tuple v, ← p) (ap TupleTy (sym (is_flagged text a xs ∙ ap flagged g))))
 
-  pub fields_stop_whole : (ty : RawType) (v : Vec (RawType × Bool) Global) (s : Stop) → ty ≡ R.Tuple v → xs ≡ v.items → StopsAt (fields_faults text a (raw_fields (map raw_field xs))) s → StopsAt (type_faults text a (raw ty)) s
+  pub fields_stop_whole : (ty : RawType) (v : Vec (RawType × Bool) Global) (s : TFault) → ty ≡ R.Tuple v → xs ≡ v.items → StopsAt (fields_faults text a (raw_fields (map raw_field xs))) s → StopsAt (type_faults text a (raw ty)) s
   fields_stop_whole ty v s e p f = rw (ap raw e ∙ raw_Tuple v, ← p) f
 
 -- a list of types, of which those from k on are left
@@ -118,7 +118,7 @@ module _ (text : List ℕ) (a : List Name) (xs : List RawType) where
     at_type : types_faults text a (map raw xs) ≡ type_faults text a (raw x) ++ types_faults text a (map raw (drop (k + 1) xs))
     at_type = h.faults ∙ rw (here_at xs k x l i) refl
 
-    pub types_stop : (s : Stop) → StopsAt (type_faults text b (raw x)) s → StopsAt (types_faults text a (map raw xs)) s
+    pub types_stop : (s : TFault) → StopsAt (type_faults text b (raw x)) s → StopsAt (types_faults text a (map raw xs)) s
     types_stop s f = rw at_type (stop_left _ _ s (rw h.kept at f))
 
     pub types_next : (c : List Name) (t : TType) (more : List TType) → Done text b x c t → more ≡ made ++ t ∷ [] → TypesLeft text a xs (k + 1) c more

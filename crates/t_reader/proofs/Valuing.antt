@@ -1,5 +1,5 @@
 -- The names of values and of bodies: how a whole follows from its parts.
-use Rattle.std.proofs.Common.{◌≡◌, ℕ, ◌+◌, ◌<◌, ◌≤◌, List, [], ◌∷◌, ◌++◌, length, map, drop, get_or, Vec, Global, refl, sym, ◌∙◌, ap, true, false, append_assoc, Box}
+use Rattle.std.proofs.Common.{◌≡◌, ℕ, ◌+◌, ◌<◌, ◌≤◌, List, [], ◌∷◌, ◌++◌, length, map, drop, get_or, Vec, Global, refl, sym, ◌∙◌, ap, append_assoc, Box, Some, None}
 use Rattle.std.proofs.lemmas.List.{append-nil}
 use Rattle.std.proofs.Math.ListN.{drop_of_length-le}
 use Rattle.idx_core.specs.declared.span.Span.{Span}
@@ -12,9 +12,9 @@ use Rattle.t_terms.specs.declared.value.Base.TheVariants as B
 use Rattle.t_terms.specs.declared.value.Value.{Value}
 use Rattle.t_terms.specs.declared.value.Value.TheVariants as V
 use Rattle.t_terms.specs.declared.instr.Instr.{Instr}
-use Rattle.t_terms.specs.Tree.{TInstr, Pack}
+use Rattle.t_terms.specs.Tree.{TInstr, Pack, Label}
 use Rattle.t_terms.specs.Read as read
-use Rattle.t_terms.specs.Names.{spelled, is_among, place_of, types_of, base_of, value_of, instr_of, body_of, names_after, names_after_all}
+use Rattle.t_terms.specs.Names.{Labels, spelled, named_by, types_of, base_of, value_of, instr_of, body_of, names_after, names_after_all}
 use Rattle.t_terms.specs.NameFaults.{type_faults, types_faults, base_faults, value_faults, instr_faults, body_faults}
 use Rattle.t_grammar.specs.declared.raw.RawType.{RawType}
 use Rattle.t_grammar.specs.Raw.{raw}
@@ -26,30 +26,30 @@ use Rattle.t_shapes.specs.declared.raw.RawPack.{RawPack}
 use Rattle.t_shapes.specs.declared.raw.RawInstr.{RawInstr}
 use Rattle.t_shapes.specs.Raw.{raw_base, raw_value, raw_instr, raw_step}
 use Rattle.t_reader.specs.Resolve.{StopsAt}
-use Rattle.t_reader.specs.declared.stop.Stop.{Stop}
-use Rattle.t_reader.specs.declared.stop.Stop.TheVariants.{At}
+use Rattle.t_terms.specs.declared.fault.TFault.{TFault}
+use Rattle.t_terms.specs.declared.fault.TFault.TheVariants.{Refused}
 use Rattle.t_reader.proofs.Found.{here_at, stop_left, stop_right, none_both}
 use Rattle.t_reader.proofs.Naming.{Done}
 
-module _ (text : List ℕ) (ls : List Name) (b : RawBase) (s : Span) where
-  pub label_stop : b ≡ RB.Label s → is_among (spelled text s) ls ≡ false → StopsAt (base_faults text ls (raw_base b)) (At T05 s)
+module _ (text : List ℕ) (ls : Labels) (b : RawBase) (s : Span) where
+  pub label_stop : b ≡ RB.Label s → named_by (spelled text s) ls ≡ None → StopsAt (base_faults text ls (raw_base b)) (Refused T05 s)
   label_stop e f = ([], rw (e, f) refl)
 
-  pub label_whole : (i : ℕ) → b ≡ RB.Label s → (is_among (spelled text s) ls ≡ true) × (place_of (spelled text s) ls ≡ i) →
+  pub label_whole : (i : ℕ) → b ≡ RB.Label s → named_by (spelled text s) ls ≡ Some (Label i) →
       (base_faults text ls (raw_base b) ≡ []) × (read.base (B.Label i) ≡ base_of text ls (raw_base b))
-  label_whole i e f = (rw (e, f.0) refl, rw (e, f.1) refl)
+  label_whole i e f = (rw (e, f) refl, rw (e, f) refl)
 
 -- the value that was found, with the names in scope after it
-abbrev pub Valued : List ℕ → List Name → List Name → RawValue → List Name → Value → Type 0
+abbrev pub Valued : List ℕ → Labels → List Name → RawValue → List Name → Value → Type 0
 Valued text ls a v b x = (b ≡ a) × (value_faults text ls a (raw_value v) ≡ []) × (read.value x ≡ value_of text ls a (raw_value v))
 
-module _ (text : List ℕ) (ls a : List Name) (v : RawValue) where
+module _ (text : List ℕ) (ls : Labels) (a : List Name) (v : RawValue) where
   module _ (rb : RawBase) (ts : Vec RawType Global) (us : List RawType) (e : v ≡ RV.Plain rb ts) (p : us ≡ ts.items) where
-    pub plain_base_stop : (s : Stop) → StopsAt (base_faults text ls (raw_base rb)) s → StopsAt (value_faults text ls a (raw_value v)) s
+    pub plain_base_stop : (s : TFault) → StopsAt (base_faults text ls (raw_base rb)) s → StopsAt (value_faults text ls a (raw_value v)) s
     plain_base_stop s h = rw (e, ← p) (stop_left _ _ s h)
 
     module _ (b : Base) where
-      pub plain_types_stop : (s : Stop) → (base_faults text ls (raw_base rb) ≡ []) × (read.base b ≡ base_of text ls (raw_base rb)) → StopsAt (types_faults text a (map raw us)) s → StopsAt (value_faults text ls a (raw_value v)) s
+      pub plain_types_stop : (s : TFault) → (base_faults text ls (raw_base rb) ≡ []) × (read.base b ≡ base_of text ls (raw_base rb)) → StopsAt (types_faults text a (map raw us)) s → StopsAt (value_faults text ls a (raw_value v)) s
       plain_types_stop s g h = rw (e, ← p) (stop_right _ _ s g.0 h)
 
       pub plain_whole : (made : Vec TType Global) (c : List Name) → (base_faults text ls (raw_base rb) ≡ []) × (read.base b ≡ base_of text ls (raw_base rb)) →
@@ -57,15 +57,15 @@ module _ (text : List ℕ) (ls a : List Name) (v : RawValue) where
       plain_whole made c g h = (h.0, rw (e, ← p) (none_both _ _ g.0 h.1), rw (e, ← p, g.1, h.2) refl)
 
   module _ (box : Box RawPack Global) (pack : RawPack) (e : v ≡ RV.Pack box) (y : box.value ≡ pack) where
-    pub pack_1_stop : (s : Stop) → StopsAt (type_faults text a (raw pack.hidden)) s → StopsAt (value_faults text ls a (raw_value v)) s
+    pub pack_1_stop : (s : TFault) → StopsAt (type_faults text a (raw pack.hidden)) s → StopsAt (value_faults text ls a (raw_value v)) s
     pack_1_stop s h = rw (e, y) (stop_left _ _ s h)
 
     module _ (b : List Name) (t : TType) (d : Done text a pack.hidden b t) where
-      pub pack_2_stop : (s : Stop) → StopsAt (value_faults text ls b (raw_value pack.inner)) s → StopsAt (value_faults text ls a (raw_value v)) s
+      pub pack_2_stop : (s : TFault) → StopsAt (value_faults text ls b (raw_value pack.inner)) s → StopsAt (value_faults text ls a (raw_value v)) s
       pack_2_stop s h = rw (e, y) (stop_right _ _ s d.1 (stop_left _ _ s (rw d.0 at h)))
 
       module _ (c : List Name) (x : Value) (g : Valued text ls b pack.inner c x) where
-        pub pack_3_stop : (s : Stop) → StopsAt (type_faults text c (raw pack.shape)) s → StopsAt (value_faults text ls a (raw_value v)) s
+        pub pack_3_stop : (s : TFault) → StopsAt (type_faults text c (raw pack.shape)) s → StopsAt (value_faults text ls a (raw_value v)) s
         pack_3_stop s h = rw (e, y) (stop_right _ _ s d.1 (stop_right _ _ s (rw d.0 at g.1) (rw (g.0, d.0) at h)))
 
         pub pack_whole : (f : List Name) (u : TType) → Done text c pack.shape f u → (z : Value) → read.value z ≡ Pack (tree t) (read.value x) (tree u) → Valued text ls a v f z
@@ -76,7 +76,7 @@ module _ (text : List ℕ) (ls a : List Name) (v : RawValue) where
         )
 
 -- a body, of which the instructions from k on are left
-pub record BodyLeft (text : List ℕ) (ls a : List Name) (xs : List (RawInstr × Span)) (k : ℕ) (b : List Name) (made : List (Instr × Span)) : Type 0 where
+pub record BodyLeft (text : List ℕ) (ls : Labels) (a : List Name) (xs : List (RawInstr × Span)) (k : ℕ) (b : List Name) (made : List (Instr × Span)) : Type 0 where
   pub names : names_after_all text (map raw_step xs) a ≡ names_after_all text (map raw_step (drop k xs)) b
   pub faults : body_faults text ls a (map raw_step xs) ≡ body_faults text ls b (map raw_step (drop k xs))
   pub trees : body_of text ls a (map raw_step xs) ≡ read.body made ++ body_of text ls b (map raw_step (drop k xs))
@@ -85,7 +85,7 @@ body_append : (xs ys : List (Instr × Span)) → read.body (xs ++ ys) ≡ read.b
 body_append [] ys = refl
 body_append (x ∷ xs) ys = ap (λ (zs : List (TInstr × Span)). (read.instr x.0, x.1) ∷ zs) (body_append xs ys)
 
-module _ (text : List ℕ) (ls a : List Name) (xs : List (RawInstr × Span)) where
+module _ (text : List ℕ) (ls : Labels) (a : List Name) (xs : List (RawInstr × Span)) where
   pub body_start : BodyLeft text ls a xs 0 a []
   body_start = record { names = refl; faults = refl; trees = refl }
 
@@ -93,7 +93,7 @@ module _ (text : List ℕ) (ls a : List Name) (xs : List (RawInstr × Span)) whe
     at_step : body_faults text ls a (map raw_step xs) ≡ instr_faults text ls b (raw_instr x.0) ++ body_faults text ls (names_after text (raw_instr x.0) b) (map raw_step (drop (k + 1) xs))
     at_step = h.faults ∙ rw (here_at xs k x l i) refl
 
-    pub body_stop : (s : Stop) → StopsAt (instr_faults text ls b (raw_instr x.0)) s → StopsAt (body_faults text ls a (map raw_step xs)) s
+    pub body_stop : (s : TFault) → StopsAt (instr_faults text ls b (raw_instr x.0)) s → StopsAt (body_faults text ls a (map raw_step xs)) s
     body_stop s f = rw at_step (stop_left _ _ s f)
 
     pub body_next : (c : List Name) (t : Instr) (more : List (Instr × Span)) →

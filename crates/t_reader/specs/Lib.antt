@@ -1,3 +1,3 @@
 pub mod Resolve
 pub mod Levels
-pub mod FirstBlocks
+pub mod Labelled

@@ -1,28 +1,28 @@
 -- What the resolving of names promises.
-use Rattle.std.specs.Prelude.{◌≡◌, ◌≤◌, ℕ, Bool, true, false, List, ◌∷◌, length, slice_get, nat_eq, Option, Some, None, not, if◌then◌else◌, ◌&&◌, [], ◌++◌}
+use Rattle.std.specs.Prelude.{◌≡◌, ◌≤◌, ℕ, Bool, true, false, List, ◌∷◌, length, slice_get, nat_eq, Option, Some, None, not, if◌then◌else◌, [], ◌++◌}
 use Rattle.std.specs.List.{list_any}
 use Rattle.idx_core.specs.declared.span.Span.{Span}
 use Rattle.idx_core.specs.Names.{Name}
 use Rattle.text_core.specs.Shapes.{NonePasses}
+use Rattle.t_types.specs.WellFormed.{max_number}
 use Rattle.t_types.specs.declared.types.TType.{TType}
 use Rattle.t_terms.specs.declared.token.Token.{Token}
 use Rattle.t_terms.specs.declared.fault.TCode.{TCode}
 use Rattle.t_terms.specs.declared.fault.TCode.TheVariants.{T04}
 use Rattle.t_terms.specs.declared.fault.TFault.{TFault}
+use Rattle.t_terms.specs.declared.fault.TFault.TheVariants.{Memory, Refused}
 use Rattle.t_terms.specs.Tokens.{IsCut}
 use Rattle.t_terms.specs.Raw.{RawBlock}
-use Rattle.t_terms.specs.Grammar.{Program}
-use Rattle.t_terms.specs.Machine.{table}
-use Rattle.t_terms.specs.Names.{spelled, is_among, place_of}
-use Rattle.t_terms.specs.NameFaults.{block_faults}
+use Rattle.t_terms.specs.Grammar.{Program, assembly_grammar}
+use Rattle.t_terms.specs.Names.{Labels, spelled, is_among, place_of, named_by}
+use Rattle.t_terms.specs.NameFaults.{only_if, block_faults}
 use Rattle.t_terms.specs.Text.{most_open, IsFirstFault}
-use Rattle.t_reader.specs.declared.stop.Stop.{Stop}
-use Rattle.t_reader.specs.declared.stop.Stop.TheVariants.{Memory, At}
+use Rattle.t_reader.specs.Labelled.{is_block}
 
 -- the first of the faults in the order of the text, or want of memory
-abbrev pub StopsAt : List (TCode × Span) → Stop → Type 0
+abbrev pub StopsAt : List (TCode × Span) → TFault → Type 0
 StopsAt faults Memory = Unit {0}
-StopsAt faults (At code span) = (rest : List (TCode × Span)) × (faults ≡ (code, span) ∷ rest)
+StopsAt faults (Refused code span) = (rest : List (TCode × Span)) × (faults ≡ (code, span) ∷ rest)
 
 -- the place of a name among names, or none exactly where it is not there
 abbrev pub IsFound : Name → List Name → Option ℕ → Type 0
@@ -30,12 +30,12 @@ IsFound x names None = is_among x names ≡ false
 IsFound x names (Some i) = (is_among x names ≡ true) × (place_of x names ≡ i)
 
 -- whether a label is that of a block before the one with this number
-abbrev pub stands_before : Name → List Name → ℕ → Bool
-stands_before x labels k = not (is_among x labels && nat_eq (place_of x labels) k)
+abbrev pub stands_before : Name → Labels → ℕ → Bool
+stands_before x ls k = not (is_block k (named_by x ls))
 
 -- the faults of a block with this number: its label stands before, and those of its names
-abbrev pub numbered_faults : List ℕ → List Name → ℕ → RawBlock → List (TCode × Span)
-numbered_faults text labels k b = (if stands_before (spelled text b.name) labels k then (T04, b.name) ∷ [] else []) ++ block_faults text labels b
+abbrev pub numbered_faults : List ℕ → Labels → ℕ → RawBlock → List (TCode × Span)
+numbered_faults text ls k b = only_if (stands_before (spelled text b.name) ls k) T04 b.name ++ block_faults text ls b
 
 -- a register is there
 abbrev pub has : ℕ → List (ℕ × TType) → Bool
@@ -54,9 +54,9 @@ pub record IsShape (text : List ℕ) (raw : List RawBlock) : Type 0 where
   pub tokens : List Token
   pub cut : IsCut text tokens
   pub shape : Program tokens raw
-  pub within : NonePasses table most_open tokens
+  pub within : NonePasses assembly_grammar most_open tokens
   -- no memory holds more
-  pub short : length tokens ≤ 9223372036854775807
+  pub short : length tokens ≤ max_number
 
 -- the text has a first fault before its names are looked at
 abbrev pub IsShapeFault : List ℕ → TFault → Type 0

@@ -1,13 +1,12 @@
 //! The program that an assembly text stands for, or the first fault of the text.
 #![tactic(auto)]
 
-pub mod labels;
-pub mod reader;
-pub mod resolve;
-pub mod scope;
-pub mod stop;
+mod labels;
+mod reader;
+mod resolve;
+mod scope;
 #[cfg(test)]
 mod tests;
-pub mod types;
+mod types;
 
 pub use reader::read;

@@ -7,20 +7,19 @@ ghost use Rattle.t_terms.specs.NameFaults.{base_faults, value_faults, instr_faul
 ghost use Rattle.t_terms.specs.Read as read;
 ghost use Rattle.t_shapes.specs.Raw.{raw_base, raw_value, raw_instr, raw_step, raw_end, raw_block};
 ghost use Rattle.t_reader.specs.Resolve.{StopsAt};
-ghost use Rattle.t_reader.specs.declared.stop.Stop.TheVariants as stop;
+ghost use Rattle.t_terms.specs.declared.fault.TFault.TheVariants as fault;
 
 use crate::labels::Labels;
 use crate::scope::{Scope, bind_all, spelling};
-use crate::stop::Stop;
 use crate::types::{file_in, type_in, types_in};
 use idx_core::Span;
 use std::alloc::Global;
 use t_shapes::{RawBase, RawBlock, RawEnd, RawInstr, RawValue};
-use t_terms::{Base, Block, End, Instr, TCode, Value};
+use t_terms::{Base, Block, End, Instr, TCode, TFault, Value};
 use t_types::{RegFile, TType};
 
 // N ::= reg | number | label
-fn base_in(text: &[u8], labels: &Labels<'_>, base: &RawBase) -> Result<Base, Stop>
+fn base_in(text: &[u8], labels: &Labels<'_>, base: &RawBase) -> Result<Base, TFault>
     ensures { MatchResult result
         (λ b. (base_faults text.now labels.now (raw_base base.now) ≡ []) × (read.base b ≡ base_of text.now labels.now (raw_base base.now)))
         (λ e. StopsAt (base_faults text.now labels.now (raw_base base.now)) e) }
@@ -30,13 +29,16 @@ fn base_in(text: &[u8], labels: &Labels<'_>, base: &RawBase) -> Result<Base, Sto
         RawBase::Num(value) => Ok(Base::Int(*value)),
         RawBase::Label(span) => match labels.find(spelling(text, *span)) {
             Some(number) => Ok(Base::Label(number)),
-            None => Err(Stop::At(TCode::T05, *span)),
+            None => Err(TFault::Refused {
+                code: TCode::T05,
+                span: *span,
+            }),
         },
     }
 }
 
-fn package(alloc: Global, hidden: TType, inner: Value, shape: TType) -> Result<Value, Stop>
-    ensures { MatchResult result (λ v. read.value v ≡ Pack (tree hidden) (read.value inner) (tree shape)) (λ e. e ≡ stop.Memory) }
+fn package(alloc: Global, hidden: TType, inner: Value, shape: TType) -> Result<Value, TFault>
+    ensures { MatchResult result (λ v. read.value v ≡ Pack (tree hidden) (read.value inner) (tree shape)) (λ e. e ≡ fault.Memory) }
 {
     Ok(Value::Pack {
         hidden,
@@ -52,7 +54,7 @@ pub fn value_in<'a>(
     labels: &Labels<'_>,
     value: &RawValue,
     scope: &mut Scope<'a>,
-) -> Result<Value, Stop>
+) -> Result<Value, TFault>
     ensures { MatchResult result
         (λ v. (scope.new ≡ scope.old) × (value_faults text.now labels.now scope.old (raw_value value.now) ≡ []) × (read.value v ≡ value_of text.now labels.now scope.old (raw_value value.now)))
         (λ e. StopsAt (value_faults text.now labels.now scope.old (raw_value value.now)) e) }
@@ -81,7 +83,7 @@ pub fn instr_in<'a>(
     labels: &Labels<'_>,
     instr: &RawInstr,
     scope: &mut Scope<'a>,
-) -> Result<Instr, Stop>
+) -> Result<Instr, TFault>
     ensures { MatchResult result
         (λ i. (scope.new ≡ names_after text.now (raw_instr instr.now) scope.old) × (instr_faults text.now labels.now scope.old (raw_instr instr.now) ≡ []) × (read.instr i ≡ instr_of text.now labels.now scope.old (raw_instr instr.now)))
         (λ e. StopsAt (instr_faults text.now labels.now scope.old (raw_instr instr.now)) e) }
@@ -133,7 +135,7 @@ pub fn body_in<'a>(
     labels: &Labels<'_>,
     body: &[(RawInstr, Span)],
     scope: &mut Scope<'a>,
-) -> Result<Vec<(Instr, Span)>, Stop>
+) -> Result<Vec<(Instr, Span)>, TFault>
     ensures { MatchResult result
         (λ is. (scope.new ≡ names_after_all text.now (map raw_step body.now) scope.old) × (body_faults text.now labels.now scope.old (map raw_step body.now) ≡ []) × (read.body is.items ≡ body_of text.now labels.now scope.old (map raw_step body.now)))
         (λ e. StopsAt (body_faults text.now labels.now scope.old (map raw_step body.now)) e) }
@@ -153,7 +155,7 @@ pub fn end_in<'a>(
     labels: &Labels<'_>,
     end: &RawEnd,
     scope: &mut Scope<'a>,
-) -> Result<End, Stop>
+) -> Result<End, TFault>
     ensures { MatchResult result
         (λ e. (end_faults text.now labels.now scope.old (raw_end end.now) ≡ []) × (read.end_of e ≡ end_of text.now labels.now scope.old (raw_end end.now)))
         (λ e. StopsAt (end_faults text.now labels.now scope.old (raw_end end.now)) e) }
@@ -173,7 +175,7 @@ pub fn block_in(
     text: &[u8],
     labels: &Labels<'_>,
     block: &RawBlock,
-) -> Result<Block, Stop>
+) -> Result<Block, TFault>
     ensures { MatchResult result
         (λ b. (block_faults text.now labels.now (raw_block block.now) ≡ []) × (read.spanned b ≡ block_of text.now labels.now (raw_block block.now)))
         (λ e. StopsAt (block_faults text.now labels.now (raw_block block.now)) e) }

@@ -4,14 +4,14 @@ ghost use Rattle.indexmap.specs.IndexMap.{IsEmpty};
 ghost use Rattle.t_terms.specs.Names.{spelled, bind};
 ghost use Rattle.t_reader.specs.Resolve.{IsFound};
 ghost use Rattle.t_reader.specs.Levels.{level_of};
-ghost use Rattle.t_reader.specs.declared.stop.Stop.TheVariants as stop;
+ghost use Rattle.t_terms.specs.declared.fault.TFault.TheVariants as fault;
 
-use crate::stop::Stop;
 use idx_core::{OutOfMemory, Span};
 use indexmap::IndexMap;
 use std::alloc::Global;
 use std::hash::{BuildHasherDefault, DefaultHasher};
 use std::marker::Model;
+use t_terms::TFault;
 
 /// Numbers by spellings. Whoever writes a text picks its names, so the hasher is SipHash, for which names that collide
 /// must be searched out; its keys are fixed (own choice).
@@ -112,9 +112,9 @@ pub fn spelling<'a>(text: &'a [u8], span: Span) -> &'a [u8]
 }
 
 /// Binds the names at these places in turn, the last innermost.
-pub fn bind_all<'a>(text: &'a [u8], names: &[Span], scope: &mut Scope<'a>) -> Result<(), Stop>
+pub fn bind_all<'a>(text: &'a [u8], names: &[Span], scope: &mut Scope<'a>) -> Result<(), TFault>
     ensures bound { OnOk result (scope.new ≡ bind text.now names.now scope.old) }
-    ensures memory { OnErr result (result ≡ Err stop.Memory) }
+    ensures memory { OnErr result (result ≡ Err fault.Memory) }
 {
     for name in names {
         scope.push(spelling(text, *name))?;

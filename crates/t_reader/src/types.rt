@@ -7,19 +7,18 @@ ghost use Rattle.t_terms.specs.Names.{type_of, types_of, file_of};
 ghost use Rattle.t_terms.specs.NameFaults.{type_faults, types_faults, regs_faults};
 ghost use Rattle.t_grammar.specs.Raw.{raw, raw_reg};
 ghost use Rattle.t_reader.specs.Resolve.{StopsAt, has};
-ghost use Rattle.t_reader.specs.declared.stop.Stop.TheVariants as stop;
+ghost use Rattle.t_terms.specs.declared.fault.TFault.TheVariants as fault;
 
 use crate::scope::{Scope, bind_all, release, spelling};
-use crate::stop::Stop;
 use idx_core::Span;
 use std::alloc::Global;
 use std::collections::BTreeMap;
 use t_grammar::RawType;
-use t_terms::TCode;
+use t_terms::{TCode, TFault};
 use t_types::{RegFile, TType};
 
-fn exists(alloc: Global, body: TType) -> Result<TType, Stop>
-    ensures { MatchResult result (λ t. tree t ≡ ExistsTy (tree body)) (λ e. e ≡ stop.Memory) }
+fn exists(alloc: Global, body: TType) -> Result<TType, TFault>
+    ensures { MatchResult result (λ t. tree t ≡ ExistsTy (tree body)) (λ e. e ≡ fault.Memory) }
 {
     Ok(TType::Exists(Box::new(alloc, body)?))
 }
@@ -32,8 +31,8 @@ fn has_reg(file: &BTreeMap<u64, TType>, reg: u64) -> bool
 }
 
 // the registers of a file with their types, in ascending order
-fn in_order(alloc: Global, file: BTreeMap<u64, TType>) -> Result<Vec<(u64, TType)>, Stop>
-    ensures { MatchResult result (λ regs. regs.items ≡ file.entries) (λ e. e ≡ stop.Memory) }
+fn in_order(alloc: Global, file: BTreeMap<u64, TType>) -> Result<Vec<(u64, TType)>, TFault>
+    ensures { MatchResult result (λ regs. regs.items ≡ file.entries) (λ e. e ≡ fault.Memory) }
 {
     let mut regs = Vec::new(alloc);
     for entry in file {
@@ -50,7 +49,7 @@ pub fn type_in<'a>(
     text: &'a [u8],
     ty: &RawType,
     scope: &mut Scope<'a>,
-) -> Result<TType, Stop>
+) -> Result<TType, TFault>
     ensures { MatchResult result
         (λ t. (scope.new ≡ scope.old) × (type_faults text.now scope.old (raw ty.now) ≡ []) × (tree t ≡ type_of text.now scope.old (raw ty.now)))
         (λ e. StopsAt (type_faults text.now scope.old (raw ty.now)) e) }
@@ -59,7 +58,10 @@ pub fn type_in<'a>(
         RawType::Int => Ok(TType::Int),
         RawType::Name(span) => match scope.find(spelling(text, *span)) {
             Some(place) => Ok(TType::Var(place)),
-            None => Err(Stop::At(TCode::T06, *span)),
+            None => Err(TFault::Refused {
+                code: TCode::T06,
+                span: *span,
+            }),
         },
         RawType::Code(names, file) => {
             let names = names.as_slice();
@@ -97,7 +99,7 @@ pub fn file_in<'a>(
     text: &'a [u8],
     regs: &[(u64, Span, RawType)],
     scope: &mut Scope<'a>,
-) -> Result<Vec<(u64, TType)>, Stop>
+) -> Result<Vec<(u64, TType)>, TFault>
     ensures { MatchResult result
         (λ f. (scope.new ≡ scope.old) × (regs_faults text.now scope.old [] (raw_regs (map raw_reg regs.now)) ≡ []) × (file f.items ≡ file_of text.now scope.old (raw_regs (map raw_reg regs.now))))
         (λ e. StopsAt (regs_faults text.now scope.old [] (raw_regs (map raw_reg regs.now))) e) }
@@ -105,7 +107,10 @@ pub fn file_in<'a>(
     let mut made = BTreeMap::new(alloc);
     for reg in regs {
         if has_reg(&made, reg.0) {
-            return Err(Stop::At(TCode::T07, reg.1));
+            return Err(TFault::Refused {
+                code: TCode::T07,
+                span: reg.1,
+            });
         }
         let ty = type_in(alloc, text, &reg.2, scope)?;
         made.insert(reg.0, ty)?;
@@ -120,7 +125,7 @@ pub fn types_in<'a>(
     text: &'a [u8],
     list: &[RawType],
     scope: &mut Scope<'a>,
-) -> Result<Vec<TType>, Stop>
+) -> Result<Vec<TType>, TFault>
     ensures { MatchResult result
         (λ ts. (scope.new ≡ scope.old) × (types_faults text.now scope.old (map raw list.now) ≡ []) × (types ts.items ≡ types_of text.now scope.old (map raw list.now)))
         (λ e. StopsAt (types_faults text.now scope.old (map raw list.now)) e) }

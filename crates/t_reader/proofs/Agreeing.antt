@@ -1,0 +1,76 @@
+-- What a text stands for depends on what its labels name alone.
+use Rattle.std.proofs.Common.{◌≡◌, ℕ, List, [], ◌∷◌, ◌++◌, refl, ap, ap₂}
+use Rattle.std.specs.Prelude.{is_none, Option}
+use Rattle.idx_core.specs.declared.span.Span.{Span}
+use Rattle.idx_core.specs.Names.{Name}
+use Rattle.t_terms.specs.declared.fault.TCode.{TCode}
+use Rattle.t_terms.specs.declared.fault.TCode.TheVariants.{T04, T05}
+use Rattle.t_terms.specs.Tree.{TBase, TValue, Plain, Pack, TInstr, Arith, Bnz, Ld, Malloc, Mov, St, Unpack, TEnd, Jmp, Halt}
+use Rattle.t_terms.specs.Raw.{RawBase, RReg, RNum, RLabel, RawValue, RPlain, RPack, RawInstr, RArith, RBnz, RLd, RMalloc, RMov, RSt, RUnpack, RawEnd, RJmp, RHalt, RawBlock}
+use Rattle.t_terms.specs.Names.{Labels, spelled, named_by, or_first, bind, type_of, types_of, file_of, base_of, value_of, instr_of, body_of, end_of, names_after, names_after_all, block_of}
+use Rattle.t_terms.specs.NameFaults.{only_if, type_faults, types_faults, regs_faults, base_faults, value_faults, instr_faults, body_faults, end_faults, block_faults}
+use Rattle.t_reader.specs.Labelled.{NameTheSame, is_block}
+use Rattle.t_reader.specs.Resolve.{stands_before, numbered_faults}
+
+module _ (text : List ℕ) (ls ms : Labels) (same : NameTheSame ls ms) where
+  base_same : (b : RawBase) → base_of text ls b ≡ base_of text ms b
+  base_same (RReg r) = refl
+  base_same (RNum z) = refl
+  base_same (RLabel s) = ap or_first (same (spelled text s))
+
+  value_same : (a : List Name) (v : RawValue) → value_of text ls a v ≡ value_of text ms a v
+  value_same a (RPlain b ts) = ap (λ (x : TBase). Plain x (types_of text a ts)) (base_same b)
+  value_same a (RPack t v s) = ap (λ (x : TValue). Pack (type_of text a t) x (type_of text a s)) (value_same a v)
+
+  instr_same : (a : List Name) (i : RawInstr) → instr_of text ls a i ≡ instr_of text ms a i
+  instr_same a (RArith op rd rs v) = ap (Arith op rd rs) (value_same a v)
+  instr_same a (RBnz r v) = ap (Bnz r) (value_same a v)
+  instr_same a (RLd rd rs i) = refl
+  instr_same a (RMalloc rd ts) = refl
+  instr_same a (RMov rd v) = ap (Mov rd) (value_same a v)
+  instr_same a (RSt rd i rs) = refl
+  instr_same a (RUnpack n rd v) = ap (Unpack rd) (value_same a v)
+
+  body_same : (a : List Name) (is : List (RawInstr × Span)) → body_of text ls a is ≡ body_of text ms a is
+  body_same a [] = refl
+  body_same a (i ∷ is) = ap₂ (λ (x : TInstr) (xs : List (TInstr × Span)). (x, i.1) ∷ xs) (instr_same a i.0) (body_same (names_after text i.0 a) is)
+
+  end_same : (a : List Name) (e : RawEnd) → end_of text ls a e ≡ end_of text ms a e
+  end_same a (RJmp v) = ap Jmp (value_same a v)
+  end_same a RHalt = refl
+
+  pub block_same : (b : RawBlock) → block_of text ls b ≡ block_of text ms b
+  block_same b = rw (body_same (bind text b.names []) b.body, end_same (names_after_all text b.body (bind text b.names [])) b.last.0) refl
+
+  -- and its faults
+  base_faults_same : (b : RawBase) → base_faults text ls b ≡ base_faults text ms b
+  base_faults_same (RReg r) = refl
+  base_faults_same (RNum z) = refl
+  base_faults_same (RLabel s) = ap (λ (o : Option TBase). only_if (is_none o) T05 s) (same (spelled text s))
+
+  value_faults_same : (a : List Name) (v : RawValue) → value_faults text ls a v ≡ value_faults text ms a v
+  value_faults_same a (RPlain b ts) = ap (λ (x : List (TCode × Span)). x ++ types_faults text a ts) (base_faults_same b)
+  value_faults_same a (RPack t v s) = ap (λ (x : List (TCode × Span)). type_faults text a t ++ (x ++ type_faults text a s)) (value_faults_same a v)
+
+  instr_faults_same : (a : List Name) (i : RawInstr) → instr_faults text ls a i ≡ instr_faults text ms a i
+  instr_faults_same a (RArith op rd rs v) = value_faults_same a v
+  instr_faults_same a (RBnz r v) = value_faults_same a v
+  instr_faults_same a (RLd rd rs i) = refl
+  instr_faults_same a (RMalloc rd ts) = refl
+  instr_faults_same a (RMov rd v) = value_faults_same a v
+  instr_faults_same a (RSt rd i rs) = refl
+  instr_faults_same a (RUnpack n rd v) = value_faults_same a v
+
+  body_faults_same : (a : List Name) (is : List (RawInstr × Span)) → body_faults text ls a is ≡ body_faults text ms a is
+  body_faults_same a [] = refl
+  body_faults_same a (i ∷ is) = ap₂ (λ (x y : List (TCode × Span)). x ++ y) (instr_faults_same a i.0) (body_faults_same (names_after text i.0 a) is)
+
+  end_faults_same : (a : List Name) (e : RawEnd) → end_faults text ls a e ≡ end_faults text ms a e
+  end_faults_same a (RJmp v) = value_faults_same a v
+  end_faults_same a RHalt = refl
+
+  block_faults_same : (b : RawBlock) → block_faults text ls b ≡ block_faults text ms b
+  block_faults_same b = rw (body_faults_same (bind text b.names []) b.body, end_faults_same (names_after_all text b.body (bind text b.names [])) b.last.0) refl
+
+  pub numbered_same : (k : ℕ) (b : RawBlock) → numbered_faults text ls k b ≡ numbered_faults text ms k b
+  numbered_same k b = rw (same (spelled text b.name), block_faults_same b) refl

@@ -1,13 +1,10 @@
 -- Runs of the typed machine and of the erased one, and how runs go on.
-use Rattle.std.proofs.Common.{◌≡◌, ◌≤◌, ◌+◌, ◌-◌, ◌<◌, ℕ, zero, suc, List, [], ◌∷◌, Option, Some, None, refl, sym, ap, ap₂, ◌∙◌, subst, arith, ◌⊎◌, inl, inr, ⊎_elim, slice_get, option_and_then}
+use Rattle.std.proofs.Common.{◌≡◌, ◌+◌, ◌-◌, ◌<◌, ℕ, zero, suc, List, [], ◌∷◌, Option, Some, None, refl, sym, ap, ap₂, ◌∙◌, subst, arith, ⊎_elim, option_and_then}
 use Rattle.std.specs.Prelude.{ℤ, option_map}
-use Rattle.t_terms.specs.Tree.{TBlock, TProg}
-use Rattle.t_terms.specs.Whole.{Whole}
-use Rattle.t_rules.specs.Rules.{Accepted}
-use Rattle.t_rules.specs.Machine.{State, Step, Place, Spot, moved, After, HaltedWith, HaltsWithin}
+use Rattle.t_rules.specs.Machine.{State, Step, Place, Spot, After, HaltedWith}
 use Rattle.t_rules.specs.Times.{entered_by, entries}
-use Rattle.t_rules.specs.Erase.{ESeq, EState, EGoes, erase, erase_block, erase_blocks, estep, EHaltedWith}
-use Rattle.t_rules.specs.ErasedRuns.{ERun, EOn, went, onward, erun, erun_first, begun, RunsErase, RunsComeOf, EHaltsWithin, HaltsErased, RunsJoin, StepsFirst, ErasedHaltingIsLast, RunsCountAlike}
+use Rattle.t_rules.specs.Erase.{ESeq, erase, erase_blocks}
+use Rattle.t_rules.specs.ErasedRuns.{ERun, EOn, went, onward, erun, erun_first, begun, RunsErase, RunsComeOf, HaltsErased, RunsJoin, StepsFirst, ErasedHaltingIsLast, RunsCountAlike}
 use Rattle.t_rules.proofs.OneStep.{step_one, after_one}
 use Rattle.t_rules.proofs.Lock.{lockstep, erased_starts, erased_halts_alike, halted_none, halted_erased}
 use Rattle.t_rules.proofs.Runs.{runs_on}
@@ -46,22 +43,23 @@ runs_come_of P whole acc b first m e p log run = ⊎_elim
     (λ (x : (k : ℕ) × (s : State) × (q : Place) × (i : ℤ) × (k < m) × After P k s q × HaltedWith s i).
     let le = x.4 in
     let stop : onward (erase_blocks P) (EOn (erase x.1) x.2 (entries P x.0 x.1 x.2 x.5)) ≡ None =
-        ap (option_map (went x.2 (entries P x.0 x.1 x.2 x.5))) (halted_none (erase_blocks P) (erase x.1) x.3 (halted_erased x.1 x.3 x.6)) in
+    ap (option_map (went x.2 (entries P x.0 x.1 x.2 x.5))) (halted_none (erase_blocks P) (erase x.1) x.3 (halted_erased x.1 x.3 x.6)) in
     let long : m ≡ suc (m - suc x.0) + x.0 = omega arith in
     let none : None ≡ Some (EOn e p log) =
-        sym (ended (erase_blocks P) x.0 (begun P b) _ (runs_erase P whole acc b first x.0 x.1 x.2 x.5) stop (m - suc x.0) m long) ∙ run in
+    sym (ended (erase_blocks P) x.0 (begun P b) _ (runs_erase P whole acc b first x.0 x.1 x.2 x.5) stop (m - suc x.0) m long) ∙ run in
     cc)
     (runs_on P whole acc m)
 
 pub halts_erased : HaltsErased
-halts_erased P whole acc b first n i =
-    ((λ h.
-    let k = h.2 in
-    (h.0, erase k.0, k.1, _, h.1, runs_erase P whole acc b first h.0 k.0 k.1 k.2, halted_erased k.0 i k.3)),
-    (λ h.
-    let r = runs_come_of P whole acc b first h.0 h.1 h.2 h.3 h.5 in
-    let back = (erased_halts_alike P whole acc h.0 (erase_blocks P) h.1 h.2 (refl, (r.0, r.1, r.2)) i).0 h.6 in
-    (h.0, h.4, back)))
+halts_erased P whole acc b first n i = (
+  (λ h.
+      let k = h.2 in
+      (h.0, erase k.0, k.1, _, h.1, runs_erase P whole acc b first h.0 k.0 k.1 k.2, halted_erased k.0 i k.3)),
+  (λ h.
+      let r = runs_come_of P whole acc b first h.0 h.1 h.2 h.3 h.5 in
+      let back = (erased_halts_alike P whole acc h.0 (erase_blocks P) h.1 h.2 (refl, (r.0, r.1, r.2)) i).0 h.6 in
+      (h.0, h.4, back)),
+)
 
 pub runs_join : RunsJoin
 runs_join blocks m zero x = let e : m + 0 ≡ m = omega arith in ap (λ k. erun blocks k x) e ∙ sym (nothing_more (erun blocks m x))

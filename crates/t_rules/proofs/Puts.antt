@@ -12,7 +12,7 @@ use Rattle.t_types.specs.Fits.{Fits, FitsFile, RegTypes, lookup}
 use Rattle.t_types.specs.FitsLaws.{fits_over, field_over, filled_over, empty_over}
 use Rattle.t_terms.specs.Tree.{TBase, Reg, Int, Label, Data, TValue, Plain, Pack, TInstr, Arith, Bnz, Ld, Malloc, Mov, St, Unpack, TEnd, Jmp, Halt, TSeq, Then, Ends, TBlock, TData, TProg, over_value, over_instr, over_end, over_seq, put_seq, names_after}
 use Rattle.t_rules.specs.Registers.{with_reg, raised, inst_file, inst_seq, inst_known}
-use Rattle.t_rules.specs.Rules.{label_type, data_fields, data_type, BaseHas, Has, Enters, Typed, EndTyped, SeqAccepted}
+use Rattle.t_rules.specs.Rules.{label_type, data_type, BaseHas, Has, Enters, Typed, EndTyped, SeqAccepted}
 
 pub over_length : (f : ℕ → ℕ → Ty) (d : ℕ) (ts : List Ty) → length (over_types f d ts) ≡ length ts
 over_length f d [] = refl

@@ -1,7 +1,7 @@
 -- What typing knows at a place of a program: how many type variables are in scope, and the types of the registers.
 use Rattle.std.specs.Prelude.{◌≡◌, ℕ, zero, suc, Option, Some, None, option_and_then, slice_get}
 use Rattle.t_types.specs.Fits.{RegTypes, lookup}
-use Rattle.t_terms.specs.Tree.{TInstr, TSeq, Then, Ends, TBlock, TProg, names_after}
+use Rattle.t_terms.specs.Tree.{TSeq, Then, Ends, TBlock, TProg, names_after}
 use Rattle.t_rules.specs.Rules.{Typed}
 
 -- The sequence begins under n type variables, where g is known of the registers; after its first k instructions there

@@ -22,6 +22,6 @@ pub use laws::{
     programs_are_never_stuck, puts_exchange,
 };
 pub use node::{FNode, FParts, FShape, FTerm};
-pub use table::typed_node;
+pub use table::{typed_node, types_aside};
 pub use text::type_text;
 pub use types::FType;

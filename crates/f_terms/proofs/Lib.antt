@@ -14,3 +14,4 @@ pub mod Parts
 pub mod Refusals
 pub mod Shapes
 pub mod Trees
+pub mod TypeOf

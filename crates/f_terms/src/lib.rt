@@ -1,6 +1,7 @@
 //! The source calculus: its types and terms, and the faults of a source text.
 #![tactic(auto)]
 
+pub mod copying;
 pub mod count;
 pub mod fault;
 pub mod laws;
@@ -14,6 +15,7 @@ mod tests;
 pub mod text;
 pub mod types;
 
+pub use copying::copy;
 pub use count::{depth, eq, size};
 pub use fault::{Code, FFault};
 pub use laws::{

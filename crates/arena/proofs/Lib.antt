@@ -1,3 +1,4 @@
 pub mod Nodes
 pub mod Roots
 pub mod Stacks
+pub mod Once

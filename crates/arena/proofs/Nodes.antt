@@ -6,10 +6,10 @@ use Rattle.std.proofs.lemmas.List.{get_or_append_left, length_push}
 use Rattle.std.proofs.Math.Seq.{get_or-append_seam}
 use Rattle.arena.specs.Arena.{with_one, grow, parts, InOrder}
 
-one_same : {T : Type 0} (f : ℕ → T) (i : ℕ) (t : T) (k : ℕ) → k ≡ i → with_one f i t k ≡ t
+pub one_same : {T : Type 0} (f : ℕ → T) (i : ℕ) (t : T) (k : ℕ) → k ≡ i → with_one f i t k ≡ t
 one_same f i t k e = grind (arith, nat_tests)
 
-one_other : {T : Type 0} (f : ℕ → T) (i : ℕ) (t : T) (k : ℕ) → k ≢ i → with_one f i t k ≡ f k
+pub one_other : {T : Type 0} (f : ℕ → T) (i : ℕ) (t : T) (k : ℕ) → k ≢ i → with_one f i t k ≡ f k
 one_other f i t k e = grind (arith, nat_tests)
 
 module _ {N T : Type 0} (kids : N → List ℕ) (build : (ℕ → T) → N → T)

@@ -5,10 +5,10 @@ use Rattle.std.proofs.lemmas.Bool.Decides.{nat_tests}
 use Rattle.std.proofs.lemmas.List.Elements.{All-nil, All-cons, All-head, All-tail, All-push}
 use Rattle.arena.specs.Roots.{Differ, Among, total, without, without_all, roots_from, roots}
 
-if_same : {A : Type 0} (j k : ℕ) (a b : A) → j ≡ k → (if j == k then a else b) ≡ a
+pub if_same : {A : Type 0} (j k : ℕ) (a b : A) → j ≡ k → (if j == k then a else b) ≡ a
 if_same j k a b e = grind (arith, nat_tests)
 
-if_other : {A : Type 0} (j k : ℕ) (a b : A) → j ≢ k → (if j == k then a else b) ≡ b
+pub if_other : {A : Type 0} (j k : ℕ) (a b : A) → j ≢ k → (if j == k then a else b) ≡ b
 if_other j k a b ne = grind (arith, nat_tests)
 
 -- a fact of the rest is one of the list without k, if it holds of the list

@@ -1,17 +1,19 @@
 mod Admitting
 mod Closing
 mod FaultRows
+mod Rows
+mod Sound
+mod TextRows
+mod Texts
+mod Turns
 pub mod Faulty
 pub mod Limited
 pub mod Making
 pub mod NotedNodes
+pub mod Occurs
 pub mod Parts
 pub mod Refusals
-mod Rows
 pub mod Shapes
-mod Sound
 pub mod Stacking
-mod TextRows
-mod Texts
 pub mod Trees
-mod Turns
+pub mod TypeOf

@@ -4,7 +4,7 @@ use Rattle.std.proofs.lemmas.List.Elements.{All-head, All-tail}
 use Rattle.arena.specs.Arena.{InOrder}
 use Rattle.arena.proofs.Nodes.{part_at}
 use Rattle.f_terms.specs.Ty.{Ty}
-use Rattle.f_terms.specs.Noted.{Noted, ENum, EFix, EApp, EGen, EInst, ETuple, EProj, EArith, EIf, noteds}
+use Rattle.f_terms.specs.Noted.{Noted, EVar, EFix, EApp, EGen, EInst, ETuple, EProj, EArith, EIf, noteds}
 use Rattle.f_terms.specs.Read.{tree}
 use Rattle.f_terms.specs.ReadTerm.{count}
 use Rattle.f_terms.specs.Shape.{children, kids}
@@ -21,7 +21,7 @@ same_all f g [] h = refl
 same_all f g (k ∷ ks) h =
     ap₂ (λ (t : Noted) (ts : List Noted). t ∷ ts) (All-head (λ k. f k ≡ g k) k ks h) (same_all f g ks (All-tail (λ k. f k ≡ g k) k ks h))
 
-shape_local : (f g : ℕ → Noted) (t : Ty) (n : FShape) → All (λ k. f k ≡ g k) (children n) → noted_shape f t n ≡ noted_shape g t n
+pub shape_local : (f g : ℕ → Noted) (t : Ty) (n : FShape) → All (λ k. f k ≡ g k) (children n) → noted_shape f t n ≡ noted_shape g t n
 shape_local f g t (Var i) h = refl
 shape_local f g t (Int n) h = refl
 shape_local f g t (Fix a r b) h = ap (EFix (tree a) (tree r)) (h 0 0 (omega arith))
@@ -67,5 +67,15 @@ beside_order ns ts h i d lt =
 pub noted_is : (f : FTerm) (ts : List FType) (i : ℕ) (n : FNode) (t : FType) → i < count f → i < length ts → n ≡ get_or f.nodes.items i n → t ≡ get_or ts i t →
     noted_at f ts i ≡ noted_node (noted_at f ts) (n, t)
 noted_is f ts i n t lt short en et =
-    part_at pair_kids noted_node noted_local (ENum (pos 0)) (beside f.nodes.items ts) i (n, t) (omega (arith, lt, beside_length f.nodes.items ts)) (beside_order f.nodes.items ts f.ordered)
+    part_at pair_kids noted_node noted_local (EVar 0) (beside f.nodes.items ts) i (n, t) (omega (arith, lt, beside_length f.nodes.items ts)) (beside_order f.nodes.items ts f.ordered)
     ∙ ap (noted_node (noted_at f ts)) (beside_is f.nodes.items ts i n t lt short ∙ ap₂ (λ (m : FNode) (u : FType). (m, u)) (sym en) (sym et))
+
+-- the same, whatever the table has
+pub noted_any : (f : FTerm) (ts : List FType) (i : ℕ) (n : FNode) → i < count f → n ≡ get_or f.nodes.items i n →
+    (u : Ty) × (noted_at f ts i ≡ noted_shape (noted_at f ts) u n.shape)
+noted_any f ts i n lt en =
+    let x : FNode × FType = get_or (beside f.nodes.items ts) i (n, T.Int) in (
+      tree x.1,
+      part_at pair_kids noted_node noted_local (EVar 0) (beside f.nodes.items ts) i (n, T.Int) (omega (arith, lt, beside_length f.nodes.items ts)) (beside_order f.nodes.items ts f.ordered)
+      ∙ ap (λ (m : FNode). noted_shape (noted_at f ts) (tree x.1) m.shape) (beside_node f.nodes.items ts i (n, T.Int) lt ∙ sym en),
+    )

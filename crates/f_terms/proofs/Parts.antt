@@ -26,7 +26,7 @@ nodes_all_of : (f : ℕ → Tm) (ks : List ℕ) → nodes_all (plain_all (tms (m
 nodes_all_of f [] = refl
 nodes_all_of f (k ∷ ks) = ap (λ n. nodes (plain (f k)) + n) (nodes_all_of f ks)
 
-nodes_of : (f : ℕ → Tm) (s : Spn) (shape : FShape) → nodes (plain (shape_tree f s shape)) ≡ 1 + total (λ k. nodes (plain (f k))) (children shape)
+pub nodes_of : (f : ℕ → Tm) (s : Spn) (shape : FShape) → nodes (plain (shape_tree f s shape)) ≡ 1 + total (λ k. nodes (plain (f k))) (children shape)
 nodes_of f s (Var i) = refl
 nodes_of f s (Int n) = refl
 nodes_of f s (Fix a r b) = omega arith

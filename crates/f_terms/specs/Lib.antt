@@ -5,6 +5,7 @@ pub mod Laws
 pub mod Limits
 pub mod Made
 pub mod Noted
+pub mod NotedProps
 pub mod NotedTerm
 pub mod OneType
 pub mod Props

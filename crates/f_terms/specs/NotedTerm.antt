@@ -1,10 +1,10 @@
 -- The tree of a term with a table of types beside it, by the numbers of its nodes: each is the type of its node.
-use Rattle.std.specs.Prelude.{ℕ, pos, ◌-◌, List, [], ◌∷◌, map}
+use Rattle.std.specs.Prelude.{◌≡◌, ℕ, ◌-◌, List, [], ◌∷◌, map}
 use Rattle.arena.specs.Arena.{parts}
 use Rattle.f_terms.specs.Ty.{Ty, TAll}
-use Rattle.f_terms.specs.Noted.{Noted, EVar, ENum, EFix, EApp, EGen, EInst, ETuple, EProj, EArith, EIf, noteds}
+use Rattle.f_terms.specs.Noted.{Noted, EVar, ENum, EFix, EApp, EGen, EInst, ETuple, EProj, EArith, EIf, noteds, bare}
 use Rattle.f_terms.specs.Read.{tree}
-use Rattle.f_terms.specs.ReadTerm.{count}
+use Rattle.f_terms.specs.ReadTerm.{count, term_of}
 use Rattle.f_terms.specs.declared.types.FType.{FType}
 use Rattle.f_terms.specs.declared.types.FType.TheVariants as T
 use Rattle.f_terms.specs.declared.node.FShape.{FShape}
@@ -41,7 +41,11 @@ beside (n ∷ ns) (t ∷ ts) = (n, t) ∷ beside ns ts
 
 -- the tree of each node, and of the whole
 abbrev pub noted_at : FTerm → List FType → ℕ → Noted
-noted_at f ts = parts (ENum (pos 0)) noted_node (beside f.nodes.items ts)
+noted_at f ts = parts (EVar 0) noted_node (beside f.nodes.items ts)
 
 abbrev pub noted_of : FTerm → List FType → Noted
 noted_of f ts = noted_at f ts (count f - 1)
+
+-- with the types left aside it is the term
+abbrev pub TypesAside : Type 0
+TypesAside = (f : FTerm) (ts : List FType) → bare (noted_of f ts) ≡ term_of f

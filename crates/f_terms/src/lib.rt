@@ -2,6 +2,7 @@
 #![tactic(auto)]
 
 pub mod admission;
+pub mod copying;
 pub mod count;
 pub mod fault;
 pub mod laws;
@@ -18,6 +19,7 @@ pub mod text;
 pub mod types;
 
 pub use admission::admit;
+pub use copying::copy;
 pub use count::{depth, eq, size};
 pub use fault::{Code, FFault};
 pub use laws::{
@@ -27,6 +29,6 @@ pub use laws::{
 };
 pub use node::{FNode, FParts, FShape, FTerm};
 pub use stack::{FStack, FStep};
-pub use table::typed_node;
+pub use table::{typed_node, types_aside};
 pub use text::type_text;
 pub use types::FType;

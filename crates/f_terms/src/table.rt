@@ -5,6 +5,8 @@ ghost use Rattle.f_terms.specs.NotedTerm.{noted_at, noted_node};
 ghost use Rattle.f_terms.specs.ReadTerm.{count};
 ghost use Rattle.f_terms.specs.Shape.{kids};
 
+ghost use Rattle.f_terms.specs.NotedTerm.{TypesAside};
+
 use crate::node::{FNode, FTerm};
 use crate::types::FType;
 
@@ -17,3 +19,8 @@ pub fn typed_node<'a>(term: &'a FTerm, types: &'a [FType], i: u64) -> (&'a FNode
 {
     (&term.nodes[i as usize], &types[i as usize])
 }
+
+/// A term with types beside it is the term, types aside.
+pub fn types_aside()
+    ensures { TypesAside }
+{}

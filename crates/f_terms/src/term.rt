@@ -2,7 +2,7 @@
 ghost use Rattle.std.specs.Prelude.{◌≡◌, ◌<◌};
 ghost use Rattle.std.specs.List.{All};
 ghost use Rattle.f_terms.specs.Shape.{kids, node_tree};
-ghost use Rattle.f_terms.specs.ReadTerm.{count, node_at, term_of};
+ghost use Rattle.f_terms.specs.ReadTerm.{count, node_at, shape_at, term_of};
 ghost use Rattle.f_terms.specs.Limits.{nodes};
 
 use crate::node::{FNode, FTerm};
@@ -24,6 +24,7 @@ impl FTerm {
         requires { i < count self.now }
         ensures tree { node_at self.now i ≡ node_tree (node_at self.now) result.now }
         ensures before { All (λ k. k < i) (kids result.now) }
+        ensures form { result.now.shape ≡ shape_at self.now i }
     {
         &self.nodes[i as usize]
     }

@@ -1,0 +1,12 @@
+//! Closure conversion of programs.
+#![tactic(auto)]
+
+pub mod bounds;
+pub mod clues;
+pub mod info;
+pub mod know;
+pub mod program;
+pub mod state;
+pub mod translate;
+
+pub use program::close;

@@ -3,4 +3,3 @@ mod Fields
 mod Each
 mod Rows
 mod Sound
-mod Trees

@@ -6,6 +6,7 @@ pub mod Meaning
 pub mod NodeTrees
 pub mod Program
 pub mod Read
+pub mod ReadLaws
 pub mod Row
 pub mod SizeLaws
 pub mod Sizes

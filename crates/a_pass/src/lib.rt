@@ -1,0 +1,4 @@
+//! Allocation.
+#![tactic(auto)]
+
+pub mod state;

@@ -1,7 +1,7 @@
 use Rattle.std.proofs.Common.{◌≡◌, ◌++◌, map}
 use Rattle.t_types.specs.Read.{tree}
 use Rattle.gen_law.specs.Gen.{tvars}
-use Rattle.t_emit.proofs.place.names_in_scope.Given as goal
+use Rattle.t_emit.proofs.headers.names_in_scope.Given as goal
 
 abbrev pub invariant-loop-left : goal.invariant-loop-left
 invariant-loop-left l = record {

@@ -2,7 +2,7 @@ use Rattle.std.proofs.Common.{◌-◌, ◌++◌, map, ap, ◌∙◌, arith}
 use Rattle.t_types.specs.Read.{tree}
 use Rattle.gen_law.specs.Gen.{tvars}
 use Rattle.t_emit.proofs.Names.{names_step}
-use Rattle.t_emit.proofs.place.names_in_scope.Goals as goal
+use Rattle.t_emit.proofs.headers.names_in_scope.Goals as goal
 
 pub loop-left-preserved : goal.loop-left-preserved
 loop-left-preserved c = record {

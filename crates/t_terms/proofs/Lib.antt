@@ -1,3 +1,4 @@
+mod ProgramRows
 mod TextRows
 pub mod Blocks
 pub mod BodyWalks

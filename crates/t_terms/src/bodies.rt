@@ -23,8 +23,8 @@ struct Walked {
 }
 
 fn shift_body(
-    entries: &[(Instr, Span)],
     alloc: Global,
+    entries: &[(Instr, Span)],
     by: u64,
     cut: u64,
 ) -> Result<Walked, OutOfMemory>
@@ -36,7 +36,7 @@ fn shift_body(
     let mut made = Vec::new(alloc);
     let mut depth = cut;
     for entry in entries {
-        let i = shift_instr(&entry.0, alloc, by, depth)?;
+        let i = shift_instr(alloc, &entry.0, by, depth)?;
         made.push((i, entry.1))?;
         depth = names_after(&entry.0, depth);
     }
@@ -44,8 +44,8 @@ fn shift_body(
 }
 
 fn put_body(
-    entries: &[(Instr, Span)],
     alloc: Global,
+    entries: &[(Instr, Span)],
     at: u64,
     start: u64,
     what: &TType,
@@ -60,7 +60,7 @@ fn put_body(
     let mut made = Vec::new(alloc);
     let mut depth = start;
     for entry in entries {
-        let i = put_instr(&entry.0, alloc, at, depth, what)?;
+        let i = put_instr(alloc, &entry.0, at, depth, what)?;
         made.push((i, entry.1))?;
         depth = names_after(&entry.0, depth);
     }
@@ -82,13 +82,13 @@ fn body_below(entries: &[(Instr, Span)], last: &End, n: u128) -> bool
     end_below(last, depth)
 }
 
-pub(crate) fn shift_block(b: &Block, alloc: Global, by: u64, cut: u64) -> Result<Block, OutOfMemory>
+pub(crate) fn shift_block(alloc: Global, b: &Block, by: u64, cut: u64) -> Result<Block, OutOfMemory>
     requires { each_spanned (ShiftFitsAt by) IsWord cut (spanned b.now) }
     ensures { IfOk result (λ r. spanned r ≡ over_spanned (shifted VarTy by) cut (spanned b.now)) }
 {
     let regs = b.regs.shift(alloc, by, cut + b.owes)?;
-    let walked = shift_body(&b.body, alloc, by, cut + b.owes)?;
-    let end = shift_end(&b.end, alloc, by, walked.depth)?;
+    let walked = shift_body(alloc, &b.body, by, cut + b.owes)?;
+    let end = shift_end(alloc, &b.end, by, walked.depth)?;
     Ok(Block {
         name: b.name,
         owes: b.owes,
@@ -100,17 +100,17 @@ pub(crate) fn shift_block(b: &Block, alloc: Global, by: u64, cut: u64) -> Result
 }
 
 pub(crate) fn put_block(
-    b: &Block,
     alloc: Global,
+    b: &Block,
     at: u64,
     what: &TType,
 ) -> Result<Block, OutOfMemory>
     requires { each_spanned (PutFitsAt each at (tree what.now)) IsWord at (spanned b.now) }
     ensures { IfOk result (λ r. spanned r ≡ over_spanned (putted VarTy over at (tree what.now)) at (spanned b.now)) }
 {
-    let regs = put_regs(&b.regs.regs, alloc, at, at + b.owes, what)?;
-    let walked = put_body(&b.body, alloc, at, at + b.owes, what)?;
-    let end = put_end(&b.end, alloc, at, walked.depth, what)?;
+    let regs = put_regs(alloc, &b.regs.regs, at, at + b.owes, what)?;
+    let walked = put_body(alloc, &b.body, at, at + b.owes, what)?;
+    let end = put_end(alloc, &b.end, at, walked.depth, what)?;
     Ok(Block {
         name: b.name,
         owes: b.owes,

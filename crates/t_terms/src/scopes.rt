@@ -42,11 +42,11 @@ impl Scoped for Value {
     ghost each = { each_value };
 
     fn shift(&self, alloc: Global, by: u64, cut: u64) -> Result<Value, OutOfMemory> {
-        shift_value(self, alloc, by, cut)
+        shift_value(alloc, self, by, cut)
     }
 
     fn put(&self, alloc: Global, at: u64, what: &TType) -> Result<Value, OutOfMemory> {
-        put_value(self, alloc, at, at, what)
+        put_value(alloc, self, at, at, what)
     }
 
     fn below(&self, n: u64) -> bool {
@@ -80,11 +80,11 @@ impl Scoped for Instr {
     ghost each = { each_instr };
 
     fn shift(&self, alloc: Global, by: u64, cut: u64) -> Result<Instr, OutOfMemory> {
-        shift_instr(self, alloc, by, cut)
+        shift_instr(alloc, self, by, cut)
     }
 
     fn put(&self, alloc: Global, at: u64, what: &TType) -> Result<Instr, OutOfMemory> {
-        put_instr(self, alloc, at, at, what)
+        put_instr(alloc, self, at, at, what)
     }
 
     fn below(&self, n: u64) -> bool {
@@ -118,11 +118,11 @@ impl Scoped for End {
     ghost each = { each_end };
 
     fn shift(&self, alloc: Global, by: u64, cut: u64) -> Result<End, OutOfMemory> {
-        shift_end(self, alloc, by, cut)
+        shift_end(alloc, self, by, cut)
     }
 
     fn put(&self, alloc: Global, at: u64, what: &TType) -> Result<End, OutOfMemory> {
-        put_end(self, alloc, at, at, what)
+        put_end(alloc, self, at, at, what)
     }
 
     fn below(&self, n: u64) -> bool {
@@ -156,11 +156,11 @@ impl Scoped for Block {
     ghost each = { each_spanned };
 
     fn shift(&self, alloc: Global, by: u64, cut: u64) -> Result<Block, OutOfMemory> {
-        shift_block(self, alloc, by, cut)
+        shift_block(alloc, self, by, cut)
     }
 
     fn put(&self, alloc: Global, at: u64, what: &TType) -> Result<Block, OutOfMemory> {
-        put_block(self, alloc, at, what)
+        put_block(alloc, self, at, what)
     }
 
     fn below(&self, n: u64) -> bool {

@@ -12,13 +12,13 @@ use idx_core::{OutOfMemory, Scoped};
 use std::alloc::Global;
 use t_types::{TType, is_below, put_type, put_types, shift_types, types_below};
 
-pub(crate) fn shift_value(v: &Value, alloc: Global, by: u64, cut: u64) -> Result<Value, OutOfMemory>
+pub(crate) fn shift_value(alloc: Global, v: &Value, by: u64, cut: u64) -> Result<Value, OutOfMemory>
     requires { each_value (ShiftFitsAt by) IsWord cut (value v.now) }
     ensures { IfOk result (λ r. value r ≡ over_value (shifted VarTy by) cut (value v.now)) }
 {
     match v {
         Value::Plain { base, types } => {
-            let types = shift_types(types, alloc, by, cut)?;
+            let types = shift_types(alloc, types, by, cut)?;
             Ok(Value::Plain { base: *base, types })
         }
         Value::Pack {
@@ -27,7 +27,7 @@ pub(crate) fn shift_value(v: &Value, alloc: Global, by: u64, cut: u64) -> Result
             shape,
         } => {
             let hidden = hidden.shift(alloc, by, cut)?;
-            let inner = shift_value(inner, alloc, by, cut)?;
+            let inner = shift_value(alloc, inner, by, cut)?;
             let shape = shape.shift(alloc, by, cut)?;
             Ok(Value::Pack {
                 hidden,
@@ -38,13 +38,13 @@ pub(crate) fn shift_value(v: &Value, alloc: Global, by: u64, cut: u64) -> Result
     }
 }
 
-pub(crate) fn shift_instr(i: &Instr, alloc: Global, by: u64, cut: u64) -> Result<Instr, OutOfMemory>
+pub(crate) fn shift_instr(alloc: Global, i: &Instr, by: u64, cut: u64) -> Result<Instr, OutOfMemory>
     requires { each_instr (ShiftFitsAt by) IsWord cut (instr i.now) }
     ensures { IfOk result (λ r. instr r ≡ over_instr (shifted VarTy by) cut (instr i.now)) }
 {
     match i {
         Instr::Arith { op, rd, rs, v } => {
-            let v = shift_value(v, alloc, by, cut)?;
+            let v = shift_value(alloc, v, by, cut)?;
             Ok(Instr::Arith {
                 op: *op,
                 rd: *rd,
@@ -53,7 +53,7 @@ pub(crate) fn shift_instr(i: &Instr, alloc: Global, by: u64, cut: u64) -> Result
             })
         }
         Instr::Bnz { r, v } => {
-            let v = shift_value(v, alloc, by, cut)?;
+            let v = shift_value(alloc, v, by, cut)?;
             Ok(Instr::Bnz { r: *r, v })
         }
         Instr::Ld { rd, rs, field } => Ok(Instr::Ld {
@@ -62,11 +62,11 @@ pub(crate) fn shift_instr(i: &Instr, alloc: Global, by: u64, cut: u64) -> Result
             field: *field,
         }),
         Instr::Malloc { rd, types } => {
-            let types = shift_types(types, alloc, by, cut)?;
+            let types = shift_types(alloc, types, by, cut)?;
             Ok(Instr::Malloc { rd: *rd, types })
         }
         Instr::Mov { rd, v } => {
-            let v = shift_value(v, alloc, by, cut)?;
+            let v = shift_value(alloc, v, by, cut)?;
             Ok(Instr::Mov { rd: *rd, v })
         }
         Instr::St { rd, field, rs } => Ok(Instr::St {
@@ -75,19 +75,19 @@ pub(crate) fn shift_instr(i: &Instr, alloc: Global, by: u64, cut: u64) -> Result
             rs: *rs,
         }),
         Instr::Unpack { rd, v } => {
-            let v = shift_value(v, alloc, by, cut)?;
+            let v = shift_value(alloc, v, by, cut)?;
             Ok(Instr::Unpack { rd: *rd, v })
         }
     }
 }
 
-pub(crate) fn shift_end(e: &End, alloc: Global, by: u64, cut: u64) -> Result<End, OutOfMemory>
+pub(crate) fn shift_end(alloc: Global, e: &End, by: u64, cut: u64) -> Result<End, OutOfMemory>
     requires { each_end (ShiftFitsAt by) IsWord cut (end_of e.now) }
     ensures { IfOk result (λ r. end_of r ≡ over_end (shifted VarTy by) cut (end_of e.now)) }
 {
     match e {
         End::Jmp(v) => {
-            let v = shift_value(v, alloc, by, cut)?;
+            let v = shift_value(alloc, v, by, cut)?;
             Ok(End::Jmp(v))
         }
         End::Halt => Ok(End::Halt),
@@ -96,8 +96,8 @@ pub(crate) fn shift_end(e: &End, alloc: Global, by: u64, cut: u64) -> Result<End
 
 // Puts `what` for the variable that was `at` at the root, where the walk stands at `depth`.
 pub(crate) fn put_value(
-    v: &Value,
     alloc: Global,
+    v: &Value,
     at: u64,
     depth: u64,
     what: &TType,
@@ -108,7 +108,7 @@ pub(crate) fn put_value(
 {
     match v {
         Value::Plain { base, types } => {
-            let types = put_types(types, alloc, at, depth, what)?;
+            let types = put_types(alloc, types, at, depth, what)?;
             Ok(Value::Plain { base: *base, types })
         }
         Value::Pack {
@@ -116,9 +116,9 @@ pub(crate) fn put_value(
             inner,
             shape,
         } => {
-            let hidden = put_type(hidden, alloc, at, depth, what)?;
-            let inner = put_value(inner, alloc, at, depth, what)?;
-            let shape = put_type(shape, alloc, at, depth, what)?;
+            let hidden = put_type(alloc, hidden, at, depth, what)?;
+            let inner = put_value(alloc, inner, at, depth, what)?;
+            let shape = put_type(alloc, shape, at, depth, what)?;
             Ok(Value::Pack {
                 hidden,
                 inner: Box::new(alloc, inner)?,
@@ -129,8 +129,8 @@ pub(crate) fn put_value(
 }
 
 pub(crate) fn put_instr(
-    i: &Instr,
     alloc: Global,
+    i: &Instr,
     at: u64,
     depth: u64,
     what: &TType,
@@ -141,7 +141,7 @@ pub(crate) fn put_instr(
 {
     match i {
         Instr::Arith { op, rd, rs, v } => {
-            let v = put_value(v, alloc, at, depth, what)?;
+            let v = put_value(alloc, v, at, depth, what)?;
             Ok(Instr::Arith {
                 op: *op,
                 rd: *rd,
@@ -150,7 +150,7 @@ pub(crate) fn put_instr(
             })
         }
         Instr::Bnz { r, v } => {
-            let v = put_value(v, alloc, at, depth, what)?;
+            let v = put_value(alloc, v, at, depth, what)?;
             Ok(Instr::Bnz { r: *r, v })
         }
         Instr::Ld { rd, rs, field } => Ok(Instr::Ld {
@@ -159,11 +159,11 @@ pub(crate) fn put_instr(
             field: *field,
         }),
         Instr::Malloc { rd, types } => {
-            let types = put_types(types, alloc, at, depth, what)?;
+            let types = put_types(alloc, types, at, depth, what)?;
             Ok(Instr::Malloc { rd: *rd, types })
         }
         Instr::Mov { rd, v } => {
-            let v = put_value(v, alloc, at, depth, what)?;
+            let v = put_value(alloc, v, at, depth, what)?;
             Ok(Instr::Mov { rd: *rd, v })
         }
         Instr::St { rd, field, rs } => Ok(Instr::St {
@@ -172,15 +172,15 @@ pub(crate) fn put_instr(
             rs: *rs,
         }),
         Instr::Unpack { rd, v } => {
-            let v = put_value(v, alloc, at, depth, what)?;
+            let v = put_value(alloc, v, at, depth, what)?;
             Ok(Instr::Unpack { rd: *rd, v })
         }
     }
 }
 
 pub(crate) fn put_end(
-    e: &End,
     alloc: Global,
+    e: &End,
     at: u64,
     depth: u64,
     what: &TType,
@@ -191,7 +191,7 @@ pub(crate) fn put_end(
 {
     match e {
         End::Jmp(v) => {
-            let v = put_value(v, alloc, at, depth, what)?;
+            let v = put_value(alloc, v, at, depth, what)?;
             Ok(End::Jmp(v))
         }
         End::Halt => Ok(End::Halt),

@@ -1,7 +1,7 @@
 -- Fields fit exactly where they fit place by place.
 use Rattle.std.proofs.Common.{◌≡◌, ℕ, zero, suc, ◌<◌, List, [], ◌∷◌, length, Bool, IsTrue, refl, ap, get_or, arith, inl, inr, subst, sym}
 use Rattle.t_types.specs.declared.types.TType.{TType}
-use Rattle.t_types.specs.Tree.{Ty, TupleTy, TFields, NoFields, MoreFields}
+use Rattle.t_types.specs.Tree.{Ty, TupleTy, TFields}
 use Rattle.t_types.specs.Fits.{Fits, FieldsFit}
 use Rattle.t_types.specs.Read.{tree, fields}
 use Rattle.t_types.specs.FitsLaws.{fields_fit_same}

@@ -4,7 +4,6 @@ pub mod FitsLaws
 pub mod Laws
 pub mod PutLaws
 pub mod Read
-pub mod Rising
 pub mod Scope
 pub mod Tree
 pub mod TreeLaws

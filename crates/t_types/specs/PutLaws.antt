@@ -1,7 +1,7 @@
 -- Laws of a put whose walk stands below more binders than it began with, beside the general laws of shift and put.
-use Rattle.std.proofs.Common.{◌≡◌, ℕ, ◌+◌, ◌-◌, ◌<◌, ◌≤◌, ◌⊎◌, inl, inr, refl, sym, ap, ap₂, ◌∙◌, arith}
+use Rattle.std.proofs.Common.{◌≡◌, ℕ, ◌+◌, ◌-◌, ◌<◌, ◌≤◌, ◌⊎◌, inl, inr, sym, ap, ap₂, ◌∙◌, arith}
 use Rattle.std.proofs.lemmas.Bool.{cases_lt, cases_order}
-use Rattle.idx_core.specs.Over.{At, Over, deep, shifted, putted, IsOver}
+use Rattle.idx_core.specs.Over.{At, Over, shifted, putted, IsOver}
 use Rattle.idx_core.specs.Laws.{deep_is, shifted_lt, shifted_ge, putted_lt, putted_eq, putted_gt, shift_past, put_put, shift_zero_law}
 use Rattle.idx_core.specs.Steps.{put_step}
 use Rattle.t_types.specs.Tree.{Ty, VarTy, over, shift, put, put_from}

@@ -110,6 +110,9 @@ abbrev pub each_types : Each (List Ty)
 each_types V B d [] = Unit {0}
 each_types V B d (t ∷ ts) = each V B d t × each_types V B d ts
 
+abbrev pub BelowTypes : ℕ → List Ty → Type 0
+BelowTypes n = each_types BelowAt AnyDepth n
+
 -- a file and fields of a list
 abbrev pub regs : List (ℕ × Ty) → TFile
 regs [] = NoRegs

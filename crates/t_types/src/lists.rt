@@ -34,12 +34,12 @@ impl Scoped for RegFile {
     ghost each = { each_file };
 
     fn shift(&self, alloc: Global, by: u64, cut: u64) -> Result<RegFile, OutOfMemory> {
-        let regs = shift_regs(&self.regs, alloc, by, cut)?;
+        let regs = shift_regs(alloc, &self.regs, by, cut)?;
         Ok(RegFile { regs })
     }
 
     fn put(&self, alloc: Global, at: u64, what: &TType) -> Result<RegFile, OutOfMemory> {
-        let regs = put_regs(&self.regs, alloc, at, at, what)?;
+        let regs = put_regs(alloc, &self.regs, at, at, what)?;
         Ok(RegFile { regs })
     }
 
@@ -54,8 +54,8 @@ impl Scoped for RegFile {
 
 /// Each type of a list shifted.
 pub fn shift_types(
-    ts: &[TType],
     alloc: Global,
+    ts: &[TType],
     by: u64,
     cut: u64,
 ) -> Result<Vec<TType>, OutOfMemory>
@@ -72,8 +72,8 @@ pub fn shift_types(
 
 /// `what` put into each type of a list for the variable that was `at` at the root, where the walk stands at `depth`.
 pub fn put_types(
-    ts: &[TType],
     alloc: Global,
+    ts: &[TType],
     at: u64,
     depth: u64,
     what: &TType,
@@ -84,7 +84,7 @@ pub fn put_types(
 {
     let mut made = Vec::new(alloc);
     for t in ts {
-        let t = put_type(t, alloc, at, depth, what)?;
+        let t = put_type(alloc, t, at, depth, what)?;
         made.push(t)?;
     }
     Ok(made)

@@ -10,7 +10,7 @@ use idx_core::{OutOfMemory, Scoped};
 use std::alloc::Global;
 
 #[cycle(shift)]
-fn shift_type(t: &TType, alloc: Global, by: u64, cut: u64) -> Result<TType, OutOfMemory>
+fn shift_type(alloc: Global, t: &TType, by: u64, cut: u64) -> Result<TType, OutOfMemory>
     requires fits { ShiftFits by cut (tree t.now) }
     ensures { IfOk result (λ r. tree r ≡ shift by cut (tree t.now)) }
 {
@@ -24,18 +24,18 @@ fn shift_type(t: &TType, alloc: Global, by: u64, cut: u64) -> Result<TType, OutO
             }
         }
         TType::Code { owes, regs } => {
-            let regs = shift_regs(&regs.regs, alloc, by, cut + *owes)?;
+            let regs = shift_regs(alloc, &regs.regs, by, cut + *owes)?;
             Ok(TType::Code {
                 owes: *owes,
                 regs: RegFile { regs },
             })
         }
         TType::Exists(t) => {
-            let t = shift_type(t, alloc, by, cut + 1)?;
+            let t = shift_type(alloc, t, by, cut + 1)?;
             Ok(TType::Exists(Box::new(alloc, t)?))
         }
         TType::Tuple(fs) => {
-            let fs = shift_flagged(fs, alloc, by, cut)?;
+            let fs = shift_flagged(alloc, fs, by, cut)?;
             Ok(TType::Tuple(fs))
         }
     }
@@ -43,8 +43,8 @@ fn shift_type(t: &TType, alloc: Global, by: u64, cut: u64) -> Result<TType, OutO
 
 #[cycle(shift)]
 pub(crate) fn shift_regs(
-    regs: &[(u64, TType)],
     alloc: Global,
+    regs: &[(u64, TType)],
     by: u64,
     cut: u64,
 ) -> Result<Vec<(u64, TType)>, OutOfMemory>
@@ -53,7 +53,7 @@ pub(crate) fn shift_regs(
 {
     let mut made = Vec::new(alloc);
     for reg in regs {
-        let t = shift_type(&reg.1, alloc, by, cut)?;
+        let t = shift_type(alloc, &reg.1, by, cut)?;
         made.push((reg.0, t))?;
     }
     Ok(made)
@@ -61,8 +61,8 @@ pub(crate) fn shift_regs(
 
 #[cycle(shift)]
 fn shift_flagged(
-    fs: &[(TType, bool)],
     alloc: Global,
+    fs: &[(TType, bool)],
     by: u64,
     cut: u64,
 ) -> Result<Vec<(TType, bool)>, OutOfMemory>
@@ -71,7 +71,7 @@ fn shift_flagged(
 {
     let mut made = Vec::new(alloc);
     for field in fs {
-        let t = shift_type(&field.0, alloc, by, cut)?;
+        let t = shift_type(alloc, &field.0, by, cut)?;
         made.push((t, field.1))?;
     }
     Ok(made)
@@ -80,8 +80,8 @@ fn shift_flagged(
 /// Puts `what` for the variable that was `at` at the root, where the walk stands at `depth`.
 #[cycle(put)]
 pub fn put_type(
-    t: &TType,
     alloc: Global,
+    t: &TType,
     at: u64,
     depth: u64,
     what: &TType,
@@ -96,24 +96,24 @@ pub fn put_type(
             if *i < depth {
                 Ok(TType::Var(*i))
             } else if *i == depth {
-                shift_type(what, alloc, depth - at, 0)
+                shift_type(alloc, what, depth - at, 0)
             } else {
                 Ok(TType::Var(*i - 1))
             }
         }
         TType::Code { owes, regs } => {
-            let regs = put_regs(&regs.regs, alloc, at, depth + *owes, what)?;
+            let regs = put_regs(alloc, &regs.regs, at, depth + *owes, what)?;
             Ok(TType::Code {
                 owes: *owes,
                 regs: RegFile { regs },
             })
         }
         TType::Exists(t) => {
-            let t = put_type(t, alloc, at, depth + 1, what)?;
+            let t = put_type(alloc, t, at, depth + 1, what)?;
             Ok(TType::Exists(Box::new(alloc, t)?))
         }
         TType::Tuple(fs) => {
-            let fs = put_flagged(fs, alloc, at, depth, what)?;
+            let fs = put_flagged(alloc, fs, at, depth, what)?;
             Ok(TType::Tuple(fs))
         }
     }
@@ -123,8 +123,8 @@ pub fn put_type(
 /// stands at `depth`.
 #[cycle(put)]
 pub fn put_regs(
-    regs: &[(u64, TType)],
     alloc: Global,
+    regs: &[(u64, TType)],
     at: u64,
     depth: u64,
     what: &TType,
@@ -135,7 +135,7 @@ pub fn put_regs(
 {
     let mut made = Vec::new(alloc);
     for reg in regs {
-        let t = put_type(&reg.1, alloc, at, depth, what)?;
+        let t = put_type(alloc, &reg.1, at, depth, what)?;
         made.push((reg.0, t))?;
     }
     Ok(made)
@@ -143,8 +143,8 @@ pub fn put_regs(
 
 #[cycle(put)]
 fn put_flagged(
-    fs: &[(TType, bool)],
     alloc: Global,
+    fs: &[(TType, bool)],
     at: u64,
     depth: u64,
     what: &TType,
@@ -155,7 +155,7 @@ fn put_flagged(
 {
     let mut made = Vec::new(alloc);
     for field in fs {
-        let t = put_type(&field.0, alloc, at, depth, what)?;
+        let t = put_type(alloc, &field.0, at, depth, what)?;
         made.push((t, field.1))?;
     }
     Ok(made)
@@ -263,11 +263,11 @@ impl Scoped for TType {
     ghost each = { each };
 
     fn shift(&self, alloc: Global, by: u64, cut: u64) -> Result<TType, OutOfMemory> {
-        shift_type(self, alloc, by, cut)
+        shift_type(alloc, self, by, cut)
     }
 
     fn put(&self, alloc: Global, at: u64, what: &TType) -> Result<TType, OutOfMemory> {
-        put_type(self, alloc, at, at, what)
+        put_type(alloc, self, at, at, what)
     }
 
     fn below(&self, n: u64) -> bool {

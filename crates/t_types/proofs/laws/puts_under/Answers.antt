@@ -1,4 +1,4 @@
-use Rattle.std.proofs.Common.{ap, ap₂, ◌≡◌, ◌+◌, ◌-◌, ◌≤◌, arith, ◌∙◌}
+use Rattle.std.proofs.Common.{ap, ◌≡◌, ◌+◌, ◌-◌, ◌≤◌, arith, ◌∙◌}
 use Rattle.idx_core.specs.Steps.{put_step}
 use Rattle.t_types.specs.Tree.{CodeTy, ExistsTy, shift, put, put_file}
 use Rattle.t_types.specs.TreeLaws.{types_part, types_over, file_over}

@@ -1,5 +1,5 @@
 -- Stores and heaps: a new cell, and an assignment.
-use Rattle.std.proofs.Common.{◌≡◌, ◌<◌, ◌⊎◌, inl, inr, ⊎_elim, ℕ, zero, suc, ◌+◌, List, [], ◌∷◌, ◌++◌, length, Option, Some, None, refl, sym, ap, ◌∙◌, subst, arith, length-append}
+use Rattle.std.proofs.Common.{◌≡◌, ◌<◌, ◌⊎◌, inl, inr, ⊎_elim, ℕ, zero, suc, List, [], ◌∷◌, ◌++◌, length, Option, Some, None, refl, sym, ap, ◌∙◌, subst, arith, length-append}
 use Rattle.std.specs.Prelude.{slice_get, slice_set}
 use Rattle.a_law.proofs.Rel.{Grows, Moves, Rel, Stores, Valid, fresh, nth_end, nth_more, nth_seam, rel_grows, rel_moves}
 use Rattle.a_terms.specs.Meaning.{AHeap, AWord}

@@ -1,18 +1,17 @@
 -- Allocation adds nothing to the reach of types, nor names to them, and keeps within three times the bounds of the hoisted program.
-use Rattle.std.proofs.Common.{◌≡◌, ◌≤◌, ℕ, suc, ◌+◌, ◌*◌, List, [], ◌∷◌, length, refl, ap, ap₂, arith}
-use Rattle.std.specs.Prelude.{max, false}
+use Rattle.std.proofs.Common.{◌≡◌, suc, ◌+◌, [], refl, ap, ap₂, arith}
+use Rattle.std.specs.Prelude.{max}
 use Rattle.a_law.proofs.CLaws.{CLaws}
 use Rattle.a_law.proofs.Regs.{alloc_small}
 use Rattle.a_law.proofs.Thirds.{length_all, thirds_all, thirds_t}
 use Rattle.a_law.proofs.Typing.{all_of, mixed, program_typed}
-use Rattle.a_law.specs.Allocate.{afull, alloc_main, alloc_prog, atype, atypes}
-use Rattle.a_terms.specs.Bound.{AFits}
+use Rattle.h_terms.specs.Laws.{HTypedIsAny}
+use Rattle.a_law.specs.Statements.{AllocFits, AllocTypesKept}
+use Rattle.a_law.specs.Allocate.{afull, atype, atypes}
 use Rattle.a_terms.specs.Each.{AWithin, abinds, abinds_all, abinds_fields, areach, areach_fields, areaches}
 use Rattle.a_terms.specs.Typing.{aunset}
 use Rattle.c_terms.specs.C.{CTy, CTys, MoreCTys, NoCTys, TCCode, TCInt, TCRef, TCSome, TCTuple, TCVar}
 use Rattle.c_terms.specs.Reach.{CWithin, cbinds, cbinds_all, creach, creaches}
-use Rattle.h_terms.specs.Bound.{HFits}
-use Rattle.h_terms.specs.H.{HBlks, HTm}
 
 -- the reach of types whatever the flags
 mutual
@@ -66,15 +65,19 @@ binds_mixed NoCTys us = binds_unset us
 binds_mixed (MoreCTys t ts) us = ap₂ max (binds_atype t) (binds_mixed ts us)
 
 -- what is within bounds of a hoisted type is within them of its allocation
-pub alloc_fits : CLaws → (N R : ℕ) (ks : HBlks) (t : HTm) → HFits N R ks t → AFits (3 * N) R (alloc_prog ks) (alloc_main ks t)
-alloc_fits law N R ks t h =
-    let typed = program_typed (AWithin (3 * N) R (3 * N)) (CWithin N R N) law
-        (λ n u q. (let x = reach_atype u in let y = binds_atype u in (omega (arith, q.0), omega (arith, x, q.1), omega (arith, y, q.2))))
-        (λ n us vs q. (let x = reach_mixed us vs in let y = binds_mixed us vs in (omega (arith, q.0), omega (arith, x, q.1), omega (arith, y, q.2))))
-        (λ n u q. (let x = reach_atype u in let y = binds_atype u in (omega (arith, q.0), omega (arith, x, q.1), omega (arith, y, q.2)))) ks t h.0 in
-    let small = alloc_small N ks t h.1 in
+pub alloc_fits : CLaws → AllocFits
+alloc_fits law N M R le ks t h =
+    let typed = program_typed (AWithin M R M) (CWithin N R N) law
+    (λ n u q. (let x = reach_atype u in let y = binds_atype u in (omega (arith, q.0), omega (arith, x, q.1), omega (arith, y, q.2))))
+    (λ n us vs q. (let x = reach_mixed us vs in let y = binds_mixed us vs in (omega (arith, q.0), omega (arith, x, q.1), omega (arith, y, q.2))))
+    (λ n u q. (let x = reach_atype u in let y = binds_atype u in (omega (arith, q.0), omega (arith, x, q.1), omega (arith, y, q.2)))) ks t h.0 in
+    let small = alloc_small N M le ks t h.1 in
     let many = length_all ks ks in
     let one = thirds_t t ks [] [] 0 in
     let all = thirds_all ks ks in
     (typed.0, typed.1, small, omega (arith, many, one, all, h.2))
 
+-- typing alone
+pub alloc_types : CLaws → HTypedIsAny → AllocTypesKept
+alloc_types law any ks t h =
+    (program_typed (λ n u. Unit {0}) (λ n u. Unit {0}) law (λ n u q. tt) (λ n us vs q. tt) (λ n u q. tt) ks t ((any ks t).0 h)).0

@@ -2,8 +2,11 @@ mod CLaws
 mod Cells
 mod Fits
 mod Meaning
+mod PutBack
 mod Regs
 mod Rel
+mod Scopes
+mod Standing
 mod Thirds
 mod Tuples
 mod Types

@@ -3,22 +3,22 @@ use Rattle.std.proofs.Common.{◌≡◌, ℕ, zero, suc, ◌==◌, nat_eq, List,
 use Rattle.std.proofs.lemmas.Bool.{eqb-true, eq-eqb, ne_eqb, cases_eq}
 use Rattle.std.specs.Prelude.{Bool, true, false}
 use Rattle.std.specs.Prelude.{map, option_map, slice_get, slice_set}
+use Rattle.idx_core.specs.Arith.{is_zero}
+use Rattle.idx_core.specs.declared.arith.Op.{Op}
 use Rattle.a_terms.specs.Meaning as A
 use Rattle.a_law.proofs.Cells.{cell_holds, held_at, moves_cell, moves_set, stores_cell, stores_grow, stores_set, valid_of}
 use Rattle.a_law.proofs.Rel.{Agree, Grows, Later, Moves, Rel, Rels, Stores, agree_later, all_read, at_more, at_new, fresh, moves_grow, moves_on, nth_more, nth_seam, rel_grows, valid_grows}
 use Rattle.a_law.proofs.Tuples.{comes_v, comes_vs, init_step}
-use Rattle.a_law.specs.Allocate.{alloc_prog, alloc_all, alloc_block, alloc_main, alloc_t, arg_depth, arg_levels, atypes, d_next, d_types, dcl, h_type, pre_d, pre_v, pre_vs, v_next, val, vals, vs_next}
+use Rattle.a_law.specs.Allocate.{alloc_all, alloc_block, alloc_main, alloc_prog, alloc_t, arg_depth, arg_levels, atypes, d_next, d_types, dcl, pre_d, pre_v, pre_vs, v_next, v_type, val, vals, vs_next}
 use Rattle.a_law.specs.Statements.{ends}
-use Rattle.a_terms.specs.Tree.{ABlk, ATm, Arith, Call, Halt, If0, Init, Let, Malloc, NoATys, arity}
-use Rattle.c_terms.specs.C.{CTy, CTys, MoreCTys, NoCTys, ccount}
-use Rattle.c_terms.specs.Typing.{cargs_onto}
+use Rattle.a_terms.specs.Tree.{ABlk, ATm, ATy, Arith, Call, Halt, If0, Init, Let, Malloc, MoreATys, NoATys, arity}
+use Rattle.a_terms.specs.Typing.{types_of}
+use Rattle.c_terms.specs.C.{CTys, MoreCTys, NoCTys, ccount}
 use Rattle.h_terms.specs.Laws.{HNeverStuck}
 use Rattle.h_terms.specs.H.{HArith, HBlk, HBlks, HCall, HCell, HDecl, HGet, HHalt, HIf, HLet, HName, HProj, HSet, HTm, HUnpack, HVal, block_at}
 use Rattle.h_terms.specs.Meaning.{HEnter, HFails, HGives, HMade, HWord, HWords, MoreHWords, NoHWords, YCell, YInt, YLabel, YTuple, hat_zero, hd_value, henter, hfield, hget, hgiven, hhalt_with, hheld, hhold, honto, hopen, hoperate, hproject, hrun, hset, hsize, hterm, hv_value, hvs_value, hwith_value, with_block}
 use Rattle.h_terms.specs.Typing.{HProgramGood}
-use Rattle.idx_core.specs.Arith.{is_zero}
-use Rattle.idx_core.specs.declared.arith.Op.{Op}
-use Rattle.term_core.specs.Ends.{End, Halted, Stuck, Result, Spent, enters, if_fits, pick, stops}
+use Rattle.term_core.specs.Ends.{End, Halted, Result, Spent, Stuck, enters, if_fits, pick, stops}
 
 -- a run that is not stuck
 abbrev pub Unstuck : End → Type 0
@@ -77,7 +77,7 @@ get_rel m h st (YCell p) w s r = go (hheld p st) refl
     go (Some z) e = let q = held_at m h st p r.0 z s r.2 e in rw (r.1, q.1) (q.0, refl, q.2)
 
 module _ (ks : HBlks) where
-  module _ (next : A.Next) (log : List ℕ) (g : List CTy) (ls : List ℕ) (ys : HWords) where
+  module _ (next : A.Next) (log : List ℕ) (g : List ATy) (ls : List ℕ) (ys : HWords) where
     -- what a declaration comes to
     record Declares (e : HDecl) (m : List ℕ) (h : A.AHeap) (d : ℕ) (env : List A.AWord) (y : HWord) (st : HWords) : Type 0 where
       cells : List ℕ
@@ -97,9 +97,15 @@ module _ (ks : HBlks) where
     settle : (e : HDecl) (o : Option HWord) (m : List ℕ) (h heap : A.AHeap) (d : ℕ) (env vars : List A.AWord) (st : HWords) → ((rest : ATm) → A.term next (pre_d ks g ls d e rest) env h log ≡ A.term next rest vars heap log) → Later d env (d_next d e) vars → Grows h heap → Stores m h st → OptRel m heap o (A.decl (dcl ls d e) vars heap) → Declared e m h d env (hgiven o st)
     settle e None m h heap d env vars st run k gr s r = tt
     settle e (Some y) m h heap d env vars st run k gr s r = record {
-      cells = m; heap = heap; vars = vars; word = r.0;
+      cells = m;
+      heap = heap;
+      vars = vars;
+      word = r.0;
       runs = λ rest. (run (Let (dcl ls d e) rest) ∙ ap (λ q. A.made q log (λ w h2. A.term next rest (w ∷ vars) h2 log)) r.1);
-      later = k; moves = moves_grow m h heap gr; stores = stores_grow m h heap st gr s; good = r.2;
+      later = k;
+      moves = moves_grow m h heap gr;
+      stores = stores_grow m h heap st gr s;
+      good = r.2;
     }
 
     -- an assignment
@@ -118,7 +124,10 @@ module _ (ks : HBlks) where
         let d2 = v_next (v_next d v) w in
         let init : A.decl (Init (val ls d d2 v) 1 (val ls (v_next d v) d2 w)) vars heap ≡ A.Gives (A.ZTuple a) h2 = rw (ev, r.1, ew, old.3) refl in
         record {
-          cells = m; heap = h2 ++ [] ∷ []; vars = A.ZTuple a ∷ vars; word = A.ZTuple (length h2);
+          cells = m;
+          heap = h2 ++ [] ∷ [];
+          vars = A.ZTuple a ∷ vars;
+          word = A.ZTuple (length h2);
           runs = λ rest.
               (run (Let (Init (val ls d d2 v) 1 (val ls (v_next d v) d2 w)) (Let (Malloc NoATys) rest))
               ∙ ap (λ u. A.made u log (λ x h3. A.term next (Let (Malloc NoATys) rest) (x ∷ vars) h3 log)) init);
@@ -166,9 +175,12 @@ module _ (ks : HBlks) where
         let h2 = x.heap ++ (Some w ∷ []) ∷ [] in
         let s2 = stores_grow m h x.heap st x.grows s in
         record {
-          cells = m ++ at ∷ []; heap = h2; vars = vars; word = A.ZTuple at;
+          cells = m ++ at ∷ [];
+          heap = h2;
+          vars = vars;
+          word = A.ZTuple at;
           runs = λ rest.
-              (x.runs (Let (Malloc (atypes (MoreCTys (h_type ks g v) NoCTys))) (Let (Init (Rattle.a_terms.specs.Tree.Var 0) 1 (val ls d (suc l) v)) rest))
+              (x.runs (Let (Malloc (MoreATys (v_type ks g v) NoATys)) (Let (Init (Rattle.a_terms.specs.Tree.Var 0) 1 (val ls d (suc l) v)) rest))
               ∙ ap (λ u. A.made u log (λ z h3. A.term next rest (z ∷ vars) h3 log)) step);
           later = λ k u q. on k u (x.later k u q);
           moves = moves_on m m (m ++ at ∷ []) h x.heap h2 (moves_grow m h x.heap x.grows) (moves_cell m x.heap (Some w ∷ []));
@@ -208,7 +220,7 @@ module _ (ks : HBlks) where
   call_step he next f m h st log (YLabel l) w ys ws r q s ok = rw r (f l ys ws m h st log q s ok)
 
   module _ (he : HEnter) (next : A.Next) (follows : Follows he next) where
-    term_rel : (t : HTm) (g : List CTy) (ls : List ℕ) (ys : HWords) (m : List ℕ) (h : A.AHeap) (st : HWords) (d : ℕ) (env : List A.AWord) (log : List ℕ) → Stores m h st → Agree m h d ls ys env → Unstuck (hterm ks he t ys st).end → A.term next (alloc_t ks g ls d t) env h log ≡ ends log (hterm ks he t ys st)
+    term_rel : (t : HTm) (g : List ATy) (ls : List ℕ) (ys : HWords) (m : List ℕ) (h : A.AHeap) (st : HWords) (d : ℕ) (env : List A.AWord) (log : List ℕ) → Stores m h st → Agree m h d ls ys env → Unstuck (hterm ks he t ys st).end → A.term next (alloc_t ks g ls d t) env h log ≡ ends log (hterm ks he t ys st)
     term_rel (HLet e t) g ls ys m h st d env log s a ok =
         let d2 = d_next d e in
         let_step next log g ls ys e m h d env (hd_value e ys st) (λ v st2. hterm ks he t (MoreHWords v ys) st2) (alloc_t ks (d_types ks g e) (d2 ∷ ls) (suc d2) t) (declare next log g ls ys e m h d env st s a)
@@ -287,7 +299,7 @@ module _ (ks : HBlks) where
       let go : ABlk → A.Result = λ b. A.term (A.calls (alloc_all ks ks) n) b.body (A.push_all ws []) h (l ∷ log) in
       ap (λ o. A.enter o (length ws) log go) (block_is ks l)
       ∙ enter_step log (block_at ks l) ys (length ws) go (λ k. enters l (hterm ks (henter ks n) k.body (honto ys NoHWords) st)) (sizes ys ws m h r)
-      (λ k e q. term_rel (henter ks n) (A.calls (alloc_all ks ks) n) (follows_n n) k.body (cargs_onto k.args []) (arg_levels 0 [] k.args) (honto ys NoHWords) m h st (arg_depth 0 k.args) (A.push_all ws []) (l ∷ log) s
+      (λ k e q. term_rel (henter ks n) (A.calls (alloc_all ks ks) n) (follows_n n) k.body (types_of (atypes k.args) []) (arg_levels 0 [] k.args) (honto ys NoHWords) m h st (arg_depth 0 k.args) (A.push_all ws []) (l ∷ log) s
       (agree_args k.args [] ys NoHWords ws [] m h 0 e r tt) q) ok
 
   no_cells : Stores [] [] NoHWords

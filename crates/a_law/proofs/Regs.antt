@@ -1,10 +1,10 @@
 -- Allocation makes at most three variables for each node of a block.
 use Rattle.std.proofs.Common.{◌≡◌, ◌≤◌, ℕ, suc, ◌+◌, ◌*◌, List, [], ◌∷◌, length, refl, ap, subst, arith}
-use Rattle.a_law.specs.Allocate.{alloc_all, alloc_main, alloc_prog, alloc_t, arg_depth, arg_levels, atypes, d_next, d_types, dcl, fill, final, h_type, h_types, pre_d, pre_v, pre_vs, v_next, val, vals, vs_next}
+use Rattle.a_law.specs.Allocate.{alloc_all, alloc_main, alloc_prog, alloc_t, arg_depth, arg_levels, atypes, d_next, d_types, dcl, fill, final, pre_d, pre_v, pre_vs, v_next, v_type, v_types, val, vals, vs_next}
 use Rattle.a_terms.specs.Bound.{AAllRegs, ARegs, ASmall}
-use Rattle.a_terms.specs.Tree.{ATm, Init, Let, Malloc, arity}
-use Rattle.c_terms.specs.C.{CTy, CTys, MoreCTys, NoCTys, ccount}
-use Rattle.c_terms.specs.Typing.{cargs_onto}
+use Rattle.a_terms.specs.Tree.{ATm, ATy, Init, Let, Malloc, MoreATys, NoATys, arity}
+use Rattle.a_terms.specs.Typing.{types_of}
+use Rattle.c_terms.specs.C.{CTys, MoreCTys, NoCTys, ccount}
 use Rattle.h_terms.specs.H.{HApply, HArith, HBlks, HCall, HCell, HDecl, HGet, HHalt, HIf, HInt, HLabel, HLet, HName, HPack, HProj, HSet, HTm, HTuple, HUnpack, HVal, HVals, HVar, MoreHVals, NoHVals}
 use Rattle.h_terms.specs.Size.{HAllSmall, HSmall, hsize_d, hsize_t, hsize_v, hsize_vs}
 
@@ -64,7 +64,7 @@ module _ (M : ℕ) where
   fill_regs NoHVals ls e l i rest h r = r
   fill_regs (MoreHVals v vs) ls e l i rest h r = let x = final_is vs (suc l) in (omega (arith, x, h), fill_regs vs ls (v_next e v) (suc l) (suc i) rest h r)
 
-  module _ (ks : HBlks) (g : List CTy) (ls : List ℕ) where
+  module _ (ks : HBlks) (g : List ATy) (ls : List ℕ) where
     mutual
       regs_v : (v : HVal) (d : ℕ) (rest : ATm) → v_next d v + 1 ≤ M → ARegs M (v_next d v) rest → ARegs M d (pre_v ks g ls d v rest)
       regs_v (HVar i) d rest h r = r
@@ -73,7 +73,7 @@ module _ (M : ℕ) where
       regs_v (HTuple vs) d rest h r =
           let l = vs_next d vs in
           let x = final_is vs l in
-          regs_vs vs d (Let (Malloc (atypes (h_types ks g vs))) (fill ls d l 1 vs rest)) (omega (arith, x, h)) (omega (arith, x, h), fill_regs vs ls d l 1 rest (omega (arith, h)) r)
+          regs_vs vs d (Let (Malloc (v_types ks g vs)) (fill ls d l 1 vs rest)) (omega (arith, x, h)) (omega (arith, x, h), fill_regs vs ls d l 1 rest (omega (arith, h)) r)
       regs_v (HApply v ts) d rest h r = regs_v v d rest h r
       regs_v (HPack hid v s) d rest h r = regs_v v d rest h r
 
@@ -81,12 +81,12 @@ module _ (M : ℕ) where
       regs_vs NoHVals d rest h r = r
       regs_vs (MoreHVals v vs) d rest h r = let x = nexts_le vs (v_next d v) in regs_v v d (pre_vs ks g ls (v_next d v) vs rest) (omega (arith, x, h)) (regs_vs vs (v_next d v) rest h r)
 
-  regs_d : (ks : HBlks) (g : List CTy) (ls : List ℕ) (e : HDecl) (d : ℕ) (rest : ATm) → d_next d e + 1 ≤ M → ARegs M (d_next d e) rest → ARegs M d (pre_d ks g ls d e rest)
+  regs_d : (ks : HBlks) (g : List ATy) (ls : List ℕ) (e : HDecl) (d : ℕ) (rest : ATm) → d_next d e + 1 ≤ M → ARegs M (d_next d e) rest → ARegs M d (pre_d ks g ls d e rest)
   regs_d ks g ls (HName v) d rest h r = regs_v ks g ls v d rest h r
   regs_d ks g ls (HProj i v) d rest h r = regs_v ks g ls v d rest h r
   regs_d ks g ls (HArith op v w) d rest h r = let x = next_le w (v_next d v) in regs_v ks g ls v d (pre_v ks g ls (v_next d v) w rest) (omega (arith, x, h)) (regs_v ks g ls w (v_next d v) rest h r)
   regs_d ks g ls (HUnpack v) d rest h r = regs_v ks g ls v d rest h r
-  regs_d ks g ls (HCell v) d rest h r = regs_v ks g ls v d (Let (Malloc (atypes (MoreCTys (h_type ks g v) NoCTys))) rest) (omega (arith, h)) (omega (arith, h), r)
+  regs_d ks g ls (HCell v) d rest h r = regs_v ks g ls v d (Let (Malloc (MoreATys (v_type ks g v) NoATys)) rest) (omega (arith, h)) (omega (arith, h), r)
   regs_d ks g ls (HGet v) d rest h r = regs_v ks g ls v d rest h r
   regs_d ks g ls (HSet v w) d rest h r =
       let x = next_le w (v_next d v) in
@@ -102,7 +102,7 @@ module _ (M : ℕ) where
   decl_size (HGet v) d = let x = next_size v d in omega (arith, x)
   decl_size (HSet v w) d = let x = next_size v d in let y = next_size w (v_next d v) in omega (arith, x, y)
 
-  regs_t : (t : HTm) (ks : HBlks) (g : List CTy) (ls : List ℕ) (d : ℕ) → d + 3 * hsize_t t ≤ M → ARegs M d (alloc_t ks g ls d t)
+  regs_t : (t : HTm) (ks : HBlks) (g : List ATy) (ls : List ℕ) (d : ℕ) → d + 3 * hsize_t t ≤ M → ARegs M d (alloc_t ks g ls d t)
   regs_t (HLet e t) ks g ls d h =
       let x = decl_size e d in
       regs_d ks g ls e d (Let (dcl ls d e) (alloc_t ks (d_types ks g e) (d_next d e ∷ ls) (suc (d_next d e)) t)) (omega (arith, x, h)) (omega (arith, x, h), regs_t t ks (d_types ks g e) (d_next d e ∷ ls) (suc (d_next d e)) (omega (arith, x, h)))
@@ -126,14 +126,14 @@ depth_is : (ts : CTys) (d : ℕ) → arg_depth d ts ≡ d + ccount ts
 depth_is NoCTys d = omega arith
 depth_is (MoreCTys t ts) d = let r = depth_is ts (suc d) in omega (arith, r)
 
-blocks_regs : (M : ℕ) (ks xs : HBlks) → HAllSmall M xs → AAllRegs (3 * M) (alloc_all ks xs)
-blocks_regs M ks [] h = tt
-blocks_regs M ks (x ∷ xs) h =
+blocks_regs : (N M : ℕ) → 3 * N ≤ M → (ks xs : HBlks) → HAllSmall N xs → AAllRegs M (alloc_all ks xs)
+blocks_regs N M le ks [] h = tt
+blocks_regs N M le ks (x ∷ xs) h =
     let a = arity_is x.args in
     let d = depth_is x.args 0 in
     let e : arg_depth 0 x.args ≡ arity (atypes x.args) = omega (arith, a, d) in
-    let r = regs_t (3 * M) x.body ks (cargs_onto x.args []) (arg_levels 0 [] x.args) (arg_depth 0 x.args) (omega (arith, d, h.0)) in
-    (subst (λ n. ARegs (3 * M) n (alloc_t ks (cargs_onto x.args []) (arg_levels 0 [] x.args) (arg_depth 0 x.args) x.body)) e r, blocks_regs M ks xs h.1)
+    let r = regs_t M x.body ks (types_of (atypes x.args) []) (arg_levels 0 [] x.args) (arg_depth 0 x.args) (omega (arith, d, h.0)) in
+    (subst (λ n. ARegs M n (alloc_t ks (types_of (atypes x.args) []) (arg_levels 0 [] x.args) (arg_depth 0 x.args) x.body)) e r, blocks_regs N M le ks xs h.1)
 
-pub alloc_small : (M : ℕ) (ks : HBlks) (t : HTm) → HSmall M ks t → ASmall (3 * M) (alloc_prog ks) (alloc_main ks t)
-alloc_small M ks t h = (blocks_regs M ks ks h.0, regs_t (3 * M) t ks [] [] 0 (omega (arith, h.1)))
+pub alloc_small : (N M : ℕ) → 3 * N ≤ M → (ks : HBlks) (t : HTm) → HSmall N ks t → ASmall M (alloc_prog ks) (alloc_main ks t)
+alloc_small N M le ks t h = (blocks_regs N M le ks ks h.0, regs_t M t ks [] [] 0 (omega (arith, h.1)))

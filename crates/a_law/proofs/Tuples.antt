@@ -2,10 +2,9 @@
 use Rattle.std.proofs.Common.{◌≡◌, ℕ, suc, List, [], ◌∷◌, ◌++◌, length, Option, Some, None, refl, sym, ap, ◌∙◌, arith, append_assoc, length-append}
 use Rattle.std.specs.Prelude.{map, slice_set}
 use Rattle.a_law.proofs.Rel.{Agree, Grows, Later, Read, Reads, Rel, Rels, Valid, agree_later, at_more, at_new, fresh, moves_grow, nth_more, nth_seam, put_seam, reads_later, rel_grows, rels_grow, valid_grows, var_read}
-use Rattle.a_law.specs.Allocate.{atypes, fill, final, h_types, pre_v, pre_vs, v_next, val, vs_next}
+use Rattle.a_law.specs.Allocate.{fill, final, pre_v, pre_vs, v_next, v_types, val, vs_next}
 use Rattle.a_terms.specs.Meaning.{AHeap, AWord, Gives, Next, ZTuple, decl, empties, made, term, value}
-use Rattle.a_terms.specs.Tree.{ATm, AVal, Init, Let, Malloc, Var}
-use Rattle.c_terms.specs.C.{CTy}
+use Rattle.a_terms.specs.Tree.{ATm, ATy, AVal, Init, Let, Malloc, Var}
 use Rattle.h_terms.specs.H.{HApply, HBlks, HInt, HLabel, HPack, HTuple, HVal, HVals, HVar, MoreHVals, NoHVals}
 use Rattle.h_terms.specs.Meaning.{HWords, hv_value, hvs_value}
 
@@ -29,7 +28,7 @@ abbrev none_yet : HVals → List (Option AWord)
 none_yet NoHVals = []
 none_yet (MoreHVals v vs) = None ∷ none_yet vs
 
-empties_are : (ks : HBlks) (g : List CTy) (vs : HVals) → empties (atypes (h_types ks g vs)) ≡ none_yet vs
+empties_are : (ks : HBlks) (g : List ATy) (vs : HVals) → empties (v_types ks g vs) ≡ none_yet vs
 empties_are ks g NoHVals = refl
 empties_are ks g (MoreHVals v vs) = ap (λ q. None ∷ q) (empties_are ks g vs)
 
@@ -67,7 +66,7 @@ module _ (next : Next) (log : List ℕ) where
         later = λ k x y. rest_of.later k x (on k x y);
       }
 
-  module _ (m : List ℕ) (ks : HBlks) (g : List CTy) (ls : List ℕ) (ys : HWords) where
+  module _ (m : List ℕ) (ks : HBlks) (g : List ATy) (ls : List ℕ) (ys : HWords) where
     mutual
       pub comes_v : (v : HVal) (h : AHeap) (d : ℕ) (env : List AWord) → Valid m h → Agree m h d ls ys env → Comes next log h d env (pre_v ks g ls d v) (v_next d v) (IsRead m ys ls d v)
       comes_v (HVar i) h d env k0 a = record { heap = h; vars = env; runs = λ rest. refl; grows = λ p fs q. q; later = λ k x y. y; good = var_read m h ls ys i d env a }
@@ -85,13 +84,16 @@ module _ (next : Next) (log : List ℕ) where
             heap = f.heap ++ full ∷ [];
             vars = ZTuple at ∷ z.vars;
             runs = λ rest.
-                (f.runs (Let (Malloc (atypes (h_types ks g vs))) (fill ls d l 1 vs rest))
+                (f.runs (Let (Malloc (v_types ks g vs)) (fill ls d l 1 vs rest))
                 ∙ ap (λ t. term next (fill ls d l 1 vs rest) (ZTuple at ∷ f.vars) (f.heap ++ t ∷ []) log) (empties_are ks g vs)
                 ∙ z.runs rest);
             grows = λ p fs q. more p fs (f.grows p fs q);
             later = λ k x y. z.later k x (on k x (f.later k x y));
-            good = (ZTuple at, (at, f.good.0, refl, nth_seam f.heap [] full at refl, fresh m f.heap (valid_grows m h f.heap f.grows k0), rels_grow (hvs_value vs ys) f.good.0 m f.heap (f.heap ++ full ∷ []) more f.good.1),
-            λ d3 env3 k. (k (final l vs) (ZTuple at) (at_new (final l vs) z.vars (ZTuple at))).1);
+            good = (
+              ZTuple at,
+              (at, f.good.0, refl, nth_seam f.heap [] full at refl, fresh m f.heap (valid_grows m h f.heap f.grows k0), rels_grow (hvs_value vs ys) f.good.0 m f.heap (f.heap ++ full ∷ []) more f.good.1),
+              λ d3 env3 k. (k (final l vs) (ZTuple at) (at_new (final l vs) z.vars (ZTuple at))).1,
+            );
           }
       comes_v (HApply v ts) h d env k0 a = let r = comes_v v h d env k0 a in record { heap = r.heap; vars = r.vars; runs = r.runs; grows = r.grows; later = r.later; good = r.good }
       comes_v (HPack hid v s) h d env k0 a = let r = comes_v v h d env k0 a in record { heap = r.heap; vars = r.vars; runs = r.runs; grows = r.grows; later = r.later; good = r.good }
@@ -108,6 +110,9 @@ module _ (next : Next) (log : List ℕ) where
             runs = λ rest. (x.runs (pre_vs ks g ls d2 vs rest) ∙ y.runs rest);
             grows = λ p fs q. y.grows p fs (x.grows p fs q);
             later = λ k u q. y.later k u (x.later k u q);
-            good = (x.good.0 ∷ y.good.0, (x.good.0, y.good.0, refl, rel_grows (hv_value v ys) x.good.0 m x.heap y.heap y.grows x.good.1, y.good.1),
-            (λ d3 env3 k. x.good.2 d3 env3 (λ p u q. k p u (y.later p u q)), y.good.2));
+            good = (
+              x.good.0 ∷ y.good.0,
+              (x.good.0, y.good.0, refl, rel_grows (hv_value v ys) x.good.0 m x.heap y.heap y.grows x.good.1, y.good.1),
+              (λ d3 env3 k. x.good.2 d3 env3 (λ p u q. k p u (y.later p u q)), y.good.2),
+            );
           }

@@ -1,12 +1,12 @@
 -- Types before and after allocation.
-use Rattle.std.proofs.Common.{◌≡◌, ◌↔◌, ℕ, zero, suc, ◌+◌, ◌-◌, Some, None, Option, refl, sym, ap, ap₂, ◌∙◌, subst, arith}
+use Rattle.std.proofs.Common.{◌≡◌, ℕ, zero, suc, ◌+◌, ◌-◌, Some, refl, sym, ap, ap₂, ◌∙◌}
 use Rattle.std.specs.Prelude.{Bool, true, false, nat_lt, ◌==◌, if◌then◌else◌, option_map}
 use Rattle.idx_core.specs.Over.{At, deep, shifted, putted, BelowAt, AnyDepth}
 use Rattle.idx_core.specs.Steps.{over_same}
 use Rattle.term_core.specs.Ends.{lift}
 use Rattle.c_terms.specs.C.{CTy, CTys, TCInt, TCVar, TCTuple, TCCode, TCSome, TCRef, NoCTys, MoreCTys, ccount}
 use Rattle.c_terms.specs.Typing.{cren, CIn, CIns, scons, csub, csubs, cup, names}
-use Rattle.c_terms.specs.Puts.{cput, cputs, capply}
+use Rattle.c_terms.specs.Puts.{cputs, capply}
 use Rattle.c_terms.specs.Walks as c
 use Rattle.a_terms.specs.Tree.{ATy, AInt, AVar, ATuple, ACode, AExists, ATys, MoreATys, NoAFields, MoreAFields, over, over_types, over_fields, ashift, aput, aput_types, ABelow, ABelow-types}
 use Rattle.a_terms.specs.Tree as a

@@ -8,37 +8,41 @@ use Rattle.a_law.proofs.CLaws.{CLaws}
 use Rattle.a_law.proofs.Meaning.{block_is}
 use Rattle.a_law.proofs.Rel.{At, Later, at_more, at_new}
 use Rattle.a_law.proofs.Types.{apply_is, atype_hidden, atype_suc, below_is, types_below}
-use Rattle.a_law.specs.Allocate.{afull, alloc_all, alloc_block, alloc_main, alloc_prog, alloc_t, arg_depth, arg_levels, atype, atypes, d_types, dcl, fill, final, h_body, h_code, h_field, h_held, h_type, h_types, pre_v, pre_vs, type_or, types_at, v_next, val, vals, var_of, vs_next}
+use Rattle.a_law.specs.Allocate.{afull, alloc_all, alloc_block, alloc_main, alloc_prog, alloc_t, arg_depth, arg_levels, atype, atypes, d_types, dcl, fill, final, h_code, pre_v, pre_vs, v_next, v_type, v_types, val, vals, var_of, vs_next}
 use Rattle.a_terms.specs.Each.{AAll, AProp, BsEach, DEach, ProgramEach, TEach, VEach, VsEach}
-use Rattle.a_terms.specs.Tree.{ABelow-types, ABlk, ACode, AConsts, ADecl, AFields, AInt, AProg, ATm, ATuple, ATy, AVal, Call, Halt, If0, Init, Let, Malloc, MoreAFields, NoAFields, NoATys, Var, ashift}
+use Rattle.a_terms.specs.Tree.{ABelow-types, ABlk, ACode, AConsts, ADecl, AFields, AInt, AProg, ATm, ATuple, ATy, AVal, Call, Halt, If0, Init, Let, Malloc, MoreAFields, MoreATys, NoAFields, NoATys, Var, ashift}
 use Rattle.a_terms.specs.TypeLaws.{All-below, Args-below, below_args, declared_below, type_below}
-use Rattle.a_terms.specs.Typing.{All-have, Blocks-ok, Decl-ok, Fine, Has, Program-ok, Term-ok, afield_flag, afield_type, afilled, applied, aunset, body_of, code_type, declared, field_of, filled_of, more_vars, or_int, type_of, types_of}
+use Rattle.a_terms.specs.Typing.{All-have, Blocks-ok, Decl-ok, Fine, Has, Program-ok, Term-ok, aapply, afield_flag, afield_type, afilled, applied, aset, aunset, body_of, code_type, declared, field_of, filled_of, more_vars, or_int, type_of, types_of}
 use Rattle.c_terms.specs.C.{CTy, CTys, MoreCTys, NoCTys, TCCode, TCInt, TCRef, TCSome, TCTuple, TCVar, ccount}
 use Rattle.c_terms.specs.Each.{CAll, CProp}
-use Rattle.c_terms.specs.Puts.{capply}
 use Rattle.c_terms.specs.Typing.{CAt, CField, cargs_onto, crens_scope, csub, csubs, names, scons}
 use Rattle.h_terms.specs.Each.{AllGoodP, HGoodP, HHasP, HHaveP, HProgramP}
 use Rattle.h_terms.specs.H.{HApply, HArith, HBlk, HBlks, HCall, HCell, HDecl, HGet, HHalt, HIf, HInt, HLabel, HLet, HName, HPack, HProj, HSet, HTm, HTuple, HUnpack, HVal, HVals, HVar, MoreHVals, NoHVals, block_at}
 use Rattle.term_core.specs.Ends.{lift}
-pub at_read : (g : List CTy) (i : ℕ) (t : CTy) → CAt g i t → type_or (slice_get g i) ≡ t
+
+pub at_read : (g : List CTy) (i : ℕ) (t : CTy) → CAt g i t → or_int (slice_get (map atype g) i) ≡ atype t
 at_read [] i t h = absurd h
-at_read (u ∷ g) zero t h = sym h
+at_read (u ∷ g) zero t h = ap atype (sym h)
 at_read (u ∷ g) (suc i) t h = at_read g i t h
+
+full_is : (ts : CTys) → aset (atypes ts) ≡ afull ts
+full_is NoCTys = refl
+full_is (MoreCTys t ts) = ap (MoreAFields (atype t) true) (full_is ts)
 
 module _ (Q : CProp) (law : CLaws) (ks : HBlks) where
   mutual
-    pub type_read : (n : ℕ) (g : List CTy) (v : HVal) (t : CTy) → HHasP Q ks n g v t → h_type ks g v ≡ t
+    pub type_read : (n : ℕ) (g : List CTy) (v : HVal) (t : CTy) → HHasP Q ks n g v t → v_type ks (map atype g) v ≡ atype t
     type_read n g (HVar i) t h = at_read g i t h.1
-    type_read n g (HInt m) t h = sym h.1
-    type_read n g (HLabel l) t h = ap h_code h.2 ∙ sym h.3
-    type_read n g (HTuple vs) t h = ap TCTuple (types_read n g vs h.1 h.3) ∙ sym h.2
+    type_read n g (HInt m) t h = ap atype (sym h.1)
+    type_read n g (HLabel l) t h = ap h_code h.2 ∙ ap atype (sym h.3)
+    type_read n g (HTuple vs) t h = ap (λ x. ATuple (aset x)) (types_read n g vs h.1 h.3) ∙ ap ATuple (full_is h.1) ∙ ap atype (sym h.2)
     type_read n g (HApply v ts) t h =
-        ap (λ u. type_or (capply u ts)) (type_read n g v (TCCode (lift h.1 (ccount ts)) h.2) h.4) ∙ ap type_or (law.by_one ts h.1 h.2) ∙ sym h.3
-    type_read n g (HPack hid v s) t h = sym h.3
+        ap (λ u. or_int (aapply u (atypes ts))) (type_read n g v (TCCode (lift h.1 (ccount ts)) h.2) h.4) ∙ ap or_int (apply_is law ts h.1 h.2) ∙ ap atype (sym h.3)
+    type_read n g (HPack hid v s) t h = ap atype (sym h.3)
 
-    pub types_read : (n : ℕ) (g : List CTy) (vs : HVals) (ts : CTys) → HHaveP Q ks n g vs ts → h_types ks g vs ≡ ts
-    types_read n g NoHVals ts h = sym h
-    types_read n g (MoreHVals v vs) ts h = ap₂ MoreCTys (type_read n g v h.0 h.3) (types_read n g vs h.1 h.4) ∙ sym h.2
+    pub types_read : (n : ℕ) (g : List CTy) (vs : HVals) (ts : CTys) → HHaveP Q ks n g vs ts → v_types ks (map atype g) vs ≡ atypes ts
+    types_read n g NoHVals ts h = ap atypes (sym h)
+    types_read n g (MoreHVals v vs) ts h = ap₂ MoreATys (type_read n g v h.0 h.3) (types_read n g vs h.1 h.4) ∙ ap atypes (sym h.2)
 
   -- the property of a value's type
   own_of : (n : ℕ) (g : List CTy) (v : HVal) (t : CTy) → HHasP Q ks n g v t → Q n t
@@ -53,11 +57,14 @@ module _ (Q : CProp) (law : CLaws) (ks : HBlks) where
   owns n g NoHVals ts h = subst (CAll Q n) (sym h) tt
   owns n g (MoreHVals v vs) ts h = subst (CAll Q n) (sym h.2) (own_of n g v h.0 h.3, owns n g vs h.1 h.4)
 
-pub field_read : (i : ℕ) (us : CTys) (u : CTy) → CField i us u → types_at i us ≡ u
-field_read i NoCTys u h = absurd h
-field_read zero (MoreCTys t us) u h = absurd h
-field_read (suc zero) (MoreCTys t us) u h = sym h
-field_read (suc (suc i)) (MoreCTys t us) u h = field_read (suc i) us u h
+-- the types in scope under one more type variable, and those of a code's arguments
+scope_shifted : CLaws → (g : List CTy) → map (ashift 1 0) (map atype g) ≡ map atype (crens_scope suc g)
+scope_shifted law [] = refl
+scope_shifted law (t ∷ g) = ap₂ (λ x xs. x ∷ xs) (sym (atype_suc law t)) (scope_shifted law g)
+
+scope_args : (args : CTys) (g : List CTy) → types_of (atypes args) (map atype g) ≡ map atype (cargs_onto args g)
+scope_args NoCTys g = refl
+scope_args (MoreCTys t ts) g = scope_args ts (t ∷ g)
 
 pub field_full : (i : ℕ) (us : CTys) (u : CTy) → CField i us u → (j : ℕ) × (i ≡ suc j) × (afield_type (afull us) j ≡ Some (atype u)) × (afield_flag (afull us) j ≡ true)
 field_full i NoCTys u h = absurd h
@@ -247,7 +254,7 @@ module _ (P : AProp) (Q : CProp) (law : CLaws) (pa : (n : ℕ) (t : CTy) → Q n
 
     module _ (g : List CTy) (ls : List ℕ) where
       mutual
-        comes_v : (v : HVal) (t : CTy) (d : ℕ) (ag : List ATy) → HHasP Q ks n g v t → AgreeT d ls g ag → All-below n ag → Comes d ag (pre_v ks g ls d v) (v_next d v) (Typed ls d v t (v_next d v))
+        comes_v : (v : HVal) (t : CTy) (d : ℕ) (ag : List ATy) → HHasP Q ks n g v t → AgreeT d ls g ag → All-below n ag → Comes d ag (pre_v ks (map atype g) ls d v) (v_next d v) (Typed ls d v t (v_next d v))
         comes_v (HVar i) t d ag h a b = record { types = ag; checks = λ rest c. c; later = λ k x q. q; below = b; good = var_typed ls g i d ag t h.0 a h.1 }
         comes_v (HInt m) t d ag h a b = record { types = ag; checks = λ rest c. c; later = λ k x q. q; below = b; good = λ d3 ag3 k. record { fine = tt; is = ap (λ x. Some (atype x)) (sym h.1); each = subst (λ x. P n (atype x)) h.1 (pa n t h.0) } }
         comes_v (HLabel l) t d ag h a b = record { types = ag; checks = λ rest c. c; later = λ k x q. q; below = b; good = λ d3 ag3 k. (let e = label_typed l h.1 t ag h.2 h.3 in record { fine = tt; is = e; each = subst (λ o. P n (or_int o)) (sym e) (pa n t h.0) }) }
@@ -264,14 +271,14 @@ module _ (P : AProp) (Q : CProp) (law : CLaws) (pa : (n : ℕ) (t : CTy) → Q n
             let b2 : All-below n (old ∷ f.types) = declared_below p ok n f.types f.below (Malloc (atypes us)) dec in
             let on : Later l f.types (suc l) (old ∷ f.types) = λ k x q. at_more l f.types k x old q in
             let z = filled vs us NoCTys ls d l 0 f.types refl qt (typed_later vs us ls d l (suc l) f.types (old ∷ f.types) on f.good) b2 in
-            let full = ATuple (afull us) in
+            let whole = ATuple (afull us) in
             record {
-              types = full ∷ z.types;
-              checks = λ rest c. f.checks (Let (Malloc (atypes (h_types ks g vs))) (fill ls d l 1 vs rest)) (subst (λ ts. Both P p n f.types (Let (Malloc (atypes ts)) (fill ls d l 1 vs rest))) (sym read) (both_let P p n f.types (Malloc (atypes us)) (fill ls d l 1 vs rest) dec de (z.checks rest c)));
+              types = whole ∷ z.types;
+              checks = λ rest c. f.checks (Let (Malloc (v_types ks (map atype g) vs)) (fill ls d l 1 vs rest)) (subst (λ ts. Both P p n f.types (Let (Malloc ts) (fill ls d l 1 vs rest))) (sym read) (both_let P p n f.types (Malloc (atypes us)) (fill ls d l 1 vs rest) dec de (z.checks rest c)));
               later = λ k x q. z.later k x (on k x (f.later k x q));
               below = z.below;
               good = λ d3 ag3 k.
-                  (let e : slice_get ag3 (d3 - suc (final l vs)) ≡ Some (atype t) = (k (final l vs) full (at_new (final l vs) z.types full)).1 ∙ ap (λ x. Some (atype x)) (sym h.2) in
+                  (let e : slice_get ag3 (d3 - suc (final l vs)) ≡ Some (atype t) = (k (final l vs) whole (at_new (final l vs) z.types whole)).1 ∙ ap (λ x. Some (atype x)) (sym h.2) in
                   record { fine = tt; is = e; each = subst (λ o. P n (or_int o)) (sym e) (pa n t h.0) });
             }
         comes_v (HApply v ts) t d ag h a b =
@@ -297,7 +304,7 @@ module _ (P : AProp) (Q : CProp) (law : CLaws) (pa : (n : ℕ) (t : CTy) → Q n
                   record { fine = (atype h.1, w.fine, below_is law hid n h.4, below_is law s n h.5, ap atype h.2, w.is ∙ ap Some (atype_hidden law hid h.1)); is = ap (λ x. Some (atype x)) (sym h.3); each = (subst (λ x. P n (atype x)) h.3 (pa n t h.0), pa n hid h.6, w.each) });
             }
 
-        comes_vs : (vs : HVals) (ts : CTys) (d : ℕ) (ag : List ATy) → HHaveP Q ks n g vs ts → AgreeT d ls g ag → All-below n ag → Comes d ag (pre_vs ks g ls d vs) (vs_next d vs) (AllTyped ls d vs ts (vs_next d vs))
+        comes_vs : (vs : HVals) (ts : CTys) (d : ℕ) (ag : List ATy) → HHaveP Q ks n g vs ts → AgreeT d ls g ag → All-below n ag → Comes d ag (pre_vs ks (map atype g) ls d vs) (vs_next d vs) (AllTyped ls d vs ts (vs_next d vs))
         comes_vs NoHVals ts d ag h a b = record { types = ag; checks = λ rest c. c; later = λ k x q. q; below = b; good = subst (λ ts. AllTyped ls d NoHVals ts d ag) (sym h) tt }
         comes_vs (MoreHVals v vs) ts d ag h a b =
             let x = comes_v v h.0 d ag h.3 a b in
@@ -305,14 +312,14 @@ module _ (P : AProp) (Q : CProp) (law : CLaws) (pa : (n : ℕ) (t : CTy) → Q n
             let y = comes_vs vs h.1 d1 x.types h.4 (agree_later ls g d d1 ag x.types x.later a) x.below in
             record {
               types = y.types;
-              checks = λ rest c. x.checks (pre_vs ks g ls d1 vs rest) (y.checks rest c);
+              checks = λ rest c. x.checks (pre_vs ks (map atype g) ls d1 vs rest) (y.checks rest c);
               later = λ k u q. y.later k u (x.later k u q);
               below = y.below;
               good = subst (λ ts. AllTyped ls d (MoreHVals v vs) ts (vs_next d1 vs) y.types) (sym h.2) (λ d3 ag3 k. x.good d3 ag3 (λ p u q. k p u (y.later p u q)), y.good);
             }
 
   module _ (ks : HBlks) (p : AProg) (same : p ≡ alloc_prog ks) (ok : Args-below p) where
-    term_each : (t : HTm) (n : ℕ) (g : List CTy) (ls : List ℕ) (d : ℕ) (ag : List ATy) → HGoodP Q ks n g t → AgreeT d ls g ag → All-below n ag → Both P p n ag (alloc_t ks g ls d t)
+    term_each : (t : HTm) (n : ℕ) (g : List CTy) (ls : List ℕ) (d : ℕ) (ag : List ATy) → HGoodP Q ks n g t → AgreeT d ls g ag → All-below n ag → Both P p n ag (alloc_t ks (map atype g) ls d t)
     term_each (HLet (HName v) t) n g ls d ag h a b =
         let x = comes_v ks p same ok n g ls v h.0 d ag h.1 a b in
         let d2 = v_next d v in
@@ -321,29 +328,29 @@ module _ (P : AProp) (Q : CProp) (law : CLaws) (pa : (n : ℕ) (t : CTy) → Q n
         let e : HDecl = HName v in
         let dec : Decl-ok p n x.types (dcl ls d e) = (atype h.0, has_of P p n x.types _ _ w) in
         let now : declared p x.types (dcl ls d e) ≡ atype h.0 ∷ x.types = ap (λ o. or_int o ∷ x.types) w.is in
-        let rest = alloc_t ks (h.0 ∷ g) (d2 ∷ ls) (suc d2) t in
+        let rest = alloc_t ks (map atype (h.0 ∷ g)) (d2 ∷ ls) (suc d2) t in
         let good = term_each t n (h.0 ∷ g) (d2 ∷ ls) (suc d2) (atype h.0 ∷ x.types) h.2
         (at_new d2 x.types (atype h.0), agree_later ls g d (suc d2) ag (atype h.0 ∷ x.types) (λ k u q. at_more d2 x.types k u (atype h.0) (x.later k u q)) a)
         (subst (All-below n) now (declared_below p ok n x.types x.below (dcl ls d e) dec)) in
-        x.checks (Let (dcl ls d e) (alloc_t ks (d_types ks g e) (d2 ∷ ls) (suc d2) t))
-        (both_let P p n x.types (dcl ls d e) (alloc_t ks (d_types ks g e) (d2 ∷ ls) (suc d2) t) dec w.each (subst (λ q. Both P p n (declared p x.types (dcl ls d e)) (alloc_t ks (q ∷ g) (d2 ∷ ls) (suc d2) t)) (sym read) (subst (λ q. Both P p n q rest) (sym now) good)))
+        x.checks (Let (dcl ls d e) (alloc_t ks (d_types ks (map atype g) e) (d2 ∷ ls) (suc d2) t))
+        (both_let P p n x.types (dcl ls d e) (alloc_t ks (d_types ks (map atype g) e) (d2 ∷ ls) (suc d2) t) dec w.each (subst (λ q. Both P p n (declared p x.types (dcl ls d e)) (alloc_t ks (q ∷ map atype g) (d2 ∷ ls) (suc d2) t)) (sym read) (subst (λ q. Both P p n q rest) (sym now) good)))
     term_each (HLet (HProj i v) t) n g ls d ag h a b =
         let x = comes_v ks p same ok n g ls v (TCTuple h.0) d ag h.2 a b in
         let d2 = v_next d v in
         let w = x.good d2 x.types (λ k u q. q) in
         let u = h.1 in
         let e : HDecl = HProj i v in
-        let read : h_field i (h_type ks g v) ≡ u = ap (h_field i) (type_read Q law ks n g v (TCTuple h.0) h.2) ∙ field_read i h.0 u h.3 in
         let f = field_full i h.0 u h.3 in
+        let read : field_of i (Some (v_type ks (map atype g) v)) ≡ atype u = ap (λ q. field_of i (Some q)) (type_read Q law ks n g v (TCTuple h.0) h.2) ∙ ap (λ k. field_of k (Some (ATuple (afull h.0)))) f.1 ∙ ap or_int f.2 in
         let dec : Decl-ok p n x.types (dcl ls d e) = (afull h.0, f.0, atype u, has_of P p n x.types _ _ w, f.1, f.2, f.3) in
         let got : field_of i (type_of p x.types (val ls d d2 v)) ≡ atype u = ap (field_of i) w.is ∙ ap (λ j. field_of j (Some (ATuple (afull h.0)))) f.1 ∙ ap or_int f.2 in
         let now : declared p x.types (dcl ls d e) ≡ atype u ∷ x.types = ap (λ z. z ∷ x.types) got in
-        let rest = alloc_t ks (u ∷ g) (d2 ∷ ls) (suc d2) t in
+        let rest = alloc_t ks (map atype (u ∷ g)) (d2 ∷ ls) (suc d2) t in
         let good = term_each t n (u ∷ g) (d2 ∷ ls) (suc d2) (atype u ∷ x.types) h.5
         (at_new d2 x.types (atype u), agree_later ls g d (suc d2) ag (atype u ∷ x.types) (λ k z q. at_more d2 x.types k z (atype u) (x.later k z q)) a)
         (subst (All-below n) now (declared_below p ok n x.types x.below (dcl ls d e) dec)) in
-        x.checks (Let (dcl ls d e) (alloc_t ks (d_types ks g e) (d2 ∷ ls) (suc d2) t))
-        (both_let P p n x.types (dcl ls d e) (alloc_t ks (d_types ks g e) (d2 ∷ ls) (suc d2) t) dec (w.each, subst (P n) (sym got) (pa n u h.4)) (subst (λ q. Both P p n (declared p x.types (dcl ls d e)) (alloc_t ks (q ∷ g) (d2 ∷ ls) (suc d2) t)) (sym read) (subst (λ q. Both P p n q rest) (sym now) good)))
+        x.checks (Let (dcl ls d e) (alloc_t ks (d_types ks (map atype g) e) (d2 ∷ ls) (suc d2) t))
+        (both_let P p n x.types (dcl ls d e) (alloc_t ks (d_types ks (map atype g) e) (d2 ∷ ls) (suc d2) t) dec (w.each, subst (P n) (sym got) (pa n u h.4)) (subst (λ q. Both P p n (declared p x.types (dcl ls d e)) (alloc_t ks (q ∷ map atype g) (d2 ∷ ls) (suc d2) t)) (sym read) (subst (λ q. Both P p n q rest) (sym now) good)))
     term_each (HLet (HArith op v w) t) n g ls d ag h a b =
         let x = comes_v ks p same ok n g ls v TCInt d ag h.0 a b in
         let d1 = v_next d v in
@@ -354,8 +361,8 @@ module _ (P : AProp) (Q : CProp) (law : CLaws) (pa : (n : ℕ) (t : CTy) → Q n
         let yw = y.good d2 y.types (λ k u q. q) in
         let dec : Decl-ok p n y.types (dcl ls d e) = (has_of P p n y.types _ _ xw, has_of P p n y.types _ _ yw) in
         let de : DEach P p n y.types (dcl ls d e) = (xw.each, yw.each) in
-        let end = Let (dcl ls d e) (alloc_t ks (TCInt ∷ g) (d2 ∷ ls) (suc d2) t) in
-        x.checks (pre_v ks g ls d1 w end) (y.checks end (both_let P p n y.types (dcl ls d e) (alloc_t ks (TCInt ∷ g) (d2 ∷ ls) (suc d2) t) dec de
+        let end = Let (dcl ls d e) (alloc_t ks (map atype (TCInt ∷ g)) (d2 ∷ ls) (suc d2) t) in
+        x.checks (pre_v ks (map atype g) ls d1 w end) (y.checks end (both_let P p n y.types (dcl ls d e) (alloc_t ks (map atype (TCInt ∷ g)) (d2 ∷ ls) (suc d2) t) dec de
         (term_each t n (TCInt ∷ g) (d2 ∷ ls) (suc d2) (AInt ∷ y.types) h.2
         (at_new d2 y.types AInt, agree_later ls g d (suc d2) ag (AInt ∷ y.types) (λ k u q. at_more d2 y.types k u AInt (y.later k u (x.later k u q))) a) (tt, y.below))))
     term_each (HLet (HUnpack v) t) n g ls d ag h a b =
@@ -366,16 +373,16 @@ module _ (P : AProp) (Q : CProp) (law : CLaws) (pa : (n : ℕ) (t : CTy) → Q n
         let e : HDecl = HUnpack v in
         let gs = crens_scope suc g in
         let ag2 = map (ashift 1 0) x.types in
-        let read : h_body (h_type ks g v) ≡ u = ap h_body (type_read Q law ks n g v (TCSome u) h.1) in
+        let read : body_of (Some (v_type ks (map atype g) v)) ∷ map (ashift 1 0) (map atype g) ≡ map atype (u ∷ gs) = ap₂ (λ q qs. q ∷ qs) (ap (λ q. body_of (Some q)) (type_read Q law ks n g v (TCSome u) h.1)) (scope_shifted law g) in
         let dec : Decl-ok p n x.types (dcl ls d e) = (atype u, has_of P p n x.types _ _ w) in
         let got : body_of (type_of p x.types (val ls d d2 v)) ≡ atype u = ap body_of w.is in
         let now : declared p x.types (dcl ls d e) ≡ atype u ∷ ag2 = ap (λ z. z ∷ ag2) got in
-        let rest = alloc_t ks (u ∷ gs) (d2 ∷ ls) (suc d2) t in
+        let rest = alloc_t ks (map atype (u ∷ gs)) (d2 ∷ ls) (suc d2) t in
         let good = term_each t (suc n) (u ∷ gs) (d2 ∷ ls) (suc d2) (atype u ∷ ag2) h.3
         (at_new d2 ag2 (atype u), agree_later ls gs d2 (suc d2) ag2 (atype u ∷ ag2) (λ k z q. at_more d2 ag2 k z (atype u) q) (agree_shifted law ls g d2 x.types (agree_later ls g d d2 ag x.types x.later a)))
         (subst (All-below (suc n)) now (declared_below p ok n x.types x.below (dcl ls d e) dec)) in
-        x.checks (Let (dcl ls d e) (alloc_t ks (d_types ks g e) (d2 ∷ ls) (suc d2) t))
-        (both_let P p n x.types (dcl ls d e) (alloc_t ks (d_types ks g e) (d2 ∷ ls) (suc d2) t) dec (w.each, subst (P (suc n)) (sym got) (pa (suc n) u h.2)) (subst (λ q. Both P p (suc n) (declared p x.types (dcl ls d e)) (alloc_t ks (q ∷ gs) (d2 ∷ ls) (suc d2) t)) (sym read) (subst (λ q. Both P p (suc n) q rest) (sym now) good)))
+        x.checks (Let (dcl ls d e) (alloc_t ks (d_types ks (map atype g) e) (d2 ∷ ls) (suc d2) t))
+        (both_let P p n x.types (dcl ls d e) (alloc_t ks (d_types ks (map atype g) e) (d2 ∷ ls) (suc d2) t) dec (w.each, subst (P (suc n)) (sym got) (pa (suc n) u h.2)) (subst (λ q. Both P p (suc n) (declared p x.types (dcl ls d e)) (alloc_t ks q (d2 ∷ ls) (suc d2) t)) (sym read) (subst (λ q. Both P p (suc n) q rest) (sym now) good)))
     term_each (HCall f ts vs) n g ls d ag h a b =
         let us = h.0 in
         let to = csubs (names ts TCVar) us in
@@ -385,7 +392,7 @@ module _ (P : AProp) (Q : CProp) (law : CLaws) (pa : (n : ℕ) (t : CTy) → Q n
         let d2 = vs_next d1 vs in
         let end = Call (val ls d d2 f) (atypes ts) (vals ls d1 d2 vs) in
         let w = x.good d2 y.types y.later in
-        x.checks (pre_vs ks g ls d1 vs end) (y.checks end (
+        x.checks (pre_vs ks (map atype g) ls d1 vs end) (y.checks end (
           (ACode (ccount ts) (atypes us), atypes to, has_of P p n y.types _ _ w, types_below law ts n h.2, apply_is law ts 0 us, all_typed ks p same ok n vs to ls d1 d2 y.types y.good),
           (w.each, pas n ts h.3, all_each ks p same ok n vs to ls d1 d2 y.types y.good),
         ))
@@ -396,7 +403,7 @@ module _ (P : AProp) (Q : CProp) (law : CLaws) (pa : (n : ℕ) (t : CTy) → Q n
         let w = x.good d1 x.types (λ k z q. q) in
         let tw = term_each t n g ls d1 x.types h.1 a2 x.below in
         let uw = term_each u n g ls d1 x.types h.2 a2 x.below in
-        x.checks (If0 (val ls d d1 v) (alloc_t ks g ls d1 t) (alloc_t ks g ls d1 u)) ((has_of P p n x.types _ _ w, tw.0, uw.0), (w.each, tw.1, uw.1))
+        x.checks (If0 (val ls d d1 v) (alloc_t ks (map atype g) ls d1 t) (alloc_t ks (map atype g) ls d1 u)) ((has_of P p n x.types _ _ w, tw.0, uw.0), (w.each, tw.1, uw.1))
     term_each (HHalt v) n g ls d ag h a b =
         let x = comes_v ks p same ok n g ls v TCInt d ag h a b in
         let w = x.good (v_next d v) x.types (λ k z q. q) in
@@ -406,7 +413,7 @@ module _ (P : AProp) (Q : CProp) (law : CLaws) (pa : (n : ℕ) (t : CTy) → Q n
         let x = comes_v ks p same ok n g ls v u d ag h.1 a b in
         let d1 = v_next d v in
         let e : HDecl = HCell v in
-        let read : h_type ks g v ≡ u = type_read Q law ks n g v u h.1 in
+        let read : v_type ks (map atype g) v ≡ atype u = type_read Q law ks n g v u h.1 in
         let old = ATuple (MoreAFields (atype u) false NoAFields) in
         let cell = ATuple (MoreAFields (atype u) true NoAFields) in
         let w0 = x.good d1 x.types (λ k z q. q) in
@@ -418,11 +425,11 @@ module _ (P : AProp) (Q : CProp) (law : CLaws) (pa : (n : ℕ) (t : CTy) → Q n
         let dec : Decl-ok p n (old ∷ x.types) (dcl ls d e) = (MoreAFields (atype u) false NoAFields, 0, atype u, record { fine = tt; is = refl }, has_of P p n (old ∷ x.types) _ _ w1, refl, refl) in
         let de : DEach P p n (old ∷ x.types) (dcl ls d e) = (pc n u h.2, w1.each, pa n (TCRef u) h.2) in
         let b2 : All-below n (cell ∷ old ∷ x.types) = declared_below p ok n (old ∷ x.types) b1 (dcl ls d e) dec in
-        let rest = alloc_t ks (TCRef u ∷ g) (suc d1 ∷ ls) (suc (suc d1)) t in
+        let rest = alloc_t ks (map atype (TCRef u ∷ g)) (suc d1 ∷ ls) (suc (suc d1)) t in
         let good = term_each t n (TCRef u ∷ g) (suc d1 ∷ ls) (suc (suc d1)) (cell ∷ old ∷ x.types) h.3
         (at_new (suc d1) (old ∷ x.types) cell, agree_later ls g d (suc (suc d1)) ag (cell ∷ old ∷ x.types) (λ k z q. at_more (suc d1) (old ∷ x.types) k z cell (on k z (x.later k z q))) a) b2 in
-        x.checks (Let (Malloc (atypes (MoreCTys (h_type ks g v) NoCTys))) (Let (dcl ls d e) (alloc_t ks (TCRef (h_type ks g v) ∷ g) (suc d1 ∷ ls) (suc (suc d1)) t)))
-        (subst (λ q. Both P p n x.types (Let (Malloc (atypes (MoreCTys q NoCTys))) (Let (dcl ls d e) (alloc_t ks (TCRef q ∷ g) (suc d1 ∷ ls) (suc (suc d1)) t)))) (sym read)
+        x.checks (Let (Malloc (MoreATys (v_type ks (map atype g) v) NoATys)) (Let (dcl ls d e) (alloc_t ks (ATuple (MoreAFields (v_type ks (map atype g) v) true NoAFields) ∷ map atype g) (suc d1 ∷ ls) (suc (suc d1)) t)))
+        (subst (λ q. Both P p n x.types (Let (Malloc (MoreATys q NoATys)) (Let (dcl ls d e) (alloc_t ks (ATuple (MoreAFields q true NoAFields) ∷ map atype g) (suc d1 ∷ ls) (suc (suc d1)) t)))) (sym read)
         (both_let P p n x.types (Malloc (atypes (MoreCTys u NoCTys))) (Let (dcl ls d e) rest) dm em (both_let P p n (old ∷ x.types) (dcl ls d e) rest dec de good)))
     term_each (HLet (HGet v) t) n g ls d ag h a b =
         let u = h.0 in
@@ -430,17 +437,17 @@ module _ (P : AProp) (Q : CProp) (law : CLaws) (pa : (n : ℕ) (t : CTy) → Q n
         let d2 = v_next d v in
         let w = x.good d2 x.types (λ k z q. q) in
         let e : HDecl = HGet v in
-        let read : h_held (h_type ks g v) ≡ u = ap h_held (type_read Q law ks n g v (TCRef u) h.1) in
+        let read : field_of 1 (Some (v_type ks (map atype g) v)) ≡ atype u = ap (λ q. field_of 1 (Some q)) (type_read Q law ks n g v (TCRef u) h.1) in
         let dec : Decl-ok p n x.types (dcl ls d e) = (MoreAFields (atype u) true NoAFields, 0, atype u, has_of P p n x.types _ _ w, refl, refl, refl) in
         let got : field_of 1 (type_of p x.types (val ls d d2 v)) ≡ atype u = ap (field_of 1) w.is in
         let now : declared p x.types (dcl ls d e) ≡ atype u ∷ x.types = ap (λ z. z ∷ x.types) got in
-        let rest = alloc_t ks (u ∷ g) (d2 ∷ ls) (suc d2) t in
+        let rest = alloc_t ks (map atype (u ∷ g)) (d2 ∷ ls) (suc d2) t in
         let good = term_each t n (u ∷ g) (d2 ∷ ls) (suc d2) (atype u ∷ x.types) h.3
         (at_new d2 x.types (atype u), agree_later ls g d (suc d2) ag (atype u ∷ x.types) (λ k z q. at_more d2 x.types k z (atype u) (x.later k z q)) a)
         (subst (All-below n) now (declared_below p ok n x.types x.below (dcl ls d e) dec)) in
-        x.checks (Let (dcl ls d e) (alloc_t ks (d_types ks g e) (d2 ∷ ls) (suc d2) t))
-        (both_let P p n x.types (dcl ls d e) (alloc_t ks (d_types ks g e) (d2 ∷ ls) (suc d2) t) dec (w.each, subst (P n) (sym got) (pa n u h.2))
-        (subst (λ q. Both P p n (declared p x.types (dcl ls d e)) (alloc_t ks (q ∷ g) (d2 ∷ ls) (suc d2) t)) (sym read) (subst (λ q. Both P p n q rest) (sym now) good)))
+        x.checks (Let (dcl ls d e) (alloc_t ks (d_types ks (map atype g) e) (d2 ∷ ls) (suc d2) t))
+        (both_let P p n x.types (dcl ls d e) (alloc_t ks (d_types ks (map atype g) e) (d2 ∷ ls) (suc d2) t) dec (w.each, subst (P n) (sym got) (pa n u h.2))
+        (subst (λ q. Both P p n (declared p x.types (dcl ls d e)) (alloc_t ks (q ∷ map atype g) (d2 ∷ ls) (suc d2) t)) (sym read) (subst (λ q. Both P p n q rest) (sym now) good)))
     term_each (HLet (HSet v w) t) n g ls d ag h a b =
         let u = h.0 in
         let x = comes_v ks p same ok n g ls v (TCRef u) d ag h.1 a b in
@@ -457,18 +464,19 @@ module _ (P : AProp) (Q : CProp) (law : CLaws) (pa : (n : ℕ) (t : CTy) → Q n
         let de : DEach P p n y.types set = (c.each, yw.each, subst (P n) (sym got) (pa n (TCRef u) (own_of Q law ks n g v (TCRef u) h.1))) in
         let b1 : All-below n (cell ∷ y.types) = subst (All-below n) now (declared_below p ok n y.types y.below set dec) in
         let none = ATuple NoAFields in
-        let last = alloc_t ks (TCTuple NoCTys ∷ g) (suc d2 ∷ ls) (suc (suc d2)) t in
+        let last = alloc_t ks (map atype (TCTuple NoCTys ∷ g)) (suc d2 ∷ ls) (suc (suc d2)) t in
         let rest = Let (Malloc NoATys) last in
         let good = term_each t n (TCTuple NoCTys ∷ g) (suc d2 ∷ ls) (suc (suc d2)) (none ∷ cell ∷ y.types) h.4
         (at_new (suc d2) (cell ∷ y.types) none, agree_later ls g d (suc (suc d2)) ag (none ∷ cell ∷ y.types) (λ k z q. at_more (suc d2) (cell ∷ y.types) k z none (at_more d2 y.types k z cell (y.later k z (x.later k z q)))) a) (tt, b1) in
         let named = both_let P p n (cell ∷ y.types) (Malloc NoATys) last tt (tt, pa n (TCTuple NoCTys) h.3) good in
-        x.checks (pre_v ks g ls d1 w (Let set rest)) (y.checks (Let set rest) (both_let P p n y.types set rest dec de (subst (λ q. Both P p n q rest) (sym now) named)))
+        x.checks (pre_v ks (map atype g) ls d1 w (Let set rest)) (y.checks (Let set rest) (both_let P p n y.types set rest dec de (subst (λ q. Both P p n q rest) (sym now) named)))
 
   blocks_each : (ks xs : HBlks) → Args-below (alloc_prog ks) → AllGoodP Q ks xs → Blocks-ok (alloc_prog ks) (alloc_all ks xs) × BsEach P (alloc_prog ks) (alloc_all ks xs)
   blocks_each ks [] ok a = (tt, tt)
   blocks_each ks (x ∷ xs) ok a =
       let scoped = types_below law x.args x.owes a.0.0 in
-      let one = term_each ks (alloc_prog ks) refl ok x.body x.owes (cargs_onto x.args []) (arg_levels 0 [] x.args) (arg_depth 0 x.args) (types_of (atypes x.args) []) a.0.2 (agree_args x.args [] [] 0 [] tt) (below_args x.owes (atypes x.args) [] scoped tt) in
+      let body = term_each ks (alloc_prog ks) refl ok x.body x.owes (cargs_onto x.args []) (arg_levels 0 [] x.args) (arg_depth 0 x.args) (types_of (atypes x.args) []) a.0.2 (agree_args x.args [] [] 0 [] tt) (below_args x.owes (atypes x.args) [] scoped tt) in
+      let one = subst (λ q. Both P (alloc_prog ks) x.owes (types_of (atypes x.args) []) (alloc_t ks q (arg_levels 0 [] x.args) (arg_depth 0 x.args) x.body)) (sym (scope_args x.args [])) body in
       let more = blocks_each ks xs ok a.1 in
       (((scoped, one.0), more.0), ((pas x.owes x.args a.0.1, one.1), more.1))
 

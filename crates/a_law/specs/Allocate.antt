@@ -1,10 +1,9 @@
 -- Allocation: a tuple becomes its malloc and the initialisations of its fields, in order.
-use Rattle.std.specs.Prelude.{pos, ℕ, zero, suc, ◌-◌, List, [], ◌∷◌, Option, Some, None, true}
-use Rattle.std.specs.Prelude.{slice_get}
-use Rattle.a_terms.specs.Tree.{ABlk, AProg, ACode, ADecl, AExists, AFields, AInt, ATm, ATuple, ATy, ATys, AVal, AVar, Apply, Arith, Call, Halt, If0, Init, Lab, Let, Malloc, MoreAFields, MoreATys, NoAFields, NoATys, Num, Pack, Proj, Unpack, Value, Var}
+use Rattle.std.specs.Prelude.{pos, ℕ, suc, ◌-◌, List, [], ◌∷◌, Option, Some, None, true}
+use Rattle.std.specs.Prelude.{map, slice_get}
+use Rattle.a_terms.specs.Tree.{ABlk, AProg, ACode, ADecl, AExists, AFields, AInt, ATm, ATuple, ATy, ATys, AVal, AVar, Apply, Arith, Call, Halt, If0, Init, Lab, Let, Malloc, MoreAFields, MoreATys, NoAFields, NoATys, Num, Pack, Proj, Unpack, Value, Var, ashift}
+use Rattle.a_terms.specs.Typing.{aapply, aset, body_of, field_of, or_int, types_of}
 use Rattle.c_terms.specs.C.{CTy, CTys, MoreCTys, NoCTys, TCCode, TCInt, TCRef, TCSome, TCTuple, TCVar}
-use Rattle.c_terms.specs.Puts.{capply}
-use Rattle.c_terms.specs.Typing.{cargs_onto, crens_scope}
 use Rattle.h_terms.specs.H.{HApply, HArith, HBlk, HBlks, HCall, HCell, HDecl, HGet, HHalt, HIf, HInt, HLabel, HLet, HName, HPack, HProj, HSet, HTm, HTuple, HUnpack, HVal, HVals, HVar, MoreHVals, NoHVals, block_at}
 
 -- every field of a tuple's type has flag 1
@@ -25,66 +24,34 @@ abbrev mutual
   afull NoCTys = NoAFields
   afull (MoreCTys t ts) = MoreAFields (atype t) true (afull ts)
 
--- the type of a value, read off; any type where it has none
-abbrev pub type_or : Option CTy → CTy
-type_or None = TCInt
-type_or (Some t) = t
+-- the type of the code at a label
+abbrev pub h_code : Option HBlk → ATy
+h_code None = AInt
+h_code (Some k) = ACode k.owes (atypes k.args)
 
-abbrev pub h_code : Option HBlk → CTy
-h_code None = TCInt
-h_code (Some k) = TCCode k.owes k.args
-
-abbrev pub h_body : CTy → CTy
-h_body TCInt = TCInt
-h_body (TCVar i) = TCInt
-h_body (TCTuple ts) = TCInt
-h_body (TCCode n ts) = TCInt
-h_body (TCSome t) = t
-h_body (TCRef t) = TCInt
-
-abbrev pub h_held : CTy → CTy
-h_held TCInt = TCInt
-h_held (TCVar i) = TCInt
-h_held (TCTuple ts) = TCInt
-h_held (TCCode n ts) = TCInt
-h_held (TCSome t) = TCInt
-h_held (TCRef t) = t
-
-abbrev pub types_at : ℕ → CTys → CTy
-types_at i NoCTys = TCInt
-types_at zero (MoreCTys u us) = TCInt
-types_at (suc zero) (MoreCTys u us) = u
-types_at (suc (suc i)) (MoreCTys u us) = types_at (suc i) us
-
-abbrev pub h_field : ℕ → CTy → CTy
-h_field i TCInt = TCInt
-h_field i (TCVar j) = TCInt
-h_field i (TCTuple ts) = types_at i ts
-h_field i (TCCode n ts) = TCInt
-h_field i (TCSome t) = TCInt
-h_field i (TCRef t) = TCInt
-
+-- the type of a value's allocation, where g are those of the variables; any type where it has none
 abbrev mutual
-  pub h_type : HBlks → List CTy → HVal → CTy
-  h_type ks g (HVar i) = type_or (slice_get g i)
-  h_type ks g (HInt n) = TCInt
-  h_type ks g (HLabel l) = h_code (block_at ks l)
-  h_type ks g (HTuple vs) = TCTuple (h_types ks g vs)
-  h_type ks g (HApply v ts) = type_or (capply (h_type ks g v) ts)
-  h_type ks g (HPack h v s) = s
+  pub v_type : HBlks → List ATy → HVal → ATy
+  v_type ks g (HVar i) = or_int (slice_get g i)
+  v_type ks g (HInt n) = AInt
+  v_type ks g (HLabel l) = h_code (block_at ks l)
+  v_type ks g (HTuple vs) = ATuple (aset (v_types ks g vs))
+  v_type ks g (HApply v ts) = or_int (aapply (v_type ks g v) (atypes ts))
+  v_type ks g (HPack h v s) = atype s
 
-  pub h_types : HBlks → List CTy → HVals → CTys
-  h_types ks g NoHVals = NoCTys
-  h_types ks g (MoreHVals v vs) = MoreCTys (h_type ks g v) (h_types ks g vs)
+  pub v_types : HBlks → List ATy → HVals → ATys
+  v_types ks g NoHVals = NoATys
+  v_types ks g (MoreHVals v vs) = MoreATys (v_type ks g v) (v_types ks g vs)
 
-abbrev pub d_types : HBlks → List CTy → HDecl → List CTy
-d_types ks g (HName v) = h_type ks g v ∷ g
-d_types ks g (HProj i v) = h_field i (h_type ks g v) ∷ g
-d_types ks g (HArith op v w) = TCInt ∷ g
-d_types ks g (HUnpack v) = h_body (h_type ks g v) ∷ crens_scope suc g
-d_types ks g (HCell v) = TCRef (h_type ks g v) ∷ g
-d_types ks g (HGet v) = h_held (h_type ks g v) ∷ g
-d_types ks g (HSet v w) = TCTuple NoCTys ∷ g
+-- the types of the variables after a declaration
+abbrev pub d_types : HBlks → List ATy → HDecl → List ATy
+d_types ks g (HName v) = v_type ks g v ∷ g
+d_types ks g (HProj i v) = field_of i (Some (v_type ks g v)) ∷ g
+d_types ks g (HArith op v w) = AInt ∷ g
+d_types ks g (HUnpack v) = body_of (Some (v_type ks g v)) ∷ map (ashift 1 0) g
+d_types ks g (HCell v) = ATuple (MoreAFields (v_type ks g v) true NoAFields) ∷ g
+d_types ks g (HGet v) = field_of 1 (Some (v_type ks g v)) ∷ g
+d_types ks g (HSet v w) = ATuple NoAFields ∷ g
 
 -- the level of a tuple whose malloc has level l: each initialisation names it anew
 abbrev pub final : ℕ → HVals → ℕ
@@ -141,24 +108,24 @@ fill ls e l i (MoreHVals v vs) rest = Let (Init (Var 0) i (val ls e (suc l) v)) 
 
 -- a tree's tuples are made, and then the rest
 abbrev mutual
-  pub pre_v : HBlks → List CTy → List ℕ → ℕ → HVal → ATm → ATm
+  pub pre_v : HBlks → List ATy → List ℕ → ℕ → HVal → ATm → ATm
   pre_v ks g ls d (HVar i) rest = rest
   pre_v ks g ls d (HInt n) rest = rest
   pre_v ks g ls d (HLabel l) rest = rest
-  pre_v ks g ls d (HTuple vs) rest = pre_vs ks g ls d vs (Let (Malloc (atypes (h_types ks g vs))) (fill ls d (vs_next d vs) 1 vs rest))
+  pre_v ks g ls d (HTuple vs) rest = pre_vs ks g ls d vs (Let (Malloc (v_types ks g vs)) (fill ls d (vs_next d vs) 1 vs rest))
   pre_v ks g ls d (HApply v ts) rest = pre_v ks g ls d v rest
   pre_v ks g ls d (HPack h v s) rest = pre_v ks g ls d v rest
 
-  pub pre_vs : HBlks → List CTy → List ℕ → ℕ → HVals → ATm → ATm
+  pub pre_vs : HBlks → List ATy → List ℕ → ℕ → HVals → ATm → ATm
   pre_vs ks g ls d NoHVals rest = rest
   pre_vs ks g ls d (MoreHVals v vs) rest = pre_v ks g ls d v (pre_vs ks g ls (v_next d v) vs rest)
 
-abbrev pub pre_d : HBlks → List CTy → List ℕ → ℕ → HDecl → ATm → ATm
+abbrev pub pre_d : HBlks → List ATy → List ℕ → ℕ → HDecl → ATm → ATm
 pre_d ks g ls d (HName v) rest = pre_v ks g ls d v rest
 pre_d ks g ls d (HProj i v) rest = pre_v ks g ls d v rest
 pre_d ks g ls d (HArith op v w) rest = pre_v ks g ls d v (pre_v ks g ls (v_next d v) w rest)
 pre_d ks g ls d (HUnpack v) rest = pre_v ks g ls d v rest
-pre_d ks g ls d (HCell v) rest = pre_v ks g ls d v (Let (Malloc (atypes (MoreCTys (h_type ks g v) NoCTys))) rest)
+pre_d ks g ls d (HCell v) rest = pre_v ks g ls d v (Let (Malloc (MoreATys (v_type ks g v) NoATys)) rest)
 pre_d ks g ls d (HGet v) rest = pre_v ks g ls d v rest
 pre_d ks g ls d (HSet v w) rest =
     pre_v ks g ls d v (pre_v ks g ls (v_next d v) w (Let (Init (val ls d (v_next (v_next d v) w) v) 1 (val ls (v_next d v) (v_next (v_next d v) w) w)) rest))
@@ -172,7 +139,7 @@ dcl ls d (HCell v) = Init (Var 0) 1 (val ls d (suc (v_next d v)) v)
 dcl ls d (HGet v) = Proj 1 (val ls d (v_next d v) v)
 dcl ls d (HSet v w) = Malloc NoATys
 
-abbrev pub alloc_t : HBlks → List CTy → List ℕ → ℕ → HTm → ATm
+abbrev pub alloc_t : HBlks → List ATy → List ℕ → ℕ → HTm → ATm
 alloc_t ks g ls d (HLet e t) = pre_d ks g ls d e (Let (dcl ls d e) (alloc_t ks (d_types ks g e) (d_next d e ∷ ls) (suc (d_next d e)) t))
 alloc_t ks g ls d (HCall f ts vs) =
     pre_v ks g ls d f (pre_vs ks g ls (v_next d f) vs (Call (val ls d (vs_next (v_next d f) vs) f) (atypes ts) (vals ls (v_next d f) (vs_next (v_next d f) vs) vs)))
@@ -192,7 +159,7 @@ abbrev pub alloc_block : HBlks → HBlk → ABlk
 alloc_block ks k = record {
   owes = k.owes;
   args = atypes k.args;
-  body = alloc_t ks (cargs_onto k.args []) (arg_levels 0 [] k.args) (arg_depth 0 k.args) k.body;
+  body = alloc_t ks (types_of (atypes k.args) []) (arg_levels 0 [] k.args) (arg_depth 0 k.args) k.body;
 }
 
 abbrev pub alloc_all : HBlks → HBlks → List ABlk

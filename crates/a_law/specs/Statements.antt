@@ -1,9 +1,11 @@
 -- What allocation keeps.
-use Rattle.std.specs.Prelude.{◌≡◌, ℕ, List, [], ◌∷◌}
+use Rattle.std.specs.Prelude.{◌≡◌, ◌≤◌, ◌*◌, ℕ, List, [], ◌∷◌}
 use Rattle.term_core.specs.Ends.{End, Halted, Spent, Stuck, Result}
+use Rattle.h_terms.specs.Bound.{HFits}
 use Rattle.h_terms.specs.H.{HTm, HBlks}
 use Rattle.h_terms.specs.Meaning.{hrun}
 use Rattle.h_terms.specs.Typing.{HProgramGood}
+use Rattle.a_terms.specs.Bound.{AFits}
 use Rattle.a_terms.specs.Meaning as A
 use Rattle.a_terms.specs.Typing.{Program-ok}
 use Rattle.a_law.specs.Allocate.{alloc_prog, alloc_main}
@@ -29,3 +31,8 @@ AllocKept = (ks : HBlks) (t : HTm) → HProgramGood ks t → (n : ℕ) → A.mea
 -- the allocation of a typed program is typed
 abbrev pub AllocTypesKept : Type 0
 AllocTypesKept = (ks : HBlks) (t : HTm) → HProgramGood ks t → Program-ok (alloc_prog ks) (alloc_main ks t)
+
+-- the allocation of a program within bounds is within bounds: reach and names grow by nothing, and variables at most
+-- threefold
+abbrev pub AllocFits : Type 0
+AllocFits = (N M R : ℕ) → 3 * N ≤ M → (ks : HBlks) (t : HTm) → HFits N R ks t → AFits M R (alloc_prog ks) (alloc_main ks t)

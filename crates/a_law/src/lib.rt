@@ -1,2 +1,40 @@
 //! Allocation on plain trees, and what it keeps.
 #![tactic(auto)]
+
+ghost use Rattle.a_law.specs.Back.{PutsBack};
+ghost use Rattle.a_law.specs.Stands.{AllocStands};
+ghost use Rattle.a_law.specs.Statements.{AllocFits, AllocKept, AllocTypesKept};
+
+/// A typed program and its allocation end alike within each number of calls, and enter the same blocks.
+pub fn meaning_is_kept()
+    ensures { AllocKept }
+{
+    h_terms::laws::h_never_stuck_law();
+}
+
+/// The allocation of a typed program is typed.
+pub fn types_are_kept()
+    ensures { AllocTypesKept }
+{
+    c_terms::laws::words_law();
+    c_terms::laws::one_by_one_law();
+    h_terms::laws::h_typed_is_any_law();
+}
+
+/// The allocation of a program within bounds is within bounds.
+pub fn bounds_are_kept()
+    ensures { AllocFits }
+{
+    c_terms::laws::words_law();
+    c_terms::laws::one_by_one_law();
+}
+
+/// The allocation of a typed program stands for it.
+pub fn allocation_stands_for_its_program()
+    ensures { AllocStands }
+{}
+
+/// Where no cell stands, the tuples of the allocation put back and the flags dropped give the hoisted program.
+pub fn tuples_are_put_back()
+    ensures { PutsBack }
+{}

@@ -1,5 +1,6 @@
 mod Closing
-mod Parts
+mod Fields
+mod Each
 mod Rows
 mod Sound
 mod Trees

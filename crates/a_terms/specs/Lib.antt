@@ -4,6 +4,7 @@ pub mod Each
 pub mod Laws
 pub mod Meaning
 pub mod NodeTrees
+pub mod Program
 pub mod Read
 pub mod Row
 pub mod SizeLaws

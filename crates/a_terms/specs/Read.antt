@@ -1,5 +1,5 @@
 -- The plain trees of the program's types.
-use Rattle.std.specs.Prelude.{Bool, List, [], ◌∷◌}
+use Rattle.std.specs.Prelude.{Bool, List, [], ◌∷◌, Option, Some, None}
 use Rattle.a_terms.specs.Tree as a
 use Rattle.a_terms.specs.declared.types.AType.{AType, Row_of-AType-Tuple-0-2 as FieldRow, end_of-AType-Tuple-0-2 as end_of_fields, more_of-AType-Tuple-0-2 as more_of_fields, Row_of-AType, end_of-AType, more_of-AType}
 use Rattle.a_terms.specs.declared.types.AType.TheVariants as A
@@ -27,3 +27,8 @@ atrees (t ∷ ts) = a.MoreATys (atree t) (atrees ts)
 abbrev pub afields : List (AType × Bool) → a.AFields
 afields [] = a.NoAFields
 afields (t ∷ ts) = a.MoreAFields (atree t.0) t.1 (afields ts)
+
+-- a type, if there is one
+abbrev pub maybe : Option AType → Option a.ATy
+maybe None = None
+maybe (Some t) = Some (atree t)

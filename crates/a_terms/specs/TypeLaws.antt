@@ -1,9 +1,9 @@
 -- Shift, put and below of the types of the allocated calculus, from the general laws; and what code applied to types has.
 use Rattle.std.proofs.Common.{◌≡◌, ℕ, zero, suc, ◌+◌, ◌≤◌, List, [], ◌∷◌, length, map, Some, None, Option, refl, sym, ap, ◌∙◌, subst, arith, slice_get}
 use Rattle.idx_core.specs.Over.{BelowAt, AnyDepth}
-use Rattle.idx_core.specs.Laws.{deep_is}
+use Rattle.idx_core.specs.Laws.{deep_is, shifted_ge}
 use Rattle.idx_core.specs.Laws as law
-use Rattle.a_terms.specs.Tree.{ATy, AInt, AVar, ATuple, ACode, AExists, ATys, NoATys, MoreATys, AFields, NoAFields, MoreAFields, ABlk, AConst, AConsts, AProg, AVal, Var, Num, Lab, Data, Apply, Pack, ADecl, Value, Proj, Arith, Unpack, Malloc, Init, ashift, aput, aput_types, ABelow, ABelow-types, ABelow-fields, arity}
+use Rattle.a_terms.specs.Tree.{ATy, AInt, AVar, ATuple, ACode, AExists, ATys, NoATys, MoreATys, AFields, NoAFields, MoreAFields, ABlk, AConst, AConsts, AProg, AVal, Var, Num, Lab, Data, Apply, Pack, ADecl, Value, Proj, Arith, Unpack, Malloc, Init, ashift, ashift_fields, aput, aput_types, ABelow, ABelow-types, ABelow-fields, arity}
 use Rattle.a_terms.specs.TreeLaws.{a_part, a_each, a_over, a_types_over, a_types_each, a_fields_over, a_fields_each}
 use Rattle.a_terms.specs.Typing.{aapply, afield_type, afilled, aunset, code_type, data_fields, data_type, applied, type_of, Fine, Has, or_int, field_of, body_of, filled_of, declared, more_vars, Decl-ok, types_of, Blocks-ok, Data-ok, Tuples-ok}
 
@@ -176,3 +176,31 @@ length_types (MoreATys t ts) g = length_types ts (t ∷ g) ∙ omega arith
 
 pub length_types_of : (ts : ATys) → length (types_of ts []) ≡ arity ts
 length_types_of ts = length_types ts [] ∙ omega arith
+
+-- a part of a type under more names is the part under them
+pub field_shift : (by i : ℕ) (t : ATy) → field_of i (Some (ashift by 0 t)) ≡ ashift by 0 (field_of i (Some t))
+field_shift by i AInt = refl
+field_shift by i (AVar n) = ap (λ u. field_of i (Some u)) (shifted_ge AVar by 0 n (omega arith))
+field_shift by zero (ATuple fs) = refl
+field_shift by (suc i) (ATuple fs) = go fs i
+  where
+    go : (gs : AFields) (j : ℕ) → or_int (afield_type (ashift_fields by 0 gs) j) ≡ ashift by 0 (or_int (afield_type gs j))
+    go NoAFields j = refl
+    go (MoreAFields t b gs) zero = refl
+    go (MoreAFields t b gs) (suc j) = go gs j
+field_shift by i (ACode n ts) = refl
+field_shift by i (AExists t) = refl
+
+pub body_shift : (by : ℕ) (t : ATy) → body_of (Some (ashift by 0 t)) ≡ ashift by 1 (body_of (Some t))
+body_shift by AInt = refl
+body_shift by (AVar n) = ap (λ u. body_of (Some u)) (shifted_ge AVar by 0 n (omega arith))
+body_shift by (ATuple fs) = refl
+body_shift by (ACode n ts) = refl
+body_shift by (AExists t) = refl
+
+-- shifts add up, and a shift by none is none
+pub shift_more : (m n : ℕ) (t : ATy) → ashift n 0 (ashift m 0 t) ≡ ashift (m + n) 0 t
+shift_more m n t = law.shift_add_law a_part a_over m n 0 t
+
+pub shift_none : (t : ATy) → ashift 0 0 t ≡ t
+shift_none t = law.shift_zero_law a_over 0 t

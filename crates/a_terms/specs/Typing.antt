@@ -31,6 +31,11 @@ abbrev pub aunset : ATys → AFields
 aunset NoATys = NoAFields
 aunset (MoreATys t ts) = MoreAFields t false (aunset ts)
 
+-- and fields that are all initialised
+abbrev pub aset : ATys → AFields
+aset NoATys = NoAFields
+aset (MoreATys t ts) = MoreAFields t true (aset ts)
+
 abbrev pub code_type : Option ABlk → Option ATy
 code_type None = None
 code_type (Some b) = Some (ACode b.owes b.args)

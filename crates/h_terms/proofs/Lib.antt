@@ -1,3 +1,4 @@
 pub mod Sound
 pub mod Each
 pub mod Mono
+pub mod TypeTrees

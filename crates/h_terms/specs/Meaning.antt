@@ -2,9 +2,9 @@
 use Rattle.std.specs.Prelude.{ℤ, pos, ℕ, zero, suc, nat_eq, Option, Some, None}
 use Rattle.idx_core.specs.declared.arith.Op.{Op}
 use Rattle.idx_core.specs.Arith.{compute, is_zero}
-use Rattle.term_core.specs.Ends.{if_fits, pick, Halted, Spent, Stuck, Result, stops, enters}
+use Rattle.term_core.specs.Ends.{Halted, Result, Spent, Stuck, enters, if_fits, pick, stops}
 use Rattle.c_terms.specs.C.{ccount}
-use Rattle.h_terms.specs.H.{HVal, HVar, HInt, HLabel, HTuple, HApply, HPack, HVals, NoHVals, MoreHVals, HDecl, HName, HProj, HArith, HUnpack, HCell, HGet, HSet, HTm, HLet, HCall, HIf, HHalt, HBlk, HBlks, block_at}
+use Rattle.h_terms.specs.H.{HApply, HArith, HBlk, HBlks, HCall, HCell, HDecl, HGet, HHalt, HIf, HInt, HLabel, HLet, HName, HPack, HProj, HSet, HTm, HTuple, HUnpack, HVal, HVals, HVar, MoreHVals, NoHVals, block_at}
 
 -- a value: an integer, a tuple, a label, or a cell, named by its place in the store
 mutual

@@ -1,9 +1,9 @@
 -- Typing of hoisted programs.
 use Rattle.std.specs.Prelude.{◌≡◌, ℕ, suc, List, [], ◌∷◌, Some}
 use Rattle.term_core.specs.Ends.{lift}
-use Rattle.c_terms.specs.C.{CTy, CTys, TCInt, TCVar, TCTuple, TCCode, TCSome, TCRef, NoCTys, MoreCTys, ccount}
-use Rattle.c_terms.specs.Typing.{CIn, CIns, CAt, CField, cup, csub, csubs, scons, names, cargs_onto, crens_scope}
-use Rattle.h_terms.specs.H.{HVal, HVar, HInt, HLabel, HTuple, HApply, HPack, HVals, NoHVals, MoreHVals, HName, HProj, HArith, HUnpack, HCell, HGet, HSet, HTm, HLet, HCall, HIf, HHalt, HBlk, HBlks, block_at}
+use Rattle.c_terms.specs.C.{CTy, CTys, MoreCTys, NoCTys, TCCode, TCInt, TCRef, TCSome, TCTuple, TCVar, ccount}
+use Rattle.c_terms.specs.Typing.{CAt, CField, CIn, CIns, cargs_onto, crens_scope, csub, csubs, cup, names, scons}
+use Rattle.h_terms.specs.H.{HApply, HArith, HBlk, HBlks, HCall, HCell, HGet, HHalt, HIf, HInt, HLabel, HLet, HName, HPack, HProj, HSet, HTm, HTuple, HUnpack, HVal, HVals, HVar, MoreHVals, NoHVals, block_at}
 
 abbrev mutual
   pub HHas : HBlks → ℕ → List CTy → HVal → CTy → Type 0

@@ -1,24 +1,11 @@
-//! Hoisted programs.
+//! Hoisted programs: labelled blocks and a main term, their terms as flat lists of nodes.
 #![tactic(auto)]
 
-ghost use Rattle.h_terms.specs.Laws.{HNeverStuck, HTypedIsAny, HWithinIsTyped, HFitsMore};
+pub mod access;
+pub mod copying;
+pub mod laws;
+pub mod node;
+pub mod program;
 
-/// A typed program is never stuck.
-pub fn h_never_stuck_law()
-    ensures { HNeverStuck }
-{}
-
-/// Typing is typing with the property that every type has.
-pub fn h_typed_is_any_law()
-    ensures { HTypedIsAny }
-{}
-
-/// Typing within bounds is typing.
-pub fn h_within_is_typed_law()
-    ensures { HWithinIsTyped }
-{}
-
-/// A program within bounds is within any larger ones.
-pub fn h_fits_more_law()
-    ensures { HFitsMore }
-{}
+pub use node::{HBlock, HForm, HNode, HPart};
+pub use program::HProgram;

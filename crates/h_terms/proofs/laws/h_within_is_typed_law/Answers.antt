@@ -1,4 +1,4 @@
-use Rattle.h_terms.proofs.h_within_is_typed_law.Goals as goal
+use Rattle.h_terms.proofs.laws.h_within_is_typed_law.Goals as goal
 use Rattle.c_terms.specs.Reach.{CWithin}
 use Rattle.h_terms.proofs.Each.{plain_program}
 

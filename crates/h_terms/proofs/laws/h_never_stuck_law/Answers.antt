@@ -1,5 +1,5 @@
 use Rattle.std.proofs.Common.{subst}
-use Rattle.h_terms.proofs.h_never_stuck_law.Goals as goal
+use Rattle.h_terms.proofs.laws.h_never_stuck_law.Goals as goal
 use Rattle.h_terms.proofs.Sound.{Fine, h_never_stuck}
 
 pub returns : goal.returns

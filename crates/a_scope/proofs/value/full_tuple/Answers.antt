@@ -5,7 +5,7 @@ use Rattle.a_terms.specs.Typing.{data_fields}
 use Rattle.a_terms.specs.NodeTrees.{a_consts}
 use Rattle.a_scope.proofs.Trees.{a_tuple}
 use Rattle.a_scope.proofs.Tuples.{full_push}
-use Rattle.a_scope.proofs.fields.full_tuple.Goals as goal
+use Rattle.a_scope.proofs.value.full_tuple.Goals as goal
 
 pub loop-c-preserved : goal.loop-c-preserved
 loop-c-preserved c = full_push _ _ c.args.consts.now c.loop-c.c-index c.c-item.result _ c.loop-c-test.true c.c-item.is c.in_ok-push.ensures.items c.in_ok-one.ensures c.loop-c.invariant

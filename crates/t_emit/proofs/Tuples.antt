@@ -3,12 +3,11 @@ use Rattle.std.proofs.Common.{◌≡◌, ℕ, ◌+◌, ◌<◌, ◌++◌, List, 
 use Rattle.idx_core.specs.declared.span.Span.{Span}
 use Rattle.t_types.specs.Read.{tree}
 use Rattle.t_types.specs.declared.types.TType.{TType}
-use Rattle.t_terms.specs.Tree.{TDatum, TData}
+use Rattle.t_terms.specs.Tree.{TData}
 use Rattle.t_terms.specs.Spanned.{plain_fields}
 use Rattle.t_terms.specs.Read.{value, data_fields, data_of as data_trees}
 use Rattle.t_terms.specs.declared.value.Value.{Value}
 use Rattle.t_terms.specs.declared.data.Data.{Data}
-use Rattle.a_terms.specs.Tree as a
 use Rattle.a_terms.specs.Read.{atree}
 use Rattle.a_terms.specs.NodeTrees.{a_value, a_consts, a_data}
 use Rattle.a_terms.specs.declared.types.AType.{AType}

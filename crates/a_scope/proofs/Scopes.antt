@@ -1,13 +1,12 @@
 -- Variables in scope, and types of values.
-use Rattle.std.proofs.Common.{◌≡◌, ℕ, zero, suc, ◌+◌, ◌-◌, ◌<◌, ◌≤◌, ◌++◌, List, [], ◌∷◌, length, map, drop, take, get_or, Bool, true, slice_get, set, Option, Some, None, refl, sym, ap, ap₂, ◌∙◌, subst, arith, length-append}
-use Rattle.std.proofs.lemmas.List.{drop_more, take_more, take_all}
+use Rattle.std.proofs.Common.{◌≡◌, ℕ, zero, suc, ◌+◌, ◌-◌, ◌<◌, ◌≤◌, ◌++◌, List, [], ◌∷◌, length, map, take, get_or, slice_get, Option, Some, None, refl, sym, ap, ap₂, ◌∙◌, subst, arith, length-append}
+use Rattle.std.proofs.lemmas.List.{take_more, take_all}
 use Rattle.idx_core.specs.Laws.{shift_zero_law, shift_add_law}
 use Rattle.a_terms.specs.Tree as a
 use Rattle.a_terms.specs.Tree.{ashift, ashift_fields, aput_types}
 use Rattle.a_terms.specs.TreeLaws.{a_part, a_over}
-use Rattle.a_terms.specs.Typing.{applied, type_of, code_type, data_fields, data_type, afilled, field_of, filled_of, declared, more_vars}
-use Rattle.a_terms.specs.Read.{atree, atrees, afields}
-use Rattle.a_terms.specs.declared.types.AType.{AType}
+use Rattle.a_terms.specs.Typing.{type_of, code_type, data_fields, data_type, declared, more_vars}
+use Rattle.a_terms.specs.Read.{atree, atrees}
 use Rattle.a_terms.specs.NodeTrees.{wrap, wrapped, a_blocks, a_consts, a_data}
 use Rattle.a_terms.specs.declared.nodes.AWrap.{AWrap}
 use Rattle.a_terms.specs.declared.nodes.AData.{AData}
@@ -15,42 +14,6 @@ use Rattle.a_terms.specs.declared.nodes.AWrap.TheVariants.{Apply, Pack}
 use Rattle.a_terms.specs.declared.nodes.ABlock.{ABlock}
 use Rattle.a_scope.specs.Scope.{shown, scope, Under, wrap_type, decl_ty}
 use Rattle.a_scope.specs.declared.scope.Entry.{Entry}
-
--- fields
-pub field_in : (by : ℕ) (xs : List (AType × Bool)) (i k : ℕ) (x : AType × Bool) → i ≡ suc k → k < length xs → x ≡ get_or xs k x → ashift by 0 (atree x.0) ≡ field_of i (Some (a.ATuple (ashift_fields by 0 (afields xs))))
-field_in by xs i k x e lt is = go xs k lt is ∙ ap (λ j. field_of j (Some (a.ATuple (ashift_fields by 0 (afields xs))))) (sym e)
-  where
-    go : (ys : List (AType × Bool)) (k : ℕ) → k < length ys → x ≡ get_or ys k x → ashift by 0 (atree x.0) ≡ field_of (suc k) (Some (a.ATuple (ashift_fields by 0 (afields ys))))
-    go [] k lt is = absurd (omega arith)
-    go (y ∷ ys) zero lt is = ap (λ (z : AType × Bool). ashift by 0 (atree z.0)) is
-    go (y ∷ ys) (suc k) lt is = go ys k (omega arith) is
-
-pub field_zero : (i : ℕ) (t : a.ATy) → field_of i (Some (ashift 0 0 t)) ≡ field_of i (Some t)
-field_zero i t = ap (λ u. field_of i (Some u)) (shift_zero_law a_over 0 t)
-
-pub field_out : (by : ℕ) (xs : List (AType × Bool)) (i k : ℕ) → i ≡ suc k → length xs ≤ k → a.AInt ≡ field_of i (Some (a.ATuple (ashift_fields by 0 (afields xs))))
-field_out by xs i k e le = go xs k le ∙ ap (λ j. field_of j (Some (a.ATuple (ashift_fields by 0 (afields xs))))) (sym e)
-  where
-    go : (ys : List (AType × Bool)) (k : ℕ) → length ys ≤ k → a.AInt ≡ field_of (suc k) (Some (a.ATuple (ashift_fields by 0 (afields ys))))
-    go [] k le = refl
-    go (y ∷ ys) zero le = absurd (omega arith)
-    go (y ∷ ys) (suc k) le = go ys k (omega arith)
-
-pub filled_in : (xs : List (AType × Bool)) (i k : ℕ) (x : AType × Bool) → i ≡ suc k → k < length xs → x ≡ get_or xs k x → a.ATuple (afields (set xs k (x.0, true))) ≡ filled_of i (Some (a.ATuple (afields xs)))
-filled_in xs i k x e lt is = ap a.ATuple (go xs k lt is) ∙ ap (λ j. filled_of j (Some (a.ATuple (afields xs)))) (sym e)
-  where
-    go : (ys : List (AType × Bool)) (k : ℕ) → k < length ys → x ≡ get_or ys k x → afields (set ys k (x.0, true)) ≡ afilled (afields ys) k
-    go [] k lt is = absurd (omega arith)
-    go (y ∷ ys) zero lt is = ap (λ (z : AType × Bool). a.MoreAFields (atree z.0) true (afields ys)) is
-    go (y ∷ ys) (suc k) lt is = ap (a.MoreAFields (atree y.0) y.1) (go ys k (omega arith) is)
-
-pub filled_out : (xs : List (AType × Bool)) (i k : ℕ) → i ≡ suc k → length xs ≤ k → a.ATuple (afields xs) ≡ filled_of i (Some (a.ATuple (afields xs)))
-filled_out xs i k e le = ap a.ATuple (sym (go xs k le)) ∙ ap (λ j. filled_of j (Some (a.ATuple (afields xs)))) (sym e)
-  where
-    go : (ys : List (AType × Bool)) (k : ℕ) → length ys ≤ k → afilled (afields ys) k ≡ afields ys
-    go [] k le = refl
-    go (y ∷ ys) zero le = absurd (omega arith)
-    go (y ∷ ys) (suc k) le = ap (a.MoreAFields (atree y.0) y.1) (go ys k (omega arith))
 
 -- places in lists
 get_front : {T : Type 0} (xs ys : List T) (n : ℕ) → n < length xs → slice_get (xs ++ ys) n ≡ slice_get xs n
@@ -105,38 +68,6 @@ length_data (d ∷ ds) = ap suc (length_data ds)
 
 pub datum_out : (ds : List AData) (n : ℕ) → length ds ≤ n → None ≡ data_type (slice_get (a_data ds) n)
 datum_out ds n le = ap data_type (sym (get_out (a_data ds) n (omega (arith, length_data ds))))
-
--- types go to code one by one
-pub applied_one : (n m : ℕ) (us : a.ATys) (t : a.ATy) → n ≡ suc m → Some (a.ACode m (aput_types m (ashift m 0 t) us)) ≡ applied (Some (a.ACode n us)) (a.MoreATys t a.NoATys)
-applied_one zero m us t e = absurd (omega arith)
-applied_one (suc n) m us t e = let x : m ≡ n = omega arith in ap (λ i. Some (a.ACode i (aput_types i (ashift i 0 t) us))) x
-
-split : (o : Option a.ATy) (t : a.ATy) (ts : a.ATys) → applied o (a.MoreATys t ts) ≡ applied (applied o (a.MoreATys t a.NoATys)) ts
-split None t ts = refl
-split (Some a.AInt) t ts = refl
-split (Some (a.AVar n)) t ts = refl
-split (Some (a.ATuple fs)) t ts = refl
-split (Some (a.ACode zero us)) t ts = refl
-split (Some (a.ACode (suc n) us)) t ts = refl
-split (Some (a.AExists u)) t ts = refl
-
-pub apply_next : (o p q : Option a.ATy) (ts : List AType) (i : ℕ) (t : AType) → i < length ts → t ≡ get_or ts i t → p ≡ applied o (a.MoreATys (atree t) a.NoATys) → applied o (atrees (drop i ts)) ≡ q → applied p (atrees (drop (i + 1) ts)) ≡ q
-apply_next o p q ts i t lt is e h =
-    ap (λ x. applied x (atrees (drop (i + 1) ts))) e ∙ sym (split o (atree t) (atrees (drop (i + 1) ts)))
-    ∙ ap (applied o) (ap (λ y. a.MoreATys (atree y) (atrees (drop (i + 1) ts))) is ∙ sym (ap atrees (drop_more ts i t lt))) ∙ h
-
-none_applied : (o : Option a.ATy) → applied o a.NoATys ≡ o
-none_applied None = refl
-none_applied (Some s) = refl
-
-nil_drop : {T : Type 0} (xs : List T) (i : ℕ) → length xs ≤ i → drop i xs ≡ []
-nil_drop [] zero le = refl
-nil_drop [] (suc i) le = refl
-nil_drop (x ∷ xs) zero le = absurd (omega arith)
-nil_drop (x ∷ xs) (suc i) le = nil_drop xs i (omega arith)
-
-pub apply_end : (o q : Option a.ATy) (ts : List AType) (i : ℕ) → length ts ≤ i → applied o (atrees (drop i ts)) ≡ q → o ≡ q
-apply_end o q ts i le h = sym (none_applied o) ∙ ap (λ us. applied o (atrees us)) (sym (nil_drop ts i le)) ∙ h
 
 -- what is put round a value
 pub wrapped_snoc : (v : a.AVal) (ws : List AWrap) (w : AWrap) → wrapped v (ws ++ w ∷ []) ≡ wrap w (wrapped v ws)

@@ -1,22 +1,13 @@
--- Fields that are not initialised.
-use Rattle.std.proofs.Common.{◌≡◌, ℕ, ◌+◌, ◌<◌, ◌++◌, List, [], ◌∷◌, length, take, get_or, Bool, true, false, refl, sym, ap, ap₂, ◌∙◌}
+-- The fields of data tuples.
+use Rattle.std.proofs.Common.{◌≡◌, ℕ, ◌+◌, ◌<◌, ◌++◌, List, [], ◌∷◌, length, take, get_or, Bool, true, refl, sym, ap, ap₂, ◌∙◌}
 use Rattle.a_terms.specs.Tree as a
-use Rattle.a_terms.specs.Typing.{aunset, data_fields}
+use Rattle.a_terms.specs.Typing.{data_fields}
+use Rattle.a_terms.specs.Read.{atree, afields}
 use Rattle.a_terms.specs.NodeTrees.{a_consts}
-use Rattle.a_terms.specs.declared.nodes.AValue.{AValue}
-use Rattle.a_terms.specs.Read.{atree, atrees, afields}
 use Rattle.a_terms.specs.declared.types.AType.{AType}
-use Rattle.a_scope.proofs.Trees.{asnoc, fsnoc, atrees_snoc, afields_snoc, took}
+use Rattle.a_terms.specs.declared.nodes.AValue.{AValue}
+use Rattle.a_scope.proofs.Trees.{fsnoc, afields_snoc, took}
 
-unset_snoc : (us : a.ATys) (t : a.ATy) → aunset (asnoc us t) ≡ fsnoc (aunset us) t false
-unset_snoc a.NoATys t = refl
-unset_snoc (a.MoreATys u us) t = ap (a.MoreAFields u false) (unset_snoc us t)
-
-pub unset_push : (xs : List (AType × Bool)) (x : AType) (ts : List AType) (i : ℕ) (t : AType) (new : List (AType × Bool)) → i < length ts → t ≡ get_or ts i t → new ≡ xs ++ (x, false) ∷ [] → atree x ≡ atree t → afields xs ≡ aunset (atrees (take i ts)) → afields new ≡ aunset (atrees (take (i + 1) ts))
-unset_push xs x ts i t new lt is n same h =
-    ap afields n ∙ afields_snoc xs (x, false) ∙ ap₂ (λ us u. fsnoc us u false) h same ∙ sym (unset_snoc (atrees (take i ts)) (atree t)) ∙ ap aunset (sym (ap atrees (took ts i t lt is) ∙ atrees_snoc (take i ts) t))
-
--- fields of data
 full_snoc : (cs : List (AValue × AType)) (c : AValue × AType) → data_fields (a_consts (cs ++ c ∷ [])) ≡ fsnoc (data_fields (a_consts cs)) (atree c.1) true
 full_snoc [] c = refl
 full_snoc (x ∷ cs) c = ap (a.MoreAFields (atree x.1) true) (full_snoc cs c)

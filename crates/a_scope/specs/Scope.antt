@@ -1,10 +1,9 @@
 -- The types of the variables in scope.
-use Rattle.std.specs.Prelude.{ℕ, ◌-◌, ◌≤◌, ◌++◌, List, [], ◌∷◌, Option, Some, None}
+use Rattle.std.specs.Prelude.{ℕ, ◌-◌, ◌≤◌, ◌++◌, List, [], ◌∷◌, Option, Some}
 use Rattle.a_terms.specs.Tree as a
 use Rattle.a_terms.specs.Tree.{ashift}
 use Rattle.a_terms.specs.Typing.{type_of, applied, or_int, field_of, body_of, filled_of, aunset}
 use Rattle.a_terms.specs.Read.{atree, atrees}
-use Rattle.a_terms.specs.declared.types.AType.{AType}
 use Rattle.a_terms.specs.declared.nodes.AWrap.{AWrap}
 use Rattle.a_terms.specs.declared.nodes.AWrap.TheVariants.{Apply, Pack}
 use Rattle.a_scope.specs.declared.scope.Entry.{Entry}
@@ -22,11 +21,6 @@ scope k (e ∷ es) = scope k es ++ shown k e ∷ []
 abbrev pub Under : ℕ → List Entry → Type 0
 Under k [] = Unit {0}
 Under k (e ∷ es) = (e.names ≤ k) × Under k es
-
--- the tree of a type, if there is one
-abbrev pub maybe : Option AType → Option a.ATy
-maybe None = None
-maybe (Some t) = Some (atree t)
 
 -- the type of a value that is put round a value of this type
 abbrev pub wrap_type : AWrap → Option a.ATy → Option a.ATy

@@ -4,14 +4,16 @@ ghost use Rattle.a_terms.specs.Typing.{declared, more_vars};
 ghost use Rattle.a_terms.specs.Read.{atree};
 ghost use Rattle.a_terms.specs.NodeTrees.{a_values, is_decl, a_decl};
 ghost use Rattle.a_terms.specs.Arity.{AArity};
-ghost use Rattle.a_scope.specs.Program.{parts};
+ghost use Rattle.a_terms.specs.Program.{program_in};
 ghost use Rattle.a_scope.specs.Scope.{scope, Under, decl_ty};
 ghost use Rattle.a_scope.specs.declared.scope.Entry.{Entry as TheEntry};
 
-use crate::fields::{body_of, empty_tuple, filled_of, known};
+use crate::field::{body_of_value, field_of_value};
 use crate::scope::Entry;
-use crate::value::{field_of_value, first, type_of_value};
-use a_terms::{AForm, AProgram, AType, AValue, sum};
+use crate::value::{first, type_of_value};
+use a_terms::parts::{filled_of, known, unset_tuple};
+use a_terms::walks::sum;
+use a_terms::{AForm, AProgram, AType, AValue};
 use idx_core::OutOfMemory;
 use std::alloc::Global;
 
@@ -26,7 +28,7 @@ fn declared_type(
 ) -> Result<AType, OutOfMemory>
     requires form { is_decl form.now ≡ true }
     requires arity { AArity form.now (a_values values.now) }
-    ensures { IfOk result (λ r. atree r ≡ decl_ty (parts program.now) (scope names vars.now) (a_decl form.now (a_values values.now))) }
+    ensures { IfOk result (λ r. atree r ≡ decl_ty (program_in program.now) (scope names vars.now) (a_decl form.now (a_values values.now))) }
 {
     match form {
         AForm::Value => {
@@ -39,11 +41,11 @@ fn declared_type(
         }
         AForm::Arith(_) => Ok(AType::Int),
         AForm::Unpack => {
-            let ty = type_of_value(alloc, program, vars, names, first(values))?;
-            Ok(body_of(ty))
+            let made = body_of_value(alloc, program, vars, names, first(values))?;
+            Ok(made)
         }
         AForm::Malloc(types) => {
-            let made = empty_tuple(alloc, types)?;
+            let made = unset_tuple(alloc, types)?;
             Ok(made)
         }
         AForm::Init(i) => {
@@ -80,7 +82,7 @@ pub fn declare(
     requires arity { AArity form.now (a_values values.now) }
     requires under { Under names vars.old.items }
     ensures names { IfOk result (λ r. r ≡ more_vars (a_decl form.now (a_values values.now)) names) }
-    ensures scope { OnOk result (scope (more_vars (a_decl form.now (a_values values.now)) names) vars.new.items ≡ declared (parts program.now) (scope names vars.old.items) (a_decl form.now (a_values values.now))) }
+    ensures scope { OnOk result (scope (more_vars (a_decl form.now (a_values values.now)) names) vars.new.items ≡ declared (program_in program.now) (scope names vars.old.items) (a_decl form.now (a_values values.now))) }
     ensures more { OnOk result ((e : TheEntry) × (e.names ≡ more_vars (a_decl form.now (a_values values.now)) names) × (vars.new.items ≡ vars.old.items ++ e ∷ [])) }
 {
     let ty = declared_type(alloc, program, vars, names, form, values)?;

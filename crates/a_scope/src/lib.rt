@@ -1,9 +1,8 @@
 //! The variables in scope of allocated terms, and the types of values.
 #![tactic(auto)]
 
-pub mod applying;
 pub mod declaring;
-pub mod fields;
+pub mod field;
 pub mod scope;
 pub mod value;
 

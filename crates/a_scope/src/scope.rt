@@ -3,7 +3,8 @@ ghost use Rattle.std.specs.Prelude.{◌≡◌, ◌-◌, IfOk};
 ghost use Rattle.a_terms.specs.Read.{atree};
 ghost use Rattle.a_scope.specs.Scope.{shown};
 
-use a_terms::{AType, shift_type};
+use a_terms::AType;
+use a_terms::walks::shift_type;
 use idx_core::OutOfMemory;
 use std::alloc::Global;
 

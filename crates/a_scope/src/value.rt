@@ -1,17 +1,17 @@
 // The types of values.
-ghost use Rattle.std.specs.Prelude.{◌≡◌, ◌≤◌, IfOk, MatchOption, length, slice_get};
-ghost use Rattle.a_terms.specs.Tree.{Var as TheVar};
-ghost use Rattle.a_terms.specs.Typing.{type_of, code_type, data_type, field_of as the_field_of};
-ghost use Rattle.a_terms.specs.Read.{atree};
-ghost use Rattle.a_terms.specs.NodeTrees.{base as base_tree, a_value, a_values, a_blocks, a_data, no_value};
+ghost use Rattle.std.specs.Prelude.{◌≡◌, ◌≤◌, IfOk, length, slice_get};
+ghost use Rattle.a_terms.specs.Tree.{ATuple};
+ghost use Rattle.a_terms.specs.Typing.{type_of, code_type, data_fields, data_type};
+ghost use Rattle.a_terms.specs.Read.{atree, maybe};
+ghost use Rattle.a_terms.specs.NodeTrees.{base as base_tree, a_value, a_values, a_blocks, a_consts, a_data, no_value};
+ghost use Rattle.a_terms.specs.Program.{program_in};
 ghost use Rattle.a_terms.specs.Row.{top, others};
-ghost use Rattle.a_scope.specs.Program.{parts};
-ghost use Rattle.a_scope.specs.Scope.{maybe, scope, wrap_type};
+ghost use Rattle.a_scope.specs.Scope.{scope, wrap_type};
 
-use crate::applying::apply_all;
-use crate::fields::{field_of, field_under, full_tuple};
-use crate::scope::{Entry, less, show};
-use a_terms::{ABase, ABlock, AData, AProgram, AType, AValue, AWrap, copies, copy};
+use crate::scope::{Entry, show};
+use a_terms::parts::apply_all;
+use a_terms::walks::{copies, copy};
+use a_terms::{ABase, ABlock, AData, AProgram, AType, AValue, AWrap};
 use idx_core::OutOfMemory;
 use std::alloc::Global;
 
@@ -42,6 +42,18 @@ fn label(alloc: Global, blocks: &[ABlock], l: u64) -> Result<Option<AType>, OutO
     }
 }
 
+// The type of a data tuple: all its fields are initialised.
+fn full_tuple(alloc: Global, consts: &[(AValue, AType)]) -> Result<AType, OutOfMemory>
+    ensures { IfOk result (λ r. atree r ≡ ATuple (data_fields (a_consts consts.now))) }
+{
+    let mut fields = Vec::new(alloc);
+    for c in consts {
+        let one = copy(alloc, &c.1)?;
+        fields.push((one, true))?;
+    }
+    Ok(AType::Tuple(fields))
+}
+
 fn datum(alloc: Global, tuples: &[AData], n: u64) -> Result<Option<AType>, OutOfMemory>
     ensures { IfOk result (λ r. maybe r ≡ data_type (slice_get (a_data tuples.now) n)) }
 {
@@ -61,7 +73,7 @@ fn type_of_base(
     names: u64,
     base: ABase,
 ) -> Result<Option<AType>, OutOfMemory>
-    ensures { IfOk result (λ r. maybe r ≡ type_of (parts program.now) (scope names vars.now) (base_tree base)) }
+    ensures { IfOk result (λ r. maybe r ≡ type_of (program_in program.now) (scope names vars.now) (base_tree base)) }
 {
     match base {
         ABase::Var(n) => {
@@ -103,71 +115,13 @@ pub fn type_of_value(
     names: u64,
     v: &AValue,
 ) -> Result<Option<AType>, OutOfMemory>
-    ensures { IfOk result (λ r. maybe r ≡ type_of (parts program.now) (scope names vars.now) (a_value v.now)) }
+    ensures { IfOk result (λ r. maybe r ≡ type_of (program_in program.now) (scope names vars.now) (a_value v.now)) }
 {
     let mut made = type_of_base(alloc, program, vars, names, v.base)?;
     for w in &v.wraps {
         made = type_of_wrap(alloc, made, w)?;
     }
     Ok(made)
-}
-
-// The type of field i of a variable. The type of the whole tuple is not copied.
-fn field_of_variable(
-    alloc: Global,
-    vars: &[Entry],
-    names: u64,
-    n: u64,
-    i: u64,
-) -> Result<AType, OutOfMemory>
-    ensures { IfOk result (λ r. atree r ≡ the_field_of i (slice_get (scope names vars.now) n)) }
-{
-    let count = vars.len();
-    if n < count as u64 {
-        let entry = &vars[count - 1 - n as usize];
-        let by = less(names, entry.names);
-        let made = field_under(alloc, &entry.ty, by, i)?;
-        Ok(made)
-    } else {
-        Ok(AType::Int)
-    }
-}
-
-/// The variable that a value is, if it is one with nothing around it.
-fn bare_variable(v: &AValue) -> Option<u64>
-    ensures { MatchOption result (Unit {0}) (λ n. a_value v.now ≡ TheVar n) }
-{
-    if v.wraps.len() > 0 {
-        return None;
-    }
-    match v.base {
-        ABase::Var(n) => Some(n),
-        ABase::Int(_) | ABase::Label(_) | ABase::Data(_) => None,
-    }
-}
-
-/// The type of field i of a value, from 1 on.
-pub fn field_of_value(
-    alloc: Global,
-    program: &AProgram,
-    vars: &[Entry],
-    names: u64,
-    v: &AValue,
-    i: u64,
-) -> Result<AType, OutOfMemory>
-    ensures { IfOk result (λ r. atree r ≡ the_field_of i (type_of (parts program.now) (scope names vars.now) (a_value v.now))) }
-{
-    match bare_variable(v) {
-        Some(n) => {
-            let made = field_of_variable(alloc, vars, names, n, i)?;
-            Ok(made)
-        }
-        None => {
-            let ty = type_of_value(alloc, program, vars, names, v)?;
-            let made = field_of(alloc, ty, i)?;
-            Ok(made)
-        }
-    }
 }
 
 /// The first value.

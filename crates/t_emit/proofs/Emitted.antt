@@ -4,8 +4,9 @@ use Rattle.std.proofs.lemmas.List.{drop_more}
 use Rattle.t_types.specs.Tree.{TFile, NoRegs, MoreRegs, Ty}
 use Rattle.t_types.specs.Read.{tree, file as file_tree}
 use Rattle.t_types.specs.declared.types.TType.{TType}
-use Rattle.t_terms.specs.Tree.{TSeq}
-use Rattle.gen_law.specs.Gen.{ty, into, intos, file_onto, file}
+use Rattle.t_terms.specs.Tree as T
+use Rattle.t_terms.specs.Tree.{TValue, TSeq, Then}
+use Rattle.gen_law.specs.Gen.{ty, reg, into, intos, downs, file_onto, file, constant}
 use Rattle.a_terms.specs.Tree as a
 use Rattle.a_terms.specs.NodeTrees.{wrap, wrapped, a_value, a_values}
 use Rattle.a_terms.specs.Row.{others, IsSome}
@@ -17,7 +18,7 @@ use Rattle.a_scope.proofs.Trees.{took}
 use Rattle.a_scope.specs.Scope.{shown, scope}
 use Rattle.a_scope.specs.declared.scope.Entry.{Entry}
 use Rattle.a_scope.proofs.Scopes.{wrapped_more, scope_snoc, length_scope}
-use Rattle.t_emit.specs.Wraps.{wrap_code}
+use Rattle.t_emit.specs.Code.{wrap_code, wrap_constant}
 
 wrap_into : (d t : ℕ) (w : AWrap) (v : a.AVal) (rest : TSeq) → into d t (wrap w v) rest ≡ into d t v (wrap_code t w rest)
 wrap_into d t (Apply ts) v rest = refl
@@ -70,3 +71,15 @@ header_push k xs r x es i e new ri lt is n same h =
     length_take_le ys zero le = refl
     length_take_le [] (suc j) le = absurd (omega arith)
     length_take_le (y ∷ ys) (suc j) le = ap suc (length_take_le ys j (omega arith))
+
+pub downs_split : (n m j k t u : ℕ) (rest : TSeq) → n ≡ suc m → k ≡ suc j → u ≡ suc t → downs n j t rest ≡ Then (T.Mov j (reg t)) (downs m k u rest)
+downs_split n m j k t u rest e f g = ap (λ x. downs x j t rest) e ∙ ap₂ (λ x y. Then (T.Mov j (reg t)) (downs m x y rest)) (sym f) (sym g)
+
+-- what is put round the value of a data field
+wrap_const : (w : AWrap) (v : a.AVal) → constant (wrap w v) ≡ wrap_constant w (constant v)
+wrap_const (Apply ts) v = refl
+wrap_const (Pack h s) v = refl
+
+pub const_next_of : (v : a.AVal) (ws xs : List AWrap) → xs ≡ ws → (i : ℕ) (w : AWrap) (u r : TValue) → i < length xs → w ≡ get_or xs i w → u ≡ constant (wrapped v (take i ws)) → r ≡ wrap_constant w u → r ≡ constant (wrapped v (take (i + 1) ws))
+const_next_of v ws xs same i w u r lt is h e =
+    e ∙ ap (wrap_constant w) h ∙ sym (ap constant (wrapped_more v ws i w (subst (λ ys. i < length ys) same lt) (is ∙ ap (λ ys. get_or ys i w) same)) ∙ wrap_const w (wrapped v (take i ws)))

@@ -8,14 +8,13 @@ ghost use Rattle.a_terms.specs.Read.{atrees};
 ghost use Rattle.a_terms.specs.NodeTrees.{a_values, no_value};
 ghost use Rattle.a_terms.specs.Row.{top, others, IsSome};
 
+use crate::code::emit_downs;
+use crate::types::written_all;
 use crate::values::emit_value;
-use a_nodes::AValue;
-use a_scope::value::first;
-use a_types::AType;
-use a_types::walks::written_all;
+use a_scope::first;
+use a_terms::{AType, AValue};
 use idx_core::{OutOfMemory, Span};
 use std::alloc::Global;
-use t_code::code::emit_downs;
 use t_terms::{Base, End, Instr, Value};
 
 // The arguments, which follow on the first value, in the registers from `above + 1` on.

@@ -6,14 +6,13 @@ ghost use Rattle.gen_law.specs.Gen.{decl_code};
 ghost use Rattle.a_terms.specs.NodeTrees.{a_values, is_decl, a_decl};
 ghost use Rattle.a_terms.specs.Arity.{AArity};
 
+use crate::code::{plain, put};
+use crate::types::written_all;
 use crate::values::{emit_one, emit_two, emit_value};
-use a_nodes::{AForm, AValue};
-use a_scope::scope::less;
-use a_scope::value::{first, second};
-use a_types::walks::written_all;
+use a_scope::{first, less, second};
+use a_terms::{AForm, AValue};
 use idx_core::{OutOfMemory, Span};
 use std::alloc::Global;
-use t_code::code::{plain, put};
 use t_terms::{Base, Instr};
 
 /// The instructions of a declaration.

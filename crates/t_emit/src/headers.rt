@@ -1,6 +1,6 @@
 // The header of a third part.
 ghost use Rattle.std.specs.Prelude.{◌≡◌, ◌+◌, ◌<◌, ◌^◌, ◌++◌, ◌∷◌, [], suc, length, IfOk, OnOk};
-ghost use Rattle.t_types.specs.Read.{file as file_tree};
+ghost use Rattle.t_types.specs.Read.{file as file_tree, types as type_trees};
 ghost use Rattle.t_terms.specs.Tree.{TSeq, Then, Bnz, Plain, Label};
 ghost use Rattle.t_terms.specs.Read.{blocks_of};
 ghost use Rattle.t_emit.specs.Code.{onto};
@@ -9,16 +9,28 @@ ghost use Rattle.gen_law.specs.Gen.{into, tvars, file};
 ghost use Rattle.a_terms.specs.NodeTrees.{a_value};
 ghost use Rattle.a_scope.specs.Scope.{scope};
 
+use crate::blocks::reserve;
+use crate::types::written;
 use crate::values::emit_one;
-use a_nodes::AValue;
 use a_scope::{Entry, show};
-use a_types::walks::written;
+use a_terms::AValue;
 use idx_core::{OutOfMemory, Span};
 use std::alloc::Global;
-use t_code::blocks::reserve;
-use t_code::place::names_in_scope;
 use t_terms::{Base, Block, Instr, Value};
 use t_types::TType;
+
+/// The type names in scope, as arguments.
+pub fn names_in_scope(alloc: Global, names: u64) -> Result<Vec<TType>, OutOfMemory>
+    ensures { IfOk result (λ r. type_trees r.items ≡ tvars names) }
+{
+    let mut types = Vec::new(alloc);
+    let mut left = names;
+    while left > 0 {
+        left -= 1;
+        types.push(TType::Var(left))?;
+    }
+    Ok(types)
+}
 
 /// The registers of the variables, from 1 on, with their types.
 pub fn header(alloc: Global, vars: &[Entry], names: u64) -> Result<Vec<(u64, TType)>, OutOfMemory>

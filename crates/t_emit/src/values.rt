@@ -5,14 +5,14 @@ ghost use Rattle.t_terms.specs.Read.{instr as instr_tree};
 ghost use Rattle.t_emit.specs.Code.{onto};
 ghost use Rattle.gen_law.specs.Gen.{into};
 ghost use Rattle.a_terms.specs.NodeTrees.{base as base_tree, a_value};
-ghost use Rattle.t_emit.specs.Wraps.{wrap_code};
+ghost use Rattle.t_emit.specs.Code.{wrap_code};
 
-use a_nodes::{ABase, AValue, AWrap};
-use a_scope::scope::less;
-use a_types::walks::{written, written_all};
+use crate::code::{plain, put};
+use crate::types::{written, written_all};
+use a_scope::less;
+use a_terms::{ABase, AValue, AWrap};
 use idx_core::{OutOfMemory, Span};
 use std::alloc::Global;
-use t_code::code::{plain, put};
 use t_terms::{Base, Instr, Value};
 
 /// The number after it.
@@ -48,6 +48,10 @@ pub fn emit_base(
         ABase::Label(l) => {
             let block = after(l)?;
             let v = plain(alloc, Base::Label(block));
+            put(code, Instr::Mov { rd: target, v })
+        }
+        ABase::Data(n) => {
+            let v = plain(alloc, Base::Data(n));
             put(code, Instr::Mov { rd: target, v })
         }
     }

@@ -6,9 +6,9 @@ use Rattle.t_terms.specs.Tree.{TBlock}
 use Rattle.t_gen.specs.Filling.{Job, finish, reserves, jobs}
 use Rattle.t_emit.specs.Code.{fill, reserved}
 use Rattle.t_gen.proofs.Filled.{fill_length, generated_is}
-use Rattle.gen_law.specs.Gen.{code, extras, generated, ty_args}
+use Rattle.gen_law.specs.Gen.{code, extras, generated_blocks, ty_args}
 use Rattle.a_terms.specs.Bound.{thirds}
-use Rattle.gen_law.proofs.Places.{length_extras}
+use Rattle.gen_law.specs.GenLaws.{length_extras}
 use Rattle.a_terms.specs.Tree as a
 use Rattle.a_terms.specs.Typing.{types_of}
 use Rattle.a_terms.specs.Read.{atree, atrees}
@@ -24,17 +24,17 @@ use Rattle.a_scope.proofs.Scopes.{scope_snoc, shown_own}
 use Rattle.t_gen.specs.Pending.{body_job}
 
 -- one body, and then others
-grows : (bs : List a.ABlk) (o n : List TBlock) (j : Job) → n ≡ finish bs (length o) o (j ∷ []) → length n ≡ length o + thirds j.term
-grows bs o n j e =
+grows : (prog : a.AProg) (o n : List TBlock) (j : Job) → n ≡ finish prog (length o) o (j ∷ []) → length n ≡ length o + thirds j.term
+grows prog o n j e =
     let c = code j.names (length j.vars) (length o) j.term in
-    let es = extras bs j.names (length j.vars) j.vars (length o) j.term in
-    ap length e ∙ length-append (fill j.block c o) es ∙ ap₂ (λ x y. x + y) (fill_length j.block c o) (length_extras bs j.names (length j.vars) j.vars (length o) j.term)
+    let es = extras prog j.names (length j.vars) j.vars (length o) j.term in
+    ap length e ∙ length-append (fill j.block c o) es ∙ ap₂ (λ x y. x + y) (fill_length j.block c o) (length_extras prog j.names (length j.vars) j.vars (length o) j.term)
 
-pub chain : (bs : List a.ABlk) (o n : List TBlock) (j : Job) (js : List Job) → n ≡ finish bs (length o) o (j ∷ []) → finish bs (length n) n js ≡ finish bs (length o) o (j ∷ js)
-chain bs o n j js e = ap₂ (λ i x. finish bs i x js) (grows bs o n j e) e
+pub chain : (prog : a.AProg) (o n : List TBlock) (j : Job) (js : List Job) → n ≡ finish prog (length o) o (j ∷ []) → finish prog (length n) n js ≡ finish prog (length o) o (j ∷ js)
+chain prog o n j js e = ap₂ (λ i x. finish prog i x js) (grows prog o n j e) e
 
-pub longer : (bs : List a.ABlk) (o n : List TBlock) (j : Job) → n ≡ finish bs (length o) o (j ∷ []) → length o ≤ length n
-longer bs o n j e = omega (arith, grows bs o n j e)
+pub longer : (prog : a.AProg) (o n : List TBlock) (j : Job) → n ≡ finish prog (length o) o (j ∷ []) → length o ≤ length n
+longer prog o n j e = omega (arith, grows prog o n j e)
 
 length_reserves : (bs : List a.ABlk) → length (reserves bs) ≡ length bs
 length_reserves [] = refl
@@ -44,29 +44,30 @@ pub length_a_blocks : (ks : List ABlock) → length (a_blocks ks) ≡ length ks
 length_a_blocks [] = refl
 length_a_blocks (k ∷ ks) = ap suc (length_a_blocks ks)
 
-pub begins : (bs : List a.ABlk) (main : List ANode) (es : List Entry) (o n : List TBlock) → o ≡ reserved 0 NoRegs ∷ reserves bs → es ≡ [] → n ≡ finish bs (length o) o (body_job 0 0 (scope 0 es) main ∷ []) → finish bs (length n) n (jobs 1 bs) ≡ generated bs (a_tree main)
-begins bs main es o n is none e =
-    chain bs o n (body_job 0 0 (scope 0 es) main) (jobs 1 bs) e
-    ∙ ap₂ (λ x vs. finish bs (length x) x (body_job 0 0 (scope 0 vs) main ∷ jobs 1 bs)) is none
-    ∙ ap (λ i. finish bs i (reserved 0 NoRegs ∷ reserves bs) (body_job 0 0 [] main ∷ jobs 1 bs)) (ap suc (length_reserves bs))
-    ∙ generated_is bs (a_tree main)
+pub begins : (prog : a.AProg) (ks : List ABlock) (main : List ANode) (es : List Entry) (o n : List TBlock) → a_blocks ks ≡ prog.blocks → o ≡ reserved 0 NoRegs ∷ reserves (a_blocks ks) → es ≡ [] → n ≡ finish prog (length o) o (body_job 0 0 (scope 0 es) main ∷ []) → finish prog (length n) n (jobs 1 (a_blocks ks)) ≡ generated_blocks prog (a_tree main)
+begins prog ks main es o n same is none e =
+    ap (λ xs. finish prog (length n) n (jobs 1 xs)) same
+    ∙ chain prog o n (body_job 0 0 (scope 0 es) main) (jobs 1 prog.blocks) e
+    ∙ ap₂ (λ x vs. finish prog (length x) x (body_job 0 0 (scope 0 vs) main ∷ jobs 1 prog.blocks)) (is ∙ ap (λ xs. reserved 0 NoRegs ∷ reserves xs) same) none
+    ∙ ap (λ i. finish prog i (reserved 0 NoRegs ∷ reserves prog.blocks) (body_job 0 0 [] main ∷ jobs 1 prog.blocks)) (ap suc (length_reserves prog.blocks))
+    ∙ generated_is prog (a_tree main)
 
-pub begins_long : (bs : List a.ABlk) (main : List ANode) (es : List Entry) (o n : List TBlock) → o ≡ reserved 0 NoRegs ∷ reserves bs → n ≡ finish bs (length o) o (body_job 0 0 (scope 0 es) main ∷ []) → suc (length bs) ≤ length n
-begins_long bs main es o n is e = omega (arith, longer bs o n (body_job 0 0 (scope 0 es) main) e, ap length is, length_reserves bs)
+pub begins_long : (prog : a.AProg) (ks : List ABlock) (main : List ANode) (es : List Entry) (o n : List TBlock) → o ≡ reserved 0 NoRegs ∷ reserves (a_blocks ks) → n ≡ finish prog (length o) o (body_job 0 0 (scope 0 es) main ∷ []) → suc (length ks) ≤ length n
+begins_long prog ks main es o n is e = omega (arith, longer prog o n (body_job 0 0 (scope 0 es) main) e, ap length is, length_reserves (a_blocks ks), length_a_blocks ks)
 
 -- one more block
-pub block_next : (bs : List a.ABlk) (ks : List ABlock) (i : ℕ) (k : ABlock) (o n : List TBlock) (all : List TBlock) → i < length ks → k ≡ get_or ks i k → n ≡ finish bs (length o) o (jobs (i + 1) (a_blocks (k ∷ []))) → finish bs (length o) o (jobs (i + 1) (a_blocks (drop i ks))) ≡ all →
-    finish bs (length n) n (jobs (i + 1 + 1) (a_blocks (drop (i + 1) ks))) ≡ all
-block_next bs ks i k o n all lt is e h =
+pub block_next : (prog : a.AProg) (ks : List ABlock) (i : ℕ) (k : ABlock) (o n : List TBlock) (all : List TBlock) → i < length ks → k ≡ get_or ks i k → n ≡ finish prog (length o) o (jobs (i + 1) (a_blocks (k ∷ []))) → finish prog (length o) o (jobs (i + 1) (a_blocks (drop i ks))) ≡ all →
+    finish prog (length n) n (jobs (i + 1 + 1) (a_blocks (drop (i + 1) ks))) ≡ all
+block_next prog ks i k o n all lt is e h =
     let next : i + 1 + 1 ≡ suc (i + 1) = omega arith in
     let j : Job = record { block = i + 1; names = k.owes; vars = types_of (atrees k.args.items) []; term = a_tree k.body.items } in
-    ap (λ m. finish bs (length n) n (jobs m (a_blocks (drop (i + 1) ks)))) next
-    ∙ chain bs o n j (jobs (suc (i + 1)) (a_blocks (drop (i + 1) ks))) e
-    ∙ ap (λ xs. finish bs (length o) o (jobs (i + 1) (a_blocks xs))) (sym (drop_more ks i k lt ∙ ap (λ x. x ∷ drop (i + 1) ks) (sym is)))
+    ap (λ m. finish prog (length n) n (jobs m (a_blocks (drop (i + 1) ks)))) next
+    ∙ chain prog o n j (jobs (suc (i + 1)) (a_blocks (drop (i + 1) ks))) e
+    ∙ ap (λ xs. finish prog (length o) o (jobs (i + 1) (a_blocks xs))) (sym (drop_more ks i k lt ∙ ap (λ x. x ∷ drop (i + 1) ks) (sym is)))
     ∙ h
 
-pub block_long : (bs : List a.ABlk) (at : ℕ) (k : ABlock) (o n : List TBlock) → n ≡ finish bs (length o) o (jobs at (a_blocks (k ∷ []))) → length o ≤ length n
-block_long bs at k o n e = longer bs o n (record { block = at; names = k.owes; vars = types_of (atrees k.args.items) []; term = a_tree k.body.items }) e
+pub block_long : (prog : a.AProg) (at : ℕ) (k : ABlock) (o n : List TBlock) → n ≡ finish prog (length o) o (jobs at (a_blocks (k ∷ []))) → length o ≤ length n
+block_long prog at k o n e = longer prog o n (record { block = at; names = k.owes; vars = types_of (atrees k.args.items) []; term = a_tree k.body.items }) e
 
 nil_drop : {T : Type 0} (xs : List T) (i : ℕ) → length xs ≤ i → drop i xs ≡ []
 nil_drop [] zero le = refl
@@ -74,8 +75,8 @@ nil_drop [] (suc i) le = refl
 nil_drop (x ∷ xs) zero le = absurd (omega arith)
 nil_drop (x ∷ xs) (suc i) le = nil_drop xs i (omega arith)
 
-pub blocks_end : (bs : List a.ABlk) (ks : List ABlock) (i : ℕ) (o all : List TBlock) → length ks ≤ i → finish bs (length o) o (jobs (i + 1) (a_blocks (drop i ks))) ≡ all → o ≡ all
-blocks_end bs ks i o all le h = ap (λ (xs : List ABlock). finish bs (length o) o (jobs (i + 1) (a_blocks xs))) (sym (nil_drop ks i le)) ∙ h
+pub blocks_end : (prog : a.AProg) (ks : List ABlock) (i : ℕ) (o all : List TBlock) → length ks ≤ i → finish prog (length o) o (jobs (i + 1) (a_blocks (drop i ks))) ≡ all → o ≡ all
+blocks_end prog ks i o all le h = ap (λ (xs : List ABlock). finish prog (length o) o (jobs (i + 1) (a_blocks xs))) (sym (nil_drop ks i le)) ∙ h
 
 pub rows_at : (ks : List ABlock) (i : ℕ) (k : ABlock) → i < length ks → k ≡ get_or ks i k → ARows ks → ARow k.body.items 1
 rows_at [] i k lt is h = absurd (omega arith)

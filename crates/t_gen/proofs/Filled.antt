@@ -3,10 +3,10 @@ use Rattle.std.proofs.Common.{◌≡◌, ℕ, zero, suc, ◌+◌, ◌<◌, ◌++
 use Rattle.t_types.specs.Tree.{NoRegs}
 use Rattle.t_terms.specs.Tree as T
 use Rattle.t_terms.specs.Tree.{TSeq, Then, Ends, TBlock}
-use Rattle.a_terms.specs.Tree.{ATy, AVal, ATm, Let, Call, If0, Halt, ABlk, arity}
+use Rattle.a_terms.specs.Tree.{ATy, AVal, ATm, Let, Call, If0, Halt, ABlk, AProg, arity}
 use Rattle.a_terms.specs.Typing.{declared, more_vars, types_of}
 use Rattle.a_terms.specs.TypeLaws.{length_declared, length_types_of}
-use Rattle.gen_law.specs.Gen.{into, decl_code, tvars, code, file, block, extras, firsts, seconds, ty_args, generated}
+use Rattle.gen_law.specs.Gen.{into, decl_code, tvars, code, file, block, extras, firsts, seconds, ty_args, generated_blocks}
 use Rattle.a_terms.specs.Bound.{thirds}
 use Rattle.t_emit.specs.Code.{reserved, coded, fill}
 use Rattle.t_gen.specs.Filling.{Job, finish, finish_from, reserves, jobs}
@@ -44,62 +44,62 @@ hole out ea eb b n at here there lt e =
     ∙ ap (λ xs. xs ++ eb) (fill_at at there (fill n here out) b ea (e ∙ sym (fill_length n here out)))
     ∙ assoc (fill n here out) (coded b there ∷ ea) eb
 
-module _ (bs : List ABlk) where
+module _ (prog : AProg) where
   -- a declaration
   pub let_step : (at : ℕ) (out : List TBlock) (pre : TSeq → TSeq) (n k : ℕ) (g : List ATy) (x : _) (e : ATm) (js : List Job) →
-      finish_from bs at out pre (record { block = n; names = k; vars = g; term = Let x e }) js
-      ≡ finish_from bs at out (λ rest. pre (decl_code (length g) x rest)) (record { block = n; names = more_vars x k; vars = declared bs g x; term = e }) js
+      finish_from prog at out pre (record { block = n; names = k; vars = g; term = Let x e }) js
+      ≡ finish_from prog at out (λ rest. pre (decl_code (length g) x rest)) (record { block = n; names = more_vars x k; vars = declared prog g x; term = e }) js
   let_step at out pre n k g x e js =
-      ap (λ d. finish bs (at + thirds e) (fill n (pre (decl_code (length g) x (code (more_vars x k) d at e))) out ++ extras bs (more_vars x k) d (declared bs g x) at e) js) (sym (length_declared bs g x))
+      ap (λ d. finish prog (at + thirds e) (fill n (pre (decl_code (length g) x (code (more_vars x k) d at e))) out ++ extras prog (more_vars x k) d (declared prog g x) at e) js) (sym (length_declared prog g x))
 
   -- an `if0`: its third part's block is reserved, and waits
   pub if0_step : (at : ℕ) (out : List TBlock) (pre : TSeq → TSeq) (n k : ℕ) (g : List ATy) (v : AVal) (a b : ATm) (js : List Job) → n < length out → at ≡ length out →
-      finish_from bs at out pre (record { block = n; names = k; vars = g; term = If0 v a b }) js
-      ≡ finish_from bs (suc at) (out ++ reserved k (file g) ∷ []) (λ rest. pre (into (length g) (suc (length g)) v (Then (T.Bnz (suc (length g)) (T.Plain (T.Label at) (tvars k))) rest))) (record { block = n; names = k; vars = g; term = a }) (record { block = at; names = k; vars = g; term = b } ∷ js)
+      finish_from prog at out pre (record { block = n; names = k; vars = g; term = If0 v a b }) js
+      ≡ finish_from prog (suc at) (out ++ reserved k (file g) ∷ []) (λ rest. pre (into (length g) (suc (length g)) v (Then (T.Bnz (suc (length g)) (T.Plain (T.Label at) (tvars k))) rest))) (record { block = n; names = k; vars = g; term = a }) (record { block = at; names = k; vars = g; term = b } ∷ js)
   if0_step at out pre n k g v a b js lt e =
       let d = length g in
       let here = pre (into d (suc d) v (Then (T.Bnz (suc d) (T.Plain (T.Label at) (tvars k))) (code k d (suc at) a))) in
       let there = code k d (suc at + thirds a) b in
       let sum : at + suc (thirds a + thirds b) ≡ suc at + thirds a + thirds b = omega arith in
-      ap₂ (λ m xs. finish bs m xs js) sum (sym (hole out (extras bs k d g (suc at) a) (extras bs k d g (suc at + thirds a) b) (reserved k (file g)) n at here there lt e))
+      ap₂ (λ m xs. finish prog m xs js) sum (sym (hole out (extras prog k d g (suc at) a) (extras prog k d g (suc at + thirds a) b) (reserved k (file g)) n at here there lt e))
 
   -- a call, and a `halt`: the block is whole
   pub call_step : (at : ℕ) (out : List TBlock) (pre : TSeq → TSeq) (n k : ℕ) (g : List ATy) (v : AVal) (ts : _) (vs : _) (js : List Job) →
-      finish_from bs at out pre (record { block = n; names = k; vars = g; term = Call v ts vs }) js
-      ≡ finish bs at (fill n (pre (code k (length g) at (Call v ts vs))) out) js
+      finish_from prog at out pre (record { block = n; names = k; vars = g; term = Call v ts vs }) js
+      ≡ finish prog at (fill n (pre (code k (length g) at (Call v ts vs))) out) js
   call_step at out pre n k g v ts vs js =
       let sum : at + 0 ≡ at = omega arith in
-      ap₂ (λ m xs. finish bs m xs js) sum (no_more (fill n (pre (code k (length g) at (Call v ts vs))) out))
+      ap₂ (λ m xs. finish prog m xs js) sum (no_more (fill n (pre (code k (length g) at (Call v ts vs))) out))
 
   pub halt_step : (at : ℕ) (out : List TBlock) (pre : TSeq → TSeq) (n k : ℕ) (g : List ATy) (v : AVal) (js : List Job) →
-      finish_from bs at out pre (record { block = n; names = k; vars = g; term = Halt v }) js
-      ≡ finish bs at (fill n (pre (code k (length g) at (Halt v))) out) js
+      finish_from prog at out pre (record { block = n; names = k; vars = g; term = Halt v }) js
+      ≡ finish prog at (fill n (pre (code k (length g) at (Halt v))) out) js
   halt_step at out pre n k g v js =
       let sum : at + 0 ≡ at = omega arith in
-      ap₂ (λ m xs. finish bs m xs js) sum (no_more (fill n (pre (code k (length g) at (Halt v))) out))
+      ap₂ (λ m xs. finish prog m xs js) sum (no_more (fill n (pre (code k (length g) at (Halt v))) out))
 
   -- all blocks, from the n-th on: done are before, with the third parts so far
   blocks_filled : (some : List ABlk) (n at : ℕ) (done others : List TBlock) → n ≡ length done →
-      finish bs at (done ++ (reserves some ++ others)) (jobs n some) ≡ done ++ (firsts some at ++ (others ++ seconds bs some at))
+      finish prog at (done ++ (reserves some ++ others)) (jobs n some) ≡ done ++ (firsts some at ++ (others ++ seconds prog some at))
   blocks_filled [] n at done others e = ap (λ xs. done ++ xs) (sym (no_more others))
   blocks_filled (b ∷ some) n at done others e =
       let d = length_types_of b.args in
-      let es = extras bs b.owes (arity b.args) (types_of b.args []) at b.body in
+      let es = extras prog b.owes (arity b.args) (types_of b.args []) at b.body in
       let here = block b.owes (ty_args b.args 1) (arity b.args) at b.body in
-      ap (λ i. finish bs (at + thirds b.body) (fill n (code b.owes i at b.body) (done ++ (reserves (b ∷ some) ++ others)) ++ extras bs b.owes i (types_of b.args []) at b.body) (jobs (suc n) some)) d
-      ∙ ap (λ xs. finish bs (at + thirds b.body) (xs ++ es) (jobs (suc n) some)) (fill_at n (code b.owes (arity b.args) at b.body) done (reserved b.owes (ty_args b.args 1)) (reserves some ++ others) e)
-      ∙ ap (λ xs. finish bs (at + thirds b.body) xs (jobs (suc n) some)) (shape done here (reserves some) others es)
+      ap (λ i. finish prog (at + thirds b.body) (fill n (code b.owes i at b.body) (done ++ (reserves (b ∷ some) ++ others)) ++ extras prog b.owes i (types_of b.args []) at b.body) (jobs (suc n) some)) d
+      ∙ ap (λ xs. finish prog (at + thirds b.body) (xs ++ es) (jobs (suc n) some)) (fill_at n (code b.owes (arity b.args) at b.body) done (reserved b.owes (ty_args b.args 1)) (reserves some ++ others) e)
+      ∙ ap (λ xs. finish prog (at + thirds b.body) xs (jobs (suc n) some)) (shape done here (reserves some) others es)
       ∙ blocks_filled some (suc n) (at + thirds b.body) (done ++ here ∷ []) (others ++ es) (omega (arith, length-append done (here ∷ [])))
-      ∙ assoc done (here ∷ []) (firsts some (at + thirds b.body) ++ ((others ++ es) ++ seconds bs some (at + thirds b.body)))
-      ∙ ap (λ xs. done ++ (here ∷ (firsts some (at + thirds b.body) ++ xs))) (assoc others es (seconds bs some (at + thirds b.body)))
+      ∙ assoc done (here ∷ []) (firsts some (at + thirds b.body) ++ ((others ++ es) ++ seconds prog some (at + thirds b.body)))
+      ∙ ap (λ xs. done ++ (here ∷ (firsts some (at + thirds b.body) ++ xs))) (assoc others es (seconds prog some (at + thirds b.body)))
     where
       shape : (done : List TBlock) (h : TBlock) (rs others es : List TBlock) → (done ++ h ∷ (rs ++ others)) ++ es ≡ (done ++ h ∷ []) ++ (rs ++ (others ++ es))
       shape done h rs others es = assoc done (h ∷ (rs ++ others)) es ∙ ap (λ xs. done ++ (h ∷ xs)) (assoc rs others es) ∙ sym (assoc done (h ∷ []) (rs ++ (others ++ es)))
 
 -- the whole program: from the reserved blocks, by the jobs of the main term and the blocks in order
-pub generated_is : (bs : List ABlk) (main : ATm) →
-    finish bs (suc (length bs)) (reserved 0 NoRegs ∷ reserves bs) (record { block = 0; names = 0; vars = []; term = main } ∷ jobs 1 bs) ≡ generated bs main
-generated_is bs main =
-    let at = suc (length bs) in
-    let es = extras bs 0 0 [] at main in
-    blocks_filled bs bs 1 (at + thirds main) (block 0 NoRegs 0 at main ∷ []) es refl
+pub generated_is : (prog : AProg) (main : ATm) →
+    finish prog (suc (length prog.blocks)) (reserved 0 NoRegs ∷ reserves prog.blocks) (record { block = 0; names = 0; vars = []; term = main } ∷ jobs 1 prog.blocks) ≡ generated_blocks prog main
+generated_is prog main =
+    let at = suc (length prog.blocks) in
+    let es = extras prog 0 0 [] at main in
+    blocks_filled prog prog.blocks 1 (at + thirds main) (block 0 NoRegs 0 at main ∷ []) es refl

@@ -70,24 +70,24 @@ fit_cut b es kept p ps cut f =
 pub count_cut : (b : ℕ) (es kept : List Entry) (p : Place) (ps : List Place) → kept ≡ take p.vars es → Fit b es (length es) (p ∷ ps) → p.vars ≡ length kept
 count_cut b es kept p ps cut f = sym (ap length cut ∙ length_take_le es p.vars f.1)
 
-pub pend_cut : (bs : List a.ABlk) (b : ℕ) (es kept : List Entry) (out : List TBlock) (pre : TSeq → TSeq) (p : Place) (ps : List Place) (ts : List a.ATm) → kept ≡ take p.vars es → Fit b es (length es) (p ∷ ps) →
-    pend bs kept out pre (p ∷ ps) ts ≡ pend bs es out pre (p ∷ ps) ts
-pend_cut bs b es kept out pre p ps ts cut f =
+pub pend_cut : (prog : a.AProg) (b : ℕ) (es kept : List Entry) (out : List TBlock) (pre : TSeq → TSeq) (p : Place) (ps : List Place) (ts : List a.ATm) → kept ≡ take p.vars es → Fit b es (length es) (p ∷ ps) →
+    pend prog kept out pre (p ∷ ps) ts ≡ pend prog es out pre (p ∷ ps) ts
+pend_cut prog b es kept out pre p ps ts cut f =
     let n : length kept ≡ p.vars = ap length cut ∙ length_take_le es p.vars f.1 in
     let same : es ≡ kept ++ drop p.vars es = sym (split es p.vars) ∙ ap (λ xs. xs ++ drop p.vars es) (sym cut) in
     let g = fit_cut b es kept p ps cut f in
     let js : jobs_at kept ps (others ts) ≡ jobs_at es ps (others ts) = sym (ap (λ xs. jobs_at xs ps (others ts)) same ∙ jobs_keep b p.vars kept (drop p.vars es) ps (others ts) g.3 (omega (arith, n))) in
-    ap₂ (λ vs ks. finish_from bs (length out) out pre (record { block = p.block; names = p.names; vars = scope p.names vs; term = top no_term ts }) ks) (whole kept p.vars (omega (arith, n)) ∙ cut) js
+    ap₂ (λ vs ks. finish_from prog (length out) out pre (record { block = p.block; names = p.names; vars = scope p.names vs; term = top no_term ts }) ks) (whole kept p.vars (omega (arith, n)) ∙ cut) js
 
 -- code that is the same
-pub from_same : (bs : List a.ABlk) (at : ℕ) (out : List TBlock) (pre pro : TSeq → TSeq) (j : Job) (js : List Job) → ((rest : TSeq) → pre rest ≡ pro rest) → finish_from bs at out pre j js ≡ finish_from bs at out pro j js
-from_same bs at out pre pro j js h =
-    ap (λ c. finish bs (at + thirds j.term) (fill j.block c out ++ extras bs j.names (length j.vars) j.vars at j.term) js) (h (code j.names (length j.vars) at j.term))
+pub from_same : (prog : a.AProg) (at : ℕ) (out : List TBlock) (pre pro : TSeq → TSeq) (j : Job) (js : List Job) → ((rest : TSeq) → pre rest ≡ pro rest) → finish_from prog at out pre j js ≡ finish_from prog at out pro j js
+from_same prog at out pre pro j js h =
+    ap (λ c. finish prog (at + thirds j.term) (fill j.block c out ++ extras prog j.names (length j.vars) j.vars at j.term) js) (h (code j.names (length j.vars) at j.term))
 
 -- where no code stands yet
-pub pend_finish : (bs : List a.ABlk) (es : List Entry) (out : List TBlock) (ps : List Place) (ts : List a.ATm) → pend bs es out (onto []) ps ts ≡ finish bs (length out) out (jobs_at es ps ts)
-pend_finish bs es out [] ts = refl
-pend_finish bs es out (p ∷ ps) ts = refl
+pub pend_finish : (prog : a.AProg) (es : List Entry) (out : List TBlock) (ps : List Place) (ts : List a.ATm) → pend prog es out (onto []) ps ts ≡ finish prog (length out) out (jobs_at es ps ts)
+pend_finish prog es out [] ts = refl
+pend_finish prog es out (p ∷ ps) ts = refl
 
 pub under_push : (k j : ℕ) (es : List Entry) (e : Entry) → Under k es → k ≤ j → e.names ≤ j → Under j (es ++ e ∷ [])
 under_push k j [] e u le n = (n, tt)

@@ -35,8 +35,8 @@ more_names (a.Malloc ts) k = omega arith
 more_names (a.Init v i w) k = omega arith
 
 -- a declaration
-module _ (bs : List a.ABlk) (p q : Place) (x : a.ADecl) (es fs : List Entry) (e : Entry) (ps qs : List Place) (o : List Block) (c d : List (Instr × Span))
-  (count : p.vars ≡ length es) (made : fs ≡ es ++ e ∷ []) (names : e.names ≡ more_vars x p.names) (is_scope : scope (more_vars x p.names) fs ≡ declared bs (scope p.names es) x)
+module _ (prog : a.AProg) (p q : Place) (x : a.ADecl) (es fs : List Entry) (e : Entry) (ps qs : List Place) (o : List Block) (c d : List (Instr × Span))
+  (count : p.vars ≡ length es) (made : fs ≡ es ++ e ∷ []) (names : e.names ≡ more_vars x p.names) (is_scope : scope (more_vars x p.names) fs ≡ declared prog (scope p.names es) x)
   (codes : (rest : TSeq) → onto d rest ≡ onto c (decl_code (length es) x rest)) (pushed : qs ≡ ps ++ q ∷ []) (same_block : q.block ≡ p.block) (same_names : q.names ≡ more_vars x p.names) (all : q.vars ≡ length fs)
   (f : Fit (length (blocks_of o)) es (length es) (p ∷ tops ps)) where
 
@@ -55,21 +55,21 @@ module _ (bs : List a.ABlk) (p q : Place) (x : a.ADecl) (es fs : List Entry) (e 
   kept : (ts : List a.ATm) → jobs_at fs (tops ps) ts ≡ jobs_at es (tops ps) ts
   kept ts = ap (λ xs. jobs_at xs (tops ps) ts) made ∙ jobs_keep (length out) p.vars es (e ∷ []) (tops ps) ts f.3 (omega (arith, count))
 
-  next_job : (t : a.ATm) → job fs q t ≡ record { block = p.block; names = more_vars x p.names; vars = declared bs (scope p.names es) x; term = t }
+  next_job : (t : a.ATm) → job fs q t ≡ record { block = p.block; names = more_vars x p.names; vars = declared prog (scope p.names es) x; term = t }
   next_job t =
       ap₂ (λ n k. record { block = n; names = k; vars = scope k (take q.vars fs); term = t }) same_block same_names
       ∙ ap (λ g. record { block = p.block; names = more_vars x p.names; vars = g; term = t }) (ap (scope (more_vars x p.names)) whole_fs ∙ is_scope)
 
-  walked_let : (ts : List a.ATm) → pend bs fs out (onto d) (tops qs) ts ≡ pend bs es out (onto c) (p ∷ tops ps) (a_let x ts)
+  walked_let : (ts : List a.ATm) → pend prog fs out (onto d) (tops qs) ts ≡ pend prog es out (onto c) (p ∷ tops ps) (a_let x ts)
   walked_let ts =
       let g = scope p.names es in
       let t = top no_term ts in
       let js = jobs_at es (tops ps) (others ts) in
-      ap (λ ks. pend bs fs out (onto d) ks ts) is_tops
-      ∙ ap₂ (λ j ks. finish_from bs (length out) out (onto d) j ks) (next_job t) (kept (others ts))
-      ∙ from_same bs (length out) out (onto d) (λ rest. onto c (decl_code (length g) x rest)) (record { block = p.block; names = more_vars x p.names; vars = declared bs g x; term = t }) js (λ rest. codes rest ∙ ap (λ n. onto c (decl_code n x rest)) (sym (length_scope p.names es)))
-      ∙ sym (let_step bs (length out) out (onto c) p.block p.names g x t js)
-      ∙ ap (λ xs. finish_from bs (length out) out (onto c) (record { block = p.block; names = p.names; vars = scope p.names xs; term = a.Let x t }) js) (sym whole_es)
+      ap (λ ks. pend prog fs out (onto d) ks ts) is_tops
+      ∙ ap₂ (λ j ks. finish_from prog (length out) out (onto d) j ks) (next_job t) (kept (others ts))
+      ∙ from_same prog (length out) out (onto d) (λ rest. onto c (decl_code (length g) x rest)) (record { block = p.block; names = more_vars x p.names; vars = declared prog g x; term = t }) js (λ rest. codes rest ∙ ap (λ n. onto c (decl_code n x rest)) (sym (length_scope p.names es)))
+      ∙ sym (let_step prog (length out) out (onto c) p.block p.names g x t js)
+      ∙ ap (λ xs. finish_from prog (length out) out (onto c) (record { block = p.block; names = p.names; vars = scope p.names xs; term = a.Let x t }) js) (sym whole_es)
 
   longer : length es ≤ length fs
   longer = omega (arith, ap length made, length-append es (e ∷ []))
@@ -81,7 +81,7 @@ module _ (bs : List a.ABlk) (p q : Place) (x : a.ADecl) (es fs : List Entry) (e 
       (omega (arith, f.0, same_block), omega (arith, all), subst (λ k. Under k (take q.vars fs)) (sym same_names) (subst (Under (more_vars x p.names)) (sym (whole_fs ∙ made)) u),
        subst (λ xs. Fit (length out) xs q.vars (tops ps)) (sym made) (fit_keep (length out) (length out) p.vars q.vars es (e ∷ []) (tops ps) f.3 (omega (arith, count)) (omega arith) (omega (arith, all, longer, count))))
 
-  pub let_stepped : Stepped bs p (a_let x) 1 es fs ps qs o o c d
+  pub let_stepped : Stepped prog p (a_let x) 1 es fs ps qs o o c d
   let_stepped = record {
     walked = walked_let;
     fit = fit_let;
@@ -89,11 +89,11 @@ module _ (bs : List a.ABlk) (p q : Place) (x : a.ADecl) (es fs : List Entry) (e 
   }
 
 -- an end: the block is whole
-pub end_stepped : (bs : List a.ABlk) (p : Place) (t : a.ATm) (es : List Entry) (ps : List Place) (o n : List Block) (c d : List (Instr × Span)) →
+pub end_stepped : (prog : a.AProg) (p : Place) (t : a.ATm) (es : List Entry) (ps : List Place) (o n : List Block) (c d : List (Instr × Span)) →
     p.vars ≡ length es → d ≡ [] → blocks_of n ≡ fill p.block (onto c (code p.names (length es) (length (blocks_of o)) t)) (blocks_of o) → Fit (length (blocks_of o)) es (length es) (p ∷ tops ps) →
-    ((out : List TBlock) (at : ℕ) (k : ℕ) (g : List a.ATy) (js : List Job) → finish_from bs at out (onto c) (record { block = p.block; names = k; vars = g; term = t }) js ≡ finish bs at (fill p.block (onto c (code k (length g) at t)) out) js) →
-    Stepped bs p (λ ts. t ∷ ts) 0 es es ps ps o n c d
-end_stepped bs p t es ps o n c d count none filled f step =
+    ((out : List TBlock) (at : ℕ) (k : ℕ) (g : List a.ATy) (js : List Job) → finish_from prog at out (onto c) (record { block = p.block; names = k; vars = g; term = t }) js ≡ finish prog at (fill p.block (onto c (code k (length g) at t)) out) js) →
+    Stepped prog p (λ ts. t ∷ ts) 0 es es ps ps o n c d
+end_stepped prog p t es ps o n c d count none filled f step =
     let out = blocks_of o in
     let at = length out in
     let whole_es : take p.vars es ≡ es = whole es p.vars (omega (arith, count)) in
@@ -101,23 +101,23 @@ end_stepped bs p t es ps o n c d count none filled f step =
     let long : length (blocks_of n) ≡ at = ap length filled ∙ fill_length p.block (onto c (code p.names (length es) at t)) out in
     record {
       walked = λ ts.
-          (ap (λ x. pend bs es (blocks_of n) (onto x) (tops ps) ts) none
-          ∙ pend_finish bs es (blocks_of n) (tops ps) ts
-          ∙ ap₂ (λ i xs. finish bs i xs (jobs_at es (tops ps) ts)) long filled
-          ∙ ap (λ i. finish bs at (fill p.block (onto c (code p.names i at t)) out) (jobs_at es (tops ps) ts)) (sym (length_scope p.names es))
+          (ap (λ x. pend prog es (blocks_of n) (onto x) (tops ps) ts) none
+          ∙ pend_finish prog es (blocks_of n) (tops ps) ts
+          ∙ ap₂ (λ i xs. finish prog i xs (jobs_at es (tops ps) ts)) long filled
+          ∙ ap (λ i. finish prog at (fill p.block (onto c (code p.names i at t)) out) (jobs_at es (tops ps) ts)) (sym (length_scope p.names es))
           ∙ sym (step out at p.names g (jobs_at es (tops ps) ts))
-          ∙ ap (λ xs. finish_from bs at out (onto c) (record { block = p.block; names = p.names; vars = scope p.names xs; term = t }) (jobs_at es (tops ps) ts)) (sym whole_es));
+          ∙ ap (λ xs. finish_from prog at out (onto c) (record { block = p.block; names = p.names; vars = scope p.names xs; term = t }) (jobs_at es (tops ps) ts)) (sym whole_es));
       fit = fit_more at (length (blocks_of n)) p.vars (length es) es (tops ps) f.3 (omega (arith, long)) (omega (arith, count));
       count = refl;
     }
 
 -- a branch
-pub if_stepped : (bs : List a.ABlk) (p q : Place) (v : a.AVal) (es : List Entry) (ps qs : List Place) (o n : List Block) (c d : List (Instr × Span)) →
+pub if_stepped : (prog : a.AProg) (p q : Place) (v : a.AVal) (es : List Entry) (ps qs : List Place) (o n : List Block) (c d : List (Instr × Span)) →
     p.vars ≡ length es → q.block ≡ length o → q.names ≡ p.names → q.vars ≡ p.vars → qs ≡ (ps ++ q ∷ []) ++ p ∷ [] →
     ((rest : TSeq) → onto d rest ≡ onto c (into (length es) (suc (length es)) v (Then (T.Bnz (suc (length es)) (T.Plain (T.Label (length o)) (tvars p.names))) rest))) →
     blocks_of n ≡ blocks_of o ++ reserved p.names (file (scope p.names es)) ∷ [] → Fit (length (blocks_of o)) es (length es) (p ∷ tops ps) →
-    Stepped bs p (λ ts. a.If0 v (top no_term ts) (top no_term (others ts)) ∷ others (others ts)) 2 es es ps qs o n c d
-if_stepped bs p q v es ps qs o n c d count qb qn qv pushed codes more f =
+    Stepped prog p (λ ts. a.If0 v (top no_term ts) (top no_term (others ts)) ∷ others (others ts)) 2 es es ps qs o n c d
+if_stepped prog p q v es ps qs o n c d count qb qn qv pushed codes more f =
     let out = blocks_of o in
     let at = length out in
     let ob : length o ≡ at = sym (blocks_count o) in
@@ -135,13 +135,13 @@ if_stepped bs p q v es ps qs o n c d count qb qn qv pushed codes more f =
           (let t = top no_term ts in
           let u = top no_term (others ts) in
           let js = jobs_at es (tops ps) (others (others ts)) in
-          ap (λ ks. pend bs es (blocks_of n) (onto d) ks ts) is_tops
-          ∙ ap₂ (λ j k. finish_from bs (length (blocks_of n)) (blocks_of n) (onto d) j (k ∷ js)) (is_first t) (is_job u)
-          ∙ ap₂ (λ i xs. finish_from bs i xs (onto d) (record { block = p.block; names = p.names; vars = g; term = t }) (record { block = at; names = p.names; vars = g; term = u } ∷ js)) long more
-          ∙ from_same bs (suc at) (out ++ reserved p.names (file g) ∷ []) (onto d) (λ rest. onto c (into (length g) (suc (length g)) v (Then (T.Bnz (suc (length g)) (T.Plain (T.Label at) (tvars p.names))) rest))) (record { block = p.block; names = p.names; vars = g; term = t }) (record { block = at; names = p.names; vars = g; term = u } ∷ js)
+          ap (λ ks. pend prog es (blocks_of n) (onto d) ks ts) is_tops
+          ∙ ap₂ (λ j k. finish_from prog (length (blocks_of n)) (blocks_of n) (onto d) j (k ∷ js)) (is_first t) (is_job u)
+          ∙ ap₂ (λ i xs. finish_from prog i xs (onto d) (record { block = p.block; names = p.names; vars = g; term = t }) (record { block = at; names = p.names; vars = g; term = u } ∷ js)) long more
+          ∙ from_same prog (suc at) (out ++ reserved p.names (file g) ∷ []) (onto d) (λ rest. onto c (into (length g) (suc (length g)) v (Then (T.Bnz (suc (length g)) (T.Plain (T.Label at) (tvars p.names))) rest))) (record { block = p.block; names = p.names; vars = g; term = t }) (record { block = at; names = p.names; vars = g; term = u } ∷ js)
             (λ rest. codes rest ∙ ap₂ (λ l i. onto c (into l (suc l) v (Then (T.Bnz (suc l) (T.Plain (T.Label i) (tvars p.names))) rest))) (sym (length_scope p.names es)) ob)
-          ∙ sym (if0_step bs at out (onto c) p.block p.names g v t u js f.0 refl)
-          ∙ ap (λ j. finish_from bs at out (onto c) j js) (sym (is_first (a.If0 v t u))));
+          ∙ sym (if0_step prog at out (onto c) p.block p.names g v t u js f.0 refl)
+          ∙ ap (λ j. finish_from prog at out (onto c) j js) (sym (is_first (a.If0 v t u))));
       fit =
           subst (Fit (length (blocks_of n)) es (length es)) (sym is_tops)
           (omega (arith, f.0, long), f.1, f.2,
@@ -162,12 +162,12 @@ build_decl (Call us) vs e = cc
 build_decl If0 vs e = cc
 build_decl Halt vs e = cc
 
-pub stepped_as : {bs : List a.ABlk} {p : Place} {b1 b2 : List a.ATm → List a.ATm} {k1 k2 : ℕ} {es fs : List Entry} {ps qs : List Place} {o n : List Block} {c d : List (Instr × Span)} →
-    b2 ≡ b1 → k2 ≡ k1 → Stepped bs p b1 k1 es fs ps qs o n c d → Stepped bs p b2 k2 es fs ps qs o n c d
-stepped_as {bs} {p} {b1} {b2} {k1} {k2} {es} {fs} {ps} {qs} {o} {n} {c} {d} e f h =
-    subst (λ k. Stepped bs p b2 k es fs ps qs o n c d) (sym f) (subst (λ b. Stepped bs p b k1 es fs ps qs o n c d) (sym e) h)
+pub stepped_as : {prog : a.AProg} {p : Place} {b1 b2 : List a.ATm → List a.ATm} {k1 k2 : ℕ} {es fs : List Entry} {ps qs : List Place} {o n : List Block} {c d : List (Instr × Span)} →
+    b2 ≡ b1 → k2 ≡ k1 → Stepped prog p b1 k1 es fs ps qs o n c d → Stepped prog p b2 k2 es fs ps qs o n c d
+stepped_as {prog} {p} {b1} {b2} {k1} {k2} {es} {fs} {ps} {qs} {o} {n} {c} {d} e f h =
+    subst (λ k. Stepped prog p b2 k es fs ps qs o n c d) (sym f) (subst (λ b. Stepped prog p b k1 es fs ps qs o n c d) (sym e) h)
 
-pub stepped_for : {bs : List a.ABlk} {p : Place} {b1 b2 : List a.ATm → List a.ATm} {k1 k2 : ℕ} {es fs : List Entry} {ps qs : List Place} {o n : List Block} {c d : List (Instr × Span)} →
-    b2 ≡ b1 → k2 ≡ k1 → es ≡ fs → Stepped bs p b1 k1 es es ps qs o n c d → Stepped bs p b2 k2 fs fs ps qs o n c d
-stepped_for {bs} {p} {b1} {b2} {k1} {k2} {es} {fs} {ps} {qs} {o} {n} {c} {d} e f g h =
-    subst (λ xs. Stepped bs p b2 k2 xs xs ps qs o n c d) g (stepped_as e f h)
+pub stepped_for : {prog : a.AProg} {p : Place} {b1 b2 : List a.ATm → List a.ATm} {k1 k2 : ℕ} {es fs : List Entry} {ps qs : List Place} {o n : List Block} {c d : List (Instr × Span)} →
+    b2 ≡ b1 → k2 ≡ k1 → es ≡ fs → Stepped prog p b1 k1 es es ps qs o n c d → Stepped prog p b2 k2 fs fs ps qs o n c d
+stepped_for {prog} {p} {b1} {b2} {k1} {k2} {es} {fs} {ps} {qs} {o} {n} {c} {d} e f g h =
+    subst (λ xs. Stepped prog p b2 k2 xs xs ps qs o n c d) g (stepped_as e f h)

@@ -20,29 +20,29 @@ use Rattle.t_gen.specs.Pending.{tops, body_job, pend, Fit, Stepped}
 use Rattle.t_gen.proofs.Keeping.{whole, tops_push, fit_cut, count_cut, pend_cut}
 
 -- what the loop keeps: with what is left of the nodes, the whole comes out
-pub record Walked (bs : List a.ABlk) (rest : List ANode) (es : List Entry) (ps : List Place) (o : List Block) (c : List (Instr × Span)) (all : List TBlock) : Type 0 where
+pub record Walked (prog : a.AProg) (rest : List ANode) (es : List Entry) (ps : List Place) (o : List Block) (c : List (Instr × Span)) (all : List TBlock) : Type 0 where
   pub row : ARow rest (length ps)
   pub fit : Fit (length (blocks_of o)) es (length es) (tops ps)
-  pub terms : pend bs es (blocks_of o) (onto c) (tops ps) (a_onto rest []) ≡ all
+  pub terms : pend prog es (blocks_of o) (onto c) (tops ps) (a_onto rest []) ≡ all
 
-pub walk_begins : (bs : List a.ABlk) (nodes : List ANode) (es : List Entry) (p : Place) (ps : List Place) (o : List Block) (c : List (Instr × Span)) → ARow nodes 1 → Under p.names es → c ≡ [] → ps ≡ p ∷ [] → p.vars ≡ length es → p.block < length o →
-    Walked bs nodes es ps o c (finish bs (length (blocks_of o)) (blocks_of o) (body_job p.block p.names (scope p.names es) nodes ∷ []))
-walk_begins bs nodes es p ps o c row under none is count lt =
+pub walk_begins : (prog : a.AProg) (nodes : List ANode) (es : List Entry) (p : Place) (ps : List Place) (o : List Block) (c : List (Instr × Span)) → ARow nodes 1 → Under p.names es → c ≡ [] → ps ≡ p ∷ [] → p.vars ≡ length es → p.block < length o →
+    Walked prog nodes es ps o c (finish prog (length (blocks_of o)) (blocks_of o) (body_job p.block p.names (scope p.names es) nodes ∷ []))
+walk_begins prog nodes es p ps o c row under none is count lt =
     let all : take p.vars es ≡ es = whole es p.vars (omega (arith, count)) in
     record {
       row = subst (λ n. ARow nodes n) (sym (ap length is)) row;
       fit = subst (λ xs. Fit (length (blocks_of o)) es (length es) (tops xs)) (sym is) (omega (arith, lt, blocks_count o), omega (arith, count), subst (Under p.names) (sym all) under, tt);
       terms =
-          ap₂ (λ x y. pend bs es (blocks_of o) (onto x) (tops y) (a_onto nodes [])) none is
-          ∙ ap (λ xs. finish bs (length (blocks_of o)) (blocks_of o) (body_job p.block p.names (scope p.names xs) nodes ∷ [])) all;
+          ap₂ (λ x y. pend prog es (blocks_of o) (onto x) (tops y) (a_onto nodes [])) none is
+          ∙ ap (λ xs. finish prog (length (blocks_of o)) (blocks_of o) (body_job p.block p.names (scope p.names xs) nodes ∷ [])) all;
     }
 
 pub next_node : (ns : List ANode) (i : ℕ) (x : ANode) → i < length ns → x ≡ get_or ns i x → drop i ns ≡ x ∷ drop (i + 1) ns
 next_node ns i x lt is = drop_more ns i x lt ∙ ap (λ y. y ∷ drop (i + 1) ns) (sym is)
 
 -- what the next node finds
-module _ (bs : List a.ABlk) (before rest : List ANode) (node : ANode) (es kept : List Entry) (ps qs : List Place) (p : Place) (o : List Block) (c : List (Instr × Span)) (all : List TBlock)
-  (is : before ≡ node ∷ rest) (popped : ps ≡ qs ++ p ∷ []) (cut : kept ≡ take p.vars es) (walked : Walked bs before es ps o c all) where
+module _ (prog : a.AProg) (before rest : List ANode) (node : ANode) (es kept : List Entry) (ps qs : List Place) (p : Place) (o : List Block) (c : List (Instr × Span)) (all : List TBlock)
+  (is : before ≡ node ∷ rest) (popped : ps ≡ qs ++ p ∷ []) (cut : kept ≡ take p.vars es) (walked : Walked prog before es ps o c all) where
 
   is_tops : tops ps ≡ p ∷ tops qs
   is_tops = ap tops popped ∙ tops_push qs p
@@ -65,27 +65,27 @@ module _ (bs : List a.ABlk) (before rest : List ANode) (node : ANode) (es kept :
   pub walk_count : p.vars ≡ length kept
   walk_count = count_cut (length (blocks_of o)) es kept p (tops qs) cut fits
 
-  pub walk_goes : (fs : List Entry) (rs : List Place) (n : List Block) (d : List (Instr × Span)) → Stepped bs p (a_build node.form (a_values node.values.items)) (a_kids node.form) kept fs qs rs o n c d → Walked bs rest fs rs n d all
+  pub walk_goes : (fs : List Entry) (rs : List Place) (n : List Block) (d : List (Instr × Span)) → Stepped prog p (a_build node.form (a_values node.values.items)) (a_kids node.form) kept fs qs rs o n c d → Walked prog rest fs rs n d all
   walk_goes fs rs n d step = record {
     row = subst (ARow rest) (sym step.count) row.1;
     fit = step.fit;
     terms =
         step.walked (a_onto rest [])
-        ∙ pend_cut bs (length (blocks_of o)) es kept (blocks_of o) (onto c) p (tops qs) (a_build node.form (a_values node.values.items) (a_onto rest [])) cut fits
-        ∙ ap (λ ks. pend bs es (blocks_of o) (onto c) ks (a_onto (node ∷ rest) [])) (sym is_tops)
-        ∙ ap (λ ns. pend bs es (blocks_of o) (onto c) (tops ps) (a_onto ns [])) (sym is)
+        ∙ pend_cut prog (length (blocks_of o)) es kept (blocks_of o) (onto c) p (tops qs) (a_build node.form (a_values node.values.items) (a_onto rest [])) cut fits
+        ∙ ap (λ ks. pend prog es (blocks_of o) (onto c) ks (a_onto (node ∷ rest) [])) (sym is_tops)
+        ∙ ap (λ ns. pend prog es (blocks_of o) (onto c) (tops ps) (a_onto ns [])) (sym is)
         ∙ walked.terms;
   }
 
 -- there is a place for each node
-pub walk_stuck : (bs : List a.ABlk) (before rest : List ANode) (node : ANode) (es : List Entry) (ps : List Place) (o : List Block) (c : List (Instr × Span)) (all : List TBlock) → before ≡ node ∷ rest → length ps ≡ 0 → Walked bs before es ps o c all → ⊥
-walk_stuck bs before rest node es ps o c all is none walked = subst (ARow (node ∷ rest)) none (subst (λ ns. ARow ns (length ps)) is walked.row)
+pub walk_stuck : (prog : a.AProg) (before rest : List ANode) (node : ANode) (es : List Entry) (ps : List Place) (o : List Block) (c : List (Instr × Span)) (all : List TBlock) → before ≡ node ∷ rest → length ps ≡ 0 → Walked prog before es ps o c all → ⊥
+walk_stuck prog before rest node es ps o c all is none walked = subst (ARow (node ∷ rest)) none (subst (λ ns. ARow ns (length ps)) is walked.row)
 
 nil_from : {T : Type 0} (xs : List T) → length xs ≡ 0 → xs ≡ []
 nil_from [] e = refl
 nil_from (x ∷ xs) e = absurd (omega arith)
 
-pub walk_ends : (bs : List a.ABlk) (rest : List ANode) (es : List Entry) (ps : List Place) (o : List Block) (c : List (Instr × Span)) (all : List TBlock) → rest ≡ [] → Walked bs rest es ps o c all → blocks_of o ≡ all
-walk_ends bs rest es ps o c all is walked =
+pub walk_ends : (prog : a.AProg) (rest : List ANode) (es : List Entry) (ps : List Place) (o : List Block) (c : List (Instr × Span)) (all : List TBlock) → rest ≡ [] → Walked prog rest es ps o c all → blocks_of o ≡ all
+walk_ends prog rest es ps o c all is walked =
     let none : ps ≡ [] = nil_from ps (subst (λ ns. ARow ns (length ps)) is walked.row) in
-    ap (λ (qs : List Place). pend bs es (blocks_of o) (onto c) (tops qs) (a_onto rest [])) (sym none) ∙ walked.terms
+    ap (λ (qs : List Place). pend prog es (blocks_of o) (onto c) (tops qs) (a_onto rest [])) (sym none) ∙ walked.terms

@@ -1,41 +1,29 @@
--- Blocks that are reserved with their headers and filled later, in the order of the nodes.
+-- Blocks that are reserved with their headers are filled in the order of the terms.
 use Rattle.std.specs.Prelude.{ℕ, zero, suc, ◌+◌, ◌++◌, List, [], ◌∷◌, length}
-use Rattle.t_types.specs.Tree.{TFile}
-use Rattle.t_terms.specs.Tree as T
-use Rattle.t_terms.specs.Tree.{TSeq, Ends, TBlock}
-use Rattle.a_terms.specs.Tree.{ATy, ATm, ABlk}
+use Rattle.t_terms.specs.Tree.{TSeq, TBlock}
+use Rattle.a_terms.specs.Tree.{ATy, ATm, ABlk, AProg}
 use Rattle.a_terms.specs.Typing.{types_of}
 use Rattle.gen_law.specs.Gen.{ty_args, code, extras}
 use Rattle.a_terms.specs.Bound.{thirds}
+use Rattle.t_emit.specs.Code.{reserved, fill}
 
--- a block with its header, and with its code
-abbrev pub reserved : ℕ → TFile → TBlock
-reserved k f = record { owes = k; file = f; code = Ends T.Halt }
-
-abbrev pub coded : TBlock → TSeq → TBlock
-coded b c = record { owes = b.owes; file = b.file; code = c }
-
-abbrev pub fill : ℕ → TSeq → List TBlock → List TBlock
-fill n c [] = []
-fill zero c (b ∷ bs) = coded b c ∷ bs
-fill (suc n) c (b ∷ bs) = b ∷ fill n c bs
-
--- a term that is still to be emitted, into which block, and where
+-- a term that is still to be emitted: into which block, and under which names and variables
 pub record Job : Type 0 where
   pub block : ℕ
   pub names : ℕ
   pub vars : List ATy
   pub term : ATm
 
--- the blocks in the end, where the next third part is block at: the current term's code stands behind pre
-abbrev pub finish : List ABlk → ℕ → List TBlock → List Job → List TBlock
-finish bs at out [] = out
-finish bs at out (j ∷ js) =
-    finish bs (at + thirds j.term) (fill j.block (code j.names (length j.vars) at j.term) out ++ extras bs j.names (length j.vars) j.vars at j.term) js
+-- the blocks in the end, where the next third part is block at
+abbrev pub finish : AProg → ℕ → List TBlock → List Job → List TBlock
+finish p at out [] = out
+finish p at out (j ∷ js) =
+    finish p (at + thirds j.term) (fill j.block (code j.names (length j.vars) at j.term) out ++ extras p j.names (length j.vars) j.vars at j.term) js
 
-abbrev pub finish_from : List ABlk → ℕ → List TBlock → (TSeq → TSeq) → Job → List Job → List TBlock
-finish_from bs at out pre j js =
-    finish bs (at + thirds j.term) (fill j.block (pre (code j.names (length j.vars) at j.term)) out ++ extras bs j.names (length j.vars) j.vars at j.term) js
+-- the same, where the first term's code stands behind pre
+abbrev pub finish_from : AProg → ℕ → List TBlock → (TSeq → TSeq) → Job → List Job → List TBlock
+finish_from p at out pre j js =
+    finish p (at + thirds j.term) (fill j.block (pre (code j.names (length j.vars) at j.term)) out ++ extras p j.names (length j.vars) j.vars at j.term) js
 
 -- the reserved blocks of the program's blocks
 abbrev pub reserves : List ABlk → List TBlock

@@ -32,9 +32,9 @@ jobs_at es [] ts = []
 jobs_at es (p ∷ ps) ts = job es p (top no_term ts) ∷ jobs_at es ps (others ts)
 
 -- the blocks in the end, where the code of the first place stands behind pre
-abbrev pub pend : List a.ABlk → List Entry → List TBlock → (TSeq → TSeq) → List Place → List a.ATm → List TBlock
-pend bs es out pre [] ts = out
-pend bs es out pre (p ∷ ps) ts = finish_from bs (length out) out pre (job es p (top no_term ts)) (jobs_at es ps (others ts))
+abbrev pub pend : a.AProg → List Entry → List TBlock → (TSeq → TSeq) → List Place → List a.ATm → List TBlock
+pend prog es out pre [] ts = out
+pend prog es out pre (p ∷ ps) ts = finish_from prog (length out) out pre (job es p (top no_term ts)) (jobs_at es ps (others ts))
 
 -- each place has a block, and fewer variables than the one before
 abbrev pub Fit : ℕ → List Entry → ℕ → List Place → Type 0
@@ -42,7 +42,7 @@ Fit b es m [] = Unit {0}
 Fit b es m (p ∷ ps) = (p.block < b) × (p.vars ≤ m) × Under p.names (take p.vars es) × Fit b es p.vars ps
 
 -- what one node does, which makes a term of `kids` terms
-pub record Stepped (bs : List a.ABlk) (p : Place) (build : List a.ATm → List a.ATm) (kids : ℕ) (es fs : List Entry) (ps qs : List Place) (o n : List Block) (c d : List (Instr × Span)) : Type 0 where
-  pub walked : (ts : List a.ATm) → pend bs fs (blocks_of n) (onto d) (tops qs) ts ≡ pend bs es (blocks_of o) (onto c) (p ∷ tops ps) (build ts)
+pub record Stepped (prog : a.AProg) (p : Place) (build : List a.ATm → List a.ATm) (kids : ℕ) (es fs : List Entry) (ps qs : List Place) (o n : List Block) (c d : List (Instr × Span)) : Type 0 where
+  pub walked : (ts : List a.ATm) → pend prog fs (blocks_of n) (onto d) (tops qs) ts ≡ pend prog es (blocks_of o) (onto c) (p ∷ tops ps) (build ts)
   pub fit : Fit (length (blocks_of n)) fs (length fs) (tops qs)
   pub count : length qs ≡ lift kids (length ps)

@@ -4,17 +4,16 @@ ghost use Rattle.t_terms.specs.Read.{blocks_of};
 ghost use Rattle.t_gen.specs.Filling.{finish};
 ghost use Rattle.a_terms.specs.Typing.{types_of};
 ghost use Rattle.a_terms.specs.Read.{atrees};
-ghost use Rattle.a_terms.specs.NodeTrees.{a_blocks};
+ghost use Rattle.a_terms.specs.Program.{program_in};
 ghost use Rattle.a_terms.specs.Arity.{ARow};
 ghost use Rattle.a_scope.specs.Scope.{scope, Under};
 ghost use Rattle.t_gen.specs.Pending.{body_job};
 
 use crate::state::Place;
 use crate::step::step;
-use a_nodes::{ABlock, ANode};
+use a_terms::walks::copy;
+use a_terms::{ANode, AProgram, AType};
 use a_scope::Entry;
-use a_types::AType;
-use a_types::walks::shift;
 use idx_core::OutOfMemory;
 use std::alloc::Global;
 use t_terms::Block;
@@ -22,7 +21,7 @@ use t_terms::Block;
 /// The blocks of one body: its own, which is reserved, and those of its third parts at the end.
 pub fn emit_body(
     alloc: Global,
-    blocks: &[ABlock],
+    program: &AProgram,
     out: &mut Vec<Block>,
     block: usize,
     names: u64,
@@ -32,7 +31,7 @@ pub fn emit_body(
     requires one { ARow nodes.now 1 }
     requires under { Under names vars.items }
     requires block { block < length out.old.items }
-    ensures { OnOk result (blocks_of out.new.items ≡ finish (a_blocks blocks.now) (length (blocks_of out.old.items)) (blocks_of out.old.items) (body_job block names (scope names vars.items) nodes.now ∷ [])) }
+    ensures { OnOk result (blocks_of out.new.items ≡ finish (program_in program.now) (length (blocks_of out.old.items)) (blocks_of out.old.items) (body_job block names (scope names vars.items) nodes.now ∷ [])) }
 {
     let mut vars = vars;
     let mut code = Vec::new(alloc);
@@ -48,7 +47,7 @@ pub fn emit_body(
             unreachable!()
         };
         vars.truncate(place.vars);
-        step(alloc, blocks, out, &mut code, &mut vars, &mut places, place, node)?;
+        step(alloc, program, out, &mut code, &mut vars, &mut places, place, node)?;
     }
     Ok(())
 }
@@ -60,7 +59,7 @@ pub fn arguments(alloc: Global, owes: u64, args: &[AType]) -> Result<Vec<Entry>,
 {
     let mut vars = Vec::new(alloc);
     for t in args {
-        let ty = shift(alloc, t, 0, 0)?;
+        let ty = copy(alloc, t)?;
         vars.push(Entry { ty, names: owes })?;
     }
     Ok(vars)

@@ -6,11 +6,11 @@ ghost use Rattle.t_emit.specs.Code.{onto};
 ghost use Rattle.t_emit.specs.Code.{fill};
 ghost use Rattle.a_terms.specs.NodeTrees.{is_decl};
 
-use a_nodes::AForm;
+use a_terms::AForm;
 use idx_core::Span;
 use std::alloc::Global;
 use std::mem;
-use t_code::blocks::close;
+use t_emit::blocks::close;
 use t_terms::{Block, End, Instr};
 
 /// A term that is still to come: into which block its code goes, and how many type names and variables are in scope.

@@ -2,30 +2,30 @@
 ghost use Rattle.std.specs.Prelude.{◌≡◌, ◌<◌, ℕ, List, ◌∷◌, true, length, OnOk};
 ghost use Rattle.t_terms.specs.Read.{blocks_of};
 ghost use Rattle.t_terms.specs.declared.block.Block.{Block as TheBlock};
-ghost use Rattle.a_terms.specs.Tree.{ATm, Call, If0, Halt, ABlk as ABlockTree};
+ghost use Rattle.a_terms.specs.Tree.{ATm, Call, If0, Halt, AProg};
 ghost use Rattle.t_gen.specs.declared.state.Place.{Place as ThePlace};
 ghost use Rattle.a_terms.specs.Read.{atrees};
-ghost use Rattle.a_terms.specs.NodeTrees.{a_values, a_blocks, a_build, a_decl, a_let, is_decl, no_value, no_term};
+ghost use Rattle.a_terms.specs.NodeTrees.{a_values, a_build, a_decl, a_let, is_decl, no_value, no_term};
 ghost use Rattle.a_terms.specs.Arity.{a_kids, AArity};
 ghost use Rattle.a_terms.specs.Row.{IsOne, IsSome, top, others};
+ghost use Rattle.a_terms.specs.Program.{program_in};
 ghost use Rattle.t_gen.specs.Pending.{tops, Fit, Stepped};
 
 use crate::state::{Place, close_block, declares};
-use a_nodes::{ABlock, AForm, ANode, AValue};
+use a_terms::{AForm, ANode, AProgram, AType, AValue};
 use a_scope::{Entry, declare, first};
-use a_types::AType;
 use idx_core::{OutOfMemory, Span};
 use std::alloc::Global;
+use t_emit::calls::{above_all, emit_call, jump};
+use t_emit::decls::emit_declaration;
+use t_emit::headers::emit_if0;
+use t_emit::values::emit_value;
 use t_terms::{Block, End, Instr};
-use t_write::calls::{above_all, emit_call, jump};
-use t_write::decls::emit_declaration;
-use t_write::headers::emit_if0;
-use t_write::values::emit_value;
 
 // A declaration.
 fn step_let(
     alloc: Global,
-    blocks: &[ABlock],
+    program: &AProgram,
     code: &mut Vec<(Instr, Span)>,
     vars: &mut Vec<Entry>,
     places: &mut Vec<Place>,
@@ -37,11 +37,11 @@ fn step_let(
     requires arity { AArity form.now (a_values values.now) }
     requires vars { place.vars ≡ length vars.old.items }
     requires fit { (b : ℕ) × Fit b vars.old.items (length vars.old.items) (place ∷ tops places.old.items) }
-    ensures { OnOk result ((o : List TheBlock) → Fit (length (blocks_of o)) vars.old.items (length vars.old.items) (place ∷ tops places.old.items) → Stepped (a_blocks blocks.now) place (a_let (a_decl form.now (a_values values.now))) 1 vars.old.items vars.new.items places.old.items places.new.items o o code.old.items code.new.items) }
+    ensures { OnOk result ((o : List TheBlock) → Fit (length (blocks_of o)) vars.old.items (length vars.old.items) (place ∷ tops places.old.items) → Stepped (program_in program.now) place (a_let (a_decl form.now (a_values values.now))) 1 vars.old.items vars.new.items places.old.items places.new.items o o code.old.items code.new.items) }
 {
     let depth = vars.len() as u64;
     emit_declaration(alloc, code, depth, form, values)?;
-    let names = declare(alloc, blocks, vars, place.names, form, values)?;
+    let names = declare(alloc, program, vars, place.names, form, values)?;
     let count = vars.len();
     places.push(Place {
         block: place.block,
@@ -64,7 +64,7 @@ fn step_call(
     requires arity { IsSome (a_values values.now) }
     requires vars { place.vars ≡ length vars.now }
     requires block { place.block < length out.old.items }
-    ensures { OnOk result ((bs : List ABlockTree) (ps : List ThePlace) → Fit (length (blocks_of out.old.items)) vars.now (length vars.now) (place ∷ tops ps) → Stepped bs place (λ ts. Call (top no_value (a_values values.now)) (atrees types.now) (others (a_values values.now)) ∷ ts) 0 vars.now vars.now ps ps out.old.items out.new.items code.old.items code.new.items) }
+    ensures { OnOk result ((prog : AProg) (ps : List ThePlace) → Fit (length (blocks_of out.old.items)) vars.now (length vars.now) (place ∷ tops ps) → Stepped prog place (λ ts. Call (top no_value (a_values values.now)) (atrees types.now) (others (a_values values.now)) ∷ ts) 0 vars.now vars.now ps ps out.old.items out.new.items code.old.items code.new.items) }
 {
     let depth = vars.len() as u64;
     let above = above_all(depth, values);
@@ -86,7 +86,7 @@ fn step_halt(
     requires arity { IsOne (a_values values.now) }
     requires vars { place.vars ≡ length vars.now }
     requires block { place.block < length out.old.items }
-    ensures { OnOk result ((bs : List ABlockTree) (ps : List ThePlace) → Fit (length (blocks_of out.old.items)) vars.now (length vars.now) (place ∷ tops ps) → Stepped bs place (λ ts. Halt (top no_value (a_values values.now)) ∷ ts) 0 vars.now vars.now ps ps out.old.items out.new.items code.old.items code.new.items) }
+    ensures { OnOk result ((prog : AProg) (ps : List ThePlace) → Fit (length (blocks_of out.old.items)) vars.now (length vars.now) (place ∷ tops ps) → Stepped prog place (λ ts. Halt (top no_value (a_values values.now)) ∷ ts) 0 vars.now vars.now ps ps out.old.items out.new.items code.old.items code.new.items) }
 {
     let depth = vars.len() as u64;
     emit_value(alloc, code, depth, 1, first(values))?;
@@ -106,7 +106,7 @@ fn step_if(
 ) -> Result<(), OutOfMemory>
     requires arity { IsOne (a_values values.now) }
     requires vars { place.vars ≡ length vars.now }
-    ensures { OnOk result ((bs : List ABlockTree) → Fit (length (blocks_of out.old.items)) vars.now (length vars.now) (place ∷ tops places.old.items) → Stepped bs place (λ ts. If0 (top no_value (a_values values.now)) (top no_term ts) (top no_term (others ts)) ∷ others (others ts)) 2 vars.now vars.now places.old.items places.new.items out.old.items out.new.items code.old.items code.new.items) }
+    ensures { OnOk result ((prog : AProg) → Fit (length (blocks_of out.old.items)) vars.now (length vars.now) (place ∷ tops places.old.items) → Stepped prog place (λ ts. If0 (top no_value (a_values values.now)) (top no_term ts) (top no_term (others ts)) ∷ others (others ts)) 2 vars.now vars.now places.old.items places.new.items out.old.items out.new.items code.old.items code.new.items) }
 {
     let block = out.len();
     emit_if0(alloc, out, code, vars, place.names, first(values))?;
@@ -122,7 +122,7 @@ fn step_if(
 /// One node, at a place.
 pub fn step(
     alloc: Global,
-    blocks: &[ABlock],
+    program: &AProgram,
     out: &mut Vec<Block>,
     code: &mut Vec<(Instr, Span)>,
     vars: &mut Vec<Entry>,
@@ -133,11 +133,11 @@ pub fn step(
     requires arity { AArity node.now.form (a_values node.now.values.items) }
     requires vars { place.vars ≡ length vars.old.items }
     requires fit { Fit (length (blocks_of out.old.items)) vars.old.items (length vars.old.items) (place ∷ tops places.old.items) }
-    ensures { OnOk result (Stepped (a_blocks blocks.now) place (a_build node.now.form (a_values node.now.values.items)) (a_kids node.now.form) vars.old.items vars.new.items places.old.items places.new.items out.old.items out.new.items code.old.items code.new.items) }
+    ensures { OnOk result (Stepped (program_in program.now) place (a_build node.now.form (a_values node.now.values.items)) (a_kids node.now.form) vars.old.items vars.new.items places.old.items places.new.items out.old.items out.new.items code.old.items code.new.items) }
 {
     let values = node.values.as_slice();
     if declares(&node.form) {
-        step_let(alloc, blocks, code, vars, places, place, &node.form, values)?;
+        step_let(alloc, program, code, vars, places, place, &node.form, values)?;
         return Ok(());
     }
     match &node.form {

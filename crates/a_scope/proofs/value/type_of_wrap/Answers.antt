@@ -1,6 +1,7 @@
 use Rattle.std.proofs.Common.{◌∙◌, ap, sym, Some}
 use Rattle.a_terms.specs.declared.nodes.AWrap.{AWrap}
-use Rattle.a_scope.specs.Scope.{wrap_type, maybe}
+use Rattle.a_terms.specs.Read.{maybe}
+use Rattle.a_scope.specs.Scope.{wrap_type}
 use Rattle.a_scope.proofs.value.type_of_wrap.Goals as goal
 
 pub returns-in_ok-made-in-Pack : goal.returns-in_ok-made-in-Pack

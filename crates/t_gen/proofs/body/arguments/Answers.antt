@@ -1,7 +1,5 @@
 use Rattle.std.proofs.Common.{◌∙◌, ap, sym, refl, subst, [], arith}
 use Rattle.std.proofs.lemmas.List.{take_all}
-use Rattle.idx_core.specs.Laws.{shift_zero_law}
-use Rattle.a_terms.specs.TreeLaws.{a_over}
 use Rattle.a_terms.specs.Typing.{types_of}
 use Rattle.a_terms.specs.Read.{atrees}
 use Rattle.a_scope.specs.Scope.{Under}
@@ -11,7 +9,7 @@ use Rattle.t_gen.proofs.body.arguments.Goals as goal
 
 pub loop-t-preserved : goal.loop-t-preserved
 loop-t-preserved c = record {
-  made = argument_push c.args.owes _ _ _ c.args.args.now c.loop-t.t-index c.t-item.result c.loop-t-test.true c.t-item.is c.in_ok-push.ensures.items refl (c.in_ok-ty.ensures ∙ shift_zero_law a_over 0 _) c.loop-t.invariant.made;
+  made = argument_push c.args.owes _ _ _ c.args.args.now c.loop-t.t-index c.t-item.result c.loop-t-test.true c.t-item.is c.in_ok-push.ensures.items refl c.in_ok-ty.ensures c.loop-t.invariant.made;
   under = subst (Under c.args.owes) (sym c.in_ok-push.ensures.items) (under_push c.args.owes c.args.owes c.loop-t.vars.items _ c.loop-t.invariant.under (omega arith) (omega arith));
 }
 

@@ -1,7 +1,7 @@
 use Rattle.std.proofs.Common.{◌∷◌, [], drop, length}
 use Rattle.t_terms.specs.Read.{blocks_of}
 use Rattle.t_gen.specs.Filling.{finish}
-use Rattle.a_terms.specs.NodeTrees.{a_blocks}
+use Rattle.a_terms.specs.Program.{program_in}
 use Rattle.a_scope.specs.Scope.{scope}
 use Rattle.t_gen.specs.Pending.{body_job}
 use Rattle.t_gen.proofs.Walking.{Walked}
@@ -9,5 +9,5 @@ use Rattle.t_gen.proofs.body.emit_body.Given as goal
 
 abbrev pub invariant-loop-node : goal.invariant-loop-node
 invariant-loop-node l =
-    Walked (a_blocks l.blocks) (drop l.node-index l.nodes) l.vars.items l.places.items l.out.items l.code.items
-      (finish (a_blocks l.blocks) (length (blocks_of l.fn.out.items)) (blocks_of l.fn.out.items) (body_job l.block l.names (scope l.names l.fn.vars.items) l.nodes ∷ []))
+    Walked (program_in l.program) (drop l.node-index l.nodes) l.vars.items l.places.items l.out.items l.code.items
+      (finish (program_in l.program) (length (blocks_of l.fn.out.items)) (blocks_of l.fn.out.items) (body_job l.block l.names (scope l.names l.fn.vars.items) l.nodes ∷ []))

@@ -1,10 +1,10 @@
 use Rattle.std.proofs.Common.{◌+◌, ap, sym, subst, length, arith, List}
 use Rattle.t_terms.specs.Read.{blocks_of}
 use Rattle.t_terms.proofs.Blocks.{blocks_count}
-use Rattle.a_terms.specs.NodeTrees.{a_blocks}
+use Rattle.a_terms.specs.Program.{program_in}
 use Rattle.a_scope.specs.Scope.{Under}
 use Rattle.a_scope.specs.declared.scope.Entry.{Entry}
-use Rattle.t_gen.proofs.Bodies.{begins, begins_long, block_next, block_long, blocks_end, rows_at, length_a_blocks}
+use Rattle.t_gen.proofs.Bodies.{begins, begins_long, block_next, block_long, blocks_end, rows_at}
 use Rattle.t_gen.proofs.program.all_blocks.Goals as goal
 
 pub emit_body-requires : goal.emit_body-requires
@@ -16,25 +16,25 @@ emit_body-requires c = record {
 
 pub emit_block-requires : goal.emit_block-requires
 emit_block-requires c = record {
-  one = rows_at c.args.blocks.now c.loop-i.i c.index-blocks-i.result c.loop-i-test.true c.index-blocks-i.is c.requires.blocks;
+  one = rows_at c.args.blocks.now c.loop-i.i c.index-blocks-i.result c.loop-i-test.true c.index-blocks-i.is c.requires.rows;
   at = omega (arith, c.loop-i.invariant.long, c.loop-i-test.true);
 }
 
 pub loop-i-init : goal.loop-i-init
 loop-i-init c =
-    let bs = a_blocks c.args.blocks.now in
+    let prog = program_in c.args.program.now in
     record {
-      long = omega (arith, begins_long bs c.args.main.now c.new.result.items (blocks_of c.in_ok-out.out.items) _ c.in_ok-out.ensures c.in_ok-emit_body.ensures, blocks_count c.emit_body.new.out.items, length_a_blocks c.args.blocks.now);
-      rest = begins bs c.args.main.now c.new.result.items (blocks_of c.in_ok-out.out.items) _ c.in_ok-out.ensures c.new.ensures.items c.in_ok-emit_body.ensures;
+      long = omega (arith, begins_long prog c.args.blocks.now c.args.main.now c.new.result.items (blocks_of c.in_ok-out.out.items) _ c.in_ok-out.ensures c.in_ok-emit_body.ensures, blocks_count c.emit_body.new.out.items);
+      rest = begins prog c.args.blocks.now c.args.main.now c.new.result.items (blocks_of c.in_ok-out.out.items) _ c.requires.same c.in_ok-out.ensures c.new.ensures.items c.in_ok-emit_body.ensures;
     }
 
 pub loop-i-preserved : goal.loop-i-preserved
 loop-i-preserved c =
-    let bs = a_blocks c.args.blocks.now in
+    let prog = program_in c.args.program.now in
     record {
-      long = omega (arith, c.loop-i.invariant.long, block_long bs (c.loop-i.i + 1) c.index-blocks-i.result (blocks_of c.loop-i.out.items) (blocks_of c.emit_block.new.out.items) c.in_ok-emit_block.ensures, blocks_count c.loop-i.out.items, blocks_count c.emit_block.new.out.items);
-      rest = block_next bs c.args.blocks.now c.loop-i.i c.index-blocks-i.result (blocks_of c.loop-i.out.items) (blocks_of c.emit_block.new.out.items) _ c.loop-i-test.true c.index-blocks-i.is c.in_ok-emit_block.ensures c.loop-i.invariant.rest;
+      long = omega (arith, c.loop-i.invariant.long, block_long prog (c.loop-i.i + 1) c.index-blocks-i.result (blocks_of c.loop-i.out.items) (blocks_of c.emit_block.new.out.items) c.in_ok-emit_block.ensures, blocks_count c.loop-i.out.items, blocks_count c.emit_block.new.out.items);
+      rest = block_next prog c.args.blocks.now c.loop-i.i c.index-blocks-i.result (blocks_of c.loop-i.out.items) (blocks_of c.emit_block.new.out.items) _ c.loop-i-test.true c.index-blocks-i.is c.in_ok-emit_block.ensures c.loop-i.invariant.rest;
     }
 
 pub returns : goal.returns
-returns c = blocks_end (a_blocks c.args.blocks.now) c.args.blocks.now c.loop-i.i (blocks_of c.loop-i.out.items) _ c.loop-i-test.false c.loop-i.invariant.rest
+returns c = blocks_end (program_in c.args.program.now) c.args.blocks.now c.loop-i.i (blocks_of c.loop-i.out.items) _ c.loop-i-test.false c.loop-i.invariant.rest

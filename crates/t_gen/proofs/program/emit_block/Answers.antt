@@ -3,7 +3,7 @@ use Rattle.t_terms.specs.Read.{blocks_of}
 use Rattle.t_gen.specs.Filling.{finish}
 use Rattle.a_terms.specs.Typing.{types_of}
 use Rattle.a_terms.specs.Read.{atrees}
-use Rattle.a_terms.specs.NodeTrees.{a_blocks}
+use Rattle.a_terms.specs.Program.{program_in}
 use Rattle.a_terms.specs.Arity.{ARow}
 use Rattle.t_gen.specs.Pending.{body_job}
 use Rattle.t_gen.proofs.program.emit_block.Goals as goal
@@ -13,7 +13,7 @@ emit_body-requires-clause-one c = subst (λ ns. ARow ns 1) (sym c.deref-2.ensure
 
 pub returns : goal.returns
 returns c =
-    let bs = a_blocks c.args.blocks.now in
+    let prog = program_in c.args.program.now in
     let o = blocks_of c.args.out.now.items in
     c.in_ok-emit_body.ensures
-    ∙ ap₂ (λ g ns. finish bs (length o) o (body_job c.args.at c.args.block.now.owes g ns ∷ [])) (c.in_ok-vars.ensures.scope ∙ ap (λ xs. types_of (atrees xs) []) c.deref.ensures.value) c.deref-2.ensures.value
+    ∙ ap₂ (λ g ns. finish prog (length o) o (body_job c.args.at c.args.block.now.owes g ns ∷ [])) (c.in_ok-vars.ensures.scope ∙ ap (λ xs. types_of (atrees xs) []) c.deref.ensures.value) c.deref-2.ensures.value

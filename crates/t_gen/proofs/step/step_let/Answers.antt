@@ -1,7 +1,8 @@
 use Rattle.std.proofs.Common.{◌≡◌, length, rules, ◌∙◌, ap, refl, subst, arith}
 use Rattle.t_emit.specs.Code.{onto}
 use Rattle.gen_law.specs.Gen.{decl_code}
-use Rattle.a_terms.specs.NodeTrees.{a_values, a_blocks, a_decl}
+use Rattle.a_terms.specs.Program.{program_in}
+use Rattle.a_terms.specs.NodeTrees.{a_values, a_decl}
 use Rattle.a_scope.specs.Scope.{Under}
 use Rattle.t_gen.proofs.Keeping.{whole}
 use Rattle.t_gen.proofs.Stepping.{let_stepped}
@@ -18,7 +19,7 @@ returns c = λ o f.
     let all : c.len-count.result ≡ length c.declare.new.vars.items = search rules in
     let q : Place = record { block = c.args.place.block; names = c.in_ok-names.names; vars = c.len-count.result } in
     let m = c.in_ok-names.ensures.more in
-    let_stepped (a_blocks c.args.blocks.now) c.args.place q x c.args.vars.now.items c.declare.new.vars.items m.0 c.args.places.now.items _ o c.args.code.now.items _
+    let_stepped (program_in c.args.program.now) c.args.place q x c.args.vars.now.items c.declare.new.vars.items m.0 c.args.places.now.items _ o c.args.code.now.items _
       c.requires.vars m.2 m.1 c.in_ok-names.ensures.scope
       (λ rest. c.in_ok-emit_declaration.ensures rest ∙ ap (λ n. onto c.args.code.now.items (decl_code n x rest)) long)
       c.in_ok-push.ensures.items refl c.in_ok-names.ensures.names all f

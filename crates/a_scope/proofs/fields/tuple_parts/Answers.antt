@@ -1,7 +1,0 @@
-use Rattle.std.proofs.Common.{ap, ◌∙◌}
-use Rattle.a_terms.specs.Read.{atree}
-use Rattle.a_scope.proofs.Trees.{a_tuple}
-use Rattle.a_scope.proofs.fields.tuple_parts.Goals as goal
-
-pub returns-in-Tuple : goal.returns-in-Tuple
-returns-in-Tuple c = ap atree c.in-Tuple.is ∙ a_tuple c.in-Tuple.fields

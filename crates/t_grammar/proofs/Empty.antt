@@ -5,18 +5,20 @@ use Rattle.t_terms.specs.declared.token.Token.{Token}
 use Rattle.t_terms.specs.declared.wanted.Wanted.TheVariants as want
 use Rattle.t_terms.specs.Raw.{RTuple, ending, raw_regs, raw_fields}
 use Rattle.t_terms.specs.Machine.{LNames, NoNames, OfNames, LRegs, NoRegs, OfFile, LFields, NoFields, OfType, OfToken}
+use Rattle.t_terms.specs.Text.{most_open}
 use Rattle.t_grammar.specs.Reads.{Reads}
-use Rattle.t_grammar.proofs.Stepping.{Next, is_next, is_of, within, begins, by_do}
+use Rattle.t_grammar.specs.Cursor.{Next}
+use Rattle.t_grammar.proofs.Stepping.{is_next, is_of, within, begins, by_do}
 use Rattle.t_grammar.proofs.Lines.{no_names, no_regs, no_fields}
 
-pub names_empty : (ts : List Token) (d i : ℕ) (c : Token) → d ≤ 2000 → Next ts i want.RightBracket c → Reads LNames ts d i (i + 1) (OfNames [] ∷ [])
+pub names_empty : (ts : List Token) (d i : ℕ) (c : Token) → d ≤ most_open → Next ts i want.RightBracket c → Reads LNames ts d i (i + 1) (OfNames [] ∷ [])
 names_empty ts d i c h e = record {
   forward = omega arith;
   in_range = (let l = within ts i want.RightBracket c e in omega arith);
   same = by_do NoNames [] (OfToken c ∷ []) (OfNames [] ∷ []) (begins ts d i c LNames (Do NoNames ∷ []) (is_next ts i want.RightBracket c e) (rw (no_names c.kind (is_of ts i want.RightBracket c e)) refl) (omega arith)) (λ below. refl);
 }
 
-pub regs_empty : (ts : List Token) (d i : ℕ) (c : Token) → d ≤ 2000 → Next ts i want.RightBrace c → Reads LRegs ts d i (i + 1) (OfFile (ending (raw_regs []) c.span.end) ∷ [])
+pub regs_empty : (ts : List Token) (d i : ℕ) (c : Token) → d ≤ most_open → Next ts i want.RightBrace c → Reads LRegs ts d i (i + 1) (OfFile (ending (raw_regs []) c.span.end) ∷ [])
 regs_empty ts d i c h e = record {
   forward = omega arith;
   in_range = (let l = within ts i want.RightBrace c e in omega arith);
@@ -24,7 +26,7 @@ regs_empty ts d i c h e = record {
       (begins ts d i c LRegs (Do NoRegs ∷ []) (is_next ts i want.RightBrace c e) (rw (no_regs c.kind (is_of ts i want.RightBrace c e)) refl) (omega arith)) (λ below. refl);
 }
 
-pub fields_empty : (ts : List Token) (d i : ℕ) (c : Token) → d ≤ 2000 → Next ts i want.RightAngle c → Reads LFields ts d i (i + 1) (OfType (ending (RTuple (raw_fields [])) c.span.end) ∷ [])
+pub fields_empty : (ts : List Token) (d i : ℕ) (c : Token) → d ≤ most_open → Next ts i want.RightAngle c → Reads LFields ts d i (i + 1) (OfType (ending (RTuple (raw_fields [])) c.span.end) ∷ [])
 fields_empty ts d i c h e = record {
   forward = omega arith;
   in_range = (let l = within ts i want.RightAngle c e in omega arith);

@@ -6,6 +6,7 @@ use Rattle.t_terms.specs.declared.token.Kind.{Kind}
 use Rattle.t_terms.specs.declared.token.Kind.TheVariants as k
 use Rattle.t_terms.specs.declared.wanted.Wanted.TheVariants as want
 use Rattle.t_terms.specs.Machine.{table, LBinds, LNames, MoreNames, MakeBinds, FirstName, NextName, CloseNames, LFile, LRegs, MoreRegs, MakeFile, FirstReg, NextReg, CloseRegs, LT, LFields, MoreFields, FirstField, NextField, CloseFields, fits, after, type_after, fields_after, fields_tail}
+use Rattle.t_terms.specs.Text.{most_open}
 use Rattle.t_grammar.specs.Reads.{entry_owed, field_owed}
 use Rattle.t_grammar.proofs.Stepping.{not_fits, Opens, as_token, ListLine}
 
@@ -98,7 +99,7 @@ list_regs = record {
 
 pub list_fields : ListLine LFields MoreFields want.RightAngle field_owed FirstField NextField CloseFields
 list_fields = record {
-  begin = λ ts d i e. step.as_any table 2000 ts d i LT LFields fields_tail [] [] refl refl (λ c q. fields_begin c.kind (not_fits want.RightAngle (slice_get ts i) c e q));
+  begin = λ ts d i e. step.as_any table most_open ts d i LT LFields fields_tail [] [] refl refl (λ c q. fields_begin c.kind (not_fits want.RightAngle (slice_get ts i) c e q));
   comma = comma_fields;
   ends = refl;
   flat = refl;

@@ -44,8 +44,8 @@ pub fields_more : (xs ys : List (RawType × Bool)) (x : RawType × Bool) → ys 
 fields_more xs ys x e = ap (λ (zs : List (RawType × Bool)). map raw_field zs) e ∙ map-append raw_field xs (x ∷ [])
 
 -- an entry of a file, and a field
-pub reg_is : (n : ℕ) (r : Token) (t : RawType) → n ≡ register_of r.kind → raw_reg (n, r.span, t) ≡ reg_of r (raw t)
-reg_is n r t e = rw e refl
+pub reg_is : (x : ℕ × Span) (r : Token) (t : RawType) → x ≡ (register_of r.kind, r.span) → raw_reg (x.0, x.1, t) ≡ reg_of r (raw t)
+reg_is x r t e = rw e refl
 
 pub field_is : (b : Bool) (n : Token) (t : RawType) → b ≡ flag_of n.kind → raw_field (t, b) ≡ field_of (raw t) n
 field_is b n t e = rw e refl

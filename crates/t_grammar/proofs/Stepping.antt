@@ -11,19 +11,13 @@ use Rattle.t_terms.specs.declared.wanted.Wanted.{Wanted}
 use Rattle.t_terms.specs.Machine.{table, Line, Stack, Val, OfToken, Act, act, fits, after, may_end}
 use Rattle.t_grammar.specs.declared.cursor.Stopped.{Stopped}
 use Rattle.t_grammar.specs.declared.cursor.Stopped.TheVariants.{Memory, Unexpected, TooDeep}
-use Rattle.t_grammar.specs.Cursor.{TwoMissed}
+use Rattle.t_grammar.specs.Cursor.{Next, Misses, TwoMissed}
 use Rattle.t_grammar.specs.Reads.{ReadsOwed, Reads, Fails, ReadsSome}
 use Rattle.t_terms.specs.declared.wanted.Wanted.TheVariants as want
+use Rattle.t_terms.specs.Text.{most_open}
 
 abbrev pub Moves : List Token → ℕ → ℕ → Stack → List Val → ℕ → Stack → List Val → Type 0
-Moves ts d i owed vs j left us = Goes table 2000 ts d i owed vs j left us
-
--- the next token is of the class
-abbrev pub Next : List Token → ℕ → Wanted → Token → Type 0
-Next ts i w c = next_of table w (slice_get ts i) ≡ Some c
-
-abbrev pub Misses : List Token → ℕ → Wanted → Type 0
-Misses ts i w = next_of table w (slice_get ts i) ≡ None
+Moves ts d i owed vs j left us = Goes table most_open ts d i owed vs j left us
 
 pub is_next : (ts : List Token) (i : ℕ) (w : Wanted) (c : Token) → Next ts i w c → slice_get ts i ≡ Some c
 is_next ts i w c e = step.is_next table ts i w c e
@@ -46,71 +40,71 @@ pub start : (ts : List Token) (d i : ℕ) (owed : Stack) → Moves ts d i owed [
 start ts d i owed = record { leads = λ s below q. refl }
 
 pub by_token : {ts : List Token} {d i j : ℕ} {owed : Stack} {vs : List Val} (w : Wanted) (c : Token) (rest : Stack) (us : List Val) → Moves ts d i owed vs j (Tm w ∷ rest) us →
-    Next ts j w c → marks table rest + d ≤ 2000 → Moves ts d i owed vs (j + 1) rest (OfToken c ∷ us)
-by_token {ts} {d} {i} {j} w c rest us h e m = step.then_goes table 2000 ts d h (step.token_taken table 2000 ts d j c w rest us e m)
+    Next ts j w c → marks table rest + d ≤ most_open → Moves ts d i owed vs (j + 1) rest (OfToken c ∷ us)
+by_token {ts} {d} {i} {j} w c rest us h e m = step.then_goes table most_open ts d h (step.token_taken table most_open ts d j c w rest us e m)
 
 pub by_two : {ts : List Token} {d i j : ℕ} {owed : Stack} {vs : List Val} (v w : Wanted) (a b : Token) (rest : Stack) (us : List Val) → Moves ts d i owed vs j (Tm v ∷ (Tm w ∷ rest)) us →
-    Next ts j v a × Next ts (j + 1) w b → marks table rest + d ≤ 2000 → Moves ts d i owed vs (j + 2) rest (OfToken b ∷ (OfToken a ∷ us))
+    Next ts j v a × Next ts (j + 1) w b → marks table rest + d ≤ most_open → Moves ts d i owed vs (j + 2) rest (OfToken b ∷ (OfToken a ∷ us))
 by_two {ts} {d} v w a b rest us h (e, f) m =
-    step.goes_to table 2000 ts d (omega arith) (by_token w b rest (OfToken a ∷ us) (by_token v a (Tm w ∷ rest) us h e m) f m)
+    step.goes_to table most_open ts d (omega arith) (by_token w b rest (OfToken a ∷ us) (by_token v a (Tm w ∷ rest) us h e m) f m)
 
 pub by_row : {ts : List Token} {d i j : ℕ} {owed : Stack} {vs : List Val} (c : Token) (n : Line) (rhs rest : Stack) (us : List Val) → Moves ts d i owed vs j (Nt n ∷ rest) us →
-    slice_get ts j ≡ Some c → after n c.kind ≡ Some rhs → marks table (rhs ++ rest) + d ≤ 2000 → Moves ts d i owed vs (j + 1) (rhs ++ rest) (OfToken c ∷ us)
-by_row {ts} {d} {i} {j} c n rhs rest us h e f m = step.then_goes table 2000 ts d h (step.line_goes table 2000 ts d j c n rhs rest us e f m)
+    slice_get ts j ≡ Some c → after n c.kind ≡ Some rhs → marks table (rhs ++ rest) + d ≤ most_open → Moves ts d i owed vs (j + 1) (rhs ++ rest) (OfToken c ∷ us)
+by_row {ts} {d} {i} {j} c n rhs rest us h e f m = step.then_goes table most_open ts d h (step.line_goes table most_open ts d j c n rhs rest us e f m)
 
 pub by_none : {ts : List Token} {d i j : ℕ} {owed : Stack} {vs : List Val} (n : Line) (rest : Stack) (us : List Val) → Moves ts d i owed vs j (Nt n ∷ rest) us → may_end n ≡ true → Lacks table ts j n →
     Moves ts d i owed vs j rest us
-by_none {ts} {d} {i} {j} n rest us h m l = step.then_goes table 2000 ts d h (step.line_ends table 2000 ts d j n rest us m l)
+by_none {ts} {d} {i} {j} n rest us h m l = step.then_goes table most_open ts d h (step.line_ends table most_open ts d j n rest us m l)
 
 pub by_call : {ts : List Token} {d i j k : ℕ} {owed a : Stack} {vs ws : List Val} (m : ℕ) (rest : Stack) (us : List Val) → Moves ts d i owed vs j (a ++ rest) us → m ≡ marks table rest + d →
-    Goes table 2000 ts m j a [] k [] ws → Moves ts d i owed vs k rest (ws ++ us)
-by_call {ts} {d} m rest us h e r = step.then_goes table 2000 ts d h (step.call_goes table 2000 ts d rest us e r)
+    Goes table most_open ts m j a [] k [] ws → Moves ts d i owed vs k rest (ws ++ us)
+by_call {ts} {d} m rest us h e r = step.then_goes table most_open ts d h (step.call_goes table most_open ts d rest us e r)
 
 pub by_do : {ts : List Token} {d i j : ℕ} {owed : Stack} {vs : List Val} (x : Act) (rest : Stack) (us ws : List Val) → Moves ts d i owed vs j (Do x ∷ rest) us →
     ((below : List Val) → act x (us ++ below) ≡ ws ++ below) → Moves ts d i owed vs j rest ws
-by_do {ts} {d} {i} {j} x rest us ws h e = step.then_goes table 2000 ts d h (step.do_goes table 2000 ts d j x rest us ws e)
+by_do {ts} {d} {i} {j} x rest us ws h e = step.then_goes table most_open ts d h (step.do_goes table most_open ts d j x rest us ws e)
 
 pub by_mark : {ts : List Token} {d i j : ℕ} {owed : Stack} {vs : List Val} (rest : Stack) (us : List Val) → Moves ts d i owed vs j (Mark ∷ rest) us → Moves ts d i owed vs j rest us
-by_mark {ts} {d} {i} {j} rest us h = step.then_goes table 2000 ts d h (step.mark_goes table 2000 ts d j rest us)
+by_mark {ts} {d} {i} {j} rest us h = step.then_goes table most_open ts d h (step.mark_goes table most_open ts d j rest us)
 
 pub by_same : {ts : List Token} {d i j k : ℕ} {owed left : Stack} {vs us : List Val} → k ≡ j → Moves ts d i owed vs j left us → Moves ts d i owed vs k left us
-by_same {ts} {d} e h = step.goes_to table 2000 ts d (sym e) h
+by_same {ts} {d} e h = step.goes_to table most_open ts d (sym e) h
 
 -- a line begins
-pub begins : (ts : List Token) (d i : ℕ) (c : Token) (n : Line) (rhs : Stack) → slice_get ts i ≡ Some c → after n c.kind ≡ Some rhs → marks table rhs + d ≤ 2000 →
+pub begins : (ts : List Token) (d i : ℕ) (c : Token) (n : Line) (rhs : Stack) → slice_get ts i ≡ Some c → after n c.kind ≡ Some rhs → marks table rhs + d ≤ most_open →
     Moves ts d i (Nt n ∷ []) [] (i + 1) rhs (OfToken c ∷ [])
 begins ts d i c n rhs e f m =
     subst (λ (x : Stack). Moves ts d i (Nt n ∷ []) [] (i + 1) x (OfToken c ∷ [])) (append-nil rhs)
-    (step.line_goes table 2000 ts d i c n rhs [] [] e f (subst (λ (x : Stack). marks table x + d ≤ 2000) (sym (append-nil rhs)) m))
+    (step.line_goes table most_open ts d i c n rhs [] [] e f (subst (λ (x : Stack). marks table x + d ≤ most_open) (sym (append-nil rhs)) m))
 
 -- the reading stops
 pub after_moves : {ts : List Token} {d i j : ℕ} {a b : Stack} {x y : List Val} (e : Stopped) → Moves ts d i a x j b y → Fails ts d j b y e → Fails ts d i a x e
 after_moves Memory h f = tt
-after_moves {ts} {d} (Unexpected n) h f = step.then_stops table 2000 ts d h f
-after_moves {ts} {d} (TooDeep n) h f = step.then_stops table 2000 ts d h f
+after_moves {ts} {d} (Unexpected n) h f = step.then_stops table most_open ts d h f
+after_moves {ts} {d} (TooDeep n) h f = step.then_stops table most_open ts d h f
 
 pub stop_token : {ts : List Token} {d i j : ℕ} {a : Stack} {x : List Val} (e : Stopped) (w : Wanted) (rest : Stack) (us : List Val) → Moves ts d i a x j (Tm w ∷ rest) us →
     (e ≡ Unexpected j) × Misses ts j w → Fails ts d i a x e
-stop_token {ts} {d} {i} {j} e w rest us h q = rw q.0 (step.then_stops table 2000 ts d h (step.token_misses table 2000 ts d j w rest us q.1))
+stop_token {ts} {d} {i} {j} e w rest us h q = rw q.0 (step.then_stops table most_open ts d h (step.token_misses table most_open ts d j w rest us q.1))
 
 pub stop_two : {ts : List Token} {d i j : ℕ} {a : Stack} {x : List Val} (e : Stopped) (v w : Wanted) (rest : Stack) (us : List Val) → Moves ts d i a x j (Tm v ∷ (Tm w ∷ rest)) us →
-    marks table rest + d ≤ 2000 → TwoMissed ts j v w e → Fails ts d i a x e
+    marks table rest + d ≤ most_open → TwoMissed ts j v w e → Fails ts d i a x e
 stop_two e v w rest us h m (inl q) = stop_token e v (Tm w ∷ rest) us h q
 stop_two e v w rest us h m (inr (q, (c, f, g))) = stop_token e w rest (OfToken c ∷ us) (by_token v c (Tm w ∷ rest) us h f m) (q, g)
 
 pub stop_call : {ts : List Token} {d i j : ℕ} {a : Stack} {x : List Val} (e : Stopped) (owed : Stack) (m : ℕ) (rest : Stack) (us : List Val) → Moves ts d i a x j (owed ++ rest) us → m ≡ marks table rest + d →
     Fails ts m j owed [] e → Fails ts d i a x e
 stop_call Memory owed m rest us h q f = tt
-stop_call {ts} {d} (Unexpected n) owed m rest us h q f = step.then_stops table 2000 ts d h (step.call_stops table 2000 ts d rest us q f)
-stop_call {ts} {d} (TooDeep n) owed m rest us h q f = step.then_stops table 2000 ts d h (step.call_stops table 2000 ts d rest us q f)
+stop_call {ts} {d} (Unexpected n) owed m rest us h q f = step.then_stops table most_open ts d h (step.call_stops table most_open ts d rest us q f)
+stop_call {ts} {d} (TooDeep n) owed m rest us h q f = step.then_stops table most_open ts d h (step.call_stops table most_open ts d rest us q f)
 
 pub stop_deep : {ts : List Token} {d i j : ℕ} {a : Stack} {x : List Val} (e : Stopped) (c : Token) (n : Line) (rhs rest : Stack) (us : List Val) → Moves ts d i a x j (Nt n ∷ rest) us →
-    slice_get ts j ≡ Some c → after n c.kind ≡ Some rhs → marks table (rhs ++ rest) ≡ 1 → (e ≡ TooDeep j) × (2000 ≤ d) → Fails ts d i a x e
-stop_deep {ts} {d} {i} {j} e c n rhs rest us h q r m p = rw p.0 (step.then_stops table 2000 ts d h (step.line_too_deep table 2000 ts d j c n rhs rest us q r (omega (arith, m, p.1))))
+    slice_get ts j ≡ Some c → after n c.kind ≡ Some rhs → marks table (rhs ++ rest) ≡ 1 → (e ≡ TooDeep j) × (most_open ≤ d) → Fails ts d i a x e
+stop_deep {ts} {d} {i} {j} e c n rhs rest us h q r m p = rw p.0 (step.then_stops table most_open ts d h (step.line_too_deep table most_open ts d j c n rhs rest us q r (omega (arith, m, p.1))))
 
 pub stop_lacks : {ts : List Token} {d i j : ℕ} {a : Stack} {x : List Val} (e : Stopped) (n : Line) (rest : Stack) (us : List Val) → Moves ts d i a x j (Nt n ∷ rest) us → may_end n ≡ false →
     Lacks table ts j n → e ≡ Unexpected j → Fails ts d i a x e
-stop_lacks {ts} {d} {i} {j} e n rest us h m l q = rw q (step.then_stops table 2000 ts d h (step.line_lacks table 2000 ts d j n rest us m l))
+stop_lacks {ts} {d} {i} {j} e n rest us h m l q = rw q (step.then_stops table most_open ts d h (step.line_lacks table most_open ts d j n rest us m l))
 
 -- a line that begins with one class of tokens alone
 pub record Opens (n : Line) (w : Wanted) (rhs : Stack) : Type 0 where
@@ -120,18 +114,18 @@ pub record Opens (n : Line) (w : Wanted) (rhs : Stack) : Type 0 where
 pub lacks : (ts : List Token) (i : ℕ) (n : Line) (w : Wanted) (rhs : Stack) → Opens n w rhs → Misses ts i w → Lacks table ts i n
 lacks ts i n w rhs o e = step.lacks_all table ts i w n (λ c q. o.no_other c.kind q) e
 
-pub opening : (ts : List Token) (d i : ℕ) (c : Token) (n : Line) (w : Wanted) (rhs : Stack) → Opens n w rhs → Next ts i w c → marks table rhs + d ≤ 2000 → Moves ts d i (Nt n ∷ []) [] (i + 1) rhs (OfToken c ∷ [])
+pub opening : (ts : List Token) (d i : ℕ) (c : Token) (n : Line) (w : Wanted) (rhs : Stack) → Opens n w rhs → Next ts i w c → marks table rhs + d ≤ most_open → Moves ts d i (Nt n ∷ []) [] (i + 1) rhs (OfToken c ∷ [])
 opening ts d i c n w rhs o e m = begins ts d i c n rhs (is_next ts i w c e) (o.takes c.kind (is_of ts i w c e)) m
 
 pub not_opening : (ts : List Token) (d i : ℕ) (e : Stopped) (n : Line) (w : Wanted) (rhs : Stack) → Opens n w rhs → may_end n ≡ false → (e ≡ Unexpected i) × Misses ts i w → Fails ts d i (Nt n ∷ []) [] e
 not_opening ts d i e n w rhs o m q = stop_lacks e n [] [] (start ts d i (Nt n ∷ [])) m (lacks ts i n w rhs o q.1) q.0
 
-pub too_deep : (ts : List Token) (d i : ℕ) (e : Stopped) (c : Token) (n : Line) (w : Wanted) (rhs : Stack) → Opens n w rhs → Next ts i w c → marks table (rhs ++ []) ≡ 1 → (e ≡ TooDeep i) × (2000 ≤ d) →
+pub too_deep : (ts : List Token) (d i : ℕ) (e : Stopped) (c : Token) (n : Line) (w : Wanted) (rhs : Stack) → Opens n w rhs → Next ts i w c → marks table (rhs ++ []) ≡ 1 → (e ≡ TooDeep i) × (most_open ≤ d) →
     Fails ts d i (Nt n ∷ []) [] e
 too_deep ts d i e c n w rhs o q m p = stop_deep e c n rhs [] [] (start ts d i (Nt n ∷ [])) (is_next ts i w c q) (o.takes c.kind (is_of ts i w c q)) m p
 
 -- a line n that is an opening bracket with the line l after it
-module _ (ts : List Token) (d i : ℕ) (c : Token) (n l : Line) (w : Wanted) (x : Act) (o : Opens n w (Nt l ∷ (Mark ∷ (Do x ∷ [])))) (e : Next ts i w c) (m : ℕ) (h : d < 2000) (q : m ≡ d + 1) where
+module _ (ts : List Token) (d i : ℕ) (c : Token) (n l : Line) (w : Wanted) (x : Act) (o : Opens n w (Nt l ∷ (Mark ∷ (Do x ∷ [])))) (e : Next ts i w c) (m : ℕ) (h : d < most_open) (q : m ≡ d + 1) where
   inside : Moves ts d i (Nt n ∷ []) [] (i + 1) (Nt l ∷ (Mark ∷ (Do x ∷ []))) (OfToken c ∷ [])
   inside = opening ts d i c n w (Nt l ∷ (Mark ∷ (Do x ∷ []))) o e (omega arith)
 
@@ -151,7 +145,7 @@ pub as_token : (ts : List Token) (d i : ℕ) (n : Line) (w : Wanted) (k : Stack)
 as_token ts d i n w k m h = by_next (slice_get ts i) refl
   where
     neither : Lacks table ts i n → Misses ts i w → Moves ts d i (Nt n ∷ []) [] i (Tm w ∷ k) []
-    neither l q = record { leads = λ s below r. (step.line_lacks table 2000 ts d i n [] [] m l).leads s below r ∙ sym ((step.token_misses table 2000 ts d i w k [] q).leads s below r) }
+    neither l q = record { leads = λ s below r. (step.line_lacks table most_open ts d i n [] [] m l).leads s below r ∙ sym ((step.token_misses table most_open ts d i w k [] q).leads s below r) }
 
     by_fit : (c : Token) → slice_get ts i ≡ Some c → (x : Bool) → fits w c.kind ≡ x → after n c.kind ≡ (if x then Some k else None) → Moves ts d i (Nt n ∷ []) [] i (Tm w ∷ k) []
     by_fit c e true f g = record { leads = λ s below r. rw (step.next_is ts i c e, f, g) refl }
@@ -190,13 +184,13 @@ module _ (n q : Line) (w : Wanted) (item : Stack) (first next close : Act) (l : 
   pub list_first_stops : (e : Stopped) → Misses ts i w → Fails ts d i item [] e → Fails ts d i (Nt n ∷ []) [] e
   list_first_stops e m f = stop_call e item d (Do first ∷ list_left q w close) [] (l.begin ts d i m) (omega arith) f
 
-  after_comma : (j : ℕ) (v : Val) (c : Token) → d ≤ 2000 → SoFar j v → Next ts j want.Comma c → Moves ts d i (Nt n ∷ []) [] (j + 1) (item ++ (Do next ∷ list_left q w close)) (OfToken c ∷ (v ∷ []))
+  after_comma : (j : ℕ) (v : Val) (c : Token) → d ≤ most_open → SoFar j v → Next ts j want.Comma c → Moves ts d i (Nt n ∷ []) [] (j + 1) (item ++ (Do next ∷ list_left q w close)) (OfToken c ∷ (v ∷ []))
   after_comma j v c h r e =
       subst (λ (x : Stack). Moves ts d i (Nt n ∷ []) [] (j + 1) x (OfToken c ∷ (v ∷ []))) (append_assoc item (Do next ∷ (Nt q ∷ [])) (Tm w ∷ (Do close ∷ [])))
       (by_row c q (item ++ (Do next ∷ (Nt q ∷ []))) (Tm w ∷ (Do close ∷ [])) (v ∷ []) r.same (is_next ts j want.Comma c e) (l.comma.takes c.kind (is_of ts j want.Comma c e))
       (let x = step.marks_append table (item ++ (Do next ∷ (Nt q ∷ []))) (Tm w ∷ (Do close ∷ [])) in let y = step.marks_append table item (Do next ∷ (Nt q ∷ [])) in omega (arith, x, y, l.flat)))
 
-  pub list_next : (j k : ℕ) (us : List Val) (v u : Val) (c : Token) → d ≤ 2000 → SoFar j v → Next ts j want.Comma c → ReadsOwed item ts d (j + 1) k us →
+  pub list_next : (j k : ℕ) (us : List Val) (v u : Val) (c : Token) → d ≤ most_open → SoFar j v → Next ts j want.Comma c → ReadsOwed item ts d (j + 1) k us →
       ((below : List Val) → act next (us ++ (OfToken c ∷ (v ∷ below))) ≡ u ∷ below) → SoFar k u
   list_next j k us v u c h r e x f = record {
     forward = omega (arith, r.forward, x.forward);
@@ -206,13 +200,13 @@ module _ (n q : Line) (w : Wanted) (item : Stack) (first next close : Act) (l : 
         (λ below. rw (append_assoc us (OfToken c ∷ (v ∷ [])) below) (f below));
   }
 
-  pub list_next_stops : (j : ℕ) (v : Val) (c : Token) (e : Stopped) → d ≤ 2000 → SoFar j v → Next ts j want.Comma c → Fails ts d (j + 1) item [] e → Fails ts d i (Nt n ∷ []) [] e
+  pub list_next_stops : (j : ℕ) (v : Val) (c : Token) (e : Stopped) → d ≤ most_open → SoFar j v → Next ts j want.Comma c → Fails ts d (j + 1) item [] e → Fails ts d i (Nt n ∷ []) [] e
   list_next_stops j v c e h r m f = stop_call e item d (Do next ∷ list_left q w close) (OfToken c ∷ (v ∷ [])) (after_comma j v c h r m) (omega arith) f
 
   at_close : (j : ℕ) (v : Val) → SoFar j v → Misses ts j want.Comma → Moves ts d i (Nt n ∷ []) [] j (Tm w ∷ (Do close ∷ [])) (v ∷ [])
   at_close j v r e = by_none q (Tm w ∷ (Do close ∷ [])) (v ∷ []) r.same l.ends (lacks ts j q want.Comma (item ++ (Do next ∷ (Nt q ∷ []))) l.comma e)
 
-  pub list_whole : (j : ℕ) (v u : Val) (c : Token) → d ≤ 2000 → SoFar j v → Misses ts j want.Comma → Next ts j w c → ((below : List Val) → act close (OfToken c ∷ (v ∷ below)) ≡ u ∷ below) → Reads n ts d i (j + 1) (u ∷ [])
+  pub list_whole : (j : ℕ) (v u : Val) (c : Token) → d ≤ most_open → SoFar j v → Misses ts j want.Comma → Next ts j w c → ((below : List Val) → act close (OfToken c ∷ (v ∷ below)) ≡ u ∷ below) → Reads n ts d i (j + 1) (u ∷ [])
   list_whole j v u c h r e f k = record {
     forward = omega (arith, r.forward);
     in_range = (let b = within ts j w c f in omega arith);
@@ -223,7 +217,7 @@ module _ (n q : Line) (w : Wanted) (item : Stack) (first next close : Act) (l : 
   list_close_stops j v e r m f = stop_token e w (Do close ∷ []) (v ∷ []) (at_close j v r m) f
 
 -- one token, and two, that are owed
-pub one_read : (ts : List Token) (d i k : ℕ) (w : Wanted) (c : Token) → d ≤ 2000 → Next ts i w c → k ≡ i + 1 → ReadsOwed (Tm w ∷ []) ts d i k (OfToken c ∷ [])
+pub one_read : (ts : List Token) (d i k : ℕ) (w : Wanted) (c : Token) → d ≤ most_open → Next ts i w c → k ≡ i + 1 → ReadsOwed (Tm w ∷ []) ts d i k (OfToken c ∷ [])
 one_read ts d i k w c h e q = record { forward = omega arith; in_range = (let b = within ts i w c e in omega arith); same = by_same q (by_token w c [] [] (start ts d i (Tm w ∷ [])) e (omega arith)) }
 
 pub one_missed : (ts : List Token) (d i : ℕ) (w : Wanted) (e : Stopped) → (e ≡ Unexpected i) × Misses ts i w → Fails ts d i (Tm w ∷ []) [] e

@@ -1,16 +1,18 @@
 // The next tokens.
-ghost use Rattle.std.specs.Prelude.{◌≡◌, ◌+◌, ◌≤◌, ◌<◌, slice_get, MatchResult, Some, None};
+ghost use Rattle.std.specs.Prelude.{◌≡◌, ◌≤◌, slice_get, nat_abs};
 ghost use Rattle.text_core.specs.Going.{next_of};
-ghost use Rattle.t_terms.specs.Machine.{fits, table};
-ghost use Rattle.t_grammar.specs.Cursor.{TwoMissed};
+ghost use Rattle.t_terms.specs.Machine.{fits, table, register_of, value_of, flag_of};
+ghost use Rattle.t_terms.specs.Text.{most_open};
+ghost use Rattle.t_grammar.specs.Cursor.{IsExpected, AreExpected, IsHeld, IsOpened};
 ghost use Rattle.t_grammar.specs.declared.cursor.Stopped.TheVariants as stopped;
 ghost use Rattle.t_terms.specs.declared.wanted.Wanted.TheVariants as want;
 
+use idx_core::Span;
 use std::alloc::{AllocError, AllocFailed};
 use t_terms::{Kind, Token, Wanted};
 
 /// How many constructs may be open at a token.
-pub const OPEN: u64 = 2000;
+pub const MOST_OPEN: u64 = 2000;
 
 /// Why a reading stopped: at the number of a token, or of the end.
 #[derive(Debug, Drop)]
@@ -101,8 +103,7 @@ pub fn take(tokens: &[Token], at: usize, wanted: Wanted) -> Option<Token>
 
 /// The token at a place, which must be one that is wanted.
 pub fn expect(tokens: &[Token], at: usize, wanted: Wanted) -> Result<Token, Stopped>
-    ensures { MatchResult result (λ t. next_of table wanted (slice_get tokens.now at) ≡ Some t)
-        (λ e. (e ≡ stopped.Unexpected at) × (next_of table wanted (slice_get tokens.now at) ≡ None)) }
+    ensures { IsExpected tokens.now at wanted result }
 {
     match take(tokens, at, wanted) {
         Some(token) => Ok(token),
@@ -117,21 +118,49 @@ pub fn expect_two(
     first: Wanted,
     second: Wanted,
 ) -> Result<(Token, Token), Stopped>
-    ensures { MatchResult result
-        (λ t. (next_of table first (slice_get tokens.now at) ≡ Some t.0) × (next_of table second (slice_get tokens.now (at + 1)) ≡ Some t.1))
-        (λ e. TwoMissed tokens.now at first second e) }
+    ensures { AreExpected tokens.now at first second result }
 {
     let one = expect(tokens, at, first)?;
     let two = expect(tokens, at + 1, second)?;
     Ok((one, two))
 }
 
+/// The number of the register at a place, where one must stand, with its place in the text.
+pub fn expect_register(tokens: &[Token], at: usize) -> Result<(u64, Span), Stopped>
+    ensures { IsHeld (λ c. (register_of c.kind, c.span)) tokens.now at want.Register result }
+{
+    let token = expect(tokens, at, Wanted::Register)?;
+    match token.kind {
+        Kind::Register(number) => Ok((number, token.span)),
+        _ => unreachable!(),
+    }
+}
+
+/// The field number at a place, where one must stand.
+pub fn expect_index(tokens: &[Token], at: usize) -> Result<u64, Stopped>
+    ensures { IsHeld (λ c. nat_abs (value_of c.kind)) tokens.now at want.Number result }
+{
+    let token = expect(tokens, at, Wanted::Number)?;
+    match token.kind {
+        Kind::Plain(value) => Ok(value.unsigned_abs()),
+        _ => unreachable!(),
+    }
+}
+
+/// Whether the flag at a place, where one must stand, is that of an initialised field.
+pub(crate) fn expect_flag(tokens: &[Token], at: usize) -> Result<bool, Stopped>
+    ensures { IsHeld (λ c. flag_of c.kind) tokens.now at want.Flag result }
+{
+    let token = expect(tokens, at, Wanted::Flag)?;
+    Ok(is_one(token.kind))
+}
+
 /// One more open construct, from the token at a place on.
 pub fn opened(at: usize, depth: u64) -> Result<u64, Stopped>
-    requires { depth ≤ 2000 }
-    ensures { MatchResult result (λ n. (n ≡ depth + 1) × (depth < 2000)) (λ e. (e ≡ stopped.TooDeep at) × (2000 ≤ depth)) }
+    requires { depth ≤ most_open }
+    ensures { IsOpened at depth result }
 {
-    if depth >= OPEN {
+    if depth >= MOST_OPEN {
         Err(Stopped::TooDeep(at))
     } else {
         Ok(depth + 1)

@@ -1,8 +1,7 @@
 // The reading of the names that a form binds.
-ghost use Rattle.std.specs.Prelude.{◌≡◌, ◌≤◌, [], ◌∷◌, length, MatchResult};
-ghost use Rattle.text_core.specs.Table.{Nt};
-ghost use Rattle.t_terms.specs.Machine.{LBinds, LNames, OfNames};
-ghost use Rattle.t_grammar.specs.Reads.{Reads, Fails};
+ghost use Rattle.std.specs.Prelude.{◌≤◌, length};
+ghost use Rattle.t_terms.specs.Text.{most_open};
+ghost use Rattle.t_grammar.specs.Reads.{IsBinds, IsNames};
 
 use crate::cursor::{Stopped, expect, opened, take};
 use idx_core::Span;
@@ -18,9 +17,9 @@ pub struct FoundNames {
 
 /// [ names ], where names ::= nothing | name , .. , name
 pub fn binds(alloc: Global, tokens: &[Token], at: usize, depth: u64) -> Result<FoundNames, Stopped>
-    requires depth { depth ≤ 2000 }
+    requires depth { depth ≤ most_open }
     requires at { at ≤ length tokens.now }
-    ensures { MatchResult result (λ f. Reads LBinds tokens.now depth at f.next (OfNames f.names.items ∷ [])) (λ e. Fails tokens.now depth at (Nt LBinds ∷ []) [] e) }
+    ensures { IsBinds tokens.now depth at result }
 {
     expect(tokens, at, Wanted::LeftBracket)?;
     let inner = opened(at, depth)?;
@@ -30,9 +29,9 @@ pub fn binds(alloc: Global, tokens: &[Token], at: usize, depth: u64) -> Result<F
 
 // names and the closing bracket, or the bracket alone
 fn names(alloc: Global, tokens: &[Token], at: usize, depth: u64) -> Result<FoundNames, Stopped>
-    requires depth { depth ≤ 2000 }
+    requires depth { depth ≤ most_open }
     requires at { at ≤ length tokens.now }
-    ensures { MatchResult result (λ f. Reads LNames tokens.now depth at f.next (OfNames f.names.items ∷ [])) (λ e. Fails tokens.now depth at (Nt LNames ∷ []) [] e) }
+    ensures { IsNames tokens.now depth at result }
 {
     let mut names = Vec::new(alloc);
     if let Some(_) = take(tokens, at, Wanted::RightBracket) {

@@ -1,13 +1,14 @@
 // The reading of types by recursive descent, one token ahead.
-ghost use Rattle.std.specs.Prelude.{◌≡◌, ◌≤◌, List, [], ◌∷◌, length, MatchResult};
-ghost use Rattle.text_core.specs.Table.{Nt};
-ghost use Rattle.t_terms.specs.Raw.{RSome, ending};
-ghost use Rattle.t_terms.specs.Machine.{LT, LFile, LRegs, LFields, OfType, OfFile, register_of, flag_of};
-ghost use Rattle.t_grammar.specs.Raw.{raw, raw_file};
-ghost use Rattle.t_grammar.specs.Reads.{Reads, Fails, ReadsEntry, ReadsField, entry_owed, field_owed};
+ghost use Rattle.std.specs.Prelude.{◌≡◌, ◌≤◌, length, MatchResult};
+ghost use Rattle.t_terms.specs.Raw.{RSome};
+ghost use Rattle.t_terms.specs.Text.{most_open};
+ghost use Rattle.t_grammar.specs.Raw.{raw};
+ghost use Rattle.t_grammar.specs.Reads.{IsType, IsFile, IsRegs, IsEntry, IsFields, IsField};
 ghost use Rattle.t_grammar.specs.declared.cursor.Stopped.TheVariants as stopped;
 
-use crate::cursor::{Stopped, expect, expect_two, opened, peek, take};
+use crate::cursor::{
+    Stopped, expect, expect_flag, expect_register, expect_two, opened, peek, take,
+};
 use crate::names::binds;
 use crate::raw::{RawFile, RawType};
 use idx_core::Span;
@@ -44,27 +45,6 @@ struct FoundField {
     next: usize,
 }
 
-/// The number of a register token, and 0 of any other.
-pub fn register_number(token: Token) -> u64
-    ensures { result ≡ register_of token.kind }
-{
-    match token.kind {
-        Kind::Register(number) => number,
-        _ => 0,
-    }
-}
-
-// whether a token is a number of the value 1
-fn is_set(token: Token) -> bool
-    ensures { result ≡ flag_of token.kind }
-{
-    match token.kind {
-        Kind::Plain(value) => value == 1,
-        Kind::Negative(value) => value == 1,
-        _ => false,
-    }
-}
-
 fn exists(alloc: Global, name: Span, body: RawType) -> Result<RawType, Stopped>
     ensures { MatchResult result (λ t. raw t ≡ RSome name (raw body)) (λ e. e ≡ stopped.Memory) }
 {
@@ -79,9 +59,9 @@ pub fn whole_type(
     at: usize,
     depth: u64,
 ) -> Result<FoundType, Stopped>
-    requires depth { depth ≤ 2000 }
+    requires depth { depth ≤ most_open }
     requires at { at ≤ length tokens.now }
-    ensures { MatchResult result (λ f. Reads LT tokens.now depth at f.next (OfType (ending (raw f.ty) f.end) ∷ [])) (λ e. Fails tokens.now depth at (Nt LT ∷ []) [] e) }
+    ensures { IsType tokens.now depth at result }
 {
     let token = match peek(tokens, at) {
         Some(token) => token,
@@ -130,9 +110,9 @@ pub fn whole_type(
 /// File ::= { } | { reg : T , .. , reg : T }
 #[cycle(types)]
 pub fn file(alloc: Global, tokens: &[Token], at: usize, depth: u64) -> Result<FoundFile, Stopped>
-    requires depth { depth ≤ 2000 }
+    requires depth { depth ≤ most_open }
     requires at { at ≤ length tokens.now }
-    ensures { MatchResult result (λ f. Reads LFile tokens.now depth at f.next (OfFile (ending (raw_file f.file) f.end) ∷ [])) (λ e. Fails tokens.now depth at (Nt LFile ∷ []) [] e) }
+    ensures { IsFile tokens.now depth at result }
 {
     expect(tokens, at, Wanted::LeftBrace)?;
     let inner = opened(at, depth)?;
@@ -143,9 +123,9 @@ pub fn file(alloc: Global, tokens: &[Token], at: usize, depth: u64) -> Result<Fo
 // reg : T , .. , reg : T and the closing brace, or the brace alone
 #[cycle(types)]
 fn regs(alloc: Global, tokens: &[Token], at: usize, depth: u64) -> Result<FoundFile, Stopped>
-    requires depth { depth ≤ 2000 }
+    requires depth { depth ≤ most_open }
     requires at { at ≤ length tokens.now }
-    ensures { MatchResult result (λ f. Reads LRegs tokens.now depth at f.next (OfFile (ending (raw_file f.file) f.end) ∷ [])) (λ e. Fails tokens.now depth at (Nt LRegs ∷ []) [] e) }
+    ensures { IsRegs tokens.now depth at result }
 {
     let mut regs = Vec::new(alloc);
     if let Some(close) = take(tokens, at, Wanted::RightBrace) {
@@ -174,14 +154,15 @@ fn regs(alloc: Global, tokens: &[Token], at: usize, depth: u64) -> Result<FoundF
 // reg : T
 #[cycle(types)]
 fn entry(alloc: Global, tokens: &[Token], at: usize, depth: u64) -> Result<FoundEntry, Stopped>
-    requires depth { depth ≤ 2000 }
+    requires depth { depth ≤ most_open }
     requires at { at ≤ length tokens.now }
-    ensures { MatchResult result (λ f. ReadsEntry tokens.now depth at f) (λ e. Fails tokens.now depth at entry_owed [] e) }
+    ensures { IsEntry tokens.now depth at result }
 {
-    let (reg, _) = expect_two(tokens, at, Wanted::Register, Wanted::Colon)?;
+    let (reg, span) = expect_register(tokens, at)?;
+    expect(tokens, at + 1, Wanted::Colon)?;
     let found = whole_type(alloc, tokens, at + 2, depth)?;
     Ok(FoundEntry {
-        entry: (register_number(reg), reg.span, found.ty),
+        entry: (reg, span, found.ty),
         next: found.next,
     })
 }
@@ -189,9 +170,9 @@ fn entry(alloc: Global, tokens: &[Token], at: usize, depth: u64) -> Result<Found
 // F , .. , F and the closing bracket, or the bracket alone
 #[cycle(types)]
 fn fields(alloc: Global, tokens: &[Token], at: usize, depth: u64) -> Result<FoundType, Stopped>
-    requires depth { depth ≤ 2000 }
+    requires depth { depth ≤ most_open }
     requires at { at ≤ length tokens.now }
-    ensures { MatchResult result (λ f. Reads LFields tokens.now depth at f.next (OfType (ending (raw f.ty) f.end) ∷ [])) (λ e. Fails tokens.now depth at (Nt LFields ∷ []) [] e) }
+    ensures { IsFields tokens.now depth at result }
 {
     let mut fields = Vec::new(alloc);
     if let Some(close) = take(tokens, at, Wanted::RightAngle) {
@@ -220,14 +201,15 @@ fn fields(alloc: Global, tokens: &[Token], at: usize, depth: u64) -> Result<Foun
 // F ::= T ^ 0 | T ^ 1
 #[cycle(types)]
 fn field(alloc: Global, tokens: &[Token], at: usize, depth: u64) -> Result<FoundField, Stopped>
-    requires depth { depth ≤ 2000 }
+    requires depth { depth ≤ most_open }
     requires at { at ≤ length tokens.now }
-    ensures { MatchResult result (λ f. ReadsField tokens.now depth at f) (λ e. Fails tokens.now depth at field_owed [] e) }
+    ensures { IsField tokens.now depth at result }
 {
     let found = whole_type(alloc, tokens, at, depth)?;
-    let (_, flag) = expect_two(tokens, found.next, Wanted::Caret, Wanted::Flag)?;
+    expect(tokens, found.next, Wanted::Caret)?;
+    let flag = expect_flag(tokens, found.next + 1)?;
     Ok(FoundField {
-        field: (found.ty, is_set(flag)),
+        field: (found.ty, flag),
         next: found.next + 2,
     })
 }

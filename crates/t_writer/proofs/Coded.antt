@@ -25,21 +25,21 @@ left_code xs i e = seq_of (body (drop i xs)) e
 
 -- what the loop over instructions keeps
 pub record Coding (xs : List (Instr × Span)) (e : TEnd) (i names : ℕ) (text whole : List ℕ) (all : TSeq) : Type 0 where
-  pub fits : (p : ℕ) × WellFormedSeq p names (left_code xs i e)
+  pub fits : (p : ℕ) × WellFormedSeq p 0 names (left_code xs i e)
   pub written : text ++ render (seq_written names (left_code xs i e)) ≡ whole
   pub ints : SeqFits (left_code xs i e) → SeqFits all
 
-pub coding_start : (xs : List (Instr × Span)) (e : TEnd) (names : ℕ) (text : List ℕ) → (p : ℕ) × WellFormedSeq p names (seq_of (body xs) e) →
+pub coding_start : (xs : List (Instr × Span)) (e : TEnd) (names : ℕ) (text : List ℕ) → (p : ℕ) × WellFormedSeq p 0 names (seq_of (body xs) e) →
     Coding xs e 0 names text (text ++ render (seq_written names (seq_of (body xs) e))) (seq_of (body xs) e)
 coding_start xs e names text h = record { fits = h; written = refl; ints = λ x. x }
 
 module _ (xs : List (Instr × Span)) (e : TEnd) (i names : ℕ) (text whole : List ℕ) (all : TSeq) (h : Coding xs e i names text whole all) where
   module _ (x : Instr × Span) (is : x ≡ get_or xs i x) (lt : i < length xs) where
     -- what is known of the next instruction
-    next_fits : (p : ℕ) × WellFormedSeq p names (seq_of (body (x ∷ drop (i + 1) xs)) e)
-    next_fits = subst (λ (ys : List (Instr × Span)). (p : ℕ) × WellFormedSeq p names (seq_of (body ys) e)) (item_next xs i x is lt) h.fits
+    next_fits : (p : ℕ) × WellFormedSeq p 0 names (seq_of (body (x ∷ drop (i + 1) xs)) e)
+    next_fits = subst (λ (ys : List (Instr × Span)). (p : ℕ) × WellFormedSeq p 0 names (seq_of (body ys) e)) (item_next xs i x is lt) h.fits
 
-    pub instr_fits : (p : ℕ) × WellFormedInstr p names (instr x.0)
+    pub instr_fits : (p : ℕ) × WellFormedInstr p 0 names (instr x.0)
     instr_fits = (next_fits.0, next_fits.1.0)
 
     pub names_fit : names_after (instr x.0) names ≤ max_names
@@ -61,8 +61,8 @@ module _ (xs : List (Instr × Span)) (e : TEnd) (i names : ℕ) (text whole : Li
     last : drop i xs ≡ []
     last = drop_of_length-le xs le
 
-    pub end_fits : (p : ℕ) × WellFormedEnd p names e
-    end_fits = subst (λ (ys : List (Instr × Span)). (p : ℕ) × WellFormedSeq p names (seq_of (body ys) e)) last h.fits
+    pub end_fits : (p : ℕ) × WellFormedEnd p 0 names e
+    end_fits = subst (λ (ys : List (Instr × Span)). (p : ℕ) × WellFormedSeq p 0 names (seq_of (body ys) e)) last h.fits
 
     pub coding_end : (t1 t2 : List ℕ) → t1 ≡ text ++ render (end_written names e) → t2 ≡ t1 ++ 10 ∷ [] → t2 ≡ whole
     coding_end t1 t2 e1 e2 =
@@ -75,19 +75,19 @@ module _ (xs : List (Instr × Span)) (e : TEnd) (i names : ℕ) (text whole : Li
 
 -- what the loop over blocks keeps
 pub record Blocking (bs : List Block) (i : ℕ) (text whole : List ℕ) : Type 0 where
-  pub fits : (p : ℕ) × WellFormedBlocks p (blocks_of (drop i bs))
+  pub fits : (p : ℕ) × WellFormedBlocks p 0 (blocks_of (drop i bs))
   pub written : text ++ render (blocks_written i (blocks_of (drop i bs))) ≡ whole
   pub ints : BlocksFit (blocks_of (drop i bs)) → BlocksFit (blocks_of bs)
 
-pub blocking_start : (bs : List Block) (text : List ℕ) → (p : ℕ) × WellFormedBlocks p (blocks_of bs) → Blocking bs 0 text (text ++ render (blocks_written 0 (blocks_of bs)))
+pub blocking_start : (bs : List Block) (text : List ℕ) → (p : ℕ) × WellFormedBlocks p 0 (blocks_of bs) → Blocking bs 0 text (text ++ render (blocks_written 0 (blocks_of bs)))
 blocking_start bs text h = record { fits = h; written = refl; ints = λ x. x }
 
 module _ (bs : List Block) (i : ℕ) (text whole : List ℕ) (h : Blocking bs i text whole) where
   module _ (b : Block) (is : b ≡ get_or bs i b) (lt : i < length bs) where
-    next_blocks_fit : (p : ℕ) × WellFormedBlocks p (blocks_of (b ∷ drop (i + 1) bs))
-    next_blocks_fit = subst (λ (ys : List Block). (p : ℕ) × WellFormedBlocks p (blocks_of ys)) (item_next bs i b is lt) h.fits
+    next_blocks_fit : (p : ℕ) × WellFormedBlocks p 0 (blocks_of (b ∷ drop (i + 1) bs))
+    next_blocks_fit = subst (λ (ys : List Block). (p : ℕ) × WellFormedBlocks p 0 (blocks_of ys)) (item_next bs i b is lt) h.fits
 
-    pub block_fits : (p : ℕ) × WellFormedBlock p (block b)
+    pub block_fits : (p : ℕ) × WellFormedBlock p 0 (block b)
     block_fits = (next_blocks_fit.0, next_blocks_fit.1.0)
 
     pub blocking_more : (t1 : List ℕ) → t1 ≡ text ++ render (block_written i (block b)) → SeqFits (block b).code → Blocking bs (i + 1) t1 whole

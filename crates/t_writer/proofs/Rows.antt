@@ -1,12 +1,12 @@
 -- Worked programs: their texts, and how many constructs are open in them.
-use Rattle.std.proofs.Common.{◌≡◌, [], ◌∷◌, pos, negsuc, codes, refl, true, false}
+use Rattle.std.proofs.Common.{◌≡◌, List, [], ◌∷◌, pos, negsuc, codes, refl, true, false}
 use Rattle.std.specs.Fmt.{digits}
 use Rattle.idx_core.specs.declared.arith.Op.TheVariants.{Mul}
 use Rattle.t_types.specs.Tree.{IntTy, VarTy, CodeTy, ExistsTy, TupleTy, NoRegs, MoreRegs, NoFields, MoreFields}
-use Rattle.t_terms.specs.Tree.{Reg, Int, Label, Plain, Pack, Arith, Bnz, Ld, Malloc, Mov, St, Unpack, Jmp, Halt, Then, Ends, TBlock}
+use Rattle.t_terms.specs.Tree.{Reg, Int, Label, Plain, Pack, Arith, Bnz, Ld, Malloc, Mov, St, Unpack, Jmp, Halt, Then, Ends, TBlock, TProg}
 use Rattle.t_terms.specs.Shapes.{one_move}
 use Rattle.t_writer.specs.Lexeme.{render}
-use Rattle.t_writer.specs.Nesting.{nesting}
+use Rattle.t_terms.specs.Nesting.{nesting}
 use Rattle.t_writer.specs.Written.{program_written}
 
 -- each instruction once
@@ -32,16 +32,20 @@ two_blocks : render (program_written (first ∷ (second ∷ []))) ≡
 unfolding digits
 two_blocks = refl
 
+-- a program without data
+abbrev only : List TBlock → TProg
+only bs = record { blocks = bs; heap = [] }
+
 -- the brackets of `malloc`, and `some` in them; the braces of the file, those of its code type, and the tuple's angles
-first_nesting : nesting (first ∷ []) ≡ 2
+first_nesting : nesting (only (first ∷ [])) ≡ 2
 first_nesting = refl
 
-second_nesting : nesting (second ∷ []) ≡ 3
+second_nesting : nesting (only (second ∷ [])) ≡ 3
 second_nesting = refl
 
-move_nesting : nesting (one_move (pos 7)) ≡ 1
+move_nesting : nesting (only (one_move (pos 7))) ≡ 1
 move_nesting = refl
 
 -- packages: the hidden type and the value are in brackets, and the last type is not
-pack_nesting : nesting (record { owes = 0; file = NoRegs; code = Ends (Jmp (Pack IntTy (Pack IntTy (Plain (Int (pos 0)) []) IntTy) (ExistsTy (ExistsTy (ExistsTy IntTy))))) } ∷ []) ≡ 3
+pack_nesting : nesting (only (record { owes = 0; file = NoRegs; code = Ends (Jmp (Pack IntTy (Pack IntTy (Plain (Int (pos 0)) []) IntTy) (ExistsTy (ExistsTy (ExistsTy IntTy))))) } ∷ [])) ≡ 3
 pack_nesting = refl

@@ -1,10 +1,11 @@
 -- The names that are written: each stands for the number that it is written for.
-use Rattle.std.proofs.Common.{◌≡◌, ◌≢◌, ◌≤◌, ◌<◌, ◌^◌, ℕ, zero, suc, ◌+◌, ◌-◌, List, [], ◌∷◌, Bool, true, false, refl, sym, ap, ◌∙◌, arith, subst, decimal, add-one}
+use Rattle.std.proofs.Common.{◌≡◌, ◌≢◌, ◌≤◌, ◌<◌, ◌^◌, ℕ, zero, suc, ◌+◌, ◌-◌, List, [], ◌∷◌, Bool, true, false, refl, sym, ap, ◌∙◌, arith, subst, decimal, add-one, Some, if◌then◌else◌}
 use Rattle.std.specs.Str.{bytes_eq}
 use Rattle.std.proofs.lemmas.Slice.Eq.{bytes_eq-Decides}
 use Rattle.std.proofs.lemmas.Fmt.{decimal_injective}
 use Rattle.idx_core.specs.Names.{Name}
-use Rattle.t_terms.specs.Names.{is_among, place_of}
+use Rattle.t_terms.specs.Tree.{TBase, Label}
+use Rattle.t_terms.specs.Names.{Labels, is_among, place_of, named_by}
 
 abbrev pub type_name : ℕ → Name
 type_name n = 84 ∷ decimal n
@@ -21,9 +22,9 @@ pub scope_next : (d : ℕ) → scope (d + 1) ≡ type_name d ∷ scope d
 scope_next d = ap scope (add-one d)
 
 -- the labels of n blocks, with l before them
-abbrev pub labels_from : ℕ → ℕ → List Name
+abbrev pub labels_from : ℕ → ℕ → Labels
 labels_from l zero = []
-labels_from l (suc n) = label_name l ∷ labels_from (suc l) n
+labels_from l (suc n) = (label_name l, Label l) ∷ labels_from (suc l) n
 
 -- the labels of the n first blocks, the last first
 abbrev pub before : ℕ → List Name
@@ -73,21 +74,17 @@ in_scope (suc d) j lt h = by_test (bytes_eq (type_name j) (type_name d)) refl (i
         let z : 1 + (d - 1 - j) ≡ suc d - 1 - j = omega (arith, less) in
         subst (λ i. Found (type_name j) (scope (suc d)) i) z (found_next (type_name j) (type_name d) (scope d) (d - 1 - j) e (ih less (omega arith)))
 
-pub in_labels : (l n m : ℕ) → l ≤ m → m < l + n → l + n ≤ 2 ^ 64 → Found (label_name m) (labels_from l n) (m - l)
+pub in_labels : (l n m : ℕ) → l ≤ m → m < l + n → l + n ≤ 2 ^ 64 → named_by (label_name m) (labels_from l n) ≡ Some (Label m)
 in_labels l zero m low high h = absurd (omega arith)
 in_labels l (suc n) m low high h = by_test (bytes_eq (label_name m) (label_name l)) refl (in_labels (suc l) n m)
   where
-    by_test : (x : Bool) → bytes_eq (label_name m) (label_name l) ≡ x → (suc l ≤ m → m < suc l + n → suc l + n ≤ 2 ^ 64 → Found (label_name m) (labels_from (suc l) n) (m - suc l)) →
-        Found (label_name m) (labels_from l (suc n)) (m - l)
-    by_test true e ih =
-        let q : m ≡ l = same_number 76 m l (omega arith) (omega arith) e in
-        let z : 0 ≡ m - l = omega arith in
-        subst (λ i. Found (label_name m) (labels_from l (suc n)) i) z (found_first (label_name m) (label_name l) (labels_from (suc l) n) e)
+    by_test : (x : Bool) → bytes_eq (label_name m) (label_name l) ≡ x → (suc l ≤ m → m < suc l + n → suc l + n ≤ 2 ^ 64 → named_by (label_name m) (labels_from (suc l) n) ≡ Some (Label m)) →
+        (if x then Some (Label l) else named_by (label_name m) (labels_from (suc l) n)) ≡ Some (Label m)
+    by_test true e ih = let q : m ≡ l = same_number 76 m l (omega arith) (omega arith) e in ap (λ (i : ℕ). Some (Label i)) (sym q)
     by_test false e ih =
         let q : m ≢ l = other_number 76 m l e in
         let more : suc l ≤ m = omega (arith, q) in
-        let z : 1 + (m - suc l) ≡ m - l = omega (arith, more) in
-        subst (λ i. Found (label_name m) (labels_from l (suc n)) i) z (found_next (label_name m) (label_name l) (labels_from (suc l) n) (m - suc l) e (ih more (omega arith) (omega arith)))
+        ih more (omega arith) (omega arith)
 
 -- no label is that of a block before
 pub not_before : (l m : ℕ) → m ≤ l → l < 2 ^ 64 → is_among (label_name l) (before m) ≡ false

@@ -6,12 +6,12 @@ use Rattle.idx_core.specs.Names.{Name}
 use Rattle.t_types.specs.WellFormed.{max_names}
 use Rattle.t_terms.specs.declared.token.Kind.TheVariants as k
 use Rattle.t_terms.specs.declared.token.Token.{Token}
-use Rattle.t_terms.specs.Tree.{TSeq, Then, Ends, TBlock}
+use Rattle.t_terms.specs.Tree.{TSeq, Then, Ends, Label, TBlock, TProg}
 use Rattle.t_terms.specs.Tree as tree_of
 use Rattle.t_terms.specs.Spanned.{seq_of, plain, plain_blocks}
 use Rattle.t_terms.specs.Raw.{RawInstr, RawEnd, RawBlock}
 use Rattle.t_terms.specs.Grammar.{Is, is_none, is_more, End, Block, b_block, Blocks, bs_one, bs_more, Program, p_program}
-use Rattle.t_terms.specs.Names.{spelled, bind, names_after_all, body_of, end_of, block_of, labels_of, program_of}
+use Rattle.t_terms.specs.Names.{spelled, bind, names_after_all, body_of, end_of, block_of, Labels, block_labels, labels_of, program_of}
 use Rattle.t_terms.specs.NameFaults.{body_faults, end_faults, block_faults, blocks_faults, program_faults}
 use Rattle.t_terms.specs.Whole.{WellFormedSeq, WellFormedBlock, WellFormedBlocks, Whole}
 use Rattle.t_terms.specs.Text.{StandsFor}
@@ -29,7 +29,7 @@ blocks_along : (u x y : List Token) (rs more : List RawBlock) (r : RawBlock) →
 blocks_along u x y rs more r h = simp append_assoc at h
 
 module _ (text : List ℕ) (p : ℕ) (few : p ≤ 2 ^ 64) where
-  abbrev names : List Name
+  abbrev names : Labels
   names = labels text p few
 
   -- instructions and an end, each on its line
@@ -46,7 +46,7 @@ module _ (text : List ℕ) (p : ℕ) (few : p ≤ 2 ^ 64) where
     none : body_faults text names (scope d) body ≡ []
     none_last : end_faults text names (names_after_all text body (scope d)) last.0 ≡ []
 
-  wrote_seq : (i d : ℕ) (c : TSeq) → d ≤ max_names → WellFormedSeq p d c → SeqFits c → Written text i (seq_written d c) → WroteSeq i d c
+  wrote_seq : (i d : ℕ) (c : TSeq) → d ≤ max_names → WellFormedSeq p 0 d c → SeqFits c → Written text i (seq_written d c) → WroteSeq i d c
   wrote_seq i d (Ends e) n h f w =
       let r = wrote_end text p few i d e n h f (written_append text i (end_written d e) (line_end ∷ []) w).0 in
       record {
@@ -91,7 +91,7 @@ module _ (text : List ℕ) (p : ℕ) (few : p ≤ 2 ^ 64) where
     none : block_faults text names raw ≡ []
     name : spelled text raw.name ≡ label_name l
 
-  wrote_block : (l i : ℕ) (b : TBlock) → l < 2 ^ 64 → WellFormedBlock p b → SeqFits b.code → Written text i (block_written l b) → WroteBlock l i b
+  wrote_block : (l i : ℕ) (b : TBlock) → l < 2 ^ 64 → WellFormedBlock p 0 b → SeqFits b.code → Written text i (block_written l b) → WroteBlock l i b
   wrote_block l i b small h f w =
       let bs = binds_written 0 b.owes in
       let fs = file_written b.owes b.file in
@@ -140,10 +140,10 @@ module _ (text : List ℕ) (p : ℕ) (few : p ≤ 2 ^ 64) where
     extend : (u : List Token) (rs : List RawBlock) → Blocks u rs → Blocks (u ++ placed i (blocks_written l bs)) (rs ++ raw)
     fine : (x : Bool) → Fine (blocks_written l bs) x
     means : plain_blocks (map (block_of text names) raw) ≡ bs
-    spell : labels_of text raw ≡ labels_from l (length bs)
+    spell : block_labels text l raw ≡ labels_from l (length bs)
     none : blocks_faults text names (before l) raw ≡ []
 
-  more_blocks : (l i : ℕ) (bs : List TBlock) → l + length bs ≤ 2 ^ 64 → WellFormedBlocks p bs → BlocksFit bs → Written text i (blocks_written l bs) → MoreBlocks l i bs
+  more_blocks : (l i : ℕ) (bs : List TBlock) → l + length bs ≤ 2 ^ 64 → WellFormedBlocks p 0 bs → BlocksFit bs → Written text i (blocks_written l bs) → MoreBlocks l i bs
   more_blocks l i [] small h f w = record {
     raw = [];
     extend = λ u rs x. rw (append-nil, append-nil) x;
@@ -162,36 +162,40 @@ module _ (text : List ℕ) (p : ℕ) (few : p ≤ 2 ^ 64) where
             (blocks_along u (placed i (block_written l b)) (placed (i + size (block_written l b)) (blocks_written (suc l) bs)) rs r.raw a.raw (r.extend _ _ (bs_more x a.whole)));
         fine = λ x. fine_append (block_written l b) (blocks_written (suc l) bs) x (a.fine (stops (blocks_written (suc l) bs) x)) (r.fine x);
         means = ap₂ (λ (c : TBlock) (cs : List TBlock). c ∷ cs) a.means r.means;
-        spell = ap₂ (λ (x : Name) (xs : List Name). x ∷ xs) a.name r.spell;
+        spell = ap₂ (λ (x : Name) (xs : Labels). (x, Label l) ∷ xs) a.name r.spell;
         none = rw (a.name, not_before l l (omega arith) (omega arith), a.none) r.none;
       }
 
+-- a program of blocks alone
+abbrev pub only_blocks : List TBlock → TProg
+only_blocks bs = record { blocks = bs; heap = [] }
+
 -- the whole text
-module _ (text : List ℕ) (b : TBlock) (bs : List TBlock) (few : length (b ∷ bs) ≤ 2 ^ 64) (h : Whole (b ∷ bs)) (f : BlocksFit (b ∷ bs)) (e : text ≡ render (program_written (b ∷ bs))) where
+module _ (text : List ℕ) (b : TBlock) (bs : List TBlock) (few : length (b ∷ bs) ≤ 2 ^ 64) (h : Whole (only_blocks (b ∷ bs))) (f : BlocksFit (b ∷ bs)) (e : text ≡ render (program_written (b ∷ bs))) where
   abbrev ls : List Lexeme
   ls = program_written (b ∷ bs)
 
-  abbrev here : List Name
+  abbrev here : Labels
   here = labels text (length (b ∷ bs)) few
 
   at_place : Written text 6 (blocks_written 0 (b ∷ bs))
   at_place = (written_at text 0 ls [] (e ∙ sym (append-nil (render ls)))).1.1.1.1
 
-  pub stands_for : StandsFor text (b ∷ bs)
+  pub stands_for : StandsFor text (only_blocks (b ∷ bs))
   stands_for =
       let rest = blocks_written 1 bs in
       let v = written_append text 6 (block_written 0 b) rest at_place in
       let a = wrote_block text (length (b ∷ bs)) few 0 6 b (omega arith) h.1.0 f.0 v.0 in
       let r = more_blocks text (length (b ∷ bs)) few 1 (6 + size (block_written 0 b)) bs (omega arith) h.1.1 f.1 v.1 in
       let raw = a.raw ∷ r.raw in
-      let spell : labels_of text raw ≡ here = ap₂ (λ (x : Name) (xs : List Name). x ∷ xs) a.name r.spell in
+      let spell : labels_of text raw ≡ here = ap₂ (λ (x : Name) (xs : Labels). (x, Label 0) ∷ xs) a.name r.spell in
       let fine : Fine ls true = ((refl, refl, tt), refl, (refl, tt, (omega arith, refl, (refl, tt, fine_append (block_written 0 b) rest true (a.fine (stops rest true)) (r.fine true))))) in
       let shape : Program (placed 0 ls) raw = rw (placed_append 6 (block_written 0 b) rest)
       (p_program (placing.place_of 0 (Reserved (codes "tal") k.Tal)) (placing.place_of 4 (Digit 1)) (r.extend _ (a.raw ∷ []) (bs_one a.whole))) in
-      let named : program_faults text raw ≡ [] = subst (λ (ns : List Name). blocks_faults text ns [] raw ≡ []) (sym spell) (rw (a.none, a.name) r.none) in
-      let means : plain_blocks (program_of text raw) ≡ b ∷ bs = subst (λ (ns : List Name). plain_blocks (map (block_of text ns) raw) ≡ b ∷ bs) (sym spell) (ap₂ (λ (c : TBlock) (cs : List TBlock). c ∷ cs) a.means r.means) in
-      (program_of text raw, record { tokens = placed 0 ls; cut = rw e (cut_placed 0 ls fine); raw = raw; shape = shape; named = named; is = refl }, means)
+      let named : program_faults text raw ≡ [] = subst (λ (ns : Labels). blocks_faults text ns [] raw ≡ []) (sym spell) (rw (a.none, a.name) r.none) in
+      let means : plain_blocks (map (block_of text (labels_of text raw)) raw) ≡ b ∷ bs = subst (λ (ns : Labels). plain_blocks (map (block_of text ns) raw) ≡ b ∷ bs) (sym spell) (ap₂ (λ (c : TBlock) (cs : List TBlock). c ∷ cs) a.means r.means) in
+      (program_of text raw, record { tokens = placed 0 ls; cut = rw e (cut_placed 0 ls fine); raw = raw; shape = shape; named = named; is = refl }, ap only_blocks means)
 
-pub written_stands : (text : List ℕ) (bs : List TBlock) → length bs ≤ 2 ^ 64 → Whole bs → BlocksFit bs → text ≡ render (program_written bs) → StandsFor text bs
+pub written_stands : (text : List ℕ) (bs : List TBlock) → length bs ≤ 2 ^ 64 → Whole (only_blocks bs) → BlocksFit bs → text ≡ render (program_written bs) → StandsFor text (only_blocks bs)
 written_stands text [] few h f e = absurd (omega (arith, h.0))
 written_stands text (b ∷ bs) few h f e = stands_for text b bs few h f e

@@ -1,6 +1,6 @@
 -- A value, an instruction and an end that are written stand for themselves, where the names around them are those of
 -- their depth and the labels those of the blocks in turn.
-use Rattle.std.proofs.Common.{◌≡◌, ◌≤◌, ◌^◌, pos, negsuc, ℕ, ◌+◌, ◌-◌, List, [], ◌∷◌, ◌++◌, length, codes, true, refl, sym, ap, ap₂, ◌∙◌, arith}
+use Rattle.std.proofs.Common.{◌≡◌, ◌≤◌, ◌^◌, pos, negsuc, ℕ, ◌+◌, ◌-◌, List, [], ◌∷◌, ◌++◌, length, codes, true, refl, sym, ap, ap₂, ◌∙◌, arith, Some}
 use Rattle.std.proofs.lemmas.Int.{ints}
 use Rattle.idx_core.specs.declared.span.Span.{Span}
 use Rattle.idx_core.specs.declared.arith.Op.{Op}
@@ -11,11 +11,11 @@ use Rattle.t_types.specs.WellFormed.{max_names, max_number}
 use Rattle.t_terms.specs.declared.token.Kind.{Kind}
 use Rattle.t_terms.specs.declared.token.Kind.TheVariants as k
 use Rattle.t_terms.specs.declared.token.Token.{Token}
-use Rattle.t_terms.specs.Tree.{TBase, Reg, Int, Label, TValue, Plain, Pack, TInstr, Arith, Bnz, Ld, Malloc, Mov, St, Unpack, TEnd, Jmp, Halt}
+use Rattle.t_terms.specs.Tree.{TBase, Reg, Int, Label, Data, TValue, Plain, Pack, TInstr, Arith, Bnz, Ld, Malloc, Mov, St, Unpack, TEnd, Jmp, Halt}
 use Rattle.t_terms.specs.Tree as tree_of
 use Rattle.t_terms.specs.Raw.{RawBase, RReg, RNum, RLabel, RawValue, RPlain, RPack, RawInstr, RArith, RBnz, RLd, RMalloc, RMov, RSt, RUnpack, RawEnd, RJmp, RHalt, Piece, ending, up_to}
 use Rattle.t_terms.specs.Grammar.{tok, N, n_reg, n_plain, n_negative, n_label, V, v_base, v_apply, v_pack, IsOp, is_add, is_sub, is_mul, I, i_arith, i_bnz, i_ld, i_malloc_none, i_malloc, i_mov, i_st, i_unpack, End, e_jmp, e_halt}
-use Rattle.t_terms.specs.Names.{spelled, base_of, value_of, instr_of, names_after, end_of}
+use Rattle.t_terms.specs.Names.{Labels, spelled, named_by, base_of, value_of, instr_of, names_after, end_of}
 use Rattle.t_terms.specs.NameFaults.{base_faults, value_faults, instr_faults, end_faults}
 use Rattle.t_terms.specs.Whole.{WellFormedBase, WellFormedValue, WellFormedInstr, WellFormedEnd}
 use Rattle.t_writer.specs.Ints.{IntFits, BaseFits, ValueFits, InstrFits, EndFits}
@@ -24,7 +24,7 @@ use Rattle.t_writer.specs.Written.{comma, space, type_written, types_written, li
 use Rattle.t_writer.proofs.Items.{Valid}
 use Rattle.t_writer.proofs.Placed as placing
 use Rattle.t_writer.proofs.Placed.{size, placed, token_of, placed_append, stops, Follows, Fine, fine_append, Written, written_append}
-use Rattle.t_writer.proofs.Scopes.{labels_from, scope, scope_next, Found, in_labels}
+use Rattle.t_writer.proofs.Scopes.{labels_from, scope, scope_next, in_labels}
 use Rattle.t_writer.proofs.WroteTypes.{wrote_type, wrote_types}
 
 -- where a register ends that stands at a place
@@ -50,7 +50,7 @@ wrote_op i Mul = record { kind = k.Mul; at = refl; is = is_mul; valid = (refl, r
 
 -- in a program of p blocks
 module _ (text : List ℕ) (p : ℕ) (few : p ≤ 2 ^ 64) where
-  abbrev pub labels : List Name
+  abbrev pub labels : Labels
   labels = labels_from 0 p
 
   record WroteBase (i : ℕ) (b : TBase) : Type 0 where
@@ -63,7 +63,7 @@ module _ (text : List ℕ) (p : ℕ) (few : p ≤ 2 ^ 64) where
     means : base_of text labels raw ≡ b
     none : base_faults text labels raw ≡ []
 
-  wrote_base : (i : ℕ) (b : TBase) → WellFormedBase p b → BaseFits b → Written text i (base_written b ∷ []) → WroteBase i b
+  wrote_base : (i : ℕ) (b : TBase) → WellFormedBase p 0 b → BaseFits b → Written text i (base_written b ∷ []) → WroteBase i b
   wrote_base i (Reg r) h f w = record {
     token = tok (k.Register r) (placing.place_of i (Register r));
     raw = RReg r;
@@ -96,7 +96,7 @@ module _ (text : List ℕ) (p : ℕ) (few : p ≤ 2 ^ 64) where
   }
   wrote_base i (Label l) h f w =
       let s = placing.place_of i (LabelName l) in
-      let g : Found (spelled text s) labels (l - 0) = rw w.0 (in_labels 0 p l (omega arith) (omega arith) (omega arith)) in
+      let g : named_by (spelled text s) labels ≡ Some (Label l) = rw w.0 (in_labels 0 p l (omega arith) (omega arith) (omega arith)) in
       record {
         token = tok k.Name s;
         raw = RLabel s;
@@ -104,9 +104,10 @@ module _ (text : List ℕ) (p : ℕ) (few : p ≤ 2 ^ 64) where
         whole = n_label s;
         valid = omega arith;
         follows = λ ls e. e;
-        means = let e : l - 0 ≡ l = omega arith in ap Label (g.at ∙ e);
-        none = rw g.among refl;
+        means = rw g refl;
+        none = rw g refl;
       }
+  wrote_base i (Data d) h f w = absurd (omega (arith, h))
 
   pub record WroteValue (i d : ℕ) (v : TValue) : Type 0 where
     pub piece : Piece RawValue
@@ -115,7 +116,7 @@ module _ (text : List ℕ) (p : ℕ) (few : p ≤ 2 ^ 64) where
     pub means : value_of text labels (scope d) piece.tree ≡ v
     pub none : value_faults text labels (scope d) piece.tree ≡ []
 
-  pub wrote_value : (i d : ℕ) (v : TValue) → d ≤ max_names → WellFormedValue p d v → ValueFits v → Written text i (value_written d v) → WroteValue i d v
+  pub wrote_value : (i d : ℕ) (v : TValue) → d ≤ max_names → WellFormedValue p 0 d v → ValueFits v → Written text i (value_written d v) → WroteValue i d v
   wrote_value i d (Plain b []) n h f w =
       let a = wrote_base i b h.0 f (w.0, tt) in
       record {
@@ -177,7 +178,7 @@ module _ (text : List ℕ) (p : ℕ) (few : p ≤ 2 ^ 64) where
     pub none : instr_faults text labels (scope d) raw.0 ≡ []
     pub after : names_after text raw.0 (scope d) ≡ scope (tree_of.names_after x d)
 
-  pub wrote_instr : (i d : ℕ) (x : TInstr) → d ≤ max_names → WellFormedInstr p d x → InstrFits x → Written text i (instr_written d x) → WroteInstr i d x
+  pub wrote_instr : (i d : ℕ) (x : TInstr) → d ≤ max_names → WellFormedInstr p 0 d x → InstrFits x → Written text i (instr_written d x) → WroteInstr i d x
   wrote_instr i d (Arith op rd rs v) n h f w =
       let o = wrote_op i op in
       let a = i + length (bytes (op_written op)) in
@@ -268,7 +269,7 @@ module _ (text : List ℕ) (p : ℕ) (few : p ≤ 2 ^ 64) where
     pub means : end_of text labels (scope d) raw.0 ≡ e
     pub none : end_faults text labels (scope d) raw.0 ≡ []
 
-  pub wrote_end : (i d : ℕ) (e : TEnd) → d ≤ max_names → WellFormedEnd p d e → EndFits e → Written text i (end_written d e) → WroteEnd i d e
+  pub wrote_end : (i d : ℕ) (e : TEnd) → d ≤ max_names → WellFormedEnd p 0 d e → EndFits e → Written text i (end_written d e) → WroteEnd i d e
   wrote_end i d (Jmp v) n h f w =
       let r = wrote_value (i + 3 + 1) d v n h f w.1.1 in
       record {

@@ -1,6 +1,6 @@
 -- The integers of a program have 64 bits.
 use Rattle.std.specs.Prelude.{◌≤ℤ◌, ℤ, pos, negsuc, List, [], ◌∷◌}
-use Rattle.t_terms.specs.Tree.{TBase, Reg, Int, Label, TValue, Plain, Pack, TInstr, Arith, Bnz, Ld, Malloc, Mov, St, Unpack, TEnd, Jmp, Halt, TSeq, Then, Ends, TBlock}
+use Rattle.t_terms.specs.Tree.{TBase, Reg, Int, Label, Data, TValue, Plain, Pack, TInstr, Arith, Bnz, Ld, Malloc, Mov, St, Unpack, TEnd, Jmp, Halt, TSeq, Then, Ends, TBlock}
 
 abbrev pub IntFits : ℤ → Type 0
 IntFits z = (negsuc 9223372036854775807 ≤ℤ z) × (z ≤ℤ pos 9223372036854775807)
@@ -9,6 +9,7 @@ abbrev pub BaseFits : TBase → Type 0
 BaseFits (Reg r) = Unit {0}
 BaseFits (Int i) = IntFits i
 BaseFits (Label l) = Unit {0}
+BaseFits (Data d) = Unit {0}
 
 abbrev pub ValueFits : TValue → Type 0
 ValueFits (Plain b ts) = BaseFits b

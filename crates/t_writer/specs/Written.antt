@@ -4,7 +4,7 @@ use Rattle.idx_core.specs.declared.arith.Op.{Op}
 use Rattle.idx_core.specs.declared.arith.Op.TheVariants.{Add, Sub, Mul}
 use Rattle.t_types.specs.Tree.{Ty, IntTy, VarTy, CodeTy, ExistsTy, TupleTy, TFile, NoRegs, MoreRegs, TFields, NoFields, MoreFields}
 use Rattle.t_terms.specs.declared.token.Kind.TheVariants as k
-use Rattle.t_terms.specs.Tree.{TBase, Reg, Int, Label, TValue, Plain, Pack, TInstr, Arith, Bnz, Ld, Malloc, Mov, St, Unpack, TEnd, Jmp, Halt, TSeq, Then, Ends, TBlock, names_after}
+use Rattle.t_terms.specs.Tree.{TBase, Reg, Int, Label, Data, TValue, Plain, Pack, TInstr, Arith, Bnz, Ld, Malloc, Mov, St, Unpack, TEnd, Jmp, Halt, TSeq, Then, Ends, TBlock, names_after}
 use Rattle.t_writer.specs.Lexeme.{Lexeme, Reserved, TypeName, LabelName, Register, Number, Digit, Sign, Blank}
 
 abbrev pub comma : Lexeme
@@ -71,6 +71,8 @@ abbrev pub base_written : TBase → Lexeme
 base_written (Reg r) = Register r
 base_written (Int i) = Number i
 base_written (Label l) = LabelName l
+-- a program that is written has no data
+base_written (Data d) = LabelName d
 
 abbrev pub args_written : ℕ → List Ty → List Lexeme
 args_written d [] = []

@@ -53,7 +53,7 @@ fn write_place(text: &mut Vec<u8>, r: u64, field: u64) -> Result<(), OutOfMemory
 
 // A register, a comma and a value.
 fn write_operands(text: &mut Vec<u8>, r: u64, v: &Value, depth: u64) -> Result<(), OutOfMemory>
-    requires { (blocks : ℕ) × WellFormedValue blocks depth (value_of v.now) }
+    requires { (blocks : ℕ) × WellFormedValue blocks 0 depth (value_of v.now) }
     ensures written { OnOk result (text.new.items ≡ text.old.items ++ render (Register r ∷ (comma ∷ (space ∷ value_written depth (value_of v.now))))) }
     ensures ints { OnOk result (ValueFits (value_of v.now)) }
 {
@@ -73,9 +73,9 @@ fn write_unpacked(text: &mut Vec<u8>, rd: u64, depth: u64) -> Result<(), OutOfMe
     Ok(())
 }
 
-// An instruction inside `depth` type names, of a program of some number of blocks.
+// An instruction inside `depth` type names, of a program of some number of blocks and no data.
 pub(crate) fn write_instr(text: &mut Vec<u8>, instr: &Instr, depth: u64) -> Result<(), OutOfMemory>
-    requires { (blocks : ℕ) × WellFormedInstr blocks depth (instr_of instr.now) }
+    requires { (blocks : ℕ) × WellFormedInstr blocks 0 depth (instr_of instr.now) }
     ensures written { OnOk result (text.new.items ≡ text.old.items ++ render (instr_written depth (instr_of instr.now))) }
     ensures ints { OnOk result (InstrFits (instr_of instr.now)) }
 {
@@ -119,7 +119,7 @@ pub(crate) fn write_instr(text: &mut Vec<u8>, instr: &Instr, depth: u64) -> Resu
 
 // The end of a block.
 pub(crate) fn write_end(text: &mut Vec<u8>, end: &End, depth: u64) -> Result<(), OutOfMemory>
-    requires { (blocks : ℕ) × WellFormedEnd blocks depth (end_of end.now) }
+    requires { (blocks : ℕ) × WellFormedEnd blocks 0 depth (end_of end.now) }
     ensures written { OnOk result (text.new.items ≡ text.old.items ++ render (end_written depth (end_of end.now))) }
     ensures ints { OnOk result (EndFits (end_of end.now)) }
 {

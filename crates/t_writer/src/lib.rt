@@ -4,13 +4,13 @@
 mod code;
 mod laws;
 mod names;
-pub mod number;
+mod number;
 mod program;
 #[cfg(test)]
 mod tests;
 mod types;
 mod values;
 
-pub use laws::{counts_open, keeps_by_nesting, one_move_is_shallow};
+pub use laws::one_move_is_shallow;
 pub use number::{write_integer, write_natural};
 pub use program::write;

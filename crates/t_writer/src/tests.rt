@@ -15,7 +15,7 @@ fn here() -> Span {
 
 // a move, and a jump to the second block with a type
 fn moves(alloc: Global) -> Result<Block, OutOfMemory>
-    ensures { IfOk result (λ b. WellFormedBlock 2 (block_of b)) }
+    ensures { IfOk result (λ b. WellFormedBlock 2 0 (block_of b)) }
 {
     let v = Value::Plain {
         base: Base::Int(-5),
@@ -42,7 +42,7 @@ fn moves(alloc: Global) -> Result<Block, OutOfMemory>
 
 // a block that owes a type, and takes an integer
 fn halts(alloc: Global) -> Result<Block, OutOfMemory>
-    ensures { IfOk result (λ b. WellFormedBlock 2 (block_of b)) }
+    ensures { IfOk result (λ b. WellFormedBlock 2 0 (block_of b)) }
 {
     let mut regs = Vec::new(alloc);
     regs.push((1, TType::Int))?;
@@ -62,7 +62,10 @@ fn program(alloc: Global) -> Result<TProgram, OutOfMemory> {
     let mut blocks = Vec::new(alloc);
     blocks.push(first)?;
     blocks.push(second)?;
-    Ok(TProgram { blocks })
+    Ok(TProgram {
+        blocks,
+        heap: Vec::new(alloc),
+    })
 }
 
 #[test]

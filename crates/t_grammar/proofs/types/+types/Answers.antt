@@ -8,7 +8,7 @@ use Rattle.t_terms.specs.declared.wanted.Wanted.TheVariants as want
 use Rattle.t_terms.specs.Machine.{LBinds, LFile, LRegs, MoreRegs, MakeFile, FirstReg, NextReg, CloseRegs, LT, LFields, MoreFields, FirstField, NextField, CloseFields, TypeInt, TypeName, TypeCode, TypeSome, TypeTuple, type_after}
 use Rattle.t_grammar.specs.declared.raw.RawType.{RawType}
 use Rattle.t_grammar.specs.Reads.{entry_owed, field_owed}
-use Rattle.t_grammar.proofs.Stepping.{within, start, begins, by_two, by_call, by_do, by_mark, by_same, stop_two, stop_call, stop_deep, stop_lacks, not_opening, too_deep, bracketed, bracketed_stops, list_first, list_first_stops, list_next, list_next_stops, list_whole, list_close_stops}
+use Rattle.t_grammar.proofs.Stepping.{within, start, begins, by_token, by_two, by_call, by_do, by_mark, by_same, stop_token, stop_two, stop_call, stop_deep, stop_lacks, not_opening, too_deep, bracketed, bracketed_stops, list_first, list_first_stops, list_next, list_next_stops, list_whole, list_close_stops}
 use Rattle.t_grammar.proofs.Lines.{opens_file, list_regs, list_fields, no_type}
 use Rattle.t_grammar.proofs.Empty.{regs_empty, fields_empty}
 use Rattle.t_grammar.proofs.Raws.{raw_Tuple, raw_Code, regs_more, fields_more, reg_is, field_is}
@@ -20,14 +20,23 @@ entry-returns-in_err-reg t c =
     let d = c.args.depth in
     let i = c.args.at in
     let p = err_from_is_err_and c.from_residual.result c.from_residual.ensures.1 in
-    rw (p.1, p.2) (stop_two _ want.Register want.Colon (Nt LT ∷ []) [] (start ts d i entry_owed) (omega arith) c.in_err-reg.ensures)
+    rw (p.1, p.2) (stop_token _ want.Register (Tm want.Colon ∷ (Nt LT ∷ [])) [] (start ts d i entry_owed) c.in_err-reg.ensures)
+
+pub entry-returns-in_err-expect : goal.entry-returns-in_err-expect
+entry-returns-in_err-expect t c =
+    let ts = c.args.tokens.now in
+    let d = c.args.depth in
+    let i = c.args.at in
+    let g = c.in_ok-reg.ensures in
+    let m = by_token want.Register g.0 (Tm want.Colon ∷ (Nt LT ∷ [])) [] (start ts d i entry_owed) g.1 (omega arith) in
+    let p = err_from_is_err_and c.from_residual-in_err-expect.result c.from_residual-in_err-expect.ensures.1 in
+    rw (p.1, p.2) (stop_token _ want.Colon (Nt LT ∷ []) _ m c.in_err-expect.ensures)
 
 pub entry-whole_type-requires : goal.entry-whole_type-requires
 entry-whole_type-requires t c =
     let ts = c.args.tokens.now in
-    let d = c.args.depth in
     let i = c.args.at in
-    let l = within ts (i + 1) want.Colon _ c.in_ok-reg.ensures.1 in
+    let l = within ts (i + 1) want.Colon _ c.in_ok-expect.ensures in
     (omega (arith, l), (c.requires.depth, omega (arith, l)))
 
 pub entry-returns-in_err-found : goal.entry-returns-in_err-found
@@ -35,7 +44,8 @@ entry-returns-in_err-found t c =
     let ts = c.args.tokens.now in
     let d = c.args.depth in
     let i = c.args.at in
-    let m = by_two want.Register want.Colon _ _ (Nt LT ∷ []) [] (start ts d i entry_owed) c.in_ok-reg.ensures (omega arith) in
+    let g = c.in_ok-reg.ensures in
+    let m = by_two want.Register want.Colon g.0 _ (Nt LT ∷ []) [] (start ts d i entry_owed) (g.1, c.in_ok-expect.ensures) (omega arith) in
     let p = err_from_is_err_and c.from_residual-in_err-found.result c.from_residual-in_err-found.ensures.1 in
     rw (p.1, p.2) (stop_call _ (Nt LT ∷ []) d [] _ m (omega arith) c.in_err-found.ensures)
 
@@ -44,16 +54,26 @@ entry-returns t c =
     let ts = c.args.tokens.now in
     let d = c.args.depth in
     let i = c.args.at in
-    let m = by_two want.Register want.Colon _ _ (Nt LT ∷ []) [] (start ts d i entry_owed) c.in_ok-reg.ensures (omega arith) in
+    let g = c.in_ok-reg.ensures in
+    let m = by_two want.Register want.Colon g.0 _ (Nt LT ∷ []) [] (start ts d i entry_owed) (g.1, c.in_ok-expect.ensures) (omega arith) in
     let f = c.in_ok-found.found in
     let r = c.in_ok-found.ensures in
     record {
-      reg = c.in_ok-reg.reg;
+      reg = g.0;
       colon = _;
       ty = _;
-      is = reg_is _ c.in_ok-reg.reg f.ty c.register_number.ensures;
+      is = reg_is _ g.0 f.ty g.2;
       reads = record { forward = omega (arith, r.forward); in_range = r.in_range; same = by_call d [] _ m (omega arith) r.same };
     }
+
+pub field-returns-in_err-expect : goal.field-returns-in_err-expect
+field-returns-in_err-expect t c =
+    let ts = c.args.tokens.now in
+    let d = c.args.depth in
+    let i = c.args.at in
+    let m = by_call d (Tm want.Caret ∷ (Tm want.Flag ∷ [])) [] (start ts d i field_owed) (omega arith) c.in_ok-found.ensures.same in
+    let p = err_from_is_err_and c.from_residual-in_err-expect.result c.from_residual-in_err-expect.ensures.1 in
+    rw (p.1, p.2) (stop_token _ want.Caret (Tm want.Flag ∷ []) _ m c.in_err-expect.ensures)
 
 pub field-returns-in_err-flag : goal.field-returns-in_err-flag
 field-returns-in_err-flag t c =
@@ -61,8 +81,9 @@ field-returns-in_err-flag t c =
     let d = c.args.depth in
     let i = c.args.at in
     let m = by_call d (Tm want.Caret ∷ (Tm want.Flag ∷ [])) [] (start ts d i field_owed) (omega arith) c.in_ok-found.ensures.same in
+    let n = by_token want.Caret _ (Tm want.Flag ∷ []) _ m c.in_ok-expect.ensures (omega arith) in
     let p = err_from_is_err_and c.from_residual-in_err-flag.result c.from_residual-in_err-flag.ensures.1 in
-    rw (p.1, p.2) (stop_two _ want.Caret want.Flag [] _ m (omega arith) c.in_err-flag.ensures)
+    rw (p.1, p.2) (stop_token _ want.Flag [] _ n c.in_err-flag.ensures)
 
 pub field-returns : goal.field-returns
 field-returns t c =
@@ -72,13 +93,14 @@ field-returns t c =
     let m = by_call d (Tm want.Caret ∷ (Tm want.Flag ∷ [])) [] (start ts d i field_owed) (omega arith) c.in_ok-found.ensures.same in
     let f = c.in_ok-found.found in
     let r = c.in_ok-found.ensures in
-    let l = within ts (f.next + 1) want.Flag _ c.in_ok-flag.ensures.1 in
+    let g = c.in_ok-flag.ensures in
+    let l = within ts (f.next + 1) want.Flag _ g.1 in
     record {
       ty = _;
       caret = _;
-      flag = c.in_ok-flag.flag;
-      is = field_is _ c.in_ok-flag.flag f.ty c.is_set.ensures;
-      reads = record { forward = omega (arith, r.forward); in_range = omega (arith, l); same = by_two want.Caret want.Flag _ _ [] _ m c.in_ok-flag.ensures (omega arith) };
+      flag = g.0;
+      is = field_is _ g.0 f.ty g.2;
+      reads = record { forward = omega (arith, r.forward); in_range = omega (arith, l); same = by_two want.Caret want.Flag _ g.0 [] _ m (c.in_ok-expect.ensures, g.1) (omega arith) };
     }
 
 pub regs-returns-in-Some : goal.regs-returns-in-Some

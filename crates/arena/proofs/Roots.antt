@@ -129,6 +129,79 @@ of_among P [] k h m = absurd m
 of_among P (j ∷ js) k h (inl e) = subst P (sym e) (All-head P j js h)
 of_among P (j ∷ js) k h (inr m) = of_among P js k (All-tail P j js h) m
 
+pub not_among : (ks : List ℕ) (k : ℕ) → All (λ j. j ≢ k) ks → Among ks k → ⊥
+not_among [] k h m = m
+not_among (x ∷ xs) k h (inl e) = All-head (λ j. j ≢ k) x xs h (sym e)
+not_among (x ∷ xs) k h (inr m) = not_among xs k (All-tail (λ j. j ≢ k) x xs h) m
+
+-- a list in two pieces
+pub all_before : (P : ℕ → Type 0) (xs ys : List ℕ) → All P (xs ++ ys) → All P xs
+all_before P [] ys h = All-nil P
+all_before P (x ∷ xs) ys h = All-cons P x xs (All-head P x (xs ++ ys) h) (all_before P xs ys (All-tail P x (xs ++ ys) h))
+
+pub all_after : (P : ℕ → Type 0) (xs ys : List ℕ) → All P (xs ++ ys) → All P ys
+all_after P [] ys h = h
+all_after P (x ∷ xs) ys h = all_after P xs ys (All-tail P x (xs ++ ys) h)
+
+pub differ_front : (xs ys : List ℕ) → Differ (xs ++ ys) → Differ xs
+differ_front [] ys d = tt
+differ_front (x ∷ xs) ys d = (all_before (λ j. j ≢ x) xs ys d.0, differ_front xs ys d.1)
+
+pub differ_split : (xs ys : List ℕ) → Differ (xs ++ ys) → All (λ k. All (λ j. j ≢ k) ys) xs
+differ_split [] ys d = All-nil (λ k. All (λ j. j ≢ k) ys)
+differ_split (x ∷ xs) ys d = All-cons (λ k. All (λ j. j ≢ k) ys) x xs (all_after (λ j. j ≢ x) xs ys d.0) (differ_split xs ys d.1)
+
+pub among_first : (xs ys : List ℕ) (k : ℕ) → Among (xs ++ ys) k → (Among ys k → ⊥) → Among xs k
+among_first [] ys k a no' = absurd (no' a)
+among_first (x ∷ xs) ys k (inl e) no' = inl e
+among_first (x ∷ xs) ys k (inr a) no' = inr (among_first xs ys k a no')
+
+pub differ_back : (xs ys : List ℕ) → Differ (xs ++ ys) → Differ ys
+differ_back [] ys d = d
+differ_back (x ∷ xs) ys d = differ_back xs ys d.1
+
+-- without the last ones
+without_absent : (k : ℕ) (xs : List ℕ) → All (λ j. j ≢ k) xs → without k xs ≡ xs
+without_absent k [] h = refl
+without_absent k (x ∷ xs) h =
+    if_other x k (without k xs) (x ∷ without k xs) (All-head (λ j. j ≢ k) x xs h) ∙ ap (λ (ys : List ℕ). x ∷ ys) (without_absent k xs (All-tail (λ j. j ≢ k) x xs h))
+
+without_between : (k : ℕ) (xs ys : List ℕ) → Differ (xs ++ k ∷ ys) → without k (xs ++ k ∷ ys) ≡ xs ++ ys
+without_between k [] ys d = if_same k k (without k ys) (k ∷ without k ys) refl ∙ without_absent k ys d.0
+without_between k (x ∷ xs) ys d =
+    let ne : x ≢ k = λ e. All-head (λ j. j ≢ x) k ys (all_after (λ j. j ≢ x) xs (k ∷ ys) d.0) (sym e) in
+    if_other x k (without k (xs ++ k ∷ ys)) (x ∷ without k (xs ++ k ∷ ys)) ne ∙ ap (λ (zs : List ℕ). x ∷ zs) (without_between k xs ys d.1)
+
+differ_between : (k : ℕ) (xs ys : List ℕ) → Differ (xs ++ k ∷ ys) → Differ (xs ++ ys)
+differ_between k [] ys d = d.1
+differ_between k (x ∷ xs) ys d =
+    (all_join (λ j. j ≢ x) xs ys (all_before (λ j. j ≢ x) xs (k ∷ ys) d.0) (All-tail (λ j. j ≢ x) k ys (all_after (λ j. j ≢ x) xs (k ∷ ys) d.0)), differ_between k xs ys d.1)
+  where
+    all_join : (P : ℕ → Type 0) (xs ys : List ℕ) → All P xs → All P ys → All P (xs ++ ys)
+    all_join P [] ys h g = g
+    all_join P (x ∷ xs) ys h g = All-cons P x (xs ++ ys) (All-head P x xs h) (all_join P xs ys (All-tail P x xs h) g)
+
+pub without_last : (ks js : List ℕ) → Differ (ks ++ js) → without_all js (ks ++ js) ≡ ks
+without_last ks [] d = append_nil ks
+  where
+    append_nil : (xs : List ℕ) → xs ++ [] ≡ xs
+    append_nil [] = refl
+    append_nil (x ∷ xs) = ap (λ (ys : List ℕ). x ∷ ys) (append_nil xs)
+without_last ks (j ∷ js) d = ap (without_all js) (without_between j ks js d) ∙ without_last ks js (differ_between j ks js d)
+
+pub among_last : (ks js : List ℕ) → All (λ k. Among (ks ++ js) k) js
+among_last ks [] = All-nil (λ k. Among (ks ++ []) k)
+among_last ks (j ∷ js) = All-cons (λ k. Among (ks ++ j ∷ js) k) j js (first ks) (λ i e lt. later ks _ (among_last ks js i e lt))
+  where
+    first : (xs : List ℕ) → Among (xs ++ j ∷ js) j
+    first [] = inl refl
+    first (x ∷ xs) = inr (first xs)
+
+    later : (xs : List ℕ) (k : ℕ) → Among (xs ++ js) k → Among (xs ++ j ∷ js) k
+    later [] k m = inr m
+    later (x ∷ xs) k (inl e) = inl e
+    later (x ∷ xs) k (inr m) = inr (later xs k m)
+
 -- the one number of a list of different ones
 pub just_one : (ks : List ℕ) (k : ℕ) → Differ ks → Among ks k → ((j : ℕ) → Among ks j → j ≡ k) → ks ≡ k ∷ []
 just_one [] k d m one = absurd m

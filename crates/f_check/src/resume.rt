@@ -1,5 +1,5 @@
 // What comes after the type of a part.
-ghost use Rattle.std.specs.Prelude.{◌≡◌, ◌++◌, ◌∷◌, [], map, IfOk, OnOk};
+ghost use Rattle.std.specs.Prelude.{◌≡◌, ◌-◌, ◌++◌, ◌∷◌, [], length, map, take, IfOk, OnOk};
 ghost use Rattle.f_terms.specs.Read.{tree};
 ghost use Rattle.f_check.specs.Walk.{Offered, Goes, offer_work, rest_of};
 ghost use Rattle.f_check.specs.Notes.{Resumed};
@@ -10,7 +10,7 @@ use crate::count::limit;
 use crate::frame::{Control, Frame, State};
 use crate::parts::{all_body, arrow_parts, is_int, take_field, tuple_parts};
 use crate::put::put_within;
-use crate::scope::shift_arrow;
+use crate::scope::{Binder, shift_arrow};
 use crate::walk::enter;
 use f_terms::{Code, FFault, FTerm, FType, depth, eq, size};
 use idx_core::{OutOfMemory, Span};
@@ -20,6 +20,13 @@ fn refused(code: Code, span: Span) -> Result<Control, FFault>
     ensures { result ≡ Err (fault.Refused code span) }
 {
     Err(FFault::Refused { code, span })
+}
+
+// The body of the innermost function is left.
+fn leave(scope: &mut Vec<Binder>)
+    ensures { scope.new.items ≡ take (length scope.old.items - 1) scope.old.items }
+{
+    scope.pop();
 }
 
 fn after_fix(
@@ -36,7 +43,7 @@ fn after_fix(
     ensures goes { Goes term.now state.new result (offer_work term.now state.old []) }
     ensures frames { IfOk result (λ c. Resumed (frames.Fix span arg.entry res.entry) state.old.frames.items state.new.frames.items c) }
 {
-    state.scope.pop();
+    leave(&mut state.scope);
     if !eq(&ty, res) {
         return refused(Code::E14, found);
     }

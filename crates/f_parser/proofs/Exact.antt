@@ -8,8 +8,8 @@ use Rattle.f_terms.specs.declared.fault.Code.{Code}
 use Rattle.f_terms.specs.declared.fault.Code.TheVariants as code
 use Rattle.f_terms.specs.declared.fault.FFault.{FFault}
 use Rattle.f_terms.specs.declared.fault.FFault.TheVariants.{Memory, Refused}
-use Rattle.f_terms.specs.declared.term.FTerm.{FTerm}
-use Rattle.f_terms.specs.Read.{spanned}
+use Rattle.f_terms.specs.declared.node.FTerm.{FTerm}
+use Rattle.f_terms.specs.ReadTerm.{spanned}
 use Rattle.f_terms.specs.Tm.{Tm}
 use Rattle.f_lexer.specs.declared.token.Token.{Token}
 use Rattle.f_lexer.specs.Source.{IsCut, FirstTokenFault, IsTokenFault}

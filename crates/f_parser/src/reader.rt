@@ -5,7 +5,7 @@ ghost use Rattle.text_core.specs.Table.{Nt};
 ghost use Rattle.f_terms.specs.declared.fault.Code as codes;
 ghost use Rattle.f_terms.specs.declared.fault.FFault.TheVariants as fault;
 ghost use Rattle.f_terms.specs.Tm.{Tm};
-ghost use Rattle.f_terms.specs.Read.{spanned};
+ghost use Rattle.f_terms.specs.ReadTerm.{spanned};
 ghost use Rattle.f_terms.specs.declared.fault.Code.TheVariants.{L3};
 ghost use Rattle.f_grammar.specs.Raw.{RawTm, nodes, place_of};
 ghost use Rattle.f_grammar.specs.Machine.{LE};
@@ -18,7 +18,7 @@ use crate::resolve::{Unresolved, term_in_scope};
 use f_grammar::{RawTerm, Stopped, peek};
 use f_lexer::{Token, tokens};
 use f_reader::{Kept, whole_term};
-use f_terms::{Code, FFault, FTerm};
+use f_terms::{Code, FFault, FParts, FTerm};
 use idx_core::{Names, Span};
 use std::alloc::Global;
 
@@ -97,8 +97,9 @@ fn closed_term(alloc: Global, text: &[u8], tree: &RawTerm) -> Result<FTerm, FFau
 {
     let mut values = Names::new(alloc);
     let mut types = Names::new(alloc);
-    match term_in_scope(alloc, text, tree, &mut values, &mut types) {
-        Ok(term) => Ok(Box::into_inner(term)),
+    let mut parts = FParts::new(alloc);
+    match term_in_scope(alloc, text, tree, &mut values, &mut types, &mut parts) {
+        Ok(_) => Ok(parts.done()),
         Err(Unresolved::Memory) => Err(FFault::Memory),
         Err(Unresolved::Value(span)) => Err(refused(Code::E05, span)),
         Err(Unresolved::Type(span)) => Err(refused(Code::E06, span)),

@@ -1,5 +1,5 @@
 use crate::parse;
-use f_terms::{Code, FFault, FForm, FTerm, FType};
+use f_terms::{Code, FFault, FNode, FShape, FType};
 use idx_core::Span;
 use std::alloc::{AllocError, Global};
 use std::process::Abort;
@@ -218,55 +218,32 @@ fn type_places(ty: &FType, out: &mut Vec<(u64, u64, u64)>) -> Result<(), AllocEr
     }
 }
 
-// The place of each form with its index or number, else with 0, a form before its parts.
-fn places(e: &FTerm, out: &mut Vec<(u64, u64, u64)>) -> Result<(), AllocError> {
-    let number = match &e.form {
-        FForm::Var(i) => *i,
-        FForm::Int(n) => n.unsigned_abs(),
-        FForm::Proj(i, _) => *i,
+// The place of a form with its index or number, else with 0, and then the indices in its types.
+fn node_places(node: &FNode, out: &mut Vec<(u64, u64, u64)>) -> Result<(), AllocError> {
+    let number = match &node.shape {
+        FShape::Var(i) => *i,
+        FShape::Int(n) => n.unsigned_abs(),
+        FShape::Proj(i, _) => *i,
         _ => 0,
     };
-    out.push((e.span.start, e.span.end, number))?;
-    match &e.form {
-        FForm::Var(_) => Ok(()),
-        FForm::Int(_) => Ok(()),
-        FForm::Fix { arg, res, body } => {
+    out.push((node.span.start, node.span.end, number))?;
+    match &node.shape {
+        FShape::Fix { arg, res, .. } => {
             type_places(arg, out)?;
-            type_places(res, out)?;
-            places(body, out)
+            type_places(res, out)
         }
-        FForm::App(f, x) => {
-            places(f, out)?;
-            places(x, out)
-        }
-        FForm::Gen(body) => places(body, out),
-        FForm::Inst(f, ty) => {
-            places(f, out)?;
-            type_places(ty, out)
-        }
-        FForm::Tuple(fields) => {
-            for field in fields {
-                places(field, out)?;
-            }
-            Ok(())
-        }
-        FForm::Proj(_, tuple) => places(tuple, out),
-        FForm::Arith(_, a, b) => {
-            places(a, out)?;
-            places(b, out)
-        }
-        FForm::If0(test, a, b) => {
-            places(test, out)?;
-            places(a, out)?;
-            places(b, out)
-        }
+        FShape::Inst(_, ty) => type_places(ty, out),
+        _ => Ok(()),
     }
 }
 
+// The same of each form of a text, parts before the whole.
 fn places_in(alloc: Global, text: &[u8]) -> Result<Vec<(u64, u64, u64)>, AllocError> {
     let mut out = Vec::new(alloc);
     if let Ok(term) = parse(alloc, text) {
-        places(&term, &mut out)?;
+        for i in 0..term.count() {
+            node_places(term.node(i), &mut out)?;
+        }
     }
     Ok(out)
 }
@@ -286,18 +263,18 @@ fn has_places(
 fn gives_each_form_its_place(rt: HostRuntime) -> Result<(), Fail> {
     let alloc = rt.alloc();
     // parentheses widen what stands around them, not what stands in them
-    has_places(&rt, alloc, "(1) + (2)", &[(0, 9, 0), (1, 2, 1), (7, 8, 2)])?;
-    let wanted = &[(1, 16, 0), (1, 11, 7), (4, 11, 0), (5, 6, 1), (8, 10, 2)];
+    has_places(&rt, alloc, "(1) + (2)", &[(1, 2, 1), (7, 8, 2), (0, 9, 0)])?;
+    let wanted = &[(5, 6, 1), (8, 10, 2), (4, 11, 0), (1, 11, 7), (1, 16, 0)];
     has_places(&rt, alloc, " #7 <1, ~2>[int] ", wanted)?;
     let wanted = &[
-        (0, 20, 0),
         (4, 5, 1),
-        (7, 16, 0),
-        (7, 12, 0),
         (7, 8, 2),
         (11, 12, 3),
+        (7, 12, 0),
         (15, 16, 4),
+        (7, 16, 0),
         (18, 19, 5),
+        (0, 20, 0),
     ];
     has_places(&rt, alloc, "if0(1, 2 * 3 - 4, 5)", wanted)
 }
@@ -305,22 +282,22 @@ fn gives_each_form_its_place(rt: HostRuntime) -> Result<(), Fail> {
 #[test]
 fn numbers_names_from_the_innermost(rt: HostRuntime) -> Result<(), Fail> {
     let alloc = rt.alloc();
-    let wanted = &[(0, 21, 0), (18, 21, 0), (18, 19, 1), (20, 21, 0)];
+    let wanted = &[(18, 19, 1), (20, 21, 0), (18, 21, 0), (0, 21, 0)];
     has_places(&rt, alloc, "fix f(x:int):int. f x", wanted)?;
     // the parameter hides the function
-    let wanted = &[(0, 19, 0), (18, 19, 0)];
+    let wanted = &[(18, 19, 0), (0, 19, 0)];
     has_places(&rt, alloc, "fix f(f:int):int. f", wanted)?;
     // type names and value names are counted apart
     let wanted = &[
-        (0, 44, 0),
-        (7, 44, 0),
+        (40, 41, 0),
+        (40, 44, 0),
+        (0, 0, 1),
         (14, 44, 0),
         (0, 0, 1),
         (0, 0, 1),
         (0, 0, 0),
-        (40, 44, 0),
-        (40, 41, 0),
-        (0, 0, 1),
+        (7, 44, 0),
+        (0, 44, 0),
     ];
     let text = "gen a. gen b. fix f(x:a):all c. b -> c. x[a]";
     has_places(&rt, alloc, text, wanted)

@@ -1,7 +1,9 @@
+mod Admitting
 mod Closing
 mod FaultRows
 mod Rows
 mod Sound
+pub mod Stacking
 mod TextRows
 mod Texts
 mod Turns

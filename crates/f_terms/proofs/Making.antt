@@ -6,24 +6,19 @@ use Rattle.idx_core.specs.declared.arith.Op.{Op}
 use Rattle.f_terms.specs.Tm.{Tm, Spn, SArith}
 use Rattle.f_terms.specs.Shape.{children, shape_tree}
 use Rattle.f_terms.specs.ReadTerm.{size_of, part, IsLoose}
-use Rattle.arena.specs.Roots.{Differ, Among, roots}
+use Rattle.arena.specs.Roots.{Among, roots}
 use Rattle.f_terms.specs.Made.{IsAdded, Makes}
-use Rattle.arena.proofs.Roots.{differ_push, among_push, of_among, roots_low}
+use Rattle.arena.proofs.Roots.{differ_push, differ_front, differ_split, among_push, among_first, not_among, all_before, all_after, of_among, roots_low}
 use Rattle.f_terms.specs.Shape.{kids}
 use Rattle.f_terms.specs.declared.node.FParts.{FParts}
 use Rattle.f_terms.specs.declared.node.FShape.{FShape}
 use Rattle.f_terms.specs.declared.node.FShape.TheVariants.{Arith}
 
-same_trees : (f g : ℕ → Tm) (n : ℕ) → ((k : ℕ) → k < n → g k ≡ f k) → (ks : List ℕ) → All (λ k. k < n) ks → map g ks ≡ map f ks
+pub same_trees : (f g : ℕ → Tm) (n : ℕ) → ((k : ℕ) → k < n → g k ≡ f k) → (ks : List ℕ) → All (λ k. k < n) ks → map g ks ≡ map f ks
 same_trees f g n same [] h = refl
 same_trees f g n same (k ∷ ks) h = ap₂ (λ (t : Tm) (ts : List Tm). t ∷ ts) (same k (All-head (λ k. k < n) k ks h)) (same_trees f g n same ks (All-tail (λ k. k < n) k ks h))
 
-not_among : (ks : List ℕ) (k : ℕ) → All (λ j. j ≢ k) ks → Among ks k → ⊥
-not_among [] k h m = m
-not_among (x ∷ xs) k h (inl e) = All-head (λ j. j ≢ k) x xs h (sym e)
-not_among (x ∷ xs) k h (inr m) = not_among xs k (All-tail (λ j. j ≢ k) x xs h) m
-
-low_of : (p : FParts) (k : ℕ) → IsLoose p k → k < size_of p
+pub low_of : (p : FParts) (k : ℕ) → IsLoose p k → k < size_of p
 low_of p k h = of_among (λ k. k < size_of p) (roots kids p.nodes.items) k (roots_low kids p.nodes.items) h
 
 -- nothing is made
@@ -126,17 +121,17 @@ makes_last p q r ks js ts us s shape n m el e a t et =
     let mm = m.more in
     let al = a.last in
     let am = a.more in
-    let away : (k : ℕ) → k < size_of p → All (λ j. j ≢ k) js = λ k lt. λ i d in' x. let f = after (λ k. size_of p ≤ k) ks js m.fresh i d in' in absurd (omega (arith, f, lt, x)) in
+    let away : (k : ℕ) → k < size_of p → All (λ j. j ≢ k) js = λ k lt. λ i d in' x. let f = all_after (λ k. size_of p ≤ k) ks js m.fresh i d in' in absurd (omega (arith, f, lt, x)) in
     let apart : All (λ k. All (λ j. j ≢ k) js) ks = differ_split ks js m.differ in
-    let kept : All (λ k. k < size_of q) ks = λ i d in'. low_of q _ (before (λ k. IsLoose q k) ks js m.loose i d in') in
+    let kept : All (λ k. k < size_of q) ks = λ i d in'. low_of q _ (all_before (λ k. IsLoose q k) ks js m.loose i d in') in
     let trees = split_trees (part q) ks js ts us el m.trees in
     record {
       trees = map-append (part r) ks (n ∷ []) ∙ ap₂ (λ (xs ys : List Tm). xs ++ ys) (same_trees (part q) (part r) (size_of q) a.same ks kept ∙ trees) (ap (λ (u : Tm). u ∷ []) (a.tree ∙ et));
       loose = All-push (λ k. IsLoose r k) ks n
-          (λ i d in'. a.others _ (before (λ k. IsLoose q k) ks js m.loose i d in') (subst (λ xs. All (λ j. j ≢ get_or ks i d) xs) (sym e) (apart i d in')))
+          (λ i d in'. a.others _ (all_before (λ k. IsLoose q k) ks js m.loose i d in') (subst (λ xs. All (λ j. j ≢ get_or ks i d) xs) (sym e) (apart i d in')))
           a.loose;
       differ = differ_push ks n (differ_front ks js m.differ) (λ i d in' x. let b = kept i d in' in absurd (omega (arith, b, al, x)));
-      fresh = All-push (λ k. size_of p ≤ k) ks n (before (λ k. size_of p ≤ k) ks js m.fresh) (omega (arith, mm, al));
+      fresh = All-push (λ k. size_of p ≤ k) ks n (all_before (λ k. size_of p ≤ k) ks js m.fresh) (omega (arith, mm, al));
       more = omega (arith, mm, am);
       keeps = λ k lt. a.same k (omega (arith, lt, mm)) ∙ m.keeps k lt;
       others = λ k h. a.others k (m.others k h) (subst (λ xs. All (λ j. j ≢ k) xs) (sym e) (away k (low_of p k h)));
@@ -149,27 +144,6 @@ makes_last p q r ks js ts us s shape n m el e a t et =
       ];
     }
   where
-    before : (P : ℕ → Type 0) (xs ys : List ℕ) → All P (xs ++ ys) → All P xs
-    before P [] ys h = All-nil P
-    before P (x ∷ xs) ys h = All-cons P x xs (All-head P x (xs ++ ys) h) (before P xs ys (All-tail P x (xs ++ ys) h))
-
-    after : (P : ℕ → Type 0) (xs ys : List ℕ) → All P (xs ++ ys) → All P ys
-    after P [] ys h = h
-    after P (x ∷ xs) ys h = after P xs ys (All-tail P x (xs ++ ys) h)
-
-    differ_front : (xs ys : List ℕ) → Differ (xs ++ ys) → Differ xs
-    differ_front [] ys d = tt
-    differ_front (x ∷ xs) ys d = (before (λ j. j ≢ x) xs ys d.0, differ_front xs ys d.1)
-
-    differ_split : (xs ys : List ℕ) → Differ (xs ++ ys) → All (λ k. All (λ j. j ≢ k) ys) xs
-    differ_split [] ys d = All-nil (λ k. All (λ j. j ≢ k) ys)
-    differ_split (x ∷ xs) ys d = All-cons (λ k. All (λ j. j ≢ k) ys) x xs (after (λ j. j ≢ x) xs ys d.0) (differ_split xs ys d.1)
-
-    among_first : (xs ys : List ℕ) (k : ℕ) → Among (xs ++ ys) k → (Among ys k → ⊥) → Among xs k
-    among_first [] ys k a no' = absurd (no' a)
-    among_first (x ∷ xs) ys k (inl e) no' = inl e
-    among_first (x ∷ xs) ys k (inr a) no' = inr (among_first xs ys k a no')
-
     split_trees : (f : ℕ → Tm) (xs ys : List ℕ) (vs ws : List Tm) → length xs ≡ length vs → map f (xs ++ ys) ≡ vs ++ ws → map f xs ≡ vs
     split_trees f [] ys [] ws l h = refl
     split_trees f [] ys (v ∷ vs) ws l h = absurd (omega (arith, l))

@@ -48,6 +48,7 @@ added old new n r e er loose =
       more = ap length e ∙ length_push ns n;
       tree = ap (λ (xs : List FNode). parts blank node_tree xs r) e ∙ ap (parts blank node_tree (ns ++ n ∷ [])) er ∙ part_new kids node_tree local blank ns n;
       same = λ k lt. ap (λ (xs : List FNode). parts blank node_tree xs k) e ∙ part_old kids node_tree local blank ns n k lt;
+      left = re ∙ ap (λ (x : ℕ). without_all (kids n) (roots kids ns) ++ x ∷ []) (sym er);
       loose = subst (λ xs. Among xs r) (sym re) (among_push (without_all (kids n) (roots kids ns)) (length ns) r (inl er));
       others = λ k h f. subst (λ xs. Among xs k) (sym re) (among_push (without_all (kids n) (roots kids ns)) (length ns) k (inr (among_left_all (kids n) (roots kids ns) k h f)));
       alone = λ k h. elim (among_pop (without_all (kids n) (roots kids ns)) (length ns) k (subst (λ xs. Among xs k) re h)) as (λ x. (k ≡ r) ⊎ (IsLoose old k × All (λ j. j ≢ k) (kids n))) [

@@ -13,8 +13,10 @@ pub mod Read
 pub mod ReadTerm
 pub mod Scope
 pub mod Shape
+pub mod Stacked
 pub mod Text
 pub mod Tm
 pub mod Ty
 pub mod TyLaws
 pub mod Typing
+pub mod Waiting

@@ -1,10 +1,10 @@
 -- What is made of parts.
-use Rattle.std.specs.Prelude.{◌≡◌, ◌≢◌, ℕ, ◌+◌, ◌<◌, ◌≤◌, ◌⊎◌, List, map}
+use Rattle.std.specs.Prelude.{◌≡◌, ◌≢◌, ℕ, ◌+◌, ◌<◌, ◌≤◌, ◌⊎◌, List, [], ◌∷◌, ◌++◌, map}
 use Rattle.std.specs.List.{All}
 use Rattle.f_terms.specs.Tm.{Tm, Spn}
 use Rattle.f_terms.specs.Shape.{children, shape_tree}
-use Rattle.arena.specs.Roots.{Differ, Among}
-use Rattle.f_terms.specs.ReadTerm.{size_of, part, IsLoose}
+use Rattle.arena.specs.Roots.{Differ, Among, without_all}
+use Rattle.f_terms.specs.ReadTerm.{size_of, part, loose_parts, IsLoose}
 use Rattle.f_terms.specs.declared.node.FShape.{FShape}
 use Rattle.f_terms.specs.declared.node.FParts.{FParts}
 
@@ -14,6 +14,7 @@ pub record IsAdded (old new : FParts) (s : Spn) (shape : FShape) (r : ℕ) : Typ
   pub more : size_of new ≡ size_of old + 1
   pub tree : part new r ≡ shape_tree (part old) s shape
   pub same : (k : ℕ) → k < size_of old → part new k ≡ part old k
+  pub left : loose_parts new ≡ without_all (children shape) (loose_parts old) ++ r ∷ []
   pub loose : IsLoose new r
   pub others : (k : ℕ) → IsLoose old k → All (λ j. j ≢ k) (children shape) → IsLoose new k
   pub alone : (k : ℕ) → IsLoose new k → (k ≡ r) ⊎ (IsLoose old k × All (λ j. j ≢ k) (children shape))
@@ -32,3 +33,7 @@ pub record Makes (old new : FParts) (ks : List ℕ) (ts : List Tm) : Type 0 wher
   pub keeps : (k : ℕ) → k < size_of old → part new k ≡ part old k
   pub others : (k : ℕ) → IsLoose old k → IsLoose new k
   pub alone : (k : ℕ) → IsLoose new k → Among ks k ⊎ IsLoose old k
+
+-- these are the parts that are nobody's child
+abbrev pub IsStack : FParts → List ℕ → Type 0
+IsStack p ks = loose_parts p ≡ ks

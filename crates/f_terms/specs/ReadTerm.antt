@@ -1,5 +1,5 @@
 -- The trees of a term's nodes, and of parts.
-use Rattle.std.specs.Prelude.{◌-◌, ℕ, length, slice_index_or}
+use Rattle.std.specs.Prelude.{◌-◌, ℕ, List, length, slice_index_or}
 use Rattle.arena.specs.Arena.{parts}
 use Rattle.arena.specs.Roots.{Among, roots}
 use Rattle.f_terms.specs.Tm.{Tm, Term, SVar, plain}
@@ -32,12 +32,15 @@ spanned t = node_at t (count t - 1)
 abbrev pub term_of : FTerm → Term
 term_of t = plain (spanned t)
 
--- the number of parts, the tree of part i, and the parts that are nobody's child
+-- the number of parts, the tree of part i, and the parts that are nobody's child, in the order of their numbers
 abbrev pub size_of : FParts → ℕ
 size_of p = length p.nodes.items
 
 abbrev pub part : FParts → ℕ → Tm
 part p = parts (SVar (0, 0) 0) node_tree p.nodes.items
 
+abbrev pub loose_parts : FParts → List ℕ
+loose_parts p = roots kids p.nodes.items
+
 abbrev pub IsLoose : FParts → ℕ → Type 0
-IsLoose p k = Among (roots kids p.nodes.items) k
+IsLoose p k = Among (loose_parts p) k

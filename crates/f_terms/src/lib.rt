@@ -2,6 +2,7 @@
 #![tactic(auto)]
 
 pub mod copying;
+pub mod admission;
 pub mod count;
 pub mod fault;
 pub mod laws;
@@ -9,6 +10,8 @@ pub mod make;
 pub mod node;
 pub mod shift;
 pub mod table;
+pub mod stack;
+pub mod step;
 pub mod term;
 #[cfg(test)]
 mod tests;
@@ -16,6 +19,7 @@ pub mod text;
 pub mod types;
 
 pub use copying::copy;
+pub use admission::admit;
 pub use count::{depth, eq, size};
 pub use fault::{Code, FFault};
 pub use laws::{
@@ -25,5 +29,6 @@ pub use laws::{
 };
 pub use node::{FNode, FParts, FShape, FTerm};
 pub use table::{typed_node, types_aside};
+pub use stack::{FStack, FStep};
 pub use text::type_text;
 pub use types::FType;

@@ -1,6 +1,8 @@
 // Compiling.
 ghost use Rattle.std.specs.Prelude.{◌≡◌, ◌↔◌, IfOk, IsTrue};
-ghost use Rattle.f_terms.specs.Read.{term_of};
+ghost use Rattle.f_terms.specs.Tm.{plain};
+ghost use Rattle.f_terms.specs.Shape.{node_tree};
+ghost use Rattle.f_terms.specs.ReadTerm.{node_at, term_of};
 ghost use Rattle.f_check.specs.Typed.{program_term};
 ghost use Rattle.pipeline.specs.Meaning.{IsNumber, IsProgramOf, SameMeaning};
 ghost use Rattle.t_check.specs.Checked.{checked_program};
@@ -9,19 +11,27 @@ ghost use Rattle.t_terms.specs.Read.{blocks_of};
 ghost use Rattle.t_terms.specs.Shapes.{operations, one_move, IsOneMove};
 
 use f_check::Program;
-use f_terms::FForm;
+use f_terms::{FNode, FShape};
 use idx_core::{OutOfMemory, Span};
 use std::alloc::Global;
 use t_check::{Checked, seal};
 use t_terms::{Base, Block, End, Instr, TProgram, Value};
 use t_types::RegFile;
 
+// The root of the term of a program.
+fn root(program: &Program) -> &FNode
+    ensures { term_of (program_term program.now) ≡ plain (node_tree (node_at (program_term program.now)) result.now) }
+{
+    let term = program.term();
+    term.node(term.count() - 1)
+}
+
 /// Whether the program is one integer: only such a program is compiled yet (own choice).
 pub fn is_number(program: &Program) -> bool
     ensures { IsTrue result ↔ IsNumber (term_of (program_term program.now)) }
 {
-    match program.term().form {
-        FForm::Int(_) => true,
+    match &root(program).shape {
+        FShape::Int(_) => true,
         _ => false,
     }
 }
@@ -44,9 +54,9 @@ fn program_of(alloc: Global, program: &Program) -> Result<TProgram, OutOfMemory>
     requires { IsNumber (term_of (program_term program.now)) }
     ensures { IfOk result (λ p. IsProgramOf (term_of (program_term program.now)) (blocks_of p.blocks.items)) }
 {
-    let term = program.term();
-    match &term.form {
-        FForm::Int(i) => move_and_halt(alloc, *i, term.span),
+    let node = root(program);
+    match &node.shape {
+        FShape::Int(i) => move_and_halt(alloc, *i, node.span),
         _ => unreachable!(),
     }
 }
@@ -80,17 +90,15 @@ fn move_and_halt(alloc: Global, i: i64, span: Span) -> Result<TProgram, OutOfMem
 mod tests {
     use super::*;
     use f_check::check;
-    use f_terms::FTerm;
+    use f_terms::{FStack, FStep};
     use std::test::Fail;
 
     // the program of 7 has one block, whose one instruction moves 7 into register 1
     #[test]
     fn one_number(rt: HostRuntime) -> Result<(), Fail> {
-        let term = FTerm {
-            span: Span { start: 0, end: 1 },
-            form: FForm::Int(7),
-        };
-        let Ok(typed) = check(rt.alloc(), term) else {
+        let alloc = rt.alloc();
+        let stack = FStack::new(alloc).put(alloc, FStep::Int(7), Span { start: 0, end: 1 })?;
+        let Ok(typed) = check(alloc, stack.done()) else {
             assert!(rt; false);
             return Ok(());
         };

@@ -12,17 +12,11 @@ use Rattle.f_terms.specs.Faults as typing
 use Rattle.f_check.specs.Verdict.{Says}
 use Rattle.f_parser.proofs.Exact as parser
 use Rattle.f_terms.specs.Tm.{span_of}
-use Rattle.f_terms.specs.Read.{place, spanned}
-use Rattle.f_terms.specs.declared.term.FTerm.{FTerm}
-use Rattle.f_terms.proofs.Terms.{span_is}
+use Rattle.f_terms.specs.Read.{place}
 use Rattle.talc_core.specs.declared.fault.Fault.TheVariants.{Source}
 use Rattle.talc_core.specs.declared.report.Failure.TheVariants as failed
 use Rattle.talc_core.specs.FirstFault.{AnyTerm, AProgram, IsRead, IsChecked}
 use Rattle.talc_core.specs.Steps.{failure_of, RefusedBy}
-
--- the place of a term
-pub span_at : (t : FTerm) → span_of (spanned t) ≡ place t.span
-span_at t = span_is (place t.span) t.form
 
 -- the term of a text is closed and small
 pub closed : (text : List ℕ) (term : Tm) → IsRead text term → IsClosed (plain term)

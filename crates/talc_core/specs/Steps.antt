@@ -3,8 +3,9 @@ use Rattle.std.specs.Prelude.{◌≡◌, ◌⊎◌, ℕ, List, Result, Ok, Err, 
 use Rattle.std.specs.declared.alloc.Global.{Global}
 use Rattle.io_core.specs.Outside.{FilesState, SinkState, Faulted, IsAbsent, Holds, SameBut, with_file, gained, GainedPart}
 use Rattle.f_terms.specs.Ty.{TInt}
-use Rattle.f_terms.specs.Read.{spanned, tree}
-use Rattle.f_terms.specs.declared.term.FTerm.{FTerm}
+use Rattle.f_terms.specs.Read.{tree}
+use Rattle.f_terms.specs.ReadTerm.{spanned}
+use Rattle.f_terms.specs.declared.node.FTerm.{FTerm}
 use Rattle.f_terms.specs.declared.fault.FFault.{FFault}
 use Rattle.f_terms.specs.declared.fault.FFault.TheVariants as source
 use Rattle.f_check.specs.Typed.{typed_term, typed_type, program_term}

@@ -1,6 +1,6 @@
 use Rattle.std.proofs.Common.{sym, subst}
 use Rattle.talc_core.proofs.SourceLemmas.{closed, few, term_refused}
-use Rattle.f_terms.specs.Read.{spanned}
+use Rattle.f_terms.specs.ReadTerm.{spanned}
 use Rattle.talc_core.specs.FirstFault.{AnyTerm}
 use Rattle.talc_core.specs.Steps.{RefusedBy}
 use Rattle.talc_core.proofs.source.check_text.Goals as goal

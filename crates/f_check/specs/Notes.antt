@@ -62,7 +62,7 @@ Waits f ts g n fr l = IsOf n fr × ((done : List ℕ) × (children n ≡ done ++
 abbrev pub Leading : FTerm → List FType → List Frame → List ℕ → ℕ → Tys → ℕ → Tys → Type 0
 Leading f ts fs [] i g j h = ⊥
 Leading f ts [] (k ∷ ks) i g j h = (ks ≡ []) × (i ≡ k) × (k ≡ j) × (g ≡ h)
-Leading f ts (fr ∷ fs) (k ∷ ks) i g j h = (i ≡ k) × ((l : ℕ) × Waits f ts g (shape_at f k) fr l × Leading f ts fs ks l (inner fr g) j h)
+Leading f ts (fr ∷ fs) (k ∷ ks) i g j h = (i ≡ k) × (l : ℕ) × Waits f ts g (shape_at f k) fr l × Leading f ts fs ks l (inner fr g) j h
 
 -- all parts of a node of this form are noted
 abbrev pub Parts : FTerm → List FType → Tys → FShape → Type 0
@@ -92,3 +92,8 @@ Keeps n u t = u ≡ t
 -- the type of node i is put down
 abbrev pub Noting : FTerm → List FType → List FType → ℕ → Ty → Type 0
 Noting f old new i t = (x : FType) × (new ≡ slice_set old i x) × Keeps (shape_at f i) (tree x) t
+
+-- the nodes that are open, after a step
+abbrev pub opened : List ℕ → Control → List ℕ
+opened ks (Run j) = ks ++ j ∷ []
+opened ks (Give ty s) = ks

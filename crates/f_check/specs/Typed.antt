@@ -1,4 +1,5 @@
 -- What a checked term holds.
+use Rattle.std.specs.Prelude.{List}
 use Rattle.f_terms.specs.declared.types.FType.{FType}
 use Rattle.f_terms.specs.declared.node.FTerm.{FTerm}
 use Rattle.f_check.specs.declared.typed.Typed.{Typed}
@@ -14,3 +15,7 @@ typed_type c = c.ty
 -- the term of a program
 abbrev pub program_term : Program → FTerm
 program_term p = p.term
+
+-- the types that it doesn't write, by the numbers of its nodes
+abbrev pub program_types : Program → List FType
+program_types p = p.types.items

@@ -1,10 +1,13 @@
 // The first step of a node.
-ghost use Rattle.std.specs.Prelude.{◌≡◌, ◌++◌, ◌∷◌, [], ◌<◌, map, OnOk};
+ghost use Rattle.std.specs.Global.{Global};
+ghost use Rattle.std.specs.Prelude.{◌≡◌, ℕ, ◌++◌, ◌∷◌, [], ◌<◌, map, IfOk, OnOk, Vec};
 ghost use Rattle.std.specs.List.{All};
 ghost use Rattle.f_terms.specs.Tm.{SVar, SFix, SGen, STuple, tms};
 ghost use Rattle.f_terms.specs.Read.{tree, place};
-ghost use Rattle.f_terms.specs.ReadTerm.{count, node_at};
+ghost use Rattle.f_terms.specs.ReadTerm.{count, node_at, shape_at};
 ghost use Rattle.f_check.specs.Walk.{Opens, Leads, Goes, open_work, work};
+ghost use Rattle.f_terms.specs.declared.node.FShape.TheVariants as shapes;
+ghost use Rattle.f_check.specs.Notes.{Begun};
 ghost use Rattle.f_check.specs.declared.frame.Control.TheVariants as control;
 
 use crate::count::limit;
@@ -23,7 +26,8 @@ pub(crate) fn begin<'a>(
     i: u64,
 ) -> Result<Control, FFault>
     requires { Leads term.now state.old (control.Run i) }
-    ensures { Goes term.now state.new result (work term.now state.old (control.Run i)) }
+    ensures goes { Goes term.now state.new result (work term.now state.old (control.Run i)) }
+    ensures frames { IfOk result (λ c. Begun (shape_at term.now i) state.old.frames.items state.new.frames.items c) }
 {
     let node = term.node(i);
     let span = node.span;
@@ -52,7 +56,8 @@ fn begin_var(
     name: u64,
 ) -> Result<Control, FFault>
     requires { Opens term.now state.now (SVar (place span) name) }
-    ensures { Goes term.now state.now result (open_work term.now state.now (SVar (place span) name)) }
+    ensures goes { Goes term.now state.now result (open_work term.now state.now (SVar (place span) name)) }
+    ensures frames { IfOk result (λ c. Begun (shapes.Var name) state.now.frames.items state.now.frames.items c) }
 {
     match find(alloc, &state.scope, name, state.around) {
         Ok(ty) => Ok(Control::Give { ty, span }),
@@ -77,7 +82,8 @@ fn begin_fix<'a>(
 ) -> Result<Control, FFault>
     requires opens { Opens term.now state.old (SFix (place span) (tree arg.now) (tree res.now) (node_at term.now body)) }
     requires inside { body < count term.now }
-    ensures { Goes term.now state.new result (open_work term.now state.old (SFix (place span) (tree arg.now) (tree res.now) (node_at term.now body))) }
+    ensures goes { Goes term.now state.new result (open_work term.now state.old (SFix (place span) (tree arg.now) (tree res.now) (node_at term.now body))) }
+    ensures frames { IfOk result (λ c. Begun (shapes.Fix arg.now res.now body) state.old.frames.items state.new.frames.items c) }
 {
     let deep = depth(arg).max(depth(res)).saturating_add(1);
     let wide = size(arg).saturating_add(size(res)).saturating_add(1);
@@ -95,7 +101,8 @@ fn begin_fix<'a>(
 fn begin_gen(term: &FTerm, state: &mut State, span: Span, body: u64) -> Result<Control, FFault>
     requires opens { Opens term.now state.old (SGen (place span) (node_at term.now body)) }
     requires inside { body < count term.now }
-    ensures { Goes term.now state.new result (open_work term.now state.old (SGen (place span) (node_at term.now body))) }
+    ensures goes { Goes term.now state.new result (open_work term.now state.old (SGen (place span) (node_at term.now body))) }
+    ensures frames { IfOk result (λ c. Begun (shapes.Gen body) state.old.frames.items state.new.frames.items c) }
 {
     state.around += 1;
     enter(term, state, Frame::Gen { span }, body)
@@ -110,7 +117,8 @@ fn begin_tuple<'a>(
 ) -> Result<Control, FFault>
     requires opens { Opens term.now state.old (STuple (place span) (tms (map (node_at term.now) es.now))) }
     requires inside { All (λ k. k < count term.now) es.now }
-    ensures { Goes term.now state.new result (open_work term.now state.old (STuple (place span) (tms (map (node_at term.now) es.now)))) }
+    ensures goes { Goes term.now state.new result (open_work term.now state.old (STuple (place span) (tms (map (node_at term.now) es.now)))) }
+    ensures frames { (es' : Vec ℕ Global) → es'.items ≡ es.now → IfOk result (λ c. Begun (shapes.Tuple es') state.old.frames.items state.new.frames.items c) }
 {
     let types = Vec::new(alloc);
     match es.split_first() {

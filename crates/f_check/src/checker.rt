@@ -1,5 +1,5 @@
 // The type of a closed term, or its first fault.
-ghost use Rattle.std.specs.Prelude.{◌≡◌, ◌≢◌, ◌≤◌, MatchResult, IsErrAnd};
+ghost use Rattle.std.specs.Prelude.{◌≡◌, ◌≢◌, ◌≤◌, length, MatchResult, IsErrAnd};
 ghost use Rattle.idx_core.specs.declared.span.Span as places;
 ghost use Rattle.f_terms.specs.Ty.{Ty, NoTys};
 ghost use Rattle.f_terms.specs.Limits.{nodes};
@@ -9,12 +9,15 @@ ghost use Rattle.f_terms.specs.Accepted.{IsAccepted};
 ghost use Rattle.f_terms.specs.Read.{tree, place};
 ghost use Rattle.f_terms.specs.declared.fault.Code as codes;
 ghost use Rattle.f_terms.specs.declared.fault.FFault.TheVariants as fault;
-ghost use Rattle.f_terms.specs.ReadTerm.{term_of, spanned};
+ghost use Rattle.f_terms.specs.Noted.{Beside};
+ghost use Rattle.f_terms.specs.NotedTerm.{noted_of};
+ghost use Rattle.f_terms.specs.ReadTerm.{count, term_of, spanned};
 ghost use Rattle.f_check.specs.Typed.{typed_term, typed_type};
-ghost use Rattle.f_check.specs.Verdict.{Says, IsVerdict};
+ghost use Rattle.f_check.specs.Verdict.{Says, IsTypeOf};
 
 use crate::begin::begin;
 use crate::frame::{Control, State};
+use crate::notes::{blank, close, follow, note};
 use crate::resume::resume;
 use crate::typed::Typed;
 use f_terms::{
@@ -22,29 +25,40 @@ use f_terms::{
 };
 use std::alloc::Global;
 
-// The type of a closed term, or its first fault: by a loop, in two steps for each node.
-fn type_of(alloc: Global, term: &FTerm) -> Result<FType, FFault>
+// The type of a closed term and, by the numbers of its nodes, the types that it doesn't write; or its first fault: by a
+// loop, in two steps for each node.
+fn type_of(alloc: Global, term: &FTerm) -> Result<(FType, Vec<FType>), FFault>
     requires closed { IsClosed (term_of term.now) }
     requires nodes { nodes (term_of term.now) ≤ 4294967295 }
-    ensures { IsVerdict (spanned term.now) 0 NoTys result }
+    ensures { MatchResult result (λ r. IsTypeOf (spanned term.now) 0 NoTys (tree r.0) × (count term.now ≤ length r.1.items) × Beside (noted_of term.now r.1.items) NoTys) (λ e. Says e (Fault (spanned term.now) 0 NoTys)) }
 {
     let mut state = State {
         frames: Vec::new(alloc),
         scope: Vec::new(alloc),
         around: 0,
     };
-    let mut control = Control::Run(term.count() - 1);
+    let root = term.count() - 1;
+    let mut types = blank(alloc, term.count())?;
+    let mut control = Control::Run(root);
+    let mut path = Vec::new(alloc);
+    follow(&mut path, &control)?;
     loop {
         match control {
             Control::Run(i) => {
                 control = begin(alloc, term, &mut state, i)?;
+                follow(&mut path, &control)?;
             }
-            Control::Give { ty, span } => match state.frames.pop() {
-                Some(frame) => {
-                    control = resume(alloc, term, &mut state, frame, ty, span)?;
+            Control::Give { ty, span } => {
+                let node = close(&mut path);
+                note(alloc, term, &mut types, node, &ty)?;
+                match state.frames.pop() {
+                    Some(frame) => {
+                        control = resume(alloc, term, &mut state, frame, ty, span)?;
+                        follow(&mut path, &control)?;
+                    }
+                    None => return Ok((ty, types)),
                 }
-                None => return Ok(ty),
-            },
+            }
         }
     }
 }
@@ -63,7 +77,7 @@ pub fn check(alloc: Global, term: FTerm) -> Result<Typed, (FTerm, FFault)>
     one_fault();
     one_type();
     match type_of(alloc, &term) {
-        Ok(ty) => Ok(Typed { term, ty }),
+        Ok((ty, types)) => Ok(Typed { term, ty, types }),
         Err(e) => Err((term, e)),
     }
 }

@@ -1,7 +1,8 @@
 // What comes after the type of a part.
-ghost use Rattle.std.specs.Prelude.{◌≡◌, ◌-◌, ◌++◌, ◌∷◌, [], length, map, take, OnOk};
+ghost use Rattle.std.specs.Prelude.{◌≡◌, ◌-◌, ◌++◌, ◌∷◌, [], length, map, take, IfOk, OnOk};
 ghost use Rattle.f_terms.specs.Read.{tree};
 ghost use Rattle.f_check.specs.Walk.{Offered, Goes, offer_work, rest_of};
+ghost use Rattle.f_check.specs.Notes.{Resumed};
 ghost use Rattle.f_check.specs.declared.frame.Frame.TheVariants as frames;
 ghost use Rattle.f_terms.specs.declared.fault.FFault.TheVariants as fault;
 
@@ -39,7 +40,8 @@ fn after_fix(
     found: Span,
 ) -> Result<Control, FFault>
     requires { Offered term.now state.old (frames.Fix span arg res) ty found }
-    ensures { Goes term.now state.new result (offer_work term.now state.old []) }
+    ensures goes { Goes term.now state.new result (offer_work term.now state.old []) }
+    ensures frames { IfOk result (λ c. Resumed (frames.Fix span arg.entry res.entry) state.old.frames.items state.new.frames.items c) }
 {
     leave(&mut state.scope);
     if !eq(&ty, res) {
@@ -60,7 +62,8 @@ fn after_function(
     found: Span,
 ) -> Result<Control, FFault>
     requires { Offered term.now state.old (frames.Function span x) ty found }
-    ensures { Goes term.now state.new result (offer_work term.now state.old (x ∷ [])) }
+    ensures goes { Goes term.now state.new result (offer_work term.now state.old (x ∷ [])) }
+    ensures frames { IfOk result (λ c. Resumed (frames.Function span x) state.old.frames.items state.new.frames.items c) }
 {
     match arrow_parts(ty) {
         Some((arg, res)) => enter(term, state, Frame::Argument { span, arg, res }, x),
@@ -78,7 +81,8 @@ fn after_argument(
     found: Span,
 ) -> Result<Control, FFault>
     requires { Offered term.now state.now (frames.Argument span arg res) ty found }
-    ensures { Goes term.now state.now result (offer_work term.now state.now []) }
+    ensures goes { Goes term.now state.now result (offer_work term.now state.now []) }
+    ensures frames { IfOk result (λ c. Resumed (frames.Argument span arg res) state.now.frames.items state.now.frames.items c) }
 {
     if !eq(&ty, &arg) {
         return refused(Code::E08, found);
@@ -95,7 +99,8 @@ fn after_gen(
     found: Span,
 ) -> Result<Control, FFault>
     requires { Offered term.now state.old (frames.Gen span) ty found }
-    ensures { Goes term.now state.new result (offer_work term.now state.old []) }
+    ensures goes { Goes term.now state.new result (offer_work term.now state.old []) }
+    ensures frames { IfOk result (λ c. Resumed (frames.Gen span) state.old.frames.items state.new.frames.items c) }
 {
     state.around -= 1;
     let deep = depth(&ty).saturating_add(1);
@@ -123,7 +128,8 @@ fn after_inst(
     found: Span,
 ) -> Result<Control, FFault>
     requires { Offered term.now state.now (frames.Inst span arg) ty found }
-    ensures { Goes term.now state.now result (offer_work term.now state.now []) }
+    ensures goes { Goes term.now state.now result (offer_work term.now state.now []) }
+    ensures frames { IfOk result (λ c. Resumed (frames.Inst span arg.entry) state.now.frames.items state.now.frames.items c) }
 {
     let body = match all_body(ty) {
         Some(body) => body,
@@ -152,7 +158,8 @@ fn after_field<'a>(
     found: Span,
 ) -> Result<Control, FFault>
     requires { Offered term.now state.old (frames.Fields span types rest) ty found }
-    ensures { Goes term.now state.new result (offer_work term.now state.old rest.now) }
+    ensures goes { Goes term.now state.new result (offer_work term.now state.old rest.now) }
+    ensures frames { IfOk result (λ c. Resumed (frames.Fields span types rest.entry) state.old.frames.items state.new.frames.items c) }
 {
     let mut types = types;
     match push(&mut types, ty) {
@@ -180,7 +187,8 @@ fn after_proj(
     found: Span,
 ) -> Result<Control, FFault>
     requires { Offered term.now state.now (frames.Proj span i) ty found }
-    ensures { Goes term.now state.now result (offer_work term.now state.now []) }
+    ensures goes { Goes term.now state.now result (offer_work term.now state.now []) }
+    ensures frames { IfOk result (λ c. Resumed (frames.Proj span i) state.now.frames.items state.now.frames.items c) }
 {
     let parts = match tuple_parts(ty) {
         Some(parts) => parts,
@@ -201,7 +209,8 @@ fn after_left(
     found: Span,
 ) -> Result<Control, FFault>
     requires { Offered term.now state.old (frames.Left span b) ty found }
-    ensures { Goes term.now state.new result (offer_work term.now state.old (b ∷ [])) }
+    ensures goes { Goes term.now state.new result (offer_work term.now state.old (b ∷ [])) }
+    ensures frames { IfOk result (λ c. Resumed (frames.Left span b) state.old.frames.items state.new.frames.items c) }
 {
     if !is_int(&ty) {
         return refused(Code::E12, found);
@@ -217,7 +226,8 @@ fn after_right(
     found: Span,
 ) -> Result<Control, FFault>
     requires { Offered term.now state.now (frames.Right span) ty found }
-    ensures { Goes term.now state.now result (offer_work term.now state.now []) }
+    ensures goes { Goes term.now state.now result (offer_work term.now state.now []) }
+    ensures frames { IfOk result (λ c. Resumed (frames.Right span) state.now.frames.items state.now.frames.items c) }
 {
     if !is_int(&ty) {
         return refused(Code::E12, found);
@@ -238,7 +248,8 @@ fn after_test(
     found: Span,
 ) -> Result<Control, FFault>
     requires { Offered term.now state.old (frames.Test span a b) ty found }
-    ensures { Goes term.now state.new result (offer_work term.now state.old (a ∷ b ∷ [])) }
+    ensures goes { Goes term.now state.new result (offer_work term.now state.old (a ∷ b ∷ [])) }
+    ensures frames { IfOk result (λ c. Resumed (frames.Test span a b) state.old.frames.items state.new.frames.items c) }
 {
     if !is_int(&ty) {
         return refused(Code::E12, found);
@@ -255,7 +266,8 @@ fn after_zero(
     found: Span,
 ) -> Result<Control, FFault>
     requires { Offered term.now state.old (frames.Zero span b) ty found }
-    ensures { Goes term.now state.new result (offer_work term.now state.old (b ∷ [])) }
+    ensures goes { Goes term.now state.new result (offer_work term.now state.old (b ∷ [])) }
+    ensures frames { IfOk result (λ c. Resumed (frames.Zero span b) state.old.frames.items state.new.frames.items c) }
 {
     enter(term, state, Frame::Other { span, zero: ty }, b)
 }
@@ -269,7 +281,8 @@ fn after_other(
     found: Span,
 ) -> Result<Control, FFault>
     requires { Offered term.now state.now (frames.Other span zero) ty found }
-    ensures { Goes term.now state.now result (offer_work term.now state.now []) }
+    ensures goes { Goes term.now state.now result (offer_work term.now state.now []) }
+    ensures frames { IfOk result (λ c. Resumed (frames.Other span zero) state.now.frames.items state.now.frames.items c) }
 {
     if !eq(&ty, &zero) {
         return refused(Code::E13, found);
@@ -287,7 +300,8 @@ pub(crate) fn resume<'a>(
     found: Span,
 ) -> Result<Control, FFault>
     requires { Offered term.now state.old frame ty found }
-    ensures { Goes term.now state.new result (offer_work term.now state.old (rest_of frame.entry)) }
+    ensures goes { Goes term.now state.new result (offer_work term.now state.old (rest_of frame.entry)) }
+    ensures frames { IfOk result (λ c. Resumed frame.entry state.old.frames.items state.new.frames.items c) }
 {
     match frame {
         Frame::Fix { span, arg, res } => after_fix(alloc, term, state, span, arg, res, ty, found),

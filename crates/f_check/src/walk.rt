@@ -1,9 +1,10 @@
 // One frame more, and a fault.
-ghost use Rattle.std.specs.Prelude.{◌≡◌, ℕ, ◌+◌, ◌*◌, ◌<◌, ◌++◌, ◌∷◌, [], OnOk};
+ghost use Rattle.std.specs.Prelude.{◌≡◌, ℕ, ◌+◌, ◌*◌, ◌<◌, ◌++◌, ◌∷◌, [], IfOk, OnOk};
 ghost use Rattle.f_terms.specs.Tm.{plain};
 ghost use Rattle.f_terms.specs.Limits.{nodes};
 ghost use Rattle.f_terms.specs.ReadTerm.{node_at};
 ghost use Rattle.f_check.specs.Walk.{Enters, Goes, left, frame_work};
+ghost use Rattle.f_check.specs.declared.frame.Control.TheVariants as control;
 
 use crate::frame::{Control, Frame, State};
 use f_terms::{FFault, FTerm};
@@ -24,7 +25,8 @@ pub(crate) fn enter<'a>(
     j: u64,
 ) -> Result<Control, FFault>
     requires { Enters term.now state.old frame j }
-    ensures { (m : ℕ) → 2 * nodes (plain (node_at term.now j)) + frame_work term.now frame.entry + left term.now state.old < m → Goes term.now state.new result m }
+    ensures goes { (m : ℕ) → 2 * nodes (plain (node_at term.now j)) + frame_work term.now frame.entry + left term.now state.old < m → Goes term.now state.new result m }
+    ensures frames { IfOk result (λ c. (c ≡ control.Run j) × (state.new.frames.items ≡ state.old.frames.items ++ frame.entry ∷ [])) }
 {
     match push(&mut state.frames, frame) {
         Ok(()) => Ok(Control::Run(j)),

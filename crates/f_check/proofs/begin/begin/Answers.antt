@@ -1,4 +1,9 @@
-use Rattle.f_check.proofs.Begins.{app, inst, proj, arith_form, if_form}
+use Rattle.f_check.proofs.Begins.{opens, work_is, app, inst, proj, arith_form, if_form}
+use Rattle.std.proofs.Common.{◌∙◌, sym, refl, ap, arith}
+use Rattle.f_terms.specs.Shape.{children}
+use Rattle.f_terms.specs.ReadTerm.{shape_at}
+use Rattle.f_check.proofs.Follows.{begun, same_form}
+use Rattle.f_check.specs.declared.frame.Frame.TheVariants as C
 use Rattle.f_check.proofs.begin.begin.Goals as goal
 
 pub enter-requires : goal.enter-requires
@@ -15,3 +20,50 @@ enter-requires-in-Arith c = (arith_form c.args.term.now c.args.state.now c.args.
 
 pub enter-requires-in-If0 : goal.enter-requires-in-If0
 enter-requires-in-If0 c = (if_form c.args.term.now c.args.state.now c.args.i c.node-node.result.now c.requires c.node-node.ensures.tree c.node-node.ensures.before c.in-If0.c c.in-If0.a c.in-If0.b c.in-If0.is).0
+
+pub returns-in-App-clause-frames : goal.returns-in-App-clause-frames
+returns-in-App-clause-frames c =
+    let e = sym c.node-node.ensures.form ∙ c.in-App.is in
+    begun _ (shape_at c.args.term.now c.args.i) _ _ (C.Function c.node-node.result.now.span c.in-App.x) c.in-App.f c.enter.ensures.frames (c.in-App.f, c.in-App.x, e) (ap children e)
+
+pub returns-in-Inst-clause-frames : goal.returns-in-Inst-clause-frames
+returns-in-Inst-clause-frames c =
+    let e = sym c.node-node.ensures.form ∙ c.in-Inst.is in
+    begun _ (shape_at c.args.term.now c.args.i) _ _ _ c.in-Inst.e c.enter-in-Inst.ensures.frames (c.in-Inst.e, c.in-Inst.ty, e) (ap children e)
+
+pub returns-in-Proj-clause-frames : goal.returns-in-Proj-clause-frames
+returns-in-Proj-clause-frames c =
+    let e = sym c.node-node.ensures.form ∙ c.in-Proj.is in
+    begun _ (shape_at c.args.term.now c.args.i) _ _ (C.Proj c.node-node.result.now.span c.in-Proj.i) c.in-Proj.e c.enter-in-Proj.ensures.frames (c.in-Proj.i, c.in-Proj.e, e) (ap children e)
+
+pub returns-in-Arith-clause-frames : goal.returns-in-Arith-clause-frames
+returns-in-Arith-clause-frames c =
+    let e = sym c.node-node.ensures.form ∙ c.in-Arith.is in
+    begun _ (shape_at c.args.term.now c.args.i) _ _ (C.Left c.node-node.result.now.span c.in-Arith.b) c.in-Arith.a c.enter-in-Arith.ensures.frames (_, c.in-Arith.a, c.in-Arith.b, e) (ap children e)
+
+pub returns-in-If0-clause-frames : goal.returns-in-If0-clause-frames
+returns-in-If0-clause-frames c =
+    let e = sym c.node-node.ensures.form ∙ c.in-If0.is in
+    begun _ (shape_at c.args.term.now c.args.i) _ _ (C.Test c.node-node.result.now.span c.in-If0.a c.in-If0.b) c.in-If0.c c.enter-in-If0.ensures.frames (c.in-If0.c, c.in-If0.a, c.in-If0.b, e) (ap children e)
+
+pub returns-in-Var-clause-frames : goal.returns-in-Var-clause-frames
+returns-in-Var-clause-frames c = same_form _ _ _ _ _ (sym c.node-node.ensures.form ∙ c.in-Var.is) c.begin_var.ensures.frames
+
+pub returns-in-Fix-clause-frames : goal.returns-in-Fix-clause-frames
+returns-in-Fix-clause-frames c = same_form _ _ _ _ _ (sym c.node-node.ensures.form ∙ c.in-Fix.is) c.begin_fix.ensures.frames
+
+pub returns-in-Gen-clause-frames : goal.returns-in-Gen-clause-frames
+returns-in-Gen-clause-frames c = same_form _ _ _ _ _ (sym c.node-node.ensures.form ∙ c.in-Gen.is) c.begin_gen.ensures.frames
+
+pub returns-in-Tuple-clause-frames : goal.returns-in-Tuple-clause-frames
+returns-in-Tuple-clause-frames c =
+    same_form _ _ _ _ _ (sym c.node-node.ensures.form ∙ c.in-Tuple.is) (c.begin_tuple.ensures.frames c.in-Tuple.es (sym c.deref.ensures.value))
+
+pub returns-in-Int-clause-frames : goal.returns-in-Int-clause-frames
+returns-in-Int-clause-frames c = (refl, ap children (sym c.node-node.ensures.form ∙ c.in-Int.is))
+
+pub returns-in-Int-clause-goes : goal.returns-in-Int-clause-goes
+returns-in-Int-clause-goes c =
+    let o = opens c.args.term.now c.args.state.now c.args.i c.node-node.result.now c.requires c.node-node.ensures.tree c.node-node.ensures.before _ c.in-Int.is in
+    let e = work_is c.args.term.now c.args.state.now c.args.i c.node-node.result.now c.requires c.node-node.ensures.tree c.node-node.ensures.before _ c.in-Int.is in
+    ((_, ((refl, tt, (omega arith, omega arith)), refl, o.1)), omega (arith, e))

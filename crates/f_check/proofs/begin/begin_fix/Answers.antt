@@ -7,10 +7,14 @@ use Rattle.f_check.specs.Walk.{now, context, FaultOf}
 use Rattle.f_check.proofs.Forms.{says_map, limits_of, within, fix_limit}
 use Rattle.f_check.proofs.Steps.{fails}
 use Rattle.f_check.proofs.Begins.{fix_enters}
+use Rattle.std.proofs.Common.{refl}
+use Rattle.f_check.proofs.Follows.{begun}
+use Rattle.f_check.specs.declared.frame.Frame.TheVariants as C
+use Rattle.f_terms.specs.declared.node.FShape.TheVariants as S
 use Rattle.f_check.proofs.begin.begin_fix.Goals as goal
 
-pub returns-in-Err : goal.returns-in-Err
-returns-in-Err c =
+pub returns-in-Err-clause-goes : goal.returns-in-Err-clause-goes
+returns-in-Err-clause-goes c =
     let f = c.args.term.now in
     let a = tree c.args.arg.now in
     let r = tree c.args.res.now in
@@ -25,3 +29,7 @@ pub enter-requires : goal.enter-requires
 enter-requires c =
     let w = within (TArrow (tree c.args.arg.now) (tree c.args.res.now)) _ _ (omega (arith, c.saturating_add-deep.ensures, c.max.ensures, c.depth.ensures, c.depth-2.ensures)) (omega (arith, c.saturating_add-wide.ensures, c.saturating_add.ensures, c.size.ensures, c.size-2.ensures)) c.in-Ok.ensures.ok in
     fix_enters c.args.term.now c.args.state.now c.args.span c.args.arg c.args.res c.args.body c.push.new.scope c.requires.opens c.requires.inside w c.in-Ok-push.ensures
+
+pub returns-in-Ok-push-clause-frames : goal.returns-in-Ok-push-clause-frames
+returns-in-Ok-push-clause-frames c =
+    begun _ (S.Fix c.args.arg.now c.args.res.now c.args.body) _ _ (C.Fix c.args.span c.args.arg c.args.res) c.args.body c.enter.ensures.frames (c.args.body, c.args.arg.now, c.args.res.now, refl, refl, refl) refl

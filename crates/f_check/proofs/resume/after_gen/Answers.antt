@@ -7,14 +7,14 @@ use Rattle.f_terms.specs.Read.{tree, place}
 use Rattle.f_terms.specs.Faults.{limits, nothing}
 use Rattle.f_check.proofs.resume.after_gen.Goals as goal
 
-pub returns-in-Err : goal.returns-in-Err
-returns-in-Err c =
+pub returns-in-Err-clause-goes : goal.returns-in-Err-clause-goes
+returns-in-Err-clause-goes c =
     gen_refused c.args.term.now c.args.state.now c.args.ty c.args.found c.args.span c.requires c.in-Err.e
     (says_map c.in-Err.e _ (limits (TAll (tree c.args.ty)) (place c.args.span) nothing)
     (limits_of (TAll (tree c.args.ty)) _ _ (place c.args.span) (omega (arith, c.saturating_add-deep.ensures, c.depth.ensures)) (omega (arith, c.saturating_add-wide.ensures, c.size.ensures)))
     c.in-Err.ensures.fault)
 
-pub returns-in-Ok-new : goal.returns-in-Ok-new
-returns-in-Ok-new c =
+pub returns-in-Ok-new-clause-goes : goal.returns-in-Ok-new-clause-goes
+returns-in-Ok-new-clause-goes c =
     gen_given c.args.term.now c.args.state.now c.args.ty c.args.found c.args.span c.requires (T.All c.in-Ok-new.body) (ap TAll (ap tree c.in-Ok-new.ensures.ok))
     (within (TAll (tree c.args.ty)) _ _ (omega (arith, c.saturating_add-deep.ensures, c.depth.ensures)) (omega (arith, c.saturating_add-wide.ensures, c.size.ensures)) c.in-Ok.ensures.ok)

@@ -1,6 +1,15 @@
 use Rattle.std.proofs.Common.{true≢false, sym}
 use Rattle.f_check.proofs.Resumes.{test_refused}
+use Rattle.std.proofs.Common.{refl}
+use Rattle.f_check.proofs.Follows.{gone, resumed}
+use Rattle.f_check.specs.declared.frame.Frame.TheVariants as C
 use Rattle.f_check.proofs.resume.after_test.Goals as goal
 
-pub returns-then-not-is_int : goal.returns-then-not-is_int
-returns-then-not-is_int c = test_refused c.args.term.now c.args.state.now c.args.ty c.args.found c.args.span c.args.a c.args.b c.requires _ _ c.refused.ensures (λ e. absurd (true≢false (sym (c.if-not-is_int.ensures.1 e))))
+pub returns-then-not-is_int-clause-goes : goal.returns-then-not-is_int-clause-goes
+returns-then-not-is_int-clause-goes c = test_refused c.args.term.now c.args.state.now c.args.ty c.args.found c.args.span c.args.a c.args.b c.requires _ _ c.refused.ensures (λ e. absurd (true≢false (sym (c.if-not-is_int.ensures.1 e))))
+
+pub returns-then-not-is_int-clause-frames : goal.returns-then-not-is_int-clause-frames
+returns-then-not-is_int-clause-frames c = gone _ _ _ c.refused.ensures
+
+pub returns-clause-frames : goal.returns-clause-frames
+returns-clause-frames c = resumed _ (C.Test c.args.span c.args.a c.args.b) (C.Zero c.args.span c.args.b) _ _ c.args.a c.enter.ensures.frames refl (λ n k. k) (λ g. (refl, refl))

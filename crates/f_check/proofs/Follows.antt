@@ -1,0 +1,38 @@
+-- What a step does to the frames.
+use Rattle.std.proofs.Common.{◌≡◌, ℕ, List, [], ◌∷◌, ◌++◌, Result, Ok, Err, IfOk, length, refl, sym, ap, ◌∙◌, subst, arith}
+use Rattle.std.proofs.lemmas.Result.{IfOk-weaker}
+use Rattle.idx_core.specs.declared.span.Span.{Span}
+use Rattle.f_terms.specs.Ty.{Tys}
+use Rattle.f_terms.specs.Shape.{children}
+use Rattle.f_terms.specs.declared.node.FShape.{FShape}
+use Rattle.f_terms.specs.declared.fault.Code.{Code}
+use Rattle.f_terms.specs.declared.fault.FFault.{FFault}
+use Rattle.f_terms.specs.declared.fault.FFault.TheVariants.{Refused}
+use Rattle.f_check.specs.Walk.{rest_of}
+use Rattle.f_check.specs.Notes.{inner, IsOf, Begun, Resumed}
+use Rattle.f_check.specs.declared.frame.Frame.{Frame}
+use Rattle.f_check.specs.declared.frame.Control.{Control}
+use Rattle.f_check.specs.declared.frame.Control.TheVariants.{Run}
+
+pub gone : (P : Control → Type 0) (r : Result Control FFault) (e : FFault) → r ≡ Err e → IfOk r P
+gone P r e is = subst (λ x. IfOk x P) (sym is) tt
+
+pub none : {A : Type 0} (xs : List A) → length xs ≡ 0 → xs ≡ []
+none [] e = refl
+none (x ∷ xs) e = absurd (omega (arith, e))
+
+abbrev pub Enters : ℕ → Frame → List Frame → List Frame → Control → Type 0
+Enters j fr old new c = (c ≡ Run j) × (new ≡ old ++ fr ∷ [])
+
+pub begun : (r : Result Control FFault) (n : FShape) (old new : List Frame) (fr : Frame) (j : ℕ) → IfOk r (Enters j fr old new) → IsOf n fr → children n ≡ j ∷ rest_of fr →
+    IfOk r (Begun n old new)
+begun r n old new fr j h is parts =
+    IfOk-weaker r (Enters j fr old new) (Begun n old new) (λ c e. subst (Begun n old new) (sym e.0) (fr, e.1, is, parts)) h
+
+pub same_form : (r : Result Control FFault) (n m : FShape) (old new : List Frame) → n ≡ m → IfOk r (Begun m old new) → IfOk r (Begun n old new)
+same_form r n m old new e h = subst (λ x. IfOk r (Begun x old new)) (sym e) h
+
+pub resumed : (r : Result Control FFault) (fr more : Frame) (old new : List Frame) (j : ℕ) → IfOk r (Enters j more old new) → rest_of fr ≡ j ∷ rest_of more →
+    ((n : FShape) → IsOf n fr → IsOf n more) → ((g : Tys) → (inner fr g ≡ g) × (inner more g ≡ g)) → IfOk r (Resumed fr old new)
+resumed r fr more old new j h parts is same =
+    IfOk-weaker r (Enters j more old new) (Resumed fr old new) (λ c e. subst (Resumed fr old new) (sym e.0) (more, e.1, parts, is, same)) h

@@ -15,6 +15,7 @@ ghost use Rattle.c_terms.specs.Typing.{CGood};
 ghost use Rattle.c_terms.specs.Read.{written};
 ghost use Rattle.c_terms.specs.Term as C;
 ghost use Rattle.c_law.specs.Close.{close_of};
+ghost use Rattle.c_law.specs.Row.{IsTranslation};
 ghost use Rattle.c_walk.specs.Walks.{top_frame, walks, all_known};
 ghost use Rattle.c_emit.specs.Read.{frame, infos_of, notes_of};
 
@@ -25,7 +26,7 @@ use c_emit::emit::emit;
 use c_emit::{Frame, Info, Note};
 use c_free::sweep::sweep;
 use c_free::tsweep::tsweep;
-use c_law::laws::{bound_law, meaning_law, scope_law, types_law};
+use c_law::laws::{bound_law, meaning_law, scope_law, translation_law, types_law};
 use c_terms::{CNode, CProgram, CType};
 use c_walk::Levels;
 use c_walk::laws::walks_law;
@@ -65,7 +66,7 @@ fn known(alloc: Global, nodes: &[KNode]) -> Result<(VecDeque<Info>, VecDeque<Not
 }
 
 // The nodes of the converted term.
-fn converted(alloc: Global, nodes: &[KNode]) -> Result<Vec<CNode>, OutOfMemory>
+pub(crate) fn converted(alloc: Global, nodes: &[KNode]) -> Result<Vec<CNode>, OutOfMemory>
     ensures { IfOk result (λ r. written r.items [] ≡ walks (map knode nodes.now)) }
 {
     let (infos, notes) = known(alloc, nodes)?;
@@ -75,20 +76,23 @@ fn converted(alloc: Global, nodes: &[KNode]) -> Result<Vec<CNode>, OutOfMemory>
 
 // The closed program, by its translation alone.
 fn translated(alloc: Global, program: &KProgram) -> Result<CProgram, OutOfMemory>
-    ensures { IfOk result (λ r. C.term_of r ≡ close_of (K.term_of program.now)) }
+    ensures same { IfOk result (λ r. C.term_of r ≡ close_of (K.term_of program.now)) }
+    ensures rules { IfOk result (λ r. IsTranslation (K.term_of program.now) (C.term_of r)) }
 {
     within_is_typed_law();
     scope_law();
     bound_law();
+    translation_law();
     walks_law();
     let out = converted(alloc, program.nodes())?;
     Ok(CProgram::new(out))
 }
 
-/// The closed program of a program. It is typed, and each bound on the program before is one on it; within any number of
+/// The closed program of a program, by the rules of closure conversion. It is typed, and each bound on the program before is one on it; within any number of
 /// calls it ends as the program before, and enters the same codes.
 pub fn close(alloc: Global, program: &KProgram) -> Result<CProgram, OutOfMemory>
-    ensures translation { IfOk result (λ r. C.term_of r ≡ close_of (K.term_of program.now)) }
+    ensures same { IfOk result (λ r. C.term_of r ≡ close_of (K.term_of program.now)) }
+    ensures rules { IfOk result (λ r. IsTranslation (K.term_of program.now) (C.term_of r)) }
     ensures types { IfOk result (λ r. ∥ CGood 0 [] (C.term_of r) ∥₁) }
     ensures reach {
         IfOk result

@@ -15,3 +15,5 @@ pub mod HowMany
 pub mod Fits
 pub mod Closing
 pub mod Closed
+pub mod Translating
+pub mod Rows

@@ -14,6 +14,7 @@ use Rattle.c_terms.specs.Bound.{CFits, CBound}
 use Rattle.c_terms.specs.Scope.{CScoped}
 use Rattle.c_law.specs.Free.{IsClosed}
 use Rattle.c_law.specs.Close.{close_of}
+use Rattle.c_law.specs.Row.{IsTranslation}
 
 -- within any number of calls the program after the conversion ends as the one before it, and enters the same codes
 abbrev pub MeaningKept : Type 0
@@ -42,3 +43,7 @@ CloseIsScoped = (t : KTm) → CScoped 0 (close_of t)
 -- a typed term has no free variable and no free type variable
 abbrev pub TypedIsClosed : Type 0
 TypedIsClosed = (t : KTm) → KGood 0 [] t → IsClosed t
+
+-- the function gives a translation by the rules
+abbrev pub CloseTranslates : Type 0
+CloseTranslates = (t : KTm) → IsClosed t → IsTranslation t (close_of t)

@@ -1,6 +1,7 @@
 // What closure conversion keeps.
 ghost use Rattle.k_terms.specs.Laws.{NeverStuck};
 ghost use Rattle.c_law.specs.Laws.{MeaningKept, TypesKept, ReachKept, FitsKept, BoundKept, CloseIsScoped, TypedIsClosed};
+ghost use Rattle.c_law.specs.Laws.{CloseTranslates};
 
 use k_terms::laws::never_stuck_law;
 
@@ -27,4 +28,9 @@ pub fn bound_law()
 pub fn scope_law()
     ensures before { TypedIsClosed }
     ensures after { CloseIsScoped }
+{}
+
+/// The function gives a translation by the rules.
+pub fn translation_law()
+    ensures { CloseTranslates }
 {}

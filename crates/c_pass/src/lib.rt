@@ -7,6 +7,8 @@ pub mod info;
 pub mod know;
 pub mod program;
 pub mod state;
+#[cfg(test)]
+mod tests;
 pub mod translate;
 
 pub use program::close;

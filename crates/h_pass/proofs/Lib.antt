@@ -7,3 +7,5 @@ pub mod ScopedProps
 pub mod Fusing
 pub mod Stepping
 pub mod Finishing
+mod Rows
+pub mod Example

@@ -3,3 +3,4 @@ pub mod Back
 pub mod Stream
 pub mod Walk
 pub mod Statements
+pub mod Example

@@ -20,7 +20,8 @@ use Rattle.h_pass.specs.Stream.{hoisted, whole}
 abbrev pub HoistIsBack : Type 0
 HoistIsBack = (t : CTm) → CGood 0 [] t → IsHoisted (blocks_of t) (main_of t) t
 
--- within any number of calls it ends as the closed term does, and the blocks entered have the numbers of the codes entered
+-- within any number of calls it ends as the closed term does, and the blocks entered have the numbers of the codes
+-- entered
 abbrev pub HoistKept : Type 0
 HoistKept = (t : CTm) (n : ℕ) → hrun n (blocks_of t) (main_of t) ≡ crun n t
 
@@ -30,7 +31,8 @@ HoistTypesKept = (t : CTm) → CGood 0 [] t → HProgramGood (blocks_of t) (main
 
 -- hoisting adds nothing to the reach of types, nor to the names in scope and bound
 abbrev pub HoistReach : Type 0
-HoistReach = (N R B : ℕ) (t : CTm) → CGoodP (CWithin N R B) 0 [] t → HProgramP (CWithin N R B) (blocks_of t) (main_of t)
+HoistReach = (N R B : ℕ) (t : CTm) → CGoodP (CWithin N R B) 0 [] t →
+    HProgramP (CWithin N R B) (blocks_of t) (main_of t)
 
 -- a term within bounds becomes a program within the same bounds
 abbrev pub HoistFits : Type 0

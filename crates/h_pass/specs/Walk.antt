@@ -31,11 +31,17 @@ waiting (Some ts) = Some (ctys ts.items)
 -- the codes around
 abbrev pub around : List Open → List Around
 around [] = []
-around (f ∷ fs) = record { own = own_of f.own; depths = f.depths.items; values = reads [] f.parts.items; call = waiting f.call } ∷ around fs
+around (f ∷ fs) = record {
+  own = own_of f.own;
+  depths = f.depths.items;
+  values = reads [] f.parts.items;
+  call = waiting f.call;
+} ∷ around fs
 
 -- what the rest of the nodes holds
 abbrev pub found : Walk → List S.CNd → Found
-found w rest = found_in rest (length w.blocks.items) (own_of w.current.own) w.current.depths.items (reads [] w.current.parts.items) (waiting w.current.call) (around w.outer.items)
+found w rest = found_in rest (length w.blocks.items) (own_of w.current.own) w.current.depths.items
+    (reads [] w.current.parts.items) (waiting w.current.call) (around w.outer.items)
 
 -- nodes before terms
 abbrev pub h_onto : List HNode → List HTm → List HTm
@@ -75,7 +81,8 @@ Labelled n None (f ∷ fs) = ⊥
 Labelled n (Some l) (f ∷ fs) = (l < n) × Labelled n f.own fs
 
 -- what is made so far and what the rest holds are the program
-pub record Stands (r : Found) (bs : List HBlock) (own : Option ℕ) (ns : List HNode) (ds : List ℕ) (fs : List Open) (program : HBlks × HTm) : Type 0 where
+pub record Stands (r : Found) (bs : List HBlock) (own : Option ℕ) (ns : List HNode) (ds : List ℕ) (fs : List Open)
+    (program : HBlks × HTm) : Type 0 where
   pub fine : r.fine ≡ true
   pub same : closes own (body_with ns r.terms) fs r.outer (h_blocks bs ++ r.blocks) ≡ program
   pub rows : HRows bs
@@ -84,7 +91,8 @@ pub record Stands (r : Found) (bs : List HBlock) (own : Option ℕ) (ns : List H
   pub labelled : Labelled (length bs) own fs
 
 abbrev pub Walked : Walk → List S.CNd → HBlks × HTm → Type 0
-Walked w rest program = Stands (found w rest) w.blocks.items w.current.own w.current.nodes.items w.current.depths.items w.outer.items program
+Walked w rest program =
+    Stands (found w rest) w.blocks.items w.current.own w.current.nodes.items w.current.depths.items w.outer.items program
 
 -- a step
 abbrev pub Goes : Walk → List S.CNd → Walk → List S.CNd → Type 0
@@ -109,12 +117,19 @@ arity Halt vs = is_one vs
 
 -- one more node before what was found
 abbrev pub built : HForm → List HVal → Bool → Found → Found
-built form vs ok r = record { terms = h_build form vs r.terms; outer = r.outer; blocks = r.blocks; fine = both ok r.fine }
+built form vs ok r = record {
+  terms = h_build form vs r.terms;
+  outer = r.outer;
+  blocks = r.blocks;
+  fine = both ok r.fine;
+}
 
 -- a node that makes the values before it a node of this form, after which the names in scope are these
 abbrev pub Makes : HForm → (List ℕ → List ℕ) → S.CNd → Type 0
-Makes form after n = (rest : List S.CNd) (b : ℕ) (own : Own) (ds : List ℕ) (vs : List HVal) (c : Option CTys) (fs : List Around) →
-    found_in (n ∷ rest) b own ds vs c fs ≡ built form vs (both (is_some ds) (arity form vs)) (found_in rest b own (after ds) [] c fs)
+Makes form after n = (rest : List S.CNd) (b : ℕ) (own : Own) (ds : List ℕ) (vs : List HVal) (c : Option CTys)
+    (fs : List Around) →
+    found_in (n ∷ rest) b own ds vs c fs ≡ built form vs (both (is_some ds) (arity form vs))
+    (found_in rest b own (after ds) [] c fs)
 
 -- a declaration binds one name
 abbrev pub one_name : List ℕ → List ℕ
@@ -125,7 +140,8 @@ Declares form n = (h_kids form ≡ 1) × Makes form one_name n
 
 -- a node that is a part of a value
 abbrev pub IsPart : HPart → S.CNd → Type 0
-IsPart part n = (rest : List S.CNd) (b : ℕ) (own : Own) (ds : List ℕ) (vs : List HVal) (c : Option CTys) (fs : List Around) →
+IsPart part n = (rest : List S.CNd) (b : ℕ) (own : Own) (ds : List ℕ) (vs : List HVal) (c : Option CTys)
+    (fs : List Around) →
     found_in (n ∷ rest) b own ds vs c fs ≡ found_in rest b own ds (more part vs) c fs
 
 -- the term ends here

@@ -5,4 +5,6 @@ pub mod hoist;
 pub mod laws;
 mod parts;
 mod state;
+#[cfg(test)]
+mod tests;
 mod walk;

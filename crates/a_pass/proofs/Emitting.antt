@@ -3,7 +3,10 @@ use Rattle.std.proofs.Common.{◌≡◌, ℕ, zero, suc, List, [], ◌∷◌, �
 use Rattle.std.proofs.lemmas.List.{append-nil}
 use Rattle.a_terms.specs.Tree as a
 use Rattle.a_terms.specs.NodeTrees.{a_build, a_values, a_onto}
-use Rattle.a_terms.specs.Arity.{ARow}
+use Rattle.term_core.specs.Ends.{lift}
+use Rattle.a_terms.specs.Row as r
+use Rattle.a_terms.specs.Arity.{ARow, AArity, a_kids}
+use Rattle.a_terms.specs.declared.nodes.AForm.TheVariants as A
 use Rattle.a_terms.specs.declared.nodes.ANode.{ANode}
 use Rattle.a_terms.specs.declared.nodes.AValue.{AValue}
 use Rattle.a_pass.specs.Scope.{value_at}
@@ -45,3 +48,13 @@ fill_step old mid end l i k j v vs ws is kl ji e f =
 pub nothing : {A : Type 0} (xs : List A) → length xs ≡ 0 → xs ≡ []
 nothing [] h = refl
 nothing (x ∷ xs) h = absurd (omega (arith, h))
+
+-- one node that initialises field 1
+pub emits_init : (old new : List ANode) (node : ANode) (v w : a.AVal) → new ≡ old ++ node ∷ [] → node.form ≡ A.Init 1 → a_values node.values.items ≡ v ∷ w ∷ [] → Emits old new (λ r. a.Let (a.Init v 1 w) r)
+emits_init old new node v w is form vals = record {
+  nodes = node ∷ [];
+  is = is;
+  terms = λ r rs. ap₂ (λ f ws. a_build f ws (r ∷ rs)) form vals;
+  row = λ rest n h.
+      (subst (λ f. AArity f (a_values node.values.items)) (sym form) (subst r.IsTwo (sym vals) tt), subst (λ f. ARow rest (lift (a_kids f) n)) (sym form) h);
+}

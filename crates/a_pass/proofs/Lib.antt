@@ -1,4 +1,5 @@
 mod Blocks
+mod CTrees
 mod Emitting
 mod Places
 mod Runs

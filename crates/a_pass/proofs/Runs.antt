@@ -35,14 +35,15 @@ pub made_all : (ks : HBlks) (g : List a.ATy) (ls : List ℕ) (d : ℕ) (ps : Lis
     Made ks g ls d (reads [] (take i ps)) begin vs ts m now → Made ks g ls d (reads [] ps) begin vs ts m now
 made_all ks g ls d ps i begin vs ts m now le made = subst (λ xs. Made ks g ls d (reads [] xs) begin vs ts m now) (take_all i ps le) made
 
-pub under_step : (d : ℕ) (made new : List AValue) (v w : AValue) (rest vs : List AValue) (all : List a.AVal) → rest ≡ v ∷ vs → new ≡ made ++ w ∷ [] → a_value w ≡ value_at d v →
-    map a_value made ++ map (value_at d) rest ≡ all → map a_value new ++ map (value_at d) vs ≡ all
-under_step d made new v w rest vs all r n same h =
-    ap (λ xs. map a_value xs ++ map (value_at d) vs) n ∙ pushed made ∙ ap (λ x. map a_value made ++ (x ∷ map (value_at d) vs)) same ∙ ap (λ xs. map a_value made ++ map (value_at d) xs) (sym r) ∙ h
+-- a list that is made one by one of the items of another
+pub mapped_step : {X Y Z : Type 0} (f : Y → Z) (h : X → Z) (made new : List Y) (y : Y) (rest xs : List X) (x : X) (all : List Z) → rest ≡ x ∷ xs → new ≡ made ++ y ∷ [] → f y ≡ h x →
+    map f made ++ map h rest ≡ all → map f new ++ map h xs ≡ all
+mapped_step {Y = Y} f h made new y rest xs x all r n same is =
+    ap (λ ys. map f ys ++ map h xs) n ∙ pushed made ∙ ap (λ z. map f made ++ (z ∷ map h xs)) same ∙ ap (λ ys. map f made ++ map h ys) (sym r) ∙ is
   where
-    pushed : (xs : List AValue) → map a_value (xs ++ w ∷ []) ++ map (value_at d) vs ≡ map a_value xs ++ (a_value w ∷ map (value_at d) vs)
+    pushed : (ys : List Y) → map f (ys ++ y ∷ []) ++ map h xs ≡ map f ys ++ (f y ∷ map h xs)
     pushed [] = refl
-    pushed (x ∷ xs) = ap (λ ys. a_value x ∷ ys) (pushed xs)
+    pushed (z ∷ ys) = ap (λ zs. f z ∷ zs) (pushed ys)
 
-pub under_end : (d : ℕ) (made rest : List AValue) (all : List a.AVal) → rest ≡ [] → map a_value made ++ map (value_at d) rest ≡ all → map a_value made ≡ all
-under_end d made rest all r h = sym (append-nil (map a_value made)) ∙ ap (λ xs. map a_value made ++ map (value_at d) xs) (sym r) ∙ h
+pub mapped_end : {X Y Z : Type 0} (f : Y → Z) (h : X → Z) (made : List Y) (rest : List X) (all : List Z) → rest ≡ [] → map f made ++ map h rest ≡ all → map f made ≡ all
+mapped_end f h made rest all r is = sym (append-nil (map f made)) ∙ ap (λ ys. map f made ++ map h ys) (sym r) ∙ is

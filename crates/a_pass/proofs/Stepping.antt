@@ -153,14 +153,14 @@ module _ (ns ms : List Name) (place : Place) (ps qs : List Place) (mid new : Lis
         (λ xs. ap (λ ws. a_build (A.Proj i) ws xs) vals ∙ ap (λ k. a_let (a.Proj i (val ls place.depth k v)) xs) made.depth) (subst r.IsOne (sym vals) tt) refl (omega arith)
         (λ n u is. same_scope n (field_of i (Some (v_type ks g v))) u (is ∙ has (v_type ks g v) made.types))
 
-    pub get_stepped : (ty : AType) → Declares (A.Proj 1) vs ty m (length ns) place.binders ns ms ps qs mid new → OneType ty (λ t. field_of 1 (Some t)) → Steps place H.Get lv ts m ns ms ps qs mid new
-    get_stepped ty dec has ks [] old made one = absurd one
-    get_stepped ty dec has ks (v ∷ w ∷ us) old made one = absurd one
-    get_stepped ty dec has ks (v ∷ []) old made one =
+    pub get_stepped : (i : ℕ) (ty : AType) → i ≡ 1 → Declares (A.Proj i) vs ty m (length ns) place.binders ns ms ps qs mid new → OneType ty (λ t. field_of i (Some t)) → Steps place H.Get lv ts m ns ms ps qs mid new
+    get_stepped i ty e dec has ks [] old made one = absurd one
+    get_stepped i ty e dec has ks (v ∷ w ∷ us) old made one = absurd one
+    get_stepped i ty e dec has ks (v ∷ []) old made one =
         let vals = same ∙ made.values m in
-        let_stepped ks (v ∷ []) ns ms place ps qs old new len bound mid vs m (HGet v) H.Get (A.Proj 1) ty place.binders (emits_same old mid _ _ (λ r. refl) made.emits) made.depth dec (λ hs. refl) refl
-        (λ xs. ap (λ ws. a_build (A.Proj 1) ws xs) vals ∙ ap (λ k. a_let (a.Proj 1 (val ls place.depth k v)) xs) made.depth) (subst r.IsOne (sym vals) tt) refl (omega arith)
-        (λ n u is. same_scope n (field_of 1 (Some (v_type ks g v))) u (is ∙ has (v_type ks g v) made.types))
+        let_stepped ks (v ∷ []) ns ms place ps qs old new len bound mid vs m (HGet v) H.Get (A.Proj i) ty place.binders (emits_same old mid _ _ (λ r. refl) made.emits) made.depth dec (λ hs. refl) refl
+        (λ xs. ap (λ ws. a_build (A.Proj i) ws xs) vals ∙ ap₂ (λ k j. a_let (a.Proj j (val ls place.depth k v)) xs) made.depth e) (subst r.IsOne (sym vals) tt) refl (omega arith)
+        (λ n u is. same_scope n (field_of 1 (Some (v_type ks g v))) u (is ∙ has (v_type ks g v) made.types ∙ ap (λ j. field_of j (Some (v_type ks g v))) e))
 
     pub arith_stepped : (o : Op) (ty : AType) → Declares (A.Arith o) vs ty m (length ns) place.binders ns ms ps qs mid new → atree ty ≡ a.AInt → Steps place (H.Arith o) lv ts m ns ms ps qs mid new
     arith_stepped o ty dec has ks [] old made two = absurd two
@@ -240,5 +240,17 @@ module _ (ns ms : List Name) (place : Place) (ps qs : List Place) (mid new : Lis
       (λ xs. ap (λ us2. a_let (a.Malloc us2) xs) room_is) (subst r.IsNone (sym vals) tt) refl (omega arith)
       (λ n u is. same_scope n (a.ATuple a.NoAFields) u (is ∙ ty_is))
 
-pub stepped_for : (ks : HBlks) (place : Place) (us ws : List HVal) (ns ms : List Name) (ps qs : List Place) (old new : List ANode) (form : HForm) → us ≡ ws → Stepped ks place form us ns ms ps qs old new → Stepped ks place form ws ns ms ps qs old new
-stepped_for ks place us ws ns ms ps qs old new form e s = subst (λ x. Stepped ks place form x ns ms ps qs old new) e s
+pub steps_for : (place : Place) (f h : HForm) (vs : List AValue) (ts : List TypeOf) (m : ℕ) (ns ms : List Name) (ps qs : List Place) (mid new : List ANode) → f ≡ h → Steps place f vs ts m ns ms ps qs mid new → Steps place h vs ts m ns ms ps qs mid new
+steps_for place f h vs ts m ns ms ps qs mid new e s = subst (λ x. Steps place x vs ts m ns ms ps qs mid new) e s
+
+-- names and places that stay as they are
+pub steps_kept : (place : Place) (f : HForm) (vs : List AValue) (ts : List TypeOf) (m : ℕ) (xs ns : List Name) (ys ps : List Place) (mid new : List ANode) → xs ≡ ns → ys ≡ ps → Steps place f vs ts m xs xs ys ys mid new → Steps place f vs ts m ns ns ps ps mid new
+steps_kept place f vs ts m xs ns ys ps mid new e k s = subst (λ x. Steps place f vs ts m x x ps ps mid new) e (subst (λ y. Steps place f vs ts m xs xs y y mid new) k s)
+
+pub steps_named : (place : Place) (f : HForm) (vs : List AValue) (ts : List TypeOf) (m : ℕ) (xs ns : List Name) (ps qs : List Place) (mid new : List ANode) → xs ≡ ns → Steps place f vs ts m xs xs ps qs mid new → Steps place f vs ts m ns ns ps qs mid new
+steps_named place f vs ts m xs ns ps qs mid new e s = subst (λ x. Steps place f vs ts m x x ps qs mid new) e s
+
+pub made_for : (ks : HBlks) (b d : ℕ) (xs ns : List Name) (ps qs : List HPart) (old mid : List ANode) (vs : List AValue) (ts : List TypeOf) (m : ℕ) → xs ≡ ns → ps ≡ qs →
+    Made ks (scope b xs) (levels xs) d (reads [] ps) old vs ts m mid → Made ks (scope b ns) (levels ns) d (reads [] qs) old vs ts m mid
+made_for ks b d xs ns ps qs old mid vs ts m e f r =
+    subst (λ ys. Made ks (scope b ys) (levels ys) d (reads [] qs) old vs ts m mid) e (subst (λ ys. Made ks (scope b xs) (levels xs) d (reads [] ys) old vs ts m mid) f r)

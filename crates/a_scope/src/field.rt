@@ -91,12 +91,7 @@ pub fn field_of_value(
     }
 }
 
-fn body_of_variable(
-    alloc: Global,
-    vars: &[Entry],
-    names: u64,
-    n: u64,
-) -> Result<AType, OutOfMemory>
+fn body_of_variable(alloc: Global, vars: &[Entry], names: u64, n: u64) -> Result<AType, OutOfMemory>
     ensures { IfOk result (λ r. atree r ≡ the_body_of (slice_get (scope names vars.now) n)) }
 {
     let count = vars.len();

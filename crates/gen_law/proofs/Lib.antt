@@ -1,0 +1,14 @@
+mod Correct
+mod Covers
+mod Decls
+mod Flats
+mod Leads
+mod Lift
+mod Loads
+mod Places
+mod Runs
+mod TypeLaws
+mod Typed
+mod TypedEach
+mod Wholes
+mod Words

@@ -1,1 +1,7 @@
+pub mod Correct
+pub mod Counting
 pub mod Gen
+pub mod GenLaws
+pub mod Laws
+pub mod Packs
+pub mod TypesEach

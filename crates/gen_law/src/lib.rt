@@ -1,2 +1,39 @@
 //! Code generation from the allocated calculus on plain trees, and what it keeps.
 #![tactic(auto)]
+
+ghost use Rattle.gen_law.specs.Laws.{TypesKept, PacksFlat, InvariantKept, MeaningKept};
+ghost use Rattle.gen_law.specs.TypesEach.{TypesWithin};
+
+/// What is generated for a typed program is accepted.
+pub fn types_are_kept()
+    ensures { TypesKept }
+{}
+
+/// What is generated for a typed program has no package inside a package.
+pub fn packs_are_flat()
+    ensures { PacksFlat }
+{}
+
+/// Code generation adds two to the reach of types at most, and keeps the number of type names around a place.
+pub fn types_stay_within()
+    ensures { TypesWithin }
+{}
+
+/// What is generated for a typed program within the bound keeps the invariant of programs.
+pub fn invariant_is_kept()
+    ensures { InvariantKept }
+{}
+
+/// What is generated for a typed program within the bound means the same, both ways, and its machine enters no block
+/// more often than the calls of the program do.
+pub fn meaning_is_kept()
+    ensures { MeaningKept }
+{
+    a_terms::laws::typed_programs_are_never_wrong();
+    t_rules::erased_runs_are_runs();
+    t_rules::erased_runs_halt_alike();
+    t_rules::erased_runs_join();
+    t_rules::places_run_within_entries();
+    types_are_kept();
+    invariant_is_kept();
+}

@@ -36,7 +36,10 @@ fn apply_constant(alloc: Global, v: Value, types: &[AType]) -> Result<Value, Out
     ensures { IfOk result (λ r. value_tree r ≡ applied_to (value_tree v) (tys (atrees types.now))) }
 {
     match v {
-        Value::Plain { base, types: before } => {
+        Value::Plain {
+            base,
+            types: before,
+        } => {
             let types = written_onto(alloc, before, types)?;
             Ok(Value::Plain { base, types })
         }

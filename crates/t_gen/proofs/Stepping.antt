@@ -36,10 +36,9 @@ more_names (a.Init v i w) k = omega arith
 
 -- a declaration
 module _ (prog : a.AProg) (p q : Place) (x : a.ADecl) (es fs : List Entry) (e : Entry) (ps qs : List Place) (o : List Block) (c d : List (Instr × Span))
-  (count : p.vars ≡ length es) (made : fs ≡ es ++ e ∷ []) (names : e.names ≡ more_vars x p.names) (is_scope : scope (more_vars x p.names) fs ≡ declared prog (scope p.names es) x)
-  (codes : (rest : TSeq) → onto d rest ≡ onto c (decl_code (length es) x rest)) (pushed : qs ≡ ps ++ q ∷ []) (same_block : q.block ≡ p.block) (same_names : q.names ≡ more_vars x p.names) (all : q.vars ≡ length fs)
-  (f : Fit (length (blocks_of o)) es (length es) (p ∷ tops ps)) where
-
+    (count : p.vars ≡ length es) (made : fs ≡ es ++ e ∷ []) (names : e.names ≡ more_vars x p.names) (is_scope : scope (more_vars x p.names) fs ≡ declared prog (scope p.names es) x)
+    (codes : (rest : TSeq) → onto d rest ≡ onto c (decl_code (length es) x rest)) (pushed : qs ≡ ps ++ q ∷ []) (same_block : q.block ≡ p.block) (same_names : q.names ≡ more_vars x p.names) (all : q.vars ≡ length fs)
+    (f : Fit (length (blocks_of o)) es (length es) (p ∷ tops ps)) where
   abbrev out : List TBlock
   out = blocks_of o
 
@@ -77,9 +76,12 @@ module _ (prog : a.AProg) (p q : Place) (x : a.ADecl) (es fs : List Entry) (e : 
   fit_let : Fit (length out) fs (length fs) (tops qs)
   fit_let =
       let u = under_push p.names (more_vars x p.names) es e (subst (Under p.names) whole_es f.2) (more_names x p.names) (omega (arith, names)) in
-      subst (Fit (length out) fs (length fs)) (sym is_tops)
-      (omega (arith, f.0, same_block), omega (arith, all), subst (λ k. Under k (take q.vars fs)) (sym same_names) (subst (Under (more_vars x p.names)) (sym (whole_fs ∙ made)) u),
-       subst (λ xs. Fit (length out) xs q.vars (tops ps)) (sym made) (fit_keep (length out) (length out) p.vars q.vars es (e ∷ []) (tops ps) f.3 (omega (arith, count)) (omega arith) (omega (arith, all, longer, count))))
+      subst (Fit (length out) fs (length fs)) (sym is_tops) (
+        omega (arith, f.0, same_block),
+        omega (arith, all),
+        subst (λ k. Under k (take q.vars fs)) (sym same_names) (subst (Under (more_vars x p.names)) (sym (whole_fs ∙ made)) u),
+        subst (λ xs. Fit (length out) xs q.vars (tops ps)) (sym made) (fit_keep (length out) (length out) p.vars q.vars es (e ∷ []) (tops ps) f.3 (omega (arith, count)) (omega arith) (omega (arith, all, longer, count))),
+      )
 
   pub let_stepped : Stepped prog p (a_let x) 1 es fs ps qs o o c d
   let_stepped = record {
@@ -126,10 +128,10 @@ if_stepped prog p q v es ps qs o n c d count qb qn qv pushed codes more f =
     let is_tops : tops qs ≡ p ∷ q ∷ tops ps = ap tops pushed ∙ tops_push (ps ++ q ∷ []) p ∙ ap (λ ks. p ∷ ks) (tops_push ps q) in
     let long : length (blocks_of n) ≡ suc at = ap length more ∙ length-append out (reserved p.names (file g) ∷ []) ∙ omega arith in
     let is_job : (t : a.ATm) → job es q t ≡ record { block = at; names = p.names; vars = g; term = t } =
-        λ t. ap₂ (λ b k. record { block = b; names = k; vars = scope k (take q.vars es); term = t }) (qb ∙ ob) qn
-             ∙ ap (λ xs. record { block = at; names = p.names; vars = scope p.names xs; term = t }) (ap (λ w. take w es) qv ∙ whole_es) in
+    λ t. ap₂ (λ b k. record { block = b; names = k; vars = scope k (take q.vars es); term = t }) (qb ∙ ob) qn
+    ∙ ap (λ xs. record { block = at; names = p.names; vars = scope p.names xs; term = t }) (ap (λ w. take w es) qv ∙ whole_es) in
     let is_first : (t : a.ATm) → job es p t ≡ record { block = p.block; names = p.names; vars = g; term = t } =
-        λ t. ap (λ xs. record { block = p.block; names = p.names; vars = scope p.names xs; term = t }) whole_es in
+    λ t. ap (λ xs. record { block = p.block; names = p.names; vars = scope p.names xs; term = t }) whole_es in
     record {
       walked = λ ts.
           (let t = top no_term ts in
@@ -139,14 +141,21 @@ if_stepped prog p q v es ps qs o n c d count qb qn qv pushed codes more f =
           ∙ ap₂ (λ j k. finish_from prog (length (blocks_of n)) (blocks_of n) (onto d) j (k ∷ js)) (is_first t) (is_job u)
           ∙ ap₂ (λ i xs. finish_from prog i xs (onto d) (record { block = p.block; names = p.names; vars = g; term = t }) (record { block = at; names = p.names; vars = g; term = u } ∷ js)) long more
           ∙ from_same prog (suc at) (out ++ reserved p.names (file g) ∷ []) (onto d) (λ rest. onto c (into (length g) (suc (length g)) v (Then (T.Bnz (suc (length g)) (T.Plain (T.Label at) (tvars p.names))) rest))) (record { block = p.block; names = p.names; vars = g; term = t }) (record { block = at; names = p.names; vars = g; term = u } ∷ js)
-            (λ rest. codes rest ∙ ap₂ (λ l i. onto c (into l (suc l) v (Then (T.Bnz (suc l) (T.Plain (T.Label i) (tvars p.names))) rest))) (sym (length_scope p.names es)) ob)
+          (λ rest. codes rest ∙ ap₂ (λ l i. onto c (into l (suc l) v (Then (T.Bnz (suc l) (T.Plain (T.Label i) (tvars p.names))) rest))) (sym (length_scope p.names es)) ob)
           ∙ sym (if0_step prog at out (onto c) p.block p.names g v t u js f.0 refl)
           ∙ ap (λ j. finish_from prog at out (onto c) j js) (sym (is_first (a.If0 v t u))));
       fit =
-          subst (Fit (length (blocks_of n)) es (length es)) (sym is_tops)
-          (omega (arith, f.0, long), f.1, f.2,
-           (omega (arith, qb, ob, long), omega (arith, qv), subst (λ k. Under k (take q.vars es)) (sym qn) (subst (λ w. Under p.names (take w es)) (sym qv) f.2),
-            fit_more at (length (blocks_of n)) p.vars q.vars es (tops ps) f.3 (omega (arith, long)) (omega (arith, qv))));
+          subst (Fit (length (blocks_of n)) es (length es)) (sym is_tops) (
+            omega (arith, f.0, long),
+            f.1,
+            f.2,
+            (
+              omega (arith, qb, ob, long),
+              omega (arith, qv),
+              subst (λ k. Under k (take q.vars es)) (sym qn) (subst (λ w. Under p.names (take w es)) (sym qv) f.2),
+              fit_more at (length (blocks_of n)) p.vars q.vars es (tops ps) f.3 (omega (arith, long)) (omega (arith, qv)),
+            ),
+          );
       count = ap length pushed ∙ length-append (ps ++ q ∷ []) (p ∷ []) ∙ ap (λ i. i + 1) (length-append ps (q ∷ [])) ∙ omega arith;
     }
 

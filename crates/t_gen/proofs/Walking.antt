@@ -42,8 +42,7 @@ next_node ns i x lt is = drop_more ns i x lt ∙ ap (λ y. y ∷ drop (i + 1) ns
 
 -- what the next node finds
 module _ (prog : a.AProg) (before rest : List ANode) (node : ANode) (es kept : List Entry) (ps qs : List Place) (p : Place) (o : List Block) (c : List (Instr × Span)) (all : List TBlock)
-  (is : before ≡ node ∷ rest) (popped : ps ≡ qs ++ p ∷ []) (cut : kept ≡ take p.vars es) (walked : Walked prog before es ps o c all) where
-
+    (is : before ≡ node ∷ rest) (popped : ps ≡ qs ++ p ∷ []) (cut : kept ≡ take p.vars es) (walked : Walked prog before es ps o c all) where
   is_tops : tops ps ≡ p ∷ tops qs
   is_tops = ap tops popped ∙ tops_push qs p
 

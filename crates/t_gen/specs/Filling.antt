@@ -1,5 +1,5 @@
 -- Blocks that are reserved with their headers are filled in the order of the terms.
-use Rattle.std.specs.Prelude.{ℕ, zero, suc, ◌+◌, ◌++◌, List, [], ◌∷◌, length}
+use Rattle.std.specs.Prelude.{ℕ, suc, ◌+◌, ◌++◌, List, [], ◌∷◌, length}
 use Rattle.t_terms.specs.Tree.{TSeq, TBlock}
 use Rattle.a_terms.specs.Tree.{ATy, ATm, ABlk, AProg}
 use Rattle.a_terms.specs.Typing.{types_of}

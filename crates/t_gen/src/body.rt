@@ -11,9 +11,9 @@ ghost use Rattle.t_gen.specs.Pending.{body_job};
 
 use crate::state::Place;
 use crate::step::step;
+use a_scope::Entry;
 use a_terms::walks::copy;
 use a_terms::{ANode, AProgram, AType};
-use a_scope::Entry;
 use idx_core::OutOfMemory;
 use std::alloc::Global;
 use t_terms::Block;
@@ -47,7 +47,16 @@ pub fn emit_body(
             unreachable!()
         };
         vars.truncate(place.vars);
-        step(alloc, program, out, &mut code, &mut vars, &mut places, place, node)?;
+        step(
+            alloc,
+            program,
+            out,
+            &mut code,
+            &mut vars,
+            &mut places,
+            place,
+            node,
+        )?;
     }
     Ok(())
 }

@@ -12,8 +12,8 @@ ghost use Rattle.a_terms.specs.Program.{program_in};
 ghost use Rattle.t_gen.specs.Pending.{tops, Fit, Stepped};
 
 use crate::state::{Place, close_block, declares};
-use a_terms::{AForm, ANode, AProgram, AType, AValue};
 use a_scope::{Entry, declare, first};
+use a_terms::{AForm, ANode, AProgram, AType, AValue};
 use idx_core::{OutOfMemory, Span};
 use std::alloc::Global;
 use t_emit::calls::{above_all, emit_call, jump};
@@ -109,12 +109,13 @@ fn step_if(
     ensures { OnOk result ((prog : AProg) → Fit (length (blocks_of out.old.items)) vars.now (length vars.now) (place ∷ tops places.old.items) → Stepped prog place (λ ts. If0 (top no_value (a_values values.now)) (top no_term ts) (top no_term (others ts)) ∷ others (others ts)) 2 vars.now vars.now places.old.items places.new.items out.old.items out.new.items code.old.items code.new.items) }
 {
     let block = out.len();
-    emit_if0(alloc, out, code, vars, place.names, first(values))?;
-    places.push(Place {
+    let third = Place {
         block,
         names: place.names,
         vars: place.vars,
-    })?;
+    };
+    emit_if0(alloc, out, code, vars, place.names, first(values))?;
+    places.push(third)?;
     places.push(place)?;
     Ok(())
 }
@@ -137,7 +138,9 @@ pub fn step(
 {
     let values = node.values.as_slice();
     if declares(&node.form) {
-        step_let(alloc, program, code, vars, places, place, &node.form, values)?;
+        step_let(
+            alloc, program, code, vars, places, place, &node.form, values,
+        )?;
         return Ok(());
     }
     match &node.form {

@@ -50,26 +50,26 @@ returns-then-declares c =
 pub returns-in_ok-step_call-in-Call : goal.returns-in_ok-step_call-in-Call
 returns-in_ok-step_call-in-Call c =
     stepped_for
-      (ap (λ (f : AForm). a_build f (a_values c.args.node.now.values.items)) c.in-Call.is
-       ∙ ap₂ (λ xs us ts. a.Call (top no_value (a_values xs)) (atrees us) (others (a_values xs)) ∷ ts) (sym c.as_slice-values.ensures.value) (sym c.deref-in-Call.ensures.value))
-      (ap a_kids c.in-Call.is) c.deref.ensures.value
-      (c.in_ok-step_call-in-Call.ensures (program_in c.args.program.now) c.args.places.now.items
-        (subst (λ (xs : List Entry). Fit (length (blocks_of c.args.out.now.items)) xs (length xs) (c.args.place ∷ tops c.args.places.now.items)) (sym c.deref.ensures.value) c.requires.fit))
+    (ap (λ (f : AForm). a_build f (a_values c.args.node.now.values.items)) c.in-Call.is
+    ∙ ap₂ (λ xs us ts. a.Call (top no_value (a_values xs)) (atrees us) (others (a_values xs)) ∷ ts) (sym c.as_slice-values.ensures.value) (sym c.deref-in-Call.ensures.value))
+    (ap a_kids c.in-Call.is) c.deref.ensures.value
+    (c.in_ok-step_call-in-Call.ensures (program_in c.args.program.now) c.args.places.now.items
+    (subst (λ (xs : List Entry). Fit (length (blocks_of c.args.out.now.items)) xs (length xs) (c.args.place ∷ tops c.args.places.now.items)) (sym c.deref.ensures.value) c.requires.fit))
 
 pub returns-in_ok-step_halt-in-Halt : goal.returns-in_ok-step_halt-in-Halt
 returns-in_ok-step_halt-in-Halt c =
     stepped_for
-      (ap (λ (f : AForm). a_build f (a_values c.args.node.now.values.items)) c.in-Halt.is
-       ∙ ap (λ xs ts. a.Halt (top no_value (a_values xs)) ∷ ts) (sym c.as_slice-values.ensures.value))
-      (ap a_kids c.in-Halt.is) c.deref-in-Halt.ensures.value
-      (c.in_ok-step_halt-in-Halt.ensures (program_in c.args.program.now) c.args.places.now.items
-        (subst (λ (xs : List Entry). Fit (length (blocks_of c.args.out.now.items)) xs (length xs) (c.args.place ∷ tops c.args.places.now.items)) (sym c.deref-in-Halt.ensures.value) c.requires.fit))
+    (ap (λ (f : AForm). a_build f (a_values c.args.node.now.values.items)) c.in-Halt.is
+    ∙ ap (λ xs ts. a.Halt (top no_value (a_values xs)) ∷ ts) (sym c.as_slice-values.ensures.value))
+    (ap a_kids c.in-Halt.is) c.deref-in-Halt.ensures.value
+    (c.in_ok-step_halt-in-Halt.ensures (program_in c.args.program.now) c.args.places.now.items
+    (subst (λ (xs : List Entry). Fit (length (blocks_of c.args.out.now.items)) xs (length xs) (c.args.place ∷ tops c.args.places.now.items)) (sym c.deref-in-Halt.ensures.value) c.requires.fit))
 
 pub returns-in_ok-step_if-in-If0 : goal.returns-in_ok-step_if-in-If0
 returns-in_ok-step_if-in-If0 c =
     stepped_for
-      (ap (λ (f : AForm). a_build f (a_values c.args.node.now.values.items)) c.in-If0.is
-       ∙ ap (λ xs ts. a.If0 (top no_value (a_values xs)) (top no_term ts) (top no_term (others ts)) ∷ others (others ts)) (sym c.as_slice-values.ensures.value))
-      (ap a_kids c.in-If0.is) c.deref-in-If0.ensures.value
-      (c.in_ok-step_if-in-If0.ensures (program_in c.args.program.now)
-        (subst (λ (xs : List Entry). Fit (length (blocks_of c.args.out.now.items)) xs (length xs) (c.args.place ∷ tops c.args.places.now.items)) (sym c.deref-in-If0.ensures.value) c.requires.fit))
+    (ap (λ (f : AForm). a_build f (a_values c.args.node.now.values.items)) c.in-If0.is
+    ∙ ap (λ xs ts. a.If0 (top no_value (a_values xs)) (top no_term ts) (top no_term (others ts)) ∷ others (others ts)) (sym c.as_slice-values.ensures.value))
+    (ap a_kids c.in-If0.is) c.deref-in-If0.ensures.value
+    (c.in_ok-step_if-in-If0.ensures (program_in c.args.program.now)
+    (subst (λ (xs : List Entry). Fit (length (blocks_of c.args.out.now.items)) xs (length xs) (c.args.place ∷ tops c.args.places.now.items)) (sym c.deref-in-If0.ensures.value) c.requires.fit))

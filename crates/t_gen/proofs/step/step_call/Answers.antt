@@ -25,8 +25,8 @@ returns c = λ bs ps f.
     let d = length es in
     let t = a.Call v ts vs in
     end_stepped bs p t es ps c.args.out.now.items c.close_block.new.out.items old c.close_block.new.code.items
-      c.requires.vars c.close_block.ensures.empty
-      (c.close_block.ensures.filled
-       ∙ ap (λ e. fill p.block (onto c.emit_call.new.code.items (Ends e)) o) (c.in_ok-end.ensures ∙ ap (λ r. T.Jmp (T.Plain (T.Reg r) (tys ts))) c.above_all-above.ensures)
-       ∙ ap (λ x. fill p.block x o) (c.in_ok-emit_call.ensures (Ends (T.Jmp (T.Plain (T.Reg (above d vs)) (tys ts))))))
-      f (λ out at k g js. call_step bs at out (onto old) p.block k g v ts vs js)
+    c.requires.vars c.close_block.ensures.empty
+    (c.close_block.ensures.filled
+    ∙ ap (λ e. fill p.block (onto c.emit_call.new.code.items (Ends e)) o) (c.in_ok-end.ensures ∙ ap (λ r. T.Jmp (T.Plain (T.Reg r) (tys ts))) c.above_all-above.ensures)
+    ∙ ap (λ x. fill p.block x o) (c.in_ok-emit_call.ensures (Ends (T.Jmp (T.Plain (T.Reg (above d vs)) (tys ts))))))
+    f (λ out at k g js. call_step bs at out (onto old) p.block k g v ts vs js)

@@ -22,7 +22,7 @@ returns c = λ bs ps f.
     let d = length es in
     let t = a.Halt v in
     end_stepped bs p t es ps c.args.out.now.items c.close_block.new.out.items old c.close_block.new.code.items
-      c.requires.vars c.close_block.ensures.empty
-      (c.close_block.ensures.filled
-       ∙ ap (λ x. fill p.block x o) (c.in_ok-emit_value.ensures (Ends T.Halt) ∙ ap (λ u. onto old (into d 1 u (Ends T.Halt))) c.first.ensures))
-      f (λ out at k g js. halt_step bs at out (onto old) p.block k g v js)
+    c.requires.vars c.close_block.ensures.empty
+    (c.close_block.ensures.filled
+    ∙ ap (λ x. fill p.block x o) (c.in_ok-emit_value.ensures (Ends T.Halt) ∙ ap (λ u. onto old (into d 1 u (Ends T.Halt))) c.first.ensures))
+    f (λ out at k g js. halt_step bs at out (onto old) p.block k g v js)

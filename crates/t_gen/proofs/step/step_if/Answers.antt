@@ -19,6 +19,6 @@ returns c = λ bs f.
     let q : Place = record { block = c.len-block.result; names = p.names; vars = p.vars } in
     let long : c.len-block.result ≡ length o = search rules in
     if_stepped bs p q v es c.args.places.now.items c.push-2.new.self.items o c.emit_if0.new.out.items old c.emit_if0.new.code.items
-      c.requires.vars long refl refl (c.in_ok-push-2.ensures.items ∙ ap (λ (ps : List Place). ps ++ p ∷ []) c.in_ok-push.ensures.items)
-      (λ rest. c.in_ok-emit_if0.ensures.code rest ∙ ap (λ u. onto old (into (length es) (suc (length es)) u (Then (T.Bnz (suc (length es)) (T.Plain (T.Label (length o)) (tvars p.names))) rest))) c.first.ensures)
-      c.in_ok-emit_if0.ensures.out f
+    c.requires.vars long refl refl (c.in_ok-push-2.ensures.items ∙ ap (λ (ps : List Place). ps ++ p ∷ []) c.in_ok-push.ensures.items)
+    (λ rest. c.in_ok-emit_if0.ensures.code rest ∙ ap (λ u. onto old (into (length es) (suc (length es)) u (Then (T.Bnz (suc (length es)) (T.Plain (T.Label (length o)) (tvars p.names))) rest))) c.first.ensures)
+    c.in_ok-emit_if0.ensures.out f

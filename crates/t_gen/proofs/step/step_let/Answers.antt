@@ -20,6 +20,6 @@ returns c = λ o f.
     let q : Place = record { block = c.args.place.block; names = c.in_ok-names.names; vars = c.len-count.result } in
     let m = c.in_ok-names.ensures.more in
     let_stepped (program_in c.args.program.now) c.args.place q x c.args.vars.now.items c.declare.new.vars.items m.0 c.args.places.now.items _ o c.args.code.now.items _
-      c.requires.vars m.2 m.1 c.in_ok-names.ensures.scope
-      (λ rest. c.in_ok-emit_declaration.ensures rest ∙ ap (λ n. onto c.args.code.now.items (decl_code n x rest)) long)
-      c.in_ok-push.ensures.items refl c.in_ok-names.ensures.names all f
+    c.requires.vars m.2 m.1 c.in_ok-names.ensures.scope
+    (λ rest. c.in_ok-emit_declaration.ensures rest ∙ ap (λ n. onto c.args.code.now.items (decl_code n x rest)) long)
+    c.in_ok-push.ensures.items refl c.in_ok-names.ensures.names all f

@@ -1,0 +1,5 @@
+use Rattle.gen_law.proofs.Typed.{accepted}
+use Rattle.gen_law.proofs.types_are_kept.Goals as goal
+
+pub returns : goal.returns
+returns c = accepted

@@ -1,0 +1,45 @@
+-- No package stands inside a package.
+use Rattle.std.specs.Prelude.{List, [], ◌∷◌}
+use Rattle.t_terms.specs.Tree.{TValue, Plain, Pack, TInstr, Arith, Bnz, Ld, Malloc, Mov, St, Unpack, TEnd, Jmp, Halt, TSeq, Then, Ends, TBlock, TData, TProg}
+
+-- the value is no package
+abbrev pub NoPack : TValue → Type 0
+NoPack (Plain b ts) = Unit {0}
+NoPack (Pack t v s) = ⊥
+
+-- what a package holds is none
+abbrev pub FlatValue : TValue → Type 0
+FlatValue (Plain b ts) = Unit {0}
+FlatValue (Pack t v s) = NoPack v
+
+abbrev pub FlatInstr : TInstr → Type 0
+FlatInstr (Arith op rd rs v) = FlatValue v
+FlatInstr (Bnz r v) = FlatValue v
+FlatInstr (Ld rd rs i) = Unit {0}
+FlatInstr (Malloc rd ts) = Unit {0}
+FlatInstr (Mov rd v) = FlatValue v
+FlatInstr (St rd i rs) = Unit {0}
+FlatInstr (Unpack rd v) = FlatValue v
+
+abbrev pub FlatEnd : TEnd → Type 0
+FlatEnd (Jmp v) = FlatValue v
+FlatEnd Halt = Unit {0}
+
+abbrev pub FlatSeq : TSeq → Type 0
+FlatSeq (Then i rest) = FlatInstr i × FlatSeq rest
+FlatSeq (Ends e) = FlatEnd e
+
+abbrev pub FlatBlocks : List TBlock → Type 0
+FlatBlocks [] = Unit {0}
+FlatBlocks (b ∷ bs) = FlatSeq b.code × FlatBlocks bs
+
+abbrev pub FlatData : TData → Type 0
+FlatData [] = Unit {0}
+FlatData (x ∷ xs) = FlatValue x.value × FlatData xs
+
+abbrev pub FlatHeap : List TData → Type 0
+FlatHeap [] = Unit {0}
+FlatHeap (x ∷ xs) = FlatData x × FlatHeap xs
+
+abbrev pub FlatProgram : TProg → Type 0
+FlatProgram P = FlatBlocks P.blocks × FlatHeap P.heap

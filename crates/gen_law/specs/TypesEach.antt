@@ -1,0 +1,107 @@
+-- Each type that is written in an assembly program, or that its typing gives to a value or a register, has a property.
+use Rattle.std.specs.Prelude.{◌≡◌, ◌≤◌, ◌+◌, ℕ, suc, max, List, [], ◌∷◌, Some}
+use Rattle.a_terms.specs.Tree.{ATm, AProg}
+use Rattle.a_terms.specs.Typing.{Program-ok}
+use Rattle.a_terms.specs.Each.{ProgramEach, AWithin}
+use Rattle.t_types.specs.Tree.{Ty, IntTy, VarTy, CodeTy, ExistsTy, TupleTy, TFile, NoRegs, MoreRegs, TFields, NoFields, MoreFields}
+use Rattle.t_types.specs.Fields.{filled, empty_fields}
+use Rattle.t_types.specs.Fits.{RegTypes, lookup}
+use Rattle.t_terms.specs.Tree.{TValue, Plain, Pack, TInstr, Arith, Bnz, Ld, Malloc, Mov, St, Unpack, TEnd, Jmp, Halt, TSeq, Then, Ends, TBlock, TData, TProg, names_after}
+use Rattle.t_rules.specs.Registers.{with_reg, no_types}
+use Rattle.t_rules.specs.Rules.{BaseHas, Has, Typed, EndTyped}
+use Rattle.gen_law.specs.Gen.{generated}
+
+-- a property of types under so many type variables
+abbrev pub TProp : Type 1
+TProp = ℕ → Ty → Type 0
+
+abbrev pub AllTypes : TProp → ℕ → List Ty → Type 0
+AllTypes Q n [] = Unit {0}
+AllTypes Q n (t ∷ ts) = Q n t × AllTypes Q n ts
+
+abbrev pub FileTypes : TProp → ℕ → TFile → Type 0
+FileTypes Q n NoRegs = Unit {0}
+FileTypes Q n (MoreRegs r t f) = Q n t × FileTypes Q n f
+
+-- the value has the type t; it, the types of the values in it and those that it is written with have the property
+abbrev pub HasEach : TProp → TProg → ℕ → RegTypes → TValue → Ty → Type 0
+HasEach Q P n g (Plain b ts) t = Has P n g (Plain b ts) t × ((s : Ty) × BaseHas P g b s × Q n s × Q n t × AllTypes Q n ts)
+HasEach Q P n g (Pack h v s) t = Has P n g (Pack h v s) t × ((u : Ty) × HasEach Q P n g v u × Q n h × Q n t)
+
+-- the types of the instruction's value, those that are written in it, and that of the register that it sets
+abbrev pub InstrEach : TProp → TProg → ℕ → RegTypes → TInstr → Type 0
+InstrEach Q P n g (Arith op rd rs v) = HasEach Q P n g v IntTy
+InstrEach Q P n g (Bnz r v) = (file : TFile) × HasEach Q P n g v (CodeTy 0 file)
+InstrEach Q P n g (Ld rd rs i) = (t : Ty) × Typed P n g (Ld rd rs i) (with_reg g rd t) × Q n t
+InstrEach Q P n g (Malloc rd ts) = AllTypes Q n ts × Q n (TupleTy (empty_fields ts))
+InstrEach Q P n g (Mov rd v) = (t : Ty) × HasEach Q P n g v t
+InstrEach Q P n g (St rd i rs) = (fs : TFields) × (g rd ≡ Some (TupleTy fs)) × Q n (TupleTy (filled fs i))
+InstrEach Q P n g (Unpack rd v) = (t : Ty) × HasEach Q P n g v (ExistsTy t) × Q (suc n) t
+
+abbrev pub EndEach : TProp → TProg → ℕ → RegTypes → TEnd → Type 0
+EndEach Q P n g (Jmp v) = (file : TFile) × HasEach Q P n g v (CodeTy 0 file)
+EndEach Q P n g Halt = Unit {0}
+
+abbrev pub SeqEach : TProp → TProg → ℕ → RegTypes → TSeq → Type 0
+SeqEach Q P n g (Then i rest) = (h : RegTypes) × Typed P n g i h × InstrEach Q P n g i × SeqEach Q P (names_after i n) h rest
+SeqEach Q P n g (Ends e) = EndTyped P n g e × EndEach Q P n g e
+
+abbrev pub BlocksEach : TProp → TProg → List TBlock → Type 0
+BlocksEach Q P [] = Unit {0}
+BlocksEach Q P (b ∷ bs) = (FileTypes Q b.owes b.file × SeqEach Q P b.owes (lookup b.file) b.code) × BlocksEach Q P bs
+
+abbrev pub DataEach : TProp → TProg → TData → Type 0
+DataEach Q P [] = Unit {0}
+DataEach Q P (x ∷ xs) = (Q 0 x.ty × ((t : Ty) × HasEach Q P 0 no_types x.value t)) × DataEach Q P xs
+
+abbrev pub HeapEach : TProp → TProg → List TData → Type 0
+HeapEach Q P [] = Unit {0}
+HeapEach Q P (x ∷ xs) = DataEach Q P x × HeapEach Q P xs
+
+abbrev pub TypesEach : TProp → TProg → Type 0
+TypesEach Q P = BlocksEach Q P P.blocks × HeapEach Q P P.heap
+
+-- the reach of a type: the greatest number of constructs that are open at one place of it, where the brace of a
+-- register file counts twice
+abbrev mutual
+  pub treach : Ty → ℕ
+  treach IntTy = 0
+  treach (VarTy i) = 0
+  treach (CodeTy n f) = suc (suc (treach_file f))
+  treach (ExistsTy t) = suc (treach t)
+  treach (TupleTy fs) = suc (treach_fields fs)
+
+  pub treach_file : TFile → ℕ
+  treach_file NoRegs = 0
+  treach_file (MoreRegs r t f) = max (treach t) (treach_file f)
+
+  pub treach_fields : TFields → ℕ
+  treach_fields NoFields = 0
+  treach_fields (MoreFields t f fs) = max (treach t) (treach_fields fs)
+
+-- the greatest number of type names that are bound around one place of a type
+abbrev mutual
+  pub tbinds : Ty → ℕ
+  tbinds IntTy = 0
+  tbinds (VarTy i) = 0
+  tbinds (CodeTy n f) = n + tbinds_file f
+  tbinds (ExistsTy t) = suc (tbinds t)
+  tbinds (TupleTy fs) = tbinds_fields fs
+
+  pub tbinds_file : TFile → ℕ
+  tbinds_file NoRegs = 0
+  tbinds_file (MoreRegs r t f) = max (tbinds t) (tbinds_file f)
+
+  pub tbinds_fields : TFields → ℕ
+  tbinds_fields NoFields = 0
+  tbinds_fields (MoreFields t f fs) = max (tbinds t) (tbinds_fields fs)
+
+-- at most so many names in scope, so much reach, and so many names bound in the type
+abbrev pub TWithin : (names reach binds : ℕ) → TProp
+TWithin names reach binds n t = (n ≤ names) × (treach t ≤ reach) × (tbinds t ≤ binds)
+
+-- code generation adds two to the reach, and the names in scope to those of a type
+abbrev pub TypesWithin : Type 0
+TypesWithin =
+    (N R B : ℕ) (p : AProg) (main : ATm) → Program-ok p main → ProgramEach (AWithin N R B) p main →
+    TypesEach (TWithin N (R + 2) (N + B)) (generated p main)

@@ -22,7 +22,8 @@ IsMissed ts i w e = (e ≡ Unexpected i) × Misses ts i w
 
 -- the token at i is not of the first class, or the one after it not of the second
 abbrev pub TwoMissed : List Token → ℕ → Wanted → Wanted → Stopped → Type 0
-TwoMissed ts i v w e = IsMissed ts i v e ⊎ ((e ≡ Unexpected (i + 1)) × ((c : Token) × Next ts i v c × Misses ts (i + 1) w))
+TwoMissed ts i v w e =
+    IsMissed ts i v e ⊎ ((e ≡ Unexpected (i + 1)) × ((c : Token) × Next ts i v c × Misses ts (i + 1) w))
 
 -- the token at i, which has to be of this class
 abbrev pub IsExpected : List Token → ℕ → Wanted → Result Token Stopped → Type 0

@@ -7,19 +7,21 @@ use Rattle.t_terms.specs.declared.token.Token.{Token}
 use Rattle.t_terms.specs.declared.wanted.Wanted.TheVariants as want
 use Rattle.t_terms.specs.Raw.{RawTy, RPlain, ending}
 use Rattle.t_terms.specs.Machine.{LV, LArgs, LSomeTypes, LTypeList, NoTypes, MakeBase, MakeApply, base_of, OfToken, OfValue, OfList}
+use Rattle.t_terms.specs.Text.{most_open}
 use Rattle.t_grammar.specs.declared.raw.RawType.{RawType}
 use Rattle.t_grammar.specs.declared.cursor.Stopped.{Stopped}
 use Rattle.t_grammar.specs.declared.cursor.Stopped.TheVariants.{TooDeep}
 use Rattle.t_grammar.specs.Raw.{raw}
 use Rattle.t_grammar.specs.Reads.{Reads, Fails}
-use Rattle.t_grammar.proofs.Stepping.{Moves, Next, Misses, within, is_next, is_of, begins, by_row, by_none, by_call, by_do, by_mark, stop_call, stop_deep, lacks}
+use Rattle.t_grammar.specs.Cursor.{Next, Misses}
+use Rattle.t_grammar.proofs.Stepping.{Moves, within, is_next, is_of, begins, by_row, by_none, by_call, by_do, by_mark, stop_call, stop_deep, lacks}
 use Rattle.t_shapes.specs.Raw.{is_base}
 use Rattle.t_shapes.proofs.Lines.{opens_args, base_begins, no_types}
 
 pub types_more : (xs ys : List RawType) (t : RawType) → ys ≡ xs ++ t ∷ [] → map raw ys ≡ map raw xs ++ raw t ∷ []
 types_more xs ys t e = ap (λ (zs : List RawType). map raw zs) e ∙ map-append raw xs (t ∷ [])
 
-pub types_empty : (ts : List Token) (d i : ℕ) (c : Token) → d ≤ 2000 → Next ts i want.RightBracket c → Reads LTypeList ts d i (i + 1) (OfList (ending [] c.span.end) ∷ [])
+pub types_empty : (ts : List Token) (d i : ℕ) (c : Token) → d ≤ most_open → Next ts i want.RightBracket c → Reads LTypeList ts d i (i + 1) (OfList (ending [] c.span.end) ∷ [])
 types_empty ts d i c h e = record {
   forward = omega arith;
   in_range = (let l = within ts i want.RightBracket c e in omega arith);
@@ -28,7 +30,7 @@ types_empty ts d i c h e = record {
 }
 
 -- a base, with types after it or none
-module _ (ts : List Token) (d i : ℕ) (c : Token) (e : slice_get ts i ≡ Some c) (b : is_base c.kind ≡ true) (h : d ≤ 2000) where
+module _ (ts : List Token) (d i : ℕ) (c : Token) (e : slice_get ts i ≡ Some c) (b : is_base c.kind ≡ true) (h : d ≤ most_open) where
   after_base : Moves ts d i (Nt LV ∷ []) [] (i + 1) (Nt LArgs ∷ []) (OfValue (ending (RPlain (base_of c.kind c.span) []) c.span.end) ∷ [])
   after_base = by_do MakeBase (Nt LArgs ∷ []) (OfToken c ∷ []) (OfValue (ending (RPlain (base_of c.kind c.span) []) c.span.end) ∷ [])
       (begins ts d i c LV (Do MakeBase ∷ (Nt LArgs ∷ [])) e (base_begins c.kind b) (omega arith)) (λ below. refl)
@@ -41,11 +43,11 @@ module _ (ts : List Token) (d i : ℕ) (c : Token) (e : slice_get ts i ≡ Some 
   }
 
   module _ (o : Token) (f : Next ts (i + 1) want.LeftBracket o) where
-    pub args_too_deep : (s : Stopped) → (s ≡ TooDeep (i + 1)) × (2000 ≤ d) → Fails ts d i (Nt LV ∷ []) [] s
+    pub args_too_deep : (s : Stopped) → (s ≡ TooDeep (i + 1)) × (most_open ≤ d) → Fails ts d i (Nt LV ∷ []) [] s
     args_too_deep s p = stop_deep s o LArgs (Nt LSomeTypes ∷ (Mark ∷ (Do MakeApply ∷ []))) [] _ after_base (is_next ts (i + 1) want.LeftBracket o f)
         (opens_args.takes o.kind (is_of ts (i + 1) want.LeftBracket o f)) refl p
 
-    module _ (l : d < 2000) (m : ℕ) (q : m ≡ d + 1) where
+    module _ (l : d < most_open) (m : ℕ) (q : m ≡ d + 1) where
       in_args : Moves ts d i (Nt LV ∷ []) [] (i + 1 + 1) (Nt LSomeTypes ∷ (Mark ∷ (Do MakeApply ∷ []))) (OfToken o ∷ (OfValue (ending (RPlain (base_of c.kind c.span) []) c.span.end) ∷ []))
       in_args = by_row o LArgs (Nt LSomeTypes ∷ (Mark ∷ (Do MakeApply ∷ []))) [] _ after_base (is_next ts (i + 1) want.LeftBracket o f) (opens_args.takes o.kind (is_of ts (i + 1) want.LeftBracket o f)) (omega arith)
 

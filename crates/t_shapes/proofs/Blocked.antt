@@ -12,10 +12,12 @@ use Rattle.t_terms.specs.declared.token.Token.{Token}
 use Rattle.t_terms.specs.declared.wanted.Wanted.TheVariants as want
 use Rattle.t_terms.specs.Raw as tree
 use Rattle.t_terms.specs.Machine.{table, Stack, Val, LI, MoreSteps, LBlock, MoreBlocks, LProgram, FirstBlock, MakeProgram, NextBlock, OfBlocks, OfToken, instr_after, steps_tail, block_owed, blocks_tail}
+use Rattle.t_terms.specs.Text.{most_open}
 use Rattle.t_grammar.specs.declared.cursor.Stopped.{Stopped}
 use Rattle.t_grammar.specs.declared.cursor.Stopped.TheVariants.{Memory, Unexpected, TooDeep}
 use Rattle.t_grammar.specs.Reads.{Fails}
-use Rattle.t_grammar.proofs.Stepping.{Moves, Next, Misses, is_next, is_of, as_token, by_none, by_do}
+use Rattle.t_grammar.specs.Cursor.{Next, Misses}
+use Rattle.t_grammar.proofs.Stepping.{Moves, is_next, is_of, as_token, by_none, by_do}
 use Rattle.t_shapes.specs.Raw.{raw_step, raw_block}
 use Rattle.t_shapes.specs.Reads.{step_next, IsStop}
 use Rattle.t_shapes.specs.declared.raw.RawInstr.{RawInstr}
@@ -34,7 +36,7 @@ as_instr {ts} {i} {j} {owed} {vs} {us} h e = by_token (slice_get ts j) refl e
   where
     by_row : (c : Token) → slice_get ts j ≡ Some c → (o : Option Stack) → instr_after c.kind ≡ o → is_some o ≡ true → Moves ts 0 i owed vs j (Nt LI ∷ steps_tail) us
     by_row c q None f g = absurd (cc)
-    by_row c q (Some r) f g = step.then_goes table 2000 ts 0 h (step.as_goes table 2000 ts 0 j LI MoreSteps steps_tail [] c us q r f (rw f refl))
+    by_row c q (Some r) f g = step.then_goes table most_open ts 0 h (step.as_goes table most_open ts 0 j LI MoreSteps steps_tail [] c us q r f (rw f refl))
 
     by_token : (o : Option Token) → slice_get ts j ≡ o → step_next o ≡ true → Moves ts 0 i owed vs j (Nt LI ∷ steps_tail) us
     by_token None q g = absurd (cc)
@@ -62,7 +64,7 @@ pub as_block : {ts : List Token} {i j : ℕ} {owed : Stack} {vs us : List Val} {
     Moves ts 0 i owed vs j (Nt LBlock ∷ (Do NextBlock ∷ (Nt MoreBlocks ∷ (Do MakeProgram ∷ [])))) us
 as_block {ts} {i} {j} {owed} {vs} {us} {c} h e =
     let f = block_follows c.kind (is_of ts j want.Name c e) in
-    step.then_goes table 2000 ts 0 h (step.as_goes table 2000 ts 0 j LBlock MoreBlocks blocks_tail (Do MakeProgram ∷ []) c us (is_next ts j want.Name c e) block_owed f.0 f.1)
+    step.then_goes table most_open ts 0 h (step.as_goes table most_open ts 0 j LBlock MoreBlocks blocks_tail (Do MakeProgram ∷ []) c us (is_next ts j want.Name c e) block_owed f.0 f.1)
 
 pub not_name : {ts : List Token} {i j : ℕ} {owed : Stack} {vs us : List Val} {bs : List tree.RawBlock} → Moves ts 0 i owed vs j (Nt MoreBlocks ∷ (Do MakeProgram ∷ [])) (OfBlocks bs ∷ us) → Misses ts j want.Name →
     Moves ts 0 i owed vs j (Do MakeProgram ∷ []) (OfBlocks bs ∷ us)
@@ -81,12 +83,12 @@ module _ (ts : List Token) (j : ℕ) (bs : List tree.RawBlock) {o t : Token} (h 
   pub more_left : j < length ts → IsStop ts (Unexpected j)
   more_left l = done.leads [] [] refl ∙ rest
     where
-      rest : verdict table 2000 (drop j ts) [] (OfBlocks bs ∷ []) ≡ table_of.Unexpected (drop j ts)
+      rest : verdict table most_open (drop j ts) [] (OfBlocks bs ∷ []) ≡ table_of.Unexpected (drop j ts)
       rest = by_rest (drop j ts) (λ e. omega (arith, length-drop j ts, ap length e))
         where
-          by_rest : (r : List Token) → (r ≡ [] → ⊥) → verdict table 2000 r [] (OfBlocks bs ∷ []) ≡ table_of.Unexpected r
+          by_rest : (r : List Token) → (r ≡ [] → ⊥) → verdict table most_open r [] (OfBlocks bs ∷ []) ≡ table_of.Unexpected r
           by_rest [] n = absurd (n refl)
           by_rest (c ∷ z) n = refl
 
-  pub all_read : length ts ≤ j → bounded table 2000 ts (whole table ts) ≡ Fine (OfBlocks bs ∷ [])
+  pub all_read : length ts ≤ j → bounded table most_open ts (whole table ts) ≡ Fine (OfBlocks bs ∷ [])
   all_read l = let e : drop j ts ≡ [] = drop_of_length-le ts l in done.leads [] [] refl ∙ rw e refl

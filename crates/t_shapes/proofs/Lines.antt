@@ -7,7 +7,9 @@ use Rattle.t_terms.specs.declared.token.Kind.{Kind}
 use Rattle.t_terms.specs.declared.token.Kind.TheVariants as k
 use Rattle.t_terms.specs.declared.wanted.Wanted.TheVariants as want
 use Rattle.t_terms.specs.Machine.{table, LT, LTypes, LTypeList, LSomeTypes, MoreTypes, MakeTypes, FirstType, NextType, CloseTypes, NoTypes, LV, LArgs, LPacked, MakeApply, MakePacked, LTo, MakeTo, LAt, MakeAt, LIndex, MakeIndex, LTarget, MakeTarget, LInt, MakeInt, LBlock, MoreBlocks, LProgram, FirstBlock, MakeProgram, fits, after, type_list_after, some_types_after, types_tail, value_after, base_owed, instr_after, block_owed, blocks_tail, end_after}
-use Rattle.t_grammar.proofs.Stepping.{Misses, Moves, not_fits, Opens, ListLine}
+use Rattle.t_terms.specs.Text.{most_open}
+use Rattle.t_grammar.specs.Cursor.{Misses}
+use Rattle.t_grammar.proofs.Stepping.{Moves, not_fits, Opens, ListLine}
 use Rattle.t_shapes.specs.Raw.{is_base}
 
 pub opens_types : Opens LTypes want.LeftBracket (Nt LTypeList ∷ (Mark ∷ (Do MakeTypes ∷ [])))
@@ -33,7 +35,7 @@ comma_types = record { takes = λ c e. takes c e; no_other = λ c e. no_other c 
     no_other _ e = refl
 
 pub some_begin : (ts : List Token) (d i : ℕ) → Moves ts d i (Nt LSomeTypes ∷ []) [] i (Nt LT ∷ types_tail) []
-some_begin ts d i = step.as_any table 2000 ts d i LT LSomeTypes types_tail [] [] refl refl (λ c q. refl)
+some_begin ts d i = step.as_any table most_open ts d i LT LSomeTypes types_tail [] [] refl refl (λ c q. refl)
 
 pub list_types : ListLine LSomeTypes MoreTypes want.RightBracket (Nt LT ∷ []) FirstType NextType CloseTypes
 list_types = record { begin = λ ts d i e. some_begin ts d i; comma = comma_types; ends = refl; flat = refl }
@@ -43,7 +45,7 @@ types_begin k.RightBracket e = absurd (cc)
 types_begin _ e = refl
 
 pub as_some : (ts : List Token) (d i : ℕ) → Misses ts i want.RightBracket → Moves ts d i (Nt LTypeList ∷ []) [] i (Nt LSomeTypes ∷ []) []
-as_some ts d i e = step.as_any table 2000 ts d i LSomeTypes LTypeList [] [] [] refl refl (λ c q. types_begin c.kind (not_fits want.RightBracket (slice_get ts i) c e q))
+as_some ts d i e = step.as_any table most_open ts d i LSomeTypes LTypeList [] [] [] refl refl (λ c q. types_begin c.kind (not_fits want.RightBracket (slice_get ts i) c e q))
 
 pub no_types : (c : Kind) → fits want.RightBracket c ≡ true → type_list_after c ≡ Some (Do NoTypes ∷ [])
 no_types k.RightBracket e = refl

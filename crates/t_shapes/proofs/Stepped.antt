@@ -4,6 +4,7 @@ use Rattle.std.specs.Result.{MatchResult}
 use Rattle.text_core.specs.Table.{Nt, marks}
 use Rattle.t_terms.specs.declared.token.Token.{Token}
 use Rattle.t_terms.specs.Machine.{table, Stack, LI, OfToken, OfStep, instr_after}
+use Rattle.t_terms.specs.Text.{most_open}
 use Rattle.t_grammar.specs.declared.cursor.Stopped.{Stopped}
 use Rattle.t_grammar.specs.Reads.{Reads, Fails}
 use Rattle.t_grammar.proofs.Stepping.{begins, after_moves}
@@ -18,6 +19,6 @@ pub as_step : (ts : List Token) (i : ℕ) (word : Token) (left : Stack) (r : Res
 as_step ts i word left (Ok f) e a m r = record {
   forward = omega (arith, r.forward);
   in_range = r.in_range;
-  same = step.then_goes table 2000 ts 0 (begins ts 0 i word LI left e a (omega (arith, m))) r.same;
+  same = step.then_goes table most_open ts 0 (begins ts 0 i word LI left e a (omega (arith, m))) r.same;
 }
 as_step ts i word left (Err s) e a m f = after_moves s (begins ts 0 i word LI left e a (omega (arith, m))) f

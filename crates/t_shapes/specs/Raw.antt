@@ -53,7 +53,13 @@ abbrev pub raw_last : RawEnd × Span → tree.RawEnd × Span
 raw_last x = (raw_end x.0, x.1)
 
 abbrev pub raw_block : RawBlock → tree.RawBlock
-raw_block b = record { name = b.name; names = b.names.items; file = raw_file b.file; body = map raw_step b.body.items; last = raw_last b.last }
+raw_block b = record {
+  name = b.name;
+  names = b.names.items;
+  file = raw_file b.file;
+  body = map raw_step b.body.items;
+  last = raw_last b.last;
+}
 
 abbrev pub raw_blocks : List RawBlock → List tree.RawBlock
 raw_blocks bs = map raw_block bs

@@ -1,5 +1,5 @@
 -- What the reading functions promise, by the table.
-use Rattle.std.specs.Prelude.{◌≡◌, ◌≤◌, ℕ, List, [], ◌∷◌, length, map, drop, is_some, Bool, false, Option, Some, None}
+use Rattle.std.specs.Prelude.{◌≡◌, ◌≤◌, ℕ, ◌+◌, List, [], ◌∷◌, length, map, drop, is_some, Bool, false, Option, Some, None, Result, MatchResult}
 use Rattle.idx_core.specs.declared.arith.Op.{Op}
 use Rattle.idx_core.specs.declared.span.Span.{Span}
 use Rattle.text_core.specs.Table.{Nt, Tm, Do, Fine, bounded, whole}
@@ -10,16 +10,25 @@ use Rattle.t_terms.specs.declared.token.Token.{Token}
 use Rattle.t_terms.specs.declared.wanted.Wanted.TheVariants as want
 use Rattle.t_terms.specs.Raw as tree
 use Rattle.t_terms.specs.Raw.{ending}
-use Rattle.t_terms.specs.Machine.{table, Stack, LTo, LV, LAt, LTypes, LTarget, LBinds, LFile, LProgram, MoreSteps, MoreBlocks, MakeProgram, MakeBnz, MakeLd, MakeMalloc, MakeMov, MakeSt, MakeUnpack, NoSteps, arith_owed, instr_after, OfToken, OfStep, OfSteps, OfFile, OfNames, OfBlocks}
-use Rattle.t_grammar.specs.Raw.{raw_file}
-use Rattle.t_grammar.specs.Reads.{ReadsOwed}
+use Rattle.t_terms.specs.Text.{most_open}
+use Rattle.t_terms.specs.Machine.{table, Line, Stack, LTo, LV, LPacked, LAt, LIndex, LTypes, LTypeList, LSomeTypes, LTarget, LInt, LI, LEnd, LBlock, LBinds, LFile, LProgram, MoreSteps, MoreBlocks, MakeProgram, MakeBnz, MakeLd, MakeMalloc, MakeMov, MakeSt, MakeUnpack, NoSteps, arith_owed, instr_after, OfToken, OfStep, OfSteps, OfFile, OfNames, OfBlocks, OfList, OfIndex, OfAt, OfTarget, OfPlace, OfReg, OfValue, OfPacked, OfEnd, OfBlock}
+use Rattle.t_grammar.specs.Raw.{raw, raw_file}
+use Rattle.t_grammar.specs.Reads.{ReadsOwed, Fails, IsLine}
 use Rattle.t_grammar.specs.declared.cursor.Stopped.{Stopped}
 use Rattle.t_grammar.specs.declared.cursor.Stopped.TheVariants.{Memory, Unexpected, TooDeep}
-use Rattle.t_shapes.specs.Raw.{raw_step, raw_blocks}
+use Rattle.t_shapes.specs.Raw.{raw_value, raw_step, raw_last, raw_block, raw_blocks}
 use Rattle.t_shapes.specs.declared.raw.RawBlock.{RawBlock}
+use Rattle.t_shapes.specs.declared.lists.FoundTypes.{FoundTypes}
+use Rattle.t_shapes.specs.declared.parts.FoundIndex.{FoundIndex}
+use Rattle.t_shapes.specs.declared.parts.FoundPlace.{FoundPlace}
+use Rattle.t_shapes.specs.declared.parts.FoundTarget.{FoundTarget}
+use Rattle.t_shapes.specs.declared.values.FoundValue.{FoundValue}
+use Rattle.t_shapes.specs.declared.values.FoundPacked.{FoundPacked}
 use Rattle.t_shapes.specs.declared.steps.FoundStep.{FoundStep}
+use Rattle.t_shapes.specs.declared.ends.FoundEnd.{FoundEnd}
 use Rattle.t_shapes.specs.declared.heads.FoundHead.{FoundHead}
 use Rattle.t_shapes.specs.declared.blocks.FoundSteps.{FoundSteps}
+use Rattle.t_shapes.specs.declared.blocks.FoundBlock.{FoundBlock}
 
 -- what is owed of an instruction after its word
 abbrev pub arith_left : Op → Stack
@@ -45,7 +54,8 @@ unpack_left = Nt LTarget ∷ (Tm want.Comma ∷ (Nt LV ∷ (Do MakeUnpack ∷ []
 
 -- it is read after the word
 abbrev pub ReadsStep : Stack → List Token → ℕ → Token → FoundStep → Type 0
-ReadsStep left ts i word f = going.Reads table 2000 ts 0 i left (OfToken word ∷ []) f.next [] (OfStep (raw_step f.step) ∷ [])
+ReadsStep left ts i word f =
+    going.Reads table most_open ts 0 i left (OfToken word ∷ []) f.next [] (OfStep (raw_step f.step) ∷ [])
 
 -- whether the next token begins an instruction
 abbrev pub step_next : Option Token → Bool
@@ -63,7 +73,9 @@ pub record ReadsHead (ts : List Token) (i : ℕ) (f : FoundHead) : Type 0 where
   pub end : ℕ
   pub dot : Token
   pub is : f.name ≡ label.span
-  pub reads : ReadsOwed head_owed ts 0 i f.next (OfToken dot ∷ (OfFile (ending (raw_file f.file) end) ∷ (OfNames f.names.items ∷ (OfToken code ∷ (OfToken colon ∷ (OfToken label ∷ []))))))
+  pub reads : ReadsOwed head_owed ts 0 i f.next
+      (OfToken dot ∷ (OfFile (ending (raw_file f.file) end) ∷ (OfNames f.names.items ∷
+      (OfToken code ∷ (OfToken colon ∷ (OfToken label ∷ []))))))
 
 -- I .. I
 abbrev pub steps_owed : Stack
@@ -72,26 +84,92 @@ steps_owed = Do NoSteps ∷ (Nt MoreSteps ∷ [])
 pub record ReadsSteps (ts : List Token) (i : ℕ) (f : FoundSteps) : Type 0 where
   pub forward : i ≤ f.next
   pub in_range : f.next ≤ length ts
-  pub same : Goes table 2000 ts 0 i steps_owed [] f.next [] (OfSteps (map raw_step f.steps.items) ∷ [])
+  pub same : Goes table most_open ts 0 i steps_owed [] f.next [] (OfSteps (map raw_step f.steps.items) ∷ [])
 
 -- some instructions were read, and there may be more
 pub record ReadsSomeSteps (ts : List Token) (i j : ℕ) (is : List (tree.RawInstr × Span)) : Type 0 where
   pub forward : i ≤ j
   pub in_range : j ≤ length ts
-  pub same : Goes table 2000 ts 0 i steps_owed [] j (Nt MoreSteps ∷ []) (OfSteps is ∷ [])
+  pub same : Goes table most_open ts 0 i steps_owed [] j (Nt MoreSteps ∷ []) (OfSteps is ∷ [])
 
 -- some blocks were read, and there may be more
 pub record ReadsSomeBlocks (ts : List Token) (j : ℕ) (bs : List tree.RawBlock) : Type 0 where
   pub tal : Token
   pub one : Token
   pub in_range : j ≤ length ts
-  pub same : Goes table 2000 ts 0 0 (Nt LProgram ∷ []) [] j (Nt MoreBlocks ∷ (Do MakeProgram ∷ [])) (OfBlocks bs ∷ (OfToken one ∷ (OfToken tal ∷ [])))
+  pub same : Goes table most_open ts 0 0 (Nt LProgram ∷ []) [] j
+      (Nt MoreBlocks ∷ (Do MakeProgram ∷ [])) (OfBlocks bs ∷ (OfToken one ∷ (OfToken tal ∷ [])))
 
 -- all the tokens are a program, with these blocks; or the reading of them stops
 abbrev pub IsProgram : List Token → List RawBlock → Type 0
-IsProgram ts bs = bounded table 2000 ts (whole table ts) ≡ Fine (OfBlocks (raw_blocks bs) ∷ [])
+IsProgram ts bs = bounded table most_open ts (whole table ts) ≡ Fine (OfBlocks (raw_blocks bs) ∷ [])
 
 abbrev pub IsStop : List Token → Stopped → Type 0
 IsStop ts Memory = Unit {0}
-IsStop ts (Unexpected j) = bounded table 2000 ts (whole table ts) ≡ table_of.Unexpected (drop j ts)
-IsStop ts (TooDeep j) = bounded table 2000 ts (whole table ts) ≡ table_of.Passed (drop j ts)
+IsStop ts (Unexpected j) = bounded table most_open ts (whole table ts) ≡ table_of.Unexpected (drop j ts)
+IsStop ts (TooDeep j) = bounded table most_open ts (whole table ts) ≡ table_of.Passed (drop j ts)
+
+-- The answers of the reading functions, from the token i on. Around values d constructs are open, and around the parts
+-- of instructions and blocks none.
+
+-- types in brackets; after the opening bracket; and after it where there is one at least
+abbrev pub IsTypesLine : Line → List Token → ℕ → ℕ → Result FoundTypes Stopped → Type 0
+IsTypesLine n ts d i r = IsLine n (λ f. f.next) (λ f. OfList (ending (map raw f.types.items) f.end)) ts d i r
+
+abbrev pub IsTypes : List Token → ℕ → ℕ → Result FoundTypes Stopped → Type 0
+IsTypes ts d i r = IsTypesLine LTypes ts d i r
+
+abbrev pub IsTypeList : List Token → ℕ → ℕ → Result FoundTypes Stopped → Type 0
+IsTypeList ts d i r = IsTypesLine LTypeList ts d i r
+
+abbrev pub IsSomeTypes : List Token → ℕ → ℕ → Result FoundTypes Stopped → Type 0
+IsSomeTypes ts d i r = IsTypesLine LSomeTypes ts d i r
+
+-- a value, and the brackets of a package
+abbrev pub IsValue : List Token → ℕ → ℕ → Result FoundValue Stopped → Type 0
+IsValue ts d i r = IsLine LV (λ f. f.next) (λ f. OfValue (ending (raw_value f.value) f.end)) ts d i r
+
+abbrev pub IsPacked : List Token → ℕ → ℕ → Result FoundPacked Stopped → Type 0
+IsPacked ts d i r =
+    IsLine LPacked (λ f. f.next) (λ f. OfPacked (record { hidden = raw f.hidden; inner = raw_value f.inner })) ts d i r
+
+-- [ n ]
+abbrev pub IsIndex : List Token → ℕ → Result FoundIndex Stopped → Type 0
+IsIndex ts i r = IsLine LIndex (λ f. i + 3) (λ f. OfIndex (ending f.field f.end)) ts 0 i r
+
+-- reg [ n ]
+abbrev pub IsPlace : List Token → ℕ → Result FoundPlace Stopped → Type 0
+IsPlace ts i r =
+    IsLine LAt (λ f. i + 4) (λ f. OfAt (record { reg = f.reg; field = f.field; end = f.end })) ts 0 i r
+
+-- [ name , reg ]
+abbrev pub IsTarget : List Token → ℕ → Result FoundTarget Stopped → Type 0
+IsTarget ts i r = IsLine LTarget (λ f. i + 5) (λ f. OfTarget (record { name = f.name; reg = f.reg })) ts 0 i r
+
+-- [ int ]
+abbrev pub IsInt : List Token → ℕ → Result ℕ Stopped → Type 0
+IsInt ts i r = IsLine LInt (λ end. i + 3) (λ end. OfPlace end) ts 0 i r
+
+-- reg ,
+abbrev pub IsOperand : List Token → ℕ → Result ℕ Stopped → Type 0
+IsOperand ts i r = IsLine LTo (λ reg. i + 2) (λ reg. OfReg reg) ts 0 i r
+
+-- what is left of an instruction after its word
+abbrev pub IsRest : Stack → List Token → ℕ → Token → Result FoundStep Stopped → Type 0
+IsRest left ts i word r =
+    MatchResult r (λ f. ReadsStep left ts i word f) (λ e. Fails ts 0 i left (OfToken word ∷ []) e)
+
+abbrev pub IsStep : List Token → ℕ → Result FoundStep Stopped → Type 0
+IsStep ts i r = IsLine LI (λ f. f.next) (λ f. OfStep (raw_step f.step)) ts 0 i r
+
+abbrev pub IsEnd : List Token → ℕ → Result FoundEnd Stopped → Type 0
+IsEnd ts i r = IsLine LEnd (λ f. f.next) (λ f. OfEnd (raw_last f.last)) ts 0 i r
+
+abbrev pub IsHead : List Token → ℕ → Result FoundHead Stopped → Type 0
+IsHead ts i r = MatchResult r (λ f. ReadsHead ts i f) (λ e. Fails ts 0 i head_owed [] e)
+
+abbrev pub AreSteps : List Token → ℕ → Result FoundSteps Stopped → Type 0
+AreSteps ts i r = MatchResult r (λ f. ReadsSteps ts i f) (λ e. Fails ts 0 i steps_owed [] e)
+
+abbrev pub IsBlock : List Token → ℕ → Result FoundBlock Stopped → Type 0
+IsBlock ts i r = IsLine LBlock (λ f. f.next) (λ f. OfBlock (raw_block f.block)) ts 0 i r

@@ -1,10 +1,6 @@
 // The reading of blocks.
-ghost use Rattle.std.specs.Prelude.{◌≤◌, [], ◌∷◌, length, MatchResult};
-ghost use Rattle.text_core.specs.Table.{Nt};
-ghost use Rattle.t_terms.specs.Machine.{LBlock, OfBlock};
-ghost use Rattle.t_grammar.specs.Reads.{Reads, Fails};
-ghost use Rattle.t_shapes.specs.Raw.{raw_block};
-ghost use Rattle.t_shapes.specs.Reads.{ReadsSteps, steps_owed};
+ghost use Rattle.std.specs.Prelude.{◌≤◌, length};
+ghost use Rattle.t_shapes.specs.Reads.{AreSteps, IsBlock};
 
 use crate::ends::end;
 use crate::heads::head;
@@ -32,7 +28,7 @@ pub struct FoundBlock {
 // I .. I, any number of them
 fn steps(alloc: Global, tokens: &[Token], at: usize) -> Result<FoundSteps, Stopped>
     requires { at ≤ length tokens.now }
-    ensures { MatchResult result (λ f. ReadsSteps tokens.now at f) (λ e. Fails tokens.now 0 at steps_owed [] e) }
+    ensures { AreSteps tokens.now at result }
 {
     let mut steps = Vec::new(alloc);
     let mut next = at;
@@ -47,7 +43,7 @@ fn steps(alloc: Global, tokens: &[Token], at: usize) -> Result<FoundSteps, Stopp
 /// Block ::= label : code [ names ] File . I .. I End
 pub fn block(alloc: Global, tokens: &[Token], at: usize) -> Result<FoundBlock, Stopped>
     requires { at ≤ length tokens.now }
-    ensures { MatchResult result (λ f. Reads LBlock tokens.now 0 at f.next (OfBlock (raw_block f.block) ∷ [])) (λ e. Fails tokens.now 0 at (Nt LBlock ∷ []) [] e) }
+    ensures { IsBlock tokens.now at result }
 {
     let head = head(alloc, tokens, at)?;
     let body = steps(alloc, tokens, head.next)?;

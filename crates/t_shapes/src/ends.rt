@@ -1,9 +1,6 @@
 // The reading of the ends of blocks.
-ghost use Rattle.std.specs.Prelude.{◌≤◌, [], ◌∷◌, length, MatchResult};
-ghost use Rattle.text_core.specs.Table.{Nt};
-ghost use Rattle.t_terms.specs.Machine.{LEnd, OfEnd};
-ghost use Rattle.t_grammar.specs.Reads.{Reads, Fails};
-ghost use Rattle.t_shapes.specs.Raw.{raw_last};
+ghost use Rattle.std.specs.Prelude.{◌≤◌, length};
+ghost use Rattle.t_shapes.specs.Reads.{IsEnd};
 
 use crate::parts::int;
 use crate::raw::RawEnd;
@@ -24,7 +21,7 @@ pub struct FoundEnd {
 /// End ::= jmp V | halt [ int ]
 pub fn end(alloc: Global, tokens: &[Token], at: usize) -> Result<FoundEnd, Stopped>
     requires { at ≤ length tokens.now }
-    ensures { MatchResult result (λ f. Reads LEnd tokens.now 0 at f.next (OfEnd (raw_last f.last) ∷ [])) (λ e. Fails tokens.now 0 at (Nt LEnd ∷ []) [] e) }
+    ensures { IsEnd tokens.now at result }
 {
     let word = match peek(tokens, at) {
         Some(word) => word,

@@ -1,7 +1,6 @@
 // The reading of the heads of blocks.
-ghost use Rattle.std.specs.Prelude.{◌≤◌, [], ◌∷◌, length, MatchResult};
-ghost use Rattle.t_grammar.specs.Reads.{Fails};
-ghost use Rattle.t_shapes.specs.Reads.{ReadsHead, head_owed};
+ghost use Rattle.std.specs.Prelude.{◌≤◌, length};
+ghost use Rattle.t_shapes.specs.Reads.{IsHead};
 
 use idx_core::Span;
 use std::alloc::Global;
@@ -20,7 +19,7 @@ pub struct FoundHead {
 /// label : code [ names ] File .
 pub fn head(alloc: Global, tokens: &[Token], at: usize) -> Result<FoundHead, Stopped>
     requires { at ≤ length tokens.now }
-    ensures { MatchResult result (λ f. ReadsHead tokens.now at f) (λ e. Fails tokens.now 0 at head_owed [] e) }
+    ensures { IsHead tokens.now at result }
 {
     let label = expect(tokens, at, Wanted::Name)?;
     expect_two(tokens, at + 1, Wanted::Colon, Wanted::Code)?;

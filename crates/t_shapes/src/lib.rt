@@ -2,15 +2,17 @@
 //! resolved.
 #![tactic(auto)]
 
-pub mod blocks;
-pub mod ends;
-pub mod heads;
-pub mod lists;
-pub mod parts;
-pub mod raw;
-pub mod steps;
-pub mod values;
-pub mod whole;
+mod blocks;
+mod ends;
+mod heads;
+mod lists;
+mod parts;
+mod raw;
+mod steps;
+#[cfg(test)]
+mod tests;
+mod values;
+mod whole;
 
 pub use raw::{RawBase, RawBlock, RawEnd, RawInstr, RawPack, RawValue};
 pub use whole::program;

@@ -1,10 +1,7 @@
 // The reading of lists of types.
-ghost use Rattle.std.specs.Prelude.{◌≡◌, ◌≤◌, [], ◌∷◌, length, map, MatchResult};
-ghost use Rattle.text_core.specs.Table.{Nt};
-ghost use Rattle.t_terms.specs.Raw.{ending};
-ghost use Rattle.t_terms.specs.Machine.{LTypes, LTypeList, LSomeTypes, OfList};
-ghost use Rattle.t_grammar.specs.Raw.{raw};
-ghost use Rattle.t_grammar.specs.Reads.{Reads, Fails};
+ghost use Rattle.std.specs.Prelude.{◌≤◌, length};
+ghost use Rattle.t_terms.specs.Text.{most_open};
+ghost use Rattle.t_shapes.specs.Reads.{IsTypes, IsTypeList, IsSomeTypes};
 
 use std::alloc::Global;
 use t_grammar::{RawType, Stopped, expect, opened, take, whole_type};
@@ -20,9 +17,9 @@ pub struct FoundTypes {
 
 /// [ ] or [ T , .. , T ]
 pub fn types(alloc: Global, tokens: &[Token], at: usize, depth: u64) -> Result<FoundTypes, Stopped>
-    requires depth { depth ≤ 2000 }
+    requires depth { depth ≤ most_open }
     requires at { at ≤ length tokens.now }
-    ensures { MatchResult result (λ f. Reads LTypes tokens.now depth at f.next (OfList (ending (map raw f.types.items) f.end) ∷ [])) (λ e. Fails tokens.now depth at (Nt LTypes ∷ []) [] e) }
+    ensures { IsTypes tokens.now depth at result }
 {
     expect(tokens, at, Wanted::LeftBracket)?;
     let inner = opened(at, depth)?;
@@ -32,9 +29,9 @@ pub fn types(alloc: Global, tokens: &[Token], at: usize, depth: u64) -> Result<F
 
 // types and the closing bracket, or the bracket alone
 fn type_list(alloc: Global, tokens: &[Token], at: usize, depth: u64) -> Result<FoundTypes, Stopped>
-    requires depth { depth ≤ 2000 }
+    requires depth { depth ≤ most_open }
     requires at { at ≤ length tokens.now }
-    ensures { MatchResult result (λ f. Reads LTypeList tokens.now depth at f.next (OfList (ending (map raw f.types.items) f.end) ∷ [])) (λ e. Fails tokens.now depth at (Nt LTypeList ∷ []) [] e) }
+    ensures { IsTypeList tokens.now depth at result }
 {
     if let Some(close) = take(tokens, at, Wanted::RightBracket) {
         return Ok(FoundTypes {
@@ -54,9 +51,9 @@ pub fn some_types(
     at: usize,
     depth: u64,
 ) -> Result<FoundTypes, Stopped>
-    requires depth { depth ≤ 2000 }
+    requires depth { depth ≤ most_open }
     requires at { at ≤ length tokens.now }
-    ensures { MatchResult result (λ f. Reads LSomeTypes tokens.now depth at f.next (OfList (ending (map raw f.types.items) f.end) ∷ [])) (λ e. Fails tokens.now depth at (Nt LSomeTypes ∷ []) [] e) }
+    ensures { IsSomeTypes tokens.now depth at result }
 {
     let mut types = Vec::new(alloc);
     let first = whole_type(alloc, tokens, at, depth)?;

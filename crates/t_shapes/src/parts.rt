@@ -1,13 +1,10 @@
 // The reading of what stands in brackets of instructions. There no construct is open around.
-ghost use Rattle.std.specs.Prelude.{◌≡◌, ◌≤◌, ◌+◌, [], ◌∷◌, length, nat_abs, MatchResult};
-ghost use Rattle.text_core.specs.Table.{Nt};
-ghost use Rattle.t_terms.specs.Raw.{ending};
-ghost use Rattle.t_terms.specs.Machine.{LIndex, LAt, LTarget, LInt, OfIndex, OfAt, OfTarget, OfPlace, value_of};
-ghost use Rattle.t_grammar.specs.Reads.{Reads, Fails};
+ghost use Rattle.std.specs.Prelude.{◌≤◌, length};
+ghost use Rattle.t_shapes.specs.Reads.{IsIndex, IsPlace, IsTarget, IsInt, IsOperand};
 
 use idx_core::Span;
-use t_grammar::{Stopped, expect, expect_two, register_number};
-use t_terms::{Kind, Token, Wanted};
+use t_grammar::{Stopped, expect, expect_index, expect_register, expect_two};
+use t_terms::{Token, Wanted};
 
 /// A number in brackets, and the end of the closing bracket.
 #[derive(Drop)]
@@ -31,26 +28,16 @@ pub struct FoundTarget {
     pub reg: u64,
 }
 
-// the absolute value of a number token, and 0 of any other
-fn magnitude(token: Token) -> u64
-    ensures { result ≡ nat_abs (value_of token.kind) }
-{
-    match token.kind {
-        Kind::Plain(value) => value.unsigned_abs(),
-        Kind::Negative(value) => value.unsigned_abs(),
-        _ => 0,
-    }
-}
-
 /// [ n ]
 pub fn index(tokens: &[Token], at: usize) -> Result<FoundIndex, Stopped>
     requires { at ≤ length tokens.now }
-    ensures { MatchResult result (λ f. Reads LIndex tokens.now 0 at (at + 3) (OfIndex (ending f.field f.end) ∷ [])) (λ e. Fails tokens.now 0 at (Nt LIndex ∷ []) [] e) }
+    ensures { IsIndex tokens.now at result }
 {
     expect(tokens, at, Wanted::LeftBracket)?;
-    let (number, close) = expect_two(tokens, at + 1, Wanted::Number, Wanted::RightBracket)?;
+    let field = expect_index(tokens, at + 1)?;
+    let close = expect(tokens, at + 2, Wanted::RightBracket)?;
     Ok(FoundIndex {
-        field: magnitude(number),
+        field,
         end: close.span.end,
     })
 }
@@ -58,12 +45,12 @@ pub fn index(tokens: &[Token], at: usize) -> Result<FoundIndex, Stopped>
 /// reg [ n ]
 pub fn place(tokens: &[Token], at: usize) -> Result<FoundPlace, Stopped>
     requires { at ≤ length tokens.now }
-    ensures { MatchResult result (λ f. Reads LAt tokens.now 0 at (at + 4) (OfAt (record { reg = f.reg; field = f.field; end = f.end }) ∷ [])) (λ e. Fails tokens.now 0 at (Nt LAt ∷ []) [] e) }
+    ensures { IsPlace tokens.now at result }
 {
-    let reg = expect(tokens, at, Wanted::Register)?;
+    let (reg, _) = expect_register(tokens, at)?;
     let found = index(tokens, at + 1)?;
     Ok(FoundPlace {
-        reg: register_number(reg),
+        reg,
         field: found.field,
         end: found.end,
     })
@@ -72,23 +59,34 @@ pub fn place(tokens: &[Token], at: usize) -> Result<FoundPlace, Stopped>
 /// [ name , reg ]
 pub fn target(tokens: &[Token], at: usize) -> Result<FoundTarget, Stopped>
     requires { at ≤ length tokens.now }
-    ensures { MatchResult result (λ f. Reads LTarget tokens.now 0 at (at + 5) (OfTarget (record { name = f.name; reg = f.reg }) ∷ [])) (λ e. Fails tokens.now 0 at (Nt LTarget ∷ []) [] e) }
+    ensures { IsTarget tokens.now at result }
 {
     expect(tokens, at, Wanted::LeftBracket)?;
     let (name, _) = expect_two(tokens, at + 1, Wanted::Name, Wanted::Comma)?;
-    let (reg, _) = expect_two(tokens, at + 3, Wanted::Register, Wanted::RightBracket)?;
+    let (reg, _) = expect_register(tokens, at + 3)?;
+    expect(tokens, at + 4, Wanted::RightBracket)?;
     Ok(FoundTarget {
         name: name.span,
-        reg: register_number(reg),
+        reg,
     })
 }
 
 /// [ int ], of which the end of the closing bracket is left.
 pub fn int(tokens: &[Token], at: usize) -> Result<u64, Stopped>
     requires { at ≤ length tokens.now }
-    ensures { MatchResult result (λ end. Reads LInt tokens.now 0 at (at + 3) (OfPlace end ∷ [])) (λ e. Fails tokens.now 0 at (Nt LInt ∷ []) [] e) }
+    ensures { IsInt tokens.now at result }
 {
     expect(tokens, at, Wanted::LeftBracket)?;
     let (_, close) = expect_two(tokens, at + 1, Wanted::Int, Wanted::RightBracket)?;
     Ok(close.span.end)
+}
+
+/// reg , of which the number of the register is left.
+pub fn operand(tokens: &[Token], at: usize) -> Result<u64, Stopped>
+    requires { at ≤ length tokens.now }
+    ensures { IsOperand tokens.now at result }
+{
+    let (reg, _) = expect_register(tokens, at)?;
+    expect(tokens, at + 1, Wanted::Comma)?;
+    Ok(reg)
 }

@@ -1,18 +1,15 @@
 // The reading of instructions. Around them no construct is open.
-ghost use Rattle.std.specs.Prelude.{◌≡◌, ◌≤◌, ◌<◌, [], ◌∷◌, length, slice_get, is_some, MatchResult};
-ghost use Rattle.text_core.specs.Table.{Nt};
-ghost use Rattle.t_terms.specs.Machine.{LI, OfToken, OfStep, instr_after};
-ghost use Rattle.t_grammar.specs.Reads.{Reads, Fails};
-ghost use Rattle.t_shapes.specs.Raw.{raw_step};
-ghost use Rattle.t_shapes.specs.Reads.{ReadsStep, step_next, arith_left, bnz_left, ld_left, malloc_left, mov_left, st_left, unpack_left};
+ghost use Rattle.std.specs.Prelude.{◌≡◌, ◌≤◌, ◌<◌, length, slice_get, is_some};
+ghost use Rattle.t_terms.specs.Machine.{instr_after};
+ghost use Rattle.t_shapes.specs.Reads.{IsRest, IsStep, step_next, arith_left, bnz_left, ld_left, malloc_left, mov_left, st_left, unpack_left};
 
 use crate::lists::types;
-use crate::parts::{place, target};
+use crate::parts::{operand, place, target};
 use crate::raw::RawInstr;
 use crate::values::value;
 use idx_core::{Op, Span};
 use std::alloc::Global;
-use t_grammar::{Stopped, expect, expect_two, peek, register_number};
+use t_grammar::{Stopped, expect, expect_register, peek};
 use t_terms::{Kind, Token, Wanted};
 
 /// An instruction that was read, with its place, and the number of the token after it.
@@ -41,14 +38,16 @@ fn arith(
     op: Op,
 ) -> Result<FoundStep, Stopped>
     requires { at ≤ length tokens.now }
-    ensures { MatchResult result (λ f. ReadsStep (arith_left op) tokens.now at word f) (λ e. Fails tokens.now 0 at (arith_left op) (OfToken word ∷ []) e) }
+    ensures { IsRest (arith_left op) tokens.now at word result }
 {
-    let (rd, _) = expect_two(tokens, at, Wanted::Register, Wanted::Comma)?;
-    let (rs, _) = expect_two(tokens, at + 2, Wanted::Register, Wanted::Comma)?;
+    let rd = operand(tokens, at)?;
+    let rs = operand(tokens, at + 2)?;
     let found = value(alloc, tokens, at + 4, 0)?;
-    let instr = RawInstr::Arith(op, register_number(rd), register_number(rs), found.value);
     Ok(FoundStep {
-        step: (instr, up_to(word, found.end)),
+        step: (
+            RawInstr::Arith(op, rd, rs, found.value),
+            up_to(word, found.end),
+        ),
         next: found.next,
     })
 }
@@ -56,13 +55,12 @@ fn arith(
 // reg , V
 fn bnz(alloc: Global, tokens: &[Token], at: usize, word: Token) -> Result<FoundStep, Stopped>
     requires { at ≤ length tokens.now }
-    ensures { MatchResult result (λ f. ReadsStep bnz_left tokens.now at word f) (λ e. Fails tokens.now 0 at bnz_left (OfToken word ∷ []) e) }
+    ensures { IsRest bnz_left tokens.now at word result }
 {
-    let (reg, _) = expect_two(tokens, at, Wanted::Register, Wanted::Comma)?;
+    let reg = operand(tokens, at)?;
     let found = value(alloc, tokens, at + 2, 0)?;
-    let instr = RawInstr::Bnz(register_number(reg), found.value);
     Ok(FoundStep {
-        step: (instr, up_to(word, found.end)),
+        step: (RawInstr::Bnz(reg, found.value), up_to(word, found.end)),
         next: found.next,
     })
 }
@@ -70,13 +68,12 @@ fn bnz(alloc: Global, tokens: &[Token], at: usize, word: Token) -> Result<FoundS
 // reg , V
 fn mov(alloc: Global, tokens: &[Token], at: usize, word: Token) -> Result<FoundStep, Stopped>
     requires { at ≤ length tokens.now }
-    ensures { MatchResult result (λ f. ReadsStep mov_left tokens.now at word f) (λ e. Fails tokens.now 0 at mov_left (OfToken word ∷ []) e) }
+    ensures { IsRest mov_left tokens.now at word result }
 {
-    let (reg, _) = expect_two(tokens, at, Wanted::Register, Wanted::Comma)?;
+    let reg = operand(tokens, at)?;
     let found = value(alloc, tokens, at + 2, 0)?;
-    let instr = RawInstr::Mov(register_number(reg), found.value);
     Ok(FoundStep {
-        step: (instr, up_to(word, found.end)),
+        step: (RawInstr::Mov(reg, found.value), up_to(word, found.end)),
         next: found.next,
     })
 }
@@ -84,13 +81,15 @@ fn mov(alloc: Global, tokens: &[Token], at: usize, word: Token) -> Result<FoundS
 // reg , reg [ n ]
 fn ld(tokens: &[Token], at: usize, word: Token) -> Result<FoundStep, Stopped>
     requires { at ≤ length tokens.now }
-    ensures { MatchResult result (λ f. ReadsStep ld_left tokens.now at word f) (λ e. Fails tokens.now 0 at ld_left (OfToken word ∷ []) e) }
+    ensures { IsRest ld_left tokens.now at word result }
 {
-    let (reg, _) = expect_two(tokens, at, Wanted::Register, Wanted::Comma)?;
+    let reg = operand(tokens, at)?;
     let found = place(tokens, at + 2)?;
-    let instr = RawInstr::Ld(register_number(reg), found.reg, found.field);
     Ok(FoundStep {
-        step: (instr, up_to(word, found.end)),
+        step: (
+            RawInstr::Ld(reg, found.reg, found.field),
+            up_to(word, found.end),
+        ),
         next: at + 6,
     })
 }
@@ -98,13 +97,12 @@ fn ld(tokens: &[Token], at: usize, word: Token) -> Result<FoundStep, Stopped>
 // reg [ T , .. , T ]
 fn malloc(alloc: Global, tokens: &[Token], at: usize, word: Token) -> Result<FoundStep, Stopped>
     requires { at ≤ length tokens.now }
-    ensures { MatchResult result (λ f. ReadsStep malloc_left tokens.now at word f) (λ e. Fails tokens.now 0 at malloc_left (OfToken word ∷ []) e) }
+    ensures { IsRest malloc_left tokens.now at word result }
 {
-    let reg = expect(tokens, at, Wanted::Register)?;
+    let (reg, _) = expect_register(tokens, at)?;
     let found = types(alloc, tokens, at + 1, 0)?;
-    let instr = RawInstr::Malloc(register_number(reg), found.types);
     Ok(FoundStep {
-        step: (instr, up_to(word, found.end)),
+        step: (RawInstr::Malloc(reg, found.types), up_to(word, found.end)),
         next: found.next,
     })
 }
@@ -112,13 +110,16 @@ fn malloc(alloc: Global, tokens: &[Token], at: usize, word: Token) -> Result<Fou
 // reg [ n ] , reg
 fn st(tokens: &[Token], at: usize, word: Token) -> Result<FoundStep, Stopped>
     requires { at ≤ length tokens.now }
-    ensures { MatchResult result (λ f. ReadsStep st_left tokens.now at word f) (λ e. Fails tokens.now 0 at st_left (OfToken word ∷ []) e) }
+    ensures { IsRest st_left tokens.now at word result }
 {
     let found = place(tokens, at)?;
-    let (_, reg) = expect_two(tokens, at + 4, Wanted::Comma, Wanted::Register)?;
-    let instr = RawInstr::St(found.reg, found.field, register_number(reg));
+    expect(tokens, at + 4, Wanted::Comma)?;
+    let (reg, span) = expect_register(tokens, at + 5)?;
     Ok(FoundStep {
-        step: (instr, up_to(word, reg.span.end)),
+        step: (
+            RawInstr::St(found.reg, found.field, reg),
+            up_to(word, span.end),
+        ),
         next: at + 6,
     })
 }
@@ -126,14 +127,16 @@ fn st(tokens: &[Token], at: usize, word: Token) -> Result<FoundStep, Stopped>
 // [ name , reg ] , V
 fn unpack(alloc: Global, tokens: &[Token], at: usize, word: Token) -> Result<FoundStep, Stopped>
     requires { at ≤ length tokens.now }
-    ensures { MatchResult result (λ f. ReadsStep unpack_left tokens.now at word f) (λ e. Fails tokens.now 0 at unpack_left (OfToken word ∷ []) e) }
+    ensures { IsRest unpack_left tokens.now at word result }
 {
     let to = target(tokens, at)?;
     expect(tokens, at + 5, Wanted::Comma)?;
     let found = value(alloc, tokens, at + 6, 0)?;
-    let instr = RawInstr::Unpack(to.name, to.reg, found.value);
     Ok(FoundStep {
-        step: (instr, up_to(word, found.end)),
+        step: (
+            RawInstr::Unpack(to.name, to.reg, found.value),
+            up_to(word, found.end),
+        ),
         next: found.next,
     })
 }
@@ -169,7 +172,7 @@ fn is_instruction(kind: Kind) -> bool
 /// | malloc reg [ T , .. , T ] | mov reg , V | st reg [ n ] , reg | unpack [ name , reg ] , V
 pub fn step(alloc: Global, tokens: &[Token], at: usize) -> Result<FoundStep, Stopped>
     requires { at ≤ length tokens.now }
-    ensures { MatchResult result (λ f. Reads LI tokens.now 0 at f.next (OfStep (raw_step f.step) ∷ [])) (λ e. Fails tokens.now 0 at (Nt LI ∷ []) [] e) }
+    ensures { IsStep tokens.now at result }
 {
     let word = match peek(tokens, at) {
         Some(word) => word,

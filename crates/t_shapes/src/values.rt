@@ -1,12 +1,12 @@
 // The reading of values.
-ghost use Rattle.std.specs.Prelude.{◌≡◌, ◌≤◌, [], ◌∷◌, length, slice_get, Some, true, false, MatchOption, MatchResult};
-ghost use Rattle.text_core.specs.Table.{Nt};
-ghost use Rattle.t_terms.specs.Raw.{RPack, ending};
-ghost use Rattle.t_terms.specs.Machine.{LV, LPacked, OfValue, OfPacked, base_of, value_after, base_owed};
+ghost use Rattle.std.specs.Prelude.{◌≡◌, ◌≤◌, length, slice_get, Some, true, false, MatchOption, MatchResult};
+ghost use Rattle.t_terms.specs.Raw.{RPack};
+ghost use Rattle.t_terms.specs.Machine.{base_of};
+ghost use Rattle.t_terms.specs.Text.{most_open};
 ghost use Rattle.t_grammar.specs.Raw.{raw};
-ghost use Rattle.t_grammar.specs.Reads.{Reads, Fails};
 ghost use Rattle.t_grammar.specs.declared.cursor.Stopped.TheVariants as stopped;
 ghost use Rattle.t_shapes.specs.Raw.{raw_base, raw_value, is_base};
+ghost use Rattle.t_shapes.specs.Reads.{IsValue, IsPacked};
 
 use crate::lists::some_types;
 use crate::raw::{RawBase, RawPack, RawValue};
@@ -32,7 +32,8 @@ pub struct FoundPacked {
 
 // N ::= reg | number | label
 fn base(token: Token) -> Option<RawBase>
-    ensures { MatchOption result (is_base token.kind ≡ false) (λ b. (is_base token.kind ≡ true) × (raw_base b ≡ base_of token.kind token.span)) }
+    ensures { MatchOption result (is_base token.kind ≡ false)
+        (λ b. (is_base token.kind ≡ true) × (raw_base b ≡ base_of token.kind token.span)) }
 {
     match token.kind {
         Kind::Register(number) => Some(RawBase::Reg(number)),
@@ -49,7 +50,9 @@ fn package(
     inner: RawValue,
     shape: RawType,
 ) -> Result<RawValue, Stopped>
-    ensures { MatchResult result (λ v. raw_value v ≡ RPack (raw hidden) (raw_value inner) (raw shape)) (λ e. e ≡ stopped.Memory) }
+    ensures { MatchResult result
+        (λ v. raw_value v ≡ RPack (raw hidden) (raw_value inner) (raw shape))
+        (λ e. e ≡ stopped.Memory) }
 {
     Ok(RawValue::Pack(Box::new(
         alloc,
@@ -70,11 +73,11 @@ fn plain(
     token: Token,
     base: RawBase,
 ) -> Result<FoundValue, Stopped>
-    requires depth { depth ≤ 2000 }
+    requires depth { depth ≤ most_open }
     requires token { slice_get tokens.now at ≡ Some token }
     requires kind { is_base token.kind ≡ true }
     requires base { raw_base base ≡ base_of token.kind token.span }
-    ensures { MatchResult result (λ f. Reads LV tokens.now depth at f.next (OfValue (ending (raw_value f.value) f.end) ∷ [])) (λ e. Fails tokens.now depth at (Nt LV ∷ []) [] e) }
+    ensures { IsValue tokens.now depth at result }
 {
     let next = at + 1;
     match take(tokens, next, Wanted::LeftBracket) {
@@ -98,9 +101,9 @@ fn plain(
 /// V ::= N | N [ T , .. , T ] | pack [ T , V ] as T
 #[cycle(values)]
 pub fn value(alloc: Global, tokens: &[Token], at: usize, depth: u64) -> Result<FoundValue, Stopped>
-    requires depth { depth ≤ 2000 }
+    requires depth { depth ≤ most_open }
     requires at { at ≤ length tokens.now }
-    ensures { MatchResult result (λ f. Reads LV tokens.now depth at f.next (OfValue (ending (raw_value f.value) f.end) ∷ [])) (λ e. Fails tokens.now depth at (Nt LV ∷ []) [] e) }
+    ensures { IsValue tokens.now depth at result }
 {
     let token = match peek(tokens, at) {
         Some(token) => token,
@@ -129,9 +132,9 @@ pub fn value(alloc: Global, tokens: &[Token], at: usize, depth: u64) -> Result<F
 // [ T , V ]
 #[cycle(values)]
 fn packed(alloc: Global, tokens: &[Token], at: usize, depth: u64) -> Result<FoundPacked, Stopped>
-    requires depth { depth ≤ 2000 }
+    requires depth { depth ≤ most_open }
     requires at { at ≤ length tokens.now }
-    ensures { MatchResult result (λ f. Reads LPacked tokens.now depth at f.next (OfPacked (record { hidden = raw f.hidden; inner = raw_value f.inner }) ∷ [])) (λ e. Fails tokens.now depth at (Nt LPacked ∷ []) [] e) }
+    ensures { IsPacked tokens.now depth at result }
 {
     expect(tokens, at, Wanted::LeftBracket)?;
     let inner = opened(at, depth)?;

@@ -1,5 +1,6 @@
-use Rattle.std.proofs.Common.{[], ◌∷◌, refl, arith}
+use Rattle.std.proofs.Common.{ℕ, [], ◌∷◌, refl, ap, arith}
 use Rattle.std.proofs.lemmas.Result.{err_from_is_err_and}
+use Rattle.idx_core.specs.declared.span.Span.{Span}
 use Rattle.text_core.specs.Table.{Nt, Do}
 use Rattle.t_terms.specs.declared.wanted.Wanted.TheVariants as want
 use Rattle.t_terms.specs.Machine.{MakeAt, LIndex}
@@ -18,13 +19,13 @@ pub index-requires : goal.index-requires
 index-requires c =
     let ts = c.args.tokens.now in
     let i = c.args.at in
-    let l = within ts i want.Register _ c.in_ok-reg.ensures in omega (arith, l)
+    let l = within ts i want.Register _ c.in_ok-reg.ensures.1 in omega (arith, l)
 
 pub returns-in_err-found : goal.returns-in_err-found
 returns-in_err-found c =
     let ts = c.args.tokens.now in
     let i = c.args.at in
-    let m = by_token want.Register _ (Nt LIndex ∷ (Do MakeAt ∷ [])) [] (at_goes ts i) c.in_ok-reg.ensures (omega arith) in
+    let m = by_token want.Register c.in_ok-reg.ensures.0 (Nt LIndex ∷ (Do MakeAt ∷ [])) [] (at_goes ts i) c.in_ok-reg.ensures.1 (omega arith) in
     let p = err_from_is_err_and c.from_residual-in_err-found.result c.from_residual-in_err-found.ensures.1 in
     rw (p.1, p.2) (stop_call _ (Nt LIndex ∷ []) 0 (Do MakeAt ∷ []) _ m (omega arith) c.in_err-found.ensures)
 
@@ -32,9 +33,10 @@ pub returns : goal.returns
 returns c =
     let ts = c.args.tokens.now in
     let i = c.args.at in
-    let m = by_token want.Register _ (Nt LIndex ∷ (Do MakeAt ∷ [])) [] (at_goes ts i) c.in_ok-reg.ensures (omega arith) in
+    let m = by_token want.Register c.in_ok-reg.ensures.0 (Nt LIndex ∷ (Do MakeAt ∷ [])) [] (at_goes ts i) c.in_ok-reg.ensures.1 (omega arith) in
     let r = c.in_ok-found.ensures in
-    rw c.register_number.ensures (record {
+    let e = ap (λ (p : ℕ × Span). p.0) c.in_ok-reg.ensures.2 in
+    rw e (record {
       forward = omega arith;
       in_range = omega (arith, r.in_range);
       same = by_same (omega arith) (by_do MakeAt [] _ _ (by_call 0 (Do MakeAt ∷ []) _ m (omega arith) r.same) (λ below. refl));

@@ -1,10 +1,9 @@
 use Rattle.std.proofs.Common.{[], ◌∷◌, ◌+◌, refl, arith}
 use Rattle.std.proofs.lemmas.Result.{err_from_is_err_and}
 use Rattle.text_core.specs.Table.{Nt, Do}
-use Rattle.t_terms.specs.declared.wanted.Wanted.TheVariants as want
 use Rattle.t_terms.specs.Machine.{LV, LTo, MakeArith, OfToken}
-use Rattle.t_grammar.proofs.Stepping.{within, by_call, by_do, by_same, stop_call}
-use Rattle.t_shapes.proofs.Bracketed.{starting, to_read, to_stops}
+use Rattle.t_grammar.proofs.Stepping.{by_call, by_do, by_same, stop_call}
+use Rattle.t_shapes.proofs.Bracketed.{starting}
 use Rattle.t_shapes.specs.Reads.{arith_left}
 use Rattle.t_shapes.proofs.steps.arith.Goals as goal
 
@@ -15,7 +14,7 @@ returns-in_err-rd c =
     let w = c.args.word in
     let s = starting ts 0 i (arith_left c.args.op) (OfToken w ∷ []) in
     let p = err_from_is_err_and c.from_residual.result c.from_residual.ensures.1 in
-    rw (p.1, p.2) (stop_call _ (Nt LTo ∷ []) 0 (Nt LTo ∷ (Nt LV ∷ (Do (MakeArith c.args.op) ∷ []))) (OfToken w ∷ []) s (omega arith) (to_stops ts i _ c.in_err-rd.ensures))
+    rw (p.1, p.2) (stop_call _ (Nt LTo ∷ []) 0 (Nt LTo ∷ (Nt LV ∷ (Do (MakeArith c.args.op) ∷ []))) (OfToken w ∷ []) s (omega arith) c.in_err-rd.ensures)
 
 pub returns-in_err-rs : goal.returns-in_err-rs
 returns-in_err-rs c =
@@ -23,15 +22,15 @@ returns-in_err-rs c =
     let i = c.args.at in
     let w = c.args.word in
     let s = starting ts 0 i (arith_left c.args.op) (OfToken w ∷ []) in
-    let m1 = by_call 0 (Nt LTo ∷ (Nt LV ∷ (Do (MakeArith c.args.op) ∷ []))) (OfToken w ∷ []) s (omega arith) (to_read ts i c.in_ok-rd.rd _ c.in_ok-rd.ensures).same in
+    let m1 = by_call 0 (Nt LTo ∷ (Nt LV ∷ (Do (MakeArith c.args.op) ∷ []))) (OfToken w ∷ []) s (omega arith) c.in_ok-rd.ensures.same in
     let p = err_from_is_err_and c.from_residual-in_err-rs.result c.from_residual-in_err-rs.ensures.1 in
-    rw (p.1, p.2) (stop_call _ (Nt LTo ∷ []) 0 (Nt LV ∷ (Do (MakeArith c.args.op) ∷ [])) _ m1 (omega arith) (to_stops ts (i + 2) _ c.in_err-rs.ensures))
+    rw (p.1, p.2) (stop_call _ (Nt LTo ∷ []) 0 (Nt LV ∷ (Do (MakeArith c.args.op) ∷ [])) _ m1 (omega arith) c.in_err-rs.ensures)
 
 pub value-requires-clause-at : goal.value-requires-clause-at
 value-requires-clause-at c =
     let ts = c.args.tokens.now in
     let i = c.args.at in
-    let l = within ts (i + 2 + 1) want.Comma _ c.in_ok-rs.ensures.1 in omega (arith, l)
+    let l = c.in_ok-rs.ensures.in_range in omega (arith, l)
 
 pub returns-in_err-found : goal.returns-in_err-found
 returns-in_err-found c =
@@ -39,8 +38,8 @@ returns-in_err-found c =
     let i = c.args.at in
     let w = c.args.word in
     let s = starting ts 0 i (arith_left c.args.op) (OfToken w ∷ []) in
-    let m1 = by_call 0 (Nt LTo ∷ (Nt LV ∷ (Do (MakeArith c.args.op) ∷ []))) (OfToken w ∷ []) s (omega arith) (to_read ts i c.in_ok-rd.rd _ c.in_ok-rd.ensures).same in
-    let m2 = by_same {k = i + 4} (omega arith) (by_call 0 (Nt LV ∷ (Do (MakeArith c.args.op) ∷ [])) _ m1 (omega arith) (to_read ts (i + 2) c.in_ok-rs.rs _ c.in_ok-rs.ensures).same) in
+    let m1 = by_call 0 (Nt LTo ∷ (Nt LV ∷ (Do (MakeArith c.args.op) ∷ []))) (OfToken w ∷ []) s (omega arith) c.in_ok-rd.ensures.same in
+    let m2 = by_same {k = i + 4} (omega arith) (by_call 0 (Nt LV ∷ (Do (MakeArith c.args.op) ∷ [])) _ m1 (omega arith) c.in_ok-rs.ensures.same) in
     let p = err_from_is_err_and c.from_residual-in_err-found.result c.from_residual-in_err-found.ensures.1 in
     rw (p.1, p.2) (stop_call _ (Nt LV ∷ []) 0 (Do (MakeArith c.args.op) ∷ []) _ m2 (omega arith) c.in_err-found.ensures)
 
@@ -50,10 +49,10 @@ returns c =
     let i = c.args.at in
     let w = c.args.word in
     let s = starting ts 0 i (arith_left c.args.op) (OfToken w ∷ []) in
-    let m1 = by_call 0 (Nt LTo ∷ (Nt LV ∷ (Do (MakeArith c.args.op) ∷ []))) (OfToken w ∷ []) s (omega arith) (to_read ts i c.in_ok-rd.rd _ c.in_ok-rd.ensures).same in
-    let m2 = by_same {k = i + 4} (omega arith) (by_call 0 (Nt LV ∷ (Do (MakeArith c.args.op) ∷ [])) _ m1 (omega arith) (to_read ts (i + 2) c.in_ok-rs.rs _ c.in_ok-rs.ensures).same) in
+    let m1 = by_call 0 (Nt LTo ∷ (Nt LV ∷ (Do (MakeArith c.args.op) ∷ []))) (OfToken w ∷ []) s (omega arith) c.in_ok-rd.ensures.same in
+    let m2 = by_same {k = i + 4} (omega arith) (by_call 0 (Nt LV ∷ (Do (MakeArith c.args.op) ∷ [])) _ m1 (omega arith) c.in_ok-rs.ensures.same) in
     let r = c.in_ok-found.ensures in
-    rw (c.register_number.ensures, c.register_number-2.ensures, c.up_to.ensures) (record {
+    rw c.up_to.ensures (record {
       forward = omega (arith, r.forward);
       in_range = r.in_range;
       same = by_do (MakeArith c.args.op) [] _ _ (by_call 0 (Do (MakeArith c.args.op) ∷ []) _ m2 (omega arith) r.same) (λ below. refl);

@@ -1,5 +1,6 @@
-use Rattle.std.proofs.Common.{[], ◌∷◌, refl, arith}
+use Rattle.std.proofs.Common.{ℕ, [], ◌∷◌, refl, ap, arith}
 use Rattle.std.proofs.lemmas.Result.{err_from_is_err_and}
+use Rattle.idx_core.specs.declared.span.Span.{Span}
 use Rattle.text_core.specs.Table.{Nt, Do}
 use Rattle.t_terms.specs.declared.wanted.Wanted.TheVariants as want
 use Rattle.t_terms.specs.Machine.{LTypes, MakeMalloc, OfToken}
@@ -21,7 +22,7 @@ pub types-requires-clause-at : goal.types-requires-clause-at
 types-requires-clause-at c =
     let ts = c.args.tokens.now in
     let i = c.args.at in
-    let l = within ts i want.Register _ c.in_ok-reg.ensures in omega (arith, l)
+    let l = within ts i want.Register _ c.in_ok-reg.ensures.1 in omega (arith, l)
 
 pub returns-in_err-found : goal.returns-in_err-found
 returns-in_err-found c =
@@ -29,7 +30,7 @@ returns-in_err-found c =
     let i = c.args.at in
     let w = c.args.word in
     let s = starting ts 0 i (malloc_left) (OfToken w ∷ []) in
-    let m1 = by_token want.Register c.in_ok-reg.reg (Nt LTypes ∷ (Do MakeMalloc ∷ [])) (OfToken w ∷ []) s c.in_ok-reg.ensures (omega arith) in
+    let m1 = by_token want.Register c.in_ok-reg.ensures.0 (Nt LTypes ∷ (Do MakeMalloc ∷ [])) (OfToken w ∷ []) s c.in_ok-reg.ensures.1 (omega arith) in
     let p = err_from_is_err_and c.from_residual-in_err-found.result c.from_residual-in_err-found.ensures.1 in
     rw (p.1, p.2) (stop_call _ (Nt LTypes ∷ []) 0 (Do MakeMalloc ∷ []) _ m1 (omega arith) c.in_err-found.ensures)
 
@@ -39,9 +40,10 @@ returns c =
     let i = c.args.at in
     let w = c.args.word in
     let s = starting ts 0 i (malloc_left) (OfToken w ∷ []) in
-    let m1 = by_token want.Register c.in_ok-reg.reg (Nt LTypes ∷ (Do MakeMalloc ∷ [])) (OfToken w ∷ []) s c.in_ok-reg.ensures (omega arith) in
+    let m1 = by_token want.Register c.in_ok-reg.ensures.0 (Nt LTypes ∷ (Do MakeMalloc ∷ [])) (OfToken w ∷ []) s c.in_ok-reg.ensures.1 (omega arith) in
     let r = c.in_ok-found.ensures in
-    rw (c.register_number.ensures, c.up_to.ensures) (record {
+    let e = ap (λ (p : ℕ × Span). p.0) c.in_ok-reg.ensures.2 in
+    rw (e, c.up_to.ensures) (record {
       forward = omega (arith, r.forward);
       in_range = r.in_range;
       same = by_do MakeMalloc [] _ _ (by_call 0 (Do MakeMalloc ∷ []) _ m1 (omega arith) r.same) (λ below. refl);

@@ -1,10 +1,9 @@
-use Rattle.std.proofs.Common.{[], ◌∷◌, ◌+◌, refl, arith}
+use Rattle.std.proofs.Common.{[], ◌∷◌, refl, arith}
 use Rattle.std.proofs.lemmas.Result.{err_from_is_err_and}
 use Rattle.text_core.specs.Table.{Nt, Do}
-use Rattle.t_terms.specs.declared.wanted.Wanted.TheVariants as want
 use Rattle.t_terms.specs.Machine.{LV, LTo, MakeMov, OfToken}
-use Rattle.t_grammar.proofs.Stepping.{within, by_call, by_do, stop_call}
-use Rattle.t_shapes.proofs.Bracketed.{starting, to_read, to_stops}
+use Rattle.t_grammar.proofs.Stepping.{by_call, by_do, stop_call}
+use Rattle.t_shapes.proofs.Bracketed.{starting}
 use Rattle.t_shapes.specs.Reads.{mov_left}
 use Rattle.t_shapes.proofs.steps.mov.Goals as goal
 
@@ -15,13 +14,13 @@ returns-in_err-reg c =
     let w = c.args.word in
     let s = starting ts 0 i (mov_left) (OfToken w ∷ []) in
     let p = err_from_is_err_and c.from_residual.result c.from_residual.ensures.1 in
-    rw (p.1, p.2) (stop_call _ (Nt LTo ∷ []) 0 (Nt LV ∷ (Do MakeMov ∷ [])) (OfToken w ∷ []) s (omega arith) (to_stops ts i _ c.in_err-reg.ensures))
+    rw (p.1, p.2) (stop_call _ (Nt LTo ∷ []) 0 (Nt LV ∷ (Do MakeMov ∷ [])) (OfToken w ∷ []) s (omega arith) c.in_err-reg.ensures)
 
 pub value-requires-clause-at : goal.value-requires-clause-at
 value-requires-clause-at c =
     let ts = c.args.tokens.now in
     let i = c.args.at in
-    let l = within ts (i + 1) want.Comma _ c.in_ok-reg.ensures.1 in omega (arith, l)
+    let l = c.in_ok-reg.ensures.in_range in omega (arith, l)
 
 pub returns-in_err-found : goal.returns-in_err-found
 returns-in_err-found c =
@@ -29,7 +28,7 @@ returns-in_err-found c =
     let i = c.args.at in
     let w = c.args.word in
     let s = starting ts 0 i (mov_left) (OfToken w ∷ []) in
-    let m1 = by_call 0 (Nt LV ∷ (Do MakeMov ∷ [])) (OfToken w ∷ []) s (omega arith) (to_read ts i c.in_ok-reg.reg _ c.in_ok-reg.ensures).same in
+    let m1 = by_call 0 (Nt LV ∷ (Do MakeMov ∷ [])) (OfToken w ∷ []) s (omega arith) c.in_ok-reg.ensures.same in
     let p = err_from_is_err_and c.from_residual-in_err-found.result c.from_residual-in_err-found.ensures.1 in
     rw (p.1, p.2) (stop_call _ (Nt LV ∷ []) 0 (Do MakeMov ∷ []) _ m1 (omega arith) c.in_err-found.ensures)
 
@@ -39,9 +38,9 @@ returns c =
     let i = c.args.at in
     let w = c.args.word in
     let s = starting ts 0 i (mov_left) (OfToken w ∷ []) in
-    let m1 = by_call 0 (Nt LV ∷ (Do MakeMov ∷ [])) (OfToken w ∷ []) s (omega arith) (to_read ts i c.in_ok-reg.reg _ c.in_ok-reg.ensures).same in
+    let m1 = by_call 0 (Nt LV ∷ (Do MakeMov ∷ [])) (OfToken w ∷ []) s (omega arith) c.in_ok-reg.ensures.same in
     let r = c.in_ok-found.ensures in
-    rw (c.register_number.ensures, c.up_to.ensures) (record {
+    rw c.up_to.ensures (record {
       forward = omega (arith, r.forward);
       in_range = r.in_range;
       same = by_do MakeMov [] _ _ (by_call 0 (Do MakeMov ∷ []) _ m1 (omega arith) r.same) (λ below. refl);

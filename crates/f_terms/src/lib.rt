@@ -1,25 +1,25 @@
 //! The source calculus: its types and terms, and the faults of a source text.
 #![tactic(auto)]
 
-pub mod copying;
 pub mod admission;
+pub mod copying;
 pub mod count;
 pub mod fault;
 pub mod laws;
 pub mod make;
 pub mod node;
 pub mod shift;
-pub mod table;
 pub mod stack;
 pub mod step;
+pub mod table;
 pub mod term;
 #[cfg(test)]
 mod tests;
 pub mod text;
 pub mod types;
 
-pub use copying::copy;
 pub use admission::admit;
+pub use copying::copy;
 pub use count::{depth, eq, size};
 pub use fault::{Code, FFault};
 pub use laws::{
@@ -28,7 +28,7 @@ pub use laws::{
     programs_are_never_stuck, puts_exchange,
 };
 pub use node::{FNode, FParts, FShape, FTerm};
-pub use table::{typed_node, types_aside};
 pub use stack::{FStack, FStep};
+pub use table::{typed_node, types_aside};
 pub use text::type_text;
 pub use types::FType;

@@ -89,9 +89,9 @@ module _ {N : Type 0} (kids : N → List ℕ) where
       let new : g k ≡ w k + total f (kids n) = one_same f k (w k + total f (kids n)) k refl in
       let less = lost f (kids n) rs d in
       let rest = more w g (kept ++ k ∷ []) (k + 1) ns
-          (differ_push kept k (differ_without_all (kids n) rs d) (λ j e lt x. let b = low' j e lt in absurd (omega (arith, b, x))))
-          (All-push (λ i. i < k + 1) kept k (λ j e lt. let b = low' j e lt in omega (arith, b)) (omega arith))
-          (λ j e lt. subst (λ m. All (λ c. c < m) (kids (get_or ns j e))) (omega arith) (h (suc j) e (omega (arith, lt)))) in
+      (differ_push kept k (differ_without_all (kids n) rs d) (λ j e lt x. let b = low' j e lt in absurd (omega (arith, b, x))))
+      (All-push (λ i. i < k + 1) kept k (λ j e lt. let b = low' j e lt in omega (arith, b)) (omega arith))
+      (λ j e lt. subst (λ m. All (λ c. c < m) (kids (get_or ns j e))) (omega arith) (h (suc j) e (omega (arith, lt)))) in
       omega (arith, rest, total_push g kept k, same, new, less)
 
   -- the roots weigh all the nodes at least
@@ -109,9 +109,9 @@ module _ {N : Type 0} (kids : N → List ℕ) where
 
   split : (m i : ℕ) → one m i + others m i ≡ 1
   split m i = elim (cases_eq i m) as (λ x. one m i + others m i ≡ 1) [
-      | inl e ↦ omega (arith, if_same {A = ℕ} i m 1 0 e, if_same {A = ℕ} i m 0 1 e)
-      | inr ne ↦ omega (arith, if_other {A = ℕ} i m 1 0 ne, if_other {A = ℕ} i m 0 1 ne)
-    ]
+    | inl e ↦ omega (arith, if_same {A = ℕ} i m 1 0 e, if_same {A = ℕ} i m 0 1 e)
+    | inr ne ↦ omega (arith, if_other {A = ℕ} i m 1 0 ne, if_other {A = ℕ} i m 0 1 ne)
+  ]
 
   total_split : (f g h : ℕ → ℕ) (ks : List ℕ) → ((k : ℕ) → f k + g k ≡ h k) → total f ks + total g ks ≡ total h ks
   total_split f g h [] e = refl
@@ -134,7 +134,6 @@ module _ {N : Type 0} (kids : N → List ℕ) where
   own_split : (m k : ℕ) (ns : List N) → own (one m) k ns + own (others m) k ns ≡ length ns
   own_split m k [] = refl
   own_split m k (n ∷ ns) = omega (arith, split m k, own_split m (k + 1) ns)
-
 
   -- how often node m occurs in node i
   abbrev pub times : List N → ℕ → ℕ → ℕ
@@ -162,6 +161,6 @@ module _ {N : Type 0} (kids : N → List ℕ) where
       few_own : (m k : ℕ) (ns : List N) → own (one m) k ns ≤ 1
       few_own m k [] = omega arith
       few_own m k (n ∷ ns) = elim (cases_eq k m) as (λ x. own (one m) k (n ∷ ns) ≤ 1) [
-          | inl e ↦ omega (arith, if_same {A = ℕ} k m 1 0 e, later m (k + 1) ns (omega (arith, e)))
-          | inr ne ↦ (let x = few_own m (k + 1) ns in omega (arith, if_other {A = ℕ} k m 1 0 ne, x))
-        ]
+        | inl e ↦ omega (arith, if_same {A = ℕ} k m 1 0 e, later m (k + 1) ns (omega (arith, e)))
+        | inr ne ↦ (let x = few_own m (k + 1) ns in omega (arith, if_other {A = ℕ} k m 1 0 ne, x))
+      ]

@@ -77,5 +77,5 @@ noted_any f ts i n lt en =
     let x : FNode × FType = get_or (beside f.nodes.items ts) i (n, T.Int) in (
       tree x.1,
       part_at pair_kids noted_node noted_local (EVar 0) (beside f.nodes.items ts) i (n, T.Int) (omega (arith, lt, beside_length f.nodes.items ts)) (beside_order f.nodes.items ts f.ordered)
-      ∙ ap (λ (m : FNode). noted_shape (noted_at f ts) (tree x.1) m.shape) (beside_node f.nodes.items ts i (n, T.Int) lt ∙ sym en),
+          ∙ ap (λ (m : FNode). noted_shape (noted_at f ts) (tree x.1) m.shape) (beside_node f.nodes.items ts i (n, T.Int) lt ∙ sym en),
     )

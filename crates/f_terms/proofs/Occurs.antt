@@ -100,7 +100,7 @@ noted_same f ts m x (suc b) i lb lt long none =
     noted_here f us i lt (omega (arith, long, length-set ts m x))
     ∙ ap (λ (u : FType). noted_shape (noted_at f us) (tree u) (shape_at f i)) (get_or-set_other ts m i x T.Int apart)
     ∙ shape_local (noted_at f us) (noted_at f ts) (tree (get_or ts i T.Int)) (shape_at f i)
-        (λ j d l. let k = low f i lt j d l in noted_same f ts m x b (get_or ks j d) (omega (arith, lb, k)) (omega (arith, lt, k)) long (parts j d l))
+    (λ j d l. let k = low f i lt j d l in noted_same f ts m x b (get_or ks j d) (omega (arith, lb, k)) (omega (arith, lt, k)) long (parts j d l))
     ∙ sym (noted_here f ts i lt long)
 
 -- with the types left aside
@@ -128,7 +128,7 @@ bare_at f ts (suc b) i lb lt =
     let n = noted_any f ts i (at f i) lt (same_get no_node f.nodes.items i) in
     ap bare n.1
     ∙ shape_bare (noted_at f ts) (node_at f) n.0 (place (at f i).span) (shape_at f i)
-        (λ j d l. let k = low f i lt j d l in bare_at f ts b (get_or ks j d) (omega (arith, lb, k)) (omega (arith, lt, k)))
+    (λ j d l. let k = low f i lt j d l in bare_at f ts b (get_or ks j d) (omega (arith, lb, k)) (omega (arith, lt, k)))
     ∙ sym (ap plain (node_of f i lt))
 
 pub types_left : (f : FTerm) (ts : List FType) → bare (noted_of f ts) ≡ term_of f

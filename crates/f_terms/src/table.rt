@@ -4,7 +4,6 @@ ghost use Rattle.std.specs.List.{All};
 ghost use Rattle.f_terms.specs.NotedTerm.{noted_at, noted_node};
 ghost use Rattle.f_terms.specs.ReadTerm.{count};
 ghost use Rattle.f_terms.specs.Shape.{kids};
-
 ghost use Rattle.f_terms.specs.NotedTerm.{TypesAside};
 
 use crate::node::{FNode, FTerm};

@@ -33,4 +33,3 @@ resumed_is t w w' o c' is h = subst (ResumeIs t w w') is h
 -- nothing is left to write
 pub ended : (t : ℕ → Noted) (w w' : Work) (o : Option Control) (c : Control) (ns : Nodes) → c ≡ C.Ended → o ≡ None → ResumeIs t w w' o → written w ++ stream t w c ≡ ns → written w' ≡ ns
 ended t w w' o c ns is none h all = sym (subst (ResumeIs t w w') none h) ∙ ap (λ (x : Control). written w ++ stream t w x) (sym is) ∙ all
-

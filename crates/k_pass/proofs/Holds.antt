@@ -103,12 +103,12 @@ chooses : (c a b : Noted) → HoldsAt false c → HoldsAt true a → HoldsAt tru
 chooses c a b mc ma mb n g t tv d kg ls l lt ns hc ha hb suits known =
     mc n g TInt tv d kg ls (nodes_choice a b tv ls l) (choice a b ls l) ns refl hc suits
     (λ e h x ms le good.
-      let B : Nodes = klin_t e tv h (s.cps b e ls (s.Pass l)) ms in
-      ap (λ (ks : Nodes). atom_node x ∷ NIf ∷ w.emit a e (tv, ls) (w.Pass tv l) (NElse tv ∷ ks))
-          (mb n g t tv e h ls (w.Pass tv l) (s.Pass l) ms tt hb (suits_later g ls d kg e h le suits) (refl, refl, (lt, le l lt known)))
-      ∙ ap (λ (ks : Nodes). atom_node x ∷ NIf ∷ ks)
-          (ma n g t tv e h ls (w.Pass tv l) (s.Pass l) (NElse tv ∷ B) tt ha (suits_later g ls d kg e h le suits) (refl, refl, (lt, le l lt known)))
-      ∙ value_node x TKInt e tv h (NIf ∷ klin_t e tv h (s.cps a e ls (s.Pass l)) (NElse tv ∷ B)) good)
+    let B : Nodes = klin_t e tv h (s.cps b e ls (s.Pass l)) ms in
+    ap (λ (ks : Nodes). atom_node x ∷ NIf ∷ w.emit a e (tv, ls) (w.Pass tv l) (NElse tv ∷ ks))
+    (mb n g t tv e h ls (w.Pass tv l) (s.Pass l) ms tt hb (suits_later g ls d kg e h le suits) (refl, refl, (lt, le l lt known)))
+    ∙ ap (λ (ks : Nodes). atom_node x ∷ NIf ∷ ks)
+    (ma n g t tv e h ls (w.Pass tv l) (s.Pass l) (NElse tv ∷ B) tt ha (suits_later g ls d kg e h le suits) (refl, refl, (lt, le l lt known)))
+    ∙ value_node x TKInt e tv h (NIf ∷ klin_t e tv h (s.cps a e ls (s.Pass l)) (NElse tv ∷ B)) good)
 
 bounds : (tail : Bool) (c a b : Noted) → HoldsAt false c → HoldsAt true a → HoldsAt true b → (n : ℕ) (g : Tys) (t u : Ty) (tv d : ℕ) (kg : List KTy) (ls : List ℕ) (k : w.Rest) (r : s.Rest) (ns : Nodes) →
     InTail tail k → (tail ≡ false → u ≡ t) → Annotated false c n g TInt → Annotated true a n g t → Annotated true b n g t → Suits g ls d kg → Fits tv d kg k (kty t) r →
@@ -117,7 +117,7 @@ bounds tail c a b mc ma mb n g t u tv d kg ls (w.Bind form) (s.Bind make) ns it 
     let v = taking (kty u) in
     let R : Nodes = NName d v ∷ klin_t (suc d) tv (v ∷ kg) (s.cps c (suc d) ls (choice a b ls d)) ns in
     ap (λ (ms : Nodes). NCode d tv 0 (rest_args (kty u)) ∷ form (suc (suc d)) (Level (suc d)) (NEnd ∷ NName d v ∷ ms))
-        (chooses c a b mc ma mb n g t tv (suc d) (v ∷ kg) ls d v ns hc ha hb (suits_later g ls d kg (suc d) (v ∷ kg) (one_more d kg v) suits) (newest d kg v))
+    (chooses c a b mc ma mb n g t tv (suc d) (v ∷ kg) ls d v ns hc ha hb (suits_later g ls d kg (suc d) (v ∷ kg) (one_more d kg v) suits) (newest d kg v))
     ∙ as_its tail tv d kg (w.Bind form) t u (s.Bind make) R it is f
 bounds tail c a b mc ma mb n g t u tv d kg ls (w.Bind form) (s.Pass l) ns it is hc ha hb suits f = absurd f
 bounds tail c a b mc ma mb n g t u tv d kg ls (w.Pass tw l) (s.Bind make) ns it is hc ha hb suits f = absurd f
@@ -135,75 +135,75 @@ mutual
       let u = kty arg in
       let v = taking (kty res) in
       ap (λ (ms : Nodes). NCode d tv 0 A ∷ w.emit e (suc (suc (suc d))) (tv, suc d ∷ d ∷ ls) (w.Pass tv (suc (suc d))) (NEnd ∷ ms))
-          (named_is tv d kg k (kty (TArrow arg res)) (TKCode 0 A) r ns (subst (λ x. Fits tv d kg k (kty x) r) h.0 f) refl)
+      (named_is tv d kg k (kty (TArrow arg res)) (TKCode 0 A) r ns (subst (λ x. Fits tv d kg k (kty x) r) h.0 f) refl)
       ∙ ap (λ (ms : Nodes). NCode d tv 0 A ∷ ms)
-          (holds true e n (in_fix arg res g) res tv (suc (suc (suc d))) S (suc d ∷ d ∷ ls) (w.Pass tv (suc (suc d))) (s.Pass (suc (suc d)))
-              (NEnd ∷ NName d (TKCode 0 A) ∷ klin_t (suc d) tv (TKCode 0 A ∷ kg) (s.deliver r (suc d) (Level d)) ns) tt h.3
-              (fix_arg d kg u v, (fix_own d kg u v, suits_later g ls d kg (suc (suc (suc d))) S (fix_grows d kg u v) suits))
-              (refl, refl, (v, newest (suc (suc d)) (u ∷ base kg (TKCode 0 A)) v)))
+      (holds true e n (in_fix arg res g) res tv (suc (suc (suc d))) S (suc d ∷ d ∷ ls) (w.Pass tv (suc (suc d))) (s.Pass (suc (suc d)))
+      (NEnd ∷ NName d (TKCode 0 A) ∷ klin_t (suc d) tv (TKCode 0 A ∷ kg) (s.deliver r (suc d) (Level d)) ns) tt h.3
+      (fix_arg d kg u v, (fix_own d kg u v, suits_later g ls d kg (suc (suc (suc d))) S (fix_grows d kg u v) suits))
+      (refl, refl, (v, newest (suc (suc d)) (u ∷ base kg (TKCode 0 A)) v)))
   holds tail (EGen e u) n g t tv d kg ls k r ns it h suits f =
       let A = gen_args u in
       let S = kbody_scope 1 A kg in
       let v = taking (kty u) in
       ap (λ (ms : Nodes). NCode d tv 1 A ∷ w.emit e (suc (suc d)) (suc tv, ls) (w.Pass (suc tv) (suc d)) (NEnd ∷ ms))
-          (named_is tv d kg k (kty (TAll u)) (TKCode 1 A) r ns (subst (λ x. Fits tv d kg k (kty x) r) h.0 f) refl)
+      (named_is tv d kg k (kty (TAll u)) (TKCode 1 A) r ns (subst (λ x. Fits tv d kg k (kty x) r) h.0 f) refl)
       ∙ ap (λ (ms : Nodes). NCode d tv 1 A ∷ ms)
-          (holds true e (n + 1) (raised g) u (suc tv) (suc (suc d)) S ls (w.Pass (suc tv) (suc d)) (s.Pass (suc d))
-              (NEnd ∷ NName d (TKCode 1 A) ∷ klin_t (suc d) tv (TKCode 1 A ∷ kg) (s.deliver r (suc d) (Level d)) ns) tt h.1
-              (suits_raised g ls d kg v suits)
-              (refl, refl, (v, newest (suc d) (kren (lift 1) (TKCode 1 A) ∷ krens_scope (lift 1) kg) v)))
+      (holds true e (n + 1) (raised g) u (suc tv) (suc (suc d)) S ls (w.Pass (suc tv) (suc d)) (s.Pass (suc d))
+      (NEnd ∷ NName d (TKCode 1 A) ∷ klin_t (suc d) tv (TKCode 1 A ∷ kg) (s.deliver r (suc d) (Level d)) ns) tt h.1
+      (suits_raised g ls d kg v suits)
+      (refl, refl, (v, newest (suc d) (kren (lift 1) (TKCode 1 A) ∷ krens_scope (lift 1) kg) v)))
   holds tail (EApp e x u) n g t tv d kg ls k r ns it h suits f =
       let q = h.1.0 in
       holds false e n g (TArrow q t) tv d kg ls (w.Bind (λ d1 fa. w.emit x d1 (tv, ls) (w.to_call tv fa (kty u) k))) (s.Bind (λ d1 fa. s.cps x d1 ls (s.to_call fa (kty u) r))) ns refl h.1.1 suits
       (λ e1 h1 a ms le good.
-        holds false x n g q tv e1 h1 ls (w.to_call tv a (kty u) k) (s.to_call a (kty u) r) ms refl h.1.2 (suits_later g ls d kg e1 h1 le suits)
-        (λ e2 h2 b ks le2 good2.
-          let V : Nodes = klin_v e2 tv h2 (s.as_value (kty u) r e2) ks in
-          ap (λ (js : Nodes). atom_node a ∷ NCall e2 tv NoKTys 2 ∷ atom_node b ∷ js)
-              (as_its tail tv e2 h2 k t u r ks it h.0 (fits_later tv d kg k (kty t) r e2 h2 (grows_more d kg e1 h1 e2 h2 le le2) f))
-          ∙ ap (λ (js : Nodes). atom_node a ∷ NCall e2 tv NoKTys 2 ∷ js) (value_node b (kty q) e2 tv h2 V good2)
-          ∙ value_node a (kty (TArrow q t)) e2 tv h2 (NCall e2 tv NoKTys 2 ∷ klin_v e2 tv h2 (value b e2) V) (good_later a (kty (TArrow q t)) e1 h1 e2 h2 le2 good)))
+      holds false x n g q tv e1 h1 ls (w.to_call tv a (kty u) k) (s.to_call a (kty u) r) ms refl h.1.2 (suits_later g ls d kg e1 h1 le suits)
+      (λ e2 h2 b ks le2 good2.
+      let V : Nodes = klin_v e2 tv h2 (s.as_value (kty u) r e2) ks in
+      ap (λ (js : Nodes). atom_node a ∷ NCall e2 tv NoKTys 2 ∷ atom_node b ∷ js)
+      (as_its tail tv e2 h2 k t u r ks it h.0 (fits_later tv d kg k (kty t) r e2 h2 (grows_more d kg e1 h1 e2 h2 le le2) f))
+      ∙ ap (λ (js : Nodes). atom_node a ∷ NCall e2 tv NoKTys 2 ∷ js) (value_node b (kty q) e2 tv h2 V good2)
+      ∙ value_node a (kty (TArrow q t)) e2 tv h2 (NCall e2 tv NoKTys 2 ∷ klin_v e2 tv h2 (value b e2) V) (good_later a (kty (TArrow q t)) e1 h1 e2 h2 le2 good)))
   holds tail (EInst e x u) n g t tv d kg ls k r ns it h suits f =
       let b = h.1.0 in
       holds false e n g (TAll b) tv d kg ls (w.to_inst tv (kty x) (kty u) k) (s.to_inst (kty x) (kty u) r) ns refl h.1.3 suits
       (λ e1 h1 a ms le good.
-        ap (λ (js : Nodes). atom_node a ∷ NCall e1 tv (rest_args (kty x)) 1 ∷ js)
-            (as_its tail tv e1 h1 k t u r ms it h.0 (fits_later tv d kg k (kty t) r e1 h1 le f))
-        ∙ value_node a (kty (TAll b)) e1 tv h1 (NCall e1 tv (rest_args (kty x)) 1 ∷ klin_v e1 tv h1 (s.as_value (kty u) r e1) ms) good)
+      ap (λ (js : Nodes). atom_node a ∷ NCall e1 tv (rest_args (kty x)) 1 ∷ js)
+      (as_its tail tv e1 h1 k t u r ms it h.0 (fits_later tv d kg k (kty t) r e1 h1 le f))
+      ∙ value_node a (kty (TAll b)) e1 tv h1 (NCall e1 tv (rest_args (kty x)) 1 ∷ klin_v e1 tv h1 (s.as_value (kty u) r e1) ms) good)
   holds tail (ETuple es u) n g t tv d kg ls k r ns it h suits f =
       let ts = h.1.0 in
       holds_all es n g ts tv d kg ls [] (w.to_tuple (kty u) k) (s.to_tuple r) ns h.1.2 suits
       (λ e1 h1 xs ms le good.
-        let same : kty u ≡ TKTuple (kvs_type h1 (values xs e1)) = ap kty (h.0 ∙ h.1.1) ∙ ap TKTuple (sym (types_are xs ts e1 h1 good)) in
-        let N : Nodes = NName e1 (TKTuple (kvs_type h1 (values xs e1))) ∷ klin_t (suc e1) tv (TKTuple (kvs_type h1 (values xs e1)) ∷ h1) (s.deliver r (suc e1) (Level e1)) ms in
-        ap (λ (js : Nodes). atom_nodes xs (NTuple (length xs) ∷ js))
-            (named_is tv e1 h1 k (kty u) (TKTuple (kvs_type h1 (values xs e1))) r ms (subst (λ y. Fits tv e1 h1 k (kty y) r) (sym h.0) (fits_later tv d kg k (kty t) r e1 h1 le f)) same)
-        ∙ ap (λ (z : ℕ). atom_nodes xs (NTuple z ∷ N)) (width_is xs e1)
-        ∙ nodes_are xs ts e1 tv h1 (NTuple (kwidth (values xs e1)) ∷ N) good)
+      let same : kty u ≡ TKTuple (kvs_type h1 (values xs e1)) = ap kty (h.0 ∙ h.1.1) ∙ ap TKTuple (sym (types_are xs ts e1 h1 good)) in
+      let N : Nodes = NName e1 (TKTuple (kvs_type h1 (values xs e1))) ∷ klin_t (suc e1) tv (TKTuple (kvs_type h1 (values xs e1)) ∷ h1) (s.deliver r (suc e1) (Level e1)) ms in
+      ap (λ (js : Nodes). atom_nodes xs (NTuple (length xs) ∷ js))
+      (named_is tv e1 h1 k (kty u) (TKTuple (kvs_type h1 (values xs e1))) r ms (subst (λ y. Fits tv e1 h1 k (kty y) r) (sym h.0) (fits_later tv d kg k (kty t) r e1 h1 le f)) same)
+      ∙ ap (λ (z : ℕ). atom_nodes xs (NTuple z ∷ N)) (width_is xs e1)
+      ∙ nodes_are xs ts e1 tv h1 (NTuple (kwidth (values xs e1)) ∷ N) good)
   holds tail (EProj i e u) n g t tv d kg ls k r ns it h suits f =
       let ts = h.1.0 in
       holds false e n g (TTuple ts) tv d kg ls (w.to_proj i (kty u) k) (s.to_proj i r) ns refl h.1.2 suits
       (λ e1 h1 a ms le good.
-        let x = kproj_type i (kv_type h1 (value a e1)) in
-        let same : kty t ≡ x = sym (ap (kproj_type i) (value_type a (kty (TTuple ts)) e1 h1 good) ∙ field_is ts i t h.1.1) in
-        ap (λ (y : KTy). atom_node a ∷ NProj e1 i y ∷ w.deliver k (suc e1) (Level e1) ms) (ap kty h.0 ∙ same)
-        ∙ ap (λ (js : Nodes). atom_node a ∷ NProj e1 i x ∷ js)
-            (gives tv (suc e1) (x ∷ h1) k (kty t) r (Level e1) ms
-                (fits_later tv d kg k (kty t) r (suc e1) (x ∷ h1) (grows_more d kg e1 h1 (suc e1) (x ∷ h1) le (one_more e1 h1 x)) f)
-                (subst (λ y. Known (suc e1) (x ∷ h1) e1 y) (sym same) (newest e1 h1 x)))
-        ∙ value_node a (kty (TTuple ts)) e1 tv h1 (NProj e1 i x ∷ klin_t (suc e1) tv (x ∷ h1) (s.deliver r (suc e1) (Level e1)) ms) good)
+      let x = kproj_type i (kv_type h1 (value a e1)) in
+      let same : kty t ≡ x = sym (ap (kproj_type i) (value_type a (kty (TTuple ts)) e1 h1 good) ∙ field_is ts i t h.1.1) in
+      ap (λ (y : KTy). atom_node a ∷ NProj e1 i y ∷ w.deliver k (suc e1) (Level e1) ms) (ap kty h.0 ∙ same)
+      ∙ ap (λ (js : Nodes). atom_node a ∷ NProj e1 i x ∷ js)
+      (gives tv (suc e1) (x ∷ h1) k (kty t) r (Level e1) ms
+      (fits_later tv d kg k (kty t) r (suc e1) (x ∷ h1) (grows_more d kg e1 h1 (suc e1) (x ∷ h1) le (one_more e1 h1 x)) f)
+      (subst (λ y. Known (suc e1) (x ∷ h1) e1 y) (sym same) (newest e1 h1 x)))
+      ∙ value_node a (kty (TTuple ts)) e1 tv h1 (NProj e1 i x ∷ klin_t (suc e1) tv (x ∷ h1) (s.deliver r (suc e1) (Level e1)) ms) good)
   holds tail (EArith op x y) n g t tv d kg ls k r ns it h suits f =
       holds false x n g TInt tv d kg ls (w.Bind (λ d1 aa. w.emit y d1 (tv, ls) (w.to_arith op aa k))) (s.Bind (λ d1 aa. s.cps y d1 ls (s.to_arith op aa r))) ns refl h.1 suits
       (λ e1 h1 a ms le good.
-        holds false y n g TInt tv e1 h1 ls (w.to_arith op a k) (s.to_arith op a r) ms refl h.2 (suits_later g ls d kg e1 h1 le suits)
-        (λ e2 h2 b ks le2 good2.
-          let D : Nodes = NArith e2 op ∷ klin_t (suc e2) tv (TKInt ∷ h2) (s.deliver r (suc e2) (Level e2)) ks in
-          ap (λ (js : Nodes). atom_node a ∷ atom_node b ∷ NArith e2 op ∷ js)
-              (gives tv (suc e2) (TKInt ∷ h2) k (kty t) r (Level e2) ks
-                  (fits_later tv d kg k (kty t) r (suc e2) (TKInt ∷ h2) (grows_more d kg e1 h1 (suc e2) (TKInt ∷ h2) le (grows_more e1 h1 e2 h2 (suc e2) (TKInt ∷ h2) le2 (one_more e2 h2 TKInt))) f)
-                  (subst (λ z. Known (suc e2) (TKInt ∷ h2) e2 z) (sym (ap kty h.0)) (newest e2 h2 TKInt)))
-          ∙ ap (λ (js : Nodes). atom_node a ∷ js) (value_node b TKInt e2 tv h2 D good2)
-          ∙ value_node a TKInt e2 tv h2 (klin_v e2 tv h2 (value b e2) D) (good_later a TKInt e1 h1 e2 h2 le2 good)))
+      holds false y n g TInt tv e1 h1 ls (w.to_arith op a k) (s.to_arith op a r) ms refl h.2 (suits_later g ls d kg e1 h1 le suits)
+      (λ e2 h2 b ks le2 good2.
+      let D : Nodes = NArith e2 op ∷ klin_t (suc e2) tv (TKInt ∷ h2) (s.deliver r (suc e2) (Level e2)) ks in
+      ap (λ (js : Nodes). atom_node a ∷ atom_node b ∷ NArith e2 op ∷ js)
+      (gives tv (suc e2) (TKInt ∷ h2) k (kty t) r (Level e2) ks
+      (fits_later tv d kg k (kty t) r (suc e2) (TKInt ∷ h2) (grows_more d kg e1 h1 (suc e2) (TKInt ∷ h2) le (grows_more e1 h1 e2 h2 (suc e2) (TKInt ∷ h2) le2 (one_more e2 h2 TKInt))) f)
+      (subst (λ z. Known (suc e2) (TKInt ∷ h2) e2 z) (sym (ap kty h.0)) (newest e2 h2 TKInt)))
+      ∙ ap (λ (js : Nodes). atom_node a ∷ js) (value_node b TKInt e2 tv h2 D good2)
+      ∙ value_node a TKInt e2 tv h2 (klin_v e2 tv h2 (value b e2) D) (good_later a TKInt e1 h1 e2 h2 le2 good)))
   holds tail (EIf c a b u) n g t tv d kg ls k r ns it h suits f =
       bounds tail c a b (holds false c) (holds true a) (holds true b) n g t u tv d kg ls k r ns it h.0 h.1 h.2 h.3 suits f
 
@@ -214,10 +214,10 @@ mutual
   holds_all (MoreNoteds e es) n g ts tv d kg ls done form make ns h suits f =
       holds false e n g h.0 tv d kg ls (w.Bind (λ d1 a. w.emit_all es d1 (tv, ls) (done ++ a ∷ []) form)) (s.Bind (λ d1 a. s.cps_all es d1 ls (done ++ a ∷ []) make)) ns refl h.3 suits
       (λ e1 h1 a ms le good.
-        holds_all es n g h.1 tv e1 h1 ls (done ++ a ∷ []) form make ms h.4 (suits_later g ls d kg e1 h1 le suits)
-        (λ e2 h2 xs ks le2 good2.
-          subst (λ (ys : List Atom). form e2 ys ks ≡ klin_t e2 tv h2 (make e2 ys) ks) (sym (append_assoc done (a ∷ []) xs))
-          (f e2 h2 (a ∷ xs) ks (grows_more d kg e1 h1 e2 h2 le le2) (h.0, h.1, h.2, good_later a (kty h.0) e1 h1 e2 h2 le2 good, good2))))
+      holds_all es n g h.1 tv e1 h1 ls (done ++ a ∷ []) form make ms h.4 (suits_later g ls d kg e1 h1 le suits)
+      (λ e2 h2 xs ks le2 good2.
+      subst (λ (ys : List Atom). form e2 ys ks ≡ klin_t e2 tv h2 (make e2 ys) ks) (sym (append_assoc done (a ∷ []) xs))
+      (f e2 h2 (a ∷ xs) ks (grows_more d kg e1 h1 e2 h2 le le2) (h.0, h.1, h.2, good_later a (kty h.0) e1 h1 e2 h2 le2 good, good2))))
 
 pub holds_program : (e : Noted) → Annotated false e 0 NoTys TInt → emit_of e ≡ klin_t 0 0 [] (cps_of e) []
 holds_program e h = holds false e 0 NoTys TInt 0 0 [] [] w.halting s.halting [] refl h tt (λ e1 h1 a ms le good. value_node a TKInt e1 0 h1 (NHalt ∷ ms) good)

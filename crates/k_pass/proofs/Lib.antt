@@ -8,3 +8,4 @@ pub mod Inside
 pub mod Scopes
 pub mod Known
 pub mod Holds
+pub mod Whole

@@ -15,11 +15,7 @@ use idx_core::OutOfMemory;
 use k_terms::KNode;
 
 // Node i, and its type.
-pub(crate) fn node_at<'a>(
-    term: &'a FTerm,
-    types: &'a [FType],
-    i: u64,
-) -> (&'a FNode, &'a FType)
+pub(crate) fn node_at<'a>(term: &'a FTerm, types: &'a [FType], i: u64) -> (&'a FNode, &'a FType)
     requires here { i < count term.now }
     requires table { count term.now ≤ length types.now }
     ensures tree { noted_at term.now types.now i ≡ noted_node (noted_at term.now types.now) (result.0.now, result.1.now) }

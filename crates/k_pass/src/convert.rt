@@ -13,11 +13,7 @@ use k_terms::KNode;
 use std::alloc::Global;
 
 /// The nodes of the conversion of a term, where the type of each node stands in a table at its number.
-pub fn emit(
-    alloc: Global,
-    term: &FTerm,
-    types: &[FType],
-) -> Result<Vec<KNode>, OutOfMemory>
+pub fn emit(alloc: Global, term: &FTerm, types: &[FType]) -> Result<Vec<KNode>, OutOfMemory>
     requires table { count term.now ≤ length types.now }
     ensures { IfOk result (λ r. map knode r.items ≡ emit_of (noted_of term.now types.now)) }
 {

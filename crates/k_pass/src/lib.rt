@@ -3,8 +3,9 @@
 
 mod access;
 pub mod convert;
+pub mod program;
 mod types;
 mod walk;
 mod work;
 
-pub use convert::emit;
+pub use program::cps;

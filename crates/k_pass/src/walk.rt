@@ -14,7 +14,9 @@ ghost use Rattle.k_pass.specs.declared.work.Frame.TheVariants as frames;
 ghost use Rattle.k_pass.specs.declared.work.Control.TheVariants as controls;
 
 use crate::access::{deeper, leave, level_of, node_at, put, put_atom, put_call, put_one, put_two};
-use crate::types::{fix_type, fix_types, gen_type, gen_types, k_type, rest_type, rest_types, under_all};
+use crate::types::{
+    fix_type, fix_types, gen_type, gen_types, k_type, rest_type, rest_types, under_all,
+};
 use crate::work::{Atom, Control, Frame, Pending, Work};
 use f_terms::{FShape, FTerm, FType};
 use idx_core::OutOfMemory;
@@ -294,12 +296,7 @@ fn put_atoms(out: &mut Vec<KNode>, done: &[Atom]) -> Result<(), OutOfMemory>
 }
 
 // A tuple is named.
-fn put_tuple(
-    out: &mut Vec<KNode>,
-    done: &[Atom],
-    ty: KType,
-    depth: u64,
-) -> Result<(), OutOfMemory>
+fn put_tuple(out: &mut Vec<KNode>, done: &[Atom], ty: KType, depth: u64) -> Result<(), OutOfMemory>
     ensures { OnOk result ((ns : Nodes) → map knode out.new.items ++ ns ≡ map knode out.old.items ++ atom_nodes (map atom done.now) (NTuple (length (map atom done.now)) ∷ NName depth (ktree ty) ∷ ns)) }
 {
     put_atoms(out, done)?;
@@ -431,10 +428,7 @@ fn put_name(out: &mut Vec<KNode>, depth: u64, ty: KType) -> Result<(), OutOfMemo
 }
 
 // What comes where a term has ended.
-pub(crate) fn resume<'a>(
-    alloc: Global,
-    work: &mut Work<'a>,
-) -> Result<Option<Control>, OutOfMemory>
+pub(crate) fn resume<'a>(alloc: Global, work: &mut Work<'a>) -> Result<Option<Control>, OutOfMemory>
     ensures steps { IfOk result (λ r. (t : ℕ → Noted) → ResumeIs t work.old work.new r) }
     ensures inside { IfOk result (λ r. (m : ℕ) → KeptIn m work.old → NextIn m work.new r) }
 {

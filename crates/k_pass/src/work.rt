@@ -15,23 +15,51 @@ pub(crate) enum Atom {
 #[derive(Drop)]
 pub(crate) enum Frame<'a> {
     /// It is the function: the argument is next.
-    Fun { x: u64, ty: &'a FType },
+    Fun {
+        x: u64,
+        ty: &'a FType,
+    },
     /// It is the argument.
-    Arg { f: Atom, ty: &'a FType },
+    Arg {
+        f: Atom,
+        ty: &'a FType,
+    },
     /// It is applied to a type.
-    Inst { arg: &'a FType, ty: &'a FType },
+    Inst {
+        arg: &'a FType,
+        ty: &'a FType,
+    },
     /// It is the left operand: the right one is next.
-    Left { op: Op, b: u64 },
+    Left {
+        op: Op,
+        b: u64,
+    },
     /// It is the right operand.
-    Right { op: Op, a: Atom },
+    Right {
+        op: Op,
+        a: Atom,
+    },
     /// A field is taken of it.
-    Proj { i: u64, ty: &'a FType },
+    Proj {
+        i: u64,
+        ty: &'a FType,
+    },
     /// It is a field: those after it are next.
-    Fields { rest: &'a [u64], done: Vec<Atom>, ty: &'a FType },
+    Fields {
+        rest: &'a [u64],
+        done: Vec<Atom>,
+        ty: &'a FType,
+    },
     /// It is handed to the name of this level, and the term ends.
-    Tail { level: u64 },
+    Tail {
+        level: u64,
+    },
     /// It is tested: both branches hand their atom to the name of this level, and the term ends.
-    Test { zero: u64, other: u64, level: u64 },
+    Test {
+        zero: u64,
+        other: u64,
+        level: u64,
+    },
 }
 
 /// What comes where a term has ended.

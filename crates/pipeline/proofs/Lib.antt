@@ -1,1 +1,4 @@
-pub mod OneMove
+mod Blocks
+mod Chain
+mod Counted
+mod Shallow

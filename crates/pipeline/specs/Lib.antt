@@ -1,1 +1,2 @@
+pub mod Compilation
 pub mod Meaning

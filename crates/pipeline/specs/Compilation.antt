@@ -1,0 +1,39 @@
+-- When an assembly program is what a term of the source is compiled to.
+use Rattle.std.specs.Prelude.{◌≡◌}
+use Rattle.f_terms.specs.Tm.{Term}
+use Rattle.k_terms.specs.K.{KTm}
+use Rattle.k_laws.specs.Translates.{cps_program}
+use Rattle.c_terms.specs.C.{CTm}
+use Rattle.c_law.specs.Row as closing
+use Rattle.h_terms.specs.H.{HBlks, HTm}
+use Rattle.h_pass.specs.Back.{IsHoisted}
+use Rattle.a_terms.specs.Tree.{ATm, AProg}
+use Rattle.a_law.specs.Stands.{Stands}
+use Rattle.t_terms.specs.Tree.{TProg}
+use Rattle.t_rules.specs.Rules.{Accepted}
+use Rattle.gen_law.specs.Gen.{generated}
+use Rattle.pipeline.specs.Meaning.{SameMeaning, RunsSeldom, HaltsSoon}
+
+-- the program is a translation of the term by the rules of the passes in turn: conversion to continuation-passing style,
+-- closure conversion, hoisting, allocation, code generation
+pub record IsTranslation (e : Term) (P : TProg) : Type 0 where
+  pub converted : KTm
+  pub closed : CTm
+  pub blocks : HBlks
+  pub main : HTm
+  pub allocated : AProg
+  pub start : ATm
+  pub to_converted : cps_program e converted
+  pub to_closed : closing.IsTranslation converted closed
+  pub to_hoisted : IsHoisted blocks main closed
+  pub to_allocated : Stands allocated start blocks main
+  pub to_assembly : P ≡ generated allocated start
+
+-- the typing rules accept the program; it means the same as the term; it is a translation of it, no place of it is
+-- executed more often than once more than the term takes turns, and so it halts soon
+pub record IsCompilation (e : Term) (P : TProg) : Type 0 where
+  pub accepted : Accepted P
+  pub meaning : SameMeaning e P
+  pub translation : IsTranslation e P
+  pub seldom : RunsSeldom e P
+  pub soon : HaltsSoon e P

@@ -1,135 +1,38 @@
 // Compiling.
-ghost use Rattle.std.specs.Prelude.{◌≡◌, ◌↔◌, IfOk, IsTrue};
-ghost use Rattle.f_terms.specs.Tm.{plain};
-ghost use Rattle.f_terms.specs.Shape.{node_tree};
-ghost use Rattle.f_terms.specs.ReadTerm.{node_at, term_of};
+ghost use Rattle.std.specs.Prelude.{◌≡◌, ◌≤◌, [], IfOk};
+ghost use Rattle.f_terms.specs.ReadTerm.{term_of};
 ghost use Rattle.f_check.specs.Typed.{program_term};
-ghost use Rattle.pipeline.specs.Meaning.{IsNumber, IsProgramOf, SameMeaning};
+ghost use Rattle.t_terms.specs.ReadProgram.{program as program_tree};
+ghost use Rattle.t_terms.specs.Nesting.{nesting};
+ghost use Rattle.t_terms.specs.Text.{most_open};
 ghost use Rattle.t_check.specs.Checked.{checked_program};
-ghost use Rattle.t_rules.specs.Rules.{Accepted};
-ghost use Rattle.t_terms.specs.Read.{blocks_of};
-ghost use Rattle.t_terms.specs.Shapes.{operations, one_move, IsOneMove};
+ghost use Rattle.pipeline.specs.Compilation.{IsCompilation};
 
+use a_pass::allocate;
+use c_pass::close;
 use f_check::Program;
-use f_terms::{FNode, FShape};
-use idx_core::{OutOfMemory, Span};
+use h_pass::hoist;
+use idx_core::OutOfMemory;
+use k_pass::cps;
 use std::alloc::Global;
 use t_check::{Checked, seal};
-use t_terms::{Base, Block, End, Instr, TProgram, Value};
-use t_types::RegFile;
+use t_gen::generate;
 
-// The root of the term of a program.
-fn root(program: &Program) -> &FNode
-    ensures { term_of (program_term program.now) ≡ plain (node_tree (node_at (program_term program.now)) result.now) }
-{
-    let term = program.term();
-    term.node(term.count() - 1)
-}
-
-/// Whether the program is one integer: only such a program is compiled yet (own choice).
-pub fn is_number(program: &Program) -> bool
-    ensures { IsTrue result ↔ IsNumber (term_of (program_term program.now)) }
-{
-    match &root(program).shape {
-        FShape::Int(_) => true,
-        _ => false,
-    }
-}
-
-/// The assembly program of a source program: the typing rules accept it, and it halts with the integer that the source
-/// evaluates to. Only a program that is one integer is compiled yet. Answers want of memory alone.
+/// The assembly program of a source program, by conversion to continuation-passing style, closure conversion, hoisting,
+/// allocation and code generation. The typing rules accept it, and it halts with an integer exactly where the source
+/// evaluates to it, never in fewer instructions than the source takes turns; no place of it is executed more often than
+/// once more than these turns. Its text keeps the limit on open constructs. Answers want of memory alone.
 pub fn compile(alloc: Global, program: &Program) -> Result<Checked, OutOfMemory>
-    requires { IsNumber (term_of (program_term program.now)) }
-    ensures meaning { IfOk result (λ p. SameMeaning (term_of (program_term program.now)) (blocks_of (checked_program p).blocks.items)) }
-    ensures accepted { IfOk result (λ p. Accepted (blocks_of (checked_program p).blocks.items)) }
-    ensures arithmetic { IfOk result (λ p. operations (blocks_of (checked_program p).blocks.items) ≡ 0) }
-    ensures shape { IfOk result (λ p. IsOneMove (blocks_of (checked_program p).blocks.items)) }
+    ensures compiled { IfOk result (λ p. ∥ IsCompilation (term_of (program_term program.now)) (program_tree (checked_program p)) ∥₁) }
+    ensures shallow { IfOk result (λ p. nesting (program_tree (checked_program p)) ≤ most_open) }
+    ensures no_data { IfOk result (λ p. (checked_program p).heap.items ≡ []) }
 {
-    let compiled = program_of(alloc, program)?;
-    Ok(seal(compiled))
-}
-
-// The assembly program of a program that is one integer.
-fn program_of(alloc: Global, program: &Program) -> Result<TProgram, OutOfMemory>
-    requires { IsNumber (term_of (program_term program.now)) }
-    ensures { IfOk result (λ p. IsProgramOf (term_of (program_term program.now)) (blocks_of p.blocks.items)) }
-{
-    let node = root(program);
-    match &node.shape {
-        FShape::Int(i) => move_and_halt(alloc, *i, node.span),
-        _ => unreachable!(),
-    }
-}
-
-// One block: the integer is moved into register 1.
-fn move_and_halt(alloc: Global, i: i64, span: Span) -> Result<TProgram, OutOfMemory>
-    ensures { IfOk result (λ p. blocks_of p.blocks.items ≡ one_move i) }
-{
-    let v = Value::Plain {
-        base: Base::Int(i),
-        types: Vec::new(alloc),
-    };
-    let mut body = Vec::new(alloc);
-    body.push((Instr::Mov { rd: 1, v }, span))?;
-    let block = Block {
-        name: span,
-        owes: 0,
-        regs: RegFile {
-            regs: Vec::new(alloc),
-        },
-        body,
-        end: End::Halt,
-        end_span: span,
-    };
-    let mut blocks = Vec::new(alloc);
-    blocks.push(block)?;
-    Ok(TProgram { blocks })
-}
-
-#[cfg(test)]
-mod tests {
-    use super::*;
-    use f_check::check;
-    use f_terms::{FStack, FStep};
-    use std::test::Fail;
-
-    // the program of 7 has one block, whose one instruction moves 7 into register 1
-    #[test]
-    fn one_number(rt: HostRuntime) -> Result<(), Fail> {
-        let alloc = rt.alloc();
-        let stack = FStack::new(alloc).put(alloc, FStep::Int(7), Span { start: 0, end: 1 })?;
-        let Ok(typed) = check(alloc, stack.done()) else {
-            assert!(rt; false);
-            return Ok(());
-        };
-        let Ok(program) = typed.program() else {
-            assert!(rt; false);
-            return Ok(());
-        };
-        assert!(rt; is_number(&program));
-        if is_number(&program) {
-            let compiled = compile(rt.alloc(), &program)?;
-            assert_eq!(rt; compiled.program().blocks.len(), 1);
-            for block in &compiled.program().blocks {
-                assert_eq!(rt; block.body.len(), 1);
-                for entry in &block.body {
-                    assert_eq!(rt; moved(&entry.0), 7);
-                }
-            }
-        }
-        Ok(())
-    }
-
-    fn moved(i: &Instr) -> i64 {
-        match i {
-            Instr::Mov {
-                rd: 1,
-                v: Value::Plain {
-                    base: Base::Int(i),
-                    types: _,
-                },
-            } => *i,
-            _ => 0,
-        }
-    }
+    t_rules::erased_code_stands_at_its_place();
+    t_rules::runs_stay_within_times();
+    let converted = cps(alloc, program)?;
+    let closed = close(alloc, &converted)?;
+    let hoisted = hoist(alloc, &closed)?;
+    let allocated = allocate(alloc, &hoisted)?;
+    let generated = generate(alloc, &allocated)?;
+    Ok(seal(generated))
 }

@@ -3,4 +3,4 @@
 
 mod compiling;
 
-pub use compiling::{compile, is_number};
+pub use compiling::compile;

@@ -14,3 +14,4 @@ pub mod Tree
 pub mod TreeLaws
 pub mod TypeLaws
 pub mod Typing
+pub mod Weights

@@ -1,17 +1,19 @@
 -- A walk along the nodes of a tree.
-use Rattle.std.proofs.Common.{◌≡◌, ◌<◌, ℕ, zero, suc, ◌-◌, Bool, ◌⊎◌, inl, inr, List, [], ◌∷◌, ◌++◌, Option, Some, None, refl, sym, ap, ap₂, ◌∙◌, subst, append_assoc, length, take, drop, arith}
+use Rattle.std.proofs.Common.{true, ◌≤◌, ◌+◌, ◌≡◌, ◌<◌, ℕ, zero, suc, ◌-◌, nat_lt, Bool, ◌⊎◌, inl, inr, List, [], ◌∷◌, ◌++◌, Option, Some, None, refl, sym, ap, ap₂, ◌∙◌, subst, append_assoc, length, take, drop, arith}
 use Rattle.std.proofs.lemmas.List.{length-append, append-nil}
+use Rattle.std.proofs.lemmas.Bool.{lt-ltb}
 use Rattle.term_core.specs.Ends.{lift}
 use Rattle.term_core.specs.Levels.{level_of}
 use Rattle.c_terms.specs.C.{CApply, CArith, CCall, CCell, CCode, CDecl, CGet, CHalt, CIf, CInt, CLet, CName, CPack, CProj, CSet, CTm, CTuple, CTys, CUnpack, CVal, CVals, CVar, MoreCVals, NoCVals, ccount, cd_next, ct_next, cv_next, cvs_next}
 use Rattle.c_terms.specs.Scope.{CScoped, CScoped_d, CScoped_v, CScoped_vs}
+use Rattle.c_terms.specs.Size.{CSmall, CSmall_d, CSmall_t, CSmall_v, CSmall_vs, cown_d, cown_t}
 use Rattle.c_terms.specs.Stream.{CNd, MApply, MArith, MCall, MCell, MCode, MElse, MEnd, MGet, MHalt, MIf, MInt, MName, MPack, MProj, MSet, MTuple, MUnpack, MVar, clin_d, clin_t, clin_v, clin_vs, cwidth}
-use Rattle.h_terms.specs.H.{HApply, HBlks, HCall, HDecl, HIf, HLabel, HLet, HPack, HTm, HTuple, HVal, HVals, HVar, MoreHVals, NoHVals}
+use Rattle.h_terms.specs.H.{HApply, HArith, HBlks, HCall, HCell, HDecl, HGet, HIf, HLabel, HLet, HName, HPack, HProj, HSet, HTm, HTuple, HUnpack, HVal, HVals, HVar, MoreHVals, NoHVals}
 use Rattle.h_terms.specs.Nodes.{at_last, no_term, tied, tupled}
 use Rattle.h_terms.specs.Row.{others, top}
 use Rattle.h_pass.proofs.Spots.{deep, deep_suc, first_or, level_below, lift_add, near, self}
 use Rattle.h_pass.specs.Hoist.{Code, Nobody, Own, blocks_d, blocks_t, blocks_v, blocks_vs, hoist_d, hoist_t, hoist_v, hoist_vs, spot, spot_value}
-use Rattle.h_pass.specs.Stream.{Around, Found, call_of, call_ok, code_found, end_found, found_in, name_at, whole}
+use Rattle.h_pass.specs.Stream.{Around, Found, both, call_of, call_ok, code_found, end_found, found_in, hoisted, name_at, whole}
 use Rattle.h_pass.specs.Walk.{Ends}
 
 -- blocks before what was found, and one more term
@@ -126,73 +128,91 @@ with_if : (v : HVal) (t u : HTm) (ks ls ms : HBlks) (r : Found) → with ks (if_
 with_if v t u ks ls ms r =
     ap (blocked (HIf v t u ∷ r.terms) r.outer r.fine) (ap (λ xs. ks ++ xs) (sym (append_assoc ls ms r.blocks)) ∙ sym (append_assoc ks (ls ++ ms) r.blocks))
 
-mutual
-  fuse_v : (v : CVal) (own : Own) (d b : ℕ) (ds : List ℕ) (xs : List HVal) (c : Option CTys) (fs : List Around) (rest : List CNd) → CScoped_v (deep own d) v →
-      found_in (clin_v (deep own d) v rest) b own (deep own d ∷ ds) xs c fs ≡ with (blocks_v b v) (found_in rest (cv_next b v) own (deep own d ∷ ds) (xs ++ hoist_v own d b v ∷ []) c fs)
-  fuse_v (CVar i) own d b ds xs c fs rest h = ap (λ v. found_in rest b own (deep own d ∷ ds) (xs ++ v ∷ []) c fs) (named own d i h)
-  fuse_v (CInt n) own d b ds xs c fs rest h = refl
-  fuse_v (CTuple vs) own d b ds xs c fs rest h =
-      fuse_vs vs own d b ds xs c fs (MTuple (cwidth vs) ∷ rest) h
-      ∙ ap (λ ys. with (blocks_vs b vs) (found_in rest (cvs_next b vs) own (deep own d ∷ ds) ys c fs)) (tupled_last xs (hoist_vs own d b vs) (cwidth vs) (width own d b vs))
-  fuse_v (CCode owes args body) own d b ds xs c fs rest h =
-      let n = ccount args in
-      let e : lift n 1 ≡ suc n = omega (arith, lift_add n 1) in
-      let f : Around = record { own = own; depths = deep own d ∷ ds; values = xs ++ HLabel b ∷ []; call = c } in
-      ap (λ m. code_found owes args (found_in (clin_t m body (MEnd ∷ rest)) (suc b) (Code b) (m ∷ []) [] None (f ∷ fs))) e
-      ∙ ap (code_found owes args) (fuse_t body (Code b) n (suc b) [] (f ∷ fs) (MEnd ∷ rest) tt (subst (λ m. CScoped m body) e h))
-  fuse_v (CApply v ts) own d b ds xs c fs rest h =
-      fuse_v v own d b ds xs c fs (MApply ts ∷ rest) h ∙ ap (λ ys. with (blocks_v b v) (found_in rest (cv_next b v) own (deep own d ∷ ds) ys c fs)) (at_last_push (λ w. HApply w ts) xs (hoist_v own d b v))
-  fuse_v (CPack k v s) own d b ds xs c fs rest h =
-      fuse_v v own d b ds xs c fs (MPack k s ∷ rest) h ∙ ap (λ ys. with (blocks_v b v) (found_in rest (cv_next b v) own (deep own d ∷ ds) ys c fs)) (at_last_push (λ w. HPack k w s) xs (hoist_v own d b v))
+-- a declaration, where one more name is a number
+roomy : (e : ℕ) (x : HDecl) (ks : HBlks) (r : Found) → e < 18446744073709551615 →
+    record { terms = HLet x (top no_term r.terms) ∷ others r.terms; outer = r.outer; blocks = ks ++ r.blocks; fine = both (both (nat_lt e 18446744073709551615) true) r.fine } ≡ and_let x ks r
+roomy e x ks r lt = ap (λ ok. record { terms = HLet x (top no_term r.terms) ∷ others r.terms; outer = r.outer; blocks = ks ++ r.blocks; fine = both (both ok true) r.fine }) (lt-ltb e 18446744073709551615 lt)
 
-  fuse_vs : (vs : CVals) (own : Own) (d b : ℕ) (ds : List ℕ) (xs : List HVal) (c : Option CTys) (fs : List Around) (rest : List CNd) → CScoped_vs (deep own d) vs →
-      found_in (clin_vs (deep own d) vs rest) b own (deep own d ∷ ds) xs c fs ≡ with (blocks_vs b vs) (found_in rest (cvs_next b vs) own (deep own d ∷ ds) (xs ++ listed (hoist_vs own d b vs)) c fs)
-  fuse_vs NoCVals own d b ds xs c fs rest h = ap (λ ys. found_in rest b own (deep own d ∷ ds) ys c fs) (sym (append-nil xs))
-  fuse_vs (MoreCVals v vs) own d b ds xs c fs rest h =
-      let w = hoist_v own d b v in
-      let ws = listed (hoist_vs own d (cv_next b v) vs) in
-      fuse_v v own d b ds xs c fs (clin_vs (deep own d) vs rest) h.0
-      ∙ ap (with (blocks_v b v)) (fuse_vs vs own d (cv_next b v) ds (xs ++ w ∷ []) c fs rest h.1 ∙ ap (λ ys. with (blocks_vs (cv_next b v) vs) (found_in rest (cvs_next (cv_next b v) vs) own (deep own d ∷ ds) ys c fs)) (append_assoc xs (w ∷ []) ws))
-      ∙ with_two (blocks_v b v) (blocks_vs (cv_next b v) vs) _
+own_some : (x : CDecl) → 1 ≤ cown_d x
+own_some (CName v) = omega arith
+own_some (CProj i v) = omega arith
+own_some (CArith op v w) = omega arith
+own_some (CUnpack v) = omega arith
+own_some (CCell v) = omega arith
+own_some (CGet v) = omega arith
+own_some (CSet v w) = omega arith
 
-  fuse_d : (x : CDecl) (own : Own) (d b : ℕ) (ds : List ℕ) (fs : List Around) (rest : List CNd) → CScoped_d (deep own d) x →
-      found_in (clin_d (deep own d) x rest) b own (deep own d ∷ ds) [] None fs ≡ and_let (hoist_d own d b x) (blocks_d b x) (found_in rest (cd_next b x) own (suc (deep own d) ∷ ds) [] None fs)
-  fuse_d (CName v) own d b ds fs rest h = fuse_v v own d b ds [] None fs (MName (deep own d) ∷ rest) h
-  fuse_d (CProj i v) own d b ds fs rest h = fuse_v v own d b ds [] None fs (MProj (deep own d) i ∷ rest) h
-  fuse_d (CArith o v w) own d b ds fs rest h =
-      fuse_v v own d b ds [] None fs (clin_v (deep own d) w (MArith (deep own d) o ∷ rest)) h.0
-      ∙ ap (with (blocks_v b v)) (fuse_v w own d (cv_next b v) ds (hoist_v own d b v ∷ []) None fs (MArith (deep own d) o ∷ rest) h.1)
-      ∙ with_two (blocks_v b v) (blocks_v (cv_next b v) w) _
-  fuse_d (CUnpack v) own d b ds fs rest h = fuse_v v own d b ds [] None fs (MUnpack (deep own d) ∷ rest) h
-  fuse_d (CCell v) own d b ds fs rest h = fuse_v v own d b ds [] None fs (MCell (deep own d) ∷ rest) h
-  fuse_d (CGet v) own d b ds fs rest h = fuse_v v own d b ds [] None fs (MGet (deep own d) ∷ rest) h
-  fuse_d (CSet v w) own d b ds fs rest h =
-      fuse_v v own d b ds [] None fs (clin_v (deep own d) w (MSet (deep own d) ∷ rest)) h.0
-      ∙ ap (with (blocks_v b v)) (fuse_v w own d (cv_next b v) ds (hoist_v own d b v ∷ []) None fs (MSet (deep own d) ∷ rest) h.1)
-      ∙ with_two (blocks_v b v) (blocks_v (cv_next b v) w) _
+module _ (M : ℕ) (small : suc M < 18446744073709551615) where
+  mutual
+    fuse_v : (v : CVal) (own : Own) (d b : ℕ) (ds : List ℕ) (xs : List HVal) (c : Option CTys) (fs : List Around) (rest : List CNd) → CScoped_v (deep own d) v → CSmall_v M v →
+        found_in (clin_v (deep own d) v rest) b own (deep own d ∷ ds) xs c fs ≡ with (blocks_v b v) (found_in rest (cv_next b v) own (deep own d ∷ ds) (xs ++ hoist_v own d b v ∷ []) c fs)
+    fuse_v (CVar i) own d b ds xs c fs rest h s = ap (λ v. found_in rest b own (deep own d ∷ ds) (xs ++ v ∷ []) c fs) (named own d i h)
+    fuse_v (CInt n) own d b ds xs c fs rest h s = refl
+    fuse_v (CTuple vs) own d b ds xs c fs rest h s =
+        fuse_vs vs own d b ds xs c fs (MTuple (cwidth vs) ∷ rest) h s
+        ∙ ap (λ ys. with (blocks_vs b vs) (found_in rest (cvs_next b vs) own (deep own d ∷ ds) ys c fs)) (tupled_last xs (hoist_vs own d b vs) (cwidth vs) (width own d b vs))
+    fuse_v (CCode owes args body) own d b ds xs c fs rest h s =
+        let n = ccount args in
+        let e : lift n 1 ≡ suc n = omega (arith, lift_add n 1) in
+        let f : Around = record { own = own; depths = deep own d ∷ ds; values = xs ++ HLabel b ∷ []; call = c } in
+        ap (λ m. code_found owes args (found_in (clin_t m body (MEnd ∷ rest)) (suc b) (Code b) (m ∷ []) [] None (f ∷ fs))) e
+        ∙ ap (code_found owes args) (fuse_t body (Code b) n (suc b) [] (f ∷ fs) (MEnd ∷ rest) tt (subst (λ m. CScoped m body) e h) s.1 (omega (arith, s.0)))
+    fuse_v (CApply v ts) own d b ds xs c fs rest h s =
+        fuse_v v own d b ds xs c fs (MApply ts ∷ rest) h s ∙ ap (λ ys. with (blocks_v b v) (found_in rest (cv_next b v) own (deep own d ∷ ds) ys c fs)) (at_last_push (λ w. HApply w ts) xs (hoist_v own d b v))
+    fuse_v (CPack k v q) own d b ds xs c fs rest h s =
+        fuse_v v own d b ds xs c fs (MPack k q ∷ rest) h s ∙ ap (λ ys. with (blocks_v b v) (found_in rest (cv_next b v) own (deep own d ∷ ds) ys c fs)) (at_last_push (λ w. HPack k w q) xs (hoist_v own d b v))
 
-  fuse_t : (t : CTm) (own : Own) (d b : ℕ) (ds : List ℕ) (fs : List Around) (rest : List CNd) → Ends rest → CScoped (deep own d) t →
-      found_in (clin_t (deep own d) t rest) b own (deep own d ∷ ds) [] None fs ≡ and_term (hoist_t own d b t) (blocks_t b t) (found_in rest (ct_next b t) own ds [] None fs)
-  fuse_t (CLet x t) own d b ds fs rest ends h =
-      let e = sym (deep_suc own d) in
-      fuse_d x own d b ds fs (clin_t (suc (deep own d)) t rest) h.0
-      ∙ ap (λ m. and_let (hoist_d own d b x) (blocks_d b x) (found_in (clin_t m t rest) (cd_next b x) own (m ∷ ds) [] None fs)) e
-      ∙ ap (and_let (hoist_d own d b x) (blocks_d b x)) (fuse_t t own (suc d) (cd_next b x) ds fs rest ends (subst (λ m. CScoped m t) e h.1))
-      ∙ with_let (hoist_d own d b x) (hoist_t own (suc d) (cd_next b x) t) (blocks_d b x) (blocks_t (cd_next b x) t) _
-  fuse_t (CCall f ts vs) own d b ds fs rest ends h =
-      let c1 = cv_next b f in
-      fuse_v f own d b ds [] None fs (MCall ts (cwidth vs) ∷ clin_vs (deep own d) vs rest) h.0
-      ∙ ap (with (blocks_v b f)) (fuse_vs vs own d c1 ds (hoist_v own d b f ∷ []) (Some ts) fs rest h.1 ∙ ap (with (blocks_vs c1 vs)) (called rest (cvs_next c1 vs) own (deep own d) ds (hoist_v own d b f) (hoist_vs own d c1 vs) ts fs ends))
-      ∙ with_two (blocks_v b f) (blocks_vs c1 vs) _
-  fuse_t (CIf v t u) own d b ds fs rest ends h =
-      let c1 = cv_next b v in
-      let c2 = ct_next c1 t in
-      let e = deep own d in
-      fuse_v v own d b ds [] None fs (MIf ∷ clin_t e t (MElse ∷ clin_t e u rest)) h.0
-      ∙ ap (λ r. with (blocks_v b v) (if_fine (hoist_v own d b v) r))
-      (fuse_t t own d c1 (e ∷ ds) fs (MElse ∷ clin_t e u rest) tt h.1 ∙ ap (and_term (hoist_t own d c1 t) (blocks_t c1 t)) (fuse_t u own d c2 ds fs rest ends h.2))
-      ∙ with_if (hoist_v own d b v) (hoist_t own d c1 t) (hoist_t own d c2 u) (blocks_v b v) (blocks_t c1 t) (blocks_t c2 u) _
-  fuse_t (CHalt v) own d b ds fs rest ends h = fuse_v v own d b ds [] None fs (MHalt ∷ rest) h
+    fuse_vs : (vs : CVals) (own : Own) (d b : ℕ) (ds : List ℕ) (xs : List HVal) (c : Option CTys) (fs : List Around) (rest : List CNd) → CScoped_vs (deep own d) vs → CSmall_vs M vs →
+        found_in (clin_vs (deep own d) vs rest) b own (deep own d ∷ ds) xs c fs ≡ with (blocks_vs b vs) (found_in rest (cvs_next b vs) own (deep own d ∷ ds) (xs ++ listed (hoist_vs own d b vs)) c fs)
+    fuse_vs NoCVals own d b ds xs c fs rest h s = ap (λ ys. found_in rest b own (deep own d ∷ ds) ys c fs) (sym (append-nil xs))
+    fuse_vs (MoreCVals v vs) own d b ds xs c fs rest h s =
+        let w = hoist_v own d b v in
+        let ws = listed (hoist_vs own d (cv_next b v) vs) in
+        fuse_v v own d b ds xs c fs (clin_vs (deep own d) vs rest) h.0 s.0
+        ∙ ap (with (blocks_v b v)) (fuse_vs vs own d (cv_next b v) ds (xs ++ w ∷ []) c fs rest h.1 s.1 ∙ ap (λ ys. with (blocks_vs (cv_next b v) vs) (found_in rest (cvs_next (cv_next b v) vs) own (deep own d ∷ ds) ys c fs)) (append_assoc xs (w ∷ []) ws))
+        ∙ with_two (blocks_v b v) (blocks_vs (cv_next b v) vs) _
 
-pub found_is : (t : CTm) → CScoped 0 t → found_in (clin_t 0 t []) 0 Nobody (0 ∷ []) [] None [] ≡ whole t
-found_is t h = fuse_t t Nobody 0 0 [] [] [] tt h
+    fuse_d : (x : CDecl) (own : Own) (d b : ℕ) (ds : List ℕ) (fs : List Around) (rest : List CNd) → CScoped_d (deep own d) x → CSmall_d M x → deep own d < 18446744073709551615 →
+        found_in (clin_d (deep own d) x rest) b own (deep own d ∷ ds) [] None fs ≡ and_let (hoist_d own d b x) (blocks_d b x) (found_in rest (cd_next b x) own (suc (deep own d) ∷ ds) [] None fs)
+    fuse_d (CName v) own d b ds fs rest h s lt = fuse_v v own d b ds [] None fs (MName (deep own d) ∷ rest) h s ∙ roomy (deep own d) (HName (hoist_v own d b v)) (blocks_v b v) (found_in rest (cv_next b v) own (suc (deep own d) ∷ ds) [] None fs) lt
+    fuse_d (CProj i v) own d b ds fs rest h s lt = fuse_v v own d b ds [] None fs (MProj (deep own d) i ∷ rest) h s ∙ roomy (deep own d) (HProj i (hoist_v own d b v)) (blocks_v b v) (found_in rest (cv_next b v) own (suc (deep own d) ∷ ds) [] None fs) lt
+    fuse_d (CArith o v w) own d b ds fs rest h s lt =
+        fuse_v v own d b ds [] None fs (clin_v (deep own d) w (MArith (deep own d) o ∷ rest)) h.0 s.0
+        ∙ ap (with (blocks_v b v)) (fuse_v w own d (cv_next b v) ds (hoist_v own d b v ∷ []) None fs (MArith (deep own d) o ∷ rest) h.1 s.1)
+        ∙ with_two (blocks_v b v) (blocks_v (cv_next b v) w) _
+        ∙ roomy (deep own d) (HArith o (hoist_v own d b v) (hoist_v own d (cv_next b v) w)) (blocks_v b v ++ blocks_v (cv_next b v) w) (found_in rest (cv_next (cv_next b v) w) own (suc (deep own d) ∷ ds) [] None fs) lt
+    fuse_d (CUnpack v) own d b ds fs rest h s lt = fuse_v v own d b ds [] None fs (MUnpack (deep own d) ∷ rest) h s ∙ roomy (deep own d) (HUnpack (hoist_v own d b v)) (blocks_v b v) (found_in rest (cv_next b v) own (suc (deep own d) ∷ ds) [] None fs) lt
+    fuse_d (CCell v) own d b ds fs rest h s lt = fuse_v v own d b ds [] None fs (MCell (deep own d) ∷ rest) h s ∙ roomy (deep own d) (HCell (hoist_v own d b v)) (blocks_v b v) (found_in rest (cv_next b v) own (suc (deep own d) ∷ ds) [] None fs) lt
+    fuse_d (CGet v) own d b ds fs rest h s lt = fuse_v v own d b ds [] None fs (MGet (deep own d) ∷ rest) h s ∙ roomy (deep own d) (HGet (hoist_v own d b v)) (blocks_v b v) (found_in rest (cv_next b v) own (suc (deep own d) ∷ ds) [] None fs) lt
+    fuse_d (CSet v w) own d b ds fs rest h s lt =
+        fuse_v v own d b ds [] None fs (clin_v (deep own d) w (MSet (deep own d) ∷ rest)) h.0 s.0
+        ∙ ap (with (blocks_v b v)) (fuse_v w own d (cv_next b v) ds (hoist_v own d b v ∷ []) None fs (MSet (deep own d) ∷ rest) h.1 s.1)
+        ∙ with_two (blocks_v b v) (blocks_v (cv_next b v) w) _
+        ∙ roomy (deep own d) (HSet (hoist_v own d b v) (hoist_v own d (cv_next b v) w)) (blocks_v b v ++ blocks_v (cv_next b v) w) (found_in rest (cv_next (cv_next b v) w) own (suc (deep own d) ∷ ds) [] None fs) lt
+
+    fuse_t : (t : CTm) (own : Own) (d b : ℕ) (ds : List ℕ) (fs : List Around) (rest : List CNd) → Ends rest → CScoped (deep own d) t → CSmall_t M t → deep own d + cown_t t ≤ suc M →
+        found_in (clin_t (deep own d) t rest) b own (deep own d ∷ ds) [] None fs ≡ and_term (hoist_t own d b t) (blocks_t b t) (found_in rest (ct_next b t) own ds [] None fs)
+    fuse_t (CLet x t) own d b ds fs rest ends h s le =
+        let e = sym (deep_suc own d) in
+        let one = own_some x in
+        fuse_d x own d b ds fs (clin_t (suc (deep own d)) t rest) h.0 s.0 (omega (arith, le, small, one))
+        ∙ ap (λ m. and_let (hoist_d own d b x) (blocks_d b x) (found_in (clin_t m t rest) (cd_next b x) own (m ∷ ds) [] None fs)) e
+        ∙ ap (and_let (hoist_d own d b x) (blocks_d b x)) (fuse_t t own (suc d) (cd_next b x) ds fs rest ends (subst (λ m. CScoped m t) e h.1) s.1 (omega (arith, le, one, deep_suc own d)))
+        ∙ with_let (hoist_d own d b x) (hoist_t own (suc d) (cd_next b x) t) (blocks_d b x) (blocks_t (cd_next b x) t) _
+    fuse_t (CCall f ts vs) own d b ds fs rest ends h s le =
+        let c1 = cv_next b f in
+        fuse_v f own d b ds [] None fs (MCall ts (cwidth vs) ∷ clin_vs (deep own d) vs rest) h.0 s.0
+        ∙ ap (with (blocks_v b f)) (fuse_vs vs own d c1 ds (hoist_v own d b f ∷ []) (Some ts) fs rest h.1 s.1 ∙ ap (with (blocks_vs c1 vs)) (called rest (cvs_next c1 vs) own (deep own d) ds (hoist_v own d b f) (hoist_vs own d c1 vs) ts fs ends))
+        ∙ with_two (blocks_v b f) (blocks_vs c1 vs) _
+    fuse_t (CIf v t u) own d b ds fs rest ends h s le =
+        let c1 = cv_next b v in
+        let c2 = ct_next c1 t in
+        let e = deep own d in
+        fuse_v v own d b ds [] None fs (MIf ∷ clin_t e t (MElse ∷ clin_t e u rest)) h.0 s.0
+        ∙ ap (λ r. with (blocks_v b v) (if_fine (hoist_v own d b v) r))
+        (fuse_t t own d c1 (e ∷ ds) fs (MElse ∷ clin_t e u rest) tt h.1 s.1 (omega (arith, le)) ∙ ap (and_term (hoist_t own d c1 t) (blocks_t c1 t)) (fuse_t u own d c2 ds fs rest ends h.2 s.2 (omega (arith, le))))
+        ∙ with_if (hoist_v own d b v) (hoist_t own d c1 t) (hoist_t own d c2 u) (blocks_v b v) (blocks_t c1 t) (blocks_t c2 u) _
+    fuse_t (CHalt v) own d b ds fs rest ends h s le = fuse_v v own d b ds [] None fs (MHalt ∷ rest) h s
+
+pub found_is : (t : CTm) → CScoped 0 t → CSmall 17592186044416 t → hoisted (clin_t 0 t []) ≡ whole t
+found_is t h s = fuse_t 17592186044416 (omega arith) t Nobody 0 0 [] [] [] tt h s.1 (omega (arith, s.0))

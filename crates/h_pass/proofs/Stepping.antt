@@ -2,6 +2,7 @@
 use Rattle.std.proofs.Common.{◌≡◌, ◌<◌, ◌≤◌, ℕ, zero, suc, Bool, true, false, List, [], ◌∷◌, ◌++◌, Option, Some, None, refl, sym, ap, ap₂, ◌∙◌, subst, append_assoc, length, get_or, slice_set, arith, Vec, Global, Result, OnOk}
 use Rattle.std.proofs.lemmas.List.{length-append, append-nil}
 use Rattle.std.proofs.lemmas.Result.{on_ok_weaker}
+use Rattle.std.proofs.lemmas.Bool.{ltb-true}
 use Rattle.c_terms.specs.Stream as S
 use Rattle.c_terms.specs.declared.types.CType.{CType}
 use Rattle.c_terms.specs.declared.node.CNode.{CNode}
@@ -22,7 +23,7 @@ use Rattle.h_terms.specs.Row.{IsOne, IsSome, IsTwo, others, top}
 use Rattle.h_pass.proofs.Fusing.{call_ends}
 use Rattle.h_pass.proofs.Spots.{deep, lift_add}
 use Rattle.h_pass.specs.Hoist.{Code, Nobody, Own}
-use Rattle.h_pass.specs.Stream.{Around, Found, both, code_found, found_in, hoisted, is_none, is_one, is_some, is_two, nothing, out_found}
+use Rattle.h_pass.specs.Stream.{Around, Found, both, code_found, found_in, has_room, hoisted, is_none, is_one, is_some, is_two, nothing, out_found}
 use Rattle.h_pass.specs.Walk.{Begun, Declares, Ends, Goes, IsPart, Labelled, Makes, Stands, Steps, Walked, arity, around, body_with, built, closes, fill_own, filled, h_onto, one_name, own_of, waiting}
 
 pub reads_push : (vs : List HVal) (ps : List HPart) (p : HPart) → reads vs (ps ++ p ∷ []) ≡ more p (reads vs ps)
@@ -124,21 +125,21 @@ arity_of (F.Call us) vs h = some_of vs h
 arity_of F.If0 vs h = one_of vs h
 arity_of F.Halt vs h = one_of vs h
 
-emitted : (form : HForm) (parts : Vec HPart Global) (r : Found) (bs : List HBlock) (own : Option ℕ) (ns new : List HNode) (ds after : List ℕ) (fs : List Open) (p : HBlks × HTm) →
-    new ≡ ns ++ record { form = form; values = parts } ∷ [] → (is_some ds ≡ true → length after ≡ lift (h_kids form) (length (others ds))) →
-    Stands (built form (reads [] parts.items) (both (is_some ds) (arity form (reads [] parts.items))) r) bs own ns ds fs p → Stands r bs own new after fs p
-emitted form parts r bs own ns new ds after fs p is kids st =
+emitted : (form : HForm) (room : List ℕ → Bool) (parts : Vec HPart Global) (r : Found) (bs : List HBlock) (own : Option ℕ) (ns new : List HNode) (ds after : List ℕ) (fs : List Open) (p : HBlks × HTm) →
+    new ≡ ns ++ record { form = form; values = parts } ∷ [] → ((xs : List ℕ) → room xs ≡ true → is_some xs ≡ true) → (is_some ds ≡ true → length after ≡ lift (h_kids form) (length (others ds))) →
+    Stands (built form (reads [] parts.items) (both (room ds) (arity form (reads [] parts.items))) r) bs own ns ds fs p → Stands r bs own new after fs p
+emitted form room parts r bs own ns new ds after fs p is due kids st =
     let node : HNode = record { form = form; values = parts } in
     let ok = arity form (reads [] parts.items) in
-    let tests = both_left (both (is_some ds) ok) r.fine st.fine in
-    let some = both_left (is_some ds) ok tests in
+    let tests = both_left (both (room ds) ok) r.fine st.fine in
+    let some = due ds (both_left (room ds) ok tests) in
     record {
-      fine = both_right (both (is_some ds) ok) r.fine st.fine;
+      fine = both_right (both (room ds) ok) r.fine st.fine;
       same = ap (λ t. closes own (top no_term t) fs r.outer (h_blocks bs ++ r.blocks)) (ap (λ xs. h_onto xs r.terms) is ∙ onto_append ns (node ∷ []) r.terms) ∙ st.same;
       rows = st.rows;
       begun = λ rest h.
           subst (λ xs. HRow xs 1) (sym (ap (λ xs. xs ++ rest) is ∙ append_assoc ns (node ∷ []) rest))
-          (st.begun (node ∷ rest) (subst (HRow (node ∷ rest)) (sym (some_long ds some)) (arity_of form (reads [] parts.items) (both_right (is_some ds) ok tests), subst (HRow rest) (kids some) h)));
+          (st.begun (node ∷ rest) (subst (HRow (node ∷ rest)) (sym (some_long ds some)) (arity_of form (reads [] parts.items) (both_right (room ds) ok tests), subst (HRow rest) (kids some) h)));
       all = st.all;
       labelled = st.labelled;
     }
@@ -221,17 +222,36 @@ finished bs own ns ds fs p st =
       row = whole_row ns ds none st.begun;
     }
 
-pub emits : (form : HForm) (parts : Vec HPart Global) (n : S.CNd) (after : List ℕ → List ℕ) (rest : List S.CNd) (b : ℕ) (o : Own) (ds ds2 : List ℕ) (c : Option CTys) (fs : List Around)
+pub emits : (form : HForm) (room : List ℕ → Bool) (parts : Vec HPart Global) (n : S.CNd) (after : List ℕ → List ℕ) (rest : List S.CNd) (b : ℕ) (o : Own) (ds ds2 : List ℕ) (c : Option CTys) (fs : List Around)
     (bs : List HBlock) (own : Option ℕ) (ns new : List HNode) (left : List HPart) (gs : List Open) (p : HBlks × HTm) →
-    new ≡ ns ++ record { form = form; values = parts } ∷ [] → left ≡ [] → ds2 ≡ after ds → (is_some ds ≡ true → length (after ds) ≡ lift (h_kids form) (length (others ds))) → Makes form after n →
+    new ≡ ns ++ record { form = form; values = parts } ∷ [] → left ≡ [] → ds2 ≡ after ds → ((xs : List ℕ) → room xs ≡ true → is_some xs ≡ true) → (is_some ds ≡ true → length (after ds) ≡ lift (h_kids form) (length (others ds))) → Makes form room after n →
     Stands (found_in (n ∷ rest) b o ds (reads [] parts.items) c fs) bs own ns ds gs p → Stands (found_in rest b o ds2 (reads [] left) c fs) bs own new ds2 gs p
-emits form parts n after rest b o ds ds2 c fs bs own ns new left gs p made none deep kids makes st =
+emits form room parts n after rest b o ds ds2 c fs bs own ns new left gs p made none deep due kids makes st =
     let r = found_in rest b o (after ds) [] c fs in
     let vs = reads [] parts.items in
-    let old : Stands (built form vs (both (is_some ds) (arity form vs)) r) bs own ns ds gs p = subst (λ x. Stands x bs own ns ds gs p) (makes rest b o ds vs c fs) st in
+    let old : Stands (built form vs (both (room ds) (arity form vs)) r) bs own ns ds gs p = subst (λ x. Stands x bs own ns ds gs p) (makes rest b o ds vs c fs) st in
     subst (λ xs. Stands (found_in rest b o xs (reads [] left) c fs) bs own new xs gs p) (sym deep)
     (subst (λ (xs : List HPart). Stands (found_in rest b o (after ds) (reads [] xs) c fs) bs own new (after ds) gs p) (sym none)
-    (emitted form parts r bs own ns new ds (after ds) gs p made kids old))
+    (emitted form room parts r bs own ns new ds (after ds) gs p made due kids old))
+
+pub due : (ds : List ℕ) → is_some ds ≡ true → is_some ds ≡ true
+due ds h = h
+
+pub room_due : (ds : List ℕ) → has_room ds ≡ true → is_some ds ≡ true
+room_due [] h = absurd (off h)
+room_due (d ∷ ds) h = refl
+
+-- where a declaration's node is fine, one more name is a number
+pub room_of : (form : HForm) (n : S.CNd) (rest : List S.CNd) (b : ℕ) (o : Own) (ds : List ℕ) (vs : List HVal) (c : Option CTys) (fs : List Around) (bs : List HBlock) (own : Option ℕ) (ns : List HNode) (gs : List Open) (p : HBlks × HTm) →
+    Makes form has_room one_name n → Stands (found_in (n ∷ rest) b o ds vs c fs) bs own ns ds gs p → top 0 ds < 18446744073709551615
+room_of form n rest b o ds vs c fs bs own ns gs p makes st =
+    let r = found_in rest b o (one_name ds) [] c fs in
+    let fine : both (both (has_room ds) (arity form vs)) r.fine ≡ true = sym (ap (λ (x : Found). x.fine) (makes rest b o ds vs c fs)) ∙ st.fine in
+    is_room ds (both_left (has_room ds) (arity form vs) (both_left (both (has_room ds) (arity form vs)) r.fine fine))
+  where
+    is_room : (xs : List ℕ) → has_room xs ≡ true → top 0 xs < 18446744073709551615
+    is_room [] h = absurd (off h)
+    is_room (x ∷ xs) h = ltb-true x 18446744073709551615 h
 
 pub declared : (form : HForm) (ds : List ℕ) → h_kids form ≡ 1 → is_some ds ≡ true → length (one_name ds) ≡ lift (h_kids form) (length (others ds))
 declared form ds one s = sym (ap (λ k. lift k (length (others ds))) one)
@@ -251,7 +271,7 @@ calls types parts rest b o ds ds2 old now fs bs own ns new left gs p ends e1 e2 
     subst (λ (x : Option (Vec CType Global)). Stands (found_in rest b o ds2 (reads [] left) (waiting x) fs) bs own new ds2 gs p) (sym e2)
     (subst (λ xs. Stands (found_in rest b o xs (reads [] left) None fs) bs own new xs gs p) (sym deep)
     (subst (λ (xs : List HPart). Stands (found_in rest b o (others ds) (reads [] xs) None fs) bs own new (others ds) gs p) (sym none)
-    (emitted (F.Call types) parts r bs own ns new ds (others ds) gs p made (λ s. refl) before)))
+    (emitted (F.Call types) is_some parts r bs own ns new ds (others ds) gs p made (λ xs h. h) (λ s. refl) before)))
 
 pub as_node : (w : Walk) (n k : S.CNd) (rest : List S.CNd) (p : HBlks × HTm) → n ≡ k → Walked w (n ∷ rest) p → Walked w (k ∷ rest) p
 as_node w n k rest p is st = subst (λ x. Walked w (x ∷ rest) p) is st

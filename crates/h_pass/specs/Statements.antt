@@ -6,6 +6,7 @@ use Rattle.c_terms.specs.Each.{CGoodP}
 use Rattle.c_terms.specs.Meaning.{crun}
 use Rattle.c_terms.specs.Reach.{CWithin}
 use Rattle.c_terms.specs.Scope.{CScoped}
+use Rattle.c_terms.specs.Size.{CSmall}
 use Rattle.c_terms.specs.Stream.{clin_t}
 use Rattle.c_terms.specs.Typing.{CGood}
 use Rattle.h_terms.specs.Bound.{HFits}
@@ -38,9 +39,9 @@ HoistReach = (N R B : ℕ) (t : CTm) → CGoodP (CWithin N R B) 0 [] t →
 abbrev pub HoistFits : Type 0
 HoistFits = (N R : ℕ) (t : CTm) → CFits N R t → HFits N R (blocks_of t) (main_of t)
 
--- the names of a term within the bound of programs are in scope
-abbrev pub BoundIsScoped : Type 0
-BoundIsScoped = (t : CTm) → ∥ CBound t ∥₁ → CScoped 0 t
+-- a term within the bound of programs has its names in scope, and small bodies
+abbrev pub BoundIsSmall : Type 0
+BoundIsSmall = (t : CTm) → ∥ CBound t ∥₁ → CScoped 0 t × CSmall 17592186044416 t
 
 -- where names are in scope, no types are needed
 abbrev pub ScopedIsBack : Type 0
@@ -48,4 +49,4 @@ ScopedIsBack = (t : CTm) → CScoped 0 t → IsHoisted (blocks_of t) (main_of t)
 
 -- the nodes of a term hold its hoisted form
 abbrev pub NodesKept : Type 0
-NodesKept = (t : CTm) → CScoped 0 t → hoisted (clin_t 0 t []) ≡ whole t
+NodesKept = (t : CTm) → CScoped 0 t → CSmall 17592186044416 t → hoisted (clin_t 0 t []) ≡ whole t

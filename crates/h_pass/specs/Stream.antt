@@ -1,5 +1,5 @@
 -- Hoisting along the nodes.
-use Rattle.std.specs.Prelude.{◌≡◌, ℕ, zero, suc, ◌-◌, Bool, true, false, List, [], ◌∷◌, ◌++◌, Option, Some, None}
+use Rattle.std.specs.Prelude.{nat_lt, ◌≡◌, ℕ, zero, suc, ◌-◌, Bool, true, false, List, [], ◌∷◌, ◌++◌, Option, Some, None}
 use Rattle.term_core.specs.Ends.{lift}
 use Rattle.c_terms.specs.C.{CTm, CTys, ccount}
 use Rattle.c_terms.specs.Stream.{CNd, MApply, MArith, MCall, MCell, MCode, MElse, MEnd, MGet, MHalt, MIf, MInt, MName, MPack, MProj, MSet, MTuple, MUnpack, MVar}
@@ -45,6 +45,11 @@ is_one (x ∷ xs) = is_none xs
 abbrev pub is_two : {T : Type 0} → List T → Bool
 is_two [] = false
 is_two (x ∷ xs) = is_one xs
+
+-- a term is due, and one more of its names is still a number of 64 bits
+abbrev pub has_room : List ℕ → Bool
+has_room [] = false
+has_room (d ∷ ds) = nat_lt d 18446744073709551615
 
 -- the value of a level under e names, the first of which is the name of the code around
 abbrev pub name_at : Own → ℕ → ℕ → HVal
@@ -123,25 +128,25 @@ found_in (MEnd ∷ ns) b own ds vs (Some ts) (f ∷ fs) =
 found_in (MApply ts ∷ ns) b own ds vs c fs = found_in ns b own ds (at_last (λ v. HApply v ts) vs) c fs
 found_in (MPack h s ∷ ns) b own ds vs c fs = found_in ns b own ds (at_last (λ v. HPack h v s) vs) c fs
 found_in (MName l ∷ ns) b own ds vs c fs =
-    let_found (both (is_some ds) (is_one vs)) (HName (top no_value vs))
+    let_found (both (has_room ds) (is_one vs)) (HName (top no_value vs))
     (found_in ns b own (suc (top 0 ds) ∷ others ds) [] c fs)
 found_in (MProj l i ∷ ns) b own ds vs c fs =
-    let_found (both (is_some ds) (is_one vs)) (HProj i (top no_value vs))
+    let_found (both (has_room ds) (is_one vs)) (HProj i (top no_value vs))
     (found_in ns b own (suc (top 0 ds) ∷ others ds) [] c fs)
 found_in (MArith l o ∷ ns) b own ds vs c fs =
-    let_found (both (is_some ds) (is_two vs)) (HArith o (top no_value vs) (top no_value (others vs)))
+    let_found (both (has_room ds) (is_two vs)) (HArith o (top no_value vs) (top no_value (others vs)))
     (found_in ns b own (suc (top 0 ds) ∷ others ds) [] c fs)
 found_in (MUnpack l ∷ ns) b own ds vs c fs =
-    let_found (both (is_some ds) (is_one vs)) (HUnpack (top no_value vs))
+    let_found (both (has_room ds) (is_one vs)) (HUnpack (top no_value vs))
     (found_in ns b own (suc (top 0 ds) ∷ others ds) [] c fs)
 found_in (MCell l ∷ ns) b own ds vs c fs =
-    let_found (both (is_some ds) (is_one vs)) (HCell (top no_value vs))
+    let_found (both (has_room ds) (is_one vs)) (HCell (top no_value vs))
     (found_in ns b own (suc (top 0 ds) ∷ others ds) [] c fs)
 found_in (MGet l ∷ ns) b own ds vs c fs =
-    let_found (both (is_some ds) (is_one vs)) (HGet (top no_value vs))
+    let_found (both (has_room ds) (is_one vs)) (HGet (top no_value vs))
     (found_in ns b own (suc (top 0 ds) ∷ others ds) [] c fs)
 found_in (MSet l ∷ ns) b own ds vs c fs =
-    let_found (both (is_some ds) (is_two vs)) (HSet (top no_value vs) (top no_value (others vs)))
+    let_found (both (has_room ds) (is_two vs)) (HSet (top no_value vs) (top no_value (others vs)))
     (found_in ns b own (suc (top 0 ds) ∷ others ds) [] c fs)
 found_in (MCall ts n ∷ ns) b own ds vs c fs = found_in ns b own ds vs (Some ts) fs
 found_in (MIf ∷ ns) b own ds vs c fs =

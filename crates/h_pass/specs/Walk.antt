@@ -16,7 +16,7 @@ use Rattle.h_terms.specs.H.{HBlks, HTm, HVal}
 use Rattle.h_terms.specs.Nodes.{HRow, HRows, h_blocks, h_build, h_kids, more, no_term, reads, values}
 use Rattle.h_terms.specs.Row.{others, top}
 use Rattle.h_pass.specs.Hoist.{Code, Nobody, Own}
-use Rattle.h_pass.specs.Stream.{Around, Found, both, found_in, hoisted, is_one, is_some, is_two}
+use Rattle.h_pass.specs.Stream.{Around, Found, both, found_in, has_room, hoisted, is_one, is_some, is_two}
 
 -- the name of the code
 abbrev pub own_of : Option ℕ → Own
@@ -124,11 +124,12 @@ built form vs ok r = record {
   fine = both ok r.fine;
 }
 
--- a node that makes the values before it a node of this form, after which the names in scope are these
-abbrev pub Makes : HForm → (List ℕ → List ℕ) → S.CNd → Type 0
-Makes form after n = (rest : List S.CNd) (b : ℕ) (own : Own) (ds : List ℕ) (vs : List HVal) (c : Option CTys)
+-- a node that makes the values before it a node of this form, where there is room, after which the names in scope are
+-- these
+abbrev pub Makes : HForm → (List ℕ → Bool) → (List ℕ → List ℕ) → S.CNd → Type 0
+Makes form room after n = (rest : List S.CNd) (b : ℕ) (own : Own) (ds : List ℕ) (vs : List HVal) (c : Option CTys)
     (fs : List Around) →
-    found_in (n ∷ rest) b own ds vs c fs ≡ built form vs (both (is_some ds) (arity form vs))
+    found_in (n ∷ rest) b own ds vs c fs ≡ built form vs (both (room ds) (arity form vs))
     (found_in rest b own (after ds) [] c fs)
 
 -- a declaration binds one name
@@ -136,7 +137,7 @@ abbrev pub one_name : List ℕ → List ℕ
 one_name ds = suc (top 0 ds) ∷ others ds
 
 abbrev pub Declares : HForm → S.CNd → Type 0
-Declares form n = (h_kids form ≡ 1) × Makes form one_name n
+Declares form n = (h_kids form ≡ 1) × Makes form has_room one_name n
 
 -- a node that is a part of a value
 abbrev pub IsPart : HPart → S.CNd → Type 0

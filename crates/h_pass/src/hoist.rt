@@ -17,7 +17,7 @@ ghost use Rattle.h_pass.specs.Back.{IsHoisted};
 ghost use Rattle.h_pass.specs.Stream.{IsFine};
 ghost use Rattle.h_pass.specs.Walk.{Walked, program_of};
 
-use crate::laws::{bound_is_scoped_law, hoist_meaning_law, hoist_types_law, scoped_is_back_law};
+use crate::laws::{bound_is_small_law, hoist_meaning_law, hoist_types_law, scoped_is_back_law};
 use crate::state::{Open, Walk};
 use c_terms::CProgram;
 use h_terms::HProgram;
@@ -35,7 +35,7 @@ pub fn hoist(alloc: Global, program: &CProgram) -> Result<HProgram, OutOfMemory>
     ensures reach { IfOk result (λ r. (N R B : ℕ) →
         CGoodP (CWithin N R B) 0 [] (term_of program.now) → HProgramP (CWithin N R B) (blocks_in r) (main_in r)) }
 {
-    bound_is_scoped_law();
+    bound_is_small_law();
     scoped_is_back_law();
     hoist_meaning_law();
     hoist_types_law();

@@ -1,6 +1,6 @@
 // What hoisting keeps, on trees.
 ghost use Rattle.h_pass.specs.Statements.{HoistIsBack, HoistKept, HoistTypesKept, HoistReach, HoistFits};
-ghost use Rattle.h_pass.specs.Statements.{BoundIsScoped, ScopedIsBack, NodesKept};
+ghost use Rattle.h_pass.specs.Statements.{BoundIsSmall, ScopedIsBack, NodesKept};
 
 use c_terms::laws::{typed_is_any_law, typed_is_scoped_law, within_is_typed_law};
 use h_terms::laws::h_typed_is_any_law;
@@ -28,15 +28,15 @@ pub fn hoist_types_law()
     h_typed_is_any_law();
 }
 
-// The names of a program's term are in scope.
-pub(crate) fn bound_is_scoped_law()
-    ensures { BoundIsScoped }
+// The names of a program's term are in scope, and its bodies are small.
+pub(crate) fn bound_is_small_law()
+    ensures { BoundIsSmall }
 {
     within_is_typed_law();
     typed_is_scoped_law();
 }
 
-// What holds of each term whose names are in scope.
+// What holds of each such term.
 pub(crate) fn scoped_is_back_law()
     ensures back { ScopedIsBack }
     ensures nodes { NodesKept }

@@ -1,5 +1,5 @@
 // Parts, nodes, names and blocks.
-ghost use Rattle.std.specs.Prelude.{◌≡◌, ℕ, suc, List, [], ◌∷◌, ◌++◌, IfOk, OnOk, length};
+ghost use Rattle.std.specs.Prelude.{◌≡◌, ◌<◌, ℕ, suc, List, [], ◌∷◌, ◌++◌, IfOk, OnOk, length};
 ghost use Rattle.h_terms.specs.H.{HVal};
 ghost use Rattle.h_terms.specs.Row.{top, others};
 ghost use Rattle.h_terms.specs.Nodes.{more, reads, h_blocks, h_tree, HRow, HRows};
@@ -12,17 +12,6 @@ use idx_core::OutOfMemory;
 use std::alloc::Global;
 use std::collections::VecDeque;
 use std::mem;
-
-// The next number. A count of names is at most that of a body's nodes, so no sum passes the range; the answer that it did
-// would be want of memory.
-pub fn after(n: u64) -> Result<u64, OutOfMemory>
-    ensures { IfOk result (λ r. r ≡ suc n) }
-{
-    match n.checked_add(1) {
-        Some(m) => Ok(m),
-        None => Err(OutOfMemory),
-    }
-}
 
 // What a level under so many names is: in a code level 0 is the code itself, and its label stands for it.
 pub fn name(own: Option<u64>, depth: u64, level: u64) -> HPart
@@ -65,21 +54,15 @@ pub fn depth(depths: &VecDeque<u64>) -> u64
     }
 }
 
-// The next term has one name more.
+// The next term has one name more. The names of a body are far fewer than numbers of 64 bits, so the sum is exact.
 pub fn deepen(depths: &mut VecDeque<u64>) -> Result<(), OutOfMemory>
-    ensures { OnOk result (depths.new.items ≡ suc (top 0 depths.old.items) ∷ others depths.old.items) }
+    ensures { OnOk result (top 0 depths.old.items < 18446744073709551615 →
+        depths.new.items ≡ suc (top 0 depths.old.items) ∷ others depths.old.items) }
 {
-    match depths.pop_front() {
-        Some(d) => {
-            let next = after(d)?;
-            depths.push_front(next)?;
-            Ok(())
-        }
-        None => {
-            depths.push_front(1)?;
-            Ok(())
-        }
-    }
+    let next = depth(depths).saturating_add(1);
+    shorten(depths);
+    depths.push_front(next)?;
+    Ok(())
 }
 
 // The next term is done.

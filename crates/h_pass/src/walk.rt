@@ -4,7 +4,7 @@ ghost use Rattle.c_terms.specs.Stream as S;
 ghost use Rattle.c_terms.specs.Read.{ctree, ctys, cnode};
 ghost use Rattle.h_pass.specs.Walk.{Goes, Steps, Declares, IsPart, Ends};
 
-use crate::parts::{after, deepen, depth, emit, hole, name, put, put_body, shorten};
+use crate::parts::{deepen, depth, emit, hole, name, put, put_body, shorten};
 use crate::state::{Open, Walk};
 use c_terms::{CNode, CType};
 use h_terms::copying::{copy_type, copy_types};
@@ -84,7 +84,7 @@ impl Walk {
     {
         let label = self.blocks.len() as u64;
         let params = copy_types(alloc, args)?;
-        let count = after(params.len() as u64)?;
+        let count = params.len() as u64 + 1;
         let body = hole(alloc)?;
         self.blocks.push(HBlock {
             owes,

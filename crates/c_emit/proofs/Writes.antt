@@ -1,6 +1,6 @@
 -- Nodes that are written.
-use Rattle.std.proofs.Common.{◌≡◌, ℕ, suc, ◌+◌, ◌-◌, ◌<◌, ◌≤◌, List, [], ◌∷◌, ◌++◌, length, drop, refl, ap, ◌∙◌, sym, arith, get_or, zero, map}
-use Rattle.std.specs.Prelude.{nat_lt, Bool, true, false}
+use Rattle.std.proofs.Common.{◌≡◌, ℕ, suc, ◌+◌, ◌-◌, ◌<◌, List, [], ◌∷◌, ◌++◌, length, drop, refl, ap, ◌∙◌, sym, arith, get_or, zero, map}
+use Rattle.std.specs.Prelude.{Bool, true, false}
 use Rattle.term_core.specs.Ends.{after_one, lift}
 use Rattle.k_terms.specs.K.{KTys, kcount}
 use Rattle.k_terms.specs.Stream as N

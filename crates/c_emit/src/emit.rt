@@ -21,11 +21,9 @@ use std::mem;
 impl Walk {
     // A code begins.
     fn open(&mut self, level: u64, count: u64) -> Result<(), OutOfMemory>
-        ensures {
-            OnOk result
-                ((rest : List KNd) (depth owes : ℕ) (args : KTys) → kcount args ≡ count →
-                 walked self.new rest ≡ walked self.old (NCode level depth owes args ∷ rest))
-        }
+        ensures { OnOk result
+            ((rest : List KNd) (depth owes : ℕ) (args : KTys) → kcount args ≡ count →
+            walked self.new rest ≡ walked self.old (NCode level depth owes args ∷ rest)) }
     {
         match self.infos.pop_front() {
             None => Ok(()),
@@ -40,15 +38,18 @@ impl Walk {
 
     // A call.
     fn call(&mut self, level: u64, count: u64) -> Result<(), OutOfMemory>
-        ensures {
-            OnOk result
-                ((rest : List KNd) (depth : ℕ) (types : KTys) →
-                 walked self.new rest ≡ walked self.old (NCall level depth types count ∷ rest))
-        }
+        ensures { OnOk result
+            ((rest : List KNd) (depth : ℕ) (types : KTys) →
+            walked self.new rest ≡ walked self.old (NCall level depth types count ∷ rest)) }
     {
         match self.notes.pop_front() {
             None => Ok(()),
-            Some(Note::Packs { hidden: _, shape: _ }) => Ok(()),
+            Some(
+                Note::Packs {
+                    hidden: _,
+                    shape: _,
+                },
+            ) => Ok(()),
             Some(Note::Calls(types)) => {
                 let at = spot(&self.current, level)?;
                 call(&mut self.out, at, types, count)?;
@@ -59,11 +60,9 @@ impl Walk {
 
     // A package.
     fn pack(&mut self, level: u64) -> Result<(), OutOfMemory>
-        ensures {
-            OnOk result
-                ((rest : List KNd) (depth : ℕ) (hidden shape : KTy) →
-                 walked self.new rest ≡ walked self.old (NPack level depth hidden shape ∷ rest))
-        }
+        ensures { OnOk result
+            ((rest : List KNd) (depth : ℕ) (hidden shape : KTy) →
+            walked self.new rest ≡ walked self.old (NPack level depth hidden shape ∷ rest)) }
     {
         match self.notes.pop_front() {
             None => Ok(()),
@@ -101,19 +100,37 @@ impl Walk {
             KNode::Tuple(n) => put(&mut self.out, CNode::Tuple(*n)),
             KNode::Code { level, args, .. } => Ok(self.open(*level, args.len() as u64)?),
             KNode::End => self.close(),
-            KNode::Name { level, .. } => put(&mut self.out, CNode::Name(spot(&self.current, *level)?)),
+            KNode::Name { level, .. } => put(
+                &mut self.out,
+                CNode::Name(spot(&self.current, *level)?),
+            ),
             KNode::Proj { level, field, .. } => {
                 let level = spot(&self.current, *level)?;
-                put(&mut self.out, CNode::Proj { level, field: *field })
+                put(
+                    &mut self.out,
+                    CNode::Proj {
+                        level,
+                        field: *field,
+                    },
+                )
             }
             KNode::Arith { level, op } => {
                 let level = spot(&self.current, *level)?;
                 put(&mut self.out, CNode::Arith { level, op: *op })
             }
             KNode::Pack { level, .. } => Ok(self.pack(*level)?),
-            KNode::Unpack { level, .. } => put(&mut self.out, CNode::Unpack(spot(&self.current, *level)?)),
-            KNode::Cell { level, .. } => put(&mut self.out, CNode::Cell(spot(&self.current, *level)?)),
-            KNode::Get { level, .. } => put(&mut self.out, CNode::Get(spot(&self.current, *level)?)),
+            KNode::Unpack { level, .. } => put(
+                &mut self.out,
+                CNode::Unpack(spot(&self.current, *level)?),
+            ),
+            KNode::Cell { level, .. } => put(
+                &mut self.out,
+                CNode::Cell(spot(&self.current, *level)?),
+            ),
+            KNode::Get { level, .. } => put(
+                &mut self.out,
+                CNode::Get(spot(&self.current, *level)?),
+            ),
             KNode::Set { level } => put(&mut self.out, CNode::Set(spot(&self.current, *level)?)),
             KNode::Call { level, count, .. } => Ok(self.call(*level, *count)?),
             KNode::If0 => put(&mut self.out, CNode::If0),
@@ -131,12 +148,16 @@ pub fn emit(
     infos: VecDeque<Info>,
     notes: VecDeque<Note>,
 ) -> Result<Vec<CNode>, OutOfMemory>
-    ensures {
-        IfOk result
-            (λ r. written r.items [] ≡ E.emit (map knode nodes.now) (frame top) [] (infos_of infos.items) (notes_of notes.items))
-    }
+    ensures { IfOk result
+        (λ r. written r.items [] ≡ E.emit (map knode nodes.now) (frame top) [] (infos_of infos.items) (notes_of notes.items)) }
 {
-    let mut walk = Walk { out: Vec::new(alloc), current: top, outer: VecDeque::new(alloc), infos, notes };
+    let mut walk = Walk {
+        out: Vec::new(alloc),
+        current: top,
+        outer: VecDeque::new(alloc),
+        infos,
+        notes,
+    };
     for node in nodes {
         walk.step(node)?;
     }

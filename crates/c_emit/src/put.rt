@@ -35,10 +35,8 @@ pub fn spot(f: &Frame, l: u64) -> Result<u64, OutOfMemory>
 
 // The variables of these levels.
 fn put_spots(out: &mut Vec<CNode>, f: &Frame, levels: &[u64]) -> Result<(), OutOfMemory>
-    ensures {
-        OnOk result
-            ((rest : List S.CNd) → written out.new.items rest ≡ written out.old.items (E.spots (frame f.now) levels.now rest))
-    }
+    ensures { OnOk result
+        ((rest : List S.CNd) → written out.new.items rest ≡ written out.old.items (E.spots (frame f.now) levels.now rest)) }
 {
     for l in levels {
         let at = spot(f, *l)?;
@@ -54,7 +52,13 @@ fn put_fields(out: &mut Vec<CNode>, k: u64, first: u64) -> Result<(), OutOfMemor
     let mut level = first;
     for i in 0..k {
         put(out, CNode::Var(1))?;
-        put(out, CNode::Proj { level, field: i + 1 })?;
+        put(
+            out,
+            CNode::Proj {
+                level,
+                field: i + 1,
+            },
+        )?;
         level = sum(level, 1)?;
     }
     Ok(())
@@ -68,12 +72,21 @@ pub fn enter(
     count: u64,
 ) -> Result<Frame, OutOfMemory>
     ensures frame { IfOk result (λ f. frame f ≡ E.frame_of (info known) level count) }
-    ensures nodes {
-        OnOk result
-            ((rest : List S.CNd) → written out.new.items rest ≡ written out.old.items (E.opened (info known) count rest))
-    }
+    ensures nodes { OnOk result
+        ((rest : List S.CNd) → written out.new.items rest ≡ written out.old.items (E.opened (info known) count rest)) }
 {
-    let Info { kept, own, owes, args, apply, hidden, shape, apply_in, hidden_in, shape_in } = known;
+    let Info {
+        kept,
+        own,
+        owes,
+        args,
+        apply,
+        hidden,
+        shape,
+        apply_in,
+        hidden_in,
+        shape_in,
+    } = known;
     let split = sum(count, level)?;
     let split = sum(split, 1)?;
     let first = sum(count, 2)?;
@@ -86,23 +99,54 @@ pub fn enter(
         put(out, CNode::Apply(apply_in))?;
         put(out, CNode::Var(1))?;
         put(out, CNode::Tuple(2))?;
-        put(out, CNode::Pack { hidden: hidden_in, shape: shape_in })?;
+        put(
+            out,
+            CNode::Pack {
+                hidden: hidden_in,
+                shape: shape_in,
+            },
+        )?;
         put(out, CNode::Name(last))?;
         let start = sum(last, 1)?;
-        Ok(Frame { level, split, first, start, kept, apply, hidden, shape })
+        Ok(Frame {
+            level,
+            split,
+            first,
+            start,
+            kept,
+            apply,
+            hidden,
+            shape,
+        })
     } else {
-        Ok(Frame { level, split, first, start: last, kept, apply, hidden, shape })
+        Ok(Frame {
+            level,
+            split,
+            first,
+            start: last,
+            kept,
+            apply,
+            hidden,
+            shape,
+        })
     }
 }
 
 /// Ends a code.
 pub fn leave(out: &mut Vec<CNode>, f: Frame, g: &Frame) -> Result<(), OutOfMemory>
-    ensures {
-        OnOk result
-            ((rest : List S.CNd) → written out.new.items rest ≡ written out.old.items (E.closed (frame f) (frame g.now) rest))
-    }
+    ensures { OnOk result
+        ((rest : List S.CNd) → written out.new.items rest ≡ written out.old.items (E.closed (frame f) (frame g.now) rest)) }
 {
-    let Frame { level: _, split: _, first: _, start: _, kept, apply, hidden, shape } = f;
+    let Frame {
+        level: _,
+        split: _,
+        first: _,
+        start: _,
+        kept,
+        apply,
+        hidden,
+        shape,
+    } = f;
     put(out, CNode::End)?;
     put(out, CNode::Apply(apply))?;
     put_spots(out, g, &kept.list)?;
@@ -114,19 +158,29 @@ pub fn leave(out: &mut Vec<CNode>, f: Frame, g: &Frame) -> Result<(), OutOfMemor
 
 /// Calls what was just put.
 pub fn call(out: &mut Vec<CNode>, at: u64, types: Vec<CType>, count: u64) -> Result<(), OutOfMemory>
-    ensures {
-        OnOk result
-            ((rest : List S.CNd) → written out.new.items rest ≡ written out.old.items (E.called at (ctys types.items) count rest))
-    }
+    ensures { OnOk result
+        ((rest : List S.CNd) → written out.new.items rest ≡ written out.old.items (E.called at (ctys types.items) count rest)) }
 {
     let code = sum(at, 1)?;
     let env = sum(at, 2)?;
     let count = sum(count, 1)?;
     put(out, CNode::Unpack(at))?;
     put(out, CNode::Var(at))?;
-    put(out, CNode::Proj { level: code, field: 1 })?;
+    put(
+        out,
+        CNode::Proj {
+            level: code,
+            field: 1,
+        },
+    )?;
     put(out, CNode::Var(at))?;
-    put(out, CNode::Proj { level: env, field: 2 })?;
+    put(
+        out,
+        CNode::Proj {
+            level: env,
+            field: 2,
+        },
+    )?;
     put(out, CNode::Var(code))?;
     put(out, CNode::Call { types, count })?;
     put(out, CNode::Var(env))?;

@@ -1,14 +1,14 @@
 -- The conversion gives a translation.
 use Rattle.std.proofs.Common.{◌≡◌, ◌<◌, ◌⊎◌, inl, inr, ℕ, zero, suc, ◌+◌, ◌-◌, Bool, true, false, ◌||◌, List, [], ◌∷◌, Option, Some, None, length, refl, sym, ap, ap₂, ◌∙◌, subst, arith, eq-eqb}
-use Rattle.term_core.specs.Ends.{lift, under, after_one}
-use Rattle.k_terms.specs.K.{KTy, KTys, TKCode, NoKTys, MoreKTys, KVal, KVar, KInt, KTuple, KCode, KVals, NoKVals, MoreKVals, KDecl, KName, KProj, KArith, KPack, KUnpack, KCell, KGet, KSet, KTm, KLet, KCall, KIf, KHalt, kcount, kren, krens_scope, kargs_onto, kbody_scope, opens}
+use Rattle.term_core.specs.Ends.{lift, after_one}
+use Rattle.k_terms.specs.K.{KTy, KTys, TKCode, NoKTys, MoreKTys, KVal, KVar, KInt, KTuple, KCode, KVals, NoKVals, MoreKVals, KDecl, KName, KProj, KArith, KPack, KUnpack, KCell, KGet, KSet, KTm, KLet, KCall, KIf, KHalt, kcount, kren, krens_scope, kargs_onto, opens}
 use Rattle.k_terms.specs.Types.{ktype_at, kd_type}
-use Rattle.c_terms.specs.C.{CTy, CTys, TCVar, TCTuple, NoCTys, MoreCTys, CVal, CVar, CTuple, CCode, CApply, CPack, CVals, NoCVals, MoreCVals, CTm}
-use Rattle.c_law.specs.Places.{Places, further, further_one, place, from_on, kept_places, kept_count, keep_one}
+use Rattle.c_terms.specs.C.{TCVar, TCTuple, MoreCTys, CVal, CVar, CTuple, CCode, CApply, CPack, CVals, NoCVals, MoreCVals, CTm}
+use Rattle.c_law.specs.Places.{Places, further, place, from_on, kept_places, kept_count, keep_one}
 use Rattle.c_law.specs.Free.{IsClosed, occurs_v, occurs_vs, occurs_d, occurs_t}
 use Rattle.c_law.specs.Close.{Scope, ctype, ctypes, uses, keeps, tkeeps, rank, var_value, pick_one, picked, pick_type, picked_types, picked_tvars, projections, named, closure, rebuilt, env_type, outside, inner, closed_code, with_var, open_if, with_decl, close_v, close_vs, close_d, close_t, close_of, no_scope}
 use Rattle.c_law.specs.Close as L
-use Rattle.c_law.specs.Row.{Where, pick_index, kept_indices, Stands, AllStand, types_of, tvars_of, frees, packed, first_by, then_next, inside, closed_over, with_name, with_tvar, in_call, RowV, RowVs, RowD, RowT, nowhere, IsTranslation}
+use Rattle.c_law.specs.Row.{Where, pick_index, kept_indices, Stands, AllStand, types_of, tvars_of, packed, first_by, then_next, inside, closed_over, with_name, with_tvar, RowV, RowVs, RowD, RowT, IsTranslation}
 use Rattle.c_law.proofs.Envs.{or_left, or_right}
 use Rattle.c_law.proofs.Ranges.{rank_lt}
 
@@ -78,7 +78,7 @@ code_is s e lev owes args body t same =
     ap₂ (λ x y. CCode (lift owes (rank (tkeeps s.types owes args body) s.tcount)) (MoreCTys (TCTuple x) args_after) y)
     (types_are (keeps args body) (λ i. i) s.types s.types r [] (λ m. refl))
     (ap (λ k. projections k 1 n (named (uses args body 0) (closure s owes args body r (CVar (lift k (suc n))) (CVar (lift k n))) t)) (kept_is (keeps args body) s same)
-     ∙ (let k = rank (keeps args body) (length s.types) in ap (λ v. projections k 1 n (named (uses args body 0) v t)) (packed_is s e lev owes args body r (CVar (lift k (suc n))) (CVar (lift k n)))))
+    ∙ (let k = rank (keeps args body) (length s.types) in ap (λ v. projections k 1 n (named (uses args body 0) v t)) (packed_is s e lev owes args body r (CVar (lift k (suc n))) (CVar (lift k n)))))
 
 -- scopes
 place_further : (ps : Places) (i j : ℕ) → place ps i ≡ Some j → place (further ps) i ≡ Some (suc j)
@@ -222,21 +222,23 @@ near_inner s e lev owes args body same near i live = here (near_or_far n i)
     far zero at =
         let is : own ≡ true = subst (λ x. occurs_t x body ≡ true) at live in
         let one = ap (λ b. after_one b 0) is in
-        let lv : W.level i ≡ suc (suc n) + k = ap (first_by n (λ i. suc n - i) past) at ∙ first_far n (λ i. suc n - i) past 0 in
-        (0,
-         ap (place (inner s owes args body).vars) at ∙ place_far ko n (kept_places 0 (uses args body) (None ∷ s.vars)) 0 ∙ ap (λ b. keep_one b 0) is,
-         omega (arith, lv, many, one))
+        let lv : W.level i ≡ suc (suc n) + k = ap (first_by n (λ i. suc n - i) past) at ∙ first_far n (λ i. suc n - i) past 0 in (
+          0,
+          ap (place (inner s owes args body).vars) at ∙ place_far ko n (kept_places 0 (uses args body) (None ∷ s.vars)) 0 ∙ ap (λ b. keep_one b 0) is,
+          omega (arith, lv, many, one),
+        )
     far (suc m) at =
         let is : keep m ≡ true = subst (λ x. occurs_t x body ≡ true) at live in
         let r = near m is in
         let lt = place_lt s.vars m r.0 r.1 in
         let less = rank_lt keep m (length s.types) is (omega (arith, lt, same)) in
         let lv : W.level i ≡ suc (suc n) + (k - suc (rank keep m)) = ap (first_by n (λ i. suc n - i) past) at ∙ first_far n (λ i. suc n - i) past (suc m) in
-        let sum = after_sum own (rank keep m) in
-        (0 + after_one own (rank keep m),
-         ap (place (inner s owes args body).vars) at ∙ place_far ko n (kept_places 0 (uses args body) (None ∷ s.vars)) (suc m)
-           ∙ place_kept (uses args body) 0 (None ∷ s.vars) (suc m) (omega (arith, lt)) is,
-         omega (arith, lv, many, less, sum))
+        let sum = after_sum own (rank keep m) in (
+          0 + after_one own (rank keep m),
+          ap (place (inner s owes args body).vars) at ∙ place_far ko n (kept_places 0 (uses args body) (None ∷ s.vars)) (suc m)
+              ∙ place_kept (uses args body) 0 (None ∷ s.vars) (suc m) (omega (arith, lt)) is,
+          omega (arith, lv, many, less, sum),
+        )
 
     here : (i < n) ⊎ ((m : ℕ) × (i ≡ lift n m)) → (j : ℕ) × (place (inner s owes args body).vars i ≡ Some j) × (j + suc (W.level i) ≡ W.names)
     here (inl near_one) =

@@ -82,9 +82,13 @@ inner_at f d e s owes args body st i h (inl near) =
     let fits : ko + i < g.start = omega (arith, kl, e1, e2, e3, near) in
     let inD : i < D = omega (arith, e4, near) in
     let e5 = level_below D i inD in
-    let e6 = level_below g.start (ko + i) fits in
-    (inD, ko + i, place_near ko n (kept_places 0 (uses args body) (None ∷ s.vars)) i near, fits,
-      spot_arg g (level_of D i) (omega (arith, e5)) (omega (arith, e4, e5, near)) ∙ (let q : (level_of D i - d) + 1 ≡ level_of g.start (ko + i) = omega (arith, e1, e2, e3, e4, e5, e6, kl, near) in q))
+    let e6 = level_below g.start (ko + i) fits in (
+      inD,
+      ko + i,
+      place_near ko n (kept_places 0 (uses args body) (None ∷ s.vars)) i near,
+      fits,
+      spot_arg g (level_of D i) (omega (arith, e5)) (omega (arith, e4, e5, near)) ∙ (let q : (level_of D i - d) + 1 ≡ level_of g.start (ko + i) = omega (arith, e1, e2, e3, e4, e5, e6, kl, near) in q),
+    )
 inner_at f d e s owes args body st i h (inr (zero, at)) =
     let n = kcount args in
     let g = frame_of (info_of d s owes args body) d n in
@@ -96,9 +100,13 @@ inner_at f d e s owes args body st i h (inr (zero, at)) =
     let inD : i < D = omega (arith, e4, e7, at) in
     let fits : 0 < g.start = omega (arith, e0) in
     let e6 = level_below g.start 0 fits in
-    let lev : level_of D i ≡ d = ap (level_of D) at ∙ level_lift n (suc d) 0 in
-    (inD, 0, ap (place (inner s owes args body).vars) at ∙ place_far (kept_count (uses args body) (None ∷ s.vars)) n (kept_places 0 (uses args body) (None ∷ s.vars)) 0 ∙ ap (λ b. keep_one b 0) is, fits,
-      spot_own g (level_of D i) (omega (arith, lev, e4)) lev ∙ (let q : lift n 2 + length g.kept ≡ level_of g.start 0 = omega (arith, e0, e6) in q))
+    let lev : level_of D i ≡ d = ap (level_of D) at ∙ level_lift n (suc d) 0 in (
+      inD,
+      0,
+      ap (place (inner s owes args body).vars) at ∙ place_far (kept_count (uses args body) (None ∷ s.vars)) n (kept_places 0 (uses args body) (None ∷ s.vars)) 0 ∙ ap (λ b. keep_one b 0) is,
+      fits,
+      spot_own g (level_of D i) (omega (arith, lev, e4)) lev ∙ (let q : lift n 2 + length g.kept ≡ level_of g.start 0 = omega (arith, e0, e6) in q),
+    )
 inner_at f d e s owes args body st i h (inr (suc m, at)) =
     let n = kcount args in
     let g = frame_of (info_of d s owes args body) d n in
@@ -119,12 +127,14 @@ inner_at f d e s owes args body st i h (inr (suc m, at)) =
     let inD : i < D = omega (arith, e4, e7, at, md) in
     let e6 = level_below g.start j fits in
     let lev : level_of D i ≡ level_of d m = ap (level_of D) at ∙ level_lift n (suc d) (suc m) in
-    let e5 = level_below d m md in
-    (inD, j,
+    let e5 = level_below d m md in (
+      inD,
+      j,
       ap (place (inner s owes args body).vars) at ∙ place_far (kept_count (uses args body) (None ∷ s.vars)) n (kept_places 0 (uses args body) (None ∷ s.vars)) (suc m)
-        ∙ place_kept (uses args body) 0 (None ∷ s.vars) (suc m) (omega (arith, md, st.long)) is,
+          ∙ place_kept (uses args body) 0 (None ∷ s.vars) (suc m) (omega (arith, md, st.long)) is,
       fits,
-      ap (spot g) lev ∙ spot_kept g (level_of d m) (omega (arith, e4, e5)) (omega (arith, e5)) ∙ (let q : lift n 2 + below (level_of d m) g.kept ≡ level_of g.start j = omega (arith, e1, e2, e6, e8, e9, kl, lift_add n 2) in q))
+      ap (spot g) lev ∙ spot_kept g (level_of d m) (omega (arith, e4, e5)) (omega (arith, e5)) ∙ (let q : lift n 2 + below (level_of d m) g.kept ≡ level_of g.start j = omega (arith, e1, e2, e6, e8, e9, kl, lift_add n 2) in q),
+    )
 
 inner_stands : (f : Frame) (d e : ℕ) (s : Scope) (owes : ℕ) (args : KTys) (body : KTm) → Stands f d e s.vars (keeps args body) →
     Stands (frame_of (info_of d s owes args body) d (kcount args)) (lift (kcount args) (suc d)) (frame_of (info_of d s owes args body) d (kcount args)).start (inner s owes args body).vars (λ i. occurs_t i body)
@@ -223,8 +233,8 @@ mutual
       ap (opened i n) (fuse_t body g (f ∷ fs) (lift n (suc d)) (lift owes td) (kbody_scope owes args ty) g.start (inner s owes args body) is cs (NEnd ∷ rest) (record { past = omega arith; is = omega arith }) (inner_stands f d e s owes args body st))
       ∙ ap (λ ns. MCode i.owes i.args ∷ ns) (sym (body_nodes d s owes args body t (closed g f all) st.long))
       ∙ ap (λ ns. MCode i.owes i.args ∷ clin_t (lift (ccount i.args) 1) (closed_body s owes args body t) (MEnd ∷ MApply i.apply ∷ ns))
-        (sym (env_kept f d e s.vars keep (MTuple (length i.kept) ∷ last) st)
-         ∙ ap (λ w. clin_vs e (picked keep s.vars NoCVals) (MTuple w ∷ last)) (kept_length d s owes args body st.long ∙ count_rank keep s.vars ∙ (let q : rank keep (length s.vars) ≡ cwidth (picked keep s.vars NoCVals) = omega (arith, width_picked keep s.vars NoCVals) in q)))
+      (sym (env_kept f d e s.vars keep (MTuple (length i.kept) ∷ last) st)
+      ∙ ap (λ w. clin_vs e (picked keep s.vars NoCVals) (MTuple w ∷ last)) (kept_length d s owes args body st.long ∙ count_rank keep s.vars ∙ (let q : rank keep (length s.vars) ≡ cwidth (picked keep s.vars NoCVals) = omega (arith, width_picked keep s.vars NoCVals) in q)))
 
   fuse_vs : (vs : KVals) (f : Frame) (fs : List Frame) (d td : ℕ) (ty : List KTy) (e : ℕ) (s : Scope) (is : List Info) (cs : List Note) (rest : List KNd) → Stands f d e s.vars (λ i. occurs_vs i vs) →
       emit (klin_vs d td ty vs rest) f fs (infos_vs d s vs is) (notes_vs s vs cs) ≡ clin_vs e (close_vs s vs) (emit rest f fs is cs)
@@ -242,7 +252,7 @@ mutual
   fuse_d (KArith op v w) f fs d td ty e s is cs rest at st =
       fuse_v v f fs d td ty e s (infos_v d s w is) (notes_v s w cs) (klin_v d td ty w (NArith d op ∷ rest)) (fewer f d e s.vars (λ i. occurs_d i (KArith op v w)) (λ i. occurs_v i v) (λ i. or_left (occurs_v i v) (occurs_v i w)) st)
       ∙ ap (clin_v e (close_v s v)) (fuse_v w f fs d td ty e s is cs (NArith d op ∷ rest) (fewer f d e s.vars (λ i. occurs_d i (KArith op v w)) (λ i. occurs_v i w) (λ i. or_right (occurs_v i v) (occurs_v i w)) st)
-        ∙ ap (λ l. clin_v e (close_v s w) (MArith l op ∷ emit rest f fs is cs)) at)
+      ∙ ap (λ l. clin_v e (close_v s w) (MArith l op ∷ emit rest f fs is cs)) at)
   fuse_d (KPack h v x) f fs d td ty e s is cs rest at st =
       let a = ctype s.tvar h in
       let b = ctype s.tvar x in
@@ -257,7 +267,7 @@ mutual
   fuse_d (KSet v w) f fs d td ty e s is cs rest at st =
       fuse_v v f fs d td ty e s (infos_v d s w is) (notes_v s w cs) (klin_v d td ty w (NSet d ∷ rest)) (fewer f d e s.vars (λ i. occurs_d i (KSet v w)) (λ i. occurs_v i v) (λ i. or_left (occurs_v i v) (occurs_v i w)) st)
       ∙ ap (clin_v e (close_v s v)) (fuse_v w f fs d td ty e s is cs (NSet d ∷ rest) (fewer f d e s.vars (λ i. occurs_d i (KSet v w)) (λ i. occurs_v i w) (λ i. or_right (occurs_v i v) (occurs_v i w)) st)
-        ∙ ap (λ l. clin_v e (close_v s w) (MSet l ∷ emit rest f fs is cs)) at)
+      ∙ ap (λ l. clin_v e (close_v s w) (MSet l ∷ emit rest f fs is cs)) at)
 
   fuse_t : (t : KTm) (f : Frame) (fs : List Frame) (d td : ℕ) (ty : List KTy) (e : ℕ) (s : Scope) (is : List Info) (cs : List Note) (rest : List KNd) → Inside f d e → Stands f d e s.vars (λ i. occurs_t i t) →
       emit (klin_t d td ty t rest) f fs (infos_t d s t is) (notes_t s t cs) ≡ clin_t e (close_t s t) (emit rest f fs is cs)
@@ -265,7 +275,7 @@ mutual
       let s1 = with_decl x s in
       fuse_d x f fs d td ty e s (infos_t (suc d) s1 t is) (notes_t s1 t cs) (klin_t (suc d) (after_one (opens x) td) (kd_type ty x ∷ scope_more (opens x) ty) t rest) (inside_spot f d e at) (fewer f d e s.vars (λ i. occurs_t i (KLet x t)) (λ i. occurs_d i x) (λ i. or_left (occurs_d i x) (occurs_t (suc i) t)) st)
       ∙ ap (clin_d e (close_d s x)) (fuse_t t f fs (suc d) (after_one (opens x) td) (kd_type ty x ∷ scope_more (opens x) ty) (suc e) s1 is cs rest (inside_next f d e at)
-        (under_decl (opens x) (kd_type s.types x) f d e s (λ i. occurs_t i t) (inside_spot f d e at) (fewer f d e s.vars (λ i. occurs_t i (KLet x t)) (λ i. occurs_t (suc i) t) (λ i. or_right (occurs_d i x) (occurs_t (suc i) t)) st)))
+      (under_decl (opens x) (kd_type s.types x) f d e s (λ i. occurs_t i t) (inside_spot f d e at) (fewer f d e s.vars (λ i. occurs_t i (KLet x t)) (λ i. occurs_t (suc i) t) (λ i. or_right (occurs_d i x) (occurs_t (suc i) t)) st)))
   fuse_t (KCall g ts vs) f fs d td ty e s is cs rest at st =
       let s3 = in_call s in
       let live : ℕ → Bool = λ i. occurs_vs i vs in
@@ -274,15 +284,15 @@ mutual
       let all = emit rest f fs is cs in
       fuse_v g f fs d td ty e s (infos_vs d s3 vs is) (Calls c ∷ notes_vs s3 vs cs) (NCall d td ts (kwidth vs) ∷ klin_vs d td ty vs rest) (fewer f d e s.vars (λ i. occurs_t i (KCall g ts vs)) (λ i. occurs_v i g) (λ i. or_left (occurs_v i g) (occurs_vs i vs)) st)
       ∙ ap (clin_v e (close_v s g))
-        (ap (λ l. called l c (kwidth vs) (emit (klin_vs d td ty vs rest) f fs (infos_vs d s3 vs is) (notes_vs s3 vs cs))) (inside_spot f d e at)
-         ∙ ap (called e c (kwidth vs)) (fuse_vs vs f fs d td ty (suc (suc (suc e))) s3 is cs rest st3)
-         ∙ ap (λ w. called e c w (clin_vs (suc (suc (suc e))) (close_vs s3 vs) all)) (sym (close_width s3 vs)))
+      (ap (λ l. called l c (kwidth vs) (emit (klin_vs d td ty vs rest) f fs (infos_vs d s3 vs is) (notes_vs s3 vs cs))) (inside_spot f d e at)
+      ∙ ap (called e c (kwidth vs)) (fuse_vs vs f fs d td ty (suc (suc (suc e))) s3 is cs rest st3)
+      ∙ ap (λ w. called e c w (clin_vs (suc (suc (suc e))) (close_vs s3 vs) all)) (sym (close_width s3 vs)))
   fuse_t (KIf v t u) f fs d td ty e s is cs rest at st =
       let whole : ℕ → Bool = λ i. occurs_t i (KIf v t u) in
       fuse_v v f fs d td ty e s (infos_t d s t (infos_t d s u is)) (notes_t s t (notes_t s u cs)) (NIf ∷ klin_t d td ty t (NElse td ∷ klin_t d td ty u rest)) (fewer f d e s.vars whole (λ i. occurs_v i v) (λ i. or_left (occurs_v i v) (occurs_t i t || occurs_t i u)) st)
       ∙ ap (λ ns. clin_v e (close_v s v) (MIf ∷ ns))
-        (fuse_t t f fs d td ty e s (infos_t d s u is) (notes_t s u cs) (NElse td ∷ klin_t d td ty u rest) at (fewer f d e s.vars whole (λ i. occurs_t i t) (λ i h. or_right (occurs_v i v) (occurs_t i t || occurs_t i u) (or_left (occurs_t i t) (occurs_t i u) h)) st)
-         ∙ ap (λ ns. clin_t e (close_t s t) (MElse ∷ ns)) (fuse_t u f fs d td ty e s is cs rest at (fewer f d e s.vars whole (λ i. occurs_t i u) (λ i h. or_right (occurs_v i v) (occurs_t i t || occurs_t i u) (or_right (occurs_t i t) (occurs_t i u) h)) st)))
+      (fuse_t t f fs d td ty e s (infos_t d s u is) (notes_t s u cs) (NElse td ∷ klin_t d td ty u rest) at (fewer f d e s.vars whole (λ i. occurs_t i t) (λ i h. or_right (occurs_v i v) (occurs_t i t || occurs_t i u) (or_left (occurs_t i t) (occurs_t i u) h)) st)
+      ∙ ap (λ ns. clin_t e (close_t s t) (MElse ∷ ns)) (fuse_t u f fs d td ty e s is cs rest at (fewer f d e s.vars whole (λ i. occurs_t i u) (λ i h. or_right (occurs_v i v) (occurs_t i t || occurs_t i u) (or_right (occurs_t i t) (occurs_t i u) h)) st)))
   fuse_t (KHalt v) f fs d td ty e s is cs rest at st = fuse_v v f fs d td ty e s is cs (NHalt ∷ rest) st
 
 pub emit_is_close : (t : KTm) (f : Frame) → f.split ≡ 0 → f.start ≡ 0 → ((i : ℕ) → occurs_t i t ≡ true → ⊥) → emit (klin_t 0 0 [] t []) f [] (infos_t 0 no_scope t []) (notes_t no_scope t []) ≡ clin_t 0 (close_of t) []

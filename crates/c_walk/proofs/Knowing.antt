@@ -118,7 +118,7 @@ into_under (suc m) q n k f (suc i) h = let r = into_under m q n k f i (omega (ar
 
 pub inner_closed : (n d : ℕ) (live : ℕ → Bool) → Closed d (λ i. live (lift n i)) → Closed (lift n d) live
 inner_closed n d live c i h = elim (near_or_far n i) [
-    inl near ↦ omega (arith, lift_add n d, near)
+  | inl near ↦ omega (arith, lift_add n d, near)
   | inr r ↦ let q = c r.0 (subst (λ x. live x ≡ true) r.1 h) in omega (arith, q, r.1, lift_add n d, lift_add n r.0)
 ]
 
@@ -149,7 +149,7 @@ at_out (t ∷ g) (suc i) h = at_out g i (omega (arith, h))
 
 pub scope_closed : (td d : ℕ) (xs : List Bound) (g : List KTy) → Holds td d xs g → (i : ℕ) → Closed td (λ j. tfree j (ktype_at g i))
 scope_closed td d xs g h i = elim (cases_lt i d) [
-    inl lt ↦ holds_closed td (bound_at xs (level_of d i)) (ktype_at g i) (h.at i lt)
+  | inl lt ↦ holds_closed td (bound_at xs (level_of d i)) (ktype_at g i) (h.at i lt)
   | inr ge ↦ λ j e. absurd (let z : false ≡ true = sym (ap (tfree j) (at_out g i (omega (arith, ge, h.width)))) ∙ e in cc)
 ]
 
@@ -325,11 +325,11 @@ side_kept d s owes args body xs h =
     let w = levels (written_in owes args body) td [] in
     let bs = bound_levels xs (levels (keeps args body) d []) in
     levels_same (λ j. has (level_of td j) (w ++ bs)) (tkeeps s.types owes args body) td [] (λ j lt.
-      list_any-append (λ x. nat_eq (level_of td j) x) w bs
-      ∙ ap₂ (λ x y. x || y) (has_kept (written_in owes args body) td j lt)
-        (ap (λ n. has (level_of td j) (bound_levels xs (levels (keeps args body) n []))) (sym h.width)
-         ∙ frees j (level_of td j) xs (keeps args body) s.types [] (λ i li. ap (λ n. has (level_of td j) (type_levels (bound_at xs (level_of n i)).depth 0 (bound_at xs (level_of n i)).type)) h.width ∙ free_at td j (bound_at xs (level_of d i)) (ktype_at s.types i) lt (h.at i (omega (arith, li, h.width))))
-         ∙ or_none (tfree_kept j (keeps args body) s.types)))
+    list_any-append (λ x. nat_eq (level_of td j) x) w bs
+    ∙ ap₂ (λ x y. x || y) (has_kept (written_in owes args body) td j lt)
+    (ap (λ n. has (level_of td j) (bound_levels xs (levels (keeps args body) n []))) (sym h.width)
+    ∙ frees j (level_of td j) xs (keeps args body) s.types [] (λ i li. ap (λ n. has (level_of td j) (type_levels (bound_at xs (level_of n i)).depth 0 (bound_at xs (level_of n i)).type)) h.width ∙ free_at td j (bound_at xs (level_of d i)) (ktype_at s.types i) lt (h.at i (omega (arith, li, h.width))))
+    ∙ or_none (tfree_kept j (keeps args body) s.types)))
 
 abbrev pub inner_side : Scope → ℕ → KTys → KTm → Side
 inner_side s owes args body = record { depth = s.tcount; owes = owes; kept = levels (tkeeps s.types owes args body) s.tcount []; calling = false }
@@ -385,11 +385,11 @@ info_is d s owes args body xs f h fit c =
     let hidden_in = ap TCTuple (types_picked td d xs s.types (outer_var G) (outside s owes args body) keep h out) in
     ap (info_from td owes args clue xs f) (side_is d s owes args body xs h)
     ∙ packed_same i.kept i.own j.hidden j.shape j.apply j.hidden_in j.shape_in j.apply_in j.owes j.args i.hidden i.shape i.apply i.hidden_in i.shape_in i.apply_in i.owes i.args
-      (ap TCTuple (types_picked td d xs s.types (side_var f) s.tvar keep h fit.var))
-      (ctype_same (TKCode owes args) (side_var f) s.tvar (λ j e. fit.var j (shaped j e)))
-      (vars_picked (side_var f) s.tvar td T fit.var)
-      hidden_in
-      (ctype_same (TKCode owes args) (outer_var G) (outside s owes args body) (λ j e. out j (shaped j e)))
-      (vars_picked (outer_var G) (outside s owes args body) td T out)
-      (ap (lift owes) (length_levels T td [] ∙ (let q : rank T td + 0 ≡ rank T td = omega arith in q)))
-      (ap₂ MoreCTys hidden_in (ctypes_same args (side_var G) (inner s owes args body).tvar (λ j e. (inner_fits s owes args body).var j (inside j e))))
+    (ap TCTuple (types_picked td d xs s.types (side_var f) s.tvar keep h fit.var))
+    (ctype_same (TKCode owes args) (side_var f) s.tvar (λ j e. fit.var j (shaped j e)))
+    (vars_picked (side_var f) s.tvar td T fit.var)
+    hidden_in
+    (ctype_same (TKCode owes args) (outer_var G) (outside s owes args body) (λ j e. out j (shaped j e)))
+    (vars_picked (outer_var G) (outside s owes args body) td T out)
+    (ap (lift owes) (length_levels T td [] ∙ (let q : rank T td + 0 ≡ rank T td = omega arith in q)))
+    (ap₂ MoreCTys hidden_in (ctypes_same args (side_var G) (inner s owes args body).tvar (λ j e. (inner_fits s owes args body).var j (inside j e))))

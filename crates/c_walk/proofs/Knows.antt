@@ -109,8 +109,8 @@ mutual
       ap (λ g. with_info (info_from td owes args clue xs F (side_of td owes clue xs)) (know nodes ys g (F ∷ fs) more)) (side_is d s owes args body xs h)
       ∙ ap (λ i. with_info i (know nodes ys G (F ∷ fs) more)) (info_is d s owes args body xs F h fit c)
       ∙ ap (with_info (info_of d s owes args body))
-        (know_t body D s1 ys G owes (F ∷ fs) (NEnd ∷ rest) cs R (body_holds d s owes args xs h (left td a e c)) (inner_fits s owes args body) (inner_closed owes td (λ j. tfree_t j body) (right td a e c))
-          (λ zs o1 b1 q. k zs (body_keeps d td owes args xs zs h.long q)))
+      (know_t body D s1 ys G owes (F ∷ fs) (NEnd ∷ rest) cs R (body_holds d s owes args xs h (left td a e c)) (inner_fits s owes args body) (inner_closed owes td (λ j. tfree_t j body) (right td a e c))
+      (λ zs o1 b1 q. k zs (body_keeps d td owes args xs zs h.long q)))
 
   know_vs : (vs : KVals) (d : ℕ) (s : Scope) (xs : List Bound) (f : Side) (o : ℕ) (b : Bool) (fs : List Side) (rest : List KNd) (cs : List Clue) (R : Known) →
       Holds s.tcount d xs s.types → Fits (side_with o b f) s.tcount s.tvar → Closed s.tcount (λ j. tfree_vs j vs) → Then d xs rest (side_with o b f) fs cs R →
@@ -138,7 +138,7 @@ mutual
       let last = NArith d op ∷ rest in
       know_v v d s xs f o false fs (klin_v d s.tcount s.types w last) (clues_v d s.tcount w cs) (record { infos = infos_v d s w R.infos; notes = notes_v s w R.notes }) h fit (left s.tcount a e c)
       (λ ys p. know_v w d s ys f o false fs last cs R (still_holds s.tcount d xs ys s.types p h) fit (right s.tcount a e c)
-        (λ zs q. ap (λ n. know rest (bind zs d TKInt n) (side_with o false f) fs cs) fit.deep ∙ k zs (keeps_more d xs ys zs p q)))
+      (λ zs q. ap (λ n. know rest (bind zs d TKInt n) (side_with o false f) fs cs) fit.deep ∙ k zs (keeps_more d xs ys zs p q)))
   know_d (KPack h v x) d s xs f o fs rest cs R hold fit c k =
       let a : ℕ → Bool = λ j. tfree j h in
       let b : ℕ → Bool = λ j. tfree_v j v in
@@ -148,9 +148,9 @@ mutual
       let n = Packs (ctype s.tvar h) (ctype s.tvar x) in
       know_v v d s xs f o false fs (NPack d s.tcount h x ∷ rest) cs (record { infos = R.infos; notes = n ∷ R.notes }) hold fit (left s.tcount b e both)
       (λ ys p. ap₂ (λ y z. with_note (Packs y z) (know rest (bind ys d x (side_depth F)) F fs cs))
-          (ctype_same h (side_var F) s.tvar (λ j q. fit.var j (left s.tcount a (λ j. b j || e j) c j q)))
-          (ctype_same x (side_var F) s.tvar (λ j q. fit.var j (right s.tcount b e both j q)))
-        ∙ ap (with_note n) (ap (λ m. know rest (bind ys d x m) F fs cs) fit.deep ∙ k ys p))
+      (ctype_same h (side_var F) s.tvar (λ j q. fit.var j (left s.tcount a (λ j. b j || e j) c j q)))
+      (ctype_same x (side_var F) s.tvar (λ j q. fit.var j (right s.tcount b e both j q)))
+      ∙ ap (with_note n) (ap (λ m. know rest (bind ys d x m) F fs cs) fit.deep ∙ k ys p))
   know_d (KUnpack v) d s xs f o fs rest cs R h fit c k =
       know_v v d s xs f o false fs (NUnpack d s.tcount (kd_type s.types (KUnpack v)) ∷ rest) cs R h fit c
       (λ ys p. ap (λ n. know rest (bind ys d (kd_type s.types (KUnpack v)) (suc n)) (side_with (suc o) false f) fs cs) fit.deep ∙ k ys p)
@@ -166,7 +166,7 @@ mutual
       let last = NSet d ∷ rest in
       know_v v d s xs f o false fs (klin_v d s.tcount s.types w last) (clues_v d s.tcount w cs) (record { infos = infos_v d s w R.infos; notes = notes_v s w R.notes }) h fit (left s.tcount a e c)
       (λ ys p. know_v w d s ys f o false fs last cs R (still_holds s.tcount d xs ys s.types p h) fit (right s.tcount a e c)
-        (λ zs q. ap (λ n. know rest (bind zs d (TKTuple NoKTys) n) (side_with o false f) fs cs) fit.deep ∙ k zs (keeps_more d xs ys zs p q)))
+      (λ zs q. ap (λ n. know rest (bind zs d (TKTuple NoKTys) n) (side_with o false f) fs cs) fit.deep ∙ k zs (keeps_more d xs ys zs p q)))
 
   know_t : (t : KTm) (d : ℕ) (s : Scope) (xs : List Bound) (f : Side) (o : ℕ) (fs : List Side) (rest : List KNd) (cs : List Clue) (R : Known) →
       Holds s.tcount d xs s.types → Fits (side_with o false f) s.tcount s.tvar → Closed s.tcount (λ j. tfree_t j t) → ThenAny d xs rest f fs cs R →
@@ -182,10 +182,10 @@ mutual
       let F = side_with (after_one b o) false f in
       know_d x d s xs f o fs (klin_t (suc d) tx (u ∷ scope_more b s.types) t rest) (clues_t (suc d) tx t cs) (record { infos = infos_t (suc d) s1 t R.infos; notes = notes_t s1 t R.notes }) h fit (left td a e c)
       (λ ys p. let hy = still_holds td d xs ys s.types p h in
-        let Y = bind ys d u tx in
-        ap₂ (λ n (g : List KTy). know (klin_t (suc d) n (u ∷ g) t rest) Y F fs (clues_t (suc d) n t cs)) (sym (open_tcount b s)) (sym (open_types b s))
-        ∙ know_t t (suc d) s1 Y f (after_one b o) fs rest cs R (open_holds b s d ys u hy (d_closed x td s.types (scope_closed td d xs s.types h) (left td a e c))) (open_fits b f o s fit) (open_frees b s (λ j. tfree_t j t) (right td a e c))
-        (λ zs o1 b1 q. k zs o1 b1 (keeps_more d xs ys zs p (keeps_more d ys Y zs (bind_keeps ys d u tx hy.long) (keeps_less d Y zs q)))))
+      let Y = bind ys d u tx in
+      ap₂ (λ n (g : List KTy). know (klin_t (suc d) n (u ∷ g) t rest) Y F fs (clues_t (suc d) n t cs)) (sym (open_tcount b s)) (sym (open_types b s))
+      ∙ know_t t (suc d) s1 Y f (after_one b o) fs rest cs R (open_holds b s d ys u hy (d_closed x td s.types (scope_closed td d xs s.types h) (left td a e c))) (open_fits b f o s fit) (open_frees b s (λ j. tfree_t j t) (right td a e c))
+      (λ zs o1 b1 q. k zs o1 b1 (keeps_more d xs ys zs p (keeps_more d ys Y zs (bind_keeps ys d u tx hy.long) (keeps_less d Y zs q)))))
   know_t (KCall g ts vs) d s xs f o fs rest cs R h fit c k =
       let td = s.tcount in
       let s3 = in_call s in
@@ -196,7 +196,7 @@ mutual
       let fit3 = call_fits f o td s.tvar fit in
       know_v g d s xs f o false fs (NCall d td ts (kwidth vs) ∷ klin_vs d td s.types vs rest) (clues_vs d td vs cs) (record { infos = infos_vs d s3 vs R.infos; notes = Calls (ctypes s3.tvar ts) ∷ notes_vs s3 vs R.notes }) h fit (left td a both c)
       (λ ys p. ap₂ (λ us. with_note (Calls us)) (ctypes_same ts (side_var (side_with o true f)) s3.tvar (λ j q. fit3.var j (left td b e (right td a both c) j q)))
-        (know_vs vs d s3 ys f o true fs rest cs R (still_holds td d xs ys s.types p h) fit3 (right td b e (right td a both c)) (λ zs q. k zs o true (keeps_more d xs ys zs p q))))
+      (know_vs vs d s3 ys f o true fs rest cs R (still_holds td d xs ys s.types p h) fit3 (right td b e (right td a both c)) (λ zs q. k zs o true (keeps_more d xs ys zs p q))))
   know_t (KIf v t u) d s xs f o fs rest cs R h fit c k =
       let td = s.tcount in
       let a : ℕ → Bool = λ j. tfree_v j v in
@@ -207,7 +207,7 @@ mutual
       let R1 : Known = record { infos = infos_t d s u R.infos; notes = notes_t s u R.notes } in
       know_v v d s xs f o false fs (NIf ∷ klin_t d td s.types t us) (clues_t d td t (clues_t d td u cs)) (record { infos = infos_t d s t R1.infos; notes = notes_t s t R1.notes }) h fit (left td a both c)
       (λ ys p. know_t t d s ys f o fs us (clues_t d td u cs) R1 (still_holds td d xs ys s.types p h) fit (left td b e (right td a both c))
-        (λ zs o1 b1 q. let r = keeps_more d xs ys zs p q in ap (λ n. know (klin_t d td s.types u rest) zs (side_with n false f) fs (clues_t d td u cs)) (back f o td fit.deep) ∙ know_t u d s zs f o fs rest cs R (still_holds td d xs zs s.types r h) fit (right td b e (right td a both c)) (λ ws o2 b2 w. k ws o2 b2 (keeps_more d xs zs ws r w))))
+      (λ zs o1 b1 q. let r = keeps_more d xs ys zs p q in ap (λ n. know (klin_t d td s.types u rest) zs (side_with n false f) fs (clues_t d td u cs)) (back f o td fit.deep) ∙ know_t u d s zs f o fs rest cs R (still_holds td d xs zs s.types r h) fit (right td b e (right td a both c)) (λ ws o2 b2 w. k ws o2 b2 (keeps_more d xs zs ws r w))))
   know_t (KHalt v) d s xs f o fs rest cs R h fit c k = know_v v d s xs f o false fs (NHalt ∷ rest) cs R h fit c (λ ys p. k ys o false p)
 
 pub know_is : (t : KTm) → ((j : ℕ) → tfree_t j t ≡ true → ⊥) →

@@ -35,7 +35,7 @@ same_members lo [] (y ∷ ys) r q h = absurd (let e : false ≡ true = h y ∙ a
 same_members lo (x ∷ xs) [] r q h = absurd (let e : true ≡ false = sym (ap (λ b. b || has x xs) (eq-eqb x x refl)) ∙ h x in cc)
 same_members lo (x ∷ xs) (y ∷ ys) r q h =
     let e : x ≡ y = elim (cases_order x y) [
-        inl e ↦ e
+      | inl e ↦ e
       | inr (inl lt) ↦ absurd (let f : true ≡ false = sym (ap (λ b. b || has x xs) (eq-eqb x x refl)) ∙ h x ∙ none_below y x (y ∷ ys) (let z : y ≤ y = omega arith in (z, q.1)) lt in cc)
       | inr (inr gt) ↦ absurd (let f : false ≡ true = sym (none_below x y (x ∷ xs) (let z : x ≤ x = omega arith in (z, r.1)) gt) ∙ h y ∙ ap (λ b. b || has y ys) (eq-eqb y y refl) in cc)
     ] in
@@ -43,7 +43,7 @@ same_members lo (x ∷ xs) (y ∷ ys) r q h =
   where
     rest : x ≡ y → (l : ℕ) → has l xs ≡ has l ys
     rest e l = elim (cases_eq l x) [
-        inl f ↦ none_below (suc x) l xs r.1 (omega (arith, f)) ∙ sym (none_below (suc y) l ys q.1 (omega (arith, f, e)))
+      | inl f ↦ none_below (suc x) l xs r.1 (omega (arith, f)) ∙ sym (none_below (suc y) l ys q.1 (omega (arith, f, e)))
       | inr f ↦ sym (or_false (nat_eq l x) (has l xs) (ne_eqb l x f)) ∙ h l ∙ or_false (nat_eq l y) (has l ys) (ne_eqb l y (λ g. f (g ∙ sym e)))
     ]
 
@@ -150,6 +150,6 @@ thin_is d xs body o same =
   where
     members : (l : ℕ) → has l (thin d xs) ≡ has l (known_below d body)
     members l = elim (cases_lt l d) [
-        inl lt ↦ has_thin d l xs lt ∙ same l ∙ sym (ap (λ z. has z (known_below d body)) (sym (level_twice d l lt)) ∙ has_kept (λ i. has (level_of d i) body) d (level_of d l) (omega (arith, level_below d l lt)) ∙ ap (λ z. has z body) (level_twice d l lt))
+      | inl lt ↦ has_thin d l xs lt ∙ same l ∙ sym (ap (λ z. has z (known_below d body)) (sym (level_twice d l lt)) ∙ has_kept (λ i. has (level_of d i) body) d (level_of d l) (omega (arith, level_below d l lt)) ∙ ap (λ z. has z body) (level_twice d l lt))
       | inr ge ↦ all_thin d l xs ge ∙ sym (has_above (λ i. has (level_of d i) body) d l [] ge)
     ]

@@ -47,10 +47,11 @@ nothing d s = ([], ap (λ (xs : List ℕ). let r : Swept = record { current = xs
 
 -- one after the other: what stands first in the list of nodes is met last
 joined : (d : ℕ) (live1 live2 : ℕ → Bool) (f1 : List Found → List Found) (found : List Found) (s0 s1 s2 : Swept) → Sweeps d live2 found s0 s1 → Sweeps d live1 (f1 s1.found) s1 s2 → Sweeps d (λ i. live1 i || live2 i) (f1 found) s0 s2
-joined d live1 live2 f1 found s0 s1 s2 a b =
-    (a.0 ++ b.0,
-     b.1 ∙ ap (λ s. more s b.0 (f1 s.found)) a.1 ∙ ap (λ (xs : List ℕ). let r : Swept = record { current = xs; outer = s0.outer; found = f1 found } in r) (append_assoc s0.current a.0 b.0),
-     λ i h. list_any-append (λ x. nat_eq (level_of d i) x) a.0 b.0 ∙ ap (λ x. x || has (level_of d i) b.0) (a.2 i h) ∙ ap (λ x. live2 i || x) (b.2 i h) ∙ or_swap (live2 i) (live1 i))
+joined d live1 live2 f1 found s0 s1 s2 a b = (
+  a.0 ++ b.0,
+  b.1 ∙ ap (λ s. more s b.0 (f1 s.found)) a.1 ∙ ap (λ (xs : List ℕ). let r : Swept = record { current = xs; outer = s0.outer; found = f1 found } in r) (append_assoc s0.current a.0 b.0),
+  λ i h. list_any-append (λ x. nat_eq (level_of d i) x) a.0 b.0 ∙ ap (λ x. x || has (level_of d i) b.0) (a.2 i h) ∙ ap (λ x. live2 i || x) (b.2 i h) ∙ or_swap (live2 i) (live1 i),
+)
 
 -- under one more name
 lower : (d : ℕ) (live : ℕ → Bool) (found : List Found) (s0 s1 : Swept) → Sweeps (suc d) live found s0 s1 → Sweeps d (λ i. live (suc i)) found s0 s1
@@ -58,7 +59,7 @@ lower d live found s0 s1 a = (a.0, a.1, λ i h. a.2 (suc i) (omega (arith, h)))
 
 same_level : (d i j : ℕ) → i < d → j < d → nat_eq (level_of d j) (level_of d i) || false ≡ nat_eq j i
 same_level d i j hi hj = or_none (nat_eq (level_of d j) (level_of d i)) ∙ elim (cases_eq j i) [
-    inl e ↦ eq-eqb (level_of d j) (level_of d i) (ap (level_of d) e) ∙ sym (eq-eqb j i e)
+  | inl e ↦ eq-eqb (level_of d j) (level_of d i) (ap (level_of d) e) ∙ sym (eq-eqb j i e)
   | inr e ↦ ne_eqb (level_of d j) (level_of d i) (λ f. e (omega (arith, f, level_below d i hi, level_below d j hj))) ∙ sym (ne_eqb j i e)
 ]
 
@@ -74,7 +75,7 @@ next d live c (suc i) h = let r = c i h in omega (arith, r)
 
 body_closed : (d n : ℕ) (live : ℕ → Bool) → Closed d (λ i. live (lift n (suc i))) → Closed (lift n (suc d)) live
 body_closed d n live c i h = elim (near_or_far n i) [
-    inl near ↦ omega (arith, lift_add n (suc d), near)
+  | inl near ↦ omega (arith, lift_add n (suc d), near)
   | inr r ↦ far r.0 r.1
 ]
   where
@@ -96,12 +97,13 @@ mutual
       let xs = r.0 in
       let kept : known_below d xs ≡ levels keep d [] = levels_same (λ i. has (level_of d i) xs) keep d [] (λ i h. ap (λ l. has l xs) (sym (level_lift n (suc d) (suc i))) ∙ r.2 (lift n (suc i)) (omega (arith, lift_add n (suc i), lift_add n (suc d), h))) in
       let own : has d xs ≡ uses args body 0 = ap (λ l. has l xs) (sym (level_lift n (suc d) 0)) ∙ r.2 (lift n 0) (omega (arith, lift_add n 0, lift_add n (suc d))) in
-      let F = found_t D body s.found in
-      (levels keep d [],
-       ap (λ z. opened_in d z.current z.outer z.found) r.1
-       ∙ ap (λ (ks : List ℕ). let f : Found = record { kept = ks; own = has d xs } in more s ks (f ∷ F)) kept
-       ∙ ap (λ b. let f : Found = record { kept = levels keep d []; own = b } in more s (levels keep d []) (f ∷ F)) own,
-       λ i h. has_kept keep d i h)
+      let F = found_t D body s.found in (
+        levels keep d [],
+        ap (λ z. opened_in d z.current z.outer z.found) r.1
+            ∙ ap (λ (ks : List ℕ). let f : Found = record { kept = ks; own = has d xs } in more s ks (f ∷ F)) kept
+            ∙ ap (λ b. let f : Found = record { kept = levels keep d []; own = b } in more s (levels keep d []) (f ∷ F)) own,
+        λ i h. has_kept keep d i h,
+      )
 
   sweep_vs : (vs : KVals) (d td : ℕ) (ty : List KTy) (rest : List KNd) → Closed d (λ i. occurs_vs i vs) → Sweeps d (λ i. occurs_vs i vs) (found_vs d vs (sweep rest).found) (sweep rest) (sweep (klin_vs d td ty vs rest))
   sweep_vs NoKVals d td ty rest c = nothing d (sweep rest)

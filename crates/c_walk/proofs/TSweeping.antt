@@ -38,10 +38,11 @@ nothing : (d : ℕ) (s : TSwept) → TSweeps d (λ i. false) s.found s s
 nothing d s = ([], ap (λ (xs : List ℕ). let r : TSwept = record { current = xs; outer = s.outer; found = s.found } in r) (sym (append_nil s.current)), λ i h. refl)
 
 joined : (d : ℕ) (live1 live2 : ℕ → Bool) (f1 : List (List ℕ) → List (List ℕ)) (found : List (List ℕ)) (s0 s1 s2 : TSwept) → TSweeps d live2 found s0 s1 → TSweeps d live1 (f1 s1.found) s1 s2 → TSweeps d (λ i. live1 i || live2 i) (f1 found) s0 s2
-joined d live1 live2 f1 found s0 s1 s2 a b =
-    (a.0 ++ b.0,
-     b.1 ∙ ap (λ s. more s b.0 (f1 s.found)) a.1 ∙ ap (λ (xs : List ℕ). let r : TSwept = record { current = xs; outer = s0.outer; found = f1 found } in r) (append_assoc s0.current a.0 b.0),
-     λ i h. list_any-append (λ x. nat_eq (level_of d i) x) a.0 b.0 ∙ ap (λ x. x || has (level_of d i) b.0) (a.2 i h) ∙ ap (λ x. live2 i || x) (b.2 i h) ∙ or_swap (live2 i) (live1 i))
+joined d live1 live2 f1 found s0 s1 s2 a b = (
+  a.0 ++ b.0,
+  b.1 ∙ ap (λ s. more s b.0 (f1 s.found)) a.1 ∙ ap (λ (xs : List ℕ). let r : TSwept = record { current = xs; outer = s0.outer; found = f1 found } in r) (append_assoc s0.current a.0 b.0),
+  λ i h. list_any-append (λ x. nat_eq (level_of d i) x) a.0 b.0 ∙ ap (λ x. x || has (level_of d i) b.0) (a.2 i h) ∙ ap (λ x. live2 i || x) (b.2 i h) ∙ or_swap (live2 i) (live1 i),
+)
 
 left : (d : ℕ) (a b : ℕ → Bool) → Closed d (λ i. a i || b i) → Closed d a
 left d a b c = λ i h. c i (or_left (a i) (b i) h)
@@ -96,14 +97,15 @@ mutual
       let all = r.0 ++ ls in
       let inside = inner_closed owes td (λ j. tfrees j args) (left td a b c) in
       let kept : known_below td all ≡ levels keep td [] = levels_same (λ i. has (level_of td i) all) keep td [] (λ i h.
-        list_any-append (λ x. nat_eq (level_of td i) x) r.0 ls
-        ∙ ap₂ (λ x y. x || y) (ap (λ l. has l r.0) (sym (level_lift owes td i)) ∙ r.2 (lift owes i) (omega (arith, lift_add owes i, lift_add owes td, h))) (stand args td owes i h inside)
-        ∙ or_swap (b i) (a i)) in
-      let F = tfound_t D body s.found in
-      (levels keep td [],
-       ap (λ z. topened td (z.current ++ ls) z.outer z.found) r.1
-       ∙ ap (λ (ks : List ℕ). more s ks (ks ∷ F)) kept,
-       λ i h. has_kept keep td i h)
+      list_any-append (λ x. nat_eq (level_of td i) x) r.0 ls
+      ∙ ap₂ (λ x y. x || y) (ap (λ l. has l r.0) (sym (level_lift owes td i)) ∙ r.2 (lift owes i) (omega (arith, lift_add owes i, lift_add owes td, h))) (stand args td owes i h inside)
+      ∙ or_swap (b i) (a i)) in
+      let F = tfound_t D body s.found in (
+        levels keep td [],
+        ap (λ z. topened td (z.current ++ ls) z.outer z.found) r.1
+            ∙ ap (λ (ks : List ℕ). more s ks (ks ∷ F)) kept,
+        λ i h. has_kept keep td i h,
+      )
 
   sweep_vs : (vs : KVals) (d td : ℕ) (ty : List KTy) (rest : List KNd) → Closed td (λ j. tfree_vs j vs) → TSweeps td (λ j. tfree_vs j vs) (tfound_vs td vs (tsweep rest).found) (tsweep rest) (tsweep (klin_vs d td ty vs rest))
   sweep_vs NoKVals d td ty rest c = nothing td (tsweep rest)
@@ -129,10 +131,12 @@ mutual
       let both : ℕ → Bool = λ j. b j || e j in
       let rest_closed : Closed td (λ j. a j || e j) = right td b (λ j. a j || e j) c in
       let last = NPack d td h x ∷ rest in
-      let typed : TSweeps td both (tsweep rest).found (tsweep rest) (tsweep last) =
-        (type_levels td 0 h ++ type_levels td 0 x, refl,
-         λ j q. list_any-append (λ y. nat_eq (level_of td j) y) (type_levels td 0 h) (type_levels td 0 x)
-           ∙ ap₂ (λ y z. y || z) (stand_one h td j q (left td b (λ j. a j || e j) c)) (stand_one x td j q (right td a e rest_closed))) in
+      let typed : TSweeps td both (tsweep rest).found (tsweep rest) (tsweep last) = (
+        type_levels td 0 h ++ type_levels td 0 x,
+        refl,
+        λ j q. list_any-append (λ y. nat_eq (level_of td j) y) (type_levels td 0 h) (type_levels td 0 x)
+            ∙ ap₂ (λ y z. y || z) (stand_one h td j q (left td b (λ j. a j || e j) c)) (stand_one x td j q (right td a e rest_closed)),
+      ) in
       recast td (λ j. a j || both j) (λ j. b j || (a j || e j)) (tfound_v td v (tsweep rest).found) (tsweep rest) (tsweep (klin_v d td ty v last)) (λ j. or_turn (a j) (b j) (e j))
       (joined td a both (tfound_v td v) (tsweep rest).found (tsweep rest) (tsweep last) (tsweep (klin_v d td ty v last)) typed (sweep_v v d td ty last (left td a e rest_closed)))
   sweep_d (KUnpack v) d td ty rest c = sweep_v v d td ty (NUnpack d td (kd_type ty (KUnpack v)) ∷ rest) c

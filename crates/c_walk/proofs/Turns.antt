@@ -1,10 +1,10 @@
 -- The walks in turn.
 use Rattle.std.proofs.Common.{◌≡◌, ap, ap₂, ◌∙◌, refl, List, []}
 use Rattle.k_terms.specs.K.{KTm}
-use Rattle.k_terms.specs.Stream.{KNd, klin_t}
+use Rattle.k_terms.specs.Stream.{klin_t}
 use Rattle.c_terms.specs.Stream.{clin_t}
 use Rattle.c_law.specs.Free.{IsClosed}
-use Rattle.c_law.specs.Close.{close_of, no_scope}
+use Rattle.c_law.specs.Close.{close_of}
 use Rattle.c_walk.specs.Emit.{emit}
 use Rattle.c_walk.specs.Know.{Known, Clue, know}
 use Rattle.c_walk.specs.TSweep.{zipped}

@@ -95,8 +95,8 @@ lift_back b i j e = omega (arith, e, lift_add b i, lift_add b j)
 level_has : (td at m j : ℕ) (b i : ℕ) → td ≡ m + at → j < td → i < lift b at → has (level_of td j) (level_list at b i) ≡ nat_eq (lift b j) (under b (lift m) i)
 level_has td at m j zero i e h lt =
     or_none (nat_eq (level_of td j) (level_of at i)) ∙ elim (cases_eq j (lift m i)) [
-      inl f ↦ eq-eqb (level_of td j) (level_of at i) (omega (arith, e, f, level_below td j h, level_below at i lt, lift_add m i)) ∙ sym (eq-eqb j (lift m i) f)
-    | inr f ↦ ne_eqb (level_of td j) (level_of at i) (λ g. f (omega (arith, e, g, level_below td j h, level_below at i lt, lift_add m i))) ∙ sym (ne_eqb j (lift m i) f)
+      | inl f ↦ eq-eqb (level_of td j) (level_of at i) (omega (arith, e, f, level_below td j h, level_below at i lt, lift_add m i)) ∙ sym (eq-eqb j (lift m i) f)
+      | inr f ↦ ne_eqb (level_of td j) (level_of at i) (λ g. f (omega (arith, e, g, level_below td j h, level_below at i lt, lift_add m i))) ∙ sym (ne_eqb j (lift m i) f)
     ]
 level_has td at m j (suc b) zero e h lt = sym (ne_eqb (suc (lift b j)) 0 (λ g. omega (arith, g)))
 level_has td at m j (suc b) (suc i) e h lt = level_has td at m j b i e h (omega (arith, lt)) ∙ sym (eq_suc (lift b j) (under b (lift m) i))

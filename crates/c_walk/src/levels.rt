@@ -20,7 +20,9 @@ impl Levels {
     pub fn none(alloc: Global) -> Levels
         ensures { result.list.items ≡ [] }
     {
-        Levels { list: Vec::new(alloc) }
+        Levels {
+            list: Vec::new(alloc),
+        }
     }
 
     /// How many are below l.

@@ -1,4 +1,4 @@
-use Rattle.std.proofs.Common.{◌≡◌, ap, ◌∙◌}
+use Rattle.std.proofs.Common.{ap, ◌∙◌}
 use Rattle.c_terms.specs.Read.{written, ctys}
 use Rattle.c_emit.proofs.Writes.{called_is}
 use Rattle.c_emit.proofs.put.call.Goals as goal

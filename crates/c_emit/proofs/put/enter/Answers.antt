@@ -1,4 +1,4 @@
-use Rattle.std.proofs.Common.{rules, ◌≡◌, ap, ◌∙◌, ◌+◌, ◌∷◌, sym, length, true, false}
+use Rattle.std.proofs.Common.{rules, ◌≡◌, ap, ◌∙◌, ◌+◌, ◌∷◌, sym, length}
 use Rattle.c_walk.specs.Emit as E
 use Rattle.c_terms.specs.Stream as S
 use Rattle.c_terms.specs.Read.{written}

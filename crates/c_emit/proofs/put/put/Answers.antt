@@ -1,4 +1,4 @@
-use Rattle.std.proofs.Common.{◌≡◌, ap, ◌∙◌}
+use Rattle.std.proofs.Common.{ap, ◌∙◌}
 use Rattle.c_terms.specs.Read.{written}
 use Rattle.c_emit.proofs.Writes.{written_push}
 use Rattle.c_emit.proofs.put.put.Goals as goal

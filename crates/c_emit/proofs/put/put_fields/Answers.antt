@@ -1,4 +1,4 @@
-use Rattle.std.proofs.Common.{◌≡◌, ap, ◌∙◌, ◌+◌, sym}
+use Rattle.std.proofs.Common.{ap, ◌∙◌, sym}
 use Rattle.c_terms.specs.Read.{written}
 use Rattle.c_emit.proofs.Writes.{fields_step}
 use Rattle.c_emit.proofs.put.put_fields.Goals as goal

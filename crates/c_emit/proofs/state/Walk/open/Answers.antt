@@ -1,5 +1,4 @@
-use Rattle.std.proofs.Common.{◌≡◌, ◌∷◌, List, ◌∙◌, ap, sym}
-use Rattle.c_walk.specs.Emit as E
+use Rattle.std.proofs.Common.{◌∷◌, List, ◌∙◌, ap, sym}
 use Rattle.c_emit.specs.declared.parts.Frame.{Frame}
 use Rattle.c_emit.specs.declared.parts.Info.{Info}
 use Rattle.c_emit.specs.Read.{frame, info, frames_of, infos_of, notes_of}

@@ -3,6 +3,7 @@ mod Closing
 mod FaultRows
 mod Rows
 mod Sound
+pub mod Stacking
 mod TextRows
 mod Texts
 mod Turns
@@ -14,6 +15,5 @@ pub mod Occurs
 pub mod Parts
 pub mod Refusals
 pub mod Shapes
-pub mod Stacking
 pub mod Trees
 pub mod TypeOf

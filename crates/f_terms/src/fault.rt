@@ -36,8 +36,6 @@ pub enum Code {
     E14,
     /// The program is not an integer.
     E15,
-    /// The compiler does not take this form yet.
-    E20,
     /// The text has more than 1048576 bytes.
     L1,
     /// More than 200 constructs are open.

@@ -12,14 +12,13 @@ use Rattle.f_terms.specs.OneType.{one_type}
 use Rattle.f_terms.proofs.Faulty as faulty
 use Rattle.f_terms.proofs.Limited.{passes_where_typed}
 use Rattle.f_parser.proofs.Exact as parser
-use Rattle.pipeline.specs.Meaning.{IsNumber}
 use Rattle.talc_core.specs.declared.fault.Fault.TheVariants.{Source, Tal}
 use Rattle.t_terms.specs.declared.fault.TCode.{TCode}
-use Rattle.t_terms.specs.Spanned.{SBlock}
+use Rattle.t_terms.specs.Spanned.{SProg}
 use Rattle.t_terms.proofs.TextExact as assembly
 use Rattle.t_rules.specs.Faults as checking
 use Rattle.t_rules.proofs.Faulty as rules
-use Rattle.talc_core.specs.FirstFault.{AnyTerm, AProgram, ANumber, AnAssembly, IsRead, IsChecked, IsAssembly, IsAcceptedText, TermFault, ProgramFault, CompilerFault, AssemblyFault, OneFault, TakenOrFault}
+use Rattle.talc_core.specs.FirstFault.{AnyTerm, AProgram, AnAssembly, IsRead, IsChecked, IsAssembly, IsAcceptedText, TermFault, ProgramFault, AssemblyFault, OneFault, TakenOrFault}
 
 -- code and place of two faults agree
 abbrev Same : Code → Span → Code → Span → Type 0
@@ -53,17 +52,11 @@ no_program_fault text c s term checked (inr other) =
     let same : other.term ≡ term = same_term text other.term term other.checked.0 checked.0 in
     other.other (one_type (plain term) 0 NoTys other.type TInt (subst (λ e. IsAccepted (plain e) other.type) same other.checked.1).0 checked.1.0)
 
-no_compiler_fault : (text : List ℕ) (c : Code) (s : Span) (term : Tm) → IsChecked text term TInt → IsNumber (plain term) → CompilerFault text c s → ⊥
-no_compiler_fault text c s term checked number (inl fault) = no_program_fault text c s term checked fault
-no_compiler_fault text c s term checked number (inr other) =
-    let same : other.term ≡ term = same_term text other.term term other.checked.0 checked.0 in
-    other.other (subst (λ e. IsNumber (plain e)) (sym same) number)
-
 -- the same assembly text is read as the same program
-pub same_program : (text : List ℕ) (a b : List SBlock) → IsAssembly text a → IsAssembly text b → a ≡ b
+pub same_program : (text : List ℕ) (a b : SProg) → IsAssembly text a → IsAssembly text b → a ≡ b
 same_program text a b x y = assembly.one_program text a b x.stands y.stands
 
-no_assembly_fault : (text : List ℕ) (c : TCode) (s : Span) (program : List SBlock) → IsAcceptedText text program → AssemblyFault text c s → ⊥
+no_assembly_fault : (text : List ℕ) (c : TCode) (s : Span) (program : SProg) → IsAcceptedText text program → AssemblyFault text c s → ⊥
 no_assembly_fault text c s program accepted (inl reading) = assembly.program_or_fault text program c s accepted.0 reading
 no_assembly_fault text c s program accepted (inr found) =
     let same : found.program ≡ program = same_program text found.program program found.read accepted.0 in
@@ -72,11 +65,9 @@ no_assembly_fault text c s program accepted (inr found) =
 pub taken_or_fault : TakenOrFault
 taken_or_fault AnyTerm text (Source c s) taken fault = no_term_fault text c s taken.0 taken.1 taken.2 fault
 taken_or_fault AProgram text (Source c s) taken fault = no_program_fault text c s taken.0 taken.1 fault
-taken_or_fault ANumber text (Source c s) taken fault = no_compiler_fault text c s taken.0 taken.1 taken.2 fault
 taken_or_fault AnAssembly text (Tal c s) taken fault = no_assembly_fault text c s taken.0 taken.1 fault
 taken_or_fault AnyTerm text (Tal c s) taken fault = absurd fault
 taken_or_fault AProgram text (Tal c s) taken fault = absurd fault
-taken_or_fault ANumber text (Tal c s) taken fault = absurd fault
 taken_or_fault AnAssembly text (Source c s) taken fault = absurd fault
 
 -- ---- one fault
@@ -97,14 +88,6 @@ one_program_fault text c d s t (inr x) (inr y) =
     let same : x.term ≡ y.term = same_term text x.term y.term x.checked.0 y.checked.0 in
     (x.is_code ∙ sym y.is_code, x.whole ∙ ap span_of same ∙ sym y.whole)
 
-one_compiler_fault : (text : List ℕ) (c d : Code) (s t : Span) → CompilerFault text c s → CompilerFault text d t → Same c s d t
-one_compiler_fault text c d s t (inl x) (inl y) = one_program_fault text c d s t x y
-one_compiler_fault text c d s t (inl x) (inr y) = absurd (no_program_fault text c s y.term y.checked x)
-one_compiler_fault text c d s t (inr x) (inl y) = absurd (no_program_fault text d t x.term x.checked y)
-one_compiler_fault text c d s t (inr x) (inr y) =
-    let same : x.term ≡ y.term = same_term text x.term y.term x.checked.0 y.checked.0 in
-    (x.is_code ∙ sym y.is_code, x.whole ∙ ap span_of same ∙ sym y.whole)
-
 one_assembly_fault : (text : List ℕ) (c d : TCode) (s t : Span) → AssemblyFault text c s → AssemblyFault text d t → (c ≡ d) × (s ≡ t)
 one_assembly_fault text c d s t (inl x) (inl y) = assembly.one_fault text c d s t x y
 one_assembly_fault text c d s t (inl x) (inr y) = absurd (assembly.program_or_fault text y.program c s y.read x)
@@ -119,13 +102,10 @@ same_tal c d s t same = let code : c ≡ d = same.0 in let span : s ≡ t = same
 pub one_fault : OneFault
 one_fault AnyTerm text (Source c s) (Source d t) x y = same_source c d s t (one_term_fault text c d s t x y)
 one_fault AProgram text (Source c s) (Source d t) x y = same_source c d s t (one_program_fault text c d s t x y)
-one_fault ANumber text (Source c s) (Source d t) x y = same_source c d s t (one_compiler_fault text c d s t x y)
 one_fault AnAssembly text (Tal c s) (Tal d t) x y = same_tal c d s t (one_assembly_fault text c d s t x y)
 one_fault AnyTerm text (Source c s) (Tal d t) x y = absurd y
 one_fault AProgram text (Source c s) (Tal d t) x y = absurd y
-one_fault ANumber text (Source c s) (Tal d t) x y = absurd y
 one_fault AnyTerm text (Tal c s) b x y = absurd x
 one_fault AProgram text (Tal c s) b x y = absurd x
-one_fault ANumber text (Tal c s) b x y = absurd x
 one_fault AnAssembly text (Source c s) b x y = absurd x
 one_fault AnAssembly text (Tal c s) (Source d t) x y = absurd y

@@ -1,11 +1,11 @@
 -- What the words of the command line ask for: see the crate of the words, where it is a definition over `clap`'s rules.
 use Rattle.std.specs.Prelude.{List, ℕ}
-use Rattle.talc_core.specs.FirstFault.{Need, AnyTerm, AProgram, ANumber, AnAssembly}
+use Rattle.talc_core.specs.FirstFault.{Need, AnyTerm, AProgram, AnAssembly}
 pub use Rattle.words.specs.Command.{Asked, Compiles, Types, Evaluates, Checks, Runs, command_of}
 
 -- what the command needs of the text that it reads
 abbrev pub need_of : Asked → Need
-need_of (Compiles input output) = ANumber
+need_of (Compiles input output) = AProgram
 need_of (Types input) = AnyTerm
 need_of (Evaluates input turns) = AProgram
 need_of (Checks input) = AnAssembly

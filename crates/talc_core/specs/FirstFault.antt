@@ -2,7 +2,7 @@
 use Rattle.std.specs.Prelude.{◌≡◌, ◌≢◌, ◌⊎◌, ℕ, List}
 use Rattle.idx_core.specs.declared.span.Span.{Span}
 use Rattle.f_terms.specs.declared.fault.Code.{Code}
-use Rattle.f_terms.specs.declared.fault.Code.TheVariants.{E15, E20}
+use Rattle.f_terms.specs.declared.fault.Code.TheVariants.{E15}
 use Rattle.f_terms.specs.Ty.{Ty, TInt, NoTys}
 use Rattle.f_terms.specs.Tm.{Tm, plain, span_of}
 use Rattle.f_terms.specs.Read.{place}
@@ -10,20 +10,17 @@ use Rattle.f_terms.specs.Accepted.{IsAccepted}
 use Rattle.f_terms.specs.Faults as typing
 use Rattle.f_parser.specs.Text as parser
 use Rattle.t_terms.specs.declared.fault.TCode.{TCode}
-use Rattle.t_terms.specs.Spanned.{SBlock, plain_blocks}
+use Rattle.t_terms.specs.Spanned.{SProg, plain_program}
 use Rattle.t_terms.specs.Text as assembly
 use Rattle.t_rules.specs.Rules.{Accepted}
 use Rattle.t_rules.specs.Faults as checking
-use Rattle.pipeline.specs.Meaning.{IsNumber}
 use Rattle.talc_core.specs.declared.fault.Fault.{Fault}
 use Rattle.talc_core.specs.declared.fault.Fault.TheVariants.{Source, Tal}
 
--- what a command needs of a text: a term of any type, a program, a program that the compiler takes, or an assembly
--- program that the typing rules accept
+-- what a command needs of a text: a term of any type, a program, or an assembly program that the typing rules accept
 pub data Need : Type 0 where
   AnyTerm : Need
   AProgram : Need
-  ANumber : Need
   AnAssembly : Need
 
 -- the text is read: it stands for the term, within the limits of reading
@@ -53,14 +50,6 @@ pub record NotAProgram (text : List ℕ) (code : Code) (span : Span) : Type 0 wh
   pub is_code : code ≡ E15
   pub whole : place span ≡ span_of term
 
--- E20, at the whole term: the program is not one integer, and the compiler takes no other yet
-pub record NotYetCompiled (text : List ℕ) (code : Code) (span : Span) : Type 0 where
-  pub term : Tm
-  pub checked : IsChecked text term TInt
-  pub other : ¬ IsNumber (plain term)
-  pub is_code : code ≡ E20
-  pub whole : place span ≡ span_of term
-
 -- of a text that is to be a term: the first fault of reading, then of checking
 abbrev pub TermFault : List ℕ → Code → Span → Type 0
 TermFault text code span = ReadingFault text code span ⊎ CheckingFault text code span
@@ -69,21 +58,17 @@ TermFault text code span = ReadingFault text code span ⊎ CheckingFault text co
 abbrev pub ProgramFault : List ℕ → Code → Span → Type 0
 ProgramFault text code span = TermFault text code span ⊎ NotAProgram text code span
 
--- of a text that is to be compiled: then E20
-abbrev pub CompilerFault : List ℕ → Code → Span → Type 0
-CompilerFault text code span = ProgramFault text code span ⊎ NotYetCompiled text code span
-
 -- the assembly text is read: it stands for the program, within the limit on open constructs
-abbrev pub IsAssembly : List ℕ → List SBlock → Type 0
+abbrev pub IsAssembly : List ℕ → SProg → Type 0
 IsAssembly text program = assembly.ReadsAs text program
 
 -- the assembly text is read, and the typing rules accept its program
-abbrev pub IsAcceptedText : List ℕ → List SBlock → Type 0
-IsAcceptedText text program = IsAssembly text program × Accepted (plain_blocks program)
+abbrev pub IsAcceptedText : List ℕ → SProg → Type 0
+IsAcceptedText text program = IsAssembly text program × Accepted (plain_program program)
 
 -- the assembly text is read, and this is its program's first fault in checking order
 pub record AcceptingFault (text : List ℕ) (code : TCode) (span : Span) : Type 0 where
-  pub program : List SBlock
+  pub program : SProg
   pub read : IsAssembly text program
   pub fault : checking.ProgramFault program code span
 
@@ -95,19 +80,16 @@ AssemblyFault text code span = assembly.FirstFault text code span ⊎ AcceptingF
 abbrev pub FirstFault : Need → List ℕ → Fault → Type 0
 FirstFault AnyTerm text (Source code span) = TermFault text code span
 FirstFault AProgram text (Source code span) = ProgramFault text code span
-FirstFault ANumber text (Source code span) = CompilerFault text code span
 FirstFault AnAssembly text (Tal code span) = AssemblyFault text code span
 FirstFault AnyTerm text (Tal code span) = ⊥
 FirstFault AProgram text (Tal code span) = ⊥
-FirstFault ANumber text (Tal code span) = ⊥
 FirstFault AnAssembly text (Source code span) = ⊥
 
 -- the text is one of which this is needed
 abbrev pub IsTaken : Need → List ℕ → Type 0
 IsTaken AnyTerm text = (term : Tm) × (type : Ty) × IsChecked text term type
 IsTaken AProgram text = (term : Tm) × IsChecked text term TInt
-IsTaken ANumber text = (term : Tm) × IsChecked text term TInt × IsNumber (plain term)
-IsTaken AnAssembly text = (program : List SBlock) × IsAcceptedText text program
+IsTaken AnAssembly text = (program : SProg) × IsAcceptedText text program
 
 -- The laws.
 

@@ -5,7 +5,7 @@ use Rattle.talc_core.specs.declared.status.Status.{Status}
 use Rattle.talc_core.specs.declared.status.Status.TheVariants.{Done, Refused, Usage, Limit, Budget, ReadFault, WriteFault, Memory}
 use Rattle.talc_core.specs.declared.fault.Fault.{Fault}
 use Rattle.talc_core.specs.Fault.{status_of}
-use Rattle.talc_core.specs.FirstFault.{Need, AnyTerm, AProgram, ANumber, AnAssembly, FirstFault}
+use Rattle.talc_core.specs.FirstFault.{Need, AnyTerm, AProgram, AnAssembly, FirstFault}
 use Rattle.talc_core.specs.Compiled.{IsCompiled}
 use Rattle.talc_core.specs.Shown.{Showing, ShowsType, ShowsValue, ShowsAccepted, ShowsRun}
 use Rattle.talc_core.specs.Command.{Asked, Compiles, Types, Evaluates, Checks, Runs, command_of}
@@ -77,8 +77,8 @@ pub record CompileNotWritten (input output : List ℕ) (old new : Outside) : Typ
 -- what `compile` does; other statuses never come
 abbrev pub CompileAnswer : List ℕ → List ℕ → Outside → Outside → Status → Type 0
 CompileAnswer input output old new Done = CompileDone input output old new
-CompileAnswer input output old new Refused = TextRefused Refused ANumber input old new
-CompileAnswer input output old new Limit = TextRefused Limit ANumber input old new
+CompileAnswer input output old new Refused = TextRefused Refused AProgram input old new
+CompileAnswer input output old new Limit = TextRefused Limit AProgram input old new
 CompileAnswer input output old new ReadFault = NotRead input old new
 CompileAnswer input output old new WriteFault = CompileNotWritten input output old new
 CompileAnswer input output old new Memory = OutOfMemory old new

@@ -4,7 +4,7 @@ use Rattle.idx_core.specs.declared.span.Span.{Span}
 use Rattle.f_terms.specs.Ty.{Ty}
 use Rattle.f_terms.specs.Text.{type_text}
 use Rattle.f_terms.specs.declared.fault.Code.{Code}
-use Rattle.f_terms.specs.declared.fault.Code.TheVariants.{E01, E02, E03, E04, E05, E06, E07, E08, E09, E10, E11, E12, E13, E14, E15, E20, L1, L2, L3, L4, L5}
+use Rattle.f_terms.specs.declared.fault.Code.TheVariants.{E01, E02, E03, E04, E05, E06, E07, E08, E09, E10, E11, E12, E13, E14, E15, L1, L2, L3, L4, L5}
 use Rattle.t_terms.specs.declared.fault.TCode.{TCode}
 use Rattle.t_terms.specs.declared.fault.TCode.TheVariants.{T01, T02, T03, T04, T05, T06, T07, T08, T09, T10, T11, T12, T13, T14, T15, T16, T17, T18, T19, T20, M1}
 use Rattle.t_writer.specs.Lexeme.{number_text}
@@ -28,7 +28,6 @@ source_code E12 = codes "E12"
 source_code E13 = codes "E13"
 source_code E14 = codes "E14"
 source_code E15 = codes "E15"
-source_code E20 = codes "E20"
 source_code L1 = codes "L1"
 source_code L2 = codes "L2"
 source_code L3 = codes "L3"
@@ -52,7 +51,6 @@ source_words E12 = codes "operand is not int"
 source_words E13 = codes "branches of two types"
 source_words E14 = codes "body not of the declared type"
 source_words E15 = codes "program is not int"
-source_words E20 = codes "form not compiled yet"
 source_words L1 = codes "more than 1048576 bytes"
 source_words L2 = codes "more than 200 open constructs"
 source_words L3 = codes "more than 1000 nodes"

@@ -12,7 +12,7 @@ use Rattle.f_check.specs.Typed.{typed_term, typed_type, program_term}
 use Rattle.f_check.specs.declared.typed.Typed.{Typed}
 use Rattle.f_check.specs.declared.typed.Program.{Program}
 use Rattle.talc_core.specs.declared.fault.Fault.TheVariants.{Source, Tal}
-use Rattle.t_terms.specs.Read.{spanned_blocks}
+use Rattle.t_terms.specs.ReadProgram.{spanned_program}
 use Rattle.t_terms.specs.declared.program.TProgram.{TProgram}
 use Rattle.t_terms.specs.declared.fault.TFault.{TFault}
 use Rattle.t_terms.specs.declared.fault.TFault.TheVariants as assembly
@@ -23,7 +23,7 @@ use Rattle.talc_core.specs.declared.status.Status.TheVariants as status
 use Rattle.talc_core.specs.declared.report.Failure.{Failure}
 use Rattle.talc_core.specs.declared.report.Failure.TheVariants.{Refused, Read, Write, Memory}
 use Rattle.talc_core.specs.Fault.{status_of}
-use Rattle.talc_core.specs.FirstFault.{Need, AnyTerm, AProgram, ANumber, AnAssembly, IsRead, IsChecked, IsAssembly, IsAcceptedText, ReadingFault, FirstFault}
+use Rattle.talc_core.specs.FirstFault.{Need, AnyTerm, AProgram, AnAssembly, IsRead, IsChecked, IsAssembly, IsAcceptedText, ReadingFault, FirstFault}
 use Rattle.talc_core.specs.Compiled.{IsCompiled}
 use Rattle.talc_core.specs.Shown.{Showing, ShowsType, ShowsValue, ShowsAccepted, ShowsRun}
 use Rattle.talc_core.specs.declared.question.Question.{Question}
@@ -70,7 +70,7 @@ ReadsProgram source (Err failure) = RefusedBy AProgram source failure
 -- the text compiled, or its first fault
 abbrev pub CompilesText : List ℕ → Result (Vec ℕ Global) Failure → Type 0
 CompilesText source (Ok target) = IsCompiled source target.items
-CompilesText source (Err failure) = RefusedBy ANumber source failure
+CompilesText source (Err failure) = RefusedBy AProgram source failure
 
 -- why there is no answer, from a fault of the assembly
 abbrev pub failure_of_assembly : TFault → Failure
@@ -79,12 +79,12 @@ failure_of_assembly (assembly.Refused code span) = Refused (Tal code span)
 
 -- the program of an assembly text, or the first fault of reading
 abbrev pub ReadsAssembly : List ℕ → Result TProgram Failure → Type 0
-ReadsAssembly text (Ok program) = IsAssembly text (spanned_blocks program.blocks.items)
+ReadsAssembly text (Ok program) = IsAssembly text (spanned_program program)
 ReadsAssembly text (Err failure) = RefusedBy AnAssembly text failure
 
 -- the accepted program of an assembly text, or its first fault
 abbrev pub ChecksAssembly : List ℕ → Result Checked Failure → Type 0
-ChecksAssembly text (Ok checked) = IsAcceptedText text (spanned_blocks (checked_program checked).blocks.items)
+ChecksAssembly text (Ok checked) = IsAcceptedText text (spanned_program (checked_program checked))
 ChecksAssembly text (Err failure) = RefusedBy AnAssembly text failure
 
 -- the lines that may be shown, and what is needed of the text
@@ -122,7 +122,7 @@ PutsLine line old new (Err other) = ⊥
 -- a file compiled into another, or why not
 abbrev pub CompilesFile : List ℕ → List ℕ → FilesState → FilesState → Result (Unit {0}) Failure → Type 0
 CompilesFile input output old new (Ok done) = (source target : List ℕ) × Holds old.told input source × IsCompiled source target × (new.told ≡ with_file old.told output target)
-CompilesFile input output old new (Err (Refused fault)) = (source : List ℕ) × Holds old.told input source × FirstFault ANumber source fault × (new.told ≡ old.told)
+CompilesFile input output old new (Err (Refused fault)) = (source : List ℕ) × Holds old.told input source × FirstFault AProgram source fault × (new.told ≡ old.told)
 CompilesFile input output old new (Err Read) = (Faulted old.reads new.reads ⊎ IsAbsent old.told input) × (new.told ≡ old.told)
 CompilesFile input output old new (Err Write) = (source target : List ℕ) × Holds old.told input source × IsCompiled source target × Faulted old.writes new.writes × SameBut output old.told new.told
 CompilesFile input output old new (Err Memory) = new.told ≡ old.told

@@ -1,47 +1,24 @@
 // The command `compile`.
-ghost use Rattle.std.specs.Prelude.{◌≡◌};
-ghost use Rattle.f_terms.specs.Tm.{span_of};
-ghost use Rattle.f_terms.specs.Read.{place};
-ghost use Rattle.f_terms.specs.ReadTerm.{spanned};
-ghost use Rattle.f_check.specs.Typed.{program_term};
 ghost use Rattle.talc_core.specs.Headline.{CompileAnswer};
 ghost use Rattle.talc_core.specs.Steps.{CompilesText, CompilesFile};
 
-use crate::fault::Fault;
 use crate::outside::read_input;
 use crate::report::{Failure, report};
 use crate::source::read_program;
 use crate::status::Status;
-use f_check::Program;
-use f_terms::Code;
-use idx_core::Span;
 use io_core::{Files, Sink, Stop};
-use pipeline::{compile, is_number};
+use pipeline::compile;
 use std::alloc::Global;
-use t_writer::{keeps_by_nesting, one_move_is_shallow, write};
-
-// The place of a program.
-fn place_of(program: &Program) -> Span
-    ensures { place result ≡ span_of (spanned (program_term program.now)) }
-{
-    let term = program.term();
-    term.node(term.count() - 1).span
-}
+use t_writer::write;
 
 // The assembly text of the source text, or why there is none.
 fn compile_text(alloc: Global, source: &[u8]) -> Result<Vec<u8>, Failure>
     ensures { CompilesText source.now result }
 {
     let program = read_program(alloc, source)?;
-    if !is_number(&program) {
-        let span = place_of(&program);
-        return Err(Failure::Refused(Fault::Source(Code::E20, span)));
-    }
     let Ok(compiled) = compile(alloc, &program) else {
         return Err(Failure::Memory);
     };
-    one_move_is_shallow();
-    keeps_by_nesting();
     let Ok(target) = write(alloc, compiled.program()) else {
         return Err(Failure::Memory);
     };

@@ -1,7 +1,7 @@
 -- The trees of types that hold a vector, by its items; places of names.
-use Rattle.std.proofs.Common.{◌≡◌, ℕ, zero, suc, ◌+◌, ◌-◌, ◌<◌, ◌≤◌, List, [], ◌∷◌, ◌++◌, Vec, Global, refl, ap, ap₂, ◌∙◌, sym, length, get_or, drop, arith, append_assoc}
+use Rattle.std.proofs.Common.{◌≡◌, ℕ, zero, suc, ◌+◌, ◌-◌, ◌<◌, ◌≤◌, List, [], ◌∷◌, ◌++◌, Vec, Global, refl, ap, ◌∙◌, sym, length, get_or, drop, arith}
 use mathlib.Core.Former.{Count}
-use Rattle.term_core.specs.Ends.{lift, under, after_one}
+use Rattle.term_core.specs.Ends.{lift, under}
 use Rattle.term_core.specs.Levels.{level_of}
 use Rattle.k_terms.specs.K as K
 use Rattle.k_terms.specs.Read.{ktree, ktrees, ktys}
@@ -11,7 +11,6 @@ use Rattle.c_terms.specs.C as C
 use Rattle.c_terms.specs.Read.{ctree, ctrees, ctys}
 use Rattle.c_terms.specs.declared.types.CType.{CType, Row_of-CType, end_of-CType, more_of-CType, items-the_row-CType, items_hidden-the_row-CType-0}
 use Rattle.c_terms.specs.declared.types.CType.TheVariants as CT
-use Rattle.c_law.specs.Close as L
 use Rattle.c_walk.specs.Know as W
 use Rattle.c_free.specs.Names.{joined, kjoined}
 

@@ -15,10 +15,8 @@ use std::alloc::Global;
 
 // The type of a closure, by its code's.
 fn closure_type(alloc: Global, owes: u64, args: Vec<CType>) -> Result<CType, OutOfMemory>
-    ensures {
-        IfOk result
-            (λ r. ctree r ≡ TCSome (TCTuple (MoreCTys (TCCode owes (ctys args.items)) (MoreCTys (TCVar 0) NoCTys))))
-    }
+    ensures { IfOk result
+        (λ r. ctree r ≡ TCSome (TCTuple (MoreCTys (TCCode owes (ctys args.items)) (MoreCTys (TCVar 0) NoCTys)))) }
 {
     let mut parts = Vec::new(alloc);
     parts.push(CType::Code { owes, args })?;
@@ -44,7 +42,10 @@ pub fn close_type(alloc: Global, t: &KType, names: &Names) -> Result<CType, OutO
             Ok(CType::Tuple(made))
         }
         KType::Code { owes, args } => {
-            let inner = Names::Under { owes: *owes, around: &*names };
+            let inner = Names::Under {
+                owes: *owes,
+                around: &*names,
+            };
             let mut made = Vec::new(alloc);
             made.push(CType::Var(*owes))?;
             let made = close_types(alloc, args, &inner, made)?;

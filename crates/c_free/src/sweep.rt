@@ -46,7 +46,11 @@ impl Sweep {
 pub fn sweep(alloc: Global, nodes: &[KNode]) -> Result<VecDeque<Found>, OutOfMemory>
     ensures { IfOk result (λ r. founds r.items ≡ (W.sweep (map knode nodes.now)).found) }
 {
-    let mut walk = Sweep { current: Vec::new(alloc), outer: VecDeque::new(alloc), found: VecDeque::new(alloc) };
+    let mut walk = Sweep {
+        current: Vec::new(alloc),
+        outer: VecDeque::new(alloc),
+        found: VecDeque::new(alloc),
+    };
     let mut left = nodes.len();
     while left > 0 {
         left -= 1;

@@ -17,10 +17,8 @@ use std::mem;
 impl TSweep {
     // A code begins.
     fn open(&mut self, alloc: Global, depth: u64) -> Result<(), OutOfMemory>
-        ensures {
-            OnOk result
-                (tstate self.new ≡ T.topened depth (tstate self.old).current (tstate self.old).outer (tstate self.old).found)
-        }
+        ensures { OnOk result
+            (tstate self.new ≡ T.topened depth (tstate self.old).current (tstate self.old).outer (tstate self.old).found) }
     {
         match self.outer.pop_front() {
             None => Ok(()),
@@ -38,12 +36,22 @@ impl TSweep {
         ensures { OnOk result (tstate self.new ≡ T.tswept (knode node.now) (tstate self.old)) }
     {
         match node {
-            KNode::Code { depth, owes, args, .. } => {
+            KNode::Code {
+                depth,
+                owes,
+                args,
+                ..
+            } => {
                 types_levels(args, *depth, *owes, &mut self.current)?;
                 self.open(alloc, *depth)?;
                 Ok(())
             }
-            KNode::Pack { depth, hidden, shape, .. } => {
+            KNode::Pack {
+                depth,
+                hidden,
+                shape,
+                ..
+            } => {
                 type_levels(hidden, *depth, 0, &mut self.current)?;
                 type_levels(shape, *depth, 0, &mut self.current)?;
                 Ok(())
@@ -66,7 +74,11 @@ impl TSweep {
 pub fn tsweep(alloc: Global, nodes: &[KNode]) -> Result<VecDeque<Levels>, OutOfMemory>
     ensures { IfOk result (λ r. lists r.items ≡ (T.tsweep (map knode nodes.now)).found) }
 {
-    let mut walk = TSweep { current: Vec::new(alloc), outer: VecDeque::new(alloc), found: VecDeque::new(alloc) };
+    let mut walk = TSweep {
+        current: Vec::new(alloc),
+        outer: VecDeque::new(alloc),
+        found: VecDeque::new(alloc),
+    };
     let mut left = nodes.len();
     while left > 0 {
         left -= 1;

@@ -46,7 +46,12 @@ pub fn type_levels(t: &KType, depth: u64, under: u64, out: &mut Vec<u64>) -> Res
 
 /// Those of several.
 #[cycle(levels)]
-pub fn types_levels(ts: &[KType], depth: u64, under: u64, out: &mut Vec<u64>) -> Result<(), OutOfMemory>
+pub fn types_levels(
+    ts: &[KType],
+    depth: u64,
+    under: u64,
+    out: &mut Vec<u64>,
+) -> Result<(), OutOfMemory>
     ensures { OnOk result (out.new.items ≡ out.old.items ++ W.types_levels depth under (ktys ts.now)) }
 {
     for t in ts {

@@ -4,8 +4,7 @@ use Rattle.c_free.proofs.Trees.{lift_add}
 use Rattle.c_terms.specs.declared.types.CType.TheVariants as CT
 use Rattle.c_terms.specs.C as C
 use Rattle.c_law.specs.Close as L
-use Rattle.k_terms.specs.Read.{ktree, ktys}
-use Rattle.c_terms.specs.Read.{ctree, ctys}
+use Rattle.k_terms.specs.Read.{ktys}
 use Rattle.c_free.specs.Names.{joined, renaming}
 use Rattle.c_terms.specs.declared.types.CType.{CType}
 use Rattle.c_free.proofs.Trees.{c_tuple, is_tuple, is_code, joined_push, joined_nil, ktys_drop, ktys_end}
@@ -25,7 +24,7 @@ close_type-returns-in_ok-t-in-Code t c =
     let inner = L.ctypes (under owes (λ i. suc (r i))) (ktys c.deref-in-Code.result.now) in
     c.in_ok-t-in-Code.ensures
     ∙ ap (λ x. C.TCSome (C.TCTuple (C.MoreCTys (C.TCCode owes x) (C.MoreCTys (C.TCVar 0) C.NoCTys))))
-      (c.in_ok-made-in-Code.ensures ∙ ap (λ (xs : List CType). joined xs inner) (c.in_ok-push-in-Code.ensures.items ∙ ap (λ (xs : List CType). xs ++ CT.Var owes ∷ []) c.new-made-in-Code.ensures.items) ∙ ap (λ n. C.MoreCTys (C.TCVar n) inner) (let q : owes ≡ lift owes 0 = omega (arith, lift_add owes 0) in q))
+    (c.in_ok-made-in-Code.ensures ∙ ap (λ (xs : List CType). joined xs inner) (c.in_ok-push-in-Code.ensures.items ∙ ap (λ (xs : List CType). xs ++ CT.Var owes ∷ []) c.new-made-in-Code.ensures.items) ∙ ap (λ n. C.MoreCTys (C.TCVar n) inner) (let q : owes ≡ lift owes 0 = omega (arith, lift_add owes 0) in q))
     ∙ ap (L.ctype r) (sym (is_code _ _ _ _ c.in-Code.is c.deref-in-Code.ensures.value))
 
 pub close_types-loop-t-preserved : goal.close_types-loop-t-preserved

@@ -1,4 +1,4 @@
-use Rattle.std.proofs.Common.{◌≡◌, ◌∙◌, ap, sym, List, [], ◌∷◌, ◌++◌}
+use Rattle.std.proofs.Common.{◌∙◌, ap, List, [], ◌∷◌, ◌++◌}
 use Rattle.c_terms.specs.C as C
 use Rattle.c_terms.specs.declared.types.CType.{CType}
 use Rattle.c_terms.specs.declared.types.CType.TheVariants as CT

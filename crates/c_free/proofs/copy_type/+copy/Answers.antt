@@ -1,6 +1,6 @@
-use Rattle.std.proofs.Common.{◌≡◌, ◌∙◌, ap, sym, drop, ◌+◌}
+use Rattle.std.proofs.Common.{◌∙◌, ap, sym, drop, ◌+◌}
 use Rattle.k_terms.specs.K as K
-use Rattle.k_terms.specs.Read.{ktree, ktys}
+use Rattle.k_terms.specs.Read.{ktys}
 use Rattle.c_free.specs.Names.{kjoined}
 use Rattle.k_terms.specs.declared.types.KType.{KType}
 use Rattle.std.proofs.Common.{List}

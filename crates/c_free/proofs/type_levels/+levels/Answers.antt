@@ -1,5 +1,4 @@
-use Rattle.std.proofs.Common.{◌≡◌, ◌∙◌, ap, sym, drop, ◌+◌, ◌++◌, ◌∷◌, List, ℕ, []}
-use Rattle.term_core.specs.Ends.{lift}
+use Rattle.std.proofs.Common.{◌∙◌, ap, sym, ◌++◌, ◌∷◌, List, ℕ, []}
 use Rattle.c_free.proofs.Trees.{lift_add}
 use Rattle.c_walk.specs.Know as W
 use Rattle.k_terms.specs.Read.{ktree, ktys}
@@ -10,7 +9,7 @@ pub type_levels-returns-in_ok-push-in-Var : goal.type_levels-returns-in_ok-push-
 type_levels-returns-in_ok-push-in-Var t c =
     c.in_ok-push-in-Var.ensures.items
     ∙ ap (λ (xs : List ℕ). c.args.out.now.items ++ xs)
-      (ap (λ l. l ∷ []) c.level_of.ensures ∙ list_in c.args.depth c.args.under c.in-Var.i c.if-under-i.true ∙ ap (W.type_levels c.args.depth c.args.under) (sym (ap ktree c.in-Var.is)))
+    (ap (λ l. l ∷ []) c.level_of.ensures ∙ list_in c.args.depth c.args.under c.in-Var.i c.if-under-i.true ∙ ap (W.type_levels c.args.depth c.args.under) (sym (ap ktree c.in-Var.is)))
 
 pub type_levels-returns-else-under-i : goal.type_levels-returns-else-under-i
 type_levels-returns-else-under-i t c =

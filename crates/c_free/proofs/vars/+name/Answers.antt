@@ -1,6 +1,5 @@
-use Rattle.std.proofs.Common.{◌≡◌, ◌∙◌, ◌+◌, ◌-◌, suc, ap, sym, List, ℕ, arith}
+use Rattle.std.proofs.Common.{◌≡◌, ◌∙◌, ◌+◌, suc, ap, sym, arith}
 use Rattle.c_walk.specs.Know as W
-use Rattle.term_core.specs.Ends.{under}
 use Rattle.c_free.proofs.Trees.{lift_add}
 use Rattle.c_free.specs.Names.{side, renaming}
 use Rattle.c_free.proofs.Trees.{under_in, under_out}

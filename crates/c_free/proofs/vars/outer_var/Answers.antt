@@ -1,4 +1,4 @@
-use Rattle.std.proofs.Common.{◌≡◌, ◌∙◌, ◌+◌, ap, sym, ℕ}
+use Rattle.std.proofs.Common.{◌∙◌, ◌+◌, ap, sym}
 use Rattle.c_walk.specs.Know as W
 use Rattle.term_core.specs.Levels.{level_of}
 use Rattle.c_free.proofs.Trees.{lift_add}

@@ -4,13 +4,13 @@ use Rattle.std.specs.Prelude.{is_none, Option}
 use Rattle.idx_core.specs.declared.span.Span.{Span}
 use Rattle.idx_core.specs.Names.{Name}
 use Rattle.t_terms.specs.declared.fault.TCode.{TCode}
-use Rattle.t_terms.specs.declared.fault.TCode.TheVariants.{T04, T05}
-use Rattle.t_terms.specs.Tree.{TBase, TValue, Plain, Pack, TInstr, Arith, Bnz, Ld, Malloc, Mov, St, Unpack, TEnd, Jmp, Halt}
+use Rattle.t_terms.specs.declared.fault.TCode.TheVariants.{T05}
+use Rattle.t_terms.specs.Tree.{TBase, TValue, Plain, Pack, TInstr, Arith, Bnz, Mov, Unpack, Jmp}
 use Rattle.t_terms.specs.Raw.{RawBase, RReg, RNum, RLabel, RawValue, RPlain, RPack, RawInstr, RArith, RBnz, RLd, RMalloc, RMov, RSt, RUnpack, RawEnd, RJmp, RHalt, RawBlock}
-use Rattle.t_terms.specs.Names.{Labels, spelled, named_by, or_first, bind, type_of, types_of, file_of, base_of, value_of, instr_of, body_of, end_of, names_after, names_after_all, block_of}
-use Rattle.t_terms.specs.NameFaults.{only_if, type_faults, types_faults, regs_faults, base_faults, value_faults, instr_faults, body_faults, end_faults, block_faults}
-use Rattle.t_reader.specs.Labelled.{NameTheSame, is_block}
-use Rattle.t_reader.specs.Resolve.{stands_before, numbered_faults}
+use Rattle.t_terms.specs.Names.{Labels, spelled, or_first, bind, type_of, types_of, base_of, value_of, instr_of, body_of, end_of, names_after, names_after_all, block_of}
+use Rattle.t_terms.specs.NameFaults.{only_if, type_faults, types_faults, base_faults, value_faults, instr_faults, body_faults, end_faults, block_faults}
+use Rattle.t_reader.specs.Labelled.{NameTheSame}
+use Rattle.t_reader.specs.Resolve.{numbered_faults}
 
 module _ (text : List ℕ) (ls ms : Labels) (same : NameTheSame ls ms) where
   base_same : (b : RawBase) → base_of text ls b ≡ base_of text ms b

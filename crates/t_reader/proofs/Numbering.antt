@@ -1,6 +1,6 @@
 -- Blocks in turn: a label is that of its first block.
-use Rattle.std.proofs.Common.{◌≡◌, ℕ, suc, ◌+◌, ◌<◌, List, [], ◌∷◌, ◌++◌, length, map, drop, refl, subst, sym, ◌∙◌, ap, Bool, true, false, not, ◌||◌, if◌then◌else◌, append_assoc, arith, add-one, Option, Some, None, is_some}
-use Rattle.std.specs.Prelude.{nat_eq, bytes_eq}
+use Rattle.std.proofs.Common.{◌≡◌, ℕ, suc, ◌+◌, List, [], ◌∷◌, ◌++◌, map, refl, subst, sym, ◌∙◌, ap, Bool, true, false, not, ◌||◌, if◌then◌else◌, append_assoc, arith, add-one, Option, Some, None, is_some}
+use Rattle.std.specs.Prelude.{bytes_eq}
 use Rattle.std.specs.Option.{option_or}
 use Rattle.std.specs.Cmp.Lexicographic.{nat_list_eq_equiv}
 use Rattle.std.proofs.lemmas.Bool.{eq-eqb}

@@ -40,7 +40,8 @@ impl<'a> Labels<'a> {
 // gives a label the number of its block, unless a block before has the label
 fn keep_first<'a>(numbers: &mut BySpelling<'a>, name: &'a [u8], number: u64) -> Result<(), TFault>
     ensures { MatchResult result
-        (λ _. (ls : LabelList) → HasFirstBlocks numbers.old ls → HasFirstBlocks numbers.new (ls ++ (name.now, Label number) ∷ []))
+        (λ _. (ls : LabelList) → HasFirstBlocks numbers.old ls →
+        HasFirstBlocks numbers.new (ls ++ (name.now, Label number) ∷ []))
         (λ e. e ≡ fault.Memory) }
 {
     if numbers.contains_key(name) {

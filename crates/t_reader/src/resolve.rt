@@ -21,7 +21,8 @@ use t_types::{RegFile, TType};
 // N ::= reg | number | label
 fn base_in(text: &[u8], labels: &Labels<'_>, base: &RawBase) -> Result<Base, TFault>
     ensures { MatchResult result
-        (λ b. (base_faults text.now labels.now (raw_base base.now) ≡ []) × (read.base b ≡ base_of text.now labels.now (raw_base base.now)))
+        (λ b. (base_faults text.now labels.now (raw_base base.now) ≡ [])
+        × (read.base b ≡ base_of text.now labels.now (raw_base base.now)))
         (λ e. StopsAt (base_faults text.now labels.now (raw_base base.now)) e) }
 {
     match base {
@@ -38,7 +39,9 @@ fn base_in(text: &[u8], labels: &Labels<'_>, base: &RawBase) -> Result<Base, TFa
 }
 
 fn package(alloc: Global, hidden: TType, inner: Value, shape: TType) -> Result<Value, TFault>
-    ensures { MatchResult result (λ v. read.value v ≡ Pack (tree hidden) (read.value inner) (tree shape)) (λ e. e ≡ fault.Memory) }
+    ensures { MatchResult result
+        (λ v. read.value v ≡ Pack (tree hidden) (read.value inner) (tree shape))
+        (λ e. e ≡ fault.Memory) }
 {
     Ok(Value::Pack {
         hidden,
@@ -56,7 +59,9 @@ pub fn value_in<'a>(
     scope: &mut Scope<'a>,
 ) -> Result<Value, TFault>
     ensures { MatchResult result
-        (λ v. (scope.new ≡ scope.old) × (value_faults text.now labels.now scope.old (raw_value value.now) ≡ []) × (read.value v ≡ value_of text.now labels.now scope.old (raw_value value.now)))
+        (λ v. (scope.new ≡ scope.old)
+        × (value_faults text.now labels.now scope.old (raw_value value.now) ≡ [])
+        × (read.value v ≡ value_of text.now labels.now scope.old (raw_value value.now)))
         (λ e. StopsAt (value_faults text.now labels.now scope.old (raw_value value.now)) e) }
 {
     match value {
@@ -85,7 +90,9 @@ pub fn instr_in<'a>(
     scope: &mut Scope<'a>,
 ) -> Result<Instr, TFault>
     ensures { MatchResult result
-        (λ i. (scope.new ≡ names_after text.now (raw_instr instr.now) scope.old) × (instr_faults text.now labels.now scope.old (raw_instr instr.now) ≡ []) × (read.instr i ≡ instr_of text.now labels.now scope.old (raw_instr instr.now)))
+        (λ i. (scope.new ≡ names_after text.now (raw_instr instr.now) scope.old)
+        × (instr_faults text.now labels.now scope.old (raw_instr instr.now) ≡ [])
+        × (read.instr i ≡ instr_of text.now labels.now scope.old (raw_instr instr.now)))
         (λ e. StopsAt (instr_faults text.now labels.now scope.old (raw_instr instr.now)) e) }
 {
     match instr {
@@ -137,7 +144,9 @@ pub fn body_in<'a>(
     scope: &mut Scope<'a>,
 ) -> Result<Vec<(Instr, Span)>, TFault>
     ensures { MatchResult result
-        (λ is. (scope.new ≡ names_after_all text.now (map raw_step body.now) scope.old) × (body_faults text.now labels.now scope.old (map raw_step body.now) ≡ []) × (read.body is.items ≡ body_of text.now labels.now scope.old (map raw_step body.now)))
+        (λ is. (scope.new ≡ names_after_all text.now (map raw_step body.now) scope.old)
+        × (body_faults text.now labels.now scope.old (map raw_step body.now) ≡ [])
+        × (read.body is.items ≡ body_of text.now labels.now scope.old (map raw_step body.now)))
         (λ e. StopsAt (body_faults text.now labels.now scope.old (map raw_step body.now)) e) }
 {
     let mut made = Vec::new(alloc);
@@ -157,7 +166,8 @@ pub fn end_in<'a>(
     scope: &mut Scope<'a>,
 ) -> Result<End, TFault>
     ensures { MatchResult result
-        (λ e. (end_faults text.now labels.now scope.old (raw_end end.now) ≡ []) × (read.end_of e ≡ end_of text.now labels.now scope.old (raw_end end.now)))
+        (λ e. (end_faults text.now labels.now scope.old (raw_end end.now) ≡ [])
+        × (read.end_of e ≡ end_of text.now labels.now scope.old (raw_end end.now)))
         (λ e. StopsAt (end_faults text.now labels.now scope.old (raw_end end.now)) e) }
 {
     match end {
@@ -177,7 +187,8 @@ pub fn block_in(
     block: &RawBlock,
 ) -> Result<Block, TFault>
     ensures { MatchResult result
-        (λ b. (block_faults text.now labels.now (raw_block block.now) ≡ []) × (read.spanned b ≡ block_of text.now labels.now (raw_block block.now)))
+        (λ b. (block_faults text.now labels.now (raw_block block.now) ≡ [])
+        × (read.spanned b ≡ block_of text.now labels.now (raw_block block.now)))
         (λ e. StopsAt (block_faults text.now labels.now (raw_block block.now)) e) }
 {
     let mut scope = Scope::new(alloc);

@@ -41,7 +41,8 @@ impl<'a> Model for Scope<'a> {
 
     ghost view = { λ s. names_of (reverse s.bound.items) };
 
-    ghost invariant = { λ s. HasLevels s.levels (names_of (reverse s.bound.items)) × KeepsHidden (reverse s.bound.items) };
+    ghost invariant = { λ s.
+        HasLevels s.levels (names_of (reverse s.bound.items)) × KeepsHidden (reverse s.bound.items) };
 }
 
 impl<'a> Scope<'a> {

@@ -15,8 +15,9 @@ fn fault(code: TCode, start: u64, end: u64) -> Option<TFault> {
 
 #[test]
 fn finds_the_first_fault(rt: HostRuntime) {
-    let rows: [(&[u8], Option<TFault>); 20] = [
+    let rows: [(&[u8], Option<TFault>); 21] = [
         (b"", fault(TCode::T03, 0, 0)),
+        (b"\xc8", fault(TCode::T01, 0, 1)),
         (b"tal 1 $", fault(TCode::T01, 6, 7)),
         (
             b"tal 1\nL0: code[]{}. mov r0, 1 halt[int]",

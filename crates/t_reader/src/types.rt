@@ -51,7 +51,9 @@ pub fn type_in<'a>(
     scope: &mut Scope<'a>,
 ) -> Result<TType, TFault>
     ensures { MatchResult result
-        (λ t. (scope.new ≡ scope.old) × (type_faults text.now scope.old (raw ty.now) ≡ []) × (tree t ≡ type_of text.now scope.old (raw ty.now)))
+        (λ t. (scope.new ≡ scope.old)
+        × (type_faults text.now scope.old (raw ty.now) ≡ [])
+        × (tree t ≡ type_of text.now scope.old (raw ty.now)))
         (λ e. StopsAt (type_faults text.now scope.old (raw ty.now)) e) }
 {
     match ty {
@@ -101,7 +103,9 @@ pub fn file_in<'a>(
     scope: &mut Scope<'a>,
 ) -> Result<Vec<(u64, TType)>, TFault>
     ensures { MatchResult result
-        (λ f. (scope.new ≡ scope.old) × (regs_faults text.now scope.old [] (raw_regs (map raw_reg regs.now)) ≡ []) × (file f.items ≡ file_of text.now scope.old (raw_regs (map raw_reg regs.now))))
+        (λ f. (scope.new ≡ scope.old)
+        × (regs_faults text.now scope.old [] (raw_regs (map raw_reg regs.now)) ≡ [])
+        × (file f.items ≡ file_of text.now scope.old (raw_regs (map raw_reg regs.now))))
         (λ e. StopsAt (regs_faults text.now scope.old [] (raw_regs (map raw_reg regs.now))) e) }
 {
     let mut made = BTreeMap::new(alloc);
@@ -127,7 +131,9 @@ pub fn types_in<'a>(
     scope: &mut Scope<'a>,
 ) -> Result<Vec<TType>, TFault>
     ensures { MatchResult result
-        (λ ts. (scope.new ≡ scope.old) × (types_faults text.now scope.old (map raw list.now) ≡ []) × (types ts.items ≡ types_of text.now scope.old (map raw list.now)))
+        (λ ts. (scope.new ≡ scope.old)
+        × (types_faults text.now scope.old (map raw list.now) ≡ [])
+        × (types ts.items ≡ types_of text.now scope.old (map raw list.now)))
         (λ e. StopsAt (types_faults text.now scope.old (map raw list.now)) e) }
 {
     let mut made = Vec::new(alloc);

@@ -1,10 +1,9 @@
-use Rattle.std.proofs.Common.{◌≡◌, ℕ, suc, ◌+◌, ◌<◌, List, [], ◌∷◌, ◌++◌, length, map, take, get_or, add-one, refl, sym, ◌∙◌, ap, subst, arith}
+use Rattle.std.proofs.Common.{◌≡◌, ℕ, suc, ◌+◌, ◌<◌, List, [], ◌∷◌, ◌++◌, length, take, get_or, add-one, refl, ◌∙◌, ap, subst, arith}
 use Rattle.std.proofs.lemmas.List.{map-append, length-map, take_all}
 use Rattle.std.proofs.Math.ListN.{length-take}
 use Rattle.std.proofs.Math.Seq.{take-suc}
-use Rattle.idx_core.specs.Names.{Name}
 use Rattle.t_terms.specs.Raw as tree
-use Rattle.t_terms.specs.Tree.{TBase, Label}
+use Rattle.t_terms.specs.Tree.{Label}
 use Rattle.t_terms.specs.Names.{Labels, block_labels, labels_of, spelled}
 use Rattle.t_shapes.specs.declared.raw.RawBlock.{RawBlock}
 use Rattle.t_shapes.specs.Raw.{raw_block, raw_blocks}

@@ -10,12 +10,6 @@ use Rattle.f_terms.specs.declared.types.FType.TheVariants as ftype
 use Rattle.f_terms.specs.Ty.{Ty, TTuple, Tys, MoreTys, tys}
 use Rattle.f_terms.specs.Tm.{Tm, SNum, STuple, Spn, Tms, MoreTms, tms}
 use Rattle.f_terms.specs.Read.{tree, trees, place}
-use Rattle.f_terms.specs.Shape.{children, shape_tree}
-use Rattle.f_terms.specs.ReadTerm.{part}
-use Rattle.f_terms.specs.Made.{IsAdded, Makes}
-use Rattle.f_terms.specs.declared.node.FParts.{FParts}
-use Rattle.f_terms.specs.declared.node.FShape.{FShape}
-use Rattle.f_terms.proofs.Making as making
 use Rattle.f_grammar.specs.Raw.{RawTy, RTuple, raw_tys, RawTm, RFields, raw_tms}
 use Rattle.f_grammar.specs.Reads.{type_of}
 use Rattle.f_grammar.specs.declared.raw.RawType.{RawType}
@@ -24,9 +18,8 @@ use Rattle.f_grammar.proofs.Typing.{type_Tuple}
 use Rattle.f_grammar.specs.declared.raw.RawTerm.{RawTerm}
 use Rattle.f_grammar.specs.declared.raw.RawTerm.TheVariants as rterm
 use Rattle.f_reader.specs.Kept.{tree_of}
-use Rattle.f_reader.proofs.Fields.{tree_Tuple}
 use Rattle.f_parser.specs.Scope.{spelled, use_at, TypeOf, of_tuple, TypesOf, of_no_types, of_more_types, TermOf, of_num, of_fields, TermsOf, of_no_terms, of_more_terms, Use, type_uses, types_uses, uses, all_uses, AllBound}
-use Rattle.f_parser.specs.Resolve.{StopsAt, IsTerm, AreTerms}
+use Rattle.f_parser.specs.Resolve.{StopsAt}
 use Rattle.f_parser.specs.declared.resolve.Unresolved.{Unresolved}
 use Rattle.f_parser.specs.declared.resolve.Unresolved.TheVariants.{Memory, Value, «Type»}
 use Rattle.f_parser.proofs.Bound.{types_bound, terms_bound, first_left, first_right}
@@ -74,23 +67,6 @@ module _ (text : List ℕ) (a : List Name) where
   types_stop us vs u ws e h g = rw types_uses_append
       (stops_right text (types_uses text a (raw_tys us)) (type_uses text a u ++ types_uses text a (raw_tys vs)) e (types_bound h) (stops_left text (type_uses text a u) (types_uses text a (raw_tys vs)) e g))
 
--- terms one after the other
-module _ (text : List ℕ) (v a : List Name) where
-  pub terms_push : (us : List RawTm) (ws : List Tm) (u : RawTm) (w : Tm) → TermsOf text v a (raw_tms us) (tms ws) → TermOf text v a u w → TermsOf text v a (raw_tms (us ++ u ∷ [])) (tms (ws ++ w ∷ []))
-  terms_push [] [] u w h g = of_more_terms g of_no_terms
-  terms_push [] (x ∷ ws) u w h g = absurd (elim h [ ])
-  terms_push (x ∷ us) [] u w h g = absurd (elim h [ ])
-  terms_push (x ∷ us) (y ∷ ws) u w (of_more_terms p h) g = of_more_terms p (terms_push us ws u w h g)
-
-  pub all_uses_append : (us vs : List RawTm) → all_uses text v a (raw_tms (us ++ vs)) ≡ all_uses text v a (raw_tms us) ++ all_uses text v a (raw_tms vs)
-  all_uses_append [] vs = refl
-  all_uses_append (u ∷ us) vs = ap (λ (x : List Use). uses text v a u ++ x) (all_uses_append us vs) ∙ sym (append_assoc (uses text v a u) (all_uses text v a (raw_tms us)) (all_uses text v a (raw_tms vs)))
-
-  pub terms_stop : (us vs : List RawTm) (u : RawTm) (ws : List Tm) (e : Unresolved) → TermsOf text v a (raw_tms us) (tms ws) → StopsAt text (uses text v a u) e →
-      StopsAt text (all_uses text v a (raw_tms (us ++ u ∷ vs))) e
-  terms_stop us vs u ws e h g = rw all_uses_append
-      (stops_right text (all_uses text v a (raw_tms us)) (uses text v a u ++ all_uses text v a (raw_tms vs)) e (terms_bound h) (stops_left text (uses text v a u) (all_uses text v a (raw_tms vs)) e g))
-
 -- a list by an item that a loop reads
 split_at : {X Y : Type 0} (f : X → Y) (xs : List X) (i : ℕ) (x : X) → x ≡ get_or xs i x → i < length xs → map f xs ≡ map f (take i xs) ++ f x ∷ map f (drop (i + 1) xs)
 split_at {X} f xs i x e l =
@@ -118,36 +94,6 @@ pub type_parts_more : (text : List ℕ) (a : List Name) (xs : List RawType) (i :
 type_parts_more text a xs i x old new t g l e h s =
     rw (map_take type_of xs i x g l, e, map-append tree old (t ∷ [])) (types_push text a (map type_of (take i xs)) (map tree old) (type_of x) (tree t) h s)
 
--- the loop over the fields of a tuple
-module _ (text : List ℕ) (v a : List Name) (xs : List RawTerm) where
-  pub fields_stop : (i : ℕ) (x : RawTerm) (ws : List Tm) (e : Unresolved) → x ≡ get_or xs i x → i < length xs → TermsOf text v a (raw_tms (map tree_of (take i xs))) (tms ws) →
-      StopsAt text (uses text v a (tree_of x)) e → StopsAt text (all_uses text v a (raw_tms (map tree_of xs))) e
-  fields_stop i x ws e g l h s = rw (split_at tree_of xs i x g l) (terms_stop text v a (map tree_of (take i xs)) (map tree_of (drop (i + 1) xs)) (tree_of x) ws e h s)
-
-  pub fields_whole : (n : ℕ) (ws : List Tm) → length xs ≤ n → TermsOf text v a (raw_tms (map tree_of (take n xs))) (tms ws) → TermsOf text v a (raw_tms (map tree_of xs)) (tms ws)
-  fields_whole n ws l h = subst (λ (ys : List RawTerm). TermsOf text v a (raw_tms (map tree_of ys)) (tms ws)) (take_all n xs l) h
-
-  -- one field more is made
-  pub fields_more : (i : ℕ) (x : RawTerm) (p q r : FParts) (old new : List ℕ) (k : ℕ) → x ≡ get_or xs i x → i < length xs → new ≡ old ++ k ∷ [] →
-      AreTerms text v a (raw_tms (map tree_of (take i xs))) p q old → IsTerm text v a (tree_of x) q r k → AreTerms text v a (raw_tms (map tree_of (take (i + 1) xs))) p r new
-  fields_more i x p q r old new k g l e h s =
-      let m = making.makes_more p q r old (map (part q) old) k (part r k) h.0 s.0 in
-      let trees : map (part r) (old ++ k ∷ []) ≡ map (part q) old ++ part r k ∷ [] = m.trees in
-      let whole : TermsOf text v a (raw_tms (map tree_of (take (i + 1) xs))) (tms (map (part q) old ++ part r k ∷ [])) = rw (map_take tree_of xs i x g l) (terms_push text v a (map tree_of (take i xs)) (map (part q) old) (tree_of x) (part r k) h.1 s.1) in
-      subst (AreTerms text v a (raw_tms (map tree_of (take (i + 1) xs))) p r) (sym e)
-      (subst (Makes p r (old ++ k ∷ [])) (sym trees) m, subst (λ ts. TermsOf text v a (raw_tms (map tree_of (take (i + 1) xs))) (tms ts)) (sym trees) whole)
-
--- a tuple by its fields
-module _ (text : List ℕ) (v a : List Name) (self : RawTerm) (span : _) (parts : Vec RawTerm Global) (xs : List RawTerm) (is : self ≡ rterm.Tuple span parts) (same : xs ≡ parts.items) where
-  term_tree : tree_of self ≡ RFields span (raw_tms (map tree_of xs))
-  term_tree = ap tree_of is ∙ (tree_Tuple span parts ∙ ap (λ (ys : List RawTerm). RFields span (raw_tms (map tree_of ys))) (sym same))
-
-  pub tuple_stop : (e : Unresolved) → StopsAt text (all_uses text v a (raw_tms (map tree_of xs))) e → StopsAt text (uses text v a (tree_of self)) e
-  tuple_stop e h = rw term_tree h
-
-  pub tuple_whole : (ws : List Tm) → TermsOf text v a (raw_tms (map tree_of xs)) (tms ws) → TermOf text v a (tree_of self) (STuple (place span) (tms ws))
-  tuple_whole ws h = rw term_tree (of_fields span h)
-
 -- a name that has no binder
 pub type_name_stop : (text : List ℕ) (a : List Name) (self : RawType) (s : Span) → self ≡ rtype.Name s → IsAbsent (spelled text s) a → StopsAt text (type_uses text a (type_of self)) («Type» s)
 type_name_stop text a self s is h = rw is (use_at s true a, record { before = []; after = []; place = refl; bound = tt; unbound = h }, refl, refl)
@@ -155,52 +101,6 @@ type_name_stop text a self s is h = rw is (use_at s true a, record { before = []
 pub name_stop : (text : List ℕ) (v a : List Name) (self : RawTerm) (s : Span) → self ≡ rterm.Var s → IsAbsent (spelled text s) v → StopsAt text (uses text v a (tree_of self)) (Value s)
 name_stop text v a self s is h = rw is (use_at s false v, record { before = []; after = []; place = refl; bound = tt; unbound = h }, refl, refl)
 
--- a part is made of all that was made, with the names in scope as before
-pub put_made : (text : List ℕ) (v a w b : List Name) (raw : RawTm) (p q r : FParts) (ks : List ℕ) (ts : List Tm) (s : Spn) (shape : FShape) (t : Tm) (x : Result ℕ Unresolved) →
-    MatchResult x (λ k. IsAdded q r s shape k) (λ e. e ≡ Memory) → w ≡ v → b ≡ a → Makes p q ks ts → children shape ≡ ks → shape_tree (part q) s shape ≡ t → TermOf text v a raw t →
-    MatchResult x (λ k. (w ≡ v) × (b ≡ a) × IsTerm text v a raw p r k) (λ e. StopsAt text (uses text v a raw) e)
-put_made text v a w b raw p q r ks ts s shape t (Ok k) h ew eb m e et of =
-    let one = making.makes_form p q r ks ts s shape k m e h t et in
-    let is = making.tree_of p r k t one in
-    (ew, eb, (subst (λ u. Makes p r (k ∷ []) (u ∷ [])) (sym is) one, subst (TermOf text v a raw) (sym is) of))
-put_made text v a w b raw p q r ks ts s shape t (Err x) h ew eb m e et of = rw h tt
-
 -- a number, which the code keeps in 64 bits
 pub number_bound : (text : List ℕ) (v a : List Name) (self : RawTerm) (s : Span) (n m : ℤ) → self ≡ rterm.Num s n → m ≡ n → TermOf text v a (tree_of self) (SNum (place s) m)
 number_bound text v a self s n m is e = rw (is, e) (of_num s n)
-
--- names as they were before one was pushed and popped, and before two were
-pub popped_one : {v b d e : List Name} {x : Name} → b ≡ x ∷ v → d ≡ b → e ≡ drop 1 d → e ≡ v
-popped_one p q r = r ∙ ap (λ (l : List Name). drop 1 l) (q ∙ p)
-
-pub popped_two : {v b d e f g : List Name} {x y : Name} → b ≡ y ∷ v → d ≡ x ∷ b → e ≡ d → f ≡ drop 1 e → g ≡ drop 1 f → g ≡ v
-popped_two p q r s t = t ∙ ap (λ (l : List Name). drop 1 l) (popped_one q r s ∙ p)
-
--- a part is made of one, two and three
-module _ (text : List ℕ) (v a w b : List Name) (raw : RawTm) where
-  pub put_one : (p q r : FParts) (k : ℕ) (s : Spn) (shape : FShape) (C : Tm → Tm) (x : Result ℕ Unresolved) → MatchResult x (λ i. IsAdded q r s shape i) (λ e. e ≡ Memory) → w ≡ v → b ≡ a →
-      Makes p q (k ∷ []) (part q k ∷ []) → children shape ≡ k ∷ [] → shape_tree (part q) s shape ≡ C (part q k) → TermOf text v a raw (C (part q k)) →
-      MatchResult x (λ k. (w ≡ v) × (b ≡ a) × IsTerm text v a raw p r k) (λ e. StopsAt text (uses text v a raw) e)
-  put_one p q r k s shape C x h ew eb m e et of = put_made text v a w b raw p q r (k ∷ []) (part q k ∷ []) s shape (C (part q k)) x h ew eb m e et of
-
-  pub put_two : (p o q r : FParts) (k j : ℕ) (s : Spn) (shape : FShape) (C : Tm → Tm → Tm) (x : Result ℕ Unresolved) → MatchResult x (λ i. IsAdded q r s shape i) (λ e. e ≡ Memory) → w ≡ v → b ≡ a →
-      Makes p o (k ∷ []) (part o k ∷ []) → Makes o q (j ∷ []) (part q j ∷ []) → children shape ≡ k ∷ j ∷ [] → shape_tree (part q) s shape ≡ C (part q k) (part q j) → TermOf text v a raw (C (part o k) (part q j)) →
-      MatchResult x (λ k. (w ≡ v) × (b ≡ a) × IsTerm text v a raw p r k) (λ e. StopsAt text (uses text v a raw) e)
-  put_two p o q r k j s shape C x h ew eb m n e et of =
-      let both = making.makes_more p o q (k ∷ []) (part o k ∷ []) j (part q j) m n in
-      let t = making.two_trees p q k j (part o k) (part q j) both in
-      put_made text v a w b raw p q r (k ∷ j ∷ []) (part o k ∷ part q j ∷ []) s shape (C (part o k) (part q j)) x h ew eb both e (et ∙ ap (λ u. C u (part q j)) t.0) of
-
-  pub put_three : (p o n q r : FParts) (k j i : ℕ) (s : Spn) (shape : FShape) (C : Tm → Tm → Tm → Tm) (x : Result ℕ Unresolved) → MatchResult x (λ i. IsAdded q r s shape i) (λ e. e ≡ Memory) → w ≡ v → b ≡ a →
-      Makes p o (k ∷ []) (part o k ∷ []) → Makes o n (j ∷ []) (part n j ∷ []) → Makes n q (i ∷ []) (part q i ∷ []) → children shape ≡ k ∷ j ∷ i ∷ [] →
-      shape_tree (part q) s shape ≡ C (part q k) (part q j) (part q i) → TermOf text v a raw (C (part o k) (part n j) (part q i)) →
-      MatchResult x (λ k. (w ≡ v) × (b ≡ a) × IsTerm text v a raw p r k) (λ e. StopsAt text (uses text v a raw) e)
-  put_three p o n q r k j i s shape C x h ew eb m1 m2 m3 e et of =
-      let both = making.makes_more p o n (k ∷ []) (part o k ∷ []) j (part n j) m1 m2 in
-      let all = making.makes_more p n q (k ∷ j ∷ []) (part o k ∷ part n j ∷ []) i (part q i) both m3 in
-      let t = heads (part q k) (part q j) (part q i) (part o k) (part n j) (part q i) all.trees in
-      put_made text v a w b raw p q r (k ∷ j ∷ i ∷ []) (part o k ∷ part n j ∷ part q i ∷ []) s shape (C (part o k) (part n j) (part q i)) x h ew eb all e
-      (et ∙ ap (λ u. C u (part q j) (part q i)) t.0 ∙ ap (λ u. C (part o k) u (part q i)) t.1) of
-    where
-      heads : (a b c d e f : Tm) → a ∷ b ∷ c ∷ [] ≡ d ∷ e ∷ f ∷ [] → (a ≡ d) × (b ≡ e)
-      heads a b c d e f h = (cc, cc)

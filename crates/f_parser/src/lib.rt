@@ -1,9 +1,11 @@
 //! The term that a source text stands for, or the first fault of the text.
 #![tactic(auto)]
 
+pub mod binding;
 pub mod laws;
 pub mod reader;
 pub mod resolve;
+mod task;
 #[cfg(test)]
 mod tests;
 

@@ -14,12 +14,13 @@ ghost use Rattle.f_reader.specs.Kept.{tree_of, Keeps};
 ghost use Rattle.f_parser.specs.Text.{SourceWithin, FirstFault, IsFault, HasTokens, whole_of, end_of};
 ghost use Rattle.f_parser.specs.Reader.{HasTree};
 
-use crate::resolve::{Unresolved, term_in_scope};
+use crate::binding::bind;
+use crate::resolve::Unresolved;
 use f_grammar::{RawTerm, Stopped, peek};
 use f_lexer::{Token, tokens};
 use f_reader::{Kept, whole_term};
-use f_terms::{Code, FFault, FParts, FTerm};
-use idx_core::{Names, Span};
+use f_terms::{Code, FFault, FTerm};
+use idx_core::Span;
 use std::alloc::Global;
 
 /// How many bytes a text may have.
@@ -95,11 +96,8 @@ fn closed_term(alloc: Global, text: &[u8], tree: &RawTerm) -> Result<FTerm, FFau
     requires { HasTree text.now (tree_of tree.now) }
     ensures { MatchResult result (λ e. SourceWithin text.now (spanned e)) (λ f. IsFault text.now f) }
 {
-    let mut values = Names::new(alloc);
-    let mut types = Names::new(alloc);
-    let mut parts = FParts::new(alloc);
-    match term_in_scope(alloc, text, tree, &mut values, &mut types, &mut parts) {
-        Ok(_) => Ok(parts.done()),
+    match bind(alloc, text, tree) {
+        Ok(term) => Ok(term),
         Err(Unresolved::Memory) => Err(FFault::Memory),
         Err(Unresolved::Value(span)) => Err(refused(Code::E05, span)),
         Err(Unresolved::Type(span)) => Err(refused(Code::E06, span)),

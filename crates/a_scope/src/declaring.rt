@@ -82,8 +82,10 @@ pub fn declare(
     requires arity { AArity form.now (a_values values.now) }
     requires under { Under names vars.old.items }
     ensures names { IfOk result (λ r. r ≡ more_vars (a_decl form.now (a_values values.now)) names) }
-    ensures scope { OnOk result (scope (more_vars (a_decl form.now (a_values values.now)) names) vars.new.items ≡ declared (program_in program.now) (scope names vars.old.items) (a_decl form.now (a_values values.now))) }
-    ensures more { OnOk result ((e : TheEntry) × (e.names ≡ more_vars (a_decl form.now (a_values values.now)) names) × (vars.new.items ≡ vars.old.items ++ e ∷ [])) }
+    ensures scope { OnOk result (scope (more_vars (a_decl form.now (a_values values.now)) names) vars.new.items
+        ≡ declared (program_in program.now) (scope names vars.old.items) (a_decl form.now (a_values values.now))) }
+    ensures more { OnOk result ((e : TheEntry) × (e.names ≡ more_vars (a_decl form.now (a_values values.now)) names)
+        × (vars.new.items ≡ vars.old.items ++ e ∷ [])) }
 {
     let ty = declared_type(alloc, program, vars, names, form, values)?;
     let after = names_after(form, values, names)?;

@@ -6,6 +6,7 @@ mod Leads
 mod Lift
 mod Loads
 mod Places
+mod Rows
 mod Runs
 mod TypeLaws
 mod Typed

@@ -27,10 +27,12 @@ abbrev mutual
   ty_fields NoAFields = NoFields
   ty_fields (MoreAFields t f fs) = MoreFields (ty t) f (ty_fields fs)
 
+-- a list of types
 abbrev pub tys : ATys → List Ty
 tys NoATys = []
 tys (MoreATys t ts) = ty t ∷ tys ts
 
+-- register r
 abbrev pub reg : ℕ → TValue
 reg r = T.Plain (T.Reg r) []
 
@@ -57,10 +59,12 @@ downs (suc m) j t rest = Then (T.Mov j (reg t)) (downs m (suc j) (suc t) rest)
 abbrev pub decl_code : ℕ → ADecl → TSeq → TSeq
 decl_code d (Value v) rest = into d (suc d) v rest
 decl_code d (Proj i v) rest = into d (suc d) v (Then (T.Ld (suc d) (suc d) (i - 1)) rest)
-decl_code d (Arith o v w) rest = into d (suc d) v (into d (suc (suc d)) w (Then (T.Arith o (suc d) (suc d) (reg (suc (suc d)))) rest))
+decl_code d (Arith o v w) rest =
+    into d (suc d) v (into d (suc (suc d)) w (Then (T.Arith o (suc d) (suc d) (reg (suc (suc d)))) rest))
 decl_code d (Unpack v) rest = into d (suc d) v (Then (T.Unpack (suc d) (reg (suc d))) rest)
 decl_code d (Malloc ts) rest = Then (T.Malloc (suc d) (tys ts)) rest
-decl_code d (Init v i w) rest = into d (suc d) v (into d (suc (suc d)) w (Then (T.St (suc d) (i - 1) (suc (suc d))) rest))
+decl_code d (Init v i w) rest =
+    into d (suc d) v (into d (suc (suc d)) w (Then (T.St (suc d) (i - 1) (suc (suc d))) rest))
 
 -- the type variables in scope, as arguments
 abbrev pub tvars : ℕ → List Ty
@@ -71,13 +75,19 @@ tvars (suc k) = VarTy k ∷ tvars k
 abbrev pub above : ℕ → List AVal → ℕ
 above d vs = suc (d + length vs)
 
--- a term, where k type variables and d variables are in scope and the first third part's block is at: a call puts
--- its code and arguments above all variables, then moves the arguments down; an `if0` jumps to its third part
+-- a call puts its code and its arguments above all variables, then moves the arguments down to the registers from 1 on
+abbrev pub call_code : ℕ → AVal → List AVal → TSeq → TSeq
+call_code d v vs rest = into d (above d vs) v (intos d (suc (above d vs)) vs (downs (length vs) 1 (suc (above d vs)) rest))
+
+-- the test of an `if0`, whose third part is block at and owes the k type variables in scope
+abbrev pub test_code : ℕ → ℕ → AVal → ℕ → TSeq → TSeq
+test_code k d v at rest = into d (suc d) v (Then (T.Bnz (suc d) (T.Plain (T.Label at) (tvars k))) rest)
+
+-- a term, where k type variables and d variables are in scope and the first third part's block is at
 abbrev pub code : ℕ → ℕ → ℕ → ATm → TSeq
 code k d at (Let x e) = decl_code d x (code (more_vars x k) (suc d) at e)
-code k d at (Call v ts vs) =
-    into d (above d vs) v (intos d (suc (above d vs)) vs (downs (length vs) 1 (suc (above d vs)) (Ends (T.Jmp (T.Plain (T.Reg (above d vs)) (tys ts))))))
-code k d at (If0 v a b) = into d (suc d) v (Then (T.Bnz (suc d) (T.Plain (T.Label at) (tvars k))) (code k d (suc at) a))
+code k d at (Call v ts vs) = call_code d v vs (Ends (T.Jmp (T.Plain (T.Reg (above d vs)) (tys ts))))
+code k d at (If0 v a b) = test_code k d v at (code k d (suc at) a)
 code k d at (Halt v) = into d 1 v (Ends T.Halt)
 
 -- the file of the variables in scope, the last one first, in front of f: the registers ascend
@@ -85,9 +95,11 @@ abbrev pub file_onto : List ATy → TFile → TFile
 file_onto [] f = f
 file_onto (t ∷ g) f = file_onto g (MoreRegs (suc (length g)) (ty t) f)
 
+-- the file of the variables in scope
 abbrev pub file : List ATy → TFile
 file g = file_onto g NoRegs
 
+-- a block of k type variables, with this file
 abbrev pub block : ℕ → TFile → ℕ → ℕ → ATm → TBlock
 block k f d at e = record { owes = k; file = f; code = code k d at e }
 
@@ -104,6 +116,7 @@ abbrev pub firsts : List ABlk → ℕ → List TBlock
 firsts [] at = []
 firsts (b ∷ bs) at = block b.owes (ty_args b.args 1) (arity b.args) at b.body ∷ firsts bs (at + thirds b.body)
 
+-- the third parts of the blocks, from block at on
 abbrev pub seconds : AProg → List ABlk → ℕ → List TBlock
 seconds p [] at = []
 seconds p (b ∷ bs) at =
@@ -113,13 +126,15 @@ seconds p (b ∷ bs) at =
 abbrev pub generated_blocks : AProg → ATm → List TBlock
 generated_blocks p main =
     let at = suc (length p.blocks) in
-    block 0 NoRegs 0 at main ∷ (firsts p.blocks (at + thirds main) ++ (extras p 0 0 [] at main ++ seconds p p.blocks (at + thirds main)))
+    block 0 NoRegs 0 at main
+    ∷ (firsts p.blocks (at + thirds main) ++ (extras p 0 0 [] at main ++ seconds p p.blocks (at + thirds main)))
 
--- the value of a data field is written at once; it has no variable
+-- a value at once with types
 abbrev pub applied_to : TValue → List Ty → TValue
 applied_to (T.Plain b us) ts = T.Plain b (us ++ ts)
 applied_to (T.Pack h v s) ts = T.Pack h v s
 
+-- the value of a data field
 abbrev pub constant : AVal → TValue
 constant (Var n) = reg 0
 constant (Num i) = T.Plain (T.Int i) []
@@ -128,6 +143,7 @@ constant (Data n) = T.Plain (T.Data n) []
 constant (Apply v ts) = applied_to (constant v) (tys ts)
 constant (Pack h v s) = T.Pack (ty h) (constant v) (ty s)
 
+-- a data field, and a data tuple
 abbrev pub datum_of : AConst → TDatum
 datum_of c = record { value = constant c.value; ty = ty c.kind }
 
@@ -138,5 +154,6 @@ data_of cs = map datum_of cs
 abbrev pub generated_heap : List AConsts → List TData
 generated_heap xs = map data_of xs
 
+-- the program
 abbrev pub generated : AProg → ATm → TProg
 generated p main = record { blocks = generated_blocks p main; heap = generated_heap p.tuples }

@@ -5,3 +5,4 @@ pub mod GenLaws
 pub mod Laws
 pub mod Packs
 pub mod TypesEach
+pub mod Worked

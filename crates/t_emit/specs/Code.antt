@@ -1,6 +1,6 @@
 -- Instructions in front of a rest, blocks that are reserved with their headers and filled later, and what is put
 -- round a value.
-use Rattle.std.specs.Prelude.{ℕ, zero, suc, List, [], ◌∷◌}
+use Rattle.std.specs.Prelude.{◌≡◌, ℕ, zero, suc, List, [], ◌∷◌}
 use Rattle.idx_core.specs.declared.span.Span.{Span}
 use Rattle.t_types.specs.Tree.{TFile}
 use Rattle.t_terms.specs.Tree as T
@@ -16,6 +16,10 @@ use Rattle.gen_law.specs.Gen.{ty, tys, reg, applied_to}
 abbrev pub onto : List (Instr × Span) → TSeq → TSeq
 onto [] rest = rest
 onto (x ∷ xs) rest = Then (instr x.0) (onto xs rest)
+
+-- the code grows by what `more` puts in front of a rest
+abbrev pub Grows : List (Instr × Span) → List (Instr × Span) → (TSeq → TSeq) → Type 0
+Grows old new more = (rest : TSeq) → onto new rest ≡ onto old (more rest)
 
 -- a block with its header, and without its code
 abbrev pub reserved : ℕ → TFile → TBlock

@@ -2,8 +2,8 @@
 ghost use Rattle.std.specs.Prelude.{◌≡◌, ◌+◌, ◌<◌, ◌≤◌, ◌^◌, suc, length, IfOk, OnOk};
 ghost use Rattle.t_terms.specs.Tree.{TSeq, Jmp, Plain, Reg};
 ghost use Rattle.t_terms.specs.Read.{end_of};
-ghost use Rattle.t_emit.specs.Code.{onto};
-ghost use Rattle.gen_law.specs.Gen.{into, intos, downs, above as the_above, tys};
+ghost use Rattle.t_emit.specs.Code.{Grows};
+ghost use Rattle.gen_law.specs.Gen.{intos, call_code, above as the_above, tys};
 ghost use Rattle.a_terms.specs.Read.{atrees};
 ghost use Rattle.a_terms.specs.NodeTrees.{a_values, no_value};
 ghost use Rattle.a_terms.specs.Row.{top, others, IsSome};
@@ -27,7 +27,7 @@ fn emit_arguments(
 ) -> Result<(), OutOfMemory>
     requires some { 1 ≤ length values.now }
     requires room { above + length values.now < 2 ^ 64 }
-    ensures { OnOk result ((rest : TSeq) → onto code.new.items rest ≡ onto code.old.items (intos depth (suc above) (others (a_values values.now)) rest)) }
+    ensures { OnOk result (Grows code.old.items code.new.items (intos depth (suc above) (others (a_values values.now)))) }
 {
     for i in 1..values.len() {
         emit_value(alloc, code, depth, above + i as u64, &values[i])?;
@@ -66,7 +66,7 @@ pub fn emit_call(
     requires some { IsSome (a_values values.now) }
     requires above { above ≡ the_above depth (others (a_values values.now)) }
     requires room { above + length values.now + 1 < 2 ^ 64 }
-    ensures { OnOk result ((rest : TSeq) → onto code.new.items rest ≡ onto code.old.items (into depth (the_above depth (others (a_values values.now))) (top no_value (a_values values.now)) (intos depth (suc (the_above depth (others (a_values values.now)))) (others (a_values values.now)) (downs (length (others (a_values values.now))) 1 (suc (the_above depth (others (a_values values.now)))) rest)))) }
+    ensures { OnOk result (Grows code.old.items code.new.items (call_code depth (top no_value (a_values values.now)) (others (a_values values.now)))) }
 {
     emit_value(alloc, code, depth, above, first(values))?;
     emit_arguments(alloc, code, depth, above, values)?;

@@ -3,7 +3,7 @@ ghost use Rattle.std.specs.Prelude.{◌≡◌, ◌+◌, ◌<◌, ◌^◌, [], On
 ghost use Rattle.t_terms.specs.Tree.{TSeq, Then, Plain};
 ghost use Rattle.t_terms.specs.Read.{instr as instr_tree, value as value_tree, base as base_tree};
 ghost use Rattle.gen_law.specs.Gen.{downs};
-ghost use Rattle.t_emit.specs.Code.{onto};
+ghost use Rattle.t_emit.specs.Code.{Grows};
 
 use idx_core::{OutOfMemory, Span};
 use std::alloc::Global;
@@ -14,7 +14,7 @@ pub const NOWHERE: Span = Span { start: 0, end: 0 };
 
 /// One more instruction.
 pub fn put(code: &mut Vec<(Instr, Span)>, i: Instr) -> Result<(), OutOfMemory>
-    ensures { OnOk result ((rest : TSeq) → onto code.new.items rest ≡ onto code.old.items (Then (instr_tree i) rest)) }
+    ensures { OnOk result (Grows code.old.items code.new.items (Then (instr_tree i))) }
 {
     code.push((i, NOWHERE))?;
     Ok(())
@@ -38,7 +38,7 @@ pub fn emit_downs(
     count: u64,
 ) -> Result<(), OutOfMemory>
     requires { from + count < 2 ^ 64 }
-    ensures { OnOk result ((rest : TSeq) → onto code.new.items rest ≡ onto code.old.items (downs count 1 from rest)) }
+    ensures { OnOk result (Grows code.old.items code.new.items (downs count 1 from)) }
 {
     for i in 0..count {
         let v = plain(alloc, Base::Reg(from + i));

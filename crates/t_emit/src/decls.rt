@@ -1,7 +1,7 @@
 // Instructions are emitted for declarations.
 ghost use Rattle.std.specs.Prelude.{◌≡◌, ◌+◌, ◌<◌, ◌^◌, true, OnOk};
 ghost use Rattle.t_terms.specs.Tree.{TSeq};
-ghost use Rattle.t_emit.specs.Code.{onto};
+ghost use Rattle.t_emit.specs.Code.{Grows};
 ghost use Rattle.gen_law.specs.Gen.{decl_code};
 ghost use Rattle.a_terms.specs.NodeTrees.{a_values, is_decl, a_decl};
 ghost use Rattle.a_terms.specs.Arity.{AArity};
@@ -26,7 +26,7 @@ pub fn emit_declaration(
     requires room { depth + 2 < 2 ^ 64 }
     requires form { is_decl form.now ≡ true }
     requires arity { AArity form.now (a_values values.now) }
-    ensures { OnOk result ((rest : TSeq) → onto code.new.items rest ≡ onto code.old.items (decl_code depth (a_decl form.now (a_values values.now)) rest)) }
+    ensures { OnOk result (Grows code.old.items code.new.items (decl_code depth (a_decl form.now (a_values values.now)))) }
 {
     let rd = depth + 1;
     match form {

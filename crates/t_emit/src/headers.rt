@@ -3,9 +3,9 @@ ghost use Rattle.std.specs.Prelude.{◌≡◌, ◌+◌, ◌<◌, ◌^◌, ◌++�
 ghost use Rattle.t_types.specs.Read.{file as file_tree, types as type_trees};
 ghost use Rattle.t_terms.specs.Tree.{TSeq, Then, Bnz, Plain, Label};
 ghost use Rattle.t_terms.specs.Read.{blocks_of};
-ghost use Rattle.t_emit.specs.Code.{onto};
+ghost use Rattle.t_emit.specs.Code.{Grows};
 ghost use Rattle.t_emit.specs.Code.{reserved};
-ghost use Rattle.gen_law.specs.Gen.{into, tvars, file};
+ghost use Rattle.gen_law.specs.Gen.{test_code, tvars, file};
 ghost use Rattle.a_terms.specs.NodeTrees.{a_value};
 ghost use Rattle.a_scope.specs.Scope.{scope};
 
@@ -56,7 +56,7 @@ pub fn emit_if0(
     names: u64,
     v: &AValue,
 ) -> Result<(), OutOfMemory>
-    ensures code { OnOk result ((rest : TSeq) → onto code.new.items rest ≡ onto code.old.items (into (length vars.now) (suc (length vars.now)) (a_value v.now) (Then (Bnz (suc (length vars.now)) (Plain (Label (length out.old.items)) (tvars names))) rest))) }
+    ensures code { OnOk result (Grows code.old.items code.new.items (test_code names (length vars.now) (a_value v.now) (length out.old.items))) }
     ensures out { OnOk result (blocks_of out.new.items ≡ blocks_of out.old.items ++ reserved names (file (scope names vars.now)) ∷ []) }
 {
     let depth = vars.len() as u64;

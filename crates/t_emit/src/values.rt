@@ -2,7 +2,7 @@
 ghost use Rattle.std.specs.Prelude.{◌≡◌, ◌+◌, ◌<◌, ◌^◌, suc, IfOk, OnOk};
 ghost use Rattle.t_terms.specs.Tree.{TSeq, Then};
 ghost use Rattle.t_terms.specs.Read.{instr as instr_tree};
-ghost use Rattle.t_emit.specs.Code.{onto};
+ghost use Rattle.t_emit.specs.Code.{Grows};
 ghost use Rattle.gen_law.specs.Gen.{into};
 ghost use Rattle.a_terms.specs.NodeTrees.{base as base_tree, a_value};
 ghost use Rattle.t_emit.specs.Code.{wrap_code};
@@ -33,7 +33,7 @@ pub fn emit_base(
     target: u64,
     base: ABase,
 ) -> Result<(), OutOfMemory>
-    ensures { OnOk result ((rest : TSeq) → onto code.new.items rest ≡ onto code.old.items (into depth target (base_tree base) rest)) }
+    ensures { OnOk result (Grows code.old.items code.new.items (into depth target (base_tree base))) }
 {
     match base {
         ABase::Var(n) => {
@@ -64,7 +64,7 @@ pub fn emit_wrap(
     target: u64,
     w: &AWrap,
 ) -> Result<(), OutOfMemory>
-    ensures { OnOk result ((rest : TSeq) → onto code.new.items rest ≡ onto code.old.items (wrap_code target w.now rest)) }
+    ensures { OnOk result (Grows code.old.items code.new.items (wrap_code target w.now)) }
 {
     match w {
         AWrap::Apply(types) => {
@@ -97,7 +97,7 @@ pub fn emit_value(
     target: u64,
     v: &AValue,
 ) -> Result<(), OutOfMemory>
-    ensures { OnOk result ((rest : TSeq) → onto code.new.items rest ≡ onto code.old.items (into depth target (a_value v.now) rest)) }
+    ensures { OnOk result (Grows code.old.items code.new.items (into depth target (a_value v.now))) }
 {
     emit_base(alloc, code, depth, target, v.base)?;
     for w in &v.wraps {
@@ -115,7 +115,7 @@ pub fn emit_one(
     last: Instr,
 ) -> Result<(), OutOfMemory>
     requires room { depth + 1 < 2 ^ 64 }
-    ensures { OnOk result ((rest : TSeq) → onto code.new.items rest ≡ onto code.old.items (into depth (suc depth) (a_value v.now) (Then (instr_tree last) rest))) }
+    ensures { OnOk result (Grows code.old.items code.new.items (λ rest. into depth (suc depth) (a_value v.now) (Then (instr_tree last) rest))) }
 {
     emit_value(alloc, code, depth, depth + 1, v)?;
     put(code, last)?;
@@ -132,7 +132,8 @@ pub fn emit_two(
     last: Instr,
 ) -> Result<(), OutOfMemory>
     requires room { depth + 2 < 2 ^ 64 }
-    ensures { OnOk result ((rest : TSeq) → onto code.new.items rest ≡ onto code.old.items (into depth (suc depth) (a_value v.now) (into depth (suc (suc depth)) (a_value w.now) (Then (instr_tree last) rest)))) }
+    ensures { OnOk result (Grows code.old.items code.new.items (λ rest. into depth (suc depth) (a_value v.now)
+        (into depth (suc (suc depth)) (a_value w.now) (Then (instr_tree last) rest)))) }
 {
     emit_value(alloc, code, depth, depth + 1, v)?;
     emit_value(alloc, code, depth, depth + 2, w)?;

@@ -41,6 +41,10 @@ abbrev pub Fit : ℕ → List Entry → ℕ → List Place → Type 0
 Fit b es m [] = Unit {0}
 Fit b es m (p ∷ ps) = (p.block < b) × (p.vars ≤ m) × Under p.names (take p.vars es) × Fit b es p.vars ps
 
+-- the place and those below it fit the blocks and the variables so far
+abbrev pub Ready : List Block → List Entry → Place → List Place → Type 0
+Ready o es p ps = Fit (length (blocks_of o)) es (length es) (p ∷ tops ps)
+
 -- what one node does, which makes a term of `kids` terms
 pub record Stepped (prog : a.AProg) (p : Place) (build : List a.ATm → List a.ATm) (kids : ℕ) (es fs : List Entry) (ps qs : List Place) (o n : List Block) (c d : List (Instr × Span)) : Type 0 where
   pub walked : (ts : List a.ATm) → pend prog fs (blocks_of n) (onto d) (tops qs) ts ≡ pend prog es (blocks_of o) (onto c) (p ∷ tops ps) (build ts)

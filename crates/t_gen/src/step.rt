@@ -9,7 +9,7 @@ ghost use Rattle.a_terms.specs.NodeTrees.{a_values, a_build, a_decl, a_let, is_d
 ghost use Rattle.a_terms.specs.Arity.{a_kids, AArity};
 ghost use Rattle.a_terms.specs.Row.{IsOne, IsSome, top, others};
 ghost use Rattle.a_terms.specs.Program.{program_in};
-ghost use Rattle.t_gen.specs.Pending.{tops, Fit, Stepped};
+ghost use Rattle.t_gen.specs.Pending.{tops, Fit, Ready, Stepped};
 
 use crate::state::{Place, close_block, declares};
 use a_scope::{Entry, declare, first};
@@ -37,7 +37,9 @@ fn step_let(
     requires arity { AArity form.now (a_values values.now) }
     requires vars { place.vars ≡ length vars.old.items }
     requires fit { (b : ℕ) × Fit b vars.old.items (length vars.old.items) (place ∷ tops places.old.items) }
-    ensures { OnOk result ((o : List TheBlock) → Fit (length (blocks_of o)) vars.old.items (length vars.old.items) (place ∷ tops places.old.items) → Stepped (program_in program.now) place (a_let (a_decl form.now (a_values values.now))) 1 vars.old.items vars.new.items places.old.items places.new.items o o code.old.items code.new.items) }
+    ensures { OnOk result ((o : List TheBlock) → Ready o vars.old.items place places.old.items
+        → Stepped (program_in program.now) place (a_let (a_decl form.now (a_values values.now))) 1 vars.old.items vars.new.items
+        places.old.items places.new.items o o code.old.items code.new.items) }
 {
     let depth = vars.len() as u64;
     emit_declaration(alloc, code, depth, form, values)?;
@@ -64,7 +66,9 @@ fn step_call(
     requires arity { IsSome (a_values values.now) }
     requires vars { place.vars ≡ length vars.now }
     requires block { place.block < length out.old.items }
-    ensures { OnOk result ((prog : AProg) (ps : List ThePlace) → Fit (length (blocks_of out.old.items)) vars.now (length vars.now) (place ∷ tops ps) → Stepped prog place (λ ts. Call (top no_value (a_values values.now)) (atrees types.now) (others (a_values values.now)) ∷ ts) 0 vars.now vars.now ps ps out.old.items out.new.items code.old.items code.new.items) }
+    ensures { OnOk result ((prog : AProg) (ps : List ThePlace) → Ready out.old.items vars.now place ps
+        → Stepped prog place (λ ts. Call (top no_value (a_values values.now)) (atrees types.now) (others (a_values values.now)) ∷ ts)
+        0 vars.now vars.now ps ps out.old.items out.new.items code.old.items code.new.items) }
 {
     let depth = vars.len() as u64;
     let above = above_all(depth, values);
@@ -86,7 +90,9 @@ fn step_halt(
     requires arity { IsOne (a_values values.now) }
     requires vars { place.vars ≡ length vars.now }
     requires block { place.block < length out.old.items }
-    ensures { OnOk result ((prog : AProg) (ps : List ThePlace) → Fit (length (blocks_of out.old.items)) vars.now (length vars.now) (place ∷ tops ps) → Stepped prog place (λ ts. Halt (top no_value (a_values values.now)) ∷ ts) 0 vars.now vars.now ps ps out.old.items out.new.items code.old.items code.new.items) }
+    ensures { OnOk result ((prog : AProg) (ps : List ThePlace) → Ready out.old.items vars.now place ps
+        → Stepped prog place (λ ts. Halt (top no_value (a_values values.now)) ∷ ts) 0 vars.now vars.now ps ps
+        out.old.items out.new.items code.old.items code.new.items) }
 {
     let depth = vars.len() as u64;
     emit_value(alloc, code, depth, 1, first(values))?;
@@ -106,7 +112,9 @@ fn step_if(
 ) -> Result<(), OutOfMemory>
     requires arity { IsOne (a_values values.now) }
     requires vars { place.vars ≡ length vars.now }
-    ensures { OnOk result ((prog : AProg) → Fit (length (blocks_of out.old.items)) vars.now (length vars.now) (place ∷ tops places.old.items) → Stepped prog place (λ ts. If0 (top no_value (a_values values.now)) (top no_term ts) (top no_term (others ts)) ∷ others (others ts)) 2 vars.now vars.now places.old.items places.new.items out.old.items out.new.items code.old.items code.new.items) }
+    ensures { OnOk result ((prog : AProg) → Ready out.old.items vars.now place places.old.items
+        → Stepped prog place (λ ts. If0 (top no_value (a_values values.now)) (top no_term ts) (top no_term (others ts)) ∷ others (others ts)) 2
+        vars.now vars.now places.old.items places.new.items out.old.items out.new.items code.old.items code.new.items) }
 {
     let block = out.len();
     let third = Place {
@@ -133,8 +141,9 @@ pub fn step(
 ) -> Result<(), OutOfMemory>
     requires arity { AArity node.now.form (a_values node.now.values.items) }
     requires vars { place.vars ≡ length vars.old.items }
-    requires fit { Fit (length (blocks_of out.old.items)) vars.old.items (length vars.old.items) (place ∷ tops places.old.items) }
-    ensures { OnOk result (Stepped (program_in program.now) place (a_build node.now.form (a_values node.now.values.items)) (a_kids node.now.form) vars.old.items vars.new.items places.old.items places.new.items out.old.items out.new.items code.old.items code.new.items) }
+    requires fit { Ready out.old.items vars.old.items place places.old.items }
+    ensures { OnOk result (Stepped (program_in program.now) place (a_build node.now.form (a_values node.now.values.items)) (a_kids node.now.form)
+        vars.old.items vars.new.items places.old.items places.new.items out.old.items out.new.items code.old.items code.new.items) }
 {
     let values = node.values.as_slice();
     if declares(&node.form) {

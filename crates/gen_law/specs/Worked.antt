@@ -1,0 +1,71 @@
+-- Worked programs of the allocated calculus.
+use Rattle.std.specs.Prelude.{[], ◌∷◌, true, pos}
+use Rattle.idx_core.specs.declared.arith.Op.TheVariants.{Sub, Mul}
+use Rattle.a_terms.specs.Tree.{ATy, AInt, AVar, ATuple, ACode, AExists, NoATys, MoreATys, NoAFields, MoreAFields, Var, Num, Lab, Data, Apply, Pack, Value, Proj, Arith, Unpack, Malloc, Init, ATm, Let, Call, If0, Halt, ABlk, AProg}
+
+-- a continuation: code that takes its surroundings and an integer, with its surroundings
+abbrev pub kont : ATy
+kont = AExists (ATuple (MoreAFields (ACode 0 (MoreATys (AVar 0) (MoreATys AInt NoATys))) true (MoreAFields (AVar 0) true NoAFields)))
+
+abbrev pub saved : ATy
+saved = ATuple (MoreAFields AInt true (MoreAFields kont true NoAFields))
+
+abbrev pub code_for : ATy → ATy
+code_for t = ACode 0 (MoreATys t (MoreATys AInt NoATys))
+
+-- fact(n, k) = if n = 0 then k(1) else fact(n - 1, ⟨L1, ⟨n, k⟩⟩)
+abbrev pub fact : ABlk
+fact = record {
+  owes = 0;
+  args = MoreATys AInt (MoreATys kont NoATys);
+  body = If0 (Var 1)
+      (Let (Unpack (Var 0)) (Let (Proj 1 (Var 0)) (Let (Proj 2 (Var 1)) (Call (Var 1) NoATys (Var 0 ∷ Num (pos 1) ∷ [])))))
+      (Let (Malloc (MoreATys AInt (MoreATys kont NoATys)))
+      (Let (Init (Var 0) 1 (Var 2))
+      (Let (Init (Var 0) 2 (Var 2))
+      (Let (Malloc (MoreATys (code_for saved) (MoreATys saved NoATys)))
+      (Let (Init (Var 0) 1 (Lab 1))
+      (Let (Init (Var 0) 2 (Var 2))
+      (Let (Value (Pack saved (Var 0) kont))
+      (Let (Arith Sub (Var 8) (Num (pos 1)))
+      (Call (Lab 0) NoATys (Var 0 ∷ Var 1 ∷ []))))))))));
+}
+
+-- L1(⟨n, k⟩, r) = k(n * r)
+abbrev pub times : ABlk
+times = record {
+  owes = 0;
+  args = MoreATys saved (MoreATys AInt NoATys);
+  body = Let (Proj 1 (Var 1)) (Let (Proj 2 (Var 2)) (Let (Arith Mul (Var 1) (Var 2)) (Let (Unpack (Var 1)) (Let (Proj 1 (Var 0)) (Let (Proj 2 (Var 1)) (Call (Var 1) NoATys (Var 0 ∷ Var 3 ∷ [])))))));
+}
+
+abbrev pub ends : ABlk
+ends = record { owes = 0; args = MoreATys (ATuple NoAFields) (MoreATys AInt NoATys); body = Halt (Var 0) }
+
+-- the closure of the end, which takes nothing of its surroundings, is data
+abbrev pub factorial : AProg
+factorial = record {
+  blocks = fact ∷ times ∷ ends ∷ [];
+  tuples = [] ∷ (record { value = Lab 2; kind = code_for (ATuple NoAFields) } ∷ record { value = Data 0; kind = ATuple NoAFields } ∷ []) ∷ [];
+}
+
+abbrev pub of_five : ATm
+of_five = Call (Lab 0) NoATys (Num (pos 5) ∷ Pack (ATuple NoAFields) (Data 1) kont ∷ [])
+
+-- polymorphic code that calls itself: down(n, x) = if n = 0 then 7 else down[a](n - 1, x), with an `if0` under a type variable
+abbrev pub down : ABlk
+down = record {
+  owes = 1;
+  args = MoreATys AInt (MoreATys (AVar 0) NoATys);
+  body = If0 (Var 1) (Halt (Num (pos 7))) (Let (Arith Sub (Var 1) (Num (pos 1))) (Call (Lab 0) (MoreATys (AVar 0) NoATys) (Var 0 ∷ Var 1 ∷ [])));
+}
+
+abbrev pub cell : ATy
+cell = ATuple (MoreAFields AInt true NoAFields)
+
+abbrev pub downs_alone : AProg
+downs_alone = record { blocks = down ∷ []; tuples = [] }
+
+abbrev pub counting : ATm
+counting =
+    Let (Malloc (MoreATys AInt NoATys)) (Let (Init (Var 0) 1 (Num (pos 3))) (Let (Proj 1 (Var 0)) (Let (Unpack (Pack AInt (Var 0) (AExists (AVar 0)))) (Call (Apply (Lab 0) (MoreATys cell NoATys)) NoATys (Var 1 ∷ Var 2 ∷ [])))))

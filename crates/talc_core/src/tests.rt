@@ -12,6 +12,7 @@ use std::test::Fail;
 use t_terms::TCode;
 
 mod assembly_rows;
+mod compile_rows;
 mod memory;
 mod source_rows;
 mod value_rows;

@@ -114,7 +114,8 @@ pub fn is_status(rt: &impl Abort, line: &str, status: Status, wanted: Status) {
     assert_eq!(rt; status, wanted, "{line}");
 }
 
-fn has_taken(rt: &impl Abort, line: &str, sink: &MemSink, wanted: &[u8]) {
+/// The sink has taken this and no more.
+pub fn has_taken(rt: &impl Abort, line: &str, sink: &MemSink, wanted: &[u8]) {
     assert_eq!(rt; sink.taken().as_slice(), wanted, "{line}");
 }
 

@@ -153,20 +153,3 @@ fn sizes_of_types_are_limited(rt: HostRuntime) -> Result<(), Fail> {
         "L5 0..40009 type of more than 10000 nodes\n",
     )
 }
-
-#[test]
-fn only_numbers_are_compiled(rt: HostRuntime) -> Result<(), Fail> {
-    each_refused(
-        &rt,
-        rt.alloc(),
-        "talc compile x y",
-        &[
-            ("#1 <1>", "E20 0..6 form not compiled yet\n"),
-            ("(1) + (2)", "E20 0..9 form not compiled yet\n"),
-            ("<>", "E15 0..2 program is not int\n"),
-            ("gen a. 1", "E15 0..8 program is not int\n"),
-            ("1 + <>", "E12 4..6 operand is not int\n"),
-            ("1 )", "E03 2..3 unexpected token\n"),
-        ],
-    )
-}

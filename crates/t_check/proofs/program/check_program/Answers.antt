@@ -17,14 +17,14 @@ returns-then-not-takes_nothing c =
     let some = p.whole.0 in
     let lt : 0 < length p.blocks.items = omega (arith, blocks_count p.blocks.items) in
     subst (λ (r : Result (Unit {0}) TFault). IsProgram (spanned_program p) r) (sym c.refused.ensures)
-    (first_fault p c.index.result.now lt c.index.ensures (λ h. true≢false (sym (c.if-not-takes_nothing.ensures.1 h))))
+    (first_fault p c.index-first.result.now lt c.index-first.ensures (λ h. true≢false (sym (c.if-not-takes_nothing.ensures.1 h))))
 
 pub returns-in-Ok : goal.returns-in-Ok
 returns-in-Ok c =
     let p = c.args.program.now in
     let some = p.whole.0 in
     let lt : 0 < length p.blocks.items = omega (arith, blocks_count p.blocks.items) in
-    let first = first_takes p.blocks.items c.index.result.now lt c.index.ensures (c.if-not-takes_nothing.ensures.0 refl) in
+    let first = first_takes p.blocks.items c.index-first.result.now lt c.index-first.ensures (c.if-not-takes_nothing.ensures.0 refl) in
     let heap = subst (λ (xs : List Data). HeapAccepted (program p) (data_of xs)) c.deref.ensures.value c.in-Ok.ensures in
     program_is p first heap c.check_blocks.result (subst (λ (bs : List Block). AreBlocks (program p) (spanned_blocks bs) c.check_blocks.result) c.deref-in-Ok.ensures.value c.check_blocks.ensures)
 
@@ -33,5 +33,5 @@ returns-in-Err c =
     let p = c.args.program.now in
     let some = p.whole.0 in
     let lt : 0 < length p.blocks.items = omega (arith, blocks_count p.blocks.items) in
-    let first = first_takes p.blocks.items c.index.result.now lt c.index.ensures (c.if-not-takes_nothing.ensures.0 refl) in
+    let first = first_takes p.blocks.items c.index-first.result.now lt c.index-first.ensures (c.if-not-takes_nothing.ensures.0 refl) in
     heap_fault p first c.in-Err.e (subst (λ (xs : List Data). Says c.in-Err.e (HeapFault (program p) (spanned_heap xs))) c.deref.ensures.value c.in-Err.ensures)

@@ -3,7 +3,6 @@ mod Closing
 mod FaultRows
 pub mod Faulty
 pub mod Limited
-pub mod Making
 pub mod Parts
 pub mod Refusals
 mod Rows

@@ -129,11 +129,6 @@ of_among P [] k h m = absurd m
 of_among P (j ∷ js) k h (inl e) = subst P (sym e) (All-head P j js h)
 of_among P (j ∷ js) k h (inr m) = of_among P js k (All-tail P j js h) m
 
-pub not_among : (ks : List ℕ) (k : ℕ) → All (λ j. j ≢ k) ks → Among ks k → ⊥
-not_among [] k h m = m
-not_among (x ∷ xs) k h (inl e) = All-head (λ j. j ≢ k) x xs h (sym e)
-not_among (x ∷ xs) k h (inr m) = not_among xs k (All-tail (λ j. j ≢ k) x xs h) m
-
 -- a list in two pieces
 pub all_before : (P : ℕ → Type 0) (xs ys : List ℕ) → All P (xs ++ ys) → All P xs
 all_before P [] ys h = All-nil P
@@ -142,19 +137,6 @@ all_before P (x ∷ xs) ys h = All-cons P x xs (All-head P x (xs ++ ys) h) (all_
 pub all_after : (P : ℕ → Type 0) (xs ys : List ℕ) → All P (xs ++ ys) → All P ys
 all_after P [] ys h = h
 all_after P (x ∷ xs) ys h = all_after P xs ys (All-tail P x (xs ++ ys) h)
-
-pub differ_front : (xs ys : List ℕ) → Differ (xs ++ ys) → Differ xs
-differ_front [] ys d = tt
-differ_front (x ∷ xs) ys d = (all_before (λ j. j ≢ x) xs ys d.0, differ_front xs ys d.1)
-
-pub differ_split : (xs ys : List ℕ) → Differ (xs ++ ys) → All (λ k. All (λ j. j ≢ k) ys) xs
-differ_split [] ys d = All-nil (λ k. All (λ j. j ≢ k) ys)
-differ_split (x ∷ xs) ys d = All-cons (λ k. All (λ j. j ≢ k) ys) x xs (all_after (λ j. j ≢ x) xs ys d.0) (differ_split xs ys d.1)
-
-pub among_first : (xs ys : List ℕ) (k : ℕ) → Among (xs ++ ys) k → (Among ys k → ⊥) → Among xs k
-among_first [] ys k a no' = absurd (no' a)
-among_first (x ∷ xs) ys k (inl e) no' = inl e
-among_first (x ∷ xs) ys k (inr a) no' = inr (among_first xs ys k a no')
 
 pub differ_back : (xs ys : List ℕ) → Differ (xs ++ ys) → Differ ys
 differ_back [] ys d = d

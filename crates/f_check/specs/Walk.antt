@@ -40,7 +40,8 @@ FaultOf t = Fault t.e t.around (context t)
 
 -- the names are bound, and there is room for numbers
 abbrev pub IsReady : Task → Type 0
-IsReady t = IsScope t.around t.scope × InScope (plain t.e) t.around (2 * length t.scope) × (t.around + nodes (plain t.e) ≤ 4294967296)
+IsReady t = IsScope t.around t.scope × InScope (plain t.e) t.around (2 * length t.scope)
+    × (t.around + nodes (plain t.e) ≤ 4294967296)
 
 -- some terms have passed, with these types
 abbrev pub AllPass : ℕ → Tys → List Tm → List Ty → Type 0
@@ -56,19 +57,27 @@ Same t w = (t.around ≡ w.around) × (t.scope ≡ w.scope)
 -- t is the part of w that the frame waits for, and the parts before it have passed
 abbrev pub Part : FTerm → Frame → Task → Task → Type 0
 Part f (C.Fix s a r) t w = (w.e ≡ SFix (place s) (tree a.now) (tree r.now) t.e) × IsReady w × (t.around ≡ w.around)
-    × (t.scope ≡ w.scope ++ record { arg = tree a.now; res = tree r.now; at = w.around } ∷ []) × Within (TArrow (tree a.now) (tree r.now))
+    × (t.scope ≡ w.scope ++ record { arg = tree a.now; res = tree r.now; at = w.around } ∷ [])
+    × Within (TArrow (tree a.now) (tree r.now))
 Part f (C.Function s x) t w = (w.e ≡ SApp (place s) t.e (node_at f x)) × IsReady w × Same t w × (x < count f)
-Part f (C.Argument s a r) t w = (e : Tm) × (w.e ≡ SApp (place s) e t.e) × IsReady w × Same t w × IsTypeOf e w.around (context w) (TArrow (tree a) (tree r))
+Part f (C.Argument s a r) t w = (e : Tm) × (w.e ≡ SApp (place s) e t.e) × IsReady w × Same t w
+    × IsTypeOf e w.around (context w) (TArrow (tree a) (tree r))
 Part f (C.Gen s) t w = (w.e ≡ SGen (place s) t.e) × IsReady w × (t.around ≡ w.around + 1) × (t.scope ≡ w.scope)
 Part f (C.Inst s a) t w = (w.e ≡ SInst (place s) t.e (tree a.now)) × IsReady w × Same t w
-Part f (C.Fields s ts rest) t w = (es : List Tm) × (w.e ≡ STuple (place s) (tms (es ++ t.e ∷ map (node_at f) rest.now))) × IsReady w × Same t w
+Part f (C.Fields s ts rest) t w = (es : List Tm)
+    × (w.e ≡ STuple (place s) (tms (es ++ t.e ∷ map (node_at f) rest.now))) × IsReady w × Same t w
     × AllPass w.around (context w) es (map tree ts.items) × All (λ k. k < count f) rest.now
 Part f (C.Proj s i) t w = (w.e ≡ SProj (place s) i t.e) × IsReady w × Same t w
-Part f (C.Left s b) t w = (op : Op) × (w.e ≡ SArith (place s) op t.e (node_at f b)) × IsReady w × Same t w × (b < count f)
-Part f (C.Right s) t w = (op : Op) × (a : Tm) × (w.e ≡ SArith (place s) op a t.e) × IsReady w × Same t w × Passes a w.around (context w) TInt
-Part f (C.Test s a b) t w = (w.e ≡ SIf0 (place s) t.e (node_at f a) (node_at f b)) × IsReady w × Same t w × (a < count f) × (b < count f)
-Part f (C.Zero s b) t w = (c : Tm) × (w.e ≡ SIf0 (place s) c t.e (node_at f b)) × IsReady w × Same t w × Passes c w.around (context w) TInt × (b < count f)
-Part f (C.Other s z) t w = (c : Tm) × (a : Tm) × (w.e ≡ SIf0 (place s) c a t.e) × IsReady w × Same t w × Passes c w.around (context w) TInt
+Part f (C.Left s b) t w = (op : Op) × (w.e ≡ SArith (place s) op t.e (node_at f b)) × IsReady w × Same t w
+    × (b < count f)
+Part f (C.Right s) t w = (op : Op) × (a : Tm) × (w.e ≡ SArith (place s) op a t.e) × IsReady w × Same t w
+    × Passes a w.around (context w) TInt
+Part f (C.Test s a b) t w = (w.e ≡ SIf0 (place s) t.e (node_at f a) (node_at f b)) × IsReady w × Same t w
+    × (a < count f) × (b < count f)
+Part f (C.Zero s b) t w = (c : Tm) × (w.e ≡ SIf0 (place s) c t.e (node_at f b)) × IsReady w × Same t w
+    × Passes c w.around (context w) TInt × (b < count f)
+Part f (C.Other s z) t w = (c : Tm) × (a : Tm) × (w.e ≡ SIf0 (place s) c a t.e) × IsReady w × Same t w
+    × Passes c w.around (context w) TInt
     × IsTypeOf a w.around (context w) (tree z)
 
 -- the whole term, and the term e where the state stands
@@ -96,11 +105,13 @@ Leads f st (Give ty s) = (e : Tm) × Gives f st e ty s
 
 -- the type of a part is there, and the frame waits for it
 abbrev pub Offered : FTerm → State → Frame → FType → Span → Type 0
-Offered f st fr ty s = (e : Tm) × (w : Task) × TypeIs (now st e) (tree ty) × (span_of e ≡ place s) × Part f fr (now st e) w × Holds f st w
+Offered f st fr ty s = (e : Tm) × (w : Task) × TypeIs (now st e) (tree ty) × (span_of e ≡ place s)
+    × Part f fr (now st e) w × Holds f st w
 
 -- node j is about to be checked under one frame more
 abbrev pub Enters : FTerm → State → Frame → ℕ → Type 0
-Enters f st fr j = (w : Task) × (j < count f) × IsReady (now st (node_at f j)) × Part f fr (now st (node_at f j)) w × Holds f st w
+Enters f st fr j = (w : Task) × (j < count f) × IsReady (now st (node_at f j))
+    × Part f fr (now st (node_at f j)) w × Holds f st w
 
 -- the work that is left: two steps for each node
 abbrev pub all_nodes : FTerm → List ℕ → ℕ

@@ -68,9 +68,12 @@ fn type_of(alloc: Global, term: &FTerm) -> Result<(FType, Vec<FType>), FFault>
 pub fn check(alloc: Global, term: FTerm) -> Result<Typed, (FTerm, FFault)>
     requires closed { IsClosed (term_of term) }
     requires nodes { nodes (term_of term) ≤ 4294967295 }
-    ensures right { MatchResult result (λ r. (typed_term r ≡ term) × IsAccepted (term_of term) (tree (typed_type r))) (λ r. (r.0 ≡ term) × Says r.1 (Fault (spanned term) 0 NoTys)) }
-    ensures typed { (t : Ty) → IsAccepted (term_of term) t → MatchResult result (λ r. tree (typed_type r) ≡ t) (λ r. r.1 ≡ fault.Memory) }
-    ensures refused { (code : codes.Code) (span : places.Span) → Fault (spanned term) 0 NoTys code (place span) → IsErrAnd result (λ r. r.1 ≢ fault.Memory → r.1 ≡ fault.Refused code span) }
+    ensures right { MatchResult result (λ r. (typed_term r ≡ term) × IsAccepted (term_of term) (tree (typed_type r)))
+        (λ r. (r.0 ≡ term) × Says r.1 (Fault (spanned term) 0 NoTys)) }
+    ensures typed { (t : Ty) → IsAccepted (term_of term) t → MatchResult result (λ r. tree (typed_type r) ≡ t)
+        (λ r. r.1 ≡ fault.Memory) }
+    ensures refused { (code : codes.Code) (span : places.Span) → Fault (spanned term) 0 NoTys code (place span) →
+        IsErrAnd result (λ r. r.1 ≢ fault.Memory → r.1 ≡ fault.Refused code span) }
 {
     passes_where_typed();
     no_fault_beside_a_pass();

@@ -29,7 +29,8 @@ pub(crate) fn find(
     requires scope { IsScope around (map bound scope.now) }
     requires room { around ≤ 4294967296 }
     requires known { name < 2 * length scope.now }
-    ensures { IfOk result (λ r. (ty_at (names around NoTys (map bound scope.now)) name ≡ Some (tree r)) × Below around (tree r) × Within (tree r)) }
+    ensures { IfOk result (λ r. (ty_at (names around NoTys (map bound scope.now)) name ≡ Some (tree r))
+        × Below around (tree r) × Within (tree r)) }
 {
     let binder = &scope[scope.len() - 1 - (name / 2) as usize];
     let by = around - binder.around;

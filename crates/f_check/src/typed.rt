@@ -65,7 +65,8 @@ impl Typed {
 
     /// The term as a program: refused where its type is not `int`, with the place of the term.
     pub fn program(self) -> Result<Program, (Typed, Span)>
-        ensures { MatchResult result (λ p. (program_term p ≡ typed_term self) × (tree (typed_type self) ≡ TInt)) (λ r. (r.0 ≡ self) × (place r.1 ≡ span_of (spanned (typed_term self))) × (tree (typed_type self) ≢ TInt)) }
+        ensures { MatchResult result (λ p. (program_term p ≡ typed_term self) × (tree (typed_type self) ≡ TInt))
+            (λ r. (r.0 ≡ self) × (place r.1 ≡ span_of (spanned (typed_term self))) × (tree (typed_type self) ≢ TInt)) }
     {
         match self.ty {
             FType::Int => Ok(Program {

@@ -3,7 +3,6 @@ mod Closing
 mod FaultRows
 mod Rows
 mod Sound
-pub mod Stacking
 mod TextRows
 mod Texts
 mod Turns
@@ -15,5 +14,6 @@ pub mod Occurs
 pub mod Parts
 pub mod Refusals
 pub mod Shapes
+pub mod Stacking
 pub mod Trees
 pub mod TypeOf

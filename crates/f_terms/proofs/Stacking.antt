@@ -1,8 +1,9 @@
 -- One form more on a stack of parts.
 use Rattle.std.proofs.Common.{◌≡◌, ℕ, ◌-◌, ◌<◌, inl, inr, length, take, drop, List, [], ◌∷◌, ◌++◌, map, refl, ap, ap₂, ◌∙◌, sym, subst, arith, All}
 use Rattle.std.proofs.lemmas.List.{map-append, take-map, drop-map}
-use Rattle.arena.specs.Roots.{Differ, Among, without_all}
-use Rattle.arena.proofs.Roots.{differ_back, all_before, among_last, without_last, roots_differ}
+use Rattle.std.proofs.lemmas.List.Elements.{All-head, All-tail}
+use Rattle.arena.specs.Roots.{Differ, Among, without_all, roots}
+use Rattle.arena.proofs.Roots.{of_among, roots_low, differ_back, all_before, among_last, without_last, roots_differ}
 use Rattle.f_terms.specs.Tm.{Tm, Spn}
 use Rattle.f_terms.specs.Shape.{children, kids, shape_tree}
 use Rattle.f_terms.specs.ReadTerm.{size_of, part, IsLoose, loose_parts}
@@ -11,7 +12,13 @@ use Rattle.f_terms.specs.declared.node.FParts.{FParts}
 use Rattle.f_terms.specs.declared.node.FShape.{FShape}
 use Rattle.f_terms.specs.declared.stack.FStep.{FStep}
 use Rattle.f_terms.specs.Stacked.{arity, step_tree, stacked}
-use Rattle.f_terms.proofs.Making.{same_trees, low_of}
+
+same_trees : (f g : ℕ → Tm) (n : ℕ) → ((k : ℕ) → k < n → g k ≡ f k) → (ks : List ℕ) → All (λ k. k < n) ks → map g ks ≡ map f ks
+same_trees f g n same [] h = refl
+same_trees f g n same (k ∷ ks) h = ap₂ (λ (t : Tm) (ts : List Tm). t ∷ ts) (same k (All-head (λ k. k < n) k ks h)) (same_trees f g n same ks (All-tail (λ k. k < n) k ks h))
+
+low_of : (p : FParts) (k : ℕ) → IsLoose p k → k < size_of p
+low_of p k h = of_among (λ k. k < size_of p) (roots kids p.nodes.items) k (roots_low kids p.nodes.items) h
 
 module _ (p : FParts) (ks js : List ℕ) (h : IsStack p (ks ++ js)) where
   differ : Differ (ks ++ js)

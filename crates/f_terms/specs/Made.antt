@@ -1,9 +1,9 @@
 -- What is made of parts.
-use Rattle.std.specs.Prelude.{◌≡◌, ◌≢◌, ℕ, ◌+◌, ◌<◌, ◌≤◌, ◌⊎◌, List, [], ◌∷◌, ◌++◌, map}
+use Rattle.std.specs.Prelude.{◌≡◌, ◌≢◌, ℕ, ◌+◌, ◌<◌, ◌⊎◌, List, [], ◌∷◌, ◌++◌}
 use Rattle.std.specs.List.{All}
 use Rattle.f_terms.specs.Tm.{Tm, Spn}
 use Rattle.f_terms.specs.Shape.{children, shape_tree}
-use Rattle.arena.specs.Roots.{Differ, Among, without_all}
+use Rattle.arena.specs.Roots.{without_all}
 use Rattle.f_terms.specs.ReadTerm.{size_of, part, loose_parts, IsLoose}
 use Rattle.f_terms.specs.declared.node.FShape.{FShape}
 use Rattle.f_terms.specs.declared.node.FParts.{FParts}
@@ -22,17 +22,6 @@ pub record IsAdded (old new : FParts) (s : Spn) (shape : FShape) (r : ℕ) : Typ
 -- nothing is changed: the parts, their trees and what is nobody's child are those of the nodes
 abbrev pub IsSame : (old new : FParts) → Type 0
 IsSame old new = new.nodes.items ≡ old.nodes.items
-
--- these parts were made, which have these trees: they are nobody's child, and what was there before is as it was
-pub record Makes (old new : FParts) (ks : List ℕ) (ts : List Tm) : Type 0 where
-  pub trees : map (part new) ks ≡ ts
-  pub loose : All (λ k. IsLoose new k) ks
-  pub differ : Differ ks
-  pub fresh : All (λ k. size_of old ≤ k) ks
-  pub more : size_of old ≤ size_of new
-  pub keeps : (k : ℕ) → k < size_of old → part new k ≡ part old k
-  pub others : (k : ℕ) → IsLoose old k → IsLoose new k
-  pub alone : (k : ℕ) → IsLoose new k → Among ks k ⊎ IsLoose old k
 
 -- these are the parts that are nobody's child
 abbrev pub IsStack : FParts → List ℕ → Type 0

@@ -41,7 +41,8 @@ AllBound at [] = Unit {0}
 AllBound at (w ∷ ws) = PartBound at w × AllBound at ws
 
 abbrev pub HasRoom : ℕ → (ℕ → Tm) → Waiting → Type 0
-HasRoom size at w = (w.at < size) × (w.types + nodes (plain (at w.at)) ≤ 4294967295) × (w.values + 2 * nodes (plain (at w.at)) ≤ 8589934590)
+HasRoom size at w = (w.at < size) × (w.types + nodes (plain (at w.at)) ≤ 4294967295)
+    × (w.values + 2 * nodes (plain (at w.at)) ≤ 8589934590)
 
 abbrev pub AllRoom : ℕ → (ℕ → Tm) → List Waiting → Type 0
 AllRoom size at [] = Unit {0}

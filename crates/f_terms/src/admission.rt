@@ -60,7 +60,8 @@ fn push_parts(
 ) -> Result<(), OutOfMemory>
     requires types { types < u64.MAX }
     requires values { values + 2 ≤ u64.MAX }
-    ensures { OnOk result (waiting.new.items ≡ waiting.old.items ++ waits (children shape.now) (types_within shape.now types) (values_within shape.now values)) }
+    ensures { OnOk result (waiting.new.items ≡ waiting.old.items
+        ++ waits (children shape.now) (types_within shape.now types) (values_within shape.now values)) }
 {
     match shape {
         FShape::Var(_) | FShape::Int(_) => Ok(()),

@@ -26,7 +26,8 @@ impl FParts {
     pub fn add(&mut self, shape: FShape, span: Span) -> Result<u64, (FShape, OutOfMemory)>
         requires loose { All (λ k. IsLoose self.old k) (children shape) }
         requires differ { Differ (children shape) }
-        ensures { MatchResult result (λ r. IsAdded self.old self.new (place span) shape r) (λ e. IsSame self.old self.new × (e.0 ≡ shape)) }
+        ensures { MatchResult result (λ r. IsAdded self.old self.new (place span) shape r)
+            (λ e. IsSame self.old self.new × (e.0 ≡ shape)) }
     {
         let at = self.nodes.len() as u64;
         match self.nodes.push(FNode { span, shape }) {

@@ -17,7 +17,8 @@ use std::alloc::Global;
 // The form of a step over these parts.
 fn shape_of(alloc: Global, step: FStep, parts: &[u64]) -> Result<FShape, OutOfMemory>
     requires { length parts.now ≡ arity step }
-    ensures { IfOk result (λ r. (children r ≡ parts.now) × ((at : ℕ → Tm) (s : Spn) → shape_tree at s r ≡ step_tree s step (map at parts.now))) }
+    ensures { IfOk result (λ r. (children r ≡ parts.now)
+        × ((at : ℕ → Tm) (s : Spn) → shape_tree at s r ≡ step_tree s step (map at parts.now))) }
 {
     Ok(match step {
         FStep::Var(i) => FShape::Var(i),

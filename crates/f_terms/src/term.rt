@@ -9,7 +9,6 @@ use crate::node::{FNode, FTerm};
 
 impl FTerm {
     /// The number of nodes.
-    #[tactic(auto)]
     pub fn count(&self) -> u64
         ensures number { result ≡ count self.now }
         ensures some { 0 < result }
@@ -19,7 +18,6 @@ impl FTerm {
     }
 
     /// Node i. Its children stand before it, and the last node is the root.
-    #[tactic(auto, using(arena::proofs::Nodes::part_at, crate::proofs::Shapes::local))]
     pub fn node(&self, i: u64) -> &FNode
         requires { i < count self.now }
         ensures tree { node_at self.now i ≡ node_tree (node_at self.now) result.now }

@@ -1,13 +1,13 @@
 -- The beginning and the end of a conversion.
-use Rattle.std.proofs.Common.{◌≡◌, ℕ, zero, suc, ◌+◌, ◌-◌, ◌<◌, Option, Some, None, subst, List, [], ◌∷◌, ◌++◌, map, length, refl, sym, ap, ap₂, ◌∙◌, arith}
+use Rattle.std.proofs.Common.{◌≡◌, ℕ, ◌+◌, ◌-◌, ◌<◌, Option, Some, None, subst, List, [], ◌++◌, map, sym, ap, ap₂, ◌∙◌}
 use Rattle.k_terms.specs.Read.{knode}
 use Rattle.f_terms.specs.Noted.{Noted}
 use Rattle.f_terms.specs.NotedTerm.{noted_at, noted_of}
 use Rattle.f_terms.specs.ReadTerm.{count}
 use Rattle.f_terms.specs.declared.node.FTerm.{FTerm}
 use Rattle.f_terms.specs.declared.types.FType.{FType}
-use Rattle.k_pass.specs.Emit.{Place, emit_of}
-use Rattle.k_pass.specs.Machine.{Nodes, scope, at, rests, Todo, todo, says, stream, written, control_steps, owed, Steps, ResumeIs}
+use Rattle.k_pass.specs.Emit.{emit_of}
+use Rattle.k_pass.specs.Machine.{Nodes, scope, rests, todo, says, stream, written, control_steps, owed, Steps, ResumeIs}
 use Rattle.k_pass.specs.declared.work.Control.{Control}
 use Rattle.k_pass.specs.declared.work.Control.TheVariants as C
 use Rattle.k_pass.specs.declared.work.Work.{Work}

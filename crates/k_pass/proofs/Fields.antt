@@ -1,7 +1,5 @@
 -- The fields of a tuple.
-use Rattle.std.proofs.Common.{◌≡◌, ℕ, zero, suc, ◌+◌, ◌-◌, ◌<◌, ◌≤◌, List, [], ◌∷◌, ◌++◌, map, length, get_or, take, drop, refl, sym, ap, ap₂, ◌∙◌, subst, arith}
-use Rattle.f_terms.specs.Noted.{noteds, NoNoteds, MoreNoteds}
-use Rattle.k_laws.specs.Cps as s
+use Rattle.std.proofs.Common.{◌≡◌, ℕ, zero, suc, ◌+◌, ◌<◌, ◌≤◌, List, [], ◌∷◌, map, length, get_or, drop, refl, ap, ◌∙◌, arith}
 use Rattle.k_pass.specs.Machine.{atom}
 use Rattle.k_pass.specs.declared.work.Atom.{Atom}
 

@@ -1,17 +1,16 @@
 -- What is done with an atom, frame by frame.
-use Rattle.std.proofs.Common.{◌≡◌, ℕ, zero, suc, ◌+◌, ◌-◌, ◌<◌, ◌≤◌, List, [], ◌∷◌, ◌++◌, map, length, refl, sym, ap, ap₂, ◌∙◌, subst, arith, sum_by, Vec, Global, Bor}
+use Rattle.std.proofs.Common.{◌≡◌, ℕ, suc, ◌+◌, List, [], ◌∷◌, ◌++◌, map, length, refl, sym, ap, ◌∙◌, subst, arith, Vec, Global, Bor}
 use Rattle.idx_core.specs.declared.arith.Op.{Op}
 use Rattle.f_terms.specs.Read.{tree}
 use Rattle.k_terms.specs.K as K
-use Rattle.k_terms.specs.Stream.{NVar, NTuple, NCode, NEnd, NName, NProj, NArith, NCall, NIf, NElse, NHalt}
-use Rattle.k_terms.specs.Read.{knode, ktree, ktys}
+use Rattle.k_terms.specs.Stream.{NVar, NTuple, NName, NProj, NArith, NCall, NIf, NElse}
+use Rattle.k_terms.specs.Read.{knode}
 use Rattle.k_terms.specs.declared.node.KNode.{KNode}
-use Rattle.k_terms.specs.declared.types.KType.{KType}
-use Rattle.f_terms.specs.Noted.{Noted, EFix, EGen, EIf, EApp, EInst, EProj, EArith, noteds, Noteds, NoNoteds, MoreNoteds}
+use Rattle.f_terms.specs.Noted.{Noted, EApp, EInst, EProj, EArith, noteds}
 use Rattle.k_laws.specs.Cps as s
 use Rattle.k_laws.specs.Cps.{Level, kty, taking}
-use Rattle.k_pass.specs.Emit.{Rest, Bind, Pass, Place, atom_node, atom_nodes, deliver, named, as_value, bound_once, rest_args, fix_args, gen_args, to_call, to_inst, to_arith, to_proj, to_tuple, emit, emit_all, halting}
-use Rattle.k_pass.specs.Machine.{Nodes, atom, folded, scope, inner, at, Rests, top, below, branches, through, rests, Todo, then, todo, says, stream, written, steps, steps_all, frame_steps, pending_steps, control_steps, owed, Begins, Steps, Goes, Hands, FieldsGo, after, rest_of, IsRestless, tail_of}
+use Rattle.k_pass.specs.Emit.{Pass, atom_node, atom_nodes, deliver, as_value, rest_args, emit}
+use Rattle.k_pass.specs.Machine.{Nodes, atom, at, through, rests, then, todo, stream, written, steps, steps_all, frame_steps, pending_steps, Steps, Goes, Hands, FieldsGo, after, rest_of}
 use Rattle.k_pass.specs.declared.work.Atom.{Atom}
 use Rattle.k_pass.specs.declared.work.Atom.TheVariants as A
 use Rattle.k_pass.specs.declared.work.Frame.{Frame}
@@ -22,7 +21,7 @@ use Rattle.k_pass.specs.declared.work.Control.{Control}
 use Rattle.k_pass.specs.declared.work.Control.TheVariants as C
 use Rattle.k_pass.specs.declared.work.Work.{Work}
 use Rattle.f_terms.specs.declared.types.FType.{FType}
-use Rattle.k_pass.proofs.Stacks.{folded_push, sum_push, arrives, pushed, popped, wrote, given_next}
+use Rattle.k_pass.proofs.Stacks.{folded_push, sum_push, pushed, popped, wrote, given_next}
 use Rattle.k_pass.proofs.Moves.{finish}
 
 pub gives_fun : (t : ℕ → Noted) (w : Work) (v v2 : Vec Frame Global) (x : ℕ) (ty : Bor FType) (a : Atom) (d : ℕ) →

@@ -1,11 +1,11 @@
 -- The nodes that the conversion writes hold the converted tree.
-use Rattle.std.proofs.Common.{◌≡◌, ◌<◌, ℕ, zero, suc, ◌+◌, ◌-◌, List, [], ◌∷◌, ◌++◌, Bool, true, false, Option, Some, None, length, refl, sym, ap, ap₂, ◌∙◌, subst, arith, append_assoc, append-nil}
-use Rattle.f_terms.specs.Ty.{Ty, TInt, TVar, TArrow, TAll, TTuple, Tys, NoTys, MoreTys}
-use Rattle.f_terms.specs.Typing.{ty_at, field_ty, raised, in_fix}
+use Rattle.std.proofs.Common.{◌≡◌, ℕ, suc, ◌+◌, List, [], ◌∷◌, ◌++◌, Bool, true, false, length, refl, sym, ap, ap₂, ◌∙◌, subst, append_assoc, append-nil}
+use Rattle.f_terms.specs.Ty.{Ty, TInt, TArrow, TAll, TTuple, Tys, NoTys}
+use Rattle.f_terms.specs.Typing.{raised, in_fix}
 use Rattle.term_core.specs.Ends.{lift}
-use Rattle.k_terms.specs.K.{KTy, KTys, TKInt, TKTuple, TKCode, NoKTys, MoreKTys, KVal, KVar, KInt, KTuple, KCode, KVals, NoKVals, MoreKVals, KName, KProj, KArith, KTm, KLet, KCall, KIf, KHalt, kbody_scope, kren, krens_scope}
+use Rattle.k_terms.specs.K.{KTy, TKInt, TKTuple, TKCode, NoKTys, MoreKTys, KTm, KIf, kbody_scope, kren, krens_scope}
 use Rattle.k_terms.specs.Types.{kv_type, kvs_type, kproj_type}
-use Rattle.k_terms.specs.Stream.{KNd, NVar, NInt, NTuple, NCode, NEnd, NName, NProj, NArith, NCall, NIf, NElse, NHalt, klin_v, klin_vs, klin_t, kwidth}
+use Rattle.k_terms.specs.Stream.{KNd, NVar, NTuple, NCode, NEnd, NName, NProj, NArith, NCall, NIf, NElse, NHalt, klin_v, klin_vs, klin_t, kwidth}
 use Rattle.f_terms.specs.Noted.{Noted, EVar, ENum, EFix, EApp, EGen, EInst, ETuple, EProj, EArith, EIf, Noteds, NoNoteds, MoreNoteds}
 use Rattle.k_laws.specs.Cps as s
 use Rattle.k_laws.specs.Cps.{Atom, Level, Literal, value, values, level_at, kty, all_kty, taking, cps_of}

@@ -1,16 +1,14 @@
 -- What is known of names by their levels, as the scope grows.
-use Rattle.std.proofs.Common.{◌≡◌, ◌<◌, ℕ, zero, suc, ◌+◌, ◌-◌, List, [], ◌∷◌, Option, Some, None, refl, sym, ap, ap₂, ◌∙◌, subst, arith}
-use Rattle.idx_core.specs.Over.{shifted}
-use Rattle.f_terms.specs.Ty.{Ty, TVar, Tys, NoTys, MoreTys, over}
+use Rattle.std.proofs.Common.{◌≡◌, ◌<◌, ℕ, zero, suc, ◌-◌, List, [], ◌∷◌, Some, None, refl, sym, ap, ◌∙◌, arith}
+use Rattle.f_terms.specs.Ty.{Ty, Tys, NoTys, MoreTys}
 use Rattle.f_terms.specs.Typing.{ty_at, raised}
 use Rattle.term_core.specs.Ends.{lift}
-use Rattle.k_terms.specs.K.{KTy, KTys, TKInt, TKCode, NoKTys, MoreKTys, KVal, KVar, KInt, KVals, kren, krens_scope, kbody_scope}
-use Rattle.k_terms.specs.Types.{ktype_at, kv_type, kvs_type}
-use Rattle.k_terms.specs.Stream.{KNd, NVar, NInt, klin_v, klin_vs, kwidth}
-use Rattle.term_core.specs.Levels.{level_of}
+use Rattle.k_terms.specs.K.{KTy, TKInt, TKCode, NoKTys, MoreKTys, kren, krens_scope, kbody_scope}
+use Rattle.k_terms.specs.Types.{ktype_at, kv_type}
+use Rattle.k_terms.specs.Stream.{KNd, NVar, klin_v}
 use Rattle.term_core.proofs.Levels.{level_below}
-use Rattle.k_laws.specs.Cps.{Atom, Level, Literal, value, values, level_at, kty}
-use Rattle.k_pass.specs.Emit.{atom_node, atom_nodes}
+use Rattle.k_laws.specs.Cps.{Atom, Level, Literal, value, level_at, kty}
+use Rattle.k_pass.specs.Emit.{atom_node}
 use Rattle.k_laws.proofs.KTypes.{kty_raised, ren_none}
 use Rattle.k_pass.proofs.Scopes.{at_krens}
 

@@ -1,19 +1,17 @@
 -- The moves of the conversion.
-use Rattle.std.proofs.Common.{◌≡◌, ℕ, zero, suc, ◌+◌, ◌-◌, ◌<◌, ◌≤◌, List, [], ◌∷◌, ◌++◌, Option, Some, None, map, length, take, get_or, refl, sym, ap, ap₂, ◌∙◌, subst, arith, sum_by, Vec, Global, Bor}
+use Rattle.std.proofs.Common.{◌≡◌, ℕ, zero, suc, ◌+◌, ◌-◌, ◌<◌, List, [], ◌∷◌, ◌++◌, Some, None, map, length, take, get_or, refl, sym, ap, ap₂, ◌∙◌, subst, arith, sum_by, Vec, Global, Bor}
 use Rattle.k_terms.specs.K as K
-use Rattle.k_terms.specs.Stream.{NVar, NTuple, NCode, NEnd, NName, NProj, NArith, NCall, NIf, NElse, NHalt}
-use Rattle.k_terms.specs.Read.{knode, ktree, ktys}
+use Rattle.k_terms.specs.Stream.{NVar, NCode, NEnd, NName, NElse}
+use Rattle.k_terms.specs.Read.{knode}
 use Rattle.k_terms.specs.declared.node.KNode.{KNode}
-use Rattle.k_terms.specs.declared.types.KType.{KType}
 use Rattle.f_terms.specs.Ty.{Ty, TArrow, TAll}
 use Rattle.f_terms.specs.Read.{tree}
 use Rattle.f_terms.specs.declared.types.FType.{FType}
 use Rattle.f_terms.specs.Noted.{Noted, EFix, EGen, EIf}
 use Rattle.k_laws.specs.Cps as s
 use Rattle.k_laws.specs.Cps.{Level, kty, taking}
-use Rattle.k_pass.specs.Emit.{Rest, Bind, Pass, Place, atom_node, atom_nodes, deliver, named, as_value, bound_once, rest_args, fix_args, gen_args, to_call, to_inst, to_arith, to_proj, to_tuple, emit, emit_all, halting}
-use Rattle.k_pass.specs.Machine.{Nodes, atom, folded, scope, inner, at, Rests, top, below, branches, through, rests, Todo, then, todo, says, stream, written, steps, steps_all, frame_steps, pending_steps, control_steps, owed, Begins, Steps, Goes, Hands, FieldsGo, after, rest_of, IsRestless, tail_of}
-use Rattle.k_pass.specs.declared.work.Atom.{Atom}
+use Rattle.k_pass.specs.Emit.{Rest, Bind, Pass, Place, deliver, named, as_value, bound_once, rest_args, fix_args, gen_args, emit}
+use Rattle.k_pass.specs.Machine.{Nodes, folded, scope, inner, at, Rests, top, below, branches, through, rests, Todo, then, todo, says, written, steps, frame_steps, pending_steps, control_steps, owed, Begins, Steps, Goes, Hands, IsRestless, tail_of}
 use Rattle.k_pass.specs.declared.work.Atom.TheVariants as A
 use Rattle.k_pass.specs.declared.work.Frame.{Frame}
 use Rattle.k_pass.specs.declared.work.Frame.TheVariants as F

@@ -1,23 +1,14 @@
 -- Stacks in vectors, and what a state is still to write.
-use Rattle.std.proofs.Common.{◌≡◌, ℕ, zero, suc, ◌+◌, ◌-◌, ◌<◌, ◌≤◌, List, [], ◌∷◌, ◌++◌, map, length, get_or, refl, sym, ap, ap₂, ◌∙◌, subst, arith, sum_by, Vec, Global, ◌⊎◌, inl, inr}
+use Rattle.std.proofs.Common.{◌≡◌, ℕ, suc, ◌+◌, ◌-◌, ◌<◌, ◌≤◌, List, [], ◌∷◌, ◌++◌, map, length, get_or, refl, sym, ap, ◌∙◌, arith, sum_by, Vec, Global, ◌⊎◌, inl, inr}
 use Rattle.std.proofs.lemmas.Bool.{cases_lt}
 use Rattle.std.proofs.lemmas.List.Sums.{sum_by-cons, sum_by-append}
-use Rattle.k_terms.specs.K as K
-use Rattle.k_terms.specs.Stream.{NVar, NTuple, NCode, NEnd, NName, NProj, NArith, NCall, NIf, NElse, NHalt}
-use Rattle.k_terms.specs.Read.{knode, ktree, ktys}
-use Rattle.k_terms.specs.declared.node.KNode.{KNode}
-use Rattle.k_terms.specs.declared.types.KType.{KType}
 use Rattle.f_terms.specs.Noted.{Noted}
-use Rattle.k_laws.specs.Cps as s
 use Rattle.k_laws.specs.Cps.{Level, level_at}
-use Rattle.k_pass.specs.Emit.{Rest, Bind, Pass, Place, atom_node, atom_nodes, deliver, named, as_value, bound_once, rest_args, fix_args, gen_args, to_call, to_inst, to_arith, to_proj, to_tuple, emit, emit_all, halting}
-use Rattle.k_pass.specs.Machine.{Nodes, atom, folded, scope, inner, at, Rests, top, below, branches, through, rests, Todo, then, todo, says, stream, written, steps, steps_all, frame_steps, pending_steps, control_steps, owed, Begins, Steps, Goes, Hands, FieldsGo, after, rest_of, IsRestless, tail_of}
+use Rattle.k_pass.specs.Emit.{Place, deliver}
+use Rattle.k_pass.specs.Machine.{Nodes, atom, folded, scope, at, Rests, top, below, through, rests, Todo, todo, says, stream, written, frame_steps, control_steps, owed, Begins, Steps, after, rest_of}
 use Rattle.k_pass.specs.declared.work.Atom.{Atom}
 use Rattle.k_pass.specs.declared.work.Atom.TheVariants as A
 use Rattle.k_pass.specs.declared.work.Frame.{Frame}
-use Rattle.k_pass.specs.declared.work.Frame.TheVariants as F
-use Rattle.k_pass.specs.declared.work.Pending.{Pending}
-use Rattle.k_pass.specs.declared.work.Pending.TheVariants as P
 use Rattle.k_pass.specs.declared.work.Control.{Control}
 use Rattle.k_pass.specs.declared.work.Control.TheVariants as C
 use Rattle.k_pass.specs.declared.work.Work.{Work}

@@ -11,7 +11,6 @@ use Rattle.k_terms.specs.Decode.{decode}
 use Rattle.k_terms.specs.K.{KTm}
 use Rattle.k_terms.specs.Read.{knode}
 use Rattle.k_terms.specs.Stream.{klin_t}
-use Rattle.k_terms.specs.Typing.{KGood}
 use Rattle.k_terms.specs.declared.node.KNode.{KNode}
 use Rattle.k_laws.specs.Annotate.{cps_term}
 use Rattle.k_laws.specs.Annotated.{Annotated}

@@ -1,8 +1,8 @@
 -- The nodes that conversion to continuation-passing style writes: as the terms of Cps, with the types of what is named taken from those beside the source.
-use Rattle.std.specs.Prelude.{ℕ, ℤ, zero, suc, List, [], ◌∷◌, ◌++◌, length}
+use Rattle.std.specs.Prelude.{ℕ, suc, List, [], ◌∷◌, ◌++◌, length}
 use Rattle.idx_core.specs.declared.arith.Op.{Op}
 use Rattle.f_terms.specs.Ty.{Ty, TArrow, TAll}
-use Rattle.k_terms.specs.K.{KTy, KTys, TKCode, NoKTys, MoreKTys}
+use Rattle.k_terms.specs.K.{KTy, KTys, NoKTys, MoreKTys}
 use Rattle.k_terms.specs.Stream.{KNd, NVar, NInt, NTuple, NCode, NEnd, NName, NProj, NArith, NCall, NIf, NElse, NHalt}
 use Rattle.f_terms.specs.Noted.{Noted, EVar, ENum, EFix, EApp, EGen, EInst, ETuple, EProj, EArith, EIf, Noteds, NoNoteds, MoreNoteds}
 use Rattle.k_laws.specs.Cps.{Atom, Level, Literal, kty, taking, level_at}

@@ -1,5 +1,5 @@
 -- What a state of the conversion is still to write.
-use Rattle.std.specs.Prelude.{◌≡◌, ℕ, zero, suc, ◌+◌, ◌<◌, List, [], ◌∷◌, ◌++◌, map, Option, Some, None}
+use Rattle.std.specs.Prelude.{◌≡◌, ℕ, suc, ◌+◌, ◌<◌, List, [], ◌∷◌, ◌++◌, map, Option, Some, None}
 use Rattle.std.specs.List.{All, sum_by}
 use Rattle.f_terms.specs.Ty.{TArrow, TAll}
 use Rattle.f_terms.specs.Read.{tree}

@@ -4,6 +4,8 @@
 mod access;
 pub mod convert;
 pub mod program;
+#[cfg(test)]
+mod tests;
 mod types;
 mod walk;
 mod work;

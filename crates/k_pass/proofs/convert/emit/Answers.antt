@@ -1,9 +1,8 @@
-use Rattle.std.proofs.Common.{ℕ, ◌≡◌, ◌<◌, ◌∙◌, ◌-◌, [], List, length, ap, sym, subst, rules, refl, arith, All}
+use Rattle.std.proofs.Common.{ℕ, ◌-◌, [], ap, subst, refl, arith}
 use Rattle.std.proofs.lemmas.List.Elements.{All-nil}
-use Rattle.f_terms.specs.NotedTerm.{noted_at, noted_of}
+use Rattle.f_terms.specs.NotedTerm.{noted_at}
 use Rattle.f_terms.specs.ReadTerm.{count}
-use Rattle.k_pass.specs.Emit.{emit_of}
-use Rattle.k_pass.specs.Machine.{written, FrameIn, PendingIn, ControlIn, NextIn}
+use Rattle.k_pass.specs.Machine.{FrameIn, PendingIn, ControlIn, NextIn}
 use Rattle.k_pass.proofs.Inside.{all_same}
 use Rattle.k_pass.proofs.Ends.{starts, kept, fewer, resumed_is, ended}
 use Rattle.k_pass.proofs.convert.emit.Goals as goal

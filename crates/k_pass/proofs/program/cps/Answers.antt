@@ -1,11 +1,9 @@
-use Rattle.std.proofs.Common.{◌≡◌, ◌≤◌, ◌∙◌, List, length, map, sym, ap₂, subst}
+use Rattle.std.proofs.Common.{◌≤◌, ◌∙◌, List, length, sym, ap₂, subst}
 use Rattle.f_terms.specs.NotedTerm.{noted_of}
 use Rattle.f_terms.specs.ReadTerm as source
 use Rattle.f_terms.specs.declared.node.FTerm.{FTerm}
 use Rattle.f_terms.specs.declared.types.FType.{FType}
 use Rattle.f_check.specs.Typed.{program_term, program_types}
-use Rattle.k_terms.specs.K.{KTm}
-use Rattle.k_pass.specs.Converted.{Converted}
 use Rattle.k_pass.specs.Emit.{emit_of}
 use Rattle.k_pass.proofs.Whole.{tree_is, whole_is, fits, converted}
 use Rattle.k_pass.proofs.program.cps.Goals as goal

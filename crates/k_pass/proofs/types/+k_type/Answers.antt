@@ -1,4 +1,3 @@
-use Rattle.std.proofs.Common.{subst, rules}
 use Rattle.f_terms.proofs.Trees.{tree_parts}
 use Rattle.k_pass.proofs.TypeLists.{made_tuple}
 use Rattle.k_pass.proofs.types.+k_type.Goals as goal

@@ -1,6 +1,6 @@
 use Rattle.std.proofs.Common.{◌≡◌, take, map}
 use Rattle.f_terms.specs.Read.{tree}
-use Rattle.k_terms.specs.Read.{ktree, ktys}
+use Rattle.k_terms.specs.Read.{ktree}
 use Rattle.k_laws.specs.Cps.{kty}
 use Rattle.k_pass.proofs.types.+k_type.Given as goal
 

@@ -1,4 +1,4 @@
-use Rattle.std.proofs.Common.{◌∙◌, ◌++◌, ◌∷◌, List, [], ap, ap₂}
+use Rattle.std.proofs.Common.{◌∙◌, ◌++◌, ◌∷◌, List, [], ap}
 use Rattle.k_terms.specs.K as K
 use Rattle.k_terms.specs.K.{TKCode, NoKTys, MoreKTys}
 use Rattle.k_terms.specs.Read.{ktree, ktys}

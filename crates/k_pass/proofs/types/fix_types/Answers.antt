@@ -1,8 +1,7 @@
-use Rattle.std.proofs.Common.{◌∙◌, ap, ap₂, sym}
+use Rattle.std.proofs.Common.{◌∙◌, ap}
 use Rattle.k_terms.specs.K as K
 use Rattle.k_terms.specs.K.{TKCode, NoKTys, MoreKTys}
 use Rattle.f_terms.specs.Read.{tree}
-use Rattle.k_terms.specs.Read.{ktree, ktys}
 use Rattle.k_laws.specs.Cps.{kty, taking}
 use Rattle.k_pass.proofs.TypeLists.{ktys_push}
 use Rattle.k_pass.proofs.types.fix_types.Goals as goal

@@ -1,9 +1,9 @@
-use Rattle.std.proofs.Common.{◌∙◌, ap, sym, refl, map}
+use Rattle.std.proofs.Common.{ap}
 use Rattle.k_pass.proofs.Moves.{pop_is}
 use Rattle.k_pass.proofs.Gives.{gives_fun, gives_left, gives_arg, gives_inst, gives_right, gives_proj, gives_field, gives_tail, gives_test}
-use Rattle.k_terms.specs.Read.{ktys, ktree}
+use Rattle.k_terms.specs.Read.{ktys}
 use Rattle.k_pass.specs.Machine.{FrameIn, PendingIn}
-use Rattle.k_pass.proofs.Inside.{all_push, all_pop, all_same, all_two}
+use Rattle.k_pass.proofs.Inside.{all_push, all_pop}
 use Rattle.k_pass.proofs.walk.give.Goals as goal
 
 pub returns-in_ok-push-in-Some-Fun-clause-steps : goal.returns-in_ok-push-in-Some-Fun-clause-steps

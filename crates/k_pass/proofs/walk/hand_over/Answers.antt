@@ -1,11 +1,10 @@
 use Rattle.f_terms.specs.Noted.{EVar}
-use Rattle.std.proofs.Common.{◌∙◌, ap, sym, refl}
+use Rattle.std.proofs.Common.{refl}
 use Rattle.f_terms.specs.Read.{tree}
 use Rattle.k_laws.specs.Cps.{kty}
 use Rattle.k_pass.proofs.Moves.{hand_tail, hand_rest}
-use Rattle.std.proofs.Common.{[]}
 use Rattle.k_pass.specs.Machine.{FrameIn, PendingIn}
-use Rattle.k_pass.proofs.Inside.{all_push, all_pop, all_same, all_two}
+use Rattle.k_pass.proofs.Inside.{all_push, all_pop, all_same}
 use Rattle.k_pass.proofs.walk.hand_over.Goals as goal
 
 pub returns-in_ok-put_atom-in-Some-clause-steps : goal.returns-in_ok-put_atom-in-Some-clause-steps

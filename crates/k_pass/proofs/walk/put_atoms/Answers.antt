@@ -1,7 +1,7 @@
-use Rattle.std.proofs.Common.{◌≡◌, ◌∙◌, ap, sym, refl, List, ◌∷◌, ◌++◌, map, drop, length, arith, rules}
-use Rattle.k_terms.specs.Read.{knode, ktree}
+use Rattle.std.proofs.Common.{◌∙◌, ap, sym, List, ◌++◌, map}
+use Rattle.k_terms.specs.Read.{knode}
 use Rattle.k_pass.specs.Emit.{atom_nodes}
-use Rattle.k_pass.specs.Machine.{Nodes, atom}
+use Rattle.k_pass.specs.Machine.{atom}
 use Rattle.k_pass.specs.declared.work.Atom.{Atom}
 use Rattle.k_pass.proofs.Fields.{drop_next, drop_end}
 use Rattle.k_pass.proofs.walk.put_atoms.Goals as goal

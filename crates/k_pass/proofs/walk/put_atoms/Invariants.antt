@@ -1,4 +1,4 @@
-use Rattle.std.proofs.Common.{◌≡◌, List, ◌∷◌, ◌++◌, map, drop}
+use Rattle.std.proofs.Common.{◌≡◌, ◌++◌, map, drop}
 use Rattle.k_terms.specs.Read.{knode}
 use Rattle.k_pass.specs.Emit.{atom_nodes}
 use Rattle.k_pass.specs.Machine.{Nodes, atom}

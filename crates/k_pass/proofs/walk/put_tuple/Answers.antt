@@ -1,8 +1,7 @@
-use Rattle.std.proofs.Common.{◌≡◌, ◌∙◌, ap, sym, refl, List, ◌∷◌, ◌++◌, map, drop, length, arith, rules}
+use Rattle.std.proofs.Common.{◌∙◌, ap, ◌∷◌, ◌++◌, map}
 use Rattle.k_terms.specs.Read.{knode, ktree}
 use Rattle.k_pass.specs.Emit.{atom_nodes}
-use Rattle.k_pass.specs.Machine.{Nodes, atom}
-use Rattle.k_pass.specs.declared.work.Atom.{Atom}
+use Rattle.k_pass.specs.Machine.{atom}
 use Rattle.k_terms.specs.Stream.{NTuple, NName}
 use Rattle.k_pass.proofs.Fields.{length_map}
 use Rattle.k_pass.proofs.walk.put_tuple.Goals as goal

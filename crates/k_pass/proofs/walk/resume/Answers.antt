@@ -1,11 +1,11 @@
-use Rattle.std.proofs.Common.{◌≡◌, ◌∙◌, ap, sym, refl, suc, arith, List, ℕ}
-use Rattle.k_pass.specs.Machine.{scope, inner}
+use Rattle.std.proofs.Common.{◌∙◌, ap, refl, List, ℕ}
+use Rattle.k_pass.specs.Machine.{inner}
 use Rattle.k_pass.specs.declared.work.Atom.TheVariants as A
 use Rattle.k_pass.specs.declared.work.Control.TheVariants as C
 use Rattle.k_pass.specs.declared.work.Pending.TheVariants as P
 use Rattle.k_pass.proofs.Moves.{pop_is, resumed, comes_name, comes_term, comes_test, comes_end}
 use Rattle.k_pass.specs.Machine.{FrameIn, PendingIn}
-use Rattle.k_pass.proofs.Inside.{all_push, all_pop, all_same, all_two}
+use Rattle.k_pass.proofs.Inside.{all_push, all_pop}
 use Rattle.k_pass.proofs.walk.resume.Goals as goal
 
 pub returns-in_ok-inside-in-Some-Fix-clause-steps : goal.returns-in_ok-inside-in-Some-Fix-clause-steps

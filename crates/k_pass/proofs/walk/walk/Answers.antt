@@ -1,14 +1,14 @@
-use Rattle.std.proofs.Common.{◌∙◌, ap, sym, refl, map}
+use Rattle.std.proofs.Common.{◌∙◌, ap, sym}
 use Rattle.f_terms.specs.Read.{tree}
 use Rattle.f_terms.specs.Noted.{EApp, EInst, EProj, EArith, EIf}
 use Rattle.f_terms.specs.NotedTerm.{noted_at, noted_shape}
 use Rattle.f_terms.specs.ReadTerm.{count}
 use Rattle.k_pass.specs.declared.work.Control.TheVariants as C
 use Rattle.k_pass.proofs.Gives.{walks, goes_app, goes_inst, goes_proj, goes_arith}
-use Rattle.std.proofs.Common.{length, ◌<◌}
+use Rattle.std.proofs.Common.{◌<◌}
 use Rattle.f_terms.specs.Shape.{children}
-use Rattle.k_pass.specs.Machine.{FrameIn, PendingIn}
-use Rattle.k_pass.proofs.Inside.{all_push, all_pop, all_same, all_two, kids_one, kids_two, kids_three}
+use Rattle.k_pass.specs.Machine.{FrameIn}
+use Rattle.k_pass.proofs.Inside.{all_push, all_same, kids_one, kids_two, kids_three}
 use Rattle.k_pass.proofs.walk.walk.Goals as goal
 
 pub returns-in_ok-push-in-App-clause-steps : goal.returns-in_ok-push-in-App-clause-steps

@@ -1,4 +1,4 @@
-use Rattle.std.proofs.Common.{◌∙◌, ◌++◌, ◌∷◌, length, List, ap, sym, refl, map}
+use Rattle.std.proofs.Common.{◌∙◌, ◌++◌, ◌∷◌, length, List, ap, sym, map}
 use Rattle.f_terms.specs.Read.{tree}
 use Rattle.k_terms.specs.Stream.{NTuple, NName}
 use Rattle.k_terms.specs.Read.{ktree}
@@ -8,8 +8,8 @@ use Rattle.k_pass.specs.declared.work.Atom.{Atom}
 use Rattle.k_pass.specs.Machine.{atom, written}
 use Rattle.k_pass.proofs.Gives.{fields_next, fields_end}
 use Rattle.std.proofs.Common.{◌<◌}
-use Rattle.k_pass.specs.Machine.{FrameIn, PendingIn}
-use Rattle.k_pass.proofs.Inside.{all_push, all_pop, all_same, all_two}
+use Rattle.k_pass.specs.Machine.{FrameIn}
+use Rattle.k_pass.proofs.Inside.{all_push, all_same, all_two}
 use Rattle.k_pass.proofs.walk.walk_fields.Goals as goal
 
 pub returns-in_ok-push-in-Some-clause-steps : goal.returns-in_ok-push-in-Some-clause-steps

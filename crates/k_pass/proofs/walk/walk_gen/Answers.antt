@@ -1,8 +1,7 @@
-use Rattle.std.proofs.Common.{◌∙◌, ap, sym, refl}
-use Rattle.f_terms.specs.Read.{tree}
+use Rattle.std.proofs.Common.{refl}
 use Rattle.k_pass.proofs.Moves.{gens}
 use Rattle.k_pass.specs.Machine.{FrameIn, PendingIn}
-use Rattle.k_pass.proofs.Inside.{all_push, all_pop, all_same, all_two}
+use Rattle.k_pass.proofs.Inside.{all_push}
 use Rattle.k_pass.proofs.walk.walk_gen.Goals as goal
 
 pub returns-clause-steps : goal.returns-clause-steps

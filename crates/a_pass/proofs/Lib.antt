@@ -1,4 +1,5 @@
 mod Blocks
+mod Bounded
 mod CTrees
 mod Emitting
 mod Places

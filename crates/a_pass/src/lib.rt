@@ -1,4 +1,5 @@
-//! Allocation.
+//! Allocation: each tuple of a hoisted program becomes a malloc and the initialisations of its fields, and each cell a
+//! tuple of one field.
 #![tactic(auto)]
 
 mod emit;
@@ -7,6 +8,8 @@ mod parts;
 mod program;
 mod run;
 mod scope;
-pub mod state;
+mod state;
 mod term;
 mod types;
+
+pub use program::allocate;

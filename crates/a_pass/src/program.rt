@@ -40,3 +40,16 @@ fn all_blocks(alloc: Global, blocks: &[HBlock]) -> Result<Vec<ABlock>, OutOfMemo
     }
     Ok(made)
 }
+
+/// The allocation of a program. It makes no data tuples.
+pub fn allocate(alloc: Global, program: &HProgram) -> Result<AProgram, OutOfMemory>
+    ensures program { IfOk result (λ r. program_in r ≡ alloc_prog (h.blocks_in program.now)) }
+    ensures main { IfOk result (λ r. main_in r ≡ alloc_main (h.blocks_in program.now) (h.main_in program.now)) }
+{
+    a_law::bounds_are_kept();
+    let given = program.blocks();
+    let blocks = all_blocks(alloc, given)?;
+    let main = main_term(alloc, given, program.main())?;
+    a_terms::sizes::within(&blocks, &main)?;
+    Ok(AProgram::new(blocks, main, Vec::new(alloc)))
+}

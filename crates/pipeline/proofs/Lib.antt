@@ -1,4 +1,5 @@
 mod Blocks
 mod Chain
+mod Compiled
 mod Counted
 mod Shallow

@@ -5,6 +5,7 @@ ghost use Rattle.t_terms.specs.Spanned.{seq_of};
 ghost use Rattle.t_terms.specs.Whole.{WellFormedSeq};
 ghost use Rattle.t_terms.specs.Read.{base as base_tree, value, body as body_tree};
 
+mod data;
 mod nesting;
 
 use crate::{Checked, check};

@@ -1,6 +1,6 @@
-use Rattle.std.proofs.Common.{List, take, sym, subst}
+use Rattle.std.proofs.Common.{map, List, take, sym, subst}
 use Rattle.t_terms.specs.Read.{blocks_of}
-use Rattle.t_rules.specs.Erase.{ESeq, erase_blocks}
+use Rattle.t_rules.specs.Erase.{ESeq, erase_block}
 use Rattle.t_machine.specs.Code.{IsCode}
 use Rattle.t_machine.proofs.Loads.{blocks_taken}
 use Rattle.t_machine.proofs.loading.load_blocks.Goals as goal

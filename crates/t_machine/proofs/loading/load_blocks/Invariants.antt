@@ -1,6 +1,6 @@
-use Rattle.std.proofs.Common.{take}
+use Rattle.std.proofs.Common.{map, take}
 use Rattle.t_terms.specs.Read.{blocks_of}
-use Rattle.t_rules.specs.Erase.{erase_blocks}
+use Rattle.t_rules.specs.Erase.{erase_block}
 use Rattle.t_machine.specs.Code.{IsCode}
 use Rattle.t_machine.proofs.loading.load_blocks.Given as goal
 

@@ -1,4 +1,4 @@
-use Rattle.std.proofs.Common.{◌≡◌, ℕ, List, ◌∷◌, [], ◌++◌, ◌+◌, ◌∙◌, length, map, take, ap, sym, subst, append_assoc, refl}
+use Rattle.std.proofs.Common.{◌≡◌, ℕ, List, ◌∷◌, [], ◌++◌, ◌+◌, ◌∙◌, length, map, take, ap, sym, subst, append_assoc, refl, arith}
 use Rattle.std.proofs.lemmas.List.{map-append, append-nil, take_all}
 use Rattle.idx_core.specs.declared.span.Span.{Span}
 use Rattle.t_types.specs.declared.types.TType.{TType}
@@ -13,10 +13,12 @@ use Rattle.t_machine.proofs.Loads.{words_taken}
 use Rattle.t_machine.proofs.loading.load_tuple.Goals as goal
 
 pub loop-field-init : goal.loop-field-init
-loop-field-init c = record {
-  starts = c.in_ok-push.ensures.items;
-  cells = sym (append-nil (map word c.args.heap.now.cells.items));
-}
+loop-field-init c =
+    let same : c.len.result ≡ length c.args.heap.now.cells.items = omega (arith, c.len.ensures, c.args.heap.now.cells.ok.0) in
+    record {
+      starts = c.in_ok-push.ensures.items ∙ ap (λ n. c.args.heap.now.starts.items ++ n ∷ []) same;
+      cells = sym (append-nil (map word c.args.heap.now.cells.items));
+    }
 
 pub loop-field-preserved : goal.loop-field-preserved
 loop-field-preserved c =

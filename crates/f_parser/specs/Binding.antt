@@ -84,7 +84,8 @@ Does text (Put s step names) v a ts us = us ≡ stacked (place s) step ts
 -- and what all do
 abbrev pub DoAll : List ℕ → List Todo → List Name → List Name → List Tm → List Tm → Type 0
 DoAll text [] v a ts us = ts ≡ us
-DoAll text (t ∷ tds) v a ts us = (ms : List Tm) × Does text t v a ts ms × DoAll text tds (values_left t v) (types_left t a) ms us
+DoAll text (t ∷ tds) v a ts us = (ms : List Tm) × Does text t v a ts ms
+    × DoAll text tds (values_left t v) (types_left t a) ms us
 
 -- the uses of names that are still to come, in text order
 abbrev pub uses_of : List ℕ → Todo → List Name → List Name → List Use
@@ -127,8 +128,10 @@ stand tds v a ts = record { todo = tds; values = v; types = a; made = ts }
 
 -- y follows x: what y comes to x comes to, and where y stops x stops
 pub record Follows (text : List ℕ) (x y : Stand) : Type 0 where
-  pub comes : (us : List Tm) → DoAll text y.todo y.values y.types y.made us → DoAll text x.todo x.values x.types x.made us
-  pub stops : (e : Unresolved) → StopsAt text (uses_left text y.todo y.values y.types) e → StopsAt text (uses_left text x.todo x.values x.types) e
+  pub comes : (us : List Tm) → DoAll text y.todo y.values y.types y.made us →
+      DoAll text x.todo x.values x.types x.made us
+  pub stops : (e : Unresolved) → StopsAt text (uses_left text y.todo y.values y.types) e →
+      StopsAt text (uses_left text x.todo x.values x.types) e
   pub enough : Enough x.todo (length x.made) → Enough y.todo (length y.made)
 
 -- and less is left to do

@@ -9,7 +9,8 @@ ghost use Rattle.f_grammar.specs.Raw.{raw_tms};
 ghost use Rattle.f_reader.specs.Kept.{tree_of};
 ghost use Rattle.f_parser.specs.Scope.{TermOf, IsBinder, uses};
 ghost use Rattle.f_parser.specs.Resolve.{StopsAt};
-ghost use Rattle.f_parser.specs.Binding.{Bind, BindAll, Put, HasParts, todo, todos, outer_values, outer_types, uses_of, Enough, stand, Steps};
+ghost use Rattle.f_parser.specs.Binding.{Bind, BindAll, Put, HasParts, todo, todos};
+ghost use Rattle.f_parser.specs.Binding.{outer_values, outer_types, uses_of, Enough, stand, Steps};
 ghost use Rattle.f_parser.specs.declared.resolve.Unresolved.TheVariants as stopped;
 ghost use Rattle.f_parser.specs.declared.task.Leaves.TheVariants as leaves;
 
@@ -22,7 +23,9 @@ use std::alloc::Global;
 
 // One task more, to be done next.
 fn push<'a>(tasks: &mut Vec<Task<'a>>, task: Task<'a>) -> Result<(), Unresolved>
-    ensures { MatchResult result (λ u. todos tasks.new.items ≡ todo task.entry ∷ todos tasks.old.items) (λ e. e ≡ stopped.Memory) }
+    ensures { MatchResult result
+        (λ u. todos tasks.new.items ≡ todo task.entry ∷ todos tasks.old.items)
+        (λ e. e ≡ stopped.Memory) }
 {
     tasks.push(task)?;
     Ok(())
@@ -30,7 +33,9 @@ fn push<'a>(tasks: &mut Vec<Task<'a>>, task: Task<'a>) -> Result<(), Unresolved>
 
 // The next task.
 fn pop<'a>(tasks: &mut Vec<Task<'a>>) -> Option<Task<'a>>
-    ensures { MatchOption result (todos tasks.old.items ≡ []) (λ t. todos tasks.old.items ≡ todo t ∷ todos tasks.new.items) }
+    ensures { MatchOption result
+        (todos tasks.old.items ≡ [])
+        (λ t. todos tasks.old.items ≡ todo t ∷ todos tasks.new.items) }
 {
     match tasks.pop() {
         Some(task) => Some(task),
@@ -47,7 +52,8 @@ fn push_two<'a>(
     b: &'a RawTerm,
 ) -> Result<(), Unresolved>
     ensures { MatchResult result
-        (λ u. todos tasks.new.items ≡ Bind (tree_of a.now) ∷ Bind (tree_of b.now) ∷ Put span step leaves.Nothing ∷ todos tasks.old.items)
+        (λ u. todos tasks.new.items ≡
+            Bind (tree_of a.now) ∷ Bind (tree_of b.now) ∷ Put span step leaves.Nothing ∷ todos tasks.old.items)
         (λ e. e ≡ stopped.Memory) }
 {
     let names = Leaves::Nothing;
@@ -75,7 +81,9 @@ fn push_one<'a>(
 // A form in the place of its parts.
 fn put(alloc: Global, stack: FStack, step: FStep, span: Span) -> Result<FStack, Unresolved>
     requires { arity step ≤ length (trees_of stack) }
-    ensures { MatchResult result (λ r. trees_of r ≡ stacked (place span) step (trees_of stack)) (λ e. e ≡ stopped.Memory) }
+    ensures { MatchResult result
+        (λ r. trees_of r ≡ stacked (place span) step (trees_of stack))
+        (λ e. e ≡ stopped.Memory) }
 {
     Ok(stack.put(alloc, step, span)?)
 }
@@ -84,8 +92,9 @@ fn put(alloc: Global, stack: FStack, step: FStep, span: Span) -> Result<FStack, 
 fn open_parts<'a>(tasks: &mut Vec<Task<'a>>, term: &'a RawTerm) -> Result<(), Unresolved>
     requires { HasParts (tree_of term.now) }
     ensures { MatchResult result
-        (λ u. (text : List ℕ) (v a : List Name) (ts : List Tm) →
-        Steps text (stand (Bind (tree_of term.now) ∷ todos tasks.old.items) v a ts) (stand (todos tasks.new.items) v a ts))
+        (λ u. (text : List ℕ) (v a : List Name) (ts : List Tm) → Steps text
+        (stand (Bind (tree_of term.now) ∷ todos tasks.old.items) v a ts)
+        (stand (todos tasks.new.items) v a ts))
         (λ e. e ≡ stopped.Memory) }
 {
     match term {
@@ -101,14 +110,8 @@ fn open_parts<'a>(tasks: &mut Vec<Task<'a>>, term: &'a RawTerm) -> Result<(), Un
         RawTerm::Tuple(span, parts) => {
             let step = FStep::Tuple(parts.len() as u64);
             let names = Leaves::Nothing;
-            push(
-                tasks,
-                Task::Form {
-                    span: *span,
-                    step,
-                    names,
-                },
-            )?;
+            let span = *span;
+            push(tasks, Task::Form { span, step, names })?;
             push(tasks, Task::Fields(parts))
         }
         RawTerm::If0(span, a, b, c) => {

@@ -14,10 +14,8 @@ use std::alloc::Global;
 
 // The levels of the type variables of one variable's type.
 fn levels_at(xs: &[Bound], l: u64, out: &mut Vec<u64>) -> Result<(), OutOfMemory>
-    ensures {
-        OnOk result
-            (out.new.items ≡ out.old.items ++ W.type_levels (W.bound_at (bounds xs.now) l).depth 0 (W.bound_at (bounds xs.now) l).type)
-    }
+    ensures { OnOk result
+        (out.new.items ≡ out.old.items ++ W.type_levels (W.bound_at (bounds xs.now) l).depth 0 (W.bound_at (bounds xs.now) l).type) }
 {
     if l < xs.len() as u64 {
         let x = &xs[l as usize];
@@ -44,8 +42,7 @@ fn cut(xs: &mut Vec<Bound>, level: u64)
 {
     if level < xs.len() as u64 {
         xs.truncate(level as usize);
-    } else {
-    }
+    } else {}
 }
 
 /// Binds the variable of a level.
@@ -58,7 +55,13 @@ pub fn bind(xs: &mut Vec<Bound>, level: u64, ty: KType, depth: u64) -> Result<()
 }
 
 /// Binds a code's arguments.
-pub fn bind_all(alloc: Global, xs: &mut Vec<Bound>, level: u64, args: &[KType], depth: u64) -> Result<(), OutOfMemory>
+pub fn bind_all(
+    alloc: Global,
+    xs: &mut Vec<Bound>,
+    level: u64,
+    args: &[KType],
+    depth: u64,
+) -> Result<(), OutOfMemory>
     ensures { OnOk result (bounds xs.new.items ≡ W.bind_all (bounds xs.old.items) level (ktys args.now) depth) }
 {
     let mut level = level;

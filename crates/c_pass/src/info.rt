@@ -37,7 +37,12 @@ pub fn side_of(
     let mut types = types.list;
     bound_levels(xs, kept, &mut types)?;
     let kept = known(types, depth, alloc)?;
-    Ok(Side { depth, owes, kept, calling: false })
+    Ok(Side {
+        depth,
+        owes,
+        kept,
+        calling: false,
+    })
 }
 
 // The type of an environment.
@@ -49,9 +54,7 @@ fn env(
     f: &Side,
     outside: bool,
 ) -> Result<CType, OutOfMemory>
-    ensures {
-        IfOk result (λ r. ctree r ≡ TCTuple (W.bound_types (var_of outside (side f.now)) depth (bounds xs.now) levels.now))
-    }
+    ensures { IfOk result (λ r. ctree r ≡ TCTuple (W.bound_types (var_of outside (side f.now)) depth (bounds xs.now) levels.now)) }
 {
     let made = types_at(alloc, xs, levels, depth, f, outside)?;
     Ok(CType::Tuple(made))
@@ -81,10 +84,8 @@ pub fn info_from(
     g: &Side,
 ) -> Result<Info, OutOfMemory>
     requires { ktree own_type.now ≡ TKCode owes (ktys args.now) }
-    ensures {
-        IfOk result
-            (λ r. info r ≡ info_parts depth owes (ktys args.now) kept.list.items own (bounds xs.now) (side f.now) (side g.now))
-    }
+    ensures { IfOk result
+        (λ r. info r ≡ info_parts depth owes (ktys args.now) kept.list.items own (bounds xs.now) (side f.now) (side g.now)) }
 {
     let hidden = env(alloc, xs, &kept.list, depth, f, false)?;
     let shape = closed(alloc, own_type, f, false, 0)?;
@@ -95,5 +96,16 @@ pub fn info_from(
     let first = env(alloc, xs, &kept.list, depth, g, true)?;
     let args = arguments(alloc, first, args, g)?;
     let owes = sum(owes, g.kept.list.len() as u64)?;
-    Ok(Info { kept, own, owes, args, apply, hidden, shape, apply_in, hidden_in, shape_in })
+    Ok(Info {
+        kept,
+        own,
+        owes,
+        args,
+        apply,
+        hidden,
+        shape,
+        apply_in,
+        hidden_in,
+        shape_in,
+    })
 }

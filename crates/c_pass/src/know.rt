@@ -46,16 +46,36 @@ fn call_types(alloc: Global, f: &Side, types: &[KType]) -> Result<Vec<CType>, Ou
 
 impl Know {
     // A code begins.
-    fn open(&mut self, alloc: Global, level: u64, depth: u64, owes: u64, args: &[KType], c: Clue) -> Result<(), OutOfMemory>
-        ensures {
-            OnOk result
-                ((rest : List KNd) → total self.new rest ≡ opened_total self.old level depth owes (ktys args.now) (clue c) rest)
-        }
+    fn open(
+        &mut self,
+        alloc: Global,
+        level: u64,
+        depth: u64,
+        owes: u64,
+        args: &[KType],
+        c: Clue,
+    ) -> Result<(), OutOfMemory>
+        ensures { OnOk result
+            ((rest : List KNd) → total self.new rest ≡ opened_total self.old level depth owes (ktys args.now) (clue c) rest) }
     {
         let Clue { kept, own, types } = c;
-        let own_type = KType::Code { owes, args: all_copied(alloc, args)? };
+        let own_type = KType::Code {
+            owes,
+            args: all_copied(alloc, args)?,
+        };
         let g = side_of(alloc, &self.bounds, types, &kept.list, depth, owes)?;
-        let known = info_from(alloc, depth, owes, args, &own_type, kept, own, &self.bounds, &self.side, &g)?;
+        let known = info_from(
+            alloc,
+            depth,
+            owes,
+            args,
+            &own_type,
+            kept,
+            own,
+            &self.bounds,
+            &self.side,
+            &g,
+        )?;
         self.infos.push_back(known)?;
         bind(&mut self.bounds, level, own_type, depth)?;
         let inside = sum(owes, depth)?;
@@ -77,12 +97,16 @@ impl Know {
     }
 
     // A package.
-    fn pack(&mut self, alloc: Global, level: u64, hidden: &KType, shape: &KType) -> Result<(), OutOfMemory>
-        ensures {
-            OnOk result
-                ((rest : List KNd) (depth : ℕ) →
-                 total self.new rest ≡ total self.old (NPack level depth (ktree hidden.now) (ktree shape.now) ∷ rest))
-        }
+    fn pack(
+        &mut self,
+        alloc: Global,
+        level: u64,
+        hidden: &KType,
+        shape: &KType,
+    ) -> Result<(), OutOfMemory>
+        ensures { OnOk result
+            ((rest : List KNd) (depth : ℕ) →
+            total self.new rest ≡ total self.old (NPack level depth (ktree hidden.now) (ktree shape.now) ∷ rest)) }
     {
         let types = Note::Packs {
             hidden: closed(alloc, hidden, &self.side, false, 0)?,
@@ -95,10 +119,8 @@ impl Know {
 
     // A package is opened.
     fn unpack(&mut self, alloc: Global, level: u64, ty: &KType) -> Result<(), OutOfMemory>
-        ensures {
-            OnOk result
-                ((rest : List KNd) (depth : ℕ) → total self.new rest ≡ total self.old (NUnpack level depth (ktree ty.now) ∷ rest))
-        }
+        ensures { OnOk result
+            ((rest : List KNd) (depth : ℕ) → total self.new rest ≡ total self.old (NUnpack level depth (ktree ty.now) ∷ rest)) }
     {
         self.side.owes = sum(self.side.owes, 1)?;
         bind_now(&mut self.bounds, &self.side, level, copied(alloc, ty)?)?;
@@ -109,7 +131,12 @@ impl Know {
         ensures { OnOk result ((rest : List KNd) → total self.new rest ≡ total self.old (knode node.now ∷ rest)) }
     {
         match node {
-            KNode::Code { level, depth, owes, args } => match self.clues.pop_front() {
+            KNode::Code {
+                level,
+                depth,
+                owes,
+                args,
+            } => match self.clues.pop_front() {
                 None => Ok(()),
                 Some(c) => Ok(self.open(alloc, *level, *depth, *owes, args, c)?),
             },
@@ -120,15 +147,50 @@ impl Know {
                     Ok(())
                 }
             },
-            KNode::Name { level, ty } => Ok(bind_now(&mut self.bounds, &self.side, *level, copied(alloc, ty)?)?),
-            KNode::Proj { level, ty, .. } => Ok(bind_now(&mut self.bounds, &self.side, *level, copied(alloc, ty)?)?),
-            KNode::Arith { level, .. } => Ok(bind_now(&mut self.bounds, &self.side, *level, KType::Int)?),
-            KNode::Pack { level, hidden, shape, .. } => Ok(self.pack(alloc, *level, hidden, shape)?),
+            KNode::Name { level, ty } => Ok(bind_now(
+                &mut self.bounds,
+                &self.side,
+                *level,
+                copied(alloc, ty)?,
+            )?),
+            KNode::Proj { level, ty, .. } => Ok(bind_now(
+                &mut self.bounds,
+                &self.side,
+                *level,
+                copied(alloc, ty)?,
+            )?),
+            KNode::Arith { level, .. } => Ok(bind_now(
+                &mut self.bounds,
+                &self.side,
+                *level,
+                KType::Int,
+            )?),
+            KNode::Pack {
+                level,
+                hidden,
+                shape,
+                ..
+            } => Ok(self.pack(alloc, *level, hidden, shape)?),
             KNode::Unpack { level, ty, .. } => Ok(self.unpack(alloc, *level, ty)?),
-            KNode::Cell { level, ty } => Ok(bind_now(&mut self.bounds, &self.side, *level, copied(alloc, ty)?)?),
-            KNode::Get { level, ty } => Ok(bind_now(&mut self.bounds, &self.side, *level, copied(alloc, ty)?)?),
+            KNode::Cell { level, ty } => Ok(bind_now(
+                &mut self.bounds,
+                &self.side,
+                *level,
+                copied(alloc, ty)?,
+            )?),
+            KNode::Get { level, ty } => Ok(bind_now(
+                &mut self.bounds,
+                &self.side,
+                *level,
+                copied(alloc, ty)?,
+            )?),
             KNode::Set { level } => {
-                Ok(bind_now(&mut self.bounds, &self.side, *level, KType::Tuple(Vec::new(alloc)))?)
+                Ok(bind_now(
+                    &mut self.bounds,
+                    &self.side,
+                    *level,
+                    KType::Tuple(Vec::new(alloc)),
+                )?)
             }
             KNode::Call { types, .. } => Ok(self.call(alloc, types)?),
             KNode::Else { depth } => {
@@ -145,7 +207,12 @@ impl Know {
 pub fn know(alloc: Global, nodes: &[KNode], clues: VecDeque<Clue>) -> Result<Know, OutOfMemory>
     ensures { IfOk result (λ r. total r [] ≡ W.know (map knode nodes.now) [] top_side [] (clues_of clues.items)) }
 {
-    let side = Side { depth: 0, owes: 0, kept: Levels::none(alloc), calling: false };
+    let side = Side {
+        depth: 0,
+        owes: 0,
+        kept: Levels::none(alloc),
+        calling: false,
+    };
     let mut walk = Know {
         bounds: Vec::new(alloc),
         side,

@@ -61,7 +61,14 @@ fn known(alloc: Global, nodes: &[KNode]) -> Result<(VecDeque<Info>, VecDeque<Not
     let types = tsweep(alloc, nodes)?;
     let clues = join(alloc, found, types)?;
     let walk = know(alloc, nodes, clues)?;
-    let Know { bounds: _, side: _, outer: _, clues: _, infos, notes } = walk;
+    let Know {
+        bounds: _,
+        side: _,
+        outer: _,
+        clues: _,
+        infos,
+        notes,
+    } = walk;
     Ok((infos, notes))
 }
 
@@ -94,21 +101,13 @@ pub fn close(alloc: Global, program: &KProgram) -> Result<CProgram, OutOfMemory>
     ensures same { IfOk result (λ r. C.term_of r ≡ close_of (K.term_of program.now)) }
     ensures rules { IfOk result (λ r. IsTranslation (K.term_of program.now) (C.term_of r)) }
     ensures types { IfOk result (λ r. ∥ CGood 0 [] (C.term_of r) ∥₁) }
-    ensures reach {
-        IfOk result
-            (λ r. (N R B : ℕ) → KGoodP (KWithin N R B) 0 [] (K.term_of program.now) →
-             CGoodP (CWithin (N + 1) (R + 4) (N + B + 1)) 0 [] (C.term_of r))
-    }
-    ensures bound {
-        IfOk result (λ r. (N R : ℕ) → KFits N R (K.term_of program.now) → CFits (10 * N + 1) (R + 4) (C.term_of r))
-    }
-    ensures halts {
-        IfOk result
-            (λ r. (n : ℕ) (i : ℤ) → (crun n (C.term_of r)).end ≡ Halted i ↔ (krun n (K.term_of program.now)).end ≡ Halted i)
-    }
-    ensures codes {
-        IfOk result (λ r. (n : ℕ) → (crun n (C.term_of r)).entered ≡ (krun n (K.term_of program.now)).entered)
-    }
+    ensures reach { IfOk result
+        (λ r. (N R B : ℕ) → KGoodP (KWithin N R B) 0 [] (K.term_of program.now) →
+        CGoodP (CWithin (N + 1) (R + 4) (N + B + 1)) 0 [] (C.term_of r)) }
+    ensures bound { IfOk result (λ r. (N R : ℕ) → KFits N R (K.term_of program.now) → CFits (10 * N + 1) (R + 4) (C.term_of r)) }
+    ensures halts { IfOk result
+        (λ r. (n : ℕ) (i : ℤ) → (crun n (C.term_of r)).end ≡ Halted i ↔ (krun n (K.term_of program.now)).end ≡ Halted i) }
+    ensures codes { IfOk result (λ r. (n : ℕ) → (crun n (C.term_of r)).entered ≡ (krun n (K.term_of program.now)).entered) }
 {
     within_is_typed_law();
     types_law();

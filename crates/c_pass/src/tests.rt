@@ -57,9 +57,18 @@ fn package(rt: HostRuntime) -> Result<(), Fail> {
     let shape = KType::Exists(Box::new(alloc, KType::Var(0))?);
     let mut nodes = Vec::new(alloc);
     nodes.push(KNode::Int(5))?;
-    nodes.push(KNode::Pack { level: 0, depth: 0, hidden: KType::Int, shape })?;
+    nodes.push(KNode::Pack {
+        level: 0,
+        depth: 0,
+        hidden: KType::Int,
+        shape,
+    })?;
     nodes.push(KNode::Var(0))?;
-    nodes.push(KNode::Unpack { level: 1, depth: 0, ty: KType::Var(0) })?;
+    nodes.push(KNode::Unpack {
+        level: 1,
+        depth: 0,
+        ty: KType::Var(0),
+    })?;
     nodes.push(KNode::Int(0))?;
     nodes.push(KNode::Halt)?;
     assert!(rt; becomes(alloc, &nodes, "5 pack =0 v0 open=1 0 ! ")?);
@@ -78,7 +87,10 @@ fn cell(rt: HostRuntime) -> Result<(), Fail> {
     nodes.push(KNode::Int(7))?;
     nodes.push(KNode::Set { level: 1 })?;
     nodes.push(KNode::Var(0))?;
-    nodes.push(KNode::Get { level: 2, ty: KType::Int })?;
+    nodes.push(KNode::Get {
+        level: 2,
+        ty: KType::Int,
+    })?;
     nodes.push(KNode::Var(2))?;
     nodes.push(KNode::Halt)?;
     assert!(rt; becomes(alloc, &nodes, "5 cell=0 v0 7 set=1 v0 get=2 v2 ! ")?);
@@ -91,17 +103,36 @@ fn free_variables(rt: HostRuntime) -> Result<(), Fail> {
     let alloc = rt.alloc();
     let mut nodes = Vec::new(alloc);
     nodes.push(KNode::Int(1))?;
-    nodes.push(KNode::Name { level: 0, ty: KType::Int })?;
+    nodes.push(KNode::Name {
+        level: 0,
+        ty: KType::Int,
+    })?;
     nodes.push(KNode::Int(2))?;
-    nodes.push(KNode::Name { level: 1, ty: KType::Int })?;
-    nodes.push(KNode::Code { level: 2, depth: 0, owes: 0, args: ints(alloc, 1)? })?;
+    nodes.push(KNode::Name {
+        level: 1,
+        ty: KType::Int,
+    })?;
+    nodes.push(KNode::Code {
+        level: 2,
+        depth: 0,
+        owes: 0,
+        args: ints(alloc, 1)?,
+    })?;
     nodes.push(KNode::Var(0))?;
     nodes.push(KNode::Var(1))?;
-    nodes.push(KNode::Arith { level: 4, op: Op::Sub })?;
+    nodes.push(KNode::Arith {
+        level: 4,
+        op: Op::Sub,
+    })?;
     nodes.push(KNode::Var(4))?;
     nodes.push(KNode::Halt)?;
     nodes.push(KNode::End)?;
-    nodes.push(KNode::Call { level: 2, depth: 0, types: ints(alloc, 0)?, count: 1 })?;
+    nodes.push(KNode::Call {
+        level: 2,
+        depth: 0,
+        types: ints(alloc, 0)?,
+        count: 1,
+    })?;
     nodes.push(KNode::Int(7))?;
     let code = "1 =0 2 =1 code0/2 v1 #1=3 v1 #2=4 v3 v4 op=5 v5 ! end @0 v0 v1 <2 <2 pack ";
     let call = "open=2 v2 #1=3 v2 #2=4 v3 call0/2 v4 7 ";
@@ -114,14 +145,30 @@ fn free_variables(rt: HostRuntime) -> Result<(), Fail> {
 fn calls_itself(rt: HostRuntime) -> Result<(), Fail> {
     let alloc = rt.alloc();
     let mut nodes = Vec::new(alloc);
-    nodes.push(KNode::Code { level: 0, depth: 0, owes: 0, args: ints(alloc, 1)? })?;
+    nodes.push(KNode::Code {
+        level: 0,
+        depth: 0,
+        owes: 0,
+        args: ints(alloc, 1)?,
+    })?;
     nodes.push(KNode::Var(0))?;
-    nodes.push(KNode::Call { level: 2, depth: 0, types: ints(alloc, 0)?, count: 1 })?;
+    nodes.push(KNode::Call {
+        level: 2,
+        depth: 0,
+        types: ints(alloc, 0)?,
+        count: 1,
+    })?;
     nodes.push(KNode::Var(1))?;
     nodes.push(KNode::End)?;
-    nodes.push(KNode::Call { level: 0, depth: 0, types: ints(alloc, 0)?, count: 1 })?;
+    nodes.push(KNode::Call {
+        level: 0,
+        depth: 0,
+        types: ints(alloc, 0)?,
+        count: 1,
+    })?;
     nodes.push(KNode::Int(3))?;
-    let code = "code0/2 v0 @0 v1 <2 pack =3 v3 open=4 v4 #1=5 v4 #2=6 v5 call0/2 v6 v2 end @0 <0 <2 pack ";
+    let code =
+        "code0/2 v0 @0 v1 <2 pack =3 v3 open=4 v4 #1=5 v4 #2=6 v5 call0/2 v6 v2 end @0 <0 <2 pack ";
     let call = "open=0 v0 #1=1 v0 #2=2 v1 call0/2 v2 3 ";
     assert!(rt; becomes(alloc, &nodes, &format!(in alloc; "{code}{call}")?)?);
     Ok(())
@@ -136,19 +183,41 @@ fn free_type_variable(rt: HostRuntime) -> Result<(), Fail> {
     let mut inner = Vec::new(alloc);
     inner.push(KType::Var(0))?;
     let mut nodes = Vec::new(alloc);
-    nodes.push(KNode::Code { level: 0, depth: 0, owes: 1, args: outer })?;
-    nodes.push(KNode::Code { level: 2, depth: 1, owes: 0, args: inner })?;
+    nodes.push(KNode::Code {
+        level: 0,
+        depth: 0,
+        owes: 1,
+        args: outer,
+    })?;
+    nodes.push(KNode::Code {
+        level: 2,
+        depth: 1,
+        owes: 0,
+        args: inner,
+    })?;
     nodes.push(KNode::Int(0))?;
     nodes.push(KNode::Halt)?;
     nodes.push(KNode::End)?;
-    nodes.push(KNode::Name { level: 2, ty: KType::Int })?;
+    nodes.push(KNode::Name {
+        level: 2,
+        ty: KType::Int,
+    })?;
     nodes.push(KNode::Int(0))?;
     nodes.push(KNode::Halt)?;
     nodes.push(KNode::End)?;
-    nodes.push(KNode::Name { level: 0, ty: KType::Int })?;
+    nodes.push(KNode::Name {
+        level: 0,
+        ty: KType::Int,
+    })?;
     nodes.push(KNode::Int(0))?;
     nodes.push(KNode::Halt)?;
     let inside = "code1/2 code1/2 0 ! end @1 <0 <2 pack =3 0 ! end ";
-    assert!(rt; becomes(alloc, &nodes, &format!(in alloc; "{inside}@0 <0 <2 pack =0 0 ! ")?)?);
+    assert!(rt;
+        becomes(
+            alloc,
+            &nodes,
+            &format!(in alloc; "{inside}@0 <0 <2 pack =0 0 ! ")?
+        )?
+    );
     Ok(())
 }

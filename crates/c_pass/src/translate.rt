@@ -18,7 +18,13 @@ use k_terms::KType;
 use std::alloc::Global;
 
 /// A type, its type variables where `f` says, from inside its code or from outside it.
-pub fn closed(alloc: Global, t: &KType, f: &Side, outside: bool, raise: u64) -> Result<CType, OutOfMemory>
+pub fn closed(
+    alloc: Global,
+    t: &KType,
+    f: &Side,
+    outside: bool,
+    raise: u64,
+) -> Result<CType, OutOfMemory>
     ensures { IfOk result (λ r. ctree r ≡ L.ctype (λ i. var_of outside (side f.now) (lift raise i)) (ktree t.now)) }
 {
     if outside {
@@ -31,10 +37,15 @@ pub fn closed(alloc: Global, t: &KType, f: &Side, outside: bool, raise: u64) -> 
 }
 
 // The type of the variable of a level, translated.
-fn type_at(alloc: Global, xs: &[Bound], l: u64, depth: u64, f: &Side, outside: bool) -> Result<CType, OutOfMemory>
-    ensures {
-        IfOk result (λ r. ctree r ≡ W.bound_type (var_of outside (side f.now)) depth (W.bound_at (bounds xs.now) l))
-    }
+fn type_at(
+    alloc: Global,
+    xs: &[Bound],
+    l: u64,
+    depth: u64,
+    f: &Side,
+    outside: bool,
+) -> Result<CType, OutOfMemory>
+    ensures { IfOk result (λ r. ctree r ≡ W.bound_type (var_of outside (side f.now)) depth (W.bound_at (bounds xs.now) l)) }
 {
     if l < xs.len() as u64 {
         let x = &xs[l as usize];
@@ -77,7 +88,13 @@ fn var(f: &Side, outside: bool, i: u64) -> Result<u64, OutOfMemory>
 }
 
 /// Type variables by their levels.
-pub fn variables(alloc: Global, levels: &[u64], depth: u64, f: &Side, outside: bool) -> Result<Vec<CType>, OutOfMemory>
+pub fn variables(
+    alloc: Global,
+    levels: &[u64],
+    depth: u64,
+    f: &Side,
+    outside: bool,
+) -> Result<Vec<CType>, OutOfMemory>
     ensures { IfOk result (λ r. ctys r.items ≡ W.variables (var_of outside (side f.now)) depth levels.now) }
 {
     let mut made = Vec::new(alloc);

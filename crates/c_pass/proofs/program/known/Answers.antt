@@ -11,12 +11,12 @@ pub returns-clause-infos : goal.returns-clause-infos
 returns-clause-infos c =
     let ns = map knode c.args.nodes.now in
     let all : total c.in_ok-walk.walk [] ≡ all_known ns =
-      c.in_ok-walk.ensures ∙ ap (λ (cs : List W.Clue). W.know ns [] top_side [] cs) (c.in_ok-clues.ensures ∙ ap₂ T.zipped c.in_ok-found.ensures c.in_ok-types.ensures) in
+    c.in_ok-walk.ensures ∙ ap (λ (cs : List W.Clue). W.know ns [] top_side [] cs) (c.in_ok-clues.ensures ∙ ap₂ T.zipped c.in_ok-found.ensures c.in_ok-types.ensures) in
     sym (infos_all c.in_ok-walk.walk.infos.items) ∙ ap (λ k. k.infos) all
 
 pub returns-clause-notes : goal.returns-clause-notes
 returns-clause-notes c =
     let ns = map knode c.args.nodes.now in
     let all : total c.in_ok-walk.walk [] ≡ all_known ns =
-      c.in_ok-walk.ensures ∙ ap (λ (cs : List W.Clue). W.know ns [] top_side [] cs) (c.in_ok-clues.ensures ∙ ap₂ T.zipped c.in_ok-found.ensures c.in_ok-types.ensures) in
+    c.in_ok-walk.ensures ∙ ap (λ (cs : List W.Clue). W.know ns [] top_side [] cs) (c.in_ok-clues.ensures ∙ ap₂ T.zipped c.in_ok-found.ensures c.in_ok-types.ensures) in
     sym (notes_all c.in_ok-walk.walk.notes.items) ∙ ap (λ k. k.notes) all

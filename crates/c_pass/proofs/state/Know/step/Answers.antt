@@ -25,5 +25,5 @@ returns-in_ok-bind_now-in-Set c = λ rest.
     let fs = sides w.outer.items in
     let cs = clues_of w.clues.items in
     ap (λ (zs : List W.Bound). known (infos_onto w.infos.items (W.know rest zs f fs cs).infos) (notes_onto w.notes.items (W.know rest zs f fs cs).notes))
-      (c.in_ok-bind_now-in-Set.ensures ∙ ap (λ t. W.bind (bounds w.bounds.items) c.in-Set.level t (W.side_depth f)) (k_tuple c.new.result ∙ ap (λ (ts : List KType). TKTuple (ktys ts)) c.new.ensures.items))
+    (c.in_ok-bind_now-in-Set.ensures ∙ ap (λ t. W.bind (bounds w.bounds.items) c.in-Set.level t (W.side_depth f)) (k_tuple c.new.result ∙ ap (λ (ts : List KType). TKTuple (ktys ts)) c.new.ensures.items))
     ∙ ap (λ n. total w (knode n ∷ rest)) (sym c.in-Set.is)

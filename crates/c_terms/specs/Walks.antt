@@ -35,9 +35,18 @@ abbrev mutual
 abbrev pub shift : ℕ → ℕ → CTy → CTy
 shift k c = over (shifted TCVar k) c
 
--- s stands for the free index c, and each free index above it is lowered by 1
+abbrev pub shift_all : ℕ → ℕ → CTys → CTys
+shift_all k c = over_all (shifted TCVar k) c
+
+-- s stands for the index that is c at the root, in a walk that stands at depth d, and each free index above it is lowered by 1
+abbrev pub put_from : ℕ → CTy → ℕ → CTy → CTy
+put_from c s d = over (putted TCVar over c s) d
+
+abbrev pub put_all_from : ℕ → CTy → ℕ → CTys → CTys
+put_all_from c s d = over_all (putted TCVar over c s) d
+
 abbrev pub put : ℕ → CTy → CTy → CTy
-put c s = over (putted TCVar over c s) c
+put c s = put_from c s c
 
 -- the sums that a shift, and a put, forms are numbers of 64 bits
 abbrev pub ShiftFits : ℕ → ℕ → CTy → Type 0
@@ -49,3 +58,6 @@ PutFits c s d = each (PutFitsAt each c s) IsWord d
 -- each free index is less than n
 abbrev pub Below : ℕ → CTy → Type 0
 Below n = each BelowAt AnyDepth n
+
+abbrev pub BelowAll : ℕ → CTys → Type 0
+BelowAll n = each_all BelowAt AnyDepth n

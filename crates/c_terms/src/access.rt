@@ -4,17 +4,18 @@ ghost use Rattle.c_terms.specs.C.{CTm};
 ghost use Rattle.c_terms.specs.Bound.{CBound};
 ghost use Rattle.c_terms.specs.Stream.{clin_t};
 ghost use Rattle.c_terms.specs.Read.{written};
-ghost use Rattle.c_terms.specs.Program.{CHolds, IsC};
+ghost use Rattle.c_terms.specs.Scope.{CScoped};
+ghost use Rattle.c_terms.specs.Program.{IsC};
 ghost use Rattle.c_terms.specs.Term.{term_of};
 
 use crate::node::CNode;
 use crate::program::CProgram;
 
 impl CProgram {
-    /// The program of these nodes.
+    /// The program of these nodes, which are those of one term in scope alone.
     pub fn new(nodes: Vec<CNode>) -> CProgram
         requires { IsC nodes.items }
-        ensures { (t : CTm) → CHolds nodes.items t → term_of result ≡ t }
+        ensures { (t : CTm) → CScoped 0 t → written nodes.items [] ≡ clin_t 0 t [] → term_of result ≡ t }
     {
         CProgram { nodes }
     }

@@ -6,6 +6,7 @@ pub mod laws;
 pub mod node;
 pub mod program;
 pub mod types;
+mod walks;
 
 pub use node::CNode;
 pub use program::CProgram;

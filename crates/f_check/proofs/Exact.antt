@@ -1,5 +1,5 @@
 -- A verdict is exact: by the laws of typing, no other type and no other first fault is there.
-use Rattle.std.proofs.Common.{◌≡◌, ◌≢◌, ℕ, ap, ap₂, refl}
+use Rattle.std.proofs.Common.{◌≡◌, ◌≢◌, ap, ap₂, refl}
 use Rattle.f_terms.specs.Ty.{Ty, NoTys}
 use Rattle.f_terms.specs.Tm.{Spn, Tm, plain}
 use Rattle.f_terms.specs.Faults.{Passes, Fault}

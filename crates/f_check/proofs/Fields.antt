@@ -1,5 +1,5 @@
 -- The field of a tuple.
-use Rattle.std.proofs.Common.{◌≡◌, ◌≢◌, ◌+◌, ◌-◌, ◌<◌, ◌≤◌, ℕ, zero, suc, max, List, [], ◌∷◌, map, refl, ap, ◌∙◌, sym, subst, length, get_or, arith, inl, inr, Option, Some, None}
+use Rattle.std.proofs.Common.{◌≡◌, ◌≢◌, ◌-◌, ◌<◌, ◌≤◌, ℕ, zero, suc, List, [], ◌∷◌, map, refl, ap, ◌∙◌, sym, subst, length, get_or, arith, inr, Some, None}
 use Rattle.idx_core.specs.Over.{BelowAt, AnyDepth}
 use Rattle.f_terms.specs.Ty.{Ty, TInt, TVar, TArrow, TAll, TTuple, Tys, NoTys, MoreTys, tys, Below, each_all, size, sizes, depth, depths}
 use Rattle.f_terms.specs.Read.{tree}

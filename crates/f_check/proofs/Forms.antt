@@ -1,41 +1,18 @@
 -- The verdict on each form, from those on its parts.
 use Rattle.std.proofs.Common.{◌≡◌, ◌≢◌, ◌∙◌, ◌+◌, ◌-◌, ◌≤◌, ℕ, Result, Ok, Err, min, ap, ap₂, sym, refl, subst, arith, inl, inr}
-use Rattle.idx_core.specs.Laws as laws
-use Rattle.f_terms.specs.TyLaws.{types_part, types_over, put_bound, shift_none}
-use Rattle.f_terms.specs.Ty.{Ty, TInt, TVar, TArrow, TAll, TTuple, Tys, MoreTys, shift, put, Below, size, depth}
+use Rattle.f_terms.specs.TyLaws.{put_bound, shift_none}
+use Rattle.f_terms.specs.Ty.{Ty, TInt, TVar, TArrow, TAll, TTuple, Tys, shift, put, Below, size, depth}
 use Rattle.f_terms.specs.Tm.{Spn, Tm, SFix, SApp, SGen, SInst, SArith, SIf0, span_of}
-use Rattle.f_terms.specs.Limits.{Within, Shallow, Small}
+use Rattle.f_terms.specs.Limits.{Within}
 use Rattle.f_terms.specs.Typing.{raised, in_fix}
 use Rattle.f_terms.specs.Faults.{Passes, Refusal, Fault, check, part, refuse, nothing, limits, if_arrow, if_all}
-use Rattle.f_terms.specs.Read.{tree, place, form_tree, spanned}
+use Rattle.f_terms.specs.Read.{tree, place}
 use Rattle.f_terms.specs.declared.types.FType.{FType}
-use Rattle.f_terms.specs.declared.term.FTerm.{FTerm}
-use Rattle.f_terms.specs.declared.term.FForm.{FForm}
-use Rattle.f_terms.specs.declared.term.FForm.TheVariants as V
 use Rattle.f_terms.specs.declared.fault.FFault.{FFault}
 use Rattle.f_terms.specs.declared.fault.FFault.TheVariants.{Memory, Refused}
 use Rattle.f_terms.specs.declared.fault.Code.{Code}
 use Rattle.f_terms.specs.declared.fault.Code.TheVariants.{E07, E08, E09, E12, E13, E14, L4, L5}
-use Rattle.f_check.specs.declared.scope.Scope.{Scope}
-use Rattle.f_check.specs.declared.scope.Scope.TheVariants.{Empty, Body'}
-use Rattle.f_check.specs.Scopes.{names, IsScope}
 use Rattle.f_check.specs.Verdict.{Says, IsTypeOf, IsVerdict, IsPut}
-
-span_is : (s : Spn) (f : FForm) → span_of (form_tree s f) ≡ s
-span_is s (V.Var i) = refl
-span_is s (V.Int n) = refl
-span_is s (V.Fix' arg res p sb body) = refl
-span_is s (V.App' p sf f q sx x) = refl
-span_is s (V.Gen' p sb body) = refl
-span_is s (V.Inst' p se e t) = refl
-span_is s (V.Tuple' n row) = refl
-span_is s (V.Proj' i p se e) = refl
-span_is s (V.Arith' op p sa a q sb b) = refl
-span_is s (V.If0' p sc c q sa a r sb b) = refl
-
--- the place of a term of the code
-pub span_at : (t : FTerm) → span_of (spanned t) ≡ place t.span
-span_at t = span_is (place t.span) t.form
 
 -- a fault of a part is one of the whole
 pub says_map : (f : FFault) (F G : Refusal) → ((c : Code) (p : Spn) → F c p → G c p) → Says f F → Says f G
@@ -57,20 +34,6 @@ pub limits_then : (t : Ty) (s : Spn) (rest : Refusal) (c : Code) (p : Spn) → l
 limits_then t s rest c p (inl h) = inl h
 limits_then t s rest c p (inr (e, inl k)) = inr (e, inl k)
 limits_then t s rest c p (inr (e, inr k)) = absurd k.1
-
--- one more type name around
-pub raised_names : (n : ℕ) (scope : Scope) → IsScope n scope → raised (names n scope) ≡ names (n + 1) scope
-raised_names n Empty ok = refl
-raised_names n (Body' arg res k p outer) ok =
-    let le = ok.0 in
-    let e : (n - k) + 1 ≡ n + 1 - k = omega (arith, le) in
-    let up = λ (t : Ty). laws.shift_add_law types_part types_over (n - k) 1 0 t ∙ ap (λ m. shift m 0 t) e in
-    ap₂ (λ (a : Ty) (r : Ty). in_fix a r (raised (names n outer))) (up (tree arg.now)) (up (tree res.now))
-    ∙ ap (in_fix (shift (n + 1 - k) 0 (tree arg.now)) (shift (n + 1 - k) 0 (tree res.now))) (raised_names n outer ok.4)
-
-pub scope_more : (n : ℕ) (scope : Scope) → IsScope n scope → IsScope (n + 1) scope
-scope_more n Empty ok = tt
-scope_more n (Body' arg res k p outer) ok = let le = ok.0 in (omega (arith, le), ok.1, ok.2, ok.3, scope_more n outer ok.4)
 
 -- the context of a body
 pub body_names : (n : ℕ) (a r : Ty) (g : Tys) → in_fix (shift (n - n) 0 a) (shift (n - n) 0 r) g ≡ in_fix a r g

@@ -1,5 +1,5 @@
 -- The counts before a put are those of the type after it.
-use Rattle.std.proofs.Common.{zero, suc, List, [], ◌∷◌, ◌++◌, map, take, length, get_or, sum_by, ◌≡◌, ℕ, ◌+◌, ◌-◌, ◌<◌, ◌≤◌, ◌==◌, ◌⊎◌, inl, inr, if◌then◌else◌, Bool, true, false, refl, ap, sym, ◌∙◌, arith, max, min, eq-eqb}
+use Rattle.std.proofs.Common.{zero, suc, List, [], ◌∷◌, ◌++◌, map, take, length, get_or, sum_by, ◌≡◌, ℕ, ◌+◌, ◌-◌, ◌<◌, ◌≤◌, ◌⊎◌, inl, inr, if◌then◌else◌, Bool, refl, ap, sym, ◌∙◌, arith, max, eq-eqb}
 use Rattle.std.proofs.lemmas.List.{map_more}
 use Rattle.std.proofs.lemmas.List.Sums.{sum_by-cons}
 use Rattle.std.proofs.lemmas.Bool.{cases_order, ne_eqb}

@@ -1,6 +1,6 @@
 -- What a checked term holds.
 use Rattle.f_terms.specs.declared.types.FType.{FType}
-use Rattle.f_terms.specs.declared.term.FTerm.{FTerm}
+use Rattle.f_terms.specs.declared.node.FTerm.{FTerm}
 use Rattle.f_check.specs.declared.typed.Typed.{Typed}
 use Rattle.f_check.specs.declared.typed.Program.{Program}
 

@@ -6,17 +6,48 @@ ghost use Rattle.f_terms.specs.Limits.{nodes};
 ghost use Rattle.f_terms.specs.Scope.{IsClosed};
 ghost use Rattle.f_terms.specs.Faults.{Fault};
 ghost use Rattle.f_terms.specs.Accepted.{IsAccepted};
-ghost use Rattle.f_terms.specs.Read.{tree, term_of, spanned, place};
+ghost use Rattle.f_terms.specs.Read.{tree, place};
 ghost use Rattle.f_terms.specs.declared.fault.Code as codes;
 ghost use Rattle.f_terms.specs.declared.fault.FFault.TheVariants as fault;
+ghost use Rattle.f_terms.specs.ReadTerm.{term_of, spanned};
 ghost use Rattle.f_check.specs.Typed.{typed_term, typed_type};
-ghost use Rattle.f_check.specs.Verdict.{Says};
+ghost use Rattle.f_check.specs.Verdict.{Says, IsVerdict};
 
-use crate::rules::type_of;
-use crate::scope::Scope;
+use crate::begin::begin;
+use crate::frame::{Control, State};
+use crate::resume::resume;
 use crate::typed::Typed;
-use f_terms::{FFault, FTerm, no_fault_beside_a_pass, one_fault, one_type, passes_where_typed};
+use f_terms::{
+    FFault, FTerm, FType, no_fault_beside_a_pass, one_fault, one_type, passes_where_typed,
+};
 use std::alloc::Global;
+
+// The type of a closed term, or its first fault: by a loop, in two steps for each node.
+fn type_of(alloc: Global, term: &FTerm) -> Result<FType, FFault>
+    requires closed { IsClosed (term_of term.now) }
+    requires nodes { nodes (term_of term.now) ≤ 4294967295 }
+    ensures { IsVerdict (spanned term.now) 0 NoTys result }
+{
+    let mut state = State {
+        frames: Vec::new(alloc),
+        scope: Vec::new(alloc),
+        around: 0,
+    };
+    let mut control = Control::Run(term.count() - 1);
+    loop {
+        match control {
+            Control::Run(i) => {
+                control = begin(alloc, term, &mut state, i)?;
+            }
+            Control::Give { ty, span } => match state.frames.pop() {
+                Some(frame) => {
+                    control = resume(alloc, term, &mut state, frame, ty, span)?;
+                }
+                None => return Ok(ty),
+            },
+        }
+    }
+}
 
 /// The type of a closed term by the typing rules of the source, where the type of each of its parts keeps the limits
 /// on types (own choice); else the first fault in checking order, E07 to E14, L4 or L5, with the term handed back.
@@ -31,7 +62,7 @@ pub fn check(alloc: Global, term: FTerm) -> Result<Typed, (FTerm, FFault)>
     no_fault_beside_a_pass();
     one_fault();
     one_type();
-    match type_of(alloc, &term, &Scope::Empty, 0) {
+    match type_of(alloc, &term) {
         Ok(ty) => Ok(Typed { term, ty }),
         Err(e) => Err((term, e)),
     }

@@ -1,65 +1,42 @@
 // What is bound around a term.
-ghost use Rattle.std.specs.Prelude.{◌≡◌, ◌<◌, ◌≤◌, ◌-◌, IfOk, Some};
-ghost use Rattle.f_terms.specs.Ty.{TArrow, shift, ShiftFits, Below};
+ghost use Rattle.std.specs.Prelude.{◌≡◌, ◌<◌, ◌≤◌, ◌*◌, IfOk, Some, length, map};
+ghost use Rattle.f_terms.specs.Ty.{NoTys, TArrow, shift, ShiftFits, Below};
 ghost use Rattle.f_terms.specs.Limits.{Within};
 ghost use Rattle.f_terms.specs.Typing.{ty_at};
 ghost use Rattle.f_terms.specs.Read.{tree};
-ghost use Rattle.f_check.specs.Scopes.{names, count, IsScope};
+ghost use Rattle.f_check.specs.Scopes.{bound, names, IsScope};
 
 use f_terms::FType;
 use idx_core::{OutOfMemory, Scoped};
 use std::alloc::Global;
 
-/// The functions around a term, innermost first. Each binds its argument and, outside it, itself: its types as they
-/// are written, under the type names that were around it then.
+/// A function around a term. It binds its argument and, outside it, itself: its types as they are written, under the
+/// type names that were around it then.
 #[derive(Clone, Copy)]
-pub(crate) enum Scope<'a> {
-    Empty,
-    Body {
-        arg: &'a FType,
-        res: &'a FType,
-        around: u64,
-        outer: &'a Scope<'a>,
-    },
+pub(crate) struct Binder<'a> {
+    pub arg: &'a FType,
+    pub res: &'a FType,
+    pub around: u64,
 }
 
-// The type of a value name, as it stands under `around` type names.
+// The type of a value name, as it stands under `around` type names. The innermost function is the last one.
 pub(crate) fn find(
     alloc: Global,
-    scope: &Scope,
+    scope: &[Binder],
     name: u64,
     around: u64,
 ) -> Result<FType, OutOfMemory>
-    requires scope { IsScope around scope.now }
+    requires scope { IsScope around (map bound scope.now) }
     requires room { around ≤ 4294967296 }
-    requires known { name < count scope.now }
-    ensures { IfOk result (λ r. (ty_at (names around scope.now) name ≡ Some (tree r)) × Below around (tree r) × Within (tree r)) }
+    requires known { name < 2 * length scope.now }
+    ensures { IfOk result (λ r. (ty_at (names around NoTys (map bound scope.now)) name ≡ Some (tree r)) × Below around (tree r) × Within (tree r)) }
 {
-    let mut at = scope;
-    let mut left = name;
-    while left > 1 {
-        match at {
-            Scope::Empty => unreachable!(),
-            Scope::Body { outer, .. } => {
-                at = outer;
-                left -= 2;
-            }
-        }
-    }
-    match at {
-        Scope::Empty => unreachable!(),
-        Scope::Body {
-            arg,
-            res,
-            around: bound,
-            ..
-        } => {
-            if left == 0 {
-                arg.shift(alloc, around - *bound, 0)
-            } else {
-                shift_arrow(alloc, arg, res, around - *bound)
-            }
-        }
+    let binder = &scope[scope.len() - 1 - (name / 2) as usize];
+    let by = around - binder.around;
+    if name % 2 == 0 {
+        binder.arg.shift(alloc, by, 0)
+    } else {
+        shift_arrow(alloc, binder.arg, binder.res, by)
     }
 }
 

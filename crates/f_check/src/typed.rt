@@ -5,7 +5,8 @@ ghost use Rattle.f_terms.specs.Limits.{nodes};
 ghost use Rattle.f_terms.specs.Scope.{IsClosed};
 ghost use Rattle.f_terms.specs.Accepted.{IsAccepted};
 ghost use Rattle.f_terms.specs.Props.{accepted_prop, below_prop};
-ghost use Rattle.f_terms.specs.Read.{tree, term_of};
+ghost use Rattle.f_terms.specs.Read.{tree};
+ghost use Rattle.f_terms.specs.ReadTerm.{term_of};
 ghost use Rattle.f_check.specs.Props.{closed_prop};
 
 use f_terms::{FTerm, FType};
@@ -34,6 +35,9 @@ pub struct Program {
 
 impl Typed {
     ghost use Rattle.std.specs.Prelude.{◌≡◌, ◌≢◌, MatchResult};
+    ghost use Rattle.f_terms.specs.Tm.{span_of};
+    ghost use Rattle.f_terms.specs.Read.{place};
+    ghost use Rattle.f_terms.specs.ReadTerm.{spanned};
     ghost use Rattle.f_check.specs.Typed.{typed_term, typed_type, program_term};
 
     /// The term.
@@ -52,12 +56,12 @@ impl Typed {
 
     /// The term as a program: refused where its type is not `int`, with the place of the term.
     pub fn program(self) -> Result<Program, (Typed, Span)>
-        ensures { MatchResult result (λ p. (program_term p ≡ typed_term self) × (tree (typed_type self) ≡ TInt)) (λ r. (r.0 ≡ self) × (r.1 ≡ (typed_term self).span) × (tree (typed_type self) ≢ TInt)) }
+        ensures { MatchResult result (λ p. (program_term p ≡ typed_term self) × (tree (typed_type self) ≡ TInt)) (λ r. (r.0 ≡ self) × (place r.1 ≡ span_of (spanned (typed_term self))) × (tree (typed_type self) ≢ TInt)) }
     {
         match self.ty {
             FType::Int => Ok(Program { term: self.term }),
             _ => {
-                let span = self.term.span;
+                let span = self.term.node(self.term.count() - 1).span;
                 Err((self, span))
             }
         }

@@ -1,12 +1,13 @@
-pub mod Admits
 mod Closing
 mod FaultRows
 pub mod Faulty
 pub mod Limited
+pub mod Making
+pub mod Parts
 pub mod Refusals
 mod Rows
+pub mod Shapes
 mod Sound
-pub mod Terms
 mod TextRows
 mod Texts
 pub mod Trees

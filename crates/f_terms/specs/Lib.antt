@@ -3,10 +3,14 @@ pub mod Eval
 pub mod Faults
 pub mod Laws
 pub mod Limits
+pub mod Made
+pub mod Noted
 pub mod OneType
 pub mod Props
 pub mod Read
+pub mod ReadTerm
 pub mod Scope
+pub mod Shape
 pub mod Text
 pub mod Tm
 pub mod Ty

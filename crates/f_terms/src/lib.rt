@@ -4,6 +4,8 @@
 pub mod count;
 pub mod fault;
 pub mod laws;
+pub mod make;
+pub mod node;
 pub mod shift;
 pub mod term;
 #[cfg(test)]
@@ -18,6 +20,6 @@ pub use laws::{
     no_fault_beside_a_pass, one_answer, one_fault, one_type, passes_where_typed,
     programs_are_never_stuck, puts_exchange,
 };
-pub use term::{FForm, FTerm};
+pub use node::{FNode, FParts, FShape, FTerm};
 pub use text::type_text;
 pub use types::FType;

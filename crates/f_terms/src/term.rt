@@ -1,33 +1,30 @@
-// Terms of the source.
+// The nodes of a term, read.
+ghost use Rattle.std.specs.Prelude.{◌≡◌, ◌<◌};
+ghost use Rattle.std.specs.List.{All};
+ghost use Rattle.f_terms.specs.Shape.{kids, node_tree};
+ghost use Rattle.f_terms.specs.ReadTerm.{count, node_at, term_of};
+ghost use Rattle.f_terms.specs.Limits.{nodes};
 
-use crate::types::FType;
-use idx_core::{Op, Span};
+use crate::node::{FNode, FTerm};
 
-/// A term of the source calculus and its place in the text. Equality of terms leaves the places aside.
-#[derive(Drop)]
-#[cycle(terms)]
-pub struct FTerm {
-    pub span: Span,
-    pub form: FForm,
-}
+impl FTerm {
+    /// The number of nodes.
+    #[tactic(auto)]
+    pub fn count(&self) -> u64
+        ensures number { result ≡ count self.now }
+        ensures some { 0 < result }
+        ensures nodes { result ≡ nodes (term_of self.now) }
+    {
+        self.nodes.len() as u64
+    }
 
-/// The forms of a term. Value names and type names are numbers, counted apart: 0 is the innermost binder.
-/// In the body of `Fix`, value 0 is the argument and value 1 is the function itself. Fields count from 1.
-#[derive(Drop)]
-#[cycle(terms)]
-pub enum FForm {
-    Var(u64),
-    Int(i64),
-    Fix {
-        arg: FType,
-        res: FType,
-        body: Box<FTerm>,
-    },
-    App(Box<FTerm>, Box<FTerm>),
-    Gen(Box<FTerm>),
-    Inst(Box<FTerm>, FType),
-    Tuple(Vec<FTerm>),
-    Proj(u64, Box<FTerm>),
-    Arith(Op, Box<FTerm>, Box<FTerm>),
-    If0(Box<FTerm>, Box<FTerm>, Box<FTerm>),
+    /// Node i. Its children stand before it, and the last node is the root.
+    #[tactic(auto, using(arena::proofs::Nodes::part_at, crate::proofs::Shapes::local))]
+    pub fn node(&self, i: u64) -> &FNode
+        requires { i < count self.now }
+        ensures tree { node_at self.now i ≡ node_tree (node_at self.now) result.now }
+        ensures before { All (λ k. k < i) (kids result.now) }
+    {
+        &self.nodes[i as usize]
+    }
 }

@@ -10,4 +10,10 @@ pub mod Bound
 pub mod Types
 pub mod Stream
 pub mod Read
+pub mod Scope
+pub mod Decode
+pub mod Back
+pub mod Props
+pub mod Whole
+pub mod Counts
 pub mod Laws

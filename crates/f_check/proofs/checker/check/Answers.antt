@@ -1,6 +1,6 @@
-use Rattle.std.proofs.Common.{◌≡◌}
 use Rattle.f_terms.specs.Ty.{NoTys}
-use Rattle.f_terms.specs.Read.{tree, spanned, term_of, place}
+use Rattle.f_terms.specs.Read.{tree, place}
+use Rattle.f_terms.specs.ReadTerm.{spanned, term_of}
 use Rattle.f_check.proofs.Exact.{accepted, no_fault, same_fault}
 use Rattle.f_check.proofs.checker.check.Goals as goal
 

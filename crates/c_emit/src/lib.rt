@@ -1,0 +1,9 @@
+//! Closure conversion's last walk, which writes the nodes of the converted term.
+#![tactic(auto)]
+
+pub mod emit;
+pub mod parts;
+pub mod put;
+pub mod state;
+
+pub use parts::{Frame, Info, Note};

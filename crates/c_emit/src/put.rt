@@ -1,0 +1,188 @@
+// What is written for one node.
+ghost use Rattle.std.specs.Prelude.{◌≡◌, ℕ, ◌∷◌, List, IfOk, OnOk};
+ghost use Rattle.c_terms.specs.Stream as S;
+ghost use Rattle.c_terms.specs.Read.{cnode, ctys, written};
+ghost use Rattle.c_walk.specs.Emit as E;
+ghost use Rattle.c_emit.specs.Read.{frame, info};
+
+use crate::parts::{Frame, Info};
+use c_terms::{CNode, CType};
+use c_walk::sum;
+use idx_core::OutOfMemory;
+
+/// One more node.
+pub fn put(out: &mut Vec<CNode>, node: CNode) -> Result<(), OutOfMemory>
+    ensures { OnOk result ((rest : List S.CNd) → written out.new.items rest ≡ written out.old.items (cnode node ∷ rest)) }
+{
+    out.push(node)?;
+    Ok(())
+}
+
+/// Where a level of the source stands.
+pub fn spot(f: &Frame, l: u64) -> Result<u64, OutOfMemory>
+    ensures { IfOk result (λ r. r ≡ E.spot (frame f.now) l) }
+{
+    if f.split <= l {
+        sum(l - f.split, f.start)
+    } else if f.level < l {
+        sum(l - f.level, 1)
+    } else if l < f.level {
+        sum(f.first, f.kept.below(l))
+    } else {
+        sum(f.first, f.kept.list.len() as u64)
+    }
+}
+
+// The variables of these levels.
+fn put_spots(out: &mut Vec<CNode>, f: &Frame, levels: &[u64]) -> Result<(), OutOfMemory>
+    ensures { OnOk result
+        ((rest : List S.CNd) → written out.new.items rest ≡ written out.old.items (E.spots (frame f.now) levels.now rest)) }
+{
+    for l in levels {
+        let at = spot(f, *l)?;
+        put(out, CNode::Var(at))?;
+    }
+    Ok(())
+}
+
+// k fields of the environment, named from level `first` on.
+fn put_fields(out: &mut Vec<CNode>, k: u64, first: u64) -> Result<(), OutOfMemory>
+    ensures { OnOk result ((rest : List S.CNd) → written out.new.items rest ≡ written out.old.items (E.fields k first 1 rest)) }
+{
+    let mut level = first;
+    for i in 0..k {
+        put(out, CNode::Var(1))?;
+        put(
+            out,
+            CNode::Proj {
+                level,
+                field: i + 1,
+            },
+        )?;
+        level = sum(level, 1)?;
+    }
+    Ok(())
+}
+
+/// Begins a code.
+pub fn enter(
+    out: &mut Vec<CNode>,
+    known: Info,
+    level: u64,
+    count: u64,
+) -> Result<Frame, OutOfMemory>
+    ensures frame { IfOk result (λ f. frame f ≡ E.frame_of (info known) level count) }
+    ensures nodes { OnOk result
+        ((rest : List S.CNd) → written out.new.items rest ≡ written out.old.items (E.opened (info known) count rest)) }
+{
+    let Info {
+        kept,
+        own,
+        owes,
+        args,
+        apply,
+        hidden,
+        shape,
+        apply_in,
+        hidden_in,
+        shape_in,
+    } = known;
+    let split = sum(count, level)?;
+    let split = sum(split, 1)?;
+    let first = sum(count, 2)?;
+    let length = kept.list.len() as u64;
+    let last = sum(first, length)?;
+    put(out, CNode::Code { owes, args })?;
+    put_fields(out, length, first)?;
+    if own {
+        put(out, CNode::Var(0))?;
+        put(out, CNode::Apply(apply_in))?;
+        put(out, CNode::Var(1))?;
+        put(out, CNode::Tuple(2))?;
+        put(
+            out,
+            CNode::Pack {
+                hidden: hidden_in,
+                shape: shape_in,
+            },
+        )?;
+        put(out, CNode::Name(last))?;
+        let start = sum(last, 1)?;
+        Ok(Frame {
+            level,
+            split,
+            first,
+            start,
+            kept,
+            apply,
+            hidden,
+            shape,
+        })
+    } else {
+        Ok(Frame {
+            level,
+            split,
+            first,
+            start: last,
+            kept,
+            apply,
+            hidden,
+            shape,
+        })
+    }
+}
+
+/// Ends a code.
+pub fn leave(out: &mut Vec<CNode>, f: Frame, g: &Frame) -> Result<(), OutOfMemory>
+    ensures { OnOk result
+        ((rest : List S.CNd) → written out.new.items rest ≡ written out.old.items (E.closed (frame f) (frame g.now) rest)) }
+{
+    let Frame {
+        level: _,
+        split: _,
+        first: _,
+        start: _,
+        kept,
+        apply,
+        hidden,
+        shape,
+    } = f;
+    put(out, CNode::End)?;
+    put(out, CNode::Apply(apply))?;
+    put_spots(out, g, &kept.list)?;
+    put(out, CNode::Tuple(kept.list.len() as u64))?;
+    put(out, CNode::Tuple(2))?;
+    put(out, CNode::Pack { hidden, shape })?;
+    Ok(())
+}
+
+/// Calls what was just put.
+pub fn call(out: &mut Vec<CNode>, at: u64, types: Vec<CType>, count: u64) -> Result<(), OutOfMemory>
+    ensures { OnOk result
+        ((rest : List S.CNd) → written out.new.items rest ≡ written out.old.items (E.called at (ctys types.items) count rest)) }
+{
+    let code = sum(at, 1)?;
+    let env = sum(at, 2)?;
+    let count = sum(count, 1)?;
+    put(out, CNode::Unpack(at))?;
+    put(out, CNode::Var(at))?;
+    put(
+        out,
+        CNode::Proj {
+            level: code,
+            field: 1,
+        },
+    )?;
+    put(out, CNode::Var(at))?;
+    put(
+        out,
+        CNode::Proj {
+            level: env,
+            field: 2,
+        },
+    )?;
+    put(out, CNode::Var(code))?;
+    put(out, CNode::Call { types, count })?;
+    put(out, CNode::Var(env))?;
+    Ok(())
+}

@@ -1,0 +1,12 @@
+use Rattle.std.proofs.Common.{◌∙◌, ◌+◌, ap, sym}
+use Rattle.c_walk.specs.Know as W
+use Rattle.term_core.specs.Levels.{level_of}
+use Rattle.c_free.proofs.Trees.{lift_add}
+use Rattle.c_free.proofs.vars.outer_var.Goals as goal
+
+pub returns : goal.returns
+returns c =
+    let f = c.args.f.now in
+    c.in_ok-at.ensures
+    ∙ ap (λ n. f.owes + n) (c.above.ensures ∙ ap (λ l. W.above l f.kept.list.items) c.level_of.ensures)
+    ∙ sym (lift_add f.owes (W.above (level_of f.depth c.args.j) f.kept.list.items))

@@ -1,0 +1,36 @@
+-- Where type variables stand.
+use Rattle.std.specs.Prelude.{ℕ, suc, List, [], ◌∷◌}
+use Rattle.term_core.specs.Ends.{lift, under}
+use Rattle.term_core.specs.Levels.{level_of}
+use Rattle.k_terms.specs.K.{KTys, MoreKTys}
+use Rattle.k_terms.specs.Read.{ktree}
+use Rattle.k_terms.specs.declared.types.KType.{KType}
+use Rattle.c_terms.specs.C.{CTys, MoreCTys}
+use Rattle.c_terms.specs.Read.{ctree}
+use Rattle.c_terms.specs.declared.types.CType.{CType}
+use Rattle.c_walk.specs.Know as W
+use Rattle.c_free.specs.declared.names.Side.{Side}
+use Rattle.c_free.specs.declared.names.Names.{Names}
+use Rattle.c_free.specs.declared.names.Names.TheVariants as N
+
+abbrev pub side : Side → W.Side
+side f = record { depth = f.depth; owes = f.owes; kept = f.kept.list.items; calling = f.calling }
+
+abbrev pub plain : W.Side → ℕ → ℕ
+plain f i = under f.owes (λ j. W.above (level_of f.depth j) f.kept) i
+
+-- where each type variable stands
+abbrev pub renaming : Names → ℕ → ℕ
+renaming (N.Here s m) i = W.side_var (side s.now) (lift m i)
+renaming (N.Outside s m) i = W.outer_var (side s.now) (lift m i)
+renaming (N.Under' n p rest) i = under n (λ j. suc (renaming rest j)) i
+renaming (N.Within' p rest) i = under 1 (renaming rest) i
+
+-- types, before others
+abbrev pub joined : List CType → CTys → CTys
+joined [] rest = rest
+joined (t ∷ ts) rest = MoreCTys (ctree t) (joined ts rest)
+
+abbrev pub kjoined : List KType → KTys → KTys
+kjoined [] rest = rest
+kjoined (t ∷ ts) rest = MoreKTys (ktree t) (kjoined ts rest)

@@ -1,0 +1,82 @@
+// Types of the closed calculus.
+ghost use Rattle.std.specs.Prelude.{◌≡◌, IfOk};
+ghost use Rattle.k_terms.specs.Read.{ktree, ktys};
+ghost use Rattle.c_terms.specs.C.{TCSome, TCTuple, TCCode, TCVar, MoreCTys, NoCTys};
+ghost use Rattle.c_terms.specs.Read.{ctree, ctys};
+ghost use Rattle.c_law.specs.Close as L;
+ghost use Rattle.c_free.specs.Names.{renaming, joined};
+
+use crate::names::Names;
+use crate::vars::name;
+use c_terms::CType;
+use idx_core::OutOfMemory;
+use k_terms::KType;
+use std::alloc::Global;
+
+// The type of a closure, by its code's.
+fn closure_type(alloc: Global, owes: u64, args: Vec<CType>) -> Result<CType, OutOfMemory>
+    ensures { IfOk result
+        (λ r. ctree r ≡ TCSome (TCTuple (MoreCTys (TCCode owes (ctys args.items)) (MoreCTys (TCVar 0) NoCTys)))) }
+{
+    let mut parts = Vec::new(alloc);
+    parts.push(CType::Code { owes, args })?;
+    parts.push(CType::Var(0))?;
+    let pair = Box::new(alloc, CType::Tuple(parts))?;
+    Ok(CType::Exists(pair))
+}
+
+/// The type that a type becomes, its type variables where `names` says.
+#[cycle(close)]
+pub fn close_type(alloc: Global, t: &KType, names: &Names) -> Result<CType, OutOfMemory>
+    ensures { IfOk result (λ r. ctree r ≡ L.ctype (renaming names.now) (ktree t.now)) }
+{
+    match t {
+        KType::Int => Ok(CType::Int),
+        KType::Var(i) => {
+            let at = name(names, *i)?;
+            Ok(CType::Var(at))
+        }
+        KType::Tuple(ts) => {
+            let made = Vec::new(alloc);
+            let made = close_types(alloc, ts, names, made)?;
+            Ok(CType::Tuple(made))
+        }
+        KType::Code { owes, args } => {
+            let inner = Names::Under {
+                owes: *owes,
+                around: &*names,
+            };
+            let mut made = Vec::new(alloc);
+            made.push(CType::Var(*owes))?;
+            let made = close_types(alloc, args, &inner, made)?;
+            let t = closure_type(alloc, *owes, made)?;
+            Ok(t)
+        }
+        KType::Exists(t) => {
+            let inner = Names::Within { around: &*names };
+            let t = close_type(alloc, t, &inner)?;
+            Ok(CType::Exists(Box::new(alloc, t)?))
+        }
+        KType::Ref(t) => {
+            let t = close_type(alloc, t, names)?;
+            Ok(CType::Ref(Box::new(alloc, t)?))
+        }
+    }
+}
+
+/// Those that several become, after the types that are made.
+#[cycle(close)]
+pub fn close_types(
+    alloc: Global,
+    ts: &[KType],
+    names: &Names,
+    made: Vec<CType>,
+) -> Result<Vec<CType>, OutOfMemory>
+    ensures { IfOk result (λ r. ctys r.items ≡ joined made.items (L.ctypes (renaming names.now) (ktys ts.now))) }
+{
+    let mut made = made;
+    for t in ts {
+        made.push(close_type(alloc, t, names)?)?;
+    }
+    Ok(made)
+}

@@ -1,0 +1,14 @@
+//! What closure conversion asks of types, and the free variables and type variables of each code.
+#![tactic(auto)]
+
+pub mod close_type;
+pub mod copy_type;
+pub mod names;
+pub mod state;
+pub mod sweep;
+pub mod tsweep;
+pub mod type_levels;
+pub mod vars;
+
+pub use names::{Names, Side};
+pub use state::Found;

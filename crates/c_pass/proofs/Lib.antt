@@ -1,0 +1,4 @@
+pub mod Lists
+pub mod Bounding
+pub mod Joins
+pub mod Meant

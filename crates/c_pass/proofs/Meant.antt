@@ -1,0 +1,21 @@
+-- A program within the bound does what it did.
+use Rattle.std.proofs.Common.{◌≡◌, ℕ, ℤ, List, []}
+use Rattle.std.proofs.Math.Logic.{∥∥₁_elim}
+use Rattle.std.proofs.Props.{props}
+use Rattle.term_core.specs.Ends.{End, Result}
+use Rattle.k_terms.specs.K.{KTm}
+use Rattle.k_terms.specs.Bound.{KBound}
+use Rattle.k_terms.specs.Laws.{WithinIsTyped}
+use Rattle.k_terms.specs.Meaning.{krun}
+use Rattle.c_terms.specs.Meaning.{crun}
+use Rattle.c_law.specs.Close.{close_of}
+use Rattle.c_law.specs.Laws.{MeaningKept}
+
+end_set : IsSet End
+end_set = hlevel props
+
+result_set : IsSet Result
+result_set = hlevel (props, end_set)
+
+pub same_run : WithinIsTyped → MeaningKept → (t : KTm) → ∥ KBound t ∥₁ → (n : ℕ) → crun n (close_of t) ≡ krun n t
+same_run typed meant t b n = ∥∥₁_elim b (result_set (crun n (close_of t)) (krun n t)) (λ h. meant t (typed 1099511627776 1600 1099511627776 t h.0) n)

@@ -1,0 +1,32 @@
+use Rattle.std.proofs.Common.{◌≡◌, ◌∙◌, ◌+◌, ap, sym, List, ℕ, rules, length}
+use Rattle.c_terms.specs.C as C
+use Rattle.k_terms.specs.K as K
+use Rattle.c_law.specs.Close as L
+use Rattle.c_walk.specs.Know as W
+use Rattle.c_pass.proofs.Bounding.{lift_add}
+use Rattle.k_terms.specs.Read.{ktree, ktys}
+use Rattle.c_terms.specs.Read.{ctree, ctys}
+use Rattle.c_emit.specs.Read.{info}
+use Rattle.c_free.specs.Names.{side}
+use Rattle.c_pass.specs.Read.{bounds, info_parts, var_of}
+use Rattle.c_pass.proofs.Bounding.{packed_same}
+use Rattle.c_pass.proofs.info.info_from.Goals as goal
+
+pub returns : goal.returns
+returns c =
+    let xs = bounds c.args.xs.now in
+    let f = side c.args.f.now in
+    let g = side c.args.g.now in
+    let j = info_parts c.args.depth c.args.owes (ktys c.args.args.now) c.args.kept.list.items c.args.own xs f g in
+    let n : c.len.result ≡ length c.args.g.now.kept.list.items = search rules in
+    packed_same c.args.kept.list.items c.args.own
+      (ctree c.in_ok-hidden.hidden) (ctree c.in_ok-shape.shape) (ctys c.in_ok-apply.apply.items) (ctree c.in_ok-hidden_in.hidden_in) (ctree c.in_ok-shape_in.shape_in) (ctys c.in_ok-apply_in.apply_in.items) c.in_ok-owes.owes (ctys c.in_ok-args.args.items)
+      j.hidden j.shape j.apply j.hidden_in j.shape_in j.apply_in j.owes j.args
+      (c.in_ok-hidden.ensures ∙ ap (λ (ls : List ℕ). C.TCTuple (W.bound_types (W.side_var f) c.args.depth xs ls)) c.deref.ensures.value)
+      (c.in_ok-shape.ensures ∙ ap (L.ctype (W.side_var f)) c.requires)
+      (c.in_ok-apply.ensures ∙ ap (λ (ls : List ℕ). W.variables (W.side_var f) c.args.depth ls) c.deref-2.ensures.value)
+      (c.in_ok-hidden_in.ensures ∙ ap (λ (ls : List ℕ). C.TCTuple (W.bound_types (W.outer_var g) c.args.depth xs ls)) c.deref-3.ensures.value)
+      (c.in_ok-shape_in.ensures ∙ ap (L.ctype (W.outer_var g)) c.requires)
+      (c.in_ok-apply_in.ensures ∙ ap (λ (ls : List ℕ). W.variables (W.outer_var g) c.args.depth ls) c.deref-4.ensures.value)
+      (c.in_ok-owes.ensures ∙ ap (λ x. c.args.owes + x) n ∙ sym (lift_add c.args.owes (length c.args.g.now.kept.list.items)))
+      (c.in_ok-args.ensures ∙ ap (λ x. C.MoreCTys x (L.ctypes (W.side_var g) (ktys c.args.args.now))) (c.in_ok-first.ensures ∙ ap (λ (ls : List ℕ). C.TCTuple (W.bound_types (W.outer_var g) c.args.depth xs ls)) c.deref-5.ensures.value))

@@ -1,0 +1,25 @@
+use Rattle.std.proofs.Common.{◌≡◌, ◌∙◌, ◌+◌, ap, sym, List, ℕ, drop}
+use Rattle.c_terms.specs.C as C
+use Rattle.c_walk.specs.Know as W
+use Rattle.c_terms.specs.declared.types.CType.{CType}
+use Rattle.c_free.specs.Names.{side, joined}
+use Rattle.c_pass.proofs.Lists.{joined_push, joined_nil}
+use Rattle.c_pass.specs.Read.{bounds, var_of}
+use Rattle.c_pass.proofs.Bounding.{drop_plus, drop_end}
+use Rattle.c_pass.proofs.translate.types_at.Goals as goal
+
+pub loop-l-preserved : goal.loop-l-preserved
+loop-l-preserved c =
+    let r = var_of c.args.outside (side c.args.f.now) in
+    let xs = bounds c.args.xs.now in
+    let rest = W.bound_types r c.args.depth xs (drop (c.loop-l.l-index + 1) c.args.levels.now) in
+    ap (λ (ys : List CType). joined ys rest) c.in_ok-push.ensures.items
+    ∙ joined_push _ _ rest
+    ∙ ap (λ x. joined c.loop-l.made.items (C.MoreCTys x rest)) c.in_ok-t.ensures
+    ∙ ap (λ (ls : List ℕ). joined c.loop-l.made.items (W.bound_types r c.args.depth xs ls)) (sym (drop_plus c.args.levels.now c.loop-l.l-index 0 c.loop-l-test.true))
+    ∙ c.loop-l.invariant
+
+pub returns : goal.returns
+returns c =
+    let r = var_of c.args.outside (side c.args.f.now) in
+    sym (joined_nil c.loop-l.made.items) ∙ ap (λ (ls : List ℕ). joined c.loop-l.made.items (W.bound_types r c.args.depth (bounds c.args.xs.now) ls)) (sym (drop_end c.args.levels.now c.loop-l.l-index c.loop-l-test.false)) ∙ c.loop-l.invariant

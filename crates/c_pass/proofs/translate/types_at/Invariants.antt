@@ -1,0 +1,8 @@
+use Rattle.std.proofs.Common.{◌≡◌, drop}
+use Rattle.c_walk.specs.Know as W
+use Rattle.c_free.specs.Names.{side, joined}
+use Rattle.c_pass.specs.Read.{bounds, var_of}
+use Rattle.c_pass.proofs.translate.types_at.Given as goal
+
+abbrev pub invariant-loop-l : goal.invariant-loop-l
+invariant-loop-l l = joined l.made.items (W.bound_types (var_of l.outside (side l.f)) l.depth (bounds l.xs) (drop l.l-index l.levels)) ≡ W.bound_types (var_of l.outside (side l.f)) l.depth (bounds l.xs) l.levels

@@ -1,0 +1,99 @@
+// What is to be known of a code.
+ghost use Rattle.std.specs.Prelude.{◌≡◌, IfOk};
+ghost use Rattle.k_terms.specs.K.{TKCode};
+ghost use Rattle.k_terms.specs.Read.{ktree, ktys};
+ghost use Rattle.c_terms.specs.C.{TCTuple, MoreCTys};
+ghost use Rattle.c_terms.specs.Read.{ctree, ctys};
+ghost use Rattle.c_law.specs.Close as L;
+ghost use Rattle.c_walk.specs.Know as W;
+ghost use Rattle.c_emit.specs.Read.{info};
+ghost use Rattle.c_free.specs.Names.{side};
+ghost use Rattle.c_pass.specs.Read.{bounds, var_of, info_parts, side_from};
+
+use crate::bounds::bound_levels;
+use crate::state::Bound;
+use crate::translate::{closed, types_at, variables};
+use c_emit::Info;
+use c_free::close_type::close_types;
+use c_free::{Names, Side};
+use c_terms::CType;
+use c_walk::levels::known;
+use c_walk::{Levels, sum};
+use idx_core::OutOfMemory;
+use k_terms::KType;
+use std::alloc::Global;
+
+/// The type variables of a closed code: those that are written in it, and those of its free variables' types.
+pub fn side_of(
+    alloc: Global,
+    xs: &[Bound],
+    types: Levels,
+    kept: &[u64],
+    depth: u64,
+    owes: u64,
+) -> Result<Side, OutOfMemory>
+    ensures { IfOk result (λ r. side r ≡ side_from depth owes types.list.items kept.now (bounds xs.now)) }
+{
+    let mut types = types.list;
+    bound_levels(xs, kept, &mut types)?;
+    let kept = known(types, depth, alloc)?;
+    Ok(Side { depth, owes, kept, calling: false })
+}
+
+// The type of an environment.
+fn env(
+    alloc: Global,
+    xs: &[Bound],
+    levels: &[u64],
+    depth: u64,
+    f: &Side,
+    outside: bool,
+) -> Result<CType, OutOfMemory>
+    ensures {
+        IfOk result (λ r. ctree r ≡ TCTuple (W.bound_types (var_of outside (side f.now)) depth (bounds xs.now) levels.now))
+    }
+{
+    let made = types_at(alloc, xs, levels, depth, f, outside)?;
+    Ok(CType::Tuple(made))
+}
+
+// The types of a closed code's arguments.
+fn arguments(alloc: Global, env: CType, args: &[KType], g: &Side) -> Result<Vec<CType>, OutOfMemory>
+    ensures { IfOk result (λ r. ctys r.items ≡ MoreCTys (ctree env) (L.ctypes (W.side_var (side g.now)) (ktys args.now))) }
+{
+    let mut made = Vec::new(alloc);
+    made.push(env)?;
+    let made = close_types(alloc, args, &Names::Here { side: g, raise: 0 }, made)?;
+    Ok(made)
+}
+
+/// What is to be known of a code whose type variables stand in it where `g` says, in what is around it where `f` says.
+pub fn info_from(
+    alloc: Global,
+    depth: u64,
+    owes: u64,
+    args: &[KType],
+    own_type: &KType,
+    kept: Levels,
+    own: bool,
+    xs: &[Bound],
+    f: &Side,
+    g: &Side,
+) -> Result<Info, OutOfMemory>
+    requires { ktree own_type.now ≡ TKCode owes (ktys args.now) }
+    ensures {
+        IfOk result
+            (λ r. info r ≡ info_parts depth owes (ktys args.now) kept.list.items own (bounds xs.now) (side f.now) (side g.now))
+    }
+{
+    let hidden = env(alloc, xs, &kept.list, depth, f, false)?;
+    let shape = closed(alloc, own_type, f, false, 0)?;
+    let apply = variables(alloc, &g.kept.list, depth, f, false)?;
+    let hidden_in = env(alloc, xs, &kept.list, depth, g, true)?;
+    let shape_in = closed(alloc, own_type, g, true, 0)?;
+    let apply_in = variables(alloc, &g.kept.list, depth, g, true)?;
+    let first = env(alloc, xs, &kept.list, depth, g, true)?;
+    let args = arguments(alloc, first, args, g)?;
+    let owes = sum(owes, g.kept.list.len() as u64)?;
+    Ok(Info { kept, own, owes, args, apply, hidden, shape, apply_in, hidden_in, shape_in })
+}

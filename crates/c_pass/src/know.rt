@@ -1,0 +1,161 @@
+// What is to be known of the codes, calls and packages, by a walk along the nodes.
+ghost use Rattle.std.specs.Prelude.{◌≡◌, ℕ, List, [], ◌∷◌, suc, IfOk, OnOk, map};
+ghost use Rattle.k_terms.specs.K.{KTy};
+ghost use Rattle.k_terms.specs.Stream.{KNd, NPack, NUnpack};
+ghost use Rattle.k_terms.specs.Read.{knode, ktree, ktys};
+ghost use Rattle.c_terms.specs.Read.{ctys};
+ghost use Rattle.c_law.specs.Close as L;
+ghost use Rattle.c_walk.specs.Know as W;
+ghost use Rattle.c_walk.specs.Walks.{top_side};
+ghost use Rattle.c_free.specs.Names.{side, joined};
+ghost use Rattle.c_pass.specs.Read.{bounds, clue, clues_of, total, opened_total, called_total};
+
+use crate::bounds::{bind, bind_all};
+use crate::info::{info_from, side_of};
+use crate::state::{Bound, Clue, Know};
+use crate::translate::closed;
+use c_emit::Note;
+use c_free::close_type::close_types;
+use c_free::copy_type::{all_copied, copied};
+use c_free::{Names, Side};
+use c_terms::CType;
+use c_walk::{Levels, sum};
+use idx_core::OutOfMemory;
+use k_terms::{KNode, KType};
+use std::alloc::Global;
+use std::collections::VecDeque;
+use std::mem;
+
+// Binds a variable where `f` stands.
+fn bind_now(xs: &mut Vec<Bound>, f: &Side, level: u64, ty: KType) -> Result<(), OutOfMemory>
+    ensures { OnOk result (bounds xs.new.items ≡ W.bind (bounds xs.old.items) level (ktree ty) (W.side_depth (side f.now))) }
+{
+    let depth = sum(f.owes, f.depth)?;
+    bind(xs, level, ty, depth)?;
+    Ok(())
+}
+
+// The types of a call.
+fn call_types(alloc: Global, f: &Side, types: &[KType]) -> Result<Vec<CType>, OutOfMemory>
+    ensures { IfOk result (λ r. ctys r.items ≡ L.ctypes (W.side_var (side f.now)) (ktys types.now)) }
+{
+    let made = Vec::new(alloc);
+    let made = close_types(alloc, types, &Names::Here { side: f, raise: 0 }, made)?;
+    Ok(made)
+}
+
+impl Know {
+    // A code begins.
+    fn open(&mut self, alloc: Global, level: u64, depth: u64, owes: u64, args: &[KType], c: Clue) -> Result<(), OutOfMemory>
+        ensures {
+            OnOk result
+                ((rest : List KNd) → total self.new rest ≡ opened_total self.old level depth owes (ktys args.now) (clue c) rest)
+        }
+    {
+        let Clue { kept, own, types } = c;
+        let own_type = KType::Code { owes, args: all_copied(alloc, args)? };
+        let g = side_of(alloc, &self.bounds, types, &kept.list, depth, owes)?;
+        let known = info_from(alloc, depth, owes, args, &own_type, kept, own, &self.bounds, &self.side, &g)?;
+        self.infos.push_back(known)?;
+        bind(&mut self.bounds, level, own_type, depth)?;
+        let inside = sum(owes, depth)?;
+        let first = sum(level, 1)?;
+        bind_all(alloc, &mut self.bounds, first, args, inside)?;
+        let around = mem::replace(&mut self.side, g);
+        self.outer.push_front(around)?;
+        Ok(())
+    }
+
+    // A call.
+    fn call(&mut self, alloc: Global, types: &[KType]) -> Result<(), OutOfMemory>
+        ensures { OnOk result ((rest : List KNd) → total self.new rest ≡ called_total self.old (ktys types.now) rest) }
+    {
+        self.side.calling = true;
+        let made = call_types(alloc, &self.side, types)?;
+        self.notes.push_back(Note::Calls(made))?;
+        Ok(())
+    }
+
+    // A package.
+    fn pack(&mut self, alloc: Global, level: u64, hidden: &KType, shape: &KType) -> Result<(), OutOfMemory>
+        ensures {
+            OnOk result
+                ((rest : List KNd) (depth : ℕ) →
+                 total self.new rest ≡ total self.old (NPack level depth (ktree hidden.now) (ktree shape.now) ∷ rest))
+        }
+    {
+        let types = Note::Packs {
+            hidden: closed(alloc, hidden, &self.side, false, 0)?,
+            shape: closed(alloc, shape, &self.side, false, 0)?,
+        };
+        self.notes.push_back(types)?;
+        bind_now(&mut self.bounds, &self.side, level, copied(alloc, shape)?)?;
+        Ok(())
+    }
+
+    // A package is opened.
+    fn unpack(&mut self, alloc: Global, level: u64, ty: &KType) -> Result<(), OutOfMemory>
+        ensures {
+            OnOk result
+                ((rest : List KNd) (depth : ℕ) → total self.new rest ≡ total self.old (NUnpack level depth (ktree ty.now) ∷ rest))
+        }
+    {
+        self.side.owes = sum(self.side.owes, 1)?;
+        bind_now(&mut self.bounds, &self.side, level, copied(alloc, ty)?)?;
+        Ok(())
+    }
+
+    fn step(&mut self, alloc: Global, node: &KNode) -> Result<(), OutOfMemory>
+        ensures { OnOk result ((rest : List KNd) → total self.new rest ≡ total self.old (knode node.now ∷ rest)) }
+    {
+        match node {
+            KNode::Code { level, depth, owes, args } => match self.clues.pop_front() {
+                None => Ok(()),
+                Some(c) => Ok(self.open(alloc, *level, *depth, *owes, args, c)?),
+            },
+            KNode::End => match self.outer.pop_front() {
+                None => Ok(()),
+                Some(around) => {
+                    self.side = around;
+                    Ok(())
+                }
+            },
+            KNode::Name { level, ty } => Ok(bind_now(&mut self.bounds, &self.side, *level, copied(alloc, ty)?)?),
+            KNode::Proj { level, ty, .. } => Ok(bind_now(&mut self.bounds, &self.side, *level, copied(alloc, ty)?)?),
+            KNode::Arith { level, .. } => Ok(bind_now(&mut self.bounds, &self.side, *level, KType::Int)?),
+            KNode::Pack { level, hidden, shape, .. } => Ok(self.pack(alloc, *level, hidden, shape)?),
+            KNode::Unpack { level, ty, .. } => Ok(self.unpack(alloc, *level, ty)?),
+            KNode::Cell { level, ty } => Ok(bind_now(&mut self.bounds, &self.side, *level, copied(alloc, ty)?)?),
+            KNode::Get { level, ty } => Ok(bind_now(&mut self.bounds, &self.side, *level, copied(alloc, ty)?)?),
+            KNode::Set { level } => {
+                Ok(bind_now(&mut self.bounds, &self.side, *level, KType::Tuple(Vec::new(alloc)))?)
+            }
+            KNode::Call { types, .. } => Ok(self.call(alloc, types)?),
+            KNode::Else { depth } => {
+                self.side.calling = false;
+                self.side.owes = depth.saturating_sub(self.side.depth);
+                Ok(())
+            }
+            _ => Ok(()),
+        }
+    }
+}
+
+/// What is to be known of the codes, and of the calls and packages, in the order of the nodes.
+pub fn know(alloc: Global, nodes: &[KNode], clues: VecDeque<Clue>) -> Result<Know, OutOfMemory>
+    ensures { IfOk result (λ r. total r [] ≡ W.know (map knode nodes.now) [] top_side [] (clues_of clues.items)) }
+{
+    let side = Side { depth: 0, owes: 0, kept: Levels::none(alloc), calling: false };
+    let mut walk = Know {
+        bounds: Vec::new(alloc),
+        side,
+        outer: VecDeque::new(alloc),
+        clues,
+        infos: VecDeque::new(alloc),
+        notes: VecDeque::new(alloc),
+    };
+    for node in nodes {
+        walk.step(alloc, node)?;
+    }
+    Ok(walk)
+}

@@ -1,0 +1,34 @@
+// The state of the walk that finds out types.
+use c_emit::{Info, Note};
+use c_free::Side;
+use c_walk::Levels;
+use k_terms::KType;
+use std::collections::VecDeque;
+
+/// What the walks from the last node have found of a code: its free variables, whether its own name is used, and the type
+/// variables that occur in it.
+#[derive(Drop)]
+pub struct Clue {
+    pub kept: Levels,
+    pub own: bool,
+    pub types: Levels,
+}
+
+/// The type of a variable, with the number of type variables where it was bound.
+#[derive(Drop)]
+pub struct Bound {
+    pub ty: KType,
+    pub depth: u64,
+}
+
+/// The types of the variables by level, the type variables of the code where the walk stands and of those around it, what
+/// was found of the codes to come, and what is known so far.
+#[derive(Drop)]
+pub struct Know {
+    pub bounds: Vec<Bound>,
+    pub side: Side,
+    pub outer: VecDeque<Side>,
+    pub clues: VecDeque<Clue>,
+    pub infos: VecDeque<Info>,
+    pub notes: VecDeque<Note>,
+}

@@ -1,0 +1,260 @@
+-- What comes after the type of a part.
+use Rattle.std.proofs.Common.{◌≡◌, ◌≢◌, ℕ, ◌+◌, ◌-◌, ◌*◌, ◌<◌, ◌≤◌, ◌∙◌, refl, ap, ap₂, sym, subst, arith, List, [], ◌∷◌, ◌++◌, map, length, take, Vec, Global, Bor, Result, Ok, Err, Some, None, inl, inr}
+use Rattle.std.proofs.lemmas.List.Elements.{All-head, All-tail, All-same}
+use Rattle.idx_core.specs.declared.span.Span.{Span}
+use Rattle.f_terms.specs.Ty.{Ty, Tys, TInt, TArrow, TAll, TTuple, tys, Below, ShiftFits, PutFits}
+use Rattle.f_terms.specs.Tm.{Tm, SFix, SApp, SGen, SInst, STuple, SProj, SArith, SIf0, plain, span_of, tms}
+use Rattle.f_terms.specs.Limits.{nodes, Within, Shallow}
+use Rattle.f_terms.specs.Scope.{InScope}
+use Rattle.f_terms.specs.Typing.{field_ty, in_fix, raised}
+use Rattle.f_terms.specs.Faults.{Passes, Fault, limits, nothing}
+use Rattle.f_terms.specs.Read.{tree, place}
+use Rattle.f_terms.specs.declared.types.FType.{FType}
+use Rattle.f_terms.specs.declared.types.FType.TheVariants as T
+use Rattle.f_terms.specs.declared.fault.Code.{Code}
+use Rattle.f_terms.specs.declared.fault.Code.TheVariants.{E07, E08, E09, E10, E11, E12, E13, E14}
+use Rattle.f_terms.specs.declared.fault.FFault.{FFault}
+use Rattle.f_terms.specs.declared.fault.FFault.TheVariants.{Refused}
+use Rattle.f_terms.proofs.Trees.{tree_Tuple}
+use Rattle.f_terms.specs.ReadTerm.{count, node_at}
+use Rattle.f_terms.specs.declared.node.FTerm.{FTerm}
+use Rattle.f_check.specs.Scopes.{Bound, bound}
+use Rattle.f_check.specs.Verdict.{Says, IsTypeOf, IsPut, IsVerdict}
+use Rattle.f_check.specs.Walk.{Task, context, TypeIs, FaultOf, IsReady, AllPass, Same, Part, top, now, Holds, Offered, Enters, frame_work, left, offer_work, Goes}
+use Rattle.arena.specs.Stack.{Chain, stack_sum}
+use Rattle.f_check.specs.declared.scope.Binder.{Binder}
+use Rattle.f_check.specs.declared.frame.Frame.{Frame}
+use Rattle.f_check.specs.declared.frame.Frame.TheVariants as C
+use Rattle.f_check.specs.declared.frame.Control.{Control}
+use Rattle.f_check.specs.declared.frame.Control.TheVariants.{Give}
+use Rattle.f_check.specs.declared.frame.State.{State}
+use Rattle.f_check.proofs.Forms as forms
+use Rattle.f_check.proofs.Fields as fields
+use Rattle.f_check.proofs.Types.{shift_fits, put_fits}
+use Rattle.f_check.proofs.Rows.{part_known, part_nodes, one_more, all_more, tuple_ok, tuple_limit}
+use Rattle.f_check.proofs.Scoping.{bounds_pop}
+use Rattle.f_check.proofs.Steps.{moved, in_body, in_gen, fails}
+
+-- where the state stands at the form around the part
+task_is : (w : Task) (n : ℕ) (bs : List Bound) → n ≡ w.around → bs ≡ w.scope → record { e = w.e; around = n; scope = bs } ≡ w
+task_is w n bs en es = ap₂ (λ (n : ℕ) (bs : List Bound). let t : Task = record { e = w.e; around = n; scope = bs } in t) en es
+
+module _ (f : FTerm) (st : State) (w : Task) (hold : Holds f st w) where
+  -- a form is refused
+  pub refused : (e : Tm) (st' : State) (c : Code) (s : Span) (r : Result Control FFault) (m : ℕ) → r ≡ Err (Refused c s) → w.e ≡ e → Fault e w.around (context w) c (place s) → Goes f st' r m
+  refused e st' c s r m er is k =
+      subst (λ z. Goes f st' z m) (sym er) (fails f st w hold (Refused c s) (subst (λ z. Fault z w.around (context w) c (place s)) (sym is) k))
+
+  pub faulty : (e : Tm) (x : FFault) → w.e ≡ e → Says x (Fault e w.around (context w)) → Says x (FaultOf (top f))
+  faulty e x is k = fails f st w hold x (subst (λ z. Says x (Fault z w.around (context w))) (sym is) k)
+
+  -- a form has its type
+  pub given : (st' : State) (e : Tm) (t : FType) (s : Span) (m : ℕ) → st'.frames.items ≡ st.frames.items → now st' w.e ≡ w → w.e ≡ e → IsTypeOf e w.around (context w) (tree t) → span_of e ≡ place s → 1 + left f st < m →
+      Goes f st' (Ok (Give t s)) m
+  given st' e t s m ef en is h sp lt =
+      let typed : TypeIs w (tree t) = subst (λ z. IsTypeOf z w.around (context w) (tree t)) (sym is) h in
+      let hold' : Holds f st' w = subst (λ fs. Chain (Part f) fs w (top f)) (sym ef) hold in (
+        (w.e, (subst (λ z. TypeIs z (tree t)) (sym en) typed, ap span_of is ∙ sp, subst (Holds f st') (sym en) hold')),
+        omega (arith, lt, ap (stack_sum (frame_work f)) ef),
+      )
+
+  -- the next part
+  pub next : (fr : Frame) (j : ℕ) (e : Tm) → st.around ≡ w.around → map bound st.scope.items ≡ w.scope → w.e ≡ e → IsReady w → j < count f →
+      ((n m : ℕ) → InScope (plain e) n m → InScope (plain (node_at f j)) n m) → nodes (plain (node_at f j)) ≤ nodes (plain e) → Part f fr (now st (node_at f j)) w → Enters f st fr j
+  next fr j e en es is ok lt in' few part =
+      let o = subst IsReady (sym (task_is w st.around (map bound st.scope.items) en es)) ok in
+      let o' = subst (λ z. IsReady (now st z)) is o in
+      let room = o'.2 in
+      (w, lt, (o'.0, in' _ _ o'.1, omega (arith, few, room)), part, hold)
+
+-- the forms, where the type of a part is there
+module _ (f : FTerm) (st : State) (ty : FType) (q : Span) where
+  -- a function
+  pub fix_ready : (s : Span) (a r : Bor FType) → Offered f st (C.Fix s a r) ty q → ShiftFits 0 0 (TArrow (tree a.now) (tree r.now))
+  fix_ready s a r h =
+      let w = h.1 in
+      let ok = subst (λ z. InScope (plain z) w.around (2 * length w.scope)) h.4.0 h.4.1.1 in
+      let room = h.4.1.2 in
+      shift_fits 0 w.around (TArrow (tree a.now) (tree r.now)) (omega (arith, room)) (ok.0, ok.1) h.4.4.0
+
+  pub fix_refused : (s : Span) (a r : Bor FType) → Offered f st (C.Fix s a r) ty q → (st' : State) (z : Result Control FFault) (m : ℕ) → z ≡ Err (Refused E14 q) → tree ty ≢ tree r.now → Goes f st' z m
+  fix_refused s a r h st' z m ez ne =
+      let w = h.1 in
+      refused f st w h.5 (SFix (place s) (tree a.now) (tree r.now) h.0) st' E14 q z m ez h.4.0
+      (forms.fix_res w.around (context w) (place s) (tree a.now) (tree r.now) (tree ty) h.0 (in_fix (tree a.now) (tree r.now) (context w)) (place q) refl h.4.4
+      (in_body (now st h.0) w (tree a.now) (tree r.now) h.4.2 h.4.3 (λ n g. Passes h.0 n g (tree ty)) h.2.0) ne h.3)
+
+  pub fix_given : (s : Span) (a r : Bor FType) → Offered f st (C.Fix s a r) ty q → (sc : Vec Binder Global) (t : FType) → sc.items ≡ take (length st.scope.items - 1) st.scope.items → tree ty ≡ tree r.now → tree t ≡ TArrow (tree a.now) (tree r.now) →
+      Goes f (record st { scope = sc }) (Ok (Give t s)) (offer_work f st [])
+  fix_given s a r h sc t ec et eq =
+      let w = h.1 in
+      let ok = subst (λ z. InScope (plain z) w.around (2 * length w.scope)) h.4.0 h.4.1.1 in
+      given f st w h.5 (record st { scope = sc }) (SFix (place s) (tree a.now) (tree r.now) h.0) t s (offer_work f st []) refl
+      (task_is w st.around (map bound sc.items) h.4.2 (bounds_pop st.scope.items sc.items w.scope (record { arg = tree a.now; res = tree r.now; at = w.around }) h.4.3 ec)) h.4.0
+      (forms.fix_ok w.around (context w) (place s) (tree a.now) (tree r.now) (tree ty) (tree t) h.0 (in_fix (tree a.now) (tree r.now) (context w)) refl h.4.4 ok.0 ok.1
+      (in_body (now st h.0) w (tree a.now) (tree r.now) h.4.2 h.4.3 (λ n g. Passes h.0 n g (tree ty)) h.2.0) et eq) refl (omega arith)
+
+  -- what holds of the part, under the same names
+  same_type : (fr : Frame) (h : Offered f st fr ty q) → Same (now st h.0) h.1 → IsTypeOf h.0 h.1.around (context h.1) (tree ty)
+  same_type fr h s = moved (now st h.0) h.1 s (λ n g. IsTypeOf h.0 n g (tree ty)) h.2
+
+  -- an application
+  pub fun_refused : (s : Span) (x : ℕ) → Offered f st (C.Function s x) ty q → (z : Result Control FFault) (m : ℕ) → z ≡ Err (Refused E07 q) → ((a b : Ty) → tree ty ≢ TArrow a b) → Goes f st z m
+  fun_refused s x h z m ez ne =
+      let w = h.1 in
+      refused f st w h.5 (SApp (place s) h.0 (node_at f x)) st E07 q z m ez h.4.0
+      (forms.app_fun w.around (context w) (place s) h.0 (node_at f x) (tree ty) (place q) (same_type (C.Function s x) h h.4.2).0 ne h.3)
+
+  pub arg_refused : (s : Span) (a r : FType) → Offered f st (C.Argument s a r) ty q → (z : Result Control FFault) (m : ℕ) → z ≡ Err (Refused E08 q) → tree ty ≢ tree a → Goes f st z m
+  arg_refused s a r h z m ez ne =
+      let w = h.1 in
+      refused f st w h.5 (SApp (place s) h.4.0 h.0) st E08 q z m ez h.4.1
+      (forms.app_arg w.around (context w) (place s) h.4.0 h.0 (TArrow (tree a) (tree r)) (tree a) (tree r) (tree ty) (place q) h.4.4.0 refl (same_type (C.Argument s a r) h h.4.3).0 ne h.3)
+
+  pub arg_given : (s : Span) (a r : FType) → Offered f st (C.Argument s a r) ty q → tree ty ≡ tree a → Goes f st (Ok (Give r s)) (offer_work f st [])
+  arg_given s a r h et =
+      let w = h.1 in
+      given f st w h.5 st (SApp (place s) h.4.0 h.0) r s (offer_work f st []) refl (task_is w st.around (map bound st.scope.items) h.4.3.0 h.4.3.1) h.4.1
+      (forms.app_ok w.around (context w) (place s) h.4.0 h.0 (TArrow (tree a) (tree r)) (tree a) (tree r) (tree ty) h.4.4 refl (same_type (C.Argument s a r) h h.4.3).0 et) refl (omega arith)
+
+  -- a type abstraction
+  gen_type : (s : Span) (h : Offered f st (C.Gen s) ty q) → IsTypeOf h.0 (h.1.around + 1) (raised (context h.1)) (tree ty)
+  gen_type s h = in_gen (now st h.0) h.1 h.4.1 h.4.2 h.4.3 (λ n g. IsTypeOf h.0 n g (tree ty)) h.2
+
+  pub gen_refused : (s : Span) → Offered f st (C.Gen s) ty q → (x : FFault) → Says x (limits (TAll (tree ty)) (place s) nothing) → Says x (FaultOf (top f))
+  gen_refused s h x k =
+      let w = h.1 in
+      faulty f st w h.5 (SGen (place s) h.0) x h.4.0
+      (forms.says_map x _ (Fault (SGen (place s) h.0) w.around (context w)) (forms.gen_limit w.around (context w) (place s) h.0 (raised (context w)) (tree ty) refl (gen_type s h).0) k)
+
+  pub gen_given : (s : Span) → Offered f st (C.Gen s) ty q → (t : FType) → tree t ≡ TAll (tree ty) → Within (TAll (tree ty)) → Goes f (record st { around = st.around - 1 }) (Ok (Give t s)) (offer_work f st [])
+  gen_given s h t et wi =
+      let w = h.1 in
+      let en = h.4.2 in
+      given f st w h.5 (record st { around = st.around - 1 }) (SGen (place s) h.0) t s (offer_work f st []) refl (task_is w (st.around - 1) (map bound st.scope.items) (omega (arith, en)) h.4.3) h.4.0
+      (forms.gen_ok w.around (context w) (place s) h.0 (raised (context w)) (tree ty) (tree t) refl (gen_type s h) wi et) refl (omega arith)
+
+  -- a type application
+  pub inst_refused : (s : Span) (a : Bor FType) → Offered f st (C.Inst s a) ty q → (z : Result Control FFault) (m : ℕ) → z ≡ Err (Refused E09 q) → ((b : Ty) → tree ty ≢ TAll b) → Goes f st z m
+  inst_refused s a h z m ez ne =
+      let w = h.1 in
+      refused f st w h.5 (SInst (place s) h.0 (tree a.now)) st E09 q z m ez h.4.0
+      (forms.inst_all w.around (context w) (place s) h.0 (tree a.now) (tree ty) (place q) (same_type (C.Inst s a) h h.4.2).0 ne h.3)
+
+  inst_below : (s : Span) (a : Bor FType) (h : Offered f st (C.Inst s a) ty q) → Below h.1.around (tree a.now)
+  inst_below s a h = (subst (λ z. InScope (plain z) h.1.around (2 * length h.1.scope)) h.4.0 h.4.1.1).1
+
+  pub inst_fits : (s : Span) (a : Bor FType) → Offered f st (C.Inst s a) ty q → (b : FType) → tree ty ≡ TAll (tree b) → Shallow (tree a.now) → PutFits 0 (tree a.now) 0 (tree b)
+  inst_fits s a h b eb small =
+      let wi = subst Within eb h.2.2 in
+      let room = h.4.1.2 in
+      put_fits h.1.around (tree a.now) (tree b) (omega (arith, room)) (inst_below s a h) small (omega (arith, wi.0))
+
+  inst_put : (s : Span) (a : Bor FType) (h : Offered f st (C.Inst s a) ty q) (b : FType) → tree ty ≡ TAll (tree b) → (r : Result FType FFault) → IsPut (tree a.now) (tree b) (place s) r →
+      IsVerdict (SInst (place s) h.0 (tree a.now)) h.1.around (context h.1) r
+  inst_put s a h b eb r put =
+      forms.inst_put h.1.around (context h.1) (place s) h.0 (tree a.now) (tree ty) (tree b) (same_type (C.Inst s a) h h.4.2) eb (inst_below s a h) r put
+
+  pub inst_given : (s : Span) (a : Bor FType) → Offered f st (C.Inst s a) ty q → (b t : FType) → tree ty ≡ TAll (tree b) → IsPut (tree a.now) (tree b) (place s) (Ok t) → Goes f st (Ok (Give t s)) (offer_work f st [])
+  inst_given s a h b t eb put =
+      let w = h.1 in
+      given f st w h.5 st (SInst (place s) h.0 (tree a.now)) t s (offer_work f st []) refl (task_is w st.around (map bound st.scope.items) h.4.2.0 h.4.2.1) h.4.0 (inst_put s a h b eb (Ok t) put) refl (omega arith)
+
+  pub inst_faulty : (s : Span) (a : Bor FType) → Offered f st (C.Inst s a) ty q → (b : FType) (x : FFault) → tree ty ≡ TAll (tree b) → IsPut (tree a.now) (tree b) (place s) (Err x) → Says x (FaultOf (top f))
+  inst_faulty s a h b x eb put = faulty f st h.1 h.5 (SInst (place s) h.0 (tree a.now)) x h.4.0 (inst_put s a h b eb (Err x) put)
+
+  -- a projection
+  pub proj_refused : (s : Span) (i : ℕ) → Offered f st (C.Proj s i) ty q → (z : Result Control FFault) (m : ℕ) → z ≡ Err (Refused E10 q) → ((ts : Tys) → tree ty ≢ TTuple ts) → Goes f st z m
+  proj_refused s i h z m ez ne =
+      let w = h.1 in
+      refused f st w h.5 (SProj (place s) i h.0) st E10 q z m ez h.4.0
+      (fields.proj_tuple w.around (context w) (place s) i h.0 (tree ty) (place q) (same_type (C.Proj s i) h h.4.2).0 ne h.3)
+
+  pub proj_missing : (s : Span) (i : ℕ) → Offered f st (C.Proj s i) ty q → (ts : Tys) (z : Result Control FFault) (m : ℕ) → z ≡ Err (Refused E11 s) → tree ty ≡ TTuple ts → field_ty ts i ≡ None → Goes f st z m
+  proj_missing s i h ts z m ez et none =
+      let w = h.1 in
+      refused f st w h.5 (SProj (place s) i h.0) st E11 s z m ez h.4.0
+      (fields.proj_field w.around (context w) (place s) i h.0 (tree ty) ts (same_type (C.Proj s i) h h.4.2).0 et none)
+
+  pub proj_given : (s : Span) (i : ℕ) → Offered f st (C.Proj s i) ty q → (ts : Tys) (t : FType) → tree ty ≡ TTuple ts → field_ty ts i ≡ Some (tree t) → Goes f st (Ok (Give t s)) (offer_work f st [])
+  proj_given s i h ts t et at =
+      let w = h.1 in
+      given f st w h.5 st (SProj (place s) i h.0) t s (offer_work f st []) refl (task_is w st.around (map bound st.scope.items) h.4.2.0 h.4.2.1) h.4.0
+      (fields.proj_ok w.around (context w) (place s) i h.0 (tree ty) (tree t) ts (same_type (C.Proj s i) h h.4.2) et at) refl (omega arith)
+
+  -- operands
+  pub left_refused : (s : Span) (b : ℕ) → Offered f st (C.Left s b) ty q → (z : Result Control FFault) (m : ℕ) → z ≡ Err (Refused E12 q) → tree ty ≢ TInt → Goes f st z m
+  left_refused s b h z m ez ne =
+      refused f st h.1 h.5 (SArith (place s) h.4.0 h.0 (node_at f b)) st E12 q z m ez h.4.1
+      (inr (tree ty, (same_type (C.Left s b) h h.4.3).0, inl (ne, (refl, sym h.3))))
+
+  pub right_refused : (s : Span) → Offered f st (C.Right s) ty q → (z : Result Control FFault) (m : ℕ) → z ≡ Err (Refused E12 q) → tree ty ≢ TInt → Goes f st z m
+  right_refused s h z m ez ne =
+      refused f st h.1 h.5 (SArith (place s) h.4.0 h.4.1 h.0) st E12 q z m ez h.4.2
+      (inr (TInt, h.4.5, inr (refl, inr (tree ty, (same_type (C.Right s) h h.4.4).0, inl (ne, (refl, sym h.3))))))
+
+  pub right_given : (s : Span) → Offered f st (C.Right s) ty q → tree ty ≡ TInt → Goes f st (Ok (Give T.Int s)) (offer_work f st [])
+  right_given s h et =
+      let w = h.1 in
+      given f st w h.5 st (SArith (place s) h.4.0 h.4.1 h.0) T.Int s (offer_work f st []) refl (task_is w st.around (map bound st.scope.items) h.4.4.0 h.4.4.1) h.4.2
+      ((refl, h.4.5, subst (Passes h.0 w.around (context w)) et (same_type (C.Right s) h h.4.4).0), tt, (omega arith, omega arith)) refl (omega arith)
+
+  -- an if0
+  pub test_refused : (s : Span) (a b : ℕ) → Offered f st (C.Test s a b) ty q → (z : Result Control FFault) (m : ℕ) → z ≡ Err (Refused E12 q) → tree ty ≢ TInt → Goes f st z m
+  test_refused s a b h z m ez ne =
+      refused f st h.1 h.5 (SIf0 (place s) h.0 (node_at f a) (node_at f b)) st E12 q z m ez h.4.0
+      (inr (tree ty, (same_type (C.Test s a b) h h.4.2).0, inl (ne, (refl, sym h.3))))
+
+  pub other_refused : (s : Span) (zero : FType) → Offered f st (C.Other s zero) ty q → (z : Result Control FFault) (m : ℕ) → z ≡ Err (Refused E13 q) → tree ty ≢ tree zero → Goes f st z m
+  other_refused s zero h z m ez ne =
+      refused f st h.1 h.5 (SIf0 (place s) h.4.0 h.4.1 h.0) st E13 q z m ez h.4.2
+      (forms.if_branches h.1.around (context h.1) (place s) h.4.0 h.4.1 h.0 (tree zero) (tree ty) (place q) h.4.5 h.4.6.0 (same_type (C.Other s zero) h h.4.4).0 ne h.3)
+
+  pub other_given : (s : Span) (zero : FType) → Offered f st (C.Other s zero) ty q → tree ty ≡ tree zero → Goes f st (Ok (Give zero s)) (offer_work f st [])
+  other_given s zero h et =
+      let w = h.1 in
+      given f st w h.5 st (SIf0 (place s) h.4.0 h.4.1 h.0) zero s (offer_work f st []) refl (task_is w st.around (map bound st.scope.items) h.4.4.0 h.4.4.1) h.4.2
+      ((h.4.5, h.4.6.0, subst (Passes h.0 w.around (context w)) et (same_type (C.Other s zero) h h.4.4).0), h.4.6.1, h.4.6.2) refl (omega arith)
+
+  -- a tuple
+  pub field_passes : (s : Span) (ts us : Vec FType Global) (rest : Bor (List ℕ)) (h : Offered f st (C.Fields s ts rest) ty q) → map tree us.items ≡ map tree ts.items ++ tree ty ∷ [] →
+      AllPass h.1.around (context h.1) (h.4.0 ++ h.0 ∷ []) (map tree us.items)
+  field_passes s ts us rest h eu =
+      let w = h.1 in
+      let p = same_type (C.Fields s ts rest) h h.4.3 in
+      subst (AllPass w.around (context w) (h.4.0 ++ h.0 ∷ [])) (sym eu) (all_more w.around (context w) h.4.0 (map tree ts.items) h.0 (tree ty) h.4.4 p.0 p.1)
+
+  pub field_enters : (s : Span) (ts us : Vec FType Global) (rest : Bor (List ℕ)) → Offered f st (C.Fields s ts rest) ty q → map tree us.items ≡ map tree ts.items ++ tree ty ∷ [] →
+      (j : ℕ) (more : Bor (List ℕ)) → rest.now ≡ j ∷ more.now → Enters f st (C.Fields s us more) j
+  field_enters s ts us rest h eu j more er =
+      let w = h.1 in
+      let es = h.4.0 ++ h.0 ∷ [] in
+      let tail = map (node_at f) more.now in
+      let is : w.e ≡ STuple (place s) (tms (es ++ node_at f j ∷ tail)) =
+      h.4.1 ∙ ap (λ (ks : List ℕ). STuple (place s) (tms (h.4.0 ++ h.0 ∷ map (node_at f) ks))) er ∙ ap (λ (xs : List Tm). STuple (place s) (tms xs)) (one_more h.4.0 h.0 (node_at f j) tail) in
+      let low = All-same (λ k. k < count f) (j ∷ more.now) rest.now (sym er) h.4.5 in
+      next f st w h.5 (C.Fields s us more) j (STuple (place s) (tms (es ++ node_at f j ∷ tail))) h.4.3.0 h.4.3.1 is h.4.2 (All-head (λ k. k < count f) j more.now low)
+      (λ n m. part_known n m es (node_at f j) tail) (omega (arith, part_nodes es (node_at f j) tail))
+      (es, is, h.4.2, h.4.3, field_passes s ts us rest h eu, All-tail (λ k. k < count f) j more.now low)
+
+  no_rest : (s : Span) (ts : Vec FType Global) (rest : Bor (List ℕ)) (h : Offered f st (C.Fields s ts rest) ty q) → length rest.now ≡ 0 → h.1.e ≡ STuple (place s) (tms (h.4.0 ++ h.0 ∷ []))
+  no_rest s ts rest h z = h.4.1 ∙ go rest.now z
+    where
+      go : (ks : List ℕ) → length ks ≡ 0 → STuple (place s) (tms (h.4.0 ++ h.0 ∷ map (node_at f) ks)) ≡ STuple (place s) (tms (h.4.0 ++ h.0 ∷ []))
+      go [] z = refl
+      go (k ∷ ks) z = absurd (omega (arith, z))
+
+  pub field_given : (s : Span) (ts us : Vec FType Global) (rest : Bor (List ℕ)) → Offered f st (C.Fields s ts rest) ty q → map tree us.items ≡ map tree ts.items ++ tree ty ∷ [] → length rest.now ≡ 0 → Within (TTuple (tys (map tree us.items))) →
+      Goes f st (Ok (Give (T.Tuple us) s)) (offer_work f st rest.now)
+  field_given s ts us rest h eu z wi =
+      let w = h.1 in
+      given f st w h.5 st (STuple (place s) (tms (h.4.0 ++ h.0 ∷ []))) (T.Tuple us) s (offer_work f st rest.now) refl (task_is w st.around (map bound st.scope.items) h.4.3.0 h.4.3.1) (no_rest s ts rest h z)
+      (tuple_ok w.around (context w) (place s) (h.4.0 ++ h.0 ∷ []) (map tree us.items) (tree (T.Tuple us)) (field_passes s ts us rest h eu) (tree_Tuple us) wi) refl (omega arith)
+
+  pub field_faulty : (s : Span) (ts us : Vec FType Global) (rest : Bor (List ℕ)) → Offered f st (C.Fields s ts rest) ty q → map tree us.items ≡ map tree ts.items ++ tree ty ∷ [] → length rest.now ≡ 0 →
+      (x : FFault) → Says x (limits (TTuple (tys (map tree us.items))) (place s) nothing) → Says x (FaultOf (top f))
+  field_faulty s ts us rest h eu z x k =
+      let w = h.1 in
+      faulty f st w h.5 (STuple (place s) (tms (h.4.0 ++ h.0 ∷ []))) x (no_rest s ts rest h z)
+      (forms.says_map x _ (Fault (STuple (place s) (tms (h.4.0 ++ h.0 ∷ []))) w.around (context w))
+      (tuple_limit w.around (context w) (place s) (h.4.0 ++ h.0 ∷ []) (map tree us.items) (field_passes s ts us rest h eu)) k)

@@ -1,0 +1,303 @@
+// What comes after the type of a part.
+ghost use Rattle.std.specs.Prelude.{◌≡◌, ◌++◌, ◌∷◌, [], map, OnOk};
+ghost use Rattle.f_terms.specs.Read.{tree};
+ghost use Rattle.f_check.specs.Walk.{Offered, Goes, offer_work, rest_of};
+ghost use Rattle.f_check.specs.declared.frame.Frame.TheVariants as frames;
+ghost use Rattle.f_terms.specs.declared.fault.FFault.TheVariants as fault;
+
+use crate::count::limit;
+use crate::frame::{Control, Frame, State};
+use crate::parts::{all_body, arrow_parts, is_int, take_field, tuple_parts};
+use crate::put::put_within;
+use crate::scope::shift_arrow;
+use crate::walk::enter;
+use f_terms::{Code, FFault, FTerm, FType, depth, eq, size};
+use idx_core::{OutOfMemory, Span};
+use std::alloc::Global;
+
+fn refused(code: Code, span: Span) -> Result<Control, FFault>
+    ensures { result ≡ Err (fault.Refused code span) }
+{
+    Err(FFault::Refused { code, span })
+}
+
+fn after_fix(
+    alloc: Global,
+    term: &FTerm,
+    state: &mut State,
+    span: Span,
+    arg: &FType,
+    res: &FType,
+    ty: FType,
+    found: Span,
+) -> Result<Control, FFault>
+    requires { Offered term.now state.old (frames.Fix span arg res) ty found }
+    ensures { Goes term.now state.new result (offer_work term.now state.old []) }
+{
+    state.scope.pop();
+    if !eq(&ty, res) {
+        return refused(Code::E14, found);
+    }
+    match shift_arrow(alloc, arg, res, 0) {
+        Ok(ty) => Ok(Control::Give { ty, span }),
+        Err(_) => Err(FFault::Memory),
+    }
+}
+
+fn after_function(
+    term: &FTerm,
+    state: &mut State,
+    span: Span,
+    x: u64,
+    ty: FType,
+    found: Span,
+) -> Result<Control, FFault>
+    requires { Offered term.now state.old (frames.Function span x) ty found }
+    ensures { Goes term.now state.new result (offer_work term.now state.old (x ∷ [])) }
+{
+    match arrow_parts(ty) {
+        Some((arg, res)) => enter(term, state, Frame::Argument { span, arg, res }, x),
+        None => refused(Code::E07, found),
+    }
+}
+
+fn after_argument(
+    term: &FTerm,
+    state: &State,
+    span: Span,
+    arg: FType,
+    res: FType,
+    ty: FType,
+    found: Span,
+) -> Result<Control, FFault>
+    requires { Offered term.now state.now (frames.Argument span arg res) ty found }
+    ensures { Goes term.now state.now result (offer_work term.now state.now []) }
+{
+    if !eq(&ty, &arg) {
+        return refused(Code::E08, found);
+    }
+    Ok(Control::Give { ty: res, span })
+}
+
+fn after_gen(
+    alloc: Global,
+    term: &FTerm,
+    state: &mut State,
+    span: Span,
+    ty: FType,
+    found: Span,
+) -> Result<Control, FFault>
+    requires { Offered term.now state.old (frames.Gen span) ty found }
+    ensures { Goes term.now state.new result (offer_work term.now state.old []) }
+{
+    state.around -= 1;
+    let deep = depth(&ty).saturating_add(1);
+    let wide = size(&ty).saturating_add(1);
+    match limit(deep, wide, span) {
+        Ok(()) => (),
+        Err(e) => return Err(e),
+    }
+    match Box::new(alloc, ty) {
+        Ok(body) => Ok(Control::Give {
+            ty: FType::All(body),
+            span,
+        }),
+        Err(_) => Err(FFault::Memory),
+    }
+}
+
+fn after_inst(
+    alloc: Global,
+    term: &FTerm,
+    state: &State,
+    span: Span,
+    arg: &FType,
+    ty: FType,
+    found: Span,
+) -> Result<Control, FFault>
+    requires { Offered term.now state.now (frames.Inst span arg) ty found }
+    ensures { Goes term.now state.now result (offer_work term.now state.now []) }
+{
+    let body = match all_body(ty) {
+        Some(body) => body,
+        None => return refused(Code::E09, found),
+    };
+    match put_within(alloc, span, &body, arg) {
+        Ok(ty) => Ok(Control::Give { ty, span }),
+        Err(e) => Err(e),
+    }
+}
+
+fn push(types: &mut Vec<FType>, ty: FType) -> Result<(), OutOfMemory>
+    ensures { OnOk result (map tree types.new.items ≡ map tree types.old.items ++ tree ty ∷ []) }
+{
+    types.push(ty)?;
+    Ok(())
+}
+
+fn after_field<'a>(
+    term: &FTerm,
+    state: &mut State<'a>,
+    span: Span,
+    types: Vec<FType>,
+    rest: &'a [u64],
+    ty: FType,
+    found: Span,
+) -> Result<Control, FFault>
+    requires { Offered term.now state.old (frames.Fields span types rest) ty found }
+    ensures { Goes term.now state.new result (offer_work term.now state.old rest.now) }
+{
+    let mut types = types;
+    match push(&mut types, ty) {
+        Ok(()) => (),
+        Err(_) => return Err(FFault::Memory),
+    }
+    match rest.split_first() {
+        Some((e, rest)) => enter(term, state, Frame::Fields { span, types, rest }, *e),
+        None => {
+            let ty = FType::Tuple(types);
+            match limit(depth(&ty), size(&ty), span) {
+                Ok(()) => Ok(Control::Give { ty, span }),
+                Err(e) => Err(e),
+            }
+        }
+    }
+}
+
+fn after_proj(
+    term: &FTerm,
+    state: &State,
+    span: Span,
+    i: u64,
+    ty: FType,
+    found: Span,
+) -> Result<Control, FFault>
+    requires { Offered term.now state.now (frames.Proj span i) ty found }
+    ensures { Goes term.now state.now result (offer_work term.now state.now []) }
+{
+    let parts = match tuple_parts(ty) {
+        Some(parts) => parts,
+        None => return refused(Code::E10, found),
+    };
+    match take_field(parts, i) {
+        Some(ty) => Ok(Control::Give { ty, span }),
+        None => refused(Code::E11, span),
+    }
+}
+
+fn after_left(
+    term: &FTerm,
+    state: &mut State,
+    span: Span,
+    b: u64,
+    ty: FType,
+    found: Span,
+) -> Result<Control, FFault>
+    requires { Offered term.now state.old (frames.Left span b) ty found }
+    ensures { Goes term.now state.new result (offer_work term.now state.old (b ∷ [])) }
+{
+    if !is_int(&ty) {
+        return refused(Code::E12, found);
+    }
+    enter(term, state, Frame::Right { span }, b)
+}
+
+fn after_right(
+    term: &FTerm,
+    state: &State,
+    span: Span,
+    ty: FType,
+    found: Span,
+) -> Result<Control, FFault>
+    requires { Offered term.now state.now (frames.Right span) ty found }
+    ensures { Goes term.now state.now result (offer_work term.now state.now []) }
+{
+    if !is_int(&ty) {
+        return refused(Code::E12, found);
+    }
+    Ok(Control::Give {
+        ty: FType::Int,
+        span,
+    })
+}
+
+fn after_test(
+    term: &FTerm,
+    state: &mut State,
+    span: Span,
+    a: u64,
+    b: u64,
+    ty: FType,
+    found: Span,
+) -> Result<Control, FFault>
+    requires { Offered term.now state.old (frames.Test span a b) ty found }
+    ensures { Goes term.now state.new result (offer_work term.now state.old (a ∷ b ∷ [])) }
+{
+    if !is_int(&ty) {
+        return refused(Code::E12, found);
+    }
+    enter(term, state, Frame::Zero { span, b }, a)
+}
+
+fn after_zero(
+    term: &FTerm,
+    state: &mut State,
+    span: Span,
+    b: u64,
+    ty: FType,
+    found: Span,
+) -> Result<Control, FFault>
+    requires { Offered term.now state.old (frames.Zero span b) ty found }
+    ensures { Goes term.now state.new result (offer_work term.now state.old (b ∷ [])) }
+{
+    enter(term, state, Frame::Other { span, zero: ty }, b)
+}
+
+fn after_other(
+    term: &FTerm,
+    state: &State,
+    span: Span,
+    zero: FType,
+    ty: FType,
+    found: Span,
+) -> Result<Control, FFault>
+    requires { Offered term.now state.now (frames.Other span zero) ty found }
+    ensures { Goes term.now state.now result (offer_work term.now state.now []) }
+{
+    if !eq(&ty, &zero) {
+        return refused(Code::E13, found);
+    }
+    Ok(Control::Give { ty: zero, span })
+}
+
+/// What the frame does with the type of the part that it waits for, which has the place `found`.
+pub(crate) fn resume<'a>(
+    alloc: Global,
+    term: &FTerm,
+    state: &mut State<'a>,
+    frame: Frame<'a>,
+    ty: FType,
+    found: Span,
+) -> Result<Control, FFault>
+    requires { Offered term.now state.old frame ty found }
+    ensures { Goes term.now state.new result (offer_work term.now state.old (rest_of frame.entry)) }
+{
+    match frame {
+        Frame::Fix { span, arg, res } => after_fix(alloc, term, state, span, arg, res, ty, found),
+        Frame::Function { span, x } => after_function(term, state, span, x, ty, found),
+        Frame::Argument { span, arg, res } => {
+            after_argument(term, state, span, arg, res, ty, found)
+        }
+        Frame::Gen { span } => after_gen(alloc, term, state, span, ty, found),
+        Frame::Inst { span, ty: arg } => after_inst(alloc, term, state, span, arg, ty, found),
+        Frame::Fields { span, types, rest } => {
+            after_field(term, state, span, types, rest, ty, found)
+        }
+        Frame::Proj { span, i } => after_proj(term, state, span, i, ty, found),
+        Frame::Left { span, b } => after_left(term, state, span, b, ty, found),
+        Frame::Right { span } => after_right(term, state, span, ty, found),
+        Frame::Test { span, a, b } => after_test(term, state, span, a, b, ty, found),
+        Frame::Zero { span, b } => after_zero(term, state, span, b, ty, found),
+        Frame::Other { span, zero } => after_other(term, state, span, zero, ty, found),
+    }
+}

@@ -1,0 +1,33 @@
+// One frame more, and a fault.
+ghost use Rattle.std.specs.Prelude.{◌≡◌, ℕ, ◌+◌, ◌*◌, ◌<◌, ◌++◌, ◌∷◌, [], OnOk};
+ghost use Rattle.f_terms.specs.Tm.{plain};
+ghost use Rattle.f_terms.specs.Limits.{nodes};
+ghost use Rattle.f_terms.specs.ReadTerm.{node_at};
+ghost use Rattle.f_check.specs.Walk.{Enters, Goes, left, frame_work};
+
+use crate::frame::{Control, Frame, State};
+use f_terms::{FFault, FTerm};
+use idx_core::OutOfMemory;
+
+fn push<'a>(frames: &mut Vec<Frame<'a>>, frame: Frame<'a>) -> Result<(), OutOfMemory>
+    ensures { OnOk result (frames.new.items ≡ frames.old.items ++ frame.entry ∷ []) }
+{
+    frames.push(frame)?;
+    Ok(())
+}
+
+// Node j is next, and the frame waits for its type.
+pub(crate) fn enter<'a>(
+    term: &FTerm,
+    state: &mut State<'a>,
+    frame: Frame<'a>,
+    j: u64,
+) -> Result<Control, FFault>
+    requires { Enters term.now state.old frame j }
+    ensures { (m : ℕ) → 2 * nodes (plain (node_at term.now j)) + frame_work term.now frame.entry + left term.now state.old < m → Goes term.now state.new result m }
+{
+    match push(&mut state.frames, frame) {
+        Ok(()) => Ok(Control::Run(j)),
+        Err(_) => Err(FFault::Memory),
+    }
+}

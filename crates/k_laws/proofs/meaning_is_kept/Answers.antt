@@ -1,0 +1,5 @@
+use Rattle.k_laws.proofs.Sim.{kept}
+use Rattle.k_laws.proofs.meaning_is_kept.Goals as goal
+
+pub returns : goal.returns
+returns c = kept

@@ -1,0 +1,8 @@
+pub mod Cps
+pub mod Translates
+pub mod Keeps
+pub mod Count
+pub mod Annotate
+pub mod Annotated
+pub mod Sites
+pub mod Correct

@@ -2,6 +2,7 @@
 use Rattle.std.proofs.Common.{true, ◌≤◌, ◌+◌, ◌≡◌, ◌<◌, ℕ, zero, suc, ◌-◌, nat_lt, Bool, ◌⊎◌, inl, inr, List, [], ◌∷◌, ◌++◌, Option, Some, None, refl, sym, ap, ap₂, ◌∙◌, subst, append_assoc, length, take, drop, arith}
 use Rattle.std.proofs.lemmas.List.{length-append, append-nil}
 use Rattle.std.proofs.lemmas.Bool.{lt-ltb}
+use Rattle.term_core.proofs.Levels.{level_below}
 use Rattle.term_core.specs.Ends.{lift}
 use Rattle.term_core.specs.Levels.{level_of}
 use Rattle.c_terms.specs.C.{CApply, CArith, CCall, CCell, CCode, CDecl, CGet, CHalt, CIf, CInt, CLet, CName, CPack, CProj, CSet, CTm, CTuple, CTys, CUnpack, CVal, CVals, CVar, MoreCVals, NoCVals, ccount, cd_next, ct_next, cv_next, cvs_next}
@@ -9,9 +10,9 @@ use Rattle.c_terms.specs.Scope.{CScoped, CScoped_d, CScoped_v, CScoped_vs}
 use Rattle.c_terms.specs.Size.{CSmall, CSmall_d, CSmall_t, CSmall_v, CSmall_vs, cown_d, cown_t}
 use Rattle.c_terms.specs.Stream.{CNd, MApply, MArith, MCall, MCell, MCode, MElse, MEnd, MGet, MHalt, MIf, MInt, MName, MPack, MProj, MSet, MTuple, MUnpack, MVar, clin_d, clin_t, clin_v, clin_vs, cwidth}
 use Rattle.h_terms.specs.H.{HApply, HArith, HBlks, HCall, HCell, HDecl, HGet, HIf, HLabel, HLet, HName, HPack, HProj, HSet, HTm, HTuple, HUnpack, HVal, HVals, HVar, MoreHVals, NoHVals}
-use Rattle.h_terms.specs.Nodes.{at_last, no_term, tied, tupled}
+use Rattle.h_terms.specs.Nodes.{at_last, no_term, tied, tupled, values}
 use Rattle.h_terms.specs.Row.{others, top}
-use Rattle.h_pass.proofs.Spots.{deep, deep_suc, first_or, level_below, lift_add, near, self}
+use Rattle.h_pass.proofs.Spots.{deep, deep_suc, first_or, lift_add, near, self}
 use Rattle.h_pass.specs.Hoist.{Code, Nobody, Own, blocks_d, blocks_t, blocks_v, blocks_vs, hoist_d, hoist_t, hoist_v, hoist_vs, spot, spot_value}
 use Rattle.h_pass.specs.Stream.{Around, Found, both, call_of, call_ok, code_found, end_found, found_in, hoisted, name_at, whole}
 use Rattle.h_pass.specs.Walk.{Ends}

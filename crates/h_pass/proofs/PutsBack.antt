@@ -4,11 +4,11 @@ use Rattle.std.proofs.lemmas.List.{length-append, append-nil}
 use Rattle.std.proofs.lemmas.Bool.{ne_eqb}
 use Rattle.term_core.specs.Ends.{lift}
 use Rattle.c_terms.specs.C.{CApply, CArith, CCall, CCell, CCode, CDecl, CGet, CHalt, CIf, CInt, CLet, CName, CPack, CProj, CSet, CTm, CTuple, CUnpack, CVal, CVals, CVar, MoreCVals, NoCVals, ccount, cd_next, ct_next, cv_next, cvs_next}
+use Rattle.c_terms.specs.Scope.{CScoped, CScoped_d, CScoped_v, CScoped_vs}
 use Rattle.h_terms.specs.H.{HBlks}
 use Rattle.h_pass.proofs.Spots.{deep, deep_suc, first_or, lift_add, near, self}
 use Rattle.h_pass.specs.Back.{IsHoisted, back_d, back_t, back_v, back_vs, code_at, codes, codes_d, codes_t, codes_v, codes_vs, if_own, name_or}
 use Rattle.h_pass.specs.Hoist.{Code, Nobody, Own, blocks_d, blocks_of, blocks_t, blocks_v, blocks_vs, hoist_d, hoist_t, hoist_v, hoist_vs, main_of, spot, spot_value}
-use Rattle.h_pass.specs.Scoped.{Scoped_d, Scoped_t, Scoped_v, Scoped_vs}
 
 -- the numbers of codes
 mutual
@@ -82,7 +82,7 @@ back_var Nobody d i f lt = back_near Nobody d i f lt
 back_var (Code k) d i f lt = back_self k d i f (first_or d i lt)
 
 mutual
-  backs_v : (f : ℕ → CVal) (own : Own) (d b : ℕ) (v : CVal) → Older own b → Scoped_v (deep own d) v → Holds f b (codes_v v) → back_v own d f (hoist_v own d b v) ≡ v
+  backs_v : (f : ℕ → CVal) (own : Own) (d b : ℕ) (v : CVal) → Older own b → CScoped_v (deep own d) v → Holds f b (codes_v v) → back_v own d f (hoist_v own d b v) ≡ v
   backs_v f own d b (CVar i) o s h = back_var own d i f s
   backs_v f own d b (CInt n) o s h = refl
   backs_v f own d b (CTuple vs) o s h = ap CTuple (backs_vs f own d b vs o s h)
@@ -90,13 +90,13 @@ mutual
   backs_v f own d b (CApply v ts) o s h = ap (λ x. CApply x ts) (backs_v f own d b v o s h)
   backs_v f own d b (CPack k v t) o s h = ap (λ x. CPack k x t) (backs_v f own d b v o s h)
 
-  backs_vs : (f : ℕ → CVal) (own : Own) (d b : ℕ) (vs : CVals) → Older own b → Scoped_vs (deep own d) vs → Holds f b (codes_vs vs) → back_vs own d f (hoist_vs own d b vs) ≡ vs
+  backs_vs : (f : ℕ → CVal) (own : Own) (d b : ℕ) (vs : CVals) → Older own b → CScoped_vs (deep own d) vs → Holds f b (codes_vs vs) → back_vs own d f (hoist_vs own d b vs) ≡ vs
   backs_vs f own d b NoCVals o s h = refl
   backs_vs f own d b (MoreCVals v vs) o s h =
       let r = split f b (cv_next b v) (codes_v v) (codes_vs vs) (many_v b v) h in
       ap₂ MoreCVals (backs_v f own d b v o s.0 r.0) (backs_vs f own d (cv_next b v) vs (older_than own b (cv_next b v) (omega (arith, many_v b v)) o) s.1 r.1)
 
-backs_d : (f : ℕ → CVal) (own : Own) (d b : ℕ) (e : CDecl) → Older own b → Scoped_d (deep own d) e → Holds f b (codes_d e) → back_d own d f (hoist_d own d b e) ≡ e
+backs_d : (f : ℕ → CVal) (own : Own) (d b : ℕ) (e : CDecl) → Older own b → CScoped_d (deep own d) e → Holds f b (codes_d e) → back_d own d f (hoist_d own d b e) ≡ e
 backs_d f own d b (CName v) o s h = ap CName (backs_v f own d b v o s h)
 backs_d f own d b (CProj i v) o s h = ap (CProj i) (backs_v f own d b v o s h)
 backs_d f own d b (CArith op v w) o s h =
@@ -109,11 +109,11 @@ backs_d f own d b (CSet v w) o s h =
     let r = split f b (cv_next b v) (codes_v v) (codes_v w) (many_v b v) h in
     ap₂ CSet (backs_v f own d b v o s.0 r.0) (backs_v f own d (cv_next b v) w (older_than own b (cv_next b v) (omega (arith, many_v b v)) o) s.1 r.1)
 
-backs_t : (f : ℕ → CVal) (own : Own) (d b : ℕ) (t : CTm) → Older own b → Scoped_t (deep own d) t → Holds f b (codes_t t) → back_t own d f (hoist_t own d b t) ≡ t
+backs_t : (f : ℕ → CVal) (own : Own) (d b : ℕ) (t : CTm) → Older own b → CScoped (deep own d) t → Holds f b (codes_t t) → back_t own d f (hoist_t own d b t) ≡ t
 backs_t f own d b (CLet e t) o s h =
     let c = cd_next b e in
     let r = split f b c (codes_d e) (codes_t t) (many_d b e) h in
-    let inner : Scoped_t (deep own (suc d)) t = subst (λ m. Scoped_t m t) (sym (deep_suc own d)) s.1 in
+    let inner : CScoped (deep own (suc d)) t = subst (λ m. CScoped m t) (sym (deep_suc own d)) s.1 in
     ap₂ CLet (backs_d f own d b e o s.0 r.0) (backs_t f own (suc d) c t (older_than own b c (omega (arith, many_d b e)) o) inner r.1)
 backs_t f own d b (CCall g ts vs) o s h =
     let c = cv_next b g in
@@ -157,7 +157,7 @@ join : (b : ℕ) (ps qs rest : HBlks) (xs ys zs : List CVal) → codes b (ps ++ 
 join b ps qs rest xs ys zs h = ap (codes b) (append_assoc ps qs rest) ∙ h ∙ sym (append_assoc xs ys zs)
 
 mutual
-  found_v : (b e : ℕ) (v : CVal) (rest : HBlks) → Scoped_v e v → codes b (blocks_v b v ++ rest) ≡ codes_v v ++ codes (cv_next b v) rest
+  found_v : (b e : ℕ) (v : CVal) (rest : HBlks) → CScoped_v e v → codes b (blocks_v b v ++ rest) ≡ codes_v v ++ codes (cv_next b v) rest
   found_v b e (CVar i) rest s = refl
   found_v b e (CInt n) rest s = refl
   found_v b e (CTuple vs) rest s = found_vs b e vs rest s
@@ -166,18 +166,18 @@ mutual
       let scope : lift (ccount args) 1 ≡ suc (ccount args) = omega (arith, lift_add (ccount args) 1) in
       ap₂ (λ x xs. CCode owes args x ∷ xs)
       (ap (λ xs. back_t (Code b) (ccount args) (code_at (suc b) xs) (hoist_t (Code b) (ccount args) (suc b) body)) inner
-      ∙ backs_t _ (Code b) (ccount args) (suc b) body (omega arith) (subst (λ m. Scoped_t m body) scope s) (holds_front (suc b) (codes_t body) (codes (ct_next (suc b) body) rest)))
+      ∙ backs_t _ (Code b) (ccount args) (suc b) body (omega arith) (subst (λ m. CScoped m body) scope s) (holds_front (suc b) (codes_t body) (codes (ct_next (suc b) body) rest)))
       inner
   found_v b e (CApply v ts) rest s = found_v b e v rest s
   found_v b e (CPack k v t) rest s = found_v b e v rest s
 
-  found_vs : (b e : ℕ) (vs : CVals) (rest : HBlks) → Scoped_vs e vs → codes b (blocks_vs b vs ++ rest) ≡ codes_vs vs ++ codes (cvs_next b vs) rest
+  found_vs : (b e : ℕ) (vs : CVals) (rest : HBlks) → CScoped_vs e vs → codes b (blocks_vs b vs ++ rest) ≡ codes_vs vs ++ codes (cvs_next b vs) rest
   found_vs b e NoCVals rest s = refl
   found_vs b e (MoreCVals v vs) rest s =
       let c = cv_next b v in
       join b (blocks_v b v) (blocks_vs c vs) rest (codes_v v) (codes_vs vs) _ (found_v b e v (blocks_vs c vs ++ rest) s.0 ∙ ap (λ xs. codes_v v ++ xs) (found_vs c e vs rest s.1))
 
-  found_d : (b e : ℕ) (x : CDecl) (rest : HBlks) → Scoped_d e x → codes b (blocks_d b x ++ rest) ≡ codes_d x ++ codes (cd_next b x) rest
+  found_d : (b e : ℕ) (x : CDecl) (rest : HBlks) → CScoped_d e x → codes b (blocks_d b x ++ rest) ≡ codes_d x ++ codes (cd_next b x) rest
   found_d b e (CName v) rest s = found_v b e v rest s
   found_d b e (CProj i v) rest s = found_v b e v rest s
   found_d b e (CArith op v w) rest s =
@@ -190,7 +190,7 @@ mutual
       let c = cv_next b v in
       join b (blocks_v b v) (blocks_v c w) rest (codes_v v) (codes_v w) _ (found_v b e v (blocks_v c w ++ rest) s.0 ∙ ap (λ xs. codes_v v ++ xs) (found_v c e w rest s.1))
 
-  found_t : (b e : ℕ) (t : CTm) (rest : HBlks) → Scoped_t e t → codes b (blocks_t b t ++ rest) ≡ codes_t t ++ codes (ct_next b t) rest
+  found_t : (b e : ℕ) (t : CTm) (rest : HBlks) → CScoped e t → codes b (blocks_t b t ++ rest) ≡ codes_t t ++ codes (ct_next b t) rest
   found_t b e (CLet x t) rest s =
       let c = cd_next b x in
       join b (blocks_d b x) (blocks_t c t) rest (codes_d x) (codes_t t) _ (found_d b e x (blocks_t c t ++ rest) s.0 ∙ ap (λ xs. codes_d x ++ xs) (found_t c (suc e) t rest s.1))
@@ -204,7 +204,7 @@ mutual
       (found_v b e v ((blocks_t c t ++ blocks_t d u) ++ rest) s.0 ∙ ap (λ xs. codes_v v ++ xs) (join c (blocks_t c t) (blocks_t d u) rest (codes_t t) (codes_t u) _ (found_t c e t (blocks_t d u ++ rest) s.1 ∙ ap (λ xs. codes_t t ++ xs) (found_t d e u rest s.2))))
   found_t b e (CHalt v) rest s = found_v b e v rest s
 
-pub is_hoisted : (t : CTm) → Scoped_t 0 t → IsHoisted (blocks_of t) (main_of t) t
+pub is_hoisted : (t : CTm) → CScoped 0 t → IsHoisted (blocks_of t) (main_of t) t
 is_hoisted t s =
     let all : codes 0 (blocks_t 0 t) ≡ codes_t t = ap (codes 0) (sym (append-nil (blocks_t 0 t))) ∙ found_t 0 0 t [] s ∙ append-nil (codes_t t) in
     (all, ap (λ xs. back_t Nobody 0 (code_at 0 xs) (main_of t)) all ∙ backs_t (code_at 0 (codes_t t)) Nobody 0 0 t tt s (holds_all 0 (codes_t t)))

@@ -1,6 +1,7 @@
 -- What a variable becomes.
 use Rattle.std.proofs.Common.{◌≡◌, ◌<◌, ◌+◌, ℕ, zero, suc, ◌⊎◌, inl, inr, refl, ap, arith}
 use Rattle.term_core.specs.Ends.{lift}
+use Rattle.term_core.specs.Levels.{level_of}
 use Rattle.h_pass.specs.Hoist.{Code, Near, Nobody, Own, Self, deeper, spot}
 
 -- the names in scope of a closed term: in a code's body its own name is one more
@@ -34,3 +35,8 @@ first_or (suc d) (suc i) lt = up (first_or d i (omega (arith, lt)))
 pub lift_add : (n m : ℕ) → lift n m ≡ n + m
 lift_add zero m = omega arith
 lift_add (suc n) m = omega (arith, lift_add n m)
+
+pub level_below : (d i : ℕ) → i < d → level_of d i + suc i ≡ d
+level_below zero i h = absurd (omega arith)
+level_below (suc d) zero h = omega arith
+level_below (suc d) (suc i) h = omega (arith, level_below d i (omega arith))

@@ -12,6 +12,7 @@ code_at zero (v ∷ vs) (suc l) = code_at zero vs l
 code_at (suc b) (v ∷ vs) zero = CInt (pos 0)
 code_at (suc b) (v ∷ vs) (suc l) = code_at b (v ∷ vs) l
 
+-- one of two values
 abbrev pub if_own : Bool → CVal → CVal → CVal
 if_own true v w = v
 if_own false v w = w
@@ -35,6 +36,7 @@ abbrev mutual
   back_vs own d f NoHVals = NoCVals
   back_vs own d f (MoreHVals v vs) = MoreCVals (back_v own d f v) (back_vs own d f vs)
 
+-- declarations and terms
 abbrev pub back_d : Own → ℕ → (ℕ → CVal) → HDecl → CDecl
 back_d own d f (HName v) = CName (back_v own d f v)
 back_d own d f (HProj i v) = CProj i (back_v own d f v)
@@ -44,6 +46,7 @@ back_d own d f (HCell v) = CCell (back_v own d f v)
 back_d own d f (HGet v) = CGet (back_v own d f v)
 back_d own d f (HSet v w) = CSet (back_v own d f v) (back_v own d f w)
 
+-- a declaration binds one more variable
 abbrev pub back_t : Own → ℕ → (ℕ → CVal) → HTm → CTm
 back_t own d f (HLet e t) = CLet (back_d own d f e) (back_t own (suc d) f t)
 back_t own d f (HCall g ts vs) = CCall (back_v own d f g) ts (back_vs own d f vs)
@@ -53,7 +56,8 @@ back_t own d f (HHalt v) = CHalt (back_v own d f v)
 -- the codes of the blocks from label b on: a body sees its own name and the codes of later blocks
 abbrev pub codes : ℕ → HBlks → List CVal
 codes b [] = []
-codes b (k ∷ ks) = CCode k.owes k.args (back_t (Code b) (ccount k.args) (code_at (suc b) (codes (suc b) ks)) k.body) ∷ codes (suc b) ks
+codes b (k ∷ ks) = CCode k.owes k.args (back_t (Code b) (ccount k.args) (code_at (suc b) (codes (suc b) ks)) k.body) ∷
+    codes (suc b) ks
 
 -- the closed term: each block's code stands for its label
 abbrev pub put_back : HBlks → HTm → CTm
@@ -88,7 +92,8 @@ abbrev mutual
   codes_t (CIf v t u) = codes_v v ++ (codes_t t ++ codes_t u)
   codes_t (CHalt v) = codes_v v
 
--- a program is the hoisted form of a closed term: each code has one block of its own, the codes in order, and there is no other block;
+-- a program is the hoisted form of a closed term: each code has one block of its own, the codes in order, and there
+-- is no other block;
 -- and each block's code put back for its label gives the term
 abbrev pub IsHoisted : HBlks → HTm → CTm → Type 0
 IsHoisted ks t closed = (codes 0 ks ≡ codes_t closed) × (put_back ks t ≡ closed)

@@ -59,7 +59,8 @@ hoist_d own d b (CSet v w) = HSet (hoist_v own d b v) (hoist_v own d (cv_next b 
 abbrev pub hoist_t : Own → ℕ → ℕ → CTm → HTm
 hoist_t own d b (CLet e t) = HLet (hoist_d own d b e) (hoist_t own (suc d) (cd_next b e) t)
 hoist_t own d b (CCall f ts vs) = HCall (hoist_v own d b f) ts (hoist_vs own d (cv_next b f) vs)
-hoist_t own d b (CIf v t u) = HIf (hoist_v own d b v) (hoist_t own d (cv_next b v) t) (hoist_t own d (ct_next (cv_next b v) t) u)
+hoist_t own d b (CIf v t u) =
+    HIf (hoist_v own d b v) (hoist_t own d (cv_next b v) t) (hoist_t own d (ct_next (cv_next b v) t) u)
 hoist_t own d b (CHalt v) = HHalt (hoist_v own d b v)
 
 -- the block of the code with number b

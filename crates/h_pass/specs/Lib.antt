@@ -1,4 +1,6 @@
 pub mod Hoist
 pub mod Back
-pub mod Scoped
+pub mod Stream
+pub mod Walk
 pub mod Statements
+pub mod Example

@@ -16,6 +16,7 @@ mutual
     NoHVals : HVals
     MoreHVals : HVal → HVals → HVals
 
+-- a declaration names one value; `HUnpack` names a type too
 pub data HDecl : Type 0 where
   HName : HVal → HDecl
   HProj : ℕ → HVal → HDecl
@@ -31,11 +32,13 @@ pub data HTm : Type 0 where
   HIf : HVal → HTm → HTm → HTm
   HHalt : HVal → HTm
 
+-- a block takes `owes` types and values of the types `args`
 pub record HBlk : Type 0 where
   pub owes : ℕ
   pub args : CTys
   pub body : HTm
 
+-- the blocks, by label
 abbrev pub HBlks : Type 0
 HBlks = List HBlk
 

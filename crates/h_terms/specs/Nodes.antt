@@ -1,4 +1,5 @@
--- The trees of nodes: values of a node are read with a stack whose end is its top, terms from the last node to the first.
+-- The trees of nodes: values of a node are read with a stack whose end is its top, terms from the last node to the
+-- first.
 use Rattle.std.specs.Prelude.{◌≡◌, pos, ℕ, zero, suc, ◌-◌, List, [], ◌∷◌, ◌++◌, length, take, drop}
 use Rattle.h_terms.specs.declared.node.HPart.{HPart}
 use Rattle.h_terms.specs.declared.node.HPart.TheVariants.{Var, Int, Label, Tuple, Apply, Pack}
@@ -35,6 +36,7 @@ more (Tuple n) vs = tupled n vs
 more (Apply ts) vs = at_last (λ v. HApply v (ctys ts.items)) vs
 more (Pack h s) vs = at_last (λ v. HPack (ctree h) v (ctree s)) vs
 
+-- parts after values
 abbrev pub reads : List HVal → List HPart → List HVal
 reads vs [] = vs
 reads vs (p ∷ ps) = reads (more p vs) ps
@@ -43,6 +45,7 @@ reads vs (p ∷ ps) = reads (more p vs) ps
 abbrev pub values : HNode → List HVal
 values n = reads [] n.values.items
 
+-- what stands for a value, and for a term, where there is none
 abbrev pub no_value : HVal
 no_value = HInt (pos 0)
 
@@ -103,6 +106,7 @@ HRow [] n = n ≡ 0
 HRow (x ∷ xs) zero = ⊥
 HRow (x ∷ xs) (suc n) = HArity x.form (values x) × HRow xs (lift (h_kids x.form) n)
 
+-- blocks of nodes as blocks of trees
 abbrev pub h_block : HBlock → HBlk
 h_block k = record { owes = k.owes; args = ctys k.args.items; body = h_tree k.body.items }
 
@@ -110,6 +114,7 @@ abbrev pub h_blocks : List HBlock → List HBlk
 h_blocks [] = []
 h_blocks (k ∷ ks) = h_block k ∷ h_blocks ks
 
+-- the body of each block is the nodes of one term
 abbrev pub HRows : List HBlock → Type 0
 HRows [] = Unit {0}
 HRows (k ∷ ks) = HRow k.body.items 1 × HRows ks

@@ -1,4 +1,4 @@
-use Rattle.h_pass.proofs.hoist_types_law.Goals as goal
+use Rattle.h_pass.proofs.laws.hoist_types_law.Goals as goal
 use Rattle.c_terms.specs.Reach.{CWithin}
 use Rattle.h_pass.proofs.Sizes.{hoist_fits}
 use Rattle.h_pass.proofs.Types.{hoist_each}

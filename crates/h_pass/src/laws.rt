@@ -1,0 +1,43 @@
+// What hoisting keeps, on trees.
+ghost use Rattle.h_pass.specs.Statements.{HoistIsBack, HoistKept, HoistTypesKept, HoistReach, HoistFits};
+ghost use Rattle.h_pass.specs.Statements.{BoundIsSmall, ScopedIsBack, NodesKept};
+
+use c_terms::laws::{typed_is_any_law, typed_is_scoped_law, within_is_typed_law};
+use h_terms::laws::h_typed_is_any_law;
+
+/// Each code has one block of its own, there is no other block, and each block's code put back for its label gives the
+/// closed term.
+pub fn hoist_is_back_law()
+    ensures { HoistIsBack }
+{
+    typed_is_scoped_law();
+}
+
+/// Within any number of calls the hoisted program ends as the closed one does, and enters the same codes.
+pub fn hoist_meaning_law()
+    ensures { HoistKept }
+{}
+
+/// Hoisting keeps typing, adds nothing to the reach of types, and keeps each bound.
+pub fn hoist_types_law()
+    ensures types { HoistTypesKept }
+    ensures reach { HoistReach }
+    ensures fits { HoistFits }
+{
+    typed_is_any_law();
+    h_typed_is_any_law();
+}
+
+// The names of a program's term are in scope, and its bodies are small.
+pub(crate) fn bound_is_small_law()
+    ensures { BoundIsSmall }
+{
+    within_is_typed_law();
+    typed_is_scoped_law();
+}
+
+// What holds of each such term.
+pub(crate) fn scoped_is_back_law()
+    ensures back { ScopedIsBack }
+    ensures nodes { NodesKept }
+{}

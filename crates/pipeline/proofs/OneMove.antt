@@ -13,13 +13,13 @@ use Rattle.t_rules.specs.Machine.{IntWord, State, At, no_words, Place, Step, Whe
 use Rattle.pipeline.specs.Meaning.{SameMeaning}
 
 pub whole : (i : ℤ) → Whole (one_move i)
-whole i = (omega arith, ((omega arith, tt, (((omega arith, omega arith), (tt, tt)), omega arith, tt)), tt))
+whole i = (omega arith, ((omega arith, tt, (((omega arith, omega arith), (tt, tt)), omega arith, tt)), tt), tt)
 
 pub accepted : (i : ℤ) → Accepted (one_move i)
-accepted i = ((refl, refl), ((_, (IntTy, refl, refl), refl), tt))
+accepted i = ((refl, refl), tt, ((tt, (_, (IntTy, refl, refl), refl)), tt))
 
 pub halts : (i : ℤ) → Halts (one_move i) i
-halts i = (1, (1, _, _, omega arith, (_, _, _, ((_, refl, refl), refl), (_, refl, refl, refl), refl), refl))
+halts i = (1, (1, omega arith, (_, _, (_, _, _, ((_, refl, refl), refl), (_, refl, refl, refl), refl), refl)))
 
 abbrev at_halt : ℤ → State
 at_halt i = At [] (with_reg no_words 1 (IntWord i)) (Ends Halt)
@@ -49,5 +49,5 @@ answers i j (suc m) s p run halted = let here : Some (IntWord i) ≡ Some (IntWo
 pub same : (i : ℤ) → SameMeaning (MNum i) (one_move i)
 same i = record {
   forth = λ n j h. let here = h.1 in let e : i ≡ j = cc in subst (Halts (one_move i)) e (halts i);
-  back = λ n j h. (n, ap (λ x. Gives (VInt x) n) (answers i j h.0 h.1 h.2 h.4 h.5));
+  back = λ n j h. let k = h.2 in (n, ap (λ x. Gives (VInt x) n) (answers i j h.0 k.0 k.1 k.2 k.3));
 }

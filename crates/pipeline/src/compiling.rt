@@ -5,7 +5,7 @@ ghost use Rattle.f_check.specs.Typed.{program_term};
 ghost use Rattle.pipeline.specs.Meaning.{IsNumber, IsProgramOf, SameMeaning};
 ghost use Rattle.t_check.specs.Checked.{checked_program};
 ghost use Rattle.t_rules.specs.Rules.{Accepted};
-ghost use Rattle.t_terms.specs.Read.{blocks_of};
+ghost use Rattle.t_terms.specs.ReadProgram.{program as program_tree};
 ghost use Rattle.t_terms.specs.Shapes.{operations, one_move, IsOneMove};
 
 use f_check::Program;
@@ -30,10 +30,10 @@ pub fn is_number(program: &Program) -> bool
 /// evaluates to. Only a program that is one integer is compiled yet. Answers want of memory alone.
 pub fn compile(alloc: Global, program: &Program) -> Result<Checked, OutOfMemory>
     requires { IsNumber (term_of (program_term program.now)) }
-    ensures meaning { IfOk result (λ p. SameMeaning (term_of (program_term program.now)) (blocks_of (checked_program p).blocks.items)) }
-    ensures accepted { IfOk result (λ p. Accepted (blocks_of (checked_program p).blocks.items)) }
-    ensures arithmetic { IfOk result (λ p. operations (blocks_of (checked_program p).blocks.items) ≡ 0) }
-    ensures shape { IfOk result (λ p. IsOneMove (blocks_of (checked_program p).blocks.items)) }
+    ensures meaning { IfOk result (λ p. SameMeaning (term_of (program_term program.now)) (program_tree (checked_program p))) }
+    ensures accepted { IfOk result (λ p. Accepted (program_tree (checked_program p))) }
+    ensures arithmetic { IfOk result (λ p. operations (program_tree (checked_program p)) ≡ 0) }
+    ensures shape { IfOk result (λ p. IsOneMove (program_tree (checked_program p))) }
 {
     let compiled = program_of(alloc, program)?;
     Ok(seal(compiled))
@@ -42,7 +42,7 @@ pub fn compile(alloc: Global, program: &Program) -> Result<Checked, OutOfMemory>
 // The assembly program of a program that is one integer.
 fn program_of(alloc: Global, program: &Program) -> Result<TProgram, OutOfMemory>
     requires { IsNumber (term_of (program_term program.now)) }
-    ensures { IfOk result (λ p. IsProgramOf (term_of (program_term program.now)) (blocks_of p.blocks.items)) }
+    ensures { IfOk result (λ p. IsProgramOf (term_of (program_term program.now)) (program_tree p)) }
 {
     let term = program.term();
     match &term.form {
@@ -53,7 +53,7 @@ fn program_of(alloc: Global, program: &Program) -> Result<TProgram, OutOfMemory>
 
 // One block: the integer is moved into register 1.
 fn move_and_halt(alloc: Global, i: i64, span: Span) -> Result<TProgram, OutOfMemory>
-    ensures { IfOk result (λ p. blocks_of p.blocks.items ≡ one_move i) }
+    ensures { IfOk result (λ p. program_tree p ≡ one_move i) }
 {
     let v = Value::Plain {
         base: Base::Int(i),
@@ -73,7 +73,10 @@ fn move_and_halt(alloc: Global, i: i64, span: Span) -> Result<TProgram, OutOfMem
     };
     let mut blocks = Vec::new(alloc);
     blocks.push(block)?;
-    Ok(TProgram { blocks })
+    Ok(TProgram {
+        blocks,
+        heap: Vec::new(alloc),
+    })
 }
 
 #[cfg(test)]

@@ -7,6 +7,9 @@ use Rattle.t_types.specs.Tree.{Ty, IntTy, VarTy, CodeTy, ExistsTy, TupleTy, TFil
 use Rattle.t_types.specs.TreeLaws.{types_part, types_each, types_over, file_each, file_over, fields_each, fields_over}
 use Rattle.t_types.specs.WellFormed.{max_names, WellFormed, WellFormedFile, WellFormedFields, WellFormedTypes, RegsAbove}
 use Rattle.t_types.specs.Fields.{AField, field, filled, empty_fields}
+use Rattle.t_terms.specs.Tree.{TData}
+use Rattle.t_terms.specs.Whole.{WellFormedData}
+use Rattle.t_rules.specs.Rules.{data_fields, data_type}
 use Rattle.t_check.specs.Bounds.{ShallowAt, ShallowBelow, Shallow, OwedAt, OwedBelow, OwedFile, Bounded}
 
 -- what holds of each variable and depth, weakened, and counted from another depth
@@ -191,3 +194,14 @@ filled_shallow n (MoreFields u x fs) (suc i) h = (h.0, filled_shallow n fs i h.1
 pub empty_shallow : (n : ℕ) (ts : List Ty) → WellFormedTypes n ts → Shallow n (TupleTy (empty_fields ts))
 empty_shallow n [] h = tt
 empty_shallow n (t ∷ ts) h = (shallow n t h.0, empty_shallow n ts h.1)
+
+-- the types of a data tuple, which are closed
+closed_shallow : (n : ℕ) (t : Ty) → WellFormed 0 t → Shallow n t
+closed_shallow n t h = weaker (ShallowAt 0) (ShallowAt n) ShallowBelow ShallowBelow 0 0 (λ e i k. let lt = k.0 in (omega arith, k.1)) (λ e k. k) t (shallow 0 t h)
+
+data_shallow : (n p q : ℕ) (x : TData) → WellFormedData p q x → each_fields (ShallowAt n) ShallowBelow 0 (data_fields x)
+data_shallow n p q [] h = tt
+data_shallow n p q (x ∷ xs) h = (closed_shallow n x.ty h.0.2, data_shallow n p q xs h.1)
+
+pub data_bounded : (n : ℕ) (x : TData) (p q : ℕ) → WellFormedData p q x → Bounded n (data_type x)
+data_bounded n x p q h = data_shallow n p q x h

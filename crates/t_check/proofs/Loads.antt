@@ -11,7 +11,7 @@ use Rattle.t_types.specs.Read.{tree, fields}
 use Rattle.t_types.specs.declared.types.TType.{TType}
 use Rattle.t_terms.specs.declared.fault.TCode.{TCode}
 use Rattle.t_terms.specs.declared.fault.TCode.TheVariants.{T11}
-use Rattle.t_rules.specs.Faults.{Refusal, refuse, if_tuple, if_field, register, tuple, field_at}
+use Rattle.t_rules.specs.Faults.{Fault, if_tuple, if_field, register, tuple, field_at}
 use Rattle.t_check.specs.Bounds.{Bounded}
 use Rattle.t_check.specs.Known.{seen, IsEntry}
 use Rattle.t_check.specs.declared.registers.Entry.{Entry}
@@ -52,11 +52,11 @@ module _ (n : ℕ) (e : Entry) (xs : List (TType × Bool)) (is : tree e.ty ≡ T
         subst (Bounded n) (sym same) (subst (λ m. Bounded m (shift (n - e.names) 0 (tree x.0))) sum (bounded_shift e.names (n - e.names) (tree x.0) own_bounded))
 
 -- T11 where there is no such field, and what follows where there is
-module _ (g : RegTypes) (r i : ℕ) (s : Span) (rest : TFields → Ty → Bool → Refusal) (fs : TFields) (known : g r ≡ Some (TupleTy fs)) where
-  abbrev pub Checked : Refusal
+module _ (g : RegTypes) (r i : ℕ) (s : Span) (rest : TFields → Ty → Bool → Fault) (fs : TFields) (known : g r ≡ Some (TupleTy fs)) where
+  abbrev pub Checked : Fault
   Checked = register g r s (λ t. tuple t s (λ hs. field_at hs i s (rest hs)))
 
-  abbrev There : TFields → Refusal
+  abbrev There : TFields → Fault
   There hs = field_at hs i s (rest hs)
 
   pub field_absent : field fs i ≡ None → Checked T11 s

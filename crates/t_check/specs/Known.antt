@@ -54,3 +54,8 @@ IsTupleWith u i = (fs : TFields) × (t : Ty) × (flag : Bool) × (u ≡ TupleTy 
 -- the register is known to hold one
 abbrev pub HasField : RegTypes → ℕ → ℕ → Type 0
 HasField g r i = (u : Ty) × (g r ≡ Some u) × IsTupleWith u i
+
+-- no type names, and no register has a type
+pub record IsEmpty (k : Registers) : Type 0 where
+  pub names : k.names ≡ 0
+  pub entries : k.entries.items ≡ []

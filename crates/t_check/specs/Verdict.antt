@@ -1,34 +1,56 @@
 -- What the parts of the checker answer.
 use Rattle.std.specs.Prelude.{◌≡◌, ◌≢◌, ℕ, List, length, Bool, IsTrue, ◌↔◌, Option, Some, None, Result, Ok, Err}
 use Rattle.idx_core.specs.declared.span.Span.{Span}
+use Rattle.text_core.specs.Refusals.{nothing, refuse, check}
 use Rattle.t_types.specs.Tree.{Ty, IntTy, CodeTy, ExistsTy, TupleTy, TFile, TFields, put}
 use Rattle.t_types.specs.Fields.{AField, field}
 use Rattle.t_types.specs.Fits.{Fits, FitsFile, RegTypes}
 use Rattle.t_types.specs.Read.{tree, file, fields}
 use Rattle.t_types.specs.declared.types.TType.{TType}
 use Rattle.t_types.specs.declared.types.RegFile.{RegFile}
-use Rattle.t_terms.specs.Tree.{TBase, TValue, TInstr, TEnd, TBlock, names_after}
-use Rattle.t_terms.specs.Spanned.{SBlock, plain, plain_blocks}
-use Rattle.t_terms.specs.Read.{blocks_of}
-use Rattle.t_terms.specs.Whole.{Whole}
-use Rattle.t_terms.specs.declared.block.Block.{Block}
+use Rattle.t_terms.specs.Tree.{TBase, TValue, TInstr, TEnd, TBlock, TProg, names_after}
+use Rattle.t_terms.specs.Spanned.{SBlock, SDatum, SData, SProg, plain, plain_datum, plain_fields, plain_blocks, plain_heap, plain_program}
+use Rattle.t_terms.specs.ReadProgram.{program, spanned_program}
+use Rattle.t_terms.specs.Whole.{WellFormedBase, WellFormedValue, WellFormedInstr, WellFormedEnd, WellFormedBlock, WellFormedDatum, WellFormedData}
+use Rattle.t_terms.specs.declared.program.TProgram.{TProgram}
+use Rattle.t_terms.specs.declared.fault.TCode.{TCode}
 use Rattle.t_terms.specs.declared.fault.TCode.TheVariants.{T13, T15}
 use Rattle.t_terms.specs.declared.fault.TFault.{TFault}
 use Rattle.t_terms.specs.declared.fault.TFault.TheVariants.{Memory, Refused}
-use Rattle.t_rules.specs.Rules.{BaseHas, Has, Enters, Typed, EndTyped, BlockAccepted, BlocksAccepted, Accepted}
-use Rattle.t_rules.specs.Faults.{Refusal, nothing, refuse, check, if_exists, register, integer, tuple, field_at, BaseFault, ValueFault, EnterFault, InstrFault, EndFault, BlockFault, BlocksFault, ProgramFault}
+use Rattle.t_rules.specs.Rules.{BaseHas, Has, Enters, Typed, EndTyped, BlockAccepted, BlocksAccepted, DatumAccepted, DataAccepted, HeapAccepted, Accepted}
+use Rattle.t_rules.specs.Faults.{Fault, if_exists, register, integer, tuple, field_at, BaseFault, ValueFault, EnterFault, InstrFault, EndFault, BlockFault, BlocksFault, DatumFault, DataFault, HeapFault, ProgramFault}
 use Rattle.t_check.specs.Bounds.{Bounded}
+use Rattle.t_check.specs.Checked.{checked_program}
 use Rattle.t_check.specs.Known.{known, IsSound}
+use Rattle.t_check.specs.declared.checked.Checked.{Checked}
 use Rattle.t_check.specs.declared.registers.Registers.{Registers}
 
 -- the fault is want of memory, or the one that is described
-abbrev pub Says : TFault → Refusal → Type 0
+abbrev pub Says : TFault → Fault → Type 0
 Says Memory fault = Unit {0}
 Says (Refused code span) fault = fault code span
 
--- what each part relies on: the invariant of the program, and of what is known
-abbrev pub IsReady : List Block → Registers → Type 0
-IsReady bs k = Whole (blocks_of bs) × IsSound k
+-- the parts of a program are well formed in it
+abbrev pub FormedBase : TProgram → TBase → Type 0
+FormedBase p = WellFormedBase (length p.blocks.items) (length p.heap.items)
+
+abbrev pub FormedValue : TProgram → ℕ → TValue → Type 0
+FormedValue p = WellFormedValue (length p.blocks.items) (length p.heap.items)
+
+abbrev pub FormedInstr : TProgram → ℕ → TInstr → Type 0
+FormedInstr p = WellFormedInstr (length p.blocks.items) (length p.heap.items)
+
+abbrev pub FormedEnd : TProgram → ℕ → TEnd → Type 0
+FormedEnd p = WellFormedEnd (length p.blocks.items) (length p.heap.items)
+
+abbrev pub FormedBlock : TProgram → TBlock → Type 0
+FormedBlock p = WellFormedBlock (length p.blocks.items) (length p.heap.items)
+
+abbrev pub FormedDatum : TProgram → SDatum → Type 0
+FormedDatum p x = WellFormedDatum (length p.blocks.items) (length p.heap.items) (plain_datum x)
+
+abbrev pub FormedData : TProgram → List SDatum → Type 0
+FormedData p xs = WellFormedData (length p.blocks.items) (length p.heap.items) (plain_fields xs)
 
 -- the parts of a type, where it has that form
 abbrev pub IsCode : Ty → Option (ℕ × RegFile) → Type 0
@@ -40,14 +62,14 @@ IsExists t (Some body) = t ≡ ExistsTy (tree body)
 IsExists t None = (body : Ty) → t ≢ ExistsTy body
 
 -- the type of a base, or its first fault
-abbrev pub IsTypeOfBase : List TBlock → Registers → Span → TBase → Result TType TFault → Type 0
+abbrev pub IsTypeOfBase : TProg → Registers → Span → TBase → Result TType TFault → Type 0
 IsTypeOfBase P k s b (Ok t) = BaseHas P (known k) b (tree t) × Bounded k.names (tree t)
 IsTypeOfBase P k s b (Err f) = Says f (BaseFault (known k) s b)
 
 -- the type of a value, or its first fault
-abbrev pub IsTypeOf : List TBlock → Registers → Span → TValue → Result TType TFault → Type 0
-IsTypeOf P k s v (Ok t) = Has P (known k) v (tree t) × Bounded k.names (tree t)
-IsTypeOf P k s v (Err f) = Says f (ValueFault P (known k) s v)
+abbrev pub IsTypeOf : TProg → Registers → Span → TValue → Result TType TFault → Type 0
+IsTypeOf P k s v (Ok t) = Has P k.names (known k) v (tree t) × Bounded k.names (tree t)
+IsTypeOf P k s v (Err f) = Says f (ValueFault P k.names (known k) s v)
 
 -- the type of a package of this shape around a value of the type t, or its fault
 abbrev pub IsPacked : Ty → Ty → Ty → Span → Result TType TFault → Type 0
@@ -72,31 +94,61 @@ IsStored g rd i rs s (Err f) =
     Says f (register g rd s (λ t. tuple t s (λ fs. field_at fs i s (λ u flag. register g rs s (λ w. check (Fits w u) (refuse T13 s) nothing)))))
 
 -- the value may be entered, or the first fault of it
-abbrev pub IsEntered : List TBlock → RegTypes → Span → TValue → Result (Unit {0}) TFault → Type 0
-IsEntered P g s v (Ok u) = Enters P g v
-IsEntered P g s v (Err f) = Says f (EnterFault P g s v)
+abbrev pub IsEntered : TProg → Registers → Span → TValue → Result (Unit {0}) TFault → Type 0
+IsEntered P k s v (Ok u) = Enters P k.names (known k) v
+IsEntered P k s v (Err f) = Says f (EnterFault P k.names (known k) s v)
 
 -- the instruction is typed and leaves the registers known so, or its first fault
-abbrev pub IsStep : List TBlock → Registers → Registers → Span → TInstr → Result (Unit {0}) TFault → Type 0
-IsStep P k h s i (Ok u) = Typed P (known k) i (known h) × IsSound h × (h.names ≡ names_after i k.names)
-IsStep P k h s i (Err f) = Says f (InstrFault P (known k) s i)
+abbrev pub IsStep : TProg → Registers → Registers → Span → TInstr → Result (Unit {0}) TFault → Type 0
+IsStep P k h s i (Ok u) = Typed P k.names (known k) i (known h) × IsSound h × (h.names ≡ names_after i k.names)
+IsStep P k h s i (Err f) = Says f (InstrFault P k.names (known k) s i)
 
 -- the end is typed, or its first fault
-abbrev pub IsEnd : List TBlock → RegTypes → Span → TEnd → Result (Unit {0}) TFault → Type 0
-IsEnd P g s e (Ok u) = EndTyped P g e
-IsEnd P g s e (Err f) = Says f (EndFault P g s e)
+abbrev pub IsEnd : TProg → Registers → Span → TEnd → Result (Unit {0}) TFault → Type 0
+IsEnd P k s e (Ok u) = EndTyped P k.names (known k) e
+IsEnd P k s e (Err f) = Says f (EndFault P k.names (known k) s e)
 
 -- the block is accepted, or its first fault
-abbrev pub IsBlock : List TBlock → SBlock → Result (Unit {0}) TFault → Type 0
+abbrev pub IsBlock : TProg → SBlock → Result (Unit {0}) TFault → Type 0
 IsBlock P b (Ok u) = BlockAccepted P (plain b)
 IsBlock P b (Err f) = Says f (BlockFault P b)
 
 -- the blocks are accepted, or their first fault
-abbrev pub AreBlocks : List TBlock → List SBlock → Result (Unit {0}) TFault → Type 0
+abbrev pub AreBlocks : TProg → List SBlock → Result (Unit {0}) TFault → Type 0
 AreBlocks P bs (Ok u) = BlocksAccepted P (plain_blocks bs)
 AreBlocks P bs (Err f) = Says f (BlocksFault P bs)
 
+-- the word of data is accepted, or its first fault
+abbrev pub IsDatum : TProg → SDatum → Result (Unit {0}) TFault → Type 0
+IsDatum P x (Ok u) = DatumAccepted P (plain_datum x)
+IsDatum P x (Err f) = Says f (DatumFault P x)
+
+-- the words of a data tuple are accepted, or their first fault
+abbrev pub IsData : TProg → List SDatum → Result (Unit {0}) TFault → Type 0
+IsData P xs (Ok u) = DataAccepted P (plain_fields xs)
+IsData P xs (Err f) = Says f (DataFault P xs)
+
+-- the data are accepted, or their first fault
+abbrev pub IsHeap : TProg → List SData → Result (Unit {0}) TFault → Type 0
+IsHeap P xs (Ok u) = HeapAccepted P (plain_heap xs)
+IsHeap P xs (Err f) = Says f (HeapFault P xs)
+
 -- the program is accepted, or its first fault
-abbrev pub IsProgram : List SBlock → Result (Unit {0}) TFault → Type 0
-IsProgram bs (Ok u) = Accepted (plain_blocks bs)
-IsProgram bs (Err f) = Says f (ProgramFault bs)
+abbrev pub IsProgram : SProg → Result (Unit {0}) TFault → Type 0
+IsProgram P (Ok u) = Accepted (plain_program P)
+IsProgram P (Err f) = Says f (ProgramFault P)
+
+-- the program that was checked is the one that was put in, and is accepted; or it is handed back with its first fault
+abbrev pub IsVerdict : TProgram → Result Checked (TProgram × TFault) → Type 0
+IsVerdict p (Ok r) = (checked_program r ≡ p) × Accepted (program p)
+IsVerdict p (Err r) = (r.0 ≡ p) × Says r.1 (ProgramFault (spanned_program p))
+
+-- an accepted program is refused for want of memory alone
+abbrev pub AcceptsOrWants : Result Checked (TProgram × TFault) → Type 0
+AcceptsOrWants (Ok r) = Unit {0}
+AcceptsOrWants (Err r) = r.1 ≡ Memory
+
+-- a program with this first fault is refused for it, or for want of memory
+abbrev pub RefusesOrWants : TCode → Span → Result Checked (TProgram × TFault) → Type 0
+RefusesOrWants code span (Ok r) = ⊥
+RefusesOrWants code span (Err r) = r.1 ≢ Memory → r.1 ≡ Refused code span

@@ -1,30 +1,29 @@
 // The checker.
-ghost use Rattle.std.specs.Prelude.{◌≡◌, ◌≢◌, MatchResult, IfErr, IsErrAnd};
+ghost use Rattle.std.specs.Prelude.{◌≡◌};
 ghost use Rattle.idx_core.specs.declared.span.Span as places;
-ghost use Rattle.t_terms.specs.Read.{blocks_of, spanned_blocks};
+ghost use Rattle.t_terms.specs.ReadProgram.{program as program_of, spanned_program};
 ghost use Rattle.t_terms.specs.declared.fault.TCode as codes;
-ghost use Rattle.t_terms.specs.declared.fault.TFault.TheVariants as fault;
 ghost use Rattle.t_rules.specs.Rules.{Accepted};
 ghost use Rattle.t_rules.specs.Faults.{ProgramFault};
 ghost use Rattle.t_check.specs.Checked.{checked_program};
-ghost use Rattle.t_check.specs.Verdict.{Says};
+ghost use Rattle.t_check.specs.Verdict.{IsVerdict, AcceptsOrWants, RefusesOrWants};
 
 use crate::checked::Checked;
 use crate::program::check_program;
 use std::alloc::Global;
-use t_rules::{accepted_programs_have_no_fault, one_fault};
+use t_rules::{at_most_one_fault, no_fault_where_accepted};
 use t_terms::{TFault, TProgram};
 
 /// The program, where the typing rules accept it; else its first fault in checking order, T20 and then T08 to T19, with
 /// the program handed back.
 pub fn check(alloc: Global, program: TProgram) -> Result<Checked, (TProgram, TFault)>
-    ensures right { MatchResult result (λ r. (checked_program r ≡ program) × Accepted (blocks_of program.blocks.items)) (λ r. (r.0 ≡ program) × Says r.1 (ProgramFault (spanned_blocks program.blocks.items))) }
-    ensures accepted { Accepted (blocks_of program.blocks.items) → IfErr result (λ r. r.1 ≡ fault.Memory) }
-    ensures refused { (code : codes.TCode) (span : places.Span) → ProgramFault (spanned_blocks program.blocks.items) code span → IsErrAnd result (λ r. r.1 ≢ fault.Memory → r.1 ≡ fault.Refused code span) }
+    ensures right { IsVerdict program result }
+    ensures accepted { Accepted (program_of program) → AcceptsOrWants result }
+    ensures refused { (code : codes.TCode) (span : places.Span) → ProgramFault (spanned_program program) code span → RefusesOrWants code span result }
 {
-    accepted_programs_have_no_fault();
-    one_fault();
-    match check_program(alloc, &program.blocks) {
+    no_fault_where_accepted();
+    at_most_one_fault();
+    match check_program(alloc, &program) {
         Ok(()) => Ok(Checked { program }),
         Err(e) => Err((program, e)),
     }
@@ -32,7 +31,7 @@ pub fn check(alloc: Global, program: TProgram) -> Result<Checked, (TProgram, TFa
 
 /// A program that the typing rules accept, as the caller knows, with no check.
 pub fn seal(program: TProgram) -> Checked
-    requires { Accepted (blocks_of program.blocks.items) }
+    requires { Accepted (program_of program) }
     ensures { checked_program result ≡ program }
 {
     Checked { program }

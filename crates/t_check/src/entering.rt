@@ -1,33 +1,33 @@
 // Where a jump leads: code that owes no types, and takes registers that are known by types that fit.
-ghost use Rattle.std.specs.Prelude.{◌↔◌, IfOk, IsTrue, length};
+ghost use Rattle.std.specs.Prelude.{◌↔◌, IfOk, IsTrue};
 ghost use Rattle.t_types.specs.Fits.{Fits, FitsFile};
 ghost use Rattle.t_types.specs.Read.{tree, file};
-ghost use Rattle.t_terms.specs.Read.{value, blocks_of};
-ghost use Rattle.t_terms.specs.Whole.{WellFormedValue};
+ghost use Rattle.t_terms.specs.Read.{value};
+ghost use Rattle.t_terms.specs.ReadProgram.{program as program_of};
 ghost use Rattle.t_check.specs.Known.{seen, known, IsSound, IsEntry};
-ghost use Rattle.t_check.specs.Verdict.{IsReady, IsEntered};
+ghost use Rattle.t_check.specs.Verdict.{FormedValue, IsEntered};
 
 use crate::parts::{code_parts, refused};
 use crate::registers::{Entry, Registers};
 use crate::values::type_of_value;
 use idx_core::{OutOfMemory, Span};
 use std::alloc::Global;
-use t_terms::{Block, TCode, TFault, Value};
+use t_terms::{TCode, TFault, TProgram, Value};
 use t_types::{TType, fits};
 
 // Whether the value may be entered.
 pub(crate) fn check_target(
     alloc: Global,
-    blocks: &[Block],
+    program: &TProgram,
     registers: &Registers,
     v: &Value,
     span: Span,
 ) -> Result<(), TFault>
-    requires ready { IsReady blocks.now registers.now }
-    requires value { WellFormedValue (length blocks.now) registers.now.names (value v.now) }
-    ensures { IsEntered (blocks_of blocks.now) (known registers.now) span (value v.now) result }
+    requires sound { IsSound registers.now }
+    requires value { FormedValue program.now registers.now.names (value v.now) }
+    ensures { IsEntered (program_of program.now) registers.now span (value v.now) result }
 {
-    let found = match type_of_value(alloc, blocks, registers, v, span) {
+    let found = match type_of_value(alloc, program, registers, v, span) {
         Ok(t) => t,
         Err(e) => return Err(e),
     };

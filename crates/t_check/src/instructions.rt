@@ -1,15 +1,15 @@
 // Instructions, each as the typing rules say: its checks in order, and what is known of the registers after it.
-ghost use Rattle.std.specs.Prelude.{◌≡◌, ◌+◌, ◌≤◌, IfOk, List, length};
+ghost use Rattle.std.specs.Prelude.{◌≡◌, ◌+◌, ◌≤◌, IfOk};
 ghost use Rattle.idx_core.specs.declared.arith.Op as operations;
 ghost use Rattle.idx_core.specs.declared.span.Span as places;
 ghost use Rattle.t_types.specs.Fields.{empty_fields};
 ghost use Rattle.t_types.specs.WellFormed.{IsRegister, max_names, WellFormedTypes};
 ghost use Rattle.t_types.specs.Read.{fields, types as type_trees};
-ghost use Rattle.t_terms.specs.Tree.{TBlock, Arith, Bnz, Ld, Malloc, Mov, St, Unpack, names_after};
-ghost use Rattle.t_terms.specs.Read.{value, instr, end_of, blocks_of};
-ghost use Rattle.t_terms.specs.Whole.{WellFormedValue, WellFormedInstr, WellFormedEnd};
+ghost use Rattle.t_terms.specs.Tree.{TProg, Arith, Bnz, Ld, Malloc, Mov, St, Unpack, names_after};
+ghost use Rattle.t_terms.specs.Read.{value, instr, end_of};
+ghost use Rattle.t_terms.specs.ReadProgram.{program as program_of};
 ghost use Rattle.t_check.specs.Known.{known, IsSound};
-ghost use Rattle.t_check.specs.Verdict.{IsReady, IsInteger, IsFieldOf, IsStored, IsStep, IsEnd};
+ghost use Rattle.t_check.specs.Verdict.{FormedValue, FormedInstr, FormedEnd, IsInteger, IsFieldOf, IsStored, IsStep, IsEnd};
 
 use crate::entering::{check_target, fits_entry};
 use crate::parts::{exists_body, is_int, refused};
@@ -17,53 +17,53 @@ use crate::registers::Registers;
 use crate::values::type_of_value;
 use idx_core::{OutOfMemory, Scoped, Span};
 use std::alloc::Global;
-use t_terms::{Block, End, Instr, TCode, TFault, Value};
+use t_terms::{End, Instr, TCode, TFault, TProgram, Value};
 use t_types::{TType, copy};
 
 pub(crate) fn check_instr(
     alloc: Global,
-    blocks: &[Block],
+    program: &TProgram,
     registers: &mut Registers,
     i: &Instr,
     span: Span,
 ) -> Result<(), TFault>
-    requires ready { IsReady blocks.now registers.old }
-    requires instr { WellFormedInstr (length blocks.now) registers.old.names (instr i.now) }
+    requires sound { IsSound registers.old }
+    requires instr { FormedInstr program.now registers.old.names (instr i.now) }
     requires few { names_after (instr i.now) registers.old.names ≤ max_names }
-    ensures { IsStep (blocks_of blocks.now) registers.old registers.new span (instr i.now) result }
+    ensures { IsStep (program_of program.now) registers.old registers.new span (instr i.now) result }
 {
     match i {
         Instr::Arith { op: _, rd, rs, v } => {
-            check_arith(alloc, blocks, registers, *rd, *rs, v, span)
+            check_arith(alloc, program, registers, *rd, *rs, v, span)
         }
-        Instr::Bnz { r, v } => check_bnz(alloc, blocks, registers, *r, v, span),
+        Instr::Bnz { r, v } => check_bnz(alloc, program, registers, *r, v, span),
         Instr::Ld { rd, rs, field } => check_ld(alloc, registers, *rd, *rs, *field, span),
         Instr::Malloc { rd, types } => check_malloc(alloc, registers, *rd, types),
-        Instr::Mov { rd, v } => check_mov(alloc, blocks, registers, *rd, v, span),
+        Instr::Mov { rd, v } => check_mov(alloc, program, registers, *rd, v, span),
         Instr::St { rd, field, rs } => check_st(alloc, registers, *rd, *field, *rs, span),
-        Instr::Unpack { rd, v } => check_unpack(alloc, blocks, registers, *rd, v, span),
+        Instr::Unpack { rd, v } => check_unpack(alloc, program, registers, *rd, v, span),
     }
 }
 
 fn check_arith(
     alloc: Global,
-    blocks: &[Block],
+    program: &TProgram,
     registers: &mut Registers,
     rd: u64,
     rs: u64,
     v: &Value,
     span: Span,
 ) -> Result<(), TFault>
-    requires ready { IsReady blocks.now registers.old }
+    requires sound { IsSound registers.old }
     requires rd { IsRegister rd }
-    requires value { WellFormedValue (length blocks.now) registers.old.names (value v.now) }
-    ensures { (op : operations.Op) → IsStep (blocks_of blocks.now) registers.old registers.new span (Arith op rd rs (value v.now)) result }
+    requires value { FormedValue program.now registers.old.names (value v.now) }
+    ensures { (op : operations.Op) → IsStep (program_of program.now) registers.old registers.new span (Arith op rd rs (value v.now)) result }
 {
     match check_int(registers, rs, span) {
         Ok(()) => (),
         Err(e) => return Err(e),
     }
-    let found = match type_of_value(alloc, blocks, registers, v, span) {
+    let found = match type_of_value(alloc, program, registers, v, span) {
         Ok(t) => t,
         Err(e) => return Err(e),
     };
@@ -95,18 +95,18 @@ fn check_int(registers: &Registers, r: u64, span: Span) -> Result<(), TFault>
 
 fn check_bnz(
     alloc: Global,
-    blocks: &[Block],
+    program: &TProgram,
     registers: &mut Registers,
     r: u64,
     v: &Value,
     span: Span,
 ) -> Result<(), TFault>
-    requires ready { IsReady blocks.now registers.old }
-    requires value { WellFormedValue (length blocks.now) registers.old.names (value v.now) }
-    ensures { IsStep (blocks_of blocks.now) registers.old registers.new span (Bnz r (value v.now)) result }
+    requires sound { IsSound registers.old }
+    requires value { FormedValue program.now registers.old.names (value v.now) }
+    ensures { IsStep (program_of program.now) registers.old registers.new span (Bnz r (value v.now)) result }
 {
     match check_int(registers, r, span) {
-        Ok(()) => check_target(alloc, blocks, registers, v, span),
+        Ok(()) => check_target(alloc, program, registers, v, span),
         Err(e) => Err(e),
     }
 }
@@ -121,7 +121,7 @@ fn check_ld(
 ) -> Result<(), TFault>
     requires sound { IsSound registers.old }
     requires rd { IsRegister rd }
-    ensures { (P : List TBlock) → IsStep P registers.old registers.new span (Ld rd rs field) result }
+    ensures { (P : TProg) → IsStep P registers.old registers.new span (Ld rd rs field) result }
 {
     let (loaded, flag) = match field_of(alloc, registers, rs, field, span) {
         Ok(found) => found,
@@ -174,7 +174,7 @@ fn check_malloc(
     requires sound { IsSound registers.old }
     requires rd { IsRegister rd }
     requires types { WellFormedTypes registers.old.names (type_trees types.now) }
-    ensures { (P : List TBlock) (s : places.Span) → IsStep P registers.old registers.new s (Malloc rd (type_trees types.now)) result }
+    ensures { (P : TProg) (s : places.Span) → IsStep P registers.old registers.new s (Malloc rd (type_trees types.now)) result }
 {
     let fields = match empty(alloc, types) {
         Ok(fields) => fields,
@@ -200,18 +200,18 @@ fn empty(alloc: Global, types: &[TType]) -> Result<Vec<(TType, bool)>, OutOfMemo
 
 fn check_mov(
     alloc: Global,
-    blocks: &[Block],
+    program: &TProgram,
     registers: &mut Registers,
     rd: u64,
     v: &Value,
     span: Span,
 ) -> Result<(), TFault>
-    requires ready { IsReady blocks.now registers.old }
+    requires sound { IsSound registers.old }
     requires rd { IsRegister rd }
-    requires value { WellFormedValue (length blocks.now) registers.old.names (value v.now) }
-    ensures { IsStep (blocks_of blocks.now) registers.old registers.new span (Mov rd (value v.now)) result }
+    requires value { FormedValue program.now registers.old.names (value v.now) }
+    ensures { IsStep (program_of program.now) registers.old registers.new span (Mov rd (value v.now)) result }
 {
-    let found = match type_of_value(alloc, blocks, registers, v, span) {
+    let found = match type_of_value(alloc, program, registers, v, span) {
         Ok(t) => t,
         Err(e) => return Err(e),
     };
@@ -230,7 +230,7 @@ fn check_st(
     span: Span,
 ) -> Result<(), TFault>
     requires { IsSound registers.old }
-    ensures { (P : List TBlock) → IsStep P registers.old registers.new span (St rd field rs) result }
+    ensures { (P : TProg) → IsStep P registers.old registers.new span (St rd field rs) result }
 {
     match check_stored(alloc, registers, rd, field, rs, span) {
         Ok(()) => (),
@@ -269,19 +269,19 @@ fn check_stored(
 
 fn check_unpack(
     alloc: Global,
-    blocks: &[Block],
+    program: &TProgram,
     registers: &mut Registers,
     rd: u64,
     v: &Value,
     span: Span,
 ) -> Result<(), TFault>
-    requires ready { IsReady blocks.now registers.old }
+    requires sound { IsSound registers.old }
     requires rd { IsRegister rd }
-    requires value { WellFormedValue (length blocks.now) registers.old.names (value v.now) }
+    requires value { FormedValue program.now registers.old.names (value v.now) }
     requires few { registers.old.names + 1 ≤ max_names }
-    ensures { IsStep (blocks_of blocks.now) registers.old registers.new span (Unpack rd (value v.now)) result }
+    ensures { IsStep (program_of program.now) registers.old registers.new span (Unpack rd (value v.now)) result }
 {
-    let found = match type_of_value(alloc, blocks, registers, v, span) {
+    let found = match type_of_value(alloc, program, registers, v, span) {
         Ok(t) => t,
         Err(e) => return Err(e),
     };
@@ -298,17 +298,17 @@ fn check_unpack(
 
 pub(crate) fn check_end(
     alloc: Global,
-    blocks: &[Block],
+    program: &TProgram,
     registers: &Registers,
     end: &End,
     span: Span,
 ) -> Result<(), TFault>
-    requires ready { IsReady blocks.now registers.now }
-    requires end { WellFormedEnd (length blocks.now) registers.now.names (end_of end.now) }
-    ensures { IsEnd (blocks_of blocks.now) (known registers.now) span (end_of end.now) result }
+    requires sound { IsSound registers.now }
+    requires end { FormedEnd program.now registers.now.names (end_of end.now) }
+    ensures { IsEnd (program_of program.now) registers.now span (end_of end.now) result }
 {
     match end {
-        End::Jmp(v) => check_target(alloc, blocks, registers, v, span),
+        End::Jmp(v) => check_target(alloc, program, registers, v, span),
         End::Halt => match registers.find(1) {
             Some(entry) => {
                 if is_int(&entry.ty) {

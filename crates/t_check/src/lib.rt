@@ -1,8 +1,8 @@
 //! The checker of the typed assembly language: whether the typing rules accept a program, or else its first fault.
 #![tactic(auto)]
 
-pub mod checked;
-pub mod checker;
+mod checked;
+mod checker;
 mod entering;
 mod instructions;
 mod parts;

@@ -7,7 +7,7 @@ ghost use Rattle.t_types.specs.Fields.{filled};
 ghost use Rattle.t_types.specs.Read.{tree, file};
 ghost use Rattle.t_rules.specs.Registers.{with_reg, raised};
 ghost use Rattle.t_check.specs.Bounds.{Bounded};
-ghost use Rattle.t_check.specs.Known.{seen, known, IsSound, IsEntry, IsThere, IsGap, IsTupleWith, HasField};
+ghost use Rattle.t_check.specs.Known.{seen, known, IsSound, IsEmpty, IsEntry, IsThere, IsGap, IsTupleWith, HasField};
 
 use idx_core::{OutOfMemory, Scoped};
 use std::alloc::Global;
@@ -31,6 +31,17 @@ pub(crate) struct Registers {
 }
 
 impl Registers {
+    // None, and no type names.
+    pub(crate) fn none(alloc: Global) -> Registers
+        ensures sound { IsSound result }
+        ensures empty { IsEmpty result }
+    {
+        Registers {
+            entries: Vec::new(alloc),
+            names: 0,
+        }
+    }
+
     // Those of a block's header, under the type names that the block binds.
     pub(crate) fn of_block(
         alloc: Global,

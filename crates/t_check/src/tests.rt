@@ -92,7 +92,7 @@ fn stored(alloc: Global, rs: u64) -> Result<TProgram, OutOfMemory>
 
 // one block, which ends with halt[int]
 fn program(alloc: Global, body: Vec<(Instr, Span)>) -> Result<TProgram, OutOfMemory>
-    requires { WellFormedSeq 1 0 (seq_of (body_tree body.items) Halt) }
+    requires { WellFormedSeq 1 0 0 (seq_of (body_tree body.items) Halt) }
 {
     let block = Block {
         name: at(5),
@@ -106,7 +106,10 @@ fn program(alloc: Global, body: Vec<(Instr, Span)>) -> Result<TProgram, OutOfMem
     };
     let mut blocks = Vec::new(alloc);
     blocks.push(block)?;
-    Ok(TProgram { blocks })
+    Ok(TProgram {
+        blocks,
+        heap: Vec::new(alloc),
+    })
 }
 
 // An alias keeps its older type, also where the field was stored through another register.

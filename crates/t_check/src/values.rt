@@ -1,43 +1,45 @@
 // The types of small values.
-ghost use Rattle.std.specs.Prelude.{◌≡◌, ◌+◌, ◌-◌, ◌≤◌, IfOk, length};
-ghost use Rattle.idx_core.specs.Over.{IsWord, PutFitsAt};
-ghost use Rattle.t_types.specs.Tree.{CodeTy, each, each_file, put_file};
+ghost use Rattle.std.specs.Prelude.{◌≡◌, ◌-◌, ◌≤◌, IfOk, length};
+ghost use Rattle.t_types.specs.Tree.{CodeTy};
 ghost use Rattle.t_types.specs.WellFormed.{max_names, WellFormed, WellFormedTypes};
 ghost use Rattle.t_types.specs.Read.{tree, file, types as type_trees};
 ghost use Rattle.t_terms.specs.Tree.{Plain};
-ghost use Rattle.t_terms.specs.Read.{base as base_tree, value, blocks_of};
-ghost use Rattle.t_terms.specs.Whole.{WellFormedBase, WellFormedValue};
+ghost use Rattle.t_terms.specs.Read.{base as base_tree, value, data_fields as data_of};
+ghost use Rattle.t_terms.specs.ReadProgram.{program as program_of};
+ghost use Rattle.t_terms.specs.Spanned.{plain_fields};
 ghost use Rattle.t_rules.specs.Registers.{inst_file};
+ghost use Rattle.t_rules.specs.Rules.{data_type as data_tree};
+ghost use Rattle.t_check.specs.Known.{IsSound};
 ghost use Rattle.t_check.specs.Bounds.{OwedFile};
-ghost use Rattle.t_check.specs.Verdict.{IsReady, IsTypeOfBase, IsTypeOf, IsPacked};
+ghost use Rattle.t_check.specs.Verdict.{FormedBase, FormedValue, IsTypeOfBase, IsTypeOf, IsPacked};
 
 use crate::parts::{code_parts, refused};
 use crate::registers::Registers;
 use idx_core::{OutOfMemory, Scoped, Span};
 use std::alloc::Global;
-use t_terms::{Base, Block, TCode, TFault, Value};
-use t_types::{RegFile, TType, copy, copy_file, fits};
+use t_terms::{Base, Block, Data, TCode, TFault, TProgram, Value};
+use t_types::{RegFile, TType, copy, copy_file, fits, put_regs};
 
 // The type of a value.
 pub(crate) fn type_of_value(
     alloc: Global,
-    blocks: &[Block],
+    program: &TProgram,
     known: &Registers,
     v: &Value,
     span: Span,
 ) -> Result<TType, TFault>
-    requires ready { IsReady blocks.now known.now }
-    requires value { WellFormedValue (length blocks.now) known.now.names (value v.now) }
-    ensures { IsTypeOf (blocks_of blocks.now) known.now span (value v.now) result }
+    requires sound { IsSound known.now }
+    requires value { FormedValue program.now known.now.names (value v.now) }
+    ensures { IsTypeOf (program_of program.now) known.now span (value v.now) result }
 {
     match v {
-        Value::Plain { base, types } => type_of_plain(alloc, blocks, known, *base, types, span),
+        Value::Plain { base, types } => type_of_plain(alloc, program, known, *base, types, span),
         Value::Pack {
             hidden,
             inner,
             shape,
         } => {
-            let found = match type_of_value(alloc, blocks, known, inner, span) {
+            let found = match type_of_value(alloc, program, known, inner, span) {
                 Ok(t) => t,
                 Err(e) => return Err(e),
             };
@@ -49,18 +51,18 @@ pub(crate) fn type_of_value(
 // The type of a base that is applied to types.
 fn type_of_plain(
     alloc: Global,
-    blocks: &[Block],
+    program: &TProgram,
     known: &Registers,
     base: Base,
     types: &[TType],
     span: Span,
 ) -> Result<TType, TFault>
-    requires ready { IsReady blocks.now known.now }
-    requires base { WellFormedBase (length blocks.now) (base_tree base) }
+    requires sound { IsSound known.now }
+    requires base { FormedBase program.now (base_tree base) }
     requires types { WellFormedTypes known.now.names (type_trees types.now) }
-    ensures { IsTypeOf (blocks_of blocks.now) known.now span (Plain (base_tree base) (type_trees types.now)) result }
+    ensures { IsTypeOf (program_of program.now) known.now span (Plain (base_tree base) (type_trees types.now)) result }
 {
-    let found = match type_of_base(alloc, blocks, known, base, span) {
+    let found = match type_of_base(alloc, program, known, base, span) {
         Ok(t) => t,
         Err(e) => return Err(e),
     };
@@ -86,14 +88,14 @@ fn type_of_plain(
 
 fn type_of_base(
     alloc: Global,
-    blocks: &[Block],
+    program: &TProgram,
     known: &Registers,
     base: Base,
     span: Span,
 ) -> Result<TType, TFault>
-    requires ready { IsReady blocks.now known.now }
-    requires base { WellFormedBase (length blocks.now) (base_tree base) }
-    ensures { IsTypeOfBase (blocks_of blocks.now) known.now span (base_tree base) result }
+    requires sound { IsSound known.now }
+    requires base { FormedBase program.now (base_tree base) }
+    ensures { IsTypeOfBase (program_of program.now) known.now span (base_tree base) result }
 {
     match base {
         Base::Reg(r) => match known.find(r) {
@@ -104,7 +106,11 @@ fn type_of_base(
             None => refused(TCode::T08, span),
         },
         Base::Int(_) => Ok(TType::Int),
-        Base::Label(l) => match label_type(alloc, &blocks[l as usize]) {
+        Base::Label(l) => match label_type(alloc, &program.blocks[l as usize]) {
+            Ok(t) => Ok(t),
+            Err(_) => Err(TFault::Memory),
+        },
+        Base::Data(d) => match data_type(alloc, &program.heap[d as usize].fields) {
             Ok(t) => Ok(t),
             Err(_) => Err(TFault::Memory),
         },
@@ -120,6 +126,18 @@ fn label_type(alloc: Global, block: &Block) -> Result<TType, OutOfMemory>
         owes: block.owes,
         regs,
     })
+}
+
+// A data label is a tuple of the types that are written for its fields, all of them initialised.
+fn data_type(alloc: Global, data_fields: &[(Value, TType, Span)]) -> Result<TType, OutOfMemory>
+    ensures { IfOk result (λ t. tree t ≡ data_tree (plain_fields (data_of data_fields.now))) }
+{
+    let mut fields = Vec::new(alloc);
+    for field in data_fields {
+        let t = copy(alloc, &field.1)?;
+        fields.push((t, true))?;
+    }
+    Ok(TType::Tuple(fields))
 }
 
 // The registers' types of code that owes `owes` types, where the types in order are put for the first ones.
@@ -142,27 +160,9 @@ fn instantiate(
     for t in types {
         left -= 1;
         let what = t.shift(alloc, left, 0)?;
-        regs = put_regs(alloc, &regs, left, &what)?;
+        regs = put_regs(alloc, &regs, left, left, &what)?;
     }
     Ok(RegFile { regs })
-}
-
-// The registers' types, where a type is put for a variable.
-fn put_regs(
-    alloc: Global,
-    regs: &[(u64, TType)],
-    at: u64,
-    what: &TType,
-) -> Result<Vec<(u64, TType)>, OutOfMemory>
-    requires { each_file (PutFitsAt each at (tree what.now)) IsWord at (file regs.now) }
-    ensures { IfOk result (λ r. file r.items ≡ put_file at (tree what.now) (file regs.now)) }
-{
-    let mut made = Vec::new(alloc);
-    for reg in regs {
-        let t = reg.1.put(alloc, at, what)?;
-        made.push((reg.0, t))?;
-    }
-    Ok(made)
 }
 
 // The type of a package: its shape, where the type that was found fits it with `hidden` put for what it hides.

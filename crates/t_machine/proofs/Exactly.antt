@@ -2,25 +2,22 @@
 use Rattle.std.proofs.Common.{◌≡◌, ℕ, suc, ◌+◌, ◌-◌, ◌<◌, ◌≤◌, List, sym, subst, arith, ⊎_elim}
 use Rattle.std.proofs.lemmas.Bool.{cases_lt}
 use Rattle.std.specs.Prelude.{ℤ}
-use Rattle.t_terms.specs.Tree.{TBlock}
-use Rattle.t_rules.specs.Machine.{State, Place, Step, HaltedWith, After}
-use Rattle.t_rules.specs.LawsErased.{HaltedAfter}
-use Rattle.t_rules.proofs.OneStep.{after_one, before, halted_no_step, halted_one}
-use Rattle.t_machine.specs.Runs.{GoesOnAfter, HaltedExactly, SpentExactly}
+use Rattle.t_terms.specs.Tree.{TProg}
+use Rattle.t_rules.specs.Machine.{State, Place, HaltedWith, After, GoesOnAfter}
+use Rattle.t_rules.specs.Machine.{HaltedAfter}
+use Rattle.t_rules.proofs.OneStep.{after_one, halted_one}
+use Rattle.t_rules.proofs.Runs.{halting_is_last}
+use Rattle.t_machine.specs.Runs.{HaltedExactly, SpentExactly}
 use Rattle.t_machine.specs.declared.machine.Ran.TheVariants.{Halted, Spent, NoMemory}
 
 -- there is no state after more steps than it takes to halt
-no_later : (P : List TBlock) (n m : ℕ) (i : ℤ) (t : State) (q : Place) → HaltedAfter P n i → After P m t q → n < m → ⊥
-no_later P n m i t q h run lt =
-    let y = before P (m - suc n) (suc n) m t q (omega arith) run in
-    let z = y.2 in
-    let same = after_one P n h.0 z.0 h.1 z.1 h.2 z.3 in
-    halted_no_step P h.0 i h.3 z.2 y.0 (subst (λ u. Step P u z.2 y.0) (sym same.0) z.4)
+no_later : (P : TProg) (n m : ℕ) (i : ℤ) (t : State) (q : Place) → HaltedAfter P n i → After P m t q → n < m → ⊥
+no_later P n m i t q h run lt = omega (arith, halting_is_last P n m i t q h run)
 
-halted_state : (P : List TBlock) (n : ℕ) (i : ℤ) (t : State) (q : Place) → HaltedAfter P n i → After P n t q → HaltedWith t i
+halted_state : (P : TProg) (n : ℕ) (i : ℤ) (t : State) (q : Place) → HaltedAfter P n i → After P n t q → HaltedWith t i
 halted_state P n i t q h run = subst (λ u. HaltedWith u i) (after_one P n h.0 t h.1 q h.2 run).0 h.3
 
-both_halted : (P : List TBlock) (n m : ℕ) (i j : ℤ) → HaltedAfter P n i → HaltedAfter P m j → (i ≡ j) × (n ≡ m)
+both_halted : (P : TProg) (n m : ℕ) (i j : ℤ) → HaltedAfter P n i → HaltedAfter P m j → (i ≡ j) × (n ≡ m)
 both_halted P n m i j h k = ⊎_elim
     (λ (lt : n < m). absurd (no_later P n m i k.0 k.1 h k.2 lt))
     (λ (ge : m ≤ n). ⊎_elim
@@ -32,7 +29,7 @@ both_halted P n m i j h k = ⊎_elim
     (cases_lt m n))
     (cases_lt n m)
 
-pub going_not_halted : (P : List TBlock) (n m : ℕ) (i : ℤ) → HaltedAfter P n i → GoesOnAfter P m → n ≤ m → ⊥
+pub going_not_halted : (P : TProg) (n m : ℕ) (i : ℤ) → HaltedAfter P n i → GoesOnAfter P m → n ≤ m → ⊥
 going_not_halted P n m i h k le = ⊎_elim
     (λ (lt : n < m). no_later P n m i k.0 k.1 h k.2 lt)
     (λ (ge : m ≤ n). let e : n ≡ m = omega arith in k.3 i (halted_state P m i k.0 k.1 (subst (λ a. HaltedAfter P a i) e h) k.2))

@@ -1,17 +1,22 @@
 -- Code that holds blocks, while it is loaded and after it.
-use Rattle.std.proofs.Common.{◌≡◌, ℕ, zero, suc, ◌+◌, ◌<◌, ◌≤◌, List, [], ◌∷◌, ◌++◌, length, take, drop, get_or, Some, refl, sym, ap, ◌∙◌, subst, arith, inl, inr, ◌⊎◌, ⊎_elim, slice_get, append_assoc}
+use Rattle.std.proofs.Common.{◌≡◌, ℕ, zero, suc, ◌+◌, ◌<◌, ◌≤◌, List, [], ◌∷◌, ◌++◌, length, map, take, drop, get_or, Some, refl, sym, ap, ◌∙◌, subst, arith, inl, inr, ◌⊎◌, ⊎_elim, slice_get, append_assoc}
 use Rattle.std.proofs.lemmas.Bool.{cases_lt}
 use Rattle.std.proofs.lemmas.List.{drop-append-le, drop_all}
 use Rattle.std.proofs.Math.Seq.{drop-append_seam}
 use Rattle.t_terms.specs.Tree.{TBase, TBlock}
-use Rattle.t_terms.specs.Read.{block, blocks_of}
+use Rattle.t_terms.specs.Read.{block, blocks_of, datum, data_fields, data_of, spanned_data}
 use Rattle.t_terms.specs.declared.block.Block.{Block}
-use Rattle.t_rules.specs.Erase.{EInstr, ESeq, EThen, EJmp, EHalt, erase_block, erase_blocks, drop_seq}
+use Rattle.t_terms.specs.declared.data.Data.{Data as DataItem}
+use Rattle.t_terms.specs.declared.value.Value.{Value}
+use Rattle.t_types.specs.declared.types.TType.{TType}
+use Rattle.idx_core.specs.declared.span.Span.{Span}
+use Rattle.t_terms.specs.Spanned.{plain_datum, plain_fields}
+use Rattle.t_rules.specs.Erase.{EInstr, ESeq, EThen, EJmp, EHalt, erase_block, erase_datum, drop_seq}
 use Rattle.t_machine.specs.Places.{PlaceList, Extends}
 use Rattle.t_machine.specs.Code.{IsBase, IsInstr, IsEnd, Holds, HoldsBlocks}
 use Rattle.t_machine.specs.Lowering.{IsLoaded}
 use Rattle.t_machine.specs.declared.code.Operand.{Operand}
-use Rattle.t_machine.specs.declared.code.Operand.TheVariants.{Register, Int, Label}
+use Rattle.t_machine.specs.declared.code.Operand.TheVariants.{Register, Int, Label, Data}
 use Rattle.t_machine.specs.declared.code.Instruction.{Instruction}
 use Rattle.t_machine.specs.declared.code.Instruction.TheVariants.{Arith, Bnz, Ld, Malloc, Mov, St, Jmp, Halt}
 
@@ -20,6 +25,7 @@ module _ (m n : PlaceList) (e : Extends m n) where
   base_extends (Register k) b h = (h.0, e h.0 k h.1, h.2)
   base_extends (Int i) b h = h
   base_extends (Label l) b h = h
+  base_extends (Data d) b h = h
 
   pub instr_extends : (o : Instruction) (i : EInstr) → IsInstr m o i → IsInstr n o i
   instr_extends (Arith op d s v) i h = (h.0, h.1, h.2, e h.0 d h.3, e h.1 s h.4, base_extends v h.2 h.5, h.6)
@@ -123,13 +129,13 @@ instruction_at (o ∷ os) zero = inr (o, refl, refl)
 instruction_at (o ∷ os) (suc k) = instruction_at os k
 
 -- the blocks up to a place
-taken_one : (bs : List Block) (i : ℕ) (x : Block) → i < length bs → x ≡ get_or bs i x → erase_blocks (blocks_of (take (suc i) bs)) ≡ erase_blocks (blocks_of (take i bs)) ++ erase_block (block x) ∷ []
+taken_one : (bs : List Block) (i : ℕ) (x : Block) → i < length bs → x ≡ get_or bs i x → map erase_block (blocks_of (take (suc i) bs)) ≡ map erase_block (blocks_of (take i bs)) ++ erase_block (block x) ∷ []
 taken_one [] i x lt is = absurd (omega arith)
 taken_one (b ∷ bs) zero x lt is = ap (λ (y : Block). erase_block (block y) ∷ []) (sym is)
 taken_one (b ∷ bs) (suc i) x lt is = ap (λ z. erase_block (block b) ∷ z) (taken_one bs i x (omega arith) is)
 
-pub blocks_taken : (bs : List Block) (i : ℕ) (x : Block) → i < length bs → x ≡ get_or bs i x → erase_blocks (blocks_of (take (i + 1) bs)) ≡ erase_blocks (blocks_of (take i bs)) ++ erase_block (block x) ∷ []
-blocks_taken bs i x lt is = let more : i + 1 ≡ suc i = omega arith in ap (λ k. erase_blocks (blocks_of (take k bs))) more ∙ taken_one bs i x lt is
+pub blocks_taken : (bs : List Block) (i : ℕ) (x : Block) → i < length bs → x ≡ get_or bs i x → map erase_block (blocks_of (take (i + 1) bs)) ≡ map erase_block (blocks_of (take i bs)) ++ erase_block (block x) ∷ []
+blocks_taken bs i x lt is = let more : i + 1 ≡ suc i = omega arith in ap (λ k. map erase_block (blocks_of (take k bs))) more ∙ taken_one bs i x lt is
 
 -- the first block's entry
 pub first_entry : (m : PlaceList) (os : List Instruction) (ks : List ℕ) (cs : List ESeq) → HoldsBlocks m os ks cs → 0 < length cs → 0 < length ks
@@ -138,6 +144,28 @@ first_entry m os (k ∷ ks) (c ∷ cs) h lt = omega arith
 first_entry m os [] (c ∷ cs) h lt = absurd h
 first_entry m os (k ∷ ks) [] h lt = absurd h
 
-pub erased_count : (P : List TBlock) → 1 ≤ length P → 0 < length (erase_blocks P)
+pub erased_count : (bs : List TBlock) → 1 ≤ length bs → 0 < length (map erase_block bs)
 erased_count [] some = omega arith
 erased_count (b ∷ bs) some = omega arith
+
+-- the data up to a place
+taken_data : (xs : List DataItem) (i : ℕ) (x : DataItem) → i < length xs → x ≡ get_or xs i x →
+    map (map erase_datum) (data_of (take (suc i) xs)) ≡ map (map erase_datum) (data_of (take i xs)) ++ map erase_datum (plain_fields (spanned_data x).fields) ∷ []
+taken_data [] i x lt is = absurd (omega arith)
+taken_data (y ∷ xs) zero x lt is = ap (λ (z : DataItem). map erase_datum (plain_fields (spanned_data z).fields) ∷ []) (sym is)
+taken_data (y ∷ xs) (suc i) x lt is = ap (λ z. map erase_datum (plain_fields (spanned_data y).fields) ∷ z) (taken_data xs i x (omega arith) is)
+
+pub data_taken : (xs : List DataItem) (i : ℕ) (x : DataItem) → i < length xs → x ≡ get_or xs i x →
+    map (map erase_datum) (data_of (take (i + 1) xs)) ≡ map (map erase_datum) (data_of (take i xs)) ++ map erase_datum (plain_fields (spanned_data x).fields) ∷ []
+data_taken xs i x lt is = let more : i + 1 ≡ suc i = omega arith in ap (λ k. map (map erase_datum) (data_of (take k xs))) more ∙ taken_data xs i x lt is
+
+-- the words of a data tuple up to a place
+taken_words : (xs : List (Value × TType × Span)) (i : ℕ) (x : Value × TType × Span) → i < length xs → x ≡ get_or xs i x →
+    map erase_datum (plain_fields (data_fields (take (suc i) xs))) ≡ map erase_datum (plain_fields (data_fields (take i xs))) ++ erase_datum (plain_datum (datum x)) ∷ []
+taken_words [] i x lt is = absurd (omega arith)
+taken_words (y ∷ xs) zero x lt is = ap (λ (z : Value × TType × Span). erase_datum (plain_datum (datum z)) ∷ []) (sym is)
+taken_words (y ∷ xs) (suc i) x lt is = ap (λ z. erase_datum (plain_datum (datum y)) ∷ z) (taken_words xs i x (omega arith) is)
+
+pub words_taken : (xs : List (Value × TType × Span)) (i : ℕ) (x : Value × TType × Span) → i < length xs → x ≡ get_or xs i x →
+    map erase_datum (plain_fields (data_fields (take (i + 1) xs))) ≡ map erase_datum (plain_fields (data_fields (take i xs))) ++ erase_datum (plain_datum (datum x)) ∷ []
+words_taken xs i x lt is = let more : i + 1 ≡ suc i = omega arith in ap (λ k. map erase_datum (plain_fields (data_fields (take k xs)))) more ∙ taken_words xs i x lt is

@@ -87,6 +87,7 @@ module _ (m : PlaceList) (ws : List Word) where
     operand_in_range (O.Register k) b h = in_range h.0 k h.1
     operand_in_range (O.Int i) b h = tt
     operand_in_range (O.Label l) b h = tt
+    operand_in_range (O.Data d) b h = tt
 
     written : (r d : ℕ) (v : Word) (w : EWord) → place_of m r ≡ Some d → held v ≡ Some w → (q : ℕ) (o : Option ℕ) → place_of m q ≡ o → regs_of m (slice_set ws d v) q ≡ cond (nat_eq r q) (Some w) (regs_of m ws q)
     written r d v w e h q None f =
@@ -120,6 +121,7 @@ module _ (m : PlaceList) (ws : List Word) where
     operand (O.Register k) b w h e = (reads h.0 k w (sym (ap (base_word (regs_of m ws)) h.2) ∙ e) h.1).1
     operand (O.Int i) b w h e = sym (ap (base_word (regs_of m ws)) h) ∙ e
     operand (O.Label l) b w h e = sym (ap (base_word (regs_of m ws)) h) ∙ e
+    operand (O.Data d) b w h e = sym (ap (base_word (regs_of m ws)) h) ∙ e
 
 -- a word that is read
 pub read_at : (ws : List Word) (k : ℕ) (w : Word) → k < length ws → w ≡ get_or ws k w → at_place ws k ≡ w

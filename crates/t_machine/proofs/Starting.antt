@@ -2,14 +2,18 @@
 use Rattle.std.proofs.Common.{◌≡◌, ℕ, zero, suc, ◌-◌, ◌≤◌, List, [], ◌∷◌, ◌++◌, length, take, Some, refl, sym, ap, ◌∙◌, subst, arith, slice_get, get_or, replicate}
 use Rattle.std.proofs.lemmas.Option.{slice_get_read}
 use Rattle.std.specs.Prelude.{map}
-use Rattle.t_terms.specs.Tree.{TBlock}
-use Rattle.t_terms.specs.Read.{blocks_of}
+use Rattle.t_terms.specs.Tree.{TBlock, TProg}
+use Rattle.t_terms.specs.Read.{blocks_of, data_of}
+use Rattle.t_terms.specs.ReadProgram.{program}
+use Rattle.t_terms.specs.declared.program.TProgram.{TProgram}
+use Rattle.t_terms.specs.declared.data.Data.{Data}
 use Rattle.t_terms.specs.declared.block.Block.{Block}
 use Rattle.t_rules.specs.Machine.{Spot}
-use Rattle.t_rules.specs.Erase.{ERegs, EAt, erase_block, erase_blocks, Erased}
+use Rattle.t_rules.specs.Erase.{ERegs, EAt, erase_block, erase_blocks, erase_datum, erase_heap, Erased}
 use Rattle.t_rules.proofs.Lock.{erased_starts}
 use Rattle.t_machine.specs.Places.{ArePlaces}
-use Rattle.t_machine.specs.Words.{word, regs_of}
+use Rattle.t_machine.specs.Words.{regs_of}
+use Rattle.t_machine.specs.Heap.{IsHeap}
 use Rattle.t_machine.specs.Code.{IsCode}
 use Rattle.t_machine.specs.State.{Shows}
 use Rattle.t_machine.specs.declared.word.Word.{Word}
@@ -36,31 +40,39 @@ filled_up n k xs ys e z is =
     let whole : n - k ≡ n = omega arith in
     is ∙ ap (λ us. take n us ++ replicate (n - k) Empty) e ∙ ap (λ us. us ++ replicate (n - k) Empty) (take_none n) ∙ ap (λ j. replicate j Empty) whole
 
-pub begins : (P : List TBlock) (x : Heap) (ws : List Word) (code : Code) (at : ℕ) → 1 ≤ length P → IsCode code (erase_blocks P) → ArePlaces code.places → x.cells.items ≡ [] → x.starts.items ≡ [] → ws ≡ replicate (length code.places) Empty → slice_get code.entries.items 0 ≡ Some at → Shows P 0 x ws code at
-begins [] x ws code at some is places cells starts words entry = absurd (omega arith)
-begins (b ∷ bs) x ws code at some is places cells starts words entry = record {
-  tuples = [];
-  rest = erase_block b;
-  block = 0;
-  index = 0;
-  start = at;
-  erased = subst (λ (g : ERegs). Erased (b ∷ bs) 0 (erase_blocks (b ∷ bs)) (EAt [] g (erase_block b)) (Spot 0 0))
-      (no_words_yet code.places (length code.places) ∙ ap (regs_of code.places) (sym words))
-      (erased_starts (b ∷ bs) b refl);
-  has_code = is;
-  has_places = places;
-  has_heap = (ap (map word) cells, starts);
-  has_words = ap (λ us. length us) words ∙ replicate_count (length code.places) Empty;
-  entered = entry;
-  placed = omega arith;
-}
+-- what is in range is there
+first_there : (bs : List TBlock) → 1 ≤ length bs → (b : TBlock) × (slice_get bs 0 ≡ Some b)
+first_there [] some = absurd (omega arith)
+first_there (b ∷ bs) some = (b, refl)
+
+pub begins : (P : TProg) (x : Heap) (ws : List Word) (code : Code) (at : ℕ) → 1 ≤ length P.blocks → IsCode code (erase_blocks P) → ArePlaces code.places → IsHeap x (erase_heap P) → ws ≡ replicate (length code.places) Empty → slice_get code.entries.items 0 ≡ Some at → Shows P 0 x ws code at
+begins P x ws code at some is places heap words entry =
+    let b = first_there P.blocks some in
+    record {
+      tuples = erase_heap P;
+      rest = erase_block b.0;
+      block = 0;
+      index = 0;
+      start = at;
+      erased = subst (λ (g : ERegs). Erased P 0 (erase_blocks P) (EAt (erase_heap P) g (erase_block b.0)) (Spot 0 0))
+          (no_words_yet code.places (length code.places) ∙ ap (regs_of code.places) (sym words))
+          (erased_starts P b.0 b.1);
+      has_code = is;
+      has_places = places;
+      has_heap = heap;
+      has_words = ap (λ us. length us) words ∙ replicate_count (length code.places) Empty;
+      entered = entry;
+      placed = omega arith;
+    }
 
 -- what loading makes
-pub starts : (bs : List Block) → 1 ≤ length (blocks_of bs) → (lent : List Block) → lent ≡ bs → (code : Code) → IsCode code (erase_blocks (blocks_of lent)) → ArePlaces code.places → (n : ℕ) → n ≡ length code.places → (x : Heap) → x.cells.items ≡ [] → x.starts.items ≡ []
-    → (xs : List Word) → xs ≡ [] → (k : ℕ) → k ≡ 0 → (ws : List Word) → ws ≡ take n xs ++ replicate (n - k) Empty → (at : ℕ) → at ≡ get_or code.entries.items 0 at → Shows (blocks_of bs) 0 x ws code at
-starts bs some lent same code is places n count x cells first xs none k none_kept ws words at entry =
-    let holds = subst (λ (cs : List Block). IsCode code (erase_blocks (blocks_of cs))) same is in
-    let entries = first_entry code.places code.instructions.items code.entries.items (erase_blocks (blocks_of bs)) holds (erased_count (blocks_of bs) some) in
-    begins (blocks_of bs) x ws code at some holds places cells first
+pub starts : (p : TProgram) → 1 ≤ length (blocks_of p.blocks.items) → (lent : List Block) → lent ≡ p.blocks.items → (code : Code) → IsCode code (map erase_block (blocks_of lent)) → ArePlaces code.places → (n : ℕ) → n ≡ length code.places
+    → (x : Heap) (tuples : List Data) → tuples ≡ p.heap.items → IsHeap x (map (map erase_datum) (data_of tuples))
+    → (xs : List Word) → xs ≡ [] → (k : ℕ) → k ≡ 0 → (ws : List Word) → ws ≡ take n xs ++ replicate (n - k) Empty → (at : ℕ) → at ≡ get_or code.entries.items 0 at → Shows (program p) 0 x ws code at
+starts p some lent same code is places n count x tuples all heap xs none k none_kept ws words at entry =
+    let bs = p.blocks.items in
+    let holds = subst (λ (cs : List Block). IsCode code (map erase_block (blocks_of cs))) same is in
+    let entries = first_entry code.places code.instructions.items code.entries.items (map erase_block (blocks_of bs)) holds (erased_count (blocks_of bs) some) in
+    begins (program p) x ws code at some holds places (subst (λ (ys : List Data). IsHeap x (map (map erase_datum) (data_of ys))) all heap)
     (filled_up n k xs ws none none_kept words ∙ ap (λ j. replicate j Empty) count)
     (slice_get_read code.entries.items (length code.entries.items) 0 at refl entries entry)

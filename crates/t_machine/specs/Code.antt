@@ -5,7 +5,7 @@ use Rattle.t_terms.specs.Tree as tree
 use Rattle.t_rules.specs.Erase.{EInstr, EArith, EBnz, ELd, EMalloc, EMov, ESt, ESeq, EThen, EJmp, EHalt}
 use Rattle.t_machine.specs.Places.{PlaceList, place_of}
 use Rattle.t_machine.specs.declared.code.Operand.{Operand}
-use Rattle.t_machine.specs.declared.code.Operand.TheVariants.{Register, Int, Label}
+use Rattle.t_machine.specs.declared.code.Operand.TheVariants.{Register, Int, Label, Data}
 use Rattle.t_machine.specs.declared.code.Instruction.{Instruction}
 use Rattle.t_machine.specs.declared.code.Instruction.TheVariants.{Arith, Bnz, Ld, Malloc, Mov, St, Jmp, Halt}
 use Rattle.t_machine.specs.declared.code.Code.{Code}
@@ -15,6 +15,7 @@ abbrev pub IsBase : PlaceList → Operand → TBase → Type 0
 IsBase m (Register k) b = (r : ℕ) × (place_of m r ≡ Some k) × (b ≡ Reg r)
 IsBase m (Int i) b = b ≡ tree.Int i
 IsBase m (Label l) b = b ≡ tree.Label l
+IsBase m (Data d) b = b ≡ tree.Data d
 
 -- it is the erased instruction
 abbrev pub IsInstr : PlaceList → Instruction → EInstr → Type 0

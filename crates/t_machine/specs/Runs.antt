@@ -1,11 +1,9 @@
 -- What a run of the machine tells of the program that it runs.
-use Rattle.std.specs.Prelude.{◌≡◌, ℕ, ◌+◌, ◌<◌, ◌≤◌, ℤ, List, Some, slice_get}
-use Rattle.t_types.specs.Tree.{Ty}
-use Rattle.t_terms.specs.Tree.{TBlock, TSeq, Then, Malloc}
+use Rattle.std.specs.Prelude.{◌≡◌, ℕ, ◌+◌, ◌<◌, ◌≤◌, ℤ, Some, slice_get}
+use Rattle.t_terms.specs.Tree.{TProg}
 use Rattle.t_terms.specs.Whole.{Whole}
 use Rattle.t_rules.specs.Rules.{Accepted}
-use Rattle.t_rules.specs.Machine.{Heap, RegWords, State, At, Place, HaltedWith, Stuck, After, HaltsWithin}
-use Rattle.t_rules.specs.LawsErased.{HaltedAfter}
+use Rattle.t_rules.specs.Machine.{HaltedAfter, HaltsWithin, GoesOnAfter, BeforeMalloc}
 use Rattle.t_machine.specs.Steps.{IsHalt}
 use Rattle.t_machine.specs.State.{Shows}
 use Rattle.t_machine.specs.declared.code.Instruction.{Instruction}
@@ -14,21 +12,12 @@ use Rattle.t_machine.specs.declared.machine.Ran.{Ran}
 use Rattle.t_machine.specs.declared.machine.Ran.TheVariants.{Halted, Spent, NoMemory}
 
 -- the machine stands for P after m steps
-abbrev pub Stands : List TBlock → ℕ → Machine → Type 0
+abbrev pub Stands : TProg → ℕ → Machine → Type 0
 Stands P m x = Shows P m x.heap x.registers.items x.code x.at
 
 -- the machine's next instruction is not `halt`
 abbrev pub IsRunning : Machine → Type 0
 IsRunning x = (i : Instruction) → slice_get x.code.instructions.items x.at ≡ Some i → IsHalt i → ⊥
-
--- after m steps P is in a state that is neither halted nor stuck
-abbrev pub GoesOnAfter : List TBlock → ℕ → Type 0
-GoesOnAfter P m = (s : State) × (p : Place) × After P m s p × ((i : ℤ) → HaltedWith s i → ⊥) × (Stuck P s → ⊥)
-
--- after m steps the next instruction of P is a `malloc`
-abbrev pub BeforeMalloc : List TBlock → ℕ → Type 0
-BeforeMalloc P m =
-    (h : Heap) × (r : RegWords) × (rd : ℕ) × (ts : List Ty) × (c : TSeq) × (p : Place) × After P m (At h r (Then (Malloc rd ts) c)) p
 
 -- how many steps were made by a run that was allowed n
 abbrev pub steps_made : ℕ → Ran → ℕ
@@ -37,7 +26,7 @@ steps_made n Spent = n
 steps_made n (NoMemory made) = made
 
 -- what the answer tells of a run that was allowed n steps, and began after m steps of P
-abbrev pub RanFrom : List TBlock → ℕ → ℕ → Ran → Type 0
+abbrev pub RanFrom : TProg → ℕ → ℕ → Ran → Type 0
 RanFrom P m n (Halted value made) = (made ≤ n) × HaltedAfter P (m + made) value
 RanFrom P m n Spent = GoesOnAfter P (m + n)
 RanFrom P m n (NoMemory made) = (made < n) × BeforeMalloc P (m + made)
@@ -57,19 +46,19 @@ SpentOrWanted (NoMemory made) = Unit {0}
 -- where P is halted with i after k steps of a run that is allowed n, and k is at most n, the run says so
 abbrev pub HaltedExactly : Type 0
 HaltedExactly =
-    (P : List TBlock) → Whole P → Accepted P → (m n : ℕ) (result : Ran) → RanFrom P m n result →
+    (P : TProg) → Whole P → Accepted P → (m n : ℕ) (result : Ran) → RanFrom P m n result →
     (i : ℤ) (k : ℕ) → k ≤ n → HaltedAfter P (m + k) i → HaltedOrWanted result i k
 
 -- where P goes on after the n steps that a run is allowed, the run says so
 abbrev pub SpentExactly : Type 0
 SpentExactly =
-    (P : List TBlock) → Whole P → Accepted P → (m n : ℕ) (result : Ran) → RanFrom P m n result → GoesOnAfter P (m + n) → SpentOrWanted result
+    (P : TProg) → Whole P → Accepted P → (m n : ℕ) (result : Ran) → RanFrom P m n result → GoesOnAfter P (m + n) → SpentOrWanted result
 
 -- what the first run of a loaded program tells, where it is allowed n steps
-abbrev pub FirstRun : List TBlock → ℕ → Ran → Type 0
+abbrev pub FirstRun : TProg → ℕ → Ran → Type 0
 FirstRun P n (Halted value made) = HaltsWithin P n value
 FirstRun P n Spent = GoesOnAfter P n
 FirstRun P n (NoMemory made) = BeforeMalloc P made
 
 abbrev pub FirstRuns : Type 0
-FirstRuns = (P : List TBlock) (n : ℕ) (result : Ran) → RanFrom P 0 n result → FirstRun P n result
+FirstRuns = (P : TProg) (n : ℕ) (result : Ran) → RanFrom P 0 n result → FirstRun P n result

@@ -3,12 +3,14 @@
 use crate::places::Places;
 use idx_core::Op;
 
-/// What a small value is without its types and packages: the register at a place, an integer, or a label.
+/// What a small value is without its types and packages: the register at a place, an integer, a block's label, or the
+/// address of a data tuple.
 #[derive(Clone, Copy)]
 pub(crate) enum Operand {
     Register(usize),
     Int(i64),
     Label(usize),
+    Data(usize),
 }
 
 /// An instruction, or the end of a block. A register is the place of its word; the register of `Halt` is register 1.

@@ -1,8 +1,12 @@
 // Loading: registers get places, and types and packages are left out.
-ghost use Rattle.std.specs.Prelude.{◌≡◌, ℕ, List, [], ◌∷◌, ◌++◌, IfOk, OnOk};
-ghost use Rattle.t_terms.specs.Read.{base as base_tree, value as value_tree, instr as instr_tree, end_of, block as block_tree, blocks_of};
+ghost use Rattle.std.specs.Prelude.{◌≡◌, ℕ, List, [], ◌∷◌, ◌++◌, map, IfOk, OnOk};
+ghost use Rattle.t_terms.specs.Read.{base as base_tree, value as value_tree, instr as instr_tree, end_of, block as block_tree, blocks_of, data_fields, data_of};
+ghost use Rattle.t_terms.specs.ReadProgram.{program as program_of};
+ghost use Rattle.t_terms.specs.Spanned.{plain_fields};
 ghost use Rattle.t_check.specs.Checked.{checked_program};
-ghost use Rattle.t_rules.specs.Erase.{ESeq, EMov, erase_value, erase_instr, erase_end, erase_block, erase_blocks};
+ghost use Rattle.t_rules.specs.Erase.{ESeq, EHeap, EMov, base_word, no_ewords, held, erase_value, erase_instr, erase_end, erase_block, erase_datum};
+ghost use Rattle.t_machine.specs.Heap.{IsHeap};
+ghost use Rattle.t_machine.specs.Words.{word};
 ghost use Rattle.t_machine.specs.Places.{Extends};
 ghost use Rattle.t_machine.specs.Code.{IsBase, IsInstr, IsEnd, IsCode};
 ghost use Rattle.t_machine.specs.Runs.{Stands};
@@ -12,32 +16,68 @@ use crate::heap::Heap;
 use crate::machine::Machine;
 use crate::places::Places;
 use crate::word::Word;
-use idx_core::OutOfMemory;
+use idx_core::{OutOfMemory, Span};
 use std::alloc::Global;
 use t_check::Checked;
-use t_terms::{Base, Block, End, Instr, Value};
+use t_terms::{Base, Block, Data, End, Instr, Value};
+use t_types::TType;
 
 /// A machine that stands at the start of the program. It takes a place for each register that the program names, and
-/// the code; a run takes memory at a `malloc` alone.
+/// the data and the code; a run takes memory at a `malloc` alone.
 pub fn load(alloc: Global, program: &Checked) -> Result<Machine, OutOfMemory>
-    ensures { IfOk result (Stands (blocks_of (checked_program program.now).blocks.items) 0) }
+    ensures { IfOk result (Stands (program_of (checked_program program.now)) 0) }
 {
     let code = load_blocks(alloc, &program.program().blocks)?;
     let count = code.places.len();
     let mut registers = Vec::new(alloc);
     registers.resize(count, Word::Empty)?;
     let at = code.entries[0];
+    let heap = load_heap(alloc, &program.program().heap)?;
     Ok(Machine {
-        heap: Heap::new(alloc),
+        heap,
         registers,
         code,
         at,
     })
 }
 
+// The data tuples, one after the other.
+fn load_heap(alloc: Global, tuples: &[Data]) -> Result<Heap, OutOfMemory>
+    ensures { IfOk result (λ x. IsHeap x (map (map erase_datum) (data_of tuples.now))) }
+{
+    let mut heap = Heap::new(alloc);
+    for tuple in tuples {
+        load_tuple(&mut heap, &tuple.fields)?;
+    }
+    Ok(heap)
+}
+
+// Puts a data tuple after the tuples of the heap.
+fn load_tuple(heap: &mut Heap, fields: &[(Value, TType, Span)]) -> Result<(), OutOfMemory>
+    ensures { OnOk result ((h : EHeap) → IsHeap heap.old h → IsHeap heap.new (h ++ map erase_datum (plain_fields (data_fields fields.now)) ∷ [])) }
+{
+    heap.starts.push(heap.cells.len())?;
+    for field in fields {
+        heap.cells.push(data_word(&field.0))?;
+    }
+    Ok(())
+}
+
+// The word of a value of data, which names no register.
+fn data_word(v: &Value) -> Word
+    ensures { word result ≡ held (base_word no_ewords (erase_value (value_tree v.now))) }
+{
+    match base_of(v) {
+        Base::Reg(_) => Word::Empty,
+        Base::Int(i) => Word::Int(i),
+        Base::Label(l) => Word::Label(l as usize),
+        Base::Data(d) => Word::Address(d as usize),
+    }
+}
+
 // The code of the blocks.
 fn load_blocks(alloc: Global, blocks: &[Block]) -> Result<Code, OutOfMemory>
-    ensures { IfOk result (λ x. IsCode x (erase_blocks (blocks_of blocks.now))) }
+    ensures { IfOk result (λ x. IsCode x (map erase_block (blocks_of blocks.now))) }
 {
     let mut code = Code {
         instructions: Vec::new(alloc),
@@ -147,6 +187,7 @@ fn load_value(places: &mut Places, v: &Value) -> Result<Operand, OutOfMemory>
         }
         Base::Int(i) => Ok(Operand::Int(i)),
         Base::Label(l) => Ok(Operand::Label(l as usize)),
+        Base::Data(d) => Ok(Operand::Data(d as usize)),
     }
 }
 

@@ -18,7 +18,7 @@ use t_types::{RegFile, TType};
 const AT: Span = Span { start: 0, end: 0 };
 
 fn plain(alloc: Global, base: Base) -> Value
-    ensures { (p n : ℕ) → WellFormedBase p (base_tree base) → WellFormedValue p n (value_tree result) }
+    ensures { (p q n : ℕ) → WellFormedBase p q (base_tree base) → WellFormedValue p q n (value_tree result) }
 {
     Value::Plain {
         base,
@@ -28,7 +28,7 @@ fn plain(alloc: Global, base: Base) -> Value
 
 // one block, which takes nothing
 fn one_block(alloc: Global, body: Vec<(Instr, Span)>, end: End) -> Result<TProgram, OutOfMemory>
-    requires { WellFormedSeq 1 0 (seq_of (body_tree body.items) (end_of end)) }
+    requires { WellFormedSeq 1 0 0 (seq_of (body_tree body.items) (end_of end)) }
 {
     let block = Block {
         name: AT,
@@ -42,7 +42,10 @@ fn one_block(alloc: Global, body: Vec<(Instr, Span)>, end: End) -> Result<TProgr
     };
     let mut blocks = Vec::new(alloc);
     blocks.push(block)?;
-    Ok(TProgram { blocks })
+    Ok(TProgram {
+        blocks,
+        heap: Vec::new(alloc),
+    })
 }
 
 // the program, accepted and loaded
@@ -69,8 +72,8 @@ fn two_blocks(
     second: Vec<(Instr, Span)>,
     second_end: End,
 ) -> Result<TProgram, OutOfMemory>
-    requires first { WellFormedSeq 2 0 (seq_of (body_tree first.items) (end_of first_end)) }
-    requires second { WellFormedSeq 2 0 (seq_of (body_tree second.items) (end_of second_end)) }
+    requires first { WellFormedSeq 2 0 0 (seq_of (body_tree first.items) (end_of first_end)) }
+    requires second { WellFormedSeq 2 0 0 (seq_of (body_tree second.items) (end_of second_end)) }
 {
     let first = Block {
         name: AT,
@@ -92,12 +95,15 @@ fn two_blocks(
         end_span: AT,
     };
     let blocks = vec![in alloc; first, second]?;
-    Ok(TProgram { blocks })
+    Ok(TProgram {
+        blocks,
+        heap: Vec::new(alloc),
+    })
 }
 
 fn mov(alloc: Global, rd: u64, base: Base) -> (Instr, Span)
     requires { IsRegister rd }
-    ensures { (p : ℕ) → WellFormedBase p (base_tree base) → WellFormedInstr p 0 (instr_tree result.0) × (names_after (instr_tree result.0) 0 ≡ 0) }
+    ensures { (p q : ℕ) → WellFormedBase p q (base_tree base) → WellFormedInstr p q 0 (instr_tree result.0) × (names_after (instr_tree result.0) 0 ≡ 0) }
 {
     let v = plain(alloc, base);
     (Instr::Mov { rd, v }, AT)
@@ -105,7 +111,7 @@ fn mov(alloc: Global, rd: u64, base: Base) -> (Instr, Span)
 
 fn arith(alloc: Global, op: Op, r: u64, base: Base) -> (Instr, Span)
     requires { IsRegister r }
-    ensures { (p : ℕ) → WellFormedBase p (base_tree base) → WellFormedInstr p 0 (instr_tree result.0) × (names_after (instr_tree result.0) 0 ≡ 0) }
+    ensures { (p q : ℕ) → WellFormedBase p q (base_tree base) → WellFormedInstr p q 0 (instr_tree result.0) × (names_after (instr_tree result.0) 0 ≡ 0) }
 {
     let v = plain(alloc, base);
     (
@@ -121,7 +127,7 @@ fn arith(alloc: Global, op: Op, r: u64, base: Base) -> (Instr, Span)
 
 fn bnz(alloc: Global, r: u64, label: u64) -> (Instr, Span)
     requires { IsRegister r }
-    ensures { (p : ℕ) → label < p → WellFormedInstr p 0 (instr_tree result.0) × (names_after (instr_tree result.0) 0 ≡ 0) }
+    ensures { (p q : ℕ) → label < p → WellFormedInstr p q 0 (instr_tree result.0) × (names_after (instr_tree result.0) 0 ≡ 0) }
 {
     let v = plain(alloc, Base::Label(label));
     (Instr::Bnz { r, v }, AT)
@@ -129,14 +135,14 @@ fn bnz(alloc: Global, r: u64, label: u64) -> (Instr, Span)
 
 fn malloc(alloc: Global, rd: u64) -> Result<(Instr, Span), OutOfMemory>
     requires { IsRegister rd }
-    ensures { IfOk result (λ i. (p : ℕ) → WellFormedInstr p 0 (instr_tree i.0) × (names_after (instr_tree i.0) 0 ≡ 0)) }
+    ensures { IfOk result (λ i. (p q : ℕ) → WellFormedInstr p q 0 (instr_tree i.0) × (names_after (instr_tree i.0) 0 ≡ 0)) }
 {
     let types = vec![in alloc; TType::Int]?;
     Ok((Instr::Malloc { rd, types }, AT))
 }
 
 fn jmp(alloc: Global, label: u64) -> End
-    ensures { (p : ℕ) → label < p → WellFormedEnd p 0 (end_of result) }
+    ensures { (p q : ℕ) → label < p → WellFormedEnd p q 0 (end_of result) }
 {
     let v = plain(alloc, Base::Label(label));
     End::Jmp(v)

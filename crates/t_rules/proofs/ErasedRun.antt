@@ -11,7 +11,7 @@ use Rattle.t_rules.proofs.Runs.{runs_on}
 
 pub runs_erase : RunsErase
 runs_erase P whole acc b first zero s p run =
-    let start = erased_starts P whole acc b first in
+    let start = erased_starts P b first in
     let same = after_one P 0 start.1.0 s (Spot 0 0) p start.1.1 run in
     ap (λ x. Some (EOn x (Spot 0 0) (0 ∷ []))) (start.1.2 ∙ ap erase same.0) ∙ ap (λ y. Some (EOn (erase s) y (0 ∷ []))) same.1
 runs_erase P whole acc b first (suc m) s p run =

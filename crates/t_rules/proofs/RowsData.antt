@@ -13,11 +13,11 @@ use Rattle.t_rules.specs.Registers.{with_reg}
 use Rattle.t_rules.specs.Rules.{Accepted}
 use Rattle.t_rules.specs.Known.{KnownAt}
 use Rattle.t_rules.specs.Faults.{ProgramFault}
-use Rattle.t_rules.specs.Machine.{IntWord, AddressWord, Next, Spot, HaltsWithin}
+use Rattle.t_rules.specs.Machine.{IntWord, AddressWord, start_heap, Next, Spot, HaltsWithin}
 use Rattle.t_rules.specs.HeapTypes.{start_types}
 use Rattle.t_rules.specs.Erase.{EInt, EAddress, erase_heap, erase_blocks, EHaltedWith}
 use Rattle.t_rules.specs.ErasedRuns.{EOn, erun, begun}
-use Rattle.t_rules.proofs.Rows.{span, block, no_fit, start_with, step}
+use Rattle.t_rules.proofs.Rows.{span, block, no_fit, start, step}
 
 abbrev datum : TValue → Ty → Span → SDatum
 datum v t s = record { value = v; ty = t; span = s }
@@ -63,6 +63,10 @@ through_data_accepted = (
 through_data_types : start_types (plain_program through_data) ≡ MoreFields IntTy true (MoreFields (TupleTy (MoreFields IntTy true NoFields)) true NoFields) ∷ MoreFields IntTy true NoFields ∷ []
 through_data_types = refl
 
+-- its heap at the start
+through_data_starts : start_heap (plain_program through_data) ≡ (IntWord (pos 5) ∷ AddressWord 1 ∷ []) ∷ (IntWord (pos 6) ∷ []) ∷ []
+through_data_starts = refl
+
 -- before its last load r3 is known as the second tuple
 through_data_known : KnownAt (plain_program through_data) 0 2 0
     (with_reg (with_reg (lookup NoRegs) 2 (TupleTy (MoreFields IntTy true (MoreFields (TupleTy (MoreFields IntTy true NoFields)) true NoFields)))) 3 (TupleTy (MoreFields IntTy true NoFields)))
@@ -70,7 +74,7 @@ through_data_known = (_, refl, (_, (_, (_, refl, refl), refl), (_, (_, _, refl, 
 
 through_data_halts : HaltsWithin (plain_program through_data) 3 (pos 6)
 through_data_halts =
-    let s0 = start_with (plain_program through_data) _ ((IntWord (pos 5) ∷ AddressWord 1 ∷ []) ∷ (IntWord (pos 6) ∷ []) ∷ []) refl ((refl, (refl, tt)), ((refl, tt), tt)) in
+    let s0 = start (plain_program through_data) _ refl in
     let s1 = step s0 Next _ (_, refl, refl, refl) in
     let s2 = step s1 Next _ (_, _, _, refl, refl, refl, (λ t e. cc), refl, refl) in
     let s3 = step s2 Next _ (_, _, _, refl, refl, refl, (λ t e. cc), refl, refl) in

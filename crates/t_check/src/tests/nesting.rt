@@ -36,7 +36,7 @@ fn tuple(alloc: Global, t: TType) -> Result<TType, OutOfMemory>
 // L1[t]
 fn applied(alloc: Global, t: TType) -> Result<Value, OutOfMemory>
     requires { WellFormed 0 (tree t) }
-    ensures { IfOk result (λ v. WellFormedValue 2 0 (value_tree v)) }
+    ensures { IfOk result (λ v. WellFormedValue 2 0 0 (value_tree v)) }
 {
     let mut types = Vec::new(alloc);
     types.push(t)?;
@@ -51,7 +51,7 @@ fn applied(alloc: Global, t: TType) -> Result<Value, OutOfMemory>
 // jmp L0
 fn applying(alloc: Global, t: TType) -> Result<Block, OutOfMemory>
     requires { WellFormed 0 (tree t) }
-    ensures { IfOk result (λ b. WellFormedBlock 2 (block_tree b)) }
+    ensures { IfOk result (λ b. WellFormedBlock 2 0 (block_tree b)) }
 {
     let v = applied(alloc, t)?;
     let mut body = Vec::new(alloc);
@@ -72,7 +72,7 @@ fn applying(alloc: Global, t: TType) -> Result<Block, OutOfMemory>
 // jmp L0
 fn taking(alloc: Global, t: TType) -> Result<Block, OutOfMemory>
     requires { WellFormed 1 (tree t) }
-    ensures { IfOk result (λ b. WellFormedBlock 2 (block_tree b)) }
+    ensures { IfOk result (λ b. WellFormedBlock 2 0 (block_tree b)) }
 {
     let mut regs = Vec::new(alloc);
     regs.push((1, t))?;
@@ -87,13 +87,16 @@ fn taking(alloc: Global, t: TType) -> Result<Block, OutOfMemory>
 }
 
 fn of_blocks(alloc: Global, first: Block, second: Block) -> Result<TProgram, OutOfMemory>
-    requires first { WellFormedBlock 2 (block_tree first) }
-    requires second { WellFormedBlock 2 (block_tree second) }
+    requires first { WellFormedBlock 2 0 (block_tree first) }
+    requires second { WellFormedBlock 2 0 (block_tree second) }
 {
     let mut blocks = Vec::new(alloc);
     blocks.push(first)?;
     blocks.push(second)?;
-    Ok(TProgram { blocks })
+    Ok(TProgram {
+        blocks,
+        heap: Vec::new(alloc),
+    })
 }
 
 // A type of 1,999 tuples is put for the variable within 1,999 tuples.

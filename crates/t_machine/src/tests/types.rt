@@ -15,7 +15,7 @@ use t_types::{RegFile, TType};
 
 // pack[int,3] as some a. int
 fn packed(alloc: Global) -> Result<Value, OutOfMemory>
-    ensures { IfOk result (λ v. WellFormedValue 1 0 (value_tree v)) }
+    ensures { IfOk result (λ v. WellFormedValue 1 0 0 (value_tree v)) }
 {
     let inner = Box::new(alloc, plain(alloc, Base::Int(3)))?;
     let body = Box::new(alloc, TType::Int)?;
@@ -50,8 +50,8 @@ fn an_unpack_moves_the_hidden_word(rt: HostRuntime) -> Result<(), OutOfMemory> {
 fn block(owes: u64, regs: Vec<(u64, TType)>, body: Vec<(Instr, Span)>, end: End) -> Block
     requires owes { owes ≤ 1 }
     requires file { WellFormedFile owes (file regs.items) }
-    requires code { WellFormedSeq 3 owes (seq_of (body_tree body.items) (end_of end)) }
-    ensures { WellFormedBlock 3 (block_tree result) }
+    requires code { WellFormedSeq 3 0 owes (seq_of (body_tree body.items) (end_of end)) }
+    ensures { WellFormedBlock 3 0 (block_tree result) }
 {
     Block {
         name: AT,
@@ -65,7 +65,7 @@ fn block(owes: u64, regs: Vec<(u64, TType)>, body: Vec<(Instr, Span)>, end: End)
 
 // L1[int]
 fn applied(alloc: Global) -> Result<Value, OutOfMemory>
-    ensures { IfOk result (λ v. WellFormedValue 3 0 (value_tree v)) }
+    ensures { IfOk result (λ v. WellFormedValue 3 0 0 (value_tree v)) }
 {
     let types = vec![in alloc; TType::Int]?;
     Ok(Value::Plain {
@@ -78,7 +78,7 @@ fn applied(alloc: Global) -> Result<Value, OutOfMemory>
 // mov r2, L2
 // jmp L1[int]
 fn calling(alloc: Global) -> Result<Block, OutOfMemory>
-    ensures { IfOk result (λ b. WellFormedBlock 3 (block_tree b)) }
+    ensures { IfOk result (λ b. WellFormedBlock 3 0 (block_tree b)) }
 {
     let target = applied(alloc)?;
     let body = vec![in alloc; mov(alloc, 1, Base::Int(5)), mov(alloc, 2, Base::Label(2))]?;
@@ -96,7 +96,7 @@ fn code_type(regs: RegFile) -> TType
 // L1: code[a]{r1:a, r2:all[]{r1:a}}.
 // jmp r2
 fn passing(alloc: Global) -> Result<Block, OutOfMemory>
-    ensures { IfOk result (λ b. WellFormedBlock 3 (block_tree b)) }
+    ensures { IfOk result (λ b. WellFormedBlock 3 0 (block_tree b)) }
 {
     let inner = vec![in alloc; (1, TType::Var(0))]?;
     let code = code_type(RegFile { regs: inner });
@@ -108,7 +108,7 @@ fn passing(alloc: Global) -> Result<Block, OutOfMemory>
 // L2: code[]{r1:int}.
 // halt[int]
 fn ending(alloc: Global) -> Result<Block, OutOfMemory>
-    ensures { IfOk result (λ b. WellFormedBlock 3 (block_tree b)) }
+    ensures { IfOk result (λ b. WellFormedBlock 3 0 (block_tree b)) }
 {
     let regs = vec![in alloc; (1, TType::Int)]?;
     Ok(block(0, regs, Vec::new(alloc), End::Halt))
@@ -119,7 +119,10 @@ fn typed(alloc: Global) -> Result<TProgram, OutOfMemory> {
     let second = passing(alloc)?;
     let third = ending(alloc)?;
     let blocks = vec![in alloc; first, second, third]?;
-    Ok(TProgram { blocks })
+    Ok(TProgram {
+        blocks,
+        heap: Vec::new(alloc),
+    })
 }
 
 #[test]

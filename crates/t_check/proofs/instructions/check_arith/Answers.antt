@@ -1,6 +1,7 @@
 use Rattle.std.proofs.Common.{◌≡◌, ◌≢◌, ◌∙◌, sym, subst, ap, refl, Result, true, false, true≢false}
 use Rattle.t_types.specs.Read.{tree, file}
-use Rattle.t_terms.specs.Read.{value, blocks_of}
+use Rattle.t_terms.specs.Read.{value}
+use Rattle.t_terms.specs.ReadProgram.{program}
 use Rattle.t_terms.specs.declared.fault.TFault.{TFault}
 use Rattle.t_check.specs.Known.{known}
 use Rattle.t_types.specs.Tree.{Ty}
@@ -12,7 +13,7 @@ use Rattle.t_check.proofs.instructions.check_arith.Goals as goal
 
 pub returns-then-not-is_int : goal.returns-then-not-is_int
 returns-then-not-is_int c = λ op.
-    let P = blocks_of c.args.blocks.now in
+    let P = program c.args.program.now in
     let k = c.args.registers.now in
     let v = value c.args.v.now in
     subst (λ (r : Result (Unit {0}) TFault). IsStep P k k c.args.span (Arith op c.args.rd c.args.rs v) r) (sym c.refused.ensures)
@@ -20,7 +21,7 @@ returns-then-not-is_int c = λ op.
 
 pub returns-in-Ok-note : goal.returns-in-Ok-note
 returns-in-Ok-note c = λ op.
-    let P = blocks_of c.args.blocks.now in
+    let P = program c.args.program.now in
     let k = c.args.registers.now in
     let v = value c.args.v.now in
-    ((c.in-Ok.ensures, subst (Has P (known k) v) (c.if-not-is_int.ensures.0 refl) c.in-Ok-type_of_value.ensures.0, c.in-Ok-note.ensures.0), c.in-Ok-note.ensures.1, c.in-Ok-note.ensures.2)
+    ((c.in-Ok.ensures, subst (Has P k.names (known k) v) (c.if-not-is_int.ensures.0 refl) c.in-Ok-type_of_value.ensures.0, c.in-Ok-note.ensures.0), c.in-Ok-note.ensures.1, c.in-Ok-note.ensures.2)

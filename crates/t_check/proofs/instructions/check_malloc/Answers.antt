@@ -6,6 +6,7 @@ use Rattle.t_types.proofs.Trees.{tree_Tuple}
 use Rattle.t_rules.specs.Registers.{with_reg}
 use Rattle.t_check.specs.Bounds.{Bounded}
 use Rattle.t_check.specs.Known.{known}
+use Rattle.t_check.proofs.Blocks.{types_below}
 use Rattle.t_check.proofs.Depth.{empty_shallow}
 use Rattle.t_check.proofs.instructions.check_malloc.Goals as goal
 
@@ -16,4 +17,4 @@ note-requires-clause-bounded c =
 
 pub returns-in-Ok-note : goal.returns-in-Ok-note
 returns-in-Ok-note c = λ P s.
-    (c.in-Ok-note.ensures.0 ∙ ap (with_reg (known c.args.registers.now) c.args.rd) (tree_Tuple c.in-Ok.fields ∙ ap TupleTy c.in-Ok.ensures), c.in-Ok-note.ensures.1, c.in-Ok-note.ensures.2)
+    ((c.in-Ok-note.ensures.0 ∙ ap (with_reg (known c.args.registers.now) c.args.rd) (tree_Tuple c.in-Ok.fields ∙ ap TupleTy c.in-Ok.ensures), types_below c.args.registers.now.names c.args.types.now c.requires.types), c.in-Ok-note.ensures.1, c.in-Ok-note.ensures.2)

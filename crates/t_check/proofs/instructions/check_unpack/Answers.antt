@@ -1,6 +1,7 @@
 use Rattle.std.proofs.Common.{◌≡◌, ◌≢◌, ◌∙◌, ◌+◌, sym, subst, ap, refl, Result, true, false, ℕ}
 use Rattle.t_types.specs.Read.{tree, file}
-use Rattle.t_terms.specs.Read.{value, blocks_of}
+use Rattle.t_terms.specs.Read.{value}
+use Rattle.t_terms.specs.ReadProgram.{program}
 use Rattle.t_terms.specs.declared.fault.TFault.{TFault}
 use Rattle.t_check.specs.Known.{known}
 use Rattle.t_types.specs.Tree.{Ty}
@@ -16,7 +17,7 @@ use Rattle.t_check.proofs.instructions.check_unpack.Goals as goal
 
 pub returns-in-None : goal.returns-in-None
 returns-in-None c =
-    let P = blocks_of c.args.blocks.now in
+    let P = program c.args.program.now in
     let k = c.args.registers.now in
     let v = value c.args.v.now in
     subst (λ (r : Result (Unit {0}) TFault). IsStep P k k c.args.span (Unpack c.args.rd v) r) (sym c.refused.ensures)
@@ -30,11 +31,11 @@ note-requires-clause-bounded c =
 
 pub returns-in-Ok-note : goal.returns-in-Ok-note
 returns-in-Ok-note c =
-    let P = blocks_of c.args.blocks.now in
+    let P = program c.args.program.now in
     let k = c.args.registers.now in
     let v = value c.args.v.now in
     let t = tree c.in-Some.body in (
-      (t, subst (Has P (known k) v) c.in-Some.ensures c.in-Ok.ensures.0, c.in-Ok-note.ensures.0 ∙ ap (λ (g : RegTypes). with_reg g c.args.rd t) c.bind.ensures.known),
+      (t, subst (Has P k.names (known k) v) c.in-Some.ensures c.in-Ok.ensures.0, c.in-Ok-note.ensures.0 ∙ ap (λ (g : RegTypes). with_reg g c.args.rd t) c.bind.ensures.known),
       c.in-Ok-note.ensures.1,
       c.in-Ok-note.ensures.2 ∙ c.bind.ensures.names,
     )

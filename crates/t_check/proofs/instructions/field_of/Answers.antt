@@ -2,7 +2,7 @@ use Rattle.std.proofs.Common.{◌≡◌, ◌<◌, ◌≤◌, ◌∙◌, ap, sym,
 use Rattle.t_types.specs.Tree.{Ty}
 use Rattle.t_types.specs.Read.{tree}
 use Rattle.t_types.proofs.Trees.{tree_Tuple}
-use Rattle.t_rules.specs.Faults.{nothing}
+use Rattle.text_core.specs.Refusals.{nothing}
 use Rattle.t_types.specs.declared.types.TType.{TType}
 use Rattle.t_terms.specs.declared.fault.TFault.{TFault}
 use Rattle.t_check.specs.Known.{known}

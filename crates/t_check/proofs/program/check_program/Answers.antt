@@ -1,11 +1,37 @@
-use Rattle.std.proofs.Common.{◌<◌, length, arith, refl}
+use Rattle.std.proofs.Common.{List, ◌≡◌, ◌<◌, ◌≤◌, length, arith, refl, sym, subst, Result, Ok, true≢false}
+use Rattle.t_terms.specs.declared.block.Block.{Block}
+use Rattle.t_terms.specs.declared.data.Data.{Data}
+use Rattle.t_terms.specs.declared.fault.TFault.{TFault}
+use Rattle.t_terms.specs.Read.{spanned_blocks, spanned_heap, data_of}
+use Rattle.t_terms.specs.ReadProgram.{program, spanned_program}
 use Rattle.t_terms.proofs.Blocks.{blocks_count}
-use Rattle.t_check.proofs.Bodies.{program_is}
+use Rattle.t_rules.specs.Rules.{HeapAccepted}
+use Rattle.t_rules.specs.Faults.{HeapFault}
+use Rattle.t_check.specs.Verdict.{Says, AreBlocks, IsProgram}
+use Rattle.t_check.proofs.Bodies.{first_takes, first_fault, heap_fault, program_is}
 use Rattle.t_check.proofs.program.check_program.Goals as goal
 
-pub returns : goal.returns
-returns c =
-    let bs = c.args.blocks.now in
-    let some = c.requires.0 in
-    let lt : 0 < length bs = omega (arith, blocks_count bs) in
-    program_is bs c.index-blocks-0.result lt c.index-blocks-0.is (c.if-not-takes_nothing.ensures.0 refl) c.check_blocks.result c.check_blocks.ensures
+pub returns-then-not-takes_nothing : goal.returns-then-not-takes_nothing
+returns-then-not-takes_nothing c =
+    let p = c.args.program.now in
+    let some = p.whole.0 in
+    let lt : 0 < length p.blocks.items = omega (arith, blocks_count p.blocks.items) in
+    subst (λ (r : Result (Unit {0}) TFault). IsProgram (spanned_program p) r) (sym c.refused.ensures)
+    (first_fault p c.index-first.result.now lt c.index-first.ensures (λ h. true≢false (sym (c.if-not-takes_nothing.ensures.1 h))))
+
+pub returns-in-Ok : goal.returns-in-Ok
+returns-in-Ok c =
+    let p = c.args.program.now in
+    let some = p.whole.0 in
+    let lt : 0 < length p.blocks.items = omega (arith, blocks_count p.blocks.items) in
+    let first = first_takes p.blocks.items c.index-first.result.now lt c.index-first.ensures (c.if-not-takes_nothing.ensures.0 refl) in
+    let heap = subst (λ (xs : List Data). HeapAccepted (program p) (data_of xs)) c.deref.ensures.value c.in-Ok.ensures in
+    program_is p first heap c.check_blocks.result (subst (λ (bs : List Block). AreBlocks (program p) (spanned_blocks bs) c.check_blocks.result) c.deref-in-Ok.ensures.value c.check_blocks.ensures)
+
+pub returns-in-Err : goal.returns-in-Err
+returns-in-Err c =
+    let p = c.args.program.now in
+    let some = p.whole.0 in
+    let lt : 0 < length p.blocks.items = omega (arith, blocks_count p.blocks.items) in
+    let first = first_takes p.blocks.items c.index-first.result.now lt c.index-first.ensures (c.if-not-takes_nothing.ensures.0 refl) in
+    heap_fault p first c.in-Err.e (subst (λ (xs : List Data). Says c.in-Err.e (HeapFault (program p) (spanned_heap xs))) c.deref.ensures.value c.in-Err.ensures)

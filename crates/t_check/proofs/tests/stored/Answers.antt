@@ -25,9 +25,9 @@ program-requires c =
     let four = pushed _ _ _ _ c.in_ok-push-5.ensures.items three in
     let five = pushed _ _ _ _ c.in_ok-push-6.ensures.items four in
     let ints = subst (λ (ts : List TType). WellFormedTypes 0 (types ts)) (sym (c.in_ok-push.ensures.items ∙ ap (λ (ts : List TType). ts ++ T.Int ∷ []) c.new-types.ensures.items)) (tt, tt) in
-    let reg = subst (WellFormedValue 1 0) (sym c.plain.ensures) ((omega arith, omega arith), tt) in
-    let int = subst (WellFormedValue 1 0) (sym c.plain-2.ensures) (tt, tt) in
-    subst (λ (xs : List (Instr × Span)). WellFormedSeq 1 0 (seq_of (body xs) Halt)) (sym five) (
+    let reg = subst (WellFormedValue 1 0 0) (sym c.plain.ensures) ((omega arith, omega arith), tt) in
+    let int = subst (WellFormedValue 1 0 0) (sym c.plain-2.ensures) (tt, tt) in
+    subst (λ (xs : List (Instr × Span)). WellFormedSeq 1 0 0 (seq_of (body xs) Halt)) (sym five) (
       ((omega arith, omega arith), ints),
       omega arith,
       (

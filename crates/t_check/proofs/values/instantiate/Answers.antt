@@ -21,8 +21,8 @@ shift-requires c =
     let small = shallow n (tree t) (type_at n c.args.types.now c.loop-t.t-index t test c.t-item.is c.requires.types) in
     part_shift_fits n left (tree t) (file c.loop-t.regs.items) (omega (arith, c.requires.enough)) (omega (arith, c.requires.owes)) c.requires.few small c.loop-t.invariant.file
 
-pub put_regs-requires : goal.put_regs-requires
-put_regs-requires c =
+pub put_regs-requires-clause-fits : goal.put_regs-requires-clause-fits
+put_regs-requires-clause-fits c =
     let n = c.args.names in
     let left = c.loop-t.left in
     let t = c.t-item.result in

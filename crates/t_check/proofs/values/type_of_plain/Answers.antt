@@ -5,10 +5,12 @@ use Rattle.t_types.proofs.Trees.{tree_Code}
 use Rattle.t_types.specs.Read.{tree, file, types}
 use Rattle.t_types.specs.declared.types.TType.{TType}
 use Rattle.t_terms.specs.Tree.{Plain}
-use Rattle.t_terms.specs.Read.{base, blocks_of}
+use Rattle.t_terms.specs.Read.{base}
+use Rattle.t_terms.specs.ReadProgram.{program}
 use Rattle.t_terms.specs.declared.fault.TFault.{TFault}
 use Rattle.t_check.specs.Verdict.{IsTypeOf}
 use Rattle.t_check.proofs.Typing.{plain_none, plain_base, plain_code, plain_count, plain_ok}
+use Rattle.t_check.proofs.Blocks.{types_below}
 use Rattle.t_check.proofs.values.type_of_plain.Goals as goal
 
 some : (ts : List TType) → false ≡ (length ts == 0) → 0 < length (types ts)
@@ -17,7 +19,7 @@ some (t ∷ ts) e = omega arith
 
 pub returns-in-None : goal.returns-in-None
 returns-in-None c =
-    let P = blocks_of c.args.blocks.now in
+    let P = program c.args.program.now in
     let k = c.args.known.now in
     let b = base c.args.base in
     let ts = types c.args.types.now in
@@ -26,7 +28,7 @@ returns-in-None c =
 
 pub returns-then-count-owes : goal.returns-then-count-owes
 returns-then-count-owes c =
-    let P = blocks_of c.args.blocks.now in
+    let P = program c.args.program.now in
     let k = c.args.known.now in
     let b = base c.args.base in
     let ts = types c.args.types.now in
@@ -35,11 +37,11 @@ returns-then-count-owes c =
 
 pub returns-in-Ok-instantiate : goal.returns-in-Ok-instantiate
 returns-in-Ok-instantiate c =
-    let P = blocks_of c.args.blocks.now in
+    let P = program c.args.program.now in
     let k = c.args.known.now in
     let us = c.args.types.now in
     let count = length-map us tree in
     let rest = c.in-Some.parts.0 - length us in
     let le = c.if-count-owes.false in
     plain_ok P k c.args.span (base c.args.base) (types us) (tree c.in-Ok.t) (tree (T.Code rest c.in-Ok-instantiate.regs)) c.in-Some.parts.0 rest (file c.in-Some.parts.1.regs.items) (file c.in-Ok-instantiate.regs.regs.items)
-    (some us c.if-is_empty.ensures) c.in-Ok.ensures.0 c.in-Ok.ensures.1 c.in-Some.ensures (omega arith) (omega arith) c.in-Ok-instantiate.ensures.0 c.in-Ok-instantiate.ensures.1 (tree_Code rest c.in-Ok-instantiate.regs)
+    (some us c.if-is_empty.ensures) c.in-Ok.ensures.0 c.in-Ok.ensures.1 c.in-Some.ensures (omega arith) (omega arith) c.in-Ok-instantiate.ensures.0 (types_below k.names us c.requires.types) c.in-Ok-instantiate.ensures.1 (tree_Code rest c.in-Ok-instantiate.regs)

@@ -10,4 +10,4 @@ loop-block-preserved c =
     let bs = c.args.blocks.now in
     let i = c.loop-block.block-index in
     subst (λ (cs : List ESeq). IsCode c.load_block.new.code cs) (sym (blocks_taken bs i c.block-item.result c.loop-block-test.true c.block-item.is))
-    (c.in_ok-load_block.ensures (erase_blocks (blocks_of (take i bs))) c.loop-block.invariant)
+    (c.in_ok-load_block.ensures (map erase_block (blocks_of (take i bs))) c.loop-block.invariant)

@@ -5,4 +5,4 @@ use Rattle.t_machine.specs.Code.{IsCode}
 use Rattle.t_machine.proofs.loading.load_blocks.Given as goal
 
 abbrev pub invariant-loop-block : goal.invariant-loop-block
-invariant-loop-block l = IsCode l.code (erase_blocks (blocks_of (take l.block-index l.blocks)))
+invariant-loop-block l = IsCode l.code (map erase_block (blocks_of (take l.block-index l.blocks)))

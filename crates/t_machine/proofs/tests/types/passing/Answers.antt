@@ -10,4 +10,4 @@ block-requires-clause-file c =
     subst (λ (xs : List (ℕ × TType)). WellFormedFile 1 (file xs)) (sym c.in_ok-regs.ensures.items) (omega arith, omega arith, omega arith, (omega arith, omega arith, c.code_type-code.ensures, tt))
 
 pub block-requires-clause-code : goal.block-requires-clause-code
-block-requires-clause-code c = same_seq 3 1 _ _ _ c.new.ensures.items (c.plain-target.ensures 3 1 (omega arith, omega arith))
+block-requires-clause-code c = same_seq 3 0 1 _ _ _ c.new.ensures.items (c.plain-target.ensures 3 0 1 (omega arith, omega arith))

@@ -1,0 +1,8 @@
+use Rattle.std.proofs.Common.{map, take}
+use Rattle.t_terms.specs.Read.{data_of}
+use Rattle.t_rules.specs.Erase.{erase_datum}
+use Rattle.t_machine.specs.Heap.{IsHeap}
+use Rattle.t_machine.proofs.loading.load_heap.Given as goal
+
+abbrev pub invariant-loop-tuple : goal.invariant-loop-tuple
+invariant-loop-tuple l = IsHeap l.heap (map (map erase_datum) (data_of (take l.tuple-index l.tuples)))

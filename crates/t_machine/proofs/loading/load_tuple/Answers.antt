@@ -1,0 +1,43 @@
+use Rattle.std.proofs.Common.{◌≡◌, ℕ, List, ◌∷◌, [], ◌++◌, ◌+◌, ◌∙◌, length, map, take, ap, sym, subst, append_assoc, refl}
+use Rattle.std.proofs.lemmas.List.{map-append, append-nil, take_all}
+use Rattle.idx_core.specs.declared.span.Span.{Span}
+use Rattle.t_types.specs.declared.types.TType.{TType}
+use Rattle.t_terms.specs.declared.value.Value.{Value}
+use Rattle.t_terms.specs.Read.{data_fields}
+use Rattle.t_terms.specs.Spanned.{plain_fields}
+use Rattle.t_rules.specs.Erase.{EWord, erase_datum}
+use Rattle.t_machine.specs.Words.{word}
+use Rattle.t_machine.specs.declared.word.Word.{Word}
+use Rattle.t_machine.proofs.Cells.{tuple_added}
+use Rattle.t_machine.proofs.Loads.{words_taken}
+use Rattle.t_machine.proofs.loading.load_tuple.Goals as goal
+
+pub loop-field-init : goal.loop-field-init
+loop-field-init c = record {
+  starts = c.in_ok-push.ensures.items;
+  cells = sym (append-nil (map word c.args.heap.now.cells.items));
+}
+
+pub loop-field-preserved : goal.loop-field-preserved
+loop-field-preserved c =
+    let l = c.loop-field in
+    let xs = c.args.fields.now in
+    let done : List EWord = map erase_datum (plain_fields (data_fields (take l.field-index xs))) in
+    record {
+      starts = l.invariant.starts;
+      cells =
+          ap (λ (ws : List Word). map word ws) c.in_ok-push-2.ensures.items
+          ∙ map-append word l.heap.cells.items (c.data_word.result ∷ [])
+          ∙ ap (λ ws. ws ++ word c.data_word.result ∷ []) l.invariant.cells
+          ∙ append_assoc (map word c.args.heap.now.cells.items) (map erase_datum (plain_fields (data_fields (take l.field-index xs)))) (word c.data_word.result ∷ [])
+          ∙ ap (λ w. map word c.args.heap.now.cells.items ++ (map erase_datum (plain_fields (data_fields (take l.field-index xs))) ++ w ∷ [])) c.data_word.ensures
+          ∙ ap (λ ws. map word c.args.heap.now.cells.items ++ ws) (sym (words_taken xs l.field-index c.field-item.result c.loop-field-test.true c.field-item.is));
+    }
+
+pub returns : goal.returns
+returns c =
+    let l = c.loop-field in
+    let all = take_all l.field-index c.args.fields.now c.loop-field-test.false in
+    λ h is.
+    tuple_added c.args.heap.now l.heap h (map erase_datum (plain_fields (data_fields c.args.fields.now))) is
+    (l.invariant.cells ∙ ap (λ (xs : List (Value × TType × Span)). map word c.args.heap.now.cells.items ++ map erase_datum (plain_fields (data_fields xs))) all) l.invariant.starts

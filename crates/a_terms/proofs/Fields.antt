@@ -1,12 +1,12 @@
 -- Fields of tuples, and types applied one after the other.
-use Rattle.std.proofs.Common.{◌≡◌, ℕ, zero, suc, ◌+◌, ◌-◌, ◌<◌, ◌≤◌, ◌++◌, List, [], ◌∷◌, length, drop, take, get_or, set, Bool, true, false, Option, Some, None, refl, sym, ap, ap₂, ◌∙◌, arith}
+use Rattle.std.proofs.Common.{◌≡◌, ℕ, zero, suc, ◌+◌, ◌<◌, ◌≤◌, ◌++◌, List, [], ◌∷◌, length, drop, take, get_or, set, Bool, true, false, Option, Some, None, refl, sym, ap, ap₂, ◌∙◌, arith}
 use Rattle.std.proofs.lemmas.List.{drop_more, drop_all}
 use Rattle.a_terms.specs.Tree as a
 use Rattle.a_terms.specs.Tree.{ashift, aput_types}
 use Rattle.a_terms.specs.Typing.{applied, aset, aunset, afilled, field_of, filled_of}
 use Rattle.a_terms.specs.Read.{atree, atrees, afields}
 use Rattle.a_terms.specs.declared.types.AType.{AType}
-use Rattle.a_terms.proofs.Trees.{asnoc, fsnoc, atrees_snoc, afields_snoc, took}
+use Rattle.a_terms.specs.ReadLaws.{asnoc, fsnoc, atrees_snoc, afields_snoc, took}
 
 -- fields
 pub field_in : (xs : List (AType × Bool)) (i k : ℕ) (x : AType × Bool) → i ≡ suc k → k < length xs → x ≡ get_or xs k x → atree x.0 ≡ field_of i (Some (a.ATuple (afields xs)))

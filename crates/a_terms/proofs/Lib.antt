@@ -1,6 +1,6 @@
 mod Closing
-mod Fields
 mod Each
+mod Fields
 mod Rows
 mod Sound
-mod Trees
+mod Weighed

@@ -1,11 +1,11 @@
 -- Worked rows of the allocated calculus.
-use Rattle.std.proofs.Common.{◌≡◌, ℕ, zero, suc, pos, [], ◌∷◌, Some, refl, slice_get}
+use Rattle.std.proofs.Common.{◌≡◌, pos, [], ◌∷◌, refl}
 use Rattle.std.specs.Prelude.{true, false}
 use Rattle.std.specs.Int.{int_wrap}
 use Rattle.idx_core.specs.declared.arith.Op.TheVariants.{Add}
-use Rattle.a_terms.specs.Tree.{AInt, AVar, ATuple, ACode, AExists, NoATys, MoreATys, NoAFields, MoreAFields, AVal, Var, Num, Lab, Data, Apply, Pack, Value, Proj, Arith, Unpack, Malloc, Init, ATm, Let, Call, If0, Halt, ABlk, AProg}
+use Rattle.a_terms.specs.Tree.{AInt, AVar, ATuple, AExists, NoATys, MoreATys, NoAFields, MoreAFields, Var, Num, Lab, Data, Pack, Proj, Arith, Unpack, Malloc, Init, ATm, Let, Call, Halt, AProg}
 use Rattle.a_terms.specs.Meaning.{Halted, Spent, Wrong, meaning}
-use Rattle.a_terms.specs.Typing.{Program-ok, Term-ok, declared}
+use Rattle.a_terms.specs.Typing.{Term-ok, declared}
 
 -- no blocks and no data
 abbrev alone : AProg

@@ -6,6 +6,7 @@ pub mod Meaning
 pub mod NodeTrees
 pub mod Program
 pub mod Read
+pub mod ReadLaws
 pub mod Row
 pub mod SizeLaws
 pub mod Sizes
@@ -13,3 +14,4 @@ pub mod Tree
 pub mod TreeLaws
 pub mod TypeLaws
 pub mod Typing
+pub mod Weights

@@ -3,7 +3,7 @@ use Rattle.std.proofs.Common.{◌≡◌, ℕ, zero, suc, ◌+◌, ◌≤◌, Lis
 use Rattle.idx_core.specs.Over.{BelowAt, AnyDepth}
 use Rattle.idx_core.specs.Laws.{deep_is, shifted_ge}
 use Rattle.idx_core.specs.Laws as law
-use Rattle.a_terms.specs.Tree.{ATy, AInt, AVar, ATuple, ACode, AExists, ATys, NoATys, MoreATys, AFields, NoAFields, MoreAFields, ABlk, AConst, AConsts, AProg, AVal, Var, Num, Lab, Data, Apply, Pack, ADecl, Value, Proj, Arith, Unpack, Malloc, Init, ashift, ashift_fields, aput, aput_types, ABelow, ABelow-types, ABelow-fields, arity}
+use Rattle.a_terms.specs.Tree.{ATy, AInt, AVar, ATuple, ACode, AExists, ATys, NoATys, MoreATys, AFields, NoAFields, MoreAFields, ABlk, AConsts, AProg, AVal, Var, Num, Lab, Data, Apply, Pack, ADecl, Value, Proj, Arith, Unpack, Malloc, Init, ashift, ashift_fields, aput, aput_types, ABelow, ABelow-types, ABelow-fields, arity}
 use Rattle.a_terms.specs.TreeLaws.{a_part, a_each, a_over, a_types_over, a_types_each, a_fields_over, a_fields_each}
 use Rattle.a_terms.specs.Typing.{aapply, afield_type, afilled, aunset, code_type, data_fields, data_type, applied, type_of, Fine, Has, or_int, field_of, body_of, filled_of, declared, more_vars, Decl-ok, types_of, Blocks-ok, Data-ok, Tuples-ok}
 

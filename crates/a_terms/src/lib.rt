@@ -8,6 +8,7 @@ pub mod laws;
 pub mod nodes;
 pub mod parts;
 pub mod program;
+pub mod sizes;
 pub mod types;
 pub mod walks;
 

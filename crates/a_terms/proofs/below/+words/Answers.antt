@@ -3,7 +3,7 @@ use Rattle.idx_core.specs.Over.{BelowAt, AnyDepth}
 use Rattle.a_terms.specs.declared.types.AType.{AType}
 use Rattle.a_terms.specs.Tree.{ABelow}
 use Rattle.a_terms.specs.Read.{atree}
-use Rattle.a_terms.proofs.Trees.{is_tuple, is_code}
+use Rattle.a_terms.specs.ReadLaws.{is_tuple, is_code}
 use Rattle.a_terms.proofs.Each.{types_have_all, fields_have_all, items_more}
 use Rattle.a_terms.proofs.below.+words.Goals as goal
 

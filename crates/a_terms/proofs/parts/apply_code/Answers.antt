@@ -1,7 +1,7 @@
 use Rattle.std.proofs.Common.{◌∙◌, ◌-◌, arith, ap, Some}
 use Rattle.a_terms.specs.Tree as a
 use Rattle.a_terms.specs.Read.{atree, atrees}
-use Rattle.a_terms.proofs.Trees.{a_code}
+use Rattle.a_terms.specs.ReadLaws.{a_code}
 use Rattle.a_terms.proofs.Fields.{applied_one}
 use Rattle.a_terms.proofs.parts.apply_code.Goals as goal
 

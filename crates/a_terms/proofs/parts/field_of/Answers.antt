@@ -1,7 +1,7 @@
 use Rattle.std.proofs.Common.{◌∙◌, ap, sym, Some}
 use Rattle.a_terms.specs.Tree.{ashift}
 use Rattle.a_terms.specs.Typing.{field_of}
-use Rattle.a_terms.proofs.Trees.{is_tuple}
+use Rattle.a_terms.specs.ReadLaws.{is_tuple}
 use Rattle.a_terms.proofs.parts.field_of.Goals as goal
 
 pub returns-in_ok-made-in-Tuple : goal.returns-in_ok-made-in-Tuple

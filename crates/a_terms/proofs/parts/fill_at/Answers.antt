@@ -1,6 +1,6 @@
 use Rattle.std.proofs.Common.{◌≡◌, ◌∙◌, ◌-◌, arith, true, length, rules}
 use Rattle.std.specs.Vec.{with_item}
-use Rattle.a_terms.proofs.Trees.{a_tuple}
+use Rattle.a_terms.specs.ReadLaws.{a_tuple}
 use Rattle.a_terms.proofs.Fields.{filled_in, filled_out}
 use Rattle.a_terms.proofs.parts.fill_at.Goals as goal
 

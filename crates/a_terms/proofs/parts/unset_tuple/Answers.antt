@@ -3,7 +3,7 @@ use Rattle.std.proofs.lemmas.List.{take_all}
 use Rattle.a_terms.specs.Tree as a
 use Rattle.a_terms.specs.Typing.{aunset}
 use Rattle.a_terms.specs.Read.{atrees}
-use Rattle.a_terms.proofs.Trees.{a_tuple}
+use Rattle.a_terms.specs.ReadLaws.{a_tuple}
 use Rattle.a_terms.proofs.Fields.{unset_push}
 use Rattle.a_terms.proofs.parts.unset_tuple.Goals as goal
 

@@ -3,7 +3,7 @@ use Rattle.std.proofs.lemmas.List.{take_all}
 use Rattle.idx_core.specs.Over.{putted}
 use Rattle.a_terms.specs.Tree.{ATuple, ACode, AExists, AVar, over, over_types, over_fields}
 use Rattle.a_terms.specs.Read.{atree, atrees, afields}
-use Rattle.a_terms.proofs.Trees.{a_tuple, a_code, is_tuple, is_code, all_push, fields_push, at_types, at_type}
+use Rattle.a_terms.specs.ReadLaws.{a_tuple, a_code, is_tuple, is_code, all_push, fields_push, at_types, at_type}
 use Rattle.a_terms.proofs.walks.+putting.Goals as goal
 
 pub put_type-returns-in_ok-parts-in-Tuple : goal.put_type-returns-in_ok-parts-in-Tuple

@@ -1,5 +1,5 @@
 -- The trees of what holds a vector, by the vector's items.
-use Rattle.std.proofs.Common.{◌≡◌, ℕ, List, [], ◌∷◌, Vec, Global, refl, ap, ap₂, ◌∙◌, sym, Bool, ◌++◌, ◌<◌, ◌+◌, length, take, get_or, ◌≤◌, zero, suc, arith}
+use Rattle.std.proofs.Common.{◌≡◌, ℕ, List, [], ◌∷◌, Vec, Global, refl, ap, ap₂, ◌∙◌, sym, Bool, ◌++◌, ◌<◌, ◌+◌, length, take, get_or}
 use mathlib.Core.Former.{Count}
 use Rattle.std.proofs.lemmas.List.{take_more}
 use Rattle.idx_core.specs.Over.{At}

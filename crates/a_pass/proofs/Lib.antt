@@ -1,0 +1,10 @@
+mod Blocks
+mod Bounded
+mod CTrees
+mod Emitting
+mod Places
+mod Runs
+mod Stepping
+mod Steps
+mod Terms
+mod Walking

@@ -1,0 +1,141 @@
+-- The walk over all nodes.
+use Rattle.std.proofs.Common.{◌≡◌, ◌<◌, ◌≤◌, ℕ, zero, suc, ◌+◌, List, [], ◌∷◌, ◌++◌, refl, sym, ap, ap₂, ◌∙◌, subst, length, take, drop, arith, map, get_or, add-one}
+use Rattle.std.proofs.lemmas.List.{append-nil, length-append, length-take-le, take_more, take_all}
+use Rattle.std.proofs.Math.Seq.{drop-cons}
+use Rattle.term_core.specs.Ends.{lift}
+use Rattle.a_terms.specs.Typing.{types_of}
+use Rattle.a_terms.specs.Read.{atree}
+use Rattle.h_terms.specs.H.{HBlks, HTm}
+use Rattle.a_terms.specs.Tree as a
+use Rattle.a_law.specs.Allocate.{alloc_t, arg_levels, arg_depth, atype, atypes}
+use Rattle.c_terms.specs.declared.types.CType.{CType}
+use Rattle.c_terms.specs.Read.{ctree, ctys}
+use Rattle.h_terms.specs.Row.{top, others}
+use Rattle.h_terms.specs.Nodes.{HRow, HArity, h_terms, h_tree, h_build, h_kids, values, no_term}
+use Rattle.a_terms.specs.NodeTrees.{a_onto, a_tree}
+use Rattle.a_terms.specs.Arity.{ARow}
+use Rattle.a_terms.specs.NodeTrees as out
+use Rattle.h_terms.specs.declared.node.HNode.{HNode}
+use Rattle.a_terms.specs.declared.nodes.ANode.{ANode}
+use Rattle.a_pass.specs.declared.state.Name.{Name}
+use Rattle.a_pass.specs.declared.state.Place.{Place}
+use Rattle.a_pass.specs.Scope.{onto, level_of, levels, typed, scope, Under, pending, Fit}
+use Rattle.a_pass.specs.Emits.{Stepped, tops}
+use Rattle.a_pass.proofs.Emitting.{nothing}
+use Rattle.a_pass.proofs.Places.{onto_push}
+use Rattle.a_pass.proofs.Terms.{pending_take, fit_take, under_push, typed_now}
+
+-- what the loop keeps: with what is left of the nodes, the whole comes out
+pub record Walked (ks : HBlks) (rest : List HNode) (ns : List Name) (ps : List Place) (now : List ANode) (whole : List a.ATm) : Type 0 where
+  pub row : HRow rest (length ps)
+  pub fit : Fit ns (length ns) (tops ps)
+  pub terms : a_onto now (pending ks ns (tops ps) (h_terms rest)) ≡ whole
+  pub rows : (more : List ANode) → ARow more (length ps) → ARow (now ++ more) 1
+
+pub walk_begins : (ks : HBlks) (nodes : List HNode) (ns : List Name) (p : Place) (ps : List Place) (now : List ANode) (d : ℕ) → HRow nodes 1 → Under 0 ns → now ≡ [] → ps ≡ p ∷ [] → p.names ≡ length ns → p.binders ≡ 0 → p.depth ≡ d →
+    Walked ks nodes ns ps now (alloc_t ks (scope 0 ns) (levels ns) d (h_tree nodes) ∷ [])
+walk_begins ks nodes ns p ps now d row bound now_is ps_is count binders depth =
+    let all : take p.names ns ≡ ns = take_all p.names ns (omega (arith, count)) in
+    record {
+      row = subst (λ n. HRow nodes n) (sym (ap length ps_is)) row;
+      fit = subst (λ xs. Fit ns (length ns) (tops xs)) (sym ps_is) (omega (arith, count), subst (Under p.binders) (sym all) (subst (λ b. Under b ns) (sym binders) bound), tt);
+      terms =
+          ap₂ (λ xs ys. a_onto xs (pending ks ns (tops ys) (h_terms nodes))) now_is ps_is
+          ∙ ap (λ xs. alloc_t ks (scope p.binders xs) (levels xs) p.depth (h_tree nodes) ∷ []) all
+          ∙ ap₂ (λ b k. alloc_t ks (scope b ns) (levels ns) k (h_tree nodes) ∷ []) binders depth;
+      rows = λ more h. subst (λ xs. ARow (xs ++ more) 1) (sym now_is) (subst (ARow more) (ap length ps_is) h);
+    }
+
+-- what the next node finds
+module _ (ks : HBlks) (before rest : List HNode) (node : HNode) (ns kept : List Name) (ps qs : List Place) (place : Place) (now : List ANode) (whole : List a.ATm)
+  (is : before ≡ node ∷ rest) (popped : ps ≡ qs ++ place ∷ []) (cut : kept ≡ take place.names ns) (walked : Walked ks before ns ps now whole) where
+
+  is_tops : tops ps ≡ place ∷ tops qs
+  is_tops = ap tops popped ∙ onto_push (λ p. p) [] qs place
+
+  fits : (place.names ≤ length ns) × Under place.binders (take place.names ns) × Fit ns place.names (tops qs)
+  fits = subst (Fit ns (length ns)) is_tops walked.fit
+
+  count : length ps ≡ suc (length qs)
+  count = ap length popped ∙ length-append qs (place ∷ []) ∙ omega arith
+
+  row : HArity node.form (values node) × HRow rest (lift (h_kids node.form) (length qs))
+  row = subst (λ n. HRow (node ∷ rest) n) count (subst (λ xs. HRow xs (length ps)) is walked.row)
+
+  pub walk_arity : HArity node.form (values node)
+  walk_arity = row.0
+
+  pub walk_names : length kept ≡ place.names
+  walk_names = ap length cut ∙ length-take-le place.names ns fits.0
+
+  pub walk_bound : Under place.binders kept
+  walk_bound = subst (Under place.binders) (sym cut) fits.1
+
+  pub walk_goes : (ms : List Name) (rs : List Place) (new : List ANode) → Stepped ks place node.form (values node) kept ms qs rs now new → Walked ks rest ms rs new whole
+  walk_goes ms rs new s =
+      let fit : Fit kept place.names (tops qs) = subst (λ xs. Fit xs place.names (tops qs)) (sym cut) (fit_take ns place.names (tops qs) place.names (omega arith) fits.2) in
+      let hs = h_build node.form (values node) (h_terms rest) in
+      record {
+        row = subst (HRow rest) (sym s.count) row.1;
+        fit = s.fit fit;
+        terms =
+            s.terms fit (h_terms rest)
+            ∙ ap (λ xs. a_onto now (pending ks xs (place ∷ tops qs) hs)) cut
+            ∙ ap (a_onto now) (pending_take ks ns place.names (place ∷ tops qs) hs place.names (omega arith) (omega arith, fits.1, fits.2))
+            ∙ ap₂ (λ xs ys. a_onto now (pending ks ns xs (h_terms ys))) (sym is_tops) (sym is)
+            ∙ walked.terms;
+        rows = s.rows 1 (λ more h. walked.rows more (subst (ARow more) (sym count) h));
+      }
+
+pub walk_stuck : (ks : HBlks) (before rest : List HNode) (node : HNode) (ns : List Name) (ps : List Place) (now : List ANode) (whole : List a.ATm) → before ≡ node ∷ rest → length ps ≡ 0 → Walked ks before ns ps now whole → ⊥
+walk_stuck ks before rest node ns ps now whole is none walked = subst (λ n. HRow (node ∷ rest) n) none (subst (λ xs. HRow xs (length ps)) is walked.row)
+
+pub walk_ends : (ks : HBlks) (rest : List HNode) (ns : List Name) (ps : List Place) (now : List ANode) (t : a.ATm) → rest ≡ [] → Walked ks rest ns ps now (t ∷ []) → (a_tree now ≡ t) × ARow now 1
+walk_ends ks rest ns ps now t is walked =
+    let none : ps ≡ [] = nothing ps (subst (λ xs. HRow xs (length ps)) is walked.row) in
+    (ap (top out.no_term) (sym (ap (λ xs. a_onto now (pending ks ns (tops xs) (h_terms rest))) none) ∙ walked.terms),
+     subst (λ xs. ARow xs 1) (append-nil now) (walked.rows [] (ap length none)))
+
+-- the arguments' names
+levels_more : (d : ℕ) (ls : List ℕ) (xs : List CType) (x : CType) → arg_levels d ls (ctys (xs ++ x ∷ [])) ≡ (d + length xs) ∷ arg_levels d ls (ctys xs)
+levels_more d ls [] x = ap (λ k. k ∷ ls) (omega arith)
+levels_more d ls (y ∷ xs) x = levels_more (suc d) (d ∷ ls) xs x ∙ ap (λ k. k ∷ arg_levels (suc d) (d ∷ ls) (ctys xs)) (omega arith)
+
+scope_more : (g : List a.ATy) (xs : List CType) (x : CType) → types_of (atypes (ctys (xs ++ x ∷ []))) g ≡ atype (ctree x) ∷ types_of (atypes (ctys xs)) g
+scope_more g [] x = refl
+scope_more g (y ∷ xs) x = scope_more (atype (ctree y) ∷ g) xs x
+
+depth_is : (d : ℕ) (xs : List CType) → arg_depth d (ctys xs) ≡ d + length xs
+depth_is d [] = omega arith
+depth_is d (x ∷ xs) = depth_is (suc d) xs ∙ omega arith
+
+pub record Named (args : List CType) (ns : List Name) : Type 0 where
+  pub levels : levels ns ≡ arg_levels 0 [] (ctys args)
+  pub scope : scope 0 ns ≡ types_of (atypes (ctys args)) []
+  pub depth : length ns ≡ arg_depth 0 (ctys args)
+  pub bound : Under 0 ns
+
+pub named_none : (ns : List Name) → ns ≡ [] → Named [] ns
+named_none ns e = record { levels = ap levels e; scope = ap (scope 0) e; depth = ap length e; bound = subst (Under 0) (sym e) tt }
+
+pub named_next : (args : List CType) (i : ℕ) (x : CType) (ns ms : List Name) (n : Name) → i < length args → x ≡ get_or args i x → ms ≡ ns ++ n ∷ [] → n.level ≡ i → atree n.ty ≡ atype (ctree x) → n.under ≡ 0 → Named (take i args) ns → Named (take (i + 1) args) ms
+named_next args i x ns ms n lt x_is ms_is level ty under named =
+    let more : take (i + 1) args ≡ take i args ++ x ∷ [] = take_more args i x lt ∙ ap (λ y. take i args ++ y ∷ []) (sym x_is) in
+    let long : length (take i args) ≡ i = length-take-le i args (omega arith) in
+    record {
+      levels = ap levels ms_is ∙ onto_push level_of [] ns n ∙ ap₂ (λ k ks. k ∷ ks) (level ∙ omega (arith, long)) named.levels ∙ sym (ap (λ xs. arg_levels 0 [] (ctys xs)) more ∙ levels_more 0 [] (take i args) x);
+      scope = ap (scope 0) ms_is ∙ onto_push (typed 0) [] ns n ∙ ap₂ (λ t ts. t ∷ ts) (typed_now n 0 (atype (ctree x)) under ty) named.scope ∙ sym (ap (λ xs. types_of (atypes (ctys xs)) []) more ∙ scope_more [] (take i args) x);
+      depth = omega (arith, ap length ms_is, length-append ns (n ∷ []), named.depth, depth_is 0 (take i args), ap (λ xs. arg_depth 0 (ctys xs)) more, depth_is 0 (take i args ++ x ∷ []), length-append (take i args) (x ∷ []));
+      bound = subst (Under 0) (sym ms_is) (under_push 0 0 ns n (omega arith) (omega (arith, under)) named.bound);
+    }
+
+pub next_node : (ns : List HNode) (i : ℕ) (n : HNode) → i < length ns → n ≡ get_or ns i n → drop i ns ≡ n ∷ drop (i + 1) ns
+next_node ns i n lt is = drop-cons ns i n lt ∙ ap₂ (λ x k. x ∷ drop k ns) (sym is) (sym (add-one i))
+
+pub named_all : (args : List CType) (i : ℕ) (ns : List Name) → length args ≤ i → Named (take i args) ns → Named args ns
+named_all args i ns le named = subst (λ xs. Named xs ns) (take_all i args le) named
+
+-- a block's body
+pub body_is : (ks : HBlks) (args : List CType) (ns : List Name) (d : ℕ) (t : HTm) → d ≡ length ns → levels ns ≡ arg_levels 0 [] (ctys args) → scope 0 ns ≡ types_of (atypes (ctys args)) [] → length ns ≡ arg_depth 0 (ctys args) →
+    alloc_t ks (scope 0 ns) (levels ns) d t ≡ alloc_t ks (types_of (atypes (ctys args)) []) (arg_levels 0 [] (ctys args)) (arg_depth 0 (ctys args)) t
+body_is ks args ns d t long ls g depth = ap₂ (λ x y. alloc_t ks x y d t) g ls ∙ ap (λ k. alloc_t ks (types_of (atypes (ctys args)) []) (arg_levels 0 [] (ctys args)) k t) (long ∙ depth)

@@ -1,0 +1,20 @@
+use Rattle.std.proofs.Common.{◌≡◌, refl, rules, suc}
+use Rattle.a_pass.proofs.nodes.declare.Goals as goal
+
+pub returns : goal.returns
+returns c = record {
+  name = record { level = c.args.depth; ty = c.args.ty; under = c.args.binders };
+  place = record { depth = c.in_ok-next.next; names = c.len.result; binders = c.args.binders };
+  node = record { form = c.args.form; values = c.args.values };
+  names = c.in_ok-push-2.ensures.items;
+  places = c.in_ok-push-3.ensures.items;
+  nodes = c.in_ok-push.ensures.items;
+  level = refl;
+  type = refl;
+  under = refl;
+  deep = c.in_ok-next.ensures;
+  many = search rules;
+  bound = refl;
+  shape = refl;
+  values = refl;
+}

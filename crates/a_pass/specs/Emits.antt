@@ -1,0 +1,82 @@
+-- What a walk adds to the nodes.
+use Rattle.std.specs.Prelude.{◌≡◌, ℕ, suc, List, [], ◌∷◌, ◌++◌, map, length}
+use Rattle.term_core.specs.Ends.{lift}
+use Rattle.h_terms.specs.H.{HBlks, HVal, HTm}
+use Rattle.h_terms.specs.Nodes.{tied, h_build, h_kids, HArity}
+use Rattle.h_terms.specs.declared.node.HForm.{HForm}
+use Rattle.a_terms.specs.Tree as a
+use Rattle.a_terms.specs.Read.{atree}
+use Rattle.a_terms.specs.NodeTrees.{a_onto}
+use Rattle.a_terms.specs.Arity.{ARow}
+use Rattle.a_terms.specs.declared.types.AType.{AType}
+use Rattle.a_terms.specs.declared.nodes.AForm.{AForm}
+use Rattle.a_terms.specs.declared.nodes.AValue.{AValue}
+use Rattle.a_terms.specs.declared.nodes.ANode.{ANode}
+use Rattle.a_law.specs.Allocate.{v_type, vals, vs_next, pre_vs}
+use Rattle.a_pass.specs.declared.state.Name.{Name}
+use Rattle.a_pass.specs.declared.state.Place.{Place}
+use Rattle.a_pass.specs.declared.state.TypeOf.{TypeOf}
+use Rattle.a_pass.specs.Scope.{value_at, type_in, onto, levels, scope, pending, Fit}
+
+-- declarations that stand for what `pre` puts before a term
+pub record Emits (old new : List ANode) (pre : a.ATm → a.ATm) : Type 0 where
+  pub nodes : List ANode
+  pub is : new ≡ old ++ nodes
+  pub terms : (r : a.ATm) (rs : List a.ATm) → a_onto nodes (r ∷ rs) ≡ pre r ∷ rs
+  pub row : (rest : List ANode) (n : ℕ) → ARow rest (suc n) → ARow (nodes ++ rest) (suc n)
+
+-- the initialisations of a tuple from field i on, where the tuple has level l
+abbrev pub inits : ℕ → ℕ → List AValue → a.ATm → a.ATm
+inits l i [] rest = rest
+inits l i (v ∷ vs) rest = a.Let (a.Init (a.Var 0) i (value_at (suc l) v)) (inits (suc l) (suc i) vs rest)
+
+-- values that were read from depth d on, and what was put before
+pub record Made (ks : HBlks) (g : List a.ATy) (ls : List ℕ) (d : ℕ) (us : List HVal) (begin : List ANode) (vs : List AValue) (ts : List TypeOf) (m : ℕ) (now : List ANode) : Type 0 where
+  pub values : (e : ℕ) → map (value_at e) vs ≡ vals ls d e (tied us)
+  pub types : map (type_in g) ts ≡ map (v_type ks g) us
+  pub depth : m ≡ vs_next d (tied us)
+  pub emits : Emits begin now (pre_vs ks g ls d (tied us))
+
+-- a step of the reading: f is what it does to the values that were read
+abbrev pub Reads : HBlks → List a.ATy → List ℕ → (List HVal → List HVal) → List AValue → List TypeOf → ℕ → List ANode → List AValue → List TypeOf → ℕ → List ANode → Type 0
+Reads ks g ls f vs ts m now ws us k new = (d : ℕ) (xs : List HVal) (begin : List ANode) → Made ks g ls d xs begin vs ts m now → Made ks g ls d (f xs) begin ws us k new
+
+-- the last place first
+abbrev pub tops : List Place → List Place
+tops ps = onto (λ p. p) [] ps
+
+-- one more node, which names something
+pub record Declares (form : AForm) (vs : List AValue) (ty : AType) (depth count binders : ℕ) (ns ms : List Name) (ps qs : List Place) (old new : List ANode) : Type 0 where
+  pub name : Name
+  pub place : Place
+  pub node : ANode
+  pub names : ms ≡ ns ++ name ∷ []
+  pub places : qs ≡ ps ++ place ∷ []
+  pub nodes : new ≡ old ++ node ∷ []
+  pub level : name.level ≡ depth
+  pub type : atree name.ty ≡ atree ty
+  pub under : name.under ≡ binders
+  pub deep : place.depth ≡ suc depth
+  pub many : place.names ≡ suc count
+  pub bound : place.binders ≡ binders
+  pub shape : node.form ≡ form
+  pub values : node.values.items ≡ vs
+
+-- one more node
+pub record Ends (form : AForm) (vs : List AValue) (old new : List ANode) : Type 0 where
+  pub node : ANode
+  pub nodes : new ≡ old ++ node ∷ []
+  pub shape : node.form ≡ form
+  pub values : node.values.items ≡ vs
+
+-- what one node of a term does
+pub record Stepped (ks : HBlks) (place : Place) (form : HForm) (us : List HVal) (ns ms : List Name) (ps qs : List Place) (old new : List ANode) : Type 0 where
+  pub terms : Fit ns place.names (tops ps) → (ts : List HTm) → a_onto new (pending ks ms (tops qs) ts) ≡ a_onto old (pending ks ns (place ∷ tops ps) (h_build form us ts))
+  pub fit : Fit ns place.names (tops ps) → Fit ms (length ms) (tops qs)
+  pub rows : (m : ℕ) → ((rest : List ANode) → ARow rest (suc (length ps)) → ARow (old ++ rest) m) → (rest : List ANode) → ARow rest (length qs) → ARow (new ++ rest) m
+  pub count : length qs ≡ lift (h_kids form) (length ps)
+
+-- what a node of this form does to what stands after its values were read, whatever they stand for
+abbrev pub Steps : Place → HForm → List AValue → List TypeOf → ℕ → List Name → List Name → List Place → List Place → List ANode → List ANode → Type 0
+Steps place form vs ts m ns ms ps qs mid new =
+    (ks : HBlks) (us : List HVal) (begin : List ANode) → Made ks (scope place.binders ns) (levels ns) place.depth us begin vs ts m mid → HArity form us → Stepped ks place form us ns ms ps qs begin new

@@ -1,0 +1,15 @@
+//! Allocation: each tuple of a hoisted program becomes a malloc and the initialisations of its fields, and each cell a
+//! tuple of one field.
+#![tactic(auto)]
+
+mod emit;
+mod nodes;
+mod parts;
+mod program;
+mod run;
+mod scope;
+mod state;
+mod term;
+mod types;
+
+pub use program::allocate;

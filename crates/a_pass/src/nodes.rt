@@ -1,0 +1,394 @@
+// The nodes of a term, one by one.
+ghost use Rattle.std.specs.Prelude.{◌≡◌, ℕ, suc, List, [], ◌∷◌, true, IfOk, OnOk, map, length};
+ghost use Rattle.h_terms.specs.Nodes.{h_blocks, HArity};
+ghost use Rattle.h_terms.specs.Nodes as h;
+ghost use Rattle.h_terms.specs.declared.node.HForm.TheVariants as H;
+ghost use Rattle.a_terms.specs.Tree as a;
+ghost use Rattle.a_terms.specs.Read.{atree};
+ghost use Rattle.a_pass.specs.Scope.{Under, type_in, value_at};
+ghost use Rattle.a_pass.specs.Emits.{Emits, Declares, Ends, Stepped, Steps};
+
+use crate::emit::{after, content, malloc, under_all};
+use crate::run::{Run, read};
+use crate::scope::{body_in, field_in, own};
+use crate::state::{Name, Place, TypeOf};
+use crate::types::a_types;
+use a_terms::parts::set_tuple;
+use a_terms::{ABase, AForm, ANode, AType, AValue};
+use c_terms::CType;
+use h_terms::{HBlock, HForm, HNode};
+use idx_core::{Op, OutOfMemory};
+use std::alloc::Global;
+
+// The one type of a list.
+fn only(types: Vec<TypeOf>) -> TypeOf
+    ensures { (g : List a.ATy) (t : a.ATy) → map (type_in g) types.items ≡ t ∷ [] → type_in g result ≡ t }
+{
+    let mut types = types;
+    match types.pop() {
+        Some(t) => t,
+        None => TypeOf::Own(AType::Int),
+    }
+}
+
+// The one value of a list.
+fn only_value(alloc: Global, values: Vec<AValue>) -> AValue
+    ensures { (d : ℕ) (v : a.AVal) → map (value_at d) values.items ≡ v ∷ [] → value_at d result ≡ v }
+{
+    let mut values = values;
+    match values.pop() {
+        Some(v) => v,
+        None => AValue {
+            base: ABase::Int(0),
+            wraps: Vec::new(alloc),
+        },
+    }
+}
+
+// One more node, which names a value of this type, and the place after it.
+fn declare(
+    form: AForm,
+    values: Vec<AValue>,
+    ty: AType,
+    depth: u64,
+    binders: u64,
+    names: &mut Vec<Name>,
+    places: &mut Vec<Place>,
+    out: &mut Vec<ANode>,
+) -> Result<(), OutOfMemory>
+    ensures { OnOk result (Declares form values.items ty depth (length names.old.items) binders names.old.items names.new.items places.old.items places.new.items out.old.items out.new.items) }
+{
+    let next = after(depth)?;
+    out.push(ANode { form, values })?;
+    names.push(Name {
+        level: depth,
+        ty,
+        under: binders,
+    })?;
+    places.push(Place {
+        depth: next,
+        names: names.len(),
+        binders,
+    })?;
+    Ok(())
+}
+
+fn end(form: AForm, values: Vec<AValue>, out: &mut Vec<ANode>) -> Result<(), OutOfMemory>
+    ensures { OnOk result (Ends form values.items out.old.items out.new.items) }
+{
+    out.push(ANode { form, values })?;
+    Ok(())
+}
+
+fn name(
+    alloc: Global,
+    run: Run,
+    place: Place,
+    names: &mut Vec<Name>,
+    places: &mut Vec<Place>,
+    out: &mut Vec<ANode>,
+) -> Result<(), OutOfMemory>
+    requires names { length names.old.items ≡ place.names }
+    requires bound { Under place.binders names.old.items }
+    ensures { OnOk result (Steps place H.Name run.values.items run.types.items run.depth names.old.items names.new.items places.old.items places.new.items out.old.items out.new.items) }
+{
+    let Run {
+        values,
+        types,
+        depth,
+    } = run;
+    let ty = own(alloc, names, place.binders, only(types))?;
+    let values = under_all(alloc, values, depth)?;
+    declare(AForm::Value, values, ty, depth, place.binders, names, places, out)?;
+    Ok(())
+}
+
+fn project(
+    alloc: Global,
+    i: u64,
+    run: Run,
+    place: Place,
+    names: &mut Vec<Name>,
+    places: &mut Vec<Place>,
+    out: &mut Vec<ANode>,
+) -> Result<(), OutOfMemory>
+    requires names { length names.old.items ≡ place.names }
+    requires bound { Under place.binders names.old.items }
+    ensures field { OnOk result (Steps place (H.Proj i) run.values.items run.types.items run.depth names.old.items names.new.items places.old.items places.new.items out.old.items out.new.items) }
+    ensures cell { OnOk result (i ≡ 1 → Steps place H.Get run.values.items run.types.items run.depth names.old.items names.new.items places.old.items places.new.items out.old.items out.new.items) }
+{
+    let Run {
+        values,
+        types,
+        depth,
+    } = run;
+    let ty = field_in(alloc, names, place.binders, only(types), i)?;
+    let values = under_all(alloc, values, depth)?;
+    declare(AForm::Proj(i), values, ty, depth, place.binders, names, places, out)?;
+    Ok(())
+}
+
+fn operate(
+    alloc: Global,
+    op: Op,
+    run: Run,
+    place: Place,
+    names: &mut Vec<Name>,
+    places: &mut Vec<Place>,
+    out: &mut Vec<ANode>,
+) -> Result<(), OutOfMemory>
+    requires names { length names.old.items ≡ place.names }
+    requires bound { Under place.binders names.old.items }
+    ensures { OnOk result (Steps place (H.Arith op) run.values.items run.types.items run.depth names.old.items names.new.items places.old.items places.new.items out.old.items out.new.items) }
+{
+    let Run {
+        values,
+        types: _,
+        depth,
+    } = run;
+    let values = under_all(alloc, values, depth)?;
+    declare(AForm::Arith(op), values, AType::Int, depth, place.binders, names, places, out)?;
+    Ok(())
+}
+
+fn unpack(
+    alloc: Global,
+    run: Run,
+    place: Place,
+    names: &mut Vec<Name>,
+    places: &mut Vec<Place>,
+    out: &mut Vec<ANode>,
+) -> Result<(), OutOfMemory>
+    requires names { length names.old.items ≡ place.names }
+    requires bound { Under place.binders names.old.items }
+    ensures { OnOk result (Steps place H.Unpack run.values.items run.types.items run.depth names.old.items names.new.items places.old.items places.new.items out.old.items out.new.items) }
+{
+    let Run {
+        values,
+        types,
+        depth,
+    } = run;
+    let inner = after(place.binders)?;
+    let ty = body_in(alloc, names, place.binders, only(types))?;
+    let values = under_all(alloc, values, depth)?;
+    declare(AForm::Unpack, values, ty, depth, inner, names, places, out)?;
+    Ok(())
+}
+
+// A tuple of one field of this type; its type once the field is initialised.
+fn one_field(alloc: Global, ty: AType, out: &mut Vec<ANode>) -> Result<AType, OutOfMemory>
+    ensures ty { IfOk result (λ r. atree r ≡ a.ATuple (a.MoreAFields (atree ty) true a.NoAFields)) }
+    ensures emits { OnOk result (Emits out.old.items out.new.items (λ r. a.Let (a.Malloc (a.MoreATys (atree ty) a.NoATys)) r)) }
+{
+    let mut room = Vec::new(alloc);
+    room.push(ty)?;
+    let cell = set_tuple(alloc, &room)?;
+    malloc(alloc, room, out)?;
+    Ok(cell)
+}
+
+fn cell(
+    alloc: Global,
+    run: Run,
+    place: Place,
+    names: &mut Vec<Name>,
+    places: &mut Vec<Place>,
+    out: &mut Vec<ANode>,
+) -> Result<(), OutOfMemory>
+    requires names { length names.old.items ≡ place.names }
+    requires bound { Under place.binders names.old.items }
+    ensures { OnOk result (Steps place H.Cell run.values.items run.types.items run.depth names.old.items names.new.items places.old.items places.new.items out.old.items out.new.items) }
+{
+    let Run {
+        values,
+        types,
+        depth,
+    } = run;
+    let ty = own(alloc, names, place.binders, only(types))?;
+    let whole = one_field(alloc, ty, out)?;
+    let newest = after(depth)?;
+    let values = content(alloc, only_value(alloc, values), newest)?;
+    declare(AForm::Init(1), values, whole, newest, place.binders, names, places, out)?;
+    Ok(())
+}
+
+// The cell, the first of two values, is set to the second; how many variables there are then.
+fn assign(
+    alloc: Global,
+    values: Vec<AValue>,
+    depth: u64,
+    out: &mut Vec<ANode>,
+) -> Result<u64, OutOfMemory>
+    ensures next { IfOk result (λ r. r ≡ suc depth) }
+    ensures emits { OnOk result ((v w : a.AVal) → map (value_at depth) values.items ≡ v ∷ w ∷ [] → Emits out.old.items out.new.items (λ r. a.Let (a.Init v 1 w) r)) }
+{
+    let values = under_all(alloc, values, depth)?;
+    out.push(ANode {
+        form: AForm::Init(1),
+        values,
+    })?;
+    let next = after(depth)?;
+    Ok(next)
+}
+
+fn set(
+    alloc: Global,
+    run: Run,
+    place: Place,
+    names: &mut Vec<Name>,
+    places: &mut Vec<Place>,
+    out: &mut Vec<ANode>,
+) -> Result<(), OutOfMemory>
+    requires names { length names.old.items ≡ place.names }
+    requires bound { Under place.binders names.old.items }
+    ensures { OnOk result (Steps place H.Set run.values.items run.types.items run.depth names.old.items names.new.items places.old.items places.new.items out.old.items out.new.items) }
+{
+    let Run {
+        values,
+        types: _,
+        depth,
+    } = run;
+    let next = assign(alloc, values, depth, out)?;
+    let room = Vec::new(alloc);
+    let none = set_tuple(alloc, &room)?;
+    let empty = Vec::new(alloc);
+    declare(AForm::Malloc(room), empty, none, next, place.binders, names, places, out)?;
+    Ok(())
+}
+
+fn call(
+    alloc: Global,
+    types: &Vec<CType>,
+    run: Run,
+    place: Place,
+    names: &[Name],
+    places: &[Place],
+    out: &mut Vec<ANode>,
+) -> Result<(), OutOfMemory>
+    requires names { length names.now ≡ place.names }
+    requires bound { Under place.binders names.now }
+    ensures { OnOk result (Steps place (H.Call types.now) run.values.items run.types.items run.depth names.now names.now places.now places.now out.old.items out.new.items) }
+{
+    let types = a_types(alloc, types)?;
+    let values = under_all(alloc, run.values, run.depth)?;
+    end(AForm::Call(types), values, out)?;
+    Ok(())
+}
+
+fn choose(
+    alloc: Global,
+    run: Run,
+    place: Place,
+    names: &[Name],
+    places: &mut Vec<Place>,
+    out: &mut Vec<ANode>,
+) -> Result<(), OutOfMemory>
+    requires names { length names.now ≡ place.names }
+    requires bound { Under place.binders names.now }
+    ensures { OnOk result (Steps place H.If0 run.values.items run.types.items run.depth names.now names.now places.old.items places.new.items out.old.items out.new.items) }
+{
+    let branch = Place {
+        depth: run.depth,
+        names: place.names,
+        binders: place.binders,
+    };
+    let values = under_all(alloc, run.values, run.depth)?;
+    end(AForm::If0, values, out)?;
+    places.push(branch)?;
+    places.push(branch)?;
+    Ok(())
+}
+
+fn halt(
+    alloc: Global,
+    run: Run,
+    place: Place,
+    names: &[Name],
+    places: &[Place],
+    out: &mut Vec<ANode>,
+) -> Result<(), OutOfMemory>
+    requires names { length names.now ≡ place.names }
+    requires bound { Under place.binders names.now }
+    ensures { OnOk result (Steps place H.Halt run.values.items run.types.items run.depth names.now names.now places.now places.now out.old.items out.new.items) }
+{
+    let values = under_all(alloc, run.values, run.depth)?;
+    end(AForm::Halt, values, out)?;
+    Ok(())
+}
+
+// What a node of this form does, once its values are read.
+fn form(
+    alloc: Global,
+    form: &HForm,
+    run: Run,
+    place: Place,
+    names: &mut Vec<Name>,
+    places: &mut Vec<Place>,
+    out: &mut Vec<ANode>,
+) -> Result<(), OutOfMemory>
+    requires names { length names.old.items ≡ place.names }
+    requires bound { Under place.binders names.old.items }
+    ensures { OnOk result (Steps place form.now run.values.items run.types.items run.depth names.old.items names.new.items places.old.items places.new.items out.old.items out.new.items) }
+{
+    match form {
+        HForm::Name => {
+            name(alloc, run, place, names, places, out)?;
+            Ok(())
+        }
+        HForm::Proj(i) => {
+            project(alloc, *i, run, place, names, places, out)?;
+            Ok(())
+        }
+        HForm::Arith(op) => {
+            operate(alloc, *op, run, place, names, places, out)?;
+            Ok(())
+        }
+        HForm::Unpack => {
+            unpack(alloc, run, place, names, places, out)?;
+            Ok(())
+        }
+        HForm::Cell => {
+            cell(alloc, run, place, names, places, out)?;
+            Ok(())
+        }
+        HForm::Get => {
+            project(alloc, 1, run, place, names, places, out)?;
+            Ok(())
+        }
+        HForm::Set => {
+            set(alloc, run, place, names, places, out)?;
+            Ok(())
+        }
+        HForm::Call(types) => {
+            call(alloc, types, run, place, names, places, out)?;
+            Ok(())
+        }
+        HForm::If0 => {
+            choose(alloc, run, place, names, places, out)?;
+            Ok(())
+        }
+        HForm::Halt => {
+            halt(alloc, run, place, names, places, out)?;
+            Ok(())
+        }
+    }
+}
+
+pub(crate) fn step(
+    alloc: Global,
+    blocks: &[HBlock],
+    node: &HNode,
+    place: Place,
+    names: &mut Vec<Name>,
+    places: &mut Vec<Place>,
+    out: &mut Vec<ANode>,
+) -> Result<(), OutOfMemory>
+    requires arity { HArity node.now.form (h.values node.now) }
+    requires names { length names.old.items ≡ place.names }
+    requires bound { Under place.binders names.old.items }
+    ensures { OnOk result (Stepped (h_blocks blocks.now) place node.now.form (h.values node.now) names.old.items names.new.items places.old.items places.new.items out.old.items out.new.items) }
+{
+    let run = read(alloc, blocks, names, place.binders, &node.values, place.depth, out)?;
+    form(alloc, &node.form, run, place, names, places, out)?;
+    Ok(())
+}

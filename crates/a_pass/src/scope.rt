@@ -1,0 +1,202 @@
+// What stands for a variable and a label, and the types of values.
+ghost use Rattle.std.specs.Prelude.{◌≡◌, ℕ, List, IfOk, MatchOption, Some, None, map, slice_get};
+ghost use Rattle.h_terms.specs.H.{block_at};
+ghost use Rattle.h_terms.specs.Nodes.{h_blocks};
+ghost use Rattle.a_terms.specs.Tree as a;
+ghost use Rattle.a_terms.specs.Read.{atree};
+ghost use Rattle.a_terms.specs.Typing.{or_int, field_of as the_field_of, body_of as the_body_of};
+ghost use Rattle.a_law.specs.Allocate.{var_of, h_code};
+ghost use Rattle.a_pass.specs.Scope.{value_at, base_at, levels, scope, type_in, typed};
+
+use crate::state::{Leaf, Name, TypeOf};
+use crate::types::a_types;
+use a_terms::parts::{body_of, field_of};
+use a_terms::walks::shift_type;
+use a_terms::{ABase, AType, AValue};
+use h_terms::HBlock;
+use idx_core::OutOfMemory;
+use std::alloc::Global;
+
+pub(crate) fn plain(alloc: Global, base: ABase) -> AValue
+    ensures { (d : ℕ) → value_at d result ≡ base_at d base }
+{
+    AValue {
+        base,
+        wraps: Vec::new(alloc),
+    }
+}
+
+// Name i, 0 the innermost.
+fn name_at(names: &[Name], i: u64) -> Option<&Name>
+    ensures level { MatchOption result (slice_get (levels names.now) i ≡ None) (λ n. slice_get (levels names.now) i ≡ Some n.now.level) }
+    ensures ty { MatchOption result ((b : ℕ) → slice_get (scope b names.now) i ≡ None) (λ n. (b : ℕ) → slice_get (scope b names.now) i ≡ Some (typed b n.now)) }
+{
+    let count = names.len();
+    if i < count as u64 {
+        Some(&names[count - 1 - i as usize])
+    } else {
+        None
+    }
+}
+
+// The variable that stands for name i; a number where there is no such name.
+pub(crate) fn variable(alloc: Global, names: &[Name], i: u64) -> AValue
+    ensures { (d : ℕ) → value_at d result ≡ var_of d (slice_get (levels names.now) i) }
+{
+    match name_at(names, i) {
+        Some(name) => plain(alloc, ABase::Var(name.level)),
+        None => plain(alloc, ABase::Int(0)),
+    }
+}
+
+pub(crate) fn label(alloc: Global, blocks: &[HBlock], l: u64) -> Result<Leaf, OutOfMemory>
+    ensures value { IfOk result (λ r. (d : ℕ) → value_at d r.value ≡ a.Lab l) }
+    ensures ty { IfOk result (λ r. (g : List a.ATy) → type_in g r.ty ≡ h_code (block_at (h_blocks blocks.now) l)) }
+{
+    let value = plain(alloc, ABase::Label(l));
+    let ty = code_type(alloc, blocks, l)?;
+    Ok(Leaf {
+        value,
+        ty: TypeOf::Own(ty),
+    })
+}
+
+// The type of the code at a label.
+fn code_type(alloc: Global, blocks: &[HBlock], l: u64) -> Result<AType, OutOfMemory>
+    ensures { IfOk result (λ r. atree r ≡ h_code (block_at (h_blocks blocks.now) l)) }
+{
+    if l < blocks.len() as u64 {
+        let block = &blocks[l as usize];
+        let args = a_types(alloc, &block.args)?;
+        Ok(AType::Code {
+            owes: block.owes,
+            args,
+        })
+    } else {
+        Ok(AType::Int)
+    }
+}
+
+// The type of name i.
+fn shown(alloc: Global, names: &[Name], binders: u64, i: u64) -> Result<AType, OutOfMemory>
+    ensures { IfOk result (λ r. atree r ≡ or_int (slice_get (scope binders names.now) i)) }
+{
+    match name_at(names, i) {
+        Some(name) => {
+            let by = binders.saturating_sub(name.under);
+            let made = shift_type(alloc, &name.ty, by, 0)?;
+            Ok(made)
+        }
+        None => Ok(AType::Int),
+    }
+}
+
+fn shown_field(
+    alloc: Global,
+    names: &[Name],
+    binders: u64,
+    i: u64,
+    field: u64,
+) -> Result<AType, OutOfMemory>
+    ensures { IfOk result (λ r. atree r ≡ the_field_of field (Some (or_int (slice_get (scope binders names.now) i)))) }
+{
+    match name_at(names, i) {
+        Some(name) => {
+            let by = binders.saturating_sub(name.under);
+            let made = field_of(alloc, &name.ty, field, by)?;
+            Ok(made)
+        }
+        None => Ok(AType::Int),
+    }
+}
+
+fn shown_body(alloc: Global, names: &[Name], binders: u64, i: u64) -> Result<AType, OutOfMemory>
+    ensures { IfOk result (λ r. atree r ≡ the_body_of (Some (or_int (slice_get (scope binders names.now) i)))) }
+{
+    match name_at(names, i) {
+        Some(name) => {
+            let by = binders.saturating_sub(name.under);
+            let made = body_of(alloc, &name.ty, by)?;
+            Ok(made)
+        }
+        None => Ok(AType::Int),
+    }
+}
+
+// The type itself.
+pub(crate) fn own(
+    alloc: Global,
+    names: &[Name],
+    binders: u64,
+    ty: TypeOf,
+) -> Result<AType, OutOfMemory>
+    ensures { IfOk result (λ r. atree r ≡ type_in (scope binders names.now) ty) }
+{
+    match ty {
+        TypeOf::Own(t) => Ok(t),
+        TypeOf::Name(i) => {
+            let made = shown(alloc, names, binders, i)?;
+            Ok(made)
+        }
+    }
+}
+
+// Types themselves.
+pub(crate) fn own_all(
+    alloc: Global,
+    names: &[Name],
+    binders: u64,
+    types: Vec<TypeOf>,
+) -> Result<Vec<AType>, OutOfMemory>
+    ensures { IfOk result (λ r. map atree r.items ≡ map (type_in (scope binders names.now)) types.items) }
+{
+    let mut made = Vec::new(alloc);
+    for ty in types {
+        let one = own(alloc, names, binders, ty)?;
+        made.push(one)?;
+    }
+    Ok(made)
+}
+
+// Field `field` of a tuple's type, from 1 on.
+pub(crate) fn field_in(
+    alloc: Global,
+    names: &[Name],
+    binders: u64,
+    ty: TypeOf,
+    field: u64,
+) -> Result<AType, OutOfMemory>
+    ensures { IfOk result (λ r. atree r ≡ the_field_of field (Some (type_in (scope binders names.now) ty))) }
+{
+    match ty {
+        TypeOf::Own(t) => {
+            let made = field_of(alloc, &t, field, 0)?;
+            Ok(made)
+        }
+        TypeOf::Name(i) => {
+            let made = shown_field(alloc, names, binders, i, field)?;
+            Ok(made)
+        }
+    }
+}
+
+// What a package's type hides.
+pub(crate) fn body_in(
+    alloc: Global,
+    names: &[Name],
+    binders: u64,
+    ty: TypeOf,
+) -> Result<AType, OutOfMemory>
+    ensures { IfOk result (λ r. atree r ≡ the_body_of (Some (type_in (scope binders names.now) ty))) }
+{
+    match ty {
+        TypeOf::Own(t) => {
+            let made = body_of(alloc, &t, 0)?;
+            Ok(made)
+        }
+        TypeOf::Name(i) => {
+            let made = shown_body(alloc, names, binders, i)?;
+            Ok(made)
+        }
+    }
+}

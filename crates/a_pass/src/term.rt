@@ -1,0 +1,96 @@
+// Whole terms.
+ghost use Rattle.std.specs.Prelude.{◌≡◌, ℕ, List, [], IfOk, length};
+ghost use Rattle.c_terms.specs.Read.{ctys};
+ghost use Rattle.h_terms.specs.Nodes.{h_blocks, h_tree, HRow};
+ghost use Rattle.a_terms.specs.Typing.{types_of};
+ghost use Rattle.a_terms.specs.NodeTrees.{a_tree};
+ghost use Rattle.a_terms.specs.Arity.{ARow};
+ghost use Rattle.a_law.specs.Allocate.{alloc_t, alloc_main, arg_levels, arg_depth, atypes};
+ghost use Rattle.a_pass.specs.Scope.{levels, scope, Under};
+
+use crate::nodes::step;
+use crate::state::{Name, Place};
+use crate::types::a_type;
+use a_terms::ANode;
+use c_terms::CType;
+use h_terms::{HBlock, HNode};
+use idx_core::OutOfMemory;
+use std::alloc::Global;
+
+fn walk(
+    alloc: Global,
+    blocks: &[HBlock],
+    nodes: &[HNode],
+    names: Vec<Name>,
+    depth: u64,
+) -> Result<Vec<ANode>, OutOfMemory>
+    requires one { HRow nodes.now 1 }
+    requires bound { Under 0 names.items }
+    ensures tree { IfOk result (λ r. a_tree r.items ≡ alloc_t (h_blocks blocks.now) (scope 0 names.items) (levels names.items) depth (h_tree nodes.now)) }
+    ensures one { IfOk result (λ r. ARow r.items 1) }
+{
+    let mut names = names;
+    let mut out = Vec::new(alloc);
+    let mut places = Vec::new(alloc);
+    places.push(Place {
+        depth,
+        names: names.len(),
+        binders: 0,
+    })?;
+    for node in nodes {
+        let Some(place) = places.pop() else {
+            unreachable!()
+        };
+        names.truncate(place.names);
+        step(alloc, blocks, node, place, &mut names, &mut places, &mut out)?;
+    }
+    Ok(out)
+}
+
+// The names of the arguments, which have the first levels.
+fn arguments(alloc: Global, args: &[CType]) -> Result<Vec<Name>, OutOfMemory>
+    ensures levels { IfOk result (λ r. levels r.items ≡ arg_levels 0 [] (ctys args.now)) }
+    ensures scope { IfOk result (λ r. scope 0 r.items ≡ types_of (atypes (ctys args.now)) []) }
+    ensures depth { IfOk result (λ r. length r.items ≡ arg_depth 0 (ctys args.now)) }
+    ensures bound { IfOk result (λ r. Under 0 r.items) }
+{
+    let mut names = Vec::new(alloc);
+    for (level, arg) in args.iter().enumerate() {
+        let ty = a_type(alloc, arg)?;
+        names.push(Name {
+            level: level as u64,
+            ty,
+            under: 0,
+        })?;
+    }
+    Ok(names)
+}
+
+pub(crate) fn body(
+    alloc: Global,
+    blocks: &[HBlock],
+    args: &[CType],
+    nodes: &[HNode],
+) -> Result<Vec<ANode>, OutOfMemory>
+    requires one { HRow nodes.now 1 }
+    ensures tree { IfOk result (λ r. a_tree r.items ≡ alloc_t (h_blocks blocks.now) (types_of (atypes (ctys args.now)) []) (arg_levels 0 [] (ctys args.now)) (arg_depth 0 (ctys args.now)) (h_tree nodes.now)) }
+    ensures one { IfOk result (λ r. ARow r.items 1) }
+{
+    let names = arguments(alloc, args)?;
+    let depth = names.len() as u64;
+    let out = walk(alloc, blocks, nodes, names, depth)?;
+    Ok(out)
+}
+
+pub(crate) fn main_term(
+    alloc: Global,
+    blocks: &[HBlock],
+    nodes: &[HNode],
+) -> Result<Vec<ANode>, OutOfMemory>
+    requires one { HRow nodes.now 1 }
+    ensures tree { IfOk result (λ r. a_tree r.items ≡ alloc_main (h_blocks blocks.now) (h_tree nodes.now)) }
+    ensures one { IfOk result (λ r. ARow r.items 1) }
+{
+    let out = walk(alloc, blocks, nodes, Vec::new(alloc), 0)?;
+    Ok(out)
+}

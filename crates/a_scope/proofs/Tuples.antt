@@ -6,7 +6,7 @@ use Rattle.a_terms.specs.Read.{atree, afields}
 use Rattle.a_terms.specs.NodeTrees.{a_consts}
 use Rattle.a_terms.specs.declared.types.AType.{AType}
 use Rattle.a_terms.specs.declared.nodes.AValue.{AValue}
-use Rattle.a_scope.proofs.Trees.{fsnoc, afields_snoc, took}
+use Rattle.a_terms.specs.ReadLaws.{fsnoc, afields_snoc, took}
 
 full_snoc : (cs : List (AValue × AType)) (c : AValue × AType) → data_fields (a_consts (cs ++ c ∷ [])) ≡ fsnoc (data_fields (a_consts cs)) (atree c.1) true
 full_snoc [] c = refl

@@ -14,7 +14,7 @@ use Rattle.a_terms.specs.declared.nodes.AValue.{AValue}
 use Rattle.a_terms.specs.declared.nodes.AWrap.{AWrap}
 use Rattle.a_terms.specs.declared.nodes.AWrap.TheVariants.{Apply, Pack}
 use Rattle.t_emit.proofs.Written.{rsnoc, file_snoc}
-use Rattle.a_scope.proofs.Trees.{took}
+use Rattle.a_terms.specs.ReadLaws.{took}
 use Rattle.a_scope.specs.Scope.{shown, scope}
 use Rattle.a_scope.specs.declared.scope.Entry.{Entry}
 use Rattle.a_scope.proofs.Scopes.{wrapped_more, scope_snoc, length_scope}

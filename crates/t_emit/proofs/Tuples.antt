@@ -13,7 +13,7 @@ use Rattle.a_terms.specs.NodeTrees.{a_value, a_consts, a_data}
 use Rattle.a_terms.specs.declared.types.AType.{AType}
 use Rattle.a_terms.specs.declared.nodes.AValue.{AValue}
 use Rattle.a_terms.specs.declared.nodes.AData.{AData}
-use Rattle.a_scope.proofs.Trees.{took}
+use Rattle.a_terms.specs.ReadLaws.{took}
 use Rattle.gen_law.specs.Gen.{ty, constant, data_of, generated_heap}
 
 fields_snoc : (xs : List (Value × TType × Span)) (x : Value × TType × Span) → plain_fields (data_fields (xs ++ x ∷ [])) ≡ plain_fields (data_fields xs) ++ record { value = value x.0; ty = tree x.1 } ∷ []

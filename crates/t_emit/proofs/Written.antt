@@ -8,7 +8,7 @@ use Rattle.a_terms.specs.Tree as a
 use Rattle.a_terms.specs.Tree.{arity}
 use Rattle.a_terms.specs.Read.{atree, atrees, afields}
 use Rattle.a_terms.specs.declared.types.AType.{AType}
-use Rattle.a_scope.proofs.Trees.{asnoc, fsnoc, atrees_snoc, afields_snoc, took}
+use Rattle.a_terms.specs.ReadLaws.{asnoc, fsnoc, atrees_snoc, afields_snoc, took}
 
 -- one more at the end
 abbrev pub rsnoc : TFile → ℕ → Ty → TFile

@@ -13,7 +13,7 @@ use Rattle.a_terms.specs.Tree as a
 use Rattle.a_terms.specs.Typing.{types_of}
 use Rattle.a_terms.specs.Read.{atree, atrees}
 use Rattle.a_terms.specs.declared.types.AType.{AType}
-use Rattle.a_scope.proofs.Trees.{asnoc, atrees_snoc, took}
+use Rattle.a_terms.specs.ReadLaws.{asnoc, atrees_snoc, took}
 use Rattle.a_terms.specs.NodeTrees.{a_tree, a_blocks}
 use Rattle.a_terms.specs.Arity.{ARow, ARows}
 use Rattle.a_terms.specs.declared.nodes.ANode.{ANode}

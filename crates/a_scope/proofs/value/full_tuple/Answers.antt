@@ -3,7 +3,7 @@ use Rattle.std.proofs.lemmas.List.{take_all}
 use Rattle.a_terms.specs.Tree as a
 use Rattle.a_terms.specs.Typing.{data_fields}
 use Rattle.a_terms.specs.NodeTrees.{a_consts}
-use Rattle.a_scope.proofs.Trees.{a_tuple}
+use Rattle.a_terms.specs.ReadLaws.{a_tuple}
 use Rattle.a_scope.proofs.Tuples.{full_push}
 use Rattle.a_scope.proofs.value.full_tuple.Goals as goal
 

@@ -1,7 +1,7 @@
 use Rattle.std.proofs.Common.{◌∙◌, arith, ap, Some}
 use Rattle.a_terms.specs.Tree as a
 use Rattle.a_terms.specs.Read.{atrees}
-use Rattle.a_scope.proofs.Trees.{a_code}
+use Rattle.a_terms.specs.ReadLaws.{a_code}
 use Rattle.a_scope.proofs.Scopes.{block_in, block_out}
 use Rattle.a_scope.proofs.value.label.Goals as goal
 

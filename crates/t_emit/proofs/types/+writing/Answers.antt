@@ -6,7 +6,7 @@ use Rattle.t_types.proofs.Trees.{tree_Tuple, tree_Code}
 use Rattle.gen_law.specs.Gen.{ty, ty_args, ty_fields}
 use Rattle.a_terms.specs.Tree.{AExists}
 use Rattle.a_terms.specs.Read.{atree, atrees, afields}
-use Rattle.a_scope.proofs.Trees.{is_tuple, is_code}
+use Rattle.a_terms.specs.ReadLaws.{is_tuple, is_code}
 use Rattle.t_emit.proofs.Written.{args_push, written_push}
 use Rattle.t_emit.proofs.types.+writing.Goals as goal
 

@@ -27,9 +27,11 @@ AtMostOneCut = (text : List ℕ) (w v : List Token) → IsCut text w → IsCut t
 
 -- a text that is cut has no fault in its tokens
 abbrev pub NoTokenFaultWhereCut : Type 0
-NoTokenFaultWhereCut = (text : List ℕ) (w : List Token) (c : TCode) (span : Span) → IsCut text w → ¬ FirstTokenFault text c span
+NoTokenFaultWhereCut =
+    (text : List ℕ) (w : List Token) (c : TCode) (span : Span) → IsCut text w → ¬ FirstTokenFault text c span
 
 -- a text has one first fault in its tokens at most
 abbrev pub AtMostOneTokenFault : Type 0
 AtMostOneTokenFault =
-    (text : List ℕ) (c c' : TCode) (span span' : Span) → FirstTokenFault text c span → FirstTokenFault text c' span' → (c ≡ c') × (span ≡ span')
+    (text : List ℕ) (c c' : TCode) (span span' : Span) → FirstTokenFault text c span → FirstTokenFault text c' span' →
+    (c ≡ c') × (span ≡ span')

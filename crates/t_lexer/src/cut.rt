@@ -25,12 +25,14 @@ fn refused(code: TCode, start: usize, end: usize) -> TFault
     }
 }
 
-/// The tokens of an assembly text, in order (own choice). Refused by T01 at a byte that begins no token, and by T02 at a
-/// number out of range, whichever comes first.
+/// The tokens of an assembly text, in order (own choice). Refused by T01 at a byte that begins no token, and by T02
+/// at a number out of range, whichever comes first.
 pub fn tokens(alloc: Global, text: &[u8]) -> Result<Vec<Token>, TFault>
     ensures right { MatchResult result (λ w. IsCut text.now w.items) (λ f. IsTokenFault text.now f) }
-    ensures cut { (w : List tokens_of.Token) → IsCut text.now w → MatchResult result (λ v. v.items ≡ w) (λ f. f ≡ fault.Memory) }
-    ensures refused { (code : codes.TCode) (span : place.Span) → FirstTokenFault text.now code span → IsErrAnd result (λ f. f ≢ fault.Memory → f ≡ fault.Refused code span) }
+    ensures cut { (w : List tokens_of.Token) → IsCut text.now w →
+        MatchResult result (λ v. v.items ≡ w) (λ f. f ≡ fault.Memory) }
+    ensures refused { (code : codes.TCode) (span : place.Span) → FirstTokenFault text.now code span →
+        IsErrAnd result (λ f. f ≢ fault.Memory → f ≡ fault.Refused code span) }
 {
     let mut out = Vec::new(alloc);
     let mut at = 0usize;

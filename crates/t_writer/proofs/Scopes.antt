@@ -4,7 +4,7 @@ use Rattle.std.specs.Str.{bytes_eq}
 use Rattle.std.proofs.lemmas.Slice.Eq.{bytes_eq-Decides}
 use Rattle.std.proofs.lemmas.Fmt.{decimal_injective}
 use Rattle.idx_core.specs.Names.{Name}
-use Rattle.t_terms.specs.Tree.{TBase, Label}
+use Rattle.t_terms.specs.Tree.{Label}
 use Rattle.t_terms.specs.Names.{Labels, is_among, place_of, named_by}
 
 abbrev pub type_name : ℕ → Name

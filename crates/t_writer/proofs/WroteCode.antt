@@ -1,6 +1,6 @@
 -- A value, an instruction and an end that are written stand for themselves, where the names around them are those of
 -- their depth and the labels those of the blocks in turn.
-use Rattle.std.proofs.Common.{◌≡◌, ◌≤◌, ◌^◌, pos, negsuc, ℕ, ◌+◌, ◌-◌, List, [], ◌∷◌, ◌++◌, length, codes, true, refl, sym, ap, ap₂, ◌∙◌, arith, Some}
+use Rattle.std.proofs.Common.{◌≡◌, ◌≤◌, ◌^◌, pos, negsuc, ℕ, ◌+◌, List, [], ◌∷◌, ◌++◌, length, codes, true, refl, sym, ap, ap₂, ◌∙◌, arith, Some}
 use Rattle.std.proofs.lemmas.Int.{ints}
 use Rattle.idx_core.specs.declared.span.Span.{Span}
 use Rattle.idx_core.specs.declared.arith.Op.{Op}

@@ -41,19 +41,24 @@ abbrev mutual
   pub type_written : ℕ → Ty → List Lexeme
   type_written d IntTy = Reserved (codes "int") k.Int ∷ []
   type_written d (VarTy i) = TypeName (d - 1 - i) ∷ []
-  type_written d (CodeTy owes file) = Reserved (codes "all") k.All ∷ (binds_written d owes ++ (Sign 123 k.LeftBrace ∷ (regs_written 0 (d + owes) file ++ Sign 125 k.RightBrace ∷ [])))
-  type_written d (ExistsTy t) = Reserved (codes "some") k.Some ∷ (space ∷ (TypeName d ∷ (Sign 46 k.Dot ∷ (space ∷ type_written (d + 1) t))))
+  type_written d (CodeTy owes file) =
+      Reserved (codes "all") k.All ∷ (binds_written d owes ++ (Sign 123 k.LeftBrace ∷
+      (regs_written 0 (d + owes) file ++ Sign 125 k.RightBrace ∷ [])))
+  type_written d (ExistsTy t) =
+      Reserved (codes "some") k.Some ∷ (space ∷ (TypeName d ∷ (Sign 46 k.Dot ∷ (space ∷ type_written (d + 1) t))))
   type_written d (TupleTy fields) = Sign 60 k.LeftAngle ∷ (fields_written 0 d fields ++ Sign 62 k.RightAngle ∷ [])
 
   -- registers with their types, with i before them
   pub regs_written : ℕ → ℕ → TFile → List Lexeme
   regs_written i d NoRegs = []
-  regs_written i d (MoreRegs r t file) = separator i ++ (Register r ∷ (Sign 58 k.Colon ∷ (type_written d t ++ regs_written (suc i) d file)))
+  regs_written i d (MoreRegs r t file) =
+      separator i ++ (Register r ∷ (Sign 58 k.Colon ∷ (type_written d t ++ regs_written (suc i) d file)))
 
   -- types with their flags, with i before them
   pub fields_written : ℕ → ℕ → TFields → List Lexeme
   fields_written i d NoFields = []
-  fields_written i d (MoreFields t flag fields) = separator i ++ (type_written d t ++ (Sign 94 k.Caret ∷ (flag_written flag ∷ fields_written (suc i) d fields)))
+  fields_written i d (MoreFields t flag fields) =
+      separator i ++ (type_written d t ++ (Sign 94 k.Caret ∷ (flag_written flag ∷ fields_written (suc i) d fields)))
 
 abbrev pub file_written : ℕ → TFile → List Lexeme
 file_written d file = Sign 123 k.LeftBrace ∷ (regs_written 0 d file ++ Sign 125 k.RightBrace ∷ [])
@@ -81,7 +86,8 @@ args_written d (t ∷ ts) = list_written d (t ∷ ts)
 abbrev pub value_written : ℕ → TValue → List Lexeme
 value_written d (Plain b ts) = base_written b ∷ args_written d ts
 value_written d (Pack t v s) =
-    Reserved (codes "pack") k.Pack ∷ (Sign 91 k.LeftBracket ∷ (type_written d t ++ (comma ∷ (space ∷ (value_written d v ++ (Sign 93 k.RightBracket ∷ (space ∷ (Reserved (codes "as") k.As ∷ (space ∷ type_written d s)))))))))
+    Reserved (codes "pack") k.Pack ∷ (Sign 91 k.LeftBracket ∷ (type_written d t ++ (comma ∷ (space ∷
+    (value_written d v ++ (Sign 93 k.RightBracket ∷ (space ∷ (Reserved (codes "as") k.As ∷ (space ∷ type_written d s)))))))))
 
 abbrev pub op_written : Op → Lexeme
 op_written Add = Reserved (codes "add") k.Add
@@ -94,20 +100,29 @@ place_written r i = Register r ∷ (Sign 91 k.LeftBracket ∷ (Number (pos i) �
 
 -- unpack [ name , reg ] and a comma
 abbrev pub unpacked_written : ℕ → ℕ → List Lexeme
-unpacked_written d rd = Reserved (codes "unpack") k.Unpack ∷ (Sign 91 k.LeftBracket ∷ (TypeName d ∷ (comma ∷ (space ∷ (Register rd ∷ (Sign 93 k.RightBracket ∷ (comma ∷ (space ∷ []))))))))
+unpacked_written d rd =
+    Reserved (codes "unpack") k.Unpack ∷ (Sign 91 k.LeftBracket ∷ (TypeName d ∷ (comma ∷ (space ∷
+    (Register rd ∷ (Sign 93 k.RightBracket ∷ (comma ∷ (space ∷ []))))))))
 
 abbrev pub instr_written : ℕ → TInstr → List Lexeme
-instr_written d (Arith op rd rs v) = op_written op ∷ (space ∷ (Register rd ∷ (comma ∷ (space ∷ (Register rs ∷ (comma ∷ (space ∷ value_written d v)))))))
-instr_written d (Bnz r v) = Reserved (codes "bnz") k.Bnz ∷ (space ∷ (Register r ∷ (comma ∷ (space ∷ value_written d v))))
-instr_written d (Ld rd rs i) = Reserved (codes "ld") k.Ld ∷ (space ∷ (Register rd ∷ (comma ∷ (space ∷ place_written rs i))))
+instr_written d (Arith op rd rs v) =
+    op_written op ∷ (space ∷ (Register rd ∷ (comma ∷ (space ∷ (Register rs ∷ (comma ∷ (space ∷ value_written d v)))))))
+instr_written d (Bnz r v) =
+    Reserved (codes "bnz") k.Bnz ∷ (space ∷ (Register r ∷ (comma ∷ (space ∷ value_written d v))))
+instr_written d (Ld rd rs i) =
+    Reserved (codes "ld") k.Ld ∷ (space ∷ (Register rd ∷ (comma ∷ (space ∷ place_written rs i))))
 instr_written d (Malloc rd ts) = Reserved (codes "malloc") k.Malloc ∷ (space ∷ (Register rd ∷ list_written d ts))
-instr_written d (Mov rd v) = Reserved (codes "mov") k.Mov ∷ (space ∷ (Register rd ∷ (comma ∷ (space ∷ value_written d v))))
-instr_written d (St rd i rs) = Reserved (codes "st") k.St ∷ (space ∷ (place_written rd i ++ (comma ∷ (space ∷ (Register rs ∷ [])))))
+instr_written d (Mov rd v) =
+    Reserved (codes "mov") k.Mov ∷ (space ∷ (Register rd ∷ (comma ∷ (space ∷ value_written d v))))
+instr_written d (St rd i rs) =
+    Reserved (codes "st") k.St ∷ (space ∷ (place_written rd i ++ (comma ∷ (space ∷ (Register rs ∷ [])))))
 instr_written d (Unpack rd v) = unpacked_written d rd ++ value_written d v
 
 abbrev pub end_written : ℕ → TEnd → List Lexeme
 end_written d (Jmp v) = Reserved (codes "jmp") k.Jmp ∷ (space ∷ value_written d v)
-end_written d Halt = Reserved (codes "halt") k.Halt ∷ (Sign 91 k.LeftBracket ∷ (Reserved (codes "int") k.Int ∷ (Sign 93 k.RightBracket ∷ [])))
+end_written d Halt =
+    Reserved (codes "halt") k.Halt ∷ (Sign 91 k.LeftBracket ∷
+    (Reserved (codes "int") k.Int ∷ (Sign 93 k.RightBracket ∷ [])))
 
 -- one line for each instruction, and for the end
 abbrev pub seq_written : ℕ → TSeq → List Lexeme
@@ -116,7 +131,9 @@ seq_written d (Ends e) = end_written d e ++ line_end ∷ []
 
 abbrev pub block_written : ℕ → TBlock → List Lexeme
 block_written l b =
-    LabelName l ∷ (Sign 58 k.Colon ∷ (space ∷ (Reserved (codes "code") k.Code ∷ (binds_written 0 b.owes ++ (file_written b.owes b.file ++ (Sign 46 k.Dot ∷ (line_end ∷ seq_written b.owes b.code)))))))
+    LabelName l ∷ (Sign 58 k.Colon ∷ (space ∷ (Reserved (codes "code") k.Code ∷
+    (binds_written 0 b.owes ++ (file_written b.owes b.file ++
+    (Sign 46 k.Dot ∷ (line_end ∷ seq_written b.owes b.code)))))))
 
 -- blocks, with l before them
 abbrev pub blocks_written : ℕ → List TBlock → List Lexeme

@@ -54,7 +54,8 @@ fn write_place(text: &mut Vec<u8>, r: u64, field: u64) -> Result<(), OutOfMemory
 // A register, a comma and a value.
 fn write_operands(text: &mut Vec<u8>, r: u64, v: &Value, depth: u64) -> Result<(), OutOfMemory>
     requires { (blocks : ℕ) × WellFormedValue blocks 0 depth (value_of v.now) }
-    ensures written { OnOk result (text.new.items ≡ text.old.items ++ render (Register r ∷ (comma ∷ (space ∷ value_written depth (value_of v.now))))) }
+    ensures written { OnOk result (text.new.items ≡
+        text.old.items ++ render (Register r ∷ (comma ∷ (space ∷ value_written depth (value_of v.now))))) }
     ensures ints { OnOk result (ValueFits (value_of v.now)) }
 {
     write_target(text, r)?;
@@ -76,7 +77,8 @@ fn write_unpacked(text: &mut Vec<u8>, rd: u64, depth: u64) -> Result<(), OutOfMe
 // An instruction inside `depth` type names, of a program of some number of blocks and no data.
 pub(crate) fn write_instr(text: &mut Vec<u8>, instr: &Instr, depth: u64) -> Result<(), OutOfMemory>
     requires { (blocks : ℕ) × WellFormedInstr blocks 0 depth (instr_of instr.now) }
-    ensures written { OnOk result (text.new.items ≡ text.old.items ++ render (instr_written depth (instr_of instr.now))) }
+    ensures written { OnOk result (text.new.items ≡
+        text.old.items ++ render (instr_written depth (instr_of instr.now))) }
     ensures ints { OnOk result (InstrFits (instr_of instr.now)) }
 {
     match instr {

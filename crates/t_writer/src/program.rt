@@ -25,7 +25,8 @@ fn write_code(
     depth: u64,
 ) -> Result<(), OutOfMemory>
     requires { (blocks : ℕ) × WellFormedSeq blocks 0 depth (seq_of (body_of body.now) (end_of end.now)) }
-    ensures written { OnOk result (text.new.items ≡ text.old.items ++ render (seq_written depth (seq_of (body_of body.now) (end_of end.now)))) }
+    ensures written { OnOk result (text.new.items ≡
+        text.old.items ++ render (seq_written depth (seq_of (body_of body.now) (end_of end.now)))) }
     ensures ints { OnOk result (SeqFits (seq_of (body_of body.now) (end_of end.now))) }
 {
     let mut names = depth;
@@ -42,7 +43,8 @@ fn write_code(
 // A block by its number: a line for its label and what it takes, and then its code.
 fn write_block(text: &mut Vec<u8>, number: u64, block: &Block) -> Result<(), OutOfMemory>
     requires { (blocks : ℕ) × WellFormedBlock blocks 0 (block_of block.now) }
-    ensures written { OnOk result (text.new.items ≡ text.old.items ++ render (block_written number (block_of block.now))) }
+    ensures written { OnOk result (text.new.items ≡
+        text.old.items ++ render (block_written number (block_of block.now))) }
     ensures ints { OnOk result (SeqFits (block_of block.now).code) }
 {
     write_name(text, b'L', number)?;

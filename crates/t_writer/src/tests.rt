@@ -1,7 +1,10 @@
 // What no clause says: that a program is written where there is memory, and how.
-ghost use Rattle.std.specs.Prelude.{IfOk};
-ghost use Rattle.t_terms.specs.Read.{block as block_of};
-ghost use Rattle.t_terms.specs.Whole.{WellFormedBlock};
+ghost use Rattle.std.specs.Prelude.{◌≡◌, [], IfOk};
+ghost use Rattle.t_types.specs.Tree.{IntTy, VarTy, ExistsTy};
+ghost use Rattle.t_terms.specs.Tree.{Reg, Plain, Pack, Halt};
+ghost use Rattle.t_terms.specs.Spanned.{seq_of};
+ghost use Rattle.t_terms.specs.Read.{body as body_of, block as block_of, value as value_of};
+ghost use Rattle.t_terms.specs.Whole.{WellFormedSeq, WellFormedBlock};
 
 use crate::write;
 use idx_core::{OutOfMemory, Span};
@@ -56,7 +59,9 @@ fn halts(alloc: Global) -> Result<Block, OutOfMemory>
     })
 }
 
-fn program(alloc: Global) -> Result<TProgram, OutOfMemory> {
+fn program(alloc: Global) -> Result<TProgram, OutOfMemory>
+    ensures { IfOk result (λ p. p.heap.items ≡ []) }
+{
     let first = moves(alloc)?;
     let second = halts(alloc)?;
     let mut blocks = Vec::new(alloc);
@@ -75,6 +80,76 @@ fn a_program_is_written(rt: HostRuntime) -> Result<(), OutOfMemory> {
     assert!(rt;
         text.as_slice()
             == b"tal 1\nL0: code[]{}.\nmov r1, ~5\njmp L1[int]\nL1: code[T0]{r1:int}.\nhalt[int]\n".as_slice()
+    );
+    Ok(())
+}
+
+fn register(alloc: Global, r: u64) -> Value
+    ensures { value_of result ≡ Plain (Reg r) [] }
+{
+    Value::Plain {
+        base: Base::Reg(r),
+        types: Vec::new(alloc),
+    }
+}
+
+fn package(alloc: Global) -> Result<Value, OutOfMemory>
+    ensures { IfOk result (λ v. value_of v ≡ Pack IntTy (Plain (Reg 3) []) (ExistsTy (VarTy 0))) }
+{
+    Ok(Value::Pack {
+        hidden: TType::Int,
+        inner: Box::new(alloc, register(alloc, 3))?,
+        shape: TType::Exists(Box::new(alloc, TType::Var(0))?),
+    })
+}
+
+// a tuple that is made, stored to and loaded from, and a package that is made and opened
+fn steps(alloc: Global) -> Result<Vec<(Instr, Span)>, OutOfMemory>
+    ensures { IfOk result (λ steps. WellFormedSeq 1 0 0 (seq_of (body_of steps.items) Halt)) }
+{
+    let package = package(alloc)?;
+    let opened = register(alloc, 4);
+    let mut types = Vec::new(alloc);
+    types.push(TType::Int)?;
+    let mut steps = Vec::new(alloc);
+    steps.push((Instr::Malloc { rd: 1, types }, here()))?;
+    let (rd, field, rs) = (1, 0, 2);
+    steps.push((Instr::St { rd, field, rs }, here()))?;
+    let (rd, rs) = (3, 1);
+    steps.push((Instr::Ld { rd, rs, field }, here()))?;
+    steps.push((Instr::Mov { rd: 4, v: package }, here()))?;
+    steps.push((Instr::Unpack { rd: 5, v: opened }, here()))?;
+    Ok(steps)
+}
+
+fn heap_and_package(alloc: Global) -> Result<TProgram, OutOfMemory>
+    ensures { IfOk result (λ p. p.heap.items ≡ []) }
+{
+    let body = steps(alloc)?;
+    let mut blocks = Vec::new(alloc);
+    blocks.push(Block {
+        name: here(),
+        owes: 0,
+        regs: RegFile {
+            regs: Vec::new(alloc),
+        },
+        body,
+        end: End::Halt,
+        end_span: here(),
+    })?;
+    Ok(TProgram {
+        blocks,
+        heap: Vec::new(alloc),
+    })
+}
+
+#[test]
+fn tuples_and_packages_are_written(rt: HostRuntime) -> Result<(), OutOfMemory> {
+    let alloc = rt.alloc();
+    let text = write(alloc, &heap_and_package(alloc)?)?;
+    assert!(rt;
+        text.as_slice()
+            == b"tal 1\nL0: code[]{}.\nmalloc r1[int]\nst r1[0], r2\nld r3, r1[0]\nmov r4, pack[int, r3] as some T0. T0\nunpack[T0, r5], r4\nhalt[int]\n".as_slice()
     );
     Ok(())
 }

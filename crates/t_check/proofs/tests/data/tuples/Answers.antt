@@ -16,8 +16,7 @@ returns-clause-heap c =
     let made = two_items _ _ _ _ _ c.in_ok-push-5.ensures.items c.in_ok-push-4.ensures.items c.new-made.ensures.items in
     subst (λ (xs : List Data). WellFormedHeap 1 2 (data_of xs)) (sym made) (
       subst (λ (xs : List (Value × TType × Span)). WellFormedData 1 2 (plain_fields (data_fields xs))) (sym first) (c.number.ensures, (c.second.ensures, tt)),
-      subst (λ (xs : List (Value × TType × Span)). WellFormedData 1 2 (plain_fields (data_fields xs))) (sym other) (c.number-2.ensures, tt),
-      tt,
+      (subst (λ (xs : List (Value × TType × Span)). WellFormedData 1 2 (plain_fields (data_fields xs))) (sym other) (c.number-2.ensures, tt), tt),
     )
 
 pub returns-clause-two : goal.returns-clause-two

@@ -8,7 +8,6 @@ mod Texts
 mod Turns
 pub mod Faulty
 pub mod Limited
-pub mod Making
 pub mod NotedNodes
 pub mod Occurs
 pub mod Parts

@@ -1,5 +1,5 @@
 -- What is bound, and lists that grow at their ends.
-use Rattle.std.proofs.Common.{◌≡◌, ℕ, zero, suc, ◌+◌, ◌-◌, ◌<◌, ◌≤◌, List, [], ◌∷◌, ◌++◌, Vec, Global, refl, ap, ap₂, ◌∙◌, sym, length, get_or, drop, take, arith, Bool, map}
+use Rattle.std.proofs.Common.{◌≡◌, ℕ, zero, suc, ◌+◌, ◌<◌, ◌≤◌, List, [], ◌∷◌, ◌++◌, refl, ap, ◌∙◌, sym, length, get_or, drop, take, arith, Bool, map}
 use Rattle.term_core.specs.Ends.{lift}
 use Rattle.k_terms.specs.Read.{knode}
 use Rattle.k_terms.specs.declared.node.KNode.{KNode}
@@ -9,8 +9,6 @@ use Rattle.c_emit.specs.Read.{note}
 use Rattle.c_walk.specs.Know as W
 use Rattle.c_walk.specs.Emit as E
 use Rattle.c_emit.specs.declared.parts.Info.{Info}
-use Rattle.c_terms.specs.declared.types.CType.{CType}
-use Rattle.c_terms.specs.Read.{ctree, ctys}
 use Rattle.c_emit.specs.Read.{info}
 use Rattle.c_pass.specs.declared.state.Bound.{Bound}
 use Rattle.c_pass.specs.Read.{bound, bounds, infos_onto, notes_onto}

@@ -1,5 +1,5 @@
 -- A program within the bound does what it did.
-use Rattle.std.proofs.Common.{◌≡◌, ℕ, ℤ, List, []}
+use Rattle.std.proofs.Common.{◌≡◌, ℕ}
 use Rattle.std.proofs.Math.Logic.{∥∥₁_elim}
 use Rattle.std.proofs.Props.{props}
 use Rattle.term_core.specs.Ends.{End, Result}

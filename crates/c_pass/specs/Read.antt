@@ -24,6 +24,10 @@ abbrev pub bounds : List Bound → List W.Bound
 bounds [] = []
 bounds (x ∷ xs) = bound x ∷ bounds xs
 
+-- the levels of the type variables of a variable's type
+abbrev pub levels_of : W.Bound → List ℕ
+levels_of x = W.type_levels x.depth 0 x.type
+
 abbrev pub clue : Clue → W.Clue
 clue c = record { kept = c.kept.list.items; own = c.own; types = c.types.list.items }
 

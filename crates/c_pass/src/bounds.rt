@@ -2,7 +2,7 @@
 ghost use Rattle.std.specs.Prelude.{◌≡◌, ◌++◌, take, OnOk};
 ghost use Rattle.k_terms.specs.Read.{ktree, ktys};
 ghost use Rattle.c_walk.specs.Know as W;
-ghost use Rattle.c_pass.specs.Read.{bounds};
+ghost use Rattle.c_pass.specs.Read.{bounds, levels_of};
 
 use crate::state::Bound;
 use c_free::copy_type::copied;
@@ -15,7 +15,7 @@ use std::alloc::Global;
 // The levels of the type variables of one variable's type.
 fn levels_at(xs: &[Bound], l: u64, out: &mut Vec<u64>) -> Result<(), OutOfMemory>
     ensures { OnOk result
-        (out.new.items ≡ out.old.items ++ W.type_levels (W.bound_at (bounds xs.now) l).depth 0 (W.bound_at (bounds xs.now) l).type) }
+        (out.new.items ≡ out.old.items ++ levels_of (W.bound_at (bounds xs.now) l)) }
 {
     if l < xs.len() as u64 {
         let x = &xs[l as usize];

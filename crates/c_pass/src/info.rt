@@ -54,7 +54,8 @@ fn env(
     f: &Side,
     outside: bool,
 ) -> Result<CType, OutOfMemory>
-    ensures { IfOk result (λ r. ctree r ≡ TCTuple (W.bound_types (var_of outside (side f.now)) depth (bounds xs.now) levels.now)) }
+    ensures { IfOk result
+        (λ r. ctree r ≡ TCTuple (W.bound_types (var_of outside (side f.now)) depth (bounds xs.now) levels.now)) }
 {
     let made = types_at(alloc, xs, levels, depth, f, outside)?;
     Ok(CType::Tuple(made))

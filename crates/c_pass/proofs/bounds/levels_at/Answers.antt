@@ -1,4 +1,4 @@
-use Rattle.std.proofs.Common.{◌≡◌, ◌∙◌, ◌++◌, ap, sym, List, ℕ}
+use Rattle.std.proofs.Common.{◌∙◌, ◌++◌, ap, sym}
 use Rattle.c_walk.specs.Know as W
 use Rattle.c_pass.proofs.Bounding.{at_in, at_out, append_nil}
 use Rattle.c_pass.proofs.bounds.levels_at.Goals as goal

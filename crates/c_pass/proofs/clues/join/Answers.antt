@@ -1,12 +1,10 @@
-use Rattle.std.proofs.Common.{rules, ◌≡◌, ◌∙◌, ap, ap₂, sym, List, [], ◌∷◌, ℕ}
+use Rattle.std.proofs.Common.{rules, ◌≡◌, ◌∙◌, ap, ap₂, sym, List, []}
 use Rattle.c_walk.specs.TSweep as T
-use Rattle.c_walk.specs.Sweep as W
-use Rattle.c_walk.specs.Know as N
 use Rattle.c_free.specs.declared.state.Found.{Found}
 use Rattle.c_walk.specs.declared.levels.Levels.{Levels}
 use Rattle.c_free.specs.Swept.{founds, lists}
 use Rattle.c_pass.specs.declared.state.Clue.{Clue}
-use Rattle.c_pass.specs.Read.{clues_of, clues_onto}
+use Rattle.c_pass.specs.Read.{clues_onto}
 use Rattle.c_pass.proofs.Joins.{clues_push, clues_all}
 use Rattle.c_pass.proofs.clues.join.Goals as goal
 

@@ -1,4 +1,4 @@
-use Rattle.std.proofs.Common.{◌≡◌, length}
+use Rattle.std.proofs.Common.{◌≡◌}
 use Rattle.std.specs.VecDeque.{deque_len}
 use Rattle.c_walk.specs.TSweep as T
 use Rattle.c_free.specs.Swept.{founds, lists}

@@ -1,4 +1,4 @@
-use Rattle.std.proofs.Common.{◌≡◌, ◌∙◌, ap}
+use Rattle.std.proofs.Common.{◌∙◌, ap}
 use Rattle.c_terms.specs.C as C
 use Rattle.c_pass.proofs.Lists.{c_tuple}
 use Rattle.c_pass.proofs.info.env.Goals as goal

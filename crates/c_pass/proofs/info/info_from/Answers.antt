@@ -1,14 +1,12 @@
 use Rattle.std.proofs.Common.{◌≡◌, ◌∙◌, ◌+◌, ap, sym, List, ℕ, rules, length}
 use Rattle.c_terms.specs.C as C
-use Rattle.k_terms.specs.K as K
 use Rattle.c_law.specs.Close as L
 use Rattle.c_walk.specs.Know as W
 use Rattle.c_pass.proofs.Bounding.{lift_add}
-use Rattle.k_terms.specs.Read.{ktree, ktys}
+use Rattle.k_terms.specs.Read.{ktys}
 use Rattle.c_terms.specs.Read.{ctree, ctys}
-use Rattle.c_emit.specs.Read.{info}
 use Rattle.c_free.specs.Names.{side}
-use Rattle.c_pass.specs.Read.{bounds, info_parts, var_of}
+use Rattle.c_pass.specs.Read.{bounds, info_parts}
 use Rattle.c_pass.proofs.Bounding.{packed_same}
 use Rattle.c_pass.proofs.info.info_from.Goals as goal
 

@@ -1,6 +1,5 @@
-use Rattle.std.proofs.Common.{◌≡◌, ◌∙◌, ap, sym, arith}
+use Rattle.std.proofs.Common.{◌∙◌, ap, sym}
 use Rattle.c_walk.specs.Know as W
-use Rattle.term_core.specs.Ends.{lift}
 use Rattle.c_pass.proofs.Bounding.{lift_add}
 use Rattle.k_terms.specs.Read.{ktree}
 use Rattle.c_pass.specs.Read.{bounds}

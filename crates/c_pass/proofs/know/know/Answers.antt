@@ -1,4 +1,4 @@
-use Rattle.std.proofs.Common.{◌≡◌, ◌∙◌, ◌+◌, ap, sym, drop, map}
+use Rattle.std.proofs.Common.{◌∙◌, ◌+◌, ap, sym, drop, map}
 use Rattle.k_terms.specs.Read.{knode}
 use Rattle.c_pass.proofs.Bounding.{read_drop}
 use Rattle.c_pass.specs.Read.{total}

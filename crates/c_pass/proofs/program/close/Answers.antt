@@ -1,16 +1,11 @@
-use Rattle.std.proofs.Common.{◌≡◌, ◌↔◌, ◌∙◌, ◌+◌, ◌*◌, ap, sym, subst, ℕ, ℤ, []}
-use Rattle.std.proofs.Math.Logic.{∥∥₁_elim, ∥∥₁_map}
-use Rattle.std.proofs.Props.{props}
-use Rattle.term_core.specs.Ends.{End, Halted, Result}
-use Rattle.k_terms.specs.Meaning.{krun}
+use Rattle.std.proofs.Common.{◌∙◌, ◌+◌, ◌*◌, ap, sym, subst, []}
+use Rattle.std.proofs.Math.Logic.{∥∥₁_map}
 use Rattle.k_terms.specs.Whole as K
-use Rattle.c_terms.specs.C.{CTm}
 use Rattle.c_terms.specs.Bound.{CFits}
 use Rattle.c_terms.specs.Each.{CGoodP}
 use Rattle.c_terms.specs.Meaning.{crun}
 use Rattle.c_terms.specs.Reach.{CWithin}
 use Rattle.c_terms.specs.Typing.{CGood}
-use Rattle.c_law.specs.Close.{close_of}
 use Rattle.c_pass.proofs.Meant.{same_run}
 use Rattle.c_pass.proofs.program.close.Goals as goal
 

@@ -1,4 +1,4 @@
-use Rattle.std.proofs.Common.{◌≡◌, ◌∙◌, ◌+◌, ap, sym, List, ℕ, drop}
+use Rattle.std.proofs.Common.{◌∙◌, ◌+◌, ap, sym, List, ℕ, drop}
 use Rattle.c_terms.specs.C as C
 use Rattle.c_walk.specs.Know as W
 use Rattle.c_terms.specs.declared.types.CType.{CType}

@@ -1,4 +1,4 @@
-use Rattle.std.proofs.Common.{◌≡◌, ◌∙◌, ◌++◌, ◌∷◌, [], ap, List, true}
+use Rattle.std.proofs.Common.{◌∙◌, ◌∷◌, ap, List, true}
 use Rattle.c_walk.specs.Emit as E
 use Rattle.c_walk.specs.Know as W
 use Rattle.c_emit.specs.declared.parts.Note.{Note}

@@ -1,18 +1,17 @@
-use Rattle.std.proofs.Common.{◌≡◌, ◌∙◌, ◌+◌, ◌++◌, ◌∷◌, [], ap, ap₂, sym, List, ℕ, suc, arith}
+use Rattle.std.proofs.Common.{◌≡◌, ◌∙◌, ◌++◌, ◌∷◌, [], ap, ap₂, List, ℕ, suc, arith}
 use Rattle.term_core.specs.Ends.{lift}
 use Rattle.k_terms.specs.K as K
-use Rattle.c_terms.specs.C as C
 use Rattle.c_walk.specs.Emit as E
 use Rattle.c_walk.specs.Know as W
 use Rattle.c_pass.proofs.Bounding.{lift_add}
 use Rattle.c_emit.specs.declared.parts.Info.{Info}
 use Rattle.c_free.specs.declared.names.Side.{Side}
-use Rattle.k_terms.specs.Read.{ktree, ktys}
+use Rattle.k_terms.specs.Read.{ktys}
 use Rattle.c_emit.specs.Read.{info}
 use Rattle.c_free.specs.Names.{side}
 use Rattle.c_pass.proofs.Lists.{k_code}
 use Rattle.c_pass.specs.declared.state.Bound.{Bound}
-use Rattle.c_pass.specs.Read.{bound, bounds, clue, clues_of, sides, infos_onto, notes_onto, side_from, info_parts}
+use Rattle.c_pass.specs.Read.{bounds, clue, clues_of, sides, infos_onto, notes_onto, side_from, info_parts}
 use Rattle.c_pass.proofs.Bounding.{infos_push}
 use Rattle.c_pass.proofs.state.Know.open.Goals as goal
 

@@ -1,4 +1,4 @@
-use Rattle.std.proofs.Common.{◌≡◌, ◌∙◌, ◌++◌, ◌∷◌, [], ap, ap₂, List}
+use Rattle.std.proofs.Common.{◌≡◌, ◌∙◌, ◌∷◌, ap, ap₂, List}
 use Rattle.k_terms.specs.Read.{ktree}
 use Rattle.c_walk.specs.Emit as E
 use Rattle.c_walk.specs.Know as W

@@ -1,4 +1,4 @@
-use Rattle.std.proofs.Common.{◌≡◌, ◌∙◌, ◌∷◌, ap, sym, List}
+use Rattle.std.proofs.Common.{◌∙◌, ◌∷◌, ap, sym, List}
 use Rattle.k_terms.specs.K.{TKTuple}
 use Rattle.k_terms.specs.Read.{knode, ktys}
 use Rattle.k_terms.specs.declared.types.KType.{KType}

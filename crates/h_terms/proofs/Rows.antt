@@ -1,5 +1,5 @@
 -- Worked rows.
-use Rattle.std.proofs.Common.{◌≡◌, refl, pos, ℕ, List, [], ◌∷◌}
+use Rattle.std.proofs.Common.{◌≡◌, refl, pos, List, [], ◌∷◌}
 use Rattle.h_terms.specs.declared.node.HPart.TheVariants as P
 use Rattle.h_terms.specs.declared.node.HForm.TheVariants as F
 use Rattle.term_core.specs.Ends.{Halted, Spent, Stuck}

@@ -2,6 +2,7 @@ mod Correct
 mod Covers
 mod Decls
 mod Flats
+mod Laying
 mod Leads
 mod Lift
 mod Loads

@@ -11,6 +11,7 @@ use Rattle.gen_law.specs.Counting.{count, log_of, MadeOf, first_third}
 abbrev pub FromMain : AProg → ATm → ℕ → Type 0
 FromMain p main k = (k < first_third p main) × ((k ≡ 0) ⊎ (length p.blocks < k))
 
+-- the program P means what the allocated program means, and enters its blocks no more often
 pub record Keeps (p : AProg) (main : ATm) (P : TProg) : Type 0 where
   -- where the meaning is an integer the program halts with it
   pub forth : (c : ℕ) (i : ℤ) (log : List ℕ) → meaning p main c ≡ Halted i log → Halts P i

@@ -4,6 +4,7 @@ use Rattle.a_terms.specs.Tree.{ATm, ABlk, AProg}
 use Rattle.a_terms.specs.Meaning.{Result, Halted, Spent, Wrong}
 use Rattle.a_terms.specs.Bound.{thirds}
 
+-- 1 where it holds
 abbrev pub one : Bool → ℕ
 one true = 1
 one false = 0
@@ -29,6 +30,7 @@ abbrev pub share_of : ℕ → ℕ → ℕ → Option ABlk → ℕ
 share_of k l first None = 0
 share_of k l first (Some b) = one (k == suc l) + spare k first (thirds b.body)
 
+-- the same of a program's blocks, whose first third part is block at
 abbrev pub share : List ABlk → ℕ → ℕ → ℕ → ℕ
 share bs at k l = share_of k l (first_of bs at l) (slice_get bs l)
 
@@ -37,6 +39,7 @@ abbrev pub credit : List ABlk → ℕ → ℕ → ℕ → List ℕ → ℕ
 credit bs at k main [] = main
 credit bs at k main (l ∷ log) = share bs at k l + credit bs at k main log
 
+-- the blocks entered, the last one first
 abbrev pub log_of : Result → List ℕ
 log_of (Halted i log) = log
 log_of (Spent log) = log

@@ -143,10 +143,11 @@ constant (Data n) = T.Plain (T.Data n) []
 constant (Apply v ts) = applied_to (constant v) (tys ts)
 constant (Pack h v s) = T.Pack (ty h) (constant v) (ty s)
 
--- a data field, and a data tuple
+-- a data field
 abbrev pub datum_of : AConst → TDatum
 datum_of c = record { value = constant c.value; ty = ty c.kind }
 
+-- a data tuple
 abbrev pub data_of : AConsts → TData
 data_of cs = map datum_of cs
 

@@ -3,6 +3,7 @@ pub mod Counting
 pub mod Gen
 pub mod GenLaws
 pub mod Laws
+pub mod Layout
 pub mod Packs
 pub mod TypesEach
 pub mod Worked

@@ -15,10 +15,12 @@ use Rattle.gen_law.specs.Gen.{generated}
 abbrev pub TProp : Type 1
 TProp = ℕ → Ty → Type 0
 
+-- each type of a list has it
 abbrev pub AllTypes : TProp → ℕ → List Ty → Type 0
 AllTypes Q n [] = Unit {0}
 AllTypes Q n (t ∷ ts) = Q n t × AllTypes Q n ts
 
+-- each type of a file has it
 abbrev pub FileTypes : TProp → ℕ → TFile → Type 0
 FileTypes Q n NoRegs = Unit {0}
 FileTypes Q n (MoreRegs r t f) = Q n t × FileTypes Q n f
@@ -38,26 +40,32 @@ InstrEach Q P n g (Mov rd v) = (t : Ty) × HasEach Q P n g v t
 InstrEach Q P n g (St rd i rs) = (fs : TFields) × (g rd ≡ Some (TupleTy fs)) × Q n (TupleTy (filled fs i))
 InstrEach Q P n g (Unpack rd v) = (t : Ty) × HasEach Q P n g v (ExistsTy t) × Q (suc n) t
 
+-- the types of a jump's value
 abbrev pub EndEach : TProp → TProg → ℕ → RegTypes → TEnd → Type 0
 EndEach Q P n g (Jmp v) = (file : TFile) × HasEach Q P n g v (CodeTy 0 file)
 EndEach Q P n g Halt = Unit {0}
 
+-- of each instruction in turn, and of the end
 abbrev pub SeqEach : TProp → TProg → ℕ → RegTypes → TSeq → Type 0
 SeqEach Q P n g (Then i rest) = (h : RegTypes) × Typed P n g i h × InstrEach Q P n g i × SeqEach Q P (names_after i n) h rest
 SeqEach Q P n g (Ends e) = EndTyped P n g e × EndEach Q P n g e
 
+-- of the file and the sequence of each block
 abbrev pub BlocksEach : TProp → TProg → List TBlock → Type 0
 BlocksEach Q P [] = Unit {0}
 BlocksEach Q P (b ∷ bs) = (FileTypes Q b.owes b.file × SeqEach Q P b.owes (lookup b.file) b.code) × BlocksEach Q P bs
 
+-- the written type of each data field, and the types of its value
 abbrev pub DataEach : TProp → TProg → TData → Type 0
 DataEach Q P [] = Unit {0}
 DataEach Q P (x ∷ xs) = (Q 0 x.ty × ((t : Ty) × HasEach Q P 0 no_types x.value t)) × DataEach Q P xs
 
+-- of each data tuple
 abbrev pub HeapEach : TProp → TProg → List TData → Type 0
 HeapEach Q P [] = Unit {0}
 HeapEach Q P (x ∷ xs) = DataEach Q P x × HeapEach Q P xs
 
+-- of a whole program
 abbrev pub TypesEach : TProp → TProg → Type 0
 TypesEach Q P = BlocksEach Q P P.blocks × HeapEach Q P P.heap
 

@@ -7,9 +7,11 @@ use Rattle.a_terms.specs.Tree.{ATy, AInt, AVar, ATuple, ACode, AExists, NoATys, 
 abbrev pub kont : ATy
 kont = AExists (ATuple (MoreAFields (ACode 0 (MoreATys (AVar 0) (MoreATys AInt NoATys))) true (MoreAFields (AVar 0) true NoAFields)))
 
+-- what the code after a recursive call is given: the number and the continuation
 abbrev pub saved : ATy
 saved = ATuple (MoreAFields AInt true (MoreAFields kont true NoAFields))
 
+-- code that takes its surroundings of this type and an integer
 abbrev pub code_for : ATy → ATy
 code_for t = ACode 0 (MoreATys t (MoreATys AInt NoATys))
 
@@ -39,6 +41,7 @@ times = record {
   body = Let (Proj 1 (Var 1)) (Let (Proj 2 (Var 2)) (Let (Arith Mul (Var 1) (Var 2)) (Let (Unpack (Var 1)) (Let (Proj 1 (Var 0)) (Let (Proj 2 (Var 1)) (Call (Var 1) NoATys (Var 0 ∷ Var 3 ∷ [])))))));
 }
 
+-- the end: halts with its argument
 abbrev pub ends : ABlk
 ends = record { owes = 0; args = MoreATys (ATuple NoAFields) (MoreATys AInt NoATys); body = Halt (Var 0) }
 
@@ -49,6 +52,7 @@ factorial = record {
   tuples = [] ∷ (record { value = Lab 2; kind = code_for (ATuple NoAFields) } ∷ record { value = Data 0; kind = ATuple NoAFields } ∷ []) ∷ [];
 }
 
+-- the factorial of five
 abbrev pub of_five : ATm
 of_five = Call (Lab 0) NoATys (Num (pos 5) ∷ Pack (ATuple NoAFields) (Data 1) kont ∷ [])
 
@@ -60,12 +64,15 @@ down = record {
   body = If0 (Var 1) (Halt (Num (pos 7))) (Let (Arith Sub (Var 1) (Num (pos 1))) (Call (Lab 0) (MoreATys (AVar 0) NoATys) (Var 0 ∷ Var 1 ∷ [])));
 }
 
+-- a tuple of one integer
 abbrev pub cell : ATy
 cell = ATuple (MoreAFields AInt true NoAFields)
 
+-- a program of that block alone
 abbrev pub downs_alone : AProg
 downs_alone = record { blocks = down ∷ []; tuples = [] }
 
+-- down[cell](3, <3>), the tuple unpacked on the way
 abbrev pub counting : ATm
 counting =
     Let (Malloc (MoreATys AInt NoATys)) (Let (Init (Var 0) 1 (Num (pos 3))) (Let (Proj 1 (Var 0)) (Let (Unpack (Pack AInt (Var 0) (AExists (AVar 0)))) (Call (Apply (Lab 0) (MoreATys cell NoATys)) NoATys (Var 1 ∷ Var 2 ∷ [])))))

@@ -1,8 +1,15 @@
 //! Code generation from the allocated calculus on plain trees, and what it keeps.
 #![tactic(auto)]
 
+ghost use Rattle.gen_law.specs.Layout.{LaidOut};
 ghost use Rattle.gen_law.specs.Laws.{TypesKept, PacksFlat, InvariantKept, MeaningKept};
 ghost use Rattle.gen_law.specs.TypesEach.{TypesWithin};
+
+/// Block 0 is the main term, there is one block for each block and one more for the third part of each `if0`, and one
+/// data tuple for each data tuple.
+pub fn programs_are_laid_out()
+    ensures { LaidOut }
+{}
 
 /// What is generated for a typed program is accepted.
 pub fn types_are_kept()

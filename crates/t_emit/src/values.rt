@@ -15,7 +15,7 @@ use idx_core::{OutOfMemory, Span};
 use std::alloc::Global;
 use t_terms::{Base, Instr, Value};
 
-/// The number after it.
+/// The number after it. Where it would pass 64 bits, which no label of a program does, this answers want of memory.
 pub fn after(n: u64) -> Result<u64, OutOfMemory>
     ensures { IfOk result (λ r. r ≡ suc n) }
 {

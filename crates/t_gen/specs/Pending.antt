@@ -21,12 +21,15 @@ abbrev pub tops : List Place → List Place
 tops [] = []
 tops (p ∷ ps) = tops ps ++ p ∷ []
 
+-- the body of a block
 abbrev pub body_job : ℕ → ℕ → List a.ATy → List ANode → Job
 body_job n k g ns = record { block = n; names = k; vars = g; term = a_tree ns }
 
+-- a term at a place
 abbrev pub job : List Entry → Place → a.ATm → Job
 job es p t = record { block = p.block; names = p.names; vars = scope p.names (take p.vars es); term = t }
 
+-- a term at each place, the first on top
 abbrev pub jobs_at : List Entry → List Place → List a.ATm → List Job
 jobs_at es [] ts = []
 jobs_at es (p ∷ ps) ts = job es p (top no_term ts) ∷ jobs_at es ps (others ts)
@@ -36,7 +39,7 @@ abbrev pub pend : a.AProg → List Entry → List TBlock → (TSeq → TSeq) →
 pend prog es out pre [] ts = out
 pend prog es out pre (p ∷ ps) ts = finish_from prog (length out) out pre (job es p (top no_term ts)) (jobs_at es ps (others ts))
 
--- each place has a block, and fewer variables than the one before
+-- each place has a block, and no more variables than the one before
 abbrev pub Fit : ℕ → List Entry → ℕ → List Place → Type 0
 Fit b es m [] = Unit {0}
 Fit b es m (p ∷ ps) = (p.block < b) × (p.vars ≤ m) × Under p.names (take p.vars es) × Fit b es p.vars ps

@@ -7,8 +7,8 @@ use Rattle.talc_core.specs.declared.status.Status.TheVariants.{Done, Refused, Us
 use Rattle.talc_core.specs.Fault.{is_limit, status_of}
 use Rattle.f_terms.specs.Tm.{plain}
 use Rattle.f_terms.specs.Eval.{Gives, Spent, EvaluatesLeaving, IsSpent}
-use Rattle.t_terms.specs.Spanned.{SBlock, plain_blocks}
-use Rattle.t_machine.specs.Runs.{GoesOnAfter}
+use Rattle.t_terms.specs.Spanned.{SProg, plain_program}
+use Rattle.t_rules.specs.Machine.{GoesOnAfter}
 use Rattle.t_machine.proofs.Exactly.{going_not_halted}
 use Rattle.talc_core.specs.FirstFault.{Need, AnyTerm, AProgram, AnAssembly, IsTaken}
 use Rattle.talc_core.specs.Command.{Asked, Compiles, Types, Evaluates, Checks, Runs, command_of, need_of, input_of}
@@ -124,9 +124,9 @@ value_ends turns source line shown more =
 run_ends : (fuel : ℕ) (text line : List ℕ) → HaltedShown fuel text line → GoesOn (Runs [] fuel) text → ⊥
 run_ends fuel text line shown more =
     let same : shown.program ≡ more.0 = same_program text shown.program more.0 shown.accepted.0 more.1.0 in
-    let goes_on : GoesOnAfter (plain_blocks shown.program) fuel = subst (λ P. GoesOnAfter (plain_blocks P) fuel) (sym same) more.2 in
+    let goes_on : GoesOnAfter (plain_program shown.program) fuel = subst (λ P. GoesOnAfter (plain_program P) fuel) (sym same) more.2 in
     let halts = shown.halts in
-    going_not_halted (plain_blocks shown.program) halts.0 fuel shown.value (halts.1, halts.2, halts.4, halts.5) goes_on halts.3
+    going_not_halted (plain_program shown.program) halts.0 fuel shown.value halts.2 goes_on halts.1
 
 -- a line with the status 0 is shown of a text that is what is needed and ends within the budget, one with 4 of a text that goes on
 pub record IsSound (asked : Asked) (Says : Showing) : Type 0 where

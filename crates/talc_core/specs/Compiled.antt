@@ -2,7 +2,7 @@
 use Rattle.std.specs.Prelude.{◌≡◌, ℕ, List}
 use Rattle.f_terms.specs.Ty.{TInt}
 use Rattle.f_terms.specs.Tm.{Tm, plain}
-use Rattle.t_terms.specs.Tree.{TBlock}
+use Rattle.t_terms.specs.Tree.{TProg}
 use Rattle.t_terms.specs.Shapes.{operations}
 use Rattle.t_terms.specs.Text.{StandsFor, KeepsLimit}
 use Rattle.t_rules.specs.Rules.{Accepted}
@@ -14,7 +14,7 @@ use Rattle.talc_core.specs.FirstFault.{IsChecked}
 -- instructions than turns. So far the source is one integer, and the assembly program computes nothing.
 pub record IsCompiled (source target : List ℕ) : Type 0 where
   pub term : Tm
-  pub program : List TBlock
+  pub program : TProg
   pub checked : IsChecked source term TInt
   pub is_number : IsNumber (plain term)
   pub text : StandsFor target program

@@ -9,8 +9,8 @@ use Rattle.talc_core.specs.Fault.{status_of}
 use Rattle.f_terms.specs.Ty.{TInt}
 use Rattle.f_terms.specs.Tm.{Tm, plain}
 use Rattle.f_terms.specs.Eval.{IsSpent}
-use Rattle.t_terms.specs.Spanned.{SBlock, plain_blocks}
-use Rattle.t_machine.specs.Runs.{GoesOnAfter}
+use Rattle.t_terms.specs.Spanned.{SProg, plain_program}
+use Rattle.t_rules.specs.Machine.{GoesOnAfter}
 use Rattle.talc_core.specs.FirstFault.{Need, FirstFault, IsChecked, IsAcceptedText, IsTaken}
 use Rattle.talc_core.specs.Command.{Asked, Compiles, Types, Evaluates, Checks, Runs, command_of, need_of, input_of}
 use Rattle.talc_core.specs.Headline.{Outside}
@@ -57,7 +57,7 @@ GoesOn (Compiles input output) source = ⊥
 GoesOn (Types input) source = ⊥
 GoesOn (Evaluates input turns) source = (term : Tm) × IsChecked source term TInt × IsSpent (plain term) turns
 GoesOn (Checks input) source = ⊥
-GoesOn (Runs input fuel) source = (program : List SBlock) × IsAcceptedText source program × GoesOnAfter (plain_blocks program) fuel
+GoesOn (Runs input fuel) source = (program : SProg) × IsAcceptedText source program × GoesOnAfter (plain_program program) fuel
 
 -- no count of faults of the files or of the output rises in the call or stands at its last value
 pub record NoFaults (old new : Outside) : Type 0 where

@@ -10,7 +10,7 @@ use Rattle.f_terms.specs.Accepted.{IsAccepted}
 use Rattle.f_terms.specs.Faults as typing
 use Rattle.f_parser.specs.Text as parser
 use Rattle.t_terms.specs.declared.fault.TCode.{TCode}
-use Rattle.t_terms.specs.Spanned.{SBlock, plain_blocks}
+use Rattle.t_terms.specs.Spanned.{SProg, plain_program}
 use Rattle.t_terms.specs.Text as assembly
 use Rattle.t_rules.specs.Rules.{Accepted}
 use Rattle.t_rules.specs.Faults as checking
@@ -74,16 +74,16 @@ abbrev pub CompilerFault : List ℕ → Code → Span → Type 0
 CompilerFault text code span = ProgramFault text code span ⊎ NotYetCompiled text code span
 
 -- the assembly text is read: it stands for the program, within the limit on open constructs
-abbrev pub IsAssembly : List ℕ → List SBlock → Type 0
+abbrev pub IsAssembly : List ℕ → SProg → Type 0
 IsAssembly text program = assembly.ReadsAs text program
 
 -- the assembly text is read, and the typing rules accept its program
-abbrev pub IsAcceptedText : List ℕ → List SBlock → Type 0
-IsAcceptedText text program = IsAssembly text program × Accepted (plain_blocks program)
+abbrev pub IsAcceptedText : List ℕ → SProg → Type 0
+IsAcceptedText text program = IsAssembly text program × Accepted (plain_program program)
 
 -- the assembly text is read, and this is its program's first fault in checking order
 pub record AcceptingFault (text : List ℕ) (code : TCode) (span : Span) : Type 0 where
-  pub program : List SBlock
+  pub program : SProg
   pub read : IsAssembly text program
   pub fault : checking.ProgramFault program code span
 
@@ -107,7 +107,7 @@ abbrev pub IsTaken : Need → List ℕ → Type 0
 IsTaken AnyTerm text = (term : Tm) × (type : Ty) × IsChecked text term type
 IsTaken AProgram text = (term : Tm) × IsChecked text term TInt
 IsTaken ANumber text = (term : Tm) × IsChecked text term TInt × IsNumber (plain term)
-IsTaken AnAssembly text = (program : List SBlock) × IsAcceptedText text program
+IsTaken AnAssembly text = (program : SProg) × IsAcceptedText text program
 
 -- The laws.
 

@@ -5,11 +5,9 @@ use Rattle.f_terms.specs.Tm.{Tm, plain}
 use Rattle.f_terms.specs.Eval.{EvaluatesLeaving, IsSpent}
 use Rattle.talc_core.specs.declared.status.Status.{Status}
 use Rattle.talc_core.specs.declared.status.Status.TheVariants.{Done, Budget}
-use Rattle.t_terms.specs.Tree.{TBlock}
-use Rattle.t_terms.specs.Spanned.{SBlock, plain_blocks}
-use Rattle.t_rules.specs.Machine.{State, Place, Stuck, After, HaltsWithin}
-use Rattle.t_rules.specs.LawsErased.{HaltedAfter}
-use Rattle.t_machine.specs.Runs.{GoesOnAfter}
+use Rattle.t_terms.specs.Tree.{TProg}
+use Rattle.t_terms.specs.Spanned.{SProg, plain_program}
+use Rattle.t_rules.specs.Machine.{HaltsWithin, GoesOnAfter, NeverSticks}
 use Rattle.talc_core.specs.FirstFault.{IsChecked, IsAcceptedText}
 use Rattle.talc_core.specs.Lines.{type_line, value_line, more_turns_line, accepted_line, integer_line, more_instructions_line}
 
@@ -52,15 +50,11 @@ ShowsValue turns Done source line = ValueShown turns source line
 ShowsValue turns Budget source line = SpentShown turns source line
 ShowsValue turns other source line = ⊥
 
--- after any number of steps the program is in a state that is not stuck, or it was halted before
-abbrev pub NeverSticks : List TBlock → Type 0
-NeverSticks P = (m : ℕ) → ((s : State) × (p : Place) × After P m s p × (Stuck P s → ⊥)) ⊎ ((k : ℕ) × (i : ℤ) × (k < m) × HaltedAfter P k i)
-
 -- the assembly text stands for a program that the typing rules accept, it never gets stuck, and the line says so
 pub record AcceptedShown (text line : List ℕ) : Type 0 where
-  pub program : List SBlock
+  pub program : SProg
   pub accepted : IsAcceptedText text program
-  pub never_sticks : NeverSticks (plain_blocks program)
+  pub never_sticks : NeverSticks (plain_program program)
   pub is : line ≡ accepted_line
 
 abbrev pub ShowsAccepted : Showing
@@ -70,18 +64,18 @@ ShowsAccepted other text line = ⊥
 -- the assembly text stands for an accepted program, it halts with an integer within so many instructions, and the line
 -- says that integer
 pub record HaltedShown (fuel : ℕ) (text line : List ℕ) : Type 0 where
-  pub program : List SBlock
+  pub program : SProg
   pub value : ℤ
   pub accepted : IsAcceptedText text program
-  pub halts : HaltsWithin (plain_blocks program) fuel value
+  pub halts : HaltsWithin (plain_program program) fuel value
   pub is : line ≡ integer_line value
 
 -- the assembly text stands for an accepted program whose state after so many instructions is neither halted nor stuck,
 -- and the line says so
 pub record RunningShown (fuel : ℕ) (text line : List ℕ) : Type 0 where
-  pub program : List SBlock
+  pub program : SProg
   pub accepted : IsAcceptedText text program
-  pub goes_on : GoesOnAfter (plain_blocks program) fuel
+  pub goes_on : GoesOnAfter (plain_program program) fuel
   pub is : line ≡ more_instructions_line fuel
 
 abbrev pub ShowsRun : ℕ → Showing

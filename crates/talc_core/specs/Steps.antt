@@ -11,7 +11,7 @@ use Rattle.f_check.specs.Typed.{typed_term, typed_type, program_term}
 use Rattle.f_check.specs.declared.typed.Typed.{Typed}
 use Rattle.f_check.specs.declared.typed.Program.{Program}
 use Rattle.talc_core.specs.declared.fault.Fault.TheVariants.{Source, Tal}
-use Rattle.t_terms.specs.Read.{spanned_blocks}
+use Rattle.t_terms.specs.ReadProgram.{spanned_program}
 use Rattle.t_terms.specs.declared.program.TProgram.{TProgram}
 use Rattle.t_terms.specs.declared.fault.TFault.{TFault}
 use Rattle.t_terms.specs.declared.fault.TFault.TheVariants as assembly
@@ -78,12 +78,12 @@ failure_of_assembly (assembly.Refused code span) = Refused (Tal code span)
 
 -- the program of an assembly text, or the first fault of reading
 abbrev pub ReadsAssembly : List ℕ → Result TProgram Failure → Type 0
-ReadsAssembly text (Ok program) = IsAssembly text (spanned_blocks program.blocks.items)
+ReadsAssembly text (Ok program) = IsAssembly text (spanned_program program)
 ReadsAssembly text (Err failure) = RefusedBy AnAssembly text failure
 
 -- the accepted program of an assembly text, or its first fault
 abbrev pub ChecksAssembly : List ℕ → Result Checked Failure → Type 0
-ChecksAssembly text (Ok checked) = IsAcceptedText text (spanned_blocks (checked_program checked).blocks.items)
+ChecksAssembly text (Ok checked) = IsAcceptedText text (spanned_program (checked_program checked))
 ChecksAssembly text (Err failure) = RefusedBy AnAssembly text failure
 
 -- the lines that may be shown, and what is needed of the text

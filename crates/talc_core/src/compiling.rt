@@ -11,7 +11,8 @@ use f_terms::Code;
 use io_core::{Files, Sink, Stop};
 use pipeline::{compile, is_number};
 use std::alloc::Global;
-use t_writer::{keeps_by_nesting, one_move_is_shallow, write};
+use t_terms::keeps_by_nesting;
+use t_writer::{one_move_is_shallow, write};
 
 // The assembly text of the source text, or why there is none.
 fn compile_text(alloc: Global, source: &[u8]) -> Result<Vec<u8>, Failure>

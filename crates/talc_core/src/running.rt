@@ -1,7 +1,6 @@
 // The line of `run`.
 ghost use Rattle.std.specs.Prelude.{◌≡◌, IfOk};
-ghost use Rattle.t_terms.specs.Read.{blocks_of, spanned_blocks};
-ghost use Rattle.t_terms.specs.Spanned.{plain_blocks};
+ghost use Rattle.t_terms.specs.ReadProgram.{program as program_of};
 ghost use Rattle.t_rules.specs.Rules.{Accepted};
 ghost use Rattle.t_check.specs.Checked.{checked_program};
 ghost use Rattle.t_machine.specs.Runs.{FirstRun};
@@ -39,8 +38,8 @@ fn more_instructions_line(alloc: Global, count: u64) -> Result<Vec<u8>, OutOfMem
 
 // The first run of the program.
 fn first_run(alloc: Global, program: &Checked, fuel: u64) -> Result<Ran, OutOfMemory>
-    requires { Accepted (blocks_of (checked_program program.now).blocks.items) }
-    ensures { IfOk result (λ ran. FirstRun (blocks_of (checked_program program.now).blocks.items) fuel ran) }
+    requires { Accepted (program_of (checked_program program.now)) }
+    ensures { IfOk result (λ ran. FirstRun (program_of (checked_program program.now)) fuel ran) }
 {
     first_runs_tell();
     let mut machine = load(alloc, program)?;
@@ -48,20 +47,12 @@ fn first_run(alloc: Global, program: &Checked, fuel: u64) -> Result<Ran, OutOfMe
     Ok(ran)
 }
 
-// The same, of the program with its places.
-fn run_accepted(alloc: Global, program: &Checked, fuel: u64) -> Result<Ran, OutOfMemory>
-    requires { Accepted (plain_blocks (spanned_blocks (checked_program program.now).blocks.items)) }
-    ensures { IfOk result (λ ran. FirstRun (plain_blocks (spanned_blocks (checked_program program.now).blocks.items)) fuel ran) }
-{
-    first_run(alloc, program, fuel)
-}
-
 // How the program of an assembly text runs within so many instructions.
 pub(crate) fn run_of_text(alloc: Global, text: &[u8], fuel: u64) -> Result<Reply, Failure>
     ensures { ShowsText (ShowsRun fuel) AnAssembly text.now result }
 {
     let program = check_assembly(alloc, text)?;
-    let Ok(ran) = run_accepted(alloc, &program, fuel) else {
+    let Ok(ran) = first_run(alloc, &program, fuel) else {
         return Err(Failure::Memory);
     };
     let (ending, line) = match ran {

@@ -5,4 +5,4 @@ use Rattle.talc_core.proofs.accepting.acceptance_of_text.Goals as goal
 pub returns : goal.returns
 returns c =
     let program = checked_program c.in_ok-_checked._checked in
-    accepted_shown c.args.text.now c.in-Ok.line.items program.blocks.items program.whole c.in_ok-_checked.ensures c.in-Ok.ensures.items
+    accepted_shown c.args.text.now c.in-Ok.line.items program program.whole c.in_ok-_checked.ensures c.in-Ok.ensures.items

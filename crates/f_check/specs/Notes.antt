@@ -62,7 +62,8 @@ Waits f ts g n fr l = IsOf n fr × ((done : List ℕ) × (children n ≡ done ++
 abbrev pub Leading : FTerm → List FType → List Frame → List ℕ → ℕ → Tys → ℕ → Tys → Type 0
 Leading f ts fs [] i g j h = ⊥
 Leading f ts [] (k ∷ ks) i g j h = (ks ≡ []) × (i ≡ k) × (k ≡ j) × (g ≡ h)
-Leading f ts (fr ∷ fs) (k ∷ ks) i g j h = (i ≡ k) × (l : ℕ) × Waits f ts g (shape_at f k) fr l × Leading f ts fs ks l (inner fr g) j h
+Leading f ts (fr ∷ fs) (k ∷ ks) i g j h = (i ≡ k) × (l : ℕ) × Waits f ts g (shape_at f k) fr l
+    × Leading f ts fs ks l (inner fr g) j h
 
 -- all parts of a node of this form are noted
 abbrev pub Parts : FTerm → List FType → Tys → FShape → Type 0
@@ -77,7 +78,8 @@ Begun n old new (Give ty s) = (new ≡ old) × (children n ≡ [])
 
 -- the step of a frame: one that waits for the next part, or there is none
 abbrev pub Resumed : Frame → List Frame → List Frame → Control → Type 0
-Resumed fr old new (Run j) = (more : Frame) × (new ≡ old ++ more ∷ []) × (rest_of fr ≡ j ∷ rest_of more) × ((n : FShape) → IsOf n fr → IsOf n more)
+Resumed fr old new (Run j) = (more : Frame) × (new ≡ old ++ more ∷ []) × (rest_of fr ≡ j ∷ rest_of more)
+    × ((n : FShape) → IsOf n fr → IsOf n more)
     × ((g : Tys) → (inner fr g ≡ g) × (inner more g ≡ g))
 Resumed fr old new (Give ty s) = (new ≡ old) × (rest_of fr ≡ [])
 

@@ -23,7 +23,8 @@ abbrev mutual
   annotate tail (MTuple es) g = ETuple (annotate_all es g) (type_of (MTuple es) g)
   annotate tail (MProj i e) g = EProj i (annotate false e g) (type_of (MProj i e) g)
   annotate tail (MArith op a b) g = EArith op (annotate false a g) (annotate false b g)
-  annotate tail (MIf0 c a b) g = EIf (annotate false c g) (annotate true a g) (annotate true b g) (kept tail (type_of a g))
+  annotate tail (MIf0 c a b) g =
+      EIf (annotate false c g) (annotate true a g) (annotate true b g) (kept tail (type_of a g))
 
   pub annotate_all : Terms → Tys → Noteds
   annotate_all NoTerms g = NoNoteds

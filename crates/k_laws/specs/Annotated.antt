@@ -9,15 +9,21 @@ abbrev mutual
   pub Annotated : Bool → Noted → ℕ → Tys → Ty → Type 0
   Annotated tail (EVar i) n g t = ty_at g i ≡ Some t
   Annotated tail (ENum i) n g t = t ≡ TInt
-  Annotated tail (EFix arg res e) n g t = (t ≡ TArrow arg res) × Below n arg × Below n res × Annotated true e n (in_fix arg res g) res
-  Annotated tail (EApp f x u) n g t = (tail ≡ false → u ≡ t) × ((s : Ty) × Annotated false f n g (TArrow s t) × Annotated false x n g s)
+  Annotated tail (EFix arg res e) n g t = (t ≡ TArrow arg res) × Below n arg × Below n res
+      × Annotated true e n (in_fix arg res g) res
+  Annotated tail (EApp f x u) n g t = (tail ≡ false → u ≡ t)
+      × ((s : Ty) × Annotated false f n g (TArrow s t) × Annotated false x n g s)
   Annotated tail (EGen e u) n g t = (t ≡ TAll u) × Annotated true e (n + 1) (raised g) u
-  Annotated tail (EInst e s u) n g t = (tail ≡ false → u ≡ t) × ((b : Ty) × (t ≡ put 0 s b) × Below n s × Annotated false e n g (TAll b))
+  Annotated tail (EInst e s u) n g t = (tail ≡ false → u ≡ t)
+      × ((b : Ty) × (t ≡ put 0 s b) × Below n s × Annotated false e n g (TAll b))
   Annotated tail (ETuple es u) n g t = (u ≡ t) × ((ts : Tys) × (t ≡ TTuple ts) × AllAnnotated es n g ts)
-  Annotated tail (EProj i e u) n g t = (u ≡ t) × ((ts : Tys) × (field_ty ts i ≡ Some t) × Annotated false e n g (TTuple ts))
+  Annotated tail (EProj i e u) n g t = (u ≡ t)
+      × ((ts : Tys) × (field_ty ts i ≡ Some t) × Annotated false e n g (TTuple ts))
   Annotated tail (EArith op a b) n g t = (t ≡ TInt) × Annotated false a n g TInt × Annotated false b n g TInt
-  Annotated tail (EIf c a b u) n g t = (tail ≡ false → u ≡ t) × Annotated false c n g TInt × Annotated true a n g t × Annotated true b n g t
+  Annotated tail (EIf c a b u) n g t = (tail ≡ false → u ≡ t) × Annotated false c n g TInt × Annotated true a n g t
+      × Annotated true b n g t
 
   pub AllAnnotated : Noteds → ℕ → Tys → Tys → Type 0
   AllAnnotated NoNoteds n g ts = ts ≡ NoTys
-  AllAnnotated (MoreNoteds e es) n g ts = (t : Ty) × (us : Tys) × (ts ≡ MoreTys t us) × Annotated false e n g t × AllAnnotated es n g us
+  AllAnnotated (MoreNoteds e es) n g ts = (t : Ty) × (us : Tys) × (ts ≡ MoreTys t us) × Annotated false e n g t
+      × AllAnnotated es n g us

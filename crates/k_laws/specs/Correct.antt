@@ -62,7 +62,8 @@ CpsKeepsReach = (e : Term) → IsAccepted e TInt → KGoodP (KWithin (nodes e) 1
 abbrev pub SizeIs : Type 0
 SizeIs = (e : Term) → ksize_t (cps_term e) ≤ 7 * nodes e + 1
 
--- the conversion of an accepted program is within bounds; of one with at most 4294967295 nodes, within the bound of programs
+-- the conversion of an accepted program is within bounds; of one with at most 4294967295 nodes, within the bound of
+-- programs
 abbrev pub CpsFits : Type 0
 CpsFits = (e : Term) → IsAccepted e TInt → KFits (7 * nodes e + 598) 1600 (cps_term e)
 
@@ -71,4 +72,5 @@ CpsKeepsBound = (e : Term) → IsAccepted e TInt → nodes e ≤ 4294967295 → 
 
 -- where types stand beside a program that are its own, they are annotations, and the conversion is the program's
 abbrev pub OneConversion : Type 0
-OneConversion = (e : Noted) → IsProgram (bare e) → Beside e NoTys → Annotated false e 0 NoTys TInt × (cps_of e ≡ cps_term (bare e))
+OneConversion = (e : Noted) → IsProgram (bare e) → Beside e NoTys → Annotated false e 0 NoTys TInt
+    × (cps_of e ≡ cps_term (bare e))

@@ -1,4 +1,5 @@
--- Conversion to continuation-passing style. Source names are kept by their levels: the level of a name is the number of names outside it.
+-- Conversion to continuation-passing style. Source names are kept by their levels: the level of a name is the number
+-- of names outside it.
 use Rattle.std.specs.Prelude.{ℕ, ℤ, zero, suc, ◌-◌, List, [], ◌∷◌, ◌++◌}
 use Rattle.idx_core.specs.declared.arith.Op.{Op}
 use Rattle.f_terms.specs.Ty.{Ty, TInt, TVar, TArrow, TAll, TTuple, Tys, NoTys, MoreTys}
@@ -35,7 +36,8 @@ abbrev pub values : List Atom → ℕ → KVals
 values [] d = NoKVals
 values (a ∷ as') d = MoreKVals (value a d) (values as' d)
 
--- k: a rest `x. M`, which gives M at a place with so many names around it and for what stands for x; or the name of a level
+-- k: a rest `x. M`, which gives M at a place with so many names around it and for what stands for x; or the name of a
+-- level
 pub data Rest : Type 0 where
   Bind : (form : ℕ → Atom → KTm) → Rest
   Pass : (level : ℕ) → Rest
@@ -85,15 +87,19 @@ abbrev mutual
   cps (EVar i) d names k = deliver k d (Level (level_at names i))
   cps (ENum n) d names k = deliver k d (Literal n)
   cps (EFix arg res e) d names k =
-      name (KCode 0 (MoreKTys (kty arg) (MoreKTys (taking (kty res)) NoKTys)) (cps e (suc (suc (suc d))) (suc d ∷ d ∷ names) (Pass (suc (suc d))))) k d
-  cps (EGen e t) d names k = name (KCode 1 (MoreKTys (taking (kty t)) NoKTys) (cps e (suc (suc d)) names (Pass (suc d)))) k d
+      name (KCode 0 (MoreKTys (kty arg) (MoreKTys (taking (kty res)) NoKTys)) (cps e (suc (suc (suc d))) (suc d ∷ d
+      ∷ names) (Pass (suc (suc d))))) k d
+  cps (EGen e t) d names k =
+      name (KCode 1 (MoreKTys (taking (kty t)) NoKTys) (cps e (suc (suc d)) names (Pass (suc d)))) k d
   cps (EApp f x t) d names k = cps f d names (Bind (λ d1 fa. cps x d1 names (to_call fa (kty t) k)))
   cps (EInst e s t) d names k = cps e d names (to_inst (kty s) (kty t) k)
   cps (ETuple es t) d names k = cps_all es d names [] (to_tuple k)
   cps (EProj i e t) d names k = cps e d names (to_proj i k)
   cps (EArith op a b) d names k = cps a d names (Bind (λ d1 aa. cps b d1 names (to_arith op aa k)))
   cps (EIf c a b t) d names k =
-      bound_once (kty t) k d (λ d1 l. cps c d1 names (Bind (λ d2 ca. KIf (value ca d2) (cps a d2 names (Pass l)) (cps b d2 names (Pass l)))))
+      bound_once (kty t) k d
+      (λ d1 l. cps c d1 names (Bind
+      (λ d2 ca. KIf (value ca d2) (cps a d2 names (Pass l)) (cps b d2 names (Pass l)))))
 
   -- the fields of a tuple, after those that are done
   pub cps_all : Noteds → ℕ → List ℕ → List Atom → (ℕ → List Atom → KTm) → KTm

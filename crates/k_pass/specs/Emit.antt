@@ -1,4 +1,5 @@
--- The nodes that conversion to continuation-passing style writes: as the terms of Cps, with the types of what is named taken from those beside the source.
+-- The nodes that conversion to continuation-passing style writes: as the terms of Cps, with the types of what is
+-- named taken from those beside the source.
 use Rattle.std.specs.Prelude.{ℕ, suc, List, [], ◌∷◌, ◌++◌, length}
 use Rattle.idx_core.specs.declared.arith.Op.{Op}
 use Rattle.f_terms.specs.Ty.{Ty, TArrow, TAll}
@@ -15,7 +16,8 @@ abbrev pub atom_nodes : List Atom → List KNd → List KNd
 atom_nodes [] ns = ns
 atom_nodes (a ∷ as') ns = atom_node a ∷ atom_nodes as' ns
 
--- k: a rest `x. M`, which gives the nodes of M before others, at a place with so many names around it and for what stands for x;
+-- k: a rest `x. M`, which gives the nodes of M before others, at a place with so many names around it and for what
+-- stands for x;
 -- or the name of a level, under so many type variables
 pub data Rest : Type 0 where
   Bind : (form : ℕ → Atom → List KNd → List KNd) → Rest
@@ -71,16 +73,21 @@ abbrev mutual
   emit (EVar i) d p k ns = deliver k d (Level (level_at p.1 i)) ns
   emit (ENum n) d p k ns = deliver k d (Literal n) ns
   emit (EFix arg res e) d p k ns =
-      NCode d p.0 0 (fix_args arg res) ∷ emit e (suc (suc (suc d))) (p.0, suc d ∷ d ∷ p.1) (Pass p.0 (suc (suc d))) (NEnd ∷ named (kty (TArrow arg res)) k d ns)
+      NCode d p.0 0 (fix_args arg res)
+      ∷ emit e (suc (suc (suc d))) (p.0, suc d ∷ d ∷ p.1) (Pass p.0 (suc (suc d))) (NEnd
+      ∷ named (kty (TArrow arg res)) k d ns)
   emit (EGen e t) d p k ns =
-      NCode d p.0 1 (gen_args t) ∷ emit e (suc (suc d)) (suc p.0, p.1) (Pass (suc p.0) (suc d)) (NEnd ∷ named (kty (TAll t)) k d ns)
+      NCode d p.0 1 (gen_args t)
+      ∷ emit e (suc (suc d)) (suc p.0, p.1) (Pass (suc p.0) (suc d)) (NEnd ∷ named (kty (TAll t)) k d ns)
   emit (EApp f x t) d p k ns = emit f d p (Bind (λ d1 fa. emit x d1 p (to_call p.0 fa (kty t) k))) ns
   emit (EInst e s t) d p k ns = emit e d p (to_inst p.0 (kty s) (kty t) k) ns
   emit (ETuple es t) d p k ns = emit_all es d p [] (to_tuple (kty t) k) ns
   emit (EProj i e t) d p k ns = emit e d p (to_proj i (kty t) k) ns
   emit (EArith op a b) d p k ns = emit a d p (Bind (λ d1 aa. emit b d1 p (to_arith op aa k))) ns
   emit (EIf c a b t) d p k ns =
-      bound_once p.0 (kty t) k d (λ d1 l. emit c d1 p (Bind (λ d2 ca ms. atom_node ca ∷ NIf ∷ emit a d2 p (Pass p.0 l) (NElse p.0 ∷ emit b d2 p (Pass p.0 l) ms)))) ns
+      bound_once p.0 (kty t) k d
+      (λ d1 l. emit c d1 p (Bind
+      (λ d2 ca ms. atom_node ca ∷ NIf ∷ emit a d2 p (Pass p.0 l) (NElse p.0 ∷ emit b d2 p (Pass p.0 l) ms)))) ns
 
   -- the fields of a tuple, after those that are done
   pub emit_all : Noteds → ℕ → Place → List Atom → (ℕ → List Atom → List KNd → List KNd) → List KNd → List KNd

@@ -58,17 +58,21 @@ below (k ∷ ks) = ks
 
 -- both branches, for the name of a level
 abbrev pub branches : Noted → Noted → ℕ → Place → Rest
-branches a b l p = Bind (λ d c ns. atom_node c ∷ n.NIf ∷ emit a d p (Pass p.0 l) (n.NElse p.0 ∷ emit b d p (Pass p.0 l) ns))
+branches a b l p = Bind
+    (λ d c ns. atom_node c ∷ n.NIf ∷ emit a d p (Pass p.0 l) (n.NElse p.0 ∷ emit b d p (Pass p.0 l) ns))
 
 abbrev pub through : (ℕ → Noted) → Frame → Rests → Rests
-through t (F.Fun x ty) ks = (λ p. Bind (λ d f. emit (t x) d p (to_call p.0 f (kty (tree ty.now)) (top ks p)))) ∷ below ks
+through t (F.Fun x ty) ks = (λ p. Bind (λ d f. emit (t x) d p (to_call p.0 f (kty (tree ty.now)) (top ks p))))
+    ∷ below ks
 through t (F.Arg f ty) ks = (λ p. to_call p.0 (atom f) (kty (tree ty.now)) (top ks p)) ∷ below ks
 through t (F.Inst arg ty) ks = (λ p. to_inst p.0 (kty (tree arg.now)) (kty (tree ty.now)) (top ks p)) ∷ below ks
 through t (F.Left op b) ks = (λ p. Bind (λ d a. emit (t b) d p (to_arith op a (top ks p)))) ∷ below ks
 through t (F.Right op a) ks = (λ p. to_arith op (atom a) (top ks p)) ∷ below ks
 through t (F.Proj i ty) ks = (λ p. to_proj i (kty (tree ty.now)) (top ks p)) ∷ below ks
 through t (F.Fields rest done ty) ks =
-    (λ p. Bind (λ d a. emit_all (noteds (map t rest.now)) d p (map atom done.items ++ a ∷ []) (to_tuple (kty (tree ty.now)) (top ks p)))) ∷ below ks
+    (λ p. Bind
+    (λ d a. emit_all (noteds (map t rest.now)) d p (map atom done.items ++ a
+    ∷ []) (to_tuple (kty (tree ty.now)) (top ks p)))) ∷ below ks
 through t (F.Tail l) ks = (λ p. Pass p.0 l) ∷ ks
 through t (F.Test a b l) ks = (λ p. branches (t a) (t b) l p) ∷ ks
 
@@ -81,11 +85,13 @@ Todo = Place → Rests → Nodes
 
 abbrev pub then : (ℕ → Noted) → Pending → Todo → Todo
 then t (P.Fix d arg res) td p ks =
-    let outer : Place = (p.0, inner (inner p.1)) in n.NEnd ∷ named (kty (TArrow (tree arg.now) (tree res.now))) (top ks outer) d (td outer (below ks))
+    let outer : Place = (p.0, inner (inner p.1)) in n.NEnd
+    ∷ named (kty (TArrow (tree arg.now) (tree res.now))) (top ks outer) d (td outer (below ks))
 then t (P.Gen d tv ty) td p ks =
     let outer : Place = (tv, p.1) in n.NEnd ∷ named (kty (TAll (tree ty.now))) (top ks outer) d (td outer (below ks))
 then t (P.Other e d l) td p ks = n.NElse p.0 ∷ emit (t e) d p (Pass p.0 l) (td p ks)
-then t (P.If0 c a b d ty) td p ks = n.NEnd ∷ n.NName d (taking (kty (tree ty.now))) ∷ emit (t c) (suc d) p (branches (t a) (t b) d p) (td p ks)
+then t (P.If0 c a b d ty) td p ks = n.NEnd ∷ n.NName d (taking (kty (tree ty.now)))
+    ∷ emit (t c) (suc d) p (branches (t a) (t b) d p) (td p ks)
 then t P.End td p ks = n.NEnd ∷ td p ks
 
 abbrev pub todo : (ℕ → Noted) → List Pending → Todo
@@ -148,9 +154,11 @@ control_steps t C.Ended = 0
 abbrev pub owed : (ℕ → Noted) → Work → ℕ
 owed t w = sum_by (frame_steps t) w.frames.items + sum_by (pending_steps t) w.pending.items
 
--- from a state that is still to write these nodes, by at most n steps more than it keeps for later, to one with fewer steps left
+-- from a state that is still to write these nodes, by at most n steps more than it keeps for later, to one with fewer
+-- steps left
 abbrev pub Begins : (ℕ → Noted) → Work → Nodes → ℕ → Work → Control → Type 0
-Begins t w ns n w' c' = (written w ++ ns ≡ written w' ++ stream t w' c') × (control_steps t c' + owed t w' < n + owed t w)
+Begins t w ns n w' c' = (written w ++ ns ≡ written w' ++ stream t w' c')
+    × (control_steps t c' + owed t w' < n + owed t w)
 
 -- a step: what is written and still to be written stays the same
 abbrev pub Steps : (ℕ → Noted) → Work → Control → Work → Control → Type 0

@@ -139,9 +139,11 @@ halt_with (WCode b owes args body env) = stops Stuck
 halt_with (WCell p) = stops Stuck
 
 abbrev pub kterm : KEnter → ℕ → KTm → KWords → KWords → Result
-kterm enter b (KLet d t) env st = with_value (kd_value b d env st) (λ v st2. kterm enter (kd_next b d) t (MoreWords v env) st2)
+kterm enter b (KLet d t) env st = with_value (kd_value b d env st)
+    (λ v st2. kterm enter (kd_next b d) t (MoreWords v env) st2)
 kterm enter b (KCall f ts vs) env st = kopen enter (kcount ts) (kv_value b f env) (kvs_value (kv_next b f) vs env) st
-kterm enter b (KIf v t u) env st = at_zero (kv_value b v env) (kterm enter (kv_next b v) t env st) (kterm enter (kt_next (kv_next b v) t) u env st)
+kterm enter b (KIf v t u) env st =
+    at_zero (kv_value b v env) (kterm enter (kv_next b v) t env st) (kterm enter (kt_next (kv_next b v) t) u env st)
 kterm enter b (KHalt v) env st = halt_with (kv_value b v env)
 
 -- within n calls

@@ -62,7 +62,8 @@ abbrev mutual
   KHas n g (KVar i) t = KAt g i t
   KHas n g (KInt m) t = t ≡ TKInt
   KHas n g (KTuple vs) t = (ts : KTys) × (t ≡ TKTuple ts) × KHave n g vs ts
-  KHas n g (KCode owes args body) t = (t ≡ TKCode owes args) × KIns (lift owes n) args × KGood (lift owes n) (kbody_scope owes args g) body
+  KHas n g (KCode owes args body) t = (t ≡ TKCode owes args) × KIns (lift owes n) args
+      × KGood (lift owes n) (kbody_scope owes args g) body
 
   pub KHave : ℕ → List KTy → KVals → KTys → Type 0
   KHave n g NoKVals ts = ts ≡ NoKTys
@@ -73,7 +74,8 @@ abbrev mutual
   KGives n g (KName v) t = KHas n g v t
   KGives n g (KProj i v) t = (ts : KTys) × KHas n g v (TKTuple ts) × KField i ts t
   KGives n g (KArith op v w) t = (t ≡ TKInt) × KHas n g v TKInt × KHas n g w TKInt
-  KGives n g (KPack h v s) t = (u : KTy) × (s ≡ TKSome u) × (t ≡ s) × KIn n h × KIn n s × KHas n g v (ksub (kscons h TKVar) u)
+  KGives n g (KPack h v s) t = (u : KTy) × (s ≡ TKSome u) × (t ≡ s) × KIn n h × KIn n s
+      × KHas n g v (ksub (kscons h TKVar) u)
   KGives n g (KUnpack v) t = KHas n g v (TKSome t)
   KGives n g (KCell v) t = (u : KTy) × (t ≡ TKRef u) × KHas n g v u
   KGives n g (KGet v) t = KHas n g v (TKRef t)
@@ -81,6 +83,7 @@ abbrev mutual
 
   pub KGood : ℕ → List KTy → KTm → Type 0
   KGood n g (KLet d t) = (u : KTy) × KGives n g d u × KGood (after_one (opens d) n) (u ∷ scope_more (opens d) g) t
-  KGood n g (KCall f ts vs) = (us : KTys) × KHas n g f (TKCode (kcount ts) us) × KIns n ts × KHave n g vs (ksubs (knames ts TKVar) us)
+  KGood n g (KCall f ts vs) = (us : KTys) × KHas n g f (TKCode (kcount ts) us) × KIns n ts
+      × KHave n g vs (ksubs (knames ts TKVar) us)
   KGood n g (KIf v t u) = KHas n g v TKInt × KGood n g t × KGood n g u
   KGood n g (KHalt v) = KHas n g v TKInt

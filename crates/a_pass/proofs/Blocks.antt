@@ -59,4 +59,4 @@ pub block_is : (ks : pure.HBlks) (k : HBlock) (ts us : List CType) (ns : List HN
     a_block (record { owes = k.owes; args = args; body = made }) ≡ alloc_block ks (h_block k)
 block_is ks k ts us ns args made t n u body types =
     ap₂ (λ xs y. (let b : a.ABlk = record { owes = k.owes; args = xs; body = y } in b)) (types ∙ ap (λ vs. atypes (ctys vs)) u)
-      (body ∙ ap₂ (λ vs xs. alloc_t ks (types_of (atypes (ctys vs)) []) (arg_levels 0 [] (ctys vs)) (arg_depth 0 (ctys vs)) (h_tree xs)) t n)
+    (body ∙ ap₂ (λ vs xs. alloc_t ks (types_of (atypes (ctys vs)) []) (arg_levels 0 [] (ctys vs)) (arg_depth 0 (ctys vs)) (h_tree xs)) t n)

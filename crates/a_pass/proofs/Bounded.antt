@@ -26,6 +26,6 @@ sized bs xs ds ns ys ex ey ed h = subst (λ d. Fits-in 4611686018427387904 (a_pr
 
 pub bounded : (g g' : HBlks) (m m' : HTm) (bs xs : List ABlock) (ds : List AData) (ns ys : List ANode) → AllocFits → HBound g' m' → g ≡ g' → m ≡ m' → a_blocks bs ≡ alloc_all g g → a_tree ns ≡ alloc_main g m → xs ≡ bs → ys ≡ ns → ds ≡ [] → Fits-in 4611686018427387904 (a_prog xs []) (a_tree ys) → ABound (a_prog bs ds) (a_tree ns)
 bounded g g' m m' bs xs ds ns ys law h eg em eb en ex ey ed f = (
-    at_main _ _ _ (ap₂ alloc_main (sym eg) (sym em) ∙ sym en) (at_prog _ _ _ (ap alloc_prog (sym eg) ∙ made g bs ds eb ed) (law 17592186044416 70368744177664 1604 (omega arith) g' m' h)),
-    sized bs xs ds ns ys ex ey ed f
-  )
+  at_main _ _ _ (ap₂ alloc_main (sym eg) (sym em) ∙ sym en) (at_prog _ _ _ (ap alloc_prog (sym eg) ∙ made g bs ds eb ed) (law 17592186044416 70368744177664 1604 (omega arith) g' m' h)),
+  sized bs xs ds ns ys ex ey ed f,
+)

@@ -2,6 +2,7 @@ mod Blocks
 mod Bounded
 mod CTrees
 mod Emitting
+mod Example
 mod Places
 mod Runs
 mod Stepping

@@ -34,8 +34,7 @@ use Rattle.a_pass.proofs.Places.{onto_push}
 use Rattle.a_pass.proofs.Terms.{step_let, step_end, step_if, row_step, fit_more, under_push, scope_open, typed_now}
 
 module _ (ks : HBlks) (us : List HVal) (ns ms : List Name) (place : Place) (ps qs : List Place) (old new : List ANode)
-  (len : length ns ≡ place.names) (bound : Under place.binders ns) where
-
+    (len : length ns ≡ place.names) (bound : Under place.binders ns) where
   let_stepped : (mid : List ANode) (vs : List AValue) (m : ℕ) (e : HDecl) (form : HForm) (af : AForm) (ty : AType) (binders : ℕ) →
       Emits old mid (pre_d ks (scope place.binders ns) (levels ns) place.depth e) → m ≡ d_next place.depth e →
       Declares af vs ty m (length ns) binders ns ms ps qs mid new →
@@ -55,19 +54,20 @@ module _ (ks : HBlks) (us : List HVal) (ns ms : List Name) (place : Place) (ps q
             ap (λ xs. a_onto xs (pending ks ms (tops qs) hs)) dec.nodes
             ∙ ap₂ (λ xs ys. a_onto (mid ++ dec.node ∷ []) (pending ks xs ys hs)) dec.names is_tops
             ∙ step_let ks e ns dec.name place dec.place (tops ps) old mid dec.node len fit emits
-                (λ xs. ap₂ (λ f ws. a_build f ws xs) dec.shape vals_is ∙ abuild xs)
-                (dec.level ∙ is_next) (dec.deep ∙ ap suc is_next) dec.many
-                (ap (λ b. scope b (ns ++ dec.name ∷ [])) dec.bound ∙ types dec.name dec.under dec.type) hs
+            (λ xs. ap₂ (λ f ws. a_build f ws xs) dec.shape vals_is ∙ abuild xs)
+            (dec.level ∙ is_next) (dec.deep ∙ ap suc is_next) dec.many
+            (ap (λ b. scope b (ns ++ dec.name ∷ [])) dec.bound ∙ types dec.name dec.under dec.type) hs
             ∙ ap (λ xs. a_onto old (pending ks ns (place ∷ tops ps) xs)) (sym (build hs));
         fit = λ fit. subst (λ ys. Fit ms (length ms) ys) (sym is_tops) (subst (λ xs. Fit xs (length xs) (dec.place ∷ tops ps)) (sym dec.names)
-            (let more : length (ns ++ dec.name ∷ []) ≡ suc (length ns) = omega (arith, length-append ns (dec.name ∷ [])) in
-             (omega (arith, dec.many, len, more),
+            (let more : length (ns ++ dec.name ∷ []) ≡ suc (length ns) = omega (arith, length-append ns (dec.name ∷ [])) in (
+              omega (arith, dec.many, len, more),
               subst (Under dec.place.binders) (sym (take_all dec.place.names (ns ++ dec.name ∷ []) (omega (arith, dec.many, len, more)))) (under_push place.binders dec.place.binders ns dec.name (omega (arith, le, dec.bound)) (omega (arith, dec.under, dec.bound)) bound),
-              fit_more ns (dec.name ∷ []) place.names dec.place.names (tops ps) fit (omega (arith, len)) (omega (arith, dec.many)))));
+              fit_more ns (dec.name ∷ []) place.names dec.place.names (tops ps) fit (omega (arith, len)) (omega (arith, dec.many)),
+            )));
         rows = λ k before rest h.
             subst (λ xs. ARow (xs ++ rest) k) (sym dec.nodes)
-              (row_step old mid dec.node _ (length ps) k emits (subst (λ f. AArity f (a_values dec.node.values.items)) (sym dec.shape) (subst (AArity af) (sym vals_is) fine)) before rest
-                (subst (λ n. ARow rest (lift n (length ps))) (sym (ap a_kids dec.shape ∙ akids)) (subst (ARow rest) count h)));
+            (row_step old mid dec.node _ (length ps) k emits (subst (λ f. AArity f (a_values dec.node.values.items)) (sym dec.shape) (subst (AArity af) (sym vals_is) fine)) before rest
+            (subst (λ n. ARow rest (lift n (length ps))) (sym (ap a_kids dec.shape ∙ akids)) (subst (ARow rest) count h)));
         count = count ∙ ap (λ n. lift n (length ps)) (sym kids);
       }
 
@@ -88,8 +88,8 @@ module _ (ks : HBlks) (us : List HVal) (ns ms : List Name) (place : Place) (ps q
         fit = λ fit. subst (λ ys. Fit ms (length ms) (tops ys)) (sym qs_is) (subst (λ xs. Fit xs (length xs) (tops ps)) (sym ms_is) (subst (λ k. Fit ns k (tops ps)) (sym len) fit));
         rows = λ k before rest hs.
             subst (λ xs. ARow (xs ++ rest) k) (sym end.nodes)
-              (row_step old mid end.node _ (length ps) k emits (subst (λ f. AArity f (a_values end.node.values.items)) (sym end.shape) (subst (AArity af) (sym vals_is) fine)) before rest
-                (subst (λ n. ARow rest (lift n (length ps))) (sym (ap a_kids end.shape ∙ akids)) (subst (λ ys. ARow rest (length ys)) qs_is hs)));
+            (row_step old mid end.node _ (length ps) k emits (subst (λ f. AArity f (a_values end.node.values.items)) (sym end.shape) (subst (AArity af) (sym vals_is) fine)) before rest
+            (subst (λ n. ARow rest (lift n (length ps))) (sym (ap a_kids end.shape ∙ akids)) (subst (λ ys. ARow rest (length ys)) qs_is hs)));
         count = ap length qs_is ∙ ap (λ n. lift n (length ps)) (sym kids);
       }
 
@@ -99,7 +99,7 @@ module _ (ks : HBlks) (us : List HVal) (ns ms : List Name) (place : Place) (ps q
       let g = scope place.binders ns in
       let ls = levels ns in
       let vals_is : a_values end.node.values.items ≡ val ls place.depth (v_next place.depth v) v ∷ [] =
-          ap (map a_value) end.values ∙ vals ∙ ap (λ k. val ls place.depth k v ∷ []) m_is in
+      ap (map a_value) end.values ∙ vals ∙ ap (λ k. val ls place.depth k v ∷ []) m_is in
       let is_tops : tops qs ≡ p ∷ p ∷ tops ps = ap tops qs_is ∙ onto_push (λ x. x) [] (ps ++ p ∷ []) p ∙ ap (λ ys. p ∷ ys) (onto_push (λ x. x) [] ps p) in
       let many : length qs ≡ suc (suc (length ps)) = omega (arith, ap length qs_is, length-append (ps ++ p ∷ []) (p ∷ []), length-append ps (p ∷ [])) in
       record {
@@ -107,21 +107,21 @@ module _ (ks : HBlks) (us : List HVal) (ns ms : List Name) (place : Place) (ps q
             ap (λ xs. a_onto xs (pending ks ms (tops qs) hs)) end.nodes
             ∙ ap₂ (λ xs ys. a_onto (mid ++ end.node ∷ []) (pending ks xs ys hs)) ms_is is_tops
             ∙ step_if ks v ns place p (tops ps) old mid end.node len emits (λ x y xs. ap₂ (λ f ws. a_build f ws (x ∷ y ∷ xs)) end.shape vals_is)
-                (depth ∙ m_is) count binders hs
+            (depth ∙ m_is) count binders hs
             ∙ ap (λ xs. a_onto old (pending ks ns (place ∷ tops ps) xs)) (sym (ap₂ (λ f xs. h_build f xs hs) form_is us_is));
         fit = λ fit. subst (λ ys. Fit ms (length ms) ys) (sym is_tops) (subst (λ xs. Fit xs (length xs) (p ∷ p ∷ tops ps)) (sym ms_is)
             (let here : Under p.binders (take p.names ns) = subst (λ b. Under b (take p.names ns)) (sym binders) (subst (Under place.binders) (sym (take_all p.names ns (omega (arith, count, len)))) bound) in
-             (omega (arith, count, len), here, (omega arith, here, subst (λ k. Fit ns k (tops ps)) (sym count) fit))));
+            (omega (arith, count, len), here, (omega arith, here, subst (λ k. Fit ns k (tops ps)) (sym count) fit))));
         rows = λ k before rest hs.
             subst (λ xs. ARow (xs ++ rest) k) (sym end.nodes)
-              (row_step old mid end.node _ (length ps) k emits (subst (λ f. AArity f (a_values end.node.values.items)) (sym end.shape) (subst (AArity A.If0) (sym vals_is) tt)) before rest
-                (subst (λ n. ARow rest (lift n (length ps))) (sym (ap a_kids end.shape)) (subst (ARow rest) many hs)));
+            (row_step old mid end.node _ (length ps) k emits (subst (λ f. AArity f (a_values end.node.values.items)) (sym end.shape) (subst (AArity A.If0) (sym vals_is) tt)) before rest
+            (subst (λ n. ARow rest (lift n (length ps))) (sym (ap a_kids end.shape)) (subst (ARow rest) many hs)));
         count = many ∙ ap (λ f. lift (h_kids f) (length ps)) (sym form_is);
       }
 
 -- each form: lv are the values by level, and vs as they stand there
 module _ (ns ms : List Name) (place : Place) (ps qs : List Place) (mid new : List ANode) (lv vs : List AValue) (ts : List TypeOf) (m : ℕ)
-  (len : length ns ≡ place.names) (bound : Under place.binders ns) where
+    (len : length ns ≡ place.names) (bound : Under place.binders ns) where
   abbrev g : List a.ATy
   g = scope place.binders ns
 

@@ -76,11 +76,10 @@ nonempty xs x h = omega (arith, ap length h, length-append xs (x ∷ []))
 
 -- the newest value is changed
 module _ (ks : HBlks) (g : List a.ATy) (ls : List ℕ) (h : HVal → HVal) (W : a.AVal → a.AVal) (T : a.ATy → a.ATy)
-  (next : (d : ℕ) (v : HVal) → v_next d (h v) ≡ v_next d v)
-  (pre : (d : ℕ) (v : HVal) (r : a.ATm) → pre_v ks g ls d (h v) r ≡ pre_v ks g ls d v r)
-  (value : (d e : ℕ) (v : HVal) → val ls d e (h v) ≡ W (val ls d e v))
-  (type : (v : HVal) → v_type ks g (h v) ≡ T (v_type ks g v)) where
-
+    (next : (d : ℕ) (v : HVal) → v_next d (h v) ≡ v_next d v)
+    (pre : (d : ℕ) (v : HVal) (r : a.ATm) → pre_v ks g ls d (h v) r ≡ pre_v ks g ls d v r)
+    (value : (d e : ℕ) (v : HVal) → val ls d e (h v) ≡ W (val ls d e v))
+    (type : (v : HVal) → v_type ks g (h v) ≡ T (v_type ks g v)) where
   wrap_last : (vs : List AValue) (ts : List TypeOf) (m : ℕ) (now : List ANode) (x y : AValue) (t u : TypeOf) →
       ((e : ℕ) → value_at e y ≡ W (value_at e x)) → type_in g u ≡ T (type_in g t) →
       (d : ℕ) (us : List HVal) (v : HVal) (begin : List ANode) → Made ks g ls d (us ++ v ∷ []) begin (vs ++ x ∷ []) (ts ++ t ∷ []) m now → Made ks g ls d (us ++ h v ∷ []) begin (vs ++ y ∷ []) (ts ++ u ∷ []) m now
@@ -99,9 +98,11 @@ module _ (ks : HBlks) (g : List a.ATy) (ls : List ℕ) (h : HVal → HVal) (W : 
       ((e : ℕ) → value_at e y ≡ W (value_at e x)) → type_in g u ≡ T (type_in g t) →
       Reads ks g ls (at_last h) (vs ++ x ∷ []) (ts ++ t ∷ []) m now (vs ++ y ∷ []) (ts ++ u ∷ []) m now
   made_wrap vs ts m now x y t u vy tu d us begin made =
-      elim (last_or us) [ inl e ↦ absurd (nonempty (map (value_at 0) vs) (value_at 0 x) (sym (map_push (value_at 0) vs x) ∙ made.values 0 ∙ ap (λ xs. vals ls d 0 (tied xs)) e))
+      elim (last_or us) [
+        | inl e ↦ absurd (nonempty (map (value_at 0) vs) (value_at 0 x) (sym (map_push (value_at 0) vs x) ∙ made.values 0 ∙ ap (λ xs. vals ls d 0 (tied xs)) e))
         | inr k ↦ subst (λ xs. Made ks g ls d xs begin (vs ++ y ∷ []) (ts ++ u ∷ []) m now) (sym (ap (at_last h) k.2 ∙ at_last_push h k.0 k.1))
-            (wrap_last vs ts m now x y t u vy tu d k.0 k.1 begin (subst (λ xs. Made ks g ls d xs begin (vs ++ x ∷ []) (ts ++ t ∷ []) m now) k.2 made)) ]
+            (wrap_last vs ts m now x y t u vy tu d k.0 k.1 begin (subst (λ xs. Made ks g ls d xs begin (vs ++ x ∷ []) (ts ++ t ∷ []) m now) k.2 made))
+      ]
 
   pub reads_wrap : (old new vs : List AValue) (told tnew ts : List TypeOf) (m : ℕ) (now : List ANode) (x y : AValue) (t u : TypeOf) →
       old ≡ vs ++ x ∷ [] → new ≡ vs ++ y ∷ [] → told ≡ ts ++ t ∷ [] → tnew ≡ ts ++ u ∷ [] →
@@ -109,16 +110,18 @@ module _ (ks : HBlks) (g : List a.ATy) (ls : List ℕ) (h : HVal → HVal) (W : 
       Reads ks g ls (at_last h) old told m now new tnew m now
   reads_wrap old new vs told tnew ts m now x y t u o n to tn vy tu d us begin made =
       subst (λ ws. Made ks g ls d (at_last h us) begin ws tnew m now) (sym n)
-        (subst (λ us2. Made ks g ls d (at_last h us) begin (vs ++ y ∷ []) us2 m now) (sym tn)
-          (made_wrap vs ts m now x y t u vy tu d us begin
-            (subst (λ ws. Made ks g ls d us begin ws (ts ++ t ∷ []) m now) o (subst (λ us2. Made ks g ls d us begin old us2 m now) to made))))
+      (subst (λ us2. Made ks g ls d (at_last h us) begin (vs ++ y ∷ []) us2 m now) (sym tn)
+      (made_wrap vs ts m now x y t u vy tu d us begin
+      (subst (λ ws. Made ks g ls d us begin ws (ts ++ t ∷ []) m now) o (subst (λ us2. Made ks g ls d us begin old us2 m now) to made))))
 
   -- there is none
   pub reads_no_wrap : (old new : List AValue) (told tnew : List TypeOf) (m : ℕ) (now : List ANode) → old ≡ [] → new ≡ [] → told ≡ [] → tnew ≡ [] → Reads ks g ls (at_last h) old told m now new tnew m now
   reads_no_wrap old new told tnew m now o n to tn d us begin made =
-      elim (last_or us) [ inl e ↦ subst (λ xs. Made ks g ls d xs begin new tnew m now) (sym (ap (at_last h) e))
-          (subst (λ xs. Made ks g ls d xs begin new tnew m now) e (subst (λ ws. Made ks g ls d us begin ws tnew m now) (o ∙ sym n) (subst (λ us2. Made ks g ls d us begin old us2 m now) (to ∙ sym tn) made)))
-        | inr k ↦ absurd (nonempty _ _ (sym (vals_more ls d 0 k.0 (k.1 ∷ [])) ∙ ap (λ xs. vals ls d 0 (tied xs)) (sym k.2) ∙ sym (made.values 0) ∙ ap (map (value_at 0)) o)) ]
+      elim (last_or us) [
+        | inl e ↦ subst (λ xs. Made ks g ls d xs begin new tnew m now) (sym (ap (at_last h) e))
+            (subst (λ xs. Made ks g ls d xs begin new tnew m now) e (subst (λ ws. Made ks g ls d us begin ws tnew m now) (o ∙ sym n) (subst (λ us2. Made ks g ls d us begin old us2 m now) (to ∙ sym tn) made)))
+        | inr k ↦ absurd (nonempty _ _ (sym (vals_more ls d 0 k.0 (k.1 ∷ [])) ∙ ap (λ xs. vals ls d 0 (tied xs)) (sym k.2) ∙ sym (made.values 0) ∙ ap (map (value_at 0)) o))
+      ]
 
 -- the newest values become a tuple
 len_vals : (ls : List ℕ) (d e : ℕ) (us : List HVal) → length (vals ls d e (tied us)) ≡ length us
@@ -171,7 +174,7 @@ module _ (ks : HBlks) (g : List a.ATy) (ls : List ℕ) where
       let m_is : m ≡ vs_next start (tied fields) = made.depth ∙ ap (λ xs. vs_next d (tied xs)) (sym both) ∙ next_more d front fields in
       let inner : (e : ℕ) → map (value_at e) (drop k vs) ≡ vals ls start e (tied fields) = λ e. sym (drop-map (value_at e) k vs) ∙ ap (drop k) (made.values e) ∙ vals_drop ls d e k us in
       let f_is : f ≡ final (vs_next start (tied fields)) (tied fields) =
-          last ∙ ap₂ (λ p q. p + q) m_is (sym (len_map (value_at 0) (drop k vs)) ∙ ap length (inner 0) ∙ len_vals ls start 0 fields) ∙ sym (final_is (vs_next start (tied fields)) fields) in
+      last ∙ ap₂ (λ p q. p + q) m_is (sym (len_map (value_at 0) (drop k vs)) ∙ ap length (inner 0) ∙ len_vals ls start 0 fields) ∙ sym (final_is (vs_next start (tied fields)) fields) in
       let inside : atrees room ≡ v_types ks g (tied fields) = types_are ks g room fields (room_is ∙ sym (drop-map (type_in g) k ts) ∙ ap (drop k) made.types ∙ drop-map (v_type ks g) k us) in
       record {
         values = λ e. map_push (value_at e) (take k vs) x ∙ ap₂ (λ ys y. ys ++ y ∷ []) (sym (take-map (value_at e) k vs) ∙ ap (take k) (made.values e) ∙ vals_take ls d e k us) (value e ∙ ap (λ n. a.Var (e - suc n)) f_is) ∙ sym (vals_more ls d e front (HTuple (tied fields) ∷ []));
@@ -179,11 +182,11 @@ module _ (ks : HBlks) (g : List a.ATy) (ls : List ℕ) where
         depth = ap suc f_is ∙ sym (next_more d front (HTuple (tied fields) ∷ []));
         emits =
             emits_same begin new _ _
-              (λ r. ap (λ xs. pre_vs ks g ls d (tied xs) (a.Let (a.Malloc (atrees room)) (inits m 1 (drop k vs) r))) (sym both)
-                ∙ pre_more ks g ls d front fields (a.Let (a.Malloc (atrees room)) (inits m 1 (drop k vs) r))
-                ∙ ap (λ y. pre_vs ks g ls d (tied front) (pre_vs ks g ls start (tied fields) y)) (ap₂ (λ p y. a.Let (a.Malloc p) y) inside (ap (λ n. inits n 1 (drop k vs) r) m_is ∙ fill_is ls start (vs_next start (tied fields)) 1 (drop k vs) fields r inner))
-                ∙ sym (pre_more ks g ls d front (HTuple (tied fields) ∷ []) r))
-              (emits_then begin now new _ _ made.emits (emits_then now mid new _ _ malloc inited));
+            (λ r. ap (λ xs. pre_vs ks g ls d (tied xs) (a.Let (a.Malloc (atrees room)) (inits m 1 (drop k vs) r))) (sym both)
+            ∙ pre_more ks g ls d front fields (a.Let (a.Malloc (atrees room)) (inits m 1 (drop k vs) r))
+            ∙ ap (λ y. pre_vs ks g ls d (tied front) (pre_vs ks g ls start (tied fields) y)) (ap₂ (λ p y. a.Let (a.Malloc p) y) inside (ap (λ n. inits n 1 (drop k vs) r) m_is ∙ fill_is ls start (vs_next start (tied fields)) 1 (drop k vs) fields r inner))
+            ∙ sym (pre_more ks g ls d front (HTuple (tied fields) ∷ []) r))
+            (emits_then begin now new _ _ made.emits (emits_then now mid new _ _ malloc inited));
       }
 
   pub tuple_reads : (n : ℕ) (vs wold fields wnew : List AValue) (ts rest inner unew : List TypeOf) (m : ℕ) (now mid new : List ANode) (x : AValue) (t : TypeOf) (room : List AType) (k f m2 : ℕ) →
@@ -197,16 +200,16 @@ module _ (ks : HBlks) (g : List a.ATy) (ls : List ℕ) where
       let w_is : wnew ≡ take k vs ++ x ∷ [] = wnew_is ∙ ap (λ ys. ys ++ x ∷ []) wold_is in
       let u_is : unew ≡ take k ts ++ t ∷ [] = unew_is ∙ ap (λ ys. ys ++ t ∷ []) rest_is in
       subst (λ y. Made ks g ls d (take y us ++ HTuple (tied (drop y us)) ∷ []) begin wnew unew m2 new) at
-        (subst (λ ws. Made ks g ls d (take k us ++ HTuple (tied (drop k us)) ∷ []) begin ws unew m2 new) (sym w_is)
-          (subst (λ us2. Made ks g ls d (take k us ++ HTuple (tied (drop k us)) ∷ []) begin (take k vs ++ x ∷ []) us2 m2 new) (sym u_is)
-            (subst (λ y. Made ks g ls d (take k us ++ HTuple (tied (drop k us)) ∷ []) begin (take k vs ++ x ∷ []) (take k ts ++ t ∷ []) y new) (sym m2_is) goes)))
+      (subst (λ ws. Made ks g ls d (take k us ++ HTuple (tied (drop k us)) ∷ []) begin ws unew m2 new) (sym w_is)
+      (subst (λ us2. Made ks g ls d (take k us ++ HTuple (tied (drop k us)) ∷ []) begin (take k vs ++ x ∷ []) us2 m2 new) (sym u_is)
+      (subst (λ y. Made ks g ls d (take k us ++ HTuple (tied (drop k us)) ∷ []) begin (take k vs ++ x ∷ []) (take k ts ++ t ∷ []) y new) (sym m2_is) goes)))
 
 pub reads_leaf : (ks : HBlks) (g : List a.ATy) (ls : List ℕ) (v : HVal) (vs wnew : List AValue) (ts unew : List TypeOf) (m : ℕ) (now : List ANode) (x : AValue) (t : TypeOf) → wnew ≡ vs ++ x ∷ [] → unew ≡ ts ++ t ∷ [] →
     ((d : ℕ) → v_next d v ≡ d) → ((d : ℕ) (r : a.ATm) → pre_v ks g ls d v r ≡ r) → ((d e : ℕ) → value_at e x ≡ val ls d e v) → type_in g t ≡ v_type ks g v →
     Reads ks g ls (λ us. us ++ v ∷ []) vs ts m now wnew unew m now
 reads_leaf ks g ls v vs wnew ts unew m now x t w u same none value ty d us begin made =
     subst (λ ws. Made ks g ls d (us ++ v ∷ []) begin ws unew m now) (sym w)
-      (subst (λ us2. Made ks g ls d (us ++ v ∷ []) begin (vs ++ x ∷ []) us2 m now) (sym u) (made_leaf ks g ls v vs ts m now x t same none value ty d us begin made))
+    (subst (λ us2. Made ks g ls d (us ++ v ∷ []) begin (vs ++ x ∷ []) us2 m now) (sym u) (made_leaf ks g ls v vs ts m now x t same none value ty d us begin made))
 
 pub reads_for : (ks : HBlks) (g : List a.ATy) (ls : List ℕ) (p q : HPart) (vs wnew : List AValue) (ts unew : List TypeOf) (m k : ℕ) (now new : List ANode) → p ≡ q → Reads ks g ls (more p) vs ts m now wnew unew k new → Reads ks g ls (more q) vs ts m now wnew unew k new
 reads_for ks g ls p q vs wnew ts unew m k now new e h = subst (λ r. Reads ks g ls (more r) vs ts m now wnew unew k new) e h

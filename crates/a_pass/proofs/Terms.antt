@@ -83,11 +83,11 @@ step_let ks e names n place p ps old mid node len fit emits builds level depth c
     let next = d_next place.depth e in
     let body = alloc_t ks (d_types ks g e) (next ∷ ls) (suc next) (top no_term ts) in
     let first : alloc_t ks (scope p.binders (take p.names (names ++ n ∷ []))) (levels (take p.names (names ++ n ∷ []))) p.depth (top no_term ts) ≡ body =
-        ap (λ xs. alloc_t ks (scope p.binders xs) (levels xs) p.depth (top no_term ts)) all
-        ∙ ap₂ (λ xs ys. alloc_t ks xs ys p.depth (top no_term ts)) types (onto_push level_of [] names n ∙ ap (λ k. k ∷ ls) level)
-        ∙ ap (λ k. alloc_t ks (d_types ks g e) (next ∷ ls) k (top no_term ts)) depth in
+    ap (λ xs. alloc_t ks (scope p.binders xs) (levels xs) p.depth (top no_term ts)) all
+    ∙ ap₂ (λ xs ys. alloc_t ks xs ys p.depth (top no_term ts)) types (onto_push level_of [] names n ∙ ap (λ k. k ∷ ls) level)
+    ∙ ap (λ k. alloc_t ks (d_types ks g e) (next ∷ ls) k (top no_term ts)) depth in
     let right : pending ks names (place ∷ ps) (HLet e (top no_term ts) ∷ others ts) ≡ pre_d ks g ls place.depth e (a.Let (dcl ls place.depth e) body) ∷ pending ks names ps (others ts) =
-        ap (λ xs. alloc_t ks (scope place.binders xs) (levels xs) place.depth (HLet e (top no_term ts)) ∷ pending ks names ps (others ts)) seen in
+    ap (λ xs. alloc_t ks (scope place.binders xs) (levels xs) place.depth (HLet e (top no_term ts)) ∷ pending ks names ps (others ts)) seen in
     onto_append mid (node ∷ []) (pending ks (names ++ n ∷ []) (p ∷ ps) ts)
     ∙ ap (a_onto mid) (ap (a_build node.form (a_values node.values.items)) (ap₂ (λ x xs. x ∷ xs) first rest) ∙ builds (body ∷ pending ks names ps (others ts)))
     ∙ ap (λ xs. a_onto xs (a.Let (dcl ls place.depth e) body ∷ pending ks names ps (others ts))) emits.is
@@ -124,7 +124,7 @@ step_if ks v names place p ps old mid node len emits builds depth count binders 
     let ls = levels names in
     let more = pending ks names ps (others (others ts)) in
     let one : (t : HTm) → alloc_t ks (scope p.binders (take p.names names)) (levels (take p.names names)) p.depth t ≡ alloc_t ks g ls (v_next place.depth v) t =
-        λ t. ap (λ xs. alloc_t ks (scope p.binders xs) (levels xs) p.depth t) seen2 ∙ ap₂ (λ b d. alloc_t ks (scope b names) ls d t) binders depth in
+    λ t. ap (λ xs. alloc_t ks (scope p.binders xs) (levels xs) p.depth t) seen2 ∙ ap₂ (λ b d. alloc_t ks (scope b names) ls d t) binders depth in
     let r = a.If0 (val ls place.depth (v_next place.depth v) v) (alloc_t ks g ls (v_next place.depth v) (top no_term ts)) (alloc_t ks g ls (v_next place.depth v) (top no_term (others ts))) in
     onto_append mid (node ∷ []) (pending ks names (p ∷ p ∷ ps) ts)
     ∙ ap (a_onto mid) (ap₂ (λ x y. a_build node.form (a_values node.values.items) (x ∷ y ∷ more)) (one (top no_term ts)) (one (top no_term (others ts))) ∙ builds _ _ more)
@@ -137,4 +137,4 @@ pub row_step : (old mid : List ANode) (node : ANode) (pre : a.ATm → a.ATm) (n 
     ((rest : List ANode) → ARow rest (suc n) → ARow (old ++ rest) m) → (rest : List ANode) → ARow rest (lift (a_kids node.form) n) → ARow ((mid ++ node ∷ []) ++ rest) m
 row_step old mid node pre n m emits fine before rest h =
     subst (λ xs. ARow xs m) (sym (append_assoc mid (node ∷ []) rest ∙ ap (λ xs. xs ++ (node ∷ rest)) emits.is ∙ append_assoc old emits.nodes (node ∷ rest)))
-      (before (emits.nodes ++ (node ∷ rest)) (emits.row (node ∷ rest) n (fine, h)))
+    (before (emits.nodes ++ (node ∷ rest)) (emits.row (node ∷ rest) n (fine, h)))

@@ -48,8 +48,7 @@ walk_begins ks nodes ns p ps now d row bound now_is ps_is count binders depth =
 
 -- what the next node finds
 module _ (ks : HBlks) (before rest : List HNode) (node : HNode) (ns kept : List Name) (ps qs : List Place) (place : Place) (now : List ANode) (whole : List a.ATm)
-  (is : before ≡ node ∷ rest) (popped : ps ≡ qs ++ place ∷ []) (cut : kept ≡ take place.names ns) (walked : Walked ks before ns ps now whole) where
-
+    (is : before ≡ node ∷ rest) (popped : ps ≡ qs ++ place ∷ []) (cut : kept ≡ take place.names ns) (walked : Walked ks before ns ps now whole) where
   is_tops : tops ps ≡ place ∷ tops qs
   is_tops = ap tops popped ∙ onto_push (λ p. p) [] qs place
 
@@ -92,9 +91,10 @@ walk_stuck ks before rest node ns ps now whole is none walked = subst (λ n. HRo
 
 pub walk_ends : (ks : HBlks) (rest : List HNode) (ns : List Name) (ps : List Place) (now : List ANode) (t : a.ATm) → rest ≡ [] → Walked ks rest ns ps now (t ∷ []) → (a_tree now ≡ t) × ARow now 1
 walk_ends ks rest ns ps now t is walked =
-    let none : ps ≡ [] = nothing ps (subst (λ xs. HRow xs (length ps)) is walked.row) in
-    (ap (top out.no_term) (sym (ap (λ xs. a_onto now (pending ks ns (tops xs) (h_terms rest))) none) ∙ walked.terms),
-     subst (λ xs. ARow xs 1) (append-nil now) (walked.rows [] (ap length none)))
+    let none : ps ≡ [] = nothing ps (subst (λ xs. HRow xs (length ps)) is walked.row) in (
+      ap (top out.no_term) (sym (ap (λ xs. a_onto now (pending ks ns (tops xs) (h_terms rest))) none) ∙ walked.terms),
+      subst (λ xs. ARow xs 1) (append-nil now) (walked.rows [] (ap length none)),
+    )
 
 -- the arguments' names
 levels_more : (d : ℕ) (ls : List ℕ) (xs : List CType) (x : CType) → arg_levels d ls (ctys (xs ++ x ∷ [])) ≡ (d + length xs) ∷ arg_levels d ls (ctys xs)

@@ -10,6 +10,8 @@ mod run;
 mod scope;
 mod state;
 mod term;
+#[cfg(test)]
+mod tests;
 mod types;
 
 pub use program::allocate;

@@ -99,7 +99,16 @@ fn name(
     } = run;
     let ty = own(alloc, names, place.binders, only(types))?;
     let values = under_all(alloc, values, depth)?;
-    declare(AForm::Value, values, ty, depth, place.binders, names, places, out)?;
+    declare(
+        AForm::Value,
+        values,
+        ty,
+        depth,
+        place.binders,
+        names,
+        places,
+        out,
+    )?;
     Ok(())
 }
 
@@ -124,7 +133,16 @@ fn project(
     } = run;
     let ty = field_in(alloc, names, place.binders, only(types), i)?;
     let values = under_all(alloc, values, depth)?;
-    declare(AForm::Proj(i), values, ty, depth, place.binders, names, places, out)?;
+    declare(
+        AForm::Proj(i),
+        values,
+        ty,
+        depth,
+        place.binders,
+        names,
+        places,
+        out,
+    )?;
     Ok(())
 }
 
@@ -147,7 +165,16 @@ fn operate(
         depth,
     } = run;
     let values = under_all(alloc, values, depth)?;
-    declare(AForm::Arith(op), values, AType::Int, depth, place.binders, names, places, out)?;
+    declare(
+        AForm::Arith(op),
+        values,
+        AType::Int,
+        depth,
+        place.binders,
+        names,
+        places,
+        out,
+    )?;
     Ok(())
 }
 
@@ -208,7 +235,16 @@ fn cell(
     let whole = one_field(alloc, ty, out)?;
     let newest = after(depth)?;
     let values = content(alloc, only_value(alloc, values), newest)?;
-    declare(AForm::Init(1), values, whole, newest, place.binders, names, places, out)?;
+    declare(
+        AForm::Init(1),
+        values,
+        whole,
+        newest,
+        place.binders,
+        names,
+        places,
+        out,
+    )?;
     Ok(())
 }
 
@@ -252,7 +288,16 @@ fn set(
     let room = Vec::new(alloc);
     let none = set_tuple(alloc, &room)?;
     let empty = Vec::new(alloc);
-    declare(AForm::Malloc(room), empty, none, next, place.binders, names, places, out)?;
+    declare(
+        AForm::Malloc(room),
+        empty,
+        none,
+        next,
+        place.binders,
+        names,
+        places,
+        out,
+    )?;
     Ok(())
 }
 
@@ -388,7 +433,15 @@ pub(crate) fn step(
     requires bound { Under place.binders names.old.items }
     ensures { OnOk result (Stepped (h_blocks blocks.now) place node.now.form (h.values node.now) names.old.items names.new.items places.old.items places.new.items out.old.items out.new.items) }
 {
-    let run = read(alloc, blocks, names, place.binders, &node.values, place.depth, out)?;
+    let run = read(
+        alloc,
+        blocks,
+        names,
+        place.binders,
+        &node.values,
+        place.depth,
+        out,
+    )?;
     form(alloc, &node.form, run, place, names, places, out)?;
     Ok(())
 }

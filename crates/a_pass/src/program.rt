@@ -28,7 +28,7 @@ fn block(alloc: Global, blocks: &[HBlock], one: &HBlock) -> Result<ABlock, OutOf
     })
 }
 
-fn all_blocks(alloc: Global, blocks: &[HBlock]) -> Result<Vec<ABlock>, OutOfMemory>
+pub(crate) fn all_blocks(alloc: Global, blocks: &[HBlock]) -> Result<Vec<ABlock>, OutOfMemory>
     requires { HRows blocks.now }
     ensures made { IfOk result (λ r. a_blocks r.items ≡ alloc_all (h_blocks blocks.now) (h_blocks blocks.now)) }
     ensures right { IfOk result (λ r. ARows r.items) }

@@ -35,7 +35,17 @@ pub(crate) fn read(
     let mut types = Vec::new(alloc);
     let mut depth = start;
     for one in parts {
-        depth = part(alloc, blocks, names, binders, one, depth, &mut values, &mut types, out)?;
+        depth = part(
+            alloc,
+            blocks,
+            names,
+            binders,
+            one,
+            depth,
+            &mut values,
+            &mut types,
+            out,
+        )?;
     }
     Ok(Run {
         values,

@@ -42,7 +42,15 @@ fn walk(
             unreachable!()
         };
         names.truncate(place.names);
-        step(alloc, blocks, node, place, &mut names, &mut places, &mut out)?;
+        step(
+            alloc,
+            blocks,
+            node,
+            place,
+            &mut names,
+            &mut places,
+            &mut out,
+        )?;
     }
     Ok(out)
 }

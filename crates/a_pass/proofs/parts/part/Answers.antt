@@ -13,7 +13,7 @@ use Rattle.a_pass.proofs.parts.part.Goals as goal
 pub returns-in_ok-push_leaf-in-Var-clause-made : goal.returns-in_ok-push_leaf-in-Var-clause-made
 returns-in_ok-push_leaf-in-Var-clause-made c =
     reads_for _ _ _ _ _ _ _ _ _ _ _ _ _ (sym c.in-Var.is) (reads_leaf _ _ _ (HVar c.in-Var.i) _ _ _ _ _ _ _ _ c.in_ok-push_leaf-in-Var.ensures.values c.in_ok-push_leaf-in-Var.ensures.types
-      (λ d. refl) (λ d r. refl) (λ d e. c.variable-value.ensures e) refl)
+    (λ d. refl) (λ d r. refl) (λ d e. c.variable-value.ensures e) refl)
 
 pub returns-in_ok-push_leaf-in-Int-clause-made : goal.returns-in_ok-push_leaf-in-Int-clause-made
 returns-in_ok-push_leaf-in-Int-clause-made c =
@@ -24,7 +24,7 @@ returns-in_ok-push_leaf-in-Int-clause-made c =
 pub returns-in_ok-push_leaf-in-Label-clause-made : goal.returns-in_ok-push_leaf-in-Label-clause-made
 returns-in_ok-push_leaf-in-Label-clause-made c =
     reads_for _ _ _ _ _ _ _ _ _ _ _ _ _ (sym c.in-Label.is) (reads_leaf _ _ _ (HLabel c.in-Label.l) _ _ _ _ _ _ _ _ c.in_ok-push_leaf-in-Label.ensures.values c.in_ok-push_leaf-in-Label.ensures.types
-      (λ d. refl) (λ d r. refl) (λ d e. c.in_ok-leaf-in-Label.ensures.value e) (c.in_ok-leaf-in-Label.ensures.ty _))
+    (λ d. refl) (λ d r. refl) (λ d e. c.in_ok-leaf-in-Label.ensures.value e) (c.in_ok-leaf-in-Label.ensures.ty _))
 
 pub returns-in_ok-depth-in-Tuple-clause-made : goal.returns-in_ok-depth-in-Tuple-clause-made
 returns-in_ok-depth-in-Tuple-clause-made c =
@@ -33,8 +33,8 @@ returns-in_ok-depth-in-Tuple-clause-made c =
 pub returns-in_ok-apply-in-Apply-clause-made : goal.returns-in_ok-apply-in-Apply-clause-made
 returns-in_ok-apply-in-Apply-clause-made c =
     reads_for _ _ _ _ _ _ _ _ _ _ _ _ _ (sym c.in-Apply.is)
-      (subst (λ (xs : List CType). Reads (h_blocks c.args.blocks.now) (scope c.args.binders c.args.names.now) (levels c.args.names.now) (at_last (λ v. HApply v (ctys xs))) c.args.values.now.items c.args.types.now.items c.args.depth c.args.out.now.items c.apply.new.values.items c.apply.new.types.items c.args.depth c.args.out.now.items)
-        c.deref.ensures.value (c.in_ok-apply-in-Apply.ensures.made (h_blocks c.args.blocks.now) (levels c.args.names.now) c.args.depth c.args.out.now.items))
+    (subst (λ (xs : List CType). Reads (h_blocks c.args.blocks.now) (scope c.args.binders c.args.names.now) (levels c.args.names.now) (at_last (λ v. HApply v (ctys xs))) c.args.values.now.items c.args.types.now.items c.args.depth c.args.out.now.items c.apply.new.values.items c.apply.new.types.items c.args.depth c.args.out.now.items)
+    c.deref.ensures.value (c.in_ok-apply-in-Apply.ensures.made (h_blocks c.args.blocks.now) (levels c.args.names.now) c.args.depth c.args.out.now.items))
 
 pub returns-in_ok-pack-in-Pack-clause-made : goal.returns-in_ok-pack-in-Pack-clause-made
 returns-in_ok-pack-in-Pack-clause-made c =

@@ -8,4 +8,4 @@ use Rattle.a_pass.proofs.term.walk.Given as goal
 abbrev pub invariant-loop-node : goal.invariant-loop-node
 invariant-loop-node l =
     Walked (h_blocks l.blocks) (drop l.node-index l.nodes) l.names.items l.places.items l.out.items
-      (alloc_t (h_blocks l.blocks) (scope 0 l.fn.names.items) (levels l.fn.names.items) l.depth (h_tree l.nodes) ∷ [])
+    (alloc_t (h_blocks l.blocks) (scope 0 l.fn.names.items) (levels l.fn.names.items) l.depth (h_tree l.nodes) ∷ [])

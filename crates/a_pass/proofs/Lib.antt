@@ -9,3 +9,4 @@ mod Stepping
 mod Steps
 mod Terms
 mod Walking
+mod Kept

@@ -1,10 +1,16 @@
 // Whole programs.
-ghost use Rattle.std.specs.Prelude.{◌≡◌, IfOk};
+ghost use Rattle.std.specs.Prelude.{◌≡◌, ◌≤◌, ◌*◌, ℕ, [], IfOk};
+ghost use Rattle.h_terms.specs.Bound.{HFits};
+ghost use Rattle.h_terms.specs.Meaning.{hrun};
 ghost use Rattle.h_terms.specs.Nodes.{h_block, h_blocks, HRow, HRows};
 ghost use Rattle.h_terms.specs.Program as h;
 ghost use Rattle.a_terms.specs.NodeTrees.{a_block, a_blocks};
 ghost use Rattle.a_terms.specs.Arity.{ARow, ARows};
 ghost use Rattle.a_terms.specs.Program.{program_in, main_in};
+ghost use Rattle.a_terms.specs.Bound.{AFits};
+ghost use Rattle.a_terms.specs.Meaning as A;
+ghost use Rattle.a_law.specs.Stands.{Stands};
+ghost use Rattle.a_law.specs.Statements.{ends};
 ghost use Rattle.a_law.specs.Allocate.{alloc_all, alloc_block, alloc_prog, alloc_main};
 
 use crate::term::{body, main_term};
@@ -41,8 +47,8 @@ pub(crate) fn all_blocks(alloc: Global, blocks: &[HBlock]) -> Result<Vec<ABlock>
     Ok(made)
 }
 
-/// The allocation of a program. It makes no data tuples.
-pub fn allocate(alloc: Global, program: &HProgram) -> Result<AProgram, OutOfMemory>
+// The allocation of a program, by its trees alone.
+fn allocated(alloc: Global, program: &HProgram) -> Result<AProgram, OutOfMemory>
     ensures program { IfOk result (λ r. program_in r ≡ alloc_prog (h.blocks_in program.now)) }
     ensures main { IfOk result (λ r. main_in r ≡ alloc_main (h.blocks_in program.now) (h.main_in program.now)) }
 {
@@ -52,4 +58,33 @@ pub fn allocate(alloc: Global, program: &HProgram) -> Result<AProgram, OutOfMemo
     let main = main_term(alloc, given, program.main())?;
     a_terms::sizes::within(&blocks, &main)?;
     Ok(AProgram::new(blocks, main, Vec::new(alloc)))
+}
+
+/// The allocation of a hoisted program: tuples become heap tuples that are filled field by field, and cells become tuples
+/// of one field. It makes no data tuples. It is typed, each bound on the program before is one on it, and it ends within
+/// any number of calls as the program before, and enters the same blocks. Answers want of memory alone; also where the
+/// numbers of a program are too large to be written in an assembly text, which no program that a memory holds reaches.
+pub fn allocate(alloc: Global, program: &HProgram) -> Result<AProgram, OutOfMemory>
+    ensures program { IfOk result (λ r. program_in r ≡ alloc_prog (h.blocks_in program.now)) }
+    ensures main { IfOk result (λ r. main_in r ≡ alloc_main (h.blocks_in program.now) (h.main_in program.now)) }
+    ensures stands {
+        IfOk result (λ r. ∥ Stands (program_in r) (main_in r) (h.blocks_in program.now) (h.main_in program.now) ∥₁)
+    }
+    ensures bound {
+        IfOk result
+            (λ r. (N M R : ℕ) → 3 * N ≤ M → HFits N R (h.blocks_in program.now) (h.main_in program.now) →
+             AFits M R (program_in r) (main_in r))
+    }
+    ensures meaning {
+        IfOk result
+            (λ r. ∥ ((n : ℕ) → A.meaning (program_in r) (main_in r) n ≡
+                  ends [] (hrun n (h.blocks_in program.now) (h.main_in program.now))) ∥₁)
+    }
+{
+    a_law::allocation_stands_for_its_program();
+    a_law::bounds_are_kept();
+    a_law::meaning_is_kept();
+    h_terms::laws::h_within_is_typed_law();
+    let made = allocated(alloc, program)?;
+    Ok(made)
 }

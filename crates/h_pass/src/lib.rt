@@ -1,10 +1,12 @@
 //! Hoisting: closed programs become lists of labelled blocks.
 #![tactic(auto)]
 
-pub mod hoist;
 pub mod laws;
 mod parts;
+mod program;
 mod state;
 #[cfg(test)]
 mod tests;
 mod walk;
+
+pub use program::hoist;

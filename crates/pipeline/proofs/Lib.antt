@@ -2,4 +2,5 @@ mod Blocks
 mod Chain
 mod Compiled
 mod Counted
+mod Data
 mod Shallow

@@ -1,5 +1,5 @@
 use Rattle.std.proofs.Common.{◌≡◌, ◌∙◌, sym, subst₂, [], arith}
-use Rattle.h_pass.proofs.hoist.hoist.Goals as goal
+use Rattle.h_pass.proofs.program.hoist.Goals as goal
 use Rattle.c_terms.specs.Meaning.{crun}
 use Rattle.c_terms.specs.Reach.{CWithin}
 use Rattle.c_terms.specs.Read.{written}

@@ -1,5 +1,5 @@
 use Rattle.std.proofs.Common.{[], drop}
-use Rattle.h_pass.proofs.hoist.hoist.Given as goal
+use Rattle.h_pass.proofs.program.hoist.Given as goal
 use Rattle.c_terms.specs.Read.{written}
 use Rattle.h_pass.specs.Walk.{Walked, program_of}
 

@@ -1,9 +1,9 @@
 -- Where nothing is shared, each node occurs once in the whole.
-use Rattle.std.proofs.Common.{◌≡◌, ◌≢◌, ◌≤◌, ◌<◌, ℕ, zero, suc, ◌+◌, ◌-◌, ◌==◌, if◌then◌else◌, List, [], ◌∷◌, ◌++◌, length, get_or, refl, ap, ◌∙◌, sym, subst, arith, All, inl, inr}
+use Rattle.std.proofs.Common.{◌≡◌, ◌≢◌, ◌≤◌, ◌<◌, ℕ, zero, suc, ◌+◌, ◌==◌, if◌then◌else◌, List, [], ◌∷◌, ◌++◌, length, get_or, refl, ap, ◌∙◌, sym, subst, arith, All, inl, inr}
 use Rattle.std.proofs.lemmas.Bool.{cases_eq}
-use Rattle.std.proofs.lemmas.List.Elements.{All-nil, All-cons, All-head, All-tail, All-push}
+use Rattle.std.proofs.lemmas.List.Elements.{All-nil, All-head, All-tail, All-push}
 use Rattle.arena.specs.Arena.{with_one, grow, parts, InOrder}
-use Rattle.arena.specs.Roots.{Differ, Among, total, without, without_all, roots_from, roots}
+use Rattle.arena.specs.Roots.{Differ, total, without, without_all, roots_from, roots}
 use Rattle.arena.proofs.Nodes.{one_same, one_other, part_at}
 use Rattle.arena.proofs.Roots.{if_same, if_other, all_without_all, differ_without, differ_without_all, differ_push, total_push}
 

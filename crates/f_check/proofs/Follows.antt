@@ -1,13 +1,10 @@
 -- What a step does to the frames.
-use Rattle.std.proofs.Common.{◌≡◌, ℕ, List, [], ◌∷◌, ◌++◌, Result, Ok, Err, IfOk, length, refl, sym, ap, ◌∙◌, subst, arith}
+use Rattle.std.proofs.Common.{◌≡◌, ℕ, List, [], ◌∷◌, ◌++◌, Result, Err, IfOk, length, refl, sym, subst, arith}
 use Rattle.std.proofs.lemmas.Result.{IfOk-weaker}
-use Rattle.idx_core.specs.declared.span.Span.{Span}
 use Rattle.f_terms.specs.Ty.{Tys}
 use Rattle.f_terms.specs.Shape.{children}
 use Rattle.f_terms.specs.declared.node.FShape.{FShape}
-use Rattle.f_terms.specs.declared.fault.Code.{Code}
 use Rattle.f_terms.specs.declared.fault.FFault.{FFault}
-use Rattle.f_terms.specs.declared.fault.FFault.TheVariants.{Refused}
 use Rattle.f_check.specs.Walk.{rest_of}
 use Rattle.f_check.specs.Notes.{inner, IsOf, Begun, Resumed}
 use Rattle.f_check.specs.declared.frame.Frame.{Frame}

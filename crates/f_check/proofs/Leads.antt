@@ -1,27 +1,24 @@
 -- The nodes that the frames are of: where they lead, and what stays noted when one type more is put down.
-use Rattle.std.proofs.Common.{◌≡◌, ◌≢◌, ◌≤◌, ◌<◌, ℕ, zero, suc, ◌+◌, ◌-◌, List, [], ◌∷◌, ◌++◌, map, length, get_or, slice_set, refl, ap, ap₂, ◌∙◌, sym, subst, arith, All, append_assoc, Vec, Global}
-use Rattle.std.proofs.lemmas.List.{get_or-set_same, length-set}
-use Rattle.std.proofs.lemmas.List.Elements.{All-nil, All-cons, All-head, All-tail, All-push, All-same}
+use Rattle.std.proofs.Common.{◌≡◌, ◌≤◌, ◌<◌, ℕ, suc, ◌+◌, List, [], ◌∷◌, ◌++◌, map, length, slice_set, refl, ap, ap₂, ◌∙◌, sym, subst, arith, All}
+use Rattle.std.proofs.lemmas.List.Elements.{All-nil, All-cons, All-head, All-tail, All-same}
 use Rattle.arena.specs.Stack.{Chain}
 use Rattle.arena.specs.Roots.{total}
 use Rattle.arena.proofs.Roots.{if_same}
 use Rattle.idx_core.specs.declared.arith.Op.{Op}
-use Rattle.f_terms.specs.Ty.{Ty, TAll, Tys, NoTys}
-use Rattle.f_terms.specs.Tm.{Tm, Spn, SFix, SApp, SGen, SInst, STuple, SProj, SArith, SIf0, plain, tms, Tms, MoreTms}
+use Rattle.f_terms.specs.Ty.{Ty, Tys}
+use Rattle.f_terms.specs.Tm.{Tm, Spn, SFix, SApp, SGen, SInst, STuple, SProj, SArith, SIf0, tms, Tms, MoreTms}
 use Rattle.f_terms.specs.Typing.{raised, in_fix}
-use Rattle.f_terms.specs.Noted.{Noted, Beside, AllBeside, bare, noteds, type_of}
-use Rattle.f_terms.specs.NotedTerm.{noted_at, noted_shape, under_all}
-use Rattle.f_terms.specs.Read.{tree, place}
+use Rattle.f_terms.specs.Noted.{Beside}
+use Rattle.f_terms.specs.Read.{tree}
 use Rattle.f_terms.specs.ReadTerm.{count, node_at, shape_at}
 use Rattle.f_terms.specs.Shape.{children, shape_tree}
 use Rattle.f_terms.specs.declared.types.FType.{FType}
-use Rattle.f_terms.specs.declared.types.FType.TheVariants as T
 use Rattle.f_terms.specs.declared.node.FShape.{FShape}
 use Rattle.f_terms.specs.declared.node.FShape.TheVariants as S
 use Rattle.f_terms.specs.declared.node.FTerm.{FTerm}
-use Rattle.f_terms.proofs.Occurs.{times, one, times_of, times_self, times_root, low, node_of, noted_same, noted_here, bare_at}
+use Rattle.f_terms.proofs.Occurs.{times, one, times_of, low, node_of, noted_same}
 use Rattle.f_check.specs.Walk.{Task, context, Part, Same, rest_of}
-use Rattle.f_check.specs.Notes.{IsNoted, inner, IsOf, Waits, Leading, Parts, Keeps}
+use Rattle.f_check.specs.Notes.{IsNoted, inner, IsOf, Waits, Leading, Parts}
 use Rattle.f_check.specs.declared.frame.Frame.{Frame}
 use Rattle.f_check.specs.declared.frame.Frame.TheVariants as C
 use Rattle.f_check.proofs.Steps.{moved, in_body, in_gen}

@@ -1,9 +1,9 @@
 -- The steps of the walk, with the types that are noted.
-use Rattle.std.proofs.Common.{◌*◌, Vec, Global, ◌≡◌, ◌≤◌, ◌<◌, ℕ, suc, ◌+◌, ◌-◌, List, [], ◌∷◌, ◌++◌, map, length, get_or, slice_set, refl, ap, ap₂, ◌∙◌, sym, subst, arith, All, append_assoc}
+use Rattle.std.proofs.Common.{◌*◌, Vec, Global, ◌≡◌, ◌≤◌, ◌<◌, ℕ, suc, ◌-◌, List, [], ◌∷◌, ◌++◌, map, length, slice_set, refl, ap, ap₂, ◌∙◌, sym, subst, arith, All, append_assoc}
 use Rattle.std.proofs.lemmas.List.{get_or-set_same, length-set}
 use Rattle.std.proofs.lemmas.List.Elements.{All-nil, All-head, All-tail, All-push, All-same}
 use Rattle.idx_core.specs.declared.span.Span.{Span}
-use Rattle.f_terms.specs.Ty.{Ty, TAll, Tys, NoTys}
+use Rattle.f_terms.specs.Ty.{Ty, Tys, NoTys}
 use Rattle.f_terms.specs.Tm.{Tm, plain}
 use Rattle.f_terms.specs.Typing.{raised, in_fix}
 use Rattle.f_terms.specs.Noted.{Noted, Beside, AllBeside, bare, noteds, type_of}
@@ -16,7 +16,7 @@ use Rattle.f_terms.specs.declared.types.FType.TheVariants as T
 use Rattle.f_terms.specs.declared.node.FShape.{FShape}
 use Rattle.f_terms.specs.declared.node.FShape.TheVariants as S
 use Rattle.f_terms.specs.declared.node.FTerm.{FTerm}
-use Rattle.f_terms.proofs.Occurs.{times, times_self, times_root, noted_here, bare_at}
+use Rattle.f_terms.proofs.Occurs.{times_self, times_root, noted_here, bare_at}
 use Rattle.f_terms.proofs.TypeOf.{type_passed}
 use Rattle.arena.specs.Stack.{Chain}
 use Rattle.f_terms.specs.Limits.{nodes}

@@ -1,5 +1,5 @@
 -- Types that are noted as they become known: what is right beside the parts of a term, while the term is checked.
-use Rattle.std.specs.Prelude.{◌≡◌, ℕ, List, [], ◌∷◌, ◌++◌, Result, Ok, Err, slice_set}
+use Rattle.std.specs.Prelude.{◌≡◌, ℕ, List, [], ◌∷◌, ◌++◌, slice_set}
 use Rattle.std.specs.List.{All}
 use Rattle.idx_core.specs.declared.arith.Op.{Op}
 use Rattle.f_terms.specs.Ty.{Ty, Tys}
@@ -13,7 +13,6 @@ use Rattle.f_terms.specs.declared.types.FType.{FType}
 use Rattle.f_terms.specs.declared.node.FShape.{FShape}
 use Rattle.f_terms.specs.declared.node.FShape.TheVariants as S
 use Rattle.f_terms.specs.declared.node.FTerm.{FTerm}
-use Rattle.f_terms.specs.declared.fault.FFault.{FFault}
 use Rattle.f_check.specs.Walk.{rest_of}
 use Rattle.f_check.specs.declared.frame.Frame.{Frame}
 use Rattle.f_check.specs.declared.frame.Frame.TheVariants as C

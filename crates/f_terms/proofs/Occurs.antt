@@ -1,20 +1,18 @@
 -- How often a node occurs in another, and what a change of a table of types leaves as it was.
-use Rattle.std.proofs.Common.{◌≡◌, ◌≢◌, ◌≤◌, ◌<◌, ℕ, zero, suc, ◌+◌, ◌-◌, List, [], ◌∷◌, map, length, get_or, slice_set, refl, ap, ap₂, ◌∙◌, sym, subst, arith, All, inl, inr}
+use Rattle.std.proofs.Common.{◌≡◌, ◌≢◌, ◌≤◌, ◌<◌, ℕ, zero, suc, ◌+◌, ◌-◌, List, [], ◌∷◌, map, length, get_or, slice_set, refl, ap, ap₂, ◌∙◌, sym, arith, All}
 use Rattle.std.proofs.lemmas.List.{get_or-set_other, length-set}
 use Rattle.std.proofs.lemmas.List.Elements.{All-nil, All-cons, All-head, All-tail}
-use Rattle.arena.specs.Arena.{InOrder}
 use Rattle.arena.specs.Roots.{total}
-use Rattle.arena.proofs.Nodes.{part_at}
 use Rattle.arena.proofs.Once as once
 use Rattle.arena.proofs.Roots.{if_same}
 use Rattle.f_terms.specs.Limits.{nodes}
 use Rattle.f_terms.specs.Tm.{Tm, Spn, plain, plain_all, tms, MFix, MApp, MGen, MInst, MTuple, MProj, MArith, MIf0, MoreTerms}
-use Rattle.f_terms.specs.Noted.{Noted, EVar, bare, bare_all, noteds}
+use Rattle.f_terms.specs.Noted.{Noted, bare, bare_all, noteds}
 use Rattle.f_terms.specs.Ty.{Ty}
 use Rattle.f_terms.specs.Read.{tree, place}
-use Rattle.f_terms.specs.Shape.{children, kids, shape_tree, node_tree}
+use Rattle.f_terms.specs.Shape.{children, kids, shape_tree}
 use Rattle.f_terms.specs.ReadTerm.{count, node_at, shape_at, no_node, term_of}
-use Rattle.f_terms.specs.NotedTerm.{noted_shape, noted_node, noted_at, noted_of}
+use Rattle.f_terms.specs.NotedTerm.{noted_shape, noted_at, noted_of}
 use Rattle.f_terms.specs.declared.types.FType.{FType}
 use Rattle.f_terms.specs.declared.types.FType.TheVariants as T
 use Rattle.f_terms.specs.declared.node.FNode.{FNode}

@@ -1,5 +1,5 @@
 -- The type that a term passes with is its type.
-use Rattle.std.proofs.Common.{◌≡◌, ℕ, ◌+◌, refl, sym, ap, ap₂, ◌∙◌}
+use Rattle.std.proofs.Common.{◌≡◌, ℕ, ◌+◌, sym, ap, ap₂, ◌∙◌}
 use Rattle.f_terms.specs.Ty.{Ty, TArrow, TAll, TTuple, Tys, MoreTys, put}
 use Rattle.f_terms.specs.Tm.{Tm, SVar, SNum, SFix, SApp, SGen, SInst, STuple, SProj, SArith, SIf0, Tms, NoTms, MoreTms, plain, plain_all}
 use Rattle.f_terms.specs.Typing.{field_ty, raised}

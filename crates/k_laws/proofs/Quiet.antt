@@ -2,13 +2,13 @@
 use Rattle.std.proofs.Common.{◌≡◌, ℕ, suc, ◌+◌, List, [], ◌∷◌, ◌++◌, Bool, true, false, refl, sym, ap, ap₂, ◌∙◌, subst}
 use Rattle.f_terms.specs.Ty.{Ty, TInt, TArrow, TAll, TTuple, Tys, NoTys}
 use Rattle.f_terms.specs.Tm.{MApp, MInst, MTuple, MProj}
-use Rattle.f_terms.specs.Typing.{raised, in_fix, HasType, HaveTypes, IsProgram}
+use Rattle.f_terms.specs.Typing.{raised, in_fix, HasType, HaveTypes}
 use Rattle.f_terms.specs.Noted.{Noted, EVar, ENum, EFix, EApp, EGen, EInst, ETuple, EProj, EArith, EIf, Noteds, NoNoteds, MoreNoteds, bare, bare_all, type_of, Beside, AllBeside}
 use Rattle.k_terms.specs.K.{KTm, KCode, KIf, NoKTys, MoreKTys}
 use Rattle.k_laws.specs.Annotated.{Annotated, AllAnnotated}
 use Rattle.k_laws.specs.Annotate.{kept, annotate, annotate_all, cps_term}
-use Rattle.k_laws.specs.Cps.{Atom, Level, Rest, Bind, Pass, value, name, bound_once, kty, taking, to_call, to_inst, to_arith, to_proj, to_tuple, cps, cps_all, cps_of, halting}
-use Rattle.k_laws.proofs.Types.{type_is, types_are}
+use Rattle.k_laws.specs.Cps.{Atom, Rest, Bind, Pass, value, name, bound_once, kty, taking, to_call, to_inst, to_arith, to_proj, to_tuple, cps, cps_all, cps_of, halting}
+use Rattle.k_laws.proofs.Types.{type_is}
 
 mutual
   pub noted : (tail : Bool) (e : Noted) (n : ℕ) (g : Tys) (t : Ty) → HasType (bare e) n g t → Beside e g → Annotated tail e n g t

@@ -1,4 +1,3 @@
-use Rattle.std.proofs.Common.{rules}
 use Rattle.f_terms.proofs.NotedNodes.{noted_is}
 use Rattle.f_terms.proofs.table.typed_node.Goals as goal
 

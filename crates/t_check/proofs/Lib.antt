@@ -8,4 +8,4 @@ mod Loads
 mod Emptied
 mod Bodies
 mod Exact
-mod Made
+pub mod Made

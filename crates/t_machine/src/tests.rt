@@ -6,6 +6,7 @@ ghost use Rattle.t_terms.specs.Spanned.{seq_of};
 ghost use Rattle.t_terms.specs.Whole.{WellFormedBase, WellFormedValue, WellFormedInstr, WellFormedEnd, WellFormedSeq};
 ghost use Rattle.t_terms.specs.Read.{base as base_tree, value as value_tree, instr as instr_tree, body as body_tree, end_of};
 
+mod data;
 mod types;
 
 use crate::{Machine, Ran, load};

@@ -4,7 +4,6 @@ use Rattle.std.specs.Fmt.{digits}
 use Rattle.idx_core.specs.declared.arith.Op.TheVariants.{Mul}
 use Rattle.t_types.specs.Tree.{IntTy, VarTy, CodeTy, ExistsTy, TupleTy, NoRegs, MoreRegs, NoFields, MoreFields}
 use Rattle.t_terms.specs.Tree.{Reg, Int, Label, Plain, Pack, Arith, Bnz, Ld, Malloc, Mov, St, Unpack, Jmp, Halt, Then, Ends, TBlock, TProg}
-use Rattle.t_terms.specs.Shapes.{one_move}
 use Rattle.t_writer.specs.Lexeme.{render}
 use Rattle.t_terms.specs.Nesting.{nesting}
 use Rattle.t_writer.specs.Written.{program_written}
@@ -42,9 +41,6 @@ first_nesting = refl
 
 second_nesting : nesting (only (second ∷ [])) ≡ 3
 second_nesting = refl
-
-move_nesting : nesting (only (one_move (pos 7))) ≡ 1
-move_nesting = refl
 
 -- packages: the hidden type and the value are in brackets, and the last type is not
 pack_nesting : nesting (only (record { owes = 0; file = NoRegs; code = Ends (Jmp (Pack IntTy (Pack IntTy (Plain (Int (pos 0)) []) IntTy) (ExistsTy (ExistsTy (ExistsTy IntTy))))) } ∷ [])) ≡ 3

@@ -2,7 +2,6 @@
 #![tactic(auto)]
 
 mod code;
-mod laws;
 mod names;
 mod number;
 mod program;
@@ -11,6 +10,5 @@ mod tests;
 mod types;
 mod values;
 
-pub use laws::one_move_is_shallow;
 pub use number::{write_integer, write_natural};
 pub use program::write;

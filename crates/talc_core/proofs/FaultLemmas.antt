@@ -54,10 +54,10 @@ no_program_fault text c s term checked (inr other) =
 
 -- the same assembly text is read as the same program
 pub same_program : (text : List ℕ) (a b : SProg) → IsAssembly text a → IsAssembly text b → a ≡ b
-same_program text a b x y = assembly.one_program text a b x.stands y.stands
+same_program text a b x y = assembly.at_most_one_program text a b x.stands y.stands
 
 no_assembly_fault : (text : List ℕ) (c : TCode) (s : Span) (program : SProg) → IsAcceptedText text program → AssemblyFault text c s → ⊥
-no_assembly_fault text c s program accepted (inl reading) = assembly.program_or_fault text program c s accepted.0 reading
+no_assembly_fault text c s program accepted (inl reading) = assembly.no_fault_where_read text program c s accepted.0 reading
 no_assembly_fault text c s program accepted (inr found) =
     let same : found.program ≡ program = same_program text found.program program found.read accepted.0 in
     rules.no_fault program c s accepted.1 (subst (λ P. checking.ProgramFault P c s) same found.fault)
@@ -89,12 +89,12 @@ one_program_fault text c d s t (inr x) (inr y) =
     (x.is_code ∙ sym y.is_code, x.whole ∙ ap span_of same ∙ sym y.whole)
 
 one_assembly_fault : (text : List ℕ) (c d : TCode) (s t : Span) → AssemblyFault text c s → AssemblyFault text d t → (c ≡ d) × (s ≡ t)
-one_assembly_fault text c d s t (inl x) (inl y) = assembly.one_fault text c d s t x y
-one_assembly_fault text c d s t (inl x) (inr y) = absurd (assembly.program_or_fault text y.program c s y.read x)
-one_assembly_fault text c d s t (inr x) (inl y) = absurd (assembly.program_or_fault text x.program d t x.read y)
+one_assembly_fault text c d s t (inl x) (inl y) = assembly.at_most_one_fault text c d s t x y
+one_assembly_fault text c d s t (inl x) (inr y) = absurd (assembly.no_fault_where_read text y.program c s y.read x)
+one_assembly_fault text c d s t (inr x) (inl y) = absurd (assembly.no_fault_where_read text x.program d t x.read y)
 one_assembly_fault text c d s t (inr x) (inr y) =
     let same : x.program ≡ y.program = same_program text x.program y.program x.read y.read in
-    rules.one_fault y.program c d s t (subst (λ P. checking.ProgramFault P c s) same x.fault) y.fault
+    rules.at_most_one_fault y.program c d s t (subst (λ P. checking.ProgramFault P c s) same x.fault) y.fault
 
 same_tal : (c d : TCode) (s t : Span) → (c ≡ d) × (s ≡ t) → Tal c s ≡ Tal d t
 same_tal c d s t same = let code : c ≡ d = same.0 in let span : s ≡ t = same.1 in cc

@@ -67,19 +67,13 @@ fn allocated(alloc: Global, program: &HProgram) -> Result<AProgram, OutOfMemory>
 pub fn allocate(alloc: Global, program: &HProgram) -> Result<AProgram, OutOfMemory>
     ensures program { IfOk result (λ r. program_in r ≡ alloc_prog (h.blocks_in program.now)) }
     ensures main { IfOk result (λ r. main_in r ≡ alloc_main (h.blocks_in program.now) (h.main_in program.now)) }
-    ensures stands {
-        IfOk result (λ r. ∥ Stands (program_in r) (main_in r) (h.blocks_in program.now) (h.main_in program.now) ∥₁)
-    }
-    ensures bound {
-        IfOk result
-            (λ r. (N M R : ℕ) → 3 * N ≤ M → HFits N R (h.blocks_in program.now) (h.main_in program.now) →
-             AFits M R (program_in r) (main_in r))
-    }
-    ensures meaning {
-        IfOk result
-            (λ r. ∥ ((n : ℕ) → A.meaning (program_in r) (main_in r) n ≡
-                  ends [] (hrun n (h.blocks_in program.now) (h.main_in program.now))) ∥₁)
-    }
+    ensures stands { IfOk result (λ r. ∥ Stands (program_in r) (main_in r) (h.blocks_in program.now) (h.main_in program.now) ∥₁) }
+    ensures bound { IfOk result
+        (λ r. (N M R : ℕ) → 3 * N ≤ M → HFits N R (h.blocks_in program.now) (h.main_in program.now) →
+        AFits M R (program_in r) (main_in r)) }
+    ensures meaning { IfOk result
+        (λ r. ∥ ((n : ℕ) → A.meaning (program_in r) (main_in r) n ≡
+        ends [] (hrun n (h.blocks_in program.now) (h.main_in program.now))) ∥₁) }
 {
     a_law::allocation_stands_for_its_program();
     a_law::bounds_are_kept();

@@ -53,7 +53,7 @@ fn push_two<'a>(
 ) -> Result<(), Unresolved>
     ensures { MatchResult result
         (λ u. todos tasks.new.items ≡
-            Bind (tree_of a.now) ∷ Bind (tree_of b.now) ∷ Put span step leaves.Nothing ∷ todos tasks.old.items)
+        Bind (tree_of a.now) ∷ Bind (tree_of b.now) ∷ Put span step leaves.Nothing ∷ todos tasks.old.items)
         (λ e. e ≡ stopped.Memory) }
 {
     let names = Leaves::Nothing;

@@ -63,10 +63,10 @@ each_block p main zero = inl (omega arith, inl refl)
 each_block p main (suc k) = ⊎_elim
     (λ (h : k < length p.blocks). let r = own p.blocks k h in inr (inl (record { label = k; block = r.0; made = record { there = r.1; own = inl refl } })))
     (λ (h : length p.blocks ≤ k). ⊎_elim
-        (λ (a : suc k < first_third p main). inl (a, inr (omega (arith, h))))
-        (λ (a : first_third p main ≤ suc k). ⊎_elim
-            (λ (c : suc k < first_third p main + all_thirds p.blocks). let r = third p.blocks (first_third p main) (suc k) a c in inr (inl (record { label = r.0; block = r.1; made = record { there = r.2; own = inr (r.3, r.4) } })))
-            (λ (c : first_third p main + all_thirds p.blocks ≤ suc k). inr (inr c))
-            (cases_lt (suc k) (first_third p main + all_thirds p.blocks)))
-        (cases_lt (suc k) (first_third p main)))
+    (λ (a : suc k < first_third p main). inl (a, inr (omega (arith, h))))
+    (λ (a : first_third p main ≤ suc k). ⊎_elim
+    (λ (c : suc k < first_third p main + all_thirds p.blocks). let r = third p.blocks (first_third p main) (suc k) a c in inr (inl (record { label = r.0; block = r.1; made = record { there = r.2; own = inr (r.3, r.4) } })))
+    (λ (c : first_third p main + all_thirds p.blocks ≤ suc k). inr (inr c))
+    (cases_lt (suc k) (first_third p main + all_thirds p.blocks)))
+    (cases_lt (suc k) (first_third p main)))
     (cases_lt k (length p.blocks))

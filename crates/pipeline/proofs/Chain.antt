@@ -70,15 +70,15 @@ module _ (e : Term) (k : KTm) (c : CTm) (ks : HBlks) (t : HTm) (p : AProg) (main
   seldom stands long n i ev m s q run block index = ⊎_elim
       (λ (h : FromMain p main block). let x = made.main_places m s q run block index h in omega (arith, x))
       (λ (h : Found p.blocks (first_third p main) block ⊎ (suc (length p.blocks) + thirds main + all_thirds p.blocks ≤ block)). ⊎_elim
-          (λ (f : Found p.blocks (first_third p main) block).
-              let x = made.places m s q run block f.label index f.block f.made in
-              let y = entries m f.label in
-              let z = kept.seldom n i m f.label ev in
-              omega (arith, x, y, z))
-          (λ (f : suc (length p.blocks) + thirds main + all_thirds p.blocks ≤ block).
-              let x = absent stands P m s q run block index (omega (arith, f, long)) in
-              omega (arith, x))
-          h)
+      (λ (f : Found p.blocks (first_third p main) block).
+      let x = made.places m s q run block f.label index f.block f.made in
+      let y = entries m f.label in
+      let z = kept.seldom n i m f.label ev in
+      omega (arith, x, y, z))
+      (λ (f : suc (length p.blocks) + thirds main + all_thirds p.blocks ≤ block).
+      let x = absent stands P m s q run block index (omega (arith, f, long)) in
+      omega (arith, x))
+      h)
       (each_block p main block)
 
 -- a program that runs no place often halts soon

@@ -1,4 +1,4 @@
--- The tuples of an allocated program slice_set back into its values, and the flags of its types dropped: the hoisted program
+-- The tuples of an allocated program put back into its values, and the flags of its types dropped: the hoisted program
 -- that it was made from, where no cell stands in that.
 use Rattle.std.specs.Prelude.{pos, ◌≡◌, ℕ, zero, suc, ◌-◌, List, [], ◌∷◌}
 use Rattle.a_law.specs.Allocate.{alloc_main, alloc_prog}
@@ -52,7 +52,7 @@ add_field (HTuple vs) w = HTuple (add_last vs w)
 add_field (HApply v ts) w = HApply v ts
 add_field (HPack h v s) w = HPack h v s
 
--- a value with its variables slice_set back
+-- a value with its variables put back
 abbrev pub back_v : List Shown → ℕ → AVal → HVal
 back_v env k (Var i) = shown_at env i k
 back_v env k (Num n) = HInt n
@@ -139,6 +139,6 @@ abbrev pub NoCells : HBlks → Type 0
 NoCells [] = Unit {0}
 NoCells (k ∷ ks) = (NoRefs k.args × NoCell_t k.body) × NoCells ks
 
--- the tuples of the allocation slice_set back, and the flags dropped, give the hoisted program
+-- the tuples of the allocation put back, and the flags dropped, give the hoisted program
 abbrev pub PutsBack : Type 0
 PutsBack = (ks : HBlks) (t : HTm) → HProgramGood ks t → NoCells ks → NoCell_t t → (back_all (alloc_prog ks).blocks ≡ ks) × (back_t [] 0 (alloc_main ks t) ≡ t)

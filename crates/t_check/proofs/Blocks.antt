@@ -3,7 +3,7 @@ use Rattle.std.proofs.Common.{◌≡◌, ℕ, zero, suc, ◌+◌, ◌<◌, List,
 use Rattle.t_types.specs.Read.{tree, types}
 use Rattle.t_types.specs.WellFormed.{WellFormed, WellFormedTypes}
 use Rattle.t_types.specs.Tree.{BelowTypes}
-use Rattle.t_types.specs.Scope.{well_formed_below}
+use Rattle.t_types.proofs.Scope.{well_formed_below}
 use Rattle.t_types.specs.declared.types.TType.{TType}
 use Rattle.t_terms.specs.Read.{block, blocks_of, data_of, spanned_data}
 use Rattle.t_terms.specs.Spanned.{plain_fields}

@@ -5,7 +5,7 @@ use Rattle.idx_core.specs.Over.{At, shifted}
 use Rattle.t_types.specs.Tree.{Ty, VarTy, TupleTy, TFields, NoFields, MoreFields, over_fields, shift, ShiftFits}
 use Rattle.t_types.specs.Fields.{TField, AField, field}
 use Rattle.t_types.specs.Fits.{RegTypes}
-use Rattle.t_types.specs.FitsLaws.{field_over}
+use Rattle.t_types.proofs.FitsLaws.{field_over}
 use Rattle.t_types.specs.WellFormed.{max_names}
 use Rattle.t_types.specs.Read.{tree, fields}
 use Rattle.t_types.specs.declared.types.TType.{TType}

@@ -4,7 +4,7 @@ use Rattle.idx_core.specs.Over.{shifted}
 use Rattle.idx_core.specs.Laws.{shifted_ge}
 use Rattle.t_types.specs.Tree.{Ty, IntTy, VarTy, CodeTy, ExistsTy, TupleTy, TFields, NoFields, MoreFields, over_fields, shift}
 use Rattle.t_types.specs.Fields.{AField, field, filled}
-use Rattle.t_types.specs.FitsLaws.{filled_over}
+use Rattle.t_types.proofs.FitsLaws.{filled_over}
 use Rattle.t_types.specs.Read.{tree, fields}
 use Rattle.t_types.specs.declared.types.TType.{TType}
 use Rattle.t_check.specs.Known.{IsTupleWith}

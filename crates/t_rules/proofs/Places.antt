@@ -6,7 +6,7 @@ use Rattle.idx_core.specs.Over.{putted}
 use Rattle.idx_core.specs.Laws.{shift_add_law}
 use Rattle.t_types.specs.Tree.{Ty, VarTy, over, shift, put_from, BelowTypes}
 use Rattle.t_types.specs.TreeLaws.{types_part, types_over}
-use Rattle.t_types.specs.PutLaws.{put_below_is}
+use Rattle.t_types.proofs.PutLaws.{put_below_is}
 use Rattle.t_types.specs.Fits.{RegTypes, lookup}
 use Rattle.t_terms.specs.Tree.{TInstr, TSeq, Then, Ends, TEnd, TBlock, TProg, over_instr, over_end, over_seq, names_after}
 use Rattle.t_terms.specs.TreeLaws.{seq_over}

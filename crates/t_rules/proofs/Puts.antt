@@ -6,10 +6,10 @@ use Rattle.idx_core.specs.Over.{putted}
 use Rattle.idx_core.specs.Laws.{put_below, below_put, below_shift}
 use Rattle.t_types.specs.Tree.{Ty, IntTy, VarTy, CodeTy, ExistsTy, TupleTy, TFile, NoRegs, MoreRegs, over, over_file, over_fields, over_types, shift, put, put_file, put_from, Below, BelowTypes, VarTy}
 use Rattle.t_types.specs.TreeLaws.{types_part, types_each, types_over, file_over}
-use Rattle.t_types.specs.PutLaws.{put_below_is, put_shifted, put_past_put, put_past_first}
+use Rattle.t_types.proofs.PutLaws.{put_below_is, put_shifted, put_past_put, put_past_first}
 use Rattle.t_types.specs.Fields.{filled, empty_fields}
 use Rattle.t_types.specs.Fits.{Fits, FitsFile, RegTypes, lookup}
-use Rattle.t_types.specs.FitsLaws.{fits_over, field_over, filled_over, empty_over}
+use Rattle.t_types.proofs.FitsLaws.{fits_over, field_over, filled_over, empty_over}
 use Rattle.t_terms.specs.Tree.{TBase, Reg, Int, Label, Data, TValue, Plain, Pack, TInstr, Arith, Bnz, Ld, Malloc, Mov, St, Unpack, TEnd, Jmp, Halt, TSeq, Then, Ends, TBlock, TData, TProg, over_value, over_instr, over_end, over_seq, put_seq, names_after}
 use Rattle.t_rules.specs.Registers.{with_reg, raised, inst_file, inst_seq, inst_known}
 use Rattle.t_rules.specs.Rules.{label_type, data_type, BaseHas, Has, Enters, Typed, EndTyped, SeqAccepted}

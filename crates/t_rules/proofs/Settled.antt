@@ -4,7 +4,7 @@ use Rattle.std.proofs.lemmas.Bool.{cases_lt, cases_order}
 use Rattle.idx_core.specs.declared.span.Span.{Span}
 use Rattle.t_types.specs.Tree.{Ty, IntTy, VarTy, CodeTy, ExistsTy, TupleTy, TFile, NoRegs, MoreRegs, TFields, NoFields, MoreFields, put, BelowTypes}
 use Rattle.t_types.specs.WellFormed.{WellFormedTypes}
-use Rattle.t_types.specs.Scope.{well_formed_below, regs_below}
+use Rattle.t_types.proofs.Scope.{well_formed_below, regs_below}
 use Rattle.t_types.specs.Fields.{AField, field, filled, empty_fields}
 use Rattle.t_types.specs.Fits.{FieldsFit, Fits, FitsFile, RegTypes, lookup}
 use Rattle.t_terms.specs.Tree.{TBase, Reg, Int, Label, Data, TValue, Plain, Pack, TInstr, Arith, Bnz, Ld, Malloc, Mov, St, Unpack, TEnd, Jmp, Halt, TProg, names_after}

@@ -4,7 +4,7 @@ use Rattle.t_types.specs.declared.types.TType.{TType}
 use Rattle.t_types.specs.Tree.{Ty, TupleTy, TFields}
 use Rattle.t_types.specs.Fits.{Fits, FieldsFit}
 use Rattle.t_types.specs.Read.{tree, fields}
-use Rattle.t_types.specs.FitsLaws.{fields_fit_same}
+use Rattle.t_types.proofs.FitsLaws.{fields_fit_same}
 use Rattle.t_types.proofs.Equal.{get_any}
 
 abbrev pub FieldFits : TType × Bool → TType × Bool → Type 0

@@ -1,10 +1,8 @@
+pub mod Bound
 pub mod Fields
 pub mod Fits
-pub mod FitsLaws
 pub mod Laws
-pub mod PutLaws
 pub mod Read
-pub mod Scope
 pub mod Tree
 pub mod TreeLaws
 pub mod WellFormed

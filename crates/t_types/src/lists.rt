@@ -1,14 +1,13 @@
 // Shift and put of register files and of lists of types.
-ghost use Rattle.std.specs.Prelude.{◌≡◌, ◌≤◌, ◌↔◌, IfOk, IsTrue};
-ghost use Rattle.idx_core.specs.Over.{IsWord, ShiftFitsAt, PutFitsAt, BelowAt, AnyDepth, shifted, putted};
+ghost use Rattle.std.specs.Prelude.{◌≡◌, ◌≤◌, IfOk};
+ghost use Rattle.idx_core.specs.Over.{IsWord, ShiftFitsAt, PutFitsAt, shifted, putted};
+ghost use Rattle.t_types.specs.Bound.{Tells};
 ghost use Rattle.t_types.specs.Read.{tree, types, file_tree};
-ghost use Rattle.t_types.specs.Tree.{Ty, TFile, VarTy, over, over_file, over_types, each, each_file, each_types, Below, BelowFile};
+ghost use Rattle.t_types.specs.Tree.{Ty, TFile, VarTy, over, over_file, over_types, each, each_file, each_types, BelowFile, BelowTypes};
 ghost use Rattle.t_types.specs.TreeLaws.{types_part, file_over};
 
 use crate::types::{RegFile, TType};
-use crate::walks::{
-    has_words, put_regs, put_type, regs_below, regs_have_words, shift_regs, type_below,
-};
+use crate::walks::{put_regs, put_type, regs_below, shift_regs, type_below};
 use idx_core::{OutOfMemory, Scoped};
 use std::alloc::Global;
 
@@ -44,7 +43,7 @@ impl Scoped for RegFile {
     }
 
     fn below(&self, n: u64) -> bool {
-        regs_below(&self.regs, n)
+        regs_below(&self.regs, Some(n))
     }
 
     ghost is_part = { types_part };
@@ -90,34 +89,21 @@ pub fn put_types(
     Ok(made)
 }
 
-/// Whether each free index of a type is less than n, which may be more than a u64.
-pub fn is_below(t: &TType, n: u128) -> bool
-    ensures { IsTrue result ↔ Below n (tree t.now) }
-{
-    match u64::try_from(n) {
-        Ok(n) => type_below(t, n),
-        Err(_) => has_words(t),
-    }
-}
-
-/// Whether each free index of a list of types is less than n.
-pub fn types_below(ts: &[TType], n: u128) -> bool
-    ensures { IsTrue result ↔ each_types BelowAt AnyDepth n (types ts.now) }
+/// Whether each free index of a list of types is less than the bound, where `None` is past every index.
+pub fn types_below(ts: &[TType], bound: Option<u64>) -> bool
+    ensures { Tells bound (λ n. BelowTypes n (types ts.now)) result }
 {
     for t in ts {
-        if !is_below(t, n) {
+        if !type_below(t, bound) {
             return false;
         }
     }
     true
 }
 
-/// Whether each free index of a register file is less than n.
-pub fn file_below(regs: &RegFile, n: u128) -> bool
-    ensures { IsTrue result ↔ BelowFile n (file_tree regs.now) }
+/// Whether each free index of a register file is less than the bound, where `None` is past every index.
+pub fn file_below(regs: &RegFile, bound: Option<u64>) -> bool
+    ensures { Tells bound (λ n. BelowFile n (file_tree regs.now)) result }
 {
-    match u64::try_from(n) {
-        Ok(n) => regs_below(&regs.regs, n),
-        Err(_) => regs_have_words(&regs.regs),
-    }
+    regs_below(&regs.regs, bound)
 }

@@ -1,6 +1,7 @@
 // Shift and put of types, and how many of their variables are free.
-ghost use Rattle.std.specs.Prelude.{◌≡◌, ℕ, ◌<◌, ◌≤◌, ◌^◌, ◌↔◌, IfOk, IsTrue};
+ghost use Rattle.std.specs.Prelude.{◌≡◌, ℕ, ◌+◌, ◌<◌, ◌≤◌, IfOk};
 ghost use Rattle.idx_core.specs.Over.{IsWord, ShiftFitsAt, PutFitsAt, BelowAt, AnyDepth};
+ghost use Rattle.t_types.specs.Bound.{IsBound, Tells};
 ghost use Rattle.t_types.specs.Read.{tree, file, fields};
 ghost use Rattle.t_types.specs.Tree.{Ty, VarTy, over, over_file, over_fields, each, each_file, each_fields, shift, shift_file, shift_fields, put_from, put_file_from, put_fields_from, ShiftFits, PutFits, Below, BelowFile, BelowFields};
 ghost use Rattle.t_types.specs.TreeLaws.{types_part, types_over};
@@ -161,68 +162,46 @@ fn put_flagged(
     Ok(made)
 }
 
-// True: every index is a u64.
-#[cycle(words)]
-pub(crate) fn has_words(t: &TType) -> bool
-    ensures is_true { IsTrue result }
-    ensures below { (m : ℕ) → 2 ^ 64 ≤ m → Below m (tree t.now) }
+/// The bound on indices under so many more binders, where `None` is past every index.
+pub fn deeper(bound: Option<u64>, by: u64) -> Option<u64>
+    ensures { (n : ℕ) → IsBound bound n → IsBound result (n + by) }
 {
-    match t {
-        TType::Int => true,
-        TType::Var(i) => *i <= u64::MAX,
-        TType::Code { owes: _, regs } => regs_have_words(&regs.regs),
-        TType::Exists(t) => has_words(t),
-        TType::Tuple(fs) => fields_have_words(fs),
+    match bound {
+        Some(n) => n.checked_add(by),
+        None => None,
     }
 }
 
-#[cycle(words)]
-pub(crate) fn regs_have_words(regs: &[(u64, TType)]) -> bool
-    ensures is_true { IsTrue result }
-    ensures below { (m : ℕ) → 2 ^ 64 ≤ m → BelowFile m (file regs.now) }
+// Whether the index is less than the bound.
+fn index_below(i: u64, bound: Option<u64>) -> bool
+    ensures { Tells bound (λ n. i < n) result }
 {
-    for reg in regs {
-        let _ = has_words(&reg.1);
+    match bound {
+        Some(n) => i < n,
+        None => true,
     }
-    true
 }
 
-#[cycle(words)]
-fn fields_have_words(fs: &[(TType, bool)]) -> bool
-    ensures is_true { IsTrue result }
-    ensures below { (m : ℕ) → 2 ^ 64 ≤ m → BelowFields m (fields fs.now) }
-{
-    for field in fs {
-        let _ = has_words(&field.0);
-    }
-    true
-}
-
+/// Whether each free index of a type is less than the bound, where `None` is past every index.
 #[cycle(below)]
-pub(crate) fn type_below(t: &TType, n: u64) -> bool
-    ensures { IsTrue result ↔ Below n (tree t.now) }
+pub fn type_below(t: &TType, bound: Option<u64>) -> bool
+    ensures { Tells bound (λ n. Below n (tree t.now)) result }
 {
     match t {
         TType::Int => true,
-        TType::Var(i) => *i < n,
-        TType::Code { owes, regs } => match n.checked_add(*owes) {
-            Some(m) => regs_below(&regs.regs, m),
-            None => regs_have_words(&regs.regs),
-        },
-        TType::Exists(t) => match n.checked_add(1) {
-            Some(m) => type_below(t, m),
-            None => has_words(t),
-        },
-        TType::Tuple(fs) => fields_below(fs, n),
+        TType::Var(i) => index_below(*i, bound),
+        TType::Code { owes, regs } => regs_below(&regs.regs, deeper(bound, *owes)),
+        TType::Exists(t) => type_below(t, deeper(bound, 1)),
+        TType::Tuple(fs) => fields_below(fs, bound),
     }
 }
 
 #[cycle(below)]
-pub(crate) fn regs_below(regs: &[(u64, TType)], n: u64) -> bool
-    ensures { IsTrue result ↔ BelowFile n (file regs.now) }
+pub(crate) fn regs_below(regs: &[(u64, TType)], bound: Option<u64>) -> bool
+    ensures { Tells bound (λ n. BelowFile n (file regs.now)) result }
 {
     for reg in regs {
-        if !type_below(&reg.1, n) {
+        if !type_below(&reg.1, bound) {
             return false;
         }
     }
@@ -230,11 +209,11 @@ pub(crate) fn regs_below(regs: &[(u64, TType)], n: u64) -> bool
 }
 
 #[cycle(below)]
-fn fields_below(fs: &[(TType, bool)], n: u64) -> bool
-    ensures { IsTrue result ↔ BelowFields n (fields fs.now) }
+fn fields_below(fs: &[(TType, bool)], bound: Option<u64>) -> bool
+    ensures { Tells bound (λ n. BelowFields n (fields fs.now)) result }
 {
     for field in fs {
-        if !type_below(&field.0, n) {
+        if !type_below(&field.0, bound) {
             return false;
         }
     }
@@ -271,7 +250,7 @@ impl Scoped for TType {
     }
 
     fn below(&self, n: u64) -> bool {
-        type_below(self, n)
+        type_below(self, Some(n))
     }
 
     ghost is_part = { types_part };

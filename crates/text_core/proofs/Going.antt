@@ -53,6 +53,13 @@ is_next g ts i k c e = (next_fits g k (slice_get ts i) c e).0
 pub is_of : (g : Table) (ts : List g.Tok) (i : ℕ) (k : g.Class) (c : g.Tok) → next_of g k (slice_get ts i) ≡ Some c → g.fits k c ≡ true
 is_of g ts i k c e = (next_fits g k (slice_get ts i) c e).1
 
+pub not_fits : (g : Table) (k : g.Class) (o : Option g.Tok) (c : g.Tok) → next_of g k o ≡ None → o ≡ Some c → g.fits k c ≡ false
+not_fits g k o c e q = by_fit (g.fits k c) refl (subst (λ (x : Option g.Tok). next_of g k x ≡ None) q e)
+  where
+    by_fit : (x : Bool) → g.fits k c ≡ x → (if x then Some c else None) ≡ None → g.fits k c ≡ false
+    by_fit true f h = absurd (cc)
+    by_fit false f h = f
+
 -- a line that takes only what is of the class k
 pub lacks_all : (g : Table) (ts : List g.Tok) (i : ℕ) (k : g.Class) (n : g.Line) → ((c : g.Tok) → g.fits k c ≡ false → g.after n c ≡ None) → next_of g k (slice_get ts i) ≡ None → Lacks g ts i n
 lacks_all g ts i k n h e = by_token (slice_get ts i) refl e
@@ -147,7 +154,7 @@ module _ (g : Table) (limit : ℕ) (ts : List g.Tok) (d : ℕ) where
   as_goes i n m k rest c vs e r f h = record { leads = λ s below q. rw (next_is ts i c e, f, h) (rw (append_assoc r k (rest ++ s), append_assoc k rest s) refl) }
 
   -- the same where it is not known whether the line n begins
-  pub as_any : (i : ℕ) (n m : g.Line) (k rest : Stack g) (vs : List g.Val) → g.may_end n ≡ false → g.may_end m ≡ false → ((c : g.Tok) → slice_get ts i ≡ Some c → g.after m c ≡ then_more g (g.after n c) k) →
+  pub as_any : (i : ℕ) (n m : g.Line) (k rest : Stack g) (vs : List g.Val) → g.may_end n ≡ false → g.may_end m ≡ false → ((c : g.Tok) → slice_get ts i ≡ Some c → g.after m c ≡ then_more (g.after n c) k) →
       Goes g limit ts d i (Nt m ∷ rest) vs i (Nt n ∷ (k ++ rest)) vs
   as_any i n m k rest vs p q h = by_token (slice_get ts i) refl
     where
@@ -155,9 +162,25 @@ module _ (g : Table) (limit : ℕ) (ts : List g.Tok) (d : ℕ) where
       neither a b = record { leads = λ s below l. (line_lacks i m rest vs q a).leads s below l ∙ sym ((line_lacks i n (k ++ rest) vs p b).leads s below l) }
 
       by_row : (c : g.Tok) → slice_get ts i ≡ Some c → (o : Option (Stack g)) → g.after n c ≡ o → Goes g limit ts d i (Nt m ∷ rest) vs i (Nt n ∷ (k ++ rest)) vs
-      by_row c e None f = neither (other c e (h c e ∙ ap (λ (o : Option (Stack g)). then_more g o k) f)) (other c e f)
-      by_row c e (Some r) f = as_goes i n m k rest c vs e r f (h c e ∙ ap (λ (o : Option (Stack g)). then_more g o k) f)
+      by_row c e None f = neither (other c e (h c e ∙ ap (λ (o : Option (Stack g)). then_more o k) f)) (other c e f)
+      by_row c e (Some r) f = as_goes i n m k rest c vs e r f (h c e ∙ ap (λ (o : Option (Stack g)). then_more o k) f)
 
       by_token : (o : Option g.Tok) → slice_get ts i ≡ o → Goes g limit ts d i (Nt m ∷ rest) vs i (Nt n ∷ (k ++ rest)) vs
       by_token None e = neither (at_the_end e) (at_the_end e)
       by_token (Some c) e = by_row c e (g.after n c) refl
+
+  -- a line that goes on as a token of a class with k after it
+  pub as_token : (i : ℕ) (n : g.Line) (w : g.Class) (k : Stack g) → g.may_end n ≡ false → ((c : g.Tok) → slice_get ts i ≡ Some c → g.after n c ≡ (if g.fits w c then Some k else None)) →
+      Goes g limit ts d i (Nt n ∷ []) [] i (Tm w ∷ k) []
+  as_token i n w k m h = by_next (slice_get ts i) refl
+    where
+      neither : Lacks g ts i n → next_of g w (slice_get ts i) ≡ None → Goes g limit ts d i (Nt n ∷ []) [] i (Tm w ∷ k) []
+      neither l q = record { leads = λ s below r. (line_lacks i n [] [] m l).leads s below r ∙ sym ((token_misses i w k [] q).leads s below r) }
+
+      by_fit : (c : g.Tok) → slice_get ts i ≡ Some c → (x : Bool) → g.fits w c ≡ x → g.after n c ≡ (if x then Some k else None) → Goes g limit ts d i (Nt n ∷ []) [] i (Tm w ∷ k) []
+      by_fit c e true f q = record { leads = λ s below r. rw (next_is ts i c e, f, q) refl }
+      by_fit c e false f q = neither (other c e q) (rw (e, f) refl)
+
+      by_next : (o : Option g.Tok) → slice_get ts i ≡ o → Goes g limit ts d i (Nt n ∷ []) [] i (Tm w ∷ k) []
+      by_next None e = neither (at_the_end e) (rw e refl)
+      by_next (Some c) e = by_fit c e (g.fits w c) refl (h c e)

@@ -24,6 +24,10 @@ pub data Matches (g : Table) (m : Meaning g) : Stack g → List g.Val → List g
 pub along : (g : Table) (m : Meaning g) {s : Stack g} {vs r : List g.Val} {u w : List g.Tok} → u ≡ w → Matches g m s vs u r → Matches g m s vs w r
 along g m {s} {vs} {r} e x = subst (λ (y : List g.Tok). Matches g m s vs y r) e x
 
+-- over values that are equal
+pub with_values : (g : Table) (m : Meaning g) {s : Stack g} {vs us r : List g.Val} {w : List g.Tok} → vs ≡ us → Matches g m s vs w r → Matches g m s us w r
+with_values g m {s} {r} {w} e x = subst (λ (y : List g.Val). Matches g m s y w r) e x
+
 -- what is known of a line after a first token
 abbrev pub Row : (g : Table) → Meaning g → g.Line → g.Tok → Option (Stack g) → Type 0
 Row g m n c None = Unit {0}
@@ -32,7 +36,7 @@ Row g m n c (Some rhs) = (s : Stack g) (vs r : List g.Val) (w : List g.Tok) → 
 -- a row of a line n that goes on as the line l does, and then with k
 pub more_row : (g : Table) (m : Meaning g) (l n : g.Line) (c : g.Tok) (k : Stack g) →
     ((s : Stack g) (vs r : List g.Val) (w : List g.Tok) → Matches g m (Nt l ∷ (k ++ s)) vs w r → Matches g m (Nt n ∷ s) vs w r) →
-    (o : Option (Stack g)) → Row g m l c o → Row g m n c (then_more g o k)
+    (o : Option (Stack g)) → Row g m l c o → Row g m n c (then_more o k)
 more_row g m l n c k f None h = tt
 more_row g m l n c k f (Some rhs) h = λ s vs r w x.
     f s vs r (c ∷ w) (h (k ++ s) vs r w (subst (λ (y : Stack g). Matches g m y (g.value c ∷ vs) w r) (append_assoc rhs k s) x))

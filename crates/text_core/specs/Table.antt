@@ -103,6 +103,6 @@ bounded g limit [] (Seen n o) = Unexpected []
 bounded g limit (c ∷ w) (Seen n o) = if nat_lt limit n then Passed (c ∷ w) else bounded g limit w o
 
 -- what a line that goes on as another one does owes after its first token
-abbrev pub then_more : (g : Table) → Option (Stack g) → Stack g → Option (Stack g)
-then_more g None k = None
-then_more g (Some s) k = Some (s ++ k)
+abbrev pub then_more : {S : Type 0} → Option (List S) → List S → Option (List S)
+then_more None k = None
+then_more (Some s) k = Some (s ++ k)

@@ -8,15 +8,15 @@ use Rattle.f_grammar.specs.declared.cursor.Wanted.TheVariants as want
 use Rattle.idx_core.specs.declared.arith.Op.TheVariants.{Add, Sub, Mul}
 use Rattle.f_grammar.specs.Raw.{RawTy, Piece, RawTm}
 use Rattle.f_grammar.specs.Grammar.{tok, T, U, Ts, t_all, t_arrow, t_part, u_int, u_name, u_unit, u_tuple, u_paren, ts_one, ts_more, E, S, M, A, P, Es, e_fix, e_gen, e_sum, s_plus, s_minus, s_product, m_star, m_call, a_call, a_inst, a_part, p_name, p_plain, p_negative, p_paren, p_unit, p_tuple, p_proj, p_if0, es_one, es_more, open_T, open_U, open_Ts, open_E, open_S, open_M, open_A, open_P, open_Es}
-use Rattle.text_core.specs.Table.{Tm, Nt, Do, Mark, Done, Seen}
+use Rattle.text_core.specs.Table.{Tm, Nt, Do, Mark, Done, Seen, then_more}
 use Rattle.text_core.proofs.Reading as reading
 use Rattle.text_core.proofs.Reading.{Opens, opens}
-use Rattle.f_grammar.specs.Machine.{table, Line, LE, LP, LFields, MoreParts, MoreFactors, MoreSums, MoreFields, LT, LU, LTypes, MoreArrow, MoreTypes, Act, MakeVar, MakeNumber, MakeFix, MakeGen, MakeParen, MakeUnit, MakeTuple, MakeProj, MakeIf0, MakeCall, MakeInst, MakeArith, MakeFirst, MakeNext, TypeInt, TypeName, TypeParen, TypeUnit, TypeTuple, TypeAll, TypeArrow, TypeFirst, TypeNext, Stack, Val, OfToken, OfTerm, OfTerms, OfType, OfTypes, act, then_more, part_after, sum_tail, expr_after, fields_after, fields_tail, parts_after, parts_tail, unit_after, type_after, type_tail, types_after, types_tail, Outcome, marks, seen, exec}
+use Rattle.f_grammar.specs.Machine.{table, Line, LE, LP, LFields, MoreParts, MoreFactors, MoreSums, MoreFields, LT, LU, LTypes, MoreArrow, MoreTypes, Act, MakeVar, MakeNumber, MakeFix, MakeGen, MakeParen, MakeUnit, MakeTuple, MakeProj, MakeIf0, MakeCall, MakeInst, MakeArith, MakeFirst, MakeNext, TypeInt, TypeName, TypeParen, TypeUnit, TypeTuple, TypeAll, TypeArrow, TypeFirst, TypeNext, Stack, Val, OfToken, OfTerm, OfTerms, OfType, OfTypes, act, part_after, sum_tail, expr_after, fields_after, fields_tail, parts_after, parts_tail, unit_after, type_after, type_tail, types_after, types_tail, Outcome, marks, seen, exec}
 
-do_now : (w : List Token) (a : Act) (s : Stack) (vs : List Val) → exec w (Do a ∷ s) vs ≡ exec w s (act a vs)
+pub do_now : (w : List Token) (a : Act) (s : Stack) (vs : List Val) → exec w (Do a ∷ s) vs ≡ exec w s (act a vs)
 do_now w a s vs = reading.do_now table w a s vs
 
-mark_now : (w : List Token) (s : Stack) (vs : List Val) → exec w (Mark ∷ s) vs ≡ exec w s vs
+pub mark_now : (w : List Token) (s : Stack) (vs : List Val) → exec w (Mark ∷ s) vs ≡ exec w s vs
 mark_now w s vs = reading.mark_now table w s vs
 
 marked : (w : List Token) (a : Act) (s : Stack) (vs : List Val) → exec w (Mark ∷ (Do a ∷ s)) vs ≡ exec w s (act a vs)
@@ -28,7 +28,7 @@ seen_append a b o = reading.seen_append table a b o
 under : (a : List ℕ) {x y : Outcome} → x ≡ y → seen a x ≡ seen a y
 under a e = reading.under table a e
 
-next : (n : ℕ) {x y : Outcome} → x ≡ y → Seen n x ≡ Seen n y
+pub next : (n : ℕ) {x y : Outcome} → x ≡ y → Seen n x ≡ Seen n y
 next n e = reading.next table n e
 
 abbrev pub Leaves : Line → List Token → Type 0

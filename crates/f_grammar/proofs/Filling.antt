@@ -8,7 +8,7 @@ use Rattle.f_grammar.specs.declared.cursor.Wanted.TheVariants as want
 use Rattle.f_grammar.specs.Grammar.{tok}
 use Rattle.f_grammar.specs.Raw.{var, RInt}
 use Rattle.text_core.specs.Table.{Nt, Do, Mark, Seen}
-use Rattle.text_core.proofs.Reading as reading
+use Rattle.f_grammar.proofs.Complete.{do_now, mark_now, next}
 use Rattle.text_core.proofs.Rules as rules
 use Rattle.text_core.proofs.Rules.{Filling, good_row, quiet_row, AtLeast, Least}
 use Rattle.f_grammar.specs.Machine.{table, Class, Line, LE, LP, LParam, LBranches, LFields, MoreParts, MoreFactors, MoreSums, MoreFields, LT, LU, LTypes, MoreArrow, MoreTypes, Act, MakeVar, MakeUnit, TypeInt, TypeUnit, Stack, Val, OfToken, OfTerm, OfType, fits, after, may_end, sum_tail, type_tail, marks, exec, Outcome, act}
@@ -110,15 +110,6 @@ wanted _ = omega arith
 
 silent : (n : Line) → may_end n ≡ true → (w : List Token) → AtLeast table filling (wants n) w → (s : Stack) (vs : List Val) → exec w (Nt n ∷ s) vs ≡ exec w s vs
 silent n e w h s vs = rules.silent table filling (λ m c. quiet m c.kind c.span) n e w h s vs
-
-next : (n : ℕ) {x y : Outcome} → x ≡ y → Seen n x ≡ Seen n y
-next n e = reading.next table n e
-
-do_now : (w : List Token) (a : Act) (s : Stack) (vs : List Val) → exec w (Do a ∷ s) vs ≡ exec w s (act a vs)
-do_now w a s vs = reading.do_now table w a s vs
-
-mark_now : (w : List Token) (s : Stack) (vs : List Val) → exec w (Mark ∷ s) vs ≡ exec w s vs
-mark_now w s vs = reading.mark_now table w s vs
 
 pub reads : (n : Line) → may_end n ≡ false → (w : List Token) → AtLeast table filling (wants n) w → (s : Stack) (vs : List Val) → Least table n (least n) w s vs
 reads LE e w h s vs = record {

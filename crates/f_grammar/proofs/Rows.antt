@@ -94,7 +94,7 @@ along m e = rules.along table meaning e m
 
 -- the values are those
 with_values : {s : Stack} {vs us r : List Val} {w : List Token} → vs ≡ us → Meets s vs w r → Meets s us w r
-with_values {s} {r} {w} e m = subst (λ (x : List Val). Meets s x w r) e m
+with_values e m = rules.with_values table meaning e m
 
 abbrev Begun : Line → Kind → Stack → Span → Type 0
 Begun n c rhs o = (s : Stack) (vs r : List Val) (w : List Token) → Meets (rhs ++ s) (OfToken (tok c o) ∷ vs) w r → Meets (Nt n ∷ s) vs (tok c o ∷ w) r

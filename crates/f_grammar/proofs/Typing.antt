@@ -69,11 +69,7 @@ fails_deep ts d i c n rhs rest vs e h q r m = rw h.0 (step.line_too_deep table 2
 
 -- rows
 pub not_fits : (w : Wanted) (o : Option Token) (c : Token) → next_of table w o ≡ None → o ≡ Some c → fits w c.kind ≡ false
-not_fits w o c e q = by_fit (fits w c.kind) refl (subst (λ (x : Option Token). next_of table w x ≡ None) q e)
-  where
-    by_fit : (x : Bool) → fits w c.kind ≡ x → (if x then Some c else None) ≡ None → fits w c.kind ≡ false
-    by_fit true f h = absurd (cc)
-    by_fit false f h = f
+not_fits w o c e q = step.not_fits table w o c e q
 
 abbrev pub all_owed : Stack
 all_owed = Tm want.Name ∷ (Tm want.Dot ∷ (Nt LT ∷ (Mark ∷ (Do TypeAll ∷ []))))
@@ -82,7 +78,7 @@ pub after_all : (c : Kind) → fits want.All c ≡ true → type_after c ≡ Som
 after_all k.All e = refl
 after_all _ e = absurd (cc)
 
-not_all : (c : Kind) → fits want.All c ≡ false → type_after c ≡ then_more table (unit_after c) type_tail
+not_all : (c : Kind) → fits want.All c ≡ false → type_after c ≡ then_more (unit_after c) type_tail
 not_all k.All e = absurd (cc)
 not_all _ e = refl
 
@@ -101,7 +97,7 @@ after_more : (c : Kind) → fits want.RightAngle c ≡ true → types_after c �
 after_more k.RightAngle e = refl
 after_more _ e = absurd (cc)
 
-not_more : (c : Kind) → fits want.RightAngle c ≡ false → types_after c ≡ then_more table (type_after c) types_tail
+not_more : (c : Kind) → fits want.RightAngle c ≡ false → types_after c ≡ then_more (type_after c) types_tail
 not_more k.RightAngle e = absurd (cc)
 not_more _ e = refl
 

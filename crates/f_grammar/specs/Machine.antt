@@ -8,7 +8,7 @@ use Rattle.f_lexer.specs.declared.kind.Kind.TheVariants as k
 use Rattle.f_grammar.specs.declared.cursor.Wanted.{Wanted}
 use Rattle.f_grammar.specs.declared.cursor.Wanted.TheVariants as want
 use Rattle.text_core.specs.Table as table_of
-use Rattle.text_core.specs.Table.{Sym, Tm, Nt, Do, Mark, Table}
+use Rattle.text_core.specs.Table.{Sym, Tm, Nt, Do, Mark, Table, then_more}
 use Rattle.f_grammar.specs.Grammar.{E, open_E}
 use Rattle.f_grammar.specs.Raw.{RawTy, RInt, RName, RTuple, RArrow, RAll, raw_tys, RawTm, Piece, within, var, number, func, gen, call, inst, tuple, proj, arith, if0}
 
@@ -119,10 +119,6 @@ act TypeArrow (OfType b ∷ OfToken s ∷ OfType a ∷ vs) = OfType (RArrow a b)
 act TypeFirst (OfType t ∷ vs) = OfTypes (t ∷ []) ∷ vs
 act TypeNext (OfType t ∷ OfToken c ∷ OfTypes ts ∷ vs) = OfTypes (ts ++ t ∷ []) ∷ vs
 act _ vs = vs
-
-abbrev pub then_more : Option Stack → Stack → Option Stack
-then_more None s = None
-then_more (Some r) s = Some (r ++ s)
 
 -- what is still owed of a line after its first token, or none where it cannot begin with it
 abbrev pub part_after : Kind → Option Stack

@@ -5,7 +5,7 @@ use mathlib.Core.Former.{Count}
 use Rattle.idx_core.specs.declared.span.Span.{Span}
 use Rattle.t_terms.specs.Raw.{RCode, RTuple, MoreRawRegs, MoreRawFields, raw_regs, raw_fields}
 use Rattle.t_terms.specs.declared.token.Token.{Token}
-use Rattle.t_terms.specs.Machine.{register_of, flag_of, reg_of, field_of}
+use Rattle.t_terms.specs.GrammarTable.{register_of, flag_of, reg_of, field_of}
 use Rattle.t_grammar.specs.declared.raw.RawType.{RawType, Row_of-RawFile-regs-3 as RegRow, end_of-RawFile-regs-3 as end_of_regs, more_of-RawFile-regs-3 as more_of_regs, Row_of-RawType-Tuple-0-2 as FieldRow, end_of-RawType-Tuple-0-2 as end_of_fields, more_of-RawType-Tuple-0-2 as more_of_fields, items-the_row-RawType-Tuple-0-2, items_hidden-the_row-RawType-Tuple-0-2-1, items-the_row-RawFile-regs-3, items_hidden-the_row-RawFile-regs-3-0}
 use Rattle.t_grammar.specs.declared.raw.RawType.TheVariants.{Code, Tuple, Code', Tuple'}
 use Rattle.t_grammar.specs.declared.raw.RawFile.{RawFile}

@@ -8,7 +8,7 @@ use Rattle.text_core.proofs.Going as step
 use Rattle.t_terms.specs.declared.token.Token.{Token}
 use Rattle.t_terms.specs.declared.token.Kind.{Kind}
 use Rattle.t_terms.specs.declared.wanted.Wanted.{Wanted}
-use Rattle.t_terms.specs.Machine.{table, Line, Stack, Val, OfToken, Act, act, fits, after, may_end}
+use Rattle.t_terms.specs.GrammarTable.{table, Line, Stack, Val, OfToken, Act, act, fits, after, may_end}
 use Rattle.t_grammar.specs.declared.cursor.Stopped.{Stopped}
 use Rattle.t_grammar.specs.declared.cursor.Stopped.TheVariants.{Memory, Unexpected, TooDeep}
 use Rattle.t_grammar.specs.Cursor.{Next, Misses, TwoMissed}
@@ -29,11 +29,7 @@ pub within : (ts : List Token) (i : ℕ) (w : Wanted) (c : Token) → Next ts i 
 within ts i w c e = slice_get_within ts i c (is_next ts i w c e)
 
 pub not_fits : (w : Wanted) (o : Option Token) (c : Token) → next_of table w o ≡ None → o ≡ Some c → fits w c.kind ≡ false
-not_fits w o c e q = by_fit (fits w c.kind) refl (subst (λ (x : Option Token). next_of table w x ≡ None) q e)
-  where
-    by_fit : (x : Bool) → fits w c.kind ≡ x → (if x then Some c else None) ≡ None → fits w c.kind ≡ false
-    by_fit true f h = absurd (cc)
-    by_fit false f h = f
+not_fits w o c e q = step.not_fits table w o c e q
 
 -- what is owed goes on
 pub start : (ts : List Token) (d i : ℕ) (owed : Stack) → Moves ts d i owed [] i owed []
@@ -142,18 +138,7 @@ module _ (ts : List Token) (d i : ℕ) (c : Token) (n l : Line) (w : Wanted) (x 
 -- a line that goes on as a token of a class with k after it
 pub as_token : (ts : List Token) (d i : ℕ) (n : Line) (w : Wanted) (k : Stack) → may_end n ≡ false → ((c : Token) → slice_get ts i ≡ Some c → after n c.kind ≡ (if fits w c.kind then Some k else None)) →
     Moves ts d i (Nt n ∷ []) [] i (Tm w ∷ k) []
-as_token ts d i n w k m h = by_next (slice_get ts i) refl
-  where
-    neither : Lacks table ts i n → Misses ts i w → Moves ts d i (Nt n ∷ []) [] i (Tm w ∷ k) []
-    neither l q = record { leads = λ s below r. (step.line_lacks table most_open ts d i n [] [] m l).leads s below r ∙ sym ((step.token_misses table most_open ts d i w k [] q).leads s below r) }
-
-    by_fit : (c : Token) → slice_get ts i ≡ Some c → (x : Bool) → fits w c.kind ≡ x → after n c.kind ≡ (if x then Some k else None) → Moves ts d i (Nt n ∷ []) [] i (Tm w ∷ k) []
-    by_fit c e true f g = record { leads = λ s below r. rw (step.next_is ts i c e, f, g) refl }
-    by_fit c e false f g = neither (other c e g) (rw (e, f) refl)
-
-    by_next : (o : Option Token) → slice_get ts i ≡ o → Moves ts d i (Nt n ∷ []) [] i (Tm w ∷ k) []
-    by_next None e = neither (at_the_end e) (rw e refl)
-    by_next (Some c) e = by_fit c e (fits w c.kind) refl (h c e)
+as_token ts d i n w k m h = step.as_token table most_open ts d i n w k m h
 
 -- a list: items with commas between them, up to a closing bracket
 abbrev pub list_left : Line → Wanted → Act → Stack

@@ -1,7 +1,7 @@
 // The next tokens.
 ghost use Rattle.std.specs.Prelude.{◌≡◌, ◌≤◌, slice_get, nat_abs};
 ghost use Rattle.text_core.specs.Going.{next_of};
-ghost use Rattle.t_terms.specs.Machine.{fits, table, register_of, value_of, flag_of};
+ghost use Rattle.t_terms.specs.GrammarTable.{fits, table, register_of, value_of, flag_of};
 ghost use Rattle.t_terms.specs.Text.{most_open};
 ghost use Rattle.t_grammar.specs.Cursor.{IsExpected, AreExpected, IsHeld, IsOpened};
 ghost use Rattle.t_grammar.specs.declared.cursor.Stopped.TheVariants as stopped;

@@ -12,7 +12,7 @@ use Rattle.t_terms.specs.declared.token.Token.{Token}
 use Rattle.t_terms.specs.Tokens.{IsCut}
 use Rattle.t_terms.specs.Raw.{RawBlock}
 use Rattle.t_terms.specs.Grammar.{Program}
-use Rattle.t_terms.specs.Machine.{table, OfBlocks}
+use Rattle.t_terms.specs.GrammarTable.{table, OfBlocks}
 use Rattle.t_terms.specs.Text.{most_open, FirstFault, in_tokens, unexpected, cut_short, too_deep, IsFirstFault}
 use Rattle.t_terms.proofs.Instance.{assembly_exact}
 use Rattle.t_lexer.specs.Cut.{IsTokenFault}

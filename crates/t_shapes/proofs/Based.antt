@@ -6,7 +6,7 @@ use Rattle.text_core.specs.Table.{Nt, Do, Mark}
 use Rattle.t_terms.specs.declared.token.Token.{Token}
 use Rattle.t_terms.specs.declared.wanted.Wanted.TheVariants as want
 use Rattle.t_terms.specs.Raw.{RawTy, RPlain, ending}
-use Rattle.t_terms.specs.Machine.{LV, LArgs, LSomeTypes, LTypeList, NoTypes, MakeBase, MakeApply, base_of, OfToken, OfValue, OfList}
+use Rattle.t_terms.specs.GrammarTable.{LV, LArgs, LSomeTypes, LTypeList, MakeNoTypes, MakeBase, MakeApply, base_of, OfToken, OfValue, OfList}
 use Rattle.t_terms.specs.Text.{most_open}
 use Rattle.t_grammar.specs.declared.raw.RawType.{RawType}
 use Rattle.t_grammar.specs.declared.cursor.Stopped.{Stopped}
@@ -25,8 +25,8 @@ pub types_empty : (ts : List Token) (d i : ℕ) (c : Token) → d ≤ most_open 
 types_empty ts d i c h e = record {
   forward = omega arith;
   in_range = (let l = within ts i want.RightBracket c e in omega arith);
-  same = by_do NoTypes [] (OfToken c ∷ []) (OfList (ending [] c.span.end) ∷ [])
-      (begins ts d i c LTypeList (Do NoTypes ∷ []) (is_next ts i want.RightBracket c e) (no_types c.kind (is_of ts i want.RightBracket c e)) (omega arith)) (λ below. refl);
+  same = by_do MakeNoTypes [] (OfToken c ∷ []) (OfList (ending [] c.span.end) ∷ [])
+      (begins ts d i c LTypeList (Do MakeNoTypes ∷ []) (is_next ts i want.RightBracket c e) (no_types c.kind (is_of ts i want.RightBracket c e)) (omega arith)) (λ below. refl);
 }
 
 -- a base, with types after it or none

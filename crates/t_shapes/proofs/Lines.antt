@@ -6,7 +6,7 @@ use Rattle.t_terms.specs.declared.token.Token.{Token}
 use Rattle.t_terms.specs.declared.token.Kind.{Kind}
 use Rattle.t_terms.specs.declared.token.Kind.TheVariants as k
 use Rattle.t_terms.specs.declared.wanted.Wanted.TheVariants as want
-use Rattle.t_terms.specs.Machine.{table, LT, LTypes, LTypeList, LSomeTypes, MoreTypes, MakeTypes, FirstType, NextType, CloseTypes, NoTypes, LV, LArgs, LPacked, MakeApply, MakePacked, LTo, MakeTo, LAt, MakeAt, LIndex, MakeIndex, LTarget, MakeTarget, LInt, MakeInt, LBlock, MoreBlocks, LProgram, FirstBlock, MakeProgram, fits, after, type_list_after, some_types_after, types_tail, value_after, base_owed, instr_after, block_owed, blocks_tail, end_after}
+use Rattle.t_terms.specs.GrammarTable.{table, LT, LTypes, LTypeList, LSomeTypes, LMoreTypes, MakeTypes, MakeFirstType, MakeNextType, MakeClosedTypes, MakeNoTypes, LV, LArgs, LPacked, MakeApply, MakePacked, LTo, MakeTo, LAt, MakeAt, LIndex, MakeIndex, LTarget, MakeTarget, LInt, MakeInt, LBlock, LMoreBlocks, LProgram, MakeFirstBlock, MakeProgram, fits, after, type_list_after, some_types_after, types_tail, value_after, base_owed, instr_after, block_owed, blocks_tail, end_after}
 use Rattle.t_terms.specs.Text.{most_open}
 use Rattle.t_grammar.specs.Cursor.{Misses}
 use Rattle.t_grammar.proofs.Stepping.{Moves, not_fits, Opens, ListLine}
@@ -23,31 +23,31 @@ opens_types = record { takes = λ c e. takes c e; no_other = λ c e. no_other c 
     no_other k.LeftBracket e = absurd (cc)
     no_other _ e = refl
 
-pub comma_types : Opens MoreTypes want.Comma (Nt LT ∷ (Do NextType ∷ (Nt MoreTypes ∷ [])))
+pub comma_types : Opens LMoreTypes want.Comma (Nt LT ∷ (Do MakeNextType ∷ (Nt LMoreTypes ∷ [])))
 comma_types = record { takes = λ c e. takes c e; no_other = λ c e. no_other c e }
   where
-    takes : (c : Kind) → fits want.Comma c ≡ true → after MoreTypes c ≡ Some (Nt LT ∷ (Do NextType ∷ (Nt MoreTypes ∷ [])))
+    takes : (c : Kind) → fits want.Comma c ≡ true → after LMoreTypes c ≡ Some (Nt LT ∷ (Do MakeNextType ∷ (Nt LMoreTypes ∷ [])))
     takes k.Comma e = refl
     takes _ e = absurd (cc)
 
-    no_other : (c : Kind) → fits want.Comma c ≡ false → after MoreTypes c ≡ None
+    no_other : (c : Kind) → fits want.Comma c ≡ false → after LMoreTypes c ≡ None
     no_other k.Comma e = absurd (cc)
     no_other _ e = refl
 
 pub some_begin : (ts : List Token) (d i : ℕ) → Moves ts d i (Nt LSomeTypes ∷ []) [] i (Nt LT ∷ types_tail) []
 some_begin ts d i = step.as_any table most_open ts d i LT LSomeTypes types_tail [] [] refl refl (λ c q. refl)
 
-pub list_types : ListLine LSomeTypes MoreTypes want.RightBracket (Nt LT ∷ []) FirstType NextType CloseTypes
+pub list_types : ListLine LSomeTypes LMoreTypes want.RightBracket (Nt LT ∷ []) MakeFirstType MakeNextType MakeClosedTypes
 list_types = record { begin = λ ts d i e. some_begin ts d i; comma = comma_types; ends = refl; flat = refl }
 
-types_begin : (c : Kind) → fits want.RightBracket c ≡ false → type_list_after c ≡ then_more table (some_types_after c) []
+types_begin : (c : Kind) → fits want.RightBracket c ≡ false → type_list_after c ≡ then_more (some_types_after c) []
 types_begin k.RightBracket e = absurd (cc)
 types_begin _ e = refl
 
 pub as_some : (ts : List Token) (d i : ℕ) → Misses ts i want.RightBracket → Moves ts d i (Nt LTypeList ∷ []) [] i (Nt LSomeTypes ∷ []) []
 as_some ts d i e = step.as_any table most_open ts d i LSomeTypes LTypeList [] [] [] refl refl (λ c q. types_begin c.kind (not_fits want.RightBracket (slice_get ts i) c e q))
 
-pub no_types : (c : Kind) → fits want.RightBracket c ≡ true → type_list_after c ≡ Some (Do NoTypes ∷ [])
+pub no_types : (c : Kind) → fits want.RightBracket c ≡ true → type_list_after c ≡ Some (Do MakeNoTypes ∷ [])
 no_types k.RightBracket e = refl
 no_types _ e = absurd (cc)
 
@@ -118,7 +118,7 @@ pub block_begins : (c : Kind) → after LBlock c ≡ (if fits want.Name c then S
 block_begins k.Name = refl
 block_begins _ = refl
 
-pub program_begins : (c : Kind) → after LProgram c ≡ (if fits want.Tal c then Some (Tm want.One ∷ (Nt LBlock ∷ (Do FirstBlock ∷ (Nt MoreBlocks ∷ (Do MakeProgram ∷ []))))) else None)
+pub program_begins : (c : Kind) → after LProgram c ≡ (if fits want.Tal c then Some (Tm want.One ∷ (Nt LBlock ∷ (Do MakeFirstBlock ∷ (Nt LMoreBlocks ∷ (Do MakeProgram ∷ []))))) else None)
 program_begins k.Tal = refl
 program_begins _ = refl
 
@@ -156,10 +156,10 @@ no_end k.Halt a b = absurd (b refl)
 no_end _ a b = refl
 
 -- a block that follows on blocks, and none
-pub block_follows : (c : Kind) → fits want.Name c ≡ true → (after LBlock c ≡ Some block_owed) × (after MoreBlocks c ≡ Some (block_owed ++ blocks_tail))
+pub block_follows : (c : Kind) → fits want.Name c ≡ true → (after LBlock c ≡ Some block_owed) × (after LMoreBlocks c ≡ Some (block_owed ++ blocks_tail))
 block_follows k.Name e = (refl, refl)
 block_follows _ e = absurd (cc)
 
-pub no_block : (c : Kind) → fits want.Name c ≡ false → after MoreBlocks c ≡ None
+pub no_block : (c : Kind) → fits want.Name c ≡ false → after LMoreBlocks c ≡ None
 no_block k.Name e = absurd (cc)
 no_block _ e = refl

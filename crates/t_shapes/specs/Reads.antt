@@ -11,7 +11,7 @@ use Rattle.t_terms.specs.declared.wanted.Wanted.TheVariants as want
 use Rattle.t_terms.specs.Raw as tree
 use Rattle.t_terms.specs.Raw.{ending}
 use Rattle.t_terms.specs.Text.{most_open}
-use Rattle.t_terms.specs.Machine.{table, Line, Stack, LTo, LV, LPacked, LAt, LIndex, LTypes, LTypeList, LSomeTypes, LTarget, LInt, LI, LEnd, LBlock, LBinds, LFile, LProgram, MoreSteps, MoreBlocks, MakeProgram, MakeBnz, MakeLd, MakeMalloc, MakeMov, MakeSt, MakeUnpack, NoSteps, arith_owed, instr_after, OfToken, OfStep, OfSteps, OfFile, OfNames, OfBlocks, OfList, OfIndex, OfAt, OfTarget, OfPlace, OfReg, OfValue, OfPacked, OfEnd, OfBlock}
+use Rattle.t_terms.specs.GrammarTable.{table, Line, Stack, LTo, LV, LPacked, LAt, LIndex, LTypes, LTypeList, LSomeTypes, LTarget, LInt, LI, LEnd, LBlock, LBinds, LFile, LProgram, LMoreSteps, LMoreBlocks, MakeProgram, MakeBnz, MakeLd, MakeMalloc, MakeMov, MakeSt, MakeUnpack, MakeNoSteps, arith_owed, instr_after, OfToken, OfStep, OfSteps, OfFile, OfNames, OfBlocks, OfList, OfIndex, OfAt, OfTarget, OfPlace, OfReg, OfValue, OfPacked, OfEnd, OfBlock}
 use Rattle.t_grammar.specs.Raw.{raw, raw_file}
 use Rattle.t_grammar.specs.Reads.{ReadsOwed, Fails, IsLine}
 use Rattle.t_grammar.specs.declared.cursor.Stopped.{Stopped}
@@ -79,7 +79,7 @@ pub record ReadsHead (ts : List Token) (i : ℕ) (f : FoundHead) : Type 0 where
 
 -- I .. I
 abbrev pub steps_owed : Stack
-steps_owed = Do NoSteps ∷ (Nt MoreSteps ∷ [])
+steps_owed = Do MakeNoSteps ∷ (Nt LMoreSteps ∷ [])
 
 pub record ReadsSteps (ts : List Token) (i : ℕ) (f : FoundSteps) : Type 0 where
   pub forward : i ≤ f.next
@@ -90,7 +90,7 @@ pub record ReadsSteps (ts : List Token) (i : ℕ) (f : FoundSteps) : Type 0 wher
 pub record ReadsSomeSteps (ts : List Token) (i j : ℕ) (is : List (tree.RawInstr × Span)) : Type 0 where
   pub forward : i ≤ j
   pub in_range : j ≤ length ts
-  pub same : Goes table most_open ts 0 i steps_owed [] j (Nt MoreSteps ∷ []) (OfSteps is ∷ [])
+  pub same : Goes table most_open ts 0 i steps_owed [] j (Nt LMoreSteps ∷ []) (OfSteps is ∷ [])
 
 -- some blocks were read, and there may be more
 pub record ReadsSomeBlocks (ts : List Token) (j : ℕ) (bs : List tree.RawBlock) : Type 0 where
@@ -98,7 +98,7 @@ pub record ReadsSomeBlocks (ts : List Token) (j : ℕ) (bs : List tree.RawBlock)
   pub one : Token
   pub in_range : j ≤ length ts
   pub same : Goes table most_open ts 0 0 (Nt LProgram ∷ []) [] j
-      (Nt MoreBlocks ∷ (Do MakeProgram ∷ [])) (OfBlocks bs ∷ (OfToken one ∷ (OfToken tal ∷ [])))
+      (Nt LMoreBlocks ∷ (Do MakeProgram ∷ [])) (OfBlocks bs ∷ (OfToken one ∷ (OfToken tal ∷ [])))
 
 -- all the tokens are a program, with these blocks; or the reading of them stops
 abbrev pub IsProgram : List Token → List RawBlock → Type 0

@@ -1,7 +1,7 @@
 // The reading of values.
 ghost use Rattle.std.specs.Prelude.{◌≡◌, ◌≤◌, length, slice_get, Some, true, false, MatchOption, MatchResult};
 ghost use Rattle.t_terms.specs.Raw.{RPack};
-ghost use Rattle.t_terms.specs.Machine.{base_of};
+ghost use Rattle.t_terms.specs.GrammarTable.{base_of};
 ghost use Rattle.t_terms.specs.Text.{most_open};
 ghost use Rattle.t_grammar.specs.Raw.{raw};
 ghost use Rattle.t_grammar.specs.declared.cursor.Stopped.TheVariants as stopped;

@@ -79,15 +79,6 @@ names_grow (Mov rd v) d = omega arith
 names_grow (St rd j rs) d = omega arith
 names_grow (Unpack rd v) d = omega arith
 
-pub names_grow_by_one : (i : TInstr) (d : ℕ) → names_after i d ≤ d + 1
-names_grow_by_one (Arith op rd rs v) d = omega arith
-names_grow_by_one (Bnz r v) d = omega arith
-names_grow_by_one (Ld rd rs j) d = omega arith
-names_grow_by_one (Malloc rd ts) d = omega arith
-names_grow_by_one (Mov rd v) d = omega arith
-names_grow_by_one (St rd j rs) d = omega arith
-names_grow_by_one (Unpack rd v) d = omega arith
-
 -- The body and its end keep below n exactly where the rest keeps below the depth that was come to.
 abbrev pub BelowFrom : ℕ → List (Instr × Span) → TEnd → ℕ → ℕ → Type 0
 BelowFrom n xs e i depth = BodyBelow n (body xs) e ↔ BodyBelow depth (body (drop i xs)) e

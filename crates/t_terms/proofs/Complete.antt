@@ -9,15 +9,15 @@ use Rattle.t_terms.specs.declared.token.Token.{Token}
 use Rattle.t_terms.specs.declared.wanted.Wanted.TheVariants as want
 use Rattle.t_terms.specs.Raw.{RawTy, RawRegs, RawReg, RawField, RawBase, RawValue, RPlain, RawInstr, RawEnd, RawBlock, Piece, ending}
 use Rattle.t_terms.specs.Grammar.{tok, Names, ns_one, ns_more, Binds, bs_none, bs_names, IsFlag, is_zero, is_one, is_minus_zero, T, t_int, t_name, t_code, t_some, t_unit, t_tuple, File, f_none, f_regs, Rs, rs_one, rs_more, Fs, fs_one, fs_more, Ts, ts_one, ts_more, N, n_reg, n_plain, n_negative, n_label, V, v_base, v_apply, v_pack, IsOp, is_add, is_sub, is_mul, I, i_arith, i_bnz, i_ld, i_malloc_none, i_malloc, i_mov, i_st, i_unpack, Is, is_none, is_more, End, e_jmp, e_halt, Block, b_block, Blocks, bs_one, bs_more, Program, p_program, open_Names, open_Binds, open_T, open_File, open_Rs, open_Fs, open_Ts, open_V, open_I, open_Is, open_End, open_Block, open_Blocks, open_Program}
-use Rattle.text_core.specs.Table.{Tm, Nt, Do, Mark, Done, Seen}
+use Rattle.text_core.specs.Table.{Tm, Nt, Do, Mark, Done, Seen, then_more}
 use Rattle.text_core.proofs.Reading as reading
 use Rattle.text_core.proofs.Reading.{Opens, opens}
-use Rattle.t_terms.specs.Machine.{table, Line, LProgram, LBlock, MoreBlocks, LBinds, LNames, MoreNames, LFile, LRegs, MoreRegs, LT, LFields, MoreFields, LTypeList, LSomeTypes, MoreTypes, LV, LArgs, LTo, LI, MoreSteps, LEnd, Act, NoNames, FirstName, NextName, CloseNames, MakeBinds, NoRegs, FirstReg, NextReg, CloseRegs, MakeFile, TypeInt, TypeName, TypeCode, TypeSome, NoFields, FirstField, NextField, CloseFields, TypeTuple, NoTypes, FirstType, NextType, CloseTypes, MakeTypes, MakeBase, MakeApply, MakePacked, MakePack, MakeTo, MakeIndex, MakeAt, MakeInt, MakeArith, MakeBnz, MakeLd, MakeMalloc, MakeMov, MakeSt, MakeUnpack, NoSteps, NextStep, MakeJmp, MakeHalt, MakeBlock, FirstBlock, NextBlock, MakeProgram, Stack, Val, OfToken, OfNames, OfType, OfRegs, OfFile, OfFields, OfTypes, OfValue, OfStep, OfSteps, OfEnd, OfBlock, OfBlocks, act, then_more, type_after, fields_after, fields_tail, type_list_after, some_types_after, types_tail, instr_after, steps_after, steps_tail, block_after, blocks_after, blocks_tail, Outcome, marks, seen, exec}
+use Rattle.t_terms.specs.GrammarTable.{table, Line, LProgram, LBlock, LMoreBlocks, LBinds, LNames, LMoreNames, LFile, LRegs, LMoreRegs, LT, LFields, LMoreFields, LTypeList, LSomeTypes, LMoreTypes, LV, LArgs, LTo, LI, LMoreSteps, LEnd, Act, MakeNoNames, MakeFirstName, MakeNextName, MakeClosedNames, MakeBinds, MakeNoRegs, MakeFirstReg, MakeNextReg, MakeClosedRegs, MakeFile, MakeTypeInt, MakeTypeName, MakeTypeCode, MakeTypeSome, MakeNoFields, MakeFirstField, MakeNextField, MakeClosedFields, MakeTypeTuple, MakeNoTypes, MakeFirstType, MakeNextType, MakeClosedTypes, MakeTypes, MakeBase, MakeApply, MakePacked, MakePack, MakeTo, MakeIndex, MakeAt, MakeInt, MakeArith, MakeBnz, MakeLd, MakeMalloc, MakeMov, MakeSt, MakeUnpack, MakeNoSteps, MakeNextStep, MakeJmp, MakeHalt, MakeBlock, MakeFirstBlock, MakeNextBlock, MakeProgram, Stack, Val, OfToken, OfNames, OfType, OfRegs, OfFile, OfFields, OfTypes, OfValue, OfStep, OfSteps, OfEnd, OfBlock, OfBlocks, act, type_after, fields_after, fields_tail, type_list_after, some_types_after, types_tail, instr_after, steps_after, steps_tail, block_after, blocks_after, blocks_tail, Outcome, marks, seen, exec}
 
-do_now : (w : List Token) (a : Act) (s : Stack) (vs : List Val) → exec w (Do a ∷ s) vs ≡ exec w s (act a vs)
+pub do_now : (w : List Token) (a : Act) (s : Stack) (vs : List Val) → exec w (Do a ∷ s) vs ≡ exec w s (act a vs)
 do_now w a s vs = reading.do_now table w a s vs
 
-marked : (w : List Token) (a : Act) (s : Stack) (vs : List Val) → exec w (Mark ∷ (Do a ∷ s)) vs ≡ exec w s (act a vs)
+pub marked : (w : List Token) (a : Act) (s : Stack) (vs : List Val) → exec w (Mark ∷ (Do a ∷ s)) vs ≡ exec w s (act a vs)
 marked w a s vs = reading.marked table w a s vs
 
 seen_append : (a b : List ℕ) (o : Outcome) → seen (a ++ b) o ≡ seen a (seen b o)
@@ -26,7 +26,7 @@ seen_append a b o = reading.seen_append table a b o
 under : (a : List ℕ) {x y : Outcome} → x ≡ y → seen a x ≡ seen a y
 under a e = reading.under table a e
 
-next : (n : ℕ) {x y : Outcome} → x ≡ y → Seen n x ≡ Seen n y
+pub next : (n : ℕ) {x y : Outcome} → x ≡ y → Seen n x ≡ Seen n y
 next n e = reading.next table n e
 
 abbrev pub Leaves : Line → List Token → Type 0
@@ -59,11 +59,11 @@ list_as_type o s vs = reading.as_line table LT LTypeList types_tail (λ c r e. l
 some_as_type : {w : List Token} → Opens table LT w → (s : Stack) (vs : List Val) → exec w (Nt LSomeTypes ∷ s) vs ≡ exec w (Nt LT ∷ (types_tail ++ s)) vs
 some_as_type o s vs = reading.as_line table LT LSomeTypes types_tail (λ c r e. some_type c.kind r e) o s vs
 
-steps_as_instr : {w : List Token} → Opens table LI w → (s : Stack) (vs : List Val) → exec w (Nt MoreSteps ∷ s) vs ≡ exec w (Nt LI ∷ (steps_tail ++ s)) vs
-steps_as_instr o s vs = reading.as_line table LI MoreSteps steps_tail (λ c r e. steps_instr c.kind r e) o s vs
+steps_as_instr : {w : List Token} → Opens table LI w → (s : Stack) (vs : List Val) → exec w (Nt LMoreSteps ∷ s) vs ≡ exec w (Nt LI ∷ (steps_tail ++ s)) vs
+steps_as_instr o s vs = reading.as_line table LI LMoreSteps steps_tail (λ c r e. steps_instr c.kind r e) o s vs
 
-blocks_as_block : {w : List Token} → Opens table LBlock w → (s : Stack) (vs : List Val) → exec w (Nt MoreBlocks ∷ s) vs ≡ exec w (Nt LBlock ∷ (blocks_tail ++ s)) vs
-blocks_as_block o s vs = reading.as_line table LBlock MoreBlocks blocks_tail (λ c r e. blocks_block c.kind r e) o s vs
+blocks_as_block : {w : List Token} → Opens table LBlock w → (s : Stack) (vs : List Val) → exec w (Nt LMoreBlocks ∷ s) vs ≡ exec w (Nt LBlock ∷ (blocks_tail ++ s)) vs
+blocks_as_block o s vs = reading.as_line table LBlock LMoreBlocks blocks_tail (λ c r e. blocks_block c.kind r e) o s vs
 
 -- what begins with a form begins its line
 more : (n : Line) {u : List Token} (w : List Token) → Opens table n u → Opens table n (u ++ w)
@@ -117,7 +117,7 @@ leaves_End : {w : List Token} {e : RawEnd × Span} → End w e → (rest : List 
 leaves_End (e_jmp a x) rest = λ _ _. refl
 leaves_End (e_halt a o i c) rest = λ _ _. refl
 
-ends_steps : {w : List Token} {e : RawEnd × Span} → End w e → (rest : List Token) → Leaves MoreSteps (w ++ rest)
+ends_steps : {w : List Token} {e : RawEnd × Span} → End w e → (rest : List Token) → Leaves LMoreSteps (w ++ rest)
 ends_steps (e_jmp a x) rest = λ _ _. refl
 ends_steps (e_halt a o i c) rest = λ _ _. refl
 
@@ -125,74 +125,74 @@ leaves_Block : {w : List Token} {b : RawBlock} → Block w b → (rest : List To
 leaves_Block (b_block l c d p x y z e) rest = λ _ _. refl
 
 read_Names : {w : List Token} {ns : List Span} (x : Names w ns) (s : Stack) (vs : List Val) (rest : List Token) →
-    exec (w ++ rest) (Nt LNames ∷ s) vs ≡ seen (open_Names x (marks s)) (exec rest (Nt MoreNames ∷ (Tm want.RightBracket ∷ (Do CloseNames ∷ s))) (OfNames ns ∷ vs))
-read_Names (ns_one n) s vs rest = next (marks s) (do_now rest FirstName _ _)
+    exec (w ++ rest) (Nt LNames ∷ s) vs ≡ seen (open_Names x (marks s)) (exec rest (Nt LMoreNames ∷ (Tm want.RightBracket ∷ (Do MakeClosedNames ∷ s))) (OfNames ns ∷ vs))
+read_Names (ns_one n) s vs rest = next (marks s) (do_now rest MakeFirstName _ _)
 read_Names (ns_more {w} {ns} c n x) s vs rest =
     rw (append_assoc w (tok k.Comma c ∷ (tok k.Name n ∷ [])) rest, seen_append (open_Names x (marks s)) (marks s ∷ (marks s ∷ [])))
-    (read_Names x s vs (tok k.Comma c ∷ (tok k.Name n ∷ rest)) ∙ under (open_Names x (marks s)) (next (marks s) (next (marks s) (do_now rest NextName _ _))))
+    (read_Names x s vs (tok k.Comma c ∷ (tok k.Name n ∷ rest)) ∙ under (open_Names x (marks s)) (next (marks s) (next (marks s) (do_now rest MakeNextName _ _))))
 
 read_Binds : {w : List Token} {ns : List Span} (x : Binds w ns) (s : Stack) (vs : List Val) (rest : List Token) →
     exec (w ++ rest) (Nt LBinds ∷ s) vs ≡ seen (open_Binds x (marks s)) (exec rest s (OfNames ns ∷ vs))
-read_Binds (bs_none o c) s vs rest = next (suc (marks s)) (next (suc (marks s)) (do_now rest NoNames _ _ ∙ marked rest MakeBinds s _))
+read_Binds (bs_none o c) s vs rest = next (suc (marks s)) (next (suc (marks s)) (do_now rest MakeNoNames _ _ ∙ marked rest MakeBinds s _))
 read_Binds (bs_names {w} o c x) s vs rest = next (suc (marks s))
     (rw (append_assoc w (tok k.RightBracket c ∷ []) rest, seen_append (open_Names x (suc (marks s))) (suc (marks s) ∷ []))
     (read_Names x (Mark ∷ (Do MakeBinds ∷ s)) (OfToken (tok k.LeftBracket o) ∷ vs) (tok k.RightBracket c ∷ rest) ∙
-    under (open_Names x (suc (marks s))) (next (suc (marks s)) (do_now rest CloseNames _ _ ∙ marked rest MakeBinds s _))))
+    under (open_Names x (suc (marks s))) (next (suc (marks s)) (do_now rest MakeClosedNames _ _ ∙ marked rest MakeBinds s _))))
 
 -- ^ and a flag
 read_flag : {n : Kind} {flag : Bool} → IsFlag n flag → (h p : Span) (t : Piece RawTy) (s : Stack) (vs : List Val) (rest : List Token) →
     exec (tok k.Caret h ∷ (tok n p ∷ rest)) (fields_tail ++ s) (OfType t ∷ vs) ≡
-    Seen (marks s) (Seen (marks s) (exec rest (Nt MoreFields ∷ (Tm want.RightAngle ∷ (Do CloseFields ∷ s))) (OfFields (record { ty = t.tree; flag = flag } ∷ []) ∷ vs)))
-read_flag is_zero h p t s vs rest = next (marks s) (next (marks s) (do_now rest FirstField _ _))
-read_flag is_one h p t s vs rest = next (marks s) (next (marks s) (do_now rest FirstField _ _))
-read_flag is_minus_zero h p t s vs rest = next (marks s) (next (marks s) (do_now rest FirstField _ _))
+    Seen (marks s) (Seen (marks s) (exec rest (Nt LMoreFields ∷ (Tm want.RightAngle ∷ (Do MakeClosedFields ∷ s))) (OfFields (record { ty = t.tree; flag = flag } ∷ []) ∷ vs)))
+read_flag is_zero h p t s vs rest = next (marks s) (next (marks s) (do_now rest MakeFirstField _ _))
+read_flag is_one h p t s vs rest = next (marks s) (next (marks s) (do_now rest MakeFirstField _ _))
+read_flag is_minus_zero h p t s vs rest = next (marks s) (next (marks s) (do_now rest MakeFirstField _ _))
 
 read_next_flag : {n : Kind} {flag : Bool} → IsFlag n flag → (h p : Span) (t : Piece RawTy) (c : Token) (fs : List RawField) (s : Stack) (vs : List Val) (rest : List Token) →
-    exec (tok k.Caret h ∷ (tok n p ∷ rest)) (Tm want.Caret ∷ (Tm want.Flag ∷ (Do NextField ∷ (Nt MoreFields ∷ s)))) (OfType t ∷ (OfToken c ∷ (OfFields fs ∷ vs))) ≡
-    Seen (marks s) (Seen (marks s) (exec rest (Nt MoreFields ∷ s) (OfFields (fs ++ record { ty = t.tree; flag = flag } ∷ []) ∷ vs)))
-read_next_flag is_zero h p t c fs s vs rest = next (marks s) (next (marks s) (do_now rest NextField _ _))
-read_next_flag is_one h p t c fs s vs rest = next (marks s) (next (marks s) (do_now rest NextField _ _))
-read_next_flag is_minus_zero h p t c fs s vs rest = next (marks s) (next (marks s) (do_now rest NextField _ _))
+    exec (tok k.Caret h ∷ (tok n p ∷ rest)) (Tm want.Caret ∷ (Tm want.Flag ∷ (Do MakeNextField ∷ (Nt LMoreFields ∷ s)))) (OfType t ∷ (OfToken c ∷ (OfFields fs ∷ vs))) ≡
+    Seen (marks s) (Seen (marks s) (exec rest (Nt LMoreFields ∷ s) (OfFields (fs ++ record { ty = t.tree; flag = flag } ∷ []) ∷ vs)))
+read_next_flag is_zero h p t c fs s vs rest = next (marks s) (next (marks s) (do_now rest MakeNextField _ _))
+read_next_flag is_one h p t c fs s vs rest = next (marks s) (next (marks s) (do_now rest MakeNextField _ _))
+read_next_flag is_minus_zero h p t c fs s vs rest = next (marks s) (next (marks s) (do_now rest MakeNextField _ _))
 
 mutual
   pub read_T : {w : List Token} {t : Piece RawTy} (x : T w t) (s : Stack) (vs : List Val) (rest : List Token) →
       exec (w ++ rest) (Nt LT ∷ s) vs ≡ seen (open_T x (marks s)) (exec rest s (OfType t ∷ vs))
-  read_T (t_int p) s vs rest = next (marks s) (do_now rest TypeInt s _)
-  read_T (t_name p) s vs rest = next (marks s) (do_now rest TypeName s _)
+  read_T (t_int p) s vs rest = next (marks s) (do_now rest MakeTypeInt s _)
+  read_T (t_name p) s vs rest = next (marks s) (do_now rest MakeTypeName s _)
   read_T (t_code {u} {v} {ns} a x y) s vs rest = next (marks s)
       (rw (append_assoc u v rest, seen_append (open_Binds x (marks s)) (open_File y (marks s)))
-      (read_Binds x (Nt LFile ∷ (Do TypeCode ∷ s)) (OfToken (tok k.All a) ∷ vs) (v ++ rest) ∙ under (open_Binds x (marks s))
-      (read_File y (Do TypeCode ∷ s) (OfNames ns ∷ (OfToken (tok k.All a) ∷ vs)) rest ∙ under (open_File y (marks s)) (do_now rest TypeCode s _))))
+      (read_Binds x (Nt LFile ∷ (Do MakeTypeCode ∷ s)) (OfToken (tok k.All a) ∷ vs) (v ++ rest) ∙ under (open_Binds x (marks s))
+      (read_File y (Do MakeTypeCode ∷ s) (OfNames ns ∷ (OfToken (tok k.All a) ∷ vs)) rest ∙ under (open_File y (marks s)) (do_now rest MakeTypeCode s _))))
   read_T (t_some p n d x) s vs rest = next (suc (marks s)) (next (suc (marks s)) (next (suc (marks s))
-      (read_T x (Mark ∷ (Do TypeSome ∷ s)) (OfToken (tok k.Dot d) ∷ (OfToken (tok k.Name n) ∷ (OfToken (tok k.Some p) ∷ vs))) rest ∙ under (open_T x (suc (marks s))) (marked rest TypeSome s _))))
-  read_T (t_unit o c) s vs rest = next (suc (marks s)) (next (suc (marks s)) (do_now rest NoFields _ _ ∙ marked rest TypeTuple s _))
+      (read_T x (Mark ∷ (Do MakeTypeSome ∷ s)) (OfToken (tok k.Dot d) ∷ (OfToken (tok k.Name n) ∷ (OfToken (tok k.Some p) ∷ vs))) rest ∙ under (open_T x (suc (marks s))) (marked rest MakeTypeSome s _))))
+  read_T (t_unit o c) s vs rest = next (suc (marks s)) (next (suc (marks s)) (do_now rest MakeNoFields _ _ ∙ marked rest MakeTypeTuple s _))
   read_T (t_tuple {w} o c x) s vs rest = next (suc (marks s))
       (rw (append_assoc w (tok k.RightAngle c ∷ []) rest, seen_append (open_Fs x (suc (marks s))) (suc (marks s) ∷ []))
-      (fields_as_type (more LT (tok k.RightAngle c ∷ rest) (first_Fs x)) (Mark ∷ (Do TypeTuple ∷ s)) (OfToken (tok k.LeftAngle o) ∷ vs) ∙
-      (read_Fs x (Mark ∷ (Do TypeTuple ∷ s)) (OfToken (tok k.LeftAngle o) ∷ vs) (tok k.RightAngle c ∷ rest) ∙
-      under (open_Fs x (suc (marks s))) (next (suc (marks s)) (do_now rest CloseFields _ _ ∙ marked rest TypeTuple s _)))))
+      (fields_as_type (more LT (tok k.RightAngle c ∷ rest) (first_Fs x)) (Mark ∷ (Do MakeTypeTuple ∷ s)) (OfToken (tok k.LeftAngle o) ∷ vs) ∙
+      (read_Fs x (Mark ∷ (Do MakeTypeTuple ∷ s)) (OfToken (tok k.LeftAngle o) ∷ vs) (tok k.RightAngle c ∷ rest) ∙
+      under (open_Fs x (suc (marks s))) (next (suc (marks s)) (do_now rest MakeClosedFields _ _ ∙ marked rest MakeTypeTuple s _)))))
 
   pub read_File : {w : List Token} {t : Piece RawRegs} (x : File w t) (s : Stack) (vs : List Val) (rest : List Token) →
       exec (w ++ rest) (Nt LFile ∷ s) vs ≡ seen (open_File x (marks s)) (exec rest s (OfFile t ∷ vs))
-  read_File (f_none o c) s vs rest = next (suc (marks s)) (next (suc (marks s)) (do_now rest NoRegs _ _ ∙ marked rest MakeFile s _))
+  read_File (f_none o c) s vs rest = next (suc (marks s)) (next (suc (marks s)) (do_now rest MakeNoRegs _ _ ∙ marked rest MakeFile s _))
   read_File (f_regs {w} o c x) s vs rest = next (suc (marks s))
       (rw (append_assoc w (tok k.RightBrace c ∷ []) rest, seen_append (open_Rs x (suc (marks s))) (suc (marks s) ∷ []))
       (read_Rs x (Mark ∷ (Do MakeFile ∷ s)) (OfToken (tok k.LeftBrace o) ∷ vs) (tok k.RightBrace c ∷ rest) ∙
-      under (open_Rs x (suc (marks s))) (next (suc (marks s)) (do_now rest CloseRegs _ _ ∙ marked rest MakeFile s _))))
+      under (open_Rs x (suc (marks s))) (next (suc (marks s)) (do_now rest MakeClosedRegs _ _ ∙ marked rest MakeFile s _))))
 
   pub read_Rs : {w : List Token} {rs : List RawReg} (x : Rs w rs) (s : Stack) (vs : List Val) (rest : List Token) →
-      exec (w ++ rest) (Nt LRegs ∷ s) vs ≡ seen (open_Rs x (marks s)) (exec rest (Nt MoreRegs ∷ (Tm want.RightBrace ∷ (Do CloseRegs ∷ s))) (OfRegs rs ∷ vs))
+      exec (w ++ rest) (Nt LRegs ∷ s) vs ≡ seen (open_Rs x (marks s)) (exec rest (Nt LMoreRegs ∷ (Tm want.RightBrace ∷ (Do MakeClosedRegs ∷ s))) (OfRegs rs ∷ vs))
   read_Rs (rs_one r p c x) s vs rest = next (marks s) (next (marks s)
-      (read_T x (Do FirstReg ∷ (Nt MoreRegs ∷ (Tm want.RightBrace ∷ (Do CloseRegs ∷ s)))) (OfToken (tok k.Colon c) ∷ (OfToken (tok (k.Register r) p) ∷ vs)) rest ∙
-      under (open_T x (marks s)) (do_now rest FirstReg _ _)))
+      (read_T x (Do MakeFirstReg ∷ (Nt LMoreRegs ∷ (Tm want.RightBrace ∷ (Do MakeClosedRegs ∷ s)))) (OfToken (tok k.Colon c) ∷ (OfToken (tok (k.Register r) p) ∷ vs)) rest ∙
+      under (open_T x (marks s)) (do_now rest MakeFirstReg _ _)))
   read_Rs (rs_more {u} {v} {rs} c r p d x y) s vs rest =
       rw (append_assoc u (tok k.Comma c ∷ (tok (k.Register r) p ∷ (tok k.Colon d ∷ v))) rest, seen_append (open_Rs x (marks s)) (marks s ∷ (marks s ∷ (marks s ∷ open_T y (marks s)))))
       (read_Rs x s vs (tok k.Comma c ∷ (tok (k.Register r) p ∷ (tok k.Colon d ∷ (v ++ rest)))) ∙ under (open_Rs x (marks s)) (next (marks s) (next (marks s) (next (marks s)
-      (read_T y (Do NextReg ∷ (Nt MoreRegs ∷ (Tm want.RightBrace ∷ (Do CloseRegs ∷ s)))) (OfToken (tok k.Colon d) ∷ (OfToken (tok (k.Register r) p) ∷ (OfToken (tok k.Comma c) ∷ (OfRegs rs ∷ vs)))) rest ∙
-      under (open_T y (marks s)) (do_now rest NextReg _ _))))))
+      (read_T y (Do MakeNextReg ∷ (Nt LMoreRegs ∷ (Tm want.RightBrace ∷ (Do MakeClosedRegs ∷ s)))) (OfToken (tok k.Colon d) ∷ (OfToken (tok (k.Register r) p) ∷ (OfToken (tok k.Comma c) ∷ (OfRegs rs ∷ vs)))) rest ∙
+      under (open_T y (marks s)) (do_now rest MakeNextReg _ _))))))
 
   pub read_Fs : {w : List Token} {fs : List RawField} (x : Fs w fs) (s : Stack) (vs : List Val) (rest : List Token) →
-      exec (w ++ rest) (Nt LT ∷ (fields_tail ++ s)) vs ≡ seen (open_Fs x (marks s)) (exec rest (Nt MoreFields ∷ (Tm want.RightAngle ∷ (Do CloseFields ∷ s))) (OfFields fs ∷ vs))
+      exec (w ++ rest) (Nt LT ∷ (fields_tail ++ s)) vs ≡ seen (open_Fs x (marks s)) (exec rest (Nt LMoreFields ∷ (Tm want.RightAngle ∷ (Do MakeClosedFields ∷ s))) (OfFields fs ∷ vs))
   read_Fs (fs_one {w} {t} {n} h p x f) s vs rest =
       rw (append_assoc w (tok k.Caret h ∷ (tok n p ∷ [])) rest, seen_append (open_T x (marks s)) (marks s ∷ (marks s ∷ [])))
       (read_T x (fields_tail ++ s) vs (tok k.Caret h ∷ (tok n p ∷ rest)) ∙ under (open_T x (marks s)) (read_flag f h p t s vs rest))
@@ -204,16 +204,16 @@ mutual
         seen_append (open_T y (marks s)) (marks s ∷ (marks s ∷ [])),
       )
       (read_Fs x s vs (tok k.Comma c ∷ (v ++ tok k.Caret h ∷ (tok n p ∷ rest))) ∙ under (open_Fs x (marks s)) (next (marks s)
-      (read_T y (Tm want.Caret ∷ (Tm want.Flag ∷ (Do NextField ∷ (Nt MoreFields ∷ (Tm want.RightAngle ∷ (Do CloseFields ∷ s)))))) (OfToken (tok k.Comma c) ∷ (OfFields fs ∷ vs)) (tok k.Caret h ∷ (tok n p ∷ rest)) ∙
-      under (open_T y (marks s)) (read_next_flag f h p t (tok k.Comma c) fs (Tm want.RightAngle ∷ (Do CloseFields ∷ s)) vs rest))))
+      (read_T y (Tm want.Caret ∷ (Tm want.Flag ∷ (Do MakeNextField ∷ (Nt LMoreFields ∷ (Tm want.RightAngle ∷ (Do MakeClosedFields ∷ s)))))) (OfToken (tok k.Comma c) ∷ (OfFields fs ∷ vs)) (tok k.Caret h ∷ (tok n p ∷ rest)) ∙
+      under (open_T y (marks s)) (read_next_flag f h p t (tok k.Comma c) fs (Tm want.RightAngle ∷ (Do MakeClosedFields ∷ s)) vs rest))))
 
 read_Ts : {w : List Token} {ts : List RawTy} (x : Ts w ts) (s : Stack) (vs : List Val) (rest : List Token) →
-    exec (w ++ rest) (Nt LT ∷ (types_tail ++ s)) vs ≡ seen (open_Ts x (marks s)) (exec rest (Nt MoreTypes ∷ (Tm want.RightBracket ∷ (Do CloseTypes ∷ s))) (OfTypes ts ∷ vs))
-read_Ts (ts_one x) s vs rest = read_T x (types_tail ++ s) vs rest ∙ under (open_T x (marks s)) (do_now rest FirstType _ _)
+    exec (w ++ rest) (Nt LT ∷ (types_tail ++ s)) vs ≡ seen (open_Ts x (marks s)) (exec rest (Nt LMoreTypes ∷ (Tm want.RightBracket ∷ (Do MakeClosedTypes ∷ s))) (OfTypes ts ∷ vs))
+read_Ts (ts_one x) s vs rest = read_T x (types_tail ++ s) vs rest ∙ under (open_T x (marks s)) (do_now rest MakeFirstType _ _)
 read_Ts (ts_more {u} {v} {ts} c x y) s vs rest =
     rw (append_assoc u (tok k.Comma c ∷ v) rest, seen_append (open_Ts x (marks s)) (marks s ∷ open_T y (marks s)))
     (read_Ts x s vs (tok k.Comma c ∷ (v ++ rest)) ∙ under (open_Ts x (marks s)) (next (marks s)
-    (read_T y (Do NextType ∷ (Nt MoreTypes ∷ (Tm want.RightBracket ∷ (Do CloseTypes ∷ s)))) (OfToken (tok k.Comma c) ∷ (OfTypes ts ∷ vs)) rest ∙ under (open_T y (marks s)) (do_now rest NextType _ _))))
+    (read_T y (Do MakeNextType ∷ (Nt LMoreTypes ∷ (Tm want.RightBracket ∷ (Do MakeClosedTypes ∷ s)))) (OfToken (tok k.Comma c) ∷ (OfTypes ts ∷ vs)) rest ∙ under (open_T y (marks s)) (do_now rest MakeNextType _ _))))
 
 -- a base, with type arguments to come
 read_base : {b : Token} {base : RawBase} → N b base → (s : Stack) (vs : List Val) (rest : List Token) →
@@ -231,7 +231,7 @@ read_V (v_apply {b} {base} {w} o c n x) s vs rest g =
     (rw (append_assoc w (tok k.RightBracket c ∷ []) rest, seen_append (open_Ts x (suc (marks s))) (suc (marks s) ∷ []))
     (some_as_type (more LT (tok k.RightBracket c ∷ rest) (first_Ts x)) (Mark ∷ (Do MakeApply ∷ s)) _ ∙
     (read_Ts x (Mark ∷ (Do MakeApply ∷ s)) _ (tok k.RightBracket c ∷ rest) ∙
-    under (open_Ts x (suc (marks s))) (next (suc (marks s)) (do_now rest CloseTypes _ _ ∙ marked rest MakeApply s _))))))
+    under (open_Ts x (suc (marks s))) (next (suc (marks s)) (do_now rest MakeClosedTypes _ _ ∙ marked rest MakeApply s _))))))
 read_V (v_pack {u} {v} {w} {t} {s = t'} {x = i} p o m c a x y z) s vs rest g =
     let n = marks s in
     let us = OfToken (tok k.LeftBracket o) ∷ (OfToken (tok k.Pack p) ∷ vs) in
@@ -268,13 +268,13 @@ read_I (i_ld a b c d o f e rd rs n) s vs rest g =
     let m = marks s in
     next m (next m (next m (next m (next (suc m) (next (suc m) (next (suc m) (marked rest MakeIndex _ _ ∙ (do_now rest MakeAt _ _ ∙ do_now rest MakeLd s _))))))))
 read_I (i_malloc_none a b o c rd) s vs rest g =
-    let m = marks s in next m (next m (next (suc m) (next (suc m) (do_now rest NoTypes _ _ ∙ (marked rest MakeTypes _ _ ∙ do_now rest MakeMalloc s _)))))
+    let m = marks s in next m (next m (next (suc m) (next (suc m) (do_now rest MakeNoTypes _ _ ∙ (marked rest MakeTypes _ _ ∙ do_now rest MakeMalloc s _)))))
 read_I (i_malloc {w} a b o c rd x) s vs rest g =
     let m = marks s in
     next m (next m (next (suc m) (rw (append_assoc w (tok k.RightBracket c ∷ []) rest, seen_append (open_Ts x (suc m)) (suc m ∷ []))
     (list_as_type (more LT (tok k.RightBracket c ∷ rest) (first_Ts x)) (Mark ∷ (Do MakeTypes ∷ (Do MakeMalloc ∷ s))) _ ∙
     (read_Ts x (Mark ∷ (Do MakeTypes ∷ (Do MakeMalloc ∷ s))) _ (tok k.RightBracket c ∷ rest) ∙
-    under (open_Ts x (suc m)) (next (suc m) (do_now rest CloseTypes _ _ ∙ (marked rest MakeTypes _ _ ∙ do_now rest MakeMalloc s _))))))))
+    under (open_Ts x (suc m)) (next (suc m) (do_now rest MakeClosedTypes _ _ ∙ (marked rest MakeTypes _ _ ∙ do_now rest MakeMalloc s _))))))))
 read_I (i_mov {w} a b c rd x) s vs rest g =
     let m = marks s in
     next m (next m (next m (do_now (w ++ rest) MakeTo (Nt LV ∷ (Do MakeMov ∷ s)) _ ∙ (read_V x (Do MakeMov ∷ s) _ rest g ∙ under (open_V x m) (do_now rest MakeMov s _)))))
@@ -286,13 +286,13 @@ read_I (i_unpack {w} a o n b d c e rd x) s vs rest g =
     next m (next (suc m) (next (suc m) (next (suc m) (next (suc m) (next (suc m) (next m (read_V x (Do MakeUnpack ∷ s) _ rest g ∙ under (open_V x m) (do_now rest MakeUnpack s _))))))))
 
 read_Is : {w : List Token} {is : List (RawInstr × Span)} (x : Is w is) (s : Stack) (vs : List Val) (rest : List Token) → Leaves LArgs rest →
-    exec (w ++ rest) (Nt MoreSteps ∷ s) (OfSteps [] ∷ vs) ≡ seen (open_Is x (marks s)) (exec rest (Nt MoreSteps ∷ s) (OfSteps is ∷ vs))
+    exec (w ++ rest) (Nt LMoreSteps ∷ s) (OfSteps [] ∷ vs) ≡ seen (open_Is x (marks s)) (exec rest (Nt LMoreSteps ∷ s) (OfSteps is ∷ vs))
 read_Is is_none s vs rest g = refl
 read_Is (is_more {u} {v} {is} x y) s vs rest g =
     rw (append_assoc u v rest, seen_append (open_Is x (marks s)) (open_I y (marks s)))
     (read_Is x s vs (v ++ rest) (leaves_I y rest) ∙ under (open_Is x (marks s))
     (steps_as_instr (more LI rest (first_I y)) s (OfSteps is ∷ vs) ∙
-    (read_I y (steps_tail ++ s) (OfSteps is ∷ vs) rest g ∙ under (open_I y (marks s)) (do_now rest NextStep (Nt MoreSteps ∷ s) _))))
+    (read_I y (steps_tail ++ s) (OfSteps is ∷ vs) rest g ∙ under (open_I y (marks s)) (do_now rest MakeNextStep (Nt LMoreSteps ∷ s) _))))
 
 read_End : {w : List Token} {e : RawEnd × Span} (x : End w e) (s : Stack) (vs : List Val) (rest : List Token) → Leaves LArgs rest →
     exec (w ++ rest) (Nt LEnd ∷ s) vs ≡ seen (open_End x (marks s)) (exec rest s (OfEnd e ∷ vs))
@@ -305,7 +305,7 @@ read_Block : {w : List Token} {b : RawBlock} (x : Block w b) (s : Stack) (vs : L
 read_Block (b_block {u} {v} {w} {x} l c d p a f i e) s vs rest g =
     let m = marks s in
     let after_is = Nt LEnd ∷ (Do MakeBlock ∷ s) in
-    let after_file = Tm want.Dot ∷ (Do NoSteps ∷ (Nt MoreSteps ∷ after_is)) in
+    let after_file = Tm want.Dot ∷ (Do MakeNoSteps ∷ (Nt LMoreSteps ∷ after_is)) in
     next m (next m (next m
     (rw (
       append_assoc u (v ++ tok k.Dot p ∷ (w ++ x)) rest,
@@ -317,21 +317,21 @@ read_Block (b_block {u} {v} {w} {x} l c d p a f i e) s vs rest g =
     )
     (read_Binds a (Nt LFile ∷ after_file) _ (v ++ tok k.Dot p ∷ (w ++ (x ++ rest))) ∙ under (open_Binds a m)
     (read_File f after_file _ (tok k.Dot p ∷ (w ++ (x ++ rest))) ∙ under (open_File f m) (next m
-    (do_now (w ++ (x ++ rest)) NoSteps (Nt MoreSteps ∷ after_is) _ ∙
+    (do_now (w ++ (x ++ rest)) MakeNoSteps (Nt LMoreSteps ∷ after_is) _ ∙
     (read_Is i after_is _ (x ++ rest) (leaves_End e rest) ∙ under (open_Is i m)
     (ends_steps e rest after_is _ ∙ (read_End e (Do MakeBlock ∷ s) _ rest g ∙ under (open_End e m) (do_now rest MakeBlock s _)))))))))))
 
 read_Blocks : {w : List Token} {bs : List RawBlock} (x : Blocks w bs) (s : Stack) (vs : List Val) (rest : List Token) → Leaves LArgs rest →
-    exec (w ++ rest) (Nt LBlock ∷ (Do FirstBlock ∷ (Nt MoreBlocks ∷ s))) vs ≡ seen (open_Blocks x (marks s)) (exec rest (Nt MoreBlocks ∷ s) (OfBlocks bs ∷ vs))
-read_Blocks (bs_one x) s vs rest g = read_Block x (Do FirstBlock ∷ (Nt MoreBlocks ∷ s)) vs rest g ∙ under (open_Block x (marks s)) (do_now rest FirstBlock _ _)
+    exec (w ++ rest) (Nt LBlock ∷ (Do MakeFirstBlock ∷ (Nt LMoreBlocks ∷ s))) vs ≡ seen (open_Blocks x (marks s)) (exec rest (Nt LMoreBlocks ∷ s) (OfBlocks bs ∷ vs))
+read_Blocks (bs_one x) s vs rest g = read_Block x (Do MakeFirstBlock ∷ (Nt LMoreBlocks ∷ s)) vs rest g ∙ under (open_Block x (marks s)) (do_now rest MakeFirstBlock _ _)
 read_Blocks (bs_more {u} {v} {bs} x y) s vs rest g =
     rw (append_assoc u v rest, seen_append (open_Blocks x (marks s)) (open_Block y (marks s)))
     (read_Blocks x s vs (v ++ rest) (leaves_Block y rest) ∙ under (open_Blocks x (marks s))
     (blocks_as_block (more LBlock rest (first_Block y)) s (OfBlocks bs ∷ vs) ∙
-    (read_Block y (blocks_tail ++ s) (OfBlocks bs ∷ vs) rest g ∙ under (open_Block y (marks s)) (do_now rest NextBlock (Nt MoreBlocks ∷ s) _))))
+    (read_Block y (blocks_tail ++ s) (OfBlocks bs ∷ vs) rest g ∙ under (open_Block y (marks s)) (do_now rest MakeNextBlock (Nt LMoreBlocks ∷ s) _))))
 
 pub read_shape : {w : List Token} {bs : List RawBlock} (e : Program w bs) → exec w (Nt LProgram ∷ []) [] ≡ seen (open_Program e 0) (Done (OfBlocks bs ∷ []))
 read_shape (p_program {w} {bs} t n x) =
-    let h : exec (w ++ []) (Nt LBlock ∷ (Do FirstBlock ∷ (Nt MoreBlocks ∷ (Do MakeProgram ∷ [])))) (OfToken (tok (k.Plain (pos 1)) n) ∷ (OfToken (tok k.Tal t) ∷ [])) ≡ seen (open_Blocks x 0) (Done (OfBlocks bs ∷ [])) =
+    let h : exec (w ++ []) (Nt LBlock ∷ (Do MakeFirstBlock ∷ (Nt LMoreBlocks ∷ (Do MakeProgram ∷ [])))) (OfToken (tok (k.Plain (pos 1)) n) ∷ (OfToken (tok k.Tal t) ∷ [])) ≡ seen (open_Blocks x 0) (Done (OfBlocks bs ∷ [])) =
     read_Blocks x (Do MakeProgram ∷ []) _ [] (λ _ _. refl) in
     next 0 (next 0 (rw append-nil at h))

@@ -9,10 +9,10 @@ use Rattle.t_terms.specs.declared.wanted.Wanted.TheVariants as want
 use Rattle.t_terms.specs.Raw.{RPlain, RNum, ending}
 use Rattle.t_terms.specs.Grammar.{tok}
 use Rattle.text_core.specs.Table.{Nt, Do, Mark, Seen}
-use Rattle.text_core.proofs.Reading as reading
+use Rattle.t_terms.proofs.Complete.{do_now, marked, next}
 use Rattle.text_core.proofs.Rules as rules
 use Rattle.text_core.proofs.Rules.{Filling, quiet_row, good_row, AtLeast, Least}
-use Rattle.t_terms.specs.Machine.{table, Line, LProgram, LBlock, MoreBlocks, LBinds, LNames, MoreNames, LFile, LRegs, MoreRegs, LT, LFields, MoreFields, LTypes, LTypeList, LSomeTypes, MoreTypes, LV, LArgs, LPacked, LTo, LAt, LIndex, LTarget, LInt, LI, MoreSteps, LEnd, Act, Stack, Val, OfValue, fits, after, may_end, marks, exec, Outcome, act, MakeBinds, MakeFile, NoNames, NoRegs, TypeInt, NoFields, MakeTypes, NoTypes, MakeBase, MakePacked, MakeTo, MakeIndex, MakeAt, MakeTarget, MakeInt, MakeMalloc, MakeHalt, MakeBlock, FirstBlock, MakeProgram, CloseTypes}
+use Rattle.t_terms.specs.GrammarTable.{table, Line, LProgram, LBlock, LMoreBlocks, LBinds, LNames, LMoreNames, LFile, LRegs, LMoreRegs, LT, LFields, LMoreFields, LTypes, LTypeList, LSomeTypes, LMoreTypes, LV, LArgs, LPacked, LTo, LAt, LIndex, LTarget, LInt, LI, LMoreSteps, LEnd, Act, Stack, Val, OfValue, fits, after, may_end, marks, exec, Outcome, act, MakeBinds, MakeFile, MakeNoNames, MakeNoRegs, MakeTypeInt, MakeNoFields, MakeTypes, MakeNoTypes, MakeBase, MakePacked, MakeTo, MakeIndex, MakeAt, MakeTarget, MakeInt, MakeMalloc, MakeHalt, MakeBlock, MakeFirstBlock, MakeProgram, MakeClosedTypes}
 
 abbrev here : Span
 here = record { start = 0; end = 0 }
@@ -90,10 +90,10 @@ level k.Comma = 1
 level _ = 0
 
 abbrev pub wants : Line → ℕ
-wants MoreNames = 2
-wants MoreRegs = 2
-wants MoreFields = 2
-wants MoreTypes = 2
+wants LMoreNames = 2
+wants LMoreRegs = 2
+wants LMoreFields = 2
+wants LMoreTypes = 2
 wants _ = 1
 
 abbrev pub filling : Filling table
@@ -106,20 +106,20 @@ fits_token _ = refl
 pub goods : (n : Line) (c : Kind) → good_row table filling n (after n c) ≡ true
 goods LProgram k.Tal = refl
 goods LBlock k.Name = refl
-goods MoreBlocks k.Name = refl
+goods LMoreBlocks k.Name = refl
 goods LBinds k.LeftBracket = refl
 goods LNames k.Name = refl
-goods MoreNames k.Comma = refl
+goods LMoreNames k.Comma = refl
 goods LFile k.LeftBrace = refl
 goods LRegs k.RightBrace = refl
-goods MoreRegs k.Comma = refl
+goods LMoreRegs k.Comma = refl
 goods LT k.All = refl
 goods LFields k.RightAngle = refl
-goods MoreFields k.Comma = refl
+goods LMoreFields k.Comma = refl
 goods LTypes k.LeftBracket = refl
 goods LTypeList k.RightBracket = refl
 goods LSomeTypes k.Int = refl
-goods MoreTypes k.Comma = refl
+goods LMoreTypes k.Comma = refl
 goods LV k.Pack = refl
 goods LArgs k.LeftBracket = refl
 goods LPacked k.LeftBracket = refl
@@ -129,38 +129,29 @@ goods LIndex k.LeftBracket = refl
 goods LTarget k.LeftBracket = refl
 goods LInt k.LeftBracket = refl
 goods LI k.Add = refl
-goods MoreSteps k.Add = refl
+goods LMoreSteps k.Add = refl
 goods LEnd k.Jmp = refl
 goods _ _ = refl
 
 pub quiet : (n : Line) (c : Kind) (s : Span) → quiet_row table filling n (tok c s) ≡ true
-quiet MoreBlocks k.Name s = refl
-quiet MoreNames k.Comma s = refl
-quiet MoreRegs k.Comma s = refl
-quiet MoreFields k.Comma s = refl
-quiet MoreTypes k.Comma s = refl
+quiet LMoreBlocks k.Name s = refl
+quiet LMoreNames k.Comma s = refl
+quiet LMoreRegs k.Comma s = refl
+quiet LMoreFields k.Comma s = refl
+quiet LMoreTypes k.Comma s = refl
 quiet LArgs k.LeftBracket s = refl
-quiet MoreSteps k.Add s = refl
+quiet LMoreSteps k.Add s = refl
 quiet _ _ s = refl
 
 pub wanted : (n : Line) → 0 < wants n
-wanted MoreNames = omega arith
-wanted MoreRegs = omega arith
-wanted MoreFields = omega arith
-wanted MoreTypes = omega arith
+wanted LMoreNames = omega arith
+wanted LMoreRegs = omega arith
+wanted LMoreFields = omega arith
+wanted LMoreTypes = omega arith
 wanted _ = omega arith
 
 silent : (n : Line) → may_end n ≡ true → (w : List Token) → AtLeast table filling (wants n) w → (s : Stack) (vs : List Val) → exec w (Nt n ∷ s) vs ≡ exec w s vs
 silent n e w h s vs = rules.silent table filling (λ m c. quiet m c.kind c.span) n e w h s vs
-
-next : (n : ℕ) {x y : Outcome} → x ≡ y → Seen n x ≡ Seen n y
-next n e = reading.next table n e
-
-do_now : (w : List Token) (a : Act) (s : Stack) (vs : List Val) → exec w (Do a ∷ s) vs ≡ exec w s (act a vs)
-do_now w a s vs = reading.do_now table w a s vs
-
-marked : (w : List Token) (a : Act) (s : Stack) (vs : List Val) → exec w (Mark ∷ (Do a ∷ s)) vs ≡ exec w s (act a vs)
-marked w a s vs = reading.marked table w a s vs
 
 abbrev Filled : Line → List Token → Stack → List Val → Type 0
 Filled n w s vs = Least table n (least n) w s vs
@@ -170,8 +161,8 @@ reads LProgram e w h s vs = record {
   made = _;
   counts = _ ∷ (_ ∷ (_ ∷ (_ ∷ (_ ∷ (_ ∷ (_ ∷ (_ ∷ (_ ∷ (_ ∷ (_ ∷ (_ ∷ (_ ∷ (_ ∷ [])))))))))))));
   leads = next _ (next _ (next _ (next _ (next _ (next _ (next _ (next _ (next _ (next _ (next _ (next _ (next _ (next _
-      (marked w MakeInt (Do MakeHalt ∷ (Do MakeBlock ∷ (Do FirstBlock ∷ (Nt MoreBlocks ∷ (Do MakeProgram ∷ s))))) _ ∙ (do_now w MakeHalt _ _ ∙ (do_now w MakeBlock _ _ ∙ (do_now w FirstBlock _ _ ∙
-      (silent MoreBlocks refl w h (Do MakeProgram ∷ s) _ ∙ do_now w MakeProgram s _))))))))))))))))));
+      (marked w MakeInt (Do MakeHalt ∷ (Do MakeBlock ∷ (Do MakeFirstBlock ∷ (Nt LMoreBlocks ∷ (Do MakeProgram ∷ s))))) _ ∙ (do_now w MakeHalt _ _ ∙ (do_now w MakeBlock _ _ ∙ (do_now w MakeFirstBlock _ _ ∙
+      (silent LMoreBlocks refl w h (Do MakeProgram ∷ s) _ ∙ do_now w MakeProgram s _))))))))))))))))));
 }
 reads LBlock e w h s vs = record {
   made = _;
@@ -179,15 +170,15 @@ reads LBlock e w h s vs = record {
   leads = next _ (next _ (next _ (next _ (next _ (next _ (next _ (next _ (next _ (next _ (next _ (next _
       (marked w MakeInt (Do MakeHalt ∷ (Do MakeBlock ∷ s)) _ ∙ (do_now w MakeHalt _ _ ∙ do_now w MakeBlock s _)))))))))))));
 }
-reads LBinds e w h s vs = record { made = _; counts = _ ∷ (_ ∷ []); leads = next _ (next _ (do_now w NoNames _ _ ∙ marked w MakeBinds s _)) }
-reads LNames e w h s vs = record { made = _; counts = _ ∷ []; leads = next _ (do_now w NoNames s _) }
-reads LFile e w h s vs = record { made = _; counts = _ ∷ (_ ∷ []); leads = next _ (next _ (do_now w NoRegs _ _ ∙ marked w MakeFile s _)) }
-reads LRegs e w h s vs = record { made = _; counts = _ ∷ []; leads = next _ (do_now w NoRegs s _) }
-reads LT e w h s vs = record { made = _; counts = _ ∷ []; leads = next _ (do_now w TypeInt s _) }
-reads LFields e w h s vs = record { made = _; counts = _ ∷ []; leads = next _ (do_now w NoFields s _) }
-reads LTypes e w h s vs = record { made = _; counts = _ ∷ (_ ∷ []); leads = next _ (next _ (do_now w NoTypes _ _ ∙ marked w MakeTypes s _)) }
-reads LTypeList e w h s vs = record { made = _; counts = _ ∷ []; leads = next _ (do_now w NoTypes s _) }
-reads LSomeTypes e w h s vs = record { made = _; counts = _ ∷ (_ ∷ []); leads = next _ (next _ (do_now w CloseTypes s _)) }
+reads LBinds e w h s vs = record { made = _; counts = _ ∷ (_ ∷ []); leads = next _ (next _ (do_now w MakeNoNames _ _ ∙ marked w MakeBinds s _)) }
+reads LNames e w h s vs = record { made = _; counts = _ ∷ []; leads = next _ (do_now w MakeNoNames s _) }
+reads LFile e w h s vs = record { made = _; counts = _ ∷ (_ ∷ []); leads = next _ (next _ (do_now w MakeNoRegs _ _ ∙ marked w MakeFile s _)) }
+reads LRegs e w h s vs = record { made = _; counts = _ ∷ []; leads = next _ (do_now w MakeNoRegs s _) }
+reads LT e w h s vs = record { made = _; counts = _ ∷ []; leads = next _ (do_now w MakeTypeInt s _) }
+reads LFields e w h s vs = record { made = _; counts = _ ∷ []; leads = next _ (do_now w MakeNoFields s _) }
+reads LTypes e w h s vs = record { made = _; counts = _ ∷ (_ ∷ []); leads = next _ (next _ (do_now w MakeNoTypes _ _ ∙ marked w MakeTypes s _)) }
+reads LTypeList e w h s vs = record { made = _; counts = _ ∷ []; leads = next _ (do_now w MakeNoTypes s _) }
+reads LSomeTypes e w h s vs = record { made = _; counts = _ ∷ (_ ∷ []); leads = next _ (next _ (do_now w MakeClosedTypes s _)) }
 reads LV e w h s vs = record { made = OfValue (ending (RPlain (RNum (pos 0)) []) 0) ∷ vs; counts = marks s ∷ []; leads = next _ (do_now w MakeBase (Nt LArgs ∷ s) _ ∙ silent LArgs refl w h s _) }
 reads LPacked e w h s vs = record { made = _; counts = _ ∷ (_ ∷ (_ ∷ (_ ∷ (_ ∷ [])))); leads = next _ (next _ (next _ (next _ (next _ (marked w MakePacked s _))))) }
 reads LTo e w h s vs = record { made = _; counts = _ ∷ (_ ∷ []); leads = next _ (next _ (do_now w MakeTo s _)) }
@@ -195,6 +186,6 @@ reads LAt e w h s vs = record { made = _; counts = _ ∷ (_ ∷ (_ ∷ (_ ∷ []
 reads LIndex e w h s vs = record { made = _; counts = _ ∷ (_ ∷ (_ ∷ [])); leads = next _ (next _ (next _ (marked w MakeIndex s _))) }
 reads LTarget e w h s vs = record { made = _; counts = _ ∷ (_ ∷ (_ ∷ (_ ∷ (_ ∷ [])))); leads = next _ (next _ (next _ (next _ (next _ (marked w MakeTarget s _))))) }
 reads LInt e w h s vs = record { made = _; counts = _ ∷ (_ ∷ (_ ∷ [])); leads = next _ (next _ (next _ (marked w MakeInt s _))) }
-reads LI e w h s vs = record { made = _; counts = _ ∷ (_ ∷ (_ ∷ (_ ∷ []))); leads = next _ (next _ (next _ (next _ (do_now w NoTypes _ _ ∙ (marked w MakeTypes (Do MakeMalloc ∷ s) _ ∙ do_now w MakeMalloc s _))))) }
+reads LI e w h s vs = record { made = _; counts = _ ∷ (_ ∷ (_ ∷ (_ ∷ []))); leads = next _ (next _ (next _ (next _ (do_now w MakeNoTypes _ _ ∙ (marked w MakeTypes (Do MakeMalloc ∷ s) _ ∙ do_now w MakeMalloc s _))))) }
 reads LEnd e w h s vs = record { made = _; counts = _ ∷ (_ ∷ (_ ∷ (_ ∷ []))); leads = next _ (next _ (next _ (next _ (marked w MakeInt (Do MakeHalt ∷ s) _ ∙ do_now w MakeHalt s _)))) }
 reads _ e w h s vs = absurd (cc)

@@ -7,10 +7,10 @@ use Rattle.text_core.specs.Table.{Verdict, bounded, whole}
 use Rattle.text_core.specs.Verdicts.{Says}
 use Rattle.text_core.proofs.Claims.{Sound, Claims}
 use Rattle.text_core.proofs.Unique as unique
-use Rattle.t_terms.specs.Machine.{table, Val, LProgram}
+use Rattle.t_terms.specs.GrammarTable.{table, Val, LProgram}
 use Rattle.text_core.proofs.Rules.{Rules, claims_of, exact_by}
 use Rattle.t_terms.proofs.Complete.{read_shape}
-use Rattle.t_terms.proofs.Rows.{Sem, sem_program, meaning, is_of, row, empty}
+use Rattle.t_terms.proofs.TableRows.{Sem, sem_program, meaning, is_of, row, empty}
 use Rattle.t_terms.proofs.Filling.{filling, fits_token, goods, quiet, reads, wanted}
 
 shape : (w : List Token) (r : List Val) → Sem LProgram [] w r → Sound table w r

@@ -6,7 +6,7 @@ pub mod Complete
 pub mod Filling
 pub mod Instance
 pub mod Nested
-pub mod Rows
+pub mod TableRows
 pub mod TextExact
 pub mod TokenLaws
 pub mod Worked

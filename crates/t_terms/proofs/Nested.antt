@@ -13,7 +13,7 @@ use Rattle.t_terms.specs.Spanned.{SProg, seq_of, plain_blocks, plain_program}
 use Rattle.t_terms.specs.Raw.{RawTy, RInt, RName, RCode, RSome, RTuple, RawRegs, NoRawRegs, MoreRawRegs, RawFields, NoRawFields, MoreRawFields, RawReg, RawField, raw_regs, raw_fields, RawBase, RawValue, RPlain, RPack, RawInstr, RArith, RBnz, RLd, RMalloc, RMov, RSt, RUnpack, RawEnd, RJmp, RHalt, RawBlock, Piece}
 use Rattle.t_terms.specs.Grammar.{Names, ns_one, ns_more, Binds, bs_none, bs_names, T, t_int, t_name, t_code, t_some, t_unit, t_tuple, File, f_none, f_regs, Rs, rs_one, rs_more, Fs, fs_one, fs_more, Ts, ts_one, ts_more, V, v_base, v_apply, v_pack, I, i_arith, i_bnz, i_ld, i_malloc_none, i_malloc, i_mov, i_st, i_unpack, Is, is_none, is_more, End, e_jmp, e_halt, Block, b_block, Blocks, bs_one, bs_more, Program, p_program, open_Names, open_Binds, open_T, open_File, open_Rs, open_Fs, open_Ts, open_V, open_I, open_Is, open_End, open_Block, open_Blocks, open_Program}
 use Rattle.t_terms.specs.Grammar.{assembly_grammar}
-use Rattle.t_terms.specs.Machine.{table, Val, OfBlocks}
+use Rattle.t_terms.specs.GrammarTable.{table, Val, OfBlocks}
 use Rattle.t_terms.specs.Names.{insert_reg, type_of, file_of, fields_of, types_of, value_of, instr_of, names_after, names_after_all, body_of, end_of, block_of, program_of, labels_of, Labels, bind, spelled}
 use Rattle.t_terms.specs.Text.{most_open, Stands, StandsFor, KeepsLimit}
 use Rattle.t_terms.proofs.Complete.{read_shape}

@@ -14,7 +14,7 @@ use Rattle.t_terms.specs.Spanned.{SProg}
 use Rattle.t_terms.specs.Tokens.{assembly, IsCut}
 use Rattle.t_terms.specs.Raw.{RawBlock}
 use Rattle.t_terms.specs.Grammar.{Program, assembly_grammar}
-use Rattle.t_terms.specs.Machine.{table, OfBlocks}
+use Rattle.t_terms.specs.GrammarTable.{table, OfBlocks}
 use Rattle.t_terms.specs.Names.{program_of}
 use Rattle.t_terms.specs.NameFaults.{program_faults}
 use Rattle.t_terms.specs.Text.{most_open, ReadsAs, code_of, FirstFault, in_tokens, unexpected, cut_short, too_deep, in_names, AtMostOneProgram, NoFaultWhereRead, NoProgramWhereFaulty, AtMostOneFault}

@@ -1,13 +1,12 @@
 pub mod Grammar
+pub mod GrammarTable
 pub mod Laws
-pub mod Machine
 pub mod NameFaults
 pub mod Names
 pub mod Nesting
 pub mod Raw
 pub mod Read
 pub mod ReadProgram
-pub mod Shapes
 pub mod Spanned
 pub mod SpannedLaws
 pub mod Text

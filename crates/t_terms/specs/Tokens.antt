@@ -3,6 +3,7 @@ use Rattle.std.specs.Prelude.{◌≤◌, ◌≤ℤ◌, ℕ, pos, negsuc, neg_ℤ
 use Rattle.std.specs.List.{list_all}
 use Rattle.text_core.specs.Byte.{digit, value}
 use Rattle.text_core.specs.Tokens.{Tokens, look, Cut}
+use Rattle.t_types.specs.WellFormed.{max_number}
 use Rattle.t_terms.specs.declared.token.Kind.{Kind}
 use Rattle.t_terms.specs.declared.token.Kind.TheVariants as k
 use Rattle.t_terms.specs.declared.token.Token.{Token}
@@ -43,9 +44,9 @@ signs =
 
 -- the values of numbers, from -9223372036854775808 to 9223372036854775807, and the numbers of registers, from 1 on
 abbrev pub Keeps : Kind → Type 0
-Keeps (k.Register n) = (1 ≤ n) × (n ≤ 9223372036854775807)
-Keeps (k.Plain z) = z ≤ℤ pos 9223372036854775807
-Keeps (k.Negative z) = negsuc 9223372036854775807 ≤ℤ z
+Keeps (k.Register n) = (1 ≤ n) × (n ≤ max_number)
+Keeps (k.Plain z) = z ≤ℤ pos max_number
+Keeps (k.Negative z) = negsuc max_number ≤ℤ z
 Keeps _ = Unit {0}
 
 abbrev pub assembly : Tokens

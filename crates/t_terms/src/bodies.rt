@@ -1,6 +1,7 @@
 // Shift and put of the types in bodies and blocks.
-ghost use Rattle.std.specs.Prelude.{◌≡◌, ℕ, ◌+◌, ◌<◌, ◌≤◌, ◌^◌, ◌↔◌, IfOk, IsTrue};
+ghost use Rattle.std.specs.Prelude.{◌≡◌, ℕ, ◌+◌, ◌<◌, ◌≤◌, ◌↔◌, IfOk, IsTrue};
 ghost use Rattle.idx_core.specs.Over.{IsWord, ShiftFitsAt, PutFitsAt, BelowAt, AnyDepth, shifted, putted};
+ghost use Rattle.t_types.specs.Bound.{Tells};
 ghost use Rattle.t_types.specs.Read.{tree};
 ghost use Rattle.t_types.specs.Tree.{Ty, VarTy, over, each};
 ghost use Rattle.t_terms.specs.Read.{body, end_of, spanned};
@@ -9,11 +10,11 @@ ghost use Rattle.t_terms.specs.Spanned.{SBlock, over_body, over_spanned, each_bo
 use crate::block::Block;
 use crate::instr::{End, Instr};
 use crate::walks::{
-    depth_after, end_below, instr_below, names_after, put_end, put_instr, shift_end, shift_instr,
+    bound_after, end_below, instr_below, names_after, put_end, put_instr, shift_end, shift_instr,
 };
 use idx_core::{OutOfMemory, Scoped, Span};
 use std::alloc::Global;
-use t_types::{RegFile, TType, file_below, put_regs};
+use t_types::{RegFile, TType, deeper, file_below, put_regs};
 
 // A body, and the number of type names after it.
 #[derive(Drop)]
@@ -67,19 +68,18 @@ fn put_body(
     Ok(Walked { body: made, depth })
 }
 
-// Whether each free index of a body and its end is less than n.
-fn body_below(entries: &[(Instr, Span)], last: &End, n: u128) -> bool
-    requires { n ≤ 2 ^ 65 }
-    ensures { IsTrue result ↔ BodyBelow n (body entries.now) (end_of last.now) }
+// Whether each free index of a body and its end is less than the bound, where `None` is past every index.
+fn body_below(entries: &[(Instr, Span)], last: &End, bound: Option<u64>) -> bool
+    ensures { Tells bound (λ n. BodyBelow n (body entries.now) (end_of last.now)) result }
 {
-    let mut depth = n;
+    let mut here = bound;
     for entry in entries {
-        if !instr_below(&entry.0, depth) {
+        if !instr_below(&entry.0, here) {
             return false;
         }
-        depth = depth_after(&entry.0, depth);
+        here = bound_after(&entry.0, here);
     }
-    end_below(last, depth)
+    end_below(last, here)
 }
 
 pub(crate) fn shift_block(alloc: Global, b: &Block, by: u64, cut: u64) -> Result<Block, OutOfMemory>
@@ -124,6 +124,6 @@ pub(crate) fn put_block(
 pub(crate) fn block_below(b: &Block, n: u64) -> bool
     ensures { IsTrue result ↔ each_spanned BelowAt AnyDepth n (spanned b.now) }
 {
-    let depth = u128::from(n) + u128::from(b.owes);
-    file_below(&b.regs, depth) && body_below(&b.body, &b.end, depth)
+    let bound = deeper(Some(n), b.owes);
+    file_below(&b.regs, bound) && body_below(&b.body, &b.end, bound)
 }

@@ -22,7 +22,7 @@ pub use block::Block;
 pub use data::Data;
 pub use fault::{TCode, TFault};
 pub use instr::{End, Instr};
-pub use laws::{places_aside, puts_exchange};
+pub use laws::{places_aside, puts_exchange, puts_under};
 pub use nesting_laws::{counts_open, keeps_by_nesting};
 pub use program::TProgram;
 pub use text_laws::{

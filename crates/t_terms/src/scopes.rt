@@ -50,7 +50,7 @@ impl Scoped for Value {
     }
 
     fn below(&self, n: u64) -> bool {
-        value_below(self, u128::from(n))
+        value_below(self, Some(n))
     }
 
     ghost is_part = { types_part };
@@ -88,7 +88,7 @@ impl Scoped for Instr {
     }
 
     fn below(&self, n: u64) -> bool {
-        instr_below(self, u128::from(n))
+        instr_below(self, Some(n))
     }
 
     ghost is_part = { types_part };
@@ -126,7 +126,7 @@ impl Scoped for End {
     }
 
     fn below(&self, n: u64) -> bool {
-        end_below(self, u128::from(n))
+        end_below(self, Some(n))
     }
 
     ghost is_part = { types_part };

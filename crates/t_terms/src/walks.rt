@@ -1,6 +1,7 @@
 // Shift and put of the types in values, instructions and ends, and how many of their variables are free.
-ghost use Rattle.std.specs.Prelude.{◌≡◌, ℕ, ◌<◌, ◌≤◌, ◌^◌, ◌↔◌, IfOk, IsTrue};
+ghost use Rattle.std.specs.Prelude.{◌≡◌, ℕ, ◌≤◌, IfOk};
 ghost use Rattle.idx_core.specs.Over.{IsWord, ShiftFitsAt, PutFitsAt, BelowAt, AnyDepth, shifted, putted};
+ghost use Rattle.t_types.specs.Bound.{IsBound, Tells};
 ghost use Rattle.t_types.specs.Read.{tree};
 ghost use Rattle.t_types.specs.Tree.{VarTy, over, each};
 ghost use Rattle.t_terms.specs.Read.{value, instr, end_of};
@@ -10,7 +11,7 @@ use crate::instr::{End, Instr};
 use crate::value::Value;
 use idx_core::{OutOfMemory, Scoped};
 use std::alloc::Global;
-use t_types::{TType, is_below, put_type, put_types, shift_types, types_below};
+use t_types::{TType, deeper, put_type, put_types, shift_types, type_below, types_below};
 
 pub(crate) fn shift_value(alloc: Global, v: &Value, by: u64, cut: u64) -> Result<Value, OutOfMemory>
     requires { each_value (ShiftFitsAt by) IsWord cut (value v.now) }
@@ -198,21 +199,23 @@ pub(crate) fn put_end(
     }
 }
 
-pub(crate) fn value_below(v: &Value, n: u128) -> bool
-    ensures { IsTrue result ↔ each_value BelowAt AnyDepth n (value v.now) }
+pub(crate) fn value_below(v: &Value, bound: Option<u64>) -> bool
+    ensures { Tells bound (λ n. each_value BelowAt AnyDepth n (value v.now)) result }
 {
     match v {
-        Value::Plain { base: _, types } => types_below(types, n),
+        Value::Plain { base: _, types } => types_below(types, bound),
         Value::Pack {
             hidden,
             inner,
             shape,
-        } => is_below(hidden, n) && value_below(inner, n) && is_below(shape, n),
+        } => {
+            type_below(hidden, bound) && value_below(inner, bound) && type_below(shape, bound)
+        }
     }
 }
 
-pub(crate) fn instr_below(i: &Instr, n: u128) -> bool
-    ensures { IsTrue result ↔ each_instr BelowAt AnyDepth n (instr i.now) }
+pub(crate) fn instr_below(i: &Instr, bound: Option<u64>) -> bool
+    ensures { Tells bound (λ n. each_instr BelowAt AnyDepth n (instr i.now)) result }
 {
     match i {
         Instr::Arith {
@@ -220,29 +223,29 @@ pub(crate) fn instr_below(i: &Instr, n: u128) -> bool
             rd: _,
             rs: _,
             v,
-        } => value_below(v, n),
-        Instr::Bnz { r: _, v } => value_below(v, n),
+        } => value_below(v, bound),
+        Instr::Bnz { r: _, v } => value_below(v, bound),
         Instr::Ld {
             rd: _,
             rs: _,
             field: _,
         } => true,
-        Instr::Malloc { rd: _, types } => types_below(types, n),
-        Instr::Mov { rd: _, v } => value_below(v, n),
+        Instr::Malloc { rd: _, types } => types_below(types, bound),
+        Instr::Mov { rd: _, v } => value_below(v, bound),
         Instr::St {
             rd: _,
             field: _,
             rs: _,
         } => true,
-        Instr::Unpack { rd: _, v } => value_below(v, n),
+        Instr::Unpack { rd: _, v } => value_below(v, bound),
     }
 }
 
-pub(crate) fn end_below(e: &End, n: u128) -> bool
-    ensures { IsTrue result ↔ each_end BelowAt AnyDepth n (end_of e.now) }
+pub(crate) fn end_below(e: &End, bound: Option<u64>) -> bool
+    ensures { Tells bound (λ n. each_end BelowAt AnyDepth n (end_of e.now)) result }
 {
     match e {
-        End::Jmp(v) => value_below(v, n),
+        End::Jmp(v) => value_below(v, bound),
         End::Halt => true,
     }
 }
@@ -258,13 +261,12 @@ pub fn names_after(i: &Instr, names: u64) -> u64
     }
 }
 
-// The same of a number that may be more than a u64.
-pub(crate) fn depth_after(i: &Instr, depth: u128) -> u128
-    requires { depth < 2 ^ 100 }
-    ensures { result ≡ names_after (instr i.now) depth }
+// The bound on indices after an instruction, where `None` is past every index.
+pub(crate) fn bound_after(i: &Instr, bound: Option<u64>) -> Option<u64>
+    ensures { (n : ℕ) → IsBound bound n → IsBound result (names_after (instr i.now) n) }
 {
     match i {
-        Instr::Unpack { rd: _, v: _ } => depth + 1,
-        _ => depth,
+        Instr::Unpack { rd: _, v: _ } => deeper(bound, 1),
+        _ => bound,
     }
 }

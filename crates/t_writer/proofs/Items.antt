@@ -10,6 +10,7 @@ use Rattle.std.proofs.Math.Seq.{take-append_seam}
 use Rattle.text_core.specs.Byte.{space, digit, letter, of_word, value, value_from}
 use Rattle.text_core.specs.Tokens.{Item, Gap, Spelling, look}
 use Rattle.text_core.specs.Lexeme.{Piece, PWord, PPlain, PNegative, POther, at_dashes, at_negative, piece, of_piece, sign_item, item}
+use Rattle.t_types.specs.WellFormed.{IsRegister}
 use Rattle.t_terms.specs.declared.token.Kind.{Kind}
 use Rattle.t_terms.specs.declared.token.Kind.TheVariants as k
 use Rattle.t_terms.specs.Tokens.{assembly, Keeps, word, signs}
@@ -176,7 +177,7 @@ abbrev pub Valid : Lexeme → Type 0
 Valid (Reserved u kind) = (is_word u ≡ true) × (word u ≡ kind) × Keeps kind
 Valid (TypeName n) = n < 2 ^ 64
 Valid (LabelName n) = n < 2 ^ 64
-Valid (Register r) = (1 ≤ r) × (r ≤ 9223372036854775807)
+Valid (Register r) = IsRegister r
 Valid (Number z) = IntFits z
 Valid (Digit n) = n ≤ 9
 Valid (Sign b kind) = (plain_sign b ≡ true) × (look signs b ≡ Some kind) × Keeps kind

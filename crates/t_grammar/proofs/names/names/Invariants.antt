@@ -1,12 +1,12 @@
 use Rattle.std.proofs.Common.{length, ◌-◌, [], ◌∷◌}
 use Rattle.text_core.specs.Table.{Nt, Tm, Do}
 use Rattle.t_terms.specs.declared.wanted.Wanted.TheVariants as want
-use Rattle.t_terms.specs.Machine.{LNames, MoreNames, CloseNames, OfNames}
+use Rattle.t_terms.specs.GrammarTable.{LNames, LMoreNames, MakeClosedNames, OfNames}
 use Rattle.t_grammar.specs.Reads.{ReadsSome}
 use Rattle.t_grammar.proofs.names.names.Given as goal
 
 abbrev pub invariant-loop-names : goal.invariant-loop-names
-invariant-loop-names l = ReadsSome LNames (Nt MoreNames ∷ (Tm want.RightBracket ∷ (Do CloseNames ∷ []))) l.tokens l.depth l.at l.next (OfNames l.names.items)
+invariant-loop-names l = ReadsSome LNames (Nt LMoreNames ∷ (Tm want.RightBracket ∷ (Do MakeClosedNames ∷ []))) l.tokens l.depth l.at l.next (OfNames l.names.items)
 
 abbrev pub decreases-loop-names : goal.decreases-loop-names
 decreases-loop-names l = length l.tokens - l.next

@@ -5,7 +5,7 @@ use Rattle.idx_core.specs.declared.span.Span.{Span}
 use Rattle.text_core.specs.Table.{Tm, Nt, Do, Mark}
 use Rattle.text_core.specs.Going.{at_the_end, other}
 use Rattle.t_terms.specs.declared.wanted.Wanted.TheVariants as want
-use Rattle.t_terms.specs.Machine.{LBinds, LFile, LRegs, MoreRegs, MakeFile, FirstReg, NextReg, CloseRegs, LT, LFields, MoreFields, FirstField, NextField, CloseFields, TypeInt, TypeName, TypeCode, TypeSome, TypeTuple, type_after}
+use Rattle.t_terms.specs.GrammarTable.{LBinds, LFile, LRegs, LMoreRegs, MakeFile, MakeFirstReg, MakeNextReg, MakeClosedRegs, LT, LFields, LMoreFields, MakeFirstField, MakeNextField, MakeClosedFields, MakeTypeInt, MakeTypeName, MakeTypeCode, MakeTypeSome, MakeTypeTuple, type_after}
 use Rattle.t_grammar.specs.declared.raw.RawType.{RawType}
 use Rattle.t_grammar.specs.Reads.{entry_owed, field_owed}
 use Rattle.t_grammar.proofs.Stepping.{within, start, begins, by_token, by_two, by_call, by_do, by_mark, by_same, stop_token, stop_two, stop_call, stop_deep, stop_lacks, not_opening, too_deep, bracketed, bracketed_stops, list_first, list_first_stops, list_next, list_next_stops, list_whole, list_close_stops}
@@ -116,7 +116,7 @@ regs-returns-in_err-first t c =
     let d = c.args.depth in
     let i = c.args.at in
     let p = err_from_is_err_and c.from_residual.result c.from_residual.ensures.1 in
-    rw (p.1, p.2) (list_first_stops LRegs MoreRegs want.RightBrace entry_owed FirstReg NextReg CloseRegs list_regs ts d i _ (sym c.take.ensures ∙ c.in_default.is) c.in_err-first.ensures)
+    rw (p.1, p.2) (list_first_stops LRegs LMoreRegs want.RightBrace entry_owed MakeFirstReg MakeNextReg MakeClosedRegs list_regs ts d i _ (sym c.take.ensures ∙ c.in_default.is) c.in_err-first.ensures)
 
 pub regs-loop-regs-init : goal.regs-loop-regs-init
 regs-loop-regs-init t c =
@@ -126,7 +126,7 @@ regs-loop-regs-init t c =
     let f = c.in_ok-first.first in
     let r = c.in_ok-first.ensures in
     let e : c.push.new.self.items ≡ f.entry ∷ [] = c.in_ok-push.ensures.items ∙ ap (λ (xs : List (ℕ × Span × RawType)). xs ++ f.entry ∷ []) c.new-regs.ensures.items in
-    rw (e, r.is) (list_first LRegs MoreRegs want.RightBrace entry_owed FirstReg NextReg CloseRegs list_regs ts d i f.next _ _ (sym c.take.ensures ∙ c.in_default.is) r.reads (λ below. refl))
+    rw (e, r.is) (list_first LRegs LMoreRegs want.RightBrace entry_owed MakeFirstReg MakeNextReg MakeClosedRegs list_regs ts d i f.next _ _ (sym c.take.ensures ∙ c.in_default.is) r.reads (λ below. refl))
 
 pub regs-entry-requires-in-Some-take : goal.regs-entry-requires-in-Some-take
 regs-entry-requires-in-Some-take t c =
@@ -144,7 +144,7 @@ regs-returns-in_err-found t c =
     let d = c.args.depth in
     let i = c.args.at in
     let p = err_from_is_err_and c.from_residual-in_err-found.result c.from_residual-in_err-found.ensures.1 in
-    rw (p.1, p.2) (list_next_stops LRegs MoreRegs want.RightBrace entry_owed FirstReg NextReg CloseRegs list_regs ts d i c.loop-regs.next _ _ _ c.requires.depth c.loop-regs.invariant (sym c.take-in-loop-regs.ensures ∙ c.in-Some-take.is) c.in_err-found.ensures)
+    rw (p.1, p.2) (list_next_stops LRegs LMoreRegs want.RightBrace entry_owed MakeFirstReg MakeNextReg MakeClosedRegs list_regs ts d i c.loop-regs.next _ _ _ c.requires.depth c.loop-regs.invariant (sym c.take-in-loop-regs.ensures ∙ c.in-Some-take.is) c.in_err-found.ensures)
 
 pub regs-loop-regs-preserved : goal.regs-loop-regs-preserved
 regs-loop-regs-preserved t c =
@@ -154,7 +154,7 @@ regs-loop-regs-preserved t c =
     let f = c.in_ok-found.found in
     let r = c.in_ok-found.ensures in
     rw (regs_more c.loop-regs.regs.items _ f.entry c.in_ok-push-2.ensures.items, r.is)
-    (list_next LRegs MoreRegs want.RightBrace entry_owed FirstReg NextReg CloseRegs list_regs ts d i c.loop-regs.next f.next _ _ _ _ c.requires.depth c.loop-regs.invariant (sym c.take-in-loop-regs.ensures ∙ c.in-Some-take.is) r.reads (λ below. refl))
+    (list_next LRegs LMoreRegs want.RightBrace entry_owed MakeFirstReg MakeNextReg MakeClosedRegs list_regs ts d i c.loop-regs.next f.next _ _ _ _ c.requires.depth c.loop-regs.invariant (sym c.take-in-loop-regs.ensures ∙ c.in-Some-take.is) r.reads (λ below. refl))
 
 pub regs-returns-in_err-close : goal.regs-returns-in_err-close
 regs-returns-in_err-close t c =
@@ -162,14 +162,14 @@ regs-returns-in_err-close t c =
     let d = c.args.depth in
     let i = c.args.at in
     let p = err_from_is_err_and c.from_residual-in_err-close.result c.from_residual-in_err-close.ensures.1 in
-    rw (p.1, p.2) (list_close_stops LRegs MoreRegs want.RightBrace entry_owed FirstReg NextReg CloseRegs list_regs ts d i c.loop-regs.next _ _ c.loop-regs.invariant (sym c.take-in-loop-regs.ensures ∙ c.in_default-take.is) c.in_err-close.ensures)
+    rw (p.1, p.2) (list_close_stops LRegs LMoreRegs want.RightBrace entry_owed MakeFirstReg MakeNextReg MakeClosedRegs list_regs ts d i c.loop-regs.next _ _ c.loop-regs.invariant (sym c.take-in-loop-regs.ensures ∙ c.in_default-take.is) c.in_err-close.ensures)
 
 pub regs-returns : goal.regs-returns
 regs-returns t c =
     let ts = c.args.tokens.now in
     let d = c.args.depth in
     let i = c.args.at in
-    (list_whole LRegs MoreRegs want.RightBrace entry_owed FirstReg NextReg CloseRegs list_regs ts d i c.loop-regs.next _ _ _ c.requires.depth c.loop-regs.invariant (sym c.take-in-loop-regs.ensures ∙ c.in_default-take.is) c.in_ok-close.ensures (λ below. refl))
+    (list_whole LRegs LMoreRegs want.RightBrace entry_owed MakeFirstReg MakeNextReg MakeClosedRegs list_regs ts d i c.loop-regs.next _ _ _ c.requires.depth c.loop-regs.invariant (sym c.take-in-loop-regs.ensures ∙ c.in_default-take.is) c.in_ok-close.ensures (λ below. refl))
 
 pub fields-returns-in-Some : goal.fields-returns-in-Some
 fields-returns-in-Some t c =
@@ -184,7 +184,7 @@ fields-returns-in_err-first t c =
     let d = c.args.depth in
     let i = c.args.at in
     let p = err_from_is_err_and c.from_residual.result c.from_residual.ensures.1 in
-    rw (p.1, p.2) (list_first_stops LFields MoreFields want.RightAngle field_owed FirstField NextField CloseFields list_fields ts d i _ (sym c.take.ensures ∙ c.in_default.is) c.in_err-first.ensures)
+    rw (p.1, p.2) (list_first_stops LFields LMoreFields want.RightAngle field_owed MakeFirstField MakeNextField MakeClosedFields list_fields ts d i _ (sym c.take.ensures ∙ c.in_default.is) c.in_err-first.ensures)
 
 pub fields-loop-fields-init : goal.fields-loop-fields-init
 fields-loop-fields-init t c =
@@ -194,7 +194,7 @@ fields-loop-fields-init t c =
     let f = c.in_ok-first.first in
     let r = c.in_ok-first.ensures in
     let e : c.push.new.self.items ≡ f.field ∷ [] = c.in_ok-push.ensures.items ∙ ap (λ (xs : List (RawType × Bool)). xs ++ f.field ∷ []) c.new-fields.ensures.items in
-    rw (e, r.is) (list_first LFields MoreFields want.RightAngle field_owed FirstField NextField CloseFields list_fields ts d i f.next _ _ (sym c.take.ensures ∙ c.in_default.is) r.reads (λ below. refl))
+    rw (e, r.is) (list_first LFields LMoreFields want.RightAngle field_owed MakeFirstField MakeNextField MakeClosedFields list_fields ts d i f.next _ _ (sym c.take.ensures ∙ c.in_default.is) r.reads (λ below. refl))
 
 pub fields-field-requires-in-Some-take : goal.fields-field-requires-in-Some-take
 fields-field-requires-in-Some-take t c =
@@ -212,7 +212,7 @@ fields-returns-in_err-found t c =
     let d = c.args.depth in
     let i = c.args.at in
     let p = err_from_is_err_and c.from_residual-in_err-found.result c.from_residual-in_err-found.ensures.1 in
-    rw (p.1, p.2) (list_next_stops LFields MoreFields want.RightAngle field_owed FirstField NextField CloseFields list_fields ts d i c.loop-fields.next _ _ _ c.requires.depth c.loop-fields.invariant (sym c.take-in-loop-fields.ensures ∙ c.in-Some-take.is) c.in_err-found.ensures)
+    rw (p.1, p.2) (list_next_stops LFields LMoreFields want.RightAngle field_owed MakeFirstField MakeNextField MakeClosedFields list_fields ts d i c.loop-fields.next _ _ _ c.requires.depth c.loop-fields.invariant (sym c.take-in-loop-fields.ensures ∙ c.in-Some-take.is) c.in_err-found.ensures)
 
 pub fields-loop-fields-preserved : goal.fields-loop-fields-preserved
 fields-loop-fields-preserved t c =
@@ -222,7 +222,7 @@ fields-loop-fields-preserved t c =
     let f = c.in_ok-found.found in
     let r = c.in_ok-found.ensures in
     rw (fields_more c.loop-fields.fields.items _ f.field c.in_ok-push-2.ensures.items, r.is)
-    (list_next LFields MoreFields want.RightAngle field_owed FirstField NextField CloseFields list_fields ts d i c.loop-fields.next f.next _ _ _ _ c.requires.depth c.loop-fields.invariant (sym c.take-in-loop-fields.ensures ∙ c.in-Some-take.is) r.reads (λ below. refl))
+    (list_next LFields LMoreFields want.RightAngle field_owed MakeFirstField MakeNextField MakeClosedFields list_fields ts d i c.loop-fields.next f.next _ _ _ _ c.requires.depth c.loop-fields.invariant (sym c.take-in-loop-fields.ensures ∙ c.in-Some-take.is) r.reads (λ below. refl))
 
 pub fields-returns-in_err-close : goal.fields-returns-in_err-close
 fields-returns-in_err-close t c =
@@ -230,14 +230,14 @@ fields-returns-in_err-close t c =
     let d = c.args.depth in
     let i = c.args.at in
     let p = err_from_is_err_and c.from_residual-in_err-close.result c.from_residual-in_err-close.ensures.1 in
-    rw (p.1, p.2) (list_close_stops LFields MoreFields want.RightAngle field_owed FirstField NextField CloseFields list_fields ts d i c.loop-fields.next _ _ c.loop-fields.invariant (sym c.take-in-loop-fields.ensures ∙ c.in_default-take.is) c.in_err-close.ensures)
+    rw (p.1, p.2) (list_close_stops LFields LMoreFields want.RightAngle field_owed MakeFirstField MakeNextField MakeClosedFields list_fields ts d i c.loop-fields.next _ _ c.loop-fields.invariant (sym c.take-in-loop-fields.ensures ∙ c.in_default-take.is) c.in_err-close.ensures)
 
 pub fields-returns : goal.fields-returns
 fields-returns t c =
     let ts = c.args.tokens.now in
     let d = c.args.depth in
     let i = c.args.at in
-    rw (raw_Tuple c.loop-fields.fields) (list_whole LFields MoreFields want.RightAngle field_owed FirstField NextField CloseFields list_fields ts d i c.loop-fields.next _ _ _ c.requires.depth c.loop-fields.invariant (sym c.take-in-loop-fields.ensures ∙ c.in_default-take.is) c.in_ok-close.ensures (λ below. refl))
+    rw (raw_Tuple c.loop-fields.fields) (list_whole LFields LMoreFields want.RightAngle field_owed MakeFirstField MakeNextField MakeClosedFields list_fields ts d i c.loop-fields.next _ _ _ c.requires.depth c.loop-fields.invariant (sym c.take-in-loop-fields.ensures ∙ c.in_default-take.is) c.in_ok-close.ensures (λ below. refl))
 
 pub file-returns-in_err-expect : goal.file-returns-in_err-expect
 file-returns-in_err-expect t c =
@@ -292,10 +292,10 @@ whole_type-returns-in_err-names-in-All t c =
     let d = c.args.depth in
     let i = c.args.at in
     let e : slice_get ts i ≡ Some c.in-Some.token = sym c.peek.ensures ∙ c.in-Some.is in
-    let a : type_after c.in-Some.token.kind ≡ Some (Nt LBinds ∷ (Nt LFile ∷ (Do TypeCode ∷ []))) = rw c.in-All.is refl in
-    let m = begins ts d i c.in-Some.token LT (Nt LBinds ∷ (Nt LFile ∷ (Do TypeCode ∷ []))) e a (omega arith) in
+    let a : type_after c.in-Some.token.kind ≡ Some (Nt LBinds ∷ (Nt LFile ∷ (Do MakeTypeCode ∷ []))) = rw c.in-All.is refl in
+    let m = begins ts d i c.in-Some.token LT (Nt LBinds ∷ (Nt LFile ∷ (Do MakeTypeCode ∷ []))) e a (omega arith) in
     let p = err_from_is_err_and c.from_residual.result c.from_residual.ensures.1 in
-    rw (p.1, p.2) (stop_call _ (Nt LBinds ∷ []) d (Nt LFile ∷ (Do TypeCode ∷ [])) _ m (omega arith) c.in_err-names-in-All.ensures)
+    rw (p.1, p.2) (stop_call _ (Nt LBinds ∷ []) d (Nt LFile ∷ (Do MakeTypeCode ∷ [])) _ m (omega arith) c.in_err-names-in-All.ensures)
 
 pub whole_type-file-requires : goal.whole_type-file-requires
 whole_type-file-requires t c =
@@ -311,11 +311,11 @@ whole_type-returns-in_err-found-in-All t c =
     let d = c.args.depth in
     let i = c.args.at in
     let e : slice_get ts i ≡ Some c.in-Some.token = sym c.peek.ensures ∙ c.in-Some.is in
-    let a : type_after c.in-Some.token.kind ≡ Some (Nt LBinds ∷ (Nt LFile ∷ (Do TypeCode ∷ []))) = rw c.in-All.is refl in
-    let m = begins ts d i c.in-Some.token LT (Nt LBinds ∷ (Nt LFile ∷ (Do TypeCode ∷ []))) e a (omega arith) in
-    let n = by_call d (Nt LFile ∷ (Do TypeCode ∷ [])) _ m (omega arith) c.in_ok-names-in-All.ensures.same in
+    let a : type_after c.in-Some.token.kind ≡ Some (Nt LBinds ∷ (Nt LFile ∷ (Do MakeTypeCode ∷ []))) = rw c.in-All.is refl in
+    let m = begins ts d i c.in-Some.token LT (Nt LBinds ∷ (Nt LFile ∷ (Do MakeTypeCode ∷ []))) e a (omega arith) in
+    let n = by_call d (Nt LFile ∷ (Do MakeTypeCode ∷ [])) _ m (omega arith) c.in_ok-names-in-All.ensures.same in
     let p = err_from_is_err_and c.from_residual-in_err-found-in-All.result c.from_residual-in_err-found-in-All.ensures.1 in
-    rw (p.1, p.2) (stop_call _ (Nt LFile ∷ []) d (Do TypeCode ∷ []) _ n (omega arith) c.in_err-found-in-All.ensures)
+    rw (p.1, p.2) (stop_call _ (Nt LFile ∷ []) d (Do MakeTypeCode ∷ []) _ n (omega arith) c.in_err-found-in-All.ensures)
 
 pub whole_type-returns-in_ok-found-in-All : goal.whole_type-returns-in_ok-found-in-All
 whole_type-returns-in_ok-found-in-All t c =
@@ -323,15 +323,15 @@ whole_type-returns-in_ok-found-in-All t c =
     let d = c.args.depth in
     let i = c.args.at in
     let e : slice_get ts i ≡ Some c.in-Some.token = sym c.peek.ensures ∙ c.in-Some.is in
-    let a : type_after c.in-Some.token.kind ≡ Some (Nt LBinds ∷ (Nt LFile ∷ (Do TypeCode ∷ []))) = rw c.in-All.is refl in
-    let m = begins ts d i c.in-Some.token LT (Nt LBinds ∷ (Nt LFile ∷ (Do TypeCode ∷ []))) e a (omega arith) in
-    let n = by_call d (Nt LFile ∷ (Do TypeCode ∷ [])) _ m (omega arith) c.in_ok-names-in-All.ensures.same in
+    let a : type_after c.in-Some.token.kind ≡ Some (Nt LBinds ∷ (Nt LFile ∷ (Do MakeTypeCode ∷ []))) = rw c.in-All.is refl in
+    let m = begins ts d i c.in-Some.token LT (Nt LBinds ∷ (Nt LFile ∷ (Do MakeTypeCode ∷ []))) e a (omega arith) in
+    let n = by_call d (Nt LFile ∷ (Do MakeTypeCode ∷ [])) _ m (omega arith) c.in_ok-names-in-All.ensures.same in
     let f = c.in_ok-found-in-All.found in
     let r = c.in_ok-found-in-All.ensures in
     rw (raw_Code c.in_ok-names-in-All.names.names f.file) (record {
       forward = omega (arith, c.in_ok-names-in-All.ensures.forward, r.forward);
       in_range = r.in_range;
-      same = by_do TypeCode [] _ _ (by_call d (Do TypeCode ∷ []) _ n (omega arith) r.same) (λ below. refl);
+      same = by_do MakeTypeCode [] _ _ (by_call d (Do MakeTypeCode ∷ []) _ n (omega arith) r.same) (λ below. refl);
     })
 
 pub whole_type-returns-in_err-inner-in-Some-kind : goal.whole_type-returns-in_err-inner-in-Some-kind
@@ -340,9 +340,9 @@ whole_type-returns-in_err-inner-in-Some-kind t c =
     let d = c.args.depth in
     let i = c.args.at in
     let e : slice_get ts i ≡ Some c.in-Some.token = sym c.peek.ensures ∙ c.in-Some.is in
-    let a : type_after c.in-Some.token.kind ≡ Some (Tm want.Name ∷ (Tm want.Dot ∷ (Nt LT ∷ (Mark ∷ (Do TypeSome ∷ []))))) = rw c.in-Some-kind.is refl in
+    let a : type_after c.in-Some.token.kind ≡ Some (Tm want.Name ∷ (Tm want.Dot ∷ (Nt LT ∷ (Mark ∷ (Do MakeTypeSome ∷ []))))) = rw c.in-Some-kind.is refl in
     let p = err_from_is_err_and c.from_residual-in_err-inner-in-Some-kind.result c.from_residual-in_err-inner-in-Some-kind.ensures.1 in
-    rw (p.1, p.2) (stop_deep _ c.in-Some.token LT (Tm want.Name ∷ (Tm want.Dot ∷ (Nt LT ∷ (Mark ∷ (Do TypeSome ∷ []))))) [] [] (start ts d i (Nt LT ∷ [])) e a refl c.in_err-inner-in-Some-kind.ensures)
+    rw (p.1, p.2) (stop_deep _ c.in-Some.token LT (Tm want.Name ∷ (Tm want.Dot ∷ (Nt LT ∷ (Mark ∷ (Do MakeTypeSome ∷ []))))) [] [] (start ts d i (Nt LT ∷ [])) e a refl c.in_err-inner-in-Some-kind.ensures)
 
 pub whole_type-returns-in_err-name-in-Some-kind : goal.whole_type-returns-in_err-name-in-Some-kind
 whole_type-returns-in_err-name-in-Some-kind t c =
@@ -350,11 +350,11 @@ whole_type-returns-in_err-name-in-Some-kind t c =
     let d = c.args.depth in
     let i = c.args.at in
     let e : slice_get ts i ≡ Some c.in-Some.token = sym c.peek.ensures ∙ c.in-Some.is in
-    let a : type_after c.in-Some.token.kind ≡ Some (Tm want.Name ∷ (Tm want.Dot ∷ (Nt LT ∷ (Mark ∷ (Do TypeSome ∷ []))))) = rw c.in-Some-kind.is refl in
+    let a : type_after c.in-Some.token.kind ≡ Some (Tm want.Name ∷ (Tm want.Dot ∷ (Nt LT ∷ (Mark ∷ (Do MakeTypeSome ∷ []))))) = rw c.in-Some-kind.is refl in
     let q = c.in_ok-inner-in-Some-kind.ensures in
-    let m = begins ts d i c.in-Some.token LT (Tm want.Name ∷ (Tm want.Dot ∷ (Nt LT ∷ (Mark ∷ (Do TypeSome ∷ []))))) e a (omega (arith, q.1)) in
+    let m = begins ts d i c.in-Some.token LT (Tm want.Name ∷ (Tm want.Dot ∷ (Nt LT ∷ (Mark ∷ (Do MakeTypeSome ∷ []))))) e a (omega (arith, q.1)) in
     let p = err_from_is_err_and c.from_residual-in_err-name-in-Some-kind.result c.from_residual-in_err-name-in-Some-kind.ensures.1 in
-    rw (p.1, p.2) (stop_two _ want.Name want.Dot (Nt LT ∷ (Mark ∷ (Do TypeSome ∷ []))) _ m (omega (arith, q.1)) c.in_err-name-in-Some-kind.ensures)
+    rw (p.1, p.2) (stop_two _ want.Name want.Dot (Nt LT ∷ (Mark ∷ (Do MakeTypeSome ∷ []))) _ m (omega (arith, q.1)) c.in_err-name-in-Some-kind.ensures)
 
 pub whole_type-whole_type-requires : goal.whole_type-whole_type-requires
 whole_type-whole_type-requires t c =
@@ -371,13 +371,13 @@ whole_type-returns-in_err-body-in-Some-kind t c =
     let d = c.args.depth in
     let i = c.args.at in
     let e : slice_get ts i ≡ Some c.in-Some.token = sym c.peek.ensures ∙ c.in-Some.is in
-    let a : type_after c.in-Some.token.kind ≡ Some (Tm want.Name ∷ (Tm want.Dot ∷ (Nt LT ∷ (Mark ∷ (Do TypeSome ∷ []))))) = rw c.in-Some-kind.is refl in
+    let a : type_after c.in-Some.token.kind ≡ Some (Tm want.Name ∷ (Tm want.Dot ∷ (Nt LT ∷ (Mark ∷ (Do MakeTypeSome ∷ []))))) = rw c.in-Some-kind.is refl in
     let q = c.in_ok-inner-in-Some-kind.ensures in
-    let m = begins ts d i c.in-Some.token LT (Tm want.Name ∷ (Tm want.Dot ∷ (Nt LT ∷ (Mark ∷ (Do TypeSome ∷ []))))) e a (omega (arith, q.1)) in
-    let n = by_two want.Name want.Dot _ _ (Nt LT ∷ (Mark ∷ (Do TypeSome ∷ []))) _ m c.in_ok-name-in-Some-kind.ensures (omega (arith, q.1)) in
+    let m = begins ts d i c.in-Some.token LT (Tm want.Name ∷ (Tm want.Dot ∷ (Nt LT ∷ (Mark ∷ (Do MakeTypeSome ∷ []))))) e a (omega (arith, q.1)) in
+    let n = by_two want.Name want.Dot _ _ (Nt LT ∷ (Mark ∷ (Do MakeTypeSome ∷ []))) _ m c.in_ok-name-in-Some-kind.ensures (omega (arith, q.1)) in
     let n3 = by_same {k = i + 3} (omega arith) n in
     let p = err_from_is_err_and c.from_residual-in_err-body-in-Some-kind.result c.from_residual-in_err-body-in-Some-kind.ensures.1 in
-    rw (p.1, p.2) (stop_call _ (Nt LT ∷ []) _ (Mark ∷ (Do TypeSome ∷ [])) _ n3 (omega (arith, q.0)) c.in_err-body-in-Some-kind.ensures)
+    rw (p.1, p.2) (stop_call _ (Nt LT ∷ []) _ (Mark ∷ (Do MakeTypeSome ∷ [])) _ n3 (omega (arith, q.0)) c.in_err-body-in-Some-kind.ensures)
 
 pub whole_type-returns-in_ok-ty-in-Some-kind : goal.whole_type-returns-in_ok-ty-in-Some-kind
 whole_type-returns-in_ok-ty-in-Some-kind t c =
@@ -385,16 +385,16 @@ whole_type-returns-in_ok-ty-in-Some-kind t c =
     let d = c.args.depth in
     let i = c.args.at in
     let e : slice_get ts i ≡ Some c.in-Some.token = sym c.peek.ensures ∙ c.in-Some.is in
-    let a : type_after c.in-Some.token.kind ≡ Some (Tm want.Name ∷ (Tm want.Dot ∷ (Nt LT ∷ (Mark ∷ (Do TypeSome ∷ []))))) = rw c.in-Some-kind.is refl in
+    let a : type_after c.in-Some.token.kind ≡ Some (Tm want.Name ∷ (Tm want.Dot ∷ (Nt LT ∷ (Mark ∷ (Do MakeTypeSome ∷ []))))) = rw c.in-Some-kind.is refl in
     let q = c.in_ok-inner-in-Some-kind.ensures in
-    let m = begins ts d i c.in-Some.token LT (Tm want.Name ∷ (Tm want.Dot ∷ (Nt LT ∷ (Mark ∷ (Do TypeSome ∷ []))))) e a (omega (arith, q.1)) in
-    let n = by_two want.Name want.Dot _ _ (Nt LT ∷ (Mark ∷ (Do TypeSome ∷ []))) _ m c.in_ok-name-in-Some-kind.ensures (omega (arith, q.1)) in
+    let m = begins ts d i c.in-Some.token LT (Tm want.Name ∷ (Tm want.Dot ∷ (Nt LT ∷ (Mark ∷ (Do MakeTypeSome ∷ []))))) e a (omega (arith, q.1)) in
+    let n = by_two want.Name want.Dot _ _ (Nt LT ∷ (Mark ∷ (Do MakeTypeSome ∷ []))) _ m c.in_ok-name-in-Some-kind.ensures (omega (arith, q.1)) in
     let n3 = by_same {k = i + 3} (omega arith) n in
     let r = c.in_ok-body-in-Some-kind.ensures in
     rw c.in_ok-ty-in-Some-kind.ensures (record {
       forward = omega (arith, r.forward);
       in_range = r.in_range;
-      same = by_do TypeSome [] _ _ (by_mark (Do TypeSome ∷ []) _ (by_call _ (Mark ∷ (Do TypeSome ∷ [])) _ n3 (omega (arith, q.0)) r.same)) (λ below. refl);
+      same = by_do MakeTypeSome [] _ _ (by_mark (Do MakeTypeSome ∷ []) _ (by_call _ (Mark ∷ (Do MakeTypeSome ∷ [])) _ n3 (omega (arith, q.0)) r.same)) (λ below. refl);
     })
 
 pub whole_type-returns-in_err-inner-in-LeftAngle : goal.whole_type-returns-in_err-inner-in-LeftAngle
@@ -403,9 +403,9 @@ whole_type-returns-in_err-inner-in-LeftAngle t c =
     let d = c.args.depth in
     let i = c.args.at in
     let e : slice_get ts i ≡ Some c.in-Some.token = sym c.peek.ensures ∙ c.in-Some.is in
-    let a : type_after c.in-Some.token.kind ≡ Some (Nt LFields ∷ (Mark ∷ (Do TypeTuple ∷ []))) = rw c.in-LeftAngle.is refl in
+    let a : type_after c.in-Some.token.kind ≡ Some (Nt LFields ∷ (Mark ∷ (Do MakeTypeTuple ∷ []))) = rw c.in-LeftAngle.is refl in
     let p = err_from_is_err_and c.from_residual-in_err-inner-in-LeftAngle.result c.from_residual-in_err-inner-in-LeftAngle.ensures.1 in
-    rw (p.1, p.2) (stop_deep _ c.in-Some.token LT (Nt LFields ∷ (Mark ∷ (Do TypeTuple ∷ []))) [] [] (start ts d i (Nt LT ∷ [])) e a refl c.in_err-inner-in-LeftAngle.ensures)
+    rw (p.1, p.2) (stop_deep _ c.in-Some.token LT (Nt LFields ∷ (Mark ∷ (Do MakeTypeTuple ∷ []))) [] [] (start ts d i (Nt LT ∷ [])) e a refl c.in_err-inner-in-LeftAngle.ensures)
 
 pub whole_type-fields-requires : goal.whole_type-fields-requires
 whole_type-fields-requires t c =
@@ -423,11 +423,11 @@ whole_type-returns-in_err-found-in-LeftAngle t c =
     let d = c.args.depth in
     let i = c.args.at in
     let e : slice_get ts i ≡ Some c.in-Some.token = sym c.peek.ensures ∙ c.in-Some.is in
-    let a : type_after c.in-Some.token.kind ≡ Some (Nt LFields ∷ (Mark ∷ (Do TypeTuple ∷ []))) = rw c.in-LeftAngle.is refl in
+    let a : type_after c.in-Some.token.kind ≡ Some (Nt LFields ∷ (Mark ∷ (Do MakeTypeTuple ∷ []))) = rw c.in-LeftAngle.is refl in
     let q = c.in_ok-inner-in-LeftAngle.ensures in
-    let m = begins ts d i c.in-Some.token LT (Nt LFields ∷ (Mark ∷ (Do TypeTuple ∷ []))) e a (omega (arith, q.1)) in
+    let m = begins ts d i c.in-Some.token LT (Nt LFields ∷ (Mark ∷ (Do MakeTypeTuple ∷ []))) e a (omega (arith, q.1)) in
     let p = err_from_is_err_and c.from_residual-in_err-found-in-LeftAngle.result c.from_residual-in_err-found-in-LeftAngle.ensures.1 in
-    rw (p.1, p.2) (stop_call _ (Nt LFields ∷ []) _ (Mark ∷ (Do TypeTuple ∷ [])) _ m (omega (arith, q.0)) c.in_err-found-in-LeftAngle.ensures)
+    rw (p.1, p.2) (stop_call _ (Nt LFields ∷ []) _ (Mark ∷ (Do MakeTypeTuple ∷ [])) _ m (omega (arith, q.0)) c.in_err-found-in-LeftAngle.ensures)
 
 pub whole_type-returns-in_ok-found-in-LeftAngle : goal.whole_type-returns-in_ok-found-in-LeftAngle
 whole_type-returns-in_ok-found-in-LeftAngle t c =
@@ -435,14 +435,14 @@ whole_type-returns-in_ok-found-in-LeftAngle t c =
     let d = c.args.depth in
     let i = c.args.at in
     let e : slice_get ts i ≡ Some c.in-Some.token = sym c.peek.ensures ∙ c.in-Some.is in
-    let a : type_after c.in-Some.token.kind ≡ Some (Nt LFields ∷ (Mark ∷ (Do TypeTuple ∷ []))) = rw c.in-LeftAngle.is refl in
+    let a : type_after c.in-Some.token.kind ≡ Some (Nt LFields ∷ (Mark ∷ (Do MakeTypeTuple ∷ []))) = rw c.in-LeftAngle.is refl in
     let q = c.in_ok-inner-in-LeftAngle.ensures in
-    let m = begins ts d i c.in-Some.token LT (Nt LFields ∷ (Mark ∷ (Do TypeTuple ∷ []))) e a (omega (arith, q.1)) in
+    let m = begins ts d i c.in-Some.token LT (Nt LFields ∷ (Mark ∷ (Do MakeTypeTuple ∷ []))) e a (omega (arith, q.1)) in
     let r = c.in_ok-found-in-LeftAngle.ensures in
     record {
       forward = omega (arith, r.forward);
       in_range = r.in_range;
-      same = by_do TypeTuple [] _ _ (by_mark (Do TypeTuple ∷ []) _ (by_call _ (Mark ∷ (Do TypeTuple ∷ [])) _ m (omega (arith, q.0)) r.same)) (λ below. refl);
+      same = by_do MakeTypeTuple [] _ _ (by_mark (Do MakeTypeTuple ∷ []) _ (by_call _ (Mark ∷ (Do MakeTypeTuple ∷ [])) _ m (omega (arith, q.0)) r.same)) (λ below. refl);
     }
 
 pub whole_type-returns-in-Int : goal.whole_type-returns-in-Int
@@ -451,12 +451,12 @@ whole_type-returns-in-Int t c =
     let d = c.args.depth in
     let i = c.args.at in
     let e : slice_get ts i ≡ Some c.in-Some.token = sym c.peek.ensures ∙ c.in-Some.is in
-    let a : type_after c.in-Some.token.kind ≡ Some (Do TypeInt ∷ []) = rw c.in-Int.is refl in
+    let a : type_after c.in-Some.token.kind ≡ Some (Do MakeTypeInt ∷ []) = rw c.in-Int.is refl in
     let l = slice_get_within ts i c.in-Some.token e in
     record {
       forward = omega arith;
       in_range = omega (arith, l);
-      same = by_do TypeInt [] _ _ (begins ts d i c.in-Some.token LT (Do TypeInt ∷ []) e a (omega arith)) (λ below. refl);
+      same = by_do MakeTypeInt [] _ _ (begins ts d i c.in-Some.token LT (Do MakeTypeInt ∷ []) e a (omega arith)) (λ below. refl);
     }
 
 pub whole_type-returns-in-Name : goal.whole_type-returns-in-Name
@@ -465,12 +465,12 @@ whole_type-returns-in-Name t c =
     let d = c.args.depth in
     let i = c.args.at in
     let e : slice_get ts i ≡ Some c.in-Some.token = sym c.peek.ensures ∙ c.in-Some.is in
-    let a : type_after c.in-Some.token.kind ≡ Some (Do TypeName ∷ []) = rw c.in-Name.is refl in
+    let a : type_after c.in-Some.token.kind ≡ Some (Do MakeTypeName ∷ []) = rw c.in-Name.is refl in
     let l = slice_get_within ts i c.in-Some.token e in
     record {
       forward = omega arith;
       in_range = omega (arith, l);
-      same = by_do TypeName [] _ _ (begins ts d i c.in-Some.token LT (Do TypeName ∷ []) e a (omega arith)) (λ below. refl);
+      same = by_do MakeTypeName [] _ _ (begins ts d i c.in-Some.token LT (Do MakeTypeName ∷ []) e a (omega arith)) (λ below. refl);
     }
 
 pub whole_type-returns-in_default : goal.whole_type-returns-in_default

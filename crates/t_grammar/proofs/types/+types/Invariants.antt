@@ -1,7 +1,7 @@
 use Rattle.std.proofs.Common.{◌+◌, length, ◌-◌, ◌*◌, map, [], ◌∷◌}
 use Rattle.text_core.specs.Table.{Nt, Tm, Do}
 use Rattle.t_terms.specs.declared.wanted.Wanted.TheVariants as want
-use Rattle.t_terms.specs.Machine.{LRegs, LFields, MoreRegs, MoreFields, CloseRegs, CloseFields, OfRegs, OfFields}
+use Rattle.t_terms.specs.GrammarTable.{LRegs, LFields, LMoreRegs, LMoreFields, MakeClosedRegs, MakeClosedFields, OfRegs, OfFields}
 use Rattle.t_grammar.specs.Raw.{raw_reg, raw_field}
 use Rattle.t_grammar.specs.Reads.{ReadsSome}
 use Rattle.t_grammar.proofs.types.+types.Given as goal
@@ -25,13 +25,13 @@ abbrev pub decreases-file : goal.decreases-file
 decreases-file l = 4 * (length l.tokens.now - l.at) + 3
 
 abbrev pub invariant-regs-loop-regs : goal.invariant-regs-loop-regs
-invariant-regs-loop-regs l = ReadsSome LRegs (Nt MoreRegs ∷ (Tm want.RightBrace ∷ (Do CloseRegs ∷ []))) l.tokens l.depth l.at l.next (OfRegs (map raw_reg l.regs.items))
+invariant-regs-loop-regs l = ReadsSome LRegs (Nt LMoreRegs ∷ (Tm want.RightBrace ∷ (Do MakeClosedRegs ∷ []))) l.tokens l.depth l.at l.next (OfRegs (map raw_reg l.regs.items))
 
 abbrev pub decreases-regs-loop-regs : goal.decreases-regs-loop-regs
 decreases-regs-loop-regs l = length l.tokens - l.next
 
 abbrev pub invariant-fields-loop-fields : goal.invariant-fields-loop-fields
-invariant-fields-loop-fields l = ReadsSome LFields (Nt MoreFields ∷ (Tm want.RightAngle ∷ (Do CloseFields ∷ []))) l.tokens l.depth l.at l.next (OfFields (map raw_field l.fields.items))
+invariant-fields-loop-fields l = ReadsSome LFields (Nt LMoreFields ∷ (Tm want.RightAngle ∷ (Do MakeClosedFields ∷ []))) l.tokens l.depth l.at l.next (OfFields (map raw_field l.fields.items))
 
 abbrev pub decreases-fields-loop-fields : goal.decreases-fields-loop-fields
 decreases-fields-loop-fields l = length l.tokens - l.next

@@ -1,7 +1,7 @@
 use Rattle.std.proofs.Common.{[], ◌∷◌, refl, arith}
 use Rattle.std.proofs.lemmas.Result.{err_from_is_err_and}
 use Rattle.text_core.specs.Table.{Nt, Do}
-use Rattle.t_terms.specs.Machine.{LEnd, MoreSteps, NoSteps, MakeBlock}
+use Rattle.t_terms.specs.GrammarTable.{LEnd, LMoreSteps, MakeNoSteps, MakeBlock}
 use Rattle.t_grammar.proofs.Stepping.{by_call, by_do, stop_call}
 use Rattle.t_shapes.specs.Reads.{head_owed, steps_owed}
 use Rattle.t_shapes.proofs.Blocked.{block_goes}
@@ -13,7 +13,7 @@ returns-in_err-head c =
     let i = c.args.at in
     let s = block_goes ts i in
     let p = err_from_is_err_and c.from_residual.result c.from_residual.ensures.1 in
-    rw (p.1, p.2) (stop_call _ head_owed 0 (Do NoSteps ∷ (Nt MoreSteps ∷ (Nt LEnd ∷ (Do MakeBlock ∷ [])))) [] s (omega arith) c.in_err-head.ensures)
+    rw (p.1, p.2) (stop_call _ head_owed 0 (Do MakeNoSteps ∷ (Nt LMoreSteps ∷ (Nt LEnd ∷ (Do MakeBlock ∷ [])))) [] s (omega arith) c.in_err-head.ensures)
 
 pub steps-requires : goal.steps-requires
 steps-requires c =
@@ -24,7 +24,7 @@ returns-in_err-body c =
     let ts = c.args.tokens.now in
     let i = c.args.at in
     let s = block_goes ts i in
-    let m1 = by_call 0 (Do NoSteps ∷ (Nt MoreSteps ∷ (Nt LEnd ∷ (Do MakeBlock ∷ [])))) [] s (omega arith) c.in_ok-head.ensures.reads.same in
+    let m1 = by_call 0 (Do MakeNoSteps ∷ (Nt LMoreSteps ∷ (Nt LEnd ∷ (Do MakeBlock ∷ [])))) [] s (omega arith) c.in_ok-head.ensures.reads.same in
     let p = err_from_is_err_and c.from_residual-in_err-body.result c.from_residual-in_err-body.ensures.1 in
     rw (p.1, p.2) (stop_call _ steps_owed 0 (Nt LEnd ∷ (Do MakeBlock ∷ [])) _ m1 (omega arith) c.in_err-body.ensures)
 
@@ -37,7 +37,7 @@ returns-in_err-end c =
     let ts = c.args.tokens.now in
     let i = c.args.at in
     let s = block_goes ts i in
-    let m1 = by_call 0 (Do NoSteps ∷ (Nt MoreSteps ∷ (Nt LEnd ∷ (Do MakeBlock ∷ [])))) [] s (omega arith) c.in_ok-head.ensures.reads.same in
+    let m1 = by_call 0 (Do MakeNoSteps ∷ (Nt LMoreSteps ∷ (Nt LEnd ∷ (Do MakeBlock ∷ [])))) [] s (omega arith) c.in_ok-head.ensures.reads.same in
     let m2 = by_call 0 (Nt LEnd ∷ (Do MakeBlock ∷ [])) _ m1 (omega arith) c.in_ok-body.ensures.same in
     let p = err_from_is_err_and c.from_residual-in_err-end.result c.from_residual-in_err-end.ensures.1 in
     rw (p.1, p.2) (stop_call _ (Nt LEnd ∷ []) 0 (Do MakeBlock ∷ []) _ m2 (omega arith) c.in_err-end.ensures)
@@ -47,7 +47,7 @@ returns c =
     let ts = c.args.tokens.now in
     let i = c.args.at in
     let s = block_goes ts i in
-    let m1 = by_call 0 (Do NoSteps ∷ (Nt MoreSteps ∷ (Nt LEnd ∷ (Do MakeBlock ∷ [])))) [] s (omega arith) c.in_ok-head.ensures.reads.same in
+    let m1 = by_call 0 (Do MakeNoSteps ∷ (Nt LMoreSteps ∷ (Nt LEnd ∷ (Do MakeBlock ∷ [])))) [] s (omega arith) c.in_ok-head.ensures.reads.same in
     let m2 = by_call 0 (Nt LEnd ∷ (Do MakeBlock ∷ [])) _ m1 (omega arith) c.in_ok-body.ensures.same in
     let r = c.in_ok-end.ensures in
     rw c.in_ok-head.ensures.is (record {

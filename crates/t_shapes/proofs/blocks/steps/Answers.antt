@@ -1,7 +1,7 @@
 use Rattle.std.proofs.Common.{[], ◌∷◌, refl, sym, ◌∙◌, arith}
 use Rattle.std.proofs.lemmas.Result.{err_from_is_err_and}
 use Rattle.text_core.specs.Table.{Nt}
-use Rattle.t_terms.specs.Machine.{LI, MoreSteps, NoSteps, NextStep, OfSteps, steps_tail}
+use Rattle.t_terms.specs.GrammarTable.{LI, LMoreSteps, MakeNoSteps, MakeNextStep, OfSteps, steps_tail}
 use Rattle.t_grammar.proofs.Stepping.{start, by_call, by_do, stop_call}
 use Rattle.t_shapes.specs.Reads.{steps_owed}
 use Rattle.t_shapes.proofs.Blocked.{as_instr, no_instr, steps_more}
@@ -11,7 +11,7 @@ pub loop-alloc-init : goal.loop-alloc-init
 loop-alloc-init c =
     let ts = c.args.tokens.now in
     let i = c.args.at in
-    rw c.new-steps.ensures.items (record { forward = omega arith; in_range = c.requires; same = by_do NoSteps (Nt MoreSteps ∷ []) [] (OfSteps [] ∷ []) (start ts 0 i steps_owed) (λ below. refl) })
+    rw c.new-steps.ensures.items (record { forward = omega arith; in_range = c.requires; same = by_do MakeNoSteps (Nt LMoreSteps ∷ []) [] (OfSteps [] ∷ []) (start ts 0 i steps_owed) (λ below. refl) })
 
 pub returns-in_err-found : goal.returns-in_err-found
 returns-in_err-found c =
@@ -42,7 +42,7 @@ loop-alloc-preserved c =
     rw (steps_more c.loop-alloc.steps.items _ c.in_ok-found.found.step c.in_ok-push.ensures.items) (record {
       forward = omega (arith, s.forward, r.forward);
       in_range = r.in_range;
-      same = by_do NextStep (Nt MoreSteps ∷ []) _ _ (by_call 0 steps_tail _ m (omega arith) r.same) (λ below. refl);
+      same = by_do MakeNextStep (Nt LMoreSteps ∷ []) _ _ (by_call 0 steps_tail _ m (omega arith) r.same) (λ below. refl);
     })
 
 pub returns : goal.returns

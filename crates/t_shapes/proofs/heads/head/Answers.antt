@@ -2,7 +2,7 @@ use Rattle.std.proofs.Common.{[], ◌∷◌, ◌+◌, refl, arith}
 use Rattle.std.proofs.lemmas.Result.{err_from_is_err_and}
 use Rattle.text_core.specs.Table.{Tm, Nt}
 use Rattle.t_terms.specs.declared.wanted.Wanted.TheVariants as want
-use Rattle.t_terms.specs.Machine.{LBinds, LFile}
+use Rattle.t_terms.specs.GrammarTable.{LBinds, LFile}
 use Rattle.t_grammar.proofs.Stepping.{within, start, by_token, by_two, by_call, by_same, stop_token, stop_two, stop_call}
 use Rattle.t_shapes.specs.Reads.{head_owed}
 use Rattle.t_shapes.proofs.heads.head.Goals as goal

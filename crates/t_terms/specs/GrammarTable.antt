@@ -9,7 +9,7 @@ use Rattle.t_terms.specs.declared.token.Token.{Token}
 use Rattle.t_terms.specs.declared.wanted.Wanted.{Wanted}
 use Rattle.t_terms.specs.declared.wanted.Wanted.TheVariants as want
 use Rattle.text_core.specs.Table as table_of
-use Rattle.text_core.specs.Table.{Sym, Tm, Nt, Do, Mark, Table}
+use Rattle.text_core.specs.Table.{Sym, Tm, Nt, Do, Mark, Table, then_more}
 use Rattle.t_terms.specs.Raw.{RawTy, RInt, RName, RCode, RSome, RTuple, RawRegs, RawReg, RawField, raw_regs, raw_fields, RawBase, RReg, RNum, RLabel, RawValue, RPlain, RPack, RawInstr, RArith, RBnz, RLd, RMalloc, RMov, RSt, RUnpack, RawEnd, RJmp, RHalt, RawBlock, Piece, ending, up_to}
 use Rattle.t_terms.specs.Grammar.{Program, open_Program}
 
@@ -17,23 +17,23 @@ use Rattle.t_terms.specs.Grammar.{Program, open_Program}
 pub data Line : Type 0 where
   LProgram : Line
   LBlock : Line
-  MoreBlocks : Line
+  LMoreBlocks : Line
   -- [ names ], and what follows on the bracket
   LBinds : Line
   LNames : Line
-  MoreNames : Line
+  LMoreNames : Line
   -- { .. }, and what follows on the brace
   LFile : Line
   LRegs : Line
-  MoreRegs : Line
+  LMoreRegs : Line
   LT : Line
   LFields : Line
-  MoreFields : Line
+  LMoreFields : Line
   -- [ ] or [ T , .. , T ], what follows on the bracket, and T , .. , T ]
   LTypes : Line
   LTypeList : Line
   LSomeTypes : Line
-  MoreTypes : Line
+  LMoreTypes : Line
   LV : Line
   -- [ T , .. , T ] after a base, or nothing
   LArgs : Line
@@ -49,34 +49,34 @@ pub data Line : Type 0 where
   -- [ int ]
   LInt : Line
   LI : Line
-  MoreSteps : Line
+  LMoreSteps : Line
   LEnd : Line
 
 -- what is made where a form is whole
 pub data Act : Type 0 where
-  NoNames : Act
-  FirstName : Act
-  NextName : Act
-  CloseNames : Act
+  MakeNoNames : Act
+  MakeFirstName : Act
+  MakeNextName : Act
+  MakeClosedNames : Act
   MakeBinds : Act
-  NoRegs : Act
-  FirstReg : Act
-  NextReg : Act
-  CloseRegs : Act
+  MakeNoRegs : Act
+  MakeFirstReg : Act
+  MakeNextReg : Act
+  MakeClosedRegs : Act
   MakeFile : Act
-  TypeInt : Act
-  TypeName : Act
-  TypeCode : Act
-  TypeSome : Act
-  NoFields : Act
-  FirstField : Act
-  NextField : Act
-  CloseFields : Act
-  TypeTuple : Act
-  NoTypes : Act
-  FirstType : Act
-  NextType : Act
-  CloseTypes : Act
+  MakeTypeInt : Act
+  MakeTypeName : Act
+  MakeTypeCode : Act
+  MakeTypeSome : Act
+  MakeNoFields : Act
+  MakeFirstField : Act
+  MakeNextField : Act
+  MakeClosedFields : Act
+  MakeTypeTuple : Act
+  MakeNoTypes : Act
+  MakeFirstType : Act
+  MakeNextType : Act
+  MakeClosedTypes : Act
   MakeTypes : Act
   MakeBase : Act
   MakeApply : Act
@@ -94,13 +94,13 @@ pub data Act : Type 0 where
   MakeMov : Act
   MakeSt : Act
   MakeUnpack : Act
-  NoSteps : Act
-  NextStep : Act
+  MakeNoSteps : Act
+  MakeNextStep : Act
   MakeJmp : Act
   MakeHalt : Act
   MakeBlock : Act
-  FirstBlock : Act
-  NextBlock : Act
+  MakeFirstBlock : Act
+  MakeNextBlock : Act
   MakeProgram : Act
 
 abbrev pub Stack : Type 0
@@ -111,7 +111,7 @@ pub record Packed : Type 0 where
   pub hidden : RawTy
   pub inner : RawValue
 
-pub record At : Type 0 where
+pub record FieldAt : Type 0 where
   pub reg : ℕ
   pub field : ℕ
   pub end : ℕ
@@ -134,7 +134,7 @@ pub data Val : Type 0 where
   OfPacked : Packed → Val
   OfReg : ℕ → Val
   OfIndex : Piece ℕ → Val
-  OfAt : At → Val
+  OfAt : FieldAt → Val
   OfTarget : Target → Val
   OfPlace : ℕ → Val
   OfStep : RawInstr × Span → Val
@@ -208,29 +208,29 @@ abbrev pub field_of : RawTy → Token → RawField
 field_of t n = record { ty = t; flag = flag_of n.kind }
 
 abbrev pub act : Act → List Val → List Val
-act NoNames (OfToken c ∷ vs) = OfNames [] ∷ vs
-act FirstName (OfToken n ∷ vs) = OfNames (n.span ∷ []) ∷ vs
-act NextName (OfToken n ∷ OfToken c ∷ OfNames ns ∷ vs) = OfNames (ns ++ n.span ∷ []) ∷ vs
-act CloseNames (OfToken c ∷ vs) = vs
+act MakeNoNames (OfToken c ∷ vs) = OfNames [] ∷ vs
+act MakeFirstName (OfToken n ∷ vs) = OfNames (n.span ∷ []) ∷ vs
+act MakeNextName (OfToken n ∷ OfToken c ∷ OfNames ns ∷ vs) = OfNames (ns ++ n.span ∷ []) ∷ vs
+act MakeClosedNames (OfToken c ∷ vs) = vs
 act MakeBinds (OfNames ns ∷ OfToken o ∷ vs) = OfNames ns ∷ vs
-act NoRegs (OfToken c ∷ vs) = OfFile (ending (raw_regs []) c.span.end) ∷ vs
-act FirstReg (OfType t ∷ OfToken c ∷ OfToken r ∷ vs) = OfRegs (reg_of r t.tree ∷ []) ∷ vs
-act NextReg (OfType t ∷ OfToken d ∷ OfToken r ∷ OfToken c ∷ OfRegs rs ∷ vs) = OfRegs (rs ++ reg_of r t.tree ∷ []) ∷ vs
-act CloseRegs (OfToken c ∷ OfRegs rs ∷ vs) = OfFile (ending (raw_regs rs) c.span.end) ∷ vs
+act MakeNoRegs (OfToken c ∷ vs) = OfFile (ending (raw_regs []) c.span.end) ∷ vs
+act MakeFirstReg (OfType t ∷ OfToken c ∷ OfToken r ∷ vs) = OfRegs (reg_of r t.tree ∷ []) ∷ vs
+act MakeNextReg (OfType t ∷ OfToken d ∷ OfToken r ∷ OfToken c ∷ OfRegs rs ∷ vs) = OfRegs (rs ++ reg_of r t.tree ∷ []) ∷ vs
+act MakeClosedRegs (OfToken c ∷ OfRegs rs ∷ vs) = OfFile (ending (raw_regs rs) c.span.end) ∷ vs
 act MakeFile (OfFile f ∷ OfToken o ∷ vs) = OfFile f ∷ vs
-act TypeInt (OfToken i ∷ vs) = OfType (ending RInt i.span.end) ∷ vs
-act TypeName (OfToken n ∷ vs) = OfType (ending (RName n.span) n.span.end) ∷ vs
-act TypeCode (OfFile f ∷ OfNames ns ∷ OfToken a ∷ vs) = OfType (ending (RCode ns f.tree) f.end) ∷ vs
-act TypeSome (OfType t ∷ OfToken d ∷ OfToken n ∷ OfToken s ∷ vs) = OfType (ending (RSome n.span t.tree) t.end) ∷ vs
-act NoFields (OfToken c ∷ vs) = OfType (ending (RTuple (raw_fields [])) c.span.end) ∷ vs
-act FirstField (OfToken n ∷ OfToken h ∷ OfType t ∷ vs) = OfFields (field_of t.tree n ∷ []) ∷ vs
-act NextField (OfToken n ∷ OfToken h ∷ OfType t ∷ OfToken c ∷ OfFields fs ∷ vs) = OfFields (fs ++ field_of t.tree n ∷ []) ∷ vs
-act CloseFields (OfToken c ∷ OfFields fs ∷ vs) = OfType (ending (RTuple (raw_fields fs)) c.span.end) ∷ vs
-act TypeTuple (OfType t ∷ OfToken o ∷ vs) = OfType t ∷ vs
-act NoTypes (OfToken c ∷ vs) = OfList (ending [] c.span.end) ∷ vs
-act FirstType (OfType t ∷ vs) = OfTypes (t.tree ∷ []) ∷ vs
-act NextType (OfType t ∷ OfToken c ∷ OfTypes ts ∷ vs) = OfTypes (ts ++ t.tree ∷ []) ∷ vs
-act CloseTypes (OfToken c ∷ OfTypes ts ∷ vs) = OfList (ending ts c.span.end) ∷ vs
+act MakeTypeInt (OfToken i ∷ vs) = OfType (ending RInt i.span.end) ∷ vs
+act MakeTypeName (OfToken n ∷ vs) = OfType (ending (RName n.span) n.span.end) ∷ vs
+act MakeTypeCode (OfFile f ∷ OfNames ns ∷ OfToken a ∷ vs) = OfType (ending (RCode ns f.tree) f.end) ∷ vs
+act MakeTypeSome (OfType t ∷ OfToken d ∷ OfToken n ∷ OfToken s ∷ vs) = OfType (ending (RSome n.span t.tree) t.end) ∷ vs
+act MakeNoFields (OfToken c ∷ vs) = OfType (ending (RTuple (raw_fields [])) c.span.end) ∷ vs
+act MakeFirstField (OfToken n ∷ OfToken h ∷ OfType t ∷ vs) = OfFields (field_of t.tree n ∷ []) ∷ vs
+act MakeNextField (OfToken n ∷ OfToken h ∷ OfType t ∷ OfToken c ∷ OfFields fs ∷ vs) = OfFields (fs ++ field_of t.tree n ∷ []) ∷ vs
+act MakeClosedFields (OfToken c ∷ OfFields fs ∷ vs) = OfType (ending (RTuple (raw_fields fs)) c.span.end) ∷ vs
+act MakeTypeTuple (OfType t ∷ OfToken o ∷ vs) = OfType t ∷ vs
+act MakeNoTypes (OfToken c ∷ vs) = OfList (ending [] c.span.end) ∷ vs
+act MakeFirstType (OfType t ∷ vs) = OfTypes (t.tree ∷ []) ∷ vs
+act MakeNextType (OfType t ∷ OfToken c ∷ OfTypes ts ∷ vs) = OfTypes (ts ++ t.tree ∷ []) ∷ vs
+act MakeClosedTypes (OfToken c ∷ OfTypes ts ∷ vs) = OfList (ending ts c.span.end) ∷ vs
 act MakeTypes (OfList l ∷ OfToken o ∷ vs) = OfList l ∷ vs
 act MakeBase (OfToken b ∷ vs) = OfValue (ending (RPlain (base_of b.kind b.span) []) b.span.end) ∷ vs
 act MakeApply (OfList l ∷ OfToken o ∷ OfValue v ∷ vs) = OfValue (ending (applied v.tree l.tree) l.end) ∷ vs
@@ -248,32 +248,28 @@ act MakeMalloc (OfList l ∷ OfToken r ∷ OfToken a ∷ vs) = OfStep (RMalloc (
 act MakeMov (OfValue v ∷ OfReg rd ∷ OfToken a ∷ vs) = OfStep (RMov rd v.tree, up_to a.span v.end) ∷ vs
 act MakeSt (OfToken r ∷ OfToken c ∷ OfAt x ∷ OfToken a ∷ vs) = OfStep (RSt x.reg x.field (register_of r.kind), up_to a.span r.span.end) ∷ vs
 act MakeUnpack (OfValue v ∷ OfToken c ∷ OfTarget x ∷ OfToken a ∷ vs) = OfStep (RUnpack x.name x.reg v.tree, up_to a.span v.end) ∷ vs
-act NoSteps vs = OfSteps [] ∷ vs
-act NextStep (OfStep i ∷ OfSteps is ∷ vs) = OfSteps (is ++ i ∷ []) ∷ vs
+act MakeNoSteps vs = OfSteps [] ∷ vs
+act MakeNextStep (OfStep i ∷ OfSteps is ∷ vs) = OfSteps (is ++ i ∷ []) ∷ vs
 act MakeJmp (OfValue v ∷ OfToken a ∷ vs) = OfEnd (RJmp v.tree, up_to a.span v.end) ∷ vs
 act MakeHalt (OfPlace e ∷ OfToken a ∷ vs) = OfEnd (RHalt, up_to a.span e) ∷ vs
 act MakeBlock (OfEnd e ∷ OfSteps is ∷ OfToken p ∷ OfFile f ∷ OfNames ns ∷ OfToken d ∷ OfToken c ∷ OfToken l ∷ vs) = OfBlock (record { name = l.span; names = ns; file = f.tree; body = is; last = e }) ∷ vs
-act FirstBlock (OfBlock b ∷ vs) = OfBlocks (b ∷ []) ∷ vs
-act NextBlock (OfBlock b ∷ OfBlocks bs ∷ vs) = OfBlocks (bs ++ b ∷ []) ∷ vs
+act MakeFirstBlock (OfBlock b ∷ vs) = OfBlocks (b ∷ []) ∷ vs
+act MakeNextBlock (OfBlock b ∷ OfBlocks bs ∷ vs) = OfBlocks (bs ++ b ∷ []) ∷ vs
 act MakeProgram (OfBlocks bs ∷ OfToken n ∷ OfToken t ∷ vs) = OfBlocks bs ∷ vs
 act _ vs = vs
 
 -- what is still owed of a line after its first token, or none where it cannot begin with it
-abbrev pub then_more : Option Stack → Stack → Option Stack
-then_more None s = None
-then_more (Some r) s = Some (r ++ s)
-
 abbrev pub binds_after : Kind → Option Stack
 binds_after k.LeftBracket = Some (Nt LNames ∷ (Mark ∷ (Do MakeBinds ∷ [])))
 binds_after _ = None
 
-abbrev pub names_after : Kind → Option Stack
-names_after k.RightBracket = Some (Do NoNames ∷ [])
-names_after k.Name = Some (Do FirstName ∷ (Nt MoreNames ∷ (Tm want.RightBracket ∷ (Do CloseNames ∷ []))))
-names_after _ = None
+abbrev pub name_list_after : Kind → Option Stack
+name_list_after k.RightBracket = Some (Do MakeNoNames ∷ [])
+name_list_after k.Name = Some (Do MakeFirstName ∷ (Nt LMoreNames ∷ (Tm want.RightBracket ∷ (Do MakeClosedNames ∷ []))))
+name_list_after _ = None
 
 abbrev pub name_commas_after : Kind → Option Stack
-name_commas_after k.Comma = Some (Tm want.Name ∷ (Do NextName ∷ (Nt MoreNames ∷ [])))
+name_commas_after k.Comma = Some (Tm want.Name ∷ (Do MakeNextName ∷ (Nt LMoreNames ∷ [])))
 name_commas_after _ = None
 
 abbrev pub file_after : Kind → Option Stack
@@ -281,31 +277,31 @@ file_after k.LeftBrace = Some (Nt LRegs ∷ (Mark ∷ (Do MakeFile ∷ [])))
 file_after _ = None
 
 abbrev pub regs_after : Kind → Option Stack
-regs_after k.RightBrace = Some (Do NoRegs ∷ [])
-regs_after (k.Register r) = Some (Tm want.Colon ∷ (Nt LT ∷ (Do FirstReg ∷ (Nt MoreRegs ∷ (Tm want.RightBrace ∷ (Do CloseRegs ∷ []))))))
+regs_after k.RightBrace = Some (Do MakeNoRegs ∷ [])
+regs_after (k.Register r) = Some (Tm want.Colon ∷ (Nt LT ∷ (Do MakeFirstReg ∷ (Nt LMoreRegs ∷ (Tm want.RightBrace ∷ (Do MakeClosedRegs ∷ []))))))
 regs_after _ = None
 
 abbrev pub reg_commas_after : Kind → Option Stack
-reg_commas_after k.Comma = Some (Tm want.Register ∷ (Tm want.Colon ∷ (Nt LT ∷ (Do NextReg ∷ (Nt MoreRegs ∷ [])))))
+reg_commas_after k.Comma = Some (Tm want.Register ∷ (Tm want.Colon ∷ (Nt LT ∷ (Do MakeNextReg ∷ (Nt LMoreRegs ∷ [])))))
 reg_commas_after _ = None
 
 abbrev pub type_after : Kind → Option Stack
-type_after k.Int = Some (Do TypeInt ∷ [])
-type_after k.Name = Some (Do TypeName ∷ [])
-type_after k.All = Some (Nt LBinds ∷ (Nt LFile ∷ (Do TypeCode ∷ [])))
-type_after k.Some = Some (Tm want.Name ∷ (Tm want.Dot ∷ (Nt LT ∷ (Mark ∷ (Do TypeSome ∷ [])))))
-type_after k.LeftAngle = Some (Nt LFields ∷ (Mark ∷ (Do TypeTuple ∷ [])))
+type_after k.Int = Some (Do MakeTypeInt ∷ [])
+type_after k.Name = Some (Do MakeTypeName ∷ [])
+type_after k.All = Some (Nt LBinds ∷ (Nt LFile ∷ (Do MakeTypeCode ∷ [])))
+type_after k.Some = Some (Tm want.Name ∷ (Tm want.Dot ∷ (Nt LT ∷ (Mark ∷ (Do MakeTypeSome ∷ [])))))
+type_after k.LeftAngle = Some (Nt LFields ∷ (Mark ∷ (Do MakeTypeTuple ∷ [])))
 type_after _ = None
 
 abbrev pub fields_tail : Stack
-fields_tail = Tm want.Caret ∷ (Tm want.Flag ∷ (Do FirstField ∷ (Nt MoreFields ∷ (Tm want.RightAngle ∷ (Do CloseFields ∷ [])))))
+fields_tail = Tm want.Caret ∷ (Tm want.Flag ∷ (Do MakeFirstField ∷ (Nt LMoreFields ∷ (Tm want.RightAngle ∷ (Do MakeClosedFields ∷ [])))))
 
 abbrev pub fields_after : Kind → Option Stack
-fields_after k.RightAngle = Some (Do NoFields ∷ [])
+fields_after k.RightAngle = Some (Do MakeNoFields ∷ [])
 fields_after c = then_more (type_after c) fields_tail
 
 abbrev pub field_commas_after : Kind → Option Stack
-field_commas_after k.Comma = Some (Nt LT ∷ (Tm want.Caret ∷ (Tm want.Flag ∷ (Do NextField ∷ (Nt MoreFields ∷ [])))))
+field_commas_after k.Comma = Some (Nt LT ∷ (Tm want.Caret ∷ (Tm want.Flag ∷ (Do MakeNextField ∷ (Nt LMoreFields ∷ [])))))
 field_commas_after _ = None
 
 abbrev pub types_after : Kind → Option Stack
@@ -313,17 +309,17 @@ types_after k.LeftBracket = Some (Nt LTypeList ∷ (Mark ∷ (Do MakeTypes ∷ [
 types_after _ = None
 
 abbrev pub types_tail : Stack
-types_tail = Do FirstType ∷ (Nt MoreTypes ∷ (Tm want.RightBracket ∷ (Do CloseTypes ∷ [])))
+types_tail = Do MakeFirstType ∷ (Nt LMoreTypes ∷ (Tm want.RightBracket ∷ (Do MakeClosedTypes ∷ [])))
 
 abbrev pub some_types_after : Kind → Option Stack
 some_types_after c = then_more (type_after c) types_tail
 
 abbrev pub type_list_after : Kind → Option Stack
-type_list_after k.RightBracket = Some (Do NoTypes ∷ [])
+type_list_after k.RightBracket = Some (Do MakeNoTypes ∷ [])
 type_list_after c = then_more (type_after c) types_tail
 
 abbrev pub type_commas_after : Kind → Option Stack
-type_commas_after k.Comma = Some (Nt LT ∷ (Do NextType ∷ (Nt MoreTypes ∷ [])))
+type_commas_after k.Comma = Some (Nt LT ∷ (Do MakeNextType ∷ (Nt LMoreTypes ∷ [])))
 type_commas_after _ = None
 
 abbrev pub base_owed : Stack
@@ -381,7 +377,7 @@ instr_after k.Unpack = Some (Nt LTarget ∷ (Tm want.Comma ∷ (Nt LV ∷ (Do Ma
 instr_after _ = None
 
 abbrev pub steps_tail : Stack
-steps_tail = Do NextStep ∷ (Nt MoreSteps ∷ [])
+steps_tail = Do MakeNextStep ∷ (Nt LMoreSteps ∷ [])
 
 abbrev pub steps_after : Kind → Option Stack
 steps_after c = then_more (instr_after c) steps_tail
@@ -392,39 +388,39 @@ end_after k.Halt = Some (Nt LInt ∷ (Do MakeHalt ∷ []))
 end_after _ = None
 
 abbrev pub block_owed : Stack
-block_owed = Tm want.Colon ∷ (Tm want.Code ∷ (Nt LBinds ∷ (Nt LFile ∷ (Tm want.Dot ∷ (Do NoSteps ∷ (Nt MoreSteps ∷ (Nt LEnd ∷ (Do MakeBlock ∷ []))))))))
+block_owed = Tm want.Colon ∷ (Tm want.Code ∷ (Nt LBinds ∷ (Nt LFile ∷ (Tm want.Dot ∷ (Do MakeNoSteps ∷ (Nt LMoreSteps ∷ (Nt LEnd ∷ (Do MakeBlock ∷ []))))))))
 
 abbrev pub block_after : Kind → Option Stack
 block_after k.Name = Some block_owed
 block_after _ = None
 
 abbrev pub blocks_tail : Stack
-blocks_tail = Do NextBlock ∷ (Nt MoreBlocks ∷ [])
+blocks_tail = Do MakeNextBlock ∷ (Nt LMoreBlocks ∷ [])
 
 abbrev pub blocks_after : Kind → Option Stack
 blocks_after c = then_more (block_after c) blocks_tail
 
 abbrev pub program_after : Kind → Option Stack
-program_after k.Tal = Some (Tm want.One ∷ (Nt LBlock ∷ (Do FirstBlock ∷ (Nt MoreBlocks ∷ (Do MakeProgram ∷ [])))))
+program_after k.Tal = Some (Tm want.One ∷ (Nt LBlock ∷ (Do MakeFirstBlock ∷ (Nt LMoreBlocks ∷ (Do MakeProgram ∷ [])))))
 program_after _ = None
 
 abbrev pub after : Line → Kind → Option Stack
 after LProgram c = program_after c
 after LBlock c = block_after c
-after MoreBlocks c = blocks_after c
+after LMoreBlocks c = blocks_after c
 after LBinds c = binds_after c
-after LNames c = names_after c
-after MoreNames c = name_commas_after c
+after LNames c = name_list_after c
+after LMoreNames c = name_commas_after c
 after LFile c = file_after c
 after LRegs c = regs_after c
-after MoreRegs c = reg_commas_after c
+after LMoreRegs c = reg_commas_after c
 after LT c = type_after c
 after LFields c = fields_after c
-after MoreFields c = field_commas_after c
+after LMoreFields c = field_commas_after c
 after LTypes c = types_after c
 after LTypeList c = type_list_after c
 after LSomeTypes c = some_types_after c
-after MoreTypes c = type_commas_after c
+after LMoreTypes c = type_commas_after c
 after LV c = value_after c
 after LArgs c = args_after c
 after LPacked c = packed_after c
@@ -434,17 +430,17 @@ after LIndex c = index_after c
 after LTarget c = target_after c
 after LInt c = int_after c
 after LI c = instr_after c
-after MoreSteps c = steps_after c
+after LMoreSteps c = steps_after c
 after LEnd c = end_after c
 
 abbrev pub may_end : Line → Bool
-may_end MoreBlocks = true
-may_end MoreNames = true
-may_end MoreRegs = true
-may_end MoreFields = true
-may_end MoreTypes = true
+may_end LMoreBlocks = true
+may_end LMoreNames = true
+may_end LMoreRegs = true
+may_end LMoreFields = true
+may_end LMoreTypes = true
 may_end LArgs = true
-may_end MoreSteps = true
+may_end LMoreSteps = true
 may_end _ = false
 
 abbrev pub table : Table

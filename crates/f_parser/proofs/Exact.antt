@@ -79,9 +79,9 @@ stages text c c' s s' (bytes l e p) (token h f) = absurd (omega arith)
 stages text c c' s s' (bytes l e p) (later w v h x y) = let k = h.few_bytes in absurd (omega arith)
 stages text c c' s s' (token h f) (bytes l e p) = absurd (omega arith)
 stages text c c' s s' (token h f) (token k g) = lexer.one_token_fault text c c' s s' f g
-stages text c c' s s' (token h f) (later w v k x y) = absurd (lexer.cut_or_fault text w c s k.cut f)
+stages text c c' s s' (token h f) (later w v k x y) = absurd (lexer.no_fault_where_cut text w c s k.cut f)
 stages text c c' s s' (later w v h x y) (bytes l e p) = let k = h.few_bytes in absurd (omega arith)
-stages text c c' s s' (later w v h x y) (token k g) = absurd (lexer.cut_or_fault text w c' s' h.cut g)
+stages text c c' s s' (later w v h x y) (token k g) = absurd (lexer.no_fault_where_cut text w c' s' h.cut g)
 stages text c c' s s' (later w v h x y) (later w' v' h' x' y') =
     let e : v' ≡ v = sym (verdicts text w w' v v' h.cut h'.cut x x') in
     after_cut text v c c' s s' y (subst (λ (u : Verdict table). AfterCut text u c' s') e y')
@@ -106,7 +106,7 @@ none_after_cut text p _ a c s b l e (in_shape r x) =
 
 none_at : (text : List ℕ) (a : Tm) (c : Code) (s : Span) → SourceWithin text a → ¬ Stage text c s
 none_at text a c s x (bytes l e p) = let h = x.few_bytes in omega arith
-none_at text a c s x (token h f) = lexer.cut_or_fault text x.source.tokens c s x.source.cut f
+none_at text a c s x (token h f) = lexer.no_fault_where_cut text x.source.tokens c s x.source.cut f
 none_at text a c s x (later w v h y z) =
     let f : IsFine table 200 x.source.tokens (OfTerm x.source.shape ∷ []) = record { value = x.source.shape; shape = x.source.is_shape; is = refl; within = x.few_open } in
     none_after_cut text x.source.shape v a c s x.source.bound (few text a x) (verdicts text w x.source.tokens v (Fine (OfTerm x.source.shape ∷ [])) h.cut x.source.cut y f) z

@@ -1,24 +1,52 @@
 -- The laws of a source text's tokens, and the clauses of `tokens` by them.
-use Rattle.std.proofs.Common.{◌≡◌, ◌<◌, ℕ, ◌+◌, ◌-◌, List, length, drop, refl, sym, ◌∙◌, ap}
+use Rattle.std.proofs.Common.{◌≡◌, ◌<◌, ◌⊎◌, inl, inr, ℕ, ◌+◌, ◌-◌, pos, negsuc, ◌≤ℤ◌, nat_le, Bool, true, false, List, length, drop, refl, sym, ◌∙◌, ap, arith}
+use Rattle.std.proofs.lemmas.Bool.{leb-true, leb-false}
+use Rattle.std.proofs.lemmas.Int.{ints}
 use Rattle.idx_core.specs.declared.span.Span.{Span}
 use Rattle.f_terms.specs.declared.fault.Code.{Code}
 use Rattle.f_terms.specs.declared.fault.FFault.TheVariants.{Refused}
 use Rattle.f_terms.specs.declared.fault.Code.TheVariants.{E01, E02}
-use Rattle.text_core.specs.Tokens.{Reason, NoToken, OutOfRange, Nothing, Spelling}
+use Rattle.text_core.specs.Tokens.{Reason, NoToken, OutOfRange, Nothing, Spelling, FirstWrong}
 use Rattle.text_core.specs.Lexeme.{item, Within}
 use Rattle.text_core.proofs.Walk.{SoFar, bad, large}
 use Rattle.text_core.proofs.Once as once
+use Rattle.text_core.proofs.Total as total
 use Rattle.text_core.proofs.Places.{same_span}
 use Rattle.f_lexer.specs.declared.kind.Kind.{Kind}
+use Rattle.f_lexer.specs.declared.kind.Kind.TheVariants as k
 use Rattle.f_lexer.specs.declared.token.Token.{Token}
-use Rattle.f_lexer.specs.Source.{source, Keeps, code_of, FirstTokenFault, OneCut, CutOrFault, OneTokenFault}
+use Rattle.f_lexer.specs.Source.{source, Keeps, IsCut, code_of, FirstTokenFault, OneCut, NoFaultWhereCut, CutOrFault, OneTokenFault}
 use Rattle.f_lexer.proofs.Finding.{source_signs}
 
 pub one_cut : OneCut
 one_cut text w v x y = once.one_cut source source_signs x v y
 
+pub no_fault_where_cut : NoFaultWhereCut
+no_fault_where_cut text w c span x f = once.cut_or_wrong source source_signs text w f.why span.start span.end x f.wrong
+
+-- whether a token keeps its bounds
+bounds : (x : Kind) → Keeps x ⊎ (Keeps x → ⊥)
+bounds (k.Plain (pos n)) = by_test (nat_le n 9223372036854775807) refl
+  where
+    by_test : (b : Bool) → nat_le n 9223372036854775807 ≡ b → (pos n ≤ℤ pos 9223372036854775807) ⊎ (pos n ≤ℤ pos 9223372036854775807 → ⊥)
+    by_test true e = inl (let h = leb-true n 9223372036854775807 e in omega (arith, ints))
+    by_test false e = inr (λ x. let h = leb-false n 9223372036854775807 e in omega (arith, ints))
+bounds (k.Plain (negsuc n)) = inl (omega (arith, ints))
+bounds (k.Negative (pos n)) = inl (omega (arith, ints))
+bounds (k.Negative (negsuc n)) = by_test (nat_le n 9223372036854775807) refl
+  where
+    by_test : (b : Bool) → nat_le n 9223372036854775807 ≡ b → (negsuc 9223372036854775807 ≤ℤ negsuc n) ⊎ (negsuc 9223372036854775807 ≤ℤ negsuc n → ⊥)
+    by_test true e = inl (let h = leb-true n 9223372036854775807 e in omega (arith, ints))
+    by_test false e = inr (λ x. let h = leb-false n 9223372036854775807 e in omega (arith, ints))
+bounds _ = inl tt
+
 pub cut_or_fault : CutOrFault
-cut_or_fault text w c span x f = once.cut_or_wrong source source_signs text w f.why span.start span.end x f.wrong
+cut_or_fault text = by_case (total.cut_or_wrong source source_signs bounds text)
+  where
+    by_case : ((w : List Token) × IsCut text w) ⊎ ((why : Reason) × (start : ℕ) × (end : ℕ) × FirstWrong source text why start end) →
+        ((w : List Token) × IsCut text w) ⊎ ((c : Code) × (span : Span) × FirstTokenFault text c span)
+    by_case (inl c) = inl c
+    by_case (inr (why, start, end, f)) = inr (code_of why, record { start = start; end = end }, record { why = why; is_code = refl; wrong = f })
 
 pub one_token_fault : OneTokenFault
 one_token_fault text c c' span span' f h =

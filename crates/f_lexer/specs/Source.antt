@@ -1,5 +1,5 @@
 -- The tokens of the source: reserved words, signs, and numbers of 64 bits.
-use Rattle.std.specs.Prelude.{◌≡◌, ◌≤ℤ◌, ℕ, pos, negsuc, neg_ℤ, ◌==◌, ◌&&◌, if◌then◌else◌, List, [], ◌∷◌, Option, Some, None, codes, bytes_eq}
+use Rattle.std.specs.Prelude.{◌≡◌, ◌⊎◌, ◌≤ℤ◌, ℕ, pos, negsuc, neg_ℤ, ◌==◌, ◌&&◌, if◌then◌else◌, List, [], ◌∷◌, Option, Some, None, codes, bytes_eq}
 use Rattle.text_core.specs.Tokens.{Tokens, look, Cut, Reason, NoToken, OutOfRange, FirstWrong}
 use Rattle.idx_core.specs.declared.span.Span.{Span}
 use Rattle.f_terms.specs.declared.fault.Code.{Code}
@@ -75,8 +75,12 @@ abbrev pub OneCut : Type 0
 OneCut = (text : List ℕ) (w v : List Token) → IsCut text w → IsCut text v → w ≡ v
 
 -- a text that is cut has no fault in its tokens
+abbrev pub NoFaultWhereCut : Type 0
+NoFaultWhereCut = (text : List ℕ) (w : List Token) (c : Code) (span : Span) → IsCut text w → ¬ FirstTokenFault text c span
+
+-- each text is cut into tokens, or has a first fault in them
 abbrev pub CutOrFault : Type 0
-CutOrFault = (text : List ℕ) (w : List Token) (c : Code) (span : Span) → IsCut text w → ¬ FirstTokenFault text c span
+CutOrFault = (text : List ℕ) → ((w : List Token) × IsCut text w) ⊎ ((c : Code) × (span : Span) × FirstTokenFault text c span)
 
 -- two first faults of a text's tokens are equal
 abbrev pub OneTokenFault : Type 0

@@ -1,8 +1,9 @@
 -- The laws of texts and terms, and the clauses of `parse` by them.
 use Rattle.std.specs.Prelude.{Result, Ok, Err, MatchResult, IsErrAnd}
-use Rattle.std.proofs.Common.{◌≡◌, ◌≢◌, ◌≤◌, ◌<◌, arith, ℕ, List, [], ◌∷◌, length, refl, sym, ◌∙◌, ap, subst}
+use Rattle.std.proofs.Common.{◌≡◌, ◌≢◌, ◌≤◌, ◌<◌, arith, ℕ, List, [], ◌∷◌, ◌++◌, append_assoc, length, refl, sym, ◌∙◌, ap, subst}
 use Rattle.idx_core.specs.declared.span.Span.{Span}
 use Rattle.text_core.specs.Table.{Verdict, Fine, Unexpected, Passed}
+use Rattle.text_core.specs.Shapes.{Begins}
 use Rattle.text_core.specs.Verdicts.{IsFine, Says}
 use Rattle.f_terms.specs.declared.fault.Code.{Code}
 use Rattle.f_terms.specs.declared.fault.Code.TheVariants as code
@@ -19,7 +20,7 @@ use Rattle.f_grammar.specs.Grammar.{E}
 use Rattle.f_grammar.specs.Machine.{table, OfTerm}
 use Rattle.f_grammar.proofs.Instance.{one_tree, one_verdict}
 use Rattle.f_parser.specs.Scope.{TermOf, Use, uses, IsFirstUnbound, unbound_code}
-use Rattle.f_parser.specs.Text.{SourceWithin, FewBytes, whole_of, end_of, HasTokens, HasShape, IsFault, FirstFault, too_long, no_token, unexpected, cut_short, too_deep, too_large, unbound, OneTerm, TermOrFault, OneFault, ClosedTerms}
+use Rattle.f_parser.specs.Text.{SourceWithin, FewBytes, whole_of, end_of, HasTokens, HasShape, IsFault, FirstFault, too_long, no_token, unexpected, cut_short, too_deep, too_large, unbound, source_grammar, Source, OneTerm, NoFaultWhereRead, IsLimit, NoTermWhereFaulty, SameNodes, OneFault, ClosedTerms}
 use Rattle.f_parser.proofs.Bound as names
 use Rattle.f_parser.proofs.Closed.{term_in_scope, same_nodes}
 
@@ -79,9 +80,9 @@ stages text c c' s s' (bytes l e p) (token h f) = absurd (omega arith)
 stages text c c' s s' (bytes l e p) (later w v h x y) = let k = h.few_bytes in absurd (omega arith)
 stages text c c' s s' (token h f) (bytes l e p) = absurd (omega arith)
 stages text c c' s s' (token h f) (token k g) = lexer.one_token_fault text c c' s s' f g
-stages text c c' s s' (token h f) (later w v k x y) = absurd (lexer.cut_or_fault text w c s k.cut f)
+stages text c c' s s' (token h f) (later w v k x y) = absurd (lexer.no_fault_where_cut text w c s k.cut f)
 stages text c c' s s' (later w v h x y) (bytes l e p) = let k = h.few_bytes in absurd (omega arith)
-stages text c c' s s' (later w v h x y) (token k g) = absurd (lexer.cut_or_fault text w c' s' h.cut g)
+stages text c c' s s' (later w v h x y) (token k g) = absurd (lexer.no_fault_where_cut text w c' s' h.cut g)
 stages text c c' s s' (later w v h x y) (later w' v' h' x' y') =
     let e : v' ≡ v = sym (verdicts text w w' v v' h.cut h'.cut x x') in
     after_cut text v c c' s s' y (subst (λ (u : Verdict table). AfterCut text u c' s') e y')
@@ -106,13 +107,40 @@ none_after_cut text p _ a c s b l e (in_shape r x) =
 
 none_at : (text : List ℕ) (a : Tm) (c : Code) (s : Span) → SourceWithin text a → ¬ Stage text c s
 none_at text a c s x (bytes l e p) = let h = x.few_bytes in omega arith
-none_at text a c s x (token h f) = lexer.cut_or_fault text x.source.tokens c s x.source.cut f
+none_at text a c s x (token h f) = lexer.no_fault_where_cut text x.source.tokens c s x.source.cut f
 none_at text a c s x (later w v h y z) =
     let f : IsFine table 200 x.source.tokens (OfTerm x.source.shape ∷ []) = record { value = x.source.shape; shape = x.source.is_shape; is = refl; within = x.few_open } in
     none_after_cut text x.source.shape v a c s x.source.bound (few text a x) (verdicts text w x.source.tokens v (Fine (OfTerm x.source.shape ∷ [])) h.cut x.source.cut y f) z
 
-pub term_or_fault : TermOrFault
-term_or_fault text a c s x f = none_at text a c s x (stage text c s f)
+pub no_fault_where_read : NoFaultWhereRead
+no_fault_where_read text a c s x f = none_at text a c s x (stage text c s f)
+
+pub same_nodes_of_text : SameNodes
+same_nodes_of_text text a x = sym (same_nodes x.bound)
+
+-- a fault of no limit leaves no term, whatever the limits
+module _ (text : List ℕ) (a : Tm) (x : Source text a) where
+  same_shape : (p : Piece) (w : List Token) → IsCut text w → E w p → p ≡ x.shape
+  same_shape p w c e = one_tree (subst (λ (v : List Token). E v p) (lexer.one_cut text w x.tokens c x.cut) e) x.is_shape
+
+  begins : (w : List Token) → IsCut text w → (u : List Token) (t : Token) (z : List Token) → w ≡ u ++ t ∷ z → Begins source_grammar (u ++ t ∷ [])
+  begins w c u t z e =
+      let q : (u ++ t ∷ []) ++ z ≡ x.tokens = append_assoc u (t ∷ []) z ∙ (sym e ∙ lexer.one_cut text w x.tokens c x.cut) in
+      (z, (x.shape, subst (λ (v : List Token). E v x.shape) (sym q) x.is_shape))
+
+  unfaulty : (c : Code) (s : Span) → FirstFault text c s → ¬ IsLimit c → ⊥
+  unfaulty _ _ (too_long l) n = n tt
+  unfaulty c s (no_token l f) n = lexer.no_fault_where_cut text x.tokens c s x.cut f
+  unfaulty _ _ (unexpected {w} u t z h f) n = f.with_it (begins w h.cut u t z f.place)
+  unfaulty _ _ (cut_short {w} h f) n = f.none (x.shape, subst (λ (v : List Token). E v x.shape) (lexer.one_cut text x.tokens w x.cut h.cut) x.is_shape)
+  unfaulty _ _ (too_deep u t z h f) n = n tt
+  unfaulty _ _ (too_large p h l) n = n tt
+  unfaulty _ _ (unbound p u h l f) n =
+      let q = same_shape p h.tokens h.has_tokens.cut h.is_shape in
+      names.not_first text (uses text [] [] p.tree) u (names.term_bound (subst (λ (r : Piece). TermOf text [] [] r.tree a) (sym q) x.bound)) f
+
+pub no_term_where_faulty : NoTermWhereFaulty
+no_term_where_faulty text a c s f n x = unfaulty text a x c s f n
 
 pub one_term : OneTerm
 one_term text a b x y =
@@ -129,7 +157,7 @@ same_fault text c c' s s' f g = let e = one_fault text c c' s s' f g in let p = 
 -- an answer that is right is the only one, but for want of memory
 not_refused : (text : List ℕ) (f : FFault) (tm : Tm) → IsFault text f → SourceWithin text tm → f ≡ Memory
 not_refused text Memory tm h x = refl
-not_refused text (Refused c s) tm h x = absurd (term_or_fault text tm c s x h)
+not_refused text (Refused c s) tm h x = absurd (no_fault_where_read text tm c s x h)
 
 no_other : (text : List ℕ) (f : FFault) (c : Code) (s : Span) → IsFault text f → FirstFault text c s → f ≢ Memory → f ≡ Refused c s
 no_other text Memory c s h x n = absurd (n refl)
@@ -147,7 +175,7 @@ module _ (text : List ℕ) (r : Result FTerm FFault) (h : MatchResult r (λ e. S
   only_fault c s x = by_case r h
     where
       by_case : (q : Result FTerm FFault) → MatchResult q (λ e. SourceWithin text (spanned e)) (λ f. IsFault text f) → IsErrAnd q (λ f. f ≢ Memory → f ≡ Refused c s)
-      by_case (Ok e) y = absurd (term_or_fault text (spanned e) c s y x)
+      by_case (Ok e) y = absurd (no_fault_where_read text (spanned e) c s y x)
       by_case (Err f) y = no_other text f c s y x
 
 -- the answers of `parse`, a fault that is passed on and one of the tokens

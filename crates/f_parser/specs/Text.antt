@@ -1,5 +1,5 @@
 -- Which text stands for which term, and the first fault of a text.
-use Rattle.std.specs.Prelude.{◌≡◌, ◌≤◌, ◌<◌, ℕ, List, [], length}
+use Rattle.std.specs.Prelude.{◌≡◌, ◌⊎◌, ◌≤◌, ◌<◌, ℕ, List, [], length}
 use Rattle.idx_core.specs.declared.span.Span.{Span}
 use Rattle.text_core.specs.Shapes.{Grammar, NonePasses, IsUnexpected, IsCutShort, IsPassed}
 use Rattle.f_terms.specs.declared.fault.Code.{Code}
@@ -8,6 +8,7 @@ use Rattle.f_terms.specs.declared.fault.FFault.{FFault}
 use Rattle.f_terms.specs.declared.fault.FFault.TheVariants.{Memory, Refused}
 use Rattle.f_terms.specs.Tm.{Tm, plain}
 use Rattle.f_terms.specs.Limits.{FewNodes}
+use Rattle.f_terms.specs.Limits.{nodes as term_nodes}
 use Rattle.f_terms.specs.Scope.{IsClosed}
 use Rattle.f_lexer.specs.declared.token.Token.{Token}
 use Rattle.f_lexer.specs.Source.{IsCut, FirstTokenFault}
@@ -90,8 +91,27 @@ abbrev pub OneTerm : Type 0
 OneTerm = (text : List ℕ) (a b : Tm) → Source text a → Source text b → a ≡ b
 
 -- a text that stands for a term within the limits has no fault
+abbrev pub NoFaultWhereRead : Type 0
+NoFaultWhereRead = (text : List ℕ) (a : Tm) (c : Code) (span : Span) → SourceWithin text a → ¬ FirstFault text c span
+
+-- a code of a limit
+abbrev pub IsLimit : Code → Type 0
+IsLimit code.L1 = Unit {0}
+IsLimit code.L2 = Unit {0}
+IsLimit code.L3 = Unit {0}
+IsLimit _ = ⊥
+
+-- a text whose first fault is not that of a limit stands for no term
+abbrev pub NoTermWhereFaulty : Type 0
+NoTermWhereFaulty = (text : List ℕ) (a : Tm) (c : Code) (span : Span) → FirstFault text c span → ¬ IsLimit c → ¬ Source text a
+
+-- each text stands for a term within the limits, or has a first fault
 abbrev pub TermOrFault : Type 0
-TermOrFault = (text : List ℕ) (a : Tm) (c : Code) (span : Span) → SourceWithin text a → ¬ FirstFault text c span
+TermOrFault = (text : List ℕ) → ((a : Tm) × SourceWithin text a) ⊎ ((c : Code) × (span : Span) × FirstFault text c span)
+
+-- the tree of the tokens has as many nodes as the term
+abbrev pub SameNodes : Type 0
+SameNodes = (text : List ℕ) (a : Tm) (x : Source text a) → nodes x.shape.tree ≡ term_nodes (plain a)
 
 -- two first faults of a text are equal
 abbrev pub OneFault : Type 0

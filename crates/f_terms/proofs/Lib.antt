@@ -1,5 +1,6 @@
 mod Admitting
 mod Closing
+mod Decided
 mod FaultRows
 mod Rows
 mod Sound

@@ -1,8 +1,9 @@
 -- Laws of the source calculus.
 use Rattle.std.specs.Prelude.{◌≡◌, ℕ, ℤ, ◌+◌, ◌≤◌, ◌⊎◌, ◌↔◌}
-use Rattle.f_terms.specs.Ty.{Ty, Tys, NoTys, MoreTys, shift, put}
+use Rattle.f_terms.specs.Ty.{Ty, TAll, Tys, NoTys, MoreTys, shift, put}
 use Rattle.f_terms.specs.Tm.{Spn, Tm, Term, plain}
 use Rattle.f_terms.specs.Limits.{Within}
+use Rattle.f_terms.specs.Scope.{IsClosed}
 use Rattle.f_terms.specs.Typing.{HasType, IsProgram}
 use Rattle.f_terms.specs.Faults.{Passes, Fault}
 use Rattle.f_terms.specs.Accepted.{KeepsLimits}
@@ -12,6 +13,10 @@ use Rattle.f_terms.specs.declared.fault.Code.{Code}
 -- two puts exchange, the one put into the other
 abbrev pub PutsExchange : Type 0
 PutsExchange = (i j : ℕ) (u v t : Ty) → i ≤ j → put j v (put i u t) ≡ put i (put j v u) (put (j + 1) (shift 1 i v) t)
+
+-- a put under a binder is a put of the type shifted once, for the next index
+abbrev pub PutUnderABinder : Type 0
+PutUnderABinder = (c : ℕ) (s t : Ty) → put c s (TAll t) ≡ TAll (put (c + 1) (shift 1 0 s) t)
 
 -- a term has at most one type
 abbrev pub OneType : Type 0
@@ -29,6 +34,10 @@ PassesWhereTyped = (e : Tm) (n : ℕ) (g : Tys) (t : Ty) → AllWithin g → (Pa
 -- what passes has no first fault
 abbrev pub NoFaultBesideAPass : Type 0
 NoFaultBesideAPass = (e : Tm) (n : ℕ) (g : Tys) (t : Ty) (c : Code) (p : Spn) → Passes e n g t → Fault e n g c p → ⊥
+
+-- a closed term passes every check, or has a first fault
+abbrev pub PassOrFault : Type 0
+PassOrFault = (e : Tm) → IsClosed (plain e) → ((t : Ty) × Passes e 0 NoTys t) ⊎ ((c : Code) × (p : Spn) × Fault e 0 NoTys c p)
 
 -- two first faults are equal, in code and place
 abbrev pub OneFault : Type 0

@@ -1,6 +1,9 @@
 // Why a source text is refused.
+ghost use Rattle.std.specs.Prelude.{◌≡◌};
+ghost use Rattle.f_terms.specs.declared.fault.FFault.TheVariants as fault;
 
-use idx_core::Span;
+use idx_core::{OutOfMemory, Span};
+use std::alloc::AllocFailed;
 
 /// The codes of the faults of a source text, in the order of its checks (own choice): `E` for what the
 /// language refuses, `L` for a limit that is passed.
@@ -55,4 +58,20 @@ pub enum FFault {
     Memory,
     /// The source is refused: by which rule, and at which place.
     Refused { code: Code, span: Span },
+}
+
+impl From<OutOfMemory> for FFault {
+    ghost from_gives = { λ _ e. e ≡ fault.Memory };
+
+    fn from(_: OutOfMemory) -> FFault {
+        FFault::Memory
+    }
+}
+
+impl<T: Drop> From<AllocFailed<T>> for FFault {
+    ghost from_gives = { λ _ e. e ≡ fault.Memory };
+
+    fn from(_: AllocFailed<T>) -> FFault {
+        FFault::Memory
+    }
 }

@@ -1,10 +1,15 @@
 // Laws of the source calculus, as functions with an empty body that callers cite.
-ghost use Rattle.f_terms.specs.Laws.{PutsExchange, OneType, PassesWhereTyped, NoFaultBesideAPass, OneFault, KeepsRules, MoreTurnsKeepTheValue, LeavesAtMost, OneAnswer, NeverStuck};
+ghost use Rattle.f_terms.specs.Laws.{PutsExchange, PutUnderABinder, OneType, PassesWhereTyped, NoFaultBesideAPass, PassOrFault, OneFault, KeepsRules, MoreTurnsKeepTheValue, LeavesAtMost, OneAnswer, NeverStuck};
 
 /// For i at most j, a put of u for i and then of v for j is a put of v, shifted, for j + 1 and then of u, with v put
 /// into it, for i.
 pub fn puts_exchange()
     ensures { PutsExchange }
+{}
+
+/// A put under a binder is a put of the type shifted once, for the next index.
+pub fn put_under_a_binder()
+    ensures { PutUnderABinder }
 {}
 
 /// A term has at most one type in a context.
@@ -20,6 +25,11 @@ pub fn passes_where_typed()
 /// A term on which each check holds has no first fault.
 pub fn no_fault_beside_a_pass()
     ensures { NoFaultBesideAPass }
+{}
+
+/// A closed term passes every check, or has a first fault.
+pub fn pass_or_fault()
+    ensures { PassOrFault }
 {}
 
 /// Two first faults of a term are equal, in code and place.

@@ -10,6 +10,7 @@ pub mod Refusals
 pub mod Rules
 pub mod Runs
 pub mod Signs
+pub mod Total
 pub mod Unique
 pub mod Walk
 pub mod Whole

@@ -1,7 +1,7 @@
 use Rattle.text_core.proofs.Walk.{skip, read, finish}
 use Rattle.f_lexer.specs.Source.{source}
 use Rattle.f_lexer.proofs.Finding.{source_signs}
-use Rattle.f_lexer.proofs.Exact.{one_cut, cut_or_fault, same_fault, is_bad, is_large}
+use Rattle.f_lexer.proofs.Exact.{one_cut, no_fault_where_cut, same_fault, is_bad, is_large}
 use Rattle.f_lexer.proofs.token.tokens.Goals as goal
 
 pub loop-at-preserved-in-Skip : goal.loop-at-preserved-in-Skip
@@ -22,7 +22,7 @@ returns-in-Large-clause-right c =
 pub returns-in-Large-clause-cut : goal.returns-in-Large-clause-cut
 returns-in-Large-clause-cut c =
     let l = c.loop-at in
-    let f = is_large c.args.text.now l.at l.out.items l.invariant c.loop-at-test.true c.in-Large.end c.in-Large.ensures in λ w x. absurd (cut_or_fault _ w _ _ x f)
+    let f = is_large c.args.text.now l.at l.out.items l.invariant c.loop-at-test.true c.in-Large.end c.in-Large.ensures in λ w x. absurd (no_fault_where_cut _ w _ _ x f)
 
 pub returns-in-Large-clause-refused : goal.returns-in-Large-clause-refused
 returns-in-Large-clause-refused c =
@@ -36,7 +36,7 @@ returns-in-Bad-clause-right c = let l = c.loop-at in rw c.refused-in-Bad.ensures
 pub returns-in-Bad-clause-cut : goal.returns-in-Bad-clause-cut
 returns-in-Bad-clause-cut c =
     let l = c.loop-at in
-    let f = is_bad c.args.text.now l.at l.out.items l.invariant c.loop-at-test.true c.in-Bad.ensures in λ w x. absurd (cut_or_fault _ w _ _ x f)
+    let f = is_bad c.args.text.now l.at l.out.items l.invariant c.loop-at-test.true c.in-Bad.ensures in λ w x. absurd (no_fault_where_cut _ w _ _ x f)
 
 pub returns-in-Bad-clause-refused : goal.returns-in-Bad-clause-refused
 returns-in-Bad-clause-refused c =
@@ -55,4 +55,4 @@ returns-clause-cut c =
 pub returns-clause-refused : goal.returns-clause-refused
 returns-clause-refused c =
     let l = c.loop-at in
-    let x = finish source c.args.text.now l.at l.out.items l.invariant c.loop-at-test.false in λ code span f. absurd (cut_or_fault _ _ _ _ x f)
+    let x = finish source c.args.text.now l.at l.out.items l.invariant c.loop-at-test.false in λ code span f. absurd (no_fault_where_cut _ _ _ _ x f)

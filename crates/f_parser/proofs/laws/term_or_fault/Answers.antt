@@ -1,5 +1,5 @@
-use Rattle.f_parser.proofs.Exact as exact
+use Rattle.f_parser.proofs.Decided as decided
 use Rattle.f_parser.proofs.laws.term_or_fault.Goals as goal
 
 pub returns : goal.returns
-returns c = exact.term_or_fault
+returns c = decided.term_or_fault

@@ -25,8 +25,8 @@ use idx_core::OutOfMemory;
 use std::alloc::Global;
 use std::collections::VecDeque;
 
-/// The hoisted form of a closed program: a block for each code, in order, and the main term. The one other answer is want
-/// of memory.
+/// The hoisted form of a closed program: a block for each code, in order, and the main term. The one other answer is
+/// want of memory.
 pub fn hoist(alloc: Global, program: &CProgram) -> Result<HProgram, OutOfMemory>
     ensures blocks { IfOk result (λ r. blocks_in r ≡ blocks_of (term_of program.now)) }
     ensures main { IfOk result (λ r. main_in r ≡ main_of (term_of program.now)) }

@@ -205,9 +205,13 @@ loop_is : close_of loop ≡ loop_with (CVar 1)
 loop_is = refl
 
 -- the closure made again with another environment, here the empty one outside, is no translation
-abbrev made_again : CTm → CVal
-made_again (CLet (CUnpack (CPack h (CTuple (MoreCVals (CApply (CCode owes args (CLet (CName v) t)) ts) vs)) s)) u) = v
-made_again t = CInt (pos 0)
+abbrev opened : CTm → CVal
+opened (CLet (CUnpack v) t) = v
+opened t = CInt (pos 0)
+
+abbrev made_again : CVal → CVal
+made_again (CPack h (CTuple (MoreCVals (CApply (CCode owes args (CLet (CName v) t)) ts) vs)) s) = v
+made_again v = CInt (pos 0)
 
 abbrev env_var : CVal → ℕ
 env_var (CPack h (CTuple (MoreCVals c (MoreCVals (CVar i) NoCVals))) s) = i
@@ -215,9 +219,4 @@ env_var v = 0
 
 outer_is_none : IsTranslation loop (loop_with (CTuple NoCVals)) → ⊥
 outer_is_none (c, us, e, (ys, body, ec, st, rt), rvs) =
-    let same : made_again (loop_with (CTuple NoCVals)) ≡ made_again (CLet (CUnpack c) (CHalt (CInt (pos 0)))) = ap again e in
-    let one : 0 ≡ 1 = ap env_var (same ∙ ap (λ v. made_again (CLet (CUnpack v) (CHalt (CInt (pos 0))))) ec) in
-    omega (arith, one)
-  where
-    again : CTm → CVal
-    again t = made_again t
+    let one : 0 ≡ 1 = ap env_var (ap made_again (ap opened e ∙ ec)) in omega (arith, one)

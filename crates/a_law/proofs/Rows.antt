@@ -93,8 +93,8 @@ reference = refl
 abbrev second_field : ATm
 second_field = Let (Malloc (MoreATys AInt NoATys)) (Let (Init (Var 0) 2 (Num (pos 5))) (Halt (Num (pos 0))))
 
-two_is_one : (x : 2 ≡ 1) → ⊥
-two_is_one x = omega (arith, x)
+not_first : (i : ℕ) → i ≡ 2 → i ≡ 1 → ⊥
+not_first i two one = omega (arith, two, one)
 
 abbrev fields_of : Thing → List Shown
 fields_of (Making fs n) = fs
@@ -108,6 +108,6 @@ not_second : (h : HTm) → Stands_t Any [] 0 second_field h → ⊥
 not_second h (inl (inl (j, fs, n, y, var, at, field, means, rest))) =
     let zero_is : 0 ≡ j = ap index var in
     let none : [] ≡ fs = ap (λ i. fields_of (thing_at (Making [] 1 ∷ []) i)) zero_is ∙ ap fields_of at in
-    two_is_one (field ∙ ap (λ gs. suc (length gs)) (sym none))
-not_second h (inl (inr (x, y, t, field, more))) = two_is_one field
-not_second h (inr (x, t, var, field, more)) = two_is_one field
+    not_first 2 refl (field ∙ ap (λ gs. suc (length gs)) (sym none))
+not_second h (inl (inr (x, y, t, field, is, vx, vy, rest))) = not_first 2 refl field
+not_second h (inr (x, t, var, field, is, vx, rest)) = not_first 2 refl field

@@ -5,6 +5,7 @@ mod Meaning
 mod PutBack
 mod Regs
 mod Rel
+mod Rows
 mod Scopes
 mod Standing
 mod Thirds

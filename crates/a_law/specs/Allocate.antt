@@ -87,7 +87,8 @@ abbrev pub var_of : ℕ → Option ℕ → AVal
 var_of d None = Num (pos 0)
 var_of d (Some l) = Var (d - suc l)
 
--- what is left of a value under d variables, if its tuples were made from depth e on; the variables stand at the levels ls
+-- what is left of a value under d variables, if its tuples were made from depth e on; the variables stand at the
+-- levels ls
 abbrev mutual
   pub val : List ℕ → ℕ → ℕ → HVal → AVal
   val ls e d (HVar i) = var_of d (slice_get ls i)
@@ -104,7 +105,8 @@ vals ls e d (MoreHVals v vs) = val ls e d v ∷ vals ls (v_next e v) d vs
 -- the initialisations from field i on, where the tuple has level l
 abbrev pub fill : List ℕ → ℕ → ℕ → ℕ → HVals → ATm → ATm
 fill ls e l i NoHVals rest = rest
-fill ls e l i (MoreHVals v vs) rest = Let (Init (Var 0) i (val ls e (suc l) v)) (fill ls (v_next e v) (suc l) (suc i) vs rest)
+fill ls e l i (MoreHVals v vs) rest =
+    Let (Init (Var 0) i (val ls e (suc l) v)) (fill ls (v_next e v) (suc l) (suc i) vs rest)
 
 -- a tree's tuples are made, and then the rest
 abbrev mutual
@@ -112,7 +114,8 @@ abbrev mutual
   pre_v ks g ls d (HVar i) rest = rest
   pre_v ks g ls d (HInt n) rest = rest
   pre_v ks g ls d (HLabel l) rest = rest
-  pre_v ks g ls d (HTuple vs) rest = pre_vs ks g ls d vs (Let (Malloc (v_types ks g vs)) (fill ls d (vs_next d vs) 1 vs rest))
+  pre_v ks g ls d (HTuple vs) rest =
+      pre_vs ks g ls d vs (Let (Malloc (v_types ks g vs)) (fill ls d (vs_next d vs) 1 vs rest))
   pre_v ks g ls d (HApply v ts) rest = pre_v ks g ls d v rest
   pre_v ks g ls d (HPack h v s) rest = pre_v ks g ls d v rest
 
@@ -128,7 +131,8 @@ pre_d ks g ls d (HUnpack v) rest = pre_v ks g ls d v rest
 pre_d ks g ls d (HCell v) rest = pre_v ks g ls d v (Let (Malloc (MoreATys (v_type ks g v) NoATys)) rest)
 pre_d ks g ls d (HGet v) rest = pre_v ks g ls d v rest
 pre_d ks g ls d (HSet v w) rest =
-    pre_v ks g ls d v (pre_v ks g ls (v_next d v) w (Let (Init (val ls d (v_next (v_next d v) w) v) 1 (val ls (v_next d v) (v_next (v_next d v) w) w)) rest))
+    pre_v ks g ls d v (pre_v ks g ls (v_next d v) w
+    (Let (Init (val ls d (v_next (v_next d v) w) v) 1 (val ls (v_next d v) (v_next (v_next d v) w) w)) rest))
 
 abbrev pub dcl : List ℕ → ℕ → HDecl → ADecl
 dcl ls d (HName v) = Value (val ls d (v_next d v) v)
@@ -140,10 +144,14 @@ dcl ls d (HGet v) = Proj 1 (val ls d (v_next d v) v)
 dcl ls d (HSet v w) = Malloc NoATys
 
 abbrev pub alloc_t : HBlks → List ATy → List ℕ → ℕ → HTm → ATm
-alloc_t ks g ls d (HLet e t) = pre_d ks g ls d e (Let (dcl ls d e) (alloc_t ks (d_types ks g e) (d_next d e ∷ ls) (suc (d_next d e)) t))
+alloc_t ks g ls d (HLet e t) =
+    pre_d ks g ls d e (Let (dcl ls d e) (alloc_t ks (d_types ks g e) (d_next d e ∷ ls) (suc (d_next d e)) t))
 alloc_t ks g ls d (HCall f ts vs) =
-    pre_v ks g ls d f (pre_vs ks g ls (v_next d f) vs (Call (val ls d (vs_next (v_next d f) vs) f) (atypes ts) (vals ls (v_next d f) (vs_next (v_next d f) vs) vs)))
-alloc_t ks g ls d (HIf v t u) = pre_v ks g ls d v (If0 (val ls d (v_next d v) v) (alloc_t ks g ls (v_next d v) t) (alloc_t ks g ls (v_next d v) u))
+    pre_v ks g ls d f (pre_vs ks g ls (v_next d f) vs
+    (Call (val ls d (vs_next (v_next d f) vs) f) (atypes ts) (vals ls (v_next d f) (vs_next (v_next d f) vs) vs)))
+alloc_t ks g ls d (HIf v t u) =
+    pre_v ks g ls d v (If0 (val ls d (v_next d v) v) (alloc_t ks g ls (v_next d v) t)
+    (alloc_t ks g ls (v_next d v) u))
 alloc_t ks g ls d (HHalt v) = pre_v ks g ls d v (Halt (val ls d (v_next d v) v))
 
 -- the arguments have the first levels

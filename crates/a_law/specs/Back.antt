@@ -65,11 +65,13 @@ abbrev pub back_vs : List Shown → ℕ → List AVal → HVals
 back_vs env k [] = NoHVals
 back_vs env k (v ∷ vs) = MoreHVals (back_v env k v) (back_vs env k vs)
 
--- a malloc names the tuple of no fields, and an initialisation the tuple with one field more; neither is a declaration of the hoisted term
+-- a malloc names the tuple of no fields, and an initialisation the tuple with one field more; neither is a
+-- declaration of the hoisted term
 abbrev pub back_t : List Shown → ℕ → ATm → HTm
 back_t env k (Let (Value v) e) = HLet (HName (back_v env k v)) (back_t (named k ∷ env) (suc k) e)
 back_t env k (Let (Proj i v) e) = HLet (HProj i (back_v env k v)) (back_t (named k ∷ env) (suc k) e)
-back_t env k (Let (Arith op v w) e) = HLet (HArith op (back_v env k v) (back_v env k w)) (back_t (named k ∷ env) (suc k) e)
+back_t env k (Let (Arith op v w) e) =
+    HLet (HArith op (back_v env k v) (back_v env k w)) (back_t (named k ∷ env) (suc k) e)
 back_t env k (Let (Unpack v) e) = HLet (HUnpack (back_v env k v)) (back_t (named k ∷ env) (suc k) e)
 back_t env k (Let (Malloc ts) e) = back_t ((λ m. HTuple NoHVals) ∷ env) k e
 back_t env k (Let (Init v i w) e) = back_t ((λ m. add_field (back_v env m v) (back_v env m w)) ∷ env) k e
@@ -86,7 +88,8 @@ arg_count k NoATys = k
 arg_count k (MoreATys t ts) = arg_count (suc k) ts
 
 abbrev pub back_block : ABlk → HBlk
-back_block b = record { owes = b.owes; args = drops b.args; body = back_t (arg_names 0 [] b.args) (arg_count 0 b.args) b.body }
+back_block b =
+    record { owes = b.owes; args = drops b.args; body = back_t (arg_names 0 [] b.args) (arg_count 0 b.args) b.body }
 
 abbrev pub back_all : List ABlk → HBlks
 back_all [] = []
@@ -141,4 +144,6 @@ NoCells (k ∷ ks) = (NoRefs k.args × NoCell_t k.body) × NoCells ks
 
 -- the tuples of the allocation put back, and the flags dropped, give the hoisted program
 abbrev pub PutsBack : Type 0
-PutsBack = (ks : HBlks) (t : HTm) → HProgramGood ks t → NoCells ks → NoCell_t t → (back_all (alloc_prog ks).blocks ≡ ks) × (back_t [] 0 (alloc_main ks t) ≡ t)
+PutsBack =
+    (ks : HBlks) (t : HTm) → HProgramGood ks t → NoCells ks → NoCell_t t → (back_all (alloc_prog ks).blocks ≡ ks)
+    × (back_t [] 0 (alloc_main ks t) ≡ t)

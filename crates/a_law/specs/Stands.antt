@@ -1,6 +1,6 @@
 -- Which hoisted term an allocated term stands for: a malloc and the initialisations of all fields, in order, are put
--- back as the tuple that the last of them names, and types are those of hoisted types with every flag at 1. A cell looks
--- like a tuple of one field, so at a malloc, an initialisation and a projection either may be meant.
+-- back as the tuple that the last of them names, and types are those of hoisted types with every flag at 1. A cell
+-- looks like a tuple of one field, so at a malloc, an initialisation and a projection either may be meant.
 use Rattle.std.specs.Prelude.{◌≡◌, ◌⊎◌, ◌++◌, ℕ, zero, suc, ◌-◌, List, [], ◌∷◌, length}
 use Rattle.c_terms.specs.C.{CTy, CTys}
 use Rattle.h_terms.specs.H.{HVal, HVar, HInt, HLabel, HTuple, HApply, HPack, HVals, NoHVals, MoreHVals, HName, HProj, HArith, HUnpack, HCell, HGet, HSet, HTm, HLet, HCall, HIf, HHalt, HBlks}
@@ -46,11 +46,13 @@ Stands_v env m (Num n) w = w ≡ HInt n
 Stands_v env m (Lab l) w = w ≡ HLabel l
 Stands_v env m (Data n) w = ⊥
 Stands_v env m (Apply v ts) w = (x : HVal) × (us : CTys) × (w ≡ HApply x us) × (atypes us ≡ ts) × Stands_v env m v x
-Stands_v env m (Pack h v s) w = (a : CTy) × (x : HVal) × (b : CTy) × (w ≡ HPack a x b) × (atype a ≡ h) × (atype b ≡ s) × Stands_v env m v x
+Stands_v env m (Pack h v s) w =
+    (a : CTy) × (x : HVal) × (b : CTy) × (w ≡ HPack a x b) × (atype a ≡ h) × (atype b ≡ s) × Stands_v env m v x
 
 abbrev pub Stands_vs : List Thing → ℕ → List AVal → HVals → Type 0
 Stands_vs env m [] ws = ws ≡ NoHVals
-Stands_vs env m (v ∷ vs) ws = (x : HVal) × (xs : HVals) × (ws ≡ MoreHVals x xs) × Stands_v env m v x × Stands_vs env m vs xs
+Stands_vs env m (v ∷ vs) ws =
+    (x : HVal) × (xs : HVals) × (ws ≡ MoreHVals x xs) × Stands_v env m v x × Stands_vs env m vs xs
 
 -- what is to come: anything; the content of a new cell; or the empty tuple that names an assignment
 pub data Mode : Type 0 where
@@ -60,21 +62,36 @@ pub data Mode : Type 0 where
 
 -- the term a stands for h, where k variables of the hoisted term are in scope
 abbrev pub Stands_t : Mode → List Thing → ℕ → ATm → HTm → Type 0
-Stands_t Any env k (Let (Value v) e) h = (w : HVal) × (t : HTm) × (h ≡ HLet (HName w) t) × Stands_v env k v w × Stands_t Any (Is (named k) ∷ env) (suc k) e t
+Stands_t Any env k (Let (Value v) e) h =
+    (w : HVal) × (t : HTm) × (h ≡ HLet (HName w) t) × Stands_v env k v w
+    × Stands_t Any (Is (named k) ∷ env) (suc k) e t
 Stands_t Any env k (Let (Proj i v) e) h =
-    (w : HVal) × (t : HTm) × ((h ≡ HLet (HProj i w) t) ⊎ ((i ≡ 1) × (h ≡ HLet (HGet w) t))) × Stands_v env k v w × Stands_t Any (Is (named k) ∷ env) (suc k) e t
+    (w : HVal) × (t : HTm) × ((h ≡ HLet (HProj i w) t) ⊎ ((i ≡ 1) × (h ≡ HLet (HGet w) t))) × Stands_v env k v w
+    × Stands_t Any (Is (named k) ∷ env) (suc k) e t
 Stands_t Any env k (Let (Arith op v w) e) h =
-    (x : HVal) × (y : HVal) × (t : HTm) × (h ≡ HLet (HArith op x y) t) × Stands_v env k v x × Stands_v env k w y × Stands_t Any (Is (named k) ∷ env) (suc k) e t
-Stands_t Any env k (Let (Unpack v) e) h = (w : HVal) × (t : HTm) × (h ≡ HLet (HUnpack w) t) × Stands_v env k v w × Stands_t Any (Is (named k) ∷ env) (suc k) e t
-Stands_t Any env k (Let (Malloc ts) e) h = Stands_t Any (Making [] (arity ts) ∷ env) k e h ⊎ Stands_t Content (Gone ∷ env) k e h
+    (x : HVal) × (y : HVal) × (t : HTm) × (h ≡ HLet (HArith op x y) t) × Stands_v env k v x × Stands_v env k w y
+    × Stands_t Any (Is (named k) ∷ env) (suc k) e t
+Stands_t Any env k (Let (Unpack v) e) h =
+    (w : HVal) × (t : HTm) × (h ≡ HLet (HUnpack w) t) × Stands_v env k v w
+    × Stands_t Any (Is (named k) ∷ env) (suc k) e t
+Stands_t Any env k (Let (Malloc ts) e) h =
+    Stands_t Any (Making [] (arity ts) ∷ env) k e h ⊎ Stands_t Content (Gone ∷ env) k e h
 Stands_t Any env k (Let (Init v i w) e) h =
-    ((j : ℕ) × (fs : List Shown) × (n : ℕ) × (y : Shown) × (v ≡ Var j) × (thing_at env j ≡ Making fs (suc n)) × (i ≡ suc (length fs)) × ((m : ℕ) → Stands_v env m w (y m)) × Stands_t Any (Making (fs ++ y ∷ []) n ∷ env) k e h)
-    ⊎ ((x : HVal) × (y : HVal) × (t : HTm) × (i ≡ 1) × (h ≡ HLet (HSet x y) t) × Stands_v env k v x × Stands_v env k w y × Stands_t Unit_named (Gone ∷ env) k e t)
-Stands_t Any env k (Call v ts vs) h = (x : HVal) × (us : CTys) × (xs : HVals) × (h ≡ HCall x us xs) × (atypes us ≡ ts) × Stands_v env k v x × Stands_vs env k vs xs
-Stands_t Any env k (If0 v a b) h = (x : HVal) × (t : HTm) × (u : HTm) × (h ≡ HIf x t u) × Stands_v env k v x × Stands_t Any env k a t × Stands_t Any env k b u
+    ((j : ℕ) × (fs : List Shown) × (n : ℕ) × (y : Shown) × (v ≡ Var j) × (thing_at env j ≡ Making fs (suc n))
+    × (i ≡ suc (length fs)) × ((m : ℕ) → Stands_v env m w (y m))
+    × Stands_t Any (Making (fs ++ y ∷ []) n ∷ env) k e h)
+    ⊎ ((x : HVal) × (y : HVal) × (t : HTm) × (i ≡ 1) × (h ≡ HLet (HSet x y) t) × Stands_v env k v x
+    × Stands_v env k w y × Stands_t Unit_named (Gone ∷ env) k e t)
+Stands_t Any env k (Call v ts vs) h =
+    (x : HVal) × (us : CTys) × (xs : HVals) × (h ≡ HCall x us xs) × (atypes us ≡ ts) × Stands_v env k v x
+    × Stands_vs env k vs xs
+Stands_t Any env k (If0 v a b) h =
+    (x : HVal) × (t : HTm) × (u : HTm) × (h ≡ HIf x t u) × Stands_v env k v x × Stands_t Any env k a t
+    × Stands_t Any env k b u
 Stands_t Any env k (Halt v) h = (x : HVal) × (h ≡ HHalt x) × Stands_v env k v x
 Stands_t Content env k (Let (Init v i w) e) h =
-    (x : HVal) × (t : HTm) × (v ≡ Var 0) × (i ≡ 1) × (h ≡ HLet (HCell x) t) × Stands_v env k w x × Stands_t Any (Is (named k) ∷ env) (suc k) e t
+    (x : HVal) × (t : HTm) × (v ≡ Var 0) × (i ≡ 1) × (h ≡ HLet (HCell x) t) × Stands_v env k w x
+    × Stands_t Any (Is (named k) ∷ env) (suc k) e t
 Stands_t Content env k (Let (Value v) e) h = ⊥
 Stands_t Content env k (Let (Proj i v) e) h = ⊥
 Stands_t Content env k (Let (Arith op v w) e) h = ⊥
@@ -103,7 +120,8 @@ Stands_all [] [] = Unit {0}
 Stands_all [] (x ∷ xs) = ⊥
 Stands_all (b ∷ bs) [] = ⊥
 Stands_all (b ∷ bs) (x ∷ xs) =
-    ((b.owes ≡ x.owes) × (atypes x.args ≡ b.args) × Stands_t Any (arg_things 0 [] b.args) (arity b.args) b.body x.body) × Stands_all bs xs
+    ((b.owes ≡ x.owes) × (atypes x.args ≡ b.args)
+    × Stands_t Any (arg_things 0 [] b.args) (arity b.args) b.body x.body) × Stands_all bs xs
 
 -- a program without data stands for a hoisted program, block by block
 abbrev pub Stands : AProg → ATm → HBlks → HTm → Type 0

@@ -26,7 +26,9 @@ ends log r = finish r.end (onto_log r.entered log)
 
 -- a typed program and its allocation end alike within each number of calls, and enter the same blocks
 abbrev pub AllocKept : Type 0
-AllocKept = (ks : HBlks) (t : HTm) → HProgramGood ks t → (n : ℕ) → A.meaning (alloc_prog ks) (alloc_main ks t) n ≡ ends [] (hrun n ks t)
+AllocKept =
+    (ks : HBlks) (t : HTm) → HProgramGood ks t → (n : ℕ) →
+    A.meaning (alloc_prog ks) (alloc_main ks t) n ≡ ends [] (hrun n ks t)
 
 -- the allocation of a typed program is typed
 abbrev pub AllocTypesKept : Type 0
@@ -35,4 +37,5 @@ AllocTypesKept = (ks : HBlks) (t : HTm) → HProgramGood ks t → Program-ok (al
 -- the allocation of a program within bounds is within bounds: reach and names grow by nothing, and variables at most
 -- threefold
 abbrev pub AllocFits : Type 0
-AllocFits = (N M R : ℕ) → 3 * N ≤ M → (ks : HBlks) (t : HTm) → HFits N R ks t → AFits M R (alloc_prog ks) (alloc_main ks t)
+AllocFits =
+    (N M R : ℕ) → 3 * N ≤ M → (ks : HBlks) (t : HTm) → HFits N R ks t → AFits M R (alloc_prog ks) (alloc_main ks t)

@@ -31,22 +31,27 @@ inits l i [] rest = rest
 inits l i (v ∷ vs) rest = a.Let (a.Init (a.Var 0) i (value_at (suc l) v)) (inits (suc l) (suc i) vs rest)
 
 -- values that were read from depth d on, and what was put before
-pub record Made (ks : HBlks) (g : List a.ATy) (ls : List ℕ) (d : ℕ) (us : List HVal) (begin : List ANode) (vs : List AValue) (ts : List TypeOf) (m : ℕ) (now : List ANode) : Type 0 where
+pub record Made (ks : HBlks) (g : List a.ATy) (ls : List ℕ) (d : ℕ) (us : List HVal) (begin : List ANode)
+    (vs : List AValue) (ts : List TypeOf) (m : ℕ) (now : List ANode) : Type 0 where
   pub values : (e : ℕ) → map (value_at e) vs ≡ vals ls d e (tied us)
   pub types : map (type_in g) ts ≡ map (v_type ks g) us
   pub depth : m ≡ vs_next d (tied us)
   pub emits : Emits begin now (pre_vs ks g ls d (tied us))
 
 -- a step of the reading: f is what it does to the values that were read
-abbrev pub Reads : HBlks → List a.ATy → List ℕ → (List HVal → List HVal) → List AValue → List TypeOf → ℕ → List ANode → List AValue → List TypeOf → ℕ → List ANode → Type 0
-Reads ks g ls f vs ts m now ws us k new = (d : ℕ) (xs : List HVal) (begin : List ANode) → Made ks g ls d xs begin vs ts m now → Made ks g ls d (f xs) begin ws us k new
+abbrev pub Reads : HBlks → List a.ATy → List ℕ → (List HVal → List HVal) → List AValue → List TypeOf → ℕ →
+    List ANode → List AValue → List TypeOf → ℕ → List ANode → Type 0
+Reads ks g ls f vs ts m now ws us k new =
+    (d : ℕ) (xs : List HVal) (begin : List ANode) → Made ks g ls d xs begin vs ts m now →
+    Made ks g ls d (f xs) begin ws us k new
 
 -- the last place first
 abbrev pub tops : List Place → List Place
 tops ps = onto (λ p. p) [] ps
 
 -- one more node, which names something
-pub record Declares (form : AForm) (vs : List AValue) (ty : AType) (depth count binders : ℕ) (ns ms : List Name) (ps qs : List Place) (old new : List ANode) : Type 0 where
+pub record Declares (form : AForm) (vs : List AValue) (ty : AType) (depth count binders : ℕ) (ns ms : List Name)
+    (ps qs : List Place) (old new : List ANode) : Type 0 where
   pub name : Name
   pub place : Place
   pub node : ANode
@@ -70,13 +75,19 @@ pub record Ends (form : AForm) (vs : List AValue) (old new : List ANode) : Type 
   pub values : node.values.items ≡ vs
 
 -- what one node of a term does
-pub record Stepped (ks : HBlks) (place : Place) (form : HForm) (us : List HVal) (ns ms : List Name) (ps qs : List Place) (old new : List ANode) : Type 0 where
-  pub terms : Fit ns place.names (tops ps) → (ts : List HTm) → a_onto new (pending ks ms (tops qs) ts) ≡ a_onto old (pending ks ns (place ∷ tops ps) (h_build form us ts))
+pub record Stepped (ks : HBlks) (place : Place) (form : HForm) (us : List HVal) (ns ms : List Name)
+    (ps qs : List Place) (old new : List ANode) : Type 0 where
+  pub terms : Fit ns place.names (tops ps) → (ts : List HTm) →
+      a_onto new (pending ks ms (tops qs) ts) ≡ a_onto old (pending ks ns (place ∷ tops ps) (h_build form us ts))
   pub fit : Fit ns place.names (tops ps) → Fit ms (length ms) (tops qs)
-  pub rows : (m : ℕ) → ((rest : List ANode) → ARow rest (suc (length ps)) → ARow (old ++ rest) m) → (rest : List ANode) → ARow rest (length qs) → ARow (new ++ rest) m
+  pub rows : (m : ℕ) → ((rest : List ANode) → ARow rest (suc (length ps)) → ARow (old ++ rest) m) →
+      (rest : List ANode) → ARow rest (length qs) → ARow (new ++ rest) m
   pub count : length qs ≡ lift (h_kids form) (length ps)
 
 -- what a node of this form does to what stands after its values were read, whatever they stand for
-abbrev pub Steps : Place → HForm → List AValue → List TypeOf → ℕ → List Name → List Name → List Place → List Place → List ANode → List ANode → Type 0
+abbrev pub Steps : Place → HForm → List AValue → List TypeOf → ℕ → List Name → List Name → List Place → List Place →
+    List ANode → List ANode → Type 0
 Steps place form vs ts m ns ms ps qs mid new =
-    (ks : HBlks) (us : List HVal) (begin : List ANode) → Made ks (scope place.binders ns) (levels ns) place.depth us begin vs ts m mid → HArity form us → Stepped ks place form us ns ms ps qs begin new
+    (ks : HBlks) (us : List HVal) (begin : List ANode) →
+    Made ks (scope place.binders ns) (levels ns) place.depth us begin vs ts m mid → HArity form us →
+    Stepped ks place form us ns ms ps qs begin new

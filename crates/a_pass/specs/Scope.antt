@@ -60,7 +60,9 @@ Under b (n ∷ ns) = (n.under ≤ b) × Under b ns
 -- the terms at these places, of which the first comes next
 abbrev pub pending : HBlks → List Name → List Place → List HTm → List a.ATm
 pending ks ns [] ts = []
-pending ks ns (p ∷ ps) ts = alloc_t ks (scope p.binders (take p.names ns)) (levels (take p.names ns)) p.depth (top no_term ts) ∷ pending ks ns ps (others ts)
+pending ks ns (p ∷ ps) ts =
+    alloc_t ks (scope p.binders (take p.names ns)) (levels (take p.names ns)) p.depth (top no_term ts)
+    ∷ pending ks ns ps (others ts)
 
 -- each place sees a front of the names, the first place the longest
 abbrev pub Fit : List Name → ℕ → List Place → Type 0

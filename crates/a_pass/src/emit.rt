@@ -84,7 +84,8 @@ pub(crate) fn init(
     depth: u64,
     out: &mut Vec<ANode>,
 ) -> Result<(), OutOfMemory>
-    ensures { OnOk result (Emits out.old.items out.new.items (λ r. a.Let (a.Init (a.Var 0) field (value_at depth value)) r)) }
+    ensures { OnOk result (Emits out.old.items out.new.items
+        (λ r. a.Let (a.Init (a.Var 0) field (value_at depth value)) r)) }
 {
     let values = content(alloc, value, depth)?;
     out.push(ANode {

@@ -56,7 +56,9 @@ fn declare(
     places: &mut Vec<Place>,
     out: &mut Vec<ANode>,
 ) -> Result<(), OutOfMemory>
-    ensures { OnOk result (Declares form values.items ty depth (length names.old.items) binders names.old.items names.new.items places.old.items places.new.items out.old.items out.new.items) }
+    ensures { OnOk result (Declares form values.items ty depth
+        (length names.old.items) binders names.old.items names.new.items places.old.items places.new.items
+        out.old.items out.new.items) }
 {
     let next = after(depth)?;
     out.push(ANode { form, values })?;
@@ -90,7 +92,8 @@ fn name(
 ) -> Result<(), OutOfMemory>
     requires names { length names.old.items ≡ place.names }
     requires bound { Under place.binders names.old.items }
-    ensures { OnOk result (Steps place H.Name run.values.items run.types.items run.depth names.old.items names.new.items places.old.items places.new.items out.old.items out.new.items) }
+    ensures { OnOk result (Steps place H.Name run.values.items run.types.items run.depth names.old.items
+        names.new.items places.old.items places.new.items out.old.items out.new.items) }
 {
     let Run {
         values,
@@ -123,8 +126,12 @@ fn project(
 ) -> Result<(), OutOfMemory>
     requires names { length names.old.items ≡ place.names }
     requires bound { Under place.binders names.old.items }
-    ensures field { OnOk result (Steps place (H.Proj i) run.values.items run.types.items run.depth names.old.items names.new.items places.old.items places.new.items out.old.items out.new.items) }
-    ensures cell { OnOk result (i ≡ 1 → Steps place H.Get run.values.items run.types.items run.depth names.old.items names.new.items places.old.items places.new.items out.old.items out.new.items) }
+    ensures field { OnOk result (Steps place
+        (H.Proj i) run.values.items run.types.items run.depth names.old.items names.new.items places.old.items
+        places.new.items out.old.items out.new.items) }
+    ensures cell { OnOk result (i ≡ 1 →
+        Steps place H.Get run.values.items run.types.items run.depth names.old.items names.new.items places.old.items
+        places.new.items out.old.items out.new.items) }
 {
     let Run {
         values,
@@ -157,7 +164,9 @@ fn operate(
 ) -> Result<(), OutOfMemory>
     requires names { length names.old.items ≡ place.names }
     requires bound { Under place.binders names.old.items }
-    ensures { OnOk result (Steps place (H.Arith op) run.values.items run.types.items run.depth names.old.items names.new.items places.old.items places.new.items out.old.items out.new.items) }
+    ensures { OnOk result (Steps place
+        (H.Arith op) run.values.items run.types.items run.depth names.old.items names.new.items places.old.items
+        places.new.items out.old.items out.new.items) }
 {
     let Run {
         values,
@@ -188,7 +197,8 @@ fn unpack(
 ) -> Result<(), OutOfMemory>
     requires names { length names.old.items ≡ place.names }
     requires bound { Under place.binders names.old.items }
-    ensures { OnOk result (Steps place H.Unpack run.values.items run.types.items run.depth names.old.items names.new.items places.old.items places.new.items out.old.items out.new.items) }
+    ensures { OnOk result (Steps place H.Unpack run.values.items run.types.items run.depth names.old.items
+        names.new.items places.old.items places.new.items out.old.items out.new.items) }
 {
     let Run {
         values,
@@ -205,7 +215,8 @@ fn unpack(
 // A tuple of one field of this type; its type once the field is initialised.
 fn one_field(alloc: Global, ty: AType, out: &mut Vec<ANode>) -> Result<AType, OutOfMemory>
     ensures ty { IfOk result (λ r. atree r ≡ a.ATuple (a.MoreAFields (atree ty) true a.NoAFields)) }
-    ensures emits { OnOk result (Emits out.old.items out.new.items (λ r. a.Let (a.Malloc (a.MoreATys (atree ty) a.NoATys)) r)) }
+    ensures emits { OnOk result (Emits out.old.items out.new.items
+        (λ r. a.Let (a.Malloc (a.MoreATys (atree ty) a.NoATys)) r)) }
 {
     let mut room = Vec::new(alloc);
     room.push(ty)?;
@@ -224,7 +235,8 @@ fn cell(
 ) -> Result<(), OutOfMemory>
     requires names { length names.old.items ≡ place.names }
     requires bound { Under place.binders names.old.items }
-    ensures { OnOk result (Steps place H.Cell run.values.items run.types.items run.depth names.old.items names.new.items places.old.items places.new.items out.old.items out.new.items) }
+    ensures { OnOk result (Steps place H.Cell run.values.items run.types.items run.depth names.old.items
+        names.new.items places.old.items places.new.items out.old.items out.new.items) }
 {
     let Run {
         values,
@@ -256,7 +268,8 @@ fn assign(
     out: &mut Vec<ANode>,
 ) -> Result<u64, OutOfMemory>
     ensures next { IfOk result (λ r. r ≡ suc depth) }
-    ensures emits { OnOk result ((v w : a.AVal) → map (value_at depth) values.items ≡ v ∷ w ∷ [] → Emits out.old.items out.new.items (λ r. a.Let (a.Init v 1 w) r)) }
+    ensures emits { OnOk result ((v w : a.AVal) → map (value_at depth) values.items ≡ v ∷ w ∷ [] →
+        Emits out.old.items out.new.items (λ r. a.Let (a.Init v 1 w) r)) }
 {
     let values = under_all(alloc, values, depth)?;
     out.push(ANode {
@@ -277,7 +290,8 @@ fn set(
 ) -> Result<(), OutOfMemory>
     requires names { length names.old.items ≡ place.names }
     requires bound { Under place.binders names.old.items }
-    ensures { OnOk result (Steps place H.Set run.values.items run.types.items run.depth names.old.items names.new.items places.old.items places.new.items out.old.items out.new.items) }
+    ensures { OnOk result (Steps place H.Set run.values.items run.types.items run.depth names.old.items
+        names.new.items places.old.items places.new.items out.old.items out.new.items) }
 {
     let Run {
         values,
@@ -312,7 +326,9 @@ fn call(
 ) -> Result<(), OutOfMemory>
     requires names { length names.now ≡ place.names }
     requires bound { Under place.binders names.now }
-    ensures { OnOk result (Steps place (H.Call types.now) run.values.items run.types.items run.depth names.now names.now places.now places.now out.old.items out.new.items) }
+    ensures { OnOk result (Steps place
+        (H.Call types.now) run.values.items run.types.items run.depth names.now names.now places.now places.now
+        out.old.items out.new.items) }
 {
     let types = a_types(alloc, types)?;
     let values = under_all(alloc, run.values, run.depth)?;
@@ -330,7 +346,8 @@ fn choose(
 ) -> Result<(), OutOfMemory>
     requires names { length names.now ≡ place.names }
     requires bound { Under place.binders names.now }
-    ensures { OnOk result (Steps place H.If0 run.values.items run.types.items run.depth names.now names.now places.old.items places.new.items out.old.items out.new.items) }
+    ensures { OnOk result (Steps place H.If0 run.values.items run.types.items run.depth names.now names.now
+        places.old.items places.new.items out.old.items out.new.items) }
 {
     let branch = Place {
         depth: run.depth,
@@ -354,7 +371,8 @@ fn halt(
 ) -> Result<(), OutOfMemory>
     requires names { length names.now ≡ place.names }
     requires bound { Under place.binders names.now }
-    ensures { OnOk result (Steps place H.Halt run.values.items run.types.items run.depth names.now names.now places.now places.now out.old.items out.new.items) }
+    ensures { OnOk result (Steps place H.Halt run.values.items run.types.items run.depth names.now names.now
+        places.now places.now out.old.items out.new.items) }
 {
     let values = under_all(alloc, run.values, run.depth)?;
     end(AForm::Halt, values, out)?;
@@ -373,7 +391,8 @@ fn form(
 ) -> Result<(), OutOfMemory>
     requires names { length names.old.items ≡ place.names }
     requires bound { Under place.binders names.old.items }
-    ensures { OnOk result (Steps place form.now run.values.items run.types.items run.depth names.old.items names.new.items places.old.items places.new.items out.old.items out.new.items) }
+    ensures { OnOk result (Steps place form.now run.values.items run.types.items run.depth names.old.items
+        names.new.items places.old.items places.new.items out.old.items out.new.items) }
 {
     match form {
         HForm::Name => {
@@ -431,7 +450,9 @@ pub(crate) fn step(
     requires arity { HArity node.now.form (h.values node.now) }
     requires names { length names.old.items ≡ place.names }
     requires bound { Under place.binders names.old.items }
-    ensures { OnOk result (Stepped (h_blocks blocks.now) place node.now.form (h.values node.now) names.old.items names.new.items places.old.items places.new.items out.old.items out.new.items) }
+    ensures { OnOk result (Stepped (h_blocks blocks.now) place node.now.form
+        (h.values node.now) names.old.items names.new.items places.old.items places.new.items out.old.items
+        out.new.items) }
 {
     let run = read(
         alloc,

@@ -38,8 +38,10 @@ fn push_leaf(
 
 fn pop_leaf(values: &mut Vec<AValue>, types: &mut Vec<TypeOf>) -> Option<Leaf>
     requires even { length types.old.items ≡ length values.old.items }
-    ensures values { MatchOption result ((values.old.items ≡ []) × (values.new.items ≡ [])) (λ l. values.old.items ≡ values.new.items ++ l.value ∷ []) }
-    ensures types { MatchOption result ((types.old.items ≡ []) × (types.new.items ≡ [])) (λ l. types.old.items ≡ types.new.items ++ l.ty ∷ []) }
+    ensures values { MatchOption result ((values.old.items ≡ []) × (values.new.items ≡ []))
+        (λ l. values.old.items ≡ values.new.items ++ l.value ∷ []) }
+    ensures types { MatchOption result ((types.old.items ≡ []) × (types.new.items ≡ []))
+        (λ l. types.old.items ≡ types.new.items ++ l.ty ∷ []) }
 {
     let Some(value) = values.pop() else {
         return None;
@@ -84,7 +86,10 @@ fn apply(
 ) -> Result<(), OutOfMemory>
     requires even { length types.old.items ≡ length values.old.items }
     ensures even { OnOk result (length types.new.items ≡ length values.new.items) }
-    ensures made { OnOk result ((ks : HBlks) (ls : List ℕ) (m : ℕ) (out : List ANode) → Reads ks (scope binders names.now) ls (at_last (λ v. HApply v (ctys ts.now))) values.old.items types.old.items m out values.new.items types.new.items m out) }
+    ensures made { OnOk result ((ks : HBlks) (ls : List ℕ) (m : ℕ) (out : List ANode) →
+        Reads ks (scope binders names.now) ls
+        (at_last (λ v. HApply v
+        (ctys ts.now))) values.old.items types.old.items m out values.new.items types.new.items m out) }
 {
     let Some(leaf) = pop_leaf(values, types) else {
         return Ok(());
@@ -115,7 +120,10 @@ fn pack(
 ) -> Result<(), OutOfMemory>
     requires even { length types.old.items ≡ length values.old.items }
     ensures even { OnOk result (length types.new.items ≡ length values.new.items) }
-    ensures made { OnOk result ((ks : HBlks) (g : List a.ATy) (ls : List ℕ) (m : ℕ) (out : List ANode) → Reads ks g ls (at_last (λ v. HPack (ctree hidden.now) v (ctree shape.now))) values.old.items types.old.items m out values.new.items types.new.items m out) }
+    ensures made { OnOk result ((ks : HBlks) (g : List a.ATy) (ls : List ℕ) (m : ℕ) (out : List ANode) →
+        Reads ks g ls (at_last
+        (λ v. HPack (ctree hidden.now) v
+        (ctree shape.now))) values.old.items types.old.items m out values.new.items types.new.items m out) }
 {
     let Some(leaf) = pop_leaf(values, types) else {
         return Ok(());
@@ -149,7 +157,10 @@ fn tuple(
 ) -> Result<u64, OutOfMemory>
     requires even { length types.old.items ≡ length values.old.items }
     ensures even { OnOk result (length types.new.items ≡ length values.new.items) }
-    ensures made { IfOk result (λ m. (ks : HBlks) (ls : List ℕ) → Reads ks (scope binders names.now) ls (tupled n) values.old.items types.old.items depth out.old.items values.new.items types.new.items m out.new.items) }
+    ensures made { IfOk result (λ m. (ks : HBlks) (ls : List ℕ) →
+        Reads ks (scope binders names.now) ls
+        (tupled n) values.old.items types.old.items depth out.old.items values.new.items types.new.items m
+        out.new.items) }
 {
     let count = values.len();
     let start = count.saturating_sub(n as usize);
@@ -186,7 +197,9 @@ pub(crate) fn part(
 ) -> Result<u64, OutOfMemory>
     requires even { length types.old.items ≡ length values.old.items }
     ensures even { OnOk result (length types.new.items ≡ length values.new.items) }
-    ensures made { IfOk result (λ m. Reads (h_blocks blocks.now) (scope binders names.now) (levels names.now) (more part.now) values.old.items types.old.items depth out.old.items values.new.items types.new.items m out.new.items) }
+    ensures made { IfOk result (λ m. Reads (h_blocks blocks.now) (scope binders names.now) (levels names.now)
+        (more part.now) values.old.items types.old.items depth out.old.items values.new.items types.new.items m
+        out.new.items) }
 {
     match part {
         HPart::Var(i) => {

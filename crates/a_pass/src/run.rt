@@ -29,7 +29,8 @@ pub(crate) fn read(
     start: u64,
     out: &mut Vec<ANode>,
 ) -> Result<Run, OutOfMemory>
-    ensures { IfOk result (λ r. Made (h_blocks blocks.now) (scope binders names.now) (levels names.now) start (reads [] parts.now) out.old.items r.values.items r.types.items r.depth out.new.items) }
+    ensures { IfOk result (λ r. Made (h_blocks blocks.now) (scope binders names.now) (levels names.now) start
+        (reads [] parts.now) out.old.items r.values.items r.types.items r.depth out.new.items) }
 {
     let mut values = Vec::new(alloc);
     let mut types = Vec::new(alloc);

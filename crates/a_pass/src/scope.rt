@@ -28,8 +28,10 @@ pub(crate) fn plain(alloc: Global, base: ABase) -> AValue
 
 // Name i, 0 the innermost.
 fn name_at(names: &[Name], i: u64) -> Option<&Name>
-    ensures level { MatchOption result (slice_get (levels names.now) i ≡ None) (λ n. slice_get (levels names.now) i ≡ Some n.now.level) }
-    ensures ty { MatchOption result ((b : ℕ) → slice_get (scope b names.now) i ≡ None) (λ n. (b : ℕ) → slice_get (scope b names.now) i ≡ Some (typed b n.now)) }
+    ensures level { MatchOption result (slice_get (levels names.now) i ≡ None)
+        (λ n. slice_get (levels names.now) i ≡ Some n.now.level) }
+    ensures ty { MatchOption result ((b : ℕ) → slice_get (scope b names.now) i ≡ None)
+        (λ n. (b : ℕ) → slice_get (scope b names.now) i ≡ Some (typed b n.now)) }
 {
     let count = names.len();
     if i < count as u64 {

@@ -26,7 +26,8 @@ fn walk(
 ) -> Result<Vec<ANode>, OutOfMemory>
     requires one { HRow nodes.now 1 }
     requires bound { Under 0 names.items }
-    ensures tree { IfOk result (λ r. a_tree r.items ≡ alloc_t (h_blocks blocks.now) (scope 0 names.items) (levels names.items) depth (h_tree nodes.now)) }
+    ensures tree { IfOk result (λ r. a_tree r.items ≡ alloc_t (h_blocks blocks.now) (scope 0 names.items)
+        (levels names.items) depth (h_tree nodes.now)) }
     ensures one { IfOk result (λ r. ARow r.items 1) }
 {
     let mut names = names;
@@ -81,7 +82,9 @@ pub(crate) fn body(
     nodes: &[HNode],
 ) -> Result<Vec<ANode>, OutOfMemory>
     requires one { HRow nodes.now 1 }
-    ensures tree { IfOk result (λ r. a_tree r.items ≡ alloc_t (h_blocks blocks.now) (types_of (atypes (ctys args.now)) []) (arg_levels 0 [] (ctys args.now)) (arg_depth 0 (ctys args.now)) (h_tree nodes.now)) }
+    ensures tree { IfOk result (λ r. a_tree r.items ≡ alloc_t (h_blocks blocks.now)
+        (types_of (atypes (ctys args.now)) []) (arg_levels 0 [] (ctys args.now)) (arg_depth 0 (ctys args.now))
+        (h_tree nodes.now)) }
     ensures one { IfOk result (λ r. ARow r.items 1) }
 {
     let names = arguments(alloc, args)?;

@@ -28,7 +28,8 @@ fn declared_type(
 ) -> Result<AType, OutOfMemory>
     requires form { is_decl form.now ≡ true }
     requires arity { AArity form.now (a_values values.now) }
-    ensures { IfOk result (λ r. atree r ≡ decl_ty (program_in program.now) (scope names vars.now) (a_decl form.now (a_values values.now))) }
+    ensures { IfOk result (λ r. atree r ≡ decl_ty (program_in program.now) (scope names vars.now)
+        (a_decl form.now (a_values values.now))) }
 {
     match form {
         AForm::Value => {

@@ -76,7 +76,8 @@ pub fn field_of_value(
     v: &AValue,
     i: u64,
 ) -> Result<AType, OutOfMemory>
-    ensures { IfOk result (λ r. atree r ≡ the_field_of i (type_of (program_in program.now) (scope names vars.now) (a_value v.now))) }
+    ensures { IfOk result (λ r. atree r ≡ the_field_of i
+        (type_of (program_in program.now) (scope names vars.now) (a_value v.now))) }
 {
     match bare_variable(v) {
         Some(n) => {
@@ -131,7 +132,8 @@ pub fn body_of_value(
     names: u64,
     v: &AValue,
 ) -> Result<AType, OutOfMemory>
-    ensures { IfOk result (λ r. atree r ≡ the_body_of (type_of (program_in program.now) (scope names vars.now) (a_value v.now))) }
+    ensures { IfOk result (λ r. atree r ≡ the_body_of
+        (type_of (program_in program.now) (scope names vars.now) (a_value v.now))) }
 {
     match bare_variable(v) {
         Some(n) => {

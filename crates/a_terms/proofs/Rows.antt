@@ -1,11 +1,11 @@
 -- Worked rows of the allocated calculus.
-use Rattle.std.proofs.Common.{◌≡◌, pos, [], ◌∷◌, refl}
+use Rattle.std.proofs.Common.{◌≡◌, ℕ, zero, suc, Bool, Some, pos, [], ◌∷◌, refl, sym, ap, ◌∙◌}
 use Rattle.std.specs.Prelude.{true, false}
 use Rattle.std.specs.Int.{int_wrap}
 use Rattle.idx_core.specs.declared.arith.Op.TheVariants.{Add}
-use Rattle.a_terms.specs.Tree.{AInt, AVar, ATuple, AExists, NoATys, MoreATys, NoAFields, MoreAFields, Var, Num, Lab, Data, Pack, Proj, Arith, Unpack, Malloc, Init, ATm, Let, Call, Halt, AProg}
+use Rattle.a_terms.specs.Tree.{ATy, AInt, AVar, ATuple, AExists, NoATys, MoreATys, NoAFields, MoreAFields, Var, Num, Lab, Data, Pack, Proj, Arith, Unpack, Malloc, Init, ATm, Let, Call, Halt, AProg}
 use Rattle.a_terms.specs.Meaning.{Halted, Spent, Wrong, meaning}
-use Rattle.a_terms.specs.Typing.{Term-ok, declared}
+use Rattle.a_terms.specs.Typing.{Term-ok, declared, afield_flag}
 
 -- no blocks and no data
 abbrev alone : AProg
@@ -72,3 +72,22 @@ opened = Let (Unpack (Pack AInt (Num (pos 2)) (AExists (AVar 0)))) (Halt (Num (p
 
 opened_halts : meaning alone opened 0 ≡ Halted (pos 1) []
 opened_halts = refl
+
+-- and its typing refuses it: the field's flag is 0
+abbrev flag_in : ATy → ℕ → Bool
+flag_in (ATuple fs) i = afield_flag fs i
+flag_in t i = false
+
+early_not_typed : Term-ok alone 0 [] early → ⊥
+early_not_typed (below, ((fs, j, t, has, is, type, flag), rest)) =
+    clash (sym flag ∙ ap (λ s. flag_in s j) (sym (some_is has.is)) ∙ unset j)
+  where
+    clash : true ≡ false → ⊥
+    clash e = cc
+
+    some_is : {s u : ATy} → Some s ≡ Some u → s ≡ u
+    some_is e = cc
+
+    unset : (j : ℕ) → flag_in (ATuple (MoreAFields AInt false NoAFields)) j ≡ false
+    unset zero = refl
+    unset (suc i) = refl

@@ -77,7 +77,8 @@ a_arity_prop Halt vs = one_prop vs
 pub a_row_prop : (xs : List ANode) (n : ℕ) → IsProp (ARow xs n)
 a_row_prop [] n = hlevel props
 a_row_prop (x ∷ xs) zero = hlevel
-a_row_prop (x ∷ xs) (suc n) = hlevel (a_arity_prop x.form (a_values x.values.items), a_row_prop xs (lift (a_kids x.form) n))
+a_row_prop (x ∷ xs) (suc n) =
+    hlevel (a_arity_prop x.form (a_values x.values.items), a_row_prop xs (lift (a_kids x.form) n))
 
 pub a_rows_prop : (ks : List ABlock) → IsProp (ARows ks)
 a_rows_prop [] = hlevel

@@ -34,7 +34,8 @@ ASmall m p main = AAllRegs m p.blocks × ARegs m 0 main
 -- above n; and at most n blocks and choices
 abbrev pub AFits : (n r : ℕ) → AProg → ATm → Type 0
 AFits n r p main =
-    Program-ok p main × ProgramEach (AWithin n r n) p main × ASmall n p main × (length p.blocks + (thirds main + all_thirds p.blocks) ≤ n)
+    Program-ok p main × ProgramEach (AWithin n r n) p main × ASmall n p main
+    × (length p.blocks + (thirds main + all_thirds p.blocks) ≤ n)
 
 -- the bound of programs: what the assembly program is made of is in range by it
 abbrev pub ABound : AProg → ATm → Type 0

@@ -10,4 +10,5 @@ NeverWrongLaw = (p : AProg) (main : ATm) → Program-ok p main → NeverWrong p 
 
 -- two puts exchange, the one put into the other
 abbrev pub PutsExchange : Type 0
-PutsExchange = (i j : ℕ) (u v t : ATy) → i ≤ j → aput j v (aput i u t) ≡ aput i (aput j v u) (aput (j + 1) (ashift 1 i v) t)
+PutsExchange =
+    (i j : ℕ) (u v t : ATy) → i ≤ j → aput j v (aput i u t) ≡ aput i (aput j v u) (aput (j + 1) (ashift 1 i v) t)

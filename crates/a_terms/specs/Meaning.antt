@@ -70,12 +70,16 @@ empties (MoreATys t ts) = None ∷ empties ts
 abbrev pub decl : ADecl → List AWord → AHeap → Made
 decl (Value v) env h = given (value env v) (λ w. Gives w h)
 decl (Proj i v) env h =
-    address (value env v) (λ a. at_field i (λ j. given (slice_get h a) (λ t. given (slice_get t j) (λ f. given f (λ w. Gives w h)))))
+    address (value env v)
+    (λ a. at_field i (λ j. given (slice_get h a) (λ t. given (slice_get t j) (λ f. given f (λ w. Gives w h)))))
 decl (Arith o v w) env h = number (value env v) (λ a. number (value env w) (λ b. Gives (ZInt (compute o a b)) h))
 decl (Unpack v) env h = given (value env v) (λ w. Gives w h)
 decl (Malloc ts) env h = Gives (ZTuple (length h)) (h ++ empties ts ∷ [])
 decl (Init v i w) env h =
-    address (value env v) (λ a. at_field i (λ j. given (value env w) (λ x. given (slice_get h a) (λ t. given (slice_get t j) (λ f. Gives (ZTuple a) (slice_set h a (slice_set t j (Some x))))))))
+    address (value env v)
+    (λ a. at_field i (λ j. given (value env w)
+    (λ x. given (slice_get h a)
+    (λ t. given (slice_get t j) (λ f. Gives (ZTuple a) (slice_set h a (slice_set t j (Some x))))))))
 
 -- what a call does: the block, the arguments, the heap, the blocks entered so far
 abbrev pub Next : Type 0

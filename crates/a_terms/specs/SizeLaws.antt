@@ -18,14 +18,17 @@ mutual
   bulk_over f n d h AInt = omega arith
   bulk_over f n d h (AVar i) = omega (arith, h d i)
   bulk_over f n d h (ATuple fs) = bulk_over_fields f n d h fs
-  bulk_over f n d h (ACode owes args) = omega (arith, arity_over f (d + owes) args, bulk_over_types f n (d + owes) h args)
+  bulk_over f n d h (ACode owes args) =
+      omega (arith, arity_over f (d + owes) args, bulk_over_types f n (d + owes) h args)
   bulk_over f n d h (AExists t) = omega (arith, bulk_over f n (d + 1) h t)
 
-  bulk_over_types : (f : At ATy) (n d : ℕ) → ((e i : ℕ) → bulk (f e i) ≤ n) → (ts : ATys) → bulk_types (over_types f d ts) ≤ bulk_types ts + n
+  bulk_over_types : (f : At ATy) (n d : ℕ) → ((e i : ℕ) → bulk (f e i) ≤ n) → (ts : ATys) →
+      bulk_types (over_types f d ts) ≤ bulk_types ts + n
   bulk_over_types f n d h NoATys = omega arith
   bulk_over_types f n d h (MoreATys t ts) = omega (arith, bulk_over f n d h t, bulk_over_types f n d h ts)
 
-  bulk_over_fields : (f : At ATy) (n d : ℕ) → ((e i : ℕ) → bulk (f e i) ≤ n) → (fs : AFields) → bulk_fields (over_fields f d fs) ≤ bulk_fields fs + n
+  bulk_over_fields : (f : At ATy) (n d : ℕ) → ((e i : ℕ) → bulk (f e i) ≤ n) → (fs : AFields) →
+      bulk_fields (over_fields f d fs) ≤ bulk_fields fs + n
   bulk_over_fields f n d h NoAFields = omega arith
   bulk_over_fields f n d h (MoreAFields t b fs) = omega (arith, bulk_over f n d h t, bulk_over_fields f n d h fs)
 
@@ -61,7 +64,14 @@ bulk_apply (MoreATys t ts) (ATuple fs) u e = cc
 bulk_apply (MoreATys t ts) (ACode zero us) u e = cc
 bulk_apply (MoreATys t ts) (ACode (suc n) us) u e =
     let r = bulk_apply ts (ACode n (aput_types n (ashift n 0 t) us)) u e in
-    omega (arith, r, arity_over (putted AVar over n (ashift n 0 t)) n us, bulk_put_types n (ashift n 0 t) us, bulk_shift n 0 t)
+    omega (
+      arith,
+      r,
+      arity_over (putted AVar over n (ashift n 0 t)) n us,
+      bulk_put_types n
+          (ashift n 0 t) us,
+      bulk_shift n 0 t,
+    )
 bulk_apply (MoreATys t ts) (AExists v) u e = cc
 
 pub sum_least : (ts : ATys) → bulk_types ts ≤ bulk_sum ts
@@ -113,8 +123,10 @@ module _ (p : AProg) (n : ℕ) (labels : Labels-small n p) (g : List ATy) (small
   pub small_value : (v : AVal) (t : ATy) → type_of p g v ≡ Some t → bulk t ≤ n + value_weight v
   small_value (Var i) t e = omega (arith, small_nth n g i t small e)
   small_value (Num i) t e = let x : AInt ≡ t = cc in omega (arith, ap bulk x)
-  small_value (Lab l) t e = let s = split_code (slice_get p.blocks l) t e in omega (arith, labels.codes l s.0 s.1, ap bulk s.2)
-  small_value (Data l) t e = let s = split_data (slice_get p.tuples l) t e in omega (arith, labels.data_in l s.0 s.1, ap bulk s.2)
+  small_value (Lab l) t e =
+      let s = split_code (slice_get p.blocks l) t e in omega (arith, labels.codes l s.0 s.1, ap bulk s.2)
+  small_value (Data l) t e =
+      let s = split_data (slice_get p.tuples l) t e in omega (arith, labels.data_in l s.0 s.1, ap bulk s.2)
   small_value (Apply v ts) t e =
       let s = split_applied (type_of p g v) ts t e in omega (arith, small_value v s.0 s.1, bulk_apply ts s.0 t s.2)
   small_value (Pack h v s) t e = let x : s ≡ t = cc in omega (arith, ap bulk x)
@@ -151,8 +163,14 @@ module _ (p : AProg) (n : ℕ) (labels : Labels-small n p) (g : List ATy) (small
 
   pub small_declared : (x : ADecl) (m : ℕ) → n + decl_weight x ≤ m + 2 → All-small m (declared p g x)
   small_declared (Value v) m le = (omega (arith, small_or v (type_of p g v) refl), small_more n m g (omega arith) small)
-  small_declared (Proj i v) m le = (omega (arith, small_field v i (type_of p g v) refl), small_more n m g (omega arith) small)
+  small_declared (Proj i v) m le =
+      (omega (arith, small_field v i (type_of p g v) refl), small_more n m g (omega arith) small)
   small_declared (Arith o v w) m le = (omega arith, small_more n m g (omega arith) small)
-  small_declared (Unpack v) m le = (omega (arith, small_body v (type_of p g v) refl), small_more n m (map (ashift 1 0) g) (omega arith) (small_shifted n g small))
+  small_declared (Unpack v) m le = (
+    omega (arith, small_body v (type_of p g v) refl),
+    small_more n m (map (ashift 1 0) g) (omega arith)
+        (small_shifted n g small),
+  )
   small_declared (Malloc ts) m le = (omega (arith, bulk_unset ts), small_more n m g (omega arith) small)
-  small_declared (Init v i w) m le = (omega (arith, small_filled v i (type_of p g v) refl), small_more n m g (omega arith) small)
+  small_declared (Init v i w) m le =
+      (omega (arith, small_filled v i (type_of p g v) refl), small_more n m g (omega arith) small)

@@ -53,7 +53,8 @@ weight (Halt v) = 2 + value_weight v
 -- the types of the labels have at most l, and with it each body is at most m
 abbrev pub Blocks-fit : ℕ → ℕ → List ABlk → Type 0
 Blocks-fit l m [] = Unit {0}
-Blocks-fit l m (b ∷ bs) = ((b.owes + (arity b.args + bulk_types b.args) ≤ l) × (b.owes + (l + weight b.body) ≤ m)) × Blocks-fit l m bs
+Blocks-fit l m (b ∷ bs) =
+    ((b.owes + (arity b.args + bulk_types b.args) ≤ l) × (b.owes + (l + weight b.body) ≤ m)) × Blocks-fit l m bs
 
 -- the types of data have at most l, and their values at most m
 abbrev pub Data-fit : ℕ → ℕ → AConsts → Type 0

@@ -1,4 +1,5 @@
--- Shift, put and below of the types of the allocated calculus, from the general laws; and what code applied to types has.
+-- Shift, put and below of the types of the allocated calculus, from the general laws; and what code applied to types
+-- has.
 use Rattle.std.proofs.Common.{◌≡◌, ℕ, zero, suc, ◌+◌, ◌≤◌, List, [], ◌∷◌, length, map, Some, None, Option, refl, sym, ap, ◌∙◌, subst, arith, slice_get}
 use Rattle.idx_core.specs.Over.{BelowAt, AnyDepth}
 use Rattle.idx_core.specs.Laws.{deep_is, shifted_ge}
@@ -10,17 +11,20 @@ use Rattle.a_terms.specs.Typing.{aapply, afield_type, afilled, aunset, code_type
 pub below_more : (t : ATy) (k m : ℕ) → k ≤ m → ABelow k t → ABelow m t
 below_more t k m le b =
     subst (ABelow m) (a_over.keeps (λ d i. AVar i) 0 (λ e i. refl) t)
-    (a_each.has.made BelowAt BelowAt AnyDepth AnyDepth (λ d i. AVar i) 0 k m (λ e i lt. omega (arith, deep_is k e, deep_is m e, lt)) (λ e u. tt) t b)
+    (a_each.has.made BelowAt BelowAt AnyDepth AnyDepth (λ d i. AVar i) 0 k m
+    (λ e i lt. omega (arith, deep_is k e, deep_is m e, lt)) (λ e u. tt) t b)
 
 pub below_more_types : (ts : ATys) (k m : ℕ) → k ≤ m → ABelow-types k ts → ABelow-types m ts
 below_more_types ts k m le b =
     subst (ABelow-types m) (a_types_over.keeps (λ d i. AVar i) 0 (λ e i. refl) ts)
-    (a_types_each.made BelowAt BelowAt AnyDepth AnyDepth (λ d i. AVar i) 0 k m (λ e i lt. omega (arith, deep_is k e, deep_is m e, lt)) (λ e u. tt) ts b)
+    (a_types_each.made BelowAt BelowAt AnyDepth AnyDepth (λ d i. AVar i) 0 k m
+    (λ e i lt. omega (arith, deep_is k e, deep_is m e, lt)) (λ e u. tt) ts b)
 
 pub below_more_fields : (fs : AFields) (k m : ℕ) → k ≤ m → ABelow-fields k fs → ABelow-fields m fs
 below_more_fields fs k m le b =
     subst (ABelow-fields m) (a_fields_over.keeps (λ d i. AVar i) 0 (λ e i. refl) fs)
-    (a_fields_each.made BelowAt BelowAt AnyDepth AnyDepth (λ d i. AVar i) 0 k m (λ e i lt. omega (arith, deep_is k e, deep_is m e, lt)) (λ e u. tt) fs b)
+    (a_fields_each.made BelowAt BelowAt AnyDepth AnyDepth (λ d i. AVar i) 0 k m
+    (λ e i lt. omega (arith, deep_is k e, deep_is m e, lt)) (λ e u. tt) fs b)
 
 pub shift_below : (t : ATy) (k c : ℕ) → ABelow c t → ashift k c t ≡ t
 shift_below t k c b = law.shift_below a_part a_each a_over a_each.has k c c t (omega arith) b
@@ -35,13 +39,18 @@ pub put_none_types : (ts : ATys) (c : ℕ) (s : ATy) → ABelow-types c ts → a
 put_none_types ts c s b = law.put_below a_part a_each a_types_over a_types_each c s c ts (omega arith) b
 
 pub below_shift : (t : ATy) (n c k m : ℕ) → m ≡ k + n → ABelow k t → ABelow m (ashift n c t)
-below_shift t n c k m e b = subst (λ q. ABelow q (ashift n c t)) (sym e) (law.below_shift a_part a_each a_over a_each.has n c k t b)
+below_shift t n c k m e b =
+    subst (λ q. ABelow q (ashift n c t)) (sym e) (law.below_shift a_part a_each a_over a_each.has n c k t b)
 
 pub below_put : (t : ATy) (c k m : ℕ) (s : ATy) → m ≡ suc k → c ≤ k → ABelow m t → ABelow k s → ABelow k (aput c s t)
-below_put t c k m s e le b h = law.below_put a_part a_each a_over a_each.has c k s t le h (subst (λ q. ABelow q t) (e ∙ omega arith) b)
+below_put t c k m s e le b h =
+    law.below_put a_part a_each a_over a_each.has c k s t le h (subst (λ q. ABelow q t) (e ∙ omega arith) b)
 
-pub below_put_types : (ts : ATys) (c k m : ℕ) (s : ATy) → m ≡ suc k → c ≤ k → ABelow-types m ts → ABelow k s → ABelow-types k (aput_types c s ts)
-below_put_types ts c k m s e le b h = law.below_put a_part a_each a_types_over a_types_each c k s ts le h (subst (λ q. ABelow-types q ts) (e ∙ omega arith) b)
+pub below_put_types : (ts : ATys) (c k m : ℕ) (s : ATy) → m ≡ suc k → c ≤ k → ABelow-types m ts → ABelow k s →
+    ABelow-types k (aput_types c s ts)
+below_put_types ts c k m s e le b h =
+    law.below_put a_part a_each a_types_over a_types_each c k s ts le h
+    (subst (λ q. ABelow-types q ts) (e ∙ omega arith) b)
 
 pub below_apply : (ts : ATys) (k : ℕ) (s u : ATy) → ABelow k s → ABelow-types k ts → aapply s ts ≡ Some u → ABelow k u
 below_apply NoATys k s u a b e = let x : s ≡ u = cc in subst (ABelow k) x a
@@ -50,7 +59,11 @@ below_apply (MoreATys t ts) k (AVar n) u a b e = cc
 below_apply (MoreATys t ts) k (ATuple fs) u a b e = cc
 below_apply (MoreATys t ts) k (ACode zero us) u a b e = cc
 below_apply (MoreATys t ts) k (ACode (suc n) us) u a b e =
-    below_apply ts k (ACode n (aput_types n (ashift n 0 t) us)) u (tt, below_put_types us n (k + n) (k + suc n) (ashift n 0 t) (omega arith) (omega arith) a.1 (below_shift t n 0 k (k + n) refl b.0)) b.1 e
+    below_apply ts k (ACode n (aput_types n (ashift n 0 t) us)) u (
+      tt,
+      below_put_types us n (k + n) (k + suc n) (ashift n 0 t) (omega arith) (omega arith) a.1
+          (below_shift t n 0 k (k + n) refl b.0),
+    ) b.1 e
 below_apply (MoreATys t ts) k (AExists v) u a b e = cc
 
 -- fields
@@ -90,15 +103,18 @@ pub below_args : (k : ℕ) (ts : ATys) (g : List ATy) → ABelow-types k ts → 
 below_args k NoATys g a b = b
 below_args k (MoreATys t ts) g a b = below_args k ts (t ∷ g) a.1 (a.0, b)
 
-pub split_code : (o : Option ABlk) (t : ATy) → code_type o ≡ Some t → (b : ABlk) × (o ≡ Some b) × (ACode b.owes b.args ≡ t)
+pub split_code : (o : Option ABlk) (t : ATy) → code_type o ≡ Some t → (b : ABlk) × (o ≡ Some b)
+    × (ACode b.owes b.args ≡ t)
 split_code None t e = cc
 split_code (Some b) t e = (b, refl, cc)
 
-pub split_data : (o : Option AConsts) (t : ATy) → data_type o ≡ Some t → (x : AConsts) × (o ≡ Some x) × (ATuple (data_fields x) ≡ t)
+pub split_data : (o : Option AConsts) (t : ATy) → data_type o ≡ Some t → (x : AConsts) × (o ≡ Some x)
+    × (ATuple (data_fields x) ≡ t)
 split_data None t e = cc
 split_data (Some x) t e = (x, refl, cc)
 
-pub split_applied : (o : Option ATy) (ts : ATys) (t : ATy) → applied o ts ≡ Some t → (s : ATy) × (o ≡ Some s) × (aapply s ts ≡ Some t)
+pub split_applied : (o : Option ATy) (ts : ATys) (t : ATy) → applied o ts ≡ Some t → (s : ATy) × (o ≡ Some s)
+    × (aapply s ts ≡ Some t)
 split_applied None ts t e = cc
 split_applied (Some s) ts t e = (s, refl, e)
 
@@ -107,7 +123,8 @@ pub record Args-below (p : AProg) : Type 0 where
   pub args : (l : ℕ) (b : ABlk) → slice_get p.blocks l ≡ Some b → ABelow-types b.owes b.args
   pub data_in : (n : ℕ) (x : AConsts) → slice_get p.tuples n ≡ Some x → ABelow-fields 0 (data_fields x)
 
-pub type_below : (p : AProg) → Args-below p → (k : ℕ) (g : List ATy) → All-below k g → (v : AVal) (t : ATy) → Fine p k g v → type_of p g v ≡ Some t → ABelow k t
+pub type_below : (p : AProg) → Args-below p → (k : ℕ) (g : List ATy) → All-below k g → (v : AVal) (t : ATy) →
+    Fine p k g v → type_of p g v ≡ Some t → ABelow k t
 type_below p ok k g a (Var n) t f e = below_nth k g n t a e
 type_below p ok k g a (Num i) t f e = let x : AInt ≡ t = cc in subst (ABelow k) x tt
 type_below p ok k g a (Lab l) t f e =
@@ -121,20 +138,27 @@ type_below p ok k g a (Apply v ts) t f e =
     below_apply ts k s.0 t (type_below p ok k g a v s.0 f.0 s.1) f.1 s.2
 type_below p ok k g a (Pack h v s) t f e = let x : s ≡ t = cc in subst (ABelow k) x f.3
 
-pub has_below : (p : AProg) → Args-below p → (k : ℕ) (g : List ATy) → All-below k g → (v : AVal) (t : ATy) → Has p k g v t → ABelow k t
+pub has_below : (p : AProg) → Args-below p → (k : ℕ) (g : List ATy) → All-below k g → (v : AVal) (t : ATy) →
+    Has p k g v t → ABelow k t
 has_below p ok k g a v t h = type_below p ok k g a v t h.fine h.is
 
-pub field_is : (i j : ℕ) (fs : AFields) (t : ATy) (o : Option ATy) → o ≡ Some (ATuple fs) → i ≡ suc j → afield_type fs j ≡ Some t → field_of i o ≡ t
+pub field_is : (i j : ℕ) (fs : AFields) (t : ATy) (o : Option ATy) → o ≡ Some (ATuple fs) → i ≡ suc j →
+    afield_type fs j ≡ Some t → field_of i o ≡ t
 field_is i j fs t o e n x = ap (field_of i) e ∙ ap (λ m. field_of m (Some (ATuple fs))) n ∙ ap or_int x
 
-pub filled_is : (i j : ℕ) (fs : AFields) (o : Option ATy) → o ≡ Some (ATuple fs) → i ≡ suc j → filled_of i o ≡ ATuple (afilled fs j)
+pub filled_is : (i j : ℕ) (fs : AFields) (o : Option ATy) → o ≡ Some (ATuple fs) → i ≡ suc j →
+    filled_of i o ≡ ATuple (afilled fs j)
 filled_is i j fs o e n = ap (filled_of i) e ∙ ap (λ m. filled_of m (Some (ATuple fs))) n
 
-pub declared_below : (p : AProg) → Args-below p → (k : ℕ) (g : List ATy) → All-below k g → (x : ADecl) → Decl-ok p k g x → All-below (more_vars x k) (declared p g x)
+pub declared_below : (p : AProg) → Args-below p → (k : ℕ) (g : List ATy) → All-below k g → (x : ADecl) →
+    Decl-ok p k g x → All-below (more_vars x k) (declared p g x)
 declared_below p ok k g a (Value v) d = (subst (ABelow k) (sym (ap or_int d.1.is)) (has_below p ok k g a v d.0 d.1), a)
 declared_below p ok k g a (Proj i v) d =
-    let b = has_below p ok k g a v (ATuple d.0) d.3 in
-    (subst (ABelow k) (sym (field_is i d.1 d.0 d.2 (type_of p g v) d.3.is d.4 d.5)) (below_field d.0 d.1 k d.2 b d.5), a)
+    let b = has_below p ok k g a v (ATuple d.0) d.3 in (
+      subst (ABelow k) (sym (field_is i d.1 d.0 d.2 (type_of p g v) d.3.is d.4 d.5))
+          (below_field d.0 d.1 k d.2 b d.5),
+      a,
+    )
 declared_below p ok k g a (Arith o v w) d = (tt, a)
 declared_below p ok k g a (Unpack v) d =
     let b = (has_below p ok k g a v (AExists d.0) d.1).1 in
@@ -153,7 +177,8 @@ length_declared p g (Unpack v) = ap suc (length_maps (ashift 1 0) g)
 length_declared p g (Malloc ts) = refl
 length_declared p g (Init v i w) = refl
 
-blocks_below : (p : AProg) (bs : List ABlk) → Blocks-ok p bs → (l : ℕ) (b : ABlk) → slice_get bs l ≡ Some b → ABelow-types b.owes b.args
+blocks_below : (p : AProg) (bs : List ABlk) → Blocks-ok p bs → (l : ℕ) (b : ABlk) → slice_get bs l ≡ Some b →
+    ABelow-types b.owes b.args
 blocks_below p [] a l b e = cc
 blocks_below p (x ∷ bs) a zero b e = let y : x ≡ b = cc in subst (λ z. ABelow-types z.owes z.args) y a.0.0
 blocks_below p (x ∷ bs) a (suc l) b e = blocks_below p bs a.1 l b e
@@ -162,13 +187,15 @@ pub data_below : (p : AProg) (x : AConsts) → Data-ok p x → ABelow-fields 0 (
 data_below p [] a = tt
 data_below p (c ∷ cs) a = (a.0.1, data_below p cs a.1)
 
-pub data_at : (p : AProg) (xs : List AConsts) → Tuples-ok p xs → (n : ℕ) (x : AConsts) → slice_get xs n ≡ Some x → Data-ok p x
+pub data_at : (p : AProg) (xs : List AConsts) → Tuples-ok p xs → (n : ℕ) (x : AConsts) → slice_get xs n ≡ Some x →
+    Data-ok p x
 data_at p [] a n x e = cc
 data_at p (y ∷ xs) a zero x e = let z : y ≡ x = cc in subst (Data-ok p) z a.0
 data_at p (y ∷ xs) a (suc n) x e = data_at p xs a.1 n x e
 
 pub args_below : (p : AProg) → Blocks-ok p p.blocks → Tuples-ok p p.tuples → Args-below p
-args_below p a d = record { args = blocks_below p p.blocks a; data_in = λ n x e. data_below p x (data_at p p.tuples d n x e) }
+args_below p a d =
+    record { args = blocks_below p p.blocks a; data_in = λ n x e. data_below p x (data_at p p.tuples d n x e) }
 
 length_types : (ts : ATys) (g : List ATy) → length (types_of ts g) ≡ arity ts + length g
 length_types NoATys g = omega arith
@@ -184,7 +211,8 @@ field_shift by i (AVar n) = ap (λ u. field_of i (Some u)) (shifted_ge AVar by 0
 field_shift by zero (ATuple fs) = refl
 field_shift by (suc i) (ATuple fs) = go fs i
   where
-    go : (gs : AFields) (j : ℕ) → or_int (afield_type (ashift_fields by 0 gs) j) ≡ ashift by 0 (or_int (afield_type gs j))
+    go : (gs : AFields) (j : ℕ) →
+        or_int (afield_type (ashift_fields by 0 gs) j) ≡ ashift by 0 (or_int (afield_type gs j))
     go NoAFields j = refl
     go (MoreAFields t b gs) zero = refl
     go (MoreAFields t b gs) (suc j) = go gs j

@@ -69,7 +69,8 @@ Fine p k g (Num i) = Unit {0}
 Fine p k g (Lab l) = Unit {0}
 Fine p k g (Data n) = Unit {0}
 Fine p k g (Apply v ts) = Fine p k g v × ABelow-types k ts
-Fine p k g (Pack h v s) = (u : ATy) × Fine p k g v × ABelow k h × ABelow k s × (s ≡ AExists u) × (type_of p g v ≡ Some (aput 0 h u))
+Fine p k g (Pack h v s) =
+    (u : ATy) × Fine p k g v × ABelow k h × ABelow k s × (s ≡ AExists u) × (type_of p g v ≡ Some (aput 0 h u))
 
 -- under k type variables
 pub record Has (p : AProg) (k : ℕ) (g : List ATy) (v : AVal) (t : ATy) : Type 0 where
@@ -125,11 +126,15 @@ more_vars (Init v i w) k = k
 
 abbrev pub Decl-ok : AProg → ℕ → List ATy → ADecl → Type 0
 Decl-ok p k g (Value v) = (t : ATy) × Has p k g v t
-Decl-ok p k g (Proj i v) = (fs : AFields) × (j : ℕ) × (t : ATy) × Has p k g v (ATuple fs) × (i ≡ suc j) × (afield_type fs j ≡ Some t) × (afield_flag fs j ≡ true)
+Decl-ok p k g (Proj i v) =
+    (fs : AFields) × (j : ℕ) × (t : ATy) × Has p k g v (ATuple fs) × (i ≡ suc j) × (afield_type fs j ≡ Some t)
+    × (afield_flag fs j ≡ true)
 Decl-ok p k g (Arith o v w) = Has p k g v AInt × Has p k g w AInt
 Decl-ok p k g (Unpack v) = (t : ATy) × Has p k g v (AExists t)
 Decl-ok p k g (Malloc ts) = ABelow-types k ts
-Decl-ok p k g (Init v i w) = (fs : AFields) × (j : ℕ) × (t : ATy) × Has p k g v (ATuple fs) × Has p k g w t × (i ≡ suc j) × (afield_type fs j ≡ Some t)
+Decl-ok p k g (Init v i w) =
+    (fs : AFields) × (j : ℕ) × (t : ATy) × Has p k g v (ATuple fs) × Has p k g w t × (i ≡ suc j)
+    × (afield_type fs j ≡ Some t)
 
 abbrev pub All-have : AProg → ℕ → List ATy → List AVal → ATys → Type 0
 All-have p k g [] NoATys = Unit {0}
@@ -139,7 +144,9 @@ All-have p k g (v ∷ vs) (MoreATys t ts) = Has p k g v t × All-have p k g vs t
 
 abbrev pub Term-ok : AProg → ℕ → List ATy → ATm → Type 0
 Term-ok p k g (Let x e) = Decl-ok p k g x × Term-ok p (more_vars x k) (declared p g x) e
-Term-ok p k g (Call v ts vs) = (s : ATy) × (us : ATys) × Has p k g v s × ABelow-types k ts × (aapply s ts ≡ Some (ACode 0 us)) × All-have p k g vs us
+Term-ok p k g (Call v ts vs) =
+    (s : ATy) × (us : ATys) × Has p k g v s × ABelow-types k ts × (aapply s ts ≡ Some (ACode 0 us))
+    × All-have p k g vs us
 Term-ok p k g (If0 v a b) = Has p k g v AInt × Term-ok p k g a × Term-ok p k g b
 Term-ok p k g (Halt v) = Has p k g v AInt
 

@@ -11,7 +11,8 @@ use std::alloc::Global;
 
 // How many types code owes, and its arguments' types.
 fn code_parts(t: AType) -> Option<(u64, Vec<AType>)>
-    ensures { MatchOption result ((n : ℕ) (us : ATys) → atree t ≡ ACode n us → ⊥) (λ p. atree t ≡ ACode p.0 (atrees p.1.items)) }
+    ensures { MatchOption result ((n : ℕ) (us : ATys) → atree t ≡ ACode n us → ⊥)
+        (λ p. atree t ≡ ACode p.0 (atrees p.1.items)) }
 {
     match t {
         AType::Code { owes, args } => Some((owes, args)),
@@ -49,7 +50,8 @@ fn apply_code(
     args: &[AType],
     t: &AType,
 ) -> Result<Option<AType>, OutOfMemory>
-    ensures { IfOk result (λ r. maybe r ≡ applied (Some (ACode owes (atrees args.now))) (MoreATys (atree t.now) NoATys)) }
+    ensures { IfOk result (λ r. maybe r ≡ applied (Some (ACode owes (atrees args.now)))
+        (MoreATys (atree t.now) NoATys)) }
 {
     if owes == 0 {
         return Ok(None);

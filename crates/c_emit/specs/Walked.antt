@@ -8,4 +8,6 @@ use Rattle.c_emit.specs.declared.state.Walk.{Walk}
 use Rattle.c_emit.specs.Read.{frame, frames_of, infos_of, notes_of}
 
 abbrev pub walked : Walk → List KNd → List CNd
-walked w ns = written w.out.items (E.emit ns (frame w.current) (frames_of w.outer.items) (infos_of w.infos.items) (notes_of w.notes.items))
+walked w ns =
+    written w.out.items (E.emit ns (frame w.current) (frames_of w.outer.items) (infos_of w.infos.items)
+    (notes_of w.notes.items))

@@ -149,7 +149,8 @@ pub fn emit(
     notes: VecDeque<Note>,
 ) -> Result<Vec<CNode>, OutOfMemory>
     ensures { IfOk result
-        (λ r. written r.items [] ≡ E.emit (map knode nodes.now) (frame top) [] (infos_of infos.items) (notes_of notes.items)) }
+        (λ r. written r.items [] ≡ E.emit (map knode nodes.now) (frame top) [] (infos_of infos.items)
+        (notes_of notes.items)) }
 {
     let mut walk = Walk {
         out: Vec::new(alloc),

@@ -3,7 +3,7 @@
 
 pub mod emit;
 pub mod parts;
-pub mod put;
-pub mod state;
+mod put;
+mod state;
 
 pub use parts::{Frame, Info, Note};

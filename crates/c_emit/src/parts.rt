@@ -2,8 +2,8 @@
 use c_terms::CType;
 use c_walk::Levels;
 
-/// What is known of a code before it is met: its free variables, whether its own name is used, and the types of the closed
-/// code and of its closure, outside it and inside it.
+/// What is known of a code before it is met: its free variables, whether its own name is used, and the types of the
+/// closed code and of its closure, outside it and inside it.
 #[derive(Drop)]
 pub struct Info {
     pub kept: Levels,

@@ -12,7 +12,8 @@ use idx_core::OutOfMemory;
 
 /// One more node.
 pub fn put(out: &mut Vec<CNode>, node: CNode) -> Result<(), OutOfMemory>
-    ensures { OnOk result ((rest : List S.CNd) → written out.new.items rest ≡ written out.old.items (cnode node ∷ rest)) }
+    ensures { OnOk result ((rest : List S.CNd) →
+        written out.new.items rest ≡ written out.old.items (cnode node ∷ rest)) }
 {
     out.push(node)?;
     Ok(())
@@ -36,7 +37,8 @@ pub fn spot(f: &Frame, l: u64) -> Result<u64, OutOfMemory>
 // The variables of these levels.
 fn put_spots(out: &mut Vec<CNode>, f: &Frame, levels: &[u64]) -> Result<(), OutOfMemory>
     ensures { OnOk result
-        ((rest : List S.CNd) → written out.new.items rest ≡ written out.old.items (E.spots (frame f.now) levels.now rest)) }
+        ((rest : List S.CNd) →
+        written out.new.items rest ≡ written out.old.items (E.spots (frame f.now) levels.now rest)) }
 {
     for l in levels {
         let at = spot(f, *l)?;
@@ -47,7 +49,8 @@ fn put_spots(out: &mut Vec<CNode>, f: &Frame, levels: &[u64]) -> Result<(), OutO
 
 // k fields of the environment, named from level `first` on.
 fn put_fields(out: &mut Vec<CNode>, k: u64, first: u64) -> Result<(), OutOfMemory>
-    ensures { OnOk result ((rest : List S.CNd) → written out.new.items rest ≡ written out.old.items (E.fields k first 1 rest)) }
+    ensures { OnOk result ((rest : List S.CNd) →
+        written out.new.items rest ≡ written out.old.items (E.fields k first 1 rest)) }
 {
     let mut level = first;
     for i in 0..k {
@@ -135,7 +138,8 @@ pub fn enter(
 /// Ends a code.
 pub fn leave(out: &mut Vec<CNode>, f: Frame, g: &Frame) -> Result<(), OutOfMemory>
     ensures { OnOk result
-        ((rest : List S.CNd) → written out.new.items rest ≡ written out.old.items (E.closed (frame f) (frame g.now) rest)) }
+        ((rest : List S.CNd) →
+        written out.new.items rest ≡ written out.old.items (E.closed (frame f) (frame g.now) rest)) }
 {
     let Frame {
         level: _,
@@ -159,7 +163,8 @@ pub fn leave(out: &mut Vec<CNode>, f: Frame, g: &Frame) -> Result<(), OutOfMemor
 /// Calls what was just put.
 pub fn call(out: &mut Vec<CNode>, at: u64, types: Vec<CType>, count: u64) -> Result<(), OutOfMemory>
     ensures { OnOk result
-        ((rest : List S.CNd) → written out.new.items rest ≡ written out.old.items (E.called at (ctys types.items) count rest)) }
+        ((rest : List S.CNd) →
+        written out.new.items rest ≡ written out.old.items (E.called at (ctys types.items) count rest)) }
 {
     let code = sum(at, 1)?;
     let env = sum(at, 2)?;

@@ -3,8 +3,8 @@ use crate::parts::{Frame, Info, Note};
 use c_terms::CNode;
 use std::collections::VecDeque;
 
-/// A walk along nodes: what is written, the code where it stands and those around it, and what is known of the codes, and
-/// of the calls and packages, to come.
+/// A walk along nodes: what is written, the code where it stands and those around it, and what is known of the codes,
+/// and of the calls and packages, to come.
 #[derive(Drop)]
 pub struct Walk {
     pub out: Vec<CNode>,

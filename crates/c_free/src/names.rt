@@ -1,8 +1,8 @@
 // Where type variables stand.
 use c_walk::Levels;
 
-/// The type variables of the code that is being converted: how many are outside it, how many are in scope in it, which of
-/// those outside it has, and whether a call has been opened.
+/// The type variables of the code that is being converted: how many are outside it, how many are in scope in it,
+/// which of those outside it has, and whether a call has been opened.
 #[derive(Drop)]
 pub struct Side {
     pub depth: u64,

@@ -18,7 +18,8 @@ impl TSweep {
     // A code begins.
     fn open(&mut self, alloc: Global, depth: u64) -> Result<(), OutOfMemory>
         ensures { OnOk result
-            (tstate self.new ≡ T.topened depth (tstate self.old).current (tstate self.old).outer (tstate self.old).found) }
+            (tstate self.new ≡ T.topened depth (tstate self.old).current (tstate self.old).outer
+            (tstate self.old).found) }
     {
         match self.outer.pop_front() {
             None => Ok(()),

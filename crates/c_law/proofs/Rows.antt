@@ -1,14 +1,15 @@
 -- Programs before and after: a recursive function, a polymorphic one, one that recurs through a cell, and a package.
 use Rattle.std.specs.Int.{int_wrap}
-use Rattle.std.proofs.Common.{pos, ◌≡◌, ◌<◌, arith, [], ◌∷◌, refl}
+use Rattle.std.proofs.Common.{pos, ◌≡◌, ◌<◌, ◌+◌, ℕ, arith, [], ◌∷◌, refl, sym, ap, ◌∙◌}
 use Rattle.idx_core.specs.declared.arith.Op.TheVariants.{Add, Sub, Mul}
 use Rattle.term_core.specs.Ends.{Halted, Spent}
 use Rattle.k_terms.specs.K.{KTy, TKInt, TKVar, TKTuple, TKCode, TKSome, NoKTys, MoreKTys, KVar, KInt, KTuple, KCode, NoKVals, MoreKVals, KName, KProj, KArith, KPack, KUnpack, KCell, KGet, KSet, KTm, KLet, KCall, KIf, KHalt}
 use Rattle.k_terms.specs.Meaning.{krun}
-use Rattle.c_terms.specs.C.{CTm, TCInt, TCVar, TCTuple, TCCode, TCSome, NoCTys, MoreCTys, CVar, CInt, CTuple, CCode, CApply, CPack, NoCVals, MoreCVals, CName, CProj, CArith, CUnpack, CLet, CCall, CHalt}
+use Rattle.c_terms.specs.C.{CTm, TCInt, TCVar, TCTuple, TCCode, TCSome, NoCTys, MoreCTys, CVal, CVals, CVar, CInt, CTuple, CCode, CApply, CPack, NoCVals, MoreCVals, CName, CProj, CArith, CUnpack, CLet, CCall, CHalt}
 use Rattle.c_terms.specs.Meaning.{crun}
 use Rattle.k_terms.specs.Typing.{KGood}
 use Rattle.c_law.specs.Close.{close_of}
+use Rattle.c_law.specs.Row.{IsTranslation}
 
 abbrev cont : KTy
 cont = TKCode 0 (MoreKTys TKInt NoKTys)
@@ -114,3 +115,108 @@ pair_closed =
 
 pair_is : close_of pair ≡ pair_closed
 pair_is = refl
+
+-- by the rules: the free variables x and y are the indices 1 and 0, and their names have the levels 0 and 1
+pair_translated : IsTranslation pair pair_closed
+pair_translated = (
+  _,
+  _,
+  refl,
+  (_, refl, refl),
+  (
+    _,
+    _,
+    refl,
+    (_, refl, refl),
+    (
+      _,
+      _,
+      refl,
+      (
+        _,
+        _,
+        refl,
+        (_, _, refl, (1, refl, refl), (_, _, refl, (0, refl, refl), refl)),
+        (_, _, refl, (_, _, refl, (1, refl, refl), (0, refl, refl)), (_, refl, (0, refl, refl))),
+      ),
+      (_, _, refl, refl, refl),
+    ),
+  ),
+)
+
+-- the environment the other way round, its fields too, means the same and is no translation
+abbrev pair_turned : CTm
+pair_turned =
+    let ints = TCTuple (MoreCTys TCInt (MoreCTys TCInt NoCTys)) in
+    let body = CLet (CProj 1 (CVar 1)) (CLet (CProj 2 (CVar 2)) (CLet (CArith Sub (CVar 0) (CVar 1)) (CHalt (CVar 0)))) in
+    let shape = TCSome (TCTuple (MoreCTys (TCCode 0 (MoreCTys (TCVar 0) (MoreCTys TCInt NoCTys))) (MoreCTys (TCVar 0) NoCTys))) in
+    let closure = CPack ints (CTuple (MoreCVals (CApply (CCode 0 (MoreCTys ints (MoreCTys TCInt NoCTys)) body) NoCTys) (MoreCVals (CTuple (MoreCVals (CVar 0) (MoreCVals (CVar 1) NoCVals))) NoCVals))) shape in
+    CLet (CName (CInt (pos 1)))
+    (CLet (CName (CInt (pos 2)))
+    (CLet (CUnpack closure)
+    (CLet (CProj 1 (CVar 0))
+    (CLet (CProj 2 (CVar 1))
+    (CCall (CVar 1) NoCTys (MoreCVals (CVar 0) (MoreCVals (CInt (pos 7)) NoCVals)))))))
+
+turned_means_the_same : crun 1 pair_turned ≡ crun 1 pair_closed
+unfolding int_wrap
+turned_means_the_same = refl
+
+-- what follows a declaration, and the environment of the closure that a term opens
+abbrev after : CTm → CTm
+after (CLet d t) = t
+after t = t
+
+abbrev env_in : CVal → CVals
+env_in (CPack h (CTuple (MoreCVals c (MoreCVals (CTuple vs) NoCVals))) s) = vs
+env_in v = NoCVals
+
+abbrev env_of : CTm → CVals
+env_of (CLet (CUnpack v) t) = env_in v
+env_of t = NoCVals
+
+turned_is_none : IsTranslation pair pair_turned → ⊥
+turned_is_none (d, rest, e, rd, (d2, rest2, e2, rd2, (c, us, e3, (ys, body, ec, (v, vs, ev, (j, is, level), more), rt), rvs))) =
+    let first : rest ≡ after pair_turned = sym (ap after e) in
+    let second : rest2 ≡ after (after pair_turned) = sym (ap after e2) ∙ ap after first in
+    let same : env_of (after (after pair_turned)) ≡ env_in c = ap env_of (sym second ∙ e3) in
+    clash v vs j (same ∙ ap env_in ec ∙ ev) is level
+  where
+    clash : (v : CVal) (vs : CVals) (j : ℕ) → MoreCVals (CVar 0) (MoreCVals (CVar 1) NoCVals) ≡ MoreCVals v vs → v ≡ CVar j → j + 1 ≡ 2 → ⊥
+    clash v vs j e is level = grind arith
+
+-- a function makes its own closure again from its code and the environment that it was given:
+-- (f = code(x: int). f(x))(3)
+abbrev loop : KTm
+loop =
+    KCall (KCode 0 (MoreKTys TKInt NoKTys) (KCall (KVar 1) NoKTys (MoreKVals (KVar 0) NoKVals))) NoKTys
+    (MoreKVals (KInt (pos 3)) NoKVals)
+
+-- what the closure that is made again has for its environment
+abbrev loop_with : CVal → CTm
+loop_with env =
+    let shape = TCSome (TCTuple (MoreCTys (TCCode 0 (MoreCTys (TCVar 0) (MoreCTys TCInt NoCTys))) (MoreCTys (TCVar 0) NoCTys))) in
+    let pack = λ (code : CVal) (env : CVal). CPack (TCTuple NoCTys) (CTuple (MoreCVals (CApply code NoCTys) (MoreCVals env NoCVals))) shape in
+    let call = λ (f : CVal) (x : CVal). CLet (CUnpack f) (CLet (CProj 1 (CVar 0)) (CLet (CProj 2 (CVar 1)) (CCall (CVar 1) NoCTys (MoreCVals (CVar 0) (MoreCVals x NoCVals))))) in
+    let code = CCode 0 (MoreCTys (TCTuple NoCTys) (MoreCTys TCInt NoCTys)) (CLet (CName (pack (CVar 2) env)) (call (CVar 0) (CVar 4))) in
+    call (pack code (CTuple NoCVals)) (CInt (pos 3))
+
+loop_is : close_of loop ≡ loop_with (CVar 1)
+loop_is = refl
+
+-- the closure made again with another environment, here the empty one outside, is no translation
+abbrev opened : CTm → CVal
+opened (CLet (CUnpack v) t) = v
+opened t = CInt (pos 0)
+
+abbrev made_again : CVal → CVal
+made_again (CPack h (CTuple (MoreCVals (CApply (CCode owes args (CLet (CName v) t)) ts) vs)) s) = v
+made_again v = CInt (pos 0)
+
+abbrev env_var : CVal → ℕ
+env_var (CPack h (CTuple (MoreCVals c (MoreCVals (CVar i) NoCVals))) s) = i
+env_var v = 0
+
+outer_is_none : IsTranslation loop (loop_with (CTuple NoCVals)) → ⊥
+outer_is_none (c, us, e, (ys, body, ec, st, rt), rvs) =
+    let one : 0 ≡ 1 = ap env_var (ap made_again (ap opened e ∙ ec)) in omega (arith, one)

@@ -15,7 +15,9 @@ abbrev mutual
   ctype r (TKTuple ts) = TCTuple (ctypes r ts)
   ctype r (TKSome t) = TCSome (ctype (under 1 r) t)
   ctype r (TKRef t) = TCRef (ctype r t)
-  ctype r (TKCode n ts) = TCSome (TCTuple (MoreCTys (TCCode n (MoreCTys (TCVar (lift n 0)) (ctypes (under n (λ i. suc (r i))) ts))) (MoreCTys (TCVar 0) NoCTys)))
+  ctype r (TKCode n ts) =
+      TCSome (TCTuple (MoreCTys (TCCode n (MoreCTys (TCVar (lift n 0)) (ctypes (under n (λ i. suc (r i))) ts)))
+      (MoreCTys (TCVar 0) NoCTys)))
 
   pub ctypes : (ℕ → ℕ) → KTys → CTys
   ctypes r NoKTys = NoCTys
@@ -47,7 +49,8 @@ tfree_kept j keep (t ∷ ts) = (keep 0 && tfree j t) || tfree_kept j (λ i. keep
 
 -- the free type variables of a code and of the types of its free variables
 abbrev pub tkeeps : List KTy → ℕ → KTys → KTm → ℕ → Bool
-tkeeps types owes args body j = (tfrees (lift owes j) args || tfree_t (lift owes j) body) || tfree_kept j (keeps args body) types
+tkeeps types owes args body j =
+    (tfrees (lift owes j) args || tfree_t (lift owes j) body) || tfree_kept j (keeps args body) types
 
 abbrev pub pick_one : Bool → Option ℕ → CVals → CVals
 pick_one true p vs = MoreCVals (var_value p) vs
@@ -70,7 +73,8 @@ rank keep (suc n) = after_one (keep 0) (rank (λ i. keep (suc i)) n)
 -- the kept ones of n type variables, outermost first
 abbrev pub picked_tvars : (ℕ → Bool) → (ℕ → ℕ) → ℕ → CTys → CTys
 picked_tvars keep r zero ts = ts
-picked_tvars keep r (suc n) ts = picked_tvars (λ i. keep (suc i)) (λ i. r (suc i)) n (pick_type (keep 0) (TCVar (r 0)) ts)
+picked_tvars keep r (suc n) ts =
+    picked_tvars (λ i. keep (suc i)) (λ i. r (suc i)) n (pick_type (keep 0) (TCVar (r 0)) ts)
 
 -- the types of the kept variables, outermost first
 abbrev pub picked_types : (ℕ → Bool) → (KTy → CTy) → List KTy → CTys → CTys
@@ -82,7 +86,9 @@ abbrev pub inner : Scope → ℕ → KTys → KTm → Scope
 inner s owes args body = record {
   tcount = lift owes s.tcount;
   tvar = under owes (rank (tkeeps s.types owes args body));
-  vars = from_on (kept_count (uses args body) (None ∷ s.vars)) (kcount args) (kept_places 0 (uses args body) (None ∷ s.vars));
+  vars =
+      from_on (kept_count (uses args body) (None ∷ s.vars)) (kcount args)
+      (kept_places 0 (uses args body) (None ∷ s.vars));
   types = kbody_scope owes args s.types;
 }
 
@@ -99,7 +105,8 @@ env_type r args body types = TCTuple (picked_types (keeps args body) (ctype r) t
 abbrev pub closure : Scope → ℕ → KTys → KTm → (ℕ → ℕ) → CVal → CVal → CVal
 closure s owes args body r code env =
     CPack (env_type r args body s.types)
-    (CTuple (MoreCVals (CApply code (picked_tvars (tkeeps s.types owes args body) r s.tcount NoCTys)) (MoreCVals env NoCVals)))
+    (CTuple (MoreCVals (CApply code (picked_tvars (tkeeps s.types owes args body) r s.tcount NoCTys))
+    (MoreCVals env NoCVals)))
     (ctype r (TKCode owes args))
 
 -- where the type variables around a code stand inside it
@@ -121,15 +128,18 @@ named false v t = t
 -- the body of the closed code
 abbrev pub closed_body : Scope → ℕ → KTys → KTm → CTm → CTm
 closed_body s owes args body t =
-    projections (kept_count (keeps args body) s.vars) 1 (kcount args) (named (uses args body 0) (rebuilt s owes args body) t)
+    projections (kept_count (keeps args body) s.vars) 1 (kcount args)
+    (named (uses args body 0) (rebuilt s owes args body) t)
 
 -- the types of the closed code's arguments, the environment first
 abbrev pub closed_args : Scope → ℕ → KTys → KTm → CTys
-closed_args s owes args body = MoreCTys (env_type (outside s owes args body) args body s.types) (ctypes (inner s owes args body).tvar args)
+closed_args s owes args body =
+    MoreCTys (env_type (outside s owes args body) args body s.types) (ctypes (inner s owes args body).tvar args)
 
 abbrev pub closed_code : Scope → ℕ → KTys → KTm → CTm → CVal
 closed_code s owes args body t =
-    CCode (lift owes (rank (tkeeps s.types owes args body) s.tcount)) (closed_args s owes args body) (closed_body s owes args body t)
+    CCode (lift owes (rank (tkeeps s.types owes args body) s.tcount)) (closed_args s owes args body)
+    (closed_body s owes args body t)
 
 abbrev pub close_code : Scope → ℕ → KTys → KTm → CTm → CVal
 close_code s owes args body t =
@@ -153,7 +163,13 @@ with_decl d s = with_var (kd_type s.types d) (open_if (opens d) s)
 
 -- the scope under the three names that a call makes, the first with a type variable
 abbrev pub in_call : Scope → Scope
-in_call s = record { tcount = s.tcount; tvar = λ i. suc (s.tvar i); vars = further (further (further s.vars)); types = s.types }
+in_call s =
+    record {
+      tcount = s.tcount;
+      tvar = λ i. suc (s.tvar i);
+      vars = further (further (further s.vars));
+      types = s.types;
+    }
 
 abbrev mutual
   pub close_v : Scope → KVal → CVal

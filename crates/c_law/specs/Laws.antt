@@ -26,7 +26,9 @@ TypesKept = (t : KTm) → KGood 0 [] t → CGood 0 [] (close_of t)
 
 -- four are added to the reach of types, and the names in scope to those of a type
 abbrev pub ReachKept : Type 0
-ReachKept = (N R B : ℕ) (t : KTm) → KGoodP (KWithin N R B) 0 [] t → CGoodP (CWithin (N + 1) (R + 4) (N + B + 1)) 0 [] (close_of t)
+ReachKept =
+    (N R B : ℕ) (t : KTm) → KGoodP (KWithin N R B) 0 [] t →
+    CGoodP (CWithin (N + 1) (R + 4) (N + B + 1)) 0 [] (close_of t)
 
 -- bodies grow in proportion, codes and choices stay as many
 abbrev pub FitsKept : Type 0

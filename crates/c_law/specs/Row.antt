@@ -80,7 +80,9 @@ inside w owes args body =
       types = kbody_scope owes args w.types;
       tcount = lift owes w.tcount;
       names = after_one (uses args body 0) (lift k (suc (suc n)));
-      level = first_by n (λ i. suc n - i) (then_next (suc (suc n) + k) (λ y. suc (suc n) + (k - suc (rank (keeps args body) y))));
+      level =
+          first_by n (λ i. suc n - i)
+          (then_next (suc (suc n) + k) (λ y. suc (suc n) + (k - suc (rank (keeps args body) y))));
       tvar = under owes (rank (tkeeps w.types owes args body));
     }
 
@@ -96,19 +98,41 @@ closed_over w owes args body rest =
     let r = from_inside w owes args body in
     CCode (lift owes (rank (tkeeps w.types owes args body) w.tcount))
     (MoreCTys (TCTuple (types_of r w.types (frees w args body))) (ctypes (inside w owes args body).tvar args))
-    (projections k 1 n (named (uses args body 0) (packed r w owes args body (CVar (lift k (suc n))) (CVar (lift k n))) rest))
+    (projections k 1 n (named (uses args body 0)
+    (packed r w owes args body (CVar (lift k (suc n))) (CVar (lift k n))) rest))
 
 -- under one more name, and one more type variable where there is one
 abbrev pub with_name : KTy → Where → Where
-with_name t w = record { types = t ∷ w.types; tcount = w.tcount; names = suc w.names; level = then_next w.names w.level; tvar = w.tvar }
+with_name t w =
+    record {
+      types = t ∷ w.types;
+      tcount = w.tcount;
+      names = suc w.names;
+      level = then_next w.names w.level;
+      tvar = w.tvar;
+    }
 
 abbrev pub with_tvar : Bool → Where → Where
-with_tvar true w = record { types = krens_scope suc w.types; tcount = suc w.tcount; names = w.names; level = w.level; tvar = under 1 w.tvar }
+with_tvar true w =
+    record {
+      types = krens_scope suc w.types;
+      tcount = suc w.tcount;
+      names = w.names;
+      level = w.level;
+      tvar = under 1 w.tvar;
+    }
 with_tvar false w = w
 
 -- under the package that a call opens, its code and its environment
 abbrev pub in_call : Where → Where
-in_call w = record { types = w.types; tcount = w.tcount; names = suc (suc (suc w.names)); level = w.level; tvar = λ i. suc (w.tvar i) }
+in_call w =
+    record {
+      types = w.types;
+      tcount = w.tcount;
+      names = suc (suc (suc w.names));
+      level = w.level;
+      tvar = λ i. suc (w.tvar i);
+    }
 
 abbrev mutual
   pub RowV : Where → KVal → CVal → Type 0
@@ -134,10 +158,14 @@ abbrev mutual
   RowD w (KSet v x) d = (u z : CVal) × (d ≡ CSet u z) × RowV w v u × RowV w x z
 
   pub RowT : Where → KTm → CTm → Type 0
-  RowT w (KLet x t) u = (d : CDecl) × (rest : CTm) × (u ≡ CLet d rest) × RowD w x d × RowT (with_name (kd_type w.types x) (with_tvar (opens x) w)) t rest
+  RowT w (KLet x t) u =
+      (d : CDecl) × (rest : CTm) × (u ≡ CLet d rest) × RowD w x d
+      × RowT (with_name (kd_type w.types x) (with_tvar (opens x) w)) t rest
   RowT w (KCall f ts vs) u =
       (c : CVal) × (us : CVals)
-      × (u ≡ CLet (CUnpack c) (CLet (CProj 1 (CVar 0)) (CLet (CProj 2 (CVar 1)) (CCall (CVar 1) (ctypes (in_call w).tvar ts) (MoreCVals (CVar 0) us)))))
+      × (u ≡ CLet (CUnpack c)
+      (CLet (CProj 1 (CVar 0))
+      (CLet (CProj 2 (CVar 1)) (CCall (CVar 1) (ctypes (in_call w).tvar ts) (MoreCVals (CVar 0) us)))))
       × RowV w f c × RowVs (in_call w) vs us
   RowT w (KIf v s t) u = (c : CVal) × (a b : CTm) × (u ≡ CIf c a b) × RowV w v c × RowT w s a × RowT w t b
   RowT w (KHalt v) u = (c : CVal) × (u ≡ CHalt c) × RowV w v c

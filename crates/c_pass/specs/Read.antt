@@ -63,10 +63,12 @@ total w ns =
     record { infos = infos_onto w.infos.items k.infos; notes = notes_onto w.notes.items k.notes }
 
 abbrev pub side_from : ℕ → ℕ → List ℕ → List ℕ → List W.Bound → W.Side
-side_from td owes types kept xs = record { depth = td; owes = owes; kept = known_below td (types ++ W.bound_levels xs kept); calling = false }
+side_from td owes types kept xs =
+    record { depth = td; owes = owes; kept = known_below td (types ++ W.bound_levels xs kept); calling = false }
 
 abbrev pub info_parts : ℕ → ℕ → KTys → List ℕ → Bool → List W.Bound → W.Side → W.Side → E.Info
-info_parts td owes args kept own xs f g = W.info_from td owes args (let c : W.Clue = record { kept = kept; own = own; types = [] } in c) xs f g
+info_parts td owes args kept own xs f g =
+    W.info_from td owes args (let c : W.Clue = record { kept = kept; own = own; types = [] } in c) xs f g
 
 -- what is known in all, where a code begins
 abbrev pub opened_total : Know → ℕ → ℕ → ℕ → KTys → W.Clue → List KNd → W.Known
@@ -74,12 +76,17 @@ opened_total w d td owes args c ns =
     let xs = bounds w.bounds.items in
     let f = side w.side in
     let g = W.side_of td owes c xs in
-    let k = W.with_info (W.info_from td owes args c xs f g) (W.know ns (W.bind_all (W.bind xs d (TKCode owes args) td) (suc d) args (lift owes td)) g (f ∷ sides w.outer.items) (clues_of w.clues.items)) in
+    let k =
+    W.with_info (W.info_from td owes args c xs f g)
+    (W.know ns (W.bind_all (W.bind xs d (TKCode owes args) td) (suc d) args (lift owes td)) g
+    (f ∷ sides w.outer.items) (clues_of w.clues.items)) in
     record { infos = infos_onto w.infos.items k.infos; notes = notes_onto w.notes.items k.notes }
 
 -- and where a call does
 abbrev pub called_total : Know → KTys → List KNd → W.Known
 called_total w ts ns =
     let f = W.side_with w.side.owes true (side w.side) in
-    let k = W.with_note (E.Calls (L.ctypes (W.side_var f) ts)) (W.know ns (bounds w.bounds.items) f (sides w.outer.items) (clues_of w.clues.items)) in
+    let k =
+    W.with_note (E.Calls (L.ctypes (W.side_var f) ts))
+    (W.know ns (bounds w.bounds.items) f (sides w.outer.items) (clues_of w.clues.items)) in
     record { infos = infos_onto w.infos.items k.infos; notes = notes_onto w.notes.items k.notes }

@@ -63,7 +63,8 @@ fn env(
 
 // The types of a closed code's arguments.
 fn arguments(alloc: Global, env: CType, args: &[KType], g: &Side) -> Result<Vec<CType>, OutOfMemory>
-    ensures { IfOk result (λ r. ctys r.items ≡ MoreCTys (ctree env) (L.ctypes (W.side_var (side g.now)) (ktys args.now))) }
+    ensures { IfOk result (λ r. ctys r.items ≡ MoreCTys (ctree env)
+        (L.ctypes (W.side_var (side g.now)) (ktys args.now))) }
 {
     let mut made = Vec::new(alloc);
     made.push(env)?;
@@ -86,7 +87,8 @@ pub fn info_from(
 ) -> Result<Info, OutOfMemory>
     requires { ktree own_type.now ≡ TKCode owes (ktys args.now) }
     ensures { IfOk result
-        (λ r. info r ≡ info_parts depth owes (ktys args.now) kept.list.items own (bounds xs.now) (side f.now) (side g.now)) }
+        (λ r. info r ≡ info_parts depth owes (ktys args.now) kept.list.items own (bounds xs.now) (side f.now)
+        (side g.now)) }
 {
     let hidden = env(alloc, xs, &kept.list, depth, f, false)?;
     let shape = closed(alloc, own_type, f, false, 0)?;

@@ -28,7 +28,8 @@ use std::mem;
 
 // Binds a variable where `f` stands.
 fn bind_now(xs: &mut Vec<Bound>, f: &Side, level: u64, ty: KType) -> Result<(), OutOfMemory>
-    ensures { OnOk result (bounds xs.new.items ≡ W.bind (bounds xs.old.items) level (ktree ty) (W.side_depth (side f.now))) }
+    ensures { OnOk result (bounds xs.new.items ≡ W.bind (bounds xs.old.items) level (ktree ty)
+        (W.side_depth (side f.now))) }
 {
     let depth = sum(f.owes, f.depth)?;
     bind(xs, level, ty, depth)?;
@@ -56,7 +57,8 @@ impl Know {
         c: Clue,
     ) -> Result<(), OutOfMemory>
         ensures { OnOk result
-            ((rest : List KNd) → total self.new rest ≡ opened_total self.old level depth owes (ktys args.now) (clue c) rest) }
+            ((rest : List KNd) →
+            total self.new rest ≡ opened_total self.old level depth owes (ktys args.now) (clue c) rest) }
     {
         let Clue { kept, own, types } = c;
         let own_type = KType::Code {
@@ -120,7 +122,8 @@ impl Know {
     // A package is opened.
     fn unpack(&mut self, alloc: Global, level: u64, ty: &KType) -> Result<(), OutOfMemory>
         ensures { OnOk result
-            ((rest : List KNd) (depth : ℕ) → total self.new rest ≡ total self.old (NUnpack level depth (ktree ty.now) ∷ rest)) }
+            ((rest : List KNd) (depth : ℕ) →
+            total self.new rest ≡ total self.old (NUnpack level depth (ktree ty.now) ∷ rest)) }
     {
         self.side.owes = sum(self.side.owes, 1)?;
         bind_now(&mut self.bounds, &self.side, level, copied(alloc, ty)?)?;

@@ -1,14 +1,14 @@
 //! Closure conversion of programs.
 #![tactic(auto)]
 
-pub mod bounds;
-pub mod clues;
-pub mod info;
-pub mod know;
-pub mod program;
-pub mod state;
+mod bounds;
+mod clues;
+mod info;
+mod know;
+mod program;
+mod state;
 #[cfg(test)]
 mod tests;
-pub mod translate;
+mod translate;
 
 pub use program::close;

@@ -95,8 +95,8 @@ fn translated(alloc: Global, program: &KProgram) -> Result<CProgram, OutOfMemory
     Ok(CProgram::new(out))
 }
 
-/// The closed program of a program, by the rules of closure conversion. It is typed, and each bound on the program before
-/// is one on it; within any number of calls it ends as the program before, and enters the same codes.
+/// The closed program of a program, by the rules of closure conversion. It is typed, and each bound on the program
+/// before is one on it; within any number of calls it ends as the program before, and enters the same codes.
 pub fn close(alloc: Global, program: &KProgram) -> Result<CProgram, OutOfMemory>
     ensures same { IfOk result (λ r. C.term_of r ≡ close_of (K.term_of program.now)) }
     ensures rules { IfOk result (λ r. IsTranslation (K.term_of program.now) (C.term_of r)) }
@@ -104,10 +104,13 @@ pub fn close(alloc: Global, program: &KProgram) -> Result<CProgram, OutOfMemory>
     ensures reach { IfOk result
         (λ r. (N R B : ℕ) → KGoodP (KWithin N R B) 0 [] (K.term_of program.now) →
         CGoodP (CWithin (N + 1) (R + 4) (N + B + 1)) 0 [] (C.term_of r)) }
-    ensures bound { IfOk result (λ r. (N R : ℕ) → KFits N R (K.term_of program.now) → CFits (10 * N + 1) (R + 4) (C.term_of r)) }
+    ensures bound { IfOk result (λ r. (N R : ℕ) → KFits N R (K.term_of program.now) →
+        CFits (10 * N + 1) (R + 4) (C.term_of r)) }
     ensures halts { IfOk result
-        (λ r. (n : ℕ) (i : ℤ) → (crun n (C.term_of r)).end ≡ Halted i ↔ (krun n (K.term_of program.now)).end ≡ Halted i) }
-    ensures codes { IfOk result (λ r. (n : ℕ) → (crun n (C.term_of r)).entered ≡ (krun n (K.term_of program.now)).entered) }
+        (λ r. (n : ℕ) (i : ℤ) →
+        (crun n (C.term_of r)).end ≡ Halted i ↔ (krun n (K.term_of program.now)).end ≡ Halted i) }
+    ensures codes { IfOk result (λ r. (n : ℕ) →
+        (crun n (C.term_of r)).entered ≡ (krun n (K.term_of program.now)).entered) }
 {
     within_is_typed_law();
     types_law();

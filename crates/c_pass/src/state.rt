@@ -5,8 +5,8 @@ use c_walk::Levels;
 use k_terms::KType;
 use std::collections::VecDeque;
 
-/// What the walks from the last node have found of a code: its free variables, whether its own name is used, and the type
-/// variables that occur in it.
+/// What the walks from the last node have found of a code: its free variables, whether its own name is used, and the
+/// type variables that occur in it.
 #[derive(Drop)]
 pub struct Clue {
     pub kept: Levels,
@@ -21,8 +21,8 @@ pub struct Bound {
     pub depth: u64,
 }
 
-/// The types of the variables by level, the type variables of the code where the walk stands and of those around it, what
-/// was found of the codes to come, and what is known so far.
+/// The types of the variables by level, the type variables of the code where the walk stands and of those around it,
+/// what was found of the codes to come, and what is known so far.
 #[derive(Drop)]
 pub struct Know {
     pub bounds: Vec<Bound>,

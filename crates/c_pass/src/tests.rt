@@ -1,4 +1,5 @@
-// Nodes before and after, by hand: a package, a cell, free variables, a function that calls itself, a free type variable.
+// Nodes before and after, by hand: a package, a cell, free variables, a function that calls itself, a free type
+// variable.
 use crate::program::converted;
 use c_terms::CNode;
 use idx_core::Op;

@@ -45,7 +45,8 @@ fn type_at(
     f: &Side,
     outside: bool,
 ) -> Result<CType, OutOfMemory>
-    ensures { IfOk result (λ r. ctree r ≡ W.bound_type (var_of outside (side f.now)) depth (W.bound_at (bounds xs.now) l)) }
+    ensures { IfOk result (λ r. ctree r ≡ W.bound_type (var_of outside (side f.now)) depth
+        (W.bound_at (bounds xs.now) l)) }
 {
     if l < xs.len() as u64 {
         let x = &xs[l as usize];
@@ -65,7 +66,8 @@ pub fn types_at(
     f: &Side,
     outside: bool,
 ) -> Result<Vec<CType>, OutOfMemory>
-    ensures { IfOk result (λ r. ctys r.items ≡ W.bound_types (var_of outside (side f.now)) depth (bounds xs.now) levels.now) }
+    ensures { IfOk result (λ r. ctys r.items ≡ W.bound_types (var_of outside (side f.now)) depth
+        (bounds xs.now) levels.now) }
 {
     let mut made = Vec::new(alloc);
     for l in levels {

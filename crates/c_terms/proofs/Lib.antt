@@ -6,3 +6,4 @@ pub mod Backs
 pub mod Scoping
 pub mod Held
 pub mod Trees
+mod Rows

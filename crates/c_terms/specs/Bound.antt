@@ -1,4 +1,5 @@
--- Bounds on a closed program. The whole may grow with the square of the program before closure conversion, but no body does.
+-- Bounds on a closed program. The whole may grow with the square of the program before closure conversion, but no
+-- body does.
 use Rattle.std.specs.Prelude.{ℕ, ◌+◌, ◌≤◌, []}
 use Rattle.c_terms.specs.C.{CTm, ct_next}
 use Rattle.c_terms.specs.Each.{CGoodP}

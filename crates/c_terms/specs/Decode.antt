@@ -4,7 +4,8 @@ use Rattle.term_core.specs.Ends.{lift}
 use Rattle.c_terms.specs.C.{CTys, CVal, CVar, CInt, CTuple, CCode, CApply, CPack, CVals, NoCVals, MoreCVals, CDecl, CName, CProj, CArith, CUnpack, CCell, CGet, CSet, CTm, CLet, CCall, CIf, CHalt, ccount}
 use Rattle.c_terms.specs.Stream.{CNd, MVar, MInt, MTuple, MCode, MEnd, MApply, MPack, MName, MProj, MArith, MUnpack, MCell, MGet, MSet, MCall, MIf, MElse, MHalt}
 
--- a term that is open: how many names are in scope, what stands around the rest of it, the whole term if it ends with these values, and the values that wait, the last first
+-- a term that is open: how many names are in scope, what stands around the rest of it, the whole term if it ends with
+-- these values, and the values that wait, the last first
 pub record Body : Type 0 where
   pub depth : ℕ
   pub around : CTm → CTm
@@ -52,7 +53,13 @@ abbrev pub bind : Body → CDecl → List CVal → Body
 bind b x vs = record { depth = suc b.depth; around = λ t. b.around (CLet x t); ending = b.ending; waiting = vs }
 
 abbrev pub calls : Body → CTys → Body
-calls b ts = record { depth = b.depth; around = b.around; ending = λ vs. b.around (CCall (top b.waiting) ts (all vs NoCVals)); waiting = [] }
+calls b ts =
+    record {
+      depth = b.depth;
+      around = b.around;
+      ending = λ vs. b.around (CCall (top b.waiting) ts (all vs NoCVals));
+      waiting = [];
+    }
 
 abbrev pub halts : Body → Body
 halts b = record { depth = b.depth; around = b.around; ending = λ vs. b.around (CHalt (top b.waiting)); waiting = [] }
@@ -65,7 +72,13 @@ abbrev pub read_on : List CNd → Body → List Open → CTm
 read_on [] b os = b.ending b.waiting
 read_on (MVar l ∷ ns) b os = read_on ns (push b (CVar (b.depth - suc l))) os
 read_on (MInt n ∷ ns) b os = read_on ns (push b (CInt n)) os
-read_on (MTuple n ∷ ns) b os = read_on ns (record { depth = b.depth; around = b.around; ending = b.ending; waiting = CTuple (taken n b.waiting NoCVals) ∷ past n b.waiting }) os
+read_on (MTuple n ∷ ns) b os =
+    read_on ns (record {
+      depth = b.depth;
+      around = b.around;
+      ending = b.ending;
+      waiting = CTuple (taken n b.waiting NoCVals) ∷ past n b.waiting;
+    }) os
 read_on (MCode owes args ∷ ns) b os = read_on ns (fresh (lift (ccount args) 1)) (InCode b owes args ∷ os)
 read_on (MEnd ∷ ns) b [] = read_on ns b []
 read_on (MEnd ∷ ns) b (InCode c owes args ∷ os) = read_on ns (push c (CCode owes args (b.ending b.waiting))) os
@@ -77,8 +90,10 @@ read_on (MUnpack l ∷ ns) b os = read_on ns (bind b (CUnpack (top b.waiting)) (
 read_on (MCell l ∷ ns) b os = read_on ns (bind b (CCell (top b.waiting)) (rest b.waiting)) os
 read_on (MGet l ∷ ns) b os = read_on ns (bind b (CGet (top b.waiting)) (rest b.waiting)) os
 read_on (MProj l i ∷ ns) b os = read_on ns (bind b (CProj i (top b.waiting)) (rest b.waiting)) os
-read_on (MArith l op ∷ ns) b os = read_on ns (bind b (CArith op (top (rest b.waiting)) (top b.waiting)) (rest (rest b.waiting))) os
-read_on (MSet l ∷ ns) b os = read_on ns (bind b (CSet (top (rest b.waiting)) (top b.waiting)) (rest (rest b.waiting))) os
+read_on (MArith l op ∷ ns) b os =
+    read_on ns (bind b (CArith op (top (rest b.waiting)) (top b.waiting)) (rest (rest b.waiting))) os
+read_on (MSet l ∷ ns) b os =
+    read_on ns (bind b (CSet (top (rest b.waiting)) (top b.waiting)) (rest (rest b.waiting))) os
 read_on (MCall ts n ∷ ns) b os = read_on ns (calls b ts) os
 read_on (MIf ∷ ns) b os = read_on ns (fresh b.depth) (InThen b (top b.waiting) ∷ os)
 read_on (MElse ∷ ns) b [] = read_on ns b []

@@ -117,7 +117,8 @@ CEnter = ℕ → CTm → CWords → CWords → Result
 abbrev pub copen : CEnter → CWord → CWords → CWords → Result
 copen enter (XInt n) vs st = stops Stuck
 copen enter (XTuple ws) vs st = stops Stuck
-copen enter (XCode b args body) vs st = if_fits (nat_eq (csize vs) (ccount args)) (enter b body (conto vs (MoreCWords (XCode b args body) NoCWords)) st)
+copen enter (XCode b args body) vs st =
+    if_fits (nat_eq (csize vs) (ccount args)) (enter b body (conto vs (MoreCWords (XCode b args body) NoCWords)) st)
 copen enter (XCell p) vs st = stops Stuck
 
 abbrev pub cwith_value : CMade → (CWord → CWords → Result) → Result
@@ -137,9 +138,11 @@ chalt_with (XCode b args body) = stops Stuck
 chalt_with (XCell p) = stops Stuck
 
 abbrev pub cterm : CEnter → ℕ → CTm → CWords → CWords → Result
-cterm enter b (CLet d t) env st = cwith_value (cd_value b d env st) (λ v st2. cterm enter (cd_next b d) t (MoreCWords v env) st2)
+cterm enter b (CLet d t) env st =
+    cwith_value (cd_value b d env st) (λ v st2. cterm enter (cd_next b d) t (MoreCWords v env) st2)
 cterm enter b (CCall f ts vs) env st = copen enter (cv_value b f env) (cvs_value (cv_next b f) vs env) st
-cterm enter b (CIf v t u) env st = cat_zero (cv_value b v env) (cterm enter (cv_next b v) t env st) (cterm enter (ct_next (cv_next b v) t) u env st)
+cterm enter b (CIf v t u) env st =
+    cat_zero (cv_value b v env) (cterm enter (cv_next b v) t env st) (cterm enter (ct_next (cv_next b v) t) u env st)
 cterm enter b (CHalt v) env st = chalt_with (cv_value b v env)
 
 abbrev pub center : ℕ → CEnter

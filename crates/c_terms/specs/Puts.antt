@@ -46,4 +46,6 @@ capply (TCCode (suc n) args) (MoreCTys u us) = capply (TCCode n (cputs n (cren (
 
 -- types put one after the other are put at once
 abbrev pub OneByOne : Type 0
-OneByOne = (ts : CTys) (owes : ℕ) (args : CTys) → capply (TCCode (lift owes (ccount ts)) args) ts ≡ Some (TCCode owes (csubs (cup owes (names ts TCVar)) args))
+OneByOne =
+    (ts : CTys) (owes : ℕ) (args : CTys) →
+    capply (TCCode (lift owes (ccount ts)) args) ts ≡ Some (TCCode owes (csubs (cup owes (names ts TCVar)) args))

@@ -3,7 +3,8 @@ use Rattle.std.specs.Prelude.{ℕ, suc, ◌≤◌, ◌+◌, max}
 use Rattle.c_terms.specs.C.{CTy, CTys, TCInt, TCVar, TCTuple, TCCode, TCSome, TCRef, NoCTys, MoreCTys}
 use Rattle.c_terms.specs.Each.{CProp}
 
--- the greatest number of constructs open at one place of the image, each brace counted twice; a reference's image is a tuple of one field
+-- the greatest number of constructs open at one place of the image, each brace counted twice; a reference's image is
+-- a tuple of one field
 abbrev mutual
   pub creach : CTy → ℕ
   creach TCInt = 0

@@ -7,19 +7,26 @@ use Rattle.c_terms.specs.C.{CTy, TCInt, TCVar, TCTuple, TCCode, TCSome, TCRef, C
 use Rattle.c_terms.specs.Walks.{over, over_all, each, each_all, shift, put}
 
 -- a fact on each depth, below n more binders
-keeps_more : (f : At CTy) (a n : ℕ) → ((e i : ℕ) → f (deep a e) i ≡ TCVar i) → (e i : ℕ) → f (deep (a + n) e) i ≡ TCVar i
+keeps_more : (f : At CTy) (a n : ℕ) → ((e i : ℕ) → f (deep a e) i ≡ TCVar i) → (e i : ℕ) →
+    f (deep (a + n) e) i ≡ TCVar i
 keeps_more f a n h = under (λ d. (i : ℕ) → f d i ≡ TCVar i) n a h
 
-after_more : (f g h : At CTy) (a b c n : ℕ) → ((e i : ℕ) → over g (deep b e) (f (deep a e) i) ≡ h (deep c e) i) → (e i : ℕ) → over g (deep (b + n) e) (f (deep (a + n) e) i) ≡ h (deep (c + n) e) i
+after_more : (f g h : At CTy) (a b c n : ℕ) → ((e i : ℕ) → over g (deep b e) (f (deep a e) i) ≡ h (deep c e) i) →
+    (e i : ℕ) → over g (deep (b + n) e) (f (deep (a + n) e) i) ≡ h (deep (c + n) e) i
 after_more f g h a b c n k = under3 (λ x y z. (i : ℕ) → over g y (f x i) ≡ h z i) n a b c k
 
-agree_more : (V : ℕ → ℕ → Type 0) (f g : At CTy) (a b m n : ℕ) → ((e i : ℕ) → V (deep m e) i → f (deep a e) i ≡ g (deep b e) i) → (e i : ℕ) → V (deep (m + n) e) i → f (deep (a + n) e) i ≡ g (deep (b + n) e) i
+agree_more : (V : ℕ → ℕ → Type 0) (f g : At CTy) (a b m n : ℕ) →
+    ((e i : ℕ) → V (deep m e) i → f (deep a e) i ≡ g (deep b e) i) → (e i : ℕ) → V (deep (m + n) e) i →
+    f (deep (a + n) e) i ≡ g (deep (b + n) e) i
 agree_more V f g a b m n k = under3 (λ x y z. (i : ℕ) → V z i → f x i ≡ g y i) n a b m k
 
-made_more : (V W : ℕ → ℕ → Type 0) (D : ℕ → Type 0) (f : At CTy) (a n m p : ℕ) → ((e i : ℕ) → V (deep n e) i → each W D (deep m e) (f (deep a e) i)) → (e i : ℕ) → V (deep (n + p) e) i → each W D (deep (m + p) e) (f (deep (a + p) e) i)
+made_more : (V W : ℕ → ℕ → Type 0) (D : ℕ → Type 0) (f : At CTy) (a n m p : ℕ) →
+    ((e i : ℕ) → V (deep n e) i → each W D (deep m e) (f (deep a e) i)) → (e i : ℕ) → V (deep (n + p) e) i →
+    each W D (deep (m + p) e) (f (deep (a + p) e) i)
 made_more V W D f a n m p k = under3 (λ x y z. (i : ℕ) → V y i → each W D z (f x i)) p a n m k
 
-made_deeper : (B D : ℕ → Type 0) (n m p : ℕ) → ((e : ℕ) → B (deep n e) → D (deep m e)) → (e : ℕ) → B (deep (n + p) e) → D (deep (m + p) e)
+made_deeper : (B D : ℕ → Type 0) (n m p : ℕ) → ((e : ℕ) → B (deep n e) → D (deep m e)) → (e : ℕ) →
+    B (deep (n + p) e) → D (deep (m + p) e)
 made_deeper B D n m p l = under2 (λ x y. B x → D y) p n m l
 
 mutual
@@ -36,15 +43,18 @@ mutual
   keeps_all f a h (MoreCTys t ts) = ap₂ MoreCTys (keeps f a h t) (keeps_all f a h ts)
 
 mutual
-  after : (f g h : At CTy) (a b c : ℕ) → ((e i : ℕ) → over g (deep b e) (f (deep a e) i) ≡ h (deep c e) i) → (t : CTy) → over g b (over f a t) ≡ over h c t
+  after : (f g h : At CTy) (a b c : ℕ) → ((e i : ℕ) → over g (deep b e) (f (deep a e) i) ≡ h (deep c e) i) →
+      (t : CTy) → over g b (over f a t) ≡ over h c t
   after f g h a b c k TCInt = refl
   after f g h a b c k (TCVar i) = k 0 i
   after f g h a b c k (TCTuple ts) = ap TCTuple (after_all f g h a b c k ts)
-  after f g h a b c k (TCCode n ts) = ap (TCCode n) (after_all f g h (a + n) (b + n) (c + n) (after_more f g h a b c n k) ts)
+  after f g h a b c k (TCCode n ts) =
+      ap (TCCode n) (after_all f g h (a + n) (b + n) (c + n) (after_more f g h a b c n k) ts)
   after f g h a b c k (TCSome t) = ap TCSome (after f g h (a + 1) (b + 1) (c + 1) (λ e. k (suc e)) t)
   after f g h a b c k (TCRef t) = ap TCRef (after f g h a b c k t)
 
-  after_all : (f g h : At CTy) (a b c : ℕ) → ((e i : ℕ) → over g (deep b e) (f (deep a e) i) ≡ h (deep c e) i) → (ts : CTys) → over_all g b (over_all f a ts) ≡ over_all h c ts
+  after_all : (f g h : At CTy) (a b c : ℕ) → ((e i : ℕ) → over g (deep b e) (f (deep a e) i) ≡ h (deep c e) i) →
+      (ts : CTys) → over_all g b (over_all f a ts) ≡ over_all h c ts
   after_all f g h a b c k NoCTys = refl
   after_all f g h a b c k (MoreCTys t ts) = ap₂ MoreCTys (after f g h a b c k t) (after_all f g h a b c k ts)
 
@@ -58,28 +68,43 @@ pub type_lists_over : IsOver CTy CTys TCVar over over_all
 type_lists_over = record { keeps = keeps_all; after = after_all }
 
 mutual
-  agree : (V : ℕ → ℕ → Type 0) (B : ℕ → Type 0) (f g : At CTy) (a b m : ℕ) → ((e i : ℕ) → V (deep m e) i → f (deep a e) i ≡ g (deep b e) i) → (t : CTy) → each V B m t → over f a t ≡ over g b t
+  agree : (V : ℕ → ℕ → Type 0) (B : ℕ → Type 0) (f g : At CTy) (a b m : ℕ) →
+      ((e i : ℕ) → V (deep m e) i → f (deep a e) i ≡ g (deep b e) i) → (t : CTy) → each V B m t →
+      over f a t ≡ over g b t
   agree V B f g a b m k TCInt u = refl
   agree V B f g a b m k (TCVar i) u = k 0 i u
   agree V B f g a b m k (TCTuple ts) u = ap TCTuple (agree_all V B f g a b m k ts u)
-  agree V B f g a b m k (TCCode n ts) u = ap (TCCode n) (agree_all V B f g (a + n) (b + n) (m + n) (agree_more V f g a b m n k) ts u.1)
+  agree V B f g a b m k (TCCode n ts) u =
+      ap (TCCode n) (agree_all V B f g (a + n) (b + n) (m + n) (agree_more V f g a b m n k) ts u.1)
   agree V B f g a b m k (TCSome t) u = ap TCSome (agree V B f g (a + 1) (b + 1) (m + 1) (λ e. k (suc e)) t u.1)
   agree V B f g a b m k (TCRef t) u = ap TCRef (agree V B f g a b m k t u)
 
-  agree_all : (V : ℕ → ℕ → Type 0) (B : ℕ → Type 0) (f g : At CTy) (a b m : ℕ) → ((e i : ℕ) → V (deep m e) i → f (deep a e) i ≡ g (deep b e) i) → (ts : CTys) → each_all V B m ts → over_all f a ts ≡ over_all g b ts
+  agree_all : (V : ℕ → ℕ → Type 0) (B : ℕ → Type 0) (f g : At CTy) (a b m : ℕ) →
+      ((e i : ℕ) → V (deep m e) i → f (deep a e) i ≡ g (deep b e) i) → (ts : CTys) → each_all V B m ts →
+      over_all f a ts ≡ over_all g b ts
   agree_all V B f g a b m k NoCTys u = refl
-  agree_all V B f g a b m k (MoreCTys t ts) u = ap₂ MoreCTys (agree V B f g a b m k t u.0) (agree_all V B f g a b m k ts u.1)
+  agree_all V B f g a b m k (MoreCTys t ts) u =
+      ap₂ MoreCTys (agree V B f g a b m k t u.0) (agree_all V B f g a b m k ts u.1)
 
 mutual
-  made : (V W : ℕ → ℕ → Type 0) (B D : ℕ → Type 0) (f : At CTy) (a n m : ℕ) → ((e i : ℕ) → V (deep n e) i → each W D (deep m e) (f (deep a e) i)) → ((e : ℕ) → B (deep n e) → D (deep m e)) → (t : CTy) → each V B n t → each W D m (over f a t)
+  made : (V W : ℕ → ℕ → Type 0) (B D : ℕ → Type 0) (f : At CTy) (a n m : ℕ) →
+      ((e i : ℕ) → V (deep n e) i → each W D (deep m e) (f (deep a e) i)) → ((e : ℕ) → B (deep n e) → D (deep m e)) →
+      (t : CTy) → each V B n t → each W D m (over f a t)
   made V W B D f a n m k l TCInt u = tt
   made V W B D f a n m k l (TCVar i) u = k 0 i u
   made V W B D f a n m k l (TCTuple ts) u = made_all V W B D f a n m k l ts u
-  made V W B D f a n m k l (TCCode p ts) u = (made_deeper B D n m p l 0 u.0, made_all V W B D f (a + p) (n + p) (m + p) (made_more V W D f a n m p k) (made_deeper B D n m p l) ts u.1)
-  made V W B D f a n m k l (TCSome t) u = (l 1 u.0, made V W B D f (a + 1) (n + 1) (m + 1) (λ e. k (suc e)) (λ e. l (suc e)) t u.1)
+  made V W B D f a n m k l (TCCode p ts) u = (
+    made_deeper B D n m p l 0 u.0,
+    made_all V W B D f (a + p) (n + p) (m + p) (made_more V W D f a n m p k)
+        (made_deeper B D n m p l) ts u.1,
+  )
+  made V W B D f a n m k l (TCSome t) u =
+      (l 1 u.0, made V W B D f (a + 1) (n + 1) (m + 1) (λ e. k (suc e)) (λ e. l (suc e)) t u.1)
   made V W B D f a n m k l (TCRef t) u = made V W B D f a n m k l t u
 
-  made_all : (V W : ℕ → ℕ → Type 0) (B D : ℕ → Type 0) (f : At CTy) (a n m : ℕ) → ((e i : ℕ) → V (deep n e) i → each W D (deep m e) (f (deep a e) i)) → ((e : ℕ) → B (deep n e) → D (deep m e)) → (ts : CTys) → each_all V B n ts → each_all W D m (over_all f a ts)
+  made_all : (V W : ℕ → ℕ → Type 0) (B D : ℕ → Type 0) (f : At CTy) (a n m : ℕ) →
+      ((e i : ℕ) → V (deep n e) i → each W D (deep m e) (f (deep a e) i)) → ((e : ℕ) → B (deep n e) → D (deep m e)) →
+      (ts : CTys) → each_all V B n ts → each_all W D m (over_all f a ts)
   made_all V W B D f a n m k l NoCTys u = tt
   made_all V W B D f a n m k l (MoreCTys t ts) u = (made V W B D f a n m k l t u.0, made_all V W B D f a n m k l ts u.1)
 

@@ -80,9 +80,13 @@ abbrev mutual
   CHas n g (CVar i) t = CAt g i t
   CHas n g (CInt m) t = t ≡ TCInt
   CHas n g (CTuple vs) t = (ts : CTys) × (t ≡ TCTuple ts) × CHave n g vs ts
-  CHas n g (CCode owes args body) t = (t ≡ TCCode owes args) × CIns owes args × CGood owes (cargs_onto args (TCCode owes args ∷ [])) body
-  CHas n g (CApply v ts) t = (owes : ℕ) × (args : CTys) × (t ≡ TCCode owes (csubs (cup owes (names ts TCVar)) args)) × CHas n g v (TCCode (lift owes (ccount ts)) args) × CIns n ts
-  CHas n g (CPack h v s) t = (u : CTy) × (s ≡ TCSome u) × (t ≡ s) × CIn n h × CIn n s × CHas n g v (csub (scons h TCVar) u)
+  CHas n g (CCode owes args body) t =
+      (t ≡ TCCode owes args) × CIns owes args × CGood owes (cargs_onto args (TCCode owes args ∷ [])) body
+  CHas n g (CApply v ts) t =
+      (owes : ℕ) × (args : CTys) × (t ≡ TCCode owes (csubs (cup owes (names ts TCVar)) args))
+      × CHas n g v (TCCode (lift owes (ccount ts)) args) × CIns n ts
+  CHas n g (CPack h v s) t =
+      (u : CTy) × (s ≡ TCSome u) × (t ≡ s) × CIn n h × CIn n s × CHas n g v (csub (scons h TCVar) u)
 
   pub CHave : ℕ → List CTy → CVals → CTys → Type 0
   CHave n g NoCVals ts = ts ≡ NoCTys
@@ -96,6 +100,7 @@ abbrev mutual
   CGood n g (CLet (CCell v) t) = (u : CTy) × CHas n g v u × CGood n (TCRef u ∷ g) t
   CGood n g (CLet (CGet v) t) = (u : CTy) × CHas n g v (TCRef u) × CGood n (u ∷ g) t
   CGood n g (CLet (CSet v w) t) = (u : CTy) × CHas n g v (TCRef u) × CHas n g w u × CGood n (TCTuple NoCTys ∷ g) t
-  CGood n g (CCall f ts vs) = (us : CTys) × CHas n g f (TCCode (ccount ts) us) × CIns n ts × CHave n g vs (csubs (names ts TCVar) us)
+  CGood n g (CCall f ts vs) =
+      (us : CTys) × CHas n g f (TCCode (ccount ts) us) × CIns n ts × CHave n g vs (csubs (names ts TCVar) us)
   CGood n g (CIf v t u) = CHas n g v TCInt × CGood n g t × CGood n g u
   CGood n g (CHalt v) = CHas n g v TCInt

@@ -38,7 +38,8 @@ shift k c = over (shifted TCVar k) c
 abbrev pub shift_all : ℕ → ℕ → CTys → CTys
 shift_all k c = over_all (shifted TCVar k) c
 
--- s stands for the index that is c at the root, in a walk that stands at depth d, and each free index above it is lowered by 1
+-- s stands for the index that is c at the root, in a walk that stands at depth d, and each free index above it is
+-- lowered by 1
 abbrev pub put_from : ℕ → CTy → ℕ → CTy → CTy
 put_from c s d = over (putted TCVar over c s) d
 

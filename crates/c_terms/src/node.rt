@@ -2,8 +2,8 @@
 use crate::types::CType;
 use idx_core::Op;
 
-/// A node of a closed term: operands stand before what takes them. `level` counts the names in scope, and what binds binds
-/// that level.
+/// A node of a closed term: operands stand before what takes them. `level` counts the names in scope, and what binds
+/// binds that level.
 #[derive(Drop)]
 pub enum CNode {
     /// A variable, by its level: 0 is the outermost name.

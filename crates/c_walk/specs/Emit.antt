@@ -68,7 +68,8 @@ fields (suc k) l i rest = MVar 1 ∷ MProj l i ∷ fields k (suc l) (suc i) rest
 
 -- the code's own closure, where it is used
 abbrev pub own_closure : Bool → ℕ → Info → List CNd → List CNd
-own_closure true l i rest = MVar 0 ∷ MApply i.apply_in ∷ MVar 1 ∷ MTuple 2 ∷ MPack i.hidden_in i.shape_in ∷ MName l ∷ rest
+own_closure true l i rest =
+    MVar 0 ∷ MApply i.apply_in ∷ MVar 1 ∷ MTuple 2 ∷ MPack i.hidden_in i.shape_in ∷ MName l ∷ rest
 own_closure false l i rest = rest
 
 abbrev pub frame_of : Info → ℕ → ℕ → Frame
@@ -84,22 +85,28 @@ frame_of i d n = record {
 }
 
 abbrev pub opened : Info → ℕ → List CNd → List CNd
-opened i n rest = MCode i.owes i.args ∷ fields (length i.kept) (lift n 2) 1 (own_closure i.own (lift n 2 + length i.kept) i rest)
+opened i n rest =
+    MCode i.owes i.args ∷ fields (length i.kept) (lift n 2) 1 (own_closure i.own (lift n 2 + length i.kept) i rest)
 
 abbrev pub closed : Frame → Frame → List CNd → List CNd
-closed f g rest = MEnd ∷ MApply f.apply ∷ spots g f.kept (MTuple (length f.kept) ∷ MTuple 2 ∷ MPack f.hidden f.shape ∷ rest)
+closed f g rest =
+    MEnd ∷ MApply f.apply ∷ spots g f.kept (MTuple (length f.kept) ∷ MTuple 2 ∷ MPack f.hidden f.shape ∷ rest)
 
 abbrev pub called : ℕ → CTys → ℕ → List CNd → List CNd
-called e ts n rest = MUnpack e ∷ MVar e ∷ MProj (suc e) 1 ∷ MVar e ∷ MProj (suc (suc e)) 2 ∷ MVar (suc e) ∷ MCall ts (suc n) ∷ MVar (suc (suc e)) ∷ rest
+called e ts n rest =
+    MUnpack e ∷ MVar e ∷ MProj (suc e) 1 ∷ MVar e ∷ MProj (suc (suc e)) 2 ∷ MVar (suc e) ∷ MCall ts (suc n)
+    ∷ MVar (suc (suc e)) ∷ rest
 
--- the nodes of the converted term: inside f, which is inside fs, with what is known of the codes, and of the calls and packages, to come
+-- the nodes of the converted term: inside f, which is inside fs, with what is known of the codes, and of the calls
+-- and packages, to come
 abbrev pub emit : List KNd → Frame → List Frame → List Info → List Note → List CNd
 emit [] f fs is cs = []
 emit (NVar l ∷ ns) f fs is cs = MVar (spot f l) ∷ emit ns f fs is cs
 emit (NInt n ∷ ns) f fs is cs = MInt n ∷ emit ns f fs is cs
 emit (NTuple n ∷ ns) f fs is cs = MTuple n ∷ emit ns f fs is cs
 emit (NCode d td owes args ∷ ns) f fs [] cs = emit ns f fs [] cs
-emit (NCode d td owes args ∷ ns) f fs (i ∷ is) cs = opened i (kcount args) (emit ns (frame_of i d (kcount args)) (f ∷ fs) is cs)
+emit (NCode d td owes args ∷ ns) f fs (i ∷ is) cs =
+    opened i (kcount args) (emit ns (frame_of i d (kcount args)) (f ∷ fs) is cs)
 emit (NEnd ∷ ns) f [] is cs = emit ns f [] is cs
 emit (NEnd ∷ ns) f (g ∷ fs) is cs = closed f g (emit ns g fs is cs)
 emit (NName d t ∷ ns) f fs is cs = MName (spot f d) ∷ emit ns f fs is cs
@@ -139,7 +146,8 @@ abbrev mutual
   infos_v d s (KVar i) rest = rest
   infos_v d s (KInt n) rest = rest
   infos_v d s (KTuple vs) rest = infos_vs d s vs rest
-  infos_v d s (KCode owes args body) rest = info_of d s owes args body ∷ infos_t (lift (kcount args) (suc d)) (inner s owes args body) body rest
+  infos_v d s (KCode owes args body) rest =
+      info_of d s owes args body ∷ infos_t (lift (kcount args) (suc d)) (inner s owes args body) body rest
 
   pub infos_vs : ℕ → Scope → KVals → List Info → List Info
   infos_vs d s NoKVals rest = rest

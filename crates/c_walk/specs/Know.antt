@@ -10,7 +10,8 @@ use Rattle.term_core.specs.Levels.{level_of}
 use Rattle.c_walk.specs.Emit.{Info, Note, Calls, Packs, levels}
 use Rattle.c_walk.specs.Sweep.{known_below}
 
--- what the walks from the last node have found of a code: its free variables, whether its own name is used, and the type variables that occur in it
+-- what the walks from the last node have found of a code: its free variables, whether its own name is used, and the
+-- type variables that occur in it
 pub record Clue : Type 0 where
   pub kept : List ℕ
   pub own : Bool
@@ -21,7 +22,8 @@ pub record Bound : Type 0 where
   pub type : KTy
   pub depth : ℕ
 
--- a code's type variables: those outside it by number, how many are in scope in it, which of those outside it has, and whether a call has been opened
+-- a code's type variables: those outside it by number, how many are in scope in it, which of those outside it has,
+-- and whether a call has been opened
 pub record Side : Type 0 where
   pub depth : ℕ
   pub owes : ℕ
@@ -89,7 +91,8 @@ variables r td [] = NoCTys
 variables r td (l ∷ ls) = MoreCTys (TCVar (r (level_of td l))) (variables r td ls)
 
 abbrev pub side_of : ℕ → ℕ → Clue → List Bound → Side
-side_of td owes c xs = record { depth = td; owes = owes; kept = known_below td (c.types ++ bound_levels xs c.kept); calling = false }
+side_of td owes c xs =
+    record { depth = td; owes = owes; kept = known_below td (c.types ++ bound_levels xs c.kept); calling = false }
 
 abbrev pub info_from : ℕ → ℕ → KTys → Clue → List Bound → Side → Side → Info
 info_from td owes args c xs f g = record {
@@ -134,7 +137,8 @@ know (NTuple n ∷ ns) xs f fs cs = know ns xs f fs cs
 know (NCode d td owes args ∷ ns) xs f fs [] = know ns xs f fs []
 know (NCode d td owes args ∷ ns) xs f fs (c ∷ cs) =
     with_info (info_from td owes args c xs f (side_of td owes c xs))
-    (know ns (bind_all (bind xs d (TKCode owes args) td) (suc d) args (lift owes td)) (side_of td owes c xs) (f ∷ fs) cs)
+    (know ns (bind_all (bind xs d (TKCode owes args) td) (suc d) args (lift owes td)) (side_of td owes c xs)
+    (f ∷ fs) cs)
 know (NEnd ∷ ns) xs f [] cs = know ns xs f [] cs
 know (NEnd ∷ ns) xs f (g ∷ fs) cs = know ns xs g fs cs
 know (NName d t ∷ ns) xs f fs cs = know ns (bind xs d t (side_depth f)) f fs cs
@@ -142,7 +146,8 @@ know (NProj d i t ∷ ns) xs f fs cs = know ns (bind xs d t (side_depth f)) f fs
 know (NArith d op ∷ ns) xs f fs cs = know ns (bind xs d TKInt (side_depth f)) f fs cs
 know (NPack d td h s ∷ ns) xs f fs cs =
     with_note (Packs (ctype (side_var f) h) (ctype (side_var f) s)) (know ns (bind xs d s (side_depth f)) f fs cs)
-know (NUnpack d td t ∷ ns) xs f fs cs = know ns (bind xs d t (suc (side_depth f))) (side_with (suc f.owes) f.calling f) fs cs
+know (NUnpack d td t ∷ ns) xs f fs cs =
+    know ns (bind xs d t (suc (side_depth f))) (side_with (suc f.owes) f.calling f) fs cs
 know (NCell d t ∷ ns) xs f fs cs = know ns (bind xs d t (side_depth f)) f fs cs
 know (NGet d t ∷ ns) xs f fs cs = know ns (bind xs d t (side_depth f)) f fs cs
 know (NSet d ∷ ns) xs f fs cs = know ns (bind xs d (TKTuple NoKTys) (side_depth f)) f fs cs
@@ -168,7 +173,8 @@ abbrev mutual
   clues_v d td (KVar i) rest = rest
   clues_v d td (KInt n) rest = rest
   clues_v d td (KTuple vs) rest = clues_vs d td vs rest
-  clues_v d td (KCode owes args body) rest = clue_of d td owes args body ∷ clues_t (lift (kcount args) (suc d)) (lift owes td) body rest
+  clues_v d td (KCode owes args body) rest =
+      clue_of d td owes args body ∷ clues_t (lift (kcount args) (suc d)) (lift owes td) body rest
 
   pub clues_vs : ℕ → ℕ → KVals → List Clue → List Clue
   clues_vs d td NoKVals rest = rest

@@ -27,7 +27,12 @@ pub record Swept : Type 0 where
 
 abbrev pub opened_in : ℕ → List ℕ → List (List ℕ) → List Found → Swept
 opened_in d xs [] found = record { current = xs; outer = []; found = found }
-opened_in d xs (o ∷ os) found = record { current = o ++ known_below d xs; outer = os; found = (let f : Found = record { kept = known_below d xs; own = has d xs } in f) ∷ found }
+opened_in d xs (o ∷ os) found =
+    record {
+      current = o ++ known_below d xs;
+      outer = os;
+      found = (let f : Found = record { kept = known_below d xs; own = has d xs } in f) ∷ found;
+    }
 
 abbrev pub swept : KNd → Swept → Swept
 swept (NVar l) s = record { current = s.current ++ l ∷ []; outer = s.outer; found = s.found }

@@ -14,7 +14,8 @@ pub record TSwept : Type 0 where
 
 abbrev pub topened : ℕ → List ℕ → List (List ℕ) → List (List ℕ) → TSwept
 topened td xs [] found = record { current = xs; outer = []; found = found }
-topened td xs (o ∷ os) found = record { current = o ++ known_below td xs; outer = os; found = known_below td xs ∷ found }
+topened td xs (o ∷ os) found =
+    record { current = o ++ known_below td xs; outer = os; found = known_below td xs ∷ found }
 
 abbrev pub tswept : KNd → TSwept → TSwept
 tswept (NVar l) s = s
@@ -27,7 +28,8 @@ tswept (NProj d i t) s = s
 tswept (NArith d op) s = s
 tswept (NCall d td ts n) s = record { current = s.current ++ types_levels td 0 ts; outer = s.outer; found = s.found }
 tswept NIf s = s
-tswept (NPack d td h t) s = record { current = s.current ++ (type_levels td 0 h ++ type_levels td 0 t); outer = s.outer; found = s.found }
+tswept (NPack d td h t) s =
+    record { current = s.current ++ (type_levels td 0 h ++ type_levels td 0 t); outer = s.outer; found = s.found }
 tswept (NUnpack d td t) s = s
 tswept (NCell d t) s = s
 tswept (NGet d t) s = s

@@ -13,7 +13,8 @@ use Rattle.c_walk.specs.Know.{Side, Known, know}
 
 -- outside every code
 abbrev pub top_frame : Frame
-top_frame = record { level = 0; split = 0; first = 0; start = 0; kept = []; apply = NoCTys; hidden = TCInt; shape = TCInt }
+top_frame =
+    record { level = 0; split = 0; first = 0; start = 0; kept = []; apply = NoCTys; hidden = TCInt; shape = TCInt }
 
 abbrev pub top_side : Side
 top_side = record { depth = 0; owes = 0; kept = []; calling = false }

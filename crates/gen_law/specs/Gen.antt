@@ -77,7 +77,8 @@ above d vs = suc (d + length vs)
 
 -- a call puts its code and its arguments above all variables, then moves the arguments down to the registers from 1 on
 abbrev pub call_code : ℕ → AVal → List AVal → TSeq → TSeq
-call_code d v vs rest = into d (above d vs) v (intos d (suc (above d vs)) vs (downs (length vs) 1 (suc (above d vs)) rest))
+call_code d v vs rest =
+    into d (above d vs) v (intos d (suc (above d vs)) vs (downs (length vs) 1 (suc (above d vs)) rest))
 
 -- the test of an `if0`, whose third part is block at and owes the k type variables in scope
 abbrev pub test_code : ℕ → ℕ → AVal → ℕ → TSeq → TSeq

@@ -27,7 +27,8 @@ FileTypes Q n (MoreRegs r t f) = Q n t × FileTypes Q n f
 
 -- the value has the type t; it, the types of the values in it and those that it is written with have the property
 abbrev pub HasEach : TProp → TProg → ℕ → RegTypes → TValue → Ty → Type 0
-HasEach Q P n g (Plain b ts) t = Has P n g (Plain b ts) t × ((s : Ty) × BaseHas P g b s × Q n s × Q n t × AllTypes Q n ts)
+HasEach Q P n g (Plain b ts) t =
+    Has P n g (Plain b ts) t × ((s : Ty) × BaseHas P g b s × Q n s × Q n t × AllTypes Q n ts)
 HasEach Q P n g (Pack h v s) t = Has P n g (Pack h v s) t × ((u : Ty) × HasEach Q P n g v u × Q n h × Q n t)
 
 -- the types of the instruction's value, those that are written in it, and that of the register that it sets
@@ -47,7 +48,8 @@ EndEach Q P n g Halt = Unit {0}
 
 -- of each instruction in turn, and of the end
 abbrev pub SeqEach : TProp → TProg → ℕ → RegTypes → TSeq → Type 0
-SeqEach Q P n g (Then i rest) = (h : RegTypes) × Typed P n g i h × InstrEach Q P n g i × SeqEach Q P (names_after i n) h rest
+SeqEach Q P n g (Then i rest) =
+    (h : RegTypes) × Typed P n g i h × InstrEach Q P n g i × SeqEach Q P (names_after i n) h rest
 SeqEach Q P n g (Ends e) = EndTyped P n g e × EndEach Q P n g e
 
 -- of the file and the sequence of each block

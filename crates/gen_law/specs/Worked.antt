@@ -5,7 +5,9 @@ use Rattle.a_terms.specs.Tree.{ATy, AInt, AVar, ATuple, ACode, AExists, NoATys, 
 
 -- a continuation: code that takes its surroundings and an integer, with its surroundings
 abbrev pub kont : ATy
-kont = AExists (ATuple (MoreAFields (ACode 0 (MoreATys (AVar 0) (MoreATys AInt NoATys))) true (MoreAFields (AVar 0) true NoAFields)))
+kont =
+    AExists (ATuple (MoreAFields (ACode 0 (MoreATys (AVar 0) (MoreATys AInt NoATys))) true
+    (MoreAFields (AVar 0) true NoAFields)))
 
 -- what the code after a recursive call is given: the number and the continuation
 abbrev pub saved : ATy
@@ -21,7 +23,8 @@ fact = record {
   owes = 0;
   args = MoreATys AInt (MoreATys kont NoATys);
   body = If0 (Var 1)
-      (Let (Unpack (Var 0)) (Let (Proj 1 (Var 0)) (Let (Proj 2 (Var 1)) (Call (Var 1) NoATys (Var 0 ∷ Num (pos 1) ∷ [])))))
+      (Let (Unpack (Var 0))
+      (Let (Proj 1 (Var 0)) (Let (Proj 2 (Var 1)) (Call (Var 1) NoATys (Var 0 ∷ Num (pos 1) ∷ [])))))
       (Let (Malloc (MoreATys AInt (MoreATys kont NoATys)))
       (Let (Init (Var 0) 1 (Var 2))
       (Let (Init (Var 0) 2 (Var 2))
@@ -38,7 +41,12 @@ abbrev pub times : ABlk
 times = record {
   owes = 0;
   args = MoreATys saved (MoreATys AInt NoATys);
-  body = Let (Proj 1 (Var 1)) (Let (Proj 2 (Var 2)) (Let (Arith Mul (Var 1) (Var 2)) (Let (Unpack (Var 1)) (Let (Proj 1 (Var 0)) (Let (Proj 2 (Var 1)) (Call (Var 1) NoATys (Var 0 ∷ Var 3 ∷ [])))))));
+  body =
+      Let (Proj 1 (Var 1))
+      (Let (Proj 2 (Var 2))
+      (Let (Arith Mul (Var 1) (Var 2))
+      (Let (Unpack (Var 1))
+      (Let (Proj 1 (Var 0)) (Let (Proj 2 (Var 1)) (Call (Var 1) NoATys (Var 0 ∷ Var 3 ∷ [])))))));
 }
 
 -- the end: halts with its argument
@@ -49,19 +57,24 @@ ends = record { owes = 0; args = MoreATys (ATuple NoAFields) (MoreATys AInt NoAT
 abbrev pub factorial : AProg
 factorial = record {
   blocks = fact ∷ times ∷ ends ∷ [];
-  tuples = [] ∷ (record { value = Lab 2; kind = code_for (ATuple NoAFields) } ∷ record { value = Data 0; kind = ATuple NoAFields } ∷ []) ∷ [];
+  tuples =
+      [] ∷ (record { value = Lab 2; kind = code_for (ATuple NoAFields) }
+      ∷ record { value = Data 0; kind = ATuple NoAFields } ∷ []) ∷ [];
 }
 
 -- the factorial of five
 abbrev pub of_five : ATm
 of_five = Call (Lab 0) NoATys (Num (pos 5) ∷ Pack (ATuple NoAFields) (Data 1) kont ∷ [])
 
--- polymorphic code that calls itself: down(n, x) = if n = 0 then 7 else down[a](n - 1, x), with an `if0` under a type variable
+-- polymorphic code that calls itself: down(n, x) = if n = 0 then 7 else down[a](n - 1, x), with an `if0` under a type
+-- variable
 abbrev pub down : ABlk
 down = record {
   owes = 1;
   args = MoreATys AInt (MoreATys (AVar 0) NoATys);
-  body = If0 (Var 1) (Halt (Num (pos 7))) (Let (Arith Sub (Var 1) (Num (pos 1))) (Call (Lab 0) (MoreATys (AVar 0) NoATys) (Var 0 ∷ Var 1 ∷ [])));
+  body =
+      If0 (Var 1) (Halt (Num (pos 7)))
+      (Let (Arith Sub (Var 1) (Num (pos 1))) (Call (Lab 0) (MoreATys (AVar 0) NoATys) (Var 0 ∷ Var 1 ∷ [])));
 }
 
 -- a tuple of one integer
@@ -75,4 +88,8 @@ downs_alone = record { blocks = down ∷ []; tuples = [] }
 -- down[cell](3, <3>), the tuple unpacked on the way
 abbrev pub counting : ATm
 counting =
-    Let (Malloc (MoreATys AInt NoATys)) (Let (Init (Var 0) 1 (Num (pos 3))) (Let (Proj 1 (Var 0)) (Let (Unpack (Pack AInt (Var 0) (AExists (AVar 0)))) (Call (Apply (Lab 0) (MoreATys cell NoATys)) NoATys (Var 1 ∷ Var 2 ∷ [])))))
+    Let (Malloc (MoreATys AInt NoATys))
+    (Let (Init (Var 0) 1 (Num (pos 3)))
+    (Let (Proj 1 (Var 0))
+    (Let (Unpack (Pack AInt (Var 0) (AExists (AVar 0))))
+    (Call (Apply (Lab 0) (MoreATys cell NoATys)) NoATys (Var 1 ∷ Var 2 ∷ [])))))

@@ -92,7 +92,8 @@ pub record Stands (r : Found) (bs : List HBlock) (own : Option ℕ) (ns : List H
 
 abbrev pub Walked : Walk → List S.CNd → HBlks × HTm → Type 0
 Walked w rest program =
-    Stands (found w rest) w.blocks.items w.current.own w.current.nodes.items w.current.depths.items w.outer.items program
+    Stands
+    (found w rest) w.blocks.items w.current.own w.current.nodes.items w.current.depths.items w.outer.items program
 
 -- a step
 abbrev pub Goes : Walk → List S.CNd → Walk → List S.CNd → Type 0

@@ -1,5 +1,6 @@
 // Hoisting.
 ghost use Rattle.std.specs.Prelude.{◌≡◌, ℕ, List, [], IfOk};
+ghost use Rattle.c_terms.specs.Bound.{CFits};
 ghost use Rattle.c_terms.specs.C.{CTm};
 ghost use Rattle.c_terms.specs.Meaning.{crun};
 ghost use Rattle.c_terms.specs.Each.{CGoodP};
@@ -9,7 +10,7 @@ ghost use Rattle.c_terms.specs.Term.{term_of};
 ghost use Rattle.h_terms.specs.H.{HBlks, HTm};
 ghost use Rattle.h_terms.specs.Meaning.{hrun};
 ghost use Rattle.h_terms.specs.Each.{HProgramP};
-ghost use Rattle.h_terms.specs.Bound.{HBound};
+ghost use Rattle.h_terms.specs.Bound.{HBound, HFits};
 ghost use Rattle.h_terms.specs.Nodes.{h_blocks, h_tree, HRow, HRows};
 ghost use Rattle.h_terms.specs.Program.{blocks_in, main_in};
 ghost use Rattle.h_pass.specs.Hoist.{blocks_of, main_of};
@@ -25,8 +26,10 @@ use idx_core::OutOfMemory;
 use std::alloc::Global;
 use std::collections::VecDeque;
 
-/// The hoisted form of a closed program: a block for each code, in order, and the main term. The one other answer is want
-/// of memory.
+/// The hoisted form of a closed program: a block for each code, in order, and the main term. Each block's code put back
+/// for its label gives the closed program. It is typed, each bound on the program before is one on it, and within any
+/// number of calls it ends as the program before, and enters the blocks of the codes entered. The one other answer is
+/// want of memory.
 pub fn hoist(alloc: Global, program: &CProgram) -> Result<HProgram, OutOfMemory>
     ensures blocks { IfOk result (λ r. blocks_in r ≡ blocks_of (term_of program.now)) }
     ensures main { IfOk result (λ r. main_in r ≡ main_of (term_of program.now)) }
@@ -34,6 +37,7 @@ pub fn hoist(alloc: Global, program: &CProgram) -> Result<HProgram, OutOfMemory>
     ensures meaning { IfOk result (λ r. (n : ℕ) → hrun n (blocks_in r) (main_in r) ≡ crun n (term_of program.now)) }
     ensures reach { IfOk result (λ r. (N R B : ℕ) →
         CGoodP (CWithin N R B) 0 [] (term_of program.now) → HProgramP (CWithin N R B) (blocks_in r) (main_in r)) }
+    ensures bound { IfOk result (λ r. (N R : ℕ) → CFits N R (term_of program.now) → HFits N R (blocks_in r) (main_in r)) }
 {
     bound_is_small_law();
     scoped_is_back_law();

@@ -114,7 +114,8 @@ fn outer(alloc: Global, nodes: &mut Vec<CNode>) -> Result<(), OutOfMemory>
 
 // A cell that holds 3, and what it holds.
 fn cell(nodes: &mut Vec<CNode>) -> Result<(), OutOfMemory>
-    ensures { OnOk result (Adds nodes.old.items nodes.new.items (S.MInt (pos 3) ∷ S.MCell 0 ∷ S.MVar 0 ∷ S.MGet 1 ∷ [])) }
+    ensures { OnOk result (Adds nodes.old.items nodes.new.items
+        (S.MInt (pos 3) ∷ S.MCell 0 ∷ S.MVar 0 ∷ S.MGet 1 ∷ [])) }
 {
     add(nodes, CNode::Int(3))?;
     add(nodes, CNode::Cell(0))?;
@@ -126,7 +127,8 @@ fn cell(nodes: &mut Vec<CNode>) -> Result<(), OutOfMemory>
 // The code and that integer, as a package with a name.
 fn package(alloc: Global, nodes: &mut Vec<CNode>) -> Result<(), OutOfMemory>
     ensures { OnOk result (Adds nodes.old.items nodes.new.items
-        (clin_v 2 (CPack TCInt (CTuple (MoreCVals count_down (MoreCVals (CVar 0) NoCVals))) hidden_pair) (S.MName 2 ∷ []))) }
+        (clin_v 2 (CPack TCInt (CTuple (MoreCVals count_down (MoreCVals (CVar 0) NoCVals))) hidden_pair)
+        (S.MName 2 ∷ []))) }
 {
     outer(alloc, nodes)?;
     add(nodes, CNode::Var(1))?;

@@ -1,13 +1,16 @@
--- Rows, computed: `7`, the factorial of 5, and the identity at int.
-use Rattle.std.proofs.Common.{pos, ◌≡◌, refl}
-use Rattle.std.specs.Prelude.{false}
+-- Rows, computed: `7`, the factorial of 5, the identity at int; and terms held beside the rules of the relation, with
+-- others that no rule gives.
+use Rattle.std.proofs.Common.{pos, ◌≡◌, refl, inl, inr}
+use Rattle.std.specs.Prelude.{ℤ, false}
 use Rattle.std.specs.Int.{int_wrap}
-use Rattle.idx_core.specs.declared.arith.Op.TheVariants.{Sub, Mul}
+use Rattle.idx_core.specs.declared.arith.Op.TheVariants.{Add, Sub, Mul}
 use Rattle.f_terms.specs.Ty.{TInt, TVar}
 use Rattle.f_terms.specs.Tm.{Term, MVar, MNum, MFix, MApp, MGen, MInst, MArith, MIf0}
 use Rattle.term_core.specs.Ends.{Halted}
+use Rattle.k_terms.specs.K.{TKInt, TKCode, NoKTys, MoreKTys, KVal, KVar, KInt, KCode, NoKVals, MoreKVals, KName, KArith, KTm, KLet, KCall, KIf, KHalt}
 use Rattle.k_terms.specs.Meaning.{krun}
 use Rattle.k_laws.specs.Annotate.{cps_term}
+use Rattle.k_laws.specs.Translates.{cps_program}
 use Rattle.k_laws.specs.Sites.{sites}
 use Rattle.k_laws.specs.Count.{count}
 
@@ -37,3 +40,109 @@ seldom = refl
 
 same : (krun 4 (cps_term identity)).end ≡ Halted (pos 3)
 same = refl
+
+-- if0(0, 1, 2) + 3: what comes after the choice is named once, and both branches call it.
+-- k = code(x: int). y = x + 3; halt y; if 0 is 0 then k(1) else k(2)
+abbrev choice : Term
+choice = MArith Add (MIf0 (MNum (pos 0)) (MNum (pos 1)) (MNum (pos 2))) (MNum (pos 3))
+
+abbrev plus_three : KVal → KTm
+plus_three v = KLet (KArith Add v (KInt (pos 3))) (KHalt (KVar 0))
+
+abbrev to_first : ℤ → KTm
+to_first n = KCall (KVar 0) NoKTys (MoreKVals (KInt n) NoKVals)
+
+abbrev named_once : KTm
+named_once =
+    KLet (KName (KCode 0 (MoreKTys TKInt NoKTys) (plus_three (KVar 0))))
+    (KIf (KInt (pos 0)) (to_first (pos 1)) (to_first (pos 2)))
+
+named_once_is_it : cps_term choice ≡ named_once
+named_once_is_it = refl
+
+named_once_is_one : cps_program choice named_once
+named_once_is_one = (
+  (refl, (refl, refl, refl), refl),
+  (
+    (refl, refl, refl),
+    (
+      _,
+      _,
+      (_, refl, (refl, inl (_, _, _, (0, refl, refl), refl, refl, inl (_, (0, refl, refl), refl)))),
+      refl,
+      (
+        refl,
+        inl (
+          _,
+          _,
+          _,
+          refl,
+          refl,
+          (refl, inl (_, _, (0, refl, refl), refl, refl)),
+          (refl, inl (_, _, (0, refl, refl), refl, refl)),
+        ),
+      ),
+    ),
+  ),
+)
+
+-- what comes after copied into both branches is no translation
+abbrev copied : KTm
+copied = KIf (KInt (pos 0)) (plus_three (KInt (pos 1))) (plus_three (KInt (pos 2)))
+
+copied_is_none : cps_program choice copied → ⊥
+copied_is_none h = other _ _ h.1.1.3
+  where
+    other : (v : KVal) (rest : KTm) → copied ≡ KLet (KName v) rest → ⊥
+    other v rest e = cc
+
+-- 5 - 2: the left operand stays the left one
+abbrev difference : Term
+difference = MArith Sub (MNum (pos 5)) (MNum (pos 2))
+
+abbrev minus : KVal → KVal → KTm
+minus v w = KLet (KArith Sub v w) (KHalt (KVar 0))
+
+difference_is_one : cps_program difference (minus (KInt (pos 5)) (KInt (pos 2)))
+difference_is_one =
+    ((refl, refl, refl), (refl, inl (refl, inl (_, _, _, refl, refl, refl, inl (_, (0, refl, refl), refl)))))
+
+named_first : (v : KVal) (rest : KTm) → minus (KInt (pos 2)) (KInt (pos 5)) ≡ KLet (KName v) rest → ⊥
+named_first v rest e = cc
+
+exchanged_is_none : cps_program difference (minus (KInt (pos 2)) (KInt (pos 5))) → ⊥
+exchanged_is_none (ty, (ta, inl (tb, inl (a, b, rest, ea, eb, e, more)))) = other a b rest ea e
+  where
+    other : (a b : KVal) (rest : KTm) → a ≡ KInt (pos 5) → minus (KInt (pos 2)) (KInt (pos 5)) ≡ KLet (KArith Sub a b) rest → ⊥
+    other a b rest ea e = cc
+exchanged_is_none (ty, (ta, inl (tb, inr (v, rest, x, e, more)))) = named_first v rest e
+exchanged_is_none (ty, (ta, inr (v, rest, x, e, more))) = named_first v rest e
+
+-- fix f(x: int): int. x: the function takes its argument and then what comes after; its own name is neither
+abbrev itself : Term
+itself = MApp (MFix TInt TInt (MVar 0)) (MNum (pos 7))
+
+-- f = code(x: int, k: code(int)). k(x); f(7, code(y: int). halt y)
+abbrev calls_with : KVal → KTm
+calls_with given =
+    KLet (KName (KCode 0 (MoreKTys TKInt (MoreKTys (TKCode 0 (MoreKTys TKInt NoKTys)) NoKTys)) (KCall (KVar 0) NoKTys (MoreKVals given NoKVals))))
+    (KCall (KVar 0) NoKTys (MoreKVals (KInt (pos 7)) (MoreKVals (KCode 0 (MoreKTys TKInt NoKTys) (KHalt (KVar 0))) NoKVals)))
+
+itself_is_it : cps_term itself ≡ calls_with (KVar 1)
+itself_is_it = refl
+
+itself_is_one : cps_program itself (calls_with (KVar 1))
+itself_is_one = (
+  (TInt, (refl, tt, tt, refl), refl),
+  TInt,
+  (
+    (refl, tt, tt, refl),
+    inr (
+      _,
+      _,
+      (_, refl, (refl, 1, refl, inl (_, _, (0, refl, refl), (1, refl, refl), refl))),
+      refl,
+      (refl, inl (inl (_, _, _, (0, refl, refl), refl, (_, refl, (_, (0, refl, refl), refl)), refl))),
+    ),
+  ),
+)

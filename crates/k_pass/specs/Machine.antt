@@ -179,7 +179,8 @@ Hands t w ty d w' c' = Begins t w (as_value w.types ty (rest_of t w) d (after t 
 
 abbrev pub FieldsGo : (ℕ → Noted) → Work → List ℕ → List s.Atom → K.KTy → ℕ → Work → Control → Type 0
 FieldsGo t w es done ty d w' c' =
-    Begins t w (emit_all (noteds (map t es)) d (at w) done (to_tuple ty (rest_of t w)) (after t w)) (1 + (1 + steps_all (noteds (map t es)))) w' c'
+    Begins t w (emit_all (noteds (map t es)) d (at w) done (to_tuple ty (rest_of t w)) (after t w))
+    (1 + (1 + steps_all (noteds (map t es)))) w' c'
 
 -- the level of the name that a frame hands its atom to
 abbrev pub tail_of : Frame → Option ℕ

@@ -18,7 +18,8 @@ use k_terms::KNode;
 pub(crate) fn node_at<'a>(term: &'a FTerm, types: &'a [FType], i: u64) -> (&'a FNode, &'a FType)
     requires here { i < count term.now }
     requires table { count term.now ≤ length types.now }
-    ensures tree { noted_at term.now types.now i ≡ noted_node (noted_at term.now types.now) (result.0.now, result.1.now) }
+    ensures tree { noted_at term.now types.now i ≡ noted_node (noted_at term.now types.now)
+        (result.0.now, result.1.now) }
     ensures kids { All (λ k. k < count term.now) (kids result.0.now) }
 {
     typed_node(term, types, i)
@@ -62,7 +63,8 @@ pub(crate) fn put(out: &mut Vec<KNode>, made: KNode) -> Result<(), OutOfMemory>
 
 // An atom.
 pub(crate) fn put_atom(out: &mut Vec<KNode>, a: Atom) -> Result<(), OutOfMemory>
-    ensures { OnOk result ((ns : Nodes) → map knode out.new.items ++ ns ≡ map knode out.old.items ++ atom_node (atom a) ∷ ns) }
+    ensures { OnOk result ((ns : Nodes) →
+        map knode out.new.items ++ ns ≡ map knode out.old.items ++ atom_node (atom a) ∷ ns) }
 {
     match a {
         Atom::Level(level) => put(out, KNode::Var(level)),
@@ -72,7 +74,8 @@ pub(crate) fn put_atom(out: &mut Vec<KNode>, a: Atom) -> Result<(), OutOfMemory>
 
 // An atom and what takes it.
 pub(crate) fn put_one(out: &mut Vec<KNode>, a: Atom, made: KNode) -> Result<(), OutOfMemory>
-    ensures { OnOk result ((ns : Nodes) → map knode out.new.items ++ ns ≡ map knode out.old.items ++ atom_node (atom a) ∷ knode made ∷ ns) }
+    ensures { OnOk result ((ns : Nodes) →
+        map knode out.new.items ++ ns ≡ map knode out.old.items ++ atom_node (atom a) ∷ knode made ∷ ns) }
 {
     put_atom(out, a)?;
     put(out, made)?;
@@ -86,7 +89,9 @@ pub(crate) fn put_two(
     b: Atom,
     made: KNode,
 ) -> Result<(), OutOfMemory>
-    ensures { OnOk result ((ns : Nodes) → map knode out.new.items ++ ns ≡ map knode out.old.items ++ atom_node (atom a) ∷ atom_node (atom b) ∷ knode made ∷ ns) }
+    ensures { OnOk result ((ns : Nodes) →
+        map knode out.new.items ++ ns ≡ map knode out.old.items ++ atom_node (atom a) ∷ atom_node (atom b)
+        ∷ knode made ∷ ns) }
 {
     put_atom(out, a)?;
     put_one(out, b, made)?;
@@ -100,7 +105,9 @@ pub(crate) fn put_call(
     call: KNode,
     x: Atom,
 ) -> Result<(), OutOfMemory>
-    ensures { OnOk result ((ns : Nodes) → map knode out.new.items ++ ns ≡ map knode out.old.items ++ atom_node (atom f) ∷ knode call ∷ atom_node (atom x) ∷ ns) }
+    ensures { OnOk result ((ns : Nodes) →
+        map knode out.new.items ++ ns ≡ map knode out.old.items ++ atom_node (atom f) ∷ knode call
+        ∷ atom_node (atom x) ∷ ns) }
 {
     put_one(out, f, call)?;
     put_atom(out, x)?;

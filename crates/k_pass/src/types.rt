@@ -100,7 +100,8 @@ pub(crate) fn gen_types(alloc: Global, t: &FType) -> Result<Vec<KType>, OutOfMem
 
 // The types that a function takes.
 pub(crate) fn fix_types(alloc: Global, arg: &FType, res: &FType) -> Result<Vec<KType>, OutOfMemory>
-    ensures { IfOk result (λ v. ktys v.items ≡ MoreKTys (kty (tree arg.now)) (MoreKTys (taking (kty (tree res.now))) NoKTys)) }
+    ensures { IfOk result (λ v. ktys v.items ≡ MoreKTys (kty (tree arg.now))
+        (MoreKTys (taking (kty (tree res.now))) NoKTys)) }
 {
     let mut types = rest_types(alloc, arg)?;
     let k = k_type(alloc, res)?;

@@ -35,7 +35,9 @@ fn tail_level(frame: &Frame) -> Option<u64>
 
 // The name that a term hands its atom to, where it is in tail place; it is handed over now.
 fn take_tail(stack: &mut Vec<Frame>) -> Option<u64>
-    ensures { (t : ℕ → Noted) → MatchOption result ((stack.new.items ≡ stack.old.items) × IsRestless t stack.old.items) (λ l. stack.old.items ≡ stack.new.items ++ frames.Tail l ∷ []) }
+    ensures { (t : ℕ → Noted) → MatchOption result
+        ((stack.new.items ≡ stack.old.items) × IsRestless t stack.old.items)
+        (λ l. stack.old.items ≡ stack.new.items ++ frames.Tail l ∷ []) }
 {
     let count = stack.len();
     if count == 0 {
@@ -96,7 +98,8 @@ pub(crate) fn walk<'a>(
 ) -> Result<Control, OutOfMemory>
     requires here { node < count term.now }
     requires table { count term.now ≤ length types.now }
-    ensures steps { IfOk result (λ r. Steps (noted_at term.now types.now) work.old (controls.Walk node depth) work.new r) }
+    ensures steps { IfOk result (λ r. Steps (noted_at term.now types.now) work.old
+        (controls.Walk node depth) work.new r) }
     ensures inside { IfOk result (λ r. KeptIn (count term.now) work.old → Inside (count term.now) work.new r) }
 {
     let found = node_at(term, types, node);
@@ -157,7 +160,8 @@ fn walk_fix<'a>(
     body: u64,
     depth: u64,
 ) -> Result<Control, OutOfMemory>
-    ensures steps { IfOk result (λ r. (t : ℕ → Noted) → Goes t work.old (EFix (tree arg.now) (tree res.now) (t body)) depth work.new r) }
+    ensures steps { IfOk result (λ r. (t : ℕ → Noted) →
+        Goes t work.old (EFix (tree arg.now) (tree res.now) (t body)) depth work.new r) }
     ensures inside { IfOk result (λ r. (m : ℕ) → body < m → KeptIn m work.old → Inside m work.new r) }
 {
     let args = fix_types(alloc, arg, res)?;
@@ -189,7 +193,8 @@ fn walk_gen<'a>(
     ty: &'a FType,
     depth: u64,
 ) -> Result<Control, OutOfMemory>
-    ensures steps { IfOk result (λ r. (t : ℕ → Noted) → Goes t work.old (EGen (t body) (tree ty.now)) depth work.new r) }
+    ensures steps { IfOk result (λ r. (t : ℕ → Noted) →
+        Goes t work.old (EGen (t body) (tree ty.now)) depth work.new r) }
     ensures inside { IfOk result (λ r. (m : ℕ) → body < m → KeptIn m work.old → Inside m work.new r) }
 {
     let args = gen_types(alloc, ty)?;
@@ -223,8 +228,10 @@ fn walk_if0<'a>(
     ty: &'a FType,
     depth: u64,
 ) -> Result<Control, OutOfMemory>
-    ensures steps { IfOk result (λ r. (t : ℕ → Noted) → Goes t work.old (EIf (t test) (t zero) (t other) (tree ty.now)) depth work.new r) }
-    ensures inside { IfOk result (λ r. (m : ℕ) → test < m → zero < m → other < m → KeptIn m work.old → Inside m work.new r) }
+    ensures steps { IfOk result (λ r. (t : ℕ → Noted) →
+        Goes t work.old (EIf (t test) (t zero) (t other) (tree ty.now)) depth work.new r) }
+    ensures inside { IfOk result (λ r. (m : ℕ) → test < m → zero < m → other < m → KeptIn m work.old →
+        Inside m work.new r) }
 {
     match take_tail(&mut work.frames) {
         Some(level) => {
@@ -266,7 +273,8 @@ fn walk_fields<'a>(
     ty: &'a FType,
     depth: u64,
 ) -> Result<Control, OutOfMemory>
-    ensures steps { IfOk result (λ r. (t : ℕ → Noted) → FieldsGo t work.old rest.now (map atom done.items) (kty (tree ty.now)) depth work.new r) }
+    ensures steps { IfOk result (λ r. (t : ℕ → Noted) →
+        FieldsGo t work.old rest.now (map atom done.items) (kty (tree ty.now)) depth work.new r) }
     ensures inside { IfOk result (λ r. (m : ℕ) → All (λ i. i < m) rest.now → KeptIn m work.old → Inside m work.new r) }
 {
     match rest.split_first() {
@@ -287,7 +295,8 @@ fn walk_fields<'a>(
 
 // Several atoms.
 fn put_atoms(out: &mut Vec<KNode>, done: &[Atom]) -> Result<(), OutOfMemory>
-    ensures { OnOk result ((ns : Nodes) → map knode out.new.items ++ ns ≡ map knode out.old.items ++ atom_nodes (map atom done.now) ns) }
+    ensures { OnOk result ((ns : Nodes) →
+        map knode out.new.items ++ ns ≡ map knode out.old.items ++ atom_nodes (map atom done.now) ns) }
 {
     for a in done {
         put_atom(out, *a)?;
@@ -297,7 +306,9 @@ fn put_atoms(out: &mut Vec<KNode>, done: &[Atom]) -> Result<(), OutOfMemory>
 
 // A tuple is named.
 fn put_tuple(out: &mut Vec<KNode>, done: &[Atom], ty: KType, depth: u64) -> Result<(), OutOfMemory>
-    ensures { OnOk result ((ns : Nodes) → map knode out.new.items ++ ns ≡ map knode out.old.items ++ atom_nodes (map atom done.now) (NTuple (length (map atom done.now)) ∷ NName depth (ktree ty) ∷ ns)) }
+    ensures { OnOk result ((ns : Nodes) →
+        map knode out.new.items ++ ns ≡ map knode out.old.items ++ atom_nodes (map atom done.now)
+        (NTuple (length (map atom done.now)) ∷ NName depth (ktree ty) ∷ ns)) }
 {
     put_atoms(out, done)?;
     put(out, KNode::Tuple(done.len() as u64))?;
@@ -410,7 +421,8 @@ fn give_field<'a>(
     ty: &'a FType,
     depth: u64,
 ) -> Result<Control, OutOfMemory>
-    ensures steps { IfOk result (λ r. (t : ℕ → Noted) → FieldsGo t work.old rest.now (map atom done.items ++ atom given ∷ []) (kty (tree ty.now)) depth work.new r) }
+    ensures steps { IfOk result (λ r. (t : ℕ → Noted) →
+        FieldsGo t work.old rest.now (map atom done.items ++ atom given ∷ []) (kty (tree ty.now)) depth work.new r) }
     ensures inside { IfOk result (λ r. (m : ℕ) → All (λ i. i < m) rest.now → KeptIn m work.old → Inside m work.new r) }
 {
     done.push(given)?;
@@ -420,7 +432,8 @@ fn give_field<'a>(
 
 // A code has ended and is named.
 fn put_name(out: &mut Vec<KNode>, depth: u64, ty: KType) -> Result<(), OutOfMemory>
-    ensures { OnOk result ((ns : Nodes) → map knode out.new.items ++ ns ≡ map knode out.old.items ++ NEnd ∷ NName depth (ktree ty) ∷ ns) }
+    ensures { OnOk result ((ns : Nodes) →
+        map knode out.new.items ++ ns ≡ map knode out.old.items ++ NEnd ∷ NName depth (ktree ty) ∷ ns) }
 {
     put(out, KNode::End)?;
     put(out, KNode::Name { level: depth, ty })?;

@@ -103,7 +103,8 @@ pub(crate) enum Control {
     Ended,
 }
 
-/// The nodes so far, the frames, what comes where a term ends, the levels of the source's names, and the number of type variables in scope.
+/// The nodes so far, the frames, what comes where a term ends, the levels of the source's names, and the number of
+/// type variables in scope.
 #[derive(Drop)]
 pub(crate) struct Work<'a> {
     pub(crate) out: Vec<KNode>,

@@ -14,6 +14,7 @@ pub mod Scope
 pub mod Decode
 pub mod Back
 pub mod Props
+pub mod Nodes
 pub mod Whole
 pub mod Counts
 pub mod Laws

@@ -119,7 +119,8 @@ abbrev pub kopen : KEnter → ℕ → KWord → KWords → KWords → Result
 kopen enter m (WInt n) vs st = stops Stuck
 kopen enter m (WTuple ws) vs st = stops Stuck
 kopen enter m (WCode b owes args body env) vs st =
-    if_fits (nat_eq m owes && nat_eq (size vs) (kcount args)) (enter b body (onto vs (MoreWords (WCode b owes args body env) env)) st)
+    if_fits (nat_eq m owes && nat_eq (size vs) (kcount args))
+    (enter b body (onto vs (MoreWords (WCode b owes args body env) env)) st)
 kopen enter m (WCell p) vs st = stops Stuck
 
 abbrev pub with_value : Made → (KWord → KWords → Result) → Result

@@ -2,8 +2,8 @@
 use crate::types::KType;
 use idx_core::Op;
 
-/// A node of a term: operands stand before what takes them. `level` counts the names in scope, and what binds binds that
-/// level; `ty` is the type of what it names; `depth` is how many type variables are in scope.
+/// A node of a term: operands stand before what takes them. `level` counts the names in scope, and what binds binds
+/// that level; `ty` is the type of what it names; `depth` is how many type variables are in scope.
 #[derive(Drop)]
 pub enum KNode {
     /// A variable, by its level: 0 is the outermost name.

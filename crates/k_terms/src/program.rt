@@ -1,10 +1,9 @@
 // Programs.
-ghost use Rattle.std.specs.Prelude.{◌≡◌, [], map};
+ghost use Rattle.std.specs.Prelude.{map};
 ghost use Rattle.k_terms.specs.Bound.{KBound};
 ghost use Rattle.k_terms.specs.Decode.{decode};
-ghost use Rattle.k_terms.specs.Props.{nodes_set};
+ghost use Rattle.k_terms.specs.Nodes.{KWhole, whole_is_one};
 ghost use Rattle.k_terms.specs.Read.{knode};
-ghost use Rattle.k_terms.specs.Stream.{klin_t};
 
 use crate::node::KNode;
 
@@ -12,7 +11,7 @@ use crate::node::KNode;
 #[derive(Drop)]
 pub struct KProgram {
     pub(crate) nodes: Vec<KNode>,
-    pub ghost whole: { klin_t 0 0 [] (decode (map knode nodes.items)) [] ≡ map knode nodes.items } by { nodes_set (klin_t 0 0 [] (decode (map knode nodes.items)) []) (map knode nodes.items) },
+    pub ghost whole: { KWhole nodes.items } by { whole_is_one nodes.items },
     pub ghost fits: { ∥ KBound (decode (map knode nodes.items)) ∥₁ },
 }
 
@@ -20,6 +19,7 @@ impl KProgram {
     ghost use Rattle.std.specs.Prelude.{◌≡◌, [], map};
     ghost use Rattle.k_terms.specs.Bound.{KBound};
     ghost use Rattle.k_terms.specs.Decode.{decode};
+    ghost use Rattle.k_terms.specs.Nodes.{KWhole};
     ghost use Rattle.k_terms.specs.Read.{knode};
     ghost use Rattle.k_terms.specs.Size.{codes_t};
     ghost use Rattle.k_terms.specs.Stream.{klin_t};
@@ -27,7 +27,7 @@ impl KProgram {
 
     /// The program of the nodes of a typed term that keeps the bound.
     pub fn new(nodes: Vec<KNode>) -> KProgram
-        requires whole { klin_t 0 0 [] (decode (map knode nodes.items)) [] ≡ map knode nodes.items }
+        requires whole { KWhole nodes.items }
         requires fits { ∥ KBound (decode (map knode nodes.items)) ∥₁ }
         ensures { term_of result ≡ decode (map knode nodes.items) }
     {

@@ -18,7 +18,8 @@ pub fn reserve(
     owes: u64,
     file_regs: Vec<(u64, TType)>,
 ) -> Result<(), OutOfMemory>
-    ensures { OnOk result (blocks_of out.new.items ≡ blocks_of out.old.items ++ reserved owes (file file_regs.items) ∷ []) }
+    ensures { OnOk result (blocks_of out.new.items ≡ blocks_of out.old.items ++ reserved owes (file file_regs.items)
+        ∷ []) }
 {
     out.push(Block {
         name: NOWHERE,

@@ -27,7 +27,8 @@ fn emit_arguments(
 ) -> Result<(), OutOfMemory>
     requires some { 1 ≤ length values.now }
     requires room { above + length values.now < 2 ^ 64 }
-    ensures { OnOk result (Grows code.old.items code.new.items (intos depth (suc above) (others (a_values values.now)))) }
+    ensures { OnOk result (Grows code.old.items code.new.items
+        (intos depth (suc above) (others (a_values values.now)))) }
 {
     for i in 1..values.len() {
         emit_value(alloc, code, depth, above + i as u64, &values[i])?;
@@ -66,7 +67,8 @@ pub fn emit_call(
     requires some { IsSome (a_values values.now) }
     requires above { above ≡ the_above depth (others (a_values values.now)) }
     requires room { above + length values.now + 1 < 2 ^ 64 }
-    ensures { OnOk result (Grows code.old.items code.new.items (call_code depth (top no_value (a_values values.now)) (others (a_values values.now)))) }
+    ensures { OnOk result (Grows code.old.items code.new.items
+        (call_code depth (top no_value (a_values values.now)) (others (a_values values.now)))) }
 {
     emit_value(alloc, code, depth, above, first(values))?;
     emit_arguments(alloc, code, depth, above, values)?;

@@ -26,7 +26,8 @@ pub fn emit_declaration(
     requires room { depth + 2 < 2 ^ 64 }
     requires form { is_decl form.now ≡ true }
     requires arity { AArity form.now (a_values values.now) }
-    ensures { OnOk result (Grows code.old.items code.new.items (decl_code depth (a_decl form.now (a_values values.now)))) }
+    ensures { OnOk result (Grows code.old.items code.new.items
+        (decl_code depth (a_decl form.now (a_values values.now)))) }
 {
     let rd = depth + 1;
     match form {

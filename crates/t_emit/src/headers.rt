@@ -56,8 +56,10 @@ pub fn emit_if0(
     names: u64,
     v: &AValue,
 ) -> Result<(), OutOfMemory>
-    ensures code { OnOk result (Grows code.old.items code.new.items (test_code names (length vars.now) (a_value v.now) (length out.old.items))) }
-    ensures out { OnOk result (blocks_of out.new.items ≡ blocks_of out.old.items ++ reserved names (file (scope names vars.now)) ∷ []) }
+    ensures code { OnOk result (Grows code.old.items code.new.items
+        (test_code names (length vars.now) (a_value v.now) (length out.old.items))) }
+    ensures out { OnOk result (blocks_of out.new.items ≡ blocks_of out.old.items ++ reserved names
+        (file (scope names vars.now)) ∷ []) }
 {
     let depth = vars.len() as u64;
     let block = out.len() as u64;

@@ -115,7 +115,8 @@ pub fn emit_one(
     last: Instr,
 ) -> Result<(), OutOfMemory>
     requires room { depth + 1 < 2 ^ 64 }
-    ensures { OnOk result (Grows code.old.items code.new.items (λ rest. into depth (suc depth) (a_value v.now) (Then (instr_tree last) rest))) }
+    ensures { OnOk result (Grows code.old.items code.new.items
+        (λ rest. into depth (suc depth) (a_value v.now) (Then (instr_tree last) rest))) }
 {
     emit_value(alloc, code, depth, depth + 1, v)?;
     put(code, last)?;

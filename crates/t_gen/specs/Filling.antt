@@ -18,12 +18,16 @@ pub record Job : Type 0 where
 abbrev pub finish : AProg → ℕ → List TBlock → List Job → List TBlock
 finish p at out [] = out
 finish p at out (j ∷ js) =
-    finish p (at + thirds j.term) (fill j.block (code j.names (length j.vars) at j.term) out ++ extras p j.names (length j.vars) j.vars at j.term) js
+    finish p (at + thirds j.term)
+    (fill j.block (code j.names (length j.vars) at j.term) out ++ extras p j.names
+    (length j.vars) j.vars at j.term) js
 
 -- the same, where the first term's code stands behind pre
 abbrev pub finish_from : AProg → ℕ → List TBlock → (TSeq → TSeq) → Job → List Job → List TBlock
 finish_from p at out pre j js =
-    finish p (at + thirds j.term) (fill j.block (pre (code j.names (length j.vars) at j.term)) out ++ extras p j.names (length j.vars) j.vars at j.term) js
+    finish p (at + thirds j.term)
+    (fill j.block (pre (code j.names (length j.vars) at j.term)) out ++ extras p j.names
+    (length j.vars) j.vars at j.term) js
 
 -- the reserved blocks of the program's blocks
 abbrev pub reserves : List ABlk → List TBlock

@@ -37,7 +37,8 @@ jobs_at es (p ∷ ps) ts = job es p (top no_term ts) ∷ jobs_at es ps (others t
 -- the blocks in the end, where the code of the first place stands behind pre
 abbrev pub pend : a.AProg → List Entry → List TBlock → (TSeq → TSeq) → List Place → List a.ATm → List TBlock
 pend prog es out pre [] ts = out
-pend prog es out pre (p ∷ ps) ts = finish_from prog (length out) out pre (job es p (top no_term ts)) (jobs_at es ps (others ts))
+pend prog es out pre (p ∷ ps) ts =
+    finish_from prog (length out) out pre (job es p (top no_term ts)) (jobs_at es ps (others ts))
 
 -- each place has a block, and no more variables than the one before
 abbrev pub Fit : ℕ → List Entry → ℕ → List Place → Type 0
@@ -49,7 +50,9 @@ abbrev pub Ready : List Block → List Entry → Place → List Place → Type 0
 Ready o es p ps = Fit (length (blocks_of o)) es (length es) (p ∷ tops ps)
 
 -- what one node does, which makes a term of `kids` terms
-pub record Stepped (prog : a.AProg) (p : Place) (build : List a.ATm → List a.ATm) (kids : ℕ) (es fs : List Entry) (ps qs : List Place) (o n : List Block) (c d : List (Instr × Span)) : Type 0 where
-  pub walked : (ts : List a.ATm) → pend prog fs (blocks_of n) (onto d) (tops qs) ts ≡ pend prog es (blocks_of o) (onto c) (p ∷ tops ps) (build ts)
+pub record Stepped (prog : a.AProg) (p : Place) (build : List a.ATm → List a.ATm) (kids : ℕ) (es fs : List Entry)
+    (ps qs : List Place) (o n : List Block) (c d : List (Instr × Span)) : Type 0 where
+  pub walked : (ts : List a.ATm) →
+      pend prog fs (blocks_of n) (onto d) (tops qs) ts ≡ pend prog es (blocks_of o) (onto c) (p ∷ tops ps) (build ts)
   pub fit : Fit (length (blocks_of n)) fs (length fs) (tops qs)
   pub count : length qs ≡ lift kids (length ps)

@@ -31,7 +31,8 @@ pub fn emit_body(
     requires one { ARow nodes.now 1 }
     requires under { Under names vars.items }
     requires block { block < length out.old.items }
-    ensures { OnOk result (blocks_of out.new.items ≡ finish (program_in program.now) (length (blocks_of out.old.items)) (blocks_of out.old.items)
+    ensures { OnOk result (blocks_of out.new.items ≡ finish (program_in program.now)
+        (length (blocks_of out.old.items)) (blocks_of out.old.items)
         (body_job block names (scope names vars.items) nodes.now ∷ [])) }
 {
     let mut vars = vars;

@@ -40,7 +40,8 @@ fn emit_block(
 ) -> Result<(), OutOfMemory>
     requires one { ARow block.now.body.items 1 }
     requires at { at < length out.old.items }
-    ensures { OnOk result (blocks_of out.new.items ≡ finish (program_in program.now) (length (blocks_of out.old.items)) (blocks_of out.old.items)
+    ensures { OnOk result (blocks_of out.new.items ≡ finish (program_in program.now)
+        (length (blocks_of out.old.items)) (blocks_of out.old.items)
         (jobs at (a_blocks (block.now ∷ [])))) }
 {
     let vars = arguments(alloc, block.owes, &block.args)?;

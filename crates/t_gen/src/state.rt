@@ -30,7 +30,8 @@ pub fn close_block(
     end: End,
 )
     requires { at < length out.old.items }
-    ensures filled { blocks_of out.new.items ≡ fill at (onto code.old.items (Ends (end_of end))) (blocks_of out.old.items) }
+    ensures filled { blocks_of out.new.items ≡ fill at (onto code.old.items (Ends (end_of end)))
+        (blocks_of out.old.items) }
     ensures empty { code.new.items ≡ [] }
 {
     let whole = mem::replace(code, Vec::new(alloc));

@@ -38,7 +38,8 @@ fn step_let(
     requires vars { place.vars ≡ length vars.old.items }
     requires fit { (b : ℕ) × Fit b vars.old.items (length vars.old.items) (place ∷ tops places.old.items) }
     ensures { OnOk result ((o : List TheBlock) → Ready o vars.old.items place places.old.items
-        → Stepped (program_in program.now) place (a_let (a_decl form.now (a_values values.now))) 1 vars.old.items vars.new.items
+        → Stepped (program_in program.now) place
+        (a_let (a_decl form.now (a_values values.now))) 1 vars.old.items vars.new.items
         places.old.items places.new.items o o code.old.items code.new.items) }
 {
     let depth = vars.len() as u64;
@@ -67,7 +68,8 @@ fn step_call(
     requires vars { place.vars ≡ length vars.now }
     requires block { place.block < length out.old.items }
     ensures { OnOk result ((prog : AProg) (ps : List ThePlace) → Ready out.old.items vars.now place ps
-        → Stepped prog place (λ ts. Call (top no_value (a_values values.now)) (atrees types.now) (others (a_values values.now)) ∷ ts)
+        → Stepped prog place
+        (λ ts. Call (top no_value (a_values values.now)) (atrees types.now) (others (a_values values.now)) ∷ ts)
         0 vars.now vars.now ps ps out.old.items out.new.items code.old.items code.new.items) }
 {
     let depth = vars.len() as u64;
@@ -113,7 +115,9 @@ fn step_if(
     requires arity { IsOne (a_values values.now) }
     requires vars { place.vars ≡ length vars.now }
     ensures { OnOk result ((prog : AProg) → Ready out.old.items vars.now place places.old.items
-        → Stepped prog place (λ ts. If0 (top no_value (a_values values.now)) (top no_term ts) (top no_term (others ts)) ∷ others (others ts)) 2
+        → Stepped prog place
+        (λ ts. If0 (top no_value (a_values values.now)) (top no_term ts) (top no_term (others ts))
+        ∷ others (others ts)) 2
         vars.now vars.now places.old.items places.new.items out.old.items out.new.items code.old.items code.new.items) }
 {
     let block = out.len();
@@ -142,8 +146,10 @@ pub fn step(
     requires arity { AArity node.now.form (a_values node.now.values.items) }
     requires vars { place.vars ≡ length vars.old.items }
     requires fit { Ready out.old.items vars.old.items place places.old.items }
-    ensures { OnOk result (Stepped (program_in program.now) place (a_build node.now.form (a_values node.now.values.items)) (a_kids node.now.form)
-        vars.old.items vars.new.items places.old.items places.new.items out.old.items out.new.items code.old.items code.new.items) }
+    ensures { OnOk result (Stepped (program_in program.now) place
+        (a_build node.now.form (a_values node.now.values.items)) (a_kids node.now.form)
+        vars.old.items vars.new.items places.old.items places.new.items out.old.items out.new.items code.old.items
+        code.new.items) }
 {
     let values = node.values.as_slice();
     if declares(&node.form) {

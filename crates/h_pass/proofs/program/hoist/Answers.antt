@@ -4,6 +4,7 @@ use Rattle.c_terms.specs.Meaning.{crun}
 use Rattle.c_terms.specs.Reach.{CWithin}
 use Rattle.c_terms.specs.Read.{written}
 use Rattle.c_terms.specs.Term.{term_of}
+use Rattle.h_terms.specs.Bound.{HFits}
 use Rattle.h_terms.specs.Each.{HProgramP}
 use Rattle.h_terms.specs.Meaning.{hrun}
 use Rattle.h_pass.proofs.Finishing.{bound_of, fine_of, goes_on, hoisted_whole}
@@ -77,3 +78,10 @@ returns-clause-reach c =
     let ok = c.bound_is_small_law.ensures t c.nodes-nodes.ensures.bound in
     let all = hoisted_whole t c.nodes-nodes.result.now c.loop-node.node-index c.loop-node.walk c.finish_call.new.self (c.scoped_is_back_law.ensures.nodes t ok.0 ok.1) c.nodes-nodes.ensures.read (omega (arith, c.loop-node-test.false)) c.loop-node.invariant c.in_ok-finish_call.ensures.none c.in_ok-finish_call.ensures.goes in
     λ N R B h. subst₂ (HProgramP (CWithin N R B)) (sym (c.made.ensures.blocks ∙ all.blocks)) (sym (c.made.ensures.main ∙ all.main)) (c.hoist_types_law.ensures.reach N R B t h)
+
+pub returns-clause-bound : goal.returns-clause-bound
+returns-clause-bound c =
+    let t = term_of c.args.program.now in
+    let ok = c.bound_is_small_law.ensures t c.nodes-nodes.ensures.bound in
+    let all = hoisted_whole t c.nodes-nodes.result.now c.loop-node.node-index c.loop-node.walk c.finish_call.new.self (c.scoped_is_back_law.ensures.nodes t ok.0 ok.1) c.nodes-nodes.ensures.read (omega (arith, c.loop-node-test.false)) c.loop-node.invariant c.in_ok-finish_call.ensures.none c.in_ok-finish_call.ensures.goes in
+    λ N R h. subst₂ (HFits N R) (sym (c.made.ensures.blocks ∙ all.blocks)) (sym (c.made.ensures.main ∙ all.main)) (c.hoist_types_law.ensures.fits N R t h)

@@ -1,5 +1,6 @@
 -- What the parts of the checker answer.
-use Rattle.std.specs.Prelude.{◌≡◌, ◌≢◌, ℕ, List, length, Bool, IsTrue, ◌↔◌, Option, Some, None, Result, Ok, Err}
+use Rattle.std.specs.Prelude.{◌≡◌, ◌≢◌, ℕ, ◌-◌, List, length, Bool, IsTrue, ◌↔◌, Option, Some, None, Result, Ok, Err, IfOk}
+use Rattle.idx_core.specs.declared.memory.OutOfMemory.{OutOfMemory}
 use Rattle.idx_core.specs.declared.span.Span.{Span}
 use Rattle.text_core.specs.Refusals.{nothing, refuse, check}
 use Rattle.t_types.specs.Tree.{Ty, IntTy, CodeTy, ExistsTy, TupleTy, TFile, TFields, put}
@@ -17,18 +18,25 @@ use Rattle.t_terms.specs.declared.fault.TCode.{TCode}
 use Rattle.t_terms.specs.declared.fault.TCode.TheVariants.{T13, T15}
 use Rattle.t_terms.specs.declared.fault.TFault.{TFault}
 use Rattle.t_terms.specs.declared.fault.TFault.TheVariants.{Memory, Refused}
+use Rattle.t_rules.specs.Registers.{inst_file}
 use Rattle.t_rules.specs.Rules.{BaseHas, Has, Enters, Typed, EndTyped, BlockAccepted, BlocksAccepted, DatumAccepted, DataAccepted, HeapAccepted, Accepted}
 use Rattle.t_rules.specs.Faults.{Fault, if_exists, register, integer, tuple, field_at, BaseFault, ValueFault, EnterFault, InstrFault, EndFault, BlockFault, BlocksFault, DatumFault, DataFault, HeapFault, ProgramFault}
-use Rattle.t_check.specs.Bounds.{Bounded}
+use Rattle.t_check.specs.Bounds.{Bounded, OwedFile}
 use Rattle.t_check.specs.Checked.{checked_program}
-use Rattle.t_check.specs.Known.{known, IsSound}
+use Rattle.t_check.specs.Known.{seen, known, IsSound}
 use Rattle.t_check.specs.declared.checked.Checked.{Checked}
+use Rattle.t_check.specs.declared.registers.Entry.{Entry}
 use Rattle.t_check.specs.declared.registers.Registers.{Registers}
+use Rattle.t_check.specs.declared.checker.Checker.{Checker}
 
 -- the fault is want of memory, or the one that is described
 abbrev pub Says : TFault → Fault → Type 0
 Says Memory fault = Unit {0}
 Says (Refused code span) fault = fault code span
+
+-- the program that is checked
+abbrev pub program_in : Checker → TProg
+program_in c = program c.program.now
 
 -- the parts of a program are well formed in it
 abbrev pub FormedBase : TProgram → TBase → Type 0
@@ -71,6 +79,10 @@ abbrev pub IsTypeOf : TProg → Registers → Span → TValue → Result TType T
 IsTypeOf P k s v (Ok t) = Has P k.names (known k) v (tree t) × Bounded k.names (tree t)
 IsTypeOf P k s v (Err f) = Says f (ValueFault P k.names (known k) s v)
 
+-- where the types are put in order for the first ones that are owed, the file is that, and is bounded
+abbrev pub IsInstantiated : ℕ → List Ty → ℕ → TFile → Result RegFile OutOfMemory → Type 0
+IsInstantiated n ts owes f r = IfOk r (λ made. (file made.regs.items ≡ inst_file ts owes f) × OwedFile n (owes - length ts) (file made.regs.items))
+
 -- the type of a package of this shape around a value of the type t, or its fault
 abbrev pub IsPacked : Ty → Ty → Ty → Span → Result TType TFault → Type 0
 IsPacked hidden t shape s (Ok r) = (body : Ty) × (shape ≡ ExistsTy body) × Fits t (put 0 hidden body) × (tree r ≡ shape)
@@ -92,6 +104,14 @@ IsStored g rd i rs s (Ok u) =
     (fs : TFields) × (t : Ty) × (flag : Bool) × (w : Ty) × (g rd ≡ Some (TupleTy fs)) × (field fs i ≡ Some (AField t flag)) × (g rs ≡ Some w) × Fits w t
 IsStored g rd i rs s (Err f) =
     Says f (register g rd s (λ t. tuple t s (λ fs. field_at fs i s (λ u flag. register g rs s (λ w. check (Fits w u) (refuse T13 s) nothing)))))
+
+-- the answer, if there is one, tells whether what is known of the registers fits the file
+abbrev pub TellsFile : Registers → TFile → Result Bool OutOfMemory → Type 0
+TellsFile k f r = IfOk r (λ b. IsTrue b ↔ FitsFile (known k) f)
+
+-- and whether the type of an entry fits the type t, where n type names are in scope
+abbrev pub TellsEntry : ℕ → Entry → Ty → Result Bool OutOfMemory → Type 0
+TellsEntry n e t r = IfOk r (λ b. IsTrue b ↔ Fits (seen n e) t)
 
 -- the value may be entered, or the first fault of it
 abbrev pub IsEntered : TProg → Registers → Span → TValue → Result (Unit {0}) TFault → Type 0

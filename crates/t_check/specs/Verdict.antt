@@ -34,10 +34,6 @@ abbrev pub Says : TFault → Fault → Type 0
 Says Memory fault = Unit {0}
 Says (Refused code span) fault = fault code span
 
--- the program that is checked
-abbrev pub program_in : Checker → TProg
-program_in c = program c.program.now
-
 -- the parts of a program are well formed in it
 abbrev pub FormedBase : TProgram → TBase → Type 0
 FormedBase p = WellFormedBase (length p.blocks.items) (length p.heap.items)
@@ -81,12 +77,14 @@ IsTypeOf P k s v (Err f) = Says f (ValueFault P k.names (known k) s v)
 
 -- where the types are put in order for the first ones that are owed, the file is that, and is bounded
 abbrev pub IsInstantiated : ℕ → List Ty → ℕ → TFile → Result RegFile OutOfMemory → Type 0
-IsInstantiated n ts owes f r = IfOk r (λ made. (file made.regs.items ≡ inst_file ts owes f) × OwedFile n (owes - length ts) (file made.regs.items))
+IsInstantiated n ts owes f r =
+    IfOk r (λ made. (file made.regs.items ≡ inst_file ts owes f) × OwedFile n (owes - length ts) (file made.regs.items))
 
 -- the type of a package of this shape around a value of the type t, or its fault
 abbrev pub IsPacked : Ty → Ty → Ty → Span → Result TType TFault → Type 0
 IsPacked hidden t shape s (Ok r) = (body : Ty) × (shape ≡ ExistsTy body) × Fits t (put 0 hidden body) × (tree r ≡ shape)
-IsPacked hidden t shape s (Err f) = Says f (if_exists shape (refuse T15 s) (λ body. check (Fits t (put 0 hidden body)) (refuse T15 s) nothing))
+IsPacked hidden t shape s (Err f) =
+    Says f (if_exists shape (refuse T15 s) (λ body. check (Fits t (put 0 hidden body)) (refuse T15 s) nothing))
 
 -- the register is an integer, or the fault of it
 abbrev pub IsInteger : RegTypes → ℕ → Span → Result (Unit {0}) TFault → Type 0
@@ -95,15 +93,19 @@ IsInteger g r s (Err f) = Says f (register g r s (λ t. integer t s nothing))
 
 -- the type and the flag of a field of the tuple in a register, or the first fault
 abbrev pub IsFieldOf : Registers → ℕ → ℕ → Span → Result (TType × Bool) TFault → Type 0
-IsFieldOf k r i s (Ok x) = (fs : TFields) × (known k r ≡ Some (TupleTy fs)) × (field fs i ≡ Some (AField (tree x.0) x.1)) × Bounded k.names (tree x.0)
+IsFieldOf k r i s (Ok x) =
+    (fs : TFields) × (known k r ≡ Some (TupleTy fs)) × (field fs i ≡ Some (AField (tree x.0) x.1))
+    × Bounded k.names (tree x.0)
 IsFieldOf k r i s (Err f) = Says f (register (known k) r s (λ t. tuple t s (λ fs. field_at fs i s (λ u flag. nothing))))
 
 -- a register fits a field of the tuple in another one, or the first fault
 abbrev pub IsStored : RegTypes → ℕ → ℕ → ℕ → Span → Result (Unit {0}) TFault → Type 0
 IsStored g rd i rs s (Ok u) =
-    (fs : TFields) × (t : Ty) × (flag : Bool) × (w : Ty) × (g rd ≡ Some (TupleTy fs)) × (field fs i ≡ Some (AField t flag)) × (g rs ≡ Some w) × Fits w t
+    (fs : TFields) × (t : Ty) × (flag : Bool) × (w : Ty) × (g rd ≡ Some (TupleTy fs))
+    × (field fs i ≡ Some (AField t flag)) × (g rs ≡ Some w) × Fits w t
 IsStored g rd i rs s (Err f) =
-    Says f (register g rd s (λ t. tuple t s (λ fs. field_at fs i s (λ u flag. register g rs s (λ w. check (Fits w u) (refuse T13 s) nothing)))))
+    Says f (register g rd s (λ t. tuple t s (λ fs. field_at fs i s (λ u flag. register g rs s (λ w. check (Fits w u)
+    (refuse T13 s) nothing)))))
 
 -- the answer, if there is one, tells whether what is known of the registers fits the file
 abbrev pub TellsFile : Registers → TFile → Result Bool OutOfMemory → Type 0
@@ -127,6 +129,30 @@ IsStep P k h s i (Err f) = Says f (InstrFault P k.names (known k) s i)
 abbrev pub IsEnd : TProg → Registers → Span → TEnd → Result (Unit {0}) TFault → Type 0
 IsEnd P k s e (Ok u) = EndTyped P k.names (known k) e
 IsEnd P k s e (Err f) = Says f (EndFault P k.names (known k) s e)
+
+-- The same of a checker at its place: it knows the program and the registers.
+
+abbrev pub program_in : Checker → TProg
+program_in c = program c.program.now
+
+abbrev pub FormedAt : Checker → TValue → Type 0
+FormedAt c v = FormedValue c.program.now c.registers.names v
+
+abbrev pub BaseTypedAt : Checker → Span → TBase → Result TType TFault → Type 0
+BaseTypedAt c s b r = IsTypeOfBase (program_in c) c.registers s b r
+
+abbrev pub TypedAt : Checker → Span → TValue → Result TType TFault → Type 0
+TypedAt c s v r = IsTypeOf (program_in c) c.registers s v r
+
+abbrev pub EnteredAt : Checker → Span → TValue → Result (Unit {0}) TFault → Type 0
+EnteredAt c s v r = IsEntered (program_in c) c.registers s v r
+
+abbrev pub EndedAt : Checker → Span → TEnd → Result (Unit {0}) TFault → Type 0
+EndedAt c s e r = IsEnd (program_in c) c.registers s e r
+
+-- the instruction leads the checker c to d
+abbrev pub StepsTo : Checker → Checker → Span → TInstr → Result (Unit {0}) TFault → Type 0
+StepsTo c d s i r = IsStep (program_in c) c.registers d.registers s i r
 
 -- the block is accepted, or its first fault
 abbrev pub IsBlock : TProg → SBlock → Result (Unit {0}) TFault → Type 0

@@ -30,7 +30,8 @@ pub(crate) struct Checker<'a> {
 pub fn check(alloc: Global, program: TProgram) -> Result<Checked, (TProgram, TFault)>
     ensures right { IsVerdict program result }
     ensures accepted { Accepted (program_of program) → AcceptsOrWants result }
-    ensures refused { (code : codes.TCode) (span : places.Span) → ProgramFault (spanned_program program) code span → RefusesOrWants code span result }
+    ensures refused { (code : codes.TCode) (span : places.Span) → ProgramFault (spanned_program program) code span →
+        RefusesOrWants code span result }
 {
     no_fault_where_accepted();
     at_most_one_fault();

@@ -2,7 +2,7 @@
 ghost use Rattle.t_terms.specs.Read.{value};
 ghost use Rattle.t_types.specs.Read.{tree, file};
 ghost use Rattle.t_check.specs.Known.{IsSound, IsEntry};
-ghost use Rattle.t_check.specs.Verdict.{program_in, FormedValue, IsEntered, TellsFile, TellsEntry};
+ghost use Rattle.t_check.specs.Verdict.{FormedAt, EnteredAt, TellsFile, TellsEntry};
 
 use crate::checker::Checker;
 use crate::parts::{code_parts, refused};
@@ -15,8 +15,8 @@ impl Checker<'_> {
     // Whether the value may be entered.
     pub(crate) fn check_target(&self, v: &Value, span: Span) -> Result<(), TFault>
         requires sound { IsSound self.now.registers }
-        requires value { FormedValue self.now.program.now self.now.registers.names (value v.now) }
-        ensures { IsEntered (program_in self.now) self.now.registers span (value v.now) result }
+        requires value { FormedAt self.now (value v.now) }
+        ensures { EnteredAt self.now span (value v.now) result }
     {
         let found = self.type_of_value(v, span)?;
         let (owes, regs) = match code_parts(found) {

@@ -8,7 +8,7 @@ ghost use Rattle.t_types.specs.Read.{fields, types as type_trees};
 ghost use Rattle.t_terms.specs.Tree.{Arith, Bnz, Ld, Malloc, Mov, St, Unpack, names_after};
 ghost use Rattle.t_terms.specs.Read.{value, instr, end_of};
 ghost use Rattle.t_check.specs.Known.{known, IsSound};
-ghost use Rattle.t_check.specs.Verdict.{program_in, FormedValue, FormedInstr, FormedEnd, IsInteger, IsFieldOf, IsStored, IsStep, IsEnd};
+ghost use Rattle.t_check.specs.Verdict.{FormedAt, FormedInstr, FormedEnd, EndedAt, StepsTo, IsInteger, IsFieldOf, IsStored};
 
 use crate::checker::Checker;
 use crate::parts::{exists_body, is_int, refused};
@@ -22,7 +22,7 @@ impl Checker<'_> {
         requires sound { IsSound self.old.registers }
         requires instr { FormedInstr self.old.program.now self.old.registers.names (instr i.now) }
         requires few { names_after (instr i.now) self.old.registers.names ≤ max_names }
-        ensures step { IsStep (program_in self.old) self.old.registers self.new.registers span (instr i.now) result }
+        ensures step { StepsTo self.old self.new span (instr i.now) result }
         ensures program { self.new.program ≡ self.old.program }
     {
         match i {
@@ -39,8 +39,8 @@ impl Checker<'_> {
     fn check_arith(&mut self, rd: u64, rs: u64, v: &Value, span: Span) -> Result<(), TFault>
         requires sound { IsSound self.old.registers }
         requires rd { IsRegister rd }
-        requires value { FormedValue self.old.program.now self.old.registers.names (value v.now) }
-        ensures step { (op : operations.Op) → IsStep (program_in self.old) self.old.registers self.new.registers span (Arith op rd rs (value v.now)) result }
+        requires value { FormedAt self.old (value v.now) }
+        ensures step { (op : operations.Op) → StepsTo self.old self.new span (Arith op rd rs (value v.now)) result }
         ensures program { self.new.program ≡ self.old.program }
     {
         self.check_int(rs, span)?;
@@ -71,8 +71,8 @@ impl Checker<'_> {
 
     fn check_bnz(&self, r: u64, v: &Value, span: Span) -> Result<(), TFault>
         requires sound { IsSound self.now.registers }
-        requires value { FormedValue self.now.program.now self.now.registers.names (value v.now) }
-        ensures { IsStep (program_in self.now) self.now.registers self.now.registers span (Bnz r (value v.now)) result }
+        requires value { FormedAt self.now (value v.now) }
+        ensures { StepsTo self.now self.now span (Bnz r (value v.now)) result }
     {
         self.check_int(r, span)?;
         self.check_target(v, span)
@@ -81,7 +81,7 @@ impl Checker<'_> {
     fn check_ld(&mut self, rd: u64, rs: u64, field: u64, span: Span) -> Result<(), TFault>
         requires sound { IsSound self.old.registers }
         requires rd { IsRegister rd }
-        ensures step { IsStep (program_in self.old) self.old.registers self.new.registers span (Ld rd rs field) result }
+        ensures step { StepsTo self.old self.new span (Ld rd rs field) result }
         ensures program { self.new.program ≡ self.old.program }
     {
         let (loaded, flag) = self.field_of(rs, field, span)?;
@@ -118,7 +118,7 @@ impl Checker<'_> {
         requires sound { IsSound self.old.registers }
         requires rd { IsRegister rd }
         requires types { WellFormedTypes self.old.registers.names (type_trees types.now) }
-        ensures step { (s : places.Span) → IsStep (program_in self.old) self.old.registers self.new.registers s (Malloc rd (type_trees types.now)) result }
+        ensures step { (s : places.Span) → StepsTo self.old self.new s (Malloc rd (type_trees types.now)) result }
         ensures program { self.new.program ≡ self.old.program }
     {
         let fields = empty(self.alloc, types)?;
@@ -129,8 +129,8 @@ impl Checker<'_> {
     fn check_mov(&mut self, rd: u64, v: &Value, span: Span) -> Result<(), TFault>
         requires sound { IsSound self.old.registers }
         requires rd { IsRegister rd }
-        requires value { FormedValue self.old.program.now self.old.registers.names (value v.now) }
-        ensures step { IsStep (program_in self.old) self.old.registers self.new.registers span (Mov rd (value v.now)) result }
+        requires value { FormedAt self.old (value v.now) }
+        ensures step { StepsTo self.old self.new span (Mov rd (value v.now)) result }
         ensures program { self.new.program ≡ self.old.program }
     {
         let found = self.type_of_value(v, span)?;
@@ -140,7 +140,7 @@ impl Checker<'_> {
 
     fn check_st(&mut self, rd: u64, field: u64, rs: u64, span: Span) -> Result<(), TFault>
         requires { IsSound self.old.registers }
-        ensures step { IsStep (program_in self.old) self.old.registers self.new.registers span (St rd field rs) result }
+        ensures step { StepsTo self.old self.new span (St rd field rs) result }
         ensures program { self.new.program ≡ self.old.program }
     {
         self.check_stored(rd, field, rs, span)?;
@@ -167,9 +167,9 @@ impl Checker<'_> {
     fn check_unpack(&mut self, rd: u64, v: &Value, span: Span) -> Result<(), TFault>
         requires sound { IsSound self.old.registers }
         requires rd { IsRegister rd }
-        requires value { FormedValue self.old.program.now self.old.registers.names (value v.now) }
+        requires value { FormedAt self.old (value v.now) }
         requires few { self.old.registers.names + 1 ≤ max_names }
-        ensures step { IsStep (program_in self.old) self.old.registers self.new.registers span (Unpack rd (value v.now)) result }
+        ensures step { StepsTo self.old self.new span (Unpack rd (value v.now)) result }
         ensures program { self.new.program ≡ self.old.program }
     {
         let found = self.type_of_value(v, span)?;
@@ -185,7 +185,7 @@ impl Checker<'_> {
     pub(crate) fn check_end(&self, end: &End, span: Span) -> Result<(), TFault>
         requires sound { IsSound self.now.registers }
         requires end { FormedEnd self.now.program.now self.now.registers.names (end_of end.now) }
-        ensures { IsEnd (program_in self.now) self.now.registers span (end_of end.now) result }
+        ensures { EndedAt self.now span (end_of end.now) result }
     {
         match end {
             End::Jmp(v) => self.check_target(v, span),

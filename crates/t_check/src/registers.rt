@@ -141,7 +141,8 @@ impl Registers {
     pub(crate) fn fill(&mut self, r: u64, field: u64)
         requires sound { IsSound self.old }
         requires there { HasField (known self.old) r field }
-        ensures known { (fs : TFields) → known self.old r ≡ Some (TupleTy fs) → known self.new ≡ with_reg (known self.old) r (TupleTy (filled fs field)) }
+        ensures known { (fs : TFields) → known self.old r ≡ Some (TupleTy fs) →
+            known self.new ≡ with_reg (known self.old) r (TupleTy (filled fs field)) }
         ensures sound { IsSound self.new }
         ensures names { self.new.names ≡ self.old.names }
     {

@@ -9,7 +9,7 @@ ghost use Rattle.t_terms.specs.Spanned.{plain_fields};
 ghost use Rattle.t_rules.specs.Rules.{data_type as data_tree};
 ghost use Rattle.t_check.specs.Known.{IsSound};
 ghost use Rattle.t_check.specs.Bounds.{OwedFile};
-ghost use Rattle.t_check.specs.Verdict.{program_in, FormedBase, FormedValue, IsTypeOfBase, IsTypeOf, IsInstantiated, IsPacked};
+ghost use Rattle.t_check.specs.Verdict.{FormedAt, FormedBase, BaseTypedAt, TypedAt, IsInstantiated, IsPacked};
 
 use crate::checker::Checker;
 use crate::parts::{code_parts, refused};
@@ -22,8 +22,8 @@ impl Checker<'_> {
     // The type of a value.
     pub(crate) fn type_of_value(&self, v: &Value, span: Span) -> Result<TType, TFault>
         requires sound { IsSound self.now.registers }
-        requires value { FormedValue self.now.program.now self.now.registers.names (value v.now) }
-        ensures { IsTypeOf (program_in self.now) self.now.registers span (value v.now) result }
+        requires value { FormedAt self.now (value v.now) }
+        ensures { TypedAt self.now span (value v.now) result }
     {
         match v {
             Value::Plain { base, types } => self.type_of_plain(*base, types, span),
@@ -43,7 +43,7 @@ impl Checker<'_> {
         requires sound { IsSound self.now.registers }
         requires base { FormedBase self.now.program.now (base_tree base) }
         requires types { WellFormedTypes self.now.registers.names (type_trees types.now) }
-        ensures { IsTypeOf (program_in self.now) self.now.registers span (Plain (base_tree base) (type_trees types.now)) result }
+        ensures { TypedAt self.now span (Plain (base_tree base) (type_trees types.now)) result }
     {
         let found = self.type_of_base(base, span)?;
         if types.is_empty() {
@@ -67,7 +67,7 @@ impl Checker<'_> {
     fn type_of_base(&self, base: Base, span: Span) -> Result<TType, TFault>
         requires sound { IsSound self.now.registers }
         requires base { FormedBase self.now.program.now (base_tree base) }
-        ensures { IsTypeOfBase (program_in self.now) self.now.registers span (base_tree base) result }
+        ensures { BaseTypedAt self.now span (base_tree base) result }
     {
         match base {
             Base::Reg(r) => match self.registers.find(r) {
@@ -90,12 +90,7 @@ impl Checker<'_> {
     }
 
     // The registers' types of code that owes `owes` types, where the types in order are put for the first ones.
-    fn instantiate(
-        &self,
-        owes: u64,
-        regs: RegFile,
-        types: &[TType],
-    ) -> Result<RegFile, OutOfMemory>
+    fn instantiate(&self, owes: u64, regs: RegFile, types: &[TType]) -> Result<RegFile, OutOfMemory>
         requires few { self.now.registers.names ≤ max_names }
         requires owes { owes ≤ max_names }
         requires enough { length types.now ≤ owes }

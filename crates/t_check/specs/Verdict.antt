@@ -6,7 +6,7 @@ use Rattle.text_core.specs.Refusals.{nothing, refuse, check}
 use Rattle.t_types.specs.Tree.{Ty, IntTy, CodeTy, ExistsTy, TupleTy, TFile, TFields, put}
 use Rattle.t_types.specs.Fields.{AField, field}
 use Rattle.t_types.specs.Fits.{Fits, FitsFile, RegTypes}
-use Rattle.t_types.specs.Read.{tree, file, fields}
+use Rattle.t_types.specs.Read.{tree, file}
 use Rattle.t_types.specs.declared.types.TType.{TType}
 use Rattle.t_types.specs.declared.types.RegFile.{RegFile}
 use Rattle.t_terms.specs.Tree.{TBase, TValue, TInstr, TEnd, TBlock, TProg, names_after}

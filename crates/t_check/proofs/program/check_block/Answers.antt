@@ -6,15 +6,14 @@ use Rattle.t_types.specs.Read.{file}
 use Rattle.t_types.proofs.Scope.{regs_below}
 use Rattle.t_types.specs.declared.types.TType.{TType}
 use Rattle.t_terms.specs.Spanned.{seq_of}
-use Rattle.t_terms.specs.Tree.{names_after}
 use Rattle.t_terms.specs.Read.{body, instr, end_of, spanned}
 use Rattle.t_terms.specs.ReadProgram.{program}
 use Rattle.t_terms.specs.Whole.{WellFormedSeq}
 use Rattle.t_terms.specs.declared.instr.Instr.{Instr}
 use Rattle.t_terms.specs.declared.program.TProgram.{TProgram}
 use Rattle.t_rules.specs.Faults.{InstrFault, BlockFault}
-use Rattle.t_check.specs.Known.{known, IsSound}
-use Rattle.t_check.specs.Verdict.{Says, FormedInstr, FormedEnd, IsStep, IsEnd}
+use Rattle.t_check.specs.Known.{known}
+use Rattle.t_check.specs.Verdict.{Says, FormedInstr, FormedEnd, IsEnd}
 use Rattle.t_rules.specs.Rules.{Typed}
 use Rattle.t_check.proofs.Typing.{says_map}
 use Rattle.t_check.proofs.Bodies.{IsLeft, left_all, left_fault, left_more, formed_more, formed_instr, formed_names, end_formed, block_end}

@@ -1,9 +1,6 @@
-use Rattle.std.proofs.Common.{List, ◌≡◌, ◌<◌, ◌∙◌, length, get_or, sym, subst, ap}
+use Rattle.std.proofs.Common.{List, ◌≡◌, ◌<◌, length, get_or, sym, subst}
 use Rattle.std.proofs.lemmas.Result.{err_from_is_err_and}
-use Rattle.idx_core.specs.declared.span.Span.{Span}
-use Rattle.t_types.specs.declared.types.TType.{TType}
 use Rattle.t_terms.specs.declared.data.Data.{Data}
-use Rattle.t_terms.specs.declared.value.Value.{Value}
 use Rattle.t_terms.specs.Read.{data_fields, spanned_data, spanned_heap}
 use Rattle.t_terms.specs.Spanned.{plain_fields}
 use Rattle.t_terms.specs.ReadProgram.{program}

@@ -1,4 +1,4 @@
-use Rattle.std.proofs.Common.{List, ◌≡◌, ◌<◌, ◌≤◌, length, arith, refl, sym, subst, Result, Ok, true≢false}
+use Rattle.std.proofs.Common.{List, ◌<◌, length, arith, refl, sym, subst, Result, true≢false}
 use Rattle.std.proofs.lemmas.Result.{err_from_is_err_and}
 use Rattle.t_terms.specs.declared.block.Block.{Block}
 use Rattle.t_terms.specs.declared.data.Data.{Data}

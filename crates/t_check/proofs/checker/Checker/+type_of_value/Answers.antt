@@ -1,4 +1,4 @@
-use Rattle.std.proofs.Common.{length, ap, sym, subst, ◌∙◌}
+use Rattle.std.proofs.Common.{ap, sym, subst, ◌∙◌}
 use Rattle.t_types.specs.Read.{tree}
 use Rattle.t_terms.specs.Tree.{Pack, TValue}
 use Rattle.t_terms.specs.Read.{value}

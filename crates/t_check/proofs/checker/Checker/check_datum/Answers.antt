@@ -1,7 +1,6 @@
-use Rattle.std.proofs.Common.{◌≡◌, ◌∙◌, sym, subst, refl, Result, true≢false}
+use Rattle.std.proofs.Common.{sym, subst, refl, Result, true≢false}
 use Rattle.std.proofs.lemmas.Result.{err_from_is_err_and}
 use Rattle.t_types.specs.Read.{tree}
-use Rattle.t_types.specs.Fits.{Fits}
 use Rattle.t_terms.specs.Read.{datum}
 use Rattle.t_terms.specs.ReadProgram.{program}
 use Rattle.t_terms.specs.declared.fault.TFault.{TFault}

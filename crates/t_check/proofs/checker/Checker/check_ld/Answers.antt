@@ -1,4 +1,4 @@
-use Rattle.std.proofs.Common.{◌≡◌, ◌∙◌, ap, Some, true, Bool}
+use Rattle.std.proofs.Common.{◌∙◌, ap, Some, Bool}
 use Rattle.t_types.specs.Fields.{AField}
 use Rattle.t_types.specs.Read.{tree}
 use Rattle.t_check.proofs.checker.Checker.check_ld.Goals as goal

@@ -1,7 +1,6 @@
-use Rattle.std.proofs.Common.{◌≡◌, ◌∙◌, ap, sym, subst}
-use Rattle.t_types.specs.Tree.{Ty, TupleTy}
-use Rattle.t_types.specs.Fields.{empty_fields}
-use Rattle.t_types.specs.Read.{tree, types}
+use Rattle.std.proofs.Common.{◌∙◌, ap, sym, subst}
+use Rattle.t_types.specs.Tree.{TupleTy}
+use Rattle.t_types.specs.Read.{types}
 use Rattle.t_types.proofs.Trees.{tree_Tuple}
 use Rattle.t_rules.specs.Registers.{with_reg}
 use Rattle.t_check.specs.Bounds.{Bounded}

@@ -1,4 +1,4 @@
-use Rattle.std.proofs.Common.{ℕ, List, ◌≡◌, ◌∙◌, sym, subst, Result, true≢false}
+use Rattle.std.proofs.Common.{ℕ, List, ◌∙◌, sym, subst, Result, true≢false}
 use Rattle.t_types.specs.Fits.{FitsFile}
 use Rattle.t_types.specs.declared.types.TType.{TType}
 use Rattle.t_types.specs.Read.{tree, file}

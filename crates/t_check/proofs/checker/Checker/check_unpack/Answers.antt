@@ -1,10 +1,9 @@
-use Rattle.std.proofs.Common.{◌≡◌, ◌≢◌, ◌∙◌, ◌+◌, sym, subst, ap, refl, Result, true, false, ℕ}
-use Rattle.t_types.specs.Read.{tree, file}
+use Rattle.std.proofs.Common.{◌∙◌, sym, subst, ap, Result, ℕ}
+use Rattle.t_types.specs.Read.{tree}
 use Rattle.t_terms.specs.Read.{value}
 use Rattle.t_terms.specs.ReadProgram.{program}
 use Rattle.t_terms.specs.declared.fault.TFault.{TFault}
 use Rattle.t_check.specs.Known.{known}
-use Rattle.t_types.specs.Tree.{Ty}
 use Rattle.t_types.specs.Fits.{RegTypes}
 use Rattle.t_terms.specs.Tree.{Unpack}
 use Rattle.t_rules.specs.Registers.{with_reg}

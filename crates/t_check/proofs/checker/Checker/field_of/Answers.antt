@@ -1,5 +1,4 @@
-use Rattle.std.proofs.Common.{◌≡◌, ◌<◌, ◌≤◌, ◌∙◌, ap, sym, subst, length, arith, Result, Some, Bool}
-use Rattle.t_types.specs.Tree.{Ty}
+use Rattle.std.proofs.Common.{◌<◌, ◌≤◌, ◌∙◌, ap, sym, subst, length, arith, Result, Some, Bool}
 use Rattle.t_types.specs.Read.{tree}
 use Rattle.t_types.proofs.Trees.{tree_Tuple}
 use Rattle.text_core.specs.Refusals.{nothing}

@@ -1,12 +1,11 @@
-use Rattle.std.proofs.Common.{◌≡◌, ℕ, ap₂, ◌+◌, ◌<◌, ◌≤◌, ◌-◌, List, ◌∷◌, drop, length, ap, sym, subst, arith, ◌∙◌, refl}
-use Rattle.std.proofs.lemmas.List.{drop_more, take_all, drop_all, length-map}
+use Rattle.std.proofs.Common.{◌≡◌, ℕ, ap₂, ◌+◌, ◌-◌, List, ◌∷◌, drop, length, ap, sym, subst, arith, ◌∙◌}
+use Rattle.std.proofs.lemmas.List.{drop_more, drop_all, length-map}
 use Rattle.idx_core.specs.Over.{PutFitsAt, IsWord}
 use Rattle.t_types.specs.Tree.{Ty, shift, put_file, each, each_file}
-use Rattle.t_types.specs.WellFormed.{WellFormed}
 use Rattle.t_types.specs.Read.{tree, file, types}
 use Rattle.t_types.specs.declared.types.TType.{TType}
 use Rattle.t_rules.specs.Registers.{inst_file}
-use Rattle.t_check.specs.Bounds.{Shallow, OwedFile}
+use Rattle.t_check.specs.Bounds.{OwedFile}
 use Rattle.t_check.proofs.Blocks.{type_at}
 use Rattle.t_check.proofs.Depth.{shallow, part_shift_fits, inst_put_fits, inst_put}
 use Rattle.t_check.proofs.checker.Checker.instantiate.Goals as goal

@@ -1,5 +1,4 @@
-use Rattle.std.proofs.Common.{◌≡◌, ◌<◌, ◌∙◌, ap, sym, subst, refl, Some, length}
-use Rattle.t_types.specs.Tree.{CodeTy}
+use Rattle.std.proofs.Common.{◌≡◌, ◌<◌, ◌∙◌, ap, sym, subst, Some, length}
 use Rattle.t_types.specs.Read.{tree, file}
 use Rattle.t_terms.specs.Read.{base, block, data_fields, spanned_data}
 use Rattle.t_terms.specs.ReadProgram.{program}

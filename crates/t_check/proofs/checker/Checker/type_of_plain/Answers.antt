@@ -1,4 +1,4 @@
-use Rattle.std.proofs.Common.{◌≡◌, ℕ, false, ◌==◌, ◌-◌, List, [], ◌∷◌, ◌<◌, ◌≤◌, ◌∙◌, ap, sym, subst, refl, length, arith, Result}
+use Rattle.std.proofs.Common.{◌≡◌, false, ◌==◌, ◌-◌, List, [], ◌∷◌, ◌<◌, sym, subst, length, arith, Result}
 use Rattle.std.proofs.lemmas.List.{length-map}
 use Rattle.t_types.specs.declared.types.TType.TheVariants as T
 use Rattle.t_types.proofs.Trees.{tree_Code}
@@ -10,7 +10,7 @@ use Rattle.t_terms.specs.ReadProgram.{program}
 use Rattle.t_terms.specs.declared.fault.TFault.{TFault}
 use Rattle.t_check.specs.Bounds.{OwedFile}
 use Rattle.t_check.specs.Verdict.{IsTypeOf}
-use Rattle.t_check.proofs.Typing.{plain_none, plain_base, plain_code, plain_count, plain_ok}
+use Rattle.t_check.proofs.Typing.{plain_code, plain_count, plain_ok}
 use Rattle.t_check.proofs.Blocks.{types_below}
 use Rattle.t_check.proofs.checker.Checker.type_of_plain.Goals as goal
 

@@ -1,5 +1,5 @@
 -- The blocks and the data of a program, by place.
-use Rattle.std.proofs.Common.{◌≡◌, ℕ, zero, suc, ◌+◌, ◌<◌, List, [], ◌∷◌, length, Some, refl, sym, ap, get_or, arith, subst, slice_get}
+use Rattle.std.proofs.Common.{◌≡◌, ℕ, zero, suc, ◌<◌, List, [], ◌∷◌, length, Some, sym, ap, get_or, arith, subst, slice_get}
 use Rattle.t_types.specs.Read.{tree, types}
 use Rattle.t_types.specs.WellFormed.{WellFormed, WellFormedTypes}
 use Rattle.t_types.specs.Tree.{BelowTypes}

@@ -1,5 +1,5 @@
 -- A block instruction by instruction, and a program block by block: what is left to show, from what is left to check.
-use Rattle.std.proofs.Common.{◌≡◌, ℕ, zero, suc, ◌+◌, ◌<◌, ◌≤◌, List, [], ◌∷◌, length, drop, refl, sym, ap, ap₂, ◌∙◌, get_or, subst, arith, inl, inr, Result, Ok, Err}
+use Rattle.std.proofs.Common.{◌≡◌, ℕ, zero, suc, ◌+◌, ◌<◌, ◌≤◌, List, [], ◌∷◌, length, drop, refl, sym, ap, ◌∙◌, get_or, subst, arith, inl, inr, Result, Ok, Err}
 use Rattle.std.proofs.lemmas.List.{drop_more, drop_all}
 use Rattle.idx_core.specs.declared.span.Span.{Span}
 use Rattle.t_types.specs.Fits.{RegTypes, lookup}
@@ -7,7 +7,7 @@ use Rattle.t_types.specs.WellFormed.{max_names}
 use Rattle.t_types.specs.Tree.{NoRegs, BelowFile}
 use Rattle.t_types.specs.declared.types.TType.{TType}
 use Rattle.t_types.specs.Read.{file}
-use Rattle.t_terms.specs.Tree.{TInstr, TEnd, TProg, names_after}
+use Rattle.t_terms.specs.Tree.{TEnd, TProg, names_after}
 use Rattle.t_terms.specs.Spanned.{seq_of, plain_datum, plain_fields}
 use Rattle.t_terms.specs.Read.{instr, end_of, body, block, spanned, spanned_blocks, blocks_of, datum, data_fields, spanned_data, spanned_heap, data_of}
 use Rattle.t_terms.specs.ReadProgram.{program, spanned_program}

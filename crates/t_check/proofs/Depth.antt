@@ -1,10 +1,10 @@
 -- Types that are well formed are bounded, and bounded types stay so: shifted, put, and taken apart. So each sum is a u64.
-use Rattle.std.proofs.Common.{◌≡◌, ℕ, zero, suc, ◌+◌, ◌*◌, ◌-◌, ◌<◌, ◌≤◌, ◌^◌, ◌⊎◌, inl, inr, Bool, List, [], ◌∷◌, length, Some, refl, sym, ap, ◌∙◌, arith, subst}
+use Rattle.std.proofs.Common.{◌≡◌, ℕ, zero, suc, ◌+◌, ◌*◌, ◌-◌, ◌<◌, ◌≤◌, ◌⊎◌, inl, inr, Bool, List, [], ◌∷◌, Some, refl, sym, ap, ◌∙◌, arith, subst}
 use Rattle.std.proofs.lemmas.Bool.{cases_lt, cases_order}
-use Rattle.idx_core.specs.Over.{deep, At, shifted, putted, IsWord, ShiftFitsAt, PutFitsAt}
+use Rattle.idx_core.specs.Over.{deep, shifted, putted, IsWord, ShiftFitsAt, PutFitsAt}
 use Rattle.idx_core.specs.Laws.{deep_is, shifted_lt, shifted_ge, putted_lt, putted_eq, putted_gt, shift_add_law}
-use Rattle.t_types.specs.Tree.{Ty, IntTy, VarTy, CodeTy, ExistsTy, TupleTy, TFile, NoRegs, MoreRegs, TFields, NoFields, MoreFields, over, over_file, each, each_file, each_fields, each_types, shift, shift_file, put, put_file, ShiftFits, PutFits}
-use Rattle.t_types.specs.TreeLaws.{types_part, types_each, types_over, file_each, file_over, fields_each, fields_over}
+use Rattle.t_types.specs.Tree.{Ty, IntTy, VarTy, CodeTy, ExistsTy, TupleTy, TFile, NoRegs, MoreRegs, TFields, NoFields, MoreFields, over, each, each_file, each_fields, each_types, shift, put_file, ShiftFits, PutFits}
+use Rattle.t_types.specs.TreeLaws.{types_part, types_each, types_over, file_each, file_over}
 use Rattle.t_types.specs.WellFormed.{max_names, WellFormed, WellFormedFile, WellFormedFields, WellFormedTypes, RegsAbove}
 use Rattle.t_types.specs.Fields.{AField, field, filled, empty_fields}
 use Rattle.t_terms.specs.Tree.{TData}

@@ -1,9 +1,9 @@
 -- A field of a register's tuple becomes initialised.
-use Rattle.std.proofs.Common.{◌≡◌, ℕ, ◌-◌, ◌≤◌, List, Some, refl, sym, ap, ◌∙◌, set, get_or, subst, All}
-use Rattle.std.proofs.lemmas.List.Elements.{All-set, All-get_or}
+use Rattle.std.proofs.Common.{◌≡◌, ℕ, ◌-◌, ◌≤◌, List, Some, sym, ap, ◌∙◌, set, get_or, subst, All}
+use Rattle.std.proofs.lemmas.List.Elements.{All-set}
 use Rattle.t_types.proofs.Trees.{item_has}
-use Rattle.t_types.specs.Tree.{Ty, TFields, TupleTy, shift}
-use Rattle.t_types.specs.Fields.{AField, field, filled}
+use Rattle.t_types.specs.Tree.{TFields, TupleTy, shift}
+use Rattle.t_types.specs.Fields.{filled}
 use Rattle.t_types.specs.Read.{tree}
 use Rattle.t_rules.specs.Registers.{with_reg}
 use Rattle.t_check.specs.declared.registers.Entry.{Entry}

@@ -3,7 +3,7 @@ use Rattle.std.proofs.Common.{◌≡◌, ℕ, zero, suc, ◌+◌, ◌-◌, ◌<�
 use Rattle.idx_core.specs.declared.span.Span.{Span}
 use Rattle.idx_core.specs.Over.{At, shifted}
 use Rattle.t_types.specs.Tree.{Ty, VarTy, TupleTy, TFields, NoFields, MoreFields, over_fields, shift, ShiftFits}
-use Rattle.t_types.specs.Fields.{TField, AField, field}
+use Rattle.t_types.specs.Fields.{AField, field}
 use Rattle.t_types.specs.Fits.{RegTypes}
 use Rattle.t_types.proofs.FitsLaws.{field_over}
 use Rattle.t_types.specs.WellFormed.{max_names}
@@ -11,7 +11,7 @@ use Rattle.t_types.specs.Read.{tree, fields}
 use Rattle.t_types.specs.declared.types.TType.{TType}
 use Rattle.t_terms.specs.declared.fault.TCode.{TCode}
 use Rattle.t_terms.specs.declared.fault.TCode.TheVariants.{T11}
-use Rattle.t_rules.specs.Faults.{Fault, if_tuple, if_field, register, tuple, field_at}
+use Rattle.t_rules.specs.Faults.{Fault, register, tuple, field_at}
 use Rattle.t_check.specs.Bounds.{Bounded}
 use Rattle.t_check.specs.Known.{seen, IsEntry}
 use Rattle.t_check.specs.declared.registers.Entry.{Entry}

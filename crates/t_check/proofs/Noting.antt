@@ -1,5 +1,5 @@
 -- What is known of the registers, by the list of entries: looking up, noting, and one more type name.
-use Rattle.std.proofs.Common.{◌≡◌, ◌≢◌, ℕ, zero, suc, ◌+◌, ◌-◌, ◌<◌, ◌≤◌, List, [], ◌∷◌, ◌++◌, length, map, Bool, true, false, Some, None, refl, sym, ap, ap₂, ◌∙◌, get_or, set, take, drop, arith, subst, cond, nat_eq, Option, All}
+use Rattle.std.proofs.Common.{◌≡◌, ◌≢◌, ℕ, zero, suc, ◌+◌, ◌-◌, ◌<◌, ◌≤◌, List, [], ◌∷◌, length, map, Bool, true, false, Some, None, refl, sym, ap, ap₂, ◌∙◌, get_or, set, take, drop, arith, subst, cond, nat_eq, Option, All}
 use Rattle.std.specs.Prelude.{option_map}
 use Rattle.std.specs.List.{insert}
 use Rattle.std.specs.List.Sorted.{IsNonDecreasingBy, IsPartitionPoint}
@@ -8,11 +8,11 @@ use Rattle.std.proofs.Math.Dec.{ltb}
 use Rattle.std.proofs.lemmas.Bool.{ltb-true, ltb-false}
 use Rattle.std.proofs.lemmas.Bool.Decides.{nat_tests}
 use Rattle.std.proofs.lemmas.List.{get_or_default}
-use Rattle.std.proofs.lemmas.List.Elements.{All-nil, All-cons, All-head, All-tail, All-weaker, All-set, All-append, All-take, All-drop}
+use Rattle.std.proofs.lemmas.List.Elements.{All-nil, All-cons, All-head, All-tail, All-append, All-take, All-drop}
 use Rattle.idx_core.specs.Laws.{shift_zero_law, shift_add_law}
 use Rattle.t_types.specs.Tree.{Ty, shift, regs}
 use Rattle.t_types.specs.TreeLaws.{types_part, types_over}
-use Rattle.t_types.specs.Fits.{RegTypes, lookup}
+use Rattle.t_types.specs.Fits.{lookup}
 use Rattle.t_types.specs.WellFormed.{RegsAbove}
 use Rattle.t_types.specs.Read.{tree, reg, file}
 use Rattle.t_types.specs.declared.types.TType.{TType}

@@ -1,5 +1,5 @@
 -- Fields of tuple types: by place in a list, filled, and through a shift.
-use Rattle.std.proofs.Common.{◌≡◌, ℕ, zero, suc, ◌+◌, ◌<◌, ◌≤◌, List, [], ◌∷◌, length, Bool, true, Some, None, refl, sym, ap, ◌∙◌, get_or, set, arith, zero-le}
+use Rattle.std.proofs.Common.{◌≡◌, ℕ, zero, suc, ◌<◌, ◌≤◌, List, [], ◌∷◌, length, Bool, true, Some, None, refl, sym, ap, ◌∙◌, get_or, set, arith, zero-le}
 use Rattle.idx_core.specs.Over.{shifted}
 use Rattle.idx_core.specs.Laws.{shifted_ge}
 use Rattle.t_types.specs.Tree.{Ty, IntTy, VarTy, CodeTy, ExistsTy, TupleTy, TFields, NoFields, MoreFields, over_fields, shift}

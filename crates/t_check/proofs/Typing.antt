@@ -1,26 +1,26 @@
 -- What the checker answers on a value, from what it answers on its parts.
-use Rattle.std.proofs.Common.{◌≡◌, ◌≢◌, ℕ, zero, suc, ◌+◌, ◌-◌, ◌<◌, ◌≤◌, List, [], ◌∷◌, length, Some, None, Result, Ok, Err, inl, inr, refl, sym, ap, ap₂, ◌∙◌, arith, subst, slice_get}
+use Rattle.std.proofs.Common.{◌≡◌, ◌≢◌, ℕ, ◌+◌, ◌-◌, ◌<◌, ◌≤◌, List, [], ◌∷◌, length, Some, Result, Ok, Err, inl, inr, refl, sym, ap, ap₂, ◌∙◌, arith, subst}
 use Rattle.std.proofs.Math.Path.{fun_ext}
 use Rattle.idx_core.specs.declared.arith.Op.{Op}
 use Rattle.idx_core.specs.declared.span.Span.{Span}
 use Rattle.text_core.specs.Refusals.{refuse}
 use Rattle.t_types.proofs.Scope.{well_formed_below}
-use Rattle.t_types.specs.Tree.{Ty, IntTy, VarTy, CodeTy, ExistsTy, TupleTy, TFile, put, BelowTypes}
-use Rattle.t_types.specs.Fits.{Fits, FitsFile, RegTypes}
-use Rattle.t_types.specs.WellFormed.{WellFormed, WellFormedFile, max_names}
+use Rattle.t_types.specs.Tree.{Ty, IntTy, VarTy, CodeTy, ExistsTy, TupleTy, TFile, BelowTypes}
+use Rattle.t_types.specs.Fits.{Fits, FitsFile}
+use Rattle.t_types.specs.WellFormed.{WellFormed}
 use Rattle.t_types.specs.Read.{tree}
 use Rattle.t_types.specs.declared.types.TType.{TType}
 use Rattle.t_terms.specs.Tree.{TBase, TValue, Plain, Pack, Arith, Unpack, TProg}
 use Rattle.t_terms.specs.Spanned.{SDatum, plain_datum}
 use Rattle.t_terms.specs.declared.fault.TCode.{TCode}
-use Rattle.t_terms.specs.declared.fault.TCode.TheVariants.{T09, T13, T14, T15, T16, T17, T18}
+use Rattle.t_terms.specs.declared.fault.TCode.TheVariants.{T09, T13, T14, T16, T17, T18}
 use Rattle.t_terms.specs.declared.fault.TFault.{TFault}
 use Rattle.t_terms.specs.declared.fault.TFault.TheVariants.{Memory, Refused}
 use Rattle.t_rules.specs.Registers.{no_types, inst_file}
 use Rattle.t_rules.specs.Rules.{BaseHas, Has, Enters, DatumAccepted}
 use Rattle.t_rules.specs.Faults.{Fault, if_code, if_exists, BaseFault, ValueFault, EnterFault, InstrFault, DatumFault}
 use Rattle.t_check.specs.Bounds.{Bounded, OwedFile}
-use Rattle.t_check.specs.Known.{known, known_in, seen, IsEntry, IsSound, IsEmpty}
+use Rattle.t_check.specs.Known.{known, known_in, seen, IsEntry, IsEmpty}
 use Rattle.t_check.specs.Verdict.{Says, IsTypeOf, IsPacked}
 use Rattle.t_check.specs.declared.registers.Entry.{Entry}
 use Rattle.t_check.specs.declared.registers.Registers.{Registers}

@@ -1,11 +1,13 @@
 -- What is known of the registers, as the checker keeps it.
-use Rattle.std.specs.Prelude.{◌≡◌, ℕ, ◌-◌, ◌<◌, ◌≤◌, nat_eq, cond, Bool, List, [], ◌∷◌, length, Some, None, slice_index_or}
+use Rattle.std.specs.Prelude.{◌≡◌, ℕ, ◌-◌, ◌<◌, ◌≤◌, nat_eq, cond, Bool, List, [], ◌∷◌, length, Option, Some, None, slice_index_or}
+use Rattle.std.specs.Borrow.{Bor}
 use Rattle.std.specs.List.{All}
-use Rattle.t_types.specs.Tree.{Ty, TFields, TupleTy, shift}
-use Rattle.t_types.specs.Fits.{RegTypes}
+use Rattle.t_types.specs.Tree.{Ty, TFile, TFields, TupleTy, shift}
+use Rattle.t_types.specs.Fits.{RegTypes, lookup}
 use Rattle.t_types.specs.Fields.{AField, field}
 use Rattle.t_types.specs.Read.{tree}
 use Rattle.t_types.specs.WellFormed.{max_names}
+use Rattle.t_rules.specs.Registers.{with_reg}
 use Rattle.t_check.specs.Bounds.{Bounded}
 use Rattle.t_check.specs.declared.registers.Entry.{Entry}
 use Rattle.t_check.specs.declared.registers.Registers.{Registers}
@@ -46,6 +48,19 @@ pub record IsGap (es : List Entry) (r : ℕ) (at : ℕ) : Type 0 where
   pub within : at ≤ length es
   pub before : (k : ℕ) (d : Entry) → k < at → (slice_index_or es k d).reg < r
   pub after : (k : ℕ) (d : Entry) → at ≤ k → k < length es → r < (slice_index_or es k d).reg
+
+-- what is known of the register r, by its entry
+abbrev pub IsFound : Registers → ℕ → Option (Bor Entry) → Type 0
+IsFound k r None = known k r ≡ None
+IsFound k r (Some e) = (known k r ≡ Some (seen k.names e.now)) × IsEntry k.names e.now
+
+-- the registers of the file of a block that owes n types
+abbrev pub IsOfBlock : ℕ → TFile → Registers → Type 0
+IsOfBlock n f k = (known k ≡ lookup f) × IsSound k × (k.names ≡ n)
+
+-- h is k where the register r has the type t from now on
+abbrev pub IsNoted : Registers → Registers → ℕ → Ty → Type 0
+IsNoted k h r t = (known h ≡ with_reg (known k) r t) × IsSound h × (h.names ≡ k.names)
 
 -- the type is that of a tuple with the field
 abbrev pub IsTupleWith : Ty → ℕ → Type 0

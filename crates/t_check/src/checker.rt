@@ -1,6 +1,8 @@
-// The checker.
-ghost use Rattle.std.specs.Prelude.{◌≡◌};
+// The checker: of a whole program, and at a place of it.
+ghost use Rattle.std.specs.Prelude.{◌≡◌, IfOk};
 ghost use Rattle.idx_core.specs.declared.span.Span as places;
+ghost use Rattle.t_types.specs.WellFormed.{max_names, WellFormedFile};
+ghost use Rattle.t_types.specs.Read.{file};
 ghost use Rattle.t_terms.specs.ReadProgram.{program as program_of, spanned_program};
 ghost use Rattle.t_terms.specs.declared.fault.TCode as codes;
 ghost use Rattle.t_rules.specs.Rules.{Accepted};
@@ -10,16 +12,26 @@ ghost use Rattle.t_check.specs.Verdict.{IsVerdict, AcceptsOrWants, RefusesOrWant
 
 use crate::checked::Checked;
 use crate::program::check_program;
+use crate::registers::Registers;
 use std::alloc::Global;
 use t_rules::{at_most_one_fault, no_fault_where_accepted};
 use t_terms::{TFault, TProgram};
+
+/// A program at a place of it: what is known there of the registers.
+#[derive(Drop)]
+pub(crate) struct Checker<'a> {
+    pub(crate) alloc: Global,
+    pub(crate) program: &'a TProgram,
+    pub(crate) registers: Registers,
+}
 
 /// The program, where the typing rules accept it; else its first fault in checking order, T20 and then T08 to T19, with
 /// the program handed back.
 pub fn check(alloc: Global, program: TProgram) -> Result<Checked, (TProgram, TFault)>
     ensures right { IsVerdict program result }
     ensures accepted { Accepted (program_of program) → AcceptsOrWants result }
-    ensures refused { (code : codes.TCode) (span : places.Span) → ProgramFault (spanned_program program) code span → RefusesOrWants code span result }
+    ensures refused { (code : codes.TCode) (span : places.Span) → ProgramFault (spanned_program program) code span →
+        RefusesOrWants code span result }
 {
     no_fault_where_accepted();
     at_most_one_fault();

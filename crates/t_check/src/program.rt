@@ -4,12 +4,11 @@ ghost use Rattle.t_types.specs.Tree.{NoRegs};
 ghost use Rattle.t_terms.specs.Read.{block as block_tree, datum, data_fields, spanned, spanned_blocks, spanned_heap};
 ghost use Rattle.t_terms.specs.ReadProgram.{program as program_of, spanned_program};
 ghost use Rattle.t_check.specs.Known.{IsSound, IsEmpty};
-ghost use Rattle.t_check.specs.Verdict.{FormedBlock, FormedDatum, FormedData, IsBlock, AreBlocks, IsDatum, IsData, IsHeap, IsProgram};
+ghost use Rattle.t_check.specs.Verdict.{program_in, FormedBlock, FormedDatum, FormedData, IsBlock, AreBlocks, IsDatum, IsData, IsHeap, IsProgram};
 
-use crate::instructions::{check_end, check_instr};
+use crate::checker::Checker;
 use crate::parts::refused;
 use crate::registers::Registers;
-use crate::values::type_of_value;
 use idx_core::Span;
 use std::alloc::Global;
 use t_terms::{Block, Data, TCode, TFault, TProgram, Value};
@@ -23,10 +22,8 @@ pub(crate) fn check_program(alloc: Global, program: &TProgram) -> Result<(), TFa
     if !takes_nothing(first) {
         return refused(TCode::T20, first.name);
     }
-    match check_heap(alloc, program, &program.heap) {
-        Ok(()) => check_blocks(alloc, program, &program.blocks),
-        Err(e) => Err(e),
-    }
+    check_heap(alloc, program, &program.heap)?;
+    check_blocks(alloc, program, &program.blocks)
 }
 
 fn takes_nothing(block: &Block) -> bool
@@ -35,61 +32,20 @@ fn takes_nothing(block: &Block) -> bool
     block.owes == 0 && block.regs.regs.is_empty()
 }
 
-// The data in order.
+// The data in order, each tuple under no type names and no registers.
 fn check_heap(alloc: Global, program: &TProgram, heap: &[Data]) -> Result<(), TFault>
     requires { heap.now ≡ program.now.heap.items }
     ensures { IsHeap (program_of program.now) (spanned_heap heap.now) result }
 {
+    let checker = Checker {
+        alloc,
+        program,
+        registers: Registers::none(alloc),
+    };
     for tuple in heap {
-        match check_data(alloc, program, &tuple.fields) {
-            Ok(()) => (),
-            Err(e) => return Err(e),
-        }
+        checker.check_data(&tuple.fields)?;
     }
     Ok(())
-}
-
-// The words of a data tuple in order, each under no type names and no registers.
-fn check_data(
-    alloc: Global,
-    program: &TProgram,
-    fields: &[(Value, TType, Span)],
-) -> Result<(), TFault>
-    requires { FormedData program.now (data_fields fields.now) }
-    ensures { IsData (program_of program.now) (data_fields fields.now) result }
-{
-    let registers = Registers::none(alloc);
-    for field in fields {
-        match check_datum(alloc, program, &registers, field) {
-            Ok(()) => (),
-            Err(e) => return Err(e),
-        }
-    }
-    Ok(())
-}
-
-// A word of data, where nothing is known of the registers.
-fn check_datum(
-    alloc: Global,
-    program: &TProgram,
-    registers: &Registers,
-    field: &(Value, TType, Span),
-) -> Result<(), TFault>
-    requires sound { IsSound registers.now }
-    requires empty { IsEmpty registers.now }
-    requires formed { FormedDatum program.now (datum field.now) }
-    ensures { IsDatum (program_of program.now) (datum field.now) result }
-{
-    match type_of_value(alloc, program, registers, &field.0, field.2) {
-        Ok(found) => {
-            if fits(&found, &field.1) {
-                Ok(())
-            } else {
-                refused(TCode::T13, field.2)
-            }
-        }
-        Err(e) => Err(e),
-    }
 }
 
 // The blocks in order.
@@ -98,10 +54,7 @@ fn check_blocks(alloc: Global, program: &TProgram, blocks: &[Block]) -> Result<(
     ensures { AreBlocks (program_of program.now) (spanned_blocks blocks.now) result }
 {
     for block in blocks {
-        match check_block(alloc, program, block) {
-            Ok(()) => (),
-            Err(e) => return Err(e),
-        }
+        check_block(alloc, program, block)?;
     }
     Ok(())
 }
@@ -111,15 +64,44 @@ fn check_block(alloc: Global, program: &TProgram, block: &Block) -> Result<(), T
     requires { FormedBlock program.now (block_tree block.now) }
     ensures { IsBlock (program_of program.now) (spanned block.now) result }
 {
-    let mut registers = match Registers::of_block(alloc, block.owes, &block.regs.regs) {
-        Ok(registers) => registers,
-        Err(_) => return Err(TFault::Memory),
+    let registers = Registers::of_block(alloc, block.owes, &block.regs.regs)?;
+    let mut checker = Checker {
+        alloc,
+        program,
+        registers,
     };
     for step in &block.body {
-        match check_instr(alloc, program, &mut registers, &step.0, step.1) {
-            Ok(()) => (),
-            Err(e) => return Err(e),
+        checker.check_instr(&step.0, step.1)?;
+    }
+    checker.check_end(&block.end, block.end_span)
+}
+
+impl Checker<'_> {
+    // The words of a data tuple in order, where nothing is known of the registers.
+    fn check_data(&self, fields: &[(Value, TType, Span)]) -> Result<(), TFault>
+        requires sound { IsSound self.now.registers }
+        requires empty { IsEmpty self.now.registers }
+        requires formed { FormedData self.now.program.now (data_fields fields.now) }
+        ensures { IsData (program_in self.now) (data_fields fields.now) result }
+    {
+        for field in fields {
+            self.check_datum(field)?;
+        }
+        Ok(())
+    }
+
+    // A word of data.
+    fn check_datum(&self, field: &(Value, TType, Span)) -> Result<(), TFault>
+        requires sound { IsSound self.now.registers }
+        requires empty { IsEmpty self.now.registers }
+        requires formed { FormedDatum self.now.program.now (datum field.now) }
+        ensures { IsDatum (program_in self.now) (datum field.now) result }
+    {
+        let found = self.type_of_value(&field.0, field.2)?;
+        if fits(&found, &field.1) {
+            Ok(())
+        } else {
+            refused(TCode::T13, field.2)
         }
     }
-    check_end(alloc, program, &registers, &block.end, block.end_span)
 }

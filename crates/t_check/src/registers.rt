@@ -1,13 +1,12 @@
 // What is known of the registers at a place in a block.
-ghost use Rattle.std.specs.Prelude.{◌≡◌, ◌+◌, ◌≤◌, IfOk, OnOk, MatchOption, MatchResult};
+ghost use Rattle.std.specs.Prelude.{◌≡◌, ◌+◌, ◌≤◌, IfOk, OnOk, Some, MatchResult};
 ghost use Rattle.t_types.specs.WellFormed.{max_names, WellFormedFile};
-ghost use Rattle.t_types.specs.Fits.{lookup};
 ghost use Rattle.t_types.specs.Tree.{TFields, TupleTy};
 ghost use Rattle.t_types.specs.Fields.{filled};
 ghost use Rattle.t_types.specs.Read.{tree, file};
 ghost use Rattle.t_rules.specs.Registers.{with_reg, raised};
 ghost use Rattle.t_check.specs.Bounds.{Bounded};
-ghost use Rattle.t_check.specs.Known.{seen, known, IsSound, IsEmpty, IsEntry, IsThere, IsGap, IsTupleWith, HasField};
+ghost use Rattle.t_check.specs.Known.{seen, known, IsSound, IsEmpty, IsEntry, IsThere, IsGap, IsFound, IsOfBlock, IsNoted, IsTupleWith, HasField};
 
 use idx_core::{OutOfMemory, Scoped};
 use std::alloc::Global;
@@ -50,7 +49,7 @@ impl Registers {
     ) -> Result<Registers, OutOfMemory>
         requires few { owes ≤ max_names }
         requires file { WellFormedFile owes (file regs.now) }
-        ensures { IfOk result (λ k. (known k ≡ lookup (file regs.now)) × IsSound k × (k.names ≡ owes)) }
+        ensures { IfOk result (λ k. IsOfBlock owes (file regs.now) k) }
     {
         let mut entries = Vec::new(alloc);
         for reg in regs {
@@ -86,7 +85,7 @@ impl Registers {
     // The entry of a register.
     pub(crate) fn find(&self, r: u64) -> Option<&Entry>
         requires { IsSound self.now }
-        ensures { MatchOption result (known self.now r ≡ None) (λ e. (known self.now r ≡ Some (seen self.now.names e.now)) × IsEntry self.now.names e.now) }
+        ensures { IsFound self.now r result }
     {
         match self.place(r) {
             Ok(at) => Some(&self.entries[at]),
@@ -108,7 +107,7 @@ impl Registers {
         requires sound { IsSound self.old }
         requires register { 1 ≤ r }
         requires bounded { Bounded self.old.names (tree ty) }
-        ensures { OnOk result ((known self.new ≡ with_reg (known self.old) r (tree ty)) × IsSound self.new × (self.new.names ≡ self.old.names)) }
+        ensures { OnOk result (IsNoted self.old self.new r (tree ty)) }
     {
         let entry = Entry {
             reg: r,
@@ -142,7 +141,8 @@ impl Registers {
     pub(crate) fn fill(&mut self, r: u64, field: u64)
         requires sound { IsSound self.old }
         requires there { HasField (known self.old) r field }
-        ensures known { (fs : TFields) → known self.old r ≡ Some (TupleTy fs) → known self.new ≡ with_reg (known self.old) r (TupleTy (filled fs field)) }
+        ensures known { (fs : TFields) → known self.old r ≡ Some (TupleTy fs) →
+            known self.new ≡ with_reg (known self.old) r (TupleTy (filled fs field)) }
         ensures sound { IsSound self.new }
         ensures names { self.new.names ≡ self.old.names }
     {

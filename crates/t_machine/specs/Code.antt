@@ -20,7 +20,8 @@ IsBase m (Data d) b = b ≡ tree.Data d
 -- it is the erased instruction
 abbrev pub IsInstr : PlaceList → Instruction → EInstr → Type 0
 IsInstr m (Arith op d s v) i =
-    (rd : ℕ) × (rs : ℕ) × (b : TBase) × (place_of m rd ≡ Some d) × (place_of m rs ≡ Some s) × IsBase m v b × (i ≡ EArith op rd rs b)
+    (rd : ℕ) × (rs : ℕ) × (b : TBase) × (place_of m rd ≡ Some d) × (place_of m rs ≡ Some s) × IsBase m v b
+    × (i ≡ EArith op rd rs b)
 IsInstr m (Bnz s v) i = (r : ℕ) × (b : TBase) × (place_of m r ≡ Some s) × IsBase m v b × (i ≡ EBnz r b)
 IsInstr m (Ld d s n) i = (rd : ℕ) × (rs : ℕ) × (place_of m rd ≡ Some d) × (place_of m rs ≡ Some s) × (i ≡ ELd rd rs n)
 IsInstr m (Malloc d n) i = (rd : ℕ) × (place_of m rd ≡ Some d) × (i ≡ EMalloc rd n)

@@ -8,7 +8,8 @@ use Rattle.t_machine.specs.declared.code.Instruction.{Instruction}
 
 -- Where code that holds `left` is put after `done`, all of it holds `all`, also where more registers have a place.
 abbrev pub IsLoaded : PlaceList → List Instruction → ESeq → ESeq → Type 0
-IsLoaded m done left all = (n : PlaceList) → Extends m n → (more : List Instruction) → Holds n more left → Holds n (done ++ more) all
+IsLoaded m done left all =
+    (n : PlaceList) → Extends m n → (more : List Instruction) → Holds n more left → Holds n (done ++ more) all
 
 -- The code `now` is the code `before` and what has been loaded of a block, of which `left` is still to be loaded and
 -- `all` is the whole.

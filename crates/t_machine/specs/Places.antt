@@ -14,7 +14,8 @@ place_of m r = lookup (is_at (nat_cmp r)) m
 -- each place is below the number of places, and no two registers have one place
 abbrev pub ArePlaces : PlaceList → Type 0
 ArePlaces m =
-    ((r k : ℕ) → place_of m r ≡ Some k → k < length m) × ((r q k : ℕ) → place_of m r ≡ Some k → place_of m q ≡ Some k → r ≡ q)
+    ((r k : ℕ) → place_of m r ≡ Some k → k < length m)
+    × ((r q k : ℕ) → place_of m r ≡ Some k → place_of m q ≡ Some k → r ≡ q)
 
 -- each register that has a place in m has it in n too
 abbrev pub Extends : PlaceList → PlaceList → Type 0

@@ -52,7 +52,8 @@ HaltedExactly =
 -- where P goes on after the n steps that a run is allowed, the run says so
 abbrev pub SpentExactly : Type 0
 SpentExactly =
-    (P : TProg) → Whole P → Accepted P → (m n : ℕ) (result : Ran) → RanFrom P m n result → GoesOnAfter P (m + n) → SpentOrWanted result
+    (P : TProg) → Whole P → Accepted P → (m n : ℕ) (result : Ran) → RanFrom P m n result → GoesOnAfter P (m + n) →
+    SpentOrWanted result
 
 -- what the first run of a loaded program tells, where it is allowed n steps
 abbrev pub FirstRun : TProg → ℕ → Ran → Type 0

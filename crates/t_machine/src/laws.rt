@@ -2,8 +2,8 @@
 ghost use Rattle.t_machine.specs.Runs.{HaltedExactly, SpentExactly, FirstRuns};
 
 /// The answer of a run is exact, want of memory aside: where the program is halted after at most as many steps as the
-/// run is allowed, the run says with which integer and after how many steps; where it goes on after all of them, the run
-/// says that they are spent.
+/// run is allowed, the run says with which integer and after how many steps; where it goes on after all of them, the
+/// run says that they are spent.
 pub fn runs_answer_exactly()
     ensures halted { HaltedExactly }
     ensures spent { SpentExactly }

@@ -54,7 +54,8 @@ fn load_heap(alloc: Global, tuples: &[Data]) -> Result<Heap, OutOfMemory>
 
 // Puts a data tuple after the tuples of the heap.
 fn load_tuple(heap: &mut Heap, fields: &[(Value, TType, Span)]) -> Result<(), OutOfMemory>
-    ensures { OnOk result ((h : EHeap) → IsHeap heap.old h → IsHeap heap.new (h ++ map erase_datum (plain_fields (data_fields fields.now)) ∷ [])) }
+    ensures { OnOk result ((h : EHeap) → IsHeap heap.old h →
+        IsHeap heap.new (h ++ map erase_datum (plain_fields (data_fields fields.now)) ∷ [])) }
 {
     heap.starts.push(heap.cells.len())?;
     for field in fields {
@@ -92,7 +93,8 @@ fn load_blocks(alloc: Global, blocks: &[Block]) -> Result<Code, OutOfMemory>
 
 // Puts a block after the blocks of the code.
 fn load_block(code: &mut Code, block: &Block) -> Result<(), OutOfMemory>
-    ensures { OnOk result ((cs : List ESeq) → IsCode code.old cs → IsCode code.new (cs ++ erase_block (block_tree block.now) ∷ [])) }
+    ensures { OnOk result ((cs : List ESeq) → IsCode code.old cs →
+        IsCode code.new (cs ++ erase_block (block_tree block.now) ∷ [])) }
 {
     code.entries.push(code.instructions.len())?;
     for step in &block.body {

@@ -104,7 +104,8 @@ fn two_blocks(
 
 fn mov(alloc: Global, rd: u64, base: Base) -> (Instr, Span)
     requires { IsRegister rd }
-    ensures { (p q : ℕ) → WellFormedBase p q (base_tree base) → WellFormedInstr p q 0 (instr_tree result.0) × (names_after (instr_tree result.0) 0 ≡ 0) }
+    ensures { (p q : ℕ) → WellFormedBase p q (base_tree base) → WellFormedInstr p q 0 (instr_tree result.0)
+        × (names_after (instr_tree result.0) 0 ≡ 0) }
 {
     let v = plain(alloc, base);
     (Instr::Mov { rd, v }, AT)
@@ -112,7 +113,8 @@ fn mov(alloc: Global, rd: u64, base: Base) -> (Instr, Span)
 
 fn arith(alloc: Global, op: Op, r: u64, base: Base) -> (Instr, Span)
     requires { IsRegister r }
-    ensures { (p q : ℕ) → WellFormedBase p q (base_tree base) → WellFormedInstr p q 0 (instr_tree result.0) × (names_after (instr_tree result.0) 0 ≡ 0) }
+    ensures { (p q : ℕ) → WellFormedBase p q (base_tree base) → WellFormedInstr p q 0 (instr_tree result.0)
+        × (names_after (instr_tree result.0) 0 ≡ 0) }
 {
     let v = plain(alloc, base);
     (
@@ -128,7 +130,8 @@ fn arith(alloc: Global, op: Op, r: u64, base: Base) -> (Instr, Span)
 
 fn bnz(alloc: Global, r: u64, label: u64) -> (Instr, Span)
     requires { IsRegister r }
-    ensures { (p q : ℕ) → label < p → WellFormedInstr p q 0 (instr_tree result.0) × (names_after (instr_tree result.0) 0 ≡ 0) }
+    ensures { (p q : ℕ) → label < p → WellFormedInstr p q 0 (instr_tree result.0)
+        × (names_after (instr_tree result.0) 0 ≡ 0) }
 {
     let v = plain(alloc, Base::Label(label));
     (Instr::Bnz { r, v }, AT)
@@ -136,7 +139,8 @@ fn bnz(alloc: Global, r: u64, label: u64) -> (Instr, Span)
 
 fn malloc(alloc: Global, rd: u64) -> Result<(Instr, Span), OutOfMemory>
     requires { IsRegister rd }
-    ensures { IfOk result (λ i. (p q : ℕ) → WellFormedInstr p q 0 (instr_tree i.0) × (names_after (instr_tree i.0) 0 ≡ 0)) }
+    ensures { IfOk result (λ i. (p q : ℕ) → WellFormedInstr p q 0 (instr_tree i.0)
+        × (names_after (instr_tree i.0) 0 ≡ 0)) }
 {
     let types = vec![in alloc; TType::Int]?;
     Ok((Instr::Malloc { rd, types }, AT))

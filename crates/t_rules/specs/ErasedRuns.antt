@@ -1,5 +1,5 @@
--- Runs of the erased machine, as a function: the state after so many steps, its place, and the blocks entered so far, the
--- last one first.
+-- Runs of the erased machine, as a function: the state after so many steps, its place, and the blocks entered so far,
+-- the last one first.
 use Rattle.std.specs.Prelude.{◌≡◌, ◌↔◌, ◌≤◌, ◌<◌, ◌+◌, ℕ, zero, suc, ℤ, List, [], ◌∷◌, Option, Some, None, option_map, option_and_then, slice_get}
 use Rattle.t_terms.specs.Tree.{TBlock, TProg}
 use Rattle.t_terms.specs.Whole.{Whole}
@@ -36,21 +36,25 @@ begun P b = EOn (EAt (erase_heap P) no_ewords (erase_block b)) (Spot 0 0) (0 ∷
 -- the erased machine halts with i after at most n steps
 abbrev pub EHaltsWithin : List ESeq → ERun → ℕ → ℤ → Type 0
 EHaltsWithin blocks x n i =
-    (m : ℕ) × (e : EState) × (p : Place) × (log : List ℕ) × (m ≤ n) × (erun blocks m x ≡ Some (EOn e p log)) × EHaltedWith e i
+    (m : ℕ) × (e : EState) × (p : Place) × (log : List ℕ) × (m ≤ n) × (erun blocks m x ≡ Some (EOn e p log))
+    × EHaltedWith e i
 
 -- The laws.
 
 -- a run of the typed machine is one of the erased machine, with the same place and entries
 abbrev pub RunsErase : Type 0
 RunsErase =
-    (P : TProg) → Whole P → Accepted P → (b : TBlock) → slice_get P.blocks 0 ≡ Some b → (m : ℕ) (s : State) (p : Place) (run : After P m s p) →
+    (P : TProg) → Whole P → Accepted P → (b : TBlock) → slice_get P.blocks 0 ≡ Some b →
+    (m : ℕ) (s : State) (p : Place) (run : After P m s p) →
     erun (erase_blocks P) m (begun P b) ≡ Some (EOn (erase s) p (entries P m s p run))
 
 -- and each run of the erased machine comes of one
 abbrev pub RunsComeOf : Type 0
 RunsComeOf =
-    (P : TProg) → Whole P → Accepted P → (b : TBlock) → slice_get P.blocks 0 ≡ Some b → (m : ℕ) (e : EState) (p : Place) (log : List ℕ) →
-    erun (erase_blocks P) m (begun P b) ≡ Some (EOn e p log) → (s : State) × (run : After P m s p) × (e ≡ erase s) × (log ≡ entries P m s p run)
+    (P : TProg) → Whole P → Accepted P → (b : TBlock) → slice_get P.blocks 0 ≡ Some b →
+    (m : ℕ) (e : EState) (p : Place) (log : List ℕ) →
+    erun (erase_blocks P) m (begun P b) ≡ Some (EOn e p log) → (s : State) × (run : After P m s p) × (e ≡ erase s)
+    × (log ≡ entries P m s p run)
 
 -- a program halts with i within n steps exactly where its erasure does
 abbrev pub HaltsErased : Type 0
@@ -60,7 +64,8 @@ HaltsErased =
 
 -- m steps and then n are m + n steps
 abbrev pub RunsJoin : Type 0
-RunsJoin = (blocks : List ESeq) (m n : ℕ) (x : ERun) → erun blocks (m + n) x ≡ option_and_then (erun blocks n) (erun blocks m x)
+RunsJoin = (blocks : List ESeq) (m n : ℕ) (x : ERun) →
+    erun blocks (m + n) x ≡ option_and_then (erun blocks n) (erun blocks m x)
 
 -- which step is made first is one
 abbrev pub StepsFirst : Type 0

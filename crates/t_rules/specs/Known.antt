@@ -8,7 +8,8 @@ use Rattle.t_rules.specs.Rules.{Typed}
 -- are m type variables, and h is known.
 abbrev pub KnownFrom : TProg → ℕ → RegTypes → TSeq → ℕ → ℕ → RegTypes → Type 0
 KnownFrom P n g c zero m h = (m ≡ n) × (h ≡ g)
-KnownFrom P n g (Then i rest) (suc k) m h = (f : RegTypes) × Typed P n g i f × KnownFrom P (names_after i n) f rest k m h
+KnownFrom P n g (Then i rest) (suc k) m h =
+    (f : RegTypes) × Typed P n g i f × KnownFrom P (names_after i n) f rest k m h
 KnownFrom P n g (Ends e) (suc k) m h = ⊥
 
 -- before instruction i of block b (its end, behind the last one) there are n type variables, and g is known

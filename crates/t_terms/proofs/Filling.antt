@@ -8,11 +8,11 @@ use Rattle.t_terms.specs.declared.wanted.Wanted.{Wanted}
 use Rattle.t_terms.specs.declared.wanted.Wanted.TheVariants as want
 use Rattle.t_terms.specs.Raw.{RPlain, RNum, ending}
 use Rattle.t_terms.specs.Grammar.{tok}
-use Rattle.text_core.specs.Table.{Nt, Do, Mark, Seen}
+use Rattle.text_core.specs.Table.{Nt, Do}
 use Rattle.t_terms.proofs.Complete.{do_now, marked, next}
 use Rattle.text_core.proofs.Rules as rules
 use Rattle.text_core.proofs.Rules.{Filling, quiet_row, good_row, AtLeast, Least}
-use Rattle.t_terms.specs.GrammarTable.{table, Line, LProgram, LBlock, LMoreBlocks, LBinds, LNames, LMoreNames, LFile, LRegs, LMoreRegs, LT, LFields, LMoreFields, LTypes, LTypeList, LSomeTypes, LMoreTypes, LV, LArgs, LPacked, LTo, LAt, LIndex, LTarget, LInt, LI, LMoreSteps, LEnd, Act, Stack, Val, OfValue, fits, after, may_end, marks, exec, Outcome, act, MakeBinds, MakeFile, MakeNoNames, MakeNoRegs, MakeTypeInt, MakeNoFields, MakeTypes, MakeNoTypes, MakeBase, MakePacked, MakeTo, MakeIndex, MakeAt, MakeTarget, MakeInt, MakeMalloc, MakeHalt, MakeBlock, MakeFirstBlock, MakeProgram, MakeClosedTypes}
+use Rattle.t_terms.specs.GrammarTable.{table, Line, LProgram, LBlock, LMoreBlocks, LBinds, LNames, LMoreNames, LFile, LRegs, LMoreRegs, LT, LFields, LMoreFields, LTypes, LTypeList, LSomeTypes, LMoreTypes, LV, LArgs, LPacked, LTo, LAt, LIndex, LTarget, LInt, LI, LMoreSteps, LEnd, Stack, Val, OfValue, fits, after, may_end, marks, exec, MakeBinds, MakeFile, MakeNoNames, MakeNoRegs, MakeTypeInt, MakeNoFields, MakeTypes, MakeNoTypes, MakeBase, MakePacked, MakeTo, MakeIndex, MakeAt, MakeTarget, MakeInt, MakeMalloc, MakeHalt, MakeBlock, MakeFirstBlock, MakeProgram, MakeClosedTypes}
 
 abbrev here : Span
 here = record { start = 0; end = 0 }

@@ -215,7 +215,8 @@ act MakeClosedNames (OfToken c ∷ vs) = vs
 act MakeBinds (OfNames ns ∷ OfToken o ∷ vs) = OfNames ns ∷ vs
 act MakeNoRegs (OfToken c ∷ vs) = OfFile (ending (raw_regs []) c.span.end) ∷ vs
 act MakeFirstReg (OfType t ∷ OfToken c ∷ OfToken r ∷ vs) = OfRegs (reg_of r t.tree ∷ []) ∷ vs
-act MakeNextReg (OfType t ∷ OfToken d ∷ OfToken r ∷ OfToken c ∷ OfRegs rs ∷ vs) = OfRegs (rs ++ reg_of r t.tree ∷ []) ∷ vs
+act MakeNextReg (OfType t ∷ OfToken d ∷ OfToken r ∷ OfToken c ∷ OfRegs rs ∷ vs) =
+    OfRegs (rs ++ reg_of r t.tree ∷ []) ∷ vs
 act MakeClosedRegs (OfToken c ∷ OfRegs rs ∷ vs) = OfFile (ending (raw_regs rs) c.span.end) ∷ vs
 act MakeFile (OfFile f ∷ OfToken o ∷ vs) = OfFile f ∷ vs
 act MakeTypeInt (OfToken i ∷ vs) = OfType (ending RInt i.span.end) ∷ vs
@@ -224,7 +225,8 @@ act MakeTypeCode (OfFile f ∷ OfNames ns ∷ OfToken a ∷ vs) = OfType (ending
 act MakeTypeSome (OfType t ∷ OfToken d ∷ OfToken n ∷ OfToken s ∷ vs) = OfType (ending (RSome n.span t.tree) t.end) ∷ vs
 act MakeNoFields (OfToken c ∷ vs) = OfType (ending (RTuple (raw_fields [])) c.span.end) ∷ vs
 act MakeFirstField (OfToken n ∷ OfToken h ∷ OfType t ∷ vs) = OfFields (field_of t.tree n ∷ []) ∷ vs
-act MakeNextField (OfToken n ∷ OfToken h ∷ OfType t ∷ OfToken c ∷ OfFields fs ∷ vs) = OfFields (fs ++ field_of t.tree n ∷ []) ∷ vs
+act MakeNextField (OfToken n ∷ OfToken h ∷ OfType t ∷ OfToken c ∷ OfFields fs ∷ vs) =
+    OfFields (fs ++ field_of t.tree n ∷ []) ∷ vs
 act MakeClosedFields (OfToken c ∷ OfFields fs ∷ vs) = OfType (ending (RTuple (raw_fields fs)) c.span.end) ∷ vs
 act MakeTypeTuple (OfType t ∷ OfToken o ∷ vs) = OfType t ∷ vs
 act MakeNoTypes (OfToken c ∷ vs) = OfList (ending [] c.span.end) ∷ vs
@@ -234,25 +236,33 @@ act MakeClosedTypes (OfToken c ∷ OfTypes ts ∷ vs) = OfList (ending ts c.span
 act MakeTypes (OfList l ∷ OfToken o ∷ vs) = OfList l ∷ vs
 act MakeBase (OfToken b ∷ vs) = OfValue (ending (RPlain (base_of b.kind b.span) []) b.span.end) ∷ vs
 act MakeApply (OfList l ∷ OfToken o ∷ OfValue v ∷ vs) = OfValue (ending (applied v.tree l.tree) l.end) ∷ vs
-act MakePacked (OfToken c ∷ OfValue v ∷ OfToken m ∷ OfType t ∷ OfToken o ∷ vs) = OfPacked (record { hidden = t.tree; inner = v.tree }) ∷ vs
-act MakePack (OfType s ∷ OfToken a ∷ OfPacked x ∷ OfToken p ∷ vs) = OfValue (ending (RPack x.hidden x.inner s.tree) s.end) ∷ vs
+act MakePacked (OfToken c ∷ OfValue v ∷ OfToken m ∷ OfType t ∷ OfToken o ∷ vs) =
+    OfPacked (record { hidden = t.tree; inner = v.tree }) ∷ vs
+act MakePack (OfType s ∷ OfToken a ∷ OfPacked x ∷ OfToken p ∷ vs) =
+    OfValue (ending (RPack x.hidden x.inner s.tree) s.end) ∷ vs
 act MakeTo (OfToken c ∷ OfToken r ∷ vs) = OfReg (register_of r.kind) ∷ vs
 act MakeIndex (OfToken c ∷ OfToken n ∷ OfToken o ∷ vs) = OfIndex (ending (nat_abs (value_of n.kind)) c.span.end) ∷ vs
 act MakeAt (OfIndex i ∷ OfToken r ∷ vs) = OfAt (record { reg = register_of r.kind; field = i.tree; end = i.end }) ∷ vs
-act MakeTarget (OfToken c ∷ OfToken r ∷ OfToken m ∷ OfToken n ∷ OfToken o ∷ vs) = OfTarget (record { name = n.span; reg = register_of r.kind }) ∷ vs
+act MakeTarget (OfToken c ∷ OfToken r ∷ OfToken m ∷ OfToken n ∷ OfToken o ∷ vs) =
+    OfTarget (record { name = n.span; reg = register_of r.kind }) ∷ vs
 act MakeInt (OfToken c ∷ OfToken i ∷ OfToken o ∷ vs) = OfPlace c.span.end ∷ vs
-act (MakeArith op) (OfValue v ∷ OfReg rs ∷ OfReg rd ∷ OfToken a ∷ vs) = OfStep (RArith op rd rs v.tree, up_to a.span v.end) ∷ vs
+act (MakeArith op) (OfValue v ∷ OfReg rs ∷ OfReg rd ∷ OfToken a ∷ vs) =
+    OfStep (RArith op rd rs v.tree, up_to a.span v.end) ∷ vs
 act MakeBnz (OfValue v ∷ OfReg r ∷ OfToken a ∷ vs) = OfStep (RBnz r v.tree, up_to a.span v.end) ∷ vs
 act MakeLd (OfAt x ∷ OfReg rd ∷ OfToken a ∷ vs) = OfStep (RLd rd x.reg x.field, up_to a.span x.end) ∷ vs
-act MakeMalloc (OfList l ∷ OfToken r ∷ OfToken a ∷ vs) = OfStep (RMalloc (register_of r.kind) l.tree, up_to a.span l.end) ∷ vs
+act MakeMalloc (OfList l ∷ OfToken r ∷ OfToken a ∷ vs) =
+    OfStep (RMalloc (register_of r.kind) l.tree, up_to a.span l.end) ∷ vs
 act MakeMov (OfValue v ∷ OfReg rd ∷ OfToken a ∷ vs) = OfStep (RMov rd v.tree, up_to a.span v.end) ∷ vs
-act MakeSt (OfToken r ∷ OfToken c ∷ OfAt x ∷ OfToken a ∷ vs) = OfStep (RSt x.reg x.field (register_of r.kind), up_to a.span r.span.end) ∷ vs
-act MakeUnpack (OfValue v ∷ OfToken c ∷ OfTarget x ∷ OfToken a ∷ vs) = OfStep (RUnpack x.name x.reg v.tree, up_to a.span v.end) ∷ vs
+act MakeSt (OfToken r ∷ OfToken c ∷ OfAt x ∷ OfToken a ∷ vs) =
+    OfStep (RSt x.reg x.field (register_of r.kind), up_to a.span r.span.end) ∷ vs
+act MakeUnpack (OfValue v ∷ OfToken c ∷ OfTarget x ∷ OfToken a ∷ vs) =
+    OfStep (RUnpack x.name x.reg v.tree, up_to a.span v.end) ∷ vs
 act MakeNoSteps vs = OfSteps [] ∷ vs
 act MakeNextStep (OfStep i ∷ OfSteps is ∷ vs) = OfSteps (is ++ i ∷ []) ∷ vs
 act MakeJmp (OfValue v ∷ OfToken a ∷ vs) = OfEnd (RJmp v.tree, up_to a.span v.end) ∷ vs
 act MakeHalt (OfPlace e ∷ OfToken a ∷ vs) = OfEnd (RHalt, up_to a.span e) ∷ vs
-act MakeBlock (OfEnd e ∷ OfSteps is ∷ OfToken p ∷ OfFile f ∷ OfNames ns ∷ OfToken d ∷ OfToken c ∷ OfToken l ∷ vs) = OfBlock (record { name = l.span; names = ns; file = f.tree; body = is; last = e }) ∷ vs
+act MakeBlock (OfEnd e ∷ OfSteps is ∷ OfToken p ∷ OfFile f ∷ OfNames ns ∷ OfToken d ∷ OfToken c ∷ OfToken l ∷ vs) =
+    OfBlock (record { name = l.span; names = ns; file = f.tree; body = is; last = e }) ∷ vs
 act MakeFirstBlock (OfBlock b ∷ vs) = OfBlocks (b ∷ []) ∷ vs
 act MakeNextBlock (OfBlock b ∷ OfBlocks bs ∷ vs) = OfBlocks (bs ++ b ∷ []) ∷ vs
 act MakeProgram (OfBlocks bs ∷ OfToken n ∷ OfToken t ∷ vs) = OfBlocks bs ∷ vs
@@ -278,7 +288,9 @@ file_after _ = None
 
 abbrev pub regs_after : Kind → Option Stack
 regs_after k.RightBrace = Some (Do MakeNoRegs ∷ [])
-regs_after (k.Register r) = Some (Tm want.Colon ∷ (Nt LT ∷ (Do MakeFirstReg ∷ (Nt LMoreRegs ∷ (Tm want.RightBrace ∷ (Do MakeClosedRegs ∷ []))))))
+regs_after (k.Register r) =
+    Some (Tm want.Colon ∷
+    (Nt LT ∷ (Do MakeFirstReg ∷ (Nt LMoreRegs ∷ (Tm want.RightBrace ∷ (Do MakeClosedRegs ∷ []))))))
 regs_after _ = None
 
 abbrev pub reg_commas_after : Kind → Option Stack
@@ -294,14 +306,16 @@ type_after k.LeftAngle = Some (Nt LFields ∷ (Mark ∷ (Do MakeTypeTuple ∷ []
 type_after _ = None
 
 abbrev pub fields_tail : Stack
-fields_tail = Tm want.Caret ∷ (Tm want.Flag ∷ (Do MakeFirstField ∷ (Nt LMoreFields ∷ (Tm want.RightAngle ∷ (Do MakeClosedFields ∷ [])))))
+fields_tail = Tm want.Caret ∷
+    (Tm want.Flag ∷ (Do MakeFirstField ∷ (Nt LMoreFields ∷ (Tm want.RightAngle ∷ (Do MakeClosedFields ∷ [])))))
 
 abbrev pub fields_after : Kind → Option Stack
 fields_after k.RightAngle = Some (Do MakeNoFields ∷ [])
 fields_after c = then_more (type_after c) fields_tail
 
 abbrev pub field_commas_after : Kind → Option Stack
-field_commas_after k.Comma = Some (Nt LT ∷ (Tm want.Caret ∷ (Tm want.Flag ∷ (Do MakeNextField ∷ (Nt LMoreFields ∷ [])))))
+field_commas_after k.Comma =
+    Some (Nt LT ∷ (Tm want.Caret ∷ (Tm want.Flag ∷ (Do MakeNextField ∷ (Nt LMoreFields ∷ [])))))
 field_commas_after _ = None
 
 abbrev pub types_after : Kind → Option Stack
@@ -338,7 +352,8 @@ args_after k.LeftBracket = Some (Nt LSomeTypes ∷ (Mark ∷ (Do MakeApply ∷ [
 args_after _ = None
 
 abbrev pub packed_after : Kind → Option Stack
-packed_after k.LeftBracket = Some (Nt LT ∷ (Tm want.Comma ∷ (Nt LV ∷ (Tm want.RightBracket ∷ (Mark ∷ (Do MakePacked ∷ []))))))
+packed_after k.LeftBracket =
+    Some (Nt LT ∷ (Tm want.Comma ∷ (Nt LV ∷ (Tm want.RightBracket ∷ (Mark ∷ (Do MakePacked ∷ []))))))
 packed_after _ = None
 
 abbrev pub to_after : Kind → Option Stack
@@ -354,7 +369,8 @@ index_after k.LeftBracket = Some (Tm want.Number ∷ (Tm want.RightBracket ∷ (
 index_after _ = None
 
 abbrev pub target_after : Kind → Option Stack
-target_after k.LeftBracket = Some (Tm want.Name ∷ (Tm want.Comma ∷ (Tm want.Register ∷ (Tm want.RightBracket ∷ (Mark ∷ (Do MakeTarget ∷ []))))))
+target_after k.LeftBracket =
+    Some (Tm want.Name ∷ (Tm want.Comma ∷ (Tm want.Register ∷ (Tm want.RightBracket ∷ (Mark ∷ (Do MakeTarget ∷ []))))))
 target_after _ = None
 
 abbrev pub int_after : Kind → Option Stack
@@ -388,7 +404,9 @@ end_after k.Halt = Some (Nt LInt ∷ (Do MakeHalt ∷ []))
 end_after _ = None
 
 abbrev pub block_owed : Stack
-block_owed = Tm want.Colon ∷ (Tm want.Code ∷ (Nt LBinds ∷ (Nt LFile ∷ (Tm want.Dot ∷ (Do MakeNoSteps ∷ (Nt LMoreSteps ∷ (Nt LEnd ∷ (Do MakeBlock ∷ []))))))))
+block_owed = Tm want.Colon ∷
+    (Tm want.Code ∷ (Nt LBinds ∷
+    (Nt LFile ∷ (Tm want.Dot ∷ (Do MakeNoSteps ∷ (Nt LMoreSteps ∷ (Nt LEnd ∷ (Do MakeBlock ∷ []))))))))
 
 abbrev pub block_after : Kind → Option Stack
 block_after k.Name = Some block_owed

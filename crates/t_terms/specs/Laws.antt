@@ -8,18 +8,25 @@ use Rattle.t_terms.specs.Spanned.{SBlock, over_spanned, plain}
 
 -- two puts exchange, the one put into the other
 abbrev pub PutsExchange : (T : Type 0) → (ℕ → Ty → T → T) → Type 0
-PutsExchange T put_in = (i j : ℕ) (u v : Ty) (t : T) → i ≤ j → put_in j v (put_in i u t) ≡ put_in i (put j v u) (put_in (j + 1) (shift 1 i v) t)
+PutsExchange T put_in = (i j : ℕ) (u v : Ty) (t : T) → i ≤ j →
+    put_in j v (put_in i u t) ≡ put_in i (put j v u) (put_in (j + 1) (shift 1 i v) t)
 
 -- under the variable that an unpack binds the index grows by 1, and what is put is shifted by 1
 abbrev pub PutUnderUnpack : Type 0
 PutUnderUnpack =
-    (at rd : ℕ) (s : Ty) (v : TValue) (rest : TSeq) → put_seq at s (Then (Unpack rd v) rest) ≡ Then (Unpack rd (put_value at s v)) (put_seq (at + 1) (shift 1 0 s) rest)
+    (at rd : ℕ) (s : Ty) (v : TValue) (rest : TSeq) →
+    put_seq at s (Then (Unpack rd v) rest) ≡ Then (Unpack rd (put_value at s v))
+    (put_seq (at + 1) (shift 1 0 s) rest)
 
 -- under the types that a block owes, both by their number
 abbrev pub PutUnderBlock : Type 0
 PutUnderBlock =
     (at : ℕ) (s : Ty) (b : TBlock) → put_block at s b
-    ≡ record { owes = b.owes; file = put_file (at + b.owes) (shift b.owes 0 s) b.file; code = put_seq (at + b.owes) (shift b.owes 0 s) b.code }
+    ≡ record {
+      owes = b.owes;
+      file = put_file (at + b.owes) (shift b.owes 0 s) b.file;
+      code = put_seq (at + b.owes) (shift b.owes 0 s) b.code;
+    }
 
 -- a walk over a block with its places is the walk over the block without
 abbrev pub PlacesAside : Type 0

@@ -23,7 +23,8 @@ abbrev mutual
 
   pub regs_faults : List ℕ → List Name → List ℕ → RawRegs → List (TCode × Span)
   regs_faults text a before NoRawRegs = []
-  regs_faults text a before (MoreRawRegs r s t rs) = only_if (list_any (nat_eq r) before) T07 s ++ (type_faults text a t ++ regs_faults text a (r ∷ before) rs)
+  regs_faults text a before (MoreRawRegs r s t rs) =
+      only_if (list_any (nat_eq r) before) T07 s ++ (type_faults text a t ++ regs_faults text a (r ∷ before) rs)
 
   pub fields_faults : List ℕ → List Name → RawFields → List (TCode × Span)
   fields_faults text a NoRawFields = []
@@ -63,13 +64,15 @@ end_faults text ls a RHalt = []
 abbrev pub block_faults : List ℕ → Labels → RawBlock → List (TCode × Span)
 block_faults text ls b =
     regs_faults text (bind text b.names []) [] b.file ++
-    (body_faults text ls (bind text b.names []) b.body ++ end_faults text ls (names_after_all text b.body (bind text b.names [])) b.last.0)
+    (body_faults text ls (bind text b.names []) b.body
+    ++ end_faults text ls (names_after_all text b.body (bind text b.names [])) b.last.0)
 
 -- a label that a block before has
 abbrev pub blocks_faults : List ℕ → Labels → List Name → List RawBlock → List (TCode × Span)
 blocks_faults text ls before [] = []
 blocks_faults text ls before (b ∷ bs) =
-    only_if (is_among (spelled text b.name) before) T04 b.name ++ (block_faults text ls b ++ blocks_faults text ls (spelled text b.name ∷ before) bs)
+    only_if (is_among (spelled text b.name) before) T04 b.name
+    ++ (block_faults text ls b ++ blocks_faults text ls (spelled text b.name ∷ before) bs)
 
 abbrev pub program_faults : List ℕ → List RawBlock → List (TCode × Span)
 program_faults text bs = blocks_faults text (labels_of text bs) [] bs

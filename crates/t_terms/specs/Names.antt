@@ -27,7 +27,8 @@ bind text (n ∷ ns) a = bind text ns (spelled text n ∷ a)
 -- a register with its type in the file, which is kept in ascending order
 abbrev pub insert_reg : ℕ → Ty → TFile → TFile
 insert_reg r t NoRegs = MoreRegs r t NoRegs
-insert_reg r t (MoreRegs q u file) = if nat_lt q r then MoreRegs q u (insert_reg r t file) else MoreRegs r t (MoreRegs q u file)
+insert_reg r t (MoreRegs q u file) =
+    if nat_lt q r then MoreRegs q u (insert_reg r t file) else MoreRegs r t (MoreRegs q u file)
 
 -- The tree of a type, where these names are in scope: a name is the number of its first place.
 abbrev mutual

@@ -82,7 +82,8 @@ greatest (n ∷ ns) = max n (greatest ns)
 
 -- the nesting of a program is the greatest number of constructs that are open at a token of a text that stands for it
 abbrev pub CountsOpen : Type 0
-CountsOpen = (text : List ℕ) (P : SProg) (s : Stands text P) → greatest (open_Program s.shape 0) ≡ nesting (plain_program P)
+CountsOpen = (text : List ℕ) (P : SProg) (s : Stands text P) →
+    greatest (open_Program s.shape 0) ≡ nesting (plain_program P)
 
 -- a text that stands for a program keeps the limit exactly where the program's nesting is within it
 abbrev pub KeepsByNesting : Type 0

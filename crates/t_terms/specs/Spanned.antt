@@ -88,7 +88,8 @@ each_body V B d (x ∷ xs) = each_instr V B d x.0 × B (names_after x.0 d) × ea
 
 abbrev pub each_spanned : Each SBlock
 each_spanned V B d b =
-    B (d + b.owes) × each_file V B (d + b.owes) b.file × each_body V B (d + b.owes) b.body × each_end V B (body_depth b.body (d + b.owes)) b.last
+    B (d + b.owes) × each_file V B (d + b.owes) b.file × each_body V B (d + b.owes) b.body
+    × each_end V B (body_depth b.body (d + b.owes)) b.last
 
 -- each free type index of a body and its end is less than n
 abbrev pub BodyBelow : ℕ → List (TInstr × Span) → TEnd → Type 0

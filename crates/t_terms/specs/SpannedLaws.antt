@@ -17,13 +17,20 @@ Body = List (TInstr × Span)
 
 keeps_body : (f : At Ty) (a : ℕ) → Keeps f a → (xs : Body) → over_body f a xs ≡ xs
 keeps_body f a h [] = refl
-keeps_body f a h ((Arith op rd rs v, s) ∷ xs) = ap₂ (λ i ys. entry i s ys) (instr_over.keeps f a h (Arith op rd rs v)) (keeps_body f a h xs)
-keeps_body f a h ((Bnz r v, s) ∷ xs) = ap₂ (λ i ys. entry i s ys) (instr_over.keeps f a h (Bnz r v)) (keeps_body f a h xs)
-keeps_body f a h ((Ld rd rs j, s) ∷ xs) = ap₂ (λ i ys. entry i s ys) (instr_over.keeps f a h (Ld rd rs j)) (keeps_body f a h xs)
-keeps_body f a h ((Malloc rd ts, s) ∷ xs) = ap₂ (λ i ys. entry i s ys) (instr_over.keeps f a h (Malloc rd ts)) (keeps_body f a h xs)
-keeps_body f a h ((Mov rd v, s) ∷ xs) = ap₂ (λ i ys. entry i s ys) (instr_over.keeps f a h (Mov rd v)) (keeps_body f a h xs)
-keeps_body f a h ((St rd j rs, s) ∷ xs) = ap₂ (λ i ys. entry i s ys) (instr_over.keeps f a h (St rd j rs)) (keeps_body f a h xs)
-keeps_body f a h ((Unpack rd v, s) ∷ xs) = ap₂ (λ i ys. entry i s ys) (instr_over.keeps f a h (Unpack rd v)) (keeps_body f (a + 1) (λ e. h (suc e)) xs)
+keeps_body f a h ((Arith op rd rs v, s) ∷ xs) =
+    ap₂ (λ i ys. entry i s ys) (instr_over.keeps f a h (Arith op rd rs v)) (keeps_body f a h xs)
+keeps_body f a h ((Bnz r v, s) ∷ xs) =
+    ap₂ (λ i ys. entry i s ys) (instr_over.keeps f a h (Bnz r v)) (keeps_body f a h xs)
+keeps_body f a h ((Ld rd rs j, s) ∷ xs) =
+    ap₂ (λ i ys. entry i s ys) (instr_over.keeps f a h (Ld rd rs j)) (keeps_body f a h xs)
+keeps_body f a h ((Malloc rd ts, s) ∷ xs) =
+    ap₂ (λ i ys. entry i s ys) (instr_over.keeps f a h (Malloc rd ts)) (keeps_body f a h xs)
+keeps_body f a h ((Mov rd v, s) ∷ xs) =
+    ap₂ (λ i ys. entry i s ys) (instr_over.keeps f a h (Mov rd v)) (keeps_body f a h xs)
+keeps_body f a h ((St rd j rs, s) ∷ xs) =
+    ap₂ (λ i ys. entry i s ys) (instr_over.keeps f a h (St rd j rs)) (keeps_body f a h xs)
+keeps_body f a h ((Unpack rd v, s) ∷ xs) =
+    ap₂ (λ i ys. entry i s ys) (instr_over.keeps f a h (Unpack rd v)) (keeps_body f (a + 1) (λ e. h (suc e)) xs)
 
 keeps_last : (f : At Ty) (a : ℕ) → Keeps f a → (xs : Body) (e : TEnd) → over_end f (body_depth xs a) e ≡ e
 keeps_last f a h [] e = end_over.keeps f a h e
@@ -35,17 +42,27 @@ keeps_last f a h ((Mov rd v, s) ∷ xs) e = keeps_last f a h xs e
 keeps_last f a h ((St rd j rs, s) ∷ xs) e = keeps_last f a h xs e
 keeps_last f a h ((Unpack rd v, s) ∷ xs) e = keeps_last f (a + 1) (λ e. h (suc e)) xs e
 
-after_body : (f g h : At Ty) (a b c : ℕ) → Makes f g h a b c → (xs : Body) → over_body g b (over_body f a xs) ≡ over_body h c xs
+after_body : (f g h : At Ty) (a b c : ℕ) → Makes f g h a b c → (xs : Body) →
+    over_body g b (over_body f a xs) ≡ over_body h c xs
 after_body f g h a b c k [] = refl
-after_body f g h a b c k ((Arith op rd rs v, s) ∷ xs) = ap₂ (λ i ys. entry i s ys) (instr_over.after f g h a b c k (Arith op rd rs v)) (after_body f g h a b c k xs)
-after_body f g h a b c k ((Bnz r v, s) ∷ xs) = ap₂ (λ i ys. entry i s ys) (instr_over.after f g h a b c k (Bnz r v)) (after_body f g h a b c k xs)
-after_body f g h a b c k ((Ld rd rs j, s) ∷ xs) = ap₂ (λ i ys. entry i s ys) (instr_over.after f g h a b c k (Ld rd rs j)) (after_body f g h a b c k xs)
-after_body f g h a b c k ((Malloc rd ts, s) ∷ xs) = ap₂ (λ i ys. entry i s ys) (instr_over.after f g h a b c k (Malloc rd ts)) (after_body f g h a b c k xs)
-after_body f g h a b c k ((Mov rd v, s) ∷ xs) = ap₂ (λ i ys. entry i s ys) (instr_over.after f g h a b c k (Mov rd v)) (after_body f g h a b c k xs)
-after_body f g h a b c k ((St rd j rs, s) ∷ xs) = ap₂ (λ i ys. entry i s ys) (instr_over.after f g h a b c k (St rd j rs)) (after_body f g h a b c k xs)
-after_body f g h a b c k ((Unpack rd v, s) ∷ xs) = ap₂ (λ i ys. entry i s ys) (instr_over.after f g h a b c k (Unpack rd v)) (after_body f g h (a + 1) (b + 1) (c + 1) (λ e. k (suc e)) xs)
+after_body f g h a b c k ((Arith op rd rs v, s) ∷ xs) =
+    ap₂ (λ i ys. entry i s ys) (instr_over.after f g h a b c k (Arith op rd rs v)) (after_body f g h a b c k xs)
+after_body f g h a b c k ((Bnz r v, s) ∷ xs) =
+    ap₂ (λ i ys. entry i s ys) (instr_over.after f g h a b c k (Bnz r v)) (after_body f g h a b c k xs)
+after_body f g h a b c k ((Ld rd rs j, s) ∷ xs) =
+    ap₂ (λ i ys. entry i s ys) (instr_over.after f g h a b c k (Ld rd rs j)) (after_body f g h a b c k xs)
+after_body f g h a b c k ((Malloc rd ts, s) ∷ xs) =
+    ap₂ (λ i ys. entry i s ys) (instr_over.after f g h a b c k (Malloc rd ts)) (after_body f g h a b c k xs)
+after_body f g h a b c k ((Mov rd v, s) ∷ xs) =
+    ap₂ (λ i ys. entry i s ys) (instr_over.after f g h a b c k (Mov rd v)) (after_body f g h a b c k xs)
+after_body f g h a b c k ((St rd j rs, s) ∷ xs) =
+    ap₂ (λ i ys. entry i s ys) (instr_over.after f g h a b c k (St rd j rs)) (after_body f g h a b c k xs)
+after_body f g h a b c k ((Unpack rd v, s) ∷ xs) =
+    ap₂ (λ i ys. entry i s ys) (instr_over.after f g h a b c k (Unpack rd v))
+    (after_body f g h (a + 1) (b + 1) (c + 1) (λ e. k (suc e)) xs)
 
-after_last : (f g h : At Ty) (a b c : ℕ) → Makes f g h a b c → (xs : Body) (e : TEnd) → over_end g (body_depth (over_body f a xs) b) (over_end f (body_depth xs a) e) ≡ over_end h (body_depth xs c) e
+after_last : (f g h : At Ty) (a b c : ℕ) → Makes f g h a b c → (xs : Body) (e : TEnd) →
+    over_end g (body_depth (over_body f a xs) b) (over_end f (body_depth xs a) e) ≡ over_end h (body_depth xs c) e
 after_last f g h a b c k [] e = end_over.after f g h a b c k e
 after_last f g h a b c k ((Arith op rd rs v, s) ∷ xs) e = after_last f g h a b c k xs e
 after_last f g h a b c k ((Bnz r v, s) ∷ xs) e = after_last f g h a b c k xs e
@@ -56,7 +73,8 @@ after_last f g h a b c k ((St rd j rs, s) ∷ xs) e = after_last f g h a b c k x
 after_last f g h a b c k ((Unpack rd v, s) ∷ xs) e = after_last f g h (a + 1) (b + 1) (c + 1) (λ e. k (suc e)) xs e
 
 -- the places aside, it is the walk of a sequence
-plain_body : (f : At Ty) (a : ℕ) (xs : Body) (e : TEnd) → seq_of (over_body f a xs) (over_end f (body_depth xs a) e) ≡ over_seq f a (seq_of xs e)
+plain_body : (f : At Ty) (a : ℕ) (xs : Body) (e : TEnd) →
+    seq_of (over_body f a xs) (over_end f (body_depth xs a) e) ≡ over_seq f a (seq_of xs e)
 plain_body f a [] e = refl
 plain_body f a ((Arith op rd rs v, s) ∷ xs) e = ap (Then (over_instr f a (Arith op rd rs v))) (plain_body f a xs e)
 plain_body f a ((Bnz r v, s) ∷ xs) e = ap (Then (over_instr f a (Bnz r v))) (plain_body f a xs e)
@@ -67,17 +85,22 @@ plain_body f a ((St rd j rs, s) ∷ xs) e = ap (Then (over_instr f a (St rd j rs
 plain_body f a ((Unpack rd v, s) ∷ xs) e = ap (Then (over_instr f a (Unpack rd v))) (plain_body f (a + 1) xs e)
 
 abbrev spanned_of : SBlock → TFile → Body → TEnd → SBlock
-spanned_of b file xs e = record { name = b.name; owes = b.owes; file = file; body = xs; last = e; last_span = b.last_span }
+spanned_of b file xs e =
+    record { name = b.name; owes = b.owes; file = file; body = xs; last = e; last_span = b.last_span }
 
 keeps_spanned : (f : At Ty) (a : ℕ) → Keeps f a → (b : SBlock) → over_spanned f a b ≡ b
 keeps_spanned f a h b =
     let more = keeps_more f a b.owes h in
-    ap₃ (spanned_of b) (file_over.keeps f (a + b.owes) more b.file) (keeps_body f (a + b.owes) more b.body) (keeps_last f (a + b.owes) more b.body b.last)
+    ap₃ (spanned_of b) (file_over.keeps f (a + b.owes) more b.file) (keeps_body f (a + b.owes) more b.body)
+    (keeps_last f (a + b.owes) more b.body b.last)
 
-after_spanned : (f g h : At Ty) (a b c : ℕ) → Makes f g h a b c → (x : SBlock) → over_spanned g b (over_spanned f a x) ≡ over_spanned h c x
+after_spanned : (f g h : At Ty) (a b c : ℕ) → Makes f g h a b c → (x : SBlock) →
+    over_spanned g b (over_spanned f a x) ≡ over_spanned h c x
 after_spanned f g h a b c k x =
     let more = after_more f g h a b c x.owes k in
-    ap₃ (spanned_of x) (file_over.after f g h (a + x.owes) (b + x.owes) (c + x.owes) more x.file) (after_body f g h (a + x.owes) (b + x.owes) (c + x.owes) more x.body) (after_last f g h (a + x.owes) (b + x.owes) (c + x.owes) more x.body x.last)
+    ap₃ (spanned_of x) (file_over.after f g h (a + x.owes) (b + x.owes) (c + x.owes) more x.file)
+    (after_body f g h (a + x.owes) (b + x.owes) (c + x.owes) more x.body)
+    (after_last f g h (a + x.owes) (b + x.owes) (c + x.owes) more x.body x.last)
 
 pub spanned_over : IsOver Ty SBlock VarTy over over_spanned
 spanned_over = record { keeps = keeps_spanned; after = after_spanned }

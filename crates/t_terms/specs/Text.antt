@@ -54,11 +54,16 @@ code_of OutOfRange = T02
 -- the first fault of a text: of its tokens; else of the grammar or of the limit on open constructs, in the order of the
 -- tokens; else of its names and registers, in the order of the text
 pub data FirstFault (text : List ℕ) : TCode → Span → Type 0 where
-  in_tokens : {span : Span} (why : Reason) → FirstWrong assembly text why span.start span.end → FirstFault text (code_of why) span
-  unexpected : {w u : List Token} {c : Token} {z : List Token} → IsCut text w → IsUnexpected assembly_grammar most_open w u c z → FirstFault text T03 c.span
-  cut_short : {w : List Token} → IsCut text w → IsCutShort assembly_grammar most_open w → FirstFault text T03 (record { start = length text; end = length text })
-  too_deep : {w u : List Token} {c : Token} {z : List Token} → IsCut text w → IsPassed assembly_grammar most_open w u c z → FirstFault text M1 c.span
-  in_names : {w : List Token} {raw : List RawBlock} {code : TCode} {span : Span} {rest : List (TCode × Span)} → IsCut text w → Program w raw → NonePasses assembly_grammar most_open w →
+  in_tokens : {span : Span} (why : Reason) → FirstWrong assembly text why span.start span.end →
+      FirstFault text (code_of why) span
+  unexpected : {w u : List Token} {c : Token} {z : List Token} → IsCut text w →
+      IsUnexpected assembly_grammar most_open w u c z → FirstFault text T03 c.span
+  cut_short : {w : List Token} → IsCut text w → IsCutShort assembly_grammar most_open w →
+      FirstFault text T03 (record { start = length text; end = length text })
+  too_deep : {w u : List Token} {c : Token} {z : List Token} → IsCut text w →
+      IsPassed assembly_grammar most_open w u c z → FirstFault text M1 c.span
+  in_names : {w : List Token} {raw : List RawBlock} {code : TCode} {span : Span} {rest : List (TCode × Span)} →
+      IsCut text w → Program w raw → NonePasses assembly_grammar most_open w →
       program_faults text raw ≡ (code, span) ∷ rest → FirstFault text code span
 
 abbrev pub IsFirstFault : List ℕ → TFault → Type 0
@@ -73,16 +78,20 @@ AtMostOneProgram = (text : List ℕ) (P Q : SProg) → Stands text P → Stands 
 
 -- a text has one first fault at most
 abbrev pub AtMostOneFault : Type 0
-AtMostOneFault = (text : List ℕ) (code code' : TCode) (span span' : Span) → FirstFault text code span → FirstFault text code' span' → (code ≡ code') × (span ≡ span')
+AtMostOneFault = (text : List ℕ) (code code' : TCode) (span span' : Span) → FirstFault text code span →
+    FirstFault text code' span' → (code ≡ code') × (span ≡ span')
 
 -- a text that stands for a program within the limit has no fault
 abbrev pub NoFaultWhereRead : Type 0
-NoFaultWhereRead = (text : List ℕ) (P : SProg) (code : TCode) (span : Span) → ReadsAs text P → ¬ FirstFault text code span
+NoFaultWhereRead = (text : List ℕ) (P : SProg) (code : TCode) (span : Span) → ReadsAs text P →
+    ¬ FirstFault text code span
 
 -- a text whose first fault is not that of the limit stands for no program
 abbrev pub NoProgramWhereFaulty : Type 0
-NoProgramWhereFaulty = (text : List ℕ) (P : SProg) (code : TCode) (span : Span) → FirstFault text code span → (code ≡ M1 → ⊥) → ¬ Stands text P
+NoProgramWhereFaulty = (text : List ℕ) (P : SProg) (code : TCode) (span : Span) → FirstFault text code span →
+    (code ≡ M1 → ⊥) → ¬ Stands text P
 
 -- each text stands for a program within the limit, or has a first fault
 abbrev pub ProgramOrFault : Type 0
-ProgramOrFault = (text : List ℕ) → ((P : SProg) × ReadsAs text P) ⊎ ((code : TCode) × (span : Span) × FirstFault text code span)
+ProgramOrFault = (text : List ℕ) →
+    ((P : SProg) × ReadsAs text P) ⊎ ((code : TCode) × (span : Span) × FirstFault text code span)

@@ -11,9 +11,13 @@ use Rattle.t_terms.specs.declared.token.Token.{Token}
 -- the reserved words
 abbrev pub words : List (List ℕ × Kind)
 words =
-    (codes "tal", k.Tal) ∷ ((codes "code", k.Code) ∷ ((codes "all", k.All) ∷ ((codes "some", k.Some) ∷ ((codes "pack", k.Pack) ∷ ((codes "as", k.As) ∷
-    ((codes "unpack", k.Unpack) ∷ ((codes "add", k.Add) ∷ ((codes "sub", k.Sub) ∷ ((codes "mul", k.Mul) ∷ ((codes "bnz", k.Bnz) ∷ ((codes "ld", k.Ld) ∷
-    ((codes "st", k.St) ∷ ((codes "mov", k.Mov) ∷ ((codes "malloc", k.Malloc) ∷ ((codes "jmp", k.Jmp) ∷ ((codes "halt", k.Halt) ∷ ((codes "int", k.Int) ∷
+    (codes "tal", k.Tal) ∷ ((codes "code", k.Code) ∷
+    ((codes "all", k.All) ∷ ((codes "some", k.Some) ∷ ((codes "pack", k.Pack) ∷ ((codes "as", k.As) ∷
+    ((codes "unpack", k.Unpack) ∷
+    ((codes "add", k.Add) ∷
+    ((codes "sub", k.Sub) ∷ ((codes "mul", k.Mul) ∷ ((codes "bnz", k.Bnz) ∷ ((codes "ld", k.Ld) ∷
+    ((codes "st", k.St) ∷ ((codes "mov", k.Mov) ∷
+    ((codes "malloc", k.Malloc) ∷ ((codes "jmp", k.Jmp) ∷ ((codes "halt", k.Halt) ∷ ((codes "int", k.Int) ∷
     ((codes "data", k.Data) ∷ []))))))))))))))))))
 
 -- `r` and one digit or more
@@ -39,7 +43,8 @@ word u = if is_register u then k.Register (value (after_first u)) else word_in w
 -- the signs: [ ] { } < > , . : ^
 abbrev pub signs : List (ℕ × Kind)
 signs =
-    (91, k.LeftBracket) ∷ ((93, k.RightBracket) ∷ ((123, k.LeftBrace) ∷ ((125, k.RightBrace) ∷ ((60, k.LeftAngle) ∷ ((62, k.RightAngle) ∷
+    (91, k.LeftBracket) ∷ ((93, k.RightBracket) ∷
+    ((123, k.LeftBrace) ∷ ((125, k.RightBrace) ∷ ((60, k.LeftAngle) ∷ ((62, k.RightAngle) ∷
     ((44, k.Comma) ∷ ((46, k.Dot) ∷ ((58, k.Colon) ∷ ((94, k.Caret) ∷ [])))))))))
 
 -- the values of numbers, from -9223372036854775808 to 9223372036854775807, and the numbers of registers, from 1 on

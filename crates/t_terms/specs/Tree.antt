@@ -87,7 +87,11 @@ over_seq f d (Then i rest) = Then (over_instr f d i) (over_seq f (names_after i 
 over_seq f d (Ends e) = Ends (over_end f d e)
 
 abbrev pub over_block : Over Ty TBlock
-over_block f d b = record { owes = b.owes; file = over_file f (d + b.owes) b.file; code = over_seq f (d + b.owes) b.code }
+over_block f d b = record {
+  owes = b.owes;
+  file = over_file f (d + b.owes) b.file;
+  code = over_seq f (d + b.owes) b.code;
+}
 
 -- each type variable i at depth d has V d i, and each depth below a binder has B d
 abbrev pub each_value : Each TValue

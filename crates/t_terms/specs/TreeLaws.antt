@@ -1,11 +1,13 @@
--- What the general laws of shift and put ask of values, instructions, sequences and blocks: one case for each constructor.
+-- What the general laws of shift and put ask of values, instructions, sequences and blocks: one case for each
+-- constructor.
 use Rattle.std.proofs.Common.{◌≡◌, ℕ, ◌+◌, suc, refl, ap, ap₂, ◌∙◌}
 use Rattle.idx_core.specs.Over.{deep, At, IsOver, IsEach}
 use Rattle.t_types.specs.Tree.{Ty, TFile, VarTy, over, each}
 use Rattle.t_types.specs.TreeLaws.{types_over, types_each, file_over, file_each, list_over, list_each, keeps_more, after_more, agree_more, made_more, made_deeper}
 use Rattle.t_terms.specs.Tree.{TValue, Plain, Pack, TInstr, Arith, Bnz, Ld, Malloc, Mov, St, Unpack, TEnd, Jmp, Halt, TSeq, Then, Ends, TBlock, over_value, over_instr, over_end, over_seq, over_block, each_value, each_instr, each_end, each_seq, each_block}
 
-pub ap₃ : {X Y Z W : Type 0} (f : X → Y → Z → W) {x x' : X} {y y' : Y} {z z' : Z} → x ≡ x' → y ≡ y' → z ≡ z' → f x y z ≡ f x' y' z'
+pub ap₃ : {X Y Z W : Type 0} (f : X → Y → Z → W) {x x' : X} {y y' : Y} {z z' : Z} → x ≡ x' → y ≡ y' → z ≡ z' →
+    f x y z ≡ f x' y' z'
 ap₃ f {x' = x'} {y' = y'} {z = z} p q r = ap₂ (λ x y. f x y z) p q ∙ ap (f x' y') r
 
 -- what a walk is given: at each variable it keeps it; two walks make a third; two agree; what it makes has W
@@ -29,17 +31,27 @@ keeps_value : (f : At Ty) (a : ℕ) → Keeps f a → (v : TValue) → over_valu
 keeps_value f a h (Plain b ts) = ap (Plain b) (list_over.keeps f a h ts)
 keeps_value f a h (Pack t v s) = ap₃ Pack (types_over.keeps f a h t) (keeps_value f a h v) (types_over.keeps f a h s)
 
-after_value : (f g h : At Ty) (a b c : ℕ) → Makes f g h a b c → (v : TValue) → over_value g b (over_value f a v) ≡ over_value h c v
+after_value : (f g h : At Ty) (a b c : ℕ) → Makes f g h a b c → (v : TValue) →
+    over_value g b (over_value f a v) ≡ over_value h c v
 after_value f g h a b c k (Plain x ts) = ap (Plain x) (list_over.after f g h a b c k ts)
-after_value f g h a b c k (Pack t v s) = ap₃ Pack (types_over.after f g h a b c k t) (after_value f g h a b c k v) (types_over.after f g h a b c k s)
+after_value f g h a b c k (Pack t v s) =
+    ap₃ Pack (types_over.after f g h a b c k t) (after_value f g h a b c k v) (types_over.after f g h a b c k s)
 
-agree_value : (V : ℕ → ℕ → Type 0) (B : ℕ → Type 0) (f g : At Ty) (a b m : ℕ) → Agrees V f g a b m → (v : TValue) → each_value V B m v → over_value f a v ≡ over_value g b v
+agree_value : (V : ℕ → ℕ → Type 0) (B : ℕ → Type 0) (f g : At Ty) (a b m : ℕ) → Agrees V f g a b m → (v : TValue) →
+    each_value V B m v → over_value f a v ≡ over_value g b v
 agree_value V B f g a b m k (Plain x ts) u = ap (Plain x) (list_each.agree V B f g a b m k ts u)
-agree_value V B f g a b m k (Pack t v s) u = ap₃ Pack (types_each.has.agree V B f g a b m k t u.0) (agree_value V B f g a b m k v u.1) (types_each.has.agree V B f g a b m k s u.2)
+agree_value V B f g a b m k (Pack t v s) u =
+    ap₃ Pack (types_each.has.agree V B f g a b m k t u.0) (agree_value V B f g a b m k v u.1)
+    (types_each.has.agree V B f g a b m k s u.2)
 
-made_value : (V W : ℕ → ℕ → Type 0) (B D : ℕ → Type 0) (f : At Ty) (a n m : ℕ) → Gives V W D f a n m → Deepens B D n m → (v : TValue) → each_value V B n v → each_value W D m (over_value f a v)
+made_value : (V W : ℕ → ℕ → Type 0) (B D : ℕ → Type 0) (f : At Ty) (a n m : ℕ) → Gives V W D f a n m → Deepens B D n m →
+    (v : TValue) → each_value V B n v → each_value W D m (over_value f a v)
 made_value V W B D f a n m k l (Plain x ts) u = list_each.made V W B D f a n m k l ts u
-made_value V W B D f a n m k l (Pack t v s) u = (types_each.has.made V W B D f a n m k l t u.0, made_value V W B D f a n m k l v u.1, types_each.has.made V W B D f a n m k l s u.2)
+made_value V W B D f a n m k l (Pack t v s) u = (
+  types_each.has.made V W B D f a n m k l t u.0,
+  made_value V W B D f a n m k l v u.1,
+  types_each.has.made V W B D f a n m k l s u.2,
+)
 
 -- instructions
 keeps_instr : (f : At Ty) (a : ℕ) → Keeps f a → (i : TInstr) → over_instr f a i ≡ i
@@ -51,7 +63,8 @@ keeps_instr f a h (Mov rd v) = ap (Mov rd) (keeps_value f a h v)
 keeps_instr f a h (St rd i rs) = refl
 keeps_instr f a h (Unpack rd v) = ap (Unpack rd) (keeps_value f a h v)
 
-after_instr : (f g h : At Ty) (a b c : ℕ) → Makes f g h a b c → (i : TInstr) → over_instr g b (over_instr f a i) ≡ over_instr h c i
+after_instr : (f g h : At Ty) (a b c : ℕ) → Makes f g h a b c → (i : TInstr) →
+    over_instr g b (over_instr f a i) ≡ over_instr h c i
 after_instr f g h a b c k (Arith op rd rs v) = ap (Arith op rd rs) (after_value f g h a b c k v)
 after_instr f g h a b c k (Bnz r v) = ap (Bnz r) (after_value f g h a b c k v)
 after_instr f g h a b c k (Ld rd rs i) = refl
@@ -60,7 +73,8 @@ after_instr f g h a b c k (Mov rd v) = ap (Mov rd) (after_value f g h a b c k v)
 after_instr f g h a b c k (St rd i rs) = refl
 after_instr f g h a b c k (Unpack rd v) = ap (Unpack rd) (after_value f g h a b c k v)
 
-agree_instr : (V : ℕ → ℕ → Type 0) (B : ℕ → Type 0) (f g : At Ty) (a b m : ℕ) → Agrees V f g a b m → (i : TInstr) → each_instr V B m i → over_instr f a i ≡ over_instr g b i
+agree_instr : (V : ℕ → ℕ → Type 0) (B : ℕ → Type 0) (f g : At Ty) (a b m : ℕ) → Agrees V f g a b m → (i : TInstr) →
+    each_instr V B m i → over_instr f a i ≡ over_instr g b i
 agree_instr V B f g a b m k (Arith op rd rs v) u = ap (Arith op rd rs) (agree_value V B f g a b m k v u)
 agree_instr V B f g a b m k (Bnz r v) u = ap (Bnz r) (agree_value V B f g a b m k v u)
 agree_instr V B f g a b m k (Ld rd rs i) u = refl
@@ -69,7 +83,8 @@ agree_instr V B f g a b m k (Mov rd v) u = ap (Mov rd) (agree_value V B f g a b 
 agree_instr V B f g a b m k (St rd i rs) u = refl
 agree_instr V B f g a b m k (Unpack rd v) u = ap (Unpack rd) (agree_value V B f g a b m k v u)
 
-made_instr : (V W : ℕ → ℕ → Type 0) (B D : ℕ → Type 0) (f : At Ty) (a n m : ℕ) → Gives V W D f a n m → Deepens B D n m → (i : TInstr) → each_instr V B n i → each_instr W D m (over_instr f a i)
+made_instr : (V W : ℕ → ℕ → Type 0) (B D : ℕ → Type 0) (f : At Ty) (a n m : ℕ) → Gives V W D f a n m → Deepens B D n m →
+    (i : TInstr) → each_instr V B n i → each_instr W D m (over_instr f a i)
 made_instr V W B D f a n m k l (Arith op rd rs v) u = made_value V W B D f a n m k l v u
 made_instr V W B D f a n m k l (Bnz r v) u = made_value V W B D f a n m k l v u
 made_instr V W B D f a n m k l (Ld rd rs i) u = tt
@@ -83,15 +98,18 @@ keeps_end : (f : At Ty) (a : ℕ) → Keeps f a → (e : TEnd) → over_end f a 
 keeps_end f a h (Jmp v) = ap Jmp (keeps_value f a h v)
 keeps_end f a h Halt = refl
 
-after_end : (f g h : At Ty) (a b c : ℕ) → Makes f g h a b c → (e : TEnd) → over_end g b (over_end f a e) ≡ over_end h c e
+after_end : (f g h : At Ty) (a b c : ℕ) → Makes f g h a b c → (e : TEnd) →
+    over_end g b (over_end f a e) ≡ over_end h c e
 after_end f g h a b c k (Jmp v) = ap Jmp (after_value f g h a b c k v)
 after_end f g h a b c k Halt = refl
 
-agree_end : (V : ℕ → ℕ → Type 0) (B : ℕ → Type 0) (f g : At Ty) (a b m : ℕ) → Agrees V f g a b m → (e : TEnd) → each_end V B m e → over_end f a e ≡ over_end g b e
+agree_end : (V : ℕ → ℕ → Type 0) (B : ℕ → Type 0) (f g : At Ty) (a b m : ℕ) → Agrees V f g a b m → (e : TEnd) →
+    each_end V B m e → over_end f a e ≡ over_end g b e
 agree_end V B f g a b m k (Jmp v) u = ap Jmp (agree_value V B f g a b m k v u)
 agree_end V B f g a b m k Halt u = refl
 
-made_end : (V W : ℕ → ℕ → Type 0) (B D : ℕ → Type 0) (f : At Ty) (a n m : ℕ) → Gives V W D f a n m → Deepens B D n m → (e : TEnd) → each_end V B n e → each_end W D m (over_end f a e)
+made_end : (V W : ℕ → ℕ → Type 0) (B D : ℕ → Type 0) (f : At Ty) (a n m : ℕ) → Gives V W D f a n m → Deepens B D n m →
+    (e : TEnd) → each_end V B n e → each_end W D m (over_end f a e)
 made_end V W B D f a n m k l (Jmp v) u = made_value V W B D f a n m k l v u
 made_end V W B D f a n m k l Halt u = tt
 
@@ -103,37 +121,65 @@ keeps_seq f a h (Then (Ld rd rs j) c) = ap₂ Then (keeps_instr f a h (Ld rd rs 
 keeps_seq f a h (Then (Malloc rd ts) c) = ap₂ Then (keeps_instr f a h (Malloc rd ts)) (keeps_seq f a h c)
 keeps_seq f a h (Then (Mov rd v) c) = ap₂ Then (keeps_instr f a h (Mov rd v)) (keeps_seq f a h c)
 keeps_seq f a h (Then (St rd j rs) c) = ap₂ Then (keeps_instr f a h (St rd j rs)) (keeps_seq f a h c)
-keeps_seq f a h (Then (Unpack rd v) c) = ap₂ Then (keeps_instr f a h (Unpack rd v)) (keeps_seq f (a + 1) (λ e. h (suc e)) c)
+keeps_seq f a h (Then (Unpack rd v) c) =
+    ap₂ Then (keeps_instr f a h (Unpack rd v)) (keeps_seq f (a + 1) (λ e. h (suc e)) c)
 keeps_seq f a h (Ends e) = ap Ends (keeps_end f a h e)
 
-after_seq : (f g h : At Ty) (a b c : ℕ) → Makes f g h a b c → (s : TSeq) → over_seq g b (over_seq f a s) ≡ over_seq h c s
-after_seq f g h a b c k (Then (Arith op rd rs v) s) = ap₂ Then (after_instr f g h a b c k (Arith op rd rs v)) (after_seq f g h a b c k s)
+after_seq : (f g h : At Ty) (a b c : ℕ) → Makes f g h a b c → (s : TSeq) →
+    over_seq g b (over_seq f a s) ≡ over_seq h c s
+after_seq f g h a b c k (Then (Arith op rd rs v) s) =
+    ap₂ Then (after_instr f g h a b c k (Arith op rd rs v)) (after_seq f g h a b c k s)
 after_seq f g h a b c k (Then (Bnz r v) s) = ap₂ Then (after_instr f g h a b c k (Bnz r v)) (after_seq f g h a b c k s)
-after_seq f g h a b c k (Then (Ld rd rs j) s) = ap₂ Then (after_instr f g h a b c k (Ld rd rs j)) (after_seq f g h a b c k s)
-after_seq f g h a b c k (Then (Malloc rd ts) s) = ap₂ Then (after_instr f g h a b c k (Malloc rd ts)) (after_seq f g h a b c k s)
-after_seq f g h a b c k (Then (Mov rd v) s) = ap₂ Then (after_instr f g h a b c k (Mov rd v)) (after_seq f g h a b c k s)
-after_seq f g h a b c k (Then (St rd j rs) s) = ap₂ Then (after_instr f g h a b c k (St rd j rs)) (after_seq f g h a b c k s)
-after_seq f g h a b c k (Then (Unpack rd v) s) = ap₂ Then (after_instr f g h a b c k (Unpack rd v)) (after_seq f g h (a + 1) (b + 1) (c + 1) (λ e. k (suc e)) s)
+after_seq f g h a b c k (Then (Ld rd rs j) s) =
+    ap₂ Then (after_instr f g h a b c k (Ld rd rs j)) (after_seq f g h a b c k s)
+after_seq f g h a b c k (Then (Malloc rd ts) s) =
+    ap₂ Then (after_instr f g h a b c k (Malloc rd ts)) (after_seq f g h a b c k s)
+after_seq f g h a b c k (Then (Mov rd v) s) =
+    ap₂ Then (after_instr f g h a b c k (Mov rd v)) (after_seq f g h a b c k s)
+after_seq f g h a b c k (Then (St rd j rs) s) =
+    ap₂ Then (after_instr f g h a b c k (St rd j rs)) (after_seq f g h a b c k s)
+after_seq f g h a b c k (Then (Unpack rd v) s) =
+    ap₂ Then (after_instr f g h a b c k (Unpack rd v)) (after_seq f g h (a + 1) (b + 1) (c + 1) (λ e. k (suc e)) s)
 after_seq f g h a b c k (Ends e) = ap Ends (after_end f g h a b c k e)
 
-agree_seq : (V : ℕ → ℕ → Type 0) (B : ℕ → Type 0) (f g : At Ty) (a b m : ℕ) → Agrees V f g a b m → (s : TSeq) → each_seq V B m s → over_seq f a s ≡ over_seq g b s
-agree_seq V B f g a b m k (Then (Arith op rd rs v) s) u = ap₂ Then (agree_instr V B f g a b m k (Arith op rd rs v) u.0) (agree_seq V B f g a b m k s u.2)
-agree_seq V B f g a b m k (Then (Bnz r v) s) u = ap₂ Then (agree_instr V B f g a b m k (Bnz r v) u.0) (agree_seq V B f g a b m k s u.2)
-agree_seq V B f g a b m k (Then (Ld rd rs j) s) u = ap₂ Then (agree_instr V B f g a b m k (Ld rd rs j) u.0) (agree_seq V B f g a b m k s u.2)
-agree_seq V B f g a b m k (Then (Malloc rd ts) s) u = ap₂ Then (agree_instr V B f g a b m k (Malloc rd ts) u.0) (agree_seq V B f g a b m k s u.2)
-agree_seq V B f g a b m k (Then (Mov rd v) s) u = ap₂ Then (agree_instr V B f g a b m k (Mov rd v) u.0) (agree_seq V B f g a b m k s u.2)
-agree_seq V B f g a b m k (Then (St rd j rs) s) u = ap₂ Then (agree_instr V B f g a b m k (St rd j rs) u.0) (agree_seq V B f g a b m k s u.2)
-agree_seq V B f g a b m k (Then (Unpack rd v) s) u = ap₂ Then (agree_instr V B f g a b m k (Unpack rd v) u.0) (agree_seq V B f g (a + 1) (b + 1) (m + 1) (λ e. k (suc e)) s u.2)
+agree_seq : (V : ℕ → ℕ → Type 0) (B : ℕ → Type 0) (f g : At Ty) (a b m : ℕ) → Agrees V f g a b m → (s : TSeq) →
+    each_seq V B m s → over_seq f a s ≡ over_seq g b s
+agree_seq V B f g a b m k (Then (Arith op rd rs v) s) u =
+    ap₂ Then (agree_instr V B f g a b m k (Arith op rd rs v) u.0) (agree_seq V B f g a b m k s u.2)
+agree_seq V B f g a b m k (Then (Bnz r v) s) u =
+    ap₂ Then (agree_instr V B f g a b m k (Bnz r v) u.0) (agree_seq V B f g a b m k s u.2)
+agree_seq V B f g a b m k (Then (Ld rd rs j) s) u =
+    ap₂ Then (agree_instr V B f g a b m k (Ld rd rs j) u.0) (agree_seq V B f g a b m k s u.2)
+agree_seq V B f g a b m k (Then (Malloc rd ts) s) u =
+    ap₂ Then (agree_instr V B f g a b m k (Malloc rd ts) u.0) (agree_seq V B f g a b m k s u.2)
+agree_seq V B f g a b m k (Then (Mov rd v) s) u =
+    ap₂ Then (agree_instr V B f g a b m k (Mov rd v) u.0) (agree_seq V B f g a b m k s u.2)
+agree_seq V B f g a b m k (Then (St rd j rs) s) u =
+    ap₂ Then (agree_instr V B f g a b m k (St rd j rs) u.0) (agree_seq V B f g a b m k s u.2)
+agree_seq V B f g a b m k (Then (Unpack rd v) s) u =
+    ap₂ Then (agree_instr V B f g a b m k (Unpack rd v) u.0)
+    (agree_seq V B f g (a + 1) (b + 1) (m + 1) (λ e. k (suc e)) s u.2)
 agree_seq V B f g a b m k (Ends e) u = ap Ends (agree_end V B f g a b m k e u)
 
-made_seq : (V W : ℕ → ℕ → Type 0) (B D : ℕ → Type 0) (f : At Ty) (a n m : ℕ) → Gives V W D f a n m → Deepens B D n m → (s : TSeq) → each_seq V B n s → each_seq W D m (over_seq f a s)
-made_seq V W B D f a n m k l (Then (Arith op rd rs v) s) u = (made_instr V W B D f a n m k l (Arith op rd rs v) u.0, l 0 u.1, made_seq V W B D f a n m k l s u.2)
-made_seq V W B D f a n m k l (Then (Bnz r v) s) u = (made_instr V W B D f a n m k l (Bnz r v) u.0, l 0 u.1, made_seq V W B D f a n m k l s u.2)
-made_seq V W B D f a n m k l (Then (Ld rd rs j) s) u = (made_instr V W B D f a n m k l (Ld rd rs j) u.0, l 0 u.1, made_seq V W B D f a n m k l s u.2)
-made_seq V W B D f a n m k l (Then (Malloc rd ts) s) u = (made_instr V W B D f a n m k l (Malloc rd ts) u.0, l 0 u.1, made_seq V W B D f a n m k l s u.2)
-made_seq V W B D f a n m k l (Then (Mov rd v) s) u = (made_instr V W B D f a n m k l (Mov rd v) u.0, l 0 u.1, made_seq V W B D f a n m k l s u.2)
-made_seq V W B D f a n m k l (Then (St rd j rs) s) u = (made_instr V W B D f a n m k l (St rd j rs) u.0, l 0 u.1, made_seq V W B D f a n m k l s u.2)
-made_seq V W B D f a n m k l (Then (Unpack rd v) s) u = (made_instr V W B D f a n m k l (Unpack rd v) u.0, l 1 u.1, made_seq V W B D f (a + 1) (n + 1) (m + 1) (λ e. k (suc e)) (λ e. l (suc e)) s u.2)
+made_seq : (V W : ℕ → ℕ → Type 0) (B D : ℕ → Type 0) (f : At Ty) (a n m : ℕ) → Gives V W D f a n m → Deepens B D n m →
+    (s : TSeq) → each_seq V B n s → each_seq W D m (over_seq f a s)
+made_seq V W B D f a n m k l (Then (Arith op rd rs v) s) u =
+    (made_instr V W B D f a n m k l (Arith op rd rs v) u.0, l 0 u.1, made_seq V W B D f a n m k l s u.2)
+made_seq V W B D f a n m k l (Then (Bnz r v) s) u =
+    (made_instr V W B D f a n m k l (Bnz r v) u.0, l 0 u.1, made_seq V W B D f a n m k l s u.2)
+made_seq V W B D f a n m k l (Then (Ld rd rs j) s) u =
+    (made_instr V W B D f a n m k l (Ld rd rs j) u.0, l 0 u.1, made_seq V W B D f a n m k l s u.2)
+made_seq V W B D f a n m k l (Then (Malloc rd ts) s) u =
+    (made_instr V W B D f a n m k l (Malloc rd ts) u.0, l 0 u.1, made_seq V W B D f a n m k l s u.2)
+made_seq V W B D f a n m k l (Then (Mov rd v) s) u =
+    (made_instr V W B D f a n m k l (Mov rd v) u.0, l 0 u.1, made_seq V W B D f a n m k l s u.2)
+made_seq V W B D f a n m k l (Then (St rd j rs) s) u =
+    (made_instr V W B D f a n m k l (St rd j rs) u.0, l 0 u.1, made_seq V W B D f a n m k l s u.2)
+made_seq V W B D f a n m k l (Then (Unpack rd v) s) u = (
+  made_instr V W B D f a n m k l (Unpack rd v) u.0,
+  l 1 u.1,
+  made_seq V W B D f (a + 1) (n + 1) (m + 1) (λ e. k (suc e)) (λ e. l (suc e)) s u.2,
+)
 made_seq V W B D f a n m k l (Ends e) u = made_end V W B D f a n m k l e u
 
 -- blocks
@@ -141,23 +187,32 @@ abbrev block_of : ℕ → TFile → TSeq → TBlock
 block_of n file c = record { owes = n; file = file; code = c }
 
 keeps_block : (f : At Ty) (a : ℕ) → Keeps f a → (b : TBlock) → over_block f a b ≡ b
-keeps_block f a h b = ap₂ (block_of b.owes) (file_over.keeps f (a + b.owes) (keeps_more f a b.owes h) b.file) (keeps_seq f (a + b.owes) (keeps_more f a b.owes h) b.code)
+keeps_block f a h b = ap₂ (block_of b.owes) (file_over.keeps f (a + b.owes) (keeps_more f a b.owes h) b.file)
+    (keeps_seq f (a + b.owes) (keeps_more f a b.owes h) b.code)
 
-after_block : (f g h : At Ty) (a b c : ℕ) → Makes f g h a b c → (x : TBlock) → over_block g b (over_block f a x) ≡ over_block h c x
+after_block : (f g h : At Ty) (a b c : ℕ) → Makes f g h a b c → (x : TBlock) →
+    over_block g b (over_block f a x) ≡ over_block h c x
 after_block f g h a b c k x =
     let more = after_more f g h a b c x.owes k in
-    ap₂ (block_of x.owes) (file_over.after f g h (a + x.owes) (b + x.owes) (c + x.owes) more x.file) (after_seq f g h (a + x.owes) (b + x.owes) (c + x.owes) more x.code)
+    ap₂ (block_of x.owes) (file_over.after f g h (a + x.owes) (b + x.owes) (c + x.owes) more x.file)
+    (after_seq f g h (a + x.owes) (b + x.owes) (c + x.owes) more x.code)
 
-agree_block : (V : ℕ → ℕ → Type 0) (B : ℕ → Type 0) (f g : At Ty) (a b m : ℕ) → Agrees V f g a b m → (x : TBlock) → each_block V B m x → over_block f a x ≡ over_block g b x
+agree_block : (V : ℕ → ℕ → Type 0) (B : ℕ → Type 0) (f g : At Ty) (a b m : ℕ) → Agrees V f g a b m → (x : TBlock) →
+    each_block V B m x → over_block f a x ≡ over_block g b x
 agree_block V B f g a b m k x u =
     let more = agree_more V f g a b m x.owes k in
-    ap₂ (block_of x.owes) (file_each.agree V B f g (a + x.owes) (b + x.owes) (m + x.owes) more x.file u.1) (agree_seq V B f g (a + x.owes) (b + x.owes) (m + x.owes) more x.code u.2)
+    ap₂ (block_of x.owes) (file_each.agree V B f g (a + x.owes) (b + x.owes) (m + x.owes) more x.file u.1)
+    (agree_seq V B f g (a + x.owes) (b + x.owes) (m + x.owes) more x.code u.2)
 
-made_block : (V W : ℕ → ℕ → Type 0) (B D : ℕ → Type 0) (f : At Ty) (a n m : ℕ) → Gives V W D f a n m → Deepens B D n m → (x : TBlock) → each_block V B n x → each_block W D m (over_block f a x)
+made_block : (V W : ℕ → ℕ → Type 0) (B D : ℕ → Type 0) (f : At Ty) (a n m : ℕ) → Gives V W D f a n m → Deepens B D n m →
+    (x : TBlock) → each_block V B n x → each_block W D m (over_block f a x)
 made_block V W B D f a n m k l x u =
     let more = made_more V W D f a n m x.owes k in
-    let deeper = made_deeper B D n m x.owes l in
-    (deeper 0 u.0, file_each.made V W B D f (a + x.owes) (n + x.owes) (m + x.owes) more deeper x.file u.1, made_seq V W B D f (a + x.owes) (n + x.owes) (m + x.owes) more deeper x.code u.2)
+    let deeper = made_deeper B D n m x.owes l in (
+      deeper 0 u.0,
+      file_each.made V W B D f (a + x.owes) (n + x.owes) (m + x.owes) more deeper x.file u.1,
+      made_seq V W B D f (a + x.owes) (n + x.owes) (m + x.owes) more deeper x.code u.2,
+    )
 
 pub value_over : IsOver Ty TValue VarTy over over_value
 value_over = record { keeps = keeps_value; after = after_value }

@@ -4,7 +4,8 @@ use Rattle.std.specs.Coded.{le_prop, Unit-prop}
 use Rattle.t_types.specs.WellFormed.{max_number, max_names, IsRegister, WellFormed, WellFormedFile, WellFormedTypes, well_formed_prop, regs_above_prop, types_prop}
 use Rattle.t_terms.specs.Tree.{TBase, Reg, Int, Label, Data, TValue, Plain, Pack, TInstr, Arith, Bnz, Ld, Malloc, Mov, St, Unpack, TEnd, Jmp, Halt, TSeq, Then, Ends, TBlock, TDatum, TData, TProg, names_after}
 
--- in a program of p blocks and q data tuples, under n type names: labels, registers, fields and type indices are in range
+-- in a program of p blocks and q data tuples, under n type names: labels, registers, fields and type indices are in
+-- range
 abbrev pub WellFormedBase : ℕ → ℕ → TBase → Type 0
 WellFormedBase p q (Reg r) = IsRegister r
 WellFormedBase p q (Int i) = Unit {0}
@@ -30,7 +31,8 @@ WellFormedEnd p q n Halt = Unit {0}
 
 -- not too many type names are bound around a place
 abbrev pub WellFormedSeq : ℕ → ℕ → ℕ → TSeq → Type 0
-WellFormedSeq p q n (Then i rest) = WellFormedInstr p q n i × (names_after i n ≤ max_names) × WellFormedSeq p q (names_after i n) rest
+WellFormedSeq p q n (Then i rest) =
+    WellFormedInstr p q n i × (names_after i n ≤ max_names) × WellFormedSeq p q (names_after i n) rest
 WellFormedSeq p q n (Ends e) = WellFormedEnd p q n e
 
 abbrev pub WellFormedBlock : ℕ → ℕ → TBlock → Type 0
@@ -75,7 +77,8 @@ base_prop p q (Data d) = le_prop
 
 value_prop : (p q n : ℕ) (v : TValue) → IsProp (WellFormedValue p q n v)
 value_prop p q n (Plain b ts) = let x = base_prop p q b in let y = types_prop n ts in hlevel (x, y)
-value_prop p q n (Pack t v s) = let x = well_formed_prop n t in let y = value_prop p q n v in let z = well_formed_prop n s in hlevel (x, y, z)
+value_prop p q n (Pack t v s) = let x = well_formed_prop n t in let y = value_prop p q n v in let z =
+    well_formed_prop n s in hlevel (x, y, z)
 
 instr_prop : (p q n : ℕ) (i : TInstr) → IsProp (WellFormedInstr p q n i)
 instr_prop p q n (Arith op rd rs v) = let x = value_prop p q n v in hlevel (le_prop, x)
@@ -91,11 +94,13 @@ end_prop p q n (Jmp v) = value_prop p q n v
 end_prop p q n Halt = Unit-prop
 
 seq_prop : (p q n : ℕ) (c : TSeq) → IsProp (WellFormedSeq p q n c)
-seq_prop p q n (Then i rest) = let x = instr_prop p q n i in let y = seq_prop p q (names_after i n) rest in hlevel (le_prop, x, y)
+seq_prop p q n (Then i rest) = let x = instr_prop p q n i in let y =
+    seq_prop p q (names_after i n) rest in hlevel (le_prop, x, y)
 seq_prop p q n (Ends e) = end_prop p q n e
 
 block_prop : (p q : ℕ) (b : TBlock) → IsProp (WellFormedBlock p q b)
-block_prop p q b = let x = regs_above_prop 0 b.owes b.file in let y = seq_prop p q b.owes b.code in hlevel (le_prop, x, y)
+block_prop p q b = let x = regs_above_prop 0 b.owes b.file in let y =
+    seq_prop p q b.owes b.code in hlevel (le_prop, x, y)
 
 blocks_prop : (p q : ℕ) (bs : List TBlock) → IsProp (WellFormedBlocks p q bs)
 blocks_prop p q [] = Unit-prop
@@ -110,7 +115,8 @@ no_register_prop (Pack t v s) = no_register_prop v
 
 datum_prop : (p q : ℕ) (x : TDatum) → IsProp (WellFormedDatum p q x)
 datum_prop p q x =
-    let y = value_prop p q 0 x.value in let z = no_register_prop x.value in let w = well_formed_prop 0 x.ty in hlevel (y, z, w)
+    let y = value_prop p q 0 x.value in let z = no_register_prop x.value in let w =
+    well_formed_prop 0 x.ty in hlevel (y, z, w)
 
 data_prop : (p q : ℕ) (xs : TData) → IsProp (WellFormedData p q xs)
 data_prop p q [] = Unit-prop

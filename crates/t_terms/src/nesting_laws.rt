@@ -7,7 +7,8 @@ pub fn counts_open()
     ensures { CountsOpen }
 {}
 
-/// A text that stands for a program keeps the limit on open constructs exactly where the program's nesting is within it.
+/// A text that stands for a program keeps the limit on open constructs exactly where the program's nesting is within
+/// it.
 pub fn keeps_by_nesting()
     ensures { KeepsByNesting }
 {}

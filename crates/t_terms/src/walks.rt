@@ -208,9 +208,7 @@ pub(crate) fn value_below(v: &Value, bound: Option<u64>) -> bool
             hidden,
             inner,
             shape,
-        } => {
-            type_below(hidden, bound) && value_below(inner, bound) && type_below(shape, bound)
-        }
+        } => { type_below(hidden, bound) && value_below(inner, bound) && type_below(shape, bound) }
     }
 }
 

@@ -11,4 +11,5 @@ abbrev pub PutUnderExists : Type 0
 PutUnderExists = (at : ℕ) (s t : Ty) → put at s (ExistsTy t) ≡ ExistsTy (put (at + 1) (shift 1 0 s) t)
 
 abbrev pub PutUnderCode : Type 0
-PutUnderCode = (at n : ℕ) (s : Ty) (file : TFile) → put at s (CodeTy n file) ≡ CodeTy n (put_file (at + n) (shift n 0 s) file)
+PutUnderCode = (at n : ℕ) (s : Ty) (file : TFile) →
+    put at s (CodeTy n file) ≡ CodeTy n (put_file (at + n) (shift n 0 s) file)

@@ -5,19 +5,26 @@ use Rattle.idx_core.specs.Laws.{under, under2, under3}
 use Rattle.t_types.specs.Tree.{Ty, IntTy, VarTy, CodeTy, ExistsTy, TupleTy, TFile, NoRegs, MoreRegs, TFields, NoFields, MoreFields, over, over_file, over_fields, over_types, each, each_file, each_fields, each_types}
 
 -- a fact on each depth, below n more binders
-pub keeps_more : (f : At Ty) (a n : ℕ) → ((e i : ℕ) → f (deep a e) i ≡ VarTy i) → (e i : ℕ) → f (deep (a + n) e) i ≡ VarTy i
+pub keeps_more : (f : At Ty) (a n : ℕ) → ((e i : ℕ) → f (deep a e) i ≡ VarTy i) → (e i : ℕ) →
+    f (deep (a + n) e) i ≡ VarTy i
 keeps_more f a n h = under (λ d. (i : ℕ) → f d i ≡ VarTy i) n a h
 
-pub after_more : (f g h : At Ty) (a b c n : ℕ) → ((e i : ℕ) → over g (deep b e) (f (deep a e) i) ≡ h (deep c e) i) → (e i : ℕ) → over g (deep (b + n) e) (f (deep (a + n) e) i) ≡ h (deep (c + n) e) i
+pub after_more : (f g h : At Ty) (a b c n : ℕ) → ((e i : ℕ) → over g (deep b e) (f (deep a e) i) ≡ h (deep c e) i) →
+    (e i : ℕ) → over g (deep (b + n) e) (f (deep (a + n) e) i) ≡ h (deep (c + n) e) i
 after_more f g h a b c n k = under3 (λ x y z. (i : ℕ) → over g y (f x i) ≡ h z i) n a b c k
 
-pub agree_more : (V : ℕ → ℕ → Type 0) (f g : At Ty) (a b m n : ℕ) → ((e i : ℕ) → V (deep m e) i → f (deep a e) i ≡ g (deep b e) i) → (e i : ℕ) → V (deep (m + n) e) i → f (deep (a + n) e) i ≡ g (deep (b + n) e) i
+pub agree_more : (V : ℕ → ℕ → Type 0) (f g : At Ty) (a b m n : ℕ) →
+    ((e i : ℕ) → V (deep m e) i → f (deep a e) i ≡ g (deep b e) i) → (e i : ℕ) → V (deep (m + n) e) i →
+    f (deep (a + n) e) i ≡ g (deep (b + n) e) i
 agree_more V f g a b m n k = under3 (λ x y z. (i : ℕ) → V z i → f x i ≡ g y i) n a b m k
 
-pub made_more : (V W : ℕ → ℕ → Type 0) (D : ℕ → Type 0) (f : At Ty) (a n m p : ℕ) → ((e i : ℕ) → V (deep n e) i → each W D (deep m e) (f (deep a e) i)) → (e i : ℕ) → V (deep (n + p) e) i → each W D (deep (m + p) e) (f (deep (a + p) e) i)
+pub made_more : (V W : ℕ → ℕ → Type 0) (D : ℕ → Type 0) (f : At Ty) (a n m p : ℕ) →
+    ((e i : ℕ) → V (deep n e) i → each W D (deep m e) (f (deep a e) i)) → (e i : ℕ) → V (deep (n + p) e) i →
+    each W D (deep (m + p) e) (f (deep (a + p) e) i)
 made_more V W D f a n m p k = under3 (λ x y z. (i : ℕ) → V y i → each W D z (f x i)) p a n m k
 
-pub made_deeper : (B D : ℕ → Type 0) (n m p : ℕ) → ((e : ℕ) → B (deep n e) → D (deep m e)) → (e : ℕ) → B (deep (n + p) e) → D (deep (m + p) e)
+pub made_deeper : (B D : ℕ → Type 0) (n m p : ℕ) → ((e : ℕ) → B (deep n e) → D (deep m e)) → (e : ℕ) →
+    B (deep (n + p) e) → D (deep (m + p) e)
 made_deeper B D n m p l = under2 (λ x y. B x → D y) p n m l
 
 -- a walk that changes no variable
@@ -39,54 +46,79 @@ mutual
 
 -- one walk after another
 mutual
-  after : (f g h : At Ty) (a b c : ℕ) → ((e i : ℕ) → over g (deep b e) (f (deep a e) i) ≡ h (deep c e) i) → (t : Ty) → over g b (over f a t) ≡ over h c t
+  after : (f g h : At Ty) (a b c : ℕ) → ((e i : ℕ) → over g (deep b e) (f (deep a e) i) ≡ h (deep c e) i) → (t : Ty) →
+      over g b (over f a t) ≡ over h c t
   after f g h a b c k IntTy = refl
   after f g h a b c k (VarTy i) = k 0 i
-  after f g h a b c k (CodeTy n x) = ap (CodeTy n) (after_file f g h (a + n) (b + n) (c + n) (after_more f g h a b c n k) x)
+  after f g h a b c k (CodeTy n x) =
+      ap (CodeTy n) (after_file f g h (a + n) (b + n) (c + n) (after_more f g h a b c n k) x)
   after f g h a b c k (ExistsTy t) = ap ExistsTy (after f g h (a + 1) (b + 1) (c + 1) (λ e. k (suc e)) t)
   after f g h a b c k (TupleTy x) = ap TupleTy (after_fields f g h a b c k x)
 
-  after_file : (f g h : At Ty) (a b c : ℕ) → ((e i : ℕ) → over g (deep b e) (f (deep a e) i) ≡ h (deep c e) i) → (x : TFile) → over_file g b (over_file f a x) ≡ over_file h c x
+  after_file : (f g h : At Ty) (a b c : ℕ) → ((e i : ℕ) → over g (deep b e) (f (deep a e) i) ≡ h (deep c e) i) →
+      (x : TFile) → over_file g b (over_file f a x) ≡ over_file h c x
   after_file f g h a b c k NoRegs = refl
   after_file f g h a b c k (MoreRegs r t x) = ap₂ (MoreRegs r) (after f g h a b c k t) (after_file f g h a b c k x)
 
-  after_fields : (f g h : At Ty) (a b c : ℕ) → ((e i : ℕ) → over g (deep b e) (f (deep a e) i) ≡ h (deep c e) i) → (x : TFields) → over_fields g b (over_fields f a x) ≡ over_fields h c x
+  after_fields : (f g h : At Ty) (a b c : ℕ) → ((e i : ℕ) → over g (deep b e) (f (deep a e) i) ≡ h (deep c e) i) →
+      (x : TFields) → over_fields g b (over_fields f a x) ≡ over_fields h c x
   after_fields f g h a b c k NoFields = refl
-  after_fields f g h a b c k (MoreFields t flag x) = ap₂ (λ u y. MoreFields u flag y) (after f g h a b c k t) (after_fields f g h a b c k x)
+  after_fields f g h a b c k (MoreFields t flag x) =
+      ap₂ (λ u y. MoreFields u flag y) (after f g h a b c k t) (after_fields f g h a b c k x)
 
 -- two walks that agree at the variables that are there
 mutual
-  agree : (V : ℕ → ℕ → Type 0) (B : ℕ → Type 0) (f g : At Ty) (a b m : ℕ) → ((e i : ℕ) → V (deep m e) i → f (deep a e) i ≡ g (deep b e) i) → (t : Ty) → each V B m t → over f a t ≡ over g b t
+  agree : (V : ℕ → ℕ → Type 0) (B : ℕ → Type 0) (f g : At Ty) (a b m : ℕ) →
+      ((e i : ℕ) → V (deep m e) i → f (deep a e) i ≡ g (deep b e) i) → (t : Ty) → each V B m t → over f a t ≡ over g b t
   agree V B f g a b m k IntTy u = refl
   agree V B f g a b m k (VarTy i) u = k 0 i u
-  agree V B f g a b m k (CodeTy n x) u = ap (CodeTy n) (agree_file V B f g (a + n) (b + n) (m + n) (agree_more V f g a b m n k) x u.1)
+  agree V B f g a b m k (CodeTy n x) u =
+      ap (CodeTy n) (agree_file V B f g (a + n) (b + n) (m + n) (agree_more V f g a b m n k) x u.1)
   agree V B f g a b m k (ExistsTy t) u = ap ExistsTy (agree V B f g (a + 1) (b + 1) (m + 1) (λ e. k (suc e)) t u.1)
   agree V B f g a b m k (TupleTy x) u = ap TupleTy (agree_fields V B f g a b m k x u)
 
-  agree_file : (V : ℕ → ℕ → Type 0) (B : ℕ → Type 0) (f g : At Ty) (a b m : ℕ) → ((e i : ℕ) → V (deep m e) i → f (deep a e) i ≡ g (deep b e) i) → (x : TFile) → each_file V B m x → over_file f a x ≡ over_file g b x
+  agree_file : (V : ℕ → ℕ → Type 0) (B : ℕ → Type 0) (f g : At Ty) (a b m : ℕ) →
+      ((e i : ℕ) → V (deep m e) i → f (deep a e) i ≡ g (deep b e) i) → (x : TFile) → each_file V B m x →
+      over_file f a x ≡ over_file g b x
   agree_file V B f g a b m k NoRegs u = refl
-  agree_file V B f g a b m k (MoreRegs r t x) u = ap₂ (MoreRegs r) (agree V B f g a b m k t u.0) (agree_file V B f g a b m k x u.1)
+  agree_file V B f g a b m k (MoreRegs r t x) u =
+      ap₂ (MoreRegs r) (agree V B f g a b m k t u.0) (agree_file V B f g a b m k x u.1)
 
-  agree_fields : (V : ℕ → ℕ → Type 0) (B : ℕ → Type 0) (f g : At Ty) (a b m : ℕ) → ((e i : ℕ) → V (deep m e) i → f (deep a e) i ≡ g (deep b e) i) → (x : TFields) → each_fields V B m x → over_fields f a x ≡ over_fields g b x
+  agree_fields : (V : ℕ → ℕ → Type 0) (B : ℕ → Type 0) (f g : At Ty) (a b m : ℕ) →
+      ((e i : ℕ) → V (deep m e) i → f (deep a e) i ≡ g (deep b e) i) → (x : TFields) → each_fields V B m x →
+      over_fields f a x ≡ over_fields g b x
   agree_fields V B f g a b m k NoFields u = refl
-  agree_fields V B f g a b m k (MoreFields t flag x) u = ap₂ (λ w y. MoreFields w flag y) (agree V B f g a b m k t u.0) (agree_fields V B f g a b m k x u.1)
+  agree_fields V B f g a b m k (MoreFields t flag x) u =
+      ap₂ (λ w y. MoreFields w flag y) (agree V B f g a b m k t u.0) (agree_fields V B f g a b m k x u.1)
 
 -- what a walk makes has what its parts have
 mutual
-  made : (V W : ℕ → ℕ → Type 0) (B D : ℕ → Type 0) (f : At Ty) (a n m : ℕ) → ((e i : ℕ) → V (deep n e) i → each W D (deep m e) (f (deep a e) i)) → ((e : ℕ) → B (deep n e) → D (deep m e)) → (t : Ty) → each V B n t → each W D m (over f a t)
+  made : (V W : ℕ → ℕ → Type 0) (B D : ℕ → Type 0) (f : At Ty) (a n m : ℕ) →
+      ((e i : ℕ) → V (deep n e) i → each W D (deep m e) (f (deep a e) i)) → ((e : ℕ) → B (deep n e) → D (deep m e)) →
+      (t : Ty) → each V B n t → each W D m (over f a t)
   made V W B D f a n m k l IntTy u = tt
   made V W B D f a n m k l (VarTy i) u = k 0 i u
-  made V W B D f a n m k l (CodeTy p x) u = (made_deeper B D n m p l 0 u.0, made_file V W B D f (a + p) (n + p) (m + p) (made_more V W D f a n m p k) (made_deeper B D n m p l) x u.1)
-  made V W B D f a n m k l (ExistsTy t) u = (l 1 u.0, made V W B D f (a + 1) (n + 1) (m + 1) (λ e. k (suc e)) (λ e. l (suc e)) t u.1)
+  made V W B D f a n m k l (CodeTy p x) u = (
+    made_deeper B D n m p l 0 u.0,
+    made_file V W B D f (a + p) (n + p) (m + p) (made_more V W D f a n m p k) (made_deeper B D n m p l) x u.1,
+  )
+  made V W B D f a n m k l (ExistsTy t) u =
+      (l 1 u.0, made V W B D f (a + 1) (n + 1) (m + 1) (λ e. k (suc e)) (λ e. l (suc e)) t u.1)
   made V W B D f a n m k l (TupleTy x) u = made_fields V W B D f a n m k l x u
 
-  made_file : (V W : ℕ → ℕ → Type 0) (B D : ℕ → Type 0) (f : At Ty) (a n m : ℕ) → ((e i : ℕ) → V (deep n e) i → each W D (deep m e) (f (deep a e) i)) → ((e : ℕ) → B (deep n e) → D (deep m e)) → (x : TFile) → each_file V B n x → each_file W D m (over_file f a x)
+  made_file : (V W : ℕ → ℕ → Type 0) (B D : ℕ → Type 0) (f : At Ty) (a n m : ℕ) →
+      ((e i : ℕ) → V (deep n e) i → each W D (deep m e) (f (deep a e) i)) → ((e : ℕ) → B (deep n e) → D (deep m e)) →
+      (x : TFile) → each_file V B n x → each_file W D m (over_file f a x)
   made_file V W B D f a n m k l NoRegs u = tt
-  made_file V W B D f a n m k l (MoreRegs r t x) u = (made V W B D f a n m k l t u.0, made_file V W B D f a n m k l x u.1)
+  made_file V W B D f a n m k l (MoreRegs r t x) u =
+      (made V W B D f a n m k l t u.0, made_file V W B D f a n m k l x u.1)
 
-  made_fields : (V W : ℕ → ℕ → Type 0) (B D : ℕ → Type 0) (f : At Ty) (a n m : ℕ) → ((e i : ℕ) → V (deep n e) i → each W D (deep m e) (f (deep a e) i)) → ((e : ℕ) → B (deep n e) → D (deep m e)) → (x : TFields) → each_fields V B n x → each_fields W D m (over_fields f a x)
+  made_fields : (V W : ℕ → ℕ → Type 0) (B D : ℕ → Type 0) (f : At Ty) (a n m : ℕ) →
+      ((e i : ℕ) → V (deep n e) i → each W D (deep m e) (f (deep a e) i)) → ((e : ℕ) → B (deep n e) → D (deep m e)) →
+      (x : TFields) → each_fields V B n x → each_fields W D m (over_fields f a x)
   made_fields V W B D f a n m k l NoFields u = tt
-  made_fields V W B D f a n m k l (MoreFields t flag x) u = (made V W B D f a n m k l t u.0, made_fields V W B D f a n m k l x u.1)
+  made_fields V W B D f a n m k l (MoreFields t flag x) u =
+      (made V W B D f a n m k l t u.0, made_fields V W B D f a n m k l x u.1)
 
 -- types, which stand for type variables
 pub types_part : IsPart Ty VarTy over
@@ -116,15 +148,22 @@ keeps_types : (f : At Ty) (a : ℕ) → ((e i : ℕ) → f (deep a e) i ≡ VarT
 keeps_types f a h [] = refl
 keeps_types f a h (t ∷ ts) = ap₂ (λ (u : Ty) (us : List Ty). u ∷ us) (keeps f a h t) (keeps_types f a h ts)
 
-after_types : (f g h : At Ty) (a b c : ℕ) → ((e i : ℕ) → over g (deep b e) (f (deep a e) i) ≡ h (deep c e) i) → (ts : List Ty) → over_types g b (over_types f a ts) ≡ over_types h c ts
+after_types : (f g h : At Ty) (a b c : ℕ) → ((e i : ℕ) → over g (deep b e) (f (deep a e) i) ≡ h (deep c e) i) →
+    (ts : List Ty) → over_types g b (over_types f a ts) ≡ over_types h c ts
 after_types f g h a b c k [] = refl
-after_types f g h a b c k (t ∷ ts) = ap₂ (λ (u : Ty) (us : List Ty). u ∷ us) (after f g h a b c k t) (after_types f g h a b c k ts)
+after_types f g h a b c k (t ∷ ts) =
+    ap₂ (λ (u : Ty) (us : List Ty). u ∷ us) (after f g h a b c k t) (after_types f g h a b c k ts)
 
-agree_types : (V : ℕ → ℕ → Type 0) (B : ℕ → Type 0) (f g : At Ty) (a b m : ℕ) → ((e i : ℕ) → V (deep m e) i → f (deep a e) i ≡ g (deep b e) i) → (ts : List Ty) → each_types V B m ts → over_types f a ts ≡ over_types g b ts
+agree_types : (V : ℕ → ℕ → Type 0) (B : ℕ → Type 0) (f g : At Ty) (a b m : ℕ) →
+    ((e i : ℕ) → V (deep m e) i → f (deep a e) i ≡ g (deep b e) i) → (ts : List Ty) → each_types V B m ts →
+    over_types f a ts ≡ over_types g b ts
 agree_types V B f g a b m k [] u = refl
-agree_types V B f g a b m k (t ∷ ts) u = ap₂ (λ (x : Ty) (xs : List Ty). x ∷ xs) (agree V B f g a b m k t u.0) (agree_types V B f g a b m k ts u.1)
+agree_types V B f g a b m k (t ∷ ts) u =
+    ap₂ (λ (x : Ty) (xs : List Ty). x ∷ xs) (agree V B f g a b m k t u.0) (agree_types V B f g a b m k ts u.1)
 
-made_types : (V W : ℕ → ℕ → Type 0) (B D : ℕ → Type 0) (f : At Ty) (a n m : ℕ) → ((e i : ℕ) → V (deep n e) i → each W D (deep m e) (f (deep a e) i)) → ((e : ℕ) → B (deep n e) → D (deep m e)) → (ts : List Ty) → each_types V B n ts → each_types W D m (over_types f a ts)
+made_types : (V W : ℕ → ℕ → Type 0) (B D : ℕ → Type 0) (f : At Ty) (a n m : ℕ) →
+    ((e i : ℕ) → V (deep n e) i → each W D (deep m e) (f (deep a e) i)) → ((e : ℕ) → B (deep n e) → D (deep m e)) →
+    (ts : List Ty) → each_types V B n ts → each_types W D m (over_types f a ts)
 made_types V W B D f a n m k l [] u = tt
 made_types V W B D f a n m k l (t ∷ ts) u = (made V W B D f a n m k l t u.0, made_types V W B D f a n m k l ts u.1)
 

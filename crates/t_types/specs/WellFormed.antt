@@ -51,11 +51,13 @@ mutual
 
   pub regs_above_prop : (low n : ℕ) (file : TFile) → IsProp (RegsAbove low n file)
   regs_above_prop low n NoRegs = Unit-prop
-  regs_above_prop low n (MoreRegs r t file) = let here = well_formed_prop n t in let rest = regs_above_prop r n file in hlevel (le_prop, here, rest)
+  regs_above_prop low n (MoreRegs r t file) = let here = well_formed_prop n t in let rest =
+      regs_above_prop r n file in hlevel (le_prop, here, rest)
 
   pub fields_prop : (n : ℕ) (fields : TFields) → IsProp (WellFormedFields n fields)
   fields_prop n NoFields = Unit-prop
-  fields_prop n (MoreFields t flag fields) = let here = well_formed_prop n t in let rest = fields_prop n fields in hlevel (here, rest)
+  fields_prop n (MoreFields t flag fields) = let here = well_formed_prop n t in let rest =
+      fields_prop n fields in hlevel (here, rest)
 
 pub types_prop : (n : ℕ) (ts : List Ty) → IsProp (WellFormedTypes n ts)
 types_prop n [] = Unit-prop

@@ -87,7 +87,8 @@ abbrev pub value_written : ℕ → TValue → List Lexeme
 value_written d (Plain b ts) = base_written b ∷ args_written d ts
 value_written d (Pack t v s) =
     Reserved (codes "pack") k.Pack ∷ (Sign 91 k.LeftBracket ∷ (type_written d t ++ (comma ∷ (space ∷
-    (value_written d v ++ (Sign 93 k.RightBracket ∷ (space ∷ (Reserved (codes "as") k.As ∷ (space ∷ type_written d s)))))))))
+    (value_written d v ++ (Sign 93 k.RightBracket ∷
+    (space ∷ (Reserved (codes "as") k.As ∷ (space ∷ type_written d s)))))))))
 
 abbrev pub op_written : Op → Lexeme
 op_written Add = Reserved (codes "add") k.Add

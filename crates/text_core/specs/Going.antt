@@ -6,16 +6,20 @@ abbrev pub verdict : (g : Table) → ℕ → List g.Tok → Stack g → List g.V
 verdict g limit w s vs = bounded g limit w (exec g w s vs)
 
 -- where d constructs are open around: what is owed at i, over these values, is what is left at j, over those
-pub record Goes (g : Table) (limit : ℕ) (ts : List g.Tok) (d i : ℕ) (owed : Stack g) (vs : List g.Val) (j : ℕ) (left : Stack g) (us : List g.Val) : Type 0 where
+pub record Goes (g : Table) (limit : ℕ) (ts : List g.Tok) (d i : ℕ) (owed : Stack g) (vs : List g.Val) (j : ℕ)
+    (left : Stack g) (us : List g.Val) : Type 0 where
   pub leads : (s : Stack g) (below : List g.Val) → marks g s ≡ d →
       verdict g limit (drop i ts) (owed ++ s) (vs ++ below) ≡ verdict g limit (drop j ts) (left ++ s) (us ++ below)
 
 -- and where it comes to this verdict
-pub record Stops (g : Table) (limit : ℕ) (ts : List g.Tok) (d i : ℕ) (owed : Stack g) (vs : List g.Val) (v : Verdict g) : Type 0 where
-  pub leads : (s : Stack g) (below : List g.Val) → marks g s ≡ d → verdict g limit (drop i ts) (owed ++ s) (vs ++ below) ≡ v
+pub record Stops (g : Table) (limit : ℕ) (ts : List g.Tok) (d i : ℕ) (owed : Stack g) (vs : List g.Val)
+    (v : Verdict g) : Type 0 where
+  pub leads : (s : Stack g) (below : List g.Val) → marks g s ≡ d →
+      verdict g limit (drop i ts) (owed ++ s) (vs ++ below) ≡ v
 
 -- what was owed at i has been read up to `next`, over these values
-pub record Reads (g : Table) (limit : ℕ) (ts : List g.Tok) (d i : ℕ) (owed : Stack g) (vs : List g.Val) (next : ℕ) (left : Stack g) (us : List g.Val) : Type 0 where
+pub record Reads (g : Table) (limit : ℕ) (ts : List g.Tok) (d i : ℕ) (owed : Stack g) (vs : List g.Val) (next : ℕ)
+    (left : Stack g) (us : List g.Val) : Type 0 where
   pub forward : i < next
   pub in_range : next ≤ length ts
   pub same : Goes g limit ts d i owed vs next left us

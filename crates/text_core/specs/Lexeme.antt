@@ -74,13 +74,18 @@ pub record IsValue (value_is : ℕ) (fits : Bool) (ds : List ℕ) : Type 0 where
 abbrev pub IsLexeme : List ℕ → ℕ → Lexeme → Type 0
 IsLexeme text at (Blank end) = Within text at end × (piece (drop at text) ≡ PGap (end - at))
 IsLexeme text at (Word end) = Within text at end × (piece (drop at text) ≡ PWord (end - at))
-IsLexeme text at (Plain d) = Within text at d.end × (piece (drop at text) ≡ PPlain (d.end - at)) × IsValue d.value d.fits (take (d.end - at) (drop at text))
-IsLexeme text at (Negative d) = Within text at d.end × (piece (drop at text) ≡ PNegative (d.end - at)) × IsValue d.value d.fits (drop 1 (take (d.end - at) (drop at text)))
+IsLexeme text at (Plain d) =
+    Within text at d.end × (piece (drop at text) ≡ PPlain (d.end - at))
+    × IsValue d.value d.fits (take (d.end - at) (drop at text))
+IsLexeme text at (Negative d) =
+    Within text at d.end × (piece (drop at text) ≡ PNegative (d.end - at))
+    × IsValue d.value d.fits (drop 1 (take (d.end - at) (drop at text)))
 IsLexeme text at Other = piece (drop at text) ≡ POther
 
 -- what a language finds at a place, over its set of tokens
 abbrev pub IsFound : (g : Tokens) → List ℕ → ℕ → Found g.Kind → Type 0
 IsFound g text at (Skip end) = Within text at end × (item g (drop at text) ≡ Gap (end - at))
 IsFound g text at (Read k end) = Within text at end × (item g (drop at text) ≡ Spelling k (end - at)) × g.Keeps k
-IsFound g text at (Large end) = Within text at end × ((k : g.Kind) × (item g (drop at text) ≡ Spelling k (end - at)) × ¬ g.Keeps k)
+IsFound g text at (Large end) =
+    Within text at end × ((k : g.Kind) × (item g (drop at text) ≡ Spelling k (end - at)) × ¬ g.Keeps k)
 IsFound g text at Bad = item g (drop at text) ≡ Nothing

@@ -18,10 +18,12 @@ abbrev pub check : {Code Place : Type 0} → Type 0 → Refusal Code Place → R
 check P fault rest c p = ((P → ⊥) × fault c p) ⊎ (P × rest c p)
 
 -- a part is checked: its fault, or the rest follows, with what the part gives
-abbrev pub part : {Code Place A : Type 0} → Refusal Code Place → (A → Type 0) → (A → Refusal Code Place) → Refusal Code Place
+abbrev pub part : {Code Place A : Type 0} → Refusal Code Place → (A → Type 0) → (A → Refusal Code Place) →
+    Refusal Code Place
 part fault Gives rest c p = fault c p ⊎ ((x : _) × Gives x × rest x c p)
 
 -- what is looked up: the one refusal where it is not there, else the other follows
-abbrev pub if_known : {Code Place A : Type 0} → Option A → Refusal Code Place → (A → Refusal Code Place) → Refusal Code Place
+abbrev pub if_known : {Code Place A : Type 0} → Option A → Refusal Code Place → (A → Refusal Code Place) →
+    Refusal Code Place
 if_known None other go = other
 if_known (Some x) other go = go x

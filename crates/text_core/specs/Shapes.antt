@@ -19,7 +19,8 @@ Begins g u = (z : List g.Tok) × IsShape g (u ++ z)
 
 -- at the token c after the tokens u, n constructs are open in every shape that begins so
 abbrev pub Holds : (g : Grammar) → List g.Tok → g.Tok → ℕ → Type 0
-Holds g u c n = (z : List g.Tok) (t : g.Tree) (e : g.Shape ((u ++ c ∷ []) ++ z) t) → slice_index (g.opens ((u ++ c ∷ []) ++ z) t e) (length u) ≡ n
+Holds g u c n = (z : List g.Tok) (t : g.Tree) (e : g.Shape ((u ++ c ∷ []) ++ z) t) →
+    slice_index (g.opens ((u ++ c ∷ []) ++ z) t e) (length u) ≡ n
 
 -- the tokens up to and with c begin a shape, and more constructs than the limit are open at c
 pub record Passes (g : Grammar) (limit : ℕ) (u : List g.Tok) (c : g.Tok) : Type 0 where

@@ -60,7 +60,8 @@ finish g (Nt n ∷ s) vs = if g.may_end n then finish g s vs else None
 finish g (Do a ∷ s) vs = finish g s (g.act a vs)
 finish g (Mark ∷ s) vs = finish g s vs
 
--- what comes of the tokens: values, or a stop before these; each token that was read shows how many constructs are open at it
+-- what comes of the tokens: values, or a stop before these; each token that was read shows how many constructs are open
+-- at it
 pub data Outcome (g : Table) : Type 0 where
   Done : List g.Val → Outcome g
   Stop : List g.Tok → Outcome g
@@ -90,7 +91,8 @@ exec g (c ∷ w) s vs = go g (exec g w) (c ∷ w) (step g s vs c)
 abbrev pub whole : (g : Table) → List g.Tok → Outcome g
 whole g w = exec g w (Nt g.first ∷ []) []
 
--- the outcome under a limit on open constructs: values, or the tokens from the first that is unexpected or passes the limit
+-- the outcome under a limit on open constructs: values, or the tokens from the first that is unexpected or passes the
+-- limit
 pub data Verdict (g : Table) : Type 0 where
   Fine : List g.Val → Verdict g
   Unexpected : List g.Tok → Verdict g

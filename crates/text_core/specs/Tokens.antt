@@ -24,7 +24,8 @@ pub record Tokens : Type 1 where
 pub data Spells (g : Tokens) : List ℕ → g.Kind → Type 0 where
   s_word : (b : ℕ) (s : List ℕ) → letter b ≡ true → list_all of_word s ≡ true → Spells g (b ∷ s) (g.word (b ∷ s))
   s_plain : (b : ℕ) (s : List ℕ) → list_all digit (b ∷ s) ≡ true → Spells g (b ∷ s) (g.plain (value (b ∷ s)))
-  s_negative : (b : ℕ) (s : List ℕ) → list_all digit (b ∷ s) ≡ true → Spells g (126 ∷ (b ∷ s)) (g.negative (value (b ∷ s)))
+  s_negative : (b : ℕ) (s : List ℕ) → list_all digit (b ∷ s) ≡ true →
+      Spells g (126 ∷ (b ∷ s)) (g.negative (value (b ∷ s)))
   s_sign : (b : ℕ) (k : g.Kind) → g.sign b ≡ Some k → Spells g (b ∷ []) k
   s_pair : (b c : ℕ) (k : g.Kind) → g.pair b c ≡ Some k → Spells g (b ∷ (c ∷ [])) k
 
@@ -60,21 +61,25 @@ pub data Item (K : Type 0) : Type 0 where
 -- what stands at the start of a text that is not at its end: a gap first, else the longest spelling
 pub data Next (g : Tokens) : List ℕ → Item g.Kind → Type 0 where
   n_gap : {u r : List ℕ} → IsGap u r → Next g (u ++ r) (Gap (length u))
-  n_spelling : {u r : List ℕ} {k : g.Kind} → NoGap (u ++ r) → IsLongest g u r k → Next g (u ++ r) (Spelling k (length u))
+  n_spelling : {u r : List ℕ} {k : g.Kind} → NoGap (u ++ r) → IsLongest g u r k →
+      Next g (u ++ r) (Spelling k (length u))
   n_nothing : {s : List ℕ} → s ≢ [] → NoGap s → NoSpelling g s → Next g s Nothing
 
 -- the bytes s, which stand from the place i on, are cut into these tokens, which all keep their bounds
 pub data Cut (g : Tokens) : ℕ → List ℕ → List g.Token → Type 0 where
   c_end : {i : ℕ} → Cut g i [] []
   c_gap : {i n : ℕ} {s : List ℕ} {w : List g.Token} → Next g s (Gap n) → Cut g (i + n) (drop n s) w → Cut g i s w
-  c_token : {i n : ℕ} {k : g.Kind} {s : List ℕ} {w : List g.Token} → Next g s (Spelling k n) → g.Keeps k → Cut g (i + n) (drop n s) w →
+  c_token : {i n : ℕ} {k : g.Kind} {s : List ℕ} {w : List g.Token} → Next g s (Spelling k n) → g.Keeps k →
+      Cut g (i + n) (drop n s) w →
       Cut g i s (g.token k i (i + n) ∷ w)
 
--- from the place i with the bytes s after it, the place j with the bytes r after it is reached by gaps and by spellings that keep their bounds
+-- from the place i with the bytes s after it, the place j with the bytes r after it is reached by gaps and by spellings
+-- that keep their bounds
 pub data Reaches (g : Tokens) : ℕ → List ℕ → ℕ → List ℕ → Type 0 where
   r_here : {i : ℕ} {s : List ℕ} → Reaches g i s i s
   r_gap : {i n j : ℕ} {s r : List ℕ} → Next g s (Gap n) → Reaches g (i + n) (drop n s) j r → Reaches g i s j r
-  r_token : {i n j : ℕ} {k : g.Kind} {s r : List ℕ} → Next g s (Spelling k n) → g.Keeps k → Reaches g (i + n) (drop n s) j r → Reaches g i s j r
+  r_token : {i n j : ℕ} {k : g.Kind} {s r : List ℕ} → Next g s (Spelling k n) → g.Keeps k →
+      Reaches g (i + n) (drop n s) j r → Reaches g i s j r
 
 -- how a text may fail to be cut
 pub data Reason : Type 0 where

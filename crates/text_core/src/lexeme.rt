@@ -100,7 +100,8 @@ pub fn word_end(text: &[u8], at: usize) -> usize
 pub fn read_digits(text: &[u8], at: usize) -> Digits
     requires { at ≤ length text.now }
     ensures end { result.end ≡ at + prefix_len byte.digit (drop at text.now) }
-    ensures is_value { IsValue result.value result.fits (take (prefix_len byte.digit (drop at text.now)) (drop at text.now)) }
+    ensures is_value { IsValue result.value result.fits (take (prefix_len byte.digit (drop at text.now))
+        (drop at text.now)) }
 {
     let mut value = 0u64;
     let mut fits = true;

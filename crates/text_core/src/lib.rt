@@ -1,7 +1,8 @@
-//! What the readers of the source and of assembly share: how a text is cut into tokens, and tables of predictive grammars.
+//! What the readers of the source and of assembly share: how a text is cut into tokens, and tables of predictive
+//! grammars.
 #![tactic(auto)]
 
-pub mod lexeme;
+mod lexeme;
 
 pub use lexeme::{
     Digits, Found, Lexeme, is_digit, is_letter, is_of_word, line_end, next_lexeme, read_digits,

@@ -1,7 +1,5 @@
-use Rattle.std.proofs.Common.{◌≡◌, ℕ, Bool, false, map, take}
-use Rattle.t_types.specs.Tree.{Ty}
-use Rattle.t_types.specs.Read.{tree, flag}
-use Rattle.t_types.specs.declared.types.TType.{TType}
+use Rattle.std.proofs.Common.{◌≡◌, map, take}
+use Rattle.t_types.specs.Read.{flag}
 use Rattle.t_check.proofs.Emptied.{emptied}
 use Rattle.t_check.proofs.instructions.empty.Given as goal
 

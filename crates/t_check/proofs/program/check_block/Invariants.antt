@@ -1,4 +1,4 @@
-use Rattle.std.proofs.Common.{length, drop}
+use Rattle.std.proofs.Common.{◌≡◌, length, drop}
 use Rattle.t_types.specs.Fits.{lookup}
 use Rattle.t_types.specs.Read.{file}
 use Rattle.t_terms.specs.Spanned.{seq_of}
@@ -11,7 +11,8 @@ use Rattle.t_check.proofs.program.check_block.Given as goal
 
 abbrev pub invariant-loop-step : goal.invariant-loop-step
 invariant-loop-step l = record {
-  sound : IsSound l.registers;
-  formed : WellFormedSeq (length l.program.blocks.items) (length l.program.heap.items) l.registers.names (seq_of (body (drop l.step-index l.step-items)) (end_of l.block.end));
-  left : IsLeft (program l.program) (end_of l.block.end) l.block.end_span l.block.owes l.registers.names (lookup (file l.block.regs.regs.items)) (known l.registers) l.step-items (drop l.step-index l.step-items);
+  sound : IsSound l.checker.registers;
+  same : l.checker.program.now ≡ l.program;
+  formed : WellFormedSeq (length l.program.blocks.items) (length l.program.heap.items) l.checker.registers.names (seq_of (body (drop l.step-index l.step-items)) (end_of l.block.end));
+  left : IsLeft (program l.program) (end_of l.block.end) l.block.end_span l.block.owes l.checker.registers.names (lookup (file l.block.regs.regs.items)) (known l.checker.registers) l.step-items (drop l.step-index l.step-items);
 }

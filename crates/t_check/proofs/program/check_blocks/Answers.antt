@@ -1,4 +1,4 @@
-use Rattle.std.proofs.Common.{List, ◌≡◌, ◌<◌, ◌∙◌, length, get_or, sym, subst, ap}
+use Rattle.std.proofs.Common.{List, ◌≡◌, ◌<◌, length, get_or, subst}
 use Rattle.t_terms.specs.declared.block.Block.{Block}
 use Rattle.t_terms.specs.ReadProgram.{program}
 use Rattle.t_check.proofs.Blocks.{formed_at}

@@ -1,8 +1,6 @@
-use Rattle.std.proofs.Common.{List, ◌≡◌, ◌<◌, ◌∙◌, length, get_or, sym, subst, ap}
-use Rattle.idx_core.specs.declared.span.Span.{Span}
-use Rattle.t_types.specs.declared.types.TType.{TType}
+use Rattle.std.proofs.Common.{List, ◌≡◌, ◌<◌, length, get_or, sym, subst}
+use Rattle.std.proofs.lemmas.Result.{err_from_is_err_and}
 use Rattle.t_terms.specs.declared.data.Data.{Data}
-use Rattle.t_terms.specs.declared.value.Value.{Value}
 use Rattle.t_terms.specs.Read.{data_fields, spanned_data, spanned_heap}
 use Rattle.t_terms.specs.Spanned.{plain_fields}
 use Rattle.t_terms.specs.ReadProgram.{program}
@@ -14,27 +12,28 @@ use Rattle.t_check.proofs.Blocks.{formed_data_at}
 use Rattle.t_check.proofs.Bodies.{Field, data_fault, data_more, data_end}
 use Rattle.t_check.proofs.program.check_heap.Goals as goal
 
-pub check_data-requires : goal.check_data-requires
-check_data-requires c =
+pub check_data-requires-clause-formed : goal.check_data-requires-clause-formed
+check_data-requires-clause-formed c =
     let p = c.args.program.now in
     let i = c.loop-tuple.tuple-index in
     let x = c.tuple-item.result in
     subst (λ (xs : List Field). FormedData p (data_fields xs)) (sym c.deref.ensures.value)
     (formed_data_at p i x (subst (λ (xs : List Data). i < length xs) c.requires c.loop-tuple-test.true) (subst (λ (xs : List Data). x ≡ get_or xs i x) c.requires c.tuple-item.is) p.whole)
 
-pub returns-in-Err : goal.returns-in-Err
-returns-in-Err c =
+pub returns-in_err-check_data : goal.returns-in_err-check_data
+returns-in_err-check_data c =
+    let p = err_from_is_err_and c.from_residual.result c.from_residual.ensures.1 in
     let P = program c.args.program.now in
     let x = c.tuple-item.result in
-    says_map c.in-Err.e (DataFault P (spanned_data x).fields) (HeapFault P (spanned_heap c.args.heap.now))
+    rw (p.1, p.2) (says_map c.in_err-check_data.field-0.0 (DataFault P (spanned_data x).fields) (HeapFault P (spanned_heap c.args.heap.now))
     (data_fault P c.args.heap.now c.loop-tuple.tuple-index x c.loop-tuple-test.true c.tuple-item.is c.loop-tuple.invariant)
-    (subst (λ (xs : List Field). Says c.in-Err.e (DataFault P (data_fields xs))) c.deref.ensures.value c.in-Err.ensures)
+    (subst (λ (xs : List Field). Says c.in_err-check_data.field-0.0 (DataFault P (data_fields xs))) c.deref.ensures.value c.in_err-check_data.ensures))
 
 pub loop-tuple-preserved : goal.loop-tuple-preserved
 loop-tuple-preserved c =
     let P = program c.args.program.now in
     data_more P c.args.heap.now c.loop-tuple.tuple-index c.tuple-item.result c.loop-tuple-test.true c.tuple-item.is
-    (subst (λ (xs : List Field). DataAccepted P (plain_fields (data_fields xs))) c.deref.ensures.value c.in-Ok.ensures) c.loop-tuple.invariant
+    (subst (λ (xs : List Field). DataAccepted P (plain_fields (data_fields xs))) c.deref.ensures.value c.in_ok-check_data.ensures) c.loop-tuple.invariant
 
 pub returns : goal.returns
 returns c = data_end (program c.args.program.now) c.args.heap.now c.loop-tuple.tuple-index c.loop-tuple-test.false c.loop-tuple.invariant

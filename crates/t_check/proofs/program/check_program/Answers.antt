@@ -1,4 +1,5 @@
-use Rattle.std.proofs.Common.{List, ◌≡◌, ◌<◌, ◌≤◌, length, arith, refl, sym, subst, Result, Ok, true≢false}
+use Rattle.std.proofs.Common.{List, ◌<◌, length, arith, refl, sym, subst, Result, true≢false}
+use Rattle.std.proofs.lemmas.Result.{err_from_is_err_and}
 use Rattle.t_terms.specs.declared.block.Block.{Block}
 use Rattle.t_terms.specs.declared.data.Data.{Data}
 use Rattle.t_terms.specs.declared.fault.TFault.{TFault}
@@ -19,19 +20,21 @@ returns-then-not-takes_nothing c =
     subst (λ (r : Result (Unit {0}) TFault). IsProgram (spanned_program p) r) (sym c.refused.ensures)
     (first_fault p c.index-first.result.now lt c.index-first.ensures (λ h. true≢false (sym (c.if-not-takes_nothing.ensures.1 h))))
 
-pub returns-in-Ok : goal.returns-in-Ok
-returns-in-Ok c =
+pub returns : goal.returns
+returns c =
     let p = c.args.program.now in
     let some = p.whole.0 in
     let lt : 0 < length p.blocks.items = omega (arith, blocks_count p.blocks.items) in
     let first = first_takes p.blocks.items c.index-first.result.now lt c.index-first.ensures (c.if-not-takes_nothing.ensures.0 refl) in
-    let heap = subst (λ (xs : List Data). HeapAccepted (program p) (data_of xs)) c.deref.ensures.value c.in-Ok.ensures in
-    program_is p first heap c.check_blocks.result (subst (λ (bs : List Block). AreBlocks (program p) (spanned_blocks bs) c.check_blocks.result) c.deref-in-Ok.ensures.value c.check_blocks.ensures)
+    let heap = subst (λ (xs : List Data). HeapAccepted (program p) (data_of xs)) c.deref.ensures.value c.in_ok-check_heap.ensures in
+    program_is p first heap c.check_blocks.result (subst (λ (bs : List Block). AreBlocks (program p) (spanned_blocks bs) c.check_blocks.result) c.deref-2.ensures.value c.check_blocks.ensures)
 
-pub returns-in-Err : goal.returns-in-Err
-returns-in-Err c =
+pub returns-in_err-check_heap : goal.returns-in_err-check_heap
+returns-in_err-check_heap c =
     let p = c.args.program.now in
     let some = p.whole.0 in
     let lt : 0 < length p.blocks.items = omega (arith, blocks_count p.blocks.items) in
     let first = first_takes p.blocks.items c.index-first.result.now lt c.index-first.ensures (c.if-not-takes_nothing.ensures.0 refl) in
-    heap_fault p first c.in-Err.e (subst (λ (xs : List Data). Says c.in-Err.e (HeapFault (program p) (spanned_heap xs))) c.deref.ensures.value c.in-Err.ensures)
+    let q = err_from_is_err_and c.from_residual.result c.from_residual.ensures.1 in
+    let e = c.in_err-check_heap.field-0.0 in
+    rw (q.1, q.2) (heap_fault p first e (subst (λ (xs : List Data). Says e (HeapFault (program p) (spanned_heap xs))) c.deref.ensures.value c.in_err-check_heap.ensures))

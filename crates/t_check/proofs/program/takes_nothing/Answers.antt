@@ -1,4 +1,4 @@
-use Rattle.std.proofs.Common.{rules, true, false, ◌≡◌, ◌↔◌, ◌==◌, ℕ, List, [], ◌∷◌, length, Bool, IsTrue, refl, ◌∙◌, arith}
+use Rattle.std.proofs.Common.{rules, true, false, ◌≡◌, ◌==◌, ℕ, List, [], ◌∷◌, length, Bool, IsTrue, refl, arith}
 use Rattle.std.proofs.lemmas.Bool.Decides.{nat_tests}
 use Rattle.t_types.specs.Tree.{NoRegs}
 use Rattle.t_types.specs.Read.{file}

@@ -1,7 +1,7 @@
 use Rattle.std.proofs.Common.{◌≡◌, true, arith, ap, sym, ◌∙◌}
 use Rattle.std.specs.Vec.{with_item}
-use Rattle.t_types.specs.Tree.{TFields, TupleTy}
-use Rattle.t_types.specs.Fields.{AField, field, filled}
+use Rattle.t_types.specs.Tree.{TupleTy}
+use Rattle.t_types.specs.Fields.{field, filled}
 use Rattle.t_types.specs.Read.{tree, fields}
 use Rattle.t_types.proofs.Trees.{tree_Tuple}
 use Rattle.t_check.proofs.Tuples.{field_within, filled_set}

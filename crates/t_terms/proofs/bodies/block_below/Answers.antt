@@ -1,4 +1,4 @@
-use Rattle.std.proofs.Common.{ℕ, List, ◌+◌, refl, sym, subst, ◌∙◌}
+use Rattle.std.proofs.Common.{List, ◌+◌, refl, sym, subst}
 use Rattle.idx_core.specs.declared.span.Span.{Span}
 use Rattle.t_terms.specs.declared.instr.Instr.{Instr}
 use Rattle.t_terms.specs.Spanned.{BodyBelow}

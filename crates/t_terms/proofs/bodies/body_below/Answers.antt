@@ -1,7 +1,7 @@
-use Rattle.std.proofs.Common.{refl, sym, ◌∙◌, true≢false}
+use Rattle.std.proofs.Common.{sym, ◌∙◌, true≢false}
 use Rattle.t_terms.specs.Tree.{names_after}
 use Rattle.t_terms.specs.Read.{instr, end_of}
-use Rattle.t_terms.proofs.BodyWalks.{BelowFrom, below_on, below_here, below_done}
+use Rattle.t_terms.proofs.BodyWalks.{below_on, below_here, below_done}
 use Rattle.t_terms.proofs.bodies.body_below.Goals as goal
 
 pub loop-entry-init : goal.loop-entry-init

@@ -1,8 +1,8 @@
 use Rattle.std.proofs.Common.{ap, ap₂, ◌≡◌, ◌+◌, ◌-◌, ◌≤◌, arith, ◌∙◌}
 use Rattle.idx_core.specs.Steps.{put_step}
-use Rattle.t_types.specs.Tree.{Ty, TFile, shift, put_file}
+use Rattle.t_types.specs.Tree.{TFile, shift, put_file}
 use Rattle.t_types.specs.TreeLaws.{types_part, file_over}
-use Rattle.t_terms.specs.Tree.{TSeq, TBlock, Unpack, Then, put_value, put_seq}
+use Rattle.t_terms.specs.Tree.{TSeq, Unpack, Then, put_value, put_seq}
 use Rattle.t_terms.specs.TreeLaws.{seq_over}
 use Rattle.t_terms.proofs.laws.puts_under.Goals as goal
 

@@ -1,6 +1,6 @@
-use Rattle.std.proofs.Common.{◌≡◌, ◌∙◌, ap, sym, refl, subst, arith, set, get_or, All, List, ℕ}
+use Rattle.std.proofs.Common.{◌≡◌, ◌∙◌, ap, sym, subst, set, get_or, All, List, ℕ}
 use Rattle.std.proofs.lemmas.List.{set-set, get_or-set_same}
-use Rattle.t_types.specs.Tree.{Ty, TFields, TupleTy}
+use Rattle.t_types.specs.Tree.{TFields, TupleTy}
 use Rattle.t_types.specs.Fields.{filled}
 use Rattle.t_types.specs.Read.{tree}
 use Rattle.t_types.specs.declared.types.TType.{TType}

@@ -1,7 +1,6 @@
 use Rattle.std.proofs.Common.{rules, ◌≡◌, arith, refl, sym, subst, ◌∙◌, ap}
 use Rattle.std.specs.List.{insert}
 use Rattle.std.proofs.lemmas.List.Elements.{All-set, All-same}
-use Rattle.t_types.specs.Read.{tree}
 use Rattle.t_rules.specs.Registers.{with_reg}
 use Rattle.t_check.specs.declared.registers.Entry.{Entry}
 use Rattle.t_check.specs.Known.{Rising, known_in, IsEntry}

@@ -1,4 +1,4 @@
-use Rattle.std.proofs.Common.{rules, ◌<◌, ◌≡◌, ◌∙◌, length, List, true, false, sym, subst, arith}
+use Rattle.std.proofs.Common.{rules, ◌<◌, ◌≡◌, length, List, true, false, sym, subst, arith}
 use Rattle.std.proofs.Math.Dec.{ltb}
 use Rattle.std.specs.List.Sorted.{IsPartitionPoint}
 use Rattle.std.proofs.lemmas.List.Sorted.{IsPartitionPoint-from_clause, IsPartitionedBy-ltb}

@@ -7,7 +7,7 @@ use Rattle.k_terms.specs.Stream as N
 use Rattle.k_terms.specs.Read.{knode, ktys}
 use Rattle.k_terms.specs.declared.types.KType.{KType}
 use Rattle.k_terms.specs.declared.node.KNode.{KNode}
-use Rattle.c_terms.specs.C.{CTys}
+use Rattle.c_terms.specs.C.{CTy, CTys}
 use Rattle.c_terms.specs.Stream as S
 use Rattle.c_terms.specs.Read.{cnode, written}
 use Rattle.c_terms.specs.declared.node.CNode.{CNode}
@@ -64,6 +64,14 @@ opened_is i n first last k rest e1 e2 e3 =
     ap (λ q. S.MCode i.owes i.args ∷ E.fields q first 1 (E.own_closure i.own last i rest)) e3
     ∙ ap (λ q. S.MCode i.owes i.args ∷ E.fields (length i.kept) q 1 (E.own_closure i.own last i rest)) f1
     ∙ ap (λ q. S.MCode i.owes i.args ∷ E.fields (length i.kept) (lift n 2) 1 (E.own_closure i.own q i rest)) f2
+
+pub own_is : (i : E.Info) (own : Bool) (apply : CTys) (hidden shape : CTy) (level : ℕ) (rest : List S.CNd) → own ≡ true → i.apply_in ≡ apply → i.hidden_in ≡ hidden → i.shape_in ≡ shape →
+    (let list : List S.CNd = S.MVar 0 ∷ S.MApply apply ∷ S.MVar 1 ∷ S.MTuple 2 ∷ S.MPack hidden shape ∷ S.MName level ∷ rest in list) ≡ E.own_closure own level i rest
+own_is i own apply hidden shape level rest e1 e2 e3 e4 =
+    ap (λ ts. S.MVar 0 ∷ S.MApply ts ∷ S.MVar 1 ∷ S.MTuple 2 ∷ S.MPack hidden shape ∷ S.MName level ∷ rest) (sym e2)
+    ∙ ap (λ h. S.MVar 0 ∷ S.MApply i.apply_in ∷ S.MVar 1 ∷ S.MTuple 2 ∷ S.MPack h shape ∷ S.MName level ∷ rest) (sym e3)
+    ∙ ap (λ s. S.MVar 0 ∷ S.MApply i.apply_in ∷ S.MVar 1 ∷ S.MTuple 2 ∷ S.MPack i.hidden_in s ∷ S.MName level ∷ rest) (sym e4)
+    ∙ sym (ap (λ b. E.own_closure b level i rest) e1)
 
 pub code_step : (out0 out1 : List CNode) (f0 f1 : E.Frame) (fs0 fs1 : List E.Frame) (is0 is1 : List E.Info) (cs : List E.Note) (i : E.Info) (d td owes : ℕ) (args : KTys) (n : ℕ) (rest : List N.KNd) →
     is0 ≡ i ∷ is1 → fs1 ≡ f0 ∷ fs0 → f1 ≡ E.frame_of i d n → n ≡ kcount args → ((r : List S.CNd) → written out1 r ≡ written out0 (E.opened i n r)) →

@@ -1,7 +1,8 @@
 // What is written for one node.
 ghost use Rattle.std.specs.Prelude.{◌≡◌, ℕ, ◌∷◌, List, IfOk, OnOk};
 ghost use Rattle.c_terms.specs.Stream as S;
-ghost use Rattle.c_terms.specs.Read.{cnode, ctys, written};
+ghost use Rattle.term_core.specs.Ends.{after_one};
+ghost use Rattle.c_terms.specs.Read.{cnode, ctree, ctys, written};
 ghost use Rattle.c_walk.specs.Emit as E;
 ghost use Rattle.c_emit.specs.Read.{frame, info};
 
@@ -67,6 +68,34 @@ fn put_fields(out: &mut Vec<CNode>, k: u64, first: u64) -> Result<(), OutOfMemor
     Ok(())
 }
 
+// The code's own closure, where it is used, named at a level; the first level after it.
+fn put_own(
+    out: &mut Vec<CNode>,
+    own: bool,
+    apply: Vec<CType>,
+    hidden: CType,
+    shape: CType,
+    level: u64,
+) -> Result<u64, OutOfMemory>
+    ensures start { IfOk result (λ r. r ≡ after_one own level) }
+    ensures nodes { OnOk result ((i : E.Info) (rest : List S.CNd) →
+        i.apply_in ≡ ctys apply.items → i.hidden_in ≡ ctree hidden → i.shape_in ≡ ctree shape →
+        written out.new.items rest ≡ written out.old.items (E.own_closure own level i rest)) }
+{
+    if own {
+        put(out, CNode::Var(0))?;
+        put(out, CNode::Apply(apply))?;
+        put(out, CNode::Var(1))?;
+        put(out, CNode::Tuple(2))?;
+        put(out, CNode::Pack { hidden, shape })?;
+        put(out, CNode::Name(level))?;
+        let start = sum(level, 1)?;
+        Ok(start)
+    } else {
+        Ok(level)
+    }
+}
+
 /// Begins a code.
 pub fn enter(
     out: &mut Vec<CNode>,
@@ -76,7 +105,8 @@ pub fn enter(
 ) -> Result<Frame, OutOfMemory>
     ensures frame { IfOk result (λ f. frame f ≡ E.frame_of (info known) level count) }
     ensures nodes { OnOk result
-        ((rest : List S.CNd) → written out.new.items rest ≡ written out.old.items (E.opened (info known) count rest)) }
+        ((rest : List S.CNd) → written out.new.items rest ≡ written out.old.items
+        (E.opened (info known) count rest)) }
 {
     let Info {
         kept,
@@ -97,42 +127,17 @@ pub fn enter(
     let last = sum(first, length)?;
     put(out, CNode::Code { owes, args })?;
     put_fields(out, length, first)?;
-    if own {
-        put(out, CNode::Var(0))?;
-        put(out, CNode::Apply(apply_in))?;
-        put(out, CNode::Var(1))?;
-        put(out, CNode::Tuple(2))?;
-        put(
-            out,
-            CNode::Pack {
-                hidden: hidden_in,
-                shape: shape_in,
-            },
-        )?;
-        put(out, CNode::Name(last))?;
-        let start = sum(last, 1)?;
-        Ok(Frame {
-            level,
-            split,
-            first,
-            start,
-            kept,
-            apply,
-            hidden,
-            shape,
-        })
-    } else {
-        Ok(Frame {
-            level,
-            split,
-            first,
-            start: last,
-            kept,
-            apply,
-            hidden,
-            shape,
-        })
-    }
+    let start = put_own(out, own, apply_in, hidden_in, shape_in, last)?;
+    Ok(Frame {
+        level,
+        split,
+        first,
+        start,
+        kept,
+        apply,
+        hidden,
+        shape,
+    })
 }
 
 /// Ends a code.

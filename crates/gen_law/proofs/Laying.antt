@@ -1,12 +1,15 @@
 -- How a generated program is laid out.
-use Rattle.std.proofs.Common.{◌≡◌, ℕ, suc, ◌+◌, List, [], ◌∷◌, ◌++◌, length, refl, sym, ap, ◌∙◌, arith, length-append, slice_get}
-use Rattle.a_terms.specs.Tree.{ABlk, AConsts, AProg, arity}
-use Rattle.a_terms.specs.Typing.{types_of}
+use Rattle.std.proofs.Common.{◌≡◌, ℕ, zero, suc, ◌+◌, List, [], ◌∷◌, ◌++◌, Some, length, refl, sym, ap, ◌∙◌, arith, length-append, slice_get}
+use Rattle.std.specs.Prelude.{option_map}
+use Rattle.a_terms.specs.Tree.{ATy, ATm, Let, Call, If0, Halt, ABlk, AConsts, AProg, arity}
+use Rattle.a_terms.specs.Typing.{declared, more_vars, types_of}
+use Rattle.t_terms.specs.Tree.{TBlock}
 use Rattle.a_terms.specs.Bound.{thirds, all_thirds}
-use Rattle.gen_law.specs.Gen.{extras, firsts, seconds, generated_blocks, generated_heap}
+use Rattle.gen_law.specs.Counting.{first_of}
+use Rattle.gen_law.specs.Gen.{extras, firsts, seconds, data_of, generated_blocks, generated_heap}
 use Rattle.gen_law.specs.GenLaws.{length_extras}
-use Rattle.gen_law.specs.Layout.{LaidOut}
-use Rattle.gen_law.proofs.Places.{has_all, has_front, length_firsts, block_at}
+use Rattle.gen_law.specs.Layout.{LaidOut, ThirdsAt}
+use Rattle.gen_law.proofs.Places.{HasAt, has_all, has_back, has_front, length_firsts, block_at, extras_at}
 
 length_seconds : (p : AProg) (bs : List ABlk) (at : ℕ) → length (seconds p bs at) ≡ all_thirds bs
 length_seconds p [] at = refl
@@ -18,6 +21,21 @@ length_seconds p (b ∷ bs) at =
 length_heap : (xs : List AConsts) → length (generated_heap xs) ≡ length xs
 length_heap [] = refl
 length_heap (x ∷ xs) = ap suc (length_heap xs)
+
+tuple_at : (xs : List AConsts) (n : ℕ) (x : AConsts) → slice_get xs n ≡ Some x → slice_get (generated_heap xs) n ≡ Some (data_of x)
+tuple_at [] n x e = cc
+tuple_at (y ∷ xs) zero x e = ap (option_map data_of) e
+tuple_at (y ∷ xs) (suc n) x e = tuple_at xs n x e
+
+thirds_at : (P : List TBlock) (p : AProg) (k d : ℕ) (g : List ATy) (at : ℕ) (e : ATm) → HasAt P at (extras p k d g at e) → ThirdsAt P p k d g at e
+thirds_at P p k d g at (Let x e) h = thirds_at P p (more_vars x k) (suc d) (declared p g x) at e h
+thirds_at P p k d g at (Call v ts vs) h = tt
+thirds_at P p k d g at (If0 v a b) h =
+    let ea = extras p k d g (suc at) a in
+    let eb = extras p k d g (suc at + thirds a) b in
+    let n = length_extras p k d g (suc at) a in
+    (h.0, thirds_at P p k d g (suc at) a (has_front P (suc at) ea eb h.1), thirds_at P p k d g (suc at + thirds a) b (has_back P (suc at) (suc at + thirds a) ea eb (ap (λ i. suc at + i) (sym n)) h.1))
+thirds_at P p k d g at (Halt v) h = tt
 
 pub laid_out : LaidOut
 laid_out p main =
@@ -33,9 +51,14 @@ laid_out p main =
     let l4 = length-append fs (es ++ ss) in
     let l5 = length-append es ss in
     let there = has_front P 1 fs (es ++ ss) (has_all P).1 in
+    let others = has_back P 1 at fs (es ++ ss) (omega (arith, l1)) (has_all P).1 in
+    let later = has_back P at at0 es ss (omega (arith, l2)) others in
     record {
       main_block = refl;
       blocks = λ l b e. (let z : 1 + l ≡ suc l = omega arith in ap (slice_get P) (sym z) ∙ block_at P p.blocks 1 at0 l b there e);
+      main_thirds = thirds_at P p 0 0 [] at main (has_front P at es ss others);
+      block_thirds = λ l b e. thirds_at P p b.owes (arity b.args) (types_of b.args []) (first_of p.blocks at0 l) b.body (extras_at P p p.blocks at0 l b later e);
       count = omega (arith, l1, l2, l3, l4, l5);
-      tuples = length_heap p.tuples;
+      tuples = tuple_at p.tuples;
+      tuple_count = length_heap p.tuples;
     }

@@ -2,8 +2,8 @@
 #![tactic(auto)]
 
 mod access;
-pub mod convert;
-pub mod program;
+mod convert;
+mod program;
 #[cfg(test)]
 mod tests;
 mod types;

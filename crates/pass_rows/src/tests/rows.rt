@@ -123,7 +123,14 @@ fn sources_run_to_their_values(rt: HostRuntime) -> Result<(), Fail> {
                 turns: 3,
             },
             Row {
-                source: "((fix f(x:int):int -> int. fix h(y:int):int. (fix g(n:int):int. if0(n, x - y, 2 * g(n - 1))) 3) 9) 4",
+                source: "(gen a. fix f(x:a):a. (fix g(y:int):a. x) 0)[int] 8 + 1",
+                codes: 5,
+                value: 9,
+                turns: 3,
+            },
+            Row {
+                source: "((fix f(x:int):int -> int. fix h(y:int):int. \
+                    (fix g(n:int):int. if0(n, x - y, 2 * g(n - 1))) 3) 9) 4",
                 codes: 6,
                 value: 40,
                 turns: 6,

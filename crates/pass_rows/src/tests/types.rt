@@ -166,14 +166,21 @@ fn is_closure(fields: &[(Type, bool)]) -> bool {
     }
 }
 
+fn without_first(types: Vec<Type>) -> Vec<Type> {
+    let mut types = types;
+    if !types.is_empty() {
+        types.remove(0);
+    }
+    types
+}
+
 // The type `some b. <fields>`.
 fn some_tuple(alloc: Global, fields: Vec<(Type, bool)>) -> Result<Type, AllocError> {
     let mut fields = fields;
     if is_closure(&fields) {
         fields.truncate(1);
         if let Some((Type::Code { owes, args }, _)) = fields.pop() {
-            let mut args = args;
-            args.remove(0);
+            let args = without_first(args);
             return Ok(Type::Closure { owes, args });
         }
     }

@@ -1,8 +1,9 @@
 """Compiling: `talc compile` on sources of 250, 500 and about 1000 nodes, in four shapes.
 
 For each shape: processor seconds of each size less those of the text `7`, the time as a multiple of that of the half, bytes
-of the assembly text a node of the source, and peak memory a byte of that text. Then the instructions that compiled programs
-execute, for each turn of their source. Where ocamlopt is installed, its time for a program of the same meaning is shown too.
+of the assembly text a node of the source, and peak memory a byte of that text. Where ocamlopt is installed, its time for a
+program of the same meaning and the largest size stands beside it, each less that of the smallest program. Then the
+instructions that compiled programs execute, for each turn of their source.
 """
 import shutil
 from measure import Run, best, folder, program
@@ -36,7 +37,34 @@ def closures(n):
     return f"({text})" + "".join(f" {i}" for i in range(depth))
 
 
-SHAPES = [("a sum", ones), ("nested calls", calls), ("choices in a row", branches), ("functions that keep much", closures)]
+def ones_in_ocaml(n):
+    return ones(n)
+
+
+def calls_in_ocaml(n):
+    text = "0"
+    for _ in range(n // 7):
+        text = f"(let rec f x = x + 1 + 1 in f) ({text})"
+    return text
+
+
+def branches_in_ocaml(n):
+    return " + ".join(["(if 0 = 0 then 1 else 2)"] * ((n + 1) // 5))
+
+
+def closures_in_ocaml(n):
+    depth = n // 6
+    names = [f"x{i}" for i in range(depth)]
+    text = "".join(f"fun {name} -> " for name in names) + " + ".join(names)
+    return f"({text})" + "".join(f" {i}" for i in range(depth))
+
+
+SHAPES = [
+    ("a sum", ones, ones_in_ocaml),
+    ("nested calls", calls, calls_in_ocaml),
+    ("choices in a row", branches, branches_in_ocaml),
+    ("functions that keep much", closures, closures_in_ocaml),
+]
 SIZES = [250, 500, 998]
 
 TURNS = [
@@ -70,9 +98,17 @@ def main():
             with open(target, "rb") as file:
                 return run, len(file.read())
 
+        def ocamlopt(text):
+            with open(f"{place}/text.ml", "w", encoding="ascii") as file:
+                file.write(f"let () = print_int ({text})\n")
+            return best(["ocamlopt", "-c", f"{place}/text.ml"], times=5)
+
         base, _ = timed("7")
         print(f"the text 7: {base.seconds:.3f} s, {base.peak / 1e6:.1f} MB")
-        for name, shape in SHAPES:
+        peer = ocamlopt("7") if shutil.which("ocamlopt") else None
+        if peer:
+            print(f"the text 7 by ocamlopt: {peer.seconds:.3f} s")
+        for name, shape, in_ocaml in SHAPES:
             last = None
             for size in SIZES:
                 run, length = timed(shape(size))
@@ -83,15 +119,13 @@ def main():
                     f"{run.peak / 1e6:.1f} MB, {(run.peak - base.peak) / length:.1f} a byte of the text"
                 )
                 last = spent
+            if peer:
+                beside = ocamlopt(in_ocaml(SIZES[-1])).seconds - peer.seconds
+                print(f"{name}, {SIZES[-1]} nodes by ocamlopt: {beside:.3f} s, of which talc takes {last / max(beside, 0.001):.2f}")
         for name, text, turns in TURNS:
             timed(text)
-            print(f"{name}: {instructions(talc, target)} instructions for {turns} turns")
-        if shutil.which("ocamlopt"):
-            with open(f"{place}/fact.ml", "w", encoding="ascii") as file:
-                file.write("let rec f n = if n = 0 then 1 else n * f (n - 1)\nlet () = exit (f 5)\n")
-            peer = best(["ocamlopt", "-c", f"{place}/fact.ml"], times=5)
-            own, _ = timed(TURNS[0][1])
-            print(f"factorial of 5: {own.seconds / peer.seconds:.2f} of ocamlopt's time")
+            made = instructions(talc, target)
+            print(f"{name}: {made} instructions for {turns} turns, {made / turns:.1f} a turn")
 
 
 main()

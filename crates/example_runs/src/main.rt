@@ -1,0 +1,114 @@
+//! Runs the examples that lie beside it by the commands of `talc`, and shows each command with what it prints.
+#![tactic(auto)]
+
+use io_core::{DiskFiles, Files, OutSink, Sink};
+use std::alloc::{AllocError, Global};
+use std::process::ExitCode;
+use talc_core::{Status, talc};
+
+// The sources: each is evaluated, compiled, and run as compiled.
+const SOURCES: [&str; 14] = [
+    "church",
+    "closure",
+    "compose",
+    "curry",
+    "dispatch",
+    "even",
+    "factorial",
+    "fibonacci",
+    "forever",
+    "identity",
+    "pair",
+    "repeat",
+    "seven",
+    "swap",
+];
+
+// The assembly texts written by hand: each is checked and run.
+const ASSEMBLIES: [&str; 5] = ["alias", "factorial", "package", "partial", "polymorphic"];
+
+fn words(alloc: Global, line: &str) -> Result<Vec<String>, AllocError> {
+    let mut words = Vec::new(alloc);
+    for word in line.split_whitespace() {
+        words.push(String::from_str(alloc, word)?)?;
+    }
+    Ok(words)
+}
+
+fn put<O: Sink>(alloc: Global, out: &mut O, text: &str) -> Option<()> {
+    out.put(alloc, text.as_bytes()).ok()
+}
+
+// Shows the command and does it; where it is not done, its status too.
+fn show<F: Files, O: Sink, E: Sink>(
+    alloc: Global,
+    files: &mut F,
+    out: &mut O,
+    err: &mut E,
+    line: &str,
+) -> Option<()> {
+    let words = words(alloc, line).ok()?;
+    let shown = format!(in alloc; "$ {line}\n").ok()?;
+    put(alloc, out, &shown)?;
+    let status = talc(alloc, &words, files, out, err);
+    if status == Status::Done {
+        return Some(());
+    }
+    let ended = format!(in alloc; "status {}\n", status.number()).ok()?;
+    put(alloc, out, &ended)
+}
+
+fn show_source<F: Files, O: Sink, E: Sink>(
+    alloc: Global,
+    files: &mut F,
+    out: &mut O,
+    err: &mut E,
+    name: &str,
+) -> Option<()> {
+    let evaluate = format!(in alloc; "talc eval {name}.f --turns 1000").ok()?;
+    show(alloc, files, out, err, &evaluate)?;
+    let compile = format!(in alloc; "talc compile {name}.f made.tal").ok()?;
+    show(alloc, files, out, err, &compile)?;
+    show(alloc, files, out, err, "talc check made.tal")?;
+    show(alloc, files, out, err, "talc run made.tal --fuel 100000")
+}
+
+fn show_assembly<F: Files, O: Sink, E: Sink>(
+    alloc: Global,
+    files: &mut F,
+    out: &mut O,
+    err: &mut E,
+    name: &str,
+) -> Option<()> {
+    let check = format!(in alloc; "talc check {name}.tal").ok()?;
+    show(alloc, files, out, err, &check)?;
+    let run = format!(in alloc; "talc run {name}.tal --fuel 1000").ok()?;
+    show(alloc, files, out, err, &run)
+}
+
+fn show_all<F: Files, O: Sink, E: Sink>(
+    alloc: Global,
+    files: &mut F,
+    out: &mut O,
+    err: &mut E,
+) -> Option<()> {
+    for name in &SOURCES {
+        show_source(alloc, files, out, err, name)?;
+    }
+    for name in &ASSEMBLIES {
+        show_assembly(alloc, files, out, err, name)?;
+    }
+    Some(())
+}
+
+// What goes to the standard error of `talc` is shown with the rest.
+fn main(rt: HostRuntime) -> ExitCode {
+    let alloc = rt.alloc();
+    let mut out = OutSink::new(rt.stdout());
+    let mut err = OutSink::new(rt.stdout());
+    let mut files = DiskFiles::new(rt);
+    match show_all(alloc, &mut files, &mut out, &mut err) {
+        Some(()) => ExitCode::SUCCESS,
+        None => ExitCode::FAILURE,
+    }
+}

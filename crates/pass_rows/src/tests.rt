@@ -1,0 +1,9 @@
+// Source texts and large terms through the passes.
+mod forms;
+mod instructions;
+mod large;
+mod notation;
+mod passes;
+mod rows;
+mod shown;
+mod types;

@@ -1,0 +1,378 @@
+// One program in each of its six forms. docs/PASSES.md begins with these texts.
+use super::passes::{allocated, closed, hoisted, program};
+use super::shown::{a_text, c_text, h_text, k_text};
+use f_check::Program;
+use k_pass::cps;
+use pipeline::compile;
+use std::alloc::Global;
+use std::process::Abort;
+use std::test::Fail;
+use t_writer::write;
+
+const SOURCE: &str = "(gen a. fix f(x:a):a. (fix g(y:int):a. x) 0)[int] 8 + 1";
+
+const CONVERTED: &str = "\
+let x0 = code x0[a](x1: code[](code[](a, code[](a)))) {
+  let x2 = code x2[](x3: a, x4: code[](a)) {
+    let x5 = code x5[](x6: int, x7: code[](a)) {
+      x7[](x3)
+    }
+    x5[](0, x4)
+  }
+  x1[](x2)
+}
+x0[int](code x1[](x2: code[](int, code[](int))) {
+  x2[](8, code x3[](x4: int) {
+    let x5 = x4 + 1
+    halt x5
+  })
+})
+";
+
+const CLOSED: &str = "\
+let x0 = pack [<>, <code x0[a](x1: <>, x2: closure[](closure[](a, closure[](a)))) {
+  let x3 = pack [<>, <code x0[a](x1: <>, x2: a, x3: closure[](a)) {
+    let x4 = pack [<a>, <code x0[a](x1: <a>, x2: int, x3: closure[](a)) {
+      let x4 = #1 x1
+      let [b, x5] = unpack x3
+      let x6 = #1 x5
+      let x7 = #2 x5
+      x6[](x7, x4)
+    }[a], <x2>>] as closure[](int, closure[](a))
+    let [b, x5] = unpack x4
+    let x6 = #1 x5
+    let x7 = #2 x5
+    x6[](x7, 0, x3)
+  }[a], <>>] as closure[](a, closure[](a))
+  let [b, x4] = unpack x2
+  let x5 = #1 x4
+  let x6 = #2 x4
+  x5[](x6, x3)
+}, <>>] as closure[b](closure[](closure[](b, closure[](b))))
+let [a, x1] = unpack x0
+let x2 = #1 x1
+let x3 = #2 x1
+x2[int](x3, pack [<>, <code x0[](x1: <>, x2: closure[](int, closure[](int))) {
+  let [a, x3] = unpack x2
+  let x4 = #1 x3
+  let x5 = #2 x3
+  x4[](x5, 8, pack [<>, <code x0[](x1: <>, x2: int) {
+    let x3 = x2 + 1
+    halt x3
+  }, <>>] as closure[](int))
+}, <>>] as closure[](closure[](int, closure[](int))))
+";
+
+const HOISTED: &str = "\
+L0: code[a](x0: <>, x1: closure[](closure[](a, closure[](a)))).
+  let x2 = pack [<>, <L1[a], <>>] as closure[](a, closure[](a))
+  let [b, x3] = unpack x1
+  let x4 = #1 x3
+  let x5 = #2 x3
+  x4[](x5, x2)
+
+L1: code[a](x0: <>, x1: a, x2: closure[](a)).
+  let x3 = pack [<a>, <L2[a], <x1>>] as closure[](int, closure[](a))
+  let [b, x4] = unpack x3
+  let x5 = #1 x4
+  let x6 = #2 x4
+  x5[](x6, 0, x2)
+
+L2: code[a](x0: <a>, x1: int, x2: closure[](a)).
+  let x3 = #1 x0
+  let [b, x4] = unpack x2
+  let x5 = #1 x4
+  let x6 = #2 x4
+  x5[](x6, x3)
+
+L3: code[](x0: <>, x1: closure[](int, closure[](int))).
+  let [a, x2] = unpack x1
+  let x3 = #1 x2
+  let x4 = #2 x2
+  x3[](x4, 8, pack [<>, <L4, <>>] as closure[](int))
+
+L4: code[](x0: <>, x1: int).
+  let x2 = x1 + 1
+  halt x2
+
+main:
+  let x0 = pack [<>, <L0, <>>] as closure[b](closure[](closure[](b, closure[](b))))
+  let [a, x1] = unpack x0
+  let x2 = #1 x1
+  let x3 = #2 x1
+  x2[int](x3, pack [<>, <L3, <>>] as closure[](closure[](int, closure[](int))))
+";
+
+const ALLOCATED: &str = "\
+L0: code[a](x0: <>, x1: closure[](closure[](a, closure[](a)))).
+  let x2 = malloc[]
+  let x3 = malloc[code[](<>, a, closure[](a)), <>]
+  let x4 = x3[1] <- L1[a]
+  let x5 = x4[2] <- x2
+  let x6 = pack [<>, x5] as closure[](a, closure[](a))
+  let [b, x7] = unpack x1
+  let x8 = #1 x7
+  let x9 = #2 x7
+  x8[](x9, x6)
+
+L1: code[a](x0: <>, x1: a, x2: closure[](a)).
+  let x3 = malloc[a]
+  let x4 = x3[1] <- x1
+  let x5 = malloc[code[](<a>, int, closure[](a)), <a>]
+  let x6 = x5[1] <- L2[a]
+  let x7 = x6[2] <- x4
+  let x8 = pack [<a>, x7] as closure[](int, closure[](a))
+  let [b, x9] = unpack x8
+  let x10 = #1 x9
+  let x11 = #2 x9
+  x10[](x11, 0, x2)
+
+L2: code[a](x0: <a>, x1: int, x2: closure[](a)).
+  let x3 = #1 x0
+  let [b, x4] = unpack x2
+  let x5 = #1 x4
+  let x6 = #2 x4
+  x5[](x6, x3)
+
+L3: code[](x0: <>, x1: closure[](int, closure[](int))).
+  let [a, x2] = unpack x1
+  let x3 = #1 x2
+  let x4 = #2 x2
+  let x5 = malloc[]
+  let x6 = malloc[code[](<>, int), <>]
+  let x7 = x6[1] <- L4
+  let x8 = x7[2] <- x5
+  x3[](x4, 8, pack [<>, x8] as closure[](int))
+
+L4: code[](x0: <>, x1: int).
+  let x2 = x1 + 1
+  halt x2
+
+main:
+  let x0 = malloc[]
+  let x1 = malloc[code[a](<>, closure[](closure[](a, closure[](a)))), <>]
+  let x2 = x1[1] <- L0
+  let x3 = x2[2] <- x0
+  let x4 = pack [<>, x3] as closure[b](closure[](closure[](b, closure[](b))))
+  let [a, x5] = unpack x4
+  let x6 = #1 x5
+  let x7 = #2 x5
+  let x8 = malloc[]
+  let x9 = malloc[code[](<>, closure[](int, closure[](int))), <>]
+  let x10 = x9[1] <- L3
+  let x11 = x10[2] <- x8
+  x6[int](x7, pack [<>, x11] as closure[](closure[](int, closure[](int))))
+";
+
+const ASSEMBLY: &str = "\
+tal 1
+L0: code[]{}.
+malloc r1[]
+malloc r2[all[T0]{r1:<>, r2:some T1. <all[]{r1:T1, r2:some T2. <all[]{r1:T2, r2:T0, r3:some T3. \
+    <all[]{r1:T3, r2:T0}^1, T3^1>}^1, T2^1>}^1, T1^1>}, <>]
+mov r3, r2
+mov r4, L1
+mov r4, r4
+st r3[0], r4
+mov r4, r3
+mov r5, r1
+st r4[1], r5
+mov r5, r4
+mov r5, pack[<>, r5] as some T0. <all[T1]{r1:T0, r2:some T2. <all[]{r1:T2, r2:some T3. <all[]{r1:T3, r2:T1, \
+    r3:some T4. <all[]{r1:T4, r2:T1}^1, T4^1>}^1, T3^1>}^1, T2^1>}^1, T0^1>
+mov r6, r5
+unpack[T0, r6], r6
+mov r7, r6
+ld r7, r7[0]
+mov r8, r6
+ld r8, r8[1]
+malloc r9[]
+malloc r10[all[]{r1:<>, r2:some T1. <all[]{r1:T1, r2:int, r3:some T2. <all[]{r1:T2, r2:int}^1, T2^1>}^1, \
+    T1^1>}, <>]
+mov r11, r10
+mov r12, L4
+mov r12, r12
+st r11[0], r12
+mov r12, r11
+mov r13, r9
+st r12[1], r13
+mov r15, r7
+mov r16, r8
+mov r17, r12
+mov r17, pack[<>, r17] as some T1. <all[]{r1:T1, r2:some T2. <all[]{r1:T2, r2:int, r3:some T3. \
+    <all[]{r1:T3, r2:int}^1, T3^1>}^1, T2^1>}^1, T1^1>
+mov r1, r16
+mov r2, r17
+jmp r15[int]
+L1: code[T0]{r1:<>, r2:some T1. <all[]{r1:T1, r2:some T2. <all[]{r1:T2, r2:T0, r3:some T3. <all[]{r1:T3, \
+    r2:T0}^1, T3^1>}^1, T2^1>}^1, T1^1>}.
+malloc r3[]
+malloc r4[all[]{r1:<>, r2:T0, r3:some T1. <all[]{r1:T1, r2:T0}^1, T1^1>}, <>]
+mov r5, r4
+mov r6, L2
+mov r6, r6[T0]
+st r5[0], r6
+mov r6, r5
+mov r7, r3
+st r6[1], r7
+mov r7, r6
+mov r7, pack[<>, r7] as some T1. <all[]{r1:T1, r2:T0, r3:some T2. <all[]{r1:T2, r2:T0}^1, T2^1>}^1, T1^1>
+mov r8, r2
+unpack[T1, r8], r8
+mov r9, r8
+ld r9, r9[0]
+mov r10, r8
+ld r10, r10[1]
+mov r13, r9
+mov r14, r10
+mov r15, r7
+mov r1, r14
+mov r2, r15
+jmp r13
+L2: code[T0]{r1:<>, r2:T0, r3:some T1. <all[]{r1:T1, r2:T0}^1, T1^1>}.
+malloc r4[T0]
+mov r5, r4
+mov r6, r2
+st r5[0], r6
+malloc r6[all[]{r1:<T0^1>, r2:int, r3:some T1. <all[]{r1:T1, r2:T0}^1, T1^1>}, <T0^1>]
+mov r7, r6
+mov r8, L3
+mov r8, r8[T0]
+st r7[0], r8
+mov r8, r7
+mov r9, r5
+st r8[1], r9
+mov r9, r8
+mov r9, pack[<T0^1>, r9] as some T1. <all[]{r1:T1, r2:int, r3:some T2. <all[]{r1:T2, r2:T0}^1, T2^1>}^1, \
+    T1^1>
+mov r10, r9
+unpack[T1, r10], r10
+mov r11, r10
+ld r11, r11[0]
+mov r12, r10
+ld r12, r12[1]
+mov r16, r11
+mov r17, r12
+mov r18, 0
+mov r19, r3
+mov r1, r17
+mov r2, r18
+mov r3, r19
+jmp r16
+L3: code[T0]{r1:<T0^1>, r2:int, r3:some T1. <all[]{r1:T1, r2:T0}^1, T1^1>}.
+mov r4, r1
+ld r4, r4[0]
+mov r5, r3
+unpack[T1, r5], r5
+mov r6, r5
+ld r6, r6[0]
+mov r7, r5
+ld r7, r7[1]
+mov r10, r6
+mov r11, r7
+mov r12, r4
+mov r1, r11
+mov r2, r12
+jmp r10
+L4: code[]{r1:<>, r2:some T0. <all[]{r1:T0, r2:int, r3:some T1. <all[]{r1:T1, r2:int}^1, T1^1>}^1, T0^1>}.
+mov r3, r2
+unpack[T0, r3], r3
+mov r4, r3
+ld r4, r4[0]
+mov r5, r3
+ld r5, r5[1]
+malloc r6[]
+malloc r7[all[]{r1:<>, r2:int}, <>]
+mov r8, r7
+mov r9, L5
+mov r9, r9
+st r8[0], r9
+mov r9, r8
+mov r10, r6
+st r9[1], r10
+mov r13, r4
+mov r14, r5
+mov r15, 8
+mov r16, r9
+mov r16, pack[<>, r16] as some T1. <all[]{r1:T1, r2:int}^1, T1^1>
+mov r1, r14
+mov r2, r15
+mov r3, r16
+jmp r13
+L5: code[]{r1:<>, r2:int}.
+mov r3, r2
+mov r4, 1
+add r3, r3, r4
+mov r1, r3
+halt[int]
+";
+
+fn k_form(alloc: Global, program: &Program) -> Result<String, Fail> {
+    let converted = cps(alloc, program)?;
+    Ok(k_text(alloc, &converted)?)
+}
+
+fn c_form(alloc: Global, program: &Program) -> Result<String, Fail> {
+    let closed = closed(alloc, program)?;
+    Ok(c_text(alloc, &closed)?)
+}
+
+fn h_form(alloc: Global, program: &Program) -> Result<String, Fail> {
+    let hoisted = hoisted(alloc, program)?;
+    Ok(h_text(alloc, &hoisted)?)
+}
+
+fn a_form(alloc: Global, program: &Program) -> Result<String, Fail> {
+    let allocated = allocated(alloc, program)?;
+    Ok(a_text(alloc, &allocated)?)
+}
+
+fn assembly(alloc: Global, program: &Program) -> Result<Vec<u8>, Fail> {
+    let compiled = compile(alloc, program)?;
+    Ok(write(alloc, compiled.program())?)
+}
+
+fn is_text(rt: &impl Abort, made: &str, wanted: &str) {
+    assert_eq!(rt; made, wanted);
+}
+
+#[test]
+fn the_source_in_continuation_passing_style(rt: HostRuntime) -> Result<(), Fail> {
+    let alloc = rt.alloc();
+    let program = program(alloc, SOURCE)?;
+    is_text(&rt, &k_form(alloc, &program)?, CONVERTED);
+    Ok(())
+}
+
+#[test]
+fn the_closed_form(rt: HostRuntime) -> Result<(), Fail> {
+    let alloc = rt.alloc();
+    let program = program(alloc, SOURCE)?;
+    is_text(&rt, &c_form(alloc, &program)?, CLOSED);
+    Ok(())
+}
+
+#[test]
+fn the_hoisted_form(rt: HostRuntime) -> Result<(), Fail> {
+    let alloc = rt.alloc();
+    let program = program(alloc, SOURCE)?;
+    is_text(&rt, &h_form(alloc, &program)?, HOISTED);
+    Ok(())
+}
+
+#[test]
+fn the_allocated_form(rt: HostRuntime) -> Result<(), Fail> {
+    let alloc = rt.alloc();
+    let program = program(alloc, SOURCE)?;
+    is_text(&rt, &a_form(alloc, &program)?, ALLOCATED);
+    Ok(())
+}
+
+#[test]
+fn the_assembly_text(rt: HostRuntime) -> Result<(), Fail> {
+    let alloc = rt.alloc();
+    let program = program(alloc, SOURCE)?;
+    let text = assembly(alloc, &program)?;
+    is_text(&rt, str::from_utf8(&text)?, ASSEMBLY);
+    Ok(())
+}

@@ -1,5 +1,6 @@
 -- The exact rules of the files in memory.
-use Rattle.std.specs.Prelude.{◌≡◌, ℕ, List, map, take, Option, Some, None, IsSomeAnd, MatchOption, Result, Ok, Err, Vec, String, string_bytes, refl}
+use Rattle.std.specs.Prelude.{◌≡◌, ℕ, List, map, take, Option, Some, None, IsSomeAnd, MatchOption}
+use Rattle.std.specs.Prelude.{Result, Ok, Err, Vec, String, string_bytes, refl}
 use Rattle.std.specs.BTreeMap.{BTreeMap}
 use Rattle.std.specs.Coded.{Coded, code_by, coded×, coded_ℕ, coded_list}
 use Rattle.std.specs.FinMap.{get, insert, from_entries}
@@ -23,7 +24,10 @@ pub record MemFilesState : Type 0 where
 
 abbrev pub mem_files_code : Coded MemFilesState
 mem_files_code =
-    code_by (FileMap × (List (ℕ × ℕ) × (ℕ × (ℕ × ℕ)))) (coded× file_map_code (coded× (coded_list (coded× coded_ℕ coded_ℕ)) (coded× coded_ℕ (coded× coded_ℕ coded_ℕ)))) (λ m. (m.files, (m.failing, (m.next, (m.reads, m.writes))))) (λ p. record { files = p.0; failing = p.1.0; next = p.1.1.0; reads = p.1.1.1.0; writes = p.1.1.1.1 }) (λ _. refl)
+    code_by (FileMap × (List (ℕ × ℕ) × (ℕ × (ℕ × ℕ))))
+    (coded× file_map_code (coded× (coded_list (coded× coded_ℕ coded_ℕ)) (coded× coded_ℕ (coded× coded_ℕ coded_ℕ))))
+    (λ m. (m.files, (m.failing, (m.next, (m.reads, m.writes)))))
+    (λ p. record { files = p.0; failing = p.1.0; next = p.1.1.0; reads = p.1.1.1.0; writes = p.1.1.1.1 }) (λ _. refl)
 
 -- files of which no call was made
 abbrev pub fresh_files : FileMap → List (ℕ × ℕ) → MemFilesState
@@ -43,12 +47,18 @@ called m = record m { next = counted m.next }
 
 -- a read gives the content; fails where the list says so, which is counted, or the name is absent; or takes no number
 abbrev pub MemReads : MemFilesState → MemFilesState → List ℕ → Result (Vec ℕ Global) Stop → Type 0
-MemReads old new name (Ok bytes) = (next_failing old ≡ None) × (get old.files name ≡ Some bytes.items) × (new ≡ called old)
-MemReads old new name (Err Failed) = MatchOption (next_failing old) ((get old.files name ≡ None) × (new ≡ called old)) (λ _. new ≡ record (called old) { reads = counted old.reads })
+MemReads old new name (Ok bytes) =
+    (next_failing old ≡ None) × (get old.files name ≡ Some bytes.items) × (new ≡ called old)
+MemReads old new name (Err Failed) =
+    MatchOption (next_failing old) ((get old.files name ≡ None) × (new ≡ called old))
+    (λ _. new ≡ record (called old) { reads = counted old.reads })
 MemReads old new name (Err Memory) = new ≡ old
 
 -- a write sets the name; fails where the list says so, which is counted, and leaves the first bytes; or takes no number
 abbrev pub MemWrites : MemFilesState → MemFilesState → List ℕ → List ℕ → Result (Unit {0}) Stop → Type 0
-MemWrites old new name bytes (Ok done) = (next_failing old ≡ None) × (new ≡ record (called old) { files = insert old.files name bytes })
-MemWrites old new name bytes (Err Failed) = IsSomeAnd (next_failing old) (λ most. new ≡ record (called old) { files = insert old.files name (take most bytes); writes = counted old.writes })
+MemWrites old new name bytes (Ok done) =
+    (next_failing old ≡ None) × (new ≡ record (called old) { files = insert old.files name bytes })
+MemWrites old new name bytes (Err Failed) =
+    IsSomeAnd (next_failing old)
+    (λ most. new ≡ record (called old) { files = insert old.files name (take most bytes); writes = counted old.writes })
 MemWrites old new name bytes (Err Memory) = new ≡ old

@@ -31,5 +31,7 @@ called s = record s { next = counted s.next }
 -- a put takes the piece; fails where the list says so, which is counted, and takes the first bytes; or takes no number
 abbrev pub MemPuts : MemSinkState → MemSinkState → List ℕ → Result (Unit {0}) Stop → Type 0
 MemPuts old new bytes (Ok done) = (next_failing old ≡ None) × (new ≡ record (called old) { taken = old.taken ++ bytes })
-MemPuts old new bytes (Err Failed) = IsSomeAnd (next_failing old) (λ most. new ≡ record (called old) { taken = old.taken ++ take most bytes; faults = counted old.faults })
+MemPuts old new bytes (Err Failed) =
+    IsSomeAnd (next_failing old)
+    (λ most. new ≡ record (called old) { taken = old.taken ++ take most bytes; faults = counted old.faults })
 MemPuts old new bytes (Err Memory) = new ≡ old

@@ -1,5 +1,6 @@
 -- What the calls of files and of a sink do.
-use Rattle.std.specs.Prelude.{◌≡◌, ◌≢◌, ◌⊎◌, ℕ, ◌<◌, ◌≤◌, List, ◌++◌, Option, Some, None, IfSome, Result, Ok, Err, Vec, refl}
+use Rattle.std.specs.Prelude.{◌≡◌, ◌≢◌, ◌⊎◌, ℕ, ◌<◌, ◌≤◌, List, ◌++◌, Option, Some, None, IfSome, refl}
+use Rattle.std.specs.Prelude.{Result, Ok, Err, Vec}
 use Rattle.std.specs.Option.{option_map}
 use Rattle.std.specs.Ordering.{nat_cmp}
 use Rattle.std.specs.Cmp.Lexicographic.{slice_cmp}
@@ -31,7 +32,8 @@ file_map_code = map.code (coded_list coded_ℕ) (coded_list coded_ℕ)
 
 abbrev pub files_code : Coded FilesState
 files_code =
-    code_by (Option FileMap × (ℕ × ℕ)) (coded× (coded_option file_map_code) (coded× coded_ℕ coded_ℕ)) (λ s. (s.told, (s.reads, s.writes))) (λ p. record { told = p.0; reads = p.1.0; writes = p.1.1 }) (λ _. refl)
+    code_by (Option FileMap × (ℕ × ℕ)) (coded× (coded_option file_map_code) (coded× coded_ℕ coded_ℕ))
+    (λ s. (s.told, (s.reads, s.writes))) (λ p. record { told = p.0; reads = p.1.0; writes = p.1.1 }) (λ _. refl)
 
 -- the last value of a counter of 64 bits
 abbrev pub last_count : ℕ
@@ -57,18 +59,28 @@ with_file told name bytes = option_map (λ files. insert files name bytes) told
 -- both maps are told, or none, and every other name is as before
 abbrev pub SameBut : List ℕ → Option FileMap → Option FileMap → Type 0
 SameBut name None new = new ≡ None
-SameBut name (Some files) new = (changed : FileMap) × (new ≡ Some changed) × ((other : List ℕ) → other ≢ name → get changed other ≡ get files other)
+SameBut name (Some files) new =
+    (changed : FileMap) × (new ≡ Some changed)
+    × ((other : List ℕ) → other ≢ name → get changed other ≡ get files other)
 
--- a read gives the whole content, or fails by a counted fault or since the name is absent, or wants memory and changes nothing
+-- a read gives the whole content, or fails by a counted fault or since the name is absent, or wants memory and changes
+-- nothing
 abbrev pub IsRead : FilesState → FilesState → List ℕ → Result (Vec ℕ Global) Stop → Type 0
-IsRead old new name (Ok bytes) = Holds old.told name bytes.items × (new.told ≡ old.told) × (old.reads ≤ new.reads) × (new.writes ≡ old.writes)
-IsRead old new name (Err Failed) = (Faulted old.reads new.reads ⊎ IsAbsent old.told name) × (new.told ≡ old.told) × (old.reads ≤ new.reads) × (new.writes ≡ old.writes)
+IsRead old new name (Ok bytes) =
+    Holds old.told name bytes.items × (new.told ≡ old.told) × (old.reads ≤ new.reads) × (new.writes ≡ old.writes)
+IsRead old new name (Err Failed) =
+    (Faulted old.reads new.reads ⊎ IsAbsent old.told name)
+    × (new.told ≡ old.told) × (old.reads ≤ new.reads) × (new.writes ≡ old.writes)
 IsRead old new name (Err Memory) = new ≡ old
 
--- a write sets that name alone, or fails by a counted fault and leaves every other name, or wants memory and changes nothing
+-- a write sets that name alone, or fails by a counted fault and leaves every other name, or wants memory and changes
+-- nothing
 abbrev pub IsWrite : FilesState → FilesState → List ℕ → List ℕ → Result (Unit {0}) Stop → Type 0
-IsWrite old new name bytes (Ok done) = (new.told ≡ with_file old.told name bytes) × (old.writes ≤ new.writes) × (new.reads ≡ old.reads)
-IsWrite old new name bytes (Err Failed) = Faulted old.writes new.writes × SameBut name old.told new.told × (old.writes ≤ new.writes) × (new.reads ≡ old.reads)
+IsWrite old new name bytes (Ok done) =
+    (new.told ≡ with_file old.told name bytes) × (old.writes ≤ new.writes) × (new.reads ≡ old.reads)
+IsWrite old new name bytes (Err Failed) =
+    Faulted old.writes new.writes × SameBut name old.told new.told
+    × (old.writes ≤ new.writes) × (new.reads ≡ old.reads)
 IsWrite old new name bytes (Err Memory) = new ≡ old
 
 -- these bytes went onto what was told
@@ -82,5 +94,6 @@ GainedPart old bytes new = (part rest : List ℕ) × (part ++ rest ≡ bytes) ×
 -- a put takes the whole piece, or fails by a counted fault and takes a first part, or wants memory and changes nothing
 abbrev pub IsPut : SinkState → SinkState → List ℕ → Result (Unit {0}) Stop → Type 0
 IsPut old new bytes (Ok done) = (new.taken ≡ gained old.taken bytes) × (old.faults ≤ new.faults)
-IsPut old new bytes (Err Failed) = Faulted old.faults new.faults × GainedPart old.taken bytes new.taken × (old.faults ≤ new.faults)
+IsPut old new bytes (Err Failed) =
+    Faulted old.faults new.faults × GainedPart old.taken bytes new.taken × (old.faults ≤ new.faults)
 IsPut old new bytes (Err Memory) = new ≡ old

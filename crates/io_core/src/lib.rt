@@ -1,12 +1,12 @@
 //! What the compiler reads and writes: files and sinks, in memory and at the system.
 #![tactic(auto)]
 
-pub mod disk_files;
+mod disk_files;
 mod failing;
-pub mod mem_files;
-pub mod mem_sink;
-pub mod out_sink;
-pub mod outside;
+mod mem_files;
+mod mem_sink;
+mod out_sink;
+mod outside;
 #[cfg(test)]
 mod tests;
 

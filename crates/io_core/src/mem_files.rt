@@ -31,7 +31,13 @@ impl Model for MemFiles {
 
     ghost coded = { mem_files_code };
 
-    ghost view = { λ m. record { files = file_map m.files; failing = m.failing.items; next = m.next; reads = m.reads; writes = m.writes } };
+    ghost view = { λ m. record {
+      files = file_map m.files;
+      failing = m.failing.items;
+      next = m.next;
+      reads = m.reads;
+      writes = m.writes;
+    } };
 }
 
 // The content of a name.

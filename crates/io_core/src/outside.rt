@@ -4,6 +4,8 @@ ghost use Rattle.io_core.specs.Outside.{FilesState, SinkState, IsRead, IsWrite, 
 ghost use Rattle.io_core.specs.declared.outside.Stop.TheVariants.{Memory};
 
 use std::alloc::{AllocError, Global};
+use std::error::Error;
+use std::fmt;
 
 /// Why a call of the outside did not do its work.
 #[derive(Clone, Copy, Debug, PartialEq, Eq, Drop)]
@@ -13,6 +15,17 @@ pub enum Stop {
     /// The outside failed, which it has counted, or the file to read is not there.
     Failed,
 }
+
+impl fmt::Display for Stop {
+    fn fmt<W: fmt::Write>(&self, f: &mut fmt::Formatter<W>) -> fmt::Result {
+        match self {
+            Stop::Memory => write!(f, "out of memory"),
+            Stop::Failed => write!(f, "the outside failed"),
+        }
+    }
+}
+
+impl Error for Stop {}
 
 impl From<AllocError> for Stop {
     ghost from_gives = { λ _ e. e ≡ Memory };

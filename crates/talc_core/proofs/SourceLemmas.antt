@@ -15,18 +15,18 @@ use Rattle.f_terms.specs.Tm.{span_of}
 use Rattle.f_terms.specs.Read.{place}
 use Rattle.talc_core.specs.declared.fault.Fault.TheVariants.{Source}
 use Rattle.talc_core.specs.declared.report.Failure.TheVariants as failed
-use Rattle.talc_core.specs.FirstFault.{AnyTerm, AProgram, IsRead, IsChecked}
+use Rattle.talc_core.specs.FirstFault.{AnyTerm, AProgram, IsParsed, IsChecked}
 use Rattle.talc_core.specs.Steps.{failure_of, RefusedBy}
 
 -- the term of a text is closed and small
-pub closed : (text : List ℕ) (term : Tm) → IsRead text term → IsClosed (plain term)
+pub closed : (text : List ℕ) (term : Tm) → IsParsed text term → IsClosed (plain term)
 closed text term read = parser.closed_terms text term read.source
 
-pub few : (text : List ℕ) (term : Tm) → IsRead text term → nodes (plain term) ≤ 4294967295
+pub few : (text : List ℕ) (term : Tm) → IsParsed text term → nodes (plain term) ≤ 4294967295
 few text term read = let small : nodes (plain term) ≤ 1000 = read.few_nodes in omega arith
 
 -- a fault of the term is one of the text
-pub term_refused : (text : List ℕ) (term : Tm) (f : FFault) → IsRead text term → Says f (typing.Fault term 0 NoTys) → RefusedBy AnyTerm text (failure_of f)
+pub term_refused : (text : List ℕ) (term : Tm) (f : FFault) → IsParsed text term → Says f (typing.Fault term 0 NoTys) → RefusedBy AnyTerm text (failure_of f)
 term_refused text term Memory read says = tt
 term_refused text term (Refused code span) read says = inr (record { term = term; read = read; fault = says })
 

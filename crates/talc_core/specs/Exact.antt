@@ -3,7 +3,8 @@ use Rattle.std.specs.Prelude.{◌≡◌, ◌⊎◌, ◌↔◌, ℕ, List, Option
 use Rattle.std.specs.FinMap.{get}
 use Rattle.io_core.specs.Outside.{FileMap, Faulted, IsAbsent}
 use Rattle.talc_core.specs.declared.status.Status.{Status}
-use Rattle.talc_core.specs.declared.status.Status.TheVariants.{Done, Refused, Usage, Limit, Budget, ReadFault, WriteFault, Memory}
+use Rattle.talc_core.specs.declared.status.Status.TheVariants.{Done, Refused, Usage, Limit}
+use Rattle.talc_core.specs.declared.status.Status.TheVariants.{Budget, ReadFault, WriteFault, Memory}
 use Rattle.talc_core.specs.declared.fault.Fault.{Fault}
 use Rattle.talc_core.specs.Fault.{status_of}
 use Rattle.f_terms.specs.Ty.{TInt}
@@ -57,7 +58,8 @@ GoesOn (Compiles input output) source = ⊥
 GoesOn (Types input) source = ⊥
 GoesOn (Evaluates input turns) source = (term : Tm) × IsChecked source term TInt × IsSpent (plain term) turns
 GoesOn (Checks input) source = ⊥
-GoesOn (Runs input fuel) source = (program : SProg) × IsAcceptedText source program × GoesOnAfter (plain_program program) fuel
+GoesOn (Runs input fuel) source =
+    (program : SProg) × IsAcceptedText source program × GoesOnAfter (plain_program program) fuel
 
 -- no count of faults of the files or of the output rises in the call or stands at its last value
 pub record NoFaults (old new : Outside) : Type 0 where
@@ -75,15 +77,21 @@ pub record Exactly (words : List (List ℕ)) (old new : Outside) (status : Statu
   pub usage : IsSettled status → (status ≡ Usage) ↔ (command_of words ≡ None)
   pub no_command : command_of words ≡ None → (status ≡ Usage) ⊎ (status ≡ Memory)
   -- refused exactly where the first fault is no limit, and at a limit exactly where it is one
-  pub refused : (asked : Asked) (source : List ℕ) → Asking words old asked source → IsSettled status → (status ≡ Refused) ↔ LeadsTo (need_of asked) source Refused
-  pub limit : (asked : Asked) (source : List ℕ) → Asking words old asked source → IsSettled status → (status ≡ Limit) ↔ LeadsTo (need_of asked) source Limit
+  pub refused : (asked : Asked) (source : List ℕ) → Asking words old asked source → IsSettled status →
+    (status ≡ Refused) ↔ LeadsTo (need_of asked) source Refused
+  pub limit : (asked : Asked) (source : List ℕ) → Asking words old asked source → IsSettled status →
+    (status ≡ Limit) ↔ LeadsTo (need_of asked) source Limit
   -- the budget is used up exactly where the text goes on after it, and only in a command that has one
-  pub budget : (asked : Asked) (source : List ℕ) → Asking words old asked source → IsSettled status → (status ≡ Budget) ↔ GoesOn asked source
+  pub budget : (asked : Asked) (source : List ℕ) → Asking words old asked source → IsSettled status →
+    (status ≡ Budget) ↔ GoesOn asked source
   pub has_budget : status ≡ Budget → (asked : Asked) × (command_of words ≡ Some asked) × HasBudget asked
   -- a fault of reading only by its cause, and where the file is absent nothing else but want of memory
-  pub read_fault : (asked : Asked) → command_of words ≡ Some asked → status ≡ ReadFault → Faulted old.files.reads new.files.reads ⊎ IsAbsent old.files.told (input_of asked)
-  pub absent : (asked : Asked) → command_of words ≡ Some asked → IsAbsent old.files.told (input_of asked) → (status ≡ ReadFault) ⊎ (status ≡ Memory)
+  pub read_fault : (asked : Asked) → command_of words ≡ Some asked → status ≡ ReadFault →
+    Faulted old.files.reads new.files.reads ⊎ IsAbsent old.files.told (input_of asked)
+  pub absent : (asked : Asked) → command_of words ≡ Some asked → IsAbsent old.files.told (input_of asked) →
+    (status ≡ ReadFault) ⊎ (status ≡ Memory)
   -- a fault of writing only by the count of what the command writes to
   pub write_fault : (asked : Asked) → command_of words ≡ Some asked → status ≡ WriteFault → CannotWrite asked old new
   -- the work is done on a text that is what the command needs, as far as the budget goes
-  pub complete : (asked : Asked) (source : List ℕ) → Asking words old asked source → IsTaken (need_of asked) source → NoFaults old new → Works asked status ⊎ (status ≡ Memory)
+  pub complete : (asked : Asked) (source : List ℕ) → Asking words old asked source →
+    IsTaken (need_of asked) source → NoFaults old new → Works asked status ⊎ (status ≡ Memory)

@@ -24,12 +24,12 @@ pub data Need : Type 0 where
   AnAssembly : Need
 
 -- the text is read: it stands for the term, within the limits of reading
-abbrev pub IsRead : List ℕ → Tm → Type 0
-IsRead text term = parser.SourceWithin text term
+abbrev pub IsParsed : List ℕ → Tm → Type 0
+IsParsed text term = parser.SourceWithin text term
 
 -- the text is read, and its term has the type and keeps the limits on types
 abbrev pub IsChecked : List ℕ → Tm → Ty → Type 0
-IsChecked text term type = IsRead text term × IsAccepted (plain term) type
+IsChecked text term type = IsParsed text term × IsAccepted (plain term) type
 
 -- the text is not read, by the first fault of reading
 abbrev pub ReadingFault : List ℕ → Code → Span → Type 0
@@ -38,7 +38,7 @@ ReadingFault text code span = parser.FirstFault text code span
 -- the text is read, and this is its term's first fault in checking order
 pub record CheckingFault (text : List ℕ) (code : Code) (span : Span) : Type 0 where
   pub term : Tm
-  pub read : IsRead text term
+  pub read : IsParsed text term
   pub fault : typing.Fault term 0 NoTys code (place span)
 
 -- E15, at the whole term: the type is not int
@@ -98,5 +98,5 @@ abbrev pub OneFault : Type 0
 OneFault = (need : Need) (text : List ℕ) (a b : Fault) → FirstFault need text a → FirstFault need text b → a ≡ b
 
 -- a text that is what is needed has no fault
-abbrev pub TakenOrFault : Type 0
-TakenOrFault = (need : Need) (text : List ℕ) (a : Fault) → IsTaken need text → FirstFault need text a → ⊥
+abbrev pub NoFaultBesideWhatIsTaken : Type 0
+NoFaultBesideWhatIsTaken = (need : Need) (text : List ℕ) (a : Fault) → IsTaken need text → FirstFault need text a → ⊥

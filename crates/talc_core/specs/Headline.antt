@@ -1,8 +1,10 @@
 -- What a call of the compiler does, by its status.
 use Rattle.std.specs.Prelude.{◌≡◌, ◌⊎◌, ℕ, List, MatchOption}
-use Rattle.io_core.specs.Outside.{FilesState, SinkState, Faulted, IsAbsent, Holds, SameBut, with_file, gained, GainedPart}
+use Rattle.io_core.specs.Outside.{FilesState, SinkState, Faulted, IsAbsent, Holds, SameBut}
+use Rattle.io_core.specs.Outside.{with_file, gained, GainedPart}
 use Rattle.talc_core.specs.declared.status.Status.{Status}
-use Rattle.talc_core.specs.declared.status.Status.TheVariants.{Done, Refused, Usage, Limit, Budget, ReadFault, WriteFault, Memory}
+use Rattle.talc_core.specs.declared.status.Status.TheVariants.{Done, Refused, Usage, Limit}
+use Rattle.talc_core.specs.declared.status.Status.TheVariants.{Budget, ReadFault, WriteFault, Memory}
 use Rattle.talc_core.specs.declared.fault.Fault.{Fault}
 use Rattle.talc_core.specs.Fault.{status_of}
 use Rattle.talc_core.specs.FirstFault.{Need, AnyTerm, AProgram, AnAssembly, FirstFault}
@@ -19,7 +21,8 @@ pub record Outside : Type 0 where
 
 -- the line went onto the sink; a first part of it where the sink's count rose or stands at its last value
 abbrev pub Shows : SinkState → SinkState → List ℕ → Type 0
-Shows old new line = (new.taken ≡ gained old.taken line) ⊎ (Faulted old.faults new.faults × GainedPart old.taken line new.taken)
+Shows old new line =
+    (new.taken ≡ gained old.taken line) ⊎ (Faulted old.faults new.faults × GainedPart old.taken line new.taken)
 
 -- the same, or nothing where memory was wanted
 abbrev pub ShowsOrNot : SinkState → SinkState → List ℕ → Type 0

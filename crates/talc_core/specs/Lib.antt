@@ -1,5 +1,6 @@
 pub mod Status
 pub mod Fault
+pub mod Failures
 pub mod Lines
 pub mod FirstFault
 pub mod Command

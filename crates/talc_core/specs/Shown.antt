@@ -8,7 +8,8 @@ use Rattle.talc_core.specs.declared.status.Status.TheVariants.{Done, Budget}
 use Rattle.t_terms.specs.Spanned.{SProg, plain_program}
 use Rattle.t_rules.specs.Machine.{HaltsWithin, GoesOnAfter, NeverSticks}
 use Rattle.talc_core.specs.FirstFault.{IsChecked, IsAcceptedText}
-use Rattle.talc_core.specs.Lines.{type_line, value_line, more_turns_line, accepted_line, integer_line, more_instructions_line}
+use Rattle.talc_core.specs.Lines.{type_line, value_line, more_turns_line}
+use Rattle.talc_core.specs.Lines.{accepted_line, integer_line, more_instructions_line}
 
 -- the lines that a command may show of a text, with the status that it then ends with
 abbrev pub Showing : Type 1

@@ -1,10 +1,15 @@
 // The faults of both kinds of text.
 ghost use Rattle.std.specs.Prelude.{◌≡◌};
 
+use crate::fault::codes::{source_code, source_words, tal_code, tal_words};
 use crate::status::Status;
 use f_terms::Code;
 use idx_core::Span;
+use std::error::Error;
+use std::fmt;
 use t_terms::TCode;
+
+pub(crate) mod codes;
 
 /// The first fault of a text: the rule or limit that it breaks, and the place.
 #[derive(Clone, Copy, Debug, PartialEq, Eq, Drop)]
@@ -39,3 +44,15 @@ impl Fault {
         }
     }
 }
+
+impl fmt::Display for Fault {
+    fn fmt<W: fmt::Write>(&self, f: &mut fmt::Formatter<W>) -> fmt::Result {
+        let (code, span, words) = match *self {
+            Fault::Source(code, span) => (source_code(code), span, source_words(code)),
+            Fault::Tal(code, span) => (tal_code(code), span, tal_words(code)),
+        };
+        write!(f, "{code} {}..{} {words}", span.start, span.end)
+    }
+}
+
+impl Error for Fault {}

@@ -1,5 +1,5 @@
 // What the definition of the first fault says in all.
-ghost use Rattle.talc_core.specs.FirstFault.{OneFault, TakenOrFault};
+ghost use Rattle.talc_core.specs.FirstFault.{OneFault, NoFaultBesideWhatIsTaken};
 
 /// Two first faults of one source text are equal, whatever is needed of it.
 pub fn one_fault()
@@ -7,6 +7,6 @@ pub fn one_fault()
 {}
 
 /// A source text that is what is needed has no fault.
-pub fn taken_or_fault()
-    ensures { TakenOrFault }
+pub fn no_fault_beside_what_is_taken()
+    ensures { NoFaultBesideWhatIsTaken }
 {}

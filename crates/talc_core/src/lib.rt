@@ -1,26 +1,21 @@
 //! The top call of the compiler: what the words of the command line ask for, with its answer and its lines.
 #![tactic(auto)]
 
-mod accepting;
-mod answering;
 mod assembly;
-mod compiling;
-mod evaluating;
-pub mod fault;
-pub mod laws;
-pub mod lines;
+mod commands;
+mod fault;
+mod laws;
+mod lines;
 mod outside;
-mod question;
 mod report;
-mod running;
 mod source;
-pub mod status;
+mod status;
 #[cfg(test)]
 mod tests;
-pub mod top;
-mod typing;
+mod top;
 
 pub use fault::Fault;
+pub use laws::{no_fault_beside_what_is_taken, one_fault};
 pub use lines::fault_line;
 pub use status::Status;
 pub use top::talc;

@@ -1,5 +1,5 @@
-// The one read of a call, and the one put of a line.
-ghost use Rattle.talc_core.specs.Steps.{ReadsInput, PutsLine};
+// The calls of the outside: the one read of a command, the one write of `compile`, and the one put of a line.
+ghost use Rattle.talc_core.specs.Steps.{ReadsInput, WritesOutput, PutsLine};
 
 use crate::report::Failure;
 use io_core::{Files, Sink, Stop};
@@ -14,8 +14,24 @@ pub(crate) fn read_input<F: Files>(
     ensures { ReadsInput input.now (F.state files.old) (F.state files.new) result }
 {
     match files.read_all(alloc, input) {
-        Ok(source) => Ok(source),
+        Ok(text) => Ok(text),
         Err(Stop::Failed) => Err(Failure::Read),
+        Err(Stop::Memory) => Err(Failure::Memory),
+    }
+}
+
+// Sets the output to a text.
+pub(crate) fn write_output<F: Files>(
+    alloc: Global,
+    files: &mut F,
+    output: &str,
+    text: &[u8],
+) -> Result<(), Failure>
+    ensures { WritesOutput output.now text.now (F.state files.old) (F.state files.new) result }
+{
+    match files.write_all(alloc, output, text) {
+        Ok(()) => Ok(()),
+        Err(Stop::Failed) => Err(Failure::Write),
         Err(Stop::Memory) => Err(Failure::Memory),
     }
 }

@@ -2,6 +2,8 @@
 ghost use Rattle.std.specs.Prelude.{◌≡◌};
 ghost use Rattle.talc_core.specs.Status.{number_of};
 
+use std::fmt;
+
 /// How a call of the compiler ended (own choice).
 #[derive(Clone, Copy, Debug, PartialEq, Eq, Drop)]
 pub enum Status {
@@ -37,6 +39,21 @@ impl Status {
             Status::ReadFault => 5,
             Status::WriteFault => 6,
             Status::Memory => 7,
+        }
+    }
+}
+
+impl fmt::Display for Status {
+    fn fmt<W: fmt::Write>(&self, f: &mut fmt::Formatter<W>) -> fmt::Result {
+        match self {
+            Status::Done => write!(f, "done"),
+            Status::Refused => write!(f, "refused"),
+            Status::Usage => write!(f, "no command"),
+            Status::Limit => write!(f, "limit passed"),
+            Status::Budget => write!(f, "budget used up"),
+            Status::ReadFault => write!(f, "read fault"),
+            Status::WriteFault => write!(f, "write fault"),
+            Status::Memory => write!(f, "out of memory"),
         }
     }
 }

@@ -16,7 +16,14 @@ whole_number = Unsigned 0 18446744073709551615
 
 -- a required option of one such number, called by its name, with N for its value in the help
 abbrev pub number_rule : Text → Rule
-number_rule name = record (new_rule name) { long = Some name; value_names = 1; required = true; action = Some Set; parser = Some whole_number }
+number_rule name =
+    record (new_rule name) {
+      long = Some name;
+      value_names = 1;
+      required = true;
+      action = Some Set;
+      parser = Some whole_number;
+    }
 
 -- compile IN OUT
 abbrev pub compile_app : App
@@ -40,8 +47,11 @@ eval_app = with_rule (with_rule (new_app (codes "eval")) (file_rule (codes "IN")
 
 -- the command line without its subcommands: one must be given, and there is no `help` among them
 abbrev pub bare_app : App
-bare_app = on_top (λ s. record s { subcommand_required = true; disable_help_subcommand = true }) (new_app (codes "talc"))
+bare_app =
+    on_top (λ s. record s { subcommand_required = true; disable_help_subcommand = true }) (new_app (codes "talc"))
 
 -- the whole: one subcommand for each command
 abbrev pub talc_app : App
-talc_app = fold with_subcommand bare_app (compile_app.top ∷ check_app.top ∷ run_app.top ∷ typeof_app.top ∷ eval_app.top ∷ [])
+talc_app =
+    fold with_subcommand bare_app
+    (compile_app.top ∷ check_app.top ∷ run_app.top ∷ typeof_app.top ∷ eval_app.top ∷ [])

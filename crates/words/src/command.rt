@@ -1,5 +1,8 @@
 // What the words of a command line come to.
 
+use std::error::Error;
+use std::fmt;
+
 /// A command and its values (own choice). The names of files are as they stand among the words.
 #[derive(Clone, Copy, Debug, PartialEq, Eq, Drop)]
 pub enum Command<'a> {
@@ -19,7 +22,18 @@ pub enum Command<'a> {
 #[derive(Debug, Drop)]
 pub enum NoCommand {
     /// They are none. The text for the user is `clap`'s: what is wrong, or the help that was asked for.
-    Usage(Vec<u8>),
+    Usage(String),
     /// Memory was wanted and not had.
     Memory,
 }
+
+impl fmt::Display for NoCommand {
+    fn fmt<W: fmt::Write>(&self, f: &mut fmt::Formatter<W>) -> fmt::Result {
+        match self {
+            NoCommand::Usage(text) => write!(f, "{text}"),
+            NoCommand::Memory => write!(f, "out of memory"),
+        }
+    }
+}
+
+impl Error for NoCommand {}

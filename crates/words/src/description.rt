@@ -2,7 +2,8 @@
 ghost use Rattle.std.specs.Prelude.{◌≡◌, IfOk, false, true};
 ghost use Rattle.std.specs.Result.{IsOkAnd};
 ghost use Rattle.clap.specs.Words.{app_of, rule_of, with_subcommand};
-ghost use Rattle.words.specs.Description.{file_rule, number_rule, compile_app, check_app, run_app, typeof_app, eval_app, bare_app, talc_app};
+ghost use Rattle.words.specs.Description.{file_rule, number_rule, compile_app, check_app, run_app};
+ghost use Rattle.words.specs.Description.{typeof_app, eval_app, bare_app, talc_app};
 
 use clap::{Arg, ArgAction, Command, value_parser};
 use std::alloc::{AllocError, Global};
@@ -85,7 +86,8 @@ fn with_words<'a>(
     all: Command<'a>,
     sub: Result<Command<'a>, AllocError>,
 ) -> Result<Command<'a>, AllocError>
-    ensures { IfOk result (λ c. IsOkAnd sub.entry (λ s. (app_of s).top.is_plain ≡ true → app_of c ≡ with_subcommand (app_of all.entry) (app_of s).top)) }
+    ensures { IfOk result (λ c. IsOkAnd sub.entry (λ s. (app_of s).top.is_plain ≡ true →
+        app_of c ≡ with_subcommand (app_of all.entry) (app_of s).top)) }
 {
     let sub = sub?;
     let all = all.subcommand(sub)?;

@@ -1,10 +1,10 @@
 //! The words of the command line: which words are a command, read by `clap`.
 #![tactic(auto)]
 
-pub mod command;
+mod command;
 mod description;
-pub mod laws;
-pub mod reading;
+mod laws;
+mod reading;
 #[cfg(test)]
 mod tests;
 

@@ -63,7 +63,7 @@ fn asked<'a>(matches: &ArgMatches<'a>) -> Option<Command<'a>>
     }
 }
 
-// The text of an error, as bytes, unless the error is itself want of memory.
+// The text of an error, unless the error is itself want of memory.
 fn not_taken(alloc: Global, error: &Error) -> NoCommand
     ensures { kind_of error.now ≡ OutOfMemory → result ≡ NoCommand.Memory }
 {
@@ -71,7 +71,7 @@ fn not_taken(alloc: Global, error: &Error) -> NoCommand
         return NoCommand::Memory;
     }
     match format!(in alloc; "{error}") {
-        Ok(text) => NoCommand::Usage(text.into_bytes()),
+        Ok(text) => NoCommand::Usage(text),
         Err(_) => NoCommand::Memory,
     }
 }

@@ -63,7 +63,7 @@ fn eval_has_its_values(rt: HostRuntime) -> Result<(), Fail> {
 
 fn is_text(read: Result<Command, NoCommand>, wanted: &str) -> bool {
     match read {
-        Err(NoCommand::Usage(text)) => text.as_slice() == wanted.as_bytes(),
+        Err(NoCommand::Usage(text)) => text.as_str() == wanted,
         _ => false,
     }
 }

@@ -1,4 +1,4 @@
-// The line of `run`.
+// The command `run`.
 ghost use Rattle.std.specs.Prelude.{◌≡◌, IfOk};
 ghost use Rattle.t_terms.specs.ReadProgram.{program as program_of};
 ghost use Rattle.t_rules.specs.Rules.{Accepted};
@@ -7,13 +7,15 @@ ghost use Rattle.t_machine.specs.Runs.{FirstRun};
 ghost use Rattle.talc_core.specs.FirstFault.{AnAssembly};
 ghost use Rattle.talc_core.specs.Lines.{integer_line, more_instructions_line};
 ghost use Rattle.talc_core.specs.Shown.{ShowsRun};
-ghost use Rattle.talc_core.specs.Steps.{ShowsText};
+ghost use Rattle.talc_core.specs.Steps.{ShowsText, ShowsFile};
 
 use crate::assembly::check_assembly;
+use crate::commands::{Ending, Reply, put_reply};
 use crate::lines::more_line;
-use crate::question::{Ending, Reply};
+use crate::outside::read_input;
 use crate::report::Failure;
 use idx_core::OutOfMemory;
+use io_core::{Files, Sink};
 use std::alloc::Global;
 use t_check::Checked;
 use t_machine::{Ran, first_runs_tell, load};
@@ -36,7 +38,7 @@ fn more_instructions_line(alloc: Global, count: u64) -> Result<Vec<u8>, OutOfMem
     more_line(alloc, count, b" instructions\n")
 }
 
-// The first run of the program.
+// The first run of a program.
 fn first_run(alloc: Global, program: &Checked, fuel: u64) -> Result<Ran, OutOfMemory>
     requires { Accepted (program_of (checked_program program.now)) }
     ensures { IfOk result (λ ran. FirstRun (program_of (checked_program program.now)) fuel ran) }
@@ -47,21 +49,36 @@ fn first_run(alloc: Global, program: &Checked, fuel: u64) -> Result<Ran, OutOfMe
     Ok(ran)
 }
 
-// How the program of an assembly text runs within so many instructions.
-pub(crate) fn run_of_text(alloc: Global, text: &[u8], fuel: u64) -> Result<Reply, Failure>
+// Says how the program of an assembly text runs within so many instructions.
+fn run_reply(alloc: Global, text: &[u8], fuel: u64) -> Result<Reply, Failure>
     ensures { ShowsText (ShowsRun fuel) AnAssembly text.now result }
 {
     let program = check_assembly(alloc, text)?;
-    let Ok(ran) = first_run(alloc, &program, fuel) else {
-        return Err(Failure::Memory);
-    };
-    let (ending, line) = match ran {
-        Ran::Halted { value, .. } => (Ending::Ends, integer_line(alloc, value)),
-        Ran::Spent => (Ending::GoesOn, more_instructions_line(alloc, fuel)),
-        Ran::NoMemory { .. } => return Err(Failure::Memory),
-    };
-    let Ok(line) = line else {
-        return Err(Failure::Memory);
-    };
-    Ok(Reply { ending, line })
+    match first_run(alloc, &program, fuel)? {
+        Ran::Halted { value, .. } => Ok(Reply {
+            ending: Ending::Ends,
+            line: integer_line(alloc, value)?,
+        }),
+        Ran::Spent => Ok(Reply {
+            ending: Ending::GoesOn,
+            line: more_instructions_line(alloc, fuel)?,
+        }),
+        Ran::NoMemory { .. } => Err(Failure::Memory),
+    }
+}
+
+// Shows how the program of the assembly text of a file runs within so many instructions.
+pub(crate) fn show_run<F: Files, O: Sink>(
+    alloc: Global,
+    files: &mut F,
+    out: &mut O,
+    input: &str,
+    fuel: u64,
+) -> Result<Ending, Failure>
+    ensures { ShowsFile (ShowsRun fuel) AnAssembly input.now (F.state files.old) (F.state files.new)
+        (O.state out.old) (O.state out.new) result }
+{
+    let text = read_input(alloc, files, input)?;
+    let reply = run_reply(alloc, &text, fuel)?;
+    put_reply(alloc, out, &reply)
 }

@@ -1,16 +1,18 @@
-// The line of `eval`.
+// The command `eval`.
 ghost use Rattle.std.specs.Prelude.{◌≡◌, IfOk};
 ghost use Rattle.talc_core.specs.FirstFault.{AProgram};
 ghost use Rattle.talc_core.specs.Lines.{value_line, more_turns_line};
 ghost use Rattle.talc_core.specs.Shown.{ShowsValue};
-ghost use Rattle.talc_core.specs.Steps.{ShowsText};
+ghost use Rattle.talc_core.specs.Steps.{ShowsText, ShowsFile};
 
+use crate::commands::{Ending, Reply, put_reply};
 use crate::lines::more_line;
-use crate::question::{Ending, Reply};
+use crate::outside::read_input;
 use crate::report::Failure;
 use crate::source::read_program;
 use f_eval::{Ended, eval};
 use idx_core::OutOfMemory;
+use io_core::{Files, Sink};
 use std::alloc::Global;
 use t_writer::{write_integer, write_natural};
 
@@ -33,20 +35,35 @@ fn more_turns_line(alloc: Global, turns: u64) -> Result<Vec<u8>, OutOfMemory>
     more_line(alloc, turns, b" turns\n")
 }
 
-// What a source text evaluates to within so many turns.
-pub(crate) fn value_of_text(alloc: Global, source: &[u8], turns: u64) -> Result<Reply, Failure>
+// Says what a source text evaluates to within so many turns.
+fn value_reply(alloc: Global, source: &[u8], turns: u64) -> Result<Reply, Failure>
     ensures { ShowsText (ShowsValue turns) AProgram source.now result }
 {
     let program = read_program(alloc, source)?;
-    let Ok(ended) = eval(alloc, &program, turns) else {
-        return Err(Failure::Memory);
-    };
-    let (ending, line) = match ended {
-        Ended::Value { value, used } => (Ending::Ends, value_line(alloc, value, used)),
-        Ended::Spent => (Ending::GoesOn, more_turns_line(alloc, turns)),
-    };
-    let Ok(line) = line else {
-        return Err(Failure::Memory);
-    };
-    Ok(Reply { ending, line })
+    match eval(alloc, &program, turns)? {
+        Ended::Value { value, used } => Ok(Reply {
+            ending: Ending::Ends,
+            line: value_line(alloc, value, used)?,
+        }),
+        Ended::Spent => Ok(Reply {
+            ending: Ending::GoesOn,
+            line: more_turns_line(alloc, turns)?,
+        }),
+    }
+}
+
+// Shows what the source text of a file evaluates to within so many turns.
+pub(crate) fn show_value<F: Files, O: Sink>(
+    alloc: Global,
+    files: &mut F,
+    out: &mut O,
+    input: &str,
+    turns: u64,
+) -> Result<Ending, Failure>
+    ensures { ShowsFile (ShowsValue turns) AProgram input.now (F.state files.old) (F.state files.new)
+        (O.state out.old) (O.state out.new) result }
+{
+    let source = read_input(alloc, files, input)?;
+    let reply = value_reply(alloc, &source, turns)?;
+    put_reply(alloc, out, &reply)
 }

@@ -1,5 +1,0 @@
-use Rattle.talc_core.proofs.FaultLemmas as lemmas
-use Rattle.talc_core.proofs.laws.taken_or_fault.Goals as goal
-
-pub returns : goal.returns
-returns c = lemmas.taken_or_fault

@@ -1,0 +1,76 @@
+// What the commands do: one module for each.
+ghost use Rattle.std.specs.Prelude.{◌≡◌};
+ghost use Rattle.talc_core.specs.Steps.{status_at, Performs, PutsReply};
+ghost use Rattle.words.specs.Reads.{asked_by};
+
+use crate::commands::check::show_acceptance;
+use crate::commands::compile::compile_file;
+use crate::commands::eval::show_value;
+use crate::commands::run::show_run;
+use crate::commands::type_of::show_type;
+use crate::outside::put_line;
+use crate::report::Failure;
+use crate::status::Status;
+use io_core::{Files, Sink};
+use std::alloc::Global;
+use words::Command;
+
+mod check;
+mod compile;
+mod eval;
+mod run;
+mod type_of;
+
+// How a command ended that failed nowhere.
+#[derive(Clone, Copy, Debug, PartialEq, Eq, Drop)]
+pub(crate) enum Ending {
+    // The work is done.
+    Ends,
+    // The budget is used up, and the program goes on.
+    GoesOn,
+}
+
+impl Ending {
+    pub(crate) fn status(self) -> Status
+        ensures { result ≡ status_at self }
+    {
+        match self {
+            Ending::Ends => Status::Done,
+            Ending::GoesOn => Status::Budget,
+        }
+    }
+}
+
+// The line that a command shows of a text.
+#[derive(Debug, Drop)]
+pub(crate) struct Reply {
+    pub(crate) ending: Ending,
+    pub(crate) line: Vec<u8>,
+}
+
+// Puts a reply on the output.
+fn put_reply<O: Sink>(alloc: Global, out: &mut O, reply: &Reply) -> Result<Ending, Failure>
+    ensures { PutsReply reply.now (O.state out.old) (O.state out.new) result }
+{
+    put_line(alloc, out, &reply.line)?;
+    Ok(reply.ending)
+}
+
+// Does the work of a command. Nothing is told to the user yet where it fails.
+pub(crate) fn perform<F: Files, O: Sink>(
+    alloc: Global,
+    files: &mut F,
+    out: &mut O,
+    command: Command,
+) -> Result<Ending, Failure>
+    ensures { Performs (asked_by command) (F.state files.old) (F.state files.new)
+        (O.state out.old) (O.state out.new) result }
+{
+    match command {
+        Command::Compile { input, output } => compile_file(alloc, files, input, output),
+        Command::Check { input } => show_acceptance(alloc, files, out, input),
+        Command::Run { input, fuel } => show_run(alloc, files, out, input, fuel),
+        Command::Typeof { input } => show_type(alloc, files, out, input),
+        Command::Eval { input, turns } => show_value(alloc, files, out, input, turns),
+    }
+}

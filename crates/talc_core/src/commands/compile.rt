@@ -1,0 +1,37 @@
+// The command `compile`.
+ghost use Rattle.talc_core.specs.Steps.{CompilesText, CompilesFile};
+
+use crate::commands::Ending;
+use crate::outside::{read_input, write_output};
+use crate::report::Failure;
+use crate::source::read_program;
+use io_core::Files;
+use pipeline::compile;
+use std::alloc::Global;
+use t_writer::write;
+
+// The assembly text that a source text is compiled to, or why there is none.
+fn compile_text(alloc: Global, source: &[u8]) -> Result<Vec<u8>, Failure>
+    ensures { CompilesText source.now result }
+{
+    let program = read_program(alloc, source)?;
+    let compiled = compile(alloc, &program)?;
+    let target = write(alloc, compiled.program())?;
+    Ok(target)
+}
+
+// Compiles the source text of one file into the assembly text of another. The input is read wholly before the output is
+// written, and the output is written once.
+pub(crate) fn compile_file<F: Files>(
+    alloc: Global,
+    files: &mut F,
+    input: &str,
+    output: &str,
+) -> Result<Ending, Failure>
+    ensures { CompilesFile input.now output.now (F.state files.old) (F.state files.new) result }
+{
+    let source = read_input(alloc, files, input)?;
+    let target = compile_text(alloc, &source)?;
+    write_output(alloc, files, output, &target)?;
+    Ok(Ending::Ends)
+}

@@ -9,7 +9,7 @@ use Rattle.clap.specs.Faults.{fault_of, entered_fault, settle_fault, walk_fault}
 use Rattle.clap.specs.Kinds.{Kinds}
 use Rattle.clap.specs.declared.error.kind.ErrorKind.TheVariants.{MissingRequiredArgument}
 use Rattle.words.specs.Description.{talc_app}
-use Rattle.words.specs.Command.{Asked, Evaluates, Runs, asked_in, asked_of, asked_with, command_of, number_in, where_none}
+use Rattle.words.specs.Command.{Asked, Evaluates, Generates, Runs, asked_in, asked_of, asked_with, command_of, number_in, where_none}
 use Rattle.words.specs.Laws.{CommandWhereTaken}
 use Rattle.words.proofs.Taken.{IsAmong, IsPlain, ArePlain, AreRows, Each, IsNumberIf, each, none_first, none_next, level_rows, level_given, first_given, number_given}
 
@@ -33,6 +33,9 @@ typeof_leaf = leaf (drop 3 (built talc_app).subs)
 abbrev eval_leaf : Shape
 eval_leaf = leaf (drop 4 (built talc_app).subs)
 
+abbrev gen_leaf : Shape
+gen_leaf = leaf (drop 5 (built talc_app).subs)
+
 -- the argument takes a value at each use or asks for help, and has no default
 abbrev IsOrdinary : Rule → Type 0
 IsOrdinary a = IsPlain a × (a.defaults ≡ [])
@@ -52,11 +55,17 @@ typeof_ordinary = ((inl (refl, refl), refl), ((inr refl, refl), tt))
 eval_ordinary : Each IsOrdinary eval_leaf.rules
 eval_ordinary = ((inl (refl, refl), refl), ((inl (refl, refl), refl), ((inr refl, refl), tt)))
 
+gen_ordinary : Each IsOrdinary gen_leaf.rules
+gen_ordinary = ((inl (refl, refl), refl), ((inl (refl, refl), refl), ((inr refl, refl), tt)))
+
 run_numbers : Each (IsNumberIf (codes "fuel")) run_leaf.rules
 run_numbers = (λ named. cc, (λ named. (refl, refl), (λ named. cc, tt)))
 
 eval_numbers : Each (IsNumberIf (codes "turns")) eval_leaf.rules
 eval_numbers = (λ named. cc, (λ named. (refl, refl), (λ named. cc, tt)))
+
+gen_numbers : Each (IsNumberIf (codes "seed")) gen_leaf.rules
+gen_numbers = (λ named. cc, (λ named. (refl, refl), (λ named. cc, tt)))
 
 -- nothing that is required is missing
 both_given : (a b : Bool) → cond (not a || (not b || false)) (MissingRequiredArgument ∷ []) [] ≡ [] → (a ≡ true) × (b ≡ true)
@@ -104,6 +113,13 @@ eval_asks rows held none =
     let turns = number_given eval_leaf.rules (codes "turns") rows (each (IsNumberIf (codes "turns")) eval_leaf.rules eval_numbers) held given.1 in
     rw input.1 (numbered Evaluates input.0 (number_in (codes "turns") rows) turns)
 
+gen_asks : (rows : List Row) → AreRows gen_leaf.rules rows → f.check_fault gen_leaf rows false ≡ [] → IsSome (asked_in (codes "gen") rows)
+gen_asks rows held none =
+    let given = both_given (is_given (codes "OUT") rows) (is_given (codes "seed") rows) none in
+    let output = first_given gen_leaf.rules (codes "OUT") rows held given.0 in
+    let seed = number_given gen_leaf.rules (codes "seed") rows (each (IsNumberIf (codes "seed")) gen_leaf.rules gen_numbers) held given.1 in
+    rw output.1 (numbered (λ output seed. Generates seed output) output.0 (number_in (codes "seed") rows) seed)
+
 -- a level of the parse of a subcommand, and no error in it
 level_asks : (s : Shape) → Each IsOrdinary s.rules → ((rows : List Row) → AreRows s.rules rows → f.check_fault s rows false ≡ [] → IsSome (asked_in s.name rows))
     → (words : List Text) → f.level_fault s [] nothing_held words false [] ≡ [] → IsSome (asked_of (Some (rows_at s words)))
@@ -113,23 +129,24 @@ level_asks s ordinary asks words none =
     asks (rows_after s.rules [] words) (level_rows s plain defaults words none) (level_given s plain words none)
 
 -- the first subcommand for which its test holds
-abbrev chosen : (compiles checks runs types evaluates : Bool) → Option Shape
-chosen compiles checks runs types evaluates =
-    cond compiles (Some compile_leaf) (cond checks (Some check_leaf) (cond runs (Some run_leaf) (cond types (Some typeof_leaf) (cond evaluates (Some eval_leaf) None))))
+abbrev chosen : (compiles checks runs types evaluates generates : Bool) → Option Shape
+chosen compiles checks runs types evaluates generates =
+    cond compiles (Some compile_leaf) (cond checks (Some check_leaf) (cond runs (Some run_leaf) (cond types (Some typeof_leaf) (cond evaluates (Some eval_leaf) (cond generates (Some gen_leaf) None)))))
 
-entered_asks : (compiles checks runs types evaluates : Bool) (words : List Text) → option_map_or (λ s. f.level_fault s [] nothing_held words false []) (chosen compiles checks runs types evaluates) [] ≡ []
-    → (is_some (option_map (λ s. rows_at s words) (chosen compiles checks runs types evaluates)) ≡ true) → IsSome (asked_of (option_map (λ s. rows_at s words) (chosen compiles checks runs types evaluates)))
-entered_asks true b1 b2 b3 b4 words none entered = level_asks compile_leaf compile_ordinary compile_asks words none
-entered_asks false true b2 b3 b4 words none entered = level_asks check_leaf check_ordinary check_asks words none
-entered_asks false false true b3 b4 words none entered = level_asks run_leaf run_ordinary run_asks words none
-entered_asks false false false true b4 words none entered = level_asks typeof_leaf typeof_ordinary typeof_asks words none
-entered_asks false false false false true words none entered = level_asks eval_leaf eval_ordinary eval_asks words none
-entered_asks false false false false false words none entered = cc
+entered_asks : (compiles checks runs types evaluates generates : Bool) (words : List Text) → option_map_or (λ s. f.level_fault s [] nothing_held words false []) (chosen compiles checks runs types evaluates generates) [] ≡ []
+    → (is_some (option_map (λ s. rows_at s words) (chosen compiles checks runs types evaluates generates)) ≡ true) → IsSome (asked_of (option_map (λ s. rows_at s words) (chosen compiles checks runs types evaluates generates)))
+entered_asks true b1 b2 b3 b4 b5 words none entered = level_asks compile_leaf compile_ordinary compile_asks words none
+entered_asks false true b2 b3 b4 b5 words none entered = level_asks check_leaf check_ordinary check_asks words none
+entered_asks false false true b3 b4 b5 words none entered = level_asks run_leaf run_ordinary run_asks words none
+entered_asks false false false true b4 b5 words none entered = level_asks typeof_leaf typeof_ordinary typeof_asks words none
+entered_asks false false false false true b5 words none entered = level_asks eval_leaf eval_ordinary eval_asks words none
+entered_asks false false false false false true words none entered = level_asks gen_leaf gen_ordinary gen_asks words none
+entered_asks false false false false false false words none entered = cc
 
 stopped_asks : (stop : Option (Text × List Text)) → entered_fault (built talc_app) stop ≡ [] → is_some (entered (built talc_app) stop) ≡ true → IsSome (asked_of (entered (built talc_app) stop))
 stopped_asks None none entered = cc
 stopped_asks (Some p) none entered =
-    entered_asks (answers_to p.0 (codes "compile", [])) (answers_to p.0 (codes "check", [])) (answers_to p.0 (codes "run", [])) (answers_to p.0 (codes "typeof", [])) (answers_to p.0 (codes "eval", [])) p.1 none entered
+    entered_asks (answers_to p.0 (codes "compile", [])) (answers_to p.0 (codes "check", [])) (answers_to p.0 (codes "run", [])) (answers_to p.0 (codes "typeof", [])) (answers_to p.0 (codes "eval", [])) (answers_to p.0 (codes "gen", [])) p.1 none entered
 
 -- a subcommand is required
 met : (rows : List Row) (has : Bool) → f.check_fault (built talc_app).top rows has ≡ [] → has ≡ true

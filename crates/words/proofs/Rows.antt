@@ -2,7 +2,7 @@
 use Rattle.std.proofs.Common.{◌≡◌, [], ◌∷◌, Some, None, refl}
 use Rattle.std.specs.Prelude.{codes}
 use Rattle.clap.proofs.OnLiterals.{clap_on_literals}
-use Rattle.words.specs.Command.{Checks, Compiles, Evaluates, Runs, Types, command_of}
+use Rattle.words.specs.Command.{Checks, Compiles, Evaluates, Generates, Runs, Types, command_of}
 
 -- talc compile x.f x.tal
 compile_words : command_of (codes "talc" ∷ codes "compile" ∷ codes "x.f" ∷ codes "x.tal" ∷ []) ≡ Some (Compiles (codes "x.f") (codes "x.tal"))
@@ -141,8 +141,26 @@ missing_fuel : command_of (codes "talc" ∷ codes "run" ∷ codes "x.tal" ∷ []
 unfolding command_of clap_on_literals
 missing_fuel = refl
 
--- a command that has not come
-other_words : command_of (codes "talc" ∷ codes "gen" ∷ codes "--seed" ∷ codes "1" ∷ codes "x.f" ∷ []) ≡ None
+-- talc gen --seed 0 g.f, and the same with the option last
+gen_words : command_of (codes "talc" ∷ codes "gen" ∷ codes "--seed" ∷ codes "0" ∷ codes "g.f" ∷ []) ≡ Some (Generates 0 (codes "g.f"))
+unfolding command_of clap_on_literals
+gen_words = refl
+
+gen_last : command_of (codes "talc" ∷ codes "gen" ∷ codes "g.f" ∷ codes "--seed=18446744073709551615" ∷ []) ≡ Some (Generates 18446744073709551615 (codes "g.f"))
+unfolding command_of clap_on_literals
+gen_last = refl
+
+-- without the seed, and without the file
+gen_missing_seed : command_of (codes "talc" ∷ codes "gen" ∷ codes "g.f" ∷ []) ≡ None
+unfolding command_of clap_on_literals
+gen_missing_seed = refl
+
+gen_missing_file : command_of (codes "talc" ∷ codes "gen" ∷ codes "--seed" ∷ codes "0" ∷ []) ≡ None
+unfolding command_of clap_on_literals
+gen_missing_file = refl
+
+-- no command
+other_words : command_of (codes "talc" ∷ codes "upgrade" ∷ codes "x.tal" ∷ codes "y.tal" ∷ []) ≡ None
 unfolding command_of clap_on_literals
 other_words = refl
 

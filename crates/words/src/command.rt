@@ -16,6 +16,8 @@ pub enum Command<'a> {
     Typeof { input: &'a str },
     /// `eval IN --turns N`: evaluates the source text of a file within a number of turns.
     Eval { input: &'a str, turns: u64 },
+    /// `gen --seed N OUT`: writes the source of a seed to a file, after all the work of the other commands on it.
+    Gen { seed: u64, output: &'a str },
 }
 
 /// Why words come to no command.

@@ -3,7 +3,7 @@ ghost use Rattle.std.specs.Prelude.{◌≡◌, IfOk, false, true};
 ghost use Rattle.std.specs.Result.{IsOkAnd};
 ghost use Rattle.clap.specs.Words.{app_of, rule_of, with_subcommand};
 ghost use Rattle.words.specs.Description.{file_rule, number_rule, compile_app, check_app, run_app};
-ghost use Rattle.words.specs.Description.{typeof_app, eval_app, bare_app, talc_app};
+ghost use Rattle.words.specs.Description.{typeof_app, eval_app, gen_app, bare_app, talc_app};
 
 use clap::{Arg, ArgAction, Command, value_parser};
 use std::alloc::{AllocError, Global};
@@ -72,6 +72,15 @@ fn eval_words<'a>(alloc: Global) -> Result<Command<'a>, AllocError>
         .arg(number(alloc, "turns", "The most turns to take"))
 }
 
+fn gen_words<'a>(alloc: Global) -> Result<Command<'a>, AllocError>
+    ensures { IfOk result (λ c. app_of c ≡ gen_app) }
+{
+    Command::new(alloc, "gen")
+        .about("Writes the source of the seed N to OUT, compiled, evaluated, checked and run")
+        .arg(file(alloc, "OUT", "The file to write over"))?
+        .arg(number(alloc, "seed", "The seed"))
+}
+
 // The command line without its subcommands: one must be given, and there is no `help` among them.
 fn bare_words<'a>(alloc: Global) -> Command<'a>
     ensures { app_of result ≡ bare_app }
@@ -102,6 +111,7 @@ pub(crate) fn talc_words<'a>(alloc: Global) -> Result<Command<'a>, AllocError>
     let check = with_words(compile, check_words(alloc))?;
     let run = with_words(check, run_words(alloc))?;
     let type_of = with_words(run, typeof_words(alloc))?;
-    let all = with_words(type_of, eval_words(alloc))?;
+    let eval = with_words(type_of, eval_words(alloc))?;
+    let all = with_words(eval, gen_words(alloc))?;
     Ok(all)
 }

@@ -50,6 +50,10 @@ fn entered<'a>(name: &str, matches: &ArgMatches<'a>) -> Option<Command<'a>>
         let (input, turns) = (value(matches, "IN")?, number(matches, "turns")?);
         return Some(Command::Eval { input, turns });
     }
+    if name == "gen" {
+        let (output, seed) = (value(matches, "OUT")?, number(matches, "seed")?);
+        return Some(Command::Gen { seed, output });
+    }
     None
 }
 

@@ -61,6 +61,13 @@ fn eval_has_its_values(rt: HostRuntime) -> Result<(), Fail> {
     )
 }
 
+#[test]
+fn gen_has_its_values(rt: HostRuntime) -> Result<(), Fail> {
+    let (seed, output) = (u64::MAX, "g.f");
+    let line = "talc gen --seed 18446744073709551615 g.f";
+    asks(&rt, rt.alloc(), line, Command::Gen { seed, output })
+}
+
 fn is_text(read: Result<Command, NoCommand>, wanted: &str) -> bool {
     match read {
         Err(NoCommand::Usage(text)) => text.as_str() == wanted,
@@ -86,7 +93,7 @@ fn other_words_get_a_text(rt: HostRuntime) -> Result<(), Fail> {
             (
                 "talc",
                 "error: 'talc' requires a subcommand but one was not provided
-  [subcommands: compile, check, run, typeof, eval]
+  [subcommands: compile, check, run, typeof, eval, gen]
 
 Usage: talc <COMMAND>
 
@@ -94,8 +101,8 @@ For more information, try '--help'.
 ",
             ),
             (
-                "talc gen x.f",
-                "error: unrecognized subcommand 'gen'
+                "talc upgrade x.f",
+                "error: unrecognized subcommand 'upgrade'
 
 Usage: talc <COMMAND>
 
@@ -182,6 +189,7 @@ Commands:
   run      Runs the TAL text IN for at most N instructions
   typeof   Shows the type of the source text IN
   eval     Evaluates the source text IN within N turns
+  gen      Writes the source of the seed N to OUT, compiled, evaluated, checked and run
 
 Options:
   -h, --help  Print help
@@ -239,6 +247,20 @@ Arguments:
 
 Options:
   -h, --help  Print help
+",
+            ),
+            (
+                "talc gen --help",
+                "Writes the source of the seed N to OUT, compiled, evaluated, checked and run
+
+Usage: talc gen --seed <N> <OUT>
+
+Arguments:
+  <OUT>  The file to write over
+
+Options:
+      --seed <N>  The seed
+  -h, --help      Print help
 ",
             ),
             (

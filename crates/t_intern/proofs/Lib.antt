@@ -1,0 +1,12 @@
+pub mod Distinct
+pub mod FitNumbers
+pub mod Growing
+pub mod Inserts
+pub mod Lists
+pub mod Recalls
+pub mod Same
+pub mod Spreads
+pub mod Tables
+pub mod Walked
+pub mod Weaker
+pub mod Wide

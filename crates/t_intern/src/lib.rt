@@ -1,0 +1,18 @@
+//! Types of the typed assembly language by number, each once.
+#![tactic(auto)]
+
+mod bounds;
+mod fitting;
+mod inserting;
+mod memo;
+mod numbering;
+mod putting;
+mod shape;
+mod shifting;
+#[cfg(test)]
+mod tests;
+mod trees;
+mod types;
+
+pub use shape::Shape;
+pub use types::Types;

@@ -1,0 +1,68 @@
+// Numbers of types that are given as trees.
+ghost use Rattle.std.specs.Prelude.{◌≡◌, length, IfOk, OnOk};
+ghost use Rattle.t_types.specs.Read.{tree, file, fields};
+ghost use Rattle.t_intern.specs.Grown.{Grown, IsNumber, AreRegs, AreFields};
+ghost use Rattle.t_intern.specs.Nodes.{regs_at, fields_at, RegsBelow, FieldsBelow};
+ghost use Rattle.t_intern.specs.Numbered.{Numbered, NumberedFile, NumberedFields};
+
+use crate::shape::Shape;
+use crate::types::Types;
+use idx_core::OutOfMemory;
+use t_types::TType;
+
+impl Types {
+    /// The number of a type. New types go last, parts before wholes, from left to right.
+    #[cycle(numbers)]
+    pub fn number(&mut self, t: &TType) -> Result<u64, OutOfMemory>
+        ensures grown { Grown self.old self.new }
+        ensures number { IfOk result (IsNumber self.new (tree t.now)) }
+        ensures order { OnOk result (Numbered (tree t.now) self.old self.new) }
+    {
+        match t {
+            TType::Int => self.intern(Shape::Int),
+            TType::Var(i) => self.intern(Shape::Var(*i)),
+            TType::Code { owes, regs } => {
+                let regs = self.number_regs(&regs.regs)?;
+                self.intern(Shape::Code { owes: *owes, regs })
+            }
+            TType::Exists(t) => {
+                let t = self.number(t)?;
+                self.intern(Shape::Exists(t))
+            }
+            TType::Tuple(fs) => {
+                let fs = self.number_fields(fs)?;
+                self.intern(Shape::Tuple(fs))
+            }
+        }
+    }
+
+    #[cycle(numbers)]
+    fn number_regs(&mut self, regs: &[(u64, TType)]) -> Result<Vec<(u64, u64)>, OutOfMemory>
+        ensures grown { Grown self.old self.new }
+        ensures numbers { IfOk result (λ v. AreRegs self.new
+            (file regs.now) v.items) }
+        ensures order { OnOk result (NumberedFile (file regs.now) self.old self.new) }
+    {
+        let mut made = Vec::new(self.alloc());
+        for reg in regs {
+            let n = self.number(&reg.1)?;
+            made.push((reg.0, n))?;
+        }
+        Ok(made)
+    }
+
+    #[cycle(numbers)]
+    fn number_fields(&mut self, fs: &[(TType, bool)]) -> Result<Vec<(u64, bool)>, OutOfMemory>
+        ensures grown { Grown self.old self.new }
+        ensures numbers { IfOk result (λ v. AreFields self.new
+            (fields fs.now) v.items) }
+        ensures order { OnOk result (NumberedFields (fields fs.now) self.old self.new) }
+    {
+        let mut made = Vec::new(self.alloc());
+        for field in fs {
+            let n = self.number(&field.0)?;
+            made.push((n, field.1))?;
+        }
+        Ok(made)
+    }
+}

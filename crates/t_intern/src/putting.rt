@@ -1,0 +1,197 @@
+// Types put into types, by number.
+ghost use Rattle.std.specs.Prelude.{◌≡◌, ℕ, [], ◌∷◌, ◌<◌, ◌≤◌, length, IfOk};
+ghost use Rattle.std.specs.List.{All};
+ghost use Rattle.idx_core.specs.Over.{IsWord};
+ghost use Rattle.t_types.specs.Tree.{VarTy, over, over_file, over_fields, each, each_file, each_fields, put, PutFits};
+ghost use Rattle.t_intern.specs.Found.{found};
+ghost use Rattle.t_intern.specs.Grown.{Grown, IsNumber, AreRegs, AreFields};
+ghost use Rattle.t_intern.specs.Memo.{Remembers};
+ghost use Rattle.t_intern.specs.Nodes.{at, regs_at, fields_at, RegsBelow, FieldsBelow};
+ghost use Rattle.t_intern.specs.Spread.{types_at, spread, SpreadFitsAt};
+
+use crate::memo::Memo;
+use crate::shape::Shape;
+use crate::types::Types;
+use idx_core::OutOfMemory;
+
+impl Types {
+    /// The number of a type into which another one is put.
+    pub fn put(&mut self, n: u64, place: u64, what: u64) -> Result<u64, OutOfMemory>
+        requires there { n < length self.old }
+        requires what { what < length self.old }
+        requires fits { PutFits place (at self.old what) place (at self.old n) }
+        ensures grown { Grown self.old self.new }
+        ensures number { IfOk result (IsNumber self.new (put place (at self.old what) (at self.old n))) }
+    {
+        self.put_all(n, place, &[what], place)
+    }
+
+    /// The number of a type into which several types are put in one walk, the last for the variable `depth`.
+    pub fn put_all(
+        &mut self,
+        n: u64,
+        base: u64,
+        args: &[u64],
+        depth: u64,
+    ) -> Result<u64, OutOfMemory>
+        requires there { n < length self.old }
+        requires fits { each (SpreadFitsAt base (types_at self.old args.now)) IsWord depth (at self.old n) }
+        requires args { All (λ a. a < length self.old) args.now }
+        requires deep { base ≤ depth }
+        ensures grown { Grown self.old self.new }
+        ensures number { IfOk result (IsNumber self.new (over (spread base (types_at self.old args.now)) depth
+            (at self.old n))) }
+    {
+        let mut memo = Memo::new(self.alloc());
+        self.put_in(&mut memo, n, base, args, depth)
+    }
+
+    // What stands for a variable.
+    fn put_var(&mut self, base: u64, args: &[u64], depth: u64, i: u64) -> Result<u64, OutOfMemory>
+        requires fits { SpreadFitsAt base (types_at self.old args.now) depth i }
+        requires args { All (λ a. a < length self.old) args.now }
+        requires deep { base ≤ depth }
+        ensures grown { Grown self.old self.new }
+        ensures number { IfOk result (IsNumber self.new (spread base (types_at self.old args.now) depth i)) }
+    {
+        if i < depth {
+            return self.intern(Shape::Var(i));
+        }
+        let count = args.len();
+        let past = i - depth;
+        if past < count as u64 {
+            return self.shift(args[count - 1 - past as usize], depth - base, 0);
+        }
+        self.intern(Shape::Var(i - count as u64))
+    }
+
+    // The same, where the memo has what was found before.
+    #[cycle(puts)]
+    fn put_in(
+        &mut self,
+        memo: &mut Memo,
+        n: u64,
+        base: u64,
+        args: &[u64],
+        depth: u64,
+    ) -> Result<u64, OutOfMemory>
+        requires there { n < length self.old }
+        requires fits { each (SpreadFitsAt base (types_at self.old args.now)) IsWord depth (at self.old n) }
+        requires args { All (λ a. a < length self.old) args.now }
+        requires deep { base ≤ depth }
+        requires memo { Remembers (spread base (types_at self.old args.now)) (found memo.old) self.old }
+        ensures grown { Grown self.old self.new }
+        ensures memo { Remembers (spread base (types_at self.old args.now)) (found memo.new) self.new }
+        ensures number { IfOk result (IsNumber self.new (over (spread base (types_at self.old args.now)) depth
+            (at self.old n))) }
+    {
+        if self.bound(n) <= depth as u128 {
+            return Ok(n);
+        }
+        if let Some(made) = memo.recall(n, depth) {
+            return Ok(made);
+        }
+        let made = self.put_parts(memo, n, base, args, depth)?;
+        memo.note(n, depth, made)?;
+        Ok(made)
+    }
+
+    // The same by its parts.
+    #[cycle(puts)]
+    fn put_parts(
+        &mut self,
+        memo: &mut Memo,
+        n: u64,
+        base: u64,
+        args: &[u64],
+        depth: u64,
+    ) -> Result<u64, OutOfMemory>
+        requires there { n < length self.old }
+        requires fits { each (SpreadFitsAt base (types_at self.old args.now)) IsWord depth (at self.old n) }
+        requires args { All (λ a. a < length self.old) args.now }
+        requires deep { base ≤ depth }
+        requires memo { Remembers (spread base (types_at self.old args.now)) (found memo.old) self.old }
+        ensures grown { Grown self.old self.new }
+        ensures memo { Remembers (spread base (types_at self.old args.now)) (found memo.new) self.new }
+        ensures number { IfOk result (IsNumber self.new (over (spread base (types_at self.old args.now)) depth
+            (at self.old n))) }
+    {
+        match self.copied(n)? {
+            Shape::Int => self.intern(Shape::Int),
+            Shape::Var(i) => self.put_var(base, args, depth, i),
+            Shape::Code { owes, regs } => {
+                let regs = self.put_regs(memo, n, &regs, base, args, depth + owes)?;
+                self.intern(Shape::Code { owes, regs })
+            }
+            Shape::Exists(t) => {
+                let t = self.put_in(memo, t, base, args, depth + 1)?;
+                self.intern(Shape::Exists(t))
+            }
+            Shape::Tuple(fields) => {
+                let fields = self.put_fields(memo, n, &fields, base, args, depth)?;
+                self.intern(Shape::Tuple(fields))
+            }
+        }
+    }
+
+    // Parts of the type of n.
+    #[cycle(puts)]
+    fn put_regs(
+        &mut self,
+        memo: &mut Memo,
+        n: u64,
+        regs: &[(u64, u64)],
+        base: u64,
+        args: &[u64],
+        depth: u64,
+    ) -> Result<Vec<(u64, u64)>, OutOfMemory>
+        requires there { n ≤ length self.old }
+        requires parts { RegsBelow n regs.now }
+        requires fits { each_file (SpreadFitsAt base (types_at self.old args.now)) IsWord depth
+            (regs_at self.old regs.now) }
+        requires args { All (λ a. a < length self.old) args.now }
+        requires deep { base ≤ depth }
+        requires memo { Remembers (spread base (types_at self.old args.now)) (found memo.old) self.old }
+        ensures grown { Grown self.old self.new }
+        ensures memo { Remembers (spread base (types_at self.old args.now)) (found memo.new) self.new }
+        ensures numbers { IfOk result (λ v. AreRegs self.new
+            (over_file (spread base (types_at self.old args.now)) depth (regs_at self.old regs.now)) v.items) }
+    {
+        let mut made = Vec::new(self.alloc());
+        for reg in regs {
+            let t = self.put_in(memo, reg.1, base, args, depth)?;
+            made.push((reg.0, t))?;
+        }
+        Ok(made)
+    }
+
+    #[cycle(puts)]
+    fn put_fields(
+        &mut self,
+        memo: &mut Memo,
+        n: u64,
+        fields: &[(u64, bool)],
+        base: u64,
+        args: &[u64],
+        depth: u64,
+    ) -> Result<Vec<(u64, bool)>, OutOfMemory>
+        requires there { n ≤ length self.old }
+        requires parts { FieldsBelow n fields.now }
+        requires fits { each_fields (SpreadFitsAt base (types_at self.old args.now)) IsWord depth
+            (fields_at self.old fields.now) }
+        requires args { All (λ a. a < length self.old) args.now }
+        requires deep { base ≤ depth }
+        requires memo { Remembers (spread base (types_at self.old args.now)) (found memo.old) self.old }
+        ensures grown { Grown self.old self.new }
+        ensures memo { Remembers (spread base (types_at self.old args.now)) (found memo.new) self.new }
+        ensures numbers { IfOk result (λ v. AreFields self.new
+            (over_fields (spread base (types_at self.old args.now)) depth (fields_at self.old fields.now)) v.items) }
+    {
+        let mut made = Vec::new(self.alloc());
+        for field in fields {
+            let t = self.put_in(memo, field.0, base, args, depth)?;
+            made.push((t, field.1))?;
+        }
+        Ok(made)
+    }
+}

@@ -7,11 +7,11 @@ use Rattle.f_lexer.specs.declared.kind.Kind.TheVariants as k
 use Rattle.f_grammar.specs.declared.cursor.Wanted.TheVariants as want
 use Rattle.f_grammar.specs.Grammar.{tok}
 use Rattle.f_grammar.specs.Raw.{var, RInt}
-use Rattle.text_core.specs.Table.{Nt, Do, Mark, Seen}
+use Rattle.text_core.specs.Table.{Nt}
 use Rattle.f_grammar.proofs.Complete.{do_now, mark_now, next}
 use Rattle.text_core.proofs.Rules as rules
 use Rattle.text_core.proofs.Rules.{Filling, good_row, quiet_row, AtLeast, Least}
-use Rattle.f_grammar.specs.Machine.{table, Class, Line, LE, LP, LParam, LBranches, LFields, MoreParts, MoreFactors, MoreSums, MoreFields, LT, LU, LTypes, MoreArrow, MoreTypes, Act, MakeVar, MakeUnit, TypeInt, TypeUnit, Stack, Val, OfToken, OfTerm, OfType, fits, after, may_end, sum_tail, type_tail, marks, exec, Outcome, act}
+use Rattle.f_grammar.specs.Machine.{table, Class, Line, LE, LP, LParam, LBranches, LFields, MoreParts, MoreFactors, MoreSums, MoreFields, LT, LU, LTypes, MoreArrow, MoreTypes, MakeVar, MakeUnit, TypeInt, TypeUnit, Stack, Val, OfToken, OfTerm, OfType, fits, after, may_end, sum_tail, type_tail, marks, exec, act}
 
 abbrev here : Span
 here = record { start = 0; end = 0 }

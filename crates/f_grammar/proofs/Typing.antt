@@ -1,5 +1,5 @@
 -- How the reading functions of types follow one another, over plain variables.
-use Rattle.std.proofs.Common.{◌≡◌, ◌≢◌, ℕ, ◌+◌, ◌<◌, ◌≤◌, List, [], ◌∷◌, ◌++◌, length, slice_get, drop, map, Vec, Global, refl, sym, ◌∙◌, ap, subst, Option, Some, None, arith, Bool, true, false, if◌then◌else◌}
+use Rattle.std.proofs.Common.{◌≡◌, ◌≢◌, ℕ, ◌+◌, ◌<◌, ◌≤◌, List, [], ◌∷◌, ◌++◌, length, slice_get, drop, map, Vec, Global, refl, sym, ◌∙◌, ap, subst, Option, Some, None, arith, true, false}
 use Rattle.std.proofs.lemmas.Option.{slice_get_within}
 use Rattle.std.proofs.lemmas.List.{append-nil, map-append}
 use mathlib.Core.Former.{Count}

@@ -1,9 +1,9 @@
 -- How the reading functions follow one another, over plain variables.
-use Rattle.std.proofs.Common.{◌≡◌, ℕ, ◌+◌, ◌<◌, ◌≤◌, inl, inr, List, [], ◌∷◌, ◌++◌, length, slice_get, refl, sym, ◌∙◌, subst, Option, Some, None, arith, Bool, true, false, if◌then◌else◌, append_assoc}
+use Rattle.std.proofs.Common.{◌≡◌, ℕ, ◌+◌, ◌<◌, ◌≤◌, inl, inr, List, [], ◌∷◌, ◌++◌, length, slice_get, refl, sym, subst, Option, Some, None, arith, true, false, if◌then◌else◌, append_assoc}
 use Rattle.std.proofs.lemmas.Option.{slice_get_within}
 use Rattle.std.proofs.lemmas.List.{append-nil}
 use Rattle.text_core.specs.Table.{Tm, Nt, Do, Mark, marks}
-use Rattle.text_core.specs.Going.{Goes, Lacks, at_the_end, other, next_of}
+use Rattle.text_core.specs.Going.{Goes, Lacks, next_of}
 use Rattle.text_core.proofs.Going as step
 use Rattle.t_terms.specs.declared.token.Token.{Token}
 use Rattle.t_terms.specs.declared.token.Kind.{Kind}

@@ -1,4 +1,4 @@
-use Rattle.std.proofs.Common.{◌≡◌, ℕ, List, ◌∷◌, [], ◌++◌, ◌+◌, ◌∙◌, length, map, take, ap, sym, subst, append_assoc, refl, arith}
+use Rattle.std.proofs.Common.{◌≡◌, List, ◌∷◌, [], ◌++◌, ◌∙◌, length, map, take, ap, sym, append_assoc, arith}
 use Rattle.std.proofs.lemmas.List.{map-append, append-nil, take_all}
 use Rattle.idx_core.specs.declared.span.Span.{Span}
 use Rattle.t_types.specs.declared.types.TType.{TType}

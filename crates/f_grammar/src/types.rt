@@ -3,7 +3,8 @@ ghost use Rattle.std.specs.Prelude.{◌≡◌, List, [], ◌∷◌, ◌≤◌, l
 ghost use Rattle.text_core.specs.Table.{Nt};
 ghost use Rattle.f_grammar.specs.Machine.{LT, LU, LTypes};
 ghost use Rattle.f_grammar.specs.Raw.{RArrow, RAll};
-ghost use Rattle.f_grammar.specs.Reads.{ReadsType, ReadsTypes, Fails, type_of};
+ghost use Rattle.f_grammar.specs.Read.{type_of};
+ghost use Rattle.f_grammar.specs.Reads.{ReadsType, ReadsTypes, Fails};
 ghost use Rattle.f_grammar.specs.declared.cursor.Stopped.TheVariants as stopped;
 
 use crate::cursor::{Stopped, Wanted, expect, opened, peek, take};

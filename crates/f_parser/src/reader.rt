@@ -10,7 +10,8 @@ ghost use Rattle.f_terms.specs.declared.fault.Code.TheVariants.{L3};
 ghost use Rattle.f_grammar.specs.Raw.{RawTm, nodes, place_of};
 ghost use Rattle.f_grammar.specs.Machine.{LE};
 ghost use Rattle.f_grammar.specs.Reads.{Fails};
-ghost use Rattle.f_reader.specs.Kept.{tree_of, Keeps};
+ghost use Rattle.f_grammar.specs.Term.{tree_of};
+ghost use Rattle.f_reader.specs.Reads.{Keeps};
 ghost use Rattle.f_parser.specs.Text.{SourceWithin, FirstFault, IsFault, HasTokens, whole_of, end_of};
 ghost use Rattle.f_parser.specs.Reader.{HasTree};
 
@@ -72,7 +73,7 @@ fn kept_tree(kept: Kept) -> Result<RawTerm, FFault>
     ensures { (t : RawTm) → Keeps kept t → MatchResult result (λ e. (tree_of e ≡ t) × (nodes t ≤ 1000)) (λ f. (f ≡ fault.Refused L3 (place_of t)) × (1000 < nodes t)) }
 {
     match kept {
-        Kept::Term(tree, _) => Ok(tree),
+        Kept::Term(tree) => Ok(tree),
         Kept::TooMany(span) => Err(refused(Code::L3, span)),
     }
 }
@@ -82,7 +83,7 @@ fn whole_tree(alloc: Global, text: &[u8], tokens: &[Token]) -> Result<RawTerm, F
     requires { HasTokens text.now tokens.now }
     ensures { MatchResult result (λ t. HasTree text.now (tree_of t)) (λ f. IsFault text.now f) }
 {
-    match whole_term(alloc, tokens, 0, 0) {
+    match whole_term(alloc, tokens) {
         Ok(found) => match peek(tokens, found.next) {
             Some(token) => Err(refused(Code::E03, token.span)),
             None => kept_tree(found.kept),

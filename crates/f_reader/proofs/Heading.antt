@@ -9,7 +9,8 @@ use Rattle.text_core.specs.Going.{next_of}
 use Rattle.text_core.proofs.Going as step
 use Rattle.f_grammar.specs.Raw.{RawTy}
 use Rattle.f_grammar.specs.Machine.{table, Stack, Val, OfToken, OfType, LE, LT, LParam, MakeFix, MakeGen, fits, expr_after}
-use Rattle.f_grammar.specs.Reads.{type_of, Fails, Reads, ReadsParameter}
+use Rattle.f_grammar.specs.Read.{type_of}
+use Rattle.f_grammar.specs.Reads.{Fails, Reads, ReadsParameter}
 use Rattle.f_grammar.specs.declared.cursor.Wanted.TheVariants as want
 use Rattle.f_grammar.specs.declared.cursor.Stopped.{Stopped}
 use Rattle.f_grammar.specs.declared.cursor.Stopped.TheVariants.{TooDeep}

@@ -1,0 +1,17 @@
+use Rattle.std.proofs.Common.{[], ◌∷◌, ◌++◌, ap, ◌+◌, refl, sym, ◌∙◌, arith, Some, None}
+use Rattle.std.proofs.lemmas.Result.{err_from_is_err_and}
+use Rattle.text_core.specs.Table.{Tm, Nt, Do, Mark}
+use Rattle.f_grammar.specs.Machine.{LE, LP, LFields, LBranches, MoreParts, MakeTuple, MakeProj}
+use Rattle.f_grammar.specs.declared.cursor.Wanted.TheVariants as want
+use Rattle.f_grammar.proofs.Typing.{within}
+use Rattle.text_core.proofs.Going.{is_next, is_of}
+use Rattle.f_grammar.specs.Machine.{table, OfToken, OfTerm, OfTerms}
+use Rattle.f_reader.proofs.Steps.{got_are, first_field}
+use Rattle.f_reader.proofs.resume.after_first.Goals as goal
+
+pub after_field-requires : goal.after_field-requires
+after_field-requires c =
+    let x = c.requires in
+    let o = x.3.0 in
+    let g = first_field c.args.reader.now.tokens.now x.0 o c.push.new.self.items x.2 (c.in_ok-push.ensures.items ∙ ap (λ xs. xs ++ c.args.part.node ∷ []) c.new-fields.ensures.items) (got_are x.0 x.1 (OfToken o ∷ []) x.3.2 x.4) in
+    (o, _, x.3.1, g.0, g.1)

@@ -1,17 +1,16 @@
 -- What one node more changes.
-use Rattle.std.proofs.Common.{◌≡◌, ◌<◌, ◌≤◌, ◌⊎◌, inl, inr, ℕ, ◌+◌, List, [], ◌∷◌, ◌++◌, map, length, Bool, true, false, refl, sym, ◌∙◌, ap, subst, arith, All}
+use Rattle.std.proofs.Common.{◌≡◌, ◌<◌, ◌≤◌, ◌⊎◌, inl, inr, ℕ, ◌+◌, List, [], ◌∷◌, ◌++◌, length, Bool, true, false, refl, sym, ◌∙◌, ap, subst, arith, All}
 use Rattle.std.proofs.lemmas.List.{length_push}
-use Rattle.std.proofs.lemmas.List.Elements.{All-nil, All-head, All-tail, All-cons}
-use Rattle.arena.specs.Arena.{InOrder}
+use Rattle.std.proofs.lemmas.List.Elements.{All-nil}
 use Rattle.idx_core.specs.declared.span.Span.{Span}
 use Rattle.f_grammar.specs.Raw.{RawTm, Piece, place_of, nodes, nodes_all, raw_tms}
-use Rattle.f_grammar.specs.Machine.{Val, OfToken, OfTerm, OfTerms, OfType, OfTypes}
-use Rattle.f_grammar.specs.Nodes.{shape_tree, kids, tree_at}
+use Rattle.f_grammar.specs.Machine.{Val}
+use Rattle.f_grammar.specs.Nodes.{shape_tree, tree_at}
 use Rattle.f_grammar.specs.declared.raw.RawNode.{RawNode}
 use Rattle.f_grammar.specs.declared.raw.RawShape.{RawShape}
-use Rattle.f_grammar.proofs.Noding.{same_all, tree_new, tree_old, ordered_new}
-use Rattle.f_reader.specs.Forest.{size, tree_in, AddsBy, Adds, Puts, Stands, AreTrees, nodes_in, Counted}
-use Rattle.f_reader.specs.Frames.{Held, HeadIs}
+use Rattle.f_grammar.proofs.Noding.{same_all, tree_new, tree_old}
+use Rattle.f_reader.specs.Forest.{size, tree_in, AddsBy, Puts, Stands, AreTrees, nodes_in, Counted}
+use Rattle.f_reader.specs.Frames.{Held}
 use Rattle.f_reader.specs.declared.forest.Forest.{Forest}
 use Rattle.f_reader.specs.declared.part.Part.{Part}
 use Rattle.f_reader.specs.declared.frame.Frame.{Frame}

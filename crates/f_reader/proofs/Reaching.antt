@@ -1,19 +1,17 @@
 -- One step of a reading, by one step of the table's machine.
-use Rattle.std.proofs.Common.{◌≡◌, ◌<◌, ◌≤◌, ℕ, ◌+◌, ◌-◌, List, [], ◌∷◌, ◌++◌, length, slice_get, drop, refl, sym, ◌∙◌, ap, subst, append_assoc, Option, Some, None, arith, true, false}
+use Rattle.std.proofs.Common.{◌≡◌, ◌<◌, ◌≤◌, ℕ, ◌+◌, List, [], ◌∷◌, ◌++◌, length, slice_get, refl, sym, ◌∙◌, ap, subst, append_assoc, Some, None, arith, true, false}
 use Rattle.std.proofs.lemmas.Option.{slice_get_within}
-use Rattle.std.proofs.lemmas.List.{append-nil}
 use Rattle.arena.specs.Stack.{Chain}
 use Rattle.arena.proofs.Stacks.{chain_push, chain_pop, chain_map}
 use Rattle.f_lexer.specs.declared.token.Token.{Token}
 use Rattle.text_core.specs.Table.{Tm, Nt, Do, Mark, State, then_more}
-use Rattle.text_core.specs.Going.{Goes, Lacks, at_the_end, other, next_of}
+use Rattle.text_core.specs.Going.{Goes, Lacks, next_of}
 use Rattle.text_core.proofs.Going as step
 use Rattle.text_core.proofs.Going.{marks_append}
 use Rattle.f_grammar.specs.declared.cursor.Wanted.{Wanted}
 use Rattle.f_grammar.specs.declared.cursor.Stopped.{Stopped}
 use Rattle.f_grammar.specs.declared.cursor.Stopped.TheVariants.{Unexpected, TooDeep}
-use Rattle.f_grammar.specs.Raw.{RawTm, Piece}
-use Rattle.f_grammar.specs.Machine.{table, Line, Stack, Act, Val, OfToken, OfTerm, OfTerms, OfType, OfTypes, LE, act, marks}
+use Rattle.f_grammar.specs.Machine.{table, Line, Stack, Act, Val, OfToken, LE, act, marks}
 use Rattle.f_grammar.specs.Reads.{Fails}
 use Rattle.f_grammar.proofs.Typing.{fails_after, fails_call, fails_expect}
 use Rattle.f_grammar.specs.declared.raw.RawShape.{RawShape}
@@ -221,13 +219,16 @@ leave ts goal got f {fs} {gs} {b} {depth} {at} e r =
     let x = c.1 in
     let vs = x.0 in
     let p : goal ++ r.around.owed ≡ (goal ++ owes f) ++ u.owed = ap (λ (y : Stack). goal ++ y) x.2 ∙ sym (append_assoc goal (owes f) u.owed) in
-    let v : got ++ r.around.made ≡ (got ++ vs) ++ u.made = ap (λ (y : List Val). got ++ y) x.3 ∙ sym (append_assoc got vs u.made) in
-    (vs, x.1, record {
-      around = u;
-      framed = c.2;
-      goes = owed_is ts p (made_is ts v r.goes);
-      counted = subst (λ (xs : List Val). Counted b xs) v r.counted;
-      counts = r.counts ∙ ap marks p;
-      room = r.room;
-      in_range = r.in_range;
-    })
+    let v : got ++ r.around.made ≡ (got ++ vs) ++ u.made = ap (λ (y : List Val). got ++ y) x.3 ∙ sym (append_assoc got vs u.made) in (
+      vs,
+      x.1,
+      record {
+        around = u;
+        framed = c.2;
+        goes = owed_is ts p (made_is ts v r.goes);
+        counted = subst (λ (xs : List Val). Counted b xs) v r.counted;
+        counts = r.counts ∙ ap marks p;
+        room = r.room;
+        in_range = r.in_range;
+      },
+    )

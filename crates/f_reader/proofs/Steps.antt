@@ -1,5 +1,5 @@
 -- The steps of a reading, over plain variables.
-use Rattle.std.proofs.Common.{◌≡◌, ◌<◌, ◌≤◌, ℕ, ◌+◌, List, [], ◌∷◌, ◌++◌, length, slice_get, map, Vec, Global, refl, sym, ◌∙◌, ap, ap₂, subst, Ok, Some, None, arith, true, false, All}
+use Rattle.std.proofs.Common.{◌≡◌, ◌<◌, ℕ, ◌+◌, List, [], ◌∷◌, ◌++◌, length, slice_get, map, Vec, Global, refl, sym, ◌∙◌, ap, ap₂, subst, Ok, Some, None, arith, false, All}
 use Rattle.std.specs.Prelude.{nat_abs}
 use Rattle.std.proofs.lemmas.List.{length_push, map-append}
 use Rattle.std.proofs.lemmas.List.Elements.{All-nil, All-cons, All-push}
@@ -15,13 +15,13 @@ use Rattle.f_grammar.specs.declared.raw.RawNode.{RawNode}
 use Rattle.text_core.specs.Going.{Goes, at_the_end, other, next_of}
 use Rattle.text_core.proofs.Going as step
 use Rattle.text_core.proofs.Going.{marks_append}
-use Rattle.f_grammar.specs.Raw.{RawTy, RawTm, RFix, RGen, RApp, RInst, RFields, RProj, RArith, RIf0, Piece, within, var, number, func, gen, call, inst, tuple, proj, arith as arith_of, if0, nodes, nodes_all, raw_tms}
+use Rattle.f_grammar.specs.Raw.{RawTm, RFix, RGen, RApp, RInst, RFields, RProj, RArith, RIf0, Piece, within, var, number, func, gen, call, inst, tuple, proj, arith as arith_of, if0, raw_tms}
 use Rattle.f_grammar.specs.Read.{type_of}
 use Rattle.f_grammar.specs.Nodes.{children}
 use Rattle.f_grammar.specs.declared.cursor.Stopped.{Stopped}
 use Rattle.f_grammar.specs.declared.cursor.Stopped.TheVariants.{Unexpected}
 use Rattle.f_grammar.specs.Reads.{ReadsType}
-use Rattle.f_grammar.specs.Machine.{table, Line, LE, LP, LFields, LBranches, LT, MoreParts, MoreFactors, MoreSums, MoreFields, Stack, Val, OfToken, OfTerm, OfTerms, OfType, MakeVar, MakeNumber, MakeParen, MakeTuple, MakeUnit, MakeProj, MakeCall, MakeInst, MakeArith, MakeFirst, MakeNext, MakeIf0, MakeFix, MakeGen, value_of, parts_tail, fields_tail, sum_tail, term_owed, part_after, marks}
+use Rattle.f_grammar.specs.Machine.{table, LE, LP, LFields, LBranches, LT, MoreParts, MoreFactors, MoreSums, MoreFields, Stack, Val, OfToken, OfTerm, OfTerms, OfType, MakeVar, MakeNumber, MakeParen, MakeTuple, MakeUnit, MakeProj, MakeCall, MakeInst, MakeArith, MakeFirst, MakeNext, MakeIf0, MakeFix, MakeGen, value_of, parts_tail, fields_tail, sum_tail, term_owed, part_after, marks}
 use Rattle.f_grammar.proofs.Complete.{parts_part}
 use Rattle.f_grammar.proofs.Typing.{not_fits}
 use Rattle.f_grammar.specs.declared.cursor.Wanted.TheVariants as want
@@ -42,7 +42,7 @@ use Rattle.f_reader.specs.declared.frame.Reader.{Reader}
 use Rattle.f_reader.specs.declared.frame.Control.{Control}
 use Rattle.f_reader.specs.declared.frame.Control.TheVariants as control
 use Rattle.f_reader.proofs.Follows.{argument_is, begins_part, begins_bracket, bracket_owed, argument_lacks, sign_is, sign_lacks, star_owed, after_star, not_star, after_more, not_more, after_comma, not_comma, as_sum, branches_owed, after_paren, not_paren}
-use Rattle.f_reader.proofs.Keeping.{new_stands, stands_on, nodes_more}
+use Rattle.f_reader.proofs.Keeping.{new_stands, nodes_more}
 use Rattle.f_reader.proofs.Reaching.{token, line, ends, as_line, as_begun, closed, done, made, called, enter, leave, stops_line}
 
 pub one_more : (fs gs : List Frame) (f : Frame) → gs ≡ fs ++ f ∷ [] → length gs ≡ length fs + 1
@@ -110,8 +110,18 @@ module _ (ts : List Token) {fs : List Frame} {b : Forest} {depth at : ℕ} where
       let vs = OfToken h.dot ∷ (OfType (type_of f.head.gives) ∷ (OfToken h.colon_again ∷ (OfToken h.right ∷ (OfType (type_of f.head.takes) ∷ (OfToken h.colon ∷ (OfToken h.parameter ∷ (OfToken h.left ∷ (OfToken h.name ∷ (OfToken h.word ∷ []))))))))) in
       enter ts (Nt LE ∷ []) [] (frame.Fix f.head) vs e
       (record {
-        word = h.word; name = h.name; left = h.left; parameter = h.parameter; colon = h.colon; right = h.right; colon_again = h.colon_again; dot = h.dot;
-        word_is = h.word_is; name_is = h.name_is; parameter_is = h.parameter_is; are = refl;
+        word = h.word;
+        name = h.name;
+        left = h.left;
+        parameter = h.parameter;
+        colon = h.colon;
+        right = h.right;
+        colon_again = h.colon_again;
+        dot = h.dot;
+        word_is = h.word_is;
+        name_is = h.name_is;
+        parameter_is = h.parameter_is;
+        are = refl;
       })
       (called ts [] (Nt LE ∷ []) fix_body vs f.next (depth + 1) refl (omega arith) (omega (arith, h.room)) h.in_range (λ below. refl) h.same r)
 
@@ -221,24 +231,24 @@ module _ (ts : List Token) {fs : List Frame} {b : Forest} {depth at : ℕ} where
   pub first_field : {p : parts.Part} (q : Piece) (o : Token) (ks : List ℕ) → Stands b p q → ks ≡ p.node ∷ [] → Reached ts fs b depth at (Do MakeFirst ∷ fields_owed) (OfTerm q ∷ (OfToken o ∷ [])) →
       AreTrees b ks (q.tree ∷ []) × Reached ts fs b depth at fields_owed (OfTerms (q.tree ∷ []) ∷ (OfToken o ∷ []))
   first_field {p} q o ks h e r = (
-      λ f.
+    λ f.
         let x = h.node f in
         subst (λ (xs : List ℕ). All (λ k. k < size b) xs × (map (tree_in b) xs ≡ q.tree ∷ [])) (sym e)
         (All-cons (λ k. k < size b) p.node [] x.0 (All-nil (λ k. k < size b)), ap (λ (t : RawTm). t ∷ []) x.1),
-      done ts MakeFirst (OfTerms (q.tree ∷ []) ∷ (OfToken o ∷ [])) (λ below. refl) (λ below. omega arith) r,
-    )
+    done ts MakeFirst (OfTerms (q.tree ∷ []) ∷ (OfToken o ∷ [])) (λ below. refl) (λ below. omega arith) r,
+  )
 
   pub next_field : {p : parts.Part} (q : Piece) (o c : Token) (us : List RawTm) (fields ks : List ℕ) → Stands b p q → AreTrees b fields us → (b.full ≡ false → ks ≡ fields ++ p.node ∷ []) →
       Reached ts fs b depth at (Do MakeNext ∷ fields_owed) (OfTerm q ∷ (OfToken c ∷ (OfTerms us ∷ (OfToken o ∷ [])))) →
       AreTrees b ks (us ++ q.tree ∷ []) × Reached ts fs b depth at fields_owed (OfTerms (us ++ q.tree ∷ []) ∷ (OfToken o ∷ []))
   next_field {p} q o c us fields ks h trees e r = (
-      λ f.
+    λ f.
         let x = h.node f in
         let y = trees f in
         subst (λ (xs : List ℕ). All (λ k. k < size b) xs × (map (tree_in b) xs ≡ us ++ q.tree ∷ [])) (sym (e f))
         (All-push (λ k. k < size b) fields p.node y.0 x.0, map-append (tree_in b) fields (p.node ∷ []) ∙ ap₂ (λ (xs : List RawTm) (t : RawTm). xs ++ t ∷ []) y.1 x.1),
-      done ts MakeNext (OfTerms (us ++ q.tree ∷ []) ∷ (OfToken o ∷ [])) (λ below. refl) (λ below. omega (arith, nodes_more us q.tree)) r,
-    )
+    done ts MakeNext (OfTerms (us ++ q.tree ∷ []) ∷ (OfToken o ∷ [])) (λ below. refl) (λ below. omega (arith, nodes_more us q.tree)) r,
+  )
 
   pub zero_begun : {gs : List Frame} {w : Span} {a : parts.Part} (q : Piece) (t o c : Token) → w ≡ t.span → Stands b a q → next_of table want.Comma (slice_get ts at) ≡ Some c → gs ≡ fs ++ frame.Zero w a ∷ [] →
       Reached ts fs b depth at (Tm want.Comma ∷ (Nt LE ∷ zero_owed)) (OfTerm q ∷ (OfToken o ∷ (OfToken t ∷ []))) → Reached ts gs b depth (at + 1) (Nt LE ∷ []) []

@@ -1,11 +1,7 @@
-use Rattle.std.proofs.Common.{[], ◌∷◌, ◌+◌, refl, sym, ◌∙◌, arith, Some, None}
+use Rattle.std.proofs.Common.{[], ◌∷◌, refl, arith}
 use Rattle.std.proofs.lemmas.Result.{err_from_is_err_and}
-use Rattle.text_core.specs.Table.{Tm, Nt, Do, Mark}
-use Rattle.f_grammar.specs.Machine.{LE, LP, LFields, LBranches, MoreParts, MakeTuple, MakeProj}
-use Rattle.f_grammar.specs.declared.cursor.Wanted.TheVariants as want
-use Rattle.f_grammar.proofs.Typing.{within}
-use Rattle.text_core.proofs.Going.{is_next, is_of}
-use Rattle.f_grammar.specs.Machine.{table, OfToken, OfTerm, OfTerms}
+use Rattle.text_core.specs.Table.{Nt}
+use Rattle.f_grammar.specs.Machine.{LE}
 use Rattle.f_reader.proofs.Reaching.{stops}
 use Rattle.f_reader.proofs.Steps.{one_more, gen_begun}
 use Rattle.f_reader.proofs.begin.begin_gen.Goals as goal
@@ -14,7 +10,6 @@ pub returns-in_err-name : goal.returns-in_err-name
 returns-in_err-name c =
     let p = err_from_is_err_and c.from_residual.result c.from_residual.ensures.1 in
     rw (p.1, p.2) (stops c.args.reader.now.tokens.now [] (Nt LE ∷ []) _ refl c.in_err-name.ensures c.requires.stays)
-
 
 pub returns : goal.returns
 returns c =

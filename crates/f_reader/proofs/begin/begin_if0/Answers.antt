@@ -1,11 +1,9 @@
-use Rattle.std.proofs.Common.{[], ◌∷◌, ◌+◌, refl, sym, ◌∙◌, arith, Some, None}
+use Rattle.std.proofs.Common.{◌+◌, refl, arith}
 use Rattle.std.proofs.lemmas.Result.{err_from_is_err_and}
-use Rattle.text_core.specs.Table.{Tm, Nt, Do, Mark}
-use Rattle.f_grammar.specs.Machine.{LE, LP, LFields, LBranches, MoreParts, MakeTuple, MakeProj}
+use Rattle.f_grammar.specs.Machine.{LBranches}
 use Rattle.f_grammar.specs.declared.cursor.Wanted.TheVariants as want
-use Rattle.f_grammar.proofs.Typing.{within}
 use Rattle.text_core.proofs.Going.{is_next, is_of}
-use Rattle.f_grammar.specs.Machine.{table, OfToken, OfTerm, OfTerms}
+use Rattle.f_grammar.specs.Machine.{table}
 use Rattle.f_reader.proofs.Reaching.{stops_deep}
 use Rattle.f_reader.proofs.Follows.{branches_owed, after_paren}
 use Rattle.f_reader.proofs.Steps.{one_more, no_branches, branches_open, test_begun}
@@ -22,7 +20,6 @@ returns-in_err-reader c =
     rw (p.1, p.2) (let o = c.in_ok-expect.ensures in
     stops_deep c.args.reader.now.tokens.now LBranches _ branches_owed _ c.in_err-reader.ensures (is_next table c.args.reader.now.tokens.now (c.args.reader.now.at + 1) want.LeftParen _ o)
     (after_paren _ (is_of table c.args.reader.now.tokens.now (c.args.reader.now.at + 1) want.LeftParen _ o)) refl (branches_open c.args.reader.now.tokens.now c.args.word c.requires.token c.requires.stays c.requires.kind))
-
 
 pub returns : goal.returns
 returns c =

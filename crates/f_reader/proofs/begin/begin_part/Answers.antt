@@ -1,11 +1,4 @@
-use Rattle.std.proofs.Common.{[], ◌∷◌, ◌+◌, refl, sym, ◌∙◌, arith, Some, None}
-use Rattle.std.proofs.lemmas.Result.{err_from_is_err_and}
-use Rattle.text_core.specs.Table.{Tm, Nt, Do, Mark}
-use Rattle.f_grammar.specs.Machine.{LE, LP, LFields, LBranches, MoreParts, MakeTuple, MakeProj}
-use Rattle.f_grammar.specs.declared.cursor.Wanted.TheVariants as want
-use Rattle.f_grammar.proofs.Typing.{within}
-use Rattle.text_core.proofs.Going.{is_next, is_of}
-use Rattle.f_grammar.specs.Machine.{table, OfToken, OfTerm, OfTerms}
+use Rattle.std.proofs.Common.{refl, sym, ◌∙◌}
 use Rattle.f_reader.proofs.Follows.{none_of}
 use Rattle.f_reader.proofs.Steps.{no_part, no_part_end}
 use Rattle.f_reader.proofs.begin.begin_part.Goals as goal

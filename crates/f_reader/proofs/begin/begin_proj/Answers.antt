@@ -1,11 +1,8 @@
-use Rattle.std.proofs.Common.{[], ◌∷◌, ◌+◌, refl, sym, ◌∙◌, arith, Some, None}
+use Rattle.std.proofs.Common.{[], ◌∷◌, refl, arith}
 use Rattle.std.proofs.lemmas.Result.{err_from_is_err_and}
 use Rattle.text_core.specs.Table.{Tm, Nt, Do, Mark}
-use Rattle.f_grammar.specs.Machine.{LE, LP, LFields, LBranches, MoreParts, MakeTuple, MakeProj}
+use Rattle.f_grammar.specs.Machine.{LP, MakeProj}
 use Rattle.f_grammar.specs.declared.cursor.Wanted.TheVariants as want
-use Rattle.f_grammar.proofs.Typing.{within}
-use Rattle.text_core.proofs.Going.{is_next, is_of}
-use Rattle.f_grammar.specs.Machine.{table, OfToken, OfTerm, OfTerms}
 use Rattle.f_reader.proofs.Reaching.{stops_deep, stops_token}
 use Rattle.f_reader.proofs.Steps.{one_more, proj_open, proj_begun}
 use Rattle.f_reader.proofs.begin.begin_proj.Goals as goal
@@ -19,7 +16,6 @@ pub returns-in_err-field : goal.returns-in_err-field
 returns-in_err-field c =
     let p = err_from_is_err_and c.from_residual-in_err-field.result c.from_residual-in_err-field.ensures.1 in
     rw (p.1, p.2) (stops_token c.args.reader.now.tokens.now want.Number _ c.in_err-field.ensures (proj_open c.args.reader.now.tokens.now c.args.hash c.requires.token c.requires.stays _ c.requires.kind c.in_ok-reader.ensures))
-
 
 pub returns : goal.returns
 returns c =

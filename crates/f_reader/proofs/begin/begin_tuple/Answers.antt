@@ -1,11 +1,7 @@
-use Rattle.std.proofs.Common.{[], ◌∷◌, ◌+◌, refl, sym, ◌∙◌, arith, Some, None}
+use Rattle.std.proofs.Common.{[], ◌∷◌, refl, sym, arith}
 use Rattle.std.proofs.lemmas.Result.{err_from_is_err_and}
-use Rattle.text_core.specs.Table.{Tm, Nt, Do, Mark}
-use Rattle.f_grammar.specs.Machine.{LE, LP, LFields, LBranches, MoreParts, MakeTuple, MakeProj}
-use Rattle.f_grammar.specs.declared.cursor.Wanted.TheVariants as want
-use Rattle.f_grammar.proofs.Typing.{within}
-use Rattle.text_core.proofs.Going.{is_next, is_of}
-use Rattle.f_grammar.specs.Machine.{table, OfToken, OfTerm, OfTerms}
+use Rattle.text_core.specs.Table.{Nt, Do, Mark}
+use Rattle.f_grammar.specs.Machine.{LP, LFields, MakeTuple}
 use Rattle.f_reader.proofs.Reaching.{stops_deep}
 use Rattle.f_reader.proofs.Steps.{one_more, unit_given, first_begun}
 use Rattle.f_reader.proofs.begin.begin_tuple.Goals as goal
@@ -14,7 +10,6 @@ pub returns-in_err-inner : goal.returns-in_err-inner
 returns-in_err-inner c =
     let p = err_from_is_err_and c.from_residual.result c.from_residual.ensures.1 in
     rw (p.1, p.2) (stops_deep c.args.reader.now.tokens.now LP c.args.left (Nt LFields ∷ (Mark ∷ (Do MakeTuple ∷ []))) _ c.in_err-inner.ensures c.requires.token (rw c.requires.kind refl) refl c.requires.stays)
-
 
 pub returns-in_ok-part-in-Some : goal.returns-in_ok-part-in-Some
 returns-in_ok-part-in-Some c =

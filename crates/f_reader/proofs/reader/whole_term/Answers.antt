@@ -1,4 +1,4 @@
-use Rattle.f_reader.proofs.Steps.{at_term, at_part, at_frame, went}
+use Rattle.f_reader.proofs.Steps.{at_frame}
 use Rattle.f_reader.proofs.reader.whole_term.Goals as goal
 
 pub resume-requires : goal.resume-requires

@@ -1,11 +1,6 @@
-use Rattle.std.proofs.Common.{[], ◌∷◌, ◌≡◌, ◌-◌, ◌+◌, refl, sym, ◌∙◌, arith, Some, None}
+use Rattle.std.proofs.Common.{◌≡◌, ◌-◌, ◌+◌, refl, sym, arith}
 use Rattle.std.proofs.lemmas.Result.{err_from_is_err_and}
-use Rattle.text_core.specs.Table.{Tm, Nt, Do, Mark}
-use Rattle.f_grammar.specs.Machine.{LE, LP, LFields, LBranches, MoreParts, MakeTuple, MakeProj}
 use Rattle.f_grammar.specs.declared.cursor.Wanted.TheVariants as want
-use Rattle.f_grammar.proofs.Typing.{within}
-use Rattle.text_core.proofs.Going.{is_next, is_of}
-use Rattle.f_grammar.specs.Machine.{table, OfToken, OfTerm, OfTerms}
 use Rattle.f_reader.proofs.Reaching.{stops_token}
 use Rattle.f_reader.proofs.Steps.{one_more, has_mark, next_begun, fields_end, tuple_given}
 use Rattle.f_reader.proofs.resume.after_field.Goals as goal
@@ -21,7 +16,6 @@ pub returns-in_err-close : goal.returns-in_err-close
 returns-in_err-close c =
     let p = err_from_is_err_and c.from_residual-in_err-close.result c.from_residual-in_err-close.ensures.1 in
     rw (p.1, p.2) (let x = c.requires in stops_token c.args.reader.now.tokens.now want.RightAngle _ c.in_err-close.ensures (fields_end c.args.reader.now.tokens.now x.1 x.0 (sym c.in_default.ensures) x.4))
-
 
 pub overflow_sub-reader : goal.overflow_sub-reader
 overflow_sub-reader c = let m = has_mark (omega arith) c.requires.4 in omega (arith, m)

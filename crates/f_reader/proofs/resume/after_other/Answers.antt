@@ -1,11 +1,6 @@
-use Rattle.std.proofs.Common.{[], ◌∷◌, ◌+◌, refl, sym, ◌∙◌, arith, Some, None}
+use Rattle.std.proofs.Common.{refl, arith}
 use Rattle.std.proofs.lemmas.Result.{err_from_is_err_and}
-use Rattle.text_core.specs.Table.{Tm, Nt, Do, Mark}
-use Rattle.f_grammar.specs.Machine.{LE, LP, LFields, LBranches, MoreParts, MakeTuple, MakeProj}
 use Rattle.f_grammar.specs.declared.cursor.Wanted.TheVariants as want
-use Rattle.f_grammar.proofs.Typing.{within}
-use Rattle.text_core.proofs.Going.{is_next, is_of}
-use Rattle.f_grammar.specs.Machine.{table, OfToken, OfTerm, OfTerms}
 use Rattle.f_reader.proofs.Reaching.{stops_token}
 use Rattle.f_reader.proofs.Steps.{has_mark, got_are, three_children, if0_given}
 use Rattle.f_reader.proofs.resume.after_other.Goals as goal
@@ -14,7 +9,6 @@ pub returns-in_err-close : goal.returns-in_err-close
 returns-in_err-close c =
     let p = err_from_is_err_and c.from_residual.result c.from_residual.ensures.1 in
     rw (p.1, p.2) (stops_token c.args.reader.now.tokens.now want.RightParen _ c.in_err-close.ensures c.requires.4)
-
 
 pub overflow_sub-reader : goal.overflow_sub-reader
 overflow_sub-reader c = let m = has_mark (omega arith) c.requires.4 in omega (arith, m)

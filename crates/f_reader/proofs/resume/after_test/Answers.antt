@@ -1,11 +1,6 @@
-use Rattle.std.proofs.Common.{[], ◌∷◌, ◌+◌, refl, sym, ◌∙◌, arith, Some, None}
+use Rattle.std.proofs.Common.{refl, arith}
 use Rattle.std.proofs.lemmas.Result.{err_from_is_err_and}
-use Rattle.text_core.specs.Table.{Tm, Nt, Do, Mark}
-use Rattle.f_grammar.specs.Machine.{LE, LP, LFields, LBranches, MoreParts, MakeTuple, MakeProj}
 use Rattle.f_grammar.specs.declared.cursor.Wanted.TheVariants as want
-use Rattle.f_grammar.proofs.Typing.{within}
-use Rattle.text_core.proofs.Going.{is_next, is_of}
-use Rattle.f_grammar.specs.Machine.{table, OfToken, OfTerm, OfTerms}
 use Rattle.f_reader.proofs.Reaching.{stops_token}
 use Rattle.f_reader.proofs.Steps.{one_more, got_are, zero_begun}
 use Rattle.f_reader.proofs.resume.after_test.Goals as goal
@@ -14,7 +9,6 @@ pub returns-in_err-expect : goal.returns-in_err-expect
 returns-in_err-expect c =
     let p = err_from_is_err_and c.from_residual.result c.from_residual.ensures.1 in
     rw (p.1, p.2) (stops_token c.args.reader.now.tokens.now want.Comma _ c.in_err-expect.ensures c.requires.4)
-
 
 pub returns : goal.returns
 returns c =

@@ -59,10 +59,8 @@ fn begin_var(
     ensures goes { Goes term.now state.now result (open_work term.now state.now (SVar (place span) name)) }
     ensures frames { IfOk result (λ c. Begun (shapes.Var name) state.now.frames.items state.now.frames.items c) }
 {
-    match find(alloc, &state.scope, name, state.around) {
-        Ok(ty) => Ok(Control::Give { ty, span }),
-        Err(_) => Err(FFault::Memory),
-    }
+    let ty = find(alloc, &state.scope, name, state.around)?;
+    Ok(Control::Give { ty, span })
 }
 
 fn push<'a>(scope: &mut Vec<Binder<'a>>, binder: Binder<'a>) -> Result<(), OutOfMemory>
@@ -87,15 +85,10 @@ fn begin_fix<'a>(
 {
     let deep = depth(arg).max(depth(res)).saturating_add(1);
     let wide = size(arg).saturating_add(size(res)).saturating_add(1);
-    match limit(deep, wide, span) {
-        Ok(()) => (),
-        Err(e) => return Err(e),
-    }
+    limit(deep, wide, span)?;
     let around = state.around;
-    match push(&mut state.scope, Binder { arg, res, around }) {
-        Ok(()) => enter(term, state, Frame::Fix { span, arg, res }, body),
-        Err(_) => Err(FFault::Memory),
-    }
+    push(&mut state.scope, Binder { arg, res, around })?;
+    enter(term, state, Frame::Fix { span, arg, res }, body)
 }
 
 fn begin_gen(term: &FTerm, state: &mut State, span: Span, body: u64) -> Result<Control, FFault>

@@ -47,10 +47,8 @@ fn after_fix(
     if !eq(&ty, res) {
         return refused(Code::E14, found);
     }
-    match shift_arrow(alloc, arg, res, 0) {
-        Ok(ty) => Ok(Control::Give { ty, span }),
-        Err(_) => Err(FFault::Memory),
-    }
+    let ty = shift_arrow(alloc, arg, res, 0)?;
+    Ok(Control::Give { ty, span })
 }
 
 fn after_function(
@@ -105,17 +103,9 @@ fn after_gen(
     state.around -= 1;
     let deep = depth(&ty).saturating_add(1);
     let wide = size(&ty).saturating_add(1);
-    match limit(deep, wide, span) {
-        Ok(()) => (),
-        Err(e) => return Err(e),
-    }
-    match Box::new(alloc, ty) {
-        Ok(body) => Ok(Control::Give {
-            ty: FType::All(body),
-            span,
-        }),
-        Err(_) => Err(FFault::Memory),
-    }
+    limit(deep, wide, span)?;
+    let ty = FType::All(Box::new(alloc, ty)?);
+    Ok(Control::Give { ty, span })
 }
 
 fn after_inst(
@@ -135,10 +125,8 @@ fn after_inst(
         Some(body) => body,
         None => return refused(Code::E09, found),
     };
-    match put_within(alloc, span, &body, arg) {
-        Ok(ty) => Ok(Control::Give { ty, span }),
-        Err(e) => Err(e),
-    }
+    let ty = put_within(alloc, span, &body, arg)?;
+    Ok(Control::Give { ty, span })
 }
 
 fn push(types: &mut Vec<FType>, ty: FType) -> Result<(), OutOfMemory>
@@ -162,18 +150,13 @@ fn after_field<'a>(
     ensures frames { IfOk result (λ c. Resumed (frames.Fields span types rest.entry) state.old.frames.items state.new.frames.items c) }
 {
     let mut types = types;
-    match push(&mut types, ty) {
-        Ok(()) => (),
-        Err(_) => return Err(FFault::Memory),
-    }
+    push(&mut types, ty)?;
     match rest.split_first() {
         Some((e, rest)) => enter(term, state, Frame::Fields { span, types, rest }, *e),
         None => {
             let ty = FType::Tuple(types);
-            match limit(depth(&ty), size(&ty), span) {
-                Ok(()) => Ok(Control::Give { ty, span }),
-                Err(e) => Err(e),
-            }
+            limit(depth(&ty), size(&ty), span)?;
+            Ok(Control::Give { ty, span })
         }
     }
 }

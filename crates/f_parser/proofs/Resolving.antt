@@ -1,5 +1,4 @@
 -- How the resolving of a whole follows from that of its parts.
-use Rattle.std.specs.Prelude.{Result, Ok, Err, MatchResult}
 use Rattle.std.proofs.Common.{◌≡◌, ◌<◌, ◌≤◌, ◌+◌, ℕ, ℤ, List, [], ◌∷◌, ◌++◌, map, take, drop, length, get_or, Vec, Global, refl, sym, ◌∙◌, ap, subst, append_assoc, true, false}
 use Rattle.std.proofs.lemmas.List.{map-append, take_more, take-append-drop, drop_more, take_all}
 use mathlib.Core.Former.{Count}
@@ -8,18 +7,18 @@ use Rattle.idx_core.specs.Names.{Name, IsAbsent}
 use Rattle.f_terms.specs.declared.types.FType.{FType, Row_of-FType, end_of-FType, more_of-FType, items-the_row-FType, items_hidden-the_row-FType-0}
 use Rattle.f_terms.specs.declared.types.FType.TheVariants as ftype
 use Rattle.f_terms.specs.Ty.{Ty, TTuple, Tys, MoreTys, tys}
-use Rattle.f_terms.specs.Tm.{Tm, SNum, STuple, Spn, Tms, MoreTms, tms}
+use Rattle.f_terms.specs.Tm.{SNum}
 use Rattle.f_terms.specs.Read.{tree, trees, place}
 use Rattle.f_grammar.specs.Raw.{RawTy, RTuple, raw_tys, RawTm, RVar, RNum}
 use Rattle.f_grammar.specs.Read.{type_of}
 use Rattle.f_grammar.specs.declared.raw.RawType.{RawType}
 use Rattle.f_grammar.specs.declared.raw.RawType.TheVariants as rtype
 use Rattle.f_grammar.proofs.Typing.{type_Tuple}
-use Rattle.f_parser.specs.Scope.{spelled, use_at, TypeOf, of_tuple, TypesOf, of_no_types, of_more_types, TermOf, of_num, of_fields, TermsOf, of_no_terms, of_more_terms, Use, type_uses, types_uses, uses, all_uses, AllBound}
+use Rattle.f_parser.specs.Scope.{spelled, use_at, TypeOf, of_tuple, TypesOf, of_no_types, of_more_types, TermOf, of_num, Use, type_uses, types_uses, uses, AllBound}
 use Rattle.f_parser.specs.Resolve.{StopsAt}
 use Rattle.f_parser.specs.declared.resolve.Unresolved.{Unresolved}
 use Rattle.f_parser.specs.declared.resolve.Unresolved.TheVariants.{Memory, Value, «Type»}
-use Rattle.f_parser.proofs.Bound.{types_bound, terms_bound, first_left, first_right}
+use Rattle.f_parser.proofs.Bound.{types_bound, first_left, first_right}
 
 -- a stop in a part
 pub stops_left : (text : List ℕ) (a b : List Use) (e : Unresolved) → StopsAt text a e → StopsAt text (a ++ b) e

@@ -1,6 +1,6 @@
 -- The tasks of the binding of names, one after the other.
 use Rattle.std.specs.Prelude.{Result, Ok, Err, MatchResult}
-use Rattle.std.proofs.Common.{◌≡◌, ℕ, zero, suc, ◌+◌, ◌-◌, ◌*◌, ◌<◌, ◌≤◌, List, [], ◌∷◌, ◌++◌, length, map, take, drop, refl, ap, ap₂, ◌∙◌, sym, subst, append_assoc, arith}
+use Rattle.std.proofs.Common.{◌≡◌, ℕ, zero, suc, ◌+◌, ◌-◌, ◌*◌, ◌≤◌, List, [], ◌∷◌, ◌++◌, length, map, take, drop, refl, ap, ap₂, ◌∙◌, sym, subst, append_assoc, arith}
 use Rattle.std.proofs.lemmas.List.{length_push}
 use Rattle.std.proofs.Math.Seq.{take-append_seam, drop-append_seam}
 use Rattle.idx_core.specs.declared.span.Span.{Span}
@@ -15,7 +15,7 @@ use Rattle.f_terms.specs.declared.stack.FStep.TheVariants as form
 use Rattle.f_grammar.specs.Raw.{RawTy, RawTm, RVar, RNum, RFix, RGen, RApp, RInst, RFields, RProj, RArith, RIf0, RawTms, NoRawTms, MoreRawTms, nodes, nodes_all}
 use Rattle.f_parser.specs.Scope.{spelled, TypeOf, TermOf, of_fix, of_gen, of_app, of_inst, of_fields, of_proj, of_arith, of_if0, TermsOf, of_no_terms, of_more_terms, Use, type_uses, uses, all_uses}
 use Rattle.f_parser.specs.Resolve.{StopsAt}
-use Rattle.f_parser.specs.Binding.{Todo, Bind, BindAll, UseAt, Put, todo, todos_before, todos, Stand, stand, outer_values, outer_types, values_left, types_left, Does, DoAll, uses_left, count, Enough, field_steps, steps, Follows, Steps}
+use Rattle.f_parser.specs.Binding.{Todo, Bind, BindAll, UseAt, Put, todo, todos_before, todos, Stand, stand, outer_values, outer_types, values_left, types_left, uses_left, count, Enough, field_steps, Follows, Steps}
 use Rattle.f_parser.specs.declared.resolve.Unresolved.{Unresolved}
 use Rattle.f_parser.specs.declared.resolve.Unresolved.TheVariants.{Memory}
 use Rattle.f_parser.specs.declared.task.Leaves.{Leaves}

@@ -78,10 +78,13 @@ fn begin_fix<'a>(
     res: &'a FType,
     body: u64,
 ) -> Result<Control, FFault>
-    requires opens { Opens term.now state.old (SFix (place span) (tree arg.now) (tree res.now) (node_at term.now body)) }
+    requires opens { Opens term.now state.old
+        (SFix (place span) (tree arg.now) (tree res.now) (node_at term.now body)) }
     requires inside { body < count term.now }
-    ensures goes { Goes term.now state.new result (open_work term.now state.old (SFix (place span) (tree arg.now) (tree res.now) (node_at term.now body))) }
-    ensures frames { IfOk result (λ c. Begun (shapes.Fix arg.now res.now body) state.old.frames.items state.new.frames.items c) }
+    ensures goes { Goes term.now state.new result
+        (open_work term.now state.old (SFix (place span) (tree arg.now) (tree res.now) (node_at term.now body))) }
+    ensures frames { IfOk result (λ c. Begun
+        (shapes.Fix arg.now res.now body) state.old.frames.items state.new.frames.items c) }
 {
     let deep = depth(arg).max(depth(res)).saturating_add(1);
     let wide = size(arg).saturating_add(size(res)).saturating_add(1);
@@ -94,7 +97,8 @@ fn begin_fix<'a>(
 fn begin_gen(term: &FTerm, state: &mut State, span: Span, body: u64) -> Result<Control, FFault>
     requires opens { Opens term.now state.old (SGen (place span) (node_at term.now body)) }
     requires inside { body < count term.now }
-    ensures goes { Goes term.now state.new result (open_work term.now state.old (SGen (place span) (node_at term.now body))) }
+    ensures goes { Goes term.now state.new result
+        (open_work term.now state.old (SGen (place span) (node_at term.now body))) }
     ensures frames { IfOk result (λ c. Begun (shapes.Gen body) state.old.frames.items state.new.frames.items c) }
 {
     state.around += 1;
@@ -110,8 +114,10 @@ fn begin_tuple<'a>(
 ) -> Result<Control, FFault>
     requires opens { Opens term.now state.old (STuple (place span) (tms (map (node_at term.now) es.now))) }
     requires inside { All (λ k. k < count term.now) es.now }
-    ensures goes { Goes term.now state.new result (open_work term.now state.old (STuple (place span) (tms (map (node_at term.now) es.now)))) }
-    ensures frames { (es' : Vec ℕ Global) → es'.items ≡ es.now → IfOk result (λ c. Begun (shapes.Tuple es') state.old.frames.items state.new.frames.items c) }
+    ensures goes { Goes term.now state.new result
+        (open_work term.now state.old (STuple (place span) (tms (map (node_at term.now) es.now)))) }
+    ensures frames { (es' : Vec ℕ Global) → es'.items ≡ es.now → IfOk result
+        (λ c. Begun (shapes.Tuple es') state.old.frames.items state.new.frames.items c) }
 {
     let types = Vec::new(alloc);
     match es.split_first() {

@@ -41,7 +41,8 @@ fn after_fix(
 ) -> Result<Control, FFault>
     requires { Offered term.now state.old (frames.Fix span arg res) ty found }
     ensures goes { Goes term.now state.new result (offer_work term.now state.old []) }
-    ensures frames { IfOk result (λ c. Resumed (frames.Fix span arg.entry res.entry) state.old.frames.items state.new.frames.items c) }
+    ensures frames { IfOk result (λ c. Resumed
+        (frames.Fix span arg.entry res.entry) state.old.frames.items state.new.frames.items c) }
 {
     leave(&mut state.scope);
     if !eq(&ty, res) {
@@ -61,7 +62,8 @@ fn after_function(
 ) -> Result<Control, FFault>
     requires { Offered term.now state.old (frames.Function span x) ty found }
     ensures goes { Goes term.now state.new result (offer_work term.now state.old (x ∷ [])) }
-    ensures frames { IfOk result (λ c. Resumed (frames.Function span x) state.old.frames.items state.new.frames.items c) }
+    ensures frames { IfOk result (λ c. Resumed
+        (frames.Function span x) state.old.frames.items state.new.frames.items c) }
 {
     match arrow_parts(ty) {
         Some((arg, res)) => enter(term, state, Frame::Argument { span, arg, res }, x),
@@ -80,7 +82,8 @@ fn after_argument(
 ) -> Result<Control, FFault>
     requires { Offered term.now state.now (frames.Argument span arg res) ty found }
     ensures goes { Goes term.now state.now result (offer_work term.now state.now []) }
-    ensures frames { IfOk result (λ c. Resumed (frames.Argument span arg res) state.now.frames.items state.now.frames.items c) }
+    ensures frames { IfOk result (λ c. Resumed
+        (frames.Argument span arg res) state.now.frames.items state.now.frames.items c) }
 {
     if !eq(&ty, &arg) {
         return refused(Code::E08, found);
@@ -119,7 +122,8 @@ fn after_inst(
 ) -> Result<Control, FFault>
     requires { Offered term.now state.now (frames.Inst span arg) ty found }
     ensures goes { Goes term.now state.now result (offer_work term.now state.now []) }
-    ensures frames { IfOk result (λ c. Resumed (frames.Inst span arg.entry) state.now.frames.items state.now.frames.items c) }
+    ensures frames { IfOk result (λ c. Resumed
+        (frames.Inst span arg.entry) state.now.frames.items state.now.frames.items c) }
 {
     let body = match all_body(ty) {
         Some(body) => body,
@@ -147,7 +151,8 @@ fn after_field<'a>(
 ) -> Result<Control, FFault>
     requires { Offered term.now state.old (frames.Fields span types rest) ty found }
     ensures goes { Goes term.now state.new result (offer_work term.now state.old rest.now) }
-    ensures frames { IfOk result (λ c. Resumed (frames.Fields span types rest.entry) state.old.frames.items state.new.frames.items c) }
+    ensures frames { IfOk result (λ c. Resumed
+        (frames.Fields span types rest.entry) state.old.frames.items state.new.frames.items c) }
 {
     let mut types = types;
     push(&mut types, ty)?;
@@ -265,7 +270,8 @@ fn after_other(
 ) -> Result<Control, FFault>
     requires { Offered term.now state.now (frames.Other span zero) ty found }
     ensures goes { Goes term.now state.now result (offer_work term.now state.now []) }
-    ensures frames { IfOk result (λ c. Resumed (frames.Other span zero) state.now.frames.items state.now.frames.items c) }
+    ensures frames { IfOk result (λ c. Resumed
+        (frames.Other span zero) state.now.frames.items state.now.frames.items c) }
 {
     if !eq(&ty, &zero) {
         return refused(Code::E13, found);

@@ -30,7 +30,8 @@ pub record ReadsParameter (ts : List Token) (d i : ℕ) (f : FoundParameter) : T
   pub open_paren : Token
   pub colon : Token
   pub close_paren : Token
-  pub reads : Reads LParam ts d i f.next (OfToken close_paren ∷ (OfType (type_of f.ty) ∷ (OfToken colon ∷ (OfToken f.name ∷ (OfToken open_paren ∷ [])))))
+  pub reads : Reads LParam ts d i f.next
+      (OfToken close_paren ∷ (OfType (type_of f.ty) ∷ (OfToken colon ∷ (OfToken f.name ∷ (OfToken open_paren ∷ [])))))
 
 -- the reading of what is owed stops: no token, or end, may stand at j; or the limit is passed there
 abbrev pub Fails : List Token → ℕ → ℕ → Stack → List Val → Stopped → Type 0
@@ -40,4 +41,5 @@ Fails ts d i owed vs (TooDeep j) = Stops table 200 ts d i owed vs (table_of.Pass
 
 -- some types were read, and there may be more
 abbrev pub ReadsSome : List Token → ℕ → ℕ → ℕ → List RawTy → Type 0
-ReadsSome ts d i next us = going.Reads table 200 ts d i (Nt LTypes ∷ []) [] next (Nt MoreTypes ∷ (Tm want.RightAngle ∷ [])) (OfTypes us ∷ [])
+ReadsSome ts d i next us = going.Reads table 200 ts d i (Nt LTypes ∷ []) [] next
+    (Nt MoreTypes ∷ (Tm want.RightAngle ∷ [])) (OfTypes us ∷ [])

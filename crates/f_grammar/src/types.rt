@@ -50,7 +50,8 @@ pub fn whole_type(
 ) -> Result<FoundType, Stopped>
     requires depth { depth ≤ 200 }
     requires at { at ≤ length tokens.now }
-    ensures { MatchResult result (λ f. ReadsType LT tokens.now depth at f) (λ e. Fails tokens.now depth at (Nt LT ∷ []) [] e) }
+    ensures { MatchResult result (λ f. ReadsType LT tokens.now depth at f)
+        (λ e. Fails tokens.now depth at (Nt LT ∷ []) [] e) }
 {
     match take(tokens, at, Wanted::All) {
         Some(_) => {
@@ -92,7 +93,8 @@ pub fn part_type(
 ) -> Result<FoundType, Stopped>
     requires depth { depth ≤ 200 }
     requires at { at ≤ length tokens.now }
-    ensures { MatchResult result (λ f. ReadsType LU tokens.now depth at f) (λ e. Fails tokens.now depth at (Nt LU ∷ []) [] e) }
+    ensures { MatchResult result (λ f. ReadsType LU tokens.now depth at f)
+        (λ e. Fails tokens.now depth at (Nt LU ∷ []) [] e) }
 {
     let token = match peek(tokens, at) {
         Some(token) => token,
@@ -133,7 +135,8 @@ pub fn part_type(
 pub fn types(alloc: Global, tokens: &[Token], at: usize, depth: u64) -> Result<FoundTypes, Stopped>
     requires depth { depth ≤ 200 }
     requires at { at ≤ length tokens.now }
-    ensures { MatchResult result (λ f. ReadsTypes tokens.now depth at f) (λ e. Fails tokens.now depth at (Nt LTypes ∷ []) [] e) }
+    ensures { MatchResult result (λ f. ReadsTypes tokens.now depth at f)
+        (λ e. Fails tokens.now depth at (Nt LTypes ∷ []) [] e) }
 {
     let mut types = Vec::new(alloc);
     match take(tokens, at, Wanted::RightAngle) {

@@ -70,7 +70,8 @@ fn stopped_fault(text: &[u8], tokens: &[Token], stopped: Stopped) -> FFault
 
 // the tree, or the fault where it has too many nodes
 fn kept_tree(kept: Kept) -> Result<RawTerm, FFault>
-    ensures { (t : RawTm) → Keeps kept t → MatchResult result (λ e. (tree_of e ≡ t) × (nodes t ≤ 1000)) (λ f. (f ≡ fault.Refused L3 (place_of t)) × (1000 < nodes t)) }
+    ensures { (t : RawTm) → Keeps kept t → MatchResult result (λ e. (tree_of e ≡ t) × (nodes t ≤ 1000))
+        (λ f. (f ≡ fault.Refused L3 (place_of t)) × (1000 < nodes t)) }
 {
     match kept {
         Kept::Term(tree) => Ok(tree),
@@ -111,8 +112,10 @@ fn closed_term(alloc: Global, text: &[u8], tree: &RawTerm) -> Result<FTerm, FFau
 /// are an own choice). Places are counted in bytes.
 pub fn parse(alloc: Global, text: &[u8]) -> Result<FTerm, FFault>
     ensures right { MatchResult result (λ e. SourceWithin text.now (spanned e)) (λ f. IsFault text.now f) }
-    ensures term { (tm : Tm) → SourceWithin text.now tm → MatchResult result (λ e. spanned e ≡ tm) (λ f. f ≡ fault.Memory) }
-    ensures refused { (code : codes.Code) (span : place.Span) → FirstFault text.now code span → IsErrAnd result (λ f. f ≢ fault.Memory → f ≡ fault.Refused code span) }
+    ensures term { (tm : Tm) → SourceWithin text.now tm → MatchResult result (λ e. spanned e ≡ tm)
+        (λ f. f ≡ fault.Memory) }
+    ensures refused { (code : codes.Code) (span : place.Span) → FirstFault text.now code span → IsErrAnd result
+        (λ f. f ≢ fault.Memory → f ≡ fault.Refused code span) }
 {
     if text.len() > BYTES {
         return Err(refused(Code::L1, whole(text)));

@@ -64,7 +64,8 @@ pub record HeadIs (h : Head) (vs : List Val) : Type 0 where
   pub word_is : h.word ≡ word.span
   pub name_is : h.name ≡ name.span
   pub parameter_is : h.parameter ≡ parameter.span
-  pub are : vs ≡ OfToken dot ∷ (OfType (type_of h.gives) ∷ (OfToken colon_again ∷ (OfToken right ∷ (OfType (type_of h.takes) ∷ (OfToken colon ∷
+  pub are : vs ≡ OfToken dot ∷ (OfType (type_of h.gives) ∷
+      (OfToken colon_again ∷ (OfToken right ∷ (OfType (type_of h.takes) ∷ (OfToken colon ∷
       (OfToken parameter ∷ (OfToken left ∷ (OfToken name ∷ (OfToken word ∷ [])))))))))
 
 -- the values that a frame holds
@@ -100,7 +101,8 @@ nothing = record { owed = []; made = [] }
 
 -- From the first token on, the machine has come to the token `at`: the goal is owed before what the frames owe, and
 -- these values are made above those that the frames hold.
-pub record Reached (ts : List Token) (fs : List Frame) (b : Forest) (depth at : ℕ) (goal : Stack) (got : List Val) : Type 0 where
+pub record Reached (ts : List Token) (fs : List Frame) (b : Forest) (depth at : ℕ) (goal : Stack)
+    (got : List Val) : Type 0 where
   pub around : State table
   pub framed : Chain (Around b) fs around nothing
   pub goes : Goes table 200 ts 0 0 (Nt LE ∷ []) [] at (goal ++ around.owed) (got ++ around.made)

@@ -79,7 +79,8 @@ pub record ReadsHead (ts : List Token) (d i : ℕ) (f : FoundHead) : Type 0 wher
   pub forward : i < f.next
   pub in_range : f.next ≤ length ts
   pub same : Goes table 200 ts d i (Nt LE ∷ []) [] f.next fix_body
-      (OfToken dot ∷ (OfType (type_of f.head.gives) ∷ (OfToken colon_again ∷ (OfToken right ∷ (OfType (type_of f.head.takes) ∷ (OfToken colon ∷ (OfToken parameter ∷
+      (OfToken dot ∷ (OfType (type_of f.head.gives) ∷
+      (OfToken colon_again ∷ (OfToken right ∷ (OfType (type_of f.head.takes) ∷ (OfToken colon ∷ (OfToken parameter ∷
       (OfToken left ∷ (OfToken name ∷ (OfToken word ∷ []))))))))))
 
 -- gen name .

@@ -78,7 +78,8 @@ pub(crate) fn function_head(
     requires depth { depth ≤ 200 }
     requires at { at ≤ length tokens.now }
     requires word { next_of table want.Fix (slice_get tokens.now at) ≡ Some word }
-    ensures { MatchResult result (λ f. ReadsHead tokens.now depth at f) (λ e. Fails tokens.now depth at (Nt LE ∷ []) [] e) }
+    ensures { MatchResult result (λ f. ReadsHead tokens.now depth at f)
+        (λ e. Fails tokens.now depth at (Nt LE ∷ []) [] e) }
 {
     let inner = opened(at, depth)?;
     let name = expect(tokens, at + 1, Wanted::Name)?;
@@ -109,7 +110,8 @@ pub(crate) fn gen_head(
     requires depth { depth ≤ 200 }
     requires at { at ≤ length tokens.now }
     requires word { next_of table want.Gen (slice_get tokens.now at) ≡ Some word }
-    ensures { MatchResult result (λ name. ReadsGenHead tokens.now depth at word name) (λ e. Fails tokens.now depth at (Nt LE ∷ []) [] e) }
+    ensures { MatchResult result (λ name. ReadsGenHead tokens.now depth at word name)
+        (λ e. Fails tokens.now depth at (Nt LE ∷ []) [] e) }
 {
     opened(at, depth)?;
     let name = expect(tokens, at + 1, Wanted::Name)?;

@@ -59,10 +59,8 @@ fn begin_var(
     ensures goes { Goes term.now state.now result (open_work term.now state.now (SVar (place span) name)) }
     ensures frames { IfOk result (λ c. Begun (shapes.Var name) state.now.frames.items state.now.frames.items c) }
 {
-    match find(alloc, &state.scope, name, state.around) {
-        Ok(ty) => Ok(Control::Give { ty, span }),
-        Err(_) => Err(FFault::Memory),
-    }
+    let ty = find(alloc, &state.scope, name, state.around)?;
+    Ok(Control::Give { ty, span })
 }
 
 fn push<'a>(scope: &mut Vec<Binder<'a>>, binder: Binder<'a>) -> Result<(), OutOfMemory>
@@ -80,28 +78,27 @@ fn begin_fix<'a>(
     res: &'a FType,
     body: u64,
 ) -> Result<Control, FFault>
-    requires opens { Opens term.now state.old (SFix (place span) (tree arg.now) (tree res.now) (node_at term.now body)) }
+    requires opens { Opens term.now state.old
+        (SFix (place span) (tree arg.now) (tree res.now) (node_at term.now body)) }
     requires inside { body < count term.now }
-    ensures goes { Goes term.now state.new result (open_work term.now state.old (SFix (place span) (tree arg.now) (tree res.now) (node_at term.now body))) }
-    ensures frames { IfOk result (λ c. Begun (shapes.Fix arg.now res.now body) state.old.frames.items state.new.frames.items c) }
+    ensures goes { Goes term.now state.new result
+        (open_work term.now state.old (SFix (place span) (tree arg.now) (tree res.now) (node_at term.now body))) }
+    ensures frames { IfOk result (λ c. Begun
+        (shapes.Fix arg.now res.now body) state.old.frames.items state.new.frames.items c) }
 {
     let deep = depth(arg).max(depth(res)).saturating_add(1);
     let wide = size(arg).saturating_add(size(res)).saturating_add(1);
-    match limit(deep, wide, span) {
-        Ok(()) => (),
-        Err(e) => return Err(e),
-    }
+    limit(deep, wide, span)?;
     let around = state.around;
-    match push(&mut state.scope, Binder { arg, res, around }) {
-        Ok(()) => enter(term, state, Frame::Fix { span, arg, res }, body),
-        Err(_) => Err(FFault::Memory),
-    }
+    push(&mut state.scope, Binder { arg, res, around })?;
+    enter(term, state, Frame::Fix { span, arg, res }, body)
 }
 
 fn begin_gen(term: &FTerm, state: &mut State, span: Span, body: u64) -> Result<Control, FFault>
     requires opens { Opens term.now state.old (SGen (place span) (node_at term.now body)) }
     requires inside { body < count term.now }
-    ensures goes { Goes term.now state.new result (open_work term.now state.old (SGen (place span) (node_at term.now body))) }
+    ensures goes { Goes term.now state.new result
+        (open_work term.now state.old (SGen (place span) (node_at term.now body))) }
     ensures frames { IfOk result (λ c. Begun (shapes.Gen body) state.old.frames.items state.new.frames.items c) }
 {
     state.around += 1;
@@ -117,8 +114,10 @@ fn begin_tuple<'a>(
 ) -> Result<Control, FFault>
     requires opens { Opens term.now state.old (STuple (place span) (tms (map (node_at term.now) es.now))) }
     requires inside { All (λ k. k < count term.now) es.now }
-    ensures goes { Goes term.now state.new result (open_work term.now state.old (STuple (place span) (tms (map (node_at term.now) es.now)))) }
-    ensures frames { (es' : Vec ℕ Global) → es'.items ≡ es.now → IfOk result (λ c. Begun (shapes.Tuple es') state.old.frames.items state.new.frames.items c) }
+    ensures goes { Goes term.now state.new result
+        (open_work term.now state.old (STuple (place span) (tms (map (node_at term.now) es.now)))) }
+    ensures frames { (es' : Vec ℕ Global) → es'.items ≡ es.now → IfOk result
+        (λ c. Begun (shapes.Tuple es') state.old.frames.items state.new.frames.items c) }
 {
     let types = Vec::new(alloc);
     match es.split_first() {

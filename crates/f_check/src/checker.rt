@@ -30,7 +30,9 @@ use std::alloc::Global;
 fn type_of(alloc: Global, term: &FTerm) -> Result<(FType, Vec<FType>), FFault>
     requires closed { IsClosed (term_of term.now) }
     requires nodes { nodes (term_of term.now) ≤ 4294967295 }
-    ensures { MatchResult result (λ r. IsTypeOf (spanned term.now) 0 NoTys (tree r.0) × (count term.now ≤ length r.1.items) × Beside (noted_of term.now r.1.items) NoTys) (λ e. Says e (Fault (spanned term.now) 0 NoTys)) }
+    ensures { MatchResult result (λ r. IsTypeOf (spanned term.now) 0 NoTys (tree r.0)
+        × (count term.now ≤ length r.1.items) × Beside (noted_of term.now r.1.items) NoTys)
+        (λ e. Says e (Fault (spanned term.now) 0 NoTys)) }
 {
     let mut state = State {
         frames: Vec::new(alloc),

@@ -13,7 +13,9 @@ use idx_core::Span;
 // The limits of a type that has this depth and size.
 pub(crate) fn limit(deep: u64, wide: u64, span: Span) -> Result<(), FFault>
     ensures ok { OnOk result ((deep ≤ 200) × (wide ≤ 10000)) }
-    ensures fault { IfErr result (λ f. Says f (check (deep ≤ 200) (refuse codes.L4 (place span)) (check (wide ≤ 10000) (refuse codes.L5 (place span)) nothing))) }
+    ensures fault { IfErr result (λ f. Says f
+        (check (deep ≤ 200) (refuse codes.L4 (place span))
+        (check (wide ≤ 10000) (refuse codes.L5 (place span)) nothing))) }
 {
     if deep > 200 {
         return Err(FFault::Refused {

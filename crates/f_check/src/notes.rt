@@ -25,10 +25,7 @@ pub(crate) fn blank(alloc: Global, count: u64) -> Result<Vec<FType>, FFault>
     ensures right { IfOk result (λ r. length r.items ≡ count) }
     ensures memory { IfErr result (λ e. e ≡ fault.Memory) }
 {
-    match table(alloc, count) {
-        Ok(types) => Ok(types),
-        Err(_) => Err(FFault::Memory),
-    }
+    Ok(table(alloc, count)?)
 }
 
 fn push(path: &mut Vec<u64>, node: u64) -> Result<(), OutOfMemory>
@@ -44,10 +41,7 @@ pub(crate) fn follow(path: &mut Vec<u64>, control: &Control) -> Result<(), FFaul
     ensures memory { IfErr result (λ e. e ≡ fault.Memory) }
 {
     match control {
-        Control::Run(node) => match push(path, *node) {
-            Ok(()) => Ok(()),
-            Err(_) => Err(FFault::Memory),
-        },
+        Control::Run(node) => Ok(push(path, *node)?),
         Control::Give { .. } => Ok(()),
     }
 }
@@ -91,11 +85,6 @@ pub(crate) fn note(
     ensures right { OnOk result (Noting term.now types.old.items types.new.items node (tree ty.now)) }
     ensures memory { IfErr result (λ e. e ≡ fault.Memory) }
 {
-    match kept(alloc, &term.node(node).shape, ty) {
-        Ok(noted) => {
-            types[node as usize] = noted;
-            Ok(())
-        }
-        Err(_) => Err(FFault::Memory),
-    }
+    types[node as usize] = kept(alloc, &term.node(node).shape, ty)?;
+    Ok(())
 }

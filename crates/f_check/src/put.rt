@@ -22,18 +22,9 @@ pub(crate) fn put_within(
 {
     let deep = depth(what);
     let wide = size(what);
-    match limit(deep, wide, span) {
-        Ok(()) => (),
-        Err(e) => return Err(e),
-    }
+    limit(deep, wide, span)?;
     let made_deep = put_depth(body, 0, deep);
     let made_wide = put_size(body, 0, wide);
-    match limit(made_deep, made_wide, span) {
-        Ok(()) => (),
-        Err(e) => return Err(e),
-    }
-    match body.put(alloc, 0, what) {
-        Ok(t) => Ok(t),
-        Err(_) => Err(FFault::Memory),
-    }
+    limit(made_deep, made_wide, span)?;
+    Ok(body.put(alloc, 0, what)?)
 }

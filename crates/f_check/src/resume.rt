@@ -41,16 +41,15 @@ fn after_fix(
 ) -> Result<Control, FFault>
     requires { Offered term.now state.old (frames.Fix span arg res) ty found }
     ensures goes { Goes term.now state.new result (offer_work term.now state.old []) }
-    ensures frames { IfOk result (λ c. Resumed (frames.Fix span arg.entry res.entry) state.old.frames.items state.new.frames.items c) }
+    ensures frames { IfOk result (λ c. Resumed
+        (frames.Fix span arg.entry res.entry) state.old.frames.items state.new.frames.items c) }
 {
     leave(&mut state.scope);
     if !eq(&ty, res) {
         return refused(Code::E14, found);
     }
-    match shift_arrow(alloc, arg, res, 0) {
-        Ok(ty) => Ok(Control::Give { ty, span }),
-        Err(_) => Err(FFault::Memory),
-    }
+    let ty = shift_arrow(alloc, arg, res, 0)?;
+    Ok(Control::Give { ty, span })
 }
 
 fn after_function(
@@ -63,7 +62,8 @@ fn after_function(
 ) -> Result<Control, FFault>
     requires { Offered term.now state.old (frames.Function span x) ty found }
     ensures goes { Goes term.now state.new result (offer_work term.now state.old (x ∷ [])) }
-    ensures frames { IfOk result (λ c. Resumed (frames.Function span x) state.old.frames.items state.new.frames.items c) }
+    ensures frames { IfOk result (λ c. Resumed
+        (frames.Function span x) state.old.frames.items state.new.frames.items c) }
 {
     match arrow_parts(ty) {
         Some((arg, res)) => enter(term, state, Frame::Argument { span, arg, res }, x),
@@ -82,7 +82,8 @@ fn after_argument(
 ) -> Result<Control, FFault>
     requires { Offered term.now state.now (frames.Argument span arg res) ty found }
     ensures goes { Goes term.now state.now result (offer_work term.now state.now []) }
-    ensures frames { IfOk result (λ c. Resumed (frames.Argument span arg res) state.now.frames.items state.now.frames.items c) }
+    ensures frames { IfOk result (λ c. Resumed
+        (frames.Argument span arg res) state.now.frames.items state.now.frames.items c) }
 {
     if !eq(&ty, &arg) {
         return refused(Code::E08, found);
@@ -105,17 +106,9 @@ fn after_gen(
     state.around -= 1;
     let deep = depth(&ty).saturating_add(1);
     let wide = size(&ty).saturating_add(1);
-    match limit(deep, wide, span) {
-        Ok(()) => (),
-        Err(e) => return Err(e),
-    }
-    match Box::new(alloc, ty) {
-        Ok(body) => Ok(Control::Give {
-            ty: FType::All(body),
-            span,
-        }),
-        Err(_) => Err(FFault::Memory),
-    }
+    limit(deep, wide, span)?;
+    let ty = FType::All(Box::new(alloc, ty)?);
+    Ok(Control::Give { ty, span })
 }
 
 fn after_inst(
@@ -129,16 +122,15 @@ fn after_inst(
 ) -> Result<Control, FFault>
     requires { Offered term.now state.now (frames.Inst span arg) ty found }
     ensures goes { Goes term.now state.now result (offer_work term.now state.now []) }
-    ensures frames { IfOk result (λ c. Resumed (frames.Inst span arg.entry) state.now.frames.items state.now.frames.items c) }
+    ensures frames { IfOk result (λ c. Resumed
+        (frames.Inst span arg.entry) state.now.frames.items state.now.frames.items c) }
 {
     let body = match all_body(ty) {
         Some(body) => body,
         None => return refused(Code::E09, found),
     };
-    match put_within(alloc, span, &body, arg) {
-        Ok(ty) => Ok(Control::Give { ty, span }),
-        Err(e) => Err(e),
-    }
+    let ty = put_within(alloc, span, &body, arg)?;
+    Ok(Control::Give { ty, span })
 }
 
 fn push(types: &mut Vec<FType>, ty: FType) -> Result<(), OutOfMemory>
@@ -159,21 +151,17 @@ fn after_field<'a>(
 ) -> Result<Control, FFault>
     requires { Offered term.now state.old (frames.Fields span types rest) ty found }
     ensures goes { Goes term.now state.new result (offer_work term.now state.old rest.now) }
-    ensures frames { IfOk result (λ c. Resumed (frames.Fields span types rest.entry) state.old.frames.items state.new.frames.items c) }
+    ensures frames { IfOk result (λ c. Resumed
+        (frames.Fields span types rest.entry) state.old.frames.items state.new.frames.items c) }
 {
     let mut types = types;
-    match push(&mut types, ty) {
-        Ok(()) => (),
-        Err(_) => return Err(FFault::Memory),
-    }
+    push(&mut types, ty)?;
     match rest.split_first() {
         Some((e, rest)) => enter(term, state, Frame::Fields { span, types, rest }, *e),
         None => {
             let ty = FType::Tuple(types);
-            match limit(depth(&ty), size(&ty), span) {
-                Ok(()) => Ok(Control::Give { ty, span }),
-                Err(e) => Err(e),
-            }
+            limit(depth(&ty), size(&ty), span)?;
+            Ok(Control::Give { ty, span })
         }
     }
 }
@@ -282,7 +270,8 @@ fn after_other(
 ) -> Result<Control, FFault>
     requires { Offered term.now state.now (frames.Other span zero) ty found }
     ensures goes { Goes term.now state.now result (offer_work term.now state.now []) }
-    ensures frames { IfOk result (λ c. Resumed (frames.Other span zero) state.now.frames.items state.now.frames.items c) }
+    ensures frames { IfOk result (λ c. Resumed
+        (frames.Other span zero) state.now.frames.items state.now.frames.items c) }
 {
     if !eq(&ty, &zero) {
         return refused(Code::E13, found);

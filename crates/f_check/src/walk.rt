@@ -25,11 +25,12 @@ pub(crate) fn enter<'a>(
     j: u64,
 ) -> Result<Control, FFault>
     requires { Enters term.now state.old frame j }
-    ensures goes { (m : ℕ) → 2 * nodes (plain (node_at term.now j)) + frame_work term.now frame.entry + left term.now state.old < m → Goes term.now state.new result m }
-    ensures frames { IfOk result (λ c. (c ≡ control.Run j) × (state.new.frames.items ≡ state.old.frames.items ++ frame.entry ∷ [])) }
+    ensures goes { (m : ℕ) → 2 * nodes
+        (plain (node_at term.now j)) + frame_work term.now frame.entry + left term.now state.old < m →
+        Goes term.now state.new result m }
+    ensures frames { IfOk result (λ c. (c ≡ control.Run j)
+        × (state.new.frames.items ≡ state.old.frames.items ++ frame.entry ∷ [])) }
 {
-    match push(&mut state.frames, frame) {
-        Ok(()) => Ok(Control::Run(j)),
-        Err(_) => Err(FFault::Memory),
-    }
+    push(&mut state.frames, frame)?;
+    Ok(Control::Run(j))
 }

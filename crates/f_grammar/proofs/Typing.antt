@@ -18,7 +18,8 @@ use Rattle.f_grammar.specs.declared.cursor.Stopped.{Stopped}
 use Rattle.f_grammar.specs.declared.cursor.Stopped.TheVariants.{Memory, Unexpected, TooDeep}
 use Rattle.f_grammar.specs.declared.raw.RawType.{RawType, Row_of-RawType, end_of-RawType, more_of-RawType, items-the_row-RawType, items_hidden-the_row-RawType-0}
 use Rattle.f_grammar.specs.declared.raw.RawType.TheVariants.{Tuple, Tuple'}
-use Rattle.f_grammar.specs.Reads.{type_of, types_of, Reads, ReadsSome, Fails}
+use Rattle.f_grammar.specs.Read.{type_of, types_of}
+use Rattle.f_grammar.specs.Reads.{Reads, ReadsSome, Fails}
 
 -- the tree of a tuple
 abbrev row_of : RawType → (n : Count) × Row_of-RawType n

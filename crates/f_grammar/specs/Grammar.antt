@@ -14,7 +14,8 @@ tok k s = record { kind = k; span = s }
 mutual
   pub data T : List Token → RawTy → Type 0 where
     -- T ::= all name . T
-    t_all : {w : List Token} {t : RawTy} (a n d : Span) → T w t → T (tok k.All a ∷ (tok k.Name n ∷ (tok k.Dot d ∷ w))) (RAll n t)
+    t_all : {w : List Token} {t : RawTy} (a n d : Span) → T w t →
+        T (tok k.All a ∷ (tok k.Name n ∷ (tok k.Dot d ∷ w))) (RAll n t)
     -- T ::= U -> T
     t_arrow : {u v : List Token} {a b : RawTy} (s : Span) → U u a → T v b → T (u ++ tok k.Arrow s ∷ v) (RArrow a b)
     -- T ::= U
@@ -28,23 +29,29 @@ mutual
     -- U ::= < >
     u_unit : (o c : Span) → U (tok k.LeftAngle o ∷ (tok k.RightAngle c ∷ [])) (RTuple (raw_tys []))
     -- U ::= < T , .. , T >
-    u_tuple : {w : List Token} {ts : List RawTy} (o c : Span) → Ts w ts → U (tok k.LeftAngle o ∷ (w ++ tok k.RightAngle c ∷ [])) (RTuple (raw_tys ts))
+    u_tuple : {w : List Token} {ts : List RawTy} (o c : Span) → Ts w ts →
+        U (tok k.LeftAngle o ∷ (w ++ tok k.RightAngle c ∷ [])) (RTuple (raw_tys ts))
     -- U ::= ( T )
-    u_paren : {w : List Token} {t : RawTy} (o c : Span) → T w t → U (tok k.LeftParen o ∷ (w ++ tok k.RightParen c ∷ [])) t
+    u_paren : {w : List Token} {t : RawTy} (o c : Span) → T w t →
+        U (tok k.LeftParen o ∷ (w ++ tok k.RightParen c ∷ [])) t
 
   -- T , .. , T
   pub data Ts : List Token → List RawTy → Type 0 where
     ts_one : {w : List Token} {t : RawTy} → T w t → Ts w (t ∷ [])
-    ts_more : {u v : List Token} {ts : List RawTy} {t : RawTy} (c : Span) → Ts u ts → T v t → Ts (u ++ tok k.Comma c ∷ v) (ts ++ t ∷ [])
+    ts_more : {u v : List Token} {ts : List RawTy} {t : RawTy} (c : Span) → Ts u ts → T v t →
+        Ts (u ++ tok k.Comma c ∷ v) (ts ++ t ∷ [])
 
 mutual
   pub data E : List Token → Piece → Type 0 where
     -- E ::= fix name ( name : T ) : T . E
     e_fix : {u v w : List Token} {t r : RawTy} {e : Piece} (f n o x c p d s : Span) → T u t → T v r → E w e →
-        E (tok k.Fix f ∷ (tok k.Name n ∷ (tok k.LeftParen o ∷ (tok k.Name x ∷ (tok k.Colon c ∷ (u ++ tok k.RightParen p ∷ (tok k.Colon d ∷ (v ++ tok k.Dot s ∷ w))))))))
+        E (tok k.Fix f ∷ (tok k.Name n ∷
+        (tok k.LeftParen o ∷ (tok k.Name x ∷
+        (tok k.Colon c ∷ (u ++ tok k.RightParen p ∷ (tok k.Colon d ∷ (v ++ tok k.Dot s ∷ w))))))))
         (func f n x t r e)
     -- E ::= gen name . E
-    e_gen : {w : List Token} {e : Piece} (g a d : Span) → E w e → E (tok k.Gen g ∷ (tok k.Name a ∷ (tok k.Dot d ∷ w))) (gen g a e)
+    e_gen : {w : List Token} {e : Piece} (g a d : Span) → E w e →
+        E (tok k.Gen g ∷ (tok k.Name a ∷ (tok k.Dot d ∷ w))) (gen g a e)
     -- E ::= S
     e_sum : {w : List Token} {e : Piece} → S w e → E w e
 
@@ -66,7 +73,8 @@ mutual
     -- A ::= A P
     a_call : {u v : List Token} {a b : Piece} → A u a → P v b → A (u ++ v) (call a b)
     -- A ::= A [ T ]
-    a_inst : {u v : List Token} {a : Piece} {t : RawTy} (o c : Span) → A u a → T v t → A (u ++ tok k.LeftBracket o ∷ (v ++ tok k.RightBracket c ∷ [])) (inst a t c)
+    a_inst : {u v : List Token} {a : Piece} {t : RawTy} (o c : Span) → A u a → T v t →
+        A (u ++ tok k.LeftBracket o ∷ (v ++ tok k.RightBracket c ∷ [])) (inst a t c)
     -- A ::= P
     a_part : {w : List Token} {e : Piece} → P w e → A w e
 
@@ -77,24 +85,31 @@ mutual
     p_plain : (z : ℤ) (s : Span) → P (tok (k.Plain z) s ∷ []) (number z s)
     p_negative : (z : ℤ) (s : Span) → P (tok (k.Negative z) s ∷ []) (number z s)
     -- P ::= ( E )
-    p_paren : {w : List Token} {e : Piece} (o c : Span) → E w e → P (tok k.LeftParen o ∷ (w ++ tok k.RightParen c ∷ [])) (within o.start c.end e)
+    p_paren : {w : List Token} {e : Piece} (o c : Span) → E w e →
+        P (tok k.LeftParen o ∷ (w ++ tok k.RightParen c ∷ [])) (within o.start c.end e)
     -- P ::= < >
     p_unit : (o c : Span) → P (tok k.LeftAngle o ∷ (tok k.RightAngle c ∷ [])) (tuple o [] c)
     -- P ::= < E , .. , E >
-    p_tuple : {w : List Token} {ts : List RawTm} (o c : Span) → Es w ts → P (tok k.LeftAngle o ∷ (w ++ tok k.RightAngle c ∷ [])) (tuple o ts c)
+    p_tuple : {w : List Token} {ts : List RawTm} (o c : Span) → Es w ts →
+        P (tok k.LeftAngle o ∷ (w ++ tok k.RightAngle c ∷ [])) (tuple o ts c)
     -- P ::= # number P, where the number is a plain one, so that it is its own absolute value
-    p_proj : {w : List Token} {e : Piece} (h : Span) (z : ℤ) (s : Span) → P w e → P (tok k.Hash h ∷ (tok (k.Plain z) s ∷ w)) (proj h (nat_abs z) e)
+    p_proj : {w : List Token} {e : Piece} (h : Span) (z : ℤ) (s : Span) → P w e →
+        P (tok k.Hash h ∷ (tok (k.Plain z) s ∷ w)) (proj h (nat_abs z) e)
     -- P ::= if0 ( E , E , E )
     p_if0 : {u v w : List Token} {a b c : Piece} (i o p q l : Span) → E u a → E v b → E w c →
-        P (tok k.If0 i ∷ (tok k.LeftParen o ∷ (u ++ tok k.Comma p ∷ (v ++ tok k.Comma q ∷ (w ++ tok k.RightParen l ∷ []))))) (if0 i a b c l)
+        P (tok k.If0 i ∷ (tok k.LeftParen o ∷
+        (u ++ tok k.Comma p ∷ (v ++ tok k.Comma q ∷ (w ++ tok k.RightParen l ∷ []))))) (if0 i a b c l)
 
   -- E , .. , E
   pub data Es : List Token → List RawTm → Type 0 where
     es_one : {w : List Token} {e : Piece} → E w e → Es w (e.tree ∷ [])
-    es_more : {u v : List Token} {ts : List RawTm} {e : Piece} (c : Span) → Es u ts → E v e → Es (u ++ tok k.Comma c ∷ v) (ts ++ e.tree ∷ [])
+    es_more : {u v : List Token} {ts : List RawTm} {e : Piece} (c : Span) → Es u ts → E v e →
+        Es (u ++ tok k.Comma c ∷ v) (ts ++ e.tree ∷ [])
 
--- For each token of a form, how many constructs are open at it, where d are open around the form: a bracket up to and with
--- the closing one, `fix`, `gen`, `all` to the end of the body, `#` to the end of its part, `->` to the end of the type on its right.
+-- For each token of a form, how many constructs are open at it, where d are open around the form: a bracket up to and
+-- with
+-- the closing one, `fix`, `gen`, `all` to the end of the body, `#` to the end of its part, `->` to the end of the type
+-- on its right.
 abbrev mutual
   pub open_T : {w : List Token} {t : RawTy} → T w t → ℕ → List ℕ
   open_T (t_all a n s t) d = suc d ∷ (suc d ∷ (suc d ∷ open_T t (suc d)))
@@ -115,7 +130,9 @@ abbrev mutual
 abbrev mutual
   pub open_E : {w : List Token} {e : Piece} → E w e → ℕ → List ℕ
   open_E (e_fix f n o x c p k s t r e) d =
-      suc d ∷ (suc d ∷ (suc (suc d) ∷ (suc (suc d) ∷ (suc (suc d) ∷ (open_T t (suc (suc d)) ++ suc (suc d) ∷ (suc d ∷ (open_T r (suc d) ++ suc d ∷ open_E e (suc d))))))))
+      suc d ∷ (suc d ∷ (suc (suc d) ∷
+      (suc (suc d) ∷ (suc (suc d) ∷ (open_T t (suc (suc d)) ++ suc (suc d) ∷
+      (suc d ∷ (open_T r (suc d) ++ suc d ∷ open_E e (suc d))))))))
   open_E (e_gen g a s e) d = suc d ∷ (suc d ∷ (suc d ∷ open_E e (suc d)))
   open_E (e_sum s) d = open_S s d
 

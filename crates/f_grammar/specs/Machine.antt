@@ -96,14 +96,16 @@ value_of _ = pos 0
 abbrev pub act : Act → List Val → List Val
 act MakeVar (OfToken n ∷ vs) = OfTerm (var n.span) ∷ vs
 act MakeNumber (OfToken n ∷ vs) = OfTerm (number (value_of n.kind) n.span) ∷ vs
-act MakeFix (OfTerm e ∷ OfToken s ∷ OfType r ∷ OfToken d ∷ OfToken p ∷ OfType t ∷ OfToken c ∷ OfToken x ∷ OfToken o ∷ OfToken n ∷ OfToken f ∷ vs) =
+act MakeFix (OfTerm e ∷ OfToken s ∷ OfType r ∷ OfToken d ∷ OfToken p ∷ OfType t ∷ OfToken c ∷ OfToken x ∷ OfToken o ∷
+    OfToken n ∷ OfToken f ∷ vs) =
     OfTerm (func f.span n.span x.span t r e) ∷ vs
 act MakeGen (OfTerm e ∷ OfToken d ∷ OfToken a ∷ OfToken g ∷ vs) = OfTerm (gen g.span a.span e) ∷ vs
 act MakeParen (OfToken c ∷ OfTerm e ∷ OfToken o ∷ vs) = OfTerm (within o.span.start c.span.end e) ∷ vs
 act MakeUnit (OfToken c ∷ vs) = OfToken c ∷ (OfTerms [] ∷ vs)
 act MakeTuple (OfToken c ∷ OfTerms ts ∷ OfToken o ∷ vs) = OfTerm (tuple o.span ts c.span) ∷ vs
 act MakeProj (OfTerm e ∷ OfToken n ∷ OfToken h ∷ vs) = OfTerm (proj h.span (nat_abs (value_of n.kind)) e) ∷ vs
-act MakeIf0 (OfToken l ∷ OfTerm c ∷ OfToken q ∷ OfTerm b ∷ OfToken p ∷ OfTerm a ∷ OfToken o ∷ OfToken i ∷ vs) = OfTerm (if0 i.span a b c l.span) ∷ vs
+act MakeIf0 (OfToken l ∷ OfTerm c ∷ OfToken q ∷ OfTerm b ∷ OfToken p ∷ OfTerm a ∷ OfToken o ∷ OfToken i ∷ vs) =
+    OfTerm (if0 i.span a b c l.span) ∷ vs
 act MakeCall (OfTerm b ∷ OfTerm a ∷ vs) = OfTerm (call a b) ∷ vs
 act MakeInst (OfToken c ∷ OfType t ∷ OfToken o ∷ OfTerm a ∷ vs) = OfTerm (inst a t c.span) ∷ vs
 act (MakeArith op) (OfTerm b ∷ OfToken p ∷ OfTerm a ∷ vs) = OfTerm (arith op a b) ∷ vs
@@ -135,7 +137,8 @@ abbrev pub sum_tail : Stack
 sum_tail = Nt MoreParts ∷ (Nt MoreFactors ∷ (Nt MoreSums ∷ []))
 
 abbrev pub expr_after : Kind → Option Stack
-expr_after k.Fix = Some (Tm want.Name ∷ (Nt LParam ∷ (Tm want.Colon ∷ (Nt LT ∷ (Tm want.Dot ∷ (Nt LE ∷ (Mark ∷ (Do MakeFix ∷ []))))))))
+expr_after k.Fix = Some (Tm want.Name ∷
+    (Nt LParam ∷ (Tm want.Colon ∷ (Nt LT ∷ (Tm want.Dot ∷ (Nt LE ∷ (Mark ∷ (Do MakeFix ∷ []))))))))
 expr_after k.Gen = Some (Tm want.Name ∷ (Tm want.Dot ∷ (Nt LE ∷ (Mark ∷ (Do MakeGen ∷ [])))))
 expr_after c = then_more (part_after c) sum_tail
 
@@ -144,7 +147,8 @@ param_after k.LeftParen = Some (Tm want.Name ∷ (Tm want.Colon ∷ (Nt LT ∷ (
 param_after _ = None
 
 abbrev pub branches_after : Kind → Option Stack
-branches_after k.LeftParen = Some (Nt LE ∷ (Tm want.Comma ∷ (Nt LE ∷ (Tm want.Comma ∷ (Nt LE ∷ (Tm want.RightParen ∷ (Mark ∷ [])))))))
+branches_after k.LeftParen = Some
+    (Nt LE ∷ (Tm want.Comma ∷ (Nt LE ∷ (Tm want.Comma ∷ (Nt LE ∷ (Tm want.RightParen ∷ (Mark ∷ [])))))))
 branches_after _ = None
 
 abbrev pub fields_tail : Stack

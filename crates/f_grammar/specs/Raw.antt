@@ -1,4 +1,5 @@
--- Terms and types before names are resolved: a name is the place where it stands. And pieces: a tree and the extent of its tokens.
+-- Terms and types before names are resolved: a name is the place where it stands. And pieces: a tree and the extent of
+-- its tokens.
 use Rattle.std.specs.Prelude.{ℕ, ℤ, ◌+◌, List, [], ◌∷◌}
 use Rattle.idx_core.specs.declared.span.Span.{Span}
 use Rattle.idx_core.specs.declared.arith.Op.{Op}

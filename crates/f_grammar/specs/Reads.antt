@@ -5,7 +5,8 @@ use Rattle.text_core.specs.Table.{Nt, Tm}
 use Rattle.text_core.specs.Table as table_of
 use Rattle.text_core.specs.Going.{Stops}
 use Rattle.text_core.specs.Going as going
-use Rattle.f_grammar.specs.Raw.{RawTy, RInt, RName, RTuple, RArrow, RAll, RawTys, NoRawTys, MoreRawTys}
+use Rattle.f_grammar.specs.Raw.{RawTy}
+use Rattle.f_grammar.specs.Read.{type_of}
 use Rattle.f_grammar.specs.Machine.{table, Line, Stack, Val, OfToken, OfType, OfTypes, LTypes, LParam, MoreTypes}
 use Rattle.f_grammar.specs.declared.cursor.Wanted.TheVariants as want
 use Rattle.f_grammar.specs.declared.cursor.Stopped.{Stopped}
@@ -13,21 +14,6 @@ use Rattle.f_grammar.specs.declared.cursor.Stopped.TheVariants.{Memory, Unexpect
 use Rattle.f_grammar.specs.declared.types.FoundType.{FoundType}
 use Rattle.f_grammar.specs.declared.types.FoundTypes.{FoundTypes}
 use Rattle.f_grammar.specs.declared.params.FoundParameter.{FoundParameter}
-use Rattle.f_grammar.specs.declared.raw.RawType.{RawType, Row_of-RawType, end_of-RawType, more_of-RawType}
-use Rattle.f_grammar.specs.declared.raw.RawType.TheVariants.{Int, Name, Arrow', All', Tuple'}
-
--- the tree of a type that was read
-abbrev mutual
-  pub type_of : RawType → RawTy
-  type_of Int = RInt
-  type_of (Name s) = RName s
-  type_of (Arrow' p a q b) = RArrow (type_of a) (type_of b)
-  type_of (All' n p t) = RAll n (type_of t)
-  type_of (Tuple' n row) = RTuple (types_of row)
-
-  pub types_of : {m : _} → Row_of-RawType m → RawTys
-  types_of end_of-RawType = NoRawTys
-  types_of (more_of-RawType t rest) = MoreRawTys (type_of t) (types_of rest)
 
 -- a line was read from the token i up to the token `next`, with these values, where d constructs are open around
 abbrev pub Reads : Line → List Token → ℕ → ℕ → ℕ → List Val → Type 0
@@ -44,7 +30,8 @@ pub record ReadsParameter (ts : List Token) (d i : ℕ) (f : FoundParameter) : T
   pub open_paren : Token
   pub colon : Token
   pub close_paren : Token
-  pub reads : Reads LParam ts d i f.next (OfToken close_paren ∷ (OfType (type_of f.ty) ∷ (OfToken colon ∷ (OfToken f.name ∷ (OfToken open_paren ∷ [])))))
+  pub reads : Reads LParam ts d i f.next
+      (OfToken close_paren ∷ (OfType (type_of f.ty) ∷ (OfToken colon ∷ (OfToken f.name ∷ (OfToken open_paren ∷ [])))))
 
 -- the reading of what is owed stops: no token, or end, may stand at j; or the limit is passed there
 abbrev pub Fails : List Token → ℕ → ℕ → Stack → List Val → Stopped → Type 0
@@ -54,4 +41,5 @@ Fails ts d i owed vs (TooDeep j) = Stops table 200 ts d i owed vs (table_of.Pass
 
 -- some types were read, and there may be more
 abbrev pub ReadsSome : List Token → ℕ → ℕ → ℕ → List RawTy → Type 0
-ReadsSome ts d i next us = going.Reads table 200 ts d i (Nt LTypes ∷ []) [] next (Nt MoreTypes ∷ (Tm want.RightAngle ∷ [])) (OfTypes us ∷ [])
+ReadsSome ts d i next us = going.Reads table 200 ts d i (Nt LTypes ∷ []) [] next
+    (Nt MoreTypes ∷ (Tm want.RightAngle ∷ [])) (OfTypes us ∷ [])

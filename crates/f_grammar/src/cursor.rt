@@ -107,7 +107,8 @@ pub fn expect(tokens: &[Token], at: usize, wanted: Wanted) -> Result<Token, Stop
 /// One more open construct, from the token at a place on.
 pub fn opened(at: usize, depth: u64) -> Result<u64, Stopped>
     requires { depth ≤ 200 }
-    ensures { MatchResult result (λ n. (n ≡ depth + 1) × (depth < 200)) (λ e. (e ≡ stopped.TooDeep at) × (200 ≤ depth)) }
+    ensures { MatchResult result (λ n. (n ≡ depth + 1) × (depth < 200))
+        (λ e. (e ≡ stopped.TooDeep at) × (200 ≤ depth)) }
 {
     if depth >= OPEN {
         Err(Stopped::TooDeep(at))

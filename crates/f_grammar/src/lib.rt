@@ -1,12 +1,13 @@
 //! The grammar of the source: which tokens are a program when names are left aside, and the reading of types.
 #![tactic(auto)]
 
-pub mod cursor;
-pub mod params;
-pub mod raw;
-pub mod types;
+mod cursor;
+mod params;
+mod raw;
+mod term;
+mod types;
 
-pub use cursor::{Stopped, Wanted, expect, opened, peek, take};
+pub use cursor::{OPEN, Stopped, Wanted, expect, opened, peek, take};
 pub use params::{FoundParameter, parameter};
-pub use raw::{RawTerm, RawType};
+pub use raw::{RawNode, RawShape, RawTerm, RawType};
 pub use types::{FoundType, whole_type};

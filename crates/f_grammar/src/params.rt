@@ -27,7 +27,8 @@ pub fn parameter(
 ) -> Result<FoundParameter, Stopped>
     requires depth { depth ≤ 200 }
     requires at { at ≤ length tokens.now }
-    ensures { MatchResult result (λ f. ReadsParameter tokens.now depth at f) (λ e. Fails tokens.now depth at (Nt LParam ∷ []) [] e) }
+    ensures { MatchResult result (λ f. ReadsParameter tokens.now depth at f)
+        (λ e. Fails tokens.now depth at (Nt LParam ∷ []) [] e) }
 {
     expect(tokens, at, Wanted::LeftParen)?;
     let inner = opened(at, depth)?;

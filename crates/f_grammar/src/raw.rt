@@ -1,4 +1,7 @@
 // Types and terms before names are resolved.
+ghost use Rattle.std.specs.Prelude.{◌<◌, length};
+ghost use Rattle.arena.specs.Arena.{InOrder};
+ghost use Rattle.f_grammar.specs.Nodes.{kids};
 
 use idx_core::{Op, Span};
 
@@ -12,24 +15,41 @@ pub enum RawType {
     All(Span, Box<RawType>),
 }
 
-/// A term of the source in which a name is the place where it stands. The first place is that of the whole form.
+/// A form of a term and its place in the text.
 #[derive(Drop)]
-pub enum RawTerm {
-    Var(Span),
-    Num(Span, i64),
+pub struct RawNode {
+    pub span: Span,
+    pub shape: RawShape,
+}
+
+/// The forms of a term: each child is named by its number, and a name is the place where it stands; that of a variable
+/// is the place of the form. Fields count from 1.
+#[derive(Drop)]
+pub enum RawShape {
+    Var,
+    Num(i64),
     Fix {
-        span: Span,
         name: Span,
         parameter: Span,
         takes: RawType,
         gives: RawType,
-        body: Box<RawTerm>,
+        body: u64,
     },
-    Gen(Span, Span, Box<RawTerm>),
-    App(Span, Box<RawTerm>, Box<RawTerm>),
-    Inst(Span, Box<RawTerm>, RawType),
-    Tuple(Span, Vec<RawTerm>),
-    Proj(Span, u64, Box<RawTerm>),
-    Arith(Span, Op, Box<RawTerm>, Box<RawTerm>),
-    If0(Span, Box<RawTerm>, Box<RawTerm>, Box<RawTerm>),
+    Gen(Span, u64),
+    App(u64, u64),
+    Inst(u64, RawType),
+    Tuple(Vec<u64>),
+    Proj(u64, u64),
+    Arith(Op, u64, u64),
+    If0(u64, u64, u64),
+}
+
+/// A term of the source whose names are not resolved, as a vector of nodes in which children stand before their
+/// parents, and the number of the node that is the whole.
+#[derive(Drop)]
+pub struct RawTerm {
+    pub(crate) nodes: Vec<RawNode>,
+    pub(crate) root: u64,
+    ghost ordered: { InOrder kids nodes.items },
+    ghost inside: { root < length nodes.items },
 }

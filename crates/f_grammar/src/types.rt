@@ -3,7 +3,8 @@ ghost use Rattle.std.specs.Prelude.{◌≡◌, List, [], ◌∷◌, ◌≤◌, l
 ghost use Rattle.text_core.specs.Table.{Nt};
 ghost use Rattle.f_grammar.specs.Machine.{LT, LU, LTypes};
 ghost use Rattle.f_grammar.specs.Raw.{RArrow, RAll};
-ghost use Rattle.f_grammar.specs.Reads.{ReadsType, ReadsTypes, Fails, type_of};
+ghost use Rattle.f_grammar.specs.Read.{type_of};
+ghost use Rattle.f_grammar.specs.Reads.{ReadsType, ReadsTypes, Fails};
 ghost use Rattle.f_grammar.specs.declared.cursor.Stopped.TheVariants as stopped;
 
 use crate::cursor::{Stopped, Wanted, expect, opened, peek, take};
@@ -49,7 +50,8 @@ pub fn whole_type(
 ) -> Result<FoundType, Stopped>
     requires depth { depth ≤ 200 }
     requires at { at ≤ length tokens.now }
-    ensures { MatchResult result (λ f. ReadsType LT tokens.now depth at f) (λ e. Fails tokens.now depth at (Nt LT ∷ []) [] e) }
+    ensures { MatchResult result (λ f. ReadsType LT tokens.now depth at f)
+        (λ e. Fails tokens.now depth at (Nt LT ∷ []) [] e) }
 {
     match take(tokens, at, Wanted::All) {
         Some(_) => {
@@ -91,7 +93,8 @@ pub fn part_type(
 ) -> Result<FoundType, Stopped>
     requires depth { depth ≤ 200 }
     requires at { at ≤ length tokens.now }
-    ensures { MatchResult result (λ f. ReadsType LU tokens.now depth at f) (λ e. Fails tokens.now depth at (Nt LU ∷ []) [] e) }
+    ensures { MatchResult result (λ f. ReadsType LU tokens.now depth at f)
+        (λ e. Fails tokens.now depth at (Nt LU ∷ []) [] e) }
 {
     let token = match peek(tokens, at) {
         Some(token) => token,
@@ -132,7 +135,8 @@ pub fn part_type(
 pub fn types(alloc: Global, tokens: &[Token], at: usize, depth: u64) -> Result<FoundTypes, Stopped>
     requires depth { depth ≤ 200 }
     requires at { at ≤ length tokens.now }
-    ensures { MatchResult result (λ f. ReadsTypes tokens.now depth at f) (λ e. Fails tokens.now depth at (Nt LTypes ∷ []) [] e) }
+    ensures { MatchResult result (λ f. ReadsTypes tokens.now depth at f)
+        (λ e. Fails tokens.now depth at (Nt LTypes ∷ []) [] e) }
 {
     let mut types = Vec::new(alloc);
     match take(tokens, at, Wanted::RightAngle) {

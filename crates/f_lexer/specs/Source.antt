@@ -24,8 +24,10 @@ word_in (e ∷ t) u = if bytes_eq u e.0 then e.1 else word_in t u
 -- the signs of one byte: ( ) < > [ ] , . : + - * #
 abbrev pub signs : List (ℕ × Kind)
 signs =
-    (40, k.LeftParen) ∷ ((41, k.RightParen) ∷ ((60, k.LeftAngle) ∷ ((62, k.RightAngle) ∷ ((91, k.LeftBracket) ∷ ((93, k.RightBracket) ∷
-    ((44, k.Comma) ∷ ((46, k.Dot) ∷ ((58, k.Colon) ∷ ((43, k.Plus) ∷ ((45, k.Minus) ∷ ((42, k.Star) ∷ ((35, k.Hash) ∷ []))))))))))))
+    (40, k.LeftParen) ∷ ((41, k.RightParen) ∷
+    ((60, k.LeftAngle) ∷ ((62, k.RightAngle) ∷ ((91, k.LeftBracket) ∷ ((93, k.RightBracket) ∷
+    ((44, k.Comma) ∷ ((46, k.Dot) ∷
+    ((58, k.Colon) ∷ ((43, k.Plus) ∷ ((45, k.Minus) ∷ ((42, k.Star) ∷ ((35, k.Hash) ∷ []))))))))))))
 
 -- the one sign of two bytes: ->
 abbrev pub pair : ℕ → ℕ → Option Kind
@@ -76,12 +78,15 @@ OneCut = (text : List ℕ) (w v : List Token) → IsCut text w → IsCut text v 
 
 -- a text that is cut has no fault in its tokens
 abbrev pub NoFaultWhereCut : Type 0
-NoFaultWhereCut = (text : List ℕ) (w : List Token) (c : Code) (span : Span) → IsCut text w → ¬ FirstTokenFault text c span
+NoFaultWhereCut = (text : List ℕ) (w : List Token) (c : Code) (span : Span) → IsCut text w →
+    ¬ FirstTokenFault text c span
 
 -- each text is cut into tokens, or has a first fault in them
 abbrev pub CutOrFault : Type 0
-CutOrFault = (text : List ℕ) → ((w : List Token) × IsCut text w) ⊎ ((c : Code) × (span : Span) × FirstTokenFault text c span)
+CutOrFault = (text : List ℕ) → ((w : List Token) × IsCut text w) ⊎
+    ((c : Code) × (span : Span) × FirstTokenFault text c span)
 
 -- two first faults of a text's tokens are equal
 abbrev pub OneTokenFault : Type 0
-OneTokenFault = (text : List ℕ) (c c' : Code) (span span' : Span) → FirstTokenFault text c span → FirstTokenFault text c' span' → (c ≡ c') × (span ≡ span')
+OneTokenFault = (text : List ℕ) (c c' : Code) (span span' : Span) → FirstTokenFault text c span →
+    FirstTokenFault text c' span' → (c ≡ c') × (span ≡ span')

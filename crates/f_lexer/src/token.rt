@@ -47,8 +47,10 @@ fn refused(code: Code, start: usize, end: usize) -> FFault
 /// number out of range, whichever comes first.
 pub fn tokens(alloc: Global, text: &[u8]) -> Result<Vec<Token>, FFault>
     ensures right { MatchResult result (λ w. IsCut text.now w.items) (λ f. IsTokenFault text.now f) }
-    ensures cut { (w : List tokens_of.Token) → IsCut text.now w → MatchResult result (λ v. v.items ≡ w) (λ f. f ≡ fault.Memory) }
-    ensures refused { (code : codes.Code) (span : place.Span) → FirstTokenFault text.now code span → IsErrAnd result (λ f. f ≢ fault.Memory → f ≡ fault.Refused code span) }
+    ensures cut { (w : List tokens_of.Token) → IsCut text.now w → MatchResult result (λ v. v.items ≡ w)
+        (λ f. f ≡ fault.Memory) }
+    ensures refused { (code : codes.Code) (span : place.Span) → FirstTokenFault text.now code span → IsErrAnd result
+        (λ f. f ≢ fault.Memory → f ≡ fault.Refused code span) }
 {
     let mut out = Vec::new(alloc);
     let mut at = 0usize;

@@ -1,5 +1,5 @@
 -- A tree stands for a term or has a first unbound name, and a text for a term within the limits or has a first fault.
-use Rattle.std.proofs.Common.{◌≡◌, ◌<◌, ◌≤◌, ◌⊎◌, inl, inr, ℕ, zero, suc, nat_le, Bool, true, false, List, [], ◌∷◌, ◌++◌, length, refl, subst, arith}
+use Rattle.std.proofs.Common.{◌≡◌, ◌≤◌, ◌⊎◌, inl, inr, ℕ, zero, suc, nat_le, Bool, true, false, List, [], ◌∷◌, ◌++◌, length, refl, arith}
 use Rattle.std.proofs.lemmas.Bool.{cases_eq, leb-true, leb-false}
 use Rattle.idx_core.specs.declared.span.Span.{Span}
 use Rattle.idx_core.specs.Names.{Name, IsPlace, IsAbsent}
@@ -17,7 +17,7 @@ use Rattle.f_grammar.specs.Machine.{table}
 use Rattle.f_grammar.proofs.Instance.{source_exact}
 use Rattle.f_parser.specs.Scope.{spelled, TypeOf, of_int, of_name, of_tuple, of_arrow, of_all, TypesOf, of_no_types, of_more_types, TermOf, of_var, of_num, of_fix, of_gen, of_app, of_inst, of_fields, of_proj, of_arith, of_if0, TermsOf, of_no_terms, of_more_terms, Use, use_at, type_uses, types_uses, uses, all_uses, AllBound, IsFirstUnbound, unbound_code}
 use Rattle.f_parser.specs.Text.{SourceWithin, whole_of, end_of, FewBytes, HasTokens, HasShape, FirstFault, too_long, no_token, unexpected, cut_short, too_deep, too_large, unbound, TermOrFault}
-use Rattle.f_parser.proofs.Bound.{type_bound, types_bound, term_bound, terms_bound, first_left, first_right}
+use Rattle.f_parser.proofs.Bound.{type_bound, term_bound, first_left, first_right}
 use Rattle.f_parser.proofs.Closed.{same_nodes}
 
 -- a name has a first place in the names, or is not there

@@ -14,9 +14,9 @@ use Rattle.f_grammar.specs.Machine.{table, LE, OfTerm}
 use Rattle.f_grammar.specs.Reads.{Fails}
 use Rattle.f_grammar.specs.declared.cursor.Stopped.TheVariants as stopped
 use Rattle.f_grammar.proofs.Instance.{claims}
-use Rattle.f_reader.specs.Kept.{tree_of, Keeps}
-use Rattle.f_reader.specs.Reads.{ReadsTerm}
-use Rattle.f_reader.specs.declared.kept.FoundTerm.{FoundTerm}
+use Rattle.f_grammar.specs.Term.{tree_of}
+use Rattle.f_reader.specs.Reads.{Keeps, ReadsTerm}
+use Rattle.f_reader.specs.declared.part.FoundTerm.{FoundTerm}
 use Rattle.f_terms.specs.declared.fault.FFault.{FFault}
 use Rattle.f_terms.specs.declared.fault.FFault.TheVariants.{Refused}
 use Rattle.f_grammar.specs.declared.raw.RawTerm.{RawTerm}
@@ -46,15 +46,15 @@ module _ (text : List ℕ) (w : List Token) (h : HasTokens text w) (i : ℕ) whe
       too_deep u.0 t (drop (i + 1) w) h u.1
 
 -- where an expression was read
-module _ (text : List ℕ) (w : List Token) (h : HasTokens text w) (f : FoundTerm) (r : ReadsTerm (Nt LE ∷ []) w 0 0 f) where
+module _ (text : List ℕ) (w : List Token) (h : HasTokens text w) (f : FoundTerm) (r : ReadsTerm w f) where
   pub goes_on : (t : Token) → slice_get w f.next ≡ Some t → FirstFault text code.E03 t.span
   goes_on t e =
-      let u = whole_more table claims 200 w f.next (OfTerm r.piece ∷ []) t (drop (f.next + 1) w) r.reads.same (next_is w f.next t e) in
+      let u = whole_more table claims 200 w f.next (OfTerm r.piece ∷ []) t (drop (f.next + 1) w) r.same (next_is w f.next t e) in
       unexpected u.0 t (drop (f.next + 1) w) h u.1
 
   has_shape : slice_get w f.next ≡ None → HasShape text r.piece
   has_shape e =
-      let x = whole_fine table claims 200 w f.next (OfTerm r.piece ∷ []) r.reads.same (no_next w f.next e) in
+      let x = whole_fine table claims 200 w f.next (OfTerm r.piece ∷ []) r.same (no_next w f.next e) in
       let i = x.is in
       let p : x.value ≡ r.piece = cc in
       record { tokens = w; has_tokens = h; is_shape = subst (λ (q : Piece). E w q) p x.shape; few_open = x.within }
@@ -64,10 +64,10 @@ module _ (text : List ℕ) (w : List Token) (h : HasTokens text w) (f : FoundTer
       ((t : RawTm) → Keeps f.kept t → MatchResult result (λ e. (tree_of e ≡ t) × (nodes t ≤ 1000)) (λ x. (x ≡ Refused code.L3 (place_of t)) × (1000 < nodes t))) →
       MatchResult result (λ t. HasTree text (tree_of t)) (λ x. IsFault text x)
   whole_kept e (Ok t) k =
-      let x = k r.piece.tree r.stands.keeps in
+      let x = k r.piece.tree r.keeps in
       record { shape = r.piece; has_shape = has_shape e; few_nodes = x.1; is = x.0 }
   whole_kept e (Err x) k =
-      let y = k r.piece.tree r.stands.keeps in
+      let y = k r.piece.tree r.keeps in
       rw (y.0) (too_large r.piece (has_shape e) y.1)
 
 -- where the names of a tree are bound, or one is not

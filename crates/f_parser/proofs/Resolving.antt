@@ -1,5 +1,4 @@
 -- How the resolving of a whole follows from that of its parts.
-use Rattle.std.specs.Prelude.{Result, Ok, Err, MatchResult}
 use Rattle.std.proofs.Common.{◌≡◌, ◌<◌, ◌≤◌, ◌+◌, ℕ, ℤ, List, [], ◌∷◌, ◌++◌, map, take, drop, length, get_or, Vec, Global, refl, sym, ◌∙◌, ap, subst, append_assoc, true, false}
 use Rattle.std.proofs.lemmas.List.{map-append, take_more, take-append-drop, drop_more, take_all}
 use mathlib.Core.Former.{Count}
@@ -8,21 +7,18 @@ use Rattle.idx_core.specs.Names.{Name, IsAbsent}
 use Rattle.f_terms.specs.declared.types.FType.{FType, Row_of-FType, end_of-FType, more_of-FType, items-the_row-FType, items_hidden-the_row-FType-0}
 use Rattle.f_terms.specs.declared.types.FType.TheVariants as ftype
 use Rattle.f_terms.specs.Ty.{Ty, TTuple, Tys, MoreTys, tys}
-use Rattle.f_terms.specs.Tm.{Tm, SNum, STuple, Spn, Tms, MoreTms, tms}
+use Rattle.f_terms.specs.Tm.{SNum}
 use Rattle.f_terms.specs.Read.{tree, trees, place}
-use Rattle.f_grammar.specs.Raw.{RawTy, RTuple, raw_tys, RawTm, RFields, raw_tms}
-use Rattle.f_grammar.specs.Reads.{type_of}
+use Rattle.f_grammar.specs.Raw.{RawTy, RTuple, raw_tys, RawTm, RVar, RNum}
+use Rattle.f_grammar.specs.Read.{type_of}
 use Rattle.f_grammar.specs.declared.raw.RawType.{RawType}
 use Rattle.f_grammar.specs.declared.raw.RawType.TheVariants as rtype
 use Rattle.f_grammar.proofs.Typing.{type_Tuple}
-use Rattle.f_grammar.specs.declared.raw.RawTerm.{RawTerm}
-use Rattle.f_grammar.specs.declared.raw.RawTerm.TheVariants as rterm
-use Rattle.f_reader.specs.Kept.{tree_of}
-use Rattle.f_parser.specs.Scope.{spelled, use_at, TypeOf, of_tuple, TypesOf, of_no_types, of_more_types, TermOf, of_num, of_fields, TermsOf, of_no_terms, of_more_terms, Use, type_uses, types_uses, uses, all_uses, AllBound}
+use Rattle.f_parser.specs.Scope.{spelled, use_at, TypeOf, of_tuple, TypesOf, of_no_types, of_more_types, TermOf, of_num, Use, type_uses, types_uses, uses, AllBound}
 use Rattle.f_parser.specs.Resolve.{StopsAt}
 use Rattle.f_parser.specs.declared.resolve.Unresolved.{Unresolved}
 use Rattle.f_parser.specs.declared.resolve.Unresolved.TheVariants.{Memory, Value, «Type»}
-use Rattle.f_parser.proofs.Bound.{types_bound, terms_bound, first_left, first_right}
+use Rattle.f_parser.proofs.Bound.{types_bound, first_left, first_right}
 
 -- a stop in a part
 pub stops_left : (text : List ℕ) (a b : List Use) (e : Unresolved) → StopsAt text a e → StopsAt text (a ++ b) e
@@ -98,9 +94,9 @@ type_parts_more text a xs i x old new t g l e h s =
 pub type_name_stop : (text : List ℕ) (a : List Name) (self : RawType) (s : Span) → self ≡ rtype.Name s → IsAbsent (spelled text s) a → StopsAt text (type_uses text a (type_of self)) («Type» s)
 type_name_stop text a self s is h = rw is (use_at s true a, record { before = []; after = []; place = refl; bound = tt; unbound = h }, refl, refl)
 
-pub name_stop : (text : List ℕ) (v a : List Name) (self : RawTerm) (s : Span) → self ≡ rterm.Var s → IsAbsent (spelled text s) v → StopsAt text (uses text v a (tree_of self)) (Value s)
-name_stop text v a self s is h = rw is (use_at s false v, record { before = []; after = []; place = refl; bound = tt; unbound = h }, refl, refl)
+pub name_stop : (text : List ℕ) (v a : List Name) (raw : RawTm) (s : Span) → raw ≡ RVar s → IsAbsent (spelled text s) v → StopsAt text (uses text v a raw) (Value s)
+name_stop text v a raw s is h = rw is (use_at s false v, record { before = []; after = []; place = refl; bound = tt; unbound = h }, refl, refl)
 
 -- a number, which the code keeps in 64 bits
-pub number_bound : (text : List ℕ) (v a : List Name) (self : RawTerm) (s : Span) (n m : ℤ) → self ≡ rterm.Num s n → m ≡ n → TermOf text v a (tree_of self) (SNum (place s) m)
-number_bound text v a self s n m is e = rw (is, e) (of_num s n)
+pub number_bound : (text : List ℕ) (v a : List Name) (raw : RawTm) (s : Span) (n m : ℤ) → raw ≡ RNum s n → m ≡ n → TermOf text v a raw (SNum (place s) m)
+number_bound text v a raw s n m is e = rw (is, e) (of_num s n)

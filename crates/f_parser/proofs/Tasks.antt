@@ -1,6 +1,6 @@
 -- The tasks of the binding of names, one after the other.
 use Rattle.std.specs.Prelude.{Result, Ok, Err, MatchResult}
-use Rattle.std.proofs.Common.{◌≡◌, ℕ, zero, suc, ◌+◌, ◌-◌, ◌*◌, ◌<◌, ◌≤◌, List, [], ◌∷◌, ◌++◌, length, map, take, drop, Vec, Global, refl, ap, ap₂, ◌∙◌, sym, subst, append_assoc, arith}
+use Rattle.std.proofs.Common.{◌≡◌, ℕ, zero, suc, ◌+◌, ◌-◌, ◌*◌, ◌≤◌, List, [], ◌∷◌, ◌++◌, length, map, take, drop, refl, ap, ap₂, ◌∙◌, sym, subst, append_assoc, arith}
 use Rattle.std.proofs.lemmas.List.{length_push}
 use Rattle.std.proofs.Math.Seq.{take-append_seam, drop-append_seam}
 use Rattle.idx_core.specs.declared.span.Span.{Span}
@@ -15,17 +15,13 @@ use Rattle.f_terms.specs.declared.stack.FStep.TheVariants as form
 use Rattle.f_grammar.specs.Raw.{RawTy, RawTm, RVar, RNum, RFix, RGen, RApp, RInst, RFields, RProj, RArith, RIf0, RawTms, NoRawTms, MoreRawTms, nodes, nodes_all}
 use Rattle.f_parser.specs.Scope.{spelled, TypeOf, TermOf, of_fix, of_gen, of_app, of_inst, of_fields, of_proj, of_arith, of_if0, TermsOf, of_no_terms, of_more_terms, Use, type_uses, uses, all_uses}
 use Rattle.f_parser.specs.Resolve.{StopsAt}
-use Rattle.f_parser.specs.Binding.{Todo, Bind, BindAll, UseAt, Put, todo, todos_before, todos, Stand, stand, outer_values, outer_types, values_left, types_left, Does, DoAll, uses_left, count, Enough, field_steps, steps, Follows, Steps}
+use Rattle.f_parser.specs.Binding.{Todo, Bind, BindAll, UseAt, Put, todo, todos_before, todos, Stand, stand, outer_values, outer_types, values_left, types_left, uses_left, count, Enough, field_steps, Follows, Steps}
 use Rattle.f_parser.specs.declared.resolve.Unresolved.{Unresolved}
 use Rattle.f_parser.specs.declared.resolve.Unresolved.TheVariants.{Memory}
 use Rattle.f_parser.specs.declared.task.Leaves.{Leaves}
 use Rattle.f_parser.specs.declared.task.Leaves.TheVariants.{Nothing, Function, Abstraction}
 use Rattle.f_parser.specs.declared.task.Task.{Task}
 use Rattle.f_grammar.specs.Raw.{raw_tms}
-use Rattle.f_grammar.specs.declared.raw.RawTerm.{RawTerm}
-use Rattle.f_grammar.specs.declared.raw.RawTerm.TheVariants as rterm
-use Rattle.f_reader.specs.Kept.{tree_of}
-use Rattle.f_reader.proofs.Fields.{tree_Tuple}
 use Rattle.f_parser.proofs.Bound.{type_bound, term_bound}
 use Rattle.f_parser.proofs.Resolving.{stops_left, stops_right}
 
@@ -263,13 +259,9 @@ then text x y z f g = record {
   enough = λ h. g.enough (f.enough h);
 }
 
--- the tree of a tuple is that of its fields
-pub tuple_is : (self : RawTerm) (span : Span) (parts : Vec RawTerm Global) (xs : List RawTerm) → self ≡ rterm.Tuple span parts → xs ≡ parts.items → tree_of self ≡ RFields span (raw_tms (map tree_of xs))
-tuple_is self span parts xs is same = ap tree_of is ∙ tree_Tuple span parts ∙ ap (λ (ys : List RawTerm). RFields span (raw_tms (map tree_of ys))) (sym same)
-
-pub count_is : (xs : List RawTerm) → count (raw_tms (map tree_of xs)) ≡ length xs
-count_is [] = refl
-count_is (x ∷ xs) = omega (arith, count_is xs)
+pub count_is : (f : ℕ → RawTm) (ks : List ℕ) → count (raw_tms (map f ks)) ≡ length ks
+count_is f [] = refl
+count_is f (k ∷ ks) = omega (arith, count_is f ks)
 
 -- the parts of a form wait in its place
 pub by_parts : (text : List ℕ) (old new ps : List Todo) (raw form : RawTm) (v a v' a' : List Name) (ts : List Tm) → raw ≡ form → new ≡ ps →
@@ -277,16 +269,15 @@ pub by_parts : (text : List ℕ) (old new ps : List Todo) (raw form : RawTm) (v 
 by_parts text old new ps raw form v a v' a' ts er ep h =
     subst (λ x. Steps text (stand (Bind x ∷ old) v a ts) (stand new v' a' ts)) (sym er) (subst (λ tds. Steps text (stand (Bind form ∷ old) v a ts) (stand tds v' a' ts)) (sym ep) h)
 
-pub next : (text : List ℕ) (tds mid new : List Todo) (xs rest : List RawTerm) (x : RawTerm) (v a : List Name) (ts : List Tm) → xs ≡ x ∷ rest → mid ≡ BindAll (raw_tms (map tree_of rest)) ∷ tds →
-    new ≡ Bind (tree_of x) ∷ mid → Steps text (stand (BindAll (raw_tms (map tree_of xs)) ∷ tds) v a ts) (stand new v a ts)
-next text tds mid new xs rest x v a ts ex em en =
-    subst (λ ys. Steps text (stand (BindAll (raw_tms (map tree_of ys)) ∷ tds) v a ts) (stand new v a ts)) (sym ex)
-    (subst (λ zs. Steps text (stand (BindAll (raw_tms (map tree_of (x ∷ rest))) ∷ tds) v a ts) (stand zs v a ts)) (sym (en ∙ ap (λ zs. Bind (tree_of x) ∷ zs) em))
-    (more_fields text tds v a ts (tree_of x) (raw_tms (map tree_of rest))))
+pub next : (text : List ℕ) (tds mid new : List Todo) (es rest : RawTms) (e : RawTm) (v a : List Name) (ts : List Tm) → es ≡ MoreRawTms e rest → mid ≡ BindAll rest ∷ tds → new ≡ Bind e ∷ mid →
+    Steps text (stand (BindAll es ∷ tds) v a ts) (stand new v a ts)
+next text tds mid new es rest e v a ts ex em en =
+    subst (λ ys. Steps text (stand (BindAll ys ∷ tds) v a ts) (stand new v a ts)) (sym ex)
+    (subst (λ zs. Steps text (stand (BindAll (MoreRawTms e rest) ∷ tds) v a ts) (stand zs v a ts)) (sym (en ∙ ap (λ (zs : List Todo). Bind e ∷ zs) em))
+    (more_fields text tds v a ts e rest))
 
-pub none_next : (text : List ℕ) (tds : List Todo) (xs : List RawTerm) (v a : List Name) (ts : List Tm) → length xs ≡ 0 → Steps text (stand (BindAll (raw_tms (map tree_of xs)) ∷ tds) v a ts) (stand tds v a ts)
-none_next text tds [] v a ts e = no_fields text tds v a ts
-none_next text tds (x ∷ xs) v a ts e = absurd (omega (arith, e))
+pub none_next : (text : List ℕ) (tds : List Todo) (es : RawTms) (v a : List Name) (ts : List Tm) → es ≡ NoRawTms → Steps text (stand (BindAll es ∷ tds) v a ts) (stand tds v a ts)
+none_next text tds es v a ts e = subst (λ ys. Steps text (stand (BindAll ys ∷ tds) v a ts) (stand tds v a ts)) (sym e) (no_fields text tds v a ts)
 
 pub nothing_left : (ts : List Task) → length ts ≡ 0 → todos ts ≡ []
 nothing_left [] e = refl

@@ -1,5 +1,5 @@
 -- The binding of names by a list of tasks.
-use Rattle.std.specs.Prelude.{◌≡◌, ℕ, ◌+◌, ◌-◌, ◌*◌, ◌<◌, ◌≤◌, List, [], ◌∷◌, ◌++◌, length, map, drop}
+use Rattle.std.specs.Prelude.{◌≡◌, ℕ, ◌+◌, ◌-◌, ◌*◌, ◌<◌, ◌≤◌, List, [], ◌∷◌, ◌++◌, length, drop}
 use Rattle.idx_core.specs.declared.span.Span.{Span}
 use Rattle.idx_core.specs.Names.{Name}
 use Rattle.f_terms.specs.Tm.{Tm, tms}
@@ -8,9 +8,9 @@ use Rattle.f_terms.specs.Stacked.{arity, stacked}
 use Rattle.f_terms.specs.declared.types.FType.{FType}
 use Rattle.f_terms.specs.declared.stack.FStep.{FStep}
 use Rattle.f_terms.specs.declared.stack.FStep.TheVariants as form
-use Rattle.f_grammar.specs.Raw.{RawTy, RawTm, RVar, RNum, RFix, RGen, RawTms, NoRawTms, MoreRawTms, raw_tms, nodes}
-use Rattle.f_grammar.specs.Reads.{type_of}
-use Rattle.f_reader.specs.Kept.{tree_of}
+use Rattle.f_grammar.specs.Raw.{RawTy, RawTm, RVar, RNum, RFix, RGen, RawTms, NoRawTms, MoreRawTms, nodes}
+use Rattle.f_grammar.specs.Read.{type_of}
+use Rattle.f_parser.specs.Parts.{part_tree, part_trees}
 use Rattle.f_parser.specs.Scope.{TypeOf, TermOf, TermsOf, Use, type_uses, uses, all_uses}
 use Rattle.f_parser.specs.Resolve.{StopsAt}
 use Rattle.f_parser.specs.declared.resolve.Unresolved.{Unresolved}
@@ -27,8 +27,8 @@ pub data Todo : Type 0 where
   Put : Span → FStep → Leaves → Todo
 
 abbrev pub todo : Task → Todo
-todo (task.Term e) = Bind (tree_of e.now)
-todo (task.Fields es) = BindAll (raw_tms (map tree_of es.now))
+todo (task.Term e) = Bind (part_tree e)
+todo (task.Fields es) = BindAll (part_trees es)
 todo (task.Inst s t) = UseAt s (type_of t.now)
 todo (task.Form s step names) = Put s step names
 

@@ -70,15 +70,19 @@ pub data FirstFault (text : List ℕ) : Code → Span → Type 0 where
   -- E01 and E02, whichever comes first: a byte that begins no token, a number out of range
   no_token : {c : Code} {s : Span} → FewBytes text → FirstTokenFault text c s → FirstFault text c s
   -- E03, E04 and L2, whichever comes first. E03: the tokens before t begin a shape, and with it none
-  unexpected : {w : List Token} (u : List Token) (t : Token) (z : List Token) → HasTokens text w → IsUnexpected source_grammar 200 w u t z → FirstFault text code.E03 t.span
+  unexpected : {w : List Token} (u : List Token) (t : Token) (z : List Token) → HasTokens text w →
+      IsUnexpected source_grammar 200 w u t z → FirstFault text code.E03 t.span
   -- E04: all tokens begin a shape, and are none
-  cut_short : {w : List Token} → HasTokens text w → IsCutShort source_grammar 200 w → FirstFault text code.E04 (end_of text)
+  cut_short : {w : List Token} → HasTokens text w → IsCutShort source_grammar 200 w →
+      FirstFault text code.E04 (end_of text)
   -- L2: the tokens up to and with t begin a shape, and too many constructs are open at t
-  too_deep : {w : List Token} (u : List Token) (t : Token) (z : List Token) → HasTokens text w → IsPassed source_grammar 200 w u t z → FirstFault text code.L2 t.span
+  too_deep : {w : List Token} (u : List Token) (t : Token) (z : List Token) → HasTokens text w →
+      IsPassed source_grammar 200 w u t z → FirstFault text code.L2 t.span
   -- L3: too many nodes
   too_large : (p : Piece) → HasShape text p → 1000 < nodes p.tree → FirstFault text code.L3 (place_of p.tree)
   -- E05 and E06, whichever comes first: a value name, a type name that has no binder around it
-  unbound : (p : Piece) (u : Use) → HasShape text p → nodes p.tree ≤ 1000 → IsFirstUnbound text (uses text [] [] p.tree) u → FirstFault text (unbound_code u.of_type) u.at
+  unbound : (p : Piece) (u : Use) → HasShape text p → nodes p.tree ≤ 1000 →
+      IsFirstUnbound text (uses text [] [] p.tree) u → FirstFault text (unbound_code u.of_type) u.at
 
 abbrev pub IsFault : List ℕ → FFault → Type 0
 IsFault text Memory = Unit {0}
@@ -103,7 +107,8 @@ IsLimit _ = ⊥
 
 -- a text whose first fault is not that of a limit stands for no term
 abbrev pub NoTermWhereFaulty : Type 0
-NoTermWhereFaulty = (text : List ℕ) (a : Tm) (c : Code) (span : Span) → FirstFault text c span → ¬ IsLimit c → ¬ Source text a
+NoTermWhereFaulty = (text : List ℕ) (a : Tm) (c : Code) (span : Span) → FirstFault text c span → ¬ IsLimit c →
+    ¬ Source text a
 
 -- each text stands for a term within the limits, or has a first fault
 abbrev pub TermOrFault : Type 0
@@ -115,7 +120,8 @@ SameNodes = (text : List ℕ) (a : Tm) (x : Source text a) → nodes x.shape.tre
 
 -- two first faults of a text are equal
 abbrev pub OneFault : Type 0
-OneFault = (text : List ℕ) (c c' : Code) (span span' : Span) → FirstFault text c span → FirstFault text c' span' → (c ≡ c') × (span ≡ span')
+OneFault = (text : List ℕ) (c c' : Code) (span span' : Span) → FirstFault text c span → FirstFault text c' span' →
+    (c ≡ c') × (span ≡ span')
 
 -- a text stands for closed terms only
 abbrev pub ClosedTerms : Type 0

@@ -1,12 +1,12 @@
 // The binding of names in a term, by a loop over what is still to be done.
-ghost use Rattle.std.specs.Prelude.{◌≡◌, ℕ, List, ◌≤◌, ◌∷◌, [], length, map, MatchOption, MatchResult};
+ghost use Rattle.std.specs.Prelude.{◌≡◌, ℕ, List, ◌≤◌, ◌∷◌, [], length, MatchOption, MatchResult};
 ghost use Rattle.idx_core.specs.Names.{Name};
 ghost use Rattle.f_terms.specs.Tm.{Tm};
 ghost use Rattle.f_terms.specs.Read.{place};
 ghost use Rattle.f_terms.specs.ReadTerm.{spanned};
 ghost use Rattle.f_terms.specs.Stacked.{arity, stacked, trees_of};
-ghost use Rattle.f_grammar.specs.Raw.{raw_tms};
-ghost use Rattle.f_reader.specs.Kept.{tree_of};
+ghost use Rattle.f_grammar.specs.Term.{tree_of};
+ghost use Rattle.f_parser.specs.Parts.{part_tree, part_trees};
 ghost use Rattle.f_parser.specs.Scope.{TermOf, IsBinder, uses};
 ghost use Rattle.f_parser.specs.Resolve.{StopsAt};
 ghost use Rattle.f_parser.specs.Binding.{Bind, BindAll, Put, HasParts, todo, todos};
@@ -14,9 +14,11 @@ ghost use Rattle.f_parser.specs.Binding.{outer_values, outer_types, uses_of, Eno
 ghost use Rattle.f_parser.specs.declared.resolve.Unresolved.TheVariants as stopped;
 ghost use Rattle.f_parser.specs.declared.task.Leaves.TheVariants as leaves;
 
+use crate::part::{Part, Parts};
+use crate::parts::{child, children, node, split, whole};
 use crate::resolve::{Unresolved, spelling, type_in_scope};
 use crate::task::{Leaves, Task};
-use f_grammar::RawTerm;
+use f_grammar::{RawShape, RawTerm};
 use f_terms::{FStack, FStep, FTerm};
 use idx_core::{Names, Span};
 use std::alloc::Global;
@@ -48,12 +50,12 @@ fn push_two<'a>(
     tasks: &mut Vec<Task<'a>>,
     span: Span,
     step: FStep,
-    a: &'a RawTerm,
-    b: &'a RawTerm,
+    a: Part<'a>,
+    b: Part<'a>,
 ) -> Result<(), Unresolved>
     ensures { MatchResult result
         (λ u. todos tasks.new.items ≡
-        Bind (tree_of a.now) ∷ Bind (tree_of b.now) ∷ Put span step leaves.Nothing ∷ todos tasks.old.items)
+        Bind (part_tree a.entry) ∷ Bind (part_tree b.entry) ∷ Put span step leaves.Nothing ∷ todos tasks.old.items)
         (λ e. e ≡ stopped.Memory) }
 {
     let names = Leaves::Nothing;
@@ -68,10 +70,10 @@ fn push_one<'a>(
     span: Span,
     step: FStep,
     names: Leaves,
-    a: &'a RawTerm,
+    a: Part<'a>,
 ) -> Result<(), Unresolved>
     ensures { MatchResult result
-        (λ u. todos tasks.new.items ≡ Bind (tree_of a.now) ∷ Put span step names ∷ todos tasks.old.items)
+        (λ u. todos tasks.new.items ≡ Bind (part_tree a.entry) ∷ Put span step names ∷ todos tasks.old.items)
         (λ e. e ≡ stopped.Memory) }
 {
     push(tasks, Task::Form { span, step, names })?;
@@ -89,34 +91,51 @@ fn put(alloc: Global, stack: FStack, step: FStep, span: Span) -> Result<FStack, 
 }
 
 // The parts of a form that binds no names are to be bound.
-fn open_parts<'a>(tasks: &mut Vec<Task<'a>>, term: &'a RawTerm) -> Result<(), Unresolved>
-    requires { HasParts (tree_of term.now) }
+fn open_parts<'a>(tasks: &mut Vec<Task<'a>>, term: Part<'a>) -> Result<(), Unresolved>
+    requires { HasParts (part_tree term) }
     ensures { MatchResult result
         (λ u. (text : List ℕ) (v a : List Name) (ts : List Tm) → Steps text
-        (stand (Bind (tree_of term.now) ∷ todos tasks.old.items) v a ts)
+        (stand (Bind (part_tree term.entry) ∷ todos tasks.old.items) v a ts)
         (stand (todos tasks.new.items) v a ts))
         (λ e. e ≡ stopped.Memory) }
 {
-    match term {
-        RawTerm::App(span, a, b) => push_two(tasks, *span, FStep::App, a, b),
-        RawTerm::Arith(span, op, a, b) => push_two(tasks, *span, FStep::Arith(*op), a, b),
-        RawTerm::Proj(span, field, a) => {
-            push_one(tasks, *span, FStep::Proj(*field), Leaves::Nothing, a)
+    let node = node(term);
+    let span = node.span;
+    match &node.shape {
+        RawShape::App(a, b) => {
+            push_two(tasks, span, FStep::App, child(term, *a), child(term, *b))
         }
-        RawTerm::Inst(span, a, ty) => {
-            push(tasks, Task::Inst { span: *span, ty })?;
-            push(tasks, Task::Term(a))
+        RawShape::Arith(op, a, b) => {
+            push_two(
+                tasks,
+                span,
+                FStep::Arith(*op),
+                child(term, *a),
+                child(term, *b),
+            )
         }
-        RawTerm::Tuple(span, parts) => {
+        RawShape::Proj(field, a) => {
+            push_one(
+                tasks,
+                span,
+                FStep::Proj(*field),
+                Leaves::Nothing,
+                child(term, *a),
+            )
+        }
+        RawShape::Inst(a, ty) => {
+            push(tasks, Task::Inst { span, ty })?;
+            push(tasks, Task::Term(child(term, *a)))
+        }
+        RawShape::Tuple(parts) => {
             let step = FStep::Tuple(parts.len() as u64);
             let names = Leaves::Nothing;
-            let span = *span;
             push(tasks, Task::Form { span, step, names })?;
-            push(tasks, Task::Fields(parts))
+            push(tasks, Task::Fields(children(term, parts)))
         }
-        RawTerm::If0(span, a, b, c) => {
-            push_two(tasks, *span, FStep::If0, b, c)?;
-            push(tasks, Task::Term(a))
+        RawShape::If0(a, b, c) => {
+            push_two(tasks, span, FStep::If0, child(term, *b), child(term, *c))?;
+            push(tasks, Task::Term(child(term, *a)))
         }
         _ => unreachable!(),
     }
@@ -127,20 +146,21 @@ fn open_binder<'a>(
     alloc: Global,
     text: &[u8],
     tasks: &mut Vec<Task<'a>>,
-    term: &'a RawTerm,
+    term: Part<'a>,
     values: &mut Names,
     types: &mut Names,
 ) -> Result<(), Unresolved>
-    requires { IsBinder (tree_of term.now) }
+    requires { IsBinder (part_tree term) }
     ensures { MatchResult result
         (λ u. (ts : List Tm) → Steps text.now
-        (stand (Bind (tree_of term.now) ∷ todos tasks.old.items) values.old types.old ts)
+        (stand (Bind (part_tree term.entry) ∷ todos tasks.old.items) values.old types.old ts)
         (stand (todos tasks.new.items) values.new types.new ts))
-        (λ e. StopsAt text.now (uses text.now values.old types.old (tree_of term.now)) e) }
+        (λ e. StopsAt text.now (uses text.now values.old types.old (part_tree term.entry)) e) }
 {
-    match term {
-        RawTerm::Fix {
-            span,
+    let node = node(term);
+    let span = node.span;
+    match &node.shape {
+        RawShape::Fix {
             name,
             parameter,
             takes,
@@ -151,17 +171,18 @@ fn open_binder<'a>(
             let res = type_in_scope(alloc, text, gives, types)?;
             values.push(spelling(text, *name))?;
             values.push(spelling(text, *parameter))?;
+            let step = FStep::Fix { arg, res };
+            push_one(tasks, span, step, Leaves::Function, child(term, *body))
+        }
+        RawShape::Gen(name, body) => {
+            types.push(spelling(text, *name))?;
             push_one(
                 tasks,
-                *span,
-                FStep::Fix { arg, res },
-                Leaves::Function,
-                body,
+                span,
+                FStep::Gen,
+                Leaves::Abstraction,
+                child(term, *body),
             )
-        }
-        RawTerm::Gen(span, name, body) => {
-            types.push(spelling(text, *name))?;
-            push_one(tasks, *span, FStep::Gen, Leaves::Abstraction, body)
         }
         _ => unreachable!(),
     }
@@ -172,24 +193,26 @@ fn begin<'a>(
     alloc: Global,
     text: &[u8],
     tasks: &mut Vec<Task<'a>>,
-    term: &'a RawTerm,
+    term: Part<'a>,
     values: &mut Names,
     types: &mut Names,
     stack: FStack,
 ) -> Result<FStack, Unresolved>
     ensures { MatchResult result
         (λ r. Steps text.now
-        (stand (Bind (tree_of term.now) ∷ todos tasks.old.items) values.old types.old (trees_of stack))
+        (stand (Bind (part_tree term.entry) ∷ todos tasks.old.items) values.old types.old (trees_of stack))
         (stand (todos tasks.new.items) values.new types.new (trees_of r)))
-        (λ e. StopsAt text.now (uses text.now values.old types.old (tree_of term.now)) e) }
+        (λ e. StopsAt text.now (uses text.now values.old types.old (part_tree term.entry)) e) }
 {
-    match term {
-        RawTerm::Var(span) => match values.find(spelling(text, *span)) {
-            Some(place) => put(alloc, stack, FStep::Var(place), *span),
-            None => Err(Unresolved::Value(*span)),
+    let node = node(term);
+    let span = node.span;
+    match &node.shape {
+        RawShape::Var => match values.find(spelling(text, span)) {
+            Some(place) => put(alloc, stack, FStep::Var(place), span),
+            None => Err(Unresolved::Value(span)),
         },
-        RawTerm::Num(span, value) => put(alloc, stack, FStep::Int(*value), *span),
-        RawTerm::Fix { .. } | RawTerm::Gen(..) => {
+        RawShape::Num(value) => put(alloc, stack, FStep::Int(*value), span),
+        RawShape::Fix { .. } | RawShape::Gen(..) => {
             open_binder(alloc, text, tasks, term, values, types)?;
             Ok(stack)
         }
@@ -201,14 +224,14 @@ fn begin<'a>(
 }
 
 // The first of these fields is to be bound, and then the others.
-fn next_field<'a>(tasks: &mut Vec<Task<'a>>, parts: &'a [RawTerm]) -> Result<(), Unresolved>
+fn next_field<'a>(tasks: &mut Vec<Task<'a>>, parts: Parts<'a>) -> Result<(), Unresolved>
     ensures { MatchResult result
         (λ u. (text : List ℕ) (v a : List Name) (ts : List Tm) →
-        Steps text (stand (BindAll (raw_tms (map tree_of parts.now)) ∷ todos tasks.old.items) v a ts)
+        Steps text (stand (BindAll (part_trees parts.entry) ∷ todos tasks.old.items) v a ts)
         (stand (todos tasks.new.items) v a ts))
         (λ e. e ≡ stopped.Memory) }
 {
-    match parts.split_first() {
+    match split(parts) {
         None => Ok(()),
         Some((first, rest)) => {
             push(tasks, Task::Fields(rest))?;
@@ -267,7 +290,7 @@ fn go<'a>(
 }
 
 /// A term with its names bound, where none is in scope around it; or the first of its names that has no binder.
-pub fn bind(alloc: Global, text: &[u8], term: &RawTerm) -> Result<FTerm, Unresolved>
+pub(crate) fn bind(alloc: Global, text: &[u8], term: &RawTerm) -> Result<FTerm, Unresolved>
     ensures { MatchResult result
         (λ t. TermOf text.now [] [] (tree_of term.now) (spanned t))
         (λ e. StopsAt text.now (uses text.now [] [] (tree_of term.now)) e) }
@@ -276,7 +299,7 @@ pub fn bind(alloc: Global, text: &[u8], term: &RawTerm) -> Result<FTerm, Unresol
     let mut types = Names::new(alloc);
     let mut stack = FStack::new(alloc);
     let mut tasks = Vec::new(alloc);
-    push(&mut tasks, Task::Term(term))?;
+    push(&mut tasks, Task::Term(whole(term)))?;
     while let Some(task) = pop(&mut tasks) {
         stack = go(
             alloc,

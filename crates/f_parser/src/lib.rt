@@ -3,6 +3,8 @@
 
 mod binding;
 mod laws;
+mod part;
+mod parts;
 mod reader;
 mod resolve;
 mod task;

@@ -10,7 +10,8 @@ ghost use Rattle.f_terms.specs.declared.fault.Code.TheVariants.{L3};
 ghost use Rattle.f_grammar.specs.Raw.{RawTm, nodes, place_of};
 ghost use Rattle.f_grammar.specs.Machine.{LE};
 ghost use Rattle.f_grammar.specs.Reads.{Fails};
-ghost use Rattle.f_reader.specs.Kept.{tree_of, Keeps};
+ghost use Rattle.f_grammar.specs.Term.{tree_of};
+ghost use Rattle.f_reader.specs.Reads.{Keeps};
 ghost use Rattle.f_parser.specs.Text.{SourceWithin, FirstFault, IsFault, HasTokens, whole_of, end_of};
 ghost use Rattle.f_parser.specs.Reader.{HasTree};
 
@@ -69,10 +70,11 @@ fn stopped_fault(text: &[u8], tokens: &[Token], stopped: Stopped) -> FFault
 
 // the tree, or the fault where it has too many nodes
 fn kept_tree(kept: Kept) -> Result<RawTerm, FFault>
-    ensures { (t : RawTm) → Keeps kept t → MatchResult result (λ e. (tree_of e ≡ t) × (nodes t ≤ 1000)) (λ f. (f ≡ fault.Refused L3 (place_of t)) × (1000 < nodes t)) }
+    ensures { (t : RawTm) → Keeps kept t → MatchResult result (λ e. (tree_of e ≡ t) × (nodes t ≤ 1000))
+        (λ f. (f ≡ fault.Refused L3 (place_of t)) × (1000 < nodes t)) }
 {
     match kept {
-        Kept::Term(tree, _) => Ok(tree),
+        Kept::Term(tree) => Ok(tree),
         Kept::TooMany(span) => Err(refused(Code::L3, span)),
     }
 }
@@ -82,7 +84,7 @@ fn whole_tree(alloc: Global, text: &[u8], tokens: &[Token]) -> Result<RawTerm, F
     requires { HasTokens text.now tokens.now }
     ensures { MatchResult result (λ t. HasTree text.now (tree_of t)) (λ f. IsFault text.now f) }
 {
-    match whole_term(alloc, tokens, 0, 0) {
+    match whole_term(alloc, tokens) {
         Ok(found) => match peek(tokens, found.next) {
             Some(token) => Err(refused(Code::E03, token.span)),
             None => kept_tree(found.kept),
@@ -110,8 +112,10 @@ fn closed_term(alloc: Global, text: &[u8], tree: &RawTerm) -> Result<FTerm, FFau
 /// are an own choice). Places are counted in bytes.
 pub fn parse(alloc: Global, text: &[u8]) -> Result<FTerm, FFault>
     ensures right { MatchResult result (λ e. SourceWithin text.now (spanned e)) (λ f. IsFault text.now f) }
-    ensures term { (tm : Tm) → SourceWithin text.now tm → MatchResult result (λ e. spanned e ≡ tm) (λ f. f ≡ fault.Memory) }
-    ensures refused { (code : codes.Code) (span : place.Span) → FirstFault text.now code span → IsErrAnd result (λ f. f ≢ fault.Memory → f ≡ fault.Refused code span) }
+    ensures term { (tm : Tm) → SourceWithin text.now tm → MatchResult result (λ e. spanned e ≡ tm)
+        (λ f. f ≡ fault.Memory) }
+    ensures refused { (code : codes.Code) (span : place.Span) → FirstFault text.now code span → IsErrAnd result
+        (λ f. f ≢ fault.Memory → f ≡ fault.Refused code span) }
 {
     if text.len() > BYTES {
         return Err(refused(Code::L1, whole(text)));

@@ -1,6 +1,7 @@
 // What is to be done for the binding of names.
 
-use f_grammar::{RawTerm, RawType};
+use crate::part::{Part, Parts};
+use f_grammar::RawType;
 use f_terms::FStep;
 use idx_core::Span;
 
@@ -16,8 +17,8 @@ pub(crate) enum Leaves {
 /// parts were made last, and its names are left.
 #[derive(Drop)]
 pub(crate) enum Task<'a> {
-    Term(&'a RawTerm),
-    Fields(&'a [RawTerm]),
+    Term(Part<'a>),
+    Fields(Parts<'a>),
     Inst {
         span: Span,
         ty: &'a RawType,

@@ -1,23 +1,21 @@
 -- How the heads of binders are read, over plain variables.
-use Rattle.std.proofs.Common.{◌≡◌, ℕ, ◌+◌, ◌<◌, ◌≤◌, List, [], ◌∷◌, length, slice_get, refl, sym, ◌∙◌, Some, None, arith, true}
-use Rattle.idx_core.specs.declared.span.Span.{Span}
+use Rattle.std.proofs.Common.{◌≡◌, ℕ, ◌+◌, ◌<◌, ◌≤◌, List, [], ◌∷◌, slice_get, refl, Some, arith, true}
 use Rattle.f_lexer.specs.declared.token.Token.{Token}
 use Rattle.f_lexer.specs.declared.kind.Kind.{Kind}
 use Rattle.f_lexer.specs.declared.kind.Kind.TheVariants as k
-use Rattle.text_core.specs.Table.{Nt, Tm, Do, Mark}
+use Rattle.text_core.specs.Table.{Nt, Tm}
 use Rattle.text_core.specs.Going.{next_of}
 use Rattle.text_core.proofs.Going as step
 use Rattle.f_grammar.specs.Raw.{RawTy}
-use Rattle.f_grammar.specs.Machine.{table, Stack, Val, OfToken, OfType, LE, LT, LParam, MakeFix, MakeGen, fits, expr_after}
-use Rattle.f_grammar.specs.Reads.{type_of, Fails, Reads, ReadsParameter}
+use Rattle.f_grammar.specs.Machine.{table, Stack, Val, OfToken, OfType, LE, LT, LParam, fits, expr_after}
+use Rattle.f_grammar.specs.Read.{type_of}
+use Rattle.f_grammar.specs.Reads.{Fails, Reads, ReadsParameter}
 use Rattle.f_grammar.specs.declared.cursor.Wanted.TheVariants as want
 use Rattle.f_grammar.specs.declared.cursor.Stopped.{Stopped}
 use Rattle.f_grammar.specs.declared.cursor.Stopped.TheVariants.{TooDeep}
 use Rattle.f_grammar.specs.declared.params.FoundParameter.{FoundParameter}
-use Rattle.f_grammar.specs.declared.types.FoundType.{FoundType}
 use Rattle.f_grammar.proofs.Typing.{Moves, by_token, by_line, fails_deep, within}
-use Rattle.f_reader.specs.declared.heads.FoundHead.{FoundHead}
-use Rattle.f_reader.specs.Reads.{fix_body, gen_body, ReadsHead, ReadsGenHead}
+use Rattle.f_reader.specs.Reads.{fix_body, gen_body, ReadsGenHead}
 
 abbrev pub gen_owed : Stack
 gen_owed = Tm want.Name ∷ (Tm want.Dot ∷ gen_body)

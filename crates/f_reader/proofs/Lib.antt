@@ -1,3 +1,5 @@
-pub mod Fields
+pub mod Follows
 pub mod Heading
-pub mod Terming
+pub mod Keeping
+pub mod Reaching
+pub mod Steps

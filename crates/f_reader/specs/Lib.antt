@@ -1,2 +1,3 @@
-pub mod Kept
+pub mod Forest
+pub mod Frames
 pub mod Reads

@@ -1,26 +1,34 @@
--- What the reading functions of terms promise, by the table.
+-- What the reading of a term promises, by the table.
 use Rattle.std.specs.Prelude.{◌≡◌, ◌<◌, ◌≤◌, ◌+◌, ℕ, nat_abs, List, [], ◌∷◌, length, slice_get, Option, Some, None}
-use Rattle.idx_core.specs.declared.span.Span.{Span}
 use Rattle.idx_core.specs.declared.arith.Op.{Op}
 use Rattle.idx_core.specs.declared.arith.Op.TheVariants.{Add, Sub}
 use Rattle.f_lexer.specs.declared.token.Token.{Token}
 use Rattle.f_lexer.specs.declared.kind.Kind.{Kind}
 use Rattle.f_lexer.specs.declared.kind.Kind.TheVariants as k
-use Rattle.text_core.specs.Table.{Nt, Tm, Do, Mark}
+use Rattle.text_core.specs.Table.{Nt, Do, Mark}
 use Rattle.text_core.specs.Going.{Goes, next_of}
-use Rattle.text_core.specs.Going as going
-use Rattle.f_grammar.specs.Raw.{RawTm, Piece}
-use Rattle.f_grammar.specs.Machine.{table, Line, Stack, Val, OfToken, OfTerm, OfTerms, OfType, value_of, LE, LP, LFields, LBranches, MoreParts, MoreFactors, MoreSums, MoreFields, MakeFix, MakeGen}
-use Rattle.f_grammar.specs.Reads.{type_of}
+use Rattle.f_grammar.specs.Raw.{RawTm, Piece, place_of, nodes}
+use Rattle.f_grammar.specs.Machine.{table, Stack, OfToken, OfTerm, OfType, value_of, LE, MakeFix, MakeGen}
+use Rattle.f_grammar.specs.Read.{type_of}
+use Rattle.f_grammar.specs.Term.{tree_of}
 use Rattle.f_grammar.specs.declared.cursor.Wanted.TheVariants as want
-use Rattle.f_reader.specs.declared.kept.FoundTerm.{FoundTerm}
-use Rattle.f_reader.specs.declared.kept.KeptFields.{KeptFields}
+use Rattle.f_reader.specs.declared.part.Kept.{Kept}
+use Rattle.f_reader.specs.declared.part.Kept.TheVariants as kept
+use Rattle.f_reader.specs.declared.part.FoundTerm.{FoundTerm}
 use Rattle.f_reader.specs.declared.heads.FoundHead.{FoundHead}
 use Rattle.f_reader.specs.declared.heads.Argument.{Argument}
 use Rattle.f_reader.specs.declared.heads.Argument.TheVariants.{Part, Bracket}
-use Rattle.f_reader.specs.declared.terms.FoundFields.{FoundFields}
-use Rattle.f_reader.specs.declared.terms.FoundBranches.{FoundBranches}
-use Rattle.f_reader.specs.Kept.{Stands, KeepsFields}
+
+-- what is kept of the tree t
+abbrev pub Keeps : Kept → RawTm → Type 0
+Keeps (kept.Term e) t = (tree_of e ≡ t) × (nodes t ≤ 1000)
+Keeps (kept.TooMany s) t = (place_of t ≡ s) × (1000 < nodes t)
+
+-- from the first token on a term was read, up to a token
+pub record ReadsTerm (ts : List Token) (f : FoundTerm) : Type 0 where
+  pub piece : Piece
+  pub keeps : Keeps f.kept piece.tree
+  pub same : Goes table 200 ts 0 0 (Nt LE ∷ []) [] f.next [] (OfTerm piece ∷ [])
 
 -- what a token begins that may follow on a part: another part, or a type in brackets
 abbrev pub argument_of : Kind → Option Argument
@@ -47,53 +55,6 @@ abbrev pub sign_next : Option Token → Option Op
 sign_next None = None
 sign_next (Some c) = sign_of c.kind
 
--- what is owed before an application, a product, a sum
-abbrev pub calls_owed : Stack
-calls_owed = Nt LP ∷ (Nt MoreParts ∷ [])
-
-abbrev pub products_owed : Stack
-products_owed = Nt LP ∷ (Nt MoreParts ∷ (Nt MoreFactors ∷ []))
-
-abbrev pub sums_owed : Stack
-sums_owed = Nt LP ∷ (Nt MoreParts ∷ (Nt MoreFactors ∷ (Nt MoreSums ∷ [])))
-
--- from the token i what is owed was read, up to a token
-abbrev pub ReadsAt : List Token → ℕ → ℕ → Stack → ℕ → Stack → List Val → Type 0
-ReadsAt ts d i owed next left us = going.Reads table 200 ts d i owed [] next left us
-
--- a term was read, and `left` is still owed
-pub record ReadsTo (owed left : Stack) (ts : List Token) (d i : ℕ) (f : FoundTerm) : Type 0 where
-  pub piece : Piece
-  pub stands : Stands f piece
-  pub reads : ReadsAt ts d i owed f.next left (OfTerm piece ∷ [])
-
-abbrev pub ReadsTerm : Stack → List Token → ℕ → ℕ → FoundTerm → Type 0
-ReadsTerm owed ts d i f = ReadsTo owed [] ts d i f
-
--- some fields were read, and there may be more
-pub record ReadsSome (ts : List Token) (d i next : ℕ) (fields : KeptFields) : Type 0 where
-  pub trees : List RawTm
-  pub keeps : KeepsFields fields trees
-  pub reads : ReadsAt ts d i (Nt LFields ∷ []) next (Nt MoreFields ∷ (Tm want.RightAngle ∷ [])) (OfTerms trees ∷ [])
-
-pub record ReadsFields (ts : List Token) (d i : ℕ) (f : FoundFields) : Type 0 where
-  pub trees : List RawTm
-  pub keeps : KeepsFields f.fields trees
-  pub reads : ReadsAt ts d i (Nt LFields ∷ []) f.next [] (OfToken f.close ∷ (OfTerms trees ∷ []))
-
--- ( E , E , E )
-pub record ReadsBranches (ts : List Token) (d i : ℕ) (f : FoundBranches) : Type 0 where
-  pub a : Piece
-  pub b : Piece
-  pub c : Piece
-  pub first : Stands f.first a
-  pub second : Stands f.second b
-  pub third : Stands f.third c
-  pub left : Token
-  pub comma : Token
-  pub comma_again : Token
-  pub reads : ReadsAt ts d i (Nt LBranches ∷ []) f.next [] (OfToken f.close ∷ (OfTerm c ∷ (OfToken comma_again ∷ (OfTerm b ∷ (OfToken comma ∷ (OfTerm a ∷ (OfToken left ∷ [])))))))
-
 -- what is owed after the head of a function, and of a type abstraction
 abbrev pub fix_body : Stack
 fix_body = Nt LE ∷ (Mark ∷ (Do MakeFix ∷ []))
@@ -118,7 +79,8 @@ pub record ReadsHead (ts : List Token) (d i : ℕ) (f : FoundHead) : Type 0 wher
   pub forward : i < f.next
   pub in_range : f.next ≤ length ts
   pub same : Goes table 200 ts d i (Nt LE ∷ []) [] f.next fix_body
-      (OfToken dot ∷ (OfType (type_of f.head.gives) ∷ (OfToken colon_again ∷ (OfToken right ∷ (OfType (type_of f.head.takes) ∷ (OfToken colon ∷ (OfToken parameter ∷
+      (OfToken dot ∷ (OfType (type_of f.head.gives) ∷
+      (OfToken colon_again ∷ (OfToken right ∷ (OfType (type_of f.head.takes) ∷ (OfToken colon ∷ (OfToken parameter ∷
       (OfToken left ∷ (OfToken name ∷ (OfToken word ∷ []))))))))))
 
 -- gen name .
@@ -129,7 +91,7 @@ pub record ReadsGenHead (ts : List Token) (d i : ℕ) (word : Token) (name : Tok
   pub same : Goes table 200 ts d i (Nt LE ∷ []) [] (i + 3) gen_body (OfToken dot ∷ (OfToken name ∷ (OfToken word ∷ [])))
 
 -- a plain number of this value stands there
-pub record IsNumber (ts : List Token) (i n : ℕ) : Type 0 where
+pub record IsFieldNumber (ts : List Token) (i n : ℕ) : Type 0 where
   pub token : Token
   pub is : next_of table want.Number (slice_get ts i) ≡ Some token
   pub value : n ≡ nat_abs (value_of token.kind)

@@ -6,9 +6,9 @@ ghost use Rattle.f_grammar.specs.Machine.{LE, table};
 ghost use Rattle.f_grammar.specs.Reads.{Fails};
 ghost use Rattle.f_grammar.specs.declared.cursor.Stopped.TheVariants as stopped;
 ghost use Rattle.f_grammar.specs.declared.cursor.Wanted.TheVariants as want;
-ghost use Rattle.f_reader.specs.Reads.{argument_next, sign_next, IsNumber, ReadsHead, ReadsGenHead};
+ghost use Rattle.f_reader.specs.Reads.{argument_next, sign_next, IsFieldNumber, ReadsHead, ReadsGenHead};
 
-use crate::kept::Head;
+use crate::frame::Head;
 use f_grammar::{Stopped, Wanted, expect, opened, parameter, peek, take, whole_type};
 use f_lexer::{Kind, Token};
 use idx_core::Op;
@@ -16,20 +16,20 @@ use std::alloc::Global;
 
 /// What may follow on a part in an application.
 #[derive(Clone, Copy, Debug, PartialEq, Eq)]
-pub enum Argument {
+pub(crate) enum Argument {
     Part,
     Bracket,
 }
 
 /// The head of a function that was read, and the number of the token after it.
 #[derive(Drop)]
-pub struct FoundHead {
+pub(crate) struct FoundHead {
     pub head: Head,
     pub next: usize,
 }
 
 /// What the next token begins, if it goes on with an application.
-pub fn next_argument(tokens: &[Token], at: usize) -> Option<Argument>
+pub(crate) fn next_argument(tokens: &[Token], at: usize) -> Option<Argument>
     ensures { result ≡ argument_next (slice_get tokens.now at) }
 {
     match peek(tokens, at)?.kind {
@@ -46,7 +46,7 @@ pub fn next_argument(tokens: &[Token], at: usize) -> Option<Argument>
 }
 
 /// The operator that the next token is, if it is `+` or `-`.
-pub fn next_sign(tokens: &[Token], at: usize) -> Option<Op>
+pub(crate) fn next_sign(tokens: &[Token], at: usize) -> Option<Op>
     ensures { result ≡ sign_next (slice_get tokens.now at) }
 {
     match peek(tokens, at)?.kind {
@@ -57,8 +57,8 @@ pub fn next_sign(tokens: &[Token], at: usize) -> Option<Op>
 }
 
 /// The value of the plain number that the next token must be.
-pub fn field_number(tokens: &[Token], at: usize) -> Result<u64, Stopped>
-    ensures { MatchResult result (λ n. IsNumber tokens.now at n)
+pub(crate) fn field_number(tokens: &[Token], at: usize) -> Result<u64, Stopped>
+    ensures { MatchResult result (λ n. IsFieldNumber tokens.now at n)
         (λ e. (e ≡ stopped.Unexpected at) × (next_of table want.Number (slice_get tokens.now at) ≡ None)) }
 {
     match expect(tokens, at, Wanted::Number)?.kind {
@@ -68,7 +68,7 @@ pub fn field_number(tokens: &[Token], at: usize) -> Result<u64, Stopped>
 }
 
 /// fix name ( name : T ) : T .
-pub fn function_head(
+pub(crate) fn function_head(
     alloc: Global,
     tokens: &[Token],
     at: usize,
@@ -78,7 +78,8 @@ pub fn function_head(
     requires depth { depth ≤ 200 }
     requires at { at ≤ length tokens.now }
     requires word { next_of table want.Fix (slice_get tokens.now at) ≡ Some word }
-    ensures { MatchResult result (λ f. ReadsHead tokens.now depth at f) (λ e. Fails tokens.now depth at (Nt LE ∷ []) [] e) }
+    ensures { MatchResult result (λ f. ReadsHead tokens.now depth at f)
+        (λ e. Fails tokens.now depth at (Nt LE ∷ []) [] e) }
 {
     let inner = opened(at, depth)?;
     let name = expect(tokens, at + 1, Wanted::Name)?;
@@ -100,11 +101,17 @@ pub fn function_head(
 }
 
 /// The name of gen name . where the word stands at `at`.
-pub fn gen_head(tokens: &[Token], at: usize, depth: u64, word: Token) -> Result<Token, Stopped>
+pub(crate) fn gen_head(
+    tokens: &[Token],
+    at: usize,
+    depth: u64,
+    word: Token,
+) -> Result<Token, Stopped>
     requires depth { depth ≤ 200 }
     requires at { at ≤ length tokens.now }
     requires word { next_of table want.Gen (slice_get tokens.now at) ≡ Some word }
-    ensures { MatchResult result (λ name. ReadsGenHead tokens.now depth at word name) (λ e. Fails tokens.now depth at (Nt LE ∷ []) [] e) }
+    ensures { MatchResult result (λ name. ReadsGenHead tokens.now depth at word name)
+        (λ e. Fails tokens.now depth at (Nt LE ∷ []) [] e) }
 {
     opened(at, depth)?;
     let name = expect(tokens, at + 1, Wanted::Name)?;

@@ -1,9 +1,15 @@
 //! The reading of terms of the source, names left aside.
 #![tactic(auto)]
 
-pub mod heads;
-pub mod kept;
-pub mod terms;
+mod begin;
+mod forest;
+mod frame;
+mod heads;
+mod part;
+mod put;
+mod reader;
+mod resume;
 
-pub use kept::{FoundTerm, Kept};
-pub use terms::whole_term;
+pub use forest::NODES;
+pub use part::{FoundTerm, Kept};
+pub use reader::whole_term;

@@ -12,10 +12,12 @@ abbrev mutual
   pub Passes : Tm → ℕ → Tys → Ty → Type 0
   Passes (SVar s i) n g t = ty_at g i ≡ Some t
   Passes (SNum s i) n g t = t ≡ TInt
-  Passes (SFix s arg res e) n g t = (t ≡ TArrow arg res) × Below n arg × Below n res × Within (TArrow arg res) × Passes e n (in_fix arg res g) res
+  Passes (SFix s arg res e) n g t =
+      (t ≡ TArrow arg res) × Below n arg × Below n res × Within (TArrow arg res) × Passes e n (in_fix arg res g) res
   Passes (SApp s f x) n g t = (u : Ty) × Passes f n g (TArrow u t) × Passes x n g u
   Passes (SGen s e) n g t = (u : Ty) × (t ≡ TAll u) × Passes e (n + 1) (raised g) u × Within (TAll u)
-  Passes (SInst s e a) n g t = (b : Ty) × (t ≡ put 0 a b) × Below n a × Passes e n g (TAll b) × Within a × Within (put 0 a b)
+  Passes (SInst s e a) n g t = (b : Ty) × (t ≡ put 0 a b) × Below n a × Passes e n g (TAll b) × Within a
+      × Within (put 0 a b)
   Passes (STuple s es) n g t = (ts : Tys) × (t ≡ TTuple ts) × PassAll es n g ts × Within (TTuple ts)
   Passes (SProj s i e) n g t = (ts : Tys) × (field_ty ts i ≡ Some t) × Passes e n g (TTuple ts)
   Passes (SArith s op a b) n g t = (t ≡ TInt) × Passes a n g TInt × Passes b n g TInt
@@ -86,22 +88,27 @@ abbrev mutual
   Fault (SVar s i) n g = nothing
   Fault (SNum s i) n g = nothing
   Fault (SFix s arg res e) n g =
-      limits (TArrow arg res) s (part (Fault e n (in_fix arg res g)) (Passes e n (in_fix arg res g)) (λ t. check (t ≡ res) (refuse E14 (span_of e)) nothing))
+      limits (TArrow arg res) s (part (Fault e n (in_fix arg res g)) (Passes e n (in_fix arg res g))
+      (λ t. check (t ≡ res) (refuse E14 (span_of e)) nothing))
   Fault (SApp s f x) n g =
       part (Fault f n g) (Passes f n g) (λ t. if_arrow t (refuse E07 (span_of f)) (λ a b.
       part (Fault x n g) (Passes x n g) (λ u. check (u ≡ a) (refuse E08 (span_of x)) nothing)))
-  Fault (SGen s e) n g = part (Fault e (n + 1) (raised g)) (Passes e (n + 1) (raised g)) (λ t. limits (TAll t) s nothing)
+  Fault (SGen s e) n g = part (Fault e (n + 1) (raised g)) (Passes e (n + 1) (raised g))
+      (λ t. limits (TAll t) s nothing)
   Fault (SInst s e a) n g =
-      part (Fault e n g) (Passes e n g) (λ t. if_all t (refuse E09 (span_of e)) (λ b. limits a s (limits (put 0 a b) s nothing)))
+      part (Fault e n g) (Passes e n g)
+      (λ t. if_all t (refuse E09 (span_of e)) (λ b. limits a s (limits (put 0 a b) s nothing)))
   Fault (STuple s es) n g = part (FaultAll es n g) (PassAll es n g) (λ ts. limits (TTuple ts) s nothing)
   Fault (SProj s i e) n g =
-      part (Fault e n g) (Passes e n g) (λ t. if_tuple t (refuse E10 (span_of e)) (λ ts. if_none (field_ty ts i) (refuse E11 s)))
+      part (Fault e n g) (Passes e n g)
+      (λ t. if_tuple t (refuse E10 (span_of e)) (λ ts. if_none (field_ty ts i) (refuse E11 s)))
   Fault (SArith s op a b) n g =
       part (Fault a n g) (Passes a n g) (λ t. check (t ≡ TInt) (refuse E12 (span_of a))
       (part (Fault b n g) (Passes b n g) (λ u. check (u ≡ TInt) (refuse E12 (span_of b)) nothing)))
   Fault (SIf0 s c a b) n g =
       part (Fault c n g) (Passes c n g) (λ t. check (t ≡ TInt) (refuse E12 (span_of c))
-      (part (Fault a n g) (Passes a n g) (λ u. part (Fault b n g) (Passes b n g) (λ v. check (v ≡ u) (refuse E13 (span_of b)) nothing))))
+      (part (Fault a n g) (Passes a n g)
+      (λ u. part (Fault b n g) (Passes b n g) (λ v. check (v ≡ u) (refuse E13 (span_of b)) nothing))))
 
   pub FaultAll : Tms → ℕ → Tys → Refusal
   FaultAll NoTms n g = nothing

@@ -29,7 +29,8 @@ AllWithin (MoreTys t g) = Within t × AllWithin g
 
 -- every check holds exactly where the term has the type and the limits are kept
 abbrev pub PassesWhereTyped : Type 0
-PassesWhereTyped = (e : Tm) (n : ℕ) (g : Tys) (t : Ty) → AllWithin g → (Passes e n g t ↔ HasType (plain e) n g t × KeepsLimits (plain e) n g)
+PassesWhereTyped = (e : Tm) (n : ℕ) (g : Tys) (t : Ty) → AllWithin g →
+    (Passes e n g t ↔ HasType (plain e) n g t × KeepsLimits (plain e) n g)
 
 -- what passes has no first fault
 abbrev pub NoFaultBesideAPass : Type 0
@@ -37,7 +38,8 @@ NoFaultBesideAPass = (e : Tm) (n : ℕ) (g : Tys) (t : Ty) (c : Code) (p : Spn) 
 
 -- a closed term passes every check, or has a first fault
 abbrev pub PassOrFault : Type 0
-PassOrFault = (e : Tm) → IsClosed (plain e) → ((t : Ty) × Passes e 0 NoTys t) ⊎ ((c : Code) × (p : Spn) × Fault e 0 NoTys c p)
+PassOrFault = (e : Tm) → IsClosed (plain e) →
+    ((t : Ty) × Passes e 0 NoTys t) ⊎ ((c : Code) × (p : Spn) × Fault e 0 NoTys c p)
 
 -- two first faults are equal, in code and place
 abbrev pub OneFault : Type 0
@@ -49,7 +51,8 @@ KeepsRules = (n : ℕ) (env : Vals) (e : Term) → eval n env e ≡ eval_by turn
 
 -- more turns: the same value, and so many more turns left
 abbrev pub MoreTurnsKeepTheValue : Type 0
-MoreTurnsKeepTheValue = (n more left : ℕ) (env : Vals) (e : Term) (v : Val) → eval n env e ≡ Gives v left → eval (n + more) env e ≡ Gives v (left + more)
+MoreTurnsKeepTheValue = (n more left : ℕ) (env : Vals) (e : Term) (v : Val) → eval n env e ≡ Gives v left →
+    eval (n + more) env e ≡ Gives v (left + more)
 
 -- no more turns are left than were allowed
 abbrev pub LeavesAtMost : Type 0

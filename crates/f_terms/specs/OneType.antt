@@ -26,13 +26,15 @@ mutual
   one (MGen e) n g t u h k = h.1 ∙ ap TAll (one e (n + 1) (raised g) h.0 k.0 h.2 k.2) ∙ sym k.1
   one (MInst e s) n g t u h k = h.1 ∙ ap (put 0 s) (body_is (one e n g (TAll h.0) (TAll k.0) h.3 k.3)) ∙ sym k.1
   one (MTuple es) n g t u h k = h.1 ∙ ap TTuple (one_list es n g h.0 k.0 h.2 k.2) ∙ sym k.1
-  one (MProj i e) n g t u h k = some_is (sym h.1 ∙ ap (λ ts. field_ty ts i) (fields_are (one e n g (TTuple h.0) (TTuple k.0) h.2 k.2)) ∙ k.1)
+  one (MProj i e) n g t u h k = some_is
+      (sym h.1 ∙ ap (λ ts. field_ty ts i) (fields_are (one e n g (TTuple h.0) (TTuple k.0) h.2 k.2)) ∙ k.1)
   one (MArith op a b) n g t u h k = h.0 ∙ sym k.0
   one (MIf0 c a b) n g t u h k = one a n g t u h.1 k.1
 
   pub one_list : (es : Terms) (n : ℕ) (g t u : Tys) → HaveTypes es n g t → HaveTypes es n g u → t ≡ u
   one_list NoTerms n g t u h k = h ∙ sym k
-  one_list (MoreTerms e es) n g t u h k = h.2 ∙ ap₂ MoreTys (one e n g h.0 k.0 h.3 k.3) (one_list es n g h.1 k.1 h.4 k.4) ∙ sym k.2
+  one_list (MoreTerms e es) n g t u h k =
+      h.2 ∙ ap₂ MoreTys (one e n g h.0 k.0 h.3 k.3) (one_list es n g h.1 k.1 h.4 k.4) ∙ sym k.2
 
 pub one_type : OneType
 one_type e n g t u h k = one e n g t u h k

@@ -72,18 +72,33 @@ maybe_set : IsSet (Option Ty)
 maybe_set = hlevel (props, type_set)
 
 -- tuples whose first part is determined by the others
-unique₃ : {A : Type 0} {B C : A → Type 0} → ((a : A) → IsProp (B a)) → ((a : A) → IsProp (C a)) → ((a b : A) → B a → C a → B b → C b → a ≡ b) → IsProp ((a : A) × B a × C a)
+unique₃ : {A : Type 0} {B C : A → Type 0} → ((a : A) → IsProp (B a)) → ((a : A) → IsProp (C a)) →
+    ((a b : A) → B a → C a → B b → C b → a ≡ b) → IsProp ((a : A) × B a × C a)
 unique₃ {B = B} {C = C} p q one u v =
     let e = one u.0 v.0 u.1 u.2 v.1 v.2 in
-    λ i. (e i, is_prop→PathP (λ j. B (e j)) (λ j. p (e j)) u.1 v.1 i, is_prop→PathP (λ j. C (e j)) (λ j. q (e j)) u.2 v.2 i)
+    λ i. (
+      e i,
+      is_prop→PathP (λ j. B (e j)) (λ j. p (e j)) u.1 v.1 i,
+      is_prop→PathP (λ j. C (e j))
+          (λ j. q (e j)) u.2 v.2 i,
+    )
 
-unique₄ : {A : Type 0} {B C D : A → Type 0} → ((a : A) → IsProp (B a)) → ((a : A) → IsProp (C a)) → ((a : A) → IsProp (D a)) → ((a b : A) → B a → C a → D a → B b → C b → D b → a ≡ b) → IsProp ((a : A) × B a × C a × D a)
+unique₄ : {A : Type 0} {B C D : A → Type 0} → ((a : A) → IsProp (B a)) → ((a : A) → IsProp (C a)) →
+    ((a : A) → IsProp (D a)) → ((a b : A) → B a → C a → D a → B b → C b → D b → a ≡ b) →
+    IsProp ((a : A) × B a × C a × D a)
 unique₄ {B = B} {C = C} {D = D} p q r one u v =
     let e = one u.0 v.0 u.1 u.2 u.3 v.1 v.2 v.3 in
-    λ i. (e i, is_prop→PathP (λ j. B (e j)) (λ j. p (e j)) u.1 v.1 i, is_prop→PathP (λ j. C (e j)) (λ j. q (e j)) u.2 v.2 i, is_prop→PathP (λ j. D (e j)) (λ j. r (e j)) u.3 v.3 i)
+    λ i. (
+      e i,
+      is_prop→PathP (λ j. B (e j)) (λ j. p (e j)) u.1 v.1 i,
+      is_prop→PathP (λ j. C (e j))
+          (λ j. q (e j)) u.2 v.2 i,
+      is_prop→PathP (λ j. D (e j)) (λ j. r (e j)) u.3 v.3 i,
+    )
 
 -- a field and the fields after it
-fields_prop : {ts : Tys} {P : Ty → Type 0} {Q : Tys → Type 0} → ((t : Ty) → IsProp (P t)) → ((us : Tys) → IsProp (Q us)) → IsProp ((t : Ty) × (us : Tys) × (ts ≡ MoreTys t us) × P t × Q us)
+fields_prop : {ts : Tys} {P : Ty → Type 0} {Q : Tys → Type 0} → ((t : Ty) → IsProp (P t)) →
+    ((us : Tys) → IsProp (Q us)) → IsProp ((t : Ty) × (us : Tys) × (ts ≡ MoreTys t us) × P t × Q us)
 fields_prop {ts = ts} {P = P} {Q = Q} p q u v =
     let e = more_is (sym u.2 ∙ v.2) in
     λ i. (
@@ -114,17 +129,20 @@ mutual
   pub has_type_prop : (e : Term) (n : ℕ) (g : Tys) (t : Ty) → IsProp (HasType e n g t)
   has_type_prop (MVar i) n g t = maybe_set (ty_at g i) (Some t)
   has_type_prop (MNum i) n g t = type_set t TInt
-  has_type_prop (MFix arg res e) n g t = hlevel (type_set, below_prop n arg, below_prop n res, has_type_prop e n (in_fix arg res g) res)
+  has_type_prop (MFix arg res e) n g t =
+      hlevel (type_set, below_prop n arg, below_prop n res, has_type_prop e n (in_fix arg res g) res)
   has_type_prop (MApp f x) n g t =
       unique₃ (λ s. has_type_prop f n g (TArrow s t)) (λ s. has_type_prop x n g s)
       (λ s u h k h' k'. (arrow_is (one_type f n g (TArrow s t) (TArrow u t) h h')).0)
   has_type_prop (MGen e) n g t =
-      unique₃ (λ s. type_set t (TAll s)) (λ s. has_type_prop e (n + 1) (raised g) s) (λ s u h k h' k'. all_is (sym h ∙ h'))
+      unique₃ (λ s. type_set t (TAll s)) (λ s. has_type_prop e (n + 1) (raised g) s)
+      (λ s u h k h' k'. all_is (sym h ∙ h'))
   has_type_prop (MInst e s) n g t =
       unique₄ (λ b. type_set t (put 0 s b)) (λ b. below_prop n s) (λ b. has_type_prop e n g (TAll b))
       (λ a b h k l h' k' l'. all_is (one_type e n g (TAll a) (TAll b) l l'))
   has_type_prop (MTuple es) n g t =
-      unique₃ (λ ts. type_set t (TTuple ts)) (λ ts. have_types_prop es n g ts) (λ ts us h k h' k'. tuple_is (sym h ∙ h'))
+      unique₃ (λ ts. type_set t (TTuple ts)) (λ ts. have_types_prop es n g ts)
+      (λ ts us h k h' k'. tuple_is (sym h ∙ h'))
   has_type_prop (MProj i e) n g t =
       unique₃ (λ ts. maybe_set (field_ty ts i) (Some t)) (λ ts. has_type_prop e n g (TTuple ts))
       (λ ts us h k h' k'. tuple_is (one_type e n g (TTuple ts) (TTuple us) k k'))
@@ -155,7 +173,8 @@ mutual
   keeps_prop (MTuple es) n g = hlevel (type_within_prop (MTuple es) n g, all_keep_prop es n g)
   keeps_prop (MProj i e) n g = hlevel (type_within_prop (MProj i e) n g, keeps_prop e n g)
   keeps_prop (MArith op a b) n g = hlevel (type_within_prop (MArith op a b) n g, keeps_prop a n g, keeps_prop b n g)
-  keeps_prop (MIf0 c a b) n g = hlevel (type_within_prop (MIf0 c a b) n g, keeps_prop c n g, keeps_prop a n g, keeps_prop b n g)
+  keeps_prop (MIf0 c a b) n g = hlevel
+      (type_within_prop (MIf0 c a b) n g, keeps_prop c n g, keeps_prop a n g, keeps_prop b n g)
 
   all_keep_prop : (es : Terms) (n : ℕ) (g : Tys) → IsProp (AllKeepLimits es n g)
   all_keep_prop NoTerms n g = hlevel

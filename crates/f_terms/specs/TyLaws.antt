@@ -17,14 +17,16 @@ mutual
   keeps_all f a h (MoreTys t ts) = ap₂ MoreTys (keeps f a h t) (keeps_all f a h ts)
 
 mutual
-  after : (f g h : At Ty) (a b c : ℕ) → ((e i : ℕ) → over g (deep b e) (f (deep a e) i) ≡ h (deep c e) i) → (t : Ty) → over g b (over f a t) ≡ over h c t
+  after : (f g h : At Ty) (a b c : ℕ) → ((e i : ℕ) → over g (deep b e) (f (deep a e) i) ≡ h (deep c e) i) → (t : Ty) →
+      over g b (over f a t) ≡ over h c t
   after f g h a b c k TInt = refl
   after f g h a b c k (TVar i) = k 0 i
   after f g h a b c k (TArrow x y) = ap₂ TArrow (after f g h a b c k x) (after f g h a b c k y)
   after f g h a b c k (TAll t) = ap TAll (after f g h (a + 1) (b + 1) (c + 1) (λ e. k (suc e)) t)
   after f g h a b c k (TTuple ts) = ap TTuple (after_all f g h a b c k ts)
 
-  after_all : (f g h : At Ty) (a b c : ℕ) → ((e i : ℕ) → over g (deep b e) (f (deep a e) i) ≡ h (deep c e) i) → (ts : Tys) → over_all g b (over_all f a ts) ≡ over_all h c ts
+  after_all : (f g h : At Ty) (a b c : ℕ) → ((e i : ℕ) → over g (deep b e) (f (deep a e) i) ≡ h (deep c e) i) →
+      (ts : Tys) → over_all g b (over_all f a ts) ≡ over_all h c ts
   after_all f g h a b c k NoTys = refl
   after_all f g h a b c k (MoreTys t ts) = ap₂ MoreTys (after f g h a b c k t) (after_all f g h a b c k ts)
 
@@ -41,26 +43,35 @@ pub type_lists_over : IsOver Ty Tys TVar over over_all
 type_lists_over = record { keeps = keeps_all; after = after_all }
 
 mutual
-  agree : (V : ℕ → ℕ → Type 0) (B : ℕ → Type 0) (f g : At Ty) (a b n : ℕ) → ((e i : ℕ) → V (deep n e) i → f (deep a e) i ≡ g (deep b e) i) → (t : Ty) → each V B n t → over f a t ≡ over g b t
+  agree : (V : ℕ → ℕ → Type 0) (B : ℕ → Type 0) (f g : At Ty) (a b n : ℕ) →
+      ((e i : ℕ) → V (deep n e) i → f (deep a e) i ≡ g (deep b e) i) → (t : Ty) → each V B n t → over f a t ≡ over g b t
   agree V B f g a b n k TInt u = refl
   agree V B f g a b n k (TVar i) u = k 0 i u
   agree V B f g a b n k (TArrow x y) u = ap₂ TArrow (agree V B f g a b n k x u.0) (agree V B f g a b n k y u.1)
   agree V B f g a b n k (TAll t) u = ap TAll (agree V B f g (a + 1) (b + 1) (n + 1) (λ e. k (suc e)) t u.1)
   agree V B f g a b n k (TTuple ts) u = ap TTuple (agree_all V B f g a b n k ts u)
 
-  agree_all : (V : ℕ → ℕ → Type 0) (B : ℕ → Type 0) (f g : At Ty) (a b n : ℕ) → ((e i : ℕ) → V (deep n e) i → f (deep a e) i ≡ g (deep b e) i) → (ts : Tys) → each_all V B n ts → over_all f a ts ≡ over_all g b ts
+  agree_all : (V : ℕ → ℕ → Type 0) (B : ℕ → Type 0) (f g : At Ty) (a b n : ℕ) →
+      ((e i : ℕ) → V (deep n e) i → f (deep a e) i ≡ g (deep b e) i) → (ts : Tys) → each_all V B n ts →
+      over_all f a ts ≡ over_all g b ts
   agree_all V B f g a b n k NoTys u = refl
-  agree_all V B f g a b n k (MoreTys t ts) u = ap₂ MoreTys (agree V B f g a b n k t u.0) (agree_all V B f g a b n k ts u.1)
+  agree_all V B f g a b n k (MoreTys t ts) u =
+      ap₂ MoreTys (agree V B f g a b n k t u.0) (agree_all V B f g a b n k ts u.1)
 
 mutual
-  made : (V W : ℕ → ℕ → Type 0) (B C : ℕ → Type 0) (f : At Ty) (a n m : ℕ) → ((e i : ℕ) → V (deep n e) i → each W C (deep m e) (f (deep a e) i)) → ((e : ℕ) → B (deep n e) → C (deep m e)) → (t : Ty) → each V B n t → each W C m (over f a t)
+  made : (V W : ℕ → ℕ → Type 0) (B C : ℕ → Type 0) (f : At Ty) (a n m : ℕ) →
+      ((e i : ℕ) → V (deep n e) i → each W C (deep m e) (f (deep a e) i)) → ((e : ℕ) → B (deep n e) → C (deep m e)) →
+      (t : Ty) → each V B n t → each W C m (over f a t)
   made V W B C f a n m k l TInt u = tt
   made V W B C f a n m k l (TVar i) u = k 0 i u
   made V W B C f a n m k l (TArrow x y) u = (made V W B C f a n m k l x u.0, made V W B C f a n m k l y u.1)
-  made V W B C f a n m k l (TAll t) u = (l 1 u.0, made V W B C f (a + 1) (n + 1) (m + 1) (λ e. k (suc e)) (λ e. l (suc e)) t u.1)
+  made V W B C f a n m k l (TAll t) u =
+      (l 1 u.0, made V W B C f (a + 1) (n + 1) (m + 1) (λ e. k (suc e)) (λ e. l (suc e)) t u.1)
   made V W B C f a n m k l (TTuple ts) u = made_all V W B C f a n m k l ts u
 
-  made_all : (V W : ℕ → ℕ → Type 0) (B C : ℕ → Type 0) (f : At Ty) (a n m : ℕ) → ((e i : ℕ) → V (deep n e) i → each W C (deep m e) (f (deep a e) i)) → ((e : ℕ) → B (deep n e) → C (deep m e)) → (ts : Tys) → each_all V B n ts → each_all W C m (over_all f a ts)
+  made_all : (V W : ℕ → ℕ → Type 0) (B C : ℕ → Type 0) (f : At Ty) (a n m : ℕ) →
+      ((e i : ℕ) → V (deep n e) i → each W C (deep m e) (f (deep a e) i)) → ((e : ℕ) → B (deep n e) → C (deep m e)) →
+      (ts : Tys) → each_all V B n ts → each_all W C m (over_all f a ts)
   made_all V W B C f a n m k l NoTys u = tt
   made_all V W B C f a n m k l (MoreTys t ts) u = (made V W B C f a n m k l t u.0, made_all V W B C f a n m k l ts u.1)
 

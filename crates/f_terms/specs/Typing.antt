@@ -40,7 +40,8 @@ abbrev mutual
 
   pub HaveTypes : Terms → ℕ → Tys → Tys → Type 0
   HaveTypes NoTerms n g ts = ts ≡ NoTys
-  HaveTypes (MoreTerms e es) n g ts = (t : Ty) × (us : Tys) × (ts ≡ MoreTys t us) × HasType e n g t × HaveTypes es n g us
+  HaveTypes (MoreTerms e es) n g ts =
+      (t : Ty) × (us : Tys) × (ts ≡ MoreTys t us) × HasType e n g t × HaveTypes es n g us
 
 -- a term with no names around it has the type t
 abbrev pub IsTyped : Term → Ty → Type 0

@@ -13,7 +13,8 @@ use crate::types::FType;
 pub fn typed_node<'a>(term: &'a FTerm, types: &'a [FType], i: u64) -> (&'a FNode, &'a FType)
     requires inside { i < count term.now }
     requires table { i < length types.now }
-    ensures tree { noted_at term.now types.now i ≡ noted_node (noted_at term.now types.now) (result.0.now, result.1.now) }
+    ensures tree { noted_at term.now types.now i ≡
+        noted_node (noted_at term.now types.now) (result.0.now, result.1.now) }
     ensures before { All (λ k. k < i) (kids result.0.now) }
 {
     (&term.nodes[i as usize], &types[i as usize])

@@ -98,7 +98,8 @@ fn write_type(text: &mut Vec<u8>, t: &FType, depth: u64) -> Result<(), OutOfMemo
     }
 }
 
-/// The text of a closed type (own choice): the variable of an `all` inside d others is named `t` and d; the left side of
+/// The text of a closed type (own choice): the variable of an `all` inside d others is named `t` and d; the left side
+/// of
 /// an arrow is in parentheses where it is an arrow or an `all`, and nothing else is. Answers want of memory alone.
 pub fn type_text(alloc: Global, t: &FType) -> Result<Vec<u8>, OutOfMemory>
     requires { Closed (tree t.now) }

@@ -1,4 +1,5 @@
 use Rattle.std.proofs.Common.{arith}
+use Rattle.std.proofs.lemmas.Result.{err_from_is_err_and}
 use Rattle.f_terms.specs.Ty.{TArrow}
 use Rattle.f_terms.specs.Tm.{SFix}
 use Rattle.f_terms.specs.Read.{tree, place}
@@ -13,23 +14,25 @@ use Rattle.f_check.specs.declared.frame.Frame.TheVariants as C
 use Rattle.f_terms.specs.declared.node.FShape.TheVariants as S
 use Rattle.f_check.proofs.begin.begin_fix.Goals as goal
 
-pub returns-in-Err-clause-goes : goal.returns-in-Err-clause-goes
-returns-in-Err-clause-goes c =
+pub returns-in_err-limit-clause-goes : goal.returns-in_err-limit-clause-goes
+returns-in_err-limit-clause-goes c =
+    let q = err_from_is_err_and c.from_residual.result c.from_residual.ensures.1 in
     let f = c.args.term.now in
+    let e = c.in_err-limit.field-0.0 in
     let a = tree c.args.arg.now in
     let r = tree c.args.res.now in
     let w = now c.args.state.now (SFix (place c.args.span) a r (node_at f c.args.body)) in
-    fails f c.args.state.now w c.requires.opens.1 c.in-Err.e
-    (says_map c.in-Err.e _ (FaultOf w)
+    rw (q.1, q.2) (fails f c.args.state.now w c.requires.opens.1 e
+    (says_map e _ (FaultOf w)
     (λ d p h. fix_limit w.around (context w) (place c.args.span) a r (node_at f c.args.body) d p
     (limits_of (TArrow a r) _ _ (place c.args.span) (omega (arith, c.saturating_add-deep.ensures, c.max.ensures, c.depth.ensures, c.depth-2.ensures)) (omega (arith, c.saturating_add-wide.ensures, c.saturating_add.ensures, c.size.ensures, c.size-2.ensures)) d p h))
-    c.in-Err.ensures.fault)
+    c.in_err-limit.ensures.fault))
 
 pub enter-requires : goal.enter-requires
 enter-requires c =
-    let w = within (TArrow (tree c.args.arg.now) (tree c.args.res.now)) _ _ (omega (arith, c.saturating_add-deep.ensures, c.max.ensures, c.depth.ensures, c.depth-2.ensures)) (omega (arith, c.saturating_add-wide.ensures, c.saturating_add.ensures, c.size.ensures, c.size-2.ensures)) c.in-Ok.ensures.ok in
-    fix_enters c.args.term.now c.args.state.now c.args.span c.args.arg c.args.res c.args.body c.push.new.scope c.requires.opens c.requires.inside w c.in-Ok-push.ensures
+    let w = within (TArrow (tree c.args.arg.now) (tree c.args.res.now)) _ _ (omega (arith, c.saturating_add-deep.ensures, c.max.ensures, c.depth.ensures, c.depth-2.ensures)) (omega (arith, c.saturating_add-wide.ensures, c.saturating_add.ensures, c.size.ensures, c.size-2.ensures)) c.in_ok-limit.ensures.ok in
+    fix_enters c.args.term.now c.args.state.now c.args.span c.args.arg c.args.res c.args.body c.push.new.scope c.requires.opens c.requires.inside w c.in_ok-push.ensures
 
-pub returns-in-Ok-push-clause-frames : goal.returns-in-Ok-push-clause-frames
-returns-in-Ok-push-clause-frames c =
+pub returns-clause-frames : goal.returns-clause-frames
+returns-clause-frames c =
     begun _ (S.Fix c.args.arg.now c.args.res.now c.args.body) _ _ (C.Fix c.args.span c.args.arg c.args.res) c.args.body c.enter.ensures.frames (c.args.body, c.args.arg.now, c.args.res.now, refl, refl, refl) refl

@@ -12,8 +12,8 @@ returns-then-not-eq-clause-goes c = fix_refused c.args.term.now c.args.state.now
 pub shift_arrow-requires : goal.shift_arrow-requires
 shift_arrow-requires c = record { fits = fix_ready c.args.term.now c.args.state.now c.args.ty c.args.found c.args.span c.args.arg c.args.res c.requires }
 
-pub returns-in-Ok-clause-goes : goal.returns-in-Ok-clause-goes
-returns-in-Ok-clause-goes c = fix_given c.args.term.now c.args.state.now c.args.ty c.args.found c.args.span c.args.arg c.args.res c.requires c.leave.new.scope c.in-Ok.ty c.leave.ensures (c.if-not-eq.ensures.0 refl) (c.in-Ok.ensures ∙ shift_none (TArrow (tree c.args.arg.now) (tree c.args.res.now)))
+pub returns-clause-goes : goal.returns-clause-goes
+returns-clause-goes c = fix_given c.args.term.now c.args.state.now c.args.ty c.args.found c.args.span c.args.arg c.args.res c.requires c.leave.new.scope c.in_ok-ty.ty c.leave.ensures (c.if-not-eq.ensures.0 refl) (c.in_ok-ty.ensures ∙ shift_none (TArrow (tree c.args.arg.now) (tree c.args.res.now)))
 
 pub returns-then-not-eq-clause-frames : goal.returns-then-not-eq-clause-frames
 returns-then-not-eq-clause-frames c = gone _ _ _ c.refused.ensures

@@ -2,7 +2,7 @@ use Rattle.std.proofs.Common.{[], ◌∷◌, ◌+◌, arith}
 use Rattle.std.proofs.lemmas.Result.{err_from_is_err_and}
 use Rattle.text_core.specs.Table.{Nt, Tm, Mark}
 use Rattle.f_grammar.specs.Machine.{LT}
-use Rattle.f_grammar.specs.Reads.{type_of}
+use Rattle.f_grammar.specs.Read.{type_of}
 use Rattle.f_grammar.specs.declared.cursor.Wanted.TheVariants as want
 use Rattle.f_grammar.proofs.Typing.{within, fails_after, fails_call, fails_expect, no_param, deep_param, param_1, param_2, param_3, param_4, param_whole}
 use Rattle.f_grammar.proofs.params.parameter.Goals as goal

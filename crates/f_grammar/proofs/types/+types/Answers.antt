@@ -5,7 +5,7 @@ use Rattle.f_grammar.specs.declared.cursor.Wanted.TheVariants as want
 use Rattle.f_grammar.specs.Machine.{table, LT, LU, LTypes, MoreArrow, MoreTypes, OfToken, OfType, TypeParen, TypeTuple, TypeAll, TypeArrow, TypeNext, unit_after, type_after, arrow_after, types_tail}
 use Rattle.text_core.specs.Table.{Tm, Nt, Do, Mark}
 use Rattle.text_core.proofs.Going as step
-use Rattle.f_grammar.specs.Reads.{type_of}
+use Rattle.f_grammar.specs.Read.{type_of}
 use Rattle.f_grammar.proofs.Typing.{type_Tuple, types_more, fails_after, fails_call, fails_expect, fails_deep, after_all, after_arrow, none_of, all_owed, arrow_owed, within, all_1, all_2, all_3, all_whole, left_1, left_2, left_whole, arrow_1, arrow_whole, word_whole, name_whole, tuple_1, tuple_whole, paren_1, paren_2, paren_whole, no_unit, no_unit_end, none_whole, first_1, first_whole, comma_1, comma_whole, list_1, list_whole}
 use Rattle.f_grammar.proofs.types.+types.Goals as goal
 

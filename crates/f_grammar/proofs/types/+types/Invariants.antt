@@ -1,5 +1,6 @@
 use Rattle.std.proofs.Common.{◌+◌, length, ◌-◌, ◌*◌, map}
-use Rattle.f_grammar.specs.Reads.{type_of, ReadsSome}
+use Rattle.f_grammar.specs.Read.{type_of}
+use Rattle.f_grammar.specs.Reads.{ReadsSome}
 use Rattle.f_grammar.proofs.types.+types.Given as goal
 
 abbrev pub decreases-part_type : goal.decreases-part_type

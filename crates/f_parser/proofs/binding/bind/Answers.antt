@@ -2,8 +2,8 @@ use Rattle.std.proofs.Common.{◌∷◌, [], ap, subst}
 use Rattle.std.proofs.lemmas.Result.{err_from_is_err_and}
 use Rattle.f_terms.specs.ReadTerm.{spanned}
 use Rattle.f_terms.specs.Stacked.{trees_of}
-use Rattle.f_reader.specs.Kept.{tree_of}
-use Rattle.f_parser.specs.Binding.{Bind, Todo, todo, todos, stand, uses_of, uses_left, values_left, types_left, Follows}
+use Rattle.f_grammar.specs.Term.{tree_of}
+use Rattle.f_parser.specs.Binding.{Bind, todo, todos, stand, uses_of, uses_left, values_left, types_left, Follows}
 use Rattle.f_parser.proofs.Tasks.{then, ended, stop_of_whole}
 use Rattle.f_parser.proofs.binding.bind.Goals as goal
 

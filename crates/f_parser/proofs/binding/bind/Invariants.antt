@@ -1,6 +1,6 @@
 use Rattle.std.proofs.Common.{◌∷◌, []}
 use Rattle.f_terms.specs.Stacked.{trees_of}
-use Rattle.f_reader.specs.Kept.{tree_of}
+use Rattle.f_grammar.specs.Term.{tree_of}
 use Rattle.f_parser.specs.Binding.{Bind, todos, stand, steps, Follows}
 use Rattle.f_parser.proofs.binding.bind.Given as goal
 

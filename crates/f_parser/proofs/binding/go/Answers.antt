@@ -1,7 +1,7 @@
 use Rattle.std.specs.Prelude.{MatchResult}
 use Rattle.std.proofs.Common.{◌∷◌, sym, subst, refl}
 use Rattle.f_terms.specs.Stacked.{trees_of}
-use Rattle.f_grammar.specs.Reads.{type_of}
+use Rattle.f_grammar.specs.Read.{type_of}
 use Rattle.f_parser.specs.Resolve.{StopsAt}
 use Rattle.f_parser.specs.Binding.{todo, todos, stand, uses_of, Steps}
 use Rattle.f_parser.proofs.Tasks.{stopped, used_in, put_in}

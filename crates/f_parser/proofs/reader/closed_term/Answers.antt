@@ -1,5 +1,5 @@
 use Rattle.f_terms.specs.ReadTerm.{spanned}
-use Rattle.f_reader.specs.Kept.{tree_of}
+use Rattle.f_grammar.specs.Term.{tree_of}
 use Rattle.f_parser.proofs.Reading.{bound, value_unbound, type_unbound}
 use Rattle.f_parser.proofs.reader.closed_term.Goals as goal
 

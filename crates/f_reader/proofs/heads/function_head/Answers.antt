@@ -2,7 +2,7 @@ use Rattle.std.proofs.Common.{[], ◌∷◌, ◌+◌, refl, arith}
 use Rattle.std.proofs.lemmas.Result.{err_from_is_err_and}
 use Rattle.text_core.specs.Table.{Nt, Tm}
 use Rattle.f_grammar.specs.Machine.{LParam, LT}
-use Rattle.f_grammar.specs.Reads.{type_of}
+use Rattle.f_grammar.specs.Read.{type_of}
 use Rattle.f_grammar.specs.declared.cursor.Wanted.TheVariants as want
 use Rattle.f_grammar.proofs.Typing.{fails_after, fails_call, fails_expect, within}
 use Rattle.f_reader.specs.Reads.{fix_body}

@@ -1,4 +1,4 @@
-use Rattle.std.proofs.Common.{[], ◌∷◌, ◌+◌}
+use Rattle.std.proofs.Common.{◌+◌}
 use Rattle.std.proofs.lemmas.Result.{err_from_is_err_and}
 use Rattle.f_grammar.specs.declared.cursor.Wanted.TheVariants as want
 use Rattle.f_grammar.proofs.Typing.{fails_after, fails_expect}

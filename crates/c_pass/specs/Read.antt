@@ -1,7 +1,7 @@
 -- The plain state of the walk that finds out types.
-use Rattle.std.specs.Prelude.{ℕ, List, [], ◌∷◌, Bool, true, false, ◌++◌, suc}
+use Rattle.std.specs.Prelude.{◌≡◌, ℕ, List, [], ◌∷◌, Bool, true, false, ◌++◌, suc}
 use Rattle.term_core.specs.Ends.{lift}
-use Rattle.k_terms.specs.K.{KTys, TKCode}
+use Rattle.k_terms.specs.K.{KTy, KTys, TKCode}
 use Rattle.k_terms.specs.Stream.{KNd}
 use Rattle.k_terms.specs.Read.{ktree}
 use Rattle.c_law.specs.Close as L
@@ -90,3 +90,9 @@ called_total w ts ns =
     W.with_note (E.Calls (L.ctypes (W.side_var f) ts))
     (W.know ns (bounds w.bounds.items) f (sides w.outer.items) (clues_of w.clues.items)) in
     record { infos = infos_onto w.infos.items k.infos; notes = notes_onto w.notes.items k.notes }
+
+-- a node that binds the variable of a level, of this type, and does no more
+abbrev pub Binds : KNd → ℕ → KTy → Type 0
+Binds n l t =
+    (ns : List KNd) (xs : List W.Bound) (f : W.Side) (fs : List W.Side) (cs : List W.Clue) →
+    W.know (n ∷ ns) xs f fs cs ≡ W.know ns (W.bind xs l t (W.side_depth f)) f fs cs

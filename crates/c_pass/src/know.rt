@@ -1,14 +1,14 @@
 // What is to be known of the codes, calls and packages, by a walk along the nodes.
 ghost use Rattle.std.specs.Prelude.{◌≡◌, ℕ, List, [], ◌∷◌, suc, IfOk, OnOk, map};
 ghost use Rattle.k_terms.specs.K.{KTy};
-ghost use Rattle.k_terms.specs.Stream.{KNd, NPack, NUnpack};
+ghost use Rattle.k_terms.specs.Stream.{KNd, NEnd, NElse, NPack, NUnpack};
 ghost use Rattle.k_terms.specs.Read.{knode, ktree, ktys};
 ghost use Rattle.c_terms.specs.Read.{ctys};
 ghost use Rattle.c_law.specs.Close as L;
 ghost use Rattle.c_walk.specs.Know as W;
 ghost use Rattle.c_walk.specs.Walks.{top_side};
 ghost use Rattle.c_free.specs.Names.{side, joined};
-ghost use Rattle.c_pass.specs.Read.{bounds, clue, clues_of, total, opened_total, called_total};
+ghost use Rattle.c_pass.specs.Read.{Binds, bounds, clue, clues_of, total, opened_total, called_total};
 
 use crate::bounds::{bind, bind_all};
 use crate::info::{info_from, side_of};
@@ -88,6 +88,46 @@ impl Know {
         Ok(())
     }
 
+    // A variable of this type is bound.
+    fn bind_made(&mut self, level: u64, ty: KType) -> Result<(), OutOfMemory>
+        ensures { OnOk result
+            ((rest : List KNd) (n : KNd) → Binds n level (ktree ty) → total self.new rest ≡ total self.old (n ∷ rest)) }
+    {
+        bind_now(&mut self.bounds, &self.side, level, ty)?;
+        Ok(())
+    }
+
+    // A variable of the type that stands on its node is bound.
+    fn bind(&mut self, alloc: Global, level: u64, ty: &KType) -> Result<(), OutOfMemory>
+        ensures { OnOk result
+            ((rest : List KNd) (n : KNd) → Binds n level (ktree ty.now) →
+            total self.new rest ≡ total self.old (n ∷ rest)) }
+    {
+        let ty = copied(alloc, ty)?;
+        self.bind_made(level, ty)?;
+        Ok(())
+    }
+
+    // The code ends.
+    fn close(&mut self)
+        ensures { (rest : List KNd) → total self.new rest ≡ total self.old (NEnd ∷ rest) }
+    {
+        match self.outer.pop_front() {
+            None => (),
+            Some(around) => {
+                self.side = around;
+            }
+        }
+    }
+
+    // The other branch of a choice begins, under so many type variables.
+    fn turn(&mut self, depth: u64)
+        ensures { (rest : List KNd) → total self.new rest ≡ total self.old (NElse depth ∷ rest) }
+    {
+        self.side.calling = false;
+        self.side.owes = depth.saturating_sub(self.side.depth);
+    }
+
     // A call.
     fn call(&mut self, alloc: Global, types: &[KType]) -> Result<(), OutOfMemory>
         ensures { OnOk result ((rest : List KNd) → total self.new rest ≡ called_total self.old (ktys types.now) rest) }
@@ -143,31 +183,13 @@ impl Know {
                 None => Ok(()),
                 Some(c) => Ok(self.open(alloc, *level, *depth, *owes, args, c)?),
             },
-            KNode::End => match self.outer.pop_front() {
-                None => Ok(()),
-                Some(around) => {
-                    self.side = around;
-                    Ok(())
-                }
-            },
-            KNode::Name { level, ty } => Ok(bind_now(
-                &mut self.bounds,
-                &self.side,
-                *level,
-                copied(alloc, ty)?,
-            )?),
-            KNode::Proj { level, ty, .. } => Ok(bind_now(
-                &mut self.bounds,
-                &self.side,
-                *level,
-                copied(alloc, ty)?,
-            )?),
-            KNode::Arith { level, .. } => Ok(bind_now(
-                &mut self.bounds,
-                &self.side,
-                *level,
-                KType::Int,
-            )?),
+            KNode::End => {
+                self.close();
+                Ok(())
+            }
+            KNode::Name { level, ty } => Ok(self.bind(alloc, *level, ty)?),
+            KNode::Proj { level, ty, .. } => Ok(self.bind(alloc, *level, ty)?),
+            KNode::Arith { level, .. } => Ok(self.bind_made(*level, KType::Int)?),
             KNode::Pack {
                 level,
                 hidden,
@@ -175,30 +197,12 @@ impl Know {
                 ..
             } => Ok(self.pack(alloc, *level, hidden, shape)?),
             KNode::Unpack { level, ty, .. } => Ok(self.unpack(alloc, *level, ty)?),
-            KNode::Cell { level, ty } => Ok(bind_now(
-                &mut self.bounds,
-                &self.side,
-                *level,
-                copied(alloc, ty)?,
-            )?),
-            KNode::Get { level, ty } => Ok(bind_now(
-                &mut self.bounds,
-                &self.side,
-                *level,
-                copied(alloc, ty)?,
-            )?),
-            KNode::Set { level } => {
-                Ok(bind_now(
-                    &mut self.bounds,
-                    &self.side,
-                    *level,
-                    KType::Tuple(Vec::new(alloc)),
-                )?)
-            }
+            KNode::Cell { level, ty } => Ok(self.bind(alloc, *level, ty)?),
+            KNode::Get { level, ty } => Ok(self.bind(alloc, *level, ty)?),
+            KNode::Set { level } => Ok(self.bind_made(*level, KType::Tuple(Vec::new(alloc)))?),
             KNode::Call { types, .. } => Ok(self.call(alloc, types)?),
             KNode::Else { depth } => {
-                self.side.calling = false;
-                self.side.owes = depth.saturating_sub(self.side.depth);
+                self.turn(*depth);
                 Ok(())
             }
             _ => Ok(()),

@@ -1,11 +1,9 @@
-use Rattle.std.proofs.Common.{◌∙◌, ◌∷◌, ap, sym, List}
+use Rattle.std.proofs.Common.{◌≡◌, ◌∙◌, ◌∷◌, ap, refl, subst, sym, List}
 use Rattle.k_terms.specs.K.{TKTuple}
-use Rattle.k_terms.specs.Read.{knode, ktys}
+use Rattle.k_terms.specs.Stream.{NSet}
+use Rattle.k_terms.specs.Read.{knode, ktree, ktys}
 use Rattle.k_terms.specs.declared.types.KType.{KType}
-use Rattle.c_walk.specs.Emit as E
-use Rattle.c_walk.specs.Know as W
-use Rattle.c_free.specs.Names.{side}
-use Rattle.c_pass.specs.Read.{bounds, clues_of, sides, infos_onto, notes_onto, total}
+use Rattle.c_pass.specs.Read.{Binds, total}
 use Rattle.c_pass.proofs.Lists.{k_tuple}
 use Rattle.c_pass.proofs.state.Know.step.Goals as goal
 
@@ -15,15 +13,23 @@ returns-in_ok-pack-in-Pack c = λ rest. c.in_ok-pack-in-Pack.ensures rest c.in-P
 pub returns-in_ok-unpack-in-Unpack : goal.returns-in_ok-unpack-in-Unpack
 returns-in_ok-unpack-in-Unpack c = λ rest. c.in_ok-unpack-in-Unpack.ensures rest c.in-Unpack.depth ∙ ap (λ n. total c.args.self.now (knode n ∷ rest)) (sym c.in-Unpack.is)
 
-abbrev known : List E.Info → List E.Note → W.Known
-known is cs = record { infos = is; notes = cs }
+pub returns-in_ok-bind-in-Name : goal.returns-in_ok-bind-in-Name
+returns-in_ok-bind-in-Name c = λ rest. c.in_ok-bind-in-Name.ensures rest _ (λ ns xs f fs cs. refl) ∙ ap (λ n. total c.args.self.now (knode n ∷ rest)) (sym c.in-Name.is)
 
-pub returns-in_ok-bind_now-in-Set : goal.returns-in_ok-bind_now-in-Set
-returns-in_ok-bind_now-in-Set c = λ rest.
-    let w = c.args.self.now in
-    let f = side w.side in
-    let fs = sides w.outer.items in
-    let cs = clues_of w.clues.items in
-    ap (λ (zs : List W.Bound). known (infos_onto w.infos.items (W.know rest zs f fs cs).infos) (notes_onto w.notes.items (W.know rest zs f fs cs).notes))
-    (c.in_ok-bind_now-in-Set.ensures ∙ ap (λ t. W.bind (bounds w.bounds.items) c.in-Set.level t (W.side_depth f)) (k_tuple c.new.result ∙ ap (λ (ts : List KType). TKTuple (ktys ts)) c.new.ensures.items))
-    ∙ ap (λ n. total w (knode n ∷ rest)) (sym c.in-Set.is)
+pub returns-in_ok-bind-in-Proj : goal.returns-in_ok-bind-in-Proj
+returns-in_ok-bind-in-Proj c = λ rest. c.in_ok-bind-in-Proj.ensures rest _ (λ ns xs f fs cs. refl) ∙ ap (λ n. total c.args.self.now (knode n ∷ rest)) (sym c.in-Proj.is)
+
+pub returns-in_ok-bind-in-Cell : goal.returns-in_ok-bind-in-Cell
+returns-in_ok-bind-in-Cell c = λ rest. c.in_ok-bind-in-Cell.ensures rest _ (λ ns xs f fs cs. refl) ∙ ap (λ n. total c.args.self.now (knode n ∷ rest)) (sym c.in-Cell.is)
+
+pub returns-in_ok-bind-in-Get : goal.returns-in_ok-bind-in-Get
+returns-in_ok-bind-in-Get c = λ rest. c.in_ok-bind-in-Get.ensures rest _ (λ ns xs f fs cs. refl) ∙ ap (λ n. total c.args.self.now (knode n ∷ rest)) (sym c.in-Get.is)
+
+pub returns-in_ok-bind_made-in-Arith : goal.returns-in_ok-bind_made-in-Arith
+returns-in_ok-bind_made-in-Arith c = λ rest. c.in_ok-bind_made-in-Arith.ensures rest _ (λ ns xs f fs cs. refl) ∙ ap (λ n. total c.args.self.now (knode n ∷ rest)) (sym c.in-Arith.is)
+
+pub returns-in_ok-bind_made-in-Set : goal.returns-in_ok-bind_made-in-Set
+returns-in_ok-bind_made-in-Set c = λ rest.
+    let none = k_tuple c.new.result ∙ ap (λ (ts : List KType). TKTuple (ktys ts)) c.new.ensures.items in
+    c.in_ok-bind_made-in-Set.ensures rest (NSet c.in-Set.level) (subst (Binds (NSet c.in-Set.level) c.in-Set.level) (sym none) (λ ns xs f fs cs. refl))
+    ∙ ap (λ n. total c.args.self.now (knode n ∷ rest)) (sym c.in-Set.is)

@@ -101,7 +101,7 @@ pub after_more : (c : Kind) → fits want.RightAngle c ≡ true → fields_after
 after_more k.RightAngle e = refl
 after_more _ e = absurd (cc)
 
-pub not_more : (c : Kind) → fits want.RightAngle c ≡ false → fields_after c ≡ then_more table (expr_after c) fields_tail
+pub not_more : (c : Kind) → fits want.RightAngle c ≡ false → fields_after c ≡ then_more (expr_after c) fields_tail
 not_more k.RightAngle e = absurd (cc)
 not_more _ e = refl
 
@@ -129,7 +129,7 @@ none_of k.Hash a b d e f g h = absurd (g refl)
 none_of k.If0 a b d e f g h = absurd (h refl)
 none_of _ a b d e f g h = refl
 
-pub as_sum : (c : Kind) → fits want.Fix c ≡ false → fits want.Gen c ≡ false → expr_after c ≡ then_more table (part_after c) sum_tail
+pub as_sum : (c : Kind) → fits want.Fix c ≡ false → fits want.Gen c ≡ false → expr_after c ≡ then_more (part_after c) sum_tail
 as_sum k.Gen a b = absurd (cc)
 as_sum k.Fix a b = absurd (cc)
 as_sum _ a b = refl

@@ -75,7 +75,7 @@ module _ (ts : List Token) {fs : List Frame} {b : Forest} {depth at : ℕ} {goal
   }
 
   -- a line goes on as another
-  pub as_line : (n m : Line) (k : Stack) → table.may_end n ≡ false → table.may_end m ≡ false → marks k ≡ 0 → ((c : Token) → slice_get ts at ≡ Some c → table.after m c ≡ then_more table (table.after n c) k) →
+  pub as_line : (n m : Line) (k : Stack) → table.may_end n ≡ false → table.may_end m ≡ false → marks k ≡ 0 → ((c : Token) → slice_get ts at ≡ Some c → table.after m c ≡ then_more (table.after n c) k) →
       Reached ts fs b depth at (Nt m ∷ goal) got → Reached ts fs b depth at (Nt n ∷ (k ++ goal)) got
   as_line n m k p q z h r =
       let e = append_assoc k goal r.around.owed in

@@ -1,0 +1,1 @@
+../../talc/src/main.rt

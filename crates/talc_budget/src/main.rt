@@ -1,1 +1,0 @@
-../../talc/src/main.rt

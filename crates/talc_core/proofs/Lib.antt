@@ -1,4 +1,6 @@
 mod AssemblyLemmas
+pub mod CompositionLemmas
+mod DoesLemmas
 pub mod ExactLemmas
 mod FaultLemmas
 mod Rows

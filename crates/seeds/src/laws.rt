@@ -1,7 +1,7 @@
 // What is true of the source of every number, as functions that callers cite.
 ghost use Rattle.seeds.specs.Laws.{SourcesArePrograms, SourcesHaveNoFault};
 
-use f_parser::{one_term, term_or_fault};
+use f_parser::{no_fault_where_read, one_term};
 use f_terms::{evaluation_keeps_its_rules, no_fault_beside_a_pass, passes_where_typed};
 
 /// The source of every number, whatever its size, is the text of a term of type `int` within all limits, which
@@ -18,7 +18,7 @@ pub fn sources_have_no_fault()
     ensures { SourcesHaveNoFault }
 {
     sources_are_programs();
-    term_or_fault();
+    no_fault_where_read();
     one_term();
     passes_where_typed();
     no_fault_beside_a_pass();

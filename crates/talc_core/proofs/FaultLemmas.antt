@@ -41,7 +41,7 @@ same_term text a b x y = parser.one_term text a b x.source y.source
 -- ---- no fault beside a text that is what is needed
 
 no_term_fault : (text : List ℕ) (c : Code) (s : Span) (term : Tm) (type : Ty) → IsChecked text term type → TermFault text c s → ⊥
-no_term_fault text c s term type checked (inl reading) = parser.term_or_fault text term c s checked.0 reading
+no_term_fault text c s term type checked (inl reading) = parser.no_fault_where_read text term c s checked.0 reading
 no_term_fault text c s term type checked (inr checking) =
     let same : checking.term ≡ term = same_term text checking.term term checking.read checked.0 in
     faulty.no_fault_beside term 0 NoTys type c (place s) (passes term type checked.1) (subst (λ e. typing.Fault e 0 NoTys c (place s)) same checking.fault)
@@ -74,8 +74,8 @@ no_fault_where_taken AnAssembly text (Source c s) taken fault = absurd fault
 
 one_term_fault : (text : List ℕ) (c d : Code) (s t : Span) → TermFault text c s → TermFault text d t → Same c s d t
 one_term_fault text c d s t (inl x) (inl y) = let same = parser.one_fault text c d s t x y in (same.0, ap place same.1)
-one_term_fault text c d s t (inl x) (inr y) = absurd (parser.term_or_fault text y.term c s y.read x)
-one_term_fault text c d s t (inr x) (inl y) = absurd (parser.term_or_fault text x.term d t x.read y)
+one_term_fault text c d s t (inl x) (inr y) = absurd (parser.no_fault_where_read text y.term c s y.read x)
+one_term_fault text c d s t (inr x) (inl y) = absurd (parser.no_fault_where_read text x.term d t x.read y)
 one_term_fault text c d s t (inr x) (inr y) =
     let same : x.term ≡ y.term = same_term text x.term y.term x.read y.read in
     faulty.one_fault y.term 0 NoTys c d (place s) (place t) (subst (λ e. typing.Fault e 0 NoTys c (place s)) same x.fault) y.fault

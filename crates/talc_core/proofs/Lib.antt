@@ -1,5 +1,6 @@
 mod AssemblyLemmas
 pub mod CompositionLemmas
+mod Decided
 mod DoesLemmas
 pub mod ExactLemmas
 mod FaultLemmas

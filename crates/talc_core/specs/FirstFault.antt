@@ -12,6 +12,7 @@ use Rattle.f_parser.specs.Text as parser
 use Rattle.t_terms.specs.declared.fault.TCode.{TCode}
 use Rattle.t_terms.specs.Spanned.{SProg, plain_program}
 use Rattle.t_terms.specs.Text as assembly
+use Rattle.t_terms.specs.Whole.{Whole}
 use Rattle.t_rules.specs.Rules.{Accepted}
 use Rattle.t_rules.specs.Faults as checking
 use Rattle.talc_core.specs.declared.fault.Fault.{Fault}
@@ -100,3 +101,13 @@ OneFault = (need : Need) (text : List ℕ) (a b : Fault) → FirstFault need tex
 -- a text that is what is needed has no fault
 abbrev pub NoFaultWhereTaken : Type 0
 NoFaultWhereTaken = (need : Need) (text : List ℕ) (a : Fault) → IsTaken need text → FirstFault need text a → ⊥
+
+-- the program of an assembly text keeps the bounds on programs; the text of one that does not is longer than any memory
+abbrev pub KeepsBounds : Need → List ℕ → Type 0
+KeepsBounds AnAssembly text = (program : SProg) → IsAssembly text program → Whole (plain_program program)
+KeepsBounds other text = Unit {0}
+
+-- each text is what is needed, or has a first fault
+abbrev pub TakenOrFault : Type 0
+TakenOrFault = (need : Need) (text : List ℕ) → KeepsBounds need text →
+    IsTaken need text ⊎ ((a : Fault) × FirstFault need text a)

@@ -1,8 +1,11 @@
 // Laws of the definitions that `talc` is proved by, as functions with an empty body that callers cite.
-ghost use Rattle.talc_core.specs.FirstFault.{OneFault, NoFaultWhereTaken};
+ghost use Rattle.talc_core.specs.FirstFault.{OneFault, NoFaultWhereTaken, TakenOrFault};
 ghost use Rattle.talc_core.specs.Composition.{CompiledIsTaken, CompiledMeansTheSame, CompiledShowsTheSame};
 
-use f_terms::one_answer;
+use f_parser::{closed_terms, term_or_fault};
+use f_terms::{one_answer, pass_or_fault, passes_where_typed};
+use t_rules::accepted_or_fault;
+use t_terms::program_or_fault;
 
 /// Two first faults of one text are equal, where the same is needed of it.
 pub fn one_fault()
@@ -13,6 +16,18 @@ pub fn one_fault()
 pub fn no_fault_where_taken()
     ensures { NoFaultWhereTaken }
 {}
+
+/// Each text is what is needed of it, or has a first fault; an assembly text where its program keeps the bounds on programs.
+pub fn taken_or_fault()
+    ensures { TakenOrFault }
+{
+    term_or_fault();
+    closed_terms();
+    pass_or_fault();
+    passes_where_typed();
+    program_or_fault();
+    accepted_or_fault();
+}
 
 /// What `compile` writes is a text that `check` and `run` take: it stands for a program that the typing rules accept.
 pub fn compiled_is_taken()

@@ -107,7 +107,8 @@ impl Page {
     pub fn text(self) -> Result<String, AllocError> {
         let mut page = self;
         page.finish()?;
-        Ok(page.body.text)
+        let Page { body, .. } = page;
+        Ok(body.text)
     }
 
     /// The variable with so many names around it.

@@ -1,4 +1,4 @@
--- What the reading and the checking of an assembly text say of its program.
+-- What the checking of an assembly text says of its program.
 use Rattle.std.proofs.Common.{◌≡◌, ℕ, List, sym, subst}
 use Rattle.t_terms.specs.Spanned.{plain_program}
 use Rattle.t_terms.specs.ReadProgram.{program, spanned_program}
@@ -9,10 +9,6 @@ use Rattle.t_rules.specs.LawsSound.{NothingSticks}
 use Rattle.talc_core.specs.FirstFault.{IsAssembly, IsAcceptedText}
 use Rattle.talc_core.specs.Lines.{accepted_line}
 use Rattle.talc_core.specs.Shown.{AcceptedShown}
-
-pub accepted_text : (text : List ℕ) (p q : TProgram) → IsAssembly text (spanned_program p) → q ≡ p → Accepted (program p) → IsAcceptedText text (spanned_program q)
-accepted_text text p q read same accepted =
-    subst (λ (x : TProgram). IsAcceptedText text (spanned_program x)) (sym same) (read, accepted)
 
 pub accepted_shown : NothingSticks → (text line : List ℕ) (p : TProgram) → Whole (program p) → IsAcceptedText text (spanned_program p) → line ≡ accepted_line → AcceptedShown text line
 accepted_shown sticks text line p whole accepted is = record {

@@ -1,5 +1,9 @@
 mod AssemblyLemmas
+mod CompositionLemmas
+mod DoesLemmas
 pub mod ExactLemmas
 mod FaultLemmas
 mod Rows
+mod SeedLemmas
+mod SizeLemmas
 mod SourceLemmas

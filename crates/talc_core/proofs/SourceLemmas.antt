@@ -1,22 +1,23 @@
 -- What the reading of a source text says of its term, for the checker.
-use Rattle.std.proofs.Common.{◌≡◌, ◌≤◌, ℕ, List, arith, refl, inr}
+use Rattle.std.proofs.Common.{◌≡◌, ◌≤◌, ℕ, List, arith, refl, inl, inr}
 use Rattle.idx_core.specs.declared.span.Span.{Span}
 use Rattle.f_terms.specs.declared.fault.FFault.{FFault}
 use Rattle.f_terms.specs.declared.fault.FFault.TheVariants.{Memory, Refused}
 use Rattle.f_terms.specs.declared.fault.Code.TheVariants.{E15}
 use Rattle.f_terms.specs.Ty.{Ty, TInt, NoTys}
-use Rattle.f_terms.specs.Tm.{Tm, plain}
+use Rattle.f_terms.specs.Tm.{Tm, plain, span_of}
 use Rattle.f_terms.specs.Limits.{nodes}
 use Rattle.f_terms.specs.Scope.{IsClosed}
 use Rattle.f_terms.specs.Faults as typing
 use Rattle.f_check.specs.Verdict.{Says}
 use Rattle.f_parser.proofs.Exact as parser
-use Rattle.f_terms.specs.Tm.{span_of}
+use Rattle.f_parser.specs.Text as reading
 use Rattle.f_terms.specs.Read.{place}
 use Rattle.talc_core.specs.declared.fault.Fault.TheVariants.{Source}
 use Rattle.talc_core.specs.declared.report.Failure.TheVariants as failed
 use Rattle.talc_core.specs.FirstFault.{AnyTerm, AProgram, IsParsed, IsChecked}
-use Rattle.talc_core.specs.Steps.{failure_of, RefusedBy}
+use Rattle.talc_core.specs.Failures.{failure_of}
+use Rattle.talc_core.specs.Steps.{RefusedBy}
 
 -- the term of a text is closed and small
 pub closed : (text : List ℕ) (term : Tm) → IsParsed text term → IsClosed (plain term)
@@ -24,11 +25,6 @@ closed text term read = parser.closed_terms text term read.source
 
 pub few : (text : List ℕ) (term : Tm) → IsParsed text term → nodes (plain term) ≤ 4294967295
 few text term read = let small : nodes (plain term) ≤ 1000 = read.few_nodes in omega arith
-
--- a fault of the term is one of the text
-pub term_refused : (text : List ℕ) (term : Tm) (f : FFault) → IsParsed text term → Says f (typing.Fault term 0 NoTys) → RefusedBy AnyTerm text (failure_of f)
-term_refused text term Memory read says = tt
-term_refused text term (Refused code span) read says = inr (record { term = term; read = read; fault = says })
 
 -- a term of another type than int is no program
 pub no_program : (text : List ℕ) (term : Tm) (type : Ty) (span : Span) → IsChecked text term type → (type ≡ TInt → ⊥) → place span ≡ span_of term → RefusedBy AProgram text (failed.Refused (Source E15 span))

@@ -9,3 +9,4 @@ pub mod Shown
 pub mod Headline
 pub mod Steps
 pub mod Exact
+pub mod Composition

@@ -17,5 +17,6 @@ mod top;
 pub use fault::Fault;
 pub use laws::{no_fault_beside_what_is_taken, one_fault};
 pub use lines::fault_line;
+pub use seeds::source_of;
 pub use status::Status;
 pub use top::talc;

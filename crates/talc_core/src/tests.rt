@@ -14,6 +14,7 @@ use t_terms::TCode;
 mod assembly_rows;
 mod compile_rows;
 mod memory;
+mod seed_rows;
 mod source_rows;
 mod value_rows;
 
@@ -124,7 +125,9 @@ fn other_words_are_no_command(rt: HostRuntime) -> Result<(), Fail> {
             "talc run x.tal",
             "talc check",
             "talc run x.tal --turns 1",
-            "talc gen --seed 0 g.f",
+            "talc gen --seed 0",
+            "talc gen g.f",
+            "talc upgrade x.tal y.tal",
             "talc help",
             "talc --help",
             "talc compile --help",

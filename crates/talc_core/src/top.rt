@@ -22,7 +22,7 @@ fn run_command<F: Files, O: Sink, E: Sink>(
     ensures { Does
         (record { files = F.state files.old; out = O.state out.old; err = E.state err.old })
         (record { files = F.state files.new; out = O.state out.new; err = E.state err.new })
-        result (asked_by command) }
+        result (asked_by command.entry) }
 {
     match perform(alloc, files, out, command) {
         Ok(ending) => ending.status(),
@@ -32,6 +32,7 @@ fn run_command<F: Files, O: Sink, E: Sink>(
 
 /// Does what the words of the command line ask for (the program's name is the first of them), and nothing else.
 /// It reads and writes through `files`, puts the answer on `out` and lines for the user on `err`.
+#[tactic(auto, using(crate::proofs::ExactLemmas::exactly))]
 pub fn talc<F: Files, O: Sink, E: Sink>(
     alloc: Global,
     words: &Vec<String>,

@@ -1,0 +1,45 @@
+-- What `compile` wrote: its program is the one that is read of it, and its term the one that is read of the source.
+use Rattle.std.proofs.Common.{◌≡◌, ℕ, ℤ, List, sym, subst}
+use Rattle.std.proofs.Math.Logic.{∥∥₁_map, ∥∥₁_elim}
+use Rattle.std.proofs.Math.IntN.{ℤ_set}
+use Rattle.f_terms.specs.Ty.{TInt}
+use Rattle.f_terms.specs.Tm.{Tm, Term, plain}
+use Rattle.f_terms.specs.Eval.{Evaluates}
+use Rattle.f_terms.specs.Laws.{OneAnswer}
+use Rattle.t_terms.specs.Spanned.{SProg, plain_program}
+use Rattle.t_terms.specs.Tree.{TProg}
+use Rattle.t_rules.specs.Rules.{Accepted}
+use Rattle.t_rules.specs.Machine.{HaltsWithin}
+use Rattle.pipeline.specs.Meaning.{SameMeaning}
+use Rattle.talc_core.specs.FirstFault.{AnAssembly, IsChecked, IsAcceptedText, IsTaken}
+use Rattle.talc_core.specs.Compiled.{IsCompiled}
+use Rattle.talc_core.specs.Shown.{ValueShown, HaltedShown}
+use Rattle.talc_core.specs.Composition.{CompiledIsTaken, CompiledMeansTheSame, CompiledShowsTheSame}
+use Rattle.talc_core.proofs.FaultLemmas.{same_term, same_program}
+
+pub compiled_is_taken : CompiledIsTaken
+compiled_is_taken source target made =
+    let read = made.text in
+    ∥∥₁_map made.compiled (λ c. (read.0, (record { stands = read.1; within = made.keeps }, subst Accepted (sym read.2) c.accepted)))
+
+-- the program that is read is the one that stands in the record
+pub same_assembly : (source target : List ℕ) (made : IsCompiled source target) (program : SProg) → IsAcceptedText target program → plain_program program ≡ made.program
+same_assembly source target made program accepted =
+    let read = made.text in
+    let same : read.0 ≡ program = same_program target read.0 program (record { stands = read.1; within = made.keeps }) accepted.0 in
+    subst (λ p. plain_program p ≡ made.program) same read.2
+
+pub compiled_means_the_same : CompiledMeansTheSame
+compiled_means_the_same source target made term checked program accepted =
+    let terms : made.term ≡ term = same_term source made.term term made.checked.0 checked.0 in
+    let programs : made.program ≡ plain_program program = sym (same_assembly source target made program accepted) in
+    ∥∥₁_map made.compiled (λ c. subst (λ P. SameMeaning (plain term) P) programs (subst (λ t. SameMeaning (plain t) made.program) terms c.meaning))
+
+-- where the meaning is the same, the integers are
+one_integer : OneAnswer → (e : Term) (P : TProg) (n m : ℕ) (i j : ℤ) → SameMeaning e P → Evaluates e n i → HaltsWithin P m j → i ≡ j
+one_integer one e P n m i j same evaluates halts = one e n m i j evaluates (same.back m j halts)
+
+pub compiled_shows_the_same : OneAnswer → CompiledShowsTheSame
+compiled_shows_the_same one source target evaluated ran made turns fuel value halted =
+    ∥∥₁_elim (compiled_means_the_same source target made value.term value.checked halted.program halted.accepted) (ℤ_set value.value halted.value) (λ same.
+    one_integer one (plain value.term) (plain_program halted.program) turns fuel value.value halted.value same (value.left, value.evaluates) halted.halts)

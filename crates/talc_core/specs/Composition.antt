@@ -1,0 +1,27 @@
+-- What the commands do with a text that `compile` wrote.
+use Rattle.std.specs.Prelude.{◌≡◌, ℕ, List}
+use Rattle.f_terms.specs.Ty.{TInt}
+use Rattle.f_terms.specs.Tm.{Tm, plain}
+use Rattle.t_terms.specs.Spanned.{SProg, plain_program}
+use Rattle.pipeline.specs.Meaning.{SameMeaning}
+use Rattle.talc_core.specs.FirstFault.{AnAssembly, IsChecked, IsAcceptedText, IsTaken}
+use Rattle.talc_core.specs.Compiled.{IsCompiled}
+use Rattle.talc_core.specs.Shown.{ValueShown, HaltedShown}
+
+-- `check` takes it: it stands for a program that the typing rules accept
+abbrev pub CompiledIsTaken : Type 0
+CompiledIsTaken = (source target : List ℕ) → IsCompiled source target → ∥ IsTaken AnAssembly target ∥₁
+
+-- the program that `run` reads of it means the same as the term that `eval` reads of the source
+abbrev pub CompiledMeansTheSame : Type 0
+CompiledMeansTheSame =
+    (source target : List ℕ) → IsCompiled source target →
+    (term : Tm) → IsChecked source term TInt → (program : SProg) → IsAcceptedText target program →
+    ∥ SameMeaning (plain term) (plain_program program) ∥₁
+
+-- so the integer that `run` shows of it is the one that `eval` shows of the source
+abbrev pub CompiledShowsTheSame : Type 0
+CompiledShowsTheSame =
+    (source target evaluated ran : List ℕ) → IsCompiled source target → (turns fuel : ℕ) →
+    (value : ValueShown turns source evaluated) → (halted : HaltedShown fuel target ran) →
+    value.value ≡ halted.value

@@ -15,7 +15,7 @@ use Rattle.talc_core.specs.Command.{Asked, Compiles, Types, Evaluates, Checks, R
 use Rattle.talc_core.specs.Shown.{Showing, ShowsType, ShowsValue, ValueShown, ShowsAccepted, ShowsRun, HaltedShown}
 use Rattle.talc_core.specs.Headline.{Outside, Headline, TextRefused, LineAnswer, SeedAnswer, UsageAnswer, Does}
 use Rattle.talc_core.specs.Exact.{IsSettled, Tells, WorksOn, IsMissing, CannotRead, LeadsTo, CannotWrite, HasBudget, GoesOn, NoFaults, Works, Exactly}
-use Rattle.talc_core.proofs.FaultLemmas.{one_fault, no_fault_beside_what_is_taken, same_term, same_program}
+use Rattle.talc_core.proofs.FaultLemmas.{one_fault, no_fault_where_taken, same_term, same_program}
 
 -- ---- files
 
@@ -86,8 +86,8 @@ leads_there s fault e = go (is_limit fault) e
 module _ (asked : Asked) (source : List ℕ) (status : Status) where
   -- a status that a fault leads to comes exactly where the first fault leads to it
   leads_at : (wanted : Status) → Judged asked source status → (wanted ≡ Done → ⊥) → (wanted ≡ Budget → ⊥) → (status ≡ wanted) ↔ LeadsTo (need_of asked) source wanted
-  leads_at wanted (inl is) other over = (λ e. absurd (other (sym e ∙ is.done)), λ fault. absurd (no_fault_beside_what_is_taken (need_of asked) source fault.0 is.taken fault.1))
-  leads_at wanted (inr (inl is)) other over = (λ e. absurd (over (sym e ∙ is.over)), λ fault. absurd (no_fault_beside_what_is_taken (need_of asked) source fault.0 is.taken fault.1))
+  leads_at wanted (inl is) other over = (λ e. absurd (other (sym e ∙ is.done)), λ fault. absurd (no_fault_where_taken (need_of asked) source fault.0 is.taken fault.1))
+  leads_at wanted (inr (inl is)) other over = (λ e. absurd (over (sym e ∙ is.over)), λ fault. absurd (no_fault_where_taken (need_of asked) source fault.0 is.taken fault.1))
   leads_at wanted (inr (inr found)) other over = (λ e. subst (LeadsTo (need_of asked) source) e found, λ fault. one_status (need_of asked) source status wanted found fault)
 
   refused_judged : Judged asked source status → (status ≡ Refused) ↔ LeadsTo (need_of asked) source Refused
@@ -104,12 +104,12 @@ module _ (asked : Asked) (source : List ℕ) (status : Status) where
   budget_judged (inl is) = (λ e. let done = is.done in cc, λ more. absurd (is.ends more))
   budget_judged (inr (inl is)) = (λ e. is.goes_on, λ more. is.over)
   budget_judged (inr (inr found)) =
-      (λ e. absurd (no_budget_by_fault found e), λ more. absurd (no_fault_beside_what_is_taken (need_of asked) source found.0 (goes_on_taken asked source more) found.1))
+      (λ e. absurd (no_budget_by_fault found e), λ more. absurd (no_fault_where_taken (need_of asked) source found.0 (goes_on_taken asked source more) found.1))
 
   works_judged : Judged asked source status → IsTaken (need_of asked) source → Works asked status
   works_judged (inl is) taken = inl is.done
   works_judged (inr (inl is)) taken = inr (is.has, is.over)
-  works_judged (inr (inr found)) taken = absurd (no_fault_beside_what_is_taken (need_of asked) source found.0 taken found.1)
+  works_judged (inr (inr found)) taken = absurd (no_fault_where_taken (need_of asked) source found.0 taken found.1)
 
 -- ---- what the lines say
 

@@ -18,7 +18,7 @@ use Rattle.t_terms.specs.Spanned.{SProg}
 use Rattle.t_terms.proofs.TextExact as assembly
 use Rattle.t_rules.specs.Faults as checking
 use Rattle.t_rules.proofs.Faulty as rules
-use Rattle.talc_core.specs.FirstFault.{AnyTerm, AProgram, AnAssembly, IsParsed, IsChecked, IsAssembly, IsAcceptedText, TermFault, ProgramFault, AssemblyFault, OneFault, NoFaultBesideWhatIsTaken}
+use Rattle.talc_core.specs.FirstFault.{AnyTerm, AProgram, AnAssembly, IsParsed, IsChecked, IsAssembly, IsAcceptedText, TermFault, ProgramFault, AssemblyFault, OneFault, NoFaultWhereTaken}
 
 -- code and place of two faults agree
 abbrev Same : Code → Span → Code → Span → Type 0
@@ -62,13 +62,13 @@ no_assembly_fault text c s program accepted (inr found) =
     let same : found.program ≡ program = same_program text found.program program found.read accepted.0 in
     rules.no_fault program c s accepted.1 (subst (λ P. checking.ProgramFault P c s) same found.fault)
 
-pub no_fault_beside_what_is_taken : NoFaultBesideWhatIsTaken
-no_fault_beside_what_is_taken AnyTerm text (Source c s) taken fault = no_term_fault text c s taken.0 taken.1 taken.2 fault
-no_fault_beside_what_is_taken AProgram text (Source c s) taken fault = no_program_fault text c s taken.0 taken.1 fault
-no_fault_beside_what_is_taken AnAssembly text (Tal c s) taken fault = no_assembly_fault text c s taken.0 taken.1 fault
-no_fault_beside_what_is_taken AnyTerm text (Tal c s) taken fault = absurd fault
-no_fault_beside_what_is_taken AProgram text (Tal c s) taken fault = absurd fault
-no_fault_beside_what_is_taken AnAssembly text (Source c s) taken fault = absurd fault
+pub no_fault_where_taken : NoFaultWhereTaken
+no_fault_where_taken AnyTerm text (Source c s) taken fault = no_term_fault text c s taken.0 taken.1 taken.2 fault
+no_fault_where_taken AProgram text (Source c s) taken fault = no_program_fault text c s taken.0 taken.1 fault
+no_fault_where_taken AnAssembly text (Tal c s) taken fault = no_assembly_fault text c s taken.0 taken.1 fault
+no_fault_where_taken AnyTerm text (Tal c s) taken fault = absurd fault
+no_fault_where_taken AProgram text (Tal c s) taken fault = absurd fault
+no_fault_where_taken AnAssembly text (Source c s) taken fault = absurd fault
 
 -- ---- one fault
 

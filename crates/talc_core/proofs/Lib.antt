@@ -1,5 +1,5 @@
 mod AssemblyLemmas
-mod CompositionLemmas
+pub mod CompositionLemmas
 mod DoesLemmas
 pub mod ExactLemmas
 mod FaultLemmas

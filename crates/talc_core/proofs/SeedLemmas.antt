@@ -29,7 +29,7 @@ use Rattle.talc_core.specs.Compiled.{IsCompiled}
 use Rattle.talc_core.specs.Lines.{seed_lines}
 use Rattle.talc_core.specs.Shown.{seed_turns, SeedShown}
 use Rattle.talc_core.specs.Steps.{RefusedBy, ReadsProgram, ChecksAssembly, CompilesText, WantsMemory, OrMemory, Evaluated, HaltsSoonEnough}
-use Rattle.talc_core.proofs.FaultLemmas.{no_fault_beside_what_is_taken, same_term}
+use Rattle.talc_core.proofs.FaultLemmas.{no_fault_where_taken, same_term}
 use Rattle.talc_core.proofs.CompositionLemmas.{compiled_is_taken, compiled_means_the_same, same_assembly}
 
 taken : SourcesArePrograms → (seed : ℕ) → IsTaken AProgram (source_of seed)
@@ -37,7 +37,7 @@ taken programs seed = let p = programs seed in (p.0, (p.1, p.2))
 
 no_seed_fault : SourcesArePrograms → (seed : ℕ) (text : List ℕ) → text ≡ source_of seed → (fault : Fault) → FirstFault AProgram text fault → ⊥
 no_seed_fault programs seed text is fault first =
-    no_fault_beside_what_is_taken AProgram (source_of seed) fault (taken programs seed) (subst (λ t. FirstFault AProgram t fault) is first)
+    no_fault_where_taken AProgram (source_of seed) fault (taken programs seed) (subst (λ t. FirstFault AProgram t fault) is first)
 
 -- no failure but want of memory
 refused : SourcesArePrograms → (seed : ℕ) (text : List ℕ) → text ≡ source_of seed → (failure : Failure) → RefusedBy AProgram text failure → WantsMemory failure
@@ -72,7 +72,7 @@ target_taken source target made = compiled_is_taken source target made
 
 pub checks : (target : List ℕ) → ∥ IsTaken AnAssembly target ∥₁ → (r : Result Checked Failure) → ChecksAssembly target r → OrMemory (λ checked. IsAcceptedText target (spanned_program (checked_program checked))) r
 checks target taken (Ok checked) accepted = accepted
-checks target taken (Err (Refused fault)) first = ∥∥₁_elim taken (λ a b. absurd a) (λ t. no_fault_beside_what_is_taken AnAssembly target fault t first)
+checks target taken (Err (Refused fault)) first = ∥∥₁_elim taken (λ a b. absurd a) (λ t. no_fault_where_taken AnAssembly target fault t first)
 checks target taken (Err Memory) why = tt
 checks target taken (Err Read) why = why
 checks target taken (Err Write) why = why

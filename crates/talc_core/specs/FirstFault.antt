@@ -98,5 +98,5 @@ abbrev pub OneFault : Type 0
 OneFault = (need : Need) (text : List ℕ) (a b : Fault) → FirstFault need text a → FirstFault need text b → a ≡ b
 
 -- a text that is what is needed has no fault
-abbrev pub NoFaultBesideWhatIsTaken : Type 0
-NoFaultBesideWhatIsTaken = (need : Need) (text : List ℕ) (a : Fault) → IsTaken need text → FirstFault need text a → ⊥
+abbrev pub NoFaultWhereTaken : Type 0
+NoFaultWhereTaken = (need : Need) (text : List ℕ) (a : Fault) → IsTaken need text → FirstFault need text a → ⊥

@@ -65,7 +65,7 @@ pub(crate) fn perform<F: Files, O: Sink>(
     out: &mut O,
     command: Command,
 ) -> Result<Ending, Failure>
-    ensures { Performs (asked_by command) (F.state files.old) (F.state files.new)
+    ensures { Performs (asked_by command.entry) (F.state files.old) (F.state files.new)
         (O.state out.old) (O.state out.new) result }
 {
     match command {

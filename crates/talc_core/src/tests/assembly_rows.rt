@@ -1,8 +1,5 @@
 // Assembly texts: which are accepted, their first faults, and how they run.
-use super::memory::{
-    After, each_refused, each_shows, leaves, outside_of, shows, shows_of, with_file,
-};
-use super::output_fails;
+use super::memory::{each_refused, each_shows, shows, shows_of};
 use crate::Status;
 use std::alloc::Global;
 use std::process::Abort;
@@ -17,8 +14,11 @@ const FIRST_REGISTER: &str =
 const EXTRA_REGISTER: &str =
     "tal 1\nL0: code[]{}. mov r1, 5 mov r2, 6 jmp L1\nL1: code[]{r1:int}. halt[int]";
 
-const POLYMORPHIC: &str =
-    "tal 1\nL0: code[]{}. mov r1, 5 mov r2, L2 jmp L1[int]\nL1: code[a]{r1:a, r2:all[]{r1:a}}. jmp r2\nL2: code[]{r1:int}. halt[int]";
+const POLYMORPHIC: &str = "tal 1\nL0: code[]{}. mov r1, 5 mov r2, L2 jmp L1[int]\n\
+    L1: code[a]{r1:a, r2:all[]{r1:a}}. jmp r2\nL2: code[]{r1:int}. halt[int]";
+
+const INTEGER_WORD: &str = "tal 1\nL0: code[]{}. mov r1, pack[int,3] as some a. a unpack[b,r1], r1 \
+    add r1, r1, 1 halt[int]";
 
 const FOREVER: &str = "tal 1\nL0: code[]{}. jmp L0";
 
@@ -75,13 +75,11 @@ fn refused_texts(rt: HostRuntime) -> Result<(), Fail> {
                 "T18 30..36 registers do not fit\n",
             ),
             (
-                "tal 1\nL0: code[]{}. mov r1, 5 mov r2, L2 jmp L1\nL1: code[a]{r1:a, r2:all[]{r1:a}}. jmp r2\nL2: code[]{r1:int}. halt[int]",
+                "tal 1\nL0: code[]{}. mov r1, 5 mov r2, L2 jmp L1\n\
+                L1: code[a]{r1:a, r2:all[]{r1:a}}. jmp r2\nL2: code[]{r1:int}. halt[int]",
                 "T16 41..47 target is not code without types owed\n",
             ),
-            (
-                "tal 1\nL0: code[]{}. mov r1, pack[int,3] as some a. a unpack[b,r1], r1 add r1, r1, 1 halt[int]",
-                "T09 70..83 not int\n",
-            ),
+            (INTEGER_WORD, "T09 70..83 not int\n"),
         ],
     )
 }
@@ -165,17 +163,14 @@ fn open_constructs_of_assembly_are_limited(rt: HostRuntime) -> Result<(), Fail> 
         ("<", 1_999),
         (">", 1),
         ("^0>", 1_998),
-        ("] jmp L0", 1),
+        ("] mov r1, 1 halt[int]", 1),
     ];
     shows_of(&rt, alloc, CHECK, most, Status::Done, "accepted\n", "")?;
+    let run = "talc run x --fuel 2";
+    shows_of(&rt, alloc, run, most, Status::Done, "int 1\n", "")?;
     let more = &[(header, 1), ("<", 2_000)];
     let err = "M1 2029..2030 more than 2000 open constructs\n";
     shows_of(&rt, alloc, CHECK, more, Status::Limit, "", err)
-}
-
-#[test]
-fn a_failing_output_of_check(rt: HostRuntime) -> Result<(), Fail> {
-    output_fails(&rt, rt.alloc(), CHECK, FOREVER.as_bytes(), 3, b"acc")
 }
 
 #[test]
@@ -243,28 +238,9 @@ fn a_refused_text_is_not_run(rt: HostRuntime) -> Result<(), Fail> {
         &rt,
         rt.alloc(),
         "talc run x --fuel 5",
-        &[(OLDER_REGISTER, "T12 69..81 field not initialised\n")],
+        &[
+            (OLDER_REGISTER, "T12 69..81 field not initialised\n"),
+            (INTEGER_WORD, "T09 70..83 not int\n"),
+        ],
     )
-}
-
-// What `compile` writes of a number runs to that number.
-#[test]
-fn a_compiled_number_runs(rt: HostRuntime) -> Result<(), Fail> {
-    let alloc = rt.alloc();
-    let text = b"tal 1\nL0: code[]{}.\nmov r1, ~9223372036854775808\nhalt[int]\n";
-    let mut outside = outside_of(alloc, with_file("x", b"~9223372036854775808"))?;
-    let compiled = After {
-        status: Status::Done,
-        out: b"",
-        err: b"",
-        files: &[("x", text)],
-        faults: (0, 0),
-    };
-    leaves(&rt, alloc, "talc compile x x", &mut outside, compiled)?;
-    let ran = After {
-        out: b"int ~9223372036854775808\n",
-        ..compiled
-    };
-    let line = "talc run x --fuel 1000000";
-    leaves(&rt, alloc, line, &mut outside, ran)
 }

@@ -9,9 +9,11 @@ use std::test::Fail;
 
 const COMPILE: &str = "talc compile x y";
 
+const CHECK: &str = "talc check y";
+
 const FACTORIAL: &str = "(fix f(n:int):int. if0(n, 1, n * f(n - 1))) ";
 
-/// Compiles the source text, runs what it is compiled to, and asserts the status and the line of the run.
+/// Compiles the source text, checks what it is compiled to, runs it, and asserts the status and the line of the run.
 fn runs_of(
     rt: &impl Abort,
     alloc: Global,
@@ -24,8 +26,11 @@ fn runs_of(
     let mut outside = outside_of(alloc, with_file("x", &source))?;
     let compiled = run(alloc, COMPILE, &mut outside)?;
     is_status(rt, COMPILE, compiled, Status::Done);
+    let checked = run(alloc, CHECK, &mut outside)?;
+    is_status(rt, CHECK, checked, Status::Done);
     let ran = run(alloc, line, &mut outside)?;
     is_status(rt, line, ran, status);
+    let out = format!(in alloc; "accepted\n{out}")?;
     has_taken(rt, line, &outside.out, out.as_bytes());
     Ok(())
 }
@@ -48,6 +53,7 @@ fn compiled_programs_halt_with_their_value(rt: HostRuntime) -> Result<(), Fail> 
             ("7", "int 7\n"),
             ("(gen a. fix f(x:a):a. x)[int] 3", "int 3\n"),
             ("#1 <1, gen a. (fix f(x:int):int. f x) 0>", "int 1\n"),
+            ("~9223372036854775808", "int ~9223372036854775808\n"),
             ("~9223372036854775808 - 1", "int 9223372036854775807\n"),
             ("(fix f(x:<>):int. 4) <>", "int 4\n"),
             (
@@ -55,7 +61,8 @@ fn compiled_programs_halt_with_their_value(rt: HostRuntime) -> Result<(), Fail> 
                 "int 8\n",
             ),
             (
-                "((fix f(x:int):int -> int. fix h(y:int):int. (fix g(n:int):int. if0(n, x - y, 2 * g(n - 1))) 3) 9) 4",
+                "((fix f(x:int):int -> int. fix h(y:int):int. \
+                (fix g(n:int):int. if0(n, x - y, 2 * g(n - 1))) 3) 9) 4",
                 "int 40\n",
             ),
         ],

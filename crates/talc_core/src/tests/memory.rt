@@ -1,6 +1,6 @@
 // What is outside of the program, in memory: runs of words over it, and what they leave.
 use crate::{Status, talc};
-use io_core::{MemFiles, MemSink};
+use io_core::{Files, MemFiles, MemSink, Sink};
 use std::alloc::{AllocError, Global};
 use std::collections::BTreeMap;
 use std::process::Abort;
@@ -39,8 +39,8 @@ pub struct Outside {
     pub err: MemSink,
 }
 
-/// The words of a command line.
-pub fn words(alloc: Global, line: &str) -> Result<Vec<String>, AllocError> {
+// The words of a command line.
+fn words(alloc: Global, line: &str) -> Result<Vec<String>, AllocError> {
     let mut words = Vec::new(alloc);
     for word in line.split_whitespace() {
         words.push(String::from_str(alloc, word)?)?;
@@ -99,15 +99,26 @@ pub fn outside_of(alloc: Global, before: Before) -> Result<Outside, AllocError> 
     Ok(Outside { files, out, err })
 }
 
-pub fn run(alloc: Global, line: &str, outside: &mut Outside) -> Result<Status, AllocError> {
+/// Runs the words over any outside.
+pub fn run_over<F: Files, O: Sink, E: Sink>(
+    alloc: Global,
+    line: &str,
+    files: &mut F,
+    out: &mut O,
+    err: &mut E,
+) -> Result<Status, AllocError> {
     let words = words(alloc, line)?;
-    Ok(talc(
+    Ok(talc(alloc, &words, files, out, err))
+}
+
+pub fn run(alloc: Global, line: &str, outside: &mut Outside) -> Result<Status, AllocError> {
+    run_over(
         alloc,
-        &words,
+        line,
         &mut outside.files,
         &mut outside.out,
         &mut outside.err,
-    ))
+    )
 }
 
 pub fn is_status(rt: &impl Abort, line: &str, status: Status, wanted: Status) {
@@ -142,24 +153,7 @@ fn has_faults(rt: &impl Abort, line: &str, files: &MemFiles, wanted: (u64, u64))
     assert_eq!(rt; files.faults(), wanted, "{line}");
 }
 
-/// Runs the words over what is there, and asserts what they leave.
-pub fn leaves(
-    rt: &impl Abort,
-    alloc: Global,
-    line: &str,
-    outside: &mut Outside,
-    after: After,
-) -> Result<(), Fail> {
-    let status = run(alloc, line, outside)?;
-    is_status(rt, line, status, after.status);
-    has_taken(rt, line, &outside.out, after.out);
-    has_taken(rt, line, &outside.err, after.err);
-    has_files(rt, line, &outside.files, after.files);
-    has_faults(rt, line, &outside.files, after.faults);
-    Ok(())
-}
-
-/// The same over a new outside.
+/// Runs the words over a new outside, and asserts what they leave.
 pub fn leads(
     rt: &impl Abort,
     alloc: Global,
@@ -168,7 +162,13 @@ pub fn leads(
     after: After,
 ) -> Result<(), Fail> {
     let mut outside = outside_of(alloc, before)?;
-    leaves(rt, alloc, line, &mut outside, after)
+    let status = run(alloc, line, &mut outside)?;
+    is_status(rt, line, status, after.status);
+    has_taken(rt, line, &outside.out, after.out);
+    has_taken(rt, line, &outside.err, after.err);
+    has_files(rt, line, &outside.files, after.files);
+    has_faults(rt, line, &outside.files, after.faults);
+    Ok(())
 }
 
 /// Runs the words over the file `x` alone with this content, which stays: the wanted status, and what the two sinks

@@ -1,5 +1,0 @@
-use Rattle.talc_core.proofs.FaultLemmas as lemmas
-use Rattle.talc_core.proofs.laws.no_fault_beside_what_is_taken.Goals as goal
-
-pub returns : goal.returns
-returns c = lemmas.no_fault_beside_what_is_taken

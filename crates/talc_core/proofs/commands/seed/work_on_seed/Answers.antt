@@ -1,4 +1,4 @@
-use Rattle.std.proofs.Common.{◌≡◌, ℕ, List, length, sym, subst, arith}
+use Rattle.std.proofs.Common.{◌≡◌, ◌∙◌, ℤ, ℕ, List, length, sym, subst, ap₂, rules, to_z, of_z, w64}
 use Rattle.t_terms.specs.ReadProgram.{spanned_program}
 use Rattle.t_check.specs.Checked.{checked_program}
 use Rattle.seeds.specs.Source.{source}
@@ -26,5 +26,8 @@ returns c =
     let evaluation = c.in_ok-evaluation.evaluation in
     let program = spanned_program (checked_program c.in_ok-program.program) in
     let accepted = subst (λ (t : List ℕ). IsAcceptedText t program) c.deref.ensures.value c.in_ok-program.ensures in
+    let value_same : to_z w64 (of_z w64 evaluation.value) ≡ evaluation.value = search rules in
+    let halted_same : to_z w64 (of_z w64 c.in_ok-halted.halted) ≡ c.in_ok-halted.halted = search rules in
+    let lines = c.in_ok-lines.ensures ∙ ap₂ (λ (i j : ℤ). seed_lines (length c.args.text.now) i evaluation.used j) value_same halted_same in
     shown c.one_answer.ensures c.args.seed target c.in_ok-target.ensures evaluation.value evaluation.used c.in_ok-evaluation.ensures program accepted c.in_ok-halted.halted c.in_ok-halted.ensures
-    c.args.text.now c.in_ok-lines.lines.items c.requires c.in_ok-lines.ensures
+    c.args.text.now c.in_ok-lines.lines.items c.requires lines

@@ -21,7 +21,7 @@ compiled_is_taken source target made =
     ∥∥₁_map made.compiled (λ c. (read.0, (record { stands = read.1; within = made.keeps }, subst Accepted (sym read.2) c.accepted)))
 
 -- the program that is read is the one that stands in the record
-same_assembly : (source target : List ℕ) (made : IsCompiled source target) (program : SProg) → IsAcceptedText target program → plain_program program ≡ made.program
+pub same_assembly : (source target : List ℕ) (made : IsCompiled source target) (program : SProg) → IsAcceptedText target program → plain_program program ≡ made.program
 same_assembly source target made program accepted =
     let read = made.text in
     let same : read.0 ≡ program = same_program target read.0 program (record { stands = read.1; within = made.keeps }) accepted.0 in

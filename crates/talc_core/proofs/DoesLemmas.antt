@@ -1,15 +1,17 @@
 -- What a command does where its work fails, from what the work does then and what is told.
-use Rattle.std.proofs.Common.{◌≡◌, ℕ, List, Err}
+use Rattle.std.proofs.Common.{◌≡◌, ℕ, List, Ok, Err, refl, inl, inr}
 use Rattle.io_core.specs.Outside.{FilesState, SinkState}
+use Rattle.talc_core.specs.declared.commands.Ending.{Ending}
+use Rattle.talc_core.specs.declared.commands.Ending.TheVariants.{Ends, GoesOn}
 use Rattle.talc_core.specs.declared.report.Failure.{Failure}
 use Rattle.talc_core.specs.declared.report.Failure.TheVariants as failed
 use Rattle.talc_core.specs.declared.status.Status.{Status}
 use Rattle.talc_core.specs.declared.status.Status.TheVariants.{Done, Refused, Usage, Limit, Budget, ReadFault, WriteFault, Memory}
-use Rattle.talc_core.specs.Command.{Asked, Compiles, Types, Evaluates, Checks, Runs}
+use Rattle.talc_core.specs.Command.{Asked, Compiles, Types, Evaluates, Checks, Runs, Generates}
 use Rattle.talc_core.specs.FirstFault.{Need, AnyTerm, AProgram, AnAssembly}
 use Rattle.talc_core.specs.Shown.{Showing, ShowsType, ShowsValue, ShowsAccepted, ShowsRun}
-use Rattle.talc_core.specs.Headline.{Outside, CompileAnswer, LineAnswer, Does}
-use Rattle.talc_core.specs.Steps.{status_at, CompilesFile, ShowsFile, Performs, Reports}
+use Rattle.talc_core.specs.Headline.{Outside, CompileAnswer, LineAnswer, SeedAnswer, Does}
+use Rattle.talc_core.specs.Steps.{status_at, CompilesFile, ShowsFile, ShowsSeed, Performs, Reports}
 
 -- the outside of a call
 abbrev outside : FilesState → SinkState → SinkState → Outside
@@ -88,6 +90,36 @@ module _ (f f' : FilesState) (o o' e e' : SinkState) where
   compile_failed input output same failed.Memory WriteFault shown told = absurd told
   compile_failed input output same failed.Memory Memory shown told = record { line = told; out = same; files = shown }
 
+  -- ---- the command `gen`
+
+  pub seed_ended : (seed : ℕ) (output : List ℕ) (ending : Ending) → ShowsSeed seed output f f' o o' (Ok ending) → SeedAnswer seed output (outside f o e) (outside f' o' e) (status_at ending)
+  seed_ended seed output Ends shown = record { lines = shown.0; says = shown.1; written = shown.2; out = shown.3; err = refl }
+  seed_ended seed output GoesOn shown = absurd shown
+
+  seed_unwritten : (seed : ℕ) (output : List ℕ) → ShowsSeed seed output f f' o o' (Err failed.Write) → Reports failed.Write e e' WriteFault → SeedAnswer seed output (outside f o e) (outside f' o' e') WriteFault
+  seed_unwritten seed output (inl unwritten) told = inl (record { cause = unwritten.0; line = told; out = unwritten.2; files = unwritten.1 })
+  seed_unwritten seed output (inr unshown) told = inr (record { lines = unshown.0; says = unshown.1; written = unshown.2; cause = unshown.3; line = told; out = unshown.4 })
+
+  seed_failed : (seed : ℕ) (output : List ℕ) (failure : Failure) (status : Status) → ShowsSeed seed output f f' o o' (Err failure) → Reports failure e e' status → SeedAnswer seed output (outside f o e) (outside f' o' e') status
+  seed_failed seed output (failed.Refused fault) status shown told = absurd shown
+  seed_failed seed output failed.Read status shown told = absurd shown
+  seed_failed seed output failed.Write Done shown told = absurd told
+  seed_failed seed output failed.Write Refused shown told = absurd told
+  seed_failed seed output failed.Write Usage shown told = absurd told
+  seed_failed seed output failed.Write Limit shown told = absurd told
+  seed_failed seed output failed.Write Budget shown told = absurd told
+  seed_failed seed output failed.Write ReadFault shown told = absurd told
+  seed_failed seed output failed.Write WriteFault shown told = seed_unwritten seed output shown told
+  seed_failed seed output failed.Write Memory shown told = absurd told
+  seed_failed seed output failed.Memory Done shown told = absurd told
+  seed_failed seed output failed.Memory Refused shown told = absurd told
+  seed_failed seed output failed.Memory Usage shown told = absurd told
+  seed_failed seed output failed.Memory Limit shown told = absurd told
+  seed_failed seed output failed.Memory Budget shown told = absurd told
+  seed_failed seed output failed.Memory ReadFault shown told = absurd told
+  seed_failed seed output failed.Memory WriteFault shown told = absurd told
+  seed_failed seed output failed.Memory Memory shown told = record { line = told; out = shown.0; files = shown.1 }
+
   -- ---- by the command
 
   pub does_failed : (asked : Asked) (failure : Failure) (status : Status) → Performs asked f f' o o' (Err failure) → Reports failure e e' status → Does (outside f o e) (outside f' o' e') status asked
@@ -96,3 +128,4 @@ module _ (f f' : FilesState) (o o' e e' : SinkState) where
   does_failed (Evaluates input turns) failure status done told = line_failed (ShowsValue turns) AProgram input failure status done told
   does_failed (Checks input) failure status done told = line_failed ShowsAccepted AnAssembly input failure status done told
   does_failed (Runs input fuel) failure status done told = line_failed (ShowsRun fuel) AnAssembly input failure status done told
+  does_failed (Generates seed output) failure status done told = seed_failed seed output failure status done told

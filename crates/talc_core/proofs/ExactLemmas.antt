@@ -11,10 +11,10 @@ use Rattle.t_terms.specs.Spanned.{plain_program}
 use Rattle.t_rules.specs.Machine.{GoesOnAfter}
 use Rattle.t_machine.proofs.Exactly.{going_not_halted}
 use Rattle.talc_core.specs.FirstFault.{Need, AnyTerm, AProgram, AnAssembly, IsTaken}
-use Rattle.talc_core.specs.Command.{Asked, Compiles, Types, Evaluates, Checks, Runs, command_of, need_of, input_of}
+use Rattle.talc_core.specs.Command.{Asked, Compiles, Types, Evaluates, Checks, Runs, Generates, command_of, need_of}
 use Rattle.talc_core.specs.Shown.{Showing, ShowsType, ShowsValue, ValueShown, ShowsAccepted, ShowsRun, HaltedShown}
-use Rattle.talc_core.specs.Headline.{Outside, Headline, TextRefused, LineAnswer, UsageAnswer, Does}
-use Rattle.talc_core.specs.Exact.{IsSettled, Tells, LeadsTo, CannotWrite, HasBudget, GoesOn, NoFaults, Works, Exactly}
+use Rattle.talc_core.specs.Headline.{Outside, Headline, TextRefused, LineAnswer, SeedAnswer, UsageAnswer, Does}
+use Rattle.talc_core.specs.Exact.{IsSettled, Tells, WorksOn, IsMissing, CannotRead, LeadsTo, CannotWrite, HasBudget, GoesOn, NoFaults, Works, Exactly}
 use Rattle.talc_core.proofs.FaultLemmas.{one_fault, no_fault_where_taken, same_term, same_program}
 
 -- ---- files
@@ -69,6 +69,7 @@ goes_on_taken (Types input) source more = absurd more
 goes_on_taken (Evaluates input turns) source more = (more.0, more.1)
 goes_on_taken (Checks input) source more = absurd more
 goes_on_taken (Runs input fuel) source more = (more.0, more.1)
+goes_on_taken (Generates seed output) source more = absurd more
 
 -- a text whose first fault leads to one status has none that leads to another
 one_status : (need : Need) (source : List ℕ) (a b : Status) → LeadsTo need source a → LeadsTo need source b → a ≡ b
@@ -160,44 +161,54 @@ run_sound input fuel = record {
 -- ---- by the command and the status
 
 module _ (old new : Outside) where
-  leads : (asked : Asked) (source : List ℕ) (status : Status) → TextRefused status (need_of asked) (input_of asked) old new → Tells old.files.told (input_of asked) source → Judged asked source status
-  leads asked source status refused tells =
-      let same : refused.source ≡ source = same_content old.files.told (input_of asked) refused.source source refused.read tells in
+  leads : (asked : Asked) (input source : List ℕ) (status : Status) → TextRefused status (need_of asked) input old new → Tells old.files.told input source → Judged asked source status
+  leads asked input source status refused tells =
+      let same : refused.source ≡ source = same_content old.files.told input refused.source source refused.read tells in
       inr (inr (subst (λ text. LeadsTo (need_of asked) text status) same (refused.fault, refused.first, refused.leads)))
 
   -- of the commands that show a line
-  line_judged : (asked : Asked) (Says : Showing) → IsSound asked Says → (source : List ℕ) (status : Status) → LineAnswer Says (need_of asked) (input_of asked) old new status → Tells old.files.told (input_of asked) source → IsSettled status → Judged asked source status
-  line_judged asked Says sound source Done answer tells settled =
-      let same : answer.source ≡ source = same_content old.files.told (input_of asked) answer.source source answer.read tells in
+  line_judged : (asked : Asked) (input : List ℕ) (Says : Showing) → IsSound asked Says → (source : List ℕ) (status : Status) → LineAnswer Says (need_of asked) input old new status → Tells old.files.told input source → IsSettled status → Judged asked source status
+  line_judged asked input Says sound source Done answer tells settled =
+      let same : answer.source ≡ source = same_content old.files.told input answer.source source answer.read tells in
       let shown = sound.done answer.source answer.line answer.says in
       inl (record { taken = subst (IsTaken (need_of asked)) same shown.0; ends = subst (λ text. ¬ GoesOn asked text) same shown.1; done = refl })
-  line_judged asked Says sound source Budget answer tells settled =
-      let same : answer.source ≡ source = same_content old.files.told (input_of asked) answer.source source answer.read tells in
+  line_judged asked input Says sound source Budget answer tells settled =
+      let same : answer.source ≡ source = same_content old.files.told input answer.source source answer.read tells in
       let shown = sound.over answer.source answer.line answer.says in
       inr (inl (record { taken = subst (IsTaken (need_of asked)) same shown.0; goes_on = subst (GoesOn asked) same shown.1; has = shown.2; over = refl }))
-  line_judged asked Says sound source Refused answer tells settled = leads asked source Refused answer tells
-  line_judged asked Says sound source Limit answer tells settled = leads asked source Limit answer tells
-  line_judged asked Says sound source Usage answer tells settled = absurd answer
-  line_judged asked Says sound source ReadFault answer tells settled = absurd settled
-  line_judged asked Says sound source WriteFault answer tells settled = absurd settled
-  line_judged asked Says sound source Memory answer tells settled = absurd settled
+  line_judged asked input Says sound source Refused answer tells settled = leads asked input source Refused answer tells
+  line_judged asked input Says sound source Limit answer tells settled = leads asked input source Limit answer tells
+  line_judged asked input Says sound source Usage answer tells settled = absurd answer
+  line_judged asked input Says sound source ReadFault answer tells settled = absurd settled
+  line_judged asked input Says sound source WriteFault answer tells settled = absurd settled
+  line_judged asked input Says sound source Memory answer tells settled = absurd settled
 
-  judged : (asked : Asked) (source : List ℕ) (status : Status) → Does old new status asked → Tells old.files.told (input_of asked) source → IsSettled status → Judged asked source status
-  judged (Types input) source status answer tells settled = line_judged (Types input) ShowsType (type_sound input) source status answer tells settled
-  judged (Evaluates input turns) source status answer tells settled = line_judged (Evaluates input turns) (ShowsValue turns) (value_sound input turns) source status answer tells settled
-  judged (Checks input) source status answer tells settled = line_judged (Checks input) ShowsAccepted (accepted_sound input) source status answer tells settled
-  judged (Runs input fuel) source status answer tells settled = line_judged (Runs input fuel) (ShowsRun fuel) (run_sound input fuel) source status answer tells settled
+  judged : (asked : Asked) (source : List ℕ) (status : Status) → Does old new status asked → WorksOn asked old source → IsSettled status → Judged asked source status
+  judged (Types input) source status answer tells settled = line_judged (Types input) input ShowsType (type_sound input) source status answer tells settled
+  judged (Evaluates input turns) source status answer tells settled = line_judged (Evaluates input turns) input (ShowsValue turns) (value_sound input turns) source status answer tells settled
+  judged (Checks input) source status answer tells settled = line_judged (Checks input) input ShowsAccepted (accepted_sound input) source status answer tells settled
+  judged (Runs input fuel) source status answer tells settled = line_judged (Runs input fuel) input (ShowsRun fuel) (run_sound input fuel) source status answer tells settled
   judged (Compiles input output) source Done answer tells settled =
       let same : answer.source ≡ source = same_content old.files.told input answer.source source answer.read tells in
       let done = answer.compiled in
       inl (record { taken = subst (IsTaken (need_of (Compiles input output))) same (done.term, done.checked); ends = λ more. more; done = refl })
-  judged (Compiles input output) source Refused answer tells settled = leads (Compiles input output) source Refused answer tells
-  judged (Compiles input output) source Limit answer tells settled = leads (Compiles input output) source Limit answer tells
+  judged (Compiles input output) source Refused answer tells settled = leads (Compiles input output) input source Refused answer tells
+  judged (Compiles input output) source Limit answer tells settled = leads (Compiles input output) input source Limit answer tells
   judged (Compiles input output) source Usage answer tells settled = absurd answer
   judged (Compiles input output) source Budget answer tells settled = absurd answer
   judged (Compiles input output) source ReadFault answer tells settled = absurd settled
   judged (Compiles input output) source WriteFault answer tells settled = absurd settled
   judged (Compiles input output) source Memory answer tells settled = absurd settled
+  judged (Generates seed output) source Done answer is settled =
+      let done = answer.says in
+      inl (record { taken = subst (IsTaken AProgram) (sym is) (done.term, done.checked); ends = λ more. more; done = refl })
+  judged (Generates seed output) source Refused answer is settled = absurd answer
+  judged (Generates seed output) source Limit answer is settled = absurd answer
+  judged (Generates seed output) source Usage answer is settled = absurd answer
+  judged (Generates seed output) source Budget answer is settled = absurd answer
+  judged (Generates seed output) source ReadFault answer is settled = absurd settled
+  judged (Generates seed output) source WriteFault answer is settled = absurd settled
+  judged (Generates seed output) source Memory answer is settled = absurd settled
 
   -- only these statuses come where the file is absent
   line_absent : (Says : Showing) (need : Need) (input : List ℕ) (status : Status) → LineAnswer Says need input old new status → IsAbsent old.files.told input → (status ≡ ReadFault) ⊎ (status ≡ Memory)
@@ -210,7 +221,7 @@ module _ (old new : Outside) where
   line_absent Says need input ReadFault answer absent = inl refl
   line_absent Says need input Memory answer absent = inr refl
 
-  absent_at : (asked : Asked) (status : Status) → Does old new status asked → IsAbsent old.files.told (input_of asked) → (status ≡ ReadFault) ⊎ (status ≡ Memory)
+  absent_at : (asked : Asked) (status : Status) → Does old new status asked → IsMissing asked old → (status ≡ ReadFault) ⊎ (status ≡ Memory)
   absent_at (Types input) status answer absent = line_absent ShowsType AnyTerm input status answer absent
   absent_at (Evaluates input turns) status answer absent = line_absent (ShowsValue turns) AProgram input status answer absent
   absent_at (Checks input) status answer absent = line_absent ShowsAccepted AnAssembly input status answer absent
@@ -223,13 +234,15 @@ module _ (old new : Outside) where
   absent_at (Compiles input output) Budget answer absent = absurd answer
   absent_at (Compiles input output) ReadFault answer absent = inl refl
   absent_at (Compiles input output) Memory answer absent = inr refl
+  absent_at (Generates seed output) status answer absent = absurd absent
 
-  read_fault_at : (asked : Asked) → Does old new ReadFault asked → Faulted old.files.reads new.files.reads ⊎ IsAbsent old.files.told (input_of asked)
+  read_fault_at : (asked : Asked) → Does old new ReadFault asked → CannotRead asked old new
   read_fault_at (Compiles input output) answer = answer.cause
   read_fault_at (Types input) answer = answer.cause
   read_fault_at (Evaluates input turns) answer = answer.cause
   read_fault_at (Checks input) answer = answer.cause
   read_fault_at (Runs input fuel) answer = answer.cause
+  read_fault_at (Generates seed output) answer = answer
 
   write_fault_at : (asked : Asked) → Does old new WriteFault asked → CannotWrite asked old new
   write_fault_at (Compiles input output) answer = answer.cause
@@ -237,6 +250,8 @@ module _ (old new : Outside) where
   write_fault_at (Evaluates input turns) answer = answer.cause
   write_fault_at (Checks input) answer = answer.cause
   write_fault_at (Runs input fuel) answer = answer.cause
+  write_fault_at (Generates seed output) (inl unwritten) = inl unwritten.cause
+  write_fault_at (Generates seed output) (inr unshown) = inr unshown.cause
 
   cannot : (asked : Asked) → NoFaults old new → CannotWrite asked old new → ⊥
   cannot (Compiles input output) none rose = none.writes rose
@@ -244,6 +259,21 @@ module _ (old new : Outside) where
   cannot (Evaluates input turns) none rose = none.puts rose
   cannot (Checks input) none rose = none.puts rose
   cannot (Runs input fuel) none rose = none.puts rose
+  cannot (Generates seed output) none (inl rose) = none.writes rose
+  cannot (Generates seed output) none (inr rose) = none.puts rose
+
+  -- a file that is told is read, where no count rises
+  told_is_read : (input source : List ℕ) → NoFaults old new → Tells old.files.told input source → Faulted old.files.reads new.files.reads ⊎ IsAbsent old.files.told input → ⊥
+  told_is_read input source none tells (inl rose) = none.reads rose
+  told_is_read input source none tells (inr absent) = told_not_absent old.files.told input source tells absent
+
+  cannot_read : (asked : Asked) (source : List ℕ) → NoFaults old new → WorksOn asked old source → CannotRead asked old new → ⊥
+  cannot_read (Compiles input output) source none tells why = told_is_read input source none tells why
+  cannot_read (Types input) source none tells why = told_is_read input source none tells why
+  cannot_read (Evaluates input turns) source none tells why = told_is_read input source none tells why
+  cannot_read (Checks input) source none tells why = told_is_read input source none tells why
+  cannot_read (Runs input fuel) source none tells why = told_is_read input source none tells why
+  cannot_read (Generates seed output) source none is why = why
 
   no_usage : (asked : Asked) → Does old new Usage asked → ⊥
   no_usage (Compiles input output) answer = answer
@@ -251,6 +281,7 @@ module _ (old new : Outside) where
   no_usage (Evaluates input turns) answer = answer
   no_usage (Checks input) answer = answer
   no_usage (Runs input fuel) answer = answer
+  no_usage (Generates seed output) answer = answer
 
   budget_has : (asked : Asked) → Does old new Budget asked → HasBudget asked
   budget_has (Compiles input output) answer = answer
@@ -258,11 +289,21 @@ module _ (old new : Outside) where
   budget_has (Evaluates input turns) answer = tt
   budget_has (Checks input) answer = answer.says
   budget_has (Runs input fuel) answer = tt
+  budget_has (Generates seed output) answer = answer
+
+  generates_at : (seed : ℕ) (output : List ℕ) (status : Status) → SeedAnswer seed output old new status → (status ≡ Done) ⊎ ((status ≡ WriteFault) ⊎ (status ≡ Memory))
+  generates_at seed output Done answer = inl refl
+  generates_at seed output WriteFault answer = inr (inl refl)
+  generates_at seed output Memory answer = inr (inr refl)
+  generates_at seed output Refused answer = absurd answer
+  generates_at seed output Limit answer = absurd answer
+  generates_at seed output Usage answer = absurd answer
+  generates_at seed output Budget answer = absurd answer
+  generates_at seed output ReadFault answer = absurd answer
 
   -- a settled status is that of the text, any other has its cause
-  complete_at : (asked : Asked) (source : List ℕ) (status : Status) → Does old new status asked → Tells old.files.told (input_of asked) source → IsTaken (need_of asked) source → NoFaults old new → Works asked status ⊎ (status ≡ Memory)
-  complete_at asked source ReadFault answer tells taken none =
-      elim (read_fault_at asked answer) [ inl rose ↦ absurd (none.reads rose) | inr absent ↦ absurd (told_not_absent old.files.told (input_of asked) source tells absent) ]
+  complete_at : (asked : Asked) (source : List ℕ) (status : Status) → Does old new status asked → WorksOn asked old source → IsTaken (need_of asked) source → NoFaults old new → Works asked status ⊎ (status ≡ Memory)
+  complete_at asked source ReadFault answer tells taken none = absurd (cannot_read asked source none tells (read_fault_at asked answer))
   complete_at asked source WriteFault answer tells taken none = absurd (cannot asked none (write_fault_at asked answer))
   complete_at asked source Memory answer tells taken none = inr refl
   complete_at asked source Done answer tells taken none = inl (works_judged asked source Done (judged asked source Done answer tells tt) taken)
@@ -306,5 +347,6 @@ exactly words old new status headline = record {
   read_fault = λ asked asks e. read_fault_at old new asked (subst (λ s. Does old new s asked) e (at_some _ _ _ _ headline asks));
   absent = λ asked asks absent. absent_at old new asked status (at_some _ _ _ _ headline asks) absent;
   write_fault = λ asked asks e. write_fault_at old new asked (subst (λ s. Does old new s asked) e (at_some _ _ _ _ headline asks));
+  generates = λ seed output asks. generates_at old new seed output status (at_some _ _ _ _ headline asks);
   complete = λ asked source asks taken none. complete_at old new asked source status (at_some _ _ _ _ headline asks.0) asks.1 taken none;
 }

@@ -5,4 +5,6 @@ mod DoesLemmas
 pub mod ExactLemmas
 mod FaultLemmas
 mod Rows
+mod SeedLemmas
+mod SizeLemmas
 mod SourceLemmas

@@ -1,5 +1,5 @@
 -- When each status comes, exactly.
-use Rattle.std.specs.Prelude.{◌≡◌, ◌⊎◌, ◌↔◌, ℕ, List, Option, Some, None}
+use Rattle.std.specs.Prelude.{◌≡◌, ◌⊎◌, ◌↔◌, ℕ, List, Option, Some, None, MatchOption}
 use Rattle.std.specs.FinMap.{get}
 use Rattle.io_core.specs.Outside.{FileMap, Faulted, IsAbsent}
 use Rattle.talc_core.specs.declared.status.Status.{Status}
@@ -12,8 +12,10 @@ use Rattle.f_terms.specs.Tm.{Tm, plain}
 use Rattle.f_terms.specs.Eval.{IsSpent}
 use Rattle.t_terms.specs.Spanned.{SProg, plain_program}
 use Rattle.t_rules.specs.Machine.{GoesOnAfter}
+use Rattle.seeds.specs.Source.{source}
 use Rattle.talc_core.specs.FirstFault.{Need, FirstFault, IsChecked, IsAcceptedText, IsTaken}
-use Rattle.talc_core.specs.Command.{Asked, Compiles, Types, Evaluates, Checks, Runs, command_of, need_of, input_of}
+use Rattle.talc_core.specs.Command.{Asked, Compiles, Types, Evaluates, Checks, Runs, Generates}
+use Rattle.talc_core.specs.Command.{command_of, need_of, input_of}
 use Rattle.talc_core.specs.Headline.{Outside}
 
 -- no fault of the outside, and no want of memory
@@ -28,21 +30,41 @@ abbrev pub Tells : Option FileMap → List ℕ → List ℕ → Type 0
 Tells None name bytes = ⊥
 Tells (Some files) name bytes = get files name ≡ Some bytes
 
--- the words ask for this to be done with a file that has this content
+-- the command works on this text: the content of the file that it reads, or the source of its seed
+abbrev pub WorksOn : Asked → Outside → List ℕ → Type 0
+WorksOn (Compiles input output) old text = Tells old.files.told input text
+WorksOn (Types input) old text = Tells old.files.told input text
+WorksOn (Evaluates input turns) old text = Tells old.files.told input text
+WorksOn (Checks input) old text = Tells old.files.told input text
+WorksOn (Runs input fuel) old text = Tells old.files.told input text
+WorksOn (Generates seed output) old text = text ≡ source seed
+
+-- the words ask for this to be done with this text
 abbrev pub Asking : List (List ℕ) → Outside → Asked → List ℕ → Type 0
-Asking words old asked source = (command_of words ≡ Some asked) × Tells old.files.told (input_of asked) source
+Asking words old asked text = (command_of words ≡ Some asked) × WorksOn asked old text
+
+-- the command reads a file, and the told map has none of its name
+abbrev pub IsMissing : Asked → Outside → Type 0
+IsMissing asked old = MatchOption (input_of asked) ⊥ (IsAbsent old.files.told)
+
+-- the command reads a file, and a read may have failed, or there is no such file
+abbrev pub CannotRead : Asked → Outside → Outside → Type 0
+CannotRead asked old new =
+    MatchOption (input_of asked) ⊥ (λ input. Faulted old.files.reads new.files.reads ⊎ IsAbsent old.files.told input)
 
 -- the first fault of the text leads to this status
 abbrev pub LeadsTo : Need → List ℕ → Status → Type 0
 LeadsTo need source status = (fault : Fault) × FirstFault need source fault × (status_of fault ≡ status)
 
--- what may have failed where the status is a fault of writing: the write of the output's file, or the put of the line
+-- what may have failed where the status is a fault of writing: the write of the output's file, or the put of the lines
 abbrev pub CannotWrite : Asked → Outside → Outside → Type 0
 CannotWrite (Compiles input output) old new = Faulted old.files.writes new.files.writes
 CannotWrite (Types input) old new = Faulted old.out.faults new.out.faults
 CannotWrite (Evaluates input turns) old new = Faulted old.out.faults new.out.faults
 CannotWrite (Checks input) old new = Faulted old.out.faults new.out.faults
 CannotWrite (Runs input fuel) old new = Faulted old.out.faults new.out.faults
+CannotWrite (Generates seed output) old new =
+    Faulted old.files.writes new.files.writes ⊎ Faulted old.out.faults new.out.faults
 
 -- the command has a budget
 abbrev pub HasBudget : Asked → Type 0
@@ -51,6 +73,7 @@ HasBudget (Types input) = ⊥
 HasBudget (Evaluates input turns) = Unit {0}
 HasBudget (Checks input) = ⊥
 HasBudget (Runs input fuel) = Unit {0}
+HasBudget (Generates seed output) = ⊥
 
 -- the text is what the command needs, and the end isn't reached within the budget
 abbrev pub GoesOn : Asked → List ℕ → Type 0
@@ -60,6 +83,7 @@ GoesOn (Evaluates input turns) source = (term : Tm) × IsChecked source term TIn
 GoesOn (Checks input) source = ⊥
 GoesOn (Runs input fuel) source =
     (program : SProg) × IsAcceptedText source program × GoesOnAfter (plain_program program) fuel
+GoesOn (Generates seed output) source = ⊥
 
 -- no count of faults of the files or of the output rises in the call or stands at its last value
 pub record NoFaults (old new : Outside) : Type 0 where
@@ -87,11 +111,14 @@ pub record Exactly (words : List (List ℕ)) (old new : Outside) (status : Statu
   pub has_budget : status ≡ Budget → (asked : Asked) × (command_of words ≡ Some asked) × HasBudget asked
   -- a fault of reading only by its cause, and where the file is absent nothing else but want of memory
   pub read_fault : (asked : Asked) → command_of words ≡ Some asked → status ≡ ReadFault →
-      Faulted old.files.reads new.files.reads ⊎ IsAbsent old.files.told (input_of asked)
-  pub absent : (asked : Asked) → command_of words ≡ Some asked → IsAbsent old.files.told (input_of asked) →
+      CannotRead asked old new
+  pub absent : (asked : Asked) → command_of words ≡ Some asked → IsMissing asked old →
       (status ≡ ReadFault) ⊎ (status ≡ Memory)
   -- a fault of writing only by the count of what the command writes to
   pub write_fault : (asked : Asked) → command_of words ≡ Some asked → status ≡ WriteFault → CannotWrite asked old new
   -- the work is done on a text that is what the command needs, as far as the budget goes
   pub complete : (asked : Asked) (source : List ℕ) → Asking words old asked source →
       IsTaken (need_of asked) source → NoFaults old new → Works asked status ⊎ (status ≡ Memory)
+  -- `gen` ends with no other status than these, since every source of a seed is a program
+  pub generates : (seed : ℕ) (output : List ℕ) → command_of words ≡ Some (Generates seed output) →
+      (status ≡ Done) ⊎ ((status ≡ WriteFault) ⊎ (status ≡ Memory))

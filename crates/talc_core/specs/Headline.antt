@@ -9,8 +9,9 @@ use Rattle.talc_core.specs.declared.fault.Fault.{Fault}
 use Rattle.talc_core.specs.Fault.{status_of}
 use Rattle.talc_core.specs.FirstFault.{Need, AnyTerm, AProgram, AnAssembly, FirstFault}
 use Rattle.talc_core.specs.Compiled.{IsCompiled}
-use Rattle.talc_core.specs.Shown.{Showing, ShowsType, ShowsValue, ShowsAccepted, ShowsRun}
-use Rattle.talc_core.specs.Command.{Asked, Compiles, Types, Evaluates, Checks, Runs, command_of}
+use Rattle.seeds.specs.Source.{source}
+use Rattle.talc_core.specs.Shown.{Showing, ShowsType, ShowsValue, ShowsAccepted, ShowsRun, SeedShown}
+use Rattle.talc_core.specs.Command.{Asked, Compiles, Types, Evaluates, Checks, Runs, Generates, command_of}
 use Rattle.talc_core.specs.Lines.{fault_line, read_line, write_line, memory_line}
 
 -- what the call reaches: the files, the output and the error output
@@ -122,6 +123,49 @@ LineAnswer Says need input old new WriteFault = LineNotShown Says input old new
 LineAnswer Says need input old new Memory = OutOfMemory old new
 LineAnswer Says need input old new Usage = ⊥
 
+-- ---- the command `gen`
+
+-- the output's file is set to the source of the seed
+abbrev pub SeedWritten : ℕ → List ℕ → Outside → Outside → Type 0
+SeedWritten seed output old new = new.files.told ≡ with_file old.files.told output (source seed)
+
+-- 0: the output's file is set to the source of the seed, and the four lines are on the output
+pub record SeedDone (seed : ℕ) (output : List ℕ) (old new : Outside) : Type 0 where
+  pub lines : List ℕ
+  pub says : SeedShown seed lines
+  pub written : SeedWritten seed output old new
+  pub out : new.out.taken ≡ gained old.out.taken lines
+  pub err : new.err ≡ old.err
+
+-- 6 from the write: the count of writes rose or stands at its last value; every other file is as before
+pub record SeedNotWritten (seed : ℕ) (output : List ℕ) (old new : Outside) : Type 0 where
+  pub cause : Faulted old.files.writes new.files.writes
+  pub line : ShowsOrNot old.err new.err write_line
+  pub out : new.out ≡ old.out
+  pub files : SameBut output old.files.told new.files.told
+
+-- 6 from the output: its count rose or stands at its last value, and it has taken a first part of the lines
+pub record SeedNotShown (seed : ℕ) (output : List ℕ) (old new : Outside) : Type 0 where
+  pub lines : List ℕ
+  pub says : SeedShown seed lines
+  pub written : SeedWritten seed output old new
+  pub cause : Faulted old.out.faults new.out.faults
+  pub line : ShowsOrNot old.err new.err write_line
+  pub out : GainedPart old.out.taken lines new.out.taken
+
+-- 7: nothing is changed; or the put found no memory after the write
+pub record SeedOutOfMemory (seed : ℕ) (output : List ℕ) (old new : Outside) : Type 0 where
+  pub line : ShowsOrNot old.err new.err memory_line
+  pub out : new.out ≡ old.out
+  pub files : (new.files.told ≡ old.files.told) ⊎ SeedWritten seed output old new
+
+-- what `gen` does; other statuses never come
+abbrev pub SeedAnswer : ℕ → List ℕ → Outside → Outside → Status → Type 0
+SeedAnswer seed output old new Done = SeedDone seed output old new
+SeedAnswer seed output old new WriteFault = SeedNotWritten seed output old new ⊎ SeedNotShown seed output old new
+SeedAnswer seed output old new Memory = SeedOutOfMemory seed output old new
+SeedAnswer seed output old new other = ⊥
+
 -- ---- the whole
 
 -- 2: the words are no command; some text for the user is shown, and the files are left alone
@@ -149,6 +193,7 @@ Does old new status (Types input) = LineAnswer ShowsType AnyTerm input old new s
 Does old new status (Evaluates input turns) = LineAnswer (ShowsValue turns) AProgram input old new status
 Does old new status (Checks input) = LineAnswer ShowsAccepted AnAssembly input old new status
 Does old new status (Runs input fuel) = LineAnswer (ShowsRun fuel) AnAssembly input old new status
+Does old new status (Generates seed output) = SeedAnswer seed output old new status
 
 -- The whole of it: what the words ask for is done, or the user is told that they are no command.
 abbrev pub Headline : List (List ℕ) → Outside → Outside → Status → Type 0

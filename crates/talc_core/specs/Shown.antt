@@ -1,15 +1,17 @@
 -- What the commands that write no file show of a text, by the status that they end with.
-use Rattle.std.specs.Prelude.{◌≡◌, ◌+◌, ℕ, ℤ, List}
+use Rattle.std.specs.Prelude.{◌≡◌, ◌+◌, ℕ, ℤ, List, length}
 use Rattle.f_terms.specs.Ty.{Ty, TInt}
 use Rattle.f_terms.specs.Tm.{Tm, plain}
 use Rattle.f_terms.specs.Eval.{EvaluatesLeaving, IsSpent}
 use Rattle.talc_core.specs.declared.status.Status.{Status}
 use Rattle.talc_core.specs.declared.status.Status.TheVariants.{Done, Budget}
 use Rattle.t_terms.specs.Spanned.{SProg, plain_program}
-use Rattle.t_rules.specs.Machine.{HaltsWithin, GoesOnAfter, NeverSticks}
+use Rattle.t_rules.specs.Machine.{HaltsWithin, Halts, GoesOnAfter, NeverSticks}
+use Rattle.seeds.specs.Source.{source as source_of}
 use Rattle.talc_core.specs.FirstFault.{IsChecked, IsAcceptedText}
+use Rattle.talc_core.specs.Compiled.{IsCompiled}
 use Rattle.talc_core.specs.Lines.{type_line, value_line, more_turns_line}
-use Rattle.talc_core.specs.Lines.{accepted_line, integer_line, more_instructions_line}
+use Rattle.talc_core.specs.Lines.{accepted_line, integer_line, more_instructions_line, seed_lines}
 
 -- the lines that a command may show of a text, with the status that it then ends with
 abbrev pub Showing : Type 1
@@ -82,3 +84,24 @@ abbrev pub ShowsRun : ℕ → Showing
 ShowsRun fuel Done text line = HaltedShown fuel text line
 ShowsRun fuel Budget text line = RunningShown fuel text line
 ShowsRun fuel other text line = ⊥
+
+-- the turns within which `gen` evaluates
+abbrev pub seed_turns : ℕ
+seed_turns = 1000000
+
+-- The source of the seed is a text of a program, which evaluates to an integer. It is compiled to a text that stands for an
+-- accepted program, which halts with the same integer. The lines say so, with the number of bytes and that of turns.
+pub record SeedShown (seed : ℕ) (lines : List ℕ) : Type 0 where
+  pub term : Tm
+  pub value : ℤ
+  pub used : ℕ
+  pub left : ℕ
+  pub target : List ℕ
+  pub program : SProg
+  pub checked : IsChecked (source_of seed) term TInt
+  pub evaluates : EvaluatesLeaving (plain term) seed_turns value left
+  pub turns_used : used + left ≡ seed_turns
+  pub compiled : IsCompiled (source_of seed) target
+  pub accepted : IsAcceptedText target program
+  pub halts : Halts (plain_program program) value
+  pub is : lines ≡ seed_lines (length (source_of seed)) value used value

@@ -1,15 +1,20 @@
 -- What the steps of a call do.
-use Rattle.std.specs.Prelude.{◌≡◌, ◌⊎◌, ℕ, List, Result, Ok, Err, Vec}
+use Rattle.std.specs.Prelude.{◌≡◌, ◌≤◌, ◌⊎◌, ◌+◌, ◌*◌, ℕ, ℤ, List, Result, Ok, Err, Vec}
 use Rattle.std.specs.declared.alloc.Global.{Global}
 use Rattle.io_core.specs.Outside.{FilesState, SinkState, Faulted, IsAbsent, Holds, SameBut}
 use Rattle.io_core.specs.Outside.{with_file, gained, GainedPart}
 use Rattle.f_terms.specs.Ty.{TInt}
+use Rattle.f_terms.specs.Tm.{Tm, plain}
+use Rattle.f_terms.specs.Eval.{EvaluatesLeaving}
 use Rattle.f_terms.specs.Read.{tree}
 use Rattle.f_terms.specs.ReadTerm.{spanned}
 use Rattle.f_check.specs.Typed.{typed_term, typed_type, program_term}
 use Rattle.f_check.specs.declared.typed.Typed.{Typed}
 use Rattle.f_check.specs.declared.typed.Program.{Program}
 use Rattle.t_terms.specs.ReadProgram.{spanned_program}
+use Rattle.t_terms.specs.Tree.{TProg}
+use Rattle.t_rules.specs.Machine.{GoesOnAfter}
+use Rattle.t_rules.specs.Times.{program_size}
 use Rattle.t_check.specs.Checked.{checked_program}
 use Rattle.t_check.specs.declared.checked.Checked.{Checked}
 use Rattle.talc_core.specs.declared.status.Status.{Status}
@@ -20,10 +25,11 @@ use Rattle.talc_core.specs.declared.commands.Ending.{Ending}
 use Rattle.talc_core.specs.declared.commands.Ending.TheVariants.{Ends, GoesOn}
 use Rattle.talc_core.specs.declared.commands.Reply.{Reply}
 use Rattle.talc_core.specs.Fault.{status_of}
-use Rattle.talc_core.specs.Command.{Asked, Compiles, Types, Evaluates, Checks, Runs}
+use Rattle.talc_core.specs.Command.{Asked, Compiles, Types, Evaluates, Checks, Runs, Generates}
 use Rattle.talc_core.specs.FirstFault.{Need, AnyTerm, AProgram, AnAssembly, IsChecked, IsAcceptedText, FirstFault}
 use Rattle.talc_core.specs.Compiled.{IsCompiled}
-use Rattle.talc_core.specs.Shown.{Showing, ShowsType, ShowsValue, ShowsAccepted, ShowsRun}
+use Rattle.seeds.specs.Source.{source as source_of}
+use Rattle.talc_core.specs.Shown.{Showing, ShowsType, ShowsValue, ShowsAccepted, ShowsRun, SeedShown, seed_turns}
 use Rattle.talc_core.specs.Headline.{Shows, ShowsOrNot}
 use Rattle.talc_core.specs.Lines.{fault_line, read_line, write_line, memory_line}
 
@@ -130,6 +136,42 @@ ShowsFile Says need input old new out out' (Err Write) =
     × Faulted out.faults out'.faults × GainedPart out.taken line out'.taken × (new.told ≡ old.told)
 ShowsFile Says need input old new out out' (Err Memory) = (new.told ≡ old.told) × (out' ≡ out)
 
+-- the failure is want of memory
+abbrev pub WantsMemory : Failure → Type 0
+WantsMemory Memory = Unit {0}
+WantsMemory other = ⊥
+
+-- the fact, or want of memory
+abbrev pub OrMemory : {X : Type 0} → (X → Type 0) → Result X Failure → Type 0
+OrMemory P (Ok x) = P x
+OrMemory P (Err failure) = WantsMemory failure
+
+-- the source of the seed evaluates to this integer, with so many turns used of those within which `gen` evaluates
+pub record Evaluated (seed : ℕ) (value : ℤ) (used : ℕ) : Type 0 where
+  pub term : Tm
+  pub left : ℕ
+  pub checked : IsChecked (source_of seed) term TInt
+  pub evaluates : EvaluatesLeaving (plain term) seed_turns value left
+  pub turns_used : used + left ≡ seed_turns
+
+-- the program doesn't go on after as many instructions as one may make that is compiled from a source of so few turns
+abbrev pub HaltsSoonEnough : TProg → Type 0
+HaltsSoonEnough P = (fuel : ℕ) → (seed_turns + 1) * program_size P ≤ fuel → ¬ GoesOnAfter P fuel
+
+-- the source of a seed written, and what is shown of it put on the output; or why not
+abbrev pub ShowsSeed :
+    ℕ → List ℕ → FilesState → FilesState → SinkState → SinkState → Result Ending Failure → Type 0
+ShowsSeed seed output old new out out' (Ok Ends) =
+    (lines : List ℕ) × SeedShown seed lines × (new.told ≡ with_file old.told output (source_of seed))
+    × (out'.taken ≡ gained out.taken lines)
+ShowsSeed seed output old new out out' (Err Write) =
+    (Faulted old.writes new.writes × SameBut output old.told new.told × (out' ≡ out))
+    ⊎ ((lines : List ℕ) × SeedShown seed lines × (new.told ≡ with_file old.told output (source_of seed))
+    × Faulted out.faults out'.faults × GainedPart out.taken lines out'.taken)
+ShowsSeed seed output old new out out' (Err Memory) =
+    (out' ≡ out) × ((new.told ≡ old.told) ⊎ (new.told ≡ with_file old.told output (source_of seed)))
+ShowsSeed seed output old new out out' other = ⊥
+
 -- what a command does on the files and the output, or why not
 abbrev pub Performs :
     Asked → FilesState → FilesState → SinkState → SinkState → Result Ending Failure → Type 0
@@ -140,6 +182,7 @@ Performs (Evaluates input turns) old new out out' result =
 Performs (Checks input) old new out out' result = ShowsFile ShowsAccepted AnAssembly input old new out out' result
 Performs (Runs input fuel) old new out out' result =
     ShowsFile (ShowsRun fuel) AnAssembly input old new out out' result
+Performs (Generates seed output) old new out out' result = ShowsSeed seed output old new out out' result
 
 -- ---- the lines for the user
 

@@ -7,6 +7,7 @@ use crate::commands::check::show_acceptance;
 use crate::commands::compile::compile_file;
 use crate::commands::eval::show_value;
 use crate::commands::run::show_run;
+use crate::commands::seed::show_seed;
 use crate::commands::type_of::show_type;
 use crate::outside::put_line;
 use crate::report::Failure;
@@ -19,6 +20,7 @@ mod check;
 mod compile;
 mod eval;
 mod run;
+mod seed;
 mod type_of;
 
 // How a command ended that failed nowhere.
@@ -72,5 +74,6 @@ pub(crate) fn perform<F: Files, O: Sink>(
         Command::Run { input, fuel } => show_run(alloc, files, out, input, fuel),
         Command::Typeof { input } => show_type(alloc, files, out, input),
         Command::Eval { input, turns } => show_value(alloc, files, out, input, turns),
+        Command::Gen { seed, output } => show_seed(alloc, files, out, seed, output),
     }
 }

@@ -20,5 +20,6 @@ pub use laws::{
     one_fault, taken_or_fault,
 };
 pub use lines::fault_line;
+pub use seeds::source_of;
 pub use status::Status;
 pub use top::talc;

@@ -12,6 +12,7 @@ mod compile_rows;
 mod cut_rows;
 mod memory;
 mod outside_rows;
+mod seed_rows;
 mod source_rows;
 mod value_rows;
 
@@ -87,7 +88,9 @@ fn other_words_are_no_command(rt: HostRuntime) -> Result<(), Fail> {
             "talc run x.tal",
             "talc check",
             "talc run x.tal --turns 1",
-            "talc gen --seed 0 g.f",
+            "talc gen --seed 0",
+            "talc gen g.f",
+            "talc upgrade x.tal y.tal",
             "talc help",
             "talc --help",
             "talc compile --help",

@@ -11,7 +11,7 @@ use std::alloc::Global;
 use t_writer::write;
 
 // The assembly text that a source text is compiled to, or why there is none.
-fn compile_text(alloc: Global, source: &[u8]) -> Result<Vec<u8>, Failure>
+pub(crate) fn compile_text(alloc: Global, source: &[u8]) -> Result<Vec<u8>, Failure>
     ensures { CompilesText source.now result }
 {
     let program = read_program(alloc, source)?;

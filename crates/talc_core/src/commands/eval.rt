@@ -17,7 +17,7 @@ use std::alloc::Global;
 use t_writer::{write_integer, write_natural};
 
 // The line of an integer with the turns that were used.
-fn value_line(alloc: Global, value: i64, used: u64) -> Result<Vec<u8>, OutOfMemory>
+pub(crate) fn value_line(alloc: Global, value: i64, used: u64) -> Result<Vec<u8>, OutOfMemory>
     ensures { IfOk result (λ line. line.items ≡ value_line value used) }
 {
     let mut line = Vec::from_slice(alloc, b"int ")?;

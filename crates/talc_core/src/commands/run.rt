@@ -22,7 +22,7 @@ use t_machine::{Ran, first_runs_tell, load};
 use t_writer::write_integer;
 
 // The line of the integer with which a program halts.
-fn integer_line(alloc: Global, value: i64) -> Result<Vec<u8>, OutOfMemory>
+pub(crate) fn integer_line(alloc: Global, value: i64) -> Result<Vec<u8>, OutOfMemory>
     ensures { IfOk result (λ line. line.items ≡ integer_line value) }
 {
     let mut line = Vec::from_slice(alloc, b"int ")?;
@@ -39,7 +39,7 @@ fn more_instructions_line(alloc: Global, count: u64) -> Result<Vec<u8>, OutOfMem
 }
 
 // The first run of a program.
-fn first_run(alloc: Global, program: &Checked, fuel: u64) -> Result<Ran, OutOfMemory>
+pub(crate) fn first_run(alloc: Global, program: &Checked, fuel: u64) -> Result<Ran, OutOfMemory>
     requires { Accepted (program_of (checked_program program.now)) }
     ensures { IfOk result (λ ran. FirstRun (program_of (checked_program program.now)) fuel ran) }
 {

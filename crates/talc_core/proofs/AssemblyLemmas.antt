@@ -1,12 +1,10 @@
 -- What the checking of an assembly text says of its program.
-use Rattle.std.proofs.Common.{◌≡◌, ℕ, List, sym, subst}
-use Rattle.t_terms.specs.Spanned.{plain_program}
+use Rattle.std.proofs.Common.{◌≡◌, ℕ, List}
 use Rattle.t_terms.specs.ReadProgram.{program, spanned_program}
 use Rattle.t_terms.specs.Whole.{Whole}
 use Rattle.t_terms.specs.declared.program.TProgram.{TProgram}
-use Rattle.t_rules.specs.Rules.{Accepted}
 use Rattle.t_rules.specs.LawsSound.{NothingSticks}
-use Rattle.talc_core.specs.FirstFault.{IsAssembly, IsAcceptedText}
+use Rattle.talc_core.specs.FirstFault.{IsAcceptedText}
 use Rattle.talc_core.specs.Lines.{accepted_line}
 use Rattle.talc_core.specs.Shown.{AcceptedShown}
 

@@ -2,8 +2,7 @@
 use Rattle.std.proofs.Common.{◌≡◌, ℕ, ℤ, List, sym, subst}
 use Rattle.std.proofs.Math.Logic.{∥∥₁_map, ∥∥₁_elim}
 use Rattle.std.proofs.Math.IntN.{ℤ_set}
-use Rattle.f_terms.specs.Ty.{TInt}
-use Rattle.f_terms.specs.Tm.{Tm, Term, plain}
+use Rattle.f_terms.specs.Tm.{Term, plain}
 use Rattle.f_terms.specs.Eval.{Evaluates}
 use Rattle.f_terms.specs.Laws.{OneAnswer}
 use Rattle.t_terms.specs.Spanned.{SProg, plain_program}
@@ -11,9 +10,8 @@ use Rattle.t_terms.specs.Tree.{TProg}
 use Rattle.t_rules.specs.Rules.{Accepted}
 use Rattle.t_rules.specs.Machine.{HaltsWithin}
 use Rattle.pipeline.specs.Meaning.{SameMeaning}
-use Rattle.talc_core.specs.FirstFault.{AnAssembly, IsChecked, IsAcceptedText, IsTaken}
+use Rattle.talc_core.specs.FirstFault.{IsAcceptedText}
 use Rattle.talc_core.specs.Compiled.{IsCompiled}
-use Rattle.talc_core.specs.Shown.{ValueShown, HaltedShown}
 use Rattle.talc_core.specs.Composition.{CompiledIsTaken, CompiledMeansTheSame, CompiledShowsTheSame}
 use Rattle.talc_core.proofs.FaultLemmas.{same_term, same_program}
 

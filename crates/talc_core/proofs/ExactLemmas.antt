@@ -7,7 +7,7 @@ use Rattle.talc_core.specs.declared.status.Status.TheVariants.{Done, Refused, Us
 use Rattle.talc_core.specs.Fault.{is_limit, status_of}
 use Rattle.f_terms.specs.Tm.{plain}
 use Rattle.f_terms.specs.Eval.{Gives, Spent, EvaluatesLeaving, IsSpent}
-use Rattle.t_terms.specs.Spanned.{SProg, plain_program}
+use Rattle.t_terms.specs.Spanned.{plain_program}
 use Rattle.t_rules.specs.Machine.{GoesOnAfter}
 use Rattle.t_machine.proofs.Exactly.{going_not_halted}
 use Rattle.talc_core.specs.FirstFault.{Need, AnyTerm, AProgram, AnAssembly, IsTaken}

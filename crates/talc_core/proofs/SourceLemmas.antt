@@ -1,22 +1,16 @@
 -- What the reading of a source text says of its term, for the checker.
-use Rattle.std.proofs.Common.{◌≡◌, ◌≤◌, ℕ, List, arith, refl, inl, inr}
+use Rattle.std.proofs.Common.{◌≡◌, ◌≤◌, ℕ, List, arith, refl, inr}
 use Rattle.idx_core.specs.declared.span.Span.{Span}
-use Rattle.f_terms.specs.declared.fault.FFault.{FFault}
-use Rattle.f_terms.specs.declared.fault.FFault.TheVariants.{Memory, Refused}
 use Rattle.f_terms.specs.declared.fault.Code.TheVariants.{E15}
-use Rattle.f_terms.specs.Ty.{Ty, TInt, NoTys}
+use Rattle.f_terms.specs.Ty.{Ty, TInt}
 use Rattle.f_terms.specs.Tm.{Tm, plain, span_of}
 use Rattle.f_terms.specs.Limits.{nodes}
 use Rattle.f_terms.specs.Scope.{IsClosed}
-use Rattle.f_terms.specs.Faults as typing
-use Rattle.f_check.specs.Verdict.{Says}
 use Rattle.f_parser.proofs.Exact as parser
-use Rattle.f_parser.specs.Text as reading
 use Rattle.f_terms.specs.Read.{place}
 use Rattle.talc_core.specs.declared.fault.Fault.TheVariants.{Source}
 use Rattle.talc_core.specs.declared.report.Failure.TheVariants as failed
-use Rattle.talc_core.specs.FirstFault.{AnyTerm, AProgram, IsParsed, IsChecked}
-use Rattle.talc_core.specs.Failures.{failure_of}
+use Rattle.talc_core.specs.FirstFault.{AProgram, IsParsed, IsChecked}
 use Rattle.talc_core.specs.Steps.{RefusedBy}
 
 -- the term of a text is closed and small

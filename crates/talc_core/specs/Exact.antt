@@ -102,12 +102,12 @@ pub record Exactly (words : List (List ℕ)) (old new : Outside) (status : Statu
   pub no_command : command_of words ≡ None → (status ≡ Usage) ⊎ (status ≡ Memory)
   -- refused exactly where the first fault is no limit, and at a limit exactly where it is one
   pub refused : (asked : Asked) (source : List ℕ) → Asking words old asked source → IsSettled status →
-    (status ≡ Refused) ↔ LeadsTo (need_of asked) source Refused
+      (status ≡ Refused) ↔ LeadsTo (need_of asked) source Refused
   pub limit : (asked : Asked) (source : List ℕ) → Asking words old asked source → IsSettled status →
-    (status ≡ Limit) ↔ LeadsTo (need_of asked) source Limit
+      (status ≡ Limit) ↔ LeadsTo (need_of asked) source Limit
   -- the budget is used up exactly where the text goes on after it, and only in a command that has one
   pub budget : (asked : Asked) (source : List ℕ) → Asking words old asked source → IsSettled status →
-    (status ≡ Budget) ↔ GoesOn asked source
+      (status ≡ Budget) ↔ GoesOn asked source
   pub has_budget : status ≡ Budget → (asked : Asked) × (command_of words ≡ Some asked) × HasBudget asked
   -- a fault of reading only by its cause, and where the file is absent nothing else but want of memory
   pub read_fault : (asked : Asked) → command_of words ≡ Some asked → status ≡ ReadFault →

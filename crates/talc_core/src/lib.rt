@@ -16,8 +16,8 @@ mod top;
 
 pub use fault::Fault;
 pub use laws::{
-    compiled_is_taken, compiled_means_the_same, compiled_shows_the_same,
-    no_fault_where_taken, one_fault,
+    compiled_is_taken, compiled_means_the_same, compiled_shows_the_same, no_fault_where_taken,
+    one_fault,
 };
 pub use lines::fault_line;
 pub use seeds::source_of;

@@ -33,7 +33,15 @@ fn shows_this(
     shown: Shown,
 ) -> Result<(), Fail> {
     let (status, out, err) = shown;
-    shows(rt, alloc, line, text, status, out.as_bytes(), err.as_bytes())
+    shows(
+        rt,
+        alloc,
+        line,
+        text,
+        status,
+        out.as_bytes(),
+        err.as_bytes(),
+    )
 }
 
 // Each proper beginning of the text shows what is named, and any other a fault at its end.
@@ -98,13 +106,34 @@ fn beginnings_of_an_assembly_text(rt: HostRuntime) -> Result<(), Fail> {
         "talc check x",
         b"tal 1\nL0: code[]{}. jmp L0",
         &[
-            (1, (Status::Refused, "", "T03 0..1 unexpected token or end\n")),
-            (2, (Status::Refused, "", "T03 0..2 unexpected token or end\n")),
-            (11, (Status::Refused, "", "T03 10..11 unexpected token or end\n")),
-            (12, (Status::Refused, "", "T03 10..12 unexpected token or end\n")),
-            (13, (Status::Refused, "", "T03 10..13 unexpected token or end\n")),
-            (21, (Status::Refused, "", "T03 20..21 unexpected token or end\n")),
-            (22, (Status::Refused, "", "T03 20..22 unexpected token or end\n")),
+            (
+                1,
+                (Status::Refused, "", "T03 0..1 unexpected token or end\n"),
+            ),
+            (
+                2,
+                (Status::Refused, "", "T03 0..2 unexpected token or end\n"),
+            ),
+            (
+                11,
+                (Status::Refused, "", "T03 10..11 unexpected token or end\n"),
+            ),
+            (
+                12,
+                (Status::Refused, "", "T03 10..12 unexpected token or end\n"),
+            ),
+            (
+                13,
+                (Status::Refused, "", "T03 10..13 unexpected token or end\n"),
+            ),
+            (
+                21,
+                (Status::Refused, "", "T03 20..21 unexpected token or end\n"),
+            ),
+            (
+                22,
+                (Status::Refused, "", "T03 20..22 unexpected token or end\n"),
+            ),
             (25, (Status::Refused, "", "T05 24..25 unknown label\n")),
         ],
         ("T03", "unexpected token or end"),
@@ -115,7 +144,19 @@ fn beginnings_of_an_assembly_text(rt: HostRuntime) -> Result<(), Fail> {
 fn a_byte_that_is_no_text(rt: HostRuntime) -> Result<(), Fail> {
     let alloc = rt.alloc();
     let source = "E01 0..1 byte begins no token\n";
-    shows_this(&rt, alloc, "talc typeof x", &[200], (Status::Refused, "", source))?;
+    shows_this(
+        &rt,
+        alloc,
+        "talc typeof x",
+        &[200],
+        (Status::Refused, "", source),
+    )?;
     let assembly = "T01 0..1 byte begins no token\n";
-    shows_this(&rt, alloc, "talc check x", &[200], (Status::Refused, "", assembly))
+    shows_this(
+        &rt,
+        alloc,
+        "talc check x",
+        &[200],
+        (Status::Refused, "", assembly),
+    )
 }

@@ -53,12 +53,32 @@ fn failing_files(rt: HostRuntime) -> Result<(), Fail> {
         &rt,
         rt.alloc(),
         &[
-            ("talc compile no.f x", &[], &[], tells(Status::ReadFault, b"read fault\n", (0, 0))),
-            (COMPILE, &[(0, 0)], &[], tells(Status::ReadFault, b"read fault\n", (1, 0))),
+            (
+                "talc compile no.f x",
+                &[],
+                &[],
+                tells(Status::ReadFault, b"read fault\n", (0, 0)),
+            ),
+            (
+                COMPILE,
+                &[(0, 0)],
+                &[],
+                tells(Status::ReadFault, b"read fault\n", (1, 0)),
+            ),
             (COMPILE, &[(1, 4)], &[], cut),
             // a failing put changes nothing of the status
-            ("talc compile no.f x", &[], &[(0, 3)], tells(Status::ReadFault, b"rea", (0, 0))),
-            ("talc compile no.f x", &[], &[(0, 0)], tells(Status::ReadFault, b"", (0, 0))),
+            (
+                "talc compile no.f x",
+                &[],
+                &[(0, 3)],
+                tells(Status::ReadFault, b"rea", (0, 0)),
+            ),
+            (
+                "talc compile no.f x",
+                &[],
+                &[(0, 0)],
+                tells(Status::ReadFault, b"", (0, 0)),
+            ),
         ],
     )
 }
@@ -79,7 +99,11 @@ fn one_file_is_read_and_one_written(rt: HostRuntime) -> Result<(), Fail> {
 
 // Each words and the content of the file `x`, with the line on the output, where the second call of the files would
 // fail.
-fn each_reads_once(rt: &impl Abort, alloc: Global, rows: &[(&str, &[u8], &[u8])]) -> Result<(), Fail> {
+fn each_reads_once(
+    rt: &impl Abort,
+    alloc: Global,
+    rows: &[(&str, &[u8], &[u8])],
+) -> Result<(), Fail> {
     for (line, content, out) in rows {
         let before = Before {
             files: &[(1, 0)],
@@ -182,7 +206,12 @@ impl Sink for ScantSink {
 }
 
 // The words over a file `x.f` with this content, where the put of a line finds no memory and later ones would.
-fn untold(alloc: Global, line: &str, content: &[u8], files: &[(u64, u64)]) -> Result<(Status, u64), AllocError> {
+fn untold(
+    alloc: Global,
+    line: &str,
+    content: &[u8],
+    files: &[(u64, u64)],
+) -> Result<(Status, u64), AllocError> {
     let before = Before {
         files,
         ..with_file("x.f", content)

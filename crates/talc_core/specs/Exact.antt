@@ -111,14 +111,14 @@ pub record Exactly (words : List (List ℕ)) (old new : Outside) (status : Statu
   pub has_budget : status ≡ Budget → (asked : Asked) × (command_of words ≡ Some asked) × HasBudget asked
   -- a fault of reading only by its cause, and where the file is absent nothing else but want of memory
   pub read_fault : (asked : Asked) → command_of words ≡ Some asked → status ≡ ReadFault →
-    CannotRead asked old new
+      CannotRead asked old new
   pub absent : (asked : Asked) → command_of words ≡ Some asked → IsMissing asked old →
-    (status ≡ ReadFault) ⊎ (status ≡ Memory)
+      (status ≡ ReadFault) ⊎ (status ≡ Memory)
   -- a fault of writing only by the count of what the command writes to
   pub write_fault : (asked : Asked) → command_of words ≡ Some asked → status ≡ WriteFault → CannotWrite asked old new
   -- the work is done on a text that is what the command needs, as far as the budget goes
   pub complete : (asked : Asked) (source : List ℕ) → Asking words old asked source →
-    IsTaken (need_of asked) source → NoFaults old new → Works asked status ⊎ (status ≡ Memory)
+      IsTaken (need_of asked) source → NoFaults old new → Works asked status ⊎ (status ≡ Memory)
   -- `gen` ends with no other status than these, since every source of a seed is a program
   pub generates : (seed : ℕ) (output : List ℕ) → command_of words ≡ Some (Generates seed output) →
-    (status ≡ Done) ⊎ ((status ≡ WriteFault) ⊎ (status ≡ Memory))
+      (status ≡ Done) ⊎ ((status ≡ WriteFault) ⊎ (status ≡ Memory))

@@ -8,3 +8,5 @@ pub mod Standing
 pub mod Starting
 pub mod Stepping
 pub mod Exactly
+pub mod Asking
+pub mod Covering

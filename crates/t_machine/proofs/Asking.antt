@@ -1,5 +1,5 @@
 -- What an instruction of the machine asks for is what the program's next instruction asks for.
-use Rattle.std.proofs.Common.{◌≡◌, ℕ, suc, List, ◌∷◌, drop, length, Option, Some, None, refl, sym, ap, ◌∙◌, slice_get, ⊎_elim, ◌⊎◌}
+use Rattle.std.proofs.Common.{◌≡◌, ℕ, suc, List, ◌∷◌, drop, Option, Some, None, refl, sym, ap, ◌∙◌, slice_get, ⊎_elim}
 use Rattle.t_terms.specs.Tree.{TSeq, Then, Ends, TProg}
 use Rattle.t_terms.specs.Tree as tree
 use Rattle.t_terms.specs.Whole.{Whole}

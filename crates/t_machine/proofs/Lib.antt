@@ -10,3 +10,4 @@ pub mod Stepping
 pub mod Exactly
 pub mod Asking
 pub mod Covering
+pub mod Rows

@@ -308,6 +308,31 @@ fn the_heap_grows(rt: HostRuntime) -> Result<(), OutOfMemory> {
     Ok(())
 }
 
+// the program, accepted and loaded, run after memory was taken in advance
+fn ran_with(
+    alloc: Global,
+    program: TProgram,
+    tuples: u64,
+    fields: u64,
+    budget: u64,
+) -> Result<Option<Ran>, OutOfMemory> {
+    match loaded(alloc, program)? {
+        Some(mut machine) => {
+            machine.reserve(tuples, fields)?;
+            Ok(Some(machine.run(budget)))
+        }
+        None => Ok(None),
+    }
+}
+
+#[test]
+fn what_is_reserved_is_enough(rt: HostRuntime) -> Result<(), OutOfMemory> {
+    let alloc = rt.alloc();
+    let ran = ran_with(alloc, allocating(alloc)?, 1000, 1000, 2000)?;
+    assert_eq!(rt; ran, Some(Ran::Spent));
+    Ok(())
+}
+
 // mov r1, n
 // jmp L1
 // L1: code[]{r1:int}.

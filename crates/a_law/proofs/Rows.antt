@@ -3,7 +3,7 @@
 use Rattle.std.proofs.Common.{pos, ◌≡◌, ℕ, suc, List, [], ◌∷◌, length, refl, ap, ◌∙◌, sym, arith, inl, inr}
 use Rattle.a_terms.specs.Tree.{AInt, ATuple, NoATys, MoreATys, MoreAFields, NoAFields, AVal, Var, Num, Value, Proj, Malloc, Init, ATm, Let, Halt}
 use Rattle.c_terms.specs.C.{TCInt, TCRef}
-use Rattle.h_terms.specs.H.{HVal, HVar, HInt, HTuple, NoHVals, MoreHVals, HName, HProj, HCell, HGet, HSet, HTm, HLet, HHalt}
+use Rattle.h_terms.specs.H.{HVar, HInt, HTuple, NoHVals, MoreHVals, HName, HProj, HCell, HGet, HSet, HTm, HLet, HHalt}
 use Rattle.a_law.specs.Allocate.{alloc_main, atype}
 use Rattle.a_law.specs.Back.{back_t}
 use Rattle.a_law.specs.Stands.{Shown, Thing, Making, thing_at, Any, Stands_t}

@@ -1,13 +1,13 @@
 -- Worked rows of the closed calculus.
 use Rattle.std.proofs.Common.{◌≡◌, pos, [], ◌∷◌, refl, arith}
 use Rattle.std.specs.Int.{int_wrap}
-use Rattle.idx_core.specs.declared.arith.Op.TheVariants.{Add, Sub}
+use Rattle.idx_core.specs.declared.arith.Op.TheVariants.{Add}
 use Rattle.term_core.specs.Ends.{Halted, Spent, Stuck}
-use Rattle.c_terms.specs.C.{CTy, CTys, TCInt, TCVar, TCTuple, TCCode, TCSome, TCRef, NoCTys, MoreCTys, CVal, CVar, CInt, CTuple, CCode, CApply, CPack, NoCVals, MoreCVals, CName, CProj, CArith, CUnpack, CCell, CGet, CSet, CTm, CLet, CCall, CHalt}
+use Rattle.c_terms.specs.C.{CTy, CTys, TCInt, TCVar, TCTuple, TCCode, TCSome, NoCTys, MoreCTys, CVal, CVar, CInt, CTuple, CCode, CApply, CPack, NoCVals, MoreCVals, CName, CProj, CArith, CUnpack, CCell, CGet, CSet, CTm, CLet, CCall, CHalt}
 use Rattle.c_terms.specs.Meaning.{crun}
-use Rattle.c_terms.specs.Typing.{CHas, CGood}
+use Rattle.c_terms.specs.Typing.{CGood}
 use Rattle.c_terms.specs.Reach.{creach, cbinds}
-use Rattle.c_terms.specs.Stream.{MVar, MInt, MTuple, MCode, MEnd, MApply, MPack, MName, MArith, MUnpack, MCall, MHalt, clin_t}
+use Rattle.c_terms.specs.Stream.{MVar, MInt, MTuple, MCode, MEnd, MArith, MCall, MHalt, clin_t}
 use Rattle.c_terms.specs.Decode.{cdecode}
 use Rattle.c_terms.specs.Walks.{put, shift}
 
@@ -33,12 +33,14 @@ of_four_typed : CGood 0 [] of_four
 of_four_typed = (_, (refl, (tt, tt), (refl, refl, refl)), tt, (_, _, refl, refl, refl))
 
 -- in its body a code sees its arguments and itself, 0 being its last argument, and nothing around it
-around : (n : CTm) → CGood 0 [] (CLet (CName (CInt (pos 1))) (CHalt (CCode 0 one_integer (CHalt (CVar 2))))) → ⊥
-around n h = h.2.2
+sees_nothing_around : CGood 0 []
+    (CLet (CName (CInt (pos 1))) (CCall (CCode 0 one_integer (CHalt (CVar 2))) NoCTys (MoreCVals (CInt (pos 4)) NoCVals))) → ⊥
+sees_nothing_around h = h.2.1.2
 
 -- a code's types have no free type variable
-free_type : (n : CTm) → CGood 1 [] (CHalt (CCode 0 (MoreCTys (TCVar 0) NoCTys) (CHalt (CInt (pos 0))))) → ⊥
-free_type n h = omega (arith, h.1.0)
+no_free_type : CGood 1 (TCVar 0 ∷ [])
+    (CCall (CCode 0 (MoreCTys (TCVar 0) NoCTys) (CHalt (CInt (pos 0)))) NoCTys (MoreCVals (CVar 0) NoCVals)) → ⊥
+no_free_type h = omega (arith, h.1.1.0)
 
 -- a pack hides a type, and an unpack names it: a, y = unpack pack[int, 2] as some a. a; halt 1
 abbrev opened : CVal → CTm

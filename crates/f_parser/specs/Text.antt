@@ -14,7 +14,7 @@ use Rattle.f_lexer.specs.declared.token.Token.{Token}
 use Rattle.f_lexer.specs.Source.{IsCut, FirstTokenFault}
 use Rattle.f_grammar.specs.Raw.{Piece, nodes, place_of}
 use Rattle.f_grammar.specs.Grammar.{E, open_E}
-use Rattle.f_parser.specs.Scope.{TermOf, Use, uses, IsFirstUnbound, unbound_code}
+use Rattle.f_parser.specs.Scope.{TermOf, Use, uses, Ascends, IsFirstUnbound, unbound_code}
 
 -- the grammar of expressions, with the number of constructs that are open at each token
 abbrev pub source_grammar : Grammar
@@ -113,6 +113,10 @@ NoTermWhereFaulty = (text : List ℕ) (a : Tm) (c : Code) (span : Span) → Firs
 -- each text stands for a term within the limits, or has a first fault
 abbrev pub TermOrFault : Type 0
 TermOrFault = (text : List ℕ) → ((a : Tm) × SourceWithin text a) ⊎ ((c : Code) × (span : Span) × FirstFault text c span)
+
+-- the uses of names in the tree of a text's tokens, from left to right, stand in the order of the text
+abbrev pub UsesInTextOrder : Type 0
+UsesInTextOrder = (text : List ℕ) (w : List Token) (p : Piece) → IsCut text w → E w p → Ascends 0 (uses text [] [] p.tree)
 
 -- the tree of the tokens has as many nodes as the term
 abbrev pub SameNodes : Type 0

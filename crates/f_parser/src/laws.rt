@@ -1,5 +1,5 @@
 // What the definition of a text's term says in all.
-ghost use Rattle.f_parser.specs.Text.{OneTerm, NoFaultWhereRead, NoTermWhereFaulty, TermOrFault, OneFault, ClosedTerms, SameNodes};
+ghost use Rattle.f_parser.specs.Text.{OneTerm, NoFaultWhereRead, NoTermWhereFaulty, TermOrFault, OneFault, ClosedTerms, SameNodes, UsesInTextOrder};
 
 /// No text stands for two terms.
 pub fn one_term()
@@ -19,6 +19,11 @@ pub fn no_term_where_faulty()
 /// Each text stands for a term within the limits, or has a first fault.
 pub fn term_or_fault()
     ensures { TermOrFault }
+{}
+
+/// The uses of names in the tree of a text's tokens, from left to right, stand in the order of the text.
+pub fn uses_in_text_order()
+    ensures { UsesInTextOrder }
 {}
 
 /// The tree of a text's tokens has as many nodes as the term that the text stands for.

@@ -13,6 +13,6 @@ mod tests;
 
 pub use laws::{
     closed_terms, no_fault_where_read, no_term_where_faulty, one_fault, one_term, same_nodes,
-    term_or_fault,
+    term_or_fault, uses_in_text_order,
 };
 pub use reader::parse;

@@ -7,3 +7,6 @@ pub mod Standing
 pub mod Starting
 pub mod Stepping
 pub mod Exactly
+pub mod Asking
+pub mod Covering
+pub mod Rows

@@ -2,6 +2,7 @@ pub mod Code
 pub mod Heap
 pub mod Lowering
 pub mod Places
+pub mod Room
 pub mod Runs
 pub mod State
 pub mod Steps

@@ -1,4 +1,5 @@
 // Laws of runs, as functions with an empty body that callers cite.
+ghost use Rattle.t_machine.specs.Room.{StepsMakeWhatTheyAsk, StepsAreCovered};
 ghost use Rattle.t_machine.specs.Runs.{HaltedExactly, SpentExactly, FirstRuns};
 
 /// The answer of a run is exact, want of memory aside: where the program is halted after at most as many steps as the
@@ -13,4 +14,11 @@ pub fn runs_answer_exactly()
 /// its state after all of them is neither halted nor stuck.
 pub fn first_runs_tell()
     ensures { FirstRuns }
+{}
+
+/// What a single step allocates, and so what has to be spare for it: one tuple and `k` fields at a `malloc` of `k`
+/// fields, and nothing at any other instruction.
+pub fn steps_allocate_what_they_ask()
+    ensures made { StepsMakeWhatTheyAsk }
+    ensures covered { StepsAreCovered }
 {}

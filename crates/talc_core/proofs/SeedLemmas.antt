@@ -1,15 +1,14 @@
 -- What the steps of `gen` come to: the source of a seed is a program, so that nothing but want of memory stops them.
-use Rattle.std.proofs.Common.{◌≡◌, ◌≤◌, ◌⊎◌, ◌+◌, ◌*◌, ℕ, ℤ, List, [], ◌∷◌, length, Result, Ok, Err, Vec, refl, sym, ◌∙◌, ap, subst, arith, inl, inr}
+use Rattle.std.proofs.Common.{◌≡◌, ◌≤◌, ◌+◌, ◌*◌, ℕ, ℤ, List, length, Result, Ok, Err, Vec, sym, ◌∙◌, ap, subst, arith}
 use Rattle.std.specs.declared.alloc.Global.{Global}
-use Rattle.std.proofs.Math.Logic.{∥∥₁_map, ∥∥₁_elim}
+use Rattle.std.proofs.Math.Logic.{∥∥₁_elim}
 use Rattle.std.proofs.Math.IntN.{ℤ_set}
 use Rattle.f_terms.specs.Ty.{TInt}
 use Rattle.f_terms.specs.Tm.{Tm, plain}
 use Rattle.f_terms.specs.Eval.{Empty, VInt, Gives, Spent, eval, Evaluates, IsSpent}
 use Rattle.f_terms.specs.Laws.{MoreTurnsKeepTheValue, OneAnswer}
-use Rattle.t_terms.specs.Spanned.{SProg, SBlock, plain_program}
+use Rattle.t_terms.specs.Spanned.{SProg, plain_program}
 use Rattle.t_terms.specs.ReadProgram.{spanned_program}
-use Rattle.t_terms.specs.Tree.{TProg}
 use Rattle.t_rules.specs.Machine.{Halts, HaltsWithin, GoesOnAfter}
 use Rattle.t_rules.specs.Times.{program_size}
 use Rattle.t_machine.proofs.Exactly.{going_not_halted}
@@ -18,7 +17,6 @@ use Rattle.f_check.specs.Typed.{program_term}
 use Rattle.f_check.specs.declared.typed.Program.{Program}
 use Rattle.t_check.specs.Checked.{checked_program}
 use Rattle.t_check.specs.declared.checked.Checked.{Checked}
-use Rattle.pipeline.specs.Meaning.{SameMeaning, HaltsSoon}
 use Rattle.seeds.specs.Source.{source as source_of}
 use Rattle.seeds.specs.Laws.{SourcesArePrograms}
 use Rattle.talc_core.specs.declared.fault.Fault.{Fault}

@@ -41,3 +41,12 @@ fn a_million_steps(rt: HostRuntime) -> Result<(), Fail> {
     assert_eq!(rt; ran(rt.alloc(), text, 999999)?, Ran::Spent);
     Ok(())
 }
+
+// Each second step allocates a tuple of one field.
+#[test]
+fn what_is_reserved_is_enough(rt: HostRuntime) -> Result<(), Fail> {
+    let mut machine = loaded(rt.alloc(), "tal 1\nL0: code[]{}. malloc r1[int] jmp L0")?;
+    machine.reserve(1000, 1000)?;
+    assert_eq!(rt; machine.run(2000), Ran::Spent);
+    Ok(())
+}

@@ -1,4 +1,4 @@
-use Rattle.std.proofs.Common.{◌≡◌, ◌∙◌, ◌∷◌, ap, refl, subst, sym, List}
+use Rattle.std.proofs.Common.{◌∙◌, ◌∷◌, ap, refl, subst, sym, List}
 use Rattle.k_terms.specs.K.{TKTuple}
 use Rattle.k_terms.specs.Stream.{NName, NProj, NArith, NCell, NGet, NSet}
 use Rattle.k_terms.specs.Read.{knode, ktree, ktys}

@@ -1,4 +1,4 @@
-use Rattle.std.proofs.Common.{◌≤◌, ◌+◌, ℕ, drop}
+use Rattle.std.proofs.Common.{◌≤◌, ◌+◌, drop}
 use Rattle.talc_core.proofs.SizeLemmas.{code_size}
 use Rattle.talc_core.proofs.commands.seed.enough_fuel.Given as goal
 

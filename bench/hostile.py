@@ -1,0 +1,125 @@
+"""Texts that are made to be slow: `talc check` on each at two sizes, the second ten times the first.
+
+What is wanted: at most 13 times the time for ten times the text, and at most 200 bytes of memory a byte of text. A row that
+misses either says so. A run is ended after 60 seconds of processor time or at 8 GB.
+"""
+import os
+import resource
+import subprocess
+import tempfile
+from measure import folder, program
+
+SECONDS, BYTES = 60, 8 << 30
+MOST_TIMES, MOST_BYTES = 13, 200
+HEAD = "tal 1\nL0: code[]{}.\n"
+
+
+def falling(n):
+    """Registers that are set in falling order."""
+    return HEAD + "".join(f"mov r{i}, 1\n" for i in range(n, 0, -1)) + "jmp L0\n"
+
+
+def wide(n, moves):
+    fields = ", ".join(["int"] * n)
+    return HEAD + f"malloc r1[{fields}]\n" + "".join(moves) + "jmp L0\n"
+
+
+def one_register(n):
+    """A wide tuple, moved again and again to one register."""
+    return wide(n, ["mov r2, r1\n"] * (n // 4))
+
+
+def many_registers(n):
+    """A wide tuple, moved to many registers."""
+    return wide(n, [f"mov r{i + 2}, r1\n" for i in range(n // 4)])
+
+
+def after_unpacks(n):
+    """A wide tuple, moved to many registers after as many unpacks."""
+    opened = "".join(f"unpack[a{i}, r2], pack[int, 1] as some b. b\n" for i in range(n // 4))
+    return wide(n, [opened] + [f"mov r{i + 3}, r1\n" for i in range(n // 4)])
+
+
+def arguments(n):
+    """One application to many types, of a block with as many registers."""
+    names = ", ".join(f"a{i}" for i in range(n))
+    regs = ", ".join(f"r{i + 1}:a{i}" for i in range(n))
+    types = ", ".join(["int"] * n)
+    return HEAD + f"mov r1, L1[{types}]\njmp L0\nL1: code[{names}]{{{regs}}}.\njmp L0\n"
+
+
+def deep(n):
+    """Many types as deep as they may nest."""
+    depth = 1900
+    some = "".join(f"some a{i}. " for i in range(depth))
+    lines = [f"mov r{i + 1}, pack[int, 1] as {some}int\n" for i in range(max(1, n // 1000))]
+    return HEAD + "".join(f"malloc r{i + 1}[{some}a0]\n" for i in range(len(lines))) + "jmp L0\n"
+
+
+def unpacks(n):
+    """Many unpacks, with a register from before each of them."""
+    lines = [f"unpack[a, r{i + 2}], pack[int, 1] as some b. b\nmov r1, r{i // 2 + 2}\n" for i in range(n)]
+    return HEAD + "".join(lines) + "jmp L0\n"
+
+
+def wide_jumps(n):
+    """Many jumps to a block with a wide file; what is written grows with the jumps and the file together."""
+    each = max(2, int(n ** 0.5))
+    regs = ", ".join(f"r{i + 1}:int" for i in range(each))
+    start = "".join(f"mov r{i + 1}, 1\n" for i in range(each))
+    return HEAD + start + "bnz r1, L1\n" * (n // 4) + f"jmp L1\nL1: code[]{{{regs}}}.\njmp L1\n"
+
+
+def names(n):
+    """Long lists of names, in a header and in the types of a register."""
+    some = ", ".join(f"a{i}" for i in range(n))
+    return HEAD + f"jmp L0\nL1: code[{some}]{{r1:all[{some}]{{r1:a0}}}}.\njmp L0\n"
+
+
+TEXTS = [
+    (falling, 10_000), (one_register, 2_000), (many_registers, 2_000), (after_unpacks, 1_000), (arguments, 1_200),
+    (deep, 1_000), (unpacks, 2_000), (wide_jumps, 20_000), (names, 10_000),
+]
+
+
+def limited():
+    resource.setrlimit(resource.RLIMIT_CPU, (SECONDS, SECONDS))
+    resource.setrlimit(resource.RLIMIT_AS, (BYTES, BYTES))
+
+
+def checked(talc, path):
+    """Processor seconds and peak bytes of one check, with its status."""
+    with tempfile.TemporaryFile() as out:
+        child = subprocess.Popen([talc, "check", path], stdout=out, stderr=out, preexec_fn=limited)
+        _, status, usage = os.wait4(child.pid, 0)
+        child.returncode = os.waitstatus_to_exitcode(status)
+    return usage.ru_utime + usage.ru_stime, usage.ru_maxrss * 1024, child.returncode
+
+
+def main():
+    talc = program()
+    with folder() as place:
+        path = f"{place}/text.tal"
+
+        def row(make, n):
+            with open(path, "w", encoding="ascii") as file:
+                length = file.write(make(n))
+            return (length, *min(checked(talc, path) for _ in range(3 if n < 5_000 else 1)))
+
+        with open(path, "w", encoding="ascii") as file:
+            file.write("tal 1\nL0: code[]{}.\njmp L0\n")
+        base, floor, _ = min(checked(talc, path) for _ in range(5))
+        print(f"a text of one jump: {base:.3f} s, {floor / 1e6:.1f} MB")
+        for make, n in TEXTS:
+            small, large = row(make, n), row(make, 10 * n)
+            size = large[0] / small[0]
+            times = (large[1] - base) / max(small[1] - base, 1e-3)
+            memory = max(0, large[2] - floor) / large[0]
+            wrong = [w for w, is_so in [("slow", times > MOST_TIMES * size / 10), ("large", memory > MOST_BYTES)] if is_so]
+            print(
+                f"{make.__name__}: {large[0]} bytes, status {large[3]}, {large[1]:.2f} s, {times:.1f} times the time of "
+                f"{small[0]} bytes, {memory:.0f} bytes of memory a byte{': ' + ', '.join(wrong) if wrong else ''}"
+            )
+
+
+main()

@@ -1,0 +1,139 @@
+"""Refused memory: each allocation of each command is refused in turn, over a dozen inputs.
+
+What is wanted: the status is that of the run with ample memory, or 7; after 7 no file has changed, nothing is on the output, and
+the error output has the line `out of memory` or nothing; else all is as with ample memory. It prints how many refusals it
+tried, and ends with 1 where one was answered otherwise. It needs a C compiler: the allocator is put before that of the C
+library, for the program alone.
+"""
+import os
+import subprocess
+import sys
+from measure import available, folder, program
+
+SHIM = r"""
+#define _GNU_SOURCE
+#include <dlfcn.h>
+#include <errno.h>
+#include <stdlib.h>
+#include <stdio.h>
+#include <string.h>
+#include <unistd.h>
+#include <fcntl.h>
+static long made, refused = -2;
+static int refuses(void) {
+    if (refused == -2) { const char *at = getenv("REFUSED"); refused = at ? atol(at) : -1; }
+    return made++ == refused;
+}
+static void *(*real_malloc)(size_t), *(*real_realloc)(void *, size_t), *(*real_calloc)(size_t, size_t);
+static void *(*real_aligned)(size_t, size_t);
+static int (*real_posix)(void **, size_t, size_t);
+static void *found(const char *name) { return dlsym(RTLD_NEXT, name); }
+void *malloc(size_t n) {
+    if (!real_malloc) *(void **)&real_malloc = found("malloc");
+    if (refuses()) { errno = ENOMEM; return 0; }
+    return real_malloc(n);
+}
+void *realloc(void *p, size_t n) {
+    if (!real_realloc) *(void **)&real_realloc = found("realloc");
+    if (refuses()) { errno = ENOMEM; return 0; }
+    return real_realloc(p, n);
+}
+void *calloc(size_t n, size_t m) {
+    static char early[4096]; static size_t used;
+    if (!real_calloc) {
+        static int within;
+        if (within) { void *p = early + used; used += (n * m + 15) & ~(size_t)15; return p; }
+        within = 1; *(void **)&real_calloc = found("calloc"); within = 0;
+    }
+    if (refuses()) { errno = ENOMEM; return 0; }
+    return real_calloc(n, m);
+}
+void *aligned_alloc(size_t a, size_t n) {
+    if (!real_aligned) *(void **)&real_aligned = found("aligned_alloc");
+    if (refuses()) { errno = ENOMEM; return 0; }
+    return real_aligned(a, n);
+}
+int posix_memalign(void **p, size_t a, size_t n) {
+    if (!real_posix) *(void **)&real_posix = found("posix_memalign");
+    if (refuses()) return ENOMEM;
+    return real_posix(p, a, n);
+}
+__attribute__((destructor)) static void told(void) {
+    const char *path = getenv("COUNTED");
+    if (path) { char text[32]; int n = snprintf(text, sizeof text, "%ld", made); int f = open(path, O_CREAT | O_WRONLY | O_TRUNC, 0600);
+        if (f >= 0) { if (write(f, text, n) < 0) {} close(f); } }
+}
+"""
+
+FACTORIAL = "(fix f(n:int):int. if0(n, 1, n * f(n - 1))) 5"
+POLYMORPHIC = "((gen a. fix f(x:a):int -> a. fix g(y:int):a. x)[int] 8) 1"
+LOOP = "tal 1\nL0: code[]{}.\njmp L0\n"
+TUPLE = "tal 1\nL0: code[]{}.\nmalloc r1[int]\nmov r2, 5\nst r1[0], r2\nld r1, r1[0]\nhalt[int]\n"
+PACKAGE = (
+    "tal 1\nL0: code[]{}.\nmov r1, pack[int, 3] as some a. a\nunpack[b, r2], r1\nmov r1, L1[b]\nmov r3, 7\njmp L1[int]\n"
+    "L1: code[a]{r3:int}.\nmov r1, r3\nhalt[int]\n"
+)
+
+# The words after the program's name, and the text of the file IN.
+CASES = [
+    ("compile IN OUT", "7"), ("compile IN OUT", FACTORIAL), ("compile IN OUT", POLYMORPHIC), ("compile IN OUT", "1 + <>"),
+    ("typeof IN", "fix f(x:<int, all a. a -> a>):int. #1 x"), ("typeof IN", "(1 +"), ("eval IN --turns 6", FACTORIAL),
+    ("eval IN --turns 5", FACTORIAL), ("check IN", PACKAGE), ("check IN", "tal 1\nL0: code[]{}.\nhalt[int]\n"),
+    ("run IN --fuel 5", TUPLE), ("run IN --fuel 10", LOOP), ("run IN", LOOP), ("check NONE", LOOP),
+]
+
+
+class Outcome:
+    """The status of a run, what stands on its two outputs, and the files of its folder."""
+
+    def __init__(self, talc, shim, place, words, text, refused=None):
+        for name in os.listdir(place):
+            os.remove(f"{place}/{name}")
+        with open(f"{place}/IN", "w", encoding="ascii") as file:
+            file.write(text)
+        env = {"LD_PRELOAD": shim, "COUNTED": f"{place}.count"}
+        if refused is not None:
+            env["REFUSED"] = str(refused)
+        run = subprocess.run([talc, *words.split()], cwd=place, env=env, capture_output=True, timeout=60)
+        self.status, self.out, self.err = run.returncode, run.stdout, run.stderr
+        self.files = {name: open(f"{place}/{name}", "rb").read() for name in sorted(os.listdir(place))}
+
+    def is_as(self, ample):
+        return (self.status, self.out, self.err, self.files) == (ample.status, ample.out, ample.err, ample.files)
+
+    def is_want(self, text):
+        return (
+            self.status == 7 and self.out == b"" and self.err in (b"", b"out of memory\n")
+            and self.files == {"IN": text.encode()}
+        )
+
+
+def main():
+    talc, compiler = program(), available("cc")
+    tried = wants = wrong = 0
+    with folder() as place:
+        shim = f"{place}/shim.so"
+        with open(f"{place}/shim.c", "w", encoding="ascii") as file:
+            file.write(SHIM)
+        subprocess.run([compiler, "-O1", "-shared", "-fPIC", "-o", shim, f"{place}/shim.c", "-ldl"], check=True)
+        os.mkdir(f"{place}/run")
+        for words, text in CASES:
+            ample = Outcome(talc, shim, f"{place}/run", words, text)
+            with open(f"{place}/run.count", encoding="ascii") as file:
+                count = int(file.read())
+            here = 0
+            for at in range(count):
+                got = Outcome(talc, shim, f"{place}/run", words, text, at)
+                tried += 1
+                if got.is_want(text):
+                    here += 1
+                elif not got.is_as(ample):
+                    wrong += 1
+                    print(f"{words} on {text[:40]!r}, allocation {at} refused: status {got.status}, {got.out!r}, {got.err!r}")
+            wants += here
+            print(f"{words}, status {ample.status}: {count} allocations, {here} refusals answered by status 7")
+    print(f"{tried} refusals tried, {wants} answered by status 7, {wrong} answered wrongly")
+    sys.exit(1 if wrong else 0)
+
+
+main()

@@ -8,4 +8,3 @@ mod Loads
 mod Emptied
 mod Bodies
 mod Exact
-pub mod Made

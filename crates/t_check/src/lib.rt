@@ -8,8 +8,6 @@ mod instructions;
 mod parts;
 mod program;
 mod registers;
-#[cfg(test)]
-mod tests;
 mod values;
 
 pub use checked::Checked;

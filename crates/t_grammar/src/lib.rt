@@ -4,8 +4,6 @@
 mod cursor;
 mod names;
 mod raw;
-#[cfg(test)]
-mod tests;
 mod types;
 
 pub use cursor::{

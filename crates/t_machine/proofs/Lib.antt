@@ -1,7 +1,6 @@
 pub mod Loads
 pub mod Cells
 pub mod Registers
-pub mod Formed
 pub mod Inverses
 pub mod Onwards
 pub mod Standing

@@ -14,6 +14,3 @@ mod word;
 pub use laws::{first_runs_tell, runs_answer_exactly, steps_allocate_what_they_ask};
 pub use loading::load;
 pub use machine::{Machine, Ran};
-
-#[cfg(test)]
-mod tests;

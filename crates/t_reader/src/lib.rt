@@ -5,8 +5,6 @@ mod labels;
 mod reader;
 mod resolve;
 mod scope;
-#[cfg(test)]
-mod tests;
 mod types;
 
 pub use reader::read;

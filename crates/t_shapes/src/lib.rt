@@ -9,8 +9,6 @@ mod lists;
 mod parts;
 mod raw;
 mod steps;
-#[cfg(test)]
-mod tests;
 mod values;
 mod whole;
 

@@ -10,8 +10,6 @@ mod laws;
 mod nesting_laws;
 mod program;
 mod scopes;
-#[cfg(test)]
-mod tests;
 mod text_laws;
 mod token;
 mod value;

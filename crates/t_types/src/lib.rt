@@ -6,8 +6,6 @@ mod equality;
 mod fitting;
 mod laws;
 mod lists;
-#[cfg(test)]
-mod tests;
 mod types;
 mod walks;
 

@@ -5,8 +5,6 @@ mod code;
 mod names;
 mod number;
 mod program;
-#[cfg(test)]
-mod tests;
 mod types;
 mod values;
 

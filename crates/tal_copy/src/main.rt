@@ -39,6 +39,3 @@ fn main(rt: HostRuntime) -> ExitCode {
         None => ExitCode::from(1),
     }
 }
-
-#[cfg(test)]
-mod tests;

@@ -1,0 +1,5 @@
+//! Worked examples of the assembly side: types, tokens, reading, writing, checking and running. It holds tests alone.
+#![tactic(auto)]
+
+#[cfg(test)]
+mod tests;

@@ -1,0 +1,11 @@
+// Assembly texts and programs.
+mod checking;
+mod data;
+mod grammar;
+mod lexing;
+mod programs;
+mod reading;
+mod running;
+mod terms;
+mod types;
+mod writing;

@@ -1,0 +1,155 @@
+// What texts are cut into.
+use super::programs::at;
+use idx_core::Span;
+use std::alloc::Global;
+use std::process::Abort;
+use std::test::Fail;
+use t_lexer::tokens;
+use t_terms::{Kind, TCode, TFault, Token};
+
+// The text has this fault, or none where it is cut.
+fn has_fault(rt: &impl Abort, alloc: Global, text: &[u8], wanted: Option<TFault>) {
+    assert_eq!(rt; tokens(alloc, text).err(), wanted);
+}
+
+// Each text with its fault, and where that starts and ends.
+fn each_refused(rt: &impl Abort, alloc: Global, rows: &[(&str, TCode, u64, u64)]) {
+    for (text, code, start, end) in rows {
+        has_fault(rt, alloc, text.as_bytes(), at(*code, *start, *end));
+    }
+}
+
+#[test]
+fn finds_the_first_fault(rt: HostRuntime) {
+    each_refused(
+        &rt,
+        rt.alloc(),
+        &[
+            ("9223372036854775808", TCode::T02, 0, 19),
+            ("~9223372036854775809 $", TCode::T02, 0, 20),
+            ("tal 1 $", TCode::T01, 6, 7),
+            ("~ 1", TCode::T01, 0, 1),
+            ("1 - 2", TCode::T01, 2, 3),
+            ("-> -- $", TCode::T01, 0, 1),
+            ("_x", TCode::T01, 0, 1),
+            ("mov r0", TCode::T02, 4, 6),
+            ("r9223372036854775808", TCode::T02, 0, 20),
+            ("r99999999999999999999 #", TCode::T02, 0, 21),
+        ],
+    );
+}
+
+#[test]
+fn the_greatest_numbers_are_cut(rt: HostRuntime) {
+    let alloc = rt.alloc();
+    has_fault(&rt, alloc, b"9223372036854775807", None);
+    has_fault(&rt, alloc, b"~9223372036854775808", None);
+    has_fault(&rt, alloc, b"r9223372036854775807", None);
+    has_fault(&rt, alloc, b"-- $ \xff", None);
+}
+
+fn are_tokens(
+    rt: &impl Abort,
+    alloc: Global,
+    text: &[u8],
+    wanted: &[(Kind, u64, u64)],
+) -> Result<(), Fail> {
+    let found = tokens(alloc, text)?;
+    assert_eq!(rt; found.len(), wanted.len());
+    for (token, (kind, start, end)) in found.iter().zip(wanted) {
+        let span = Span {
+            start: *start,
+            end: *end,
+        };
+        assert_eq!(rt; *token, Token { kind: *kind, span });
+    }
+    Ok(())
+}
+
+#[test]
+fn cuts_at_the_longest_spelling(rt: HostRuntime) -> Result<(), Fail> {
+    are_tokens(
+        &rt,
+        rt.alloc(),
+        b"007x_1 r01--c\n~0 r r1a r_1 R1 rr1 ints int\t\r^0",
+        &[
+            (Kind::Plain(7), 0, 3),
+            (Kind::Name, 3, 6),
+            (Kind::Register(1), 7, 10),
+            (Kind::Negative(0), 14, 16),
+            (Kind::Name, 17, 18),
+            (Kind::Name, 19, 22),
+            (Kind::Name, 23, 26),
+            (Kind::Name, 27, 29),
+            (Kind::Name, 30, 33),
+            (Kind::Name, 34, 38),
+            (Kind::Int, 39, 42),
+            (Kind::Caret, 44, 45),
+            (Kind::Plain(0), 45, 46),
+        ],
+    )
+}
+
+fn are_kinds(rt: &impl Abort, alloc: Global, text: &[u8], wanted: &[Kind]) -> Result<(), Fail> {
+    let found = tokens(alloc, text)?;
+    assert_eq!(rt; found.len(), wanted.len());
+    for (token, kind) in found.iter().zip(wanted) {
+        assert_eq!(rt; token.kind, *kind);
+    }
+    Ok(())
+}
+
+#[test]
+fn knows_every_word(rt: HostRuntime) -> Result<(), Fail> {
+    are_kinds(
+        &rt,
+        rt.alloc(),
+        b"tal code all some pack as unpack add sub mul bnz ld st mov malloc jmp halt int data",
+        &[
+            Kind::Tal,
+            Kind::Code,
+            Kind::All,
+            Kind::Some,
+            Kind::Pack,
+            Kind::As,
+            Kind::Unpack,
+            Kind::Add,
+            Kind::Sub,
+            Kind::Mul,
+            Kind::Bnz,
+            Kind::Ld,
+            Kind::St,
+            Kind::Mov,
+            Kind::Malloc,
+            Kind::Jmp,
+            Kind::Halt,
+            Kind::Int,
+            Kind::Data,
+        ],
+    )
+}
+
+#[test]
+fn knows_every_sign(rt: HostRuntime) -> Result<(), Fail> {
+    are_kinds(
+        &rt,
+        rt.alloc(),
+        b"x 1 ~1 r2[]{}<>,.:^",
+        &[
+            Kind::Name,
+            Kind::Plain(1),
+            Kind::Negative(-1),
+            Kind::Register(2),
+            Kind::LeftBracket,
+            Kind::RightBracket,
+            Kind::LeftBrace,
+            Kind::RightBrace,
+            Kind::LeftAngle,
+            Kind::RightAngle,
+            Kind::Comma,
+            Kind::Dot,
+            Kind::Colon,
+            Kind::Caret,
+        ],
+    )
+}

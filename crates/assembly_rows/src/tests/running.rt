@@ -1,0 +1,52 @@
+// Runs of programs.
+use super::programs::loaded;
+use std::alloc::Global;
+use std::test::Fail;
+use t_machine::Ran;
+
+// The first run of a text.
+fn ran(alloc: Global, text: &str, fuel: u64) -> Result<Ran, Fail> {
+    let mut machine = loaded(alloc, text)?;
+    Ok(machine.run(fuel))
+}
+
+#[test]
+fn a_run_goes_on_where_it_stopped(rt: HostRuntime) -> Result<(), Fail> {
+    let text =
+        "tal 1\nL0: code[]{}. malloc r1[int] mov r2, r1 mov r3, 5 st r1[0], r3 ld r1, r1[0] halt[int]";
+    let mut machine = loaded(rt.alloc(), text)?;
+    assert_eq!(rt; machine.run(4), Ran::Spent);
+    assert_eq!(rt; machine.run(7), Ran::Halted { value: 5, made: 1 });
+    assert_eq!(rt; machine.run(0), Ran::Halted { value: 5, made: 0 });
+    Ok(())
+}
+
+#[test]
+fn an_unpack_moves_the_hidden_word(rt: HostRuntime) -> Result<(), Fail> {
+    let text = "tal 1\nL0: code[]{}. mov r2, pack[int,3] as some a. int unpack[b,r1], r2 halt[int]";
+    let halted = Ran::Halted { value: 3, made: 2 };
+    assert_eq!(rt; ran(rt.alloc(), text, 2)?, halted);
+    Ok(())
+}
+
+#[test]
+fn a_million_steps(rt: HostRuntime) -> Result<(), Fail> {
+    let text = "tal 1\nL0: code[]{}. mov r1, 499999 jmp L1\n\
+        L1: code[]{r1:int}. sub r1, r1, 1 bnz r1, L1 halt[int]";
+    let halted = Ran::Halted {
+        value: 0,
+        made: 1000000,
+    };
+    assert_eq!(rt; ran(rt.alloc(), text, 1000000)?, halted);
+    assert_eq!(rt; ran(rt.alloc(), text, 999999)?, Ran::Spent);
+    Ok(())
+}
+
+// Each second step allocates a tuple of one field.
+#[test]
+fn what_is_reserved_is_enough(rt: HostRuntime) -> Result<(), Fail> {
+    let mut machine = loaded(rt.alloc(), "tal 1\nL0: code[]{}. malloc r1[int] jmp L0")?;
+    machine.reserve(1000, 1000)?;
+    assert_eq!(rt; machine.run(2000), Ran::Spent);
+    Ok(())
+}

@@ -1,9 +1,0 @@
-use Rattle.std.proofs.Common.{arith}
-use Rattle.t_machine.proofs.Formed.{formed}
-use Rattle.t_machine.proofs.tests.counting.Goals as goal
-
-pub two_blocks-requires-clause-first : goal.two_blocks-requires-clause-first
-two_blocks-requires-clause-first c = formed 2 0 _ _ _ c.in_ok-first.ensures.items (c.mov.ensures 2 0 tt, tt) (c.jmp.ensures 2 0 (omega arith))
-
-pub two_blocks-requires-clause-second : goal.two_blocks-requires-clause-second
-two_blocks-requires-clause-second c = formed 2 0 _ _ _ c.in_ok-second.ensures.items (c.arith.ensures 2 0 tt, (c.bnz.ensures 2 0 (omega arith), tt)) tt

@@ -1,4 +1,5 @@
-use crate::parse;
+// What is read of texts.
+use f_parser::parse;
 use f_terms::{Code, FFault, FNode, FShape, FType};
 use idx_core::Span;
 use std::alloc::{AllocError, Global};
@@ -35,12 +36,6 @@ fn has_fault(rt: &impl Abort, alloc: Global, text: &[u8], wanted: Option<FFault>
     assert_eq!(rt; parse(alloc, text).err(), wanted);
 }
 
-fn each_read(rt: &impl Abort, alloc: Global, texts: &[&str]) {
-    for text in texts {
-        has_fault(rt, alloc, text.as_bytes(), None);
-    }
-}
-
 // Each text with its fault, and where that starts and ends.
 fn each_refused(rt: &impl Abort, alloc: Global, rows: &[(&str, Code, u64, u64)]) {
     for (text, code, start, end) in rows {
@@ -68,26 +63,6 @@ fn is_refused(
 }
 
 #[test]
-fn refuses_by_the_first_fault(rt: HostRuntime) {
-    let alloc = rt.alloc();
-    each_refused(
-        &rt,
-        alloc,
-        &[
-            ("1 $", Code::E01, 2, 3),
-            ("9223372036854775808", Code::E02, 0, 19),
-            ("1 )", Code::E03, 2, 3),
-            ("", Code::E04, 0, 0),
-            ("(1 +", Code::E04, 4, 4),
-            ("x", Code::E05, 0, 1),
-            ("fix f(x:b):int. 1", Code::E06, 8, 9),
-        ],
-    );
-    has_fault(&rt, alloc, b"\xc8", at(Code::E01, 0, 1));
-    each_read(&rt, alloc, &["1 2", "#1 2", "1[int]", "if0(0, 1, <>)"]);
-}
-
-#[test]
 fn keeps_the_order_of_the_checks(rt: HostRuntime) {
     each_refused(
         &rt,
@@ -95,7 +70,6 @@ fn keeps_the_order_of_the_checks(rt: HostRuntime) {
         &[
             ("1 ) 9223372036854775808 $", Code::E02, 4, 23),
             ("1 ) $", Code::E01, 4, 5),
-            ("x )", Code::E03, 2, 3),
             ("(x", Code::E04, 2, 2),
             ("fix f(x:b):c. y", Code::E06, 8, 9),
             ("fix f(x:int):c. y", Code::E06, 13, 14),
@@ -107,13 +81,10 @@ fn keeps_the_order_of_the_checks(rt: HostRuntime) {
     );
 }
 
+// A token that is unexpected comes before the opener that would be one too many.
 #[test]
-fn counts_open_parentheses(rt: HostRuntime) -> Result<(), Fail> {
+fn refuses_a_token_before_an_opener(rt: HostRuntime) -> Result<(), Fail> {
     let alloc = rt.alloc();
-    is_read(&rt, alloc, &[("(", 200), ("1", 1), (")", 200)])?;
-    let more = &[("(", 201), ("1", 1), (")", 201)];
-    is_refused(&rt, alloc, more, Code::L2, 200, 201)?;
-    // a token that is unexpected comes before the opener that would be one too many
     let other = &[("(", 200), ("]", 1), ("(", 1)];
     is_refused(&rt, alloc, other, Code::E03, 200, 201)
 }
@@ -129,12 +100,8 @@ fn counts_open_tuples(rt: HostRuntime) -> Result<(), Fail> {
 }
 
 #[test]
-fn counts_nodes(rt: HostRuntime) -> Result<(), Fail> {
+fn counts_nodes_before_names(rt: HostRuntime) -> Result<(), Fail> {
     let alloc = rt.alloc();
-    is_read(&rt, alloc, &[("1", 1), (" + 1", 499)])?;
-    let more = &[("1", 1), (" + 1", 500)];
-    is_refused(&rt, alloc, more, Code::L3, 0, 2001)?;
-    // before names are bound
     let unbound = &[("x", 1), (" + x", 500)];
     is_refused(&rt, alloc, unbound, Code::L3, 0, 2001)
 }
@@ -152,21 +119,6 @@ fn counts_nodes_in_parentheses(rt: HostRuntime) -> Result<(), Fail> {
     is_refused(&rt, alloc, more, Code::L3, 2, 2007)
 }
 
-#[test]
-fn takes_large_types(rt: HostRuntime) -> Result<(), Fail> {
-    let text = &[("fix f(x:<int", 1), (",int", 9997), (">):int. 1", 1)];
-    is_read(&rt, rt.alloc(), text)
-}
-
-#[test]
-fn counts_bytes(rt: HostRuntime) -> Result<(), Fail> {
-    let alloc = rt.alloc();
-    let most = &[(" ", 1_048_576)];
-    is_refused(&rt, alloc, most, Code::E04, 1_048_576, 1_048_576)?;
-    let more = &[(" ", 1_048_577)];
-    is_refused(&rt, alloc, more, Code::L1, 0, 1_048_577)
-}
-
 // A sum as long as a text may be: no tree is kept of it.
 #[test]
 fn reads_the_longest_sum(rt: HostRuntime) -> Result<(), Fail> {
@@ -175,28 +127,6 @@ fn reads_the_longest_sum(rt: HostRuntime) -> Result<(), Fail> {
     is_refused(&rt, alloc, sum, Code::L3, 0, 1_048_575)?;
     let cut = &[("1", 1), ("+1", 524_286), ("+)", 1)];
     is_refused(&rt, alloc, cut, Code::E03, 1_048_574, 1_048_575)
-}
-
-// The fault of so many first bytes of the text below.
-fn fault_of_cut(bytes: usize) -> Option<FFault> {
-    let end = bytes as u64;
-    match bytes {
-        11 => at(Code::E03, 9, 11),
-        16 => at(Code::E03, 14, 16),
-        43 => None,
-        44 => None,
-        45 => None,
-        _ => at(Code::E04, end, end),
-    }
-}
-
-#[test]
-fn knows_where_a_cut_text_ends(rt: HostRuntime) {
-    let whole: &[u8] = b"(fix f(n:int):int. if0(n, 1, n * f(n - 1))) 5";
-    assert_eq!(rt; whole.len(), 45);
-    for k in 0..46usize {
-        has_fault(&rt, rt.alloc(), &whole[..k], fault_of_cut(k));
-    }
 }
 
 // The indices in a type, in the order of the text.

@@ -1,4 +1,5 @@
-use crate::Names;
+// Names by their distance from the innermost.
+use idx_core::Names;
 use std::test::Fail;
 
 #[test]

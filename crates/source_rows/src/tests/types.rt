@@ -1,8 +1,9 @@
+// Types: what is put and shifted, and a wide one.
 ghost use Rattle.std.specs.Prelude.{◌≡◌, IfOk};
 ghost use Rattle.f_terms.specs.Ty.{TVar, TArrow, TAll};
 ghost use Rattle.f_terms.specs.Read.{tree};
 
-use crate::{FType, depth, eq, size, type_text};
+use f_terms::{FType, depth, eq, size, type_text};
 use idx_core::{OutOfMemory, Scoped};
 use std::alloc::Global;
 use std::test::Fail;

@@ -1,4 +1,4 @@
-use Rattle.h_pass.proofs.tests.tuple_of.Goals as goal
+use Rattle.pass_rows.proofs.tests.hoisting.tuple_of.Goals as goal
 use Rattle.h_terms.proofs.TypeTrees.{type_tuple}
 
 pub returns : goal.returns

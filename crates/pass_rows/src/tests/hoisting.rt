@@ -6,8 +6,8 @@ ghost use Rattle.c_terms.specs.C.{TCInt, TCTuple, TCCode, TCSome, NoCTys, MoreCT
 ghost use Rattle.c_terms.specs.Stream.{clin_v, clin_t};
 ghost use Rattle.h_pass.specs.Example.{Adds, hidden_pair, done, count_down, call_it};
 
-use crate::program::hoist;
 use c_terms::{CNode, CProgram, CType};
+use h_pass::hoist;
 use h_terms::{HForm, HNode, HPart};
 use idx_core::{Op, OutOfMemory};
 use std::alloc::Global;

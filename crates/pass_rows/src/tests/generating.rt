@@ -3,11 +3,11 @@ ghost use Rattle.std.specs.Prelude.{◌≡◌, [], ◌∷◌, IfOk};
 ghost use Rattle.a_terms.specs.Tree.{Num};
 ghost use Rattle.a_terms.specs.NodeTrees.{a_value, a_values};
 
-use crate::generate;
 use a_terms::{ABase, AForm, ANode, AProgram, AValue};
 use idx_core::OutOfMemory;
 use std::alloc::Global;
 use std::test::Fail;
+use t_gen::generate;
 use t_terms::Block;
 
 fn number(alloc: Global, i: i64) -> AValue

@@ -1,5 +1,5 @@
 use Rattle.std.proofs.Common.{ap, ◌∙◌}
-use Rattle.h_pass.proofs.tests.hidden_pair.Goals as goal
+use Rattle.pass_rows.proofs.tests.hoisting.hidden_pair.Goals as goal
 use Rattle.c_terms.specs.C.{MoreCTys, NoCTys, TCCode, TCSome, TCTuple, TCVar}
 
 pub returns : goal.returns

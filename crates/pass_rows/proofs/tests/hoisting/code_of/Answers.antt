@@ -1,4 +1,4 @@
-use Rattle.h_pass.proofs.tests.code_of.Goals as goal
+use Rattle.pass_rows.proofs.tests.hoisting.code_of.Goals as goal
 use Rattle.h_terms.proofs.TypeTrees.{type_code}
 
 pub returns : goal.returns

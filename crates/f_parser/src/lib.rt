@@ -8,8 +8,6 @@ mod parts;
 mod reader;
 mod resolve;
 mod task;
-#[cfg(test)]
-mod tests;
 
 pub use laws::{
     closed_terms, no_fault_where_read, no_term_where_faulty, one_fault, one_term, same_nodes,

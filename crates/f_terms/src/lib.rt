@@ -13,8 +13,6 @@ pub mod stack;
 pub mod step;
 pub mod table;
 pub mod term;
-#[cfg(test)]
-mod tests;
 pub mod text;
 pub mod types;
 

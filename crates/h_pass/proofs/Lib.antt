@@ -8,4 +8,3 @@ pub mod Fusing
 pub mod Stepping
 pub mod Finishing
 mod Rows
-pub mod Example

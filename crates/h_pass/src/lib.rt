@@ -5,8 +5,6 @@ pub mod laws;
 mod parts;
 mod program;
 mod state;
-#[cfg(test)]
-mod tests;
 mod walk;
 
 pub use program::hoist;

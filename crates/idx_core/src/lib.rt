@@ -6,8 +6,6 @@ pub mod memory;
 pub mod names;
 pub mod scoped;
 pub mod span;
-#[cfg(test)]
-mod tests;
 
 pub use arith::{Op, compute};
 pub use memory::OutOfMemory;

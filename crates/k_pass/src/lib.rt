@@ -4,8 +4,6 @@
 mod access;
 mod convert;
 mod program;
-#[cfg(test)]
-mod tests;
 mod types;
 mod walk;
 mod work;

@@ -1,5 +1,7 @@
 // Source texts and large terms through the passes.
 mod forms;
+mod generating;
+mod hoisting;
 mod instructions;
 mod large;
 mod notation;

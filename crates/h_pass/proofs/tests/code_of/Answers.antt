@@ -1,5 +1,0 @@
-use Rattle.h_pass.proofs.tests.code_of.Goals as goal
-use Rattle.h_terms.proofs.TypeTrees.{type_code}
-
-pub returns : goal.returns
-returns c = type_code 0 c.args.args

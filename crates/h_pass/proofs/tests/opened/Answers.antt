@@ -1,5 +1,0 @@
-use Rattle.h_pass.proofs.tests.opened.Goals as goal
-use Rattle.h_pass.proofs.Example.{later}
-
-pub returns : goal.returns
-returns c = later (later (later (later (later (later (later c.in_ok-add.ensures c.in_ok-add-2.ensures) c.in_ok-add-3.ensures) c.in_ok-add-4.ensures) c.in_ok-add-5.ensures) c.in_ok-add-6.ensures) c.in_ok-add-7.ensures) c.in_ok-call.ensures

@@ -1,5 +1,0 @@
-use Rattle.h_pass.proofs.tests.tuple_of.Goals as goal
-use Rattle.h_terms.proofs.TypeTrees.{type_tuple}
-
-pub returns : goal.returns
-returns c = type_tuple c.args.fields

@@ -1,0 +1,8 @@
+// Source texts, and terms that are larger than any of them.
+mod checking;
+mod evaluating;
+mod lexing;
+mod names;
+mod reading;
+mod stacks;
+mod types;

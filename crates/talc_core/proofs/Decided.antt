@@ -22,7 +22,7 @@ use Rattle.talc_core.specs.FirstFault.{AnyTerm, AProgram, AnAssembly, IsParsed, 
 use Rattle.talc_core.specs.FirstFault.{IsTaken, FirstFault, KeepsBounds, TakenOrFault}
 
 -- a place as a span
-spanned : Spn → Span
+abbrev spanned : Spn → Span
 spanned p = record { start = p.0; end = p.1 }
 
 module _ (term_or_fault : TermOrFault) (closed_terms : ClosedTerms) (pass_or_fault : PassOrFault) (passes_where_typed : PassesWhereTyped)
@@ -33,17 +33,17 @@ module _ (term_or_fault : TermOrFault) (closed_terms : ClosedTerms) (pass_or_fau
 
   by_check : (text : List ℕ) (term : Tm) → IsParsed text term →
       ((t : Ty) × typing.Passes term 0 NoTys t) ⊎ ((c : Code) × (p : Spn) × typing.Fault term 0 NoTys c p) → Checked text
-  by_check text term read (inl (t, passes)) = inl (term, (t, (read, (passes_where_typed term 0 NoTys t tt).0 passes)))
-  by_check text term read (inr (c, (p, fault))) = inr (c, (spanned p, inr (record { term = term; read = read; fault = fault })))
+  by_check text term read (inl (t, passes)) = inl (term, t, (read, (passes_where_typed term 0 NoTys t tt).0 passes))
+  by_check text term read (inr (c, p, fault)) = inr (c, spanned p, inr (record { term = term; read = read; fault = fault }))
 
   by_reading : (text : List ℕ) →
       ((a : Tm) × parser.SourceWithin text a) ⊎ ((c : Code) × (s : Span) × parser.FirstFault text c s) → Checked text
   by_reading text (inl (term, read)) = by_check text term read (pass_or_fault term (closed_terms text term read.source))
-  by_reading text (inr (c, (s, fault))) = inr (c, (s, inl fault))
+  by_reading text (inr (c, s, fault)) = inr (c, s, inl fault)
 
   any_term : (text : List ℕ) → Checked text → IsTaken AnyTerm text ⊎ ((a : Fault) × FirstFault AnyTerm text a)
   any_term text (inl x) = inl x
-  any_term text (inr (c, (s, fault))) = inr (Source c s, fault)
+  any_term text (inr (c, s, fault)) = inr (Source c s, fault)
 
   -- a type is int or another
   by_type : (text : List ℕ) (term : Tm) (t : Ty) → IsChecked text term t →
@@ -51,10 +51,10 @@ module _ (term_or_fault : TermOrFault) (closed_terms : ClosedTerms) (pass_or_fau
   by_type text term t checked = by_form t refl
     where
       other : t ≢ TInt → IsTaken AProgram text ⊎ ((a : Fault) × FirstFault AProgram text a)
-      other no =
+      other not_int =
           inr (
             Source E15 (spanned (span_of term)),
-            inr (record { term = term; type = t; checked = checked; other = no; is_code = refl; whole = refl }),
+            inr (record { term = term; type = t; checked = checked; other = not_int; is_code = refl; whole = refl }),
           )
 
       by_form : (u : Ty) → t ≡ u → IsTaken AProgram text ⊎ ((a : Fault) × FirstFault AProgram text a)
@@ -65,20 +65,20 @@ module _ (term_or_fault : TermOrFault) (closed_terms : ClosedTerms) (pass_or_fau
       by_form (TTuple ts) e = other (λ x. absurd (cc))
 
   a_program : (text : List ℕ) → Checked text → IsTaken AProgram text ⊎ ((a : Fault) × FirstFault AProgram text a)
-  a_program text (inl (term, (t, checked))) = by_type text term t checked
-  a_program text (inr (c, (s, fault))) = inr (Source c s, inl fault)
+  a_program text (inl (term, t, checked)) = by_type text term t checked
+  a_program text (inr (c, s, fault)) = inr (Source c s, inl fault)
 
   by_acceptance : (text : List ℕ) (P : SProg) → IsAssembly text P →
       Accepted (plain_program P) ⊎ ((c : TCode) × (s : Span) × checking.ProgramFault P c s) →
       IsTaken AnAssembly text ⊎ ((a : Fault) × FirstFault AnAssembly text a)
   by_acceptance text P read (inl accepted) = inl (P, (read, accepted))
-  by_acceptance text P read (inr (c, (s, fault))) = inr (Tal c s, inr (record { program = P; read = read; fault = fault }))
+  by_acceptance text P read (inr (c, s, fault)) = inr (Tal c s, inr (record { program = P; read = read; fault = fault }))
 
   an_assembly : (text : List ℕ) → KeepsBounds AnAssembly text →
       ((P : SProg) × assembly.ReadsAs text P) ⊎ ((c : TCode) × (s : Span) × assembly.FirstFault text c s) →
       IsTaken AnAssembly text ⊎ ((a : Fault) × FirstFault AnAssembly text a)
   an_assembly text keeps (inl (P, read)) = by_acceptance text P read (accepted_or_fault P (keeps P read))
-  an_assembly text keeps (inr (c, (s, fault))) = inr (Tal c s, inl fault)
+  an_assembly text keeps (inr (c, s, fault)) = inr (Tal c s, inl fault)
 
   pub taken_or_fault : TakenOrFault
   taken_or_fault AnyTerm text keeps = any_term text (by_reading text (term_or_fault text))

@@ -8,11 +8,11 @@ use Rattle.t_terms.specs.declared.token.Kind.TheVariants as k
 use Rattle.t_terms.specs.declared.token.Token.{Token}
 use Rattle.t_terms.specs.declared.wanted.Wanted.TheVariants as want
 use Rattle.t_terms.specs.Raw.{RawTy, RawRegs, RawReg, RawField, RawBase, RawValue, RPlain, RawInstr, RawEnd, RawBlock, RawDatum, RawItem, BlockItem, DataItem, block_items, Piece, ending}
-use Rattle.t_terms.specs.Grammar.{tok, Names, ns_one, ns_more, Binds, bs_none, bs_names, IsFlag, is_zero, is_one, is_minus_zero, T, t_int, t_name, t_code, t_some, t_unit, t_tuple, File, f_none, f_regs, Rs, rs_one, rs_more, Fs, fs_one, fs_more, Ts, ts_one, ts_more, N, n_reg, n_plain, n_negative, n_label, V, v_base, v_apply, v_pack, IsOp, is_add, is_sub, is_mul, I, i_arith, i_bnz, i_ld, i_malloc_none, i_malloc, i_mov, i_st, i_unpack, Is, is_none, is_more, End, e_jmp, e_halt, Block, b_block, Blocks, bs_one, bs_more, Q, q_plain, q_negative, q_label, W, w_base, w_apply, w_pack, datum, Ds, ds_one, ds_more, Tuple, tu_none, tu_fields, Item, it_block, it_data, Items, its_none, its_more, HasBlock, Program, p_blocks, p_items, open_Names, open_Binds, open_T, open_File, open_Rs, open_Fs, open_Ts, open_V, open_I, open_Is, open_End, open_Block, open_Blocks, open_W, open_Ds, open_Tuple, open_Item, open_Items, open_Program}
+use Rattle.t_terms.specs.Grammar.{tok, Names, ns_one, ns_more, Binds, bs_none, bs_names, IsFlag, is_zero, is_one, is_minus_zero, T, t_int, t_name, t_code, t_some, t_unit, t_tuple, File, f_none, f_regs, Rs, rs_one, rs_more, Fs, fs_one, fs_more, Ts, ts_one, ts_more, N, n_reg, n_plain, n_negative, n_label, V, v_base, v_apply, v_pack, IsOp, is_add, is_sub, is_mul, I, i_arith, i_bnz, i_ld, i_malloc_none, i_malloc, i_mov, i_st, i_unpack, Is, is_none, is_more, End, e_jmp, e_halt, Block, b_block, Blocks, bs_one, bs_more, Q, q_plain, q_negative, q_label, W, w_base, w_apply, w_pack, Ds, ds_one, ds_more, Tuple, tu_none, tu_fields, Item, it_block, it_data, Items, its_none, its_more, HasBlock, Program, p_blocks, p_items, open_Names, open_Binds, open_T, open_File, open_Rs, open_Fs, open_Ts, open_V, open_I, open_Is, open_End, open_Block, open_Blocks, open_W, open_Ds, open_Tuple, open_Item, open_Items, open_Program}
 use Rattle.text_core.specs.Table.{Tm, Nt, Do, Mark, Done, Seen, then_more}
 use Rattle.text_core.proofs.Reading as reading
 use Rattle.text_core.proofs.Reading.{Opens, opens}
-use Rattle.t_terms.specs.GrammarTable.{table, Line, LProgram, LBlock, LMoreBlocks, LBinds, LNames, LMoreNames, LFile, LRegs, LMoreRegs, LT, LFields, LMoreFields, LTypeList, LSomeTypes, LMoreTypes, LV, LArgs, LTo, LI, LMoreSteps, LEnd, LSomeItems, LMoreItems, LTuple, LDatums, LMoreDatums, LW, LWordArgs, LItem, LFirst, Act, MakeNoNames, MakeFirstName, MakeNextName, MakeClosedNames, MakeBinds, MakeNoRegs, MakeFirstReg, MakeNextReg, MakeClosedRegs, MakeFile, MakeTypeInt, MakeTypeName, MakeTypeCode, MakeTypeSome, MakeNoFields, MakeFirstField, MakeNextField, MakeClosedFields, MakeTypeTuple, MakeNoTypes, MakeFirstType, MakeNextType, MakeClosedTypes, MakeTypes, MakeBase, MakeApply, MakePacked, MakePack, MakeTo, MakeIndex, MakeAt, MakeInt, MakeArith, MakeBnz, MakeLd, MakeMalloc, MakeMov, MakeSt, MakeUnpack, MakeNoSteps, MakeNextStep, MakeJmp, MakeHalt, MakeBlock, MakeFirstBlock, MakeNextBlock, MakeWord, MakeWordApply, MakeWordPacked, MakeWordPack, MakeNoDatums, MakeFirstDatum, MakeNextDatum, MakeClosedDatums, MakeTuple, MakeBlockItem, MakeDataItem, MakeNoItems, MakeNextItem, MakeHeaded, MakeProgram, Stack, Val, OfToken, OfNames, OfType, OfRegs, OfFile, OfFields, OfTypes, OfValue, OfStep, OfSteps, OfEnd, OfBlock, OfBlocks, OfWord, OfDatums, OfTuple, OfItem, OfItems, act, type_after, fields_after, fields_tail, type_list_after, some_types_after, types_tail, instr_after, steps_after, steps_tail, block_after, blocks_after, blocks_tail, code_owed, word_after, datums_after, datums_tail, items_tail, Outcome, marks, seen, exec}
+use Rattle.t_terms.specs.GrammarTable.{table, Line, LProgram, LBlock, LMoreBlocks, LBinds, LNames, LMoreNames, LFile, LRegs, LMoreRegs, LT, LFields, LMoreFields, LTypeList, LSomeTypes, LMoreTypes, LV, LArgs, LTo, LI, LMoreSteps, LEnd, LSomeItems, LMoreItems, LTuple, LDatums, LMoreDatums, LW, LWordArgs, Act, MakeNoNames, MakeFirstName, MakeNextName, MakeClosedNames, MakeBinds, MakeNoRegs, MakeFirstReg, MakeNextReg, MakeClosedRegs, MakeFile, MakeTypeInt, MakeTypeName, MakeTypeCode, MakeTypeSome, MakeNoFields, MakeFirstField, MakeNextField, MakeClosedFields, MakeTypeTuple, MakeNoTypes, MakeFirstType, MakeNextType, MakeClosedTypes, MakeTypes, MakeBase, MakeApply, MakePacked, MakePack, MakeTo, MakeIndex, MakeAt, MakeInt, MakeArith, MakeBnz, MakeLd, MakeMalloc, MakeMov, MakeSt, MakeUnpack, MakeNoSteps, MakeNextStep, MakeJmp, MakeHalt, MakeBlock, MakeFirstBlock, MakeNextBlock, MakeWord, MakeWordApply, MakeWordPacked, MakeWordPack, MakeNoDatums, MakeFirstDatum, MakeNextDatum, MakeClosedDatums, MakeTuple, MakeBlockItem, MakeDataItem, MakeNoItems, MakeNextItem, MakeHeaded, MakeProgram, Stack, Val, OfToken, OfNames, OfType, OfRegs, OfFile, OfFields, OfTypes, OfValue, OfStep, OfSteps, OfEnd, OfBlock, OfBlocks, OfWord, OfDatums, OfTuple, OfItems, act, type_after, fields_after, fields_tail, type_list_after, some_types_after, types_tail, instr_after, steps_after, steps_tail, block_after, blocks_after, blocks_tail, code_owed, word_after, datums_after, datums_tail, items_tail, Outcome, marks, seen, exec}
 
 pub do_now : (w : List Token) (a : Act) (s : Stack) (vs : List Val) → exec w (Do a ∷ s) vs ≡ exec w s (act a vs)
 do_now w a s vs = reading.do_now table w a s vs

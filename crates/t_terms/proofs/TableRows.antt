@@ -10,12 +10,12 @@ use Rattle.t_terms.specs.declared.token.Kind.TheVariants as k
 use Rattle.t_terms.specs.declared.token.Token.{Token}
 use Rattle.t_terms.specs.declared.wanted.Wanted.{Wanted}
 use Rattle.t_terms.specs.declared.wanted.Wanted.TheVariants as want
-use Rattle.t_terms.specs.Raw.{RawTy, RTuple, RawRegs, RawReg, RawField, raw_regs, raw_fields, RawBase, RawValue, RPlain, RawInstr, RawEnd, RawBlock, RawDatum, RawItem, BlockItem, DataItem, blocks_in, Piece, ending, up_to}
+use Rattle.t_terms.specs.Raw.{RawTy, RTuple, RawRegs, RawReg, RawField, raw_regs, raw_fields, RawBase, RawValue, RPlain, RawInstr, RawEnd, RawBlock, RawDatum, RawItem, BlockItem, DataItem, blocks_in, Piece, ending}
 use Rattle.t_terms.specs.Grammar.{tok, Names, ns_one, ns_more, Binds, bs_none, bs_names, IsFlag, is_zero, is_one, is_minus_zero, T, t_int, t_name, t_code, t_some, t_unit, t_tuple, File, f_none, f_regs, Rs, rs_one, rs_more, Fs, fs_one, fs_more, Ts, ts_one, ts_more, N, n_reg, n_plain, n_negative, n_label, V, v_base, v_apply, v_pack, IsOp, is_add, is_sub, is_mul, I, i_arith, i_bnz, i_ld, i_malloc_none, i_malloc, i_mov, i_st, i_unpack, Is, is_none, is_more, End, e_jmp, e_halt, Block, b_block, Blocks, bs_one, bs_more, Q, q_plain, q_negative, q_label, W, w_base, w_apply, w_pack, datum, Ds, ds_one, ds_more, Tuple, tu_none, tu_fields, Item, it_block, it_data, Items, its_none, its_more, HasBlock, Program, p_blocks, p_items}
 use Rattle.text_core.specs.Table.{Tm, Nt, Do, Mark, then_more}
 use Rattle.text_core.proofs.Rules as rules
 use Rattle.text_core.proofs.Rules.{Meaning, Matches, m_end, m_tm, m_nt, m_do, m_mark, Row, Made, Extends}
-use Rattle.t_terms.specs.GrammarTable.{table, Line, LProgram, LBlock, LMoreBlocks, LBinds, LNames, LMoreNames, LFile, LRegs, LMoreRegs, LT, LFields, LMoreFields, LTypes, LTypeList, LSomeTypes, LMoreTypes, LV, LArgs, LPacked, LTo, LAt, LIndex, LTarget, LInt, LI, LMoreSteps, LEnd, LHeader, LSomeItems, LFirst, LMoreItems, LItem, LTuple, LDatums, LMoreDatums, LW, LWordArgs, LWordPacked, MakeNoNames, MakeFirstName, MakeNextName, MakeClosedNames, MakeBinds, MakeNoRegs, MakeFirstReg, MakeNextReg, MakeClosedRegs, MakeFile, MakeTypeInt, MakeTypeName, MakeTypeCode, MakeTypeSome, MakeNoFields, MakeNextField, MakeClosedFields, MakeTypeTuple, MakeNoTypes, MakeNextType, MakeClosedTypes, MakeTypes, MakeBase, MakeApply, MakePacked, MakePack, MakeTo, MakeIndex, MakeAt, MakeTarget, MakeInt, MakeBnz, MakeLd, MakeMalloc, MakeMov, MakeSt, MakeUnpack, MakeNextStep, MakeJmp, MakeHalt, MakeBlock, MakeFirstBlock, MakeNextBlock, MakeWord, MakeWordApply, MakeWordPacked, MakeWordPack, MakeNoDatums, MakeFirstDatum, MakeNextDatum, MakeClosedDatums, MakeTuple, MakeBlockItem, MakeDataItem, MakeNoItems, MakeNextItem, MakeHeaded, MakeProgram, Stack, Val, OfToken, OfNames, OfType, OfRegs, OfFile, OfFields, OfTypes, OfList, OfValue, OfPacked, OfReg, OfIndex, OfAt, OfTarget, OfPlace, OfStep, OfSteps, OfEnd, OfBlock, OfBlocks, OfWord, OfDatums, OfTuple, OfItem, OfItems, one_value, flag_value, zero_value, fits, flag_of, applied, word_applied, act, after, may_end, type_after, fields_tail, fields_after, types_tail, some_types_after, type_list_after, base_owed, value_after, arith_owed, instr_after, steps_tail, steps_after, code_owed, block_owed, data_owed, blocks_tail, word_owed, word_after, datums_tail, datums_after, items_tail, blocks_owed, items_owed, headed}
+use Rattle.t_terms.specs.GrammarTable.{table, Line, LProgram, LBlock, LMoreBlocks, LBinds, LNames, LMoreNames, LFile, LRegs, LMoreRegs, LT, LFields, LMoreFields, LTypes, LTypeList, LSomeTypes, LMoreTypes, LV, LArgs, LPacked, LTo, LAt, LIndex, LTarget, LInt, LI, LMoreSteps, LEnd, LHeader, LSomeItems, LFirst, LMoreItems, LItem, LTuple, LDatums, LMoreDatums, LW, LWordArgs, LWordPacked, MakeNoNames, MakeFirstName, MakeNextName, MakeClosedNames, MakeBinds, MakeNoRegs, MakeFirstReg, MakeNextReg, MakeClosedRegs, MakeFile, MakeTypeInt, MakeTypeName, MakeTypeCode, MakeTypeSome, MakeNoFields, MakeNextField, MakeClosedFields, MakeTypeTuple, MakeNoTypes, MakeNextType, MakeClosedTypes, MakeTypes, MakeBase, MakeApply, MakePacked, MakePack, MakeTo, MakeIndex, MakeAt, MakeTarget, MakeInt, MakeBnz, MakeLd, MakeMalloc, MakeMov, MakeSt, MakeUnpack, MakeNextStep, MakeJmp, MakeHalt, MakeBlock, MakeNextBlock, MakeWord, MakeWordApply, MakeWordPacked, MakeWordPack, MakeNoDatums, MakeNextDatum, MakeClosedDatums, MakeTuple, MakeBlockItem, MakeDataItem, MakeNextItem, MakeHeaded, MakeProgram, Stack, Val, OfToken, OfNames, OfType, OfRegs, OfFile, OfFields, OfTypes, OfList, OfValue, OfPacked, OfReg, OfIndex, OfAt, OfTarget, OfPlace, OfStep, OfSteps, OfEnd, OfBlock, OfBlocks, OfWord, OfDatums, OfTuple, OfItem, OfItems, flag_value, zero_value, fits, flag_of, applied, word_applied, act, after, may_end, type_after, fields_tail, fields_after, types_tail, some_types_after, type_list_after, base_owed, value_after, arith_owed, instr_after, steps_tail, steps_after, code_owed, block_owed, data_owed, blocks_tail, word_owed, word_after, datums_tail, datums_after, items_tail, blocks_owed, items_owed, headed}
 
 -- tokens of a class
 pub data IsOf : Wanted → Token → Type 0 where

@@ -1,3 +1,4 @@
+mod DataRows
 mod ProgramRows
 mod TextRows
 pub mod Blocks
@@ -5,6 +6,7 @@ pub mod BodyWalks
 pub mod Complete
 pub mod Filling
 pub mod Instance
+pub mod ItemLaws
 pub mod Nested
 pub mod TableRows
 pub mod TextExact

@@ -18,7 +18,7 @@ use Rattle.a_terms.specs.NodeTrees.{a_tree, a_blocks}
 use Rattle.a_terms.specs.Arity.{ARow, ARows}
 use Rattle.a_terms.specs.declared.nodes.ANode.{ANode}
 use Rattle.a_terms.specs.declared.nodes.ABlock.{ABlock}
-use Rattle.a_scope.specs.Scope.{scope}
+use Rattle.a_scope.specs.Scope.{noted, scope}
 use Rattle.a_scope.specs.declared.scope.Entry.{Entry}
 use Rattle.a_scope.proofs.Scopes.{scope_snoc, shown_own}
 use Rattle.t_gen.specs.Pending.{body_job}

@@ -5,14 +5,17 @@ use Rattle.idx_core.specs.Laws.{shift_zero_law, shift_add_law}
 use Rattle.a_terms.specs.Tree as a
 use Rattle.a_terms.specs.Tree.{ashift, ashift_fields, aput_types}
 use Rattle.a_terms.specs.TreeLaws.{a_part, a_over}
-use Rattle.a_terms.specs.Typing.{type_of, code_type, data_fields, data_type, declared, more_vars}
+use Rattle.a_terms.specs.Typing.{type_of, code_type, data_fields, data_type, or_int, field_of, body_of, filled_of, declared, more_vars}
 use Rattle.a_terms.specs.Read.{atree, atrees}
 use Rattle.a_terms.specs.NodeTrees.{wrap, wrapped, a_blocks, a_consts, a_data}
+use Rattle.a_terms.specs.declared.types.AType.{AType}
 use Rattle.a_terms.specs.declared.nodes.AWrap.{AWrap}
 use Rattle.a_terms.specs.declared.nodes.AData.{AData}
 use Rattle.a_terms.specs.declared.nodes.AWrap.TheVariants.{Apply, Pack}
 use Rattle.a_terms.specs.declared.nodes.ABlock.{ABlock}
-use Rattle.a_scope.specs.Scope.{shown, scope, Under, wrap_type, decl_ty}
+use Rattle.a_terms.specs.TypeLaws.{field_shift, body_shift}
+use Rattle.a_scope.proofs.Filling.{filled_shift, field_filled_to, body_filled_to}
+use Rattle.a_scope.specs.Scope.{filled_to, noted, shown, scope, Under, Stands, Held, wrap_type, decl_ty}
 use Rattle.a_scope.specs.declared.scope.Entry.{Entry}
 
 -- places in lists
@@ -97,15 +100,15 @@ pub scope_snoc : (k : ℕ) (es : List Entry) (e : Entry) → scope k (es ++ e �
 scope_snoc k [] e = refl
 scope_snoc k (x ∷ es) e = ap (λ g. g ++ shown k x ∷ []) (scope_snoc k es e)
 
-pub shown_own : (k : ℕ) (e : Entry) → e.names ≡ k → shown k e ≡ atree e.ty
+pub shown_own : (k : ℕ) (e : Entry) → e.names ≡ k → shown k e ≡ noted e
 shown_own k e same =
     let z : k - e.names ≡ 0 = omega (arith, same) in
-    ap (λ n. ashift n 0 (atree e.ty)) z ∙ shift_zero_law a_over 0 (atree e.ty)
+    ap (λ n. ashift n 0 (noted e)) z ∙ shift_zero_law a_over 0 (noted e)
 
 shown_more : (k : ℕ) (e : Entry) → e.names ≤ k → shown (suc k) e ≡ ashift 1 0 (shown k e)
 shown_more k e le =
     let s : suc k - e.names ≡ k - e.names + 1 = omega (arith, le) in
-    ap (λ n. ashift n 0 (atree e.ty)) s ∙ sym (shift_add_law a_part a_over (k - e.names) 1 0 (atree e.ty))
+    ap (λ n. ashift n 0 (noted e)) s ∙ sym (shift_add_law a_part a_over (k - e.names) 1 0 (noted e))
 
 map_snoc : (f : a.ATy → a.ATy) (xs : List a.ATy) (x : a.ATy) → map f (xs ++ x ∷ []) ≡ map f xs ++ f x ∷ []
 map_snoc f [] x = refl
@@ -115,16 +118,63 @@ pub scope_more : (k : ℕ) (es : List Entry) → Under k es → scope (suc k) es
 scope_more k [] u = refl
 scope_more k (e ∷ es) u = ap₂ (λ g t. g ++ t ∷ []) (scope_more k es u.1) (shown_more k e u.0) ∙ sym (map_snoc (ashift 1 0) (scope k es) (shown k e))
 
-one_more : (k : ℕ) (es : List Entry) (e : Entry) (t : a.ATy) → e.names ≡ k → atree e.ty ≡ t → scope k (es ++ e ∷ []) ≡ t ∷ scope k es
-one_more k es e t n is = scope_snoc k es e ∙ ap (λ u. u ∷ scope k es) (shown_own k e n ∙ is)
+one_more : (k : ℕ) (es : List Entry) (e : Entry) (t : a.ATy) → shown k e ≡ t → scope k (es ++ e ∷ []) ≡ t ∷ scope k es
+one_more k es e t is = scope_snoc k es e ∙ ap (λ u. u ∷ scope k es) is
 
-pub declared_is : (p : a.AProg) (x : a.ADecl) (k : ℕ) (es new : List Entry) (e : Entry) → new ≡ es ++ e ∷ [] → Under k es → atree e.ty ≡ decl_ty p (scope k es) x → e.names ≡ more_vars x k → scope (more_vars x k) new ≡ declared p (scope k es) x
-declared_is p x k es new e is u t n = ap (scope (more_vars x k)) is ∙ go x t n
+pub declared_is : (p : a.AProg) (x : a.ADecl) (k : ℕ) (es new : List Entry) (e : Entry) → new ≡ es ++ e ∷ [] → Under k es → shown (more_vars x k) e ≡ decl_ty p (scope k es) x → scope (more_vars x k) new ≡ declared p (scope k es) x
+declared_is p x k es new e is u t = ap (scope (more_vars x k)) is ∙ go x t
   where
-    go : (y : a.ADecl) → atree e.ty ≡ decl_ty p (scope k es) y → e.names ≡ more_vars y k → scope (more_vars y k) (es ++ e ∷ []) ≡ declared p (scope k es) y
-    go (a.Value v) t n = one_more k es e _ n t
-    go (a.Proj i v) t n = one_more k es e _ n t
-    go (a.Arith o v w) t n = one_more k es e _ n t
-    go (a.Unpack v) t n = one_more (suc k) es e _ n t ∙ ap (λ g. decl_ty p (scope k es) (a.Unpack v) ∷ g) (scope_more k es u)
-    go (a.Malloc ts) t n = one_more k es e _ n t
-    go (a.Init v i w) t n = one_more k es e _ n t
+    go : (y : a.ADecl) → shown (more_vars y k) e ≡ decl_ty p (scope k es) y → scope (more_vars y k) (es ++ e ∷ []) ≡ declared p (scope k es) y
+    go (a.Value v) t = one_more k es e _ t
+    go (a.Proj i v) t = one_more k es e _ t
+    go (a.Arith o v w) t = one_more k es e _ t
+    go (a.Unpack v) t = one_more (suc k) es e _ t ∙ ap (λ g. decl_ty p (scope k es) (a.Unpack v) ∷ g) (scope_more k es u)
+    go (a.Malloc ts) t = one_more k es e _ t
+    go (a.Init v i w) t = one_more k es e _ t
+
+-- the variable at a place
+under_at : (k : ℕ) (es : List Entry) (j : ℕ) (e : Entry) → j < length es → e ≡ get_or es j e → Under k es → e.names ≤ k
+under_at k [] j e lt is u = absurd (omega arith)
+under_at k (x ∷ es) zero e lt is u = subst (λ (y : Entry). y.names ≤ k) (sym is) u.0
+under_at k (x ∷ es) (suc j) e lt is u = under_at k es j e (omega arith) is u.1
+
+pub held : (es : List Entry) (v : a.AVal) (n j : ℕ) (e : Entry) → v ≡ a.Var n → j + suc n ≡ length es → e ≡ get_or es j e → (p : a.AProg) (k : ℕ) → Held p k es v e
+held es v n j e is s at p k =
+    (var_in k es n j e s at ∙ ap (type_of p (scope k es)) (sym is), λ u. under_at k es j e (omega (arith, s)) at u)
+
+-- a variable that shares the type of one in scope
+same_names : (k : ℕ) (e f : Entry) (t : a.ATy) → noted f ≡ t → f.names ≡ e.names → shown k f ≡ ashift (k - e.names) 0 t
+same_names k e f t is n = ap₂ (λ m u. ashift (k - m) 0 u) n is
+
+pub same_stands : (p : a.AProg) (k : ℕ) (es : List Entry) (v : a.AVal) (e f : Entry) → Held p k es v e → Under k es → noted f ≡ noted e → f.names ≡ e.names → Stands k (or_int (type_of p (scope k es) v)) f
+same_stands p k es v e f h u t n =
+    (same_names k e f (noted e) t n ∙ ap or_int h.0, subst (λ m. m ≤ k) (sym n) (h.1 u))
+
+pub filled_stands : (p : a.AProg) (k : ℕ) (es : List Entry) (v : a.AVal) (e f : Entry) (i m : ℕ) → Held p k es v e → Under k es → ((t : a.ATy) → filled_to m t ≡ filled_of i (Some (filled_to e.filled t))) → noted f ≡ filled_to m (atree e.ty.value) → f.names ≡ e.names → Stands k (filled_of i (type_of p (scope k es) v)) f
+filled_stands p k es v e f i m h u step t n = (
+  same_names k e f (filled_to m (atree e.ty.value)) t n ∙ ap (ashift (k - e.names) 0) (step (atree e.ty.value)) ∙ sym (filled_shift (k - e.names) i (noted e)) ∙ ap (filled_of i) h.0,
+  subst (λ m. m ≤ k) (sym n) (h.1 u),
+)
+
+-- parts of a variable's type
+pub entry_field : (k i : ℕ) (e : Entry) → ashift (k - e.names) 0 (field_of i (Some (atree e.ty.value))) ≡ field_of i (Some (shown k e))
+entry_field k i e = ap (ashift (k - e.names) 0) (sym (field_filled_to i e.filled (atree e.ty.value))) ∙ sym (field_shift (k - e.names) i (noted e))
+
+pub entry_body : (k : ℕ) (e : Entry) → e.filled ≡ 0 → ashift (k - e.names) 1 (body_of (Some (atree e.ty.value))) ≡ body_of (Some (shown k e))
+entry_body k e none = ap (λ n. ashift (k - e.names) 1 (body_of (Some (filled_to n (atree e.ty.value))))) (sym none) ∙ sym (body_shift (k - e.names) (noted e))
+
+pub entry_hides : (k : ℕ) (e : Entry) → 1 ≤ e.filled → a.AInt ≡ body_of (Some (shown k e))
+entry_hides k e some = ap (ashift (k - e.names) 1) (sym (body_filled_to e.filled (atree e.ty.value) some)) ∙ sym (body_shift (k - e.names) (noted e))
+
+-- a package, from the last that is put round it
+packed_last : (p : a.AProg) (g : List a.ATy) (v : a.AVal) (ws : List AWrap) (i : ℕ) (x : AWrap) (h s : AType) → i + 1 ≡ length ws → x ≡ get_or ws i x → x ≡ Pack h s → Some (atree s) ≡ type_of p g (wrapped v ws)
+packed_last p g v ws i x h s n is e =
+    sym (
+    ap (λ ys. type_of p g (wrapped v ys)) (sym (take_all (i + 1) ws (omega (arith, n))))
+    ∙ ap (type_of p g) (wrapped_more v ws i x (omega (arith, n)) is)
+    ∙ ap (λ (y : AWrap). type_of p g (wrap y (wrapped v (take i ws)))) e
+    )
+
+pub packed_of : (p : a.AProg) (g : List a.ATy) (v : a.AVal) (ws xs : List AWrap) → xs ≡ ws → (i : ℕ) (x : AWrap) (h s : AType) → i + 1 ≡ length xs → x ≡ get_or xs i x → x ≡ Pack h s → Some (atree s) ≡ type_of p g (wrapped v ws)
+packed_of p g v ws xs same i x h s n is e =
+    packed_last p g v xs i x h s n is e ∙ ap (λ ys. type_of p g (wrapped v ys)) same

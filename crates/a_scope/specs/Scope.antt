@@ -1,5 +1,5 @@
 -- The types of the variables in scope.
-use Rattle.std.specs.Prelude.{ℕ, ◌-◌, ◌≤◌, ◌++◌, List, [], ◌∷◌, Option, Some}
+use Rattle.std.specs.Prelude.{◌≡◌, ℕ, zero, suc, ◌-◌, ◌≤◌, ◌++◌, List, [], ◌∷◌, Option, Some, None}
 use Rattle.a_terms.specs.Tree as a
 use Rattle.a_terms.specs.Tree.{ashift}
 use Rattle.a_terms.specs.Typing.{type_of, applied, or_int, field_of, body_of, filled_of, aunset}
@@ -8,9 +8,18 @@ use Rattle.a_terms.specs.declared.nodes.AWrap.{AWrap}
 use Rattle.a_terms.specs.declared.nodes.AWrap.TheVariants.{Apply, Pack}
 use Rattle.a_scope.specs.declared.scope.Entry.{Entry}
 
+-- the type with its first n fields initialised besides
+abbrev pub filled_to : ℕ → a.ATy → a.ATy
+filled_to zero t = t
+filled_to (suc n) t = filled_of (suc n) (Some (filled_to n t))
+
+-- a variable's type where it was noted
+abbrev pub noted : Entry → a.ATy
+noted e = filled_to e.filled (atree e.ty.value)
+
 -- a variable's type where k type names are in scope
 abbrev pub shown : ℕ → Entry → a.ATy
-shown k e = ashift (k - e.names) 0 (atree e.ty)
+shown k e = ashift (k - e.names) 0 (noted e)
 
 -- the types of the variables, the last one first
 abbrev pub scope : ℕ → List Entry → List a.ATy
@@ -21,6 +30,19 @@ scope k (e ∷ es) = scope k es ++ shown k e ∷ []
 abbrev pub Under : ℕ → List Entry → Type 0
 Under k [] = Unit {0}
 Under k (e ∷ es) = (e.names ≤ k) × Under k es
+
+-- a variable of this type, which was noted where no more than k names were in scope
+abbrev pub Stands : ℕ → a.ATy → Entry → Type 0
+Stands k t e = (shown k e ≡ t) × (e.names ≤ k)
+
+-- the same, if there is a variable
+abbrev pub MayStand : ℕ → a.ATy → Option Entry → Type 0
+MayStand k t None = Unit {0}
+MayStand k t (Some e) = Stands k t e
+
+-- the variable that the value is
+abbrev pub Held : a.AProg → ℕ → List Entry → a.AVal → Entry → Type 0
+Held p k es v e = (Some (shown k e) ≡ type_of p (scope k es) v) × (Under k es → e.names ≤ k)
 
 -- the type of a value that is put round a value of this type
 abbrev pub wrap_type : AWrap → Option a.ATy → Option a.ATy

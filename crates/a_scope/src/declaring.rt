@@ -1,15 +1,16 @@
 // Declarations.
-ghost use Rattle.std.specs.Prelude.{◌≡◌, ◌++◌, [], ◌∷◌, true, IfOk, OnOk};
+ghost use Rattle.std.specs.Prelude.{◌≡◌, ◌≤◌, ◌++◌, [], ◌∷◌, true, IfOk, OnOk};
 ghost use Rattle.a_terms.specs.Typing.{declared, more_vars};
 ghost use Rattle.a_terms.specs.Read.{atree};
 ghost use Rattle.a_terms.specs.NodeTrees.{a_values, is_decl, a_decl};
 ghost use Rattle.a_terms.specs.Arity.{AArity};
 ghost use Rattle.a_terms.specs.Program.{program_in};
-ghost use Rattle.a_scope.specs.Scope.{scope, Under, decl_ty};
+ghost use Rattle.a_scope.specs.Scope.{scope, Under, Stands, decl_ty};
 ghost use Rattle.a_scope.specs.declared.scope.Entry.{Entry as TheEntry};
 
 use crate::field::{body_of_value, field_of_value};
-use crate::scope::Entry;
+use crate::scope::{Entry, noted_now};
+use crate::sharing::shared;
 use crate::value::{first, type_of_value};
 use a_terms::parts::{filled_of, known, unset_tuple};
 use a_terms::walks::sum;
@@ -70,6 +71,33 @@ fn names_after(form: &AForm, values: &[AValue], names: u64) -> Result<u64, OutOf
     }
 }
 
+// The variable that is declared.
+fn declared_entry(
+    alloc: Global,
+    program: &AProgram,
+    vars: &[Entry],
+    names: u64,
+    after: u64,
+    form: &AForm,
+    values: &[AValue],
+) -> Result<Entry, OutOfMemory>
+    requires form { is_decl form.now ≡ true }
+    requires arity { AArity form.now (a_values values.now) }
+    requires under { Under names vars.now }
+    requires after { after ≡ more_vars (a_decl form.now (a_values values.now)) names }
+    ensures { IfOk result (Stands after (decl_ty (program_in program.now) (scope names vars.now)
+        (a_decl form.now (a_values values.now)))) }
+{
+    match shared(vars, names, form, values)? {
+        Some(entry) => Ok(entry),
+        None => {
+            let ty = declared_type(alloc, program, vars, names, form, values)?;
+            let made = noted_now(alloc, ty, after)?;
+            Ok(made)
+        }
+    }
+}
+
 /// One more variable: the type names in scope then.
 pub fn declare(
     alloc: Global,
@@ -85,11 +113,11 @@ pub fn declare(
     ensures names { IfOk result (λ r. r ≡ more_vars (a_decl form.now (a_values values.now)) names) }
     ensures scope { OnOk result (scope (more_vars (a_decl form.now (a_values values.now)) names) vars.new.items
         ≡ declared (program_in program.now) (scope names vars.old.items) (a_decl form.now (a_values values.now))) }
-    ensures more { OnOk result ((e : TheEntry) × (e.names ≡ more_vars (a_decl form.now (a_values values.now)) names)
+    ensures more { OnOk result ((e : TheEntry) × (e.names ≤ more_vars (a_decl form.now (a_values values.now)) names)
         × (vars.new.items ≡ vars.old.items ++ e ∷ [])) }
 {
-    let ty = declared_type(alloc, program, vars, names, form, values)?;
     let after = names_after(form, values, names)?;
-    vars.push(Entry { ty, names: after })?;
+    let entry = declared_entry(alloc, program, vars, names, after, form, values)?;
+    vars.push(entry)?;
     Ok(after)
 }

@@ -1,51 +1,26 @@
 // The types of fields, and of what a package hides. Of a variable's type only what is asked for is copied, so many
 // projections of one tuple cost no more than their fields.
-ghost use Rattle.std.specs.Prelude.{◌≡◌, Some, IfOk, MatchOption, slice_get};
-ghost use Rattle.a_terms.specs.Tree.{Var as TheVar};
+ghost use Rattle.std.specs.Prelude.{◌≡◌, Some, IfOk};
 ghost use Rattle.a_terms.specs.Typing.{type_of, field_of as the_field_of, body_of as the_body_of};
 ghost use Rattle.a_terms.specs.Read.{atree, maybe};
 ghost use Rattle.a_terms.specs.NodeTrees.{a_value};
 ghost use Rattle.a_terms.specs.Program.{program_in};
-ghost use Rattle.a_scope.specs.Scope.{scope};
+ghost use Rattle.a_scope.specs.Scope.{scope, shown};
 
 use crate::scope::{Entry, less};
+use crate::sharing::entry_of;
 use crate::value::type_of_value;
 use a_terms::parts::{body_of, field_of};
-use a_terms::{ABase, AProgram, AType, AValue};
+use a_terms::{AProgram, AType, AValue};
 use idx_core::OutOfMemory;
 use std::alloc::Global;
 
-// The variable that a value is, if it is one with nothing around it.
-fn bare_variable(v: &AValue) -> Option<u64>
-    ensures { MatchOption result (Unit {0}) (λ n. a_value v.now ≡ TheVar n) }
+fn field_of_entry(alloc: Global, entry: &Entry, names: u64, i: u64) -> Result<AType, OutOfMemory>
+    ensures { IfOk result (λ r. atree r ≡ the_field_of i (Some (shown names entry.now))) }
 {
-    if v.wraps.len() > 0 {
-        return None;
-    }
-    match v.base {
-        ABase::Var(n) => Some(n),
-        ABase::Int(_) | ABase::Label(_) | ABase::Data(_) => None,
-    }
-}
-
-fn field_of_variable(
-    alloc: Global,
-    vars: &[Entry],
-    names: u64,
-    n: u64,
-    i: u64,
-) -> Result<AType, OutOfMemory>
-    ensures { IfOk result (λ r. atree r ≡ the_field_of i (slice_get (scope names vars.now) n)) }
-{
-    let count = vars.len();
-    if n < count as u64 {
-        let entry = &vars[count - 1 - n as usize];
-        let by = less(names, entry.names);
-        let made = field_of(alloc, &entry.ty, i, by)?;
-        Ok(made)
-    } else {
-        Ok(AType::Int)
-    }
+    let by = less(names, entry.names);
+    let made = field_of(alloc, &entry.ty, i, by)?;
+    Ok(made)
 }
 
 fn field_of_type(alloc: Global, t: AType, i: u64) -> Result<AType, OutOfMemory>
@@ -79,9 +54,9 @@ pub fn field_of_value(
     ensures { IfOk result (λ r. atree r ≡ the_field_of i
         (type_of (program_in program.now) (scope names vars.now) (a_value v.now))) }
 {
-    match bare_variable(v) {
-        Some(n) => {
-            let made = field_of_variable(alloc, vars, names, n, i)?;
+    match entry_of(vars, v) {
+        Some(entry) => {
+            let made = field_of_entry(alloc, entry, names, i)?;
             Ok(made)
         }
         None => {
@@ -92,18 +67,16 @@ pub fn field_of_value(
     }
 }
 
-fn body_of_variable(alloc: Global, vars: &[Entry], names: u64, n: u64) -> Result<AType, OutOfMemory>
-    ensures { IfOk result (λ r. atree r ≡ the_body_of (slice_get (scope names vars.now) n)) }
+// A tuple some of whose fields are initialised hides nothing.
+fn body_of_entry(alloc: Global, entry: &Entry, names: u64) -> Result<AType, OutOfMemory>
+    ensures { IfOk result (λ r. atree r ≡ the_body_of (Some (shown names entry.now))) }
 {
-    let count = vars.len();
-    if n < count as u64 {
-        let entry = &vars[count - 1 - n as usize];
-        let by = less(names, entry.names);
-        let made = body_of(alloc, &entry.ty, by)?;
-        Ok(made)
-    } else {
-        Ok(AType::Int)
+    if entry.filled > 0 {
+        return Ok(AType::Int);
     }
+    let by = less(names, entry.names);
+    let made = body_of(alloc, &entry.ty, by)?;
+    Ok(made)
 }
 
 fn opened(t: AType) -> AType
@@ -135,9 +108,9 @@ pub fn body_of_value(
     ensures { IfOk result (λ r. atree r ≡ the_body_of
         (type_of (program_in program.now) (scope names vars.now) (a_value v.now))) }
 {
-    match bare_variable(v) {
-        Some(n) => {
-            let made = body_of_variable(alloc, vars, names, n)?;
+    match entry_of(vars, v) {
+        Some(entry) => {
+            let made = body_of_entry(alloc, entry, names)?;
             Ok(made)
         }
         None => {

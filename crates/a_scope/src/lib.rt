@@ -4,8 +4,9 @@
 pub mod declaring;
 pub mod field;
 pub mod scope;
+pub mod sharing;
 pub mod value;
 
 pub use declaring::declare;
-pub use scope::{Entry, less, show};
+pub use scope::{Entry, less, noted_now, show};
 pub use value::{first, second, type_of_value};

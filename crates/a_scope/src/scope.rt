@@ -1,17 +1,22 @@
 // The variables in scope.
 ghost use Rattle.std.specs.Prelude.{◌≡◌, ◌-◌, IfOk};
 ghost use Rattle.a_terms.specs.Read.{atree};
-ghost use Rattle.a_scope.specs.Scope.{shown};
+ghost use Rattle.a_scope.specs.Scope.{shown, noted, filled_to};
 
 use a_terms::AType;
+use a_terms::parts::filled_of;
 use a_terms::walks::shift_type;
 use idx_core::OutOfMemory;
 use std::alloc::Global;
+use std::rc::Rc;
 
-/// The type of a variable, as it was when `names` type names were in scope. It is shifted where it is read.
+/// The type of a variable, as it was when `names` type names were in scope, with the first `filled` fields of the tuple
+/// initialised besides. It is shifted, and its fields are marked, where it is read. So the variables that stand for one
+/// tuple, one after each field that is initialised, share its type (own choice).
 #[derive(Drop)]
 pub struct Entry {
-    pub ty: AType,
+    pub ty: Rc<AType>,
+    pub filled: u64,
     pub names: u64,
 }
 
@@ -22,11 +27,48 @@ pub fn less(a: u64, b: u64) -> u64
     if b <= a { a - b } else { 0 }
 }
 
+/// A variable of this type, where `names` type names are in scope.
+pub fn noted_now(alloc: Global, ty: AType, names: u64) -> Result<Entry, OutOfMemory>
+    ensures ty { IfOk result (λ e. noted e ≡ atree ty) }
+    ensures names { IfOk result (λ e. e.names ≡ names) }
+{
+    let ty = Rc::new(alloc, ty)?;
+    Ok(Entry {
+        ty,
+        filled: 0,
+        names,
+    })
+}
+
+/// One more variable of the same type, with this many fields initialised besides.
+pub fn sharing(entry: &Entry, filled: u64) -> Result<Entry, OutOfMemory>
+    ensures ty { IfOk result (λ e. noted e ≡ filled_to filled (atree entry.now.ty.value)) }
+    ensures names { IfOk result (λ e. e.names ≡ entry.now.names) }
+{
+    let ty = entry.ty.clone()?;
+    Ok(Entry {
+        ty,
+        filled,
+        names: entry.names,
+    })
+}
+
+// The type with its first `count` fields initialised besides.
+fn filled_up(t: AType, count: u64) -> AType
+    ensures { atree result ≡ filled_to count (atree t) }
+{
+    let mut made = t;
+    for i in 0..count {
+        made = filled_of(Some(made), i + 1);
+    }
+    made
+}
+
 /// The type of a variable where `names` type names are in scope.
 pub fn show(alloc: Global, entry: &Entry, names: u64) -> Result<AType, OutOfMemory>
     ensures { IfOk result (λ t. atree t ≡ shown names entry.now) }
 {
     let by = less(names, entry.names);
     let made = shift_type(alloc, &entry.ty, by, 0)?;
-    Ok(made)
+    Ok(filled_up(made, entry.filled))
 }

@@ -1,6 +1,6 @@
 // The types of values.
-ghost use Rattle.std.specs.Prelude.{◌≡◌, ◌≤◌, IfOk, length, slice_get};
-ghost use Rattle.a_terms.specs.Tree.{ATuple};
+ghost use Rattle.std.specs.Prelude.{◌≡◌, ◌≤◌, List, Some, IfOk, MatchOption, length, slice_get};
+ghost use Rattle.a_terms.specs.Tree.{ATuple, AProg, ATy};
 ghost use Rattle.a_terms.specs.Typing.{type_of, code_type, data_fields, data_type};
 ghost use Rattle.a_terms.specs.Read.{atree, maybe};
 ghost use Rattle.a_terms.specs.NodeTrees.{base as base_tree, a_value, a_values, a_blocks, a_consts, a_data, no_value};
@@ -107,8 +107,23 @@ fn type_of_wrap(alloc: Global, ty: Option<AType>, w: &AWrap) -> Result<Option<AT
     }
 }
 
-/// The type of a value.
-pub fn type_of_value(
+// The shape of a value that is a package.
+fn packed(v: &AValue) -> Option<&AType>
+    ensures { MatchOption result (Unit {0}) (λ s. (p : AProg) (g : List ATy)
+        → Some (atree s.now) ≡ type_of p g (a_value v.now)) }
+{
+    let wraps = v.wraps.as_slice();
+    let count = wraps.len();
+    if count == 0 {
+        return None;
+    }
+    match &wraps[count - 1] {
+        AWrap::Pack { hidden: _, shape } => Some(shape),
+        AWrap::Apply(_) => None,
+    }
+}
+
+fn type_of_wrapped(
     alloc: Global,
     program: &AProgram,
     vars: &[Entry],
@@ -122,6 +137,28 @@ pub fn type_of_value(
         made = type_of_wrap(alloc, made, w)?;
     }
     Ok(made)
+}
+
+/// The type of a value. That of a package is read off the package, and not off what is in it.
+pub fn type_of_value(
+    alloc: Global,
+    program: &AProgram,
+    vars: &[Entry],
+    names: u64,
+    v: &AValue,
+) -> Result<Option<AType>, OutOfMemory>
+    ensures { IfOk result (λ r. maybe r ≡ type_of (program_in program.now) (scope names vars.now) (a_value v.now)) }
+{
+    match packed(v) {
+        Some(shape) => {
+            let made = copy(alloc, shape)?;
+            Ok(Some(made))
+        }
+        None => {
+            let made = type_of_wrapped(alloc, program, vars, names, v)?;
+            Ok(made)
+        }
+    }
 }
 
 /// The first value.

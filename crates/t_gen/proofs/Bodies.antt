@@ -18,7 +18,7 @@ use Rattle.a_terms.specs.NodeTrees.{a_tree, a_blocks}
 use Rattle.a_terms.specs.Arity.{ARow, ARows}
 use Rattle.a_terms.specs.declared.nodes.ANode.{ANode}
 use Rattle.a_terms.specs.declared.nodes.ABlock.{ABlock}
-use Rattle.a_scope.specs.Scope.{scope}
+use Rattle.a_scope.specs.Scope.{noted, scope}
 use Rattle.a_scope.specs.declared.scope.Entry.{Entry}
 use Rattle.a_scope.proofs.Scopes.{scope_snoc, shown_own}
 use Rattle.t_gen.specs.Pending.{body_job}
@@ -98,7 +98,7 @@ types_snoc : (ts : a.ATys) (t : a.ATy) (g : List a.ATy) → types_of (asnoc ts t
 types_snoc a.NoATys t g = refl
 types_snoc (a.MoreATys u us) t g = types_snoc us t (u ∷ g)
 
-pub argument_push : (k : ℕ) (es new : List Entry) (e : Entry) (ts : List AType) (i : ℕ) (t : AType) → i < length ts → t ≡ get_or ts i t → new ≡ es ++ e ∷ [] → e.names ≡ k → atree e.ty ≡ atree t → scope k es ≡ types_of (atrees (take i ts)) [] → scope k new ≡ types_of (atrees (take (i + 1) ts)) []
+pub argument_push : (k : ℕ) (es new : List Entry) (e : Entry) (ts : List AType) (i : ℕ) (t : AType) → i < length ts → t ≡ get_or ts i t → new ≡ es ++ e ∷ [] → e.names ≡ k → noted e ≡ atree t → scope k es ≡ types_of (atrees (take i ts)) [] → scope k new ≡ types_of (atrees (take (i + 1) ts)) []
 argument_push k es new e ts i t lt is n names same h =
     ap (scope k) n ∙ scope_snoc k es e ∙ ap₂ (λ u g. u ∷ g) (shown_own k e names ∙ same) h
     ∙ sym (ap (λ us. types_of us []) (ap atrees (took ts i t lt is) ∙ atrees_snoc (take i ts) t) ∙ types_snoc (atrees (take i ts)) (atree t) [])

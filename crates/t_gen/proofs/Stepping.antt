@@ -36,7 +36,7 @@ more_names (a.Init v i w) k = omega arith
 
 -- a declaration
 module _ (prog : a.AProg) (p q : Place) (x : a.ADecl) (es fs : List Entry) (e : Entry) (ps qs : List Place) (o : List Block) (c d : List (Instr × Span))
-    (count : p.vars ≡ length es) (made : fs ≡ es ++ e ∷ []) (names : e.names ≡ more_vars x p.names) (is_scope : scope (more_vars x p.names) fs ≡ declared prog (scope p.names es) x)
+    (count : p.vars ≡ length es) (made : fs ≡ es ++ e ∷ []) (names : e.names ≤ more_vars x p.names) (is_scope : scope (more_vars x p.names) fs ≡ declared prog (scope p.names es) x)
     (codes : (rest : TSeq) → onto d rest ≡ onto c (decl_code (length es) x rest)) (pushed : qs ≡ ps ++ q ∷ []) (same_block : q.block ≡ p.block) (same_names : q.names ≡ more_vars x p.names) (all : q.vars ≡ length fs)
     (f : Fit (length (blocks_of o)) es (length es) (p ∷ tops ps)) where
   abbrev out : List TBlock
@@ -75,7 +75,7 @@ module _ (prog : a.AProg) (p q : Place) (x : a.ADecl) (es fs : List Entry) (e : 
 
   fit_let : Fit (length out) fs (length fs) (tops qs)
   fit_let =
-      let u = under_push p.names (more_vars x p.names) es e (subst (Under p.names) whole_es f.2) (more_names x p.names) (omega (arith, names)) in
+      let u = under_push p.names (more_vars x p.names) es e (subst (Under p.names) whole_es f.2) (more_names x p.names) names in
       subst (Fit (length out) fs (length fs)) (sym is_tops) (
         omega (arith, f.0, same_block),
         omega (arith, all),

@@ -11,7 +11,7 @@ ghost use Rattle.t_gen.specs.Pending.{body_job};
 
 use crate::state::Place;
 use crate::step::step;
-use a_scope::Entry;
+use a_scope::{Entry, noted_now};
 use a_terms::walks::copy;
 use a_terms::{ANode, AProgram, AType};
 use idx_core::OutOfMemory;
@@ -71,7 +71,8 @@ pub fn arguments(alloc: Global, owes: u64, args: &[AType]) -> Result<Vec<Entry>,
     let mut vars = Vec::new(alloc);
     for t in args {
         let ty = copy(alloc, t)?;
-        vars.push(Entry { ty, names: owes })?;
+        let entry = noted_now(alloc, ty, owes)?;
+        vars.push(entry)?;
     }
     Ok(vars)
 }

@@ -1,7 +1,7 @@
-use Rattle.std.proofs.Common.{◌∙◌, ap}
+use Rattle.std.proofs.Common.{◌≡◌, ◌∙◌, ap, subst, arith}
 use Rattle.a_terms.specs.NodeTrees.{a_values, a_decl}
 use Rattle.a_terms.specs.Program.{program_in}
-use Rattle.a_scope.specs.Scope.{scope, decl_ty}
+use Rattle.a_scope.specs.Scope.{shown, scope, decl_ty}
 use Rattle.a_scope.proofs.Scopes.{declared_is}
 use Rattle.a_scope.proofs.declaring.declare.Goals as goal
 
@@ -9,7 +9,14 @@ pub returns-clause-scope : goal.returns-clause-scope
 returns-clause-scope c =
     let x = a_decl c.args.form.now (a_values c.args.values.now) in
     let p = program_in c.args.program.now in
-    declared_is p x c.args.names c.args.vars.now.items _ _ c.in_ok-push.ensures.items c.requires.under (c.in_ok-ty.ensures ∙ ap (λ es. decl_ty p (scope c.args.names es) x) c.deref.ensures.value) c.in_ok-after.ensures
+    let es = c.args.vars.now.items in
+    let e = c.in_ok-entry.entry in
+    declared_is p x c.args.names es _ e c.in_ok-push.ensures.items c.requires.under (
+    subst (λ k. shown k e ≡ decl_ty p (scope c.args.names es) x) c.in_ok-after.ensures (
+    c.in_ok-entry.ensures.0 ∙ ap (λ us. decl_ty p (scope c.args.names us) x) c.deref.ensures.value
+    )
+    )
 
 pub returns-clause-more : goal.returns-clause-more
-returns-clause-more c = (_, c.in_ok-after.ensures, c.in_ok-push.ensures.items)
+returns-clause-more c =
+    (c.in_ok-entry.entry, omega (arith, c.in_ok-entry.ensures.1, c.in_ok-after.ensures), c.in_ok-push.ensures.items)

@@ -1,0 +1,58 @@
+//! The program `pass_sizes SHAPE N PASS`: makes a source term of this shape with about N parts, larger than any text may
+//! be, and takes it through the passes up to PASS. It prints nothing: it serves the measuring of the passes one by one.
+//! It ends with 0 where PASS is done, with 1 where memory is wanted or the term is refused, and with 2 for other words.
+#![tactic(auto)]
+
+mod passes;
+mod shapes;
+
+use passes::{Pass, pass_named, through};
+use shapes::{Shape, shape_named, term};
+use std::alloc::Global;
+use std::env;
+use std::process::ExitCode;
+
+// What is asked for.
+struct Asked {
+    shape: Shape,
+    count: u64,
+    last: Pass,
+}
+
+// The words after the program's own name.
+fn words(rt: &HostRuntime, alloc: Global) -> Option<Vec<String>> {
+    let mut words = Vec::new(alloc);
+    for word in env::args(rt).ok()? {
+        words.push(word).ok()?;
+    }
+    Some(words)
+}
+
+fn asked(words: &[String]) -> Option<Asked> {
+    if words.len() != 4 {
+        return None;
+    }
+    let shape = shape_named(words[1].as_str())?;
+    let count = words[2].as_str().parse::<u64>().ok()?;
+    let last = pass_named(words[3].as_str())?;
+    Some(Asked { shape, count, last })
+}
+
+fn done(alloc: Global, asked: &Asked) -> Option<()> {
+    let term = term(alloc, asked.shape, asked.count).ok()?;
+    through(alloc, term, asked.last)
+}
+
+fn main(rt: HostRuntime) -> ExitCode {
+    let alloc = rt.alloc();
+    let Some(words) = words(&rt, alloc) else {
+        return ExitCode::from(1);
+    };
+    let Some(asked) = asked(&words) else {
+        return ExitCode::from(2);
+    };
+    match done(alloc, &asked) {
+        Some(()) => ExitCode::from(0),
+        None => ExitCode::from(1),
+    }
+}

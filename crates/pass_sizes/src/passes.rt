@@ -1,0 +1,71 @@
+// A term through the passes, up to one of them.
+use a_pass::allocate;
+use c_pass::close;
+use f_check::{Program, check};
+use f_terms::{FTerm, admit};
+use h_pass::hoist;
+use idx_core::OutOfMemory;
+use k_pass::cps;
+use std::alloc::Global;
+use t_gen::generate;
+
+/// Where to stop: after the typing of the source, or after one of the passes.
+#[derive(Clone, Copy, PartialEq, Eq)]
+pub enum Pass {
+    Check,
+    Cps,
+    Close,
+    Hoist,
+    Allocate,
+    Generate,
+}
+
+/// The pass of this name.
+pub fn pass_named(name: &str) -> Option<Pass> {
+    match name {
+        "check" => Some(Pass::Check),
+        "cps" => Some(Pass::Cps),
+        "close" => Some(Pass::Close),
+        "hoist" => Some(Pass::Hoist),
+        "allocate" => Some(Pass::Allocate),
+        "generate" => Some(Pass::Generate),
+        _ => None,
+    }
+}
+
+fn checked(alloc: Global, term: FTerm) -> Option<Program> {
+    if !admit(alloc, &term).ok()? {
+        return None;
+    }
+    check(alloc, term).ok()?.program().ok()
+}
+
+fn converted(alloc: Global, program: &Program, last: Pass) -> Result<(), OutOfMemory> {
+    if last == Pass::Check {
+        return Ok(());
+    }
+    let converted = cps(alloc, program)?;
+    if last == Pass::Cps {
+        return Ok(());
+    }
+    let closed = close(alloc, &converted)?;
+    if last == Pass::Close {
+        return Ok(());
+    }
+    let hoisted = hoist(alloc, &closed)?;
+    if last == Pass::Hoist {
+        return Ok(());
+    }
+    let allocated = allocate(alloc, &hoisted)?;
+    if last == Pass::Allocate {
+        return Ok(());
+    }
+    generate(alloc, &allocated)?;
+    Ok(())
+}
+
+/// Takes the term through the passes. None where memory is wanted, or the term is refused.
+pub fn through(alloc: Global, term: FTerm, last: Pass) -> Option<()> {
+    let program = checked(alloc, term)?;
+    converted(alloc, &program, last).ok()
+}

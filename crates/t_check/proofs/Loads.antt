@@ -6,11 +6,11 @@ use Rattle.idx_core.specs.Laws.{shifted_ge}
 use Rattle.text_core.specs.Refusals.{refuse, check, nothing}
 use Rattle.t_types.specs.Tree.{Ty, IntTy, VarTy, CodeTy, ExistsTy, TupleTy, TFields, NoFields, MoreFields, over_fields, shift, ShiftFits}
 use Rattle.t_types.specs.Fields.{AField, field}
-use Rattle.t_types.specs.Fits.{RegTypes}
+use Rattle.t_types.specs.Fits.{Fits, RegTypes}
 use Rattle.t_types.proofs.FitsLaws.{field_over}
 use Rattle.t_types.specs.WellFormed.{max_names}
 use Rattle.t_terms.specs.declared.fault.TCode.{TCode}
-use Rattle.t_terms.specs.declared.fault.TCode.TheVariants.{T09, T10, T11, T19}
+use Rattle.t_terms.specs.declared.fault.TCode.TheVariants.{T09, T10, T11, T13, T19}
 use Rattle.t_rules.specs.Faults.{Fault, register, integer, tuple, field_at}
 use Rattle.t_intern.specs.Nodes.{at, fields_at}
 use Rattle.t_check.specs.Bounds.{Bounded}
@@ -69,6 +69,10 @@ no_int g r k s t known none = rw known (inl (λ q. none (tuples.unshifted_int k 
 
 pub no_halt : (g : RegTypes) (k : ℕ) (s : Span) (t : Ty) → g 1 ≡ Some (shift k 0 t) → (t ≡ IntTy → ⊥) → check (g 1 ≡ Some IntTy) (refuse T19 s) nothing T19 s
 no_halt g k s t known none = inl ((λ q. none (tuples.unshifted_int k t (let same : Some (shift k 0 t) ≡ Some IntTy = sym known ∙ q in cc))), (refl, refl))
+
+-- T13 where a register does not fit
+pub unfit : (g : RegTypes) (r : ℕ) (s : Span) (w u : Ty) → g r ≡ Some w → (Fits w u → ⊥) → register g r s (λ x. check (Fits x u) (refuse T13 s) nothing) T13 s
+unfit g r s w u known other = rw known (inl (other, (refl, refl)))
 
 -- T11 where there is no such field, and what follows where there is
 module _ (g : RegTypes) (r i : ℕ) (s : Span) (rest : TFields → Ty → Bool → Fault) (fs : TFields) (known : g r ≡ Some (TupleTy fs)) where

@@ -7,7 +7,7 @@ use Rattle.t_types.proofs.Scope.{well_formed_below}
 use Rattle.t_types.specs.Tree.{Ty, IntTy, VarTy, CodeTy, ExistsTy, TupleTy, TFile, BelowTypes, put}
 use Rattle.t_types.specs.Fits.{Fits, FitsFile, RegTypes}
 use Rattle.t_types.specs.WellFormed.{WellFormed}
-use Rattle.t_terms.specs.Tree.{TBase, TValue, Plain, Pack, Arith, Unpack, TProg}
+use Rattle.t_terms.specs.Tree.{TBase, TValue, Plain, Pack, Arith, Bnz, Unpack, TProg}
 use Rattle.t_terms.specs.Spanned.{SDatum, plain_datum}
 use Rattle.t_terms.specs.declared.fault.TCode.{TCode}
 use Rattle.t_terms.specs.declared.fault.TCode.TheVariants.{T09, T13, T14, T15, T16, T17, T18}
@@ -19,9 +19,10 @@ use Rattle.t_rules.specs.Faults.{Fault, if_code, if_exists, BaseFault, ValueFaul
 use Rattle.t_check.specs.Bounds.{Bounded, OwedFile}
 use Rattle.t_intern.specs.Grown.{IsNumber}
 use Rattle.t_intern.specs.Nodes.{at}
-use Rattle.t_check.specs.Known.{own, seen, IsEntry}
-use Rattle.t_check.specs.Verdict.{Says, IsTypeOf, IsPacked}
+use Rattle.t_check.specs.Known.{own, seen, known, IsEntry, IsSound}
+use Rattle.t_check.specs.Verdict.{Says, IsTypeOf, IsPacked, IsEntered, IsStep}
 use Rattle.t_check.specs.declared.registers.Entry.{Entry}
+use Rattle.t_check.specs.declared.registers.Registers.{Registers}
 use Rattle.t_check.proofs.Depth.{shallow, bounded, bounded_shift}
 
 -- a fault of a part is one of the whole
@@ -111,6 +112,11 @@ module _ (P : TProg) (n : ℕ) (g : RegTypes) (s : Span) where
 
     pub enter_ok : owes ≡ 0 → FitsFile g file → Enters P n g v
     enter_ok e fits = (file, subst (λ m. Has P n g v (CodeTy m file)) e code, fits)
+
+  -- a branch
+  pub bnz_is : (us : List Ty) (k : Registers) (r : ℕ) (v : TValue) → g r ≡ Some IntTy → known us k ≡ g → IsSound us k → k.names ≡ n → (a : Result (Unit {0}) TFault) → IsEntered P n g s v a → IsStep P us n g k s (Bnz r v) a
+  bnz_is us k r v int same sound names (Ok u) h = ((int, h, same), sound, names)
+  bnz_is us k r v int same sound names (Err f) h = says_map f (EnterFault P n g s v) (InstrFault P n g s (Bnz r v)) (λ c p x. rw int (inr (refl, x))) h
 
   -- an operand that is no integer
   pub operand : (op : Op) (rd rs : ℕ) (v : TValue) (u : Ty) → g rs ≡ Some IntTy → Has P n g v u → u ≢ IntTy → InstrFault P n g s (Arith op rd rs v) T09 s

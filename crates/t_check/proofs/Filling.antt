@@ -1,6 +1,6 @@
 -- A field of a register's tuple becomes initialised.
-use Rattle.std.proofs.Common.{◌≡◌, ℕ, ◌-◌, ◌<◌, ◌≤◌, List, length, Some, sym, ap, ap₂, ◌∙◌, subst}
-use Rattle.t_types.specs.Tree.{Ty, TFields, TupleTy, shift}
+use Rattle.std.proofs.Common.{◌≡◌, ℕ, ◌-◌, List, Some, sym, ap₂, ◌∙◌, subst}
+use Rattle.t_types.specs.Tree.{Ty, TFields, TupleTy}
 use Rattle.t_types.specs.Fits.{RegTypes}
 use Rattle.t_types.specs.Fields.{filled}
 use Rattle.t_rules.specs.Registers.{with_reg}
@@ -9,7 +9,7 @@ use Rattle.t_intern.specs.Nodes.{at}
 use Rattle.t_check.specs.declared.registers.Entry.{Entry}
 use Rattle.t_check.specs.declared.registers.Registers.{Registers}
 use Rattle.t_check.specs.Bounds.{Bounded}
-use Rattle.t_check.specs.Known.{own, seen, known, IsSound, IsEntry, IsFound, IsSet, IsTupleWith, HasField, IsFilled}
+use Rattle.t_check.specs.Known.{own, seen, known, IsSound, IsFound, IsSet, IsTupleWith, HasField, IsFilled}
 use Rattle.t_check.proofs.Depth.{filled_shallow}
 use Rattle.t_check.proofs.Noting.{set_known, set_sound, known_grown, sound_grown}
 use Rattle.t_check.proofs.Tuples.{tuple_back, filled_shift}
@@ -32,11 +32,11 @@ is_filled ts us k h r i e m g s found there made set =
     let shape = subst (Bounded e.names) tuple.3 found.1.2 in
     let mine = subst (Bounded e.names) (sym number.1) (filled_shallow e.names tuple.0 i shape) in (
       (λ fs is.
-      let here = found.0 in
-      let same : seen ts k.names e ≡ TupleTy fs = cc in
-      set_known us k h r f set
-      ∙ ap₂ (λ (x : RegTypes) (t : Ty). with_reg x r t) (known_grown ts us g k s)
-      (filled_shift (k.names - e.names) (own ts e) (at us m) i fs (λ gs q. (made gs q).1) same)),
+          let here = found.0 in
+          let same : seen ts k.names e ≡ TupleTy fs = cc in
+          set_known us k h r f set
+          ∙ ap₂ (λ (x : RegTypes) (t : Ty). with_reg x r t) (known_grown ts us g k s)
+          (filled_shift (k.names - e.names) (own ts e) (at us m) i fs (λ gs q. (made gs q).1) same)),
       set_sound us k h r f set (number.0, found.1.1, mine) (sound_grown ts us g k s),
       set.1,
     )

@@ -11,7 +11,7 @@ use Rattle.idx_core.specs.Laws.{shift_zero_law, shift_add_law}
 use Rattle.t_types.specs.Tree.{Ty, TFile, shift}
 use Rattle.t_types.specs.TreeLaws.{types_part, types_over}
 use Rattle.t_types.specs.Fits.{lookup}
-use Rattle.t_types.specs.WellFormed.{max_names, RegsAbove, WellFormed, WellFormedFile}
+use Rattle.t_types.specs.WellFormed.{max_names, RegsAbove, WellFormedFile}
 use Rattle.t_rules.specs.Registers.{with_reg, raised, no_types}
 use Rattle.t_intern.specs.Grown.{Grown}
 use Rattle.t_intern.specs.Nodes.{at, regs_at, RegsBelow}

@@ -1,23 +1,21 @@
 -- Labels and tuples by the numbers of their types.
-use Rattle.std.proofs.Common.{◌≡◌, ℕ, zero, suc, arith, ◌<◌, ◌≤◌, List, [], ◌∷◌, length, map, Bool, true, false, refl, sym, ap, ap₂, ◌∙◌, get_or, subst, All}
+use Rattle.std.proofs.Common.{◌≡◌, ℕ, zero, suc, arith, ◌<◌, List, [], ◌∷◌, length, map, Bool, true, false, refl, sym, ap, ◌∙◌, get_or, subst, All}
 use Rattle.std.proofs.lemmas.List.{length-map}
 use Rattle.std.proofs.lemmas.List.Elements.{All-head, All-tail}
-use Rattle.t_types.specs.Tree.{Ty, IntTy, CodeTy, TFields, MoreFields}
+use Rattle.t_types.specs.Tree.{Ty, IntTy, MoreFields}
 use Rattle.t_types.specs.Fields.{empty_fields}
-use Rattle.t_types.specs.Read.{tree, file}
+use Rattle.t_types.specs.Read.{tree}
 use Rattle.idx_core.specs.declared.span.Span.{Span}
 use Rattle.t_types.specs.declared.types.TType.{TType}
-use Rattle.t_terms.specs.Read.{data_fields as data_of, block, spanned_data}
+use Rattle.t_terms.specs.Read.{data_fields as data_of}
 use Rattle.t_terms.specs.Spanned.{plain_fields}
-use Rattle.t_terms.specs.declared.block.Block.{Block}
-use Rattle.t_terms.specs.declared.data.Data.{Data}
 use Rattle.t_terms.specs.declared.program.TProgram.{TProgram}
 use Rattle.t_terms.specs.declared.value.Value.{Value}
-use Rattle.t_rules.specs.Rules.{data_fields, data_type}
+use Rattle.t_rules.specs.Rules.{data_fields}
 use Rattle.t_intern.specs.Grown.{Grown, IsNumber, AreNumbers}
 use Rattle.t_intern.specs.Nodes.{at, fields_at, FieldsBelow}
 use Rattle.t_intern.proofs.Growing.{numbers_grown, number_at}
-use Rattle.t_check.specs.Labels.{code_type, tuple_type, field_types, all_flagged, AreLabels}
+use Rattle.t_check.specs.Labels.{field_types, all_flagged, AreLabels}
 use Rattle.t_check.specs.declared.labels.Labels.{Labels}
 
 -- fields that have all the same flag

@@ -1,6 +1,5 @@
 -- Types that are put in turn for the first ones that are owed are put in one walk.
-use Rattle.std.proofs.Common.{◌≡◌, ℕ, zero, suc, ◌+◌, ◌-◌, ◌<◌, ◌≤◌, List, [], ◌∷◌, length, get_or, refl, sym, ◌∙◌, ap, arith, subst, ◌⊎◌, inl, inr}
-use Rattle.std.proofs.lemmas.Bool.Decides.{nat_tests}
+use Rattle.std.proofs.Common.{◌≡◌, ℕ, suc, ◌+◌, ◌-◌, ◌<◌, ◌≤◌, List, [], ◌∷◌, length, get_or, refl, sym, ◌∙◌, ap, arith, subst, ◌⊎◌, inl, inr}
 use Rattle.std.proofs.lemmas.Bool.{cases_lt, cases_order}
 use Rattle.idx_core.specs.Over.{deep, At, shifted, putted}
 use Rattle.idx_core.specs.Laws.{deep_is, shifted_lt, shifted_ge, putted_lt, putted_eq, putted_gt, shift_add}
@@ -51,6 +50,7 @@ in_one (t ∷ ts) n file h =
   where
     turn : At Ty
     turn = putted VarTy over (n - 1) (shift (n - 1) 0 t)
+
     here : (e i : ℕ) → length ts + 1 ≤ n → (i ≡ n - 1 + e) ⊎ ((i < n - 1 + e) ⊎ (n - 1 + e < i)) → over (applied ts) (n - 1 - length ts + e) (putted VarTy over (n - 1) (shift (n - 1) 0 t) (n - 1 + e) i) ≡ applied (t ∷ ts) (n - 1 - length ts + e) i
     here e i l (inl q) =
         let d = n - 1 - length ts + e in
@@ -60,9 +60,9 @@ in_one (t ∷ ts) n file h =
         let high : i < d + length (t ∷ ts) = omega (arith, q, far) in
         let first : length (t ∷ ts) - 1 - (i - d) ≡ 0 = omega (arith, q, far) in
         rw (putted_eq VarTy over (n - 1) (shift (n - 1) 0 t) (n - 1 + e) i q) (
-          ap (over (applied ts) d) (types_shift (n - 1) (n - 1 + e - (n - 1)) t ∙ ap (λ m. shift m 0 t) whole)
-          ∙ past ts d t
-          ∙ sym (applied_in (t ∷ ts) d i low high ∙ ap (λ m. shift d 0 (get_or (t ∷ ts) m IntTy)) first)
+        ap (over (applied ts) d) (types_shift (n - 1) (n - 1 + e - (n - 1)) t ∙ ap (λ m. shift m 0 t) whole)
+        ∙ past ts d t
+        ∙ sym (applied_in (t ∷ ts) d i low high ∙ ap (λ m. shift d 0 (get_or (t ∷ ts) m IntTy)) first)
         )
       where
         types_shift : (m k : ℕ) (u : Ty) → shift k 0 (shift m 0 u) ≡ shift (m + k) 0 u
@@ -82,7 +82,7 @@ in_one (t ∷ ts) n file h =
     here e i l (inr (inr q)) =
         let d = n - 1 - length ts + e in
         rw (putted_gt VarTy over (n - 1) (shift (n - 1) 0 t) (n - 1 + e) i q) (
-          applied_ge ts d (i - 1) (omega (arith, q, l))
-          ∙ ap VarTy (omega (arith, q))
-          ∙ sym (applied_ge (t ∷ ts) d i (omega (arith, q, l)))
+        applied_ge ts d (i - 1) (omega (arith, q, l))
+        ∙ ap VarTy (omega (arith, q))
+        ∙ sym (applied_ge (t ∷ ts) d i (omega (arith, q, l)))
         )

@@ -1,5 +1,5 @@
 -- What the checker answers on a value, from what it answers on its parts.
-use Rattle.std.proofs.Common.{◌≡◌, ◌≢◌, ℕ, ◌+◌, ◌-◌, ◌<◌, ◌≤◌, List, [], ◌∷◌, length, Some, Result, Ok, Err, inl, inr, refl, sym, ap, ap₂, ◌∙◌, arith, subst}
+use Rattle.std.proofs.Common.{◌≡◌, ◌≢◌, ℕ, ◌+◌, ◌-◌, ◌<◌, ◌≤◌, List, [], ◌∷◌, length, Some, Result, Ok, Err, inl, inr, refl, sym, ap₂, ◌∙◌, arith, subst}
 use Rattle.idx_core.specs.declared.arith.Op.{Op}
 use Rattle.idx_core.specs.declared.span.Span.{Span}
 use Rattle.text_core.specs.Refusals.{refuse, check, nothing}
@@ -18,7 +18,6 @@ use Rattle.t_rules.specs.Rules.{BaseHas, Has, Enters, DatumAccepted}
 use Rattle.t_rules.specs.Faults.{Fault, if_code, if_exists, BaseFault, ValueFault, EnterFault, InstrFault, DatumFault}
 use Rattle.t_check.specs.Bounds.{Bounded, OwedFile}
 use Rattle.t_intern.specs.Grown.{IsNumber}
-use Rattle.t_intern.specs.Nodes.{at}
 use Rattle.t_check.specs.Known.{own, seen, known, IsEntry, IsSound}
 use Rattle.t_check.specs.Verdict.{Says, IsTypeOf, IsPacked, IsEntered, IsStep}
 use Rattle.t_check.specs.declared.registers.Entry.{Entry}

@@ -1,5 +1,5 @@
 -- The types of a program's labels.
-use Rattle.std.specs.Prelude.{◌≡◌, ℕ, Bool, List, [], ◌∷◌, map}
+use Rattle.std.specs.Prelude.{Bool, List, [], ◌∷◌, map}
 use Rattle.idx_core.specs.declared.span.Span.{Span}
 use Rattle.t_types.specs.Tree.{Ty, CodeTy, TFields, NoFields, MoreFields}
 use Rattle.t_types.specs.Read.{tree, file}

@@ -87,13 +87,7 @@ impl Checker<'_> {
         }
     }
 
-    fn check_bnz(
-        &self,
-        types: &mut Types,
-        r: u64,
-        v: &Value,
-        span: Span,
-    ) -> Result<(), TFault>
+    fn check_bnz(&self, types: &mut Types, r: u64, v: &Value, span: Span) -> Result<(), TFault>
         requires place { IsPlace types.old self.now }
         requires value { FormedAt self.now (value v.now) }
         ensures grown { Grown types.old types.new }
@@ -171,13 +165,7 @@ impl Checker<'_> {
         Ok(())
     }
 
-    fn check_mov(
-        &mut self,
-        types: &mut Types,
-        rd: u64,
-        v: &Value,
-        span: Span,
-    ) -> Result<(), TFault>
+    fn check_mov(&mut self, types: &mut Types, rd: u64, v: &Value, span: Span) -> Result<(), TFault>
         requires place { IsPlace types.old self.old }
         requires rd { IsRegister rd }
         requires value { FormedAt self.old (value v.now) }
@@ -260,12 +248,7 @@ impl Checker<'_> {
         Ok(())
     }
 
-    pub(crate) fn check_end(
-        &self,
-        types: &mut Types,
-        end: &End,
-        span: Span,
-    ) -> Result<(), TFault>
+    pub(crate) fn check_end(&self, types: &mut Types, end: &End, span: Span) -> Result<(), TFault>
         requires place { IsPlace types.old self.now }
         requires end { FormedEnd self.now.program.now self.now.registers.names (end_of end.now) }
         ensures grown { Grown types.old types.new }

@@ -112,12 +112,7 @@ fn check_block(
 }
 
 // What a block's header says of the registers.
-fn header(
-    alloc: Global,
-    types: &Types,
-    block: &Block,
-    code: u64,
-) -> Result<Registers, OutOfMemory>
+fn header(alloc: Global, types: &Types, block: &Block, code: u64) -> Result<Registers, OutOfMemory>
     requires few { block.now.owes ≤ max_names }
     requires file { WellFormedFile block.now.owes (file block.now.regs.regs.items) }
     requires code { IsNumber types.now (CodeTy block.now.owes (file block.now.regs.regs.items)) code }
@@ -131,11 +126,7 @@ fn header(
 
 impl Checker<'_> {
     // The words of a data tuple in order, where nothing is known of the registers.
-    fn check_data(
-        &self,
-        types: &mut Types,
-        fields: &[(Value, TType, Span)],
-    ) -> Result<(), TFault>
+    fn check_data(&self, types: &mut Types, fields: &[(Value, TType, Span)]) -> Result<(), TFault>
         requires place { IsPlace types.old self.now }
         requires empty { IsEmpty self.now.registers }
         requires names { self.now.registers.names ≡ 0 }
@@ -150,11 +141,7 @@ impl Checker<'_> {
     }
 
     // A word of data.
-    fn check_datum(
-        &self,
-        types: &mut Types,
-        field: &(Value, TType, Span),
-    ) -> Result<(), TFault>
+    fn check_datum(&self, types: &mut Types, field: &(Value, TType, Span)) -> Result<(), TFault>
         requires place { IsPlace types.old self.now }
         requires empty { IsEmpty self.now.registers }
         requires names { self.now.registers.names ≡ 0 }

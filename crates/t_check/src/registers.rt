@@ -109,12 +109,7 @@ impl Registers {
     }
 
     // The field of the register's tuple is initialised from now on.
-    pub(crate) fn fill(
-        &mut self,
-        types: &mut Types,
-        r: u64,
-        field: u64,
-    ) -> Result<(), OutOfMemory>
+    pub(crate) fn fill(&mut self, types: &mut Types, r: u64, field: u64) -> Result<(), OutOfMemory>
         requires sound { IsSound types.old self.old }
         requires there { HasField (known types.old self.old) r field }
         ensures grown { Grown types.old types.new }

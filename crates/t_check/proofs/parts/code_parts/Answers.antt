@@ -1,4 +1,4 @@
-use Rattle.std.proofs.Common.{◌≤◌, ◌<◌, ap, subst, ◌∙◌, length, arith}
+use Rattle.std.proofs.Common.{ap, subst, ◌∙◌, length, arith}
 use Rattle.t_intern.specs.Nodes.{type_at, PartsBelow}
 use Rattle.t_intern.specs.Read.{node}
 use Rattle.t_intern.specs.declared.shape.Shape.{Shape}

@@ -1,6 +1,6 @@
-use Rattle.std.proofs.Common.{◌≡◌, ◌<◌, ap, sym, subst, ◌∙◌, length, arith}
+use Rattle.std.proofs.Common.{◌≡◌, ap, sym, subst, ◌∙◌, length, arith}
 use Rattle.std.proofs.lemmas.Result.{IfOk-weaker}
-use Rattle.t_types.specs.Tree.{Ty, TupleTy, TFields}
+use Rattle.t_types.specs.Tree.{Ty, TupleTy}
 use Rattle.t_types.specs.Fields.{field, filled}
 use Rattle.t_intern.specs.Grown.{IsNumber}
 use Rattle.t_intern.specs.Nodes.{fields_at, type_at, PartsBelow}

@@ -1,14 +1,12 @@
-use Rattle.std.proofs.Common.{◌≡◌, ◌≤◌, ◌<◌, ◌-◌, List, ℕ, length, arith, ap, sym, subst, ◌∙◌, Option, Result}
+use Rattle.std.proofs.Common.{◌≡◌, ◌-◌, List, ℕ, length, arith, subst, Option}
 use Rattle.std.proofs.lemmas.List.{length-map}
 use Rattle.t_types.specs.Read.{tree, types}
-use Rattle.t_terms.specs.Tree.{Plain}
 use Rattle.t_terms.specs.ReadProgram.{program}
-use Rattle.t_terms.specs.declared.fault.TFault.{TFault}
 use Rattle.t_intern.specs.Nodes.{at, regs_at}
 use Rattle.t_check.specs.declared.parts.CodeParts.{CodeParts}
-use Rattle.t_check.specs.Verdict.{IsCode, IsInstantiated, IsTypeOf}
+use Rattle.t_check.specs.Verdict.{IsCode, IsInstantiated}
 use Rattle.t_check.proofs.Blocks.{types_below}
-use Rattle.t_check.proofs.Typing.{plain_code, plain_count, plain_ok}
+use Rattle.t_check.proofs.Typing.{plain_ok}
 use Rattle.t_check.proofs.checker.Checker.apply.Goals as goal
 
 pub returns-clause-applied : goal.returns-clause-applied

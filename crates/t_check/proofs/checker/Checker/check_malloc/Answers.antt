@@ -1,6 +1,5 @@
-use Rattle.std.proofs.Common.{◌≡◌, ◌<◌, ◌∙◌, ap, sym, subst, false, List, ℕ, All, length}
+use Rattle.std.proofs.Common.{◌<◌, ◌∙◌, ap, sym, subst, false, List, ℕ, All, length}
 use Rattle.t_types.specs.Tree.{Ty, TupleTy}
-use Rattle.t_types.specs.Fields.{empty_fields}
 use Rattle.t_types.specs.Read.{types}
 use Rattle.t_rules.specs.Registers.{with_reg}
 use Rattle.t_intern.specs.Nodes.{at}

@@ -24,9 +24,21 @@ returns-clause-step c =
     let us = c.check_stored.new.types in
     let h = c.in_ok-check_stored.ensures.stored in
     let same = known_grown ts us c.in_ok-check_stored.ensures.grown c.args.self.now.registers c.requires.sound in
-    let filled_is = c.in_ok-fill.ensures.filled in
-    ((h.0, h.1, h.2, h.3, h.4, h.5, h.6, h.7,
-      filled_is.0 h.0 (ap (λ (g : RegTypes). g c.args.rd) same ∙ h.4) ∙ ap (λ (g : RegTypes). with_reg g c.args.rd (TupleTy (filled h.0 c.args.field))) same), filled_is.1, filled_is.2)
+    let filled_is = c.in_ok-fill.ensures.filled in (
+      (
+        h.0,
+        h.1,
+        h.2,
+        h.3,
+        h.4,
+        h.5,
+        h.6,
+        h.7,
+        filled_is.0 h.0 (ap (λ (g : RegTypes). g c.args.rd) same ∙ h.4) ∙ ap (λ (g : RegTypes). with_reg g c.args.rd (TupleTy (filled h.0 c.args.field))) same,
+      ),
+      filled_is.1,
+      filled_is.2,
+    )
 
 pub returns-clause-grown : goal.returns-clause-grown
 returns-clause-grown c = grown_next _ _ _ c.in_ok-check_stored.ensures.grown c.in_ok-fill.ensures.grown

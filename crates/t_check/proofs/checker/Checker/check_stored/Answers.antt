@@ -6,7 +6,6 @@ use Rattle.t_terms.specs.declared.fault.TCode.TheVariants.{T13}
 use Rattle.t_terms.specs.declared.fault.TFault.{TFault}
 use Rattle.t_rules.specs.Faults.{register}
 use Rattle.t_intern.specs.Nodes.{at}
-use Rattle.t_intern.proofs.Growing.{grown_next}
 use Rattle.t_check.specs.Known.{known, seen}
 use Rattle.t_check.specs.Verdict.{IsStored}
 use Rattle.t_check.proofs.Loads.{field_follows, unfit}

@@ -1,10 +1,9 @@
-use Rattle.std.proofs.Common.{◌≡◌, ℕ, List, ◌∙◌, ap, sym, subst, Option, Result, true≢false}
+use Rattle.std.proofs.Common.{ℕ, List, ◌∙◌, sym, subst, Option, Result, true≢false}
 use Rattle.t_types.specs.Fits.{FitsFile, RegTypes}
 use Rattle.t_terms.specs.Read.{value}
 use Rattle.t_terms.specs.ReadProgram.{program}
 use Rattle.t_terms.specs.declared.fault.TFault.{TFault}
 use Rattle.t_intern.specs.Nodes.{at, regs_at}
-use Rattle.t_intern.proofs.Growing.{grown_next}
 use Rattle.t_check.specs.declared.parts.CodeParts.{CodeParts}
 use Rattle.t_check.specs.Known.{known}
 use Rattle.t_check.specs.Verdict.{IsCode, IsEntered}

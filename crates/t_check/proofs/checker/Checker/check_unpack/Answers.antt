@@ -1,4 +1,4 @@
-use Rattle.std.proofs.Common.{◌≡◌, ◌∙◌, sym, subst, ap, Option, Result, ℕ}
+use Rattle.std.proofs.Common.{◌∙◌, sym, subst, ap, Result, ℕ}
 use Rattle.t_types.specs.Fits.{RegTypes}
 use Rattle.t_terms.specs.Read.{value}
 use Rattle.t_terms.specs.ReadProgram.{program}

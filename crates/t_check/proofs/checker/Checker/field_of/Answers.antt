@@ -1,11 +1,11 @@
-use Rattle.std.proofs.Common.{◌≡◌, ◌<◌, ◌≤◌, ◌-◌, ◌∙◌, ap, sym, subst, length, get_or, arith, Result, Some, Bool, false, ℕ}
+use Rattle.std.proofs.Common.{◌<◌, ◌≤◌, ◌∙◌, ap, sym, subst, length, get_or, arith, Result, Some, Bool, false, ℕ}
 use Rattle.text_core.specs.Refusals.{nothing}
 use Rattle.t_terms.specs.declared.fault.TFault.{TFault}
 use Rattle.t_intern.specs.Nodes.{at}
 use Rattle.t_intern.proofs.Walked.{item, field_below}
-use Rattle.t_check.specs.Known.{known, own}
+use Rattle.t_check.specs.Known.{known}
 use Rattle.t_check.specs.Verdict.{IsFieldOf}
-use Rattle.t_check.proofs.Loads.{shown_fields, shown_tuple, shown_none, part_fits, part_field, part_bounded, field_absent, no_tuple}
+use Rattle.t_check.proofs.Loads.{shown_fields, shown_tuple, shown_none, part_fits, part_field, part_bounded, field_absent}
 use Rattle.t_check.proofs.checker.Checker.field_of.Goals as goal
 
 pub returns-then-field-fields-clause-field : goal.returns-then-field-fields-clause-field

@@ -1,4 +1,4 @@
-use Rattle.std.proofs.Common.{◌≡◌, ◌<◌, ℕ, length, get_or, refl, sym, ◌∙◌, arith}
+use Rattle.std.proofs.Common.{length, get_or, refl, sym, ◌∙◌, arith}
 use Rattle.t_types.proofs.Trees.{item_has, items_more}
 use Rattle.t_intern.proofs.Growing.{grown_next, grown_length}
 use Rattle.t_intern.proofs.Walked.{item, reg_below}

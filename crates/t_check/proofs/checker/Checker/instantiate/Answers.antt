@@ -4,7 +4,6 @@ use Rattle.std.proofs.lemmas.Result.{IfOk-weaker}
 use Rattle.idx_core.specs.Over.{IsWord}
 use Rattle.t_types.specs.Read.{tree, types}
 use Rattle.t_types.specs.Tree.{Ty, TFile, each_file, over_file}
-use Rattle.t_rules.specs.Registers.{inst_file}
 use Rattle.t_intern.specs.Grown.{AreRegs}
 use Rattle.t_intern.specs.Nodes.{regs_at}
 use Rattle.t_intern.specs.Spread.{types_at, spread, SpreadFitsAt}

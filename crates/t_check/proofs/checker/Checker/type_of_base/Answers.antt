@@ -1,6 +1,5 @@
-use Rattle.std.proofs.Common.{◌≡◌, ◌<◌, ◌∙◌, ap, sym, subst, Some, length}
+use Rattle.std.proofs.Common.{◌<◌, ◌∙◌, ap, sym, subst, Some, length}
 use Rattle.t_types.specs.Read.{file}
-use Rattle.t_types.specs.Tree.{Ty}
 use Rattle.t_terms.specs.Read.{base, block, spanned_data}
 use Rattle.t_terms.specs.ReadProgram.{program}
 use Rattle.t_terms.specs.Spanned.{plain_fields}

@@ -1,7 +1,7 @@
-use Rattle.std.proofs.Common.{◌≡◌, refl, sym, subst, ◌∙◌, ap₂, Result, ℕ, true≢false}
+use Rattle.std.proofs.Common.{sym, subst, ◌∙◌, ap₂, Result, ℕ, true≢false}
 use Rattle.t_types.specs.Read.{tree}
 use Rattle.t_types.specs.Fits.{Fits}
-use Rattle.t_types.specs.Tree.{Ty, ExistsTy, put, PutFits}
+use Rattle.t_types.specs.Tree.{Ty, put, PutFits}
 use Rattle.t_terms.specs.declared.fault.TFault.{TFault}
 use Rattle.t_terms.specs.ReadProgram.{program}
 use Rattle.t_intern.specs.Nodes.{at}

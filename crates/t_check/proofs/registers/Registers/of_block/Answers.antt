@@ -1,4 +1,4 @@
-use Rattle.std.proofs.Common.{◌≡◌, ◌≤◌, ◌<◌, ◌+◌, ◌-◌, List, [], ℕ, length, get_or, drop, arith, subst, sym}
+use Rattle.std.proofs.Common.{◌≡◌, ◌<◌, ◌-◌, List, ℕ, length, get_or, drop, arith, subst, sym}
 use Rattle.std.proofs.lemmas.List.{drop_all}
 use Rattle.t_intern.proofs.Walked.{item}
 use Rattle.t_check.proofs.Noting.{IsHeader, header_none, header_step, of_block}

@@ -23,8 +23,6 @@ use Rattle.t_terms.specs.declared.fault.TFault.{TFault}
 use Rattle.t_rules.specs.Rules.{Typed, EndTyped, SeqAccepted, BlockAccepted, BlocksAccepted, DatumAccepted, DataAccepted, HeapAccepted, FirstTakesNothing}
 use Rattle.t_rules.specs.Faults.{InstrFault, EndFault, BodyFault, BlockFault, BlocksFault, DatumFault, DataFault, HeapFault, FirstBlockFault, ProgramFault}
 use Rattle.t_check.specs.Verdict.{Says, IsEnd, IsBlock, AreBlocks, IsProgram}
-use Rattle.t_check.specs.Known.{known}
-use Rattle.t_check.specs.declared.registers.Registers.{Registers}
 use Rattle.t_check.proofs.Typing.{says_map}
 
 -- the instructions from a place on
@@ -84,13 +82,13 @@ module _ (P : TProg) (last : TEnd) (s : Span) where
     pub end_formed : (p q : ℕ) → WellFormedSeq p q m (seq_of (body (drop i xs)) last) → WellFormedEnd p q m last
     end_formed p q formed = subst (λ ys. WellFormedSeq p q m (seq_of (body ys) last)) ended formed
 
-pub block_end : (P : TProg) (b : Block) (k : Registers) (i : ℕ) → length b.body.items ≤ i → BelowFile b.owes (file b.regs.regs.items) →
-    IsLeft P (end_of b.«end») b.end_span b.owes k.names (lookup (file b.regs.regs.items)) (known k) b.body.items (drop i b.body.items) →
-    (r : Result (Unit {0}) TFault) → IsEnd P k b.end_span (end_of b.«end») r → IsBlock P (spanned b) r
-block_end P b k i le small left (Ok u) e =
-    (small, end_accepted P (end_of b.«end») b.end_span b.owes k.names (lookup (file b.regs.regs.items)) (known k) b.body.items i le left e)
-block_end P b k i le small left (Err f) e =
-    says_map f _ (BlockFault P (spanned b)) (end_fault P (end_of b.«end») b.end_span b.owes k.names (lookup (file b.regs.regs.items)) (known k) b.body.items i le left) e
+pub block_end : (P : TProg) (b : Block) (m : ℕ) (g : RegTypes) (i : ℕ) → length b.body.items ≤ i → BelowFile b.owes (file b.regs.regs.items) →
+    IsLeft P (end_of b.«end») b.end_span b.owes m (lookup (file b.regs.regs.items)) g b.body.items (drop i b.body.items) →
+    (r : Result (Unit {0}) TFault) → IsEnd P m g b.end_span (end_of b.«end») r → IsBlock P (spanned b) r
+block_end P b m g i le small left (Ok u) e =
+    (small, end_accepted P (end_of b.«end») b.end_span b.owes m (lookup (file b.regs.regs.items)) g b.body.items i le left e)
+block_end P b m g i le small left (Err f) e =
+    says_map f _ (BlockFault P (spanned b)) (end_fault P (end_of b.«end») b.end_span b.owes m (lookup (file b.regs.regs.items)) g b.body.items i le left) e
 
 -- a program of which the blocks `left` are still to be checked
 pub record AreLeft (P : TProg) (bs left : List Block) : Type 0 where

@@ -1,5 +1,5 @@
 -- Types that are well formed are bounded, and bounded types stay so: shifted, put, and taken apart. So each sum is a u64.
-use Rattle.std.proofs.Common.{◌≡◌, ℕ, zero, suc, ◌+◌, ◌*◌, ◌-◌, ◌<◌, ◌≤◌, ◌⊎◌, inl, inr, Bool, List, [], ◌∷◌, Some, refl, sym, ap, ◌∙◌, arith, subst}
+use Rattle.std.proofs.Common.{◌≡◌, ℕ, zero, suc, ◌+◌, ◌*◌, ◌-◌, ◌<◌, ◌≤◌, ◌⊎◌, inl, inr, Bool, List, [], ◌∷◌, length, get_or, Some, refl, sym, ap, ◌∙◌, arith, subst}
 use Rattle.std.proofs.lemmas.Bool.{cases_lt, cases_order}
 use Rattle.idx_core.specs.Over.{deep, shifted, putted, IsWord, ShiftFitsAt, PutFitsAt}
 use Rattle.idx_core.specs.Laws.{deep_is, shifted_lt, shifted_ge, putted_lt, putted_eq, putted_gt, shift_add_law}
@@ -9,7 +9,9 @@ use Rattle.t_types.specs.WellFormed.{max_names, WellFormed, WellFormedFile, Well
 use Rattle.t_types.specs.Fields.{AField, field, filled, empty_fields}
 use Rattle.t_terms.specs.Tree.{TData}
 use Rattle.t_terms.specs.Whole.{WellFormedData}
+use Rattle.t_rules.specs.Registers.{inst_file}
 use Rattle.t_rules.specs.Rules.{data_fields, data_type}
+use Rattle.t_intern.specs.Spread.{SpreadFitsAt}
 use Rattle.t_check.specs.Bounds.{ShallowAt, ShallowBelow, Shallow, OwedAt, OwedBelow, OwedFile, Bounded}
 
 -- what holds of each variable and depth, weakened, and counted from another depth
@@ -126,17 +128,6 @@ bounded_shift n k (TupleTy fs) h = bounded (n + k) (shift k 0 (TupleTy fs)) (sha
 
 -- a type put for the first of the types that code owes
 module _ (n k : ℕ) (u : Ty) (file : TFile) (some : 1 ≤ k) (few : k ≤ max_names) (names : n ≤ max_names) (hu : Shallow n u) (hf : OwedFile n k file) where
-  pub part_shift_fits : ShiftFits (k - 1) 0 u
-  part_shift_fits = shallow_shift_fits n (k - 1) u (omega arith) hu
-
-  pub inst_put_fits : each_file (PutFitsAt each (k - 1) (shift (k - 1) 0 u)) IsWord (k - 1) file
-  inst_put_fits =
-      weaker_file (OwedAt n k) (PutFitsAt each (k - 1) (shift (k - 1) 0 u)) OwedBelow IsWord (0 + k) (k - 1)
-      (λ e i x. λ is.
-      let less = x.2 (omega arith) (omega arith) in
-      shallow_shift_fits (n + (k - 1)) (k - 1 + e - (k - 1)) (shift (k - 1) 0 u) (omega arith) (shallow_shift n (k - 1) u hu))
-      (λ e x. omega arith) file hf
-
   placed : (j p : ℕ) → j ≤ p → p ≤ max_names → each (OwedAt n j) OwedBelow p (shift p 0 u)
   placed j p le less =
       types_each.has.made (ShallowAt n) (OwedAt n j) ShallowBelow OwedBelow (shifted VarTy p) 0 0 p
@@ -169,6 +160,31 @@ module _ (n k : ℕ) (u : Ty) (file : TFile) (some : 1 ≤ k) (few : k ≤ max_n
       (subst (λ d. each (OwedAt n (k - 1)) OwedBelow (0 + (k - 1) + e) (putted VarTy over (k - 1) (shift (k - 1) 0 u) d i)) (sym (deep_is (k - 1) e))
       (moves e i (subst (λ d. OwedAt n k d i) (deep_is (0 + k) e) x))))
       (λ e x. let y : 0 + k + e ≤ 2 * max_names = subst OwedBelow (deep_is (0 + k) e) x in subst OwedBelow (sym (deep_is (0 + (k - 1)) e)) (omega arith)) file hf
+
+-- types put for the first ones in order
+pub inst_owed : (n k : ℕ) (ts : List Ty) (file : TFile) → length ts ≤ k → k ≤ max_names → n ≤ max_names → WellFormedTypes n ts → OwedFile n k file → OwedFile n (k - length ts) (inst_file ts k file)
+inst_owed n k [] file le few names h hf = let same : k ≡ k - 0 = omega arith in subst (λ m. OwedFile n m file) same hf
+inst_owed n k (t ∷ ts) file le few names h hf =
+    let here = inst_put n k t file (omega (arith, le)) few names (shallow n t h.0) hf in
+    let rest = inst_owed n (k - 1) ts (put_file (k - 1) (shift (k - 1) 0 t) file) (omega (arith, le)) (omega (arith, few)) names h.1 here in
+    let same : k - 1 - length ts ≡ k - length (t ∷ ts) = omega arith in
+    subst (λ m. OwedFile n m (inst_file ts (k - 1) (put_file (k - 1) (shift (k - 1) 0 t) file))) same rest
+
+shallow_at : (n : ℕ) (ts : List Ty) (j : ℕ) → j < length ts → WellFormedTypes n ts → Shallow n (get_or ts j IntTy)
+shallow_at n [] j l h = absurd (omega (arith, l))
+shallow_at n (t ∷ ts) zero l h = shallow n t h.0
+shallow_at n (t ∷ ts) (suc j) l h = shallow_at n ts j (omega (arith, l)) h.1
+
+-- and in one walk: its sums
+pub spread_fits : (n k : ℕ) (ts : List Ty) (file : TFile) → length ts ≤ k → k ≤ max_names → n ≤ max_names → WellFormedTypes n ts → OwedFile n k file → each_file (SpreadFitsAt 0 ts) IsWord (k - length ts) file
+spread_fits n k ts file le few names h hf =
+    weaker_file (OwedAt n k) (SpreadFitsAt 0 ts) OwedBelow IsWord (0 + k) (k - length ts)
+    (λ e i x. λ low high.
+    let a = x.1 in
+    let within : length ts - 1 - (i - (k - length ts + e)) < length ts = omega (arith, le, low, high) in
+    let less = x.2 (omega (arith, le, low, high)) (omega (arith, le, low, high)) in
+    shallow_shift_fits n (k - length ts + e - 0) (get_or ts (length ts - 1 - (i - (k - length ts + e))) IntTy) (omega (arith, le, less, names)) (shallow_at n ts (length ts - 1 - (i - (k - length ts + e))) within h))
+    (λ e x. omega (arith, x, le)) file hf
 
 -- a type put for the one that a package hides
 pub pack_put_fits : (n : ℕ) (s t : Ty) → n ≤ max_names → Shallow n s → Shallow n (ExistsTy t) → PutFits 0 s 0 t

@@ -4,7 +4,9 @@ mod Tuples
 mod Filling
 mod Blocks
 mod Typing
+mod Places
 mod Loads
-mod Emptied
+mod Numbering
+mod Turns
 mod Bodies
 mod Exact

@@ -1,19 +1,20 @@
 -- A field of a register's tuple.
-use Rattle.std.proofs.Common.{◌≡◌, ℕ, zero, suc, ◌+◌, ◌-◌, ◌<◌, ◌≤◌, List, length, Bool, Some, None, refl, sym, ap, ◌∙◌, get_or, arith, subst}
+use Rattle.std.proofs.Common.{◌≡◌, ◌≢◌, zero-le, ℕ, zero, suc, ◌+◌, ◌-◌, ◌<◌, ◌≤◌, List, length, Bool, Some, None, refl, sym, ap, ◌∙◌, get_or, arith, subst, inl}
 use Rattle.idx_core.specs.declared.span.Span.{Span}
 use Rattle.idx_core.specs.Over.{At, shifted}
-use Rattle.t_types.specs.Tree.{Ty, VarTy, TupleTy, TFields, NoFields, MoreFields, over_fields, shift, ShiftFits}
+use Rattle.idx_core.specs.Laws.{shifted_ge}
+use Rattle.text_core.specs.Refusals.{refuse, check, nothing}
+use Rattle.t_types.specs.Tree.{Ty, IntTy, VarTy, CodeTy, ExistsTy, TupleTy, TFields, NoFields, MoreFields, over_fields, shift, ShiftFits}
 use Rattle.t_types.specs.Fields.{AField, field}
-use Rattle.t_types.specs.Fits.{RegTypes}
+use Rattle.t_types.specs.Fits.{Fits, RegTypes}
 use Rattle.t_types.proofs.FitsLaws.{field_over}
 use Rattle.t_types.specs.WellFormed.{max_names}
-use Rattle.t_types.specs.Read.{tree, fields}
-use Rattle.t_types.specs.declared.types.TType.{TType}
 use Rattle.t_terms.specs.declared.fault.TCode.{TCode}
-use Rattle.t_terms.specs.declared.fault.TCode.TheVariants.{T11}
-use Rattle.t_rules.specs.Faults.{Fault, register, tuple, field_at}
+use Rattle.t_terms.specs.declared.fault.TCode.TheVariants.{T09, T10, T11, T13, T19}
+use Rattle.t_rules.specs.Faults.{Fault, register, integer, tuple, field_at}
+use Rattle.t_intern.specs.Nodes.{at, fields_at}
 use Rattle.t_check.specs.Bounds.{Bounded}
-use Rattle.t_check.specs.Known.{seen, IsEntry}
+use Rattle.t_check.specs.Known.{own, seen, IsEntry}
 use Rattle.t_check.specs.declared.registers.Entry.{Entry}
 use Rattle.t_check.proofs.Depth.{bounded, bounded_shift, shift_fits, field_shallow}
 use Rattle.t_check.proofs.Tuples as tuples
@@ -25,39 +26,58 @@ none_over f d (MoreFields t flag fs) zero e = cc
 none_over f d (MoreFields t flag fs) (suc i) e = none_over f d fs i e
 
 -- the entry of a tuple, and one of its fields
-module _ (n : ℕ) (e : Entry) (xs : List (TType × Bool)) (is : tree e.ty ≡ TupleTy (fields xs)) (ok : IsEntry n e) (i : ℕ) where
+module _ (ts : List Ty) (n : ℕ) (e : Entry) (xs : List (ℕ × Bool)) (is : own ts e ≡ TupleTy (fields_at ts xs)) (ok : IsEntry ts n e) (i : ℕ) where
   abbrev pub shown_fields : TFields
-  shown_fields = over_fields (shifted VarTy (n - e.names)) 0 (fields xs)
+  shown_fields = over_fields (shifted VarTy (n - e.names)) 0 (fields_at ts xs)
 
-  pub shown_tuple : seen n e ≡ TupleTy shown_fields
+  pub shown_tuple : seen ts n e ≡ TupleTy shown_fields
   shown_tuple = ap (shift (n - e.names) 0) is
 
   pub shown_none : length xs ≤ i → field shown_fields i ≡ None
-  shown_none le = none_over (shifted VarTy (n - e.names)) 0 (fields xs) i (tuples.no_field xs i le)
+  shown_none le = none_over (shifted VarTy (n - e.names)) 0 (fields_at ts xs) i (tuples.no_field ts xs i le)
 
-  module _ (x : TType × Bool) (lt : i < length xs) (at : x ≡ get_or xs i x) where
-    own_bounded : Bounded e.names (tree x.0)
-    own_bounded = bounded e.names (tree x.0) (field_shallow e.names (fields xs) i (tree x.0) x.1 (subst (λ t. Bounded e.names t) is ok.1) (tuples.field_at xs i x lt at))
+  module _ (x : ℕ × Bool) (lt : i < length xs) (here : x ≡ get_or xs i x) where
+    own_bounded : Bounded e.names (at ts x.0)
+    own_bounded = bounded e.names (at ts x.0) (field_shallow e.names (fields_at ts xs) i (at ts x.0) x.1 (subst (λ t. Bounded e.names t) is ok.2) (tuples.field_at ts xs i x lt here))
 
-    pub part_fits : n ≤ max_names → ShiftFits (n - e.names) 0 (tree x.0)
-    part_fits few = let le = ok.0 in shift_fits e.names (n - e.names) (tree x.0) (omega arith) own_bounded
+    pub part_fits : n ≤ max_names → ShiftFits (n - e.names) 0 (at ts x.0)
+    part_fits few = let le = ok.1 in shift_fits e.names (n - e.names) (at ts x.0) (omega arith) own_bounded
 
-    pub part_field : (t : Ty) → t ≡ shift (n - e.names) 0 (tree x.0) → field shown_fields i ≡ Some (AField t x.1)
-    part_field t same = field_over (shifted VarTy (n - e.names)) 0 (fields xs) i (tree x.0) x.1 (tuples.field_at xs i x lt at) ∙ ap (λ u. Some (AField u x.1)) (sym same)
+    pub part_field : (t : Ty) → t ≡ shift (n - e.names) 0 (at ts x.0) → field shown_fields i ≡ Some (AField t x.1)
+    part_field t same = field_over (shifted VarTy (n - e.names)) 0 (fields_at ts xs) i (at ts x.0) x.1 (tuples.field_at ts xs i x lt here) ∙ ap (λ u. Some (AField u x.1)) (sym same)
 
-    pub part_bounded : (t : Ty) → t ≡ shift (n - e.names) 0 (tree x.0) → Bounded n t
+    pub part_bounded : (t : Ty) → t ≡ shift (n - e.names) 0 (at ts x.0) → Bounded n t
     part_bounded t same =
-        let le = ok.0 in
+        let le = ok.1 in
         let sum : e.names + (n - e.names) ≡ n = omega arith in
-        subst (Bounded n) (sym same) (subst (λ m. Bounded m (shift (n - e.names) 0 (tree x.0))) sum (bounded_shift e.names (n - e.names) (tree x.0) own_bounded))
+        subst (Bounded n) (sym same) (subst (λ m. Bounded m (shift (n - e.names) 0 (at ts x.0))) sum (bounded_shift e.names (n - e.names) (at ts x.0) own_bounded))
+
+-- T10 where it is no tuple
+other : (k : ℕ) (t : Ty) (s : Span) (go : TFields → Fault) → ((fs : TFields) → t ≢ TupleTy fs) → tuple (shift k 0 t) s go T10 s
+other k (TupleTy gs) s go none = absurd (none gs refl)
+other k IntTy s go none = (refl, refl)
+other k (VarTy i) s go none = let v = shifted_ge VarTy k 0 i zero-le in rw v (refl, refl)
+other k (CodeTy owes file) s go none = (refl, refl)
+other k (ExistsTy t) s go none = (refl, refl)
+
+pub no_tuple : (g : RegTypes) (r k : ℕ) (s : Span) (t : Ty) (go : TFields → Fault) → g r ≡ Some (shift k 0 t) → ((fs : TFields) → t ≢ TupleTy fs) → register g r s (λ u. tuple u s go) T10 s
+no_tuple g r k s t go known none = rw known (other k t s go none)
+
+-- T09 where it is no integer
+pub no_int : (g : RegTypes) (r k : ℕ) (s : Span) (t : Ty) → g r ≡ Some (shift k 0 t) → (t ≡ IntTy → ⊥) → register g r s (λ u. integer u s nothing) T09 s
+no_int g r k s t known none = rw known (inl (λ q. none (tuples.unshifted_int k t q), (refl, refl)))
+
+pub no_halt : (g : RegTypes) (k : ℕ) (s : Span) (t : Ty) → g 1 ≡ Some (shift k 0 t) → (t ≡ IntTy → ⊥) → check (g 1 ≡ Some IntTy) (refuse T19 s) nothing T19 s
+no_halt g k s t known none = inl ((λ q. none (tuples.unshifted_int k t (let same : Some (shift k 0 t) ≡ Some IntTy = sym known ∙ q in cc))), (refl, refl))
+
+-- T13 where a register does not fit
+pub unfit : (g : RegTypes) (r : ℕ) (s : Span) (w u : Ty) → g r ≡ Some w → (Fits w u → ⊥) → register g r s (λ x. check (Fits x u) (refuse T13 s) nothing) T13 s
+unfit g r s w u known other = rw known (inl (other, (refl, refl)))
 
 -- T11 where there is no such field, and what follows where there is
 module _ (g : RegTypes) (r i : ℕ) (s : Span) (rest : TFields → Ty → Bool → Fault) (fs : TFields) (known : g r ≡ Some (TupleTy fs)) where
   abbrev pub Checked : Fault
   Checked = register g r s (λ t. tuple t s (λ hs. field_at hs i s (rest hs)))
-
-  abbrev There : TFields → Fault
-  There hs = field_at hs i s (rest hs)
 
   pub field_absent : field fs i ≡ None → Checked T11 s
   field_absent e = rw known (rw e (refl, refl))

@@ -1,226 +1,149 @@
--- What is known of the registers, by the list of entries: looking up, noting, and one more type name.
-use Rattle.std.proofs.Common.{◌≡◌, ◌≢◌, ℕ, zero, suc, ◌+◌, ◌-◌, ◌<◌, ◌≤◌, List, [], ◌∷◌, length, map, Bool, true, false, Some, None, refl, sym, ap, ap₂, ◌∙◌, get_or, set, take, drop, arith, subst, cond, nat_eq, Option, All}
+-- What is known of the registers, by their entries: looking up, noting, one more type name, and more types.
+use Rattle.std.proofs.Common.{◌≡◌, ℕ, ◌+◌, ◌-◌, ◌<◌, ◌≤◌, List, [], ◌∷◌, length, Bool, true, false, Some, None, refl, sym, ap, ap₂, ◌∙◌, arith, subst, cond, nat_eq, Option, get_or, drop}
 use Rattle.std.specs.Prelude.{option_map}
-use Rattle.std.specs.List.{insert}
-use Rattle.std.specs.List.Sorted.{IsNonDecreasingBy, IsPartitionPoint}
+use Rattle.std.specs.BTreeMap.{BTreeMap, get, is_at}
+use Rattle.std.specs.Ordering.{nat_cmp}
 use Rattle.std.proofs.Math.Path.{fun_ext}
-use Rattle.std.proofs.Math.Dec.{ltb}
-use Rattle.std.proofs.lemmas.Bool.{ltb-true, ltb-false}
 use Rattle.std.proofs.lemmas.Bool.Decides.{nat_tests}
-use Rattle.std.proofs.lemmas.List.{get_or_default}
-use Rattle.std.proofs.lemmas.List.Elements.{All-nil, All-cons, All-head, All-tail, All-append, All-take, All-drop}
+use Rattle.std.proofs.lemmas.Grind.{common_steps}
+use Rattle.std.proofs.lemmas.List.{drop_more}
 use Rattle.idx_core.specs.Laws.{shift_zero_law, shift_add_law}
-use Rattle.t_types.specs.Tree.{Ty, shift, regs}
+use Rattle.t_types.specs.Tree.{Ty, TFile, shift}
 use Rattle.t_types.specs.TreeLaws.{types_part, types_over}
 use Rattle.t_types.specs.Fits.{lookup}
-use Rattle.t_types.specs.WellFormed.{RegsAbove}
-use Rattle.t_types.specs.Read.{tree, reg, file}
-use Rattle.t_types.specs.declared.types.TType.{TType}
-use Rattle.t_rules.specs.Registers.{with_reg, raised}
+use Rattle.t_types.specs.WellFormed.{max_names, RegsAbove, WellFormedFile}
+use Rattle.t_rules.specs.Registers.{with_reg, raised, no_types}
+use Rattle.t_intern.specs.Grown.{Grown}
+use Rattle.t_intern.specs.Nodes.{at, regs_at, RegsBelow}
+use Rattle.t_intern.proofs.Growing.{grown_length, grown_at}
 use Rattle.t_check.specs.declared.registers.Entry.{Entry}
+use Rattle.t_check.specs.declared.registers.Registers.{Registers}
 use Rattle.t_check.specs.Bounds.{Bounded}
-use Rattle.t_check.specs.Known.{seen, known_in, Rising, IsEntry, IsThere, IsGap}
+use Rattle.t_check.specs.Known.{own, seen, entry_of, known, IsEntry, IsSound, IsFound, IsSet, IsNoted, IsOfBlock, IsEmpty}
 use Rattle.t_check.proofs.Depth.{shallow, bounded}
 
--- registers rise along the list
-from_low : (low : ℕ) (es : List Entry) → Rising low es → (j : ℕ) (d : Entry) → j < length es → low < (get_or es j d).reg
-from_low low [] h j d lt = absurd (omega arith)
-from_low low (e ∷ es) h zero d lt = h.0
-from_low low (e ∷ es) h (suc j) d lt = let a = h.0 in let b = from_low e.reg es h.1 j d (omega arith) in omega arith
+-- the map's own test of keys
+pub is_at_number : (r q : ℕ) → is_at (nat_cmp r) q ≡ nat_eq r q
+is_at_number r q = grind (arith, common_steps, nat_tests)
 
-rising_far : (low : ℕ) (es : List Entry) → Rising low es → (i j : ℕ) (d : Entry) → i < j → j < length es → (get_or es i d).reg < (get_or es j d).reg
-rising_far low [] h i j d lt short = absurd (omega arith)
-rising_far low (e ∷ es) h i zero d lt short = absurd (omega arith)
-rising_far low (e ∷ es) h zero (suc j) d lt short = from_low e.reg es h.1 j d (omega arith)
-rising_far low (e ∷ es) h (suc i) (suc j) d lt short = rising_far e.reg es h.1 i j d (omega arith) (omega arith)
+pub found_is : (ts : List Ty) (k : Registers) (r : ℕ) (o : Option Entry) → o ≡ entry_of k r → IsSound ts k → IsFound ts k r o
+found_is ts k r None e h = ap (option_map (seen ts k.names)) (sym e)
+found_is ts k r (Some x) e h = (ap (option_map (seen ts k.names)) (sym e), h.entries r x (sym e))
 
-pub non_decreasing : (es : List Entry) → Rising 0 es → IsNonDecreasingBy (λ (e : Entry). e.reg) es
-non_decreasing es h i j d le short = pick (nat_eq j i) refl
-  where
-    pick : (b : Bool) → nat_eq j i ≡ b → (get_or es i d).reg ≤ (get_or es j d).reg
-    pick true q = let e : j ≡ i = grind (arith, q) in omega (arith, ap (λ k. (get_or es k d).reg) e)
-    pick false q = let far = rising_far 0 es h i j d (grind (arith, nat_tests, q)) short in omega arith
+-- more types
+module _ (ts us : List Ty) (g : Grown ts us) where
+  pub own_grown : (e : Entry) → e.ty < length ts → own us e ≡ own ts e
+  own_grown e l = grown_at ts us g e.ty l
 
--- what a search by parts answers
-module _ (es : List Entry) (r at : ℕ) (point : IsPartitionPoint (λ (e : Entry). ltb e.reg r ≡ true) (λ (e : Entry). ltb e.reg r ≡ false) es at) where
-  less_before : (k : ℕ) (d : Entry) → k < at → (get_or es k d).reg < r
-  less_before k d lt = ltb-true (get_or es k d).reg r (point.0 k d (omega arith) lt)
+  pub seen_grown : (n : ℕ) (e : Entry) → e.ty < length ts → seen us n e ≡ seen ts n e
+  seen_grown n e l = ap (shift (n - e.names) 0) (own_grown e l)
 
-  pub gap_end : at ≡ length es → IsGap es r at
-  gap_end e = record { within = omega arith; before = less_before; after = λ k d le lt. absurd (omega arith) }
+  pub entry_grown : (n : ℕ) (e : Entry) → IsEntry ts n e → IsEntry us n e
+  entry_grown n e h =
+      let l = grown_length ts us g in
+      (omega (arith, l, h.0), h.1, subst (Bounded e.names) (sym (own_grown e h.0)) h.2)
 
-  pub there : (e : Entry) → at < length es → e ≡ get_or es at e → e.reg ≡ r → IsThere es r at
-  there e lt is same = record {
-    within = lt;
-    before = less_before;
-    here = λ d. ap (λ (x : Entry). x.reg) (get_or_default es at d e lt ∙ sym is) ∙ same;
-  }
-
-  pub gap_within : (e : Entry) → Rising 0 es → at < length es → e ≡ get_or es at e → (e.reg ≡ r → ⊥) → IsGap es r at
-  gap_within e h lt is other = record { within = omega arith; before = less_before; after = past }
+  pub known_grown : (k : Registers) → IsSound ts k → known us k ≡ known ts k
+  known_grown k h = fun_ext (λ r. go r (entry_of k r) h (refl))
     where
-      past : (k : ℕ) (d : Entry) → at ≤ k → k < length es → r < (get_or es k d).reg
-      past k d le short =
-          let here = ltb-false (get_or es at d).reg r (point.1 at d (omega arith) lt) in
-          let own : (get_or es at d).reg ≡ e.reg = ap (λ (x : Entry). x.reg) (get_or_default es at d e lt ∙ sym is) in
-          let up = non_decreasing es h at k d le short in
-          let ne : (get_or es at d).reg ≢ r = λ q. other (sym own ∙ q) in omega arith
+      go : (r : ℕ) (o : Option Entry) → IsSound ts k → entry_of k r ≡ o → option_map (seen us k.names) o ≡ option_map (seen ts k.names) o
+      go r None h e = refl
+      go r (Some x) h e = ap Some (seen_grown k.names x (h.entries r x e).0)
 
--- where the registers before the place are less than r, r stands there or nowhere
-module _ (n r : ℕ) where
-  other : (e : Entry) (o : Option Ty) → (e.reg ≡ r → ⊥) → cond (nat_eq e.reg r) (Some (seen n e)) o ≡ o
-  other e o ne = go e.reg (Some (seen n e)) ne
-    where
-      go : (q : ℕ) (x : Option Ty) → (q ≡ r → ⊥) → cond (nat_eq q r) x o ≡ o
-      go q x ne = grind (arith, nat_tests)
-
-  here : (e : Entry) (o : Option Ty) → e.reg ≡ r → cond (nat_eq e.reg r) (Some (seen n e)) o ≡ Some (seen n e)
-  here e o is = go e.reg (Some (seen n e)) is
-    where
-      go : (q : ℕ) (x : Option Ty) → q ≡ r → cond (nat_eq q r) x o ≡ x
-      go q x is = grind (arith, nat_tests)
-
-  found_at : (es : List Entry) (at : ℕ) (d : Entry) → at < length es → ((k : ℕ) (c : Entry) → k < at → (get_or es k c).reg < r) → (get_or es at d).reg ≡ r → known_in n es r ≡ Some (seen n (get_or es at d))
-  found_at [] at d lt before is = absurd (omega arith)
-  found_at (e ∷ es) zero d lt before is = here e (known_in n es r) is
-  found_at (e ∷ es) (suc at) d lt before is =
-      let less = before 0 e (omega arith) in
-      other e (known_in n es r) (λ q. absurd (omega arith)) ∙ found_at es at d (omega arith) (λ k c le. before (suc k) c (omega arith)) is
-
-  pub found : (es : List Entry) (at : ℕ) → IsThere es r at → (e : Entry) → e ≡ get_or es at e → known_in n es r ≡ Some (seen n e)
-  found es at h e is = found_at es at e h.within h.before (h.here e) ∙ ap (λ x. Some (seen n x)) (sym is)
-
-  absent_after : (es : List Entry) → ((k : ℕ) (c : Entry) → k < length es → r < (get_or es k c).reg) → known_in n es r ≡ None
-  absent_after [] after = refl
-  absent_after (e ∷ es) after =
-      let more = after 0 e (omega arith) in other e (known_in n es r) (λ q. absurd (omega arith)) ∙ absent_after es (λ k c le. after (suc k) c (omega arith))
-
-  absent_at : (es : List Entry) (at : ℕ) → ((k : ℕ) (c : Entry) → k < at → k < length es → (get_or es k c).reg < r) → ((k : ℕ) (c : Entry) → at ≤ k → k < length es → r < (get_or es k c).reg) → known_in n es r ≡ None
-  absent_at es zero before after = absent_after es (λ k c le. after k c (omega arith) le)
-  absent_at [] (suc at) before after = refl
-  absent_at (e ∷ es) (suc at) before after =
-      let less = before 0 e (omega arith) (omega arith) in
-      other e (known_in n es r) (λ q. absurd (omega arith)) ∙ absent_at es at (λ k c le lt. before (suc k) c (omega arith) (omega arith)) (λ k c le lt. after (suc k) c (omega arith) (omega arith))
-
-  pub absent : (es : List Entry) (at : ℕ) → IsGap es r at → known_in n es r ≡ None
-  absent es at h = absent_at es at (λ k c le lt. h.before k c le) h.after
-
--- an entry over another one, and between others
-module _ (n r : ℕ) (e : Entry) (is : e.reg ≡ r) where
-  over_same : (q a : ℕ) (x y z : Option Ty) → a ≡ r → cond (nat_eq e.reg q) x z ≡ cond (nat_eq r q) x (cond (nat_eq a q) y z)
-  over_same q a x y z h = rw (is, h) (go (nat_eq r q))
-    where
-      go : (b : Bool) → cond b x z ≡ cond b x (cond b y z)
-      go true = refl
-      go false = refl
-
-  past_other : (q a : ℕ) (x y z : Option Ty) → (a ≡ r → ⊥) → cond (nat_eq a q) y (cond (nat_eq r q) x z) ≡ cond (nat_eq r q) x (cond (nat_eq a q) y z)
-  past_other q a x y z ne = grind (arith, nat_tests)
-
-  set_at : (es : List Entry) (at q : ℕ) → at < length es → ((k : ℕ) (c : Entry) → k < at → (get_or es k c).reg < r) → ((d : Entry) → (get_or es at d).reg ≡ r) → known_in n (set es at e) q ≡ with_reg (known_in n es) r (seen n e) q
-  set_at [] at q lt before same = absurd (omega arith)
-  set_at (y ∷ es) zero q lt before same = over_same q y.reg (Some (seen n e)) (Some (seen n y)) (known_in n es q) (same y)
-  set_at (y ∷ es) (suc at) q lt before same =
-      let less = before 0 y (omega arith) in
-      ap (cond (nat_eq y.reg q) (Some (seen n y))) (set_at es at q (omega arith) (λ k c le. before (suc k) c (omega arith)) same)
-      ∙ past_other q y.reg (Some (seen n e)) (Some (seen n y)) (known_in n es q) (λ h. absurd (omega arith))
-
-  pub set_known : (es : List Entry) (at : ℕ) → IsThere es r at → known_in n (set es at e) ≡ with_reg (known_in n es) r (seen n e)
-  set_known es at h = fun_ext (λ q. set_at es at q h.within h.before h.here)
-
-  insert_at : (es : List Entry) (at q : ℕ) → at ≤ length es → ((k : ℕ) (c : Entry) → k < at → (get_or es k c).reg < r) → known_in n (insert es at e) q ≡ with_reg (known_in n es) r (seen n e) q
-  insert_at es zero q le before = ap (λ a. cond (nat_eq a q) (Some (seen n e)) (known_in n es q)) is
-  insert_at [] (suc at) q le before = absurd (omega arith)
-  insert_at (y ∷ es) (suc at) q le before =
-      let less = before 0 y (omega arith) in
-      ap (cond (nat_eq y.reg q) (Some (seen n y))) (insert_at es at q (omega arith) (λ k c lt. before (suc k) c (omega arith)))
-      ∙ past_other q y.reg (Some (seen n e)) (Some (seen n y)) (known_in n es q) (λ h. absurd (omega arith))
-
-  pub insert_known : (es : List Entry) (at : ℕ) → IsGap es r at → known_in n (insert es at e) ≡ with_reg (known_in n es) r (seen n e)
-  insert_known es at h = fun_ext (λ q. insert_at es at q h.within h.before)
-
-  -- and the registers still rise
-  set_rises : (low : ℕ) (es : List Entry) (at : ℕ) → at < length es → ((d : Entry) → (get_or es at d).reg ≡ r) → Rising low es → Rising low (set es at e)
-  set_rises low [] at lt same h = absurd (omega arith)
-  set_rises low (y ∷ es) zero lt same h = let s : y.reg ≡ e.reg = same y ∙ sym is in (subst (λ q. low < q) s h.0, subst (λ q. Rising q es) s h.1)
-  set_rises low (y ∷ es) (suc at) lt same h = (h.0, set_rises y.reg es at (omega arith) same h.1)
-
-  pub set_rising : (es : List Entry) (at : ℕ) → IsThere es r at → Rising 0 es → Rising 0 (set es at e)
-  set_rising es at h rises = set_rises 0 es at h.within h.here rises
-
-  rises_from : (es : List Entry) (low : ℕ) → ((d : Entry) → 0 < length es → r < (get_or es 0 d).reg) → Rising low es → Rising e.reg es
-  rises_from [] low more h = tt
-  rises_from (y ∷ es) low more h = let lt = more y (omega arith) in (omega arith, h.1)
-
-  insert_rises : (low : ℕ) (es : List Entry) (at : ℕ) → low < r → at ≤ length es → ((k : ℕ) (c : Entry) → k < at → (get_or es k c).reg < r) → ((k : ℕ) (c : Entry) → at ≤ k → k < length es → r < (get_or es k c).reg) → Rising low es → Rising low (insert es at e)
-  insert_rises low es zero lt le before after h = (omega arith, rises_from es low (λ d some. after 0 d (omega arith) some) h)
-  insert_rises low [] (suc at) lt le before after h = absurd (omega arith)
-  insert_rises low (y ∷ es) (suc at) lt le before after h =
-      (h.0, insert_rises y.reg es at (before 0 y (omega arith)) (omega arith) (λ k c lt. before (suc k) c (omega arith)) (λ k c le lt. after (suc k) c (omega arith) (omega arith)) h.1)
-
-  pub insert_rising : (es : List Entry) (at : ℕ) → 0 < r → IsGap es r at → Rising 0 es → Rising 0 (insert es at e)
-  insert_rising es at some h rises = insert_rises 0 es at some h.within h.before h.after rises
-
-pub insert_all : (P : Entry → Type 0) (es : List Entry) (at : ℕ) (e : Entry) → P e → All P es → All P (insert es at e)
-insert_all P es at e h all = All-append P (take at es) (e ∷ drop at es) (All-take P at es all) (All-cons P e (drop at es) h (All-drop P at es all))
+  pub sound_grown : (k : Registers) → IsSound ts k → IsSound us k
+  sound_grown k h = record { few = h.few; entries = λ r e is. entry_grown k.names e (h.entries r e is) }
 
 -- an entry that is noted now
-pub seen_now : (n : ℕ) (e : Entry) → e.names ≡ n → seen n e ≡ tree e.ty
-seen_now n e is = let z : n - e.names ≡ 0 = omega arith in ap (λ k. shift k 0 (tree e.ty)) z ∙ shift_zero_law types_over 0 (tree e.ty)
+pub seen_now : (ts : List Ty) (n : ℕ) (e : Entry) → e.names ≡ n → seen ts n e ≡ own ts e
+seen_now ts n e is = let z : n - e.names ≡ 0 = omega arith in ap (λ k. shift k 0 (own ts e)) z ∙ shift_zero_law types_over 0 (own ts e)
+
+module _ (ts : List Ty) (k h : Registers) (r : ℕ) (e : Entry) (set : IsSet k h r e) where
+  pub set_known : known ts h ≡ with_reg (known ts k) r (seen ts k.names e)
+  set_known = fun_ext (λ q. ap₂ (λ (n : ℕ) (o : Option Entry). option_map (seen ts n) o) set.1 (set.0 q) ∙ pick (nat_eq r q) (entry_of k q))
+    where
+      pick : (b : Bool) (o : Option Entry) → option_map (seen ts k.names) (cond b (Some e) o) ≡ cond b (Some (seen ts k.names e)) (option_map (seen ts k.names) o)
+      pick true o = refl
+      pick false o = refl
+
+  pub set_sound : IsEntry ts k.names e → IsSound ts k → IsSound ts h
+  set_sound mine s = record {
+    few = subst (λ n. n ≤ max_names) (sym set.1) s.few;
+    entries = λ q x is. subst (λ n. IsEntry ts n x) (sym set.1) (pick (nat_eq r q) q x mine s (sym (set.0 q) ∙ is));
+  }
+    where
+      pick : (b : Bool) (q : ℕ) (x : Entry) → IsEntry ts k.names e → IsSound ts k → cond b (Some e) (entry_of k q) ≡ Some x → IsEntry ts k.names x
+      pick true q x mine s is = let same : e ≡ x = cc in subst (IsEntry ts k.names) same mine
+      pick false q x mine s is = s.entries q x is
+
+pub noted : (ts : List Ty) (k h : Registers) (r ty : ℕ) → IsSet k h r (record { ty = ty; names = k.names }) → IsSound ts k → ty < length ts → Bounded k.names (at ts ty) → IsNoted ts k h r (at ts ty)
+noted ts k h r ty set s l b =
+    let e : Entry = record { ty = ty; names = k.names } in (
+      set_known ts k h r e set ∙ ap (with_reg (known ts k) r) (seen_now ts k.names e refl),
+      set_sound ts k h r e set (l, omega arith, b) s,
+      set.1,
+    )
+
+-- the same where the types have grown since
+pub noted_since : (ts us : List Ty) (k h : Registers) (r : ℕ) (t : Ty) → Grown ts us → IsSound ts k → IsNoted us k h r t → known us h ≡ with_reg (known ts k) r t
+noted_since ts us k h r t g s n = n.0 ∙ ap (λ x. with_reg x r t) (known_grown ts us g k s)
 
 -- one more type name
-pub entry_more : (n : ℕ) (e : Entry) → IsEntry n e → IsEntry (n + 1) e
-entry_more n e h = let le = h.0 in (omega arith, h.1)
+entry_more : (ts : List Ty) (n : ℕ) (e : Entry) → IsEntry ts n e → IsEntry ts (n + 1) e
+entry_more ts n e h = let le = h.1 in (h.0, omega arith, h.2)
 
-seen_more : (n : ℕ) (e : Entry) → e.names ≤ n → seen (n + 1) e ≡ shift 1 0 (seen n e)
-seen_more n e le =
+seen_more : (ts : List Ty) (n : ℕ) (e : Entry) → e.names ≤ n → seen ts (n + 1) e ≡ shift 1 0 (seen ts n e)
+seen_more ts n e le =
     let by : n - e.names + 1 ≡ n + 1 - e.names = omega arith in
-    sym (shift_add_law types_part types_over (n - e.names) 1 0 (tree e.ty) ∙ ap (λ k. shift k 0 (tree e.ty)) by)
+    sym (shift_add_law types_part types_over (n - e.names) 1 0 (own ts e) ∙ ap (λ k. shift k 0 (own ts e)) by)
 
-pub raised_known : (n : ℕ) (es : List Entry) → All (IsEntry n) es → known_in (n + 1) es ≡ raised (known_in n es)
-raised_known n es all = fun_ext (λ r. go es r all)
-  where
-    at : (b : Bool) (x y : Ty) (o p : Option Ty) → x ≡ shift 1 0 y → o ≡ option_map (shift 1 0) p → cond b (Some x) o ≡ option_map (shift 1 0) (cond b (Some y) p)
-    at true x y o p h k = ap Some h
-    at false x y o p h k = k
-
-    go : (es : List Entry) (r : ℕ) → All (IsEntry n) es → known_in (n + 1) es r ≡ raised (known_in n es) r
-    go [] r all = refl
-    go (e ∷ es) r all =
-        at (nat_eq e.reg r) (seen (n + 1) e) (seen n e) (known_in (n + 1) es r) (known_in n es r) (seen_more n e (All-head (IsEntry n) e es all).0) (go es r (All-tail (IsEntry n) e es all))
-
--- the entries of a block's header
-abbrev pub noted : Entry → ℕ × Ty
-noted e = (e.reg, tree e.ty)
-
-abbrev pub NotedAt : ℕ → Entry → Type 0
-NotedAt n e = e.names ≡ n
-
-module _ (n : ℕ) where
-  header_known : (es : List Entry) → All (NotedAt n) es → known_in n es ≡ lookup (regs (map noted es))
-  header_known es all = fun_ext (λ r. go es r all)
+module _ (ts : List Ty) (k h : Registers) (same : h.entries ≡ k.entries) (names : h.names ≡ k.names + 1) where
+  pub bound_known : IsSound ts k → known ts h ≡ raised (known ts k)
+  bound_known s = fun_ext (λ r. ap₂ (λ (n : ℕ) (m : BTreeMap ℕ Entry). option_map (seen ts n) (get nat_cmp m r)) names same ∙ go r (entry_of k r) s refl)
     where
-      go : (es : List Entry) (r : ℕ) → All (NotedAt n) es → known_in n es r ≡ lookup (regs (map noted es)) r
-      go [] r all = refl
-      go (e ∷ es) r all = ap₂ (λ t o. cond (nat_eq e.reg r) (Some t) o) (seen_now n e (All-head (NotedAt n) e es all)) (go es r (All-tail (NotedAt n) e es all))
+      go : (r : ℕ) (o : Option Entry) → IsSound ts k → entry_of k r ≡ o → option_map (seen ts (k.names + 1)) o ≡ option_map (shift 1 0) (option_map (seen ts k.names) o)
+      go r None s e = refl
+      go r (Some x) s e = ap Some (seen_more ts k.names x (s.entries r x e).1)
 
-  header_rises : (low : ℕ) (es : List Entry) → RegsAbove low n (regs (map noted es)) → Rising low es
-  header_rises low [] h = tt
-  header_rises low (e ∷ es) h = (h.0, header_rises e.reg es h.3)
+  pub bound_sound : k.names + 1 ≤ max_names → IsSound ts k → IsSound ts h
+  bound_sound few s = record {
+    few = subst (λ n. n ≤ max_names) (sym names) few;
+    entries = λ r e is. subst (λ n. IsEntry ts n e) (sym names) (entry_more ts k.names e (s.entries r e (ap (λ (m : BTreeMap ℕ Entry). get nat_cmp m r) (sym same) ∙ is)));
+  }
 
-  header_entries : (low : ℕ) (es : List Entry) → All (NotedAt n) es → RegsAbove low n (regs (map noted es)) → All (IsEntry n) es
-  header_entries low [] all h = All-nil (IsEntry n)
-  header_entries low (e ∷ es) all h =
-      let at = All-head (NotedAt n) e es all in
-      All-cons (IsEntry n) e es (omega (arith, at), subst (λ m. Bounded m (tree e.ty)) (sym at) (bounded n (tree e.ty) (shallow n (tree e.ty) h.2)))
-      (header_entries e.reg es (All-tail (NotedAt n) e es all) h.3)
+-- no registers
+pub empty_known : (ts : List Ty) (k : Registers) → IsEmpty k → known ts k ≡ no_types
+empty_known ts k e = fun_ext (λ r. ap (option_map (seen ts k.names)) (e r))
 
-  module _ (es : List Entry) (xs : List (ℕ × TType)) (same : map noted es ≡ map reg xs) (all : All (NotedAt n) es) where
-    pub block_known : known_in n es ≡ lookup (file xs)
-    block_known = header_known es all ∙ ap (λ ys. lookup (regs ys)) same
+pub empty_sound : (ts : List Ty) (k : Registers) → k.names ≤ max_names → IsEmpty k → IsSound ts k
+empty_sound ts k few e = record { few = few; entries = λ r x is. absurd (let none = e r in cc) }
 
-    pub block_rising : RegsAbove 0 n (file xs) → Rising 0 es
-    block_rising h = header_rises 0 es (subst (λ ys. RegsAbove 0 n (regs ys)) (sym same) h)
+-- the registers of a header, the last first: xs are those that are noted
+abbrev pub IsHeader : ℕ → List (ℕ × ℕ) → Registers → Type 0
+IsHeader n xs k = (k.names ≡ n) × ((ts : List Ty) (low : ℕ) → RegsBelow (length ts) xs → RegsAbove low n (regs_at ts xs) → (known ts k ≡ lookup (regs_at ts xs)) × IsSound ts k)
 
-    pub block_entries : RegsAbove 0 n (file xs) → All (IsEntry n) es
-    block_entries h = header_entries 0 es all (subst (λ ys. RegsAbove 0 n (regs ys)) (sym same) h)
+pub header_none : (n : ℕ) (k : Registers) → n ≤ max_names → IsEmpty k → k.names ≡ n → IsHeader n [] k
+header_none n k few e names = (names, λ ts low l w. (empty_known ts k e, empty_sound ts k (subst (λ m. m ≤ max_names) (sym names) few) e))
+
+pub header_more : (n : ℕ) (xs : List (ℕ × ℕ)) (r t : ℕ) (k h : Registers) → IsHeader n xs k → IsSet k h r (record { ty = t; names = n }) → IsHeader n ((r, t) ∷ xs) h
+header_more n xs r t k h head set = (set.1 ∙ head.0, λ ts low l w. go ts low l w (head.1 ts r l.1 w.3))
+  where
+    go : (ts : List Ty) (low : ℕ) → RegsBelow (length ts) ((r, t) ∷ xs) → RegsAbove low n (regs_at ts ((r, t) ∷ xs)) → (known ts k ≡ lookup (regs_at ts xs)) × IsSound ts k → (known ts h ≡ lookup (regs_at ts ((r, t) ∷ xs))) × IsSound ts h
+    go ts low l w is =
+        let e : Entry = record { ty = t; names = n } in
+        let mine = bounded n (at ts t) (shallow n (at ts t) w.2) in
+        let names = head.0 in (
+          set_known ts k h r e set ∙ ap₂ (λ x y. with_reg x r y) is.0 (seen_now ts k.names e (sym head.0)),
+          set_sound ts k h r e set (l.0, omega arith, mine) is.1,
+        )
+
+pub header_step : (n : ℕ) (xs : List (ℕ × ℕ)) (i : ℕ) (x : ℕ × ℕ) (k h : Registers) → 0 < i → i ≤ length xs → x ≡ get_or xs (i - 1) x → IsHeader n (drop i xs) k → IsSet k h x.0 (record { ty = x.1; names = n }) → IsHeader n (drop (i - 1) xs) h
+header_step n xs i x k h some le is head set =
+    let lt : i - 1 < length xs = omega (arith, some, le) in
+    let same : i - 1 + 1 ≡ i = omega (arith, some) in
+    let e : drop (i - 1) xs ≡ x ∷ drop i xs = drop_more xs (i - 1) x lt ∙ ap₂ (λ (y : ℕ × ℕ) (j : ℕ). y ∷ drop j xs) (sym is) same in
+    subst (λ ys. IsHeader n ys h) (sym e) (header_more n (drop i xs) x.0 x.1 k h head set)
+
+pub of_block : (ts : List Ty) (n : ℕ) (f : TFile) (xs : List (ℕ × ℕ)) (k : Registers) → IsHeader n xs k → RegsBelow (length ts) xs → regs_at ts xs ≡ f → WellFormedFile n f → IsOfBlock ts n f k
+of_block ts n f xs k head l e w =
+    let is = head.1 ts 0 l (subst (RegsAbove 0 n) (sym e) w) in
+    (is.0 ∙ ap lookup e, is.1, head.0)

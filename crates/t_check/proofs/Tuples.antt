@@ -1,34 +1,39 @@
 -- Fields of tuple types: by place in a list, filled, and through a shift.
-use Rattle.std.proofs.Common.{◌≡◌, ℕ, zero, suc, ◌<◌, ◌≤◌, List, [], ◌∷◌, length, Bool, true, Some, None, refl, sym, ap, ◌∙◌, get_or, set, arith, zero-le}
+use Rattle.std.proofs.Common.{◌≡◌, ℕ, zero, suc, ◌<◌, ◌≤◌, List, [], ◌∷◌, length, Bool, true, Some, None, refl, sym, ap, ◌∙◌, get_or, set, arith, subst, zero-le}
 use Rattle.idx_core.specs.Over.{shifted}
 use Rattle.idx_core.specs.Laws.{shifted_ge}
 use Rattle.t_types.specs.Tree.{Ty, IntTy, VarTy, CodeTy, ExistsTy, TupleTy, TFields, NoFields, MoreFields, over_fields, shift}
 use Rattle.t_types.specs.Fields.{AField, field, filled}
 use Rattle.t_types.proofs.FitsLaws.{filled_over}
-use Rattle.t_types.specs.Read.{tree, fields}
-use Rattle.t_types.specs.declared.types.TType.{TType}
+use Rattle.t_intern.specs.Nodes.{at, fields_at, FieldsBelow}
 use Rattle.t_check.specs.Known.{IsTupleWith}
 
 -- fields in a list
-pub field_at : (xs : List (TType × Bool)) (i : ℕ) (x : TType × Bool) → i < length xs → x ≡ get_or xs i x → field (fields xs) i ≡ Some (AField (tree x.0) x.1)
-field_at [] i x lt is = absurd (omega arith)
-field_at (y ∷ xs) zero x lt is = ap (λ (z : TType × Bool). Some (AField (tree z.0) z.1)) (sym is)
-field_at (y ∷ xs) (suc i) x lt is = field_at xs i x (omega arith) is
+module _ (ts : List Ty) where
+  pub field_at : (xs : List (ℕ × Bool)) (i : ℕ) (x : ℕ × Bool) → i < length xs → x ≡ get_or xs i x → field (fields_at ts xs) i ≡ Some (AField (at ts x.0) x.1)
+  field_at [] i x lt is = absurd (omega arith)
+  field_at (y ∷ xs) zero x lt is = ap (λ (z : ℕ × Bool). Some (AField (at ts z.0) z.1)) (sym is)
+  field_at (y ∷ xs) (suc i) x lt is = field_at xs i x (omega arith) is
 
-pub no_field : (xs : List (TType × Bool)) (i : ℕ) → length xs ≤ i → field (fields xs) i ≡ None
-no_field [] i le = refl
-no_field (x ∷ xs) zero le = absurd (omega arith)
-no_field (x ∷ xs) (suc i) le = no_field xs i (omega arith)
+  pub no_field : (xs : List (ℕ × Bool)) (i : ℕ) → length xs ≤ i → field (fields_at ts xs) i ≡ None
+  no_field [] i le = refl
+  no_field (x ∷ xs) zero le = absurd (omega arith)
+  no_field (x ∷ xs) (suc i) le = no_field xs i (omega arith)
 
-pub field_within : (xs : List (TType × Bool)) (i : ℕ) (t : Ty) (flag : Bool) → field (fields xs) i ≡ Some (AField t flag) → i < length xs
-field_within [] i t flag e = cc
-field_within (x ∷ xs) zero t flag e = omega arith
-field_within (x ∷ xs) (suc i) t flag e = let lt = field_within xs i t flag e in omega arith
+  pub field_within : (xs : List (ℕ × Bool)) (i : ℕ) (t : Ty) (flag : Bool) → field (fields_at ts xs) i ≡ Some (AField t flag) → i < length xs
+  field_within [] i t flag e = cc
+  field_within (x ∷ xs) zero t flag e = omega arith
+  field_within (x ∷ xs) (suc i) t flag e = let lt = field_within xs i t flag e in omega arith
 
-pub filled_set : (xs : List (TType × Bool)) (i : ℕ) (x : TType × Bool) → i < length xs → x ≡ get_or xs i x → fields (set xs i (x.0, true)) ≡ filled (fields xs) i
-filled_set [] i x lt is = absurd (omega arith)
-filled_set (y ∷ xs) zero x lt is = ap (λ (z : TType × Bool). MoreFields (tree z.0) true (fields xs)) is
-filled_set (y ∷ xs) (suc i) x lt is = ap (MoreFields (tree y.0) y.1) (filled_set xs i x (omega arith) is)
+  pub filled_set : (xs : List (ℕ × Bool)) (i : ℕ) (x : ℕ × Bool) → i < length xs → x ≡ get_or xs i x → fields_at ts (set xs i (x.0, true)) ≡ filled (fields_at ts xs) i
+  filled_set [] i x lt is = absurd (omega arith)
+  filled_set (y ∷ xs) zero x lt is = ap (λ (z : ℕ × Bool). MoreFields (at ts z.0) true (fields_at ts xs)) is
+  filled_set (y ∷ xs) (suc i) x lt is = ap (MoreFields (at ts y.0) y.1) (filled_set xs i x (omega arith) is)
+
+pub below_set : (n : ℕ) (xs : List (ℕ × Bool)) (i : ℕ) (x : ℕ × Bool) (flag : Bool) → i < length xs → x ≡ get_or xs i x → FieldsBelow n xs → FieldsBelow n (set xs i (x.0, flag))
+below_set n [] i x flag lt is h = absurd (omega arith)
+below_set n (y ∷ xs) zero x flag lt is h = (subst (λ (z : ℕ × Bool). z.0 < n) (sym is) h.0, h.1)
+below_set n (y ∷ xs) (suc i) x flag lt is h = (h.0, below_set n xs i x flag (omega arith) is h.1)
 
 -- what is a tuple type after a shift was one before
 pub unshifted : (k : ℕ) (t : Ty) (fs : TFields) → shift k 0 t ≡ TupleTy fs → (gs : TFields) × (t ≡ TupleTy gs) × (fs ≡ over_fields (shifted VarTy k) 0 gs)
@@ -37,6 +42,14 @@ unshifted k IntTy fs e = cc
 unshifted k (VarTy i) fs e = let v = shifted_ge VarTy k 0 i zero-le in cc
 unshifted k (CodeTy owes file) fs e = cc
 unshifted k (ExistsTy t) fs e = cc
+
+-- and so with an integer
+pub unshifted_int : (k : ℕ) (t : Ty) → shift k 0 t ≡ IntTy → t ≡ IntTy
+unshifted_int k IntTy e = refl
+unshifted_int k (TupleTy gs) e = cc
+unshifted_int k (VarTy i) e = let v = shifted_ge VarTy k 0 i zero-le in cc
+unshifted_int k (CodeTy owes file) e = cc
+unshifted_int k (ExistsTy t) e = cc
 
 field_back : (k : ℕ) (gs : TFields) (i : ℕ) (t : Ty) (flag : Bool) → field (over_fields (shifted VarTy k) 0 gs) i ≡ Some (AField t flag) → (u : Ty) × (field gs i ≡ Some (AField u flag))
 field_back k NoFields i t flag e = cc

@@ -1,27 +1,25 @@
 -- What the checker answers on a value, from what it answers on its parts.
-use Rattle.std.proofs.Common.{◌≡◌, ◌≢◌, ℕ, ◌+◌, ◌-◌, ◌<◌, ◌≤◌, List, [], ◌∷◌, length, Some, Result, Ok, Err, inl, inr, refl, sym, ap, ap₂, ◌∙◌, arith, subst}
-use Rattle.std.proofs.Math.Path.{fun_ext}
+use Rattle.std.proofs.Common.{◌≡◌, ◌≢◌, ℕ, ◌+◌, ◌-◌, ◌<◌, ◌≤◌, List, [], ◌∷◌, length, Some, Result, Ok, Err, inl, inr, refl, sym, ap₂, ◌∙◌, arith, subst}
 use Rattle.idx_core.specs.declared.arith.Op.{Op}
 use Rattle.idx_core.specs.declared.span.Span.{Span}
-use Rattle.text_core.specs.Refusals.{refuse}
+use Rattle.text_core.specs.Refusals.{refuse, check, nothing}
 use Rattle.t_types.proofs.Scope.{well_formed_below}
-use Rattle.t_types.specs.Tree.{Ty, IntTy, VarTy, CodeTy, ExistsTy, TupleTy, TFile, BelowTypes}
-use Rattle.t_types.specs.Fits.{Fits, FitsFile}
+use Rattle.t_types.specs.Tree.{Ty, IntTy, VarTy, CodeTy, ExistsTy, TupleTy, TFile, BelowTypes, put}
+use Rattle.t_types.specs.Fits.{Fits, FitsFile, RegTypes}
 use Rattle.t_types.specs.WellFormed.{WellFormed}
-use Rattle.t_types.specs.Read.{tree}
-use Rattle.t_types.specs.declared.types.TType.{TType}
-use Rattle.t_terms.specs.Tree.{TBase, TValue, Plain, Pack, Arith, Unpack, TProg}
+use Rattle.t_terms.specs.Tree.{TBase, TValue, Plain, Pack, Arith, Bnz, Unpack, TProg}
 use Rattle.t_terms.specs.Spanned.{SDatum, plain_datum}
 use Rattle.t_terms.specs.declared.fault.TCode.{TCode}
-use Rattle.t_terms.specs.declared.fault.TCode.TheVariants.{T09, T13, T14, T16, T17, T18}
+use Rattle.t_terms.specs.declared.fault.TCode.TheVariants.{T09, T13, T14, T15, T16, T17, T18}
 use Rattle.t_terms.specs.declared.fault.TFault.{TFault}
 use Rattle.t_terms.specs.declared.fault.TFault.TheVariants.{Memory, Refused}
 use Rattle.t_rules.specs.Registers.{no_types, inst_file}
 use Rattle.t_rules.specs.Rules.{BaseHas, Has, Enters, DatumAccepted}
 use Rattle.t_rules.specs.Faults.{Fault, if_code, if_exists, BaseFault, ValueFault, EnterFault, InstrFault, DatumFault}
 use Rattle.t_check.specs.Bounds.{Bounded, OwedFile}
-use Rattle.t_check.specs.Known.{known, known_in, seen, IsEntry, IsEmpty}
-use Rattle.t_check.specs.Verdict.{Says, IsTypeOf, IsPacked}
+use Rattle.t_intern.specs.Grown.{IsNumber}
+use Rattle.t_check.specs.Known.{own, seen, known, IsEntry, IsSound}
+use Rattle.t_check.specs.Verdict.{Says, IsTypeOf, IsPacked, IsEntered, IsStep}
 use Rattle.t_check.specs.declared.registers.Entry.{Entry}
 use Rattle.t_check.specs.declared.registers.Registers.{Registers}
 use Rattle.t_check.proofs.Depth.{shallow, bounded, bounded_shift}
@@ -47,90 +45,98 @@ other_than_exists (ExistsTy t) other go c p none h = absurd (none t refl)
 other_than_exists (TupleTy fs) other go c p none h = h
 
 -- the type of an entry
-pub entry_bounded : (n : ℕ) (e : Entry) (t : Ty) → IsEntry n e → t ≡ seen n e → Bounded n t
-entry_bounded n e t h is =
-    let le = h.0 in
+pub entry_bounded : (ts : List Ty) (n : ℕ) (e : Entry) (t : Ty) → IsEntry ts n e → t ≡ seen ts n e → Bounded n t
+entry_bounded ts n e t h is =
+    let le = h.1 in
     let sum : e.names + (n - e.names) ≡ n = omega arith in
-    subst (Bounded n) (sym is) (subst (λ m. Bounded m (seen n e)) sum (bounded_shift e.names (n - e.names) (tree e.ty) h.1))
+    subst (Bounded n) (sym is) (subst (λ m. Bounded m (seen ts n e)) sum (bounded_shift e.names (n - e.names) (own ts e) h.2))
 
-module _ (P : TProg) (k : Registers) (s : Span) where
+module _ (P : TProg) (n : ℕ) (g : RegTypes) (s : Span) where
   -- a base that is applied to types
   module _ (b : TBase) where
-    pub plain_none : (ts : List Ty) (t : Ty) → length ts ≡ 0 → BaseHas P (known k) b t → Has P k.names (known k) (Plain b ts) t
+    pub plain_none : (ts : List Ty) (t : Ty) → length ts ≡ 0 → BaseHas P g b t → Has P n g (Plain b ts) t
     plain_none [] t e h = h
     plain_none (u ∷ us) t e h = absurd (omega arith)
 
-    pub plain_base : (ts : List Ty) (c : TCode) (p : Span) → BaseFault (known k) s b c p → ValueFault P k.names (known k) s (Plain b ts) c p
+    pub plain_base : (ts : List Ty) (c : TCode) (p : Span) → BaseFault g s b c p → ValueFault P n g s (Plain b ts) c p
     plain_base [] c p h = h
     plain_base (u ∷ us) c p h = inl h
 
-    pub plain_code : (ts : List Ty) (t : Ty) → 0 < length ts → BaseHas P (known k) b t → ((owes : ℕ) (file : TFile) → t ≢ CodeTy owes file) → ValueFault P k.names (known k) s (Plain b ts) T17 s
+    pub plain_code : (ts : List Ty) (t : Ty) → 0 < length ts → BaseHas P g b t → ((owes : ℕ) (file : TFile) → t ≢ CodeTy owes file) → ValueFault P n g s (Plain b ts) T17 s
     plain_code [] t some h none = absurd (omega arith)
     plain_code (u ∷ us) t some h none = inr (t, h, other_than_code t (refuse T17 s) _ T17 s none (refl, refl))
 
-    pub plain_count : (ts : List Ty) (t : Ty) (owes : ℕ) (file : TFile) → BaseHas P (known k) b t → t ≡ CodeTy owes file → owes < length ts → ValueFault P k.names (known k) s (Plain b ts) T17 s
+    pub plain_count : (ts : List Ty) (t : Ty) (owes : ℕ) (file : TFile) → BaseHas P g b t → t ≡ CodeTy owes file → owes < length ts → ValueFault P n g s (Plain b ts) T17 s
     plain_count [] t owes file h is lt = absurd (omega arith)
     plain_count (u ∷ us) t owes file h is lt =
-        inr (CodeTy owes file, subst (BaseHas P (known k) b) is h, inl ((λ le. absurd (omega arith)), (refl, refl)))
+        inr (CodeTy owes file, subst (BaseHas P g b) is h, inl ((λ le. absurd (omega arith)), (refl, refl)))
 
-    pub plain_ok : (ts : List Ty) (t r : Ty) (owes rest : ℕ) (file made : TFile) → 0 < length ts → BaseHas P (known k) b t → Bounded k.names t → t ≡ CodeTy owes file → length ts ≤ owes → rest ≡ owes - length ts → made ≡ inst_file ts owes file → BelowTypes k.names ts → OwedFile k.names rest made → r ≡ CodeTy rest made → Has P k.names (known k) (Plain b ts) r × Bounded k.names r
-    plain_ok [] t r owes rest file made some h small is le left done below owed e = absurd (omega arith)
-    plain_ok (u ∷ us) t r owes rest file made some h small is le left done below owed e =
-        let few = subst (Bounded k.names) is small in
-        let less = few.0 in (
-          (owes, file, subst (BaseHas P (known k) b) is h, le, e ∙ ap₂ CodeTy left done, below),
-          subst (Bounded k.names) (sym e) (omega arith, owed),
+    pub plain_ok : (us ts : List Ty) (t : Ty) (owes rest m : ℕ) (file made : TFile) → 0 < length ts → BaseHas P g b t → Bounded n t → t ≡ CodeTy owes file → length ts ≤ owes → rest ≡ owes - length ts → made ≡ inst_file ts owes file → BelowTypes n ts → OwedFile n (owes - length ts) (inst_file ts owes file) → IsNumber us (CodeTy rest made) m → IsTypeOf P us n g s (Plain b ts) (Ok m)
+    plain_ok us [] t owes rest m file made some h small is le left done below owed e = absurd (omega arith)
+    plain_ok us (u ∷ ts) t owes rest m file made some h small is le left done below owed e =
+        let few = subst (Bounded n) is small in
+        let less = few.0 in
+        let here : CodeTy rest made ≡ CodeTy (owes - length (u ∷ ts)) (inst_file (u ∷ ts) owes file) = ap₂ CodeTy left done in (
+          e.0,
+          (owes, file, subst (BaseHas P g b) is h, le, e.1 ∙ here, below),
+          subst (Bounded n) (sym (e.1 ∙ here)) (omega arith, owed),
         )
 
   -- a package
-  pub pack_part : (hidden shape : Ty) (v : TValue) (c : TCode) (p : Span) → ValueFault P k.names (known k) s v c p → ValueFault P k.names (known k) s (Pack hidden v shape) c p
+  pub pack_part : (hidden shape : Ty) (v : TValue) (c : TCode) (p : Span) → ValueFault P n g s v c p → ValueFault P n g s (Pack hidden v shape) c p
   pack_part hidden shape v c p h = inl h
 
-  pub pack_is : (hidden shape t : Ty) (v : TValue) → Has P k.names (known k) v t → WellFormed k.names hidden → WellFormed k.names shape → (r : Result TType TFault) → IsPacked hidden t shape s r → IsTypeOf P k s (Pack hidden v shape) r
-  pack_is hidden shape t v h small formed (Ok r) d =
-      ((d.0, t, h, d.1, d.2, d.3, well_formed_below k.names hidden small, well_formed_below k.names shape formed), subst (Bounded k.names) (sym d.3) (bounded k.names shape (shallow k.names shape formed)))
-  pack_is hidden shape t v h small formed (Err f) d = says_map f _ (ValueFault P k.names (known k) s (Pack hidden v shape)) (λ c p x. inr (t, h, x)) d
+  pub pack_is : (us : List Ty) (hidden shape t : Ty) (v : TValue) → Has P n g v t → WellFormed n hidden → WellFormed n shape → (r : Result ℕ TFault) → IsPacked us hidden t shape s r → IsTypeOf P us n g s (Pack hidden v shape) r
+  pack_is us hidden shape t v h small formed (Ok m) d =
+      let is = d.3.1 in
+      (d.3.0, (d.0, t, h, d.1, d.2, is, well_formed_below n hidden small, well_formed_below n shape formed), subst (Bounded n) (sym is) (bounded n shape (shallow n shape formed)))
+  pack_is us hidden shape t v h small formed (Err f) d = says_map f _ (ValueFault P n g s (Pack hidden v shape)) (λ c p x. inr (t, h, x)) d
+
+  pub pack_unfit : (hidden shape t body : Ty) → shape ≡ ExistsTy body → (Fits t (put 0 hidden body) → ⊥) → if_exists shape (refuse T15 s) (λ u. check (Fits t (put 0 hidden u)) (refuse T15 s) nothing) T15 s
+  pack_unfit hidden shape t body e unfit = subst (λ u. if_exists u (refuse T15 s) (λ w. check (Fits t (put 0 hidden w)) (refuse T15 s) nothing) T15 s) (sym e) (inl (unfit, (refl, refl)))
 
   -- the target of a jump
-  pub enter_code : (v : TValue) (t : Ty) → Has P k.names (known k) v t → ((owes : ℕ) (file : TFile) → t ≢ CodeTy owes file) → EnterFault P k.names (known k) s v T16 s
+  pub enter_code : (v : TValue) (t : Ty) → Has P n g v t → ((owes : ℕ) (file : TFile) → t ≢ CodeTy owes file) → EnterFault P n g s v T16 s
   enter_code v t h none = inr (t, h, other_than_code t (refuse T16 s) _ T16 s none (refl, refl))
 
-  module _ (v : TValue) (t : Ty) (owes : ℕ) (file : TFile) (h : Has P k.names (known k) v t) (is : t ≡ CodeTy owes file) where
-    code : Has P k.names (known k) v (CodeTy owes file)
-    code = subst (Has P k.names (known k) v) is h
+  module _ (v : TValue) (t : Ty) (owes : ℕ) (file : TFile) (h : Has P n g v t) (is : t ≡ CodeTy owes file) where
+    code : Has P n g v (CodeTy owes file)
+    code = subst (Has P n g v) is h
 
-    pub enter_owes : owes ≢ 0 → EnterFault P k.names (known k) s v T16 s
+    pub enter_owes : owes ≢ 0 → EnterFault P n g s v T16 s
     enter_owes some = inr (CodeTy owes file, code, inl (some, (refl, refl)))
 
-    pub enter_regs : owes ≡ 0 → (FitsFile (known k) file → ⊥) → EnterFault P k.names (known k) s v T18 s
+    pub enter_regs : owes ≡ 0 → (FitsFile g file → ⊥) → EnterFault P n g s v T18 s
     enter_regs e other = inr (CodeTy owes file, code, inr (e, inl (other, (refl, refl))))
 
-    pub enter_ok : owes ≡ 0 → FitsFile (known k) file → Enters P k.names (known k) v
-    enter_ok e fits = (file, subst (λ n. Has P k.names (known k) v (CodeTy n file)) e code, fits)
+    pub enter_ok : owes ≡ 0 → FitsFile g file → Enters P n g v
+    enter_ok e fits = (file, subst (λ m. Has P n g v (CodeTy m file)) e code, fits)
+
+  -- a branch
+  pub bnz_is : (us : List Ty) (k : Registers) (r : ℕ) (v : TValue) → g r ≡ Some IntTy → known us k ≡ g → IsSound us k → k.names ≡ n → (a : Result (Unit {0}) TFault) → IsEntered P n g s v a → IsStep P us n g k s (Bnz r v) a
+  bnz_is us k r v int same sound names (Ok u) h = ((int, h, same), sound, names)
+  bnz_is us k r v int same sound names (Err f) h = says_map f (EnterFault P n g s v) (InstrFault P n g s (Bnz r v)) (λ c p x. rw int (inr (refl, x))) h
 
   -- an operand that is no integer
-  pub operand : (op : Op) (rd rs : ℕ) (v : TValue) (u : Ty) → known k rs ≡ Some IntTy → Has P k.names (known k) v u → u ≢ IntTy → InstrFault P k.names (known k) s (Arith op rd rs v) T09 s
+  pub operand : (op : Op) (rd rs : ℕ) (v : TValue) (u : Ty) → g rs ≡ Some IntTy → Has P n g v u → u ≢ IntTy → InstrFault P n g s (Arith op rd rs v) T09 s
   operand op rd rs v u e h other = rw e (inr (refl, inr (u, h, inl (other, (refl, refl)))))
 
   -- what is unpacked
-  pub unpack_other : (rd : ℕ) (v : TValue) (t : Ty) → Has P k.names (known k) v t → ((body : Ty) → t ≢ ExistsTy body) → InstrFault P k.names (known k) s (Unpack rd v) T14 s
+  pub unpack_other : (rd : ℕ) (v : TValue) (t : Ty) → Has P n g v t → ((body : Ty) → t ≢ ExistsTy body) → InstrFault P n g s (Unpack rd v) T14 s
   unpack_other rd v t h none = inr (t, h, other_than_exists t (refuse T14 s) _ T14 s none (refl, refl))
 
 -- a word of data, where nothing is known of the registers
-none_known : (k : Registers) → IsEmpty k → known k ≡ no_types
-none_known k e = fun_ext (λ q. ap (λ es. known_in k.names es q) e.entries)
+module _ (P : TProg) (n : ℕ) (g : RegTypes) (names : n ≡ 0) (empty : g ≡ no_types) (x : SDatum) where
+  closed : (t : Ty) → Has P n g x.value t → Has P 0 no_types x.value t
+  closed t h = subst (λ m. Has P m no_types x.value t) names (subst (λ k. Has P n k x.value t) empty h)
 
-module _ (P : TProg) (k : Registers) (empty : IsEmpty k) (x : SDatum) where
-  closed : (t : Ty) → Has P k.names (known k) x.value t → Has P 0 no_types x.value t
-  closed t h = subst (λ n. Has P n no_types x.value t) empty.names (subst (λ g. Has P k.names g x.value t) (none_known k empty) h)
-
-  pub datum_ok : (t : Ty) → Has P k.names (known k) x.value t → Fits t x.ty → WellFormed 0 x.ty → DatumAccepted P (plain_datum x)
+  pub datum_ok : (t : Ty) → Has P n g x.value t → Fits t x.ty → WellFormed 0 x.ty → DatumAccepted P (plain_datum x)
   datum_ok t h f w = (t, closed t h, f, well_formed_below 0 x.ty w)
 
-  pub datum_unfit : (t : Ty) → Has P k.names (known k) x.value t → (Fits t x.ty → ⊥) → DatumFault P x T13 x.span
+  pub datum_unfit : (t : Ty) → Has P n g x.value t → (Fits t x.ty → ⊥) → DatumFault P x T13 x.span
   datum_unfit t h f = inr (t, closed t h, inl (f, (refl, refl)))
 
-  pub datum_fault : (f : TFault) → Says f (ValueFault P k.names (known k) x.span x.value) → Says f (DatumFault P x)
+  pub datum_fault : (f : TFault) → Says f (ValueFault P n g x.span x.value) → Says f (DatumFault P x)
   datum_fault f h =
-      says_map f (ValueFault P k.names (known k) x.span x.value) (DatumFault P x)
-      (λ c p v. inl (subst (λ n. ValueFault P n no_types x.span x.value c p) empty.names (subst (λ g. ValueFault P k.names g x.span x.value c p) (none_known k empty) v))) h
+      says_map f (ValueFault P n g x.span x.value) (DatumFault P x)
+      (λ c p v. inl (subst (λ m. ValueFault P m no_types x.span x.value c p) names (subst (λ k. ValueFault P n k x.span x.value c p) empty v))) h

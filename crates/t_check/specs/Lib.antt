@@ -1,4 +1,5 @@
 pub mod Bounds
 pub mod Checked
 pub mod Known
+pub mod Labels
 pub mod Verdict

@@ -1,15 +1,12 @@
 -- What the parts of the checker answer.
-use Rattle.std.specs.Prelude.{◌≡◌, ◌≢◌, ℕ, ◌-◌, List, length, Bool, IsTrue, ◌↔◌, Option, Some, None, Result, Ok, Err, IfOk}
+use Rattle.std.specs.Prelude.{◌≡◌, ◌≢◌, ℕ, ◌-◌, ◌<◌, List, length, Bool, IsTrue, ◌↔◌, Option, Some, None, Result, Ok, Err, IfOk}
 use Rattle.idx_core.specs.declared.memory.OutOfMemory.{OutOfMemory}
 use Rattle.idx_core.specs.declared.span.Span.{Span}
 use Rattle.text_core.specs.Refusals.{nothing, refuse, check}
 use Rattle.t_types.specs.Tree.{Ty, IntTy, CodeTy, ExistsTy, TupleTy, TFile, TFields, put}
 use Rattle.t_types.specs.Fields.{AField, field}
 use Rattle.t_types.specs.Fits.{Fits, FitsFile, RegTypes}
-use Rattle.t_types.specs.Read.{tree, file}
-use Rattle.t_types.specs.declared.types.TType.{TType}
-use Rattle.t_types.specs.declared.types.RegFile.{RegFile}
-use Rattle.t_terms.specs.Tree.{TBase, TValue, TInstr, TEnd, TBlock, TProg, names_after}
+use Rattle.t_terms.specs.Tree.{TBase, TValue, Plain, TInstr, TEnd, TBlock, TProg, names_after}
 use Rattle.t_terms.specs.Spanned.{SBlock, SDatum, SData, SProg, plain, plain_datum, plain_fields, plain_blocks, plain_heap, plain_program}
 use Rattle.t_terms.specs.ReadProgram.{program, spanned_program}
 use Rattle.t_terms.specs.Whole.{WellFormedBase, WellFormedValue, WellFormedInstr, WellFormedEnd, WellFormedBlock, WellFormedDatum, WellFormedData}
@@ -23,9 +20,12 @@ use Rattle.t_rules.specs.Rules.{BaseHas, Has, Enters, Typed, EndTyped, BlockAcce
 use Rattle.t_rules.specs.Faults.{Fault, if_exists, register, integer, tuple, field_at, BaseFault, ValueFault, EnterFault, InstrFault, EndFault, BlockFault, BlocksFault, DatumFault, DataFault, HeapFault, ProgramFault}
 use Rattle.t_check.specs.Bounds.{Bounded, OwedFile}
 use Rattle.t_check.specs.Checked.{checked_program}
-use Rattle.t_check.specs.Known.{seen, known, IsSound}
+use Rattle.t_intern.specs.Grown.{AreRegs, IsNumber}
+use Rattle.t_intern.specs.Nodes.{at, regs_at, RegsBelow}
+use Rattle.t_check.specs.Known.{known, IsSound}
+use Rattle.t_check.specs.Labels.{AreLabels}
 use Rattle.t_check.specs.declared.checked.Checked.{Checked}
-use Rattle.t_check.specs.declared.registers.Entry.{Entry}
+use Rattle.t_check.specs.declared.parts.CodeParts.{CodeParts}
 use Rattle.t_check.specs.declared.registers.Registers.{Registers}
 use Rattle.t_check.specs.declared.checker.Checker.{Checker}
 
@@ -56,34 +56,36 @@ FormedDatum p x = WellFormedDatum (length p.blocks.items) (length p.heap.items) 
 abbrev pub FormedData : TProgram → List SDatum → Type 0
 FormedData p xs = WellFormedData (length p.blocks.items) (length p.heap.items) (plain_fields xs)
 
--- the parts of a type, where it has that form
-abbrev pub IsCode : Ty → Option (ℕ × RegFile) → Type 0
-IsCode t (Some p) = t ≡ CodeTy p.0 (file p.1.regs.items)
-IsCode t None = (owes : ℕ) (f : TFile) → t ≢ CodeTy owes f
+-- the parts of the type of a number, where it has that form
+abbrev pub IsCode : List Ty → ℕ → Option CodeParts → Type 0
+IsCode ts n (Some p) = (at ts n ≡ CodeTy p.owes (regs_at ts p.regs.items)) × RegsBelow (length ts) p.regs.items
+IsCode ts n None = (owes : ℕ) (f : TFile) → at ts n ≢ CodeTy owes f
 
-abbrev pub IsExists : Ty → Option TType → Type 0
-IsExists t (Some body) = t ≡ ExistsTy (tree body)
-IsExists t None = (body : Ty) → t ≢ ExistsTy body
+abbrev pub IsExists : List Ty → ℕ → Option ℕ → Type 0
+IsExists ts n (Some body) = (at ts n ≡ ExistsTy (at ts body)) × (body < length ts)
+IsExists ts n None = (body : Ty) → at ts n ≢ ExistsTy body
 
--- the type of a base, or its first fault
-abbrev pub IsTypeOfBase : TProg → Registers → Span → TBase → Result TType TFault → Type 0
-IsTypeOfBase P k s b (Ok t) = BaseHas P (known k) b (tree t) × Bounded k.names (tree t)
-IsTypeOfBase P k s b (Err f) = Says f (BaseFault (known k) s b)
+-- Under n type names, where g is known of the registers, the number of the type of a base, or its first fault. The
+-- types us are those after the call.
+abbrev pub IsTypeOfBase : TProg → List Ty → ℕ → RegTypes → Span → TBase → Result ℕ TFault → Type 0
+IsTypeOfBase P us n g s b (Ok m) = (m < length us) × BaseHas P g b (at us m) × Bounded n (at us m)
+IsTypeOfBase P us n g s b (Err f) = Says f (BaseFault g s b)
 
--- the type of a value, or its first fault
-abbrev pub IsTypeOf : TProg → Registers → Span → TValue → Result TType TFault → Type 0
-IsTypeOf P k s v (Ok t) = Has P k.names (known k) v (tree t) × Bounded k.names (tree t)
-IsTypeOf P k s v (Err f) = Says f (ValueFault P k.names (known k) s v)
+-- the number of the type of a value, or its first fault
+abbrev pub IsTypeOf : TProg → List Ty → ℕ → RegTypes → Span → TValue → Result ℕ TFault → Type 0
+IsTypeOf P us n g s v (Ok m) = (m < length us) × Has P n g v (at us m) × Bounded n (at us m)
+IsTypeOf P us n g s v (Err f) = Says f (ValueFault P n g s v)
 
--- where the types are put in order for the first ones that are owed, the file is that, and is bounded
-abbrev pub IsInstantiated : ℕ → List Ty → ℕ → TFile → Result RegFile OutOfMemory → Type 0
-IsInstantiated n ts owes f r =
-    IfOk r (λ made. (file made.regs.items ≡ inst_file ts owes f) × OwedFile n (owes - length ts) (file made.regs.items))
+-- the types are put in order for the first ones that are owed, and what is made is bounded
+abbrev pub IsInstantiated : List Ty → ℕ → List Ty → ℕ → TFile → List (ℕ × ℕ) → Type 0
+IsInstantiated us n ts owes f made =
+    AreRegs us (inst_file ts owes f) made × OwedFile n (owes - length ts) (inst_file ts owes f)
 
--- the type of a package of this shape around a value of the type t, or its fault
-abbrev pub IsPacked : Ty → Ty → Ty → Span → Result TType TFault → Type 0
-IsPacked hidden t shape s (Ok r) = (body : Ty) × (shape ≡ ExistsTy body) × Fits t (put 0 hidden body) × (tree r ≡ shape)
-IsPacked hidden t shape s (Err f) =
+-- the number of the type of a package of this shape around a value of the type t, or its fault
+abbrev pub IsPacked : List Ty → Ty → Ty → Ty → Span → Result ℕ TFault → Type 0
+IsPacked us hidden t shape s (Ok m) =
+    (body : Ty) × (shape ≡ ExistsTy body) × Fits t (put 0 hidden body) × IsNumber us shape m
+IsPacked us hidden t shape s (Err f) =
     Says f (if_exists shape (refuse T15 s) (λ body. check (Fits t (put 0 hidden body)) (refuse T15 s) nothing))
 
 -- the register is an integer, or the fault of it
@@ -91,12 +93,12 @@ abbrev pub IsInteger : RegTypes → ℕ → Span → Result (Unit {0}) TFault �
 IsInteger g r s (Ok u) = g r ≡ Some IntTy
 IsInteger g r s (Err f) = Says f (register g r s (λ t. integer t s nothing))
 
--- the type and the flag of a field of the tuple in a register, or the first fault
-abbrev pub IsFieldOf : Registers → ℕ → ℕ → Span → Result (TType × Bool) TFault → Type 0
-IsFieldOf k r i s (Ok x) =
-    (fs : TFields) × (known k r ≡ Some (TupleTy fs)) × (field fs i ≡ Some (AField (tree x.0) x.1))
-    × Bounded k.names (tree x.0)
-IsFieldOf k r i s (Err f) = Says f (register (known k) r s (λ t. tuple t s (λ fs. field_at fs i s (λ u flag. nothing))))
+-- the number of the type and the flag of a field of the tuple in a register, or the first fault
+abbrev pub IsFieldOf : List Ty → ℕ → RegTypes → ℕ → ℕ → Span → Result (ℕ × Bool) TFault → Type 0
+IsFieldOf us n g r i s (Ok x) =
+    (fs : TFields) × (g r ≡ Some (TupleTy fs)) × (field fs i ≡ Some (AField (at us x.0) x.1))
+    × Bounded n (at us x.0) × (x.0 < length us)
+IsFieldOf us n g r i s (Err f) = Says f (register g r s (λ t. tuple t s (λ fs. field_at fs i s (λ u flag. nothing))))
 
 -- a register fits a field of the tuple in another one, or the first fault
 abbrev pub IsStored : RegTypes → ℕ → ℕ → ℕ → Span → Result (Unit {0}) TFault → Type 0
@@ -108,51 +110,65 @@ IsStored g rd i rs s (Err f) =
     (refuse T13 s) nothing)))))
 
 -- the answer, if there is one, tells whether what is known of the registers fits the file
-abbrev pub TellsFile : Registers → TFile → Result Bool OutOfMemory → Type 0
-TellsFile k f r = IfOk r (λ b. IsTrue b ↔ FitsFile (known k) f)
+abbrev pub TellsFile : RegTypes → TFile → Result Bool OutOfMemory → Type 0
+TellsFile g f r = IfOk r (λ b. IsTrue b ↔ FitsFile g f)
 
--- and whether the type of an entry fits the type t, where n type names are in scope
-abbrev pub TellsEntry : ℕ → Entry → Ty → Result Bool OutOfMemory → Type 0
-TellsEntry n e t r = IfOk r (λ b. IsTrue b ↔ Fits (seen n e) t)
+-- and whether a type fits another one
+abbrev pub TellsFit : Ty → Ty → Result Bool OutOfMemory → Type 0
+TellsFit t u r = IfOk r (λ b. IsTrue b ↔ Fits t u)
 
 -- the value may be entered, or the first fault of it
-abbrev pub IsEntered : TProg → Registers → Span → TValue → Result (Unit {0}) TFault → Type 0
-IsEntered P k s v (Ok u) = Enters P k.names (known k) v
-IsEntered P k s v (Err f) = Says f (EnterFault P k.names (known k) s v)
+abbrev pub IsEntered : TProg → ℕ → RegTypes → Span → TValue → Result (Unit {0}) TFault → Type 0
+IsEntered P n g s v (Ok u) = Enters P n g v
+IsEntered P n g s v (Err f) = Says f (EnterFault P n g s v)
 
 -- the instruction is typed and leaves the registers known so, or its first fault
-abbrev pub IsStep : TProg → Registers → Registers → Span → TInstr → Result (Unit {0}) TFault → Type 0
-IsStep P k h s i (Ok u) = Typed P k.names (known k) i (known h) × IsSound h × (h.names ≡ names_after i k.names)
-IsStep P k h s i (Err f) = Says f (InstrFault P k.names (known k) s i)
+abbrev pub IsStep : TProg → List Ty → ℕ → RegTypes → Registers → Span → TInstr → Result (Unit {0}) TFault → Type 0
+IsStep P us n g h s i (Ok u) = Typed P n g i (known us h) × IsSound us h × (h.names ≡ names_after i n)
+IsStep P us n g h s i (Err f) = Says f (InstrFault P n g s i)
 
 -- the end is typed, or its first fault
-abbrev pub IsEnd : TProg → Registers → Span → TEnd → Result (Unit {0}) TFault → Type 0
-IsEnd P k s e (Ok u) = EndTyped P k.names (known k) e
-IsEnd P k s e (Err f) = Says f (EndFault P k.names (known k) s e)
+abbrev pub IsEnd : TProg → ℕ → RegTypes → Span → TEnd → Result (Unit {0}) TFault → Type 0
+IsEnd P n g s e (Ok u) = EndTyped P n g e
+IsEnd P n g s e (Err f) = Says f (EndFault P n g s e)
 
--- The same of a checker at its place: it knows the program and the registers.
+-- The same of a checker at its place, where the types are ts before the call, and us after it.
 
 abbrev pub program_in : Checker → TProg
 program_in c = program c.program.now
 
+-- what it knows of the registers and of the labels is by numbers of ts
+pub record IsPlace (ts : List Ty) (c : Checker) : Type 0 where
+  pub sound : IsSound ts c.registers
+  pub labels : AreLabels ts c.program.now c.labels.now
+
+abbrev pub known_at : List Ty → Checker → RegTypes
+known_at ts c = known ts c.registers
+
 abbrev pub FormedAt : Checker → TValue → Type 0
 FormedAt c v = FormedValue c.program.now c.registers.names v
 
-abbrev pub BaseTypedAt : Checker → Span → TBase → Result TType TFault → Type 0
-BaseTypedAt c s b r = IsTypeOfBase (program_in c) c.registers s b r
+abbrev pub BaseTypedAt : List Ty → List Ty → Checker → Span → TBase → Result ℕ TFault → Type 0
+BaseTypedAt ts us c s b r = IsTypeOfBase (program_in c) us c.registers.names (known_at ts c) s b r
 
-abbrev pub TypedAt : Checker → Span → TValue → Result TType TFault → Type 0
-TypedAt c s v r = IsTypeOf (program_in c) c.registers s v r
+abbrev pub TypedAt : List Ty → List Ty → Checker → Span → TValue → Result ℕ TFault → Type 0
+TypedAt ts us c s v r = IsTypeOf (program_in c) us c.registers.names (known_at ts c) s v r
 
-abbrev pub EnteredAt : Checker → Span → TValue → Result (Unit {0}) TFault → Type 0
-EnteredAt c s v r = IsEntered (program_in c) c.registers s v r
+-- a base whose type has the number `found` is applied to types
+abbrev pub AppliedAt : List Ty → List Ty → Checker → Span → ℕ → List Ty → Result ℕ TFault → Type 0
+AppliedAt ts us c s found args r =
+    (g : RegTypes) (b : TBase) → BaseHas (program_in c) g b (at ts found) →
+    IsTypeOf (program_in c) us c.registers.names g s (Plain b args) r
 
-abbrev pub EndedAt : Checker → Span → TEnd → Result (Unit {0}) TFault → Type 0
-EndedAt c s e r = IsEnd (program_in c) c.registers s e r
+abbrev pub EnteredAt : List Ty → Checker → Span → TValue → Result (Unit {0}) TFault → Type 0
+EnteredAt ts c s v r = IsEntered (program_in c) c.registers.names (known_at ts c) s v r
+
+abbrev pub EndedAt : List Ty → Checker → Span → TEnd → Result (Unit {0}) TFault → Type 0
+EndedAt ts c s e r = IsEnd (program_in c) c.registers.names (known_at ts c) s e r
 
 -- the instruction leads the checker c to d
-abbrev pub StepsTo : Checker → Checker → Span → TInstr → Result (Unit {0}) TFault → Type 0
-StepsTo c d s i r = IsStep (program_in c) c.registers d.registers s i r
+abbrev pub StepsTo : List Ty → List Ty → Checker → Checker → Span → TInstr → Result (Unit {0}) TFault → Type 0
+StepsTo ts us c d s i r = IsStep (program_in c) us c.registers.names (known_at ts c) d.registers s i r
 
 -- the block is accepted, or its first fault
 abbrev pub IsBlock : TProg → SBlock → Result (Unit {0}) TFault → Type 0

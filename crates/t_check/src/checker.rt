@@ -11,17 +11,20 @@ ghost use Rattle.t_check.specs.Checked.{checked_program};
 ghost use Rattle.t_check.specs.Verdict.{IsVerdict, AcceptsOrWants, RefusesOrWants};
 
 use crate::checked::Checked;
+use crate::labels::Labels;
 use crate::program::check_program;
 use crate::registers::Registers;
 use std::alloc::Global;
 use t_rules::{at_most_one_fault, no_fault_where_accepted};
 use t_terms::{TFault, TProgram};
 
-/// A program at a place of it: what is known there of the registers.
+/// A program at a place of it: what is known there of the registers. Types are numbers of a table of the whole
+/// program, which each call is lent.
 #[derive(Drop)]
 pub(crate) struct Checker<'a> {
     pub(crate) alloc: Global,
     pub(crate) program: &'a TProgram,
+    pub(crate) labels: &'a Labels,
     pub(crate) registers: Registers,
 }
 

@@ -5,6 +5,7 @@ mod checked;
 mod checker;
 mod entering;
 mod instructions;
+mod labels;
 mod parts;
 mod program;
 mod registers;

@@ -1,13 +1,13 @@
 // The parts of a type, and a refusal.
-ghost use Rattle.std.specs.Prelude.{◌≡◌, ◌↔◌, IsTrue};
+ghost use Rattle.std.specs.Prelude.{◌≡◌, ◌↔◌, ◌<◌, IsTrue, IfOk, length};
 ghost use Rattle.t_types.specs.Tree.{IntTy};
-ghost use Rattle.t_types.specs.Read.{tree};
 ghost use Rattle.t_terms.specs.declared.fault.TFault.TheVariants as fault;
+ghost use Rattle.t_intern.specs.Nodes.{at};
 ghost use Rattle.t_check.specs.Verdict.{IsCode, IsExists};
 
-use idx_core::Span;
+use idx_core::{OutOfMemory, Span};
+use t_intern::{Shape, Types};
 use t_terms::{TCode, TFault};
-use t_types::{RegFile, TType};
 
 pub(crate) fn refused<T>(code: TCode, span: Span) -> Result<T, TFault>
     ensures { result ≡ Err (fault.Refused code span) }
@@ -15,30 +15,41 @@ pub(crate) fn refused<T>(code: TCode, span: Span) -> Result<T, TFault>
     Err(TFault::Refused { code, span })
 }
 
-pub(crate) fn is_int(t: &TType) -> bool
-    ensures { IsTrue result ↔ tree t.now ≡ IntTy }
+pub(crate) fn is_int(types: &Types, n: u64) -> bool
+    requires { n < length types.now }
+    ensures { IsTrue result ↔ at types.now n ≡ IntTy }
 {
-    match t {
-        TType::Int => true,
-        TType::Var(_) | TType::Code { .. } | TType::Exists(_) | TType::Tuple(_) => false,
+    match types.shape(n) {
+        Shape::Int => true,
+        Shape::Var(_) | Shape::Code { .. } | Shape::Exists(_) | Shape::Tuple(_) => false,
     }
 }
 
-// How many types code owes, and its registers' types.
-pub(crate) fn code_parts(t: TType) -> Option<(u64, RegFile)>
-    ensures { IsCode (tree t) result }
+/// The registers of code, with the numbers of their types, and how many types it owes.
+#[derive(Drop)]
+pub(crate) struct CodeParts {
+    pub(crate) owes: u64,
+    pub(crate) regs: Vec<(u64, u64)>,
+}
+
+// The parts of a code type.
+pub(crate) fn code_parts(types: &Types, n: u64) -> Result<Option<CodeParts>, OutOfMemory>
+    requires { n < length types.now }
+    ensures { IfOk result (IsCode types.now n) }
 {
-    match t {
-        TType::Code { owes, regs } => Some((owes, regs)),
-        TType::Int | TType::Var(_) | TType::Exists(_) | TType::Tuple(_) => None,
+    match types.copied(n)? {
+        Shape::Code { owes, regs } => Ok(Some(CodeParts { owes, regs })),
+        Shape::Int | Shape::Var(_) | Shape::Exists(_) | Shape::Tuple(_) => Ok(None),
     }
 }
 
-pub(crate) fn exists_body(t: TType) -> Option<TType>
-    ensures { IsExists (tree t) result }
+// The type under the binder of an existential type.
+pub(crate) fn exists_body(types: &Types, n: u64) -> Option<u64>
+    requires { n < length types.now }
+    ensures { IsExists types.now n result }
 {
-    match t {
-        TType::Exists(body) => Some(Box::into_inner(body)),
-        TType::Int | TType::Var(_) | TType::Code { .. } | TType::Tuple(_) => None,
+    match types.shape(n) {
+        Shape::Exists(body) => Some(*body),
+        Shape::Int | Shape::Var(_) | Shape::Code { .. } | Shape::Tuple(_) => None,
     }
 }

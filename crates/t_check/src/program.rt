@@ -1,18 +1,24 @@
 // Blocks, data, and the whole program.
-ghost use Rattle.std.specs.Prelude.{◌≡◌, ◌↔◌, IsTrue};
-ghost use Rattle.t_types.specs.Tree.{NoRegs};
+ghost use Rattle.std.specs.Prelude.{◌≡◌, ◌↔◌, ◌≤◌, IsTrue, IfOk};
+ghost use Rattle.t_types.specs.Read.{file};
+ghost use Rattle.t_types.specs.Tree.{NoRegs, CodeTy};
+ghost use Rattle.t_types.specs.WellFormed.{max_names, WellFormedFile};
 ghost use Rattle.t_terms.specs.Read.{block as block_tree, datum, data_fields, spanned, spanned_blocks, spanned_heap};
 ghost use Rattle.t_terms.specs.ReadProgram.{program as program_of, spanned_program};
-ghost use Rattle.t_check.specs.Known.{IsSound, IsEmpty};
-ghost use Rattle.t_check.specs.Verdict.{program_in, FormedBlock, FormedDatum, FormedData, IsBlock, AreBlocks, IsDatum, IsData, IsHeap, IsProgram};
+ghost use Rattle.t_intern.specs.Grown.{Grown, IsNumber};
+ghost use Rattle.t_check.specs.Known.{IsEmpty, IsOfBlock};
+ghost use Rattle.t_check.specs.Labels.{AreLabels};
+ghost use Rattle.t_check.specs.Verdict.{program_in, FormedBlock, FormedDatum, FormedData, IsPlace, IsBlock, AreBlocks, IsDatum, IsData, IsHeap, IsProgram};
 
 use crate::checker::Checker;
-use crate::parts::refused;
+use crate::labels::Labels;
+use crate::parts::{code_parts, refused};
 use crate::registers::Registers;
-use idx_core::Span;
+use idx_core::{OutOfMemory, Span};
 use std::alloc::Global;
+use t_intern::Types;
 use t_terms::{Block, Data, TCode, TFault, TProgram, Value};
-use t_types::{TType, fits};
+use t_types::TType;
 
 // The first block takes nothing, and then each data tuple and each block.
 pub(crate) fn check_program(alloc: Global, program: &TProgram) -> Result<(), TFault>
@@ -22,8 +28,10 @@ pub(crate) fn check_program(alloc: Global, program: &TProgram) -> Result<(), TFa
     if !takes_nothing(first) {
         return refused(TCode::T20, first.name);
     }
-    check_heap(alloc, program, &program.heap)?;
-    check_blocks(alloc, program, &program.blocks)
+    let mut types = Types::new(alloc);
+    let labels = Labels::of_program(alloc, &mut types, program)?;
+    check_heap(alloc, &mut types, program, &labels, &program.heap)?;
+    check_blocks(alloc, &mut types, program, &labels, &program.blocks)
 }
 
 fn takes_nothing(block: &Block) -> bool
@@ -33,72 +41,117 @@ fn takes_nothing(block: &Block) -> bool
 }
 
 // The data in order, each tuple under no type names and no registers.
-fn check_heap(alloc: Global, program: &TProgram, heap: &[Data]) -> Result<(), TFault>
-    requires { heap.now ≡ program.now.heap.items }
-    ensures { IsHeap (program_of program.now) (spanned_heap heap.now) result }
+fn check_heap(
+    alloc: Global,
+    types: &mut Types,
+    program: &TProgram,
+    labels: &Labels,
+    heap: &[Data],
+) -> Result<(), TFault>
+    requires heap { heap.now ≡ program.now.heap.items }
+    requires labels { AreLabels types.old program.now labels.now }
+    ensures grown { Grown types.old types.new }
+    ensures heap { IsHeap (program_of program.now) (spanned_heap heap.now) result }
 {
     let checker = Checker {
         alloc,
         program,
-        registers: Registers::none(alloc),
+        labels,
+        registers: Registers::none(alloc, 0),
     };
     for tuple in heap {
-        checker.check_data(&tuple.fields)?;
+        checker.check_data(types, &tuple.fields)?;
     }
     Ok(())
 }
 
 // The blocks in order.
-fn check_blocks(alloc: Global, program: &TProgram, blocks: &[Block]) -> Result<(), TFault>
-    requires { blocks.now ≡ program.now.blocks.items }
+fn check_blocks(
+    alloc: Global,
+    types: &mut Types,
+    program: &TProgram,
+    labels: &Labels,
+    blocks: &[Block],
+) -> Result<(), TFault>
+    requires blocks { blocks.now ≡ program.now.blocks.items }
+    requires labels { AreLabels types.old program.now labels.now }
     ensures { AreBlocks (program_of program.now) (spanned_blocks blocks.now) result }
 {
-    for block in blocks {
-        check_block(alloc, program, block)?;
+    for i in 0..blocks.len() {
+        check_block(alloc, types, program, labels, &blocks[i], labels.blocks[i])?;
     }
     Ok(())
 }
 
-// A block under its own file: its instructions in order, and its end.
-fn check_block(alloc: Global, program: &TProgram, block: &Block) -> Result<(), TFault>
-    requires { FormedBlock program.now (block_tree block.now) }
-    ensures { IsBlock (program_of program.now) (spanned block.now) result }
+// A block under its own file: its instructions in order, and its end. Its code type has the number `code`.
+fn check_block(
+    alloc: Global,
+    types: &mut Types,
+    program: &TProgram,
+    labels: &Labels,
+    block: &Block,
+    code: u64,
+) -> Result<(), TFault>
+    requires formed { FormedBlock program.now (block_tree block.now) }
+    requires labels { AreLabels types.old program.now labels.now }
+    requires code { IsNumber types.old (CodeTy block.now.owes (file block.now.regs.regs.items)) code }
+    ensures grown { Grown types.old types.new }
+    ensures block { IsBlock (program_of program.now) (spanned block.now) result }
 {
-    let registers = Registers::of_block(alloc, block.owes, &block.regs.regs)?;
+    let registers = header(alloc, types, block, code)?;
     let mut checker = Checker {
         alloc,
         program,
+        labels,
         registers,
     };
     for step in &block.body {
-        checker.check_instr(&step.0, step.1)?;
+        checker.check_instr(types, &step.0, step.1)?;
     }
-    checker.check_end(&block.end, block.end_span)
+    checker.check_end(types, &block.end, block.end_span)
+}
+
+// What a block's header says of the registers.
+fn header(alloc: Global, types: &Types, block: &Block, code: u64) -> Result<Registers, OutOfMemory>
+    requires few { block.now.owes ≤ max_names }
+    requires file { WellFormedFile block.now.owes (file block.now.regs.regs.items) }
+    requires code { IsNumber types.now (CodeTy block.now.owes (file block.now.regs.regs.items)) code }
+    ensures { IfOk result (IsOfBlock types.now block.now.owes (file block.now.regs.regs.items)) }
+{
+    match code_parts(types, code)? {
+        Some(parts) => Registers::of_block(alloc, block.owes, &parts.regs),
+        None => unreachable!(),
+    }
 }
 
 impl Checker<'_> {
     // The words of a data tuple in order, where nothing is known of the registers.
-    fn check_data(&self, fields: &[(Value, TType, Span)]) -> Result<(), TFault>
-        requires sound { IsSound self.now.registers }
+    fn check_data(&self, types: &mut Types, fields: &[(Value, TType, Span)]) -> Result<(), TFault>
+        requires place { IsPlace types.old self.now }
         requires empty { IsEmpty self.now.registers }
+        requires names { self.now.registers.names ≡ 0 }
         requires formed { FormedData self.now.program.now (data_fields fields.now) }
-        ensures { IsData (program_in self.now) (data_fields fields.now) result }
+        ensures grown { Grown types.old types.new }
+        ensures words { IsData (program_in self.now) (data_fields fields.now) result }
     {
         for field in fields {
-            self.check_datum(field)?;
+            self.check_datum(types, field)?;
         }
         Ok(())
     }
 
     // A word of data.
-    fn check_datum(&self, field: &(Value, TType, Span)) -> Result<(), TFault>
-        requires sound { IsSound self.now.registers }
+    fn check_datum(&self, types: &mut Types, field: &(Value, TType, Span)) -> Result<(), TFault>
+        requires place { IsPlace types.old self.now }
         requires empty { IsEmpty self.now.registers }
+        requires names { self.now.registers.names ≡ 0 }
         requires formed { FormedDatum self.now.program.now (datum field.now) }
-        ensures { IsDatum (program_in self.now) (datum field.now) result }
+        ensures grown { Grown types.old types.new }
+        ensures word { IsDatum (program_in self.now) (datum field.now) result }
     {
-        let found = self.type_of_value(&field.0, field.2)?;
-        if fits(&found, &field.1) {
+        let found = self.type_of_value(types, &field.0, field.2)?;
+        let wanted = types.number(&field.1)?;
+        if types.fits(found, wanted) {
             Ok(())
         } else {
             refused(TCode::T13, field.2)

@@ -1,43 +1,45 @@
 // What is known of the registers at a place in a block.
-ghost use Rattle.std.specs.Prelude.{◌≡◌, ◌+◌, ◌≤◌, IfOk, OnOk, Some, MatchResult};
+ghost use Rattle.std.specs.Prelude.{◌≡◌, ℕ, ◌+◌, ◌<◌, ◌≤◌, List, length, IfOk, OnOk};
+ghost use Rattle.t_types.specs.Tree.{Ty, TFile, TFields, TupleTy};
+ghost use Rattle.t_types.specs.Fields.{filled as filled_fields};
 ghost use Rattle.t_types.specs.WellFormed.{max_names, WellFormedFile};
-ghost use Rattle.t_types.specs.Tree.{TFields, TupleTy};
-ghost use Rattle.t_types.specs.Fields.{filled};
-ghost use Rattle.t_types.specs.Read.{tree, file};
-ghost use Rattle.t_rules.specs.Registers.{with_reg, raised};
+ghost use Rattle.t_rules.specs.Registers.{raised};
+ghost use Rattle.t_intern.specs.Grown.{Grown, IsNumber};
+ghost use Rattle.t_intern.specs.Nodes.{at, regs_at, RegsBelow};
 ghost use Rattle.t_check.specs.Bounds.{Bounded};
-ghost use Rattle.t_check.specs.Known.{seen, known, IsSound, IsEmpty, IsEntry, IsThere, IsGap, IsFound, IsOfBlock, IsNoted, IsTupleWith, HasField};
+ghost use Rattle.t_check.specs.Known.{seen, entry_of, known, IsSound, IsEmpty, IsEntry, IsFound, IsOfBlock, IsNoted, IsFilled, IsSet, IsTupleWith, HasField};
 
-use idx_core::{OutOfMemory, Scoped};
+use idx_core::OutOfMemory;
 use std::alloc::Global;
-use std::mem;
-use t_types::{TType, copy};
+use std::collections::BTreeMap;
+use t_intern::{Shape, Types};
 
-/// The type of a register, as it was when `names` type names were in scope. It is shifted where it is read, and not at
-/// each `unpack`.
-#[derive(Drop)]
+/// The number of a register's type, as it was when `names` type names were in scope. It is shifted where it is read,
+/// and not at each `unpack`.
+#[derive(Clone, Copy)]
 pub(crate) struct Entry {
-    pub(crate) reg: u64,
-    pub(crate) ty: TType,
+    pub(crate) ty: u64,
     pub(crate) names: u64,
 }
 
-/// The types of the registers that have one, in ascending order of the registers, and how many type names are in scope.
+/// The types of the registers that have one, and how many type names are in scope.
 #[derive(Drop)]
 pub(crate) struct Registers {
-    pub(crate) entries: Vec<Entry>,
+    pub(crate) entries: BTreeMap<u64, Entry>,
     pub(crate) names: u64,
 }
 
 impl Registers {
-    // None, and no type names.
-    pub(crate) fn none(alloc: Global) -> Registers
-        ensures sound { IsSound result }
+    // None, under type names.
+    pub(crate) fn none(alloc: Global, names: u64) -> Registers
+        requires { names ≤ max_names }
+        ensures sound { (ts : List Ty) → IsSound ts result }
         ensures empty { IsEmpty result }
+        ensures names { result.names ≡ names }
     {
         Registers {
-            entries: Vec::new(alloc),
-            names: 0,
+            entries: BTreeMap::new(alloc),
+            names,
         }
     }
 
@@ -45,127 +47,98 @@ impl Registers {
     pub(crate) fn of_block(
         alloc: Global,
         owes: u64,
-        regs: &[(u64, TType)],
+        regs: &[(u64, u64)],
     ) -> Result<Registers, OutOfMemory>
-        requires few { owes ≤ max_names }
-        requires file { WellFormedFile owes (file regs.now) }
-        ensures { IfOk result (λ k. IsOfBlock owes (file regs.now) k) }
+        requires { owes ≤ max_names }
+        ensures { IfOk result (λ k. (ts : List Ty) (f : TFile) → RegsBelow (length ts) regs.now →
+            regs_at ts regs.now ≡ f → WellFormedFile owes f → IsOfBlock ts owes f k) }
     {
-        let mut entries = Vec::new(alloc);
-        for reg in regs {
-            let ty = copy(alloc, &reg.1)?;
-            entries.push(Entry {
-                reg: reg.0,
-                ty,
-                names: owes,
-            })?;
+        let mut made = Registers::none(alloc, owes);
+        let mut left = regs.len();
+        while left > 0 {
+            left -= 1;
+            let (reg, ty) = regs[left];
+            made.set(reg, Entry { ty, names: owes })?;
         }
-        Ok(Registers {
-            entries,
-            names: owes,
-        })
+        Ok(made)
     }
 
-    // The place of a register, or else the place where it is to stand.
-    fn place(&self, r: u64) -> Result<usize, usize>
-        requires { IsSound self.now }
-        ensures { MatchResult result (IsThere self.now.entries.items r) (IsGap self.now.entries.items r) }
+    // The register has this entry from now on.
+    fn set(&mut self, r: u64, entry: Entry) -> Result<(), OutOfMemory>
+        ensures { OnOk result (IsSet self.old self.new r entry) }
     {
-        let at = self.entries.partition_point(|e| e.reg < r);
-        if at == self.entries.len() {
-            return Err(at);
-        }
-        if self.entries[at].reg == r {
-            Ok(at)
-        } else {
-            Err(at)
-        }
+        self.entries.insert(r, entry)?;
+        Ok(())
     }
 
     // The entry of a register.
-    pub(crate) fn find(&self, r: u64) -> Option<&Entry>
-        requires { IsSound self.now }
-        ensures { IsFound self.now r result }
+    pub(crate) fn find(&self, r: u64) -> Option<Entry>
+        ensures is { result ≡ entry_of self.now r }
+        ensures found { (ts : List Ty) → IsSound ts self.now → IsFound ts self.now r result }
     {
-        match self.place(r) {
-            Ok(at) => Some(&self.entries[at]),
-            Err(_) => None,
-        }
+        self.entries.get(&r).copied()
     }
 
-    // The type of an entry, under the type names that are in scope now.
-    pub(crate) fn shown(&self, alloc: Global, entry: &Entry) -> Result<TType, OutOfMemory>
-        requires sound { IsSound self.now }
-        requires entry { IsEntry self.now.names entry.now }
-        ensures { IfOk result (λ t. tree t ≡ seen self.now.names entry.now) }
+    // The number of an entry's type under the type names that are in scope now.
+    pub(crate) fn shown(&self, types: &mut Types, entry: Entry) -> Result<u64, OutOfMemory>
+        requires few { self.now.names ≤ max_names }
+        requires entry { IsEntry types.old self.now.names entry }
+        ensures grown { Grown types.old types.new }
+        ensures number { IfOk result (IsNumber types.new (seen types.old self.now.names entry)) }
     {
-        entry.ty.shift(alloc, self.names - entry.names, 0)
+        types.shift(entry.ty, self.names - entry.names, 0)
     }
 
-    // The register has this type from now on.
-    pub(crate) fn note(&mut self, r: u64, ty: TType) -> Result<(), OutOfMemory>
-        requires sound { IsSound self.old }
-        requires register { 1 ≤ r }
-        requires bounded { Bounded self.old.names (tree ty) }
-        ensures { OnOk result (IsNoted self.old self.new r (tree ty)) }
+    // The register has the type of this number from now on.
+    pub(crate) fn note(&mut self, r: u64, ty: u64) -> Result<(), OutOfMemory>
+        ensures { OnOk result ((ts : List Ty) → IsSound ts self.old → ty < length ts →
+            Bounded self.old.names (at ts ty) → IsNoted ts self.old self.new r (at ts ty)) }
     {
-        let entry = Entry {
-            reg: r,
-            ty,
-            names: self.names,
-        };
-        match self.place(r) {
-            Ok(at) => {
-                self.entries[at] = entry;
-                Ok(())
-            }
-            Err(at) => {
-                self.entries.insert(at, entry)?;
-                Ok(())
-            }
-        }
+        let names = self.names;
+        self.set(r, Entry { ty, names })
     }
 
     // One more type name is in scope.
     pub(crate) fn bind(&mut self)
-        requires sound { IsSound self.old }
-        requires few { self.old.names + 1 ≤ max_names }
-        ensures known { known self.new ≡ raised (known self.old) }
-        ensures sound { IsSound self.new }
+        requires { self.old.names + 1 ≤ max_names }
+        ensures known { (ts : List Ty) → IsSound ts self.old → known ts self.new ≡ raised (known ts self.old) }
+        ensures sound { (ts : List Ty) → IsSound ts self.old → IsSound ts self.new }
         ensures names { self.new.names ≡ self.old.names + 1 }
     {
         self.names += 1;
     }
 
     // The field of the register's tuple is initialised from now on.
-    pub(crate) fn fill(&mut self, r: u64, field: u64)
-        requires sound { IsSound self.old }
-        requires there { HasField (known self.old) r field }
-        ensures known { (fs : TFields) → known self.old r ≡ Some (TupleTy fs) →
-            known self.new ≡ with_reg (known self.old) r (TupleTy (filled fs field)) }
-        ensures sound { IsSound self.new }
-        ensures names { self.new.names ≡ self.old.names }
+    pub(crate) fn fill(&mut self, types: &mut Types, r: u64, field: u64) -> Result<(), OutOfMemory>
+        requires sound { IsSound types.old self.old }
+        requires there { HasField (known types.old self.old) r field }
+        ensures grown { Grown types.old types.new }
+        ensures filled { OnOk result (IsFilled types.old types.new self.old self.new r field) }
     {
-        match self.place(r) {
-            Ok(at) => {
-                let ty = mem::replace(&mut self.entries[at].ty, TType::Int);
-                self.entries[at].ty = with_filled(ty, field);
+        match self.find(r) {
+            Some(entry) => {
+                let ty = filled(types, entry.ty, field)?;
+                let names = entry.names;
+                self.set(r, Entry { ty, names })
             }
-            Err(_) => unreachable!(),
+            None => unreachable!(),
         }
     }
 }
 
-// The tuple type whose field is initialised.
-fn with_filled(t: TType, field: u64) -> TType
-    requires { IsTupleWith (tree t) field }
-    ensures { (fs : TFields) → tree t ≡ TupleTy fs → tree result ≡ TupleTy (filled fs field) }
+// The number of the tuple type whose field is initialised.
+fn filled(types: &mut Types, n: u64, field: u64) -> Result<u64, OutOfMemory>
+    requires there { n < length types.old }
+    requires tuple { IsTupleWith (at types.old n) field }
+    ensures grown { Grown types.old types.new }
+    ensures number { IfOk result (λ m. (fs : TFields) → at types.old n ≡ TupleTy fs →
+        IsNumber types.new (TupleTy (filled_fields fs field)) m) }
 {
-    match t {
-        TType::Tuple(mut fields) => {
+    match types.copied(n)? {
+        Shape::Tuple(mut fields) => {
             fields[field as usize].1 = true;
-            TType::Tuple(fields)
+            types.intern(Shape::Tuple(fields))
         }
-        TType::Int | TType::Var(_) | TType::Code { .. } | TType::Exists(_) => unreachable!(),
+        Shape::Int | Shape::Var(_) | Shape::Code { .. } | Shape::Exists(_) => unreachable!(),
     }
 }

@@ -1,5 +1,6 @@
 -- Lists of types, each once, that grow at their end.
-use Rattle.std.specs.Prelude.{◌≡◌, ◌⊎◌, ◌<◌, ℕ, Bool, List, [], ◌∷◌, ◌++◌, length, slice_index_or}
+use Rattle.std.specs.Prelude.{◌≡◌, ◌⊎◌, ◌<◌, ℕ, Bool, List, [], ◌∷◌, ◌++◌, length, map, slice_index_or}
+use Rattle.std.specs.List.{All}
 use Rattle.t_types.specs.Tree.{Ty, Below, TFile, TFields}
 use Rattle.t_intern.specs.Nodes.{Node, at, regs_at, fields_at, types_of, PartsFirst, RegsBelow, FieldsBelow}
 
@@ -22,6 +23,10 @@ Adds t ts us = (IsIn t ts × (us ≡ ts)) ⊎ ((IsIn t ts → ⊥) × (us ≡ ts
 -- the type has this number
 abbrev pub IsNumber : List Ty → Ty → ℕ → Type 0
 IsNumber ts t n = (n < length ts) × (at ts n ≡ t)
+
+-- the types have these numbers
+abbrev pub AreNumbers : List Ty → List Ty → List ℕ → Type 0
+AreNumbers ts us ns = (map (at ts) ns ≡ us) × All (λ n. n < length ts) ns
 
 -- the entries of a file, and fields, have these numbers
 abbrev pub AreRegs : List Ty → TFile → List (ℕ × ℕ) → Type 0

@@ -30,8 +30,8 @@ impl Types {
         }
     }
 
-    // The fields of a tuple type.
-    fn fields(&self, n: u64) -> Option<&[(u64, bool)]>
+    /// The fields of a tuple type, by the numbers of their types.
+    pub fn fields(&self, n: u64) -> Option<&[(u64, bool)]>
         requires { n < length self.now }
         ensures { MatchOption result ((x : TFields) → at self.now n ≢ TupleTy x) (λ xs. (at self.now n ≡
             TupleTy (fields_at self.now xs.now)) × FieldsBelow n xs.now) }

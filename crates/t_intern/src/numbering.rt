@@ -1,7 +1,8 @@
 // Numbers of types that are given as trees.
 ghost use Rattle.std.specs.Prelude.{◌≡◌, length, IfOk, OnOk};
-ghost use Rattle.t_types.specs.Read.{tree, file, fields};
-ghost use Rattle.t_intern.specs.Grown.{Grown, IsNumber, AreRegs, AreFields};
+ghost use Rattle.t_types.specs.Read.{tree, types, file, fields};
+ghost use Rattle.t_types.specs.Tree.{CodeTy};
+ghost use Rattle.t_intern.specs.Grown.{Grown, IsNumber, AreNumbers, AreRegs, AreFields};
 ghost use Rattle.t_intern.specs.Nodes.{regs_at, fields_at, RegsBelow, FieldsBelow};
 ghost use Rattle.t_intern.specs.Numbered.{Numbered, NumberedFile, NumberedFields};
 
@@ -11,6 +12,28 @@ use idx_core::OutOfMemory;
 use t_types::TType;
 
 impl Types {
+    /// The numbers of types.
+    pub fn number_all(&mut self, ts: &[TType]) -> Result<Vec<u64>, OutOfMemory>
+        ensures grown { Grown self.old self.new }
+        ensures numbers { IfOk result (λ v. AreNumbers self.new (types ts.now) v.items) }
+    {
+        let mut made = Vec::new(self.alloc());
+        for t in ts {
+            let n = self.number(t)?;
+            made.push(n)?;
+        }
+        Ok(made)
+    }
+
+    /// The number of code that owes `owes` types and has these registers.
+    pub fn number_code(&mut self, owes: u64, regs: &[(u64, TType)]) -> Result<u64, OutOfMemory>
+        ensures grown { Grown self.old self.new }
+        ensures number { IfOk result (IsNumber self.new (CodeTy owes (file regs.now))) }
+    {
+        let regs = self.number_regs(regs)?;
+        self.intern(Shape::Code { owes, regs })
+    }
+
     /// The number of a type. New types go last, parts before wholes, from left to right.
     #[cycle(numbers)]
     pub fn number(&mut self, t: &TType) -> Result<u64, OutOfMemory>

@@ -46,6 +46,28 @@ impl Types {
         self.put_in(&mut memo, n, base, args, depth)
     }
 
+    /// The registers of a file by number, with several types put into the type of each in one walk.
+    pub fn put_file(
+        &mut self,
+        regs: &[(u64, u64)],
+        base: u64,
+        args: &[u64],
+        depth: u64,
+    ) -> Result<Vec<(u64, u64)>, OutOfMemory>
+        requires parts { RegsBelow (length self.old) regs.now }
+        requires fits { each_file (SpreadFitsAt base (types_at self.old args.now)) IsWord depth
+            (regs_at self.old regs.now) }
+        requires args { All (λ a. a < length self.old) args.now }
+        requires deep { base ≤ depth }
+        ensures grown { Grown self.old self.new }
+        ensures numbers { IfOk result (λ v. AreRegs self.new
+            (over_file (spread base (types_at self.old args.now)) depth (regs_at self.old regs.now)) v.items) }
+    {
+        let mut memo = Memo::new(self.alloc());
+        let count = self.count();
+        self.put_regs(&mut memo, count, regs, base, args, depth)
+    }
+
     // What stands for a variable.
     fn put_var(&mut self, base: u64, args: &[u64], depth: u64, i: u64) -> Result<u64, OutOfMemory>
         requires fits { SpreadFitsAt base (types_at self.old args.now) depth i }

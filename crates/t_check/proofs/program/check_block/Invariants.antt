@@ -5,14 +5,17 @@ use Rattle.t_terms.specs.Spanned.{seq_of}
 use Rattle.t_terms.specs.Read.{body, end_of}
 use Rattle.t_terms.specs.ReadProgram.{program}
 use Rattle.t_terms.specs.Whole.{WellFormedSeq}
+use Rattle.t_intern.specs.Grown.{Grown}
 use Rattle.t_check.specs.Known.{known, IsSound}
 use Rattle.t_check.proofs.Bodies.{IsLeft}
 use Rattle.t_check.proofs.program.check_block.Given as goal
 
 abbrev pub invariant-loop-step : goal.invariant-loop-step
 invariant-loop-step l = record {
-  sound : IsSound l.checker.registers;
+  grown : Grown l.fn.types l.types;
+  sound : IsSound l.types l.checker.registers;
   same : l.checker.program.now ≡ l.program;
+  labels : l.checker.labels.now ≡ l.labels;
   formed : WellFormedSeq (length l.program.blocks.items) (length l.program.heap.items) l.checker.registers.names (seq_of (body (drop l.step-index l.step-items)) (end_of l.block.end));
-  left : IsLeft (program l.program) (end_of l.block.end) l.block.end_span l.block.owes l.checker.registers.names (lookup (file l.block.regs.regs.items)) (known l.checker.registers) l.step-items (drop l.step-index l.step-items);
+  left : IsLeft (program l.program) (end_of l.block.end) l.block.end_span l.block.owes l.checker.registers.names (lookup (file l.block.regs.regs.items)) (known l.types l.checker.registers) l.step-items (drop l.step-index l.step-items);
 }

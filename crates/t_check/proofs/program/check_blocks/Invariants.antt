@@ -1,7 +1,11 @@
 use Rattle.std.proofs.Common.{drop}
 use Rattle.t_terms.specs.ReadProgram.{program}
+use Rattle.t_intern.specs.Grown.{Grown}
 use Rattle.t_check.proofs.Bodies.{AreLeft}
 use Rattle.t_check.proofs.program.check_blocks.Given as goal
 
-abbrev pub invariant-loop-block : goal.invariant-loop-block
-invariant-loop-block l = AreLeft (program l.program) l.blocks (drop l.block-index l.blocks)
+abbrev pub invariant-loop-i : goal.invariant-loop-i
+invariant-loop-i l = record {
+  grown : Grown l.fn.types l.types;
+  left : AreLeft (program l.program) l.blocks (drop l.i l.blocks);
+}

@@ -10,7 +10,11 @@ use Rattle.t_rules.specs.Rules.{HeapAccepted}
 use Rattle.t_rules.specs.Faults.{HeapFault}
 use Rattle.t_check.specs.Verdict.{Says, AreBlocks, IsProgram}
 use Rattle.t_check.proofs.Bodies.{first_takes, first_fault, heap_fault, program_is}
+use Rattle.t_check.proofs.Numbering.{labels_grown}
 use Rattle.t_check.proofs.program.check_program.Goals as goal
+
+pub check_blocks-requires-clause-labels : goal.check_blocks-requires-clause-labels
+check_blocks-requires-clause-labels c = labels_grown c.of_program.new.types c.check_heap.new.types c.args.program.now c.in_ok-labels.labels c.in_ok-check_heap.ensures.grown c.in_ok-labels.ensures.labels
 
 pub returns-then-not-takes_nothing : goal.returns-then-not-takes_nothing
 returns-then-not-takes_nothing c =
@@ -26,7 +30,7 @@ returns c =
     let some = p.whole.0 in
     let lt : 0 < length p.blocks.items = omega (arith, blocks_count p.blocks.items) in
     let first = first_takes p.blocks.items c.index-first.result.now lt c.index-first.ensures (c.if-not-takes_nothing.ensures.0 refl) in
-    let heap = subst (λ (xs : List Data). HeapAccepted (program p) (data_of xs)) c.deref.ensures.value c.in_ok-check_heap.ensures in
+    let heap = subst (λ (xs : List Data). HeapAccepted (program p) (data_of xs)) c.deref.ensures.value c.in_ok-check_heap.ensures.heap in
     program_is p first heap c.check_blocks.result (subst (λ (bs : List Block). AreBlocks (program p) (spanned_blocks bs) c.check_blocks.result) c.deref-2.ensures.value c.check_blocks.ensures)
 
 pub returns-in_err-check_heap : goal.returns-in_err-check_heap
@@ -35,6 +39,6 @@ returns-in_err-check_heap c =
     let some = p.whole.0 in
     let lt : 0 < length p.blocks.items = omega (arith, blocks_count p.blocks.items) in
     let first = first_takes p.blocks.items c.index-first.result.now lt c.index-first.ensures (c.if-not-takes_nothing.ensures.0 refl) in
-    let q = err_from_is_err_and c.from_residual.result c.from_residual.ensures.1 in
+    let q = err_from_is_err_and c.from_residual-in_err-check_heap.result c.from_residual-in_err-check_heap.ensures.1 in
     let e = c.in_err-check_heap.field-0.0 in
-    rw (q.1, q.2) (heap_fault p first e (subst (λ (xs : List Data). Says e (HeapFault (program p) (spanned_heap xs))) c.deref.ensures.value c.in_err-check_heap.ensures))
+    rw (q.1, q.2) (heap_fault p first e (subst (λ (xs : List Data). Says e (HeapFault (program p) (spanned_heap xs))) c.deref.ensures.value c.in_err-check_heap.ensures.heap))

@@ -1,12 +1,15 @@
-use Rattle.std.proofs.Common.{sym, subst, refl, Result, true≢false}
-use Rattle.t_types.specs.Read.{tree}
+use Rattle.std.proofs.Common.{◌∙◌, ap, sym, subst, refl, Result, true≢false}
+use Rattle.t_types.specs.Tree.{Ty}
 use Rattle.t_terms.specs.Read.{value}
 use Rattle.t_terms.specs.ReadProgram.{program}
 use Rattle.t_terms.specs.declared.fault.TFault.{TFault}
-use Rattle.t_check.specs.Known.{known}
 use Rattle.t_terms.specs.Tree.{Arith}
+use Rattle.t_rules.specs.Registers.{with_reg}
 use Rattle.t_rules.specs.Rules.{Has}
+use Rattle.t_intern.specs.Nodes.{at}
+use Rattle.t_check.specs.Known.{known}
 use Rattle.t_check.specs.Verdict.{IsStep}
+use Rattle.t_check.proofs.Noting.{noted_since, sound_grown}
 use Rattle.t_check.proofs.Typing.{operand}
 use Rattle.t_check.proofs.checker.Checker.check_arith.Goals as goal
 
@@ -14,13 +17,24 @@ pub returns-then-not-is_int-clause-step : goal.returns-then-not-is_int-clause-st
 returns-then-not-is_int-clause-step c = λ op.
     let P = program c.args.self.now.program.now in
     let k = c.args.self.now.registers in
+    let g = known c.args.types.now k in
+    let us = c.type_of_value.new.types in
     let v = value c.args.v.now in
-    subst (λ (r : Result (Unit {0}) TFault). IsStep P k k c.args.span (Arith op c.args.rd c.args.rs v) r) (sym c.refused.ensures)
-    (operand P k c.args.span op c.args.rd c.args.rs v (tree c.in_ok-found.found) c.in_ok-check_int.ensures c.in_ok-found.ensures.0 (λ e. absurd (true≢false (sym (c.if-not-is_int.ensures.1 e)))))
+    subst (λ (r : Result (Unit {0}) TFault). IsStep P us k.names g k c.args.span (Arith op c.args.rd c.args.rs v) r) (sym c.refused.ensures)
+    (operand P k.names g c.args.span op c.args.rd c.args.rs v (at us c.in_ok-found.found) c.in_ok-check_int.ensures c.in_ok-found.ensures.typed.1 (λ e. absurd (true≢false (sym (c.if-not-is_int.ensures.1 e)))))
 
 pub returns-clause-step : goal.returns-clause-step
 returns-clause-step c = λ op.
     let P = program c.args.self.now.program.now in
+    let ts = c.args.types.now in
     let k = c.args.self.now.registers in
+    let g = known ts k in
+    let us = c.type_of_value.new.types in
     let v = value c.args.v.now in
-    ((c.in_ok-check_int.ensures, subst (Has P k.names (known k) v) (c.if-not-is_int.ensures.0 refl) c.in_ok-found.ensures.0, c.in_ok-note.ensures.0), c.in_ok-note.ensures.1, c.in_ok-note.ensures.2)
+    let sound = c.requires.place.sound in
+    let grown = c.in_ok-found.ensures.grown in
+    let int = c.if-not-is_int.ensures.0 refl in
+    let typed = c.in_ok-found.ensures.typed in
+    let noted = c.in_ok-note.ensures us (sound_grown ts us grown k sound) typed.0 typed.2 in
+    let since = noted_since ts us k c.note.new.self c.args.rd (at us c.in_ok-found.found) grown sound noted in
+    ((c.in_ok-check_int.ensures, subst (Has P k.names g v) int typed.1, since ∙ ap (λ (t : Ty). with_reg g c.args.rd t) int), noted.1, noted.2)

@@ -1,51 +1,68 @@
-use Rattle.std.proofs.Common.{◌<◌, ◌≤◌, ◌∙◌, ap, sym, subst, length, arith, Result, Some, Bool}
-use Rattle.t_types.specs.Read.{tree}
-use Rattle.t_types.proofs.Trees.{tree_Tuple}
+use Rattle.std.proofs.Common.{◌<◌, ◌≤◌, ◌∙◌, ap, sym, subst, length, get_or, arith, Result, Some, Bool, false, ℕ}
 use Rattle.text_core.specs.Refusals.{nothing}
-use Rattle.t_types.specs.declared.types.TType.{TType}
 use Rattle.t_terms.specs.declared.fault.TFault.{TFault}
+use Rattle.t_intern.specs.Nodes.{at}
+use Rattle.t_intern.proofs.Walked.{item, field_below}
 use Rattle.t_check.specs.Known.{known}
 use Rattle.t_check.specs.Verdict.{IsFieldOf}
 use Rattle.t_check.proofs.Loads.{shown_fields, shown_tuple, shown_none, part_fits, part_field, part_bounded, field_absent}
 use Rattle.t_check.proofs.checker.Checker.field_of.Goals as goal
 
-pub returns-then-field-len : goal.returns-then-field-len
-returns-then-field-len c =
+pub returns-then-field-fields-clause-field : goal.returns-then-field-fields-clause-field
+returns-then-field-fields-clause-field c =
+    let ts = c.args.types.now in
     let k = c.args.self.now.registers in
-    let e = c.in-Some.entry.now in
+    let e = c.in-Some.entry in
     let i = c.args.field in
-    let xs = c.in-Tuple.fields.items in
-    let is = ap tree c.in-Tuple.is ∙ tree_Tuple c.in-Tuple.fields in
-    let test = c.if-field-len.true in
-    let past : length xs ≤ i = omega (arith, c.in-Tuple.fields.ok.0) in
-    subst (λ (r : Result (TType × Bool) TFault). IsFieldOf k c.args.r i c.args.span r) (sym c.refused-then-field-len.ensures)
-    (field_absent (known k) c.args.r i c.args.span (λ fs u flag. nothing) (shown_fields k.names e xs is c.in-Some.ensures.1 i) (c.in-Some.ensures.0 ∙ ap Some (shown_tuple k.names e xs is c.in-Some.ensures.1 i)) (shown_none k.names e xs is c.in-Some.ensures.1 i past))
+    let xs = c.in-Some-fields.fields.now in
+    let is = c.in-Some-fields.ensures.0 in
+    let found = c.in-Some.ensures.found ts c.requires in
+    let test = c.if-field-fields.true in
+    let past : length xs ≤ i = omega arith in
+    subst (λ (r : Result (ℕ × Bool) TFault). IsFieldOf ts k.names (known ts k) c.args.r i c.args.span r) (sym c.refused-then-field-fields.ensures)
+    (field_absent (known ts k) c.args.r i c.args.span (λ fs u flag. nothing) (shown_fields ts k.names e xs is found.1 i) (found.0 ∙ ap Some (shown_tuple ts k.names e xs is found.1 i)) (shown_none ts k.names e xs is found.1 i past))
 
-pub shift-requires : goal.shift-requires
-shift-requires c =
-    let k = c.args.self.now.registers in
-    let e = c.in-Some.entry.now in
+pub shift-requires-clause-there : goal.shift-requires-clause-there
+shift-requires-clause-there c =
     let i = c.args.field in
-    let xs = c.in-Tuple.fields.items in
-    let is = ap tree c.in-Tuple.is ∙ tree_Tuple c.in-Tuple.fields in
-    let test = c.if-field-len.false in
-    let lt : i < length xs = omega (arith, c.in-Tuple.fields.ok.0) in
-    part_fits k.names e xs is c.in-Some.ensures.1 i c.index-found.result.now lt c.index-found.ensures c.requires.few
+    let xs = c.in-Some-fields.fields.now in
+    let found = c.in-Some.ensures.found c.args.types.now c.requires in
+    let test = c.if-field-fields.false in
+    let lt : i < length xs = omega arith in
+    let below = field_below c.in-Some.entry.ty xs i (get_or xs i (0, false)) lt (item xs i (0, false) lt) c.in-Some-fields.ensures.1 in
+    let own_there = found.1.0 in
+    omega arith
 
-pub returns : goal.returns
-returns c =
+pub shift-requires-clause-fits : goal.shift-requires-clause-fits
+shift-requires-clause-fits c =
+    let ts = c.args.types.now in
     let k = c.args.self.now.registers in
-    let e = c.in-Some.entry.now in
     let i = c.args.field in
-    let x = c.index-found.result.now in
-    let t = tree c.in_ok-t.t in
-    let xs = c.in-Tuple.fields.items in
-    let is = ap tree c.in-Tuple.is ∙ tree_Tuple c.in-Tuple.fields in
-    let test = c.if-field-len.false in
-    let lt : i < length xs = omega (arith, c.in-Tuple.fields.ok.0) in
-    let ok = c.in-Some.ensures.1 in (
-      shown_fields k.names e xs is ok i,
-      c.in-Some.ensures.0 ∙ ap Some (shown_tuple k.names e xs is ok i),
-      part_field k.names e xs is ok i x lt c.index-found.ensures t c.in_ok-t.ensures,
-      part_bounded k.names e xs is ok i x lt c.index-found.ensures t c.in_ok-t.ensures,
+    let xs = c.in-Some-fields.fields.now in
+    let found = c.in-Some.ensures.found ts c.requires in
+    let test = c.if-field-fields.false in
+    let lt : i < length xs = omega arith in
+    part_fits ts k.names c.in-Some.entry xs c.in-Some-fields.ensures.0 found.1 i (get_or xs i (0, false)) lt (item xs i (0, false) lt) c.requires.few
+
+pub returns-clause-field : goal.returns-clause-field
+returns-clause-field c =
+    let ts = c.args.types.now in
+    let us = c.shift.new.self in
+    let k = c.args.self.now.registers in
+    let e = c.in-Some.entry in
+    let i = c.args.field in
+    let xs = c.in-Some-fields.fields.now in
+    let is = c.in-Some-fields.ensures.0 in
+    let found = c.in-Some.ensures.found ts c.requires in
+    let test = c.if-field-fields.false in
+    let lt : i < length xs = omega arith in
+    let x = get_or xs i (0, false) in
+    let here = item xs i (0, false) lt in
+    let t = at us c.in_ok-n.n in
+    let number = c.in_ok-n.ensures.number in (
+      shown_fields ts k.names e xs is found.1 i,
+      found.0 ∙ ap Some (shown_tuple ts k.names e xs is found.1 i),
+      part_field ts k.names e xs is found.1 i x lt here t number.1,
+      part_bounded ts k.names e xs is found.1 i x lt here t number.1,
+      number.0,
     )

@@ -1,11 +1,15 @@
-use Rattle.std.proofs.Common.{sym, subst, ◌↔◌, IsTrue}
+use Rattle.std.proofs.Common.{subst, ◌↔◌, IsTrue}
 use Rattle.t_types.specs.Tree.{Ty}
 use Rattle.t_types.specs.Fits.{Fits}
-use Rattle.t_types.specs.Read.{tree}
-use Rattle.t_check.proofs.Noting.{seen_now}
+use Rattle.t_intern.specs.Nodes.{at}
+use Rattle.t_intern.proofs.Growing.{grown_at}
+use Rattle.t_check.specs.Known.{seen}
 use Rattle.t_check.proofs.checker.Checker.fits_entry.Goals as goal
 
-pub returns-then-entry-self : goal.returns-then-entry-self
-returns-then-entry-self c =
-    let e = c.args.entry.now in
-    subst (λ (u : Ty). IsTrue c.fits.result ↔ Fits u (tree c.args.t.now)) (sym (seen_now c.args.self.now.registers.names e c.if-entry-self.true)) c.fits.ensures
+pub returns-clause-fit : goal.returns-clause-fit
+returns-clause-fit c =
+    let ts = c.args.types.now in
+    let us = c.shown.new.types in
+    let n = c.args.self.now.registers.names in
+    subst (λ (u : Ty). IsTrue c.fits.result ↔ Fits (seen ts n c.args.entry) u) (grown_at ts us c.in_ok-shown.ensures.grown c.args.wanted c.requires.wanted)
+    (subst (λ (t : Ty). IsTrue c.fits.result ↔ Fits t (at us c.args.wanted)) c.in_ok-shown.ensures.number.1 c.fits.ensures)

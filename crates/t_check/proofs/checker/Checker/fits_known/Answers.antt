@@ -1,25 +1,72 @@
-use Rattle.std.proofs.Common.{refl, sym, ◌∙◌}
+use Rattle.std.proofs.Common.{length, get_or, refl, sym, ◌∙◌, arith}
 use Rattle.t_types.proofs.Trees.{item_has, items_more}
-use Rattle.t_types.proofs.Files.{RegFits, regs_fit, file_fits_all, entry_fits, entry_absent}
-use Rattle.t_check.specs.Known.{known}
+use Rattle.t_intern.proofs.Growing.{grown_next, grown_length}
+use Rattle.t_intern.proofs.Walked.{item, reg_below}
+use Rattle.t_check.specs.Known.{known, seen}
+use Rattle.t_check.proofs.Places.{RegFits, regs_fit, file_fits_all, entry_fits, entry_absent, fit_grown}
 use Rattle.t_check.proofs.checker.Checker.fits_known.Goals as goal
 
-pub returns-then-not-branch : goal.returns-then-not-branch
-returns-then-not-branch c =
-    let g = known c.args.self.now.registers in (
+pub fits_entry-requires-clause-wanted : goal.fits_entry-requires-clause-wanted
+fits_entry-requires-clause-wanted c =
+    let l = c.loop-reg in
+    let xs = c.args.regs.now in
+    let lt = c.loop-reg-test.true in
+    let below = reg_below (length c.args.types.now) xs l.reg-index (get_or xs l.reg-index (0, 0)) lt (item xs l.reg-index (0, 0) lt) c.requires.regs in
+    omega (arith, below, grown_length c.args.types.now l.types l.invariant.grown)
+
+pub returns-in_err-fits_entry-in-Some-clause-grown : goal.returns-in_err-fits_entry-in-Some-clause-grown
+returns-in_err-fits_entry-in-Some-clause-grown c = grown_next _ _ _ c.loop-reg.invariant.grown c.in_err-fits_entry-in-Some.ensures.grown
+
+pub returns-then-not-branch-clause-grown : goal.returns-then-not-branch-clause-grown
+returns-then-not-branch-clause-grown c = grown_next _ _ _ c.loop-reg.invariant.grown c.in_ok-fits_entry-in-Some.ensures.grown
+
+pub returns-then-not-branch-clause-fit : goal.returns-then-not-branch-clause-fit
+returns-then-not-branch-clause-fit c =
+    let l = c.loop-reg in
+    let ts = c.args.types.now in
+    let k = c.args.self.now.registers in
+    let g = known ts k in
+    let xs = c.args.regs.now in
+    let lt = c.loop-reg-test.true in
+    let x = get_or xs l.reg-index (0, 0) in
+    let is = item xs l.reg-index (0, 0) lt in
+    let below = reg_below (length ts) xs l.reg-index x lt is c.requires.regs in
+    let found = c.in-Some.ensures.found ts c.requires.sound in
+    let fit = fit_grown ts l.types l.invariant.grown k.names c.in-Some.entry x.1 c.in_ok-fits_entry-in-Some.field-0 found.1.0 below c.in_ok-fits_entry-in-Some.ensures.fit in (
       (λ h. cc),
-      λ h. sym c.if-not-branch.true ∙ c.in_ok-fits_entry-in-Some.ensures.1 (entry_fits g c.reg-item.result _ c.in-Some.ensures.0 (item_has (RegFits g) _ _ _ c.reg-item.is c.loop-reg-test.true (regs_fit g c.args.regs.now h))),
+      λ h. sym c.if-not-branch.true ∙ fit.1 (entry_fits g ts x _ found.0 (item_has (RegFits g ts) _ _ _ is lt (regs_fit g ts xs h))),
     )
 
-pub returns-in-None : goal.returns-in-None
-returns-in-None c =
-    let g = known c.args.self.now.registers in
-    ((λ h. cc), λ h. absurd (entry_absent g c.reg-item.result c.in-None.ensures (item_has (RegFits g) _ _ _ c.reg-item.is c.loop-reg-test.true (regs_fit g c.args.regs.now h))))
+pub returns-in-None-clause-fit : goal.returns-in-None-clause-fit
+returns-in-None-clause-fit c =
+    let l = c.loop-reg in
+    let ts = c.args.types.now in
+    let g = known ts c.args.self.now.registers in
+    let xs = c.args.regs.now in
+    let lt = c.loop-reg-test.true in
+    let x = get_or xs l.reg-index (0, 0) in
+    let is = item xs l.reg-index (0, 0) lt in
+    ((λ h. cc), λ h. absurd (entry_absent g ts x (c.in-None.ensures.found ts c.requires.sound) (item_has (RegFits g ts) _ _ _ is lt (regs_fit g ts xs h))))
 
 pub loop-reg-preserved : goal.loop-reg-preserved
 loop-reg-preserved c =
-    let g = known c.args.self.now.registers in
-    items_more (RegFits g) _ _ _ c.reg-item.is c.loop-reg-test.true c.loop-reg.invariant (_, c.in-Some.ensures.0, c.in_ok-fits_entry-in-Some.ensures.0 c.if-not-branch.false)
+    let l = c.loop-reg in
+    let ts = c.args.types.now in
+    let k = c.args.self.now.registers in
+    let g = known ts k in
+    let xs = c.args.regs.now in
+    let lt = c.loop-reg-test.true in
+    let x = get_or xs l.reg-index (0, 0) in
+    let is = item xs l.reg-index (0, 0) lt in
+    let below = reg_below (length ts) xs l.reg-index x lt is c.requires.regs in
+    let found = c.in-Some.ensures.found ts c.requires.sound in
+    let fit = fit_grown ts l.types l.invariant.grown k.names c.in-Some.entry x.1 c.in_ok-fits_entry-in-Some.field-0 found.1.0 below c.in_ok-fits_entry-in-Some.ensures.fit in
+    record {
+      grown = grown_next _ _ _ l.invariant.grown c.in_ok-fits_entry-in-Some.ensures.grown;
+      fit = items_more (RegFits g ts) _ _ _ is lt l.invariant.fit (seen ts k.names c.in-Some.entry, found.0, fit.0 c.if-not-branch.false);
+    }
 
-pub returns : goal.returns
-returns c = (λ h. file_fits_all (known c.args.self.now.registers) c.args.regs.now c.loop-reg.reg-index c.loop-reg.invariant c.loop-reg-test.false, λ h. refl)
+pub returns-clause-fit : goal.returns-clause-fit
+returns-clause-fit c =
+    let ts = c.args.types.now in
+    (λ h. file_fits_all (known ts c.args.self.now.registers) ts c.args.regs.now c.loop-reg.reg-index c.loop-reg.invariant.fit c.loop-reg-test.false, λ h. refl)

@@ -1,73 +1,56 @@
-use Rattle.std.proofs.Common.{◌≡◌, ℕ, ap₂, ◌+◌, ◌-◌, List, ◌∷◌, drop, length, ap, sym, subst, arith, ◌∙◌}
-use Rattle.std.proofs.lemmas.List.{drop_more, drop_all, length-map}
-use Rattle.idx_core.specs.Over.{PutFitsAt, IsWord}
-use Rattle.t_types.specs.Tree.{Ty, shift, put_file, each, each_file}
-use Rattle.t_types.specs.Read.{tree, file, types}
-use Rattle.t_types.specs.declared.types.TType.{TType}
-use Rattle.t_rules.specs.Registers.{inst_file}
-use Rattle.t_check.specs.Bounds.{OwedFile}
-use Rattle.t_check.proofs.Blocks.{type_at}
-use Rattle.t_check.proofs.Depth.{shallow, part_shift_fits, inst_put_fits, inst_put}
+use Rattle.std.proofs.Common.{◌≡◌, ◌≤◌, ◌<◌, ◌-◌, All, List, ℕ, length, arith, ap, sym, subst, ◌∙◌}
+use Rattle.std.proofs.lemmas.List.{length-map}
+use Rattle.std.proofs.lemmas.Result.{IfOk-weaker}
+use Rattle.idx_core.specs.Over.{IsWord}
+use Rattle.t_types.specs.Read.{tree, types}
+use Rattle.t_types.specs.Tree.{Ty, TFile, each_file, over_file}
+use Rattle.t_intern.specs.Grown.{AreRegs}
+use Rattle.t_intern.specs.Nodes.{regs_at}
+use Rattle.t_intern.specs.Spread.{types_at, spread, SpreadFitsAt}
+use Rattle.t_intern.proofs.Growing.{grown_length, grown_regs}
+use Rattle.t_intern.proofs.Lists.{regs_below_more}
+use Rattle.t_check.proofs.Depth.{spread_fits, inst_owed}
+use Rattle.t_check.proofs.Turns.{in_one}
 use Rattle.t_check.proofs.checker.Checker.instantiate.Goals as goal
 
-pub shift-requires : goal.shift-requires
-shift-requires c =
-    let n = c.args.self.now.registers.names in
-    let left = c.loop-t.left in
-    let t = c.t-item.result in
-    let count = c.loop-t.invariant.count in
-    let test = c.loop-t-test.true in
-    let small = shallow n (tree t) (type_at n c.args.types.now c.loop-t.t-index t test c.t-item.is c.requires.types) in
-    part_shift_fits n left (tree t) (file c.loop-t.regs.items) (omega (arith, c.requires.enough)) (omega (arith, c.requires.owes)) c.requires.few small c.loop-t.invariant.file
+pub put_file-requires-clause-parts : goal.put_file-requires-clause-parts
+put_file-requires-clause-parts c =
+    regs_below_more (length c.args.types.now) (length c.number_all.new.self) (grown_length c.args.types.now c.number_all.new.self c.in_ok-args.ensures.grown) c.args.regs.now c.requires.regs
 
-pub put_regs-requires-clause-fits : goal.put_regs-requires-clause-fits
-put_regs-requires-clause-fits c =
-    let n = c.args.self.now.registers.names in
-    let left = c.loop-t.left in
-    let t = c.t-item.result in
-    let count = c.loop-t.invariant.count in
-    let test = c.loop-t-test.true in
-    let small = shallow n (tree t) (type_at n c.args.types.now c.loop-t.t-index t test c.t-item.is c.requires.types) in
-    let fits = inst_put_fits n left (tree t) (file c.loop-t.regs.items) (omega (arith, c.requires.enough)) (omega (arith, c.requires.owes)) c.requires.few small c.loop-t.invariant.file in
-    subst (λ (xs : List (ℕ × TType)). each_file (PutFitsAt each (left - 1) (tree c.in_ok-what.what)) IsWord (left - 1) (file xs)) (sym c.deref.ensures.value)
-    (subst (λ (u : Ty). each_file (PutFitsAt each (left - 1) u) IsWord (left - 1) (file c.loop-t.regs.items)) (sym c.in_ok-what.ensures) fits)
+pub put_file-requires-clause-args : goal.put_file-requires-clause-args
+put_file-requires-clause-args c =
+    subst (λ (ns : List ℕ). All (λ a. a < length c.number_all.new.self) ns) (sym c.deref.ensures.value) c.in_ok-args.ensures.numbers.1
 
-pub loop-t-preserved : goal.loop-t-preserved
-loop-t-preserved c =
-    let n = c.args.self.now.registers.names in
-    let left = c.loop-t.left in
-    let i = c.loop-t.t-index in
+pub put_file-requires-clause-fits : goal.put_file-requires-clause-fits
+put_file-requires-clause-fits c =
     let ts = c.args.types.now in
-    let t = c.t-item.result in
-    let count = c.loop-t.invariant.count in
-    let test = c.loop-t-test.true in
-    let few = c.requires.owes in
-    let enough = c.requires.enough in
-    let small = shallow n (tree t) (type_at n ts i t test c.t-item.is c.requires.types) in
-    let made = put_file (left - 1) (shift (left - 1) 0 (tree t)) (file c.loop-t.regs.items) in
-    let owed = inst_put n left (tree t) (file c.loop-t.regs.items) (omega arith) (omega arith) c.requires.few small c.loop-t.invariant.file in
-    let done : file c.in_ok-regs.regs.items ≡ made = c.in_ok-regs.ensures ∙ ap₂ (λ (u : Ty) (xs : List (ℕ × TType)). put_file (left - 1) u (file xs)) c.in_ok-what.ensures c.deref.ensures.value in
-    let next = drop_more ts i t test in
-    record {
-      same =
-          c.loop-t.invariant.same
-          ∙ ap (λ (us : List TType). inst_file (types us) left (file c.loop-t.regs.items)) next
-          ∙ ap (λ (u : TType). inst_file (tree u ∷ types (drop (i + 1) ts)) left (file c.loop-t.regs.items)) (sym c.t-item.is)
-          ∙ ap (inst_file (types (drop (i + 1) ts)) (left - 1)) (sym done);
-      count = omega arith;
-      file = subst (OwedFile n (left - 1)) (sym done) owed;
-    }
-
-pub returns : goal.returns
-returns c =
+    let us = c.number_all.new.self in
+    let args = c.args.args.now in
+    let owes = c.args.owes in
+    let regs = c.args.regs.now in
     let n = c.args.self.now.registers.names in
+    let len : length (types args) ≡ length args = length-map args tree in
+    let enough : length (types args) ≤ owes = omega (arith, len, c.requires.enough) in
+    let same = ap (λ (ns : List ℕ). types_at us ns) c.deref.ensures.value ∙ c.in_ok-args.ensures.numbers.0 in
+    let fits = spread_fits n owes (types args) (regs_at ts regs) enough c.requires.owes c.requires.few c.requires.args c.requires.file in
+    subst (λ (xs : List Ty). each_file (SpreadFitsAt 0 xs) IsWord (owes - length args) (regs_at us regs)) (sym same)
+    (subst (λ (m : ℕ). each_file (SpreadFitsAt 0 (types args)) IsWord (owes - m) (regs_at us regs)) len
+    (subst (λ (f : TFile). each_file (SpreadFitsAt 0 (types args)) IsWord (owes - length (types args)) f) (sym (grown_regs ts us c.in_ok-args.ensures.grown regs c.requires.regs)) fits))
+
+pub returns-clause-made : goal.returns-clause-made
+returns-clause-made c =
     let ts = c.args.types.now in
-    let i = c.loop-t.t-index in
-    let rest = drop_all i ts c.loop-t-test.false in
-    let count = c.loop-t.invariant.count in
-    let stop = c.loop-t.auto.t-index-end in
-    let test = c.loop-t-test.false in
-    let left : c.loop-t.left ≡ c.args.owes - length ts = omega arith in (
-      sym (c.loop-t.invariant.same ∙ ap (λ (us : List TType). inst_file (types us) c.loop-t.left (file c.loop-t.regs.items)) rest),
-      subst (λ m. OwedFile n (c.args.owes - m) (file c.loop-t.regs.items)) (sym (length-map ts tree)) (subst (λ m. OwedFile n m (file c.loop-t.regs.items)) left c.loop-t.invariant.file),
-    )
+    let us = c.number_all.new.self in
+    let args = c.args.args.now in
+    let owes = c.args.owes in
+    let regs = c.args.regs.now in
+    let n = c.args.self.now.registers.names in
+    let len : length (types args) ≡ length args = length-map args tree in
+    let enough : length (types args) ≤ owes = omega (arith, len, c.requires.enough) in
+    let same = ap (λ (ns : List ℕ). types_at us ns) c.deref.ensures.value ∙ c.in_ok-args.ensures.numbers.0 in
+    let eq = ap (λ (xs : List Ty). over_file (spread 0 xs) (owes - length args) (regs_at us regs)) same
+    ∙ ap (λ (m : ℕ). over_file (spread 0 (types args)) (owes - m) (regs_at us regs)) (sym len)
+    ∙ ap (over_file (spread 0 (types args)) (owes - length (types args))) (grown_regs ts us c.in_ok-args.ensures.grown regs c.requires.regs)
+    ∙ sym (in_one (types args) owes (regs_at ts regs) enough) in
+    let owed = inst_owed n owes (types args) (regs_at ts regs) enough c.requires.owes c.requires.few c.requires.args c.requires.file in
+    IfOk-weaker c.put_file.result _ _ (λ made k. (subst (λ (f : TFile). AreRegs c.put_file.new.self f made.items) eq k, owed)) c.put_file.ensures.numbers

@@ -1,10 +1,12 @@
-use Rattle.std.proofs.Common.{◌≡◌, All, map, take}
-use Rattle.t_types.specs.Read.{reg}
-use Rattle.t_check.proofs.Noting.{noted, NotedAt}
+use Rattle.std.proofs.Common.{◌≤◌, length, drop}
+use Rattle.t_check.proofs.Noting.{IsHeader}
 use Rattle.t_check.proofs.registers.Registers.of_block.Given as goal
 
-abbrev pub invariant-loop-reg : goal.invariant-loop-reg
-invariant-loop-reg l = record {
-  same : map noted l.entries.items ≡ map reg (take l.reg-index l.regs);
-  names : All (NotedAt l.owes) l.entries.items;
+abbrev pub invariant-loop-left : goal.invariant-loop-left
+invariant-loop-left l = record {
+  within : l.left ≤ length l.regs;
+  header : IsHeader l.owes (drop l.left l.regs) l.made;
 }
+
+abbrev pub decreases-loop-left : goal.decreases-loop-left
+decreases-loop-left l = l.left

@@ -1,0 +1,23 @@
+use Rattle.std.proofs.Common.{◌∙◌, ap, sym, subst, refl, Some, Result, true≢false, ◌-◌}
+use Rattle.t_types.specs.Tree.{Ty, shift}
+use Rattle.t_terms.specs.Tree.{Halt}
+use Rattle.t_terms.specs.ReadProgram.{program}
+use Rattle.t_terms.specs.declared.fault.TFault.{TFault}
+use Rattle.t_check.specs.Known.{known, own}
+use Rattle.t_check.specs.Verdict.{IsEnd}
+use Rattle.t_check.proofs.Loads.{no_halt}
+use Rattle.t_check.proofs.checker.Checker.check_halt.Goals as goal
+
+pub returns-then-is_int : goal.returns-then-is_int
+returns-then-is_int c =
+    let found = c.in-Some.ensures.found c.args.types.now c.requires in
+    found.0 ∙ ap (λ (t : Ty). Some (shift (c.args.self.now.registers.names - c.in-Some.entry.names) 0 t)) (c.if-is_int.ensures.0 refl)
+
+pub returns-else-is_int : goal.returns-else-is_int
+returns-else-is_int c =
+    let ts = c.args.types.now in
+    let k = c.args.self.now.registers in
+    let e = c.in-Some.entry in
+    let found = c.in-Some.ensures.found ts c.requires in
+    subst (λ (r : Result (Unit {0}) TFault). IsEnd (program c.args.self.now.program.now) k.names (known ts k) c.args.span Halt r) (sym c.refused.ensures)
+    (no_halt (known ts k) (k.names - e.names) c.args.span (own ts e) found.0 (λ h. true≢false (sym (c.if-is_int.ensures.1 h))))

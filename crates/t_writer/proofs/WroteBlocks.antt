@@ -28,9 +28,9 @@ use Rattle.t_writer.proofs.WroteCode.{labels, wrote_instr, wrote_end}
 blocks_along : (u x y : List Token) (rs more : List RawBlock) (r : RawBlock) → Blocks ((u ++ x) ++ y) ((rs ++ r ∷ []) ++ more) → Blocks (u ++ (x ++ y)) (rs ++ r ∷ more)
 blocks_along u x y rs more r h = simp append_assoc at h
 
-module _ (text : List ℕ) (p : ℕ) (few : p ≤ 2 ^ 64) where
+module _ (text : List ℕ) (p q : ℕ) (few : p ≤ 2 ^ 64) (small : q ≤ 2 ^ 64) where
   abbrev names : Labels
-  names = labels text p few
+  names = labels text p q few small
 
   -- instructions and an end, each on its line
   record WroteSeq (i d : ℕ) (c : TSeq) : Type 0 where
@@ -46,9 +46,9 @@ module _ (text : List ℕ) (p : ℕ) (few : p ≤ 2 ^ 64) where
     none : body_faults text names (scope d) body ≡ []
     none_last : end_faults text names (names_after_all text body (scope d)) last.0 ≡ []
 
-  wrote_seq : (i d : ℕ) (c : TSeq) → d ≤ max_names → WellFormedSeq p 0 d c → SeqFits c → Written text i (seq_written d c) → WroteSeq i d c
+  wrote_seq : (i d : ℕ) (c : TSeq) → d ≤ max_names → WellFormedSeq p q d c → SeqFits c → Written text i (seq_written d c) → WroteSeq i d c
   wrote_seq i d (Ends e) n h f w =
-      let r = wrote_end text p few i d e n h f (written_append text i (end_written d e) (line_end ∷ []) w).0 in
+      let r = wrote_end text p q few small i d e n h f (written_append text i (end_written d e) (line_end ∷ []) w).0 in
       record {
         body = [];
         last = r.raw;
@@ -67,7 +67,7 @@ module _ (text : List ℕ) (p : ℕ) (few : p ≤ 2 ^ 64) where
       let rest = line_end ∷ seq_written d' c in
       let j = i + size (instr_written d x) in
       let v = written_append text i (instr_written d x) rest w in
-      let a = wrote_instr text p few i d x n h.0 f.0 v.0 in
+      let a = wrote_instr text p q few small i d x n h.0 f.0 v.0 in
       let r = wrote_seq (j + 1) d' c h.1 h.2 f.1 v.1.1 in
       record {
         body = a.raw ∷ r.body;
@@ -91,8 +91,8 @@ module _ (text : List ℕ) (p : ℕ) (few : p ≤ 2 ^ 64) where
     none : block_faults text names raw ≡ []
     name : spelled text raw.name ≡ label_name l
 
-  wrote_block : (l i : ℕ) (b : TBlock) → l < 2 ^ 64 → WellFormedBlock p 0 b → SeqFits b.code → Written text i (block_written l b) → WroteBlock l i b
-  wrote_block l i b small h f w =
+  wrote_block : (l i : ℕ) (b : TBlock) → l < 2 ^ 64 → WellFormedBlock p q b → SeqFits b.code → Written text i (block_written l b) → WroteBlock l i b
+  wrote_block l i b low h f w =
       let bs = binds_written 0 b.owes in
       let fs = file_written b.owes b.file in
       let code = seq_written b.owes b.code in
@@ -100,20 +100,20 @@ module _ (text : List ℕ) (p : ℕ) (few : p ≤ 2 ^ 64) where
       let s = placing.place_of i (LabelName l) in
       let j = i + length (bytes (LabelName l)) + 1 + 1 + 4 in
       let m = j + size bs in
-      let q = m + size fs in
+      let n = m + size fs in
       let x = written_append text j bs (fs ++ dot) w.1.1.1.1 in
       let y = written_append text m fs dot x.1 in
       let a = wrote_binds j 0 b.owes (omega (arith, h.0)) in
       let file = wrote_file text m b.owes b.file h.0 h.1 y.0 in
-      let c = wrote_seq (q + 1 + 1) b.owes b.code h.0 h.2 f y.1.1.1 in
+      let c = wrote_seq (n + 1 + 1) b.owes b.code h.0 h.2 f y.1.1.1 in
       let e : bind text a.spans [] ≡ scope b.owes = a.bound text x.0 ∙ ap scope (zero-add b.owes) in
       record {
         raw = record { name = s; names = a.spans; file = file.piece.tree; body = c.body; last = c.last };
         whole = rw (placed_append j bs (fs ++ dot), placed_append m fs dot, c.at)
-            (b_block s (placing.place_of (i + length (bytes (LabelName l))) (Sign 58 k.Colon)) (placing.place_of (i + length (bytes (LabelName l)) + 1 + 1) (Reserved (codes "code") k.Code)) (placing.place_of q (Sign 46 k.Dot))
+            (b_block s (placing.place_of (i + length (bytes (LabelName l))) (Sign 58 k.Colon)) (placing.place_of (i + length (bytes (LabelName l)) + 1 + 1) (Reserved (codes "code") k.Code)) (placing.place_of n (Sign 46 k.Dot))
             a.whole file.whole (c.extend [] [] is_none) c.ends);
         fine = λ x. (
-          small,
+          low,
           refl,
           (
             (refl, refl, tt),
@@ -141,10 +141,10 @@ module _ (text : List ℕ) (p : ℕ) (few : p ≤ 2 ^ 64) where
     fine : (x : Bool) → Fine (blocks_written l bs) x
     means : plain_blocks (map (block_of text names) raw) ≡ bs
     spell : block_labels text l raw ≡ labels_from l (length bs)
-    none : blocks_faults text names (before l) raw ≡ []
+    none : blocks_faults text names (before q l) raw ≡ []
 
-  more_blocks : (l i : ℕ) (bs : List TBlock) → l + length bs ≤ 2 ^ 64 → WellFormedBlocks p 0 bs → BlocksFit bs → Written text i (blocks_written l bs) → MoreBlocks l i bs
-  more_blocks l i [] small h f w = record {
+  more_blocks : (l i : ℕ) (bs : List TBlock) → l + length bs ≤ 2 ^ 64 → WellFormedBlocks p q bs → BlocksFit bs → Written text i (blocks_written l bs) → MoreBlocks l i bs
+  more_blocks l i [] low h f w = record {
     raw = [];
     extend = λ u rs x. rw (append-nil, append-nil) x;
     fine = λ x. tt;
@@ -152,7 +152,7 @@ module _ (text : List ℕ) (p : ℕ) (few : p ≤ 2 ^ 64) where
     spell = refl;
     none = refl;
   }
-  more_blocks l i (b ∷ bs) small h f w =
+  more_blocks l i (b ∷ bs) low h f w =
       let v = written_append text i (block_written l b) (blocks_written (suc l) bs) w in
       let a = wrote_block l i b (omega arith) h.0 f.0 v.0 in
       let r = more_blocks (suc l) (i + size (block_written l b)) bs (omega arith) h.1 f.1 v.1 in
@@ -163,7 +163,7 @@ module _ (text : List ℕ) (p : ℕ) (few : p ≤ 2 ^ 64) where
         fine = λ x. fine_append (block_written l b) (blocks_written (suc l) bs) x (a.fine (stops (blocks_written (suc l) bs) x)) (r.fine x);
         means = ap₂ (λ (c : TBlock) (cs : List TBlock). c ∷ cs) a.means r.means;
         spell = ap₂ (λ (x : Name) (xs : Labels). (x, Label l) ∷ xs) a.name r.spell;
-        none = rw (a.name, not_before l l (omega arith) (omega arith), a.none) r.none;
+        none = rw (a.name, not_before q l l (omega arith) (omega arith), a.none) r.none;
       }
 
 -- a program of blocks alone
@@ -176,7 +176,7 @@ module _ (text : List ℕ) (b : TBlock) (bs : List TBlock) (few : length (b ∷ 
   ls = program_written (b ∷ bs)
 
   abbrev here : Labels
-  here = labels text (length (b ∷ bs)) few
+  here = labels text (length (b ∷ bs)) 0 few (omega arith)
 
   at_place : Written text 6 (blocks_written 0 (b ∷ bs))
   at_place = (written_at text 0 ls [] (e ∙ sym (append-nil (render ls)))).1.1.1.1
@@ -185,8 +185,8 @@ module _ (text : List ℕ) (b : TBlock) (bs : List TBlock) (few : length (b ∷ 
   stands_for =
       let rest = blocks_written 1 bs in
       let v = written_append text 6 (block_written 0 b) rest at_place in
-      let a = wrote_block text (length (b ∷ bs)) few 0 6 b (omega arith) h.1.0 f.0 v.0 in
-      let r = more_blocks text (length (b ∷ bs)) few 1 (6 + size (block_written 0 b)) bs (omega arith) h.1.1 f.1 v.1 in
+      let a = wrote_block text (length (b ∷ bs)) 0 few (omega arith) 0 6 b (omega arith) h.1.0 f.0 v.0 in
+      let r = more_blocks text (length (b ∷ bs)) 0 few (omega arith) 1 (6 + size (block_written 0 b)) bs (omega arith) h.1.1 f.1 v.1 in
       let raw = a.raw ∷ r.raw in
       let spell : labels_of text raw ≡ here = ap₂ (λ (x : Name) (xs : Labels). (x, Label 0) ∷ xs) a.name r.spell in
       let fine : Fine ls true = ((refl, refl, tt), refl, (refl, tt, (omega arith, refl, (refl, tt, fine_append (block_written 0 b) rest true (a.fine (stops rest true)) (r.fine true))))) in

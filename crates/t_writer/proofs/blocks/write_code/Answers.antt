@@ -1,6 +1,6 @@
 use Rattle.t_terms.specs.Read.{end_of}
 use Rattle.t_writer.proofs.Coded.{coding_more, coding_end}
-use Rattle.t_writer.proofs.program.write_code.Goals as goal
+use Rattle.t_writer.proofs.blocks.write_code.Goals as goal
 
 pub loop-entry-preserved : goal.loop-entry-preserved
 loop-entry-preserved c =

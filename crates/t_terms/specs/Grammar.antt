@@ -1,6 +1,7 @@
 -- The grammar of assembly texts: one family for each line, one constructor for each alternative, over whole lists of
--- tokens. Binding plays no part in it. The place of an instruction and of an end is from its word to its last token.
-use Rattle.std.specs.Prelude.{ℕ, ℤ, pos, suc, nat_abs, Bool, true, false, List, [], ◌∷◌, ◌++◌}
+-- tokens. Binding plays no part in it. The place of an instruction and of an end is from its word to its last token, and
+-- that of the value of a data field from its first to its last token.
+use Rattle.std.specs.Prelude.{◌≤◌, ℕ, ℤ, pos, suc, nat_abs, length, Bool, true, false, List, [], ◌∷◌, ◌++◌}
 use Rattle.idx_core.specs.declared.span.Span.{Span}
 use Rattle.idx_core.specs.declared.arith.Op.{Op}
 use Rattle.idx_core.specs.declared.arith.Op.TheVariants.{Add, Sub, Mul}
@@ -8,7 +9,7 @@ use Rattle.text_core.specs.Shapes.{Grammar}
 use Rattle.t_terms.specs.declared.token.Kind.{Kind}
 use Rattle.t_terms.specs.declared.token.Kind.TheVariants as k
 use Rattle.t_terms.specs.declared.token.Token.{Token}
-use Rattle.t_terms.specs.Raw.{RawTy, RInt, RName, RCode, RSome, RTuple, RawRegs, RawReg, RawField, raw_regs, raw_fields, RawBase, RReg, RNum, RLabel, RawValue, RPlain, RPack, RawInstr, RArith, RBnz, RLd, RMalloc, RMov, RSt, RUnpack, RawEnd, RJmp, RHalt, RawBlock, Piece, ending, up_to}
+use Rattle.t_terms.specs.Raw.{RawTy, RInt, RName, RCode, RSome, RTuple, RawRegs, RawReg, RawField, raw_regs, raw_fields, RawBase, RReg, RNum, RLabel, RawValue, RPlain, RPack, RawInstr, RArith, RBnz, RLd, RMalloc, RMov, RSt, RUnpack, RawEnd, RJmp, RHalt, RawBlock, RawDatum, RawItem, BlockItem, DataItem, blocks_in, block_items, Piece, ending, up_to}
 
 -- a token of this kind at this place
 abbrev pub tok : Kind → Span → Token
@@ -168,10 +169,63 @@ pub data Blocks : List Token → List RawBlock → Type 0 where
   bs_more : {u v : List Token} {bs : List RawBlock} {b : RawBlock} → Blocks u bs → Block v b →
       Blocks (u ++ v) (bs ++ b ∷ [])
 
--- Program ::= tal 1 Block .. Block, by the number's value
-pub data Program : List Token → List RawBlock → Type 0 where
-  p_program : {w : List Token} {bs : List RawBlock} (t n : Span) → Blocks w bs →
-      Program (tok k.Tal t ∷ (tok (k.Plain (pos 1)) n ∷ w)) bs
+-- Q ::= number | label
+pub data Q : Token → RawBase → Type 0 where
+  q_plain : (z : ℤ) (s : Span) → Q (tok (k.Plain z) s) (RNum z)
+  q_negative : (z : ℤ) (s : Span) → Q (tok (k.Negative z) s) (RNum z)
+  q_label : (s : Span) → Q (tok k.Name s) (RLabel s)
+
+-- the value of a data field, with its place
+pub data W : List Token → RawValue × Span → Type 0 where
+  -- W ::= Q
+  w_base : {b : Token} {base : RawBase} → Q b base → W (b ∷ []) (RPlain base [], b.span)
+  -- W ::= Q [ T , .. , T ]
+  w_apply : {b : Token} {base : RawBase} {w : List Token} {ts : List RawTy} (o c : Span) → Q b base → Ts w ts →
+      W (b ∷ (tok k.LeftBracket o ∷ (w ++ tok k.RightBracket c ∷ []))) (RPlain base ts, up_to b.span c.end)
+  -- W ::= pack [ T , W ] as T
+  w_pack : {u v w : List Token} {t s : Piece RawTy} {x : RawValue × Span} (p o m c a : Span) → T u t → W v x → T w s →
+      W (tok k.Pack p ∷ (tok k.LeftBracket o ∷ (u ++ tok k.Comma m ∷ (v ++ tok k.RightBracket c ∷ (tok k.As a ∷ w)))))
+      (RPack t.tree x.0 s.tree, up_to p s.end)
+
+-- a field with its value and the type that is written for it
+abbrev pub datum : RawValue × Span → RawTy → RawDatum
+datum x t = record { value = x.0; place = x.1; ty = t }
+
+-- W : T , .. , W : T
+pub data Ds : List Token → List RawDatum → Type 0 where
+  ds_one : {u v : List Token} {x : RawValue × Span} {t : Piece RawTy} (c : Span) → W u x → T v t →
+      Ds (u ++ tok k.Colon c ∷ v) (datum x t.tree ∷ [])
+  ds_more : {u v w : List Token} {xs : List RawDatum} {x : RawValue × Span} {t : Piece RawTy} (m c : Span) →
+      Ds u xs → W v x → T w t →
+      Ds (u ++ tok k.Comma m ∷ (v ++ tok k.Colon c ∷ w)) (xs ++ datum x t.tree ∷ [])
+
+-- < > | < W : T , .. , W : T >
+pub data Tuple : List Token → List RawDatum → Type 0 where
+  tu_none : (o c : Span) → Tuple (tok k.LeftAngle o ∷ (tok k.RightAngle c ∷ [])) []
+  tu_fields : {w : List Token} {xs : List RawDatum} (o c : Span) → Ds w xs →
+      Tuple (tok k.LeftAngle o ∷ (w ++ tok k.RightAngle c ∷ [])) xs
+
+-- Item ::= Block | label : data < > | label : data < W : T , .. , W : T >
+pub data Item : List Token → RawItem → Type 0 where
+  it_block : {w : List Token} {b : RawBlock} → Block w b → Item w (BlockItem b)
+  it_data : {w : List Token} {xs : List RawDatum} (l c d : Span) → Tuple w xs →
+      Item (tok k.Name l ∷ (tok k.Colon c ∷ (tok k.Data d ∷ w))) (DataItem (record { name = l; fields = xs }))
+
+-- Item .. Item, any number of them
+pub data Items : List Token → List RawItem → Type 0 where
+  its_none : Items [] []
+  its_more : {u v : List Token} {xs : List RawItem} {x : RawItem} → Items u xs → Item v x → Items (u ++ v) (xs ++ x ∷ [])
+
+-- a block is among the items
+abbrev pub HasBlock : List RawItem → Type 0
+HasBlock xs = 1 ≤ length (blocks_in xs)
+
+-- Program ::= tal 1 Block .. Block | tal 2 Item .. Item, by the number's value; in either there is a block
+pub data Program : List Token → List RawItem → Type 0 where
+  p_blocks : {w : List Token} {bs : List RawBlock} (t n : Span) → Blocks w bs →
+      Program (tok k.Tal t ∷ (tok (k.Plain (pos 1)) n ∷ w)) (block_items bs)
+  p_items : {w : List Token} {xs : List RawItem} (t n : Span) → Items w xs → HasBlock xs →
+      Program (tok k.Tal t ∷ (tok (k.Plain (pos 2)) n ∷ w)) xs
 
 -- For each token of a form, how many constructs are open at it, where d are open around the form: a bracket `<`, `[` or
 -- `{` up to and with the closing one, `some` to the end of its type.
@@ -240,14 +294,37 @@ abbrev pub open_Blocks : {w : List Token} {bs : List RawBlock} → Blocks w bs �
 open_Blocks (bs_one x) d = open_Block x d
 open_Blocks (bs_more x y) d = open_Blocks x d ++ open_Block y d
 
-abbrev pub open_Program : {w : List Token} {bs : List RawBlock} → Program w bs → ℕ → List ℕ
-open_Program (p_program t n x) d = d ∷ (d ∷ open_Blocks x d)
+abbrev pub open_W : {w : List Token} {x : RawValue × Span} → W w x → ℕ → List ℕ
+open_W (w_base q) d = d ∷ []
+open_W (w_apply o c q x) d = d ∷ (suc d ∷ (open_Ts x (suc d) ++ suc d ∷ []))
+open_W (w_pack p o m c a x y z) d =
+    d ∷ (suc d ∷ (open_T x (suc d) ++ suc d ∷ (open_W y (suc d) ++ suc d ∷ (d ∷ open_T z d))))
+
+abbrev pub open_Ds : {w : List Token} {xs : List RawDatum} → Ds w xs → ℕ → List ℕ
+open_Ds (ds_one c x y) d = open_W x d ++ d ∷ open_T y d
+open_Ds (ds_more m c x y z) d = open_Ds x d ++ d ∷ (open_W y d ++ d ∷ open_T z d)
+
+abbrev pub open_Tuple : {w : List Token} {xs : List RawDatum} → Tuple w xs → ℕ → List ℕ
+open_Tuple (tu_none o c) d = suc d ∷ (suc d ∷ [])
+open_Tuple (tu_fields o c x) d = suc d ∷ (open_Ds x (suc d) ++ suc d ∷ [])
+
+abbrev pub open_Item : {w : List Token} {x : RawItem} → Item w x → ℕ → List ℕ
+open_Item (it_block x) d = open_Block x d
+open_Item (it_data l c e x) d = d ∷ (d ∷ (d ∷ open_Tuple x d))
+
+abbrev pub open_Items : {w : List Token} {xs : List RawItem} → Items w xs → ℕ → List ℕ
+open_Items its_none d = []
+open_Items (its_more x y) d = open_Items x d ++ open_Item y d
+
+abbrev pub open_Program : {w : List Token} {xs : List RawItem} → Program w xs → ℕ → List ℕ
+open_Program (p_blocks t n x) d = d ∷ (d ∷ open_Blocks x d)
+open_Program (p_items t n x h) d = d ∷ (d ∷ open_Items x d)
 
 -- the grammar of assembly texts, with the number of constructs that are open at each token
 abbrev pub assembly_grammar : Grammar
 assembly_grammar = record {
   Tok = Token;
-  Tree = List RawBlock;
+  Tree = List RawItem;
   Shape = λ w t. Program w t;
   opens = λ w t e. open_Program e 0;
 }

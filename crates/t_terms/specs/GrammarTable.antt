@@ -1,5 +1,5 @@
 -- The table of the grammar: how it is read one token ahead.
-use Rattle.std.specs.Prelude.{ℕ, ℤ, pos, nat_abs, ◌==◌, ◌||◌, List, [], ◌∷◌, ◌++◌, Option, Some, None, Bool, true, false}
+use Rattle.std.specs.Prelude.{ℕ, ℤ, pos, nat_abs, ◌==◌, ◌||◌, if◌then◌else◌, List, [], ◌∷◌, ◌++◌, Option, Some, None, Bool, true, false}
 use Rattle.idx_core.specs.declared.span.Span.{Span}
 use Rattle.idx_core.specs.declared.arith.Op.{Op}
 use Rattle.idx_core.specs.declared.arith.Op.TheVariants.{Add, Sub, Mul}
@@ -10,14 +10,26 @@ use Rattle.t_terms.specs.declared.wanted.Wanted.{Wanted}
 use Rattle.t_terms.specs.declared.wanted.Wanted.TheVariants as want
 use Rattle.text_core.specs.Table as table_of
 use Rattle.text_core.specs.Table.{Sym, Tm, Nt, Do, Mark, Table, then_more}
-use Rattle.t_terms.specs.Raw.{RawTy, RInt, RName, RCode, RSome, RTuple, RawRegs, RawReg, RawField, raw_regs, raw_fields, RawBase, RReg, RNum, RLabel, RawValue, RPlain, RPack, RawInstr, RArith, RBnz, RLd, RMalloc, RMov, RSt, RUnpack, RawEnd, RJmp, RHalt, RawBlock, Piece, ending, up_to}
-use Rattle.t_terms.specs.Grammar.{Program, open_Program}
+use Rattle.t_terms.specs.Raw.{RawTy, RInt, RName, RCode, RSome, RTuple, RawRegs, RawReg, RawField, raw_regs, raw_fields, RawBase, RReg, RNum, RLabel, RawValue, RPlain, RPack, RawInstr, RArith, RBnz, RLd, RMalloc, RMov, RSt, RUnpack, RawEnd, RJmp, RHalt, RawBlock, RawDatum, RawItem, BlockItem, DataItem, block_items, Piece, ending, up_to}
+use Rattle.t_terms.specs.Grammar.{datum, Program, open_Program}
 
 -- the lines: those of the grammar, what stands in brackets of its forms, and what may follow on a part
 pub data Line : Type 0 where
   LProgram : Line
+  -- what follows on the word of the header: its number, and what it heads
+  LHeader : Line
   LBlock : Line
   LMoreBlocks : Line
+  -- items of which one is a block, and what follows on the label of the first of them; any more items
+  LSomeItems : Line
+  LFirst : Line
+  LMoreItems : Line
+  -- what follows on the label of an item
+  LItem : Line
+  -- < > or < W : T , .. , W : T >, what follows on the bracket, and more fields
+  LTuple : Line
+  LDatums : Line
+  LMoreDatums : Line
   -- [ names ], and what follows on the bracket
   LBinds : Line
   LNames : Line
@@ -39,6 +51,10 @@ pub data Line : Type 0 where
   LArgs : Line
   -- [ T , V ]
   LPacked : Line
+  -- the same of the values of data
+  LW : Line
+  LWordArgs : Line
+  LWordPacked : Line
   -- reg ,
   LTo : Line
   -- reg [ n ], and [ n ]
@@ -101,6 +117,20 @@ pub data Act : Type 0 where
   MakeBlock : Act
   MakeFirstBlock : Act
   MakeNextBlock : Act
+  MakeWord : Act
+  MakeWordApply : Act
+  MakeWordPacked : Act
+  MakeWordPack : Act
+  MakeNoDatums : Act
+  MakeFirstDatum : Act
+  MakeNextDatum : Act
+  MakeClosedDatums : Act
+  MakeTuple : Act
+  MakeBlockItem : Act
+  MakeDataItem : Act
+  MakeNoItems : Act
+  MakeNextItem : Act
+  MakeHeaded : Act
   MakeProgram : Act
 
 abbrev pub Stack : Type 0
@@ -142,6 +172,11 @@ pub data Val : Type 0 where
   OfEnd : RawEnd × Span → Val
   OfBlock : RawBlock → Val
   OfBlocks : List RawBlock → Val
+  OfWord : RawValue × Span → Val
+  OfDatums : List RawDatum → Val
+  OfTuple : List RawDatum → Val
+  OfItem : RawItem → Val
+  OfItems : List RawItem → Val
 
 abbrev pub one_value : ℤ → Bool
 one_value (pos n) = n == 1
@@ -159,7 +194,6 @@ abbrev pub fits : Wanted → Kind → Bool
 fits want.Name k.Name = true
 fits want.Register (k.Register r) = true
 fits want.Number (k.Plain z) = true
-fits want.One (k.Plain z) = one_value z
 fits want.Flag (k.Plain z) = flag_value z
 fits want.Flag (k.Negative z) = zero_value z
 fits want.LeftBracket k.LeftBracket = true
@@ -200,6 +234,9 @@ base_of _ s = RLabel s
 abbrev pub applied : RawValue → List RawTy → RawValue
 applied (RPlain b us) ts = RPlain b ts
 applied (RPack t v s) ts = RPack t v s
+
+abbrev pub word_applied : RawValue × Span → Piece (List RawTy) → RawValue × Span
+word_applied x l = (applied x.0 l.tree, up_to x.1 l.end)
 
 abbrev pub reg_of : Token → RawTy → RawReg
 reg_of r t = record { reg = register_of r.kind; place = r.span; ty = t }
@@ -265,7 +302,26 @@ act MakeBlock (OfEnd e ∷ OfSteps is ∷ OfToken p ∷ OfFile f ∷ OfNames ns 
     OfBlock (record { name = l.span; names = ns; file = f.tree; body = is; last = e }) ∷ vs
 act MakeFirstBlock (OfBlock b ∷ vs) = OfBlocks (b ∷ []) ∷ vs
 act MakeNextBlock (OfBlock b ∷ OfBlocks bs ∷ vs) = OfBlocks (bs ++ b ∷ []) ∷ vs
-act MakeProgram (OfBlocks bs ∷ OfToken n ∷ OfToken t ∷ vs) = OfBlocks bs ∷ vs
+act MakeWord (OfToken b ∷ vs) = OfWord (RPlain (base_of b.kind b.span) [], b.span) ∷ vs
+act MakeWordApply (OfList l ∷ OfToken o ∷ OfWord x ∷ vs) = OfWord (word_applied x l) ∷ vs
+act MakeWordPacked (OfToken c ∷ OfWord x ∷ OfToken m ∷ OfType t ∷ OfToken o ∷ vs) =
+    OfPacked (record { hidden = t.tree; inner = x.0 }) ∷ vs
+act MakeWordPack (OfType s ∷ OfToken a ∷ OfPacked x ∷ OfToken p ∷ vs) =
+    OfWord (RPack x.hidden x.inner s.tree, up_to p.span s.end) ∷ vs
+act MakeNoDatums (OfToken c ∷ vs) = OfTuple [] ∷ vs
+act MakeFirstDatum (OfType t ∷ OfToken c ∷ OfWord x ∷ vs) = OfDatums (datum x t.tree ∷ []) ∷ vs
+act MakeNextDatum (OfType t ∷ OfToken c ∷ OfWord x ∷ OfToken m ∷ OfDatums xs ∷ vs) =
+    OfDatums (xs ++ datum x t.tree ∷ []) ∷ vs
+act MakeClosedDatums (OfToken c ∷ OfDatums xs ∷ vs) = OfTuple xs ∷ vs
+act MakeTuple (OfTuple xs ∷ OfToken o ∷ vs) = OfTuple xs ∷ vs
+act MakeBlockItem (OfBlock b ∷ vs) = OfItem (BlockItem b) ∷ vs
+act MakeDataItem (OfTuple xs ∷ OfToken d ∷ OfToken c ∷ OfToken l ∷ vs) =
+    OfItem (DataItem (record { name = l.span; fields = xs })) ∷ vs
+act MakeNoItems vs = OfItems [] ∷ vs
+act MakeNextItem (OfItem x ∷ OfItems xs ∷ vs) = OfItems (xs ++ x ∷ []) ∷ vs
+act MakeHeaded (OfBlocks bs ∷ OfToken n ∷ vs) = OfItems (block_items bs) ∷ vs
+act MakeHeaded (OfItems xs ∷ OfToken n ∷ vs) = OfItems xs ∷ vs
+act MakeProgram (OfItems xs ∷ OfToken t ∷ vs) = OfItems xs ∷ vs
 act _ vs = vs
 
 -- what is still owed of a line after its first token, or none where it cannot begin with it
@@ -403,10 +459,16 @@ end_after k.Jmp = Some (Nt LV ∷ (Do MakeJmp ∷ []))
 end_after k.Halt = Some (Nt LInt ∷ (Do MakeHalt ∷ []))
 end_after _ = None
 
+-- of a block after `code`, after its label, and of a data tuple after `data`
+abbrev pub code_owed : Stack
+code_owed = Nt LBinds ∷
+    (Nt LFile ∷ (Tm want.Dot ∷ (Do MakeNoSteps ∷ (Nt LMoreSteps ∷ (Nt LEnd ∷ (Do MakeBlock ∷ []))))))
+
 abbrev pub block_owed : Stack
-block_owed = Tm want.Colon ∷
-    (Tm want.Code ∷ (Nt LBinds ∷
-    (Nt LFile ∷ (Tm want.Dot ∷ (Do MakeNoSteps ∷ (Nt LMoreSteps ∷ (Nt LEnd ∷ (Do MakeBlock ∷ []))))))))
+block_owed = Tm want.Colon ∷ (Tm want.Code ∷ code_owed)
+
+abbrev pub data_owed : Stack
+data_owed = Nt LTuple ∷ (Do MakeDataItem ∷ [])
 
 abbrev pub block_after : Kind → Option Stack
 block_after k.Name = Some block_owed
@@ -418,14 +480,97 @@ blocks_tail = Do MakeNextBlock ∷ (Nt LMoreBlocks ∷ [])
 abbrev pub blocks_after : Kind → Option Stack
 blocks_after c = then_more (block_after c) blocks_tail
 
+-- the values of data
+abbrev pub word_owed : Stack
+word_owed = Do MakeWord ∷ (Nt LWordArgs ∷ [])
+
+abbrev pub word_after : Kind → Option Stack
+word_after (k.Plain z) = Some word_owed
+word_after (k.Negative z) = Some word_owed
+word_after k.Name = Some word_owed
+word_after k.Pack = Some (Nt LWordPacked ∷ (Tm want.As ∷ (Nt LT ∷ (Do MakeWordPack ∷ []))))
+word_after _ = None
+
+abbrev pub word_args_after : Kind → Option Stack
+word_args_after k.LeftBracket = Some (Nt LSomeTypes ∷ (Mark ∷ (Do MakeWordApply ∷ [])))
+word_args_after _ = None
+
+abbrev pub word_packed_after : Kind → Option Stack
+word_packed_after k.LeftBracket =
+    Some (Nt LT ∷ (Tm want.Comma ∷ (Nt LW ∷ (Tm want.RightBracket ∷ (Mark ∷ (Do MakeWordPacked ∷ []))))))
+word_packed_after _ = None
+
+abbrev pub tuple_after : Kind → Option Stack
+tuple_after k.LeftAngle = Some (Nt LDatums ∷ (Mark ∷ (Do MakeTuple ∷ [])))
+tuple_after _ = None
+
+abbrev pub datums_tail : Stack
+datums_tail = Tm want.Colon ∷
+    (Nt LT ∷ (Do MakeFirstDatum ∷ (Nt LMoreDatums ∷ (Tm want.RightAngle ∷ (Do MakeClosedDatums ∷ [])))))
+
+abbrev pub datums_after : Kind → Option Stack
+datums_after k.RightAngle = Some (Do MakeNoDatums ∷ [])
+datums_after c = then_more (word_after c) datums_tail
+
+abbrev pub datum_commas_after : Kind → Option Stack
+datum_commas_after k.Comma =
+    Some (Nt LW ∷ (Tm want.Colon ∷ (Nt LT ∷ (Do MakeNextDatum ∷ (Nt LMoreDatums ∷ [])))))
+datum_commas_after _ = None
+
+-- the word after an item's label says which it is
+abbrev pub item_after : Kind → Option Stack
+item_after k.Code = Some (code_owed ++ Do MakeBlockItem ∷ [])
+item_after k.Data = Some data_owed
+item_after _ = None
+
+abbrev pub items_tail : Stack
+items_tail = Do MakeNextItem ∷ (Nt LMoreItems ∷ [])
+
+abbrev pub items_after : Kind → Option Stack
+items_after k.Name = Some (Tm want.Colon ∷ (Nt LItem ∷ items_tail))
+items_after _ = None
+
+-- as long as no block stood, one is owed
+abbrev pub some_items_after : Kind → Option Stack
+some_items_after k.Name = Some (Tm want.Colon ∷ (Nt LFirst ∷ []))
+some_items_after _ = None
+
+abbrev pub first_after : Kind → Option Stack
+first_after k.Code = Some (code_owed ++ Do MakeBlockItem ∷ items_tail)
+first_after k.Data = Some (data_owed ++ Do MakeNextItem ∷ (Nt LSomeItems ∷ []))
+first_after _ = None
+
+-- by the number's value
+abbrev pub blocks_owed : Stack
+blocks_owed = Nt LBlock ∷ (Do MakeFirstBlock ∷ (Nt LMoreBlocks ∷ (Do MakeHeaded ∷ [])))
+
+abbrev pub items_owed : Stack
+items_owed = Do MakeNoItems ∷ (Nt LSomeItems ∷ (Do MakeHeaded ∷ []))
+
+abbrev pub headed : ℤ → Option Stack
+headed (pos n) = if n == 1 then Some blocks_owed else if n == 2 then Some items_owed else None
+headed _ = None
+
+abbrev pub header_after : Kind → Option Stack
+header_after (k.Plain z) = headed z
+header_after _ = None
+
 abbrev pub program_after : Kind → Option Stack
-program_after k.Tal = Some (Tm want.One ∷ (Nt LBlock ∷ (Do MakeFirstBlock ∷ (Nt LMoreBlocks ∷ (Do MakeProgram ∷ [])))))
+program_after k.Tal = Some (Nt LHeader ∷ (Do MakeProgram ∷ []))
 program_after _ = None
 
 abbrev pub after : Line → Kind → Option Stack
 after LProgram c = program_after c
+after LHeader c = header_after c
 after LBlock c = block_after c
 after LMoreBlocks c = blocks_after c
+after LSomeItems c = some_items_after c
+after LFirst c = first_after c
+after LMoreItems c = items_after c
+after LItem c = item_after c
+after LTuple c = tuple_after c
+after LDatums c = datums_after c
+after LMoreDatums c = datum_commas_after c
 after LBinds c = binds_after c
 after LNames c = name_list_after c
 after LMoreNames c = name_commas_after c
@@ -442,6 +587,9 @@ after LMoreTypes c = type_commas_after c
 after LV c = value_after c
 after LArgs c = args_after c
 after LPacked c = packed_after c
+after LW c = word_after c
+after LWordArgs c = word_args_after c
+after LWordPacked c = word_packed_after c
 after LTo c = to_after c
 after LAt c = at_after c
 after LIndex c = index_after c
@@ -453,18 +601,21 @@ after LEnd c = end_after c
 
 abbrev pub may_end : Line → Bool
 may_end LMoreBlocks = true
+may_end LMoreItems = true
+may_end LMoreDatums = true
 may_end LMoreNames = true
 may_end LMoreRegs = true
 may_end LMoreFields = true
 may_end LMoreTypes = true
 may_end LArgs = true
+may_end LWordArgs = true
 may_end LMoreSteps = true
 may_end _ = false
 
 abbrev pub table : Table
 table = record {
   Tok = Token;
-  Tree = List RawBlock;
+  Tree = List RawItem;
   Shape = λ w t. Program w t;
   opens = λ w t e. open_Program e 0;
   Class = Wanted;
@@ -476,7 +627,7 @@ table = record {
   after = λ n t. after n t.kind;
   may_end = may_end;
   act = act;
-  tree = λ t. OfBlocks t;
+  tree = λ t. OfItems t;
   first = LProgram;
 }
 

@@ -5,7 +5,7 @@ use Rattle.idx_core.specs.declared.span.Span.{Span}
 use Rattle.idx_core.specs.Names.{Name}
 use Rattle.t_terms.specs.declared.fault.TCode.{TCode}
 use Rattle.t_terms.specs.declared.fault.TCode.TheVariants.{T04, T05, T06, T07}
-use Rattle.t_terms.specs.Raw.{RawTy, RInt, RName, RCode, RSome, RTuple, RawRegs, NoRawRegs, MoreRawRegs, RawFields, NoRawFields, MoreRawFields, RawBase, RReg, RNum, RLabel, RawValue, RPlain, RPack, RawInstr, RArith, RBnz, RLd, RMalloc, RMov, RSt, RUnpack, RawEnd, RJmp, RHalt, RawBlock}
+use Rattle.t_terms.specs.Raw.{RawTy, RInt, RName, RCode, RSome, RTuple, RawRegs, NoRawRegs, MoreRawRegs, RawFields, NoRawFields, MoreRawFields, RawBase, RReg, RNum, RLabel, RawValue, RPlain, RPack, RawInstr, RArith, RBnz, RLd, RMalloc, RMov, RSt, RUnpack, RawEnd, RJmp, RHalt, RawBlock, RawDatum, RawItem, BlockItem, DataItem, item_name}
 use Rattle.t_terms.specs.Names.{Labels, spelled, is_among, bind, named_by, names_after, names_after_all, labels_of}
 
 -- a fault at a place, where there is one
@@ -67,12 +67,24 @@ block_faults text ls b =
     (body_faults text ls (bind text b.names []) b.body
     ++ end_faults text ls (names_after_all text b.body (bind text b.names [])) b.last.0)
 
--- a label that a block before has
-abbrev pub blocks_faults : List ℕ → Labels → List Name → List RawBlock → List (TCode × Span)
-blocks_faults text ls before [] = []
-blocks_faults text ls before (b ∷ bs) =
-    only_if (is_among (spelled text b.name) before) T04 b.name
-    ++ (block_faults text ls b ++ blocks_faults text ls (spelled text b.name ∷ before) bs)
+-- a data tuple stands under no type names
+abbrev pub datum_faults : List ℕ → Labels → RawDatum → List (TCode × Span)
+datum_faults text ls x = value_faults text ls [] x.value ++ type_faults text [] x.ty
 
-abbrev pub program_faults : List ℕ → List RawBlock → List (TCode × Span)
-program_faults text bs = blocks_faults text (labels_of text bs) [] bs
+abbrev pub data_faults : List ℕ → Labels → List RawDatum → List (TCode × Span)
+data_faults text ls [] = []
+data_faults text ls (x ∷ xs) = datum_faults text ls x ++ data_faults text ls xs
+
+abbrev pub item_faults : List ℕ → Labels → RawItem → List (TCode × Span)
+item_faults text ls (BlockItem b) = block_faults text ls b
+item_faults text ls (DataItem x) = data_faults text ls x.fields
+
+-- a label that an item before has
+abbrev pub items_faults : List ℕ → Labels → List Name → List RawItem → List (TCode × Span)
+items_faults text ls before [] = []
+items_faults text ls before (x ∷ xs) =
+    only_if (is_among (spelled text (item_name x)) before) T04 (item_name x)
+    ++ (item_faults text ls x ++ items_faults text ls (spelled text (item_name x) ∷ before) xs)
+
+abbrev pub program_faults : List ℕ → List RawItem → List (TCode × Span)
+program_faults text xs = items_faults text (labels_of text xs) [] xs

@@ -4,9 +4,9 @@ use Rattle.std.specs.List.{list_any, position_or_len}
 use Rattle.idx_core.specs.declared.span.Span.{Span}
 use Rattle.idx_core.specs.Names.{Name}
 use Rattle.t_types.specs.Tree.{Ty, IntTy, VarTy, CodeTy, ExistsTy, TupleTy, TFile, NoRegs, MoreRegs, TFields, NoFields, MoreFields}
-use Rattle.t_terms.specs.Tree.{TBase, Reg, Int, Label, TValue, Plain, Pack, TInstr, Arith, Bnz, Ld, Malloc, Mov, St, Unpack, TEnd, Jmp, Halt}
-use Rattle.t_terms.specs.Spanned.{SBlock, SProg}
-use Rattle.t_terms.specs.Raw.{RawTy, RInt, RName, RCode, RSome, RTuple, RawRegs, NoRawRegs, MoreRawRegs, RawFields, NoRawFields, MoreRawFields, RawBase, RReg, RNum, RLabel, RawValue, RPlain, RPack, RawInstr, RArith, RBnz, RLd, RMalloc, RMov, RSt, RUnpack, RawEnd, RJmp, RHalt, RawBlock}
+use Rattle.t_terms.specs.Tree.{TBase, Reg, Int, Label, Data, TValue, Plain, Pack, TInstr, Arith, Bnz, Ld, Malloc, Mov, St, Unpack, TEnd, Jmp, Halt}
+use Rattle.t_terms.specs.Spanned.{SBlock, SDatum, SData, SProg}
+use Rattle.t_terms.specs.Raw.{RawTy, RInt, RName, RCode, RSome, RTuple, RawRegs, NoRawRegs, MoreRawRegs, RawFields, NoRawFields, MoreRawFields, RawBase, RReg, RNum, RLabel, RawValue, RPlain, RPack, RawInstr, RArith, RBnz, RLd, RMalloc, RMov, RSt, RUnpack, RawEnd, RJmp, RHalt, RawBlock, RawDatum, RawData, RawItem, BlockItem, DataItem, blocks_in, data_in}
 
 -- the bytes of the text at a place
 abbrev pub spelled : List ℕ → Span → Name
@@ -115,14 +115,25 @@ block_of text ls b = record {
   last_span = b.last.1;
 }
 
--- the labels of blocks in turn, with k blocks before them
-abbrev pub block_labels : List ℕ → ℕ → List RawBlock → Labels
-block_labels text k [] = []
-block_labels text k (b ∷ bs) = (spelled text b.name, Label k) ∷ block_labels text (suc k) bs
+-- a data tuple stands under no type names
+abbrev pub datum_of : List ℕ → Labels → RawDatum → SDatum
+datum_of text ls x = record { value = value_of text ls [] x.value; ty = type_of text [] x.ty; span = x.place }
 
-abbrev pub labels_of : List ℕ → List RawBlock → Labels
-labels_of text bs = block_labels text 0 bs
+abbrev pub data_of : List ℕ → Labels → RawData → SData
+data_of text ls x = record { name = x.name; fields = map (datum_of text ls) x.fields }
 
--- a text of this grammar has no data
-abbrev pub program_of : List ℕ → List RawBlock → SProg
-program_of text bs = record { blocks = map (block_of text (labels_of text bs)) bs; heap = [] }
+-- the labels of items in turn, with k blocks and d data tuples before them: blocks and data are numbered apart
+abbrev pub item_labels : List ℕ → ℕ → ℕ → List RawItem → Labels
+item_labels text k d [] = []
+item_labels text k d (BlockItem b ∷ xs) = (spelled text b.name, Label k) ∷ item_labels text (suc k) d xs
+item_labels text k d (DataItem x ∷ xs) = (spelled text x.name, Data d) ∷ item_labels text k (suc d) xs
+
+abbrev pub labels_of : List ℕ → List RawItem → Labels
+labels_of text xs = item_labels text 0 0 xs
+
+-- the blocks and the data, each in the order of the text
+abbrev pub program_of : List ℕ → List RawItem → SProg
+program_of text xs = record {
+  blocks = map (block_of text (labels_of text xs)) (blocks_in xs);
+  heap = map (data_of text (labels_of text xs)) (data_in xs);
+}

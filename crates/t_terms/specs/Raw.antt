@@ -73,6 +73,43 @@ pub record RawBlock : Type 0 where
   pub body : List (RawInstr × Span)
   pub last : RawEnd × Span
 
+-- a field of a data tuple: its value with the value's place, and the type that is written for it
+pub record RawDatum : Type 0 where
+  pub value : RawValue
+  pub place : Span
+  pub ty : RawTy
+
+-- a data tuple: its label, and its fields
+pub record RawData : Type 0 where
+  pub name : Span
+  pub fields : List RawDatum
+
+-- what a text holds: blocks and data tuples, in any order
+pub data RawItem : Type 0 where
+  BlockItem : RawBlock → RawItem
+  DataItem : RawData → RawItem
+
+-- the label of an item
+abbrev pub item_name : RawItem → Span
+item_name (BlockItem b) = b.name
+item_name (DataItem x) = x.name
+
+-- the blocks of items, and their data, each in the order of the text
+abbrev pub blocks_in : List RawItem → List RawBlock
+blocks_in [] = []
+blocks_in (BlockItem b ∷ xs) = b ∷ blocks_in xs
+blocks_in (DataItem x ∷ xs) = blocks_in xs
+
+abbrev pub data_in : List RawItem → List RawData
+data_in [] = []
+data_in (BlockItem b ∷ xs) = data_in xs
+data_in (DataItem x ∷ xs) = x ∷ data_in xs
+
+-- blocks alone as items
+abbrev pub block_items : List RawBlock → List RawItem
+block_items [] = []
+block_items (b ∷ bs) = BlockItem b ∷ block_items bs
+
 -- a part of a text: its tree, and where its last token ends
 pub record Piece (A : Type 0) : Type 0 where
   pub tree : A

@@ -11,7 +11,7 @@ use Rattle.t_terms.specs.declared.token.Token.{Token}
 use Rattle.t_terms.specs.Tree.{TProg}
 use Rattle.t_terms.specs.Spanned.{SProg, plain_program}
 use Rattle.t_terms.specs.Tokens.{assembly, IsCut}
-use Rattle.t_terms.specs.Raw.{RawBlock}
+use Rattle.t_terms.specs.Raw.{RawItem}
 use Rattle.t_terms.specs.Grammar.{Program, assembly_grammar}
 use Rattle.t_terms.specs.Names.{program_of}
 use Rattle.t_terms.specs.NameFaults.{program_faults}
@@ -25,7 +25,7 @@ most_open = 2000
 pub record Stands (text : List ℕ) (P : SProg) : Type 0 where
   pub tokens : List Token
   pub cut : IsCut text tokens
-  pub raw : List RawBlock
+  pub raw : List RawItem
   pub shape : Program tokens raw
   pub named : program_faults text raw ≡ []
   pub is : P ≡ program_of text raw
@@ -62,7 +62,7 @@ pub data FirstFault (text : List ℕ) : TCode → Span → Type 0 where
       FirstFault text T03 (record { start = length text; end = length text })
   too_deep : {w u : List Token} {c : Token} {z : List Token} → IsCut text w →
       IsPassed assembly_grammar most_open w u c z → FirstFault text M1 c.span
-  in_names : {w : List Token} {raw : List RawBlock} {code : TCode} {span : Span} {rest : List (TCode × Span)} →
+  in_names : {w : List Token} {raw : List RawItem} {code : TCode} {span : Span} {rest : List (TCode × Span)} →
       IsCut text w → Program w raw → NonePasses assembly_grammar most_open w →
       program_faults text raw ≡ (code, span) ∷ rest → FirstFault text code span
 

@@ -29,7 +29,7 @@ pub enum Kind {
     Jmp,
     Halt,
     Int,
-    /// `data`, which no form of this language uses yet.
+    /// `data`, which stands in texts of the second version of the language.
     Data,
     /// `[`
     LeftBracket,

@@ -1,13 +1,12 @@
 // The classes of tokens that a form may owe.
 
-/// The classes of tokens that a form of an assembly text may owe (own choice). `Number` is a plain number, `One` a
-/// number whose value is 1, and `Flag` one whose value is 0 or 1.
+/// The classes of tokens that a form of an assembly text may owe (own choice). `Number` is a plain number, and `Flag`
+/// a number whose value is 0 or 1.
 #[derive(Clone, Copy, Debug, PartialEq, Eq)]
 pub enum Wanted {
     Name,
     Register,
     Number,
-    One,
     Flag,
     LeftBracket,
     RightBracket,

@@ -53,17 +53,17 @@ module _ (text : List ℕ) (p q : ℕ) (few : p ≤ 2 ^ 64) (small : q ≤ 2 ^ 6
   abbrev pub labels : Labels
   labels = data_from 0 q ++ labels_from 0 p
 
-  record WroteBase (i : ℕ) (b : TBase) : Type 0 where
-    token : Token
-    raw : RawBase
-    at : token_of i (base_written b) ≡ token ∷ []
-    whole : N token raw
-    valid : Valid (base_written b)
-    follows : (ls : List Lexeme) → stops ls true ≡ true → Follows (base_written b) ls true
-    means : base_of text labels raw ≡ b
-    none : base_faults text labels raw ≡ []
+  pub record WroteBase (i : ℕ) (b : TBase) : Type 0 where
+    pub token : Token
+    pub raw : RawBase
+    pub at : token_of i (base_written b) ≡ token ∷ []
+    pub whole : N token raw
+    pub valid : Valid (base_written b)
+    pub follows : (ls : List Lexeme) → stops ls true ≡ true → Follows (base_written b) ls true
+    pub means : base_of text labels raw ≡ b
+    pub none : base_faults text labels raw ≡ []
 
-  wrote_base : (i : ℕ) (b : TBase) → WellFormedBase p q b → BaseFits b → Written text i (base_written b ∷ []) → WroteBase i b
+  pub wrote_base : (i : ℕ) (b : TBase) → WellFormedBase p q b → BaseFits b → Written text i (base_written b ∷ []) → WroteBase i b
   wrote_base i (Reg r) h f w = record {
     token = tok (k.Register r) (placing.place_of i (Register r));
     raw = RReg r;

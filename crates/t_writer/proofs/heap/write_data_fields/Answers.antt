@@ -1,0 +1,7 @@
+use Rattle.t_writer.proofs.Filled.{filling_start, value_fits, type_fits, filling_more, filling_end, all_fit}
+use Rattle.t_writer.proofs.heap.write_data_fields.Goals as goal
+
+pub loop-i-preserved : goal.loop-i-preserved
+loop-i-preserved c =
+    filling_more c.args.fields.now c.loop-i.i _ _ c.loop-i.invariant _ c.index-fields-i.is c.loop-i-test.true _ _
+    c.in_ok-write_separator.ensures c.in_ok-write_datum.ensures.written c.in_ok-write_datum.ensures.ints

@@ -1,5 +1,5 @@
 -- Each shape is read whole.
-use Rattle.std.proofs.Common.{pos, ◌≡◌, ℕ, suc, List, [], ◌∷◌, ◌++◌, refl, ◌∙◌, ap, append_assoc, Option, Some, Bool}
+use Rattle.std.proofs.Common.{pos, ◌≡◌, ℕ, suc, ◌||◌, List, [], ◌∷◌, ◌++◌, refl, ◌∙◌, ap, append_assoc, Option, Some, Bool, true, false, arith}
 use Rattle.std.proofs.lemmas.List.{append-nil}
 use Rattle.idx_core.specs.declared.span.Span.{Span}
 use Rattle.idx_core.specs.declared.arith.Op.{Op}
@@ -7,12 +7,12 @@ use Rattle.t_terms.specs.declared.token.Kind.{Kind}
 use Rattle.t_terms.specs.declared.token.Kind.TheVariants as k
 use Rattle.t_terms.specs.declared.token.Token.{Token}
 use Rattle.t_terms.specs.declared.wanted.Wanted.TheVariants as want
-use Rattle.t_terms.specs.Raw.{RawTy, RawRegs, RawReg, RawField, RawBase, RawValue, RPlain, RawInstr, RawEnd, RawBlock, Piece, ending}
-use Rattle.t_terms.specs.Grammar.{tok, Names, ns_one, ns_more, Binds, bs_none, bs_names, IsFlag, is_zero, is_one, is_minus_zero, T, t_int, t_name, t_code, t_some, t_unit, t_tuple, File, f_none, f_regs, Rs, rs_one, rs_more, Fs, fs_one, fs_more, Ts, ts_one, ts_more, N, n_reg, n_plain, n_negative, n_label, V, v_base, v_apply, v_pack, IsOp, is_add, is_sub, is_mul, I, i_arith, i_bnz, i_ld, i_malloc_none, i_malloc, i_mov, i_st, i_unpack, Is, is_none, is_more, End, e_jmp, e_halt, Block, b_block, Blocks, bs_one, bs_more, Program, p_program, open_Names, open_Binds, open_T, open_File, open_Rs, open_Fs, open_Ts, open_V, open_I, open_Is, open_End, open_Block, open_Blocks, open_Program}
+use Rattle.t_terms.specs.Raw.{RawTy, RawRegs, RawReg, RawField, RawBase, RawValue, RPlain, RawInstr, RawEnd, RawBlock, RawDatum, RawItem, BlockItem, DataItem, block_items, Piece, ending}
+use Rattle.t_terms.specs.Grammar.{tok, Names, ns_one, ns_more, Binds, bs_none, bs_names, IsFlag, is_zero, is_one, is_minus_zero, T, t_int, t_name, t_code, t_some, t_unit, t_tuple, File, f_none, f_regs, Rs, rs_one, rs_more, Fs, fs_one, fs_more, Ts, ts_one, ts_more, N, n_reg, n_plain, n_negative, n_label, V, v_base, v_apply, v_pack, IsOp, is_add, is_sub, is_mul, I, i_arith, i_bnz, i_ld, i_malloc_none, i_malloc, i_mov, i_st, i_unpack, Is, is_none, is_more, End, e_jmp, e_halt, Block, b_block, Blocks, bs_one, bs_more, Q, q_plain, q_negative, q_label, W, w_base, w_apply, w_pack, Ds, ds_one, ds_more, Tuple, tu_none, tu_fields, Item, it_block, it_data, Items, its_none, its_more, HasBlock, Program, p_blocks, p_items, open_Names, open_Binds, open_T, open_File, open_Rs, open_Fs, open_Ts, open_V, open_I, open_Is, open_End, open_Block, open_Blocks, open_W, open_Ds, open_Tuple, open_Item, open_Items, open_Program}
 use Rattle.text_core.specs.Table.{Tm, Nt, Do, Mark, Done, Seen, then_more}
 use Rattle.text_core.proofs.Reading as reading
 use Rattle.text_core.proofs.Reading.{Opens, opens}
-use Rattle.t_terms.specs.GrammarTable.{table, Line, LProgram, LBlock, LMoreBlocks, LBinds, LNames, LMoreNames, LFile, LRegs, LMoreRegs, LT, LFields, LMoreFields, LTypeList, LSomeTypes, LMoreTypes, LV, LArgs, LTo, LI, LMoreSteps, LEnd, Act, MakeNoNames, MakeFirstName, MakeNextName, MakeClosedNames, MakeBinds, MakeNoRegs, MakeFirstReg, MakeNextReg, MakeClosedRegs, MakeFile, MakeTypeInt, MakeTypeName, MakeTypeCode, MakeTypeSome, MakeNoFields, MakeFirstField, MakeNextField, MakeClosedFields, MakeTypeTuple, MakeNoTypes, MakeFirstType, MakeNextType, MakeClosedTypes, MakeTypes, MakeBase, MakeApply, MakePacked, MakePack, MakeTo, MakeIndex, MakeAt, MakeInt, MakeArith, MakeBnz, MakeLd, MakeMalloc, MakeMov, MakeSt, MakeUnpack, MakeNoSteps, MakeNextStep, MakeJmp, MakeHalt, MakeBlock, MakeFirstBlock, MakeNextBlock, MakeProgram, Stack, Val, OfToken, OfNames, OfType, OfRegs, OfFile, OfFields, OfTypes, OfValue, OfStep, OfSteps, OfEnd, OfBlock, OfBlocks, act, type_after, fields_after, fields_tail, type_list_after, some_types_after, types_tail, instr_after, steps_after, steps_tail, block_after, blocks_after, blocks_tail, Outcome, marks, seen, exec}
+use Rattle.t_terms.specs.GrammarTable.{table, Line, LProgram, LBlock, LMoreBlocks, LBinds, LNames, LMoreNames, LFile, LRegs, LMoreRegs, LT, LFields, LMoreFields, LTypeList, LSomeTypes, LMoreTypes, LV, LArgs, LTo, LI, LMoreSteps, LEnd, LSomeItems, LMoreItems, LTuple, LDatums, LMoreDatums, LW, LWordArgs, Act, MakeNoNames, MakeFirstName, MakeNextName, MakeClosedNames, MakeBinds, MakeNoRegs, MakeFirstReg, MakeNextReg, MakeClosedRegs, MakeFile, MakeTypeInt, MakeTypeName, MakeTypeCode, MakeTypeSome, MakeNoFields, MakeFirstField, MakeNextField, MakeClosedFields, MakeTypeTuple, MakeNoTypes, MakeFirstType, MakeNextType, MakeClosedTypes, MakeTypes, MakeBase, MakeApply, MakePacked, MakePack, MakeTo, MakeIndex, MakeAt, MakeInt, MakeArith, MakeBnz, MakeLd, MakeMalloc, MakeMov, MakeSt, MakeUnpack, MakeNoSteps, MakeNextStep, MakeJmp, MakeHalt, MakeBlock, MakeFirstBlock, MakeNextBlock, MakeWord, MakeWordApply, MakeWordPacked, MakeWordPack, MakeNoDatums, MakeFirstDatum, MakeNextDatum, MakeClosedDatums, MakeTuple, MakeBlockItem, MakeDataItem, MakeNoItems, MakeNextItem, MakeHeaded, MakeProgram, Stack, Val, OfToken, OfNames, OfType, OfRegs, OfFile, OfFields, OfTypes, OfValue, OfStep, OfSteps, OfEnd, OfBlock, OfBlocks, OfWord, OfDatums, OfTuple, OfItems, act, type_after, fields_after, fields_tail, type_list_after, some_types_after, types_tail, instr_after, steps_after, steps_tail, block_after, blocks_after, blocks_tail, code_owed, word_after, datums_after, datums_tail, items_tail, Outcome, marks, seen, exec}
 
 pub do_now : (w : List Token) (a : Act) (s : Stack) (vs : List Val) → exec w (Do a ∷ s) vs ≡ exec w s (act a vs)
 do_now w a s vs = reading.do_now table w a s vs
@@ -23,7 +23,7 @@ marked w a s vs = reading.marked table w a s vs
 seen_append : (a b : List ℕ) (o : Outcome) → seen (a ++ b) o ≡ seen a (seen b o)
 seen_append a b o = reading.seen_append table a b o
 
-under : (a : List ℕ) {x y : Outcome} → x ≡ y → seen a x ≡ seen a y
+pub under : (a : List ℕ) {x y : Outcome} → x ≡ y → seen a x ≡ seen a y
 under a e = reading.under table a e
 
 pub next : (n : ℕ) {x y : Outcome} → x ≡ y → Seen n x ≡ Seen n y
@@ -50,6 +50,10 @@ steps_instr c r e = ap (λ (o : Option Stack). then_more o steps_tail) e
 pub blocks_block : (c : Kind) (r : Stack) → block_after c ≡ Some r → blocks_after c ≡ Some (r ++ blocks_tail)
 blocks_block c r e = ap (λ (o : Option Stack). then_more o blocks_tail) e
 
+pub datums_word : (c : Kind) (r : Stack) → word_after c ≡ Some r → datums_after c ≡ Some (r ++ datums_tail)
+datums_word k.RightAngle r e = absurd (cc)
+datums_word _ r e = ap (λ (o : Option Stack). then_more o datums_tail) e
+
 fields_as_type : {w : List Token} → Opens table LT w → (s : Stack) (vs : List Val) → exec w (Nt LFields ∷ s) vs ≡ exec w (Nt LT ∷ (fields_tail ++ s)) vs
 fields_as_type o s vs = reading.as_line table LT LFields fields_tail (λ c r e. fields_type c.kind r e) o s vs
 
@@ -64,6 +68,10 @@ steps_as_instr o s vs = reading.as_line table LI LMoreSteps steps_tail (λ c r e
 
 blocks_as_block : {w : List Token} → Opens table LBlock w → (s : Stack) (vs : List Val) → exec w (Nt LMoreBlocks ∷ s) vs ≡ exec w (Nt LBlock ∷ (blocks_tail ++ s)) vs
 blocks_as_block o s vs = reading.as_line table LBlock LMoreBlocks blocks_tail (λ c r e. blocks_block c.kind r e) o s vs
+
+datums_as_word : {w : List Token} → Opens table LW w → (s : Stack) (vs : List Val) →
+    exec w (Nt LDatums ∷ s) vs ≡ exec w (Nt LW ∷ (datums_tail ++ s)) vs
+datums_as_word o s vs = reading.as_line table LW LDatums datums_tail (λ c r e. datums_word c.kind r e) o s vs
 
 -- what begins with a form begins its line
 more : (n : Line) {u : List Token} (w : List Token) → Opens table n u → Opens table n (u ++ w)
@@ -100,7 +108,20 @@ first_I (i_unpack a o n b d c e rd x) = opens _ _ _ refl
 first_Block : {w : List Token} {b : RawBlock} → Block w b → Opens table LBlock w
 first_Block (b_block l c d p x y z e) = opens _ _ _ refl
 
--- no type arguments begin with an instruction, an end or a block, and no instruction with an end
+first_W : {w : List Token} {x : RawValue × Span} → W w x → Opens table LW w
+first_W (w_base (q_plain z s)) = opens _ _ _ refl
+first_W (w_base (q_negative z s)) = opens _ _ _ refl
+first_W (w_base (q_label s)) = opens _ _ _ refl
+first_W (w_apply o c (q_plain z s) x) = opens _ _ _ refl
+first_W (w_apply o c (q_negative z s) x) = opens _ _ _ refl
+first_W (w_apply o c (q_label s) x) = opens _ _ _ refl
+first_W (w_pack p o m c a x y z) = opens _ _ _ refl
+
+first_Ds : {w : List Token} {xs : List RawDatum} → Ds w xs → Opens table LW w
+first_Ds (ds_one {v} c x y) = more LW (tok k.Colon c ∷ v) (first_W x)
+first_Ds (ds_more {v} {w} m c x y z) = more LW (tok k.Comma m ∷ (v ++ tok k.Colon c ∷ w)) (first_Ds x)
+
+-- no type arguments begin with an instruction, an end, a block or an item, and no instruction with an end
 leaves_I : {w : List Token} {i : RawInstr × Span} → I w i → (rest : List Token) → Leaves LArgs (w ++ rest)
 leaves_I (i_arith a b c d e rd rs is_add x) rest = λ _ _. refl
 leaves_I (i_arith a b c d e rd rs is_sub x) rest = λ _ _. refl
@@ -123,6 +144,10 @@ ends_steps (e_halt a o i c) rest = λ _ _. refl
 
 leaves_Block : {w : List Token} {b : RawBlock} → Block w b → (rest : List Token) → Leaves LArgs (w ++ rest)
 leaves_Block (b_block l c d p x y z e) rest = λ _ _. refl
+
+leaves_Item : {w : List Token} {x : RawItem} → Item w x → (rest : List Token) → Leaves LArgs (w ++ rest)
+leaves_Item (it_block x) rest = leaves_Block x rest
+leaves_Item (it_data l c d x) rest = λ _ _. refl
 
 read_Names : {w : List Token} {ns : List Span} (x : Names w ns) (s : Stack) (vs : List Val) (rest : List Token) →
     exec (w ++ rest) (Nt LNames ∷ s) vs ≡ seen (open_Names x (marks s)) (exec rest (Nt LMoreNames ∷ (Tm want.RightBracket ∷ (Do MakeClosedNames ∷ s))) (OfNames ns ∷ vs))
@@ -300,14 +325,20 @@ read_End (e_jmp a x) s vs rest g = next (marks s) (read_V x (Do MakeJmp ∷ s) _
 read_End (e_halt a o i c) s vs rest g =
     let m = marks s in next m (next (suc m) (next (suc m) (next (suc m) (marked rest MakeInt (Do MakeHalt ∷ s) _ ∙ do_now rest MakeHalt s _))))
 
-read_Block : {w : List Token} {b : RawBlock} (x : Block w b) (s : Stack) (vs : List Val) (rest : List Token) → Leaves LArgs rest →
-    exec (w ++ rest) (Nt LBlock ∷ s) vs ≡ seen (open_Block x (marks s)) (exec rest s (OfBlock b ∷ vs))
-read_Block (b_block {u} {v} {w} {x} l c d p a f i e) s vs rest g =
+-- what follows on the word of a block
+read_code : {u v w x : List Token} {ns : List Span} {file : Piece RawRegs} {is : List (RawInstr × Span)}
+    {last : RawEnd × Span} (l c d p : Span) (a : Binds u ns) (f : File v file) (i : Is w is) (e : End x last)
+    (s : Stack) (vs : List Val) (rest : List Token) → Leaves LArgs rest →
+    exec ((u ++ (v ++ tok k.Dot p ∷ (w ++ x))) ++ rest) (code_owed ++ s)
+    (OfToken (tok k.Code d) ∷ (OfToken (tok k.Colon c) ∷ (OfToken (tok k.Name l) ∷ vs))) ≡
+    seen (open_Binds a (marks s) ++
+    (open_File f (marks s) ++ marks s ∷ (open_Is i (marks s) ++ open_End e (marks s))))
+    (exec rest s (OfBlock (record { name = l; names = ns; file = file.tree; body = is; last = last }) ∷ vs))
+read_code {u} {v} {w} {x} l c d p a f i e s vs rest g =
     let m = marks s in
     let after_is = Nt LEnd ∷ (Do MakeBlock ∷ s) in
     let after_file = Tm want.Dot ∷ (Do MakeNoSteps ∷ (Nt LMoreSteps ∷ after_is)) in
-    next m (next m (next m
-    (rw (
+    rw (
       append_assoc u (v ++ tok k.Dot p ∷ (w ++ x)) rest,
       append_assoc v (tok k.Dot p ∷ (w ++ x)) rest,
       append_assoc w x rest,
@@ -319,7 +350,13 @@ read_Block (b_block {u} {v} {w} {x} l c d p a f i e) s vs rest g =
     (read_File f after_file _ (tok k.Dot p ∷ (w ++ (x ++ rest))) ∙ under (open_File f m) (next m
     (do_now (w ++ (x ++ rest)) MakeNoSteps (Nt LMoreSteps ∷ after_is) _ ∙
     (read_Is i after_is _ (x ++ rest) (leaves_End e rest) ∙ under (open_Is i m)
-    (ends_steps e rest after_is _ ∙ (read_End e (Do MakeBlock ∷ s) _ rest g ∙ under (open_End e m) (do_now rest MakeBlock s _)))))))))))
+    (ends_steps e rest after_is _ ∙
+    (read_End e (Do MakeBlock ∷ s) _ rest g ∙ under (open_End e m) (do_now rest MakeBlock s _))))))))
+
+read_Block : {w : List Token} {b : RawBlock} (x : Block w b) (s : Stack) (vs : List Val) (rest : List Token) →
+    Leaves LArgs rest → exec (w ++ rest) (Nt LBlock ∷ s) vs ≡ seen (open_Block x (marks s)) (exec rest s (OfBlock b ∷ vs))
+read_Block (b_block l c d p a f i e) s vs rest g =
+    next (marks s) (next (marks s) (next (marks s) (read_code l c d p a f i e s vs rest g)))
 
 read_Blocks : {w : List Token} {bs : List RawBlock} (x : Blocks w bs) (s : Stack) (vs : List Val) (rest : List Token) → Leaves LArgs rest →
     exec (w ++ rest) (Nt LBlock ∷ (Do MakeFirstBlock ∷ (Nt LMoreBlocks ∷ s))) vs ≡ seen (open_Blocks x (marks s)) (exec rest (Nt LMoreBlocks ∷ s) (OfBlocks bs ∷ vs))
@@ -330,8 +367,160 @@ read_Blocks (bs_more {u} {v} {bs} x y) s vs rest g =
     (blocks_as_block (more LBlock rest (first_Block y)) s (OfBlocks bs ∷ vs) ∙
     (read_Block y (blocks_tail ++ s) (OfBlocks bs ∷ vs) rest g ∙ under (open_Block y (marks s)) (do_now rest MakeNextBlock (Nt LMoreBlocks ∷ s) _))))
 
-pub read_shape : {w : List Token} {bs : List RawBlock} (e : Program w bs) → exec w (Nt LProgram ∷ []) [] ≡ seen (open_Program e 0) (Done (OfBlocks bs ∷ []))
-read_shape (p_program {w} {bs} t n x) =
-    let h : exec (w ++ []) (Nt LBlock ∷ (Do MakeFirstBlock ∷ (Nt LMoreBlocks ∷ (Do MakeProgram ∷ [])))) (OfToken (tok (k.Plain (pos 1)) n) ∷ (OfToken (tok k.Tal t) ∷ [])) ≡ seen (open_Blocks x 0) (Done (OfBlocks bs ∷ [])) =
-    read_Blocks x (Do MakeProgram ∷ []) _ [] (λ _ _. refl) in
+-- the value of a data field, with type arguments to come
+read_word : {b : Token} {base : RawBase} → Q b base → (s : Stack) (vs : List Val) (rest : List Token) →
+    exec (b ∷ rest) (Nt LW ∷ s) vs ≡
+    Seen (marks s) (exec rest (Nt LWordArgs ∷ s) (OfWord (RPlain base [], b.span) ∷ vs))
+read_word (q_plain z p) s vs rest = next (marks s) (do_now rest MakeWord _ _)
+read_word (q_negative z p) s vs rest = next (marks s) (do_now rest MakeWord _ _)
+read_word (q_label p) s vs rest = next (marks s) (do_now rest MakeWord _ _)
+
+read_W : {w : List Token} {v : RawValue × Span} (x : W w v) (s : Stack) (vs : List Val) (rest : List Token) →
+    Leaves LWordArgs rest → exec (w ++ rest) (Nt LW ∷ s) vs ≡ seen (open_W x (marks s)) (exec rest s (OfWord v ∷ vs))
+read_W (w_base n) s vs rest g = read_word n s vs rest ∙ next (marks s) (g s _)
+read_W (w_apply {b} {base} {w} o c n x) s vs rest g =
+    let m = marks s in
+    read_word n s vs (tok k.LeftBracket o ∷ ((w ++ tok k.RightBracket c ∷ []) ++ rest)) ∙ next m (next (suc m)
+    (rw (append_assoc w (tok k.RightBracket c ∷ []) rest, seen_append (open_Ts x (suc m)) (suc m ∷ []))
+    (some_as_type (more LT (tok k.RightBracket c ∷ rest) (first_Ts x)) (Mark ∷ (Do MakeWordApply ∷ s)) _ ∙
+    (read_Ts x (Mark ∷ (Do MakeWordApply ∷ s)) _ (tok k.RightBracket c ∷ rest) ∙ under (open_Ts x (suc m))
+    (next (suc m) (do_now rest MakeClosedTypes _ _ ∙ marked rest MakeWordApply s _))))))
+read_W (w_pack {u} {v} {w} {t} {s = t'} {x = i} p o m c a x y z) s vs rest g =
+    let n = marks s in
+    let us = OfToken (tok k.LeftBracket o) ∷ (OfToken (tok k.Pack p) ∷ vs) in
+    let outside = Tm want.As ∷ (Nt LT ∷ (Do MakeWordPack ∷ s)) in
+    let after_v = Tm want.RightBracket ∷ (Mark ∷ (Do MakeWordPacked ∷ outside)) in
+    let after_t = Tm want.Comma ∷ (Nt LW ∷ after_v) in
+    next n (next (suc n)
+    (rw (
+      append_assoc u (tok k.Comma m ∷ (v ++ tok k.RightBracket c ∷ (tok k.As a ∷ w))) rest,
+      append_assoc v (tok k.RightBracket c ∷ (tok k.As a ∷ w)) rest,
+      seen_append (open_T x (suc n)) (suc n ∷ (open_W y (suc n) ++ suc n ∷ (n ∷ open_T z n))),
+      seen_append (open_W y (suc n)) (suc n ∷ (n ∷ open_T z n)),
+    )
+    (read_T x after_t us (tok k.Comma m ∷ (v ++ tok k.RightBracket c ∷ (tok k.As a ∷ (w ++ rest)))) ∙
+    under (open_T x (suc n)) (next (suc n)
+    (read_W y after_v (OfToken (tok k.Comma m) ∷ (OfType t ∷ us))
+    (tok k.RightBracket c ∷ (tok k.As a ∷ (w ++ rest))) (λ _ _. refl) ∙
+    under (open_W y (suc n)) (next (suc n) (next n
+    (read_T z (Do MakeWordPack ∷ s) _ rest ∙ under (open_T z n) (do_now rest MakeWordPack s _)))))))))
+
+-- fields, with more to come
+abbrev datums_left : Stack → Stack
+datums_left s = Nt LMoreDatums ∷ (Tm want.RightAngle ∷ (Do MakeClosedDatums ∷ s))
+
+read_Ds : {w : List Token} {xs : List RawDatum} (x : Ds w xs) (s : Stack) (vs : List Val) (rest : List Token) →
+    exec (w ++ rest) (Nt LW ∷ (datums_tail ++ s)) vs ≡
+    seen (open_Ds x (marks s)) (exec rest (datums_left s) (OfDatums xs ∷ vs))
+read_Ds (ds_one {u} {v} {x = i} c x y) s vs rest =
+    let m = marks s in
+    rw (append_assoc u (tok k.Colon c ∷ v) rest, seen_append (open_W x m) (m ∷ open_T y m))
+    (read_W x (datums_tail ++ s) vs (tok k.Colon c ∷ (v ++ rest)) (λ _ _. refl) ∙ under (open_W x m) (next m
+    (read_T y (Do MakeFirstDatum ∷ datums_left s) (OfToken (tok k.Colon c) ∷ (OfWord i ∷ vs)) rest ∙
+    under (open_T y m) (do_now rest MakeFirstDatum _ _))))
+read_Ds (ds_more {u} {v} {w} {xs} {x = i} q c x y z) s vs rest =
+    let m = marks s in
+    let us = OfToken (tok k.Comma q) ∷ (OfDatums xs ∷ vs) in
+    let after_t = Do MakeNextDatum ∷ datums_left s in
+    rw (
+      append_assoc u (tok k.Comma q ∷ (v ++ tok k.Colon c ∷ w)) rest,
+      append_assoc v (tok k.Colon c ∷ w) rest,
+      seen_append (open_Ds x m) (m ∷ (open_W y m ++ m ∷ open_T z m)),
+      seen_append (open_W y m) (m ∷ open_T z m),
+    )
+    (read_Ds x s vs (tok k.Comma q ∷ (v ++ tok k.Colon c ∷ (w ++ rest))) ∙ under (open_Ds x m) (next m
+    (read_W y (Tm want.Colon ∷ (Nt LT ∷ after_t)) us (tok k.Colon c ∷ (w ++ rest)) (λ _ _. refl) ∙
+    under (open_W y m) (next m
+    (read_T z after_t (OfToken (tok k.Colon c) ∷ (OfWord i ∷ us)) rest ∙
+    under (open_T z m) (do_now rest MakeNextDatum _ _))))))
+
+read_Tuple : {w : List Token} {xs : List RawDatum} (x : Tuple w xs) (s : Stack) (vs : List Val) (rest : List Token) →
+    exec (w ++ rest) (Nt LTuple ∷ s) vs ≡ seen (open_Tuple x (marks s)) (exec rest s (OfTuple xs ∷ vs))
+read_Tuple (tu_none o c) s vs rest =
+    let m = suc (marks s) in next m (next m (do_now rest MakeNoDatums _ _ ∙ marked rest MakeTuple s _))
+read_Tuple (tu_fields {w} o c x) s vs rest =
+    let m = suc (marks s) in
+    let after = Mark ∷ (Do MakeTuple ∷ s) in
+    next m (rw (append_assoc w (tok k.RightAngle c ∷ []) rest, seen_append (open_Ds x m) (m ∷ []))
+    (datums_as_word (more LW (tok k.RightAngle c ∷ rest) (first_Ds x)) after (OfToken (tok k.LeftAngle o) ∷ vs) ∙
+    (read_Ds x after (OfToken (tok k.LeftAngle o) ∷ vs) (tok k.RightAngle c ∷ rest) ∙
+    under (open_Ds x m) (next m (do_now rest MakeClosedDatums _ _ ∙ marked rest MakeTuple s _)))))
+
+-- the line of the items to come, where a block stood before or not
+abbrev pub items_line : Bool → Line
+items_line true = LMoreItems
+items_line false = LSomeItems
+
+abbrev pub is_block : RawItem → Bool
+is_block (BlockItem b) = true
+is_block (DataItem x) = false
+
+abbrev pub any_block : List RawItem → Bool
+any_block [] = false
+any_block (x ∷ xs) = is_block x || any_block xs
+
+any_block-append : (xs : List RawItem) (x : RawItem) → any_block (xs ++ x ∷ []) ≡ (any_block xs || is_block x)
+any_block-append [] (BlockItem b) = refl
+any_block-append [] (DataItem x) = refl
+any_block-append (BlockItem b ∷ xs) x = refl
+any_block-append (DataItem y ∷ xs) x = any_block-append xs x
+
+has_block : (xs : List RawItem) → HasBlock xs → any_block xs ≡ true
+has_block [] h = absurd (omega arith)
+has_block (BlockItem b ∷ xs) h = refl
+has_block (DataItem x ∷ xs) h = has_block xs h
+
+read_next : (any : Bool) {w : List Token} {x : RawItem} (i : Item w x) (xs : List RawItem) (s : Stack) (vs : List Val)
+    (rest : List Token) → Leaves LArgs rest →
+    exec (w ++ rest) (Nt (items_line any) ∷ s) (OfItems xs ∷ vs) ≡
+    seen (open_Item i (marks s)) (exec rest (Nt (items_line (any || is_block x)) ∷ s) (OfItems (xs ++ x ∷ []) ∷ vs))
+read_next true (it_block (b_block l c d p a f i e)) xs s vs rest g =
+    let m = marks s in
+    next m (next m (next m
+    (read_code l c d p a f i e (Do MakeBlockItem ∷ (items_tail ++ s)) (OfItems xs ∷ vs) rest g ∙
+    under (open_Binds a m ++ (open_File f m ++ m ∷ (open_Is i m ++ open_End e m)))
+    (do_now rest MakeBlockItem (items_tail ++ s) _ ∙ do_now rest MakeNextItem (Nt LMoreItems ∷ s) _))))
+read_next false (it_block (b_block l c d p a f i e)) xs s vs rest g =
+    let m = marks s in
+    next m (next m (next m
+    (read_code l c d p a f i e (Do MakeBlockItem ∷ (items_tail ++ s)) (OfItems xs ∷ vs) rest g ∙
+    under (open_Binds a m ++ (open_File f m ++ m ∷ (open_Is i m ++ open_End e m)))
+    (do_now rest MakeBlockItem (items_tail ++ s) _ ∙ do_now rest MakeNextItem (Nt LMoreItems ∷ s) _))))
+read_next true (it_data l c d x) xs s vs rest g =
+    let m = marks s in
+    next m (next m (next m (read_Tuple x (Do MakeDataItem ∷ (items_tail ++ s)) _ rest ∙ under (open_Tuple x m)
+    (do_now rest MakeDataItem (items_tail ++ s) _ ∙ do_now rest MakeNextItem (Nt LMoreItems ∷ s) _))))
+read_next false (it_data l c d x) xs s vs rest g =
+    let m = marks s in
+    let after = Do MakeNextItem ∷ (Nt LSomeItems ∷ s) in
+    next m (next m (next m (read_Tuple x (Do MakeDataItem ∷ after) _ rest ∙ under (open_Tuple x m)
+    (do_now rest MakeDataItem after _ ∙ do_now rest MakeNextItem (Nt LSomeItems ∷ s) _))))
+
+read_Items : {w : List Token} {xs : List RawItem} (x : Items w xs) (s : Stack) (vs : List Val) (rest : List Token) →
+    Leaves LArgs rest →
+    exec (w ++ rest) (Nt LSomeItems ∷ s) (OfItems [] ∷ vs) ≡
+    seen (open_Items x (marks s)) (exec rest (Nt (items_line (any_block xs)) ∷ s) (OfItems xs ∷ vs))
+read_Items its_none s vs rest g = refl
+read_Items (its_more {u} {v} {xs} {x = i} x y) s vs rest g =
+    let m = marks s in
+    rw (append_assoc u v rest, seen_append (open_Items x m) (open_Item y m), any_block-append xs i)
+    (read_Items x s vs (v ++ rest) (leaves_Item y rest) ∙ under (open_Items x m)
+    (read_next (any_block xs) y xs s vs rest g))
+
+pub read_shape : {w : List Token} {xs : List RawItem} (e : Program w xs) →
+    exec w (Nt LProgram ∷ []) [] ≡ seen (open_Program e 0) (Done (OfItems xs ∷ []))
+read_shape (p_blocks {w} {bs} t n x) =
+    let s = Do MakeHeaded ∷ (Do MakeProgram ∷ []) in
+    let h : exec (w ++ []) (Nt LBlock ∷ (Do MakeFirstBlock ∷ (Nt LMoreBlocks ∷ s)))
+    (OfToken (tok (k.Plain (pos 1)) n) ∷ (OfToken (tok k.Tal t) ∷ [])) ≡
+    seen (open_Blocks x 0) (Done (OfItems (block_items bs) ∷ [])) = read_Blocks x s _ [] (λ _ _. refl) in
     next 0 (next 0 (rw append-nil at h))
+read_shape (p_items {w} {xs} t n x b) =
+    let s = Do MakeHeaded ∷ (Do MakeProgram ∷ []) in
+    let vs = OfToken (tok (k.Plain (pos 2)) n) ∷ (OfToken (tok k.Tal t) ∷ []) in
+    let h : exec (w ++ []) (Nt LSomeItems ∷ s) (OfItems [] ∷ vs) ≡
+    seen (open_Items x 0) (exec [] (Nt (items_line (any_block xs)) ∷ s) (OfItems xs ∷ vs)) =
+    read_Items x s vs [] (λ _ _. refl) in
+    let ends : exec [] (Nt (items_line (any_block xs)) ∷ s) (OfItems xs ∷ vs) ≡ Done (OfItems xs ∷ []) =
+    rw (has_block xs b) refl in
+    next 0 (next 0 (do_now w MakeNoItems (Nt LSomeItems ∷ s) vs ∙ ((rw append-nil at h) ∙ under (open_Items x 0) ends)))

@@ -1,7 +1,7 @@
 -- The grammar meets the rules of a table, so its verdicts are exact, and its trees unique.
 use Rattle.std.proofs.Common.{◌≡◌, ℕ, List, [], refl}
 use Rattle.t_terms.specs.declared.token.Token.{Token}
-use Rattle.t_terms.specs.Raw.{RawBlock}
+use Rattle.t_terms.specs.Raw.{RawItem}
 use Rattle.t_terms.specs.Grammar.{Program}
 use Rattle.text_core.specs.Table.{Verdict, bounded, whole}
 use Rattle.text_core.specs.Verdicts.{Says}
@@ -14,7 +14,7 @@ use Rattle.t_terms.proofs.TableRows.{Sem, sem_program, meaning, is_of, row, empt
 use Rattle.t_terms.proofs.Filling.{filling, fits_token, goods, quiet, reads, wanted}
 
 shape : (w : List Token) (r : List Val) → Sem LProgram [] w r → Sound table w r
-shape w _ (sem_program {bs} d) = record { value = bs; shape = d; is = refl }
+shape w _ (sem_program {xs} d) = record { value = xs; shape = d; is = refl }
 
 rules : Rules table
 rules = record {
@@ -39,7 +39,7 @@ claims = claims_of table rules
 pub assembly_exact : (limit : ℕ) (w : List Token) → Says table limit w (bounded table limit w (whole table w))
 assembly_exact limit w = exact_by table rules limit w
 
-pub one_tree : {w : List Token} {t r : List RawBlock} → Program w t → Program w r → t ≡ r
+pub one_tree : {w : List Token} {t r : List RawItem} → Program w t → Program w r → t ≡ r
 one_tree x y = unique.one_tree table claims x y
 
 pub one_verdict : (limit : ℕ) (w : List Token) (a b : Verdict table) → Says table limit w a → Says table limit w b → a ≡ b

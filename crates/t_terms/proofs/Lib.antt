@@ -1,3 +1,4 @@
+mod DataRows
 mod ProgramRows
 mod TextRows
 pub mod Blocks

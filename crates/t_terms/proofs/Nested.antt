@@ -9,17 +9,17 @@ use Rattle.text_core.specs.Table.{Done, seen, Fine, Passed, bounded}
 use Rattle.t_types.specs.Tree.{Ty, TFile, NoRegs, MoreRegs}
 use Rattle.t_terms.specs.declared.token.Token.{Token}
 use Rattle.t_terms.specs.Tree.{TProg}
-use Rattle.t_terms.specs.Spanned.{SProg, seq_of, plain_blocks, plain_program}
-use Rattle.t_terms.specs.Raw.{RawTy, RInt, RName, RCode, RSome, RTuple, RawRegs, NoRawRegs, MoreRawRegs, RawFields, NoRawFields, MoreRawFields, RawReg, RawField, raw_regs, raw_fields, RawBase, RawValue, RPlain, RPack, RawInstr, RArith, RBnz, RLd, RMalloc, RMov, RSt, RUnpack, RawEnd, RJmp, RHalt, RawBlock, Piece}
-use Rattle.t_terms.specs.Grammar.{Names, ns_one, ns_more, Binds, bs_none, bs_names, T, t_int, t_name, t_code, t_some, t_unit, t_tuple, File, f_none, f_regs, Rs, rs_one, rs_more, Fs, fs_one, fs_more, Ts, ts_one, ts_more, V, v_base, v_apply, v_pack, I, i_arith, i_bnz, i_ld, i_malloc_none, i_malloc, i_mov, i_st, i_unpack, Is, is_none, is_more, End, e_jmp, e_halt, Block, b_block, Blocks, bs_one, bs_more, Program, p_program, open_Names, open_Binds, open_T, open_File, open_Rs, open_Fs, open_Ts, open_V, open_I, open_Is, open_End, open_Block, open_Blocks, open_Program}
+use Rattle.t_terms.specs.Spanned.{SProg, seq_of, plain_blocks, plain_fields, plain_heap, plain_program}
+use Rattle.t_terms.specs.Raw.{RawTy, RInt, RName, RCode, RSome, RTuple, RawRegs, NoRawRegs, MoreRawRegs, RawFields, NoRawFields, MoreRawFields, RawReg, RawField, raw_regs, raw_fields, RawBase, RawValue, RPlain, RPack, RawInstr, RArith, RBnz, RLd, RMalloc, RMov, RSt, RUnpack, RawEnd, RJmp, RHalt, RawBlock, RawDatum, RawData, RawItem, BlockItem, DataItem, blocks_in, data_in, block_items, Piece}
+use Rattle.t_terms.specs.Grammar.{Names, ns_one, ns_more, Binds, bs_none, bs_names, T, t_int, t_name, t_code, t_some, t_unit, t_tuple, File, f_none, f_regs, Rs, rs_one, rs_more, Fs, fs_one, fs_more, Ts, ts_one, ts_more, V, v_base, v_apply, v_pack, I, i_arith, i_bnz, i_ld, i_malloc_none, i_malloc, i_mov, i_st, i_unpack, Is, is_none, is_more, End, e_jmp, e_halt, Block, b_block, Blocks, bs_one, bs_more, W, w_base, w_apply, w_pack, datum, Ds, ds_one, ds_more, Tuple, tu_none, tu_fields, Item, it_block, it_data, Items, its_none, its_more, Program, p_blocks, p_items, open_Names, open_Binds, open_T, open_File, open_Rs, open_Fs, open_Ts, open_V, open_I, open_Is, open_End, open_Block, open_Blocks, open_W, open_Ds, open_Tuple, open_Item, open_Items, open_Program}
 use Rattle.t_terms.specs.Grammar.{assembly_grammar}
-use Rattle.t_terms.specs.GrammarTable.{table, Val, OfBlocks}
-use Rattle.t_terms.specs.Names.{insert_reg, type_of, file_of, fields_of, types_of, value_of, instr_of, names_after, names_after_all, body_of, end_of, block_of, program_of, labels_of, Labels, bind, spelled}
+use Rattle.t_terms.specs.GrammarTable.{table, Val, OfItems}
+use Rattle.t_terms.specs.Names.{insert_reg, type_of, file_of, fields_of, types_of, value_of, instr_of, names_after, names_after_all, body_of, end_of, block_of, datum_of, data_of, program_of, labels_of, Labels, bind, spelled}
 use Rattle.t_terms.specs.Text.{most_open, Stands, StandsFor, KeepsLimit}
 use Rattle.t_terms.proofs.Complete.{read_shape}
 use Rattle.t_terms.proofs.Instance.{assembly_exact, one_verdict}
 use Rattle.t_terms.proofs.TextExact.{one_cut}
-use Rattle.t_terms.specs.Nesting.{blocks_nesting, type_nesting, regs_nesting, fields_nesting, types_nesting, value_nesting, instr_nesting, end_nesting, seq_nesting, nesting, greatest, CountsOpen, KeepsByNesting}
+use Rattle.t_terms.specs.Nesting.{blocks_nesting, data_nesting, heap_nesting, type_nesting, regs_nesting, fields_nesting, types_nesting, value_nesting, instr_nesting, end_nesting, seq_nesting, nesting, greatest, CountsOpen, KeepsByNesting}
 
 greatest-append : (a b : List ℕ) → greatest (a ++ b) ≡ max (greatest a) (greatest b)
 greatest-append [] b = omega arith
@@ -74,6 +74,35 @@ raw_block b = max (1 + raw_file b.file) (max (raw_body b.body) (raw_end b.last.0
 abbrev raw_blocks : List RawBlock → ℕ
 raw_blocks [] = 0
 raw_blocks (b ∷ bs) = max (raw_block b) (raw_blocks bs)
+
+abbrev raw_datum : RawDatum → ℕ
+raw_datum x = max (raw_value x.value) (raw_type x.ty)
+
+abbrev raw_datums : List RawDatum → ℕ
+raw_datums [] = 0
+raw_datums (x ∷ xs) = max (raw_datum x) (raw_datums xs)
+
+abbrev raw_heap : List RawData → ℕ
+raw_heap [] = 0
+raw_heap (x ∷ xs) = max (1 + raw_datums x.fields) (raw_heap xs)
+
+abbrev raw_item : RawItem → ℕ
+raw_item (BlockItem b) = raw_block b
+raw_item (DataItem x) = 1 + raw_datums x.fields
+
+abbrev raw_items : List RawItem → ℕ
+raw_items [] = 0
+raw_items (x ∷ xs) = max (raw_item x) (raw_items xs)
+
+-- blocks and data apart
+items_apart : (xs : List RawItem) → raw_items xs ≡ max (raw_blocks (blocks_in xs)) (raw_heap (data_in xs))
+items_apart [] = refl
+items_apart (BlockItem b ∷ xs) = omega (arith, items_apart xs)
+items_apart (DataItem x ∷ xs) = omega (arith, items_apart xs)
+
+blocks_alone : (bs : List RawBlock) → raw_items (block_items bs) ≡ raw_blocks bs
+blocks_alone [] = refl
+blocks_alone (b ∷ bs) = ap (λ (n : ℕ). max (raw_block b) n) (blocks_alone bs)
 
 -- it is that of the trees that are resolved
 insert_nesting : (r : ℕ) (t : Ty) (file : TFile) → regs_nesting (insert_reg r t file) ≡ max (type_nesting t) (regs_nesting file)
@@ -134,9 +163,18 @@ module _ (text : List ℕ) where
     blocks_same (b ∷ bs) =
         ap₂ max (ap₂ (λ m n. max (1 + m) n) (file_same (bind text b.names []) b.file) (seq_same (bind text b.names []) b.body b.last.0)) (blocks_same bs)
 
-  -- a text of this grammar has no data
-  program_same : (bs : List RawBlock) → nesting (plain_program (program_of text bs)) ≡ raw_blocks bs
-  program_same bs = omega (arith, blocks_same (labels_of text bs) bs)
+    datums_same : (xs : List RawDatum) → data_nesting (plain_fields (map (datum_of text ls) xs)) ≡ raw_datums xs
+    datums_same [] = refl
+    datums_same (x ∷ xs) = ap₂ max (ap₂ max (value_same [] x.value) (type_same [] x.ty)) (datums_same xs)
+
+    heap_same : (xs : List RawData) → heap_nesting (plain_heap (map (data_of text ls) xs)) ≡ raw_heap xs
+    heap_same [] = refl
+    heap_same (x ∷ xs) = ap₂ (λ m n. max (1 + m) n) (datums_same x.fields) (heap_same xs)
+
+  program_same : (xs : List RawItem) → nesting (plain_program (program_of text xs)) ≡ raw_items xs
+  program_same xs =
+      ap₂ max (blocks_same (labels_of text xs) (blocks_in xs)) (heap_same (labels_of text xs) (data_in xs)) ∙
+      sym (items_apart xs)
 
 -- lists grow at their end
 file-append : (rs : List RawReg) (r : RawReg) → raw_file (raw_regs (rs ++ r ∷ [])) ≡ max (raw_file (raw_regs rs)) (raw_type r.ty)
@@ -158,6 +196,14 @@ body-append (j ∷ is) i = omega (arith, body-append is i)
 blocks-append : (bs : List RawBlock) (b : RawBlock) → raw_blocks (bs ++ b ∷ []) ≡ max (raw_blocks bs) (raw_block b)
 blocks-append [] b = omega arith
 blocks-append (c ∷ bs) b = omega (arith, blocks-append bs b)
+
+datums-append : (xs : List RawDatum) (x : RawDatum) → raw_datums (xs ++ x ∷ []) ≡ max (raw_datums xs) (raw_datum x)
+datums-append [] x = omega arith
+datums-append (y ∷ xs) x = omega (arith, datums-append xs x)
+
+items-append : (xs : List RawItem) (x : RawItem) → raw_items (xs ++ x ∷ []) ≡ max (raw_items xs) (raw_item x)
+items-append [] x = omega arith
+items-append (y ∷ xs) x = omega (arith, items-append xs x)
 
 -- The greatest number of constructs that are open at a token of a part, where d are open around it.
 names_open : {w : List Token} {ns : List Span} (x : Names w ns) (d : ℕ) → greatest (open_Names x d) ≡ d
@@ -247,8 +293,53 @@ blocks_open : {w : List Token} {bs : List RawBlock} (x : Blocks w bs) → greate
 blocks_open (bs_one x) = omega (arith, block_open x)
 blocks_open (bs_more {bs} {b} x y) = omega (arith, greatest-append (open_Blocks x 0) (open_Block y 0), blocks_open x, block_open y, blocks-append bs b)
 
-program_open : {w : List Token} {bs : List RawBlock} (x : Program w bs) → greatest (open_Program x 0) ≡ raw_blocks bs
-program_open (p_program t n x) = omega (arith, blocks_open x)
+-- data
+word_open : {w : List Token} {v : RawValue × Span} (x : W w v) (d : ℕ) → greatest (open_W x d) ≡ d + raw_value v.0
+word_open (w_base n) d = omega arith
+word_open (w_apply {base} o c n x) d =
+    omega (arith, greatest-append (open_Ts x (suc d)) (suc d ∷ []), types_open x (suc d), applied base x)
+word_open (w_pack p o m c a x y z) d =
+    omega (
+      arith,
+      greatest-append (open_T x (suc d)) (suc d ∷ (open_W y (suc d) ++ suc d ∷ (d ∷ open_T z d))),
+      greatest-append (open_W y (suc d)) (suc d ∷ (d ∷ open_T z d)),
+      type_open x (suc d),
+      word_open y (suc d),
+      type_open z d,
+    )
+
+datums_open : {w : List Token} {xs : List RawDatum} (x : Ds w xs) (d : ℕ) → greatest (open_Ds x d) ≡ d + raw_datums xs
+datums_open (ds_one c x y) d =
+    omega (arith, greatest-append (open_W x d) (d ∷ open_T y d), word_open x d, type_open y d)
+datums_open (ds_more {xs} {x = v} {t} m c x y z) d =
+    omega (
+      arith,
+      greatest-append (open_Ds x d) (d ∷ (open_W y d ++ d ∷ open_T z d)),
+      greatest-append (open_W y d) (d ∷ open_T z d),
+      datums_open x d,
+      word_open y d,
+      type_open z d,
+      datums-append xs (datum v t.tree),
+    )
+
+data_open : {w : List Token} {xs : List RawDatum} (x : Tuple w xs) (d : ℕ) →
+    greatest (open_Tuple x d) ≡ d + (1 + raw_datums xs)
+data_open (tu_none o c) d = omega arith
+data_open (tu_fields o c x) d =
+    omega (arith, greatest-append (open_Ds x (suc d)) (suc d ∷ []), datums_open x (suc d))
+
+item_open : {w : List Token} {i : RawItem} (x : Item w i) → greatest (open_Item x 0) ≡ raw_item i
+item_open (it_block x) = block_open x
+item_open (it_data l c d x) = omega (arith, data_open x 0)
+
+items_open : {w : List Token} {xs : List RawItem} (x : Items w xs) → greatest (open_Items x 0) ≡ raw_items xs
+items_open its_none = refl
+items_open (its_more {xs} {x = i} x y) =
+    omega (arith, greatest-append (open_Items x 0) (open_Item y 0), items_open x, item_open y, items-append xs i)
+
+program_open : {w : List Token} {xs : List RawItem} (x : Program w xs) → greatest (open_Program x 0) ≡ raw_items xs
+program_open (p_blocks {bs} t n x) = omega (arith, blocks_open x, blocks_alone bs)
+program_open (p_items t n x h) = omega (arith, items_open x)
 
 pub counts_open : CountsOpen
 counts_open text P s = program_open s.shape ∙ (sym (program_same text s.raw) ∙ ap (λ (Q : SProg). nesting (plain_program Q)) (sym s.is))
@@ -291,11 +382,11 @@ module _ (text : List ℕ) (P : TProg) (stand : StandsFor text P) where
   kept k =
       let none = subst (λ (w : List Token). NonePasses assembly_grammar most_open w) (one_cut text k.0 it.tokens k.1 it.cut) k.2 in
       let says = assembly_exact most_open it.tokens in
-      let fine : Says table most_open it.tokens (Fine (OfBlocks it.raw ∷ [])) = record { value = it.raw; shape = it.shape; is = refl; within = none } in
+      let fine : Says table most_open it.tokens (Fine (OfItems it.raw ∷ [])) = record { value = it.raw; shape = it.shape; is = refl; within = none } in
       let q = one_verdict most_open it.tokens _ _ says fine in
-      let r : bounded table most_open it.tokens (seen table (open_Program it.shape 0) (Done (OfBlocks it.raw ∷ []))) ≡ Fine (OfBlocks it.raw ∷ []) =
+      let r : bounded table most_open it.tokens (seen table (open_Program it.shape 0) (Done (OfItems it.raw ∷ []))) ≡ Fine (OfItems it.raw ∷ []) =
       ap (bounded table most_open it.tokens) (sym (read_shape it.shape)) ∙ q in
-      let most = never_more (open_Program it.shape 0) it.tokens (OfBlocks it.raw ∷ []) (OfBlocks it.raw ∷ []) r in
+      let most = never_more (open_Program it.shape 0) it.tokens (OfItems it.raw ∷ []) (OfItems it.raw ∷ []) r in
       omega (arith, all_open it.shape)
 
 pub keeps_by_nesting : KeepsByNesting

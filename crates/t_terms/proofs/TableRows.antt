@@ -1,6 +1,6 @@
 -- What is read stands in the grammar: one row for each production.
-use Rattle.std.proofs.Common.{ℤ, pos, negsuc, nat_abs, ◌==◌, ◌||◌, ◌≡◌, ℕ, List, [], ◌∷◌, ◌++◌, refl, sym, ◌∙◌, ap, subst, append_assoc, Option, Some, None, Bool, true, false}
-use Rattle.std.proofs.lemmas.List.{append-nil}
+use Rattle.std.proofs.Common.{ℤ, pos, negsuc, nat_abs, ◌+◌, ◌==◌, ◌||◌, ◌≡◌, ℕ, List, [], ◌∷◌, ◌++◌, length, if◌then◌else◌, refl, sym, ◌∙◌, ap, subst, append_assoc, Option, Some, None, Bool, true, false, arith}
+use Rattle.std.proofs.lemmas.List.{append-nil, length-append}
 use Rattle.std.proofs.lemmas.Bool.{eqb-true}
 use Rattle.idx_core.specs.declared.span.Span.{Span}
 use Rattle.idx_core.specs.declared.arith.Op.{Op}
@@ -10,19 +10,18 @@ use Rattle.t_terms.specs.declared.token.Kind.TheVariants as k
 use Rattle.t_terms.specs.declared.token.Token.{Token}
 use Rattle.t_terms.specs.declared.wanted.Wanted.{Wanted}
 use Rattle.t_terms.specs.declared.wanted.Wanted.TheVariants as want
-use Rattle.t_terms.specs.Raw.{RawTy, RTuple, RawRegs, RawReg, RawField, raw_regs, raw_fields, RawBase, RawValue, RPlain, RawInstr, RawEnd, RawBlock, Piece, ending}
-use Rattle.t_terms.specs.Grammar.{tok, Names, ns_one, ns_more, Binds, bs_none, bs_names, IsFlag, is_zero, is_one, is_minus_zero, T, t_int, t_name, t_code, t_some, t_unit, t_tuple, File, f_none, f_regs, Rs, rs_one, rs_more, Fs, fs_one, fs_more, Ts, ts_one, ts_more, N, n_reg, n_plain, n_negative, n_label, V, v_base, v_apply, v_pack, IsOp, is_add, is_sub, is_mul, I, i_arith, i_bnz, i_ld, i_malloc_none, i_malloc, i_mov, i_st, i_unpack, Is, is_none, is_more, End, e_jmp, e_halt, Block, b_block, Blocks, bs_one, bs_more, Program, p_program}
+use Rattle.t_terms.specs.Raw.{RawTy, RTuple, RawRegs, RawReg, RawField, raw_regs, raw_fields, RawBase, RawValue, RPlain, RawInstr, RawEnd, RawBlock, RawDatum, RawItem, BlockItem, DataItem, blocks_in, Piece, ending}
+use Rattle.t_terms.specs.Grammar.{tok, Names, ns_one, ns_more, Binds, bs_none, bs_names, IsFlag, is_zero, is_one, is_minus_zero, T, t_int, t_name, t_code, t_some, t_unit, t_tuple, File, f_none, f_regs, Rs, rs_one, rs_more, Fs, fs_one, fs_more, Ts, ts_one, ts_more, N, n_reg, n_plain, n_negative, n_label, V, v_base, v_apply, v_pack, IsOp, is_add, is_sub, is_mul, I, i_arith, i_bnz, i_ld, i_malloc_none, i_malloc, i_mov, i_st, i_unpack, Is, is_none, is_more, End, e_jmp, e_halt, Block, b_block, Blocks, bs_one, bs_more, Q, q_plain, q_negative, q_label, W, w_base, w_apply, w_pack, datum, Ds, ds_one, ds_more, Tuple, tu_none, tu_fields, Item, it_block, it_data, Items, its_none, its_more, HasBlock, Program, p_blocks, p_items}
 use Rattle.text_core.specs.Table.{Tm, Nt, Do, Mark, then_more}
 use Rattle.text_core.proofs.Rules as rules
 use Rattle.text_core.proofs.Rules.{Meaning, Matches, m_end, m_tm, m_nt, m_do, m_mark, Row, Made, Extends}
-use Rattle.t_terms.specs.GrammarTable.{table, Line, LProgram, LBlock, LMoreBlocks, LBinds, LNames, LMoreNames, LFile, LRegs, LMoreRegs, LT, LFields, LMoreFields, LTypes, LTypeList, LSomeTypes, LMoreTypes, LV, LArgs, LPacked, LTo, LAt, LIndex, LTarget, LInt, LI, LMoreSteps, LEnd, MakeNoNames, MakeFirstName, MakeNextName, MakeClosedNames, MakeBinds, MakeNoRegs, MakeFirstReg, MakeNextReg, MakeClosedRegs, MakeFile, MakeTypeInt, MakeTypeName, MakeTypeCode, MakeTypeSome, MakeNoFields, MakeNextField, MakeClosedFields, MakeTypeTuple, MakeNoTypes, MakeNextType, MakeClosedTypes, MakeTypes, MakeBase, MakeApply, MakePacked, MakePack, MakeTo, MakeIndex, MakeAt, MakeTarget, MakeInt, MakeBnz, MakeLd, MakeMalloc, MakeMov, MakeSt, MakeUnpack, MakeNextStep, MakeJmp, MakeHalt, MakeBlock, MakeFirstBlock, MakeNextBlock, MakeProgram, Stack, Val, OfToken, OfNames, OfType, OfRegs, OfFile, OfFields, OfTypes, OfList, OfValue, OfPacked, OfReg, OfIndex, OfAt, OfTarget, OfPlace, OfStep, OfSteps, OfEnd, OfBlock, OfBlocks, one_value, flag_value, zero_value, fits, flag_of, applied, act, after, may_end, type_after, fields_tail, fields_after, types_tail, some_types_after, type_list_after, base_owed, value_after, arith_owed, instr_after, steps_tail, steps_after, block_owed, blocks_tail}
+use Rattle.t_terms.specs.GrammarTable.{table, Line, LProgram, LBlock, LMoreBlocks, LBinds, LNames, LMoreNames, LFile, LRegs, LMoreRegs, LT, LFields, LMoreFields, LTypes, LTypeList, LSomeTypes, LMoreTypes, LV, LArgs, LPacked, LTo, LAt, LIndex, LTarget, LInt, LI, LMoreSteps, LEnd, LHeader, LSomeItems, LFirst, LMoreItems, LItem, LTuple, LDatums, LMoreDatums, LW, LWordArgs, LWordPacked, MakeNoNames, MakeFirstName, MakeNextName, MakeClosedNames, MakeBinds, MakeNoRegs, MakeFirstReg, MakeNextReg, MakeClosedRegs, MakeFile, MakeTypeInt, MakeTypeName, MakeTypeCode, MakeTypeSome, MakeNoFields, MakeNextField, MakeClosedFields, MakeTypeTuple, MakeNoTypes, MakeNextType, MakeClosedTypes, MakeTypes, MakeBase, MakeApply, MakePacked, MakePack, MakeTo, MakeIndex, MakeAt, MakeTarget, MakeInt, MakeBnz, MakeLd, MakeMalloc, MakeMov, MakeSt, MakeUnpack, MakeNextStep, MakeJmp, MakeHalt, MakeBlock, MakeNextBlock, MakeWord, MakeWordApply, MakeWordPacked, MakeWordPack, MakeNoDatums, MakeNextDatum, MakeClosedDatums, MakeTuple, MakeBlockItem, MakeDataItem, MakeNextItem, MakeHeaded, MakeProgram, Stack, Val, OfToken, OfNames, OfType, OfRegs, OfFile, OfFields, OfTypes, OfList, OfValue, OfPacked, OfReg, OfIndex, OfAt, OfTarget, OfPlace, OfStep, OfSteps, OfEnd, OfBlock, OfBlocks, OfWord, OfDatums, OfTuple, OfItem, OfItems, flag_value, zero_value, fits, flag_of, applied, word_applied, act, after, may_end, type_after, fields_tail, fields_after, types_tail, some_types_after, type_list_after, base_owed, value_after, arith_owed, instr_after, steps_tail, steps_after, code_owed, block_owed, data_owed, blocks_tail, word_owed, word_after, datums_tail, datums_after, items_tail, blocks_owed, items_owed, headed}
 
 -- tokens of a class
 pub data IsOf : Wanted → Token → Type 0 where
   of_name : (s : Span) → IsOf want.Name (tok k.Name s)
   of_register : (r : ℕ) (s : Span) → IsOf want.Register (tok (k.Register r) s)
   of_number : (z : ℤ) (s : Span) → IsOf want.Number (tok (k.Plain z) s)
-  of_one : (s : Span) → IsOf want.One (tok (k.Plain (pos 1)) s)
   of_flag : {n : Kind} {flag : Bool} (s : Span) → IsFlag n flag → IsOf want.Flag (tok n s)
   of_left_bracket : (s : Span) → IsOf want.LeftBracket (tok k.LeftBracket s)
   of_right_bracket : (s : Span) → IsOf want.RightBracket (tok k.RightBracket s)
@@ -37,10 +36,6 @@ pub data IsOf : Wanted → Token → Type 0 where
   of_code : (s : Span) → IsOf want.Code (tok k.Code s)
   of_as : (s : Span) → IsOf want.As (tok k.As s)
   of_int : (s : Span) → IsOf want.Int (tok k.Int s)
-
-of_value_one : (z : ℤ) (s : Span) → one_value z ≡ true → IsOf want.One (tok (k.Plain z) s)
-of_value_one (pos n) s e = subst (λ m. IsOf want.One (tok (k.Plain (pos m)) s)) (sym (eqb-true n 1 e)) (of_one s)
-of_value_one (negsuc n) s e = absurd (cc)
 
 of_value_flag : (z : ℤ) (s : Span) → flag_value z ≡ true → IsOf want.Flag (tok (k.Plain z) s)
 of_value_flag (pos n) s e = by_zero (n == 0) refl e
@@ -58,7 +53,6 @@ pub is_of : (c : Wanted) (t : Kind) (s : Span) → fits c t ≡ true → IsOf c 
 is_of want.Name k.Name s e = of_name s
 is_of want.Register (k.Register r) s e = of_register r s
 is_of want.Number (k.Plain z) s e = of_number z s
-is_of want.One (k.Plain z) s e = of_value_one z s e
 is_of want.Flag (k.Plain z) s e = of_value_flag z s e
 is_of want.Flag (k.Negative z) s e = of_value_zero z s e
 is_of want.LeftBracket k.LeftBracket s e = of_left_bracket s
@@ -85,8 +79,31 @@ flag_is is_minus_zero = refl
 pub data Bare : List Token → Piece RawValue → Type 0 where
   bare : {b : Token} {base : RawBase} → N b base → Bare (b ∷ []) (ending (RPlain base []) b.span.end)
 
+-- the same of the value of a data field
+pub data BareWord : List Token → RawValue × Span → Type 0 where
+  bare_word : {b : Token} {base : RawBase} → Q b base → BareWord (b ∷ []) (RPlain base [], b.span)
+
+-- items of which one is a block
+abbrev pub SomeItems : List Token → List RawItem → Type 0
+SomeItems w xs = Items w xs × HasBlock xs
+
 abbrev blocks : List RawBlock → Val
 blocks bs = OfBlocks bs
+
+abbrev block : RawBlock → Val
+block b = OfBlock b
+
+abbrev item : RawItem → Val
+item x = OfItem x
+
+abbrev items : List RawItem → Val
+items xs = OfItems xs
+
+abbrev datums : List RawDatum → Val
+datums xs = OfDatums xs
+
+abbrev word : RawValue × Span → Val
+word x = OfWord x
 
 abbrev names : List Span → Val
 names ns = OfNames ns
@@ -106,9 +123,47 @@ value v = OfValue v
 abbrev steps : List (RawInstr × Span) → Val
 steps is = OfSteps is
 
+-- what stands before the tokens of an item after its label: the label and the colon
+abbrev pub labelled : Span → Span → List Token → List Token
+labelled l c w = tok k.Name l ∷ (tok k.Colon c ∷ w)
+
+abbrev pub over_label : Span → Span → List Val → List Val
+over_label l c vs = OfToken (tok k.Colon c) ∷ (OfToken (tok k.Name l) ∷ vs)
+
+-- the tokens w are an item after its label
+abbrev pub IsItem : List Token → List Val → List Val → Type 0
+IsItem w vs us =
+    (l c : Span) (below : List Val) → vs ≡ over_label l c below → Made table item Item (labelled l c w) below us
+
+-- the tokens w are the first of more items, after its label, and those: with it a block is among the items
+abbrev pub IsFirst : List Token → List Val → List Val → Type 0
+IsFirst w vs us =
+    (l c : Span) (u : List Token) (xs : List RawItem) (below : List Val) → vs ≡ over_label l c (OfItems xs ∷ below) →
+    Items u xs → Made table items SomeItems (u ++ labelled l c w) below us
+
 -- the tokens w are of this line, and take these values to those
 pub data Sem : Line → List Val → List Token → List Val → Type 0 where
-  sem_program : {vs : List Val} {w : List Token} {bs : List RawBlock} → Program w bs → Sem LProgram vs w (OfBlocks bs ∷ vs)
+  sem_program : {vs : List Val} {w : List Token} {xs : List RawItem} → Program w xs →
+      Sem LProgram vs w (OfItems xs ∷ vs)
+  sem_header : {vs : List Val} {w : List Token} {xs : List RawItem} → ((t : Span) → Program (tok k.Tal t ∷ w) xs) →
+      Sem LHeader vs w (OfItems xs ∷ vs)
+  sem_some_items : {vs us : List Val} {w : List Token} → Extends table items Items SomeItems w vs us →
+      Sem LSomeItems vs w us
+  sem_first : {vs us : List Val} {w : List Token} → IsFirst w vs us → Sem LFirst vs w us
+  sem_more_items : {vs us : List Val} {w : List Token} → Extends table items SomeItems SomeItems w vs us →
+      Sem LMoreItems vs w us
+  sem_item : {vs us : List Val} {w : List Token} → IsItem w vs us → Sem LItem vs w us
+  sem_tuple : {vs : List Val} {w : List Token} {xs : List RawDatum} → Tuple w xs → Sem LTuple vs w (OfTuple xs ∷ vs)
+  sem_no_datums : {vs : List Val} (c : Span) → Sem LDatums vs (tok k.RightAngle c ∷ []) (OfTuple [] ∷ vs)
+  sem_datums : {vs : List Val} {w : List Token} {xs : List RawDatum} (c : Span) → Ds w xs →
+      Sem LDatums vs (w ++ tok k.RightAngle c ∷ []) (OfTuple xs ∷ vs)
+  sem_datum_commas : {vs us : List Val} {w : List Token} → Extends table datums Ds Ds w vs us → Sem LMoreDatums vs w us
+  sem_W : {vs : List Val} {w : List Token} {x : RawValue × Span} → W w x → Sem LW vs w (OfWord x ∷ vs)
+  sem_word_args : {vs us : List Val} {w : List Token} → Extends table word BareWord W w vs us → Sem LWordArgs vs w us
+  sem_word_packed : {vs : List Val} {u v : List Token} {t : Piece RawTy} {x : RawValue × Span} (o m c : Span) →
+      T u t → W v x →
+      Sem LWordPacked vs (tok k.LeftBracket o ∷ (u ++ tok k.Comma m ∷ (v ++ tok k.RightBracket c ∷ [])))
+      (OfPacked (record { hidden = t.tree; inner = x.0 }) ∷ vs)
   sem_block : {vs : List Val} {w : List Token} {b : RawBlock} → Block w b → Sem LBlock vs w (OfBlock b ∷ vs)
   sem_blocks : {vs us : List Val} {w : List Token} → Extends table blocks Blocks Blocks w vs us → Sem LMoreBlocks vs w us
   sem_binds : {vs : List Val} {w : List Token} {ns : List Span} → Binds w ns → Sem LBinds vs w (OfNames ns ∷ vs)
@@ -331,9 +386,205 @@ row_next_block s vs r _ (m_nt {u} (sem_block {b} d) (m_do (m_nt {u = v} (sem_blo
     along (m_nt {u = u ++ v} (sem_blocks (λ x a below q h.
     rules.moved table blocks Blocks (f _ _ below (ap (λ (l : List Val). act MakeNextBlock (OfBlock b ∷ l)) q) (bs_more h d)) (simp append_assoc))) m) (simp append_assoc)
 
-row_program : (o : Span) → Begun LProgram k.Tal (Tm want.One ∷ (Nt LBlock ∷ (Do MakeFirstBlock ∷ (Nt LMoreBlocks ∷ (Do MakeProgram ∷ []))))) o
-row_program t s vs r _ (m_tm (of_one n) (m_nt (sem_block d) (m_do (m_nt (sem_blocks f) (m_do m))))) =
-    let h = f _ _ _ refl (bs_one d) in along (m_nt (sem_program (p_program t n h.whole)) (with_values (ap (λ (l : List Val). act MakeProgram l) h.is) m)) (simp append_assoc)
+-- the values of data
+row_word : (c : Kind) (base : RawBase) (o : Span) → Q (tok c o) base →
+    act MakeWord (OfToken (tok c o) ∷ []) ≡ OfWord (RPlain base [], o) ∷ [] → Begun LW c word_owed o
+row_word c base o n e s vs r _ (m_do (m_nt (sem_word_args f) m)) =
+    let q : act MakeWord (OfToken (tok c o) ∷ vs) ≡ OfWord (RPlain base [], o) ∷ vs =
+    ap (λ (l : List Val). l ++ vs) e in
+    let h = f (tok c o ∷ []) _ vs q (bare_word n) in m_nt (sem_W h.whole) (with_values h.is m)
+
+row_word_pack : (o : Span) → Begun LW k.Pack (Nt LWordPacked ∷ (Tm want.As ∷ (Nt LT ∷ (Do MakeWordPack ∷ [])))) o
+row_word_pack p s vs r _ (m_nt (sem_word_packed o m c d e) (m_tm (of_as a) (m_nt (sem_T g) (m_do x)))) =
+    along (m_nt (sem_W (w_pack p o m c a d e g)) x) (simp append_assoc)
+
+applied_word : {u w : List Token} {a : RawValue × Span} {ts : List RawTy} → BareWord u a → (o c : Span) → Ts w ts →
+    W (u ++ tok k.LeftBracket o ∷ (w ++ tok k.RightBracket c ∷ [])) (word_applied a (ending ts c.end))
+applied_word (bare_word n) o c d = w_apply o c n d
+
+row_word_args : (o : Span) → Begun LWordArgs k.LeftBracket (Nt LSomeTypes ∷ (Mark ∷ (Do MakeWordApply ∷ []))) o
+row_word_args o s vs r _ (m_nt (sem_some_types {w} {ts} c d) (m_mark (m_do m))) =
+    m_nt {u = tok k.LeftBracket o ∷ (w ++ tok k.RightBracket c ∷ [])} (sem_word_args (λ x a below q h. record {
+      value = word_applied a (ending ts c.end);
+      whole = applied_word h o c d;
+      is = ap (λ (l : List Val). act MakeWordApply (OfList (ending ts c.end) ∷ (OfToken (tok k.LeftBracket o) ∷ l))) q;
+    })) m
+
+row_word_packed : (o : Span) → Begun LWordPacked k.LeftBracket
+    (Nt LT ∷ (Tm want.Comma ∷ (Nt LW ∷ (Tm want.RightBracket ∷ (Mark ∷ (Do MakeWordPacked ∷ [])))))) o
+row_word_packed o s vs r _ (m_nt (sem_T d) (m_tm (of_comma m) (m_nt (sem_W e) (m_tm (of_right_bracket c)
+    (m_mark (m_do x)))))) = along (m_nt (sem_word_packed o m c d e) x) (simp append_assoc)
+
+-- data tuples
+row_tuple : (o : Span) → Begun LTuple k.LeftAngle (Nt LDatums ∷ (Mark ∷ (Do MakeTuple ∷ []))) o
+row_tuple o s vs r _ (m_nt (sem_no_datums c) (m_mark (m_do m))) = m_nt (sem_tuple (tu_none o c)) m
+row_tuple o s vs r _ (m_nt (sem_datums c d) (m_mark (m_do m))) = m_nt (sem_tuple (tu_fields o c d)) m
+
+row_no_datums : (o : Span) → Begun LDatums k.RightAngle (Do MakeNoDatums ∷ []) o
+row_no_datums o s vs r w (m_do m) = m_nt (sem_no_datums o) m
+
+row_datums : (s : Stack) (vs r : List Val) (w : List Token) → Meets (Nt LW ∷ (datums_tail ++ s)) vs w r →
+    Meets (Nt LDatums ∷ s) vs w r
+row_datums s vs r _ (m_nt (sem_W {x} d) (m_tm (of_colon c) (m_nt (sem_T {t} e) (m_do
+    (m_nt (sem_datum_commas f) (m_tm (of_right_angle b) (m_do m))))))) =
+    let h = f _ (datum x t.tree ∷ []) vs refl (ds_one c d e) in
+    along (m_nt (sem_datums b h.whole)
+    (with_values (ap (λ (l : List Val). act MakeClosedDatums (OfToken (tok k.RightAngle b) ∷ l)) h.is) m))
+    (simp append_assoc)
+
+row_datum_comma : (o : Span) → Begun LMoreDatums k.Comma
+    (Nt LW ∷ (Tm want.Colon ∷ (Nt LT ∷ (Do MakeNextDatum ∷ (Nt LMoreDatums ∷ []))))) o
+row_datum_comma o s vs r _ (m_nt {u} (sem_W {x = i} d) (m_tm (of_colon c) (m_nt {u = v} (sem_T {t} e) (m_do
+    (m_nt {u = w} (sem_datum_commas f) m))))) =
+    along (m_nt {u = tok k.Comma o ∷ (u ++ tok k.Colon c ∷ (v ++ w))} (sem_datum_commas (λ x a below q h.
+    rules.moved table datums Ds (f _ _ below
+    (ap (λ (l : List Val). act MakeNextDatum
+    (OfType t ∷ (OfToken (tok k.Colon c) ∷ (OfWord i ∷ (OfToken (tok k.Comma o) ∷ l))))) q)
+    (ds_more o c h d e)) (simp append_assoc))) m) (simp append_assoc)
+
+-- a block after its word, and what follows on it
+record Coded (d : Span) (s : Stack) (vs r : List Val) (w : List Token) : Type 0 where
+  front : List Token
+  back : List Token
+  same : front ++ back ≡ w
+  us : List Val
+  meets : Meets s us back r
+  is : (l c : Span) (below : List Val) → vs ≡ over_label l c below →
+      Made table block Block (labelled l c (tok k.Code d ∷ front)) below us
+
+coded : {s : Stack} {vs r : List Val} {w : List Token} (d : Span) → Meets (code_owed ++ s) (OfToken (tok k.Code d) ∷ vs) w r →
+    Coded d s vs r w
+coded {vs} d (m_nt {u = u} (sem_binds {ns} a) (m_nt {u = v} (sem_file {f = file} f) (m_tm (of_dot p) (m_do
+    (m_nt {u = x} (sem_steps g) (m_nt {u = y} {w} (sem_End {e} z) (m_do m))))))) =
+    let h = g [] [] _ refl is_none in
+    record {
+      front = u ++ (v ++ tok k.Dot p ∷ (x ++ y));
+      back = w;
+      same = simp append_assoc;
+      us = _;
+      meets = m;
+      is = λ l c below q. record {
+        value = record { name = l; names = ns; file = file.tree; body = h.value; last = e };
+        whole = b_block l c d p a f h.whole z;
+        is =
+            ap (λ (t : List Val). act MakeBlock (OfEnd e ∷ t)) h.is ∙
+            ap (λ (t : List Val). act MakeBlock (OfEnd e ∷ (OfSteps h.value ∷ (OfToken (tok k.Dot p) ∷ (OfFile file ∷
+            (OfNames ns ∷ (OfToken (tok k.Code d) ∷ t))))))) q;
+      };
+    }
+
+-- items, and a block among them
+blocks_in-append : (xs ys : List RawItem) → blocks_in (xs ++ ys) ≡ blocks_in xs ++ blocks_in ys
+blocks_in-append [] ys = refl
+blocks_in-append (BlockItem b ∷ xs) ys = ap (λ (bs : List RawBlock). b ∷ bs) (blocks_in-append xs ys)
+blocks_in-append (DataItem x ∷ xs) ys = blocks_in-append xs ys
+
+blocks_count : (xs : List RawItem) (x : RawItem) →
+    length (blocks_in (xs ++ x ∷ [])) ≡ length (blocks_in xs) + length (blocks_in (x ∷ []))
+blocks_count xs x =
+    ap (λ (bs : List RawBlock). length bs) (blocks_in-append xs (x ∷ [])) ∙
+    length-append (blocks_in xs) (blocks_in (x ∷ []))
+
+still_block : (xs : List RawItem) (x : RawItem) → HasBlock xs → HasBlock (xs ++ x ∷ [])
+still_block xs x h = omega (arith, blocks_count xs x)
+
+new_block : (xs : List RawItem) (b : RawBlock) → HasBlock (xs ++ BlockItem b ∷ [])
+new_block xs b = omega (arith, blocks_count xs (BlockItem b))
+
+block_item : (s : Stack) (vs us r : List Val) (u w : List Token) (d : Span) →
+    ((l c : Span) (below : List Val) → vs ≡ over_label l c below →
+    Made table block Block (labelled l c (tok k.Code d ∷ u)) below us) →
+    Meets (Do MakeBlockItem ∷ s) us w r → Meets (Nt LItem ∷ s) vs (tok k.Code d ∷ (u ++ w)) r
+block_item s vs us r u w d is (m_do m) =
+    m_nt {u = tok k.Code d ∷ u} (sem_item (λ l c below q. let b = is l c below q in record {
+      value = BlockItem b.value;
+      whole = it_block b.whole;
+      is = ap (λ (t : List Val). act MakeBlockItem t) b.is;
+    })) m
+
+row_item_code : (o : Span) → Begun LItem k.Code (code_owed ++ Do MakeBlockItem ∷ []) o
+row_item_code d s vs r w m =
+    let z = coded d m in
+    along (block_item s vs z.us r z.front z.back d z.is z.meets) (ap (λ (t : List Token). tok k.Code d ∷ t) z.same)
+
+row_item_data : (o : Span) → Begun LItem k.Data data_owed o
+row_item_data d s vs r _ (m_nt {u} (sem_tuple {xs} x) (m_do m)) =
+    m_nt {u = tok k.Data d ∷ u} (sem_item (λ l c below q. record {
+      value = DataItem (record { name = l; fields = xs });
+      whole = it_data l c d x;
+      is = ap (λ (t : List Val). act MakeDataItem (OfTuple xs ∷ (OfToken (tok k.Data d) ∷ t))) q;
+    })) m
+
+row_more_items : (o : Span) → Begun LMoreItems k.Name (Tm want.Colon ∷ (Nt LItem ∷ items_tail)) o
+row_more_items l s vs r _ (m_tm (of_colon c) (m_nt {u} (sem_item f) (m_do (m_nt {u = v} (sem_more_items g) m)))) =
+    along (m_nt {u = labelled l c (u ++ v)} (sem_more_items (λ x a below q h.
+    let i = f l c vs refl in
+    rules.moved table items SomeItems (g (x ++ labelled l c u) (a ++ i.value ∷ []) below
+    (ap (λ (t : List Val). act MakeNextItem t) i.is ∙ ap (λ (t : List Val). act MakeNextItem (OfItem i.value ∷ t)) q)
+    (its_more h.0 i.whole, still_block a i.value h.1)) (simp append_assoc))) m) (simp append_assoc)
+
+row_some_items : (o : Span) → Begun LSomeItems k.Name (Tm want.Colon ∷ (Nt LFirst ∷ [])) o
+row_some_items l s vs r _ (m_tm (of_colon c) (m_nt {u} (sem_first f) m)) =
+    m_nt {u = labelled l c u} (sem_some_items (λ x a below q h.
+    f l c x a below (ap (λ (t : List Val). over_label l c t) q) h)) m
+
+first_block : (s : Stack) (vs us r : List Val) (u w : List Token) (d : Span) →
+    ((l c : Span) (below : List Val) → vs ≡ over_label l c below →
+    Made table block Block (labelled l c (tok k.Code d ∷ u)) below us) →
+    Meets (Do MakeBlockItem ∷ (items_tail ++ s)) us w r → Meets (Nt LFirst ∷ s) vs (tok k.Code d ∷ (u ++ w)) r
+first_block s vs us r u _ d is (m_do (m_do (m_nt {u = v} (sem_more_items g) m))) =
+    along (m_nt {u = tok k.Code d ∷ (u ++ v)} (sem_first (λ l c x a below q h.
+    let b = is l c (OfItems a ∷ below) q in
+    rules.moved table items SomeItems (g (x ++ labelled l c (tok k.Code d ∷ u)) (a ++ BlockItem b.value ∷ []) below
+    (ap (λ (t : List Val). act MakeNextItem (act MakeBlockItem t)) b.is)
+    (its_more h (it_block b.whole), new_block a b.value)) (simp append_assoc))) m) (simp append_assoc)
+
+row_first_code : (o : Span) → Begun LFirst k.Code (code_owed ++ Do MakeBlockItem ∷ items_tail) o
+row_first_code d s vs r w m =
+    let z = coded d m in
+    along (first_block s vs z.us r z.front z.back d z.is z.meets) (ap (λ (t : List Token). tok k.Code d ∷ t) z.same)
+
+row_first_data : (o : Span) → Begun LFirst k.Data (data_owed ++ Do MakeNextItem ∷ (Nt LSomeItems ∷ [])) o
+row_first_data d s vs r _ (m_nt {u} (sem_tuple {xs} x) (m_do (m_do (m_nt {u = v} (sem_some_items g) m)))) =
+    along (m_nt {u = tok k.Data d ∷ (u ++ v)} (sem_first (λ l c y a below q h.
+    let i : RawItem = DataItem (record { name = l; fields = xs }) in
+    rules.moved table items SomeItems (g (y ++ labelled l c (tok k.Data d ∷ u)) (a ++ i ∷ []) below
+    (ap (λ (t : List Val). act MakeNextItem (act MakeDataItem (OfTuple xs ∷ (OfToken (tok k.Data d) ∷ t)))) q)
+    (its_more h (it_data l c d x))) (simp append_assoc))) m) (simp append_assoc)
+
+-- programs
+row_blocks : (o : Span) → Begun LHeader (k.Plain (pos 1)) blocks_owed o
+row_blocks n s vs r _ (m_nt (sem_block d) (m_do (m_nt (sem_blocks f) (m_do m)))) =
+    let h = f _ _ _ refl (bs_one d) in
+    along (m_nt (sem_header (λ t. p_blocks t n h.whole))
+    (with_values (ap (λ (l : List Val). act MakeHeaded l) h.is) m)) (simp append_assoc)
+
+row_items : (o : Span) → Begun LHeader (k.Plain (pos 2)) items_owed o
+row_items n s vs r _ (m_do (m_nt (sem_some_items f) (m_do m))) =
+    let h = f [] [] _ refl its_none in
+    m_nt (sem_header (λ t. p_items t n h.whole.0 h.whole.1))
+    (with_values (ap (λ (l : List Val). act MakeHeaded l) h.is) m)
+
+header_row : (z : ℤ) (p : Span) → Row table meaning LHeader (tok (k.Plain z) p) (headed z)
+header_row (pos n) p = by_one (n == 1) refl
+  where
+    by_two : (y : Bool) → (n == 2) ≡ y →
+        Row table meaning LHeader (tok (k.Plain (pos n)) p) (if y then Some items_owed else None)
+    by_two true e =
+        subst (λ (m : ℕ). Row table meaning LHeader (tok (k.Plain (pos m)) p) (Some items_owed)) (sym (eqb-true n 2 e))
+        (row_items p)
+    by_two false e = tt
+
+    by_one : (x : Bool) → (n == 1) ≡ x → Row table meaning LHeader (tok (k.Plain (pos n)) p)
+        (if x then Some blocks_owed else if n == 2 then Some items_owed else None)
+    by_one true e =
+        subst (λ (m : ℕ). Row table meaning LHeader (tok (k.Plain (pos m)) p) (Some blocks_owed)) (sym (eqb-true n 1 e))
+        (row_blocks p)
+    by_one false e = by_two (n == 2) refl
+header_row (negsuc n) p = tt
+
+row_program : (o : Span) → Begun LProgram k.Tal (Nt LHeader ∷ (Do MakeProgram ∷ [])) o
+row_program t s vs r _ (m_nt (sem_header f) (m_do m)) = m_nt (sem_program (f t)) m
 
 -- the rows of each line
 type_row : (c : Kind) (p : Span) → Row table meaning LT (tok c p) (type_after c)
@@ -386,9 +637,42 @@ value_row k.Name p = row_base k.Name _ p (n_label p) refl
 value_row k.Pack p = row_pack p
 value_row _ p = tt
 
+word_row : (c : Kind) (p : Span) → Row table meaning LW (tok c p) (word_after c)
+word_row (k.Plain z) p = row_word (k.Plain z) _ p (q_plain z p) refl
+word_row (k.Negative z) p = row_word (k.Negative z) _ p (q_negative z p) refl
+word_row k.Name p = row_word k.Name _ p (q_label p) refl
+word_row k.Pack p = row_word_pack p
+word_row _ p = tt
+
+datums_row : (c : Kind) (p : Span) → Row table meaning LDatums (tok c p) (datums_after c)
+datums_row k.RightAngle p = row_no_datums p
+datums_row c p = rules.more_row table meaning LW LDatums (tok c p) datums_tail row_datums (word_after c) (word_row c p)
+
 pub row : (n : Line) (c : Kind) (p : Span) → Row table meaning n (tok c p) (after n c)
 row LProgram k.Tal p = row_program p
 row LProgram _ p = tt
+row LHeader (k.Plain z) p = header_row z p
+row LHeader _ p = tt
+row LSomeItems k.Name p = row_some_items p
+row LSomeItems _ p = tt
+row LFirst k.Code p = row_first_code p
+row LFirst k.Data p = row_first_data p
+row LFirst _ p = tt
+row LMoreItems k.Name p = row_more_items p
+row LMoreItems _ p = tt
+row LItem k.Code p = row_item_code p
+row LItem k.Data p = row_item_data p
+row LItem _ p = tt
+row LTuple k.LeftAngle p = row_tuple p
+row LTuple _ p = tt
+row LDatums c p = datums_row c p
+row LMoreDatums k.Comma p = row_datum_comma p
+row LMoreDatums _ p = tt
+row LW c p = word_row c p
+row LWordArgs k.LeftBracket p = row_word_args p
+row LWordArgs _ p = tt
+row LWordPacked k.LeftBracket p = row_word_packed p
+row LWordPacked _ p = tt
 row LBlock k.Name p = row_block p
 row LBlock _ p = tt
 row LMoreBlocks k.Name p = rules.more_row table meaning LBlock LMoreBlocks (tok k.Name p) blocks_tail row_next_block (Some block_owed) (row_block p)
@@ -441,6 +725,9 @@ row LEnd _ p = tt
 bare_value : {w : List Token} {a : Piece RawValue} → Bare w a → V w a
 bare_value (bare n) = v_base n
 
+word_value : {w : List Token} {a : RawValue × Span} → BareWord w a → W w a
+word_value (bare_word n) = w_base n
+
 -- a line that may end takes no token
 pub empty : (n : Line) → may_end n ≡ true → (vs : List Val) → Sem n vs [] vs
 empty LMoreBlocks e vs = sem_blocks (λ u a below q h. record { value = a; whole = rw append-nil h; is = q })
@@ -450,4 +737,15 @@ empty LMoreFields e vs = sem_field_commas (λ u a below q h. record { value = a;
 empty LMoreTypes e vs = sem_type_commas (λ u a below q h. record { value = a; whole = rw append-nil h; is = q })
 empty LArgs e vs = sem_args (λ u a below q h. record { value = a; whole = rw append-nil (bare_value h); is = q })
 empty LMoreSteps e vs = sem_steps (λ u a below q h. record { value = a; whole = rw append-nil h; is = q })
+empty LMoreItems e vs = sem_more_items (λ u a below q h. record {
+  value = a;
+  whole = ((rw append-nil h.0), h.1);
+  is = q;
+})
+empty LMoreDatums e vs = sem_datum_commas (λ u a below q h. record { value = a; whole = rw append-nil h; is = q })
+empty LWordArgs e vs = sem_word_args (λ u a below q h. record {
+  value = a;
+  whole = rw append-nil (word_value h);
+  is = q;
+})
 empty _ e vs = absurd (cc)

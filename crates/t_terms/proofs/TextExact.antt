@@ -12,9 +12,9 @@ use Rattle.t_terms.specs.declared.fault.TCode.TheVariants.{T03, M1}
 use Rattle.t_terms.specs.declared.token.Token.{Token}
 use Rattle.t_terms.specs.Spanned.{SProg}
 use Rattle.t_terms.specs.Tokens.{assembly, IsCut}
-use Rattle.t_terms.specs.Raw.{RawBlock}
+use Rattle.t_terms.specs.Raw.{RawItem}
 use Rattle.t_terms.specs.Grammar.{Program, assembly_grammar}
-use Rattle.t_terms.specs.GrammarTable.{table, OfBlocks}
+use Rattle.t_terms.specs.GrammarTable.{table, OfItems}
 use Rattle.t_terms.specs.Names.{program_of}
 use Rattle.t_terms.specs.NameFaults.{program_faults}
 use Rattle.t_terms.specs.Text.{most_open, ReadsAs, code_of, FirstFault, in_tokens, unexpected, cut_short, too_deep, in_names, AtMostOneProgram, NoFaultWhereRead, NoProgramWhereFaulty, AtMostOneFault}
@@ -25,7 +25,7 @@ pub one_cut : (text : List ℕ) (w v : List Token) → IsCut text w → IsCut te
 one_cut text w v x y = once.one_cut assembly assembly_signs x v y
 
 -- two programs of one text before names are resolved
-same_raw : (text : List ℕ) {w v : List Token} {a b : List RawBlock} → IsCut text w → IsCut text v → Program w a → Program v b → a ≡ b
+same_raw : (text : List ℕ) {w v : List Token} {a b : List RawItem} → IsCut text w → IsCut text v → Program w a → Program v b → a ≡ b
 same_raw text {w} {v} {a} x y p q = one_tree (subst (λ (u : List Token). Program u a) (one_cut text w v x y) p) q
 
 pub at_most_one_program : AtMostOneProgram
@@ -33,7 +33,7 @@ at_most_one_program text P Q a b = a.is ∙ (ap (program_of text) (same_raw text
 
 -- what a verdict on the tokens shows of a fault
 abbrev Shows : List ℕ → List Token → Verdict table → TCode → Span → Type 0
-Shows text w (Fine vs) code span = (raw : List RawBlock) × (rest : List (TCode × Span)) × Program w raw × (program_faults text raw ≡ (code, span) ∷ rest)
+Shows text w (Fine vs) code span = (raw : List RawItem) × (rest : List (TCode × Span)) × Program w raw × (program_faults text raw ≡ (code, span) ∷ rest)
 Shows text w (Unexpected []) code span = (code ≡ T03) × (span ≡ record { start = length text; end = length text })
 Shows text w (Unexpected (c ∷ z)) code span = (code ≡ T03) × (span ≡ c.span)
 Shows text w (Passed []) code span = ⊥
@@ -44,7 +44,7 @@ data Stage (text : List ℕ) : TCode → Span → Type 0 where
   s_tokens : {span : Span} (why : Reason) → FirstWrong assembly text why span.start span.end → Stage text (code_of why) span
   s_cut : {code : TCode} {span : Span} (w : List Token) (v : Verdict table) → IsCut text w → Says table most_open w v → Shows text w v code span → Stage text code span
 
-fine : {w : List Token} {raw : List RawBlock} → Program w raw → NonePasses assembly_grammar most_open w → Says table most_open w (Fine (OfBlocks raw ∷ []))
+fine : {w : List Token} {raw : List RawItem} → Program w raw → NonePasses assembly_grammar most_open w → Says table most_open w (Fine (OfItems raw ∷ []))
 fine {raw} p n = record { value = raw; shape = p; is = refl; within = n }
 
 stage : {text : List ℕ} {code : TCode} {span : Span} → FirstFault text code span → Stage text code span
@@ -52,7 +52,7 @@ stage (in_tokens why f) = s_tokens why f
 stage (unexpected {w} {u} {c} {z} x f) = s_cut w (Unexpected (c ∷ z)) x (u, f) (refl, refl)
 stage (cut_short {w} x f) = s_cut w (Unexpected []) x f (refl, refl)
 stage (too_deep {w} {u} {c} {z} x f) = s_cut w (Passed (c ∷ z)) x (u, f) (refl, refl)
-stage (in_names {w} {raw} {rest} x p n e) = s_cut w (Fine (OfBlocks raw ∷ [])) x (fine p n) (raw, rest, p, e)
+stage (in_names {w} {raw} {rest} x p n e) = s_cut w (Fine (OfItems raw ∷ [])) x (fine p n) (raw, rest, p, e)
 
 no_wrong : {text : List ℕ} {w : List Token} {why : Reason} {span : Span} → IsCut text w → FirstWrong assembly text why span.start span.end → ⊥
 no_wrong {text} {w} {why} {span} x f = once.cut_or_wrong assembly assembly_signs text w why span.start span.end x f
@@ -93,7 +93,7 @@ no_stage {text} r (s_cut {code} {span} w v x s e) =
     let n = subst (λ (y : List Token). NonePasses assembly_grammar most_open y) (one_cut text r.within.0 r.stands.tokens r.within.1 r.stands.cut) r.within.2 in
     none v (same_verdict x r.stands.cut s (fine r.stands.shape n)) e
   where
-    none : (v : Verdict table) → v ≡ Fine (OfBlocks r.stands.raw ∷ []) → Shows text w v code span → ⊥
+    none : (v : Verdict table) → v ≡ Fine (OfItems r.stands.raw ∷ []) → Shows text w v code span → ⊥
     none (Fine vs) q (raw, rest, p, f) =
         let g : program_faults text raw ≡ program_faults text r.stands.raw = ap (program_faults text) (same_raw text x r.stands.cut p r.stands.shape) in
         let h : (code, span) ∷ rest ≡ [] = sym f ∙ (g ∙ r.stands.named) in cc

@@ -58,8 +58,11 @@ second_register : FirstFault (codes "tal 1\nL0: code[]{r1:int,r1:int}. halt[int]
 second_register = faulty _ _ _ _ refl
 
 -- another number after `tal`, and a reserved word that no form has
-other_version : FirstFault (codes "tal 2\nL0: code[]{}. halt[int]") T03 (record { start = 4; end = 5 })
+other_version : FirstFault (codes "tal 3\nL0: code[]{}. halt[int]") T03 (record { start = 4; end = 5 })
 other_version = faulty _ _ _ _ refl
+
+negative_version : FirstFault (codes "tal ~2\nL0: code[]{}. halt[int]") T03 (record { start = 4; end = 6 })
+negative_version = faulty _ _ _ _ refl
 
 reserved : FirstFault (codes "tal 1 data") T03 (record { start = 6; end = 10 })
 reserved = faulty _ _ _ _ refl

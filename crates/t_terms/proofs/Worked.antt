@@ -18,9 +18,9 @@ use Rattle.t_terms.specs.declared.token.Kind.TheVariants as k
 use Rattle.t_terms.specs.declared.token.Token.{Token}
 use Rattle.t_terms.specs.Spanned.{SProg}
 use Rattle.t_terms.specs.Tokens.{assembly, IsCut, Keeps}
-use Rattle.t_terms.specs.Raw.{RawBlock}
+use Rattle.t_terms.specs.Raw.{RawItem}
 use Rattle.t_terms.specs.Grammar.{Program, assembly_grammar}
-use Rattle.t_terms.specs.GrammarTable.{table, OfBlocks}
+use Rattle.t_terms.specs.GrammarTable.{table, OfItems}
 use Rattle.t_terms.specs.Names.{program_of}
 use Rattle.t_terms.specs.NameFaults.{program_faults}
 use Rattle.t_terms.specs.Text.{most_open, ReadsAs, code_of, FirstFault, in_tokens, unexpected, cut_short, too_deep, in_names, ProgramOrFault}
@@ -111,12 +111,12 @@ pub data Answer : Type 0 where
   Fault : TCode → Span → Answer
   Open : Answer
 
-abbrev pub by_names : List ℕ → List RawBlock → List (TCode × Span) → Answer
+abbrev pub by_names : List ℕ → List RawItem → List (TCode × Span) → Answer
 by_names text raw [] = Stand (program_of text raw)
 by_names text raw (f ∷ rest) = Fault f.0 f.1
 
 abbrev pub by_verdict : List ℕ → Verdict table → Answer
-by_verdict text (Fine (OfBlocks raw ∷ vs)) = by_names text raw (program_faults text raw)
+by_verdict text (Fine (OfItems raw ∷ vs)) = by_names text raw (program_faults text raw)
 by_verdict text (Fine vs) = Open
 by_verdict text (Unexpected []) = Fault T03 (record { start = length text; end = length text })
 by_verdict text (Unexpected (c ∷ z)) = Fault T03 c.span
@@ -137,9 +137,9 @@ IsAnswer text (Fault code span) = FirstFault text code span
 IsAnswer text Open = Unit {0}
 
 of_verdict : (text : List ℕ) (w : List Token) → IsCut text w → (v : Verdict table) → Says table most_open w v → IsAnswer text (by_verdict text v)
-of_verdict text w c (Fine (OfBlocks raw ∷ vs)) h =
+of_verdict text w c (Fine (OfItems raw ∷ vs)) h =
     let q : h.value ≡ raw = cc in
-    let p = subst (λ (x : List RawBlock). Program w x) q h.shape in
+    let p = subst (λ (x : List RawItem). Program w x) q h.shape in
     named (program_faults text raw) refl p
   where
     named : (fs : List (TCode × Span)) → program_faults text raw ≡ fs → Program w raw → IsAnswer text (by_names text raw fs)
@@ -202,7 +202,7 @@ finished (suc steps) i (b ∷ s) le =
 pub program_or_fault : ProgramOrFault
 program_or_fault text = of_tokens (cut_in (length text) 0 text) (tells (length text) 0 text) (finished (length text) 0 text (omega arith))
   where
-    named : (w : List Token) (raw : List RawBlock) → IsCut text w → Program w raw → NonePasses assembly_grammar most_open w → (fs : List (TCode × Span)) → program_faults text raw ≡ fs → Decided text
+    named : (w : List Token) (raw : List RawItem) → IsCut text w → Program w raw → NonePasses assembly_grammar most_open w → (fs : List (TCode × Span)) → program_faults text raw ≡ fs → Decided text
     named w raw c p n [] e = inl (program_of text raw, record { stands = record { tokens = w; cut = c; raw = raw; shape = p; named = e; is = refl }; within = (w, c, n) })
     named w raw c p n (f ∷ rest) e = inr (f.0, f.1, in_names c p n e)
 

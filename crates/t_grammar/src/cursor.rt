@@ -45,11 +45,13 @@ pub fn peek(tokens: &[Token], at: usize) -> Option<Token>
     tokens.get(at).copied()
 }
 
-fn is_one(kind: Kind) -> bool
-    ensures { result ≡ fits want.One kind }
+// the flag that a number is
+fn flag_in(kind: Kind) -> bool
+    ensures { result ≡ flag_of kind }
 {
     match kind {
         Kind::Plain(value) => value == 1,
+        Kind::Negative(value) => value == 1,
         _ => false,
     }
 }
@@ -71,7 +73,6 @@ fn fits_kind(wanted: Wanted, kind: Kind) -> bool
         Wanted::Name => matches!(kind, Kind::Name),
         Wanted::Register => matches!(kind, Kind::Register(_)),
         Wanted::Number => matches!(kind, Kind::Plain(_)),
-        Wanted::One => is_one(kind),
         Wanted::Flag => is_flag(kind),
         Wanted::LeftBracket => matches!(kind, Kind::LeftBracket),
         Wanted::RightBracket => matches!(kind, Kind::RightBracket),
@@ -152,7 +153,7 @@ pub(crate) fn expect_flag(tokens: &[Token], at: usize) -> Result<bool, Stopped>
     ensures { IsHeld (λ c. flag_of c.kind) tokens.now at want.Flag result }
 {
     let token = expect(tokens, at, Wanted::Flag)?;
-    Ok(is_one(token.kind))
+    Ok(flag_in(token.kind))
 }
 
 /// One more open construct, from the token at a place on.

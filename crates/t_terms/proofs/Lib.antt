@@ -6,6 +6,7 @@ pub mod BodyWalks
 pub mod Complete
 pub mod Filling
 pub mod Instance
+pub mod ItemLaws
 pub mod Nested
 pub mod TableRows
 pub mod TextExact

@@ -12,6 +12,7 @@ use Rattle.t_terms.specs.declared.wanted.Wanted.{Wanted}
 use Rattle.t_terms.specs.declared.wanted.Wanted.TheVariants as want
 use Rattle.t_terms.specs.Raw.{RawTy, RTuple, RawRegs, RawReg, RawField, raw_regs, raw_fields, RawBase, RawValue, RPlain, RawInstr, RawEnd, RawBlock, RawDatum, RawItem, BlockItem, DataItem, blocks_in, Piece, ending}
 use Rattle.t_terms.specs.Grammar.{tok, Names, ns_one, ns_more, Binds, bs_none, bs_names, IsFlag, is_zero, is_one, is_minus_zero, T, t_int, t_name, t_code, t_some, t_unit, t_tuple, File, f_none, f_regs, Rs, rs_one, rs_more, Fs, fs_one, fs_more, Ts, ts_one, ts_more, N, n_reg, n_plain, n_negative, n_label, V, v_base, v_apply, v_pack, IsOp, is_add, is_sub, is_mul, I, i_arith, i_bnz, i_ld, i_malloc_none, i_malloc, i_mov, i_st, i_unpack, Is, is_none, is_more, End, e_jmp, e_halt, Block, b_block, Blocks, bs_one, bs_more, Q, q_plain, q_negative, q_label, W, w_base, w_apply, w_pack, datum, Ds, ds_one, ds_more, Tuple, tu_none, tu_fields, Item, it_block, it_data, Items, its_none, its_more, HasBlock, Program, p_blocks, p_items}
+use Rattle.t_terms.proofs.ItemLaws.{blocks_in-append}
 use Rattle.text_core.specs.Table.{Tm, Nt, Do, Mark, then_more}
 use Rattle.text_core.proofs.Rules as rules
 use Rattle.text_core.proofs.Rules.{Meaning, Matches, m_end, m_tm, m_nt, m_do, m_mark, Row, Made, Extends}
@@ -452,8 +453,8 @@ record Coded (d : Span) (s : Stack) (vs r : List Val) (w : List Token) : Type 0 
   is : (l c : Span) (below : List Val) → vs ≡ over_label l c below →
       Made table block Block (labelled l c (tok k.Code d ∷ front)) below us
 
-coded : {s : Stack} {vs r : List Val} {w : List Token} (d : Span) → Meets (code_owed ++ s) (OfToken (tok k.Code d) ∷ vs) w r →
-    Coded d s vs r w
+coded : {s : Stack} {vs r : List Val} {w : List Token} (d : Span) →
+    Meets (code_owed ++ s) (OfToken (tok k.Code d) ∷ vs) w r → Coded d s vs r w
 coded {vs} d (m_nt {u = u} (sem_binds {ns} a) (m_nt {u = v} (sem_file {f = file} f) (m_tm (of_dot p) (m_do
     (m_nt {u = x} (sem_steps g) (m_nt {u = y} {w} (sem_End {e} z) (m_do m))))))) =
     let h = g [] [] _ refl is_none in
@@ -474,11 +475,6 @@ coded {vs} d (m_nt {u = u} (sem_binds {ns} a) (m_nt {u = v} (sem_file {f = file}
     }
 
 -- items, and a block among them
-blocks_in-append : (xs ys : List RawItem) → blocks_in (xs ++ ys) ≡ blocks_in xs ++ blocks_in ys
-blocks_in-append [] ys = refl
-blocks_in-append (BlockItem b ∷ xs) ys = ap (λ (bs : List RawBlock). b ∷ bs) (blocks_in-append xs ys)
-blocks_in-append (DataItem x ∷ xs) ys = blocks_in-append xs ys
-
 blocks_count : (xs : List RawItem) (x : RawItem) →
     length (blocks_in (xs ++ x ∷ [])) ≡ length (blocks_in xs) + length (blocks_in (x ∷ []))
 blocks_count xs x =

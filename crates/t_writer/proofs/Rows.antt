@@ -36,15 +36,15 @@ two_blocks = refl
 abbrev numbers : List TDatum
 numbers = record { value = Plain (Int (pos 5)) []; ty = IntTy } ∷ (record { value = Plain (Data 1) []; ty = TupleTy (MoreFields IntTy true NoFields) } ∷ [])
 
-abbrev package : List TDatum
-package =
+abbrev packed : List TDatum
+packed =
     record { value = Pack IntTy (Plain (Int (negsuc 6)) []) (ExistsTy (VarTy 0)); ty = ExistsTy (VarTy 0) }
     ∷ (record { value = Plain (Label 0) (IntTy ∷ []); ty = CodeTy 0 NoRegs } ∷ [])
 
 abbrev loads : TBlock
 loads = record { owes = 0; file = NoRegs; code = Then (Mov 2 (Plain (Data 0) [])) (Then (Ld 1 2 0) (Ends Halt)) }
 
-with_data : render (second_written (record { blocks = loads ∷ []; heap = numbers ∷ (package ∷ ([] ∷ [])) })) ≡
+with_data : render (second_written (record { blocks = loads ∷ []; heap = numbers ∷ (packed ∷ ([] ∷ [])) })) ≡
     codes "tal 2\nD0: data <5 : int, D1 : <int^1>>\nD1: data <pack[int, ~7] as some T0. T0 : some T0. T0, L0[int] : all[]{}>\nD2: data <>\nL0: code[]{}.\nmov r2, D0\nld r1, r2[0]\nhalt[int]\n"
 unfolding digits
 with_data = refl

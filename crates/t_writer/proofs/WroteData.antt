@@ -30,7 +30,7 @@ stops_fields i (x ∷ xs) = refl
 -- one field more, and then others
 fields_along : (u v w y : List Token) (m c : Span) (rs more : List RawDatum) (r : RawDatum) → Ds ((u ++ tok k.Comma m ∷ (v ++ tok k.Colon c ∷ w)) ++ y) ((rs ++ r ∷ []) ++ more) →
     Ds (u ++ tok k.Comma m ∷ ((v ++ tok k.Colon c ∷ w) ++ y)) (rs ++ r ∷ more)
-fields_along u v w y m c rs more r h = simp append_assoc at h
+fields_along u v w y m c rs more r h = rw (append_assoc v (tok k.Colon c ∷ w) y) (simp append_assoc at h)
 
 -- in a program of p blocks and q data tuples
 module _ (text : List ℕ) (p q : ℕ) (few : p ≤ 2 ^ 64) (small : q ≤ 2 ^ 64) where
@@ -202,7 +202,7 @@ module _ (text : List ℕ) (p q : ℕ) (few : p ≤ 2 ^ 64) (small : q ≤ 2 ^ 6
       record {
         raw = datum a.word a.ty.tree ∷ r.raw;
         whole = rw (placed_append j (datum_written x ++ rest) last, placed_append j (datum_written x) rest)
-            (tu_fields _ _ (r.extend _ (datum a.word a.ty.tree ∷ []) (rw a.at (ds_one a.colon a.whole_word a.whole_type))));
+            (tu_fields _ _ (r.extend (placed j (datum_written x)) (datum a.word a.ty.tree ∷ []) (rw a.at (ds_one a.colon a.whole_word a.whole_type))));
         fine = λ b. fine_append (datum_written x ++ rest) last b (fine_append (datum_written x) rest true (rw (stops_fields 0 xs) a.fine) r.fine) ((refl, refl, tt), tt, (refl, tt, tt));
         means = ap₂ (λ (y : TDatum) (ys : TData). y ∷ ys) a.means r.means;
         none = one_more (datum a.word a.ty.tree) r.raw a.none r.none;

@@ -26,14 +26,12 @@ fn write_datum(text: &mut Vec<u8>, value: &Value, ty: &TType) -> Result<(), OutO
 {
     write_value(text, value, 0)?;
     text.extend_from_slice(b" : ")?;
-    write_type(text, ty, 0)
+    write_type(text, ty, 0)?;
+    Ok(())
 }
 
 // The fields of a data tuple.
-fn write_data_fields(
-    text: &mut Vec<u8>,
-    fields: &[(Value, TType, Span)],
-) -> Result<(), OutOfMemory>
+fn write_data_fields(text: &mut Vec<u8>, fields: &[(Value, TType, Span)]) -> Result<(), OutOfMemory>
     requires { (blocks heap : ℕ) × WellFormedData blocks heap (plain_fields (data_fields fields.now)) }
     ensures written { OnOk result (text.new.items ≡
         text.old.items ++ render (data_fields_written 0 (plain_fields (data_fields fields.now)))) }

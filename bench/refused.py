@@ -73,6 +73,10 @@ PACKAGE = (
     "tal 1\nL0: code[]{}.\nmov r1, pack[int, 3] as some a. a\nunpack[b, r2], r1\nmov r1, L1[b]\nmov r3, 7\njmp L1[int]\n"
     "L1: code[a]{r3:int}.\nmov r1, r3\nhalt[int]\n"
 )
+DATA = (
+    "tal 2\nD0: data <5 : int, D1 : <int^1>>\nD1: data <6 : int>\n"
+    "L0: code[]{}.\nmov r2, D0\nld r3, r2[1]\nld r1, r3[0]\nhalt[int]\n"
+)
 
 # The words after the program's name, and the text of the file IN.
 CASES = [
@@ -80,6 +84,7 @@ CASES = [
     ("typeof IN", "fix f(x:<int, all a. a -> a>):int. #1 x"), ("typeof IN", "(1 +"), ("eval IN --turns 6", FACTORIAL),
     ("eval IN --turns 5", FACTORIAL), ("check IN", PACKAGE), ("check IN", "tal 1\nL0: code[]{}.\nhalt[int]\n"),
     ("run IN --fuel 5", TUPLE), ("run IN --fuel 10", LOOP), ("run IN", LOOP), ("check NONE", LOOP),
+    ("upgrade IN OUT", PACKAGE), ("upgrade IN OUT", DATA), ("run IN --fuel 3", DATA),
 ]
 
 

@@ -24,8 +24,15 @@ const SOURCES: [&str; 14] = [
     "swap",
 ];
 
-// The assembly texts written by hand: each is checked and run.
-const ASSEMBLIES: [&str; 5] = ["alias", "factorial", "package", "partial", "polymorphic"];
+// The assembly texts written by hand: each is checked, run and upgraded, and run as upgraded.
+const ASSEMBLIES: [&str; 6] = [
+    "alias",
+    "data",
+    "factorial",
+    "package",
+    "partial",
+    "polymorphic",
+];
 
 fn words(alloc: Global, line: &str) -> Result<Vec<String>, AllocError> {
     let mut words = Vec::new(alloc);
@@ -83,7 +90,11 @@ fn show_assembly<F: Files, O: Sink, E: Sink>(
     let check = format!(in alloc; "talc check {name}.tal").ok()?;
     show(alloc, files, out, err, &check)?;
     let run = format!(in alloc; "talc run {name}.tal --fuel 1000").ok()?;
-    show(alloc, files, out, err, &run)
+    show(alloc, files, out, err, &run)?;
+    let upgrade = format!(in alloc; "talc upgrade {name}.tal new-{name}.tal").ok()?;
+    show(alloc, files, out, err, &upgrade)?;
+    let again = format!(in alloc; "talc run new-{name}.tal --fuel 1000").ok()?;
+    show(alloc, files, out, err, &again)
 }
 
 fn show_all<F: Files, O: Sink, E: Sink>(

@@ -25,25 +25,25 @@ left_code xs i e = seq_of (body (drop i xs)) e
 
 -- what the loop over instructions keeps
 pub record Coding (xs : List (Instr × Span)) (e : TEnd) (i names : ℕ) (text whole : List ℕ) (all : TSeq) : Type 0 where
-  pub fits : (p : ℕ) × WellFormedSeq p 0 names (left_code xs i e)
+  pub fits : (p q : ℕ) × WellFormedSeq p q names (left_code xs i e)
   pub written : text ++ render (seq_written names (left_code xs i e)) ≡ whole
   pub ints : SeqFits (left_code xs i e) → SeqFits all
 
-pub coding_start : (xs : List (Instr × Span)) (e : TEnd) (names : ℕ) (text : List ℕ) → (p : ℕ) × WellFormedSeq p 0 names (seq_of (body xs) e) →
+pub coding_start : (xs : List (Instr × Span)) (e : TEnd) (names : ℕ) (text : List ℕ) → (p q : ℕ) × WellFormedSeq p q names (seq_of (body xs) e) →
     Coding xs e 0 names text (text ++ render (seq_written names (seq_of (body xs) e))) (seq_of (body xs) e)
 coding_start xs e names text h = record { fits = h; written = refl; ints = λ x. x }
 
 module _ (xs : List (Instr × Span)) (e : TEnd) (i names : ℕ) (text whole : List ℕ) (all : TSeq) (h : Coding xs e i names text whole all) where
   module _ (x : Instr × Span) (is : x ≡ get_or xs i x) (lt : i < length xs) where
     -- what is known of the next instruction
-    next_fits : (p : ℕ) × WellFormedSeq p 0 names (seq_of (body (x ∷ drop (i + 1) xs)) e)
-    next_fits = subst (λ (ys : List (Instr × Span)). (p : ℕ) × WellFormedSeq p 0 names (seq_of (body ys) e)) (item_next xs i x is lt) h.fits
+    next_fits : (p q : ℕ) × WellFormedSeq p q names (seq_of (body (x ∷ drop (i + 1) xs)) e)
+    next_fits = subst (λ (ys : List (Instr × Span)). (p q : ℕ) × WellFormedSeq p q names (seq_of (body ys) e)) (item_next xs i x is lt) h.fits
 
-    pub instr_fits : (p : ℕ) × WellFormedInstr p 0 names (instr x.0)
-    instr_fits = (next_fits.0, next_fits.1.0)
+    pub instr_fits : (p q : ℕ) × WellFormedInstr p q names (instr x.0)
+    instr_fits = (next_fits.0, next_fits.1, next_fits.2.0)
 
     pub names_fit : names_after (instr x.0) names ≤ max_names
-    names_fit = next_fits.1.1
+    names_fit = next_fits.2.1
 
     pub coding_more : (t1 t2 : List ℕ) (n : ℕ) → t1 ≡ text ++ render (instr_written names (instr x.0)) → t2 ≡ t1 ++ 10 ∷ [] → n ≡ names_after (instr x.0) names → InstrFits (instr x.0) →
         Coding xs e (i + 1) n t2 whole all
@@ -52,7 +52,7 @@ module _ (xs : List (Instr × Span)) (e : TEnd) (i names : ℕ) (text whole : Li
         let w : text ++ render (seq_written names (seq_of (body (x ∷ drop (i + 1) xs)) e)) ≡ whole = subst (λ (ys : List (Instr × Span)). text ++ render (seq_written names (seq_of (body ys) e)) ≡ whole) d h.written in
         let j = rw (render_append (instr_written names (instr x.0)) (line_end ∷ seq_written (names_after (instr x.0) names) (left_code xs (i + 1) e))) at w in
         record {
-          fits = rw m (next_fits.0, next_fits.1.2);
+          fits = rw m (next_fits.0, next_fits.1, next_fits.2.2);
           written = rw (m, e2, e1) (simp append_assoc j);
           ints = λ f. h.ints (subst (λ (ys : List (Instr × Span)). SeqFits (seq_of (body ys) e)) (sym d) (ints, f));
         }
@@ -61,8 +61,8 @@ module _ (xs : List (Instr × Span)) (e : TEnd) (i names : ℕ) (text whole : Li
     last : drop i xs ≡ []
     last = drop_of_length-le xs le
 
-    pub end_fits : (p : ℕ) × WellFormedEnd p 0 names e
-    end_fits = subst (λ (ys : List (Instr × Span)). (p : ℕ) × WellFormedSeq p 0 names (seq_of (body ys) e)) last h.fits
+    pub end_fits : (p q : ℕ) × WellFormedEnd p q names e
+    end_fits = subst (λ (ys : List (Instr × Span)). (p q : ℕ) × WellFormedSeq p q names (seq_of (body ys) e)) last h.fits
 
     pub coding_end : (t1 t2 : List ℕ) → t1 ≡ text ++ render (end_written names e) → t2 ≡ t1 ++ 10 ∷ [] → t2 ≡ whole
     coding_end t1 t2 e1 e2 =
@@ -75,20 +75,20 @@ module _ (xs : List (Instr × Span)) (e : TEnd) (i names : ℕ) (text whole : Li
 
 -- what the loop over blocks keeps
 pub record Blocking (bs : List Block) (i : ℕ) (text whole : List ℕ) : Type 0 where
-  pub fits : (p : ℕ) × WellFormedBlocks p 0 (blocks_of (drop i bs))
+  pub fits : (p q : ℕ) × WellFormedBlocks p q (blocks_of (drop i bs))
   pub written : text ++ render (blocks_written i (blocks_of (drop i bs))) ≡ whole
   pub ints : BlocksFit (blocks_of (drop i bs)) → BlocksFit (blocks_of bs)
 
-pub blocking_start : (bs : List Block) (text : List ℕ) → (p : ℕ) × WellFormedBlocks p 0 (blocks_of bs) → Blocking bs 0 text (text ++ render (blocks_written 0 (blocks_of bs)))
+pub blocking_start : (bs : List Block) (text : List ℕ) → (p q : ℕ) × WellFormedBlocks p q (blocks_of bs) → Blocking bs 0 text (text ++ render (blocks_written 0 (blocks_of bs)))
 blocking_start bs text h = record { fits = h; written = refl; ints = λ x. x }
 
 module _ (bs : List Block) (i : ℕ) (text whole : List ℕ) (h : Blocking bs i text whole) where
   module _ (b : Block) (is : b ≡ get_or bs i b) (lt : i < length bs) where
-    next_blocks_fit : (p : ℕ) × WellFormedBlocks p 0 (blocks_of (b ∷ drop (i + 1) bs))
-    next_blocks_fit = subst (λ (ys : List Block). (p : ℕ) × WellFormedBlocks p 0 (blocks_of ys)) (item_next bs i b is lt) h.fits
+    next_blocks_fit : (p q : ℕ) × WellFormedBlocks p q (blocks_of (b ∷ drop (i + 1) bs))
+    next_blocks_fit = subst (λ (ys : List Block). (p q : ℕ) × WellFormedBlocks p q (blocks_of ys)) (item_next bs i b is lt) h.fits
 
-    pub block_fits : (p : ℕ) × WellFormedBlock p 0 (block b)
-    block_fits = (next_blocks_fit.0, next_blocks_fit.1.0)
+    pub block_fits : (p q : ℕ) × WellFormedBlock p q (block b)
+    block_fits = (next_blocks_fit.0, next_blocks_fit.1, next_blocks_fit.2.0)
 
     pub blocking_more : (t1 : List ℕ) → t1 ≡ text ++ render (block_written i (block b)) → SeqFits (block b).code → Blocking bs (i + 1) t1 whole
     blocking_more t1 e ints =
@@ -97,7 +97,7 @@ module _ (bs : List Block) (i : ℕ) (text whole : List ℕ) (h : Blocking bs i 
         let j = rw (render_append (block_written i (block b)) (blocks_written (suc i) (blocks_of (drop (i + 1) bs)))) at w in
         let k : (text ++ render (block_written i (block b))) ++ render (blocks_written (suc i) (blocks_of (drop (i + 1) bs))) ≡ whole = append_assoc text _ _ ∙ j in
         record {
-          fits = (next_blocks_fit.0, next_blocks_fit.1.1);
+          fits = (next_blocks_fit.0, next_blocks_fit.1, next_blocks_fit.2.1);
           written = rw e (subst (λ (n : ℕ). (text ++ render (block_written i (block b))) ++ render (blocks_written n (blocks_of (drop (i + 1) bs))) ≡ whole) (sym (add-one i)) k);
           ints = λ f. h.ints (subst (λ (ys : List Block). BlocksFit (blocks_of ys)) (sym d) (ints, f));
         }

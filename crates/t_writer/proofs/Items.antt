@@ -15,7 +15,7 @@ use Rattle.t_terms.specs.declared.token.Kind.{Kind}
 use Rattle.t_terms.specs.declared.token.Kind.TheVariants as k
 use Rattle.t_terms.specs.Tokens.{assembly, Keeps, word, signs}
 use Rattle.t_writer.specs.Ints.{IntFits}
-use Rattle.t_writer.specs.Lexeme.{Lexeme, Reserved, TypeName, LabelName, Register, Number, Digit, Sign, Blank, bytes, number_kind}
+use Rattle.t_writer.specs.Lexeme.{Lexeme, Reserved, TypeName, LabelName, DataName, Register, Number, Digit, Sign, Blank, bytes, number_kind}
 
 -- all bytes are digits
 abbrev AreDigits : List ℕ → Type 0
@@ -163,6 +163,10 @@ label_word : (ds : List ℕ) → word (76 ∷ ds) ≡ k.Name
 label_word [] = refl
 label_word (d ∷ ds) = refl
 
+data_word : (ds : List ℕ) → word (68 ∷ ds) ≡ k.Name
+data_word [] = refl
+data_word (d ∷ ds) = refl
+
 -- a reserved word by its bytes
 abbrev pub is_word : List ℕ → Bool
 is_word [] = false
@@ -177,6 +181,7 @@ abbrev pub Valid : Lexeme → Type 0
 Valid (Reserved u kind) = (is_word u ≡ true) × (word u ≡ kind) × Keeps kind
 Valid (TypeName n) = n < 2 ^ 64
 Valid (LabelName n) = n < 2 ^ 64
+Valid (DataName n) = n < 2 ^ 64
 Valid (Register r) = IsRegister r
 Valid (Number z) = IntFits z
 Valid (Digit n) = n ≤ 9
@@ -188,6 +193,7 @@ abbrev pub kind_of : Lexeme → Kind
 kind_of (Reserved u kind) = kind
 kind_of (TypeName n) = k.Name
 kind_of (LabelName n) = k.Name
+kind_of (DataName n) = k.Name
 kind_of (Register r) = k.Register r
 kind_of (Number z) = number_kind z
 kind_of (Digit n) = k.Plain (pos n)
@@ -211,6 +217,7 @@ pub lexeme_item : (l : Lexeme) (r : List ℕ) → Valid l → Ended l r → item
 lexeme_item (Reserved u kind) r v s = reserved_item u r v.0 s ∙ ap (λ x. Spelling x (length u)) v.1
 lexeme_item (TypeName n) r v s = word_item 84 (decimal n) r refl (digits_of_word (decimal n) (are_digits n v)) s ∙ ap (λ x. Spelling x (length (84 ∷ decimal n))) (type_word (decimal n))
 lexeme_item (LabelName n) r v s = word_item 76 (decimal n) r refl (digits_of_word (decimal n) (are_digits n v)) s ∙ ap (λ x. Spelling x (length (76 ∷ decimal n))) (label_word (decimal n))
+lexeme_item (DataName n) r v s = word_item 68 (decimal n) r refl (digits_of_word (decimal n) (are_digits n v)) s ∙ ap (λ x. Spelling x (length (68 ∷ decimal n))) (data_word (decimal n))
 lexeme_item (Register n) r v s =
     let h : n < 2 ^ 64 = omega (arith, v.1) in
     word_item 114 (decimal n) r refl (digits_of_word (decimal n) (are_digits n h)) s ∙ ap (λ x. Spelling x (length (114 ∷ decimal n))) (register_word n h)
@@ -232,6 +239,7 @@ pub lexeme_keeps : (l : Lexeme) → Valid l → Keeps (kind_of l)
 lexeme_keeps (Reserved u kind) v = v.2
 lexeme_keeps (TypeName n) v = tt
 lexeme_keeps (LabelName n) v = tt
+lexeme_keeps (DataName n) v = tt
 lexeme_keeps (Register r) v = v
 lexeme_keeps (Number (pos n)) v = v.1
 lexeme_keeps (Number (negsuc n)) v = v.0

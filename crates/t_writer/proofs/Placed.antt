@@ -14,7 +14,7 @@ use Rattle.t_terms.specs.declared.token.Token.{Token}
 use Rattle.t_terms.specs.Tokens.{assembly}
 use Rattle.t_terms.specs.Grammar.{tok}
 use Rattle.t_terms.proofs.TokenLaws.{assembly_signs}
-use Rattle.t_writer.specs.Lexeme.{Lexeme, Reserved, TypeName, LabelName, Register, Number, Digit, Sign, Blank, bytes, render}
+use Rattle.t_writer.specs.Lexeme.{Lexeme, Reserved, TypeName, LabelName, DataName, Register, Number, Digit, Sign, Blank, bytes, render}
 use Rattle.t_writer.proofs.Items.{Stops, Valid, plain_sign, kind_of, lexeme_item, lexeme_keeps}
 
 -- the length of what is written
@@ -65,6 +65,7 @@ stops_append [] b x = refl
 stops_append (Reserved u kind ∷ a) b x = refl
 stops_append (TypeName n ∷ a) b x = refl
 stops_append (LabelName n ∷ a) b x = refl
+stops_append (DataName n ∷ a) b x = refl
 stops_append (Register r ∷ a) b x = refl
 stops_append (Number z ∷ a) b x = refl
 stops_append (Digit n ∷ a) b x = refl
@@ -75,6 +76,7 @@ follows_append : (l : Lexeme) (a b : List Lexeme) (x : Bool) → Follows l a (st
 follows_append (Reserved u kind) a b x h = stops_append a b x ∙ h
 follows_append (TypeName n) a b x h = stops_append a b x ∙ h
 follows_append (LabelName n) a b x h = stops_append a b x ∙ h
+follows_append (DataName n) a b x h = stops_append a b x ∙ h
 follows_append (Register r) a b x h = stops_append a b x ∙ h
 follows_append (Number z) a b x h = stops_append a b x ∙ h
 follows_append (Digit n) a b x h = stops_append a b x ∙ h
@@ -117,6 +119,7 @@ cut_placed i (Blank b ∷ ls) h = c_gap (next_gap (b ∷ render ls) 1 (lexeme_it
 cut_placed i (Reserved u kind ∷ ls) h = cut_token i (Reserved u kind) ls h.0 _ (cut_placed (i + length u) ls h.2) (lexeme_item (Reserved u kind) (render ls) h.0 (stops_bytes ls h.1 h.2))
 cut_placed i (TypeName n ∷ ls) h = cut_token i (TypeName n) ls h.0 _ (cut_placed _ ls h.2) (lexeme_item (TypeName n) (render ls) h.0 (stops_bytes ls h.1 h.2))
 cut_placed i (LabelName n ∷ ls) h = cut_token i (LabelName n) ls h.0 _ (cut_placed _ ls h.2) (lexeme_item (LabelName n) (render ls) h.0 (stops_bytes ls h.1 h.2))
+cut_placed i (DataName n ∷ ls) h = cut_token i (DataName n) ls h.0 _ (cut_placed _ ls h.2) (lexeme_item (DataName n) (render ls) h.0 (stops_bytes ls h.1 h.2))
 cut_placed i (Register r ∷ ls) h = cut_token i (Register r) ls h.0 _ (cut_placed _ ls h.2) (lexeme_item (Register r) (render ls) h.0 (stops_bytes ls h.1 h.2))
 cut_placed i (Number z ∷ ls) h = cut_token i (Number z) ls h.0 _ (cut_placed _ ls h.2) (lexeme_item (Number z) (render ls) h.0 (stops_bytes ls h.1 h.2))
 cut_placed i (Digit n ∷ ls) h = cut_token i (Digit n) ls h.0 _ (cut_placed _ ls h.2) (lexeme_item (Digit n) (render ls) h.0 (stops_bytes ls h.1 h.2))

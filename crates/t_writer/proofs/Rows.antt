@@ -3,10 +3,10 @@ use Rattle.std.proofs.Common.{◌≡◌, List, [], ◌∷◌, pos, negsuc, codes
 use Rattle.std.specs.Fmt.{digits}
 use Rattle.idx_core.specs.declared.arith.Op.TheVariants.{Mul}
 use Rattle.t_types.specs.Tree.{IntTy, VarTy, CodeTy, ExistsTy, TupleTy, NoRegs, MoreRegs, NoFields, MoreFields}
-use Rattle.t_terms.specs.Tree.{Reg, Int, Label, Plain, Pack, Arith, Bnz, Ld, Malloc, Mov, St, Unpack, Jmp, Halt, Then, Ends, TBlock, TProg}
+use Rattle.t_terms.specs.Tree.{Reg, Int, Label, Data, Plain, Pack, Arith, Bnz, Ld, Malloc, Mov, St, Unpack, Jmp, Halt, Then, Ends, TBlock, TDatum, TProg}
 use Rattle.t_writer.specs.Lexeme.{render}
 use Rattle.t_terms.specs.Nesting.{nesting}
-use Rattle.t_writer.specs.Written.{program_written}
+use Rattle.t_writer.specs.Written.{program_written, second_written}
 
 -- each instruction once
 abbrev first : TBlock
@@ -30,6 +30,24 @@ two_blocks : render (program_written (first ∷ (second ∷ []))) ≡
     codes "tal 1\nL0: code[]{}.\nmalloc r2[int, some T0. T0]\nmov r1, ~5\nst r2[0], r1\nld r3, r2[0]\nmov r4, pack[int, r3] as some T0. T0\nunpack[T0, r5], r4\nmul r1, r3, 2\nbnz r1, L1[T0, int]\nmalloc r6[]\nhalt[int]\nL1: code[T0, T1]{r1:T0, r2:all[T2]{r1:<T2^0, T1^1>}}.\njmp r2[T1]\n"
 unfolding digits
 two_blocks = refl
+
+-- Three data tuples before a block: a value and the type that is written for it, a label of a data tuple that stands after
+-- it, a package, a label of a block with a type, and a tuple without fields.
+abbrev numbers : List TDatum
+numbers = record { value = Plain (Int (pos 5)) []; ty = IntTy } ∷ (record { value = Plain (Data 1) []; ty = TupleTy (MoreFields IntTy true NoFields) } ∷ [])
+
+abbrev packed : List TDatum
+packed =
+    record { value = Pack IntTy (Plain (Int (negsuc 6)) []) (ExistsTy (VarTy 0)); ty = ExistsTy (VarTy 0) }
+    ∷ (record { value = Plain (Label 0) (IntTy ∷ []); ty = CodeTy 0 NoRegs } ∷ [])
+
+abbrev loads : TBlock
+loads = record { owes = 0; file = NoRegs; code = Then (Mov 2 (Plain (Data 0) [])) (Then (Ld 1 2 0) (Ends Halt)) }
+
+with_data : render (second_written (record { blocks = loads ∷ []; heap = numbers ∷ (packed ∷ ([] ∷ [])) })) ≡
+    codes "tal 2\nD0: data <5 : int, D1 : <int^1>>\nD1: data <pack[int, ~7] as some T0. T0 : some T0. T0, L0[int] : all[]{}>\nD2: data <>\nL0: code[]{}.\nmov r2, D0\nld r1, r2[0]\nhalt[int]\n"
+unfolding digits
+with_data = refl
 
 -- a program without data
 abbrev only : List TBlock → TProg

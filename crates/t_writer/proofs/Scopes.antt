@@ -1,10 +1,10 @@
 -- The names that are written: each stands for the number that it is written for.
-use Rattle.std.proofs.Common.{◌≡◌, ◌≢◌, ◌≤◌, ◌<◌, ◌^◌, ℕ, zero, suc, ◌+◌, ◌-◌, List, [], ◌∷◌, Bool, true, false, refl, sym, ap, ◌∙◌, arith, subst, decimal, add-one, Some, if◌then◌else◌}
+use Rattle.std.proofs.Common.{◌≡◌, ◌≢◌, ◌≤◌, ◌<◌, ◌^◌, ℕ, zero, suc, ◌+◌, ◌-◌, List, [], ◌∷◌, ◌++◌, Bool, true, false, refl, sym, ap, ◌∙◌, arith, subst, decimal, add-one, Some, if◌then◌else◌}
 use Rattle.std.specs.Str.{bytes_eq}
 use Rattle.std.proofs.lemmas.Slice.Eq.{bytes_eq-Decides}
 use Rattle.std.proofs.lemmas.Fmt.{decimal_injective}
 use Rattle.idx_core.specs.Names.{Name}
-use Rattle.t_terms.specs.Tree.{Label}
+use Rattle.t_terms.specs.Tree.{Label, Data}
 use Rattle.t_terms.specs.Names.{Labels, is_among, place_of, named_by}
 
 abbrev pub type_name : ℕ → Name
@@ -12,6 +12,9 @@ type_name n = 84 ∷ decimal n
 
 abbrev pub label_name : ℕ → Name
 label_name n = 76 ∷ decimal n
+
+abbrev pub data_name : ℕ → Name
+data_name n = 68 ∷ decimal n
 
 -- the names around a place inside d type names, innermost first
 abbrev pub scope : ℕ → List Name
@@ -26,10 +29,20 @@ abbrev pub labels_from : ℕ → ℕ → Labels
 labels_from l zero = []
 labels_from l (suc n) = (label_name l, Label l) ∷ labels_from (suc l) n
 
--- the labels of the n first blocks, the last first
-abbrev pub before : ℕ → List Name
-before zero = []
-before (suc n) = label_name n ∷ before n
+-- the labels of n data tuples, with d before them
+abbrev pub data_from : ℕ → ℕ → Labels
+data_from d zero = []
+data_from d (suc n) = (data_name d, Data d) ∷ data_from (suc d) n
+
+-- the labels of the n first data tuples, the last first
+abbrev pub data_before : ℕ → List Name
+data_before zero = []
+data_before (suc n) = data_name n ∷ data_before n
+
+-- the same of the n first blocks, after q data tuples
+abbrev pub before : ℕ → ℕ → List Name
+before q zero = data_before q
+before q (suc n) = label_name n ∷ before q n
 
 eq_self : (x : Name) → bytes_eq x x ≡ true
 eq_self x = (bytes_eq-Decides x x).1 refl
@@ -86,11 +99,40 @@ in_labels l (suc n) m low high h = by_test (bytes_eq (label_name m) (label_name 
         let more : suc l ≤ m = omega (arith, q) in
         ih more (omega arith) (omega arith)
 
--- no label is that of a block before
-pub not_before : (l m : ℕ) → m ≤ l → l < 2 ^ 64 → is_among (label_name l) (before m) ≡ false
-not_before l zero le h = refl
-not_before l (suc m) le h = by_test (bytes_eq (label_name l) (label_name m)) refl (not_before l m (omega arith) h)
+-- the label of a block is none of a data tuple
+pub past_data : (d n m : ℕ) (ls : Labels) → named_by (label_name m) (data_from d n ++ ls) ≡ named_by (label_name m) ls
+past_data d zero m ls = refl
+past_data d (suc n) m ls = past_data (suc d) n m ls
+
+pub in_data : (d n m : ℕ) (ls : Labels) → d ≤ m → m < d + n → d + n ≤ 2 ^ 64 → named_by (data_name m) (data_from d n ++ ls) ≡ Some (Data m)
+in_data d zero m ls low high h = absurd (omega arith)
+in_data d (suc n) m ls low high h = by_test (bytes_eq (data_name m) (data_name d)) refl (in_data (suc d) n m ls)
   where
-    by_test : (x : Bool) → bytes_eq (label_name l) (label_name m) ≡ x → is_among (label_name l) (before m) ≡ false → is_among (label_name l) (before (suc m)) ≡ false
-    by_test true e ih = let q : l ≡ m = same_number 76 l m h (omega arith) e in absurd (omega arith)
+    by_test : (x : Bool) → bytes_eq (data_name m) (data_name d) ≡ x → (suc d ≤ m → m < suc d + n → suc d + n ≤ 2 ^ 64 → named_by (data_name m) (data_from (suc d) n ++ ls) ≡ Some (Data m)) →
+        (if x then Some (Data d) else named_by (data_name m) (data_from (suc d) n ++ ls)) ≡ Some (Data m)
+    by_test true e ih = let q : m ≡ d = same_number 68 m d (omega arith) (omega arith) e in ap (λ (i : ℕ). Some (Data i)) (sym q)
+    by_test false e ih =
+        let q : m ≢ d = other_number 68 m d e in
+        let more : suc d ≤ m = omega (arith, q) in
+        ih more (omega arith) (omega arith)
+
+-- no label is that of a data tuple or a block before
+pub not_data_before : (d m : ℕ) → m ≤ d → d < 2 ^ 64 → is_among (data_name d) (data_before m) ≡ false
+not_data_before d zero le h = refl
+not_data_before d (suc m) le h = by_test (bytes_eq (data_name d) (data_name m)) refl (not_data_before d m (omega arith) h)
+  where
+    by_test : (x : Bool) → bytes_eq (data_name d) (data_name m) ≡ x → is_among (data_name d) (data_before m) ≡ false → is_among (data_name d) (data_before (suc m)) ≡ false
+    by_test true e ih = let q : d ≡ m = same_number 68 d m h (omega arith) e in absurd (omega arith)
+    by_test false e ih = rw e ih
+
+no_data : (l q : ℕ) → is_among (label_name l) (data_before q) ≡ false
+no_data l zero = refl
+no_data l (suc q) = no_data l q
+
+pub not_before : (q l m : ℕ) → m ≤ l → l < 2 ^ 64 → is_among (label_name l) (before q m) ≡ false
+not_before q l zero le h = no_data l q
+not_before q l (suc m) le h = by_test (bytes_eq (label_name l) (label_name m)) refl (not_before q l m (omega arith) h)
+  where
+    by_test : (x : Bool) → bytes_eq (label_name l) (label_name m) ≡ x → is_among (label_name l) (before q m) ≡ false → is_among (label_name l) (before q (suc m)) ≡ false
+    by_test true e ih = let same : l ≡ m = same_number 76 l m h (omega arith) e in absurd (omega arith)
     by_test false e ih = rw e ih

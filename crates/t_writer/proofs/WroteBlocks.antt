@@ -1,4 +1,4 @@
--- Blocks and programs that are written stand for themselves.
+-- Blocks that are written stand for themselves.
 use Rattle.std.proofs.Common.{◌≡◌, ◌≤◌, ◌<◌, ◌^◌, ℕ, suc, ◌+◌, List, [], ◌∷◌, ◌++◌, length, map, codes, Bool, true, refl, sym, ap, ap₂, ◌∙◌, arith, subst, append_assoc, zero-add}
 use Rattle.std.proofs.lemmas.List.{append-nil}
 use Rattle.idx_core.specs.declared.span.Span.{Span}
@@ -9,10 +9,10 @@ use Rattle.t_terms.specs.declared.token.Token.{Token}
 use Rattle.t_terms.specs.Tree.{TSeq, Then, Ends, Label, TBlock, TProg}
 use Rattle.t_terms.specs.Tree as tree_of
 use Rattle.t_terms.specs.Spanned.{seq_of, plain, plain_blocks}
-use Rattle.t_terms.specs.Raw.{RawInstr, RawEnd, RawBlock}
-use Rattle.t_terms.specs.Grammar.{Is, is_none, is_more, End, Block, b_block, Blocks, bs_one, bs_more, Program, p_program}
-use Rattle.t_terms.specs.Names.{spelled, bind, names_after_all, body_of, end_of, block_of, Labels, block_labels, labels_of, program_of}
-use Rattle.t_terms.specs.NameFaults.{body_faults, end_faults, block_faults, blocks_faults, program_faults}
+use Rattle.t_terms.specs.Raw.{RawInstr, RawEnd, RawBlock, RawItem, BlockItem, block_items}
+use Rattle.t_terms.specs.Grammar.{Is, is_none, is_more, End, Block, b_block, Blocks, bs_one, bs_more, Item, it_block, Items, its_more}
+use Rattle.t_terms.specs.Names.{spelled, bind, names_after_all, body_of, end_of, block_of, Labels, item_labels}
+use Rattle.t_terms.specs.NameFaults.{body_faults, end_faults, block_faults, items_faults}
 use Rattle.t_terms.specs.Whole.{WellFormedSeq, WellFormedBlock, WellFormedBlocks, Whole}
 use Rattle.t_terms.specs.Text.{StandsFor}
 use Rattle.t_writer.specs.Ints.{SeqFits, BlocksFit}
@@ -24,13 +24,17 @@ use Rattle.t_writer.proofs.Scopes.{label_name, labels_from, before, not_before, 
 use Rattle.t_writer.proofs.WroteTypes.{wrote_binds, wrote_file}
 use Rattle.t_writer.proofs.WroteCode.{labels, wrote_instr, wrote_end}
 
+-- one item more, and then others
+pub items_along : (u x y : List Token) (rs more : List RawItem) (r : RawItem) → Items ((u ++ x) ++ y) ((rs ++ r ∷ []) ++ more) → Items (u ++ (x ++ y)) (rs ++ r ∷ more)
+items_along u x y rs more r h = simp append_assoc at h
+
 -- one block more, and then others
 blocks_along : (u x y : List Token) (rs more : List RawBlock) (r : RawBlock) → Blocks ((u ++ x) ++ y) ((rs ++ r ∷ []) ++ more) → Blocks (u ++ (x ++ y)) (rs ++ r ∷ more)
 blocks_along u x y rs more r h = simp append_assoc at h
 
-module _ (text : List ℕ) (p : ℕ) (few : p ≤ 2 ^ 64) where
+module _ (text : List ℕ) (p q : ℕ) (few : p ≤ 2 ^ 64) (small : q ≤ 2 ^ 64) where
   abbrev names : Labels
-  names = labels text p few
+  names = labels text p q few small
 
   -- instructions and an end, each on its line
   record WroteSeq (i d : ℕ) (c : TSeq) : Type 0 where
@@ -46,9 +50,9 @@ module _ (text : List ℕ) (p : ℕ) (few : p ≤ 2 ^ 64) where
     none : body_faults text names (scope d) body ≡ []
     none_last : end_faults text names (names_after_all text body (scope d)) last.0 ≡ []
 
-  wrote_seq : (i d : ℕ) (c : TSeq) → d ≤ max_names → WellFormedSeq p 0 d c → SeqFits c → Written text i (seq_written d c) → WroteSeq i d c
+  wrote_seq : (i d : ℕ) (c : TSeq) → d ≤ max_names → WellFormedSeq p q d c → SeqFits c → Written text i (seq_written d c) → WroteSeq i d c
   wrote_seq i d (Ends e) n h f w =
-      let r = wrote_end text p few i d e n h f (written_append text i (end_written d e) (line_end ∷ []) w).0 in
+      let r = wrote_end text p q few small i d e n h f (written_append text i (end_written d e) (line_end ∷ []) w).0 in
       record {
         body = [];
         last = r.raw;
@@ -67,7 +71,7 @@ module _ (text : List ℕ) (p : ℕ) (few : p ≤ 2 ^ 64) where
       let rest = line_end ∷ seq_written d' c in
       let j = i + size (instr_written d x) in
       let v = written_append text i (instr_written d x) rest w in
-      let a = wrote_instr text p few i d x n h.0 f.0 v.0 in
+      let a = wrote_instr text p q few small i d x n h.0 f.0 v.0 in
       let r = wrote_seq (j + 1) d' c h.1 h.2 f.1 v.1.1 in
       record {
         body = a.raw ∷ r.body;
@@ -83,16 +87,16 @@ module _ (text : List ℕ) (p : ℕ) (few : p ≤ 2 ^ 64) where
         none_last = rw a.after r.none_last;
       }
 
-  record WroteBlock (l i : ℕ) (b : TBlock) : Type 0 where
-    raw : RawBlock
-    whole : Block (placed i (block_written l b)) raw
-    fine : (x : Bool) → Fine (block_written l b) x
-    means : plain (block_of text names raw) ≡ b
-    none : block_faults text names raw ≡ []
-    name : spelled text raw.name ≡ label_name l
+  pub record WroteBlock (l i : ℕ) (b : TBlock) : Type 0 where
+    pub raw : RawBlock
+    pub whole : Block (placed i (block_written l b)) raw
+    pub fine : (x : Bool) → Fine (block_written l b) x
+    pub means : plain (block_of text names raw) ≡ b
+    pub none : block_faults text names raw ≡ []
+    pub name : spelled text raw.name ≡ label_name l
 
-  wrote_block : (l i : ℕ) (b : TBlock) → l < 2 ^ 64 → WellFormedBlock p 0 b → SeqFits b.code → Written text i (block_written l b) → WroteBlock l i b
-  wrote_block l i b small h f w =
+  pub wrote_block : (l i : ℕ) (b : TBlock) → l < 2 ^ 64 → WellFormedBlock p q b → SeqFits b.code → Written text i (block_written l b) → WroteBlock l i b
+  wrote_block l i b low h f w =
       let bs = binds_written 0 b.owes in
       let fs = file_written b.owes b.file in
       let code = seq_written b.owes b.code in
@@ -100,20 +104,20 @@ module _ (text : List ℕ) (p : ℕ) (few : p ≤ 2 ^ 64) where
       let s = placing.place_of i (LabelName l) in
       let j = i + length (bytes (LabelName l)) + 1 + 1 + 4 in
       let m = j + size bs in
-      let q = m + size fs in
+      let n = m + size fs in
       let x = written_append text j bs (fs ++ dot) w.1.1.1.1 in
       let y = written_append text m fs dot x.1 in
       let a = wrote_binds j 0 b.owes (omega (arith, h.0)) in
       let file = wrote_file text m b.owes b.file h.0 h.1 y.0 in
-      let c = wrote_seq (q + 1 + 1) b.owes b.code h.0 h.2 f y.1.1.1 in
+      let c = wrote_seq (n + 1 + 1) b.owes b.code h.0 h.2 f y.1.1.1 in
       let e : bind text a.spans [] ≡ scope b.owes = a.bound text x.0 ∙ ap scope (zero-add b.owes) in
       record {
         raw = record { name = s; names = a.spans; file = file.piece.tree; body = c.body; last = c.last };
         whole = rw (placed_append j bs (fs ++ dot), placed_append m fs dot, c.at)
-            (b_block s (placing.place_of (i + length (bytes (LabelName l))) (Sign 58 k.Colon)) (placing.place_of (i + length (bytes (LabelName l)) + 1 + 1) (Reserved (codes "code") k.Code)) (placing.place_of q (Sign 46 k.Dot))
+            (b_block s (placing.place_of (i + length (bytes (LabelName l))) (Sign 58 k.Colon)) (placing.place_of (i + length (bytes (LabelName l)) + 1 + 1) (Reserved (codes "code") k.Code)) (placing.place_of n (Sign 46 k.Dot))
             a.whole file.whole (c.extend [] [] is_none) c.ends);
         fine = λ x. (
-          small,
+          low,
           refl,
           (
             (refl, refl, tt),
@@ -134,68 +138,42 @@ module _ (text : List ℕ) (p : ℕ) (few : p ≤ 2 ^ 64) where
         name = w.0;
       }
 
-  -- blocks after the first
-  record MoreBlocks (l i : ℕ) (bs : List TBlock) : Type 0 where
-    raw : List RawBlock
-    extend : (u : List Token) (rs : List RawBlock) → Blocks u rs → Blocks (u ++ placed i (blocks_written l bs)) (rs ++ raw)
-    fine : (x : Bool) → Fine (blocks_written l bs) x
-    means : plain_blocks (map (block_of text names) raw) ≡ bs
-    spell : block_labels text l raw ≡ labels_from l (length bs)
-    none : blocks_faults text names (before l) raw ≡ []
+  -- blocks in turn
+  pub record MoreBlocks (l i : ℕ) (bs : List TBlock) : Type 0 where
+    pub raw : List RawBlock
+    pub extend : (u : List Token) (rs : List RawBlock) → Blocks u rs → Blocks (u ++ placed i (blocks_written l bs)) (rs ++ raw)
+    pub items : (u : List Token) (rs : List RawItem) → Items u rs → Items (u ++ placed i (blocks_written l bs)) (rs ++ block_items raw)
+    pub fine : (x : Bool) → Fine (blocks_written l bs) x
+    pub means : plain_blocks (map (block_of text names) raw) ≡ bs
+    pub count : length raw ≡ length bs
+    pub spell : (d : ℕ) → item_labels text l d (block_items raw) ≡ labels_from l (length bs)
+    pub none : items_faults text names (before q l) (block_items raw) ≡ []
 
-  more_blocks : (l i : ℕ) (bs : List TBlock) → l + length bs ≤ 2 ^ 64 → WellFormedBlocks p 0 bs → BlocksFit bs → Written text i (blocks_written l bs) → MoreBlocks l i bs
-  more_blocks l i [] small h f w = record {
+  pub more_blocks : (l i : ℕ) (bs : List TBlock) → l + length bs ≤ 2 ^ 64 → WellFormedBlocks p q bs → BlocksFit bs → Written text i (blocks_written l bs) → MoreBlocks l i bs
+  more_blocks l i [] low h f w = record {
     raw = [];
     extend = λ u rs x. rw (append-nil, append-nil) x;
+    items = λ u rs x. rw (append-nil, append-nil) x;
     fine = λ x. tt;
     means = refl;
-    spell = refl;
+    count = refl;
+    spell = λ d. refl;
     none = refl;
   }
-  more_blocks l i (b ∷ bs) small h f w =
+  more_blocks l i (b ∷ bs) low h f w =
       let v = written_append text i (block_written l b) (blocks_written (suc l) bs) w in
       let a = wrote_block l i b (omega arith) h.0 f.0 v.0 in
       let r = more_blocks (suc l) (i + size (block_written l b)) bs (omega arith) h.1 f.1 v.1 in
+      let here = placed i (block_written l b) in
+      let rest = placed (i + size (block_written l b)) (blocks_written (suc l) bs) in
       record {
         raw = a.raw ∷ r.raw;
-        extend = λ u rs x. rw (placed_append i (block_written l b) (blocks_written (suc l) bs))
-            (blocks_along u (placed i (block_written l b)) (placed (i + size (block_written l b)) (blocks_written (suc l) bs)) rs r.raw a.raw (r.extend _ _ (bs_more x a.whole)));
+        extend = λ u rs x. rw (placed_append i (block_written l b) (blocks_written (suc l) bs)) (blocks_along u here rest rs r.raw a.raw (r.extend _ _ (bs_more x a.whole)));
+        items = λ u rs x. rw (placed_append i (block_written l b) (blocks_written (suc l) bs))
+            (items_along u here rest rs (block_items r.raw) (BlockItem a.raw) (r.items _ _ (its_more x (it_block a.whole))));
         fine = λ x. fine_append (block_written l b) (blocks_written (suc l) bs) x (a.fine (stops (blocks_written (suc l) bs) x)) (r.fine x);
         means = ap₂ (λ (c : TBlock) (cs : List TBlock). c ∷ cs) a.means r.means;
-        spell = ap₂ (λ (x : Name) (xs : Labels). (x, Label l) ∷ xs) a.name r.spell;
-        none = rw (a.name, not_before l l (omega arith) (omega arith), a.none) r.none;
+        count = ap (λ n. suc n) r.count;
+        spell = λ d. ap₂ (λ (x : Name) (xs : Labels). (x, Label l) ∷ xs) a.name (r.spell d);
+        none = rw (a.name, not_before q l l (omega arith) (omega arith), a.none) r.none;
       }
-
--- a program of blocks alone
-abbrev pub only_blocks : List TBlock → TProg
-only_blocks bs = record { blocks = bs; heap = [] }
-
--- the whole text
-module _ (text : List ℕ) (b : TBlock) (bs : List TBlock) (few : length (b ∷ bs) ≤ 2 ^ 64) (h : Whole (only_blocks (b ∷ bs))) (f : BlocksFit (b ∷ bs)) (e : text ≡ render (program_written (b ∷ bs))) where
-  abbrev ls : List Lexeme
-  ls = program_written (b ∷ bs)
-
-  abbrev here : Labels
-  here = labels text (length (b ∷ bs)) few
-
-  at_place : Written text 6 (blocks_written 0 (b ∷ bs))
-  at_place = (written_at text 0 ls [] (e ∙ sym (append-nil (render ls)))).1.1.1.1
-
-  pub stands_for : StandsFor text (only_blocks (b ∷ bs))
-  stands_for =
-      let rest = blocks_written 1 bs in
-      let v = written_append text 6 (block_written 0 b) rest at_place in
-      let a = wrote_block text (length (b ∷ bs)) few 0 6 b (omega arith) h.1.0 f.0 v.0 in
-      let r = more_blocks text (length (b ∷ bs)) few 1 (6 + size (block_written 0 b)) bs (omega arith) h.1.1 f.1 v.1 in
-      let raw = a.raw ∷ r.raw in
-      let spell : labels_of text raw ≡ here = ap₂ (λ (x : Name) (xs : Labels). (x, Label 0) ∷ xs) a.name r.spell in
-      let fine : Fine ls true = ((refl, refl, tt), refl, (refl, tt, (omega arith, refl, (refl, tt, fine_append (block_written 0 b) rest true (a.fine (stops rest true)) (r.fine true))))) in
-      let shape : Program (placed 0 ls) raw = rw (placed_append 6 (block_written 0 b) rest)
-      (p_program (placing.place_of 0 (Reserved (codes "tal") k.Tal)) (placing.place_of 4 (Digit 1)) (r.extend _ (a.raw ∷ []) (bs_one a.whole))) in
-      let named : program_faults text raw ≡ [] = subst (λ (ns : Labels). blocks_faults text ns [] raw ≡ []) (sym spell) (rw (a.none, a.name) r.none) in
-      let means : plain_blocks (map (block_of text (labels_of text raw)) raw) ≡ b ∷ bs = subst (λ (ns : Labels). plain_blocks (map (block_of text ns) raw) ≡ b ∷ bs) (sym spell) (ap₂ (λ (c : TBlock) (cs : List TBlock). c ∷ cs) a.means r.means) in
-      (program_of text raw, record { tokens = placed 0 ls; cut = rw e (cut_placed 0 ls fine); raw = raw; shape = shape; named = named; is = refl }, ap only_blocks means)
-
-pub written_stands : (text : List ℕ) (bs : List TBlock) → length bs ≤ 2 ^ 64 → Whole (only_blocks bs) → BlocksFit bs → text ≡ render (program_written bs) → StandsFor text (only_blocks bs)
-written_stands text [] few h f e = absurd (omega (arith, h.0))
-written_stands text (b ∷ bs) few h f e = stands_for text b bs few h f e

@@ -19,12 +19,12 @@ use Rattle.t_terms.specs.Names.{Labels, spelled, named_by, base_of, value_of, in
 use Rattle.t_terms.specs.NameFaults.{base_faults, value_faults, instr_faults, end_faults}
 use Rattle.t_terms.specs.Whole.{WellFormedBase, WellFormedValue, WellFormedInstr, WellFormedEnd}
 use Rattle.t_writer.specs.Ints.{IntFits, BaseFits, ValueFits, InstrFits, EndFits}
-use Rattle.t_writer.specs.Lexeme.{Lexeme, Reserved, TypeName, LabelName, Register, Number, Sign, bytes}
+use Rattle.t_writer.specs.Lexeme.{Lexeme, Reserved, TypeName, LabelName, DataName, Register, Number, Sign, bytes}
 use Rattle.t_writer.specs.Written.{comma, space, type_written, types_written, list_written, base_written, value_written, op_written, instr_written, end_written}
 use Rattle.t_writer.proofs.Items.{Valid}
 use Rattle.t_writer.proofs.Placed as placing
 use Rattle.t_writer.proofs.Placed.{size, placed, token_of, placed_append, stops, Follows, Fine, fine_append, Written, written_append}
-use Rattle.t_writer.proofs.Scopes.{labels_from, scope, scope_next, in_labels}
+use Rattle.t_writer.proofs.Scopes.{data_from, labels_from, scope, scope_next, past_data, in_data, in_labels}
 use Rattle.t_writer.proofs.WroteTypes.{wrote_type, wrote_types}
 
 -- where a register ends that stands at a place
@@ -48,22 +48,22 @@ wrote_op i Add = record { kind = k.Add; at = refl; is = is_add; valid = (refl, r
 wrote_op i Sub = record { kind = k.Sub; at = refl; is = is_sub; valid = (refl, refl, tt); follows = λ ls. refl }
 wrote_op i Mul = record { kind = k.Mul; at = refl; is = is_mul; valid = (refl, refl, tt); follows = λ ls. refl }
 
--- in a program of p blocks
-module _ (text : List ℕ) (p : ℕ) (few : p ≤ 2 ^ 64) where
+-- in a program of p blocks and q data tuples
+module _ (text : List ℕ) (p q : ℕ) (few : p ≤ 2 ^ 64) (small : q ≤ 2 ^ 64) where
   abbrev pub labels : Labels
-  labels = labels_from 0 p
+  labels = data_from 0 q ++ labels_from 0 p
 
-  record WroteBase (i : ℕ) (b : TBase) : Type 0 where
-    token : Token
-    raw : RawBase
-    at : token_of i (base_written b) ≡ token ∷ []
-    whole : N token raw
-    valid : Valid (base_written b)
-    follows : (ls : List Lexeme) → stops ls true ≡ true → Follows (base_written b) ls true
-    means : base_of text labels raw ≡ b
-    none : base_faults text labels raw ≡ []
+  pub record WroteBase (i : ℕ) (b : TBase) : Type 0 where
+    pub token : Token
+    pub raw : RawBase
+    pub at : token_of i (base_written b) ≡ token ∷ []
+    pub whole : N token raw
+    pub valid : Valid (base_written b)
+    pub follows : (ls : List Lexeme) → stops ls true ≡ true → Follows (base_written b) ls true
+    pub means : base_of text labels raw ≡ b
+    pub none : base_faults text labels raw ≡ []
 
-  wrote_base : (i : ℕ) (b : TBase) → WellFormedBase p 0 b → BaseFits b → Written text i (base_written b ∷ []) → WroteBase i b
+  pub wrote_base : (i : ℕ) (b : TBase) → WellFormedBase p q b → BaseFits b → Written text i (base_written b ∷ []) → WroteBase i b
   wrote_base i (Reg r) h f w = record {
     token = tok (k.Register r) (placing.place_of i (Register r));
     raw = RReg r;
@@ -96,7 +96,7 @@ module _ (text : List ℕ) (p : ℕ) (few : p ≤ 2 ^ 64) where
   }
   wrote_base i (Label l) h f w =
       let s = placing.place_of i (LabelName l) in
-      let g : named_by (spelled text s) labels ≡ Some (Label l) = rw w.0 (in_labels 0 p l (omega arith) (omega arith) (omega arith)) in
+      let g : named_by (spelled text s) labels ≡ Some (Label l) = rw w.0 (past_data 0 q l (labels_from 0 p) ∙ in_labels 0 p l (omega arith) (omega arith) (omega arith)) in
       record {
         token = tok k.Name s;
         raw = RLabel s;
@@ -107,7 +107,19 @@ module _ (text : List ℕ) (p : ℕ) (few : p ≤ 2 ^ 64) where
         means = rw g refl;
         none = rw g refl;
       }
-  wrote_base i (Data d) h f w = absurd (omega (arith, h))
+  wrote_base i (Data d) h f w =
+      let s = placing.place_of i (DataName d) in
+      let g : named_by (spelled text s) labels ≡ Some (Data d) = rw w.0 (in_data 0 q d (labels_from 0 p) (omega arith) (omega arith) (omega arith)) in
+      record {
+        token = tok k.Name s;
+        raw = RLabel s;
+        at = refl;
+        whole = n_label s;
+        valid = omega arith;
+        follows = λ ls e. e;
+        means = rw g refl;
+        none = rw g refl;
+      }
 
   pub record WroteValue (i d : ℕ) (v : TValue) : Type 0 where
     pub piece : Piece RawValue
@@ -116,7 +128,7 @@ module _ (text : List ℕ) (p : ℕ) (few : p ≤ 2 ^ 64) where
     pub means : value_of text labels (scope d) piece.tree ≡ v
     pub none : value_faults text labels (scope d) piece.tree ≡ []
 
-  pub wrote_value : (i d : ℕ) (v : TValue) → d ≤ max_names → WellFormedValue p 0 d v → ValueFits v → Written text i (value_written d v) → WroteValue i d v
+  pub wrote_value : (i d : ℕ) (v : TValue) → d ≤ max_names → WellFormedValue p q d v → ValueFits v → Written text i (value_written d v) → WroteValue i d v
   wrote_value i d (Plain b []) n h f w =
       let a = wrote_base i b h.0 f (w.0, tt) in
       record {
@@ -178,7 +190,7 @@ module _ (text : List ℕ) (p : ℕ) (few : p ≤ 2 ^ 64) where
     pub none : instr_faults text labels (scope d) raw.0 ≡ []
     pub after : names_after text raw.0 (scope d) ≡ scope (tree_of.names_after x d)
 
-  pub wrote_instr : (i d : ℕ) (x : TInstr) → d ≤ max_names → WellFormedInstr p 0 d x → InstrFits x → Written text i (instr_written d x) → WroteInstr i d x
+  pub wrote_instr : (i d : ℕ) (x : TInstr) → d ≤ max_names → WellFormedInstr p q d x → InstrFits x → Written text i (instr_written d x) → WroteInstr i d x
   wrote_instr i d (Arith op rd rs v) n h f w =
       let o = wrote_op i op in
       let a = i + length (bytes (op_written op)) in
@@ -269,7 +281,7 @@ module _ (text : List ℕ) (p : ℕ) (few : p ≤ 2 ^ 64) where
     pub means : end_of text labels (scope d) raw.0 ≡ e
     pub none : end_faults text labels (scope d) raw.0 ≡ []
 
-  pub wrote_end : (i d : ℕ) (e : TEnd) → d ≤ max_names → WellFormedEnd p 0 d e → EndFits e → Written text i (end_written d e) → WroteEnd i d e
+  pub wrote_end : (i d : ℕ) (e : TEnd) → d ≤ max_names → WellFormedEnd p q d e → EndFits e → Written text i (end_written d e) → WroteEnd i d e
   wrote_end i d (Jmp v) n h f w =
       let r = wrote_value (i + 3 + 1) d v n h f w.1.1 in
       record {

@@ -1,7 +1,7 @@
 -- The integers of a program have 64 bits.
 use Rattle.std.specs.Prelude.{◌≤ℤ◌, ℤ, pos, negsuc, List, [], ◌∷◌}
 use Rattle.t_types.specs.WellFormed.{max_number}
-use Rattle.t_terms.specs.Tree.{TBase, Reg, Int, Label, Data, TValue, Plain, Pack, TInstr, Arith, Bnz, Ld, Malloc, Mov, St, Unpack, TEnd, Jmp, Halt, TSeq, Then, Ends, TBlock}
+use Rattle.t_terms.specs.Tree.{TBase, Reg, Int, Label, Data, TValue, Plain, Pack, TInstr, Arith, Bnz, Ld, Malloc, Mov, St, Unpack, TEnd, Jmp, Halt, TSeq, Then, Ends, TBlock, TData}
 
 abbrev pub IntFits : ℤ → Type 0
 IntFits z = (negsuc max_number ≤ℤ z) × (z ≤ℤ pos max_number)
@@ -36,3 +36,11 @@ SeqFits (Ends e) = EndFits e
 abbrev pub BlocksFit : List TBlock → Type 0
 BlocksFit [] = Unit {0}
 BlocksFit (b ∷ bs) = SeqFits b.code × BlocksFit bs
+
+abbrev pub DataFit : TData → Type 0
+DataFit [] = Unit {0}
+DataFit (x ∷ xs) = ValueFits x.value × DataFit xs
+
+abbrev pub HeapFits : List TData → Type 0
+HeapFits [] = Unit {0}
+HeapFits (x ∷ xs) = DataFit x × HeapFits xs

@@ -11,9 +11,10 @@ number_text (negsuc n) = 126 ∷ decimal (suc n)
 pub data Lexeme : Type 0 where
   -- a reserved word
   Reserved : List ℕ → Kind → Lexeme
-  -- the name of a type, and a label, by a number
+  -- the name of a type, the label of a block and that of a data tuple, by a number
   TypeName : ℕ → Lexeme
   LabelName : ℕ → Lexeme
+  DataName : ℕ → Lexeme
   Register : ℕ → Lexeme
   Number : ℤ → Lexeme
   -- a number below 10
@@ -26,6 +27,7 @@ abbrev pub bytes : Lexeme → List ℕ
 bytes (Reserved u kind) = u
 bytes (TypeName n) = 84 ∷ decimal n
 bytes (LabelName n) = 76 ∷ decimal n
+bytes (DataName n) = 68 ∷ decimal n
 bytes (Register r) = 114 ∷ decimal r
 bytes (Number z) = number_text z
 bytes (Digit n) = (48 + n) ∷ []

@@ -1,11 +1,12 @@
--- How a program is written. Inside d type names the next one is `T` and d; a label is `L` and the number of its block.
+-- How a program is written. Inside d type names the next one is `T` and d. A label is `L` and the number of its block, or
+-- `D` and the number of its data tuple.
 use Rattle.std.specs.Prelude.{◌≡◌, ℕ, zero, suc, ◌+◌, ◌-◌, List, [], ◌∷◌, ◌++◌, pos, Bool, true, false, codes}
 use Rattle.idx_core.specs.declared.arith.Op.{Op}
 use Rattle.idx_core.specs.declared.arith.Op.TheVariants.{Add, Sub, Mul}
 use Rattle.t_types.specs.Tree.{Ty, IntTy, VarTy, CodeTy, ExistsTy, TupleTy, TFile, NoRegs, MoreRegs, TFields, NoFields, MoreFields}
 use Rattle.t_terms.specs.declared.token.Kind.TheVariants as k
-use Rattle.t_terms.specs.Tree.{TBase, Reg, Int, Label, Data, TValue, Plain, Pack, TInstr, Arith, Bnz, Ld, Malloc, Mov, St, Unpack, TEnd, Jmp, Halt, TSeq, Then, Ends, TBlock, names_after}
-use Rattle.t_writer.specs.Lexeme.{Lexeme, Reserved, TypeName, LabelName, Register, Number, Digit, Sign, Blank}
+use Rattle.t_terms.specs.Tree.{TBase, Reg, Int, Label, Data, TValue, Plain, Pack, TInstr, Arith, Bnz, Ld, Malloc, Mov, St, Unpack, TEnd, Jmp, Halt, TSeq, Then, Ends, TBlock, TDatum, TData, TProg, names_after}
+use Rattle.t_writer.specs.Lexeme.{Lexeme, Reserved, TypeName, LabelName, DataName, Register, Number, Digit, Sign, Blank}
 
 abbrev pub comma : Lexeme
 comma = Sign 44 k.Comma
@@ -76,8 +77,7 @@ abbrev pub base_written : TBase → Lexeme
 base_written (Reg r) = Register r
 base_written (Int i) = Number i
 base_written (Label l) = LabelName l
--- a program that is written has no data
-base_written (Data d) = LabelName d
+base_written (Data d) = DataName d
 
 abbrev pub args_written : ℕ → List Ty → List Lexeme
 args_written d [] = []
@@ -141,9 +141,42 @@ abbrev pub blocks_written : ℕ → List TBlock → List Lexeme
 blocks_written l [] = []
 blocks_written l (b ∷ bs) = block_written l b ++ blocks_written (suc l) bs
 
+-- a value and the type that is written for it
+abbrev pub datum_written : TDatum → List Lexeme
+datum_written x = value_written 0 x.value ++ (space ∷ (Sign 58 k.Colon ∷ (space ∷ type_written 0 x.ty)))
+
+-- the fields of a data tuple, with i before them
+abbrev pub data_fields_written : ℕ → TData → List Lexeme
+data_fields_written i [] = []
+data_fields_written i (x ∷ xs) = separator i ++ (datum_written x ++ data_fields_written (suc i) xs)
+
+-- a line for a data tuple
+abbrev pub data_written : ℕ → TData → List Lexeme
+data_written d xs =
+    DataName d ∷ (Sign 58 k.Colon ∷ (space ∷ (Reserved (codes "data") k.Data ∷ (space ∷ (Sign 60 k.LeftAngle ∷
+    (data_fields_written 0 xs ++ (Sign 62 k.RightAngle ∷ (line_end ∷ []))))))))
+
+-- data tuples, with d before them
+abbrev pub heap_written : ℕ → List TData → List Lexeme
+heap_written d [] = []
+heap_written d (x ∷ xs) = data_written d x ++ heap_written (suc d) xs
+
+-- a line with the version of the language, and the rest
+abbrev pub version_written : ℕ → List Lexeme → List Lexeme
+version_written n rest = Reserved (codes "tal") k.Tal ∷ (space ∷ (Digit n ∷ (line_end ∷ rest)))
+
+-- a program without data, in the first version
 abbrev pub program_written : List TBlock → List Lexeme
-program_written bs = Reserved (codes "tal") k.Tal ∷ (space ∷ (Digit 1 ∷ (line_end ∷ blocks_written 0 bs)))
+program_written bs = version_written 1 (blocks_written 0 bs)
+
+-- a program in the second version: its data and then its blocks
+abbrev pub second_written : TProg → List Lexeme
+second_written P = version_written 2 (heap_written 0 P.heap ++ blocks_written 0 P.blocks)
 
 -- the text begins with the words of the first version of the language, and a line end
 abbrev pub HasHeader : List ℕ → Type 0
 HasHeader text = (rest : List ℕ) × (text ≡ codes "tal 1\n" ++ rest)
+
+-- the same of the second version
+abbrev pub HasSecondHeader : List ℕ → Type 0
+HasSecondHeader text = (rest : List ℕ) × (text ≡ codes "tal 2\n" ++ rest)

@@ -53,7 +53,7 @@ fn write_place(text: &mut Vec<u8>, r: u64, field: u64) -> Result<(), OutOfMemory
 
 // A register, a comma and a value.
 fn write_operands(text: &mut Vec<u8>, r: u64, v: &Value, depth: u64) -> Result<(), OutOfMemory>
-    requires { (blocks : ℕ) × WellFormedValue blocks 0 depth (value_of v.now) }
+    requires { (blocks heap : ℕ) × WellFormedValue blocks heap depth (value_of v.now) }
     ensures written { OnOk result (text.new.items ≡
         text.old.items ++ render (Register r ∷ (comma ∷ (space ∷ value_written depth (value_of v.now))))) }
     ensures ints { OnOk result (ValueFits (value_of v.now)) }
@@ -74,9 +74,9 @@ fn write_unpacked(text: &mut Vec<u8>, rd: u64, depth: u64) -> Result<(), OutOfMe
     Ok(())
 }
 
-// An instruction inside `depth` type names, of a program of some number of blocks and no data.
+// An instruction inside `depth` type names, of a program of some numbers of blocks and data.
 pub(crate) fn write_instr(text: &mut Vec<u8>, instr: &Instr, depth: u64) -> Result<(), OutOfMemory>
-    requires { (blocks : ℕ) × WellFormedInstr blocks 0 depth (instr_of instr.now) }
+    requires { (blocks heap : ℕ) × WellFormedInstr blocks heap depth (instr_of instr.now) }
     ensures written { OnOk result (text.new.items ≡
         text.old.items ++ render (instr_written depth (instr_of instr.now))) }
     ensures ints { OnOk result (InstrFits (instr_of instr.now)) }
@@ -121,7 +121,7 @@ pub(crate) fn write_instr(text: &mut Vec<u8>, instr: &Instr, depth: u64) -> Resu
 
 // The end of a block.
 pub(crate) fn write_end(text: &mut Vec<u8>, end: &End, depth: u64) -> Result<(), OutOfMemory>
-    requires { (blocks : ℕ) × WellFormedEnd blocks 0 depth (end_of end.now) }
+    requires { (blocks heap : ℕ) × WellFormedEnd blocks heap depth (end_of end.now) }
     ensures written { OnOk result (text.new.items ≡ text.old.items ++ render (end_written depth (end_of end.now))) }
     ensures ints { OnOk result (EndFits (end_of end.now)) }
 {

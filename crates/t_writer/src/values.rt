@@ -3,7 +3,7 @@ ghost use Rattle.std.specs.Prelude.{◌≡◌, ◌++◌, ℕ, OnOk};
 ghost use Rattle.t_types.specs.Read.{types as types_of};
 ghost use Rattle.t_types.specs.WellFormed.{WellFormedTypes};
 ghost use Rattle.t_terms.specs.Read.{base as base_of, value as value_of};
-ghost use Rattle.t_terms.specs.Whole.{WellFormedBase, WellFormedValue};
+ghost use Rattle.t_terms.specs.Whole.{WellFormedValue};
 ghost use Rattle.t_writer.specs.Ints.{BaseFits, ValueFits};
 ghost use Rattle.t_writer.specs.Lexeme.{bytes, render};
 ghost use Rattle.t_writer.specs.Written.{base_written, args_written, value_written};
@@ -15,9 +15,8 @@ use idx_core::OutOfMemory;
 use t_terms::{Base, Value};
 use t_types::TType;
 
-// A base of a value in a program without data.
+// A base of a value.
 fn write_base(text: &mut Vec<u8>, base: &Base) -> Result<(), OutOfMemory>
-    requires { (blocks : ℕ) × WellFormedBase blocks 0 (base_of base.now) }
     ensures written { OnOk result (text.new.items ≡ text.old.items ++ bytes (base_written (base_of base.now))) }
     ensures ints { BaseFits (base_of base.now) }
 {
@@ -25,7 +24,7 @@ fn write_base(text: &mut Vec<u8>, base: &Base) -> Result<(), OutOfMemory>
         Base::Reg(r) => write_name(text, b'r', *r),
         Base::Int(i) => write_integer(text, *i),
         Base::Label(l) => write_name(text, b'L', *l),
-        Base::Data(_) => unreachable!(),
+        Base::Data(d) => write_name(text, b'D', *d),
     }
 }
 
@@ -40,9 +39,9 @@ fn write_args(text: &mut Vec<u8>, args: &[TType], depth: u64) -> Result<(), OutO
     write_list(text, args, depth)
 }
 
-// A value inside `depth` type names, of a program of some number of blocks and no data.
+// A value inside `depth` type names, of a program of some numbers of blocks and data.
 pub(crate) fn write_value(text: &mut Vec<u8>, v: &Value, depth: u64) -> Result<(), OutOfMemory>
-    requires { (blocks : ℕ) × WellFormedValue blocks 0 depth (value_of v.now) }
+    requires { (blocks heap : ℕ) × WellFormedValue blocks heap depth (value_of v.now) }
     ensures written { OnOk result (text.new.items ≡ text.old.items ++ render (value_written depth (value_of v.now))) }
     ensures ints { OnOk result (ValueFits (value_of v.now)) }
 {

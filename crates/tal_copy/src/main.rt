@@ -7,7 +7,7 @@ use std::alloc::Global;
 use std::env;
 use std::process::ExitCode;
 use t_reader::read;
-use t_writer::write;
+use t_writer::write2;
 
 // The two names after the program's own.
 fn names(rt: &HostRuntime, alloc: Global) -> Option<(String, String)> {
@@ -24,7 +24,7 @@ fn names(rt: &HostRuntime, alloc: Global) -> Option<(String, String)> {
 fn copy<F: Files>(alloc: Global, files: &mut F, input: &str, output: &str) -> Option<()> {
     let text = files.read_all(alloc, input).ok()?;
     let program = read(alloc, &text).ok()?;
-    let copied = write(alloc, &program).ok()?;
+    let copied = write2(alloc, &program).ok()?;
     files.write_all(alloc, output, &copied).ok()
 }
 

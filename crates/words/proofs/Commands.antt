@@ -36,6 +36,9 @@ eval_leaf = leaf (drop 4 (built talc_app).subs)
 abbrev gen_leaf : Shape
 gen_leaf = leaf (drop 5 (built talc_app).subs)
 
+abbrev upgrade_leaf : Shape
+upgrade_leaf = leaf (drop 6 (built talc_app).subs)
+
 -- the argument takes a value at each use or asks for help, and has no default
 abbrev IsOrdinary : Rule → Type 0
 IsOrdinary a = IsPlain a × (a.defaults ≡ [])
@@ -57,6 +60,9 @@ eval_ordinary = ((inl (refl, refl), refl), ((inl (refl, refl), refl), ((inr refl
 
 gen_ordinary : Each IsOrdinary gen_leaf.rules
 gen_ordinary = ((inl (refl, refl), refl), ((inl (refl, refl), refl), ((inr refl, refl), tt)))
+
+upgrade_ordinary : Each IsOrdinary upgrade_leaf.rules
+upgrade_ordinary = ((inl (refl, refl), refl), ((inl (refl, refl), refl), ((inr refl, refl), tt)))
 
 run_numbers : Each (IsNumberIf (codes "fuel")) run_leaf.rules
 run_numbers = (λ named. cc, (λ named. (refl, refl), (λ named. cc, tt)))
@@ -83,6 +89,13 @@ compile_asks rows held none =
     let given = both_given (is_given (codes "IN") rows) (is_given (codes "OUT") rows) none in
     let input = first_given compile_leaf.rules (codes "IN") rows held given.0 in
     let output = first_given compile_leaf.rules (codes "OUT") rows held given.1 in
+    rw (input.1, output.1) refl
+
+upgrade_asks : (rows : List Row) → AreRows upgrade_leaf.rules rows → f.check_fault upgrade_leaf rows false ≡ [] → IsSome (asked_in (codes "upgrade") rows)
+upgrade_asks rows held none =
+    let given = both_given (is_given (codes "IN") rows) (is_given (codes "OUT") rows) none in
+    let input = first_given upgrade_leaf.rules (codes "IN") rows held given.0 in
+    let output = first_given upgrade_leaf.rules (codes "OUT") rows held given.1 in
     rw (input.1, output.1) refl
 
 check_asks : (rows : List Row) → AreRows check_leaf.rules rows → f.check_fault check_leaf rows false ≡ [] → IsSome (asked_in (codes "check") rows)
@@ -129,24 +142,25 @@ level_asks s ordinary asks words none =
     asks (rows_after s.rules [] words) (level_rows s plain defaults words none) (level_given s plain words none)
 
 -- the first subcommand for which its test holds
-abbrev chosen : (compiles checks runs types evaluates generates : Bool) → Option Shape
-chosen compiles checks runs types evaluates generates =
-    cond compiles (Some compile_leaf) (cond checks (Some check_leaf) (cond runs (Some run_leaf) (cond types (Some typeof_leaf) (cond evaluates (Some eval_leaf) (cond generates (Some gen_leaf) None)))))
+abbrev chosen : (compiles checks runs types evaluates generates upgrades : Bool) → Option Shape
+chosen compiles checks runs types evaluates generates upgrades =
+    cond compiles (Some compile_leaf) (cond checks (Some check_leaf) (cond runs (Some run_leaf) (cond types (Some typeof_leaf) (cond evaluates (Some eval_leaf) (cond generates (Some gen_leaf) (cond upgrades (Some upgrade_leaf) None))))))
 
-entered_asks : (compiles checks runs types evaluates generates : Bool) (words : List Text) → option_map_or (λ s. f.level_fault s [] nothing_held words false []) (chosen compiles checks runs types evaluates generates) [] ≡ []
-    → (is_some (option_map (λ s. rows_at s words) (chosen compiles checks runs types evaluates generates)) ≡ true) → IsSome (asked_of (option_map (λ s. rows_at s words) (chosen compiles checks runs types evaluates generates)))
-entered_asks true b1 b2 b3 b4 b5 words none entered = level_asks compile_leaf compile_ordinary compile_asks words none
-entered_asks false true b2 b3 b4 b5 words none entered = level_asks check_leaf check_ordinary check_asks words none
-entered_asks false false true b3 b4 b5 words none entered = level_asks run_leaf run_ordinary run_asks words none
-entered_asks false false false true b4 b5 words none entered = level_asks typeof_leaf typeof_ordinary typeof_asks words none
-entered_asks false false false false true b5 words none entered = level_asks eval_leaf eval_ordinary eval_asks words none
-entered_asks false false false false false true words none entered = level_asks gen_leaf gen_ordinary gen_asks words none
-entered_asks false false false false false false words none entered = cc
+entered_asks : (compiles checks runs types evaluates generates upgrades : Bool) (words : List Text) → option_map_or (λ s. f.level_fault s [] nothing_held words false []) (chosen compiles checks runs types evaluates generates upgrades) [] ≡ []
+    → (is_some (option_map (λ s. rows_at s words) (chosen compiles checks runs types evaluates generates upgrades)) ≡ true) → IsSome (asked_of (option_map (λ s. rows_at s words) (chosen compiles checks runs types evaluates generates upgrades)))
+entered_asks true b1 b2 b3 b4 b5 b6 words none entered = level_asks compile_leaf compile_ordinary compile_asks words none
+entered_asks false true b2 b3 b4 b5 b6 words none entered = level_asks check_leaf check_ordinary check_asks words none
+entered_asks false false true b3 b4 b5 b6 words none entered = level_asks run_leaf run_ordinary run_asks words none
+entered_asks false false false true b4 b5 b6 words none entered = level_asks typeof_leaf typeof_ordinary typeof_asks words none
+entered_asks false false false false true b5 b6 words none entered = level_asks eval_leaf eval_ordinary eval_asks words none
+entered_asks false false false false false true b6 words none entered = level_asks gen_leaf gen_ordinary gen_asks words none
+entered_asks false false false false false false true words none entered = level_asks upgrade_leaf upgrade_ordinary upgrade_asks words none
+entered_asks false false false false false false false words none entered = cc
 
 stopped_asks : (stop : Option (Text × List Text)) → entered_fault (built talc_app) stop ≡ [] → is_some (entered (built talc_app) stop) ≡ true → IsSome (asked_of (entered (built talc_app) stop))
 stopped_asks None none entered = cc
 stopped_asks (Some p) none entered =
-    entered_asks (answers_to p.0 (codes "compile", [])) (answers_to p.0 (codes "check", [])) (answers_to p.0 (codes "run", [])) (answers_to p.0 (codes "typeof", [])) (answers_to p.0 (codes "eval", [])) (answers_to p.0 (codes "gen", [])) p.1 none entered
+    entered_asks (answers_to p.0 (codes "compile", [])) (answers_to p.0 (codes "check", [])) (answers_to p.0 (codes "run", [])) (answers_to p.0 (codes "typeof", [])) (answers_to p.0 (codes "eval", [])) (answers_to p.0 (codes "gen", [])) (answers_to p.0 (codes "upgrade", [])) p.1 none entered
 
 -- a subcommand is required
 met : (rows : List Row) (has : Bool) → f.check_fault (built talc_app).top rows has ≡ [] → has ≡ true

@@ -2,7 +2,7 @@
 use Rattle.std.proofs.Common.{◌≡◌, [], ◌∷◌, Some, None, refl}
 use Rattle.std.specs.Prelude.{codes}
 use Rattle.clap.proofs.OnLiterals.{clap_on_literals}
-use Rattle.words.specs.Command.{Checks, Compiles, Evaluates, Generates, Runs, Types, command_of}
+use Rattle.words.specs.Command.{Checks, Compiles, Evaluates, Generates, Runs, Types, Upgrades, command_of}
 
 -- talc compile x.f x.tal
 compile_words : command_of (codes "talc" ∷ codes "compile" ∷ codes "x.f" ∷ codes "x.tal" ∷ []) ≡ Some (Compiles (codes "x.f") (codes "x.tal"))
@@ -159,8 +159,17 @@ gen_missing_file : command_of (codes "talc" ∷ codes "gen" ∷ codes "--seed" �
 unfolding command_of clap_on_literals
 gen_missing_file = refl
 
+-- talc upgrade x.tal y.tal, and without the second file
+upgrade_words : command_of (codes "talc" ∷ codes "upgrade" ∷ codes "x.tal" ∷ codes "y.tal" ∷ []) ≡ Some (Upgrades (codes "x.tal") (codes "y.tal"))
+unfolding command_of clap_on_literals
+upgrade_words = refl
+
+upgrade_missing_file : command_of (codes "talc" ∷ codes "upgrade" ∷ codes "x.tal" ∷ []) ≡ None
+unfolding command_of clap_on_literals
+upgrade_missing_file = refl
+
 -- no command
-other_words : command_of (codes "talc" ∷ codes "upgrade" ∷ codes "x.tal" ∷ codes "y.tal" ∷ []) ≡ None
+other_words : command_of (codes "talc" ∷ codes "link" ∷ codes "x.tal" ∷ codes "y.tal" ∷ []) ≡ None
 unfolding command_of clap_on_literals
 other_words = refl
 

@@ -8,8 +8,9 @@ use Rattle.clap.specs.Words.{Kinds, Row, Text, fault_of, first_of, one_of, subco
 use Rattle.words.specs.Description.{talc_app, whole_number}
 
 -- what the words ask for: to compile the source text of the file IN into the file OUT, to check the TAL text of IN, to
--- run it for so many instructions, to show the type of the source text of IN, to evaluate it within so many turns, or to
--- put the source of a seed through all of that and write it to the file OUT
+-- run it for so many instructions, to show the type of the source text of IN, to evaluate it within so many turns, to
+-- put the source of a seed through all of that and write it to the file OUT, or to write the program of the TAL text of IN
+-- to the file OUT in the newest version of the language
 pub data Asked : Type 0 where
   Compiles : (input output : Text) → Asked
   Checks : (input : Text) → Asked
@@ -17,6 +18,7 @@ pub data Asked : Type 0 where
   Types : (input : Text) → Asked
   Evaluates : (input : Text) (turns : ℕ) → Asked
   Generates : (seed : ℕ) (output : Text) → Asked
+  Upgrades : (input output : Text) → Asked
 
 -- the number that a text writes, where `clap`'s reader of whole numbers takes it: decimal digits, perhaps after a plus,
 -- of a number below 2 ^ 64
@@ -42,7 +44,8 @@ asked_in name rows =
     else (if bytes_eq name (codes "typeof") then option_map Types input
     else (if bytes_eq name (codes "eval") then asked_with Evaluates input (number_in (codes "turns") rows)
     else (if bytes_eq name (codes "gen") then asked_with (λ output seed. Generates seed output) (first_of (codes "OUT") rows) (number_in (codes "seed") rows)
-    else None)))))
+    else (if bytes_eq name (codes "upgrade") then asked_with Upgrades input (first_of (codes "OUT") rows)
+    else None))))))
 
 abbrev pub asked_of : Option (Text × List Row) → Option Asked
 asked_of entered = option_and_then (λ p. asked_in p.0 p.1) entered

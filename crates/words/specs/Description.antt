@@ -49,6 +49,10 @@ eval_app = with_rule (with_rule (new_app (codes "eval")) (file_rule (codes "IN")
 abbrev pub gen_app : App
 gen_app = with_rule (with_rule (new_app (codes "gen")) (file_rule (codes "OUT"))) (number_rule (codes "seed"))
 
+-- upgrade IN OUT
+abbrev pub upgrade_app : App
+upgrade_app = with_rule (with_rule (new_app (codes "upgrade")) (file_rule (codes "IN"))) (file_rule (codes "OUT"))
+
 -- the command line without its subcommands: one must be given, and there is no `help` among them
 abbrev pub bare_app : App
 bare_app =
@@ -58,4 +62,4 @@ bare_app =
 abbrev pub talc_app : App
 talc_app =
     fold with_subcommand bare_app
-    (compile_app.top ∷ check_app.top ∷ run_app.top ∷ typeof_app.top ∷ eval_app.top ∷ gen_app.top ∷ [])
+    (compile_app.top ∷ check_app.top ∷ run_app.top ∷ typeof_app.top ∷ eval_app.top ∷ gen_app.top ∷ upgrade_app.top ∷ [])

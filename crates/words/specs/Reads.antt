@@ -2,10 +2,10 @@
 use Rattle.std.specs.Prelude.{◌≡◌, List, Some, None, Result, Ok, Err}
 use Rattle.clap.specs.Words.{Text}
 use Rattle.words.specs.declared.command.Command.{Command}
-use Rattle.words.specs.declared.command.Command.TheVariants.{Compile, Check, Run, Typeof, Eval, Gen}
+use Rattle.words.specs.declared.command.Command.TheVariants.{Compile, Check, Run, Typeof, Eval, Gen, Upgrade}
 use Rattle.words.specs.declared.command.NoCommand.{NoCommand}
 use Rattle.words.specs.declared.command.NoCommand.TheVariants.{Usage, Memory}
-use Rattle.words.specs.Command.{Asked, Compiles, Checks, Runs, Types, Evaluates, Generates, command_of}
+use Rattle.words.specs.Command.{Asked, Compiles, Checks, Runs, Types, Evaluates, Generates, Upgrades, command_of}
 
 -- what a command as the code has it asks for
 abbrev pub asked_by : Command → Asked
@@ -15,6 +15,7 @@ asked_by (Run input fuel) = Runs input.now fuel
 asked_by (Typeof input) = Types input.now
 asked_by (Eval input turns) = Evaluates input.now turns
 asked_by (Gen seed output) = Generates seed output.now
+asked_by (Upgrade input output) = Upgrades input.now output.now
 
 -- a command only where the words are this one, and a text only where they are none
 abbrev pub Reads : List Text → Result Command NoCommand → Type 0

@@ -3,7 +3,8 @@ ghost use Rattle.std.specs.Prelude.{◌≡◌, IfOk, false, true};
 ghost use Rattle.std.specs.Result.{IsOkAnd};
 ghost use Rattle.clap.specs.Words.{app_of, rule_of, with_subcommand};
 ghost use Rattle.words.specs.Description.{file_rule, number_rule, compile_app, check_app, run_app};
-ghost use Rattle.words.specs.Description.{typeof_app, eval_app, gen_app, bare_app, talc_app};
+ghost use Rattle.words.specs.Description.{typeof_app, eval_app, gen_app, upgrade_app};
+ghost use Rattle.words.specs.Description.{bare_app, talc_app};
 
 use clap::{Arg, ArgAction, Command, value_parser};
 use std::alloc::{AllocError, Global};
@@ -81,6 +82,15 @@ fn gen_words<'a>(alloc: Global) -> Result<Command<'a>, AllocError>
         .arg(number(alloc, "seed", "The seed"))
 }
 
+fn upgrade_words<'a>(alloc: Global) -> Result<Command<'a>, AllocError>
+    ensures { IfOk result (λ c. app_of c ≡ upgrade_app) }
+{
+    Command::new(alloc, "upgrade")
+        .about("Writes the program of the TAL text IN to OUT in the newest version of the language")
+        .arg(file(alloc, "IN", "The file to read"))?
+        .arg(file(alloc, "OUT", "The file to write over"))
+}
+
 // The command line without its subcommands: one must be given, and there is no `help` among them.
 fn bare_words<'a>(alloc: Global) -> Command<'a>
     ensures { app_of result ≡ bare_app }
@@ -112,6 +122,7 @@ pub(crate) fn talc_words<'a>(alloc: Global) -> Result<Command<'a>, AllocError>
     let run = with_words(check, run_words(alloc))?;
     let type_of = with_words(run, typeof_words(alloc))?;
     let eval = with_words(type_of, eval_words(alloc))?;
-    let all = with_words(eval, gen_words(alloc))?;
+    let generate = with_words(eval, gen_words(alloc))?;
+    let all = with_words(generate, upgrade_words(alloc))?;
     Ok(all)
 }

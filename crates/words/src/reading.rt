@@ -54,6 +54,11 @@ fn entered<'a>(name: &str, matches: &ArgMatches<'a>) -> Option<Command<'a>>
         let (output, seed) = (value(matches, "OUT")?, number(matches, "seed")?);
         return Some(Command::Gen { seed, output });
     }
+    if name == "upgrade" {
+        let input = value(matches, "IN")?;
+        let output = value(matches, "OUT")?;
+        return Some(Command::Upgrade { input, output });
+    }
     None
 }
 

@@ -68,6 +68,13 @@ fn gen_has_its_values(rt: HostRuntime) -> Result<(), Fail> {
     asks(&rt, rt.alloc(), line, Command::Gen { seed, output })
 }
 
+#[test]
+fn upgrade_has_its_values(rt: HostRuntime) -> Result<(), Fail> {
+    let (input, output) = ("x.tal", "y.tal");
+    let line = "talc upgrade x.tal y.tal";
+    asks(&rt, rt.alloc(), line, Command::Upgrade { input, output })
+}
+
 fn is_text(read: Result<Command, NoCommand>, wanted: &str) -> bool {
     match read {
         Err(NoCommand::Usage(text)) => text.as_str() == wanted,
@@ -93,7 +100,7 @@ fn other_words_get_a_text(rt: HostRuntime) -> Result<(), Fail> {
             (
                 "talc",
                 "error: 'talc' requires a subcommand but one was not provided
-  [subcommands: compile, check, run, typeof, eval, gen]
+  [subcommands: compile, check, run, typeof, eval, gen, upgrade]
 
 Usage: talc <COMMAND>
 
@@ -101,8 +108,8 @@ For more information, try '--help'.
 ",
             ),
             (
-                "talc upgrade x.f",
-                "error: unrecognized subcommand 'upgrade'
+                "talc link x.f",
+                "error: unrecognized subcommand 'link'
 
 Usage: talc <COMMAND>
 
@@ -190,6 +197,7 @@ Commands:
   typeof   Shows the type of the source text IN
   eval     Evaluates the source text IN within N turns
   gen      Writes the source of the seed N to OUT, compiled, evaluated, checked and run
+  upgrade  Writes the program of the TAL text IN to OUT in the newest version of the language
 
 Options:
   -h, --help  Print help
@@ -200,6 +208,20 @@ Options:
                 "Compiles the source text IN into the TAL text OUT
 
 Usage: talc compile <IN> <OUT>
+
+Arguments:
+  <IN>   The file to read
+  <OUT>  The file to write over
+
+Options:
+  -h, --help  Print help
+",
+            ),
+            (
+                "talc upgrade --help",
+                "Writes the program of the TAL text IN to OUT in the newest version of the language
+
+Usage: talc upgrade <IN> <OUT>
 
 Arguments:
   <IN>   The file to read

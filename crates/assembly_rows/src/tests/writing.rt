@@ -4,7 +4,7 @@ use std::alloc::Global;
 use std::process::Abort;
 use std::test::Fail;
 use t_reader::read;
-use t_writer::write;
+use t_writer::{write, write2};
 
 const POLYMORPHIC: &[u8] =
     b"tal 1\nL0: code[]{}. mov r1, 5 mov r2, L2 jmp L1[int]\nL1: code[a]{r1:a, r2:all[]{r1:a}}. jmp r2\nL2: code[]{r1:int}. halt[int]";
@@ -37,10 +37,20 @@ const STEPS: &[u8] =
 const STEPS_WRITTEN: &[u8] =
     b"tal 1\nL0: code[]{}.\nmalloc r1[int]\nst r1[0], r2\nld r3, r1[0]\nmov r4, pack[int, r3] as some T0. T0\nunpack[T0, r5], r4\nhalt[int]\n";
 
-// The text of the program that a text stands for.
+// Data around a block, which name one another and the block; the fields of one are every form of value in data.
+const DATA: &[u8] =
+    b"tal 2 last: data <> start: code[]{}. mov r1, first halt[int]\nfirst: data <~5 : int, second : <<>^1>, pack[int, 7] as some a. a : some b. b, start : all[]{}> second: data <last : <>>";
+
+const DATA_WRITTEN: &[u8] =
+    b"tal 2\nD0: data <>\nD1: data <~5 : int, D2 : <<>^1>, pack[int, 7] as some T0. T0 : some T0. T0, L0 : all[]{}>\nD2: data <D0 : <>>\nL0: code[]{}.\nmov r1, D1\nhalt[int]\n";
+
+// The text of the program that a text stands for, in the first version of the language where it can be.
 fn again(alloc: Global, text: &[u8]) -> Result<Vec<u8>, Fail> {
     let program = read(alloc, text)?;
-    Ok(write(alloc, &program)?)
+    if program.heap.is_empty() {
+        return Ok(write(alloc, &program)?);
+    }
+    Ok(write2(alloc, &program)?)
 }
 
 fn is_written(rt: &impl Abort, alloc: Global, text: &[u8], wanted: &[u8]) -> Result<(), Fail> {
@@ -75,4 +85,9 @@ fn every_form_is_written(rt: HostRuntime) -> Result<(), Fail> {
 fn small_programs_are_written(rt: HostRuntime) -> Result<(), Fail> {
     is_written(&rt, rt.alloc(), SMALL, SMALL_WRITTEN)?;
     is_written(&rt, rt.alloc(), STEPS, STEPS_WRITTEN)
+}
+
+#[test]
+fn data_are_written(rt: HostRuntime) -> Result<(), Fail> {
+    each_is_written(&rt, rt.alloc(), &[DATA, DATA_WRITTEN], DATA_WRITTEN)
 }

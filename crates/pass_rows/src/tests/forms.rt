@@ -7,7 +7,7 @@ use pipeline::compile;
 use std::alloc::Global;
 use std::process::Abort;
 use std::test::Fail;
-use t_writer::write;
+use t_writer::write2;
 
 const SOURCE: &str = "(gen a. fix f(x:a):a. (fix g(y:int):a. x) 0)[int] 8 + 1";
 
@@ -165,7 +165,7 @@ main:
 ";
 
 const ASSEMBLY: &str = "\
-tal 1
+tal 2
 L0: code[]{}.
 malloc r1[]
 malloc r2[all[T0]{r1:<>, r2:some T1. <all[]{r1:T1, r2:some T2. <all[]{r1:T2, r2:T0, r3:some T3. \
@@ -329,7 +329,7 @@ fn a_form(alloc: Global, program: &Program) -> Result<String, Fail> {
 
 fn assembly(alloc: Global, program: &Program) -> Result<Vec<u8>, Fail> {
     let compiled = compile(alloc, program)?;
-    Ok(write(alloc, compiled.program())?)
+    Ok(write2(alloc, compiled.program())?)
 }
 
 fn is_text(rt: &impl Abort, made: &str, wanted: &str) {

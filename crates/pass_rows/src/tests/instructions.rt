@@ -5,12 +5,12 @@ use std::alloc::Global;
 use std::test::Fail;
 use t_lexer::tokens;
 use t_terms::{Kind, Token};
-use t_writer::write;
+use t_writer::write2;
 
 fn assembly(alloc: Global, source: &str) -> Result<Vec<u8>, Fail> {
     let program = program(alloc, source)?;
     let compiled = compile(alloc, &program)?;
-    Ok(write(alloc, compiled.program())?)
+    Ok(write2(alloc, compiled.program())?)
 }
 
 fn count_of(tokens: &[Token], kind: Kind) -> u64 {

@@ -4,7 +4,7 @@ use Rattle.t_terms.specs.Read.{body, end_of}
 use Rattle.t_writer.specs.Lexeme.{render}
 use Rattle.t_writer.specs.Written.{seq_written}
 use Rattle.t_writer.proofs.Coded.{Coding}
-use Rattle.t_writer.proofs.program.write_code.Given as goal
+use Rattle.t_writer.proofs.blocks.write_code.Given as goal
 
 abbrev pub invariant-loop-entry : goal.invariant-loop-entry
 invariant-loop-entry l =

@@ -1,6 +1,6 @@
 use Rattle.t_terms.specs.Read.{block}
 use Rattle.t_writer.proofs.Coded.{block_done}
-use Rattle.t_writer.proofs.program.write_block.Goals as goal
+use Rattle.t_writer.proofs.blocks.write_block.Goals as goal
 
 pub returns-clause-written : goal.returns-clause-written
 returns-clause-written c =

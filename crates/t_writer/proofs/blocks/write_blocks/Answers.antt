@@ -1,5 +1,5 @@
 use Rattle.t_writer.proofs.Coded.{blocking_more}
-use Rattle.t_writer.proofs.program.write_blocks.Goals as goal
+use Rattle.t_writer.proofs.blocks.write_blocks.Goals as goal
 
 pub loop-i-preserved : goal.loop-i-preserved
 loop-i-preserved c =

@@ -1,4 +1,4 @@
--- What the general laws of shift and put ask of types: one case for each constructor.
+-- What the general laws of shift, put and below ask of types: one case for each constructor.
 use Rattle.std.proofs.Common.{◌≡◌, ℕ, ◌+◌, ◌↔◌, suc, refl, ap, ap₂, List, [], ◌∷◌}
 use Rattle.idx_core.specs.Over.{deep, At, IsOver, IsPart, IsEach, IsEachPart, shifted}
 use Rattle.idx_core.specs.Laws.{under, under2, under3}

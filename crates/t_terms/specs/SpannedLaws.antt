@@ -118,7 +118,8 @@ still_body n (x ∷ xs) e =
     ((instr_is_below n x.0).1 (ap (λ (y : TInstr × Span). y.0) first), tt, still_body (names_after x.0 n) xs (cc))
 
 moved_spanned : (n : ℕ) (b : SBlock) → each_spanned BelowAt AnyDepth n b → over_spanned (shifted VarTy 1) n b ≡ b
-moved_spanned n b u = ap₃ (spanned_of b) ((file_is_below (n + b.owes) b.file).0 u.1) (moved_body (n + b.owes) b.body u.2)
+moved_spanned n b u =
+    ap₃ (spanned_of b) ((file_is_below (n + b.owes) b.file).0 u.1) (moved_body (n + b.owes) b.body u.2)
     ((end_is_below (body_depth b.body (n + b.owes)) b.last).0 u.3)
 
 still_spanned : (n : ℕ) (b : SBlock) → over_spanned (shifted VarTy 1) n b ≡ b → each_spanned BelowAt AnyDepth n b

@@ -1,8 +1,9 @@
--- What the general laws of shift and put ask of types: one case for each constructor.
-use Rattle.std.proofs.Common.{◌≡◌, ℕ, ◌+◌, suc, refl, ap, ap₂}
+-- What the general laws of shift, put and below ask of types: one case for each constructor.
+use Rattle.std.proofs.Common.{◌≡◌, ℕ, ◌+◌, ◌↔◌, suc, refl, ap, ap₂}
 use Rattle.idx_core.specs.Over.{deep, At, IsOver, IsPart, IsEach, IsEachPart}
 use Rattle.idx_core.specs.Laws.{under, under2, under3}
-use Rattle.a_terms.specs.Tree.{ATy, AInt, AVar, ATuple, ACode, AExists, ATys, NoATys, MoreATys, AFields, NoAFields, MoreAFields, over, over_types, over_fields, each, each_types, each_fields}
+use Rattle.idx_core.specs.Laws as laws
+use Rattle.a_terms.specs.Tree.{ATy, AInt, AVar, ATuple, ACode, AExists, ATys, NoATys, MoreATys, AFields, NoAFields, MoreAFields, over, over_types, over_fields, each, each_types, each_fields, ashift, ashift_types, ashift_fields, ABelow, ABelow-types, ABelow-fields}
 
 -- a fact on each depth, below n more binders
 keeps_more : (f : At ATy) (a n : ℕ) → ((e i : ℕ) → f (deep a e) i ≡ AVar i) → (e i : ℕ) → f (deep (a + n) e) i ≡ AVar i
@@ -137,3 +138,23 @@ a_fields_over = record { keeps = keeps_fields; after = after_fields }
 
 pub a_fields_each : IsEach ATy AFields each over_fields each_fields
 a_fields_each = record { agree = agree_fields; made = made_fields }
+
+-- what a shift leaves as it is has no free index from its cut on
+mutual
+  still : (n : ℕ) (t : ATy) → ashift 1 n t ≡ t → ABelow n t
+  still n AInt e = tt
+  still n (AVar i) e = laws.still_var AVar (λ j k same. cc) n i e
+  still n (ATuple x) e = still_fields n x (cc)
+  still n (ACode p x) e = (tt, still_types (n + p) x (cc))
+  still n (AExists t) e = (tt, still (n + 1) t (cc))
+
+  still_types : (n : ℕ) (x : ATys) → ashift_types 1 n x ≡ x → ABelow-types n x
+  still_types n NoATys e = tt
+  still_types n (MoreATys t x) e = (still n t (cc), still_types n x (cc))
+
+  still_fields : (n : ℕ) (x : AFields) → ashift_fields 1 n x ≡ x → ABelow-fields n x
+  still_fields n NoAFields e = tt
+  still_fields n (MoreAFields t flag x) e = (still n t (cc), still_fields n x (cc))
+
+pub a_is_below : (n : ℕ) (t : ATy) → ABelow n t ↔ (ashift 1 n t ≡ t)
+a_is_below n t = laws.below_is a_part a_each a_over a_each.has still n t

@@ -2,7 +2,7 @@
 ghost use Rattle.std.specs.Prelude.{ℕ, ◌≤◌, ◌^◌, ◌↔◌, IsTrue};
 ghost use Rattle.a_terms.specs.Read.{atree, atrees, afields};
 ghost use Rattle.a_terms.specs.Tree.{ATy, AVar, over, each, ABelow, ABelow-types, ABelow-fields};
-ghost use Rattle.a_terms.specs.TreeLaws.{a_part, a_over};
+ghost use Rattle.a_terms.specs.TreeLaws.{a_part, a_over, a_is_below};
 
 use crate::types::AType;
 use crate::walks::{put_type, shift_type};
@@ -125,4 +125,6 @@ impl Scoped for AType {
     ghost is_part = { a_part };
 
     ghost is_over = { a_over };
+
+    ghost below_is = { a_is_below };
 }

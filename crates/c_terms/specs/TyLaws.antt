@@ -1,10 +1,10 @@
 -- What the general laws of shift, put and below ask of types: one case for each constructor.
-use Rattle.std.proofs.Common.{◌≡◌, ℕ, ◌+◌, ◌≤◌, suc, refl, ap, ap₂}
+use Rattle.std.proofs.Common.{◌≡◌, ℕ, ◌+◌, ◌≤◌, ◌↔◌, suc, refl, ap, ap₂}
 use Rattle.idx_core.specs.Over.{deep, At, IsOver, IsPart, IsEach, IsEachPart}
 use Rattle.idx_core.specs.Laws.{under, under2, under3}
 use Rattle.idx_core.specs.Laws as laws
 use Rattle.c_terms.specs.C.{CTy, TCInt, TCVar, TCTuple, TCCode, TCSome, TCRef, CTys, NoCTys, MoreCTys}
-use Rattle.c_terms.specs.Walks.{over, over_all, each, each_all, shift, put}
+use Rattle.c_terms.specs.Walks.{over, over_all, each, each_all, shift, shift_all, put, Below, BelowAll}
 
 -- a fact on each depth, below n more binders
 keeps_more : (f : At CTy) (a n : ℕ) → ((e i : ℕ) → f (deep a e) i ≡ TCVar i) → (e i : ℕ) →
@@ -113,6 +113,23 @@ types_each = record { each_var = λ V B d i h. h; has = record { agree = agree; 
 
 pub type_lists_each : IsEach CTy CTys each over_all each_all
 type_lists_each = record { agree = agree_all; made = made_all }
+
+-- what a shift leaves as it is has no free index from its cut on
+mutual
+  still : (n : ℕ) (t : CTy) → shift 1 n t ≡ t → Below n t
+  still n TCInt e = tt
+  still n (TCVar i) e = laws.still_var TCVar (λ j k same. cc) n i e
+  still n (TCTuple ts) e = still_all n ts (cc)
+  still n (TCCode p ts) e = (tt, still_all (n + p) ts (cc))
+  still n (TCSome t) e = (tt, still (n + 1) t (cc))
+  still n (TCRef t) e = still n t (cc)
+
+  still_all : (n : ℕ) (ts : CTys) → shift_all 1 n ts ≡ ts → BelowAll n ts
+  still_all n NoCTys e = tt
+  still_all n (MoreCTys t ts) e = (still n t (cc), still_all n ts (cc))
+
+pub type_is_below : (n : ℕ) (t : CTy) → Below n t ↔ (shift 1 n t ≡ t)
+type_is_below n t = laws.below_is types_part types_each types_over types_each.has still n t
 
 -- two puts exchange, the one put into the other
 pub put_put : (i j : ℕ) (u v t : CTy) → i ≤ j → put j v (put i u t) ≡ put i (put j v u) (put (j + 1) (shift 1 i v) t)

@@ -3,7 +3,7 @@ ghost use Rattle.std.specs.Prelude.{◌≡◌, ℕ, ◌≤◌, ◌^◌, ◌↔�
 ghost use Rattle.idx_core.specs.Over.{IsWord, ShiftFitsAt, PutFitsAt, BelowAt, AnyDepth};
 ghost use Rattle.c_terms.specs.C.{CTy, TCVar};
 ghost use Rattle.c_terms.specs.Read.{ctree, ctys};
-ghost use Rattle.c_terms.specs.TyLaws.{types_part, types_over};
+ghost use Rattle.c_terms.specs.TyLaws.{types_part, types_over, type_is_below};
 ghost use Rattle.c_terms.specs.Walks.{over, each, each_all, shift, shift_all, put_from, put_all_from, ShiftFits, PutFits, Below, BelowAll};
 
 use crate::types::CType;
@@ -212,4 +212,6 @@ impl Scoped for CType {
     ghost is_part = { types_part };
 
     ghost is_over = { types_over };
+
+    ghost below_is = { type_is_below };
 }

@@ -1,6 +1,6 @@
 -- What the general laws of shift, put and below ask of types, and what follows.
-use Rattle.std.proofs.Common.{◌≡◌, ℕ, ◌+◌, ◌≤◌, suc, refl, ap, ap₂, arith}
-use Rattle.idx_core.specs.Over.{deep, At, IsOver, IsPart, IsEach, IsEachPart}
+use Rattle.std.proofs.Common.{◌≡◌, ℕ, ◌+◌, ◌≤◌, ◌↔◌, suc, refl, ap, ap₂, arith}
+use Rattle.idx_core.specs.Over.{deep, At, IsOver, IsPart, IsEach, IsEachPart, shifted, BelowAt, AnyDepth}
 use Rattle.idx_core.specs.Laws as laws
 use Rattle.f_terms.specs.Ty.{Ty, TInt, TVar, TArrow, TAll, TTuple, Tys, NoTys, MoreTys, over, over_all, each, each_all, shift, put, Below}
 
@@ -80,6 +80,22 @@ types_each = record { each_var = λ V B d i h. h; has = record { agree = agree; 
 
 pub type_lists_each : IsEach Ty Tys each over_all each_all
 type_lists_each = record { agree = agree_all; made = made_all }
+
+-- what a shift leaves as it is has no free index from its cut on
+mutual
+  still : (n : ℕ) (t : Ty) → shift 1 n t ≡ t → Below n t
+  still n TInt e = tt
+  still n (TVar i) e = laws.still_var TVar (λ j k same. cc) n i e
+  still n (TArrow a b) e = (still n a (cc), still n b (cc))
+  still n (TAll t) e = (tt, still (n + 1) t (cc))
+  still n (TTuple ts) e = still_all n ts (cc)
+
+  still_all : (n : ℕ) (ts : Tys) → over_all (shifted TVar 1) n ts ≡ ts → each_all BelowAt AnyDepth n ts
+  still_all n NoTys e = tt
+  still_all n (MoreTys t ts) e = (still n t (cc), still_all n ts (cc))
+
+pub type_is_below : (n : ℕ) (t : Ty) → Below n t ↔ (shift 1 n t ≡ t)
+type_is_below n t = laws.below_is types_part types_each types_over types_each.has still n t
 
 -- two puts exchange, the one put into the other
 pub put_put : (i j : ℕ) (u v t : Ty) → i ≤ j → put j v (put i u t) ≡ put i (put j v u) (put (j + 1) (shift 1 i v) t)

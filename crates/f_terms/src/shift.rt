@@ -2,7 +2,7 @@
 ghost use Rattle.std.specs.Prelude.{◌≡◌, ℕ, ◌≤◌, ◌^◌, ◌↔◌, IfOk, IsTrue};
 ghost use Rattle.f_terms.specs.Ty.{Ty, TVar, over, each, shift, put_from, Below, ShiftFits, PutFits};
 ghost use Rattle.f_terms.specs.Read.{tree};
-ghost use Rattle.f_terms.specs.TyLaws.{types_part, types_over};
+ghost use Rattle.f_terms.specs.TyLaws.{types_part, types_over, type_is_below};
 
 use crate::types::FType;
 use idx_core::{OutOfMemory, Scoped};
@@ -159,4 +159,6 @@ impl Scoped for FType {
     ghost is_part = { types_part };
 
     ghost is_over = { types_over };
+
+    ghost below_is = { type_is_below };
 }

@@ -1,5 +1,5 @@
 -- The laws of shift and put, proved once for every kind of tree.
-use Rattle.std.proofs.Common.{◌≡◌, ℕ, zero, suc, ◌+◌, ◌-◌, ◌<◌, ◌≤◌, ◌⊎◌, inl, inr, sym, ap, ◌∙◌, refl, arith, zero-add, subst}
+use Rattle.std.proofs.Common.{◌≡◌, ℕ, zero, suc, ◌+◌, ◌-◌, ◌<◌, ◌≤◌, ◌⊎◌, ◌↔◌, inl, inr, sym, ap, ◌∙◌, refl, arith, zero-add, subst}
 use Rattle.std.proofs.lemmas.Bool.Decides.{nat_tests}
 use Rattle.std.proofs.lemmas.Bool.{cases_lt, cases_order}
 use Rattle.idx_core.specs.Over.{deep, At, Over, shifted, putted, IsOver, IsPart, Each, IsEach, IsEachPart, BelowAt, AnyDepth}
@@ -252,6 +252,15 @@ pub put_shift_law : {P T : Type 0} {var : ℕ → P} {over_part : Over P P} {ove
     over (putted var over_part c s) c (over (shifted var 1) c t) ≡ t
 put_shift_law part is c s t = put_shift part is c s c t
 
+-- a variable that a shift leaves as it is, where different numbers make different variables
+pub still_var : {P : Type 0} (var : ℕ → P) → ((i j : ℕ) → var i ≡ var j → i ≡ j) → (n i : ℕ) →
+    shifted var 1 n i ≡ var i → i < n
+still_var var one n i e = here (cases_lt i n)
+  where
+    here : (i < n) ⊎ (n ≤ i) → i < n
+    here (inl h) = h
+    here (inr h) = let same = one (i + 1) i (sym (shifted_ge var 1 n i h) ∙ e) in omega (arith, same)
+
 -- below: what a tree with few free variables has
 module _ {P : Type 0} {var : ℕ → P} {over_part : Over P P} {each_part : Each P} (part : IsPart P var over_part)
     (parts : IsEachPart P var over_part each_part) where
@@ -263,6 +272,11 @@ module _ {P : Type 0} {var : ℕ → P} {over_part : Over P P} {each_part : Each
         has.agree BelowAt AnyDepth (shifted var k) (λ d i. var i) c c n
         (λ e i lt. shifted_lt var k (deep c e) i (omega (arith, deep_is c e, deep_is n e))) t h
         ∙ is.keeps (λ d i. var i) c (λ e i. refl) t
+
+    -- and only there, where the kind of tree shows so much case by case
+    pub below_is : ((n : ℕ) (t : T) → over (shifted var 1) n t ≡ t → each BelowAt AnyDepth n t) → (n : ℕ) (t : T) →
+        each BelowAt AnyDepth n t ↔ (over (shifted var 1) n t ≡ t)
+    below_is still n t = (shift_below 1 n n t (omega arith), still n t)
 
     pub put_below : (c : ℕ) (s : P) (n : ℕ) (t : T) → n ≤ c → each BelowAt AnyDepth n t →
         over (putted var over_part c s) c t ≡ t

@@ -46,6 +46,10 @@ pub trait Scoped {
 
     ghost is_over: { IsOver PartTree Tree var over_part over };
 
+    // and what ties the walk of `below` to that of `shift`: a tree is below n exactly where a shift of the variables
+    // that are free from n on leaves it as it is
+    ghost below_is: { (n : ℕ) (t : Tree) → each BelowAt AnyDepth n t ↔ (over (shifted var 1) n t ≡ t) };
+
     // and what follows
     ghost shift_zero: { (c : ℕ) (t : Tree) → over (shifted var 0) c t ≡ t } = { shift_zero_law is_over };
 

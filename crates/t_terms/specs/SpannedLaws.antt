@@ -1,12 +1,12 @@
--- What the general laws of shift and put ask of a block with its places.
-use Rattle.std.proofs.Common.{◌≡◌, ℕ, ◌+◌, suc, refl, ap, ap₂, List, [], ◌∷◌}
-use Rattle.idx_core.specs.Over.{At, IsOver}
+-- What the general laws of shift, put and below ask of a block with its places.
+use Rattle.std.proofs.Common.{◌≡◌, ℕ, ◌+◌, ◌↔◌, suc, refl, ap, ap₂, List, [], ◌∷◌}
+use Rattle.idx_core.specs.Over.{At, IsOver, shifted, BelowAt, AnyDepth}
 use Rattle.idx_core.specs.declared.span.Span.{Span}
 use Rattle.t_types.specs.Tree.{Ty, TFile, VarTy, over, over_file}
-use Rattle.t_types.specs.TreeLaws.{file_over, keeps_more, after_more}
-use Rattle.t_terms.specs.Tree.{TInstr, Arith, Bnz, Ld, Malloc, Mov, St, Unpack, TEnd, TSeq, Then, TBlock, over_instr, over_end, over_block, over_seq}
-use Rattle.t_terms.specs.TreeLaws.{ap₃, instr_over, end_over, Keeps, Makes}
-use Rattle.t_terms.specs.Spanned.{SBlock, over_body, over_spanned, body_depth, plain, seq_of}
+use Rattle.t_types.specs.TreeLaws.{file_over, file_is_below, keeps_more, after_more}
+use Rattle.t_terms.specs.Tree.{TInstr, Arith, Bnz, Ld, Malloc, Mov, St, Unpack, TEnd, TSeq, Then, TBlock, names_after, over_instr, over_end, over_block, over_seq, shift_instr}
+use Rattle.t_terms.specs.TreeLaws.{ap₃, instr_over, end_over, instr_is_below, end_is_below, Keeps, Makes}
+use Rattle.t_terms.specs.Spanned.{SBlock, over_body, over_spanned, each_body, each_spanned, body_depth, plain, seq_of}
 
 -- one entry, and the rest
 abbrev entry : TInstr → Span → List (TInstr × Span) → List (TInstr × Span)
@@ -104,6 +104,35 @@ after_spanned f g h a b c k x =
 
 pub spanned_over : IsOver Ty SBlock VarTy over over_spanned
 spanned_over = record { keeps = keeps_spanned; after = after_spanned }
+
+-- a shift leaves a body as it is exactly where no type index is free from its cut on
+moved_body : (n : ℕ) (xs : Body) → each_body BelowAt AnyDepth n xs → over_body (shifted VarTy 1) n xs ≡ xs
+moved_body n [] u = refl
+moved_body n ((i, s) ∷ xs) u =
+    ap₂ (λ j ys. entry j s ys) ((instr_is_below n i).0 u.0) (moved_body (names_after i n) xs u.2)
+
+still_body : (n : ℕ) (xs : Body) → over_body (shifted VarTy 1) n xs ≡ xs → each_body BelowAt AnyDepth n xs
+still_body n [] e = tt
+still_body n (x ∷ xs) e =
+    let first : Path (TInstr × Span) (shift_instr 1 n x.0, x.1) x = cc in
+    ((instr_is_below n x.0).1 (ap (λ (y : TInstr × Span). y.0) first), tt, still_body (names_after x.0 n) xs (cc))
+
+moved_spanned : (n : ℕ) (b : SBlock) → each_spanned BelowAt AnyDepth n b → over_spanned (shifted VarTy 1) n b ≡ b
+moved_spanned n b u =
+    ap₃ (spanned_of b) ((file_is_below (n + b.owes) b.file).0 u.1) (moved_body (n + b.owes) b.body u.2)
+    ((end_is_below (body_depth b.body (n + b.owes)) b.last).0 u.3)
+
+still_spanned : (n : ℕ) (b : SBlock) → over_spanned (shifted VarTy 1) n b ≡ b → each_spanned BelowAt AnyDepth n b
+still_spanned n b e = (
+  tt,
+  (file_is_below (n + b.owes) b.file).1 (ap (λ (x : SBlock). x.file) e),
+  still_body (n + b.owes) b.body (ap (λ (x : SBlock). x.body) e),
+  (end_is_below (body_depth b.body (n + b.owes)) b.last).1 (ap (λ (x : SBlock). x.last) e),
+)
+
+pub spanned_is_below : (n : ℕ) (b : SBlock) →
+    each_spanned BelowAt AnyDepth n b ↔ (over_spanned (shifted VarTy 1) n b ≡ b)
+spanned_is_below n b = (moved_spanned n b, still_spanned n b)
 
 abbrev block_of : ℕ → TFile → TSeq → TBlock
 block_of n file c = record { owes = n; file = file; code = c }

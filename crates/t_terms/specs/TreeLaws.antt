@@ -1,10 +1,11 @@
--- What the general laws of shift and put ask of values, instructions, sequences and blocks: one case for each
+-- What the general laws of shift, put and below ask of values, instructions, sequences and blocks: one case for each
 -- constructor.
-use Rattle.std.proofs.Common.{◌≡◌, ℕ, ◌+◌, suc, refl, ap, ap₂, ◌∙◌}
-use Rattle.idx_core.specs.Over.{deep, At, IsOver, IsEach}
+use Rattle.std.proofs.Common.{◌≡◌, ℕ, ◌+◌, ◌↔◌, suc, refl, ap, ap₂, ◌∙◌}
+use Rattle.idx_core.specs.Over.{deep, At, IsOver, IsEach, shifted, BelowAt, AnyDepth}
+use Rattle.idx_core.specs.Laws as laws
 use Rattle.t_types.specs.Tree.{Ty, TFile, VarTy, over, each}
-use Rattle.t_types.specs.TreeLaws.{types_over, types_each, file_over, file_each, list_over, list_each, keeps_more, after_more, agree_more, made_more, made_deeper}
-use Rattle.t_terms.specs.Tree.{TValue, Plain, Pack, TInstr, Arith, Bnz, Ld, Malloc, Mov, St, Unpack, TEnd, Jmp, Halt, TSeq, Then, Ends, TBlock, over_value, over_instr, over_end, over_seq, over_block, each_value, each_instr, each_end, each_seq, each_block}
+use Rattle.t_types.specs.TreeLaws.{types_part, types_over, types_each, type_is_below, list_is_below, file_over, file_each, list_over, list_each, keeps_more, after_more, agree_more, made_more, made_deeper}
+use Rattle.t_terms.specs.Tree.{TValue, Plain, Pack, TInstr, Arith, Bnz, Ld, Malloc, Mov, St, Unpack, TEnd, Jmp, Halt, TSeq, Then, Ends, TBlock, over_value, over_instr, over_end, over_seq, over_block, each_value, each_instr, each_end, each_seq, each_block, shift_value, shift_instr}
 
 pub ap₃ : {X Y Z W : Type 0} (f : X → Y → Z → W) {x x' : X} {y y' : Y} {z z' : Z} → x ≡ x' → y ≡ y' → z ≡ z' →
     f x y z ≡ f x' y' z'
@@ -243,3 +244,30 @@ block_over = record { keeps = keeps_block; after = after_block }
 
 pub block_each : IsEach Ty TBlock each over_block each_block
 block_each = record { agree = agree_block; made = made_block }
+
+-- what a shift leaves as it is has no free type index from its cut on
+still_value : (n : ℕ) (v : TValue) → shift_value 1 n v ≡ v → each_value BelowAt AnyDepth n v
+still_value n (Plain b ts) e = (list_is_below n ts).1 (cc)
+still_value n (Pack t v s) e = ((type_is_below n t).1 (cc), still_value n v (cc), (type_is_below n s).1 (cc))
+
+still_instr : (n : ℕ) (i : TInstr) → shift_instr 1 n i ≡ i → each_instr BelowAt AnyDepth n i
+still_instr n (Arith op rd rs v) e = still_value n v (cc)
+still_instr n (Bnz r v) e = still_value n v (cc)
+still_instr n (Ld rd rs i) e = tt
+still_instr n (Malloc rd ts) e = (list_is_below n ts).1 (cc)
+still_instr n (Mov rd v) e = still_value n v (cc)
+still_instr n (St rd i rs) e = tt
+still_instr n (Unpack rd v) e = still_value n v (cc)
+
+still_end : (n : ℕ) (x : TEnd) → over_end (shifted VarTy 1) n x ≡ x → each_end BelowAt AnyDepth n x
+still_end n (Jmp v) e = still_value n v (cc)
+still_end n Halt e = tt
+
+pub value_is_below : (n : ℕ) (v : TValue) → each_value BelowAt AnyDepth n v ↔ (shift_value 1 n v ≡ v)
+value_is_below n v = laws.below_is types_part types_each value_over value_each still_value n v
+
+pub instr_is_below : (n : ℕ) (i : TInstr) → each_instr BelowAt AnyDepth n i ↔ (shift_instr 1 n i ≡ i)
+instr_is_below n i = laws.below_is types_part types_each instr_over instr_each still_instr n i
+
+pub end_is_below : (n : ℕ) (x : TEnd) → each_end BelowAt AnyDepth n x ↔ (over_end (shifted VarTy 1) n x ≡ x)
+end_is_below n x = laws.below_is types_part types_each end_over end_each still_end n x

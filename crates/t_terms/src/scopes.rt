@@ -4,9 +4,9 @@ ghost use Rattle.t_types.specs.Tree.{Ty, VarTy, over, each};
 ghost use Rattle.t_types.specs.TreeLaws.{types_part};
 ghost use Rattle.t_terms.specs.Read.{value, instr, end_of, spanned};
 ghost use Rattle.t_terms.specs.Spanned.{SBlock, over_spanned, each_spanned};
-ghost use Rattle.t_terms.specs.SpannedLaws.{spanned_over};
+ghost use Rattle.t_terms.specs.SpannedLaws.{spanned_over, spanned_is_below};
 ghost use Rattle.t_terms.specs.Tree.{TValue, TInstr, TEnd, over_value, over_instr, over_end, each_value, each_instr, each_end};
-ghost use Rattle.t_terms.specs.TreeLaws.{value_over, instr_over, end_over};
+ghost use Rattle.t_terms.specs.TreeLaws.{value_over, instr_over, end_over, value_is_below, instr_is_below, end_is_below};
 
 use crate::block::Block;
 use crate::bodies::{block_below, put_block, shift_block};
@@ -56,6 +56,8 @@ impl Scoped for Value {
     ghost is_part = { types_part };
 
     ghost is_over = { value_over };
+
+    ghost below_is = { value_is_below };
 }
 
 impl Scoped for Instr {
@@ -94,6 +96,8 @@ impl Scoped for Instr {
     ghost is_part = { types_part };
 
     ghost is_over = { instr_over };
+
+    ghost below_is = { instr_is_below };
 }
 
 impl Scoped for End {
@@ -132,6 +136,8 @@ impl Scoped for End {
     ghost is_part = { types_part };
 
     ghost is_over = { end_over };
+
+    ghost below_is = { end_is_below };
 }
 
 impl Scoped for Block {
@@ -170,4 +176,6 @@ impl Scoped for Block {
     ghost is_part = { types_part };
 
     ghost is_over = { spanned_over };
+
+    ghost below_is = { spanned_is_below };
 }

@@ -1,8 +1,9 @@
--- What the general laws of shift and put ask of types: one case for each constructor.
-use Rattle.std.proofs.Common.{◌≡◌, ℕ, ◌+◌, suc, refl, ap, ap₂, List, [], ◌∷◌}
-use Rattle.idx_core.specs.Over.{deep, At, IsOver, IsPart, IsEach, IsEachPart}
+-- What the general laws of shift, put and below ask of types: one case for each constructor.
+use Rattle.std.proofs.Common.{◌≡◌, ℕ, ◌+◌, ◌↔◌, suc, refl, ap, ap₂, List, [], ◌∷◌}
+use Rattle.idx_core.specs.Over.{deep, At, IsOver, IsPart, IsEach, IsEachPart, shifted}
 use Rattle.idx_core.specs.Laws.{under, under2, under3}
-use Rattle.t_types.specs.Tree.{Ty, IntTy, VarTy, CodeTy, ExistsTy, TupleTy, TFile, NoRegs, MoreRegs, TFields, NoFields, MoreFields, over, over_file, over_fields, over_types, each, each_file, each_fields, each_types}
+use Rattle.idx_core.specs.Laws as laws
+use Rattle.t_types.specs.Tree.{Ty, IntTy, VarTy, CodeTy, ExistsTy, TupleTy, TFile, NoRegs, MoreRegs, TFields, NoFields, MoreFields, over, over_file, over_fields, over_types, each, each_file, each_fields, each_types, shift, shift_file, shift_fields, Below, BelowFile, BelowFields, BelowTypes}
 
 -- a fact on each depth, below n more binders
 pub keeps_more : (f : At Ty) (a n : ℕ) → ((e i : ℕ) → f (deep a e) i ≡ VarTy i) → (e i : ℕ) →
@@ -172,3 +173,33 @@ list_over = record { keeps = keeps_types; after = after_types }
 
 pub list_each : IsEach Ty (List Ty) each over_types each_types
 list_each = record { agree = agree_types; made = made_types }
+
+-- what a shift leaves as it is has no free index from its cut on
+mutual
+  still : (n : ℕ) (t : Ty) → shift 1 n t ≡ t → Below n t
+  still n IntTy e = tt
+  still n (VarTy i) e = laws.still_var VarTy (λ j k same. cc) n i e
+  still n (CodeTy p x) e = (tt, still_file (n + p) x (cc))
+  still n (ExistsTy t) e = (tt, still (n + 1) t (cc))
+  still n (TupleTy x) e = still_fields n x (cc)
+
+  still_file : (n : ℕ) (x : TFile) → shift_file 1 n x ≡ x → BelowFile n x
+  still_file n NoRegs e = tt
+  still_file n (MoreRegs r t x) e = (still n t (cc), still_file n x (cc))
+
+  still_fields : (n : ℕ) (x : TFields) → shift_fields 1 n x ≡ x → BelowFields n x
+  still_fields n NoFields e = tt
+  still_fields n (MoreFields t flag x) e = (still n t (cc), still_fields n x (cc))
+
+still_types : (n : ℕ) (ts : List Ty) → over_types (shifted VarTy 1) n ts ≡ ts → BelowTypes n ts
+still_types n [] e = tt
+still_types n (t ∷ ts) e = (still n t (cc), still_types n ts (cc))
+
+pub type_is_below : (n : ℕ) (t : Ty) → Below n t ↔ (shift 1 n t ≡ t)
+type_is_below n t = laws.below_is types_part types_each types_over types_each.has still n t
+
+pub file_is_below : (n : ℕ) (x : TFile) → BelowFile n x ↔ (shift_file 1 n x ≡ x)
+file_is_below n x = laws.below_is types_part types_each file_over file_each still_file n x
+
+pub list_is_below : (n : ℕ) (ts : List Ty) → BelowTypes n ts ↔ (over_types (shifted VarTy 1) n ts ≡ ts)
+list_is_below n ts = laws.below_is types_part types_each list_over list_each still_types n ts

@@ -4,7 +4,7 @@ ghost use Rattle.idx_core.specs.Over.{IsWord, ShiftFitsAt, PutFitsAt, shifted, p
 ghost use Rattle.t_types.specs.Bound.{Tells};
 ghost use Rattle.t_types.specs.Read.{tree, types, file_tree};
 ghost use Rattle.t_types.specs.Tree.{Ty, TFile, VarTy, over, over_file, over_types, each, each_file, each_types, BelowFile, BelowTypes};
-ghost use Rattle.t_types.specs.TreeLaws.{types_part, file_over};
+ghost use Rattle.t_types.specs.TreeLaws.{types_part, file_over, file_is_below};
 
 use crate::types::{RegFile, TType};
 use crate::walks::{put_regs, put_type, regs_below, shift_regs, type_below};
@@ -49,6 +49,8 @@ impl Scoped for RegFile {
     ghost is_part = { types_part };
 
     ghost is_over = { file_over };
+
+    ghost below_is = { file_is_below };
 }
 
 /// Each type of a list shifted.

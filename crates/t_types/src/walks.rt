@@ -4,7 +4,7 @@ ghost use Rattle.idx_core.specs.Over.{IsWord, ShiftFitsAt, PutFitsAt, BelowAt, A
 ghost use Rattle.t_types.specs.Bound.{IsBound, Tells};
 ghost use Rattle.t_types.specs.Read.{tree, file, fields};
 ghost use Rattle.t_types.specs.Tree.{Ty, VarTy, over, over_file, over_fields, each, each_file, each_fields, shift, shift_file, shift_fields, put_from, put_file_from, put_fields_from, ShiftFits, PutFits, Below, BelowFile, BelowFields};
-ghost use Rattle.t_types.specs.TreeLaws.{types_part, types_over};
+ghost use Rattle.t_types.specs.TreeLaws.{types_part, types_over, type_is_below};
 
 use crate::types::{RegFile, TType};
 use idx_core::{OutOfMemory, Scoped};
@@ -256,4 +256,6 @@ impl Scoped for TType {
     ghost is_part = { types_part };
 
     ghost is_over = { types_over };
+
+    ghost below_is = { type_is_below };
 }

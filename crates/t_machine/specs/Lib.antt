@@ -1,7 +1,9 @@
 pub mod Code
 pub mod Heap
+pub mod Laid
 pub mod Lowering
 pub mod Places
+pub mod ProgramLaws
 pub mod Room
 pub mod Runs
 pub mod State

@@ -354,7 +354,8 @@ read_code {u} {v} {w} {x} l c d p a f i e s vs rest g =
     (read_End e (Do MakeBlock ∷ s) _ rest g ∙ under (open_End e m) (do_now rest MakeBlock s _))))))))
 
 read_Block : {w : List Token} {b : RawBlock} (x : Block w b) (s : Stack) (vs : List Val) (rest : List Token) →
-    Leaves LArgs rest → exec (w ++ rest) (Nt LBlock ∷ s) vs ≡ seen (open_Block x (marks s)) (exec rest s (OfBlock b ∷ vs))
+    Leaves LArgs rest →
+    exec (w ++ rest) (Nt LBlock ∷ s) vs ≡ seen (open_Block x (marks s)) (exec rest s (OfBlock b ∷ vs))
 read_Block (b_block l c d p a f i e) s vs rest g =
     next (marks s) (next (marks s) (next (marks s) (read_code l c d p a f i e s vs rest g)))
 

@@ -19,7 +19,9 @@ shown Open = no_program
 
 -- two data tuples, of which the first names the second, and a block that reads through both
 abbrev linked_text : List ℕ
-linked_text = codes "tal 2\nD0: data <5 : int, D1 : <int^1>>\nD1: data <6 : int>\nL0: code[]{}. mov r2, D0 ld r3, r2[1] ld r1, r3[0] halt[int]"
+linked_text =
+    codes "tal 2\nD0: data <5 : int, D1 : <int^1>>\nD1: data <6 : int>\n"
+    ++ codes "L0: code[]{}. mov r2, D0 ld r3, r2[1] ld r1, r3[0] halt[int]"
 
 abbrev linked : SProg
 linked = record {
@@ -55,7 +57,12 @@ link : ReadsAs linked_text linked
 link = reads _ _ refl
 
 -- the place of data among blocks does not matter, nor do the names of labels
-moved : shown (answer (codes "tal 02 main: code[]{}. mov r2, x ld r3, r2[1] ld r1, r3[0] halt[int] x: data <05 : int, y : <int^1>> y: data <6 : int>")) ≡ plain_program linked
+abbrev moved_text : List ℕ
+moved_text =
+    codes "tal 02 main: code[]{}. mov r2, x ld r3, r2[1] ld r1, r3[0] halt[int] "
+    ++ codes "x: data <05 : int, y : <int^1>> y: data <6 : int>"
+
+moved : shown (answer moved_text) ≡ plain_program linked
 moved = refl
 
 -- without data the version does not matter
@@ -63,12 +70,20 @@ jumps : shown (answer (codes "tal 2\nL0: code[]{}. jmp L0")) ≡ shown (answer (
 jumps = refl
 
 -- blocks and data are numbered apart, and either may be named before it stands
-apart : shown (answer (codes "tal 2\nA: data <B : all[]{}, C : <>>\nB: code[]{}. mov r1, C jmp E\nC: data <>\nE: code[]{}. mov r1, A jmp B")) ≡
+abbrev mixed_text : List ℕ
+mixed_text =
+    codes "tal 2\nA: data <B : all[]{}, C : <>>\nB: code[]{}. mov r1, C jmp E\n"
+    ++ codes "C: data <>\nE: code[]{}. mov r1, A jmp B"
+
+apart : shown (answer mixed_text) ≡
     record {
       blocks =
-          record { owes = 0; file = NoRegs; code = Then (Mov 1 (Plain (Data 1) [])) (Ends (Jmp (Plain (Label 1) []))) } ∷
-          (record { owes = 0; file = NoRegs; code = Then (Mov 1 (Plain (Data 0) [])) (Ends (Jmp (Plain (Label 0) []))) }
-          ∷ []);
+          record { owes = 0; file = NoRegs; code = Then (Mov 1 (Plain (Data 1) [])) (Ends (Jmp (Plain (Label 1) []))) }
+          ∷ (record {
+            owes = 0;
+            file = NoRegs;
+            code = Then (Mov 1 (Plain (Data 0) [])) (Ends (Jmp (Plain (Label 0) [])));
+          } ∷ []);
       heap =
           (record { value = Plain (Label 0) []; ty = CodeTy 0 NoRegs } ∷
           (record { value = Plain (Data 1) []; ty = TupleTy NoFields } ∷ []))
@@ -77,8 +92,13 @@ apart : shown (answer (codes "tal 2\nA: data <B : all[]{}, C : <>>\nB: code[]{}.
 apart = refl
 
 -- a label with types, and packages in one another; a value's place is from its first to its last token
+abbrev packed_text : List ℕ
+packed_text =
+    codes "tal 2 L: code[a]{r1:a}. jmp L[int] D: data <L[int] : all[]{r1:int}, "
+    ++ codes "pack[int, pack[<>, ~7] as some a. int] as some b. some a. b : some b. some a. b>"
+
 abbrev packed : Answer
-packed = answer (codes "tal 2 L: code[a]{r1:a}. jmp L[int] D: data <L[int] : all[]{r1:int}, pack[int, pack[<>, ~7] as some a. int] as some b. some a. b : some b. some a. b>")
+packed = answer packed_text
 
 packages : shown packed ≡ record {
   blocks =
@@ -121,7 +141,8 @@ no_item = faulty _ _ _ _ refl
 register : FirstFault (codes "tal 2 D: data <r1 : int> L: code[]{}. halt[int]") T03 (record { start = 15; end = 17 })
 register = faulty _ _ _ _ refl
 
-packed_register : FirstFault (codes "tal 2 D: data <pack[int, r1] as some a. a : int>") T03 (record { start = 25; end = 27 })
+packed_register : FirstFault (codes "tal 2 D: data <pack[int, r1] as some a. a : int>") T03
+    (record { start = 25; end = 27 })
 packed_register = faulty _ _ _ _ refl
 
 no_type : FirstFault (codes "tal 2 D: data <5> L: code[]{}. halt[int]") T03 (record { start = 16; end = 17 })
@@ -141,13 +162,16 @@ twice : FirstFault (codes "tal 2 D: data <> D: data <> L: code[]{}. halt[int]") 
 twice = faulty _ _ _ _ refl
 
 -- names in data, in the order of the text: no type name is bound there
-unknown : FirstFault (codes "tal 2 D: data <L : all[]{}, E : a> L: code[]{}. halt[int]") T05 (record { start = 28; end = 29 })
+unknown : FirstFault (codes "tal 2 D: data <L : all[]{}, E : a> L: code[]{}. halt[int]") T05
+    (record { start = 28; end = 29 })
 unknown = faulty _ _ _ _ refl
 
-unbound : FirstFault (codes "tal 2 L: code[a]{}. halt[int] D: data <L[a] : a> D: data <E : b>") T06 (record { start = 41; end = 42 })
+unbound : FirstFault (codes "tal 2 L: code[a]{}. halt[int] D: data <L[a] : a> D: data <E : b>") T06
+    (record { start = 41; end = 42 })
 unbound = faulty _ _ _ _ refl
 
-second_register : FirstFault (codes "tal 2 D: data <L : all[]{r1:int, r1:int}> L: code[]{}. jmp X") T07 (record { start = 33; end = 35 })
+second_register : FirstFault (codes "tal 2 D: data <L : all[]{r1:int, r1:int}> L: code[]{}. jmp X") T07
+    (record { start = 33; end = 35 })
 second_register = faulty _ _ _ _ refl
 
 -- the brackets of data count

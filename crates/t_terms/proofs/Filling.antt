@@ -245,7 +245,8 @@ reads LProgram e w h s vs = record {
   counts = _ ∷ (_ ∷ (_ ∷ (_ ∷ (_ ∷ (_ ∷ (_ ∷ (_ ∷ (_ ∷ (_ ∷ (_ ∷ (_ ∷ (_ ∷ (_ ∷ [])))))))))))));
   leads = next _ (next _ (next _ (next _ (next _
       (read_code w (Do MakeFirstBlock ∷ (Nt LMoreBlocks ∷ (Do MakeHeaded ∷ (Do MakeProgram ∷ s)))) _ ∙
-      under (code_counts (marks s)) (do_now w MakeFirstBlock _ _ ∙ (silent LMoreBlocks refl w h (Do MakeHeaded ∷ (Do MakeProgram ∷ s)) _ ∙
+      under (code_counts (marks s)) (do_now w MakeFirstBlock _ _ ∙
+      (silent LMoreBlocks refl w h (Do MakeHeaded ∷ (Do MakeProgram ∷ s)) _ ∙
       (do_now w MakeHeaded _ _ ∙ do_now w MakeProgram s _))))))));
 }
 reads LHeader e w h s vs = record {
@@ -253,7 +254,8 @@ reads LHeader e w h s vs = record {
   counts = _ ∷ (_ ∷ (_ ∷ (_ ∷ (_ ∷ (_ ∷ (_ ∷ (_ ∷ (_ ∷ (_ ∷ (_ ∷ (_ ∷ (_ ∷ []))))))))))));
   leads = next _ (next _ (next _ (next _
       (read_code w (Do MakeFirstBlock ∷ (Nt LMoreBlocks ∷ (Do MakeHeaded ∷ s))) _ ∙
-      under (code_counts (marks s)) (do_now w MakeFirstBlock _ _ ∙ (silent LMoreBlocks refl w h (Do MakeHeaded ∷ s) _ ∙ do_now w MakeHeaded s _))))));
+      under (code_counts (marks s)) (do_now w MakeFirstBlock _ _ ∙
+      (silent LMoreBlocks refl w h (Do MakeHeaded ∷ s) _ ∙ do_now w MakeHeaded s _))))));
 }
 reads LBlock e w h s vs = record {
   made = _;

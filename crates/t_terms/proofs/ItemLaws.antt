@@ -50,7 +50,8 @@ IsTarget p q (Some (Data d)) = d < q
 pub labels_named : (text : List ℕ) (k d : ℕ) (xs : List RawItem) (x : Name) →
     IsTarget (k + length (blocks_in xs)) (d + length (data_in xs)) (named_by x (item_labels text k d xs))
 labels_named text k d [] x = tt
-labels_named text k d (BlockItem b ∷ xs) x = by_test (bytes_eq x (spelled text b.name)) (labels_named text (suc k) d xs x)
+labels_named text k d (BlockItem b ∷ xs) x =
+    by_test (bytes_eq x (spelled text b.name)) (labels_named text (suc k) d xs x)
   where
     more : (o : Option TBase) → IsTarget (suc k + length (blocks_in xs)) (d + length (data_in xs)) o →
         IsTarget (k + suc (length (blocks_in xs))) (d + length (data_in xs)) o
@@ -61,12 +62,14 @@ labels_named text k d (BlockItem b ∷ xs) x = by_test (bytes_eq x (spelled text
     more (Some (Data e)) h = h
 
     by_test : (t : Bool) →
-        IsTarget (suc k + length (blocks_in xs)) (d + length (data_in xs)) (named_by x (item_labels text (suc k) d xs)) →
+        IsTarget (suc k + length (blocks_in xs)) (d + length (data_in xs))
+        (named_by x (item_labels text (suc k) d xs)) →
         IsTarget (k + suc (length (blocks_in xs))) (d + length (data_in xs))
         (if t then Some (Label k) else named_by x (item_labels text (suc k) d xs))
     by_test true h = omega arith
     by_test false h = more (named_by x (item_labels text (suc k) d xs)) h
-labels_named text k d (DataItem y ∷ xs) x = by_test (bytes_eq x (spelled text y.name)) (labels_named text k (suc d) xs x)
+labels_named text k d (DataItem y ∷ xs) x =
+    by_test (bytes_eq x (spelled text y.name)) (labels_named text k (suc d) xs x)
   where
     more : (o : Option TBase) → IsTarget (k + length (blocks_in xs)) (suc d + length (data_in xs)) o →
         IsTarget (k + length (blocks_in xs)) (d + suc (length (data_in xs))) o
@@ -77,7 +80,8 @@ labels_named text k d (DataItem y ∷ xs) x = by_test (bytes_eq x (spelled text 
     more (Some (Data e)) h = omega (arith, h)
 
     by_test : (t : Bool) →
-        IsTarget (k + length (blocks_in xs)) (suc d + length (data_in xs)) (named_by x (item_labels text k (suc d) xs)) →
+        IsTarget (k + length (blocks_in xs)) (suc d + length (data_in xs))
+        (named_by x (item_labels text k (suc d) xs)) →
         IsTarget (k + length (blocks_in xs)) (d + suc (length (data_in xs)))
         (if t then Some (Data d) else named_by x (item_labels text k (suc d) xs))
     by_test true h = omega arith

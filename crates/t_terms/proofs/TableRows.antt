@@ -453,8 +453,8 @@ record Coded (d : Span) (s : Stack) (vs r : List Val) (w : List Token) : Type 0 
   is : (l c : Span) (below : List Val) → vs ≡ over_label l c below →
       Made table block Block (labelled l c (tok k.Code d ∷ front)) below us
 
-coded : {s : Stack} {vs r : List Val} {w : List Token} (d : Span) → Meets (code_owed ++ s) (OfToken (tok k.Code d) ∷ vs) w r →
-    Coded d s vs r w
+coded : {s : Stack} {vs r : List Val} {w : List Token} (d : Span) →
+    Meets (code_owed ++ s) (OfToken (tok k.Code d) ∷ vs) w r → Coded d s vs r w
 coded {vs} d (m_nt {u = u} (sem_binds {ns} a) (m_nt {u = v} (sem_file {f = file} f) (m_tm (of_dot p) (m_do
     (m_nt {u = x} (sem_steps g) (m_nt {u = y} {w} (sem_End {e} z) (m_do m))))))) =
     let h = g [] [] _ refl is_none in

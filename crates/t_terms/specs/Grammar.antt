@@ -1,6 +1,6 @@
 -- The grammar of assembly texts: one family for each line, one constructor for each alternative, over whole lists of
--- tokens. Binding plays no part in it. The place of an instruction and of an end is from its word to its last token, and
--- that of the value of a data field from its first to its last token.
+-- tokens. Binding plays no part in it. The place of an instruction and of an end is from its word to its last token,
+-- and that of the value of a data field from its first to its last token.
 use Rattle.std.specs.Prelude.{◌≤◌, ℕ, ℤ, pos, suc, nat_abs, length, Bool, true, false, List, [], ◌∷◌, ◌++◌}
 use Rattle.idx_core.specs.declared.span.Span.{Span}
 use Rattle.idx_core.specs.declared.arith.Op.{Op}
@@ -214,7 +214,8 @@ pub data Item : List Token → RawItem → Type 0 where
 -- Item .. Item, any number of them
 pub data Items : List Token → List RawItem → Type 0 where
   its_none : Items [] []
-  its_more : {u v : List Token} {xs : List RawItem} {x : RawItem} → Items u xs → Item v x → Items (u ++ v) (xs ++ x ∷ [])
+  its_more : {u v : List Token} {xs : List RawItem} {x : RawItem} → Items u xs → Item v x →
+      Items (u ++ v) (xs ++ x ∷ [])
 
 -- a block is among the items
 abbrev pub HasBlock : List RawItem → Type 0

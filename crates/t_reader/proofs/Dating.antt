@@ -1,5 +1,5 @@
 -- The names of data tuples: how a whole follows from its parts.
-use Rattle.std.proofs.Common.{◌≡◌, ℕ, ◌+◌, ◌<◌, ◌≤◌, List, [], ◌∷◌, ◌++◌, length, map, drop, get_or, Vec, Global, refl, sym, ◌∙◌, ap, append_assoc}
+use Rattle.std.proofs.Common.{◌≡◌, ℕ, ◌+◌, ◌<◌, ◌≤◌, List, [], ◌∷◌, ◌++◌, length, map, drop, get_or, Vec, Global, refl, ◌∙◌, ap, append_assoc}
 use Rattle.std.proofs.lemmas.List.{append-nil}
 use Rattle.std.proofs.Math.ListN.{drop_of_length-le}
 use Rattle.idx_core.specs.declared.span.Span.{Span}
@@ -65,3 +65,6 @@ data_whole text ls d xs p k made l h =
     let f : data_faults text ls (map raw_datum xs) ≡ [] = h.faults ∙ rw n refl in
     let g : map (datum_of text ls) (map raw_datum xs) ≡ read.data_fields made.items = h.trees ∙ (rw n (append-nil (read.data_fields made.items))) in
     (rw (← p) f, rw (← p, g) refl)
+
+pub data_stop_whole : (text : List ℕ) (ls : Labels) (d : RawData) (xs : List RawDatum) (p : xs ≡ d.fields.items) (s : TFault) → StopsAt (data_faults text ls (map raw_datum xs)) s → StopsAt (data_faults text ls (raw_data d).fields) s
+data_stop_whole text ls d xs p s h = rw (← p) h

@@ -7,13 +7,13 @@ use Rattle.std.proofs.lemmas.Bool.{eq-eqb}
 use Rattle.std.proofs.lemmas.List.{append-nil, length-append}
 use Rattle.std.proofs.Math.ListN.{drop_of_length-le}
 use Rattle.idx_core.specs.Names.{Name}
-use Rattle.indexmap.specs.IndexMap.{IndexMap}
+use Rattle.indexmap.specs.IndexMap.{IndexMap, IsEmpty}
 use Rattle.t_terms.specs.declared.fault.TCode.TheVariants.{T04}
 use Rattle.t_terms.specs.declared.fault.TFault.{TFault}
 use Rattle.t_terms.specs.declared.block.Block.{Block}
 use Rattle.t_terms.specs.declared.data.Data as heap_of
 use Rattle.t_terms.specs.Tree.{TBase, Reg, Int, Label, Data}
-use Rattle.t_terms.specs.Spanned.{SBlock, SData, SProg}
+use Rattle.t_terms.specs.Spanned.{SBlock, SData}
 use Rattle.t_terms.specs.Read.{spanned, spanned_blocks, spanned_data, spanned_heap, spanned_parts}
 use Rattle.t_terms.specs.Raw.{item_name, blocks_in, data_in}
 use Rattle.t_terms.specs.Names.{Labels, spelled, is_among, named_by, item_labels, labels_of, block_of, data_of, program_of}
@@ -38,6 +38,9 @@ pub record LabelsLeft {S : Type 0} (text : List ℕ) (xs : List RawItem) (k b d 
   pub count : b + d ≡ k
   pub labels : labels_of text (raw_items xs) ≡ seen ++ item_labels text b d (raw_items (drop k xs))
   pub firsts : HasFirsts targets seen
+
+pub labels_start : {S : Type 0} (text : List ℕ) (xs : List RawItem) (targets : IndexMap (Bor (List ℕ)) Target S) → IsEmpty targets → LabelsLeft text xs 0 0 0 targets
+labels_start text xs targets e = record { seen = []; count = omega arith; labels = refl; firsts = λ x. rw e refl }
 
 module _ {S : Type 0} (text : List ℕ) (xs : List RawItem) (k b d : ℕ) (old : IndexMap (Bor (List ℕ)) Target S) (x : RawItem) (l : k < length xs) (i : x ≡ get_or xs k x) (h : LabelsLeft text xs k b d old) (more : IndexMap (Bor (List ℕ)) Target S) where
   pub next_block : (y : RawBlock) → x ≡ It.Block y → HasFirsts more (h.seen ++ (spelled text y.name, Label b) ∷ []) → LabelsLeft text xs (k + 1) (b + 1) d more

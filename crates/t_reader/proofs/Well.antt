@@ -1,5 +1,5 @@
 -- The program that is read is whole.
-use Rattle.std.proofs.Common.{◌≡◌, ◌≢◌, ℕ, ◌+◌, ◌<◌, ◌≤◌, List, [], ◌∷◌, ◌++◌, length, map, refl, sym, ◌∙◌, subst, Bool, true, false, not, ◌||◌, if◌then◌else◌, arith, suc, zero-add, Option, Some, None}
+use Rattle.std.proofs.Common.{◌≡◌, ◌≢◌, ℕ, ◌+◌, ◌<◌, ◌≤◌, List, [], ◌∷◌, ◌++◌, length, map, refl, sym, ◌∙◌, subst, Bool, true, false, not, ◌||◌, if◌then◌else◌, arith, zero-add, Option, Some, None}
 use Rattle.std.specs.Prelude.{nat_eq, nat_lt, bytes_eq, is_none}
 use Rattle.std.specs.List.{list_any}
 use Rattle.std.proofs.lemmas.Bool.{eq-eqb, ltb-true, ltb-false}
@@ -13,11 +13,11 @@ use Rattle.t_terms.specs.declared.block.Block as code
 use Rattle.t_terms.specs.declared.data.Data as heap_of
 use Rattle.t_terms.specs.Tree as tree
 use Rattle.t_terms.specs.Tree.{TBase, Reg, Int, Label, Data}
-use Rattle.t_terms.specs.Spanned.{SBlock, SData, plain, plain_blocks, plain_datum, plain_fields, plain_heap, seq_of}
+use Rattle.t_terms.specs.Spanned.{SBlock, SData, SProg, plain_program, plain, plain_blocks, plain_datum, plain_fields, plain_heap, seq_of}
 use Rattle.t_terms.specs.Read.{spanned_parts, parts}
 use Rattle.std.proofs.lemmas.List.{length-map}
 use Rattle.t_terms.specs.Whole.{Whole, WellFormedBase, WellFormedValue, WellFormedInstr, WellFormedEnd, WellFormedSeq, WellFormedBlock, WellFormedBlocks, WellFormedDatum, WellFormedData, WellFormedHeap}
-use Rattle.t_terms.specs.Raw.{RawTy, RInt, RName, RCode, RSome, RTuple, RawRegs, NoRawRegs, MoreRawRegs, RawFields, NoRawFields, MoreRawFields, RawBase, RReg, RNum, RLabel, RawValue, RPlain, RPack, RawInstr, RArith, RBnz, RLd, RMalloc, RMov, RSt, RUnpack, RawEnd, RJmp, RHalt, RawBlock, RawDatum, RawData, RawItem, BlockItem, DataItem, blocks_in, data_in}
+use Rattle.t_terms.specs.Raw.{RawTy, RInt, RName, RCode, RSome, RTuple, RawRegs, NoRawRegs, MoreRawRegs, RawFields, NoRawFields, MoreRawFields, RawBase, RReg, RNum, RLabel, RawValue, RPlain, RPack, RawInstr, RArith, RBnz, RLd, RMalloc, RMov, RSt, RUnpack, RawEnd, RJmp, RHalt, RawBlock, RawDatum, RawItem, BlockItem, DataItem, blocks_in, data_in}
 use Rattle.t_terms.specs.Names.{Labels, named_by, or_first, spelled, is_among, place_of, bind, insert_reg, type_of, file_of, fields_of, types_of, base_of, value_of, instr_of, body_of, end_of, names_after, names_after_all, labels_of, block_of, datum_of, data_of, program_of}
 use Rattle.t_terms.specs.NameFaults.{only_if, type_faults, regs_faults, fields_faults, types_faults, base_faults, value_faults, instr_faults, body_faults, end_faults, block_faults, datum_faults, data_faults, items_faults, program_faults}
 use Rattle.t_terms.proofs.ItemLaws.{IsTarget, labels_named, no_register}
@@ -184,7 +184,7 @@ well_seq text p q ls w a (i ∷ is) last h g e f =
     let same : length (names_after text i.0 a) ≡ tree.names_after (instr_of text ls a i.0) (length a) = l ∙ sym s in (
       well_instr text p q ls w a i.0 h.0 (none_left _ _ e),
       rw s h.1,
-      subst (λ (n : ℕ). WellFormedSeq p q n (seq_of (body_of text ls (names_after text i.0 a) is) (end_of text ls (names_after_all text is (names_after text i.0 a)) last))) q
+      subst (λ (n : ℕ). WellFormedSeq p q n (seq_of (body_of text ls (names_after text i.0 a) is) (end_of text ls (names_after_all text is (names_after text i.0 a)) last))) same
           (well_seq text p q ls w (names_after text i.0 a) is last (subst (λ (n : ℕ). FitsSteps n is) (sym l) h.2) (subst (λ (n : ℕ). FitsEnd (after_steps is n) last) (sym l) g) (none_right _ _ e) f),
     )
 
@@ -241,4 +241,4 @@ is_whole text raw bs xs h f e =
     let l : length (plain_blocks blocks) ≡ length (blocks_in raw) = plain_length blocks ∙ length-map (blocks_in raw) (block_of text (labels_of text raw)) in
     let m : length (plain_heap heap) ≡ length (data_in raw) = heap_length heap ∙ length-map (data_in raw) (data_of text (labels_of text raw)) in
     let w = well_items text raw (length (blocks_in raw)) (length (data_in raw)) (λ x. rw (← zero-add (length (blocks_in raw)), ← zero-add (length (data_in raw))) (labels_named text 0 0 raw x)) [] raw k.0 f in
-    rw e (omega (arith, l, k.1), rw (l, m) w.0, rw (l, m) w.1)
+    subst (λ (P : SProg). Whole (plain_program P)) (sym e) (omega (arith, l, k.1), rw (l, m) w.0, rw (l, m) w.1)

@@ -1,5 +1,5 @@
 -- Labels in a map: each with what the first item that has it is.
-use Rattle.std.specs.Prelude.{◌≡◌, ℕ, Bool, false, nat_eq, List, map, bytes_eq, Option, Some, option_map}
+use Rattle.std.specs.Prelude.{◌≡◌, ℕ, Bool, false, nat_eq, List, map, bytes_eq, Option, Some, None, option_map}
 use Rattle.std.specs.Borrow.{Bor}
 use Rattle.idx_core.specs.Names.{Name}
 use Rattle.indexmap.specs.IndexMap.{IndexMap, get_by}
@@ -32,8 +32,13 @@ NameTheSame ls ms = (x : Name) → named_by x ls ≡ named_by x ms
 abbrev pub HasFirsts : {S : Type 0} → IndexMap (Bor (List ℕ)) Target S → Labels → Type 0
 HasFirsts targets ls = (x : Name) → named_base (get_by (λ k. bytes_eq x k.now) targets) ≡ named_by x ls
 
+-- two bases are the same block, or the same data tuple
+abbrev pub same_base : TBase → TBase → Bool
+same_base (Label i) (Label k) = nat_eq i k
+same_base (Data i) (Data k) = nat_eq i k
+same_base a b = false
+
 -- what is named is this block, or this data tuple
 abbrev pub is_target : TBase → Option TBase → Bool
-is_target (Label k) (Some (Label i)) = nat_eq i k
-is_target (Data k) (Some (Data i)) = nat_eq i k
-is_target b o = false
+is_target t None = false
+is_target t (Some s) = same_base s t

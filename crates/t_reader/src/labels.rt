@@ -57,11 +57,7 @@ fn keep_first<'a>(
 
 /// The labels of items, each of which names the first item that has it. Blocks and data are numbered apart, each in the
 /// order of the text.
-pub fn labels_in<'a>(
-    alloc: Global,
-    text: &'a [u8],
-    items: &[RawItem],
-) -> Result<Labels<'a>, TFault>
+pub fn labels_in<'a>(alloc: Global, text: &'a [u8], items: &[RawItem]) -> Result<Labels<'a>, TFault>
     ensures { MatchResult result
         (λ l. NameTheSame l (labels_of text.now (raw_items items.now)))
         (λ e. e ≡ fault.Memory) }
@@ -73,13 +69,13 @@ pub fn labels_in<'a>(
         match item {
             RawItem::Block(block) => {
                 let target = Target::Block(blocks);
-                keep_first(&mut targets, spelling(text, block.name), target)?;
                 blocks += 1;
+                keep_first(&mut targets, spelling(text, block.name), target)?;
             }
             RawItem::Data(tuple) => {
                 let target = Target::Data(tuples);
-                keep_first(&mut targets, spelling(text, tuple.name), target)?;
                 tuples += 1;
+                keep_first(&mut targets, spelling(text, tuple.name), target)?;
             }
         }
     }

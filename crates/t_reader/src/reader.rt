@@ -1,5 +1,5 @@
 // From the bytes of a text to its program.
-ghost use Rattle.std.specs.Prelude.{◌≡◌, ◌≢◌, List, [], Some, MatchResult, IsErrAnd};
+ghost use Rattle.std.specs.Prelude.{◌≡◌, ◌≢◌, List, [], MatchResult, IsErrAnd};
 ghost use Rattle.idx_core.specs.declared.span.Span as place;
 ghost use Rattle.t_terms.specs.declared.fault.TCode as codes;
 ghost use Rattle.t_terms.specs.declared.fault.TFault.TheVariants as fault;
@@ -10,7 +10,7 @@ ghost use Rattle.t_terms.specs.Text.{ReadsAs, FirstFault, IsFirstFault};
 ghost use Rattle.t_terms.specs.Names.{program_of, block_of, data_of};
 ghost use Rattle.t_terms.specs.NameFaults.{program_faults};
 ghost use Rattle.t_shapes.specs.Raw.{raw_block, raw_data, raw_items};
-ghost use Rattle.t_reader.specs.Labelled.{target_base, is_target};
+ghost use Rattle.t_reader.specs.Labelled.{target_base, same_base};
 ghost use Rattle.t_reader.specs.Resolve.{StopsAt, IsShape, IsShapeFault, place_at, stands_before, block_numbered_faults, data_numbered_faults};
 
 use crate::labels::{Labels, labels_in};
@@ -68,7 +68,7 @@ fn shape(alloc: Global, text: &[u8]) -> Result<Vec<RawItem>, TFault>
 
 // whether two labels name the same
 fn same_target(one: Target, other: Target) -> bool
-    ensures { result ≡ is_target (target_base other) (Some (target_base one)) }
+    ensures { result ≡ same_base (target_base one) (target_base other) }
 {
     match (one, other) {
         (Target::Block(i), Target::Block(k)) => i == k,

@@ -6,6 +6,7 @@ ghost use Rattle.t_terms.specs.Names.{base_of, value_of, instr_of, body_of, end_
 ghost use Rattle.t_terms.specs.NameFaults.{base_faults, value_faults, instr_faults, body_faults, end_faults, block_faults, datum_faults, data_faults};
 ghost use Rattle.t_terms.specs.Read as read;
 ghost use Rattle.t_shapes.specs.Raw.{raw_base, raw_value, raw_instr, raw_step, raw_end, raw_block, raw_datum, raw_data};
+ghost use Rattle.t_reader.specs.Labelled.{target_base};
 ghost use Rattle.t_reader.specs.Resolve.{StopsAt};
 ghost use Rattle.t_terms.specs.declared.fault.TFault.TheVariants as fault;
 
@@ -19,6 +20,16 @@ use t_shapes::{RawBase, RawBlock, RawData, RawDatum, RawEnd, RawInstr, RawValue}
 use t_terms::{Base, Block, Data, End, Instr, TCode, TFault, Value};
 use t_types::{RegFile, TType};
 
+// what a label names as a base of values
+fn named(target: Target) -> Base
+    ensures { read.base result ≡ target_base target }
+{
+    match target {
+        Target::Block(number) => Base::Label(number),
+        Target::Data(number) => Base::Data(number),
+    }
+}
+
 // N ::= reg | number | label
 fn base_in(text: &[u8], labels: &Labels<'_>, base: &RawBase) -> Result<Base, TFault>
     ensures { MatchResult result
@@ -30,8 +41,7 @@ fn base_in(text: &[u8], labels: &Labels<'_>, base: &RawBase) -> Result<Base, TFa
         RawBase::Reg(reg) => Ok(Base::Reg(*reg)),
         RawBase::Num(value) => Ok(Base::Int(*value)),
         RawBase::Label(span) => match labels.find(spelling(text, *span)) {
-            Some(Target::Block(number)) => Ok(Base::Label(number)),
-            Some(Target::Data(number)) => Ok(Base::Data(number)),
+            Some(target) => Ok(named(target)),
             None => Err(TFault::Refused {
                 code: TCode::T05,
                 span: *span,

@@ -1,163 +1,197 @@
-// Programs with data, which no text has: accepted, refused for a word of another type, and run. The texts stand beside
-// the programs.
-ghost use Rattle.std.specs.Prelude.{◌≡◌, IfOk, length, []};
-ghost use Rattle.t_types.specs.Read.{tree};
-ghost use Rattle.t_types.specs.WellFormed.{WellFormed};
-ghost use Rattle.t_terms.specs.Tree.{Halt, Plain};
-ghost use Rattle.t_terms.specs.Spanned.{seq_of, plain_datum, plain_fields};
-ghost use Rattle.t_terms.specs.Whole.{WellFormedSeq, WellFormedDatum, WellFormedData, WellFormedHeap};
-ghost use Rattle.t_terms.specs.Read.{base as base_tree, value as value_tree, body as body_tree, datum, data_fields, data_of};
-
-use super::programs::accepted;
-use idx_core::{OutOfMemory, Span};
-use std::alloc::Global;
+// Texts with data: what is read of them, their faults, and what becomes of their programs.
+use super::programs::{accepted, at, loaded};
+use super::reading::{each_read, each_refused, push_digits};
+use std::alloc::{AllocError, Global};
 use std::test::Fail;
-use t_machine::{Ran, load};
-use t_terms::{Base, Block, Data, End, Instr, TCode, TFault, TProgram, Value};
-use t_types::{RegFile, TType};
+use t_machine::Ran;
+use t_reader::read;
+use t_terms::{Base, Instr, TCode, Value};
 
-fn at(place: u64) -> Span {
-    Span {
-        start: place,
-        end: place,
-    }
-}
-
-fn plain(alloc: Global, base: Base) -> Value
-    ensures { value_tree result ≡ Plain (base_tree base) [] }
-{
-    Value::Plain {
-        base,
-        types: Vec::new(alloc),
-    }
-}
-
-// a number as a word of data, of this type
-fn number(alloc: Global, i: i64, ty: TType, place: u64) -> (Value, TType, Span)
-    requires { WellFormed 0 (tree ty) }
-    ensures { WellFormedDatum 1 2 (plain_datum (datum result)) }
-{
-    (plain(alloc, Base::Int(i)), ty, at(place))
-}
-
-// the second data tuple as a word, of this type
-fn second(alloc: Global, ty: TType, place: u64) -> (Value, TType, Span)
-    requires { WellFormed 0 (tree ty) }
-    ensures { WellFormedDatum 1 2 (plain_datum (datum result)) }
-{
-    (plain(alloc, Base::Data(1)), ty, at(place))
-}
-
-// <int^1>
-fn pointer(alloc: Global) -> Result<TType, OutOfMemory>
-    ensures { IfOk result (λ t. WellFormed 0 (tree t)) }
-{
-    let mut fields = Vec::new(alloc);
-    fields.push((TType::Int, true))?;
-    Ok(TType::Tuple(fields))
-}
-
-// <>
-fn unit(alloc: Global) -> TType
-    ensures { WellFormed 0 (tree result) }
-{
-    TType::Tuple(Vec::new(alloc))
-}
-
-// D0: data <5 : t, D1 : <int^1>>
-// D1: data <6 : int>
-fn tuples(alloc: Global, t: TType) -> Result<Vec<Data>, OutOfMemory>
-    requires { WellFormed 0 (tree t) }
-    ensures heap { IfOk result (λ v. WellFormedHeap 1 2 (data_of v.items)) }
-    ensures two { IfOk result (λ v. length v.items ≡ 2) }
-{
-    let pointer = pointer(alloc)?;
-    let mut first = Vec::new(alloc);
-    first.push(number(alloc, 5, t, 0))?;
-    first.push(second(alloc, pointer, 1))?;
-    let mut other = Vec::new(alloc);
-    other.push(number(alloc, 6, TType::Int, 2))?;
-    let mut made = Vec::new(alloc);
-    made.push(Data {
-        name: at(3),
-        fields: first,
-    })?;
-    made.push(Data {
-        name: at(4),
-        fields: other,
-    })?;
-    Ok(made)
-}
-
-// mov r2, D0
-// ld r3, r2[1]
-// ld r1, r3[0]
-fn loading(alloc: Global) -> Result<Vec<(Instr, Span)>, OutOfMemory>
-    ensures { IfOk result (λ v. WellFormedSeq 1 2 0 (seq_of (body_tree v.items) Halt)) }
-{
-    let v = plain(alloc, Base::Data(0));
-    let mut body = Vec::new(alloc);
-    body.push((Instr::Mov { rd: 2, v }, at(5)))?;
-    body.push((
-        Instr::Ld {
-            rd: 3,
-            rs: 2,
-            field: 1,
-        },
-        at(6),
-    ))?;
-    body.push((
-        Instr::Ld {
-            rd: 1,
-            rs: 3,
-            field: 0,
-        },
-        at(7),
-    ))?;
-    Ok(body)
-}
-
-// the data with the first word of this type, and one block that reads through both tuples and ends with halt[int]
-fn through(alloc: Global, t: TType) -> Result<TProgram, OutOfMemory>
-    requires { WellFormed 0 (tree t) }
-{
-    let heap = tuples(alloc, t)?;
-    let body = loading(alloc)?;
-    let block = Block {
-        name: at(8),
-        owes: 0,
-        regs: RegFile {
-            regs: Vec::new(alloc),
-        },
-        body,
-        end: End::Halt,
-        end_span: at(9),
-    };
-    let mut blocks = Vec::new(alloc);
-    blocks.push(block)?;
-    Ok(TProgram { blocks, heap })
-}
-
-// A word of data is checked before the blocks, by the type that is written for it.
-#[test]
-fn words_of_data_have_their_types(rt: HostRuntime) -> Result<(), OutOfMemory> {
-    let alloc = rt.alloc();
-    let other = through(alloc, unit(alloc))?;
-    let refused = TFault::Refused {
-        code: TCode::T13,
-        span: at(0),
-    };
-    assert_eq!(rt; accepted(alloc, other).err(), Some(refused));
-    Ok(())
-}
+const THROUGH: &str = "tal 2\nD0: data <5 : int, D1 : <int^1>>\nD1: data <6 : int>\n\
+    L0: code[]{}. mov r2, D0 ld r3, r2[1] ld r1, r3[0] halt[int]";
 
 // The program reads through both tuples in three steps.
 #[test]
 fn data_stand_in_the_heap_from_the_start(rt: HostRuntime) -> Result<(), Fail> {
-    let alloc = rt.alloc();
-    let checked = accepted(alloc, through(alloc, TType::Int)?)?;
-    let mut machine = load(alloc, &checked)?;
+    let mut machine = loaded(rt.alloc(), THROUGH)?;
     assert_eq!(rt; machine.run(2), Ran::Spent);
     assert_eq!(rt; machine.run(1), Ran::Halted { value: 6, made: 1 });
     Ok(())
+}
+
+// A word of data is checked before the blocks, by the type that is written for it.
+#[test]
+fn words_of_data_have_their_types(rt: HostRuntime) -> Result<(), Fail> {
+    let alloc = rt.alloc();
+    let program = read(alloc, b"tal 2\nD0: data <5 : <>>\nL0: code[]{}. halt[int]")?;
+    assert_eq!(rt; accepted(alloc, program).err(), at(TCode::T13, 16, 17));
+    Ok(())
+}
+
+#[test]
+fn reads_items_in_any_order(rt: HostRuntime) {
+    each_read(
+        &rt,
+        rt.alloc(),
+        &[
+            THROUGH,
+            "tal 2\nL0: code[]{}. halt[int]",
+            "tal 02 L: code[]{}. halt[int] D: data <>",
+            "tal 2\nD: data <pack[int, ~1] as some a. a : some a. a, L[int] : all[]{}>\nL: code[a]{}. halt[int]",
+            "tal 2\nD: data <D : <>, E : <>>\nL: code[]{}. mov r1, D halt[int]\nE: data <>",
+        ],
+    );
+}
+
+#[test]
+fn finds_the_first_fault_of_data(rt: HostRuntime) {
+    each_refused(
+        &rt,
+        rt.alloc(),
+        &[
+            (
+                "tal 1\nD0: data <5 : <>>\nL0: code[]{}. halt[int]",
+                TCode::T03,
+                10,
+                14,
+            ),
+            (
+                "tal 3\nD0: data <>\nL0: code[]{}. halt[int]",
+                TCode::T03,
+                4,
+                5,
+            ),
+            ("tal 2\nA: data <r1 : int>", TCode::T03, 15, 17),
+            ("tal 2\nA: data <A[] : int>", TCode::T03, 17, 18),
+            ("tal 2\nA: data <5>", TCode::T03, 16, 17),
+            (
+                "tal 2\nA: data <>\nA: code[]{}. halt[int]",
+                TCode::T04,
+                17,
+                18,
+            ),
+            (
+                "tal 2\nA: code[]{}. halt[int]\nA: data <>",
+                TCode::T04,
+                29,
+                30,
+            ),
+            (
+                "tal 2\nA: data <>\nA: data <>\nL: code[]{}. halt[int]",
+                TCode::T04,
+                17,
+                18,
+            ),
+            (
+                "tal 2\nA: data <B : a>\nL: code[]{}. halt[int]",
+                TCode::T05,
+                15,
+                16,
+            ),
+            (
+                "tal 2\nA: data <5 : a, B : int>\nL: code[]{}. halt[int]",
+                TCode::T06,
+                19,
+                20,
+            ),
+            (
+                "tal 2\nA: data <L : all[]{r1:int,r1:int}>\nL: code[]{}. halt[int]",
+                TCode::T07,
+                32,
+                34,
+            ),
+            (
+                "tal 2\nL: code[]{}. jmp X\nA: data <Y : int>",
+                TCode::T05,
+                23,
+                24,
+            ),
+        ],
+    );
+}
+
+// Where a text is cut short, the end is refused, and a word that is cut is another word.
+#[test]
+fn refuses_a_header_that_is_cut(rt: HostRuntime) {
+    each_refused(
+        &rt,
+        rt.alloc(),
+        &[
+            ("", TCode::T03, 0, 0),
+            ("t", TCode::T03, 0, 1),
+            ("ta", TCode::T03, 0, 2),
+            ("tal", TCode::T03, 3, 3),
+            ("tal ", TCode::T03, 4, 4),
+            ("tal 2", TCode::T03, 5, 5),
+            ("tal 2\n", TCode::T03, 6, 6),
+            ("tal 2\nD", TCode::T03, 7, 7),
+            ("tal 2\nD0", TCode::T03, 8, 8),
+            ("tal 2\nD0:", TCode::T03, 9, 9),
+            ("tal 2\nD0: dat", TCode::T03, 10, 13),
+            ("tal 2\nD0: data", TCode::T03, 14, 14),
+            ("tal 2\nD0: data <", TCode::T03, 16, 16),
+            ("tal 2\nD0: data <>", TCode::T03, 17, 17),
+        ],
+    );
+}
+
+// the number of the data tuple that the first field of the tuple at a place names
+fn named_at(text: &[u8], place: usize, rt: &HostRuntime) -> Option<u64> {
+    let program = read(rt.alloc(), text).ok()?;
+    let tuple = program.heap.get(place)?;
+    match &tuple.fields.get(0)?.0 {
+        Value::Plain {
+            base: Base::Data(number),
+            ..
+        } => Some(*number),
+        _ => None,
+    }
+}
+
+// the number of the data tuple that the first instruction of the block at a place moves
+fn moved_at(text: &[u8], place: usize, rt: &HostRuntime) -> Option<u64> {
+    let program = read(rt.alloc(), text).ok()?;
+    let block = program.blocks.get(place)?;
+    match &block.body.get(0)?.0 {
+        Instr::Mov {
+            v:
+                Value::Plain {
+                    base: Base::Data(number),
+                    ..
+                },
+            ..
+        } => Some(*number),
+        _ => None,
+    }
+}
+
+#[test]
+fn numbers_blocks_and_data_apart(rt: HostRuntime) {
+    let text = b"tal 2\nA: data <C : <>>\nL0: code[]{}. jmp L1\nB: data <A : <>>\n\
+        L1: code[]{}. mov r1, B jmp L1\nC: data <>";
+    assert_eq!(rt; named_at(text, 0, &rt), Some(2));
+    assert_eq!(rt; named_at(text, 1, &rt), Some(0));
+    assert_eq!(rt; moved_at(text, 1, &rt), Some(1));
+}
+
+// so many data tuples, the first of which names the last, the second the last but one, and so on
+fn many_tuples(alloc: Global, count: u64) -> Result<Vec<u8>, AllocError> {
+    let mut text = Vec::new(alloc);
+    text.extend_from_slice(b"tal 2\n")?;
+    for turn in 0..count {
+        text.extend_from_slice(b"D")?;
+        push_digits(&mut text, turn)?;
+        text.extend_from_slice(b": data <D")?;
+        push_digits(&mut text, count - 1 - turn)?;
+        text.extend_from_slice(b" : <>>\n")?;
+    }
+    text.extend_from_slice(b"L: code[]{}. halt[int]")?;
+    Ok(text)
+}
+
+// A walk over all labels at each use would take time by their number squared.
+#[test]
+fn reads_many_data_tuples(rt: HostRuntime) {
+    let text = many_tuples(rt.alloc(), 50_000).unwrap_or(Vec::new(rt.alloc()));
+    assert_eq!(rt; named_at(&text, 0, &rt), Some(49_999));
 }

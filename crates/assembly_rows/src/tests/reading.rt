@@ -12,14 +12,15 @@ fn has_fault(rt: &impl Abort, alloc: Global, text: &[u8], wanted: Option<TFault>
     assert_eq!(rt; read(alloc, text).err(), wanted);
 }
 
-// Each text with its fault, and where that starts and ends.
-fn each_refused(rt: &impl Abort, alloc: Global, rows: &[(&str, TCode, u64, u64)]) {
+/// Each text with its fault, and where that starts and ends.
+pub fn each_refused(rt: &impl Abort, alloc: Global, rows: &[(&str, TCode, u64, u64)]) {
     for (text, code, start, end) in rows {
         has_fault(rt, alloc, text.as_bytes(), at(*code, *start, *end));
     }
 }
 
-fn each_read(rt: &impl Abort, alloc: Global, texts: &[&str]) {
+/// Each text is read.
+pub fn each_read(rt: &impl Abort, alloc: Global, texts: &[&str]) {
     for text in texts {
         has_fault(rt, alloc, text.as_bytes(), None);
     }
@@ -31,7 +32,7 @@ fn finds_the_first_fault(rt: HostRuntime) {
         &rt,
         rt.alloc(),
         &[
-            ("tal 2\nL0: code[]{}. halt[int]", TCode::T03, 4, 5),
+            ("tal 3\nL0: code[]{}. halt[int]", TCode::T03, 4, 5),
             ("tal 1 data", TCode::T03, 6, 10),
             (
                 "tal 1\nL0: code[]{}. malloc r1[<int^2>] halt[int]",
@@ -238,8 +239,8 @@ fn push_list(
     Ok(())
 }
 
-// the last five digits of a number
-fn push_digits(text: &mut Vec<u8>, number: u64) -> Result<(), AllocError> {
+/// The last five digits of a number.
+pub fn push_digits(text: &mut Vec<u8>, number: u64) -> Result<(), AllocError> {
     for unit in [10000, 1000, 100, 10, 1] {
         text.push(b'0' + (number / unit % 10) as u8)?;
     }

@@ -1,8 +1,0 @@
-use Rattle.std.proofs.Common.{sym, subst}
-use Rattle.t_terms.specs.Tree.{TValue}
-use Rattle.t_terms.specs.Whole.{WellFormedValue, HasNoRegister}
-use Rattle.assembly_rows.proofs.tests.data.number.Goals as goal
-
-pub returns : goal.returns
-returns c =
-    (subst (λ (v : TValue). WellFormedValue 1 2 0 v) (sym c.plain.ensures) (tt, tt), subst HasNoRegister (sym c.plain.ensures) tt, c.requires)

@@ -40,6 +40,16 @@ def after_unpacks(n):
     return wide(n, [opened] + [f"mov r{i + 3}, r1\n" for i in range(n // 4)])
 
 
+def fills(n):
+    """A wide tuple of which each field is filled, and then read."""
+    return wide(n, ["mov r2, 1\n"] + [f"st r1[{i}], r2\n" for i in range(n)] + [f"ld r3, r1[{i}]\n" for i in range(n)])
+
+
+def filled_moves(n):
+    """A wide tuple that is moved after each of its fields is filled."""
+    return wide(n, ["mov r2, 1\n"] + [f"st r1[{i}], r2\nmov r3, r1\n" for i in range(n)])
+
+
 def arguments(n):
     """One application to many types, of a block with as many registers."""
     names = ", ".join(f"a{i}" for i in range(n))
@@ -63,7 +73,7 @@ def unpacks(n):
 
 
 def wide_jumps(n):
-    """Many jumps to a block with a wide file; what is written grows with the jumps and the file together."""
+    """Many jumps to a block with a wide file: each jump looks up each register, so this one grows as the power 1.5."""
     each = max(2, int(n ** 0.5))
     regs = ", ".join(f"r{i + 1}:int" for i in range(each))
     start = "".join(f"mov r{i + 1}, 1\n" for i in range(each))
@@ -77,7 +87,8 @@ def names(n):
 
 
 TEXTS = [
-    (falling, 10_000), (one_register, 2_000), (many_registers, 2_000), (after_unpacks, 1_000), (arguments, 1_200),
+    (falling, 10_000), (one_register, 2_000), (many_registers, 2_000), (after_unpacks, 1_000), (fills, 2_000),
+    (filled_moves, 2_000), (arguments, 1_200),
     (deep, 1_000), (unpacks, 2_000), (wide_jumps, 20_000), (names, 10_000),
 ]
 

@@ -1,16 +1,19 @@
 -- A field of a register's tuple becomes initialised.
-use Rattle.std.proofs.Common.{◌≡◌, ℕ, ◌-◌, List, Some, sym, ap₂, ◌∙◌, subst}
+use Rattle.std.proofs.Common.{◌<◌, ◌≤◌, length, ap, ◌+◌, ◌||◌, nat_eq, arith, ◌≡◌, ℕ, ◌-◌, List, Some, sym, ap₂, ◌∙◌, subst}
 use Rattle.t_types.specs.Tree.{Ty, TFields, TupleTy}
 use Rattle.t_types.specs.Fits.{RegTypes}
 use Rattle.t_types.specs.Fields.{filled}
 use Rattle.t_rules.specs.Registers.{with_reg}
-use Rattle.t_intern.specs.Grown.{Grown, IsNumber}
+use Rattle.t_intern.specs.Grown.{Grown}
 use Rattle.t_intern.specs.Nodes.{at}
 use Rattle.t_check.specs.declared.registers.Entry.{Entry}
 use Rattle.t_check.specs.declared.registers.Registers.{Registers}
 use Rattle.t_check.specs.Bounds.{Bounded}
 use Rattle.t_check.specs.Known.{own, seen, known, IsSound, IsFound, IsSet, IsTupleWith, HasField, IsFilled}
+use Rattle.t_intern.proofs.Growing.{grown_at, grown_length}
+use Rattle.t_check.specs.Marks.{has, marks, marked}
 use Rattle.t_check.proofs.Depth.{filled_shallow}
+use Rattle.t_check.proofs.Sets.{unmarked_tuple, marked_filled}
 use Rattle.t_check.proofs.Noting.{set_known, set_sound, known_grown, sound_grown}
 use Rattle.t_check.proofs.Tuples.{tuple_back, filled_shift}
 
@@ -22,21 +25,28 @@ own_tuple ts k r i e found h =
     let same : seen ts k.names e ≡ h.0 = cc in
     tuple_back (k.names - e.names) (own ts e) i (subst (λ t. IsTupleWith t i) (sym same) h.2)
 
--- m is the number of that type with the field initialised
+-- the set m has the field besides what was marked before
 pub is_filled : (ts us : List Ty) (k h : Registers) (r i : ℕ) (e : Entry) (m : ℕ) → Grown ts us → IsSound ts k → IsFound ts k r (Some e) → HasField (known ts k) r i →
-    ((fs : TFields) → own ts e ≡ TupleTy fs → IsNumber us (TupleTy (filled fs i)) m) → IsSet k h r (record { ty = m; names = e.names }) → IsFilled ts us k h r i
-is_filled ts us k h r i e m g s found there made set =
-    let f : Entry = record { ty = m; names = e.names } in
+    m < length us → ((q : ℕ) → 1 ≤ q → has (at us m) q ≡ (nat_eq q (i + 1) || marks ts e.marks q)) → IsSet k h r (record { ty = e.ty; marks = Some m; names = e.names }) → IsFilled ts us k h r i
+is_filled ts us k h r i e m g s found there below more set =
+    let f : Entry = record { ty = e.ty; marks = Some m; names = e.names } in
     let tuple = own_tuple ts k r i e found there in
-    let number = made tuple.0 tuple.3 in
+    let is = made tuple.0 tuple.3 in
     let shape = subst (Bounded e.names) tuple.3 found.1.2 in
-    let mine = subst (Bounded e.names) (sym number.1) (filled_shallow e.names tuple.0 i shape) in (
+    let mine = subst (Bounded e.names) (sym is) (filled_shallow e.names tuple.0 i shape) in
+    let l = grown_length ts us g in (
       (λ fs is.
           let here = found.0 in
           let same : seen ts k.names e ≡ TupleTy fs = cc in
           set_known us k h r f set
           ∙ ap₂ (λ (x : RegTypes) (t : Ty). with_reg x r t) (known_grown ts us g k s)
-          (filled_shift (k.names - e.names) (own ts e) (at us m) i fs (λ gs q. (made gs q).1) same)),
-      set_sound us k h r f set (number.0, found.1.1, mine) (sound_grown ts us g k s),
+          (filled_shift (k.names - e.names) (own ts e) (own us f) i fs (λ gs q. made gs q) same)),
+      set_sound us k h r f set (omega (arith, l, found.1.0), found.1.1, mine, below) (sound_grown ts us g k s),
       set.1,
     )
+  where
+    made : (gs : TFields) → own ts e ≡ TupleTy gs → marked (at us m) (at us e.ty) ≡ TupleTy (filled gs i)
+    made gs q =
+        let u = unmarked_tuple ts e.marks (at ts e.ty) gs q in
+        ap (marked (at us m)) (grown_at ts us g e.ty found.1.0 ∙ u.1)
+        ∙ ap TupleTy (marked_filled (marks ts e.marks) (has (at us m)) 1 i (i + 1) u.0 (omega arith) (omega arith) more ∙ ap (λ xs. filled xs i) (sym u.2))

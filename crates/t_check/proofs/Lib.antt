@@ -4,6 +4,7 @@ mod Tuples
 mod Filling
 mod Blocks
 mod Typing
+mod Sets
 mod Places
 mod Loads
 mod Numbering

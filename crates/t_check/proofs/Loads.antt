@@ -1,5 +1,5 @@
 -- A field of a register's tuple.
-use Rattle.std.proofs.Common.{◌≡◌, ◌≢◌, zero-le, ℕ, zero, suc, ◌+◌, ◌-◌, ◌<◌, ◌≤◌, List, length, Bool, Some, None, refl, sym, ap, ◌∙◌, get_or, arith, subst, inl}
+use Rattle.std.proofs.Common.{◌≡◌, ◌≢◌, zero-le, ℕ, zero, suc, ◌+◌, ◌-◌, ◌<◌, ◌≤◌, List, length, Bool, Some, None, refl, sym, ap, ap₂, ◌∙◌, ◌||◌, get_or, arith, subst, inl}
 use Rattle.idx_core.specs.declared.span.Span.{Span}
 use Rattle.idx_core.specs.Over.{At, shifted}
 use Rattle.idx_core.specs.Laws.{shifted_ge}
@@ -17,6 +17,8 @@ use Rattle.t_check.specs.Bounds.{Bounded}
 use Rattle.t_check.specs.Known.{own, seen, IsEntry}
 use Rattle.t_check.specs.declared.registers.Entry.{Entry}
 use Rattle.t_check.proofs.Depth.{bounded, bounded_shift, shift_fits, field_shallow}
+use Rattle.t_check.specs.Marks.{marks, marked_fields}
+use Rattle.t_check.proofs.Sets.{tuple_marked, marked_field, marked_absent}
 use Rattle.t_check.proofs.Tuples as tuples
 
 -- a field that is not there is not there after a walk
@@ -26,25 +28,39 @@ none_over f d (MoreFields t flag fs) zero e = cc
 none_over f d (MoreFields t flag fs) (suc i) e = none_over f d fs i e
 
 -- the entry of a tuple, and one of its fields
-module _ (ts : List Ty) (n : ℕ) (e : Entry) (xs : List (ℕ × Bool)) (is : own ts e ≡ TupleTy (fields_at ts xs)) (ok : IsEntry ts n e) (i : ℕ) where
+module _ (ts : List Ty) (n : ℕ) (e : Entry) (xs : List (ℕ × Bool)) (is : at ts e.ty ≡ TupleTy (fields_at ts xs)) (ok : IsEntry ts n e) (i : ℕ) where
+  abbrev pub own_fields : TFields
+  own_fields = marked_fields (marks ts e.marks) 1 (fields_at ts xs)
+
   abbrev pub shown_fields : TFields
-  shown_fields = over_fields (shifted VarTy (n - e.names)) 0 (fields_at ts xs)
+  shown_fields = over_fields (shifted VarTy (n - e.names)) 0 own_fields
+
+  own_is : own ts e ≡ TupleTy own_fields
+  own_is = tuple_marked ts e.marks (at ts e.ty) (fields_at ts xs) is
 
   pub shown_tuple : seen ts n e ≡ TupleTy shown_fields
-  shown_tuple = ap (shift (n - e.names) 0) is
+  shown_tuple = ap (shift (n - e.names) 0) own_is
 
   pub shown_none : length xs ≤ i → field shown_fields i ≡ None
-  shown_none le = none_over (shifted VarTy (n - e.names)) 0 (fields_at ts xs) i (tuples.no_field ts xs i le)
+  shown_none le = none_over (shifted VarTy (n - e.names)) 0 own_fields i (marked_absent (marks ts e.marks) 1 i (fields_at ts xs) (tuples.no_field ts xs i le))
 
   module _ (x : ℕ × Bool) (lt : i < length xs) (here : x ≡ get_or xs i x) where
+    abbrev pub own_flag : Bool
+    own_flag = x.1 || marks ts e.marks (i + 1)
+
+    own_field : field own_fields i ≡ Some (AField (at ts x.0) own_flag)
+    own_field =
+        let z : 1 + i ≡ i + 1 = omega arith in
+        marked_field (marks ts e.marks) 1 i (fields_at ts xs) (at ts x.0) x.1 (tuples.field_at ts xs i x lt here) ∙ ap (λ k. Some (AField (at ts x.0) (x.1 || marks ts e.marks k))) z
+
     own_bounded : Bounded e.names (at ts x.0)
-    own_bounded = bounded e.names (at ts x.0) (field_shallow e.names (fields_at ts xs) i (at ts x.0) x.1 (subst (λ t. Bounded e.names t) is ok.2) (tuples.field_at ts xs i x lt here))
+    own_bounded = bounded e.names (at ts x.0) (field_shallow e.names own_fields i (at ts x.0) own_flag (subst (λ t. Bounded e.names t) own_is ok.2) own_field)
 
     pub part_fits : n ≤ max_names → ShiftFits (n - e.names) 0 (at ts x.0)
     part_fits few = let le = ok.1 in shift_fits e.names (n - e.names) (at ts x.0) (omega arith) own_bounded
 
-    pub part_field : (t : Ty) → t ≡ shift (n - e.names) 0 (at ts x.0) → field shown_fields i ≡ Some (AField t x.1)
-    part_field t same = field_over (shifted VarTy (n - e.names)) 0 (fields_at ts xs) i (at ts x.0) x.1 (tuples.field_at ts xs i x lt here) ∙ ap (λ u. Some (AField u x.1)) (sym same)
+    pub part_field : (t : Ty) (flag : Bool) → t ≡ shift (n - e.names) 0 (at ts x.0) → flag ≡ own_flag → field shown_fields i ≡ Some (AField t flag)
+    part_field t flag same marked = field_over (shifted VarTy (n - e.names)) 0 own_fields i (at ts x.0) own_flag own_field ∙ ap₂ (λ (u : Ty) (b : Bool). Some (AField u b)) (sym same) (sym marked)
 
     pub part_bounded : (t : Ty) → t ≡ shift (n - e.names) 0 (at ts x.0) → Bounded n t
     part_bounded t same =

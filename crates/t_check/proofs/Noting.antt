@@ -15,12 +15,13 @@ use Rattle.t_types.specs.WellFormed.{max_names, RegsAbove, WellFormedFile}
 use Rattle.t_rules.specs.Registers.{with_reg, raised, no_types}
 use Rattle.t_intern.specs.Grown.{Grown}
 use Rattle.t_intern.specs.Nodes.{at, regs_at, RegsBelow}
-use Rattle.t_intern.proofs.Growing.{grown_length, grown_at}
+use Rattle.t_intern.proofs.Growing.{grown_length}
 use Rattle.t_check.specs.declared.registers.Entry.{Entry}
 use Rattle.t_check.specs.declared.registers.Registers.{Registers}
 use Rattle.t_check.specs.Bounds.{Bounded}
 use Rattle.t_check.specs.Known.{own, seen, entry_of, known, IsEntry, IsSound, IsFound, IsSet, IsNoted, IsOfBlock, IsEmpty}
 use Rattle.t_check.proofs.Depth.{shallow, bounded}
+use Rattle.t_check.proofs.Sets.{marks_grown, own_marks_grown}
 
 -- the map's own test of keys
 pub is_at_number : (r q : ℕ) → is_at (nat_cmp r) q ≡ nat_eq r q
@@ -32,23 +33,23 @@ found_is ts k r (Some x) e h = (ap (option_map (seen ts k.names)) (sym e), h.ent
 
 -- more types
 module _ (ts us : List Ty) (g : Grown ts us) where
-  pub own_grown : (e : Entry) → e.ty < length ts → own us e ≡ own ts e
-  own_grown e l = grown_at ts us g e.ty l
+  pub own_grown : (n : ℕ) (e : Entry) → IsEntry ts n e → own us e ≡ own ts e
+  own_grown n e h = own_marks_grown ts us g e.marks e.ty h.0 h.3
 
-  pub seen_grown : (n : ℕ) (e : Entry) → e.ty < length ts → seen us n e ≡ seen ts n e
-  seen_grown n e l = ap (shift (n - e.names) 0) (own_grown e l)
+  pub seen_grown : (n : ℕ) (e : Entry) → IsEntry ts n e → seen us n e ≡ seen ts n e
+  seen_grown n e h = ap (shift (n - e.names) 0) (own_grown n e h)
 
   pub entry_grown : (n : ℕ) (e : Entry) → IsEntry ts n e → IsEntry us n e
   entry_grown n e h =
       let l = grown_length ts us g in
-      (omega (arith, l, h.0), h.1, subst (Bounded e.names) (sym (own_grown e h.0)) h.2)
+      (omega (arith, l, h.0), h.1, subst (Bounded e.names) (sym (own_grown n e h)) h.2, marks_grown ts us g e.marks h.3)
 
   pub known_grown : (k : Registers) → IsSound ts k → known us k ≡ known ts k
   known_grown k h = fun_ext (λ r. go r (entry_of k r) h (refl))
     where
       go : (r : ℕ) (o : Option Entry) → IsSound ts k → entry_of k r ≡ o → option_map (seen us k.names) o ≡ option_map (seen ts k.names) o
       go r None h e = refl
-      go r (Some x) h e = ap Some (seen_grown k.names x (h.entries r x e).0)
+      go r (Some x) h e = ap Some (seen_grown k.names x (h.entries r x e))
 
   pub sound_grown : (k : Registers) → IsSound ts k → IsSound us k
   sound_grown k h = record { few = h.few; entries = λ r e is. entry_grown k.names e (h.entries r e is) }
@@ -75,11 +76,11 @@ module _ (ts : List Ty) (k h : Registers) (r : ℕ) (e : Entry) (set : IsSet k h
       pick true q x mine s is = let same : e ≡ x = cc in subst (IsEntry ts k.names) same mine
       pick false q x mine s is = s.entries q x is
 
-pub noted : (ts : List Ty) (k h : Registers) (r ty : ℕ) → IsSet k h r (record { ty = ty; names = k.names }) → IsSound ts k → ty < length ts → Bounded k.names (at ts ty) → IsNoted ts k h r (at ts ty)
+pub noted : (ts : List Ty) (k h : Registers) (r ty : ℕ) → IsSet k h r (record { ty = ty; marks = None; names = k.names }) → IsSound ts k → ty < length ts → Bounded k.names (at ts ty) → IsNoted ts k h r (at ts ty)
 noted ts k h r ty set s l b =
-    let e : Entry = record { ty = ty; names = k.names } in (
+    let e : Entry = record { ty = ty; marks = None; names = k.names } in (
       set_known ts k h r e set ∙ ap (with_reg (known ts k) r) (seen_now ts k.names e refl),
-      set_sound ts k h r e set (l, omega arith, b) s,
+      set_sound ts k h r e set (l, omega arith, b, tt) s,
       set.1,
     )
 
@@ -89,7 +90,7 @@ noted_since ts us k h r t g s n = n.0 ∙ ap (λ x. with_reg x r t) (known_grown
 
 -- one more type name
 entry_more : (ts : List Ty) (n : ℕ) (e : Entry) → IsEntry ts n e → IsEntry ts (n + 1) e
-entry_more ts n e h = let le = h.1 in (h.0, omega arith, h.2)
+entry_more ts n e h = let le = h.1 in (h.0, omega arith, h.2, h.3)
 
 seen_more : (ts : List Ty) (n : ℕ) (e : Entry) → e.names ≤ n → seen ts (n + 1) e ≡ shift 1 0 (seen ts n e)
 seen_more ts n e le =
@@ -124,19 +125,19 @@ IsHeader n xs k = (k.names ≡ n) × ((ts : List Ty) (low : ℕ) → RegsBelow (
 pub header_none : (n : ℕ) (k : Registers) → n ≤ max_names → IsEmpty k → k.names ≡ n → IsHeader n [] k
 header_none n k few e names = (names, λ ts low l w. (empty_known ts k e, empty_sound ts k (subst (λ m. m ≤ max_names) (sym names) few) e))
 
-pub header_more : (n : ℕ) (xs : List (ℕ × ℕ)) (r t : ℕ) (k h : Registers) → IsHeader n xs k → IsSet k h r (record { ty = t; names = n }) → IsHeader n ((r, t) ∷ xs) h
+pub header_more : (n : ℕ) (xs : List (ℕ × ℕ)) (r t : ℕ) (k h : Registers) → IsHeader n xs k → IsSet k h r (record { ty = t; marks = None; names = n }) → IsHeader n ((r, t) ∷ xs) h
 header_more n xs r t k h head set = (set.1 ∙ head.0, λ ts low l w. go ts low l w (head.1 ts r l.1 w.3))
   where
     go : (ts : List Ty) (low : ℕ) → RegsBelow (length ts) ((r, t) ∷ xs) → RegsAbove low n (regs_at ts ((r, t) ∷ xs)) → (known ts k ≡ lookup (regs_at ts xs)) × IsSound ts k → (known ts h ≡ lookup (regs_at ts ((r, t) ∷ xs))) × IsSound ts h
     go ts low l w is =
-        let e : Entry = record { ty = t; names = n } in
+        let e : Entry = record { ty = t; marks = None; names = n } in
         let mine = bounded n (at ts t) (shallow n (at ts t) w.2) in
         let names = head.0 in (
           set_known ts k h r e set ∙ ap₂ (λ x y. with_reg x r y) is.0 (seen_now ts k.names e (sym head.0)),
-          set_sound ts k h r e set (l.0, omega arith, mine) is.1,
+          set_sound ts k h r e set (l.0, omega arith, mine, tt) is.1,
         )
 
-pub header_step : (n : ℕ) (xs : List (ℕ × ℕ)) (i : ℕ) (x : ℕ × ℕ) (k h : Registers) → 0 < i → i ≤ length xs → x ≡ get_or xs (i - 1) x → IsHeader n (drop i xs) k → IsSet k h x.0 (record { ty = x.1; names = n }) → IsHeader n (drop (i - 1) xs) h
+pub header_step : (n : ℕ) (xs : List (ℕ × ℕ)) (i : ℕ) (x : ℕ × ℕ) (k h : Registers) → 0 < i → i ≤ length xs → x ≡ get_or xs (i - 1) x → IsHeader n (drop i xs) k → IsSet k h x.0 (record { ty = x.1; marks = None; names = n }) → IsHeader n (drop (i - 1) xs) h
 header_step n xs i x k h some le is head set =
     let lt : i - 1 < length xs = omega (arith, some, le) in
     let same : i - 1 + 1 ≡ i = omega (arith, some) in

@@ -7,7 +7,7 @@ use Rattle.t_types.specs.Fits.{Fits, FitsFile, RegTypes}
 use Rattle.t_intern.specs.Grown.{Grown}
 use Rattle.t_intern.specs.Nodes.{at, regs_at}
 use Rattle.t_intern.proofs.Growing.{grown_at}
-use Rattle.t_check.specs.Known.{seen}
+use Rattle.t_check.specs.Known.{seen, IsEntry}
 use Rattle.t_check.specs.Verdict.{IsPlace}
 use Rattle.t_check.specs.declared.registers.Entry.{Entry}
 use Rattle.t_check.specs.declared.checker.Checker.{Checker}
@@ -47,6 +47,6 @@ module _ (g : RegTypes) (ts : List Ty) where
   entry_absent x e h = let k = h.1 in cc
 
 -- whether an entry's type fits, before the types grew
-pub fit_grown : (ts us : List Ty) → Grown ts us → (n : ℕ) (e : Entry) (m : ℕ) (b : Bool) → e.ty < length ts → m < length ts → (IsTrue b ↔ Fits (seen us n e) (at us m)) → IsTrue b ↔ Fits (seen ts n e) (at ts m)
+pub fit_grown : (ts us : List Ty) → Grown ts us → (n : ℕ) (e : Entry) (m : ℕ) (b : Bool) → IsEntry ts n e → m < length ts → (IsTrue b ↔ Fits (seen us n e) (at us m)) → IsTrue b ↔ Fits (seen ts n e) (at ts m)
 fit_grown ts us g n e m b l k h =
     subst (λ t. IsTrue b ↔ Fits (seen ts n e) t) (grown_at ts us g m k) (subst (λ t. IsTrue b ↔ Fits t (at us m)) (seen_grown ts us g n e l) h)

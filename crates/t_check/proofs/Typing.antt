@@ -7,13 +7,13 @@ use Rattle.t_types.proofs.Scope.{well_formed_below}
 use Rattle.t_types.specs.Tree.{Ty, IntTy, VarTy, CodeTy, ExistsTy, TupleTy, TFile, BelowTypes, put}
 use Rattle.t_types.specs.Fits.{Fits, FitsFile, RegTypes}
 use Rattle.t_types.specs.WellFormed.{WellFormed}
-use Rattle.t_terms.specs.Tree.{TBase, TValue, Plain, Pack, Arith, Bnz, Unpack, TProg}
+use Rattle.t_terms.specs.Tree.{TBase, TValue, Plain, Pack, Reg, Arith, Bnz, Mov, Unpack, TProg}
 use Rattle.t_terms.specs.Spanned.{SDatum, plain_datum}
 use Rattle.t_terms.specs.declared.fault.TCode.{TCode}
 use Rattle.t_terms.specs.declared.fault.TCode.TheVariants.{T09, T13, T14, T15, T16, T17, T18}
 use Rattle.t_terms.specs.declared.fault.TFault.{TFault}
 use Rattle.t_terms.specs.declared.fault.TFault.TheVariants.{Memory, Refused}
-use Rattle.t_rules.specs.Registers.{no_types, inst_file}
+use Rattle.t_rules.specs.Registers.{no_types, inst_file, with_reg}
 use Rattle.t_rules.specs.Rules.{BaseHas, Has, Enters, DatumAccepted}
 use Rattle.t_rules.specs.Faults.{Fault, if_code, if_exists, BaseFault, ValueFault, EnterFault, InstrFault, DatumFault}
 use Rattle.t_check.specs.Bounds.{Bounded, OwedFile}
@@ -116,6 +116,10 @@ module _ (P : TProg) (n : ℕ) (g : RegTypes) (s : Span) where
   pub bnz_is : (us : List Ty) (k : Registers) (r : ℕ) (v : TValue) → g r ≡ Some IntTy → known us k ≡ g → IsSound us k → k.names ≡ n → (a : Result (Unit {0}) TFault) → IsEntered P n g s v a → IsStep P us n g k s (Bnz r v) a
   bnz_is us k r v int same sound names (Ok u) h = ((int, h, same), sound, names)
   bnz_is us k r v int same sound names (Err f) h = says_map f (EnterFault P n g s v) (InstrFault P n g s (Bnz r v)) (λ c p x. rw int (inr (refl, x))) h
+
+  -- a register that is moved
+  pub copy_is : (us : List Ty) (h : Registers) (rd r : ℕ) (t : Ty) → g r ≡ Some t → known us h ≡ with_reg g rd t → IsSound us h → h.names ≡ n → IsStep P us n g h s (Mov rd (Plain (Reg r) [])) (Ok tt)
+  copy_is us h rd r t found same sound names = ((t, found, same), sound, names)
 
   -- an operand that is no integer
   pub operand : (op : Op) (rd rs : ℕ) (v : TValue) (u : Ty) → g rs ≡ Some IntTy → Has P n g v u → u ≢ IntTy → InstrFault P n g s (Arith op rd rs v) T09 s

@@ -9,12 +9,14 @@ use Rattle.t_types.specs.WellFormed.{max_names}
 use Rattle.t_rules.specs.Registers.{with_reg}
 use Rattle.t_intern.specs.Nodes.{at}
 use Rattle.t_check.specs.Bounds.{Bounded}
+use Rattle.t_check.specs.Marks.{with_marks, IsMarks}
 use Rattle.t_check.specs.declared.registers.Entry.{Entry}
 use Rattle.t_check.specs.declared.registers.Registers.{Registers}
 
--- the type of an entry where it was noted, and where n type names are in scope
+-- the type of an entry, with the flags of the fields that were filled since it was noted; and where n type names are in
+-- scope
 abbrev pub own : List Ty → Entry → Ty
-own ts e = at ts e.ty
+own ts e = with_marks ts e.marks (at ts e.ty)
 
 abbrev pub seen : List Ty → ℕ → Entry → Ty
 seen ts n e = shift (n - e.names) 0 (own ts e)
@@ -27,7 +29,7 @@ known ts k r = option_map (seen ts k.names) (entry_of k r)
 
 -- an entry's type is one that a value may have, under names that are still in scope
 abbrev pub IsEntry : List Ty → ℕ → Entry → Type 0
-IsEntry ts n e = (e.ty < length ts) × (e.names ≤ n) × Bounded e.names (own ts e)
+IsEntry ts n e = (e.ty < length ts) × (e.names ≤ n) × Bounded e.names (own ts e) × IsMarks ts e.marks
 
 pub record IsSound (ts : List Ty) (k : Registers) : Type 0 where
   pub few : k.names ≤ max_names

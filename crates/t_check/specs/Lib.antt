@@ -2,4 +2,5 @@ pub mod Bounds
 pub mod Checked
 pub mod Known
 pub mod Labels
+pub mod Marks
 pub mod Verdict

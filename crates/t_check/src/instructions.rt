@@ -1,21 +1,23 @@
 // Instructions, each as the typing rules say: its checks in order, and what is known of the registers after it.
-ghost use Rattle.std.specs.Prelude.{◌≡◌, ◌+◌, ◌≤◌};
+ghost use Rattle.std.specs.Prelude.{◌≡◌, ◌+◌, ◌≤◌, List, [], IfSome};
 ghost use Rattle.idx_core.specs.declared.arith.Op as operations;
 ghost use Rattle.idx_core.specs.declared.span.Span as places;
-ghost use Rattle.t_types.specs.WellFormed.{IsRegister, max_names, WellFormedTypes};
+ghost use Rattle.t_types.specs.Tree.{Ty};
+ghost use Rattle.t_types.specs.WellFormed.{IsRegister, max_names, max_number, WellFormedTypes};
 ghost use Rattle.t_types.specs.Read.{types as type_trees};
-ghost use Rattle.t_terms.specs.Tree.{Arith, Bnz, Halt, Ld, Malloc, Mov, St, Unpack, names_after};
-ghost use Rattle.t_terms.specs.Read.{value, instr, end_of};
+ghost use Rattle.t_terms.specs.Tree.{Arith, Bnz, Halt, Ld, Malloc, Mov, Plain, Reg, St, Unpack, names_after};
+ghost use Rattle.t_terms.specs.Read.{base as base_tree, value, instr, end_of};
 ghost use Rattle.t_intern.specs.Grown.{Grown};
 ghost use Rattle.t_check.specs.Known.{known, IsSound};
 ghost use Rattle.t_check.specs.Verdict.{FormedAt, FormedInstr, FormedEnd, IsPlace, EndedAt, StepsTo, IsInteger, IsFieldOf, IsStored};
 
 use crate::checker::Checker;
 use crate::labels::tuple_of;
+use crate::marking::flag_of;
 use crate::parts::{exists_body, is_int, refused};
 use idx_core::Span;
 use t_intern::Types;
-use t_terms::{End, Instr, TCode, TFault, Value};
+use t_terms::{Base, End, Instr, TCode, TFault, Value};
 use t_types::TType;
 
 impl Checker<'_> {
@@ -145,6 +147,7 @@ impl Checker<'_> {
             return refused(TCode::T11, span);
         }
         let (ty, flag) = fields[field as usize];
+        let flag = flag_of(types, entry.marks, flag, field + 1);
         let n = types.shift(ty, self.registers.names - entry.names, 0)?;
         Ok((n, flag))
     }
@@ -174,9 +177,28 @@ impl Checker<'_> {
         ensures program { self.new.program ≡ self.old.program }
         ensures labels { self.new.labels ≡ self.old.labels }
     {
+        if let Some(r) = bare_register(v) {
+            return self.check_copy(rd, r, span);
+        }
         let found = self.type_of_value(types, v, span)?;
         self.registers.note(rd, found)?;
         Ok(())
+    }
+
+    // A move of a register: what is kept of its type is copied as it is.
+    fn check_copy(&mut self, rd: u64, r: u64, span: Span) -> Result<(), TFault>
+        ensures step { (ts : List Ty) → IsSound ts self.old.registers →
+            StepsTo ts ts self.old self.new span (Mov rd (Plain (Reg r) [])) result }
+        ensures program { self.new.program ≡ self.old.program }
+        ensures labels { self.new.labels ≡ self.old.labels }
+    {
+        match self.registers.find(r) {
+            Some(entry) => {
+                self.registers.set(rd, entry)?;
+                Ok(())
+            }
+            None => refused(TCode::T08, span),
+        }
     }
 
     fn check_st(
@@ -187,7 +209,8 @@ impl Checker<'_> {
         rs: u64,
         span: Span,
     ) -> Result<(), TFault>
-        requires { IsPlace types.old self.old }
+        requires place { IsPlace types.old self.old }
+        requires field { field ≤ max_number }
         ensures grown { Grown types.old types.new }
         ensures step { StepsTo types.old types.new self.old self.new span (St rd field rs) result }
         ensures program { self.new.program ≡ self.old.program }
@@ -275,5 +298,30 @@ impl Checker<'_> {
             }
             None => refused(TCode::T19, span),
         }
+    }
+}
+
+// The register that a value is, where it is no more than one.
+fn bare_register(v: &Value) -> Option<u64>
+    ensures { IfSome result (λ r. value v.now ≡ Plain (Reg r) []) }
+{
+    match v {
+        Value::Plain { base, types } => {
+            if types.is_empty() {
+                register_of(*base)
+            } else {
+                None
+            }
+        }
+        Value::Pack { .. } => None,
+    }
+}
+
+fn register_of(base: Base) -> Option<u64>
+    ensures { IfSome result (λ r. base_tree base ≡ Reg r) }
+{
+    match base {
+        Base::Reg(r) => Some(r),
+        Base::Int(_) | Base::Label(_) | Base::Data(_) => None,
     }
 }

@@ -6,6 +6,8 @@ mod checker;
 mod entering;
 mod instructions;
 mod labels;
+mod marking;
+mod marks;
 mod parts;
 mod program;
 mod registers;

@@ -1,24 +1,27 @@
 // What is known of the registers at a place in a block.
 ghost use Rattle.std.specs.Prelude.{◌≡◌, ℕ, ◌+◌, ◌<◌, ◌≤◌, List, length, IfOk, OnOk};
-ghost use Rattle.t_types.specs.Tree.{Ty, TFile, TFields, TupleTy};
-ghost use Rattle.t_types.specs.Fields.{filled as filled_fields};
-ghost use Rattle.t_types.specs.WellFormed.{max_names, WellFormedFile};
+ghost use Rattle.t_types.specs.Tree.{Ty, TFile};
+ghost use Rattle.t_types.specs.WellFormed.{max_names, max_number, WellFormedFile};
 ghost use Rattle.t_rules.specs.Registers.{raised};
 ghost use Rattle.t_intern.specs.Grown.{Grown, IsNumber};
 ghost use Rattle.t_intern.specs.Nodes.{at, regs_at, RegsBelow};
 ghost use Rattle.t_check.specs.Bounds.{Bounded};
-ghost use Rattle.t_check.specs.Known.{seen, entry_of, known, IsSound, IsEmpty, IsEntry, IsFound, IsOfBlock, IsNoted, IsFilled, IsSet, IsTupleWith, HasField};
+ghost use Rattle.t_check.specs.Known.{seen, entry_of, known, IsSound, IsEmpty, IsEntry, IsFound, IsOfBlock, IsNoted, IsFilled, IsSet, HasField};
 
+use crate::marking::{set_of, whole};
+use crate::marks::with;
 use idx_core::OutOfMemory;
 use std::alloc::Global;
 use std::collections::BTreeMap;
-use t_intern::{Shape, Types};
+use t_intern::Types;
 
-/// The number of a register's type, as it was when `names` type names were in scope. It is shifted where it is read,
-/// and not at each `unpack`.
+/// The number of a register's type, as it was when `names` type names were in scope, and the set of the fields that
+/// were filled since. The type is shifted where it is read, and not at each `unpack`, and its fields are marked where the
+/// whole of it is wanted, and not at each `st`.
 #[derive(Clone, Copy)]
 pub(crate) struct Entry {
     pub(crate) ty: u64,
+    pub(crate) marks: Option<u64>,
     pub(crate) names: u64,
 }
 
@@ -58,13 +61,20 @@ impl Registers {
         while left > 0 {
             left -= 1;
             let (reg, ty) = regs[left];
-            made.set(reg, Entry { ty, names: owes })?;
+            made.set(
+                reg,
+                Entry {
+                    ty,
+                    marks: None,
+                    names: owes,
+                },
+            )?;
         }
         Ok(made)
     }
 
     // The register has this entry from now on.
-    fn set(&mut self, r: u64, entry: Entry) -> Result<(), OutOfMemory>
+    pub(crate) fn set(&mut self, r: u64, entry: Entry) -> Result<(), OutOfMemory>
         ensures { OnOk result (IsSet self.old self.new r entry) }
     {
         self.entries.insert(r, entry)?;
@@ -86,7 +96,8 @@ impl Registers {
         ensures grown { Grown types.old types.new }
         ensures number { IfOk result (IsNumber types.new (seen types.old self.now.names entry)) }
     {
-        types.shift(entry.ty, self.names - entry.names, 0)
+        let ty = whole(types, entry.ty, entry.marks)?;
+        types.shift(ty, self.names - entry.names, 0)
     }
 
     // The register has the type of this number from now on.
@@ -95,7 +106,14 @@ impl Registers {
             Bounded self.old.names (at ts ty) → IsNoted ts self.old self.new r (at ts ty)) }
     {
         let names = self.names;
-        self.set(r, Entry { ty, names })
+        self.set(
+            r,
+            Entry {
+                ty,
+                marks: None,
+                names,
+            },
+        )
     }
 
     // One more type name is in scope.
@@ -112,33 +130,20 @@ impl Registers {
     pub(crate) fn fill(&mut self, types: &mut Types, r: u64, field: u64) -> Result<(), OutOfMemory>
         requires sound { IsSound types.old self.old }
         requires there { HasField (known types.old self.old) r field }
+        requires field { field ≤ max_number }
         ensures grown { Grown types.old types.new }
         ensures filled { OnOk result (IsFilled types.old types.new self.old self.new r field) }
     {
         match self.find(r) {
             Some(entry) => {
-                let ty = filled(types, entry.ty, field)?;
-                let names = entry.names;
-                self.set(r, Entry { ty, names })
+                let set = set_of(types, entry.marks)?;
+                let alloc = types.alloc();
+                let set = with(alloc, types, set, field + 1)?;
+                let Entry { ty, names, .. } = entry;
+                let marks = Some(set);
+                self.set(r, Entry { ty, marks, names })
             }
             None => unreachable!(),
         }
-    }
-}
-
-// The number of the tuple type whose field is initialised.
-fn filled(types: &mut Types, n: u64, field: u64) -> Result<u64, OutOfMemory>
-    requires there { n < length types.old }
-    requires tuple { IsTupleWith (at types.old n) field }
-    ensures grown { Grown types.old types.new }
-    ensures number { IfOk result (λ m. (fs : TFields) → at types.old n ≡ TupleTy fs →
-        IsNumber types.new (TupleTy (filled_fields fs field)) m) }
-{
-    match types.copied(n)? {
-        Shape::Tuple(mut fields) => {
-            fields[field as usize].1 = true;
-            types.intern(Shape::Tuple(fields))
-        }
-        Shape::Int | Shape::Var(_) | Shape::Code { .. } | Shape::Exists(_) => unreachable!(),
     }
 }

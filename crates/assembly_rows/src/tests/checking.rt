@@ -24,3 +24,20 @@ fn a_nested_type_is_put_into_a_nested_type(rt: HostRuntime) -> Result<(), Fail> 
     assert!(rt; accepted(alloc, program).is_ok());
     Ok(())
 }
+
+// As a tree the type of r1 has more than ten thousand million parts.
+#[test]
+fn a_wide_type_is_put_into_a_wide_type(rt: HostRuntime) -> Result<(), Fail> {
+    let alloc = rt.alloc();
+    let pieces = [
+        ("tal 1\nL0: code[]{}. mov r1, L1[<int^0", 1),
+        (",int^0", 99_999),
+        (">] jmp L0\nL1: code[b]{r1:<b^0", 1),
+        (",b^0", 99_999),
+        (">}. jmp L0", 1),
+    ];
+    let text = built(alloc, &pieces)?;
+    let program = read(alloc, &text)?;
+    assert!(rt; accepted(alloc, program).is_ok());
+    Ok(())
+}

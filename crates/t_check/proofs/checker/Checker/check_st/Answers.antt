@@ -8,14 +8,14 @@ use Rattle.t_check.proofs.Noting.{known_grown, sound_grown}
 use Rattle.t_check.proofs.checker.Checker.check_st.Goals as goal
 
 pub fill-requires-clause-sound : goal.fill-requires-clause-sound
-fill-requires-clause-sound c = sound_grown c.args.types.now c.check_stored.new.types c.in_ok-check_stored.ensures.grown c.args.self.now.registers c.requires.sound
+fill-requires-clause-sound c = sound_grown c.args.types.now c.check_stored.new.types c.in_ok-check_stored.ensures.grown c.args.self.now.registers c.requires.place.sound
 
 pub fill-requires-clause-there : goal.fill-requires-clause-there
 fill-requires-clause-there c =
     let ts = c.args.types.now in
     let us = c.check_stored.new.types in
     let h = c.in_ok-check_stored.ensures.stored in
-    let same = known_grown ts us c.in_ok-check_stored.ensures.grown c.args.self.now.registers c.requires.sound in
+    let same = known_grown ts us c.in_ok-check_stored.ensures.grown c.args.self.now.registers c.requires.place.sound in
     (TupleTy h.0, ap (λ (g : RegTypes). g c.args.rd) same ∙ h.4, (h.0, h.1, h.2, refl, h.5))
 
 pub returns-clause-step : goal.returns-clause-step
@@ -23,7 +23,7 @@ returns-clause-step c =
     let ts = c.args.types.now in
     let us = c.check_stored.new.types in
     let h = c.in_ok-check_stored.ensures.stored in
-    let same = known_grown ts us c.in_ok-check_stored.ensures.grown c.args.self.now.registers c.requires.sound in
+    let same = known_grown ts us c.in_ok-check_stored.ensures.grown c.args.self.now.registers c.requires.place.sound in
     let filled_is = c.in_ok-fill.ensures.filled in (
       (
         h.0,

@@ -9,7 +9,7 @@ use Rattle.t_intern.specs.Nodes.{at}
 use Rattle.t_check.specs.Known.{known, seen}
 use Rattle.t_check.specs.Verdict.{IsStored}
 use Rattle.t_check.proofs.Loads.{field_follows, unfit}
-use Rattle.t_check.proofs.Noting.{seen_grown}
+use Rattle.t_check.proofs.Noting.{seen_grown, entry_grown}
 use Rattle.t_check.proofs.checker.Checker.check_stored.Goals as goal
 
 pub returns-clause-stored : goal.returns-clause-stored
@@ -20,7 +20,7 @@ returns-clause-stored c =
     let e = c.in-Some.entry in
     let h = c.in_ok-wanted.ensures.field in
     let found = c.in-Some.ensures.found ts c.requires in
-    let same = seen_grown ts us c.in_ok-wanted.ensures.grown k.names e found.1.0 in
+    let same = seen_grown ts us c.in_ok-wanted.ensures.grown k.names e found.1 in
     let fits = c.in_ok-fits_entry.ensures.fit.0 c.if-not-branch.false in
     (h.0, at us c.in_ok-wanted.wanted, c.in_ok-wanted.field-0-1, seen ts k.names e, h.1, h.2, found.0, subst (λ (t : Ty). Fits t (at us c.in_ok-wanted.wanted)) same fits)
 
@@ -35,8 +35,12 @@ returns-then-not-branch-clause-stored c =
     let h = c.in_ok-wanted.ensures.field in
     let wanted = at us c.in_ok-wanted.wanted in
     let found = c.in-Some.ensures.found ts c.requires in
-    let same = seen_grown ts us c.in_ok-wanted.ensures.grown k.names e found.1.0 in
+    let same = seen_grown ts us c.in_ok-wanted.ensures.grown k.names e found.1 in
     subst (λ (r : Result (Unit {0}) TFault). IsStored g c.args.rd c.args.field c.args.rs s r) (sym c.refused-then-not-branch.ensures)
     (field_follows g c.args.rd c.args.field s (λ fs u flag. register g c.args.rs s (λ w. check (Fits w u) (refuse T13 s) nothing)) h.0 h.1 wanted c.in_ok-wanted.field-0-1 T13 s h.2
     (unfit g c.args.rs s (seen ts k.names e) wanted found.0
     (λ f. true≢false (sym (c.in_ok-fits_entry.ensures.fit.1 (subst (λ (t : Ty). Fits t wanted) (sym same) f)) ∙ c.if-not-branch.true))))
+
+pub fits_entry-requires-clause-entry : goal.fits_entry-requires-clause-entry
+fits_entry-requires-clause-entry c =
+    entry_grown c.args.types.now c.field_of.new.types c.in_ok-wanted.ensures.grown c.args.self.now.registers.names c.in-Some.entry (c.in-Some.ensures.found c.args.types.now c.requires).1

@@ -62,7 +62,7 @@ returns-clause-field c =
     let number = c.in_ok-n.ensures.number in (
       shown_fields ts k.names e xs is found.1 i,
       found.0 ∙ ap Some (shown_tuple ts k.names e xs is found.1 i),
-      part_field ts k.names e xs is found.1 i x lt here t number.1,
+      part_field ts k.names e xs is found.1 i x lt here t c.flag_of-flag.result number.1 c.flag_of-flag.ensures,
       part_bounded ts k.names e xs is found.1 i x lt here t number.1,
       number.0,
     )

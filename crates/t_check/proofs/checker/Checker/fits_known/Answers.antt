@@ -32,7 +32,7 @@ returns-then-not-branch-clause-fit c =
     let is = item xs l.reg-index (0, 0) lt in
     let below = reg_below (length ts) xs l.reg-index x lt is c.requires.regs in
     let found = c.in-Some.ensures.found ts c.requires.sound in
-    let fit = fit_grown ts l.types l.invariant.grown k.names c.in-Some.entry x.1 c.in_ok-fits_entry-in-Some.field-0 found.1.0 below c.in_ok-fits_entry-in-Some.ensures.fit in (
+    let fit = fit_grown ts l.types l.invariant.grown k.names c.in-Some.entry x.1 c.in_ok-fits_entry-in-Some.field-0 found.1 below c.in_ok-fits_entry-in-Some.ensures.fit in (
       (λ h. cc),
       λ h. sym c.if-not-branch.true ∙ fit.1 (entry_fits g ts x _ found.0 (item_has (RegFits g ts) _ _ _ is lt (regs_fit g ts xs h))),
     )
@@ -60,7 +60,7 @@ loop-reg-preserved c =
     let is = item xs l.reg-index (0, 0) lt in
     let below = reg_below (length ts) xs l.reg-index x lt is c.requires.regs in
     let found = c.in-Some.ensures.found ts c.requires.sound in
-    let fit = fit_grown ts l.types l.invariant.grown k.names c.in-Some.entry x.1 c.in_ok-fits_entry-in-Some.field-0 found.1.0 below c.in_ok-fits_entry-in-Some.ensures.fit in
+    let fit = fit_grown ts l.types l.invariant.grown k.names c.in-Some.entry x.1 c.in_ok-fits_entry-in-Some.field-0 found.1 below c.in_ok-fits_entry-in-Some.ensures.fit in
     record {
       grown = grown_next _ _ _ l.invariant.grown c.in_ok-fits_entry-in-Some.ensures.grown;
       fit = items_more (RegFits g ts) _ _ _ is lt l.invariant.fit (seen ts k.names c.in-Some.entry, found.0, fit.0 c.if-not-branch.false);

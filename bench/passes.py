@@ -13,7 +13,7 @@ SHAPES = [
     ("sum", "one sum", 100_000),
     ("calls", "nested calls of one named function", 10_000),
     ("kept", "one continuation that keeps many variables", 10_000),
-    ("tuple", "one tuple", 10_000),
+    ("tuple", "one tuple", 4_000),
     ("choices", "choices in a row", 10_000),
     ("closures", "functions in a row that are called where they stand", 10_000),
 ]

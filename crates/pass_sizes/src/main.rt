@@ -13,6 +13,7 @@ use std::env;
 use std::process::ExitCode;
 
 // What is asked for.
+#[derive(Clone, Copy)]
 struct Asked {
     shape: Shape,
     count: u64,
@@ -28,7 +29,7 @@ fn words(rt: &HostRuntime, alloc: Global) -> Option<Vec<String>> {
     Some(words)
 }
 
-fn asked(words: &[String]) -> Option<Asked> {
+fn request(words: &[String]) -> Option<Asked> {
     if words.len() != 4 {
         return None;
     }
@@ -38,7 +39,7 @@ fn asked(words: &[String]) -> Option<Asked> {
     Some(Asked { shape, count, last })
 }
 
-fn done(alloc: Global, asked: &Asked) -> Option<()> {
+fn done(alloc: Global, asked: Asked) -> Option<()> {
     let term = term(alloc, asked.shape, asked.count).ok()?;
     through(alloc, term, asked.last)
 }
@@ -48,10 +49,10 @@ fn main(rt: HostRuntime) -> ExitCode {
     let Some(words) = words(&rt, alloc) else {
         return ExitCode::from(1);
     };
-    let Some(asked) = asked(&words) else {
+    let Some(asked) = request(&words) else {
         return ExitCode::from(2);
     };
-    match done(alloc, &asked) {
+    match done(alloc, asked) {
         Some(()) => ExitCode::from(0),
         None => ExitCode::from(1),
     }

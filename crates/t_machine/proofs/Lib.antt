@@ -2,6 +2,7 @@ pub mod Loads
 pub mod Cells
 pub mod Registers
 pub mod Inverses
+pub mod Laying
 pub mod Onwards
 pub mod Standing
 pub mod Starting

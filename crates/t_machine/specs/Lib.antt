@@ -1,5 +1,6 @@
 pub mod Code
 pub mod Heap
+pub mod Laid
 pub mod Lowering
 pub mod Places
 pub mod Room

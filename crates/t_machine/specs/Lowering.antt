@@ -1,8 +1,9 @@
 -- What it means that a part of a block has been loaded.
-use Rattle.std.specs.Prelude.{◌≡◌, List, [], ◌∷◌, ◌++◌, length}
+use Rattle.std.specs.Prelude.{◌≡◌, ℕ, ◌+◌, List, [], ◌∷◌, ◌++◌, length}
 use Rattle.t_rules.specs.Erase.{ESeq}
 use Rattle.t_machine.specs.Places.{PlaceList, Extends}
 use Rattle.t_machine.specs.Code.{Holds}
+use Rattle.t_machine.specs.Laid.{size, InBlock, Adds}
 use Rattle.t_machine.specs.declared.code.Code.{Code}
 use Rattle.t_machine.specs.declared.code.Instruction.{Instruction}
 
@@ -19,3 +20,6 @@ pub record IsBegun (before now : Code) (left all : ESeq) : Type 0 where
   pub done : List Instruction
   pub instructions : now.instructions.items ≡ before.instructions.items ++ done
   pub loaded : IsLoaded now.places done left all
+  pub counted : size all ≡ length done + size left
+  pub part : (r : ℕ) → InBlock left r → InBlock all r
+  pub named : Adds before.places now.places (InBlock all)

@@ -1,4 +1,5 @@
 // Laws of runs, as functions with an empty body that callers cite.
+ghost use Rattle.t_machine.specs.Laid.{PlacesAreReadBack};
 ghost use Rattle.t_machine.specs.Room.{StepsMakeWhatTheyAsk, StepsAreCovered};
 ghost use Rattle.t_machine.specs.Runs.{HaltedExactly, SpentExactly, FirstRuns};
 
@@ -21,4 +22,9 @@ pub fn first_runs_tell()
 pub fn steps_allocate_what_they_ask()
     ensures made { StepsMakeWhatTheyAsk }
     ensures covered { StepsAreCovered }
+{}
+
+/// Where the code is the blocks one after the other, a place of it tells the block and the instruction.
+pub fn places_are_read_back()
+    ensures { PlacesAreReadBack }
 {}

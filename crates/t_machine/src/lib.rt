@@ -11,6 +11,8 @@ mod machine;
 mod places;
 mod word;
 
-pub use laws::{first_runs_tell, runs_answer_exactly, steps_allocate_what_they_ask};
+pub use laws::{
+    first_runs_tell, places_are_read_back, runs_answer_exactly, steps_allocate_what_they_ask,
+};
 pub use loading::load;
 pub use machine::{Machine, Ran};

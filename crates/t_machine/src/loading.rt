@@ -4,11 +4,12 @@ ghost use Rattle.t_terms.specs.Read.{base as base_tree, value as value_tree, ins
 ghost use Rattle.t_terms.specs.ReadProgram.{program as program_of};
 ghost use Rattle.t_terms.specs.Spanned.{plain_fields};
 ghost use Rattle.t_check.specs.Checked.{checked_program};
-ghost use Rattle.t_rules.specs.Erase.{ESeq, EHeap, EMov, base_word, no_ewords, held, erase_value, erase_instr, erase_end, erase_block, erase_datum};
+ghost use Rattle.t_rules.specs.Erase.{ESeq, EHeap, EMov, erase_blocks, base_word, no_ewords, held, erase_value, erase_instr, erase_end, erase_block, erase_datum};
 ghost use Rattle.t_machine.specs.Heap.{IsHeap};
 ghost use Rattle.t_machine.specs.Words.{word};
 ghost use Rattle.t_machine.specs.Places.{Extends};
 ghost use Rattle.t_machine.specs.Code.{IsBase, IsInstr, IsEnd, IsCode};
+ghost use Rattle.t_machine.specs.Laid.{Adds, InBase, InInstr, InBlock, IsLaid, IsNamed};
 ghost use Rattle.t_machine.specs.Runs.{Stands};
 
 use crate::code::{Code, Instruction, Operand};
@@ -22,10 +23,13 @@ use t_check::Checked;
 use t_terms::{Base, Block, Data, End, Instr, Value};
 use t_types::TType;
 
-/// A machine that stands at the start of the program. It takes a place for each register that the program names, and
-/// the data and the code; a run takes memory at a `malloc` alone.
+/// A machine that stands at the start of the program. It takes a place for each register that the program names and for
+/// no other, and the data and the code; a run takes memory at a `malloc` alone. Its code is the blocks one after the
+/// other, so that a place in it tells the block and the instruction (`places_are_read_back`).
 pub fn load(alloc: Global, program: &Checked) -> Result<Machine, OutOfMemory>
-    ensures { IfOk result (Stands (program_of (checked_program program.now)) 0) }
+    ensures stands { IfOk result (Stands (program_of (checked_program program.now)) 0) }
+    ensures laid { IfOk result (λ x. IsLaid x.code (erase_blocks (program_of (checked_program program.now)))) }
+    ensures named { IfOk result (λ x. IsNamed x.code (erase_blocks (program_of (checked_program program.now)))) }
 {
     let code = load_blocks(alloc, &program.program().blocks)?;
     let count = code.places.len();
@@ -78,7 +82,9 @@ fn data_word(v: &Value) -> Word
 
 // The code of the blocks.
 fn load_blocks(alloc: Global, blocks: &[Block]) -> Result<Code, OutOfMemory>
-    ensures { IfOk result (λ x. IsCode x (map erase_block (blocks_of blocks.now))) }
+    ensures code { IfOk result (λ x. IsCode x (map erase_block (blocks_of blocks.now))) }
+    ensures laid { IfOk result (λ x. IsLaid x (map erase_block (blocks_of blocks.now))) }
+    ensures named { IfOk result (λ x. IsNamed x (map erase_block (blocks_of blocks.now))) }
 {
     let mut code = Code {
         instructions: Vec::new(alloc),
@@ -93,8 +99,11 @@ fn load_blocks(alloc: Global, blocks: &[Block]) -> Result<Code, OutOfMemory>
 
 // Puts a block after the blocks of the code.
 fn load_block(code: &mut Code, block: &Block) -> Result<(), OutOfMemory>
-    ensures { OnOk result ((cs : List ESeq) → IsCode code.old cs →
+    ensures code { OnOk result ((cs : List ESeq) → IsCode code.old cs →
         IsCode code.new (cs ++ erase_block (block_tree block.now) ∷ [])) }
+    ensures laid { OnOk result ((cs : List ESeq) → IsLaid code.old cs →
+        IsLaid code.new (cs ++ erase_block (block_tree block.now) ∷ [])) }
+    ensures named { OnOk result (Adds code.old.places code.new.places (InBlock (erase_block (block_tree block.now)))) }
 {
     code.entries.push(code.instructions.len())?;
     for step in &block.body {
@@ -109,6 +118,7 @@ fn load_block(code: &mut Code, block: &Block) -> Result<(), OutOfMemory>
 fn load_instr(places: &mut Places, i: &Instr) -> Result<Instruction, OutOfMemory>
     ensures same { IfOk result (λ o. IsInstr places.new o (erase_instr (instr_tree i.now))) }
     ensures kept { OnOk result (Extends places.old places.new) }
+    ensures named { OnOk result (Adds places.old places.new (InInstr (erase_instr (instr_tree i.now)))) }
 {
     match i {
         Instr::Arith { op, rd, rs, v } => {
@@ -156,6 +166,7 @@ fn load_instr(places: &mut Places, i: &Instr) -> Result<Instruction, OutOfMemory
 fn load_move(places: &mut Places, rd: u64, v: &Value) -> Result<Instruction, OutOfMemory>
     ensures same { IfOk result (λ o. IsInstr places.new o (EMov rd (erase_value (value_tree v.now)))) }
     ensures kept { OnOk result (Extends places.old places.new) }
+    ensures named { OnOk result (Adds places.old places.new (InInstr (EMov rd (erase_value (value_tree v.now))))) }
 {
     let rd = places.place(rd)?;
     let v = load_value(places, v)?;
@@ -165,6 +176,7 @@ fn load_move(places: &mut Places, rd: u64, v: &Value) -> Result<Instruction, Out
 fn load_end(places: &mut Places, end: &End) -> Result<Instruction, OutOfMemory>
     ensures same { IfOk result (λ o. IsEnd places.new o (erase_end (end_of end.now))) }
     ensures kept { OnOk result (Extends places.old places.new) }
+    ensures named { OnOk result (Adds places.old places.new (InBlock (erase_end (end_of end.now)))) }
 {
     match end {
         End::Jmp(v) => {
@@ -181,6 +193,7 @@ fn load_end(places: &mut Places, end: &End) -> Result<Instruction, OutOfMemory>
 fn load_value(places: &mut Places, v: &Value) -> Result<Operand, OutOfMemory>
     ensures same { IfOk result (λ o. IsBase places.new o (erase_value (value_tree v.now))) }
     ensures kept { OnOk result (Extends places.old places.new) }
+    ensures named { OnOk result (Adds places.old places.new (InBase (erase_value (value_tree v.now)))) }
 {
     match base_of(v) {
         Base::Reg(r) => {

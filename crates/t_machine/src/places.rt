@@ -1,6 +1,7 @@
 // Places of registers.
 ghost use Rattle.std.specs.Prelude.{◌≡◌, Some, IfOk, OnOk, length, []};
 ghost use Rattle.t_machine.specs.Places.{PlaceList, place_of, ArePlaces, Extends};
+ghost use Rattle.t_machine.specs.Laid.{Adds};
 
 use idx_core::OutOfMemory;
 use std::alloc::Global;
@@ -45,6 +46,7 @@ impl Places {
     pub(crate) fn place(&mut self, register: u64) -> Result<usize, OutOfMemory>
         ensures place { IfOk result (λ k. place_of self.new register ≡ Some k) }
         ensures kept { OnOk result (Extends self.old self.new) }
+        ensures only { OnOk result (Adds self.old self.new (λ r. r ≡ register)) }
     {
         if let Some(place) = self.map.get(&register) {
             return Ok(*place);

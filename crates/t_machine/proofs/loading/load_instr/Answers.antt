@@ -1,7 +1,8 @@
-use Rattle.std.proofs.Common.{ap}
+use Rattle.std.proofs.Common.{OnOk, ap, sym, subst}
 use Rattle.t_terms.specs.Read.{instr as instr_tree}
 use Rattle.t_rules.specs.Erase.{erase_instr}
 use Rattle.t_terms.specs.declared.instr.Instr.{Instr}
+use Rattle.t_machine.specs.Laid.{InInstr, Adds}
 use Rattle.t_machine.proofs.loading.load_instr.Goals as goal
 
 pub returns-in_ok-v-in-Arith-clause-same : goal.returns-in_ok-v-in-Arith-clause-same
@@ -15,3 +16,11 @@ returns-in_ok-v-in-Arith-clause-same c =
       c.in_ok-v-in-Arith.ensures.same,
       ap (λ (i : Instr). erase_instr (instr_tree i)) c.in-Arith.is,
     )
+
+pub returns-in-Mov-clause-named : goal.returns-in-Mov-clause-named
+returns-in-Mov-clause-named c =
+    subst (λ (i : Instr). OnOk c.load_move.result (Adds c.args.places.now c.load_move.new.places (InInstr (erase_instr (instr_tree i))))) (sym c.in-Mov.is) c.load_move.ensures.named
+
+pub returns-in-Unpack-clause-named : goal.returns-in-Unpack-clause-named
+returns-in-Unpack-clause-named c =
+    subst (λ (i : Instr). OnOk c.load_move-in-Unpack.result (Adds c.args.places.now c.load_move-in-Unpack.new.places (InInstr (erase_instr (instr_tree i))))) (sym c.in-Unpack.is) c.load_move-in-Unpack.ensures.named

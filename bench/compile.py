@@ -1,9 +1,12 @@
-"""Compiling: `talc compile` on sources of 250, 500 and about 1000 nodes, in four shapes.
+"""Compiling: `talc compile` on sources of 250, 500 and about 1000 nodes, in six shapes.
 
-For each shape: processor seconds of each size less those of the text `7`, the time as a multiple of that of the half, bytes
-of the assembly text a node of the source, and peak memory a byte of that text. Where ocamlopt is installed, its time for a
-program of the same meaning and the largest size stands beside it, each less that of the smallest program. Then the
-instructions that compiled programs execute, for each turn of their source.
+Of four shapes the assembly text grows with the source. For each size: processor seconds less those of the text `7`, the time
+as a multiple of that of the half (wanted: at most 2.2), bytes of the text a node of the source, and peak memory a byte of the
+text (wanted: at most 100). Of two shapes the text itself grows with the square of the source, since each closure has a copy
+of what it keeps; there the time a byte of the text stands against that of the half. A row that misses says so. Where ocamlopt
+is installed, its time for a program of the same meaning and the largest size stands beside it, each less that of the smallest
+program. Then the instructions that compiled programs execute, for each turn of their source. What lies in larger terms is
+measured by `passes.py`.
 """
 import shutil
 from measure import Run, best, folder, program
@@ -14,15 +17,26 @@ def ones(n):
 
 
 def calls(n):
-    """Nested calls: each is a function that adds to its argument."""
-    text = "0"
-    for _ in range(n // 7):
-        text = f"(fix f(x:int):int. x + 1 + 1) ({text})"
-    return text
+    """Nested calls of one function, which has a name; no more than 40 of them in each other, added up."""
+    nest = "f (" * 39 + "f 0" + ")" * 39
+    return f"(fix g(f:int -> int):int. {' + '.join([nest] * max(1, n // 82))}) (fix h(x:int):int. x + 1)"
 
 
 def branches(n):
     return " + ".join(["if0(0, 1, 2)"] * ((n + 1) // 5))
+
+
+def functions(n):
+    """Functions in a row, each called where it stands."""
+    return " + ".join(["(fix f(x:int):int. x) 1"] * ((n + 1) // 5))
+
+
+def written_out(n):
+    """Nested calls of functions that are written out: each function is named before the first call."""
+    text = "0"
+    for _ in range(n // 7):
+        text = f"(fix f(x:int):int. x + 1 + 1) ({text})"
+    return text
 
 
 def closures(n):
@@ -42,6 +56,15 @@ def ones_in_ocaml(n):
 
 
 def calls_in_ocaml(n):
+    nest = "f (" * 39 + "f 0" + ")" * 39
+    return f"(let rec g f = {' + '.join([nest] * max(1, n // 82))} in g) (let rec h x = x + 1 in h)"
+
+
+def functions_in_ocaml(n):
+    return " + ".join(["(let rec f x = x in f) 1"] * ((n + 1) // 5))
+
+
+def written_out_in_ocaml(n):
     text = "0"
     for _ in range(n // 7):
         text = f"(let rec f x = x + 1 + 1 in f) ({text})"
@@ -59,13 +82,18 @@ def closures_in_ocaml(n):
     return f"({text})" + "".join(f" {i}" for i in range(depth))
 
 
-SHAPES = [
+LINEAR = [
     ("a sum", ones, ones_in_ocaml),
-    ("nested calls", calls, calls_in_ocaml),
+    ("nested calls of one function", calls, calls_in_ocaml),
     ("choices in a row", branches, branches_in_ocaml),
+    ("functions in a row", functions, functions_in_ocaml),
+]
+QUADRATIC = [
+    ("nested calls of functions that are written out", written_out, written_out_in_ocaml),
     ("functions that keep much", closures, closures_in_ocaml),
 ]
 SIZES = [250, 500, 998]
+MOST_TIMES, MOST_BYTES = 2.2, 100
 
 TURNS = [
     ("factorial of 5", "(fix f(n:int):int. if0(n, 1, n * f(n - 1))) 5", 6),
@@ -94,7 +122,7 @@ def main():
         def timed(text):
             with open(source, "w", encoding="ascii") as file:
                 file.write(text)
-            run = best([talc, "compile", source, target], times=5, wanted=(0, ""))
+            run = best([talc, "compile", source, target], times=9, wanted=(0, ""))
             with open(target, "rb") as file:
                 return run, len(file.read())
 
@@ -108,20 +136,32 @@ def main():
         peer = ocamlopt("7") if shutil.which("ocamlopt") else None
         if peer:
             print(f"the text 7 by ocamlopt: {peer.seconds:.3f} s")
-        for name, shape, in_ocaml in SHAPES:
+
+        def rows(name, shape, is_linear):
+            """Prints a row for each size, and gives the time of the largest."""
             last = None
             for size in SIZES:
                 run, length = timed(shape(size))
-                spent = run.seconds - base.seconds
-                ratio = f", times the half {spent / last:.2f}" if last and last > 0.005 else ""
+                spent = max(run.seconds - base.seconds, 1e-4)
+                measure = spent if is_linear else spent / length
+                ratio = measure / last if last else 0
+                memory = (run.peak - base.peak) / length
+                wanted = MOST_TIMES if is_linear else MOST_TIMES / 2
+                wrong = [word for word, is_so in [("slow", ratio > wanted), ("large", memory > MOST_BYTES)] if is_so]
                 print(
-                    f"{name}, {size} nodes: {spent:.3f} s{ratio}, {length} bytes, {length / size:.1f} a node, "
-                    f"{run.peak / 1e6:.1f} MB, {(run.peak - base.peak) / length:.1f} a byte of the text"
+                    f"{name}, {size} nodes: {spent:.4f} s, {length} bytes, {length / size:.1f} a node, "
+                    f"{spent / length * 1e9:.0f} ns a byte"
+                    + (f", {'time' if is_linear else 'time a byte'} as a multiple of the half {ratio:.2f}" if last else "")
+                    + f", {memory:.1f} bytes of memory a byte{': ' + ', '.join(wrong) if wrong else ''}"
                 )
-                last = spent
+                last = measure
+            return spent
+
+        for name, shape, in_ocaml, is_linear in [(*row, True) for row in LINEAR] + [(*row, False) for row in QUADRATIC]:
+            spent = rows(name, shape, is_linear)
             if peer:
                 beside = ocamlopt(in_ocaml(SIZES[-1])).seconds - peer.seconds
-                print(f"{name}, {SIZES[-1]} nodes by ocamlopt: {beside:.3f} s, of which talc takes {last / max(beside, 0.001):.2f}")
+                print(f"{name}, {SIZES[-1]} nodes by ocamlopt: {beside:.3f} s, of which talc takes {spent / max(beside, 0.001):.2f}")
         for name, text, turns in TURNS:
             timed(text)
             made = instructions(talc, target)

@@ -109,5 +109,5 @@ returns-clause-named c =
     let parts : (r : ℕ) → InBlock (erase_end e) r → InBlock all r =
     subst (λ (ys : List (Instr × Span)). (r : ℕ) → InBlock (erase_seq (seq_of (body ys) e)) r → InBlock all r) ended inv.part in
     subst (λ (ys : List (Instr × Span)). Adds m c.load_end.new.places (InBlock (erase_seq (seq_of (body ys) e)))) c.deref-step-items.ensures.value (
-      adds_both m l.code.places c.load_end.new.places (InBlock all) (InBlock (erase_end e)) (InBlock all) inv.named c.in_ok-last.ensures.named (λ r h. h) parts
+    adds_both m l.code.places c.load_end.new.places (InBlock all) (InBlock (erase_end e)) (InBlock all) inv.named c.in_ok-last.ensures.named (λ r h. h) parts
     )

@@ -6,7 +6,7 @@ use Rattle.t_terms.specs.Whole.{Whole}
 use Rattle.t_rules.specs.Rules.{Accepted}
 use Rattle.t_rules.specs.Machine.{Heap, RegWords, State, At, Place, Spot, After}
 use Rattle.t_rules.specs.Erase.{EInstr, EMalloc, ESeq, EThen, EHeap, ERegs, EAt, erase, erase_seq}
-use Rattle.t_rules.proofs.OneStep.{after_one}
+use Rattle.t_machine.specs.ProgramLaws.{ProgramLaws}
 use Rattle.t_machine.specs.Places.{PlaceList}
 use Rattle.t_machine.specs.Code.{IsInstr, IsEnd, Holds}
 use Rattle.t_machine.specs.Room.{asked, asked_next}
@@ -63,11 +63,11 @@ asked_seq h g (Ends tree.Halt) = refl
 asked_state : (t : State) (h : EHeap) (g : ERegs) (c : ESeq) → EAt h g c ≡ erase t → asked_code c ≡ asked_next t
 asked_state (At h1 g1 d) h g c e = let code : c ≡ erase_seq d = cc in ap asked_code code ∙ asked_seq h1 g1 d
 
-module _ (P : TProg) (whole : Whole P) (acc : Accepted P) (m : ℕ) (x : declared.Heap) (ws : List Word) (code : Code) (at : ℕ) (s : Shows P m x ws code at) where
+module _ (laws : ProgramLaws) (P : TProg) (whole : Whole P) (acc : Accepted P) (m : ℕ) (x : declared.Heap) (ws : List Word) (code : Code) (at : ℕ) (s : Shows P m x ws code at) where
   pub asks : (o : Instruction) → slice_get code.instructions.items at ≡ Some o → (t : State) (q : Place) → After P m t q → asked o ≡ asked_next t
   asks o e t q run =
       let there = s.erased.1 in
-      let same = after_one P m there.0 t (Spot s.block s.index) q there.1 run in
-      asked_held code.places o (drop (suc at) code.instructions.items) s.rest (holds_here P whole acc m x ws code at s o e)
+      let same = laws.one P m there.0 t (Spot s.block s.index) q there.1 run in
+      asked_held code.places o (drop (suc at) code.instructions.items) s.rest (holds_here laws P whole acc m x ws code at s o e)
       ∙ asked_state there.0 s.tuples _ s.rest there.2
       ∙ ap asked_next same.0

@@ -10,7 +10,7 @@ use Rattle.t_terms.specs.declared.data.Data.{Data}
 use Rattle.t_terms.specs.declared.block.Block.{Block}
 use Rattle.t_rules.specs.Machine.{Spot}
 use Rattle.t_rules.specs.Erase.{ERegs, EAt, erase_block, erase_blocks, erase_datum, erase_heap, Erased}
-use Rattle.t_rules.proofs.Lock.{erased_starts}
+use Rattle.t_machine.specs.ProgramLaws.{ProgramLaws}
 use Rattle.t_machine.specs.Places.{ArePlaces}
 use Rattle.t_machine.specs.Words.{regs_of}
 use Rattle.t_machine.specs.Heap.{IsHeap}
@@ -45,8 +45,8 @@ first_there : (bs : List TBlock) → 1 ≤ length bs → (b : TBlock) × (slice_
 first_there [] some = absurd (omega arith)
 first_there (b ∷ bs) some = (b, refl)
 
-pub begins : (P : TProg) (x : Heap) (ws : List Word) (code : Code) (at : ℕ) → 1 ≤ length P.blocks → IsCode code (erase_blocks P) → ArePlaces code.places → IsHeap x (erase_heap P) → ws ≡ replicate (length code.places) Empty → slice_get code.entries.items 0 ≡ Some at → Shows P 0 x ws code at
-begins P x ws code at some is places heap words entry =
+pub begins : ProgramLaws → (P : TProg) (x : Heap) (ws : List Word) (code : Code) (at : ℕ) → 1 ≤ length P.blocks → IsCode code (erase_blocks P) → ArePlaces code.places → IsHeap x (erase_heap P) → ws ≡ replicate (length code.places) Empty → slice_get code.entries.items 0 ≡ Some at → Shows P 0 x ws code at
+begins laws P x ws code at some is places heap words entry =
     let b = first_there P.blocks some in
     record {
       tuples = erase_heap P;
@@ -56,7 +56,7 @@ begins P x ws code at some is places heap words entry =
       start = at;
       erased = subst (λ (g : ERegs). Erased P 0 (erase_blocks P) (EAt (erase_heap P) g (erase_block b.0)) (Spot 0 0))
           (no_words_yet code.places (length code.places) ∙ ap (regs_of code.places) (sym words))
-          (erased_starts P b.0 b.1);
+          (laws.starts P b.0 b.1);
       has_code = is;
       has_places = places;
       has_heap = heap;
@@ -66,13 +66,13 @@ begins P x ws code at some is places heap words entry =
     }
 
 -- what loading makes
-pub starts : (p : TProgram) → 1 ≤ length (blocks_of p.blocks.items) → (lent : List Block) → lent ≡ p.blocks.items → (code : Code) → IsCode code (map erase_block (blocks_of lent)) → ArePlaces code.places → (n : ℕ) → n ≡ length code.places
+pub starts : ProgramLaws → (p : TProgram) → 1 ≤ length (blocks_of p.blocks.items) → (lent : List Block) → lent ≡ p.blocks.items → (code : Code) → IsCode code (map erase_block (blocks_of lent)) → ArePlaces code.places → (n : ℕ) → n ≡ length code.places
     → (x : Heap) (tuples : List Data) → tuples ≡ p.heap.items → IsHeap x (map (map erase_datum) (data_of tuples))
     → (xs : List Word) → xs ≡ [] → (k : ℕ) → k ≡ 0 → (ws : List Word) → ws ≡ take n xs ++ replicate (n - k) Empty → (at : ℕ) → at ≡ get_or code.entries.items 0 at → Shows (program p) 0 x ws code at
-starts p some lent same code is places n count x tuples all heap xs none k none_kept ws words at entry =
+starts laws p some lent same code is places n count x tuples all heap xs none k none_kept ws words at entry =
     let bs = p.blocks.items in
     let holds = subst (λ (cs : List Block). IsCode code (map erase_block (blocks_of cs))) same is in
     let entries = first_entry code.places code.instructions.items code.entries.items (map erase_block (blocks_of bs)) holds (erased_count (blocks_of bs) some) in
-    begins (program p) x ws code at some holds places (subst (λ (ys : List Data). IsHeap x (map (map erase_datum) (data_of ys))) all heap)
+    begins laws (program p) x ws code at some holds places (subst (λ (ys : List Data). IsHeap x (map (map erase_datum) (data_of ys))) all heap)
     (filled_up n k xs ws none none_kept words ∙ ap (λ j. replicate j Empty) count)
     (slice_get_read code.entries.items (length code.entries.items) 0 at refl entries entry)

@@ -1,7 +1,25 @@
 // Laws of runs, as functions with an empty body that callers cite.
 ghost use Rattle.t_machine.specs.Laid.{PlacesAreReadBack};
+ghost use Rattle.t_machine.specs.ProgramLaws.{ProgramLaws};
 ghost use Rattle.t_machine.specs.Room.{StepsMakeWhatTheyAsk, StepsAreCovered};
 ghost use Rattle.t_machine.specs.Runs.{HaltedExactly, SpentExactly, FirstRuns};
+
+use t_rules::{
+    accepted_programs_are_never_stuck, erased_code_stands_at_its_place, erased_machine_starts,
+    erased_states_go_on, erased_states_halt_alike, runs_are_unique,
+};
+
+// What the machine stands on: laws of programs and of their erasure.
+pub(crate) fn programs_keep_laws()
+    ensures { ProgramLaws }
+{
+    accepted_programs_are_never_stuck();
+    runs_are_unique();
+    erased_machine_starts();
+    erased_code_stands_at_its_place();
+    erased_states_go_on();
+    erased_states_halt_alike();
+}
 
 /// The answer of a run is exact, want of memory aside: where the program is halted after at most as many steps as the
 /// run is allowed, the run says with which integer and after how many steps; where it goes on after all of them, the
@@ -9,7 +27,9 @@ ghost use Rattle.t_machine.specs.Runs.{HaltedExactly, SpentExactly, FirstRuns};
 pub fn runs_answer_exactly()
     ensures halted { HaltedExactly }
     ensures spent { SpentExactly }
-{}
+{
+    programs_keep_laws();
+}
 
 /// What the first run of a loaded program says of it: it halts with the integer within the steps that were allowed; or
 /// its state after all of them is neither halted nor stuck.
@@ -22,7 +42,9 @@ pub fn first_runs_tell()
 pub fn steps_allocate_what_they_ask()
     ensures made { StepsMakeWhatTheyAsk }
     ensures covered { StepsAreCovered }
-{}
+{
+    programs_keep_laws();
+}
 
 /// Where the code is the blocks one after the other, a place of it tells the block and the instruction.
 pub fn places_are_read_back()

@@ -14,6 +14,7 @@ ghost use Rattle.t_machine.specs.Runs.{Stands};
 
 use crate::code::{Code, Instruction, Operand};
 use crate::heap::Heap;
+use crate::laws::programs_keep_laws;
 use crate::machine::Machine;
 use crate::places::Places;
 use crate::word::Word;
@@ -31,6 +32,7 @@ pub fn load(alloc: Global, program: &Checked) -> Result<Machine, OutOfMemory>
     ensures laid { IfOk result (λ x. IsLaid x.code (erase_blocks (program_of (checked_program program.now)))) }
     ensures named { IfOk result (λ x. IsNamed x.code (erase_blocks (program_of (checked_program program.now)))) }
 {
+    programs_keep_laws();
     let code = load_blocks(alloc, &program.program().blocks)?;
     let count = code.places.len();
     let mut registers = Vec::new(alloc);

@@ -1,0 +1,14 @@
+-- The laws of programs and of their erasure that the machine stands on.
+use Rattle.t_rules.specs.LawsSound.{NeverStuck, OneRun, HaltingIsLast, OneAnswer}
+use Rattle.t_rules.specs.LawsErased.{ErasedStarts, StandsAt, ErasedGoes, ErasedNext, ErasedHaltsAlike}
+
+pub record ProgramLaws : Type 0 where
+  pub stuck : NeverStuck
+  pub one : OneRun
+  pub last : HaltingIsLast
+  pub answers : OneAnswer
+  pub starts : ErasedStarts
+  pub stands : StandsAt
+  pub goes : ErasedGoes
+  pub next : ErasedNext
+  pub alike : ErasedHaltsAlike

@@ -58,7 +58,8 @@ body_filled_to zero t le = absurd (omega arith)
 body_filled_to (suc n) t le = body_filled n (filled_to n t)
 
 -- the order of two fields does not matter, and each may be initialised again
-swapped : (i j : ℕ) (t : a.ATy) → filled_of (suc i) (Some (filled_of (suc j) (Some t))) ≡ filled_of (suc j) (Some (filled_of (suc i) (Some t)))
+swapped : (i j : ℕ) (t : a.ATy) →
+    filled_of (suc i) (Some (filled_of (suc j) (Some t))) ≡ filled_of (suc j) (Some (filled_of (suc i) (Some t)))
 swapped i j a.AInt = refl
 swapped i j (a.AVar n) = refl
 swapped i j (a.ATuple fs) = ap a.ATuple (go fs i j)
@@ -88,7 +89,8 @@ last_or_less : (i n : ℕ) → suc i ≤ suc n → (i ≡ n) ⊎ (suc i ≤ n)
 last_or_less zero zero le = inl refl
 last_or_less zero (suc n) le = inr (omega arith)
 last_or_less (suc i) zero le = absurd (omega arith)
-last_or_less (suc i) (suc n) le = elim (last_or_less i n (omega arith)) [ inl e ↦ inl (ap suc e) | inr l ↦ inr (omega (arith, l)) ]
+last_or_less (suc i) (suc n) le =
+    elim (last_or_less i n (omega arith)) [ inl e ↦ inl (ap suc e) | inr l ↦ inr (omega (arith, l)) ]
 
 -- a field among the first ones that is initialised again
 again : (i n : ℕ) (t : a.ATy) → suc i ≤ n → filled_to n t ≡ filled_of (suc i) (Some (filled_to n t))

@@ -39,10 +39,13 @@ pub length_scope : (k : ℕ) (es : List Entry) → length (scope k es) ≡ lengt
 length_scope k [] = refl
 length_scope k (e ∷ es) = omega (arith, length-append (scope k es) (shown k e ∷ []), length_scope k es)
 
-pub var_in : (k : ℕ) (es : List Entry) (n j : ℕ) (e : Entry) → j + suc n ≡ length es → e ≡ get_or es j e → Some (shown k e) ≡ slice_get (scope k es) n
+pub var_in : (k : ℕ) (es : List Entry) (n j : ℕ) (e : Entry) → j + suc n ≡ length es → e ≡ get_or es j e →
+    Some (shown k e) ≡ slice_get (scope k es) n
 var_in k [] n j e s is = absurd (omega arith)
-var_in k (x ∷ es) n zero e s is = ap (λ (y : Entry). Some (shown k y)) is ∙ sym (get_last (scope k es) (shown k x) n (omega (arith, length_scope k es)))
-var_in k (x ∷ es) n (suc j) e s is = var_in k es n j e (omega arith) is ∙ sym (get_front (scope k es) (shown k x ∷ []) n (omega (arith, length_scope k es)))
+var_in k (x ∷ es) n zero e s is = ap (λ (y : Entry). Some (shown k y)) is
+    ∙ sym (get_last (scope k es) (shown k x) n (omega (arith, length_scope k es)))
+var_in k (x ∷ es) n (suc j) e s is = var_in k es n j e (omega arith) is
+    ∙ sym (get_front (scope k es) (shown k x ∷ []) n (omega (arith, length_scope k es)))
 
 pub var_out : (k : ℕ) (es : List Entry) (n : ℕ) → length es ≤ n → None ≡ slice_get (scope k es) n
 var_out k es n le = sym (get_out (scope k es) n (omega (arith, length_scope k es)))
@@ -51,7 +54,8 @@ length_blocks : (ks : List ABlock) → length (a_blocks ks) ≡ length ks
 length_blocks [] = refl
 length_blocks (k ∷ ks) = ap suc (length_blocks ks)
 
-pub block_in : (ks : List ABlock) (l : ℕ) (b : ABlock) → l < length ks → b ≡ get_or ks l b → Some (a.ACode b.owes (atrees b.args.items)) ≡ code_type (slice_get (a_blocks ks) l)
+pub block_in : (ks : List ABlock) (l : ℕ) (b : ABlock) → l < length ks → b ≡ get_or ks l b →
+    Some (a.ACode b.owes (atrees b.args.items)) ≡ code_type (slice_get (a_blocks ks) l)
 block_in [] l b lt is = absurd (omega arith)
 block_in (k ∷ ks) zero b lt is = ap (λ (x : ABlock). Some (a.ACode x.owes (atrees x.args.items))) is
 block_in (k ∷ ks) (suc l) b lt is = block_in ks l b (omega arith) is
@@ -60,7 +64,8 @@ pub block_out : (ks : List ABlock) (l : ℕ) → length ks ≤ l → None ≡ co
 block_out ks l le = ap code_type (sym (get_out (a_blocks ks) l (omega (arith, length_blocks ks))))
 
 -- data tuples
-pub datum_in : (ds : List AData) (n : ℕ) (d : AData) → n < length ds → d ≡ get_or ds n d → Some (a.ATuple (data_fields (a_consts d.fields.items))) ≡ data_type (slice_get (a_data ds) n)
+pub datum_in : (ds : List AData) (n : ℕ) (d : AData) → n < length ds → d ≡ get_or ds n d →
+    Some (a.ATuple (data_fields (a_consts d.fields.items))) ≡ data_type (slice_get (a_data ds) n)
 datum_in [] n d lt is = absurd (omega arith)
 datum_in (x ∷ ds) zero d lt is = ap (λ (y : AData). Some (a.ATuple (data_fields (a_consts y.fields.items)))) is
 datum_in (x ∷ ds) (suc n) d lt is = datum_in ds n d (omega arith) is
@@ -77,20 +82,29 @@ pub wrapped_snoc : (v : a.AVal) (ws : List AWrap) (w : AWrap) → wrapped v (ws 
 wrapped_snoc v [] w = refl
 wrapped_snoc v (x ∷ ws) w = wrapped_snoc (wrap x v) ws w
 
-pub wrapped_more : (v : a.AVal) (ws : List AWrap) (i : ℕ) (w : AWrap) → i < length ws → w ≡ get_or ws i w → wrapped v (take (i + 1) ws) ≡ wrap w (wrapped v (take i ws))
-wrapped_more v ws i w lt is = ap (wrapped v) (take_more ws i w lt ∙ ap (λ y. take i ws ++ y ∷ []) (sym is)) ∙ wrapped_snoc v (take i ws) w
+pub wrapped_more : (v : a.AVal) (ws : List AWrap) (i : ℕ) (w : AWrap) → i < length ws → w ≡ get_or ws i w →
+    wrapped v (take (i + 1) ws) ≡ wrap w (wrapped v (take i ws))
+wrapped_more v ws i w lt is = ap (wrapped v) (take_more ws i w lt ∙ ap (λ y. take i ws ++ y ∷ []) (sym is))
+    ∙ wrapped_snoc v (take i ws) w
 
-type_wrap : (p : a.AProg) (g : List a.ATy) (w : AWrap) (v : a.AVal) → type_of p g (wrap w v) ≡ wrap_type w (type_of p g v)
+type_wrap : (p : a.AProg) (g : List a.ATy) (w : AWrap) (v : a.AVal) →
+    type_of p g (wrap w v) ≡ wrap_type w (type_of p g v)
 type_wrap p g (Apply ts) v = refl
 type_wrap p g (Pack h s) v = refl
 
-pub type_more : (p : a.AProg) (g : List a.ATy) (v : a.AVal) (ws : List AWrap) (i : ℕ) (w : AWrap) (o q : Option a.ATy) → i < length ws → w ≡ get_or ws i w → q ≡ wrap_type w o → o ≡ type_of p g (wrapped v (take i ws)) → q ≡ type_of p g (wrapped v (take (i + 1) ws))
+pub type_more : (p : a.AProg) (g : List a.ATy) (v : a.AVal) (ws : List AWrap) (i : ℕ) (w : AWrap)
+    (o q : Option a.ATy) → i < length ws → w ≡ get_or ws i w → q ≡ wrap_type w o →
+    o ≡ type_of p g (wrapped v (take i ws)) → q ≡ type_of p g (wrapped v (take (i + 1) ws))
 type_more p g v ws i w o q lt is e h =
-    e ∙ ap (wrap_type w) h ∙ sym (type_wrap p g w (wrapped v (take i ws))) ∙ ap (type_of p g) (sym (wrapped_more v ws i w lt is))
+    e ∙ ap (wrap_type w) h ∙ sym (type_wrap p g w (wrapped v (take i ws)))
+    ∙ ap (type_of p g) (sym (wrapped_more v ws i w lt is))
 
 -- the same over a slice of it
-pub type_more_of : (p : a.AProg) (g : List a.ATy) (v : a.AVal) (ws xs : List AWrap) → xs ≡ ws → (i : ℕ) (w : AWrap) (o q : Option a.ATy) → i < length xs → w ≡ get_or xs i w → q ≡ wrap_type w o → o ≡ type_of p g (wrapped v (take i ws)) → q ≡ type_of p g (wrapped v (take (i + 1) ws))
-type_more_of p g v ws xs same i w o q lt is e h = type_more p g v ws i w o q (subst (λ ys. i < length ys) same lt) (is ∙ ap (λ ys. get_or ys i w) same) e h
+pub type_more_of : (p : a.AProg) (g : List a.ATy) (v : a.AVal) (ws xs : List AWrap) → xs ≡ ws →
+    (i : ℕ) (w : AWrap) (o q : Option a.ATy) → i < length xs → w ≡ get_or xs i w → q ≡ wrap_type w o →
+    o ≡ type_of p g (wrapped v (take i ws)) → q ≡ type_of p g (wrapped v (take (i + 1) ws))
+type_more_of p g v ws xs same i w o q lt is e h =
+    type_more p g v ws i w o q (subst (λ ys. i < length ys) same lt) (is ∙ ap (λ ys. get_or ys i w) same) e h
 
 pub taken : {T : Type 0} (ws xs : List T) → xs ≡ ws → (i : ℕ) → length xs ≤ i → take i ws ≡ ws
 taken ws xs same i le = take_all i ws (subst (λ ys. length ys ≤ i) same le)
@@ -116,19 +130,24 @@ map_snoc f (y ∷ ys) x = ap (λ zs. f y ∷ zs) (map_snoc f ys x)
 
 pub scope_more : (k : ℕ) (es : List Entry) → Under k es → scope (suc k) es ≡ map (ashift 1 0) (scope k es)
 scope_more k [] u = refl
-scope_more k (e ∷ es) u = ap₂ (λ g t. g ++ t ∷ []) (scope_more k es u.1) (shown_more k e u.0) ∙ sym (map_snoc (ashift 1 0) (scope k es) (shown k e))
+scope_more k (e ∷ es) u = ap₂ (λ g t. g ++ t ∷ []) (scope_more k es u.1) (shown_more k e u.0)
+    ∙ sym (map_snoc (ashift 1 0) (scope k es) (shown k e))
 
 one_more : (k : ℕ) (es : List Entry) (e : Entry) (t : a.ATy) → shown k e ≡ t → scope k (es ++ e ∷ []) ≡ t ∷ scope k es
 one_more k es e t is = scope_snoc k es e ∙ ap (λ u. u ∷ scope k es) is
 
-pub declared_is : (p : a.AProg) (x : a.ADecl) (k : ℕ) (es new : List Entry) (e : Entry) → new ≡ es ++ e ∷ [] → Under k es → shown (more_vars x k) e ≡ decl_ty p (scope k es) x → scope (more_vars x k) new ≡ declared p (scope k es) x
+pub declared_is : (p : a.AProg) (x : a.ADecl) (k : ℕ) (es new : List Entry) (e : Entry) → new ≡ es ++ e ∷ [] →
+    Under k es → shown (more_vars x k) e ≡ decl_ty p (scope k es) x →
+    scope (more_vars x k) new ≡ declared p (scope k es) x
 declared_is p x k es new e is u t = ap (scope (more_vars x k)) is ∙ go x t
   where
-    go : (y : a.ADecl) → shown (more_vars y k) e ≡ decl_ty p (scope k es) y → scope (more_vars y k) (es ++ e ∷ []) ≡ declared p (scope k es) y
+    go : (y : a.ADecl) → shown (more_vars y k) e ≡ decl_ty p (scope k es) y →
+        scope (more_vars y k) (es ++ e ∷ []) ≡ declared p (scope k es) y
     go (a.Value v) t = one_more k es e _ t
     go (a.Proj i v) t = one_more k es e _ t
     go (a.Arith o v w) t = one_more k es e _ t
-    go (a.Unpack v) t = one_more (suc k) es e _ t ∙ ap (λ g. decl_ty p (scope k es) (a.Unpack v) ∷ g) (scope_more k es u)
+    go (a.Unpack v) t = one_more (suc k) es e _ t
+        ∙ ap (λ g. decl_ty p (scope k es) (a.Unpack v) ∷ g) (scope_more k es u)
     go (a.Malloc ts) t = one_more k es e _ t
     go (a.Init v i w) t = one_more k es e _ t
 
@@ -138,7 +157,8 @@ under_at k [] j e lt is u = absurd (omega arith)
 under_at k (x ∷ es) zero e lt is u = subst (λ (y : Entry). y.names ≤ k) (sym is) u.0
 under_at k (x ∷ es) (suc j) e lt is u = under_at k es j e (omega arith) is u.1
 
-pub held : (es : List Entry) (v : a.AVal) (n j : ℕ) (e : Entry) → v ≡ a.Var n → j + suc n ≡ length es → e ≡ get_or es j e → (p : a.AProg) (k : ℕ) → Held p k es v e
+pub held : (es : List Entry) (v : a.AVal) (n j : ℕ) (e : Entry) → v ≡ a.Var n → j + suc n ≡ length es →
+    e ≡ get_or es j e → (p : a.AProg) (k : ℕ) → Held p k es v e
 held es v n j e is s at p k =
     (var_in k es n j e s at ∙ ap (type_of p (scope k es)) (sym is), λ u. under_at k es j e (omega (arith, s)) at u)
 
@@ -146,28 +166,38 @@ held es v n j e is s at p k =
 same_names : (k : ℕ) (e f : Entry) (t : a.ATy) → noted f ≡ t → f.names ≡ e.names → shown k f ≡ ashift (k - e.names) 0 t
 same_names k e f t is n = ap₂ (λ m u. ashift (k - m) 0 u) n is
 
-pub same_stands : (p : a.AProg) (k : ℕ) (es : List Entry) (v : a.AVal) (e f : Entry) → Held p k es v e → Under k es → noted f ≡ noted e → f.names ≡ e.names → Stands k (or_int (type_of p (scope k es) v)) f
+pub same_stands : (p : a.AProg) (k : ℕ) (es : List Entry) (v : a.AVal) (e f : Entry) → Held p k es v e →
+    Under k es → noted f ≡ noted e → f.names ≡ e.names → Stands k (or_int (type_of p (scope k es) v)) f
 same_stands p k es v e f h u t n =
     (same_names k e f (noted e) t n ∙ ap or_int h.0, subst (λ m. m ≤ k) (sym n) (h.1 u))
 
-pub filled_stands : (p : a.AProg) (k : ℕ) (es : List Entry) (v : a.AVal) (e f : Entry) (i m : ℕ) → Held p k es v e → Under k es → ((t : a.ATy) → filled_to m t ≡ filled_of i (Some (filled_to e.filled t))) → noted f ≡ filled_to m (atree e.ty.value) → f.names ≡ e.names → Stands k (filled_of i (type_of p (scope k es) v)) f
+pub filled_stands : (p : a.AProg) (k : ℕ) (es : List Entry) (v : a.AVal) (e f : Entry) (i m : ℕ) →
+    Held p k es v e → Under k es → ((t : a.ATy) → filled_to m t ≡ filled_of i (Some (filled_to e.filled t))) →
+    noted f ≡ filled_to m (atree e.ty.value) → f.names ≡ e.names → Stands k (filled_of i (type_of p (scope k es) v)) f
 filled_stands p k es v e f i m h u step t n = (
-  same_names k e f (filled_to m (atree e.ty.value)) t n ∙ ap (ashift (k - e.names) 0) (step (atree e.ty.value)) ∙ sym (filled_shift (k - e.names) i (noted e)) ∙ ap (filled_of i) h.0,
+  same_names k e f (filled_to m (atree e.ty.value)) t n ∙ ap (ashift (k - e.names) 0) (step (atree e.ty.value))
+      ∙ sym (filled_shift (k - e.names) i (noted e)) ∙ ap (filled_of i) h.0,
   subst (λ m. m ≤ k) (sym n) (h.1 u),
 )
 
 -- parts of a variable's type
-pub entry_field : (k i : ℕ) (e : Entry) → ashift (k - e.names) 0 (field_of i (Some (atree e.ty.value))) ≡ field_of i (Some (shown k e))
-entry_field k i e = ap (ashift (k - e.names) 0) (sym (field_filled_to i e.filled (atree e.ty.value))) ∙ sym (field_shift (k - e.names) i (noted e))
+pub entry_field : (k i : ℕ) (e : Entry) →
+    ashift (k - e.names) 0 (field_of i (Some (atree e.ty.value))) ≡ field_of i (Some (shown k e))
+entry_field k i e = ap (ashift (k - e.names) 0) (sym (field_filled_to i e.filled (atree e.ty.value)))
+    ∙ sym (field_shift (k - e.names) i (noted e))
 
-pub entry_body : (k : ℕ) (e : Entry) → e.filled ≡ 0 → ashift (k - e.names) 1 (body_of (Some (atree e.ty.value))) ≡ body_of (Some (shown k e))
-entry_body k e none = ap (λ n. ashift (k - e.names) 1 (body_of (Some (filled_to n (atree e.ty.value))))) (sym none) ∙ sym (body_shift (k - e.names) (noted e))
+pub entry_body : (k : ℕ) (e : Entry) → e.filled ≡ 0 →
+    ashift (k - e.names) 1 (body_of (Some (atree e.ty.value))) ≡ body_of (Some (shown k e))
+entry_body k e none = ap (λ n. ashift (k - e.names) 1 (body_of (Some (filled_to n (atree e.ty.value))))) (sym none)
+    ∙ sym (body_shift (k - e.names) (noted e))
 
 pub entry_hides : (k : ℕ) (e : Entry) → 1 ≤ e.filled → a.AInt ≡ body_of (Some (shown k e))
-entry_hides k e some = ap (ashift (k - e.names) 1) (sym (body_filled_to e.filled (atree e.ty.value) some)) ∙ sym (body_shift (k - e.names) (noted e))
+entry_hides k e some = ap (ashift (k - e.names) 1) (sym (body_filled_to e.filled (atree e.ty.value) some))
+    ∙ sym (body_shift (k - e.names) (noted e))
 
 -- a package, from the last that is put round it
-packed_last : (p : a.AProg) (g : List a.ATy) (v : a.AVal) (ws : List AWrap) (i : ℕ) (x : AWrap) (h s : AType) → i + 1 ≡ length ws → x ≡ get_or ws i x → x ≡ Pack h s → Some (atree s) ≡ type_of p g (wrapped v ws)
+packed_last : (p : a.AProg) (g : List a.ATy) (v : a.AVal) (ws : List AWrap) (i : ℕ) (x : AWrap) (h s : AType) →
+    i + 1 ≡ length ws → x ≡ get_or ws i x → x ≡ Pack h s → Some (atree s) ≡ type_of p g (wrapped v ws)
 packed_last p g v ws i x h s n is e =
     sym (
     ap (λ ys. type_of p g (wrapped v ys)) (sym (take_all (i + 1) ws (omega (arith, n))))
@@ -175,6 +205,8 @@ packed_last p g v ws i x h s n is e =
     ∙ ap (λ (y : AWrap). type_of p g (wrap y (wrapped v (take i ws)))) e
     )
 
-pub packed_of : (p : a.AProg) (g : List a.ATy) (v : a.AVal) (ws xs : List AWrap) → xs ≡ ws → (i : ℕ) (x : AWrap) (h s : AType) → i + 1 ≡ length xs → x ≡ get_or xs i x → x ≡ Pack h s → Some (atree s) ≡ type_of p g (wrapped v ws)
+pub packed_of : (p : a.AProg) (g : List a.ATy) (v : a.AVal) (ws xs : List AWrap) → xs ≡ ws →
+    (i : ℕ) (x : AWrap) (h s : AType) → i + 1 ≡ length xs → x ≡ get_or xs i x → x ≡ Pack h s →
+    Some (atree s) ≡ type_of p g (wrapped v ws)
 packed_of p g v ws xs same i x h s n is e =
     packed_last p g v xs i x h s n is e ∙ ap (λ ys. type_of p g (wrapped v ys)) same

@@ -8,10 +8,15 @@ use Rattle.a_terms.specs.declared.types.AType.{AType}
 use Rattle.a_terms.specs.declared.nodes.AValue.{AValue}
 use Rattle.a_terms.specs.ReadLaws.{fsnoc, afields_snoc, took}
 
-full_snoc : (cs : List (AValue × AType)) (c : AValue × AType) → data_fields (a_consts (cs ++ c ∷ [])) ≡ fsnoc (data_fields (a_consts cs)) (atree c.1) true
+full_snoc : (cs : List (AValue × AType)) (c : AValue × AType) →
+    data_fields (a_consts (cs ++ c ∷ [])) ≡ fsnoc (data_fields (a_consts cs)) (atree c.1) true
 full_snoc [] c = refl
 full_snoc (x ∷ cs) c = ap (a.MoreAFields (atree x.1) true) (full_snoc cs c)
 
-pub full_push : (xs : List (AType × Bool)) (x : AType) (cs : List (AValue × AType)) (i : ℕ) (c : AValue × AType) (new : List (AType × Bool)) → i < length cs → c ≡ get_or cs i c → new ≡ xs ++ (x, true) ∷ [] → atree x ≡ atree c.1 → afields xs ≡ data_fields (a_consts (take i cs)) → afields new ≡ data_fields (a_consts (take (i + 1) cs))
+pub full_push : (xs : List (AType × Bool)) (x : AType) (cs : List (AValue × AType)) (i : ℕ) (c : AValue × AType)
+    (new : List (AType × Bool)) → i < length cs → c ≡ get_or cs i c → new ≡ xs ++ (x, true) ∷ [] →
+    atree x ≡ atree c.1 → afields xs ≡ data_fields (a_consts (take i cs)) →
+    afields new ≡ data_fields (a_consts (take (i + 1) cs))
 full_push xs x cs i c new lt is n same h =
-    ap afields n ∙ afields_snoc xs (x, true) ∙ ap₂ (λ us u. fsnoc us u true) h same ∙ sym (ap (λ ds. data_fields (a_consts ds)) (took cs i c lt is) ∙ full_snoc (take i cs) c)
+    ap afields n ∙ afields_snoc xs (x, true) ∙ ap₂ (λ us u. fsnoc us u true) h same
+    ∙ sym (ap (λ ds. data_fields (a_consts ds)) (took cs i c lt is) ∙ full_snoc (take i cs) c)

@@ -1,6 +1,7 @@
-//! The program `pass_sizes SHAPE N PASS`: makes a source term of this shape with about N parts, larger than any text may
-//! be, and takes it through the passes up to PASS. It prints nothing: it serves the measuring of the passes one by one.
-//! It ends with 0 where PASS is done, with 1 where memory is wanted or the term is refused, and with 2 for other words.
+//! The program `pass_sizes SHAPE N PASS`: makes a source term of this shape with about N parts, larger than any text
+//! may be, and takes it through the passes up to PASS. It prints nothing: it serves the measuring of the passes one by
+//! one. It ends with 0 where PASS is done, with 1 where memory is wanted or the term is refused, and with 2 for other
+//! words.
 #![tactic(auto)]
 
 mod passes;

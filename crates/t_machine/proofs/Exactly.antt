@@ -14,7 +14,8 @@ module _ (laws : ProgramLaws) where
   no_later : (P : TProg) (n m : ℕ) (i : ℤ) (t : State) (q : Place) → HaltedAfter P n i → After P m t q → n < m → ⊥
   no_later P n m i t q h run lt = omega (arith, laws.last P n m i t q h run)
 
-  halted_state : (P : TProg) (n : ℕ) (i : ℤ) (t : State) (q : Place) → HaltedAfter P n i → After P n t q → HaltedWith t i
+  halted_state : (P : TProg) (n : ℕ) (i : ℤ) (t : State) (q : Place) → HaltedAfter P n i → After P n t q →
+      HaltedWith t i
   halted_state P n i t q h run = subst (λ u. HaltedWith u i) (laws.one P n h.0 t h.1 q h.2 run).0 h.3
 
   both_halted : (P : TProg) (n m : ℕ) (i j : ℤ) → HaltedAfter P n i → HaltedAfter P m j → (i ≡ j) × (n ≡ m)
@@ -30,7 +31,8 @@ module _ (laws : ProgramLaws) where
   pub going_not_halted : (P : TProg) (n m : ℕ) (i : ℤ) → HaltedAfter P n i → GoesOnAfter P m → n ≤ m → ⊥
   going_not_halted P n m i h k le = ⊎_elim
       (λ (lt : n < m). no_later P n m i k.0 k.1 h k.2 lt)
-      (λ (ge : m ≤ n). let e : n ≡ m = omega arith in k.3 i (halted_state P m i k.0 k.1 (subst (λ a. HaltedAfter P a i) e h) k.2))
+      (λ (ge : m ≤ n). let e : n ≡ m = omega arith in
+      k.3 i (halted_state P m i k.0 k.1 (subst (λ a. HaltedAfter P a i) e h) k.2))
       (cases_lt n m)
 
   pub halted_exactly : HaltedExactly
@@ -52,6 +54,7 @@ module _ (laws : ProgramLaws) where
       (cases_lt made k)
 
   pub spent_exactly : SpentExactly
-  spent_exactly P whole acc m n (Halted value made) ran goes = let le = ran.0 in going_not_halted P (m + made) (m + n) value ran.1 goes (omega arith)
+  spent_exactly P whole acc m n (Halted value made) ran goes = let le = ran.0 in
+      going_not_halted P (m + made) (m + n) value ran.1 goes (omega arith)
   spent_exactly P whole acc m n Spent ran goes = tt
   spent_exactly P whole acc m n (NoMemory made) ran goes = tt

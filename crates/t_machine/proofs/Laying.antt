@@ -21,12 +21,14 @@ begins_snoc n (d ∷ cs) c =
     let more : n + size d + sizes cs ≡ n + (size d + sizes cs) = omega arith in
     ap (λ ks. n ∷ ks) (begins_snoc (n + size d) cs c ∙ ap (λ k. begins (n + size d) cs ++ k ∷ []) more)
 
-pub begins_more : (ks : List ℕ) (n : ℕ) (cs : List ESeq) (c : ESeq) → ks ≡ begins 0 cs → n ≡ sizes cs → ks ++ n ∷ [] ≡ begins 0 (cs ++ c ∷ [])
+pub begins_more : (ks : List ℕ) (n : ℕ) (cs : List ESeq) (c : ESeq) → ks ≡ begins 0 cs → n ≡ sizes cs →
+    ks ++ n ∷ [] ≡ begins 0 (cs ++ c ∷ [])
 begins_more ks n cs c is count =
     let all : n ≡ 0 + sizes cs = omega (arith, count) in
     ap (λ xs. xs ++ n ∷ []) is ∙ ap (λ k. begins 0 cs ++ k ∷ []) all ∙ sym (begins_snoc 0 cs c)
 
-pub sizes_more : {T : Type 0} (os done now : List T) (cs : List ESeq) (c : ESeq) → now ≡ os ++ done → length os ≡ sizes cs → size c ≡ length done → length now ≡ sizes (cs ++ c ∷ [])
+pub sizes_more : {T : Type 0} (os done now : List T) (cs : List ESeq) (c : ESeq) → now ≡ os ++ done →
+    length os ≡ sizes cs → size c ≡ length done → length now ≡ sizes (cs ++ c ∷ [])
 sizes_more os done now cs c is count one = omega (arith, ap length is, length-append os done, sizes_snoc cs c)
 
 pub size_of_end : (e : TEnd) → size (erase_end e) ≡ 1
@@ -55,7 +57,8 @@ read_back cs b c i j at v w = read_from 0 cs b c i j at v w
 pub adds_none : (m : PlaceList) (Q : ℕ → Type 0) → Adds m m Q
 adds_none m Q r k h = inl (k, h)
 
-pub adds_both : (m n p : PlaceList) (Q R S : ℕ → Type 0) → Adds m n Q → Adds n p R → ((r : ℕ) → Q r → S r) → ((r : ℕ) → R r → S r) → Adds m p S
+pub adds_both : (m n p : PlaceList) (Q R S : ℕ → Type 0) → Adds m n Q → Adds n p R → ((r : ℕ) → Q r → S r) →
+    ((r : ℕ) → R r → S r) → Adds m p S
 adds_both m n p Q R S a b f g r k h =
     ⊎_elim
     (λ (x : HasPlace n r).
@@ -74,17 +77,22 @@ in_last : (cs : List ESeq) (c : ESeq) (r : ℕ) → InBlock c r → InBlocks (cs
 in_last [] c r h = inl h
 in_last (d ∷ cs) c r h = inr (in_last cs c r h)
 
-pub named_more : (m n : PlaceList) (cs : List ESeq) (c : ESeq) → ((r k : ℕ) → place_of m r ≡ Some k → InBlocks cs r) → Adds m n (InBlock c) → (r k : ℕ) → place_of n r ≡ Some k → InBlocks (cs ++ c ∷ []) r
+pub named_more : (m n : PlaceList) (cs : List ESeq) (c : ESeq) →
+    ((r k : ℕ) → place_of m r ≡ Some k → InBlocks cs r) → Adds m n (InBlock c) → (r k : ℕ) →
+    place_of n r ≡ Some k → InBlocks (cs ++ c ∷ []) r
 named_more m n cs c named adds r k h =
     ⊎_elim (λ (x : HasPlace m r). in_more cs c r (named r x.0 x.1)) (λ (x : InBlock c r). in_last cs c r x) (adds r k h)
 
 -- a register that gets a place
-pub one_added : (old new : PlaceList) (register : ℕ) → ((q : ℕ) → is_at (nat_cmp register) q ≡ false → place_of new q ≡ place_of old q) → Adds old new (λ r. r ≡ register)
+pub one_added : (old new : PlaceList) (register : ℕ) →
+    ((q : ℕ) → is_at (nat_cmp register) q ≡ false → place_of new q ≡ place_of old q) → Adds old new (λ r. r ≡ register)
 one_added old new register keeps r k h =
     ⊎_elim
-    (λ (lt : r < register). let other : is_at (nat_cmp register) r ≡ false = ap is_eq (sym (nat_cmp_is register r Greater lt)) in inl (k, sym (keeps r other) ∙ h))
+    (λ (lt : r < register). let other : is_at (nat_cmp register) r ≡ false =
+    ap is_eq (sym (nat_cmp_is register r Greater lt)) in inl (k, sym (keeps r other) ∙ h))
     (λ (ge : register ≤ r). ⊎_elim
-    (λ (gt : register < r). let other : is_at (nat_cmp register) r ≡ false = ap is_eq (sym (nat_cmp_is register r Less gt)) in inl (k, sym (keeps r other) ∙ h))
+    (λ (gt : register < r). let other : is_at (nat_cmp register) r ≡ false =
+    ap is_eq (sym (nat_cmp_is register r Less gt)) in inl (k, sym (keeps r other) ∙ h))
     (λ (le : r ≤ register). inr (omega arith))
     (cases_lt register r))
     (cases_lt r register)

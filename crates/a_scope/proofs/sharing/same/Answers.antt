@@ -4,4 +4,5 @@ use Rattle.a_scope.proofs.sharing.same.Goals as goal
 
 pub returns-in_ok-made-in-Some : goal.returns-in_ok-made-in-Some
 returns-in_ok-made-in-Some c = λ p.
-    same_stands p c.args.names c.args.vars.now (a_value c.args.v.now) c.in-Some.entry.now c.in_ok-made-in-Some.made (c.in-Some.ensures p c.args.names) c.requires c.in_ok-made-in-Some.ensures.ty c.in_ok-made-in-Some.ensures.names
+    same_stands p c.args.names c.args.vars.now (a_value c.args.v.now) c.in-Some.entry.now c.in_ok-made-in-Some.made
+    (c.in-Some.ensures p c.args.names) c.requires c.in_ok-made-in-Some.ensures.ty c.in_ok-made-in-Some.ensures.names

@@ -11,7 +11,8 @@ returns-in_ok-made-in-Value c = λ p.
     let k = c.args.names in
     let g = scope k c.args.vars.now in
     let vs = a_values c.args.values.now in
-    subst (λ (f : AForm). MayStand (more_vars (a_decl f vs) k) (decl_ty p g (a_decl f vs)) made.made) (sym c.in-Value.is) (
+    subst (λ (f : AForm). MayStand (more_vars (a_decl f vs) k) (decl_ty p g (a_decl f vs)) made.made)
+    (sym c.in-Value.is) (
     subst (λ v. MayStand k (or_int (type_of p g v)) made.made) c.first.ensures (made.ensures p)
     )
 
@@ -21,6 +22,7 @@ returns-in_ok-made-in-Init c = λ p.
     let k = c.args.names in
     let g = scope k c.args.vars.now in
     let vs = a_values c.args.values.now in
-    subst (λ (f : AForm). MayStand (more_vars (a_decl f vs) k) (decl_ty p g (a_decl f vs)) made.made) (sym c.in-Init.is) (
+    subst (λ (f : AForm). MayStand (more_vars (a_decl f vs) k) (decl_ty p g (a_decl f vs)) made.made)
+    (sym c.in-Init.is) (
     subst (λ v. MayStand k (filled_of c.in-Init.i (type_of p g v)) made.made) c.first-in-Init.ensures (made.ensures p)
     )

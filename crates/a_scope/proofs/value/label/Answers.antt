@@ -8,7 +8,9 @@ use Rattle.a_scope.proofs.value.label.Goals as goal
 pub returns-in_ok-args : goal.returns-in_ok-args
 returns-in_ok-args c =
     let b = c.index-blocks-l.result in
-    ap Some (a_code b.owes c.in_ok-args.args ∙ ap (a.ACode b.owes) (c.in_ok-args.ensures ∙ ap atrees c.deref.ensures.value)) ∙ block_in c.args.blocks.now c.args.l b c.if-l-blocks.true c.index-blocks-l.is
+    ap Some (a_code b.owes c.in_ok-args.args
+    ∙ ap (a.ACode b.owes) (c.in_ok-args.ensures ∙ ap atrees c.deref.ensures.value))
+    ∙ block_in c.args.blocks.now c.args.l b c.if-l-blocks.true c.index-blocks-l.is
 
 pub returns-else-l-blocks : goal.returns-else-l-blocks
 returns-else-l-blocks c = block_out c.args.blocks.now c.args.l (omega (arith, c.if-l-blocks.false))

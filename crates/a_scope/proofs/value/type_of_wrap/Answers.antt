@@ -5,4 +5,5 @@ use Rattle.a_scope.specs.Scope.{wrap_type}
 use Rattle.a_scope.proofs.value.type_of_wrap.Goals as goal
 
 pub returns-in_ok-made-in-Pack : goal.returns-in_ok-made-in-Pack
-returns-in_ok-made-in-Pack c = ap Some c.in_ok-made-in-Pack.ensures ∙ ap (λ (w : AWrap). wrap_type w (maybe c.args.ty)) (sym c.in-Pack.is)
+returns-in_ok-made-in-Pack c = ap Some c.in_ok-made-in-Pack.ensures
+    ∙ ap (λ (w : AWrap). wrap_type w (maybe c.args.ty)) (sym c.in-Pack.is)

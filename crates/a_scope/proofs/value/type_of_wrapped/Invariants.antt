@@ -7,4 +7,5 @@ use Rattle.a_scope.specs.Scope.{scope}
 use Rattle.a_scope.proofs.value.type_of_wrapped.Given as goal
 
 abbrev pub invariant-loop-w : goal.invariant-loop-w
-invariant-loop-w l = maybe l.made ≡ type_of (program_in l.program) (scope l.names l.vars) (wrapped (base l.v.base) (take l.w-index l.v.wraps.items))
+invariant-loop-w l = maybe l.made ≡ type_of (program_in l.program) (scope l.names l.vars)
+    (wrapped (base l.v.base) (take l.w-index l.v.wraps.items))

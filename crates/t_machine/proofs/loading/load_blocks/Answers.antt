@@ -20,5 +20,6 @@ loop-block-preserved c =
     record {
       code = subst (λ (ds : List ESeq). IsCode c.load_block.new.code ds) all (made.code cs inv.code);
       laid = subst (λ (ds : List ESeq). IsLaid c.load_block.new.code ds) all (made.laid cs inv.laid);
-      named = subst (λ (ds : List ESeq). IsNamed c.load_block.new.code ds) all (named_more c.loop-block.code.places c.load_block.new.code.places cs b inv.named made.named);
+      named = subst (λ (ds : List ESeq). IsNamed c.load_block.new.code ds) all
+          (named_more c.loop-block.code.places c.load_block.new.code.places cs b inv.named made.named);
     }

@@ -17,10 +17,12 @@ loop-tuple-preserved c =
     let i = c.loop-tuple.tuple-index in
     let before : EHeap = map (map erase_datum) (data_of (take i xs)) in
     subst (λ (h : EHeap). IsHeap c.load_tuple.new.heap h)
-    (ap (λ (ys : List (Value × TType × Span)). map (map erase_datum) (data_of (take i xs)) ++ map erase_datum (plain_fields (data_fields ys)) ∷ []) c.deref.ensures.value
+    (ap (λ (ys : List (Value × TType × Span)). map (map erase_datum) (data_of (take i xs)) ++ map erase_datum
+    (plain_fields (data_fields ys)) ∷ []) c.deref.ensures.value
     ∙ sym (data_taken xs i c.tuple-item.result c.loop-tuple-test.true c.tuple-item.is))
     (c.in_ok-load_tuple.ensures (map (map erase_datum) (data_of (take i xs))) c.loop-tuple.invariant)
 
 pub returns : goal.returns
 returns c =
-    subst (λ (xs : List Data). IsHeap c.loop-tuple.heap (map (map erase_datum) (data_of xs))) (take_all c.loop-tuple.tuple-index c.args.tuples.now c.loop-tuple-test.false) c.loop-tuple.invariant
+    subst (λ (xs : List Data). IsHeap c.loop-tuple.heap (map (map erase_datum) (data_of xs)))
+    (take_all c.loop-tuple.tuple-index c.args.tuples.now c.loop-tuple-test.false) c.loop-tuple.invariant

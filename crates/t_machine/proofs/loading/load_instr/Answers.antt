@@ -19,8 +19,12 @@ returns-in_ok-v-in-Arith-clause-same c =
 
 pub returns-in-Mov-clause-named : goal.returns-in-Mov-clause-named
 returns-in-Mov-clause-named c =
-    subst (λ (i : Instr). OnOk c.load_move.result (Adds c.args.places.now c.load_move.new.places (InInstr (erase_instr (instr_tree i))))) (sym c.in-Mov.is) c.load_move.ensures.named
+    subst (λ (i : Instr). OnOk c.load_move.result
+    (Adds c.args.places.now c.load_move.new.places (InInstr (erase_instr (instr_tree i))))) (sym c.in-Mov.is)
+    c.load_move.ensures.named
 
 pub returns-in-Unpack-clause-named : goal.returns-in-Unpack-clause-named
 returns-in-Unpack-clause-named c =
-    subst (λ (i : Instr). OnOk c.load_move-in-Unpack.result (Adds c.args.places.now c.load_move-in-Unpack.new.places (InInstr (erase_instr (instr_tree i))))) (sym c.in-Unpack.is) c.load_move-in-Unpack.ensures.named
+    subst (λ (i : Instr). OnOk c.load_move-in-Unpack.result
+    (Adds c.args.places.now c.load_move-in-Unpack.new.places (InInstr (erase_instr (instr_tree i)))))
+    (sym c.in-Unpack.is) c.load_move-in-Unpack.ensures.named

@@ -14,7 +14,8 @@ use Rattle.t_machine.proofs.loading.load_tuple.Goals as goal
 
 pub loop-field-init : goal.loop-field-init
 loop-field-init c =
-    let same : c.len.result ≡ length c.args.heap.now.cells.items = omega (arith, c.len.ensures, c.args.heap.now.cells.ok.0) in
+    let same : c.len.result ≡ length c.args.heap.now.cells.items =
+    omega (arith, c.len.ensures, c.args.heap.now.cells.ok.0) in
     record {
       starts = c.in_ok-push.ensures.items ∙ ap (λ n. c.args.heap.now.starts.items ++ n ∷ []) same;
       cells = sym (append-nil (map word c.args.heap.now.cells.items));
@@ -31,9 +32,12 @@ loop-field-preserved c =
           ap (λ (ws : List Word). map word ws) c.in_ok-push-2.ensures.items
           ∙ map-append word l.heap.cells.items (c.data_word.result ∷ [])
           ∙ ap (λ ws. ws ++ word c.data_word.result ∷ []) l.invariant.cells
-          ∙ append_assoc (map word c.args.heap.now.cells.items) (map erase_datum (plain_fields (data_fields (take l.field-index xs)))) (word c.data_word.result ∷ [])
-          ∙ ap (λ w. map word c.args.heap.now.cells.items ++ (map erase_datum (plain_fields (data_fields (take l.field-index xs))) ++ w ∷ [])) c.data_word.ensures
-          ∙ ap (λ ws. map word c.args.heap.now.cells.items ++ ws) (sym (words_taken xs l.field-index c.field-item.result c.loop-field-test.true c.field-item.is));
+          ∙ append_assoc (map word c.args.heap.now.cells.items)
+          (map erase_datum (plain_fields (data_fields (take l.field-index xs)))) (word c.data_word.result ∷ [])
+          ∙ ap (λ w. map word c.args.heap.now.cells.items ++
+          (map erase_datum (plain_fields (data_fields (take l.field-index xs))) ++ w ∷ [])) c.data_word.ensures
+          ∙ ap (λ ws. map word c.args.heap.now.cells.items ++ ws)
+          (sym (words_taken xs l.field-index c.field-item.result c.loop-field-test.true c.field-item.is));
     }
 
 pub returns : goal.returns
@@ -42,4 +46,5 @@ returns c =
     let all = take_all l.field-index c.args.fields.now c.loop-field-test.false in
     λ h is.
     tuple_added c.args.heap.now l.heap h (map erase_datum (plain_fields (data_fields c.args.fields.now))) is
-    (l.invariant.cells ∙ ap (λ (xs : List (Value × TType × Span)). map word c.args.heap.now.cells.items ++ map erase_datum (plain_fields (data_fields xs))) all) l.invariant.starts
+    (l.invariant.cells ∙ ap (λ (xs : List (Value × TType × Span)). map word c.args.heap.now.cells.items ++ map
+    erase_datum (plain_fields (data_fields xs))) all) l.invariant.starts

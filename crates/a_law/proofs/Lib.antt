@@ -1,14 +1,7 @@
 mod CLaws
 mod Cells
-mod Fits
+mod Consts
 mod Meaning
-mod PutBack
-mod Regs
 mod Rel
 mod Rows
-mod Scopes
-mod Standing
-mod Thirds
 mod Tuples
-mod Types
-mod Typing

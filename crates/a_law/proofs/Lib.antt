@@ -1,7 +1,14 @@
 mod CLaws
 mod Cells
 mod Consts
+mod Data
+mod Fits
 mod Meaning
+mod Readings
+mod Regs
 mod Rel
 mod Rows
+mod Thirds
 mod Tuples
+mod Types
+mod Typing

@@ -15,10 +15,10 @@ both_true false b e = absurd (impossible e)
     impossible x = cc
 
 -- xs stand in D from number b on
-abbrev pub Within : List AConsts → ℕ → List AConsts → Type 0
-Within D b xs = (i : ℕ) (x : AConsts) → slice_get xs i ≡ Some x → slice_get D (b + i) ≡ Some x
+abbrev pub Within : {A : Type 0} → List A → ℕ → List A → Type 0
+Within {A} D b xs = (i : ℕ) (x : A) → slice_get xs i ≡ Some x → slice_get D (b + i) ≡ Some x
 
-nth_front : (xs ys : List AConsts) (i : ℕ) (x : AConsts) → slice_get xs i ≡ Some x → slice_get (xs ++ ys) i ≡ Some x
+nth_front : {A : Type 0} (xs ys : List A) (i : ℕ) (x : A) → slice_get xs i ≡ Some x → slice_get (xs ++ ys) i ≡ Some x
 nth_front [] ys i x e = absurd (impossible e)
   where
     impossible : None ≡ Some x → ⊥
@@ -26,20 +26,23 @@ nth_front [] ys i x e = absurd (impossible e)
 nth_front (z ∷ xs) ys zero x e = e
 nth_front (z ∷ xs) ys (suc i) x e = nth_front xs ys i x e
 
-nth_back : (xs ys : List AConsts) (i : ℕ) → slice_get (xs ++ ys) (length xs + i) ≡ slice_get ys i
+nth_back : {A : Type 0} (xs ys : List A) (i : ℕ) → slice_get (xs ++ ys) (length xs + i) ≡ slice_get ys i
 nth_back [] ys i = let e : 0 + i ≡ i = omega arith in ap (slice_get ys) e
 nth_back (x ∷ xs) ys i = let e : suc (length xs) + i ≡ suc (length xs + i) = omega arith in ap (slice_get (x ∷ (xs ++ ys))) e ∙ nth_back xs ys i
 
-pub front : (D : List AConsts) (b : ℕ) (xs ys : List AConsts) → Within D b (xs ++ ys) → Within D b xs
+pub front : {A : Type 0} (D : List A) (b : ℕ) (xs ys : List A) → Within D b (xs ++ ys) → Within D b xs
 front D b xs ys w i x e = w i x (nth_front xs ys i x e)
 
-pub back : (D : List AConsts) (b c : ℕ) (xs ys : List AConsts) → c ≡ b + length xs → Within D b (xs ++ ys) → Within D c ys
+pub back : {A : Type 0} (D : List A) (b c : ℕ) (xs ys : List A) → c ≡ b + length xs → Within D b (xs ++ ys) → Within D c ys
 back D b c xs ys q w i x e =
     let z : b + (length xs + i) ≡ c + i = omega (arith, q) in
     ap (slice_get D) (sym z) ∙ w (length xs + i) x (nth_back xs ys i ∙ e)
 
+pub whole : {A : Type 0} (D : List A) → Within D 0 D
+whole D i x e = let z : 0 + i ≡ i = omega arith in ap (slice_get D) z ∙ e
+
 -- a number after a tree is that before it and the count of the tree's data
-more_len : (b n : ℕ) (xs ys : List AConsts) → n ≡ b + length xs → (c : ℕ) → c ≡ n + length ys → c ≡ b + length (xs ++ ys)
+pub more_len : {A : Type 0} (b n : ℕ) (xs ys : List A) → n ≡ b + length xs → (c : ℕ) → c ≡ n + length ys → c ≡ b + length (xs ++ ys)
 more_len b n xs ys e c f = omega (arith, e, f, length-append xs ys)
 
 one_len : (c : Bool) (n : ℕ) (x : AConsts) → one_more c n ≡ n + length (pick c (x ∷ []) [])

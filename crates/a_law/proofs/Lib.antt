@@ -3,11 +3,14 @@ mod Cells
 mod Consts
 mod Data
 mod Fits
+mod Known
 mod Meaning
 mod Readings
 mod Regs
 mod Rel
 mod Rows
+mod Scopes
+mod Standing
 mod Thirds
 mod Tuples
 mod Types

@@ -1,6 +1,6 @@
 -- The numbers of data.
-use Rattle.std.proofs.Common.{◌≡◌, ℕ, zero, suc, ◌+◌, List, [], ◌∷◌, ◌++◌, length, Option, Some, None, refl, sym, ap, ◌∙◌, subst, arith, length-append, append_assoc}
-use Rattle.std.specs.Prelude.{Bool, true, false, ◌&&◌, not, slice_get}
+use Rattle.std.proofs.Common.{◌≡◌, ℕ, zero, suc, ◌+◌, List, [], ◌∷◌, ◌++◌, length, Some, None, refl, sym, ap, ◌∙◌, arith, length-append}
+use Rattle.std.specs.Prelude.{Bool, true, false, ◌&&◌, slice_get}
 use Rattle.a_law.specs.Allocate.{Known, are_const, arg_depth, arg_levels, atypes, d_next, d_types, data_all, data_block, data_d, data_t, data_v, data_vs, datum_of, known_of, n_all, n_block, n_d, n_t, n_v, n_vs, one_more, v_next}
 use Rattle.a_terms.specs.Meaning.{pick}
 use Rattle.a_terms.specs.Tree.{AConsts, ATy}

@@ -1,21 +1,21 @@
 -- The data of an allocated program are typed, and no package stands inside a package; their types have each property that
 -- those of the hoisted program have.
-use Rattle.std.proofs.Common.{◌≡◌, ◌<◌, ◌+◌, ℕ, zero, suc, List, [], ◌∷◌, ◌++◌, Option, Some, None, refl, sym, ap, ◌∙◌, subst, ap₂, arith}
-use Rattle.std.specs.Prelude.{Bool, true, false, ◌&&◌, not, nat_lt, map, slice_get}
+use Rattle.std.proofs.Common.{◌≡◌, ◌+◌, ℕ, zero, suc, List, [], ◌∷◌, ◌++◌, Option, Some, None, refl, sym, ap, ◌∙◌, subst, ap₂, arith}
+use Rattle.std.specs.Prelude.{Bool, true, false, ◌&&◌, not, map, slice_get}
 use Rattle.std.proofs.lemmas.Bool.{ltb-true}
 use Rattle.a_law.proofs.CLaws.{CLaws}
-use Rattle.a_law.proofs.Consts.{Within, back, both_true, datum_there, front, len_d, len_t, len_v, len_vs}
-use Rattle.a_law.proofs.Readings.{Labels-of, field_full, fields_are, full_is, own_of, owns, scope_shifted, type_read, types_read}
-use Rattle.a_law.proofs.Types.{apply_is, atype_hidden, atype_suc, below_is, types_below}
-use Rattle.a_law.specs.Allocate.{Known, afull, all_closed, are_const, arg_levels, atype, atypes, closed, const_of, d_const, d_next, d_types, data_d, data_t, data_v, data_vs, datum_of, fields_closed, is_const, is_label, is_pack, is_some, known_of, n_d, n_t, n_v, n_vs, named, or_zero, packs, plain, v_next, v_type, v_types, vs_next}
+use Rattle.a_law.proofs.Consts.{Within, back, both_true, datum_there, front, len_d, len_t, len_v}
+use Rattle.a_law.proofs.Readings.{Labels-of, field_full, fields_are, full_is, scope_shifted, type_read, types_read}
+use Rattle.a_law.proofs.Types.{apply_is, atype_hidden, atype_suc}
+use Rattle.a_law.specs.Allocate.{Known, afull, all_closed, are_const, arg_levels, atype, atypes, closed, const_of, d_next, d_types, data_d, data_t, data_v, data_vs, datum_of, fields_closed, is_const, is_label, is_pack, is_some, known_of, n_d, n_t, n_v, n_vs, named, or_zero, packs, plain, v_next, v_type}
 use Rattle.a_terms.specs.Each.{AAll, AProp, CsEach, TuplesEach, VEach}
 use Rattle.a_terms.specs.Meaning.{pick}
 use Rattle.a_terms.specs.Tree.{ABelow, ABelow-fields, ABelow-types, ACode, AConsts, AExists, AFields, AInt, AProg, ATuple, ATy, ATys, AVal, AVar, Apply, Data, Lab, MoreAFields, MoreATys, NoAFields, NoATys, Num, Pack, Var, ashift}
 use Rattle.a_terms.specs.TypeLaws.{below_apply, shift_below}
-use Rattle.a_terms.specs.Typing.{Data-ok, Fine, Flat, Has, Tuples-ok, Unpacked, applied, aset, body_of, code_type, data_fields, data_type, field_of, or_int, type_of}
+use Rattle.a_terms.specs.Typing.{Data-ok, Flat, Has, Tuples-ok, Unpacked, applied, aset, body_of, data_type, field_of, or_int}
 use Rattle.c_terms.specs.C.{CTy, CTys, MoreCTys, NoCTys, TCCode, TCInt, TCRef, TCSome, TCTuple, TCVar, ccount}
 use Rattle.c_terms.specs.Each.{CAll, CProp}
-use Rattle.c_terms.specs.Typing.{CAt, CIns, cargs_onto, crens_scope, csub, csubs, names, scons}
+use Rattle.c_terms.specs.Typing.{CAt, cargs_onto, crens_scope, csub, csubs, names, scons}
 use Rattle.h_terms.specs.Each.{HGoodP, HHasP, HHaveP}
 use Rattle.h_terms.specs.H.{HApply, HArith, HBlk, HBlks, HCall, HCell, HDecl, HGet, HHalt, HIf, HInt, HLabel, HLet, HName, HPack, HProj, HSet, HTm, HTuple, HUnpack, HVal, HVals, HVar, MoreHVals, NoHVals, block_at}
 use Rattle.term_core.specs.Ends.{lift}

@@ -250,9 +250,10 @@ module _ (ds : List HVal) where
       let x = fact ks g ls os a v b (front ds b us (ws ++ zs) wi) in
       let w2 = back ds b b1 us (ws ++ zs) x.long wi in
       let y = fact_t ks t g ls os b1 d1 a (front ds b1 ws zs w2) in
-      let z = fact_t ks u g ls os b2 d1 a (back ds b1 b2 ws zs y.0 w2) in
-      (more_len b b1 us (ws ++ zs) x.long (n_t ls b2 d1 u) (more_len b1 b2 ws zs y.0 (n_t ls b2 d1 u) z.0),
-      shows_both (data_v ks g ls b v) (data_t ks g ls b1 d1 t ++ data_t ks g ls b2 d1 u) us (ws ++ zs) x.shows (shows_both (data_t ks g ls b1 d1 t) (data_t ks g ls b2 d1 u) ws zs y.1 z.1))
+      let z = fact_t ks u g ls os b2 d1 a (back ds b1 b2 ws zs y.0 w2) in (
+        more_len b b1 us (ws ++ zs) x.long (n_t ls b2 d1 u) (more_len b1 b2 ws zs y.0 (n_t ls b2 d1 u) z.0),
+        shows_both (data_v ks g ls b v) (data_t ks g ls b1 d1 t ++ data_t ks g ls b2 d1 u) us (ws ++ zs) x.shows (shows_both (data_t ks g ls b1 d1 t) (data_t ks g ls b2 d1 u) ws zs y.1 z.1),
+      )
   fact_t ks (HHalt v) g ls os b d a wi = let x = fact ks g ls os a v b wi in (x.long, x.shows)
 
   pub fact_block : (ks : HBlks) (x : HBlk) (b : ℕ) → Within ds b (tuples_t (of_args x.args []) x.body) →

@@ -2,15 +2,15 @@
 use Rattle.std.proofs.Common.{◌≡◌, ◌+◌, ℕ, zero, suc, ◌==◌, nat_eq, List, [], ◌∷◌, length, ◌++◌, Option, Some, None, refl, sym, ap, ◌∙◌, subst, arith, ⊎_elim}
 use Rattle.std.proofs.lemmas.Bool.{eqb-true, eq-eqb, ne_eqb, cases_eq}
 use Rattle.std.specs.Prelude.{Bool, true, false}
-use Rattle.std.specs.Prelude.{map, option_map, slice_get, slice_set}
+use Rattle.std.specs.Prelude.{map, slice_get, slice_set}
 use Rattle.idx_core.specs.Arith.{is_zero}
 use Rattle.idx_core.specs.declared.arith.Op.{Op}
 use Rattle.a_terms.specs.Meaning as A
 use Rattle.a_law.proofs.Cells.{cell_holds, held_at, moves_cell, moves_set, stores_cell, stores_grow, stores_set, valid_of}
-use Rattle.a_law.proofs.Rel.{Agree, Holds, Names, Grows, Later, Moves, Rel, Rels, Stores, agree_later, all_read, at_more, at_new, fresh, moves_grow, moves_on, nth_more, nth_seam, rel_grows, valid_grows}
-use Rattle.a_law.proofs.Tuples.{Comes, comes_v, comes_vs, init_step}
-use Rattle.a_law.specs.Allocate.{Known, alloc_all, alloc_block, alloc_data, alloc_main, alloc_prog, alloc_t, arg_depth, arg_levels, atypes, const_of, d_const, d_next, d_types, data_all, data_block, data_d, data_t, data_v, data_vs, dcl, is_const, known_of, n_all, n_block, n_d, n_t, n_v, n_vs, plain, pre_d, pre_v, pre_vs, v_next, v_type, val, vals, vs_next}
-use Rattle.a_law.proofs.Consts.{Within, back, front, len_all, len_block, len_d, len_t, len_v, len_vs}
+use Rattle.a_law.proofs.Rel.{Agree, Names, Grows, Later, Moves, Rel, Rels, Stores, agree_later, all_read, at_more, at_new, fresh, moves_grow, moves_on, nth_more, nth_seam, rel_grows, valid_grows}
+use Rattle.a_law.proofs.Tuples.{comes_v, comes_vs, init_step}
+use Rattle.a_law.specs.Allocate.{Known, alloc_all, alloc_block, alloc_data, alloc_main, alloc_prog, alloc_t, arg_depth, arg_levels, atypes, const_of, d_const, d_next, d_types, data_all, data_block, data_d, data_t, data_v, data_vs, dcl, is_const, known_of, n_all, n_block, n_d, n_t, n_v, plain, pre_d, pre_v, pre_vs, v_next, v_type, val, vals, vs_next}
+use Rattle.a_law.proofs.Consts.{Within, back, front, len_all, len_block, len_d, len_t, len_v}
 use Rattle.a_law.specs.Statements.{ends}
 use Rattle.a_terms.specs.Tree.{ABlk, AConsts, AVal, ATm, ATy, Arith, Call, Halt, If0, Init, Let, Malloc, MoreATys, NoATys, arity}
 use Rattle.a_terms.specs.Typing.{types_of}
@@ -20,6 +20,7 @@ use Rattle.h_terms.specs.H.{HArith, HBlk, HBlks, HCall, HCell, HDecl, HGet, HHal
 use Rattle.h_terms.specs.Meaning.{HEnter, HFails, HGives, HMade, HWord, HWords, MoreHWords, NoHWords, YCell, YInt, YLabel, YTuple, hat_zero, hd_value, henter, hfield, hget, hgiven, hhalt_with, hheld, hhold, honto, hopen, hoperate, hproject, hrun, hset, hsize, hterm, hv_value, hvs_value, hwith_value, with_block}
 use Rattle.h_terms.specs.Typing.{HProgramGood}
 use Rattle.term_core.specs.Ends.{End, Halted, Result, Spent, Stuck, enters, if_fits, pick, stops}
+
 -- a run that is not stuck
 
 -- a run that is not stuck
@@ -104,9 +105,16 @@ module _ (ks : HBlks) (D : List AConsts) where
     settle : (e : HDecl) (o : Option HWord) (m : List ℕ) (h heap : A.AHeap) (d : ℕ) (env vars : List A.AWord) (st : HWords) → ((rest : ATm) → A.term next (pre_d ks g ls b d e rest) env h log ≡ A.term next rest vars heap log) → Later d env (d_next ls d e) vars → Grows h heap → Stores D m h st → OptRel m heap o (A.decl (dcl ls b d e) vars heap) → ((w : A.AWord) → Names (d_const ls b e) w) → Declared e m h d env (hgiven o st)
     settle e None m h heap d env vars st run k gr s r nm = tt
     settle e (Some y) m h heap d env vars st run k gr s r nm = record {
-      cells = m; heap = heap; vars = vars; word = r.0;
+      cells = m;
+      heap = heap;
+      vars = vars;
+      word = r.0;
       runs = λ rest. (run (Let (dcl ls b d e) rest) ∙ ap (λ q. A.made q log (λ w h2. A.term next rest (w ∷ vars) h2 log)) r.1);
-      later = k; moves = moves_grow m h heap gr; stores = stores_grow D m h heap st gr s; good = r.2; names = nm r.0;
+      later = k;
+      moves = moves_grow m h heap gr;
+      stores = stores_grow D m h heap st gr s;
+      good = r.2;
+      names = nm r.0;
     }
 
     -- an assignment
@@ -125,7 +133,10 @@ module _ (ks : HBlks) (D : List AConsts) where
         let d2 = v_next ls (v_next ls d v) w in
         let init : A.decl (Init (val ls b d d2 v) 1 (val ls (n_v ls b v) (v_next ls d v) d2 w)) vars heap ≡ A.Gives (A.ZTuple a) h2 = rw (ev, r.1, ew, old.3) refl in
         record {
-          cells = m; heap = h2 ++ [] ∷ []; vars = A.ZTuple a ∷ vars; word = A.ZTuple (length h2);
+          cells = m;
+          heap = h2 ++ [] ∷ [];
+          vars = A.ZTuple a ∷ vars;
+          word = A.ZTuple (length h2);
           runs = λ rest.
               (run (Let (Init (val ls b d d2 v) 1 (val ls (n_v ls b v) (v_next ls d v) d2 w)) (Let (Malloc NoATys) rest))
               ∙ ap (λ u. A.made u log (λ x h3. A.term next (Let (Malloc NoATys) rest) (x ∷ vars) h3 log)) init);
@@ -141,9 +152,15 @@ module _ (ks : HBlks) (D : List AConsts) where
         let x = comes_v next log D m ks g ls ys v b h d env wi (valid_of D m h st s) a in
         let o = x.good.2 (v_next ls d v) x.vars (λ k u q. q) in
         record {
-          cells = m; heap = x.heap; vars = x.vars; word = x.good.0;
+          cells = m;
+          heap = x.heap;
+          vars = x.vars;
+          word = x.good.0;
           runs = λ rest. (x.runs (Let (dcl ls b d (HName v)) rest) ∙ ap (λ q. A.made (A.given q (λ w. A.Gives w x.heap)) log (λ w h2. A.term next rest (w ∷ x.vars) h2 log)) o);
-          later = x.later; moves = moves_grow m h x.heap x.grows; stores = stores_grow D m h x.heap st x.grows s; good = x.good.1;
+          later = x.later;
+          moves = moves_grow m h x.heap x.grows;
+          stores = stores_grow D m h x.heap st x.grows s;
+          good = x.good.1;
           names = names_if (is_const ls v) (const_of ls b v) x.good.0 x.good.3;
         }
     declare (HProj i v) wi m h d env st s a =
@@ -180,7 +197,10 @@ module _ (ks : HBlks) (D : List AConsts) where
         let h2 = x.heap ++ (Some w ∷ []) ∷ [] in
         let s2 = stores_grow D m h x.heap st x.grows s in
         record {
-          cells = m ++ at ∷ []; heap = h2; vars = vars; word = A.ZTuple at;
+          cells = m ++ at ∷ [];
+          heap = h2;
+          vars = vars;
+          word = A.ZTuple at;
           runs = λ rest.
               (x.runs (Let (Malloc (MoreATys (v_type ks g v) NoATys)) (Let (Init (Rattle.a_terms.specs.Tree.Var 0) 1 (val ls b d (suc l) v)) rest))
               ∙ ap (λ u. A.made u log (λ z h3. A.term next rest (z ∷ vars) h3 log)) step);

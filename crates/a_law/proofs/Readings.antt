@@ -1,6 +1,6 @@
 -- Types that are read off, and what the properties of a hoisted program say of them.
-use Rattle.std.proofs.Common.{◌≡◌, ℕ, zero, suc, List, [], ◌∷◌, Some, None, refl, sym, ap, ◌∙◌, subst, ap₂}
-use Rattle.std.specs.Prelude.{map, slice_get, true, false}
+use Rattle.std.proofs.Common.{◌≡◌, ℕ, zero, suc, List, [], ◌∷◌, Some, refl, sym, ap, ◌∙◌, subst, ap₂}
+use Rattle.std.specs.Prelude.{map, slice_get, true}
 use Rattle.a_law.proofs.CLaws.{CLaws}
 use Rattle.a_law.proofs.Types.{apply_is, atype_suc}
 use Rattle.a_law.specs.Allocate.{Known, afull, atype, atypes, datum_of, h_code, n_v, v_type, v_types}

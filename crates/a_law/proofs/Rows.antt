@@ -1,11 +1,11 @@
 -- Worked rows of allocation: hoisted terms and what they become, held beside the relation, and allocated terms that no
 -- hoisted term stands behind.
-use Rattle.std.proofs.Common.{pos, ◌≡◌, ℕ, suc, List, [], ◌∷◌, length, Option, Some, None, refl, ap, ◌∙◌, sym, arith, inl, inr}
+use Rattle.std.proofs.Common.{pos, ◌≡◌, ℕ, suc, List, [], ◌∷◌, length, refl, ap, ◌∙◌, sym, arith, inl, inr}
 use Rattle.std.specs.Prelude.{true}
 use Rattle.a_terms.specs.Meaning.{Halted, meaning}
 use Rattle.a_terms.specs.Tree.{AInt, AVar, ATuple, AExists, ATy, NoATys, MoreATys, MoreAFields, NoAFields, AVal, Var, Num, Lab, Data, Apply, Pack, Value, Proj, Malloc, Init, ATm, Let, Halt}
 use Rattle.c_terms.specs.C.{CTy, TCInt, TCRef, TCVar, TCSome, NoCTys, MoreCTys}
-use Rattle.h_terms.specs.H.{HVar, HInt, HLabel, HTuple, HApply, HPack, HVal, HVals, NoHVals, MoreHVals, HName, HProj, HCell, HGet, HSet, HTm, HLet, HHalt, HBlk}
+use Rattle.h_terms.specs.H.{HVar, HInt, HLabel, HTuple, HApply, HPack, HVal, NoHVals, MoreHVals, HName, HProj, HCell, HGet, HSet, HTm, HLet, HHalt, HBlk}
 use Rattle.a_law.specs.Allocate.{alloc_data, alloc_main, alloc_prog, atype}
 use Rattle.a_law.specs.Back.{back_data, back_t}
 use Rattle.a_law.specs.Constants.{settle_t, tuples_in}

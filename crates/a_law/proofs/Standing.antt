@@ -1,16 +1,16 @@
 -- The allocation of a typed program stands for it.
-use Rattle.std.proofs.Common.{◌≡◌, ◌<◌, ◌⊎◌, inl, inr, ℕ, zero, suc, ◌+◌, ◌-◌, List, [], ◌∷◌, ◌++◌, length, Some, None, refl, sym, ap, ap₂, ◌∙◌, subst, arith, slice_get, length-append}
-use Rattle.std.specs.Prelude.{Bool, true, false}
+use Rattle.std.proofs.Common.{◌≡◌, ◌<◌, inl, inr, ℕ, zero, suc, ◌+◌, ◌-◌, List, [], ◌∷◌, ◌++◌, length, Some, None, refl, sym, ap, ◌∙◌, subst, arith, slice_get, length-append}
+use Rattle.std.specs.Prelude.{Bool}
 use Rattle.a_law.proofs.Consts.{Within, back, front, whole}
-use Rattle.a_law.proofs.Known.{AgreeK, Con, Told, all_shows, agree_args, fact, fact_all, fact_block, fact_d, fact_t, facts}
+use Rattle.a_law.proofs.Known.{AgreeK, Told, all_shows, agree_args, fact, fact_all, fact_block, fact_d, fact_t}
 use Rattle.a_law.proofs.Rel.{At, Later, at_more, at_new}
 use Rattle.a_law.proofs.Scopes.{InT, InV, InVs, args_length, in_t}
-use Rattle.a_law.specs.Allocate.{Known, alloc_all, alloc_t, are_const, arg_depth, arg_levels, atypes, d_next, d_types, data_all, data_t, dcl, fill, final, known_of, level_of, n_all, n_block, n_d, n_t, n_v, n_vs, plain, pre_v, pre_vs, v_next, v_type, v_types, val, vals, var_of, vs_next}
+use Rattle.a_law.specs.Allocate.{Known, alloc_all, alloc_t, are_const, arg_depth, arg_levels, atypes, d_types, data_all, data_t, dcl, fill, final, known_of, level_of, n_all, n_block, n_d, n_t, n_v, n_vs, plain, pre_v, pre_vs, v_next, v_type, v_types, val, vals, var_of, vs_next}
 use Rattle.a_law.specs.Back.{arg_count}
 use Rattle.a_law.specs.Constants.{Constants, constant, named_by, of_args, one_if, tuples_all, tuples_d, tuples_in, tuples_t, tuples_v, tuples_vs}
 use Rattle.a_law.specs.Stands.{AllocStands, Any, Gone, Is, Making, Means, Stands_all, Stands_t, Stands_v, Stands_vs, Thing, arg_things, listed, named, thing_at}
 use Rattle.a_terms.specs.Meaning.{pick}
-use Rattle.a_terms.specs.Tree.{ATm, ATy, ATys, AVal, Call, Data, Halt, If0, Init, Let, Malloc, MoreATys, NoATys, Var, arity}
+use Rattle.a_terms.specs.Tree.{ATm, ATy, ATys, Call, Data, Halt, If0, Init, Let, Malloc, MoreATys, NoATys, Var, arity}
 use Rattle.a_terms.specs.Typing.{types_of}
 use Rattle.c_terms.specs.C.{CTys, MoreCTys, NoCTys}
 use Rattle.c_terms.specs.Typing.{cargs_onto}

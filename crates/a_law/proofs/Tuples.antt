@@ -1,8 +1,8 @@
 -- What a tree's tuples do before the rest runs.
 use Rattle.std.proofs.Common.{ap₂, ◌≡◌, ℕ, suc, ◌-◌, List, [], ◌∷◌, ◌++◌, length, Option, Some, None, refl, sym, ap, ◌∙◌, arith, append_assoc, length-append}
 use Rattle.std.specs.Prelude.{map, slice_get, slice_set, Bool, true, false, ◌&&◌, not}
-use Rattle.a_law.proofs.Consts.{Within, back, both_true, datum_there, front, len_v, len_vs}
-use Rattle.a_law.proofs.Rel.{Agree, Grows, Holds, Later, Moves, Read, Reads, Rel, Rels, Valid, agree_later, at_more, at_new, fresh, moves_grow, named_read, nth_more, nth_seam, put_seam, reads_later, rel_grows, rels_grow, valid_grows, var_read}
+use Rattle.a_law.proofs.Consts.{Within, back, both_true, datum_there, front, len_v}
+use Rattle.a_law.proofs.Rel.{Agree, Grows, Holds, Later, Read, Reads, Rel, Rels, Valid, agree_later, at_more, at_new, fresh, moves_grow, named_read, nth_more, nth_seam, put_seam, reads_later, rel_grows, rels_grow, valid_grows, var_read}
 use Rattle.a_law.specs.Allocate.{Known, all_closed, are_const, atype, atypes, closed, const_of, data_v, data_vs, datum_of, fill, final, is_const, is_label, n_v, n_vs, named, packs, pre_v, pre_vs, v_next, v_types, val, vs_next}
 use Rattle.a_terms.specs.Meaning.{AHeap, AWord, Gives, Next, ZInt, ZLabel, ZTuple, datum, decl, empties, made, pick, term, value}
 use Rattle.a_terms.specs.Tree.{AConsts, ATm, ATy, AVal, Data, Init, Let, Malloc, Var}
@@ -113,7 +113,11 @@ module _ (next : Next) (log : List ℕ) where
     tuple_comes vs b h d env p k0 a f true c =
         let r = const_rel (HTuple vs) b h d env p k0.kept a c in
         (record {
-          heap = h; vars = env; runs = λ rest. refl; grows = λ p fs q. q; later = λ k x y. y;
+          heap = h;
+          vars = env;
+          runs = λ rest. refl;
+          grows = λ p fs q. q;
+          later = λ k x y. y;
           good = (r.0, r.1, λ d3 env3 k. r.2, λ e. r.2);
         })
     tuple_comes vs b h d env p k0 a f false c =
@@ -132,8 +136,12 @@ module _ (next : Next) (log : List ℕ) where
               ∙ z.runs rest);
           grows = λ p fs q. more p fs (f.grows p fs q);
           later = λ k x y. z.later k x (on k x (f.later k x y));
-          good = (ZTuple at, (at, f.good.0, refl, nth_seam f.heap [] full at refl, fresh D m f.heap (valid_grows D m h f.heap f.grows k0), rels_grow (hvs_value vs ys) f.good.0 m f.heap (f.heap ++ full ∷ []) more f.good.1),
-          (λ d3 env3 k. (k (final l vs) (ZTuple at) (at_new (final l vs) z.vars (ZTuple at))).1), λ e. absurd (clash e));
+          good = (
+            ZTuple at,
+            (at, f.good.0, refl, nth_seam f.heap [] full at refl, fresh D m f.heap (valid_grows D m h f.heap f.grows k0), rels_grow (hvs_value vs ys) f.good.0 m f.heap (f.heap ++ full ∷ []) more f.good.1),
+            (λ d3 env3 k. (k (final l vs) (ZTuple at) (at_new (final l vs) z.vars (ZTuple at))).1),
+            λ e. absurd (clash e),
+          );
         })
 
     mutual
@@ -166,6 +174,9 @@ module _ (next : Next) (log : List ℕ) where
             runs = λ rest. (x.runs (pre_vs ks g ls b1 d2 vs rest) ∙ y.runs rest);
             grows = λ p fs q. y.grows p fs (x.grows p fs q);
             later = λ k u q. y.later k u (x.later k u q);
-            good = (x.good.0 ∷ y.good.0, (x.good.0, y.good.0, refl, rel_grows (hv_value v ys) x.good.0 m x.heap y.heap y.grows x.good.1, y.good.1),
-            (λ d3 env3 k. x.good.2 d3 env3 (λ p u q. k p u (y.later p u q)), y.good.2));
+            good = (
+              x.good.0 ∷ y.good.0,
+              (x.good.0, y.good.0, refl, rel_grows (hv_value v ys) x.good.0 m x.heap y.heap y.grows x.good.1, y.good.1),
+              (λ d3 env3 k. x.good.2 d3 env3 (λ p u q. k p u (y.later p u q)), y.good.2),
+            );
           }

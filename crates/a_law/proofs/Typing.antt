@@ -14,10 +14,10 @@ use Rattle.a_terms.specs.Each.{AAll, AProp, BsEach, DEach, ProgramEach, TEach, T
 use Rattle.a_terms.specs.Meaning.{pick}
 use Rattle.a_terms.specs.Tree.{ABelow-types, ABlk, ACode, ADecl, AFields, AInt, AProg, ATm, ATuple, ATy, AVal, Call, Data, Halt, If0, Init, Let, Malloc, MoreAFields, MoreATys, NoAFields, NoATys, Var, ashift}
 use Rattle.a_terms.specs.TypeLaws.{All-below, Args-below, below_args, data_at, data_below, declared_below, type_below}
-use Rattle.a_terms.specs.Typing.{All-have, Blocks-ok, Decl-ok, Fine, Has, Program-ok, Term-ok, Tuples-ok, aapply, afield_flag, afield_type, afilled, applied, aset, aunset, body_of, code_type, data_type, declared, field_of, filled_of, more_vars, or_int, type_of, types_of}
+use Rattle.a_terms.specs.Typing.{All-have, Blocks-ok, Decl-ok, Fine, Has, Program-ok, Term-ok, Tuples-ok, afield_type, afilled, applied, aset, aunset, body_of, code_type, data_type, declared, field_of, filled_of, more_vars, or_int, type_of, types_of}
 use Rattle.c_terms.specs.C.{CTy, CTys, MoreCTys, NoCTys, TCCode, TCInt, TCRef, TCSome, TCTuple, TCVar, ccount}
 use Rattle.c_terms.specs.Each.{CAll, CProp}
-use Rattle.c_terms.specs.Typing.{CAt, CField, cargs_onto, crens_scope, csub, csubs, names, scons}
+use Rattle.c_terms.specs.Typing.{CAt, cargs_onto, crens_scope, csub, csubs, names, scons}
 use Rattle.h_terms.specs.Each.{AllGoodP, HGoodP, HHasP, HHaveP, HProgramP}
 use Rattle.h_terms.specs.H.{HApply, HArith, HBlk, HBlks, HCall, HCell, HDecl, HGet, HHalt, HIf, HInt, HLabel, HLet, HName, HPack, HProj, HSet, HTm, HTuple, HUnpack, HVal, HVals, HVar, MoreHVals, NoHVals, block_at}
 use Rattle.term_core.specs.Ends.{lift}

@@ -1,13 +1,12 @@
 -- The tuples of an allocated program and its data put back into its values, and the flags of its types dropped: the
--- hoisted program that it was made from, where no cell stands in that and a variable in a tuple of constants counts as
--- the constant that it names.
-use Rattle.std.specs.Prelude.{pos, ◌≡◌, ℕ, zero, suc, ◌-◌, List, [], ◌∷◌}
-use Rattle.a_law.specs.Allocate.{alloc_data, alloc_main, alloc_prog}
+-- hoisted program that it stands for, where no cell stands in that and a variable in a tuple of constants counts as the
+-- constant that it names.
+use Rattle.std.specs.Prelude.{pos, ◌≡◌, ℕ, zero, suc, List, [], ◌∷◌}
 use Rattle.a_law.specs.Constants.{Plain_all, Plain_t, settle_all, settle_t, tuples_in}
-use Rattle.a_terms.specs.Tree.{ABlk, AConsts, ACode, AExists, AFields, AInt, ATm, ATuple, ATy, ATys, AVal, AVar, Apply, Arith, Call, Data, Halt, If0, Init, Lab, Let, Malloc, MoreAFields, MoreATys, NoAFields, NoATys, Num, Pack, Proj, Unpack, Value, Var}
+use Rattle.a_law.specs.Stands.{Shown, Stands, named}
+use Rattle.a_terms.specs.Tree.{ABlk, AConsts, AProg, ACode, AExists, AFields, AInt, ATm, ATuple, ATy, ATys, AVal, AVar, Apply, Arith, Call, Data, Halt, If0, Init, Lab, Let, Malloc, MoreAFields, MoreATys, NoAFields, NoATys, Num, Pack, Proj, Unpack, Value, Var}
 use Rattle.c_terms.specs.C.{CTy, CTys, MoreCTys, NoCTys, TCCode, TCInt, TCRef, TCSome, TCTuple, TCVar}
 use Rattle.h_terms.specs.H.{HApply, HArith, HBlk, HBlks, HCall, HCell, HDecl, HGet, HHalt, HIf, HInt, HLabel, HLet, HName, HPack, HProj, HSet, HTm, HTuple, HUnpack, HVal, HVals, HVar, MoreHVals, NoHVals}
-use Rattle.h_terms.specs.Typing.{HProgramGood}
 
 -- a type without its flags
 abbrev mutual
@@ -26,10 +25,6 @@ abbrev mutual
   drop_fields NoAFields = NoCTys
   drop_fields (MoreAFields t f fs) = MoreCTys (drop t) (drop_fields fs)
 
--- what a variable stands for, under k variables of the hoisted program
-abbrev pub Shown : Type 0
-Shown = ℕ → HVal
-
 abbrev pub nothing : Shown
 nothing k = HInt (pos 0)
 
@@ -37,9 +32,6 @@ abbrev pub shown_at : List Shown → ℕ → Shown
 shown_at [] i = nothing
 shown_at (f ∷ fs) zero = f
 shown_at (f ∷ fs) (suc i) = shown_at fs i
-
-abbrev pub named : ℕ → Shown
-named l k = HVar (k - suc l)
 
 abbrev pub add_last : HVals → HVal → HVals
 add_last NoHVals w = MoreHVals w NoHVals
@@ -160,16 +152,15 @@ abbrev pub NoCells : HBlks → Type 0
 NoCells [] = Unit {0}
 NoCells (k ∷ ks) = (NoRefs k.args × NoCell_t k.body) × NoCells ks
 
--- Where no cell stands: each data tuple put back, in which data name each other, is the tuple of constants that it
--- stands for; and the tuples of the allocation put back, its data too, and the flags dropped, give the hoisted program
--- with the variables in its tuples of constants written out
+-- what stands for a program with no cell: each data tuple put back, in which data name each other, is the tuple of
+-- constants that it stands for; and the tuples put back, data too, and the flags dropped, give that program with the
+-- variables in its tuples of constants written out
 abbrev pub PutsBack : Type 0
 PutsBack =
-    (ks : HBlks) (t : HTm) → HProgramGood ks t → NoCells ks → NoCell_t t →
-    (back_data (tuples_in ks t) (alloc_data ks t) ≡ tuples_in ks t)
-    × (back_all (tuples_in ks t) (alloc_prog ks t).blocks ≡ settle_all ks)
-    × (back_t (tuples_in ks t) [] 0 (alloc_main ks t) ≡ settle_t [] t)
+    (p : AProg) (main : ATm) (ks : HBlks) (t : HTm) → Stands p main ks t → NoCells ks → NoCell_t t →
+    (back_data (tuples_in ks t) p.tuples ≡ tuples_in ks t) × (back_all (tuples_in ks t) p.blocks ≡ settle_all ks)
+    × (back_t (tuples_in ks t) [] 0 main ≡ settle_t [] t)
 
--- a program with no variable in a tuple of constants is that one itself
+-- and where no variable stands in a tuple of constants, that is the program itself
 abbrev pub Settled : Type 0
 Settled = (ks : HBlks) (t : HTm) → Plain_all ks → Plain_t [] t → (settle_all ks ≡ ks) × (settle_t [] t ≡ t)

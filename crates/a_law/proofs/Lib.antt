@@ -1,6 +1,6 @@
 mod CLaws
 mod Cells
-mod Consts
+pub mod Consts
 mod Data
 mod Fits
 mod Known

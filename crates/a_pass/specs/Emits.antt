@@ -40,14 +40,14 @@ pub record Keeps (g : List a.ATy) (ls : List Known) (fields : List Seen) (old ne
 -- values that were read from depth d on, and what was put before; their data are numbered from b on
 pub record Made (ks : HBlks) (g : List a.ATy) (ls : List Known) (b d : ℕ) (us : List HVal) (begin : List ANode)
     (kept : List AData) (vs : List AValue) (ts : List Seen) (m : ℕ) (now : List ANode) (tuples : List AData) : Type 0
-    where
-  pub values : (e : ℕ) → map (value_at e) vs ≡ vals ls b d e (tied us)
-  pub types : map (type_in g) ts ≡ map (v_type ks g) us
-  pub consts : map (constant_in ls) ts ≡ constants ls b us
-  pub depth : m ≡ vs_next ls d (tied us)
-  pub number : length tuples ≡ n_vs ls b (tied us)
-  pub emits : Emits begin now (pre_vs ks g ls b d (tied us))
-  pub keeps : a_data tuples ≡ a_data kept ++ data_vs ks g ls b (tied us)
+  where
+    pub values : (e : ℕ) → map (value_at e) vs ≡ vals ls b d e (tied us)
+    pub types : map (type_in g) ts ≡ map (v_type ks g) us
+    pub consts : map (constant_in ls) ts ≡ constants ls b us
+    pub depth : m ≡ vs_next ls d (tied us)
+    pub number : length tuples ≡ n_vs ls b (tied us)
+    pub emits : Emits begin now (pre_vs ks g ls b d (tied us))
+    pub keeps : a_data tuples ≡ a_data kept ++ data_vs ks g ls b (tied us)
 
 -- a step of the reading: f is what it does to the values that were read
 abbrev pub Reads : HBlks → List a.ATy → List Known → (List HVal → List HVal) → List AValue → List Seen → ℕ →

@@ -10,8 +10,8 @@ ghost use Rattle.a_law.specs.Allocate.{Known, atype, all_closed as the_all_close
 ghost use Rattle.a_pass.specs.Scope.{value_at, knowns, scope, type_in, constant_of, constant_in, all_constants as the_all_constants, field_at, is_bare, of_apply, of_pack};
 ghost use Rattle.a_pass.specs.Emits.{Keeps};
 
-use crate::scope::{name_at, own, plain};
 use crate::parts::wrap;
+use crate::scope::{name_at, own, plain};
 use crate::state::{ConstantOf, Leaf, Name, Seen, TypeOf};
 use crate::types::a_type;
 use a_terms::walks::{copies, copy};

@@ -223,7 +223,17 @@ fn unpack(
     let inner = after(place.binders)?;
     let ty = body_in(alloc, names, place.binders, only(types).ty)?;
     let values = under_all(alloc, values, depth)?;
-    declare(AForm::Unpack, values, ty, None, depth, inner, names, places, out)?;
+    declare(
+        AForm::Unpack,
+        values,
+        ty,
+        None,
+        depth,
+        inner,
+        names,
+        places,
+        out,
+    )?;
     Ok(())
 }
 

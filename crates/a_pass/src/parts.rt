@@ -25,11 +25,7 @@ use h_terms::{HBlock, HPart};
 use idx_core::OutOfMemory;
 use std::alloc::Global;
 
-fn push_leaf(
-    leaf: Leaf,
-    values: &mut Vec<AValue>,
-    types: &mut Vec<Seen>,
-) -> Result<(), OutOfMemory>
+fn push_leaf(leaf: Leaf, values: &mut Vec<AValue>, types: &mut Vec<Seen>) -> Result<(), OutOfMemory>
     ensures values { OnOk result (values.new.items ≡ values.old.items ++ leaf.value ∷ []) }
     ensures types { OnOk result (types.new.items ≡ types.old.items ++ leaf.seen ∷ []) }
 {

@@ -148,12 +148,7 @@ pub(crate) fn own(
     }
 }
 
-fn own_type(
-    alloc: Global,
-    names: &[Name],
-    binders: u64,
-    seen: Seen,
-) -> Result<AType, OutOfMemory>
+fn own_type(alloc: Global, names: &[Name], binders: u64, seen: Seen) -> Result<AType, OutOfMemory>
     ensures { IfOk result (λ r. atree r ≡ type_in (scope binders names.now) seen) }
 {
     let made = own(alloc, names, binders, seen.ty)?;

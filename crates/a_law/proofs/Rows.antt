@@ -215,9 +215,3 @@ not_second ds h (inl (inl (j, fs, n, y, var, at, field, means, rest))) =
     not_first 2 refl (field ∙ ap (λ gs. suc (length gs)) (sym none))
 not_second ds h (inl (inr (x, y, t, field, is, vx, vy, rest))) = not_first 2 refl field
 not_second ds h (inr (x, t, var, field, is, vx, rest)) = not_first 2 refl field
-
--- p = malloc[int]; q = p[1] <- 5; x = q; halt 0: a tuple of constants that is made stands for no hoisted term
-abbrev constant_made : ATm
-constant_made =
-    Let (Malloc (MoreATys AInt NoATys))
-    (Let (Init (Var 0) 1 (Num (pos 5))) (Let (Value (Var 0)) (Halt (Num (pos 0)))))

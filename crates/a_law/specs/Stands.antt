@@ -1,7 +1,7 @@
 -- Which hoisted term an allocated term stands for: a data tuple is put back as the tuple of constants that it stands
--- for, a malloc and the initialisations of all fields, in order, as the tuple, of no constant alone, that the last of
--- them names, and types are those of hoisted types with every flag at 1. A cell looks like a tuple of one field, so at a
--- malloc, an initialisation and a projection either may be meant.
+-- for, a malloc and the initialisations of all fields, in order, as the tuple that the last of them names, which is not
+-- one of constants alone, and types are those of hoisted types with every flag at 1. A cell looks like a tuple of one
+-- field, so at a malloc, an initialisation and a projection either may be meant.
 use Rattle.std.specs.Prelude.{◌≡◌, ◌⊎◌, ◌++◌, ℕ, zero, suc, ◌-◌, List, [], ◌∷◌, length, slice_get, Some, None}
 use Rattle.c_terms.specs.C.{CTy, CTys}
 use Rattle.h_terms.specs.H.{HVal, HVar, HInt, HLabel, HTuple, HApply, HPack, HVals, NoHVals, MoreHVals, HName, HProj, HArith, HUnpack, HCell, HGet, HSet, HTm, HLet, HCall, HIf, HHalt, HBlks}

@@ -34,8 +34,8 @@ pub fn allocation_stands_for_its_program()
     ensures { AllocStands }
 {}
 
-/// What stands for a program with no cell gives, its tuples and data put back and its flags dropped, that program, where
-/// in a tuple of constants a variable counts as the constant that it names.
+/// What stands for a program with no cell gives, its tuples and data put back and its flags dropped, that program,
+/// where in a tuple of constants a variable counts as the constant that it names.
 pub fn tuples_are_put_back()
     ensures { PutsBack }
 {}

@@ -76,12 +76,13 @@ fn allocated(alloc: Global, program: &HProgram) -> Result<AProgram, OutOfMemory>
 }
 
 /// The allocation of a hoisted program: each tuple of constants becomes a data tuple, any other a heap tuple that is
-/// filled field by field, and cells become tuples of one field. It is typed, each bound on the program before is one on it, and it
-/// ends within any number of calls as the program before, and enters the same blocks. Answers want of memory alone;
-/// also where the numbers of a program are too large to be written in an assembly text, which no program that a
+/// filled field by field, and cells become tuples of one field. It is typed, each bound on the program before is one on
+/// it, and it ends within any number of calls as the program before, and enters the same blocks. Answers want of memory
+/// alone; also where the numbers of a program are too large to be written in an assembly text, which no program that a
 /// memory holds reaches.
 pub fn allocate(alloc: Global, program: &HProgram) -> Result<AProgram, OutOfMemory>
-    ensures program { IfOk result (λ r. program_in r ≡ alloc_prog (h.blocks_in program.now) (h.main_in program.now)) }
+    ensures program { IfOk result (λ r.
+        program_in r ≡ alloc_prog (h.blocks_in program.now) (h.main_in program.now)) }
     ensures main { IfOk result (λ r. main_in r ≡ alloc_main (h.blocks_in program.now) (h.main_in program.now)) }
     ensures stands { IfOk result (λ r. ∥ Stands (program_in r) (main_in r) (h.blocks_in program.now)
         (h.main_in program.now) ∥₁) }

@@ -7,7 +7,7 @@ use Rattle.a_law.proofs.Thirds.{length_all, thirds_all, thirds_t}
 use Rattle.a_law.proofs.Typing.{all_of, mixed, program_typed}
 use Rattle.h_terms.specs.Laws.{HTypedIsAny}
 use Rattle.a_law.specs.Statements.{AllocFits, AllocTypesKept}
-use Rattle.a_law.specs.Allocate.{afull, atype, atypes}
+use Rattle.a_law.specs.Allocate.{afull, atype, atypes, n_all}
 use Rattle.a_terms.specs.Each.{AWithin, abinds, abinds_all, abinds_fields, areach, areach_fields, areaches}
 use Rattle.a_terms.specs.Typing.{aunset}
 use Rattle.c_terms.specs.C.{CTy, CTys, MoreCTys, NoCTys, TCCode, TCInt, TCRef, TCSome, TCTuple, TCVar}
@@ -70,14 +70,15 @@ alloc_fits law N M R le ks t h =
     let typed = program_typed (AWithin M R M) (CWithin N R N) law
     (λ n u q. (let x = reach_atype u in let y = binds_atype u in (omega (arith, q.0), omega (arith, x, q.1), omega (arith, y, q.2))))
     (λ n us vs q. (let x = reach_mixed us vs in let y = binds_mixed us vs in (omega (arith, q.0), omega (arith, x, q.1), omega (arith, y, q.2))))
-    (λ n u q. (let x = reach_atype u in let y = binds_atype u in (omega (arith, q.0), omega (arith, x, q.1), omega (arith, y, q.2)))) ks t h.0 in
+    (λ n u q. (let x = reach_atype u in let y = binds_atype u in (omega (arith, q.0), omega (arith, x, q.1), omega (arith, y, q.2))))
+    (λ n u q. (let x = reach_atype u in let y = binds_atype u in (omega arith, omega (arith, x, q.1), omega (arith, y, q.2)))) ks t h.0 in
     let small = alloc_small N M le ks t h.1 in
-    let many = length_all ks ks in
-    let one = thirds_t t ks [] [] 0 in
-    let all = thirds_all ks ks in
+    let many = length_all ks ks 0 in
+    let one = thirds_t t ks [] [] (n_all 0 ks) 0 in
+    let all = thirds_all ks ks 0 in
     (typed.0, typed.1, small, omega (arith, many, one, all, h.2))
 
 -- typing alone
 pub alloc_types : CLaws → HTypedIsAny → AllocTypesKept
 alloc_types law any ks t h =
-    (program_typed (λ n u. Unit {0}) (λ n u. Unit {0}) law (λ n u q. tt) (λ n us vs q. tt) (λ n u q. tt) ks t ((any ks t).0 h)).0
+    (program_typed (λ n u. Unit {0}) (λ n u. Unit {0}) law (λ n u q. tt) (λ n us vs q. tt) (λ n u q. tt) (λ n u q. tt) ks t ((any ks t).0 h)).0

@@ -1,12 +1,17 @@
 mod CLaws
 mod Cells
+pub mod Consts
+mod Data
 mod Fits
+mod Known
 mod Meaning
 mod PutBack
+mod Readings
 mod Regs
 mod Rel
 mod Rows
 mod Scopes
+mod Settling
 mod Standing
 mod Thirds
 mod Tuples

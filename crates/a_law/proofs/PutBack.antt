@@ -1,16 +1,14 @@
--- Putting the tuples back gives the hoisted program.
-use Rattle.std.proofs.Common.{◌≡◌, ◌<◌, ℕ, zero, suc, ◌+◌, ◌-◌, List, [], ◌∷◌, Some, None, refl, sym, ap, ◌∙◌, ap₂, arith}
-use Rattle.std.specs.Prelude.{slice_get}
-use Rattle.a_law.proofs.Rel.{At, Later, at_more, at_new}
-use Rattle.a_law.proofs.Scopes.{InT, InV, InVs, args_length, in_t}
-use Rattle.a_law.specs.Allocate.{afull, alloc_all, alloc_block, alloc_t, arg_depth, arg_levels, atype, atypes, d_types, dcl, fill, final, pre_v, pre_vs, v_next, v_types, val, vals, var_of, vs_next}
-use Rattle.a_law.specs.Back.{NoCell_t, NoCell_v, NoCell_vs, NoCells, NoRef, NoRefs, PutsBack, Shown, add_field, add_last, arg_count, arg_names, back_all, back_block, back_t, back_v, back_vs, drop, drop_fields, drops, named, shown_at}
-use Rattle.a_terms.specs.Tree.{ATm, ATy, Call, Halt, If0, Let, Malloc}
-use Rattle.a_terms.specs.Typing.{types_of}
+-- Putting the tuples and the data back gives the hoisted program, its tuples of constants written out.
+use Rattle.std.proofs.Common.{◌≡◌, ◌≤◌, ◌+◌, ◌-◌, inl, inr, ℕ, zero, suc, List, [], ◌∷◌, ◌++◌, Option, Some, None, refl, sym, ap, ap₂, ◌∙◌, subst, arith}
+use Rattle.std.specs.Prelude.{Bool, true, false, ◌&&◌, not, option_map, slice_get}
+use Rattle.a_law.specs.Allocate.{afull, all_closed, atype, atypes, closed, is_label}
+use Rattle.a_law.specs.Back.{NoCell_t, NoCell_v, NoCell_vs, NoCells, NoRef, NoRefs, PutsBack, add_field, add_last, arg_count, arg_names, back_all, back_data, back_fields, back_t, back_v, back_vs, drop, drop_fields, drops, held_by, shown_at}
+use Rattle.a_law.specs.Constants.{Constants, constant, constant_at, constants, is_package, of_args, one_if, or_else, packed, settle_all, settle_t, settle_v, settle_vs, tuples_all, tuples_in, tuples_t, tuples_v, tuples_vs, two}
+use Rattle.a_law.specs.Stands.{Any, Content, Gone, Is, Making, Means, Shown, Shows, Shows_fields, Shows_v, Stands_all, Stands_t, Stands_v, Stands_vs, Thing, arg_things, listed, named, thing_at}
+use Rattle.a_terms.specs.Meaning.{pick}
+use Rattle.a_terms.specs.Tree.{ABlk, AConsts, ATm, ATys, AVal, Apply, Arith, Call, Data, Halt, If0, Init, Lab, Let, Malloc, MoreATys, NoATys, Num, Pack, Proj, Unpack, Value, Var, arity}
 use Rattle.c_terms.specs.C.{CTy, CTys, MoreCTys, NoCTys, TCCode, TCInt, TCRef, TCSome, TCTuple, TCVar}
-use Rattle.c_terms.specs.Typing.{cargs_onto}
-use Rattle.h_terms.specs.H.{HApply, HArith, HBlk, HBlks, HCall, HCell, HGet, HHalt, HIf, HInt, HLabel, HLet, HName, HPack, HProj, HSet, HTm, HTuple, HUnpack, HVal, HVals, HVar, MoreHVals, NoHVals}
-use Rattle.h_terms.specs.Typing.{AllGood, HGood}
+use Rattle.h_terms.specs.H.{HApply, HArith, HBlks, HCall, HCell, HGet, HHalt, HIf, HInt, HLabel, HLet, HName, HPack, HProj, HSet, HTm, HTuple, HUnpack, HVal, HVals, HVar, MoreHVals, NoHVals}
 
 mutual
   drop_is : (t : CTy) → NoRef t → drop (atype t) ≡ t
@@ -29,191 +27,291 @@ mutual
   fields_are NoCTys c = refl
   fields_are (MoreCTys t ts) c = ap₂ MoreCTys (drop_is t c.0) (fields_are ts c.1)
 
--- the variables of the hoisted program, k of them, stand at the levels ls
-abbrev Agree : ℕ → List ℕ → ℕ → List Shown → Type 0
-Agree d [] zero env = Unit {0}
-Agree d [] (suc k) env = ⊥
-Agree d (l ∷ ls) zero env = ⊥
-Agree d (l ∷ ls) (suc k) env = At d env l (named k) × Agree d ls k env
+-- the constants of a program with no cell
+abbrev NoOpt : Option HVal → Type 0
+NoOpt None = Unit {0}
+NoOpt (Some c) = NoCell_v c
 
-agree_later : (ls : List ℕ) (k d d2 : ℕ) (env env2 : List Shown) → Later d env d2 env2 → Agree d ls k env → Agree d2 ls k env2
-agree_later [] zero d d2 env env2 q a = tt
-agree_later [] (suc k) d d2 env env2 q a = absurd a
-agree_later (l ∷ ls) zero d d2 env env2 q a = absurd a
-agree_later (l ∷ ls) (suc k) d d2 env env2 q a = (q l (named k) a.0, agree_later ls k d d2 env env2 q a.1)
+abbrev NoOpts : Option HVals → Type 0
+NoOpts None = Unit {0}
+NoOpts (Some cs) = NoCell_vs cs
 
-shown_nth : (env : List Shown) (i : ℕ) (f : Shown) → slice_get env i ≡ Some f → shown_at env i ≡ f
-shown_nth [] i f e = absurd (impossible e)
-  where
-    impossible : None ≡ Some f → ⊥
-    impossible q = cc
-shown_nth (x ∷ env) zero f e = cc
-shown_nth (x ∷ env) (suc i) f e = shown_nth env i f e
+abbrev NoOs : Constants → Type 0
+NoOs [] = Unit {0}
+NoOs (o ∷ os) = NoOpt o × NoOs os
 
-module _ (k0 : ℕ) where
-  abbrev Read : List ℕ → ℕ → HVal → ℕ → List Shown → Type 0
-  Read ls e v d env = (d3 : ℕ) (env3 : List Shown) → Later d env d3 env3 → back_v env3 k0 (val ls e d3 v) ≡ v
+abbrev AllNo : List HVal → Type 0
+AllNo [] = Unit {0}
+AllNo (w ∷ ws) = NoCell_v w × AllNo ws
 
-  abbrev Reads : List ℕ → ℕ → HVals → ℕ → List Shown → Type 0
-  Reads ls e NoHVals d env = Unit {0}
-  Reads ls e (MoreHVals v vs) d env = Read ls e v d env × Reads ls (v_next e v) vs d env
+all_no : (us ws : List HVal) → AllNo us → AllNo ws → AllNo (us ++ ws)
+all_no [] ws a b = b
+all_no (u ∷ us) ws a b = (a.0, all_no us ws a.1 b)
 
-  reads_later : (vs : HVals) (ls : List ℕ) (e d d2 : ℕ) (env env2 : List Shown) → Later d env d2 env2 → Reads ls e vs d env → Reads ls e vs d2 env2
-  reads_later NoHVals ls e d d2 env env2 q r = tt
-  reads_later (MoreHVals v vs) ls e d d2 env env2 q r = (λ d3 env3 p. r.0 d3 env3 (λ l x a. p l x (q l x a)), reads_later vs ls (v_next e v) d d2 env env2 q r.1)
+at_no : (os : Constants) (i : ℕ) → NoOs os → NoOpt (constant_at os i)
+at_no [] i a = tt
+at_no (o ∷ os) zero a = a.0
+at_no (o ∷ os) (suc i) a = at_no os i a.1
 
-  all_read : (vs : HVals) (ls : List ℕ) (e d : ℕ) (env : List Shown) → Reads ls e vs d env → back_vs env k0 (vals ls e d vs) ≡ vs
-  all_read NoHVals ls e d env r = refl
-  all_read (MoreHVals v vs) ls e d env r = ap₂ MoreHVals (r.0 d env (λ l x a. a)) (all_read vs ls (v_next e v) d env r.1)
+tuple_no : (o : Option HVals) → NoOpts o → NoOpt (option_map HTuple o)
+tuple_no None a = tt
+tuple_no (Some vs) a = a
 
-  var_read : (ls : List ℕ) (k j i : ℕ) (d : ℕ) (env : List Shown) → k0 ≡ k + j → i < k → Agree d ls k env → (d3 : ℕ) (env3 : List Shown) → Later d env d3 env3 → back_v env3 k0 (var_of d3 (slice_get ls i)) ≡ HVar (j + i)
-  var_read [] zero j i d env e s a d3 env3 q = absurd (omega arith)
-  var_read [] (suc k) j i d env e s a d3 env3 q = absurd a
-  var_read (l ∷ ls) zero j i d env e s a d3 env3 q = absurd a
-  var_read (l ∷ ls) (suc k) j zero d env e s a d3 env3 q =
-      let z : k0 - suc k ≡ j + 0 = omega (arith, e) in
-      ap (λ f. f k0) (shown_nth env3 (d3 - suc l) (named k) (q l (named k) a.0).1) ∙ ap HVar z
-  var_read (l ∷ ls) (suc k) j (suc i) d env e s a d3 env3 q =
-      let z : suc j + i ≡ j + suc i = omega arith in var_read ls k (suc j) i d env (omega (arith, e)) (omega arith) a.1 d3 env3 q ∙ ap HVar z
+pick_no : (q : Bool) (c : HVal) → NoCell_v c → NoOpt (pick q (Some c) None)
+pick_no true c a = a
+pick_no false c a = tt
 
-  record Comes (d : ℕ) (env : List Shown) (pre : ATm → ATm) (d2 : ℕ) (Q : List Shown → Type 0) : Type 0 where
-    vars : List Shown
-    runs : (rest : ATm) → back_t env k0 (pre rest) ≡ back_t vars k0 rest
-    later : Later d env d2 vars
-    good : Q vars
+packed_no : (h s : CTy) (o : Option HVal) → NoRef h → NoRef s → NoOpt o → NoOpt (packed h s o)
+packed_no h s None a b c = tt
+packed_no h s (Some w) a b c =
+    pick_no (not (is_package w) && (closed 0 (atype h) && closed 0 (atype s))) (HPack h w s) (a, c, b)
 
-  abbrev then_all : HVals → HVals → HVals
-  then_all NoHVals ws = ws
-  then_all (MoreHVals v vs) ws = MoreHVals v (then_all vs ws)
+two_no : (o : Option HVal) (os : Option HVals) → NoOpt o → NoOpts os → NoOpts (two o os)
+two_no None os a b = tt
+two_no (Some c) None a b = tt
+two_no (Some c) (Some cs) a b = (a, b)
 
-  then_last : (vs : HVals) (v : HVal) (ws : HVals) → then_all (add_last vs v) ws ≡ then_all vs (MoreHVals v ws)
-  then_last NoHVals v ws = refl
-  then_last (MoreHVals u vs) v ws = ap (MoreHVals u) (then_last vs v ws)
+mutual
+  const_no : (v : HVal) (os : Constants) → NoOs os → NoCell_v v → NoOpt (constant os v)
+  const_no (HVar i) os a c = at_no os i a
+  const_no (HInt n) os a c = tt
+  const_no (HLabel l) os a c = tt
+  const_no (HTuple vs) os a c = tuple_no (constants os vs) (consts_no vs os a c)
+  const_no (HApply v ts) os a c = pick_no (is_label v && all_closed 0 (atypes ts)) (HApply v ts) c
+  const_no (HPack h v s) os a c = packed_no h s (constant os v) c.0 c.2 (const_no v os a c.1)
 
-  then_none : (vs : HVals) → then_all vs NoHVals ≡ vs
-  then_none NoHVals = refl
-  then_none (MoreHVals v vs) = ap (MoreHVals v) (then_none vs)
+  consts_no : (vs : HVals) (os : Constants) → NoOs os → NoCell_vs vs → NoOpts (constants os vs)
+  consts_no NoHVals os a c = tt
+  consts_no (MoreHVals v vs) os a c = two_no (constant os v) (constants os vs) (const_no v os a c.0) (consts_no vs os a c.1)
 
-  record Filled (l : ℕ) (f : Shown) (env : List Shown) (done vs : HVals) (pre : ATm → ATm) : Type 0 where
-    last : Shown
-    vars : List Shown
-    runs : (rest : ATm) → back_t (f ∷ env) k0 (pre rest) ≡ back_t (last ∷ vars) k0 rest
-    later : Later (suc l) (f ∷ env) (suc (final l vs)) (last ∷ vars)
-    is : last k0 ≡ HTuple (then_all done vs)
+one_no : (o : Option HVal) → NoOpt o → AllNo (one_if o)
+one_no None a = tt
+one_no (Some c) a = (a, tt)
 
-  filled : (vs done : HVals) (ls : List ℕ) (e l i : ℕ) (f : Shown) (env : List Shown) → f k0 ≡ HTuple done → Reads ls e vs (suc l) (f ∷ env) → Filled l f env done vs (fill ls e l i vs)
-  filled NoHVals done ls e l i f env q r = record { last = f; vars = env; runs = λ rest. refl; later = λ p x a. a; is = q ∙ ap HTuple (sym (then_none done)) }
-  filled (MoreHVals v vs) done ls e l i f env q r =
-      let w = val ls e (suc l) v in
-      let new : Shown = λ m. add_field (f m) (back_v (f ∷ env) m w) in
-      let is_new : new k0 ≡ HTuple (add_last done v) = ap (λ x. add_field x (back_v (f ∷ env) k0 w)) q ∙ ap (λ x. HTuple (add_last done x)) (r.0 (suc l) (f ∷ env) (λ p x a. a)) in
-      let on : Later (suc l) (f ∷ env) (suc (suc l)) (new ∷ f ∷ env) = λ p x a. at_more (suc l) (f ∷ env) p x new a in
-      let z = filled vs (add_last done v) ls (v_next e v) (suc l) (suc i) new (f ∷ env) is_new (reads_later vs ls (v_next e v) (suc l) (suc (suc l)) (f ∷ env) (new ∷ f ∷ env) on r.1) in
-      record { last = z.last; vars = z.vars; runs = λ rest. z.runs rest; later = λ p x a. z.later p x (on p x a); is = z.is ∙ ap HTuple (then_last done v vs) }
+mutual
+  tuples_v_no : (v : HVal) (os : Constants) → NoOs os → NoCell_v v → AllNo (tuples_v os v)
+  tuples_v_no (HVar i) os a c = tt
+  tuples_v_no (HInt n) os a c = tt
+  tuples_v_no (HLabel l) os a c = tt
+  tuples_v_no (HTuple vs) os a c =
+      let o = constant os (HTuple vs) in
+      all_no (tuples_vs os vs) (one_if o) (tuples_vs_no vs os a c) (one_no o (const_no (HTuple vs) os a c))
+  tuples_v_no (HApply v ts) os a c = tuples_v_no v os a c.0
+  tuples_v_no (HPack h v s) os a c = tuples_v_no v os a c.1
 
-  module _ (ks : HBlks) (g : List ATy) (ls : List ℕ) where
-    mutual
-      comes_v : (v : HVal) (d : ℕ) (env : List Shown) → InV k0 v → NoCell_v v → Agree d ls k0 env → Comes d env (pre_v ks g ls d v) (v_next d v) (Read ls d v (v_next d v))
-      comes_v (HVar i) d env s c a = record { vars = env; runs = λ rest. refl; later = λ p x q. q; good = λ d3 env3 q. (let z : k0 ≡ k0 + 0 = omega arith in let y : 0 + i ≡ i = omega arith in var_read ls k0 0 i d env z s a d3 env3 q ∙ ap HVar y) }
-      comes_v (HInt n) d env s c a = record { vars = env; runs = λ rest. refl; later = λ p x q. q; good = λ d3 env3 q. refl }
-      comes_v (HLabel l) d env s c a = record { vars = env; runs = λ rest. refl; later = λ p x q. q; good = λ d3 env3 q. refl }
-      comes_v (HTuple vs) d env s c a =
-          let f = comes_vs vs d env s c a in
-          let l = vs_next d vs in
-          let none : Shown = λ m. HTuple NoHVals in
-          let on : Later l f.vars (suc l) (none ∷ f.vars) = λ p x q. at_more l f.vars p x none q in
-          let z = filled vs NoHVals ls d l 1 none f.vars refl (reads_later vs ls d l (suc l) f.vars (none ∷ f.vars) on f.good) in
-          record {
-            vars = z.last ∷ z.vars;
-            runs = λ rest. (f.runs (Let (Malloc (v_types ks g vs)) (fill ls d l 1 vs rest)) ∙ z.runs rest);
-            later = λ p x q. z.later p x (on p x (f.later p x q));
-            good = λ d3 env3 q.
-                (ap (λ x. x k0) (shown_nth env3 (d3 - suc (final l vs)) z.last (q (final l vs) z.last (at_new (final l vs) z.vars z.last)).1) ∙ z.is);
-          }
-      comes_v (HApply v ts) d env s c a =
-          let r = comes_v v d env s c.0 a in
-          record { vars = r.vars; runs = r.runs; later = r.later; good = λ d3 env3 q. ap₂ HApply (r.good d3 env3 q) (drops_are ts c.1) }
-      comes_v (HPack h v u) d env s c a =
-          let r = comes_v v d env s c.1 a in
-          record { vars = r.vars; runs = r.runs; later = r.later; good = λ d3 env3 q. (ap₂ (λ x y. HPack x y (drop (atype u))) (drop_is h c.0) (r.good d3 env3 q) ∙ ap (HPack h v) (drop_is u c.2)) }
+  tuples_vs_no : (vs : HVals) (os : Constants) → NoOs os → NoCell_vs vs → AllNo (tuples_vs os vs)
+  tuples_vs_no NoHVals os a c = tt
+  tuples_vs_no (MoreHVals v vs) os a c = all_no (tuples_v os v) (tuples_vs os vs) (tuples_v_no v os a c.0) (tuples_vs_no vs os a c.1)
 
-      comes_vs : (vs : HVals) (d : ℕ) (env : List Shown) → InVs k0 vs → NoCell_vs vs → Agree d ls k0 env → Comes d env (pre_vs ks g ls d vs) (vs_next d vs) (Reads ls d vs (vs_next d vs))
-      comes_vs NoHVals d env s c a = record { vars = env; runs = λ rest. refl; later = λ p x q. q; good = tt }
-      comes_vs (MoreHVals v vs) d env s c a =
-          let x = comes_v v d env s.0 c.0 a in
-          let d1 = v_next d v in
-          let y = comes_vs vs d1 x.vars s.1 c.1 (agree_later ls k0 d d1 env x.vars x.later a) in
-          record {
-            vars = y.vars;
-            runs = λ rest. (x.runs (pre_vs ks g ls d1 vs rest) ∙ y.runs rest);
-            later = λ p u q. y.later p u (x.later p u q);
-            good = (λ d3 env3 q. x.good d3 env3 (λ p u a2. q p u (y.later p u a2)), y.good);
-          }
+tuples_t_no : (t : HTm) (os : Constants) → NoOs os → NoCell_t t → AllNo (tuples_t os t)
+tuples_t_no (HLet (HName v) t) os a c =
+    all_no (tuples_v os v) (tuples_t (constant os v ∷ os) t) (tuples_v_no v os a c.0) (tuples_t_no t (constant os v ∷ os) (const_no v os a c.0, a) c.1)
+tuples_t_no (HLet (HProj i v) t) os a c = all_no (tuples_v os v) (tuples_t (None ∷ os) t) (tuples_v_no v os a c.0) (tuples_t_no t (None ∷ os) (tt, a) c.1)
+tuples_t_no (HLet (HArith op v w) t) os a c =
+    all_no (tuples_v os v ++ tuples_v os w) (tuples_t (None ∷ os) t) (all_no (tuples_v os v) (tuples_v os w) (tuples_v_no v os a c.0.0) (tuples_v_no w os a c.0.1)) (tuples_t_no t (None ∷ os) (tt, a) c.1)
+tuples_t_no (HLet (HUnpack v) t) os a c = all_no (tuples_v os v) (tuples_t (None ∷ os) t) (tuples_v_no v os a c.0) (tuples_t_no t (None ∷ os) (tt, a) c.1)
+tuples_t_no (HLet (HCell v) t) os a c = absurd c.0
+tuples_t_no (HLet (HGet v) t) os a c = absurd c.0
+tuples_t_no (HLet (HSet v w) t) os a c = absurd c.0
+tuples_t_no (HCall f ts vs) os a c = all_no (tuples_v os f) (tuples_vs os vs) (tuples_v_no f os a c.0) (tuples_vs_no vs os a c.2)
+tuples_t_no (HIf v t u) os a c =
+    all_no (tuples_v os v) (tuples_t os t ++ tuples_t os u) (tuples_v_no v os a c.0) (all_no (tuples_t os t) (tuples_t os u) (tuples_t_no t os a c.1) (tuples_t_no u os a c.2))
+tuples_t_no (HHalt v) os a c = tuples_v_no v os a c
 
-module _ (ks : HBlks) where
-  further : (ls : List ℕ) (k d d2 : ℕ) (env vars : List Shown) → Later d env d2 vars → Agree d ls k env → Agree (suc d2) (d2 ∷ ls) (suc k) (named k ∷ vars)
-  further ls k d d2 env vars q a = (at_new d2 vars (named k), agree_later ls k d (suc d2) env (named k ∷ vars) (λ p u b. at_more d2 vars p u (named k) (q p u b)) a)
+args_no : (args : CTys) (os : Constants) → NoOs os → NoOs (of_args args os)
+args_no NoCTys os a = a
+args_no (MoreCTys t ts) os a = args_no ts (None ∷ os) (tt, a)
 
-  back_is : (t : HTm) (g : List ATy) (ls : List ℕ) (k d : ℕ) (env : List Shown) → InT k t → NoCell_t t → Agree d ls k env → back_t env k (alloc_t ks g ls d t) ≡ t
-  back_is (HLet (HName v) t) g ls k d env s c a =
-      let x = comes_v k ks g ls v d env s.0 c.0 a in
-      let d2 = v_next d v in
-      x.runs _ ∙ ap₂ (λ y z. HLet (HName y) z) (x.good d2 x.vars (λ p u q. q)) (back_is t (d_types ks g (HName v)) (d2 ∷ ls) (suc k) (suc d2) (named k ∷ x.vars) s.1 c.1 (further ls k d d2 env x.vars x.later a))
-  back_is (HLet (HProj i v) t) g ls k d env s c a =
-      let x = comes_v k ks g ls v d env s.0 c.0 a in
-      let d2 = v_next d v in
-      x.runs _ ∙ ap₂ (λ y z. HLet (HProj i y) z) (x.good d2 x.vars (λ p u q. q)) (back_is t (d_types ks g (HProj i v)) (d2 ∷ ls) (suc k) (suc d2) (named k ∷ x.vars) s.1 c.1 (further ls k d d2 env x.vars x.later a))
-  back_is (HLet (HArith op v w) t) g ls k d env s c a =
-      let x = comes_v k ks g ls v d env s.0.0 c.0.0 a in
-      let d1 = v_next d v in
-      let y = comes_v k ks g ls w d1 x.vars s.0.1 c.0.1 (agree_later ls k d d1 env x.vars x.later a) in
-      let d2 = v_next d1 w in
-      let rest = alloc_t ks (d_types ks g (HArith op v w)) (d2 ∷ ls) (suc d2) t in
-      let end = Let (dcl ls d (HArith op v w)) rest in
-      x.runs (pre_v ks g ls d1 w end) ∙ y.runs end
-      ∙ ap₂ (λ p q. HLet (HArith op p q) (back_t (named k ∷ y.vars) (suc k) rest)) (x.good d2 y.vars y.later) (y.good d2 y.vars (λ p u q. q))
-      ∙ ap (HLet (HArith op v w)) (back_is t (d_types ks g (HArith op v w)) (d2 ∷ ls) (suc k) (suc d2) (named k ∷ y.vars) s.1 c.1 (further ls k d d2 env y.vars (λ p u q. y.later p u (x.later p u q)) a))
-  back_is (HLet (HUnpack v) t) g ls k d env s c a =
-      let x = comes_v k ks g ls v d env s.0 c.0 a in
-      let d2 = v_next d v in
-      x.runs _ ∙ ap₂ (λ y z. HLet (HUnpack y) z) (x.good d2 x.vars (λ p u q. q)) (back_is t (d_types ks g (HUnpack v)) (d2 ∷ ls) (suc k) (suc d2) (named k ∷ x.vars) s.1 c.1 (further ls k d d2 env x.vars x.later a))
-  back_is (HCall f ts vs) g ls k d env s c a =
-      let x = comes_v k ks g ls f d env s.0 c.0 a in
-      let d1 = v_next d f in
-      let y = comes_vs k ks g ls vs d1 x.vars s.1 c.2 (agree_later ls k d d1 env x.vars x.later a) in
-      let d2 = vs_next d1 vs in
-      let end = Call (val ls d d2 f) (atypes ts) (vals ls d1 d2 vs) in
-      x.runs (pre_vs ks g ls d1 vs end) ∙ y.runs end
-      ∙ ap₂ (λ p q. HCall p q (back_vs y.vars k (vals ls d1 d2 vs))) (x.good d2 y.vars y.later) (drops_are ts c.1)
-      ∙ ap (HCall f ts) (all_read k vs ls d1 d2 y.vars y.good)
-  back_is (HIf v t u) g ls k d env s c a =
-      let x = comes_v k ks g ls v d env s.0 c.0 a in
-      let d1 = v_next d v in
-      let b = agree_later ls k d d1 env x.vars x.later a in
-      x.runs (If0 (val ls d d1 v) (alloc_t ks g ls d1 t) (alloc_t ks g ls d1 u))
-      ∙ ap₂ (λ p q. HIf p q (back_t x.vars k (alloc_t ks g ls d1 u))) (x.good d1 x.vars (λ p z q. q)) (back_is t g ls k d1 x.vars s.1 c.1 b)
-      ∙ ap (HIf v t) (back_is u g ls k d1 x.vars s.2 c.2 b)
-  back_is (HHalt v) g ls k d env s c a =
-      let x = comes_v k ks g ls v d env s c a in
-      let d1 = v_next d v in
-      x.runs (Halt (val ls d d1 v)) ∙ ap HHalt (x.good d1 x.vars (λ p z q. q))
-  back_is (HLet (HCell v) t) g ls k d env s c a = absurd c.0
-  back_is (HLet (HGet v) t) g ls k d env s c a = absurd c.0
-  back_is (HLet (HSet v w) t) g ls k d env s c a = absurd c.0
+tuples_all_no : (ks : HBlks) → NoCells ks → AllNo (tuples_all ks)
+tuples_all_no [] c = tt
+tuples_all_no (k ∷ ks) c =
+    all_no (tuples_t (of_args k.args []) k.body) (tuples_all ks) (tuples_t_no k.body (of_args k.args []) (args_no k.args [] tt) c.0.1) (tuples_all_no ks c.1)
 
-  agree_args : (args : CTys) (ls : List ℕ) (k d : ℕ) (env : List Shown) → Agree d ls k env → Agree (arg_depth d args) (arg_levels d ls args) (arg_count k (atypes args)) (arg_names k env (atypes args))
-  agree_args NoCTys ls k d env a = a
-  agree_args (MoreCTys t ts) ls k d env a = agree_args ts (d ∷ ls) (suc k) (suc d) (named k ∷ env) (further ls k d d env env (λ p u q. q) a)
+module _ (ds : List HVal) where
+  held_is : (ws : List HVal) (n : ℕ) (w : HVal) → slice_get ws n ≡ Some w → held_by ws n ≡ w
+  held_is [] n w e = absurd (impossible e)
+    where
+      impossible : None ≡ Some w → ⊥
+      impossible q = cc
+  held_is (x ∷ ws) zero w e = cc
+  held_is (x ∷ ws) (suc n) w e = held_is ws n w e
 
-  block_back : (x : HBlk) → NoRefs x.args → NoCell_t x.body → HGood ks x.owes (cargs_onto x.args []) x.body → back_block (alloc_block ks x) ≡ x
-  block_back x r c h =
-      let s = in_t ks x.owes (cargs_onto x.args []) (arg_count 0 (atypes x.args)) (args_length x.args [] 0 refl) x.body h in
-      let b = back_is x.body (types_of (atypes x.args) []) (arg_levels 0 [] x.args) (arg_count 0 (atypes x.args)) (arg_depth 0 x.args) (arg_names 0 [] (atypes x.args)) s c (agree_args x.args [] 0 0 [] tt) in
-      ap₂ (λ p q. record { owes = x.owes; args = p; body = q }) (drops_are x.args r) b
+  -- data
+  shown_back : (v : AVal) (w : HVal) → Shows_v ds v w → NoCell_v w → back_v ds [] 0 v ≡ w
+  shown_back (Var i) w s c = absurd s
+  shown_back (Num n) w s c = sym s
+  shown_back (Lab l) w s c = sym s
+  shown_back (Data n) w s c = held_is ds n w s
+  shown_back (Apply v ts) w s c =
+      let n = subst NoCell_v s.2 c in
+      ap₂ HApply (shown_back v s.0 s.4 n.0) (ap drops (sym s.3) ∙ drops_are s.1 n.1) ∙ sym s.2
+  shown_back (Pack h v u) w s c =
+      let n = subst NoCell_v s.3 c in
+      ap (λ x. HPack x (back_v ds [] 0 v) (drop u)) (ap drop (sym s.4) ∙ drop_is s.0 n.0)
+      ∙ ap₂ (HPack s.0) (shown_back v s.1 s.6 n.1) (ap drop (sym s.5) ∙ drop_is s.2 n.2) ∙ sym s.3
 
-  blocks_back : (xs : HBlks) → NoCells xs → AllGood ks xs → back_all (alloc_all ks xs) ≡ xs
-  blocks_back [] c h = refl
-  blocks_back (x ∷ xs) c h = ap₂ (λ p q. p ∷ q) (block_back x c.0.0 c.0.1 h.0.1) (blocks_back xs c.1 h.1)
+  fields_back : (cs : AConsts) (vs : HVals) → Shows_fields ds cs vs → NoCell_vs vs → back_fields ds cs ≡ vs
+  fields_back [] vs s c = sym s
+  fields_back (x ∷ cs) vs s c =
+      let n = subst NoCell_vs s.2 c in
+      ap₂ MoreHVals (shown_back x.value s.0 s.3 n.0) (fields_back cs s.1 s.4 n.1) ∙ sym s.2
+
+  data_back : (xs : List AConsts) (us : List HVal) → Shows ds xs us → AllNo us → back_data ds xs ≡ us
+  data_back [] us s c = sym s
+  data_back (x ∷ xs) us s c =
+      let n = subst AllNo s.2 c in
+      ap₂ (λ p q. HTuple p ∷ q) (fields_back x s.0 s.3 n.0) (data_back xs s.1 s.4 n.1) ∙ sym s.2
+
+  -- what is put back of a variable
+  abbrev Puts : Constants → ℕ → Thing → Shown → Type 0
+  Puts os k (Is f) s = (m : ℕ) → (i : ℕ) × (f m ≡ HVar i) × (s m ≡ HVar i)
+  Puts os k (Making j fs n) s = (j ≤ k) × (NoCell_vs (listed fs) → j ≡ k → s k ≡ HTuple (settle_vs os (listed fs)))
+  Puts os k Gone s = Unit {0}
+
+  abbrev EnvOk : Constants → ℕ → List Thing → List Shown → Type 0
+  EnvOk os k env benv = (i : ℕ) → Puts os k (thing_at env i) (shown_at benv i)
+
+  puts_on : (os : Constants) (o : Option HVal) (k : ℕ) (x : Thing) (s : Shown) → Puts os k x s → Puts (o ∷ os) (suc k) x s
+  puts_on os o k (Is f) s p = p
+  puts_on os o k (Making j fs n) s p = (omega (arith, p.0), λ c e. absurd (omega (arith, p.0, e)))
+  puts_on os o k Gone s p = tt
+
+  env_on : (os : Constants) (o : Option HVal) (k : ℕ) (env : List Thing) (benv : List Shown) → EnvOk os k env benv → EnvOk (o ∷ os) (suc k) (Is (named k) ∷ env) (named k ∷ benv)
+  env_on os o k env benv ok zero = λ m. (m - suc k, refl, refl)
+  env_on os o k env benv ok (suc i) = puts_on os o k (thing_at env i) (shown_at benv i) (ok i)
+
+  env_more : (os : Constants) (k : ℕ) (env : List Thing) (benv : List Shown) (x : Thing) (s : Shown) → Puts os k x s → EnvOk os k env benv → EnvOk os k (x ∷ env) (s ∷ benv)
+  env_more os k env benv x s p ok zero = p
+  env_more os k env benv x s p ok (suc i) = ok i
+
+  var_back : (os : Constants) (k : ℕ) (x : Thing) (s : Shown) (w : HVal) → Means os x k w → NoCell_v w → Puts os k x s → s k ≡ settle_v os w
+  var_back os k (Is f) s w m c p = let r = p k in r.2 ∙ sym (ap (settle_v os) (m ∙ r.1))
+  var_back os k (Making j fs zero) s w m c p =
+      let n = subst NoCell_v m.1 c in
+      p.1 n m.0
+      ∙ sym (ap (settle_v os) m.1 ∙ ap (λ o. or_else o (HTuple (settle_vs os (listed fs)))) (ap (constant os) (sym m.1) ∙ m.2))
+  var_back os k (Making j fs (suc n)) s w m c p = absurd m
+  var_back os k Gone s w m c p = absurd m
+
+  value_back : (v : AVal) (w : HVal) (os : Constants) (k : ℕ) (env : List Thing) (benv : List Shown) → Stands_v ds os env k v w → NoCell_v w → EnvOk os k env benv → back_v ds benv k v ≡ settle_v os w
+  value_back (Var i) w os k env benv s c ok = var_back os k (thing_at env i) (shown_at benv i) w s c (ok i)
+  value_back (Num n) w os k env benv s c ok = sym (ap (settle_v os) s)
+  value_back (Lab l) w os k env benv s c ok = sym (ap (settle_v os) s)
+  value_back (Data n) w os k env benv s c ok =
+      held_is ds n s.1 s.4
+      ∙ sym (ap (settle_v os) s.2 ∙ ap (λ o. or_else o (HTuple (settle_vs os s.0))) (ap (constant os) (sym s.2) ∙ s.3))
+  value_back (Apply v ts) w os k env benv s c ok =
+      let n = subst NoCell_v s.2 c in
+      ap₂ HApply (value_back v s.0 os k env benv s.4 n.0 ok) (ap drops (sym s.3) ∙ drops_are s.1 n.1)
+      ∙ sym (ap (settle_v os) s.2)
+  value_back (Pack h v u) w os k env benv s c ok =
+      let n = subst NoCell_v s.3 c in
+      ap (λ x. HPack x (back_v ds benv k v) (drop u)) (ap drop (sym s.4) ∙ drop_is s.0 n.0)
+      ∙ ap₂ (HPack s.0) (value_back v s.1 os k env benv s.6 n.1 ok) (ap drop (sym s.5) ∙ drop_is s.2 n.2)
+      ∙ sym (ap (settle_v os) s.3)
+
+  values_back : (vs : List AVal) (ws : HVals) (os : Constants) (k : ℕ) (env : List Thing) (benv : List Shown) → Stands_vs ds os env k vs ws → NoCell_vs ws → EnvOk os k env benv → back_vs ds benv k vs ≡ settle_vs os ws
+  values_back [] ws os k env benv s c ok = sym (ap (settle_vs os) s)
+  values_back (v ∷ vs) ws os k env benv s c ok =
+      let n = subst NoCell_vs s.2 c in
+      ap₂ MoreHVals (value_back v s.0 os k env benv s.3 n.0 ok) (values_back vs s.1 os k env benv s.4 n.1 ok)
+      ∙ sym (ap (settle_vs os) s.2)
+
+  content_no : (a : ATm) (h : HTm) (os : Constants) (env : List Thing) (k : ℕ) → Stands_t ds os Content env k a h → NoCell_t h → ⊥
+  content_no (Let (Init v i w) e) h os env k s c = (subst NoCell_t s.4 c).0
+  content_no (Let (Value v) e) h os env k s c = s
+  content_no (Let (Proj i v) e) h os env k s c = s
+  content_no (Let (Arith op v w) e) h os env k s c = s
+  content_no (Let (Unpack v) e) h os env k s c = s
+  content_no (Let (Malloc ts) e) h os env k s c = s
+  content_no (Call v ts vs) h os env k s c = s
+  content_no (If0 v a b) h os env k s c = s
+  content_no (Halt v) h os env k s c = s
+
+  more_fields : (fs : List HVal) (y : HVal) (os : Constants) → add_last (settle_vs os (listed fs)) (settle_v os y) ≡ settle_vs os (listed (fs ++ y ∷ []))
+  more_fields [] y os = refl
+  more_fields (x ∷ fs) y os = ap (MoreHVals (settle_v os x)) (more_fields fs y os)
+
+  fields_no : (fs : List HVal) (y : HVal) → NoCell_vs (listed (fs ++ y ∷ [])) → NoCell_vs (listed fs) × NoCell_v y
+  fields_no [] y c = (tt, c.0)
+  fields_no (x ∷ fs) y c = let r = fields_no fs y c.1 in ((c.0, r.0), r.1)
+
+  init_back : (v w : AVal) (os : Constants) (k : ℕ) (env : List Thing) (benv : List Shown) (j : ℕ) (fs : List HVal) (n : ℕ) (y : HVal) → v ≡ Var j → thing_at env j ≡ Making k fs (suc n) → Stands_v ds os env k w y → EnvOk os k env benv → NoCell_vs (listed (fs ++ y ∷ [])) →
+      add_field (back_v ds benv k v) (back_v ds benv k w) ≡ HTuple (settle_vs os (listed (fs ++ y ∷ [])))
+  init_back v w os k env benv j fs n y ev et sw ok c =
+      let no = fields_no fs y c in
+      let old = subst (λ x. Puts os k x (shown_at benv j)) et (ok j) in
+      ap₂ add_field (ap (back_v ds benv k) ev ∙ old.1 no.0 refl) (value_back w y os k env benv sw no.1 ok)
+      ∙ ap HTuple (more_fields fs y os)
+
+  term_back : (a : ATm) (h : HTm) (os : Constants) (k : ℕ) (env : List Thing) (benv : List Shown) → Stands_t ds os Any env k a h → NoCell_t h → EnvOk os k env benv → back_t ds benv k a ≡ settle_t os h
+  term_back (Let (Value v) e) h os k env benv (w, t, is, sv, st) c ok =
+      let n = subst NoCell_t is c in
+      ap₂ (λ x y. HLet (HName x) y) (value_back v w os k env benv sv n.0 ok) (term_back e t (constant os w ∷ os) (suc k) (Is (named k) ∷ env) (named k ∷ benv) st n.1 (env_on os (constant os w) k env benv ok))
+      ∙ sym (ap (settle_t os) is)
+  term_back (Let (Proj i v) e) h os k env benv (w, t, inl is, sv, st) c ok =
+      let n = subst NoCell_t is c in
+      ap₂ (λ x y. HLet (HProj i x) y) (value_back v w os k env benv sv n.0 ok) (term_back e t (None ∷ os) (suc k) (Is (named k) ∷ env) (named k ∷ benv) st n.1 (env_on os None k env benv ok))
+      ∙ sym (ap (settle_t os) is)
+  term_back (Let (Proj i v) e) h os k env benv (w, t, inr get, sv, st) c ok = absurd (subst NoCell_t get.1 c).0
+  term_back (Let (Arith op v w) e) h os k env benv (x, y, t, is, sv, sw, st) c ok =
+      let n = subst NoCell_t is c in
+      ap₂ (λ p q. HLet (HArith op p q) (back_t ds (named k ∷ benv) (suc k) e)) (value_back v x os k env benv sv n.0.0 ok) (value_back w y os k env benv sw n.0.1 ok)
+      ∙ ap (HLet (HArith op (settle_v os x) (settle_v os y))) (term_back e t (None ∷ os) (suc k) (Is (named k) ∷ env) (named k ∷ benv) st n.1 (env_on os None k env benv ok))
+      ∙ sym (ap (settle_t os) is)
+  term_back (Let (Unpack v) e) h os k env benv (w, t, is, sv, st) c ok =
+      let n = subst NoCell_t is c in
+      ap₂ (λ x y. HLet (HUnpack x) y) (value_back v w os k env benv sv n.0 ok) (term_back e t (None ∷ os) (suc k) (Is (named k) ∷ env) (named k ∷ benv) st n.1 (env_on os None k env benv ok))
+      ∙ sym (ap (settle_t os) is)
+  term_back (Let (Malloc ts) e) h os k env benv (inl st) c ok =
+      term_back e h os k (Making k [] (arity ts) ∷ env) ((λ m. HTuple NoHVals) ∷ benv) st c (env_more os k env benv (Making k [] (arity ts)) (λ m. HTuple NoHVals) (omega arith, λ n q. refl) ok)
+  term_back (Let (Malloc ts) e) h os k env benv (inr st) c ok = absurd (content_no e h os (Gone ∷ env) k st c)
+  term_back (Let (Init v i w) e) h os k env benv (inl (j, fs, n, y, ev, et, ei, sw, st)) c ok =
+      let s : Shown = λ m. add_field (back_v ds benv m v) (back_v ds benv m w) in
+      let new = Making k (fs ++ y ∷ []) n in
+      term_back e h os k (new ∷ env) (s ∷ benv) st c (env_more os k env benv new s (omega arith, λ q z. init_back v w os k env benv j fs n y ev et sw ok q) ok)
+  term_back (Let (Init v i w) e) h os k env benv (inr (x, y, t, one, is, sv, sw, st)) c ok = absurd (subst NoCell_t is c).0
+  term_back (Call v ts vs) h os k env benv (x, us, xs, is, types, sv, svs) c ok =
+      let n = subst NoCell_t is c in
+      ap₂ (λ p q. HCall p q (back_vs ds benv k vs)) (value_back v x os k env benv sv n.0 ok) (ap drops (sym types) ∙ drops_are us n.1)
+      ∙ ap (HCall (settle_v os x) us) (values_back vs xs os k env benv svs n.2 ok)
+      ∙ sym (ap (settle_t os) is)
+  term_back (If0 v a b) h os k env benv (x, t, u, is, sv, st, su) c ok =
+      let n = subst NoCell_t is c in
+      ap₂ (λ p q. HIf p q (back_t ds benv k b)) (value_back v x os k env benv sv n.0 ok) (term_back a t os k env benv st n.1 ok)
+      ∙ ap (HIf (settle_v os x) (settle_t os t)) (term_back b u os k env benv su n.2 ok)
+      ∙ sym (ap (settle_t os) is)
+  term_back (Halt v) h os k env benv (x, is, sv) c ok =
+      let n = subst NoCell_t is c in
+      ap HHalt (value_back v x os k env benv sv n ok) ∙ sym (ap (settle_t os) is)
+
+  args_ok : (ts : ATys) (k : ℕ) (env : List Thing) (benv : List Shown) → ((os : Constants) (m : ℕ) → EnvOk os m env benv) → (os : Constants) (m : ℕ) → EnvOk os m (arg_things k env ts) (arg_names k benv ts)
+  args_ok NoATys k env benv ok os m = ok os m
+  args_ok (MoreATys t ts) k env benv ok os m =
+      args_ok ts (suc k) (Is (named k) ∷ env) (named k ∷ benv) (λ os m. env_more os m env benv (Is (named k)) (named k) (λ z. (z - suc k, refl, refl)) (ok os m)) os m
+
+  count_is : (ts : ATys) (k : ℕ) → arg_count k ts ≡ k + arity ts
+  count_is NoATys k = omega arith
+  count_is (MoreATys t ts) k = count_is ts (suc k) ∙ omega arith
+
+  blocks_back : (bs : List ABlk) (xs : HBlks) → Stands_all ds bs xs → NoCells xs → back_all ds bs ≡ settle_all xs
+  blocks_back [] [] s c = refl
+  blocks_back [] (x ∷ xs) s c = absurd s
+  blocks_back (b ∷ bs) [] s c = absurd s
+  blocks_back (b ∷ bs) (x ∷ xs) s c =
+      let os = of_args x.args [] in
+      let k = arg_count 0 b.args in
+      let z : arity b.args ≡ k = sym (count_is b.args 0 ∙ omega arith) in
+      let st = subst (λ m. Stands_t ds os Any (arg_things 0 [] b.args) m b.body x.body) z s.0.2 in
+      let body = term_back b.body x.body os k (arg_things 0 [] b.args) (arg_names 0 [] b.args) st c.0.1 (args_ok b.args 0 [] [] (λ os m i. tt) os k) in
+      let args = ap drops (sym s.0.1) ∙ drops_are x.args c.0.0 in
+      ap₂ (λ p q. p ∷ q)
+      (ap (λ o. record { owes = o; args = drops b.args; body = back_t ds (arg_names 0 [] b.args) k b.body }) s.0.0
+      ∙ ap₂ (λ p q. record { owes = x.owes; args = p; body = q }) args body)
+      (blocks_back bs xs s.1 c.1)
 
 pub put_back : PutsBack
-put_back ks t h c d = (blocks_back ks ks c h.0, back_is ks t [] [] 0 0 [] (in_t ks 0 [] 0 refl t h.1) d tt)
+put_back p main ks t s c d =
+    let ds = tuples_in ks t in
+    let no = all_no (tuples_all ks) (tuples_t [] t) (tuples_all_no ks c) (tuples_t_no t [] tt d) in
+    (data_back ds p.tuples ds s.0 no, blocks_back ds p.blocks ks s.1 c, term_back ds main t [] 0 [] [] s.2 d (λ i. tt))

@@ -1,69 +1,173 @@
 -- Worked rows of allocation: hoisted terms and what they become, held beside the relation, and allocated terms that no
 -- hoisted term stands behind.
 use Rattle.std.proofs.Common.{pos, ◌≡◌, ℕ, suc, List, [], ◌∷◌, length, refl, ap, ◌∙◌, sym, arith, inl, inr}
-use Rattle.a_terms.specs.Tree.{AInt, ATuple, NoATys, MoreATys, MoreAFields, NoAFields, AVal, Var, Num, Value, Proj, Malloc, Init, ATm, Let, Halt}
-use Rattle.c_terms.specs.C.{TCInt, TCRef}
-use Rattle.h_terms.specs.H.{HVar, HInt, HTuple, NoHVals, MoreHVals, HName, HProj, HCell, HGet, HSet, HTm, HLet, HHalt}
-use Rattle.a_law.specs.Allocate.{alloc_main, atype}
-use Rattle.a_law.specs.Back.{back_t}
-use Rattle.a_law.specs.Stands.{Shown, Thing, Making, thing_at, Any, Stands_t}
 use Rattle.std.specs.Prelude.{true}
+use Rattle.a_terms.specs.Meaning.{Halted, meaning}
+use Rattle.a_terms.specs.Tree.{AInt, AVar, ATuple, AExists, ATy, NoATys, MoreATys, MoreAFields, NoAFields, AVal, Var, Num, Lab, Data, Apply, Pack, Value, Proj, Malloc, Init, ATm, Let, Halt}
+use Rattle.c_terms.specs.C.{CTy, TCInt, TCRef, TCVar, TCSome, NoCTys, MoreCTys}
+use Rattle.h_terms.specs.H.{HVar, HInt, HLabel, HTuple, HApply, HPack, HVal, NoHVals, MoreHVals, HName, HProj, HCell, HGet, HSet, HTm, HLet, HHalt, HBlk}
+use Rattle.a_law.specs.Allocate.{alloc_data, alloc_main, alloc_prog, atype}
+use Rattle.a_law.specs.Back.{back_data, back_t}
+use Rattle.a_law.specs.Constants.{settle_t, tuples_in}
+use Rattle.a_law.specs.Stands.{Thing, Making, thing_at, Any, Stands_t}
 
--- x = <1, <5>>; y = #1 x; halt y
+abbrev any : CTy
+any = TCSome (TCVar 0)
+
+abbrev one : HVal → HVal
+one v = HTuple (MoreHVals v NoHVals)
+
+abbrev both : HVal → HVal → HVal
+both v w = HTuple (MoreHVals v (MoreHVals w NoHVals))
+
+abbrev single : ATy
+single = ATuple (MoreAFields AInt true NoAFields)
+
+abbrev pair : ATy
+pair = ATuple (MoreAFields AInt true (MoreAFields (ATuple NoAFields) true NoAFields))
+
+-- x = <1, <>>; y = <x, <7>>; z = #2 y; w = #1 z; halt w: all four tuples are data, and x is written out in the last one
+abbrev written_out : HTm
+written_out =
+    HLet (HName (both (HInt (pos 1)) (HTuple NoHVals)))
+    (HLet (HName (both (HVar 0) (one (HInt (pos 7)))))
+    (HLet (HProj 2 (HVar 0)) (HLet (HProj 1 (HVar 0)) (HHalt (HVar 0)))))
+
+abbrev written_out_made : ATm
+written_out_made =
+    Let (Value (Data 1)) (Let (Value (Data 3)) (Let (Proj 2 (Var 0)) (Let (Proj 1 (Var 0)) (Halt (Var 0)))))
+
+written_out_is_made : alloc_main [] written_out ≡ written_out_made
+written_out_is_made = refl
+
+written_out_data : alloc_data [] written_out
+    ≡ []
+    ∷ (record { value = Num (pos 1); kind = AInt } ∷ record { value = Data 0; kind = ATuple NoAFields } ∷ [])
+    ∷ (record { value = Num (pos 7); kind = AInt } ∷ [])
+    ∷ (record { value = Data 1; kind = pair } ∷ record { value = Data 2; kind = single } ∷ [])
+    ∷ []
+written_out_data = refl
+
+written_out_runs : meaning (alloc_prog [] written_out) (alloc_main [] written_out) 0 ≡ Halted (pos 7) []
+written_out_runs = refl
+
+-- put back, it is that term with <1, <>> in the place of x in the second tuple
+abbrev settled : HTm
+settled =
+    HLet (HName (both (HInt (pos 1)) (HTuple NoHVals)))
+    (HLet (HName (both (both (HInt (pos 1)) (HTuple NoHVals)) (one (HInt (pos 7)))))
+    (HLet (HProj 2 (HVar 0)) (HLet (HProj 1 (HVar 0)) (HHalt (HVar 0)))))
+
+written_out_is_settled : settle_t [] written_out ≡ settled
+written_out_is_settled = refl
+
+written_out_is_put_back : back_t (tuples_in [] written_out) [] 0 written_out_made ≡ settled
+written_out_is_put_back = refl
+
+written_out_data_back : back_data (tuples_in [] written_out) (alloc_data [] written_out) ≡ tuples_in [] written_out
+written_out_data_back = refl
+
+-- p = pack[int, 5]; q = p; t = <q, p>; u = <pack[.., q]>; halt 0: the pair of a named package is data; a package of q
+-- is no constant, so the last tuple is made
+abbrev packages : HTm
+packages =
+    HLet (HName (HPack TCInt (HInt (pos 5)) any))
+    (HLet (HName (HVar 0))
+    (HLet (HName (both (HVar 0) (HVar 1))) (HLet (HName (one (HPack any (HVar 1) any))) (HHalt (HInt (pos 0))))))
+
+packages_data : alloc_data [] packages
+    ≡ (record { value = Pack AInt (Num (pos 5)) (AExists (AVar 0)); kind = AExists (AVar 0) }
+    ∷ record { value = Pack AInt (Num (pos 5)) (AExists (AVar 0)); kind = AExists (AVar 0) } ∷ [])
+    ∷ []
+packages_data = refl
+
+packages_are_made : alloc_main [] packages
+    ≡ Let (Value (Pack AInt (Num (pos 5)) (AExists (AVar 0))))
+    (Let (Value (Var 0))
+    (Let (Value (Data 0))
+    (Let (Malloc (MoreATys (AExists (AVar 0)) NoATys))
+    (Let (Init (Var 0) 1 (Pack (AExists (AVar 0)) (Var 2) (AExists (AVar 0))))
+    (Let (Value (Var 0)) (Halt (Num (pos 0))))))))
+packages_are_made = refl
+
+-- c = ref 1; t = <c>; p = pack[.., <pack[int, 5]>]; halt 0: a cell is never data, nor a tuple of it; a package of a
+-- tuple of packages is a constant
+abbrev mixed : HTm
+mixed =
+    HLet (HCell (HInt (pos 1)))
+    (HLet (HName (one (HVar 0)))
+    (HLet (HName (HPack any (one (HPack TCInt (HInt (pos 5)) any)) any)) (HHalt (HInt (pos 0)))))
+
+mixed_data : alloc_data [] mixed
+    ≡ (record { value = Pack AInt (Num (pos 5)) (AExists (AVar 0)); kind = AExists (AVar 0) } ∷ []) ∷ []
+mixed_data = refl
+
+mixed_is_made : alloc_main [] mixed
+    ≡ Let (Malloc (MoreATys AInt NoATys))
+    (Let (Init (Var 0) 1 (Num (pos 1)))
+    (Let (Malloc (MoreATys single NoATys))
+    (Let (Init (Var 0) 1 (Var 1))
+    (Let (Value (Var 0))
+    (Let (Value (Pack (AExists (AVar 0)) (Data 0) (AExists (AVar 0)))) (Halt (Num (pos 0))))))))
+mixed_is_made = refl
+
+-- under a type variable: a label applied to it is no constant, one applied to int is
+abbrev applied : HBlk
+applied = record {
+  owes = 1;
+  args = NoCTys;
+  body =
+      HLet (HName (one (HApply (HLabel 0) (MoreCTys (TCVar 0) NoCTys))))
+      (HLet (HName (one (HApply (HLabel 0) (MoreCTys TCInt NoCTys)))) (HHalt (HInt (pos 0))));
+}
+
+applied_data : (t : ATy) × (alloc_data (applied ∷ []) (HHalt (HInt (pos 0)))
+    ≡ (record { value = Apply (Lab 0) (MoreATys AInt NoATys); kind = t } ∷ []) ∷ [])
+applied_data = (_, refl)
+
+-- a block with an argument: a tuple of it is made; what a projection names is no constant
+abbrev argument : HBlk
+argument = record {
+  owes = 0;
+  args = MoreCTys TCInt NoCTys;
+  body =
+      HLet (HName (one (HVar 0)))
+      (HLet (HName (one (HInt (pos 2))))
+      (HLet (HProj 1 (HVar 0)) (HLet (HName (one (HVar 0))) (HHalt (HInt (pos 0))))));
+}
+
+argument_data : alloc_data (argument ∷ []) (HLet (HName (one (HInt (pos 3)))) (HHalt (HInt (pos 0))))
+    ≡ (record { value = Num (pos 2); kind = AInt } ∷ []) ∷ (record { value = Num (pos 3); kind = AInt } ∷ []) ∷ []
+argument_data = refl
+
+-- the data of the main term come after those of the blocks
+argument_main : alloc_main (argument ∷ []) (HLet (HName (one (HInt (pos 3)))) (HHalt (HInt (pos 0))))
+    ≡ Let (Value (Data 1)) (Halt (Num (pos 0)))
+argument_main = refl
+
+-- c = ref 2; y = !c; x = <1, <y>>; z = #1 x; halt z
 abbrev nested : HTm
 nested =
-    HLet (HName (HTuple (MoreHVals (HInt (pos 1)) (MoreHVals (HTuple (MoreHVals (HInt (pos 5)) NoHVals)) NoHVals))))
-    (HLet (HProj 1 (HVar 0)) (HHalt (HVar 0)))
+    HLet (HCell (HInt (pos 2)))
+    (HLet (HGet (HVar 0))
+    (HLet (HName (both (HInt (pos 1)) (one (HVar 0)))) (HLet (HProj 1 (HVar 0)) (HHalt (HVar 0)))))
 
 -- the inner tuple is made and filled first, and then the outer one:
--- i = malloc[int]; j = i[1] <- 5; o = malloc[int, <int>]; p = o[1] <- 1; q = p[2] <- j; x = q; y = #1 x; halt y
+-- k = malloc[int]; c = k[1] <- 2; y = #1 c; i = malloc[int]; j = i[1] <- y; o = malloc[int, <int>]; p = o[1] <- 1;
+-- q = p[2] <- j; x = q; z = #1 x; halt z
 abbrev nested_made : ATm
 nested_made =
     Let (Malloc (MoreATys AInt NoATys))
-    (Let (Init (Var 0) 1 (Num (pos 5)))
-    (Let (Malloc (MoreATys AInt (MoreATys (ATuple (MoreAFields AInt true NoAFields)) NoATys)))
+    (Let (Init (Var 0) 1 (Num (pos 2)))
+    (Let (Proj 1 (Var 0))
+    (Let (Malloc (MoreATys AInt NoATys))
+    (Let (Init (Var 0) 1 (Var 1))
+    (Let (Malloc (MoreATys AInt (MoreATys single NoATys)))
     (Let (Init (Var 0) 1 (Num (pos 1)))
-    (Let (Init (Var 0) 2 (Var 2)) (Let (Value (Var 0)) (Let (Proj 1 (Var 0)) (Halt (Var 0))))))))
+    (Let (Init (Var 0) 2 (Var 2)) (Let (Value (Var 0)) (Let (Proj 1 (Var 0)) (Halt (Var 0)))))))))))
 
 nested_is_made : alloc_main [] nested ≡ nested_made
 nested_is_made = refl
-
-nested_is_put_back : back_t [] 0 nested_made ≡ nested
-nested_is_put_back = refl
-
-nested_stands : Stands_t Any [] 0 nested_made nested
-nested_stands =
-    inl (inl (
-      0,
-      [],
-      0,
-      (λ m. HInt (pos 5)),
-      refl,
-      refl,
-      refl,
-      (λ m. refl),
-      inl (inl (
-        0,
-        [],
-        1,
-        (λ m. HInt (pos 1)),
-        refl,
-        refl,
-        refl,
-        (λ m. refl),
-        inl (
-          0,
-          _,
-          0,
-          (λ m. HTuple (MoreHVals (HInt (pos 5)) NoHVals)),
-          refl,
-          refl,
-          refl,
-          (λ m. refl),
-          (_, _, refl, refl, (_, _, inl refl, refl, (_, refl, refl))),
-        ),
-      )),
-    ))
 
 -- a cell is always a fresh tuple of one field, an assignment one more initialisation that names the empty tuple:
 -- c = ref 3; u = c := 4; y = !c; halt y
@@ -82,7 +186,7 @@ cell_made =
 cell_is_made : alloc_main [] cell ≡ cell_made
 cell_is_made = refl
 
-cell_stands : Stands_t Any [] 0 cell_made cell
+cell_stands : Stands_t [] [] Any [] 0 cell_made cell
 cell_stands =
     inr (_, _, refl, refl, refl, refl, inr (_, _, _, refl, refl, refl, refl, (refl, (_, _, inr (refl, refl), refl, (_, refl, refl)))))
 
@@ -96,18 +200,18 @@ second_field = Let (Malloc (MoreATys AInt NoATys)) (Let (Init (Var 0) 2 (Num (po
 not_first : (i : ℕ) → i ≡ 2 → i ≡ 1 → ⊥
 not_first i two one = omega (arith, two, one)
 
-abbrev fields_of : Thing → List Shown
-fields_of (Making fs n) = fs
+abbrev fields_of : Thing → List HVal
+fields_of (Making k fs n) = fs
 fields_of t = []
 
 abbrev index : AVal → ℕ
 index (Var i) = i
 index v = 0
 
-not_second : (h : HTm) → Stands_t Any [] 0 second_field h → ⊥
-not_second h (inl (inl (j, fs, n, y, var, at, field, means, rest))) =
+not_second : (ds : List HVal) (h : HTm) → Stands_t ds [] Any [] 0 second_field h → ⊥
+not_second ds h (inl (inl (j, fs, n, y, var, at, field, means, rest))) =
     let zero_is : 0 ≡ j = ap index var in
-    let none : [] ≡ fs = ap (λ i. fields_of (thing_at (Making [] 1 ∷ []) i)) zero_is ∙ ap fields_of at in
+    let none : [] ≡ fs = ap (λ i. fields_of (thing_at (Making 0 [] 1 ∷ []) i)) zero_is ∙ ap fields_of at in
     not_first 2 refl (field ∙ ap (λ gs. suc (length gs)) (sym none))
-not_second h (inl (inr (x, y, t, field, is, vx, vy, rest))) = not_first 2 refl field
-not_second h (inr (x, t, var, field, is, vx, rest)) = not_first 2 refl field
+not_second ds h (inl (inr (x, y, t, field, is, vx, vy, rest))) = not_first 2 refl field
+not_second ds h (inr (x, t, var, field, is, vx, rest)) = not_first 2 refl field

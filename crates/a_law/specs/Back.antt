@@ -1,11 +1,12 @@
--- The tuples of an allocated program put back into its values, and the flags of its types dropped: the hoisted program
--- that it was made from, where no cell stands in that.
-use Rattle.std.specs.Prelude.{pos, ◌≡◌, ℕ, zero, suc, ◌-◌, List, [], ◌∷◌}
-use Rattle.a_law.specs.Allocate.{alloc_main, alloc_prog}
-use Rattle.a_terms.specs.Tree.{ABlk, ACode, AExists, AFields, AInt, ATm, ATuple, ATy, ATys, AVal, AVar, Apply, Arith, Call, Data, Halt, If0, Init, Lab, Let, Malloc, MoreAFields, MoreATys, NoAFields, NoATys, Num, Pack, Proj, Unpack, Value, Var}
+-- The tuples of an allocated program and its data put back into its values, and the flags of its types dropped: the
+-- hoisted program that it stands for, where no cell stands in that and a variable in a tuple of constants counts as the
+-- constant that it names.
+use Rattle.std.specs.Prelude.{pos, ◌≡◌, ℕ, zero, suc, List, [], ◌∷◌}
+use Rattle.a_law.specs.Constants.{Plain_all, Plain_t, settle_all, settle_t, tuples_in}
+use Rattle.a_law.specs.Stands.{Shown, Stands, named}
+use Rattle.a_terms.specs.Tree.{ABlk, AConsts, AProg, ACode, AExists, AFields, AInt, ATm, ATuple, ATy, ATys, AVal, AVar, Apply, Arith, Call, Data, Halt, If0, Init, Lab, Let, Malloc, MoreAFields, MoreATys, NoAFields, NoATys, Num, Pack, Proj, Unpack, Value, Var}
 use Rattle.c_terms.specs.C.{CTy, CTys, MoreCTys, NoCTys, TCCode, TCInt, TCRef, TCSome, TCTuple, TCVar}
 use Rattle.h_terms.specs.H.{HApply, HArith, HBlk, HBlks, HCall, HCell, HDecl, HGet, HHalt, HIf, HInt, HLabel, HLet, HName, HPack, HProj, HSet, HTm, HTuple, HUnpack, HVal, HVals, HVar, MoreHVals, NoHVals}
-use Rattle.h_terms.specs.Typing.{HProgramGood}
 
 -- a type without its flags
 abbrev mutual
@@ -24,10 +25,6 @@ abbrev mutual
   drop_fields NoAFields = NoCTys
   drop_fields (MoreAFields t f fs) = MoreCTys (drop t) (drop_fields fs)
 
--- what a variable stands for, under k variables of the hoisted program
-abbrev pub Shown : Type 0
-Shown = ℕ → HVal
-
 abbrev pub nothing : Shown
 nothing k = HInt (pos 0)
 
@@ -35,9 +32,6 @@ abbrev pub shown_at : List Shown → ℕ → Shown
 shown_at [] i = nothing
 shown_at (f ∷ fs) zero = f
 shown_at (f ∷ fs) (suc i) = shown_at fs i
-
-abbrev pub named : ℕ → Shown
-named l k = HVar (k - suc l)
 
 abbrev pub add_last : HVals → HVal → HVals
 add_last NoHVals w = MoreHVals w NoHVals
@@ -52,32 +46,48 @@ add_field (HTuple vs) w = HTuple (add_last vs w)
 add_field (HApply v ts) w = HApply v ts
 add_field (HPack h v s) w = HPack h v s
 
--- a value with its variables put back
-abbrev pub back_v : List Shown → ℕ → AVal → HVal
-back_v env k (Var i) = shown_at env i k
-back_v env k (Num n) = HInt n
-back_v env k (Lab l) = HLabel l
-back_v env k (Data n) = HInt (pos 0)
-back_v env k (Apply v ts) = HApply (back_v env k v) (drops ts)
-back_v env k (Pack h v s) = HPack (drop h) (back_v env k v) (drop s)
+-- what a data tuple stands for; any value where there is none
+abbrev pub held_by : List HVal → ℕ → HVal
+held_by [] n = HInt (pos 0)
+held_by (w ∷ ws) zero = w
+held_by (w ∷ ws) (suc n) = held_by ws n
 
-abbrev pub back_vs : List Shown → ℕ → List AVal → HVals
-back_vs env k [] = NoHVals
-back_vs env k (v ∷ vs) = MoreHVals (back_v env k v) (back_vs env k vs)
+-- a value with its variables put back, and its data, which stand for ds
+abbrev pub back_v : List HVal → List Shown → ℕ → AVal → HVal
+back_v ds env k (Var i) = shown_at env i k
+back_v ds env k (Num n) = HInt n
+back_v ds env k (Lab l) = HLabel l
+back_v ds env k (Data n) = held_by ds n
+back_v ds env k (Apply v ts) = HApply (back_v ds env k v) (drops ts)
+back_v ds env k (Pack h v s) = HPack (drop h) (back_v ds env k v) (drop s)
+
+abbrev pub back_vs : List HVal → List Shown → ℕ → List AVal → HVals
+back_vs ds env k [] = NoHVals
+back_vs ds env k (v ∷ vs) = MoreHVals (back_v ds env k v) (back_vs ds env k vs)
+
+-- a data tuple, in which no variable stands
+abbrev pub back_fields : List HVal → AConsts → HVals
+back_fields ds [] = NoHVals
+back_fields ds (c ∷ cs) = MoreHVals (back_v ds [] 0 c.value) (back_fields ds cs)
+
+abbrev pub back_data : List HVal → List AConsts → List HVal
+back_data ds [] = []
+back_data ds (x ∷ xs) = HTuple (back_fields ds x) ∷ back_data ds xs
 
 -- a malloc names the tuple of no fields, and an initialisation the tuple with one field more; neither is a
 -- declaration of the hoisted term
-abbrev pub back_t : List Shown → ℕ → ATm → HTm
-back_t env k (Let (Value v) e) = HLet (HName (back_v env k v)) (back_t (named k ∷ env) (suc k) e)
-back_t env k (Let (Proj i v) e) = HLet (HProj i (back_v env k v)) (back_t (named k ∷ env) (suc k) e)
-back_t env k (Let (Arith op v w) e) =
-    HLet (HArith op (back_v env k v) (back_v env k w)) (back_t (named k ∷ env) (suc k) e)
-back_t env k (Let (Unpack v) e) = HLet (HUnpack (back_v env k v)) (back_t (named k ∷ env) (suc k) e)
-back_t env k (Let (Malloc ts) e) = back_t ((λ m. HTuple NoHVals) ∷ env) k e
-back_t env k (Let (Init v i w) e) = back_t ((λ m. add_field (back_v env m v) (back_v env m w)) ∷ env) k e
-back_t env k (Call v ts vs) = HCall (back_v env k v) (drops ts) (back_vs env k vs)
-back_t env k (If0 v a b) = HIf (back_v env k v) (back_t env k a) (back_t env k b)
-back_t env k (Halt v) = HHalt (back_v env k v)
+abbrev pub back_t : List HVal → List Shown → ℕ → ATm → HTm
+back_t ds env k (Let (Value v) e) = HLet (HName (back_v ds env k v)) (back_t ds (named k ∷ env) (suc k) e)
+back_t ds env k (Let (Proj i v) e) = HLet (HProj i (back_v ds env k v)) (back_t ds (named k ∷ env) (suc k) e)
+back_t ds env k (Let (Arith op v w) e) =
+    HLet (HArith op (back_v ds env k v) (back_v ds env k w)) (back_t ds (named k ∷ env) (suc k) e)
+back_t ds env k (Let (Unpack v) e) = HLet (HUnpack (back_v ds env k v)) (back_t ds (named k ∷ env) (suc k) e)
+back_t ds env k (Let (Malloc ts) e) = back_t ds ((λ m. HTuple NoHVals) ∷ env) k e
+back_t ds env k (Let (Init v i w) e) =
+    back_t ds ((λ m. add_field (back_v ds env m v) (back_v ds env m w)) ∷ env) k e
+back_t ds env k (Call v ts vs) = HCall (back_v ds env k v) (drops ts) (back_vs ds env k vs)
+back_t ds env k (If0 v a b) = HIf (back_v ds env k v) (back_t ds env k a) (back_t ds env k b)
+back_t ds env k (Halt v) = HHalt (back_v ds env k v)
 
 abbrev pub arg_names : ℕ → List Shown → ATys → List Shown
 arg_names k env NoATys = env
@@ -87,13 +97,13 @@ abbrev pub arg_count : ℕ → ATys → ℕ
 arg_count k NoATys = k
 arg_count k (MoreATys t ts) = arg_count (suc k) ts
 
-abbrev pub back_block : ABlk → HBlk
-back_block b =
-    record { owes = b.owes; args = drops b.args; body = back_t (arg_names 0 [] b.args) (arg_count 0 b.args) b.body }
+abbrev pub back_block : List HVal → ABlk → HBlk
+back_block ds b =
+    record { owes = b.owes; args = drops b.args; body = back_t ds (arg_names 0 [] b.args) (arg_count 0 b.args) b.body }
 
-abbrev pub back_all : List ABlk → HBlks
-back_all [] = []
-back_all (b ∷ bs) = back_block b ∷ back_all bs
+abbrev pub back_all : List HVal → List ABlk → HBlks
+back_all ds [] = []
+back_all ds (b ∷ bs) = back_block ds b ∷ back_all ds bs
 
 -- no reference in a type
 abbrev mutual
@@ -142,8 +152,15 @@ abbrev pub NoCells : HBlks → Type 0
 NoCells [] = Unit {0}
 NoCells (k ∷ ks) = (NoRefs k.args × NoCell_t k.body) × NoCells ks
 
--- the tuples of the allocation put back, and the flags dropped, give the hoisted program
+-- what stands for a program with no cell: each data tuple put back, in which data name each other, is the tuple of
+-- constants that it stands for; and the tuples put back, data too, and the flags dropped, give that program with the
+-- variables in its tuples of constants written out
 abbrev pub PutsBack : Type 0
 PutsBack =
-    (ks : HBlks) (t : HTm) → HProgramGood ks t → NoCells ks → NoCell_t t → (back_all (alloc_prog ks).blocks ≡ ks)
-    × (back_t [] 0 (alloc_main ks t) ≡ t)
+    (p : AProg) (main : ATm) (ks : HBlks) (t : HTm) → Stands p main ks t → NoCells ks → NoCell_t t →
+    (back_data (tuples_in ks t) p.tuples ≡ tuples_in ks t) × (back_all (tuples_in ks t) p.blocks ≡ settle_all ks)
+    × (back_t (tuples_in ks t) [] 0 main ≡ settle_t [] t)
+
+-- and where no variable stands in a tuple of constants, that is the program itself
+abbrev pub Settled : Type 0
+Settled = (ks : HBlks) (t : HTm) → Plain_all ks → Plain_t [] t → (settle_all ks ≡ ks) × (settle_t [] t ≡ t)

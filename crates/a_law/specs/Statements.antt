@@ -28,14 +28,14 @@ ends log r = finish r.end (onto_log r.entered log)
 abbrev pub AllocKept : Type 0
 AllocKept =
     (ks : HBlks) (t : HTm) → HProgramGood ks t → (n : ℕ) →
-    A.meaning (alloc_prog ks) (alloc_main ks t) n ≡ ends [] (hrun n ks t)
+    A.meaning (alloc_prog ks t) (alloc_main ks t) n ≡ ends [] (hrun n ks t)
 
 -- the allocation of a typed program is typed
 abbrev pub AllocTypesKept : Type 0
-AllocTypesKept = (ks : HBlks) (t : HTm) → HProgramGood ks t → Program-ok (alloc_prog ks) (alloc_main ks t)
+AllocTypesKept = (ks : HBlks) (t : HTm) → HProgramGood ks t → Program-ok (alloc_prog ks t) (alloc_main ks t)
 
 -- the allocation of a program within bounds is within bounds: reach and names grow by nothing, and variables at most
 -- threefold
 abbrev pub AllocFits : Type 0
 AllocFits =
-    (N M R : ℕ) → 3 * N ≤ M → (ks : HBlks) (t : HTm) → HFits N R ks t → AFits M R (alloc_prog ks) (alloc_main ks t)
+    (N M R : ℕ) → 3 * N ≤ M → (ks : HBlks) (t : HTm) → HFits N R ks t → AFits M R (alloc_prog ks t) (alloc_main ks t)

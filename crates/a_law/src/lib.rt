@@ -1,7 +1,7 @@
 //! Allocation on plain trees, and what it keeps.
 #![tactic(auto)]
 
-ghost use Rattle.a_law.specs.Back.{PutsBack};
+ghost use Rattle.a_law.specs.Back.{PutsBack, Settled};
 ghost use Rattle.a_law.specs.Stands.{AllocStands};
 ghost use Rattle.a_law.specs.Statements.{AllocFits, AllocKept, AllocTypesKept};
 
@@ -34,7 +34,13 @@ pub fn allocation_stands_for_its_program()
     ensures { AllocStands }
 {}
 
-/// Where no cell stands, the tuples of the allocation put back and the flags dropped give the hoisted program.
+/// What stands for a program with no cell gives, its tuples and data put back and its flags dropped, that program,
+/// where in a tuple of constants a variable counts as the constant that it names.
 pub fn tuples_are_put_back()
     ensures { PutsBack }
+{}
+
+/// Where no variable stands in a tuple of constants, that is the program itself.
+pub fn plain_programs_are_settled()
+    ensures { Settled }
 {}

@@ -10,3 +10,4 @@ mod Steps
 mod Terms
 mod Walking
 mod Kept
+mod Every

@@ -3,13 +3,14 @@ use Rattle.std.proofs.Common.{◌≡◌, ◌<◌, ◌≤◌, ℕ, ◌+◌, List,
 use Rattle.std.proofs.lemmas.List.{take_more, take_all, append-nil}
 use Rattle.h_terms.specs.H.{HVal, HBlks}
 use Rattle.a_terms.specs.Tree as a
-use Rattle.a_pass.specs.declared.state.TypeOf.{TypeOf}
+use Rattle.a_pass.specs.declared.state.Seen.{Seen}
 use Rattle.h_terms.specs.Nodes.{more, reads, tied}
-use Rattle.a_terms.specs.NodeTrees.{a_value}
+use Rattle.a_terms.specs.NodeTrees.{a_data, a_value}
 use Rattle.h_terms.specs.declared.node.HPart.{HPart}
 use Rattle.a_terms.specs.declared.nodes.AValue.{AValue}
+use Rattle.a_terms.specs.declared.nodes.AData.{AData}
 use Rattle.a_terms.specs.declared.nodes.ANode.{ANode}
-use Rattle.a_law.specs.Allocate.{vals}
+use Rattle.a_law.specs.Allocate.{Known, vals}
 use Rattle.a_pass.specs.Scope.{value_at}
 use Rattle.a_pass.specs.Emits.{Made, Reads}
 use Rattle.a_pass.proofs.Emitting.{emits_none}
@@ -18,22 +19,25 @@ reads_push : (vs : List HVal) (ps : List HPart) (p : HPart) → reads vs (ps ++ 
 reads_push vs [] p = refl
 reads_push vs (q ∷ ps) p = reads_push (more q vs) ps p
 
-pub made_none : (ks : HBlks) (g : List a.ATy) (ls : List ℕ) (d : ℕ) (vs : List AValue) (ts : List TypeOf) (now : List ANode) → vs ≡ [] → ts ≡ [] → Made ks g ls d [] now vs ts d now
-made_none ks g ls d vs ts now v t = record {
+pub made_none : (ks : HBlks) (g : List a.ATy) (ls : List Known) (d : ℕ) (vs : List AValue) (ts : List Seen) (now : List ANode) (tuples : List AData) → vs ≡ [] → ts ≡ [] → Made ks g ls (length tuples) d [] now tuples vs ts d now tuples
+made_none ks g ls d vs ts now tuples v t = record {
   values = λ e. ap (map (value_at e)) v;
   types = ap (map _) t;
+  consts = ap (map _) t;
   depth = refl;
+  number = refl;
   emits = emits_none now;
+  keeps = sym (append-nil (a_data tuples));
 }
 
-pub made_next : (ks : HBlks) (g : List a.ATy) (ls : List ℕ) (d : ℕ) (ps : List HPart) (i : ℕ) (p : HPart) (begin : List ANode) (vs ws : List AValue) (ts us : List TypeOf) (m k : ℕ) (now new : List ANode) → i < length ps → p ≡ get_or ps i p →
-    Made ks g ls d (reads [] (take i ps)) begin vs ts m now → Reads ks g ls (more p) vs ts m now ws us k new → Made ks g ls d (reads [] (take (i + 1) ps)) begin ws us k new
-made_next ks g ls d ps i p begin vs ws ts us m k now new lt is made step =
-    subst (λ xs. Made ks g ls d xs begin ws us k new) (sym (ap (reads []) (take_more ps i p lt ∙ ap (λ q. take i ps ++ q ∷ []) (sym is)) ∙ reads_push [] (take i ps) p)) (step d (reads [] (take i ps)) begin made)
+pub made_next : (ks : HBlks) (g : List a.ATy) (ls : List Known) (b d : ℕ) (ps : List HPart) (i : ℕ) (p : HPart) (begin : List ANode) (kept : List AData) (vs ws : List AValue) (ts us : List Seen) (m k : ℕ) (now new : List ANode) (tuples more2 : List AData) → i < length ps → p ≡ get_or ps i p →
+    Made ks g ls b d (reads [] (take i ps)) begin kept vs ts m now tuples → Reads ks g ls (more p) vs ts m now tuples ws us k new more2 → Made ks g ls b d (reads [] (take (i + 1) ps)) begin kept ws us k new more2
+made_next ks g ls b d ps i p begin kept vs ws ts us m k now new tuples more2 lt is made step =
+    subst (λ xs. Made ks g ls b d xs begin kept ws us k new more2) (sym (ap (reads []) (take_more ps i p lt ∙ ap (λ q. take i ps ++ q ∷ []) (sym is)) ∙ reads_push [] (take i ps) p)) (step b d (reads [] (take i ps)) begin kept made)
 
-pub made_all : (ks : HBlks) (g : List a.ATy) (ls : List ℕ) (d : ℕ) (ps : List HPart) (i : ℕ) (begin : List ANode) (vs : List AValue) (ts : List TypeOf) (m : ℕ) (now : List ANode) → length ps ≤ i →
-    Made ks g ls d (reads [] (take i ps)) begin vs ts m now → Made ks g ls d (reads [] ps) begin vs ts m now
-made_all ks g ls d ps i begin vs ts m now le made = subst (λ xs. Made ks g ls d (reads [] xs) begin vs ts m now) (take_all i ps le) made
+pub made_all : (ks : HBlks) (g : List a.ATy) (ls : List Known) (b d : ℕ) (ps : List HPart) (i : ℕ) (begin : List ANode) (kept : List AData) (vs : List AValue) (ts : List Seen) (m : ℕ) (now : List ANode) (tuples : List AData) → length ps ≤ i →
+    Made ks g ls b d (reads [] (take i ps)) begin kept vs ts m now tuples → Made ks g ls b d (reads [] ps) begin kept vs ts m now tuples
+made_all ks g ls b d ps i begin kept vs ts m now tuples le made = subst (λ xs. Made ks g ls b d (reads [] xs) begin kept vs ts m now tuples) (take_all i ps le) made
 
 -- a list that is made one by one of the items of another
 pub mapped_step : {X Y Z : Type 0} (f : Y → Z) (h : X → Z) (made new : List Y) (y : Y) (rest xs : List X) (x : X) (all : List Z) → rest ≡ x ∷ xs → new ≡ made ++ y ∷ [] → f y ≡ h x →

@@ -1,7 +1,8 @@
-//! Allocation: each tuple of a hoisted program becomes a malloc and the initialisations of its fields, and each cell a
-//! tuple of one field.
+//! Allocation: each tuple of constants of a hoisted program becomes a data tuple, any other tuple a malloc and the
+//! initialisations of its fields, and each cell a tuple of one field.
 #![tactic(auto)]
 
+mod constants;
 mod emit;
 mod nodes;
 mod parts;

@@ -1,33 +1,41 @@
 // The nodes of a term, one by one.
-ghost use Rattle.std.specs.Prelude.{◌≡◌, ℕ, suc, List, [], ◌∷◌, true, IfOk, OnOk, map, length};
+ghost use Rattle.std.specs.Prelude.{◌≡◌, ℕ, suc, List, [], ◌∷◌, true, IfOk, OnOk, Option, None, map, option_map, length};
 ghost use Rattle.h_terms.specs.Nodes.{h_blocks, HArity};
 ghost use Rattle.h_terms.specs.Nodes as h;
 ghost use Rattle.h_terms.specs.declared.node.HForm.TheVariants as H;
 ghost use Rattle.a_terms.specs.Tree as a;
 ghost use Rattle.a_terms.specs.Read.{atree};
-ghost use Rattle.a_pass.specs.Scope.{Under, type_in, value_at};
+ghost use Rattle.a_terms.specs.NodeTrees.{a_value};
+ghost use Rattle.a_pass.specs.Scope.{Under, constant_in, knowns, type_in, value_at};
+ghost use Rattle.a_law.specs.Allocate.{Known};
 ghost use Rattle.a_pass.specs.Emits.{Emits, Declares, Ends, Stepped, Steps};
 
+use crate::constants::constant_value;
 use crate::emit::{after, content, malloc, under_all};
 use crate::run::{Run, read};
 use crate::scope::{body_in, field_in, own};
-use crate::state::{Name, Place, TypeOf};
+use crate::state::{ConstantOf, Name, Place, Seen, TypeOf};
 use crate::types::a_types;
 use a_terms::parts::set_tuple;
-use a_terms::{ABase, AForm, ANode, AType, AValue};
+use a_terms::{ABase, AData, AForm, ANode, AType, AValue};
 use c_terms::CType;
 use h_terms::{HBlock, HForm, HNode};
 use idx_core::{Op, OutOfMemory};
 use std::alloc::Global;
 
-// The one type of a list.
-fn only(types: Vec<TypeOf>) -> TypeOf
-    ensures { (g : List a.ATy) (t : a.ATy) → map (type_in g) types.items ≡ t ∷ [] → type_in g result ≡ t }
+// What is known of the one value of a list.
+fn only(types: Vec<Seen>) -> Seen
+    ensures ty { (g : List a.ATy) (t : a.ATy) → map (type_in g) types.items ≡ t ∷ [] → type_in g result ≡ t }
+    ensures constant { (ls : List Known) (o : Option a.AVal) → map (constant_in ls) types.items ≡ o ∷ [] →
+        constant_in ls result ≡ o }
 {
     let mut types = types;
     match types.pop() {
-        Some(t) => t,
-        None => TypeOf::Own(AType::Int),
+        Some(seen) => seen,
+        None => Seen {
+            ty: TypeOf::Own(AType::Int),
+            constant: ConstantOf::Open,
+        },
     }
 }
 
@@ -50,13 +58,14 @@ fn declare(
     form: AForm,
     values: Vec<AValue>,
     ty: AType,
+    constant: Option<AValue>,
     depth: u64,
     binders: u64,
     names: &mut Vec<Name>,
     places: &mut Vec<Place>,
     out: &mut Vec<ANode>,
 ) -> Result<(), OutOfMemory>
-    ensures { OnOk result (Declares form values.items ty depth
+    ensures { OnOk result (Declares form values.items ty (option_map a_value constant) depth
         (length names.old.items) binders names.old.items names.new.items places.old.items places.new.items
         out.old.items out.new.items) }
 {
@@ -66,6 +75,7 @@ fn declare(
         level: depth,
         ty,
         under: binders,
+        constant,
     })?;
     places.push(Place {
         depth: next,
@@ -100,12 +110,15 @@ fn name(
         types,
         depth,
     } = run;
-    let ty = own(alloc, names, place.binders, only(types))?;
+    let Seen { ty, constant } = only(types);
+    let ty = own(alloc, names, place.binders, ty)?;
+    let constant = constant_value(alloc, names, constant)?;
     let values = under_all(alloc, values, depth)?;
     declare(
         AForm::Value,
         values,
         ty,
+        constant,
         depth,
         place.binders,
         names,
@@ -138,12 +151,13 @@ fn project(
         types,
         depth,
     } = run;
-    let ty = field_in(alloc, names, place.binders, only(types), i)?;
+    let ty = field_in(alloc, names, place.binders, only(types).ty, i)?;
     let values = under_all(alloc, values, depth)?;
     declare(
         AForm::Proj(i),
         values,
         ty,
+        None,
         depth,
         place.binders,
         names,
@@ -178,6 +192,7 @@ fn operate(
         AForm::Arith(op),
         values,
         AType::Int,
+        None,
         depth,
         place.binders,
         names,
@@ -206,9 +221,19 @@ fn unpack(
         depth,
     } = run;
     let inner = after(place.binders)?;
-    let ty = body_in(alloc, names, place.binders, only(types))?;
+    let ty = body_in(alloc, names, place.binders, only(types).ty)?;
     let values = under_all(alloc, values, depth)?;
-    declare(AForm::Unpack, values, ty, depth, inner, names, places, out)?;
+    declare(
+        AForm::Unpack,
+        values,
+        ty,
+        None,
+        depth,
+        inner,
+        names,
+        places,
+        out,
+    )?;
     Ok(())
 }
 
@@ -243,7 +268,7 @@ fn cell(
         types,
         depth,
     } = run;
-    let ty = own(alloc, names, place.binders, only(types))?;
+    let ty = own(alloc, names, place.binders, only(types).ty)?;
     let whole = one_field(alloc, ty, out)?;
     let newest = after(depth)?;
     let values = content(alloc, only_value(alloc, values), newest)?;
@@ -251,6 +276,7 @@ fn cell(
         AForm::Init(1),
         values,
         whole,
+        None,
         newest,
         place.binders,
         names,
@@ -306,6 +332,7 @@ fn set(
         AForm::Malloc(room),
         empty,
         none,
+        None,
         next,
         place.binders,
         names,
@@ -445,6 +472,7 @@ pub(crate) fn step(
     place: Place,
     names: &mut Vec<Name>,
     places: &mut Vec<Place>,
+    tuples: &mut Vec<AData>,
     out: &mut Vec<ANode>,
 ) -> Result<(), OutOfMemory>
     requires arity { HArity node.now.form (h.values node.now) }
@@ -452,7 +480,7 @@ pub(crate) fn step(
     requires bound { Under place.binders names.old.items }
     ensures { OnOk result (Stepped (h_blocks blocks.now) place node.now.form
         (h.values node.now) names.old.items names.new.items places.old.items places.new.items out.old.items
-        out.new.items) }
+        out.new.items tuples.old.items tuples.new.items) }
 {
     let run = read(
         alloc,
@@ -461,6 +489,7 @@ pub(crate) fn step(
         place.binders,
         &node.values,
         place.depth,
+        tuples,
         out,
     )?;
     form(alloc, &node.form, run, place, names, places, out)?;

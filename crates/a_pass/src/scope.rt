@@ -4,11 +4,13 @@ ghost use Rattle.h_terms.specs.H.{block_at};
 ghost use Rattle.h_terms.specs.Nodes.{h_blocks};
 ghost use Rattle.a_terms.specs.Tree as a;
 ghost use Rattle.a_terms.specs.Read.{atree};
+ghost use Rattle.a_terms.specs.NodeTrees as tree;
+ghost use Rattle.a_terms.specs.NodeTrees.{a_value};
 ghost use Rattle.a_terms.specs.Typing.{or_int, field_of as the_field_of, body_of as the_body_of};
-ghost use Rattle.a_law.specs.Allocate.{var_of, h_code};
-ghost use Rattle.a_pass.specs.Scope.{value_at, base_at, levels, scope, type_in, typed};
+ghost use Rattle.a_law.specs.Allocate.{Known, var_of, h_code, level_of, named};
+ghost use Rattle.a_pass.specs.Scope.{value_at, base_at, constant_in, knowns, known_name, scope, type_in, type_of, typed};
 
-use crate::state::{Leaf, Name, TypeOf};
+use crate::state::{ConstantOf, Leaf, Name, Seen, TypeOf};
 use crate::types::a_types;
 use a_terms::parts::{body_of, field_of};
 use a_terms::walks::shift_type;
@@ -18,7 +20,8 @@ use idx_core::OutOfMemory;
 use std::alloc::Global;
 
 pub(crate) fn plain(alloc: Global, base: ABase) -> AValue
-    ensures { (d : ℕ) → value_at d result ≡ base_at d base }
+    ensures value { (d : ℕ) → value_at d result ≡ base_at d base }
+    ensures whole { a_value result ≡ tree.base base }
 {
     AValue {
         base,
@@ -27,9 +30,9 @@ pub(crate) fn plain(alloc: Global, base: ABase) -> AValue
 }
 
 // Name i, 0 the innermost.
-fn name_at(names: &[Name], i: u64) -> Option<&Name>
-    ensures level { MatchOption result (slice_get (levels names.now) i ≡ None)
-        (λ n. slice_get (levels names.now) i ≡ Some n.now.level) }
+pub(crate) fn name_at(names: &[Name], i: u64) -> Option<&Name>
+    ensures known { MatchOption result (slice_get (knowns names.now) i ≡ None)
+        (λ n. slice_get (knowns names.now) i ≡ Some (known_name n.now)) }
     ensures ty { MatchOption result ((b : ℕ) → slice_get (scope b names.now) i ≡ None)
         (λ n. (b : ℕ) → slice_get (scope b names.now) i ≡ Some (typed b n.now)) }
 {
@@ -43,7 +46,7 @@ fn name_at(names: &[Name], i: u64) -> Option<&Name>
 
 // The variable that stands for name i; a number where there is no such name.
 pub(crate) fn variable(alloc: Global, names: &[Name], i: u64) -> AValue
-    ensures { (d : ℕ) → value_at d result ≡ var_of d (slice_get (levels names.now) i) }
+    ensures { (d : ℕ) → value_at d result ≡ var_of d (level_of (slice_get (knowns names.now) i)) }
 {
     match name_at(names, i) {
         Some(name) => plain(alloc, ABase::Var(name.level)),
@@ -53,14 +56,16 @@ pub(crate) fn variable(alloc: Global, names: &[Name], i: u64) -> AValue
 
 pub(crate) fn label(alloc: Global, blocks: &[HBlock], l: u64) -> Result<Leaf, OutOfMemory>
     ensures value { IfOk result (λ r. (d : ℕ) → value_at d r.value ≡ a.Lab l) }
-    ensures ty { IfOk result (λ r. (g : List a.ATy) → type_in g r.ty ≡ h_code (block_at (h_blocks blocks.now) l)) }
+    ensures ty { IfOk result (λ r. (g : List a.ATy) → type_in g r.seen ≡ h_code (block_at (h_blocks blocks.now) l)) }
+    ensures constant { IfOk result (λ r. (ls : List Known) → constant_in ls r.seen ≡ Some (a.Lab l)) }
 {
     let value = plain(alloc, ABase::Label(l));
     let ty = code_type(alloc, blocks, l)?;
-    Ok(Leaf {
-        value,
+    let seen = Seen {
         ty: TypeOf::Own(ty),
-    })
+        constant: ConstantOf::Own(plain(alloc, ABase::Label(l))),
+    };
+    Ok(Leaf { value, seen })
 }
 
 // The type of the code at a label.
@@ -132,7 +137,7 @@ pub(crate) fn own(
     binders: u64,
     ty: TypeOf,
 ) -> Result<AType, OutOfMemory>
-    ensures { IfOk result (λ r. atree r ≡ type_in (scope binders names.now) ty) }
+    ensures { IfOk result (λ r. atree r ≡ type_of (scope binders names.now) ty) }
 {
     match ty {
         TypeOf::Own(t) => Ok(t),
@@ -143,18 +148,25 @@ pub(crate) fn own(
     }
 }
 
+fn own_type(alloc: Global, names: &[Name], binders: u64, seen: Seen) -> Result<AType, OutOfMemory>
+    ensures { IfOk result (λ r. atree r ≡ type_in (scope binders names.now) seen) }
+{
+    let made = own(alloc, names, binders, seen.ty)?;
+    Ok(made)
+}
+
 // Types themselves.
 pub(crate) fn own_all(
     alloc: Global,
     names: &[Name],
     binders: u64,
-    types: Vec<TypeOf>,
+    types: Vec<Seen>,
 ) -> Result<Vec<AType>, OutOfMemory>
     ensures { IfOk result (λ r. map atree r.items ≡ map (type_in (scope binders names.now)) types.items) }
 {
     let mut made = Vec::new(alloc);
     for ty in types {
-        let one = own(alloc, names, binders, ty)?;
+        let one = own_type(alloc, names, binders, ty)?;
         made.push(one)?;
     }
     Ok(made)
@@ -168,7 +180,7 @@ pub(crate) fn field_in(
     ty: TypeOf,
     field: u64,
 ) -> Result<AType, OutOfMemory>
-    ensures { IfOk result (λ r. atree r ≡ the_field_of field (Some (type_in (scope binders names.now) ty))) }
+    ensures { IfOk result (λ r. atree r ≡ the_field_of field (Some (type_of (scope binders names.now) ty))) }
 {
     match ty {
         TypeOf::Own(t) => {
@@ -189,7 +201,7 @@ pub(crate) fn body_in(
     binders: u64,
     ty: TypeOf,
 ) -> Result<AType, OutOfMemory>
-    ensures { IfOk result (λ r. atree r ≡ the_body_of (Some (type_in (scope binders names.now) ty))) }
+    ensures { IfOk result (λ r. atree r ≡ the_body_of (Some (type_of (scope binders names.now) ty))) }
 {
     match ty {
         TypeOf::Own(t) => {

@@ -2,13 +2,15 @@
 
 use a_terms::{AType, AValue};
 
-/// A name of the hoisted term: the level of its variable in the allocated one, its type as allocation leaves it, and
-/// how many type names there were when that type was read. The type is shifted where it is needed.
+/// A name of the hoisted term: the level of its variable in the allocated one, its type as allocation leaves it, how
+/// many type names there were when that type was read, and the value of the constant that it names, if it names one.
+/// The type is shifted where it is needed; the value of a constant has no free type names.
 #[derive(Drop)]
 pub struct Name {
     pub level: u64,
     pub ty: AType,
     pub under: u64,
+    pub constant: Option<AValue>,
 }
 
 /// Where a term that is still to come stands: how many variables there are, how many names of the hoisted term, and
@@ -28,9 +30,24 @@ pub enum TypeOf {
     Name(u64),
 }
 
-/// A value, its variable by its level, and its type.
+/// The constant that a value is: none, its own, or that of a name, 0 the innermost, if that one names a constant.
+#[derive(Drop)]
+pub enum ConstantOf {
+    Open,
+    Own(AValue),
+    Name(u64),
+}
+
+/// What is known of a value: its type, and the constant that it is.
+#[derive(Drop)]
+pub struct Seen {
+    pub ty: TypeOf,
+    pub constant: ConstantOf,
+}
+
+/// A value, its variable by its level, and what is known of it.
 #[derive(Drop)]
 pub struct Leaf {
     pub value: AValue,
-    pub ty: TypeOf,
+    pub seen: Seen,
 }

@@ -1,17 +1,17 @@
 // Whole terms.
-ghost use Rattle.std.specs.Prelude.{◌≡◌, ℕ, List, [], IfOk, length};
+ghost use Rattle.std.specs.Prelude.{◌≡◌, ℕ, List, [], ◌++◌, IfOk, OnOk, length};
 ghost use Rattle.c_terms.specs.Read.{ctys};
 ghost use Rattle.h_terms.specs.Nodes.{h_blocks, h_tree, HRow};
 ghost use Rattle.a_terms.specs.Typing.{types_of};
-ghost use Rattle.a_terms.specs.NodeTrees.{a_tree};
+ghost use Rattle.a_terms.specs.NodeTrees.{a_data, a_tree};
 ghost use Rattle.a_terms.specs.Arity.{ARow};
-ghost use Rattle.a_law.specs.Allocate.{alloc_t, alloc_main, arg_levels, arg_depth, atypes};
-ghost use Rattle.a_pass.specs.Scope.{levels, scope, Under};
+ghost use Rattle.a_law.specs.Allocate.{alloc_t, arg_levels, arg_depth, atypes, data_t, n_t};
+ghost use Rattle.a_pass.specs.Scope.{knowns, scope, Under};
 
 use crate::nodes::step;
 use crate::state::{Name, Place};
 use crate::types::a_type;
-use a_terms::ANode;
+use a_terms::{AData, ANode};
 use c_terms::CType;
 use h_terms::{HBlock, HNode};
 use idx_core::OutOfMemory;
@@ -23,11 +23,15 @@ fn walk(
     nodes: &[HNode],
     names: Vec<Name>,
     depth: u64,
+    tuples: &mut Vec<AData>,
 ) -> Result<Vec<ANode>, OutOfMemory>
     requires one { HRow nodes.now 1 }
     requires bound { Under 0 names.items }
     ensures tree { IfOk result (λ r. a_tree r.items ≡ alloc_t (h_blocks blocks.now) (scope 0 names.items)
-        (levels names.items) depth (h_tree nodes.now)) }
+        (knowns names.items) (length tuples.old.items) depth (h_tree nodes.now)) }
+    ensures keeps { OnOk result (a_data tuples.new.items ≡ a_data tuples.old.items ++
+        data_t (h_blocks blocks.now) (scope 0 names.items)
+        (knowns names.items) (length tuples.old.items) depth (h_tree nodes.now)) }
     ensures one { IfOk result (λ r. ARow r.items 1) }
 {
     let mut names = names;
@@ -50,15 +54,16 @@ fn walk(
             place,
             &mut names,
             &mut places,
+            tuples,
             &mut out,
         )?;
     }
     Ok(out)
 }
 
-// The names of the arguments, which have the first levels.
+// The names of the arguments, which have the first knowns.
 fn arguments(alloc: Global, args: &[CType]) -> Result<Vec<Name>, OutOfMemory>
-    ensures levels { IfOk result (λ r. levels r.items ≡ arg_levels 0 [] (ctys args.now)) }
+    ensures knowns { IfOk result (λ r. knowns r.items ≡ arg_levels 0 [] (ctys args.now)) }
     ensures scope { IfOk result (λ r. scope 0 r.items ≡ types_of (atypes (ctys args.now)) []) }
     ensures depth { IfOk result (λ r. length r.items ≡ arg_depth 0 (ctys args.now)) }
     ensures bound { IfOk result (λ r. Under 0 r.items) }
@@ -70,26 +75,32 @@ fn arguments(alloc: Global, args: &[CType]) -> Result<Vec<Name>, OutOfMemory>
             level: level as u64,
             ty,
             under: 0,
+            constant: None,
         })?;
     }
     Ok(names)
 }
 
+// The body of a block with these arguments.
 pub(crate) fn body(
     alloc: Global,
     blocks: &[HBlock],
     args: &[CType],
     nodes: &[HNode],
+    tuples: &mut Vec<AData>,
 ) -> Result<Vec<ANode>, OutOfMemory>
     requires one { HRow nodes.now 1 }
     ensures tree { IfOk result (λ r. a_tree r.items ≡ alloc_t (h_blocks blocks.now)
-        (types_of (atypes (ctys args.now)) []) (arg_levels 0 [] (ctys args.now)) (arg_depth 0 (ctys args.now))
-        (h_tree nodes.now)) }
+        (types_of (atypes (ctys args.now)) []) (arg_levels 0 [] (ctys args.now))
+        (length tuples.old.items) (arg_depth 0 (ctys args.now)) (h_tree nodes.now)) }
+    ensures keeps { OnOk result (a_data tuples.new.items ≡ a_data tuples.old.items ++ data_t (h_blocks blocks.now)
+        (types_of (atypes (ctys args.now)) []) (arg_levels 0 [] (ctys args.now))
+        (length tuples.old.items) (arg_depth 0 (ctys args.now)) (h_tree nodes.now)) }
     ensures one { IfOk result (λ r. ARow r.items 1) }
 {
     let names = arguments(alloc, args)?;
     let depth = names.len() as u64;
-    let out = walk(alloc, blocks, nodes, names, depth)?;
+    let out = walk(alloc, blocks, nodes, names, depth, tuples)?;
     Ok(out)
 }
 
@@ -97,11 +108,15 @@ pub(crate) fn main_term(
     alloc: Global,
     blocks: &[HBlock],
     nodes: &[HNode],
+    tuples: &mut Vec<AData>,
 ) -> Result<Vec<ANode>, OutOfMemory>
     requires one { HRow nodes.now 1 }
-    ensures tree { IfOk result (λ r. a_tree r.items ≡ alloc_main (h_blocks blocks.now) (h_tree nodes.now)) }
+    ensures tree { IfOk result (λ r. a_tree r.items ≡
+        alloc_t (h_blocks blocks.now) [] [] (length tuples.old.items) 0 (h_tree nodes.now)) }
+    ensures keeps { OnOk result (a_data tuples.new.items ≡ a_data tuples.old.items ++
+        data_t (h_blocks blocks.now) [] [] (length tuples.old.items) 0 (h_tree nodes.now)) }
     ensures one { IfOk result (λ r. ARow r.items 1) }
 {
-    let out = walk(alloc, blocks, nodes, Vec::new(alloc), 0)?;
+    let out = walk(alloc, blocks, nodes, Vec::new(alloc), 0, tuples)?;
     Ok(out)
 }

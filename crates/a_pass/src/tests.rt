@@ -90,6 +90,17 @@ fn argument(alloc: Global) -> Result<CType, OutOfMemory> {
     Ok(outer)
 }
 
+// <5, <7>>
+fn constants(alloc: Global) -> Result<Vec<HPart>, OutOfMemory>
+    ensures { IfOk result (λ r. HArity H.Name (reads [] r.items)) }
+{
+    let mut parts = two(alloc, HPart::Int(5), HPart::Int(7))?;
+    parts.push(HPart::Tuple(1))?;
+    parts.push(HPart::Tuple(2))?;
+    Ok(parts)
+}
+
+// let kept = <5, <7>>
 // let cell = ref 3
 // let pair = <1, <cell, 4>>
 // let pack = pack [int, <pair, 7>] as some a. <<int, <ref int, int>>, a>
@@ -102,6 +113,7 @@ fn main_nodes(alloc: Global) -> Result<Vec<HNode>, OutOfMemory>
     let mut nodes = Vec::new(alloc);
     let inside = pair_of(alloc, argument(alloc)?, CType::Var(0))?;
     let shape = CType::Exists(Box::new(alloc, inside)?);
+    declare(HForm::Name, constants(alloc)?, &mut nodes)?;
     declare(HForm::Cell, one(alloc, HPart::Int(3))?, &mut nodes)?;
     declare(HForm::Name, nested(alloc)?, &mut nodes)?;
     declare(HForm::Name, package(alloc, shape)?, &mut nodes)?;
@@ -232,13 +244,14 @@ fn a_program_is_allocated(rt: HostRuntime) -> Result<(), OutOfMemory> {
     let alloc = rt.alloc();
     let given = hoisted(alloc)?;
     let nodes = main_nodes(alloc)?;
-    let blocks = all_blocks(alloc, &given)?;
-    let main = main_term(alloc, &given, &nodes)?;
+    let mut tuples = Vec::new(alloc);
+    let blocks = all_blocks(alloc, &given, &mut tuples)?;
+    let main = main_term(alloc, &given, &nodes, &mut tuples)?;
     let mut text = String::new(alloc);
     write_term(&mut text, &main)?;
     assert_eq!(rt;
         text.as_str(),
-        "malloc int; init 1 x0 3; \
+        "name D1; malloc int; init 1 x0 3; \
          malloc <int> int; init 1 x0 x1; init 2 x0 4; \
          malloc int <<int>,int>; init 1 x0 1; init 2 x0 x2; name x0; \
          malloc <int,<<int>,int>> int; init 1 x0 x1; init 2 x0 7; name x0 as some <<int,<<int>,int>>,a0>; \
@@ -256,5 +269,13 @@ fn a_program_is_allocated(rt: HostRuntime) -> Result<(), OutOfMemory> {
         text.as_str(),
         "<int,<<int>,int>>: #2 x0; #1 x0; #1 x0; init 1 x1 x0; malloc; halt x2; "
     );
+    let mut text = String::new(alloc);
+    for tuple in &tuples {
+        for field in &tuple.fields {
+            write_value(&mut text, &field.0)?;
+        }
+        text.push_str("; ")?;
+    }
+    assert_eq!(rt; text.as_str(), " 7;  5 D0; ");
     Ok(())
 }

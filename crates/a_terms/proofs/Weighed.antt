@@ -1,14 +1,14 @@
 -- What is counted node by node is enough, and lists that are counted item by item.
-use Rattle.std.proofs.Common.{Vec, Global, ◌≡◌, ◌<◌, ◌≤◌, ℕ, zero, suc, ◌+◌, ◌*◌, max, List, [], ◌∷◌, ◌++◌, length, take, get_or, Bool, refl, sym, ap, ◌∙◌, arith}
+use Rattle.std.proofs.Common.{Vec, Global, ◌≡◌, ◌<◌, ◌≤◌, ℕ, suc, ◌+◌, ◌*◌, max, List, [], ◌∷◌, ◌++◌, length, take, get_or, Bool, refl, sym, ap, ◌∙◌, arith}
 use Rattle.std.proofs.lemmas.List.{take_all}
 use Rattle.a_terms.specs.Tree as a
 use Rattle.a_terms.specs.Tree.{arity}
-use Rattle.a_terms.specs.Sizes.{bulk, bulk_types, bulk_fields, bulk_sum, value_weight, values_weight, weight, Blocks-fit, Fits-in}
-use Rattle.a_terms.specs.Weights.{form_size, node_size, nodes_size, wrap_weight, wraps_weight, label_size, body_size, blocks_size}
+use Rattle.a_terms.specs.Sizes.{bulk, bulk_types, bulk_fields, bulk_sum, value_weight, values_weight, weight, Blocks-fit, Data-fit, Fits-in, Tuples-fit}
+use Rattle.a_terms.specs.Weights.{form_size, node_size, nodes_size, wrap_weight, wraps_weight, label_size, body_size, blocks_size, fields_size, data_size}
 use Rattle.a_terms.specs.Read.{atree, atrees, afields}
 use Rattle.a_terms.specs.ReadLaws.{took, is_code}
 use Rattle.a_terms.specs.Row.{top, others}
-use Rattle.a_terms.specs.NodeTrees.{a_build, a_value, a_values, a_onto, a_tree, a_blocks, a_prog, no_term, no_value, base, wrap, wrapped}
+use Rattle.a_terms.specs.NodeTrees.{a_build, a_consts, a_data, a_value, a_values, a_onto, a_tree, a_blocks, a_prog, no_term, no_value, base, wrap, wrapped}
 use Rattle.a_terms.specs.declared.types.AType.{AType}
 use Rattle.a_terms.specs.declared.types.AType.TheVariants as A
 use Rattle.a_terms.specs.declared.nodes.ABase.{ABase}
@@ -20,6 +20,7 @@ use Rattle.a_terms.specs.declared.nodes.AWrap.TheVariants.{Apply, Pack}
 use Rattle.a_terms.specs.declared.nodes.AValue.{AValue}
 use Rattle.a_terms.specs.declared.nodes.ANode.{ANode}
 use Rattle.a_terms.specs.declared.nodes.ABlock.{ABlock}
+use Rattle.a_terms.specs.declared.nodes.AData.{AData}
 
 -- a sum over a list, and the greatest of a list
 abbrev pub sum_of : {T : Type 0} → (T → ℕ) → List T → ℕ
@@ -180,8 +181,32 @@ blocks_fit : (l m : ℕ) (ks : List ABlock) → labels ks ≤ l → l + bodies k
 blocks_fit l m [] a b = tt
 blocks_fit l m (k ∷ ks) a b = let t = tree_size k.body.items in ((omega (arith, a), omega (arith, b, t)), blocks_fit l m ks (omega (arith, a)) (omega (arith, b)))
 
-pub program_fits : (m : ℕ) (ks : List ABlock) (main : List ANode) → blocks_size ks + (nodes_size main + 2) ≤ m → Fits-in m (a_prog ks []) (a_tree main)
-program_fits m ks main le =
+-- data
+abbrev pub field_sum : AValue × AType → ℕ
+field_sum c = bulk (atree c.1) + value_weight (a_value c.0)
+
+abbrev pub tuple_sum : AData → ℕ
+tuple_sum d = fields_size d.fields.items
+
+pub fields_sum : (cs : List (AValue × AType)) → sum_of field_sum cs ≡ fields_size cs
+fields_sum [] = refl
+fields_sum (c ∷ cs) = ap (λ n. field_sum c + n) (fields_sum cs)
+
+pub data_sum : (ds : List AData) → sum_of tuple_sum ds ≡ data_size ds
+data_sum [] = refl
+data_sum (d ∷ ds) = ap (λ n. tuple_sum d + n) (data_sum ds)
+
+fields_fit : (l m : ℕ) (cs : List (AValue × AType)) → fields_size cs ≤ l → fields_size cs ≤ m → Data-fit l m (a_consts cs)
+fields_fit l m [] a b = tt
+fields_fit l m (c ∷ cs) a b = ((omega (arith, a), omega (arith, b)), fields_fit l m cs (omega (arith, a)) (omega (arith, b)))
+
+data_fit : (l m : ℕ) (ds : List AData) → data_size ds ≤ l → data_size ds ≤ m → Tuples-fit l m (a_data ds)
+data_fit l m [] a b = tt
+data_fit l m (d ∷ ds) a b = (fields_fit l m d.fields.items (omega (arith, a)) (omega (arith, b)), data_fit l m ds (omega (arith, a)) (omega (arith, b)))
+
+pub program_fits : (m : ℕ) (ks : List ABlock) (main : List ANode) (ds : List AData) → (blocks_size ks + data_size ds) + (nodes_size main + 2) ≤ m → Fits-in m (a_prog ks ds) (a_tree main)
+program_fits m ks main ds le =
     let p = both_parts ks in
     let t = tree_size main in
-    (labels ks, blocks_fit (labels ks) m ks (omega arith) (omega (arith, p, le)), tt, omega (arith, p, t, le))
+    let l = labels ks + data_size ds in
+    (l, blocks_fit l m ks (omega arith) (omega (arith, p, le)), data_fit l m ds (omega arith) (omega (arith, le)), omega (arith, p, t, le))

@@ -1,15 +1,18 @@
 -- A number that is counted node by node, and is no less than what a program needs of names and registers.
 use Rattle.std.specs.Prelude.{ℕ, ◌+◌, ◌*◌, List, [], ◌∷◌, length}
 use Rattle.a_terms.specs.Tree.{arity}
-use Rattle.a_terms.specs.Sizes.{bulk, bulk_sum, bulk_types, values_weight}
+use Rattle.a_terms.specs.Sizes.{bulk, bulk_sum, bulk_types, value_weight, values_weight}
 use Rattle.a_terms.specs.Read.{atree, atrees}
-use Rattle.a_terms.specs.NodeTrees.{a_values}
+use Rattle.a_terms.specs.NodeTrees.{a_value, a_values}
 use Rattle.a_terms.specs.declared.nodes.AForm.{AForm}
 use Rattle.a_terms.specs.declared.nodes.AForm.TheVariants.{Value, Proj, Arith, Unpack, Malloc, Init, Call, If0, Halt}
 use Rattle.a_terms.specs.declared.nodes.AWrap.{AWrap}
 use Rattle.a_terms.specs.declared.nodes.AWrap.TheVariants.{Apply, Pack}
 use Rattle.a_terms.specs.declared.nodes.ANode.{ANode}
 use Rattle.a_terms.specs.declared.nodes.ABlock.{ABlock}
+use Rattle.a_terms.specs.declared.nodes.AData.{AData}
+use Rattle.a_terms.specs.declared.nodes.AValue.{AValue}
+use Rattle.a_terms.specs.declared.types.AType.{AType}
 
 abbrev pub form_size : AForm → ℕ
 form_size Value = 7
@@ -48,3 +51,12 @@ body_size k = k.owes + (2 + nodes_size k.body.items)
 abbrev pub blocks_size : List ABlock → ℕ
 blocks_size [] = 0
 blocks_size (k ∷ ks) = (label_size k + body_size k) + blocks_size ks
+
+-- what the types of data need, and their values beside these
+abbrev pub fields_size : List (AValue × AType) → ℕ
+fields_size [] = 0
+fields_size (c ∷ cs) = (bulk (atree c.1) + value_weight (a_value c.0)) + fields_size cs
+
+abbrev pub data_size : List AData → ℕ
+data_size [] = 0
+data_size (d ∷ ds) = fields_size d.fields.items + data_size ds

@@ -1,11 +1,11 @@
 // How many names and registers a program needs at most.
-ghost use Rattle.std.specs.Prelude.{◌≡◌, ◌+◌, [], max, IfOk, OnOk};
+ghost use Rattle.std.specs.Prelude.{◌≡◌, ◌+◌, max, IfOk, OnOk};
 ghost use Rattle.a_terms.specs.Sizes.{bulk as the_bulk, bulk_types as the_bulk_types, bulk_fields as the_bulk_fields, bulk_sum as the_bulk_sum, value_weight as the_value_weight, values_weight as the_values_weight, Fits-in};
-ghost use Rattle.a_terms.specs.Weights.{form_size as the_form_size, node_size as the_node_size, nodes_size as the_nodes_size, wrap_weight as the_wrap_weight, wraps_weight as the_wraps_weight, label_size, body_size, blocks_size as the_blocks_size};
+ghost use Rattle.a_terms.specs.Weights.{form_size as the_form_size, node_size as the_node_size, nodes_size as the_nodes_size, wrap_weight as the_wrap_weight, wraps_weight as the_wraps_weight, label_size, body_size, blocks_size as the_blocks_size, fields_size as the_fields_size, data_size as the_data_size};
 ghost use Rattle.a_terms.specs.Read.{atree, atrees, afields};
 ghost use Rattle.a_terms.specs.NodeTrees.{a_value, a_values, a_prog, a_tree};
 
-use crate::nodes::{ABlock, AForm, ANode, AValue, AWrap};
+use crate::nodes::{ABlock, AData, AForm, ANode, AValue, AWrap};
 use crate::types::AType;
 use crate::walks::sum;
 use idx_core::OutOfMemory;
@@ -202,15 +202,48 @@ fn blocks_size(blocks: &[ABlock]) -> Result<u64, OutOfMemory>
     Ok(total)
 }
 
+fn field_size(field: &(AValue, AType)) -> Result<u64, OutOfMemory>
+    ensures { IfOk result (λ r. r ≡ the_bulk (atree field.now.1) + the_value_weight (a_value field.now.0)) }
+{
+    let kind = bulk(&field.1)?;
+    let value = value_weight(&field.0)?;
+    let n = sum(kind, value)?;
+    Ok(n)
+}
+
+fn fields_size(fields: &[(AValue, AType)]) -> Result<u64, OutOfMemory>
+    ensures { IfOk result (λ r. r ≡ the_fields_size fields.now) }
+{
+    let mut total: u64 = 0;
+    for field in fields {
+        let n = field_size(field)?;
+        total = sum(total, n)?;
+    }
+    Ok(total)
+}
+
+fn data_size(tuples: &[AData]) -> Result<u64, OutOfMemory>
+    ensures { IfOk result (λ r. r ≡ the_data_size tuples.now) }
+{
+    let mut total: u64 = 0;
+    for tuple in tuples {
+        let n = fields_size(&tuple.fields)?;
+        total = sum(total, n)?;
+    }
+    Ok(total)
+}
+
 /// That a program of these parts needs no more names and registers than the assembly language has. One that needs
 /// more is larger than any memory, so the answer is then want of memory.
-pub fn within(blocks: &[ABlock], main: &[ANode]) -> Result<(), OutOfMemory>
-    ensures { OnOk result (Fits-in 4611686018427387904 (a_prog blocks.now []) (a_tree main.now)) }
+pub fn within(blocks: &[ABlock], main: &[ANode], tuples: &[AData]) -> Result<(), OutOfMemory>
+    ensures { OnOk result (Fits-in 4611686018427387904 (a_prog blocks.now tuples.now) (a_tree main.now)) }
 {
     let all = blocks_size(blocks)?;
+    let kept = data_size(tuples)?;
     let nodes = nodes_size(main)?;
     let term = sum(nodes, 2)?;
-    let total = sum(all, term)?;
+    let program = sum(all, kept)?;
+    let total = sum(program, term)?;
     if total <= 4_611_686_018_427_387_904 {
         Ok(())
     } else {

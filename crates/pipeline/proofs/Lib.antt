@@ -2,5 +2,4 @@ mod Blocks
 mod Chain
 mod Compiled
 mod Counted
-mod Data
 mod Shallow

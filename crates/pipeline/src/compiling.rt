@@ -1,5 +1,5 @@
 // Compiling.
-ghost use Rattle.std.specs.Prelude.{◌≡◌, ◌≤◌, [], IfOk};
+ghost use Rattle.std.specs.Prelude.{◌≤◌, IfOk};
 ghost use Rattle.f_terms.specs.ReadTerm.{term_of};
 ghost use Rattle.f_check.specs.Typed.{program_term};
 ghost use Rattle.t_terms.specs.ReadProgram.{program as program_tree};
@@ -25,7 +25,6 @@ use t_gen::generate;
 pub fn compile(alloc: Global, program: &Program) -> Result<Checked, OutOfMemory>
     ensures compiled { IfOk result (λ p. ∥ IsCompilation (term_of (program_term program.now)) (program_tree (checked_program p)) ∥₁) }
     ensures shallow { IfOk result (λ p. nesting (program_tree (checked_program p)) ≤ most_open) }
-    ensures no_data { IfOk result (λ p. (checked_program p).heap.items ≡ []) }
 {
     t_rules::erased_code_stands_at_its_place();
     t_rules::runs_stay_within_times();

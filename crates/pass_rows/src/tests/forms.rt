@@ -105,15 +105,14 @@ main:
 
 const ALLOCATED: &str = "\
 L0: code[a](x0: <>, x1: closure[](closure[](a, closure[](a)))).
-  let x2 = malloc[]
-  let x3 = malloc[code[](<>, a, closure[](a)), <>]
-  let x4 = x3[1] <- L1[a]
-  let x5 = x4[2] <- x2
-  let x6 = pack [<>, x5] as closure[](a, closure[](a))
-  let [b, x7] = unpack x1
-  let x8 = #1 x7
-  let x9 = #2 x7
-  x8[](x9, x6)
+  let x2 = malloc[code[](<>, a, closure[](a)), <>]
+  let x3 = x2[1] <- L1[a]
+  let x4 = x3[2] <- D0
+  let x5 = pack [<>, x4] as closure[](a, closure[](a))
+  let [b, x6] = unpack x1
+  let x7 = #1 x6
+  let x8 = #2 x6
+  x7[](x8, x5)
 
 L1: code[a](x0: <>, x1: a, x2: closure[](a)).
   let x3 = malloc[a]
@@ -138,97 +137,81 @@ L3: code[](x0: <>, x1: closure[](int, closure[](int))).
   let [a, x2] = unpack x1
   let x3 = #1 x2
   let x4 = #2 x2
-  let x5 = malloc[]
-  let x6 = malloc[code[](<>, int), <>]
-  let x7 = x6[1] <- L4
-  let x8 = x7[2] <- x5
-  x3[](x4, 8, pack [<>, x8] as closure[](int))
+  x3[](x4, 8, pack [<>, D2] as closure[](int))
 
 L4: code[](x0: <>, x1: int).
   let x2 = x1 + 1
   halt x2
 
+D0: <>
+D1: <>
+D2: <L4, D1>
+D3: <>
+D4: <L0, D3>
+D5: <>
+D6: <L3, D5>
+
 main:
-  let x0 = malloc[]
-  let x1 = malloc[code[a](<>, closure[](closure[](a, closure[](a)))), <>]
-  let x2 = x1[1] <- L0
-  let x3 = x2[2] <- x0
-  let x4 = pack [<>, x3] as closure[b](closure[](closure[](b, closure[](b))))
-  let [a, x5] = unpack x4
-  let x6 = #1 x5
-  let x7 = #2 x5
-  let x8 = malloc[]
-  let x9 = malloc[code[](<>, closure[](int, closure[](int))), <>]
-  let x10 = x9[1] <- L3
-  let x11 = x10[2] <- x8
-  x6[int](x7, pack [<>, x11] as closure[](closure[](int, closure[](int))))
+  let x0 = pack [<>, D4] as closure[b](closure[](closure[](b, closure[](b))))
+  let [a, x1] = unpack x0
+  let x2 = #1 x1
+  let x3 = #2 x1
+  x2[int](x3, pack [<>, D6] as closure[](closure[](int, closure[](int))))
 ";
 
 const ASSEMBLY: &str = "\
 tal 2
+D0: data <>
+D1: data <>
+D2: data <L5 : all[]{r1:<>, r2:int}, D1 : <>>
+D3: data <>
+D4: data <L1 : all[T0]{r1:<>, r2:some T1. <all[]{r1:T1, r2:some T2. <all[]{r1:T2, r2:T0, r3:some T3. \
+    <all[]{r1:T3, r2:T0}^1, T3^1>}^1, T2^1>}^1, T1^1>}, D3 : <>>
+D5: data <>
+D6: data <L4 : all[]{r1:<>, r2:some T0. <all[]{r1:T0, r2:int, r3:some T1. <all[]{r1:T1, r2:int}^1, T1^1>}^1, \
+    T0^1>}, D5 : <>>
 L0: code[]{}.
-malloc r1[]
-malloc r2[all[T0]{r1:<>, r2:some T1. <all[]{r1:T1, r2:some T2. <all[]{r1:T2, r2:T0, r3:some T3. \
-    <all[]{r1:T3, r2:T0}^1, T3^1>}^1, T2^1>}^1, T1^1>}, <>]
-mov r3, r2
-mov r4, L1
-mov r4, r4
-st r3[0], r4
-mov r4, r3
-mov r5, r1
-st r4[1], r5
-mov r5, r4
-mov r5, pack[<>, r5] as some T0. <all[T1]{r1:T0, r2:some T2. <all[]{r1:T2, r2:some T3. <all[]{r1:T3, r2:T1, \
+mov r1, D4
+mov r1, pack[<>, r1] as some T0. <all[T1]{r1:T0, r2:some T2. <all[]{r1:T2, r2:some T3. <all[]{r1:T3, r2:T1, \
     r3:some T4. <all[]{r1:T4, r2:T1}^1, T4^1>}^1, T3^1>}^1, T2^1>}^1, T0^1>
-mov r6, r5
-unpack[T0, r6], r6
-mov r7, r6
-ld r7, r7[0]
-mov r8, r6
-ld r8, r8[1]
-malloc r9[]
-malloc r10[all[]{r1:<>, r2:some T1. <all[]{r1:T1, r2:int, r3:some T2. <all[]{r1:T2, r2:int}^1, T2^1>}^1, \
-    T1^1>}, <>]
-mov r11, r10
-mov r12, L4
-mov r12, r12
-st r11[0], r12
-mov r12, r11
-mov r13, r9
-st r12[1], r13
-mov r15, r7
-mov r16, r8
-mov r17, r12
-mov r17, pack[<>, r17] as some T1. <all[]{r1:T1, r2:some T2. <all[]{r1:T2, r2:int, r3:some T3. \
+mov r2, r1
+unpack[T0, r2], r2
+mov r3, r2
+ld r3, r3[0]
+mov r4, r2
+ld r4, r4[1]
+mov r7, r3
+mov r8, r4
+mov r9, D6
+mov r9, pack[<>, r9] as some T1. <all[]{r1:T1, r2:some T2. <all[]{r1:T2, r2:int, r3:some T3. \
     <all[]{r1:T3, r2:int}^1, T3^1>}^1, T2^1>}^1, T1^1>
-mov r1, r16
-mov r2, r17
-jmp r15[int]
+mov r1, r8
+mov r2, r9
+jmp r7[int]
 L1: code[T0]{r1:<>, r2:some T1. <all[]{r1:T1, r2:some T2. <all[]{r1:T2, r2:T0, r3:some T3. <all[]{r1:T3, \
     r2:T0}^1, T3^1>}^1, T2^1>}^1, T1^1>}.
-malloc r3[]
-malloc r4[all[]{r1:<>, r2:T0, r3:some T1. <all[]{r1:T1, r2:T0}^1, T1^1>}, <>]
+malloc r3[all[]{r1:<>, r2:T0, r3:some T1. <all[]{r1:T1, r2:T0}^1, T1^1>}, <>]
+mov r4, r3
+mov r5, L2
+mov r5, r5[T0]
+st r4[0], r5
 mov r5, r4
-mov r6, L2
-mov r6, r6[T0]
-st r5[0], r6
+mov r6, D0
+st r5[1], r6
 mov r6, r5
-mov r7, r3
-st r6[1], r7
-mov r7, r6
-mov r7, pack[<>, r7] as some T1. <all[]{r1:T1, r2:T0, r3:some T2. <all[]{r1:T2, r2:T0}^1, T2^1>}^1, T1^1>
-mov r8, r2
-unpack[T1, r8], r8
-mov r9, r8
-ld r9, r9[0]
-mov r10, r8
-ld r10, r10[1]
+mov r6, pack[<>, r6] as some T1. <all[]{r1:T1, r2:T0, r3:some T2. <all[]{r1:T2, r2:T0}^1, T2^1>}^1, T1^1>
+mov r7, r2
+unpack[T1, r7], r7
+mov r8, r7
+ld r8, r8[0]
+mov r9, r7
+ld r9, r9[1]
+mov r12, r8
 mov r13, r9
-mov r14, r10
-mov r15, r7
-mov r1, r14
-mov r2, r15
-jmp r13
+mov r14, r6
+mov r1, r13
+mov r2, r14
+jmp r12
 L2: code[T0]{r1:<>, r2:T0, r3:some T1. <all[]{r1:T1, r2:T0}^1, T1^1>}.
 malloc r4[T0]
 mov r5, r4
@@ -281,24 +264,15 @@ mov r4, r3
 ld r4, r4[0]
 mov r5, r3
 ld r5, r5[1]
-malloc r6[]
-malloc r7[all[]{r1:<>, r2:int}, <>]
-mov r8, r7
-mov r9, L5
-mov r9, r9
-st r8[0], r9
-mov r9, r8
-mov r10, r6
-st r9[1], r10
-mov r13, r4
-mov r14, r5
-mov r15, 8
-mov r16, r9
-mov r16, pack[<>, r16] as some T1. <all[]{r1:T1, r2:int}^1, T1^1>
-mov r1, r14
-mov r2, r15
-mov r3, r16
-jmp r13
+mov r9, r4
+mov r10, r5
+mov r11, 8
+mov r12, D2
+mov r12, pack[<>, r12] as some T1. <all[]{r1:T1, r2:int}^1, T1^1>
+mov r1, r10
+mov r2, r11
+mov r3, r12
+jmp r9
 L5: code[]{r1:<>, r2:int}.
 mov r3, r2
 mov r4, 1

@@ -1,5 +1,5 @@
 // Instructions of an assembly text, as its tokens.
-use super::passes::program;
+use super::passes::{accepted, first_run, program, value_of};
 use pipeline::compile;
 use std::alloc::Global;
 use std::test::Fail;
@@ -31,5 +31,30 @@ fn each_operation_is_one_instruction(rt: HostRuntime) -> Result<(), Fail> {
     assert_eq!(rt; count_of(&tokens, Kind::Add), 1);
     assert_eq!(rt; count_of(&tokens, Kind::Mul), 1);
     assert_eq!(rt; count_of(&tokens, Kind::Sub), 0);
+    Ok(())
+}
+
+// A closure that keeps nothing is a data tuple, so nothing is made while the program runs.
+#[test]
+fn closures_of_nothing_are_data(rt: HostRuntime) -> Result<(), Fail> {
+    let alloc = rt.alloc();
+    let source = "(fix f(x:int):int. x) 3";
+    let text = assembly(alloc, source)?;
+    let tokens = tokens(alloc, &text)?;
+    assert_eq!(rt; count_of(&tokens, Kind::Malloc), 0);
+    let program = program(alloc, source)?;
+    let made = accepted(alloc, &program)?;
+    assert_eq!(rt; value_of(first_run(alloc, &made, 1000)?), Some(3));
+    Ok(())
+}
+
+// How many instructions a run takes.
+#[test]
+fn the_factorial_runs_within_its_instructions(rt: HostRuntime) -> Result<(), Fail> {
+    let alloc = rt.alloc();
+    let program = program(alloc, "(fix f(n:int):int. if0(n, 1, n * f(n - 1))) 5")?;
+    let made = accepted(alloc, &program)?;
+    assert_eq!(rt; value_of(first_run(alloc, &made, 380)?), Some(120));
+    assert_eq!(rt; value_of(first_run(alloc, &made, 100)?), None);
     Ok(())
 }

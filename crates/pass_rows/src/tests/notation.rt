@@ -209,6 +209,17 @@ impl Page {
         self.part(&text)
     }
 
+    /// The data tuple of the so many values before it.
+    pub fn data(&mut self, number: u64, count: u64) -> Result<(), AllocError> {
+        let fields = self.taken(count)?;
+        let text = format!(in self.alloc; "D{number}: <{fields}>\n")?;
+        if number == 0 {
+            self.part(&text)
+        } else {
+            self.body.text.push_str(&text)
+        }
+    }
+
     /// The main term begins.
     pub fn main(&mut self) -> Result<(), AllocError> {
         self.body.scope = empty_scope();

@@ -1,7 +1,7 @@
 // Programs of the inner calculi as readers see them.
 use super::notation::Page;
 use super::types::{all_of_a, all_of_c, all_of_k, of_a, of_c, of_k};
-use a_terms::{ABase, ABlock, AForm, ANode, AProgram, AValue, AWrap};
+use a_terms::{ABase, ABlock, AData, AForm, ANode, AProgram, AValue, AWrap};
 use c_terms::{CNode, CProgram};
 use h_terms::{HBlock, HForm, HNode, HPart, HProgram};
 use k_terms::{KNode, KProgram};
@@ -192,10 +192,23 @@ fn a_blocks(alloc: Global, page: &mut Page, blocks: &[ABlock]) -> Result<(), All
     Ok(())
 }
 
-/// The blocks and the main term. Data tuples are named and not shown.
+fn a_data(alloc: Global, page: &mut Page, tuples: &[AData]) -> Result<(), AllocError> {
+    let mut number: u64 = 0;
+    for tuple in tuples {
+        for field in &tuple.fields {
+            a_value(alloc, page, &field.0)?;
+        }
+        page.data(number, tuple.fields.len() as u64)?;
+        number = number.saturating_add(1);
+    }
+    Ok(())
+}
+
+/// The blocks, the data tuples without their types, and the main term.
 pub fn a_text(alloc: Global, program: &AProgram) -> Result<String, AllocError> {
     let mut page = Page::new(alloc);
     a_blocks(alloc, &mut page, program.blocks())?;
+    a_data(alloc, &mut page, program.data())?;
     page.main()?;
     a_nodes(alloc, &mut page, program.main())?;
     page.text()

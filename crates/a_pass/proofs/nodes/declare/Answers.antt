@@ -3,7 +3,7 @@ use Rattle.a_pass.proofs.nodes.declare.Goals as goal
 
 pub returns : goal.returns
 returns c = record {
-  name = record { level = c.args.depth; ty = c.args.ty; under = c.args.binders };
+  name = record { level = c.args.depth; ty = c.args.ty; under = c.args.binders; constant = c.args.constant };
   place = record { depth = c.in_ok-next.next; names = c.len.result; binders = c.args.binders };
   node = record { form = c.args.form; values = c.args.values };
   names = c.in_ok-push-2.ensures.items;
@@ -12,6 +12,7 @@ returns c = record {
   level = refl;
   type = refl;
   under = refl;
+  constant = refl;
   deep = c.in_ok-next.ensures;
   many = search rules;
   bound = refl;

@@ -1,6 +1,6 @@
 use Rattle.std.proofs.Common.{◌≡◌, ap, ◌∙◌, List, refl, Some}
 use Rattle.a_pass.specs.declared.state.Name.{Name}
-use Rattle.a_pass.specs.Scope.{scope, type_in}
+use Rattle.a_pass.specs.Scope.{scope, type_of}
 use Rattle.a_terms.specs.Typing.{body_of}
 use Rattle.a_pass.proofs.Stepping.{unpack_stepped}
 use Rattle.a_pass.proofs.nodes.unpack.Goals as goal
@@ -8,4 +8,4 @@ use Rattle.a_pass.proofs.nodes.unpack.Goals as goal
 pub returns : goal.returns
 returns c =
     unpack_stepped c.args.names.now.items _ c.args.place c.args.places.now.items _ c.args.out.now.items _ c.args.run.values.items c.in_ok-values.values.items c.args.run.types.items c.args.run.depth c.requires.names c.requires.bound c.in_ok-values.ensures c.in_ok-ty.ty c.in_ok-inner.inner c.in_ok-inner.ensures c.in_ok-declare.ensures
-    (λ t h. c.in_ok-ty.ensures ∙ ap (λ (xs : List Name). body_of (Some (type_in (scope c.args.place.binders xs) c.only.result))) c.deref.ensures.value ∙ ap (λ x. body_of (Some x)) (c.only.ensures _ t h))
+    (λ t h. c.in_ok-ty.ensures ∙ ap (λ (xs : List Name). body_of (Some (type_of (scope c.args.place.binders xs) c.only.result.ty))) c.deref.ensures.value ∙ ap (λ x. body_of (Some x)) (c.only.ensures.ty _ t h))

@@ -4,4 +4,4 @@ use Rattle.a_pass.proofs.Blocks.{BlocksMade}
 use Rattle.a_pass.proofs.program.all_blocks.Given as goal
 
 abbrev pub invariant-loop-one : goal.invariant-loop-one
-invariant-loop-one l = BlocksMade (h_blocks l.blocks) (take l.one-index l.blocks) l.made.items
+invariant-loop-one l = BlocksMade (h_blocks l.blocks) (take l.one-index l.blocks) l.made.items l.tuples.items

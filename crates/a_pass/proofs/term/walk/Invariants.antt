@@ -1,11 +1,13 @@
-use Rattle.std.proofs.Common.{◌∷◌, [], drop}
-use Rattle.a_law.specs.Allocate.{alloc_t}
+use Rattle.std.proofs.Common.{◌∷◌, [], ◌++◌, drop, length}
+use Rattle.a_law.specs.Allocate.{alloc_t, data_t}
+use Rattle.a_terms.specs.NodeTrees.{a_data}
 use Rattle.h_terms.specs.Nodes.{h_blocks, h_tree}
-use Rattle.a_pass.specs.Scope.{levels, scope}
+use Rattle.a_pass.specs.Scope.{knowns, scope}
 use Rattle.a_pass.proofs.Walking.{Walked}
 use Rattle.a_pass.proofs.term.walk.Given as goal
 
 abbrev pub invariant-loop-node : goal.invariant-loop-node
 invariant-loop-node l =
-    Walked (h_blocks l.blocks) (drop l.node-index l.nodes) l.names.items l.places.items l.out.items
-    (alloc_t (h_blocks l.blocks) (scope 0 l.fn.names.items) (levels l.fn.names.items) l.depth (h_tree l.nodes) ∷ [])
+    Walked (h_blocks l.blocks) (drop l.node-index l.nodes) l.names.items l.places.items l.out.items l.tuples.items
+    (alloc_t (h_blocks l.blocks) (scope 0 l.fn.names.items) (knowns l.fn.names.items) (length l.fn.tuples.items) l.depth (h_tree l.nodes) ∷ [])
+    (a_data l.fn.tuples.items ++ data_t (h_blocks l.blocks) (scope 0 l.fn.names.items) (knowns l.fn.names.items) (length l.fn.tuples.items) l.depth (h_tree l.nodes))

@@ -13,7 +13,6 @@ use Rattle.t_terms.specs.Text.{most_open}
 use Rattle.t_terms.specs.declared.program.TProgram.{TProgram}
 use Rattle.pipeline.specs.Compilation.{IsCompilation}
 use Rattle.pipeline.proofs.Compiled.{compilation}
-use Rattle.pipeline.proofs.Data.{no_data}
 use Rattle.pipeline.proofs.Shallow.{shallow}
 use Rattle.pipeline.proofs.compiling.compile.Goals as goal
 
@@ -44,10 +43,3 @@ returns-clause-shallow c =
     (∥∥₁_elim made.flat le_prop (λ flat.
     ∥∥₁_elim made.within le_prop (λ within.
     let x = shallow 70368744177664 1606 140737488355328 P flat within in omega (arith, x))))
-
-pub returns-clause-no_data : goal.returns-clause-no_data
-returns-clause-no_data c =
-    let a = c.in_ok-allocated.allocated in
-    let empty = ap (λ p. p.tuples) c.in_ok-allocated.ensures.program in
-    subst (λ (x : TProgram). x.heap.items ≡ []) (sym c.seal.ensures)
-    (no_data c.in_ok-generated.generated (A.program_in a) (A.main_in a) c.in_ok-generated.ensures.is empty)

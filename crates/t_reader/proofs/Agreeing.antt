@@ -1,14 +1,15 @@
 -- What a text stands for depends on what its labels name alone.
-use Rattle.std.proofs.Common.{◌≡◌, ℕ, List, [], ◌∷◌, ◌++◌, refl, ap, ap₂}
+use Rattle.std.proofs.Common.{◌≡◌, ℕ, List, [], ◌∷◌, ◌++◌, map, refl, ap, ap₂}
 use Rattle.std.specs.Prelude.{is_none, Option}
 use Rattle.idx_core.specs.declared.span.Span.{Span}
 use Rattle.idx_core.specs.Names.{Name}
 use Rattle.t_terms.specs.declared.fault.TCode.{TCode}
 use Rattle.t_terms.specs.declared.fault.TCode.TheVariants.{T05}
 use Rattle.t_terms.specs.Tree.{TBase, TValue, Plain, Pack, TInstr, Arith, Bnz, Mov, Unpack, Jmp}
-use Rattle.t_terms.specs.Raw.{RawBase, RReg, RNum, RLabel, RawValue, RPlain, RPack, RawInstr, RArith, RBnz, RLd, RMalloc, RMov, RSt, RUnpack, RawEnd, RJmp, RHalt, RawBlock}
-use Rattle.t_terms.specs.Names.{Labels, spelled, or_first, bind, type_of, types_of, base_of, value_of, instr_of, body_of, end_of, names_after, names_after_all, block_of}
-use Rattle.t_terms.specs.NameFaults.{only_if, type_faults, types_faults, base_faults, value_faults, instr_faults, body_faults, end_faults, block_faults}
+use Rattle.t_terms.specs.Spanned.{SDatum}
+use Rattle.t_terms.specs.Raw.{RawBase, RReg, RNum, RLabel, RawValue, RPlain, RPack, RawInstr, RArith, RBnz, RLd, RMalloc, RMov, RSt, RUnpack, RawEnd, RJmp, RHalt, RawBlock, RawDatum, RawData, RawItem, BlockItem, DataItem, item_name}
+use Rattle.t_terms.specs.Names.{Labels, spelled, or_first, bind, type_of, types_of, base_of, value_of, instr_of, body_of, end_of, names_after, names_after_all, block_of, datum_of, data_of}
+use Rattle.t_terms.specs.NameFaults.{only_if, type_faults, types_faults, base_faults, value_faults, instr_faults, body_faults, end_faults, block_faults, data_faults, item_faults}
 use Rattle.t_reader.specs.Labelled.{NameTheSame}
 use Rattle.t_reader.specs.Resolve.{numbered_faults}
 
@@ -72,5 +73,24 @@ module _ (text : List ℕ) (ls ms : Labels) (same : NameTheSame ls ms) where
   block_faults_same : (b : RawBlock) → block_faults text ls b ≡ block_faults text ms b
   block_faults_same b = rw (body_faults_same (bind text b.names []) b.body, end_faults_same (names_after_all text b.body (bind text b.names [])) b.last.0) refl
 
-  pub numbered_same : (k : ℕ) (b : RawBlock) → numbered_faults text ls k b ≡ numbered_faults text ms k b
-  numbered_same k b = rw (same (spelled text b.name), block_faults_same b) refl
+  -- data tuples
+  datum_same : (x : RawDatum) → datum_of text ls x ≡ datum_of text ms x
+  datum_same x = rw (value_same [] x.value) refl
+
+  data_fields_same : (xs : List RawDatum) → map (datum_of text ls) xs ≡ map (datum_of text ms) xs
+  data_fields_same [] = refl
+  data_fields_same (x ∷ xs) = ap₂ (λ (y : SDatum) (ys : List SDatum). y ∷ ys) (datum_same x) (data_fields_same xs)
+
+  pub data_same : (x : RawData) → data_of text ls x ≡ data_of text ms x
+  data_same x = rw (data_fields_same x.fields) refl
+
+  data_faults_same : (xs : List RawDatum) → data_faults text ls xs ≡ data_faults text ms xs
+  data_faults_same [] = refl
+  data_faults_same (x ∷ xs) = rw (value_faults_same [] x.value, data_faults_same xs) refl
+
+  item_faults_same : (x : RawItem) → item_faults text ls x ≡ item_faults text ms x
+  item_faults_same (BlockItem b) = block_faults_same b
+  item_faults_same (DataItem x) = data_faults_same x.fields
+
+  pub numbered_same : (t : TBase) (x : RawItem) → numbered_faults text ls t x ≡ numbered_faults text ms t x
+  numbered_same t x = rw (same (spelled text (item_name x)), item_faults_same x) refl

@@ -9,22 +9,21 @@ use Rattle.t_terms.specs.declared.fault.TFault.{TFault}
 use Rattle.t_terms.specs.declared.fault.TFault.TheVariants.{Memory, Refused}
 use Rattle.t_terms.specs.declared.program.TProgram.{TProgram}
 use Rattle.t_terms.specs.Spanned.{SProg}
-use Rattle.t_terms.specs.Read.{spanned_blocks, spanned_parts}
+use Rattle.t_terms.specs.Read.{spanned_parts}
 use Rattle.t_terms.specs.ReadProgram.{spanned_program}
-use Rattle.t_terms.specs.Raw.{RawBlock}
+use Rattle.t_terms.specs.Raw.{RawItem}
 use Rattle.t_terms.specs.Names.{program_of}
 use Rattle.t_terms.specs.NameFaults.{program_faults}
 use Rattle.t_terms.specs.Text.{ReadsAs, FirstFault, in_names, IsFirstFault, AtMostOneProgram, AtMostOneFault, NoFaultWhereRead}
 use Rattle.t_reader.specs.Resolve.{IsShape, StopsAt}
 
-pub reads : (text : List ℕ) (raw : List RawBlock) (bs : List Block) (xs : List Data) → IsShape text raw → program_faults text raw ≡ [] → spanned_blocks bs ≡ (program_of text raw).blocks → xs ≡ [] →
-    ReadsAs text (spanned_parts bs xs)
-reads text raw bs xs h f e n = record {
-  stands = record { tokens = h.tokens; cut = h.cut; raw = raw; shape = h.shape; named = f; is = rw (e, n) refl };
+pub reads : (text : List ℕ) (raw : List RawItem) (bs : List Block) (xs : List Data) → IsShape text raw → program_faults text raw ≡ [] → spanned_parts bs xs ≡ program_of text raw → ReadsAs text (spanned_parts bs xs)
+reads text raw bs xs h f e = record {
+  stands = record { tokens = h.tokens; cut = h.cut; raw = raw; shape = h.shape; named = f; is = e };
   within = (h.tokens, h.cut, h.within);
 }
 
-pub name_fault : (text : List ℕ) (raw : List RawBlock) (f : TFault) → IsShape text raw → StopsAt (program_faults text raw) f → IsFirstFault text f
+pub name_fault : (text : List ℕ) (raw : List RawItem) (f : TFault) → IsShape text raw → StopsAt (program_faults text raw) f → IsFirstFault text f
 name_fault text raw Memory h s = tt
 name_fault text raw (Refused code span) h s = in_names h.cut h.shape h.within s.1
 

@@ -11,9 +11,10 @@ use Rattle.t_terms.specs.declared.token.Token.{Token}
 use Rattle.text_core.specs.Byte.{value}
 use Rattle.text_core.specs.Tokens.{Cut, c_end, c_gap, c_token, Next, n_spelling, Spelling, Spells, s_word, s_plain, s_negative, s_sign, s_pair, look}
 use Rattle.t_terms.specs.Tokens.{assembly, Keeps, words, word, word_in, is_register, after_first, signs}
-use Rattle.t_terms.specs.Raw.{RawTy, RInt, RName, RCode, RSome, RTuple, RawRegs, NoRawRegs, MoreRawRegs, RawFields, NoRawFields, MoreRawFields, RawReg, RawField, raw_regs, raw_fields, RawBase, RReg, RNum, RLabel, RawValue, RPlain, RPack, RawInstr, RArith, RBnz, RLd, RMalloc, RMov, RSt, RUnpack, RawEnd, RJmp, RHalt, RawBlock, Piece}
-use Rattle.t_terms.specs.Grammar.{Names, ns_one, ns_more, Binds, bs_none, bs_names, T, t_int, t_name, t_code, t_some, t_unit, t_tuple, File, f_none, f_regs, Rs, rs_one, rs_more, Fs, fs_one, fs_more, Ts, ts_one, ts_more, N, n_reg, n_plain, n_negative, n_label, V, v_base, v_apply, v_pack, I, i_arith, i_bnz, i_ld, i_malloc_none, i_malloc, i_mov, i_st, i_unpack, Is, is_none, is_more, End, e_jmp, e_halt, Block, b_block, Blocks, Program, p_program}
+use Rattle.t_terms.specs.Raw.{RawTy, RInt, RName, RCode, RSome, RTuple, RawRegs, NoRawRegs, MoreRawRegs, RawFields, NoRawFields, MoreRawFields, RawReg, RawField, raw_regs, raw_fields, RawBase, RReg, RNum, RLabel, RawValue, RPlain, RPack, RawInstr, RArith, RBnz, RLd, RMalloc, RMov, RSt, RUnpack, RawEnd, RJmp, RHalt, RawBlock, RawDatum, RawItem, BlockItem, DataItem, blocks_in, block_items, Piece}
+use Rattle.t_terms.specs.Grammar.{Names, ns_one, ns_more, Binds, bs_none, bs_names, T, t_int, t_name, t_code, t_some, t_unit, t_tuple, File, f_none, f_regs, Rs, rs_one, rs_more, Fs, fs_one, fs_more, Ts, ts_one, ts_more, N, n_reg, n_plain, n_negative, n_label, V, v_base, v_apply, v_pack, I, i_arith, i_bnz, i_ld, i_malloc_none, i_malloc, i_mov, i_st, i_unpack, Is, is_none, is_more, End, e_jmp, e_halt, Block, b_block, Blocks, W, Ds, ds_one, ds_more, Tuple, tu_none, tu_fields, Item, it_block, it_data, Items, its_none, its_more, Program, p_blocks, p_items}
 use Rattle.t_terms.specs.Grammar as g
+use Rattle.t_terms.proofs.ItemLaws.{as_value, blocks_alone}
 
 -- under n names: registers and fields are in range, and not too many names are bound
 abbrev mutual
@@ -82,6 +83,22 @@ FitsBlock b = (length b.names ≤ max_names) × FitsRegs (length b.names) b.file
 abbrev pub FitsBlocks : List RawBlock → Type 0
 FitsBlocks [] = Unit {0}
 FitsBlocks (b ∷ bs) = FitsBlock b × FitsBlocks bs
+
+-- a field of a data tuple stands under no names, and no register stands in its value
+abbrev pub FitsDatum : RawDatum → Type 0
+FitsDatum x = FitsValue 0 x.value × FitsTy 0 x.ty × ((w : List Token) × W w (x.value, x.place))
+
+abbrev pub FitsData : List RawDatum → Type 0
+FitsData [] = Unit {0}
+FitsData (x ∷ xs) = FitsDatum x × FitsData xs
+
+abbrev pub FitsItem : RawItem → Type 0
+FitsItem (BlockItem b) = FitsBlock b
+FitsItem (DataItem x) = FitsData x.fields
+
+abbrev pub FitsItems : List RawItem → Type 0
+FitsItems [] = Unit {0}
+FitsItems (x ∷ xs) = FitsItem x × FitsItems xs
 
 -- a plain number has no sign
 abbrev IsMade : Kind → Type 0
@@ -254,8 +271,47 @@ fits_Blocks (g.bs_more {u} {v} {bs} x y) h r =
     let p = fits_Blocks x (kept_left u v h) (omega (arith, length-append {A = Token}, r)) in
     (blocks_append bs _ p.0 (fits_Block y (kept_right u v h) (omega (arith, length-append {A = Token}, r)), tt), simp length-append (omega (arith, p.1)))
 
-pub fits_Program : {w : List Token} {bs : List RawBlock} → Program w bs → Kept w → length w ≤ 9223372036854775807 → FitsBlocks bs × (1 ≤ length bs)
-fits_Program (p_program t n x) h l = fits_Blocks x h.1.1 (omega (arith, l))
+blocks_items : (bs : List RawBlock) → FitsBlocks bs → FitsItems (block_items bs)
+blocks_items [] h = tt
+blocks_items (b ∷ bs) h = (h.0, blocks_items bs h.1)
+
+data_append : (xs ys : List RawDatum) → FitsData xs → FitsData ys → FitsData (xs ++ ys)
+data_append [] ys h q = q
+data_append (x ∷ xs) ys h q = (h.0, data_append xs ys h.1 q)
+
+fits_Ds : {w : List Token} {xs : List RawDatum} → Ds w xs → Kept w → Room 0 w → FitsData xs
+fits_Ds (ds_one {u} {v} c x y) h r =
+    let k = kept_right u _ h in
+    ((fits_V (as_value x) 0 (kept_left u _ h) (omega (arith, length-append {A = Token}, r)), fits_T y 0 k.1 (omega (arith, length-append {A = Token}, r)), (u, x)), tt)
+fits_Ds (ds_more {u} {v} {w} {xs} m c x y z) h r =
+    let k = kept_right u _ h in
+    let e = kept_right v _ k.1 in
+    data_append xs _ (fits_Ds x (kept_left u _ h) (omega (arith, length-append {A = Token}, r)))
+    ((fits_V (as_value y) 0 (kept_left v _ k.1) (omega (arith, length-append {A = Token}, r)), fits_T z 0 e.1 (omega (arith, length-append {A = Token}, r)), (v, y)), tt)
+
+fits_Tuple : {w : List Token} {xs : List RawDatum} → Tuple w xs → Kept w → Room 0 w → FitsData xs
+fits_Tuple (tu_none o c) h r = tt
+fits_Tuple (tu_fields {w} o c x) h r = fits_Ds x (kept_left w _ h.1) (omega (arith, length-append {A = Token}, r))
+
+fits_Item : {w : List Token} {x : RawItem} → Item w x → Kept w → Room 0 w → FitsItem x
+fits_Item (it_block x) h r = fits_Block x h r
+fits_Item (it_data l c d x) h r = fits_Tuple x h.1.1.1 (omega (arith, r))
+
+items_append : (xs ys : List RawItem) → FitsItems xs → FitsItems ys → FitsItems (xs ++ ys)
+items_append [] ys h q = q
+items_append (x ∷ xs) ys h q = (h.0, items_append xs ys h.1 q)
+
+fits_Items : {w : List Token} {xs : List RawItem} → Items w xs → Kept w → Room 0 w → FitsItems xs
+fits_Items its_none h r = tt
+fits_Items (its_more {u} {v} {xs} x y) h r =
+    items_append xs _ (fits_Items x (kept_left u v h) (omega (arith, length-append {A = Token}, r)))
+    (fits_Item y (kept_right u v h) (omega (arith, length-append {A = Token}, r)), tt)
+
+pub fits_Program : {w : List Token} {xs : List RawItem} → Program w xs → Kept w → length w ≤ 9223372036854775807 → FitsItems xs × (1 ≤ length (blocks_in xs))
+fits_Program (p_blocks {w} {bs} t n x) h l =
+    let k = fits_Blocks x h.1.1 (omega (arith, l)) in
+    (blocks_items bs k.0, rw (blocks_alone bs) k.1)
+fits_Program (p_items t n x b) h l = (fits_Items x h.1.1 (omega (arith, l)), b)
 
 -- the tokens of a text are so
 all_made : List (List ℕ × Kind) → Type 0

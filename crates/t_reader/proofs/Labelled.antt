@@ -1,4 +1,4 @@
--- Labels in a map: what they name, and how the map grows by a block.
+-- Labels in a map: what they name, and how the map grows by an item.
 use Rattle.std.proofs.Common.{◌≡◌, ℕ, List, [], ◌∷◌, ◌++◌, map, refl, Option, Some, None, Bool, true, false, cond, if◌then◌else◌, Bor, is_some}
 use Rattle.std.specs.Prelude.{bytes_eq}
 use Rattle.std.specs.Option.{option_or}
@@ -7,9 +7,9 @@ use Rattle.std.specs.Map.{lookup}
 use Rattle.std.proofs.lemmas.Map.Text.{hash_map_updates_str}
 use Rattle.idx_core.specs.Names.{Name}
 use Rattle.indexmap.specs.IndexMap.{IndexMap, get_by, UpdatesBy}
-use Rattle.t_terms.specs.Tree.{Label}
 use Rattle.t_terms.specs.Names.{Labels, named_by}
-use Rattle.t_reader.specs.Labelled.{block_numbered, labels_in_map, HasFirstBlocks}
+use Rattle.t_reader.specs.Labelled.{target_base, named_base, labels_in_map, HasFirsts}
+use Rattle.t_reader.specs.declared.target.Target.{Target}
 
 -- what a label names by a list and more
 pub named_append : (x : Name) (u v : Labels) → named_by x (u ++ v) ≡ option_or (named_by x u) (named_by x v)
@@ -21,43 +21,43 @@ named_append x (l ∷ u) v = by_test (bytes_eq x l.0) (named_append x u v)
     by_test false h = h
 
 -- the labels of entries
-abbrev map_labels : List (Bor (List ℕ) × ℕ) → Labels
-map_labels es = map (λ e. (e.0.now, Label e.1)) es
+abbrev map_labels : List (Bor (List ℕ) × Target) → Labels
+map_labels es = map (λ e. (e.0.now, target_base e.1)) es
 
 -- what it names by the list of a map is what it has there
-in_entries : (x : Name) (es : List (Bor (List ℕ) × ℕ)) → named_by x (map_labels es) ≡ block_numbered (lookup (λ (k : Bor (List ℕ)). bytes_eq x k.now) es)
+in_entries : (x : Name) (es : List (Bor (List ℕ) × Target)) → named_by x (map_labels es) ≡ named_base (lookup (λ (k : Bor (List ℕ)). bytes_eq x k.now) es)
 in_entries x [] = refl
 in_entries x (e ∷ es) = by_test (bytes_eq x e.0.now) (in_entries x es)
   where
-    by_test : (b : Bool) → named_by x (map_labels es) ≡ block_numbered (lookup (λ (k : Bor (List ℕ)). bytes_eq x k.now) es) →
-        (if b then Some (Label e.1) else named_by x (map_labels es)) ≡ block_numbered (cond b (Some e.1) (lookup (λ (k : Bor (List ℕ)). bytes_eq x k.now) es))
+    by_test : (b : Bool) → named_by x (map_labels es) ≡ named_base (lookup (λ (k : Bor (List ℕ)). bytes_eq x k.now) es) →
+        (if b then Some (target_base e.1) else named_by x (map_labels es)) ≡ named_base (cond b (Some e.1) (lookup (λ (k : Bor (List ℕ)). bytes_eq x k.now) es))
     by_test true h = refl
     by_test false h = h
 
-pub named_in_map : {S : Type 0} (x : Name) (m : IndexMap (Bor (List ℕ)) ℕ S) → named_by x (labels_in_map m) ≡ block_numbered (get_by (λ k. bytes_eq x k.now) m)
+pub named_in_map : {S : Type 0} (x : Name) (m : IndexMap (Bor (List ℕ)) Target S) → named_by x (labels_in_map m) ≡ named_base (get_by (λ k. bytes_eq x k.now) m)
 named_in_map x m = in_entries x m.entries
 
-module _ {S : Type 0} (numbers : IndexMap (Bor (List ℕ)) ℕ S) (ls : Labels) (name : Bor (List ℕ)) (number : ℕ) (h : HasFirstBlocks numbers ls) where
-  -- a label that a block before has keeps its number
-  pub first_kept : is_some (get_by (λ k. bytes_eq name.now k.now) numbers) ≡ true → HasFirstBlocks numbers (ls ++ (name.now, Label number) ∷ [])
+module _ {S : Type 0} (targets : IndexMap (Bor (List ℕ)) Target S) (ls : Labels) (name : Bor (List ℕ)) (target : Target) (h : HasFirsts targets ls) where
+  -- a label that an item before has keeps what it names
+  pub first_kept : is_some (get_by (λ k. bytes_eq name.now k.now) targets) ≡ true → HasFirsts targets (ls ++ (name.now, target_base target) ∷ [])
   first_kept there x =
-      rw (named_append x ls ((name.now, Label number) ∷ [])) (by_found (get_by (λ k. bytes_eq x k.now) numbers) (bytes_eq x name.now) refl refl (h x))
+      rw (named_append x ls ((name.now, target_base target) ∷ [])) (by_found (get_by (λ k. bytes_eq x k.now) targets) (bytes_eq x name.now) refl refl (h x))
     where
-      by_found : (o : Option ℕ) (b : Bool) → get_by (λ k. bytes_eq x k.now) numbers ≡ o → bytes_eq x name.now ≡ b → block_numbered o ≡ named_by x ls →
-          block_numbered o ≡ option_or (named_by x ls) (if b then Some (Label number) else None)
+      by_found : (o : Option Target) (b : Bool) → get_by (λ k. bytes_eq x k.now) targets ≡ o → bytes_eq x name.now ≡ b → named_base o ≡ named_by x ls →
+          named_base o ≡ option_or (named_by x ls) (if b then Some (target_base target) else None)
       by_found (Some i) b e q f = rw (← f) refl
       by_found None true e q f = absurd (let same = (bytes_decides x name.now).0 q in let t = rw (← same, e) at there in cc)
       by_found None false e q f = rw (← f) refl
 
-  -- a new label has the number of its block
-  pub first_added : (after : IndexMap (Bor (List ℕ)) ℕ S) → is_some (get_by (λ k. bytes_eq name.now k.now) numbers) ≡ false →
-      UpdatesBy (λ x y. bytes_eq x.now y.now) (λ k. bytes_eq name.now k.now) numbers after (Some number) → HasFirstBlocks after (ls ++ (name.now, Label number) ∷ [])
+  -- a new label names its item
+  pub first_added : (after : IndexMap (Bor (List ℕ)) Target S) → is_some (get_by (λ k. bytes_eq name.now k.now) targets) ≡ false →
+      UpdatesBy (λ x y. bytes_eq x.now y.now) (λ k. bytes_eq name.now k.now) targets after (Some target) → HasFirsts after (ls ++ (name.now, target_base target) ∷ [])
   first_added after none u x =
-      let put : get_by (λ k. bytes_eq x k.now) after ≡ cond (bytes_eq name.now x) (Some number) (get_by (λ k. bytes_eq x k.now) numbers) = hash_map_updates_str name.now numbers after (Some number) u x in
-      rw (named_append x ls ((name.now, Label number) ∷ []), put, ← nat_list_eq_equiv.symm x name.now) (by_found (get_by (λ k. bytes_eq x k.now) numbers) (bytes_eq x name.now) refl refl (h x))
+      let put : get_by (λ k. bytes_eq x k.now) after ≡ cond (bytes_eq name.now x) (Some target) (get_by (λ k. bytes_eq x k.now) targets) = hash_map_updates_str name.now targets after (Some target) u x in
+      rw (named_append x ls ((name.now, target_base target) ∷ []), put, ← nat_list_eq_equiv.symm x name.now) (by_found (get_by (λ k. bytes_eq x k.now) targets) (bytes_eq x name.now) refl refl (h x))
     where
-      by_found : (o : Option ℕ) (b : Bool) → get_by (λ k. bytes_eq x k.now) numbers ≡ o → bytes_eq x name.now ≡ b → block_numbered o ≡ named_by x ls →
-          block_numbered (cond b (Some number) o) ≡ option_or (named_by x ls) (if b then Some (Label number) else None)
+      by_found : (o : Option Target) (b : Bool) → get_by (λ k. bytes_eq x k.now) targets ≡ o → bytes_eq x name.now ≡ b → named_base o ≡ named_by x ls →
+          named_base (cond b (Some target) o) ≡ option_or (named_by x ls) (if b then Some (target_base target) else None)
       by_found (Some i) true p q f = absurd (let same = (bytes_decides x name.now).0 q in let t = rw (← same, p) at none in cc)
       by_found None true p q f = rw (← f) refl
       by_found (Some i) false p q f = rw (← f) refl

@@ -2,6 +2,7 @@ mod Rows
 pub mod Agreeing
 pub mod Answered
 pub mod Blocking
+pub mod Dating
 pub mod Filing
 pub mod Fitting
 pub mod Found

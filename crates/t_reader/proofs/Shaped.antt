@@ -10,9 +10,9 @@ use Rattle.t_terms.specs.declared.fault.TFault.{TFault}
 use Rattle.t_terms.specs.declared.fault.TFault.TheVariants.{Memory, Refused}
 use Rattle.t_terms.specs.declared.token.Token.{Token}
 use Rattle.t_terms.specs.Tokens.{IsCut}
-use Rattle.t_terms.specs.Raw.{RawBlock}
+use Rattle.t_terms.specs.Raw.{RawItem}
 use Rattle.t_terms.specs.Grammar.{Program}
-use Rattle.t_terms.specs.GrammarTable.{table, OfBlocks}
+use Rattle.t_terms.specs.GrammarTable.{table, OfItems}
 use Rattle.t_terms.specs.Text.{most_open, FirstFault, in_tokens, unexpected, cut_short, too_deep, IsFirstFault}
 use Rattle.t_terms.proofs.Instance.{assembly_exact}
 use Rattle.t_lexer.specs.Cut.{IsTokenFault}
@@ -25,11 +25,11 @@ token_fault text (Refused c span) h = subst (λ (x : TCode). FirstFault text x s
 says : (w : List Token) (v : Verdict table) → bounded table most_open w (whole table w) ≡ v → Says table most_open w v
 says w v e = subst (λ (x : Verdict table). Says table most_open w x) e (assembly_exact most_open w)
 
-pub shaped : (text : List ℕ) (w : List Token) (raw : List RawBlock) → IsCut text w → bounded table most_open w (whole table w) ≡ Fine (OfBlocks raw ∷ []) → length w ≤ max_number → IsShape text raw
+pub shaped : (text : List ℕ) (w : List Token) (raw : List RawItem) → IsCut text w → bounded table most_open w (whole table w) ≡ Fine (OfItems raw ∷ []) → length w ≤ max_number → IsShape text raw
 shaped text w raw c e l =
-    let h = says w (Fine (OfBlocks raw ∷ [])) e in
+    let h = says w (Fine (OfItems raw ∷ [])) e in
     let q : h.value ≡ raw = let z = h.is in cc in
-    record { tokens = w; cut = c; shape = subst (λ (x : List RawBlock). Program w x) q h.shape; within = h.within; short = l }
+    record { tokens = w; cut = c; shape = subst (λ (x : List RawItem). Program w x) q h.shape; within = h.within; short = l }
 
 pub unexpected_fault : (text : List ℕ) (w : List Token) (j : ℕ) → IsCut text w → bounded table most_open w (whole table w) ≡ Unexpected (drop j w) → FirstFault text T03 (place_at text w j)
 unexpected_fault text w j c e = by_next (slice_get w j) refl

@@ -8,11 +8,10 @@ use Rattle.t_types.specs.declared.types.TType.{TType}
 use Rattle.t_types.specs.Read.{tree, types}
 use Rattle.t_terms.specs.declared.fault.TCode.TheVariants.{T05}
 use Rattle.t_terms.specs.declared.value.Base.{Base}
-use Rattle.t_terms.specs.declared.value.Base.TheVariants as B
 use Rattle.t_terms.specs.declared.value.Value.{Value}
 use Rattle.t_terms.specs.declared.value.Value.TheVariants as V
 use Rattle.t_terms.specs.declared.instr.Instr.{Instr}
-use Rattle.t_terms.specs.Tree.{TInstr, Pack, Label}
+use Rattle.t_terms.specs.Tree.{TBase, TInstr, Pack}
 use Rattle.t_terms.specs.Read as read
 use Rattle.t_terms.specs.Names.{Labels, spelled, named_by, types_of, base_of, value_of, instr_of, body_of, names_after, names_after_all}
 use Rattle.t_terms.specs.NameFaults.{type_faults, types_faults, base_faults, value_faults, instr_faults, body_faults}
@@ -35,9 +34,8 @@ module _ (text : List ℕ) (ls : Labels) (b : RawBase) (s : Span) where
   pub label_stop : b ≡ RB.Label s → named_by (spelled text s) ls ≡ None → StopsAt (base_faults text ls (raw_base b)) (Refused T05 s)
   label_stop e f = ([], rw (e, f) refl)
 
-  pub label_whole : (i : ℕ) → b ≡ RB.Label s → named_by (spelled text s) ls ≡ Some (Label i) →
-      (base_faults text ls (raw_base b) ≡ []) × (read.base (B.Label i) ≡ base_of text ls (raw_base b))
-  label_whole i e f = (rw (e, f) refl, rw (e, f) refl)
+  pub label_whole : (t : TBase) (r : Base) → b ≡ RB.Label s → named_by (spelled text s) ls ≡ Some t → read.base r ≡ t → (base_faults text ls (raw_base b) ≡ []) × (read.base r ≡ base_of text ls (raw_base b))
+  label_whole t r e f q = (rw (e, f) refl, q ∙ rw (e, f) refl)
 
 -- the value that was found, with the names in scope after it
 abbrev pub Valued : List ℕ → Labels → List Name → RawValue → List Name → Value → Type 0

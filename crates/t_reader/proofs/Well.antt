@@ -1,5 +1,5 @@
 -- The program that is read is whole.
-use Rattle.std.proofs.Common.{◌≡◌, ◌≢◌, ℕ, ◌+◌, ◌<◌, ◌≤◌, List, [], ◌∷◌, ◌++◌, length, map, refl, sym, ◌∙◌, subst, Bool, true, false, not, ◌||◌, if◌then◌else◌, arith, suc, zero-add, Option, Some, None}
+use Rattle.std.proofs.Common.{◌≡◌, ◌≢◌, ℕ, ◌+◌, ◌<◌, ◌≤◌, List, [], ◌∷◌, ◌++◌, length, map, refl, sym, ◌∙◌, subst, Bool, true, false, not, ◌||◌, if◌then◌else◌, arith, zero-add, Option, Some, None}
 use Rattle.std.specs.Prelude.{nat_eq, nat_lt, bytes_eq, is_none}
 use Rattle.std.specs.List.{list_any}
 use Rattle.std.proofs.lemmas.Bool.{eq-eqb, ltb-true, ltb-false}
@@ -10,19 +10,19 @@ use Rattle.t_types.specs.WellFormed.{max_number, WellFormed, RegsAbove, WellForm
 use Rattle.t_terms.specs.declared.fault.TCode.{TCode}
 use Rattle.t_terms.specs.declared.fault.TCode.TheVariants.{T05, T06, T07}
 use Rattle.t_terms.specs.declared.block.Block as code
-use Rattle.t_terms.specs.declared.data.Data as data_of
+use Rattle.t_terms.specs.declared.data.Data as heap_of
 use Rattle.t_terms.specs.Tree as tree
 use Rattle.t_terms.specs.Tree.{TBase, Reg, Int, Label, Data}
-use Rattle.t_terms.specs.Spanned.{SBlock, plain, plain_blocks, seq_of}
-use Rattle.t_terms.specs.Read.{spanned_blocks, parts}
+use Rattle.t_terms.specs.Spanned.{SBlock, SData, SProg, plain_program, plain, plain_blocks, plain_datum, plain_fields, plain_heap, seq_of}
+use Rattle.t_terms.specs.Read.{spanned_parts, parts}
 use Rattle.std.proofs.lemmas.List.{length-map}
-use Rattle.t_terms.specs.Whole.{Whole, WellFormedBase, WellFormedValue, WellFormedInstr, WellFormedEnd, WellFormedSeq, WellFormedBlock, WellFormedBlocks}
-use Rattle.t_terms.specs.Raw.{RawTy, RInt, RName, RCode, RSome, RTuple, RawRegs, NoRawRegs, MoreRawRegs, RawFields, NoRawFields, MoreRawFields, RawBase, RReg, RNum, RLabel, RawValue, RPlain, RPack, RawInstr, RArith, RBnz, RLd, RMalloc, RMov, RSt, RUnpack, RawEnd, RJmp, RHalt, RawBlock}
-use Rattle.t_terms.specs.Names.{Labels, named_by, or_first, block_labels, spelled, is_among, place_of, bind, insert_reg, type_of, file_of, fields_of, types_of, base_of, value_of, instr_of, body_of, end_of, names_after, names_after_all, labels_of, block_of, program_of}
-use Rattle.t_terms.specs.NameFaults.{only_if, type_faults, regs_faults, fields_faults, types_faults, base_faults, value_faults, instr_faults, body_faults, end_faults, block_faults, blocks_faults, program_faults}
-use Rattle.t_reader.specs.Labelled.{IsBlockBelow}
+use Rattle.t_terms.specs.Whole.{Whole, WellFormedBase, WellFormedValue, WellFormedInstr, WellFormedEnd, WellFormedSeq, WellFormedBlock, WellFormedBlocks, WellFormedDatum, WellFormedData, WellFormedHeap}
+use Rattle.t_terms.specs.Raw.{RawTy, RInt, RName, RCode, RSome, RTuple, RawRegs, NoRawRegs, MoreRawRegs, RawFields, NoRawFields, MoreRawFields, RawBase, RReg, RNum, RLabel, RawValue, RPlain, RPack, RawInstr, RArith, RBnz, RLd, RMalloc, RMov, RSt, RUnpack, RawEnd, RJmp, RHalt, RawBlock, RawDatum, RawItem, BlockItem, DataItem, blocks_in, data_in}
+use Rattle.t_terms.specs.Names.{Labels, named_by, or_first, spelled, is_among, place_of, bind, insert_reg, type_of, file_of, fields_of, types_of, base_of, value_of, instr_of, body_of, end_of, names_after, names_after_all, labels_of, block_of, datum_of, data_of, program_of}
+use Rattle.t_terms.specs.NameFaults.{only_if, type_faults, regs_faults, fields_faults, types_faults, base_faults, value_faults, instr_faults, body_faults, end_faults, block_faults, datum_faults, data_faults, items_faults, program_faults}
+use Rattle.t_terms.proofs.ItemLaws.{IsTarget, labels_named, no_register}
 use Rattle.t_reader.specs.Resolve.{IsShape}
-use Rattle.t_reader.proofs.Fitting.{FitsTy, FitsRegs, FitsFields, FitsTys, FitsBase, FitsValue, FitsInstr, after_raw, after_steps, FitsSteps, FitsEnd, FitsBlock, FitsBlocks, fits_Program, kept_cut}
+use Rattle.t_reader.proofs.Fitting.{FitsTy, FitsRegs, FitsFields, FitsTys, FitsBase, FitsValue, FitsInstr, after_raw, after_steps, FitsSteps, FitsEnd, FitsBlock, FitsDatum, FitsData, FitsItems, fits_Program, kept_cut}
 
 none_left : {A : Type 0} (u v : List A) → u ++ v ≡ [] → u ≡ []
 none_left [] v e = refl
@@ -121,36 +121,36 @@ well_types : (text : List ℕ) (a : List Name) (ts : List RawTy) → FitsTys (le
 well_types text a [] h e = tt
 well_types text a (t ∷ ts) h e = (well_type text a t h.0 (none_left _ _ e), well_types text a ts h.1 (none_right _ _ e))
 
--- each label names one of the first p blocks
-abbrev NamesBelow : ℕ → Labels → Type 0
-NamesBelow p ls = (x : Name) → IsBlockBelow p (named_by x ls)
+-- each label names one of p blocks, or of q data tuples
+abbrev NamesBelow : ℕ → ℕ → Labels → Type 0
+NamesBelow p q ls = (x : Name) → IsTarget p q (named_by x ls)
 
-well_named : (p : ℕ) (o : Option TBase) → IsBlockBelow p o → is_none o ≡ false → WellFormedBase p 0 (or_first o)
-well_named p None h e = absurd (cc)
-well_named p (Some (Label i)) h e = h
-well_named p (Some (Reg r)) h e = absurd h
-well_named p (Some (Int z)) h e = absurd h
-well_named p (Some (Data d)) h e = absurd h
+well_named : (p q : ℕ) (o : Option TBase) → IsTarget p q o → is_none o ≡ false → WellFormedBase p q (or_first o)
+well_named p q None h e = absurd (cc)
+well_named p q (Some (Label i)) h e = h
+well_named p q (Some (Data d)) h e = h
+well_named p q (Some (Reg r)) h e = absurd h
+well_named p q (Some (Int z)) h e = absurd h
 
-well_base : (text : List ℕ) (p : ℕ) (ls : Labels) → NamesBelow p ls → (b : RawBase) → FitsBase b → base_faults text ls b ≡ [] → WellFormedBase p 0 (base_of text ls b)
-well_base text p ls w (RReg r) h e = h
-well_base text p ls w (RNum z) h e = tt
-well_base text p ls w (RLabel s) h e = well_named p (named_by (spelled text s) ls) (w (spelled text s)) (no_fault (is_none (named_by (spelled text s) ls)) T05 s e)
+well_base : (text : List ℕ) (p q : ℕ) (ls : Labels) → NamesBelow p q ls → (b : RawBase) → FitsBase b → base_faults text ls b ≡ [] → WellFormedBase p q (base_of text ls b)
+well_base text p q ls w (RReg r) h e = h
+well_base text p q ls w (RNum z) h e = tt
+well_base text p q ls w (RLabel s) h e = well_named p q (named_by (spelled text s) ls) (w (spelled text s)) (no_fault (is_none (named_by (spelled text s) ls)) T05 s e)
 
-well_value : (text : List ℕ) (p : ℕ) (ls : Labels) (w : NamesBelow p ls) (a : List Name) (v : RawValue) → FitsValue (length a) v → value_faults text ls a v ≡ [] → WellFormedValue p 0 (length a) (value_of text ls a v)
-well_value text p ls w a (RPlain b ts) h e = (well_base text p ls w b h.0 (none_left _ _ e), well_types text a ts h.1 (none_right _ _ e))
-well_value text p ls w a (RPack t v s) h e =
+well_value : (text : List ℕ) (p q : ℕ) (ls : Labels) (w : NamesBelow p q ls) (a : List Name) (v : RawValue) → FitsValue (length a) v → value_faults text ls a v ≡ [] → WellFormedValue p q (length a) (value_of text ls a v)
+well_value text p q ls w a (RPlain b ts) h e = (well_base text p q ls w b h.0 (none_left _ _ e), well_types text a ts h.1 (none_right _ _ e))
+well_value text p q ls w a (RPack t v s) h e =
     let f = none_right _ _ e in
-    (well_type text a t h.0 (none_left _ _ e), well_value text p ls w a v h.1 (none_left _ _ f), well_type text a s h.2 (none_right _ _ f))
+    (well_type text a t h.0 (none_left _ _ e), well_value text p q ls w a v h.1 (none_left _ _ f), well_type text a s h.2 (none_right _ _ f))
 
-well_instr : (text : List ℕ) (p : ℕ) (ls : Labels) (w : NamesBelow p ls) (a : List Name) (i : RawInstr) → FitsInstr (length a) i → instr_faults text ls a i ≡ [] → WellFormedInstr p 0 (length a) (instr_of text ls a i)
-well_instr text p ls w a (RArith op rd rs v) h e = (h.0, h.1, well_value text p ls w a v h.2 e)
-well_instr text p ls w a (RBnz r v) h e = (h.0, well_value text p ls w a v h.1 e)
-well_instr text p ls w a (RLd rd rs i) h e = h
-well_instr text p ls w a (RMalloc rd ts) h e = (h.0, well_types text a ts h.1 e)
-well_instr text p ls w a (RMov rd v) h e = (h.0, well_value text p ls w a v h.1 e)
-well_instr text p ls w a (RSt rd i rs) h e = h
-well_instr text p ls w a (RUnpack n rd v) h e = (h.0, well_value text p ls w a v h.1 e)
+well_instr : (text : List ℕ) (p q : ℕ) (ls : Labels) (w : NamesBelow p q ls) (a : List Name) (i : RawInstr) → FitsInstr (length a) i → instr_faults text ls a i ≡ [] → WellFormedInstr p q (length a) (instr_of text ls a i)
+well_instr text p q ls w a (RArith op rd rs v) h e = (h.0, h.1, well_value text p q ls w a v h.2 e)
+well_instr text p q ls w a (RBnz r v) h e = (h.0, well_value text p q ls w a v h.1 e)
+well_instr text p q ls w a (RLd rd rs i) h e = h
+well_instr text p q ls w a (RMalloc rd ts) h e = (h.0, well_types text a ts h.1 e)
+well_instr text p q ls w a (RMov rd v) h e = (h.0, well_value text p q ls w a v h.1 e)
+well_instr text p q ls w a (RSt rd i rs) h e = h
+well_instr text p q ls w a (RUnpack n rd v) h e = (h.0, well_value text p q ls w a v h.1 e)
 
 -- the number of names after an instruction, read and resolved
 after_length : (text : List ℕ) (i : RawInstr) (a : List Name) → length (names_after text i a) ≡ after_raw i (length a)
@@ -171,61 +171,74 @@ after_same text ls a (RMov rd v) n = refl
 after_same text ls a (RSt rd i rs) n = refl
 after_same text ls a (RUnpack m rd v) n = refl
 
-well_end : (text : List ℕ) (p : ℕ) (ls : Labels) (w : NamesBelow p ls) (a : List Name) (e : RawEnd) → FitsEnd (length a) e → end_faults text ls a e ≡ [] → WellFormedEnd p 0 (length a) (end_of text ls a e)
-well_end text p ls w a (RJmp v) h e = well_value text p ls w a v h e
-well_end text p ls w a RHalt h e = tt
+well_end : (text : List ℕ) (p q : ℕ) (ls : Labels) (w : NamesBelow p q ls) (a : List Name) (e : RawEnd) → FitsEnd (length a) e → end_faults text ls a e ≡ [] → WellFormedEnd p q (length a) (end_of text ls a e)
+well_end text p q ls w a (RJmp v) h e = well_value text p q ls w a v h e
+well_end text p q ls w a RHalt h e = tt
 
-well_seq : (text : List ℕ) (p : ℕ) (ls : Labels) (w : NamesBelow p ls) (a : List Name) (is : List (RawInstr × Span)) (last : RawEnd) → FitsSteps (length a) is → FitsEnd (after_steps is (length a)) last → body_faults text ls a is ≡ [] →
-    end_faults text ls (names_after_all text is a) last ≡ [] → WellFormedSeq p 0 (length a) (seq_of (body_of text ls a is) (end_of text ls (names_after_all text is a) last))
-well_seq text p ls w a [] last h g e f = well_end text p ls w a last g f
-well_seq text p ls w a (i ∷ is) last h g e f =
+well_seq : (text : List ℕ) (p q : ℕ) (ls : Labels) (w : NamesBelow p q ls) (a : List Name) (is : List (RawInstr × Span)) (last : RawEnd) → FitsSteps (length a) is → FitsEnd (after_steps is (length a)) last → body_faults text ls a is ≡ [] →
+    end_faults text ls (names_after_all text is a) last ≡ [] → WellFormedSeq p q (length a) (seq_of (body_of text ls a is) (end_of text ls (names_after_all text is a) last))
+well_seq text p q ls w a [] last h g e f = well_end text p q ls w a last g f
+well_seq text p q ls w a (i ∷ is) last h g e f =
     let l = after_length text i.0 a in
     let s = after_same text ls a i.0 (length a) in
-    let q : length (names_after text i.0 a) ≡ tree.names_after (instr_of text ls a i.0) (length a) = l ∙ sym s in (
-      well_instr text p ls w a i.0 h.0 (none_left _ _ e),
+    let same : length (names_after text i.0 a) ≡ tree.names_after (instr_of text ls a i.0) (length a) = l ∙ sym s in (
+      well_instr text p q ls w a i.0 h.0 (none_left _ _ e),
       rw s h.1,
-      subst (λ (n : ℕ). WellFormedSeq p 0 n (seq_of (body_of text ls (names_after text i.0 a) is) (end_of text ls (names_after_all text is (names_after text i.0 a)) last))) q
-          (well_seq text p ls w (names_after text i.0 a) is last (subst (λ (n : ℕ). FitsSteps n is) (sym l) h.2) (subst (λ (n : ℕ). FitsEnd (after_steps is n) last) (sym l) g) (none_right _ _ e) f),
+      subst (λ (n : ℕ). WellFormedSeq p q n (seq_of (body_of text ls (names_after text i.0 a) is) (end_of text ls (names_after_all text is (names_after text i.0 a)) last))) same
+          (well_seq text p q ls w (names_after text i.0 a) is last (subst (λ (n : ℕ). FitsSteps n is) (sym l) h.2) (subst (λ (n : ℕ). FitsEnd (after_steps is n) last) (sym l) g) (none_right _ _ e) f),
     )
 
-well_block : (text : List ℕ) (p : ℕ) (ls : Labels) (w : NamesBelow p ls) (b : RawBlock) → FitsBlock b → block_faults text ls b ≡ [] → WellFormedBlock p 0 (plain (block_of text ls b))
-well_block text p ls w b h e =
+well_block : (text : List ℕ) (p q : ℕ) (ls : Labels) (w : NamesBelow p q ls) (b : RawBlock) → FitsBlock b → block_faults text ls b ≡ [] → WellFormedBlock p q (plain (block_of text ls b))
+well_block text p q ls w b h e =
     let l : length (bind text b.names []) ≡ length b.names = bind_length text b.names [] ∙ omega arith in
     let f = none_right _ _ e in (
       h.0,
       subst (λ (n : ℕ). RegsAbove 0 n (file_of text (bind text b.names []) b.file)) l (well_regs text (bind text b.names []) [] b.file (subst (λ (n : ℕ). FitsRegs n b.file) (sym l) h.1) (none_left _ _ e)),
-      subst (λ (n : ℕ). WellFormedSeq p 0 n (seq_of (body_of text ls (bind text b.names []) b.body) (end_of text ls (names_after_all text b.body (bind text b.names [])) b.last.0))) l
-          (well_seq text p ls w (bind text b.names []) b.body b.last.0 (subst (λ (n : ℕ). FitsSteps n b.body) (sym l) h.2) (subst (λ (n : ℕ). FitsEnd (after_steps b.body n) b.last.0) (sym l) h.3) (none_left _ _ f) (none_right _ _ f)),
+      subst (λ (n : ℕ). WellFormedSeq p q n (seq_of (body_of text ls (bind text b.names []) b.body) (end_of text ls (names_after_all text b.body (bind text b.names [])) b.last.0))) l
+          (well_seq text p q ls w (bind text b.names []) b.body b.last.0 (subst (λ (n : ℕ). FitsSteps n b.body) (sym l) h.2) (subst (λ (n : ℕ). FitsEnd (after_steps b.body n) b.last.0) (sym l) h.3) (none_left _ _ f) (none_right _ _ f)),
     )
 
-well_blocks : (text : List ℕ) (p : ℕ) (ls : Labels) (w : NamesBelow p ls) (before : List Name) (bs : List RawBlock) → FitsBlocks bs → blocks_faults text ls before bs ≡ [] → WellFormedBlocks p 0 (plain_blocks (map (block_of text ls) bs))
-well_blocks text p ls w before [] h e = tt
-well_blocks text p ls w before (b ∷ bs) h e =
-    let f = none_right _ _ e in (well_block text p ls w b h.0 (none_left _ _ f), well_blocks text p ls w (spelled text b.name ∷ before) bs h.1 (none_right _ _ f))
+-- data stand under no type names, and no register stands in a value of theirs
+module _ (text : List ℕ) (xs : List RawItem) where
+  abbrev labels : Labels
+  labels = labels_of text xs
+
+  module _ (p q : ℕ) (w : NamesBelow p q labels) where
+    well_datum : (x : RawDatum) → FitsDatum x → datum_faults text labels x ≡ [] → WellFormedDatum p q (plain_datum (datum_of text labels x))
+    well_datum x h e = (well_value text p q labels w [] x.value h.0 (none_left _ _ e), no_register text xs h.2.1 [], well_type text [] x.ty h.1 (none_right _ _ e))
+
+    well_data : (ys : List RawDatum) → FitsData ys → data_faults text labels ys ≡ [] → WellFormedData p q (plain_fields (map (datum_of text labels) ys))
+    well_data [] h e = tt
+    well_data (y ∷ ys) h e = (well_datum y h.0 (none_left _ _ e), well_data ys h.1 (none_right _ _ e))
+
+    abbrev Well : List RawItem → Type 0
+    Well ys = WellFormedBlocks p q (plain_blocks (map (block_of text labels) (blocks_in ys))) × WellFormedHeap p q (plain_heap (map (data_of text labels) (data_in ys)))
+
+    well_items : (before : List Name) (ys : List RawItem) → FitsItems ys → items_faults text labels before ys ≡ [] → Well ys
+    well_items before [] h e = (tt, tt)
+    well_items before (BlockItem b ∷ ys) h e =
+        let f = none_right _ _ e in
+        let r = well_items (spelled text b.name ∷ before) ys h.1 (none_right _ _ f) in
+        ((well_block text p q labels w b h.0 (none_left _ _ f), r.0), r.1)
+    well_items before (DataItem x ∷ ys) h e =
+        let f = none_right _ _ e in
+        let r = well_items (spelled text x.name ∷ before) ys h.1 (none_right _ _ f) in
+        (r.0, (well_data x.fields h.0 (none_left _ _ f), r.1))
 
 plain_length : (bs : List SBlock) → length (plain_blocks bs) ≡ length bs
 plain_length [] = refl
 plain_length (b ∷ bs) = let h = plain_length bs in omega (arith, h)
 
--- the labels of blocks name these blocks
-labels_below : (text : List ℕ) (k : ℕ) (bs : List RawBlock) (x : Name) → IsBlockBelow (k + length bs) (named_by x (block_labels text k bs))
-labels_below text k [] x = tt
-labels_below text k (b ∷ bs) x =
-    let more : suc k + length bs ≡ k + length (b ∷ bs) = omega arith in
-    by_test (bytes_eq x (spelled text b.name)) (subst (λ (n : ℕ). IsBlockBelow n (named_by x (block_labels text (suc k) bs))) more (labels_below text (suc k) bs x))
-  where
-    by_test : (t : Bool) → IsBlockBelow (k + length (b ∷ bs)) (named_by x (block_labels text (suc k) bs)) → IsBlockBelow (k + length (b ∷ bs)) (if t then Some (Label k) else named_by x (block_labels text (suc k) bs))
-    by_test true h = omega arith
-    by_test false h = h
+heap_length : (xs : List SData) → length (plain_heap xs) ≡ length xs
+heap_length [] = refl
+heap_length (x ∷ xs) = let h = heap_length xs in omega (arith, h)
 
-pub is_whole : (text : List ℕ) (raw : List RawBlock) (bs : List code.Block) (xs : List data_of.Data) → IsShape text raw → program_faults text raw ≡ [] → spanned_blocks bs ≡ (program_of text raw).blocks → xs ≡ [] →
-    Whole (parts bs xs)
-is_whole text raw bs xs h f e n =
+pub is_whole : (text : List ℕ) (raw : List RawItem) (bs : List code.Block) (xs : List heap_of.Data) → IsShape text raw → program_faults text raw ≡ [] → spanned_parts bs xs ≡ program_of text raw → Whole (parts bs xs)
+is_whole text raw bs xs h f e =
     let k = fits_Program h.shape (kept_cut h.cut) h.short in
-    let made = map (block_of text (labels_of text raw)) raw in
-    let l : length (plain_blocks made) ≡ length raw = plain_length made ∙ length-map raw (block_of text (labels_of text raw)) in
-    rw (e, n) (
-      omega (arith, l, k.1),
-      rw l (well_blocks text (length raw) (labels_of text raw) (λ x. subst (λ (m : ℕ). IsBlockBelow m (named_by x (labels_of text raw))) (zero-add (length raw)) (labels_below text 0 raw x)) [] raw k.0 f),
-      tt,
-    )
+    let blocks = map (block_of text (labels_of text raw)) (blocks_in raw) in
+    let heap = map (data_of text (labels_of text raw)) (data_in raw) in
+    let l : length (plain_blocks blocks) ≡ length (blocks_in raw) = plain_length blocks ∙ length-map (blocks_in raw) (block_of text (labels_of text raw)) in
+    let m : length (plain_heap heap) ≡ length (data_in raw) = heap_length heap ∙ length-map (data_in raw) (data_of text (labels_of text raw)) in
+    let w = well_items text raw (length (blocks_in raw)) (length (data_in raw)) (λ x. rw (← zero-add (length (blocks_in raw)), ← zero-add (length (data_in raw))) (labels_named text 0 0 raw x)) [] raw k.0 f in
+    subst (λ (P : SProg). Whole (plain_program P)) (sym e) (omega (arith, l, k.1), rw (l, m) w.0, rw (l, m) w.1)

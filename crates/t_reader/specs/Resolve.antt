@@ -12,12 +12,13 @@ use Rattle.t_terms.specs.declared.fault.TCode.TheVariants.{T04}
 use Rattle.t_terms.specs.declared.fault.TFault.{TFault}
 use Rattle.t_terms.specs.declared.fault.TFault.TheVariants.{Memory, Refused}
 use Rattle.t_terms.specs.Tokens.{IsCut}
-use Rattle.t_terms.specs.Raw.{RawBlock}
+use Rattle.t_terms.specs.Tree.{TBase, Label, Data}
+use Rattle.t_terms.specs.Raw.{RawBlock, RawData, RawItem, BlockItem, DataItem, item_name}
 use Rattle.t_terms.specs.Grammar.{Program, assembly_grammar}
 use Rattle.t_terms.specs.Names.{Labels, spelled, is_among, place_of, named_by}
-use Rattle.t_terms.specs.NameFaults.{only_if, block_faults}
+use Rattle.t_terms.specs.NameFaults.{only_if, item_faults}
 use Rattle.t_terms.specs.Text.{most_open, IsFirstFault}
-use Rattle.t_reader.specs.Labelled.{is_block}
+use Rattle.t_reader.specs.Labelled.{is_target}
 
 -- the first of the faults in the order of the text, or want of memory
 abbrev pub StopsAt : List (TCode × Span) → TFault → Type 0
@@ -29,13 +30,21 @@ abbrev pub IsFound : Name → List Name → Option ℕ → Type 0
 IsFound x names None = is_among x names ≡ false
 IsFound x names (Some i) = (is_among x names ≡ true) × (place_of x names ≡ i)
 
--- whether a label is that of a block before the one with this number
-abbrev pub stands_before : Name → Labels → ℕ → Bool
-stands_before x ls k = not (is_block k (named_by x ls))
+-- whether a label is that of an item before the one that this is
+abbrev pub stands_before : Name → Labels → TBase → Bool
+stands_before x ls t = not (is_target t (named_by x ls))
 
--- the faults of a block with this number: its label stands before, and those of its names
-abbrev pub numbered_faults : List ℕ → Labels → ℕ → RawBlock → List (TCode × Span)
-numbered_faults text ls k b = only_if (stands_before (spelled text b.name) ls k) T04 b.name ++ block_faults text ls b
+-- the faults of an item that is this: its label stands before, and those of its names
+abbrev pub numbered_faults : List ℕ → Labels → TBase → RawItem → List (TCode × Span)
+numbered_faults text ls t x =
+    only_if (stands_before (spelled text (item_name x)) ls t) T04 (item_name x) ++ item_faults text ls x
+
+-- the same of a block, and of a data tuple, with this number
+abbrev pub block_numbered_faults : List ℕ → Labels → ℕ → RawBlock → List (TCode × Span)
+block_numbered_faults text ls k b = numbered_faults text ls (Label k) (BlockItem b)
+
+abbrev pub data_numbered_faults : List ℕ → Labels → ℕ → RawData → List (TCode × Span)
+data_numbered_faults text ls k x = numbered_faults text ls (Data k) (DataItem x)
 
 -- a register is there
 abbrev pub has : ℕ → List (ℕ × TType) → Bool
@@ -49,8 +58,8 @@ span_of text (Some c) = c.span
 abbrev pub place_at : List ℕ → List Token → ℕ → Span
 place_at text ts i = span_of text (slice_get ts i)
 
--- the text is cut into tokens that are these blocks within the limit on open constructs
-pub record IsShape (text : List ℕ) (raw : List RawBlock) : Type 0 where
+-- the text is cut into tokens that are these items within the limit on open constructs
+pub record IsShape (text : List ℕ) (raw : List RawItem) : Type 0 where
   pub tokens : List Token
   pub cut : IsCut text tokens
   pub shape : Program tokens raw

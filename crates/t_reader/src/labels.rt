@@ -1,22 +1,22 @@
-// The labels of a text, and the blocks that they name.
+// The labels of a text, and the blocks and data tuples that they name.
 ghost use Rattle.std.specs.Prelude.{◌≡◌, [], ◌∷◌, ◌++◌, MatchResult};
-ghost use Rattle.t_terms.specs.Tree.{Label};
 ghost use Rattle.t_terms.specs.Names.{Labels as LabelList, labels_of};
 ghost use Rattle.t_terms.specs.declared.fault.TFault.TheVariants as fault;
-ghost use Rattle.t_shapes.specs.Raw.{raw_blocks};
-ghost use Rattle.t_reader.specs.Labelled.{IsBlockOf, NameTheSame, HasFirstBlocks};
+ghost use Rattle.t_shapes.specs.Raw.{raw_items};
+ghost use Rattle.t_reader.specs.Labelled.{target_base, IsTargetOf, NameTheSame, HasFirsts};
 
 use crate::scope::{BySpelling, by_spelling, spelling};
+use crate::target::Target;
 use std::alloc::Global;
 use std::marker::Model;
-use t_shapes::RawBlock;
+use t_shapes::RawItem;
 use t_terms::TFault;
 
-/// The labels of a text. Contracts see them as a list, each with the block that it names.
+/// The labels of a text. Contracts see them as a list, each with the block or the data tuple that it names.
 #[derive(Drop)]
 pub struct Labels<'a> {
-    // the number of the first block with each label
-    numbers: BySpelling<'a>,
+    // what the first item with each label is
+    targets: BySpelling<'a, Target>,
 }
 
 impl<'a> Model for Labels<'a> {
@@ -25,47 +25,59 @@ impl<'a> Model for Labels<'a> {
 
     ghost Value = { LabelList };
 
-    ghost view = { λ l. labels_in_map l.numbers };
+    ghost view = { λ l. labels_in_map l.targets };
 }
 
 impl<'a> Labels<'a> {
-    /// The number of the block that this label names, or none where it names none.
-    pub fn find(&self, name: &[u8]) -> Option<u64>
-        ensures { IsBlockOf name.now self.now result }
+    /// The block or the data tuple that this label names, or none where it names none.
+    pub fn find(&self, name: &[u8]) -> Option<Target>
+        ensures { IsTargetOf name.now self.now result }
     {
-        self.numbers.get(name).copied()
+        self.targets.get(name).copied()
     }
 }
 
-// gives a label the number of its block, unless a block before has the label
-fn keep_first<'a>(numbers: &mut BySpelling<'a>, name: &'a [u8], number: u64) -> Result<(), TFault>
+// gives a label what it names, unless an item before has the label
+fn keep_first<'a>(
+    targets: &mut BySpelling<'a, Target>,
+    name: &'a [u8],
+    target: Target,
+) -> Result<(), TFault>
     ensures { MatchResult result
-        (λ _. (ls : LabelList) → HasFirstBlocks numbers.old ls →
-        HasFirstBlocks numbers.new (ls ++ (name.now, Label number) ∷ []))
+        (λ _. (ls : LabelList) → HasFirsts targets.old ls →
+        HasFirsts targets.new (ls ++ (name.now, target_base target) ∷ []))
         (λ e. e ≡ fault.Memory) }
 {
-    if numbers.contains_key(name) {
+    if targets.contains_key(name) {
         return Ok(());
     }
-    numbers.insert(name, number)?;
+    targets.insert(name, target)?;
     Ok(())
 }
 
-/// The labels of blocks, each of which names the first block that has it.
-pub fn labels_in<'a>(
-    alloc: Global,
-    text: &'a [u8],
-    blocks: &[RawBlock],
-) -> Result<Labels<'a>, TFault>
+/// The labels of items, each of which names the first item that has it. Blocks and data are numbered apart, each in the
+/// order of the text.
+pub fn labels_in<'a>(alloc: Global, text: &'a [u8], items: &[RawItem]) -> Result<Labels<'a>, TFault>
     ensures { MatchResult result
-        (λ l. NameTheSame l (labels_of text.now (raw_blocks blocks.now)))
+        (λ l. NameTheSame l (labels_of text.now (raw_items items.now)))
         (λ e. e ≡ fault.Memory) }
 {
-    let mut numbers = by_spelling(alloc);
-    let mut number = 0u64;
-    for block in blocks {
-        keep_first(&mut numbers, spelling(text, block.name), number)?;
-        number += 1;
+    let mut targets = by_spelling(alloc);
+    let mut blocks = 0u64;
+    let mut tuples = 0u64;
+    for item in items {
+        match item {
+            RawItem::Block(block) => {
+                let target = Target::Block(blocks);
+                blocks += 1;
+                keep_first(&mut targets, spelling(text, block.name), target)?;
+            }
+            RawItem::Data(tuple) => {
+                let target = Target::Data(tuples);
+                tuples += 1;
+                keep_first(&mut targets, spelling(text, tuple.name), target)?;
+            }
+        }
     }
-    Ok(Labels { numbers })
+    Ok(Labels { targets })
 }

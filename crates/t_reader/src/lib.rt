@@ -5,6 +5,7 @@ mod labels;
 mod reader;
 mod resolve;
 mod scope;
+mod target;
 mod types;
 
 pub use reader::read;

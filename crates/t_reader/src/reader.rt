@@ -1,29 +1,38 @@
 // From the bytes of a text to its program.
-ghost use Rattle.std.specs.Prelude.{◌≡◌, ◌≢◌, List, [], MatchResult, IsErrAnd, IfOk};
+ghost use Rattle.std.specs.Prelude.{◌≡◌, ◌≢◌, List, [], MatchResult, IsErrAnd};
 ghost use Rattle.idx_core.specs.declared.span.Span as place;
 ghost use Rattle.t_terms.specs.declared.fault.TCode as codes;
 ghost use Rattle.t_terms.specs.declared.fault.TFault.TheVariants as fault;
 ghost use Rattle.t_terms.specs.Spanned.{SProg};
-ghost use Rattle.t_terms.specs.Read.{spanned, spanned_blocks};
+ghost use Rattle.t_terms.specs.Read.{spanned, spanned_data, spanned_parts};
 ghost use Rattle.t_terms.specs.ReadProgram.{spanned_program};
 ghost use Rattle.t_terms.specs.Text.{ReadsAs, FirstFault, IsFirstFault};
-ghost use Rattle.t_terms.specs.Names.{program_of, block_of};
+ghost use Rattle.t_terms.specs.Names.{program_of, block_of, data_of};
 ghost use Rattle.t_terms.specs.NameFaults.{program_faults};
-ghost use Rattle.t_shapes.specs.Raw.{raw_block, raw_blocks};
-ghost use Rattle.t_reader.specs.Resolve.{StopsAt, IsShape, IsShapeFault, place_at, stands_before, numbered_faults};
+ghost use Rattle.t_shapes.specs.Raw.{raw_block, raw_data, raw_items};
+ghost use Rattle.t_reader.specs.Labelled.{target_base, same_base};
+ghost use Rattle.t_reader.specs.Resolve.{StopsAt, IsShape, IsShapeFault, place_at, stands_before, block_numbered_faults, data_numbered_faults};
 
 use crate::labels::{Labels, labels_in};
-use crate::resolve::block_in;
+use crate::resolve::{block_in, data_in};
 use crate::scope::spelling;
+use crate::target::Target;
 use idx_core::Span;
 use std::alloc::Global;
 use t_grammar::Stopped;
 use t_lexer::tokens;
-use t_shapes::{RawBlock, program};
+use t_shapes::{RawBlock, RawData, RawItem, program};
 use t_terms::{
-    Block, TCode, TFault, TProgram, Token, at_most_one_fault, at_most_one_program,
+    Block, Data, TCode, TFault, TProgram, Token, at_most_one_fault, at_most_one_program,
     no_fault_where_read,
 };
+
+// the blocks and the data of a text, each in the order of the text
+#[derive(Drop)]
+struct Parts {
+    blocks: Vec<Block>,
+    heap: Vec<Data>,
+}
 
 // the place of a token, or the end of the text
 fn place(text: &[u8], tokens: &[Token], at: usize) -> Span
@@ -38,13 +47,13 @@ fn place(text: &[u8], tokens: &[Token], at: usize) -> Span
     }
 }
 
-// the blocks of a text before names are resolved
-fn shape(alloc: Global, text: &[u8]) -> Result<Vec<RawBlock>, TFault>
-    ensures { MatchResult result (λ bs. IsShape text.now (raw_blocks bs.items)) (λ f. IsShapeFault text.now f) }
+// the items of a text before names are resolved
+fn shape(alloc: Global, text: &[u8]) -> Result<Vec<RawItem>, TFault>
+    ensures { MatchResult result (λ xs. IsShape text.now (raw_items xs.items)) (λ f. IsShapeFault text.now f) }
 {
     let tokens = tokens(alloc, text)?;
     match program(alloc, &tokens) {
-        Ok(blocks) => Ok(blocks),
+        Ok(items) => Ok(items),
         Err(Stopped::Memory) => Err(TFault::Memory),
         Err(Stopped::Unexpected(at)) => Err(TFault::Refused {
             code: TCode::T03,
@@ -57,12 +66,23 @@ fn shape(alloc: Global, text: &[u8]) -> Result<Vec<RawBlock>, TFault>
     }
 }
 
-// whether a label is that of a block before the one with this number
-fn stood_before(labels: &Labels<'_>, name: &[u8], number: usize) -> bool
-    ensures { result ≡ stands_before name.now labels.now number }
+// whether two labels name the same
+fn same_target(one: Target, other: Target) -> bool
+    ensures { result ≡ same_base (target_base one) (target_base other) }
+{
+    match (one, other) {
+        (Target::Block(i), Target::Block(k)) => i == k,
+        (Target::Data(i), Target::Data(k)) => i == k,
+        _ => false,
+    }
+}
+
+// whether a label is that of an item before the one that is this
+fn stood_before(labels: &Labels<'_>, name: &[u8], target: Target) -> bool
+    ensures { result ≡ stands_before name.now labels.now (target_base target) }
 {
     match labels.find(name) {
-        Some(place) => place != number as u64,
+        Some(first) => !same_target(first, target),
         None => true,
     }
 }
@@ -76,11 +96,12 @@ fn numbered_block(
     block: &RawBlock,
 ) -> Result<Block, TFault>
     ensures { MatchResult result
-        (λ b. (numbered_faults text.now labels.now number (raw_block block.now) ≡ [])
+        (λ b. (block_numbered_faults text.now labels.now number (raw_block block.now) ≡ [])
         × (spanned b ≡ block_of text.now labels.now (raw_block block.now)))
-        (λ e. StopsAt (numbered_faults text.now labels.now number (raw_block block.now)) e) }
+        (λ e. StopsAt (block_numbered_faults text.now labels.now number (raw_block block.now)) e) }
 {
-    if stood_before(labels, spelling(text, block.name), number) {
+    let target = Target::Block(number as u64);
+    if stood_before(labels, spelling(text, block.name), target) {
         return Err(TFault::Refused {
             code: TCode::T04,
             span: block.name,
@@ -98,55 +119,99 @@ fn taken_block(
     block: RawBlock,
 ) -> Result<Block, TFault>
     ensures { MatchResult result
-        (λ b. (numbered_faults text.now labels.now number (raw_block block) ≡ [])
+        (λ b. (block_numbered_faults text.now labels.now number (raw_block block) ≡ [])
         × (spanned b ≡ block_of text.now labels.now (raw_block block)))
-        (λ e. StopsAt (numbered_faults text.now labels.now number (raw_block block)) e) }
+        (λ e. StopsAt (block_numbered_faults text.now labels.now number (raw_block block)) e) }
 {
     numbered_block(alloc, text, labels, number, &block)
 }
 
-// The blocks of a text with their names resolved. Each raw block is dropped as soon as its own is made, so that the
-// two trees are never both whole in memory.
-fn blocks_in(alloc: Global, text: &[u8], raw: Vec<RawBlock>) -> Result<Vec<Block>, TFault>
+// the data tuple of a raw one with this number, whose label may not stand before
+fn numbered_data(
+    alloc: Global,
+    text: &[u8],
+    labels: &Labels<'_>,
+    number: usize,
+    tuple: &RawData,
+) -> Result<Data, TFault>
     ensures { MatchResult result
-        (λ bs. (program_faults text.now (raw_blocks raw.items) ≡ [])
-        × (spanned_blocks bs.items ≡ (program_of text.now (raw_blocks raw.items)).blocks))
-        (λ e. StopsAt (program_faults text.now (raw_blocks raw.items)) e) }
+        (λ x. (data_numbered_faults text.now labels.now number (raw_data tuple.now) ≡ [])
+        × (spanned_data x ≡ data_of text.now labels.now (raw_data tuple.now)))
+        (λ e. StopsAt (data_numbered_faults text.now labels.now number (raw_data tuple.now)) e) }
+{
+    let target = Target::Data(number as u64);
+    if stood_before(labels, spelling(text, tuple.name), target) {
+        return Err(TFault::Refused {
+            code: TCode::T04,
+            span: tuple.name,
+        });
+    }
+    data_in(alloc, text, labels, tuple)
+}
+
+// the same of a raw data tuple that is dropped after it
+fn taken_data(
+    alloc: Global,
+    text: &[u8],
+    labels: &Labels<'_>,
+    number: usize,
+    tuple: RawData,
+) -> Result<Data, TFault>
+    ensures { MatchResult result
+        (λ x. (data_numbered_faults text.now labels.now number (raw_data tuple) ≡ [])
+        × (spanned_data x ≡ data_of text.now labels.now (raw_data tuple)))
+        (λ e. StopsAt (data_numbered_faults text.now labels.now number (raw_data tuple)) e) }
+{
+    numbered_data(alloc, text, labels, number, &tuple)
+}
+
+// The blocks and the data of a text with their names resolved. Each raw item is dropped as soon as its own is made, so
+// that the two trees are never both whole in memory.
+fn parts_in(alloc: Global, text: &[u8], raw: Vec<RawItem>) -> Result<Parts, TFault>
+    ensures { MatchResult result
+        (λ p. (program_faults text.now (raw_items raw.items) ≡ [])
+        × (spanned_parts p.blocks.items p.heap.items ≡ program_of text.now (raw_items raw.items)))
+        (λ e. StopsAt (program_faults text.now (raw_items raw.items)) e) }
 {
     let labels = labels_in(alloc, text, &raw)?;
     let mut blocks = Vec::new(alloc);
-    let mut number = 0usize;
-    for block in raw {
-        let made = taken_block(alloc, text, &labels, number, block)?;
-        blocks.push(made)?;
-        number += 1;
+    let mut heap = Vec::new(alloc);
+    for item in raw {
+        match item {
+            RawItem::Block(block) => {
+                let made = taken_block(alloc, text, &labels, blocks.len(), block)?;
+                blocks.push(made)?;
+            }
+            RawItem::Data(tuple) => {
+                let made = taken_data(alloc, text, &labels, heap.len(), tuple)?;
+                heap.push(made)?;
+            }
+        }
     }
-    Ok(blocks)
+    Ok(Parts { blocks, heap })
 }
 
 // the program or the first fault of a text
 fn reading(alloc: Global, text: &[u8]) -> Result<TProgram, TFault>
-    ensures right { MatchResult result (λ p. ReadsAs text.now (spanned_program p)) (λ f. IsFirstFault text.now f) }
-    ensures no_data { IfOk result (λ p. p.heap.items ≡ []) }
+    ensures { MatchResult result (λ p. ReadsAs text.now (spanned_program p)) (λ f. IsFirstFault text.now f) }
 {
     let raw = shape(alloc, text)?;
-    let blocks = blocks_in(alloc, text, raw)?;
+    let parts = parts_in(alloc, text, raw)?;
     Ok(TProgram {
-        blocks,
-        heap: Vec::new(alloc),
+        blocks: parts.blocks,
+        heap: parts.heap,
     })
 }
 
 /// The program that an assembly text stands for. Refused by T01 to T07 and M1: by the first fault of the tokens, else
 /// of the grammar or of the limit on open constructs, in the order of the tokens, else of names and registers, in the
-/// order of the text (own choice). The language has no data yet.
+/// order of the text (own choice).
 pub fn read(alloc: Global, text: &[u8]) -> Result<TProgram, TFault>
     ensures right { MatchResult result (λ p. ReadsAs text.now (spanned_program p)) (λ f. IsFirstFault text.now f) }
     ensures program { (P : SProg) → ReadsAs text.now P →
         MatchResult result (λ p. spanned_program p ≡ P) (λ f. f ≡ fault.Memory) }
     ensures refused { (code : codes.TCode) (span : place.Span) → FirstFault text.now code span →
         IsErrAnd result (λ f. f ≢ fault.Memory → f ≡ fault.Refused code span) }
-    ensures no_data { IfOk result (λ p. p.heap.items ≡ []) }
 {
     at_most_one_program();
     at_most_one_fault();

@@ -1,22 +1,34 @@
-// The names of values, instructions and blocks.
+// The names of values, instructions, blocks and data.
 ghost use Rattle.std.specs.Prelude.{◌≡◌, List, [], map, MatchResult};
 ghost use Rattle.t_types.specs.Read.{tree};
 ghost use Rattle.t_terms.specs.Tree.{Pack};
-ghost use Rattle.t_terms.specs.Names.{base_of, value_of, instr_of, body_of, end_of, block_of, names_after, names_after_all};
-ghost use Rattle.t_terms.specs.NameFaults.{base_faults, value_faults, instr_faults, body_faults, end_faults, block_faults};
+ghost use Rattle.t_terms.specs.Names.{base_of, value_of, instr_of, body_of, end_of, block_of, datum_of, data_of, names_after, names_after_all};
+ghost use Rattle.t_terms.specs.NameFaults.{base_faults, value_faults, instr_faults, body_faults, end_faults, block_faults, datum_faults, data_faults};
 ghost use Rattle.t_terms.specs.Read as read;
-ghost use Rattle.t_shapes.specs.Raw.{raw_base, raw_value, raw_instr, raw_step, raw_end, raw_block};
+ghost use Rattle.t_shapes.specs.Raw.{raw_base, raw_value, raw_instr, raw_step, raw_end, raw_block, raw_datum, raw_data};
+ghost use Rattle.t_reader.specs.Labelled.{target_base};
 ghost use Rattle.t_reader.specs.Resolve.{StopsAt};
 ghost use Rattle.t_terms.specs.declared.fault.TFault.TheVariants as fault;
 
 use crate::labels::Labels;
 use crate::scope::{Scope, bind_all, spelling};
+use crate::target::Target;
 use crate::types::{file_in, type_in, types_in};
 use idx_core::Span;
 use std::alloc::Global;
-use t_shapes::{RawBase, RawBlock, RawEnd, RawInstr, RawValue};
-use t_terms::{Base, Block, End, Instr, TCode, TFault, Value};
+use t_shapes::{RawBase, RawBlock, RawData, RawDatum, RawEnd, RawInstr, RawValue};
+use t_terms::{Base, Block, Data, End, Instr, TCode, TFault, Value};
 use t_types::{RegFile, TType};
+
+// what a label names as a base of values
+fn named(target: Target) -> Base
+    ensures { read.base result ≡ target_base target }
+{
+    match target {
+        Target::Block(number) => Base::Label(number),
+        Target::Data(number) => Base::Data(number),
+    }
+}
 
 // N ::= reg | number | label
 fn base_in(text: &[u8], labels: &Labels<'_>, base: &RawBase) -> Result<Base, TFault>
@@ -29,7 +41,7 @@ fn base_in(text: &[u8], labels: &Labels<'_>, base: &RawBase) -> Result<Base, TFa
         RawBase::Reg(reg) => Ok(Base::Reg(*reg)),
         RawBase::Num(value) => Ok(Base::Int(*value)),
         RawBase::Label(span) => match labels.find(spelling(text, *span)) {
-            Some(number) => Ok(Base::Label(number)),
+            Some(target) => Ok(named(target)),
             None => Err(TFault::Refused {
                 code: TCode::T05,
                 span: *span,
@@ -204,5 +216,46 @@ pub fn block_in(
         body,
         end,
         end_span: block.last.1,
+    })
+}
+
+// the field that a field of a data tuple of a text is, under no type names
+fn datum_in(
+    alloc: Global,
+    text: &[u8],
+    labels: &Labels<'_>,
+    datum: &RawDatum,
+) -> Result<(Value, TType, Span), TFault>
+    ensures { MatchResult result
+        (λ x. (datum_faults text.now labels.now (raw_datum datum.now) ≡ [])
+        × (read.datum x ≡ datum_of text.now labels.now (raw_datum datum.now)))
+        (λ e. StopsAt (datum_faults text.now labels.now (raw_datum datum.now)) e) }
+{
+    let mut scope = Scope::new(alloc);
+    let value = value_in(alloc, text, labels, &datum.value, &mut scope)?;
+    let ty = type_in(alloc, text, &datum.ty, &mut scope)?;
+    Ok((value, ty, datum.place))
+}
+
+/// The data tuple that a data tuple of a text is.
+pub fn data_in(
+    alloc: Global,
+    text: &[u8],
+    labels: &Labels<'_>,
+    tuple: &RawData,
+) -> Result<Data, TFault>
+    ensures { MatchResult result
+        (λ x. (data_faults text.now labels.now (raw_data tuple.now).fields ≡ [])
+        × (read.spanned_data x ≡ data_of text.now labels.now (raw_data tuple.now)))
+        (λ e. StopsAt (data_faults text.now labels.now (raw_data tuple.now).fields) e) }
+{
+    let mut fields = Vec::new(alloc);
+    for datum in &tuple.fields {
+        let field = datum_in(alloc, text, labels, datum)?;
+        fields.push(field)?;
+    }
+    Ok(Data {
+        name: tuple.name,
+        fields,
     })
 }

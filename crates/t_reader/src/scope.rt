@@ -13,12 +13,12 @@ use std::hash::{BuildHasherDefault, DefaultHasher};
 use std::marker::Model;
 use t_terms::TFault;
 
-/// Numbers by spellings. Whoever writes a text picks its names, so the hasher is SipHash, for which names that collide
+/// Values by spellings. Whoever writes a text picks its names, so the hasher is SipHash, for which names that collide
 /// must be searched out; its keys are fixed (own choice).
-pub type BySpelling<'a> = IndexMap<&'a [u8], u64, BuildHasherDefault<DefaultHasher>>;
+pub type BySpelling<'a, V> = IndexMap<&'a [u8], V, BuildHasherDefault<DefaultHasher>>;
 
 /// An empty map.
-pub fn by_spelling<'a>(alloc: Global) -> BySpelling<'a>
+pub fn by_spelling<'a, V>(alloc: Global) -> BySpelling<'a, V>
     ensures { IsEmpty result }
 {
     IndexMap::with_hasher(alloc, BuildHasherDefault::new())
@@ -28,7 +28,7 @@ pub fn by_spelling<'a>(alloc: Global) -> BySpelling<'a>
 #[derive(Drop)]
 pub struct Scope<'a> {
     // how many names there were with the innermost of each spelling, or 0 where none is left
-    levels: BySpelling<'a>,
+    levels: BySpelling<'a, u64>,
     // the names, innermost last, each with what its spelling had before it
     bound: Vec<(&'a [u8], u64)>,
 }

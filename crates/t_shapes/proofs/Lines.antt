@@ -6,11 +6,12 @@ use Rattle.t_terms.specs.declared.token.Token.{Token}
 use Rattle.t_terms.specs.declared.token.Kind.{Kind}
 use Rattle.t_terms.specs.declared.token.Kind.TheVariants as k
 use Rattle.t_terms.specs.declared.wanted.Wanted.TheVariants as want
-use Rattle.t_terms.specs.GrammarTable.{table, LT, LTypes, LTypeList, LSomeTypes, LMoreTypes, MakeTypes, MakeFirstType, MakeNextType, MakeClosedTypes, MakeNoTypes, LV, LArgs, LPacked, MakeApply, MakePacked, LTo, MakeTo, LAt, MakeAt, LIndex, MakeIndex, LTarget, MakeTarget, LInt, MakeInt, LBlock, LMoreBlocks, LProgram, MakeFirstBlock, MakeProgram, fits, after, type_list_after, some_types_after, types_tail, value_after, base_owed, instr_after, block_owed, blocks_tail, end_after}
+use Rattle.t_terms.specs.GrammarTable.{table, LT, LTypes, LTypeList, LSomeTypes, LMoreTypes, MakeTypes, MakeFirstType, MakeNextType, MakeClosedTypes, MakeNoTypes, LV, LArgs, LPacked, MakeApply, MakePacked, LTo, MakeTo, LAt, MakeAt, LIndex, MakeIndex, LTarget, MakeTarget, LInt, MakeInt, LBlock, LMoreBlocks, LProgram, LHeader, MakeProgram, LW, LWordArgs, LWordPacked, MakeWordApply, MakeWordPacked, LDatums, LMoreDatums, MakeNoDatums, MakeFirstDatum, MakeNextDatum, MakeClosedDatums, LSomeItems, LMoreItems, LFirst, LItem, MakeNextItem, fits, after, type_list_after, some_types_after, types_tail, value_after, base_owed, instr_after, block_owed, blocks_tail, end_after, word_after, word_owed, datums_after, datums_tail, tuple_after, items_tail, item_after}
 use Rattle.t_terms.specs.Text.{most_open}
 use Rattle.t_grammar.specs.Cursor.{Misses}
 use Rattle.t_grammar.proofs.Stepping.{Moves, not_fits, Opens, ListLine}
-use Rattle.t_shapes.specs.Raw.{is_base}
+use Rattle.t_shapes.specs.Raw.{is_base, is_word_base}
+use Rattle.t_shapes.specs.Reads.{datum_owed, items_line}
 
 pub opens_types : Opens LTypes want.LeftBracket (Nt LTypeList ∷ (Mark ∷ (Do MakeTypes ∷ [])))
 opens_types = record { takes = λ c e. takes c e; no_other = λ c e. no_other c e }
@@ -118,7 +119,7 @@ pub block_begins : (c : Kind) → after LBlock c ≡ (if fits want.Name c then S
 block_begins k.Name = refl
 block_begins _ = refl
 
-pub program_begins : (c : Kind) → after LProgram c ≡ (if fits want.Tal c then Some (Tm want.One ∷ (Nt LBlock ∷ (Do MakeFirstBlock ∷ (Nt LMoreBlocks ∷ (Do MakeProgram ∷ []))))) else None)
+pub program_begins : (c : Kind) → after LProgram c ≡ (if fits want.Tal c then Some (Nt LHeader ∷ (Do MakeProgram ∷ [])) else None)
 program_begins k.Tal = refl
 program_begins _ = refl
 
@@ -163,3 +164,95 @@ block_follows _ e = absurd (cc)
 pub no_block : (c : Kind) → fits want.Name c ≡ false → after LMoreBlocks c ≡ None
 no_block k.Name e = absurd (cc)
 no_block _ e = refl
+
+-- the values of data
+pub opens_word_args : Opens LWordArgs want.LeftBracket (Nt LSomeTypes ∷ (Mark ∷ (Do MakeWordApply ∷ [])))
+opens_word_args = record { takes = λ c e. takes c e; no_other = λ c e. no_other c e }
+  where
+    takes : (c : Kind) → fits want.LeftBracket c ≡ true → after LWordArgs c ≡ Some (Nt LSomeTypes ∷ (Mark ∷ (Do MakeWordApply ∷ [])))
+    takes k.LeftBracket e = refl
+    takes _ e = absurd (cc)
+
+    no_other : (c : Kind) → fits want.LeftBracket c ≡ false → after LWordArgs c ≡ None
+    no_other k.LeftBracket e = absurd (cc)
+    no_other _ e = refl
+
+pub opens_word_packed : Opens LWordPacked want.LeftBracket (Nt LT ∷ (Tm want.Comma ∷ (Nt LW ∷ (Tm want.RightBracket ∷ (Mark ∷ (Do MakeWordPacked ∷ []))))))
+opens_word_packed = record { takes = λ c e. takes c e; no_other = λ c e. no_other c e }
+  where
+    takes : (c : Kind) → fits want.LeftBracket c ≡ true → after LWordPacked c ≡ Some (Nt LT ∷ (Tm want.Comma ∷ (Nt LW ∷ (Tm want.RightBracket ∷ (Mark ∷ (Do MakeWordPacked ∷ []))))))
+    takes k.LeftBracket e = refl
+    takes _ e = absurd (cc)
+
+    no_other : (c : Kind) → fits want.LeftBracket c ≡ false → after LWordPacked c ≡ None
+    no_other k.LeftBracket e = absurd (cc)
+    no_other _ e = refl
+
+pub word_begins : (c : Kind) → is_word_base c ≡ true → word_after c ≡ Some word_owed
+word_begins (k.Plain z) e = refl
+word_begins (k.Negative z) e = refl
+word_begins k.Name e = refl
+word_begins _ e = absurd (cc)
+
+pub no_word : (c : Kind) → is_word_base c ≡ false → c ≢ k.Pack → word_after c ≡ None
+no_word (k.Plain z) e n = absurd (cc)
+no_word (k.Negative z) e n = absurd (cc)
+no_word k.Name e n = absurd (cc)
+no_word k.Pack e n = absurd (n refl)
+no_word _ e n = refl
+
+-- data tuples and their fields
+comma_datums : Opens LMoreDatums want.Comma (datum_owed ++ (Do MakeNextDatum ∷ (Nt LMoreDatums ∷ [])))
+comma_datums = record { takes = λ c e. takes c e; no_other = λ c e. no_other c e }
+  where
+    takes : (c : Kind) → fits want.Comma c ≡ true → after LMoreDatums c ≡ Some (datum_owed ++ (Do MakeNextDatum ∷ (Nt LMoreDatums ∷ [])))
+    takes k.Comma e = refl
+    takes _ e = absurd (cc)
+
+    no_other : (c : Kind) → fits want.Comma c ≡ false → after LMoreDatums c ≡ None
+    no_other k.Comma e = absurd (cc)
+    no_other _ e = refl
+
+datums_begin : (c : Kind) → fits want.RightAngle c ≡ false → datums_after c ≡ then_more (word_after c) datums_tail
+datums_begin k.RightAngle e = absurd (cc)
+datums_begin _ e = refl
+
+pub list_datums : ListLine LDatums LMoreDatums want.RightAngle datum_owed MakeFirstDatum MakeNextDatum MakeClosedDatums
+list_datums = record {
+  begin = λ ts d i e. step.as_any table most_open ts d i LW LDatums datums_tail [] [] refl refl (λ c q. datums_begin c.kind (not_fits want.RightAngle (slice_get ts i) c e q));
+  comma = comma_datums;
+  ends = refl;
+  flat = refl;
+}
+
+pub no_datums : (c : Kind) → fits want.RightAngle c ≡ true → datums_after c ≡ Some (Do MakeNoDatums ∷ [])
+no_datums k.RightAngle e = refl
+no_datums _ e = absurd (cc)
+
+pub no_tuple : (c : Kind) → c ≢ k.LeftAngle → tuple_after c ≡ None
+no_tuple k.LeftAngle a = absurd (a refl)
+no_tuple _ a = refl
+
+-- items
+pub items_begin : (c : Kind) → after LSomeItems c ≡ (if fits want.Name c then Some (Tm want.Colon ∷ (Nt LFirst ∷ [])) else None)
+items_begin k.Name = refl
+items_begin _ = refl
+
+pub item_follows : (c : Kind) → fits want.Name c ≡ true → after LMoreItems c ≡ Some (Tm want.Colon ∷ (Nt LItem ∷ items_tail))
+item_follows k.Name e = refl
+item_follows _ e = absurd (cc)
+
+pub no_more_items : (c : Kind) → fits want.Name c ≡ false → after LMoreItems c ≡ None
+no_more_items k.Name e = absurd (cc)
+no_more_items _ e = refl
+
+-- as long as no block stood, an item goes on as any, and then with what is owed after it
+pub first_as_item : (c : Kind) → after LFirst c ≡ then_more (after LItem c) (Do MakeNextItem ∷ (Nt (items_line (fits want.Code c)) ∷ []))
+first_as_item k.Code = refl
+first_as_item k.Data = refl
+first_as_item _ = refl
+
+pub no_item : (c : Kind) → c ≢ k.Code → c ≢ k.Data → item_after c ≡ None
+no_item k.Code a b = absurd (a refl)
+no_item k.Data a b = absurd (b refl)
+no_item _ a b = refl

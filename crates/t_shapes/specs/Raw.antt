@@ -4,7 +4,7 @@ use Rattle.idx_core.specs.declared.span.Span.{Span}
 use Rattle.t_terms.specs.declared.token.Kind.{Kind}
 use Rattle.t_terms.specs.declared.token.Kind.TheVariants as k
 use Rattle.t_terms.specs.Raw as tree
-use Rattle.t_terms.specs.Raw.{RReg, RNum, RLabel, RPlain, RPack, RArith, RBnz, RLd, RMalloc, RMov, RSt, RUnpack, RJmp, RHalt}
+use Rattle.t_terms.specs.Raw.{RReg, RNum, RLabel, RPlain, RPack, RArith, RBnz, RLd, RMalloc, RMov, RSt, RUnpack, RJmp, RHalt, BlockItem, DataItem}
 use Rattle.t_grammar.specs.Raw.{raw, raw_file}
 use Rattle.t_shapes.specs.declared.raw.RawBase.{RawBase}
 use Rattle.t_shapes.specs.declared.raw.RawBase.TheVariants as B
@@ -15,6 +15,10 @@ use Rattle.t_shapes.specs.declared.raw.RawInstr.TheVariants as I
 use Rattle.t_shapes.specs.declared.raw.RawEnd.{RawEnd}
 use Rattle.t_shapes.specs.declared.raw.RawEnd.TheVariants as E
 use Rattle.t_shapes.specs.declared.raw.RawBlock.{RawBlock}
+use Rattle.t_shapes.specs.declared.raw.RawDatum.{RawDatum}
+use Rattle.t_shapes.specs.declared.raw.RawData.{RawData}
+use Rattle.t_shapes.specs.declared.raw.RawItem.{RawItem}
+use Rattle.t_shapes.specs.declared.raw.RawItem.TheVariants as It
 
 -- whether a value may begin with a token of this kind that is no package
 abbrev pub is_base : Kind → Bool
@@ -23,6 +27,13 @@ is_base (k.Plain z) = true
 is_base (k.Negative z) = true
 is_base k.Name = true
 is_base _ = false
+
+-- whether the value of a data field may begin with it, where it is no package
+abbrev pub is_word_base : Kind → Bool
+is_word_base (k.Plain z) = true
+is_word_base (k.Negative z) = true
+is_word_base k.Name = true
+is_word_base _ = false
 
 abbrev pub raw_base : RawBase → tree.RawBase
 raw_base (B.Reg r) = RReg r
@@ -61,5 +72,20 @@ raw_block b = record {
   last = raw_last b.last;
 }
 
-abbrev pub raw_blocks : List RawBlock → List tree.RawBlock
-raw_blocks bs = map raw_block bs
+abbrev pub raw_datum : RawDatum → tree.RawDatum
+raw_datum x = record { value = raw_value x.value; place = x.place; ty = raw x.ty }
+
+abbrev pub raw_data : RawData → tree.RawData
+raw_data x = record { name = x.name; fields = map raw_datum x.fields.items }
+
+abbrev pub raw_item : RawItem → tree.RawItem
+raw_item (It.Block b) = BlockItem (raw_block b)
+raw_item (It.Data x) = DataItem (raw_data x)
+
+abbrev pub raw_items : List RawItem → List tree.RawItem
+raw_items xs = map raw_item xs
+
+-- whether an item is a block
+abbrev pub is_block : tree.RawItem → Bool
+is_block (BlockItem b) = true
+is_block (DataItem x) = false

@@ -1,5 +1,5 @@
 -- What the reading functions promise, by the table.
-use Rattle.std.specs.Prelude.{◌≡◌, ◌≤◌, ℕ, ◌+◌, List, [], ◌∷◌, length, map, drop, is_some, Bool, false, Option, Some, None, Result, MatchResult}
+use Rattle.std.specs.Prelude.{◌≡◌, ◌<◌, ◌≤◌, ℕ, ◌+◌, List, [], ◌∷◌, length, map, drop, slice_get, is_some, Bool, true, false, Option, Some, None, Result, MatchResult}
 use Rattle.idx_core.specs.declared.arith.Op.{Op}
 use Rattle.idx_core.specs.declared.span.Span.{Span}
 use Rattle.text_core.specs.Table.{Nt, Tm, Do, Fine, bounded, whole}
@@ -9,15 +9,15 @@ use Rattle.text_core.specs.Going as going
 use Rattle.t_terms.specs.declared.token.Token.{Token}
 use Rattle.t_terms.specs.declared.wanted.Wanted.TheVariants as want
 use Rattle.t_terms.specs.Raw as tree
-use Rattle.t_terms.specs.Raw.{ending}
+use Rattle.t_terms.specs.Raw.{ending, block_items}
 use Rattle.t_terms.specs.Text.{most_open}
-use Rattle.t_terms.specs.GrammarTable.{table, Line, Stack, LTo, LV, LPacked, LAt, LIndex, LTypes, LTypeList, LSomeTypes, LTarget, LInt, LI, LEnd, LBlock, LBinds, LFile, LProgram, LMoreSteps, LMoreBlocks, MakeProgram, MakeBnz, MakeLd, MakeMalloc, MakeMov, MakeSt, MakeUnpack, MakeNoSteps, arith_owed, instr_after, OfToken, OfStep, OfSteps, OfFile, OfNames, OfBlocks, OfList, OfIndex, OfAt, OfTarget, OfPlace, OfReg, OfValue, OfPacked, OfEnd, OfBlock}
+use Rattle.t_terms.specs.GrammarTable.{table, fits, Line, Stack, LTo, LV, LPacked, LAt, LIndex, LTypes, LTypeList, LSomeTypes, LTarget, LInt, LI, LEnd, LBlock, LBinds, LFile, LT, LHeader, LMoreSteps, LMoreBlocks, LW, LWordPacked, LTuple, LDatums, LItem, LSomeItems, LMoreItems, MakeBnz, MakeLd, MakeMalloc, MakeMov, MakeSt, MakeUnpack, MakeNoSteps, MakeFirstBlock, MakeNoItems, arith_owed, blocks_owed, items_owed, instr_after, OfToken, OfType, OfStep, OfSteps, OfFile, OfNames, OfBlocks, OfList, OfIndex, OfAt, OfTarget, OfPlace, OfReg, OfValue, OfPacked, OfEnd, OfBlock, OfWord, OfTuple, OfItem, OfItems}
 use Rattle.t_grammar.specs.Raw.{raw, raw_file}
 use Rattle.t_grammar.specs.Reads.{ReadsOwed, Fails, IsLine}
 use Rattle.t_grammar.specs.declared.cursor.Stopped.{Stopped}
 use Rattle.t_grammar.specs.declared.cursor.Stopped.TheVariants.{Memory, Unexpected, TooDeep}
-use Rattle.t_shapes.specs.Raw.{raw_value, raw_step, raw_last, raw_block, raw_blocks}
-use Rattle.t_shapes.specs.declared.raw.RawBlock.{RawBlock}
+use Rattle.t_shapes.specs.Raw.{raw_value, raw_step, raw_last, raw_block, raw_datum, raw_item, raw_items, is_block}
+use Rattle.t_shapes.specs.declared.raw.RawItem.{RawItem}
 use Rattle.t_shapes.specs.declared.lists.FoundTypes.{FoundTypes}
 use Rattle.t_shapes.specs.declared.parts.FoundIndex.{FoundIndex}
 use Rattle.t_shapes.specs.declared.parts.FoundPlace.{FoundPlace}
@@ -29,6 +29,13 @@ use Rattle.t_shapes.specs.declared.ends.FoundEnd.{FoundEnd}
 use Rattle.t_shapes.specs.declared.heads.FoundHead.{FoundHead}
 use Rattle.t_shapes.specs.declared.blocks.FoundSteps.{FoundSteps}
 use Rattle.t_shapes.specs.declared.blocks.FoundBlock.{FoundBlock}
+use Rattle.t_shapes.specs.declared.words.FoundWord.{FoundWord}
+use Rattle.t_shapes.specs.declared.data.FoundTuple.{FoundTuple}
+use Rattle.t_shapes.specs.declared.data.FoundDatum.{FoundDatum}
+use Rattle.t_shapes.specs.declared.items.FoundItem.{FoundItem}
+use Rattle.t_shapes.specs.declared.items.FoundItems.{FoundItems}
+use Rattle.t_shapes.specs.declared.whole.Version.{Version}
+use Rattle.t_shapes.specs.declared.whole.Version.TheVariants.{Blocks, Items}
 
 -- what is owed of an instruction after its word
 abbrev pub arith_left : Op → Stack
@@ -62,20 +69,15 @@ abbrev pub step_next : Option Token → Bool
 step_next None = false
 step_next (Some c) = is_some (instr_after c.kind)
 
--- label : code [ names ] File .
+-- [ names ] File .
 abbrev pub head_owed : Stack
-head_owed = Tm want.Name ∷ (Tm want.Colon ∷ (Tm want.Code ∷ (Nt LBinds ∷ (Nt LFile ∷ (Tm want.Dot ∷ [])))))
+head_owed = Nt LBinds ∷ (Nt LFile ∷ (Tm want.Dot ∷ []))
 
 pub record ReadsHead (ts : List Token) (i : ℕ) (f : FoundHead) : Type 0 where
-  pub label : Token
-  pub colon : Token
-  pub code : Token
   pub end : ℕ
   pub dot : Token
-  pub is : f.name ≡ label.span
   pub reads : ReadsOwed head_owed ts 0 i f.next
-      (OfToken dot ∷ (OfFile (ending (raw_file f.file) end) ∷ (OfNames f.names.items ∷
-      (OfToken code ∷ (OfToken colon ∷ (OfToken label ∷ []))))))
+      (OfToken dot ∷ (OfFile (ending (raw_file f.file) end) ∷ (OfNames f.names.items ∷ [])))
 
 -- I .. I
 abbrev pub steps_owed : Stack
@@ -92,17 +94,81 @@ pub record ReadsSomeSteps (ts : List Token) (i j : ℕ) (is : List (tree.RawInst
   pub in_range : j ≤ length ts
   pub same : Goes table most_open ts 0 i steps_owed [] j (Nt LMoreSteps ∷ []) (OfSteps is ∷ [])
 
--- some blocks were read, and there may be more
-pub record ReadsSomeBlocks (ts : List Token) (j : ℕ) (bs : List tree.RawBlock) : Type 0 where
-  pub tal : Token
-  pub one : Token
-  pub in_range : j ≤ length ts
-  pub same : Goes table most_open ts 0 0 (Nt LProgram ∷ []) [] j
-      (Nt LMoreBlocks ∷ (Do MakeProgram ∷ [])) (OfBlocks bs ∷ (OfToken one ∷ (OfToken tal ∷ [])))
+-- [ names ] File . I .. I End, and the block with this label that it is of
+abbrev pub code_parts : Stack
+code_parts = Nt LBinds ∷ (Nt LFile ∷ (Tm want.Dot ∷ (Do MakeNoSteps ∷ (Nt LMoreSteps ∷ (Nt LEnd ∷ [])))))
 
--- all the tokens are a program, with these blocks; or the reading of them stops
-abbrev pub IsProgram : List Token → List RawBlock → Type 0
-IsProgram ts bs = bounded table most_open ts (whole table ts) ≡ Fine (OfBlocks (raw_blocks bs) ∷ [])
+pub record ReadsCode (ts : List Token) (i : ℕ) (name : Span) (f : FoundBlock) : Type 0 where
+  pub is : f.block.name ≡ name
+  pub end : ℕ
+  pub dot : Token
+  pub reads : ReadsOwed code_parts ts 0 i f.next
+      (OfEnd (raw_last f.block.last) ∷ (OfSteps (map raw_step f.block.body.items) ∷
+      (OfToken dot ∷ (OfFile (ending (raw_file f.block.file) end) ∷ (OfNames f.block.names.items ∷ [])))))
+
+-- W : T, in the bracket of a data tuple
+abbrev pub datum_owed : Stack
+datum_owed = Nt LW ∷ (Tm want.Colon ∷ (Nt LT ∷ []))
+
+pub record ReadsDatum (ts : List Token) (i : ℕ) (f : FoundDatum) : Type 0 where
+  pub colon : Token
+  pub end : ℕ
+  pub reads : ReadsOwed datum_owed ts 1 i f.next
+      (OfType (ending (raw f.datum.ty) end) ∷ (OfToken colon ∷ (OfWord (raw_value f.datum.value, f.datum.place) ∷ [])))
+
+-- an item, which the word after its label tells
+abbrev pub item_owed : Stack
+item_owed = Tm want.Name ∷ (Tm want.Colon ∷ (Nt LItem ∷ []))
+
+abbrev pub is_code : Option Token → Bool
+is_code None = false
+is_code (Some c) = fits want.Code c.kind
+
+pub record ReadsItem (ts : List Token) (i : ℕ) (f : FoundItem) : Type 0 where
+  pub kind : is_block (raw_item f.item) ≡ is_code (slice_get ts (i + 2))
+  pub reads : ReadsOwed item_owed ts 0 i f.next (OfItem (raw_item f.item) ∷ [])
+
+-- items of which one is a block
+abbrev pub some_owed : Stack
+some_owed = Do MakeNoItems ∷ (Nt LSomeItems ∷ [])
+
+-- some items were read; as long as none is a block, one is owed, and else there may be more
+abbrev pub items_line : Bool → Line
+items_line true = LMoreItems
+items_line false = LSomeItems
+
+pub record ReadsSomeItems (ts : List Token) (i j : ℕ) (has_block : Bool) (xs : List tree.RawItem) : Type 0 where
+  pub forward : i ≤ j
+  pub moved : has_block ≡ true → i < j
+  pub in_range : j ≤ length ts
+  pub same : Goes table most_open ts 0 i some_owed [] j (Nt (items_line has_block) ∷ []) (OfItems xs ∷ [])
+
+-- Block .. Block, one or more
+abbrev pub all_blocks : Stack
+all_blocks = Nt LBlock ∷ (Do MakeFirstBlock ∷ (Nt LMoreBlocks ∷ []))
+
+pub record ReadsBlocks (ts : List Token) (i : ℕ) (f : FoundItems) : Type 0 where
+  pub blocks : List tree.RawBlock
+  pub are : block_items blocks ≡ raw_items f.items.items
+  pub reads : ReadsOwed all_blocks ts 0 i f.next (OfBlocks blocks ∷ [])
+
+-- some blocks were read, and there may be more
+pub record ReadsSomeBlocks (ts : List Token) (i j : ℕ) (xs : List tree.RawItem) : Type 0 where
+  pub blocks : List tree.RawBlock
+  pub are : block_items blocks ≡ xs
+  pub forward : i < j
+  pub in_range : j ≤ length ts
+  pub same : Goes table most_open ts 0 i all_blocks [] j (Nt LMoreBlocks ∷ []) (OfBlocks blocks ∷ [])
+
+-- what a header's number heads
+abbrev pub version_owed : Option Version → Option Stack
+version_owed None = None
+version_owed (Some Blocks) = Some blocks_owed
+version_owed (Some Items) = Some items_owed
+
+-- all the tokens are a program, with these items; or the reading of them stops
+abbrev pub IsProgram : List Token → List RawItem → Type 0
+IsProgram ts xs = bounded table most_open ts (whole table ts) ≡ Fine (OfItems (raw_items xs) ∷ [])
 
 abbrev pub IsStop : List Token → Stopped → Type 0
 IsStop ts Memory = Unit {0}
@@ -173,3 +239,42 @@ AreSteps ts i r = MatchResult r (λ f. ReadsSteps ts i f) (λ e. Fails ts 0 i st
 
 abbrev pub IsBlock : List Token → ℕ → Result FoundBlock Stopped → Type 0
 IsBlock ts i r = IsLine LBlock (λ f. f.next) (λ f. OfBlock (raw_block f.block)) ts 0 i r
+
+abbrev pub IsCode : List Token → ℕ → Span → Result FoundBlock Stopped → Type 0
+IsCode ts i name r = MatchResult r (λ f. ReadsCode ts i name f) (λ e. Fails ts 0 i code_parts [] e)
+
+-- the value of a data field, and the brackets of a package in it
+abbrev pub IsWord : List Token → ℕ → ℕ → Result FoundWord Stopped → Type 0
+IsWord ts d i r = IsLine LW (λ f. f.next) (λ f. OfWord (raw_value f.value, f.place)) ts d i r
+
+abbrev pub IsWordPacked : List Token → ℕ → ℕ → Result FoundPacked Stopped → Type 0
+IsWordPacked ts d i r =
+    IsLine LWordPacked (λ f. f.next) (λ f. OfPacked (record { hidden = raw f.hidden; inner = raw_value f.inner })) ts d i r
+
+-- a field of a data tuple; a data tuple, and one after its opening bracket
+abbrev pub IsDatum : List Token → ℕ → Result FoundDatum Stopped → Type 0
+IsDatum ts i r = MatchResult r (λ f. ReadsDatum ts i f) (λ e. Fails ts 1 i datum_owed [] e)
+
+abbrev pub IsTupleLine : Line → List Token → ℕ → ℕ → Result FoundTuple Stopped → Type 0
+IsTupleLine n ts d i r = IsLine n (λ f. f.next) (λ f. OfTuple (map raw_datum f.fields.items)) ts d i r
+
+abbrev pub IsTuple : List Token → ℕ → Result FoundTuple Stopped → Type 0
+IsTuple ts i r = IsTupleLine LTuple ts 0 i r
+
+abbrev pub AreDatums : List Token → ℕ → Result FoundTuple Stopped → Type 0
+AreDatums ts i r = IsTupleLine LDatums ts 1 i r
+
+abbrev pub IsItem : List Token → ℕ → Result FoundItem Stopped → Type 0
+IsItem ts i r = MatchResult r (λ f. ReadsItem ts i f) (λ e. Fails ts 0 i item_owed [] e)
+
+abbrev pub AreItems : List Token → ℕ → Result FoundItems Stopped → Type 0
+AreItems ts i r =
+    MatchResult r (λ f. ReadsOwed some_owed ts 0 i f.next (OfItems (raw_items f.items.items) ∷ []))
+    (λ e. Fails ts 0 i some_owed [] e)
+
+abbrev pub AreBlocks : List Token → ℕ → Result FoundItems Stopped → Type 0
+AreBlocks ts i r = MatchResult r (λ f. ReadsBlocks ts i f) (λ e. Fails ts 0 i all_blocks [] e)
+
+-- the number of a header, and what it heads
+abbrev pub IsHeaded : List Token → ℕ → Result FoundItems Stopped → Type 0
+IsHeaded ts i r = IsLine LHeader (λ f. f.next) (λ f. OfItems (raw_items f.items.items)) ts 0 i r

@@ -1,6 +1,6 @@
 // The reading of blocks.
 ghost use Rattle.std.specs.Prelude.{◌≤◌, length};
-ghost use Rattle.t_shapes.specs.Reads.{AreSteps, IsBlock};
+ghost use Rattle.t_shapes.specs.Reads.{AreSteps, IsBlock, IsCode};
 
 use crate::ends::end;
 use crate::heads::head;
@@ -8,8 +8,8 @@ use crate::raw::{RawBlock, RawInstr};
 use crate::steps::{begins_step, step};
 use idx_core::Span;
 use std::alloc::Global;
-use t_grammar::Stopped;
-use t_terms::Token;
+use t_grammar::{Stopped, expect, expect_two};
+use t_terms::{Token, Wanted};
 
 /// Instructions that were read, and the number of the token after them.
 #[derive(Drop)]
@@ -40,17 +40,17 @@ fn steps(alloc: Global, tokens: &[Token], at: usize) -> Result<FoundSteps, Stopp
     Ok(FoundSteps { steps, next })
 }
 
-/// Block ::= label : code [ names ] File . I .. I End
-pub fn block(alloc: Global, tokens: &[Token], at: usize) -> Result<FoundBlock, Stopped>
+/// [ names ] File . I .. I End: what follows on `code` of a block with this label.
+pub fn code(alloc: Global, tokens: &[Token], at: usize, name: Span) -> Result<FoundBlock, Stopped>
     requires { at ≤ length tokens.now }
-    ensures { IsBlock tokens.now at result }
+    ensures { IsCode tokens.now at name result }
 {
     let head = head(alloc, tokens, at)?;
     let body = steps(alloc, tokens, head.next)?;
     let end = end(alloc, tokens, body.next)?;
     Ok(FoundBlock {
         block: RawBlock {
-            name: head.name,
+            name,
             names: head.names,
             file: head.file,
             body: body.steps,
@@ -58,4 +58,15 @@ pub fn block(alloc: Global, tokens: &[Token], at: usize) -> Result<FoundBlock, S
         },
         next: end.next,
     })
+}
+
+/// Block ::= label : code [ names ] File . I .. I End
+pub fn block(alloc: Global, tokens: &[Token], at: usize) -> Result<FoundBlock, Stopped>
+    requires { at ≤ length tokens.now }
+    ensures { IsBlock tokens.now at result }
+{
+    let label = expect(tokens, at, Wanted::Name)?;
+    expect_two(tokens, at + 1, Wanted::Colon, Wanted::Code)?;
+    let found = code(alloc, tokens, at + 3, label.span)?;
+    Ok(found)
 }

@@ -1,16 +1,19 @@
-//! The grammar of assembly texts, read one token ahead: values, instructions, blocks and programs, before names are
-//! resolved.
+//! The grammar of assembly texts, read one token ahead: values, instructions, blocks, data and programs, before names
+//! are resolved.
 #![tactic(auto)]
 
 mod blocks;
+mod data;
 mod ends;
 mod heads;
+mod items;
 mod lists;
 mod parts;
 mod raw;
 mod steps;
 mod values;
 mod whole;
+mod words;
 
-pub use raw::{RawBase, RawBlock, RawEnd, RawInstr, RawPack, RawValue};
+pub use raw::{RawBase, RawBlock, RawData, RawDatum, RawEnd, RawInstr, RawItem, RawPack, RawValue};
 pub use whole::program;

@@ -1,4 +1,4 @@
-// Values, instructions and blocks before names are resolved.
+// Values, instructions, blocks and data before names are resolved.
 
 use idx_core::{Op, Span};
 use t_grammar::{RawFile, RawType};
@@ -56,4 +56,26 @@ pub struct RawBlock {
     pub file: RawFile,
     pub body: Vec<(RawInstr, Span)>,
     pub last: (RawEnd, Span),
+}
+
+/// A field of a data tuple: its value with the value's place, and the type that is written for it.
+#[derive(Drop)]
+pub struct RawDatum {
+    pub value: RawValue,
+    pub place: Span,
+    pub ty: RawType,
+}
+
+/// A data tuple: its label, and its fields.
+#[derive(Drop)]
+pub struct RawData {
+    pub name: Span,
+    pub fields: Vec<RawDatum>,
+}
+
+/// What a text holds: blocks and data tuples, in any order.
+#[derive(Drop)]
+pub enum RawItem {
+    Block(RawBlock),
+    Data(RawData),
 }

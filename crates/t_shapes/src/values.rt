@@ -44,7 +44,8 @@ fn base(token: Token) -> Option<RawBase>
     }
 }
 
-fn package(
+/// A package of these parts.
+pub fn package(
     alloc: Global,
     hidden: RawType,
     inner: RawValue,

@@ -1,32 +1,83 @@
 // The reading of programs.
-ghost use Rattle.std.specs.Prelude.{MatchResult};
-ghost use Rattle.t_shapes.specs.Reads.{IsProgram, IsStop};
+ghost use Rattle.std.specs.Prelude.{◌≡◌, ◌≤◌, length, MatchResult};
+ghost use Rattle.t_terms.specs.GrammarTable.{header_after};
+ghost use Rattle.t_shapes.specs.Reads.{AreBlocks, version_owed, IsHeaded, IsProgram, IsStop};
 
 use crate::blocks::block;
-use crate::raw::RawBlock;
+use crate::items::{FoundItems, items};
+use crate::raw::RawItem;
 use std::alloc::Global;
-use t_grammar::{Stopped, expect_two, take};
-use t_terms::{Token, Wanted};
+use t_grammar::{Stopped, expect, peek, take};
+use t_terms::{Kind, Token, Wanted};
 
-/// Program ::= tal 1 Block .. Block
-///
-/// The blocks of the program that all the tokens are, or the number of the first token, or of the end, that no
-/// program can have there, or at which more than 2000 constructs are open.
-pub fn program(alloc: Global, tokens: &[Token]) -> Result<Vec<RawBlock>, Stopped>
-    ensures { MatchResult result (λ bs. IsProgram tokens.now bs.items) (λ e. IsStop tokens.now e) }
+// Block .. Block, one or more
+fn blocks(alloc: Global, tokens: &[Token], at: usize) -> Result<FoundItems, Stopped>
+    requires { at ≤ length tokens.now }
+    ensures { AreBlocks tokens.now at result }
 {
-    expect_two(tokens, 0, Wanted::Tal, Wanted::One)?;
-    let first = block(alloc, tokens, 2)?;
+    let first = block(alloc, tokens, at)?;
     let mut next = first.next;
-    let mut blocks = Vec::new(alloc);
-    blocks.push(first.block)?;
+    let mut items = Vec::new(alloc);
+    items.push(RawItem::Block(first.block))?;
     while let Some(_) = take(tokens, next, Wanted::Name) {
         let found = block(alloc, tokens, next)?;
         next = found.next;
-        blocks.push(found.block)?;
+        items.push(RawItem::Block(found.block))?;
     }
-    if next < tokens.len() {
-        return Err(Stopped::Unexpected(next));
+    Ok(FoundItems { items, next })
+}
+
+// what a header's number heads
+#[derive(Clone, Copy)]
+enum Version {
+    Blocks,
+    Items,
+}
+
+fn version_of(kind: Kind) -> Option<Version>
+    ensures { version_owed result ≡ header_after kind }
+{
+    match kind {
+        Kind::Plain(value) => {
+            if value == 1 {
+                Some(Version::Blocks)
+            } else if value == 2 {
+                Some(Version::Items)
+            } else {
+                None
+            }
+        }
+        _ => None,
     }
-    Ok(blocks)
+}
+
+// 1 Block .. Block | 2 Item .. Item
+fn headed(alloc: Global, tokens: &[Token], at: usize) -> Result<FoundItems, Stopped>
+    requires { at ≤ length tokens.now }
+    ensures { IsHeaded tokens.now at result }
+{
+    let number = match peek(tokens, at) {
+        Some(number) => number,
+        None => return Err(Stopped::Unexpected(at)),
+    };
+    match version_of(number.kind) {
+        Some(Version::Blocks) => blocks(alloc, tokens, at + 1),
+        Some(Version::Items) => items(alloc, tokens, at + 1),
+        None => Err(Stopped::Unexpected(at)),
+    }
+}
+
+/// Program ::= tal 1 Block .. Block | tal 2 Item .. Item, with one block at least
+///
+/// The items of the program that all the tokens are, or the number of the first token, or of the end, that no
+/// program can have there, or at which more than 2000 constructs are open.
+pub fn program(alloc: Global, tokens: &[Token]) -> Result<Vec<RawItem>, Stopped>
+    ensures { MatchResult result (λ xs. IsProgram tokens.now xs.items) (λ e. IsStop tokens.now e) }
+{
+    expect(tokens, 0, Wanted::Tal)?;
+    let found = headed(alloc, tokens, 1)?;
+    if found.next < tokens.len() {
+        return Err(Stopped::Unexpected(found.next));
+    }
+    Ok(found.items)
 }

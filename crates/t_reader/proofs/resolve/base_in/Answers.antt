@@ -2,6 +2,7 @@ use Rattle.std.proofs.Common.{◌≡◌, refl, ap}
 use Rattle.t_reader.proofs.Valuing.{label_stop, label_whole}
 use Rattle.std.proofs.Common.{rules, w64, to_z, of_z}
 use Rattle.t_terms.specs.Tree.{Int}
+use Rattle.t_reader.specs.Labelled.{target_base}
 use Rattle.t_reader.proofs.resolve.base_in.Goals as goal
 
 pub returns-in-Reg : goal.returns-in-Reg
@@ -19,4 +20,4 @@ returns-in-None c =
 
 pub returns-in-Some : goal.returns-in-Some
 returns-in-Some c =
-    label_whole c.args.text.now c.args.labels.now c.args.base.now c.in-Label.span c.in-Some.number c.in-Label.is (rw c.spelling.ensures at c.in-Some.ensures)
+    label_whole c.args.text.now c.args.labels.now c.args.base.now c.in-Label.span (target_base c.in-Some.target) c.named.result c.in-Label.is (rw c.spelling.ensures at c.in-Some.ensures) c.named.ensures

@@ -1,57 +1,52 @@
-use Rattle.std.proofs.Common.{[], ◌∷◌, refl, arith}
+use Rattle.std.proofs.Common.{[], ◌∷◌, ◌+◌, refl, arith}
 use Rattle.std.proofs.lemmas.Result.{err_from_is_err_and}
-use Rattle.text_core.specs.Table.{Nt, Do}
-use Rattle.t_terms.specs.GrammarTable.{LEnd, LMoreSteps, MakeNoSteps, MakeBlock}
-use Rattle.t_grammar.proofs.Stepping.{by_call, by_do, stop_call}
-use Rattle.t_shapes.specs.Reads.{head_owed, steps_owed}
+use Rattle.text_core.specs.Table.{Do}
+use Rattle.t_terms.specs.declared.wanted.Wanted.TheVariants as want
+use Rattle.t_terms.specs.GrammarTable.{MakeBlock, block_owed, code_owed}
+use Rattle.t_grammar.proofs.Stepping.{within, by_token, by_two, by_call, by_do, by_same, stop_token, stop_two, stop_call}
+use Rattle.t_shapes.specs.Reads.{code_parts}
 use Rattle.t_shapes.proofs.Blocked.{block_goes}
 use Rattle.t_shapes.proofs.blocks.block.Goals as goal
 
-pub returns-in_err-head : goal.returns-in_err-head
-returns-in_err-head c =
+pub returns-in_err-label : goal.returns-in_err-label
+returns-in_err-label c =
     let ts = c.args.tokens.now in
     let i = c.args.at in
-    let s = block_goes ts i in
     let p = err_from_is_err_and c.from_residual.result c.from_residual.ensures.1 in
-    rw (p.1, p.2) (stop_call _ head_owed 0 (Do MakeNoSteps ∷ (Nt LMoreSteps ∷ (Nt LEnd ∷ (Do MakeBlock ∷ [])))) [] s (omega arith) c.in_err-head.ensures)
+    rw (p.1, p.2) (stop_token _ want.Name block_owed [] (block_goes ts i) c.in_err-label.ensures)
 
-pub steps-requires : goal.steps-requires
-steps-requires c =
-    c.in_ok-head.ensures.reads.in_range
-
-pub returns-in_err-body : goal.returns-in_err-body
-returns-in_err-body c =
+pub returns-in_err-expect_two : goal.returns-in_err-expect_two
+returns-in_err-expect_two c =
     let ts = c.args.tokens.now in
     let i = c.args.at in
-    let s = block_goes ts i in
-    let m1 = by_call 0 (Do MakeNoSteps ∷ (Nt LMoreSteps ∷ (Nt LEnd ∷ (Do MakeBlock ∷ [])))) [] s (omega arith) c.in_ok-head.ensures.reads.same in
-    let p = err_from_is_err_and c.from_residual-in_err-body.result c.from_residual-in_err-body.ensures.1 in
-    rw (p.1, p.2) (stop_call _ steps_owed 0 (Nt LEnd ∷ (Do MakeBlock ∷ [])) _ m1 (omega arith) c.in_err-body.ensures)
+    let m1 = by_token want.Name _ block_owed [] (block_goes ts i) c.in_ok-label.ensures (omega arith) in
+    let p = err_from_is_err_and c.from_residual-in_err-expect_two.result c.from_residual-in_err-expect_two.ensures.1 in
+    rw (p.1, p.2) (stop_two _ want.Colon want.Code code_owed _ m1 (omega arith) c.in_err-expect_two.ensures)
 
-pub end-requires : goal.end-requires
-end-requires c =
-    c.in_ok-body.ensures.in_range
-
-pub returns-in_err-end : goal.returns-in_err-end
-returns-in_err-end c =
+pub code-requires : goal.code-requires
+code-requires c =
     let ts = c.args.tokens.now in
     let i = c.args.at in
-    let s = block_goes ts i in
-    let m1 = by_call 0 (Do MakeNoSteps ∷ (Nt LMoreSteps ∷ (Nt LEnd ∷ (Do MakeBlock ∷ [])))) [] s (omega arith) c.in_ok-head.ensures.reads.same in
-    let m2 = by_call 0 (Nt LEnd ∷ (Do MakeBlock ∷ [])) _ m1 (omega arith) c.in_ok-body.ensures.same in
-    let p = err_from_is_err_and c.from_residual-in_err-end.result c.from_residual-in_err-end.ensures.1 in
-    rw (p.1, p.2) (stop_call _ (Nt LEnd ∷ []) 0 (Do MakeBlock ∷ []) _ m2 (omega arith) c.in_err-end.ensures)
+    let l = within ts (i + 1 + 1) want.Code _ c.in_ok-expect_two.ensures.1 in omega (arith, l)
+
+pub returns-in_err-found : goal.returns-in_err-found
+returns-in_err-found c =
+    let ts = c.args.tokens.now in
+    let i = c.args.at in
+    let m1 = by_token want.Name _ block_owed [] (block_goes ts i) c.in_ok-label.ensures (omega arith) in
+    let m2 = by_same {k = i + 3} (omega arith) (by_two want.Colon want.Code _ _ code_owed _ m1 c.in_ok-expect_two.ensures (omega arith)) in
+    let p = err_from_is_err_and c.from_residual-in_err-found.result c.from_residual-in_err-found.ensures.1 in
+    rw (p.1, p.2) (stop_call _ code_parts 0 (Do MakeBlock ∷ []) _ m2 (omega arith) c.in_err-found.ensures)
 
 pub returns : goal.returns
 returns c =
     let ts = c.args.tokens.now in
     let i = c.args.at in
-    let s = block_goes ts i in
-    let m1 = by_call 0 (Do MakeNoSteps ∷ (Nt LMoreSteps ∷ (Nt LEnd ∷ (Do MakeBlock ∷ [])))) [] s (omega arith) c.in_ok-head.ensures.reads.same in
-    let m2 = by_call 0 (Nt LEnd ∷ (Do MakeBlock ∷ [])) _ m1 (omega arith) c.in_ok-body.ensures.same in
-    let r = c.in_ok-end.ensures in
-    rw c.in_ok-head.ensures.is (record {
-      forward = omega (arith, c.in_ok-head.ensures.reads.forward, c.in_ok-body.ensures.forward, r.forward);
-      in_range = r.in_range;
-      same = by_do MakeBlock [] _ _ (by_call 0 (Do MakeBlock ∷ []) _ m2 (omega arith) r.same) (λ below. refl);
+    let m1 = by_token want.Name _ block_owed [] (block_goes ts i) c.in_ok-label.ensures (omega arith) in
+    let m2 = by_same {k = i + 3} (omega arith) (by_two want.Colon want.Code _ _ code_owed _ m1 c.in_ok-expect_two.ensures (omega arith)) in
+    let f = c.in_ok-found.ensures in
+    rw f.is (record {
+      forward = omega (arith, f.reads.forward);
+      in_range = f.reads.in_range;
+      same = by_do MakeBlock [] _ _ (by_call 0 (Do MakeBlock ∷ []) _ m2 (omega arith) f.reads.same) (λ below. refl);
     })

@@ -1,88 +1,53 @@
-use Rattle.std.proofs.Common.{[], ◌∷◌, ◌+◌, refl, arith}
+use Rattle.std.proofs.Common.{[], ◌∷◌, arith}
 use Rattle.std.proofs.lemmas.Result.{err_from_is_err_and}
 use Rattle.text_core.specs.Table.{Tm, Nt}
 use Rattle.t_terms.specs.declared.wanted.Wanted.TheVariants as want
 use Rattle.t_terms.specs.GrammarTable.{LBinds, LFile}
-use Rattle.t_grammar.proofs.Stepping.{within, start, by_token, by_two, by_call, by_same, stop_token, stop_two, stop_call}
+use Rattle.t_grammar.proofs.Stepping.{within, start, by_token, by_call, stop_token, stop_call}
 use Rattle.t_shapes.specs.Reads.{head_owed}
 use Rattle.t_shapes.proofs.heads.head.Goals as goal
-
-pub returns-in_err-label : goal.returns-in_err-label
-returns-in_err-label c =
-    let ts = c.args.tokens.now in
-    let i = c.args.at in
-    let s = start ts 0 i head_owed in
-    let p = err_from_is_err_and c.from_residual.result c.from_residual.ensures.1 in
-    rw (p.1, p.2) (stop_token _ want.Name (Tm want.Colon ∷ (Tm want.Code ∷ (Nt LBinds ∷ (Nt LFile ∷ (Tm want.Dot ∷ []))))) [] s c.in_err-label.ensures)
-
-pub returns-in_err-expect_two : goal.returns-in_err-expect_two
-returns-in_err-expect_two c =
-    let ts = c.args.tokens.now in
-    let i = c.args.at in
-    let s = start ts 0 i head_owed in
-    let m1 = by_token want.Name _ (Tm want.Colon ∷ (Tm want.Code ∷ (Nt LBinds ∷ (Nt LFile ∷ (Tm want.Dot ∷ []))))) [] s c.in_ok-label.ensures (omega arith) in
-    let p = err_from_is_err_and c.from_residual-in_err-expect_two.result c.from_residual-in_err-expect_two.ensures.1 in
-    rw (p.1, p.2) (stop_two _ want.Colon want.Code (Nt LBinds ∷ (Nt LFile ∷ (Tm want.Dot ∷ []))) _ m1 (omega arith) c.in_err-expect_two.ensures)
-
-pub binds-requires-clause-at : goal.binds-requires-clause-at
-binds-requires-clause-at c =
-    let ts = c.args.tokens.now in
-    let i = c.args.at in
-    let l = within ts (i + 1 + 1) want.Code _ c.in_ok-expect_two.ensures.1 in omega (arith, l)
 
 pub returns-in_err-names : goal.returns-in_err-names
 returns-in_err-names c =
     let ts = c.args.tokens.now in
     let i = c.args.at in
     let s = start ts 0 i head_owed in
-    let m1 = by_token want.Name _ (Tm want.Colon ∷ (Tm want.Code ∷ (Nt LBinds ∷ (Nt LFile ∷ (Tm want.Dot ∷ []))))) [] s c.in_ok-label.ensures (omega arith) in
-    let m2 = by_same {k = i + 3} (omega arith) (by_two want.Colon want.Code _ _ (Nt LBinds ∷ (Nt LFile ∷ (Tm want.Dot ∷ []))) _ m1 c.in_ok-expect_two.ensures (omega arith)) in
-    let p = err_from_is_err_and c.from_residual-in_err-names.result c.from_residual-in_err-names.ensures.1 in
-    rw (p.1, p.2) (stop_call _ (Nt LBinds ∷ []) 0 (Nt LFile ∷ (Tm want.Dot ∷ [])) _ m2 (omega arith) c.in_err-names.ensures)
+    let p = err_from_is_err_and c.from_residual.result c.from_residual.ensures.1 in
+    rw (p.1, p.2) (stop_call _ (Nt LBinds ∷ []) 0 (Nt LFile ∷ (Tm want.Dot ∷ [])) _ s (omega arith) c.in_err-names.ensures)
 
 pub returns-in_err-found : goal.returns-in_err-found
 returns-in_err-found c =
     let ts = c.args.tokens.now in
     let i = c.args.at in
     let s = start ts 0 i head_owed in
-    let m1 = by_token want.Name _ (Tm want.Colon ∷ (Tm want.Code ∷ (Nt LBinds ∷ (Nt LFile ∷ (Tm want.Dot ∷ []))))) [] s c.in_ok-label.ensures (omega arith) in
-    let m2 = by_same {k = i + 3} (omega arith) (by_two want.Colon want.Code _ _ (Nt LBinds ∷ (Nt LFile ∷ (Tm want.Dot ∷ []))) _ m1 c.in_ok-expect_two.ensures (omega arith)) in
-    let m3 = by_call 0 (Nt LFile ∷ (Tm want.Dot ∷ [])) _ m2 (omega arith) c.in_ok-names.ensures.same in
+    let m1 = by_call 0 (Nt LFile ∷ (Tm want.Dot ∷ [])) _ s (omega arith) c.in_ok-names.ensures.same in
     let p = err_from_is_err_and c.from_residual-in_err-found.result c.from_residual-in_err-found.ensures.1 in
-    rw (p.1, p.2) (stop_call _ (Nt LFile ∷ []) 0 (Tm want.Dot ∷ []) _ m3 (omega arith) c.in_err-found.ensures)
+    rw (p.1, p.2) (stop_call _ (Nt LFile ∷ []) 0 (Tm want.Dot ∷ []) _ m1 (omega arith) c.in_err-found.ensures)
 
 pub returns-in_err-expect : goal.returns-in_err-expect
 returns-in_err-expect c =
     let ts = c.args.tokens.now in
     let i = c.args.at in
     let s = start ts 0 i head_owed in
-    let m1 = by_token want.Name _ (Tm want.Colon ∷ (Tm want.Code ∷ (Nt LBinds ∷ (Nt LFile ∷ (Tm want.Dot ∷ []))))) [] s c.in_ok-label.ensures (omega arith) in
-    let m2 = by_same {k = i + 3} (omega arith) (by_two want.Colon want.Code _ _ (Nt LBinds ∷ (Nt LFile ∷ (Tm want.Dot ∷ []))) _ m1 c.in_ok-expect_two.ensures (omega arith)) in
-    let m3 = by_call 0 (Nt LFile ∷ (Tm want.Dot ∷ [])) _ m2 (omega arith) c.in_ok-names.ensures.same in
-    let m4 = by_call 0 (Tm want.Dot ∷ []) _ m3 (omega arith) c.in_ok-found.ensures.same in
+    let m1 = by_call 0 (Nt LFile ∷ (Tm want.Dot ∷ [])) _ s (omega arith) c.in_ok-names.ensures.same in
+    let m2 = by_call 0 (Tm want.Dot ∷ []) _ m1 (omega arith) c.in_ok-found.ensures.same in
     let p = err_from_is_err_and c.from_residual-in_err-expect.result c.from_residual-in_err-expect.ensures.1 in
-    rw (p.1, p.2) (stop_token _ want.Dot [] _ m4 c.in_err-expect.ensures)
+    rw (p.1, p.2) (stop_token _ want.Dot [] _ m2 c.in_err-expect.ensures)
 
 pub returns : goal.returns
 returns c =
     let ts = c.args.tokens.now in
     let i = c.args.at in
     let s = start ts 0 i head_owed in
-    let m1 = by_token want.Name _ (Tm want.Colon ∷ (Tm want.Code ∷ (Nt LBinds ∷ (Nt LFile ∷ (Tm want.Dot ∷ []))))) [] s c.in_ok-label.ensures (omega arith) in
-    let m2 = by_same {k = i + 3} (omega arith) (by_two want.Colon want.Code _ _ (Nt LBinds ∷ (Nt LFile ∷ (Tm want.Dot ∷ []))) _ m1 c.in_ok-expect_two.ensures (omega arith)) in
-    let m3 = by_call 0 (Nt LFile ∷ (Tm want.Dot ∷ [])) _ m2 (omega arith) c.in_ok-names.ensures.same in
-    let m4 = by_call 0 (Tm want.Dot ∷ []) _ m3 (omega arith) c.in_ok-found.ensures.same in
+    let m1 = by_call 0 (Nt LFile ∷ (Tm want.Dot ∷ [])) _ s (omega arith) c.in_ok-names.ensures.same in
+    let m2 = by_call 0 (Tm want.Dot ∷ []) _ m1 (omega arith) c.in_ok-found.ensures.same in
     let l = within ts c.in_ok-found.found.next want.Dot _ c.in_ok-expect.ensures in
     record {
-      label = c.in_ok-label.label;
-      colon = _;
-      code = _;
       end = _;
       dot = _;
-      is = refl;
       reads = record {
         forward = omega (arith, c.in_ok-names.ensures.forward, c.in_ok-found.ensures.forward);
         in_range = omega (arith, l);
-        same = by_token want.Dot _ [] _ m4 c.in_ok-expect.ensures (omega arith);
+        same = by_token want.Dot _ [] _ m2 c.in_ok-expect.ensures (omega arith);
       };
     }

@@ -12,7 +12,7 @@ use Rattle.t_terms.specs.declared.data.Data.{Data}
 use Rattle.t_terms.specs.declared.token.Kind.TheVariants as k
 use Rattle.t_terms.specs.Tree.{TValue, TDatum, TData}
 use Rattle.t_terms.specs.Spanned.{plain_fields}
-use Rattle.t_terms.specs.Read.{value, datum, data_fields, data_of}
+use Rattle.t_terms.specs.Read.{value, data_fields, data_of}
 use Rattle.t_terms.specs.Whole.{WellFormedValue, WellFormedData, WellFormedHeap}
 use Rattle.t_writer.specs.Ints.{ValueFits, DataFit, HeapFits}
 use Rattle.t_writer.specs.Lexeme.{Lexeme, DataName, Reserved, Sign, render}

@@ -1,25 +1,24 @@
 -- Blocks that are written stand for themselves.
-use Rattle.std.proofs.Common.{◌≡◌, ◌≤◌, ◌<◌, ◌^◌, ℕ, suc, ◌+◌, List, [], ◌∷◌, ◌++◌, length, map, codes, Bool, true, refl, sym, ap, ap₂, ◌∙◌, arith, subst, append_assoc, zero-add}
+use Rattle.std.proofs.Common.{◌≡◌, ◌≤◌, ◌<◌, ◌^◌, ℕ, suc, ◌+◌, List, [], ◌∷◌, ◌++◌, length, map, codes, Bool, true, refl, sym, ap, ap₂, ◌∙◌, arith, append_assoc, zero-add}
 use Rattle.std.proofs.lemmas.List.{append-nil}
 use Rattle.idx_core.specs.declared.span.Span.{Span}
 use Rattle.idx_core.specs.Names.{Name}
 use Rattle.t_types.specs.WellFormed.{max_names}
 use Rattle.t_terms.specs.declared.token.Kind.TheVariants as k
 use Rattle.t_terms.specs.declared.token.Token.{Token}
-use Rattle.t_terms.specs.Tree.{TSeq, Then, Ends, Label, TBlock, TProg}
+use Rattle.t_terms.specs.Tree.{TSeq, Then, Ends, Label, TBlock}
 use Rattle.t_terms.specs.Tree as tree_of
 use Rattle.t_terms.specs.Spanned.{seq_of, plain, plain_blocks}
 use Rattle.t_terms.specs.Raw.{RawInstr, RawEnd, RawBlock, RawItem, BlockItem, block_items}
-use Rattle.t_terms.specs.Grammar.{Is, is_none, is_more, End, Block, b_block, Blocks, bs_one, bs_more, Item, it_block, Items, its_more}
+use Rattle.t_terms.specs.Grammar.{Is, is_none, is_more, End, Block, b_block, Blocks, bs_more, it_block, Items, its_more}
 use Rattle.t_terms.specs.Names.{spelled, bind, names_after_all, body_of, end_of, block_of, Labels, item_labels}
 use Rattle.t_terms.specs.NameFaults.{body_faults, end_faults, block_faults, items_faults}
-use Rattle.t_terms.specs.Whole.{WellFormedSeq, WellFormedBlock, WellFormedBlocks, Whole}
-use Rattle.t_terms.specs.Text.{StandsFor}
+use Rattle.t_terms.specs.Whole.{WellFormedSeq, WellFormedBlock, WellFormedBlocks}
 use Rattle.t_writer.specs.Ints.{SeqFits, BlocksFit}
-use Rattle.t_writer.specs.Lexeme.{Lexeme, Reserved, LabelName, Digit, Sign, bytes, render}
-use Rattle.t_writer.specs.Written.{line_end, binds_written, file_written, instr_written, end_written, seq_written, block_written, blocks_written, program_written}
+use Rattle.t_writer.specs.Lexeme.{Reserved, LabelName, Sign, bytes}
+use Rattle.t_writer.specs.Written.{line_end, binds_written, file_written, instr_written, end_written, seq_written, block_written, blocks_written}
 use Rattle.t_writer.proofs.Placed as placing
-use Rattle.t_writer.proofs.Placed.{size, placed, placed_append, cut_placed, stops, Fine, fine_append, Written, written_append, written_at}
+use Rattle.t_writer.proofs.Placed.{size, placed, placed_append, stops, Fine, fine_append, Written, written_append}
 use Rattle.t_writer.proofs.Scopes.{label_name, labels_from, before, not_before, scope}
 use Rattle.t_writer.proofs.WroteTypes.{wrote_binds, wrote_file}
 use Rattle.t_writer.proofs.WroteCode.{labels, wrote_instr, wrote_end}

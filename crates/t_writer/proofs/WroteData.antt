@@ -1,5 +1,5 @@
 -- Data tuples that are written stand for themselves.
-use Rattle.std.proofs.Common.{◌≡◌, ◌≤◌, ◌<◌, ◌^◌, ℕ, zero, suc, ◌+◌, List, [], ◌∷◌, ◌++◌, length, map, codes, Bool, true, refl, sym, ap, ap₂, ◌∙◌, arith, subst, append_assoc}
+use Rattle.std.proofs.Common.{◌≡◌, ◌≤◌, ◌<◌, ◌^◌, ℕ, suc, ◌+◌, List, [], ◌∷◌, ◌++◌, length, map, codes, Bool, true, refl, sym, ap, ap₂, ◌∙◌, arith, subst, append_assoc}
 use Rattle.std.proofs.lemmas.List.{append-nil}
 use Rattle.idx_core.specs.declared.span.Span.{Span}
 use Rattle.idx_core.specs.Names.{Name}
@@ -8,13 +8,13 @@ use Rattle.t_terms.specs.declared.token.Kind.TheVariants as k
 use Rattle.t_terms.specs.declared.token.Token.{Token}
 use Rattle.t_terms.specs.Tree.{TBase, TValue, Plain, Pack, TDatum, TData, Data}
 use Rattle.t_terms.specs.Spanned.{plain_fields, plain_heap}
-use Rattle.t_terms.specs.Raw.{RawTy, RawBase, RReg, RNum, RLabel, RawValue, RPlain, RPack, RawBlock, RawDatum, RawItem, DataItem, blocks_in, data_in, Piece, up_to}
+use Rattle.t_terms.specs.Raw.{RawTy, RawBase, RawValue, RPlain, RPack, RawDatum, RawItem, DataItem, blocks_in, data_in, Piece, up_to}
 use Rattle.t_terms.specs.Grammar.{tok, T, N, n_reg, n_plain, n_negative, n_label, Q, q_plain, q_negative, q_label, W, w_base, w_apply, w_pack, datum, Ds, ds_one, ds_more, Tuple, tu_none, tu_fields, Item, it_data, Items, its_more}
 use Rattle.t_terms.specs.Names.{spelled, Labels, base_of, value_of, datum_of, data_of, item_labels}
 use Rattle.t_terms.specs.NameFaults.{value_faults, data_faults, items_faults}
 use Rattle.t_terms.specs.Whole.{WellFormedValue, HasNoRegister, WellFormedDatum, WellFormedData, WellFormedHeap}
 use Rattle.t_writer.specs.Ints.{ValueFits, DataFit, HeapFits}
-use Rattle.t_writer.specs.Lexeme.{Lexeme, Reserved, DataName, Sign, bytes}
+use Rattle.t_writer.specs.Lexeme.{Reserved, DataName, Sign, bytes}
 use Rattle.t_writer.specs.Written.{comma, space, line_end, base_written, type_written, types_written, list_written, value_written, datum_written, data_fields_written, data_written, heap_written}
 use Rattle.t_writer.proofs.Placed as placing
 use Rattle.t_writer.proofs.Placed.{size, placed, placed_append, stops, Fine, fine_append, Written, written_append}

@@ -1,5 +1,5 @@
 -- Programs that are written stand for themselves.
-use Rattle.std.proofs.Common.{◌≡◌, ◌≤◌, ◌^◌, ℕ, suc, ◌+◌, List, [], ◌∷◌, ◌++◌, length, map, codes, Bool, true, refl, sym, ap, ap₂, ◌∙◌, arith, subst, zero-add}
+use Rattle.std.proofs.Common.{◌≡◌, ◌≤◌, ◌^◌, ℕ, ◌+◌, List, [], ◌∷◌, ◌++◌, length, map, codes, true, refl, sym, ap, ap₂, ◌∙◌, arith, subst, zero-add}
 use Rattle.std.proofs.lemmas.List.{append-nil}
 use Rattle.idx_core.specs.Names.{Name}
 use Rattle.t_terms.specs.declared.token.Kind.TheVariants as k
@@ -17,7 +17,7 @@ use Rattle.t_writer.specs.Lexeme.{Lexeme, Reserved, Digit, render}
 use Rattle.t_writer.specs.Written.{block_written, blocks_written, heap_written, program_written, second_written}
 use Rattle.t_writer.proofs.Placed as placing
 use Rattle.t_writer.proofs.Placed.{size, placed, placed_append, cut_placed, stops, Fine, fine_append, Written, written_append, written_at}
-use Rattle.t_writer.proofs.Scopes.{data_from, data_before, labels_from}
+use Rattle.t_writer.proofs.Scopes.{data_from, data_before}
 use Rattle.t_writer.proofs.WroteCode.{labels}
 use Rattle.t_writer.proofs.WroteBlocks.{wrote_block, more_blocks}
 use Rattle.t_writer.proofs.WroteData.{wrote_heap}

@@ -1,5 +1,6 @@
--- What `compile` wrote: its program is the one that is read of it, and its term the one that is read of the source.
-use Rattle.std.proofs.Common.{◌≡◌, ℕ, ℤ, List, sym, subst}
+-- What `compile` wrote: its program is the one that is read of it, and its term the one that is read of the source. What
+-- `upgrade` wrote: its program is that of the old text.
+use Rattle.std.proofs.Common.{◌≡◌, ◌∙◌, ℕ, ℤ, List, sym, ap, subst}
 use Rattle.std.proofs.Math.Logic.{∥∥₁_map, ∥∥₁_elim}
 use Rattle.std.proofs.Math.IntN.{ℤ_set}
 use Rattle.f_terms.specs.Tm.{Term, plain}
@@ -8,11 +9,15 @@ use Rattle.f_terms.specs.Laws.{OneAnswer}
 use Rattle.t_terms.specs.Spanned.{SProg, plain_program}
 use Rattle.t_terms.specs.Tree.{TProg}
 use Rattle.t_rules.specs.Rules.{Accepted}
-use Rattle.t_rules.specs.Machine.{HaltsWithin}
+use Rattle.t_rules.specs.Machine.{HaltsWithin, GoesOnAfter}
 use Rattle.pipeline.specs.Meaning.{SameMeaning}
 use Rattle.talc_core.specs.FirstFault.{IsAcceptedText}
+use Rattle.talc_core.specs.declared.status.Status.{Status}
+use Rattle.talc_core.specs.declared.status.Status.TheVariants.{Done, Refused, Usage, Limit, Budget, ReadFault, WriteFault, Memory}
 use Rattle.talc_core.specs.Compiled.{IsCompiled}
-use Rattle.talc_core.specs.Composition.{CompiledIsTaken, CompiledMeansTheSame, CompiledShowsTheSame}
+use Rattle.talc_core.specs.Upgraded.{IsUpgraded}
+use Rattle.talc_core.specs.Shown.{ShowsRun}
+use Rattle.talc_core.specs.Composition.{CompiledIsTaken, CompiledMeansTheSame, CompiledShowsTheSame, UpgradedIsTaken, UpgradedIsTheSame, UpgradedRunsTheSame}
 use Rattle.talc_core.proofs.FaultLemmas.{same_term, same_program}
 
 pub compiled_is_taken : CompiledIsTaken
@@ -41,3 +46,47 @@ pub compiled_shows_the_same : OneAnswer → CompiledShowsTheSame
 compiled_shows_the_same one source target evaluated ran made turns fuel value halted =
     ∥∥₁_elim (compiled_means_the_same source target made value.term value.checked halted.program halted.accepted) (ℤ_set value.value halted.value) (λ same.
     one_integer one (plain value.term) (plain_program halted.program) turns fuel value.value halted.value same (value.left, value.evaluates) halted.halts)
+
+-- the program that is read of what `upgrade` wrote, accepted
+pub upgraded_accepted : (source target : List ℕ) (made : IsUpgraded source target) → IsAcceptedText target made.reads.0
+upgraded_accepted source target made = (made.reads.1, subst Accepted (sym made.reads.2) made.accepted.1)
+
+pub upgraded_is_taken : UpgradedIsTaken
+upgraded_is_taken source target made = (made.reads.0, upgraded_accepted source target made)
+
+pub upgraded_is_the_same : UpgradedIsTheSame
+upgraded_is_the_same source target made old new accepted read =
+    let olds : old ≡ made.program = same_program source old made.program accepted.0 made.accepted.0 in
+    let news : made.reads.0 ≡ new = same_program target made.reads.0 new made.reads.1 read.0 in
+    ap plain_program olds ∙ (sym made.reads.2 ∙ ap plain_program news)
+
+-- what is shown of one text is shown of another whose program is the same
+shows_the_same : (a b : List ℕ) (there : SProg) → IsAcceptedText b there → ((here : SProg) → IsAcceptedText a here → plain_program here ≡ plain_program there) →
+    (fuel : ℕ) (status : Status) (line : List ℕ) → ShowsRun fuel status a line → ShowsRun fuel status b line
+shows_the_same a b there read same fuel Done line shown = record {
+  program = there;
+  value = shown.value;
+  accepted = read;
+  halts = subst (λ P. HaltsWithin P fuel shown.value) (same shown.program shown.accepted) shown.halts;
+  is = shown.is;
+}
+shows_the_same a b there read same fuel Budget line shown = record {
+  program = there;
+  accepted = read;
+  goes_on = subst (λ P. GoesOnAfter P fuel) (same shown.program shown.accepted) shown.goes_on;
+  is = shown.is;
+}
+shows_the_same a b there read same fuel Refused line shown = shown
+shows_the_same a b there read same fuel Usage line shown = shown
+shows_the_same a b there read same fuel Limit line shown = shown
+shows_the_same a b there read same fuel ReadFault line shown = shown
+shows_the_same a b there read same fuel WriteFault line shown = shown
+shows_the_same a b there read same fuel Memory line shown = shown
+
+pub upgraded_runs_the_same : UpgradedRunsTheSame
+upgraded_runs_the_same source target made fuel status line =
+    let accepted : IsAcceptedText target made.reads.0 = upgraded_accepted source target made in
+    (
+      shows_the_same source target made.reads.0 accepted (λ old read. upgraded_is_the_same source target made old made.reads.0 read accepted) fuel status line,
+      shows_the_same target source made.program made.accepted (λ new read. sym (upgraded_is_the_same source target made made.program new made.accepted read)) fuel status line,
+    )

@@ -7,11 +7,13 @@ use Rattle.talc_core.specs.declared.report.Failure.{Failure}
 use Rattle.talc_core.specs.declared.report.Failure.TheVariants as failed
 use Rattle.talc_core.specs.declared.status.Status.{Status}
 use Rattle.talc_core.specs.declared.status.Status.TheVariants.{Done, Refused, Usage, Limit, Budget, ReadFault, WriteFault, Memory}
-use Rattle.talc_core.specs.Command.{Asked, Compiles, Types, Evaluates, Checks, Runs, Generates}
+use Rattle.talc_core.specs.Command.{Asked, Compiles, Types, Evaluates, Checks, Runs, Generates, Upgrades}
 use Rattle.talc_core.specs.FirstFault.{Need, AnyTerm, AProgram, AnAssembly}
+use Rattle.talc_core.specs.Compiled.{IsCompiled}
+use Rattle.talc_core.specs.Upgraded.{IsUpgraded}
 use Rattle.talc_core.specs.Shown.{Showing, ShowsType, ShowsValue, ShowsAccepted, ShowsRun}
-use Rattle.talc_core.specs.Headline.{Outside, CompileAnswer, LineAnswer, SeedAnswer, Does}
-use Rattle.talc_core.specs.Steps.{status_at, CompilesFile, ShowsFile, ShowsSeed, Performs, Reports}
+use Rattle.talc_core.specs.Headline.{Outside, Making, TextAnswer, LineAnswer, SeedAnswer, Does}
+use Rattle.talc_core.specs.Steps.{status_at, MakesFile, ShowsFile, ShowsSeed, Performs, Reports}
 
 -- the outside of a call
 abbrev outside : FilesState → SinkState → SinkState → Outside
@@ -54,41 +56,41 @@ module _ (f f' : FilesState) (o o' e e' : SinkState) where
   line_failed Says need input failed.Memory WriteFault shown told = absurd told
   line_failed Says need input failed.Memory Memory shown told = record { line = told; out = shown.1; files = shown.0 }
 
-  -- ---- the command `compile`
+  -- ---- the commands that write a text made of another
 
-  compile_failed : (input output : List ℕ) → o' ≡ o → (failure : Failure) (status : Status) → CompilesFile input output f f' (Err failure) → Reports failure e e' status → CompileAnswer input output (outside f o e) (outside f' o' e') status
-  compile_failed input output same (failed.Refused fault) Done shown told = absurd told
-  compile_failed input output same (failed.Refused fault) Refused shown told = record { source = shown.0; fault = fault; read = shown.1; first = shown.2; leads = told.0; line = told.1; out = same; files = shown.3 }
-  compile_failed input output same (failed.Refused fault) Usage shown told = absurd told
-  compile_failed input output same (failed.Refused fault) Limit shown told = record { source = shown.0; fault = fault; read = shown.1; first = shown.2; leads = told.0; line = told.1; out = same; files = shown.3 }
-  compile_failed input output same (failed.Refused fault) Budget shown told = absurd told
-  compile_failed input output same (failed.Refused fault) ReadFault shown told = absurd told
-  compile_failed input output same (failed.Refused fault) WriteFault shown told = absurd told
-  compile_failed input output same (failed.Refused fault) Memory shown told = record { line = told; out = same; files = shown.3 }
-  compile_failed input output same failed.Read Done shown told = absurd told
-  compile_failed input output same failed.Read Refused shown told = absurd told
-  compile_failed input output same failed.Read Usage shown told = absurd told
-  compile_failed input output same failed.Read Limit shown told = absurd told
-  compile_failed input output same failed.Read Budget shown told = absurd told
-  compile_failed input output same failed.Read ReadFault shown told = record { cause = shown.0; line = told; out = same; files = shown.1 }
-  compile_failed input output same failed.Read WriteFault shown told = absurd told
-  compile_failed input output same failed.Read Memory shown told = record { line = told; out = same; files = shown.1 }
-  compile_failed input output same failed.Write Done shown told = absurd told
-  compile_failed input output same failed.Write Refused shown told = absurd told
-  compile_failed input output same failed.Write Usage shown told = absurd told
-  compile_failed input output same failed.Write Limit shown told = absurd told
-  compile_failed input output same failed.Write Budget shown told = absurd told
-  compile_failed input output same failed.Write ReadFault shown told = absurd told
-  compile_failed input output same failed.Write WriteFault shown told = record { source = shown.0; target = shown.1; read = shown.2; compiled = shown.3; cause = shown.4; line = told; out = same; files = shown.5 }
-  compile_failed input output same failed.Write Memory shown told = absurd told
-  compile_failed input output same failed.Memory Done shown told = absurd told
-  compile_failed input output same failed.Memory Refused shown told = absurd told
-  compile_failed input output same failed.Memory Usage shown told = absurd told
-  compile_failed input output same failed.Memory Limit shown told = absurd told
-  compile_failed input output same failed.Memory Budget shown told = absurd told
-  compile_failed input output same failed.Memory ReadFault shown told = absurd told
-  compile_failed input output same failed.Memory WriteFault shown told = absurd told
-  compile_failed input output same failed.Memory Memory shown told = record { line = told; out = same; files = shown }
+  text_failed : (Makes : Making) (need : Need) (input output : List ℕ) → o' ≡ o → (failure : Failure) (status : Status) → MakesFile Makes need input output f f' (Err failure) → Reports failure e e' status → TextAnswer Makes need input output (outside f o e) (outside f' o' e') status
+  text_failed Makes need input output same (failed.Refused fault) Done shown told = absurd told
+  text_failed Makes need input output same (failed.Refused fault) Refused shown told = record { source = shown.0; fault = fault; read = shown.1; first = shown.2; leads = told.0; line = told.1; out = same; files = shown.3 }
+  text_failed Makes need input output same (failed.Refused fault) Usage shown told = absurd told
+  text_failed Makes need input output same (failed.Refused fault) Limit shown told = record { source = shown.0; fault = fault; read = shown.1; first = shown.2; leads = told.0; line = told.1; out = same; files = shown.3 }
+  text_failed Makes need input output same (failed.Refused fault) Budget shown told = absurd told
+  text_failed Makes need input output same (failed.Refused fault) ReadFault shown told = absurd told
+  text_failed Makes need input output same (failed.Refused fault) WriteFault shown told = absurd told
+  text_failed Makes need input output same (failed.Refused fault) Memory shown told = record { line = told; out = same; files = shown.3 }
+  text_failed Makes need input output same failed.Read Done shown told = absurd told
+  text_failed Makes need input output same failed.Read Refused shown told = absurd told
+  text_failed Makes need input output same failed.Read Usage shown told = absurd told
+  text_failed Makes need input output same failed.Read Limit shown told = absurd told
+  text_failed Makes need input output same failed.Read Budget shown told = absurd told
+  text_failed Makes need input output same failed.Read ReadFault shown told = record { cause = shown.0; line = told; out = same; files = shown.1 }
+  text_failed Makes need input output same failed.Read WriteFault shown told = absurd told
+  text_failed Makes need input output same failed.Read Memory shown told = record { line = told; out = same; files = shown.1 }
+  text_failed Makes need input output same failed.Write Done shown told = absurd told
+  text_failed Makes need input output same failed.Write Refused shown told = absurd told
+  text_failed Makes need input output same failed.Write Usage shown told = absurd told
+  text_failed Makes need input output same failed.Write Limit shown told = absurd told
+  text_failed Makes need input output same failed.Write Budget shown told = absurd told
+  text_failed Makes need input output same failed.Write ReadFault shown told = absurd told
+  text_failed Makes need input output same failed.Write WriteFault shown told = record { source = shown.0; target = shown.1; read = shown.2; made = shown.3; cause = shown.4; line = told; out = same; files = shown.5 }
+  text_failed Makes need input output same failed.Write Memory shown told = absurd told
+  text_failed Makes need input output same failed.Memory Done shown told = absurd told
+  text_failed Makes need input output same failed.Memory Refused shown told = absurd told
+  text_failed Makes need input output same failed.Memory Usage shown told = absurd told
+  text_failed Makes need input output same failed.Memory Limit shown told = absurd told
+  text_failed Makes need input output same failed.Memory Budget shown told = absurd told
+  text_failed Makes need input output same failed.Memory ReadFault shown told = absurd told
+  text_failed Makes need input output same failed.Memory WriteFault shown told = absurd told
+  text_failed Makes need input output same failed.Memory Memory shown told = record { line = told; out = same; files = shown }
 
   -- ---- the command `gen`
 
@@ -123,9 +125,10 @@ module _ (f f' : FilesState) (o o' e e' : SinkState) where
   -- ---- by the command
 
   pub does_failed : (asked : Asked) (failure : Failure) (status : Status) → Performs asked f f' o o' (Err failure) → Reports failure e e' status → Does (outside f o e) (outside f' o' e') status asked
-  does_failed (Compiles input output) failure status done told = compile_failed input output done.1 failure status done.0 told
+  does_failed (Compiles input output) failure status done told = text_failed IsCompiled AProgram input output done.1 failure status done.0 told
   does_failed (Types input) failure status done told = line_failed ShowsType AnyTerm input failure status done told
   does_failed (Evaluates input turns) failure status done told = line_failed (ShowsValue turns) AProgram input failure status done told
   does_failed (Checks input) failure status done told = line_failed ShowsAccepted AnAssembly input failure status done told
   does_failed (Runs input fuel) failure status done told = line_failed (ShowsRun fuel) AnAssembly input failure status done told
   does_failed (Generates seed output) failure status done told = seed_failed seed output failure status done told
+  does_failed (Upgrades input output) failure status done told = text_failed IsUpgraded AnAssembly input output done.1 failure status done.0 told

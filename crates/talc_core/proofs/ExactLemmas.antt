@@ -11,9 +11,11 @@ use Rattle.t_terms.specs.Spanned.{plain_program}
 use Rattle.t_rules.specs.Machine.{GoesOnAfter}
 use Rattle.t_machine.proofs.Exactly.{going_not_halted}
 use Rattle.talc_core.specs.FirstFault.{Need, AnyTerm, AProgram, AnAssembly, IsTaken}
-use Rattle.talc_core.specs.Command.{Asked, Compiles, Types, Evaluates, Checks, Runs, Generates, command_of, need_of}
+use Rattle.talc_core.specs.Command.{Asked, Compiles, Types, Evaluates, Checks, Runs, Generates, Upgrades, command_of, need_of}
+use Rattle.talc_core.specs.Compiled.{IsCompiled}
+use Rattle.talc_core.specs.Upgraded.{IsUpgraded}
 use Rattle.talc_core.specs.Shown.{Showing, ShowsType, ShowsValue, ValueShown, ShowsAccepted, ShowsRun, HaltedShown}
-use Rattle.talc_core.specs.Headline.{Outside, Headline, TextRefused, LineAnswer, SeedAnswer, UsageAnswer, Does}
+use Rattle.talc_core.specs.Headline.{Outside, Making, Headline, TextRefused, TextAnswer, LineAnswer, SeedAnswer, UsageAnswer, Does}
 use Rattle.talc_core.specs.Exact.{IsSettled, Tells, WorksOn, IsMissing, CannotRead, LeadsTo, CannotWrite, HasBudget, GoesOn, NoFaults, Works, Exactly}
 use Rattle.talc_core.proofs.FaultLemmas.{one_fault, no_fault_where_taken, same_term, same_program}
 
@@ -70,6 +72,7 @@ goes_on_taken (Evaluates input turns) source more = (more.0, more.1)
 goes_on_taken (Checks input) source more = absurd more
 goes_on_taken (Runs input fuel) source more = (more.0, more.1)
 goes_on_taken (Generates seed output) source more = absurd more
+goes_on_taken (Upgrades input output) source more = absurd more
 
 -- a text whose first fault leads to one status has none that leads to another
 one_status : (need : Need) (source : List ℕ) (a b : Status) → LeadsTo need source a → LeadsTo need source b → a ≡ b
@@ -158,6 +161,17 @@ run_sound input fuel = record {
   over = λ text line shown. ((shown.program, shown.accepted), (shown.program, shown.accepted, shown.goes_on), tt);
 }
 
+-- a text is made of one that is what is needed, and no command that makes one has a budget
+pub record Makers (asked : Asked) (Makes : Making) : Type 0 where
+  pub made : (source target : List ℕ) → Makes source target → IsTaken (need_of asked) source
+  pub ends : (source : List ℕ) → ¬ GoesOn asked source
+
+compiled_sound : (input output : List ℕ) → Makers (Compiles input output) IsCompiled
+compiled_sound input output = record { made = λ source target made. (made.term, made.checked); ends = λ source more. more }
+
+upgraded_sound : (input output : List ℕ) → Makers (Upgrades input output) IsUpgraded
+upgraded_sound input output = record { made = λ source target made. (made.program, made.accepted); ends = λ source more. more }
+
 -- ---- by the command and the status
 
 module _ (old new : Outside) where
@@ -183,22 +197,26 @@ module _ (old new : Outside) where
   line_judged asked input Says sound source WriteFault answer tells settled = absurd settled
   line_judged asked input Says sound source Memory answer tells settled = absurd settled
 
+  -- of those that write a text made of another
+  text_judged : (asked : Asked) (input output : List ℕ) (Makes : Making) → Makers asked Makes → (source : List ℕ) (status : Status) → TextAnswer Makes (need_of asked) input output old new status → Tells old.files.told input source → IsSettled status → Judged asked source status
+  text_judged asked input output Makes sound source Done answer tells settled =
+      let same : answer.source ≡ source = same_content old.files.told input answer.source source answer.read tells in
+      inl (record { taken = subst (IsTaken (need_of asked)) same (sound.made answer.source answer.target answer.made); ends = sound.ends source; done = refl })
+  text_judged asked input output Makes sound source Refused answer tells settled = leads asked input source Refused answer tells
+  text_judged asked input output Makes sound source Limit answer tells settled = leads asked input source Limit answer tells
+  text_judged asked input output Makes sound source Usage answer tells settled = absurd answer
+  text_judged asked input output Makes sound source Budget answer tells settled = absurd answer
+  text_judged asked input output Makes sound source ReadFault answer tells settled = absurd settled
+  text_judged asked input output Makes sound source WriteFault answer tells settled = absurd settled
+  text_judged asked input output Makes sound source Memory answer tells settled = absurd settled
+
   judged : (asked : Asked) (source : List ℕ) (status : Status) → Does old new status asked → WorksOn asked old source → IsSettled status → Judged asked source status
   judged (Types input) source status answer tells settled = line_judged (Types input) input ShowsType (type_sound input) source status answer tells settled
   judged (Evaluates input turns) source status answer tells settled = line_judged (Evaluates input turns) input (ShowsValue turns) (value_sound input turns) source status answer tells settled
   judged (Checks input) source status answer tells settled = line_judged (Checks input) input ShowsAccepted (accepted_sound input) source status answer tells settled
   judged (Runs input fuel) source status answer tells settled = line_judged (Runs input fuel) input (ShowsRun fuel) (run_sound input fuel) source status answer tells settled
-  judged (Compiles input output) source Done answer tells settled =
-      let same : answer.source ≡ source = same_content old.files.told input answer.source source answer.read tells in
-      let done = answer.compiled in
-      inl (record { taken = subst (IsTaken (need_of (Compiles input output))) same (done.term, done.checked); ends = λ more. more; done = refl })
-  judged (Compiles input output) source Refused answer tells settled = leads (Compiles input output) input source Refused answer tells
-  judged (Compiles input output) source Limit answer tells settled = leads (Compiles input output) input source Limit answer tells
-  judged (Compiles input output) source Usage answer tells settled = absurd answer
-  judged (Compiles input output) source Budget answer tells settled = absurd answer
-  judged (Compiles input output) source ReadFault answer tells settled = absurd settled
-  judged (Compiles input output) source WriteFault answer tells settled = absurd settled
-  judged (Compiles input output) source Memory answer tells settled = absurd settled
+  judged (Compiles input output) source status answer tells settled = text_judged (Compiles input output) input output IsCompiled (compiled_sound input output) source status answer tells settled
+  judged (Upgrades input output) source status answer tells settled = text_judged (Upgrades input output) input output IsUpgraded (upgraded_sound input output) source status answer tells settled
   judged (Generates seed output) source Done answer is settled =
       let done = answer.says in
       inl (record { taken = subst (IsTaken AProgram) (sym is) (done.term, done.checked); ends = λ more. more; done = refl })
@@ -221,19 +239,23 @@ module _ (old new : Outside) where
   line_absent Says need input ReadFault answer absent = inl refl
   line_absent Says need input Memory answer absent = inr refl
 
+  text_absent : (Makes : Making) (need : Need) (input output : List ℕ) (status : Status) → TextAnswer Makes need input output old new status → IsAbsent old.files.told input → (status ≡ ReadFault) ⊎ (status ≡ Memory)
+  text_absent Makes need input output Done answer absent = absurd (not_absent old.files.told input answer.source answer.read absent)
+  text_absent Makes need input output Refused answer absent = absurd (not_absent old.files.told input answer.source answer.read absent)
+  text_absent Makes need input output Limit answer absent = absurd (not_absent old.files.told input answer.source answer.read absent)
+  text_absent Makes need input output WriteFault answer absent = absurd (not_absent old.files.told input answer.source answer.read absent)
+  text_absent Makes need input output Usage answer absent = absurd answer
+  text_absent Makes need input output Budget answer absent = absurd answer
+  text_absent Makes need input output ReadFault answer absent = inl refl
+  text_absent Makes need input output Memory answer absent = inr refl
+
   absent_at : (asked : Asked) (status : Status) → Does old new status asked → IsMissing asked old → (status ≡ ReadFault) ⊎ (status ≡ Memory)
   absent_at (Types input) status answer absent = line_absent ShowsType AnyTerm input status answer absent
   absent_at (Evaluates input turns) status answer absent = line_absent (ShowsValue turns) AProgram input status answer absent
   absent_at (Checks input) status answer absent = line_absent ShowsAccepted AnAssembly input status answer absent
   absent_at (Runs input fuel) status answer absent = line_absent (ShowsRun fuel) AnAssembly input status answer absent
-  absent_at (Compiles input output) Done answer absent = absurd (not_absent old.files.told input answer.source answer.read absent)
-  absent_at (Compiles input output) Refused answer absent = absurd (not_absent old.files.told input answer.source answer.read absent)
-  absent_at (Compiles input output) Limit answer absent = absurd (not_absent old.files.told input answer.source answer.read absent)
-  absent_at (Compiles input output) WriteFault answer absent = absurd (not_absent old.files.told input answer.source answer.read absent)
-  absent_at (Compiles input output) Usage answer absent = absurd answer
-  absent_at (Compiles input output) Budget answer absent = absurd answer
-  absent_at (Compiles input output) ReadFault answer absent = inl refl
-  absent_at (Compiles input output) Memory answer absent = inr refl
+  absent_at (Compiles input output) status answer absent = text_absent IsCompiled AProgram input output status answer absent
+  absent_at (Upgrades input output) status answer absent = text_absent IsUpgraded AnAssembly input output status answer absent
   absent_at (Generates seed output) status answer absent = absurd absent
 
   read_fault_at : (asked : Asked) → Does old new ReadFault asked → CannotRead asked old new
@@ -243,9 +265,11 @@ module _ (old new : Outside) where
   read_fault_at (Checks input) answer = answer.cause
   read_fault_at (Runs input fuel) answer = answer.cause
   read_fault_at (Generates seed output) answer = answer
+  read_fault_at (Upgrades input output) answer = answer.cause
 
   write_fault_at : (asked : Asked) → Does old new WriteFault asked → CannotWrite asked old new
   write_fault_at (Compiles input output) answer = answer.cause
+  write_fault_at (Upgrades input output) answer = answer.cause
   write_fault_at (Types input) answer = answer.cause
   write_fault_at (Evaluates input turns) answer = answer.cause
   write_fault_at (Checks input) answer = answer.cause
@@ -255,6 +279,7 @@ module _ (old new : Outside) where
 
   cannot : (asked : Asked) → NoFaults old new → CannotWrite asked old new → ⊥
   cannot (Compiles input output) none rose = none.writes rose
+  cannot (Upgrades input output) none rose = none.writes rose
   cannot (Types input) none rose = none.puts rose
   cannot (Evaluates input turns) none rose = none.puts rose
   cannot (Checks input) none rose = none.puts rose
@@ -269,6 +294,7 @@ module _ (old new : Outside) where
 
   cannot_read : (asked : Asked) (source : List ℕ) → NoFaults old new → WorksOn asked old source → CannotRead asked old new → ⊥
   cannot_read (Compiles input output) source none tells why = told_is_read input source none tells why
+  cannot_read (Upgrades input output) source none tells why = told_is_read input source none tells why
   cannot_read (Types input) source none tells why = told_is_read input source none tells why
   cannot_read (Evaluates input turns) source none tells why = told_is_read input source none tells why
   cannot_read (Checks input) source none tells why = told_is_read input source none tells why
@@ -277,6 +303,7 @@ module _ (old new : Outside) where
 
   no_usage : (asked : Asked) → Does old new Usage asked → ⊥
   no_usage (Compiles input output) answer = answer
+  no_usage (Upgrades input output) answer = answer
   no_usage (Types input) answer = answer
   no_usage (Evaluates input turns) answer = answer
   no_usage (Checks input) answer = answer
@@ -285,6 +312,7 @@ module _ (old new : Outside) where
 
   budget_has : (asked : Asked) → Does old new Budget asked → HasBudget asked
   budget_has (Compiles input output) answer = answer
+  budget_has (Upgrades input output) answer = answer
   budget_has (Types input) answer = answer.says
   budget_has (Evaluates input turns) answer = tt
   budget_has (Checks input) answer = answer.says

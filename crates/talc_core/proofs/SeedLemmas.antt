@@ -26,7 +26,7 @@ use Rattle.talc_core.specs.FirstFault.{AProgram, AnAssembly, FirstFault, IsCheck
 use Rattle.talc_core.specs.Compiled.{IsCompiled}
 use Rattle.talc_core.specs.Lines.{seed_lines}
 use Rattle.talc_core.specs.Shown.{seed_turns, SeedShown}
-use Rattle.talc_core.specs.Steps.{RefusedBy, ReadsProgram, ChecksAssembly, CompilesText, WantsMemory, OrMemory, Evaluated, HaltsSoonEnough}
+use Rattle.talc_core.specs.Steps.{RefusedBy, ReadsProgram, ChecksAssembly, MakesText, WantsMemory, OrMemory, Evaluated, HaltsSoonEnough}
 use Rattle.talc_core.proofs.FaultLemmas.{no_fault_where_taken, same_term}
 use Rattle.talc_core.proofs.CompositionLemmas.{compiled_is_taken, compiled_means_the_same, same_assembly}
 
@@ -44,7 +44,7 @@ refused programs seed text is Memory why = tt
 refused programs seed text is Read why = why
 refused programs seed text is Write why = why
 
-pub compiles : SourcesArePrograms → (seed : ℕ) (text : List ℕ) → text ≡ source_of seed → (r : Result (Vec ℕ Global) Failure) → CompilesText text r → OrMemory (λ target. IsCompiled (source_of seed) target.items) r
+pub compiles : SourcesArePrograms → (seed : ℕ) (text : List ℕ) → text ≡ source_of seed → (r : Result (Vec ℕ Global) Failure) → MakesText IsCompiled AProgram text r → OrMemory (λ target. IsCompiled (source_of seed) target.items) r
 compiles programs seed text is (Ok target) made = subst (λ t. IsCompiled t target.items) is made
 compiles programs seed text is (Err failure) why = refused programs seed text is failure why
 

@@ -1,7 +1,7 @@
 -- What the words of the command line ask for: see the crate of the words, where it is a definition over `clap`'s rules.
 use Rattle.std.specs.Prelude.{List, ℕ, Option, Some, None}
 use Rattle.talc_core.specs.FirstFault.{Need, AnyTerm, AProgram, AnAssembly}
-pub use Rattle.words.specs.Command.{Asked, Compiles, Types, Evaluates, Checks, Runs, Generates, command_of}
+pub use Rattle.words.specs.Command.{Asked, Compiles, Types, Evaluates, Checks, Runs, Generates, Upgrades, command_of}
 
 -- what the command needs of the text that it works on: of the one that it reads, or of the source that it makes
 abbrev pub need_of : Asked → Need
@@ -11,6 +11,7 @@ need_of (Evaluates input turns) = AProgram
 need_of (Checks input) = AnAssembly
 need_of (Runs input fuel) = AnAssembly
 need_of (Generates seed output) = AProgram
+need_of (Upgrades input output) = AnAssembly
 
 -- the name of the file that it reads, if it reads one
 abbrev pub input_of : Asked → Option (List ℕ)
@@ -20,3 +21,4 @@ input_of (Evaluates input turns) = Some input
 input_of (Checks input) = Some input
 input_of (Runs input fuel) = Some input
 input_of (Generates seed output) = None
+input_of (Upgrades input output) = Some input

@@ -1,12 +1,14 @@
--- What the commands do with a text that `compile` wrote.
-use Rattle.std.specs.Prelude.{◌≡◌, ℕ, List}
+-- What the commands do with a text that `compile` or `upgrade` wrote.
+use Rattle.std.specs.Prelude.{◌≡◌, ◌↔◌, ℕ, List}
+use Rattle.talc_core.specs.declared.status.Status.{Status}
 use Rattle.f_terms.specs.Ty.{TInt}
 use Rattle.f_terms.specs.Tm.{Tm, plain}
 use Rattle.t_terms.specs.Spanned.{SProg, plain_program}
 use Rattle.pipeline.specs.Meaning.{SameMeaning}
 use Rattle.talc_core.specs.FirstFault.{AnAssembly, IsChecked, IsAcceptedText, IsTaken}
 use Rattle.talc_core.specs.Compiled.{IsCompiled}
-use Rattle.talc_core.specs.Shown.{ValueShown, HaltedShown}
+use Rattle.talc_core.specs.Upgraded.{IsUpgraded}
+use Rattle.talc_core.specs.Shown.{ValueShown, HaltedShown, ShowsRun}
 
 -- `check` takes it: it stands for a program that the typing rules accept
 abbrev pub CompiledIsTaken : Type 0
@@ -25,3 +27,20 @@ CompiledShowsTheSame =
     (source target evaluated ran : List ℕ) → IsCompiled source target → (turns fuel : ℕ) →
     (value : ValueShown turns source evaluated) → (halted : HaltedShown fuel target ran) →
     value.value ≡ halted.value
+
+-- `check`, `run` and `upgrade` take a text that `upgrade` wrote: it stands for a program that the typing rules accept
+abbrev pub UpgradedIsTaken : Type 0
+UpgradedIsTaken = (source target : List ℕ) → IsUpgraded source target → IsTaken AnAssembly target
+
+-- its program is that of the old text, places aside
+abbrev pub UpgradedIsTheSame : Type 0
+UpgradedIsTheSame =
+    (source target : List ℕ) → IsUpgraded source target →
+    (old new : SProg) → IsAcceptedText source old → IsAcceptedText target new →
+    plain_program old ≡ plain_program new
+
+-- so `run` shows of it what it shows of the old text, with the same status
+abbrev pub UpgradedRunsTheSame : Type 0
+UpgradedRunsTheSame =
+    (source target : List ℕ) → IsUpgraded source target → (fuel : ℕ) (status : Status) (line : List ℕ) →
+    ShowsRun fuel status source line ↔ ShowsRun fuel status target line

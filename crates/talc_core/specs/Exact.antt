@@ -14,7 +14,7 @@ use Rattle.t_terms.specs.Spanned.{SProg, plain_program}
 use Rattle.t_rules.specs.Machine.{GoesOnAfter}
 use Rattle.seeds.specs.Source.{source}
 use Rattle.talc_core.specs.FirstFault.{Need, FirstFault, IsChecked, IsAcceptedText, IsTaken}
-use Rattle.talc_core.specs.Command.{Asked, Compiles, Types, Evaluates, Checks, Runs, Generates}
+use Rattle.talc_core.specs.Command.{Asked, Compiles, Types, Evaluates, Checks, Runs, Generates, Upgrades}
 use Rattle.talc_core.specs.Command.{command_of, need_of, input_of}
 use Rattle.talc_core.specs.Headline.{Outside}
 
@@ -38,6 +38,7 @@ WorksOn (Evaluates input turns) old text = Tells old.files.told input text
 WorksOn (Checks input) old text = Tells old.files.told input text
 WorksOn (Runs input fuel) old text = Tells old.files.told input text
 WorksOn (Generates seed output) old text = text ≡ source seed
+WorksOn (Upgrades input output) old text = Tells old.files.told input text
 
 -- the words ask for this to be done with this text
 abbrev pub Asking : List (List ℕ) → Outside → Asked → List ℕ → Type 0
@@ -65,6 +66,7 @@ CannotWrite (Checks input) old new = Faulted old.out.faults new.out.faults
 CannotWrite (Runs input fuel) old new = Faulted old.out.faults new.out.faults
 CannotWrite (Generates seed output) old new =
     Faulted old.files.writes new.files.writes ⊎ Faulted old.out.faults new.out.faults
+CannotWrite (Upgrades input output) old new = Faulted old.files.writes new.files.writes
 
 -- the command has a budget
 abbrev pub HasBudget : Asked → Type 0
@@ -74,6 +76,7 @@ HasBudget (Evaluates input turns) = Unit {0}
 HasBudget (Checks input) = ⊥
 HasBudget (Runs input fuel) = Unit {0}
 HasBudget (Generates seed output) = ⊥
+HasBudget (Upgrades input output) = ⊥
 
 -- the text is what the command needs, and the end isn't reached within the budget
 abbrev pub GoesOn : Asked → List ℕ → Type 0
@@ -84,6 +87,7 @@ GoesOn (Checks input) source = ⊥
 GoesOn (Runs input fuel) source =
     (program : SProg) × IsAcceptedText source program × GoesOnAfter (plain_program program) fuel
 GoesOn (Generates seed output) source = ⊥
+GoesOn (Upgrades input output) source = ⊥
 
 -- no count of faults of the files or of the output rises in the call or stands at its last value
 pub record NoFaults (old new : Outside) : Type 0 where

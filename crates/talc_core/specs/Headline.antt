@@ -9,9 +9,10 @@ use Rattle.talc_core.specs.declared.fault.Fault.{Fault}
 use Rattle.talc_core.specs.Fault.{status_of}
 use Rattle.talc_core.specs.FirstFault.{Need, AnyTerm, AProgram, AnAssembly, FirstFault}
 use Rattle.talc_core.specs.Compiled.{IsCompiled}
+use Rattle.talc_core.specs.Upgraded.{IsUpgraded}
 use Rattle.seeds.specs.Source.{source}
 use Rattle.talc_core.specs.Shown.{Showing, ShowsType, ShowsValue, ShowsAccepted, ShowsRun, SeedShown}
-use Rattle.talc_core.specs.Command.{Asked, Compiles, Types, Evaluates, Checks, Runs, Generates, command_of}
+use Rattle.talc_core.specs.Command.{Asked, Compiles, Types, Evaluates, Checks, Runs, Generates, Upgrades, command_of}
 use Rattle.talc_core.specs.Lines.{fault_line, read_line, write_line, memory_line}
 
 -- what the call reaches: the files, the output and the error output
@@ -55,38 +56,42 @@ pub record OutOfMemory (old new : Outside) : Type 0 where
   pub out : new.out ≡ old.out
   pub files : new.files.told ≡ old.files.told
 
--- ---- the command `compile`
+-- ---- the commands that write a text made of another
 
--- 0: the output's file is set to what the input's text compiles to, and nothing else is done
-pub record CompileDone (input output : List ℕ) (old new : Outside) : Type 0 where
+-- what such a command makes of a text
+abbrev pub Making : Type 1
+Making = List ℕ → List ℕ → Type 0
+
+-- 0: the output's file is set to what the command makes of the input's text, and nothing else is done
+pub record TextWritten (Makes : Making) (input output : List ℕ) (old new : Outside) : Type 0 where
   pub source : List ℕ
   pub target : List ℕ
   pub read : Holds old.files.told input source
-  pub compiled : IsCompiled source target
+  pub made : Makes source target
   pub written : new.files.told ≡ with_file old.files.told output target
   pub out : new.out ≡ old.out
   pub err : new.err ≡ old.err
 
--- 6: the text was compiled, and the count of writes rose or stands at its last value; every other file is as before
-pub record CompileNotWritten (input output : List ℕ) (old new : Outside) : Type 0 where
+-- 6: the text was made, and the count of writes rose or stands at its last value; every other file is as before
+pub record TextNotWritten (Makes : Making) (input output : List ℕ) (old new : Outside) : Type 0 where
   pub source : List ℕ
   pub target : List ℕ
   pub read : Holds old.files.told input source
-  pub compiled : IsCompiled source target
+  pub made : Makes source target
   pub cause : Faulted old.files.writes new.files.writes
   pub line : ShowsOrNot old.err new.err write_line
   pub out : new.out ≡ old.out
   pub files : SameBut output old.files.told new.files.told
 
--- what `compile` does; other statuses never come
-abbrev pub CompileAnswer : List ℕ → List ℕ → Outside → Outside → Status → Type 0
-CompileAnswer input output old new Done = CompileDone input output old new
-CompileAnswer input output old new Refused = TextRefused Refused AProgram input old new
-CompileAnswer input output old new Limit = TextRefused Limit AProgram input old new
-CompileAnswer input output old new ReadFault = NotRead input old new
-CompileAnswer input output old new WriteFault = CompileNotWritten input output old new
-CompileAnswer input output old new Memory = OutOfMemory old new
-CompileAnswer input output old new other = ⊥
+-- what such a command does, which needs this of the text; other statuses never come
+abbrev pub TextAnswer : Making → Need → List ℕ → List ℕ → Outside → Outside → Status → Type 0
+TextAnswer Makes need input output old new Done = TextWritten Makes input output old new
+TextAnswer Makes need input output old new Refused = TextRefused Refused need input old new
+TextAnswer Makes need input output old new Limit = TextRefused Limit need input old new
+TextAnswer Makes need input output old new ReadFault = NotRead input old new
+TextAnswer Makes need input output old new WriteFault = TextNotWritten Makes input output old new
+TextAnswer Makes need input output old new Memory = OutOfMemory old new
+TextAnswer Makes need input output old new other = ⊥
 
 -- ---- the commands that show a line
 
@@ -188,12 +193,13 @@ UsageAnswer old new other = ⊥
 
 -- what the command does
 abbrev pub Does : Outside → Outside → Status → Asked → Type 0
-Does old new status (Compiles input output) = CompileAnswer input output old new status
+Does old new status (Compiles input output) = TextAnswer IsCompiled AProgram input output old new status
 Does old new status (Types input) = LineAnswer ShowsType AnyTerm input old new status
 Does old new status (Evaluates input turns) = LineAnswer (ShowsValue turns) AProgram input old new status
 Does old new status (Checks input) = LineAnswer ShowsAccepted AnAssembly input old new status
 Does old new status (Runs input fuel) = LineAnswer (ShowsRun fuel) AnAssembly input old new status
 Does old new status (Generates seed output) = SeedAnswer seed output old new status
+Does old new status (Upgrades input output) = TextAnswer IsUpgraded AnAssembly input output old new status
 
 -- The whole of it: what the words ask for is done, or the user is told that they are no command.
 abbrev pub Headline : List (List ℕ) → Outside → Outside → Status → Type 0

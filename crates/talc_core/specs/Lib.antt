@@ -5,6 +5,7 @@ pub mod Lines
 pub mod FirstFault
 pub mod Command
 pub mod Compiled
+pub mod Upgraded
 pub mod Shown
 pub mod Headline
 pub mod Steps

@@ -25,12 +25,13 @@ use Rattle.talc_core.specs.declared.commands.Ending.{Ending}
 use Rattle.talc_core.specs.declared.commands.Ending.TheVariants.{Ends, GoesOn}
 use Rattle.talc_core.specs.declared.commands.Reply.{Reply}
 use Rattle.talc_core.specs.Fault.{status_of}
-use Rattle.talc_core.specs.Command.{Asked, Compiles, Types, Evaluates, Checks, Runs, Generates}
+use Rattle.talc_core.specs.Command.{Asked, Compiles, Types, Evaluates, Checks, Runs, Generates, Upgrades}
 use Rattle.talc_core.specs.FirstFault.{Need, AnyTerm, AProgram, AnAssembly, IsChecked, IsAcceptedText, FirstFault}
 use Rattle.talc_core.specs.Compiled.{IsCompiled}
+use Rattle.talc_core.specs.Upgraded.{IsUpgraded}
 use Rattle.seeds.specs.Source.{source as source_of}
 use Rattle.talc_core.specs.Shown.{Showing, ShowsType, ShowsValue, ShowsAccepted, ShowsRun, SeedShown, seed_turns}
-use Rattle.talc_core.specs.Headline.{Shows, ShowsOrNot}
+use Rattle.talc_core.specs.Headline.{Making, Shows, ShowsOrNot}
 use Rattle.talc_core.specs.Lines.{fault_line, read_line, write_line, memory_line}
 
 -- ---- from a text to an answer
@@ -56,10 +57,10 @@ abbrev pub ChecksAssembly : List ℕ → Result Checked Failure → Type 0
 ChecksAssembly text (Ok checked) = IsAcceptedText text (spanned_program (checked_program checked))
 ChecksAssembly text (Err failure) = RefusedBy AnAssembly text failure
 
--- what a source text is compiled to, or its first fault
-abbrev pub CompilesText : List ℕ → Result (Vec ℕ Global) Failure → Type 0
-CompilesText source (Ok target) = IsCompiled source target.items
-CompilesText source (Err failure) = RefusedBy AProgram source failure
+-- what is made of a text of which this is needed, or its first fault
+abbrev pub MakesText : Making → Need → List ℕ → Result (Vec ℕ Global) Failure → Type 0
+MakesText Makes need source (Ok target) = Makes source target.items
+MakesText Makes need source (Err failure) = RefusedBy need source failure
 
 -- the status of a command that failed nowhere
 abbrev pub status_at : Ending → Status
@@ -105,20 +106,21 @@ PutsReply reply old new (Err other) = ⊥
 
 -- ---- the commands
 
--- a file compiled into another, or why not
-abbrev pub CompilesFile : List ℕ → List ℕ → FilesState → FilesState → Result Ending Failure → Type 0
-CompilesFile input output old new (Ok Ends) =
-    (source target : List ℕ) × Holds old.told input source × IsCompiled source target
+-- a file set to what is made of another's text, or why not
+abbrev pub MakesFile :
+    Making → Need → List ℕ → List ℕ → FilesState → FilesState → Result Ending Failure → Type 0
+MakesFile Makes need input output old new (Ok Ends) =
+    (source target : List ℕ) × Holds old.told input source × Makes source target
     × (new.told ≡ with_file old.told output target)
-CompilesFile input output old new (Ok GoesOn) = ⊥
-CompilesFile input output old new (Err (Refused fault)) =
-    (source : List ℕ) × Holds old.told input source × FirstFault AProgram source fault × (new.told ≡ old.told)
-CompilesFile input output old new (Err Read) =
+MakesFile Makes need input output old new (Ok GoesOn) = ⊥
+MakesFile Makes need input output old new (Err (Refused fault)) =
+    (source : List ℕ) × Holds old.told input source × FirstFault need source fault × (new.told ≡ old.told)
+MakesFile Makes need input output old new (Err Read) =
     (Faulted old.reads new.reads ⊎ IsAbsent old.told input) × (new.told ≡ old.told)
-CompilesFile input output old new (Err Write) =
-    (source target : List ℕ) × Holds old.told input source × IsCompiled source target
+MakesFile Makes need input output old new (Err Write) =
+    (source target : List ℕ) × Holds old.told input source × Makes source target
     × Faulted old.writes new.writes × SameBut output old.told new.told
-CompilesFile input output old new (Err Memory) = new.told ≡ old.told
+MakesFile Makes need input output old new (Err Memory) = new.told ≡ old.told
 
 -- a line of a file put on the output, or why not
 abbrev pub ShowsFile :
@@ -175,7 +177,8 @@ ShowsSeed seed output old new out out' other = ⊥
 -- what a command does on the files and the output, or why not
 abbrev pub Performs :
     Asked → FilesState → FilesState → SinkState → SinkState → Result Ending Failure → Type 0
-Performs (Compiles input output) old new out out' result = CompilesFile input output old new result × (out' ≡ out)
+Performs (Compiles input output) old new out out' result =
+    MakesFile IsCompiled AProgram input output old new result × (out' ≡ out)
 Performs (Types input) old new out out' result = ShowsFile ShowsType AnyTerm input old new out out' result
 Performs (Evaluates input turns) old new out out' result =
     ShowsFile (ShowsValue turns) AProgram input old new out out' result
@@ -183,6 +186,8 @@ Performs (Checks input) old new out out' result = ShowsFile ShowsAccepted AnAsse
 Performs (Runs input fuel) old new out out' result =
     ShowsFile (ShowsRun fuel) AnAssembly input old new out out' result
 Performs (Generates seed output) old new out out' result = ShowsSeed seed output old new out out' result
+Performs (Upgrades input output) old new out out' result =
+    MakesFile IsUpgraded AnAssembly input output old new result × (out' ≡ out)
 
 -- ---- the lines for the user
 

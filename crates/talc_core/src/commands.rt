@@ -9,6 +9,7 @@ use crate::commands::eval::show_value;
 use crate::commands::run::show_run;
 use crate::commands::seed::show_seed;
 use crate::commands::type_of::show_type;
+use crate::commands::upgrade::upgrade_file;
 use crate::outside::put_line;
 use crate::report::Failure;
 use crate::status::Status;
@@ -22,6 +23,7 @@ mod eval;
 mod run;
 mod seed;
 mod type_of;
+mod upgrade;
 
 // How a command ended that failed nowhere.
 #[derive(Clone, Copy, Debug, PartialEq, Eq, Drop)]
@@ -75,5 +77,6 @@ pub(crate) fn perform<F: Files, O: Sink>(
         Command::Typeof { input } => show_type(alloc, files, out, input),
         Command::Eval { input, turns } => show_value(alloc, files, out, input, turns),
         Command::Gen { seed, output } => show_seed(alloc, files, out, seed, output),
+        Command::Upgrade { input, output } => upgrade_file(alloc, files, input, output),
     }
 }

@@ -1,6 +1,7 @@
 // Laws of the definitions that `talc` is proved by, as functions with an empty body that callers cite.
 ghost use Rattle.talc_core.specs.FirstFault.{OneFault, NoFaultWhereTaken, TakenOrFault};
 ghost use Rattle.talc_core.specs.Composition.{CompiledIsTaken, CompiledMeansTheSame, CompiledShowsTheSame};
+ghost use Rattle.talc_core.specs.Composition.{UpgradedIsTaken, UpgradedIsTheSame, UpgradedRunsTheSame};
 
 use f_parser::{closed_terms, term_or_fault};
 use f_terms::{one_answer, pass_or_fault, passes_where_typed};
@@ -45,3 +46,19 @@ pub fn compiled_shows_the_same()
 {
     one_answer();
 }
+
+/// What `upgrade` writes is a text that `check`, `run` and `upgrade` take: it stands for a program that the typing rules
+/// accept.
+pub fn upgraded_is_taken()
+    ensures { UpgradedIsTaken }
+{}
+
+/// The program that is read of what `upgrade` wrote is the one that is read of the old text, places aside.
+pub fn upgraded_is_the_same()
+    ensures { UpgradedIsTheSame }
+{}
+
+/// What `run` shows of what `upgrade` wrote is what it shows of the old text, with the same status.
+pub fn upgraded_runs_the_same()
+    ensures { UpgradedRunsTheSame }
+{}

@@ -17,7 +17,7 @@ mod top;
 pub use fault::Fault;
 pub use laws::{
     compiled_is_taken, compiled_means_the_same, compiled_shows_the_same, no_fault_where_taken,
-    one_fault, taken_or_fault,
+    one_fault, taken_or_fault, upgraded_is_taken, upgraded_is_the_same, upgraded_runs_the_same,
 };
 pub use lines::fault_line;
 pub use seeds::source_of;

@@ -1,4 +1,4 @@
-// The calls of the outside: the one read of a command, the one write of `compile`, and the one put of a line.
+// The calls of the outside: the one read of a command, the one write of a text, and the one put of a line.
 ghost use Rattle.talc_core.specs.Steps.{ReadsInput, WritesOutput, PutsLine};
 
 use crate::report::Failure;

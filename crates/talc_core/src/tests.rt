@@ -14,11 +14,12 @@ mod memory;
 mod outside_rows;
 mod seed_rows;
 mod source_rows;
+mod upgrade_rows;
 mod value_rows;
 
 use crate::tests::memory::{After, Before, Outside, leads, outside_of, run, shows, with_file};
 
-const SEVEN: &[u8] = b"tal 1\nL0: code[]{}.\nmov r1, 7\nhalt[int]\n";
+const SEVEN: &[u8] = b"tal 2\nL0: code[]{}.\nmov r1, 7\nhalt[int]\n";
 
 #[test]
 fn a_number_is_compiled(rt: HostRuntime) -> Result<(), Fail> {
@@ -90,7 +91,8 @@ fn other_words_are_no_command(rt: HostRuntime) -> Result<(), Fail> {
             "talc run x.tal --turns 1",
             "talc gen --seed 0",
             "talc gen g.f",
-            "talc upgrade x.tal y.tal",
+            "talc upgrade x.tal",
+            "talc link x.tal y.tal",
             "talc help",
             "talc --help",
             "talc compile --help",

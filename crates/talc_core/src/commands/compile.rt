@@ -1,5 +1,7 @@
 // The command `compile`.
-ghost use Rattle.talc_core.specs.Steps.{CompilesText, CompilesFile};
+ghost use Rattle.talc_core.specs.FirstFault.{AProgram};
+ghost use Rattle.talc_core.specs.Compiled.{IsCompiled};
+ghost use Rattle.talc_core.specs.Steps.{MakesText, MakesFile};
 
 use crate::commands::Ending;
 use crate::outside::{read_input, write_output};
@@ -8,15 +10,15 @@ use crate::source::read_program;
 use io_core::Files;
 use pipeline::compile;
 use std::alloc::Global;
-use t_writer::write;
+use t_writer::write2;
 
 // The assembly text that a source text is compiled to, or why there is none.
 pub(crate) fn compile_text(alloc: Global, source: &[u8]) -> Result<Vec<u8>, Failure>
-    ensures { CompilesText source.now result }
+    ensures { MakesText IsCompiled AProgram source.now result }
 {
     let program = read_program(alloc, source)?;
     let compiled = compile(alloc, &program)?;
-    let target = write(alloc, compiled.program())?;
+    let target = write2(alloc, compiled.program())?;
     Ok(target)
 }
 
@@ -28,7 +30,7 @@ pub(crate) fn compile_file<F: Files>(
     input: &str,
     output: &str,
 ) -> Result<Ending, Failure>
-    ensures { CompilesFile input.now output.now (F.state files.old) (F.state files.new) result }
+    ensures { MakesFile IsCompiled AProgram input.now output.now (F.state files.old) (F.state files.new) result }
 {
     let source = read_input(alloc, files, input)?;
     let target = compile_text(alloc, &source)?;

@@ -285,6 +285,7 @@ fn files_and_output_without_memory(rt: HostRuntime) -> Result<(), Fail> {
     let alloc = rt.alloc();
     files_want_memory(&rt, alloc, "talc compile x y")?;
     files_want_memory(&rt, alloc, "talc check x")?;
+    files_want_memory(&rt, alloc, "talc upgrade x y")?;
     output_wants_memory(&rt, alloc, "talc typeof x")?;
     output_wants_memory(&rt, alloc, "talc eval x --turns 0")
 }

@@ -85,8 +85,7 @@ shows_the_same a b there read same fuel Memory line shown = shown
 
 pub upgraded_runs_the_same : UpgradedRunsTheSame
 upgraded_runs_the_same source target made fuel status line =
-    let accepted : IsAcceptedText target made.reads.0 = upgraded_accepted source target made in
-    (
+    let accepted : IsAcceptedText target made.reads.0 = upgraded_accepted source target made in (
       shows_the_same source target made.reads.0 accepted (λ old read. upgraded_is_the_same source target made old made.reads.0 read accepted) fuel status line,
       shows_the_same target source made.program made.accepted (λ new read. sym (upgraded_is_the_same source target made made.program new made.accepted read)) fuel status line,
     )

@@ -29,12 +29,7 @@ const NAMED_UPGRADED: &[u8] = b"tal 2\nD0: data <6 : int>\nD1: data <5 : int, D0
     L1: code[]{r2:<int^1, <int^1>^1>}.\nld r3, r2[1]\nld r1, r3[0]\nhalt[int]\n";
 
 // The file `x` has the old text, and `y` the new one.
-fn upgrades(
-    rt: &impl Abort,
-    alloc: Global,
-    old: &[u8],
-    new: &[u8],
-) -> Result<(), Fail> {
+fn upgrades(rt: &impl Abort, alloc: Global, old: &[u8], new: &[u8]) -> Result<(), Fail> {
     let after = After {
         status: Status::Done,
         out: b"",

@@ -9,7 +9,6 @@ use Rattle.f_terms.specs.Tm.{plain}
 use Rattle.f_terms.specs.Eval.{Gives, Spent, EvaluatesLeaving, IsSpent}
 use Rattle.t_terms.specs.Spanned.{plain_program}
 use Rattle.t_rules.specs.Machine.{GoesOnAfter}
-use Rattle.t_machine.proofs.Exactly.{going_not_halted}
 use Rattle.talc_core.specs.FirstFault.{Need, AnyTerm, AProgram, AnAssembly, IsTaken}
 use Rattle.talc_core.specs.Command.{Asked, Compiles, Types, Evaluates, Checks, Runs, Generates, Upgrades, command_of, need_of}
 use Rattle.talc_core.specs.Compiled.{IsCompiled}
@@ -18,6 +17,7 @@ use Rattle.talc_core.specs.Shown.{Showing, ShowsType, ShowsValue, ValueShown, Sh
 use Rattle.talc_core.specs.Headline.{Outside, Making, Headline, TextRefused, TextAnswer, LineAnswer, SeedAnswer, UsageAnswer, Does}
 use Rattle.talc_core.specs.Exact.{IsSettled, Tells, WorksOn, IsMissing, CannotRead, LeadsTo, CannotWrite, HasBudget, GoesOn, NoFaults, Works, Exactly}
 use Rattle.talc_core.proofs.FaultLemmas.{one_fault, no_fault_where_taken, same_term, same_program}
+use Rattle.talc_core.proofs.RunLemmas.{going_not_halted}
 
 -- ---- files
 

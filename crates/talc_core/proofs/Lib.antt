@@ -5,6 +5,7 @@ mod DoesLemmas
 pub mod ExactLemmas
 mod FaultLemmas
 mod Rows
+mod RunLemmas
 mod SeedLemmas
 mod SizeLemmas
 mod SourceLemmas

@@ -11,7 +11,6 @@ use Rattle.t_terms.specs.Spanned.{SProg, plain_program}
 use Rattle.t_terms.specs.ReadProgram.{spanned_program}
 use Rattle.t_rules.specs.Machine.{Halts, HaltsWithin, GoesOnAfter}
 use Rattle.t_rules.specs.Times.{program_size}
-use Rattle.t_machine.proofs.Exactly.{going_not_halted}
 use Rattle.f_terms.specs.ReadTerm.{spanned}
 use Rattle.f_check.specs.Typed.{program_term}
 use Rattle.f_check.specs.declared.typed.Program.{Program}
@@ -28,6 +27,7 @@ use Rattle.talc_core.specs.Lines.{seed_lines}
 use Rattle.talc_core.specs.Shown.{seed_turns, SeedShown}
 use Rattle.talc_core.specs.Steps.{RefusedBy, ReadsProgram, ChecksAssembly, MakesText, WantsMemory, OrMemory, Evaluated, HaltsSoonEnough}
 use Rattle.talc_core.proofs.FaultLemmas.{no_fault_where_taken, same_term}
+use Rattle.talc_core.proofs.RunLemmas.{going_not_halted}
 use Rattle.talc_core.proofs.CompositionLemmas.{compiled_is_taken, compiled_means_the_same, same_assembly}
 
 taken : SourcesArePrograms → (seed : ℕ) → IsTaken AProgram (source_of seed)

@@ -1,5 +1,5 @@
--- A set of numbers from 1 on, as a type: the empty set is `int`, and a set is a tuple of two sets. The first field's flag
--- says whether 1 is in it; the first field has the halves of its even numbers, and the second those of its odd ones.
+-- A set of numbers from 1 on, as a type: the empty set is `int`, and a set is a tuple of two sets. The first field's
+-- flag says whether 1 is in it; the first field has the halves of its even numbers, the second those of its odd ones.
 use Rattle.std.specs.Prelude.{◌≡◌, ℕ, ◌+◌, ◌/◌, ◌%◌, ◌<◌, ◌≤◌, Bool, false, cond, ◌||◌, nat_eq, nat_le, List, [], ◌∷◌, length, Option, Some, None}
 use Rattle.t_types.specs.Tree.{Ty, IntTy, VarTy, CodeTy, ExistsTy, TupleTy, TFields, NoFields, MoreFields}
 use Rattle.t_intern.specs.Nodes.{at}

@@ -16,8 +16,8 @@ use std::collections::BTreeMap;
 use t_intern::Types;
 
 /// The number of a register's type, as it was when `names` type names were in scope, and the set of the fields that
-/// were filled since. The type is shifted where it is read, and not at each `unpack`, and its fields are marked where the
-/// whole of it is wanted, and not at each `st`.
+/// were filled since. The type is shifted where it is read, and not at each `unpack`, and its fields are marked where
+/// the whole of it is wanted, and not at each `st`.
 #[derive(Clone, Copy)]
 pub(crate) struct Entry {
     pub(crate) ty: u64,

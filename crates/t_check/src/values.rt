@@ -54,7 +54,8 @@ impl Checker<'_> {
         requires base { FormedBase self.now.program.now (base_tree base) }
         requires args { WellFormedTypes self.now.registers.names (type_trees args.now) }
         ensures grown { Grown types.old types.new }
-        ensures typed { TypedAt types.old types.new self.now span (Plain (base_tree base) (type_trees args.now)) result }
+        ensures typed { TypedAt types.old types.new self.now span (Plain (base_tree base) (type_trees args.now))
+            result }
     {
         let found = self.type_of_base(types, base, span)?;
         if args.is_empty() {

@@ -154,11 +154,10 @@ fn moved_at(text: &[u8], place: usize, rt: &HostRuntime) -> Option<u64> {
     let block = program.blocks.get(place)?;
     match &block.body.get(0)?.0 {
         Instr::Mov {
-            v:
-                Value::Plain {
-                    base: Base::Data(number),
-                    ..
-                },
+            v: Value::Plain {
+                base: Base::Data(number),
+                ..
+            },
             ..
         } => Some(*number),
         _ => None,

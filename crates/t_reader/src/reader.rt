@@ -183,7 +183,8 @@ fn parts_in(alloc: Global, text: &[u8], raw: Vec<RawItem>) -> Result<Parts, TFau
                 blocks.push(made)?;
             }
             RawItem::Data(tuple) => {
-                let made = taken_data(alloc, text, &labels, heap.len(), tuple)?;
+                let number = heap.len();
+                let made = taken_data(alloc, text, &labels, number, tuple)?;
                 heap.push(made)?;
             }
         }

@@ -33,7 +33,7 @@ pub returns-in_err-made-in-Data : goal.returns-in_err-made-in-Data
 returns-in_err-made-in-Data c =
     let l = c.loop-item in
     let p = err_from_is_err_and c.from_residual-in_err-made-in-Data.result c.from_residual-in_err-made-in-Data.ensures.1 in
-    rw (p.1, p.2) (data_stop c.args.text.now c.args.raw.items _ l.blocks.items l.heap.items l.invariant.left _ (rw c.deref.ensures.value at c.in_ok-labels.ensures) c.in-Data.tuple (into_iter_items c.next.new.self) (c.in-Some.ensures.steps.0 ∙ rw c.in-Data.is refl) _ (rw (c.len-in-Data.ensures, l.heap.ok.0) at c.in_err-made-in-Data.ensures))
+    rw (p.1, p.2) (data_stop c.args.text.now c.args.raw.items _ l.blocks.items l.heap.items l.invariant.left _ (rw c.deref.ensures.value at c.in_ok-labels.ensures) c.in-Data.tuple (into_iter_items c.next.new.self) (c.in-Some.ensures.steps.0 ∙ rw c.in-Data.is refl) _ (rw (c.len-number.ensures, l.heap.ok.0) at c.in_err-made-in-Data.ensures))
 
 pub loop-item-preserved : goal.loop-item-preserved
 loop-item-preserved c =
@@ -42,7 +42,7 @@ loop-item-preserved c =
     let fewer = c.in-Some.ensures.steps.1 in
     record {
       many = omega (arith, l.invariant.many, fewer, ap length steps);
-      left = data_next c.args.text.now c.args.raw.items _ l.blocks.items l.heap.items l.invariant.left _ (rw c.deref.ensures.value at c.in_ok-labels.ensures) c.in-Data.tuple (into_iter_items c.next.new.self) (steps ∙ rw c.in-Data.is refl) c.in_ok-made-in-Data.made _ (rw (c.len-in-Data.ensures, l.heap.ok.0) at c.in_ok-made-in-Data.ensures) c.in_ok-push-in-Data.ensures.items;
+      left = data_next c.args.text.now c.args.raw.items _ l.blocks.items l.heap.items l.invariant.left _ (rw c.deref.ensures.value at c.in_ok-labels.ensures) c.in-Data.tuple (into_iter_items c.next.new.self) (steps ∙ rw c.in-Data.is refl) c.in_ok-made-in-Data.made _ (rw (c.len-number.ensures, l.heap.ok.0) at c.in_ok-made-in-Data.ensures) c.in_ok-push-in-Data.ensures.items;
     }
 
 pub returns : goal.returns

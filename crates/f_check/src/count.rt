@@ -10,6 +10,12 @@ ghost use Rattle.f_check.specs.Verdict.{Says};
 use f_terms::{Code, FFault, FType};
 use idx_core::Span;
 
+// How deep a type may be.
+const DEPTH: u64 = 200;
+
+// How many nodes a type may have.
+const SIZE: u64 = 10000;
+
 // The limits of a type that has this depth and size.
 pub(crate) fn limit(deep: u64, wide: u64, span: Span) -> Result<(), FFault>
     ensures ok { OnOk result ((deep ≤ 200) × (wide ≤ 10000)) }
@@ -17,13 +23,13 @@ pub(crate) fn limit(deep: u64, wide: u64, span: Span) -> Result<(), FFault>
         (check (deep ≤ 200) (refuse codes.L4 (place span))
         (check (wide ≤ 10000) (refuse codes.L5 (place span)) nothing))) }
 {
-    if deep > 200 {
+    if deep > DEPTH {
         return Err(FFault::Refused {
             code: Code::L4,
             span,
         });
     }
-    if wide > 10000 {
+    if wide > SIZE {
         return Err(FFault::Refused {
             code: Code::L5,
             span,

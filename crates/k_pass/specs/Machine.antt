@@ -182,6 +182,18 @@ FieldsGo t w es done ty d w' c' =
     Begins t w (emit_all (noteds (map t es)) d (at w) done (to_tuple ty (rest_of t w)) (after t w))
     (1 + (1 + steps_all (noteds (map t es)))) w' c'
 
+-- the same where a frame that was taken off is given an atom
+abbrev pub Takes : (ℕ → Noted) → Work → Frame → Atom → ℕ → Work → Control → Type 0
+Takes t w f a d w' c' =
+    let ks : Rests = through t f (rests t w.frames.items) in
+    Begins t w (deliver (top ks (at w)) d (atom a) (todo t w.pending.items (at w) (below ks)))
+    (1 + frame_steps t f) w' c'
+
+-- and where what was kept for later, and was taken off, comes
+abbrev pub Follows : (ℕ → Noted) → Work → Pending → Work → Control → Type 0
+Follows t w p w' c' =
+    Begins t w (then t p (todo t w.pending.items) (at w) (rests t w.frames.items)) (pending_steps t p) w' c'
+
 -- the level of the name that a frame hands its atom to
 abbrev pub tail_of : Frame → Option ℕ
 tail_of (F.Tail l) = Some l

@@ -5,7 +5,9 @@ ghost use Rattle.f_terms.specs.ReadTerm.{count};
 ghost use Rattle.k_terms.specs.Read.{knode};
 ghost use Rattle.k_pass.specs.Emit.{emit_of};
 
-use crate::walk::{give, resume, walk};
+use crate::give::give;
+use crate::resume::resume;
+use crate::walk::walk;
 use crate::work::{Control, Work};
 use f_terms::{FTerm, FType};
 use idx_core::OutOfMemory;

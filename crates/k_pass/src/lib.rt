@@ -3,7 +3,10 @@
 
 mod access;
 mod convert;
+mod give;
+mod hand;
 mod program;
+mod resume;
 mod types;
 mod walk;
 mod work;

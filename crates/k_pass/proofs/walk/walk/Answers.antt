@@ -1,10 +1,11 @@
-use Rattle.std.proofs.Common.{◌∙◌, ap, sym}
+use Rattle.std.proofs.Common.{◌∙◌, ap, sym, map}
 use Rattle.f_terms.specs.Read.{tree}
-use Rattle.f_terms.specs.Noted.{EApp, EInst, EProj, EArith, EIf}
+use Rattle.std.proofs.lemmas.Result.{IfOk-weaker}
+use Rattle.f_terms.specs.Noted.{EFix, EApp, EGen, EInst, ETuple, EProj, EArith, EIf, noteds}
 use Rattle.f_terms.specs.NotedTerm.{noted_at, noted_shape}
 use Rattle.f_terms.specs.ReadTerm.{count}
 use Rattle.k_pass.specs.declared.work.Control.TheVariants as C
-use Rattle.k_pass.proofs.Gives.{walks, goes_app, goes_inst, goes_proj, goes_arith}
+use Rattle.k_pass.proofs.Gives.{walks, goes_app, goes_inst, goes_proj, goes_arith, goes_tuple}
 use Rattle.std.proofs.Common.{◌<◌}
 use Rattle.f_terms.specs.Shape.{children}
 use Rattle.k_pass.specs.Machine.{FrameIn}
@@ -63,29 +64,58 @@ returns-in_ok-push-in-Proj-clause-inside c =
     let m = count c.args.term.now in
     λ kept. (kids_one m c.node_at-found.result.0.now.shape c.in-Proj.e (ap children c.in-Proj.is) c.node_at-found.ensures.kids, all_push (FrameIn m) _ _ _ c.in_ok-push-in-Proj.ensures.items kept.0 tt, kept.1)
 
-pub returns-in_ok-next-in-Fix-clause-inside : goal.returns-in_ok-next-in-Fix-clause-inside
-returns-in_ok-next-in-Fix-clause-inside c =
+pub returns-in-Fix-clause-inside : goal.returns-in-Fix-clause-inside
+returns-in-Fix-clause-inside c =
     let m = count c.args.term.now in
-    λ kept. c.in_ok-next-in-Fix.ensures.inside m (kids_one m c.node_at-found.result.0.now.shape c.in-Fix.body (ap children c.in-Fix.is) c.node_at-found.ensures.kids) kept
+    IfOk-weaker c.walk_fix.result _ _ (λ next h kept. h m (kids_one m c.node_at-found.result.0.now.shape c.in-Fix.body (ap children c.in-Fix.is) c.node_at-found.ensures.kids) kept) c.walk_fix.ensures.inside
 
-pub returns-in_ok-next-in-Gen-clause-inside : goal.returns-in_ok-next-in-Gen-clause-inside
-returns-in_ok-next-in-Gen-clause-inside c =
+pub returns-in-Gen-clause-inside : goal.returns-in-Gen-clause-inside
+returns-in-Gen-clause-inside c =
     let m = count c.args.term.now in
-    λ kept. c.in_ok-next-in-Gen.ensures.inside m (kids_one m c.node_at-found.result.0.now.shape c.in-Gen.body (ap children c.in-Gen.is) c.node_at-found.ensures.kids) kept
+    IfOk-weaker c.walk_gen.result _ _ (λ next h kept. h m (kids_one m c.node_at-found.result.0.now.shape c.in-Gen.body (ap children c.in-Gen.is) c.node_at-found.ensures.kids) kept) c.walk_gen.ensures.inside
 
-pub returns-in_ok-next-in-If0-clause-inside : goal.returns-in_ok-next-in-If0-clause-inside
-returns-in_ok-next-in-If0-clause-inside c =
+pub returns-in-If0-clause-inside : goal.returns-in-If0-clause-inside
+returns-in-If0-clause-inside c =
     let m = count c.args.term.now in
-    λ kept. let k = kids_three m c.node_at-found.result.0.now.shape c.in-If0.test c.in-If0.zero c.in-If0.other (ap children c.in-If0.is) c.node_at-found.ensures.kids in c.in_ok-next-in-If0.ensures.inside m k.0 k.1 k.2 kept
+    let k = kids_three m c.node_at-found.result.0.now.shape c.in-If0.test c.in-If0.zero c.in-If0.other (ap children c.in-If0.is) c.node_at-found.ensures.kids in
+    IfOk-weaker c.walk_if0.result _ _ (λ next h kept. h m k.0 k.1 k.2 kept) c.walk_if0.ensures.inside
 
-pub returns-in_ok-next-in-Tuple-clause-inside : goal.returns-in_ok-next-in-Tuple-clause-inside
-returns-in_ok-next-in-Tuple-clause-inside c =
+pub returns-in-Tuple-clause-inside : goal.returns-in-Tuple-clause-inside
+returns-in-Tuple-clause-inside c =
     let m = count c.args.term.now in
-    λ kept. c.in_ok-next-in-Tuple.ensures.inside m (all_same (λ k. k < m) _ c.deref-in-Tuple.result.now (c.deref-in-Tuple.ensures.value ∙ sym (ap children c.in-Tuple.is)) c.node_at-found.ensures.kids) kept
+    IfOk-weaker c.walk_fields.result _ _ (λ next h kept. h m (all_same (λ k. k < m) _ c.deref-in-Tuple.result.now (c.deref-in-Tuple.ensures.value ∙ sym (ap children c.in-Tuple.is)) c.node_at-found.ensures.kids) kept) c.walk_fields.ensures.inside
 
-pub returns-in_ok-next-in-If0-clause-steps : goal.returns-in_ok-next-in-If0-clause-steps
-returns-in_ok-next-in-If0-clause-steps c =
+pub returns-in-Fix-clause-steps : goal.returns-in-Fix-clause-steps
+returns-in-Fix-clause-steps c =
+    let t = noted_at c.args.term.now c.args.types.now in
+    let s = c.in-Fix in
+    IfOk-weaker c.walk_fix.result _ _
+    (λ next h. walks t c.args.work.now c.args.node c.args.depth (EFix (tree s.arg) (tree s.res) (t s.body)) c.walk_fix.new.work next
+    (c.node_at-found.ensures.tree ∙ ap (noted_shape t (tree c.node_at-found.result.1.now)) s.is) (h t)) c.walk_fix.ensures.steps
+
+pub returns-in-Gen-clause-steps : goal.returns-in-Gen-clause-steps
+returns-in-Gen-clause-steps c =
+    let t = noted_at c.args.term.now c.args.types.now in
+    let s = c.in-Gen in
+    IfOk-weaker c.walk_gen.result _ _
+    (λ next h. walks t c.args.work.now c.args.node c.args.depth (EGen (t s.body) (tree c.under_all.result.now)) c.walk_gen.new.work next
+    (c.node_at-found.ensures.tree ∙ ap (noted_shape t (tree c.node_at-found.result.1.now)) s.is ∙ ap (EGen (t s.body)) (sym c.under_all.ensures)) (h t)) c.walk_gen.ensures.steps
+
+pub returns-in-Tuple-clause-steps : goal.returns-in-Tuple-clause-steps
+returns-in-Tuple-clause-steps c =
+    let t = noted_at c.args.term.now c.args.types.now in
+    let s = c.in-Tuple in
+    let ty = tree c.node_at-found.result.1.now in
+    IfOk-weaker c.walk_fields.result _ _
+    (λ next h. walks t c.args.work.now c.args.node c.args.depth (ETuple (noteds (map t s.es.items)) ty) c.walk_fields.new.work next
+    (c.node_at-found.ensures.tree ∙ ap (noted_shape t ty) s.is)
+    (goes_tuple t c.args.work.now s.es.items c.deref-in-Tuple.result.now c.new.result.items ty c.args.depth c.walk_fields.new.work next c.deref-in-Tuple.ensures.value c.new.ensures.items (h t)))
+    c.walk_fields.ensures.steps
+
+pub returns-in-If0-clause-steps : goal.returns-in-If0-clause-steps
+returns-in-If0-clause-steps c =
     let t = noted_at c.args.term.now c.args.types.now in
     let s = c.in-If0 in
-    walks t c.args.work.now c.args.node c.args.depth (EIf (t s.test) (t s.zero) (t s.other) (tree c.node_at-found.result.1.now)) c.walk_if0.new.work c.in_ok-next-in-If0.next
-    (c.node_at-found.ensures.tree ∙ ap (noted_shape t (tree c.node_at-found.result.1.now)) s.is) (c.in_ok-next-in-If0.ensures.steps t)
+    IfOk-weaker c.walk_if0.result _ _
+    (λ next h. walks t c.args.work.now c.args.node c.args.depth (EIf (t s.test) (t s.zero) (t s.other) (tree c.node_at-found.result.1.now)) c.walk_if0.new.work next
+    (c.node_at-found.ensures.tree ∙ ap (noted_shape t (tree c.node_at-found.result.1.now)) s.is) (h t)) c.walk_if0.ensures.steps

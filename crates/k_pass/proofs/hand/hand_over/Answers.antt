@@ -5,7 +5,7 @@ use Rattle.k_laws.specs.Cps.{kty}
 use Rattle.k_pass.proofs.Moves.{hand_tail, hand_rest}
 use Rattle.k_pass.specs.Machine.{FrameIn, PendingIn}
 use Rattle.k_pass.proofs.Inside.{all_push, all_pop, all_same}
-use Rattle.k_pass.proofs.walk.hand_over.Goals as goal
+use Rattle.k_pass.proofs.hand.hand_over.Goals as goal
 
 pub returns-in_ok-put_atom-in-Some-clause-steps : goal.returns-in_ok-put_atom-in-Some-clause-steps
 returns-in_ok-put_atom-in-Some-clause-steps c = λ t.

@@ -1,0 +1,59 @@
+use Rattle.k_pass.specs.declared.work.Control.TheVariants as C
+use Rattle.k_pass.specs.declared.work.Pending.TheVariants as P
+use Rattle.k_pass.specs.Machine.{PendingIn}
+use Rattle.k_pass.proofs.Moves.{pop_is, resumed, comes_end}
+use Rattle.k_pass.proofs.Inside.{all_pop}
+use Rattle.k_pass.proofs.resume.resume.Goals as goal
+
+pub returns-in_ok-name_fix-in-Some-Fix-clause-steps : goal.returns-in_ok-name_fix-in-Some-Fix-clause-steps
+returns-in_ok-name_fix-in-Some-Fix-clause-steps c = λ t.
+    let s = c.in-Some-Fix in
+    resumed t c.args.work.now c.pop.new.self (P.Fix s.depth s.arg s.res) c.name_fix.new.work c.in_ok-name_fix-in-Some-Fix.field-0 (pop_is _ _ _ _ s.ensures.items s.field-0-is) (c.in_ok-name_fix-in-Some-Fix.ensures.steps t)
+
+pub returns-in_ok-name_fix-in-Some-Fix-clause-inside : goal.returns-in_ok-name_fix-in-Some-Fix-clause-inside
+returns-in_ok-name_fix-in-Some-Fix-clause-inside c = λ m kept.
+    let s = c.in-Some-Fix in
+    let r = all_pop (PendingIn m) _ _ _ (pop_is _ _ _ _ s.ensures.items s.field-0-is) kept.1 in
+    c.in_ok-name_fix-in-Some-Fix.ensures.inside m (kept.0, r.0)
+
+pub returns-in_ok-name_gen-in-Some-Gen-clause-steps : goal.returns-in_ok-name_gen-in-Some-Gen-clause-steps
+returns-in_ok-name_gen-in-Some-Gen-clause-steps c = λ t.
+    let s = c.in-Some-Gen in
+    resumed t c.args.work.now c.pop.new.self (P.Gen s.depth s.types s.ty) c.name_gen.new.work c.in_ok-name_gen-in-Some-Gen.field-0 (pop_is _ _ _ _ s.ensures.items s.field-0-is) (c.in_ok-name_gen-in-Some-Gen.ensures.steps t)
+
+pub returns-in_ok-name_gen-in-Some-Gen-clause-inside : goal.returns-in_ok-name_gen-in-Some-Gen-clause-inside
+returns-in_ok-name_gen-in-Some-Gen-clause-inside c = λ m kept.
+    let s = c.in-Some-Gen in
+    let r = all_pop (PendingIn m) _ _ _ (pop_is _ _ _ _ s.ensures.items s.field-0-is) kept.1 in
+    c.in_ok-name_gen-in-Some-Gen.ensures.inside m (kept.0, r.0)
+
+pub returns-in_ok-walk_other-in-Some-Other-clause-steps : goal.returns-in_ok-walk_other-in-Some-Other-clause-steps
+returns-in_ok-walk_other-in-Some-Other-clause-steps c = λ t.
+    let s = c.in-Some-Other in
+    resumed t c.args.work.now c.pop.new.self (P.Other s.node s.depth s.level) c.walk_other.new.work c.in_ok-walk_other-in-Some-Other.field-0 (pop_is _ _ _ _ s.ensures.items s.field-0-is) (c.in_ok-walk_other-in-Some-Other.ensures.steps t)
+
+pub returns-in_ok-walk_other-in-Some-Other-clause-inside : goal.returns-in_ok-walk_other-in-Some-Other-clause-inside
+returns-in_ok-walk_other-in-Some-Other-clause-inside c = λ m kept.
+    let s = c.in-Some-Other in
+    let r = all_pop (PendingIn m) _ _ _ (pop_is _ _ _ _ s.ensures.items s.field-0-is) kept.1 in
+    c.in_ok-walk_other-in-Some-Other.ensures.inside m r.1 (kept.0, r.0)
+
+pub returns-in_ok-walk_test-in-Some-If0-clause-steps : goal.returns-in_ok-walk_test-in-Some-If0-clause-steps
+returns-in_ok-walk_test-in-Some-If0-clause-steps c = λ t.
+    let s = c.in-Some-If0 in
+    resumed t c.args.work.now c.pop.new.self (P.If0 s.test s.zero s.other s.depth s.ty) c.walk_test.new.work c.in_ok-walk_test-in-Some-If0.field-0 (pop_is _ _ _ _ s.ensures.items s.field-0-is) (c.in_ok-walk_test-in-Some-If0.ensures.steps t)
+
+pub returns-in_ok-walk_test-in-Some-If0-clause-inside : goal.returns-in_ok-walk_test-in-Some-If0-clause-inside
+returns-in_ok-walk_test-in-Some-If0-clause-inside c = λ m kept.
+    let s = c.in-Some-If0 in
+    let r = all_pop (PendingIn m) _ _ _ (pop_is _ _ _ _ s.ensures.items s.field-0-is) kept.1 in
+    c.in_ok-walk_test-in-Some-If0.ensures.inside m r.1.0 r.1.1 r.1.2 (kept.0, r.0)
+
+pub returns-in_ok-put-in-Some-End-clause-steps : goal.returns-in_ok-put-in-Some-End-clause-steps
+returns-in_ok-put-in-Some-End-clause-steps c = λ t.
+    let s = c.in-Some-End in
+    resumed t c.args.work.now c.pop.new.self P.End (record { out = c.put.new.out; frames = c.args.work.now.frames; pending = c.pop.new.self; names = c.args.work.now.names; types = c.args.work.now.types }) C.Ended (pop_is _ _ _ _ s.ensures.items s.field-0-is)
+    (comes_end t (record { out = c.args.work.now.out; frames = c.args.work.now.frames; pending = c.pop.new.self; names = c.args.work.now.names; types = c.args.work.now.types }) c.put.new.out c.in_ok-put-in-Some-End.ensures)
+
+pub returns-in_ok-put-in-Some-End-clause-inside : goal.returns-in_ok-put-in-Some-End-clause-inside
+returns-in_ok-put-in-Some-End-clause-inside c = λ m kept. (tt, kept.0, (all_pop (PendingIn m) _ _ _ (pop_is _ _ _ _ c.in-Some-End.ensures.items c.in-Some-End.field-0-is) kept.1).0)

@@ -1,0 +1,79 @@
+// What comes after a term is handed over.
+ghost use Rattle.std.specs.Prelude.{◌≡◌, ℕ, ◌++◌, ◌∷◌, [], IfOk, MatchOption};
+ghost use Rattle.f_terms.specs.Noted.{Noted};
+ghost use Rattle.f_terms.specs.Read.{tree};
+ghost use Rattle.k_laws.specs.Cps.{kty};
+ghost use Rattle.k_pass.specs.Machine.{Hands, IsRestless, tail_of, KeptIn, Inside};
+ghost use Rattle.k_pass.specs.declared.work.Frame.TheVariants as frames;
+
+use crate::access::{deeper, put, put_atom};
+use crate::types::rest_types;
+use crate::work::{Atom, Control, Frame, Pending, Work};
+use f_terms::FType;
+use idx_core::OutOfMemory;
+use k_terms::KNode;
+use std::alloc::Global;
+
+// The level of the name that a frame hands its atom to.
+fn tail_level(frame: &Frame) -> Option<u64>
+    ensures { result ≡ tail_of frame.now }
+{
+    match frame {
+        Frame::Tail { level } => Some(*level),
+        _ => None,
+    }
+}
+
+// The name that a term hands its atom to, where it is in tail place; it is handed over now.
+pub(crate) fn take_tail(stack: &mut Vec<Frame>) -> Option<u64>
+    ensures { (t : ℕ → Noted) → MatchOption result
+        ((stack.new.items ≡ stack.old.items) × IsRestless t stack.old.items)
+        (λ l. stack.old.items ≡ stack.new.items ++ frames.Tail l ∷ []) }
+{
+    let count = stack.len();
+    if count == 0 {
+        return None;
+    }
+    match tail_level(&stack[count - 1]) {
+        None => None,
+        Some(level) => {
+            stack.truncate(count - 1);
+            Some(level)
+        }
+    }
+}
+
+// What comes after a term is written as the last argument of a call.
+pub(crate) fn hand_over<'a>(
+    alloc: Global,
+    work: &mut Work<'a>,
+    ty: &FType,
+    depth: u64,
+) -> Result<Control, OutOfMemory>
+    ensures steps { IfOk result (λ r. (t : ℕ → Noted) → Hands t work.old (kty (tree ty.now)) depth work.new r) }
+    ensures inside { IfOk result (λ r. (m : ℕ) → KeptIn m work.old → Inside m work.new r) }
+{
+    match take_tail(&mut work.frames) {
+        Some(level) => {
+            put_atom(&mut work.out, Atom::Level(level))?;
+            Ok(Control::Ended)
+        }
+        None => {
+            let args = rest_types(alloc, ty)?;
+            let code = KNode::Code {
+                level: depth,
+                depth: work.types,
+                owes: 0,
+                args,
+            };
+            put(&mut work.out, code)?;
+            work.pending.push(Pending::End)?;
+            let level = deeper(depth)?;
+            let inside = deeper(level)?;
+            Ok(Control::Give {
+                atom: Atom::Level(level),
+                depth: inside,
+            })
+        }
+    }
+}

@@ -1,0 +1,148 @@
+// What comes where a term has ended.
+ghost use Rattle.std.specs.Prelude.{◌≡◌, ℕ, ◌<◌, ◌++◌, ◌∷◌, IfOk, OnOk, map};
+ghost use Rattle.f_terms.specs.Noted.{Noted};
+ghost use Rattle.k_terms.specs.Stream.{NName, NEnd};
+ghost use Rattle.k_terms.specs.Read.{knode, ktree};
+ghost use Rattle.k_pass.specs.Machine.{Nodes, ResumeIs, Follows, KeptIn, Inside, NextIn};
+ghost use Rattle.k_pass.specs.declared.work.Pending.TheVariants as pendings;
+
+use crate::access::{deeper, leave, put};
+use crate::types::{fix_type, gen_type, rest_type};
+use crate::work::{Atom, Control, Frame, Pending, Work};
+use f_terms::FType;
+use idx_core::OutOfMemory;
+use k_terms::{KNode, KType};
+use std::alloc::Global;
+
+// A code has ended and is named.
+fn put_name(out: &mut Vec<KNode>, depth: u64, ty: KType) -> Result<(), OutOfMemory>
+    ensures { OnOk result ((ns : Nodes) →
+        map knode out.new.items ++ ns ≡ map knode out.old.items ++ NEnd ∷ NName depth (ktree ty) ∷ ns) }
+{
+    put(out, KNode::End)?;
+    put(out, KNode::Name { level: depth, ty })?;
+    Ok(())
+}
+
+// What comes where a term has ended.
+pub(crate) fn resume<'a>(alloc: Global, work: &mut Work<'a>) -> Result<Option<Control>, OutOfMemory>
+    ensures steps { IfOk result (λ r. (t : ℕ → Noted) → ResumeIs t work.old work.new r) }
+    ensures inside { IfOk result (λ r. (m : ℕ) → KeptIn m work.old → NextIn m work.new r) }
+{
+    match work.pending.pop() {
+        None => Ok(None),
+        Some(Pending::Fix { depth, arg, res }) => {
+            Ok(Some(name_fix(alloc, work, depth, arg, res)?))
+        }
+        Some(Pending::Gen { depth, types, ty }) => {
+            Ok(Some(name_gen(alloc, work, depth, types, ty)?))
+        }
+        Some(Pending::Other { node, depth, level }) => {
+            Ok(Some(walk_other(work, node, depth, level)?))
+        }
+        Some(
+            Pending::If0 {
+                test,
+                zero,
+                other,
+                depth,
+                ty,
+            },
+        ) => Ok(Some(walk_test(alloc, work, test, zero, other, depth, ty)?)),
+        Some(Pending::End) => {
+            put(&mut work.out, KNode::End)?;
+            Ok(Some(Control::Ended))
+        }
+    }
+}
+
+// The body of a function has ended: the function is named, and its names go out of scope.
+fn name_fix<'a>(
+    alloc: Global,
+    work: &mut Work<'a>,
+    depth: u64,
+    arg: &'a FType,
+    res: &'a FType,
+) -> Result<Control, OutOfMemory>
+    ensures steps { IfOk result (λ r. (t : ℕ → Noted) →
+        Follows t work.old (pendings.Fix depth arg.entry res.entry) work.new r) }
+    ensures inside { IfOk result (λ r. (m : ℕ) → KeptIn m work.old → Inside m work.new r) }
+{
+    leave(&mut work.names);
+    leave(&mut work.names);
+    let ty = fix_type(alloc, arg, res)?;
+    put_name(&mut work.out, depth, ty)?;
+    let inside = deeper(depth)?;
+    Ok(Control::Give {
+        atom: Atom::Level(depth),
+        depth: inside,
+    })
+}
+
+// A suspended body has ended: it is named, and its type variable goes out of scope.
+fn name_gen<'a>(
+    alloc: Global,
+    work: &mut Work<'a>,
+    depth: u64,
+    types: u64,
+    ty: &'a FType,
+) -> Result<Control, OutOfMemory>
+    ensures steps { IfOk result (λ r. (t : ℕ → Noted) →
+        Follows t work.old (pendings.Gen depth types ty.entry) work.new r) }
+    ensures inside { IfOk result (λ r. (m : ℕ) → KeptIn m work.old → Inside m work.new r) }
+{
+    work.types = types;
+    let ty = gen_type(alloc, ty)?;
+    put_name(&mut work.out, depth, ty)?;
+    let inside = deeper(depth)?;
+    Ok(Control::Give {
+        atom: Atom::Level(depth),
+        depth: inside,
+    })
+}
+
+// One branch has ended: the other one comes.
+fn walk_other<'a>(
+    work: &mut Work<'a>,
+    node: u64,
+    depth: u64,
+    level: u64,
+) -> Result<Control, OutOfMemory>
+    ensures steps { IfOk result (λ r. (t : ℕ → Noted) →
+        Follows t work.old (pendings.Other node depth level) work.new r) }
+    ensures inside { IfOk result (λ r. (m : ℕ) → node < m → KeptIn m work.old → Inside m work.new r) }
+{
+    let mark = KNode::Else { depth: work.types };
+    put(&mut work.out, mark)?;
+    work.frames.push(Frame::Tail { level })?;
+    Ok(Control::Walk { node, depth })
+}
+
+// What comes after an `if0` has ended: it is named, and the test comes.
+fn walk_test<'a>(
+    alloc: Global,
+    work: &mut Work<'a>,
+    test: u64,
+    zero: u64,
+    other: u64,
+    depth: u64,
+    ty: &'a FType,
+) -> Result<Control, OutOfMemory>
+    ensures steps { IfOk result (λ r. (t : ℕ → Noted) →
+        Follows t work.old (pendings.If0 test zero other depth ty.entry) work.new r) }
+    ensures inside { IfOk result (λ r. (m : ℕ) → test < m → zero < m → other < m → KeptIn m work.old →
+        Inside m work.new r) }
+{
+    let ty = rest_type(alloc, ty)?;
+    put_name(&mut work.out, depth, ty)?;
+    work.frames.push(Frame::Test {
+        zero,
+        other,
+        level: depth,
+    })?;
+    let inside = deeper(depth)?;
+    Ok(Control::Walk {
+        node: test,
+        depth: inside,
+    })
+}

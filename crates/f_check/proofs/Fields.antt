@@ -38,6 +38,9 @@ pub field_past : (xs : List FType) (i : ℕ) → length xs < i → field_ty (tys
 field_past xs zero lt = absurd (omega (arith, lt))
 field_past xs (suc i) lt = at_none xs i (omega (arith, lt))
 
+-- what a field comes to, whatever its number
+pub ruleset field_facts = (field_there, field_zero, field_past)
+
 at_ok : (n : ℕ) (ts : Tys) (k : ℕ) (t : Ty) → ty_at ts k ≡ Some t → each_all BelowAt AnyDepth n ts → Below n t × (depth t ≤ depths ts) × (size t ≤ sizes ts)
 at_ok n NoTys k t e h = let x : None ≡ Some t = e in absurd (cc)
 at_ok n (MoreTys u us) zero t e h = let x : u ≡ t = some_is e in (subst (Below n) x h.0, omega (arith, ap depth x), omega (arith, ap size x))

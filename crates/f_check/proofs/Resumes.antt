@@ -2,7 +2,7 @@
 use Rattle.std.proofs.Common.{◌≡◌, ◌≢◌, ℕ, ◌+◌, ◌-◌, ◌*◌, ◌<◌, ◌≤◌, ◌∙◌, refl, ap, ap₂, sym, subst, arith, List, [], ◌∷◌, ◌++◌, map, length, take, Vec, Global, Bor, Result, Ok, Err, Some, None, inl, inr}
 use Rattle.std.proofs.lemmas.List.Elements.{All-head, All-tail, All-same}
 use Rattle.idx_core.specs.declared.span.Span.{Span}
-use Rattle.f_terms.specs.Ty.{Ty, Tys, TInt, TArrow, TAll, TTuple, tys, Below, ShiftFits, PutFits}
+use Rattle.f_terms.specs.Ty.{Ty, Tys, TInt, TArrow, TAll, TTuple, tys, Below, PutFits}
 use Rattle.f_terms.specs.Tm.{Tm, SFix, SApp, SGen, SInst, STuple, SProj, SArith, SIf0, plain, span_of, tms}
 use Rattle.f_terms.specs.Limits.{nodes, Within, Shallow}
 use Rattle.f_terms.specs.Scope.{InScope}
@@ -30,7 +30,7 @@ use Rattle.f_check.specs.declared.frame.Control.TheVariants.{Give}
 use Rattle.f_check.specs.declared.frame.State.{State}
 use Rattle.f_check.proofs.Forms as forms
 use Rattle.f_check.proofs.Fields as fields
-use Rattle.f_check.proofs.Types.{shift_fits, put_fits}
+use Rattle.f_check.proofs.Types.{put_fits}
 use Rattle.f_check.proofs.Rows.{part_known, part_nodes, one_more, all_more, tuple_ok, tuple_limit}
 use Rattle.f_check.proofs.Scoping.{bounds_pop}
 use Rattle.f_check.proofs.Steps.{moved, in_body, in_gen, fails}
@@ -70,13 +70,6 @@ module _ (f : FTerm) (st : State) (w : Task) (hold : Holds f st w) where
 -- the forms, where the type of a part is there
 module _ (f : FTerm) (st : State) (ty : FType) (q : Span) where
   -- a function
-  pub fix_ready : (s : Span) (a r : Bor FType) → Offered f st (C.Fix s a r) ty q → ShiftFits 0 0 (TArrow (tree a.now) (tree r.now))
-  fix_ready s a r h =
-      let w = h.1 in
-      let ok = subst (λ z. InScope (plain z) w.around (2 * length w.scope)) h.4.0 h.4.1.1 in
-      let room = h.4.1.2 in
-      shift_fits 0 w.around (TArrow (tree a.now) (tree r.now)) (omega (arith, room)) (ok.0, ok.1) h.4.4.0
-
   pub fix_refused : (s : Span) (a r : Bor FType) → Offered f st (C.Fix s a r) ty q → (st' : State) (z : Result Control FFault) (m : ℕ) → z ≡ Err (Refused E14 q) → tree ty ≢ tree r.now → Goes f st' z m
   fix_refused s a r h st' z m ez ne =
       let w = h.1 in

@@ -44,7 +44,7 @@ pub(crate) fn tuple_parts(t: FType) -> Option<Vec<FType>>
 }
 
 // A field, counted from 1.
-#[tactic(auto, using(crate::proofs::Fields::field_there, crate::proofs::Fields::field_zero, crate::proofs::Fields::field_past))]
+#[tactic(auto, using(crate::proofs::Fields::field_facts))]
 pub(crate) fn take_field(parts: Vec<FType>, i: u64) -> Option<FType>
     ensures { IsField (tys (map tree parts.items)) i result }
 {

@@ -10,7 +10,7 @@ use crate::count::limit;
 use crate::frame::{Control, Frame, State};
 use crate::parts::{all_body, arrow_parts, is_int, take_field, tuple_parts};
 use crate::put::put_within;
-use crate::scope::{Binder, shift_arrow};
+use crate::scope::{Binder, copy_arrow};
 use crate::walk::enter;
 use f_terms::{Code, FFault, FTerm, FType, depth, eq, size};
 use idx_core::{OutOfMemory, Span};
@@ -48,7 +48,7 @@ fn after_fix(
     if !eq(&ty, res) {
         return refused(Code::E14, found);
     }
-    let ty = shift_arrow(alloc, arg, res, 0)?;
+    let ty = copy_arrow(alloc, arg, res)?;
     Ok(Control::Give { ty, span })
 }
 

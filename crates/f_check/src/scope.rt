@@ -6,7 +6,7 @@ ghost use Rattle.f_terms.specs.Typing.{ty_at};
 ghost use Rattle.f_terms.specs.Read.{tree};
 ghost use Rattle.f_check.specs.Scopes.{bound, names, IsScope};
 
-use f_terms::FType;
+use f_terms::{FType, copy};
 use idx_core::{OutOfMemory, Scoped};
 use std::alloc::Global;
 
@@ -42,16 +42,20 @@ pub(crate) fn find(
 }
 
 // The type of a function, under so many more type names.
-pub(crate) fn shift_arrow(
-    alloc: Global,
-    arg: &FType,
-    res: &FType,
-    by: u64,
-) -> Result<FType, OutOfMemory>
+fn shift_arrow(alloc: Global, arg: &FType, res: &FType, by: u64) -> Result<FType, OutOfMemory>
     requires fits { ShiftFits by 0 (TArrow (tree arg.now) (tree res.now)) }
     ensures { IfOk result (λ r. tree r ≡ shift by 0 (TArrow (tree arg.now) (tree res.now))) }
 {
     let arg = arg.shift(alloc, by, 0)?;
     let res = res.shift(alloc, by, 0)?;
+    Ok(FType::Arrow(Box::new(alloc, arg)?, Box::new(alloc, res)?))
+}
+
+// The type of a function.
+pub(crate) fn copy_arrow(alloc: Global, arg: &FType, res: &FType) -> Result<FType, OutOfMemory>
+    ensures { IfOk result (λ r. tree r ≡ TArrow (tree arg.now) (tree res.now)) }
+{
+    let arg = copy(alloc, arg)?;
+    let res = copy(alloc, res)?;
     Ok(FType::Arrow(Box::new(alloc, arg)?, Box::new(alloc, res)?))
 }

@@ -1,19 +1,13 @@
-use Rattle.std.proofs.Common.{◌∙◌, true≢false, sym, refl}
-use Rattle.f_check.proofs.Resumes.{fix_ready, fix_refused, fix_given}
-use Rattle.f_terms.specs.Ty.{TArrow}
-use Rattle.f_terms.specs.TyLaws.{shift_none}
-use Rattle.f_terms.specs.Read.{tree}
+use Rattle.std.proofs.Common.{true≢false, sym, refl}
+use Rattle.f_check.proofs.Resumes.{fix_refused, fix_given}
 use Rattle.f_check.proofs.Follows.{gone}
 use Rattle.f_check.proofs.resume.after_fix.Goals as goal
 
 pub returns-then-not-eq-clause-goes : goal.returns-then-not-eq-clause-goes
 returns-then-not-eq-clause-goes c = fix_refused c.args.term.now c.args.state.now c.args.ty c.args.found c.args.span c.args.arg c.args.res c.requires (record c.args.state.now { scope = c.leave.new.scope }) _ _ c.refused.ensures (λ e. absurd (true≢false (sym (c.if-not-eq.ensures.1 e))))
 
-pub shift_arrow-requires : goal.shift_arrow-requires
-shift_arrow-requires c = record { fits = fix_ready c.args.term.now c.args.state.now c.args.ty c.args.found c.args.span c.args.arg c.args.res c.requires }
-
 pub returns-clause-goes : goal.returns-clause-goes
-returns-clause-goes c = fix_given c.args.term.now c.args.state.now c.args.ty c.args.found c.args.span c.args.arg c.args.res c.requires c.leave.new.scope c.in_ok-ty.ty c.leave.ensures (c.if-not-eq.ensures.0 refl) (c.in_ok-ty.ensures ∙ shift_none (TArrow (tree c.args.arg.now) (tree c.args.res.now)))
+returns-clause-goes c = fix_given c.args.term.now c.args.state.now c.args.ty c.args.found c.args.span c.args.arg c.args.res c.requires c.leave.new.scope c.in_ok-ty.ty c.leave.ensures (c.if-not-eq.ensures.0 refl) c.in_ok-ty.ensures
 
 pub returns-then-not-eq-clause-frames : goal.returns-then-not-eq-clause-frames
 returns-then-not-eq-clause-frames c = gone _ _ _ c.refused.ensures

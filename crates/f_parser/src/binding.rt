@@ -106,22 +106,12 @@ fn open_parts<'a>(tasks: &mut Vec<Task<'a>>, term: Part<'a>) -> Result<(), Unres
             push_two(tasks, span, FStep::App, child(term, *a), child(term, *b))
         }
         RawShape::Arith(op, a, b) => {
-            push_two(
-                tasks,
-                span,
-                FStep::Arith(*op),
-                child(term, *a),
-                child(term, *b),
-            )
+            let step = FStep::Arith(*op);
+            push_two(tasks, span, step, child(term, *a), child(term, *b))
         }
         RawShape::Proj(field, a) => {
-            push_one(
-                tasks,
-                span,
-                FStep::Proj(*field),
-                Leaves::Nothing,
-                child(term, *a),
-            )
+            let step = FStep::Proj(*field);
+            push_one(tasks, span, step, Leaves::Nothing, child(term, *a))
         }
         RawShape::Inst(a, ty) => {
             push(tasks, Task::Inst { span, ty })?;

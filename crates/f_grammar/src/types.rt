@@ -130,7 +130,7 @@ pub fn part_type(
     }
 }
 
-// T , .. , T and the closing bracket, or this alone
+/// T , .. , T and the closing bracket, or the bracket alone.
 #[cycle(types)]
 pub fn types(alloc: Global, tokens: &[Token], at: usize, depth: u64) -> Result<FoundTypes, Stopped>
     requires depth { depth ≤ 200 }

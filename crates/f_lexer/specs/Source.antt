@@ -13,8 +13,9 @@ use Rattle.f_lexer.specs.declared.token.Token.{Token}
 -- the reserved words
 abbrev pub words : List (List ℕ × Kind)
 words =
-    (codes "fix", k.Fix) ∷ ((codes "gen", k.Gen) ∷ ((codes "all", k.All) ∷ ((codes "int", k.Int) ∷ ((codes "if0", k.If0) ∷ ((codes "let", k.Let) ∷
-    ((codes "in", k.In) ∷ ((codes "pack", k.Pack) ∷ ((codes "open", k.Open) ∷ ((codes "as", k.As) ∷ ((codes "some", k.Some) ∷ ((codes "ref", k.Ref) ∷ [])))))))))))
+    (codes "fix", k.Fix) ∷ ((codes "gen", k.Gen) ∷ ((codes "all", k.All) ∷ ((codes "int", k.Int) ∷
+    ((codes "if0", k.If0) ∷ ((codes "let", k.Let) ∷ ((codes "in", k.In) ∷ ((codes "pack", k.Pack) ∷
+    ((codes "open", k.Open) ∷ ((codes "as", k.As) ∷ ((codes "some", k.Some) ∷ ((codes "ref", k.Ref) ∷ [])))))))))))
 
 -- a word is the reserved word that it is in the table, else a name
 abbrev pub word_in : List (List ℕ × Kind) → List ℕ → Kind

@@ -116,7 +116,8 @@ TermOrFault = (text : List ℕ) → ((a : Tm) × SourceWithin text a) ⊎ ((c : 
 
 -- the uses of names in the tree of a text's tokens, from left to right, stand in the order of the text
 abbrev pub UsesInTextOrder : Type 0
-UsesInTextOrder = (text : List ℕ) (w : List Token) (p : Piece) → IsCut text w → E w p → Ascends 0 (uses text [] [] p.tree)
+UsesInTextOrder = (text : List ℕ) (w : List Token) (p : Piece) → IsCut text w → E w p →
+    Ascends 0 (uses text [] [] p.tree)
 
 -- the tree of the tokens has as many nodes as the term
 abbrev pub SameNodes : Type 0

@@ -23,7 +23,9 @@ abbrev mutual
   pub text_at : ℕ → Ty → List ℕ
   text_at d TInt = codes "int"
   text_at d (TVar i) = name_text (d - 1 - i)
-  text_at d (TArrow a b) = (if is_grouped a then codes "(" else []) ++ text_at d a ++ (if is_grouped a then codes ")" else []) ++ codes " -> " ++ text_at d b
+  text_at d (TArrow a b) =
+      (if is_grouped a then codes "(" else []) ++ text_at d a ++ (if is_grouped a then codes ")" else [])
+      ++ codes " -> " ++ text_at d b
   text_at d (TAll t) = codes "all " ++ name_text d ++ codes ". " ++ text_at (d + 1) t
   text_at d (TTuple ts) = codes "<" ++ texts_at d 0 ts ++ codes ">"
 

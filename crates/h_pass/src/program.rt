@@ -37,7 +37,8 @@ pub fn hoist(alloc: Global, program: &CProgram) -> Result<HProgram, OutOfMemory>
     ensures meaning { IfOk result (λ r. (n : ℕ) → hrun n (blocks_in r) (main_in r) ≡ crun n (term_of program.now)) }
     ensures reach { IfOk result (λ r. (N R B : ℕ) →
         CGoodP (CWithin N R B) 0 [] (term_of program.now) → HProgramP (CWithin N R B) (blocks_in r) (main_in r)) }
-    ensures bound { IfOk result (λ r. (N R : ℕ) → CFits N R (term_of program.now) → HFits N R (blocks_in r) (main_in r)) }
+    ensures bound { IfOk result (λ r. (N R : ℕ) →
+        CFits N R (term_of program.now) → HFits N R (blocks_in r) (main_in r)) }
 {
     bound_is_small_law();
     scoped_is_back_law();

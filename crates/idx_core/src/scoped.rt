@@ -54,7 +54,8 @@ pub trait Scoped {
     ghost shift_zero: { (c : ℕ) (t : Tree) → over (shifted var 0) c t ≡ t } = { shift_zero_law is_over };
 
     ghost shift_add: { (m n c : ℕ) (t : Tree) →
-        over (shifted var n) c (over (shifted var m) c t) ≡ over (shifted var (m + n)) c t } = { shift_add_law is_part is_over };
+        over (shifted var n) c (over (shifted var m) c t)
+        ≡ over (shifted var (m + n)) c t } = { shift_add_law is_part is_over };
 
     ghost put_shift: { (c : ℕ) (s : PartTree) (t : Tree) →
         over (putted var over_part c s) c (over (shifted var 1) c t) ≡ t } = { put_shift_law is_part is_over };

@@ -14,8 +14,8 @@ use Rattle.t_rules.specs.Rules.{Accepted}
 use Rattle.gen_law.specs.Gen.{generated}
 use Rattle.pipeline.specs.Meaning.{SameMeaning, RunsSeldom, HaltsSoon}
 
--- the program is a translation of the term by the rules of the passes in turn: conversion to continuation-passing style,
--- closure conversion, hoisting, allocation, code generation
+-- the program is a translation of the term by the rules of the passes in turn: conversion to continuation-passing
+-- style, closure conversion, hoisting, allocation, code generation
 pub record IsTranslation (e : Term) (P : TProg) : Type 0 where
   pub converted : KTm
   pub closed : CTm

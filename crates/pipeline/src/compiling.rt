@@ -23,7 +23,8 @@ use t_gen::generate;
 /// evaluates to it, never in fewer instructions than the source takes turns; no place of it is executed more often than
 /// once more than these turns. Its text keeps the limit on open constructs. Answers want of memory alone.
 pub fn compile(alloc: Global, program: &Program) -> Result<Checked, OutOfMemory>
-    ensures compiled { IfOk result (λ p. ∥ IsCompilation (term_of (program_term program.now)) (program_tree (checked_program p)) ∥₁) }
+    ensures compiled { IfOk result (λ p.
+        ∥ IsCompilation (term_of (program_term program.now)) (program_tree (checked_program p)) ∥₁) }
     ensures shallow { IfOk result (λ p. nesting (program_tree (checked_program p)) ≤ most_open) }
 {
     t_rules::erased_code_stands_at_its_place();

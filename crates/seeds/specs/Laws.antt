@@ -11,9 +11,11 @@ use Rattle.f_terms.specs.Eval.{Evaluates}
 use Rattle.f_parser.specs.Text.{SourceWithin, FirstFault}
 use Rattle.seeds.specs.Source.{source}
 
--- the source of every number is the text of a program within the limits, which evaluates to an integer within 1280 turns
+-- the source of every number is the text of a program within the limits, which evaluates to an integer within 1280
+-- turns
 abbrev pub SourcesArePrograms : Type 0
-SourcesArePrograms = (n : ℕ) → (term : Tm) × SourceWithin (source n) term × IsAccepted (plain term) TInt × ((i : ℤ) × Evaluates (plain term) 1280 i)
+SourcesArePrograms = (n : ℕ) → (term : Tm) × SourceWithin (source n) term × IsAccepted (plain term) TInt
+    × ((i : ℤ) × Evaluates (plain term) 1280 i)
 
 -- so it has no first fault of reading, and the term for which it stands none of checking
 abbrev pub SourcesHaveNoFault : Type 0

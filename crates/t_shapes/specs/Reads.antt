@@ -249,8 +249,8 @@ IsWord ts d i r = IsLine LW (λ f. f.next) (λ f. OfWord (raw_value f.value, f.p
 
 abbrev pub IsWordPacked : List Token → ℕ → ℕ → Result FoundPacked Stopped → Type 0
 IsWordPacked ts d i r =
-    IsLine LWordPacked (λ f. f.next) (λ f. OfPacked (record { hidden = raw f.hidden; inner = raw_value f.inner })) ts d i
-    r
+    IsLine LWordPacked (λ f. f.next)
+    (λ f. OfPacked (record { hidden = raw f.hidden; inner = raw_value f.inner })) ts d i r
 
 -- a field of a data tuple; a data tuple, and one after its opening bracket
 abbrev pub IsDatum : List Token → ℕ → Result FoundDatum Stopped → Type 0

@@ -54,7 +54,8 @@ fn put_body(
     requires deep { at ≤ start }
     requires start { IsWord start }
     requires fits { each_body (PutFitsAt each at (tree what.now)) IsWord start (body entries.now) }
-    ensures made { IfOk result (λ r. body r.body.items ≡ over_body (putted VarTy over at (tree what.now)) start (body entries.now)) }
+    ensures made { IfOk result (λ r.
+        body r.body.items ≡ over_body (putted VarTy over at (tree what.now)) start (body entries.now)) }
     ensures depth { IfOk result (λ r. r.depth ≡ body_depth (body entries.now) start) }
     ensures below { IfOk result (λ r. at ≤ r.depth) }
 {

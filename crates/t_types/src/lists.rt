@@ -81,7 +81,8 @@ pub fn put_types(
 ) -> Result<Vec<TType>, OutOfMemory>
     requires deep { at ≤ depth }
     requires fits { each_types (PutFitsAt each at (tree what.now)) IsWord depth (types ts.now) }
-    ensures { IfOk result (λ r. types r.items ≡ over_types (putted VarTy over at (tree what.now)) depth (types ts.now)) }
+    ensures { IfOk result (λ r.
+        types r.items ≡ over_types (putted VarTy over at (tree what.now)) depth (types ts.now)) }
 {
     let mut made = Vec::new(alloc);
     for t in ts {

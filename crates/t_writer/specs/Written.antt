@@ -1,5 +1,5 @@
--- How a program is written. Inside d type names the next one is `T` and d. A label is `L` and the number of its block, or
--- `D` and the number of its data tuple.
+-- How a program is written. Inside d type names the next one is `T` and d. A label is `L` and the number of its block,
+-- or `D` and the number of its data tuple.
 use Rattle.std.specs.Prelude.{◌≡◌, ℕ, zero, suc, ◌+◌, ◌-◌, List, [], ◌∷◌, ◌++◌, pos, Bool, true, false, codes}
 use Rattle.idx_core.specs.declared.arith.Op.{Op}
 use Rattle.idx_core.specs.declared.arith.Op.TheVariants.{Add, Sub, Mul}

@@ -12,8 +12,8 @@ use std::alloc::Global;
 use t_terms::{TProgram, keeps_by_nesting};
 
 /// A text in the first version of the language that stands for a program without data, places aside. It begins with
-/// `tal 1` and a line end. Where the program's nesting keeps the limit on open constructs, the text does, and so it reads
-/// as the program.
+/// `tal 1` and a line end. Where the program's nesting keeps the limit on open constructs, the text does, and so it
+/// reads as the program.
 pub fn write(alloc: Global, program: &TProgram) -> Result<Vec<u8>, OutOfMemory>
     requires no_data { program.now.heap.items ≡ [] }
     ensures stands { IfOk result (λ text. StandsFor text.items (program_of program.now)) }

@@ -63,6 +63,7 @@ pub(crate) fn field_number(tokens: &[Token], at: usize) -> Result<u64, Stopped>
 {
     match expect(tokens, at, Wanted::Number)?.kind {
         Kind::Plain(value) => Ok(value.unsigned_abs()),
+        // does not come: what was expected is a plain number, which is never negative
         _ => Err(Stopped::Unexpected(at)),
     }
 }

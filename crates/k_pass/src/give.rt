@@ -1,4 +1,4 @@
-// What is done with an atom.
+// An atom is there: what is done with it, by the innermost frame.
 ghost use Rattle.std.specs.Prelude.{ℕ, ◌<◌, ◌++◌, ◌∷◌, [], IfOk, map};
 ghost use Rattle.std.specs.List.{All};
 ghost use Rattle.f_terms.specs.Noted.{Noted};

@@ -1,4 +1,4 @@
-// What comes after a term is handed over.
+// Tail place, and what comes after a term that is in none.
 ghost use Rattle.std.specs.Prelude.{◌≡◌, ℕ, ◌++◌, ◌∷◌, [], IfOk, MatchOption};
 ghost use Rattle.f_terms.specs.Noted.{Noted};
 ghost use Rattle.f_terms.specs.Read.{tree};

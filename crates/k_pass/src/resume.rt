@@ -1,4 +1,4 @@
-// What comes where a term has ended.
+// A term has ended: what comes then.
 ghost use Rattle.std.specs.Prelude.{◌≡◌, ℕ, ◌<◌, ◌++◌, ◌∷◌, IfOk, OnOk, map};
 ghost use Rattle.f_terms.specs.Noted.{Noted};
 ghost use Rattle.k_terms.specs.Stream.{NName, NEnd};

@@ -1,4 +1,4 @@
-// The first step of a term.
+// A term is to be converted: its first step.
 ghost use Rattle.std.specs.Prelude.{◌≡◌, ℕ, ◌<◌, ◌≤◌, ◌∷◌, ◌++◌, IfOk, OnOk, map, length};
 ghost use Rattle.std.specs.List.{All};
 ghost use Rattle.f_terms.specs.Read.{tree};

@@ -2,7 +2,6 @@ mod Blocks
 mod Bounded
 mod CTrees
 mod Emitting
-mod Example
 mod Places
 mod Runs
 mod Stepping

@@ -1,3 +1,2 @@
 pub mod Emits
-pub mod Example
 pub mod Scope

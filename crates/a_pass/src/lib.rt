@@ -11,8 +11,6 @@ mod run;
 mod scope;
 mod state;
 mod term;
-#[cfg(test)]
-mod tests;
 mod types;
 
 pub use program::allocate;

@@ -42,7 +42,7 @@ fn block(
     })
 }
 
-pub(crate) fn all_blocks(
+fn all_blocks(
     alloc: Global,
     blocks: &[HBlock],
     tuples: &mut Vec<AData>,

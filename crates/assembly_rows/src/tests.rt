@@ -2,6 +2,7 @@
 mod checking;
 mod data;
 mod grammar;
+mod interning;
 mod lexing;
 mod programs;
 mod reading;

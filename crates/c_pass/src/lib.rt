@@ -7,8 +7,6 @@ mod info;
 mod know;
 mod program;
 mod state;
-#[cfg(test)]
-mod tests;
 mod translate;
 
 pub use program::close;

@@ -73,7 +73,7 @@ fn known(alloc: Global, nodes: &[KNode]) -> Result<(VecDeque<Info>, VecDeque<Not
 }
 
 // The nodes of the converted term.
-pub(crate) fn converted(alloc: Global, nodes: &[KNode]) -> Result<Vec<CNode>, OutOfMemory>
+fn converted(alloc: Global, nodes: &[KNode]) -> Result<Vec<CNode>, OutOfMemory>
     ensures { IfOk result (λ r. written r.items [] ≡ walks (map knode nodes.now)) }
 {
     let (infos, notes) = known(alloc, nodes)?;

@@ -60,6 +60,13 @@ impl<R> DiskFiles<R> {
             writes: 0,
         }
     }
+
+    /// How many reads, and how many writes, have failed.
+    pub fn faults(&self) -> (u64, u64)
+        ensures { result ≡ (self.now.reads, self.now.writes) }
+    {
+        (self.reads, self.writes)
+    }
 }
 
 impl<R: HostFiles> Files for DiskFiles<R> {
@@ -85,44 +92,5 @@ impl<R: HostFiles> Files for DiskFiles<R> {
                 Err(Stop::Failed)
             }
         }
-    }
-}
-
-#[cfg(test)]
-mod tests {
-    use super::*;
-    use std::test::Fail;
-
-    fn is_content(read: &Result<Vec<u8>, Stop>, content: &[u8]) -> bool {
-        match read {
-            Ok(bytes) => bytes.as_slice() == content,
-            Err(_) => false,
-        }
-    }
-
-    #[test]
-    fn a_written_file_is_read_back_whole(rt: HostRuntime) -> Result<(), Fail> {
-        let alloc = rt.alloc();
-        let name = "io_core_disk_files_test";
-        let content = vec![in alloc; 7u8; 10000]?;
-        assert_eq!(rt; content.len(), 10000);
-        let mut files = DiskFiles::new(&rt);
-        assert_eq!(rt; files.write_all(alloc, name, &content), Ok(()));
-        assert_eq!(rt; files.write_all(alloc, name, &content[1..]), Ok(()));
-        let read = files.read_all(alloc, name);
-        fs::remove_file(&rt, name)?;
-        assert!(rt; is_content(&read, &content[1..]));
-        assert_eq!(rt; (files.reads, files.writes), (0, 0));
-        assert_eq!(rt;
-            files.read_all(alloc, name).err(),
-            Some(Stop::Failed),
-            "an absent name"
-        );
-        assert_eq!(rt;
-            files.write_all(alloc, "/dev/full", b"7"),
-            Err(Stop::Failed)
-        );
-        assert_eq!(rt; (files.reads, files.writes), (1, 1));
-        Ok(())
     }
 }

@@ -7,8 +7,6 @@ mod mem_files;
 mod mem_sink;
 mod out_sink;
 mod outside;
-#[cfg(test)]
-mod tests;
 
 pub use disk_files::DiskFiles;
 pub use mem_files::MemFiles;

@@ -31,6 +31,13 @@ impl<W> OutSink<W> {
     {
         OutSink { writer, faults: 0 }
     }
+
+    /// How many puts have failed.
+    pub fn faults(&self) -> u64
+        ensures { result ≡ self.now.faults }
+    {
+        self.faults
+    }
 }
 
 impl<W: Write> Sink for OutSink<W> {
@@ -44,30 +51,5 @@ impl<W: Write> Sink for OutSink<W> {
                 Err(Stop::Failed)
             }
         }
-    }
-}
-
-#[cfg(test)]
-mod tests {
-    use super::*;
-    use std::fs;
-    use std::fs::File;
-    use std::test::Fail;
-
-    #[test]
-    fn a_stream_takes_each_piece_or_counts_a_fault(rt: HostRuntime) -> Result<(), Fail> {
-        let alloc = rt.alloc();
-        let name = "io_core_out_sink_test";
-        let mut sink = OutSink::new(File::create(&rt, name)?);
-        assert_eq!(rt; sink.put(alloc, b"int 4\n"), Ok(()));
-        assert_eq!(rt; sink.put(alloc, b"int 5\n"), Ok(()));
-        assert_eq!(rt; sink.faults, 0);
-        let written = fs::read(&rt, name)?;
-        fs::remove_file(&rt, name)?;
-        assert!(rt; written.as_slice() == b"int 4\nint 5\n".as_slice());
-        let mut full = OutSink::new(File::create(&rt, "/dev/full")?);
-        assert_eq!(rt; full.put(alloc, b"int 4\n"), Err(Stop::Failed));
-        assert_eq!(rt; full.faults, 1);
-        Ok(())
     }
 }

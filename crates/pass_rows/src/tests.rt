@@ -1,4 +1,6 @@
 // Source texts and large terms through the passes.
+mod cells;
+mod closing;
 mod forms;
 mod generating;
 mod hoisting;

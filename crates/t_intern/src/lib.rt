@@ -9,8 +9,6 @@ mod numbering;
 mod putting;
 mod shape;
 mod shifting;
-#[cfg(test)]
-mod tests;
 mod trees;
 mod types;
 

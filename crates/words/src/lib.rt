@@ -5,8 +5,6 @@ mod command;
 mod description;
 mod laws;
 mod reading;
-#[cfg(test)]
-mod tests;
 
 pub use command::{Command, NoCommand};
 pub use laws::command_where_taken;

@@ -1,11 +1,10 @@
 // One program in each of its six forms. docs/PASSES.md begins with these texts.
 use super::passes::{allocated, closed, hoisted, program};
-use super::shown::{a_text, c_text, h_text, k_text};
+use super::shown::{a_text, c_text, h_text, is_text, k_text};
 use f_check::Program;
 use k_pass::cps;
 use pipeline::compile;
 use std::alloc::Global;
-use std::process::Abort;
 use std::test::Fail;
 use t_writer::write2;
 
@@ -304,10 +303,6 @@ fn a_form(alloc: Global, program: &Program) -> Result<String, Fail> {
 fn assembly(alloc: Global, program: &Program) -> Result<Vec<u8>, Fail> {
     let compiled = compile(alloc, program)?;
     Ok(write2(alloc, compiled.program())?)
-}
-
-fn is_text(rt: &impl Abort, made: &str, wanted: &str) {
-    assert_eq!(rt; made, wanted);
 }
 
 #[test]

@@ -1,4 +1,4 @@
-// What no clause says: that a program is hoisted where there is memory, and what its hoisted form looks like.
+// What no clause says: that a program is hoisted and allocated where there is memory, and what its forms look like.
 ghost use Rattle.std.specs.Prelude.{◌≡◌, pos, [], ◌∷◌, ◌++◌, List, IfOk, OnOk};
 ghost use Rattle.c_terms.specs.Read.{cnode, ctree, ctys};
 ghost use Rattle.c_terms.specs.Stream as S;
@@ -6,11 +6,58 @@ ghost use Rattle.c_terms.specs.C.{TCInt, TCTuple, TCCode, TCSome, NoCTys, MoreCT
 ghost use Rattle.c_terms.specs.Stream.{clin_v, clin_t};
 ghost use Rattle.h_pass.specs.Example.{Adds, hidden_pair, done, count_down, call_it};
 
+use super::shown::{a_text, h_text, is_text};
+use a_pass::allocate;
 use c_terms::{CNode, CProgram, CType};
 use h_pass::hoist;
-use h_terms::{HForm, HNode, HPart};
 use idx_core::{Op, OutOfMemory};
 use std::alloc::Global;
+
+const HOISTED: &str = "\
+L0: code[](x0: int).
+  if0 x0 then
+    L1[](42)
+  else
+    let x1 = x0 - 1
+    L0[](x1)
+
+L1: code[](x0: int).
+  halt x0
+
+main:
+  let x0 = ref 3
+  let x1 = !x0
+  let x2 = pack [int, <L0, x1>] as closure[]()
+  let [a, x3] = unpack x2
+  let x4 = #1 x3
+  let x5 = #2 x3
+  x4[](x5)
+";
+
+const ALLOCATED: &str = "\
+L0: code[](x0: int).
+  if0 x0 then
+    L1[](42)
+  else
+    let x1 = x0 - 1
+    L0[](x1)
+
+L1: code[](x0: int).
+  halt x0
+
+main:
+  let x0 = malloc[int]
+  let x1 = x0[1] <- 3
+  let x2 = #1 x1
+  let x3 = malloc[code[](int), int]
+  let x4 = x3[1] <- L0
+  let x5 = x4[2] <- x2
+  let x6 = pack [int, x5] as closure[]()
+  let [a, x7] = unpack x6
+  let x8 = #1 x7
+  let x9 = #2 x7
+  x8[](x9)
+";
 
 fn add(nodes: &mut Vec<CNode>, node: CNode) -> Result<(), OutOfMemory>
     ensures { OnOk result (Adds nodes.old.items nodes.new.items (cnode node ∷ [])) }
@@ -168,63 +215,12 @@ fn program(alloc: Global) -> Result<CProgram, OutOfMemory> {
     Ok(CProgram::new(nodes))
 }
 
-// A part of a value, after what it is made of.
-fn write_part(text: &mut String, part: &HPart) -> Result<(), OutOfMemory> {
-    match part {
-        HPart::Var(i) => write!(text, " x{i}")?,
-        HPart::Int(n) => write!(text, " {n}")?,
-        HPart::Label(l) => write!(text, " L{l}")?,
-        HPart::Tuple(n) => write!(text, " <{n}>")?,
-        HPart::Apply(_) => write!(text, " []")?,
-        HPart::Pack {
-            hidden: _,
-            shape: _,
-        } => write!(text, " pack")?,
-    }
-    Ok(())
-}
-
-fn form_word(form: &HForm) -> &str {
-    match form {
-        HForm::Name => "name",
-        HForm::Proj(1) => "first",
-        HForm::Proj(_) => "second",
-        HForm::Arith(_) => "sub",
-        HForm::Unpack => "unpack",
-        HForm::Cell => "cell",
-        HForm::Get => "get",
-        HForm::Set => "set",
-        HForm::Call(_) => "call",
-        HForm::If0 => "if0",
-        HForm::Halt => "halt",
-    }
-}
-
-fn write_term(text: &mut String, nodes: &[HNode]) -> Result<(), OutOfMemory> {
-    for node in nodes {
-        text.push_str(form_word(&node.form))?;
-        for part in &node.values {
-            write_part(text, part)?;
-        }
-        text.push_str("; ")?;
-    }
-    Ok(())
-}
-
 #[test]
-fn a_program_is_hoisted(rt: HostRuntime) -> Result<(), OutOfMemory> {
+fn a_program_is_hoisted_and_allocated(rt: HostRuntime) -> Result<(), OutOfMemory> {
     let alloc = rt.alloc();
     let hoisted = hoist(alloc, &program(alloc)?)?;
-    let mut text = String::new(alloc);
-    write_term(&mut text, hoisted.main())?;
-    for block in hoisted.blocks() {
-        text.push_str("| ")?;
-        write_term(&mut text, &block.body)?;
-    }
-    assert_eq!(rt;
-        text.as_str(),
-        "cell 3; get x0; name L0 x0 <2> pack; unpack x0; first x0; second x1; call x1 x0; \
-         | if0 x0; call L1 42; sub x0 1; call L0 x0; | halt x0; "
-    );
+    is_text(&rt, &h_text(alloc, &hoisted)?, HOISTED);
+    let allocated = allocate(alloc, &hoisted)?;
+    is_text(&rt, &a_text(alloc, &allocated)?, ALLOCATED);
     Ok(())
 }

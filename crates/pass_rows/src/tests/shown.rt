@@ -6,6 +6,11 @@ use c_terms::{CNode, CProgram};
 use h_terms::{HBlock, HForm, HNode, HPart, HProgram};
 use k_terms::{KNode, KProgram};
 use std::alloc::{AllocError, Global};
+use std::process::Abort;
+
+pub fn is_text(rt: &impl Abort, made: &str, wanted: &str) {
+    assert_eq!(rt; made, wanted);
+}
 
 fn k_node(alloc: Global, page: &mut Page, node: &KNode) -> Result<(), AllocError> {
     match node {

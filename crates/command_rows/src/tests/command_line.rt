@@ -1,7 +1,8 @@
-use crate::{Command, NoCommand, read};
+// The words of the command line: the values of each command, and the texts of usage and help.
 use std::alloc::{AllocError, Global};
 use std::process::Abort;
 use std::test::Fail;
+use words::{Command, NoCommand, read};
 
 // The words of a command line.
 fn words(alloc: Global, line: &str) -> Result<Vec<String>, AllocError> {

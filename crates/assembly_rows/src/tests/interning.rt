@@ -3,9 +3,9 @@ ghost use Rattle.std.specs.Prelude.{ℕ, IfOk};
 ghost use Rattle.t_types.specs.Read.{tree};
 ghost use Rattle.t_types.specs.Tree.{Ty, PutFits, ShiftFits};
 
-use crate::Types;
 use idx_core::OutOfMemory;
 use std::alloc::Global;
+use t_intern::Types;
 use t_types::{RegFile, TType, eq};
 
 // n fields of type `int`, none initialised

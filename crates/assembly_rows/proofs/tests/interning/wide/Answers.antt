@@ -1,12 +1,12 @@
-use Rattle.std.proofs.Common.{◌≡◌, ℕ, List, Bool, false, [], ◌∷◌, ◌++◌, subst, sym}
+use Rattle.std.proofs.Common.{List, Bool, false, subst, sym}
 use Rattle.idx_core.specs.Over.{ShiftFitsAt, IsWord}
 use Rattle.t_types.specs.declared.types.TType.{TType}
 use Rattle.t_types.specs.declared.types.TType.TheVariants.{Int}
 use Rattle.t_types.specs.Read.{tree, fields}
 use Rattle.t_types.specs.Tree.{ShiftFits, TupleTy}
 use Rattle.t_types.proofs.Trees.{tree_Tuple}
-use Rattle.t_intern.proofs.Wide.{each_snoc}
-use Rattle.t_intern.proofs.tests.wide.Goals as goal
+use Rattle.assembly_rows.proofs.Wide.{each_snoc}
+use Rattle.assembly_rows.proofs.tests.interning.wide.Goals as goal
 
 pub loop-i-preserved : goal.loop-i-preserved
 loop-i-preserved c = λ k.

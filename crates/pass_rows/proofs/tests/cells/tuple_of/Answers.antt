@@ -1,0 +1,5 @@
+use Rattle.k_terms.proofs.Trees.{tree_Tuple}
+use Rattle.pass_rows.proofs.tests.cells.tuple_of.Goals as goal
+
+pub returns : goal.returns
+returns c = tree_Tuple c.args.fields

@@ -18,6 +18,7 @@ use Rattle.talc_core.specs.Compiled.{IsCompiled}
 use Rattle.talc_core.specs.Upgraded.{IsUpgraded}
 use Rattle.talc_core.specs.Shown.{ShowsRun}
 use Rattle.talc_core.specs.Composition.{CompiledIsTaken, CompiledMeansTheSame, CompiledShowsTheSame, UpgradedIsTaken, UpgradedIsTheSame, UpgradedRunsTheSame}
+use Rattle.talc_core.specs.TextLaws.{TextLaws}
 use Rattle.talc_core.proofs.FaultLemmas.{same_term, same_program}
 
 pub compiled_is_taken : CompiledIsTaken
@@ -26,25 +27,25 @@ compiled_is_taken source target made =
     ∥∥₁_map made.compiled (λ c. (read.0, (record { stands = read.1; within = made.keeps }, subst Accepted (sym read.2) c.accepted)))
 
 -- the program that is read is the one that stands in the record
-pub same_assembly : (source target : List ℕ) (made : IsCompiled source target) (program : SProg) → IsAcceptedText target program → plain_program program ≡ made.program
-same_assembly source target made program accepted =
+pub same_assembly : TextLaws → (source target : List ℕ) (made : IsCompiled source target) (program : SProg) → IsAcceptedText target program → plain_program program ≡ made.program
+same_assembly laws source target made program accepted =
     let read = made.text in
-    let same : read.0 ≡ program = same_program target read.0 program (record { stands = read.1; within = made.keeps }) accepted.0 in
+    let same : read.0 ≡ program = same_program laws target read.0 program (record { stands = read.1; within = made.keeps }) accepted.0 in
     subst (λ p. plain_program p ≡ made.program) same read.2
 
-pub compiled_means_the_same : CompiledMeansTheSame
-compiled_means_the_same source target made term checked program accepted =
-    let terms : made.term ≡ term = same_term source made.term term made.checked.0 checked.0 in
-    let programs : made.program ≡ plain_program program = sym (same_assembly source target made program accepted) in
+pub compiled_means_the_same : TextLaws → CompiledMeansTheSame
+compiled_means_the_same laws source target made term checked program accepted =
+    let terms : made.term ≡ term = same_term laws source made.term term made.checked.0 checked.0 in
+    let programs : made.program ≡ plain_program program = sym (same_assembly laws source target made program accepted) in
     ∥∥₁_map made.compiled (λ c. subst (λ P. SameMeaning (plain term) P) programs (subst (λ t. SameMeaning (plain t) made.program) terms c.meaning))
 
 -- where the meaning is the same, the integers are
 one_integer : OneAnswer → (e : Term) (P : TProg) (n m : ℕ) (i j : ℤ) → SameMeaning e P → Evaluates e n i → HaltsWithin P m j → i ≡ j
 one_integer one e P n m i j same evaluates halts = one e n m i j evaluates (same.back m j halts)
 
-pub compiled_shows_the_same : OneAnswer → CompiledShowsTheSame
-compiled_shows_the_same one source target evaluated ran made turns fuel value halted =
-    ∥∥₁_elim (compiled_means_the_same source target made value.term value.checked halted.program halted.accepted) (ℤ_set value.value halted.value) (λ same.
+pub compiled_shows_the_same : TextLaws → OneAnswer → CompiledShowsTheSame
+compiled_shows_the_same laws one source target evaluated ran made turns fuel value halted =
+    ∥∥₁_elim (compiled_means_the_same laws source target made value.term value.checked halted.program halted.accepted) (ℤ_set value.value halted.value) (λ same.
     one_integer one (plain value.term) (plain_program halted.program) turns fuel value.value halted.value same (value.left, value.evaluates) halted.halts)
 
 -- the program that is read of what `upgrade` wrote, accepted
@@ -54,10 +55,10 @@ upgraded_accepted source target made = (made.reads.1, subst Accepted (sym made.r
 pub upgraded_is_taken : UpgradedIsTaken
 upgraded_is_taken source target made = (made.reads.0, upgraded_accepted source target made)
 
-pub upgraded_is_the_same : UpgradedIsTheSame
-upgraded_is_the_same source target made old new accepted read =
-    let olds : old ≡ made.program = same_program source old made.program accepted.0 made.accepted.0 in
-    let news : made.reads.0 ≡ new = same_program target made.reads.0 new made.reads.1 read.0 in
+pub upgraded_is_the_same : TextLaws → UpgradedIsTheSame
+upgraded_is_the_same laws source target made old new accepted read =
+    let olds : old ≡ made.program = same_program laws source old made.program accepted.0 made.accepted.0 in
+    let news : made.reads.0 ≡ new = same_program laws target made.reads.0 new made.reads.1 read.0 in
     ap plain_program olds ∙ (sym made.reads.2 ∙ ap plain_program news)
 
 -- what is shown of one text is shown of another whose program is the same
@@ -83,9 +84,9 @@ shows_the_same a b there read same fuel ReadFault line shown = shown
 shows_the_same a b there read same fuel WriteFault line shown = shown
 shows_the_same a b there read same fuel Memory line shown = shown
 
-pub upgraded_runs_the_same : UpgradedRunsTheSame
-upgraded_runs_the_same source target made fuel status line =
+pub upgraded_runs_the_same : TextLaws → UpgradedRunsTheSame
+upgraded_runs_the_same laws source target made fuel status line =
     let accepted : IsAcceptedText target made.reads.0 = upgraded_accepted source target made in (
-      shows_the_same source target made.reads.0 accepted (λ old read. upgraded_is_the_same source target made old made.reads.0 read accepted) fuel status line,
-      shows_the_same target source made.program made.accepted (λ new read. sym (upgraded_is_the_same source target made made.program new made.accepted read)) fuel status line,
+      shows_the_same source target made.reads.0 accepted (λ old read. upgraded_is_the_same laws source target made old made.reads.0 read accepted) fuel status line,
+      shows_the_same target source made.program made.accepted (λ new read. sym (upgraded_is_the_same laws source target made made.program new made.accepted read)) fuel status line,
     )

@@ -6,39 +6,35 @@ use Rattle.f_terms.specs.declared.fault.Code.TheVariants.{E15}
 use Rattle.f_terms.specs.Ty.{Ty, TInt, TVar, TArrow, TAll, TTuple, NoTys}
 use Rattle.f_terms.specs.Tm.{Tm, Spn, plain, span_of}
 use Rattle.f_terms.specs.Faults as typing
-use Rattle.f_terms.specs.Laws.{PassesWhereTyped, PassOrFault}
-use Rattle.f_parser.specs.Text.{TermOrFault, ClosedTerms}
 use Rattle.f_parser.specs.Text as parser
 use Rattle.t_terms.specs.declared.fault.TCode.{TCode}
 use Rattle.t_terms.specs.Spanned.{SProg, plain_program}
-use Rattle.t_terms.specs.Text.{ProgramOrFault}
 use Rattle.t_terms.specs.Text as assembly
 use Rattle.t_rules.specs.Rules.{Accepted}
-use Rattle.t_rules.specs.LawsFaults.{AcceptedOrFault}
 use Rattle.t_rules.specs.Faults as checking
 use Rattle.talc_core.specs.declared.fault.Fault.{Fault}
 use Rattle.talc_core.specs.declared.fault.Fault.TheVariants.{Source, Tal}
 use Rattle.talc_core.specs.FirstFault.{AnyTerm, AProgram, AnAssembly, IsParsed, IsChecked, IsAssembly, TermFault}
 use Rattle.talc_core.specs.FirstFault.{IsTaken, FirstFault, KeepsBounds, TakenOrFault}
+use Rattle.talc_core.specs.TextLaws.{TextLaws}
 
 -- a place as a span
 abbrev spanned : Spn → Span
 spanned p = record { start = p.0; end = p.1 }
 
-module _ (term_or_fault : TermOrFault) (closed_terms : ClosedTerms) (pass_or_fault : PassOrFault) (passes_where_typed : PassesWhereTyped)
-    (program_or_fault : ProgramOrFault) (accepted_or_fault : AcceptedOrFault) where
+module _ (laws : TextLaws) where
   -- a text is checked, or has a first fault of reading or checking
   abbrev Checked : List ℕ → Type 0
   Checked text = ((term : Tm) × (type : Ty) × IsChecked text term type) ⊎ ((c : Code) × (s : Span) × TermFault text c s)
 
   by_check : (text : List ℕ) (term : Tm) → IsParsed text term →
       ((t : Ty) × typing.Passes term 0 NoTys t) ⊎ ((c : Code) × (p : Spn) × typing.Fault term 0 NoTys c p) → Checked text
-  by_check text term read (inl (t, passes)) = inl (term, t, (read, (passes_where_typed term 0 NoTys t tt).0 passes))
+  by_check text term read (inl (t, passes)) = inl (term, t, (read, (laws.passes_where_typed term 0 NoTys t tt).0 passes))
   by_check text term read (inr (c, p, fault)) = inr (c, spanned p, inr (record { term = term; read = read; fault = fault }))
 
   by_reading : (text : List ℕ) →
       ((a : Tm) × parser.SourceWithin text a) ⊎ ((c : Code) × (s : Span) × parser.FirstFault text c s) → Checked text
-  by_reading text (inl (term, read)) = by_check text term read (pass_or_fault term (closed_terms text term read.source))
+  by_reading text (inl (term, read)) = by_check text term read (laws.pass_or_fault term (laws.closed_terms text term read.source))
   by_reading text (inr (c, s, fault)) = inr (c, s, inl fault)
 
   any_term : (text : List ℕ) → Checked text → IsTaken AnyTerm text ⊎ ((a : Fault) × FirstFault AnyTerm text a)
@@ -77,10 +73,10 @@ module _ (term_or_fault : TermOrFault) (closed_terms : ClosedTerms) (pass_or_fau
   an_assembly : (text : List ℕ) → KeepsBounds AnAssembly text →
       ((P : SProg) × assembly.ReadsAs text P) ⊎ ((c : TCode) × (s : Span) × assembly.FirstFault text c s) →
       IsTaken AnAssembly text ⊎ ((a : Fault) × FirstFault AnAssembly text a)
-  an_assembly text keeps (inl (P, read)) = by_acceptance text P read (accepted_or_fault P (keeps P read))
+  an_assembly text keeps (inl (P, read)) = by_acceptance text P read (laws.accepted_or_fault P (keeps P read))
   an_assembly text keeps (inr (c, s, fault)) = inr (Tal c s, inl fault)
 
   pub taken_or_fault : TakenOrFault
-  taken_or_fault AnyTerm text keeps = any_term text (by_reading text (term_or_fault text))
-  taken_or_fault AProgram text keeps = a_program text (by_reading text (term_or_fault text))
-  taken_or_fault AnAssembly text keeps = an_assembly text keeps (program_or_fault text)
+  taken_or_fault AnyTerm text keeps = any_term text (by_reading text (laws.term_or_fault text))
+  taken_or_fault AProgram text keeps = a_program text (by_reading text (laws.term_or_fault text))
+  taken_or_fault AnAssembly text keeps = an_assembly text keeps (laws.program_or_fault text)

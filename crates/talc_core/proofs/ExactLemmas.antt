@@ -15,7 +15,8 @@ use Rattle.talc_core.specs.Compiled.{IsCompiled}
 use Rattle.talc_core.specs.Upgraded.{IsUpgraded}
 use Rattle.talc_core.specs.Shown.{Showing, ShowsType, ShowsValue, ValueShown, ShowsAccepted, ShowsRun, HaltedShown}
 use Rattle.talc_core.specs.Headline.{Outside, Making, Headline, TextRefused, TextAnswer, LineAnswer, SeedAnswer, UsageAnswer, Does}
-use Rattle.talc_core.specs.Exact.{IsSettled, Tells, WorksOn, IsMissing, CannotRead, LeadsTo, CannotWrite, HasBudget, GoesOn, NoFaults, Works, Exactly}
+use Rattle.talc_core.specs.Exact.{IsSettled, Tells, WorksOn, IsMissing, CannotRead, LeadsTo, CannotWrite, HasBudget, GoesOn, NoFaults, Works, HeadlineIsExact}
+use Rattle.talc_core.specs.TextLaws.{TextLaws}
 use Rattle.talc_core.proofs.FaultLemmas.{one_fault, no_fault_where_taken, same_term, same_program}
 use Rattle.talc_core.proofs.RunLemmas.{going_not_halted}
 
@@ -75,8 +76,8 @@ goes_on_taken (Generates seed output) source more = absurd more
 goes_on_taken (Upgrades input output) source more = absurd more
 
 -- a text whose first fault leads to one status has none that leads to another
-one_status : (need : Need) (source : List ℕ) (a b : Status) → LeadsTo need source a → LeadsTo need source b → a ≡ b
-one_status need source a b x y = sym x.2 ∙ ap status_of (one_fault need source x.0 y.0 x.1 y.1) ∙ y.2
+one_status : TextLaws → (need : Need) (source : List ℕ) (a b : Status) → LeadsTo need source a → LeadsTo need source b → a ≡ b
+one_status laws need source a b x y = sym x.2 ∙ ap status_of (one_fault laws need source x.0 y.0 x.1 y.1) ∙ y.2
 
 -- a fault leads to no other status than these
 leads_there : (s : Status) (fault : Fault) → status_of fault ≡ s → (s ≡ Refused) ⊎ (s ≡ Limit)
@@ -86,12 +87,12 @@ leads_there s fault e = go (is_limit fault) e
     go true h = inr (sym h)
     go false h = inl (sym h)
 
-module _ (asked : Asked) (source : List ℕ) (status : Status) where
+module _ (laws : TextLaws) (asked : Asked) (source : List ℕ) (status : Status) where
   -- a status that a fault leads to comes exactly where the first fault leads to it
   leads_at : (wanted : Status) → Judged asked source status → (wanted ≡ Done → ⊥) → (wanted ≡ Budget → ⊥) → (status ≡ wanted) ↔ LeadsTo (need_of asked) source wanted
-  leads_at wanted (inl is) other over = (λ e. absurd (other (sym e ∙ is.done)), λ fault. absurd (no_fault_where_taken (need_of asked) source fault.0 is.taken fault.1))
-  leads_at wanted (inr (inl is)) other over = (λ e. absurd (over (sym e ∙ is.over)), λ fault. absurd (no_fault_where_taken (need_of asked) source fault.0 is.taken fault.1))
-  leads_at wanted (inr (inr found)) other over = (λ e. subst (LeadsTo (need_of asked) source) e found, λ fault. one_status (need_of asked) source status wanted found fault)
+  leads_at wanted (inl is) other over = (λ e. absurd (other (sym e ∙ is.done)), λ fault. absurd (no_fault_where_taken laws (need_of asked) source fault.0 is.taken fault.1))
+  leads_at wanted (inr (inl is)) other over = (λ e. absurd (over (sym e ∙ is.over)), λ fault. absurd (no_fault_where_taken laws (need_of asked) source fault.0 is.taken fault.1))
+  leads_at wanted (inr (inr found)) other over = (λ e. subst (LeadsTo (need_of asked) source) e found, λ fault. one_status laws (need_of asked) source status wanted found fault)
 
   refused_judged : Judged asked source status → (status ≡ Refused) ↔ LeadsTo (need_of asked) source Refused
   refused_judged judged = leads_at Refused judged (λ e. cc) (λ e. cc)
@@ -107,30 +108,30 @@ module _ (asked : Asked) (source : List ℕ) (status : Status) where
   budget_judged (inl is) = (λ e. let done = is.done in cc, λ more. absurd (is.ends more))
   budget_judged (inr (inl is)) = (λ e. is.goes_on, λ more. is.over)
   budget_judged (inr (inr found)) =
-      (λ e. absurd (no_budget_by_fault found e), λ more. absurd (no_fault_where_taken (need_of asked) source found.0 (goes_on_taken asked source more) found.1))
+      (λ e. absurd (no_budget_by_fault found e), λ more. absurd (no_fault_where_taken laws (need_of asked) source found.0 (goes_on_taken asked source more) found.1))
 
   works_judged : Judged asked source status → IsTaken (need_of asked) source → Works asked status
   works_judged (inl is) taken = inl is.done
   works_judged (inr (inl is)) taken = inr (is.has, is.over)
-  works_judged (inr (inr found)) taken = absurd (no_fault_where_taken (need_of asked) source found.0 taken found.1)
+  works_judged (inr (inr found)) taken = absurd (no_fault_where_taken laws (need_of asked) source found.0 taken found.1)
 
 -- ---- what the lines say
 
 -- a text that stands for a program has no other
-value_ends : (turns : ℕ) (source line : List ℕ) → ValueShown turns source line → GoesOn (Evaluates [] turns) source → ⊥
-value_ends turns source line shown more =
-    let same : shown.term ≡ more.0 = same_term source shown.term more.0 shown.checked.0 more.1.0 in
+value_ends : TextLaws → (turns : ℕ) (source line : List ℕ) → ValueShown turns source line → GoesOn (Evaluates [] turns) source → ⊥
+value_ends laws turns source line shown more =
+    let same : shown.term ≡ more.0 = same_term laws source shown.term more.0 shown.checked.0 more.1.0 in
     let spent : IsSpent (plain shown.term) turns = subst (λ t. IsSpent (plain t) turns) (sym same) more.2 in
     let value : EvaluatesLeaving (plain shown.term) turns shown.value shown.left = shown.evaluates in
     let e : Gives _ _ ≡ Spent = sym value ∙ spent in
     cc
 
-run_ends : (fuel : ℕ) (text line : List ℕ) → HaltedShown fuel text line → GoesOn (Runs [] fuel) text → ⊥
-run_ends fuel text line shown more =
-    let same : shown.program ≡ more.0 = same_program text shown.program more.0 shown.accepted.0 more.1.0 in
+run_ends : TextLaws → (fuel : ℕ) (text line : List ℕ) → HaltedShown fuel text line → GoesOn (Runs [] fuel) text → ⊥
+run_ends laws fuel text line shown more =
+    let same : shown.program ≡ more.0 = same_program laws text shown.program more.0 shown.accepted.0 more.1.0 in
     let goes_on : GoesOnAfter (plain_program shown.program) fuel = subst (λ P. GoesOnAfter (plain_program P) fuel) (sym same) more.2 in
     let halts = shown.halts in
-    going_not_halted (plain_program shown.program) halts.0 fuel shown.value halts.2 goes_on halts.1
+    going_not_halted laws (plain_program shown.program) halts.0 fuel shown.value halts.2 goes_on halts.1
 
 -- a line with the status 0 is shown of a text that is what is needed and ends within the budget, one with 4 of a text that goes on
 pub record IsSound (asked : Asked) (Says : Showing) : Type 0 where
@@ -143,9 +144,9 @@ type_sound input = record {
   over = λ source line shown. absurd shown;
 }
 
-value_sound : (input : List ℕ) (turns : ℕ) → IsSound (Evaluates input turns) (ShowsValue turns)
-value_sound input turns = record {
-  done = λ source line shown. ((shown.term, shown.checked), value_ends turns source line shown);
+value_sound : TextLaws → (input : List ℕ) (turns : ℕ) → IsSound (Evaluates input turns) (ShowsValue turns)
+value_sound laws input turns = record {
+  done = λ source line shown. ((shown.term, shown.checked), value_ends laws turns source line shown);
   over = λ source line shown. ((shown.term, shown.checked), (shown.term, shown.checked, shown.spent), tt);
 }
 
@@ -155,9 +156,9 @@ accepted_sound input = record {
   over = λ text line shown. absurd shown;
 }
 
-run_sound : (input : List ℕ) (fuel : ℕ) → IsSound (Runs input fuel) (ShowsRun fuel)
-run_sound input fuel = record {
-  done = λ text line shown. ((shown.program, shown.accepted), run_ends fuel text line shown);
+run_sound : TextLaws → (input : List ℕ) (fuel : ℕ) → IsSound (Runs input fuel) (ShowsRun fuel)
+run_sound laws input fuel = record {
+  done = λ text line shown. ((shown.program, shown.accepted), run_ends laws fuel text line shown);
   over = λ text line shown. ((shown.program, shown.accepted), (shown.program, shown.accepted, shown.goes_on), tt);
 }
 
@@ -174,7 +175,7 @@ upgraded_sound input output = record { made = λ source target made. (made.progr
 
 -- ---- by the command and the status
 
-module _ (old new : Outside) where
+module _ (laws : TextLaws) (old new : Outside) where
   leads : (asked : Asked) (input source : List ℕ) (status : Status) → TextRefused status (need_of asked) input old new → Tells old.files.told input source → Judged asked source status
   leads asked input source status refused tells =
       let same : refused.source ≡ source = same_content old.files.told input refused.source source refused.read tells in
@@ -212,9 +213,9 @@ module _ (old new : Outside) where
 
   judged : (asked : Asked) (source : List ℕ) (status : Status) → Does old new status asked → WorksOn asked old source → IsSettled status → Judged asked source status
   judged (Types input) source status answer tells settled = line_judged (Types input) input ShowsType (type_sound input) source status answer tells settled
-  judged (Evaluates input turns) source status answer tells settled = line_judged (Evaluates input turns) input (ShowsValue turns) (value_sound input turns) source status answer tells settled
+  judged (Evaluates input turns) source status answer tells settled = line_judged (Evaluates input turns) input (ShowsValue turns) (value_sound laws input turns) source status answer tells settled
   judged (Checks input) source status answer tells settled = line_judged (Checks input) input ShowsAccepted (accepted_sound input) source status answer tells settled
-  judged (Runs input fuel) source status answer tells settled = line_judged (Runs input fuel) input (ShowsRun fuel) (run_sound input fuel) source status answer tells settled
+  judged (Runs input fuel) source status answer tells settled = line_judged (Runs input fuel) input (ShowsRun fuel) (run_sound laws input fuel) source status answer tells settled
   judged (Compiles input output) source status answer tells settled = text_judged (Compiles input output) input output IsCompiled (compiled_sound input output) source status answer tells settled
   judged (Upgrades input output) source status answer tells settled = text_judged (Upgrades input output) input output IsUpgraded (upgraded_sound input output) source status answer tells settled
   judged (Generates seed output) source Done answer is settled =
@@ -334,11 +335,11 @@ module _ (old new : Outside) where
   complete_at asked source ReadFault answer tells taken none = absurd (cannot_read asked source none tells (read_fault_at asked answer))
   complete_at asked source WriteFault answer tells taken none = absurd (cannot asked none (write_fault_at asked answer))
   complete_at asked source Memory answer tells taken none = inr refl
-  complete_at asked source Done answer tells taken none = inl (works_judged asked source Done (judged asked source Done answer tells tt) taken)
-  complete_at asked source Refused answer tells taken none = inl (works_judged asked source Refused (judged asked source Refused answer tells tt) taken)
-  complete_at asked source Limit answer tells taken none = inl (works_judged asked source Limit (judged asked source Limit answer tells tt) taken)
+  complete_at asked source Done answer tells taken none = inl (works_judged laws asked source Done (judged asked source Done answer tells tt) taken)
+  complete_at asked source Refused answer tells taken none = inl (works_judged laws asked source Refused (judged asked source Refused answer tells tt) taken)
+  complete_at asked source Limit answer tells taken none = inl (works_judged laws asked source Limit (judged asked source Limit answer tells tt) taken)
   complete_at asked source Usage answer tells taken none = absurd (no_usage asked answer)
-  complete_at asked source Budget answer tells taken none = inl (works_judged asked source Budget (judged asked source Budget answer tells tt) taken)
+  complete_at asked source Budget answer tells taken none = inl (works_judged laws asked source Budget (judged asked source Budget answer tells tt) taken)
 
   -- ---- where the words are none
 
@@ -364,17 +365,17 @@ module _ (old new : Outside) where
   has_budget_at None answer = absurd answer
   has_budget_at (Some asked) answer = (asked, refl, budget_has asked answer)
 
-pub exactly : (words : List (List ℕ)) (old new : Outside) (status : Status) → Headline words old new status → Exactly words old new status
-exactly words old new status headline = record {
-  usage = usage_at old new (command_of words) status headline;
-  no_command = λ none. no_command_at old new status (at_none _ _ _ headline none);
-  refused = λ asked source asks settled. refused_judged asked source status (judged old new asked source status (at_some _ _ _ _ headline asks.0) asks.1 settled);
-  limit = λ asked source asks settled. limit_judged asked source status (judged old new asked source status (at_some _ _ _ _ headline asks.0) asks.1 settled);
-  budget = λ asked source asks settled. budget_judged asked source status (judged old new asked source status (at_some _ _ _ _ headline asks.0) asks.1 settled);
-  has_budget = λ e. has_budget_at old new (command_of words) (subst (Headline words old new) e headline);
-  read_fault = λ asked asks e. read_fault_at old new asked (subst (λ s. Does old new s asked) e (at_some _ _ _ _ headline asks));
-  absent = λ asked asks absent. absent_at old new asked status (at_some _ _ _ _ headline asks) absent;
-  write_fault = λ asked asks e. write_fault_at old new asked (subst (λ s. Does old new s asked) e (at_some _ _ _ _ headline asks));
-  generates = λ seed output asks. generates_at old new seed output status (at_some _ _ _ _ headline asks);
-  complete = λ asked source asks taken none. complete_at old new asked source status (at_some _ _ _ _ headline asks.0) asks.1 taken none;
+pub exactly : TextLaws → HeadlineIsExact
+exactly laws words old new status headline = record {
+  usage = usage_at laws old new (command_of words) status headline;
+  no_command = λ none. no_command_at laws old new status (at_none _ _ _ headline none);
+  refused = λ asked source asks settled. refused_judged laws asked source status (judged laws old new asked source status (at_some _ _ _ _ headline asks.0) asks.1 settled);
+  limit = λ asked source asks settled. limit_judged laws asked source status (judged laws old new asked source status (at_some _ _ _ _ headline asks.0) asks.1 settled);
+  budget = λ asked source asks settled. budget_judged laws asked source status (judged laws old new asked source status (at_some _ _ _ _ headline asks.0) asks.1 settled);
+  has_budget = λ e. has_budget_at laws old new (command_of words) (subst (Headline words old new) e headline);
+  read_fault = λ asked asks e. read_fault_at laws old new asked (subst (λ s. Does old new s asked) e (at_some _ _ _ _ headline asks));
+  absent = λ asked asks absent. absent_at laws old new asked status (at_some _ _ _ _ headline asks) absent;
+  write_fault = λ asked asks e. write_fault_at laws old new asked (subst (λ s. Does old new s asked) e (at_some _ _ _ _ headline asks));
+  generates = λ seed output asks. generates_at laws old new seed output status (at_some _ _ _ _ headline asks);
+  complete = λ asked source asks taken none. complete_at laws old new asked source status (at_some _ _ _ _ headline asks.0) asks.1 taken none;
 }

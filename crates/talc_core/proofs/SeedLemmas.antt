@@ -21,42 +21,43 @@ use Rattle.seeds.specs.Laws.{SourcesArePrograms}
 use Rattle.talc_core.specs.declared.fault.Fault.{Fault}
 use Rattle.talc_core.specs.declared.report.Failure.{Failure}
 use Rattle.talc_core.specs.declared.report.Failure.TheVariants.{Refused, Read, Write, Memory}
-use Rattle.talc_core.specs.FirstFault.{AProgram, AnAssembly, FirstFault, IsChecked, IsAcceptedText, IsTaken}
+use Rattle.talc_core.specs.FirstFault.{AProgram, AnAssembly, FirstFault, IsChecked, IsAcceptedText, IsTaken, NoFaultWhereTaken}
 use Rattle.talc_core.specs.Compiled.{IsCompiled}
 use Rattle.talc_core.specs.Lines.{seed_lines}
 use Rattle.talc_core.specs.Shown.{seed_turns, SeedShown}
 use Rattle.talc_core.specs.Steps.{RefusedBy, ReadsProgram, ChecksAssembly, MakesText, WantsMemory, OrMemory, Evaluated, HaltsSoonEnough}
-use Rattle.talc_core.proofs.FaultLemmas.{no_fault_where_taken, same_term}
+use Rattle.talc_core.specs.TextLaws.{TextLaws}
+use Rattle.talc_core.proofs.FaultLemmas.{same_term}
 use Rattle.talc_core.proofs.RunLemmas.{going_not_halted}
 use Rattle.talc_core.proofs.CompositionLemmas.{compiled_is_taken, compiled_means_the_same, same_assembly}
 
 taken : SourcesArePrograms → (seed : ℕ) → IsTaken AProgram (source_of seed)
 taken programs seed = let p = programs seed in (p.0, (p.1, p.2))
 
-no_seed_fault : SourcesArePrograms → (seed : ℕ) (text : List ℕ) → text ≡ source_of seed → (fault : Fault) → FirstFault AProgram text fault → ⊥
-no_seed_fault programs seed text is fault first =
-    no_fault_where_taken AProgram (source_of seed) fault (taken programs seed) (subst (λ t. FirstFault AProgram t fault) is first)
+no_seed_fault : NoFaultWhereTaken → SourcesArePrograms → (seed : ℕ) (text : List ℕ) → text ≡ source_of seed → (fault : Fault) → FirstFault AProgram text fault → ⊥
+no_seed_fault no_fault programs seed text is fault first =
+    no_fault AProgram (source_of seed) fault (taken programs seed) (subst (λ t. FirstFault AProgram t fault) is first)
 
 -- no failure but want of memory
-refused : SourcesArePrograms → (seed : ℕ) (text : List ℕ) → text ≡ source_of seed → (failure : Failure) → RefusedBy AProgram text failure → WantsMemory failure
-refused programs seed text is (Refused fault) why = absurd (no_seed_fault programs seed text is fault why)
-refused programs seed text is Memory why = tt
-refused programs seed text is Read why = why
-refused programs seed text is Write why = why
+refused : NoFaultWhereTaken → SourcesArePrograms → (seed : ℕ) (text : List ℕ) → text ≡ source_of seed → (failure : Failure) → RefusedBy AProgram text failure → WantsMemory failure
+refused no_fault programs seed text is (Refused fault) why = absurd (no_seed_fault no_fault programs seed text is fault why)
+refused no_fault programs seed text is Memory why = tt
+refused no_fault programs seed text is Read why = why
+refused no_fault programs seed text is Write why = why
 
-pub compiles : SourcesArePrograms → (seed : ℕ) (text : List ℕ) → text ≡ source_of seed → (r : Result (Vec ℕ Global) Failure) → MakesText IsCompiled AProgram text r → OrMemory (λ target. IsCompiled (source_of seed) target.items) r
-compiles programs seed text is (Ok target) made = subst (λ t. IsCompiled t target.items) is made
-compiles programs seed text is (Err failure) why = refused programs seed text is failure why
+pub compiles : NoFaultWhereTaken → SourcesArePrograms → (seed : ℕ) (text : List ℕ) → text ≡ source_of seed → (r : Result (Vec ℕ Global) Failure) → MakesText IsCompiled AProgram text r → OrMemory (λ target. IsCompiled (source_of seed) target.items) r
+compiles no_fault programs seed text is (Ok target) made = subst (λ t. IsCompiled t target.items) is made
+compiles no_fault programs seed text is (Err failure) why = refused no_fault programs seed text is failure why
 
-pub reads : SourcesArePrograms → (seed : ℕ) (text : List ℕ) → text ≡ source_of seed → (r : Result Program Failure) → ReadsProgram text r → OrMemory (λ program. IsChecked (source_of seed) (spanned (program_term program)) TInt) r
-reads programs seed text is (Ok program) checked = subst (λ t. IsChecked t (spanned (program_term program)) TInt) is checked
-reads programs seed text is (Err failure) why = refused programs seed text is failure why
+pub reads : NoFaultWhereTaken → SourcesArePrograms → (seed : ℕ) (text : List ℕ) → text ≡ source_of seed → (r : Result Program Failure) → ReadsProgram text r → OrMemory (λ program. IsChecked (source_of seed) (spanned (program_term program)) TInt) r
+reads no_fault programs seed text is (Ok program) checked = subst (λ t. IsChecked t (spanned (program_term program)) TInt) is checked
+reads no_fault programs seed text is (Err failure) why = refused no_fault programs seed text is failure why
 
 -- the turns suffice
-pub not_spent : SourcesArePrograms → MoreTurnsKeepTheValue → (seed : ℕ) (term : Tm) → IsChecked (source_of seed) term TInt → IsSpent (plain term) seed_turns → ⊥
-not_spent programs more seed term checked spent =
+pub not_spent : TextLaws → SourcesArePrograms → MoreTurnsKeepTheValue → (seed : ℕ) (term : Tm) → IsChecked (source_of seed) term TInt → IsSpent (plain term) seed_turns → ⊥
+not_spent laws programs more seed term checked spent =
     let p = programs seed in
-    let same : p.0 ≡ term = same_term (source_of seed) p.0 term p.1 checked.0 in
+    let same : p.0 ≡ term = same_term laws (source_of seed) p.0 term p.1 checked.0 in
     let found = p.3 in
     let value : eval 1280 Empty (plain p.0) ≡ Gives (VInt found.0) found.1.0 = found.1.1 in
     let longer : eval 1000000 Empty (plain p.0) ≡ Gives (VInt found.0) (found.1.0 + 998720) = more 1280 998720 found.1.0 Empty (plain p.0) (VInt found.0) value in
@@ -68,36 +69,36 @@ not_spent programs more seed term checked spent =
 pub target_taken : (source target : List ℕ) → IsCompiled source target → ∥ IsTaken AnAssembly target ∥₁
 target_taken source target made = compiled_is_taken source target made
 
-pub checks : (target : List ℕ) → ∥ IsTaken AnAssembly target ∥₁ → (r : Result Checked Failure) → ChecksAssembly target r → OrMemory (λ checked. IsAcceptedText target (spanned_program (checked_program checked))) r
-checks target taken (Ok checked) accepted = accepted
-checks target taken (Err (Refused fault)) first = ∥∥₁_elim taken (λ a b. absurd a) (λ t. no_fault_where_taken AnAssembly target fault t first)
-checks target taken (Err Memory) why = tt
-checks target taken (Err Read) why = why
-checks target taken (Err Write) why = why
+pub checks : NoFaultWhereTaken → (target : List ℕ) → ∥ IsTaken AnAssembly target ∥₁ → (r : Result Checked Failure) → ChecksAssembly target r → OrMemory (λ checked. IsAcceptedText target (spanned_program (checked_program checked))) r
+checks no_fault target taken (Ok checked) accepted = accepted
+checks no_fault target taken (Err (Refused fault)) first = ∥∥₁_elim taken (λ a b. absurd a) (λ t. no_fault AnAssembly target fault t first)
+checks no_fault target taken (Err Memory) why = tt
+checks no_fault target taken (Err Read) why = why
+checks no_fault target taken (Err Write) why = why
 
 -- and halts
-pub soon : (seed : ℕ) (target : List ℕ) → IsCompiled (source_of seed) target → (value : ℤ) (used : ℕ) → Evaluated seed value used → (program : SProg) → IsAcceptedText target program → HaltsSoonEnough (plain_program program)
-soon seed target made value used evaluated program accepted fuel enough goes_on =
-    let terms : evaluated.term ≡ made.term = same_term (source_of seed) evaluated.term made.term evaluated.checked.0 made.checked.0 in
-    let programs : plain_program program ≡ made.program = same_assembly (source_of seed) target made program accepted in
+pub soon : TextLaws → (seed : ℕ) (target : List ℕ) → IsCompiled (source_of seed) target → (value : ℤ) (used : ℕ) → Evaluated seed value used → (program : SProg) → IsAcceptedText target program → HaltsSoonEnough (plain_program program)
+soon laws seed target made value used evaluated program accepted fuel enough goes_on =
+    let terms : evaluated.term ≡ made.term = same_term laws (source_of seed) evaluated.term made.term evaluated.checked.0 made.checked.0 in
+    let programs : plain_program program ≡ made.program = same_assembly laws (source_of seed) target made program accepted in
     let on : GoesOnAfter made.program fuel = subst (λ P. GoesOnAfter P fuel) programs goes_on in
     let within : (seed_turns + 1) * program_size made.program ≤ fuel = subst (λ P. (seed_turns + 1) * program_size P ≤ fuel) programs enough in
     let evaluates : Evaluates (plain made.term) seed_turns value = subst (λ t. Evaluates (plain t) seed_turns value) terms (evaluated.left, evaluated.evaluates) in
     ∥∥₁_elim made.compiled (λ a b. absurd a) (λ c.
     let halts : HaltsWithin made.program ((seed_turns + 1) * program_size made.program) value = c.soon seed_turns value evaluates in
     let most = halts.1 in
-    going_not_halted made.program halts.0 fuel value halts.2 on (omega (arith, most, within)))
+    going_not_halted laws made.program halts.0 fuel value halts.2 on (omega (arith, most, within)))
 
-same_value : OneAnswer → (seed : ℕ) (target : List ℕ) → IsCompiled (source_of seed) target → (value : ℤ) (used : ℕ) → Evaluated seed value used → (program : SProg) → IsAcceptedText target program →
+same_value : TextLaws → OneAnswer → (seed : ℕ) (target : List ℕ) → IsCompiled (source_of seed) target → (value : ℤ) (used : ℕ) → Evaluated seed value used → (program : SProg) → IsAcceptedText target program →
     (halted : ℤ) → Halts (plain_program program) halted → halted ≡ value
-same_value one seed target made value used evaluated program accepted halted halts =
-    ∥∥₁_elim (compiled_means_the_same (source_of seed) target made evaluated.term evaluated.checked program accepted) (ℤ_set halted value) (λ same.
+same_value laws one seed target made value used evaluated program accepted halted halts =
+    ∥∥₁_elim (compiled_means_the_same laws (source_of seed) target made evaluated.term evaluated.checked program accepted) (ℤ_set halted value) (λ same.
     one (plain evaluated.term) halts.0 seed_turns halted value (same.back halts.0 halted halts.1) (evaluated.left, evaluated.evaluates))
 
-pub shown : OneAnswer → (seed : ℕ) (target : List ℕ) → IsCompiled (source_of seed) target → (value : ℤ) (used : ℕ) → Evaluated seed value used → (program : SProg) → IsAcceptedText target program →
+pub shown : TextLaws → OneAnswer → (seed : ℕ) (target : List ℕ) → IsCompiled (source_of seed) target → (value : ℤ) (used : ℕ) → Evaluated seed value used → (program : SProg) → IsAcceptedText target program →
     (halted : ℤ) → Halts (plain_program program) halted → (text lines : List ℕ) → text ≡ source_of seed → lines ≡ seed_lines (length text) value used halted → SeedShown seed lines
-shown one seed target made value used evaluated program accepted halted halts text lines text_is lines_are =
-    let same = same_value one seed target made value used evaluated program accepted halted halts in
+shown laws one seed target made value used evaluated program accepted halted halts text lines text_is lines_are =
+    let same = same_value laws one seed target made value used evaluated program accepted halted halts in
     record {
       term = evaluated.term;
       value = value;

@@ -6,7 +6,7 @@ use Rattle.f_terms.specs.Ty.{Ty, TInt}
 use Rattle.f_terms.specs.Tm.{Tm, plain, span_of}
 use Rattle.f_terms.specs.Limits.{nodes}
 use Rattle.f_terms.specs.Scope.{IsClosed}
-use Rattle.f_parser.proofs.Exact as parser
+use Rattle.f_parser.specs.Text.{ClosedTerms}
 use Rattle.f_terms.specs.Read.{place}
 use Rattle.talc_core.specs.declared.fault.Fault.TheVariants.{Source}
 use Rattle.talc_core.specs.declared.report.Failure.TheVariants as failed
@@ -14,8 +14,8 @@ use Rattle.talc_core.specs.FirstFault.{AProgram, IsParsed, IsChecked}
 use Rattle.talc_core.specs.Steps.{RefusedBy}
 
 -- the term of a text is closed and small
-pub closed : (text : List ℕ) (term : Tm) → IsParsed text term → IsClosed (plain term)
-closed text term read = parser.closed_terms text term read.source
+pub closed : ClosedTerms → (text : List ℕ) (term : Tm) → IsParsed text term → IsClosed (plain term)
+closed closed_terms text term read = closed_terms text term read.source
 
 pub few : (text : List ℕ) (term : Tm) → IsParsed text term → nodes (plain term) ≤ 4294967295
 few text term read = let small : nodes (plain term) ≤ 1000 = read.few_nodes in omega arith

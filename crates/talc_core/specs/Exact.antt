@@ -16,7 +16,7 @@ use Rattle.seeds.specs.Source.{source}
 use Rattle.talc_core.specs.FirstFault.{Need, FirstFault, IsChecked, IsAcceptedText, IsTaken}
 use Rattle.talc_core.specs.Command.{Asked, Compiles, Types, Evaluates, Checks, Runs, Generates, Upgrades}
 use Rattle.talc_core.specs.Command.{command_of, need_of, input_of}
-use Rattle.talc_core.specs.Headline.{Outside}
+use Rattle.talc_core.specs.Headline.{Outside, Headline}
 
 -- no fault of the outside, and no want of memory
 abbrev pub IsSettled : Status → Type 0
@@ -126,3 +126,9 @@ pub record Exactly (words : List (List ℕ)) (old new : Outside) (status : Statu
   -- `gen` ends with no other status than these, since every source of a seed is a program
   pub generates : (seed : ℕ) (output : List ℕ) → command_of words ≡ Some (Generates seed output) →
       (status ≡ Done) ⊎ ((status ≡ WriteFault) ⊎ (status ≡ Memory))
+
+-- The law: what a call does by its status tells when each status comes.
+abbrev pub HeadlineIsExact : Type 0
+HeadlineIsExact =
+    (words : List (List ℕ)) (old new : Outside) (status : Status) → Headline words old new status →
+    Exactly words old new status

@@ -11,3 +11,4 @@ pub mod Headline
 pub mod Steps
 pub mod Exact
 pub mod Composition
+pub mod TextLaws

@@ -2,32 +2,57 @@
 ghost use Rattle.talc_core.specs.FirstFault.{OneFault, NoFaultWhereTaken, TakenOrFault};
 ghost use Rattle.talc_core.specs.Composition.{CompiledIsTaken, CompiledMeansTheSame, CompiledShowsTheSame};
 ghost use Rattle.talc_core.specs.Composition.{UpgradedIsTaken, UpgradedIsTheSame, UpgradedRunsTheSame};
+ghost use Rattle.talc_core.specs.Exact.{HeadlineIsExact};
+ghost use Rattle.talc_core.specs.TextLaws.{TextLaws};
 
-use f_parser::{closed_terms, term_or_fault};
-use f_terms::{one_answer, pass_or_fault, passes_where_typed};
-use t_rules::accepted_or_fault;
-use t_terms::program_or_fault;
+use f_parser::{closed_terms, one_term, term_or_fault};
+use f_terms::{no_fault_beside_a_pass, one_answer, one_type, pass_or_fault, passes_where_typed};
+use t_rules::{accepted_or_fault, no_fault_where_accepted, runs_are_unique};
+use t_terms::{at_most_one_program, program_or_fault};
+
+// What the laws of texts stand on: laws of the crates below.
+pub(crate) fn texts_keep_laws()
+    ensures { TextLaws }
+{
+    one_term();
+    closed_terms();
+    term_or_fault();
+    f_parser::no_fault_where_read();
+    f_parser::one_fault();
+    one_type();
+    passes_where_typed();
+    pass_or_fault();
+    no_fault_beside_a_pass();
+    f_terms::one_fault();
+    at_most_one_program();
+    program_or_fault();
+    t_terms::no_fault_where_read();
+    t_terms::at_most_one_fault();
+    accepted_or_fault();
+    no_fault_where_accepted();
+    t_rules::at_most_one_fault();
+    runs_are_unique();
+}
 
 /// Two first faults of one text are equal, where the same is needed of it.
 pub fn one_fault()
     ensures { OneFault }
-{}
+{
+    texts_keep_laws();
+}
 
 /// A text that is what is needed has no fault.
 pub fn no_fault_where_taken()
     ensures { NoFaultWhereTaken }
-{}
+{
+    texts_keep_laws();
+}
 
 /// Each text is what is needed of it, or has a first fault; an assembly text where its program keeps the bounds on programs.
 pub fn taken_or_fault()
     ensures { TakenOrFault }
 {
-    term_or_fault();
-    closed_terms();
-    pass_or_fault();
-    passes_where_typed();
-    program_or_fault();
-    accepted_or_fault();
+    texts_keep_laws();
 }
 
 /// What `compile` writes is a text that `check` and `run` take: it stands for a program that the typing rules accept.
@@ -38,12 +63,15 @@ pub fn compiled_is_taken()
 /// The program that `run` reads of what `compile` wrote means the same as the term that `eval` reads of the source.
 pub fn compiled_means_the_same()
     ensures { CompiledMeansTheSame }
-{}
+{
+    texts_keep_laws();
+}
 
 /// The integer that `run` shows of what `compile` wrote is the one that `eval` shows of the source.
 pub fn compiled_shows_the_same()
     ensures { CompiledShowsTheSame }
 {
+    texts_keep_laws();
     one_answer();
 }
 
@@ -56,9 +84,20 @@ pub fn upgraded_is_taken()
 /// The program that is read of what `upgrade` wrote is the one that is read of the old text, places aside.
 pub fn upgraded_is_the_same()
     ensures { UpgradedIsTheSame }
-{}
+{
+    texts_keep_laws();
+}
 
 /// What `run` shows of what `upgrade` wrote is what it shows of the old text, with the same status.
 pub fn upgraded_runs_the_same()
     ensures { UpgradedRunsTheSame }
-{}
+{
+    texts_keep_laws();
+}
+
+// What a call does by its status tells when each status comes.
+pub(crate) fn headline_is_exact()
+    ensures { HeadlineIsExact }
+{
+    texts_keep_laws();
+}

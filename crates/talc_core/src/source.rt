@@ -8,7 +8,7 @@ ghost use Rattle.talc_core.specs.Steps.{ChecksSource, ReadsProgram};
 use crate::fault::Fault;
 use crate::report::Failure;
 use f_check::{Program, Typed, check};
-use f_parser::parse;
+use f_parser::{closed_terms, parse};
 use f_terms::Code;
 use idx_core::Span;
 use std::alloc::Global;
@@ -17,6 +17,7 @@ use std::alloc::Global;
 pub(crate) fn check_source(alloc: Global, source: &[u8]) -> Result<Typed, Failure>
     ensures { ChecksSource source.now result }
 {
+    closed_terms();
     let term = parse(alloc, source)?;
     let typed = check(alloc, term)?;
     Ok(typed)

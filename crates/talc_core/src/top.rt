@@ -5,6 +5,7 @@ ghost use Rattle.talc_core.specs.Headline.{Does, Headline};
 ghost use Rattle.talc_core.specs.Exact.{Exactly};
 
 use crate::commands::perform;
+use crate::laws::headline_is_exact;
 use crate::report::{Failure, report, show};
 use crate::status::Status;
 use io_core::{Files, Sink};
@@ -32,7 +33,6 @@ fn run_command<F: Files, O: Sink, E: Sink>(
 
 /// Does what the words of the command line ask for (the program's name is the first of them), and nothing else.
 /// It reads and writes through `files`, puts the answer on `out` and lines for the user on `err`.
-#[tactic(auto, using(crate::proofs::ExactLemmas::exactly))]
 pub fn talc<F: Files, O: Sink, E: Sink>(
     alloc: Global,
     words: &Vec<String>,
@@ -49,6 +49,7 @@ pub fn talc<F: Files, O: Sink, E: Sink>(
         (record { files = F.state files.new; out = O.state out.new; err = E.state err.new })
         result }
 {
+    headline_is_exact();
     match read(alloc, words) {
         Ok(command) => run_command(alloc, files, out, err, command),
         Err(NoCommand::Usage(text)) => show(alloc, err, text.as_bytes(), Status::Usage),

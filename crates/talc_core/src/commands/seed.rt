@@ -20,6 +20,7 @@ use crate::commands::Ending;
 use crate::commands::compile::compile_text;
 use crate::commands::eval::value_line;
 use crate::commands::run::{first_run, integer_line};
+use crate::laws::{no_fault_where_taken, texts_keep_laws};
 use crate::outside::{put_line, write_output};
 use crate::report::Failure;
 use crate::source::read_program;
@@ -72,6 +73,7 @@ fn compile_seed(alloc: Global, seed: u64, text: &[u8]) -> Result<Vec<u8>, Failur
     requires { text.now ≡ source seed }
     ensures { OrMemory (λ target. IsCompiled (source seed) target.items) result }
 {
+    no_fault_where_taken();
     sources_are_programs();
     compile_text(alloc, text)
 }
@@ -81,6 +83,7 @@ fn read_seed(alloc: Global, seed: u64, text: &[u8]) -> Result<Program, Failure>
     requires { text.now ≡ source seed }
     ensures { OrMemory (λ program. IsChecked (source seed) (spanned (program_term program)) TInt) result }
 {
+    no_fault_where_taken();
     sources_are_programs();
     read_program(alloc, text)
 }
@@ -97,6 +100,7 @@ fn evaluate_seed(alloc: Global, seed: u64, text: &[u8]) -> Result<Evaluation, Fa
     requires { text.now ≡ source seed }
     ensures { OrMemory (λ e. Evaluated seed e.value e.used) result }
 {
+    texts_keep_laws();
     sources_are_programs();
     more_turns_keep_the_value();
     let program = read_seed(alloc, seed, text)?;
@@ -111,6 +115,7 @@ fn check_target(alloc: Global, target: &[u8]) -> Result<Checked, Failure>
     requires { ∥ IsTaken AnAssembly target.now ∥₁ }
     ensures { OrMemory (λ checked. IsAcceptedText target.now (spanned_program (checked_program checked))) result }
 {
+    no_fault_where_taken();
     check_assembly(alloc, target)
 }
 
@@ -148,6 +153,7 @@ fn work_on_seed(alloc: Global, seed: u64, text: &[u8]) -> Result<Vec<u8>, Failur
     requires { text.now ≡ source seed }
     ensures { OrMemory (λ lines. SeedShown seed lines.items) result }
 {
+    texts_keep_laws();
     one_answer();
     let target = compile_seed(alloc, seed, text)?;
     let evaluation = evaluate_seed(alloc, seed, text)?;

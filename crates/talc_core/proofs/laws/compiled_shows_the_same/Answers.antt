@@ -2,4 +2,4 @@ use Rattle.talc_core.proofs.CompositionLemmas as lemmas
 use Rattle.talc_core.proofs.laws.compiled_shows_the_same.Goals as goal
 
 pub returns : goal.returns
-returns c = lemmas.compiled_shows_the_same c.one_answer.ensures
+returns c = lemmas.compiled_shows_the_same c.texts_keep_laws.ensures c.one_answer.ensures

@@ -1,0 +1,31 @@
+-- The laws of the crates below on which the laws of texts stand.
+use Rattle.f_parser.specs.Text as reading
+use Rattle.f_terms.specs.Laws as typing
+use Rattle.t_terms.specs.Text as assembly
+use Rattle.t_rules.specs.LawsFaults as checking
+use Rattle.t_rules.specs.LawsSound.{OneRun, HaltingIsLast}
+
+pub record TextLaws : Type 0 where
+  -- of source texts
+  pub one_term : reading.OneTerm
+  pub closed_terms : reading.ClosedTerms
+  pub term_or_fault : reading.TermOrFault
+  pub no_fault_of_a_term : reading.NoFaultWhereRead
+  pub one_reading_fault : reading.OneFault
+  -- of terms
+  pub one_type : typing.OneType
+  pub passes_where_typed : typing.PassesWhereTyped
+  pub pass_or_fault : typing.PassOrFault
+  pub no_fault_beside_a_pass : typing.NoFaultBesideAPass
+  pub one_typing_fault : typing.OneFault
+  -- of assembly texts
+  pub one_program : assembly.AtMostOneProgram
+  pub program_or_fault : assembly.ProgramOrFault
+  pub no_fault_of_a_program : assembly.NoFaultWhereRead
+  pub one_assembly_fault : assembly.AtMostOneFault
+  -- of programs
+  pub accepted_or_fault : checking.AcceptedOrFault
+  pub no_fault_where_accepted : checking.NoFaultWhereAccepted
+  pub one_accepting_fault : checking.AtMostOneFault
+  pub one_run : OneRun
+  pub halting_is_last : HaltingIsLast

@@ -3,6 +3,7 @@ use Rattle.std.proofs.Common.{◌≡◌, ◌≢◌, ℕ, ◌+◌, ◌<◌, ◌�
 use Rattle.std.specs.Prelude.{option_map}
 use Rattle.std.specs.BTreeMap.{BTreeMap, get}
 use Rattle.std.specs.Ordering.{nat_cmp}
+use Rattle.std.proofs.Math.Path.{fun_ext}
 use Rattle.std.proofs.lemmas.Bool.Decides.{eqb_tells}
 use Rattle.std.proofs.lemmas.List.{get_or_append_left}
 use Rattle.std.proofs.Math.Seq.{get_or-append_seam}
@@ -101,10 +102,10 @@ fitted_bound ts k h f m names changed is x = record {
 
 -- what is remembered now
 pub same_known : (ts : List Ty) (k h : Registers) → IsSame k h → known ts h ≡ known ts k
-same_known ts k h s = ap₂ (λ (m : BTreeMap ℕ Entry) (n : ℕ) (r : ℕ). option_map (seen ts n) (get nat_cmp m r)) s.0 s.1
+same_known ts k h s = fun_ext (λ r. ap₂ (λ (m : BTreeMap ℕ Entry) (n : ℕ). option_map (seen ts n) (get nat_cmp m r)) s.0 s.1)
 
 module _ (ts : List Ty) (k h : Registers) (f : ℕ) (sound : IsSound ts k) (there : f < length ts) (done : IsRemembered k h f)
-  (fit : (file : TFile) → at ts f ≡ CodeTy 0 file → Rises file × FitsFile (known ts k) file) where
+    (fit : (file : TFile) → at ts f ≡ CodeTy 0 file → Rises file × FitsFile (known ts k) file) where
   now : IsFitted ts k f (now_of k)
   now = record {
     there = there;

@@ -80,6 +80,14 @@ module _ (g : RegTypes) where
   pub agrees_by : (f : TFile) (r : ℕ) (u : Ty) (b : Bool) → lookup f r ≡ Some u → (IsTrue b ↔ KnownFits g r u) → IsTrue b ↔ AgreesAt g f r
   agrees_by f r u b e h = ((λ y t named. let both : Some u ≡ Some t = sym e ∙ named in let same : u ≡ t = cc in subst (KnownFits g r) same (h.0 y)), λ a. h.1 (a u e))
 
+  -- one more of those from a place on
+  pub agree_more : (f : TFile) (rs : List ℕ) (from i : ℕ) → AgreesAt g f (get_or rs i 0) → ((j : ℕ) → from ≤ j → j < i → AgreesAt g f (get_or rs j 0)) → (j : ℕ) → from ≤ j → j < i + 1 → AgreesAt g f (get_or rs j 0)
+  agree_more f rs from i here before j a b = pick (cases_lt j i)
+    where
+      pick : (j < i) ⊎ (i ≤ j) → AgreesAt g f (get_or rs j 0)
+      pick (inl lt) = before j a lt
+      pick (inr le) = let same : i ≡ j = omega arith in subst (λ n. AgreesAt g f (get_or rs n 0)) same here
+
 -- a file by the numbers of its types: the register at a place
 abbrev pub name_at : List (ℕ × ℕ) → ℕ → ℕ
 name_at xs i = (get_or xs i (0, 0)).0

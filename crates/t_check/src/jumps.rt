@@ -47,10 +47,12 @@ impl Registers {
         if !self.lasts(types, code, moment) {
             return None;
         }
-        if self.changed.len() - moment.set >= width(types, code) {
-            return None;
+        let since = self.changed.len() - moment.set;
+        if since < width(types, code) {
+            Some(moment.set)
+        } else {
+            None
         }
-        Some(moment.set)
     }
 
     // Whether the code's type means the same as at the moment.

@@ -51,11 +51,14 @@ impl Registers {
         ensures empty { IsEmpty result }
         ensures names { result.names ≡ names }
     {
+        let entries = BTreeMap::new(alloc);
+        let changed = Vec::new(alloc);
+        let fitted = BTreeMap::new(alloc);
         Registers {
-            entries: BTreeMap::new(alloc),
+            entries,
             names,
-            changed: Vec::new(alloc),
-            fitted: BTreeMap::new(alloc),
+            changed,
+            fitted,
         }
     }
 

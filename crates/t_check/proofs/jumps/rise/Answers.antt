@@ -1,4 +1,4 @@
-use Rattle.std.proofs.Common.{rules, nat_lt, ℕ}
+use Rattle.std.proofs.Common.{rules, nat_lt}
 use Rattle.std.proofs.lemmas.List.Sorted.{answers_always}
 use Rattle.t_check.proofs.Rising.{rises_told}
 use Rattle.t_check.proofs.jumps.rise.Goals as goal

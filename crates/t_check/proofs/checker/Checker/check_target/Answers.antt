@@ -55,4 +55,4 @@ returns-clause-entered c =
     (subst (λ (x : RegTypes). FitsFile x f.0) same ((c.in_ok-fit.ensures.fit f.0 f.1).0 c.if-not-branch.false))
 
 pub returns-clause-known : goal.returns-clause-known
-returns-clause-known c = λ ts. same_known ts c.args.self.now.registers c.fit.new.«self.registers» c.in_ok-fit.ensures.same
+returns-clause-known c = λ ts. same_known ts c.args.self.now.registers c.fit.new.self c.in_ok-fit.ensures.same

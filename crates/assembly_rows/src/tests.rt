@@ -2,6 +2,7 @@
 mod checking;
 mod data;
 mod grammar;
+mod jumps;
 mod lexing;
 mod programs;
 mod reading;

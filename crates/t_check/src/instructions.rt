@@ -89,11 +89,13 @@ impl Checker<'_> {
         }
     }
 
-    fn check_bnz(&self, types: &mut Types, r: u64, v: &Value, span: Span) -> Result<(), TFault>
-        requires place { IsPlace types.old self.now }
-        requires value { FormedAt self.now (value v.now) }
+    fn check_bnz(&mut self, types: &mut Types, r: u64, v: &Value, span: Span) -> Result<(), TFault>
+        requires place { IsPlace types.old self.old }
+        requires value { FormedAt self.old (value v.now) }
         ensures grown { Grown types.old types.new }
-        ensures step { StepsTo types.old types.new self.now self.now span (Bnz r (value v.now)) result }
+        ensures step { StepsTo types.old types.new self.old self.new span (Bnz r (value v.now)) result }
+        ensures program { self.new.program ≡ self.old.program }
+        ensures labels { self.new.labels ≡ self.old.labels }
     {
         self.check_int(types, r, span)?;
         self.check_target(types, v, span)
@@ -239,7 +241,7 @@ impl Checker<'_> {
             Some(entry) => entry,
             None => return refused(TCode::T08, span),
         };
-        if !self.fits_entry(types, source, wanted)? {
+        if !self.registers.fits_entry(types, source, wanted)? {
             return refused(TCode::T13, span);
         }
         Ok(())
@@ -271,11 +273,16 @@ impl Checker<'_> {
         Ok(())
     }
 
-    pub(crate) fn check_end(&self, types: &mut Types, end: &End, span: Span) -> Result<(), TFault>
-        requires place { IsPlace types.old self.now }
-        requires end { FormedEnd self.now.program.now self.now.registers.names (end_of end.now) }
+    pub(crate) fn check_end(
+        &mut self,
+        types: &mut Types,
+        end: &End,
+        span: Span,
+    ) -> Result<(), TFault>
+        requires place { IsPlace types.old self.old }
+        requires end { FormedEnd self.old.program.now self.old.registers.names (end_of end.now) }
         ensures grown { Grown types.old types.new }
-        ensures ended { EndedAt types.old self.now span (end_of end.now) result }
+        ensures ended { EndedAt types.old self.old span (end_of end.now) result }
     {
         match end {
             End::Jmp(v) => self.check_target(types, v, span),

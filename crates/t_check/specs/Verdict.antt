@@ -104,10 +104,10 @@ IsFieldOf us n g r i s (Ok x) =
     × Bounded n (at us x.0) × (x.0 < length us)
 IsFieldOf us n g r i s (Err f) = Says f (register g r s (λ t. tuple t s (λ fs. field_at fs i s (λ u flag. nothing))))
 
--- a register fits a field of the tuple in another one, or the first fault
-abbrev pub IsStored : RegTypes → ℕ → ℕ → ℕ → Span → Result (Unit {0}) TFault → Type 0
-IsStored g rd i rs s (Ok u) =
-    (fs : TFields) × (t : Ty) × (flag : Bool) × (w : Ty) × (g rd ≡ Some (TupleTy fs))
+-- a register fits a field, with this flag, of the tuple in another one, or the first fault
+abbrev pub IsStored : RegTypes → ℕ → ℕ → ℕ → Span → Result Bool TFault → Type 0
+IsStored g rd i rs s (Ok flag) =
+    (fs : TFields) × (t : Ty) × (w : Ty) × (g rd ≡ Some (TupleTy fs))
     × (field fs i ≡ Some (AField t flag)) × (g rs ≡ Some w) × Fits w t
 IsStored g rd i rs s (Err f) =
     Says f (register g rd s (λ t. tuple t s (λ fs. field_at fs i s (λ u flag. register g rs s (λ w. check (Fits w u)

@@ -218,12 +218,15 @@ impl Checker<'_> {
         ensures program { self.new.program ≡ self.old.program }
         ensures labels { self.new.labels ≡ self.old.labels }
     {
-        self.check_stored(types, rd, field, rs, span)?;
+        let is_initialised = self.check_stored(types, rd, field, rs, span)?;
+        if is_initialised {
+            return Ok(());
+        }
         self.registers.fill(types, rd, field)?;
         Ok(())
     }
 
-    // Whether a register fits the field of the tuple in another one.
+    // That a register fits the field of the tuple in another one; whether the field is initialised already.
     fn check_stored(
         &self,
         types: &mut Types,
@@ -231,12 +234,12 @@ impl Checker<'_> {
         field: u64,
         rs: u64,
         span: Span,
-    ) -> Result<(), TFault>
+    ) -> Result<bool, TFault>
         requires { IsSound types.old self.now.registers }
         ensures grown { Grown types.old types.new }
         ensures stored { IsStored (known types.old self.now.registers) rd field rs span result }
     {
-        let (wanted, _) = self.field_of(types, rd, field, span)?;
+        let (wanted, is_initialised) = self.field_of(types, rd, field, span)?;
         let source = match self.registers.find(rs) {
             Some(entry) => entry,
             None => return refused(TCode::T08, span),
@@ -244,7 +247,7 @@ impl Checker<'_> {
         if !self.registers.fits_entry(types, source, wanted)? {
             return refused(TCode::T13, span);
         }
-        Ok(())
+        Ok(is_initialised)
     }
 
     fn check_unpack(

@@ -34,7 +34,7 @@ impl Registers {
         }
     }
 
-    // How many times a register had been set when the code's file was seen to fit, where that says more than the file.
+    // The place in what was set at which the code's file was seen to fit, where fewer were set since than it names.
     fn fitted_but(&self, types: &Types, code: u64) -> Option<usize>
         requires sound { IsSound types.now self.now }
         requires there { code < length types.now }
@@ -55,7 +55,7 @@ impl Registers {
         }
     }
 
-    // Whether the code's type means the same as at the moment.
+    // Whether the code's type means what it meant at the moment: no name came into scope, or none is free in it.
     fn lasts(&self, types: &Types, code: u64, moment: Moment) -> bool
         requires { code < length types.now }
         ensures { IsTrue result → (moment.names ≡ self.now.names) ⊎ Below 0 (at types.now code) }
@@ -83,7 +83,8 @@ impl Registers {
         Ok(true)
     }
 
-    // By the registers of the file. That it rises is known of each file of a text, but not of a table of types.
+    // By the registers of the file. It is remembered where they rise, as those of a program do: the table of types does
+    // not say so.
     fn fit_whole(
         &mut self,
         types: &mut Types,

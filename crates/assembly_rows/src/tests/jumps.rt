@@ -9,7 +9,7 @@ use t_terms::TCode;
 // Text around some instructions.
 type Frame<'a> = (&'a str, &'a str);
 
-// Instructions within a frame, and the place of the jump among them that is refused, if one is.
+// Instructions within a frame, and the place in the text of the jump that is refused, if one is.
 type Row<'a> = (&'a str, Option<(u64, u64)>);
 
 const TWO_FILES: Frame = (
@@ -28,9 +28,8 @@ const OPEN_FILE: Frame = (
 fn has_fault(rt: &impl Abort, alloc: Global, frame: Frame, row: Row) -> Result<(), Fail> {
     let text = built(alloc, &[(frame.0, 1), (row.0, 1), (frame.1, 1)])?;
     let program = read(alloc, &text)?;
-    let start = frame.0.len() as u64;
     let wanted = match row.1 {
-        Some((from, to)) => at(TCode::T18, start + from, start + to),
+        Some((start, end)) => at(TCode::T18, start, end),
         None => None,
     };
     assert_eq!(rt; accepted(alloc, program).err(), wanted);
@@ -53,13 +52,13 @@ fn what_was_set_since_is_looked_at(rt: HostRuntime) -> Result<(), Fail> {
         TWO_FILES,
         &[
             ("malloc r3[]\njmp L2", None),
-            ("malloc r2[]\njmp L2", Some((12, 18))),
-            ("malloc r3[]\nbnz r1, L2\njmp L1", Some((23, 29))),
-            ("malloc r2[]\nbnz r1, L1\njmp L2", Some((12, 22))),
+            ("malloc r2[]\njmp L2", Some((132, 138))),
+            ("malloc r3[]\nbnz r1, L2\njmp L1", Some((143, 149))),
+            ("malloc r2[]\nbnz r1, L1\njmp L2", Some((132, 142))),
             ("malloc r2[]\nmov r2, 3\njmp L1", None),
             ("malloc r3[]\nbnz r1, L2\nmov r3, 3\njmp L1", None),
             ("mov r7, r5\nmalloc r5[int]\nmov r5, r7\njmp L2", None),
-            ("malloc r5[int]\njmp L2", Some((15, 21))),
+            ("malloc r5[int]\njmp L2", Some((135, 141))),
             ("malloc r5[int]\nst r5[0], r1\njmp L2", None),
             (
                 "malloc r5[int]\nbnz r1, L1\nst r5[0], r1\nbnz r1, L2\njmp L1",
@@ -68,19 +67,19 @@ fn what_was_set_since_is_looked_at(rt: HostRuntime) -> Result<(), Fail> {
             ("unpack[a, r7], pack[int, 1] as some b. b\njmp L1", None),
             (
                 "unpack[a, r2], pack[int, 1] as some b. b\njmp L1",
-                Some((41, 47)),
+                Some((161, 167)),
             ),
             (
                 "unpack[a, r3], pack[int, 1] as some b. b\nbnz r1, L2\njmp L1",
-                Some((52, 58)),
+                Some((172, 178)),
             ),
             (
                 "malloc r2[]\nunpack[a, r7], pack[int, 1] as some b. b\njmp L2",
-                Some((53, 59)),
+                Some((173, 179)),
             ),
             (
                 "malloc r2[]\nmov r7, 1\nmov r7, 2\nmov r7, 3\nmov r7, 4\njmp L1",
-                Some((52, 58)),
+                Some((172, 178)),
             ),
         ],
     )
@@ -97,9 +96,9 @@ fn a_file_with_a_free_name_is_another_after_an_unpack(rt: HostRuntime) -> Result
             ("unpack[b, r10], pack[int, 1] as some c. c\njmp r8", None),
             (
                 "unpack[b, r9], pack[int, 1] as some c. c\njmp r8",
-                Some((41, 47)),
+                Some((211, 217)),
             ),
-            ("unpack[b, r10], r11\njmp r10", Some((20, 27))),
+            ("unpack[b, r10], r11\njmp r10", Some((190, 197))),
         ],
     )
 }

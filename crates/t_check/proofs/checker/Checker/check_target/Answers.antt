@@ -1,11 +1,10 @@
-use Rattle.std.proofs.Common.{◌≡◌, ◌∙◌, sym, subst, refl, Result, true≢false}
+use Rattle.std.proofs.Common.{◌≡◌, ◌∙◌, sym, subst, Result, true≢false}
 use Rattle.t_types.specs.Tree.{CodeTy, TFile}
 use Rattle.t_types.specs.Fits.{FitsFile, RegTypes}
 use Rattle.t_terms.specs.Read.{value}
 use Rattle.t_terms.specs.ReadProgram.{program}
 use Rattle.t_terms.specs.declared.fault.TFault.{TFault}
 use Rattle.t_intern.specs.Nodes.{at}
-use Rattle.t_intern.proofs.Growing.{grown_next}
 use Rattle.t_check.specs.Known.{known}
 use Rattle.t_check.specs.Verdict.{IsEntered}
 use Rattle.t_check.proofs.Fitted.{same_known}

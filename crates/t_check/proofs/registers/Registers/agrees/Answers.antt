@@ -1,6 +1,5 @@
-use Rattle.std.proofs.Common.{Bool, IsTrue, ◌↔◌, Some, None, sym, ◌∙◌, subst, refl}
+use Rattle.std.proofs.Common.{Bool, IsTrue, ◌↔◌, sym, refl}
 use Rattle.std.proofs.lemmas.Result.{IfOk-weaker}
-use Rattle.t_types.specs.Tree.{Ty}
 use Rattle.t_intern.specs.Nodes.{at}
 use Rattle.t_check.specs.Fitted.{KnownFits, AgreesAt}
 use Rattle.t_check.specs.Known.{known}

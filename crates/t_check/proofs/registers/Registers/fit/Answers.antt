@@ -1,8 +1,7 @@
-use Rattle.std.proofs.Common.{◌≡◌, ap, sym, ◌∙◌, subst, Option, List, ℕ, length}
-use Rattle.t_types.specs.Tree.{Ty, TFile, CodeTy}
+use Rattle.std.proofs.Common.{◌≡◌, sym, ◌∙◌, subst, Option, List, ℕ, length}
+use Rattle.t_types.specs.Tree.{CodeTy}
 use Rattle.t_intern.specs.Nodes.{at, regs_at, RegsBelow}
-use Rattle.t_check.specs.Known.{known}
-use Rattle.t_check.specs.Verdict.{IsCode, TellsFile}
+use Rattle.t_check.specs.Verdict.{IsCode}
 use Rattle.t_check.specs.declared.parts.CodeParts.{CodeParts}
 use Rattle.t_check.proofs.registers.Registers.fit.Goals as goal
 

@@ -1,5 +1,5 @@
-use Rattle.std.proofs.Common.{◌≡◌, refl, sym, ◌∙◌, subst, true≢false}
-use Rattle.t_types.specs.Tree.{TFile, CodeTy}
+use Rattle.std.proofs.Common.{◌≡◌, refl, sym, ◌∙◌, subst}
+use Rattle.t_types.specs.Tree.{CodeTy}
 use Rattle.t_types.specs.Fits.{FitsFile, RegTypes}
 use Rattle.t_intern.specs.Nodes.{regs_at}
 use Rattle.t_intern.proofs.Growing.{grown_at}

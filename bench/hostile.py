@@ -72,12 +72,41 @@ def unpacks(n):
     return HEAD + "".join(lines) + "jmp L0\n"
 
 
+def file_of(first, count):
+    """A file of so many registers, from this one on."""
+    return ", ".join(f"r{first + i}:int" for i in range(count))
+
+
+def set_all(count):
+    return "".join(f"mov r{i + 1}, 1\n" for i in range(count))
+
+
 def wide_jumps(n):
-    """Many jumps to a block with a wide file: each jump looks up each register, so this one grows as the power 1.5."""
+    """Many jumps to a block with a wide file."""
     each = max(2, int(n ** 0.5))
-    regs = ", ".join(f"r{i + 1}:int" for i in range(each))
-    start = "".join(f"mov r{i + 1}, 1\n" for i in range(each))
-    return HEAD + start + "bnz r1, L1\n" * (n // 4) + f"jmp L1\nL1: code[]{{{regs}}}.\njmp L1\n"
+    return HEAD + set_all(each) + "bnz r1, L1\n" * (n // 4) + f"jmp L1\nL1: code[]{{{file_of(1, each)}}}.\njmp L1\n"
+
+
+def changed_jumps(n):
+    """Many jumps to a block with a wide file, a register of which is set before each."""
+    each = max(2, int(n ** 0.5))
+    jumps = "".join(f"mov r{i % each + 1}, 1\nbnz r1, L1\n" for i in range(n // 4))
+    return HEAD + set_all(each) + jumps + f"jmp L1\nL1: code[]{{{file_of(1, each)}}}.\njmp L1\n"
+
+
+def two_files(n):
+    """Many jumps to two blocks with wide files in turn, where a register of one of them is set before each."""
+    each = max(2, int(n ** 0.5))
+    jumps = "".join(f"mov r{i % (2 * each) + 1}, 1\nbnz r1, L{i % 2 + 1}\n" for i in range(n // 4))
+    blocks = "".join(f"L{i + 1}: code[]{{{file_of(i * each + 1, each)}}}.\njmp L{i + 1}\n" for i in range(2))
+    return HEAD + set_all(2 * each) + jumps + "jmp L1\n" + blocks
+
+
+def unpacked_jumps(n):
+    """Many jumps to a block with a wide file, with an unpack before each."""
+    each = max(2, int(n ** 0.5))
+    jumps = "".join(f"unpack[a, r{each + 1}], pack[int, 1] as some b. b\nbnz r1, L1\n" for _ in range(n // 4))
+    return HEAD + set_all(each) + jumps + f"jmp L1\nL1: code[]{{{file_of(1, each)}}}.\njmp L1\n"
 
 
 def names(n):
@@ -89,7 +118,8 @@ def names(n):
 TEXTS = [
     (falling, 10_000), (one_register, 2_000), (many_registers, 2_000), (after_unpacks, 1_000), (fills, 2_000),
     (filled_moves, 2_000), (arguments, 1_200),
-    (deep, 1_000), (unpacks, 2_000), (wide_jumps, 20_000), (names, 10_000),
+    (deep, 1_000), (unpacks, 2_000), (wide_jumps, 20_000), (changed_jumps, 20_000), (two_files, 20_000),
+    (unpacked_jumps, 10_000), (names, 10_000),
 ]
 
 

@@ -3,6 +3,7 @@ mod checking;
 mod data;
 mod grammar;
 mod interning;
+mod jumps;
 mod lexing;
 mod programs;
 mod reading;

@@ -1,7 +1,7 @@
 -- The blocks and the data of a program, by place.
 use Rattle.std.proofs.Common.{◌≡◌, ℕ, zero, suc, ◌<◌, List, [], ◌∷◌, length, Some, sym, ap, get_or, arith, subst, slice_get}
 use Rattle.t_types.specs.Read.{tree, types}
-use Rattle.t_types.specs.WellFormed.{WellFormed, WellFormedTypes}
+use Rattle.t_types.specs.WellFormed.{WellFormedTypes}
 use Rattle.t_types.specs.Tree.{BelowTypes}
 use Rattle.t_types.proofs.Scope.{well_formed_below}
 use Rattle.t_types.specs.declared.types.TType.{TType}
@@ -47,12 +47,6 @@ formed_data_at p d x lt is h =
     subst (λ n. WellFormedData n (length p.heap.items) (plain_fields (spanned_data x).fields)) (blocks_count p.blocks.items)
     (subst (λ n. WellFormedData (length (blocks_of p.blocks.items)) n (plain_fields (spanned_data x).fields)) (data_count p.heap.items)
     (well_data_at (length (blocks_of p.blocks.items)) (length (data_of p.heap.items)) p.heap.items d x lt is h.2))
-
--- a type in a list of types
-pub type_at : (n : ℕ) (ts : List TType) (i : ℕ) (x : TType) → i < length ts → x ≡ get_or ts i x → WellFormedTypes n (types ts) → WellFormed n (tree x)
-type_at n [] i x lt is h = absurd (omega arith)
-type_at n (t ∷ ts) zero x lt is h = subst (λ (y : TType). WellFormed n (tree y)) (sym is) h.0
-type_at n (t ∷ ts) (suc i) x lt is h = type_at n ts i x (omega arith) is h.1
 
 pub types_below : (n : ℕ) (ts : List TType) → WellFormedTypes n (types ts) → BelowTypes n (types ts)
 types_below n [] h = tt

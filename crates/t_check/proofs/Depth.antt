@@ -3,7 +3,7 @@ use Rattle.std.proofs.Common.{◌≡◌, ℕ, zero, suc, ◌+◌, ◌*◌, ◌-�
 use Rattle.std.proofs.lemmas.Bool.{cases_lt, cases_order}
 use Rattle.idx_core.specs.Over.{deep, shifted, putted, IsWord, ShiftFitsAt, PutFitsAt}
 use Rattle.idx_core.specs.Laws.{deep_is, shifted_lt, shifted_ge, putted_lt, putted_eq, putted_gt, shift_add_law}
-use Rattle.t_types.specs.Tree.{Ty, IntTy, VarTy, CodeTy, ExistsTy, TupleTy, TFile, NoRegs, MoreRegs, TFields, NoFields, MoreFields, over, each, each_file, each_fields, each_types, shift, put_file, ShiftFits, PutFits}
+use Rattle.t_types.specs.Tree.{Ty, IntTy, VarTy, CodeTy, ExistsTy, TupleTy, TFile, NoRegs, MoreRegs, TFields, NoFields, MoreFields, over, each, each_file, each_fields, shift, put_file, ShiftFits, PutFits}
 use Rattle.t_types.specs.TreeLaws.{types_part, types_each, types_over, file_each, file_over}
 use Rattle.t_types.specs.WellFormed.{max_names, WellFormed, WellFormedFile, WellFormedFields, WellFormedTypes, RegsAbove}
 use Rattle.t_types.specs.Fields.{AField, field, filled, empty_fields}
@@ -53,10 +53,6 @@ mutual
 
 pub shallow : (n : ℕ) (t : Ty) → WellFormed n t → Shallow n t
 shallow n t h = shallow_from n 0 n t (omega arith) (omega arith) h
-
-pub shallow_types : (n : ℕ) (ts : List Ty) → WellFormedTypes n ts → each_types (ShallowAt n) ShallowBelow 0 ts
-shallow_types n [] h = tt
-shallow_types n (t ∷ ts) h = (shallow n t h.0, shallow_types n ts h.1)
 
 -- what is shallow is bounded
 owed_file : (n m k : ℕ) (file : TFile) → n ≤ m → each_file (ShallowAt n) ShallowBelow (0 + k) file → OwedFile m k file

@@ -1,8 +1,10 @@
 -- A field of a register's tuple becomes initialised.
-use Rattle.std.proofs.Common.{◌<◌, ◌≤◌, length, ap, ◌+◌, ◌||◌, nat_eq, arith, ◌≡◌, ℕ, ◌-◌, List, Some, sym, ap₂, ◌∙◌, subst}
-use Rattle.t_types.specs.Tree.{Ty, TFields, TupleTy}
+use Rattle.std.proofs.Common.{◌<◌, ◌≤◌, ◌≢◌, ◌⊎◌, inl, inr, length, ap, zero, suc, ◌+◌, ◌||◌, true, false, cond, nat_eq, arith, ◌≡◌, ℕ, ◌-◌, List, Some, sym, ap₂, ◌∙◌, subst}
+use Rattle.std.proofs.Math.Path.{fun_ext}
+use Rattle.std.proofs.lemmas.Bool.Decides.{eqb_tells}
+use Rattle.t_types.specs.Tree.{Ty, TFields, NoFields, MoreFields, TupleTy}
 use Rattle.t_types.specs.Fits.{RegTypes}
-use Rattle.t_types.specs.Fields.{filled}
+use Rattle.t_types.specs.Fields.{AField, field, filled}
 use Rattle.t_rules.specs.Registers.{with_reg}
 use Rattle.t_intern.specs.Grown.{Grown}
 use Rattle.t_intern.specs.Nodes.{at}
@@ -50,3 +52,16 @@ is_filled ts us k h r i e m g s found there below more set =
         let u = unmarked_tuple ts e.marks (at ts e.ty) gs q in
         ap (marked (at us m)) (grown_at ts us g e.ty found.1.0 ∙ u.1)
         ∙ ap TupleTy (marked_filled (marks ts e.marks) (has (at us m)) 1 i (i + 1) u.0 (omega arith) (omega arith) more ∙ ap (λ xs. filled xs i) (sym u.2))
+
+-- a field that is initialised already
+filled_as_was : (fs : TFields) (i : ℕ) (t : Ty) → field fs i ≡ Some (AField t true) → filled fs i ≡ fs
+filled_as_was NoFields i t is = cc
+filled_as_was (MoreFields u flag fs) zero t is = let same : flag ≡ true = cc in ap (λ b. MoreFields u b fs) (sym same)
+filled_as_was (MoreFields u flag fs) (suc i) t is = ap (MoreFields u flag) (filled_as_was fs i t is)
+
+pub filled_before : (g : RegTypes) (r : ℕ) (fs : TFields) (i : ℕ) (t : Ty) → g r ≡ Some (TupleTy fs) → field fs i ≡ Some (AField t true) → with_reg g r (TupleTy (filled fs i)) ≡ g
+filled_before g r fs i t here is = fun_ext (λ q. pick q (eqb_tells r q))
+  where
+    pick : (q : ℕ) → ((nat_eq r q ≡ true) × (r ≡ q)) ⊎ ((nat_eq r q ≡ false) × (r ≢ q)) → cond (nat_eq r q) (Some (TupleTy (filled fs i))) (g q) ≡ g q
+    pick q (inl h) = ap (λ b. cond b (Some (TupleTy (filled fs i))) (g q)) h.0 ∙ ap (λ xs. Some (TupleTy xs)) (filled_as_was fs i t is) ∙ sym here ∙ ap g h.1
+    pick q (inr h) = ap (λ b. cond b (Some (TupleTy (filled fs i))) (g q)) h.0

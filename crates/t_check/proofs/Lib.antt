@@ -1,4 +1,6 @@
 mod Depth
+mod Rising
+mod Fitted
 mod Noting
 mod Tuples
 mod Filling

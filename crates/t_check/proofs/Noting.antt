@@ -15,12 +15,14 @@ use Rattle.t_types.specs.WellFormed.{max_names, RegsAbove, WellFormedFile}
 use Rattle.t_rules.specs.Registers.{with_reg, raised, no_types}
 use Rattle.t_intern.specs.Grown.{Grown}
 use Rattle.t_intern.specs.Nodes.{at, regs_at, RegsBelow}
-use Rattle.t_intern.proofs.Growing.{grown_length}
+use Rattle.t_intern.proofs.Growing.{grown_length, grown_at}
 use Rattle.t_check.specs.declared.registers.Entry.{Entry}
+use Rattle.t_check.specs.declared.registers.Moment.{Moment}
 use Rattle.t_check.specs.declared.registers.Registers.{Registers}
 use Rattle.t_check.specs.Bounds.{Bounded}
 use Rattle.t_check.specs.Known.{own, seen, entry_of, known, IsEntry, IsSound, IsFound, IsSet, IsNoted, IsOfBlock, IsEmpty}
 use Rattle.t_check.proofs.Depth.{shallow, bounded}
+use Rattle.t_check.proofs.Fitted.{fitted_same, fitted_set, fitted_bound}
 use Rattle.t_check.proofs.Sets.{marks_grown, own_marks_grown}
 
 -- the map's own test of keys
@@ -52,7 +54,14 @@ module _ (ts us : List Ty) (g : Grown ts us) where
       go r (Some x) h e = ap Some (seen_grown k.names x (h.entries r x e))
 
   pub sound_grown : (k : Registers) → IsSound ts k → IsSound us k
-  sound_grown k h = record { few = h.few; entries = λ r e is. entry_grown k.names e (h.entries r e is) }
+  sound_grown k h = record {
+    few = h.few;
+    entries = λ r e is. entry_grown k.names e (h.entries r e is);
+    fitted = λ f m is.
+        let x = h.fitted f m is in
+        let l = grown_length ts us g in
+        fitted_same ts us k k f m (omega (arith, l, x.there)) (grown_at ts us g f x.there) (known_grown k h) refl refl x;
+  }
 
 -- an entry that is noted now
 pub seen_now : (ts : List Ty) (n : ℕ) (e : Entry) → e.names ≡ n → seen ts n e ≡ own ts e
@@ -70,6 +79,7 @@ module _ (ts : List Ty) (k h : Registers) (r : ℕ) (e : Entry) (set : IsSet k h
   set_sound mine s = record {
     few = subst (λ n. n ≤ max_names) (sym set.1) s.few;
     entries = λ q x is. subst (λ n. IsEntry ts n x) (sym set.1) (pick (nat_eq r q) q x mine s (sym (set.0 q) ∙ is));
+    fitted = λ f m is. fitted_set ts k h r e (seen ts k.names e) set set_known f m (s.fitted f m (ap (λ (x : BTreeMap ℕ Moment). get nat_cmp x f) (sym set.3) ∙ is));
   }
     where
       pick : (b : Bool) (q : ℕ) (x : Entry) → IsEntry ts k.names e → IsSound ts k → cond b (Some e) (entry_of k q) ≡ Some x → IsEntry ts k.names x
@@ -97,7 +107,7 @@ seen_more ts n e le =
     let by : n - e.names + 1 ≡ n + 1 - e.names = omega arith in
     sym (shift_add_law types_part types_over (n - e.names) 1 0 (own ts e) ∙ ap (λ k. shift k 0 (own ts e)) by)
 
-module _ (ts : List Ty) (k h : Registers) (same : h.entries ≡ k.entries) (names : h.names ≡ k.names + 1) where
+module _ (ts : List Ty) (k h : Registers) (same : h.entries ≡ k.entries) (names : h.names ≡ k.names + 1) (changed : h.changed ≡ k.changed) (fitted : h.fitted ≡ k.fitted) where
   pub bound_known : IsSound ts k → known ts h ≡ raised (known ts k)
   bound_known s = fun_ext (λ r. ap₂ (λ (n : ℕ) (m : BTreeMap ℕ Entry). option_map (seen ts n) (get nat_cmp m r)) names same ∙ go r (entry_of k r) s refl)
     where
@@ -109,14 +119,15 @@ module _ (ts : List Ty) (k h : Registers) (same : h.entries ≡ k.entries) (name
   bound_sound few s = record {
     few = subst (λ n. n ≤ max_names) (sym names) few;
     entries = λ r e is. subst (λ n. IsEntry ts n e) (sym names) (entry_more ts k.names e (s.entries r e (ap (λ (m : BTreeMap ℕ Entry). get nat_cmp m r) (sym same) ∙ is)));
+    fitted = λ f m is. fitted_bound ts k h f m names (ap (λ v. v.items) changed) (bound_known s) (s.fitted f m (ap (λ (x : BTreeMap ℕ Moment). get nat_cmp x f) (sym fitted) ∙ is));
   }
 
 -- no registers
 pub empty_known : (ts : List Ty) (k : Registers) → IsEmpty k → known ts k ≡ no_types
-empty_known ts k e = fun_ext (λ r. ap (option_map (seen ts k.names)) (e r))
+empty_known ts k e = fun_ext (λ r. ap (option_map (seen ts k.names)) (e.0 r))
 
 pub empty_sound : (ts : List Ty) (k : Registers) → k.names ≤ max_names → IsEmpty k → IsSound ts k
-empty_sound ts k few e = record { few = few; entries = λ r x is. absurd (let none = e r in cc) }
+empty_sound ts k few e = record { few = few; entries = λ r x is. absurd (let none = e.0 r in cc); fitted = λ f m is. absurd (let none = e.1 f in cc) }
 
 -- the registers of a header, the last first: xs are those that are noted
 abbrev pub IsHeader : ℕ → List (ℕ × ℕ) → Registers → Type 0

@@ -14,7 +14,7 @@ use Rattle.t_terms.specs.declared.value.Value.{Value}
 use Rattle.t_rules.specs.Rules.{data_fields}
 use Rattle.t_intern.specs.Grown.{Grown, IsNumber, AreNumbers}
 use Rattle.t_intern.specs.Nodes.{at, fields_at, FieldsBelow}
-use Rattle.t_intern.proofs.Growing.{numbers_grown, number_at}
+use Rattle.t_intern.proofs.Growing.{grown_number, numbers_grown, number_at}
 use Rattle.t_check.specs.Labels.{field_types, all_flagged, AreLabels}
 use Rattle.t_check.specs.declared.labels.Labels.{Labels}
 
@@ -37,7 +37,7 @@ data_flagged (x ∷ xs) = ap (MoreFields (tree x.1) true) (data_flagged xs)
 
 -- the labels of a program
 pub labels_grown : (ts us : List Ty) (p : TProgram) (l : Labels) → Grown ts us → AreLabels ts p l → AreLabels us p l
-labels_grown ts us p l g h = record { blocks = numbers_grown ts us _ l.blocks.items g h.blocks; tuples = numbers_grown ts us _ l.tuples.items g h.tuples }
+labels_grown ts us p l g h = record { int = grown_number ts us g IntTy l.int h.int; blocks = numbers_grown ts us _ l.blocks.items g h.blocks; tuples = numbers_grown ts us _ l.tuples.items g h.tuples }
 
 pub as_many : (ts us : List Ty) (ns : List ℕ) → AreNumbers ts us ns → length ns ≡ length us
 as_many ts us ns h = sym (length-map ns (at ts)) ∙ ap length h.0

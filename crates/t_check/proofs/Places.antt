@@ -1,17 +1,18 @@
 -- A checker at its place, as the types grow; and files that fit by the numbers of their types.
-use Rattle.std.proofs.Common.{◌≡◌, ℕ, zero, suc, ◌<◌, ◌≤◌, List, [], ◌∷◌, length, take, get_or, All, Some, None, refl, arith, subst, Bool, IsTrue, ◌↔◌}
+use Rattle.std.proofs.Common.{◌≡◌, ℕ, zero, suc, ◌<◌, ◌≤◌, List, [], ◌∷◌, length, take, get_or, All, refl, ◌∙◌, arith, subst, Bool, IsTrue, ◌↔◌}
 use Rattle.std.proofs.lemmas.List.{take_all}
 use Rattle.std.proofs.lemmas.List.Elements.{All-nil, All-cons, All-head, All-tail}
-use Rattle.t_types.specs.Tree.{Ty}
-use Rattle.t_types.specs.Fits.{Fits, FitsFile, RegTypes}
+use Rattle.t_types.specs.Tree.{Ty, CodeTy, TFile}
+use Rattle.t_types.specs.Fits.{FitsFile, RegTypes}
 use Rattle.t_intern.specs.Grown.{Grown}
 use Rattle.t_intern.specs.Nodes.{at, regs_at}
-use Rattle.t_intern.proofs.Growing.{grown_at}
-use Rattle.t_check.specs.Known.{seen, IsEntry}
+use Rattle.t_intern.proofs.Growing.{grown_at, grown_length}
+use Rattle.t_check.specs.Fitted.{KnownFits, AgreesAt}
+use Rattle.t_check.specs.Known.{known, IsSound}
 use Rattle.t_check.specs.Verdict.{IsPlace}
-use Rattle.t_check.specs.declared.registers.Entry.{Entry}
 use Rattle.t_check.specs.declared.checker.Checker.{Checker}
-use Rattle.t_check.proofs.Noting.{sound_grown, seen_grown}
+use Rattle.t_check.specs.declared.registers.Registers.{Registers}
+use Rattle.t_check.proofs.Noting.{sound_grown, known_grown}
 use Rattle.t_check.proofs.Numbering.{labels_grown}
 
 pub place_grown : (ts us : List Ty) (c : Checker) → Grown ts us → IsPlace ts c → IsPlace us c
@@ -25,7 +26,7 @@ item_there (x ∷ xs) (suc i) l = item_there xs i (omega (arith, l))
 
 -- the register of an entry is known, by a type that fits
 abbrev pub RegFits : RegTypes → List Ty → ℕ × ℕ → Type 0
-RegFits g ts x = (u : Ty) × (g x.0 ≡ Some u) × Fits u (at ts x.1)
+RegFits g ts x = KnownFits g x.0 (at ts x.1)
 
 module _ (g : RegTypes) (ts : List Ty) where
   pub regs_fit : (xs : List (ℕ × ℕ)) → FitsFile g (regs_at ts xs) → All (RegFits g ts) xs
@@ -39,14 +40,15 @@ module _ (g : RegTypes) (ts : List Ty) where
   pub file_fits_all : (xs : List (ℕ × ℕ)) (n : ℕ) → All (RegFits g ts) (take n xs) → length xs ≤ n → FitsFile g (regs_at ts xs)
   file_fits_all xs n h all = file_fits xs (subst (λ (ys : List (ℕ × ℕ)). All (RegFits g ts) ys) (take_all n xs all) h)
 
-  -- an entry that fits, by the type that is known of its register
-  pub entry_fits : (x : ℕ × ℕ) (t : Ty) → g x.0 ≡ Some t → RegFits g ts x → Fits t (at ts x.1)
-  entry_fits x t e h = let k = h.1 in let same : h.0 ≡ t = cc in subst (λ u. Fits u (at ts x.1)) same h.2
+-- what is told of a register by more types
+pub told_grown : (ts us : List Ty) → Grown ts us → (k : Registers) → IsSound ts k → (r w : ℕ) (b : Bool) → w < length ts → (IsTrue b ↔ KnownFits (known us k) r (at us w)) → IsTrue b ↔ KnownFits (known ts k) r (at ts w)
+told_grown ts us g k s r w b lt h =
+    subst (λ (x : RegTypes). IsTrue b ↔ KnownFits x r (at ts w)) (known_grown ts us g k s)
+    (subst (λ (t : Ty). IsTrue b ↔ KnownFits (known us k) r t) (grown_at ts us g w lt) h)
 
-  pub entry_absent : (x : ℕ × ℕ) → g x.0 ≡ None → RegFits g ts x → ⊥
-  entry_absent x e h = let k = h.1 in cc
+pub agrees_grown : (ts us : List Ty) → Grown ts us → (k : Registers) → IsSound ts k → (f : TFile) (code r : ℕ) (b : Bool) → code < length ts → at ts code ≡ CodeTy 0 f → ((x : TFile) → at us code ≡ CodeTy 0 x → IsTrue b ↔ AgreesAt (known us k) x r) → IsTrue b ↔ AgreesAt (known ts k) f r
+agrees_grown ts us g k s f code r b lt e h =
+    subst (λ (x : RegTypes). IsTrue b ↔ AgreesAt x f r) (known_grown ts us g k s) (h f (grown_at ts us g code lt ∙ e))
 
--- whether an entry's type fits, before the types grew
-pub fit_grown : (ts us : List Ty) → Grown ts us → (n : ℕ) (e : Entry) (m : ℕ) (b : Bool) → IsEntry ts n e → m < length ts → (IsTrue b ↔ Fits (seen us n e) (at us m)) → IsTrue b ↔ Fits (seen ts n e) (at ts m)
-fit_grown ts us g n e m b l k h =
-    subst (λ t. IsTrue b ↔ Fits (seen ts n e) t) (grown_at ts us g m k) (subst (λ t. IsTrue b ↔ Fits t (at us m)) (seen_grown ts us g n e l) h)
+pub grown_there : (ts us : List Ty) → Grown ts us → (n : ℕ) → n < length ts → n < length us
+grown_there ts us g n lt = let l = grown_length ts us g in omega arith

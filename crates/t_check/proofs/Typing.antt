@@ -1,5 +1,5 @@
 -- What the checker answers on a value, from what it answers on its parts.
-use Rattle.std.proofs.Common.{◌≡◌, ◌≢◌, ℕ, ◌+◌, ◌-◌, ◌<◌, ◌≤◌, List, [], ◌∷◌, length, Some, Result, Ok, Err, inl, inr, refl, sym, ap₂, ◌∙◌, arith, subst}
+use Rattle.std.proofs.Common.{◌≡◌, ◌≢◌, ℕ, ◌+◌, ◌-◌, ◌<◌, ◌≤◌, List, [], ◌∷◌, length, Some, Result, Ok, Err, inl, inr, OnOk, refl, sym, ap, ap₂, ◌∙◌, arith, subst}
 use Rattle.idx_core.specs.declared.arith.Op.{Op}
 use Rattle.idx_core.specs.declared.span.Span.{Span}
 use Rattle.text_core.specs.Refusals.{refuse, check, nothing}
@@ -15,7 +15,7 @@ use Rattle.t_terms.specs.declared.fault.TFault.{TFault}
 use Rattle.t_terms.specs.declared.fault.TFault.TheVariants.{Memory, Refused}
 use Rattle.t_rules.specs.Registers.{no_types, inst_file, with_reg}
 use Rattle.t_rules.specs.Rules.{BaseHas, Has, Enters, DatumAccepted}
-use Rattle.t_rules.specs.Faults.{Fault, if_code, if_exists, BaseFault, ValueFault, EnterFault, InstrFault, DatumFault}
+use Rattle.t_rules.specs.Faults.{Fault, if_code, if_exists, ValueFault, EnterFault, InstrFault, DatumFault}
 use Rattle.t_check.specs.Bounds.{Bounded, OwedFile}
 use Rattle.t_intern.specs.Grown.{IsNumber}
 use Rattle.t_check.specs.Known.{own, seen, known, IsEntry, IsSound}
@@ -54,14 +54,6 @@ entry_bounded ts n e t h is =
 module _ (P : TProg) (n : ℕ) (g : RegTypes) (s : Span) where
   -- a base that is applied to types
   module _ (b : TBase) where
-    pub plain_none : (ts : List Ty) (t : Ty) → length ts ≡ 0 → BaseHas P g b t → Has P n g (Plain b ts) t
-    plain_none [] t e h = h
-    plain_none (u ∷ us) t e h = absurd (omega arith)
-
-    pub plain_base : (ts : List Ty) (c : TCode) (p : Span) → BaseFault g s b c p → ValueFault P n g s (Plain b ts) c p
-    plain_base [] c p h = h
-    plain_base (u ∷ us) c p h = inl h
-
     pub plain_code : (ts : List Ty) (t : Ty) → 0 < length ts → BaseHas P g b t → ((owes : ℕ) (file : TFile) → t ≢ CodeTy owes file) → ValueFault P n g s (Plain b ts) T17 s
     plain_code [] t some h none = absurd (omega arith)
     plain_code (u ∷ us) t some h none = inr (t, h, other_than_code t (refuse T17 s) _ T17 s none (refl, refl))
@@ -83,9 +75,6 @@ module _ (P : TProg) (n : ℕ) (g : RegTypes) (s : Span) where
         )
 
   -- a package
-  pub pack_part : (hidden shape : Ty) (v : TValue) (c : TCode) (p : Span) → ValueFault P n g s v c p → ValueFault P n g s (Pack hidden v shape) c p
-  pack_part hidden shape v c p h = inl h
-
   pub pack_is : (us : List Ty) (hidden shape t : Ty) (v : TValue) → Has P n g v t → WellFormed n hidden → WellFormed n shape → (r : Result ℕ TFault) → IsPacked us hidden t shape s r → IsTypeOf P us n g s (Pack hidden v shape) r
   pack_is us hidden shape t v h small formed (Ok m) d =
       let is = d.3.1 in
@@ -96,26 +85,31 @@ module _ (P : TProg) (n : ℕ) (g : RegTypes) (s : Span) where
   pack_unfit hidden shape t body e unfit = subst (λ u. if_exists u (refuse T15 s) (λ w. check (Fits t (put 0 hidden w)) (refuse T15 s) nothing) T15 s) (sym e) (inl (unfit, (refl, refl)))
 
   -- the target of a jump
-  pub enter_code : (v : TValue) (t : Ty) → Has P n g v t → ((owes : ℕ) (file : TFile) → t ≢ CodeTy owes file) → EnterFault P n g s v T16 s
-  enter_code v t h none = inr (t, h, other_than_code t (refuse T16 s) _ T16 s none (refl, refl))
+  no_target : (t : Ty) → ((file : TFile) → t ≢ CodeTy 0 file) → if_code t (refuse T16 s) (λ owes file. check (owes ≡ 0) (refuse T16 s) (check (FitsFile g file) (refuse T18 s) nothing)) T16 s
+  no_target IntTy none = (refl, refl)
+  no_target (VarTy i) none = (refl, refl)
+  no_target (CodeTy owes file) none = inl ((λ e. none file (ap (λ n. CodeTy n file) e)), (refl, refl))
+  no_target (ExistsTy t) none = (refl, refl)
+  no_target (TupleTy fs) none = (refl, refl)
 
-  module _ (v : TValue) (t : Ty) (owes : ℕ) (file : TFile) (h : Has P n g v t) (is : t ≡ CodeTy owes file) where
-    code : Has P n g v (CodeTy owes file)
-    code = subst (Has P n g v) is h
+  module _ (v : TValue) (t : Ty) (h : Has P n g v t) where
+    pub enter_none : ((file : TFile) → t ≢ CodeTy 0 file) → EnterFault P n g s v T16 s
+    enter_none none = inr (t, h, no_target t none)
 
-    pub enter_owes : owes ≢ 0 → EnterFault P n g s v T16 s
-    enter_owes some = inr (CodeTy owes file, code, inl (some, (refl, refl)))
+    module _ (file : TFile) (is : t ≡ CodeTy 0 file) where
+      code : Has P n g v (CodeTy 0 file)
+      code = subst (Has P n g v) is h
 
-    pub enter_regs : owes ≡ 0 → (FitsFile g file → ⊥) → EnterFault P n g s v T18 s
-    enter_regs e other = inr (CodeTy owes file, code, inr (e, inl (other, (refl, refl))))
+      pub enter_regs : (FitsFile g file → ⊥) → EnterFault P n g s v T18 s
+      enter_regs other = inr (CodeTy 0 file, code, inr (refl, inl (other, (refl, refl))))
 
-    pub enter_ok : owes ≡ 0 → FitsFile g file → Enters P n g v
-    enter_ok e fits = (file, subst (λ m. Has P n g v (CodeTy m file)) e code, fits)
+      pub enter_ok : FitsFile g file → Enters P n g v
+      enter_ok fits = (file, code, fits)
 
   -- a branch
-  pub bnz_is : (us : List Ty) (k : Registers) (r : ℕ) (v : TValue) → g r ≡ Some IntTy → known us k ≡ g → IsSound us k → k.names ≡ n → (a : Result (Unit {0}) TFault) → IsEntered P n g s v a → IsStep P us n g k s (Bnz r v) a
-  bnz_is us k r v int same sound names (Ok u) h = ((int, h, same), sound, names)
-  bnz_is us k r v int same sound names (Err f) h = says_map f (EnterFault P n g s v) (InstrFault P n g s (Bnz r v)) (λ c p x. rw int (inr (refl, x))) h
+  pub bnz_is : (us : List Ty) (k : Registers) (r : ℕ) (v : TValue) → g r ≡ Some IntTy → known us k ≡ g → k.names ≡ n → (a : Result (Unit {0}) TFault) → OnOk a (IsSound us k) → IsEntered P n g s v a → IsStep P us n g k s (Bnz r v) a
+  bnz_is us k r v int same names (Ok u) sound h = ((int, h, same), sound, names)
+  bnz_is us k r v int same names (Err f) sound h = says_map f (EnterFault P n g s v) (InstrFault P n g s (Bnz r v)) (λ c p x. rw int (inr (refl, x))) h
 
   -- a register that is moved
   pub copy_is : (us : List Ty) (h : Registers) (rd r : ℕ) (t : Ty) → g r ≡ Some t → known us h ≡ with_reg g rd t → IsSound us h → h.names ≡ n → IsStep P us n g h s (Mov rd (Plain (Reg r) [])) (Ok tt)

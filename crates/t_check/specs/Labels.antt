@@ -1,7 +1,7 @@
 -- The types of a program's labels.
 use Rattle.std.specs.Prelude.{Bool, List, [], ◌∷◌, map}
 use Rattle.idx_core.specs.declared.span.Span.{Span}
-use Rattle.t_types.specs.Tree.{Ty, CodeTy, TFields, NoFields, MoreFields}
+use Rattle.t_types.specs.Tree.{Ty, IntTy, CodeTy, TFields, NoFields, MoreFields}
 use Rattle.t_types.specs.Read.{tree, file}
 use Rattle.t_types.specs.declared.types.TType.{TType}
 use Rattle.t_terms.specs.Read.{spanned_data}
@@ -11,7 +11,7 @@ use Rattle.t_terms.specs.declared.block.Block.{Block}
 use Rattle.t_terms.specs.declared.data.Data.{Data}
 use Rattle.t_terms.specs.declared.program.TProgram.{TProgram}
 use Rattle.t_rules.specs.Rules.{data_type}
-use Rattle.t_intern.specs.Grown.{AreNumbers}
+use Rattle.t_intern.specs.Grown.{IsNumber, AreNumbers}
 use Rattle.t_check.specs.declared.labels.Labels.{Labels}
 
 -- a block's label is code that owes what the block owes
@@ -39,7 +39,8 @@ abbrev pub all_flagged : Bool → List Ty → TFields
 all_flagged flag [] = NoFields
 all_flagged flag (t ∷ ts) = MoreFields t flag (all_flagged flag ts)
 
--- the labels have these numbers
+-- integers and the labels have these numbers
 pub record AreLabels (ts : List Ty) (p : TProgram) (l : Labels) : Type 0 where
+  pub int : IsNumber ts IntTy l.int
   pub blocks : AreNumbers ts (code_types p.blocks.items) l.blocks.items
   pub tuples : AreNumbers ts (tuple_types p.heap.items) l.tuples.items

@@ -1,5 +1,6 @@
 pub mod Bounds
 pub mod Checked
+pub mod Fitted
 pub mod Known
 pub mod Labels
 pub mod Marks

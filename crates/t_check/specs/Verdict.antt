@@ -20,6 +20,7 @@ use Rattle.t_rules.specs.Rules.{BaseHas, Has, Enters, Typed, EndTyped, BlockAcce
 use Rattle.t_rules.specs.Faults.{Fault, if_exists, register, integer, tuple, field_at, BaseFault, ValueFault, EnterFault, InstrFault, EndFault, BlockFault, BlocksFault, DatumFault, DataFault, HeapFault, ProgramFault}
 use Rattle.t_check.specs.Bounds.{Bounded, OwedFile}
 use Rattle.t_check.specs.Checked.{checked_program}
+use Rattle.t_check.specs.Fitted.{KnownFits, AgreesAt, SinceAgree}
 use Rattle.t_intern.specs.Grown.{AreRegs, IsNumber}
 use Rattle.t_intern.specs.Nodes.{at, regs_at, RegsBelow}
 use Rattle.t_check.specs.Known.{known, IsSound}
@@ -61,6 +62,9 @@ abbrev pub IsCode : List Ty → ℕ → Option CodeParts → Type 0
 IsCode ts n (Some p) = (at ts n ≡ CodeTy p.owes (regs_at ts p.regs.items)) × RegsBelow (length ts) p.regs.items
 IsCode ts n None = (owes : ℕ) (f : TFile) → at ts n ≢ CodeTy owes f
 
+abbrev pub IsRegsOf : List Ty → ℕ → List (ℕ × ℕ) → Type 0
+IsRegsOf ts n regs = ((owes : ℕ) × (at ts n ≡ CodeTy owes (regs_at ts regs))) × RegsBelow (length ts) regs
+
 abbrev pub IsExists : List Ty → ℕ → Option ℕ → Type 0
 IsExists ts n (Some body) = (at ts n ≡ ExistsTy (at ts body)) × (body < length ts)
 IsExists ts n None = (body : Ty) → at ts n ≢ ExistsTy body
@@ -100,10 +104,10 @@ IsFieldOf us n g r i s (Ok x) =
     × Bounded n (at us x.0) × (x.0 < length us)
 IsFieldOf us n g r i s (Err f) = Says f (register g r s (λ t. tuple t s (λ fs. field_at fs i s (λ u flag. nothing))))
 
--- a register fits a field of the tuple in another one, or the first fault
-abbrev pub IsStored : RegTypes → ℕ → ℕ → ℕ → Span → Result (Unit {0}) TFault → Type 0
-IsStored g rd i rs s (Ok u) =
-    (fs : TFields) × (t : Ty) × (flag : Bool) × (w : Ty) × (g rd ≡ Some (TupleTy fs))
+-- a register fits a field, with this flag, of the tuple in another one, or the first fault
+abbrev pub IsStored : RegTypes → ℕ → ℕ → ℕ → Span → Result Bool TFault → Type 0
+IsStored g rd i rs s (Ok flag) =
+    (fs : TFields) × (t : Ty) × (w : Ty) × (g rd ≡ Some (TupleTy fs))
     × (field fs i ≡ Some (AField t flag)) × (g rs ≡ Some w) × Fits w t
 IsStored g rd i rs s (Err f) =
     Says f (register g rd s (λ t. tuple t s (λ fs. field_at fs i s (λ u flag. register g rs s (λ w. check (Fits w u)
@@ -112,6 +116,16 @@ IsStored g rd i rs s (Err f) =
 -- the answer, if there is one, tells whether what is known of the registers fits the file
 abbrev pub TellsFile : RegTypes → TFile → Result Bool OutOfMemory → Type 0
 TellsFile g f r = IfOk r (λ b. IsTrue b ↔ FitsFile g f)
+
+-- the same of one register and a type, of a register that the file may name, and of those set from a place on
+abbrev pub TellsReg : RegTypes → ℕ → Ty → Result Bool OutOfMemory → Type 0
+TellsReg g r t a = IfOk a (λ b. IsTrue b ↔ KnownFits g r t)
+
+abbrev pub TellsAt : RegTypes → TFile → ℕ → Result Bool OutOfMemory → Type 0
+TellsAt g f r a = IfOk a (λ b. IsTrue b ↔ AgreesAt g f r)
+
+abbrev pub TellsSince : RegTypes → TFile → List ℕ → ℕ → Result Bool OutOfMemory → Type 0
+TellsSince g f rs i a = IfOk a (λ b. IsTrue b ↔ SinceAgree g f rs i)
 
 -- and whether a type fits another one
 abbrev pub TellsFit : Ty → Ty → Result Bool OutOfMemory → Type 0

@@ -89,11 +89,13 @@ impl Checker<'_> {
         }
     }
 
-    fn check_bnz(&self, types: &mut Types, r: u64, v: &Value, span: Span) -> Result<(), TFault>
-        requires place { IsPlace types.old self.now }
-        requires value { FormedAt self.now (value v.now) }
+    fn check_bnz(&mut self, types: &mut Types, r: u64, v: &Value, span: Span) -> Result<(), TFault>
+        requires place { IsPlace types.old self.old }
+        requires value { FormedAt self.old (value v.now) }
         ensures grown { Grown types.old types.new }
-        ensures step { StepsTo types.old types.new self.now self.now span (Bnz r (value v.now)) result }
+        ensures step { StepsTo types.old types.new self.old self.new span (Bnz r (value v.now)) result }
+        ensures program { self.new.program ≡ self.old.program }
+        ensures labels { self.new.labels ≡ self.old.labels }
     {
         self.check_int(types, r, span)?;
         self.check_target(types, v, span)
@@ -216,12 +218,15 @@ impl Checker<'_> {
         ensures program { self.new.program ≡ self.old.program }
         ensures labels { self.new.labels ≡ self.old.labels }
     {
-        self.check_stored(types, rd, field, rs, span)?;
+        let is_initialised = self.check_stored(types, rd, field, rs, span)?;
+        if is_initialised {
+            return Ok(());
+        }
         self.registers.fill(types, rd, field)?;
         Ok(())
     }
 
-    // Whether a register fits the field of the tuple in another one.
+    // That a register fits the field of the tuple in another one; whether the field is initialised already.
     fn check_stored(
         &self,
         types: &mut Types,
@@ -229,20 +234,20 @@ impl Checker<'_> {
         field: u64,
         rs: u64,
         span: Span,
-    ) -> Result<(), TFault>
+    ) -> Result<bool, TFault>
         requires { IsSound types.old self.now.registers }
         ensures grown { Grown types.old types.new }
         ensures stored { IsStored (known types.old self.now.registers) rd field rs span result }
     {
-        let (wanted, _) = self.field_of(types, rd, field, span)?;
+        let (wanted, is_initialised) = self.field_of(types, rd, field, span)?;
         let source = match self.registers.find(rs) {
             Some(entry) => entry,
             None => return refused(TCode::T08, span),
         };
-        if !self.fits_entry(types, source, wanted)? {
+        if !self.registers.fits_entry(types, source, wanted)? {
             return refused(TCode::T13, span);
         }
-        Ok(())
+        Ok(is_initialised)
     }
 
     fn check_unpack(
@@ -271,11 +276,16 @@ impl Checker<'_> {
         Ok(())
     }
 
-    pub(crate) fn check_end(&self, types: &mut Types, end: &End, span: Span) -> Result<(), TFault>
-        requires place { IsPlace types.old self.now }
-        requires end { FormedEnd self.now.program.now self.now.registers.names (end_of end.now) }
+    pub(crate) fn check_end(
+        &mut self,
+        types: &mut Types,
+        end: &End,
+        span: Span,
+    ) -> Result<(), TFault>
+        requires place { IsPlace types.old self.old }
+        requires end { FormedEnd self.old.program.now self.old.registers.names (end_of end.now) }
         ensures grown { Grown types.old types.new }
-        ensures ended { EndedAt types.old self.now span (end_of end.now) result }
+        ensures ended { EndedAt types.old self.old span (end_of end.now) result }
     {
         match end {
             End::Jmp(v) => self.check_target(types, v, span),

@@ -15,9 +15,11 @@ use t_intern::{Shape, Types};
 use t_terms::{Block, Data, TProgram, Value};
 use t_types::TType;
 
-/// The numbers of the types of a program's blocks and of its data tuples, in their order.
+/// The number of the type of integers, and those of the types of a program's blocks and of its data tuples, in their
+/// order.
 #[derive(Drop)]
 pub(crate) struct Labels {
+    pub(crate) int: u64,
     pub(crate) blocks: Vec<u64>,
     pub(crate) tuples: Vec<u64>,
 }
@@ -31,9 +33,14 @@ impl Labels {
         ensures grown { Grown types.old types.new }
         ensures labels { IfOk result (AreLabels types.new program.now) }
     {
+        let int = types.intern(Shape::Int)?;
         let blocks = number_blocks(alloc, types, &program.blocks)?;
         let tuples = number_heap(alloc, types, &program.heap)?;
-        Ok(Labels { blocks, tuples })
+        Ok(Labels {
+            int,
+            blocks,
+            tuples,
+        })
     }
 }
 

@@ -5,6 +5,7 @@ mod checked;
 mod checker;
 mod entering;
 mod instructions;
+mod jumps;
 mod labels;
 mod marking;
 mod marks;

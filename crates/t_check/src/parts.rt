@@ -1,9 +1,9 @@
 // The parts of a type, and a refusal.
-ghost use Rattle.std.specs.Prelude.{◌≡◌, ◌↔◌, ◌<◌, IsTrue, IfOk, length};
-ghost use Rattle.t_types.specs.Tree.{IntTy};
+ghost use Rattle.std.specs.Prelude.{◌≡◌, ◌≢◌, ◌↔◌, ◌<◌, ℕ, IsTrue, IfOk, MatchOption, length};
+ghost use Rattle.t_types.specs.Tree.{IntTy, CodeTy, TFile};
 ghost use Rattle.t_terms.specs.declared.fault.TFault.TheVariants as fault;
 ghost use Rattle.t_intern.specs.Nodes.{at};
-ghost use Rattle.t_check.specs.Verdict.{IsCode, IsExists};
+ghost use Rattle.t_check.specs.Verdict.{IsCode, IsRegsOf, IsExists};
 
 use idx_core::{OutOfMemory, Span};
 use t_intern::{Shape, Types};
@@ -40,6 +40,29 @@ pub(crate) fn code_parts(types: &Types, n: u64) -> Result<Option<CodeParts>, Out
     match types.copied(n)? {
         Shape::Code { owes, regs } => Ok(Some(CodeParts { owes, regs })),
         Shape::Int | Shape::Var(_) | Shape::Exists(_) | Shape::Tuple(_) => Ok(None),
+    }
+}
+
+// The registers of code, with the numbers of their types.
+pub(crate) fn regs_of(types: &Types, n: u64) -> Option<&[(u64, u64)]>
+    requires { n < length types.now }
+    ensures { MatchOption result ((owes : ℕ) (f : TFile) → at types.now n ≢ CodeTy owes f) (λ regs.
+        IsRegsOf types.now n regs.now) }
+{
+    match types.shape(n) {
+        Shape::Code { regs, .. } => Some(regs),
+        Shape::Int | Shape::Var(_) | Shape::Exists(_) | Shape::Tuple(_) => None,
+    }
+}
+
+// Whether the type is code that owes no types.
+pub(crate) fn owes_nothing(types: &Types, n: u64) -> bool
+    requires { n < length types.now }
+    ensures { IsTrue result ↔ (f : TFile) × (at types.now n ≡ CodeTy 0 f) }
+{
+    match types.shape(n) {
+        Shape::Code { owes, .. } => *owes == 0,
+        Shape::Int | Shape::Var(_) | Shape::Exists(_) | Shape::Tuple(_) => false,
     }
 }
 

@@ -7,6 +7,7 @@ ghost use Rattle.t_intern.specs.Grown.{Grown, IsNumber};
 ghost use Rattle.t_intern.specs.Nodes.{at, regs_at, RegsBelow};
 ghost use Rattle.t_check.specs.Bounds.{Bounded};
 ghost use Rattle.t_check.specs.Known.{seen, entry_of, known, IsSound, IsEmpty, IsEntry, IsFound, IsOfBlock, IsNoted, IsFilled, IsSet, HasField};
+ghost use Rattle.t_check.specs.Verdict.{TellsFit};
 
 use crate::marking::{set_of, whole};
 use crate::marks::with;
@@ -25,11 +26,21 @@ pub(crate) struct Entry {
     pub(crate) names: u64,
 }
 
-/// The types of the registers that have one, and how many type names are in scope.
+/// A place in a block: how many times a register had been set before it, and how many type names were in scope.
+#[derive(Clone, Copy)]
+pub(crate) struct Moment {
+    pub(crate) set: usize,
+    pub(crate) names: u64,
+}
+
+/// The types of the registers that have one, and how many type names are in scope. Besides, for jumps: the registers that
+/// were set, in order, and for each code type that was jumped to, by number, when its file was last seen to fit.
 #[derive(Drop)]
 pub(crate) struct Registers {
     pub(crate) entries: BTreeMap<u64, Entry>,
     pub(crate) names: u64,
+    pub(crate) changed: Vec<u64>,
+    pub(crate) fitted: BTreeMap<u64, Moment>,
 }
 
 impl Registers {
@@ -40,9 +51,14 @@ impl Registers {
         ensures empty { IsEmpty result }
         ensures names { result.names ≡ names }
     {
+        let entries = BTreeMap::new(alloc);
+        let changed = Vec::new(alloc);
+        let fitted = BTreeMap::new(alloc);
         Registers {
-            entries: BTreeMap::new(alloc),
+            entries,
             names,
+            changed,
+            fitted,
         }
     }
 
@@ -77,6 +93,7 @@ impl Registers {
     pub(crate) fn set(&mut self, r: u64, entry: Entry) -> Result<(), OutOfMemory>
         ensures { OnOk result (IsSet self.old self.new r entry) }
     {
+        self.changed.push(r)?;
         self.entries.insert(r, entry)?;
         Ok(())
     }
@@ -114,6 +131,23 @@ impl Registers {
                 names,
             },
         )
+    }
+
+    // Whether the type of an entry fits.
+    pub(crate) fn fits_entry(
+        &self,
+        types: &mut Types,
+        entry: Entry,
+        wanted: u64,
+    ) -> Result<bool, OutOfMemory>
+        requires few { self.now.names ≤ max_names }
+        requires entry { IsEntry types.old self.now.names entry }
+        requires wanted { wanted < length types.old }
+        ensures grown { Grown types.old types.new }
+        ensures fit { TellsFit (seen types.old self.now.names entry) (at types.old wanted) result }
+    {
+        let shown = self.shown(types, entry)?;
+        Ok(types.fits(shown, wanted))
     }
 
     // One more type name is in scope.

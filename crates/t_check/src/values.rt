@@ -78,10 +78,7 @@ impl Checker<'_> {
                 }
                 None => refused(TCode::T08, span),
             },
-            Base::Int(_) => {
-                let n = types.intern(Shape::Int)?;
-                Ok(n)
-            }
+            Base::Int(_) => Ok(self.labels.int),
             Base::Label(l) => Ok(self.labels.blocks[l as usize]),
             Base::Data(d) => Ok(self.labels.tuples[d as usize]),
         }

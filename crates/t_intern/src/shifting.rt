@@ -20,6 +20,9 @@ impl Types {
         ensures grown { Grown self.old self.new }
         ensures number { IfOk result (IsNumber self.new (shift by cut (at self.old n))) }
     {
+        if self.bound(n) <= cut as u128 {
+            return Ok(n);
+        }
         let mut memo = Memo::new(self.alloc());
         self.shift_in(&mut memo, n, by, cut)
     }

@@ -26,7 +26,7 @@ pub returns-in-Bnz-clause-step : goal.returns-in-Bnz-clause-step
 returns-in-Bnz-clause-step c =
     let P = program c.args.self.now.program.now in
     let k = c.args.self.now.registers in
-    subst (λ (i : Instr). IsStep P c.check_bnz.new.types k.names (known c.args.types.now k) c.args.self.now.registers c.args.span (instr i) c.check_bnz.result) (sym c.in-Bnz.is) c.check_bnz.ensures.step
+    subst (λ (i : Instr). IsStep P c.check_bnz.new.types k.names (known c.args.types.now k) c.check_bnz.new.self.registers c.args.span (instr i) c.check_bnz.result) (sym c.in-Bnz.is) c.check_bnz.ensures.step
 
 pub returns-in-Ld-clause-step : goal.returns-in-Ld-clause-step
 returns-in-Ld-clause-step c =

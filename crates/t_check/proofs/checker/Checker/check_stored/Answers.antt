@@ -1,4 +1,4 @@
-use Rattle.std.proofs.Common.{◌∙◌, sym, subst, Result, true≢false}
+use Rattle.std.proofs.Common.{◌∙◌, sym, subst, Bool, Result, true≢false}
 use Rattle.text_core.specs.Refusals.{nothing, refuse, check}
 use Rattle.t_types.specs.Tree.{Ty}
 use Rattle.t_types.specs.Fits.{Fits}
@@ -22,7 +22,7 @@ returns-clause-stored c =
     let found = c.in-Some.ensures.found ts c.requires in
     let same = seen_grown ts us c.in_ok-wanted.ensures.grown k.names e found.1 in
     let fits = c.in_ok-fits_entry.ensures.fit.0 c.if-not-branch.false in
-    (h.0, at us c.in_ok-wanted.wanted, c.in_ok-wanted.field-0-1, seen ts k.names e, h.1, h.2, found.0, subst (λ (t : Ty). Fits t (at us c.in_ok-wanted.wanted)) same fits)
+    (h.0, at us c.in_ok-wanted.wanted, seen ts k.names e, h.1, h.2, found.0, subst (λ (t : Ty). Fits t (at us c.in_ok-wanted.wanted)) same fits)
 
 pub returns-then-not-branch-clause-stored : goal.returns-then-not-branch-clause-stored
 returns-then-not-branch-clause-stored c =
@@ -36,8 +36,8 @@ returns-then-not-branch-clause-stored c =
     let wanted = at us c.in_ok-wanted.wanted in
     let found = c.in-Some.ensures.found ts c.requires in
     let same = seen_grown ts us c.in_ok-wanted.ensures.grown k.names e found.1 in
-    subst (λ (r : Result (Unit {0}) TFault). IsStored g c.args.rd c.args.field c.args.rs s r) (sym c.refused-then-not-branch.ensures)
-    (field_follows g c.args.rd c.args.field s (λ fs u flag. register g c.args.rs s (λ w. check (Fits w u) (refuse T13 s) nothing)) h.0 h.1 wanted c.in_ok-wanted.field-0-1 T13 s h.2
+    subst (λ (r : Result Bool TFault). IsStored g c.args.rd c.args.field c.args.rs s r) (sym c.refused-then-not-branch.ensures)
+    (field_follows g c.args.rd c.args.field s (λ fs u flag. register g c.args.rs s (λ w. check (Fits w u) (refuse T13 s) nothing)) h.0 h.1 wanted c.in_ok-wanted.is_initialised T13 s h.2
     (unfit g c.args.rs s (seen ts k.names e) wanted found.0
     (λ f. true≢false (sym (c.in_ok-fits_entry.ensures.fit.1 (subst (λ (t : Ty). Fits t wanted) (sym same) f)) ∙ c.if-not-branch.true))))
 

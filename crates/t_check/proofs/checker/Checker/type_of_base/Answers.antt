@@ -65,3 +65,14 @@ returns-in-Data-clause-typed c =
       subst (λ (b : Base). BaseHas (program p) (known ts k) (base b) (at ts n)) (sym c.in-Data.is) (plain_fields (spanned_data x).fields, data_at xs d x lt there.1, number.1),
       subst (Bounded k.names) (sym number.1) (data_bounded k.names (plain_fields (spanned_data x).fields) (length p.blocks.items) (length p.heap.items) formed),
     )
+
+pub returns-in-Int-clause-typed : goal.returns-in-Int-clause-typed
+returns-in-Int-clause-typed c =
+    let ts = c.args.types.now in
+    let k = c.args.self.now.registers in
+    let n = c.args.self.now.labels.now.int in
+    let number = c.requires.place.labels.int in (
+      number.0,
+      subst (λ (x : Base). BaseHas (program c.args.self.now.program.now) (known ts k) (base x) (at ts n)) (sym c.in-Int.is) number.1,
+      subst (Bounded k.names) (sym number.1) tt,
+    )

@@ -17,6 +17,11 @@ pub enum Stop {
 }
 
 impl fmt::Display for Stop {
+    ghost use Rattle.std.specs.Prelude.{Some};
+    ghost use Rattle.io_core.specs.Stops.{stop_words};
+
+    ghost output = { λ s. Some (stop_words s) };
+
     fn fmt<W: fmt::Write>(&self, f: &mut fmt::Formatter<W>) -> fmt::Result {
         match self {
             Stop::Memory => write!(f, "out of memory"),

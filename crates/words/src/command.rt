@@ -32,6 +32,11 @@ pub enum NoCommand {
 }
 
 impl fmt::Display for NoCommand {
+    ghost use Rattle.std.specs.Prelude.{Some};
+    ghost use Rattle.words.specs.Shown.{shown};
+
+    ghost output = { λ n. Some (shown n) };
+
     fn fmt<W: fmt::Write>(&self, f: &mut fmt::Formatter<W>) -> fmt::Result {
         match self {
             NoCommand::Usage(text) => write!(f, "{text}"),

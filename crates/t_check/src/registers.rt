@@ -33,8 +33,8 @@ pub(crate) struct Moment {
     pub(crate) names: u64,
 }
 
-/// The types of the registers that have one, and how many type names are in scope. Besides, for jumps: the registers that
-/// were set, in order, and for each code type that was jumped to, by number, when its file was last seen to fit.
+/// The types of the registers that have one, and how many type names are in scope. Besides, for jumps: the registers
+/// that were set, in order, and for each code type that was jumped to, by number, when its file was last seen to fit.
 #[derive(Drop)]
 pub(crate) struct Registers {
     pub(crate) entries: BTreeMap<u64, Entry>,

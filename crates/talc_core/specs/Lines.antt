@@ -149,10 +149,11 @@ accepted_line = codes "accepted\n"
 abbrev pub bytes_line : ℕ → List ℕ
 bytes_line count = codes "source " ++ (decimal count ++ codes " bytes\n")
 
--- what is shown of the source of a seed: how many bytes it has, the integer to which it evaluates with the turns that were
--- used, that what it is compiled to is accepted, and the integer with which that halts
+-- what is shown of the source of a seed: how many bytes it has, the integer to which it evaluates with the turns that
+-- were used, that what it is compiled to is accepted, and the integer with which that halts
 abbrev pub seed_lines : ℕ → ℤ → ℕ → ℤ → List ℕ
-seed_lines count evaluated used halted = bytes_line count ++ value_line evaluated used ++ accepted_line ++ integer_line halted
+seed_lines count evaluated used halted =
+    bytes_line count ++ value_line evaluated used ++ accepted_line ++ integer_line halted
 
 abbrev pub read_line : List ℕ
 read_line = codes "read fault\n"

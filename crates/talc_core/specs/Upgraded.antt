@@ -5,9 +5,9 @@ use Rattle.t_terms.specs.Text.{ReadsBack}
 use Rattle.t_writer.specs.Written.{HasSecondHeader}
 use Rattle.talc_core.specs.FirstFault.{IsAcceptedText}
 
--- The source text stands for a program that the typing rules accept, within the limit on open constructs. The target text
--- begins with the words of the second version of the language, and reads as the same program within that limit, places
--- aside.
+-- The source text stands for a program that the typing rules accept, within the limit on open constructs. The target
+-- text begins with the words of the second version of the language, and reads as the same program within that limit,
+-- places aside.
 pub record IsUpgraded (source target : List ℕ) : Type 0 where
   pub program : SProg
   pub accepted : IsAcceptedText source program

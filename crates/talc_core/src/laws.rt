@@ -48,7 +48,8 @@ pub fn no_fault_where_taken()
     texts_keep_laws();
 }
 
-/// Each text is what is needed of it, or has a first fault; an assembly text where its program keeps the bounds on programs.
+/// Each text is what is needed of it, or has a first fault; an assembly text where its program keeps the bounds on
+/// programs.
 pub fn taken_or_fault()
     ensures { TakenOrFault }
 {
@@ -75,8 +76,8 @@ pub fn compiled_shows_the_same()
     one_answer();
 }
 
-/// What `upgrade` writes is a text that `check`, `run` and `upgrade` take: it stands for a program that the typing rules
-/// accept.
+/// What `upgrade` writes is a text that `check`, `run` and `upgrade` take: it stands for a program that the typing
+/// rules accept.
 pub fn upgraded_is_taken()
     ensures { UpgradedIsTaken }
 {}

@@ -9,8 +9,8 @@ use Rattle.words.specs.Description.{talc_app, whole_number}
 
 -- what the words ask for: to compile the source text of the file IN into the file OUT, to check the TAL text of IN, to
 -- run it for so many instructions, to show the type of the source text of IN, to evaluate it within so many turns, to
--- put the source of a seed through all of that and write it to the file OUT, or to write the program of the TAL text of IN
--- to the file OUT in the newest version of the language
+-- put the source of a seed through all of that and write it to the file OUT, or to write the program of the TAL text of
+-- IN to the file OUT in the newest version of the language
 pub data Asked : Type 0 where
   Compiles : (input output : Text) → Asked
   Checks : (input : Text) → Asked
@@ -43,7 +43,8 @@ asked_in name rows =
     else (if bytes_eq name (codes "run") then asked_with Runs input (number_in (codes "fuel") rows)
     else (if bytes_eq name (codes "typeof") then option_map Types input
     else (if bytes_eq name (codes "eval") then asked_with Evaluates input (number_in (codes "turns") rows)
-    else (if bytes_eq name (codes "gen") then asked_with (λ output seed. Generates seed output) (first_of (codes "OUT") rows) (number_in (codes "seed") rows)
+    else (if bytes_eq name (codes "gen") then
+    asked_with (λ output seed. Generates seed output) (first_of (codes "OUT") rows) (number_in (codes "seed") rows)
     else (if bytes_eq name (codes "upgrade") then asked_with Upgrades input (first_of (codes "OUT") rows)
     else None))))))
 

@@ -18,7 +18,8 @@ pub enum Command<'a> {
     Eval { input: &'a str, turns: u64 },
     /// `gen --seed N OUT`: writes the source of a seed to a file, after all the work of the other commands on it.
     Gen { seed: u64, output: &'a str },
-    /// `upgrade IN OUT`: writes the program of the assembly text of one file to another, in the newest version of the language.
+    /// `upgrade IN OUT`: writes the program of the assembly text of one file to another, in the newest version of the
+    /// language.
     Upgrade { input: &'a str, output: &'a str },
 }
 

@@ -131,8 +131,8 @@ fn enough_fuel(program: &TProgram) -> Option<u64>
     size.checked_mul(TURNS + 1)
 }
 
-// The integer with which a compiled program halts. A program of which 64 bits don't count the instructions is as one that
-// memory doesn't hold.
+// The integer with which a compiled program halts. A program of which 64 bits don't count the instructions is as one
+// that memory doesn't hold.
 fn halting_value(alloc: Global, program: &Checked) -> Result<i64, Failure>
     requires accepted { Accepted (program_of (checked_program program.now)) }
     requires soon { HaltsSoonEnough (program_of (checked_program program.now)) }

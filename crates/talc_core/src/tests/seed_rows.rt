@@ -1,5 +1,5 @@
-// The sources of seeds. The expected numbers of bytes, values and turns are computed from the table of kinds, by another
-// program than this one.
+// The sources of seeds. The expected numbers of bytes, values and turns are computed from the table of kinds, by
+// another program than this one.
 use super::memory::{After, Before, has_taken, is_status, leads, outside_of, run, with_file};
 use crate::{Status, source_of};
 use std::alloc::{AllocError, Global};

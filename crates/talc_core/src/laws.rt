@@ -1,4 +1,5 @@
-// Laws of the definitions that `talc` is proved by, as functions that do nothing but call other laws; callers cite them.
+// Laws of the definitions that `talc` is proved by, as functions that do nothing but call other laws. Callers cite
+// them.
 ghost use Rattle.talc_core.specs.FirstFault.{OneFault, NoFaultWhereTaken, TakenOrFault};
 ghost use Rattle.talc_core.specs.Composition.{CompiledIsTaken, CompiledMeansTheSame, CompiledShowsTheSame};
 ghost use Rattle.talc_core.specs.Composition.{UpgradedIsTaken, UpgradedIsTheSame, UpgradedRunsTheSame};

@@ -111,6 +111,9 @@ def instructions(talc, target):
             high = middle
         else:
             low = middle + 1
+    run = Run([talc, "run", target, "--fuel", str(low)])
+    if run.status != 0:
+        sys.exit(f"{target}: status {run.status} after {low} instructions")
     return low
 
 

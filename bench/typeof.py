@@ -32,7 +32,7 @@ CASES = [
     ("a sum of 500 ones", ones(500), ones(250)),
     ("200 nested parentheses", parentheses(200), parentheses(100)),
     ("26 types of 9990 nodes", large_types(26, 9990), large_types(13, 9990)),
-    ("999 nodes, 166 types of 1500 nodes", large_types(166, 1500), large_types(83, 1500)),
+    ("995 nodes, 166 types of 1500 nodes", large_types(166, 1500), large_types(83, 1500)),
 ]
 
 

@@ -9,6 +9,7 @@ program. Then the instructions that compiled programs execute, for each turn of 
 measured by `passes.py`.
 """
 import shutil
+import sys
 from measure import Run, best, folder, program
 
 

@@ -34,6 +34,18 @@ const ASSEMBLIES: [&str; 6] = [
     "polymorphic",
 ];
 
+// What README does with its first program.
+const FIRST: [&str; 8] = [
+    "talc typeof factorial.f",
+    "talc eval factorial.f --turns 6",
+    "talc eval factorial.f --turns 5",
+    "talc compile factorial.f made.tal",
+    "talc check made.tal",
+    "talc run made.tal --fuel 362",
+    "talc run made.tal --fuel 361",
+    "talc run made.tal --fuel 100",
+];
+
 fn words(alloc: Global, line: &str) -> Result<Vec<String>, AllocError> {
     let mut words = Vec::new(alloc);
     for word in line.split_whitespace() {
@@ -97,6 +109,20 @@ fn show_assembly<F: Files, O: Sink, E: Sink>(
     show(alloc, files, out, err, &again)
 }
 
+// The first program of README, and the whole text that it is compiled to.
+fn show_first<F: Files, O: Sink, E: Sink>(
+    alloc: Global,
+    files: &mut F,
+    out: &mut O,
+    err: &mut E,
+) -> Option<()> {
+    for line in &FIRST {
+        show(alloc, files, out, err, line)?;
+    }
+    let text = files.read_all(alloc, "made.tal").ok()?;
+    out.put(alloc, &text).ok()
+}
+
 fn show_all<F: Files, O: Sink, E: Sink>(
     alloc: Global,
     files: &mut F,
@@ -109,7 +135,7 @@ fn show_all<F: Files, O: Sink, E: Sink>(
     for name in &ASSEMBLIES {
         show_assembly(alloc, files, out, err, name)?;
     }
-    Some(())
+    show_first(alloc, files, out, err)
 }
 
 // What goes to the standard error of `talc` is shown with the rest.

@@ -1,15 +1,10 @@
 -- Statements on put in values, instructions, sequences and blocks, beside those that every tree with numbered
 -- variables has.
-use Rattle.std.specs.Prelude.{◌≡◌, ℕ, ◌+◌, ◌≤◌}
+use Rattle.std.specs.Prelude.{◌≡◌, ℕ, ◌+◌}
 use Rattle.idx_core.specs.Over.{At}
-use Rattle.t_types.specs.Tree.{Ty, shift, put, put_file}
+use Rattle.t_types.specs.Tree.{Ty, shift, put_file}
 use Rattle.t_terms.specs.Tree.{TValue, Unpack, TSeq, Then, TBlock, over_block, put_value, put_seq, put_block}
 use Rattle.t_terms.specs.Spanned.{SBlock, over_spanned, plain}
-
--- two puts exchange, the one put into the other
-abbrev pub PutsExchange : (T : Type 0) → (ℕ → Ty → T → T) → Type 0
-PutsExchange T put_in = (i j : ℕ) (u v : Ty) (t : T) → i ≤ j →
-    put_in j v (put_in i u t) ≡ put_in i (put j v u) (put_in (j + 1) (shift 1 i v) t)
 
 -- under the variable that an unpack binds the index grows by 1, and what is put is shifted by 1
 abbrev pub PutUnderUnpack : Type 0

@@ -1,5 +1,6 @@
 // Laws of put on values, instructions, sequences and blocks.
-ghost use Rattle.t_terms.specs.Laws.{PutsExchange, PutUnderUnpack, PutUnderBlock, PlacesAside};
+ghost use Rattle.t_types.specs.Laws.{PutsExchange};
+ghost use Rattle.t_terms.specs.Laws.{PutUnderUnpack, PutUnderBlock, PlacesAside};
 ghost use Rattle.t_terms.specs.Tree.{TValue, TInstr, TEnd, TSeq, TBlock, put_value, put_instr, put_end, put_seq, put_block};
 
 /// Two puts exchange, the one put into the other, in each kind of tree.

@@ -109,6 +109,28 @@ def unpacked_jumps(n):
     return HEAD + set_all(each) + jumps + f"jmp L1\nL1: code[]{{{file_of(1, each)}}}.\njmp L1\n"
 
 
+def wide_data(n):
+    """A wide data tuple, whose fields all have flag 1."""
+    return "tal 2\nD0: data <" + ", ".join(["1:int"] * n) + ">\nL0: code[]{}.\n"
+
+
+def wide_type(n):
+    """A tuple type that promises half of the fields of that tuple."""
+    return "<" + ", ".join(f"int^{i % 2}" for i in range(n)) + ">"
+
+
+def same_pair_jumps(n):
+    """Many jumps with a wide tuple that is another type than the one that the file names, and fits it."""
+    jumps = "mov r1, D0\nbnz r2, L1\n" * (n // 4)
+    return wide_data(n) + "mov r2, 1\n" + jumps + f"jmp L0\nL1: code[]{{r1:{wide_type(n)}}}.\njmp L1\n"
+
+
+def same_pair_stores(n):
+    """The same by `st` to a field of that type."""
+    stores = "st r3[0], r1\n" * (n // 4)
+    return wide_data(n) + f"mov r1, D0\nmalloc r3[{wide_type(n)}]\n" + stores + "jmp L0\n"
+
+
 def names(n):
     """Long lists of names, in a header and in the types of a register."""
     some = ", ".join(f"a{i}" for i in range(n))
@@ -119,7 +141,7 @@ TEXTS = [
     (falling, 10_000), (one_register, 2_000), (many_registers, 2_000), (after_unpacks, 1_000), (fills, 2_000),
     (filled_moves, 2_000), (arguments, 1_200),
     (deep, 1_000), (unpacks, 2_000), (wide_jumps, 20_000), (changed_jumps, 20_000), (two_files, 20_000),
-    (unpacked_jumps, 10_000), (names, 10_000),
+    (unpacked_jumps, 10_000), (same_pair_jumps, 4_000), (same_pair_stores, 4_000), (names, 10_000),
 ]
 
 

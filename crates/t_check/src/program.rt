@@ -151,7 +151,7 @@ impl Checker<'_> {
     {
         let found = self.type_of_value(types, &field.0, field.2)?;
         let wanted = types.number(&field.1)?;
-        if types.fits(found, wanted) {
+        if types.fits_once(found, wanted) {
             Ok(())
         } else {
             refused(TCode::T13, field.2)

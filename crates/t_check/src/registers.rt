@@ -147,7 +147,7 @@ impl Registers {
         ensures fit { TellsFit (seen types.old self.now.names entry) (at types.old wanted) result }
     {
         let shown = self.shown(types, entry)?;
-        Ok(types.fits(shown, wanted))
+        Ok(types.fits_once(shown, wanted))
     }
 
     // One more type name is in scope.

@@ -160,7 +160,7 @@ impl Checker<'_> {
         };
         let hidden = types.number(hidden)?;
         let wanted = types.put(body, 0, hidden)?;
-        if !types.fits(found, wanted) {
+        if !types.fits_once(found, wanted) {
             return refused(TCode::T15, span);
         }
         Ok(shape)

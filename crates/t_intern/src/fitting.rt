@@ -10,6 +10,9 @@ ghost use Rattle.t_intern.specs.Nodes.{at, fields_at, FieldsBelow};
 use crate::shape::Shape;
 use crate::types::Types;
 
+// Pairs of tuples with more fields than this are remembered; the walk of fewer costs less than a look into a set.
+const FEW_FIELDS: usize = 8;
+
 impl Types {
     /// Whether the type of `a` fits the type of `b`.
     pub fn fits(&self, a: u64, b: u64) -> bool
@@ -26,6 +29,36 @@ impl Types {
                 Some(ys) => fields_fit(xs, ys),
                 None => false,
             },
+            None => false,
+        }
+    }
+
+    /// The same. A pair of tuples with many fields that fits is remembered, so that it is walked once.
+    pub fn fits_once(&mut self, a: u64, b: u64) -> bool
+        requires left { a < length self.old }
+        requires right { b < length self.old }
+        ensures fit { IsTrue result ↔ Fits (at self.old a) (at self.old b) }
+        ensures same { self.new ≡ self.old }
+    {
+        if a == b || !self.is_wide(a) {
+            return self.fits(a, b);
+        }
+        if self.recalls_fit(a, b) {
+            return true;
+        }
+        if !self.fits(a, b) {
+            return false;
+        }
+        self.note_fit(a, b);
+        true
+    }
+
+    // Whether the type is a tuple with many fields.
+    fn is_wide(&self, n: u64) -> bool
+        requires { n < length self.now }
+    {
+        match self.fields(n) {
+            Some(fields) => fields.len() > FEW_FIELDS,
             None => false,
         }
     }

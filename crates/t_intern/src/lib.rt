@@ -6,6 +6,7 @@ mod fitting;
 mod inserting;
 mod memo;
 mod numbering;
+mod pairs;
 mod putting;
 mod shape;
 mod shifting;

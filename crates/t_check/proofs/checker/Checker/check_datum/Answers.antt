@@ -18,19 +18,19 @@ pub type_of_value-requires-clause-value : goal.type_of_value-requires-clause-val
 type_of_value-requires-clause-value c =
     subst (λ n. FormedValue c.args.self.now.program.now n (datum c.args.field.now).value) (sym c.requires.names) c.requires.formed.0
 
-pub returns-then-fits-clause-word : goal.returns-then-fits-clause-word
-returns-then-fits-clause-word c =
+pub returns-then-fits_once-clause-word : goal.returns-then-fits_once-clause-word
+returns-then-fits_once-clause-word c =
     let ts = c.args.types.now in
     let us = c.type_of_value.new.types in
     let vs = c.number.new.self in
     let k = c.args.self.now.registers in
     let typed = c.in_ok-found.ensures.typed in
     let found = grown_at us vs c.in_ok-wanted.ensures.grown c.in_ok-found.found typed.0 in
-    let fits = subst (λ (t : Ty). Fits t (tree c.args.field.now.1)) found (subst (Fits (at vs c.in_ok-found.found)) c.in_ok-wanted.ensures.number.1 (c.if-fits.ensures.0 refl)) in
+    let fits = subst (λ (t : Ty). Fits t (tree c.args.field.now.1)) found (subst (Fits (at vs c.in_ok-found.found)) c.in_ok-wanted.ensures.number.1 (c.if-fits_once.ensures.fit.0 refl)) in
     datum_ok (program c.args.self.now.program.now) k.names (known ts k) c.requires.names (empty_known ts k c.requires.empty) (datum c.args.field.now) (at us c.in_ok-found.found) typed.1 fits c.requires.formed.2
 
-pub returns-else-fits-clause-word : goal.returns-else-fits-clause-word
-returns-else-fits-clause-word c =
+pub returns-else-fits_once-clause-word : goal.returns-else-fits_once-clause-word
+returns-else-fits_once-clause-word c =
     let ts = c.args.types.now in
     let us = c.type_of_value.new.types in
     let vs = c.number.new.self in
@@ -39,7 +39,7 @@ returns-else-fits-clause-word c =
     let found = grown_at us vs c.in_ok-wanted.ensures.grown c.in_ok-found.found typed.0 in
     subst (λ (r : Result (Unit {0}) TFault). IsDatum (program c.args.self.now.program.now) (datum c.args.field.now) r) (sym c.refused.ensures)
     (datum_unfit (program c.args.self.now.program.now) k.names (known ts k) c.requires.names (empty_known ts k c.requires.empty) (datum c.args.field.now) (at us c.in_ok-found.found) typed.1
-    (λ h. true≢false (sym (c.if-fits.ensures.1 (subst (λ (t : Ty). Fits t (at vs c.in_ok-wanted.wanted)) (sym found) (subst (Fits (at us c.in_ok-found.found)) (sym c.in_ok-wanted.ensures.number.1) h))))))
+    (λ h. true≢false (sym (c.if-fits_once.ensures.fit.1 (subst (λ (t : Ty). Fits t (at vs c.in_ok-wanted.wanted)) (sym found) (subst (Fits (at us c.in_ok-found.found)) (sym c.in_ok-wanted.ensures.number.1) h))))))
 
 pub returns-in_err-found-clause-word : goal.returns-in_err-found-clause-word
 returns-in_err-found-clause-word c =

@@ -32,18 +32,9 @@ pub fn emit_declaration(
 {
     let rd = depth + 1;
     match form {
-        AForm::Value => {
-            emit_value(alloc, code, depth, rd, first(values))?;
-            Ok(())
-        }
-        AForm::Proj(i) => {
-            project(alloc, code, depth, *i, first(values))?;
-            Ok(())
-        }
-        AForm::Arith(op) => {
-            operate(alloc, code, depth, *op, first(values), second(values))?;
-            Ok(())
-        }
+        AForm::Value => Ok(emit_value(alloc, code, depth, rd, first(values))?),
+        AForm::Proj(i) => Ok(project(alloc, code, depth, *i, first(values))?),
+        AForm::Arith(op) => Ok(operate(alloc, code, depth, *op, first(values), second(values))?),
         AForm::Unpack => {
             let v = plain(alloc, Base::Reg(rd));
             emit_one(alloc, code, depth, first(values), Instr::Unpack { rd, v })?;
@@ -54,10 +45,7 @@ pub fn emit_declaration(
             put(code, Instr::Malloc { rd, types })?;
             Ok(())
         }
-        AForm::Init(i) => {
-            initialise(alloc, code, depth, *i, first(values), second(values))?;
-            Ok(())
-        }
+        AForm::Init(i) => Ok(initialise(alloc, code, depth, *i, first(values), second(values))?),
         _ => unreachable!(),
     }
 }
@@ -70,7 +58,7 @@ fn project(
     i: u64,
     v: &AValue,
 ) -> Result<(), OutOfMemory>
-    requires room { depth + 2 < 2 ^ 64 }
+    requires room { depth + 1 < 2 ^ 64 }
     ensures { OnOk result (Grows code.old.items code.new.items (decl_code depth (Proj i (a_value v.now)))) }
 {
     let rd = depth + 1;

@@ -422,46 +422,16 @@ fn form(
         names.new.items places.old.items places.new.items out.old.items out.new.items) }
 {
     match form {
-        HForm::Name => {
-            name(alloc, run, place, names, places, out)?;
-            Ok(())
-        }
-        HForm::Proj(i) => {
-            project(alloc, *i, run, place, names, places, out)?;
-            Ok(())
-        }
-        HForm::Arith(op) => {
-            operate(alloc, *op, run, place, names, places, out)?;
-            Ok(())
-        }
-        HForm::Unpack => {
-            unpack(alloc, run, place, names, places, out)?;
-            Ok(())
-        }
-        HForm::Cell => {
-            cell(alloc, run, place, names, places, out)?;
-            Ok(())
-        }
-        HForm::Get => {
-            project(alloc, 1, run, place, names, places, out)?;
-            Ok(())
-        }
-        HForm::Set => {
-            set(alloc, run, place, names, places, out)?;
-            Ok(())
-        }
-        HForm::Call(types) => {
-            call(alloc, types, run, place, names, places, out)?;
-            Ok(())
-        }
-        HForm::If0 => {
-            choose(alloc, run, place, names, places, out)?;
-            Ok(())
-        }
-        HForm::Halt => {
-            halt(alloc, run, place, names, places, out)?;
-            Ok(())
-        }
+        HForm::Name => Ok(name(alloc, run, place, names, places, out)?),
+        HForm::Proj(i) => Ok(project(alloc, *i, run, place, names, places, out)?),
+        HForm::Arith(op) => Ok(operate(alloc, *op, run, place, names, places, out)?),
+        HForm::Unpack => Ok(unpack(alloc, run, place, names, places, out)?),
+        HForm::Cell => Ok(cell(alloc, run, place, names, places, out)?),
+        HForm::Get => Ok(project(alloc, 1, run, place, names, places, out)?),
+        HForm::Set => Ok(set(alloc, run, place, names, places, out)?),
+        HForm::Call(types) => Ok(call(alloc, types, run, place, names, places, out)?),
+        HForm::If0 => Ok(choose(alloc, run, place, names, places, out)?),
+        HForm::Halt => Ok(halt(alloc, run, place, names, places, out)?),
     }
 }
 

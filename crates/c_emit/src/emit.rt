@@ -1,7 +1,7 @@
 // The walk along the nodes.
 ghost use Rattle.std.specs.Prelude.{◌≡◌, ℕ, ◌∷◌, [], List, IfOk, OnOk, map};
 ghost use Rattle.k_terms.specs.K.{KTy, KTys, kcount};
-ghost use Rattle.k_terms.specs.Stream.{KNd, NCode, NCall, NPack, NEnd};
+ghost use Rattle.k_terms.specs.Stream.{KNd, NCode, NProj, NArith, NCall, NPack, NEnd};
 ghost use Rattle.k_terms.specs.Read.{knode};
 ghost use Rattle.c_terms.specs.Read.{written};
 ghost use Rattle.c_walk.specs.Emit as E;
@@ -12,7 +12,7 @@ use crate::parts::{Frame, Info, Note};
 use crate::put::{call, enter, leave, put, spot};
 use crate::state::Walk;
 use c_terms::CNode;
-use idx_core::OutOfMemory;
+use idx_core::{Op, OutOfMemory};
 use k_terms::KNode;
 use std::alloc::Global;
 use std::collections::VecDeque;
@@ -76,6 +76,27 @@ impl Walk {
         }
     }
 
+    // A projection.
+    fn project(&mut self, level: u64, field: u64) -> Result<(), OutOfMemory>
+        ensures { OnOk result
+            ((rest : List KNd) (ty : KTy) →
+            walked self.new rest ≡ walked self.old (NProj level field ty ∷ rest)) }
+    {
+        let at = spot(&self.current, level)?;
+        put(&mut self.out, CNode::Proj { level: at, field })?;
+        Ok(())
+    }
+
+    // An operation on integers.
+    fn operate(&mut self, level: u64, op: Op) -> Result<(), OutOfMemory>
+        ensures { OnOk result
+            ((rest : List KNd) → walked self.new rest ≡ walked self.old (NArith level op ∷ rest)) }
+    {
+        let at = spot(&self.current, level)?;
+        put(&mut self.out, CNode::Arith { level: at, op })?;
+        Ok(())
+    }
+
     // A code ends.
     fn close(&mut self) -> Result<(), OutOfMemory>
         ensures { OnOk result ((rest : List KNd) → walked self.new rest ≡ walked self.old (NEnd ∷ rest)) }
@@ -104,20 +125,8 @@ impl Walk {
                 &mut self.out,
                 CNode::Name(spot(&self.current, *level)?),
             ),
-            KNode::Proj { level, field, .. } => {
-                let level = spot(&self.current, *level)?;
-                put(
-                    &mut self.out,
-                    CNode::Proj {
-                        level,
-                        field: *field,
-                    },
-                )
-            }
-            KNode::Arith { level, op } => {
-                let level = spot(&self.current, *level)?;
-                put(&mut self.out, CNode::Arith { level, op: *op })
-            }
+            KNode::Proj { level, field, .. } => Ok(self.project(*level, *field)?),
+            KNode::Arith { level, op } => Ok(self.operate(*level, *op)?),
             KNode::Pack { level, .. } => Ok(self.pack(*level)?),
             KNode::Unpack { level, .. } => put(
                 &mut self.out,

@@ -1,10 +1,11 @@
 -- What the reading functions promise, by the table.
-use Rattle.std.specs.Prelude.{◌≡◌, ℕ, List, [], ◌∷◌, drop, Result, MatchResult}
+use Rattle.std.specs.Prelude.{◌≡◌, ℕ, List, [], ◌∷◌, drop, Some, slice_get, Result, MatchResult}
 use Rattle.text_core.specs.Table.{Nt, Tm}
 use Rattle.text_core.specs.Table as table_of
 use Rattle.text_core.specs.Going.{Stops}
 use Rattle.text_core.specs.Going as going
 use Rattle.t_terms.specs.declared.token.Token.{Token}
+use Rattle.t_terms.specs.declared.token.Kind.{Kind}
 use Rattle.t_terms.specs.declared.wanted.Wanted.TheVariants as want
 use Rattle.t_terms.specs.Raw.{RawTy, Piece, ending}
 use Rattle.t_terms.specs.Text.{most_open}
@@ -82,6 +83,10 @@ IsTypeLine n ts d i r = IsLine n (λ f. f.next) (λ f. OfType (ending (raw f.ty)
 
 abbrev pub IsType : List Token → ℕ → ℕ → Result FoundType Stopped → Type 0
 IsType ts d i r = IsTypeLine LT ts d i r
+
+-- a type, where the token that it begins with is of this kind
+abbrev pub IsTypeFrom : Kind → List Token → ℕ → ℕ → Result FoundType Stopped → Type 0
+IsTypeFrom k ts d i r = (c : Token) → slice_get ts i ≡ Some c → c.kind ≡ k → IsType ts d i r
 
 abbrev pub IsFields : List Token → ℕ → ℕ → Result FoundType Stopped → Type 0
 IsFields ts d i r = IsTypeLine LFields ts d i r

@@ -1,9 +1,10 @@
 // The reading of types by recursive descent, one token ahead.
-ghost use Rattle.std.specs.Prelude.{◌≡◌, ◌≤◌, length, MatchResult};
+ghost use Rattle.std.specs.Prelude.{◌≡◌, ◌<◌, ◌≤◌, length, MatchResult};
 ghost use Rattle.t_terms.specs.Raw.{RSome};
 ghost use Rattle.t_terms.specs.Text.{most_open};
+ghost use Rattle.t_terms.specs.declared.token.Kind.TheVariants as kinds;
 ghost use Rattle.t_grammar.specs.Raw.{raw};
-ghost use Rattle.t_grammar.specs.Reads.{IsType, IsFile, IsRegs, IsEntry, IsFields, IsField};
+ghost use Rattle.t_grammar.specs.Reads.{IsType, IsTypeFrom, IsFile, IsRegs, IsEntry, IsFields, IsField};
 ghost use Rattle.t_grammar.specs.declared.cursor.Stopped.TheVariants as stopped;
 
 use crate::cursor::{
@@ -78,26 +79,8 @@ pub fn whole_type(
             let ty = RawType::Name(token.span);
             Ok(FoundType { ty, end, next })
         }
-        Kind::All => {
-            let names = binds(alloc, tokens, next, depth)?;
-            let found = file(alloc, tokens, names.next, depth)?;
-            Ok(FoundType {
-                ty: RawType::Code(names.names, found.file),
-                end: found.end,
-                next: found.next,
-            })
-        }
-        Kind::Some => {
-            let inner = opened(at, depth)?;
-            let (name, _) = expect_two(tokens, next, Wanted::Name, Wanted::Dot)?;
-            let body = whole_type(alloc, tokens, at + 3, inner)?;
-            let ty = exists(alloc, name.span, body.ty)?;
-            Ok(FoundType {
-                ty,
-                end: body.end,
-                next: body.next,
-            })
-        }
+        Kind::All => code_type(alloc, tokens, at, depth),
+        Kind::Some => some_type(alloc, tokens, at, depth),
         Kind::LeftAngle => {
             let inner = opened(at, depth)?;
             let found = fields(alloc, tokens, next, inner)?;
@@ -105,6 +88,40 @@ pub fn whole_type(
         }
         _ => Err(Stopped::Unexpected(at)),
     }
+}
+
+// all [ names ] File
+#[cycle(types)]
+fn code_type(alloc: Global, tokens: &[Token], at: usize, depth: u64) -> Result<FoundType, Stopped>
+    requires depth { depth ≤ most_open }
+    requires at { at < length tokens.now }
+    ensures { IsTypeFrom kinds.All tokens.now depth at result }
+{
+    let names = binds(alloc, tokens, at + 1, depth)?;
+    let found = file(alloc, tokens, names.next, depth)?;
+    Ok(FoundType {
+        ty: RawType::Code(names.names, found.file),
+        end: found.end,
+        next: found.next,
+    })
+}
+
+// some name . T
+#[cycle(types)]
+fn some_type(alloc: Global, tokens: &[Token], at: usize, depth: u64) -> Result<FoundType, Stopped>
+    requires depth { depth ≤ most_open }
+    requires at { at < length tokens.now }
+    ensures { IsTypeFrom kinds.Some tokens.now depth at result }
+{
+    let inner = opened(at, depth)?;
+    let (name, _) = expect_two(tokens, at + 1, Wanted::Name, Wanted::Dot)?;
+    let body = whole_type(alloc, tokens, at + 3, inner)?;
+    let ty = exists(alloc, name.span, body.ty)?;
+    Ok(FoundType {
+        ty,
+        end: body.end,
+        next: body.next,
+    })
 }
 
 /// File ::= { } | { reg : T , .. , reg : T }

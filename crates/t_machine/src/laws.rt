@@ -1,4 +1,4 @@
-// Laws of runs, as functions with an empty body that callers cite.
+// Laws of runs, as functions that callers cite: they do nothing, or call the laws that they stand on.
 ghost use Rattle.t_machine.specs.Laid.{PlacesAreReadBack};
 ghost use Rattle.t_machine.specs.ProgramLaws.{ProgramLaws};
 ghost use Rattle.t_machine.specs.Room.{StepsMakeWhatTheyAsk, StepsAreCovered};

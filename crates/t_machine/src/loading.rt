@@ -4,7 +4,7 @@ ghost use Rattle.t_terms.specs.Read.{base as base_tree, value as value_tree, ins
 ghost use Rattle.t_terms.specs.ReadProgram.{program as program_of};
 ghost use Rattle.t_terms.specs.Spanned.{plain_fields};
 ghost use Rattle.t_check.specs.Checked.{checked_program};
-ghost use Rattle.t_rules.specs.Erase.{ESeq, EHeap, EMov, erase_blocks, base_word, no_ewords, held, erase_value, erase_instr, erase_end, erase_block, erase_datum};
+ghost use Rattle.t_rules.specs.Erase.{ESeq, EHeap, ELd, EMov, ESt, erase_blocks, base_word, no_ewords, held, erase_value, erase_instr, erase_end, erase_block, erase_datum};
 ghost use Rattle.t_machine.specs.Heap.{IsHeap};
 ghost use Rattle.t_machine.specs.Words.{word};
 ghost use Rattle.t_machine.specs.Places.{Extends};
@@ -134,15 +134,7 @@ fn load_instr(places: &mut Places, i: &Instr) -> Result<Instruction, OutOfMemory
             let v = load_value(places, v)?;
             Ok(Instruction::Bnz { r, v })
         }
-        Instr::Ld { rd, rs, field } => {
-            let rd = places.place(*rd)?;
-            let rs = places.place(*rs)?;
-            Ok(Instruction::Ld {
-                rd,
-                rs,
-                field: *field as usize,
-            })
-        }
+        Instr::Ld { rd, rs, field } => load_read(places, *rd, *rs, *field),
         Instr::Malloc { rd, types } => {
             let rd = places.place(*rd)?;
             Ok(Instruction::Malloc {
@@ -151,17 +143,33 @@ fn load_instr(places: &mut Places, i: &Instr) -> Result<Instruction, OutOfMemory
             })
         }
         Instr::Mov { rd, v } => load_move(places, *rd, v),
-        Instr::St { rd, field, rs } => {
-            let rd = places.place(*rd)?;
-            let rs = places.place(*rs)?;
-            Ok(Instruction::St {
-                rd,
-                field: *field as usize,
-                rs,
-            })
-        }
+        Instr::St { rd, field, rs } => load_write(places, *rd, *field, *rs),
         Instr::Unpack { rd, v } => load_move(places, *rd, v),
     }
+}
+
+// A read of a field.
+fn load_read(places: &mut Places, rd: u64, rs: u64, field: u64) -> Result<Instruction, OutOfMemory>
+    ensures same { IfOk result (λ o. IsInstr places.new o (ELd rd rs field)) }
+    ensures kept { OnOk result (Extends places.old places.new) }
+    ensures named { OnOk result (Adds places.old places.new (InInstr (ELd rd rs field))) }
+{
+    let rd = places.place(rd)?;
+    let rs = places.place(rs)?;
+    let field = field as usize;
+    Ok(Instruction::Ld { rd, rs, field })
+}
+
+// A write of a field.
+fn load_write(places: &mut Places, rd: u64, field: u64, rs: u64) -> Result<Instruction, OutOfMemory>
+    ensures same { IfOk result (λ o. IsInstr places.new o (ESt rd field rs)) }
+    ensures kept { OnOk result (Extends places.old places.new) }
+    ensures named { OnOk result (Adds places.old places.new (InInstr (ESt rd field rs))) }
+{
+    let rd = places.place(rd)?;
+    let rs = places.place(rs)?;
+    let field = field as usize;
+    Ok(Instruction::St { rd, field, rs })
 }
 
 // A move, or an unpack, which is one without types.

@@ -286,112 +286,125 @@ whole_type-returns-in-None t c =
     let i = c.args.at in
     stop_lacks _ LT [] [] (start ts d i (Nt LT ∷ [])) refl (at_the_end (sym c.peek.ensures ∙ c.in-None.is)) refl
 
-pub whole_type-returns-in_err-names-in-All : goal.whole_type-returns-in_err-names-in-All
-whole_type-returns-in_err-names-in-All t c =
+pub whole_type-code_type-requires : goal.whole_type-code_type-requires
+whole_type-code_type-requires t c =
     let ts = c.args.tokens.now in
-    let d = c.args.depth in
     let i = c.args.at in
     let e : slice_get ts i ≡ Some c.in-Some.token = sym c.peek.ensures ∙ c.in-Some.is in
-    let a : type_after c.in-Some.token.kind ≡ Some (Nt LBinds ∷ (Nt LFile ∷ (Do MakeTypeCode ∷ []))) = rw c.in-All.is refl in
-    let m = begins ts d i c.in-Some.token LT (Nt LBinds ∷ (Nt LFile ∷ (Do MakeTypeCode ∷ []))) e a (omega arith) in
-    let p = err_from_is_err_and c.from_residual.result c.from_residual.ensures.1 in
-    rw (p.1, p.2) (stop_call _ (Nt LBinds ∷ []) d (Nt LFile ∷ (Do MakeTypeCode ∷ [])) _ m (omega arith) c.in_err-names-in-All.ensures)
+    let l = slice_get_within ts i c.in-Some.token e in
+    (omega (arith, l), (c.requires.depth, l))
 
-pub whole_type-file-requires : goal.whole_type-file-requires
-whole_type-file-requires t c =
+pub whole_type-returns-in-All : goal.whole_type-returns-in-All
+whole_type-returns-in-All t c =
+    c.code_type.ensures c.in-Some.token (sym c.peek.ensures ∙ c.in-Some.is) c.in-All.is
+
+pub whole_type-some_type-requires : goal.whole_type-some_type-requires
+whole_type-some_type-requires t c =
+    let ts = c.args.tokens.now in
+    let i = c.args.at in
+    let e : slice_get ts i ≡ Some c.in-Some.token = sym c.peek.ensures ∙ c.in-Some.is in
+    let l = slice_get_within ts i c.in-Some.token e in
+    (omega (arith, l), (c.requires.depth, l))
+
+pub whole_type-returns-in-Some-kind : goal.whole_type-returns-in-Some-kind
+whole_type-returns-in-Some-kind t c =
+    c.some_type.ensures c.in-Some.token (sym c.peek.ensures ∙ c.in-Some.is) c.in-Some-kind.is
+
+pub code_type-returns-in_err-names : goal.code_type-returns-in_err-names
+code_type-returns-in_err-names t c = λ w e k.
     let ts = c.args.tokens.now in
     let d = c.args.depth in
     let i = c.args.at in
-    let r = c.in_ok-names-in-All.ensures in
+    let a : type_after w.kind ≡ Some (Nt LBinds ∷ (Nt LFile ∷ (Do MakeTypeCode ∷ []))) = rw k refl in
+    let m = begins ts d i w LT (Nt LBinds ∷ (Nt LFile ∷ (Do MakeTypeCode ∷ []))) e a (omega arith) in
+    let p = err_from_is_err_and c.from_residual.result c.from_residual.ensures.1 in
+    rw (p.1, p.2) (stop_call _ (Nt LBinds ∷ []) d (Nt LFile ∷ (Do MakeTypeCode ∷ [])) _ m (omega arith) c.in_err-names.ensures)
+
+pub code_type-file-requires : goal.code_type-file-requires
+code_type-file-requires t c =
+    let r = c.in_ok-names.ensures in
     (omega (arith, r.forward, r.in_range), (c.requires.depth, r.in_range))
 
-pub whole_type-returns-in_err-found-in-All : goal.whole_type-returns-in_err-found-in-All
-whole_type-returns-in_err-found-in-All t c =
+pub code_type-returns-in_err-found : goal.code_type-returns-in_err-found
+code_type-returns-in_err-found t c = λ w e k.
     let ts = c.args.tokens.now in
     let d = c.args.depth in
     let i = c.args.at in
-    let e : slice_get ts i ≡ Some c.in-Some.token = sym c.peek.ensures ∙ c.in-Some.is in
-    let a : type_after c.in-Some.token.kind ≡ Some (Nt LBinds ∷ (Nt LFile ∷ (Do MakeTypeCode ∷ []))) = rw c.in-All.is refl in
-    let m = begins ts d i c.in-Some.token LT (Nt LBinds ∷ (Nt LFile ∷ (Do MakeTypeCode ∷ []))) e a (omega arith) in
-    let n = by_call d (Nt LFile ∷ (Do MakeTypeCode ∷ [])) _ m (omega arith) c.in_ok-names-in-All.ensures.same in
-    let p = err_from_is_err_and c.from_residual-in_err-found-in-All.result c.from_residual-in_err-found-in-All.ensures.1 in
-    rw (p.1, p.2) (stop_call _ (Nt LFile ∷ []) d (Do MakeTypeCode ∷ []) _ n (omega arith) c.in_err-found-in-All.ensures)
+    let a : type_after w.kind ≡ Some (Nt LBinds ∷ (Nt LFile ∷ (Do MakeTypeCode ∷ []))) = rw k refl in
+    let m = begins ts d i w LT (Nt LBinds ∷ (Nt LFile ∷ (Do MakeTypeCode ∷ []))) e a (omega arith) in
+    let n = by_call d (Nt LFile ∷ (Do MakeTypeCode ∷ [])) _ m (omega arith) c.in_ok-names.ensures.same in
+    let p = err_from_is_err_and c.from_residual-in_err-found.result c.from_residual-in_err-found.ensures.1 in
+    rw (p.1, p.2) (stop_call _ (Nt LFile ∷ []) d (Do MakeTypeCode ∷ []) _ n (omega arith) c.in_err-found.ensures)
 
-pub whole_type-returns-in_ok-found-in-All : goal.whole_type-returns-in_ok-found-in-All
-whole_type-returns-in_ok-found-in-All t c =
+pub code_type-returns : goal.code_type-returns
+code_type-returns t c = λ w e k.
     let ts = c.args.tokens.now in
     let d = c.args.depth in
     let i = c.args.at in
-    let e : slice_get ts i ≡ Some c.in-Some.token = sym c.peek.ensures ∙ c.in-Some.is in
-    let a : type_after c.in-Some.token.kind ≡ Some (Nt LBinds ∷ (Nt LFile ∷ (Do MakeTypeCode ∷ []))) = rw c.in-All.is refl in
-    let m = begins ts d i c.in-Some.token LT (Nt LBinds ∷ (Nt LFile ∷ (Do MakeTypeCode ∷ []))) e a (omega arith) in
-    let n = by_call d (Nt LFile ∷ (Do MakeTypeCode ∷ [])) _ m (omega arith) c.in_ok-names-in-All.ensures.same in
-    let f = c.in_ok-found-in-All.found in
-    let r = c.in_ok-found-in-All.ensures in
-    rw (raw_Code c.in_ok-names-in-All.names.names f.file) (record {
-      forward = omega (arith, c.in_ok-names-in-All.ensures.forward, r.forward);
+    let a : type_after w.kind ≡ Some (Nt LBinds ∷ (Nt LFile ∷ (Do MakeTypeCode ∷ []))) = rw k refl in
+    let m = begins ts d i w LT (Nt LBinds ∷ (Nt LFile ∷ (Do MakeTypeCode ∷ []))) e a (omega arith) in
+    let n = by_call d (Nt LFile ∷ (Do MakeTypeCode ∷ [])) _ m (omega arith) c.in_ok-names.ensures.same in
+    let f = c.in_ok-found.found in
+    let r = c.in_ok-found.ensures in
+    rw (raw_Code c.in_ok-names.names.names f.file) (record {
+      forward = omega (arith, c.in_ok-names.ensures.forward, r.forward);
       in_range = r.in_range;
       same = by_do MakeTypeCode [] _ _ (by_call d (Do MakeTypeCode ∷ []) _ n (omega arith) r.same) (λ below. refl);
     })
 
-pub whole_type-returns-in_err-inner-in-Some-kind : goal.whole_type-returns-in_err-inner-in-Some-kind
-whole_type-returns-in_err-inner-in-Some-kind t c =
+pub some_type-returns-in_err-inner : goal.some_type-returns-in_err-inner
+some_type-returns-in_err-inner t c = λ w e k.
     let ts = c.args.tokens.now in
     let d = c.args.depth in
     let i = c.args.at in
-    let e : slice_get ts i ≡ Some c.in-Some.token = sym c.peek.ensures ∙ c.in-Some.is in
-    let a : type_after c.in-Some.token.kind ≡ Some (Tm want.Name ∷ (Tm want.Dot ∷ (Nt LT ∷ (Mark ∷ (Do MakeTypeSome ∷ []))))) = rw c.in-Some-kind.is refl in
-    let p = err_from_is_err_and c.from_residual-in_err-inner-in-Some-kind.result c.from_residual-in_err-inner-in-Some-kind.ensures.1 in
-    rw (p.1, p.2) (stop_deep _ c.in-Some.token LT (Tm want.Name ∷ (Tm want.Dot ∷ (Nt LT ∷ (Mark ∷ (Do MakeTypeSome ∷ []))))) [] [] (start ts d i (Nt LT ∷ [])) e a refl c.in_err-inner-in-Some-kind.ensures)
+    let a : type_after w.kind ≡ Some (Tm want.Name ∷ (Tm want.Dot ∷ (Nt LT ∷ (Mark ∷ (Do MakeTypeSome ∷ []))))) = rw k refl in
+    let p = err_from_is_err_and c.from_residual.result c.from_residual.ensures.1 in
+    rw (p.1, p.2) (stop_deep _ w LT (Tm want.Name ∷ (Tm want.Dot ∷ (Nt LT ∷ (Mark ∷ (Do MakeTypeSome ∷ []))))) [] [] (start ts d i (Nt LT ∷ [])) e a refl c.in_err-inner.ensures)
 
-pub whole_type-returns-in_err-name-in-Some-kind : goal.whole_type-returns-in_err-name-in-Some-kind
-whole_type-returns-in_err-name-in-Some-kind t c =
+pub some_type-returns-in_err-name : goal.some_type-returns-in_err-name
+some_type-returns-in_err-name t c = λ w e k.
     let ts = c.args.tokens.now in
     let d = c.args.depth in
     let i = c.args.at in
-    let e : slice_get ts i ≡ Some c.in-Some.token = sym c.peek.ensures ∙ c.in-Some.is in
-    let a : type_after c.in-Some.token.kind ≡ Some (Tm want.Name ∷ (Tm want.Dot ∷ (Nt LT ∷ (Mark ∷ (Do MakeTypeSome ∷ []))))) = rw c.in-Some-kind.is refl in
-    let q = c.in_ok-inner-in-Some-kind.ensures in
-    let m = begins ts d i c.in-Some.token LT (Tm want.Name ∷ (Tm want.Dot ∷ (Nt LT ∷ (Mark ∷ (Do MakeTypeSome ∷ []))))) e a (omega (arith, q.1)) in
-    let p = err_from_is_err_and c.from_residual-in_err-name-in-Some-kind.result c.from_residual-in_err-name-in-Some-kind.ensures.1 in
-    rw (p.1, p.2) (stop_two _ want.Name want.Dot (Nt LT ∷ (Mark ∷ (Do MakeTypeSome ∷ []))) _ m (omega (arith, q.1)) c.in_err-name-in-Some-kind.ensures)
+    let a : type_after w.kind ≡ Some (Tm want.Name ∷ (Tm want.Dot ∷ (Nt LT ∷ (Mark ∷ (Do MakeTypeSome ∷ []))))) = rw k refl in
+    let q = c.in_ok-inner.ensures in
+    let m = begins ts d i w LT (Tm want.Name ∷ (Tm want.Dot ∷ (Nt LT ∷ (Mark ∷ (Do MakeTypeSome ∷ []))))) e a (omega (arith, q.1)) in
+    let p = err_from_is_err_and c.from_residual-in_err-name.result c.from_residual-in_err-name.ensures.1 in
+    rw (p.1, p.2) (stop_two _ want.Name want.Dot (Nt LT ∷ (Mark ∷ (Do MakeTypeSome ∷ []))) _ m (omega (arith, q.1)) c.in_err-name.ensures)
 
-pub whole_type-whole_type-requires : goal.whole_type-whole_type-requires
-whole_type-whole_type-requires t c =
+pub some_type-whole_type-requires : goal.some_type-whole_type-requires
+some_type-whole_type-requires t c =
     let ts = c.args.tokens.now in
-    let d = c.args.depth in
     let i = c.args.at in
-    let q = c.in_ok-inner-in-Some-kind.ensures in
-    let l = within ts (i + 1 + 1) want.Dot _ c.in_ok-name-in-Some-kind.ensures.1 in
+    let q = c.in_ok-inner.ensures in
+    let l = within ts (i + 1 + 1) want.Dot _ c.in_ok-name.ensures.1 in
     (omega (arith, l), (omega (arith, q.0, q.1), omega (arith, l)))
 
-pub whole_type-returns-in_err-body-in-Some-kind : goal.whole_type-returns-in_err-body-in-Some-kind
-whole_type-returns-in_err-body-in-Some-kind t c =
+pub some_type-returns-in_err-body : goal.some_type-returns-in_err-body
+some_type-returns-in_err-body t c = λ w e k.
     let ts = c.args.tokens.now in
     let d = c.args.depth in
     let i = c.args.at in
-    let e : slice_get ts i ≡ Some c.in-Some.token = sym c.peek.ensures ∙ c.in-Some.is in
-    let a : type_after c.in-Some.token.kind ≡ Some (Tm want.Name ∷ (Tm want.Dot ∷ (Nt LT ∷ (Mark ∷ (Do MakeTypeSome ∷ []))))) = rw c.in-Some-kind.is refl in
-    let q = c.in_ok-inner-in-Some-kind.ensures in
-    let m = begins ts d i c.in-Some.token LT (Tm want.Name ∷ (Tm want.Dot ∷ (Nt LT ∷ (Mark ∷ (Do MakeTypeSome ∷ []))))) e a (omega (arith, q.1)) in
-    let n = by_two want.Name want.Dot _ _ (Nt LT ∷ (Mark ∷ (Do MakeTypeSome ∷ []))) _ m c.in_ok-name-in-Some-kind.ensures (omega (arith, q.1)) in
+    let a : type_after w.kind ≡ Some (Tm want.Name ∷ (Tm want.Dot ∷ (Nt LT ∷ (Mark ∷ (Do MakeTypeSome ∷ []))))) = rw k refl in
+    let q = c.in_ok-inner.ensures in
+    let m = begins ts d i w LT (Tm want.Name ∷ (Tm want.Dot ∷ (Nt LT ∷ (Mark ∷ (Do MakeTypeSome ∷ []))))) e a (omega (arith, q.1)) in
+    let n = by_two want.Name want.Dot _ _ (Nt LT ∷ (Mark ∷ (Do MakeTypeSome ∷ []))) _ m c.in_ok-name.ensures (omega (arith, q.1)) in
     let n3 = by_same {k = i + 3} (omega arith) n in
-    let p = err_from_is_err_and c.from_residual-in_err-body-in-Some-kind.result c.from_residual-in_err-body-in-Some-kind.ensures.1 in
-    rw (p.1, p.2) (stop_call _ (Nt LT ∷ []) _ (Mark ∷ (Do MakeTypeSome ∷ [])) _ n3 (omega (arith, q.0)) c.in_err-body-in-Some-kind.ensures)
+    let p = err_from_is_err_and c.from_residual-in_err-body.result c.from_residual-in_err-body.ensures.1 in
+    rw (p.1, p.2) (stop_call _ (Nt LT ∷ []) _ (Mark ∷ (Do MakeTypeSome ∷ [])) _ n3 (omega (arith, q.0)) c.in_err-body.ensures)
 
-pub whole_type-returns-in_ok-ty-in-Some-kind : goal.whole_type-returns-in_ok-ty-in-Some-kind
-whole_type-returns-in_ok-ty-in-Some-kind t c =
+pub some_type-returns : goal.some_type-returns
+some_type-returns t c = λ w e k.
     let ts = c.args.tokens.now in
     let d = c.args.depth in
     let i = c.args.at in
-    let e : slice_get ts i ≡ Some c.in-Some.token = sym c.peek.ensures ∙ c.in-Some.is in
-    let a : type_after c.in-Some.token.kind ≡ Some (Tm want.Name ∷ (Tm want.Dot ∷ (Nt LT ∷ (Mark ∷ (Do MakeTypeSome ∷ []))))) = rw c.in-Some-kind.is refl in
-    let q = c.in_ok-inner-in-Some-kind.ensures in
-    let m = begins ts d i c.in-Some.token LT (Tm want.Name ∷ (Tm want.Dot ∷ (Nt LT ∷ (Mark ∷ (Do MakeTypeSome ∷ []))))) e a (omega (arith, q.1)) in
-    let n = by_two want.Name want.Dot _ _ (Nt LT ∷ (Mark ∷ (Do MakeTypeSome ∷ []))) _ m c.in_ok-name-in-Some-kind.ensures (omega (arith, q.1)) in
+    let a : type_after w.kind ≡ Some (Tm want.Name ∷ (Tm want.Dot ∷ (Nt LT ∷ (Mark ∷ (Do MakeTypeSome ∷ []))))) = rw k refl in
+    let q = c.in_ok-inner.ensures in
+    let m = begins ts d i w LT (Tm want.Name ∷ (Tm want.Dot ∷ (Nt LT ∷ (Mark ∷ (Do MakeTypeSome ∷ []))))) e a (omega (arith, q.1)) in
+    let n = by_two want.Name want.Dot _ _ (Nt LT ∷ (Mark ∷ (Do MakeTypeSome ∷ []))) _ m c.in_ok-name.ensures (omega (arith, q.1)) in
     let n3 = by_same {k = i + 3} (omega arith) n in
-    let r = c.in_ok-body-in-Some-kind.ensures in
-    rw c.in_ok-ty-in-Some-kind.ensures (record {
+    let r = c.in_ok-body.ensures in
+    rw c.in_ok-ty.ensures (record {
       forward = omega (arith, r.forward);
       in_range = r.in_range;
       same = by_do MakeTypeSome [] _ _ (by_mark (Do MakeTypeSome ∷ []) _ (by_call _ (Mark ∷ (Do MakeTypeSome ∷ [])) _ n3 (omega (arith, q.0)) r.same)) (λ below. refl);
@@ -404,7 +417,7 @@ whole_type-returns-in_err-inner-in-LeftAngle t c =
     let i = c.args.at in
     let e : slice_get ts i ≡ Some c.in-Some.token = sym c.peek.ensures ∙ c.in-Some.is in
     let a : type_after c.in-Some.token.kind ≡ Some (Nt LFields ∷ (Mark ∷ (Do MakeTypeTuple ∷ []))) = rw c.in-LeftAngle.is refl in
-    let p = err_from_is_err_and c.from_residual-in_err-inner-in-LeftAngle.result c.from_residual-in_err-inner-in-LeftAngle.ensures.1 in
+    let p = err_from_is_err_and c.from_residual.result c.from_residual.ensures.1 in
     rw (p.1, p.2) (stop_deep _ c.in-Some.token LT (Nt LFields ∷ (Mark ∷ (Do MakeTypeTuple ∷ []))) [] [] (start ts d i (Nt LT ∷ [])) e a refl c.in_err-inner-in-LeftAngle.ensures)
 
 pub whole_type-fields-requires : goal.whole_type-fields-requires

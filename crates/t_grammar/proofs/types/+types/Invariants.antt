@@ -7,22 +7,28 @@ use Rattle.t_grammar.specs.Reads.{ReadsSome}
 use Rattle.t_grammar.proofs.types.+types.Given as goal
 
 abbrev pub decreases-whole_type : goal.decreases-whole_type
-decreases-whole_type l = 4 * (length l.tokens.now - l.at)
+decreases-whole_type l = 5 * (length l.tokens.now - l.at) + 1
+
+abbrev pub decreases-code_type : goal.decreases-code_type
+decreases-code_type l = 5 * (length l.tokens.now - l.at)
+
+abbrev pub decreases-some_type : goal.decreases-some_type
+decreases-some_type l = 5 * (length l.tokens.now - l.at)
 
 abbrev pub decreases-entry : goal.decreases-entry
-decreases-entry l = 4 * (length l.tokens.now - l.at) + 1
+decreases-entry l = 5 * (length l.tokens.now - l.at) + 2
 
 abbrev pub decreases-field : goal.decreases-field
-decreases-field l = 4 * (length l.tokens.now - l.at) + 1
+decreases-field l = 5 * (length l.tokens.now - l.at) + 2
 
 abbrev pub decreases-regs : goal.decreases-regs
-decreases-regs l = 4 * (length l.tokens.now - l.at) + 2
+decreases-regs l = 5 * (length l.tokens.now - l.at) + 3
 
 abbrev pub decreases-fields : goal.decreases-fields
-decreases-fields l = 4 * (length l.tokens.now - l.at) + 2
+decreases-fields l = 5 * (length l.tokens.now - l.at) + 3
 
 abbrev pub decreases-file : goal.decreases-file
-decreases-file l = 4 * (length l.tokens.now - l.at) + 3
+decreases-file l = 5 * (length l.tokens.now - l.at) + 4
 
 abbrev pub invariant-regs-loop-regs : goal.invariant-regs-loop-regs
 invariant-regs-loop-regs l = ReadsSome LRegs (Nt LMoreRegs ∷ (Tm want.RightBrace ∷ (Do MakeClosedRegs ∷ []))) l.tokens l.depth l.at l.next (OfRegs (map raw_reg l.regs.items))

@@ -28,3 +28,15 @@ returns-in-Unpack-clause-named c =
     subst (λ (i : Instr). OnOk c.load_move-in-Unpack.result
     (Adds c.args.places.now c.load_move-in-Unpack.new.places (InInstr (erase_instr (instr_tree i)))))
     (sym c.in-Unpack.is) c.load_move-in-Unpack.ensures.named
+
+pub returns-in-Ld-clause-named : goal.returns-in-Ld-clause-named
+returns-in-Ld-clause-named c =
+    subst (λ (i : Instr). OnOk c.load_read.result
+    (Adds c.args.places.now c.load_read.new.places (InInstr (erase_instr (instr_tree i))))) (sym c.in-Ld.is)
+    c.load_read.ensures.named
+
+pub returns-in-St-clause-named : goal.returns-in-St-clause-named
+returns-in-St-clause-named c =
+    subst (λ (i : Instr). OnOk c.load_write.result
+    (Adds c.args.places.now c.load_write.new.places (InInstr (erase_instr (instr_tree i))))) (sym c.in-St.is)
+    c.load_write.ensures.named

@@ -16,3 +16,13 @@ returns-in_ok-pack-in-Pack c = λ rest.
 pub returns-in_ok-call-in-Call : goal.returns-in_ok-call-in-Call
 returns-in_ok-call-in-Call c = λ rest.
     c.in_ok-call-in-Call.ensures rest c.in-Call.depth (ktys c.in-Call.types.items) ∙ ap (λ n. walked c.args.self.now (knode n ∷ rest)) (sym c.in-Call.is)
+
+pub returns-in_ok-project-in-Proj : goal.returns-in_ok-project-in-Proj
+returns-in_ok-project-in-Proj c = λ rest.
+    c.in_ok-project-in-Proj.ensures rest (ktree c.in-Proj.ty)
+    ∙ ap (λ n. walked c.args.self.now (knode n ∷ rest)) (sym c.in-Proj.is)
+
+pub returns-in_ok-operate-in-Arith : goal.returns-in_ok-operate-in-Arith
+returns-in_ok-operate-in-Arith c = λ rest.
+    c.in_ok-operate-in-Arith.ensures rest
+    ∙ ap (λ n. walked c.args.self.now (knode n ∷ rest)) (sym c.in-Arith.is)

@@ -28,8 +28,8 @@ pub(crate) struct Checker<'a> {
     pub(crate) registers: Registers,
 }
 
-/// The program, where the typing rules accept it; else its first fault in checking order, T20 and then T08 to T19, with
-/// the program handed back.
+/// The program, where the typing rules accept it; else its first fault in checking order, with the program handed back:
+/// T20, then those of the data (T17, T15, T13), then those of the blocks (T08 to T19).
 pub fn check(alloc: Global, program: TProgram) -> Result<Checked, (TProgram, TFault)>
     ensures right { IsVerdict program result }
     ensures accepted { Accepted (program_of program) → AcceptsOrWants result }

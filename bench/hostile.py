@@ -141,7 +141,7 @@ TEXTS = [
     (falling, 10_000), (one_register, 2_000), (many_registers, 2_000), (after_unpacks, 1_000), (fills, 2_000),
     (filled_moves, 2_000), (arguments, 1_200),
     (deep, 1_000), (unpacks, 2_000), (wide_jumps, 20_000), (changed_jumps, 20_000), (two_files, 20_000),
-    (unpacked_jumps, 10_000), (same_pair_jumps, 4_000), (same_pair_stores, 4_000), (names, 10_000),
+    (unpacked_jumps, 10_000), (same_pair_jumps, 10_000), (same_pair_stores, 10_000), (names, 10_000),
 ]
 
 

@@ -81,10 +81,10 @@ fn push_one<'a>(
 }
 
 // A form in the place of its parts.
-fn put(alloc: Global, stack: FStack, step: FStep, span: Span) -> Result<FStack, Unresolved>
-    requires { arity step ≤ length (trees_of stack) }
+fn put(alloc: Global, stack: &mut FStack, step: FStep, span: Span) -> Result<(), Unresolved>
+    requires { arity step ≤ length (trees_of stack.old) }
     ensures { MatchResult result
-        (λ r. trees_of r ≡ stacked (place span) step (trees_of stack))
+        (λ u. trees_of stack.new ≡ stacked (place span) step (trees_of stack.old))
         (λ e. e ≡ stopped.Memory) }
 {
     Ok(stack.put(alloc, step, span)?)
@@ -186,12 +186,12 @@ fn begin<'a>(
     term: Part<'a>,
     values: &mut Names,
     types: &mut Names,
-    stack: FStack,
-) -> Result<FStack, Unresolved>
+    stack: &mut FStack,
+) -> Result<(), Unresolved>
     ensures { MatchResult result
-        (λ r. Steps text.now
-        (stand (Bind (part_tree term.entry) ∷ todos tasks.old.items) values.old types.old (trees_of stack))
-        (stand (todos tasks.new.items) values.new types.new (trees_of r)))
+        (λ u. Steps text.now
+        (stand (Bind (part_tree term.entry) ∷ todos tasks.old.items) values.old types.old (trees_of stack.old))
+        (stand (todos tasks.new.items) values.new types.new (trees_of stack.new)))
         (λ e. StopsAt text.now (uses text.now values.old types.old (part_tree term.entry)) e) }
 {
     let node = node(term);
@@ -203,13 +203,9 @@ fn begin<'a>(
         },
         RawShape::Num(value) => put(alloc, stack, FStep::Int(*value), span),
         RawShape::Fix { .. } | RawShape::Gen(..) => {
-            open_binder(alloc, text, tasks, term, values, types)?;
-            Ok(stack)
+            open_binder(alloc, text, tasks, term, values, types)
         }
-        _ => {
-            open_parts(tasks, term)?;
-            Ok(stack)
-        }
+        _ => open_parts(tasks, term),
     }
 }
 
@@ -253,21 +249,18 @@ fn go<'a>(
     task: Task<'a>,
     values: &mut Names,
     types: &mut Names,
-    stack: FStack,
-) -> Result<FStack, Unresolved>
-    requires { Enough (todo task ∷ todos tasks.old.items) (length (trees_of stack)) }
+    stack: &mut FStack,
+) -> Result<(), Unresolved>
+    requires { Enough (todo task ∷ todos tasks.old.items) (length (trees_of stack.old)) }
     ensures { MatchResult result
-        (λ r. Steps text.now
-        (stand (todo task.entry ∷ todos tasks.old.items) values.old types.old (trees_of stack))
-        (stand (todos tasks.new.items) values.new types.new (trees_of r)))
+        (λ u. Steps text.now
+        (stand (todo task.entry ∷ todos tasks.old.items) values.old types.old (trees_of stack.old))
+        (stand (todos tasks.new.items) values.new types.new (trees_of stack.new)))
         (λ e. StopsAt text.now (uses_of text.now (todo task.entry) values.old types.old) e) }
 {
     match task {
         Task::Term(term) => begin(alloc, text, tasks, term, values, types, stack),
-        Task::Fields(parts) => {
-            next_field(tasks, parts)?;
-            Ok(stack)
-        }
+        Task::Fields(parts) => next_field(tasks, parts),
         Task::Inst { span, ty } => {
             let ty = type_in_scope(alloc, text, ty, types)?;
             put(alloc, stack, FStep::Inst(ty), span)
@@ -291,14 +284,14 @@ pub(crate) fn bind(alloc: Global, text: &[u8], term: &RawTerm) -> Result<FTerm, 
     let mut tasks = Vec::new(alloc);
     push(&mut tasks, Task::Term(whole(term)))?;
     while let Some(task) = pop(&mut tasks) {
-        stack = go(
+        go(
             alloc,
             text,
             &mut tasks,
             task,
             &mut values,
             &mut types,
-            stack,
+            &mut stack,
         )?;
     }
     Ok(stack.done())

@@ -1,11 +1,11 @@
 // A stack of terms: each form takes its parts from the top.
-ghost use Rattle.std.specs.Prelude.{◌≡◌, ℕ, ◌-◌, ◌≤◌, ◌++◌, ◌∷◌, [], length, map, take, drop, IfOk};
+ghost use Rattle.std.specs.Prelude.{◌≡◌, ℕ, ◌-◌, ◌≤◌, ◌++◌, ◌∷◌, [], length, map, take, drop, IfOk, OnErr};
 ghost use Rattle.std.specs.List.{All};
 ghost use Rattle.f_terms.specs.Tm.{Tm, Spn};
 ghost use Rattle.f_terms.specs.Read.{place};
 ghost use Rattle.f_terms.specs.Shape.{children, shape_tree};
 ghost use Rattle.f_terms.specs.ReadTerm.{spanned, IsLoose};
-ghost use Rattle.f_terms.specs.Made.{IsAdded};
+ghost use Rattle.f_terms.specs.Made.{IsAdded, IsSame};
 ghost use Rattle.arena.specs.Roots.{Differ};
 ghost use Rattle.f_terms.specs.Stacked.{arity, step_tree, stacked, trees_of};
 
@@ -42,7 +42,8 @@ fn shape_of(alloc: Global, step: FStep, parts: &[u64]) -> Result<FShape, OutOfMe
 fn add(parts: &mut FParts, shape: FShape, span: Span) -> Result<u64, OutOfMemory>
     requires loose { All (λ k. IsLoose parts.old k) (children shape) }
     requires differ { Differ (children shape) }
-    ensures { IfOk result (λ r. IsAdded parts.old parts.new (place span) shape r) }
+    ensures added { IfOk result (λ r. IsAdded parts.old parts.new (place span) shape r) }
+    ensures refused { OnErr result (IsSame parts.old parts.new) }
 {
     parts.add(shape, span).map_err(out_of_memory)
 }
@@ -84,19 +85,20 @@ impl FStack {
         self.numbers.len() as u64
     }
 
-    /// One form more: it takes its parts from the top of the stack, and is put in their place.
-    pub fn put(self, alloc: Global, step: FStep, span: Span) -> Result<FStack, OutOfMemory>
-        requires { arity step ≤ length (trees_of self) }
-        ensures { IfOk result (λ r. trees_of r ≡ stacked (place span) step (trees_of self)) }
+    /// One form more: it takes its parts from the top of the stack, and is put in their place. Where memory is wanted,
+    /// the stack is as before.
+    pub fn put(&mut self, alloc: Global, step: FStep, span: Span) -> Result<(), OutOfMemory>
+        requires { arity step ≤ length (trees_of self.old) }
+        ensures done { IfOk result (λ _. trees_of self.new ≡ stacked (place span) step (trees_of self.old)) }
+        ensures refused { OnErr result (trees_of self.new ≡ trees_of self.old) }
     {
-        let mut parts = self.parts;
-        let mut numbers = self.numbers;
-        let below = numbers.len() - step.arity() as usize;
-        let shape = shape_of(alloc, step, &numbers[below..])?;
-        let part = add(&mut parts, shape, span)?;
-        numbers.truncate(below);
-        numbers.push(part)?;
-        Ok(FStack { parts, numbers })
+        let below = self.numbers.len() - step.arity() as usize;
+        let shape = shape_of(alloc, step, &self.numbers[below..])?;
+        self.numbers.reserve(1)?;
+        let part = add(&mut self.parts, shape, span)?;
+        self.numbers.truncate(below);
+        self.numbers.push_reserved(part);
+        Ok(())
     }
 
     /// The one term of a stack.

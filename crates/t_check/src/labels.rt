@@ -9,6 +9,7 @@ ghost use Rattle.t_intern.specs.Grown.{Grown, IsNumber, AreNumbers};
 ghost use Rattle.t_intern.specs.Spread.{types_at};
 ghost use Rattle.t_check.specs.Labels.{code_types, tuple_types, field_types, all_flagged, AreLabels};
 
+use crate::parts::intern;
 use idx_core::{OutOfMemory, Span};
 use std::alloc::Global;
 use t_intern::{Shape, Types};
@@ -33,7 +34,7 @@ impl Labels {
         ensures grown { Grown types.old types.new }
         ensures labels { IfOk result (AreLabels types.new program.now) }
     {
-        let int = types.intern(Shape::Int)?;
+        let int = intern(types, Shape::Int)?;
         let blocks = number_blocks(alloc, types, &program.blocks)?;
         let tuples = number_heap(alloc, types, &program.heap)?;
         Ok(Labels {
@@ -114,7 +115,7 @@ pub(crate) fn tuple_of(
     ensures number { IfOk result (IsNumber types.new (TupleTy (all_flagged flag (types_at types.old numbers.now)))) }
 {
     let fields = flagged(alloc, numbers, flag)?;
-    types.intern(Shape::Tuple(fields))
+    intern(types, Shape::Tuple(fields))
 }
 
 fn flagged(alloc: Global, numbers: &[u64], flag: bool) -> Result<Vec<(u64, bool)>, OutOfMemory>

@@ -5,6 +5,7 @@ ghost use Rattle.t_intern.specs.Nodes.{at};
 ghost use Rattle.t_check.specs.Marks.{has, marks, marked, IsMarks, with_marks, marked_list};
 
 use crate::marks::contains;
+use crate::parts::intern;
 use idx_core::OutOfMemory;
 use t_intern::{Shape, Types};
 
@@ -28,7 +29,7 @@ pub(crate) fn set_of(types: &mut Types, set: Option<u64>) -> Result<u64, OutOfMe
 {
     match set {
         Some(n) => Ok(n),
-        None => types.intern(Shape::Int),
+        None => intern(types, Shape::Int),
     }
 }
 
@@ -55,7 +56,7 @@ fn mark(types: &mut Types, n: u64, set: u64) -> Result<u64, OutOfMemory>
         Some(fields) => mark_fields(types, fields, set)?,
         None => return Ok(n),
     };
-    types.intern(Shape::Tuple(fields))
+    intern(types, Shape::Tuple(fields))
 }
 
 fn mark_fields(

@@ -5,6 +5,7 @@ ghost use Rattle.t_intern.specs.Grown.{Grown, IsNumber};
 ghost use Rattle.t_intern.specs.Nodes.{at};
 ghost use Rattle.t_check.specs.Marks.{has, AreBranches, IsOpened, IsWith};
 
+use crate::parts::intern;
 use idx_core::OutOfMemory;
 use std::alloc::Global;
 use t_intern::{Shape, Types};
@@ -64,7 +65,7 @@ fn opened(types: &mut Types, set: u64) -> Result<Branches, OutOfMemory>
     match parts_of(types, set) {
         Some(parts) => Ok(parts),
         None => {
-            let empty = types.intern(Shape::Int)?;
+            let empty = intern(types, Shape::Int)?;
             Ok(Branches {
                 left: empty,
                 here: false,
@@ -85,7 +86,7 @@ fn joined(alloc: Global, types: &mut Types, parts: Branches) -> Result<u64, OutO
     let mut fields = Vec::new(alloc);
     fields.push((parts.left, parts.here))?;
     fields.push((parts.right, false))?;
-    types.intern(Shape::Tuple(fields))
+    intern(types, Shape::Tuple(fields))
 }
 
 // The set with one number more.

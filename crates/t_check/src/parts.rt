@@ -1,8 +1,10 @@
-// The parts of a type, and a refusal.
+// The parts of a type, its number by them, and a refusal.
 ghost use Rattle.std.specs.Prelude.{◌≡◌, ◌≢◌, ◌↔◌, ◌<◌, ℕ, IsTrue, IfOk, MatchOption, length};
 ghost use Rattle.t_types.specs.Tree.{IntTy, CodeTy, TFile};
 ghost use Rattle.t_terms.specs.declared.fault.TFault.TheVariants as fault;
-ghost use Rattle.t_intern.specs.Nodes.{at};
+ghost use Rattle.t_intern.specs.Grown.{Grown, IsNumber};
+ghost use Rattle.t_intern.specs.Nodes.{at, type_at, PartsBelow};
+ghost use Rattle.t_intern.specs.Read.{node};
 ghost use Rattle.t_check.specs.Verdict.{IsCode, IsRegsOf, IsExists};
 
 use idx_core::{OutOfMemory, Span};
@@ -13,6 +15,19 @@ pub(crate) fn refused<T>(code: TCode, span: Span) -> Result<T, TFault>
     ensures { result ≡ Err (fault.Refused code span) }
 {
     Err(TFault::Refused { code, span })
+}
+
+fn out_of_memory(refused: (Shape, OutOfMemory)) -> OutOfMemory {
+    refused.1
+}
+
+// The number of the type of a shape that is needed no more.
+pub(crate) fn intern(types: &mut Types, shape: Shape) -> Result<u64, OutOfMemory>
+    requires { PartsBelow (length types.old) (node shape) }
+    ensures number { IfOk result (IsNumber types.new (type_at types.old (node shape))) }
+    ensures grown { Grown types.old types.new }
+{
+    types.intern(shape).map_err(out_of_memory)
 }
 
 pub(crate) fn is_int(types: &Types, n: u64) -> bool

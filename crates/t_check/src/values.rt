@@ -10,7 +10,7 @@ ghost use Rattle.t_check.specs.Bounds.{Bounded, OwedFile};
 ghost use Rattle.t_check.specs.Verdict.{FormedAt, FormedBase, IsPlace, BaseTypedAt, TypedAt, AppliedAt, IsInstantiated, IsPacked};
 
 use crate::checker::Checker;
-use crate::parts::{code_parts, exists_body, refused};
+use crate::parts::{code_parts, exists_body, intern, refused};
 use idx_core::{OutOfMemory, Span};
 use t_intern::{Shape, Types};
 use t_terms::{Base, TCode, TFault, Value};
@@ -110,7 +110,7 @@ impl Checker<'_> {
         }
         let regs = self.instantiate(types, parts.owes, &parts.regs, args)?;
         let owes = parts.owes - count;
-        let n = types.intern(Shape::Code { owes, regs })?;
+        let n = intern(types, Shape::Code { owes, regs })?;
         Ok(n)
     }
 

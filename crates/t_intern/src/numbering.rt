@@ -31,7 +31,7 @@ impl Types {
         ensures number { IfOk result (IsNumber self.new (CodeTy owes (file regs.now))) }
     {
         let regs = self.number_regs(regs)?;
-        self.intern(Shape::Code { owes, regs })
+        self.interned(Shape::Code { owes, regs })
     }
 
     /// The number of a type. New types go last, parts before wholes, from left to right.
@@ -42,19 +42,19 @@ impl Types {
         ensures order { OnOk result (Numbered (tree t.now) self.old self.new) }
     {
         match t {
-            TType::Int => self.intern(Shape::Int),
-            TType::Var(i) => self.intern(Shape::Var(*i)),
+            TType::Int => self.interned(Shape::Int),
+            TType::Var(i) => self.interned(Shape::Var(*i)),
             TType::Code { owes, regs } => {
                 let regs = self.number_regs(&regs.regs)?;
-                self.intern(Shape::Code { owes: *owes, regs })
+                self.interned(Shape::Code { owes: *owes, regs })
             }
             TType::Exists(t) => {
                 let t = self.number(t)?;
-                self.intern(Shape::Exists(t))
+                self.interned(Shape::Exists(t))
             }
             TType::Tuple(fs) => {
                 let fs = self.number_fields(fs)?;
-                self.intern(Shape::Tuple(fs))
+                self.interned(Shape::Tuple(fs))
             }
         }
     }

@@ -77,14 +77,14 @@ impl Types {
         ensures number { IfOk result (IsNumber self.new (spread base (types_at self.old args.now) depth i)) }
     {
         if i < depth {
-            return self.intern(Shape::Var(i));
+            return self.interned(Shape::Var(i));
         }
         let count = args.len();
         let past = i - depth;
         if past < count as u64 {
             return self.shift(args[count - 1 - past as usize], depth - base, 0);
         }
-        self.intern(Shape::Var(i - count as u64))
+        self.interned(Shape::Var(i - count as u64))
     }
 
     // The same, where the memo has what was found before.
@@ -139,19 +139,19 @@ impl Types {
             (at self.old n))) }
     {
         match self.copied(n)? {
-            Shape::Int => self.intern(Shape::Int),
+            Shape::Int => self.interned(Shape::Int),
             Shape::Var(i) => self.put_var(base, args, depth, i),
             Shape::Code { owes, regs } => {
                 let regs = self.put_regs(memo, n, &regs, base, args, depth + owes)?;
-                self.intern(Shape::Code { owes, regs })
+                self.interned(Shape::Code { owes, regs })
             }
             Shape::Exists(t) => {
                 let t = self.put_in(memo, t, base, args, depth + 1)?;
-                self.intern(Shape::Exists(t))
+                self.interned(Shape::Exists(t))
             }
             Shape::Tuple(fields) => {
                 let fields = self.put_fields(memo, n, &fields, base, args, depth)?;
-                self.intern(Shape::Tuple(fields))
+                self.interned(Shape::Tuple(fields))
             }
         }
     }

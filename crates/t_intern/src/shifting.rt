@@ -65,19 +65,19 @@ impl Types {
         ensures number { IfOk result (IsNumber self.new (shift by cut (at self.old n))) }
     {
         match self.copied(n)? {
-            Shape::Int => self.intern(Shape::Int),
-            Shape::Var(i) => self.intern(Shape::Var(shifted_index(i, by, cut))),
+            Shape::Int => self.interned(Shape::Int),
+            Shape::Var(i) => self.interned(Shape::Var(shifted_index(i, by, cut))),
             Shape::Code { owes, regs } => {
                 let regs = self.shift_regs(memo, n, &regs, by, cut + owes)?;
-                self.intern(Shape::Code { owes, regs })
+                self.interned(Shape::Code { owes, regs })
             }
             Shape::Exists(t) => {
                 let t = self.shift_in(memo, t, by, cut + 1)?;
-                self.intern(Shape::Exists(t))
+                self.interned(Shape::Exists(t))
             }
             Shape::Tuple(fields) => {
                 let fields = self.shift_fields(memo, n, &fields, by, cut)?;
-                self.intern(Shape::Tuple(fields))
+                self.interned(Shape::Tuple(fields))
             }
         }
     }

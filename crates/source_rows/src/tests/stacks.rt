@@ -8,11 +8,11 @@ use std::test::Fail;
 /// One more form over the last ones, from one byte to another.
 pub fn put(
     alloc: Global,
-    stack: FStack,
+    stack: &mut FStack,
     step: FStep,
     start: u64,
     end: u64,
-) -> Result<FStack, OutOfMemory> {
+) -> Result<(), OutOfMemory> {
     if stack.len() < step.arity() {
         return Err(OutOfMemory);
     }

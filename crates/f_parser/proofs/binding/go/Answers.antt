@@ -7,32 +7,34 @@ use Rattle.f_parser.specs.Binding.{todo, todos, stand, uses_of, Steps}
 use Rattle.f_parser.proofs.Tasks.{stopped, used_in, put_in}
 use Rattle.f_parser.proofs.binding.go.Goals as goal
 
-pub returns-in_ok-next_field-in-Fields : goal.returns-in_ok-next_field-in-Fields
-returns-in_ok-next_field-in-Fields c =
+pub returns-in-Fields : goal.returns-in-Fields
+returns-in-Fields c =
     let text = c.args.text.now in
     let v = c.args.values.now in
     let a = c.args.types.now in
-    let ts = trees_of c.args.stack in
-    subst (λ t. Steps text (stand (todo t ∷ todos c.args.tasks.now.items) v a ts) (stand (todos c.next_field.new.tasks.items) v a ts)) (sym c.in-Fields.is)
-    (c.in_ok-next_field-in-Fields.ensures text v a ts)
+    let ts = trees_of c.args.stack.now in
+    let old = todos c.args.tasks.now.items in
+    let new = todos c.next_field.new.tasks.items in
+    subst (λ t. MatchResult c.next_field.result (λ u. Steps text (stand (todo t ∷ old) v a ts) (stand new v a ts)) (λ e. StopsAt text (uses_of text (todo t) v a) e)) (sym c.in-Fields.is)
+    (stopped text _ c.next_field.result _ _ (λ u h. h text v a ts) c.next_field.ensures)
 
 pub returns-in_ok-ty-in-Inst : goal.returns-in_ok-ty-in-Inst
 returns-in_ok-ty-in-Inst c =
     let text = c.args.text.now in
     let v = c.args.values.now in
     let a = c.args.types.now in
-    let ts = trees_of c.args.stack in
+    let ts = trees_of c.args.stack.now in
     let old = todos c.args.tasks.now.items in
     let x = c.in_ok-ty-in-Inst.ensures in
-    subst (λ t. MatchResult c.put.result (λ r. Steps text (stand (todo t ∷ old) v a ts) (stand old v c.type_in_scope.new.types (trees_of r))) (λ e. StopsAt text (uses_of text (todo t) v a) e)) (sym c.in-Inst.is)
-    (stopped text _ c.put.result _ _ (λ r h. used_in text old v a v c.type_in_scope.new.types ts c.in-Inst.span (type_of c.in-Inst.ty.now) c.in_ok-ty-in-Inst.ty x.right (trees_of r) h refl x.kept) c.put.ensures)
+    subst (λ t. MatchResult c.put.result (λ u. Steps text (stand (todo t ∷ old) v a ts) (stand old v c.type_in_scope.new.types (trees_of c.put.new.stack))) (λ e. StopsAt text (uses_of text (todo t) v a) e)) (sym c.in-Inst.is)
+    (stopped text _ c.put.result _ _ (λ u h. used_in text old v a v c.type_in_scope.new.types ts c.in-Inst.span (type_of c.in-Inst.ty.now) c.in_ok-ty-in-Inst.ty x.right (trees_of c.put.new.stack) h refl x.kept) c.put.ensures)
 
 pub returns-in-Form : goal.returns-in-Form
 returns-in-Form c =
     let text = c.args.text.now in
     let v = c.args.values.now in
     let a = c.args.types.now in
-    let ts = trees_of c.args.stack in
+    let ts = trees_of c.args.stack.now in
     let old = todos c.args.tasks.now.items in
-    subst (λ t. MatchResult c.put-in-Form.result (λ r. Steps text (stand (todo t ∷ old) v a ts) (stand old c.leave.new.values c.leave.new.types (trees_of r))) (λ e. StopsAt text (uses_of text (todo t) v a) e)) (sym c.in-Form.is)
-    (stopped text _ c.put-in-Form.result _ _ (λ r h. put_in text old v a c.leave.new.values c.leave.new.types ts c.in-Form.span c.in-Form.step c.in-Form.names (trees_of r) h c.leave.ensures.values c.leave.ensures.types) c.put-in-Form.ensures)
+    subst (λ t. MatchResult c.put-in-Form.result (λ u. Steps text (stand (todo t ∷ old) v a ts) (stand old c.leave.new.values c.leave.new.types (trees_of c.put-in-Form.new.stack))) (λ e. StopsAt text (uses_of text (todo t) v a) e)) (sym c.in-Form.is)
+    (stopped text _ c.put-in-Form.result _ _ (λ u h. put_in text old v a c.leave.new.values c.leave.new.types ts c.in-Form.span c.in-Form.step c.in-Form.names (trees_of c.put-in-Form.new.stack) h c.leave.ensures.values c.leave.ensures.types) c.put-in-Form.ensures)

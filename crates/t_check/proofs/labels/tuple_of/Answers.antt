@@ -12,4 +12,4 @@ intern-requires c =
 pub returns-clause-number : goal.returns-clause-number
 returns-clause-number c =
     let ts = c.args.types.now in
-    subst (λ (t : Ty). IfOk c.intern.result (IsNumber c.intern.new.self t)) (ap (λ (xs : List (ℕ × Bool)). TupleTy (fields_at ts xs)) c.in_ok-fields.ensures ∙ ap TupleTy (all_at ts c.args.flag c.args.numbers.now)) c.intern.ensures.number
+    subst (λ (t : Ty). IfOk c.intern.result (IsNumber c.intern.new.types t)) (ap (λ (xs : List (ℕ × Bool)). TupleTy (fields_at ts xs)) c.in_ok-fields.ensures ∙ ap TupleTy (all_at ts c.args.flag c.args.numbers.now)) c.intern.ensures.number

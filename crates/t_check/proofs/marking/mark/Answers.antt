@@ -21,7 +21,7 @@ returns-clause-number c =
     let xs = c.in-Some.fields.now in
     let set = has (at ts c.args.set) in
     let same = ap (λ (ys : List (ℕ × Bool)). TupleTy (fields_at ts ys)) c.in_ok-fields-in-Some.ensures ∙ ap TupleTy (marked_at ts set 1 xs) ∙ ap (marked (at ts c.args.set)) (sym c.in-Some.ensures.0) in
-    subst (λ (t : Ty). IfOk c.intern.result (IsNumber c.intern.new.self t)) same c.intern.ensures.number
+    subst (λ (t : Ty). IfOk c.intern.result (IsNumber c.intern.new.types t)) same c.intern.ensures.number
 
 pub returns-in-None-clause-number : goal.returns-in-None-clause-number
 returns-in-None-clause-number c = (c.requires.there, sym (marked_other (at c.args.types.now c.args.set) (at c.args.types.now c.args.n) c.in-None.ensures))

@@ -21,5 +21,5 @@ returns-clause-applied c = λ g b h.
     let code = subst (λ (o : Option CodeParts). IsCode ts c.args.found o) c.in-Some.is c.in_ok-parts.ensures in
     let made = subst (λ (xs : List (ℕ × ℕ)). IsInstantiated us n (types args) parts.owes (regs_at ts xs) c.in_ok-regs.regs.items) c.deref.ensures.value c.in_ok-regs.ensures.made in
     let le = c.if-count-parts.false in
-    plain_ok P n g c.args.span b c.intern.new.self (types args) (at ts c.args.found) parts.owes (parts.owes - length args) c.in_ok-n.n (regs_at ts parts.regs.items) (regs_at us c.in_ok-regs.regs.items)
+    plain_ok P n g c.args.span b c.intern.new.types (types args) (at ts c.args.found) parts.owes (parts.owes - length args) c.in_ok-n.n (regs_at ts parts.regs.items) (regs_at us c.in_ok-regs.regs.items)
     (omega (arith, len, c.requires.some)) h c.requires.bounded code.0 (omega (arith, len, le)) (omega (arith, len)) made.0.0 (types_below n args c.requires.args) made.1 c.in_ok-n.ensures.number

@@ -96,7 +96,7 @@ fn translated(alloc: Global, program: &KProgram) -> Result<CProgram, OutOfMemory
 }
 
 /// The closed program of a program, by the rules of closure conversion. It is typed, and each bound on the program
-/// before is one on it; within any number of calls it ends as the program before, and enters the same codes.
+/// before is one on it; within any number of calls it halts as the program before, and enters the same codes.
 pub fn close(alloc: Global, program: &KProgram) -> Result<CProgram, OutOfMemory>
     ensures same { IfOk result (λ r. C.term_of r ≡ close_of (K.term_of program.now)) }
     ensures rules { IfOk result (λ r. IsTranslation (K.term_of program.now) (C.term_of r)) }

@@ -74,7 +74,7 @@ fn write_unpacked(text: &mut Vec<u8>, rd: u64, depth: u64) -> Result<(), OutOfMe
     Ok(())
 }
 
-// An instruction inside `depth` type names, of a program of some numbers of blocks and data.
+// An instruction inside `depth` type names.
 pub(crate) fn write_instr(text: &mut Vec<u8>, instr: &Instr, depth: u64) -> Result<(), OutOfMemory>
     requires { (blocks heap : ℕ) × WellFormedInstr blocks heap depth (instr_of instr.now) }
     ensures written { OnOk result (text.new.items ≡

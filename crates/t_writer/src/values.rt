@@ -39,7 +39,7 @@ fn write_args(text: &mut Vec<u8>, args: &[TType], depth: u64) -> Result<(), OutO
     write_list(text, args, depth)
 }
 
-// A value inside `depth` type names, of a program of some numbers of blocks and data.
+// A value inside `depth` type names.
 pub(crate) fn write_value(text: &mut Vec<u8>, v: &Value, depth: u64) -> Result<(), OutOfMemory>
     requires { (blocks heap : ℕ) × WellFormedValue blocks heap depth (value_of v.now) }
     ensures written { OnOk result (text.new.items ≡ text.old.items ++ render (value_written depth (value_of v.now))) }

@@ -30,14 +30,17 @@ pub trait Scoped {
 
     ghost each: { Each Tree };
 
+    /// The tree with `by` added to each variable from `cut` on that is not bound inside it. An error is want of memory.
     fn shift(&self, alloc: Global, by: u64, cut: u64) -> Result<Self, OutOfMemory>
         requires { each (ShiftFitsAt by) IsWord cut (tree self.now) }
         ensures { IfOk result (λ t. tree t ≡ over (shifted var by) cut (tree self.now)) };
 
+    /// The tree with `what` in place of variable `at`, and those above `at` one less. An error is want of memory.
     fn put(&self, alloc: Global, at: u64, what: &Self::Part) -> Result<Self, OutOfMemory>
         requires { each (PutFitsAt each_part at (part_tree what.now)) IsWord at (tree self.now) }
         ensures { IfOk result (λ t. tree t ≡ over (putted var over_part at (part_tree what.now)) at (tree self.now)) };
 
+    /// Whether each variable is bound inside the tree or less than `n`.
     fn below(&self, n: u64) -> bool
         ensures { IsTrue result ↔ each BelowAt AnyDepth n (tree self.now) };
 

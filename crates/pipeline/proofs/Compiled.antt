@@ -1,5 +1,5 @@
 -- What the passes say of their results, put together.
-use Rattle.std.proofs.Common.{◌≡◌, ◌↔◌, ℕ, ℤ, suc, ◌+◌, [], length, ap, ◌∙◌}
+use Rattle.std.proofs.Common.{◌≡◌, ◌↔◌, ℕ, ℤ, suc, ◌+◌, [], length, ap, arith}
 use Rattle.f_terms.specs.Tm.{Term}
 use Rattle.term_core.specs.Ends.{Halted}
 use Rattle.k_terms.specs.K.{KTm}
@@ -14,6 +14,7 @@ use Rattle.h_pass.specs.Back.{IsHoisted}
 use Rattle.a_terms.specs.Tree.{ATm, AProg}
 use Rattle.a_terms.specs.Bound.{thirds, all_thirds}
 use Rattle.a_terms.specs.Meaning as A
+use Rattle.a_law.specs.Allocate.{alloc_prog, alloc_main}
 use Rattle.a_law.specs.Stands.{Stands}
 use Rattle.a_law.specs.Statements.{ends}
 use Rattle.t_terms.specs.Tree.{TProg}
@@ -22,17 +23,20 @@ use Rattle.t_rules.specs.LawsErased.{StandsAt}
 use Rattle.t_rules.specs.LawsTimes.{RunsWithinTimes}
 use Rattle.gen_law.specs.Gen.{generated}
 use Rattle.gen_law.specs.Correct.{Keeps}
+use Rattle.gen_law.specs.Layout.{LaidOut}
 use Rattle.pipeline.specs.Meaning.{SameMeaning, RunsSeldom}
 use Rattle.pipeline.specs.Compilation.{IsCompilation}
 use Rattle.pipeline.proofs.Chain.{same_meaning, seldom, soon}
-use Rattle.pipeline.proofs.Counted.{counted}
 
-module _ (e : Term) (k : KTm) (c : CTm) (ks : HBlks) (t : HTm) (p : AProg) (main : ATm) (P : TProg) (stands : StandsAt) (within : RunsWithinTimes) (converted : Converted e k) (closed : closing.IsTranslation k c) (halts : (n : ℕ) (i : ℤ) → (crun n c).end ≡ Halted i ↔ (krun n k).end ≡ Halted i) (codes : (n : ℕ) → (crun n c).entered ≡ (krun n k).entered) (hoisted : IsHoisted ks t c) (runs : (n : ℕ) → hrun n ks t ≡ crun n c) (allocated : Stands p main ks t) (means : (n : ℕ) → A.meaning p main n ≡ ends [] (hrun n ks t)) (made : P ≡ generated p main) (accepted : Accepted P) (keeps : Keeps p main P) where
+module _ (e : Term) (k : KTm) (c : CTm) (ks : HBlks) (t : HTm) (p : AProg) (main : ATm) (P : TProg) (stands : StandsAt) (within : RunsWithinTimes) (laid : LaidOut) (converted : Converted e k) (closed : closing.IsTranslation k c) (halts : (n : ℕ) (i : ℤ) → (crun n c).end ≡ Halted i ↔ (krun n k).end ≡ Halted i) (codes : (n : ℕ) → (crun n c).entered ≡ (krun n k).entered) (hoisted : IsHoisted ks t c) (runs : (n : ℕ) → hrun n ks t ≡ crun n c) (allocated : Stands p main ks t) (is_allocated : p ≡ alloc_prog ks t) (is_start : main ≡ alloc_main ks t) (means : (n : ℕ) → A.meaning p main n ≡ ends [] (hrun n ks t)) (made : P ≡ generated p main) (accepted : Accepted P) (keeps : Keeps p main P) where
   means_same : SameMeaning e P
   means_same = same_meaning e k c ks t p main P converted.meaning halts codes runs means keeps
 
   long : length P.blocks ≡ suc (length p.blocks) + thirds main + all_thirds p.blocks
-  long = ap (λ (x : TProg). length x.blocks) made ∙ counted p main
+  long =
+      let same = ap (λ (x : TProg). length x.blocks) made in
+      let count = (laid p main).count in
+      omega (arith, same, count)
 
   runs_seldom : RunsSeldom e P
   runs_seldom = seldom e k c ks t p main P converted.meaning halts codes runs means keeps stands long
@@ -52,6 +56,8 @@ module _ (e : Term) (k : KTm) (c : CTm) (ks : HBlks) (t : HTm) (p : AProg) (main
       to_closed = closed;
       to_hoisted = hoisted;
       to_allocated = allocated;
+      is_allocated = is_allocated;
+      is_start = is_start;
       to_assembly = made;
     };
     seldom = runs_seldom;

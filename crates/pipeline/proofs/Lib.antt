@@ -1,5 +1,4 @@
 mod Blocks
 mod Chain
 mod Compiled
-mod Counted
 mod Shallow

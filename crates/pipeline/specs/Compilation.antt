@@ -8,6 +8,7 @@ use Rattle.c_law.specs.Row as closing
 use Rattle.h_terms.specs.H.{HBlks, HTm}
 use Rattle.h_pass.specs.Back.{IsHoisted}
 use Rattle.a_terms.specs.Tree.{ATm, AProg}
+use Rattle.a_law.specs.Allocate.{alloc_prog, alloc_main}
 use Rattle.a_law.specs.Stands.{Stands}
 use Rattle.t_terms.specs.Tree.{TProg}
 use Rattle.t_rules.specs.Rules.{Accepted}
@@ -15,7 +16,8 @@ use Rattle.gen_law.specs.Gen.{generated}
 use Rattle.pipeline.specs.Meaning.{SameMeaning, RunsSeldom, HaltsSoon}
 
 -- the program is a translation of the term by the rules of the passes in turn: conversion to continuation-passing
--- style, closure conversion, hoisting, allocation, code generation
+-- style, closure conversion, hoisting, allocation, code generation. The allocated program stands for the hoisted one,
+-- and is the one that the definition of allocation gives for it: nothing else is added or left out
 pub record IsTranslation (e : Term) (P : TProg) : Type 0 where
   pub converted : KTm
   pub closed : CTm
@@ -27,6 +29,8 @@ pub record IsTranslation (e : Term) (P : TProg) : Type 0 where
   pub to_closed : closing.IsTranslation converted closed
   pub to_hoisted : IsHoisted blocks main closed
   pub to_allocated : Stands allocated start blocks main
+  pub is_allocated : allocated ≡ alloc_prog blocks main
+  pub is_start : start ≡ alloc_main blocks main
   pub to_assembly : P ≡ generated allocated start
 
 -- the typing rules accept the program; it means the same as the term; it is a translation of it, no place of it is

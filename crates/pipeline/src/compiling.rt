@@ -29,6 +29,7 @@ pub fn compile(alloc: Global, program: &Program) -> Result<Checked, OutOfMemory>
 {
     t_rules::erased_code_stands_at_its_place();
     t_rules::runs_stay_within_times();
+    gen_law::programs_are_laid_out();
     let converted = cps(alloc, program)?;
     let closed = close(alloc, &converted)?;
     let hoisted = hoist(alloc, &closed)?;

@@ -1,9 +1,9 @@
 """Refused memory: each allocation of each command is refused in turn, over a dozen inputs.
 
-What is wanted: the status is that of the run with ample memory, or 7; after 7 no file has changed, nothing is on the output, and
-the error output has the line `out of memory` or nothing; else all is as with ample memory. It prints how many refusals it
-tried, and ends with 1 where one was answered otherwise. It needs a C compiler: the allocator is put before that of the C
-library, for the program alone.
+What is wanted: the status is that of the run with ample memory, or 7; after 7 no file has changed, but that `gen` may have
+written its source, nothing is on the output, and the error output has the line `out of memory` or nothing; else all is as with
+ample memory. It prints how many refusals it tried, and ends with 1 where one was answered otherwise. It needs a C compiler:
+the allocator is put before that of the C library, for the program alone.
 """
 import os
 import subprocess
@@ -85,6 +85,7 @@ CASES = [
     ("eval IN --turns 5", FACTORIAL), ("check IN", PACKAGE), ("check IN", "tal 1\nL0: code[]{}.\nhalt[int]\n"),
     ("run IN --fuel 5", TUPLE), ("run IN --fuel 10", LOOP), ("run IN", LOOP), ("check NONE", LOOP),
     ("upgrade IN OUT", PACKAGE), ("upgrade IN OUT", DATA), ("run IN --fuel 3", DATA),
+    ("gen --seed 0 OUT", ""),
 ]
 
 
@@ -106,10 +107,12 @@ class Outcome:
     def is_as(self, ample):
         return (self.status, self.out, self.err, self.files) == (ample.status, ample.out, ample.err, ample.files)
 
-    def is_want(self, text):
+    def is_want(self, words, text, ample):
+        """Memory was wanted, and the files are as before, or those of `gen` as with ample memory."""
+        written = words.startswith("gen ") and self.files == ample.files
         return (
             self.status == 7 and self.out == b"" and self.err in (b"", b"out of memory\n")
-            and self.files == {"IN": text.encode()}
+            and (written or self.files == {"IN": text.encode()})
         )
 
 
@@ -130,7 +133,7 @@ def main():
             for at in range(count):
                 got = Outcome(talc, shim, f"{place}/run", words, text, at)
                 tried += 1
-                if got.is_want(text):
+                if got.is_want(words, text, ample):
                     here += 1
                 elif not got.is_as(ample):
                     wrong += 1

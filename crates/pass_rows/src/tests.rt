@@ -9,5 +9,6 @@ mod large;
 mod notation;
 mod passes;
 mod rows;
+mod scoped;
 mod shown;
 mod types;

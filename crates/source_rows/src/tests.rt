@@ -3,6 +3,7 @@ mod checking;
 mod evaluating;
 mod lexing;
 mod names;
+mod parts;
 mod reading;
 mod stacks;
 mod types;

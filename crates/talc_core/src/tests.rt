@@ -48,8 +48,10 @@ fn a_file_is_compiled_into_itself(rt: HostRuntime) -> Result<(), Fail> {
         files: &[("x", SEVEN)],
         faults: (0, 0),
     };
+    let line = "talc compile x x";
+    leads(&rt, rt.alloc(), line, with_file("x", b"7"), after)?;
     let before = with_file("x", b"\n 7\t-- seven");
-    leads(&rt, rt.alloc(), "talc compile x x", before, after)
+    leads(&rt, rt.alloc(), line, before, after)
 }
 
 // No file is read, and there is a text for the user.

@@ -79,8 +79,11 @@ fn small_types(rt: HostRuntime) -> Result<(), OutOfMemory> {
     assert!(rt; whole == 2 && types.count() == 3);
     assert!(rt; types.number(&code(alloc)?)? == types.number(&code(alloc)?)?);
     let int = types.number(&TType::Int)?;
-    assert!(rt; int == 0);
+    assert!(rt; int == 0 && types.count() == 5);
+    let part = types.tree(1)?;
+    assert!(rt; eq(&part, &one_field(alloc, TType::Int, false)?));
     assert!(rt; types.shift(int, 5, 0)? == 0);
+    assert!(rt; types.put(0, 0, 1)? == 0);
     Ok(())
 }
 

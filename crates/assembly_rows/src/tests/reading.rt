@@ -294,6 +294,14 @@ fn name_at(text: &[u8], at: usize, rt: &HostRuntime) -> Option<u64> {
     }
 }
 
+// the number of the register at a place of the first block's file
+fn register_at(text: &[u8], at: usize, rt: &HostRuntime) -> Option<u64> {
+    let program = read(rt.alloc(), text).ok()?;
+    let first = program.blocks.get(0)?;
+    let register = first.regs.regs.get(at)?;
+    Some(register.0)
+}
+
 // Large texts: a walk over all names, labels or registers at each use would take time by their number squared.
 #[test]
 fn reads_many_names(rt: HostRuntime) {
@@ -311,6 +319,6 @@ fn reads_many_labels(rt: HostRuntime) {
 #[test]
 fn reads_many_registers(rt: HostRuntime) {
     let text = many_registers(rt.alloc(), 50_000).unwrap_or(Vec::new(rt.alloc()));
-    let found = read(rt.alloc(), &text);
-    assert_eq!(rt; found.err(), None);
+    assert_eq!(rt; register_at(&text, 0, &rt), Some(1));
+    assert_eq!(rt; register_at(&text, 49_999, &rt), Some(50_000));
 }

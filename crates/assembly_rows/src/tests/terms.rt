@@ -40,8 +40,9 @@ fn under_unpack(rt: HostRuntime) -> Result<(), OutOfMemory> {
     Ok(())
 }
 
-// Whether the types that a move of the block takes are all the given one.
+// Whether the moves of the block take one type, and that is the given one.
 fn takes(b: &Block, t: &TType) -> bool {
+    let mut seen: u64 = 0;
     for entry in &b.body {
         if let Instr::Mov {
             rd: _,
@@ -52,10 +53,27 @@ fn takes(b: &Block, t: &TType) -> bool {
                 if !eq(t, u) {
                     return false;
                 }
+                seen = seen.saturating_add(1);
             }
         }
     }
-    true
+    seen == 1
+}
+
+// Whether the value is a package that hides this type.
+fn hides(v: &Value, t: &TType) -> bool {
+    match v {
+        Value::Pack { hidden, .. } => eq(hidden, t),
+        _ => false,
+    }
+}
+
+// Whether the instruction moves such a package.
+fn moves_hidden(i: &Instr, t: &TType) -> bool {
+    match i {
+        Instr::Mov { v, .. } => hides(v, t),
+        _ => false,
+    }
 }
 
 #[test]
@@ -72,12 +90,13 @@ fn values(rt: HostRuntime) -> Result<(), OutOfMemory> {
     };
     assert!(rt; v.below(1) && !v.below(0));
     let put = v.put(alloc, 0, &TType::Int)?;
-    assert!(rt; put.below(0));
+    assert!(rt; put.below(0) && hides(&put, &TType::Int));
     let i = Instr::Mov { rd: 1, v };
     let shifted = i.shift(alloc, 2, 0)?;
     assert!(rt; shifted.below(3) && !shifted.below(2));
+    assert!(rt; moves_hidden(&shifted, &TType::Var(2)));
     let put = i.put(alloc, 0, &TType::Int)?;
-    assert!(rt; put.below(0));
+    assert!(rt; put.below(0) && moves_hidden(&put, &TType::Int));
     let end = End::Jmp(Value::Plain {
         base: Base::Label(0),
         types: Vec::new(alloc),

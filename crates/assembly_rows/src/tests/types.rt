@@ -87,6 +87,34 @@ fn files(rt: HostRuntime) -> Result<(), OutOfMemory> {
     Ok(())
 }
 
+// Whether the file has these two registers, with these types.
+fn is_file(file: &RegFile, first: (u64, &TType), second: (u64, &TType)) -> bool {
+    match file.regs.as_slice() {
+        [(r, t), (s, u)] => { *r == first.0 && eq(t, first.1) && *s == second.0 && eq(u, second.1) }
+        _ => false,
+    }
+}
+
+// In each register of a file the types below the cut stay, and those above the place of a put go down.
+#[test]
+fn small_files(rt: HostRuntime) -> Result<(), OutOfMemory> {
+    let alloc = rt.alloc();
+    let mut regs = Vec::new(alloc);
+    regs.push((1, TType::Var(0)))?;
+    regs.push((4, TType::Exists(Box::new(alloc, TType::Var(2))?)))?;
+    let file = RegFile { regs };
+    let shifted = file.shift(alloc, 2, 1)?;
+    let second = TType::Exists(Box::new(alloc, TType::Var(4))?);
+    assert!(rt; is_file(&shifted, (1, &TType::Var(0)), (4, &second)));
+    let put = file.put(alloc, 0, &TType::Var(5))?;
+    let second = TType::Exists(Box::new(alloc, TType::Var(1))?);
+    assert!(rt; is_file(&put, (1, &TType::Var(5)), (4, &second)));
+    let put = file.put(alloc, 1, &TType::Var(5))?;
+    let second = TType::Exists(Box::new(alloc, TType::Var(6))?);
+    assert!(rt; is_file(&put, (1, &TType::Var(0)), (4, &second)));
+    Ok(())
+}
+
 // A tuple of one field.
 fn tuple_of(alloc: Global, t: TType, flag: bool) -> Result<TType, OutOfMemory> {
     let mut fields = Vec::new(alloc);

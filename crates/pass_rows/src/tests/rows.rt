@@ -3,6 +3,7 @@
 use super::passes::{accepted, first_run, program, value_of};
 use f_check::Program;
 use f_eval::{Ended, eval};
+use f_parser::parse;
 use k_pass::cps;
 use k_terms::codes;
 use std::alloc::{AllocError, Global};
@@ -152,6 +153,7 @@ fn choices(alloc: Global, count: usize) -> Result<String, AllocError> {
 fn choices_in_a_row(rt: HostRuntime) -> Result<(), Fail> {
     let alloc = rt.alloc();
     let text = choices(alloc, 60)?;
+    assert_eq!(rt; parse(alloc, text.as_bytes())?.count(), 299);
     let row = Row {
         source: text.as_str(),
         codes: 60,

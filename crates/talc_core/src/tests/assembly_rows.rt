@@ -62,6 +62,19 @@ fn accepted_texts(rt: HostRuntime) -> Result<(), Fail> {
     )
 }
 
+// As a tree the type of r1 has more than ten thousand million parts.
+#[test]
+fn a_wide_type_in_a_wide_type_is_accepted(rt: HostRuntime) -> Result<(), Fail> {
+    let text = &[
+        ("tal 1\nL0: code[]{}. mov r1, L1[<int^0", 1),
+        (",int^0", 99_999),
+        (">] jmp L0\nL1: code[b]{r1:<b^0", 1),
+        (",b^0", 99_999),
+        (">}. jmp L0", 1),
+    ];
+    shows_of(&rt, rt.alloc(), CHECK, text, Status::Done, "accepted\n", "")
+}
+
 #[test]
 fn refused_texts(rt: HostRuntime) -> Result<(), Fail> {
     each_refused(
@@ -170,7 +183,10 @@ fn open_constructs_of_assembly_are_limited(rt: HostRuntime) -> Result<(), Fail> 
     shows_of(&rt, alloc, run, most, Status::Done, "int 1\n", "")?;
     let more = &[(header, 1), ("<", 2_000)];
     let err = "M1 2029..2030 more than 2000 open constructs\n";
-    shows_of(&rt, alloc, CHECK, more, Status::Limit, "", err)
+    shows_of(&rt, alloc, CHECK, more, Status::Limit, "", err)?;
+    shows_of(&rt, alloc, run, more, Status::Limit, "", err)?;
+    let upgrade = "talc upgrade x y";
+    shows_of(&rt, alloc, upgrade, more, Status::Limit, "", err)
 }
 
 #[test]
@@ -207,6 +223,12 @@ fn texts_that_halt(rt: HostRuntime) -> Result<(), Fail> {
                 "tal 1\nL0: code[]{}. mov r1, pack[int,3] as some a. a unpack[b,r2], r1 mov r1, 9 halt[int]",
                 "3",
                 "int 9\n",
+            ),
+            // a field of a data tuple may be replaced
+            (
+                "tal 2\nD: data <5 : int>\nL: code[]{}. mov r1, D mov r2, 7 st r1[0], r2 ld r1, r1[0] halt[int]",
+                "4",
+                "int 7\n",
             ),
         ],
     )

@@ -105,6 +105,16 @@ fn choices_in_a_row(rt: HostRuntime) -> Result<(), Fail> {
 }
 
 #[test]
+fn compiled_long_sums_and_deep_parentheses(rt: HostRuntime) -> Result<(), Fail> {
+    let alloc = rt.alloc();
+    let line = "talc run y --fuel 1000000";
+    let sum = &[("1", 1), (" + 1", 499)];
+    runs_of(&rt, alloc, sum, line, Status::Done, "int 500\n")?;
+    let deep = &[("(", 200), ("1", 1), (")", 200)];
+    runs_of(&rt, alloc, deep, line, Status::Done, "int 1\n")
+}
+
+#[test]
 fn texts_that_are_not_compiled(rt: HostRuntime) -> Result<(), Fail> {
     each_refused(
         &rt,
@@ -115,11 +125,23 @@ fn texts_that_are_not_compiled(rt: HostRuntime) -> Result<(), Fail> {
             ("9223372036854775808", "E02 0..19 number out of range\n"),
             ("1 )", "E03 2..3 unexpected token\n"),
             ("(1 +", "E04 4..4 unexpected end of text\n"),
+            ("", "E04 0..0 unexpected end of text\n"),
             ("1 + <>", "E12 4..6 operand is not int\n"),
             ("<>", "E15 0..2 program is not int\n"),
             ("gen a. 1", "E15 0..8 program is not int\n"),
         ],
     )
+}
+
+#[test]
+fn spaces_are_not_compiled(rt: HostRuntime) -> Result<(), Fail> {
+    let alloc = rt.alloc();
+    let most = &[(" ", 1_048_576)];
+    let err = "E04 1048576..1048576 unexpected end of text\n";
+    shows_of(&rt, alloc, COMPILE, most, Status::Refused, "", err)?;
+    let more = &[(" ", 1_048_577)];
+    let err = "L1 0..1048577 more than 1048576 bytes\n";
+    shows_of(&rt, alloc, COMPILE, more, Status::Limit, "", err)
 }
 
 #[test]

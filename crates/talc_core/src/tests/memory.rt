@@ -141,8 +141,8 @@ fn has_file(rt: &impl Abort, line: &str, files: &MemFiles, name: &str, content: 
     assert!(rt; has_content(files, name, content), "{line}: {name}");
 }
 
-// These files, and no others.
-fn has_files(rt: &impl Abort, line: &str, files: &MemFiles, wanted: &[(&str, &[u8])]) {
+/// These files, and no others.
+pub fn has_files(rt: &impl Abort, line: &str, files: &MemFiles, wanted: &[(&str, &[u8])]) {
     for (name, content) in wanted {
         has_file(rt, line, files, name, content);
     }

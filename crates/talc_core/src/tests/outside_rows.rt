@@ -4,9 +4,10 @@ ghost use Rattle.std.specs.Prelude.{None};
 
 use super::SEVEN;
 use super::memory::{
-    After, Before, Outside, has_taken, is_status, leads, outside_of, run_over, with_file,
+    After, Before, Outside, built, has_files, has_taken, is_status, leads, outside_of, run_over,
+    with_file,
 };
-use crate::Status;
+use crate::{Status, source_of};
 use io_core::{Files, Sink, Stop};
 use std::alloc::{AllocError, Global};
 use std::process::Abort;
@@ -242,11 +243,14 @@ fn each_untold(
 // Want of memory for the line changes all statuses but that of a write fault.
 #[test]
 fn lines_without_memory(rt: HostRuntime) -> Result<(), Fail> {
+    let alloc = rt.alloc();
+    let deep = built(alloc, &[("(", 201)])?;
     each_untold(
         &rt,
-        rt.alloc(),
+        alloc,
         &[
             (COMPILE, b"7 $", &[], Status::Memory),
+            (COMPILE, &deep, &[], Status::Memory),
             ("talc compile no.f x", b"7", &[], Status::Memory),
             ("talc typeof", b"7", &[], Status::Memory),
             (COMPILE, b"7", &[(1, 0)], Status::WriteFault),
@@ -269,7 +273,28 @@ fn files_want_memory(rt: &impl Abort, alloc: Global, line: &str) -> Result<(), F
     Ok(())
 }
 
-fn output_wants_memory(rt: &impl Abort, alloc: Global, line: &str) -> Result<(), Fail> {
+// The line of the want of memory finds no memory either.
+fn files_and_line_want_memory(rt: &impl Abort, alloc: Global, line: &str) -> Result<(), Fail> {
+    let mut outside = outside_of(alloc, with_file("x", b"7"))?;
+    let mut files = FilesWithoutMemory;
+    let mut err = ScantSink {
+        wanting: 1,
+        taken: 0,
+    };
+    let status = run_over(alloc, line, &mut files, &mut outside.out, &mut err)?;
+    is_status(rt, line, status, Status::Memory);
+    has_taken(rt, line, &outside.out, b"");
+    assert_eq!(rt; err.taken, 0, "{line}");
+    Ok(())
+}
+
+// The output finds no memory for its one put, and these files are left.
+fn output_wants_memory(
+    rt: &impl Abort,
+    alloc: Global,
+    line: &str,
+    files: &[(&str, &[u8])],
+) -> Result<(), Fail> {
     let mut outside = outside_of(alloc, with_file("x", b"7"))?;
     let mut out = ScantSink {
         wanting: 1,
@@ -277,15 +302,33 @@ fn output_wants_memory(rt: &impl Abort, alloc: Global, line: &str) -> Result<(),
     };
     let status = run_over(alloc, line, &mut outside.files, &mut out, &mut outside.err)?;
     is_out_of_memory(rt, line, status, &outside);
+    assert_eq!(rt; out.taken, 0, "{line}");
+    has_files(rt, line, &outside.files, files);
     Ok(())
 }
 
 #[test]
-fn files_and_output_without_memory(rt: HostRuntime) -> Result<(), Fail> {
+fn files_without_memory(rt: HostRuntime) -> Result<(), Fail> {
     let alloc = rt.alloc();
     files_want_memory(&rt, alloc, "talc compile x y")?;
     files_want_memory(&rt, alloc, "talc check x")?;
     files_want_memory(&rt, alloc, "talc upgrade x y")?;
-    output_wants_memory(&rt, alloc, "talc typeof x")?;
-    output_wants_memory(&rt, alloc, "talc eval x --turns 0")
+    files_and_line_want_memory(&rt, alloc, "talc check x")
+}
+
+#[test]
+fn outputs_without_memory(rt: HostRuntime) -> Result<(), Fail> {
+    let alloc = rt.alloc();
+    let kept: &[(&str, &[u8])] = &[("x", b"7")];
+    output_wants_memory(&rt, alloc, "talc typeof x", kept)?;
+    output_wants_memory(&rt, alloc, "talc eval x --turns 0", kept)
+}
+
+// The source is written before the output finds no memory.
+#[test]
+fn a_source_is_written_before_the_output_wants_memory(rt: HostRuntime) -> Result<(), Fail> {
+    let alloc = rt.alloc();
+    let text = source_of(alloc, 0)?;
+    let files: &[(&str, &[u8])] = &[("x", b"7"), ("g.f", &text)];
+    output_wants_memory(&rt, alloc, "talc gen --seed 0 g.f", files)
 }

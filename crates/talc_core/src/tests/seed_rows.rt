@@ -60,6 +60,25 @@ fn the_source_of_a_seed_is_written_and_shown(rt: HostRuntime) -> Result<(), Fail
     is_as(&rt, alloc, "talc gen --seed 0 g.f", 0, LINES)
 }
 
+// The second call of the files would fail: there is one.
+#[test]
+fn one_file_is_written(rt: HostRuntime) -> Result<(), Fail> {
+    let alloc = rt.alloc();
+    let text = source_of(alloc, 0)?;
+    let before = Before {
+        files: &[(1, 0)],
+        ..nothing()
+    };
+    let after = After {
+        status: Status::Done,
+        out: LINES,
+        err: b"",
+        files: &[("x", b""), ("g.f", &text)],
+        faults: (0, 0),
+    };
+    leads(&rt, alloc, "talc gen --seed 0 g.f", before, after)
+}
+
 #[test]
 fn sixty_seeds_are_all(rt: HostRuntime) -> Result<(), Fail> {
     is_as(&rt, rt.alloc(), "talc gen --seed 60 g.f", 0, LINES)

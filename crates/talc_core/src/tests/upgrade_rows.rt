@@ -105,6 +105,23 @@ fn a_text_is_upgraded_into_itself(rt: HostRuntime) -> Result<(), Fail> {
     leads(&rt, rt.alloc(), "talc upgrade x x", before, after)
 }
 
+// The third call of the files would fail: there are two.
+#[test]
+fn one_file_is_read_and_one_written(rt: HostRuntime) -> Result<(), Fail> {
+    let before = Before {
+        files: &[(2, 0)],
+        ..with_file("x", FOREVER)
+    };
+    let after = After {
+        status: Status::Done,
+        out: b"",
+        err: b"",
+        files: &[("x", FOREVER), ("y", FOREVER_UPGRADED)],
+        faults: (0, 0),
+    };
+    leads(&rt, rt.alloc(), UPGRADE, before, after)
+}
+
 #[test]
 fn refused_texts_are_not_upgraded(rt: HostRuntime) -> Result<(), Fail> {
     each_refused(

@@ -70,6 +70,17 @@ fn values_with_their_turns(rt: HostRuntime) -> Result<(), Fail> {
                 "int ~9223372036854775808 after 0 turns\n",
             ),
             ("#2 <1, 2, <>> - 5", "0", "int ~3 after 0 turns\n"),
+            (
+                "((gen a. fix f(x:a):int -> a. fix g(y:int):a. x)[int] 8) 1",
+                "3",
+                "int 8 after 3 turns\n",
+            ),
+            (
+                "((fix f(x:int):int -> int. fix h(y:int):int. \
+                (fix g(n:int):int. if0(n, x - y, 2 * g(n - 1))) 3) 9) 4",
+                "6",
+                "int 40 after 6 turns\n",
+            ),
         ],
     )
 }
@@ -83,6 +94,12 @@ fn factorials(rt: HostRuntime) -> Result<(), Fail> {
     let more = &[(FACTORIAL, 1), ("21", 1)];
     let out = "int ~4249290049419214848 after 22 turns\n";
     evaluates(&rt, alloc, more, "100", out)
+}
+
+#[test]
+fn choices_in_a_row(rt: HostRuntime) -> Result<(), Fail> {
+    let text = &[("if0(0,1,2)", 1), (" + if0(0,1,2)", 59)];
+    evaluates(&rt, rt.alloc(), text, "0", "int 60 after 0 turns\n")
 }
 
 #[test]

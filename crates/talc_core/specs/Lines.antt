@@ -115,6 +115,14 @@ span_text span = decimal span.start ++ codes ".." ++ decimal span.end
 abbrev pub line_text : List ℕ → Span → List ℕ → List ℕ
 line_text code span words = code ++ codes " " ++ span_text span ++ codes " " ++ words ++ codes "\n"
 
+-- a fault as it is shown: its code, its place and its words, with a space between
+abbrev pub shown_text : List ℕ → Span → List ℕ → List ℕ
+shown_text code span words = code ++ codes " " ++ span_text span ++ codes " " ++ words
+
+abbrev pub fault_text : Fault → List ℕ
+fault_text (Source code span) = shown_text (source_code code) span (source_words code)
+fault_text (Tal code span) = shown_text (tal_code code) span (tal_words code)
+
 -- the line that names a fault
 abbrev pub fault_line : Fault → List ℕ
 fault_line (Source code span) = line_text (source_code code) span (source_words code)

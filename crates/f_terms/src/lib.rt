@@ -1,20 +1,20 @@
 //! The source calculus: its types and terms, and the faults of a source text.
 #![tactic(auto)]
 
-pub mod admission;
-pub mod copying;
-pub mod count;
-pub mod fault;
-pub mod laws;
-pub mod make;
-pub mod node;
-pub mod shift;
-pub mod stack;
-pub mod step;
-pub mod table;
-pub mod term;
-pub mod text;
-pub mod types;
+mod admission;
+mod copying;
+mod count;
+mod fault;
+mod laws;
+mod make;
+mod node;
+mod shift;
+mod stack;
+mod step;
+mod table;
+mod term;
+mod text;
+mod types;
 
 pub use admission::admit;
 pub use copying::copy;

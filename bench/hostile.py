@@ -131,6 +131,36 @@ def same_pair_stores(n):
     return wide_data(n) + f"mov r1, D0\nmalloc r3[{wide_type(n)}]\n" + stores + "jmp L0\n"
 
 
+OPENED = "unpack[b, r9], pack[int, 1] as some b. b\n"
+
+
+def open_type(n):
+    """A tuple type of so many fields in which the name `a` is free."""
+    return "<" + ", ".join(["a^1"] + ["int^1"] * n) + ">"
+
+
+def open_loads(n, before=""):
+    """Many loads of a field whose type is wide and has a free name."""
+    loads = "ld r2, r1[0]\n" * (n // 4)
+    return HEAD + f"jmp L0\nL1: code[a]{{r1:<{open_type(n)}^1>}}.\n{before}{loads}jmp L0\n"
+
+
+def opened_loads(n):
+    """The same after an unpack, where each type read is another one than that of the header."""
+    return open_loads(n, OPENED)
+
+
+def open_jumps(n, before=""):
+    """Many jumps to a register whose type is wide and has a free name."""
+    regs = f"r1:{open_type(n)}, r2:int, r3:all[]{{r1:{open_type(n)}}}"
+    return HEAD + f"jmp L0\nL1: code[a]{{{regs}}}.\n{before}" + "bnz r2, r3\n" * (n // 4) + "jmp L0\n"
+
+
+def opened_jumps(n):
+    """The same after an unpack."""
+    return open_jumps(n, OPENED)
+
+
 def names(n):
     """Long lists of names, in a header and in the types of a register."""
     some = ", ".join(f"a{i}" for i in range(n))
@@ -141,7 +171,8 @@ TEXTS = [
     (falling, 10_000), (one_register, 2_000), (many_registers, 2_000), (after_unpacks, 1_000), (fills, 2_000),
     (filled_moves, 2_000), (arguments, 1_200),
     (deep, 1_000), (unpacks, 2_000), (wide_jumps, 20_000), (changed_jumps, 20_000), (two_files, 20_000),
-    (unpacked_jumps, 10_000), (same_pair_jumps, 10_000), (same_pair_stores, 10_000), (names, 10_000),
+    (unpacked_jumps, 10_000), (same_pair_jumps, 10_000), (same_pair_stores, 10_000), (open_loads, 10_000),
+    (opened_loads, 10_000), (open_jumps, 10_000), (opened_jumps, 10_000), (names, 10_000),
 ]
 
 

@@ -1,16 +1,15 @@
 -- A field of a register's tuple.
-use Rattle.std.proofs.Common.{◌≡◌, ◌≢◌, zero-le, ℕ, zero, suc, ◌+◌, ◌-◌, ◌<◌, ◌≤◌, List, length, Bool, Some, None, refl, sym, ap, ap₂, ◌∙◌, ◌||◌, get_or, arith, subst, inl}
+use Rattle.std.proofs.Common.{◌≡◌, ℕ, zero, suc, ◌+◌, ◌-◌, ◌<◌, ◌≤◌, List, length, Bool, Some, None, refl, sym, ap, ap₂, ◌∙◌, ◌||◌, get_or, arith, subst, inl}
 use Rattle.idx_core.specs.declared.span.Span.{Span}
 use Rattle.idx_core.specs.Over.{At, shifted}
-use Rattle.idx_core.specs.Laws.{shifted_ge}
 use Rattle.text_core.specs.Refusals.{refuse, check, nothing}
-use Rattle.t_types.specs.Tree.{Ty, IntTy, VarTy, CodeTy, ExistsTy, TupleTy, TFields, NoFields, MoreFields, over_fields, shift, ShiftFits}
+use Rattle.t_types.specs.Tree.{Ty, IntTy, VarTy, TupleTy, TFields, NoFields, MoreFields, over_fields, shift, ShiftFits}
 use Rattle.t_types.specs.Fields.{AField, field}
 use Rattle.t_types.specs.Fits.{Fits, RegTypes}
 use Rattle.t_types.proofs.FitsLaws.{field_over}
 use Rattle.t_types.specs.WellFormed.{max_names}
 use Rattle.t_terms.specs.declared.fault.TCode.{TCode}
-use Rattle.t_terms.specs.declared.fault.TCode.TheVariants.{T09, T10, T11, T13, T19}
+use Rattle.t_terms.specs.declared.fault.TCode.TheVariants.{T09, T11, T13, T19}
 use Rattle.t_rules.specs.Faults.{Fault, register, integer, tuple, field_at}
 use Rattle.t_intern.specs.Nodes.{at, fields_at}
 use Rattle.t_check.specs.Bounds.{Bounded}
@@ -67,17 +66,6 @@ module _ (ts : List Ty) (n : ℕ) (e : Entry) (xs : List (ℕ × Bool)) (is : at
         let le = ok.1 in
         let sum : e.names + (n - e.names) ≡ n = omega arith in
         subst (Bounded n) (sym same) (subst (λ m. Bounded m (shift (n - e.names) 0 (at ts x.0))) sum (bounded_shift e.names (n - e.names) (at ts x.0) own_bounded))
-
--- T10 where it is no tuple
-other : (k : ℕ) (t : Ty) (s : Span) (go : TFields → Fault) → ((fs : TFields) → t ≢ TupleTy fs) → tuple (shift k 0 t) s go T10 s
-other k (TupleTy gs) s go none = absurd (none gs refl)
-other k IntTy s go none = (refl, refl)
-other k (VarTy i) s go none = let v = shifted_ge VarTy k 0 i zero-le in rw v (refl, refl)
-other k (CodeTy owes file) s go none = (refl, refl)
-other k (ExistsTy t) s go none = (refl, refl)
-
-pub no_tuple : (g : RegTypes) (r k : ℕ) (s : Span) (t : Ty) (go : TFields → Fault) → g r ≡ Some (shift k 0 t) → ((fs : TFields) → t ≢ TupleTy fs) → register g r s (λ u. tuple u s go) T10 s
-no_tuple g r k s t go known none = rw known (other k t s go none)
 
 -- T09 where it is no integer
 pub no_int : (g : RegTypes) (r k : ℕ) (s : Span) (t : Ty) → g r ≡ Some (shift k 0 t) → (t ≡ IntTy → ⊥) → register g r s (λ u. integer u s nothing) T09 s

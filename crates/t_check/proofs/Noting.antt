@@ -1,11 +1,9 @@
 -- What is known of the registers, by their entries: looking up, noting, one more type name, and more types.
 use Rattle.std.proofs.Common.{◌≡◌, ℕ, ◌+◌, ◌-◌, ◌<◌, ◌≤◌, List, [], ◌∷◌, length, Bool, true, false, Some, None, refl, sym, ap, ap₂, ◌∙◌, arith, subst, cond, nat_eq, Option, get_or, drop}
 use Rattle.std.specs.Prelude.{option_map}
-use Rattle.std.specs.BTreeMap.{BTreeMap, get, is_at}
+use Rattle.std.specs.BTreeMap.{BTreeMap, get}
 use Rattle.std.specs.Ordering.{nat_cmp}
 use Rattle.std.proofs.Math.Path.{fun_ext}
-use Rattle.std.proofs.lemmas.Bool.Decides.{nat_tests}
-use Rattle.std.proofs.lemmas.Grind.{common_steps}
 use Rattle.std.proofs.lemmas.List.{drop_more}
 use Rattle.idx_core.specs.Laws.{shift_zero_law, shift_add_law}
 use Rattle.t_types.specs.Tree.{Ty, TFile, shift}
@@ -24,10 +22,6 @@ use Rattle.t_check.specs.Known.{own, seen, entry_of, known, IsEntry, IsSound, Is
 use Rattle.t_check.proofs.Depth.{shallow, bounded}
 use Rattle.t_check.proofs.Fitted.{fitted_same, fitted_set, fitted_bound}
 use Rattle.t_check.proofs.Sets.{marks_grown, own_marks_grown}
-
--- the map's own test of keys
-pub is_at_number : (r q : ℕ) → is_at (nat_cmp r) q ≡ nat_eq r q
-is_at_number r q = grind (arith, common_steps, nat_tests)
 
 pub found_is : (ts : List Ty) (k : Registers) (r : ℕ) (o : Option Entry) → o ≡ entry_of k r → IsSound ts k → IsFound ts k r o
 found_is ts k r None e h = ap (option_map (seen ts k.names)) (sym e)

@@ -1,6 +1,5 @@
 -- Sets of numbers as types, and fields that are marked.
-use Rattle.std.proofs.Common.{◌≡◌, get_or, drop, ◌++◌, ℕ, zero, suc, ◌+◌, ◌/◌, ◌%◌, ◌<◌, ◌≤◌, Bool, true, false, cond, ◌||◌, nat_eq, List, [], ◌∷◌, length, Option, Some, None, refl, sym, ap, ap₂, ◌∙◌, arith, subst, ◌⊎◌, inl, inr}
-use Rattle.std.specs.Prelude.{nat_le}
+use Rattle.std.proofs.Common.{◌≡◌, get_or, drop, ◌++◌, ℕ, zero, suc, ◌+◌, ◌/◌, ◌%◌, ◌<◌, ◌≤◌, Bool, true, false, ◌||◌, nat_eq, List, [], ◌∷◌, length, Option, Some, None, refl, sym, ap, ap₂, ◌∙◌, arith, ◌⊎◌, inl, inr}
 use Rattle.std.proofs.lemmas.Bool.{cases_lt}
 use Rattle.std.proofs.lemmas.Bool.Decides.{nat_tests}
 use Rattle.std.proofs.lemmas.List.{drop_more, append_assoc}
@@ -21,22 +20,6 @@ module _ (here : Bool) (left right : ℕ → Bool) where
 
   pub at_odd : (p : ℕ) → 1 < p → (p % 2 ≡ 0 → ⊥) → branch here left right p ≡ right (p / 2)
   at_odd p lt e = grind (arith, nat_tests)
-
-pub empty_branch : (p : ℕ) → branch false none none p ≡ false
-empty_branch p = pick (nat_le p 1) (nat_eq (p % 2) 0)
-  where
-    pick : (a b : Bool) → cond a false (cond b false false) ≡ false
-    pick true b = refl
-    pick false true = refl
-    pick false false = refl
-
--- 1 joins a set
-pub with_one : (here : Bool) (left right : ℕ → Bool) (q : ℕ) → 1 ≤ q → branch true left right q ≡ (nat_eq q 1 || branch here left right q)
-with_one here left right q some = by_place (cases_lt 1 q)
-  where
-    by_place : (1 < q) ⊎ (q ≤ 1) → branch true left right q ≡ (nat_eq q 1 || branch here left right q)
-    by_place (inl lt) = let other : nat_eq q 1 ≡ false = grind (arith, nat_tests) in let low : nat_le q 1 ≡ false = grind (arith, nat_tests) in rw (other, low) refl
-    by_place (inr le) = let one : q ≡ 1 = omega (arith, some, le) in rw one refl
 
 even_or : (q : ℕ) → (q % 2 ≡ 0) ⊎ (q % 2 ≡ 0 → ⊥)
 even_or q = pick (nat_eq (q % 2) 0) refl
@@ -92,10 +75,6 @@ with_odd here left right more p lp e h q some = by_place (cases_lt 1 q) (even_or
         differ : (q p : ℕ) → q % 2 ≡ 0 → (p % 2 ≡ 0 → ⊥) → nat_eq q p ≡ false
         differ q p a b = let apart : q ≡ p → ⊥ = (λ h. b (ap (λ x. x % 2) (sym h) ∙ a)) in grind (arith, nat_tests, apart)
 
--- the parts of a set that is a tuple of two
-pub pair_has : (ts : List Ty) (xs : List (ℕ × Bool)) (l r : ℕ × Bool) (t : Ty) → t ≡ TupleTy (fields_at ts xs) → xs ≡ l ∷ r ∷ [] → (p : ℕ) → has t p ≡ branch l.1 (has (at ts l.0)) (has (at ts r.0)) p
-pair_has ts xs l r t is two p = rw (is, two) refl
-
 pub other_has : (ts : List Ty) (xs : List (ℕ × Bool)) (t : Ty) → t ≡ TupleTy (fields_at ts xs) → (length xs ≡ 2 → ⊥) → (p : ℕ) → has t p ≡ false
 other_has ts [] t is other p = rw is refl
 other_has ts (x ∷ []) t is other p = rw is refl
@@ -109,28 +88,8 @@ no_pair (CodeTy owes file) h p = refl
 no_pair (ExistsTy t) h p = refl
 no_pair (TupleTy fs) h p = absurd (h fs refl)
 
-two_long : (xs : List (ℕ × Bool)) (d : ℕ × Bool) → length xs ≡ 2 → xs ≡ get_or xs 0 d ∷ get_or xs 1 d ∷ []
-two_long [] d e = absurd (omega (arith, e))
-two_long (x ∷ []) d e = absurd (omega (arith, e))
-two_long (x ∷ y ∷ []) d e = refl
-two_long (x ∷ y ∷ z ∷ xs) d e = absurd (omega (arith, e))
-
-pub are_branches : (ts : List Ty) (set : ℕ) (xs : List (ℕ × Bool)) → set < length ts → at ts set ≡ TupleTy (fields_at ts xs) → FieldsBelow set xs → length xs ≡ 2 →
-    ((p : ℕ) → has (at ts set) p ≡ branch (get_or xs 0 (0, false)).1 (has (at ts (get_or xs 0 (0, false)).0)) (has (at ts (get_or xs 1 (0, false)).0)) p)
-    × ((get_or xs 0 (0, false)).0 < length ts) × ((get_or xs 1 (0, false)).0 < length ts)
-are_branches ts set xs there is below two =
-    let e = two_long xs (0, false) two in
-    let b = subst (FieldsBelow set) e below in (
-      pair_has ts xs (get_or xs 0 (0, false)) (get_or xs 1 (0, false)) (at ts set) is e,
-      omega (arith, b.0, there),
-      omega (arith, b.1.0, there),
-    )
-
 -- the set with one number more, by its parts; us are the types where it is opened, vs where a part has grown
 module _ (ts us ws : List Ty) (set : ℕ) (left right : ℕ) (here : Bool) (p m : ℕ) (open_is : IsOpened ts us set (record { left = left; here = here; right = right })) where
-  pub is_one : (at ws m ≡ TupleTy (MoreFields (at us left) true (MoreFields (at us right) false NoFields))) → m < length ws → IsWith ts ws set 1 m
-  is_one is l = (l, λ q some. (ap (λ t. has t q) is ∙ with_one here (has (at us left)) (has (at us right)) q some ∙ ap (λ b. nat_eq q 1 || b) (sym (open_is.0 q))))
-
   pub is_even : (vs : List Ty) (n : ℕ) → Grown us vs → 1 < p → p % 2 ≡ 0 → IsWith us vs left (p / 2) n → (at ws m ≡ TupleTy (MoreFields (at vs n) here (MoreFields (at vs right) false NoFields))) → m < length ws → IsWith ts ws set p m
   is_even vs n g lt e with_is is l =
       let kept = grown_at us vs g right open_is.2 in

@@ -1,11 +1,11 @@
 -- Fields of tuple types: by place in a list, filled, and through a shift.
-use Rattle.std.proofs.Common.{◌≡◌, ℕ, zero, suc, ◌<◌, ◌≤◌, List, [], ◌∷◌, length, Bool, true, Some, None, refl, sym, ap, ◌∙◌, get_or, set, arith, subst, zero-le}
+use Rattle.std.proofs.Common.{◌≡◌, ℕ, zero, suc, ◌<◌, ◌≤◌, List, [], ◌∷◌, length, Bool, Some, None, refl, sym, ap, ◌∙◌, get_or, arith, zero-le}
 use Rattle.idx_core.specs.Over.{shifted}
 use Rattle.idx_core.specs.Laws.{shifted_ge}
 use Rattle.t_types.specs.Tree.{Ty, IntTy, VarTy, CodeTy, ExistsTy, TupleTy, TFields, NoFields, MoreFields, over_fields, shift}
 use Rattle.t_types.specs.Fields.{AField, field, filled}
 use Rattle.t_types.proofs.FitsLaws.{filled_over}
-use Rattle.t_intern.specs.Nodes.{at, fields_at, FieldsBelow}
+use Rattle.t_intern.specs.Nodes.{at, fields_at}
 use Rattle.t_check.specs.Known.{IsTupleWith}
 
 -- fields in a list
@@ -19,21 +19,6 @@ module _ (ts : List Ty) where
   no_field [] i le = refl
   no_field (x ∷ xs) zero le = absurd (omega arith)
   no_field (x ∷ xs) (suc i) le = no_field xs i (omega arith)
-
-  pub field_within : (xs : List (ℕ × Bool)) (i : ℕ) (t : Ty) (flag : Bool) → field (fields_at ts xs) i ≡ Some (AField t flag) → i < length xs
-  field_within [] i t flag e = cc
-  field_within (x ∷ xs) zero t flag e = omega arith
-  field_within (x ∷ xs) (suc i) t flag e = let lt = field_within xs i t flag e in omega arith
-
-  pub filled_set : (xs : List (ℕ × Bool)) (i : ℕ) (x : ℕ × Bool) → i < length xs → x ≡ get_or xs i x → fields_at ts (set xs i (x.0, true)) ≡ filled (fields_at ts xs) i
-  filled_set [] i x lt is = absurd (omega arith)
-  filled_set (y ∷ xs) zero x lt is = ap (λ (z : ℕ × Bool). MoreFields (at ts z.0) true (fields_at ts xs)) is
-  filled_set (y ∷ xs) (suc i) x lt is = ap (MoreFields (at ts y.0) y.1) (filled_set xs i x (omega arith) is)
-
-pub below_set : (n : ℕ) (xs : List (ℕ × Bool)) (i : ℕ) (x : ℕ × Bool) (flag : Bool) → i < length xs → x ≡ get_or xs i x → FieldsBelow n xs → FieldsBelow n (set xs i (x.0, flag))
-below_set n [] i x flag lt is h = absurd (omega arith)
-below_set n (y ∷ xs) zero x flag lt is h = (subst (λ (z : ℕ × Bool). z.0 < n) (sym is) h.0, h.1)
-below_set n (y ∷ xs) (suc i) x flag lt is h = (h.0, below_set n xs i x flag (omega arith) is h.1)
 
 -- what is a tuple type after a shift was one before
 pub unshifted : (k : ℕ) (t : Ty) (fs : TFields) → shift k 0 t ≡ TupleTy fs → (gs : TFields) × (t ≡ TupleTy gs) × (fs ≡ over_fields (shifted VarTy k) 0 gs)

@@ -10,7 +10,7 @@ use Rattle.t_types.specs.WellFormed.{WellFormed}
 use Rattle.t_terms.specs.Tree.{TBase, TValue, Plain, Pack, Reg, Arith, Bnz, Mov, Unpack, TProg}
 use Rattle.t_terms.specs.Spanned.{SDatum, plain_datum}
 use Rattle.t_terms.specs.declared.fault.TCode.{TCode}
-use Rattle.t_terms.specs.declared.fault.TCode.TheVariants.{T09, T13, T14, T15, T16, T17, T18}
+use Rattle.t_terms.specs.declared.fault.TCode.TheVariants.{T09, T13, T14, T15, T16, T18}
 use Rattle.t_terms.specs.declared.fault.TFault.{TFault}
 use Rattle.t_terms.specs.declared.fault.TFault.TheVariants.{Memory, Refused}
 use Rattle.t_rules.specs.Registers.{no_types, inst_file, with_reg}
@@ -30,13 +30,6 @@ says_map Memory F G go h = tt
 says_map (Refused c s) F G go h = go c s h
 
 -- a type of another form
-pub other_than_code : (t : Ty) (other : Fault) (go : ℕ → TFile → Fault) (c : TCode) (p : Span) → ((owes : ℕ) (file : TFile) → t ≢ CodeTy owes file) → other c p → if_code t other go c p
-other_than_code IntTy other go c p none h = h
-other_than_code (VarTy i) other go c p none h = h
-other_than_code (CodeTy owes file) other go c p none h = absurd (none owes file refl)
-other_than_code (ExistsTy t) other go c p none h = h
-other_than_code (TupleTy fs) other go c p none h = h
-
 pub other_than_exists : (t : Ty) (other : Fault) (go : Ty → Fault) (c : TCode) (p : Span) → ((body : Ty) → t ≢ ExistsTy body) → other c p → if_exists t other go c p
 other_than_exists IntTy other go c p none h = h
 other_than_exists (VarTy i) other go c p none h = h
@@ -54,15 +47,6 @@ entry_bounded ts n e t h is =
 module _ (P : TProg) (n : ℕ) (g : RegTypes) (s : Span) where
   -- a base that is applied to types
   module _ (b : TBase) where
-    pub plain_code : (ts : List Ty) (t : Ty) → 0 < length ts → BaseHas P g b t → ((owes : ℕ) (file : TFile) → t ≢ CodeTy owes file) → ValueFault P n g s (Plain b ts) T17 s
-    plain_code [] t some h none = absurd (omega arith)
-    plain_code (u ∷ us) t some h none = inr (t, h, other_than_code t (refuse T17 s) _ T17 s none (refl, refl))
-
-    pub plain_count : (ts : List Ty) (t : Ty) (owes : ℕ) (file : TFile) → BaseHas P g b t → t ≡ CodeTy owes file → owes < length ts → ValueFault P n g s (Plain b ts) T17 s
-    plain_count [] t owes file h is lt = absurd (omega arith)
-    plain_count (u ∷ us) t owes file h is lt =
-        inr (CodeTy owes file, subst (BaseHas P g b) is h, inl ((λ le. absurd (omega arith)), (refl, refl)))
-
     pub plain_ok : (us ts : List Ty) (t : Ty) (owes rest m : ℕ) (file made : TFile) → 0 < length ts → BaseHas P g b t → Bounded n t → t ≡ CodeTy owes file → length ts ≤ owes → rest ≡ owes - length ts → made ≡ inst_file ts owes file → BelowTypes n ts → OwedFile n (owes - length ts) (inst_file ts owes file) → IsNumber us (CodeTy rest made) m → IsTypeOf P us n g s (Plain b ts) (Ok m)
     plain_ok us [] t owes rest m file made some h small is le left done below owed e = absurd (omega arith)
     plain_ok us (u ∷ ts) t owes rest m file made some h small is le left done below owed e =

@@ -2,8 +2,7 @@
 use Rattle.std.specs.Prelude.{◌≡◌, ◌⊎◌, ◌<◌, ℕ, Bool, List, [], ◌∷◌, ◌++◌, length, map, slice_index_or}
 use Rattle.std.specs.List.{All}
 use Rattle.t_types.specs.Tree.{Ty, Below, TFile, TFields}
-use Rattle.t_intern.specs.Fitting.{AllFit}
-use Rattle.t_intern.specs.Nodes.{Node, at, regs_at, fields_at, types_of, PartsFirst, RegsBelow, FieldsBelow}
+use Rattle.t_intern.specs.Nodes.{at, regs_at, fields_at, RegsBelow, FieldsBelow}
 
 -- the old list is a prefix of the new one
 abbrev pub Grown : List Ty → List Ty → Type 0
@@ -42,10 +41,3 @@ bound_at bs n = slice_index_or bs n 0
 -- each number bounds the free variables of its type
 abbrev pub AreBounds : List ℕ → List Ty → Type 0
 AreBounds bs ts = (length bs ≡ length ts) × ((k : ℕ) → k < length bs → Below (bound_at bs k) (at ts k))
-
--- what the fields of a table keep
-pub record IsTable (ns : List Node) (bs : List ℕ) (seen : ℕ × ℕ → Bool) : Type 0 where
-  pub parts : PartsFirst 0 ns
-  pub once : Once (types_of [] ns)
-  pub bounds : AreBounds bs (types_of [] ns)
-  pub fitted : AllFit seen (types_of [] ns)

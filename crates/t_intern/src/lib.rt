@@ -10,6 +10,7 @@ mod pairs;
 mod putting;
 mod shape;
 mod shifting;
+mod shifts;
 mod trees;
 mod types;
 

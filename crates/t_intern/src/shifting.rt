@@ -13,18 +13,26 @@ use crate::types::Types;
 use idx_core::OutOfMemory;
 
 impl Types {
-    /// The number of a type that is shifted by `by` at `cut`.
+    /// The number of a type that is shifted by `by` at `cut`. It is remembered, so that the type is walked once.
     pub fn shift(&mut self, n: u64, by: u64, cut: u64) -> Result<u64, OutOfMemory>
         requires there { n < length self.old }
         requires fits { ShiftFits by cut (at self.old n) }
         ensures grown { Grown self.old self.new }
         ensures number { IfOk result (IsNumber self.new (shift by cut (at self.old n))) }
     {
+        if by == 0 {
+            return Ok(n);
+        }
         if self.bound(n) <= cut as u128 {
             return Ok(n);
         }
+        if let Some(made) = self.recalls_shift(n, by, cut) {
+            return Ok(made);
+        }
         let mut memo = Memo::new(self.alloc());
-        self.shift_in(&mut memo, n, by, cut)
+        let made = self.shift_in(&mut memo, n, by, cut)?;
+        self.note_shift(n, by, cut, made);
+        Ok(made)
     }
 
     // The same, where the memo has what was found before.

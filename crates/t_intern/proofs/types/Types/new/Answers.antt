@@ -7,4 +7,5 @@ invariant_of-result c = rw (c.with_hasher.ensures.empty, c.new-2.ensures.items) 
   once = λ i j l m e. absurd (omega (arith, l));
   bounds = (refl, λ k l. absurd (omega (arith, l)));
   fitted = c.new-3.ensures [];
+  shifted = c.new-4.ensures [];
 })

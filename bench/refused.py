@@ -1,4 +1,5 @@
-"""Refused memory: each allocation of each command is refused in turn, over a dozen inputs.
+"""Refused memory: each allocation of each command is refused in turn, over a dozen inputs; of `gen`, which allocates some
+tens of thousands of times, some two thousand, the last ones among them.
 
 What is wanted: the status is that of the run with ample memory, or 7; after 7 no file has changed, but that `gen` may have
 written its source, nothing is on the output, and the error output has the line `out of memory` or nothing; else all is as with
@@ -78,6 +79,9 @@ DATA = (
     "L0: code[]{}.\nmov r2, D0\nld r3, r2[1]\nld r1, r3[0]\nhalt[int]\n"
 )
 
+# Of a command that allocates more often than this, some allocations are left out.
+MOST = 2000
+
 # The words after the program's name, and the text of the file IN.
 CASES = [
     ("compile IN OUT", "7"), ("compile IN OUT", FACTORIAL), ("compile IN OUT", POLYMORPHIC), ("compile IN OUT", "1 + <>"),
@@ -116,6 +120,12 @@ class Outcome:
         )
 
 
+def chosen(count):
+    """The allocations that are refused, each in a run of its own: all, or of many the last ones and some evenly before."""
+    last = max(0, count - MOST // 10)
+    return [*range(0, last, last // MOST + 1), *range(last, count)]
+
+
 def main():
     talc, compiler = program(), available("cc")
     tried = wants = wrong = 0
@@ -129,8 +139,8 @@ def main():
             ample = Outcome(talc, shim, f"{place}/run", words, text)
             with open(f"{place}/run.count", encoding="ascii") as file:
                 count = int(file.read())
-            here = 0
-            for at in range(count):
+            here, places = 0, chosen(count)
+            for at in places:
                 got = Outcome(talc, shim, f"{place}/run", words, text, at)
                 tried += 1
                 if got.is_want(words, text, ample):
@@ -139,7 +149,7 @@ def main():
                     wrong += 1
                     print(f"{words} on {text[:40]!r}, allocation {at} refused: status {got.status}, {got.out!r}, {got.err!r}")
             wants += here
-            print(f"{words}, status {ample.status}: {count} allocations, {here} refusals answered by status 7")
+            print(f"{words}, status {ample.status}: {count} allocations, {len(places)} refused, {here} answered by status 7")
     print(f"{tried} refusals tried, {wants} answered by status 7, {wrong} answered wrongly")
     sys.exit(1 if wrong else 0)
 

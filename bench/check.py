@@ -5,6 +5,7 @@ Both read a program of 100000 instructions in 1000 blocks (functions), and one h
 from measure import available, best, folder, program
 
 BLOCKS = 1000
+MOST_OF_BINARY, MOST_OF_TEXT = 1.8, 1
 
 
 def assembly(blocks, each):
@@ -46,8 +47,13 @@ def main():
         whole, half = times(100), times(50)
         print(f"talc check, 100000 instructions: {whole[0].seconds:.3f} s, {100000 / whole[0].seconds:.2e} instructions a second")
         print(f"times the half: {whole[0].seconds / half[0].seconds:.2f}")
-        print(f"times wasm-validate, which reads binary: {whole[0].seconds / max(whole[1].seconds, 1e-3):.1f}")
-        print(f"times wat2wasm, which reads and checks a text: {whole[0].seconds / max(whole[2].seconds, 1e-3):.1f}")
+        peers = [
+            ("wasm-validate, which reads binary", whole[1], MOST_OF_BINARY),
+            ("wat2wasm, which reads and checks a text", whole[2], MOST_OF_TEXT),
+        ]
+        for name, run, most in peers:
+            ratio = whole[0].seconds / max(run.seconds, 1e-3)
+            print(f"times {name}: {ratio:.1f}, wanted at most {most}{': slow' if ratio > most else ''}")
 
 
 main()

@@ -97,9 +97,9 @@ SIZES = [250, 500, 998]
 MOST_TIMES, MOST_BYTES = 2.2, 100
 
 TURNS = [
-    ("factorial of 5", "(fix f(n:int):int. if0(n, 1, n * f(n - 1))) 5", 6),
-    ("tenth Fibonacci number", "(fix f(n:int):int. if0(n, 0, if0(n - 1, 1, f(n - 1) + f(n - 2)))) 10", 177),
-    ("polymorphic identity", "(gen a. fix f(x:a):a. x)[int] 3", 2),
+    ("factorial of 5", "(fix f(n:int):int. if0(n, 1, n * f(n - 1))) 5", 6, 380),
+    ("tenth Fibonacci number", "(fix f(n:int):int. if0(n, 0, if0(n - 1, 1, f(n - 1) + f(n - 2)))) 10", 177, None),
+    ("polymorphic identity", "(gen a. fix f(x:a):a. x)[int] 3", 2, None),
 ]
 
 
@@ -166,10 +166,11 @@ def main():
             if peer:
                 beside = ocamlopt(in_ocaml(SIZES[-1])).seconds - peer.seconds
                 print(f"{name}, {SIZES[-1]} nodes by ocamlopt: {beside:.3f} s, of which talc takes {spent / max(beside, 0.001):.2f}")
-        for name, text, turns in TURNS:
+        for name, text, turns, most in TURNS:
             timed(text)
             made = instructions(talc, target)
-            print(f"{name}: {made} instructions for {turns} turns, {made / turns:.1f} a turn")
+            wanted = "" if most is None else f", wanted at most {most}{': many' if made > most else ''}"
+            print(f"{name}: {made} instructions for {turns} turns, {made / turns:.1f} a turn{wanted}")
 
 
 main()

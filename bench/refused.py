@@ -93,14 +93,20 @@ CASES = [
 ]
 
 
+def before(words, text):
+    """The files before a run, by name: IN has its text, and OUT something else."""
+    return {name: content for name, content in [("IN", text.encode()), ("OUT", b"as before\n")] if name in words.split()}
+
+
 class Outcome:
     """The status of a run, what stands on its two outputs, and the files of its folder."""
 
     def __init__(self, talc, shim, place, words, text, refused=None):
         for name in os.listdir(place):
             os.remove(f"{place}/{name}")
-        with open(f"{place}/IN", "w", encoding="ascii") as file:
-            file.write(text)
+        for name, content in before(words, text).items():
+            with open(f"{place}/{name}", "wb") as file:
+                file.write(content)
         env = {"LD_PRELOAD": shim, "COUNTED": f"{place}.count"}
         if refused is not None:
             env["REFUSED"] = str(refused)
@@ -116,7 +122,7 @@ class Outcome:
         written = words.startswith("gen ") and self.files == ample.files
         return (
             self.status == 7 and self.out == b"" and self.err in (b"", b"out of memory\n")
-            and (written or self.files == {"IN": text.encode()})
+            and (written or self.files == before(words, text))
         )
 
 

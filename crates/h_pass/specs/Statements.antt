@@ -1,5 +1,6 @@
 -- What hoisting keeps.
-use Rattle.std.specs.Prelude.{◌≡◌, ℕ, []}
+use Rattle.std.specs.Prelude.{◌≡◌, ◌≢◌, ℕ, []}
+use Rattle.term_core.specs.Ends.{Stuck}
 use Rattle.c_terms.specs.Bound.{CBound, CFits}
 use Rattle.c_terms.specs.C.{CTm}
 use Rattle.c_terms.specs.Each.{CGoodP}
@@ -29,6 +30,10 @@ HoistKept = (t : CTm) (n : ℕ) → hrun n (blocks_of t) (main_of t) ≡ crun n 
 -- a typed term becomes a typed program
 abbrev pub HoistTypesKept : Type 0
 HoistTypesKept = (t : CTm) → CGood 0 [] t → HProgramGood (blocks_of t) (main_of t)
+
+-- a typed closed term is never stuck, since its hoisted program is not
+abbrev pub ClosedNeverStuck : Type 0
+ClosedNeverStuck = (t : CTm) → CGood 0 [] t → (n : ℕ) → (crun n t).end ≢ Stuck
 
 -- hoisting adds nothing to the reach of types, nor to the names in scope and bound
 abbrev pub HoistReach : Type 0

@@ -1,9 +1,9 @@
 // What hoisting keeps, on trees.
-ghost use Rattle.h_pass.specs.Statements.{HoistIsBack, HoistKept, HoistTypesKept, HoistReach, HoistFits};
+ghost use Rattle.h_pass.specs.Statements.{HoistIsBack, HoistKept, HoistTypesKept, HoistReach, HoistFits, ClosedNeverStuck};
 ghost use Rattle.h_pass.specs.Statements.{BoundIsSmall, ScopedIsBack, NodesKept};
 
 use c_terms::laws::{typed_is_any_law, typed_is_scoped_law, within_is_typed_law};
-use h_terms::laws::h_typed_is_any_law;
+use h_terms::laws::{h_never_stuck_law, h_typed_is_any_law};
 
 /// Each code has one block of its own, there is no other block, and each block's code put back for its label gives the
 /// closed term.
@@ -26,6 +26,15 @@ pub fn hoist_types_law()
 {
     typed_is_any_law();
     h_typed_is_any_law();
+}
+
+/// A typed closed term is never stuck.
+pub fn closed_never_stuck_law()
+    ensures { ClosedNeverStuck }
+{
+    h_never_stuck_law();
+    hoist_meaning_law();
+    hoist_types_law();
 }
 
 // The names of a program's term are in scope, and its bodies are small.

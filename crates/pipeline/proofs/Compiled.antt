@@ -11,6 +11,7 @@ use Rattle.c_law.specs.Row as closing
 use Rattle.h_terms.specs.H.{HBlks, HTm}
 use Rattle.h_terms.specs.Meaning.{hrun}
 use Rattle.h_pass.specs.Back.{IsHoisted}
+use Rattle.h_pass.specs.Hoist.{blocks_of, main_of}
 use Rattle.a_terms.specs.Tree.{ATm, AProg}
 use Rattle.a_terms.specs.Bound.{thirds, all_thirds}
 use Rattle.a_terms.specs.Meaning as A
@@ -28,7 +29,7 @@ use Rattle.pipeline.specs.Meaning.{SameMeaning, RunsSeldom}
 use Rattle.pipeline.specs.Compilation.{IsCompilation}
 use Rattle.pipeline.proofs.Chain.{same_meaning, seldom, soon}
 
-module _ (e : Term) (k : KTm) (c : CTm) (ks : HBlks) (t : HTm) (p : AProg) (main : ATm) (P : TProg) (stands : StandsAt) (within : RunsWithinTimes) (laid : LaidOut) (converted : Converted e k) (closed : closing.IsTranslation k c) (halts : (n : ℕ) (i : ℤ) → (crun n c).end ≡ Halted i ↔ (krun n k).end ≡ Halted i) (codes : (n : ℕ) → (crun n c).entered ≡ (krun n k).entered) (hoisted : IsHoisted ks t c) (runs : (n : ℕ) → hrun n ks t ≡ crun n c) (allocated : Stands p main ks t) (is_allocated : p ≡ alloc_prog ks t) (is_start : main ≡ alloc_main ks t) (means : (n : ℕ) → A.meaning p main n ≡ ends [] (hrun n ks t)) (made : P ≡ generated p main) (accepted : Accepted P) (keeps : Keeps p main P) where
+module _ (e : Term) (k : KTm) (c : CTm) (ks : HBlks) (t : HTm) (p : AProg) (main : ATm) (P : TProg) (stands : StandsAt) (within : RunsWithinTimes) (laid : LaidOut) (converted : Converted e k) (closed : closing.IsTranslation k c) (halts : (n : ℕ) (i : ℤ) → (crun n c).end ≡ Halted i ↔ (krun n k).end ≡ Halted i) (codes : (n : ℕ) → (crun n c).entered ≡ (krun n k).entered) (hoisted : IsHoisted ks t c) (are_blocks : ks ≡ blocks_of c) (is_main : t ≡ main_of c) (runs : (n : ℕ) → hrun n ks t ≡ crun n c) (allocated : Stands p main ks t) (is_allocated : p ≡ alloc_prog ks t) (is_start : main ≡ alloc_main ks t) (means : (n : ℕ) → A.meaning p main n ≡ ends [] (hrun n ks t)) (made : P ≡ generated p main) (accepted : Accepted P) (keeps : Keeps p main P) where
   means_same : SameMeaning e P
   means_same = same_meaning e k c ks t p main P converted.meaning halts codes runs means keeps
 
@@ -55,6 +56,8 @@ module _ (e : Term) (k : KTm) (c : CTm) (ks : HBlks) (t : HTm) (p : AProg) (main
       to_converted = converted.translation;
       to_closed = closed;
       to_hoisted = hoisted;
+      are_blocks = are_blocks;
+      is_main = is_main;
       to_allocated = allocated;
       is_allocated = is_allocated;
       is_start = is_start;

@@ -7,6 +7,7 @@ use Rattle.c_terms.specs.C.{CTm}
 use Rattle.c_law.specs.Row as closing
 use Rattle.h_terms.specs.H.{HBlks, HTm}
 use Rattle.h_pass.specs.Back.{IsHoisted}
+use Rattle.h_pass.specs.Hoist.{blocks_of, main_of}
 use Rattle.a_terms.specs.Tree.{ATm, AProg}
 use Rattle.a_law.specs.Allocate.{alloc_prog, alloc_main}
 use Rattle.a_law.specs.Stands.{Stands}
@@ -16,8 +17,9 @@ use Rattle.gen_law.specs.Gen.{generated}
 use Rattle.pipeline.specs.Meaning.{SameMeaning, RunsSeldom, HaltsSoon}
 
 -- the program is a translation of the term by the rules of the passes in turn: conversion to continuation-passing
--- style, closure conversion, hoisting, allocation, code generation. The allocated program stands for the hoisted one,
--- and is the one that the definition of allocation gives for it: nothing else is added or left out
+-- style, closure conversion, hoisting, allocation, code generation. The hoisted program gives the closed term when codes
+-- are put back for labels, and the allocated program stands for the hoisted one; both are those that the definitions of
+-- hoisting and of allocation give: nothing else is added or left out
 pub record IsTranslation (e : Term) (P : TProg) : Type 0 where
   pub converted : KTm
   pub closed : CTm
@@ -28,6 +30,8 @@ pub record IsTranslation (e : Term) (P : TProg) : Type 0 where
   pub to_converted : cps_program e converted
   pub to_closed : closing.IsTranslation converted closed
   pub to_hoisted : IsHoisted blocks main closed
+  pub are_blocks : blocks ≡ blocks_of closed
+  pub is_main : main ≡ main_of closed
   pub to_allocated : Stands allocated start blocks main
   pub is_allocated : allocated ≡ alloc_prog blocks main
   pub is_start : start ≡ alloc_main blocks main

@@ -22,6 +22,9 @@ const INTEGER_WORD: &str = "tal 1\nL0: code[]{}. mov r1, pack[int,3] as some a. 
 
 const FOREVER: &str = "tal 1\nL0: code[]{}. jmp L0";
 
+const LINKED_DATA: &str = "tal 2\nD0: data <5 : int, D1 : <int^1>>\nD1: data <6 : int>\n\
+    L0: code[]{}. mov r2, D0 ld r3, r2[1] ld r1, r3[0] halt[int]";
+
 const CHECK: &str = "talc check x";
 
 // Each text, the most instructions, and the line.
@@ -58,6 +61,7 @@ fn accepted_texts(rt: HostRuntime) -> Result<(), Fail> {
             (EXTRA_REGISTER, "accepted\n"),
             (POLYMORPHIC, "accepted\n"),
             (FOREVER, "accepted\n"),
+            (LINKED_DATA, "accepted\n"),
         ],
     )
 }
@@ -93,6 +97,15 @@ fn refused_texts(rt: HostRuntime) -> Result<(), Fail> {
                 "T16 41..47 target is not code without types owed\n",
             ),
             (INTEGER_WORD, "T09 70..83 not int\n"),
+            (
+                "tal 2\nD0: data <5 : <>>\nL0: code[]{}. halt[int]",
+                "T13 16..17 stored value of another type\n",
+            ),
+            (
+                "tal 1\nD0: data <5 : <>>\nL0: code[]{}. halt[int]",
+                "T03 10..14 unexpected token or end\n",
+            ),
+            ("tal 2\nD0: data <>", "T03 17..17 unexpected token or end\n"),
         ],
     )
 }
@@ -199,6 +212,7 @@ fn texts_that_halt(rt: HostRuntime) -> Result<(), Fail> {
             (FIRST_REGISTER, "5", "int 5\n"),
             (EXTRA_REGISTER, "3", "int 5\n"),
             (POLYMORPHIC, "4", "int 5\n"),
+            (LINKED_DATA, "3", "int 6\n"),
             (
                 "tal 1\nL0: code[]{}. mov r1, ~7 halt[int]",
                 "18446744073709551615",
@@ -250,6 +264,7 @@ fn texts_that_go_on(rt: HostRuntime) -> Result<(), Fail> {
                 "running after 1000 instructions\n",
             ),
             (POLYMORPHIC, "3", "running after 3 instructions\n"),
+            (LINKED_DATA, "2", "running after 2 instructions\n"),
         ],
     )
 }

@@ -33,7 +33,7 @@ returns-clause-compiled c =
     ∥∥₁_map₂ made.accepted made.keeps (λ accepted keeps.
     compilation e k d (H.blocks_in h) (H.main_in h) (A.program_in a) (A.main_in a) (program c.in_ok-generated.generated)
     c.erased_code_stands_at_its_place.ensures c.runs_stay_within_times.ensures c.programs_are_laid_out.ensures c.in_ok-converted.ensures closed.rules closed.halts closed.codes
-    hoisted.back hoisted.meaning stands allocated.program allocated.main means made.is accepted keeps))))
+    hoisted.back hoisted.blocks hoisted.main hoisted.meaning stands allocated.program allocated.main means made.is accepted keeps))))
 
 pub returns-clause-shallow : goal.returns-clause-shallow
 returns-clause-shallow c =

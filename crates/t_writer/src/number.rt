@@ -5,7 +5,7 @@ ghost use Rattle.t_writer.specs.Lexeme.{number_text};
 use idx_core::OutOfMemory;
 use itoa::Buffer;
 
-/// Puts a natural number in decimal at the end of a text.
+/// Puts a natural number in decimal at the end of a text. An error is want of memory.
 pub fn write_natural(text: &mut Vec<u8>, n: u64) -> Result<(), OutOfMemory>
     ensures { OnOk result (text.new.items ≡ text.old.items ++ decimal n) }
 {
@@ -14,7 +14,7 @@ pub fn write_natural(text: &mut Vec<u8>, n: u64) -> Result<(), OutOfMemory>
     Ok(())
 }
 
-/// Puts an integer in decimal at the end of a text, with a tilde before a negative one.
+/// Puts an integer in decimal at the end of a text, with a tilde before a negative one. An error is want of memory.
 pub fn write_integer(text: &mut Vec<u8>, value: i64) -> Result<(), OutOfMemory>
     ensures { OnOk result (text.new.items ≡ text.old.items ++ number_text value) }
 {

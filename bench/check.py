@@ -44,7 +44,10 @@ def main():
             return ours, theirs, text
 
         whole, half = times(100), times(50)
-        print(f"talc check, 100000 instructions: {whole[0].seconds:.3f} s, {100000 / whole[0].seconds:.2e} instructions a second")
+        print(
+            f"talc check, 100000 instructions: {whole[0].seconds:.3f} s, "
+            f"{100000 / whole[0].seconds:.2e} instructions a second"
+        )
         print(f"times the half: {whole[0].seconds / half[0].seconds:.2f}")
         print(f"times wasm-validate, which reads binary: {whole[0].seconds / max(whole[1].seconds, 1e-3):.1f}")
         print(f"times wat2wasm, which reads and checks a text: {whole[0].seconds / max(whole[2].seconds, 1e-3):.1f}")

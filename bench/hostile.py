@@ -1,7 +1,7 @@
 """Texts that are made to be slow: `talc check` on each at two sizes, the second ten times the first.
 
-What is wanted: each text is accepted, at most 13 times the time for ten times the text, and at most 200 bytes of memory a byte
-of text. A row that misses one of these says so. A run is ended after 60 seconds of processor time or at 8 GB.
+What is wanted: each text is accepted, at most 13 times the time for ten times the text, and at most 200 bytes of memory
+a byte of text. A row that misses one of these says so. A run is ended after 60 seconds of processor time or at 8 GB.
 """
 import os
 import resource
@@ -217,8 +217,8 @@ def main():
             ]
             wrong = [word for word, is_so in misses if is_so]
             print(
-                f"{make.__name__}: {large[0]} bytes, status {large[3]}, {large[1]:.2f} s, {times:.1f} times the time of "
-                f"{small[0]} bytes, {memory:.0f} bytes of memory a byte{': ' + ', '.join(wrong) if wrong else ''}"
+                f"{make.__name__}: {large[0]} bytes, status {large[3]}, {large[1]:.2f} s, {times:.1f} times the time "
+                f"of {small[0]} bytes, {memory:.0f} bytes of memory a byte{': ' + ', '.join(wrong) if wrong else ''}"
             )
 
 

@@ -45,7 +45,10 @@ def main():
             return ours, theirs, text
 
         whole, half = times(100), times(50)
-        print(f"talc check, 100000 instructions: {whole[0].seconds:.3f} s, {100000 / whole[0].seconds:.2e} instructions a second")
+        print(
+            f"talc check, 100000 instructions: {whole[0].seconds:.3f} s, "
+            f"{100000 / whole[0].seconds:.2e} instructions a second"
+        )
         print(f"times the half: {whole[0].seconds / half[0].seconds:.2f}")
         peers = [
             ("wasm-validate, which reads binary", whole[1], MOST_OF_BINARY),

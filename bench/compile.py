@@ -1,12 +1,12 @@
 """Compiling: `talc compile` on sources of 250, 500 and about 1000 nodes, in six shapes.
 
-Of four shapes the assembly text grows with the source. For each size: processor seconds less those of the text `7`, the time
-as a multiple of that of the half (wanted: at most 2.2), bytes of the text a node of the source, and peak memory a byte of the
-text (wanted: at most 100). Of two shapes the text itself grows with the square of the source, since each closure has a copy
-of what it keeps; there the time a byte of the text stands against that of the half. A row that misses says so. Where ocamlopt
-is installed, its time for a program of the same meaning and the largest size stands beside it, each less that of the smallest
-program. Then the instructions that compiled programs execute, for each turn of their source. What lies in larger terms is
-measured by `passes.py`.
+Of four shapes the assembly text grows with the source. For each size: processor seconds less those of the text `7`, the
+time as a multiple of that of the half (wanted: at most 2.2), bytes of the text a node of the source, and peak memory a
+byte of the text (wanted: at most 100). Of two shapes the text itself grows with the square of the source, since each
+closure has a copy of what it keeps; there the time a byte of the text stands against that of the half. A row that
+misses says so. Where ocamlopt is installed, its time for a program of the same meaning and the largest size stands
+beside it, each less that of the smallest program. Then the instructions that compiled programs execute, for each turn
+of their source. What lies in larger terms is measured by `passes.py`.
 """
 import shutil
 import sys
@@ -152,10 +152,11 @@ def main():
                 memory = (run.peak - base.peak) / length
                 wanted = MOST_TIMES if is_linear else MOST_TIMES / 2
                 wrong = [word for word, is_so in [("slow", ratio > wanted), ("large", memory > MOST_BYTES)] if is_so]
+                measured = "time" if is_linear else "time a byte"
                 print(
                     f"{name}, {size} nodes: {spent:.4f} s, {length} bytes, {length / size:.1f} a node, "
                     f"{spent / length * 1e9:.0f} ns a byte"
-                    + (f", {'time' if is_linear else 'time a byte'} as a multiple of the half {ratio:.2f}" if last else "")
+                    + (f", {measured} as a multiple of the half {ratio:.2f}" if last else "")
                     + f", {memory:.1f} bytes of memory a byte{': ' + ', '.join(wrong) if wrong else ''}"
                 )
                 last = measure
@@ -165,7 +166,8 @@ def main():
             spent = rows(name, shape, is_linear)
             if peer:
                 beside = ocamlopt(in_ocaml(SIZES[-1])).seconds - peer.seconds
-                print(f"{name}, {SIZES[-1]} nodes by ocamlopt: {beside:.3f} s, of which talc takes {spent / max(beside, 0.001):.2f}")
+                share = spent / max(beside, 0.001)
+                print(f"{name}, {SIZES[-1]} nodes by ocamlopt: {beside:.3f} s, of which talc takes {share:.2f}")
         for name, text, turns, most in TURNS:
             timed(text)
             made = instructions(talc, target)

@@ -1,7 +1,7 @@
 """Evaluation: `talc eval` beside lua5.4 on the same two programs, as ratios in one run.
 
-The first calls 100000 deep, the second makes 10000000 turns in a loop. For each: turns a second, the time as a multiple of
-Lua's, and the memory for each turn beyond that of the text `7`.
+The first calls 100000 deep, the second makes 10000000 turns in a loop. For each: turns a second, the time as a multiple
+of Lua's, and the memory for each turn beyond that of the text `7`.
 """
 from measure import available, best, folder, program
 

@@ -1,4 +1,4 @@
-"""What the benchmarks share: the built program, one timed run, and how results are printed."""
+"""What the benchmarks share: the built program, a folder, timed runs, and other packages' commands."""
 import os
 import subprocess
 import sys

@@ -1,9 +1,9 @@
 """The passes of the compiler one by one, on source terms larger than any text may be, by the program `pass_sizes`.
 
-For each shape and each pass: processor seconds of all up to the pass at a size and at twice the size, their ratio, what the
-pass adds, and peak memory at both. What is wanted of a row that takes longer than a fifth of a second: at most 2.2 times the
-time for twice the size. A row that misses it says so. Memory does not depend on what else the machine does, and its ratio
-tells as much.
+For each shape and each pass: processor seconds of all up to the pass at a size and at twice the size, their ratio, what
+the pass adds, and peak memory at both. What is wanted of a row that takes longer than a fifth of a second: at most 2.2
+times the time for twice the size. A row that misses it says so. Memory does not depend on what else the machine does,
+and its ratio tells as much.
 """
 import sys
 from measure import ROOT, best
@@ -39,8 +39,8 @@ def main():
             missed += slow
             print(
                 f"  up to {name}: {small.seconds:.3f} s and {large.seconds:.3f} s, {ratio:.2f} times; this pass "
-                f"{small.seconds - before[0]:.3f} s and {large.seconds - before[1]:.3f} s; {small.peak / 1e6:.0f} MB and "
-                f"{large.peak / 1e6:.0f} MB, {large.peak / small.peak:.2f} times{': slow' if slow else ''}"
+                f"{small.seconds - before[0]:.3f} s and {large.seconds - before[1]:.3f} s; {small.peak / 1e6:.0f} MB "
+                f"and {large.peak / 1e6:.0f} MB, {large.peak / small.peak:.2f} times{': slow' if slow else ''}"
             )
             before = [small.seconds, large.seconds]
     print(f"rows that miss {MOST_TIMES} times: {missed}")

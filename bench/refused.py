@@ -1,10 +1,10 @@
-"""Refused memory: each allocation of each command is refused in turn, over a dozen inputs; of `gen`, which allocates some
-tens of thousands of times, some two thousand, the last ones among them.
+"""Refused memory: over a dozen inputs, every allocation of a command is refused once, in a run of its own; of `gen`,
+which allocates some tens of thousands of times, some two thousand, the last ones among them.
 
-What is wanted: the status is that of the run with ample memory, or 7; after 7 no file has changed, but that `gen` may have
-written its source, nothing is on the output, and the error output has the line `out of memory` or nothing; else all is as with
-ample memory. It prints how many refusals it tried, and ends with 1 where one was answered otherwise. It needs a C compiler:
-the allocator is put before that of the C library, for the program alone.
+What is wanted: all as with ample memory, or status 7 with nothing on the output, the line `out of memory` or nothing on
+the error output, and no file changed, but that `gen` may have written its source. It prints how many refusals it tried,
+and ends with 1 where one was answered otherwise. It needs a C compiler: the allocator is put before that of the C
+library, for the program alone.
 """
 import os
 import subprocess
@@ -61,8 +61,12 @@ int posix_memalign(void **p, size_t a, size_t n) {
 }
 __attribute__((destructor)) static void told(void) {
     const char *path = getenv("COUNTED");
-    if (path) { char text[32]; int n = snprintf(text, sizeof text, "%ld", made); int f = open(path, O_CREAT | O_WRONLY | O_TRUNC, 0600);
-        if (f >= 0) { if (write(f, text, n) < 0) {} close(f); } }
+    if (path) {
+        char text[32];
+        int n = snprintf(text, sizeof text, "%ld", made);
+        int f = open(path, O_CREAT | O_WRONLY | O_TRUNC, 0600);
+        if (f >= 0) { if (write(f, text, n) < 0) {} close(f); }
+    }
 }
 """
 
@@ -71,7 +75,8 @@ POLYMORPHIC = "((gen a. fix f(x:a):int -> a. fix g(y:int):a. x)[int] 8) 1"
 LOOP = "tal 1\nL0: code[]{}.\njmp L0\n"
 TUPLE = "tal 1\nL0: code[]{}.\nmalloc r1[int]\nmov r2, 5\nst r1[0], r2\nld r1, r1[0]\nhalt[int]\n"
 PACKAGE = (
-    "tal 1\nL0: code[]{}.\nmov r1, pack[int, 3] as some a. a\nunpack[b, r2], r1\nmov r1, L1[b]\nmov r3, 7\njmp L1[int]\n"
+    "tal 1\nL0: code[]{}.\nmov r1, pack[int, 3] as some a. a\nunpack[b, r2], r1\nmov r1, L1[b]\nmov r3, 7\n"
+    "jmp L1[int]\n"
     "L1: code[a]{r3:int}.\nmov r1, r3\nhalt[int]\n"
 )
 DATA = (
@@ -84,8 +89,9 @@ MOST = 2000
 
 # The words after the program's name, and the text of the file IN.
 CASES = [
-    ("compile IN OUT", "7"), ("compile IN OUT", FACTORIAL), ("compile IN OUT", POLYMORPHIC), ("compile IN OUT", "1 + <>"),
-    ("typeof IN", "fix f(x:<int, all a. a -> a>):int. #1 x"), ("typeof IN", "(1 +"), ("eval IN --turns 6", FACTORIAL),
+    ("compile IN OUT", "7"), ("compile IN OUT", FACTORIAL), ("compile IN OUT", POLYMORPHIC),
+    ("compile IN OUT", "1 + <>"), ("typeof IN", "fix f(x:<int, all a. a -> a>):int. #1 x"), ("typeof IN", "(1 +"),
+    ("eval IN --turns 6", FACTORIAL),
     ("eval IN --turns 5", FACTORIAL), ("check IN", PACKAGE), ("check IN", "tal 1\nL0: code[]{}.\nhalt[int]\n"),
     ("run IN --fuel 5", TUPLE), ("run IN --fuel 10", LOOP), ("run IN", LOOP), ("check NONE", LOOP),
     ("upgrade IN OUT", PACKAGE), ("upgrade IN OUT", DATA), ("run IN --fuel 3", DATA),
@@ -127,7 +133,7 @@ class Outcome:
 
 
 def chosen(count):
-    """The allocations that are refused, each in a run of its own: all, or of many the last ones and some evenly before."""
+    """The allocations that are refused, each in a run of its own: all, or of many the last and some evenly before."""
     last = max(0, count - MOST // 10)
     return [*range(0, last, last // MOST + 1), *range(last, count)]
 
@@ -153,9 +159,15 @@ def main():
                     here += 1
                 elif not got.is_as(ample):
                     wrong += 1
-                    print(f"{words} on {text[:40]!r}, allocation {at} refused: status {got.status}, {got.out!r}, {got.err!r}")
+                    print(
+                        f"{words} on {text[:40]!r}, allocation {at} refused: "
+                        f"status {got.status}, {got.out!r}, {got.err!r}"
+                    )
             wants += here
-            print(f"{words}, status {ample.status}: {count} allocations, {len(places)} refused, {here} answered by status 7")
+            print(
+                f"{words}, status {ample.status}: {count} allocations, {len(places)} refused, "
+                f"{here} answered by status 7"
+            )
     print(f"{tried} refusals tried, {wants} answered by status 7, {wrong} answered wrongly")
     sys.exit(1 if wrong else 0)
 

@@ -16,7 +16,7 @@ bnz r1, L1
 halt[int]
 """
 
-# the same four instructions a turn, as wasm-interp counts them more
+# the same work a turn; wasm has more instructions for it
 LOOP_WAT = """(module (func (export "loop") (result i64) (local i64 i64)
 i64.const 25000000 local.set 0
 (loop

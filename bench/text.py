@@ -1,4 +1,4 @@
-"""Reading and writing of assembly texts: `tal_copy` beside wabt's wat2wasm on a text of like size, as a ratio in one run.
+"""Reading and writing of assembly texts: `tal_copy` beside wabt's wat2wasm on a text of like size, in one run.
 
 `tal_copy` reads a text, and writes the text of its program; wat2wasm reads a text and writes binary.
 """

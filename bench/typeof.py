@@ -1,7 +1,7 @@
 """Reading and checking of source texts: `talc typeof` on the largest legal texts, and on texts half as large.
 
-For each text: processor seconds less those of the text `7`, nanoseconds a byte, peak memory, and the time as a multiple of
-that of the half. Twice the text should take at most twice the time.
+For each text: processor seconds less those of the text `7`, nanoseconds a byte, peak memory, and the time as a multiple
+of that of the half. Twice the text should take at most twice the time.
 """
 from measure import best, folder, program
 
@@ -31,8 +31,8 @@ CASES = [
     ("white space and comments, 1048576 bytes", spaces(1048576), spaces(524288)),
     ("a sum of 500 ones", ones(500), ones(250)),
     ("200 nested parentheses", parentheses(200), parentheses(100)),
-    ("26 types of 9990 nodes", large_types(26, 9990), large_types(13, 9990)),
-    ("995 nodes, 166 types of 1500 nodes", large_types(166, 1500), large_types(83, 1500)),
+    ("26 types of 9990 fields", large_types(26, 9990), large_types(13, 9990)),
+    ("995 nodes, 166 types of 1500 fields", large_types(166, 1500), large_types(83, 1500)),
 ]
 
 

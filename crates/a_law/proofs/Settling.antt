@@ -1,4 +1,4 @@
--- Where no variable stands in a tuple of constants, nothing changes when its variables are written out.
+-- Where its tuples of constants hold no variables, a program stays as it is when these are written out.
 use Rattle.std.proofs.Common.{◌≡◌, [], ◌∷◌, Option, Some, None, refl, ap, ap₂, ◌∙◌, subst}
 use Rattle.std.specs.Prelude.{Bool, true, false, ◌&&◌, not, option_map}
 use Rattle.a_law.specs.Allocate.{all_closed, atype, atypes, closed, is_label}

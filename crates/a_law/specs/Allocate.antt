@@ -1,5 +1,4 @@
--- Allocation: a tuple of constants becomes a data tuple; any other tuple its malloc and the initialisations of its
--- fields, in order.
+-- Allocation: tuples of constants go to the data; each other tuple becomes a malloc that is filled field by field.
 use Rattle.std.specs.Prelude.{pos, ℕ, suc, ◌-◌, ◌+◌, ◌&&◌, not, nat_lt, List, [], ◌∷◌, ◌++◌, Option, Some, None, Bool, true, false}
 use Rattle.std.specs.Prelude.{map, slice_get}
 use Rattle.a_terms.specs.Meaning.{pick}
@@ -121,8 +120,9 @@ is_label (HTuple vs) = false
 is_label (HApply v ts) = false
 is_label (HPack h v s) = false
 
--- a constant: an integer; a label, with closed types or none; a variable that names a constant; a tuple of constants;
--- and a pack, with closed types, of a constant that neither is a pack nor is a variable that names one
+-- what counts as a constant: an integer; a label, alone or applied to closed types; a variable with a constant behind
+-- it; a tuple that holds only constants; a pack with closed types whose content is a constant, and neither a pack nor a
+-- variable with one behind it
 abbrev mutual
   pub is_const : List Known → HVal → Bool
   is_const ls (HVar i) = is_some (named (slice_get ls i))

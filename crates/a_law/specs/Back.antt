@@ -161,6 +161,6 @@ PutsBack =
     (back_data (tuples_in ks t) p.tuples ≡ tuples_in ks t) × (back_all (tuples_in ks t) p.blocks ≡ settle_all ks)
     × (back_t (tuples_in ks t) [] 0 main ≡ settle_t [] t)
 
--- and where no variable stands in a tuple of constants, that is the program itself
+-- and that is the program itself, if its tuples of constants hold no variables
 abbrev pub Settled : Type 0
 Settled = (ks : HBlks) (t : HTm) → Plain_all ks → Plain_t [] t → (settle_all ks ≡ ks) × (settle_t [] t ≡ t)

@@ -1,5 +1,5 @@
--- The constants of a hoisted program: the value that each is, once each variable in it is written out as the constant
--- that it names; and the program in which every tuple of constants is written so.
+-- The constants of a hoisted program, with the constants behind their variables written out; and the program in which
+-- every tuple of constants is written so.
 use Rattle.std.specs.Prelude.{ℕ, zero, suc, ◌&&◌, not, List, [], ◌∷◌, ◌++◌, Option, Some, None, Bool, true, false, option_map}
 use Rattle.a_terms.specs.Meaning.{pick}
 use Rattle.c_terms.specs.C.{CTy, CTys, NoCTys, MoreCTys}

@@ -40,7 +40,7 @@ pub fn tuples_are_put_back()
     ensures { PutsBack }
 {}
 
-/// Where no variable stands in a tuple of constants, that is the program itself.
+/// That is the program itself, if its tuples of constants hold no variables.
 pub fn plain_programs_are_settled()
     ensures { Settled }
 {}

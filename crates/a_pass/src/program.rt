@@ -75,11 +75,11 @@ fn allocated(alloc: Global, program: &HProgram) -> Result<AProgram, OutOfMemory>
     Ok(AProgram::new(blocks, main, tuples))
 }
 
-/// The allocation of a hoisted program: each tuple of constants becomes a data tuple, any other a heap tuple that is
-/// filled field by field, and cells become tuples of one field. It is typed, each bound on the program before is one on
-/// it, and it ends within any number of calls as the program before, and enters the same blocks. Answers want of memory
-/// alone; also where the numbers of a program are too large to be written in an assembly text, which no program that a
-/// memory holds reaches.
+/// The allocation of a hoisted program: tuples of constants become data tuples, each other tuple a heap tuple that is
+/// filled field by field, and cells become tuples of one field. It is typed; where the program before fits N and R, it
+/// fits 3 * N and R; it ends within any number of calls as the program before, and enters the same blocks. Answers want
+/// of memory alone; also where the numbers of a program are too large to be written in an assembly text, which no
+/// program that a memory holds reaches.
 pub fn allocate(alloc: Global, program: &HProgram) -> Result<AProgram, OutOfMemory>
     ensures program { IfOk result (λ r.
         program_in r ≡ alloc_prog (h.blocks_in program.now) (h.main_in program.now)) }

@@ -98,7 +98,7 @@ fn declared_entry(
     }
 }
 
-/// One more variable: the type names in scope then.
+/// One more variable: the type names in scope then. An error is want of memory.
 pub fn declare(
     alloc: Global,
     program: &AProgram,

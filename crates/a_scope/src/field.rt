@@ -42,7 +42,7 @@ fn field_of_known(alloc: Global, ty: Option<AType>, i: u64) -> Result<AType, Out
     }
 }
 
-/// The type of field i of a value, from 1 on.
+/// The type of field i of a value, from 1 on. An error is want of memory.
 pub fn field_of_value(
     alloc: Global,
     program: &AProgram,
@@ -97,7 +97,7 @@ fn body_of_known(ty: Option<AType>) -> AType
     }
 }
 
-/// What a package hides, one name further in.
+/// What a package hides, one name further in. An error is want of memory.
 pub fn body_of_value(
     alloc: Global,
     program: &AProgram,

@@ -20,14 +20,14 @@ pub struct Entry {
     pub names: u64,
 }
 
-/// The difference, or 0.
+/// `a - b`, or 0 where `b` is more.
 pub fn less(a: u64, b: u64) -> u64
     ensures { result ≡ a - b }
 {
     if b <= a { a - b } else { 0 }
 }
 
-/// A variable of this type, where `names` type names are in scope.
+/// A variable of this type, where `names` type names are in scope. An error is want of memory.
 pub fn noted_now(alloc: Global, ty: AType, names: u64) -> Result<Entry, OutOfMemory>
     ensures ty { IfOk result (λ e. noted e ≡ atree ty) }
     ensures names { IfOk result (λ e. e.names ≡ names) }
@@ -40,7 +40,7 @@ pub fn noted_now(alloc: Global, ty: AType, names: u64) -> Result<Entry, OutOfMem
     })
 }
 
-/// One more variable of the same type, with this many fields initialised besides.
+/// One more variable of the same type, with this many fields initialised besides. An error is want of memory.
 pub fn sharing(entry: &Entry, filled: u64) -> Result<Entry, OutOfMemory>
     ensures ty { IfOk result (λ e. noted e ≡ filled_to filled (atree entry.now.ty.value)) }
     ensures names { IfOk result (λ e. e.names ≡ entry.now.names) }
@@ -64,7 +64,7 @@ fn filled_up(t: AType, count: u64) -> AType
     made
 }
 
-/// The type of a variable where `names` type names are in scope.
+/// The type of a variable where `names` type names are in scope. An error is want of memory.
 pub fn show(alloc: Global, entry: &Entry, names: u64) -> Result<AType, OutOfMemory>
     ensures { IfOk result (λ t. atree t ≡ shown names entry.now) }
 {

@@ -90,7 +90,8 @@ fn filled(vars: &[Entry], names: u64, v: &AValue, i: u64) -> Result<Option<Entry
     }
 }
 
-/// The variable that is declared, where its type is that of one in scope, but for fields that are initialised.
+/// The variable that is declared, where its type is that of one in scope, but for fields that are initialised. An error
+/// is want of memory.
 pub fn shared(
     vars: &[Entry],
     names: u64,

@@ -139,7 +139,8 @@ fn type_of_wrapped(
     Ok(made)
 }
 
-/// The type of a value. That of a package is read off the package, and not off what is in it.
+/// The type of a value. That of a package is read off the package, and not off what is in it. An error is want of
+/// memory.
 pub fn type_of_value(
     alloc: Global,
     program: &AProgram,

@@ -1,4 +1,4 @@
--- Each type that is written in an allocated program, or that its typing gives to a value or a name, has a property.
+-- A property of all types of an allocated program: of those that stand in it, and of those of its values and names.
 use Rattle.std.specs.Prelude.{ℕ, suc, ◌+◌, ◌≤◌, max, List, [], ◌∷◌, slice_get}
 use Rattle.a_terms.specs.Tree.{ATy, AInt, AVar, ATuple, ACode, AExists, ATys, NoATys, MoreATys, AFields, NoAFields, MoreAFields, AVal, Var, Num, Lab, Data, Apply, Pack, ADecl, Value, Proj, Arith, Unpack, Malloc, Init, ATm, Let, Call, If0, Halt, ABlk, AConsts, AProg}
 use Rattle.a_terms.specs.Typing.{aunset, code_type, data_type, applied, type_of, or_int, field_of, body_of, filled_of, declared, more_vars, types_of}

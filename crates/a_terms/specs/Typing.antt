@@ -177,7 +177,7 @@ Flat (Data n) = Unit {0}
 Flat (Apply v ts) = Flat v
 Flat (Pack h v s) = Unpacked v
 
--- a data tuple's values are typed under no variable and no type variable
+-- a data tuple's values are typed where neither variables nor type variables are in scope
 abbrev pub Const-ok : AProg → AConst → Type 0
 Const-ok p c = Has p 0 [] c.value c.kind × ABelow 0 c.kind × Flat c.value
 

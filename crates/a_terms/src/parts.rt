@@ -81,7 +81,7 @@ fn apply_one(alloc: Global, ty: Option<AType>, t: &AType) -> Result<Option<AType
     }
 }
 
-/// The type of what is applied to types, if it is code that owes as many.
+/// The type of what is applied to types, if it is code that owes as many. An error is want of memory.
 pub fn apply_all(
     alloc: Global,
     ty: Option<AType>,
@@ -120,7 +120,7 @@ fn field_at(alloc: Global, fields: &[(AType, bool)], i: u64, by: u64) -> Result<
     }
 }
 
-/// The type of field i of a tuple, from 1 on, under `by` more names.
+/// The type of field i of a tuple, from 1 on, under `by` more names. An error is want of memory.
 pub fn field_of(alloc: Global, t: &AType, i: u64, by: u64) -> Result<AType, OutOfMemory>
     ensures { IfOk result (λ r. atree r ≡ ashift by 0 (the_field_of i (Some (atree t.now)))) }
 {
@@ -133,7 +133,7 @@ pub fn field_of(alloc: Global, t: &AType, i: u64, by: u64) -> Result<AType, OutO
     }
 }
 
-/// What a package hides, where there are `by` more names around the package.
+/// What a package hides, where there are `by` more names around the package. An error is want of memory.
 pub fn body_of(alloc: Global, t: &AType, by: u64) -> Result<AType, OutOfMemory>
     ensures { IfOk result (λ r. atree r ≡ ashift by 1 (the_body_of (Some (atree t.now)))) }
 {
@@ -176,7 +176,7 @@ pub fn filled_of(ty: Option<AType>, i: u64) -> AType
     }
 }
 
-/// A tuple of fields that are not initialised.
+/// A tuple of fields that are not initialised. An error is want of memory.
 pub fn unset_tuple(alloc: Global, types: &[AType]) -> Result<AType, OutOfMemory>
     ensures { IfOk result (λ r. atree r ≡ ATuple (aunset (atrees types.now))) }
 {
@@ -188,7 +188,7 @@ pub fn unset_tuple(alloc: Global, types: &[AType]) -> Result<AType, OutOfMemory>
     Ok(AType::Tuple(fields))
 }
 
-/// A tuple of fields that are all initialised.
+/// A tuple of fields that are all initialised. An error is want of memory.
 pub fn set_tuple(alloc: Global, types: &[AType]) -> Result<AType, OutOfMemory>
     ensures { IfOk result (λ r. atree r ≡ ATuple (aset (atrees types.now))) }
 {

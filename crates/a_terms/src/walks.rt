@@ -8,7 +8,7 @@ use crate::types::AType;
 use idx_core::OutOfMemory;
 use std::alloc::Global;
 
-/// The sum.
+/// `a + b`, or want of memory past 64 bits.
 pub fn sum(a: u64, b: u64) -> Result<u64, OutOfMemory>
     ensures { IfOk result (λ r. r ≡ a + b) }
 {
@@ -29,7 +29,7 @@ fn moved(by: u64, d: u64, i: u64) -> Result<AType, OutOfMemory>
     }
 }
 
-/// The type under `by` more names, where the variables below `d` are bound.
+/// The type under `by` more names, where the variables below `d` are bound. An error is want of memory.
 #[cycle(shifting)]
 pub fn shift_type(alloc: Global, t: &AType, by: u64, d: u64) -> Result<AType, OutOfMemory>
     ensures { IfOk result (λ r. atree r ≡ over (shifted AVar by) d (atree t.now)) }
@@ -60,7 +60,7 @@ pub fn shift_type(alloc: Global, t: &AType, by: u64, d: u64) -> Result<AType, Ou
     }
 }
 
-/// The types under `by` more names.
+/// The types under `by` more names. An error is want of memory.
 #[cycle(shifting)]
 pub fn shift_all(alloc: Global, ts: &[AType], by: u64, d: u64) -> Result<Vec<AType>, OutOfMemory>
     ensures { IfOk result (λ r. atrees r.items ≡ over_types (shifted AVar by) d (atrees ts.now)) }
@@ -90,7 +90,7 @@ fn shift_fields(
     Ok(made)
 }
 
-/// The same type again.
+/// The same type again. An error is want of memory.
 pub fn copy(alloc: Global, t: &AType) -> Result<AType, OutOfMemory>
     ensures { IfOk result (λ r. atree r ≡ atree t.now) }
 {
@@ -98,7 +98,7 @@ pub fn copy(alloc: Global, t: &AType) -> Result<AType, OutOfMemory>
     Ok(made)
 }
 
-/// The same types again.
+/// The same types again. An error is want of memory.
 pub fn copies(alloc: Global, ts: &[AType]) -> Result<Vec<AType>, OutOfMemory>
     ensures { IfOk result (λ r. atrees r.items ≡ atrees ts.now) }
 {
@@ -120,7 +120,7 @@ fn replaced(alloc: Global, s: &AType, c: u64, d: u64, i: u64) -> Result<AType, O
     }
 }
 
-/// The type with `s` for the variable `c`, at the depth `d`.
+/// The type with `s` for the variable `c`, at the depth `d`. An error is want of memory.
 #[cycle(putting)]
 pub fn put_type(alloc: Global, t: &AType, s: &AType, c: u64, d: u64) -> Result<AType, OutOfMemory>
     requires { c ≤ d }
@@ -152,7 +152,7 @@ pub fn put_type(alloc: Global, t: &AType, s: &AType, c: u64, d: u64) -> Result<A
     }
 }
 
-/// The types with `s` for the variable `c`, at the depth `d`.
+/// The types with `s` for the variable `c`, at the depth `d`. An error is want of memory.
 #[cycle(putting)]
 pub fn put_all(
     alloc: Global,

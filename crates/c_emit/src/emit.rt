@@ -149,7 +149,7 @@ impl Walk {
     }
 }
 
-/// The nodes of the converted term.
+/// The nodes of the converted term. An error is want of memory.
 pub fn emit(
     alloc: Global,
     nodes: &[KNode],

@@ -25,7 +25,7 @@ fn closure_type(alloc: Global, owes: u64, args: Vec<CType>) -> Result<CType, Out
     Ok(CType::Exists(pair))
 }
 
-/// The type that a type becomes, its type variables where `names` says.
+/// The type that a type becomes, its type variables where `names` says. An error is want of memory.
 #[cycle(close)]
 pub fn close_type(alloc: Global, t: &KType, names: &Names) -> Result<CType, OutOfMemory>
     ensures { IfOk result (λ r. ctree r ≡ L.ctype (renaming names.now) (ktree t.now)) }
@@ -64,7 +64,7 @@ pub fn close_type(alloc: Global, t: &KType, names: &Names) -> Result<CType, OutO
     }
 }
 
-/// Those that several become, after the types that are made.
+/// Those that several become, after the types that are made. An error is want of memory.
 #[cycle(close)]
 pub fn close_types(
     alloc: Global,

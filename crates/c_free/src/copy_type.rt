@@ -6,7 +6,7 @@ use idx_core::OutOfMemory;
 use k_terms::KType;
 use std::alloc::Global;
 
-/// A copy.
+/// The same type again. An error is want of memory.
 #[cycle(copy)]
 pub fn copied(alloc: Global, t: &KType) -> Result<KType, OutOfMemory>
     ensures { IfOk result (λ r. ktree r ≡ ktree t.now) }
@@ -33,7 +33,7 @@ pub fn copied(alloc: Global, t: &KType) -> Result<KType, OutOfMemory>
     }
 }
 
-/// Copies of several.
+/// The same types again. An error is want of memory.
 #[cycle(copy)]
 pub fn all_copied(alloc: Global, ts: &[KType]) -> Result<Vec<KType>, OutOfMemory>
     ensures { IfOk result (λ r. ktys r.items ≡ ktys ts.now) }

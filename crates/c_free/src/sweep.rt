@@ -42,7 +42,7 @@ impl Sweep {
     }
 }
 
-/// What is found of the codes, in the order of the nodes.
+/// What is found of the codes, in the order of the nodes. An error is want of memory.
 pub fn sweep(alloc: Global, nodes: &[KNode]) -> Result<VecDeque<Found>, OutOfMemory>
     ensures { IfOk result (λ r. founds r.items ≡ (W.sweep (map knode nodes.now)).found) }
 {

@@ -71,7 +71,7 @@ impl TSweep {
     }
 }
 
-/// The type variables of the codes, in the order of the nodes.
+/// The type variables of the codes, in the order of the nodes. An error is want of memory.
 pub fn tsweep(alloc: Global, nodes: &[KNode]) -> Result<VecDeque<Levels>, OutOfMemory>
     ensures { IfOk result (λ r. lists r.items ≡ (T.tsweep (map knode nodes.now)).found) }
 {

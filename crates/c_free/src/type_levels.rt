@@ -8,7 +8,8 @@ use c_walk::sum;
 use idx_core::OutOfMemory;
 use k_terms::KType;
 
-/// The levels of the free type variables of a type under `under` names, themselves under `depth`.
+/// The levels of the free type variables of a type under `under` names, themselves under `depth`. An error is want of
+/// memory.
 #[cycle(levels)]
 pub fn type_levels(t: &KType, depth: u64, under: u64, out: &mut Vec<u64>) -> Result<(), OutOfMemory>
     ensures { OnOk result (out.new.items ≡ out.old.items ++ W.type_levels depth under (ktree t.now)) }
@@ -44,7 +45,7 @@ pub fn type_levels(t: &KType, depth: u64, under: u64, out: &mut Vec<u64>) -> Res
     }
 }
 
-/// Those of several.
+/// Those of several. An error is want of memory.
 #[cycle(levels)]
 pub fn types_levels(
     ts: &[KType],

@@ -27,7 +27,7 @@ fn plain_var(f: &Side, i: u64) -> Result<u64, OutOfMemory>
     }
 }
 
-/// Where a type variable stands.
+/// Where a type variable stands. An error is want of memory.
 pub fn side_var(f: &Side, i: u64) -> Result<u64, OutOfMemory>
     ensures { IfOk result (λ r. r ≡ W.side_var (side f.now) i) }
 {
@@ -40,7 +40,7 @@ pub fn side_var(f: &Side, i: u64) -> Result<u64, OutOfMemory>
     }
 }
 
-/// Where a type variable outside the code stands.
+/// Where a type variable outside the code stands. An error is want of memory.
 pub fn outer_var(f: &Side, j: u64) -> Result<u64, OutOfMemory>
     ensures { IfOk result (λ r. r ≡ W.outer_var (side f.now) j) }
 {
@@ -48,7 +48,7 @@ pub fn outer_var(f: &Side, j: u64) -> Result<u64, OutOfMemory>
     Ok(at)
 }
 
-/// Where a type variable of a type stands.
+/// Where a type variable of a type stands. An error is want of memory.
 pub fn name(names: &Names, i: u64) -> Result<u64, OutOfMemory>
     ensures { IfOk result (λ r. r ≡ renaming names.now i) }
 {

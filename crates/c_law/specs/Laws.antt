@@ -42,7 +42,7 @@ BoundKept = (t : KTm) → KBound t → CBound (close_of t)
 abbrev pub CloseIsScoped : Type 0
 CloseIsScoped = (t : KTm) → CScoped 0 (close_of t)
 
--- a typed term has no free variable and no free type variable
+-- nothing is free in a typed term, neither a variable nor a type variable
 abbrev pub TypedIsClosed : Type 0
 TypedIsClosed = (t : KTm) → KGood 0 [] t → IsClosed t
 

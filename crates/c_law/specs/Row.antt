@@ -46,7 +46,7 @@ abbrev pub tvars_of : (ℕ → ℕ) → List ℕ → CTys
 tvars_of r [] = NoCTys
 tvars_of r (b ∷ bs) = MoreCTys (TCVar (r b)) (tvars_of r bs)
 
--- the free variables of a code, its own name aside, and the free type variables of the code and of their types
+-- the free variables of a code, its own name aside, and the type variables that are free in it or in the types of these
 abbrev pub frees : Where → KTys → KTm → List ℕ
 frees w args body = outermost_first (keeps args body) (length w.types)
 

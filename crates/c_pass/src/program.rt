@@ -95,8 +95,9 @@ fn translated(alloc: Global, program: &KProgram) -> Result<CProgram, OutOfMemory
     Ok(CProgram::new(out))
 }
 
-/// The closed program of a program, by the rules of closure conversion. It is typed, and each bound on the program
-/// before is one on it; within any number of calls it halts as the program before, and enters the same codes.
+/// The closed program of a program, by the rules of closure conversion. It is typed. Where the program before fits N
+/// and R, it fits 10 * N + 1 and R + 4; within any number of calls it halts as the program before, and enters the same
+/// codes. Answers want of memory alone.
 pub fn close(alloc: Global, program: &KProgram) -> Result<CProgram, OutOfMemory>
     ensures same { IfOk result (λ r. C.term_of r ≡ close_of (K.term_of program.now)) }
     ensures rules { IfOk result (λ r. IsTranslation (K.term_of program.now) (C.term_of r)) }

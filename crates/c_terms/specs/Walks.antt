@@ -31,7 +31,7 @@ abbrev mutual
   each_all V B d NoCTys = Unit {0}
   each_all V B d (MoreCTys t ts) = each V B d t × each_all V B d ts
 
--- k is added to each free index that is at least c
+-- free indices from c on grow by k
 abbrev pub shift : ℕ → ℕ → CTy → CTy
 shift k c = over (shifted TCVar k) c
 

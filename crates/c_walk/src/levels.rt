@@ -89,7 +89,7 @@ fn thin(levels: &[u64], d: u64, alloc: Global) -> Result<Vec<u64>, OutOfMemory>
     Ok(made)
 }
 
-/// The levels below d, each once, ascending.
+/// The levels below d, each once, ascending. An error is want of memory.
 pub fn known(mut levels: Vec<u64>, d: u64, alloc: Global) -> Result<Levels, OutOfMemory>
     ensures { IfOk result (λ r. r.list.items ≡ W.known_below d levels.items) }
 {

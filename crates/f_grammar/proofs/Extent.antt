@@ -1,4 +1,4 @@
--- A piece goes from the start of its first token to the end of its last.
+-- The place of a piece begins with its first token and ends with its last.
 use Rattle.std.proofs.Common.{◌≡◌, ℕ, List, [], ◌∷◌, ◌++◌, refl, subst, append_assoc}
 use Rattle.f_lexer.specs.declared.token.Token.{Token}
 use Rattle.f_lexer.specs.declared.kind.Kind.TheVariants as k

@@ -107,9 +107,8 @@ mutual
         Es (u ++ tok k.Comma c ∷ v) (ts ++ e.tree ∷ [])
 
 -- For each token of a form, how many constructs are open at it, where d are open around the form: a bracket up to and
--- with
--- the closing one, `fix`, `gen`, `all` to the end of the body, `#` to the end of its part, `->` to the end of the type
--- on its right.
+-- with the closing one, `fix`, `gen`, `all` to the end of the body, `#` to the end of its part, `->` to the end of the
+-- type on its right.
 abbrev mutual
   pub open_T : {w : List Token} {t : RawTy} → T w t → ℕ → List ℕ
   open_T (t_all a n s t) d = suc d ∷ (suc d ∷ (suc d ∷ open_T t (suc d)))

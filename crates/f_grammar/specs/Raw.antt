@@ -76,7 +76,7 @@ abbrev mutual
   nodes_all NoRawTms = 0
   nodes_all (MoreRawTms e es) = nodes e + nodes_all es
 
--- a tree, from the start of its first token to the end of its last
+-- a tree, with the place at which its first token begins and the one at which its last token ends
 pub record Piece : Type 0 where
   pub tree : RawTm
   pub start : ℕ

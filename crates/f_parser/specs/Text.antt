@@ -69,13 +69,13 @@ pub data FirstFault (text : List ℕ) : Code → Span → Type 0 where
   too_long : 1048576 < length text → FirstFault text code.L1 (whole_of text)
   -- E01 and E02, whichever comes first: a byte that begins no token, a number out of range
   no_token : {c : Code} {s : Span} → FewBytes text → FirstTokenFault text c s → FirstFault text c s
-  -- E03, E04 and L2, whichever comes first. E03: the tokens before t begin a shape, and with it none
+  -- E03, E04 and L2, whichever comes first. E03: what stands before t begins a shape, but no shape goes on with t
   unexpected : {w : List Token} (u : List Token) (t : Token) (z : List Token) → HasTokens text w →
       IsUnexpected source_grammar 200 w u t z → FirstFault text code.E03 t.span
-  -- E04: all tokens begin a shape, and are none
+  -- E04: the tokens begin a shape that they do not end
   cut_short : {w : List Token} → HasTokens text w → IsCutShort source_grammar 200 w →
       FirstFault text code.E04 (end_of text)
-  -- L2: the tokens up to and with t begin a shape, and too many constructs are open at t
+  -- L2: the tokens begin a shape as far as t, at which too many constructs are open
   too_deep : {w : List Token} (u : List Token) (t : Token) (z : List Token) → HasTokens text w →
       IsPassed source_grammar 200 w u t z → FirstFault text code.L2 t.span
   -- L3: too many nodes

@@ -107,8 +107,8 @@ fn closed_term(alloc: Global, text: &[u8], tree: &RawTerm) -> Result<FTerm, FFau
 }
 
 /// The term that a text stands for, by the grammar and the binding rules of the source, within the limits L1 to L3.
-/// Else the first fault of the text, in this order: L1 over the whole of it, the first of E01 and E02, the first of
-/// E03, E04 and L2 in the order of tokens, L3 over the whole expression, the first of E05 and E06 (order and limits
+/// Else the first fault of the text, in this order: L1 over the whole of it, the first of E01 and E02, whichever of
+/// E03, E04 and L2 comes first by tokens, L3 over the whole expression, the first of E05 and E06 (order and limits
 /// are an own choice). Places are counted in bytes.
 pub fn parse(alloc: Global, text: &[u8]) -> Result<FTerm, FFault>
     ensures right { MatchResult result (λ e. SourceWithin text.now (spanned e)) (λ f. IsFault text.now f) }

@@ -16,7 +16,7 @@ two_names : type_text (TAll (TAll (TArrow (TVar 1) (TArrow (TVar 0) (TVar 1)))))
 unfolding digits
 two_names = refl
 
--- the left side of an arrow is in parentheses where it is an arrow or an `all`; the right side never is
+-- parentheses on the left of an arrow, none on the right
 arrow_on_the_left : type_text (TArrow (TArrow TInt TInt) (TArrow TInt TInt)) ≡ codes "(int -> int) -> int -> int"
 arrow_on_the_left = refl
 

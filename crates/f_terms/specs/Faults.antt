@@ -1,4 +1,5 @@
--- The first fault of typing, in checking order: parts are checked whole, from left to right.
+-- The first fault of typing: each part in turn, whole, with what is asked of it, and then the form itself; a `fix` has
+-- its type looked at before its body.
 use Rattle.std.specs.Prelude.{◌≡◌, ℕ, ◌+◌, ◌⊎◌, Option, Some, None}
 use Rattle.f_terms.specs.Ty.{Ty, TInt, TVar, TArrow, TAll, TTuple, Tys, NoTys, MoreTys, put, Below}
 use Rattle.f_terms.specs.Tm.{Spn, Tm, SVar, SNum, SFix, SApp, SGen, SInst, STuple, SProj, SArith, SIf0, Tms, NoTms, MoreTms, span_of}
@@ -75,14 +76,7 @@ abbrev pub if_none : Option Ty → Refusal → Refusal
 if_none None fault = fault
 if_none (Some t) fault = nothing
 
--- fix: L4, L5 of its type; the body; E14 at the body
--- e1 e2: e1; E07 at e1; e2; E08 at e2
--- gen: the body; L4, L5
--- e[t]: e; E09 at e; L4, L5 of t; L4, L5 of the result
--- tuple: the fields; L4, L5
--- #i e: e; E10 at e; E11 at the whole form
--- arithmetic: left; E12 at left; right; E12 at right
--- if0: first; E12 at first; second; third; E13 at third
+-- the first fault of a term under n type variables, with the types g of the value variables
 abbrev mutual
   pub Fault : Tm → ℕ → Tys → Refusal
   Fault (SVar s i) n g = nothing

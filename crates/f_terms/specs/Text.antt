@@ -2,11 +2,11 @@
 use Rattle.std.specs.Prelude.{ℕ, ◌+◌, ◌-◌, ◌==◌, List, [], ◌++◌, Bool, true, false, if◌then◌else◌, codes, decimal}
 use Rattle.f_terms.specs.Ty.{Ty, TInt, TVar, TArrow, TAll, TTuple, Tys, NoTys, MoreTys}
 
--- the variable of an `all` that stands inside d others
+-- the variable of an `all` with d others around it
 abbrev pub name_text : ℕ → List ℕ
 name_text d = codes "t" ++ decimal d
 
--- what stands in parentheses on the left of an arrow
+-- what takes parentheses where it is the left side of an arrow
 abbrev pub is_grouped : Ty → Bool
 is_grouped (TArrow a b) = true
 is_grouped (TAll t) = true

@@ -45,7 +45,7 @@ abbrev mutual
   each_all V B d NoTys = Unit {0}
   each_all V B d (MoreTys t ts) = each V B d t × each_all V B d ts
 
--- k is added to each free index that is at least c
+-- free indices from c on grow by k
 abbrev pub shift : ℕ → ℕ → Ty → Ty
 shift k c = over (shifted TVar k) c
 

@@ -23,7 +23,7 @@ raised g = over_all (shifted TVar 1) 0 g
 abbrev pub in_fix : Ty → Ty → Tys → Tys
 in_fix arg res g = MoreTys arg (MoreTys (TArrow arg res) g)
 
--- `n; g |- e : t`, with n type variables and the types g of the value variables: one rule for each form,
+-- the term has the type t under n type variables, where g has the types of the value variables: a rule for each form,
 -- where each type that is written in the term is in scope
 abbrev mutual
   pub HasType : Term → ℕ → Tys → Ty → Type 0

@@ -81,7 +81,8 @@ fn push_parts(
     }
 }
 
-/// Whether a term is closed and has at most 4294967295 nodes, which is what a checker asks of it.
+/// Whether a term has no free names and no more than 4294967295 nodes, which is what a checker asks of it. Answers want
+/// of memory alone.
 pub fn admit(alloc: Global, term: &FTerm) -> Result<bool, OutOfMemory>
     ensures { IfOk result (λ b. IsTrue b ↔ (IsClosed (term_of term.now) × (nodes (term_of term.now) ≤ 4294967295))) }
 {

@@ -6,7 +6,7 @@ use crate::types::FType;
 use idx_core::OutOfMemory;
 use std::alloc::Global;
 
-/// The same type again.
+/// The same type again. An error is want of memory.
 pub fn copy(alloc: Global, t: &FType) -> Result<FType, OutOfMemory>
     ensures { IfOk result (λ r. tree r ≡ tree t.now) }
 {

@@ -47,7 +47,7 @@ pub fn depth(t: &FType) -> u64
     }
 }
 
-/// Whether two types are equal. Names are numbers, so this is equality up to renaming of bound variables.
+/// Whether two types are equal. Names are numbers, so types that differ in bound names alone are equal.
 pub fn eq(a: &FType, b: &FType) -> bool
     ensures { IsTrue result ↔ tree a.now ≡ tree b.now }
 {

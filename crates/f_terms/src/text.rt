@@ -47,7 +47,7 @@ fn write_separator(text: &mut Vec<u8>, before: usize) -> Result<(), OutOfMemory>
     Ok(())
 }
 
-// Whether the type stands in parentheses on the left of an arrow.
+// Whether the type takes parentheses where it is the left side of an arrow.
 fn is_grouped(t: &FType) -> bool
     ensures { result ≡ is_grouped (tree t.now) }
 {
@@ -98,9 +98,8 @@ fn write_type(text: &mut Vec<u8>, t: &FType, depth: u64) -> Result<(), OutOfMemo
     }
 }
 
-/// The text of a closed type (own choice): the variable of an `all` inside d others is named `t` and d; the left side
-/// of
-/// an arrow is in parentheses where it is an arrow or an `all`, and nothing else is. Answers want of memory alone.
+/// The text of a closed type (own choice). The variable of an `all` with d others around it is called `t` and d.
+/// Parentheses stand only round an arrow or an `all` on the left of an arrow. Answers want of memory alone.
 pub fn type_text(alloc: Global, t: &FType) -> Result<Vec<u8>, OutOfMemory>
     requires { Closed (tree t.now) }
     ensures { IfOk result (λ text. text.items ≡ type_text (tree t.now)) }

@@ -1,6 +1,6 @@
--- Code generation. Block 0 is the main term; there is one block for each block, and one more for the third part of
--- each `if0`; argument j of a call stands in register j; there is one data tuple for each data tuple. In its block the
--- variable of level l lives in register l + 1, from its declaration on.
+-- Code generation. Block 0 holds the main term; each block has its own, and each `if0` one more for its third part. A
+-- call leaves argument j in register j. Each data tuple has its own too. In its block the variable of level l lives in
+-- register l + 1, from its declaration on.
 use Rattle.std.specs.Prelude.{ℕ, zero, suc, ◌+◌, ◌-◌, ◌++◌, List, [], ◌∷◌, length, map}
 use Rattle.t_types.specs.Tree.{Ty, IntTy, VarTy, CodeTy, ExistsTy, TupleTy, TFile, NoRegs, MoreRegs, TFields, NoFields, MoreFields}
 use Rattle.t_terms.specs.Tree as T

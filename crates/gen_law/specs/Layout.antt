@@ -1,5 +1,5 @@
--- How a generated program is laid out: block 0 is the main term, there is one block for each block, and one more for
--- the third part of each `if0`; argument j of a call stands in register j; there is one data tuple for each data tuple.
+-- How a generated program is laid out: block 0 holds the main term; each block has its own, and each `if0` one more for
+-- its third part. A call leaves argument j in register j. Each data tuple has its own too.
 use Rattle.std.specs.Prelude.{◌≡◌, ℕ, suc, ◌+◌, List, [], Some, length, slice_get}
 use Rattle.t_types.specs.Tree.{NoRegs}
 use Rattle.t_terms.specs.Tree.{TBlock, TProg}

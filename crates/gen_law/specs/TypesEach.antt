@@ -1,4 +1,4 @@
--- Each type that is written in an assembly program, or that its typing gives to a value or a register, has a property.
+-- A property of all types of an assembly program: of those that stand in it, and of those of its values and registers.
 use Rattle.std.specs.Prelude.{◌≡◌, ◌≤◌, ◌+◌, ℕ, suc, max, List, [], ◌∷◌, Some}
 use Rattle.a_terms.specs.Tree.{ATm, AProg}
 use Rattle.a_terms.specs.Typing.{Program-ok}

@@ -5,8 +5,8 @@ ghost use Rattle.gen_law.specs.Layout.{LaidOut};
 ghost use Rattle.gen_law.specs.Laws.{TypesKept, PacksFlat, InvariantKept, MeaningKept};
 ghost use Rattle.gen_law.specs.TypesEach.{TypesWithin};
 
-/// Block 0 is the main term, there is one block for each block and one more for the third part of each `if0`, and one
-/// data tuple for each data tuple.
+/// Block 0 holds the main term; each block has its own, and each `if0` one more for its third part. Each data tuple has
+/// its own too.
 pub fn programs_are_laid_out()
     ensures { LaidOut }
 {}

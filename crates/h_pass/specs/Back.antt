@@ -92,8 +92,7 @@ abbrev mutual
   codes_t (CIf v t u) = codes_v v ++ (codes_t t ++ codes_t u)
   codes_t (CHalt v) = codes_v v
 
--- a program is the hoisted form of a closed term: each code has one block of its own, the codes in order, and there
--- is no other block;
--- and each block's code put back for its label gives the term
+-- a program is the hoisted form of a closed term: its blocks are the codes of the term, one for one and in order; and
+-- each block's code put back for its label gives the term
 abbrev pub IsHoisted : HBlks → HTm → CTm → Type 0
 IsHoisted ks t closed = (codes 0 ks ≡ codes_t closed) × (put_back ks t ≡ closed)

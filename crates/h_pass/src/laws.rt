@@ -5,8 +5,8 @@ ghost use Rattle.h_pass.specs.Statements.{BoundIsSmall, ScopedIsBack, NodesKept}
 use c_terms::laws::{typed_is_any_law, typed_is_scoped_law, within_is_typed_law};
 use h_terms::laws::{h_never_stuck_law, h_typed_is_any_law};
 
-/// Each code has one block of its own, there is no other block, and each block's code put back for its label gives the
-/// closed term.
+/// The blocks are the codes of the closed term, one for one and in order, and each block's code put back for its label
+/// gives that term.
 pub fn hoist_is_back_law()
     ensures { HoistIsBack }
 {

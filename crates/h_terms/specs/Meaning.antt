@@ -6,7 +6,7 @@ use Rattle.term_core.specs.Ends.{Halted, Result, Spent, Stuck, enters, if_fits, 
 use Rattle.c_terms.specs.C.{ccount}
 use Rattle.h_terms.specs.H.{HApply, HArith, HBlk, HBlks, HCall, HCell, HDecl, HGet, HHalt, HIf, HInt, HLabel, HLet, HName, HPack, HProj, HSet, HTm, HTuple, HUnpack, HVal, HVals, HVar, MoreHVals, NoHVals, block_at}
 
--- a value: an integer, a tuple, a label, or a cell, named by its place in the store
+-- a value: an integer, a tuple, a label, or a cell, by its place in the store
 mutual
   pub data HWord : Type 0 where
     YInt : ℤ → HWord

@@ -6,7 +6,7 @@ use c_terms::CType;
 use idx_core::OutOfMemory;
 use std::alloc::Global;
 
-/// The same type again.
+/// The same type again. An error is want of memory.
 #[cycle(copying)]
 pub fn copy_type(alloc: Global, t: &CType) -> Result<CType, OutOfMemory>
     ensures { IfOk result (λ r. ctree r ≡ ctree t.now) }
@@ -36,7 +36,7 @@ pub fn copy_type(alloc: Global, t: &CType) -> Result<CType, OutOfMemory>
     }
 }
 
-/// The same types again.
+/// The same types again. An error is want of memory.
 #[cycle(copying)]
 pub fn copy_types(alloc: Global, ts: &[CType]) -> Result<Vec<CType>, OutOfMemory>
     ensures { IfOk result (λ r. ctys r.items ≡ ctys ts.now) }

@@ -5,7 +5,8 @@ ghost use Rattle.h_terms.specs.Props.{h_row_prop, h_rows_prop};
 
 use crate::node::{HBlock, HNode};
 
-/// A hoisted program: blocks that may name each other and a main term, typed and within the bound of programs.
+/// A hoisted program: blocks, each of which may name any of them, and a main term; typed, and within the bound of
+/// programs.
 #[derive(Drop)]
 pub struct HProgram {
     pub(crate) blocks: Vec<HBlock>,

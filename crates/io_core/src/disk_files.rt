@@ -72,7 +72,7 @@ impl<R> DiskFiles<R> {
 impl<R: HostFiles> Files for DiskFiles<R> {
     ghost state = { λ d. d };
 
-    /// Reads in at most 4294967296 read calls, and counts a fault where these do not reach the end.
+    /// A file that 4294967296 read calls do not exhaust is a fault, which is counted.
     fn read_all(&mut self, alloc: Global, name: &str) -> Result<Vec<u8>, Stop> {
         match read_file(&self.host, alloc, name) {
             Ok(bytes) => Ok(bytes),

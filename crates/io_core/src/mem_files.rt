@@ -11,10 +11,10 @@ use std::alloc::{AllocError, Global};
 use std::collections::BTreeMap;
 use std::marker::Model;
 
-/// Files in memory (own choice). Calls are numbered from 0, reads and writes together; one that answers `Memory`
-/// takes no number, and the number stays at `u64::MAX` once it is there. A call whose number stands first in a pair
-/// of a list fails, by the first such pair, and is counted; a failing write leaves as many first bytes of the new
-/// content as the pair's second number says, or all where there are fewer.
+/// Files in memory (own choice). Each call that does not answer `Memory` has a number, whatever its kind, from 0 up to
+/// `u64::MAX`, where it stays. A call fails by the first pair of the list that begins with its number, and is counted;
+/// a failing write leaves the first bytes of what it was to write: the pair says how many, and a shorter content is
+/// left whole.
 #[derive(Drop)]
 pub struct MemFiles {
     files: BTreeMap<String, Vec<u8>>,

@@ -8,7 +8,7 @@ use std::io::Write;
 use std::marker::Model;
 
 /// A stream of the system as a sink (own choice). It tells no content. Each fault of the system is counted, up to
-/// `u64::MAX`; a write that takes nothing of a rest that is not empty is one.
+/// `u64::MAX`; to take no byte of what is still left to write is one.
 #[derive(Drop)]
 pub struct OutSink<W> {
     writer: W,

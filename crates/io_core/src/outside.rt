@@ -40,9 +40,10 @@ impl From<AllocError> for Stop {
     }
 }
 
-/// Files (own choice): a finite map from names to bytes, where an implementation tells one, and two counts of
-/// faults, of reads and of writes, that never fall. A call leaves the other kind's count as it was. It answers
-/// `Failed` only where the count of its kind rose or stands at its last value, or a read's name is not in the map.
+/// Files (own choice). Contracts see what each name holds, where an implementation tells it, and how many reads and how
+/// many writes have failed so far; a read leaves the number of writes alone, and a write that of reads, and neither
+/// number ever falls. `Failed` is answered only where the number of the call's kind went up or can go no higher, or
+/// where a file to read is not there.
 pub trait Files {
     ghost state: { Self → FilesState };
 
@@ -56,7 +57,8 @@ pub trait Files {
         ensures written { IsWrite (state self.old) (state self.new) name.now bytes.now result };
 }
 
-/// A sink (own choice): the bytes taken, where an implementation tells them, and a count of faults that never falls.
+/// A sink (own choice). Contracts see the bytes taken, where an implementation tells them, and how many puts have
+/// failed so far; that number never falls.
 pub trait Sink {
     ghost state: { Self → SinkState };
 

@@ -8,8 +8,8 @@ abbrev pub unless : Bool → ℕ
 unless true = 0
 unless false = 1
 
--- its `fix` and `gen`, and those applications, type applications and `if0`s that aren't in tail place: the body of a
--- `fix` or `gen`, and both branches of an `if0`, are
+-- one for each `fix` and `gen`, and one for each application, type application or `if0` outside tail place; in tail
+-- place are the bodies of `fix` and `gen` and the branches of `if0`
 abbrev mutual
   pub sites : Bool → Term → ℕ
   sites tail (MVar i) = 0

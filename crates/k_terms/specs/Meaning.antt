@@ -5,7 +5,7 @@ use Rattle.idx_core.specs.Arith.{compute, is_zero}
 use Rattle.term_core.specs.Ends.{if_fits, pick, Halted, Spent, Stuck, Result, stops, enters}
 use Rattle.k_terms.specs.K.{KTys, KVal, KVar, KInt, KTuple, KCode, KVals, NoKVals, MoreKVals, KDecl, KName, KProj, KArith, KPack, KUnpack, KCell, KGet, KSet, KTm, KLet, KCall, KIf, KHalt, kcount, kv_next, kd_next, kt_next}
 
--- a value: an integer, a tuple, a code with its number and its environment, or a cell, named by its place in the store
+-- a value: an integer, a tuple, a code with its number and its environment, or a cell, by its place in the store
 mutual
   pub data KWord : Type 0 where
     WInt : ℤ → KWord

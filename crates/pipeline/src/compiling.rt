@@ -20,8 +20,8 @@ use t_gen::generate;
 
 /// The assembly program of a source program, by conversion to continuation-passing style, closure conversion, hoisting,
 /// allocation and code generation. The typing rules accept it, and it halts with an integer exactly where the source
-/// evaluates to it, never in fewer instructions than the source takes turns; no place of it is executed more often than
-/// once more than these turns. Its text keeps the limit on open constructs. Answers want of memory alone.
+/// evaluates to it, in at least as many instructions as that takes turns; no place of it is executed more often than
+/// once more than these turns. Its nesting is within the limit on open constructs. Answers want of memory alone.
 pub fn compile(alloc: Global, program: &Program) -> Result<Checked, OutOfMemory>
     ensures compiled { IfOk result (λ p.
         ∥ IsCompilation (term_of (program_term program.now)) (program_tree (checked_program p)) ∥₁) }

@@ -8,17 +8,17 @@ use itoa::Buffer;
 /// The kinds of items (own choice).
 #[derive(Copy, Clone)]
 pub enum Kind {
-    /// the number itself
+    /// The number itself.
     Number,
-    /// the factorial of the number, by a recursive function
+    /// The factorial of the number, by a recursive function.
     Factorial,
-    /// the second field of a tuple
+    /// The second field of a tuple.
     Field,
-    /// the identity of all types, at `int`
+    /// The identity of all types, at `int`.
     Identity,
-    /// a branch on the number
+    /// A branch on the number.
     Branch,
-    /// a function that is passed to another, which applies it twice
+    /// A function that is passed to another, which applies it twice.
     Twice,
 }
 

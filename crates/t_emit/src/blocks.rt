@@ -11,7 +11,7 @@ use std::alloc::Global;
 use t_terms::{Block, End, Instr};
 use t_types::{RegFile, TType};
 
-/// A block without its code, at the end.
+/// A block without its code, at the end. An error is want of memory.
 pub fn reserve(
     alloc: Global,
     out: &mut Vec<Block>,

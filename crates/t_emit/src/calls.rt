@@ -36,7 +36,7 @@ fn emit_arguments(
     Ok(())
 }
 
-/// The jump of a call.
+/// The jump of a call. An error is want of memory.
 pub fn jump(alloc: Global, above: u64, types: &[AType]) -> Result<End, OutOfMemory>
     ensures { IfOk result (λ r. end_of r ≡ Jmp (Plain (Reg above) (tys (atrees types.now)))) }
 {
@@ -56,7 +56,7 @@ pub fn above_all(depth: u64, values: &[AValue]) -> u64
     depth + values.len() as u64
 }
 
-/// The instructions of a call before its jump.
+/// The instructions of a call before its jump. An error is want of memory.
 pub fn emit_call(
     alloc: Global,
     code: &mut Vec<(Instr, Span)>,

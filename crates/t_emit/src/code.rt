@@ -12,7 +12,7 @@ use t_terms::{Base, Instr, Value};
 /// No place in a text.
 pub const NOWHERE: Span = Span { start: 0, end: 0 };
 
-/// One more instruction.
+/// One more instruction. An error is want of memory.
 pub fn put(code: &mut Vec<(Instr, Span)>, i: Instr) -> Result<(), OutOfMemory>
     ensures { OnOk result (Grows code.old.items code.new.items (Then (instr_tree i))) }
 {
@@ -30,7 +30,7 @@ pub fn plain(alloc: Global, base: Base) -> Value
     }
 }
 
-/// The values in the `count` registers from `from` on are moved down to those from 1 on.
+/// The values in the `count` registers from `from` on are moved down to those from 1 on. An error is want of memory.
 pub fn emit_downs(
     alloc: Global,
     code: &mut Vec<(Instr, Span)>,

@@ -76,7 +76,7 @@ fn constant_wrap(alloc: Global, v: Value, w: &AWrap) -> Result<Value, OutOfMemor
     }
 }
 
-/// The value of a data field.
+/// The value of a data field. An error is want of memory.
 pub fn constant_value(alloc: Global, v: &AValue) -> Result<Value, OutOfMemory>
     ensures { IfOk result (λ r. value_tree r ≡ constant (a_value v.now)) }
 {
@@ -103,7 +103,7 @@ fn constant_fields(
     Ok(fields)
 }
 
-/// One data tuple for each.
+/// The data tuples of the assembly program, one for each of an allocated program. An error is want of memory.
 pub fn all_data(alloc: Global, tuples: &[AData]) -> Result<Vec<Data>, OutOfMemory>
     ensures { IfOk result (λ r. data_trees r.items ≡ generated_heap (a_data tuples.now)) }
 {

@@ -16,7 +16,7 @@ use idx_core::{Op, OutOfMemory, Span};
 use std::alloc::Global;
 use t_terms::{Base, Instr};
 
-/// The instructions of a declaration.
+/// The instructions of a declaration. An error is want of memory.
 pub fn emit_declaration(
     alloc: Global,
     code: &mut Vec<(Instr, Span)>,

@@ -19,7 +19,7 @@ use std::alloc::Global;
 use t_terms::{Base, Block, Instr, Value};
 use t_types::TType;
 
-/// The type names in scope, as arguments.
+/// The type names in scope, as arguments. An error is want of memory.
 pub fn names_in_scope(alloc: Global, names: u64) -> Result<Vec<TType>, OutOfMemory>
     ensures { IfOk result (λ r. type_trees r.items ≡ tvars names) }
 {
@@ -32,7 +32,7 @@ pub fn names_in_scope(alloc: Global, names: u64) -> Result<Vec<TType>, OutOfMemo
     Ok(types)
 }
 
-/// The registers of the variables, from 1 on, with their types.
+/// The registers of the variables, from 1 on, with their types. An error is want of memory.
 pub fn header(alloc: Global, vars: &[Entry], names: u64) -> Result<Vec<(u64, TType)>, OutOfMemory>
     ensures { IfOk result (λ r. file_tree r.items ≡ file (scope names vars.now)) }
 {
@@ -47,7 +47,8 @@ pub fn header(alloc: Global, vars: &[Entry], names: u64) -> Result<Vec<(u64, TTy
     Ok(regs)
 }
 
-/// The instructions of an `if0` up to its second part; the block of its third part is reserved at the end.
+/// The instructions of an `if0` up to its second part; the block of its third part is reserved at the end. An error is
+/// want of memory.
 pub fn emit_if0(
     alloc: Global,
     out: &mut Vec<Block>,

@@ -9,7 +9,7 @@ use idx_core::OutOfMemory;
 use std::alloc::Global;
 use t_types::{RegFile, TType};
 
-/// The type of the assembly language.
+/// The assembly type that a type of the allocated calculus becomes, part by part. An error is want of memory.
 #[cycle(writing)]
 pub fn written(alloc: Global, t: &AType) -> Result<TType, OutOfMemory>
     ensures { IfOk result (λ r. tree r ≡ ty (atree t.now)) }
@@ -35,7 +35,7 @@ pub fn written(alloc: Global, t: &AType) -> Result<TType, OutOfMemory>
     }
 }
 
-/// The arguments' types, in the registers from 1 on.
+/// The assembly types of a code's arguments, in the registers from 1 on. An error is want of memory.
 #[cycle(writing)]
 pub fn written_args(alloc: Global, ts: &[AType]) -> Result<Vec<(u64, TType)>, OutOfMemory>
     ensures { IfOk result (λ r. file r.items ≡ ty_args (atrees ts.now) 1) }
@@ -62,7 +62,7 @@ fn written_fields(alloc: Global, ts: &[(AType, bool)]) -> Result<Vec<(TType, boo
     Ok(made)
 }
 
-/// The types of the assembly language, behind others.
+/// The assembly types that types become, behind others. An error is want of memory.
 pub fn written_onto(
     alloc: Global,
     before: Vec<TType>,
@@ -78,7 +78,7 @@ pub fn written_onto(
     Ok(made)
 }
 
-/// The types of the assembly language.
+/// The assembly types that types become. An error is want of memory.
 pub fn written_all(alloc: Global, ts: &[AType]) -> Result<Vec<TType>, OutOfMemory>
     ensures { IfOk result (λ r. type_trees r.items ≡ tys (atrees ts.now)) }
 {

@@ -26,7 +26,7 @@ pub fn after(n: u64) -> Result<u64, OutOfMemory>
 }
 
 // The instruction for a base.
-pub fn emit_base(
+pub(crate) fn emit_base(
     alloc: Global,
     code: &mut Vec<(Instr, Span)>,
     depth: u64,
@@ -58,7 +58,7 @@ pub fn emit_base(
 }
 
 // The instruction for a value made of the one that is in the register.
-pub fn emit_wrap(
+pub(crate) fn emit_wrap(
     alloc: Global,
     code: &mut Vec<(Instr, Span)>,
     target: u64,
@@ -89,7 +89,7 @@ pub fn emit_wrap(
     }
 }
 
-/// The instructions that put a value into register `target`.
+/// The instructions that put a value into register `target`. An error is want of memory.
 pub fn emit_value(
     alloc: Global,
     code: &mut Vec<(Instr, Span)>,
@@ -106,7 +106,7 @@ pub fn emit_value(
     Ok(())
 }
 
-/// A value in the next register, and an instruction.
+/// A value in the next register, and an instruction. An error is want of memory.
 pub fn emit_one(
     alloc: Global,
     code: &mut Vec<(Instr, Span)>,
@@ -123,7 +123,7 @@ pub fn emit_one(
     Ok(())
 }
 
-/// Two values in the next registers, and an instruction.
+/// Two values in the next registers, and an instruction. An error is want of memory.
 pub fn emit_two(
     alloc: Global,
     code: &mut Vec<(Instr, Span)>,

@@ -4,7 +4,7 @@ use Rattle.std.specs.List.{All}
 use Rattle.t_types.specs.Tree.{Ty, Below, TFile, TFields}
 use Rattle.t_intern.specs.Nodes.{at, regs_at, fields_at, RegsBelow, FieldsBelow}
 
--- the old list is a prefix of the new one
+-- the new list goes on from the old one
 abbrev pub Grown : List Ty → List Ty → Type 0
 Grown ts us = (more : List Ty) × (us ≡ ts ++ more)
 

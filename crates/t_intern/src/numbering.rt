@@ -12,7 +12,7 @@ use idx_core::OutOfMemory;
 use t_types::TType;
 
 impl Types {
-    /// The numbers of types.
+    /// The numbers of types. An error is want of memory.
     pub fn number_all(&mut self, ts: &[TType]) -> Result<Vec<u64>, OutOfMemory>
         ensures grown { Grown self.old self.new }
         ensures numbers { IfOk result (λ v. AreNumbers self.new (types ts.now) v.items) }
@@ -25,7 +25,7 @@ impl Types {
         Ok(made)
     }
 
-    /// The number of code that owes `owes` types and has these registers.
+    /// The number of code that owes `owes` types and has these registers. An error is want of memory.
     pub fn number_code(&mut self, owes: u64, regs: &[(u64, TType)]) -> Result<u64, OutOfMemory>
         ensures grown { Grown self.old self.new }
         ensures number { IfOk result (IsNumber self.new (CodeTy owes (file regs.now))) }
@@ -34,7 +34,8 @@ impl Types {
         self.interned(Shape::Code { owes, regs })
     }
 
-    /// The number of a type. New types go last, parts before wholes, from left to right.
+    /// The number of a type. A new type comes after all others and after its own parts, which are numbered from the
+    /// left. An error is want of memory.
     #[cycle(numbers)]
     pub fn number(&mut self, t: &TType) -> Result<u64, OutOfMemory>
         ensures grown { Grown self.old self.new }

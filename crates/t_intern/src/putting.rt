@@ -15,7 +15,7 @@ use crate::types::Types;
 use idx_core::OutOfMemory;
 
 impl Types {
-    /// The number of a type into which another one is put.
+    /// The number of a type into which another one is put. An error is want of memory.
     pub fn put(&mut self, n: u64, place: u64, what: u64) -> Result<u64, OutOfMemory>
         requires there { n < length self.old }
         requires what { what < length self.old }
@@ -26,7 +26,8 @@ impl Types {
         self.put_all(n, place, &[what], place)
     }
 
-    /// The number of a type into which several types are put in one walk, the last for the variable `depth`.
+    /// The number of a type into which several types are put in one walk, the last for the variable `depth`. An error
+    /// is want of memory.
     pub fn put_all(
         &mut self,
         n: u64,
@@ -46,7 +47,8 @@ impl Types {
         self.put_in(&mut memo, n, base, args, depth)
     }
 
-    /// The registers of a file by number, with several types put into the type of each in one walk.
+    /// The registers of a file by number, with several types put into the type of each in one walk. An error is want of
+    /// memory.
     pub fn put_file(
         &mut self,
         regs: &[(u64, u64)],

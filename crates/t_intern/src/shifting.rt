@@ -13,7 +13,8 @@ use crate::types::Types;
 use idx_core::OutOfMemory;
 
 impl Types {
-    /// The number of a type that is shifted by `by` at `cut`. It is remembered, so that the type is walked once.
+    /// The number of a type that is shifted by `by` at `cut`. It is remembered, so that the type is walked once. An
+    /// error is want of memory.
     pub fn shift(&mut self, n: u64, by: u64, cut: u64) -> Result<u64, OutOfMemory>
         requires there { n < length self.old }
         requires fits { ShiftFits by cut (at self.old n) }

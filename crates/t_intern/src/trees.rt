@@ -9,7 +9,7 @@ use idx_core::OutOfMemory;
 use t_types::{RegFile, TType};
 
 impl Types {
-    /// The type of a number, as a tree.
+    /// The type of a number, as a tree. An error is want of memory.
     #[cycle(trees)]
     pub fn tree(&self, n: u64) -> Result<TType, OutOfMemory>
         requires { n < length self.now }

@@ -55,8 +55,8 @@ fn keep_first<'a>(
     Ok(())
 }
 
-/// The labels of items, each of which names the first item that has it. Blocks and data are numbered apart, each in the
-/// order of the text.
+/// The labels of items, each of which names the first item that has it. The blocks count from 0 in text order, and so
+/// do the data.
 pub fn labels_in<'a>(alloc: Global, text: &'a [u8], items: &[RawItem]) -> Result<Labels<'a>, TFault>
     ensures { MatchResult result
         (λ l. NameTheSame l (labels_of text.now (raw_items items.now)))

@@ -29,7 +29,7 @@ pub data TEnd : Type 0 where
   Jmp : (v : TValue) → TEnd
   Halt : TEnd
 
--- an instruction sequence; an unpack binds one type variable in the rest
+-- an instruction sequence; what follows an unpack is under one more type variable
 pub data TSeq : Type 0 where
   Then : (i : TInstr) (rest : TSeq) → TSeq
   Ends : (e : TEnd) → TSeq

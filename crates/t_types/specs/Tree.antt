@@ -55,7 +55,7 @@ abbrev mutual
   each_fields V B d NoFields = Unit {0}
   each_fields V B d (MoreFields t flag fields) = each V B d t × each_fields V B d fields
 
--- k added to each free index that is at least c
+-- free indices from c on grow by k
 abbrev pub shift : ℕ → ℕ → Ty → Ty
 shift k c = over (shifted VarTy k) c
 

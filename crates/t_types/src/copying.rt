@@ -6,7 +6,7 @@ use crate::types::{RegFile, TType};
 use idx_core::OutOfMemory;
 use std::alloc::Global;
 
-/// The same type again.
+/// The same type again. An error is want of memory.
 #[cycle(copies)]
 pub fn copy(alloc: Global, t: &TType) -> Result<TType, OutOfMemory>
     ensures { IfOk result (λ r. tree r ≡ tree t.now) }
@@ -56,7 +56,7 @@ fn copy_flagged(alloc: Global, fs: &[(TType, bool)]) -> Result<Vec<(TType, bool)
     Ok(made)
 }
 
-/// The same register file again.
+/// The same register file again. An error is want of memory.
 pub fn copy_file(alloc: Global, regs: &RegFile) -> Result<RegFile, OutOfMemory>
     ensures { IfOk result (λ r. file r.regs.items ≡ file regs.now.regs.items) }
 {

@@ -6,8 +6,8 @@ ghost use Rattle.t_types.specs.Read.{tree, file, fields};
 use crate::equality::eq;
 use crate::types::{RegFile, TType};
 
-/// Whether `a` fits `b`: equal types do, and a tuple type fits one with equal field types whose flags are 1 only
-/// where its own are (own choice).
+/// Whether `a` fits `b`: equal types do, and so do two tuple types with the same field types where `a` has flag 1
+/// wherever `b` has it (own choice).
 pub fn fits(a: &TType, b: &TType) -> bool
     ensures { IsTrue result ↔ Fits (tree a.now) (tree b.now) }
 {

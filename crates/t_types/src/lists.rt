@@ -53,7 +53,7 @@ impl Scoped for RegFile {
     ghost below_is = { file_is_below };
 }
 
-/// Each type of a list shifted.
+/// Each type of a list shifted. An error is want of memory.
 pub fn shift_types(
     alloc: Global,
     ts: &[TType],
@@ -71,7 +71,8 @@ pub fn shift_types(
     Ok(made)
 }
 
-/// `what` put into each type of a list for the variable that was `at` at the root, where the walk stands at `depth`.
+/// `what` put into each type of a list for the variable that was `at` at the root, where the walk stands at `depth`. An
+/// error is want of memory.
 pub fn put_types(
     alloc: Global,
     ts: &[TType],

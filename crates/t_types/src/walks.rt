@@ -78,7 +78,8 @@ fn shift_flagged(
     Ok(made)
 }
 
-/// Puts `what` for the variable that was `at` at the root, where the walk stands at `depth`.
+/// Puts `what` for the variable that was `at` at the root, where the walk stands at `depth`. An error is want of
+/// memory.
 #[cycle(put)]
 pub fn put_type(
     alloc: Global,
@@ -120,8 +121,8 @@ pub fn put_type(
     }
 }
 
-/// Puts `what` into each type of a list of registers for the variable that was `at` at the root, where the walk
-/// stands at `depth`.
+/// Puts `what` into each type of a list of registers for the variable that was `at` at the root, where the walk stands
+/// at `depth`. An error is want of memory.
 #[cycle(put)]
 pub fn put_regs(
     alloc: Global,

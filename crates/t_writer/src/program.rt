@@ -11,9 +11,9 @@ use idx_core::OutOfMemory;
 use std::alloc::Global;
 use t_terms::{TProgram, keeps_by_nesting};
 
-/// A text in the first version of the language that stands for a program without data, places aside. It begins with
-/// `tal 1` and a line end. Where the program's nesting keeps the limit on open constructs, the text does, and so it
-/// reads as the program.
+/// A text in the first version of the language that stands for a program without data, places aside. Its first line is
+/// `tal 1`. Where the program's nesting keeps the limit on open constructs, the text does, and so it reads as the
+/// program. Answers want of memory alone.
 pub fn write(alloc: Global, program: &TProgram) -> Result<Vec<u8>, OutOfMemory>
     requires no_data { program.now.heap.items ≡ [] }
     ensures stands { IfOk result (λ text. StandsFor text.items (program_of program.now)) }
@@ -27,9 +27,9 @@ pub fn write(alloc: Global, program: &TProgram) -> Result<Vec<u8>, OutOfMemory>
     Ok(text)
 }
 
-/// A text in the second version of the language that stands for a program, places aside. It begins with `tal 2` and a
-/// line end, and the data come before the blocks. Where the program's nesting keeps the limit on open constructs, the
-/// text does, and so it reads as the program.
+/// A text in the second version of the language that stands for a program, places aside. Its first line is `tal 2`, and
+/// the data come before the blocks. Where the program's nesting keeps the limit on open constructs, the text does, and
+/// so it reads as the program. Answers want of memory alone.
 pub fn write2(alloc: Global, program: &TProgram) -> Result<Vec<u8>, OutOfMemory>
     ensures stands { IfOk result (λ text. StandsFor text.items (program_of program.now)) }
     ensures header { IfOk result (λ text. HasSecondHeader text.items) }

@@ -8,11 +8,11 @@ use Rattle.t_writer.specs.Written.{HasSecondHeader}
 use Rattle.pipeline.specs.Compilation.{IsCompilation}
 use Rattle.talc_core.specs.FirstFault.{IsChecked}
 
--- The source text is a text of a program. The target text begins with the words of the second version of the
--- language, and stands for an assembly program within the limit on open constructs. The typing rules accept that one,
--- and it means the same: it halts with an integer exactly where the source evaluates to it, in no fewer instructions
--- than turns. It is a translation of the source by the passes in turn, and where the source evaluates within n turns no
--- place of it is executed more than n + 1 times.
+-- The source text is a text of a program. The target text begins with the words of the second version of the language,
+-- and stands for an assembly program within the limit on open constructs. The typing rules accept that one, and it
+-- means the same: it halts with an integer exactly where the source evaluates to it, in no fewer instructions than
+-- turns. It is a translation of the source by the passes in turn, and each place of it is executed at most n + 1 times,
+-- where n turns are enough for the source.
 pub record IsCompiled (source target : List ℕ) : Type 0 where
   pub term : Tm
   pub program : TProg

@@ -89,9 +89,8 @@ ShowsRun fuel other text line = ⊥
 abbrev pub seed_turns : ℕ
 seed_turns = 1000000
 
--- The source of the seed is a text of a program, which evaluates to an integer. It is compiled to a text that stands
--- for an accepted program, which halts with the same integer. The lines say so, with the number of bytes and that of
--- turns.
+-- The source of the seed is a text of a program, which evaluates to an integer. It is compiled to a text of an accepted
+-- program, which halts with the same integer. The lines say so, with the number of bytes and that of turns.
 pub record SeedShown (seed : ℕ) (lines : List ℕ) : Type 0 where
   pub term : Tm
   pub value : ℤ

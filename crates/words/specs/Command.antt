@@ -56,7 +56,7 @@ abbrev pub where_none : Kinds → Option Asked → Option Asked
 where_none [] asked = asked
 where_none (kind ∷ kinds) asked = None
 
--- The words are a command where `clap`'s rules for a simple command find no error in them by the description, and they
--- ask for what the subcommand with its values says. The first word is the program's name.
+-- The words are a command where they break no rule of `clap` by the description; then the subcommand and its values say
+-- what is asked. The first word is the program's name.
 unfoldable pub command_of : List Text → Option Asked
 command_of words = where_none (fault_of talc_app words) (asked_of (subcommand_of talc_app words))

@@ -25,7 +25,7 @@ fn a_nested_type_is_put_into_a_nested_type(rt: HostRuntime) -> Result<(), Fail> 
     Ok(())
 }
 
-// As a tree the type of r1 has more than ten thousand million parts.
+// The type of r1, written out, would have ten thousand million parts and more.
 #[test]
 fn a_wide_type_is_put_into_a_wide_type(rt: HostRuntime) -> Result<(), Fail> {
     let alloc = rt.alloc();

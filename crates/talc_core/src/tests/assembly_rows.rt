@@ -66,7 +66,7 @@ fn accepted_texts(rt: HostRuntime) -> Result<(), Fail> {
     )
 }
 
-// As a tree the type of r1 has more than ten thousand million parts.
+// The type of r1, written out, would have ten thousand million parts and more.
 #[test]
 fn a_wide_type_in_a_wide_type_is_accepted(rt: HostRuntime) -> Result<(), Fail> {
     let text = &[

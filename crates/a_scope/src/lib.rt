@@ -1,11 +1,11 @@
 //! The variables in scope of allocated terms, and the types of values.
 #![tactic(auto)]
 
-pub mod declaring;
-pub mod field;
-pub mod scope;
-pub mod sharing;
-pub mod value;
+mod declaring;
+mod field;
+mod scope;
+mod sharing;
+mod value;
 
 pub use declaring::declare;
 pub use scope::{Entry, less, noted_now, show};

@@ -2,14 +2,14 @@
 //! as flat lists of nodes.
 #![tactic(auto)]
 
-pub mod access;
-pub mod below;
+mod access;
+mod below;
 pub mod laws;
-pub mod nodes;
+mod nodes;
 pub mod parts;
-pub mod program;
+mod program;
 pub mod sizes;
-pub mod types;
+mod types;
 pub mod walks;
 
 pub use nodes::{ABase, ABlock, AData, AForm, ANode, AValue, AWrap};

@@ -2,7 +2,7 @@
 #![tactic(auto)]
 
 pub mod emit;
-pub mod parts;
+mod parts;
 mod put;
 mod state;
 

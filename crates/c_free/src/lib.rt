@@ -3,8 +3,8 @@
 
 pub mod close_type;
 pub mod copy_type;
-pub mod names;
-pub mod state;
+mod names;
+mod state;
 pub mod sweep;
 pub mod tsweep;
 pub mod type_levels;

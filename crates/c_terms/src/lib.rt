@@ -1,11 +1,11 @@
 //! The closed calculus: its types, its terms as flat streams of nodes, and its programs.
 #![tactic(auto)]
 
-pub mod access;
+mod access;
 pub mod laws;
-pub mod node;
-pub mod program;
-pub mod types;
+mod node;
+mod program;
+mod types;
 mod walks;
 
 pub use node::CNode;

@@ -3,7 +3,7 @@
 
 pub mod laws;
 pub mod levels;
-pub mod sums;
+mod sums;
 
 pub use levels::Levels;
 pub use sums::sum;

@@ -4,7 +4,4 @@
 
 mod lexeme;
 
-pub use lexeme::{
-    Digits, Found, Lexeme, is_digit, is_letter, is_of_word, line_end, next_lexeme, read_digits,
-    word_end,
-};
+pub use lexeme::{Digits, Found, Lexeme, next_lexeme, read_digits};

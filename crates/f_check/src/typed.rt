@@ -91,6 +91,7 @@ impl Program {
     {
         &self.term
     }
+
     /// The types that the term doesn't write, by the numbers of its nodes.
     pub fn types(&self) -> &[FType]
         ensures { result.now ≡ program_types self.now }

@@ -96,9 +96,8 @@ pub fn part_type(
     ensures { MatchResult result (λ f. ReadsType LU tokens.now depth at f)
         (λ e. Fails tokens.now depth at (Nt LU ∷ []) [] e) }
 {
-    let token = match peek(tokens, at) {
-        Some(token) => token,
-        None => return Err(Stopped::Unexpected(at)),
+    let Some(token) = peek(tokens, at) else {
+        return Err(Stopped::Unexpected(at));
     };
     match token.kind {
         Kind::Int => Ok(FoundType {

@@ -9,7 +9,7 @@ ghost use Rattle.f_grammar.specs.declared.cursor.Wanted.TheVariants as want;
 ghost use Rattle.f_reader.specs.Reads.{argument_next, sign_next, IsFieldNumber, ReadsHead, ReadsGenHead};
 
 use crate::frame::Head;
-use f_grammar::{Stopped, Wanted, expect, opened, parameter, peek, take, whole_type};
+use f_grammar::{Stopped, Wanted, expect, opened, parameter, peek, whole_type};
 use f_lexer::{Kind, Token};
 use idx_core::Op;
 use std::alloc::Global;
@@ -61,10 +61,10 @@ pub(crate) fn field_number(tokens: &[Token], at: usize) -> Result<u64, Stopped>
     ensures { MatchResult result (λ n. IsFieldNumber tokens.now at n)
         (λ e. (e ≡ stopped.Unexpected at) × (next_of table want.Number (slice_get tokens.now at) ≡ None)) }
 {
-    match expect(tokens, at, Wanted::Number)?.kind {
+    let token = expect(tokens, at, Wanted::Number)?;
+    match token.kind {
         Kind::Plain(value) => Ok(value.unsigned_abs()),
-        // does not come: what was expected is a plain number, which is never negative
-        _ => Err(Stopped::Unexpected(at)),
+        _ => unreachable!(),
     }
 }
 

@@ -1,6 +1,7 @@
 //! The program that an assembly text stands for, or the first fault of the text.
 #![tactic(auto)]
 
+mod faults;
 mod labels;
 mod reader;
 mod resolve;

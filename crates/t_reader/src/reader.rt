@@ -13,6 +13,7 @@ ghost use Rattle.t_shapes.specs.Raw.{raw_block, raw_data, raw_items};
 ghost use Rattle.t_reader.specs.Labelled.{target_base, same_base};
 ghost use Rattle.t_reader.specs.Resolve.{StopsAt, IsShape, IsShapeFault, place_at, stands_before, block_numbered_faults, data_numbered_faults};
 
+use crate::faults::refused;
 use crate::labels::{Labels, labels_in};
 use crate::resolve::{block_in, data_in};
 use crate::scope::spelling;
@@ -55,14 +56,8 @@ fn shape(alloc: Global, text: &[u8]) -> Result<Vec<RawItem>, TFault>
     match program(alloc, &tokens) {
         Ok(items) => Ok(items),
         Err(Stopped::Memory) => Err(TFault::Memory),
-        Err(Stopped::Unexpected(at)) => Err(TFault::Refused {
-            code: TCode::T03,
-            span: place(text, &tokens, at),
-        }),
-        Err(Stopped::TooDeep(at)) => Err(TFault::Refused {
-            code: TCode::M1,
-            span: place(text, &tokens, at),
-        }),
+        Err(Stopped::Unexpected(at)) => Err(refused(TCode::T03, place(text, &tokens, at))),
+        Err(Stopped::TooDeep(at)) => Err(refused(TCode::M1, place(text, &tokens, at))),
     }
 }
 
@@ -102,10 +97,7 @@ fn numbered_block(
 {
     let target = Target::Block(number as u64);
     if stood_before(labels, spelling(text, block.name), target) {
-        return Err(TFault::Refused {
-            code: TCode::T04,
-            span: block.name,
-        });
+        return Err(refused(TCode::T04, block.name));
     }
     block_in(alloc, text, labels, block)
 }
@@ -141,10 +133,7 @@ fn numbered_data(
 {
     let target = Target::Data(number as u64);
     if stood_before(labels, spelling(text, tuple.name), target) {
-        return Err(TFault::Refused {
-            code: TCode::T04,
-            span: tuple.name,
-        });
+        return Err(refused(TCode::T04, tuple.name));
     }
     data_in(alloc, text, labels, tuple)
 }

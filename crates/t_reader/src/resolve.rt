@@ -10,6 +10,7 @@ ghost use Rattle.t_reader.specs.Labelled.{target_base};
 ghost use Rattle.t_reader.specs.Resolve.{StopsAt};
 ghost use Rattle.t_terms.specs.declared.fault.TFault.TheVariants as fault;
 
+use crate::faults::refused;
 use crate::labels::Labels;
 use crate::scope::{Scope, bind_all, spelling};
 use crate::target::Target;
@@ -42,10 +43,7 @@ fn base_in(text: &[u8], labels: &Labels<'_>, base: &RawBase) -> Result<Base, TFa
         RawBase::Num(value) => Ok(Base::Int(*value)),
         RawBase::Label(span) => match labels.find(spelling(text, *span)) {
             Some(target) => Ok(named(target)),
-            None => Err(TFault::Refused {
-                code: TCode::T05,
-                span: *span,
-            }),
+            None => Err(refused(TCode::T05, *span)),
         },
     }
 }
@@ -121,11 +119,7 @@ pub fn instr_in<'a>(
             let v = value_in(alloc, text, labels, v, scope)?;
             Ok(Instr::Bnz { r: *r, v })
         }
-        RawInstr::Ld(rd, rs, field) => Ok(Instr::Ld {
-            rd: *rd,
-            rs: *rs,
-            field: *field,
-        }),
+        &RawInstr::Ld(rd, rs, field) => Ok(Instr::Ld { rd, rs, field }),
         RawInstr::Malloc(rd, types) => {
             let types = types_in(alloc, text, types, scope)?;
             Ok(Instr::Malloc { rd: *rd, types })
@@ -134,11 +128,7 @@ pub fn instr_in<'a>(
             let v = value_in(alloc, text, labels, v, scope)?;
             Ok(Instr::Mov { rd: *rd, v })
         }
-        RawInstr::St(rd, field, rs) => Ok(Instr::St {
-            rd: *rd,
-            field: *field,
-            rs: *rs,
-        }),
+        &RawInstr::St(rd, field, rs) => Ok(Instr::St { rd, field, rs }),
         RawInstr::Unpack(name, rd, v) => {
             let v = value_in(alloc, text, labels, v, scope)?;
             scope.push(spelling(text, *name))?;

@@ -1,6 +1,7 @@
 // The names of types.
 ghost use Rattle.std.specs.Prelude.{◌≡◌, ◌≤◌, List, [], map, length, MatchResult};
 ghost use Rattle.t_types.specs.Tree.{ExistsTy};
+ghost use Rattle.t_types.specs.declared.types.TType.TheVariants as ttype;
 ghost use Rattle.t_types.specs.Read.{tree, types, file};
 ghost use Rattle.t_terms.specs.Raw.{raw_regs, raw_fields};
 ghost use Rattle.t_terms.specs.Names.{type_of, types_of, file_of};
@@ -9,6 +10,7 @@ ghost use Rattle.t_grammar.specs.Raw.{raw, raw_reg};
 ghost use Rattle.t_reader.specs.Resolve.{StopsAt, has};
 ghost use Rattle.t_terms.specs.declared.fault.TFault.TheVariants as fault;
 
+use crate::faults::refused;
 use crate::scope::{Scope, bind_all, release, spelling};
 use idx_core::Span;
 use std::alloc::Global;
@@ -16,6 +18,15 @@ use std::collections::BTreeMap;
 use t_grammar::RawType;
 use t_terms::{TCode, TFault};
 use t_types::{RegFile, TType};
+
+fn code(owes: usize, regs: Vec<(u64, TType)>) -> TType
+    ensures { result ≡ ttype.Code owes (record { regs = regs }) }
+{
+    TType::Code {
+        owes: owes as u64,
+        regs: RegFile { regs },
+    }
+}
 
 fn exists(alloc: Global, body: TType) -> Result<TType, TFault>
     ensures { MatchResult result (λ t. tree t ≡ ExistsTy (tree body)) (λ e. e ≡ fault.Memory) }
@@ -60,10 +71,7 @@ pub fn type_in<'a>(
         RawType::Int => Ok(TType::Int),
         RawType::Name(span) => match scope.find(spelling(text, *span)) {
             Some(place) => Ok(TType::Var(place)),
-            None => Err(TFault::Refused {
-                code: TCode::T06,
-                span: *span,
-            }),
+            None => Err(refused(TCode::T06, *span)),
         },
         RawType::Code(names, file) => {
             let names = names.as_slice();
@@ -71,10 +79,7 @@ pub fn type_in<'a>(
             bind_all(text, names, scope)?;
             let regs = file_in(alloc, text, &file.regs, scope)?;
             release(count, scope);
-            Ok(TType::Code {
-                owes: count as u64,
-                regs: RegFile { regs },
-            })
+            Ok(code(count, regs))
         }
         RawType::Some(name, body) => {
             scope.push(spelling(text, *name))?;
@@ -111,10 +116,7 @@ pub fn file_in<'a>(
     let mut made = BTreeMap::new(alloc);
     for reg in regs {
         if has_reg(&made, reg.0) {
-            return Err(TFault::Refused {
-                code: TCode::T07,
-                span: reg.1,
-            });
+            return Err(refused(TCode::T07, reg.1));
         }
         let ty = type_in(alloc, text, &reg.2, scope)?;
         made.insert(reg.0, ty)?;

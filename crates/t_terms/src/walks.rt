@@ -57,11 +57,7 @@ pub(crate) fn shift_instr(alloc: Global, i: &Instr, by: u64, cut: u64) -> Result
             let v = shift_value(alloc, v, by, cut)?;
             Ok(Instr::Bnz { r: *r, v })
         }
-        Instr::Ld { rd, rs, field } => Ok(Instr::Ld {
-            rd: *rd,
-            rs: *rs,
-            field: *field,
-        }),
+        &Instr::Ld { rd, rs, field } => Ok(Instr::Ld { rd, rs, field }),
         Instr::Malloc { rd, types } => {
             let types = shift_types(alloc, types, by, cut)?;
             Ok(Instr::Malloc { rd: *rd, types })
@@ -70,11 +66,7 @@ pub(crate) fn shift_instr(alloc: Global, i: &Instr, by: u64, cut: u64) -> Result
             let v = shift_value(alloc, v, by, cut)?;
             Ok(Instr::Mov { rd: *rd, v })
         }
-        Instr::St { rd, field, rs } => Ok(Instr::St {
-            rd: *rd,
-            field: *field,
-            rs: *rs,
-        }),
+        &Instr::St { rd, field, rs } => Ok(Instr::St { rd, field, rs }),
         Instr::Unpack { rd, v } => {
             let v = shift_value(alloc, v, by, cut)?;
             Ok(Instr::Unpack { rd: *rd, v })
@@ -154,11 +146,7 @@ pub(crate) fn put_instr(
             let v = put_value(alloc, v, at, depth, what)?;
             Ok(Instr::Bnz { r: *r, v })
         }
-        Instr::Ld { rd, rs, field } => Ok(Instr::Ld {
-            rd: *rd,
-            rs: *rs,
-            field: *field,
-        }),
+        &Instr::Ld { rd, rs, field } => Ok(Instr::Ld { rd, rs, field }),
         Instr::Malloc { rd, types } => {
             let types = put_types(alloc, types, at, depth, what)?;
             Ok(Instr::Malloc { rd: *rd, types })
@@ -167,11 +155,7 @@ pub(crate) fn put_instr(
             let v = put_value(alloc, v, at, depth, what)?;
             Ok(Instr::Mov { rd: *rd, v })
         }
-        Instr::St { rd, field, rs } => Ok(Instr::St {
-            rd: *rd,
-            field: *field,
-            rs: *rs,
-        }),
+        &Instr::St { rd, field, rs } => Ok(Instr::St { rd, field, rs }),
         Instr::Unpack { rd, v } => {
             let v = put_value(alloc, v, at, depth, what)?;
             Ok(Instr::Unpack { rd: *rd, v })

@@ -9,12 +9,12 @@ use Rattle.f_grammar.specs.Read.{type_of}
 use Rattle.f_grammar.proofs.Typing.{type_Tuple, types_more, fails_after, fails_call, fails_expect, fails_deep, after_all, after_arrow, none_of, all_owed, arrow_owed, within, all_1, all_2, all_3, all_whole, left_1, left_2, left_whole, arrow_1, arrow_whole, word_whole, name_whole, tuple_1, tuple_whole, paren_1, paren_2, paren_whole, no_unit, no_unit_end, none_whole, first_1, first_whole, comma_1, comma_whole, list_1, list_whole}
 use Rattle.f_grammar.proofs.types.+types.Goals as goal
 
-pub part_type-returns-in-None : goal.part_type-returns-in-None
-part_type-returns-in-None t c =
+pub part_type-returns-in_default : goal.part_type-returns-in_default
+part_type-returns-in_default t c =
     let ts = c.args.tokens.now in
     let d = c.args.depth in
     let i = c.args.at in
-    no_unit_end ts d i (sym c.peek.ensures ∙ c.in-None.is)
+    no_unit_end ts d i (sym c.peek.ensures ∙ c.in_default.is)
 
 pub part_type-returns-in_err-inner-in-LeftAngle : goal.part_type-returns-in_err-inner-in-LeftAngle
 part_type-returns-in_err-inner-in-LeftAngle t c =
@@ -126,13 +126,13 @@ part_type-returns-in_ok-expect-in-LeftParen t c =
     let f = c.in_ok-found-in-LeftParen.found in
     paren_whole ts d i c.in-Some.token _ _ f.next (type_of f.ty) e c.in-LeftParen.is q.1 q.0 c.in_ok-found-in-LeftParen.ensures c.in_ok-expect-in-LeftParen.ensures
 
-pub part_type-returns-in_default : goal.part_type-returns-in_default
-part_type-returns-in_default t c =
+pub part_type-returns-in_default-kind : goal.part_type-returns-in_default-kind
+part_type-returns-in_default-kind t c =
     let ts = c.args.tokens.now in
     let d = c.args.depth in
     let i = c.args.at in
     let e : slice_get ts i ≡ Some c.in-Some.token = sym c.peek.ensures ∙ c.in-Some.is in
-    no_unit ts d i c.in-Some.token e (none_of c.in-Some.token.kind c.in_default.not-Name c.in_default.not-LeftParen c.in_default.not-LeftAngle c.in_default.not-Int)
+    no_unit ts d i c.in-Some.token e (none_of c.in-Some.token.kind c.in_default-kind.not-Name c.in_default-kind.not-LeftParen c.in_default-kind.not-LeftAngle c.in_default-kind.not-Int)
 
 pub types-returns-in_err-first-in-None : goal.types-returns-in_err-first-in-None
 types-returns-in_err-first-in-None t c =

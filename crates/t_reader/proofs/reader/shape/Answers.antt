@@ -16,8 +16,8 @@ returns-in-Ok c =
 
 pub returns-in-Err-Unexpected : goal.returns-in-Err-Unexpected
 returns-in-Err-Unexpected c =
-    rw (c.place.ensures, c.deref-in-Err-Unexpected.ensures.value) (unexpected_fault c.args.text.now c.in_ok-tokens.tokens.items _ c.in_ok-tokens.ensures.right (rw (c.in-Err-Unexpected.field-0-is, c.deref.ensures.value) at c.in-Err-Unexpected.ensures))
+    rw (c.refused.ensures, c.place.ensures, c.deref-in-Err-Unexpected.ensures.value) (unexpected_fault c.args.text.now c.in_ok-tokens.tokens.items _ c.in_ok-tokens.ensures.right (rw (c.in-Err-Unexpected.field-0-is, c.deref.ensures.value) at c.in-Err-Unexpected.ensures))
 
 pub returns : goal.returns
 returns c =
-    rw (c.place-in-Err-TooDeep.ensures, c.deref-in-Err-TooDeep.ensures.value) (deep_fault c.args.text.now c.in_ok-tokens.tokens.items _ c.in_ok-tokens.ensures.right (rw (c.in-Err-TooDeep.field-0-is, c.deref.ensures.value) at c.in-Err-TooDeep.ensures))
+    rw (c.refused-in-Err-TooDeep.ensures, c.place-in-Err-TooDeep.ensures, c.deref-in-Err-TooDeep.ensures.value) (deep_fault c.args.text.now c.in_ok-tokens.tokens.items _ c.in_ok-tokens.ensures.right (rw (c.in-Err-TooDeep.field-0-is, c.deref.ensures.value) at c.in-Err-TooDeep.ensures))

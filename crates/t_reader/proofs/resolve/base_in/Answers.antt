@@ -16,7 +16,7 @@ returns-in-Num c =
 
 pub returns-in-None : goal.returns-in-None
 returns-in-None c =
-    label_stop c.args.text.now c.args.labels.now c.args.base.now c.in-Label.span c.in-Label.is (rw c.spelling.ensures at c.in-None.ensures)
+    rw c.refused.ensures (label_stop c.args.text.now c.args.labels.now c.args.base.now c.in-Label.span c.in-Label.is (rw c.spelling.ensures at c.in-None.ensures))
 
 pub returns-in-Some : goal.returns-in-Some
 returns-in-Some c =

@@ -16,7 +16,7 @@ type_in-returns-in-None t c =
     let text = c.args.text.now in
     let a = c.args.scope.now in
     let ty = c.args.ty.now in
-    name_stop text a ty c.in-Name.span c.in-Name.is (rw c.spelling.ensures at c.in-None.ensures)
+    rw c.refused.ensures (name_stop text a ty c.in-Name.span c.in-Name.is (rw c.spelling.ensures at c.in-None.ensures))
 
 pub type_in-returns-in-Some-find : goal.type_in-returns-in-Some-find
 type_in-returns-in-Some-find t c =
@@ -39,7 +39,7 @@ type_in-returns-in_ok-regs-in-Code t c =
     let a = c.args.scope.now in
     let ty = c.args.ty.now in
     let r = c.in_ok-regs-in-Code.ensures in
-    code_whole text a ty _ _ _ _ c.in-Code.is c.as_slice-names.ensures.value c.deref.ensures.value _ c.in_ok-bind_all-in-Code.ensures.bound _ _ c.in_ok-regs-in-Code.regs _ refl r.0 c.release.ensures r.1 r.2
+    rw c.code.ensures (code_whole text a ty _ _ _ _ c.in-Code.is c.as_slice-names.ensures.value c.deref.ensures.value _ c.in_ok-bind_all-in-Code.ensures.bound _ _ c.in_ok-regs-in-Code.regs _ refl r.0 c.release.ensures r.1 r.2)
 
 pub type_in-returns-in_err-inner-in-Some : goal.type_in-returns-in_err-inner-in-Some
 type_in-returns-in_err-inner-in-Some t c =
@@ -100,7 +100,7 @@ file_in-loop-reg-preserved t c =
 pub file_in-returns-then-has_reg : goal.file_in-returns-then-has_reg
 file_in-returns-then-has_reg t c =
     let l = c.loop-reg in
-    file_twice c.args.text.now c.args.scope.now c.args.regs.now l.reg-index _ l.made.entries c.reg-item.result c.loop-reg-test.true c.reg-item.is l.invariant (sym c.has_reg.ensures ∙ c.if-has_reg.true)
+    rw c.refused.ensures (file_twice c.args.text.now c.args.scope.now c.args.regs.now l.reg-index _ l.made.entries c.reg-item.result c.loop-reg-test.true c.reg-item.is l.invariant (sym c.has_reg.ensures ∙ c.if-has_reg.true))
 
 pub file_in-returns-in_err-ty : goal.file_in-returns-in_err-ty
 file_in-returns-in_err-ty t c =

@@ -15,7 +15,7 @@ ghost use Rattle.a_pass.specs.Emits.{Emits, Reads, inits};
 
 use crate::constants::{all_constants, applied_constant, constant_tuple, packed_constant};
 use crate::emit::{after, fill, malloc};
-use crate::scope::{label, own, own_all, plain, variable};
+use crate::scope::{int_leaf, label, own, own_all, plain, variable_leaf};
 use crate::state::{ConstantOf, Leaf, Name, Seen, TypeOf};
 use crate::types::{a_type, a_types};
 use a_terms::parts::{apply_all, known, set_tuple};
@@ -257,21 +257,11 @@ pub(crate) fn part(
 {
     match part {
         HPart::Var(i) => {
-            let value = variable(alloc, names, *i);
-            let seen = Seen {
-                ty: TypeOf::Name(*i),
-                constant: ConstantOf::Name(*i),
-            };
-            push_leaf(Leaf { value, seen }, values, types)?;
+            push_leaf(variable_leaf(alloc, names, *i), values, types)?;
             Ok(depth)
         }
         HPart::Int(n) => {
-            let value = plain(alloc, ABase::Int(*n));
-            let seen = Seen {
-                ty: TypeOf::Own(AType::Int),
-                constant: ConstantOf::Own(plain(alloc, ABase::Int(*n))),
-            };
-            push_leaf(Leaf { value, seen }, values, types)?;
+            push_leaf(int_leaf(alloc, *n), values, types)?;
             Ok(depth)
         }
         HPart::Label(l) => {
@@ -279,10 +269,7 @@ pub(crate) fn part(
             push_leaf(leaf, values, types)?;
             Ok(depth)
         }
-        HPart::Tuple(n) => {
-            let depth = tuple(alloc, names, binders, *n, depth, values, types, tuples, out)?;
-            Ok(depth)
-        }
+        HPart::Tuple(n) => tuple(alloc, names, binders, *n, depth, values, types, tuples, out),
         HPart::Apply(ts) => {
             apply(alloc, names, binders, ts, values, types)?;
             Ok(depth)

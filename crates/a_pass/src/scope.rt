@@ -54,6 +54,34 @@ pub(crate) fn variable(alloc: Global, names: &[Name], i: u64) -> AValue
     }
 }
 
+// Name i as a value.
+pub(crate) fn variable_leaf(alloc: Global, names: &[Name], i: u64) -> Leaf
+    ensures value { (d : ℕ) → value_at d result.value ≡ var_of d (level_of (slice_get (knowns names.now) i)) }
+    ensures ty { (g : List a.ATy) → type_in g result.seen ≡ or_int (slice_get g i) }
+    ensures constant { (ls : List Known) → constant_in ls result.seen ≡ named (slice_get ls i) }
+{
+    let value = variable(alloc, names, i);
+    let seen = Seen {
+        ty: TypeOf::Name(i),
+        constant: ConstantOf::Name(i),
+    };
+    Leaf { value, seen }
+}
+
+// An integer as a value.
+pub(crate) fn int_leaf(alloc: Global, n: i64) -> Leaf
+    ensures value { (d : ℕ) → value_at d result.value ≡ a.Num n }
+    ensures ty { (g : List a.ATy) → type_in g result.seen ≡ a.AInt }
+    ensures constant { (ls : List Known) → constant_in ls result.seen ≡ Some (a.Num n) }
+{
+    let value = plain(alloc, ABase::Int(n));
+    let seen = Seen {
+        ty: TypeOf::Own(AType::Int),
+        constant: ConstantOf::Own(plain(alloc, ABase::Int(n))),
+    };
+    Leaf { value, seen }
+}
+
 pub(crate) fn label(alloc: Global, blocks: &[HBlock], l: u64) -> Result<Leaf, OutOfMemory>
     ensures value { IfOk result (λ r. (d : ℕ) → value_at d r.value ≡ a.Lab l) }
     ensures ty { IfOk result (λ r. (g : List a.ATy) → type_in g r.seen ≡ h_code (block_at (h_blocks blocks.now) l)) }

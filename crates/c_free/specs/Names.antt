@@ -10,8 +10,8 @@ use Rattle.c_terms.specs.Read.{ctree}
 use Rattle.c_terms.specs.declared.types.CType.{CType}
 use Rattle.c_walk.specs.Know as W
 use Rattle.c_free.specs.declared.names.Side.{Side}
-use Rattle.c_free.specs.declared.names.Names.{Names}
-use Rattle.c_free.specs.declared.names.Names.TheVariants as N
+use Rattle.c_free.specs.declared.names.Renaming.{Renaming}
+use Rattle.c_free.specs.declared.names.Renaming.TheVariants as R
 
 abbrev pub side : Side → W.Side
 side f = record { depth = f.depth; owes = f.owes; kept = f.kept.list.items; calling = f.calling }
@@ -20,11 +20,11 @@ abbrev pub plain : W.Side → ℕ → ℕ
 plain f i = under f.owes (λ j. W.above (level_of f.depth j) f.kept) i
 
 -- where each type variable stands
-abbrev pub renaming : Names → ℕ → ℕ
-renaming (N.Here s m) i = W.side_var (side s.now) (lift m i)
-renaming (N.Outside s m) i = W.outer_var (side s.now) (lift m i)
-renaming (N.Under' n p rest) i = under n (λ j. suc (renaming rest j)) i
-renaming (N.Within' p rest) i = under 1 (renaming rest) i
+abbrev pub renaming : Renaming → ℕ → ℕ
+renaming (R.Here s m) i = W.side_var (side s.now) (lift m i)
+renaming (R.Outside s m) i = W.outer_var (side s.now) (lift m i)
+renaming (R.Under' n p rest) i = under n (λ j. suc (renaming rest j)) i
+renaming (R.Within' p rest) i = under 1 (renaming rest) i
 
 -- types, before others
 abbrev pub joined : List CType → CTys → CTys

@@ -6,7 +6,7 @@ ghost use Rattle.c_terms.specs.Read.{ctree, ctys};
 ghost use Rattle.c_law.specs.Close as L;
 ghost use Rattle.c_free.specs.Names.{renaming, joined};
 
-use crate::names::Names;
+use crate::names::Renaming;
 use crate::vars::name;
 use c_terms::CType;
 use idx_core::OutOfMemory;
@@ -27,7 +27,7 @@ fn closure_type(alloc: Global, owes: u64, args: Vec<CType>) -> Result<CType, Out
 
 /// The type that a type becomes, its type variables where `names` says. An error is want of memory.
 #[cycle(close)]
-pub fn close_type(alloc: Global, t: &KType, names: &Names) -> Result<CType, OutOfMemory>
+pub fn close_type(alloc: Global, t: &KType, names: &Renaming) -> Result<CType, OutOfMemory>
     ensures { IfOk result (λ r. ctree r ≡ L.ctype (renaming names.now) (ktree t.now)) }
 {
     match t {
@@ -42,7 +42,7 @@ pub fn close_type(alloc: Global, t: &KType, names: &Names) -> Result<CType, OutO
             Ok(CType::Tuple(made))
         }
         KType::Code { owes, args } => {
-            let inner = Names::Under {
+            let inner = Renaming::Under {
                 owes: *owes,
                 around: &*names,
             };
@@ -53,7 +53,7 @@ pub fn close_type(alloc: Global, t: &KType, names: &Names) -> Result<CType, OutO
             Ok(t)
         }
         KType::Exists(t) => {
-            let inner = Names::Within { around: &*names };
+            let inner = Renaming::Within { around: &*names };
             let t = close_type(alloc, t, &inner)?;
             Ok(CType::Exists(Box::new(alloc, t)?))
         }
@@ -69,7 +69,7 @@ pub fn close_type(alloc: Global, t: &KType, names: &Names) -> Result<CType, OutO
 pub fn close_types(
     alloc: Global,
     ts: &[KType],
-    names: &Names,
+    names: &Renaming,
     made: Vec<CType>,
 ) -> Result<Vec<CType>, OutOfMemory>
     ensures { IfOk result (λ r. ctys r.items ≡ joined made.items (L.ctypes (renaming names.now) (ktys ts.now))) }

@@ -10,5 +10,5 @@ pub mod tsweep;
 pub mod type_levels;
 pub mod vars;
 
-pub use names::{Names, Side};
+pub use names::{Renaming, Side};
 pub use state::Found;

@@ -13,13 +13,13 @@ pub struct Side {
 
 /// Where the type variables of a type stand.
 #[derive(Clone, Copy)]
-pub enum Names<'a> {
+pub enum Renaming<'a> {
     /// In a code, where so many more are in scope.
     Here { side: &'a Side, raise: u64 },
     /// In a code, of a type outside it.
     Outside { side: &'a Side, raise: u64 },
     /// Under a code's own, within the package that its closure is.
-    Under { owes: u64, around: &'a Names<'a> },
+    Under { owes: u64, around: &'a Renaming<'a> },
     /// Under that of a package.
-    Within { around: &'a Names<'a> },
+    Within { around: &'a Renaming<'a> },
 }

@@ -4,7 +4,7 @@ ghost use Rattle.term_core.specs.Levels as S;
 ghost use Rattle.c_walk.specs.Know as W;
 ghost use Rattle.c_free.specs.Names.{side, renaming, plain};
 
-use crate::names::{Names, Side};
+use crate::names::{Renaming, Side};
 use c_walk::sum;
 use idx_core::OutOfMemory;
 
@@ -49,21 +49,21 @@ pub fn outer_var(f: &Side, j: u64) -> Result<u64, OutOfMemory>
 }
 
 /// Where a type variable of a type stands. An error is want of memory.
-pub fn name(names: &Names, i: u64) -> Result<u64, OutOfMemory>
+pub fn name(names: &Renaming, i: u64) -> Result<u64, OutOfMemory>
     ensures { IfOk result (λ r. r ≡ renaming names.now i) }
 {
     match names {
-        Names::Here { side, raise } => {
+        Renaming::Here { side, raise } => {
             let j = sum(*raise, i)?;
             let at = side_var(side, j)?;
             Ok(at)
         }
-        Names::Outside { side, raise } => {
+        Renaming::Outside { side, raise } => {
             let j = sum(*raise, i)?;
             let at = outer_var(side, j)?;
             Ok(at)
         }
-        Names::Under { owes, around } => {
+        Renaming::Under { owes, around } => {
             if i < *owes {
                 Ok(i)
             } else {
@@ -73,7 +73,7 @@ pub fn name(names: &Names, i: u64) -> Result<u64, OutOfMemory>
                 Ok(at)
             }
         }
-        Names::Within { around } => {
+        Renaming::Within { around } => {
             if i < 1 {
                 Ok(i)
             } else {

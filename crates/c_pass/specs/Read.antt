@@ -15,7 +15,7 @@ use Rattle.c_free.specs.declared.names.Side.{Side}
 use Rattle.c_free.specs.Names.{side}
 use Rattle.c_pass.specs.declared.state.Clue.{Clue}
 use Rattle.c_pass.specs.declared.state.Bound.{Bound}
-use Rattle.c_pass.specs.declared.state.Know.{Know}
+use Rattle.c_pass.specs.declared.state.Knowledge.{Knowledge}
 
 abbrev pub bound : Bound → W.Bound
 bound x = record { type = ktree x.ty; depth = x.depth }
@@ -57,7 +57,7 @@ var_of true f = W.outer_var f
 var_of false f = W.side_var f
 
 -- what is known in all, with the nodes that are left
-abbrev pub total : Know → List KNd → W.Known
+abbrev pub total : Knowledge → List KNd → W.Known
 total w ns =
     let k = W.know ns (bounds w.bounds.items) (side w.side) (sides w.outer.items) (clues_of w.clues.items) in
     record { infos = infos_onto w.infos.items k.infos; notes = notes_onto w.notes.items k.notes }
@@ -71,7 +71,7 @@ info_parts td owes args kept own xs f g =
     W.info_from td owes args (let c : W.Clue = record { kept = kept; own = own; types = [] } in c) xs f g
 
 -- what is known in all, where a code begins
-abbrev pub opened_total : Know → ℕ → ℕ → ℕ → KTys → W.Clue → List KNd → W.Known
+abbrev pub opened_total : Knowledge → ℕ → ℕ → ℕ → KTys → W.Clue → List KNd → W.Known
 opened_total w d td owes args c ns =
     let xs = bounds w.bounds.items in
     let f = side w.side in
@@ -83,7 +83,7 @@ opened_total w d td owes args c ns =
     record { infos = infos_onto w.infos.items k.infos; notes = notes_onto w.notes.items k.notes }
 
 -- and where a call does
-abbrev pub called_total : Know → KTys → List KNd → W.Known
+abbrev pub called_total : Knowledge → KTys → List KNd → W.Known
 called_total w ts ns =
     let f = W.side_with w.side.owes true (side w.side) in
     let k =

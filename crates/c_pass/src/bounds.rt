@@ -1,5 +1,5 @@
 // The types of variables, by their levels.
-ghost use Rattle.std.specs.Prelude.{◌≡◌, ◌++◌, take, OnOk};
+ghost use Rattle.std.specs.Prelude.{◌≡◌, ◌++◌, OnOk};
 ghost use Rattle.k_terms.specs.Read.{ktree, ktys};
 ghost use Rattle.c_walk.specs.Know as W;
 ghost use Rattle.c_pass.specs.Read.{bounds, levels_of};
@@ -36,20 +36,11 @@ pub fn bound_levels(xs: &[Bound], levels: &[u64], out: &mut Vec<u64>) -> Result<
     Ok(())
 }
 
-// The first ones.
-fn cut(xs: &mut Vec<Bound>, level: u64)
-    ensures { xs.new.items ≡ take level xs.old.items }
-{
-    if level < xs.len() as u64 {
-        xs.truncate(level as usize);
-    } else {}
-}
-
 /// Binds the variable of a level.
 pub fn bind(xs: &mut Vec<Bound>, level: u64, ty: KType, depth: u64) -> Result<(), OutOfMemory>
     ensures { OnOk result (bounds xs.new.items ≡ W.bind (bounds xs.old.items) level (ktree ty) depth) }
 {
-    cut(xs, level);
+    xs.truncate(level as usize);
     xs.push(Bound { ty, depth })?;
     Ok(())
 }

@@ -15,7 +15,7 @@ use crate::state::Bound;
 use crate::translate::{closed, types_at, variables};
 use c_emit::Info;
 use c_free::close_type::close_types;
-use c_free::{Names, Side};
+use c_free::{Renaming, Side};
 use c_terms::CType;
 use c_walk::levels::known;
 use c_walk::{Levels, sum};
@@ -68,7 +68,7 @@ fn arguments(alloc: Global, env: CType, args: &[KType], g: &Side) -> Result<Vec<
 {
     let mut made = Vec::new(alloc);
     made.push(env)?;
-    let made = close_types(alloc, args, &Names::Here { side: g, raise: 0 }, made)?;
+    let made = close_types(alloc, args, &Renaming::Here { side: g, raise: 0 }, made)?;
     Ok(made)
 }
 

@@ -12,12 +12,12 @@ ghost use Rattle.c_pass.specs.Read.{Binds, bounds, clue, clues_of, total, opened
 
 use crate::bounds::{bind, bind_all};
 use crate::info::{info_from, side_of};
-use crate::state::{Bound, Clue, Know};
+use crate::state::{Bound, Clue, Knowledge};
 use crate::translate::closed;
 use c_emit::Note;
 use c_free::close_type::close_types;
 use c_free::copy_type::{all_copied, copied};
-use c_free::{Names, Side};
+use c_free::{Renaming, Side};
 use c_terms::CType;
 use c_walk::{Levels, sum};
 use idx_core::OutOfMemory;
@@ -41,11 +41,11 @@ fn call_types(alloc: Global, f: &Side, types: &[KType]) -> Result<Vec<CType>, Ou
     ensures { IfOk result (λ r. ctys r.items ≡ L.ctypes (W.side_var (side f.now)) (ktys types.now)) }
 {
     let made = Vec::new(alloc);
-    let made = close_types(alloc, types, &Names::Here { side: f, raise: 0 }, made)?;
+    let made = close_types(alloc, types, &Renaming::Here { side: f, raise: 0 }, made)?;
     Ok(made)
 }
 
-impl Know {
+impl Knowledge {
     // A code begins.
     fn open(
         &mut self,
@@ -211,7 +211,7 @@ impl Know {
 }
 
 /// What is to be known of the codes, and of the calls and packages, in the order of the nodes.
-pub fn know(alloc: Global, nodes: &[KNode], clues: VecDeque<Clue>) -> Result<Know, OutOfMemory>
+pub fn know(alloc: Global, nodes: &[KNode], clues: VecDeque<Clue>) -> Result<Knowledge, OutOfMemory>
     ensures { IfOk result (λ r. total r [] ≡ W.know (map knode nodes.now) [] top_side [] (clues_of clues.items)) }
 {
     let side = Side {
@@ -220,7 +220,7 @@ pub fn know(alloc: Global, nodes: &[KNode], clues: VecDeque<Clue>) -> Result<Kno
         kept: Levels::none(alloc),
         calling: false,
     };
-    let mut walk = Know {
+    let mut walk = Knowledge {
         bounds: Vec::new(alloc),
         side,
         outer: VecDeque::new(alloc),

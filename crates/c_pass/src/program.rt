@@ -21,7 +21,7 @@ ghost use Rattle.c_emit.specs.Read.{frame, infos_of, notes_of};
 
 use crate::clues::join;
 use crate::know::know;
-use crate::state::Know;
+use crate::state::Knowledge;
 use c_emit::emit::emit;
 use c_emit::{Frame, Info, Note};
 use c_free::sweep::sweep;
@@ -61,7 +61,7 @@ fn known(alloc: Global, nodes: &[KNode]) -> Result<(VecDeque<Info>, VecDeque<Not
     let types = tsweep(alloc, nodes)?;
     let clues = join(alloc, found, types)?;
     let walk = know(alloc, nodes, clues)?;
-    let Know {
+    let Knowledge {
         bounds: _,
         side: _,
         outer: _,

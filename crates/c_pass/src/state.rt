@@ -24,7 +24,7 @@ pub struct Bound {
 /// The types of the variables by level, the type variables of the code where the walk stands and of those around it,
 /// what was found of the codes to come, and what is known so far.
 #[derive(Drop)]
-pub struct Know {
+pub struct Knowledge {
     pub bounds: Vec<Bound>,
     pub side: Side,
     pub outer: VecDeque<Side>,

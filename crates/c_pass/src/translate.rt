@@ -11,7 +11,7 @@ ghost use Rattle.c_pass.specs.Read.{bound, bounds, var_of};
 use crate::state::Bound;
 use c_free::close_type::close_type;
 use c_free::vars::{level_of, outer_var, side_var};
-use c_free::{Names, Side};
+use c_free::{Renaming, Side};
 use c_terms::CType;
 use idx_core::OutOfMemory;
 use k_terms::KType;
@@ -28,10 +28,10 @@ pub fn closed(
     ensures { IfOk result (λ r. ctree r ≡ L.ctype (λ i. var_of outside (side f.now) (lift raise i)) (ktree t.now)) }
 {
     if outside {
-        let t = close_type(alloc, t, &Names::Outside { side: f, raise })?;
+        let t = close_type(alloc, t, &Renaming::Outside { side: f, raise })?;
         Ok(t)
     } else {
-        let t = close_type(alloc, t, &Names::Here { side: f, raise })?;
+        let t = close_type(alloc, t, &Renaming::Here { side: f, raise })?;
         Ok(t)
     }
 }

@@ -39,10 +39,7 @@ fn pop<'a>(tasks: &mut Vec<Task<'a>>) -> Option<Task<'a>>
         (todos tasks.old.items ≡ [])
         (λ t. todos tasks.old.items ≡ todo t ∷ todos tasks.new.items) }
 {
-    match tasks.pop() {
-        Some(task) => Some(task),
-        None => None,
-    }
+    tasks.pop()
 }
 
 // A form of two parts is put after them.
@@ -242,7 +239,7 @@ fn leave(names: Leaves, values: &mut Names, types: &mut Names)
 }
 
 // One task is done.
-fn go<'a>(
+fn do_task<'a>(
     alloc: Global,
     text: &[u8],
     tasks: &mut Vec<Task<'a>>,
@@ -284,7 +281,7 @@ pub(crate) fn bind(alloc: Global, text: &[u8], term: &RawTerm) -> Result<FTerm, 
     let mut tasks = Vec::new(alloc);
     push(&mut tasks, Task::Term(whole(term)))?;
     while let Some(task) = pop(&mut tasks) {
-        go(
+        do_task(
             alloc,
             text,
             &mut tasks,

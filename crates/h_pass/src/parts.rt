@@ -1,6 +1,6 @@
 // Parts, nodes, names and blocks.
-ghost use Rattle.std.specs.Prelude.{◌≡◌, ◌<◌, ℕ, suc, List, [], ◌∷◌, ◌++◌, IfOk, OnOk, length};
-ghost use Rattle.h_terms.specs.H.{HVal};
+ghost use Rattle.std.specs.Prelude.{◌≡◌, ◌<◌, ◌-◌, ℕ, suc, List, [], ◌∷◌, ◌++◌, IfOk, OnOk, length};
+ghost use Rattle.h_terms.specs.H.{HVal, HVar};
 ghost use Rattle.h_terms.specs.Row.{top, others};
 ghost use Rattle.h_terms.specs.Nodes.{more, reads, h_blocks, h_tree, HRow, HRows};
 ghost use Rattle.h_pass.specs.Stream.{name_at};
@@ -22,18 +22,20 @@ pub fn name(own: Option<u64>, depth: u64, level: u64) -> HPart
             if level == 0 {
                 return HPart::Label(label);
             }
-            if level < depth {
-                return HPart::Var(depth - 1 - level);
-            }
-            HPart::Var(0)
+            variable(depth, level)
         }
-        None => {
-            if level < depth {
-                return HPart::Var(depth - 1 - level);
-            }
-            HPart::Var(0)
-        }
+        None => variable(depth, level),
     }
+}
+
+// The variable of a level under so many names.
+fn variable(depth: u64, level: u64) -> HPart
+    ensures { (vs : List HVal) → more result vs ≡ vs ++ HVar (depth - 1 - level) ∷ [] }
+{
+    if level < depth {
+        return HPart::Var(depth - 1 - level);
+    }
+    HPart::Var(0)
 }
 
 // One more part.
@@ -69,25 +71,21 @@ pub fn deepen(depths: &mut VecDeque<u64>) -> Result<(), OutOfMemory>
 pub fn shorten(depths: &mut VecDeque<u64>)
     ensures { depths.new.items ≡ others depths.old.items }
 {
-    match depths.pop_front() {
-        Some(_) => (),
-        None => (),
-    }
+    let _ = depths.pop_front();
 }
 
-// Makes the parts a node.
-pub fn emit(
-    alloc: Global,
-    nodes: &mut Vec<HNode>,
-    parts: &mut Vec<HPart>,
-    form: HForm,
-) -> Result<(), OutOfMemory>
-    ensures nodes { OnOk result (nodes.new.items ≡ nodes.old.items ++ record { form = form; values = parts.old } ∷ []) }
-    ensures parts { OnOk result (parts.new.items ≡ []) }
-{
-    let values = mem::replace(parts, Vec::new(alloc));
-    nodes.push(HNode { form, values })?;
-    Ok(())
+impl Open {
+    // Makes the parts a node.
+    pub fn emit(&mut self, alloc: Global, form: HForm) -> Result<(), OutOfMemory>
+        ensures nodes { OnOk result
+            (self.new.nodes.items ≡ self.old.nodes.items ++ record { form = form; values = self.old.parts } ∷ []) }
+        ensures parts { OnOk result (self.new.parts.items ≡ []) }
+        ensures same { self.new ≡ record self.old { nodes = self.new.nodes; parts = self.new.parts } }
+    {
+        let values = mem::replace(&mut self.parts, Vec::new(alloc));
+        self.nodes.push(HNode { form, values })?;
+        Ok(())
+    }
 }
 
 // A body that is put in later.

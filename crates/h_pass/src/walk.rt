@@ -4,7 +4,7 @@ ghost use Rattle.c_terms.specs.Stream as S;
 ghost use Rattle.c_terms.specs.Read.{ctree, ctys, cnode};
 ghost use Rattle.h_pass.specs.Walk.{Goes, Steps, Declares, IsPart, Ends};
 
-use crate::parts::{deepen, depth, emit, hole, name, put, put_body, shorten};
+use crate::parts::{deepen, depth, hole, name, put, put_body, shorten};
 use crate::state::{Open, Walk};
 use c_terms::{CNode, CType};
 use h_terms::copying::{copy_type, copy_types};
@@ -130,12 +130,7 @@ impl Walk {
     fn declare(&mut self, alloc: Global, form: HForm) -> Result<(), OutOfMemory>
         ensures { OnOk result ((n : S.CNd) → Declares form n → Steps self.old n self.new) }
     {
-        emit(
-            alloc,
-            &mut self.current.nodes,
-            &mut self.current.parts,
-            form,
-        )?;
+        self.current.emit(alloc, form)?;
         deepen(&mut self.current.depths)?;
         Ok(())
     }
@@ -157,12 +152,7 @@ impl Walk {
         match mem::replace(&mut self.current.call, None) {
             None => Ok(()),
             Some(types) => {
-                emit(
-                    alloc,
-                    &mut self.current.nodes,
-                    &mut self.current.parts,
-                    HForm::Call(types),
-                )?;
+                self.current.emit(alloc, HForm::Call(types))?;
                 shorten(&mut self.current.depths);
                 Ok(())
             }
@@ -173,12 +163,7 @@ impl Walk {
     fn choose(&mut self, alloc: Global) -> Result<(), OutOfMemory>
         ensures { OnOk result (Steps self.old S.MIf self.new) }
     {
-        emit(
-            alloc,
-            &mut self.current.nodes,
-            &mut self.current.parts,
-            HForm::If0,
-        )?;
+        self.current.emit(alloc, HForm::If0)?;
         let here = depth(&self.current.depths);
         self.current.depths.push_front(here)?;
         Ok(())
@@ -196,12 +181,7 @@ impl Walk {
     fn halt(&mut self, alloc: Global) -> Result<(), OutOfMemory>
         ensures { OnOk result (Steps self.old S.MHalt self.new) }
     {
-        emit(
-            alloc,
-            &mut self.current.nodes,
-            &mut self.current.parts,
-            HForm::Halt,
-        )?;
+        self.current.emit(alloc, HForm::Halt)?;
         shorten(&mut self.current.depths);
         Ok(())
     }

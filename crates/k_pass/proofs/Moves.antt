@@ -1,5 +1,6 @@
 -- The moves of the conversion.
-use Rattle.std.proofs.Common.{◌≡◌, ℕ, zero, suc, ◌+◌, ◌-◌, ◌<◌, List, [], ◌∷◌, ◌++◌, Some, None, map, length, take, get_or, refl, sym, ap, ap₂, ◌∙◌, subst, arith, sum_by, Vec, Global, Bor}
+use Rattle.std.proofs.Common.{◌≡◌, ℕ, IfOk, Result, zero, suc, ◌+◌, ◌-◌, ◌<◌, List, [], ◌∷◌, ◌++◌, Some, None, map, length, take, get_or, refl, sym, ap, ap₂, ◌∙◌, subst, arith, sum_by, Vec, Global, Bor}
+use Rattle.std.proofs.lemmas.Result.{IfOk-weaker}
 use Rattle.k_terms.specs.K as K
 use Rattle.k_terms.specs.Stream.{NVar, NCode, NEnd, NName, NElse}
 use Rattle.k_terms.specs.Read.{knode}
@@ -11,7 +12,7 @@ use Rattle.f_terms.specs.Noted.{Noted, EFix, EGen, EIf}
 use Rattle.k_laws.specs.Cps as s
 use Rattle.k_laws.specs.Cps.{Level, kty, taking}
 use Rattle.k_pass.specs.Emit.{Rest, Bind, Pass, Place, deliver, named, as_value, bound_once, rest_args, fix_args, gen_args, emit}
-use Rattle.k_pass.specs.Machine.{Nodes, folded, scope, inner, at, Rests, top, below, branches, through, rests, Todo, then, todo, says, written, steps, frame_steps, pending_steps, control_steps, owed, Begins, Steps, Goes, Hands, IsRestless, tail_of}
+use Rattle.k_pass.specs.Machine.{Nodes, folded, scope, inner, at, Rests, top, below, branches, through, rests, Todo, then, todo, says, written, steps, frame_steps, pending_steps, control_steps, owed, Begins, Steps, Goes, Hands, Opens, IsRestless, tail_of}
 use Rattle.k_pass.specs.declared.work.Atom.TheVariants as A
 use Rattle.k_pass.specs.declared.work.Frame.{Frame}
 use Rattle.k_pass.specs.declared.work.Frame.TheVariants as F
@@ -21,6 +22,11 @@ use Rattle.k_pass.specs.declared.work.Control.{Control}
 use Rattle.k_pass.specs.declared.work.Control.TheVariants as C
 use Rattle.k_pass.specs.declared.work.Work.{Work}
 use Rattle.k_pass.proofs.Stacks.{folded_push, sum_push, arrives, pushed, wrote}
+
+-- a call whose clause tells which step is next
+pub next_is : {A : Type 0} {E : Type 0} (r : Result Control E) (next : Control) (P : Control → Type 0) →
+    IfOk r (λ c. (c ≡ next) × A) → (A → P next) → IfOk r P
+next_is r next P made given = IfOk-weaker r _ _ (λ c h. subst P (sym h.0) (given h.1)) made
 
 pub pop_is : {A : Type 0} (old rest : List A) (x y : A) → old ≡ rest ++ x ∷ [] → x ≡ y → old ≡ rest ++ y ∷ []
 pop_is old rest x y e is = e ∙ ap (λ z. rest ++ z ∷ []) is
@@ -98,35 +104,28 @@ if_tail t w v v2 ty c a b d l e f =
     )
 
 -- one that isn't: what comes after it is named first, and comes now
-pub if_rest : (t : ℕ → Noted) (w w' : Work) (ty : Bor FType) (c a b d level inside : ℕ) (tys : K.KTys) →
-    IsRestless t w.frames.items →
-    ((ns : Nodes) → written w' ++ ns ≡ written w ++ NCode d w.types 0 tys ∷ ns) →
-    tys ≡ rest_args (kty (tree ty.now)) →
-    w'.frames.items ≡ w.frames.items → w'.pending.items ≡ w.pending.items ++ P.If0 c a b d ty ∷ [] → w'.names.items ≡ w.names.items → w'.types ≡ w.types →
-    level ≡ suc d → inside ≡ suc level →
-    Goes t w (EIf (t c) (t a) (t b) (tree ty.now)) d w' (C.Give (A.Level level) inside)
-if_rest t w w' ty c a b d level inside tys restless wr tyse fse pse xse tve e1 e2 =
+pub if_rest : (t : ℕ → Noted) (w : Work) (v : Vec Frame Global) (w' : Work) (ty : Bor FType) (c a b d : ℕ) →
+    v.items ≡ w.frames.items → IsRestless t w.frames.items →
+    Opens (record w { frames = v }) (kty (tree ty.now)) d (P.If0 c a b d ty) w' →
+    Goes t w (EIf (t c) (t a) (t b) (tree ty.now)) d w' (C.Give (A.Level (suc d)) (suc (suc d)))
+if_rest t w v w' ty c a b d same restless made =
     let p = at w in
     let tv = w.types in
     let ks = rests t w.frames.items in
     let td = todo t w.pending.items in
     let R : Nodes = td p (below ks) in
     let S : Nodes = NEnd ∷ NName d (taking (kty (tree ty.now))) ∷ emit (t c) (suc d) p (branches (t a) (t b) d p) R in
-    let f2 : inside ≡ suc (suc d) = e2 ∙ ap suc e1 in
     let G : Rest → Nodes = λ k. bound_once tv (kty (tree ty.now)) k d (λ d1 l. emit (t c) d1 p (branches (t a) (t b) l p)) R in
-    let H : Rest → ℕ → ℕ → Nodes = λ k x z. deliver k z (Level x) S in
-    let T : K.KTys = rest_args (kty (tree ty.now)) in
-    finish t w w' (G (top ks p)) (steps (EIf (t c) (t a) (t b) (tree ty.now))) (C.Give (A.Level level) inside) ks (then t (P.If0 c a b d ty) td) p
+    let H : Rest → Nodes = λ k. deliver k (suc (suc d)) (Level (suc d)) S in
+    let fse : w'.frames.items ≡ w.frames.items = made.same_frames ∙ same in
+    finish t w w' (G (top ks p)) (steps (EIf (t c) (t a) (t b) (tree ty.now))) (C.Give (A.Level (suc d)) (suc (suc d))) ks (then t (P.If0 c a b d ty) td) p
     (ap (rests t) fse)
-    (folded_push (then t) (λ ns qs. []) _ _ (P.If0 c a b d ty) pse)
-    (ap₂ (λ (x : ℕ) (ns : List ℕ). (x, ns)) tve (ap scope xse))
-    (wr (H (top ks p) level inside)
-    ∙ ap (λ (u : K.KTys). written w ++ NCode d tv 0 u ∷ H (top ks p) level inside) tyse
-    ∙ ap (λ x. written w ++ NCode d tv 0 T ∷ H (top ks p) x inside) e1
-    ∙ ap (λ x. written w ++ NCode d tv 0 T ∷ H (top ks p) (suc d) x) f2
-    ∙ ap (λ (k : Rest). written w ++ NCode d tv 0 T ∷ H k (suc d) (suc (suc d))) (restless p).1
+    (folded_push (then t) (λ ns qs. []) _ _ (P.If0 c a b d ty) made.keeps)
+    made.same_place
+    (made.writes (H (top ks p))
+    ∙ ap (λ (k : Rest). written w ++ NCode d tv 0 (rest_args (kty (tree ty.now))) ∷ H k) (restless p).1
     ∙ sym (ap (λ (k : Rest). written w ++ G k) (restless p).1))
-    (omega (arith, ap (sum_by (frame_steps t)) fse, sum_push (pending_steps t) _ _ _ pse))
+    (omega (arith, ap (sum_by (frame_steps t)) fse, sum_push (pending_steps t) _ _ _ made.keeps))
 
 -- what comes after a term is handed over
 pub hand_tail : (t : ℕ → Noted) (w : Work) (o : Vec KNode Global) (v : Vec Frame Global) (ty : K.KTy) (d l : ℕ) →
@@ -141,32 +140,25 @@ hand_tail t w o v ty d l e wr =
       omega (arith, sum_push (frame_steps t) _ _ _ e),
     )
 
-pub hand_rest : (t : ℕ → Noted) (w w' : Work) (ty : K.KTy) (d level inside : ℕ) (tys : K.KTys) →
-    IsRestless t w.frames.items →
-    ((ns : Nodes) → written w' ++ ns ≡ written w ++ NCode d w.types 0 tys ∷ ns) →
-    tys ≡ rest_args ty →
-    w'.frames.items ≡ w.frames.items → w'.pending.items ≡ w.pending.items ++ P.End ∷ [] → w'.names.items ≡ w.names.items → w'.types ≡ w.types →
-    level ≡ suc d → inside ≡ suc level →
-    Hands t w ty d w' (C.Give (A.Level level) inside)
-hand_rest t w w' ty d level inside tys restless wr tyse fse pse xse tve e1 e2 =
+pub hand_rest : (t : ℕ → Noted) (w : Work) (v : Vec Frame Global) (w' : Work) (ty : K.KTy) (d : ℕ) →
+    v.items ≡ w.frames.items → IsRestless t w.frames.items →
+    Opens (record w { frames = v }) ty d P.End w' →
+    Hands t w ty d w' (C.Give (A.Level (suc d)) (suc (suc d)))
+hand_rest t w v w' ty d same restless made =
     let p = at w in
     let tv = w.types in
     let ks = rests t w.frames.items in
     let td = todo t w.pending.items in
     let R : Nodes = td p (below ks) in
-    let f2 : inside ≡ suc (suc d) = e2 ∙ ap suc e1 in
     let G : Rest → Nodes = λ k. as_value tv ty k d R in
-    let H : Rest → ℕ → ℕ → Nodes = λ k x z. deliver k z (Level x) (NEnd ∷ R) in
-    let T : K.KTys = rest_args ty in
-    finish t w w' (G (top ks p)) 3 (C.Give (A.Level level) inside) ks (then t P.End td) p
-    (ap (rests t) fse) (folded_push (then t) (λ ns qs. []) _ _ P.End pse) (ap₂ (λ (x : ℕ) (ns : List ℕ). (x, ns)) tve (ap scope xse))
-    (wr (H (top ks p) level inside)
-    ∙ ap (λ (u : K.KTys). written w ++ NCode d tv 0 u ∷ H (top ks p) level inside) tyse
-    ∙ ap (λ x. written w ++ NCode d tv 0 T ∷ H (top ks p) x inside) e1
-    ∙ ap (λ x. written w ++ NCode d tv 0 T ∷ H (top ks p) (suc d) x) f2
-    ∙ ap (λ (k : Rest). written w ++ NCode d tv 0 T ∷ H k (suc d) (suc (suc d))) (restless p).1
+    let H : Rest → Nodes = λ k. deliver k (suc (suc d)) (Level (suc d)) (NEnd ∷ R) in
+    let fse : w'.frames.items ≡ w.frames.items = made.same_frames ∙ same in
+    finish t w w' (G (top ks p)) 3 (C.Give (A.Level (suc d)) (suc (suc d))) ks (then t P.End td) p
+    (ap (rests t) fse) (folded_push (then t) (λ ns qs. []) _ _ P.End made.keeps) made.same_place
+    (made.writes (H (top ks p))
+    ∙ ap (λ (k : Rest). written w ++ NCode d tv 0 (rest_args ty) ∷ H k) (restless p).1
     ∙ sym (ap (λ (k : Rest). written w ++ G k) (restless p).1))
-    (omega (arith, ap (sum_by (frame_steps t)) fse, sum_push (pending_steps t) _ _ _ pse))
+    (omega (arith, ap (sum_by (frame_steps t)) fse, sum_push (pending_steps t) _ _ _ made.keeps))
 
 -- the last frame
 abbrev IsBinding : Rest → Type 0

@@ -9,7 +9,7 @@ use Rattle.k_terms.specs.Read.{knode}
 use Rattle.f_terms.specs.Noted.{Noted, EVar, ENum, EFix, EApp, EGen, EInst, ETuple, EProj, EArith, EIf, Noteds, NoNoteds, MoreNoteds, noteds}
 use Rattle.k_laws.specs.Cps as s
 use Rattle.k_laws.specs.Cps.{Level, Literal, kty, taking}
-use Rattle.k_pass.specs.Emit.{Rest, Bind, Pass, Place, atom_node, deliver, named, as_value, to_call, to_inst, to_arith, to_proj, to_tuple, emit, emit_all, halting}
+use Rattle.k_pass.specs.Emit.{Rest, Bind, Pass, Place, atom_node, deliver, named, rest_args, as_value, to_call, to_inst, to_arith, to_proj, to_tuple, emit, emit_all, halting}
 use Rattle.k_pass.specs.declared.work.Atom.{Atom}
 use Rattle.k_pass.specs.declared.work.Atom.TheVariants as A
 use Rattle.k_pass.specs.declared.work.Frame.{Frame}
@@ -181,6 +181,13 @@ abbrev pub FieldsGo : (ℕ → Noted) → Work → List ℕ → List s.Atom → 
 FieldsGo t w es done ty d w' c' =
     Begins t w (emit_all (noteds (map t es)) d (at w) done (to_tuple ty (rest_of t w)) (after t w))
     (1 + (1 + steps_all (noteds (map t es)))) w' c'
+
+-- the code of what comes after a term is begun, and p is kept for where it has ended
+pub record Opens (w : Work) (ty : K.KTy) (d : ℕ) (p : Pending) (w' : Work) : Type 0 where
+  pub writes : (ns : Nodes) → written w' ++ ns ≡ written w ++ n.NCode d w.types 0 (rest_args ty) ∷ ns
+  pub same_frames : w'.frames.items ≡ w.frames.items
+  pub keeps : w'.pending.items ≡ w.pending.items ++ p ∷ []
+  pub same_place : at w' ≡ at w
 
 -- the same where a frame that was taken off is given an atom
 abbrev pub Takes : (ℕ → Noted) → Work → Frame → Atom → ℕ → Work → Control → Type 0

@@ -11,7 +11,7 @@ ghost use Rattle.k_pass.specs.declared.work.Control.TheVariants as controls;
 use crate::access::{deeper, put_call, put_one, put_two};
 use crate::hand::hand_over;
 use crate::types::{k_type, rest_types};
-use crate::walk::walk_fields;
+use crate::walk::{enter, walk_fields};
 use crate::work::{Atom, Control, Frame, Pending, Work};
 use f_terms::FType;
 use idx_core::{Op, OutOfMemory};
@@ -34,14 +34,13 @@ pub(crate) fn give<'a>(
             Ok(Control::Ended)
         }
         Some(Frame::Fun { x, ty }) => {
-            work.frames.push(Frame::Arg { f: given, ty })?;
-            Ok(Control::Walk { node: x, depth })
+            let frame = Frame::Arg { f: given, ty };
+            enter(&mut work.frames, frame, x, depth)
         }
         Some(Frame::Arg { f, ty }) => give_argument(alloc, work, f, ty, given, depth),
         Some(Frame::Inst { arg, ty }) => give_inst(alloc, work, arg, ty, given, depth),
         Some(Frame::Left { op, b }) => {
-            work.frames.push(Frame::Right { op, a: given })?;
-            Ok(Control::Walk { node: b, depth })
+            enter(&mut work.frames, Frame::Right { op, a: given }, b, depth)
         }
         Some(Frame::Right { op, a }) => give_right(work, op, a, given, depth),
         Some(Frame::Proj { i, ty }) => give_proj(alloc, work, i, ty, given, depth),
@@ -209,6 +208,5 @@ fn give_test<'a>(
         depth,
         level,
     })?;
-    work.frames.push(Frame::Tail { level })?;
-    Ok(Control::Walk { node: zero, depth })
+    enter(&mut work.frames, Frame::Tail { level }, zero, depth)
 }

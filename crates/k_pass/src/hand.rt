@@ -1,9 +1,11 @@
 // Tail place, and what comes after a term that is in none.
-ghost use Rattle.std.specs.Prelude.{◌≡◌, ℕ, ◌++◌, ◌∷◌, [], IfOk, MatchOption};
+ghost use Rattle.std.specs.Prelude.{◌≡◌, ℕ, suc, ◌++◌, ◌∷◌, [], IfOk, MatchOption};
 ghost use Rattle.f_terms.specs.Noted.{Noted};
 ghost use Rattle.f_terms.specs.Read.{tree};
 ghost use Rattle.k_laws.specs.Cps.{kty};
-ghost use Rattle.k_pass.specs.Machine.{Hands, IsRestless, tail_of, KeptIn, Inside};
+ghost use Rattle.k_pass.specs.Machine.{Hands, Opens, IsRestless, tail_of, KeptIn, Inside};
+ghost use Rattle.k_pass.specs.declared.work.Atom.TheVariants as atoms;
+ghost use Rattle.k_pass.specs.declared.work.Control.TheVariants as controls;
 ghost use Rattle.k_pass.specs.declared.work.Frame.TheVariants as frames;
 
 use crate::access::{deeper, put, put_atom};
@@ -43,6 +45,34 @@ pub(crate) fn take_tail(stack: &mut Vec<Frame>) -> Option<u64>
     }
 }
 
+// The code of what comes after a term is begun, and its argument is given. What is pending comes where it has ended.
+pub(crate) fn open_rest<'a>(
+    alloc: Global,
+    work: &mut Work<'a>,
+    ty: &FType,
+    pending: Pending<'a>,
+    depth: u64,
+) -> Result<Control, OutOfMemory>
+    ensures { IfOk result (λ c. (c ≡ controls.Give (atoms.Level (suc depth)) (suc (suc depth)))
+        × Opens work.old (kty (tree ty.now)) depth pending.entry work.new) }
+{
+    let args = rest_types(alloc, ty)?;
+    let code = KNode::Code {
+        level: depth,
+        depth: work.types,
+        owes: 0,
+        args,
+    };
+    put(&mut work.out, code)?;
+    work.pending.push(pending)?;
+    let level = deeper(depth)?;
+    let inside = deeper(level)?;
+    Ok(Control::Give {
+        atom: Atom::Level(level),
+        depth: inside,
+    })
+}
+
 // What comes after a term is written as the last argument of a call.
 pub(crate) fn hand_over<'a>(
     alloc: Global,
@@ -58,22 +88,6 @@ pub(crate) fn hand_over<'a>(
             put_atom(&mut work.out, Atom::Level(level))?;
             Ok(Control::Ended)
         }
-        None => {
-            let args = rest_types(alloc, ty)?;
-            let code = KNode::Code {
-                level: depth,
-                depth: work.types,
-                owes: 0,
-                args,
-            };
-            put(&mut work.out, code)?;
-            work.pending.push(Pending::End)?;
-            let level = deeper(depth)?;
-            let inside = deeper(level)?;
-            Ok(Control::Give {
-                atom: Atom::Level(level),
-                depth: inside,
-            })
-        }
+        None => open_rest(alloc, work, ty, Pending::End, depth),
     }
 }

@@ -8,6 +8,7 @@ ghost use Rattle.k_pass.specs.declared.work.Pending.TheVariants as pendings;
 
 use crate::access::{deeper, leave, put};
 use crate::types::{fix_type, gen_type, rest_type};
+use crate::walk::enter;
 use crate::work::{Atom, Control, Frame, Pending, Work};
 use f_terms::FType;
 use idx_core::OutOfMemory;
@@ -114,8 +115,7 @@ fn walk_other<'a>(
 {
     let mark = KNode::Else { depth: work.types };
     put(&mut work.out, mark)?;
-    work.frames.push(Frame::Tail { level })?;
-    Ok(Control::Walk { node, depth })
+    enter(&mut work.frames, Frame::Tail { level }, node, depth)
 }
 
 // What comes after an `if0` has ended: it is named, and the test comes.
@@ -135,14 +135,11 @@ fn walk_test<'a>(
 {
     let ty = rest_type(alloc, ty)?;
     put_name(&mut work.out, depth, ty)?;
-    work.frames.push(Frame::Test {
+    let inside = deeper(depth)?;
+    let frame = Frame::Test {
         zero,
         other,
         level: depth,
-    })?;
-    let inside = deeper(depth)?;
-    Ok(Control::Walk {
-        node: test,
-        depth: inside,
-    })
+    };
+    enter(&mut work.frames, frame, test, inside)
 }

@@ -1,5 +1,5 @@
 // A term is to be converted: its first step.
-ghost use Rattle.std.specs.Prelude.{◌≡◌, ℕ, ◌<◌, ◌≤◌, ◌∷◌, ◌++◌, IfOk, OnOk, map, length};
+ghost use Rattle.std.specs.Prelude.{◌≡◌, ℕ, ◌<◌, ◌≤◌, ◌∷◌, ◌++◌, [], IfOk, OnOk, map, length};
 ghost use Rattle.std.specs.List.{All};
 ghost use Rattle.f_terms.specs.Read.{tree};
 ghost use Rattle.k_terms.specs.Stream.{NTuple, NName};
@@ -13,13 +13,27 @@ ghost use Rattle.k_pass.specs.Machine.{Nodes, atom, Steps, Goes, FieldsGo, KeptI
 ghost use Rattle.k_pass.specs.declared.work.Control.TheVariants as controls;
 
 use crate::access::{deeper, level_of, node_at, put, put_atom};
-use crate::hand::take_tail;
-use crate::types::{fix_types, gen_types, k_type, rest_types, under_all};
+use crate::hand::{open_rest, take_tail};
+use crate::types::{fix_types, gen_types, k_type, under_all};
 use crate::work::{Atom, Control, Frame, Pending, Work};
 use f_terms::{FShape, FTerm, FType};
 use idx_core::OutOfMemory;
 use k_terms::{KNode, KType};
 use std::alloc::Global;
+
+// A part of a term comes first, and a frame waits for its atom.
+pub(crate) fn enter<'a>(
+    frames: &mut Vec<Frame<'a>>,
+    frame: Frame<'a>,
+    node: u64,
+    depth: u64,
+) -> Result<Control, OutOfMemory>
+    ensures { IfOk result (λ c. (c ≡ controls.Walk node depth)
+        × (frames.new.items ≡ frames.old.items ++ frame.entry ∷ [])) }
+{
+    frames.push(frame)?;
+    Ok(Control::Walk { node, depth })
+}
 
 // The first step of a term.
 pub(crate) fn walk<'a>(
@@ -48,23 +62,13 @@ pub(crate) fn walk<'a>(
             depth,
         }),
         FShape::Fix { arg, res, body } => walk_fix(alloc, work, arg, res, *body, depth),
-        FShape::App(f, x) => {
-            work.frames.push(Frame::Fun { x: *x, ty })?;
-            Ok(Control::Walk { node: *f, depth })
-        }
+        FShape::App(f, x) => enter(&mut work.frames, Frame::Fun { x: *x, ty }, *f, depth),
         FShape::Gen(body) => walk_gen(alloc, work, *body, under_all(ty), depth),
-        FShape::Inst(e, arg) => {
-            work.frames.push(Frame::Inst { arg, ty })?;
-            Ok(Control::Walk { node: *e, depth })
-        }
+        FShape::Inst(e, arg) => enter(&mut work.frames, Frame::Inst { arg, ty }, *e, depth),
         FShape::Tuple(es) => walk_fields(alloc, work, es, Vec::new(alloc), ty, depth),
-        FShape::Proj(i, e) => {
-            work.frames.push(Frame::Proj { i: *i, ty })?;
-            Ok(Control::Walk { node: *e, depth })
-        }
+        FShape::Proj(i, e) => enter(&mut work.frames, Frame::Proj { i: *i, ty }, *e, depth),
         FShape::Arith(op, a, b) => {
-            work.frames.push(Frame::Left { op: *op, b: *b })?;
-            Ok(Control::Walk { node: *a, depth })
+            enter(&mut work.frames, Frame::Left { op: *op, b: *b }, *a, depth)
         }
         FShape::If0(test, zero, other) => { walk_if0(alloc, work, *test, *zero, *other, ty, depth) }
     }
@@ -97,11 +101,7 @@ fn walk_fix<'a>(
     work.names.push(depth)?;
     work.names.push(first)?;
     work.pending.push(Pending::Fix { depth, arg, res })?;
-    work.frames.push(Frame::Tail { level })?;
-    Ok(Control::Walk {
-        node: body,
-        depth: inside,
-    })
+    enter(&mut work.frames, Frame::Tail { level }, body, inside)
 }
 
 // A suspended body is named, the body comes first.
@@ -130,11 +130,7 @@ fn walk_gen<'a>(
     let under = deeper(types)?;
     work.types = under;
     work.pending.push(Pending::Gen { depth, types, ty })?;
-    work.frames.push(Frame::Tail { level })?;
-    Ok(Control::Walk {
-        node: body,
-        depth: inside,
-    })
+    enter(&mut work.frames, Frame::Tail { level }, body, inside)
 }
 
 // The test comes first where the term is in tail place; else what comes after the term is named first.
@@ -154,31 +150,18 @@ fn walk_if0<'a>(
 {
     match take_tail(&mut work.frames) {
         Some(level) => {
-            work.frames.push(Frame::Test { zero, other, level })?;
-            Ok(Control::Walk { node: test, depth })
+            let frame = Frame::Test { zero, other, level };
+            enter(&mut work.frames, frame, test, depth)
         }
         None => {
-            let args = rest_types(alloc, ty)?;
-            let code = KNode::Code {
-                level: depth,
-                depth: work.types,
-                owes: 0,
-                args,
-            };
-            put(&mut work.out, code)?;
-            work.pending.push(Pending::If0 {
+            let ended = Pending::If0 {
                 test,
                 zero,
                 other,
                 depth,
                 ty,
-            })?;
-            let level = deeper(depth)?;
-            let inside = deeper(level)?;
-            Ok(Control::Give {
-                atom: Atom::Level(level),
-                depth: inside,
-            })
+            };
+            open_rest(alloc, work, ty, ended, depth)
         }
     }
 }
@@ -205,10 +188,12 @@ pub(crate) fn walk_fields<'a>(
                 depth: inside,
             })
         }
-        Some((e, rest)) => {
-            work.frames.push(Frame::Fields { rest, done, ty })?;
-            Ok(Control::Walk { node: *e, depth })
-        }
+        Some((e, rest)) => enter(
+            &mut work.frames,
+            Frame::Fields { rest, done, ty },
+            *e,
+            depth,
+        ),
     }
 }
 

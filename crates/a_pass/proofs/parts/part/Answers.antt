@@ -1,4 +1,5 @@
 use Rattle.std.proofs.Common.{◌≡◌, ℕ, ◌∷◌, ◌++◌, [], ap, ap₂, ◌∙◌, refl, sym, subst, List, Some, rules, to_z, of_z, w64}
+use Rattle.std.proofs.lemmas.Result.{IfOk-weaker}
 use Rattle.h_terms.specs.H.{HVar, HInt, HLabel, HApply}
 use Rattle.h_terms.specs.Nodes.{h_blocks, more, at_last}
 use Rattle.a_terms.specs.declared.nodes.AValue.{AValue}
@@ -13,22 +14,22 @@ use Rattle.a_pass.proofs.parts.part.Goals as goal
 pub returns-in_ok-push_leaf-in-Var-clause-made : goal.returns-in_ok-push_leaf-in-Var-clause-made
 returns-in_ok-push_leaf-in-Var-clause-made c =
     reads_for _ _ _ _ _ _ _ _ _ _ _ _ _ _ _ (sym c.in-Var.is) (reads_leaf _ _ _ (HVar c.in-Var.i) _ _ _ _ _ _ _ _ _ c.in_ok-push_leaf-in-Var.ensures.values c.in_ok-push_leaf-in-Var.ensures.types
-    (λ d. refl) (λ b. refl) (λ b. refl) (λ b d r. refl) (λ b d e. c.variable-value.ensures e) refl (λ b. var_const (knowns c.args.names.now) c.in-Var.i b))
+    (λ d. refl) (λ b. refl) (λ b. refl) (λ b d r. refl) (λ b d e. c.variable_leaf.ensures.value e) (c.variable_leaf.ensures.ty _) (λ b. c.variable_leaf.ensures.constant _ ∙ var_const (knowns c.args.names.now) c.in-Var.i b))
 
 pub returns-in_ok-push_leaf-in-Int-clause-made : goal.returns-in_ok-push_leaf-in-Int-clause-made
 returns-in_ok-push_leaf-in-Int-clause-made c =
     let same : to_z w64 (of_z w64 c.in-Int.n) ≡ c.in-Int.n = search rules in
     reads_for _ _ _ _ _ _ _ _ _ _ _ _ _ _ _ (sym c.in-Int.is) (reads_leaf _ _ _ (HInt c.in-Int.n) _ _ _ _ _ _ _ _ _ c.in_ok-push_leaf-in-Int.ensures.values c.in_ok-push_leaf-in-Int.ensures.types
-    (λ d. refl) (λ b. refl) (λ b. refl) (λ b d r. refl) (λ b d e. c.plain-value.ensures.value e ∙ ap Num same) refl (λ b. ap Some (c.plain.ensures.whole ∙ ap Num same)))
+    (λ d. refl) (λ b. refl) (λ b. refl) (λ b d r. refl) (λ b d e. c.int_leaf.ensures.value e ∙ ap Num same) (c.int_leaf.ensures.ty _) (λ b. c.int_leaf.ensures.constant _ ∙ ap Some (ap Num same)))
 
 pub returns-in_ok-push_leaf-in-Label-clause-made : goal.returns-in_ok-push_leaf-in-Label-clause-made
 returns-in_ok-push_leaf-in-Label-clause-made c =
     reads_for _ _ _ _ _ _ _ _ _ _ _ _ _ _ _ (sym c.in-Label.is) (reads_leaf _ _ _ (HLabel c.in-Label.l) _ _ _ _ _ _ _ _ _ c.in_ok-push_leaf-in-Label.ensures.values c.in_ok-push_leaf-in-Label.ensures.types
     (λ d. refl) (λ b. refl) (λ b. refl) (λ b d r. refl) (λ b d e. c.in_ok-leaf-in-Label.ensures.value e) (c.in_ok-leaf-in-Label.ensures.ty _) (λ b. c.in_ok-leaf-in-Label.ensures.constant _))
 
-pub returns-in_ok-depth-in-Tuple-clause-made : goal.returns-in_ok-depth-in-Tuple-clause-made
-returns-in_ok-depth-in-Tuple-clause-made c =
-    reads_for _ _ _ _ _ _ _ _ _ _ _ _ _ _ _ (sym c.in-Tuple.is) (c.in_ok-depth-in-Tuple.ensures.made (h_blocks c.args.blocks.now))
+pub returns-in-Tuple-clause-made : goal.returns-in-Tuple-clause-made
+returns-in-Tuple-clause-made c =
+    IfOk-weaker c.tuple.result _ _ (λ m h. reads_for _ _ _ _ _ _ _ _ _ _ _ _ _ _ _ (sym c.in-Tuple.is) (h (h_blocks c.args.blocks.now))) c.tuple.ensures.made
 
 pub returns-in_ok-apply-in-Apply-clause-made : goal.returns-in_ok-apply-in-Apply-clause-made
 returns-in_ok-apply-in-Apply-clause-made c =

@@ -7,23 +7,23 @@ use Rattle.f_parser.specs.Binding.{Bind, todo, todos, stand, uses_of, uses_left,
 use Rattle.f_parser.proofs.Tasks.{then, ended, stop_of_whole}
 use Rattle.f_parser.proofs.binding.bind.Goals as goal
 
-pub returns-in_err-go : goal.returns-in_err-go
-returns-in_err-go c =
-    let p = err_from_is_err_and c.from_residual-in_err-go.result c.from_residual-in_err-go.ensures.1 in
+pub returns-in_err-do_task : goal.returns-in_err-do_task
+returns-in_err-do_task c =
+    let p = err_from_is_err_and c.from_residual-in_err-do_task.result c.from_residual-in_err-do_task.ensures.1 in
     let text = c.args.text.now in
     let l = c.loop-task in
     let t = todo c.in-Some.task in
     rw (p.1, p.2)
     (stop_of_whole text (tree_of c.args.term.now) (stand (todos l.tasks.items) l.values l.types (trees_of l.stack)) (uses_of text t l.values l.types)
-    (uses_left text (todos c.pop.new.tasks.items) (values_left t l.values) (types_left t l.types)) _ l.invariant (ap (λ tds. uses_left text tds l.values l.types) c.in-Some.ensures) c.in_err-go.ensures)
+    (uses_left text (todos c.pop.new.tasks.items) (values_left t l.values) (types_left t l.types)) _ l.invariant (ap (λ tds. uses_left text tds l.values l.types) c.in-Some.ensures) c.in_err-do_task.ensures)
 
 pub loop-task-preserved : goal.loop-task-preserved
 loop-task-preserved c =
     let text = c.args.text.now in
     let l = c.loop-task in
     let start = stand (Bind (tree_of c.args.term.now) ∷ []) [] [] [] in
-    then text start (stand (todo c.in-Some.task ∷ todos c.pop.new.tasks.items) l.values l.types (trees_of l.stack)) (stand (todos c.go.new.tasks.items) c.go.new.values c.go.new.types (trees_of c.go.new.stack))
-    (subst (λ tds. Follows text start (stand tds l.values l.types (trees_of l.stack))) c.in-Some.ensures l.invariant) c.in_ok-go.ensures.0
+    then text start (stand (todo c.in-Some.task ∷ todos c.pop.new.tasks.items) l.values l.types (trees_of l.stack)) (stand (todos c.do_task.new.tasks.items) c.do_task.new.values c.do_task.new.types (trees_of c.do_task.new.stack))
+    (subst (λ tds. Follows text start (stand tds l.values l.types (trees_of l.stack))) c.in-Some.ensures l.invariant) c.in_ok-do_task.ensures.0
 
 pub returns : goal.returns
 returns c =

@@ -1,20 +1,23 @@
 use Rattle.std.proofs.lemmas.Result.{IfOk-weaker}
-use Rattle.k_pass.proofs.Moves.{pop_is}
+use Rattle.k_pass.specs.declared.work.Control.TheVariants as C
+use Rattle.k_pass.proofs.Moves.{pop_is, next_is}
 use Rattle.k_pass.proofs.Gives.{gives_fun, gives_left, gave, gave_inside}
 use Rattle.k_pass.specs.Machine.{FrameIn}
 use Rattle.k_pass.specs.declared.work.Frame.TheVariants as F
 use Rattle.k_pass.proofs.Inside.{all_push, all_pop}
 use Rattle.k_pass.proofs.give.give.Goals as goal
 
-pub returns-in_ok-push-in-Some-Fun-clause-steps : goal.returns-in_ok-push-in-Some-Fun-clause-steps
-returns-in_ok-push-in-Some-Fun-clause-steps c = λ t.
+pub returns-in-Some-Fun-clause-steps : goal.returns-in-Some-Fun-clause-steps
+returns-in-Some-Fun-clause-steps c =
     let s = c.in-Some-Fun in
-    gives_fun t c.args.work.now c.pop.new.self c.push.new.self s.x s.ty c.args.given c.args.depth (pop_is _ _ _ _ s.ensures.items s.field-0-is) c.in_ok-push-in-Some-Fun.ensures.items
+    next_is c.enter.result (C.Walk s.x c.args.depth) _ c.enter.ensures
+    (λ waits t. gives_fun t c.args.work.now c.pop.new.self c.enter.new.frames s.x s.ty c.args.given c.args.depth (pop_is _ _ _ _ s.ensures.items s.field-0-is) waits)
 
-pub returns-in_ok-push-in-Some-Left-clause-steps : goal.returns-in_ok-push-in-Some-Left-clause-steps
-returns-in_ok-push-in-Some-Left-clause-steps c = λ t.
+pub returns-in-Some-Left-clause-steps : goal.returns-in-Some-Left-clause-steps
+returns-in-Some-Left-clause-steps c =
     let s = c.in-Some-Left in
-    gives_left t c.args.work.now c.pop.new.self c.push-in-Some-Left.new.self s.op s.b c.args.given c.args.depth (pop_is _ _ _ _ s.ensures.items s.field-0-is) c.in_ok-push-in-Some-Left.ensures.items
+    next_is c.enter-in-Some-Left.result (C.Walk s.b c.args.depth) _ c.enter-in-Some-Left.ensures
+    (λ waits t. gives_left t c.args.work.now c.pop.new.self c.enter-in-Some-Left.new.frames s.op s.b c.args.given c.args.depth (pop_is _ _ _ _ s.ensures.items s.field-0-is) waits)
 
 pub returns-in-Some-Arg-clause-steps : goal.returns-in-Some-Arg-clause-steps
 returns-in-Some-Arg-clause-steps c =
@@ -51,13 +54,17 @@ returns-in-Some-Test-clause-steps c =
     let s = c.in-Some-Test in
     gave c.give_test.result c.args.work.now c.pop.new.self (F.Test s.zero s.other s.level) c.args.given c.args.depth c.give_test.new.work (pop_is _ _ _ _ s.ensures.items s.field-0-is) c.give_test.ensures.steps
 
-pub returns-in_ok-push-in-Some-Fun-clause-inside : goal.returns-in_ok-push-in-Some-Fun-clause-inside
-returns-in_ok-push-in-Some-Fun-clause-inside c = λ m kept.
-    let r = all_pop (FrameIn m) _ _ _ (pop_is _ _ _ _ c.in-Some-Fun.ensures.items c.in-Some-Fun.field-0-is) kept.0 in (r.1, all_push (FrameIn m) _ _ _ c.in_ok-push-in-Some-Fun.ensures.items r.0 tt, kept.1)
+pub returns-in-Some-Fun-clause-inside : goal.returns-in-Some-Fun-clause-inside
+returns-in-Some-Fun-clause-inside c =
+    let s = c.in-Some-Fun in
+    next_is c.enter.result (C.Walk s.x c.args.depth) _ c.enter.ensures
+    (λ waits m kept. let r = all_pop (FrameIn m) _ _ _ (pop_is _ _ _ _ s.ensures.items s.field-0-is) kept.0 in (r.1, all_push (FrameIn m) _ _ _ waits r.0 tt, kept.1))
 
-pub returns-in_ok-push-in-Some-Left-clause-inside : goal.returns-in_ok-push-in-Some-Left-clause-inside
-returns-in_ok-push-in-Some-Left-clause-inside c = λ m kept.
-    let r = all_pop (FrameIn m) _ _ _ (pop_is _ _ _ _ c.in-Some-Left.ensures.items c.in-Some-Left.field-0-is) kept.0 in (r.1, all_push (FrameIn m) _ _ _ c.in_ok-push-in-Some-Left.ensures.items r.0 tt, kept.1)
+pub returns-in-Some-Left-clause-inside : goal.returns-in-Some-Left-clause-inside
+returns-in-Some-Left-clause-inside c =
+    let s = c.in-Some-Left in
+    next_is c.enter-in-Some-Left.result (C.Walk s.b c.args.depth) _ c.enter-in-Some-Left.ensures
+    (λ waits m kept. let r = all_pop (FrameIn m) _ _ _ (pop_is _ _ _ _ s.ensures.items s.field-0-is) kept.0 in (r.1, all_push (FrameIn m) _ _ _ waits r.0 tt, kept.1))
 
 pub returns-in-Some-Arg-clause-inside : goal.returns-in-Some-Arg-clause-inside
 returns-in-Some-Arg-clause-inside c =

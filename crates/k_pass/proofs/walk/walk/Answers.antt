@@ -5,6 +5,7 @@ use Rattle.f_terms.specs.Noted.{EFix, EApp, EGen, EInst, ETuple, EProj, EArith, 
 use Rattle.f_terms.specs.NotedTerm.{noted_at, noted_shape}
 use Rattle.f_terms.specs.ReadTerm.{count}
 use Rattle.k_pass.specs.declared.work.Control.TheVariants as C
+use Rattle.k_pass.proofs.Moves.{next_is}
 use Rattle.k_pass.proofs.Gives.{walks, goes_app, goes_inst, goes_proj, goes_arith, goes_tuple}
 use Rattle.std.proofs.Common.{◌<◌}
 use Rattle.f_terms.specs.Shape.{children}
@@ -12,57 +13,69 @@ use Rattle.k_pass.specs.Machine.{FrameIn}
 use Rattle.k_pass.proofs.Inside.{all_push, all_same, kids_one, kids_two, kids_three}
 use Rattle.k_pass.proofs.walk.walk.Goals as goal
 
-pub returns-in_ok-push-in-App-clause-steps : goal.returns-in_ok-push-in-App-clause-steps
-returns-in_ok-push-in-App-clause-steps c =
+pub returns-in-App-clause-steps : goal.returns-in-App-clause-steps
+returns-in-App-clause-steps c =
     let t = noted_at c.args.term.now c.args.types.now in
     let s = c.in-App in
-    walks t c.args.work.now c.args.node c.args.depth (EApp (t s.f) (t s.x) (tree c.node_at-found.result.1.now))
-    (record { out = c.args.work.now.out; frames = c.push.new.self; pending = c.args.work.now.pending; names = c.args.work.now.names; types = c.args.work.now.types }) (C.Walk s.f c.args.depth)
-    (c.node_at-found.ensures.tree ∙ ap (noted_shape t (tree c.node_at-found.result.1.now)) s.is) (goes_app t c.args.work.now c.push.new.self s.f s.x _ c.args.depth c.in_ok-push-in-App.ensures.items)
+    next_is c.enter.result (C.Walk s.f c.args.depth) _ c.enter.ensures
+    (λ waits. walks t c.args.work.now c.args.node c.args.depth (EApp (t s.f) (t s.x) (tree c.node_at-found.result.1.now))
+    (record { out = c.args.work.now.out; frames = c.enter.new.frames; pending = c.args.work.now.pending; names = c.args.work.now.names; types = c.args.work.now.types }) (C.Walk s.f c.args.depth)
+    (c.node_at-found.ensures.tree ∙ ap (noted_shape t (tree c.node_at-found.result.1.now)) s.is) (goes_app t c.args.work.now c.enter.new.frames s.f s.x _ c.args.depth waits))
 
-pub returns-in_ok-push-in-Inst-clause-steps : goal.returns-in_ok-push-in-Inst-clause-steps
-returns-in_ok-push-in-Inst-clause-steps c =
+pub returns-in-Inst-clause-steps : goal.returns-in-Inst-clause-steps
+returns-in-Inst-clause-steps c =
     let t = noted_at c.args.term.now c.args.types.now in
     let s = c.in-Inst in
-    walks t c.args.work.now c.args.node c.args.depth (EInst (t s.e) (tree s.arg) (tree c.node_at-found.result.1.now))
-    (record { out = c.args.work.now.out; frames = c.push-in-Inst.new.self; pending = c.args.work.now.pending; names = c.args.work.now.names; types = c.args.work.now.types }) (C.Walk s.e c.args.depth)
-    (c.node_at-found.ensures.tree ∙ ap (noted_shape t (tree c.node_at-found.result.1.now)) s.is) (goes_inst t c.args.work.now c.push-in-Inst.new.self s.e _ _ c.args.depth c.in_ok-push-in-Inst.ensures.items)
+    next_is c.enter-in-Inst.result (C.Walk s.e c.args.depth) _ c.enter-in-Inst.ensures
+    (λ waits. walks t c.args.work.now c.args.node c.args.depth (EInst (t s.e) (tree s.arg) (tree c.node_at-found.result.1.now))
+    (record { out = c.args.work.now.out; frames = c.enter-in-Inst.new.frames; pending = c.args.work.now.pending; names = c.args.work.now.names; types = c.args.work.now.types }) (C.Walk s.e c.args.depth)
+    (c.node_at-found.ensures.tree ∙ ap (noted_shape t (tree c.node_at-found.result.1.now)) s.is) (goes_inst t c.args.work.now c.enter-in-Inst.new.frames s.e _ _ c.args.depth waits))
 
-pub returns-in_ok-push-in-Proj-clause-steps : goal.returns-in_ok-push-in-Proj-clause-steps
-returns-in_ok-push-in-Proj-clause-steps c =
+pub returns-in-Proj-clause-steps : goal.returns-in-Proj-clause-steps
+returns-in-Proj-clause-steps c =
     let t = noted_at c.args.term.now c.args.types.now in
     let s = c.in-Proj in
-    walks t c.args.work.now c.args.node c.args.depth (EProj s.i (t s.e) (tree c.node_at-found.result.1.now))
-    (record { out = c.args.work.now.out; frames = c.push-in-Proj.new.self; pending = c.args.work.now.pending; names = c.args.work.now.names; types = c.args.work.now.types }) (C.Walk s.e c.args.depth)
-    (c.node_at-found.ensures.tree ∙ ap (noted_shape t (tree c.node_at-found.result.1.now)) s.is) (goes_proj t c.args.work.now c.push-in-Proj.new.self s.i s.e _ c.args.depth c.in_ok-push-in-Proj.ensures.items)
+    next_is c.enter-in-Proj.result (C.Walk s.e c.args.depth) _ c.enter-in-Proj.ensures
+    (λ waits. walks t c.args.work.now c.args.node c.args.depth (EProj s.i (t s.e) (tree c.node_at-found.result.1.now))
+    (record { out = c.args.work.now.out; frames = c.enter-in-Proj.new.frames; pending = c.args.work.now.pending; names = c.args.work.now.names; types = c.args.work.now.types }) (C.Walk s.e c.args.depth)
+    (c.node_at-found.ensures.tree ∙ ap (noted_shape t (tree c.node_at-found.result.1.now)) s.is) (goes_proj t c.args.work.now c.enter-in-Proj.new.frames s.i s.e _ c.args.depth waits))
 
-pub returns-in_ok-push-in-Arith-clause-steps : goal.returns-in_ok-push-in-Arith-clause-steps
-returns-in_ok-push-in-Arith-clause-steps c =
+pub returns-in-Arith-clause-steps : goal.returns-in-Arith-clause-steps
+returns-in-Arith-clause-steps c =
     let t = noted_at c.args.term.now c.args.types.now in
     let s = c.in-Arith in
-    walks t c.args.work.now c.args.node c.args.depth (EArith s.op (t s.a) (t s.b))
-    (record { out = c.args.work.now.out; frames = c.push-in-Arith.new.self; pending = c.args.work.now.pending; names = c.args.work.now.names; types = c.args.work.now.types }) (C.Walk s.a c.args.depth)
-    (c.node_at-found.ensures.tree ∙ ap (noted_shape t (tree c.node_at-found.result.1.now)) s.is) (goes_arith t c.args.work.now c.push-in-Arith.new.self s.op s.a s.b c.args.depth c.in_ok-push-in-Arith.ensures.items)
+    next_is c.enter-in-Arith.result (C.Walk s.a c.args.depth) _ c.enter-in-Arith.ensures
+    (λ waits. walks t c.args.work.now c.args.node c.args.depth (EArith s.op (t s.a) (t s.b))
+    (record { out = c.args.work.now.out; frames = c.enter-in-Arith.new.frames; pending = c.args.work.now.pending; names = c.args.work.now.names; types = c.args.work.now.types }) (C.Walk s.a c.args.depth)
+    (c.node_at-found.ensures.tree ∙ ap (noted_shape t (tree c.node_at-found.result.1.now)) s.is) (goes_arith t c.args.work.now c.enter-in-Arith.new.frames s.op s.a s.b c.args.depth waits))
 
-pub returns-in_ok-push-in-App-clause-inside : goal.returns-in_ok-push-in-App-clause-inside
-returns-in_ok-push-in-App-clause-inside c =
+pub returns-in-App-clause-inside : goal.returns-in-App-clause-inside
+returns-in-App-clause-inside c =
     let m = count c.args.term.now in
-    λ kept. let k = kids_two m c.node_at-found.result.0.now.shape c.in-App.f c.in-App.x (ap children c.in-App.is) c.node_at-found.ensures.kids in (k.0, all_push (FrameIn m) _ _ _ c.in_ok-push-in-App.ensures.items kept.0 k.1, kept.1)
+    let s = c.in-App in
+    let k = kids_two m c.node_at-found.result.0.now.shape s.f s.x (ap children s.is) c.node_at-found.ensures.kids in
+    next_is c.enter.result (C.Walk s.f c.args.depth) _ c.enter.ensures (λ waits kept. (k.0, all_push (FrameIn m) _ _ _ waits kept.0 k.1, kept.1))
 
-pub returns-in_ok-push-in-Arith-clause-inside : goal.returns-in_ok-push-in-Arith-clause-inside
-returns-in_ok-push-in-Arith-clause-inside c =
+pub returns-in-Arith-clause-inside : goal.returns-in-Arith-clause-inside
+returns-in-Arith-clause-inside c =
     let m = count c.args.term.now in
-    λ kept. let k = kids_two m c.node_at-found.result.0.now.shape c.in-Arith.a c.in-Arith.b (ap children c.in-Arith.is) c.node_at-found.ensures.kids in (k.0, all_push (FrameIn m) _ _ _ c.in_ok-push-in-Arith.ensures.items kept.0 k.1, kept.1)
+    let s = c.in-Arith in
+    let k = kids_two m c.node_at-found.result.0.now.shape s.a s.b (ap children s.is) c.node_at-found.ensures.kids in
+    next_is c.enter-in-Arith.result (C.Walk s.a c.args.depth) _ c.enter-in-Arith.ensures (λ waits kept. (k.0, all_push (FrameIn m) _ _ _ waits kept.0 k.1, kept.1))
 
-pub returns-in_ok-push-in-Inst-clause-inside : goal.returns-in_ok-push-in-Inst-clause-inside
-returns-in_ok-push-in-Inst-clause-inside c =
+pub returns-in-Inst-clause-inside : goal.returns-in-Inst-clause-inside
+returns-in-Inst-clause-inside c =
     let m = count c.args.term.now in
-    λ kept. (kids_one m c.node_at-found.result.0.now.shape c.in-Inst.e (ap children c.in-Inst.is) c.node_at-found.ensures.kids, all_push (FrameIn m) _ _ _ c.in_ok-push-in-Inst.ensures.items kept.0 tt, kept.1)
+    let s = c.in-Inst in
+    let k = kids_one m c.node_at-found.result.0.now.shape s.e (ap children s.is) c.node_at-found.ensures.kids in
+    next_is c.enter-in-Inst.result (C.Walk s.e c.args.depth) _ c.enter-in-Inst.ensures (λ waits kept. (k, all_push (FrameIn m) _ _ _ waits kept.0 tt, kept.1))
 
-pub returns-in_ok-push-in-Proj-clause-inside : goal.returns-in_ok-push-in-Proj-clause-inside
-returns-in_ok-push-in-Proj-clause-inside c =
+pub returns-in-Proj-clause-inside : goal.returns-in-Proj-clause-inside
+returns-in-Proj-clause-inside c =
     let m = count c.args.term.now in
-    λ kept. (kids_one m c.node_at-found.result.0.now.shape c.in-Proj.e (ap children c.in-Proj.is) c.node_at-found.ensures.kids, all_push (FrameIn m) _ _ _ c.in_ok-push-in-Proj.ensures.items kept.0 tt, kept.1)
+    let s = c.in-Proj in
+    let k = kids_one m c.node_at-found.result.0.now.shape s.e (ap children s.is) c.node_at-found.ensures.kids in
+    next_is c.enter-in-Proj.result (C.Walk s.e c.args.depth) _ c.enter-in-Proj.ensures (λ waits kept. (k, all_push (FrameIn m) _ _ _ waits kept.0 tt, kept.1))
 
 pub returns-in-Fix-clause-inside : goal.returns-in-Fix-clause-inside
 returns-in-Fix-clause-inside c =

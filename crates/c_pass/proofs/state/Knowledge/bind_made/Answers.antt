@@ -3,7 +3,7 @@ use Rattle.c_walk.specs.Emit as E
 use Rattle.c_walk.specs.Know as W
 use Rattle.c_free.specs.Names.{side}
 use Rattle.c_pass.specs.Read.{bounds, clues_of, sides, infos_onto, notes_onto}
-use Rattle.c_pass.proofs.state.Know.bind_made.Goals as goal
+use Rattle.c_pass.proofs.state.Knowledge.bind_made.Goals as goal
 
 abbrev known : List E.Info → List E.Note → W.Known
 known is cs = record { infos = is; notes = cs }

@@ -13,7 +13,7 @@ use Rattle.c_pass.proofs.Lists.{k_code}
 use Rattle.c_pass.specs.declared.state.Bound.{Bound}
 use Rattle.c_pass.specs.Read.{bounds, clue, clues_of, sides, infos_onto, notes_onto, side_from, info_parts}
 use Rattle.c_pass.proofs.Bounding.{infos_push}
-use Rattle.c_pass.proofs.state.Know.open.Goals as goal
+use Rattle.c_pass.proofs.state.Knowledge.open.Goals as goal
 
 pub info_from-requires : goal.info_from-requires
 info_from-requires c = k_code c.args.owes c.in_ok-all_copied.field-0 ∙ ap (K.TKCode c.args.owes) c.in_ok-all_copied.ensures

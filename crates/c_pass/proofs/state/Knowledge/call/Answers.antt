@@ -6,7 +6,7 @@ use Rattle.c_emit.specs.declared.parts.Note.TheVariants.{Calls}
 use Rattle.c_free.specs.Names.{side}
 use Rattle.c_pass.specs.Read.{bounds, clues_of, sides, infos_onto, notes_onto}
 use Rattle.c_pass.proofs.Bounding.{notes_push}
-use Rattle.c_pass.proofs.state.Know.call.Goals as goal
+use Rattle.c_pass.proofs.state.Knowledge.call.Goals as goal
 
 abbrev known : List E.Info → List E.Note → W.Known
 known is cs = record { infos = is; notes = cs }

@@ -5,7 +5,7 @@ use Rattle.k_terms.specs.Read.{knode, ktree, ktys}
 use Rattle.k_terms.specs.declared.types.KType.{KType}
 use Rattle.c_pass.specs.Read.{Binds, total}
 use Rattle.c_pass.proofs.Lists.{k_tuple}
-use Rattle.c_pass.proofs.state.Know.step.Goals as goal
+use Rattle.c_pass.proofs.state.Knowledge.step.Goals as goal
 
 pub returns-in_ok-pack-in-Pack : goal.returns-in_ok-pack-in-Pack
 returns-in_ok-pack-in-Pack c = λ rest. c.in_ok-pack-in-Pack.ensures rest c.in-Pack.depth ∙ ap (λ n. total c.args.self.now (knode n ∷ rest)) (sym c.in-Pack.is)

@@ -5,7 +5,7 @@ use Rattle.f_grammar.specs.Read.{type_of}
 use Rattle.f_parser.specs.Resolve.{StopsAt}
 use Rattle.f_parser.specs.Binding.{todo, todos, stand, uses_of, Steps}
 use Rattle.f_parser.proofs.Tasks.{stopped, used_in, put_in}
-use Rattle.f_parser.proofs.binding.go.Goals as goal
+use Rattle.f_parser.proofs.binding.do_task.Goals as goal
 
 pub returns-in-Fields : goal.returns-in-Fields
 returns-in-Fields c =

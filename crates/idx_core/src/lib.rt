@@ -4,11 +4,13 @@
 mod arith;
 mod memory;
 mod names;
+mod salt;
 mod scoped;
 mod span;
 
 pub use arith::{Op, compute};
 pub use memory::OutOfMemory;
 pub use names::Names;
+pub use salt::Salt;
 pub use scoped::Scoped;
 pub use span::Span;

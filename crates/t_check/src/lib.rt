@@ -12,6 +12,7 @@ mod marks;
 mod parts;
 mod program;
 mod registers;
+mod salt;
 mod values;
 
 pub use checked::Checked;

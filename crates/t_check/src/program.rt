@@ -14,6 +14,7 @@ use crate::checker::Checker;
 use crate::labels::Labels;
 use crate::parts::{code_parts, refused};
 use crate::registers::Registers;
+use crate::salt::salt_of;
 use idx_core::{OutOfMemory, Span};
 use std::alloc::Global;
 use t_intern::Types;
@@ -28,7 +29,7 @@ pub(crate) fn check_program(alloc: Global, program: &TProgram) -> Result<(), TFa
     if !takes_nothing(first) {
         return refused(TCode::T20, first.name);
     }
-    let mut types = Types::new(alloc);
+    let mut types = Types::salted(alloc, salt_of(program));
     let labels = Labels::of_program(alloc, &mut types, program)?;
     check_heap(alloc, &mut types, program, &labels, &program.heap)?;
     check_blocks(alloc, &mut types, program, &labels, &program.blocks)

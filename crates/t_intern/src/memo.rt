@@ -7,23 +7,22 @@ ghost use Rattle.t_intern.specs.Grown.{IsNumber};
 ghost use Rattle.t_intern.specs.Memo.{Remembers};
 ghost use Rattle.t_intern.specs.Found.{found, same_key};
 
-use idx_core::OutOfMemory;
+use idx_core::{OutOfMemory, Salt};
 use std::alloc::Global;
 use std::collections::HashMap;
-use std::hash::{BuildHasherDefault, DefaultHasher};
 
 // For a type's number and a depth, the number of the walked type.
 #[derive(Drop)]
 pub(crate) struct Memo {
-    found: HashMap<(u64, u64), u64, BuildHasherDefault<DefaultHasher>>,
+    found: HashMap<(u64, u64), u64, Salt>,
 }
 
 impl Memo {
-    pub(crate) fn new(alloc: Global) -> Memo
+    pub(crate) fn new(alloc: Global, salt: Salt) -> Memo
         ensures { (k : ℕ × ℕ) → found result k ≡ None }
     {
         Memo {
-            found: HashMap::with_hasher(alloc, BuildHasherDefault::new()),
+            found: HashMap::with_hasher(alloc, salt),
         }
     }
 

@@ -6,22 +6,21 @@ ghost use Rattle.t_intern.specs.Fitting.{AllFit};
 ghost use Rattle.t_intern.specs.Found.{seen};
 ghost use Rattle.t_intern.specs.Nodes.{at};
 
+use idx_core::Salt;
 use std::alloc::Global;
 use std::collections::HashSet;
-use std::hash::{BuildHasherDefault, DefaultHasher};
 
-// Pairs of numbers. Whoever writes a text picks its types, so the hasher is SipHash.
 #[derive(Drop)]
 pub(crate) struct Pairs {
-    seen: HashSet<(u64, u64), BuildHasherDefault<DefaultHasher>>,
+    seen: HashSet<(u64, u64), Salt>,
 }
 
 impl Pairs {
-    pub(crate) fn new(alloc: Global) -> Pairs
+    pub(crate) fn new(alloc: Global, salt: Salt) -> Pairs
         ensures { (ts : List Ty) → AllFit (seen result) ts }
     {
         Pairs {
-            seen: HashSet::with_hasher(alloc, BuildHasherDefault::new()),
+            seen: HashSet::with_hasher(alloc, salt),
         }
     }
 

@@ -43,7 +43,7 @@ impl Types {
         ensures number { IfOk result (IsNumber self.new (over (spread base (types_at self.old args.now)) depth
             (at self.old n))) }
     {
-        let mut memo = Memo::new(self.alloc());
+        let mut memo = self.memo();
         self.put_in(&mut memo, n, base, args, depth)
     }
 
@@ -65,7 +65,7 @@ impl Types {
         ensures numbers { IfOk result (λ v. AreRegs self.new
             (over_file (spread base (types_at self.old args.now)) depth (regs_at self.old regs.now)) v.items) }
     {
-        let mut memo = Memo::new(self.alloc());
+        let mut memo = self.memo();
         let count = self.count();
         self.put_regs(&mut memo, count, regs, base, args, depth)
     }

@@ -30,7 +30,7 @@ impl Types {
         if let Some(made) = self.recalls_shift(n, by, cut) {
             return Ok(made);
         }
-        let mut memo = Memo::new(self.alloc());
+        let mut memo = self.memo();
         let made = self.shift_in(&mut memo, n, by, cut)?;
         self.note_shift(n, by, cut, made);
         Ok(made)

@@ -6,22 +6,22 @@ ghost use Rattle.t_intern.specs.Grown.{IsNumber};
 ghost use Rattle.t_intern.specs.Memo.{AreShifts};
 ghost use Rattle.t_intern.specs.Nodes.{at};
 
+use idx_core::Salt;
 use std::alloc::Global;
 use std::collections::HashMap;
-use std::hash::{BuildHasherDefault, DefaultHasher};
 
 // For a shift, and a type's number and a cut, the number of the shifted type.
 #[derive(Drop)]
 pub(crate) struct Shifts {
-    made: HashMap<(u64, (u64, u64)), u64, BuildHasherDefault<DefaultHasher>>,
+    made: HashMap<(u64, (u64, u64)), u64, Salt>,
 }
 
 impl Shifts {
-    pub(crate) fn new(alloc: Global) -> Shifts
+    pub(crate) fn new(alloc: Global, salt: Salt) -> Shifts
         ensures { (ts : List Ty) → AreShifts (shift_found result) ts }
     {
         Shifts {
-            made: HashMap::with_hasher(alloc, BuildHasherDefault::new()),
+            made: HashMap::with_hasher(alloc, salt),
         }
     }
 

@@ -7,7 +7,9 @@ ghost use Rattle.t_reader.specs.Labelled.{target_base, IsTargetOf, NameTheSame, 
 
 use crate::scope::{BySpelling, by_spelling, spelling};
 use crate::target::Target;
+use idx_core::Salt;
 use std::alloc::Global;
+use std::hash::{DefaultHasher, Hasher};
 use std::marker::Model;
 use t_shapes::RawItem;
 use t_terms::TFault;
@@ -35,6 +37,18 @@ impl<'a> Labels<'a> {
     {
         self.targets.get(name).copied()
     }
+
+    /// What the hashers of labels have read before a label.
+    pub fn salt(&self) -> Salt {
+        *self.targets.hasher()
+    }
+}
+
+// The whole text, for the hashers of its labels and names.
+fn salt_of(text: &[u8]) -> Salt {
+    let mut read = DefaultHasher::new();
+    read.write(text);
+    Salt { read }
 }
 
 // gives a label what it names, unless an item before has the label
@@ -62,7 +76,7 @@ pub fn labels_in<'a>(alloc: Global, text: &'a [u8], items: &[RawItem]) -> Result
         (λ l. NameTheSame l (labels_of text.now (raw_items items.now)))
         (λ e. e ≡ fault.Memory) }
 {
-    let mut targets = by_spelling(alloc);
+    let mut targets = by_spelling(alloc, salt_of(text));
     let mut blocks = 0u64;
     let mut tuples = 0u64;
     for item in items {

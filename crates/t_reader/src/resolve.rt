@@ -193,7 +193,7 @@ pub fn block_in(
         × (read.spanned b ≡ block_of text.now labels.now (raw_block block.now)))
         (λ e. StopsAt (block_faults text.now labels.now (raw_block block.now)) e) }
 {
-    let mut scope = Scope::new(alloc);
+    let mut scope = Scope::new(alloc, labels.salt());
     let names = block.names.as_slice();
     bind_all(text, names, &mut scope)?;
     let regs = file_in(alloc, text, &block.file.regs, &mut scope)?;
@@ -221,7 +221,7 @@ fn datum_in(
         × (read.datum x ≡ datum_of text.now labels.now (raw_datum datum.now)))
         (λ e. StopsAt (datum_faults text.now labels.now (raw_datum datum.now)) e) }
 {
-    let mut scope = Scope::new(alloc);
+    let mut scope = Scope::new(alloc, labels.salt());
     let value = value_in(alloc, text, labels, &datum.value, &mut scope)?;
     let ty = type_in(alloc, text, &datum.ty, &mut scope)?;
     Ok((value, ty, datum.place))

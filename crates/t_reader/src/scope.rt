@@ -6,22 +6,20 @@ ghost use Rattle.t_reader.specs.Resolve.{IsFound};
 ghost use Rattle.t_reader.specs.Levels.{level_of};
 ghost use Rattle.t_terms.specs.declared.fault.TFault.TheVariants as fault;
 
-use idx_core::{OutOfMemory, Span};
+use idx_core::{OutOfMemory, Salt, Span};
 use indexmap::IndexMap;
 use std::alloc::Global;
-use std::hash::{BuildHasherDefault, DefaultHasher};
 use std::marker::Model;
 use t_terms::TFault;
 
-/// Values by spellings. Whoever writes a text picks its names, so the hasher is SipHash, for which names that collide
-/// must be searched out; its keys are fixed (own choice).
-pub type BySpelling<'a, V> = IndexMap<&'a [u8], V, BuildHasherDefault<DefaultHasher>>;
+/// Values by spellings. Whoever writes a text picks its names, so the hashers read the text before a name.
+pub type BySpelling<'a, V> = IndexMap<&'a [u8], V, Salt>;
 
 /// An empty map.
-pub fn by_spelling<'a, V>(alloc: Global) -> BySpelling<'a, V>
+pub fn by_spelling<'a, V>(alloc: Global, salt: Salt) -> BySpelling<'a, V>
     ensures { IsEmpty result }
 {
-    IndexMap::with_hasher(alloc, BuildHasherDefault::new())
+    IndexMap::with_hasher(alloc, salt)
 }
 
 /// The type names in scope. Contracts see them as the list of their spellings, innermost first.
@@ -47,11 +45,11 @@ impl<'a> Model for Scope<'a> {
 
 impl<'a> Scope<'a> {
     /// No names.
-    pub fn new(alloc: Global) -> Scope<'a>
+    pub fn new(alloc: Global, salt: Salt) -> Scope<'a>
         ensures { result ≡ [] }
     {
         Scope {
-            levels: by_spelling(alloc),
+            levels: by_spelling(alloc, salt),
             bound: Vec::new(alloc),
         }
     }

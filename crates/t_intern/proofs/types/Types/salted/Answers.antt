@@ -1,11 +1,11 @@
 use Rattle.std.proofs.Common.{[], refl, arith}
-use Rattle.t_intern.proofs.types.Types.new.Goals as goal
+use Rattle.t_intern.proofs.types.Types.salted.Goals as goal
 
 pub invariant_of-result : goal.invariant_of-result
-invariant_of-result c = rw (c.with_hasher.ensures.empty, c.new-2.ensures.items) (record {
+invariant_of-result c = rw (c.with_hasher.ensures.empty, c.new.ensures.items) (record {
   parts = tt;
   once = λ i j l m e. absurd (omega (arith, l));
   bounds = (refl, λ k l. absurd (omega (arith, l)));
-  fitted = c.new-3.ensures [];
-  shifted = c.new-4.ensures [];
+  fitted = c.new-2.ensures [];
+  shifted = c.new-3.ensures [];
 })

@@ -104,7 +104,10 @@ fn read_value(read: &mut DefaultHasher, value: &Value) {
 fn read_base(read: &mut DefaultHasher, base: Base) {
     match base {
         Base::Reg(r) => read_numbers(read, &[0, r]),
-        Base::Int(n) => read_numbers(read, &[1, n as u64]),
+        Base::Int(n) => {
+            read.write_u8(1);
+            read.write_i64(n);
+        }
         Base::Label(l) => read_numbers(read, &[2, l]),
         Base::Data(d) => read_numbers(read, &[3, d]),
     }
@@ -133,7 +136,6 @@ fn read_type(read: &mut DefaultHasher, ty: &TType) {
     }
 }
 
-#[cycle(types)]
 fn read_types(read: &mut DefaultHasher, types: &[TType]) {
     read.write_u64(types.len() as u64);
     for ty in types {

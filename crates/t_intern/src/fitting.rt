@@ -84,8 +84,8 @@ fn fields_fit(a: &[(u64, bool)], b: &[(u64, bool)]) -> bool
     if a.len() != b.len() {
         return false;
     }
-    for i in 0..a.len() {
-        if !part_fits(a[i], b[i]) {
+    for (x, y) in a.iter().zip(b) {
+        if !part_fits(*x, *y) {
             return false;
         }
     }

@@ -28,11 +28,11 @@ fn eq_regs(a: &[(u64, TType)], b: &[(u64, TType)]) -> bool
     if a.len() != b.len() {
         return false;
     }
-    for i in 0..a.len() {
-        if a[i].0 != b[i].0 {
+    for (x, y) in a.iter().zip(b) {
+        if x.0 != y.0 {
             return false;
         }
-        if !eq(&a[i].1, &b[i].1) {
+        if !eq(&x.1, &y.1) {
             return false;
         }
     }
@@ -46,11 +46,11 @@ fn eq_fields(a: &[(TType, bool)], b: &[(TType, bool)]) -> bool
     if a.len() != b.len() {
         return false;
     }
-    for i in 0..a.len() {
-        if a[i].1 != b[i].1 {
+    for (x, y) in a.iter().zip(b) {
+        if x.1 != y.1 {
             return false;
         }
-        if !eq(&a[i].0, &b[i].0) {
+        if !eq(&x.0, &y.0) {
             return false;
         }
     }

@@ -23,11 +23,11 @@ fn fields_fit(a: &[(TType, bool)], b: &[(TType, bool)]) -> bool
     if a.len() != b.len() {
         return false;
     }
-    for i in 0..a.len() {
-        if !flag_fits(a[i].1, b[i].1) {
+    for (x, y) in a.iter().zip(b) {
+        if !flag_fits(x.1, y.1) {
             return false;
         }
-        if !eq(&a[i].0, &b[i].0) {
+        if !eq(&x.0, &y.0) {
             return false;
         }
     }

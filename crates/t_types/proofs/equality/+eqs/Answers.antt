@@ -1,8 +1,10 @@
-use Rattle.std.proofs.Common.{◌≡◌, true, arith, refl, sym, ap, ◌∙◌, ap₂}
+use Rattle.std.proofs.Common.{◌≡◌, true, refl, sym, ap, ◌∙◌, ap₂}
 use Rattle.t_types.specs.Tree.{TupleTy, CodeTy}
 use Rattle.t_types.specs.Read.{fields, file}
 use Rattle.t_types.proofs.Trees.{tree_is_tuple, tree_is_code}
-use Rattle.t_types.proofs.Equal.{SameField, SameReg, fields_len, fields_at, fields_all, regs_len, regs_at, regs_all, one_more, not_same, same, flags_of, numbers_of}
+use Rattle.std.proofs.lemmas.Iterator.{empty_from_Zip}
+use Rattle.t_types.proofs.Equal.{SameFields, SameRegs, fields_len, fields_more, fields_parts, regs_len, regs_more, regs_parts, not_same, same}
+use Rattle.t_types.proofs.Pairs.{starts, ends, firsts, goes_on}
 use Rattle.t_types.proofs.equality.+eqs.Goals as goal
 
 pub eq-returns-then-m-n : goal.eq-returns-then-m-n
@@ -26,51 +28,67 @@ eq-returns-in-Tuple-Tuple t c =
 pub eq_fields-returns-then-a-b : goal.eq_fields-returns-then-a-b
 eq_fields-returns-then-a-b t c = ((λ h. cc), (λ h. absurd (c.if-a-b.true (fields_len c.args.a.now c.args.b.now h))))
 
-pub eq_fields-loop-i-init : goal.eq_fields-loop-i-init
-eq_fields-loop-i-init t c = λ k d lt. absurd (omega arith)
+pub eq_fields-loop-x-init : goal.eq_fields-loop-x-init
+eq_fields-loop-x-init t c =
+    let z = c.zip-x-items.ensures in
+    let e = c.into_iter-x-iterator.ensures.into_iter_gives in
+    starts SameFields _ _ _ _ (rw (e, z.first) c.iter.ensures.rest) (rw e z.second.0) c.if-a-b.false
 
-pub eq_fields-returns-then-a-i : goal.eq_fields-returns-then-a-i
-eq_fields-returns-then-a-i t c = ((λ h. cc), (λ h. absurd (not_same _ _ c.if-a-i.true (fields_at c.args.a.now c.args.b.now h c.loop-i.i c.index-a-i.result c.index-b-i.result c.loop-i-test.true).1)))
+pub eq_fields-returns-then-x-y : goal.eq_fields-returns-then-x-y
+eq_fields-returns-then-x-y t c =
+    let s = c.in-Some.ensures.steps in
+    ((λ h. cc), (λ h. absurd (not_same _ _ c.if-x-y.true (fields_parts _ _ _ _ (firsts SameFields _ _ _ _ _ _ _ _ c.loop-x.invariant s.0 s.1 h)).0.1)))
 
 pub eq_fields-returns-then-not-eq : goal.eq_fields-returns-then-not-eq
 eq_fields-returns-then-not-eq t c = (
   (λ h. cc),
   (λ h.
-      let s = fields_at c.args.a.now c.args.b.now h c.loop-i.i c.index-a-i-in-loop-i.result c.index-b-i-in-loop-i.result c.loop-i-test.true in
-      let z : c.eq.result ≡ true = c.eq.ensures.1 s.0 in let z2 = c.if-not-eq.true in cc),
+      let s = c.in-Some.ensures.steps in
+      let p = fields_parts _ _ _ _ (firsts SameFields _ _ _ _ _ _ _ _ c.loop-x.invariant s.0 s.1 h) in
+      let z : c.eq.result ≡ true = c.eq.ensures.1 p.0.0 in let z2 = c.if-not-eq.true in cc),
 )
 
-pub eq_fields-loop-i-preserved : goal.eq_fields-loop-i-preserved
-eq_fields-loop-i-preserved t c =
+pub eq_fields-loop-x-preserved : goal.eq_fields-loop-x-preserved
+eq_fields-loop-x-preserved t c =
+    let s = c.in-Some.ensures.steps in
     let z = c.eq.ensures.0 c.if-not-eq.false in
-    one_more SameField c.args.a.now c.args.b.now c.loop-i.i c.index-a-i-in-loop-i.result c.index-b-i-in-loop-i.result c.if-a-b.false c.loop-i-test.true c.loop-i.invariant (z, flags_of c.args.a.now c.args.b.now c.loop-i.i c.index-a-i.result c.index-b-i.result _ _ c.if-a-b.false c.loop-i-test.true (same _ _ c.if-a-i.false))
+    goes_on SameFields _ _ _ _ _ _ _ _ c.loop-x.invariant s.0 s.1 (fields_more _ _ _ _ (z, same _ _ c.if-x-y.false)) (λ h. (fields_parts _ _ _ _ h).1)
 
 pub eq_fields-returns : goal.eq_fields-returns
-eq_fields-returns t c = let ie = c.loop-i.auto.i-end in let le = c.loop-i-test.false in
-    ((λ h. fields_all c.args.a.now c.args.b.now c.if-a-b.false (λ k d lt. c.loop-i.invariant k d (omega arith))), (λ h. refl))
+eq_fields-returns t c =
+    let e = empty_from_Zip c.loop-x.x-iterator c.next.new.self c.next.result c.in-None.is c.next.ensures.steps c.loop-x.invariant.long in
+    ((λ h. ends SameFields _ _ _ _ c.loop-x.invariant e.0 e.1 refl), (λ h. refl))
 
 pub eq_regs-returns-then-a-b : goal.eq_regs-returns-then-a-b
 eq_regs-returns-then-a-b t c = ((λ h. cc), (λ h. absurd (c.if-a-b.true (regs_len c.args.a.now c.args.b.now h))))
 
-pub eq_regs-loop-i-init : goal.eq_regs-loop-i-init
-eq_regs-loop-i-init t c = λ k d lt. absurd (omega arith)
+pub eq_regs-loop-x-init : goal.eq_regs-loop-x-init
+eq_regs-loop-x-init t c =
+    let z = c.zip-x-items.ensures in
+    let e = c.into_iter-x-iterator.ensures.into_iter_gives in
+    starts SameRegs _ _ _ _ (rw (e, z.first) c.iter.ensures.rest) (rw e z.second.0) c.if-a-b.false
 
-pub eq_regs-returns-then-a-i : goal.eq_regs-returns-then-a-i
-eq_regs-returns-then-a-i t c = ((λ h. cc), (λ h. absurd (c.if-a-i.true (regs_at c.args.a.now c.args.b.now h c.loop-i.i c.index-a-i.result c.index-b-i.result c.loop-i-test.true).0)))
+pub eq_regs-returns-then-x-y : goal.eq_regs-returns-then-x-y
+eq_regs-returns-then-x-y t c =
+    let s = c.in-Some.ensures.steps in
+    ((λ h. cc), (λ h. absurd (c.if-x-y.true (regs_parts _ _ _ _ (firsts SameRegs _ _ _ _ _ _ _ _ c.loop-x.invariant s.0 s.1 h)).0.0)))
 
 pub eq_regs-returns-then-not-eq : goal.eq_regs-returns-then-not-eq
 eq_regs-returns-then-not-eq t c = (
   (λ h. cc),
   (λ h.
-      let s = regs_at c.args.a.now c.args.b.now h c.loop-i.i c.index-a-i-in-loop-i.result c.index-b-i-in-loop-i.result c.loop-i-test.true in
-      let z : c.eq.result ≡ true = c.eq.ensures.1 s.1 in let z2 = c.if-not-eq.true in cc),
+      let s = c.in-Some.ensures.steps in
+      let p = regs_parts _ _ _ _ (firsts SameRegs _ _ _ _ _ _ _ _ c.loop-x.invariant s.0 s.1 h) in
+      let z : c.eq.result ≡ true = c.eq.ensures.1 p.0.1 in let z2 = c.if-not-eq.true in cc),
 )
 
-pub eq_regs-loop-i-preserved : goal.eq_regs-loop-i-preserved
-eq_regs-loop-i-preserved t c =
+pub eq_regs-loop-x-preserved : goal.eq_regs-loop-x-preserved
+eq_regs-loop-x-preserved t c =
+    let s = c.in-Some.ensures.steps in
     let z = c.eq.ensures.0 c.if-not-eq.false in
-    one_more SameReg c.args.a.now c.args.b.now c.loop-i.i c.index-a-i-in-loop-i.result c.index-b-i-in-loop-i.result c.if-a-b.false c.loop-i-test.true c.loop-i.invariant (numbers_of c.args.a.now c.args.b.now c.loop-i.i c.index-a-i.result c.index-b-i.result _ _ c.if-a-b.false c.loop-i-test.true c.if-a-i.false, z)
+    goes_on SameRegs _ _ _ _ _ _ _ _ c.loop-x.invariant s.0 s.1 (regs_more _ _ _ _ (c.if-x-y.false, z)) (λ h. (regs_parts _ _ _ _ h).1)
 
 pub eq_regs-returns : goal.eq_regs-returns
-eq_regs-returns t c = let ie = c.loop-i.auto.i-end in let le = c.loop-i-test.false in
-    ((λ h. regs_all c.args.a.now c.args.b.now c.if-a-b.false (λ k d lt. c.loop-i.invariant k d (omega arith))), (λ h. refl))
+eq_regs-returns t c =
+    let e = empty_from_Zip c.loop-x.x-iterator c.next.new.self c.next.result c.in-None.is c.next.ensures.steps c.loop-x.invariant.long in
+    ((λ h. ends SameRegs _ _ _ _ c.loop-x.invariant e.0 e.1 refl), (λ h. refl))

@@ -1,7 +1,8 @@
-use Rattle.std.proofs.Common.{ℕ, ◌<◌, get_or, Bool}
-use Rattle.t_types.specs.declared.types.TType.{TType}
-use Rattle.t_types.proofs.FitPlaces.{FieldFits}
+use Rattle.std.specs.Iterator.Adapters.{zip_first, zip_second}
+use Rattle.std.specs.Slice.Iter.{iter_rest}
+use Rattle.t_types.proofs.FitPlaces.{AllFit}
+use Rattle.t_types.proofs.Pairs.{Left}
 use Rattle.t_types.proofs.fitting.fields_fit.Given as goal
 
-abbrev pub invariant-loop-i : goal.invariant-loop-i
-invariant-loop-i l = (k : ℕ) (d : TType × Bool) → k < l.i → FieldFits (get_or l.a k d) (get_or l.b k d)
+abbrev pub invariant-loop-x : goal.invariant-loop-x
+invariant-loop-x l = Left AllFit l.a l.b (iter_rest (zip_first l.x-iterator)) (iter_rest (zip_second l.x-iterator))

@@ -71,7 +71,7 @@ fn allocated(alloc: Global, program: &HProgram) -> Result<AProgram, OutOfMemory>
     let mut tuples = Vec::new(alloc);
     let blocks = all_blocks(alloc, given, &mut tuples)?;
     let main = main_term(alloc, given, program.main(), &mut tuples)?;
-    a_terms::sizes::within(&blocks, &main, &tuples)?;
+    a_terms::sizes::keeps_bound(&blocks, &main, &tuples)?;
     Ok(AProgram::new(blocks, main, tuples))
 }
 

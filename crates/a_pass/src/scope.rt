@@ -45,7 +45,7 @@ pub(crate) fn name_at(names: &[Name], i: u64) -> Option<&Name>
 }
 
 // The variable that stands for name i; a number where there is no such name.
-pub(crate) fn variable(alloc: Global, names: &[Name], i: u64) -> AValue
+fn variable(alloc: Global, names: &[Name], i: u64) -> AValue
     ensures { (d : ℕ) → value_at d result ≡ var_of d (level_of (slice_get (knowns names.now) i)) }
 {
     match name_at(names, i) {

@@ -7,7 +7,7 @@ ghost use Rattle.a_terms.specs.NodeTrees.{a_value};
 ghost use Rattle.a_terms.specs.Program.{program_in};
 ghost use Rattle.a_scope.specs.Scope.{scope, shown};
 
-use crate::scope::{Entry, less};
+use crate::scope::Entry;
 use crate::sharing::entry_of;
 use crate::value::type_of_value;
 use a_terms::parts::{body_of, field_of};
@@ -18,7 +18,7 @@ use std::alloc::Global;
 fn field_of_entry(alloc: Global, entry: &Entry, names: u64, i: u64) -> Result<AType, OutOfMemory>
     ensures { IfOk result (λ r. atree r ≡ the_field_of i (Some (shown names entry.now))) }
 {
-    let by = less(names, entry.names);
+    let by = names.saturating_sub(entry.names);
     let made = field_of(alloc, &entry.ty, i, by)?;
     Ok(made)
 }
@@ -74,7 +74,7 @@ fn body_of_entry(alloc: Global, entry: &Entry, names: u64) -> Result<AType, OutO
     if entry.filled > 0 {
         return Ok(AType::Int);
     }
-    let by = less(names, entry.names);
+    let by = names.saturating_sub(entry.names);
     let made = body_of(alloc, &entry.ty, by)?;
     Ok(made)
 }

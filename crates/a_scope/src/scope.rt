@@ -1,5 +1,5 @@
 // The variables in scope.
-ghost use Rattle.std.specs.Prelude.{◌≡◌, ◌-◌, IfOk};
+ghost use Rattle.std.specs.Prelude.{◌≡◌, IfOk};
 ghost use Rattle.a_terms.specs.Read.{atree};
 ghost use Rattle.a_scope.specs.Scope.{shown, noted, filled_to};
 
@@ -18,13 +18,6 @@ pub struct Entry {
     pub ty: Rc<AType>,
     pub filled: u64,
     pub names: u64,
-}
-
-/// `a - b`, or 0 where `b` is more.
-pub fn less(a: u64, b: u64) -> u64
-    ensures { result ≡ a - b }
-{
-    if b <= a { a - b } else { 0 }
 }
 
 /// A variable of this type, where `names` type names are in scope. An error is want of memory.
@@ -68,7 +61,7 @@ fn filled_up(t: AType, count: u64) -> AType
 pub fn show(alloc: Global, entry: &Entry, names: u64) -> Result<AType, OutOfMemory>
     ensures { IfOk result (λ t. atree t ≡ shown names entry.now) }
 {
-    let by = less(names, entry.names);
+    let by = names.saturating_sub(entry.names);
     let made = shift_type(alloc, &entry.ty, by, 0)?;
     Ok(filled_up(made, entry.filled))
 }

@@ -1,5 +1,5 @@
 // How many names and registers a program needs at most.
-ghost use Rattle.std.specs.Prelude.{◌≡◌, ◌+◌, max, IfOk, OnOk};
+ghost use Rattle.std.specs.Prelude.{◌≡◌, ◌+◌, IfOk, OnOk};
 ghost use Rattle.a_terms.specs.Sizes.{bulk as the_bulk, bulk_types as the_bulk_types, bulk_fields as the_bulk_fields, bulk_sum as the_bulk_sum, value_weight as the_value_weight, values_weight as the_values_weight, Fits-in};
 ghost use Rattle.a_terms.specs.Weights.{form_size as the_form_size, node_size as the_node_size, nodes_size as the_nodes_size, wrap_weight as the_wrap_weight, wraps_weight as the_wraps_weight, label_size, body_size, blocks_size as the_blocks_size, fields_size as the_fields_size, data_size as the_data_size};
 ghost use Rattle.a_terms.specs.Read.{atree, atrees, afields};
@@ -9,12 +9,6 @@ use crate::nodes::{ABlock, AData, AForm, ANode, AValue, AWrap};
 use crate::types::AType;
 use crate::walks::sum;
 use idx_core::OutOfMemory;
-
-fn greater(a: u64, b: u64) -> u64
-    ensures { result ≡ max a b }
-{
-    if a < b { b } else { a }
-}
 
 #[cycle(bulk)]
 fn bulk(t: &AType) -> Result<u64, OutOfMemory>
@@ -48,8 +42,7 @@ fn bulk_types(ts: &[AType]) -> Result<u64, OutOfMemory>
 {
     let mut most: u64 = 0;
     for t in ts {
-        let n = bulk(t)?;
-        most = greater(most, n);
+        most = most.max(bulk(t)?);
     }
     Ok(most)
 }
@@ -60,8 +53,7 @@ fn bulk_fields(fields: &[(AType, bool)]) -> Result<u64, OutOfMemory>
 {
     let mut most: u64 = 0;
     for field in fields {
-        let n = bulk(&field.0)?;
-        most = greater(most, n);
+        most = most.max(bulk(&field.0)?);
     }
     Ok(most)
 }
@@ -235,7 +227,7 @@ fn data_size(tuples: &[AData]) -> Result<u64, OutOfMemory>
 
 /// That a program of these parts needs no more names and registers than the assembly language has. One that needs
 /// more is larger than any memory, so the answer is then want of memory.
-pub fn within(blocks: &[ABlock], main: &[ANode], tuples: &[AData]) -> Result<(), OutOfMemory>
+pub fn keeps_bound(blocks: &[ABlock], main: &[ANode], tuples: &[AData]) -> Result<(), OutOfMemory>
     ensures { OnOk result (Fits-in 4611686018427387904 (a_prog blocks.now tuples.now) (a_tree main.now)) }
 {
     let all = blocks_size(blocks)?;

@@ -76,7 +76,7 @@ pub fn shorten(depths: &mut VecDeque<u64>)
 
 impl Open {
     // Makes the parts a node.
-    pub fn emit(&mut self, alloc: Global, form: HForm) -> Result<(), OutOfMemory>
+    pub(crate) fn emit(&mut self, alloc: Global, form: HForm) -> Result<(), OutOfMemory>
         ensures nodes { OnOk result
             (self.new.nodes.items ≡ self.old.nodes.items ++ record { form = form; values = self.old.parts } ∷ []) }
         ensures parts { OnOk result (self.new.parts.items ≡ []) }

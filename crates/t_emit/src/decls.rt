@@ -10,7 +10,7 @@ ghost use Rattle.a_terms.specs.Arity.{AArity};
 use crate::code::{plain, put};
 use crate::types::written_all;
 use crate::values::{emit_one, emit_two, emit_value};
-use a_scope::{first, less, second};
+use a_scope::{first, second};
 use a_terms::{AForm, AValue};
 use idx_core::{Op, OutOfMemory, Span};
 use std::alloc::Global;
@@ -62,7 +62,7 @@ fn project(
     ensures { OnOk result (Grows code.old.items code.new.items (decl_code depth (Proj i (a_value v.now)))) }
 {
     let rd = depth + 1;
-    let field = less(i, 1);
+    let field = i.saturating_sub(1);
     let last = Instr::Ld { rd, rs: rd, field };
     emit_one(alloc, code, depth, v, last)?;
     Ok(())
@@ -107,7 +107,7 @@ fn initialise(
         (decl_code depth (Init (a_value v.now) i (a_value w.now)))) }
 {
     let rd = depth + 1;
-    let field = less(i, 1);
+    let field = i.saturating_sub(1);
     let last = Instr::St {
         rd,
         field,

@@ -9,7 +9,6 @@ ghost use Rattle.t_emit.specs.Code.{wrap_code};
 
 use crate::code::{plain, put};
 use crate::types::{written, written_all};
-use a_scope::less;
 use a_terms::{ABase, AValue, AWrap};
 use idx_core::{OutOfMemory, Span};
 use std::alloc::Global;
@@ -37,7 +36,7 @@ pub(crate) fn emit_base(
 {
     match base {
         ABase::Var(n) => {
-            let r = less(depth, n);
+            let r = depth.saturating_sub(n);
             let v = plain(alloc, Base::Reg(r));
             put(code, Instr::Mov { rd: target, v })
         }

@@ -19,7 +19,7 @@ new-requires-clause-bound c =
     ∥∥₁_map c.blocks-given.ensures.bound (λ h. bounded _ _ c.in_ok-blocks.blocks.items _ c.main_term.new.tuples.items _ c.in_ok-main.main.items _ c.bounds_are_kept.ensures h
     (program_is g _ m _ c.in_ok-blocks.blocks.items c.main_term.new.tuples.items _ c.blocks-given.ensures.same c.main.ensures.same c.in_ok-blocks.ensures.made ed n)
     (main_is g _ m _ _ _ c.blocks-given.ensures.same c.main.ensures.same c.in_ok-main.ensures.tree n)
-    c.deref.ensures.value c.deref-2.ensures.value c.deref-3.ensures.value c.in_ok-within.ensures)
+    c.deref.ensures.value c.deref-2.ensures.value c.deref-3.ensures.value c.in_ok-keeps_bound.ensures)
 
 pub returns-clause-program : goal.returns-clause-program
 returns-clause-program c =

@@ -8,6 +8,6 @@ use Rattle.a_scope.proofs.field.field_of_entry.Goals as goal
 
 pub returns : goal.returns
 returns c =
-    c.in_ok-made.ensures ∙ ap₂ (λ b (t : AType). ashift b 0 (field_of c.args.i (Some (atree t)))) c.less-by.ensures
+    c.in_ok-made.ensures ∙ ap₂ (λ b (t : AType). ashift b 0 (field_of c.args.i (Some (atree t)))) c.saturating_sub-by.ensures
     c.deref.ensures
     ∙ entry_field c.args.names c.args.i c.args.entry.now

@@ -10,5 +10,5 @@ pub returns : goal.returns
 returns c =
     let e = c.args.entry.now in
     c.filled_up.ensures ∙ ap (filled_to e.filled) (c.in_ok-made.ensures
-    ∙ ap₂ (λ b (t : AType). ashift b 0 (atree t)) c.less-by.ensures c.deref.ensures)
+    ∙ ap₂ (λ b (t : AType). ashift b 0 (atree t)) c.saturating_sub-by.ensures c.deref.ensures)
     ∙ filled_to_shift (c.args.names - e.names) e.filled (atree e.ty.value)

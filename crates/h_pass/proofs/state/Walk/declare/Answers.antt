@@ -1,4 +1,4 @@
-use Rattle.std.proofs.Common.{◌≡◌, ◌<◌, ℕ, ap, ◌∙◌, sym, subst}
+use Rattle.std.proofs.Common.{◌<◌, ap, ◌∙◌, sym, subst}
 use Rattle.h_pass.specs.declared.state.Open.{Open}
 use Rattle.h_terms.specs.Row.{top}
 use Rattle.h_pass.proofs.state.Walk.declare.Goals as goal

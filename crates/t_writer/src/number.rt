@@ -5,11 +5,7 @@ ghost use Rattle.t_writer.specs.Lexeme.{number_text};
 use idx_core::OutOfMemory;
 use itoa::Buffer;
 
-<<<<<<< HEAD
 /// Puts a natural number in decimal at the end of a text. Where memory is wanted, the text is as before.
-=======
-/// Puts a natural number in decimal at the end of a text. An error is want of memory.
->>>>>>> abd3a37b01befe7811669cc447689004f7dfc846
 pub fn write_natural(text: &mut Vec<u8>, n: u64) -> Result<(), OutOfMemory>
     ensures written { OnOk result (text.new.items ≡ text.old.items ++ decimal n) }
     ensures kept { OnErr result (text.new.items ≡ text.old.items) }
@@ -19,12 +15,8 @@ pub fn write_natural(text: &mut Vec<u8>, n: u64) -> Result<(), OutOfMemory>
     Ok(())
 }
 
-<<<<<<< HEAD
 /// Puts an integer in decimal at the end of a text, with a tilde before a negative one. Where memory is wanted, the
 /// text is as before.
-=======
-/// Puts an integer in decimal at the end of a text, with a tilde before a negative one. An error is want of memory.
->>>>>>> abd3a37b01befe7811669cc447689004f7dfc846
 pub fn write_integer(text: &mut Vec<u8>, value: i64) -> Result<(), OutOfMemory>
     ensures written { OnOk result (text.new.items ≡ text.old.items ++ number_text value) }
     ensures kept { OnErr result (text.new.items ≡ text.old.items) }

@@ -168,11 +168,11 @@ def names(n):
 
 
 TEXTS = [
-    (falling, 40_000), (one_register, 40_000), (many_registers, 40_000), (after_unpacks, 20_000), (fills, 20_000),
-    (filled_moves, 20_000), (arguments, 20_000), (deep, 20), (unpacks, 20_000), (wide_jumps, 160_000),
-    (changed_jumps, 80_000), (two_files, 80_000), (unpacked_jumps, 80_000), (same_pair_jumps, 40_000),
-    (same_pair_stores, 40_000), (open_loads, 80_000), (opened_loads, 80_000), (open_jumps, 40_000),
-    (opened_jumps, 40_000), (names, 40_000),
+    (falling, 20_000), (one_register, 40_000), (many_registers, 40_000), (after_unpacks, 20_000), (fills, 10_000),
+    (filled_moves, 10_000), (arguments, 10_000), (deep, 20), (unpacks, 10_000), (wide_jumps, 80_000),
+    (changed_jumps, 40_000), (two_files, 40_000), (unpacked_jumps, 40_000), (same_pair_jumps, 20_000),
+    (same_pair_stores, 20_000), (open_loads, 40_000), (opened_loads, 40_000), (open_jumps, 20_000),
+    (opened_jumps, 20_000), (names, 20_000),
 ]
 
 

@@ -110,7 +110,7 @@ fn finds_the_first_fault_of_data(rt: HostRuntime) {
     );
 }
 
-// Where a text is cut short, the end is refused, and a word that is cut is another word.
+// A text of data alone, cut after each of its bytes: the end is refused, or a word that is cut, since it is another.
 #[test]
 fn refuses_a_header_that_is_cut(rt: HostRuntime) {
     each_refused(
@@ -127,8 +127,12 @@ fn refuses_a_header_that_is_cut(rt: HostRuntime) {
             ("tal 2\nD", TCode::T03, 7, 7),
             ("tal 2\nD0", TCode::T03, 8, 8),
             ("tal 2\nD0:", TCode::T03, 9, 9),
+            ("tal 2\nD0: ", TCode::T03, 10, 10),
+            ("tal 2\nD0: d", TCode::T03, 10, 11),
+            ("tal 2\nD0: da", TCode::T03, 10, 12),
             ("tal 2\nD0: dat", TCode::T03, 10, 13),
             ("tal 2\nD0: data", TCode::T03, 14, 14),
+            ("tal 2\nD0: data ", TCode::T03, 15, 15),
             ("tal 2\nD0: data <", TCode::T03, 16, 16),
             ("tal 2\nD0: data <>", TCode::T03, 17, 17),
         ],
@@ -190,7 +194,8 @@ fn many_tuples(alloc: Global, count: u64) -> Result<Vec<u8>, AllocError> {
 
 // A walk over all labels at each use would take time by their number squared.
 #[test]
-fn reads_many_data_tuples(rt: HostRuntime) {
-    let text = many_tuples(rt.alloc(), 50_000).unwrap_or(Vec::new(rt.alloc()));
+fn reads_many_data_tuples(rt: HostRuntime) -> Result<(), Fail> {
+    let text = many_tuples(rt.alloc(), 50_000)?;
     assert_eq!(rt; named_at(&text, 0, &rt), Some(49_999));
+    Ok(())
 }

@@ -304,21 +304,24 @@ fn register_at(text: &[u8], at: usize, rt: &HostRuntime) -> Option<u64> {
 
 // Large texts: a walk over all names, labels or registers at each use would take time by their number squared.
 #[test]
-fn reads_many_names(rt: HostRuntime) {
-    let text = many_names(rt.alloc(), 100_000).unwrap_or(Vec::new(rt.alloc()));
+fn reads_many_names(rt: HostRuntime) -> Result<(), Fail> {
+    let text = many_names(rt.alloc(), 100_000)?;
     assert_eq!(rt; name_at(&text, 0, &rt), Some(99_999));
     assert_eq!(rt; name_at(&text, 99_999, &rt), Some(0));
+    Ok(())
 }
 
 #[test]
-fn reads_many_labels(rt: HostRuntime) {
-    let text = many_labels(rt.alloc(), 100_000).unwrap_or(Vec::new(rt.alloc()));
+fn reads_many_labels(rt: HostRuntime) -> Result<(), Fail> {
+    let text = many_labels(rt.alloc(), 100_000)?;
     assert_eq!(rt; jump_of(&text, &rt), Some(99_999));
+    Ok(())
 }
 
 #[test]
-fn reads_many_registers(rt: HostRuntime) {
-    let text = many_registers(rt.alloc(), 50_000).unwrap_or(Vec::new(rt.alloc()));
+fn reads_many_registers(rt: HostRuntime) -> Result<(), Fail> {
+    let text = many_registers(rt.alloc(), 50_000)?;
     assert_eq!(rt; register_at(&text, 0, &rt), Some(1));
     assert_eq!(rt; register_at(&text, 49_999, &rt), Some(50_000));
+    Ok(())
 }

@@ -42,11 +42,14 @@ fn a_million_steps(rt: HostRuntime) -> Result<(), Fail> {
     Ok(())
 }
 
-// Each second step allocates a tuple of one field.
+// Each second step allocates a tuple of one field. No test can have all memory refused from some time on, so here only
+// a further reserve is refused. That the run goes on whatever is refused is proved: `a_thousand_are_enough` in
+// t_machine/proofs/Rows.antt says that the 2,000 steps are covered, and `run` that NoMemory does not come then.
 #[test]
 fn what_is_reserved_is_enough(rt: HostRuntime) -> Result<(), Fail> {
     let mut machine = loaded(rt.alloc(), "tal 1\nL0: code[]{}. malloc r1[int] jmp L0")?;
     machine.reserve(1000, 1000)?;
+    assert!(rt; machine.reserve(u64::MAX, u64::MAX).is_err());
     assert_eq!(rt; machine.run(2000), Ran::Spent);
     Ok(())
 }

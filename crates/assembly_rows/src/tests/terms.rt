@@ -60,22 +60,38 @@ fn takes(b: &Block, t: &TType) -> bool {
     seen == 1
 }
 
-// Whether the value is a package that hides this type.
-fn hides(v: &Value, t: &TType) -> bool {
+// Whether the value is the integer 3.
+fn is_three(v: &Value) -> bool {
     match v {
-        Value::Pack { hidden, .. } => eq(hidden, t),
+        Value::Plain {
+            base: Base::Int(3),
+            types,
+        } => types.is_empty(),
         _ => false,
     }
 }
 
-// Whether the instruction moves such a package.
-fn moves_hidden(i: &Instr, t: &TType) -> bool {
+// Whether the value is `pack[t, 3] as some a. a`.
+fn packs_three(v: &Value, t: &TType) -> bool {
+    match v {
+        Value::Pack {
+            hidden,
+            inner,
+            shape: TType::Exists(shape),
+        } => eq(hidden, t) && is_three(inner) && eq(shape, &TType::Var(0)),
+        _ => false,
+    }
+}
+
+// Whether the instruction moves that to register 1.
+fn moves_three(i: &Instr, t: &TType) -> bool {
     match i {
-        Instr::Mov { v, .. } => hides(v, t),
+        Instr::Mov { rd: 1, v } => packs_three(v, t),
         _ => false,
     }
 }
 
+// A package of the integer 3 hides a type variable.
 #[test]
 fn values(rt: HostRuntime) -> Result<(), OutOfMemory> {
     let alloc = rt.alloc();
@@ -89,20 +105,50 @@ fn values(rt: HostRuntime) -> Result<(), OutOfMemory> {
         shape: TType::Exists(Box::new(alloc, TType::Var(0))?),
     };
     assert!(rt; v.below(1) && !v.below(0));
+    let shifted = v.shift(alloc, 2, 0)?;
+    assert!(rt; packs_three(&shifted, &TType::Var(2)));
     let put = v.put(alloc, 0, &TType::Int)?;
-    assert!(rt; put.below(0) && hides(&put, &TType::Int));
+    assert!(rt; put.below(0) && packs_three(&put, &TType::Int));
     let i = Instr::Mov { rd: 1, v };
     let shifted = i.shift(alloc, 2, 0)?;
     assert!(rt; shifted.below(3) && !shifted.below(2));
-    assert!(rt; moves_hidden(&shifted, &TType::Var(2)));
+    assert!(rt; moves_three(&shifted, &TType::Var(2)));
     let put = i.put(alloc, 0, &TType::Int)?;
-    assert!(rt; put.below(0) && moves_hidden(&put, &TType::Int));
+    assert!(rt; put.below(0) && moves_three(&put, &TType::Int));
+    Ok(())
+}
+
+// Whether the end is `jmp L3[t,u]`.
+fn jumps_with(end: &End, t: &TType, u: &TType) -> bool {
+    match end {
+        End::Jmp(
+            Value::Plain {
+                base: Base::Label(3),
+                types,
+            },
+        ) => match types.as_slice() {
+            [first, second] => eq(first, t) && eq(second, u),
+            _ => false,
+        },
+        _ => false,
+    }
+}
+
+// The types with which a block ends are shifted and put as those of its instructions.
+#[test]
+fn ends(rt: HostRuntime) -> Result<(), OutOfMemory> {
+    let alloc = rt.alloc();
+    let mut types = Vec::new(alloc);
+    types.push(TType::Var(0))?;
+    types.push(TType::Var(1))?;
     let end = End::Jmp(Value::Plain {
-        base: Base::Label(0),
-        types: Vec::new(alloc),
+        base: Base::Label(3),
+        types,
     });
-    let shifted = end.shift(alloc, 1, 0)?;
+    assert!(rt; end.below(2) && !end.below(1));
+    let shifted = end.shift(alloc, 2, 1)?;
+    assert!(rt; jumps_with(&shifted, &TType::Var(0), &TType::Var(3)));
     let put = shifted.put(alloc, 0, &TType::Int)?;
-    assert!(rt; put.below(0));
+    assert!(rt; jumps_with(&put, &TType::Int, &TType::Var(2)));
     Ok(())
 }

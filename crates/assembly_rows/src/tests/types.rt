@@ -69,7 +69,7 @@ fn small_types(rt: HostRuntime) -> Result<(), OutOfMemory> {
     Ok(())
 }
 
-// an extra register may be left over, and none may be missing
+// an extra register may be left over, and none may be missing; a copy has the same registers and no more
 #[test]
 fn files(rt: HostRuntime) -> Result<(), OutOfMemory> {
     let alloc = rt.alloc();
@@ -83,7 +83,13 @@ fn files(rt: HostRuntime) -> Result<(), OutOfMemory> {
     let again = copy_file(alloc, &two)?;
     assert!(rt; fits_file(&two, &one));
     assert!(rt; !fits_file(&one, &two));
-    assert!(rt; fits_file(&two, &again));
+    assert!(rt;
+        is_file(
+            &again,
+            (1, &TType::Int),
+            (2, &TType::Tuple(Vec::new(alloc)))
+        )
+    );
     Ok(())
 }
 

@@ -1,17 +1,19 @@
 //! The program `pass_sizes SHAPE N PASS`: makes a source term of this shape with about N parts, larger than any text
 //! may be, and takes it through the passes up to PASS. It prints nothing: it serves the measuring of the passes one by
-//! one. It ends with 0 where PASS is done, with 1 where memory is wanted or the term is refused, and with 2 for other
-//! words.
+//! one. It ends with 0 where PASS is done, with 1 where memory is wanted, with 2 for other words, and with 3 where the
+//! forms of SHAPE are no term of type `int`.
 #![tactic(auto)]
 
 mod passes;
 mod shapes;
+mod stop;
 
 use passes::{Pass, pass_named, through};
 use shapes::{Shape, shape_named, term};
 use std::alloc::Global;
 use std::env;
 use std::process::ExitCode;
+use stop::Stop;
 
 // What is asked for.
 #[derive(Clone, Copy)]
@@ -40,8 +42,8 @@ fn request(words: &[String]) -> Option<Asked> {
     Some(Asked { shape, count, last })
 }
 
-fn done(alloc: Global, asked: Asked) -> Option<()> {
-    let term = term(alloc, asked.shape, asked.count).ok()?;
+fn done(alloc: Global, asked: Asked) -> Result<(), Stop> {
+    let term = term(alloc, asked.shape, asked.count)?;
     through(alloc, term, asked.last)
 }
 
@@ -54,7 +56,8 @@ fn main(rt: HostRuntime) -> ExitCode {
         return ExitCode::from(2);
     };
     match done(alloc, asked) {
-        Some(()) => ExitCode::from(0),
-        None => ExitCode::from(1),
+        Ok(()) => ExitCode::from(0),
+        Err(Stop::Memory) => ExitCode::from(1),
+        Err(Stop::NoProgram) => ExitCode::from(3),
     }
 }

@@ -1,10 +1,11 @@
 // A term through the passes, up to one of them.
+use crate::stop::Stop;
 use a_pass::allocate;
 use c_pass::close;
-use f_check::{Program, check};
-use f_terms::{FTerm, admit};
+use f_check::{Program, Typed, check};
+use f_terms::{FFault, FTerm, admit};
 use h_pass::hoist;
-use idx_core::OutOfMemory;
+use idx_core::{OutOfMemory, Span};
 use k_pass::cps;
 use std::alloc::Global;
 use t_gen::generate;
@@ -33,11 +34,23 @@ pub fn pass_named(name: &str) -> Option<Pass> {
     }
 }
 
-fn checked(alloc: Global, term: FTerm) -> Option<Program> {
-    if !admit(alloc, &term).ok()? {
-        return None;
+fn refusal(refused: (FTerm, FFault)) -> Stop {
+    match refused.1 {
+        FFault::Memory => Stop::Memory,
+        FFault::Refused { .. } => Stop::NoProgram,
     }
-    check(alloc, term).ok()?.program().ok()
+}
+
+fn not_int(_: (Typed, Span)) -> Stop {
+    Stop::NoProgram
+}
+
+fn checked(alloc: Global, term: FTerm) -> Result<Program, Stop> {
+    if !admit(alloc, &term)? {
+        return Err(Stop::NoProgram);
+    }
+    let typed = check(alloc, term).map_err(refusal)?;
+    typed.program().map_err(not_int)
 }
 
 fn converted(alloc: Global, program: &Program, last: Pass) -> Result<(), OutOfMemory> {
@@ -64,8 +77,8 @@ fn converted(alloc: Global, program: &Program, last: Pass) -> Result<(), OutOfMe
     Ok(())
 }
 
-/// Takes the term through the passes. None where memory is wanted, or the term is refused.
-pub fn through(alloc: Global, term: FTerm, last: Pass) -> Option<()> {
+/// Takes the term through the passes.
+pub fn through(alloc: Global, term: FTerm, last: Pass) -> Result<(), Stop> {
     let program = checked(alloc, term)?;
-    converted(alloc, &program, last).ok()
+    Ok(converted(alloc, &program, last)?)
 }

@@ -1,5 +1,5 @@
 // A term that is made part by part.
-use f_terms::{FParts, FShape};
+use f_terms::{FNode, FParts, FShape, FTerm};
 use idx_core::{Op, OutOfMemory, Span};
 use std::test::Fail;
 
@@ -7,7 +7,29 @@ fn out_of_memory(refused: (FShape, OutOfMemory)) -> OutOfMemory {
     refused.1
 }
 
-// 1 + 2: the parts are numbered as they come.
+fn is_number(node: &FNode, value: i64, place: Span) -> bool {
+    match node.shape {
+        FShape::Int(n) => n == value && node.span == place,
+        _ => false,
+    }
+}
+
+fn is_sum(node: &FNode, left: u64, right: u64, place: Span) -> bool {
+    match node.shape {
+        FShape::Arith(Op::Add, a, b) => a == left && b == right && node.span == place,
+        _ => false,
+    }
+}
+
+// Whether the term is 1 + 2, with these places.
+fn is_one_and_two(term: &FTerm, first: Span, second: Span, whole: Span) -> bool {
+    term.count() == 3
+        && is_number(term.node(0), 1, first)
+        && is_number(term.node(1), 2, second)
+        && is_sum(term.node(2), 0, 1, whole)
+}
+
+// 1 + 2: the parts are numbered as they come, and are the nodes of the term.
 #[test]
 fn a_sum_of_three_parts(rt: HostRuntime) -> Result<(), Fail> {
     let mut parts = FParts::new(rt.alloc());
@@ -21,6 +43,6 @@ fn a_sum_of_three_parts(rt: HostRuntime) -> Result<(), Fail> {
         .map_err(out_of_memory)?;
     assert!(rt; one == 0 && two == 1 && sum == 2);
     let term = parts.done();
-    assert_eq!(rt; term.count(), 3);
+    assert!(rt; is_one_and_two(&term, first, second, whole));
     Ok(())
 }

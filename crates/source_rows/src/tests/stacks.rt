@@ -1,7 +1,7 @@
 // Terms that are made in postfix.
 use f_check::{Typed, check};
 use f_terms::{FFault, FStack, FStep, FTerm, admit};
-use idx_core::{OutOfMemory, Span};
+use idx_core::Span;
 use std::alloc::Global;
 use std::test::Fail;
 
@@ -12,11 +12,11 @@ pub fn put(
     step: FStep,
     start: u64,
     end: u64,
-) -> Result<(), OutOfMemory> {
+) -> Result<(), Fail> {
     if stack.len() < step.arity() {
-        return Err(OutOfMemory);
+        return Err(Fail::new("a form has too few parts"));
     }
-    stack.put(alloc, step, Span { start, end })
+    Ok(stack.put(alloc, step, Span { start, end })?)
 }
 
 fn refusal(refused: (FTerm, FFault)) -> FFault {

@@ -1,2 +1,3 @@
 mod Cells
 mod Example
+mod Ones

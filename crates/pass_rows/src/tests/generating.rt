@@ -3,12 +3,13 @@ ghost use Rattle.std.specs.Prelude.{◌≡◌, [], ◌∷◌, IfOk};
 ghost use Rattle.a_terms.specs.Tree.{Num};
 ghost use Rattle.a_terms.specs.NodeTrees.{a_value, a_values};
 
+use super::shown::is_text;
 use a_terms::{ABase, AForm, ANode, AProgram, AValue};
 use idx_core::OutOfMemory;
 use std::alloc::Global;
 use std::test::Fail;
 use t_gen::generate;
-use t_terms::Block;
+use t_writer::write2;
 
 fn number(alloc: Global, i: i64) -> AValue
     ensures { a_value result ≡ Num i }
@@ -40,19 +41,24 @@ fn choice(alloc: Global) -> Result<AProgram, OutOfMemory> {
     Ok(AProgram::new(Vec::new(alloc), main, Vec::new(alloc)))
 }
 
-fn sizes(blocks: &[Block]) -> (usize, usize) {
-    match blocks {
-        [first, second] => (first.body.len(), second.body.len()),
-        _ => (0, 0),
-    }
-}
+// The main term's block has the test and the second part, and one more block has the third part.
+const CHOICE: &str = "\
+tal 2
+L0: code[]{}.
+mov r1, 0
+bnz r1, L1
+mov r1, 1
+halt[int]
+L1: code[]{}.
+mov r1, 2
+halt[int]
+";
 
-// the main term's block has the test and the second part, and one more block has the third part
 #[test]
 fn a_choice_has_two_blocks(rt: HostRuntime) -> Result<(), Fail> {
     let program = choice(rt.alloc())?;
     let made = generate(rt.alloc(), &program)?;
-    assert_eq!(rt; sizes(&made.blocks), (3, 1));
-    assert_eq!(rt; made.heap.len(), 0);
+    let text = write2(rt.alloc(), &made)?;
+    is_text(&rt, str::from_utf8(&text)?, CHOICE);
     Ok(())
 }

@@ -21,10 +21,14 @@ abbrev pub SameRegs : List (ℕ × TType) → List (ℕ × TType) → Type 0
 SameRegs a b = file a ≡ file b
 
 pub regs_more : (x y : ℕ × TType) (a b : List (ℕ × TType)) → SameReg x y → SameRegs a b → SameRegs (x ∷ a) (y ∷ b)
-regs_more x y a b here rest = ap₂ (λ r t. MoreRegs r t (file a)) here.0 here.1 ∙ ap (MoreRegs y.0 (tree y.1)) rest
+regs_more x y a b here rest =
+    ap₂ (λ r t. MoreRegs r t (file a)) here.0 here.1 ∙ ap (MoreRegs y.0 (tree y.1)) rest
 
 pub regs_parts : (x y : ℕ × TType) (a b : List (ℕ × TType)) → SameRegs (x ∷ a) (y ∷ b) → SameReg x y × SameRegs a b
-regs_parts x y a b h = let e1 : tree x.1 ≡ tree y.1 = cc in let e2 : x.0 ≡ y.0 = cc in let e3 : file a ≡ file b = cc in ((e2, e1), e3)
+regs_parts x y a b h =
+    let e1 : tree x.1 ≡ tree y.1 = cc in
+    let e2 : x.0 ≡ y.0 = cc in
+    let e3 : file a ≡ file b = cc in ((e2, e1), e3)
 
 pub fields_len : (a b : List (TType × Bool)) → fields a ≡ fields b → length a ≡ length b
 fields_len [] [] h = refl
@@ -35,11 +39,17 @@ fields_len (x ∷ a) [] h = cc
 abbrev pub SameFields : List (TType × Bool) → List (TType × Bool) → Type 0
 SameFields a b = fields a ≡ fields b
 
-pub fields_more : (x y : TType × Bool) (a b : List (TType × Bool)) → SameField x y → SameFields a b → SameFields (x ∷ a) (y ∷ b)
-fields_more x y a b here rest = ap₂ (λ t flag. MoreFields t flag (fields a)) here.0 here.1 ∙ ap (MoreFields (tree y.0) y.1) rest
+pub fields_more : (x y : TType × Bool) (a b : List (TType × Bool)) → SameField x y → SameFields a b →
+    SameFields (x ∷ a) (y ∷ b)
+fields_more x y a b here rest =
+    ap₂ (λ t flag. MoreFields t flag (fields a)) here.0 here.1 ∙ ap (MoreFields (tree y.0) y.1) rest
 
-pub fields_parts : (x y : TType × Bool) (a b : List (TType × Bool)) → SameFields (x ∷ a) (y ∷ b) → SameField x y × SameFields a b
-fields_parts x y a b h = let e1 : tree x.0 ≡ tree y.0 = cc in let e2 : x.1 ≡ y.1 = cc in let e3 : fields a ≡ fields b = cc in ((e1, e2), e3)
+pub fields_parts : (x y : TType × Bool) (a b : List (TType × Bool)) → SameFields (x ∷ a) (y ∷ b) →
+    SameField x y × SameFields a b
+fields_parts x y a b h =
+    let e1 : tree x.0 ≡ tree y.0 = cc in
+    let e2 : x.1 ≡ y.1 = cc in
+    let e3 : fields a ≡ fields b = cc in ((e1, e2), e3)
 
 pub not_same : (x y : Bool) → not (beq x y) ≡ true → x ≡ y → ⊥
 not_same true true h e = cc

@@ -3,7 +3,8 @@ use Rattle.t_types.specs.Tree.{TupleTy, CodeTy}
 use Rattle.t_types.specs.Read.{fields, file}
 use Rattle.t_types.proofs.Trees.{tree_is_tuple, tree_is_code}
 use Rattle.std.proofs.lemmas.Iterator.{empty_from_Zip}
-use Rattle.t_types.proofs.Equal.{SameFields, SameRegs, fields_len, fields_more, fields_parts, regs_len, regs_more, regs_parts, not_same, same}
+use Rattle.t_types.proofs.Equal.{SameFields, SameRegs, fields_len, fields_more, fields_parts, regs_len}
+use Rattle.t_types.proofs.Equal.{regs_more, regs_parts, not_same, same}
 use Rattle.t_types.proofs.Pairs.{starts, ends, firsts, goes_on}
 use Rattle.t_types.proofs.equality.+eqs.Goals as goal
 
@@ -37,7 +38,8 @@ eq_fields-loop-x-init t c =
 pub eq_fields-returns-then-x-y : goal.eq_fields-returns-then-x-y
 eq_fields-returns-then-x-y t c =
     let s = c.in-Some.ensures.steps in
-    ((λ h. cc), (λ h. absurd (not_same _ _ c.if-x-y.true (fields_parts _ _ _ _ (firsts SameFields _ _ _ _ _ _ _ _ c.loop-x.invariant s.0 s.1 h)).0.1)))
+    let first = firsts SameFields _ _ _ _ _ _ _ _ c.loop-x.invariant s.0 s.1 in
+    ((λ h. cc), (λ h. absurd (not_same _ _ c.if-x-y.true (fields_parts _ _ _ _ (first h)).0.1)))
 
 pub eq_fields-returns-then-not-eq : goal.eq_fields-returns-then-not-eq
 eq_fields-returns-then-not-eq t c = (
@@ -52,12 +54,14 @@ pub eq_fields-loop-x-preserved : goal.eq_fields-loop-x-preserved
 eq_fields-loop-x-preserved t c =
     let s = c.in-Some.ensures.steps in
     let z = c.eq.ensures.0 c.if-not-eq.false in
-    goes_on SameFields _ _ _ _ _ _ _ _ c.loop-x.invariant s.0 s.1 (fields_more _ _ _ _ (z, same _ _ c.if-x-y.false)) (λ h. (fields_parts _ _ _ _ h).1)
+    goes_on SameFields _ _ _ _ _ _ _ _ c.loop-x.invariant s.0 s.1
+    (fields_more _ _ _ _ (z, same _ _ c.if-x-y.false)) (λ h. (fields_parts _ _ _ _ h).1)
 
 pub eq_fields-returns : goal.eq_fields-returns
 eq_fields-returns t c =
-    let e = empty_from_Zip c.loop-x.x-iterator c.next.new.self c.next.result c.in-None.is c.next.ensures.steps c.loop-x.invariant.long in
-    ((λ h. ends SameFields _ _ _ _ c.loop-x.invariant e.0 e.1 refl), (λ h. refl))
+    let l = c.loop-x in
+    let e = empty_from_Zip l.x-iterator c.next.new.self _ c.in-None.is c.next.ensures.steps l.invariant.long in
+    ((λ h. ends SameFields _ _ _ _ l.invariant e.0 e.1 refl), (λ h. refl))
 
 pub eq_regs-returns-then-a-b : goal.eq_regs-returns-then-a-b
 eq_regs-returns-then-a-b t c = ((λ h. cc), (λ h. absurd (c.if-a-b.true (regs_len c.args.a.now c.args.b.now h))))
@@ -71,7 +75,8 @@ eq_regs-loop-x-init t c =
 pub eq_regs-returns-then-x-y : goal.eq_regs-returns-then-x-y
 eq_regs-returns-then-x-y t c =
     let s = c.in-Some.ensures.steps in
-    ((λ h. cc), (λ h. absurd (c.if-x-y.true (regs_parts _ _ _ _ (firsts SameRegs _ _ _ _ _ _ _ _ c.loop-x.invariant s.0 s.1 h)).0.0)))
+    let first = firsts SameRegs _ _ _ _ _ _ _ _ c.loop-x.invariant s.0 s.1 in
+    ((λ h. cc), (λ h. absurd (c.if-x-y.true (regs_parts _ _ _ _ (first h)).0.0)))
 
 pub eq_regs-returns-then-not-eq : goal.eq_regs-returns-then-not-eq
 eq_regs-returns-then-not-eq t c = (
@@ -86,9 +91,11 @@ pub eq_regs-loop-x-preserved : goal.eq_regs-loop-x-preserved
 eq_regs-loop-x-preserved t c =
     let s = c.in-Some.ensures.steps in
     let z = c.eq.ensures.0 c.if-not-eq.false in
-    goes_on SameRegs _ _ _ _ _ _ _ _ c.loop-x.invariant s.0 s.1 (regs_more _ _ _ _ (c.if-x-y.false, z)) (λ h. (regs_parts _ _ _ _ h).1)
+    goes_on SameRegs _ _ _ _ _ _ _ _ c.loop-x.invariant s.0 s.1
+    (regs_more _ _ _ _ (c.if-x-y.false, z)) (λ h. (regs_parts _ _ _ _ h).1)
 
 pub eq_regs-returns : goal.eq_regs-returns
 eq_regs-returns t c =
-    let e = empty_from_Zip c.loop-x.x-iterator c.next.new.self c.next.result c.in-None.is c.next.ensures.steps c.loop-x.invariant.long in
-    ((λ h. ends SameRegs _ _ _ _ c.loop-x.invariant e.0 e.1 refl), (λ h. refl))
+    let l = c.loop-x in
+    let e = empty_from_Zip l.x-iterator c.next.new.self _ c.in-None.is c.next.ensures.steps l.invariant.long in
+    ((λ h. ends SameRegs _ _ _ _ l.invariant e.0 e.1 refl), (λ h. refl))

@@ -5,7 +5,9 @@ use Rattle.t_types.proofs.Pairs.{Left}
 use Rattle.t_types.proofs.equality.+eqs.Given as goal
 
 abbrev pub invariant-eq_fields-loop-x : goal.invariant-eq_fields-loop-x
-invariant-eq_fields-loop-x l = Left SameFields l.a l.b (iter_rest (zip_first l.x-iterator)) (iter_rest (zip_second l.x-iterator))
+invariant-eq_fields-loop-x l =
+    Left SameFields l.a l.b (iter_rest (zip_first l.x-iterator)) (iter_rest (zip_second l.x-iterator))
 
 abbrev pub invariant-eq_regs-loop-x : goal.invariant-eq_regs-loop-x
-invariant-eq_regs-loop-x l = Left SameRegs l.a l.b (iter_rest (zip_first l.x-iterator)) (iter_rest (zip_second l.x-iterator))
+invariant-eq_regs-loop-x l =
+    Left SameRegs l.a l.b (iter_rest (zip_first l.x-iterator)) (iter_rest (zip_second l.x-iterator))

@@ -31,5 +31,6 @@ loop-x-preserved c =
 
 pub returns : goal.returns
 returns c =
-    let e = empty_from_Zip c.loop-x.x-iterator c.next.new.self c.next.result c.in-None.is c.next.ensures.steps c.loop-x.invariant.long in
-    ((λ h. ends AllFit _ _ _ _ c.loop-x.invariant e.0 e.1 tt), (λ h. refl))
+    let l = c.loop-x in
+    let e = empty_from_Zip l.x-iterator c.next.new.self _ c.in-None.is c.next.ensures.steps l.invariant.long in
+    ((λ h. ends AllFit _ _ _ _ l.invariant e.0 e.1 tt), (λ h. refl))

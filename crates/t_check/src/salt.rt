@@ -1,5 +1,6 @@
-// What the hashers of the table of types read first: all of the program but its places in the text. With no types can
-// whose hashes collide be searched out for it. What is read makes no difference but in time, so nothing is said of it.
+// What the hashers of the table of types read first: a word that hangs on all of the program but its places in the
+// text. With no types can those whose hashes collide be searched out for it. What is read makes no difference but in
+// time, so nothing is said of it. All is read as words of 64 bits: after a part of a word a hasher goes byte by byte.
 use idx_core::{Op, Salt};
 use std::hash::{DefaultHasher, Hasher};
 use t_terms::{Base, Block, Data, End, Instr, TProgram, Value};
@@ -7,13 +8,15 @@ use t_types::{RegFile, TType};
 
 // The program, for the hashers of its types.
 pub(crate) fn salt_of(program: &TProgram) -> Salt {
-    let mut read = DefaultHasher::new();
+    let mut whole = DefaultHasher::new();
     for tuple in &program.heap {
-        read_data(&mut read, tuple);
+        read_data(&mut whole, tuple);
     }
     for block in &program.blocks {
-        read_block(&mut read, block);
+        read_block(&mut whole, block);
     }
+    let mut read = DefaultHasher::new();
+    read.write_u64(whole.finish());
     Salt { read }
 }
 
@@ -33,10 +36,10 @@ fn read_block(read: &mut DefaultHasher, block: &Block) {
     }
     match &block.end {
         End::Jmp(v) => {
-            read.write_u8(7);
+            read.write_u64(7);
             read_value(read, v);
         }
-        End::Halt => read.write_u8(8),
+        End::Halt => read.write_u64(8),
     }
 }
 
@@ -69,7 +72,7 @@ fn read_instr(read: &mut DefaultHasher, instr: &Instr) {
 }
 
 fn read_op(read: &mut DefaultHasher, op: Op) {
-    read.write_u8(match op {
+    read.write_u64(match op {
         Op::Add => 9,
         Op::Sub => 10,
         Op::Mul => 11,
@@ -93,7 +96,7 @@ fn read_value(read: &mut DefaultHasher, value: &Value) {
             inner,
             shape,
         } => {
-            read.write_u8(4);
+            read.write_u64(4);
             read_type(read, hidden);
             read_value(read, inner);
             read_type(read, shape);
@@ -105,7 +108,7 @@ fn read_base(read: &mut DefaultHasher, base: Base) {
     match base {
         Base::Reg(r) => read_numbers(read, &[0, r]),
         Base::Int(n) => {
-            read.write_u8(1);
+            read.write_u64(1);
             read.write_i64(n);
         }
         Base::Label(l) => read_numbers(read, &[2, l]),
@@ -116,21 +119,21 @@ fn read_base(read: &mut DefaultHasher, base: Base) {
 #[cycle(types)]
 fn read_type(read: &mut DefaultHasher, ty: &TType) {
     match ty {
-        TType::Int => read.write_u8(0),
+        TType::Int => read.write_u64(0),
         TType::Var(i) => read_numbers(read, &[1, *i]),
         TType::Code { owes, regs } => {
             read_numbers(read, &[2, *owes]);
             read_file(read, regs);
         }
         TType::Exists(body) => {
-            read.write_u8(3);
+            read.write_u64(3);
             read_type(read, body);
         }
         TType::Tuple(fields) => {
             read_numbers(read, &[4, fields.len() as u64]);
             for (field, flag) in fields {
                 read_type(read, field);
-                read.write_u8(*flag as u8);
+                read.write_u64(*flag as u64);
             }
         }
     }

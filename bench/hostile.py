@@ -1,18 +1,20 @@
 """Texts that are made to be slow: `talc check` and `talc run --fuel 0`, which loads, on each at two sizes.
 
-The second size is ten times the first. What is wanted: each text is accepted, at most 13 times the time for ten times the
-text, and at most 200 bytes of memory a byte of text. A row that misses one of these says so. The time of a text is the
-least of a few runs, less that of a text of one jump. A run is ended after 60 seconds of processor time or at 8 GB.
+The second size is ten times the first. What is wanted: each text is accepted, at most 13 times the time for ten times
+the text, and at most 200 bytes of memory a byte of text. A row that misses one of these says so. The two texts are run
+in turn, and the time of a text is the least of its runs, less that of a text of one jump. A run is ended after 60
+seconds of processor time or at 8 GB. The names of texts may be given, for these alone; without any, all are run.
 """
 import os
 import resource
 import subprocess
+import sys
 import tempfile
 from measure import folder, program
 
 SECONDS, BYTES = 60, 8 << 30
 MOST_TIMES, MOST_BYTES = 13, 200
-RUNS = 5
+RUNS = 15
 HEAD = "tal 1\nL0: code[]{}.\n"
 
 
@@ -190,41 +192,54 @@ def measured(words, wanted):
     return usage.ru_utime + usage.ru_stime, usage.ru_maxrss * 1024, child.returncode != wanted
 
 
-def best(words, wanted, times=RUNS):
-    """The least seconds and the most bytes of a few runs, and whether the status of one was wrong."""
-    seconds, peaks, wrong = zip(*(measured(words, wanted) for _ in range(times)))
-    return min(seconds), max(peaks), any(wrong)
+def least(commands, times=RUNS):
+    """For each command, run in turn with the others: its least seconds, its most bytes, whether a status was wrong."""
+    runs = [[] for _ in commands]
+    for _ in range(times):
+        for mine, (words, wanted) in zip(runs, commands):
+            mine.append(measured(words, wanted))
+    columns = [list(zip(*mine)) for mine in runs]
+    return [(min(seconds), max(peaks), any(wrong)) for seconds, peaks, wrong in columns]
+
+
+def commands_of(talc, path):
+    return [([talc, "check", path], 0), ([talc, "run", path, "--fuel", "0"], 4)]
+
+
+def put(path, text):
+    with open(path, "w", encoding="ascii") as file:
+        return file.write(text)
+
+
+def report(name, small, large, few, many, bases):
+    """One line of figures of a text at two sizes, with what it misses."""
+    pairs = list(zip(few, many, bases))
+    times = [(b[0] - base[0]) / max(a[0] - base[0], 1e-4) for a, b, base in pairs]
+    memory = max(max(0, b[1] - base[1]) / large for _, b, base in pairs)
+    misses = [
+        ("not accepted", any(a[2] or b[2] for a, b, _ in pairs)),
+        ("slow", max(times) > MOST_TIMES * large / small / 10), ("large", memory > MOST_BYTES),
+    ]
+    wrong = [word for word, is_so in misses if is_so]
+    print(
+        f"{name}: {small} bytes in {few[0][0]:.3f} s, {large} in {many[0][0]:.3f} s; {large / small:.2f} times the "
+        f"text, {times[0]:.1f} times the time to check, {times[1]:.1f} to load, {memory:.0f} bytes of memory a byte"
+        f"{': ' + ', '.join(wrong) if wrong else ''}", flush=True,
+    )
 
 
 def main():
-    talc = program()
+    talc, chosen = program(), sys.argv[1:]
     with folder() as place:
-        path = f"{place}/text.tal"
-        commands = [([talc, "check", path], 0), ([talc, "run", path, "--fuel", "0"], 4)]
-
-        def put(text):
-            with open(path, "w", encoding="ascii") as file:
-                return file.write(text)
-
-        put("tal 1\nL0: code[]{}.\njmp L0\n")
-        bases = [best(words, wanted, 9) for words, wanted in commands]
+        paths = [f"{place}/small.tal", f"{place}/large.tal"]
+        put(paths[0], HEAD + "jmp L0\n")
+        bases = least(commands_of(talc, paths[0]))
         print(f"a text of one jump: {bases[0][0]:.4f} s, {bases[0][1] / 1e6:.1f} MB")
         for make, n in TEXTS:
-            small, few = put(make(n)), [best(words, wanted) for words, wanted in commands]
-            large, many = put(make(10 * n)), [best(words, wanted) for words, wanted in commands]
-            pairs = list(zip(few, many, bases))
-            times = [(b[0] - base[0]) / max(a[0] - base[0], 1e-4) for a, b, base in pairs]
-            memory = max(max(0, b[1] - base[1]) / large for _, b, base in pairs)
-            misses = [
-                ("not accepted", any(a[2] or b[2] for a, b, _ in pairs)),
-                ("slow", max(times) > MOST_TIMES * large / small / 10), ("large", memory > MOST_BYTES),
-            ]
-            wrong = [word for word, is_so in misses if is_so]
-            print(
-                f"{make.__name__}: {small} bytes in {few[0][0]:.3f} s, {large} in {many[0][0]:.3f} s; {large / small:.2f} times "
-                f"the text, {times[0]:.1f} times the time to check, {times[1]:.1f} to load, {memory:.0f} bytes of memory a "
-                f"byte{': ' + ', '.join(wrong) if wrong else ''}", flush=True,
-            )
+            if not chosen or make.__name__ in chosen:
+                small, large = put(paths[0], make(n)), put(paths[1], make(10 * n))
+                runs = least(commands_of(talc, paths[0]) + commands_of(talc, paths[1]))
+                report(make.__name__, small, large, runs[:2], runs[2:], bases)
 
 
 main()

@@ -101,7 +101,8 @@ CASES = [
 
 def before(words, text):
     """The files before a run, by name: IN has its text, and OUT something else."""
-    return {name: content for name, content in [("IN", text.encode()), ("OUT", b"as before\n")] if name in words.split()}
+    files = [("IN", text.encode()), ("OUT", b"as before\n")]
+    return {name: content for name, content in files if name in words.split()}
 
 
 class Outcome:

@@ -1,11 +1,16 @@
 -- Allocation: tuples of constants go to the data; each other tuple becomes a malloc that is filled field by field.
-use Rattle.std.specs.Prelude.{pos, ℕ, suc, ◌-◌, ◌+◌, ◌&&◌, not, nat_lt, List, [], ◌∷◌, ◌++◌, Option, Some, None, Bool, true, false}
+use Rattle.std.specs.Prelude.{pos, ℕ, suc, ◌-◌, ◌+◌, ◌&&◌, not, nat_lt, List, [], ◌∷◌, ◌++◌, Option, Some, None, Bool}
+use Rattle.std.specs.Prelude.{true, false}
 use Rattle.std.specs.Prelude.{map, slice_get}
 use Rattle.a_terms.specs.Meaning.{pick}
-use Rattle.a_terms.specs.Tree.{ABlk, AConsts, AProg, ACode, ADecl, AExists, AFields, AInt, ATm, ATuple, ATy, ATys, AVal, AVar, Apply, Arith, Call, Data, Halt, If0, Init, Lab, Let, Malloc, MoreAFields, MoreATys, NoAFields, NoATys, Num, Pack, Proj, Unpack, Value, Var, ashift}
+use Rattle.a_terms.specs.Tree.{ABlk, AConsts, AProg, ACode, ADecl, AExists, AFields, AInt, ATm, ATuple, ATy, ATys, AVal}
+use Rattle.a_terms.specs.Tree.{AVar, Apply, Arith, Call, Data, Halt, If0, Init, Lab, Let, Malloc, MoreAFields, MoreATys}
+use Rattle.a_terms.specs.Tree.{NoAFields, NoATys, Num, Pack, Proj, Unpack, Value, Var, ashift}
 use Rattle.a_terms.specs.Typing.{aapply, aset, body_of, field_of, or_int, types_of}
 use Rattle.c_terms.specs.C.{CTy, CTys, MoreCTys, NoCTys, TCCode, TCInt, TCRef, TCSome, TCTuple, TCVar}
-use Rattle.h_terms.specs.H.{HApply, HArith, HBlk, HBlks, HCall, HCell, HDecl, HGet, HHalt, HIf, HInt, HLabel, HLet, HName, HPack, HProj, HSet, HTm, HTuple, HUnpack, HVal, HVals, HVar, MoreHVals, NoHVals, block_at}
+use Rattle.h_terms.specs.H.{HApply, HArith, HBlk, HBlks, HCall, HCell, HDecl, HGet, HHalt, HIf, HInt, HLabel, HLet}
+use Rattle.h_terms.specs.H.{HName, HPack, HProj, HSet, HTm, HTuple, HUnpack, HVal, HVals, HVar, MoreHVals, NoHVals}
+use Rattle.h_terms.specs.H.{block_at}
 
 -- every field of a tuple's type has flag 1
 abbrev mutual

@@ -4,9 +4,12 @@
 use Rattle.std.specs.Prelude.{pos, ◌≡◌, ℕ, zero, suc, List, [], ◌∷◌}
 use Rattle.a_law.specs.Constants.{Plain_all, Plain_t, settle_all, settle_t, tuples_in}
 use Rattle.a_law.specs.Stands.{Shown, Stands, named}
-use Rattle.a_terms.specs.Tree.{ABlk, AConsts, AProg, ACode, AExists, AFields, AInt, ATm, ATuple, ATy, ATys, AVal, AVar, Apply, Arith, Call, Data, Halt, If0, Init, Lab, Let, Malloc, MoreAFields, MoreATys, NoAFields, NoATys, Num, Pack, Proj, Unpack, Value, Var}
+use Rattle.a_terms.specs.Tree.{ABlk, AConsts, AProg, ACode, AExists, AFields, AInt, ATm, ATuple, ATy, ATys, AVal, AVar}
+use Rattle.a_terms.specs.Tree.{Apply, Arith, Call, Data, Halt, If0, Init, Lab, Let, Malloc, MoreAFields, MoreATys}
+use Rattle.a_terms.specs.Tree.{NoAFields, NoATys, Num, Pack, Proj, Unpack, Value, Var}
 use Rattle.c_terms.specs.C.{CTy, CTys, MoreCTys, NoCTys, TCCode, TCInt, TCRef, TCSome, TCTuple, TCVar}
-use Rattle.h_terms.specs.H.{HApply, HArith, HBlk, HBlks, HCall, HCell, HDecl, HGet, HHalt, HIf, HInt, HLabel, HLet, HName, HPack, HProj, HSet, HTm, HTuple, HUnpack, HVal, HVals, HVar, MoreHVals, NoHVals}
+use Rattle.h_terms.specs.H.{HApply, HArith, HBlk, HBlks, HCall, HCell, HDecl, HGet, HHalt, HIf, HInt, HLabel, HLet}
+use Rattle.h_terms.specs.H.{HName, HPack, HProj, HSet, HTm, HTuple, HUnpack, HVal, HVals, HVar, MoreHVals, NoHVals}
 
 -- a type without its flags
 abbrev mutual

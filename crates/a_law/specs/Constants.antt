@@ -1,9 +1,11 @@
 -- The constants of a hoisted program, with the constants behind their variables written out; and the program in which
 -- every tuple of constants is written so.
-use Rattle.std.specs.Prelude.{ℕ, zero, suc, ◌&&◌, not, List, [], ◌∷◌, ◌++◌, Option, Some, None, Bool, true, false, option_map}
+use Rattle.std.specs.Prelude.{ℕ, zero, suc, ◌&&◌, not, List, [], ◌∷◌, ◌++◌, Option, Some, None, Bool, true, false}
+use Rattle.std.specs.Prelude.{option_map}
 use Rattle.a_terms.specs.Meaning.{pick}
 use Rattle.c_terms.specs.C.{CTy, CTys, NoCTys, MoreCTys}
-use Rattle.h_terms.specs.H.{HVal, HVar, HInt, HLabel, HTuple, HApply, HPack, HVals, NoHVals, MoreHVals, HDecl, HName, HProj, HArith, HUnpack, HCell, HGet, HSet, HTm, HLet, HCall, HIf, HHalt, HBlk, HBlks}
+use Rattle.h_terms.specs.H.{HVal, HVar, HInt, HLabel, HTuple, HApply, HPack, HVals, NoHVals, MoreHVals, HDecl, HName}
+use Rattle.h_terms.specs.H.{HProj, HArith, HUnpack, HCell, HGet, HSet, HTm, HLet, HCall, HIf, HHalt, HBlk, HBlks}
 use Rattle.a_law.specs.Allocate.{atype, atypes, closed, all_closed, is_label}
 
 -- the constant that each variable names, if it names one

@@ -4,9 +4,11 @@
 -- field, so at a malloc, an initialisation and a projection either may be meant.
 use Rattle.std.specs.Prelude.{◌≡◌, ◌⊎◌, ◌++◌, ℕ, zero, suc, ◌-◌, List, [], ◌∷◌, length, slice_get, Some, None}
 use Rattle.c_terms.specs.C.{CTy, CTys}
-use Rattle.h_terms.specs.H.{HVal, HVar, HInt, HLabel, HTuple, HApply, HPack, HVals, NoHVals, MoreHVals, HName, HProj, HArith, HUnpack, HCell, HGet, HSet, HTm, HLet, HCall, HIf, HHalt, HBlks}
+use Rattle.h_terms.specs.H.{HVal, HVar, HInt, HLabel, HTuple, HApply, HPack, HVals, NoHVals, MoreHVals, HName, HProj}
+use Rattle.h_terms.specs.H.{HArith, HUnpack, HCell, HGet, HSet, HTm, HLet, HCall, HIf, HHalt, HBlks}
 use Rattle.h_terms.specs.Typing.{HProgramGood}
-use Rattle.a_terms.specs.Tree.{ATys, NoATys, MoreATys, AConsts, AVal, Var, Num, Lab, Data, Apply, Pack, Value, Proj, Arith, Unpack, Malloc, Init, ATm, Let, Call, If0, Halt, ABlk, AProg, arity}
+use Rattle.a_terms.specs.Tree.{ATys, NoATys, MoreATys, AConsts, AVal, Var, Num, Lab, Data, Apply, Pack, Value, Proj}
+use Rattle.a_terms.specs.Tree.{Arith, Unpack, Malloc, Init, ATm, Let, Call, If0, Halt, ABlk, AProg, arity}
 use Rattle.a_law.specs.Allocate.{atype, atypes, alloc_prog, alloc_main}
 use Rattle.a_law.specs.Constants.{Constants, constant, of_args, tuples_in}
 

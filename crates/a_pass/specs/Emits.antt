@@ -17,7 +17,8 @@ use Rattle.a_law.specs.Allocate.{Known, data_vs, n_vs, v_type, vals, vs_next, pr
 use Rattle.a_pass.specs.declared.state.Name.{Name}
 use Rattle.a_pass.specs.declared.state.Place.{Place}
 use Rattle.a_pass.specs.declared.state.Seen.{Seen}
-use Rattle.a_pass.specs.Scope.{value_at, type_in, constant_in, constants, field_at, onto, knowns, scope, pending, pending_data, Fit}
+use Rattle.a_pass.specs.Scope.{value_at, type_in, constant_in, constants, field_at, onto, knowns, scope, pending}
+use Rattle.a_pass.specs.Scope.{pending_data, Fit}
 
 -- declarations that stand for what `pre` puts before a term
 pub record Emits (old new : List ANode) (pre : a.ATm → a.ATm) : Type 0 where

@@ -1,5 +1,6 @@
 -- What the walk's state stands for.
-use Rattle.std.specs.Prelude.{◌≡◌, ℕ, zero, suc, ◌-◌, ◌≤◌, List, [], ◌∷◌, slice_get, take, length, map, option_map, Option, Some, None, Bool, true, false, not, ◌&&◌, ◌++◌}
+use Rattle.std.specs.Prelude.{◌≡◌, ℕ, zero, suc, ◌-◌, ◌≤◌, List, [], ◌∷◌, slice_get, take, length, map, option_map}
+use Rattle.std.specs.Prelude.{Option, Some, None, Bool, true, false, not, ◌&&◌, ◌++◌}
 use Rattle.h_terms.specs.H.{HTm, HBlks, HVal}
 use Rattle.h_terms.specs.Row.{top, others}
 use Rattle.h_terms.specs.Nodes.{no_term}
@@ -11,7 +12,8 @@ use Rattle.a_terms.specs.NodeTrees.{a_value, wrapped}
 use Rattle.a_terms.specs.declared.nodes.ABase.{ABase}
 use Rattle.a_terms.specs.declared.nodes.ABase.TheVariants.{Var, Int, Label, Data}
 use Rattle.a_terms.specs.declared.nodes.AValue.{AValue}
-use Rattle.a_law.specs.Allocate.{Known, all_closed, alloc_t, closed, const_of, is_pack, data_t, is_const, is_some, n_t, n_v, named, or_zero}
+use Rattle.a_law.specs.Allocate.{Known, all_closed, alloc_t, closed, const_of, is_pack, data_t, is_const, is_some, n_t}
+use Rattle.a_law.specs.Allocate.{n_v, named, or_zero}
 use Rattle.a_pass.specs.declared.state.Name.{Name}
 use Rattle.a_pass.specs.declared.state.Place.{Place}
 use Rattle.a_pass.specs.declared.state.TypeOf.{TypeOf}

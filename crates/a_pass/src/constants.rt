@@ -1,13 +1,16 @@
 // The constants of a program, and the data tuples that are made of them.
-ghost use Rattle.std.specs.Prelude.{◌≡◌, ℕ, List, Some, None, IfOk, OnOk, MatchOption, option_map, map, length, slice_get, true, false};
+ghost use Rattle.std.specs.Prelude.{◌≡◌, ℕ, List, Some, None, IfOk, OnOk, MatchOption, option_map, map, length};
+ghost use Rattle.std.specs.Prelude.{slice_get, true, false};
 ghost use Rattle.c_terms.specs.Read.{ctree};
 ghost use Rattle.a_terms.specs.Tree as a;
 ghost use Rattle.a_terms.specs.Read.{atree, atrees};
 ghost use Rattle.a_terms.specs.NodeTrees as tree;
 ghost use Rattle.a_terms.specs.NodeTrees.{a_value, a_consts};
 ghost use Rattle.a_terms.specs.Typing.{data_fields};
-ghost use Rattle.a_law.specs.Allocate.{Known, atype, all_closed as the_all_closed, closed, is_pack as the_is_pack, is_some as is_known, named, or_zero};
-ghost use Rattle.a_pass.specs.Scope.{value_at, knowns, scope, type_in, constant_of, constant_in, all_constants as the_all_constants, field_at, is_bare, of_apply, of_pack};
+ghost use Rattle.a_law.specs.Allocate.{Known, atype, all_closed as the_all_closed, closed, is_pack as the_is_pack};
+ghost use Rattle.a_law.specs.Allocate.{is_some as is_known, named, or_zero};
+ghost use Rattle.a_pass.specs.Scope.{value_at, knowns, scope, type_in, constant_of, constant_in};
+ghost use Rattle.a_pass.specs.Scope.{all_constants as the_all_constants, field_at, is_bare, of_apply, of_pack};
 ghost use Rattle.a_pass.specs.Emits.{Keeps};
 
 use crate::parts::wrap;

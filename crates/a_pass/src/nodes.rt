@@ -1,5 +1,6 @@
 // The nodes of a term, one by one.
-ghost use Rattle.std.specs.Prelude.{◌≡◌, ℕ, suc, List, [], ◌∷◌, true, IfOk, OnOk, Option, None, map, option_map, length};
+ghost use Rattle.std.specs.Prelude.{◌≡◌, ℕ, suc, List, [], ◌∷◌, true, IfOk, OnOk, Option, None, map, option_map};
+ghost use Rattle.std.specs.Prelude.{length};
 ghost use Rattle.h_terms.specs.Nodes.{h_blocks, HArity};
 ghost use Rattle.h_terms.specs.Nodes as h;
 ghost use Rattle.h_terms.specs.declared.node.HForm.TheVariants as H;

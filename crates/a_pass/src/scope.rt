@@ -8,7 +8,8 @@ ghost use Rattle.a_terms.specs.NodeTrees as tree;
 ghost use Rattle.a_terms.specs.NodeTrees.{a_value};
 ghost use Rattle.a_terms.specs.Typing.{or_int, field_of as the_field_of, body_of as the_body_of};
 ghost use Rattle.a_law.specs.Allocate.{Known, var_of, h_code, level_of, named};
-ghost use Rattle.a_pass.specs.Scope.{value_at, base_at, constant_in, knowns, known_name, scope, type_in, type_of, typed};
+ghost use Rattle.a_pass.specs.Scope.{value_at, base_at, constant_in, knowns, known_name, scope, type_in, type_of};
+ghost use Rattle.a_pass.specs.Scope.{typed};
 
 use crate::state::{ConstantOf, Leaf, Name, Seen, TypeOf};
 use crate::types::a_types;

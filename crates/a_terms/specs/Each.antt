@@ -1,7 +1,10 @@
 -- A property of all types of an allocated program: of those that stand in it, and of those of its values and names.
 use Rattle.std.specs.Prelude.{ℕ, suc, ◌+◌, ◌≤◌, max, List, [], ◌∷◌, slice_get}
-use Rattle.a_terms.specs.Tree.{ATy, AInt, AVar, ATuple, ACode, AExists, ATys, NoATys, MoreATys, AFields, NoAFields, MoreAFields, AVal, Var, Num, Lab, Data, Apply, Pack, ADecl, Value, Proj, Arith, Unpack, Malloc, Init, ATm, Let, Call, If0, Halt, ABlk, AConsts, AProg}
-use Rattle.a_terms.specs.Typing.{aunset, code_type, data_type, applied, type_of, or_int, field_of, body_of, filled_of, declared, more_vars, types_of}
+use Rattle.a_terms.specs.Tree.{ATy, AInt, AVar, ATuple, ACode, AExists, ATys, NoATys, MoreATys, AFields, NoAFields}
+use Rattle.a_terms.specs.Tree.{MoreAFields, AVal, Var, Num, Lab, Data, Apply, Pack, ADecl, Value, Proj, Arith, Unpack}
+use Rattle.a_terms.specs.Tree.{Malloc, Init, ATm, Let, Call, If0, Halt, ABlk, AConsts, AProg}
+use Rattle.a_terms.specs.Typing.{aunset, code_type, data_type, applied, type_of, or_int, field_of, body_of, filled_of}
+use Rattle.a_terms.specs.Typing.{declared, more_vars, types_of}
 
 -- a property of types under so many type variables
 abbrev pub AProp : Type 1

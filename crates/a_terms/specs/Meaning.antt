@@ -1,7 +1,9 @@
 -- What an allocated program does within a number of calls. Types are not used.
-use Rattle.std.specs.Prelude.{◌≡◌, ℕ, zero, suc, ℤ, ◌==◌, ◌++◌, List, [], ◌∷◌, length, Option, Some, None, Bool, true, false, map, slice_get, slice_set}
+use Rattle.std.specs.Prelude.{◌≡◌, ℕ, zero, suc, ℤ, ◌==◌, ◌++◌, List, [], ◌∷◌, length, Option, Some, None, Bool, true}
+use Rattle.std.specs.Prelude.{false, map, slice_get, slice_set}
 use Rattle.idx_core.specs.Arith.{compute, is_zero}
-use Rattle.a_terms.specs.Tree.{ATys, NoATys, MoreATys, AVal, Var, Num, Lab, Data, Apply, Pack, ADecl, Value, Proj, Arith, Unpack, Malloc, Init, ATm, Let, Call, If0, Halt, ABlk, AConsts, AProg, arity}
+use Rattle.a_terms.specs.Tree.{ATys, NoATys, MoreATys, AVal, Var, Num, Lab, Data, Apply, Pack, ADecl, Value, Proj}
+use Rattle.a_terms.specs.Tree.{Arith, Unpack, Malloc, Init, ATm, Let, Call, If0, Halt, ABlk, AConsts, AProg, arity}
 
 pub data AWord : Type 0 where
   ZInt : (i : ℤ) → AWord

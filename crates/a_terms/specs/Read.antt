@@ -1,7 +1,10 @@
 -- The plain trees of the program's types.
 use Rattle.std.specs.Prelude.{Bool, List, [], ◌∷◌, Option, Some, None}
 use Rattle.a_terms.specs.Tree as a
-use Rattle.a_terms.specs.declared.types.AType.{AType, Row_of-AType-Tuple-0-2 as FieldRow, end_of-AType-Tuple-0-2 as end_of_fields, more_of-AType-Tuple-0-2 as more_of_fields, Row_of-AType, end_of-AType, more_of-AType}
+use Rattle.a_terms.specs.declared.types.AType.{AType, Row_of-AType-Tuple-0-2 as FieldRow}
+use Rattle.a_terms.specs.declared.types.AType.{end_of-AType-Tuple-0-2 as end_of_fields}
+use Rattle.a_terms.specs.declared.types.AType.{more_of-AType-Tuple-0-2 as more_of_fields, Row_of-AType, end_of-AType}
+use Rattle.a_terms.specs.declared.types.AType.{more_of-AType}
 use Rattle.a_terms.specs.declared.types.AType.TheVariants as A
 
 abbrev mutual

@@ -1,12 +1,17 @@
 -- The trees of what holds a vector, by the vector's items.
-use Rattle.std.proofs.Common.{◌≡◌, ℕ, List, [], ◌∷◌, Vec, Global, refl, ap, ap₂, ◌∙◌, sym, Bool, ◌++◌, ◌<◌, ◌+◌, length, take, get_or}
+use Rattle.std.proofs.Common.{◌≡◌, ℕ, List, [], ◌∷◌, Vec, Global, refl, ap, ap₂, ◌∙◌, sym, Bool, ◌++◌, ◌<◌, ◌+◌, length}
+use Rattle.std.proofs.Common.{take, get_or}
 use mathlib.Core.Former.{Count}
 use Rattle.std.proofs.lemmas.List.{take_more}
 use Rattle.idx_core.specs.Over.{At}
 use Rattle.a_terms.specs.Tree as a
 use Rattle.a_terms.specs.Tree.{over, over_types, over_fields, arity}
 use Rattle.a_terms.specs.Read.{atree, atrees, afields, arow, afield_row}
-use Rattle.a_terms.specs.declared.types.AType.{AType, Row_of-AType-Tuple-0-2 as FieldRow, end_of-AType-Tuple-0-2 as end_of_fields, more_of-AType-Tuple-0-2 as more_of_fields, Row_of-AType, end_of-AType, more_of-AType, items-the_row-AType, items_hidden-the_row-AType-1, items-the_row-AType-Tuple-0-2, items_hidden-the_row-AType-Tuple-0-2-0}
+use Rattle.a_terms.specs.declared.types.AType.{AType, Row_of-AType-Tuple-0-2 as FieldRow}
+use Rattle.a_terms.specs.declared.types.AType.{end_of-AType-Tuple-0-2 as end_of_fields}
+use Rattle.a_terms.specs.declared.types.AType.{more_of-AType-Tuple-0-2 as more_of_fields, Row_of-AType, end_of-AType}
+use Rattle.a_terms.specs.declared.types.AType.{more_of-AType, items-the_row-AType, items_hidden-the_row-AType-1}
+use Rattle.a_terms.specs.declared.types.AType.{items-the_row-AType-Tuple-0-2, items_hidden-the_row-AType-Tuple-0-2-0}
 use Rattle.a_terms.specs.declared.types.AType.TheVariants as A
 
 abbrev a_row : AType → (n : Count) × Row_of-AType n

@@ -1,10 +1,15 @@
 -- The types that are computed are not much larger than those that are written.
-use Rattle.std.proofs.Common.{◌≡◌, ℕ, zero, suc, ◌+◌, ◌-◌, ◌<◌, ◌≤◌, ◌⊎◌, inl, inr, max, List, [], ◌∷◌, map, Some, None, Option, refl, ap, arith, slice_get}
+use Rattle.std.proofs.Common.{◌≡◌, ℕ, zero, suc, ◌+◌, ◌-◌, ◌<◌, ◌≤◌, ◌⊎◌, inl, inr, max, List, [], ◌∷◌, map, Some, None}
+use Rattle.std.proofs.Common.{Option, refl, ap, arith, slice_get}
 use Rattle.std.proofs.lemmas.Bool.{cases_lt, cases_order}
 use Rattle.idx_core.specs.Over.{At, shifted, putted}
 use Rattle.idx_core.specs.Laws.{shifted_lt, shifted_ge, putted_lt, putted_eq, putted_gt}
-use Rattle.a_terms.specs.Tree.{ATy, AInt, AVar, ATuple, ACode, AExists, ATys, NoATys, MoreATys, AFields, NoAFields, MoreAFields, ABlk, AConsts, AProg, AVal, Var, Num, Lab, Data, Apply, Pack, ADecl, Value, Proj, Arith, Unpack, Malloc, Init, arity, over, over_types, over_fields, ashift, aput_types}
-use Rattle.a_terms.specs.Typing.{aapply, afield_type, afilled, aunset, data_fields, type_of, or_int, field_of, body_of, filled_of, declared, types_of}
+use Rattle.a_terms.specs.Tree.{ATy, AInt, AVar, ATuple, ACode, AExists, ATys, NoATys, MoreATys, AFields, NoAFields}
+use Rattle.a_terms.specs.Tree.{MoreAFields, ABlk, AConsts, AProg, AVal, Var, Num, Lab, Data, Apply, Pack, ADecl, Value}
+use Rattle.a_terms.specs.Tree.{Proj, Arith, Unpack, Malloc, Init, arity, over, over_types, over_fields, ashift}
+use Rattle.a_terms.specs.Tree.{aput_types}
+use Rattle.a_terms.specs.Typing.{aapply, afield_type, afilled, aunset, data_fields, type_of, or_int, field_of, body_of}
+use Rattle.a_terms.specs.Typing.{filled_of, declared, types_of}
 use Rattle.a_terms.specs.TypeLaws.{split_code, split_data, split_applied}
 use Rattle.a_terms.specs.Sizes.{bulk, bulk_types, bulk_fields, bulk_sum, value_weight, decl_weight}
 

@@ -3,7 +3,9 @@ use Rattle.std.proofs.Common.{◌≡◌, ℕ, ◌+◌, ◌↔◌, suc, refl, ap,
 use Rattle.idx_core.specs.Over.{deep, At, IsOver, IsPart, IsEach, IsEachPart}
 use Rattle.idx_core.specs.Laws.{under, under2, under3}
 use Rattle.idx_core.specs.Laws as laws
-use Rattle.a_terms.specs.Tree.{ATy, AInt, AVar, ATuple, ACode, AExists, ATys, NoATys, MoreATys, AFields, NoAFields, MoreAFields, over, over_types, over_fields, each, each_types, each_fields, ashift, ashift_types, ashift_fields, ABelow, ABelow-types, ABelow-fields}
+use Rattle.a_terms.specs.Tree.{ATy, AInt, AVar, ATuple, ACode, AExists, ATys, NoATys, MoreATys, AFields, NoAFields}
+use Rattle.a_terms.specs.Tree.{MoreAFields, over, over_types, over_fields, each, each_types, each_fields, ashift}
+use Rattle.a_terms.specs.Tree.{ashift_types, ashift_fields, ABelow, ABelow-types, ABelow-fields}
 
 -- a fact on each depth, below n more binders
 keeps_more : (f : At ATy) (a n : ℕ) → ((e i : ℕ) → f (deep a e) i ≡ AVar i) → (e i : ℕ) → f (deep (a + n) e) i ≡ AVar i

@@ -1,12 +1,18 @@
 -- Shift, put and below of the types of the allocated calculus, from the general laws; and what code applied to types
 -- has.
-use Rattle.std.proofs.Common.{◌≡◌, ℕ, zero, suc, ◌+◌, ◌≤◌, List, [], ◌∷◌, length, map, Some, None, Option, refl, sym, ap, ◌∙◌, subst, arith, slice_get}
+use Rattle.std.proofs.Common.{◌≡◌, ℕ, zero, suc, ◌+◌, ◌≤◌, List, [], ◌∷◌, length, map, Some, None, Option, refl, sym}
+use Rattle.std.proofs.Common.{ap, ◌∙◌, subst, arith, slice_get}
 use Rattle.idx_core.specs.Over.{BelowAt, AnyDepth}
 use Rattle.idx_core.specs.Laws.{deep_is, shifted_ge}
 use Rattle.idx_core.specs.Laws as law
-use Rattle.a_terms.specs.Tree.{ATy, AInt, AVar, ATuple, ACode, AExists, ATys, NoATys, MoreATys, AFields, NoAFields, MoreAFields, ABlk, AConsts, AProg, AVal, Var, Num, Lab, Data, Apply, Pack, ADecl, Value, Proj, Arith, Unpack, Malloc, Init, ashift, ashift_fields, aput, aput_types, ABelow, ABelow-types, ABelow-fields, arity}
+use Rattle.a_terms.specs.Tree.{ATy, AInt, AVar, ATuple, ACode, AExists, ATys, NoATys, MoreATys, AFields, NoAFields}
+use Rattle.a_terms.specs.Tree.{MoreAFields, ABlk, AConsts, AProg, AVal, Var, Num, Lab, Data, Apply, Pack, ADecl, Value}
+use Rattle.a_terms.specs.Tree.{Proj, Arith, Unpack, Malloc, Init, ashift, ashift_fields, aput, aput_types, ABelow}
+use Rattle.a_terms.specs.Tree.{ABelow-types, ABelow-fields, arity}
 use Rattle.a_terms.specs.TreeLaws.{a_part, a_each, a_over, a_types_over, a_types_each, a_fields_over, a_fields_each}
-use Rattle.a_terms.specs.Typing.{aapply, afield_type, afilled, aunset, code_type, data_fields, data_type, applied, type_of, Fine, Has, or_int, field_of, body_of, filled_of, declared, more_vars, Decl-ok, types_of, Blocks-ok, Data-ok, Tuples-ok}
+use Rattle.a_terms.specs.Typing.{aapply, afield_type, afilled, aunset, code_type, data_fields, data_type, applied}
+use Rattle.a_terms.specs.Typing.{type_of, Fine, Has, or_int, field_of, body_of, filled_of, declared, more_vars, Decl-ok}
+use Rattle.a_terms.specs.Typing.{types_of, Blocks-ok, Data-ok, Tuples-ok}
 
 pub below_more : (t : ATy) (k m : ℕ) → k ≤ m → ABelow k t → ABelow m t
 below_more t k m le b =

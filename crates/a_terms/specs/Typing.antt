@@ -1,6 +1,9 @@
 -- Typing of allocated programs: the type of a value is computed, and the rest is checked.
 use Rattle.std.specs.Prelude.{◌≡◌, ℕ, zero, suc, List, [], ◌∷◌, true, false, Bool, Option, Some, None, slice_get, map}
-use Rattle.a_terms.specs.Tree.{ATy, AInt, AVar, ATuple, ACode, AExists, ATys, NoATys, MoreATys, AFields, NoAFields, MoreAFields, AVal, Var, Num, Lab, Data, Apply, Pack, ADecl, Value, Proj, Arith, Unpack, Malloc, Init, ATm, Let, Call, If0, Halt, ABlk, AConst, AConsts, AProg, ashift, aput, aput_types, ABelow, ABelow-types}
+use Rattle.a_terms.specs.Tree.{ATy, AInt, AVar, ATuple, ACode, AExists, ATys, NoATys, MoreATys, AFields, NoAFields}
+use Rattle.a_terms.specs.Tree.{MoreAFields, AVal, Var, Num, Lab, Data, Apply, Pack, ADecl, Value, Proj, Arith, Unpack}
+use Rattle.a_terms.specs.Tree.{Malloc, Init, ATm, Let, Call, If0, Halt, ABlk, AConst, AConsts, AProg, ashift, aput}
+use Rattle.a_terms.specs.Tree.{aput_types, ABelow, ABelow-types}
 
 -- code applied to types, the first name first
 abbrev pub aapply : ATy → ATys → Option ATy

@@ -1,7 +1,8 @@
 // Parts of types, and types put for those that code owes.
 ghost use Rattle.std.specs.Prelude.{◌≡◌, ℕ, Some, IfOk, MatchOption};
 ghost use Rattle.a_terms.specs.Tree.{ACode, ATuple, ATys, AFields, NoATys, MoreATys, ashift, aput_types};
-ghost use Rattle.a_terms.specs.Typing.{applied, aset, aunset, or_int, field_of as the_field_of, body_of as the_body_of, filled_of as the_filled_of};
+ghost use Rattle.a_terms.specs.Typing.{applied, aset, aunset, or_int, field_of as the_field_of, body_of as the_body_of};
+ghost use Rattle.a_terms.specs.Typing.{filled_of as the_filled_of};
 ghost use Rattle.a_terms.specs.Read.{atree, atrees, afields, maybe};
 
 use crate::types::AType;

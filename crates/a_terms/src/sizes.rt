@@ -1,7 +1,13 @@
 // How many names and registers a program needs at most.
 ghost use Rattle.std.specs.Prelude.{◌≡◌, ◌+◌, IfOk, OnOk};
-ghost use Rattle.a_terms.specs.Sizes.{bulk as the_bulk, bulk_types as the_bulk_types, bulk_fields as the_bulk_fields, bulk_sum as the_bulk_sum, value_weight as the_value_weight, values_weight as the_values_weight, Fits-in};
-ghost use Rattle.a_terms.specs.Weights.{form_size as the_form_size, node_size as the_node_size, nodes_size as the_nodes_size, wrap_weight as the_wrap_weight, wraps_weight as the_wraps_weight, label_size, body_size, blocks_size as the_blocks_size, fields_size as the_fields_size, data_size as the_data_size};
+ghost use Rattle.a_terms.specs.Sizes.{bulk as the_bulk, bulk_types as the_bulk_types, bulk_fields as the_bulk_fields};
+ghost use Rattle.a_terms.specs.Sizes.{bulk_sum as the_bulk_sum, value_weight as the_value_weight};
+ghost use Rattle.a_terms.specs.Sizes.{values_weight as the_values_weight, Fits-in};
+ghost use Rattle.a_terms.specs.Weights.{form_size as the_form_size, node_size as the_node_size};
+ghost use Rattle.a_terms.specs.Weights.{nodes_size as the_nodes_size, wrap_weight as the_wrap_weight};
+ghost use Rattle.a_terms.specs.Weights.{wraps_weight as the_wraps_weight, label_size, body_size};
+ghost use Rattle.a_terms.specs.Weights.{blocks_size as the_blocks_size, fields_size as the_fields_size};
+ghost use Rattle.a_terms.specs.Weights.{data_size as the_data_size};
 ghost use Rattle.a_terms.specs.Read.{atree, atrees, afields};
 ghost use Rattle.a_terms.specs.NodeTrees.{a_value, a_values, a_prog, a_tree};
 

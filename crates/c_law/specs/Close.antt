@@ -2,10 +2,14 @@
 use Rattle.std.specs.Prelude.{pos, ℕ, zero, suc, Bool, true, false, ◌||◌, ◌&&◌, List, [], ◌∷◌, Option, Some, None}
 use Rattle.c_law.specs.Places.{Places, further, place, from_on, kept_places, kept_count}
 use Rattle.term_core.specs.Ends.{after_one, lift, under}
-use Rattle.k_terms.specs.K.{KTy, KTys, TKInt, TKVar, TKTuple, TKCode, TKSome, TKRef, NoKTys, MoreKTys, KVal, KVar, KInt, KTuple, KCode, KVals, NoKVals, MoreKVals, KDecl, KName, KProj, KArith, KPack, KUnpack, KCell, KGet, KSet, KTm, KLet, KCall, KIf, KHalt, kcount, kbody_scope, krens_scope, opens}
+use Rattle.k_terms.specs.K.{KTy, KTys, TKInt, TKVar, TKTuple, TKCode, TKSome, TKRef, NoKTys, MoreKTys, KVal, KVar, KInt}
+use Rattle.k_terms.specs.K.{KTuple, KCode, KVals, NoKVals, MoreKVals, KDecl, KName, KProj, KArith, KPack, KUnpack}
+use Rattle.k_terms.specs.K.{KCell, KGet, KSet, KTm, KLet, KCall, KIf, KHalt, kcount, kbody_scope, krens_scope, opens}
 use Rattle.c_law.specs.Free.{occurs_t, tfree, tfrees, tfree_t}
 use Rattle.k_terms.specs.Types.{kd_type}
-use Rattle.c_terms.specs.C.{CTy, CTys, TCInt, TCVar, TCTuple, TCCode, TCSome, TCRef, NoCTys, MoreCTys, CVal, CVar, CInt, CTuple, CCode, CApply, CPack, CVals, NoCVals, MoreCVals, CDecl, CName, CProj, CArith, CUnpack, CCell, CGet, CSet, CTm, CLet, CCall, CIf, CHalt}
+use Rattle.c_terms.specs.C.{CTy, CTys, TCInt, TCVar, TCTuple, TCCode, TCSome, TCRef, NoCTys, MoreCTys, CVal, CVar, CInt}
+use Rattle.c_terms.specs.C.{CTuple, CCode, CApply, CPack, CVals, NoCVals, MoreCVals, CDecl, CName, CProj, CArith}
+use Rattle.c_terms.specs.C.{CUnpack, CCell, CGet, CSet, CTm, CLet, CCall, CIf, CHalt}
 
 -- the type C t, with its free variables renamed
 abbrev mutual

@@ -1,9 +1,13 @@
 -- The translation as a relation between a term and a closed one, rule by rule.
 use Rattle.std.specs.Prelude.{◌≡◌, ℕ, zero, suc, ◌+◌, ◌-◌, Bool, true, false, List, [], ◌∷◌, length}
 use Rattle.term_core.specs.Ends.{lift, under, after_one}
-use Rattle.k_terms.specs.K.{KTy, KTys, TKCode, KVal, KVar, KInt, KTuple, KCode, KVals, NoKVals, MoreKVals, KDecl, KName, KProj, KArith, KPack, KUnpack, KCell, KGet, KSet, KTm, KLet, KCall, KIf, KHalt, kcount, kbody_scope, krens_scope, opens}
+use Rattle.k_terms.specs.K.{KTy, KTys, TKCode, KVal, KVar, KInt, KTuple, KCode, KVals, NoKVals, MoreKVals, KDecl, KName}
+use Rattle.k_terms.specs.K.{KProj, KArith, KPack, KUnpack, KCell, KGet, KSet, KTm, KLet, KCall, KIf, KHalt, kcount}
+use Rattle.k_terms.specs.K.{kbody_scope, krens_scope, opens}
 use Rattle.k_terms.specs.Types.{ktype_at, kd_type}
-use Rattle.c_terms.specs.C.{CTys, TCVar, TCTuple, NoCTys, MoreCTys, CVal, CVar, CInt, CTuple, CCode, CApply, CPack, CVals, NoCVals, MoreCVals, CDecl, CName, CProj, CArith, CUnpack, CCell, CGet, CSet, CTm, CLet, CCall, CIf, CHalt}
+use Rattle.c_terms.specs.C.{CTys, TCVar, TCTuple, NoCTys, MoreCTys, CVal, CVar, CInt, CTuple, CCode, CApply, CPack}
+use Rattle.c_terms.specs.C.{CVals, NoCVals, MoreCVals, CDecl, CName, CProj, CArith, CUnpack, CCell, CGet, CSet, CTm}
+use Rattle.c_terms.specs.C.{CLet, CCall, CIf, CHalt}
 use Rattle.c_law.specs.Close.{ctype, ctypes, uses, keeps, tkeeps, rank, projections, named}
 
 -- what is in scope: the types of the variables and how many type variables there are, before;

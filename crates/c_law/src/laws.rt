@@ -1,6 +1,7 @@
 // What closure conversion keeps.
 ghost use Rattle.k_terms.specs.Laws.{NeverStuck};
-ghost use Rattle.c_law.specs.Laws.{MeaningKept, TypesKept, ReachKept, FitsKept, BoundKept, CloseIsScoped, TypedIsClosed};
+ghost use Rattle.c_law.specs.Laws.{MeaningKept, TypesKept, ReachKept, FitsKept, BoundKept, CloseIsScoped};
+ghost use Rattle.c_law.specs.Laws.{TypedIsClosed};
 ghost use Rattle.c_law.specs.Laws.{CloseTranslates};
 
 use k_terms::laws::never_stuck_law;

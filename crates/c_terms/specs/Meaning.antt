@@ -4,7 +4,9 @@ use Rattle.idx_core.specs.declared.arith.Op.{Op}
 use Rattle.idx_core.specs.Arith.{compute, is_zero}
 use Rattle.term_core.specs.Ends.{pick, Halted, Spent, Stuck, Result, stops, enters}
 use Rattle.term_core.specs.Ends.{if_fits}
-use Rattle.c_terms.specs.C.{CTys, CVal, CVar, CInt, CTuple, CCode, CApply, CPack, CVals, NoCVals, MoreCVals, CDecl, CName, CProj, CArith, CUnpack, CCell, CGet, CSet, CTm, CLet, CCall, CIf, CHalt, ccount, cv_next, cd_next, ct_next}
+use Rattle.c_terms.specs.C.{CTys, CVal, CVar, CInt, CTuple, CCode, CApply, CPack, CVals, NoCVals, MoreCVals, CDecl}
+use Rattle.c_terms.specs.C.{CName, CProj, CArith, CUnpack, CCell, CGet, CSet, CTm, CLet, CCall, CIf, CHalt, ccount}
+use Rattle.c_terms.specs.C.{cv_next, cd_next, ct_next}
 
 -- a value: an integer, a tuple, a code with its number, or a cell
 mutual

@@ -1,7 +1,8 @@
 -- The code's types and nodes as plain ones.
 use Rattle.std.specs.Prelude.{List, [], ◌∷◌}
 use Rattle.c_terms.specs.C.{CTy, TCInt, TCVar, TCTuple, TCCode, TCSome, TCRef, CTys, NoCTys, MoreCTys}
-use Rattle.c_terms.specs.Stream.{CNd, MVar, MInt, MTuple, MCode, MEnd, MApply, MPack, MName, MProj, MArith, MUnpack, MCell, MGet, MSet, MCall, MIf, MElse, MHalt}
+use Rattle.c_terms.specs.Stream.{CNd, MVar, MInt, MTuple, MCode, MEnd, MApply, MPack, MName, MProj, MArith, MUnpack}
+use Rattle.c_terms.specs.Stream.{MCell, MGet, MSet, MCall, MIf, MElse, MHalt}
 use Rattle.c_terms.specs.declared.types.CType.{CType, Row_of-CType, end_of-CType, more_of-CType}
 use Rattle.c_terms.specs.declared.types.CType.TheVariants.{Int, Var, Tuple', Code', Exists', Ref'}
 use Rattle.c_terms.specs.declared.node.CNode.{CNode}

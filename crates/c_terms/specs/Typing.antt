@@ -1,7 +1,9 @@
 -- Typing of the closed calculus.
 use Rattle.std.specs.Prelude.{◌≡◌, ◌<◌, ℕ, zero, suc, List, [], ◌∷◌}
 use Rattle.term_core.specs.Ends.{lift, under}
-use Rattle.c_terms.specs.C.{CTy, CTys, TCInt, TCVar, TCTuple, TCCode, TCSome, TCRef, NoCTys, MoreCTys, CVal, CVar, CInt, CTuple, CCode, CApply, CPack, CVals, NoCVals, MoreCVals, CName, CProj, CArith, CUnpack, CCell, CGet, CSet, CTm, CLet, CCall, CIf, CHalt, ccount}
+use Rattle.c_terms.specs.C.{CTy, CTys, TCInt, TCVar, TCTuple, TCCode, TCSome, TCRef, NoCTys, MoreCTys, CVal, CVar, CInt}
+use Rattle.c_terms.specs.C.{CTuple, CCode, CApply, CPack, CVals, NoCVals, MoreCVals, CName, CProj, CArith, CUnpack}
+use Rattle.c_terms.specs.C.{CCell, CGet, CSet, CTm, CLet, CCall, CIf, CHalt, ccount}
 
 abbrev mutual
   pub cren : (ℕ → ℕ) → CTy → CTy

@@ -4,7 +4,8 @@ ghost use Rattle.idx_core.specs.Over.{IsWord, ShiftFitsAt, PutFitsAt, BelowAt, A
 ghost use Rattle.c_terms.specs.C.{CTy, TCVar};
 ghost use Rattle.c_terms.specs.Read.{ctree, ctys};
 ghost use Rattle.c_terms.specs.TyLaws.{types_part, types_over, type_is_below};
-ghost use Rattle.c_terms.specs.Walks.{over, each, each_all, shift, shift_all, put_from, put_all_from, ShiftFits, PutFits, Below, BelowAll};
+ghost use Rattle.c_terms.specs.Walks.{over, each, each_all, shift, shift_all, put_from, put_all_from, ShiftFits};
+ghost use Rattle.c_terms.specs.Walks.{PutFits, Below, BelowAll};
 
 use crate::types::CType;
 use idx_core::{OutOfMemory, Scoped};

@@ -1,11 +1,15 @@
 -- Closure conversion along the nodes.
 use Rattle.std.specs.Prelude.{ℕ, zero, suc, ◌+◌, ◌-◌, Bool, true, false, cond, nat_lt, nat_le, length, List, [], ◌∷◌}
 use Rattle.term_core.specs.Ends.{lift, after_one}
-use Rattle.k_terms.specs.K.{KTys, KVal, KVar, KInt, KTuple, KCode, TKCode, KVals, NoKVals, MoreKVals, KDecl, KName, KProj, KArith, KPack, KUnpack, KCell, KGet, KSet, KTm, KLet, KCall, KIf, KHalt, kcount}
+use Rattle.k_terms.specs.K.{KTys, KVal, KVar, KInt, KTuple, KCode, TKCode, KVals, NoKVals, MoreKVals, KDecl, KName}
+use Rattle.k_terms.specs.K.{KProj, KArith, KPack, KUnpack, KCell, KGet, KSet, KTm, KLet, KCall, KIf, KHalt, kcount}
 use Rattle.c_terms.specs.C.{CTy, CTys, NoCTys}
-use Rattle.c_law.specs.Close.{Scope, uses, keeps, tkeeps, rank, picked_tvars, env_type, outside, closed_args, ctype, ctypes, inner, with_decl, in_call}
-use Rattle.k_terms.specs.Stream.{KNd, NVar, NInt, NTuple, NCode, NEnd, NName, NProj, NArith, NPack, NUnpack, NCell, NGet, NSet, NCall, NIf, NElse, NHalt}
-use Rattle.c_terms.specs.Stream.{CNd, MVar, MInt, MTuple, MCode, MEnd, MApply, MPack, MName, MProj, MArith, MUnpack, MCell, MGet, MSet, MCall, MIf, MElse, MHalt}
+use Rattle.c_law.specs.Close.{Scope, uses, keeps, tkeeps, rank, picked_tvars, env_type, outside, closed_args, ctype}
+use Rattle.c_law.specs.Close.{ctypes, inner, with_decl, in_call}
+use Rattle.k_terms.specs.Stream.{KNd, NVar, NInt, NTuple, NCode, NEnd, NName, NProj, NArith, NPack, NUnpack, NCell}
+use Rattle.k_terms.specs.Stream.{NGet, NSet, NCall, NIf, NElse, NHalt}
+use Rattle.c_terms.specs.Stream.{CNd, MVar, MInt, MTuple, MCode, MEnd, MApply, MPack, MName, MProj, MArith, MUnpack}
+use Rattle.c_terms.specs.Stream.{MCell, MGet, MSet, MCall, MIf, MElse, MHalt}
 
 -- what is known of a code before it is met
 pub record Info : Type 0 where

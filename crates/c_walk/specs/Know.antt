@@ -1,11 +1,15 @@
 -- What is to be known of the codes and calls, by a walk along the nodes.
-use Rattle.std.specs.Prelude.{ℕ, zero, suc, ◌-◌, Bool, true, false, ◌||◌, nat_lt, length, take, slice_index_or, List, [], ◌∷◌, ◌++◌}
+use Rattle.std.specs.Prelude.{ℕ, zero, suc, ◌-◌, Bool, true, false, ◌||◌, nat_lt, length, take, slice_index_or, List}
+use Rattle.std.specs.Prelude.{[], ◌∷◌, ◌++◌}
 use Rattle.term_core.specs.Ends.{lift, under, after_one}
-use Rattle.k_terms.specs.K.{KTy, KTys, TKInt, TKVar, TKTuple, TKCode, TKSome, TKRef, NoKTys, MoreKTys, KVal, KVar, KInt, KTuple, KCode, KVals, NoKVals, MoreKVals, KDecl, KName, KProj, KArith, KPack, KUnpack, KCell, KGet, KSet, KTm, KLet, KCall, KIf, KHalt, kcount, opens}
+use Rattle.k_terms.specs.K.{KTy, KTys, TKInt, TKVar, TKTuple, TKCode, TKSome, TKRef, NoKTys, MoreKTys, KVal, KVar, KInt}
+use Rattle.k_terms.specs.K.{KTuple, KCode, KVals, NoKVals, MoreKVals, KDecl, KName, KProj, KArith, KPack, KUnpack}
+use Rattle.k_terms.specs.K.{KCell, KGet, KSet, KTm, KLet, KCall, KIf, KHalt, kcount, opens}
 use Rattle.c_law.specs.Free.{tfrees, tfree_t}
 use Rattle.c_terms.specs.C.{CTy, CTys, TCVar, TCTuple, NoCTys, MoreCTys}
 use Rattle.c_law.specs.Close.{uses, keeps, ctype, ctypes}
-use Rattle.k_terms.specs.Stream.{KNd, NVar, NInt, NTuple, NCode, NEnd, NName, NProj, NArith, NPack, NUnpack, NCell, NGet, NSet, NCall, NIf, NElse, NHalt}
+use Rattle.k_terms.specs.Stream.{KNd, NVar, NInt, NTuple, NCode, NEnd, NName, NProj, NArith, NPack, NUnpack, NCell}
+use Rattle.k_terms.specs.Stream.{NGet, NSet, NCall, NIf, NElse, NHalt}
 use Rattle.term_core.specs.Levels.{level_of}
 use Rattle.c_walk.specs.Emit.{Info, Note, Calls, Packs, levels}
 use Rattle.c_walk.specs.Sweep.{known_below}

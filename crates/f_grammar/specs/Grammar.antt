@@ -5,7 +5,8 @@ use Rattle.idx_core.specs.declared.arith.Op.TheVariants.{Add, Sub, Mul}
 use Rattle.f_lexer.specs.declared.token.Token.{Token}
 use Rattle.f_lexer.specs.declared.kind.Kind.{Kind}
 use Rattle.f_lexer.specs.declared.kind.Kind.TheVariants as k
-use Rattle.f_grammar.specs.Raw.{RawTy, RInt, RName, RTuple, RArrow, RAll, raw_tys, RawTm, Piece, within, var, number, func, gen, call, inst, tuple, proj, arith, if0}
+use Rattle.f_grammar.specs.Raw.{RawTy, RInt, RName, RTuple, RArrow, RAll, raw_tys, RawTm, Piece, within, var, number}
+use Rattle.f_grammar.specs.Raw.{func, gen, call, inst, tuple, proj, arith, if0}
 
 -- a token of this kind at this place
 abbrev pub tok : Kind → Span → Token

@@ -10,7 +10,8 @@ use Rattle.f_grammar.specs.declared.cursor.Wanted.TheVariants as want
 use Rattle.text_core.specs.Table as table_of
 use Rattle.text_core.specs.Table.{Sym, Tm, Nt, Do, Mark, Table, then_more}
 use Rattle.f_grammar.specs.Grammar.{E, open_E}
-use Rattle.f_grammar.specs.Raw.{RawTy, RInt, RName, RTuple, RArrow, RAll, raw_tys, RawTm, Piece, within, var, number, func, gen, call, inst, tuple, proj, arith, if0}
+use Rattle.f_grammar.specs.Raw.{RawTy, RInt, RName, RTuple, RArrow, RAll, raw_tys, RawTm, Piece, within, var, number}
+use Rattle.f_grammar.specs.Raw.{func, gen, call, inst, tuple, proj, arith, if0}
 
 -- the tokens that may be owed
 abbrev pub Class : Type 0

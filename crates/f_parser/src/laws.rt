@@ -1,5 +1,6 @@
 // What the definition of a text's term says in all.
-ghost use Rattle.f_parser.specs.Text.{OneTerm, NoFaultWhereRead, NoTermWhereFaulty, TermOrFault, OneFault, ClosedTerms, SameNodes, UsesInTextOrder};
+ghost use Rattle.f_parser.specs.Text.{OneTerm, NoFaultWhereRead, NoTermWhereFaulty, TermOrFault, OneFault, ClosedTerms};
+ghost use Rattle.f_parser.specs.Text.{SameNodes, UsesInTextOrder};
 
 /// No text stands for two terms.
 pub fn one_term()

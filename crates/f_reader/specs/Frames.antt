@@ -12,7 +12,9 @@ use Rattle.text_core.specs.Going.{Goes}
 use Rattle.f_grammar.specs.Raw.{RawTm, Piece}
 use Rattle.f_grammar.specs.Read.{type_of}
 use Rattle.f_grammar.specs.Reads.{Fails}
-use Rattle.f_grammar.specs.Machine.{table, Stack, Val, OfToken, OfTerm, OfTerms, OfType, LE, LP, MoreParts, MoreFactors, MoreSums, MoreFields, MakeParen, MakeTuple, MakeProj, MakeIf0, MakeFix, MakeGen, MakeCall, MakeArith, MakeFirst, MakeNext, value_of, marks}
+use Rattle.f_grammar.specs.Machine.{table, Stack, Val, OfToken, OfTerm, OfTerms, OfType, LE, LP, MoreParts, MoreFactors}
+use Rattle.f_grammar.specs.Machine.{MoreSums, MoreFields, MakeParen, MakeTuple, MakeProj, MakeIf0, MakeFix, MakeGen}
+use Rattle.f_grammar.specs.Machine.{MakeCall, MakeArith, MakeFirst, MakeNext, value_of, marks}
 use Rattle.f_grammar.specs.declared.cursor.Wanted.TheVariants as want
 use Rattle.f_grammar.specs.declared.cursor.Stopped.{Stopped}
 use Rattle.f_reader.specs.Forest.{Stands, AreTrees, Counted}

@@ -1,7 +1,8 @@
 -- What a checker of source terms accepts: source typing, and the limits on types.
 use Rattle.std.specs.Prelude.{ℕ, ◌+◌}
 use Rattle.f_terms.specs.Ty.{Ty, Tys, NoTys}
-use Rattle.f_terms.specs.Tm.{Term, MVar, MNum, MFix, MApp, MGen, MInst, MTuple, MProj, MArith, MIf0, Terms, NoTerms, MoreTerms}
+use Rattle.f_terms.specs.Tm.{Term, MVar, MNum, MFix, MApp, MGen, MInst, MTuple, MProj, MArith, MIf0, Terms, NoTerms}
+use Rattle.f_terms.specs.Tm.{MoreTerms}
 use Rattle.f_terms.specs.Limits.{Within}
 use Rattle.f_terms.specs.Typing.{raised, in_fix, HasType, IsTyped}
 

@@ -2,7 +2,8 @@
 -- its type looked at before its body.
 use Rattle.std.specs.Prelude.{◌≡◌, ℕ, ◌+◌, ◌⊎◌, Option, Some, None}
 use Rattle.f_terms.specs.Ty.{Ty, TInt, TVar, TArrow, TAll, TTuple, Tys, NoTys, MoreTys, put, Below}
-use Rattle.f_terms.specs.Tm.{Spn, Tm, SVar, SNum, SFix, SApp, SGen, SInst, STuple, SProj, SArith, SIf0, Tms, NoTms, MoreTms, span_of}
+use Rattle.f_terms.specs.Tm.{Spn, Tm, SVar, SNum, SFix, SApp, SGen, SInst, STuple, SProj, SArith, SIf0, Tms, NoTms}
+use Rattle.f_terms.specs.Tm.{MoreTms, span_of}
 use Rattle.f_terms.specs.Limits.{Shallow, Small, Within}
 use Rattle.f_terms.specs.Typing.{ty_at, field_ty, raised, in_fix}
 use Rattle.f_terms.specs.declared.fault.Code.{Code}

@@ -1,7 +1,8 @@
 -- That types which stand beside a term are its own is a proposition: a type's invariant may keep it.
 use Rattle.f_terms.specs.Ty.{Tys}
 use Rattle.f_terms.specs.Typing.{raised, in_fix}
-use Rattle.f_terms.specs.Noted.{Noted, EVar, ENum, EFix, EApp, EGen, EInst, ETuple, EProj, EArith, EIf, Noteds, NoNoteds, MoreNoteds, Beside, AllBeside}
+use Rattle.f_terms.specs.Noted.{Noted, EVar, ENum, EFix, EApp, EGen, EInst, ETuple, EProj, EArith, EIf, Noteds}
+use Rattle.f_terms.specs.Noted.{NoNoteds, MoreNoteds, Beside, AllBeside}
 use Rattle.f_terms.specs.Props.{type_set}
 
 mutual

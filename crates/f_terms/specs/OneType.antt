@@ -1,7 +1,8 @@
 -- A term has at most one type.
 use Rattle.std.proofs.Common.{◌≡◌, ℕ, ◌+◌, sym, ap, ap₂, ◌∙◌, Some}
 use Rattle.f_terms.specs.Ty.{Ty, TArrow, TAll, TTuple, Tys, MoreTys, put}
-use Rattle.f_terms.specs.Tm.{Term, MVar, MNum, MFix, MApp, MGen, MInst, MTuple, MProj, MArith, MIf0, Terms, NoTerms, MoreTerms}
+use Rattle.f_terms.specs.Tm.{Term, MVar, MNum, MFix, MApp, MGen, MInst, MTuple, MProj, MArith, MIf0, Terms, NoTerms}
+use Rattle.f_terms.specs.Tm.{MoreTerms}
 use Rattle.f_terms.specs.Typing.{field_ty, raised, HasType, HaveTypes}
 use Rattle.f_terms.specs.Laws.{OneType}
 

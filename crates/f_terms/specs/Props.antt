@@ -5,7 +5,8 @@ use Rattle.std.proofs.Props.{props}
 use mathlib.Core.HLevel.{hedberg, is_prop→PathP}
 use Rattle.idx_core.specs.Over.{BelowAt, AnyDepth}
 use Rattle.f_terms.specs.Ty.{Ty, TInt, TVar, TArrow, TAll, TTuple, Tys, NoTys, MoreTys, each, each_all, put, Below}
-use Rattle.f_terms.specs.Tm.{Term, MVar, MNum, MFix, MApp, MGen, MInst, MTuple, MProj, MArith, MIf0, Terms, NoTerms, MoreTerms}
+use Rattle.f_terms.specs.Tm.{Term, MVar, MNum, MFix, MApp, MGen, MInst, MTuple, MProj, MArith, MIf0, Terms, NoTerms}
+use Rattle.f_terms.specs.Tm.{MoreTerms}
 use Rattle.f_terms.specs.Typing.{ty_at, field_ty, raised, in_fix, HasType, HaveTypes, IsTyped, IsProgram}
 use Rattle.f_terms.specs.Accepted.{TypeWithin, KeepsLimits, AllKeepLimits, IsAccepted}
 use Rattle.f_terms.specs.OneType.{one_type}

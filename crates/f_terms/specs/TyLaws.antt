@@ -2,7 +2,8 @@
 use Rattle.std.proofs.Common.{◌≡◌, ℕ, ◌+◌, ◌≤◌, ◌↔◌, suc, refl, ap, ap₂, arith}
 use Rattle.idx_core.specs.Over.{deep, At, IsOver, IsPart, IsEach, IsEachPart, shifted, BelowAt, AnyDepth}
 use Rattle.idx_core.specs.Laws as laws
-use Rattle.f_terms.specs.Ty.{Ty, TInt, TVar, TArrow, TAll, TTuple, Tys, NoTys, MoreTys, over, over_all, each, each_all, shift, put, Below}
+use Rattle.f_terms.specs.Ty.{Ty, TInt, TVar, TArrow, TAll, TTuple, Tys, NoTys, MoreTys, over, over_all, each, each_all}
+use Rattle.f_terms.specs.Ty.{shift, put, Below}
 
 mutual
   keeps : (f : At Ty) (a : ℕ) → ((e i : ℕ) → f (deep a e) i ≡ TVar i) → (t : Ty) → over f a t ≡ t

@@ -1,5 +1,7 @@
 // Laws of the source calculus, as functions with an empty body that callers cite.
-ghost use Rattle.f_terms.specs.Laws.{PutsExchange, PutUnderABinder, OneType, PassesWhereTyped, NoFaultBesideAPass, PassOrFault, OneFault, KeepsRules, MoreTurnsKeepTheValue, LeavesAtMost, OneAnswer, NeverStuck};
+ghost use Rattle.f_terms.specs.Laws.{PutsExchange, PutUnderABinder, OneType, PassesWhereTyped, NoFaultBesideAPass};
+ghost use Rattle.f_terms.specs.Laws.{PassOrFault, OneFault, KeepsRules, MoreTurnsKeepTheValue, LeavesAtMost, OneAnswer};
+ghost use Rattle.f_terms.specs.Laws.{NeverStuck};
 
 /// For i at most j, a put of u for i and then of v for j is a put of v, shifted, for j + 1 and then of u, with v put
 /// into it, for i.

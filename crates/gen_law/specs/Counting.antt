@@ -1,5 +1,6 @@
 -- How often a generated block may be entered for the entries of the allocated blocks.
-use Rattle.std.specs.Prelude.{◌≡◌, ℕ, zero, suc, ◌+◌, ◌≤◌, ◌<◌, ◌⊎◌, ◌==◌, List, [], ◌∷◌, length, Bool, true, false, Option, Some, None, slice_get}
+use Rattle.std.specs.Prelude.{◌≡◌, ℕ, zero, suc, ◌+◌, ◌≤◌, ◌<◌, ◌⊎◌, ◌==◌, List, [], ◌∷◌, length, Bool, true, false}
+use Rattle.std.specs.Prelude.{Option, Some, None, slice_get}
 use Rattle.a_terms.specs.Tree.{ATm, ABlk, AProg}
 use Rattle.a_terms.specs.Meaning.{Result, Halted, Spent, Wrong}
 use Rattle.a_terms.specs.Bound.{thirds}

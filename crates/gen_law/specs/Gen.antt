@@ -2,10 +2,13 @@
 -- call leaves argument j in register j. Each data tuple has its own too. In its block the variable of level l lives in
 -- register l + 1, from its declaration on.
 use Rattle.std.specs.Prelude.{ℕ, zero, suc, ◌+◌, ◌-◌, ◌++◌, List, [], ◌∷◌, length, map}
-use Rattle.t_types.specs.Tree.{Ty, IntTy, VarTy, CodeTy, ExistsTy, TupleTy, TFile, NoRegs, MoreRegs, TFields, NoFields, MoreFields}
+use Rattle.t_types.specs.Tree.{Ty, IntTy, VarTy, CodeTy, ExistsTy, TupleTy, TFile, NoRegs, MoreRegs, TFields, NoFields}
+use Rattle.t_types.specs.Tree.{MoreFields}
 use Rattle.t_terms.specs.Tree as T
 use Rattle.t_terms.specs.Tree.{TValue, TSeq, Then, Ends, TBlock, TDatum, TData, TProg}
-use Rattle.a_terms.specs.Tree.{ATy, AInt, AVar, ATuple, ACode, AExists, ATys, NoATys, MoreATys, AFields, NoAFields, MoreAFields, AVal, Var, Num, Lab, Data, Apply, Pack, ADecl, Value, Proj, Arith, Unpack, Malloc, Init, ATm, Let, Call, If0, Halt, ABlk, AConst, AConsts, AProg, arity}
+use Rattle.a_terms.specs.Tree.{ATy, AInt, AVar, ATuple, ACode, AExists, ATys, NoATys, MoreATys, AFields, NoAFields}
+use Rattle.a_terms.specs.Tree.{MoreAFields, AVal, Var, Num, Lab, Data, Apply, Pack, ADecl, Value, Proj, Arith, Unpack}
+use Rattle.a_terms.specs.Tree.{Malloc, Init, ATm, Let, Call, If0, Halt, ABlk, AConst, AConsts, AProg, arity}
 use Rattle.a_terms.specs.Typing.{declared, more_vars, types_of}
 use Rattle.a_terms.specs.Bound.{thirds}
 

@@ -1,6 +1,7 @@
 -- No package stands inside a package.
 use Rattle.std.specs.Prelude.{List, [], ◌∷◌}
-use Rattle.t_terms.specs.Tree.{TValue, Plain, Pack, TInstr, Arith, Bnz, Ld, Malloc, Mov, St, Unpack, TEnd, Jmp, Halt, TSeq, Then, Ends, TBlock, TData, TProg}
+use Rattle.t_terms.specs.Tree.{TValue, Plain, Pack, TInstr, Arith, Bnz, Ld, Malloc, Mov, St, Unpack, TEnd, Jmp, Halt}
+use Rattle.t_terms.specs.Tree.{TSeq, Then, Ends, TBlock, TData, TProg}
 
 -- the value is no package
 abbrev pub NoPack : TValue → Type 0

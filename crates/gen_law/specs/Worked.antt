@@ -1,7 +1,9 @@
 -- Worked programs of the allocated calculus.
 use Rattle.std.specs.Prelude.{[], ◌∷◌, true, pos}
 use Rattle.idx_core.specs.declared.arith.Op.TheVariants.{Sub, Mul}
-use Rattle.a_terms.specs.Tree.{ATy, AInt, AVar, ATuple, ACode, AExists, NoATys, MoreATys, NoAFields, MoreAFields, Var, Num, Lab, Data, Apply, Pack, Value, Proj, Arith, Unpack, Malloc, Init, ATm, Let, Call, If0, Halt, ABlk, AProg}
+use Rattle.a_terms.specs.Tree.{ATy, AInt, AVar, ATuple, ACode, AExists, NoATys, MoreATys, NoAFields, MoreAFields, Var}
+use Rattle.a_terms.specs.Tree.{Num, Lab, Data, Apply, Pack, Value, Proj, Arith, Unpack, Malloc, Init, ATm, Let, Call}
+use Rattle.a_terms.specs.Tree.{If0, Halt, ABlk, AProg}
 
 -- a continuation: code that takes its surroundings and an integer, with its surroundings
 abbrev pub kont : ATy

@@ -2,10 +2,13 @@
 use Rattle.std.specs.Prelude.{◌≡◌, pos, List, [], ◌∷◌, ◌++◌}
 use Rattle.c_terms.specs.declared.node.CNode.{CNode}
 use Rattle.idx_core.specs.declared.arith.Op.TheVariants.{Sub}
-use Rattle.c_terms.specs.C.{CArith, CCall, CCell, CCode, CGet, CHalt, CIf, CInt, CLet, CName, CPack, CProj, CTm, CTuple, CTy, CTys, CUnpack, CVal, CVar, MoreCTys, MoreCVals, NoCTys, NoCVals, TCCode, TCInt, TCSome, TCTuple, TCVar}
+use Rattle.c_terms.specs.C.{CArith, CCall, CCell, CCode, CGet, CHalt, CIf, CInt, CLet, CName, CPack, CProj, CTm, CTuple}
+use Rattle.c_terms.specs.C.{CTy, CTys, CUnpack, CVal, CVar, MoreCTys, MoreCVals, NoCTys, NoCVals, TCCode, TCInt, TCSome}
+use Rattle.c_terms.specs.C.{TCTuple, TCVar}
 use Rattle.c_terms.specs.Read.{written}
 use Rattle.c_terms.specs.Stream.{CNd}
-use Rattle.h_terms.specs.H.{HArith, HBlks, HCall, HCell, HGet, HHalt, HIf, HInt, HLabel, HLet, HName, HPack, HProj, HTm, HTuple, HUnpack, HVar, MoreHVals, NoHVals}
+use Rattle.h_terms.specs.H.{HArith, HBlks, HCall, HCell, HGet, HHalt, HIf, HInt, HLabel, HLet, HName, HPack, HProj, HTm}
+use Rattle.h_terms.specs.H.{HTuple, HUnpack, HVar, MoreHVals, NoHVals}
 
 -- so many nodes are added
 pub record Adds (old new : List CNode) (more : List CNd) : Type 0 where

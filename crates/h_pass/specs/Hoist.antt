@@ -1,7 +1,10 @@
 -- Hoisting: each code becomes a block, and its label stands where the code stood.
 use Rattle.std.specs.Prelude.{pos, ℕ, zero, suc, [], ◌∷◌, ◌++◌}
-use Rattle.c_terms.specs.C.{CApply, CArith, CCall, CCell, CCode, CDecl, CGet, CHalt, CIf, CInt, CLet, CName, CPack, CProj, CSet, CTm, CTuple, CTys, CUnpack, CVal, CVals, CVar, MoreCVals, NoCVals, ccount, cd_next, ct_next, cv_next}
-use Rattle.h_terms.specs.H.{HApply, HArith, HBlk, HBlks, HCall, HCell, HDecl, HGet, HHalt, HIf, HInt, HLabel, HLet, HName, HPack, HProj, HSet, HTm, HTuple, HUnpack, HVal, HVals, HVar, MoreHVals, NoHVals}
+use Rattle.c_terms.specs.C.{CApply, CArith, CCall, CCell, CCode, CDecl, CGet, CHalt, CIf, CInt, CLet, CName, CPack}
+use Rattle.c_terms.specs.C.{CProj, CSet, CTm, CTuple, CTys, CUnpack, CVal, CVals, CVar, MoreCVals, NoCVals, ccount}
+use Rattle.c_terms.specs.C.{cd_next, ct_next, cv_next}
+use Rattle.h_terms.specs.H.{HApply, HArith, HBlk, HBlks, HCall, HCell, HDecl, HGet, HHalt, HIf, HInt, HLabel, HLet}
+use Rattle.h_terms.specs.H.{HName, HPack, HProj, HSet, HTm, HTuple, HUnpack, HVal, HVals, HVar, MoreHVals, NoHVals}
 
 -- hoisting: under d variables, own stands for the name of the code around; codes are numbered from b on
 pub data Own : Type 0 where

@@ -1,9 +1,12 @@
 -- Hoisting along the nodes.
-use Rattle.std.specs.Prelude.{nat_lt, ◌≡◌, ℕ, zero, suc, ◌-◌, Bool, true, false, List, [], ◌∷◌, ◌++◌, Option, Some, None}
+use Rattle.std.specs.Prelude.{nat_lt, ◌≡◌, ℕ, zero, suc, ◌-◌, Bool, true, false, List, [], ◌∷◌, ◌++◌, Option, Some}
+use Rattle.std.specs.Prelude.{None}
 use Rattle.term_core.specs.Ends.{lift}
 use Rattle.c_terms.specs.C.{CTm, CTys, ccount}
-use Rattle.c_terms.specs.Stream.{CNd, MApply, MArith, MCall, MCell, MCode, MElse, MEnd, MGet, MHalt, MIf, MInt, MName, MPack, MProj, MSet, MTuple, MUnpack, MVar}
-use Rattle.h_terms.specs.H.{HApply, HArith, HBlks, HCall, HCell, HDecl, HGet, HHalt, HIf, HInt, HLabel, HLet, HName, HPack, HProj, HSet, HTm, HUnpack, HVal, HVar}
+use Rattle.c_terms.specs.Stream.{CNd, MApply, MArith, MCall, MCell, MCode, MElse, MEnd, MGet, MHalt, MIf, MInt, MName}
+use Rattle.c_terms.specs.Stream.{MPack, MProj, MSet, MTuple, MUnpack, MVar}
+use Rattle.h_terms.specs.H.{HApply, HArith, HBlks, HCall, HCell, HDecl, HGet, HHalt, HIf, HInt, HLabel, HLet, HName}
+use Rattle.h_terms.specs.H.{HPack, HProj, HSet, HTm, HUnpack, HVal, HVar}
 use Rattle.h_terms.specs.Nodes.{at_last, no_term, no_value, tied, tupled}
 use Rattle.h_terms.specs.Row.{others, top}
 use Rattle.h_pass.specs.Hoist.{Code, Nobody, Own, blocks_of, main_of}

@@ -1,5 +1,6 @@
 // What hoisting keeps, on trees.
-ghost use Rattle.h_pass.specs.Statements.{HoistIsBack, HoistKept, HoistTypesKept, HoistReach, HoistFits, ClosedNeverStuck};
+ghost use Rattle.h_pass.specs.Statements.{HoistIsBack, HoistKept, HoistTypesKept, HoistReach, HoistFits};
+ghost use Rattle.h_pass.specs.Statements.{ClosedNeverStuck};
 ghost use Rattle.h_pass.specs.Statements.{BoundIsSmall, ScopedIsBack, NodesKept};
 
 use c_terms::laws::{typed_is_any_law, typed_is_scoped_law, within_is_typed_law};

@@ -1,8 +1,10 @@
 -- The laws of shift and put, proved once for every kind of tree.
-use Rattle.std.proofs.Common.{◌≡◌, ℕ, zero, suc, ◌+◌, ◌-◌, ◌<◌, ◌≤◌, ◌⊎◌, ◌↔◌, inl, inr, sym, ap, ◌∙◌, refl, arith, zero-add, subst}
+use Rattle.std.proofs.Common.{◌≡◌, ℕ, zero, suc, ◌+◌, ◌-◌, ◌<◌, ◌≤◌, ◌⊎◌, ◌↔◌, inl, inr, sym, ap, ◌∙◌, refl, arith}
+use Rattle.std.proofs.Common.{zero-add, subst}
 use Rattle.std.proofs.lemmas.Bool.Decides.{nat_tests}
 use Rattle.std.proofs.lemmas.Bool.{cases_lt, cases_order}
-use Rattle.idx_core.specs.Over.{deep, At, Over, shifted, putted, IsOver, IsPart, Each, IsEach, IsEachPart, BelowAt, AnyDepth}
+use Rattle.idx_core.specs.Over.{deep, At, Over, shifted, putted, IsOver, IsPart, Each, IsEach, IsEachPart, BelowAt}
+use Rattle.idx_core.specs.Over.{AnyDepth}
 
 pub deep_is : (a e : ℕ) → deep a e ≡ a + e
 deep_is a zero = omega arith

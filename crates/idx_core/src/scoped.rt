@@ -1,6 +1,7 @@
 // Trees whose bound names are numbers.
 ghost use Rattle.std.specs.Prelude.{◌≡◌, ℕ, ◌+◌, ◌↔◌, IfOk, IsTrue};
-ghost use Rattle.idx_core.specs.Over.{Over, Each, shifted, putted, IsWord, BelowAt, AnyDepth, ShiftFitsAt, PutFitsAt, IsOver, IsPart};
+ghost use Rattle.idx_core.specs.Over.{Over, Each, shifted, putted, IsWord, BelowAt, AnyDepth, ShiftFitsAt, PutFitsAt};
+ghost use Rattle.idx_core.specs.Over.{IsOver, IsPart};
 ghost use Rattle.idx_core.specs.Laws.{shift_zero_law, shift_add_law, put_shift_law};
 
 use crate::memory::OutOfMemory;

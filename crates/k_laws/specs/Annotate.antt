@@ -1,9 +1,11 @@
 -- The one way to put types beside a term: in tail place, where conversion doesn't read them, they are left out.
 use Rattle.std.specs.Prelude.{Bool, true, false}
 use Rattle.f_terms.specs.Ty.{Ty, TInt, Tys, NoTys}
-use Rattle.f_terms.specs.Tm.{Term, MVar, MNum, MFix, MApp, MGen, MInst, MTuple, MProj, MArith, MIf0, Terms, NoTerms, MoreTerms}
+use Rattle.f_terms.specs.Tm.{Term, MVar, MNum, MFix, MApp, MGen, MInst, MTuple, MProj, MArith, MIf0, Terms, NoTerms}
+use Rattle.f_terms.specs.Tm.{MoreTerms}
 use Rattle.f_terms.specs.Typing.{raised, in_fix}
-use Rattle.f_terms.specs.Noted.{Noted, EVar, ENum, EFix, EApp, EGen, EInst, ETuple, EProj, EArith, EIf, Noteds, NoNoteds, MoreNoteds, type_of}
+use Rattle.f_terms.specs.Noted.{Noted, EVar, ENum, EFix, EApp, EGen, EInst, ETuple, EProj, EArith, EIf, Noteds}
+use Rattle.f_terms.specs.Noted.{NoNoteds, MoreNoteds, type_of}
 use Rattle.k_terms.specs.K.{KTm}
 use Rattle.k_laws.specs.Cps.{cps_of}
 

@@ -2,7 +2,8 @@
 use Rattle.std.specs.Prelude.{◌≡◌, ℕ, ◌+◌, Some, Bool, true, false}
 use Rattle.f_terms.specs.Ty.{Ty, TInt, TArrow, TAll, TTuple, Tys, NoTys, MoreTys, put, Below}
 use Rattle.f_terms.specs.Typing.{ty_at, field_ty, raised, in_fix}
-use Rattle.f_terms.specs.Noted.{Noted, EVar, ENum, EFix, EApp, EGen, EInst, ETuple, EProj, EArith, EIf, Noteds, NoNoteds, MoreNoteds}
+use Rattle.f_terms.specs.Noted.{Noted, EVar, ENum, EFix, EApp, EGen, EInst, ETuple, EProj, EArith, EIf, Noteds}
+use Rattle.f_terms.specs.Noted.{NoNoteds, MoreNoteds}
 
 -- In tail place the type of an application, a type application and an `if0` may be any: it is not read
 abbrev mutual

@@ -3,8 +3,10 @@
 use Rattle.std.specs.Prelude.{ℕ, ℤ, zero, suc, ◌-◌, List, [], ◌∷◌, ◌++◌}
 use Rattle.idx_core.specs.declared.arith.Op.{Op}
 use Rattle.f_terms.specs.Ty.{Ty, TInt, TVar, TArrow, TAll, TTuple, Tys, NoTys, MoreTys}
-use Rattle.k_terms.specs.K.{KTy, TKInt, TKVar, TKTuple, TKCode, KTys, NoKTys, MoreKTys, KVal, KVar, KInt, KTuple, KCode, KVals, NoKVals, MoreKVals, KName, KProj, KArith, KTm, KLet, KCall, KIf, KHalt}
-use Rattle.f_terms.specs.Noted.{Noted, EVar, ENum, EFix, EApp, EGen, EInst, ETuple, EProj, EArith, EIf, Noteds, NoNoteds, MoreNoteds}
+use Rattle.k_terms.specs.K.{KTy, TKInt, TKVar, TKTuple, TKCode, KTys, NoKTys, MoreKTys, KVal, KVar, KInt, KTuple, KCode}
+use Rattle.k_terms.specs.K.{KVals, NoKVals, MoreKVals, KName, KProj, KArith, KTm, KLet, KCall, KIf, KHalt}
+use Rattle.f_terms.specs.Noted.{Noted, EVar, ENum, EFix, EApp, EGen, EInst, ETuple, EProj, EArith, EIf, Noteds}
+use Rattle.f_terms.specs.Noted.{NoNoteds, MoreNoteds}
 
 -- the type of what takes a value of the type t
 abbrev pub taking : KTy → KTy

@@ -4,9 +4,11 @@ use Rattle.k_laws.specs.Cps.{kty, taking}
 use Rattle.std.specs.Prelude.{ℤ, ◌≡◌, ℕ, zero, suc, ◌+◌, List, [], ◌∷◌, ◌⊎◌, Some}
 use Rattle.idx_core.specs.declared.arith.Op.{Op}
 use Rattle.f_terms.specs.Ty.{Ty, TInt, TArrow, TAll, TTuple, Tys, NoTys, MoreTys, put}
-use Rattle.f_terms.specs.Tm.{Term, MVar, MNum, MFix, MApp, MGen, MInst, MTuple, MProj, MArith, MIf0, Terms, NoTerms, MoreTerms}
+use Rattle.f_terms.specs.Tm.{Term, MVar, MNum, MFix, MApp, MGen, MInst, MTuple, MProj, MArith, MIf0, Terms, NoTerms}
+use Rattle.f_terms.specs.Tm.{MoreTerms}
 use Rattle.f_terms.specs.Typing.{field_ty, HasType}
-use Rattle.k_terms.specs.K.{KTy, NoKTys, MoreKTys, KVal, KVar, KInt, KTuple, KCode, KVals, NoKVals, MoreKVals, KName, KProj, KArith, KTm, KLet, KCall, KIf, KHalt}
+use Rattle.k_terms.specs.K.{KTy, NoKTys, MoreKTys, KVal, KVar, KInt, KTuple, KCode, KVals, NoKVals, MoreKVals, KName}
+use Rattle.k_terms.specs.K.{KProj, KArith, KTm, KLet, KCall, KIf, KHalt}
 
 abbrev pub kcty : Ty → KTy
 kcty t = taking (kty t)

@@ -1,7 +1,8 @@
 //! Laws of conversion to continuation-passing style.
 #![tactic(auto)]
 
-ghost use Rattle.k_laws.specs.Correct.{KeepsMeaning, KeepsTypes, KeepsReach, IsTranslated, CpsKeepsMeaning, CpsKeepsTypes, CpsKeepsReach, SizeIs, CpsFits, CpsKeepsBound, OneConversion};
+ghost use Rattle.k_laws.specs.Correct.{KeepsMeaning, KeepsTypes, KeepsReach, IsTranslated, CpsKeepsMeaning};
+ghost use Rattle.k_laws.specs.Correct.{CpsKeepsTypes, CpsKeepsReach, SizeIs, CpsFits, CpsKeepsBound, OneConversion};
 ghost use Rattle.k_laws.specs.Sites.{CodesAreSites};
 
 /// Every translation keeps the meaning.

@@ -5,7 +5,8 @@ use Rattle.idx_core.specs.declared.arith.Op.{Op}
 use Rattle.f_terms.specs.Ty.{Ty, TArrow, TAll}
 use Rattle.k_terms.specs.K.{KTy, KTys, NoKTys, MoreKTys}
 use Rattle.k_terms.specs.Stream.{KNd, NVar, NInt, NTuple, NCode, NEnd, NName, NProj, NArith, NCall, NIf, NElse, NHalt}
-use Rattle.f_terms.specs.Noted.{Noted, EVar, ENum, EFix, EApp, EGen, EInst, ETuple, EProj, EArith, EIf, Noteds, NoNoteds, MoreNoteds}
+use Rattle.f_terms.specs.Noted.{Noted, EVar, ENum, EFix, EApp, EGen, EInst, ETuple, EProj, EArith, EIf, Noteds}
+use Rattle.f_terms.specs.Noted.{NoNoteds, MoreNoteds}
 use Rattle.k_laws.specs.Cps.{Atom, Level, Literal, kty, taking, level_at}
 
 abbrev pub atom_node : Atom → KNd

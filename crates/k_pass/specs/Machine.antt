@@ -6,10 +6,12 @@ use Rattle.f_terms.specs.Read.{tree}
 use Rattle.k_terms.specs.K as K
 use Rattle.k_terms.specs.Stream as n
 use Rattle.k_terms.specs.Read.{knode}
-use Rattle.f_terms.specs.Noted.{Noted, EVar, ENum, EFix, EApp, EGen, EInst, ETuple, EProj, EArith, EIf, Noteds, NoNoteds, MoreNoteds, noteds}
+use Rattle.f_terms.specs.Noted.{Noted, EVar, ENum, EFix, EApp, EGen, EInst, ETuple, EProj, EArith, EIf, Noteds}
+use Rattle.f_terms.specs.Noted.{NoNoteds, MoreNoteds, noteds}
 use Rattle.k_laws.specs.Cps as s
 use Rattle.k_laws.specs.Cps.{Level, Literal, kty, taking}
-use Rattle.k_pass.specs.Emit.{Rest, Bind, Pass, Place, atom_node, deliver, named, rest_args, as_value, to_call, to_inst, to_arith, to_proj, to_tuple, emit, emit_all, halting}
+use Rattle.k_pass.specs.Emit.{Rest, Bind, Pass, Place, atom_node, deliver, named, rest_args, as_value, to_call, to_inst}
+use Rattle.k_pass.specs.Emit.{to_arith, to_proj, to_tuple, emit, emit_all, halting}
 use Rattle.k_pass.specs.declared.work.Atom.{Atom}
 use Rattle.k_pass.specs.declared.work.Atom.TheVariants as A
 use Rattle.k_pass.specs.declared.work.Frame.{Frame}

@@ -3,7 +3,9 @@ use Rattle.std.specs.Prelude.{ℤ, pos, ℕ, zero, suc, nat_eq, ◌&&◌, Option
 use Rattle.idx_core.specs.declared.arith.Op.{Op}
 use Rattle.idx_core.specs.Arith.{compute, is_zero}
 use Rattle.term_core.specs.Ends.{if_fits, pick, Halted, Spent, Stuck, Result, stops, enters}
-use Rattle.k_terms.specs.K.{KTys, KVal, KVar, KInt, KTuple, KCode, KVals, NoKVals, MoreKVals, KDecl, KName, KProj, KArith, KPack, KUnpack, KCell, KGet, KSet, KTm, KLet, KCall, KIf, KHalt, kcount, kv_next, kd_next, kt_next}
+use Rattle.k_terms.specs.K.{KTys, KVal, KVar, KInt, KTuple, KCode, KVals, NoKVals, MoreKVals, KDecl, KName, KProj}
+use Rattle.k_terms.specs.K.{KArith, KPack, KUnpack, KCell, KGet, KSet, KTm, KLet, KCall, KIf, KHalt, kcount, kv_next}
+use Rattle.k_terms.specs.K.{kd_next, kt_next}
 
 -- a value: an integer, a tuple, a code with its number and its environment, or a cell, by its place in the store
 mutual

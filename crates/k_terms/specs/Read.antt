@@ -1,7 +1,8 @@
 -- The code's types and nodes as plain ones.
 use Rattle.std.specs.Prelude.{List, [], ◌∷◌}
 use Rattle.k_terms.specs.K.{KTy, TKInt, TKVar, TKTuple, TKCode, TKSome, TKRef, KTys, NoKTys, MoreKTys}
-use Rattle.k_terms.specs.Stream.{KNd, NVar, NInt, NTuple, NCode, NEnd, NName, NProj, NArith, NPack, NUnpack, NCell, NGet, NSet, NCall, NIf, NElse, NHalt}
+use Rattle.k_terms.specs.Stream.{KNd, NVar, NInt, NTuple, NCode, NEnd, NName, NProj, NArith, NPack, NUnpack, NCell}
+use Rattle.k_terms.specs.Stream.{NGet, NSet, NCall, NIf, NElse, NHalt}
 use Rattle.k_terms.specs.declared.types.KType.{KType, Row_of-KType, end_of-KType, more_of-KType}
 use Rattle.k_terms.specs.declared.types.KType.TheVariants.{Int, Var, Tuple', Code', Exists', Ref'}
 use Rattle.k_terms.specs.declared.node.KNode.{KNode}

@@ -5,7 +5,9 @@ use Rattle.std.specs.Prelude.{ℤ, ℕ, suc, List, ◌∷◌}
 use Rattle.idx_core.specs.declared.arith.Op.{Op}
 use Rattle.term_core.specs.Ends.{lift, after_one}
 use Rattle.term_core.specs.Levels.{level_of}
-use Rattle.k_terms.specs.K.{KTy, KTys, KVal, KVar, KInt, KTuple, KCode, KVals, NoKVals, MoreKVals, KDecl, KName, KProj, KArith, KPack, KUnpack, KCell, KGet, KSet, KTm, KLet, KCall, KIf, KHalt, kcount, kbody_scope, opens, scope_more}
+use Rattle.k_terms.specs.K.{KTy, KTys, KVal, KVar, KInt, KTuple, KCode, KVals, NoKVals, MoreKVals, KDecl, KName, KProj}
+use Rattle.k_terms.specs.K.{KArith, KPack, KUnpack, KCell, KGet, KSet, KTm, KLet, KCall, KIf, KHalt, kcount}
+use Rattle.k_terms.specs.K.{kbody_scope, opens, scope_more}
 use Rattle.k_terms.specs.Types.{kd_type}
 
 -- What binds has the level that it binds first, and the type of what it names. `depth` is the number of type variables

@@ -1,6 +1,8 @@
 -- A program in continuation-passing style with tuples of constants, a cell in a tuple, and a package.
 use Rattle.std.specs.Prelude.{◌≡◌, ℕ, pos, List, ◌++◌, map}
-use Rattle.k_terms.specs.K.{KCall, KCell, KCode, KGet, KHalt, KInt, KLet, KName, KPack, KProj, KSet, KTm, KTuple, KTy, KUnpack, KVal, KVar, MoreKTys, MoreKVals, NoKTys, NoKVals, TKInt, TKRef, TKSome, TKTuple, TKVar}
+use Rattle.k_terms.specs.K.{KCall, KCell, KCode, KGet, KHalt, KInt, KLet, KName, KPack, KProj, KSet, KTm, KTuple, KTy}
+use Rattle.k_terms.specs.K.{KUnpack, KVal, KVar, MoreKTys, MoreKVals, NoKTys, NoKVals, TKInt, TKRef, TKSome, TKTuple}
+use Rattle.k_terms.specs.K.{TKVar}
 use Rattle.k_terms.specs.Read.{knode}
 use Rattle.k_terms.specs.Stream.{KNd}
 use Rattle.k_terms.specs.declared.node.KNode.{KNode}

@@ -17,9 +17,9 @@ use Rattle.gen_law.specs.Gen.{generated}
 use Rattle.pipeline.specs.Meaning.{SameMeaning, RunsSeldom, HaltsSoon}
 
 -- the program is a translation of the term by the rules of the passes in turn: conversion to continuation-passing
--- style, closure conversion, hoisting, allocation, code generation. The hoisted program gives the closed term when codes
--- are put back for labels, and the allocated program stands for the hoisted one; both are those that the definitions of
--- hoisting and of allocation give: nothing else is added or left out
+-- style, closure conversion, hoisting, allocation, code generation. The hoisted program gives the closed term when
+-- codes are put back for labels, and the allocated program stands for the hoisted one; both are those that the
+-- definitions of hoisting and of allocation give: nothing else is added or left out
 pub record IsTranslation (e : Term) (P : TProg) : Type 0 where
   pub converted : KTm
   pub closed : CTm

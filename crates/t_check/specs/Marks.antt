@@ -1,6 +1,7 @@
 -- A set of numbers from 1 on, as a type: the empty set is `int`, and a set is a tuple of two sets. The first field's
 -- flag says whether 1 is in it; the first field has the halves of its even numbers, the second those of its odd ones.
-use Rattle.std.specs.Prelude.{◌≡◌, ℕ, ◌+◌, ◌/◌, ◌%◌, ◌<◌, ◌≤◌, Bool, false, cond, ◌||◌, nat_eq, nat_le, List, [], ◌∷◌, length, Option, Some, None}
+use Rattle.std.specs.Prelude.{◌≡◌, ℕ, ◌+◌, ◌/◌, ◌%◌, ◌<◌, ◌≤◌, Bool, false, cond, ◌||◌, nat_eq, nat_le, List, [], ◌∷◌}
+use Rattle.std.specs.Prelude.{length, Option, Some, None}
 use Rattle.t_types.specs.Tree.{Ty, IntTy, VarTy, CodeTy, ExistsTy, TupleTy, TFields, NoFields, MoreFields}
 use Rattle.t_intern.specs.Nodes.{at}
 use Rattle.t_check.specs.declared.marks.Branches.{Branches}

@@ -1,5 +1,6 @@
 -- What the parts of the checker answer.
-use Rattle.std.specs.Prelude.{◌≡◌, ◌≢◌, ℕ, ◌-◌, ◌<◌, List, length, Bool, IsTrue, ◌↔◌, Option, Some, None, Result, Ok, Err, IfOk}
+use Rattle.std.specs.Prelude.{◌≡◌, ◌≢◌, ℕ, ◌-◌, ◌<◌, List, length, Bool, IsTrue, ◌↔◌, Option, Some, None, Result, Ok}
+use Rattle.std.specs.Prelude.{Err, IfOk}
 use Rattle.idx_core.specs.declared.memory.OutOfMemory.{OutOfMemory}
 use Rattle.idx_core.specs.declared.span.Span.{Span}
 use Rattle.text_core.specs.Refusals.{nothing, refuse, check}
@@ -7,17 +8,22 @@ use Rattle.t_types.specs.Tree.{Ty, IntTy, CodeTy, ExistsTy, TupleTy, TFile, TFie
 use Rattle.t_types.specs.Fields.{AField, field}
 use Rattle.t_types.specs.Fits.{Fits, FitsFile, RegTypes}
 use Rattle.t_terms.specs.Tree.{TBase, TValue, Plain, TInstr, TEnd, TBlock, TProg, names_after}
-use Rattle.t_terms.specs.Spanned.{SBlock, SDatum, SData, SProg, plain, plain_datum, plain_fields, plain_blocks, plain_heap, plain_program}
+use Rattle.t_terms.specs.Spanned.{SBlock, SDatum, SData, SProg, plain, plain_datum, plain_fields, plain_blocks}
+use Rattle.t_terms.specs.Spanned.{plain_heap, plain_program}
 use Rattle.t_terms.specs.ReadProgram.{program, spanned_program}
-use Rattle.t_terms.specs.Whole.{WellFormedBase, WellFormedValue, WellFormedInstr, WellFormedEnd, WellFormedBlock, WellFormedDatum, WellFormedData}
+use Rattle.t_terms.specs.Whole.{WellFormedBase, WellFormedValue, WellFormedInstr, WellFormedEnd, WellFormedBlock}
+use Rattle.t_terms.specs.Whole.{WellFormedDatum, WellFormedData}
 use Rattle.t_terms.specs.declared.program.TProgram.{TProgram}
 use Rattle.t_terms.specs.declared.fault.TCode.{TCode}
 use Rattle.t_terms.specs.declared.fault.TCode.TheVariants.{T13, T15}
 use Rattle.t_terms.specs.declared.fault.TFault.{TFault}
 use Rattle.t_terms.specs.declared.fault.TFault.TheVariants.{Memory, Refused}
 use Rattle.t_rules.specs.Registers.{inst_file}
-use Rattle.t_rules.specs.Rules.{BaseHas, Has, Enters, Typed, EndTyped, BlockAccepted, BlocksAccepted, DatumAccepted, DataAccepted, HeapAccepted, Accepted}
-use Rattle.t_rules.specs.Faults.{Fault, if_exists, register, integer, tuple, field_at, BaseFault, ValueFault, EnterFault, InstrFault, EndFault, BlockFault, BlocksFault, DatumFault, DataFault, HeapFault, ProgramFault}
+use Rattle.t_rules.specs.Rules.{BaseHas, Has, Enters, Typed, EndTyped, BlockAccepted, BlocksAccepted, DatumAccepted}
+use Rattle.t_rules.specs.Rules.{DataAccepted, HeapAccepted, Accepted}
+use Rattle.t_rules.specs.Faults.{Fault, if_exists, register, integer, tuple, field_at, BaseFault, ValueFault}
+use Rattle.t_rules.specs.Faults.{EnterFault, InstrFault, EndFault, BlockFault, BlocksFault, DatumFault, DataFault}
+use Rattle.t_rules.specs.Faults.{HeapFault, ProgramFault}
 use Rattle.t_check.specs.Bounds.{Bounded, OwedFile}
 use Rattle.t_check.specs.Checked.{checked_program}
 use Rattle.t_check.specs.Fitted.{KnownFits, AgreesAt, SinceAgree}

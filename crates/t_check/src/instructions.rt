@@ -9,7 +9,8 @@ ghost use Rattle.t_terms.specs.Tree.{Arith, Bnz, Halt, Ld, Malloc, Mov, Plain, R
 ghost use Rattle.t_terms.specs.Read.{base as base_tree, value, instr, end_of};
 ghost use Rattle.t_intern.specs.Grown.{Grown};
 ghost use Rattle.t_check.specs.Known.{known, IsSound};
-ghost use Rattle.t_check.specs.Verdict.{FormedAt, FormedInstr, FormedEnd, IsPlace, EndedAt, StepsTo, IsInteger, IsFieldOf, IsStored};
+ghost use Rattle.t_check.specs.Verdict.{FormedAt, FormedInstr, FormedEnd, IsPlace, EndedAt, StepsTo, IsInteger};
+ghost use Rattle.t_check.specs.Verdict.{IsFieldOf, IsStored};
 
 use crate::checker::Checker;
 use crate::labels::tuple_of;

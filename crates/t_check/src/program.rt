@@ -8,7 +8,8 @@ ghost use Rattle.t_terms.specs.ReadProgram.{program as program_of, spanned_progr
 ghost use Rattle.t_intern.specs.Grown.{Grown, IsNumber};
 ghost use Rattle.t_check.specs.Known.{IsEmpty, IsOfBlock};
 ghost use Rattle.t_check.specs.Labels.{AreLabels};
-ghost use Rattle.t_check.specs.Verdict.{program_in, FormedBlock, FormedDatum, FormedData, IsPlace, IsBlock, AreBlocks, IsDatum, IsData, IsHeap, IsProgram};
+ghost use Rattle.t_check.specs.Verdict.{program_in, FormedBlock, FormedDatum, FormedData, IsPlace, IsBlock, AreBlocks};
+ghost use Rattle.t_check.specs.Verdict.{IsDatum, IsData, IsHeap, IsProgram};
 
 use crate::checker::Checker;
 use crate::labels::Labels;

@@ -6,7 +6,8 @@ ghost use Rattle.t_rules.specs.Registers.{raised};
 ghost use Rattle.t_intern.specs.Grown.{Grown, IsNumber};
 ghost use Rattle.t_intern.specs.Nodes.{at, regs_at, RegsBelow};
 ghost use Rattle.t_check.specs.Bounds.{Bounded};
-ghost use Rattle.t_check.specs.Known.{seen, entry_of, known, IsSound, IsEmpty, IsEntry, IsFound, IsOfBlock, IsNoted, IsFilled, IsSet, HasField};
+ghost use Rattle.t_check.specs.Known.{seen, entry_of, known, IsSound, IsEmpty, IsEntry, IsFound, IsOfBlock, IsNoted};
+ghost use Rattle.t_check.specs.Known.{IsFilled, IsSet, HasField};
 ghost use Rattle.t_check.specs.Verdict.{TellsFit};
 
 use crate::marking::{set_of, whole};

@@ -7,7 +7,8 @@ ghost use Rattle.t_terms.specs.Read.{base as base_tree, value};
 ghost use Rattle.t_intern.specs.Grown.{Grown};
 ghost use Rattle.t_intern.specs.Nodes.{at, regs_at, RegsBelow};
 ghost use Rattle.t_check.specs.Bounds.{Bounded, OwedFile};
-ghost use Rattle.t_check.specs.Verdict.{FormedAt, FormedBase, IsPlace, BaseTypedAt, TypedAt, AppliedAt, IsInstantiated, IsPacked};
+ghost use Rattle.t_check.specs.Verdict.{FormedAt, FormedBase, IsPlace, BaseTypedAt, TypedAt, AppliedAt, IsInstantiated};
+ghost use Rattle.t_check.specs.Verdict.{IsPacked};
 
 use crate::checker::Checker;
 use crate::parts::{code_parts, exists_body, intern, refused};

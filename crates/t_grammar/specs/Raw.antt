@@ -1,8 +1,14 @@
 -- The trees of what is read, before names are resolved.
 use Rattle.std.specs.Prelude.{ℕ, Bool, map}
 use Rattle.idx_core.specs.declared.span.Span.{Span}
-use Rattle.t_terms.specs.Raw.{RawTy, RInt, RName, RCode, RSome, RTuple, RawRegs, NoRawRegs, MoreRawRegs, RawFields, NoRawFields, MoreRawFields, RawReg, RawField, raw_regs}
-use Rattle.t_grammar.specs.declared.raw.RawType.{RawType, Row_of-RawFile-regs-3 as RegRow, end_of-RawFile-regs-3 as end_of_regs, more_of-RawFile-regs-3 as more_of_regs, Row_of-RawType-Tuple-0-2 as FieldRow, end_of-RawType-Tuple-0-2 as end_of_fields, more_of-RawType-Tuple-0-2 as more_of_fields}
+use Rattle.t_terms.specs.Raw.{RawTy, RInt, RName, RCode, RSome, RTuple, RawRegs, NoRawRegs, MoreRawRegs, RawFields}
+use Rattle.t_terms.specs.Raw.{NoRawFields, MoreRawFields, RawReg, RawField, raw_regs}
+use Rattle.t_grammar.specs.declared.raw.RawType.{RawType, Row_of-RawFile-regs-3 as RegRow}
+use Rattle.t_grammar.specs.declared.raw.RawType.{end_of-RawFile-regs-3 as end_of_regs}
+use Rattle.t_grammar.specs.declared.raw.RawType.{more_of-RawFile-regs-3 as more_of_regs}
+use Rattle.t_grammar.specs.declared.raw.RawType.{Row_of-RawType-Tuple-0-2 as FieldRow}
+use Rattle.t_grammar.specs.declared.raw.RawType.{end_of-RawType-Tuple-0-2 as end_of_fields}
+use Rattle.t_grammar.specs.declared.raw.RawType.{more_of-RawType-Tuple-0-2 as more_of_fields}
 use Rattle.t_grammar.specs.declared.raw.RawType.TheVariants.{Int, Name, Code', Some', Tuple'}
 use Rattle.t_grammar.specs.declared.raw.RawFile.{RawFile}
 

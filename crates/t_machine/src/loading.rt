@@ -1,10 +1,12 @@
 // Loading: registers get places, and types and packages are left out.
 ghost use Rattle.std.specs.Prelude.{◌≡◌, ℕ, List, [], ◌∷◌, ◌++◌, map, IfOk, OnOk};
-ghost use Rattle.t_terms.specs.Read.{base as base_tree, value as value_tree, instr as instr_tree, end_of, block as block_tree, blocks_of, data_fields, data_of};
+ghost use Rattle.t_terms.specs.Read.{base as base_tree, value as value_tree, instr as instr_tree, end_of};
+ghost use Rattle.t_terms.specs.Read.{block as block_tree, blocks_of, data_fields, data_of};
 ghost use Rattle.t_terms.specs.ReadProgram.{program as program_of};
 ghost use Rattle.t_terms.specs.Spanned.{plain_fields};
 ghost use Rattle.t_check.specs.Checked.{checked_program};
-ghost use Rattle.t_rules.specs.Erase.{ESeq, EHeap, ELd, EMov, ESt, erase_blocks, base_word, no_ewords, held, erase_value, erase_instr, erase_end, erase_block, erase_datum};
+ghost use Rattle.t_rules.specs.Erase.{ESeq, EHeap, ELd, EMov, ESt, erase_blocks, base_word, no_ewords, held};
+ghost use Rattle.t_rules.specs.Erase.{erase_value, erase_instr, erase_end, erase_block, erase_datum};
 ghost use Rattle.t_machine.specs.Heap.{IsHeap};
 ghost use Rattle.t_machine.specs.Words.{word};
 ghost use Rattle.t_machine.specs.Places.{Extends};

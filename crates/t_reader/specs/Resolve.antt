@@ -1,5 +1,6 @@
 -- What the resolving of names promises.
-use Rattle.std.specs.Prelude.{◌≡◌, ◌≤◌, ℕ, Bool, true, false, List, ◌∷◌, length, slice_get, nat_eq, Option, Some, None, not, ◌++◌}
+use Rattle.std.specs.Prelude.{◌≡◌, ◌≤◌, ℕ, Bool, true, false, List, ◌∷◌, length, slice_get, nat_eq, Option, Some, None}
+use Rattle.std.specs.Prelude.{not, ◌++◌}
 use Rattle.std.specs.List.{list_any}
 use Rattle.idx_core.specs.declared.span.Span.{Span}
 use Rattle.idx_core.specs.Names.{Name}

@@ -11,7 +11,8 @@ ghost use Rattle.t_terms.specs.Names.{program_of, block_of, data_of};
 ghost use Rattle.t_terms.specs.NameFaults.{program_faults};
 ghost use Rattle.t_shapes.specs.Raw.{raw_block, raw_data, raw_items};
 ghost use Rattle.t_reader.specs.Labelled.{target_base, same_base};
-ghost use Rattle.t_reader.specs.Resolve.{StopsAt, IsShape, IsShapeFault, place_at, stands_before, block_numbered_faults, data_numbered_faults};
+ghost use Rattle.t_reader.specs.Resolve.{StopsAt, IsShape, IsShapeFault, place_at, stands_before};
+ghost use Rattle.t_reader.specs.Resolve.{block_numbered_faults, data_numbered_faults};
 
 use crate::faults::refused;
 use crate::labels::{Labels, labels_in};

@@ -1,12 +1,14 @@
 -- Runs of the erased machine, as a function: the state after so many steps, its place, and the blocks entered so far,
 -- the last one first.
-use Rattle.std.specs.Prelude.{◌≡◌, ◌↔◌, ◌≤◌, ◌<◌, ◌+◌, ℕ, zero, suc, ℤ, List, [], ◌∷◌, Option, Some, None, option_map, option_and_then, slice_get}
+use Rattle.std.specs.Prelude.{◌≡◌, ◌↔◌, ◌≤◌, ◌<◌, ◌+◌, ℕ, zero, suc, ℤ, List, [], ◌∷◌, Option, Some, None, option_map}
+use Rattle.std.specs.Prelude.{option_and_then, slice_get}
 use Rattle.t_terms.specs.Tree.{TBlock, TProg}
 use Rattle.t_terms.specs.Whole.{Whole}
 use Rattle.t_rules.specs.Rules.{Accepted}
 use Rattle.t_rules.specs.Machine.{State, Place, Spot, moved, After, HaltsWithin}
 use Rattle.t_rules.specs.Times.{places, entered_by, entries}
-use Rattle.t_rules.specs.Erase.{ESeq, EState, EAt, EStep, EGoes, no_ewords, erase, erase_block, erase_blocks, erase_heap, estep, EHaltedWith}
+use Rattle.t_rules.specs.Erase.{ESeq, EState, EAt, EStep, EGoes, no_ewords, erase, erase_block, erase_blocks}
+use Rattle.t_rules.specs.Erase.{erase_heap, estep, EHaltedWith}
 
 -- a state, its place, and the blocks entered so far
 pub data ERun : Type 0 where

@@ -1,5 +1,6 @@
 -- What the reading functions promise, by the table.
-use Rattle.std.specs.Prelude.{◌≡◌, ◌<◌, ◌≤◌, ℕ, ◌+◌, List, [], ◌∷◌, length, map, drop, slice_get, is_some, Bool, true, false, Option, Some, None, Result, MatchResult}
+use Rattle.std.specs.Prelude.{◌≡◌, ◌<◌, ◌≤◌, ℕ, ◌+◌, List, [], ◌∷◌, length, map, drop, slice_get, is_some, Bool, true}
+use Rattle.std.specs.Prelude.{false, Option, Some, None, Result, MatchResult}
 use Rattle.idx_core.specs.declared.arith.Op.{Op}
 use Rattle.idx_core.specs.declared.span.Span.{Span}
 use Rattle.text_core.specs.Table.{Nt, Tm, Do, Fine, bounded, whole}
@@ -11,7 +12,14 @@ use Rattle.t_terms.specs.declared.wanted.Wanted.TheVariants as want
 use Rattle.t_terms.specs.Raw as tree
 use Rattle.t_terms.specs.Raw.{ending, block_items}
 use Rattle.t_terms.specs.Text.{most_open}
-use Rattle.t_terms.specs.GrammarTable.{table, fits, Line, Stack, LTo, LV, LPacked, LAt, LIndex, LTypes, LTypeList, LSomeTypes, LTarget, LInt, LI, LEnd, LBlock, LBinds, LFile, LT, LHeader, LMoreSteps, LMoreBlocks, LW, LWordPacked, LTuple, LDatums, LItem, LSomeItems, LMoreItems, MakeBnz, MakeLd, MakeMalloc, MakeMov, MakeSt, MakeUnpack, MakeNoSteps, MakeFirstBlock, MakeNoItems, arith_owed, blocks_owed, items_owed, instr_after, OfToken, OfType, OfStep, OfSteps, OfFile, OfNames, OfBlocks, OfList, OfIndex, OfAt, OfTarget, OfPlace, OfReg, OfValue, OfPacked, OfEnd, OfBlock, OfWord, OfTuple, OfItem, OfItems}
+use Rattle.t_terms.specs.GrammarTable.{table, fits, Line, Stack, LTo, LV, LPacked, LAt, LIndex, LTypes, LTypeList}
+use Rattle.t_terms.specs.GrammarTable.{LSomeTypes, LTarget, LInt, LI, LEnd, LBlock, LBinds, LFile, LT, LHeader}
+use Rattle.t_terms.specs.GrammarTable.{LMoreSteps, LMoreBlocks, LW, LWordPacked, LTuple, LDatums, LItem, LSomeItems}
+use Rattle.t_terms.specs.GrammarTable.{LMoreItems, MakeBnz, MakeLd, MakeMalloc, MakeMov, MakeSt, MakeUnpack}
+use Rattle.t_terms.specs.GrammarTable.{MakeNoSteps, MakeFirstBlock, MakeNoItems, arith_owed, blocks_owed, items_owed}
+use Rattle.t_terms.specs.GrammarTable.{instr_after, OfToken, OfType, OfStep, OfSteps, OfFile, OfNames, OfBlocks, OfList}
+use Rattle.t_terms.specs.GrammarTable.{OfIndex, OfAt, OfTarget, OfPlace, OfReg, OfValue, OfPacked, OfEnd, OfBlock}
+use Rattle.t_terms.specs.GrammarTable.{OfWord, OfTuple, OfItem, OfItems}
 use Rattle.t_grammar.specs.Raw.{raw, raw_file}
 use Rattle.t_grammar.specs.Reads.{ReadsOwed, Fails, IsLine}
 use Rattle.t_grammar.specs.declared.cursor.Stopped.{Stopped}

@@ -1,7 +1,8 @@
 // The reading of instructions. Around them no construct is open.
 ghost use Rattle.std.specs.Prelude.{◌≡◌, ◌≤◌, ◌<◌, length, slice_get, is_some};
 ghost use Rattle.t_terms.specs.GrammarTable.{instr_after};
-ghost use Rattle.t_shapes.specs.Reads.{IsRest, IsStep, step_next, arith_left, bnz_left, ld_left, malloc_left, mov_left, st_left, unpack_left};
+ghost use Rattle.t_shapes.specs.Reads.{IsRest, IsStep, step_next, arith_left, bnz_left, ld_left, malloc_left, mov_left};
+ghost use Rattle.t_shapes.specs.Reads.{st_left, unpack_left};
 
 use crate::lists::types;
 use crate::parts::{operand, place, target};

@@ -1,5 +1,6 @@
 -- The table of the grammar: how it is read one token ahead.
-use Rattle.std.specs.Prelude.{ℕ, ℤ, pos, nat_abs, ◌==◌, ◌||◌, if◌then◌else◌, List, [], ◌∷◌, ◌++◌, Option, Some, None, Bool, true, false}
+use Rattle.std.specs.Prelude.{ℕ, ℤ, pos, nat_abs, ◌==◌, ◌||◌, if◌then◌else◌, List, [], ◌∷◌, ◌++◌, Option, Some, None}
+use Rattle.std.specs.Prelude.{Bool, true, false}
 use Rattle.idx_core.specs.declared.span.Span.{Span}
 use Rattle.idx_core.specs.declared.arith.Op.{Op}
 use Rattle.idx_core.specs.declared.arith.Op.TheVariants.{Add, Sub, Mul}
@@ -10,7 +11,10 @@ use Rattle.t_terms.specs.declared.wanted.Wanted.{Wanted}
 use Rattle.t_terms.specs.declared.wanted.Wanted.TheVariants as want
 use Rattle.text_core.specs.Table as table_of
 use Rattle.text_core.specs.Table.{Sym, Tm, Nt, Do, Mark, Table, then_more}
-use Rattle.t_terms.specs.Raw.{RawTy, RInt, RName, RCode, RSome, RTuple, RawRegs, RawReg, RawField, raw_regs, raw_fields, RawBase, RReg, RNum, RLabel, RawValue, RPlain, RPack, RawInstr, RArith, RBnz, RLd, RMalloc, RMov, RSt, RUnpack, RawEnd, RJmp, RHalt, RawBlock, RawDatum, RawItem, BlockItem, DataItem, block_items, Piece, ending, up_to}
+use Rattle.t_terms.specs.Raw.{RawTy, RInt, RName, RCode, RSome, RTuple, RawRegs, RawReg, RawField, raw_regs, raw_fields}
+use Rattle.t_terms.specs.Raw.{RawBase, RReg, RNum, RLabel, RawValue, RPlain, RPack, RawInstr, RArith, RBnz, RLd}
+use Rattle.t_terms.specs.Raw.{RMalloc, RMov, RSt, RUnpack, RawEnd, RJmp, RHalt, RawBlock, RawDatum, RawItem, BlockItem}
+use Rattle.t_terms.specs.Raw.{DataItem, block_items, Piece, ending, up_to}
 use Rattle.t_terms.specs.Grammar.{datum, Program, open_Program}
 
 -- the lines: those of the grammar, what stands in brackets of its forms, and what may follow on a part

@@ -2,7 +2,8 @@
 use Rattle.std.specs.Prelude.{List, [], ◌∷◌}
 use Rattle.idx_core.specs.declared.span.Span.{Span}
 use Rattle.t_types.specs.Read.{tree, file, types}
-use Rattle.t_terms.specs.Tree.{TBase, Reg, Int, Label, Data, TValue, Plain, Pack, TInstr, Arith, Bnz, Ld, Malloc, Mov, St, Unpack, TEnd, Jmp, Halt, TBlock, TData, TProg}
+use Rattle.t_terms.specs.Tree.{TBase, Reg, Int, Label, Data, TValue, Plain, Pack, TInstr, Arith, Bnz, Ld, Malloc, Mov}
+use Rattle.t_terms.specs.Tree.{St, Unpack, TEnd, Jmp, Halt, TBlock, TData, TProg}
 use Rattle.t_terms.specs.Spanned.{SBlock, SDatum, SData, SProg, plain, plain_blocks, plain_heap, plain_program}
 use Rattle.t_terms.specs.declared.value.Base.{Base}
 use Rattle.t_terms.specs.declared.value.Base.TheVariants as B

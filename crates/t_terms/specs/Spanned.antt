@@ -4,7 +4,8 @@ use Rattle.std.specs.Prelude.{ℕ, ◌+◌, List, [], ◌∷◌}
 use Rattle.idx_core.specs.Over.{At, Over, Each, BelowAt, AnyDepth}
 use Rattle.idx_core.specs.declared.span.Span.{Span}
 use Rattle.t_types.specs.Tree.{Ty, TFile, over_file, each_file}
-use Rattle.t_terms.specs.Tree.{TValue, TInstr, TEnd, TSeq, Then, Ends, TBlock, TDatum, TData, TProg, names_after, over_instr, over_end, each_instr, each_end}
+use Rattle.t_terms.specs.Tree.{TValue, TInstr, TEnd, TSeq, Then, Ends, TBlock, TDatum, TData, TProg, names_after}
+use Rattle.t_terms.specs.Tree.{over_instr, over_end, each_instr, each_end}
 
 -- a block with the places of its label, of its instructions and of its end
 pub record SBlock : Type 0 where

@@ -4,7 +4,8 @@ use Rattle.idx_core.specs.Over.{At, IsOver, shifted, BelowAt, AnyDepth}
 use Rattle.idx_core.specs.declared.span.Span.{Span}
 use Rattle.t_types.specs.Tree.{Ty, TFile, VarTy, over, over_file}
 use Rattle.t_types.specs.TreeLaws.{file_over, file_is_below, keeps_more, after_more}
-use Rattle.t_terms.specs.Tree.{TInstr, Arith, Bnz, Ld, Malloc, Mov, St, Unpack, TEnd, TSeq, Then, TBlock, names_after, over_instr, over_end, over_block, over_seq, shift_instr}
+use Rattle.t_terms.specs.Tree.{TInstr, Arith, Bnz, Ld, Malloc, Mov, St, Unpack, TEnd, TSeq, Then, TBlock, names_after}
+use Rattle.t_terms.specs.Tree.{over_instr, over_end, over_block, over_seq, shift_instr}
 use Rattle.t_terms.specs.TreeLaws.{ap₃, instr_over, end_over, instr_is_below, end_is_below, Keeps, Makes}
 use Rattle.t_terms.specs.Spanned.{SBlock, over_body, over_spanned, each_body, each_spanned, body_depth, plain, seq_of}
 

@@ -1,5 +1,6 @@
 -- The tokens of an assembly text: reserved words, registers, signs, and numbers of 64 bits.
-use Rattle.std.specs.Prelude.{◌≤◌, ◌≤ℤ◌, ℕ, pos, negsuc, neg_ℤ, ◌==◌, ◌&&◌, if◌then◌else◌, Bool, false, List, [], ◌∷◌, None, codes, bytes_eq}
+use Rattle.std.specs.Prelude.{◌≤◌, ◌≤ℤ◌, ℕ, pos, negsuc, neg_ℤ, ◌==◌, ◌&&◌, if◌then◌else◌, Bool, false, List, [], ◌∷◌}
+use Rattle.std.specs.Prelude.{None, codes, bytes_eq}
 use Rattle.std.specs.List.{list_all}
 use Rattle.text_core.specs.Byte.{digit, value}
 use Rattle.text_core.specs.Tokens.{Tokens, look, Cut}

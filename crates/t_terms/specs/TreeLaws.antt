@@ -4,8 +4,12 @@ use Rattle.std.proofs.Common.{◌≡◌, ℕ, ◌+◌, ◌↔◌, suc, refl, ap,
 use Rattle.idx_core.specs.Over.{deep, At, IsOver, IsEach, shifted, BelowAt, AnyDepth}
 use Rattle.idx_core.specs.Laws as laws
 use Rattle.t_types.specs.Tree.{Ty, TFile, VarTy, over, each}
-use Rattle.t_types.specs.TreeLaws.{types_part, types_over, types_each, type_is_below, list_is_below, file_over, file_each, list_over, list_each, keeps_more, after_more, agree_more, made_more, made_deeper}
-use Rattle.t_terms.specs.Tree.{TValue, Plain, Pack, TInstr, Arith, Bnz, Ld, Malloc, Mov, St, Unpack, TEnd, Jmp, Halt, TSeq, Then, Ends, TBlock, over_value, over_instr, over_end, over_seq, over_block, each_value, each_instr, each_end, each_seq, each_block, shift_value, shift_instr}
+use Rattle.t_types.specs.TreeLaws.{types_part, types_over, types_each, type_is_below, list_is_below, file_over}
+use Rattle.t_types.specs.TreeLaws.{file_each, list_over, list_each, keeps_more, after_more, agree_more, made_more}
+use Rattle.t_types.specs.TreeLaws.{made_deeper}
+use Rattle.t_terms.specs.Tree.{TValue, Plain, Pack, TInstr, Arith, Bnz, Ld, Malloc, Mov, St, Unpack, TEnd, Jmp, Halt}
+use Rattle.t_terms.specs.Tree.{TSeq, Then, Ends, TBlock, over_value, over_instr, over_end, over_seq, over_block}
+use Rattle.t_terms.specs.Tree.{each_value, each_instr, each_end, each_seq, each_block, shift_value, shift_instr}
 
 pub ap₃ : {X Y Z W : Type 0} (f : X → Y → Z → W) {x x' : X} {y y' : Y} {z z' : Z} → x ≡ x' → y ≡ y' → z ≡ z' →
     f x y z ≡ f x' y' z'

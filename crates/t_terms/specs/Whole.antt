@@ -1,8 +1,10 @@
 -- The invariant of programs.
 use Rattle.std.specs.Prelude.{ℕ, ◌<◌, ◌≤◌, List, [], ◌∷◌, length}
 use Rattle.std.specs.Coded.{le_prop, Unit-prop}
-use Rattle.t_types.specs.WellFormed.{max_number, max_names, IsRegister, WellFormed, WellFormedFile, WellFormedTypes, well_formed_prop, regs_above_prop, types_prop}
-use Rattle.t_terms.specs.Tree.{TBase, Reg, Int, Label, Data, TValue, Plain, Pack, TInstr, Arith, Bnz, Ld, Malloc, Mov, St, Unpack, TEnd, Jmp, Halt, TSeq, Then, Ends, TBlock, TDatum, TData, TProg, names_after}
+use Rattle.t_types.specs.WellFormed.{max_number, max_names, IsRegister, WellFormed, WellFormedFile, WellFormedTypes}
+use Rattle.t_types.specs.WellFormed.{well_formed_prop, regs_above_prop, types_prop}
+use Rattle.t_terms.specs.Tree.{TBase, Reg, Int, Label, Data, TValue, Plain, Pack, TInstr, Arith, Bnz, Ld, Malloc, Mov}
+use Rattle.t_terms.specs.Tree.{St, Unpack, TEnd, Jmp, Halt, TSeq, Then, Ends, TBlock, TDatum, TData, TProg, names_after}
 
 -- in a program of p blocks and q data tuples, under n type names: labels, registers, fields and type indices are in
 -- range

@@ -5,7 +5,8 @@ ghost use Rattle.t_types.specs.Bound.{Tells};
 ghost use Rattle.t_types.specs.Read.{tree};
 ghost use Rattle.t_types.specs.Tree.{Ty, VarTy, over, each};
 ghost use Rattle.t_terms.specs.Read.{body, end_of, spanned};
-ghost use Rattle.t_terms.specs.Spanned.{SBlock, over_body, over_spanned, each_body, each_spanned, body_depth, BodyBelow};
+ghost use Rattle.t_terms.specs.Spanned.{SBlock, over_body, over_spanned, each_body, each_spanned, body_depth};
+ghost use Rattle.t_terms.specs.Spanned.{BodyBelow};
 
 use crate::block::Block;
 use crate::instr::{End, Instr};

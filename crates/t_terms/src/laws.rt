@@ -1,7 +1,8 @@
 // Laws of put on values, instructions, sequences and blocks.
 ghost use Rattle.t_types.specs.Laws.{PutsExchange};
 ghost use Rattle.t_terms.specs.Laws.{PutUnderUnpack, PutUnderBlock, PlacesAside};
-ghost use Rattle.t_terms.specs.Tree.{TValue, TInstr, TEnd, TSeq, TBlock, put_value, put_instr, put_end, put_seq, put_block};
+ghost use Rattle.t_terms.specs.Tree.{TValue, TInstr, TEnd, TSeq, TBlock, put_value, put_instr, put_end, put_seq};
+ghost use Rattle.t_terms.specs.Tree.{put_block};
 
 /// Two puts exchange, the one put into the other, in each kind of tree.
 pub fn puts_exchange()

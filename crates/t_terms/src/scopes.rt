@@ -5,8 +5,10 @@ ghost use Rattle.t_types.specs.TreeLaws.{types_part};
 ghost use Rattle.t_terms.specs.Read.{value, instr, end_of, spanned};
 ghost use Rattle.t_terms.specs.Spanned.{SBlock, over_spanned, each_spanned};
 ghost use Rattle.t_terms.specs.SpannedLaws.{spanned_over, spanned_is_below};
-ghost use Rattle.t_terms.specs.Tree.{TValue, TInstr, TEnd, over_value, over_instr, over_end, each_value, each_instr, each_end};
-ghost use Rattle.t_terms.specs.TreeLaws.{value_over, instr_over, end_over, value_is_below, instr_is_below, end_is_below};
+ghost use Rattle.t_terms.specs.Tree.{TValue, TInstr, TEnd, over_value, over_instr, over_end, each_value, each_instr};
+ghost use Rattle.t_terms.specs.Tree.{each_end};
+ghost use Rattle.t_terms.specs.TreeLaws.{value_over, instr_over, end_over, value_is_below, instr_is_below};
+ghost use Rattle.t_terms.specs.TreeLaws.{end_is_below};
 
 use crate::block::Block;
 use crate::bodies::{block_below, put_block, shift_block};

@@ -1,5 +1,6 @@
 // What the definitions of a text's program and first fault say in all.
-ghost use Rattle.t_terms.specs.Text.{AtMostOneProgram, AtMostOneFault, NoFaultWhereRead, NoProgramWhereFaulty, ProgramOrFault};
+ghost use Rattle.t_terms.specs.Text.{AtMostOneProgram, AtMostOneFault, NoFaultWhereRead, NoProgramWhereFaulty};
+ghost use Rattle.t_terms.specs.Text.{ProgramOrFault};
 
 /// No text stands for two programs, places included.
 pub fn at_most_one_program()

@@ -1,7 +1,13 @@
 -- The plain trees of the program's values.
 use Rattle.std.specs.Prelude.{ℕ, Bool, List, map}
-use Rattle.t_types.specs.Tree.{Ty, IntTy, VarTy, CodeTy, ExistsTy, TupleTy, TFile, NoRegs, MoreRegs, TFields, NoFields, MoreFields, regs, flagged}
-use Rattle.t_types.specs.declared.types.TType.{TType, Row_of-RegFile-regs-2 as RegRow, end_of-RegFile-regs-2 as end_of_regs, more_of-RegFile-regs-2 as more_of_regs, Row_of-TType-Tuple-0-2 as FieldRow, end_of-TType-Tuple-0-2 as end_of_fields, more_of-TType-Tuple-0-2 as more_of_fields}
+use Rattle.t_types.specs.Tree.{Ty, IntTy, VarTy, CodeTy, ExistsTy, TupleTy, TFile, NoRegs, MoreRegs, TFields, NoFields}
+use Rattle.t_types.specs.Tree.{MoreFields, regs, flagged}
+use Rattle.t_types.specs.declared.types.TType.{TType, Row_of-RegFile-regs-2 as RegRow}
+use Rattle.t_types.specs.declared.types.TType.{end_of-RegFile-regs-2 as end_of_regs}
+use Rattle.t_types.specs.declared.types.TType.{more_of-RegFile-regs-2 as more_of_regs}
+use Rattle.t_types.specs.declared.types.TType.{Row_of-TType-Tuple-0-2 as FieldRow}
+use Rattle.t_types.specs.declared.types.TType.{end_of-TType-Tuple-0-2 as end_of_fields}
+use Rattle.t_types.specs.declared.types.TType.{more_of-TType-Tuple-0-2 as more_of_fields}
 use Rattle.t_types.specs.declared.types.RegFile.{RegFile}
 use Rattle.t_types.specs.declared.types.TType.TheVariants.{Int, Var, Code', Exists', Tuple'}
 

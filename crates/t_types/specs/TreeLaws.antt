@@ -3,7 +3,9 @@ use Rattle.std.proofs.Common.{◌≡◌, ℕ, ◌+◌, ◌↔◌, suc, refl, ap,
 use Rattle.idx_core.specs.Over.{deep, At, IsOver, IsPart, IsEach, IsEachPart, shifted}
 use Rattle.idx_core.specs.Laws.{under, under2, under3}
 use Rattle.idx_core.specs.Laws as laws
-use Rattle.t_types.specs.Tree.{Ty, IntTy, VarTy, CodeTy, ExistsTy, TupleTy, TFile, NoRegs, MoreRegs, TFields, NoFields, MoreFields, over, over_file, over_fields, over_types, each, each_file, each_fields, each_types, shift, shift_file, shift_fields, Below, BelowFile, BelowFields, BelowTypes}
+use Rattle.t_types.specs.Tree.{Ty, IntTy, VarTy, CodeTy, ExistsTy, TupleTy, TFile, NoRegs, MoreRegs, TFields, NoFields}
+use Rattle.t_types.specs.Tree.{MoreFields, over, over_file, over_fields, over_types, each, each_file, each_fields}
+use Rattle.t_types.specs.Tree.{each_types, shift, shift_file, shift_fields, Below, BelowFile, BelowFields, BelowTypes}
 
 -- a fact on each depth, below n more binders
 pub keeps_more : (f : At Ty) (a n : ℕ) → ((e i : ℕ) → f (deep a e) i ≡ VarTy i) → (e i : ℕ) →

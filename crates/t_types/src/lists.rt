@@ -3,7 +3,8 @@ ghost use Rattle.std.specs.Prelude.{◌≡◌, ◌≤◌, IfOk};
 ghost use Rattle.idx_core.specs.Over.{IsWord, ShiftFitsAt, PutFitsAt, shifted, putted};
 ghost use Rattle.t_types.specs.Bound.{Tells};
 ghost use Rattle.t_types.specs.Read.{tree, types, file_tree};
-ghost use Rattle.t_types.specs.Tree.{Ty, TFile, VarTy, over, over_file, over_types, each, each_file, each_types, BelowFile, BelowTypes};
+ghost use Rattle.t_types.specs.Tree.{Ty, TFile, VarTy, over, over_file, over_types, each, each_file, each_types};
+ghost use Rattle.t_types.specs.Tree.{BelowFile, BelowTypes};
 ghost use Rattle.t_types.specs.TreeLaws.{types_part, file_over, file_is_below};
 
 use crate::types::{RegFile, TType};

@@ -3,7 +3,9 @@ ghost use Rattle.std.specs.Prelude.{◌≡◌, ℕ, ◌+◌, ◌<◌, ◌≤◌,
 ghost use Rattle.idx_core.specs.Over.{IsWord, ShiftFitsAt, PutFitsAt, BelowAt, AnyDepth};
 ghost use Rattle.t_types.specs.Bound.{IsBound, Tells};
 ghost use Rattle.t_types.specs.Read.{tree, file, fields};
-ghost use Rattle.t_types.specs.Tree.{Ty, VarTy, over, over_file, over_fields, each, each_file, each_fields, shift, shift_file, shift_fields, put_from, put_file_from, put_fields_from, ShiftFits, PutFits, Below, BelowFile, BelowFields};
+ghost use Rattle.t_types.specs.Tree.{Ty, VarTy, over, over_file, over_fields, each, each_file, each_fields, shift};
+ghost use Rattle.t_types.specs.Tree.{shift_file, shift_fields, put_from, put_file_from, put_fields_from, ShiftFits};
+ghost use Rattle.t_types.specs.Tree.{PutFits, Below, BelowFile, BelowFields};
 ghost use Rattle.t_types.specs.TreeLaws.{types_part, types_over, type_is_below};
 
 use crate::types::{RegFile, TType};

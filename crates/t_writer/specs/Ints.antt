@@ -1,7 +1,8 @@
 -- The integers of a program have 64 bits.
 use Rattle.std.specs.Prelude.{◌≤ℤ◌, ℤ, pos, negsuc, List, [], ◌∷◌}
 use Rattle.t_types.specs.WellFormed.{max_number}
-use Rattle.t_terms.specs.Tree.{TBase, Reg, Int, Label, Data, TValue, Plain, Pack, TInstr, Arith, Bnz, Ld, Malloc, Mov, St, Unpack, TEnd, Jmp, Halt, TSeq, Then, Ends, TBlock, TData}
+use Rattle.t_terms.specs.Tree.{TBase, Reg, Int, Label, Data, TValue, Plain, Pack, TInstr, Arith, Bnz, Ld, Malloc, Mov}
+use Rattle.t_terms.specs.Tree.{St, Unpack, TEnd, Jmp, Halt, TSeq, Then, Ends, TBlock, TData}
 
 abbrev pub IntFits : ℤ → Type 0
 IntFits z = (negsuc max_number ≤ℤ z) × (z ≤ℤ pos max_number)

@@ -5,7 +5,8 @@ ghost use Rattle.t_terms.specs.Whole.{WellFormedInstr, WellFormedEnd, WellFormed
 ghost use Rattle.t_terms.specs.Read.{value as value_of};
 ghost use Rattle.t_writer.specs.Ints.{InstrFits, EndFits, ValueFits};
 ghost use Rattle.t_writer.specs.Lexeme.{Register, bytes, render};
-ghost use Rattle.t_writer.specs.Written.{comma, space, op_written, place_written, unpacked_written, value_written, instr_written, end_written};
+ghost use Rattle.t_writer.specs.Written.{comma, space, op_written, place_written, unpacked_written, value_written};
+ghost use Rattle.t_writer.specs.Written.{instr_written, end_written};
 
 use crate::names::write_name;
 use crate::number::write_natural;

@@ -2,7 +2,8 @@
 ghost use Rattle.std.specs.Prelude.{◌≡◌, pos, [], ◌∷◌, ◌++◌, List, IfOk, OnOk};
 ghost use Rattle.c_terms.specs.Read.{cnode, ctree, ctys};
 ghost use Rattle.c_terms.specs.Stream as S;
-ghost use Rattle.c_terms.specs.C.{TCInt, TCTuple, TCCode, TCSome, NoCTys, MoreCTys, CVar, CTuple, CPack, NoCVals, MoreCVals};
+ghost use Rattle.c_terms.specs.C.{TCInt, TCTuple, TCCode, TCSome, NoCTys, MoreCTys, CVar, CTuple, CPack, NoCVals};
+ghost use Rattle.c_terms.specs.C.{MoreCVals};
 ghost use Rattle.c_terms.specs.Stream.{clin_v, clin_t};
 ghost use Rattle.h_pass.specs.Example.{Adds, hidden_pair, done, count_down, call_it};
 

@@ -14,11 +14,15 @@ use t_terms::{Kind, Token, Wanted};
 /// How many constructs may be open at a token.
 pub const MOST_OPEN: u64 = 2000;
 
-/// Why a reading stopped: at the number of a token, or of the end.
+/// Why a reading stopped, and at which token by number, where the end counts as one more. Each function that reads a
+/// form stops for these reasons alone, at the first token that gives one.
 #[derive(Debug, Drop)]
 pub enum Stopped {
+    /// Memory is wanted.
     Memory,
+    /// The form cannot go on with this token, or cannot end here.
     Unexpected(usize),
+    /// With this token more constructs would be open than may be.
     TooDeep(usize),
 }
 

@@ -175,8 +175,3 @@ pub stepped_as : {prog : a.AProg} {p : Place} {b1 b2 : List a.ATm → List a.ATm
     b2 ≡ b1 → k2 ≡ k1 → Stepped prog p b1 k1 es fs ps qs o n c d → Stepped prog p b2 k2 es fs ps qs o n c d
 stepped_as {prog} {p} {b1} {b2} {k1} {k2} {es} {fs} {ps} {qs} {o} {n} {c} {d} e f h =
     subst (λ k. Stepped prog p b2 k es fs ps qs o n c d) (sym f) (subst (λ b. Stepped prog p b k1 es fs ps qs o n c d) (sym e) h)
-
-pub stepped_for : {prog : a.AProg} {p : Place} {b1 b2 : List a.ATm → List a.ATm} {k1 k2 : ℕ} {es fs : List Entry} {ps qs : List Place} {o n : List Block} {c d : List (Instr × Span)} →
-    b2 ≡ b1 → k2 ≡ k1 → es ≡ fs → Stepped prog p b1 k1 es es ps qs o n c d → Stepped prog p b2 k2 fs fs ps qs o n c d
-stepped_for {prog} {p} {b1} {b2} {k1} {k2} {es} {fs} {ps} {qs} {o} {n} {c} {d} e f g h =
-    subst (λ xs. Stepped prog p b2 k2 xs xs ps qs o n c d) g (stepped_as e f h)

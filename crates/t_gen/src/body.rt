@@ -9,7 +9,7 @@ ghost use Rattle.a_terms.specs.Arity.{ARow};
 ghost use Rattle.a_scope.specs.Scope.{scope, Under};
 ghost use Rattle.t_gen.specs.Pending.{body_job};
 
-use crate::state::Place;
+use crate::state::{Place, Walk};
 use crate::step::step;
 use a_scope::{Entry, noted_now};
 use a_terms::walks::copy;
@@ -35,30 +35,23 @@ pub fn emit_body(
         (length (blocks_of out.old.items)) (blocks_of out.old.items)
         (body_job block names (scope names vars.items) nodes.now ∷ [])) }
 {
-    let mut vars = vars;
-    let mut code = Vec::new(alloc);
-    let mut places = Vec::new(alloc);
     let count = vars.len();
-    places.push(Place {
+    let mut walk = Walk {
+        code: Vec::new(alloc),
+        vars,
+        places: Vec::new(alloc),
+    };
+    walk.places.push(Place {
         block,
         names,
         vars: count,
     })?;
     for node in nodes {
-        let Some(place) = places.pop() else {
+        let Some(place) = walk.places.pop() else {
             unreachable!()
         };
-        vars.truncate(place.vars);
-        step(
-            alloc,
-            program,
-            out,
-            &mut code,
-            &mut vars,
-            &mut places,
-            place,
-            node,
-        )?;
+        walk.vars.truncate(place.vars);
+        step(alloc, program, out, &mut walk, place, node)?;
     }
     Ok(())
 }

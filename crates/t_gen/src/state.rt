@@ -6,6 +6,7 @@ ghost use Rattle.t_emit.specs.Code.{onto};
 ghost use Rattle.t_emit.specs.Code.{fill};
 ghost use Rattle.a_terms.specs.NodeTrees.{is_decl};
 
+use a_scope::Entry;
 use a_terms::AForm;
 use idx_core::Span;
 use std::alloc::Global;
@@ -19,6 +20,15 @@ pub struct Place {
     pub block: usize,
     pub names: u64,
     pub vars: usize,
+}
+
+/// A walk over the nodes of a body: the code so far of the block that is open, the variables that are in scope, and
+/// where the terms that are still to come stand, the next one last.
+#[derive(Drop)]
+pub struct Walk {
+    pub code: Vec<(Instr, Span)>,
+    pub vars: Vec<Entry>,
+    pub places: Vec<Place>,
 }
 
 /// The block's code is whole; the next code begins.

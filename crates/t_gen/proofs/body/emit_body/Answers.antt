@@ -7,7 +7,7 @@ use Rattle.t_gen.proofs.body.emit_body.Goals as goal
 pub loop-node-init : goal.loop-node-init
 loop-node-init c =
     let p : Place = record { block = c.args.block; names = c.args.names; vars = c.len-count.result } in
-    walk_begins _ c.args.nodes.now c.args.vars.items p c.push.new.self.items c.args.out.now.items c.new-code.result.items c.requires.one c.requires.under c.new-code.ensures.items (c.in_ok-push.ensures.items ∙ ap (λ (xs : List Place). xs ++ p ∷ []) c.new-places.ensures.items) (search rules) c.requires.block
+    walk_begins _ c.args.nodes.now c.args.vars.items p c.push.new.self.items c.args.out.now.items c.new.result.items c.requires.one c.requires.under c.new.ensures.items (c.in_ok-push.ensures.items ∙ ap (λ (xs : List Place). xs ++ p ∷ []) c.new-2.ensures.items) (search rules) c.requires.block
 
 pub step-requires : goal.step-requires
 step-requires c =
@@ -26,7 +26,7 @@ loop-node-preserved c =
 pub unreachable-requires : goal.unreachable-requires
 unreachable-requires c =
     let is = next_node c.args.nodes.now c.loop-node.node-index c.node-item.result c.loop-node-test.true c.node-item.is in
-    let none : length c.loop-node.places.items ≡ 0 = search rules in
+    let none : length c.loop-node.walk.places.items ≡ 0 = search rules in
     walk_stuck _ _ _ _ _ _ _ _ _ is none c.loop-node.invariant
 
 pub returns : goal.returns

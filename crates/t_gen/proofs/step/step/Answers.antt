@@ -1,4 +1,4 @@
-use Rattle.std.proofs.Common.{length, ◌∙◌, ap, ap₂, sym, subst, arith, List, ◌∷◌}
+use Rattle.std.proofs.Common.{length, ◌∙◌, ap, ap₂, sym, subst, arith, ◌∷◌}
 use Rattle.t_terms.specs.Read.{blocks_of}
 use Rattle.t_terms.proofs.Blocks.{blocks_count}
 use Rattle.a_terms.specs.Tree as a
@@ -8,9 +8,7 @@ use Rattle.a_terms.specs.NodeTrees.{a_values, a_build, a_let, a_decl, no_value, 
 use Rattle.a_terms.specs.Arity.{a_kids, AArity}
 use Rattle.a_terms.specs.Row.{IsOne, IsSome, top, others}
 use Rattle.a_terms.specs.declared.nodes.AForm.{AForm}
-use Rattle.a_scope.specs.declared.scope.Entry.{Entry}
-use Rattle.t_gen.specs.Pending.{tops, Fit}
-use Rattle.t_gen.proofs.Stepping.{build_decl, stepped_as, stepped_for}
+use Rattle.t_gen.proofs.Stepping.{build_decl, stepped_as}
 use Rattle.t_gen.proofs.step.step.Goals as goal
 
 pub step_let-requires : goal.step_let-requires
@@ -24,21 +22,21 @@ step_let-requires c = record {
 pub step_call-requires : goal.step_call-requires
 step_call-requires c = record {
   arity = subst (λ xs. IsSome (a_values xs)) (sym c.as_slice-values.ensures.value) (subst (λ (f : AForm). AArity f (a_values c.args.node.now.values.items)) c.in-Call.is c.requires.arity);
-  vars = c.requires.vars ∙ ap length (sym c.deref.ensures.value);
+  vars = c.requires.vars;
   block = omega (arith, c.requires.fit.0, blocks_count c.args.out.now.items);
 }
 
 pub step_halt-requires : goal.step_halt-requires
 step_halt-requires c = record {
   arity = subst (λ xs. IsOne (a_values xs)) (sym c.as_slice-values.ensures.value) (subst (λ (f : AForm). AArity f (a_values c.args.node.now.values.items)) c.in-Halt.is c.requires.arity);
-  vars = c.requires.vars ∙ ap length (sym c.deref-in-Halt.ensures.value);
+  vars = c.requires.vars;
   block = omega (arith, c.requires.fit.0, blocks_count c.args.out.now.items);
 }
 
 pub step_if-requires : goal.step_if-requires
 step_if-requires c = record {
   arity = subst (λ xs. IsOne (a_values xs)) (sym c.as_slice-values.ensures.value) (subst (λ (f : AForm). AArity f (a_values c.args.node.now.values.items)) c.in-If0.is c.requires.arity);
-  vars = c.requires.vars ∙ ap length (sym c.deref-in-If0.ensures.value);
+  vars = c.requires.vars;
 }
 
 pub returns-then-declares : goal.returns-then-declares
@@ -49,27 +47,21 @@ returns-then-declares c =
 
 pub returns-in_ok-step_call-in-Call : goal.returns-in_ok-step_call-in-Call
 returns-in_ok-step_call-in-Call c =
-    stepped_for
+    stepped_as
     (ap (λ (f : AForm). a_build f (a_values c.args.node.now.values.items)) c.in-Call.is
-    ∙ ap₂ (λ xs us ts. a.Call (top no_value (a_values xs)) (atrees us) (others (a_values xs)) ∷ ts) (sym c.as_slice-values.ensures.value) (sym c.deref-in-Call.ensures.value))
-    (ap a_kids c.in-Call.is) c.deref.ensures.value
-    (c.in_ok-step_call-in-Call.ensures (program_in c.args.program.now) c.args.places.now.items
-    (subst (λ (xs : List Entry). Fit (length (blocks_of c.args.out.now.items)) xs (length xs) (c.args.place ∷ tops c.args.places.now.items)) (sym c.deref.ensures.value) c.requires.fit))
+    ∙ ap₂ (λ xs us ts. a.Call (top no_value (a_values xs)) (atrees us) (others (a_values xs)) ∷ ts) (sym c.as_slice-values.ensures.value) (sym c.deref.ensures.value))
+    (ap a_kids c.in-Call.is) (c.in_ok-step_call-in-Call.ensures (program_in c.args.program.now) c.requires.fit)
 
 pub returns-in_ok-step_halt-in-Halt : goal.returns-in_ok-step_halt-in-Halt
 returns-in_ok-step_halt-in-Halt c =
-    stepped_for
+    stepped_as
     (ap (λ (f : AForm). a_build f (a_values c.args.node.now.values.items)) c.in-Halt.is
     ∙ ap (λ xs ts. a.Halt (top no_value (a_values xs)) ∷ ts) (sym c.as_slice-values.ensures.value))
-    (ap a_kids c.in-Halt.is) c.deref-in-Halt.ensures.value
-    (c.in_ok-step_halt-in-Halt.ensures (program_in c.args.program.now) c.args.places.now.items
-    (subst (λ (xs : List Entry). Fit (length (blocks_of c.args.out.now.items)) xs (length xs) (c.args.place ∷ tops c.args.places.now.items)) (sym c.deref-in-Halt.ensures.value) c.requires.fit))
+    (ap a_kids c.in-Halt.is) (c.in_ok-step_halt-in-Halt.ensures (program_in c.args.program.now) c.requires.fit)
 
 pub returns-in_ok-step_if-in-If0 : goal.returns-in_ok-step_if-in-If0
 returns-in_ok-step_if-in-If0 c =
-    stepped_for
+    stepped_as
     (ap (λ (f : AForm). a_build f (a_values c.args.node.now.values.items)) c.in-If0.is
     ∙ ap (λ xs ts. a.If0 (top no_value (a_values xs)) (top no_term ts) (top no_term (others ts)) ∷ others (others ts)) (sym c.as_slice-values.ensures.value))
-    (ap a_kids c.in-If0.is) c.deref-in-If0.ensures.value
-    (c.in_ok-step_if-in-If0.ensures (program_in c.args.program.now)
-    (subst (λ (xs : List Entry). Fit (length (blocks_of c.args.out.now.items)) xs (length xs) (c.args.place ∷ tops c.args.places.now.items)) (sym c.deref-in-If0.ensures.value) c.requires.fit))
+    (ap a_kids c.in-If0.is) (c.in_ok-step_if-in-If0.ensures (program_in c.args.program.now) c.requires.fit)

@@ -1,4 +1,4 @@
-use Rattle.std.proofs.Common.{length, ◌∙◌, ap}
+use Rattle.std.proofs.Common.{◌≡◌, length, rules, ◌∙◌, ap}
 use Rattle.t_terms.specs.Tree as T
 use Rattle.t_terms.specs.Tree.{Ends}
 use Rattle.t_terms.specs.Read.{blocks_of}
@@ -13,16 +13,18 @@ use Rattle.t_gen.proofs.Stepping.{end_stepped}
 use Rattle.t_gen.proofs.step.step_halt.Goals as goal
 
 pub returns : goal.returns
-returns c = λ bs ps f.
+returns c = λ bs f.
     let v = top no_value (a_values c.args.values.now) in
-    let es = c.args.vars.now in
+    let es = c.args.walk.now.vars.items in
+    let ps = c.args.walk.now.places.items in
     let o = blocks_of c.args.out.now.items in
     let p = c.args.place in
-    let old = c.args.code.now.items in
-    let d = length es in
+    let old = c.args.walk.now.code.items in
+    let d = c.len-depth.result in
+    let long : d ≡ length es = search rules in
     let t = a.Halt v in
     end_stepped bs p t es ps c.args.out.now.items c.close_block.new.out.items old c.close_block.new.code.items
     c.requires.vars c.close_block.ensures.empty
     (c.close_block.ensures.filled
-    ∙ ap (λ x. fill p.block x o) (c.in_ok-emit_value.ensures (Ends T.Halt) ∙ ap (λ u. onto old (into d 1 u (Ends T.Halt))) c.first.ensures))
+    ∙ ap (λ x. fill p.block x o) (c.in_ok-emit_value.ensures (Ends T.Halt) ∙ ap (λ u. onto old (into d 1 u (Ends T.Halt))) c.first.ensures ∙ ap (λ n. onto old (into n 1 v (Ends T.Halt))) long))
     f (λ out at k g js. halt_step bs at out (onto old) p.block k g v js)

@@ -11,11 +11,11 @@ ghost use Rattle.c_free.specs.Names.{side};
 ghost use Rattle.c_pass.specs.Read.{bounds, var_of, info_parts, side_from};
 
 use crate::bounds::bound_levels;
-use crate::state::Bound;
+use crate::state::{Bound, Header};
 use crate::translate::{closed, types_at, variables};
 use c_emit::Info;
 use c_free::close_type::close_types;
-use c_free::{Renaming, Side};
+use c_free::{Found, Renaming, Side};
 use c_terms::CType;
 use c_walk::levels::known;
 use c_walk::{Levels, sum};
@@ -75,30 +75,28 @@ fn arguments(alloc: Global, env: CType, args: &[KType], g: &Side) -> Result<Vec<
 /// What is to be known of a code whose type variables stand in it where `g` says, in what is around it where `f` says.
 pub fn info_from(
     alloc: Global,
-    depth: u64,
-    owes: u64,
-    args: &[KType],
-    own_type: &KType,
-    kept: Levels,
-    own: bool,
+    header: &Header,
+    found: Found,
     xs: &[Bound],
     f: &Side,
     g: &Side,
 ) -> Result<Info, OutOfMemory>
-    requires { ktree own_type.now ≡ TKCode owes (ktys args.now) }
+    requires { ktree header.now.own_type.now ≡ TKCode header.now.owes (ktys header.now.args.now) }
     ensures { IfOk result
-        (λ r. info r ≡ info_parts depth owes (ktys args.now) kept.list.items own (bounds xs.now) (side f.now)
-        (side g.now)) }
+        (λ r. info r ≡ info_parts header.now.depth header.now.owes (ktys header.now.args.now) found.kept.list.items
+        found.own (bounds xs.now) (side f.now) (side g.now)) }
 {
+    let Found { kept, own } = found;
+    let depth = header.depth;
     let hidden = env(alloc, xs, &kept.list, depth, f, false)?;
-    let shape = closed(alloc, own_type, f, false, 0)?;
+    let shape = closed(alloc, header.own_type, f, false, 0)?;
     let apply = variables(alloc, &g.kept.list, depth, f, false)?;
     let hidden_in = env(alloc, xs, &kept.list, depth, g, true)?;
-    let shape_in = closed(alloc, own_type, g, true, 0)?;
+    let shape_in = closed(alloc, header.own_type, g, true, 0)?;
     let apply_in = variables(alloc, &g.kept.list, depth, g, true)?;
     let first = env(alloc, xs, &kept.list, depth, g, true)?;
-    let args = arguments(alloc, first, args, g)?;
-    let owes = sum(owes, g.kept.list.len() as u64)?;
+    let args = arguments(alloc, first, header.args, g)?;
+    let owes = sum(header.owes, g.kept.list.len() as u64)?;
     Ok(Info {
         kept,
         own,

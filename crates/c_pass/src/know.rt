@@ -12,12 +12,12 @@ ghost use Rattle.c_pass.specs.Read.{Binds, bounds, clue, clues_of, total, opened
 
 use crate::bounds::{bind, bind_all};
 use crate::info::{info_from, side_of};
-use crate::state::{Bound, Clue, Knowledge};
+use crate::state::{Bound, Clue, Header, Knowledge};
 use crate::translate::closed;
 use c_emit::Note;
 use c_free::close_type::close_types;
 use c_free::copy_type::{all_copied, copied};
-use c_free::{Renaming, Side};
+use c_free::{Found, Renaming, Side};
 use c_terms::CType;
 use c_walk::{Levels, sum};
 use idx_core::OutOfMemory;
@@ -66,18 +66,14 @@ impl Knowledge {
             args: all_copied(alloc, args)?,
         };
         let g = side_of(alloc, &self.bounds, types, &kept.list, depth, owes)?;
-        let known = info_from(
-            alloc,
+        let header = Header {
             depth,
             owes,
             args,
-            &own_type,
-            kept,
-            own,
-            &self.bounds,
-            &self.side,
-            &g,
-        )?;
+            own_type: &own_type,
+        };
+        let found = Found { kept, own };
+        let known = info_from(alloc, &header, found, &self.bounds, &self.side, &g)?;
         self.infos.push_back(known)?;
         bind(&mut self.bounds, level, own_type, depth)?;
         let inside = sum(owes, depth)?;

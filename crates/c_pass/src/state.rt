@@ -21,6 +21,16 @@ pub struct Bound {
     pub depth: u64,
 }
 
+/// What a code says of itself: the number of type variables around it, how many types it takes, the types of its
+/// arguments, and its own type.
+#[derive(Clone, Copy)]
+pub struct Header<'a> {
+    pub depth: u64,
+    pub owes: u64,
+    pub args: &'a [KType],
+    pub own_type: &'a KType,
+}
+
 /// The types of the variables by level, the type variables of the code where the walk stands and of those around it,
 /// what was found of the codes to come, and what is known so far.
 #[derive(Drop)]

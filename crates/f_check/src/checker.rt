@@ -16,7 +16,7 @@ ghost use Rattle.f_check.specs.Typed.{typed_term, typed_type};
 ghost use Rattle.f_check.specs.Verdict.{Says, IsTypeOf};
 
 use crate::begin::begin;
-use crate::frame::{Control, State};
+use crate::frame::{Control, Passed, State};
 use crate::notes::{blank, close, follow, note};
 use crate::resume::resume;
 use crate::typed::Typed;
@@ -55,7 +55,8 @@ fn type_of(alloc: Global, term: &FTerm) -> Result<(FType, Vec<FType>), FFault>
                 note(alloc, term, &mut types, node, &ty)?;
                 match state.frames.pop() {
                     Some(frame) => {
-                        control = resume(alloc, term, &mut state, frame, ty, span)?;
+                        let part = Passed { ty, span };
+                        control = resume(alloc, term, &mut state, frame, part)?;
                         follow(&mut path, &control)?;
                     }
                     None => return Ok((ty, types)),

@@ -7,7 +7,7 @@ ghost use Rattle.f_check.specs.declared.frame.Frame.TheVariants as frames;
 ghost use Rattle.f_terms.specs.declared.fault.FFault.TheVariants as fault;
 
 use crate::count::limit;
-use crate::frame::{Control, Frame, State};
+use crate::frame::{Control, Frame, Passed, State};
 use crate::parts::{all_body, arrow_parts, is_int, take_field, tuple_parts};
 use crate::put::put_within;
 use crate::scope::{Binder, copy_arrow};
@@ -36,17 +36,16 @@ fn after_fix(
     span: Span,
     arg: &FType,
     res: &FType,
-    ty: FType,
-    found: Span,
+    part: Passed,
 ) -> Result<Control, FFault>
-    requires { Offered term.now state.old (frames.Fix span arg res) ty found }
+    requires { Offered term.now state.old (frames.Fix span arg res) part.ty part.span }
     ensures goes { Goes term.now state.new result (offer_work term.now state.old []) }
     ensures frames { IfOk result (λ c. Resumed
         (frames.Fix span arg.entry res.entry) state.old.frames.items state.new.frames.items c) }
 {
     leave(&mut state.scope);
-    if !eq(&ty, res) {
-        return refused(Code::E14, found);
+    if !eq(&part.ty, res) {
+        return refused(Code::E14, part.span);
     }
     let ty = copy_arrow(alloc, arg, res)?;
     Ok(Control::Give { ty, span })
@@ -57,17 +56,16 @@ fn after_function(
     state: &mut State,
     span: Span,
     x: u64,
-    ty: FType,
-    found: Span,
+    part: Passed,
 ) -> Result<Control, FFault>
-    requires { Offered term.now state.old (frames.Function span x) ty found }
+    requires { Offered term.now state.old (frames.Function span x) part.ty part.span }
     ensures goes { Goes term.now state.new result (offer_work term.now state.old (x ∷ [])) }
     ensures frames { IfOk result (λ c. Resumed
         (frames.Function span x) state.old.frames.items state.new.frames.items c) }
 {
-    match arrow_parts(ty) {
+    match arrow_parts(part.ty) {
         Some((arg, res)) => enter(term, state, Frame::Argument { span, arg, res }, x),
-        None => refused(Code::E07, found),
+        None => refused(Code::E07, part.span),
     }
 }
 
@@ -77,16 +75,15 @@ fn after_argument(
     span: Span,
     arg: FType,
     res: FType,
-    ty: FType,
-    found: Span,
+    part: Passed,
 ) -> Result<Control, FFault>
-    requires { Offered term.now state.now (frames.Argument span arg res) ty found }
+    requires { Offered term.now state.now (frames.Argument span arg res) part.ty part.span }
     ensures goes { Goes term.now state.now result (offer_work term.now state.now []) }
     ensures frames { IfOk result (λ c. Resumed
         (frames.Argument span arg res) state.now.frames.items state.now.frames.items c) }
 {
-    if !eq(&ty, &arg) {
-        return refused(Code::E08, found);
+    if !eq(&part.ty, &arg) {
+        return refused(Code::E08, part.span);
     }
     Ok(Control::Give { ty: res, span })
 }
@@ -96,18 +93,17 @@ fn after_gen(
     term: &FTerm,
     state: &mut State,
     span: Span,
-    ty: FType,
-    found: Span,
+    part: Passed,
 ) -> Result<Control, FFault>
-    requires { Offered term.now state.old (frames.Gen span) ty found }
+    requires { Offered term.now state.old (frames.Gen span) part.ty part.span }
     ensures goes { Goes term.now state.new result (offer_work term.now state.old []) }
     ensures frames { IfOk result (λ c. Resumed (frames.Gen span) state.old.frames.items state.new.frames.items c) }
 {
     state.around -= 1;
-    let deep = depth(&ty).saturating_add(1);
-    let wide = size(&ty).saturating_add(1);
+    let deep = depth(&part.ty).saturating_add(1);
+    let wide = size(&part.ty).saturating_add(1);
     limit(deep, wide, span)?;
-    let ty = FType::All(Box::new(alloc, ty)?);
+    let ty = FType::All(Box::new(alloc, part.ty)?);
     Ok(Control::Give { ty, span })
 }
 
@@ -117,17 +113,16 @@ fn after_inst(
     state: &State,
     span: Span,
     arg: &FType,
-    ty: FType,
-    found: Span,
+    part: Passed,
 ) -> Result<Control, FFault>
-    requires { Offered term.now state.now (frames.Inst span arg) ty found }
+    requires { Offered term.now state.now (frames.Inst span arg) part.ty part.span }
     ensures goes { Goes term.now state.now result (offer_work term.now state.now []) }
     ensures frames { IfOk result (λ c. Resumed
         (frames.Inst span arg.entry) state.now.frames.items state.now.frames.items c) }
 {
-    let body = match all_body(ty) {
+    let body = match all_body(part.ty) {
         Some(body) => body,
-        None => return refused(Code::E09, found),
+        None => return refused(Code::E09, part.span),
     };
     let ty = put_within(alloc, span, &body, arg)?;
     Ok(Control::Give { ty, span })
@@ -146,16 +141,15 @@ fn after_field<'a>(
     span: Span,
     types: Vec<FType>,
     rest: &'a [u64],
-    ty: FType,
-    found: Span,
+    part: Passed,
 ) -> Result<Control, FFault>
-    requires { Offered term.now state.old (frames.Fields span types rest) ty found }
+    requires { Offered term.now state.old (frames.Fields span types rest) part.ty part.span }
     ensures goes { Goes term.now state.new result (offer_work term.now state.old rest.now) }
     ensures frames { IfOk result (λ c. Resumed
         (frames.Fields span types rest.entry) state.old.frames.items state.new.frames.items c) }
 {
     let mut types = types;
-    push(&mut types, ty)?;
+    push(&mut types, part.ty)?;
     match rest.split_first() {
         Some((e, rest)) => enter(term, state, Frame::Fields { span, types, rest }, *e),
         None => {
@@ -171,16 +165,15 @@ fn after_proj(
     state: &State,
     span: Span,
     i: u64,
-    ty: FType,
-    found: Span,
+    part: Passed,
 ) -> Result<Control, FFault>
-    requires { Offered term.now state.now (frames.Proj span i) ty found }
+    requires { Offered term.now state.now (frames.Proj span i) part.ty part.span }
     ensures goes { Goes term.now state.now result (offer_work term.now state.now []) }
     ensures frames { IfOk result (λ c. Resumed (frames.Proj span i) state.now.frames.items state.now.frames.items c) }
 {
-    let parts = match tuple_parts(ty) {
+    let parts = match tuple_parts(part.ty) {
         Some(parts) => parts,
-        None => return refused(Code::E10, found),
+        None => return refused(Code::E10, part.span),
     };
     match take_field(parts, i) {
         Some(ty) => Ok(Control::Give { ty, span }),
@@ -193,32 +186,25 @@ fn after_left(
     state: &mut State,
     span: Span,
     b: u64,
-    ty: FType,
-    found: Span,
+    part: Passed,
 ) -> Result<Control, FFault>
-    requires { Offered term.now state.old (frames.Left span b) ty found }
+    requires { Offered term.now state.old (frames.Left span b) part.ty part.span }
     ensures goes { Goes term.now state.new result (offer_work term.now state.old (b ∷ [])) }
     ensures frames { IfOk result (λ c. Resumed (frames.Left span b) state.old.frames.items state.new.frames.items c) }
 {
-    if !is_int(&ty) {
-        return refused(Code::E12, found);
+    if !is_int(&part.ty) {
+        return refused(Code::E12, part.span);
     }
     enter(term, state, Frame::Right { span }, b)
 }
 
-fn after_right(
-    term: &FTerm,
-    state: &State,
-    span: Span,
-    ty: FType,
-    found: Span,
-) -> Result<Control, FFault>
-    requires { Offered term.now state.now (frames.Right span) ty found }
+fn after_right(term: &FTerm, state: &State, span: Span, part: Passed) -> Result<Control, FFault>
+    requires { Offered term.now state.now (frames.Right span) part.ty part.span }
     ensures goes { Goes term.now state.now result (offer_work term.now state.now []) }
     ensures frames { IfOk result (λ c. Resumed (frames.Right span) state.now.frames.items state.now.frames.items c) }
 {
-    if !is_int(&ty) {
-        return refused(Code::E12, found);
+    if !is_int(&part.ty) {
+        return refused(Code::E12, part.span);
     }
     Ok(Control::Give {
         ty: FType::Int,
@@ -232,15 +218,14 @@ fn after_test(
     span: Span,
     a: u64,
     b: u64,
-    ty: FType,
-    found: Span,
+    part: Passed,
 ) -> Result<Control, FFault>
-    requires { Offered term.now state.old (frames.Test span a b) ty found }
+    requires { Offered term.now state.old (frames.Test span a b) part.ty part.span }
     ensures goes { Goes term.now state.new result (offer_work term.now state.old (a ∷ b ∷ [])) }
     ensures frames { IfOk result (λ c. Resumed (frames.Test span a b) state.old.frames.items state.new.frames.items c) }
 {
-    if !is_int(&ty) {
-        return refused(Code::E12, found);
+    if !is_int(&part.ty) {
+        return refused(Code::E12, part.span);
     }
     enter(term, state, Frame::Zero { span, b }, a)
 }
@@ -250,14 +235,21 @@ fn after_zero(
     state: &mut State,
     span: Span,
     b: u64,
-    ty: FType,
-    found: Span,
+    part: Passed,
 ) -> Result<Control, FFault>
-    requires { Offered term.now state.old (frames.Zero span b) ty found }
+    requires { Offered term.now state.old (frames.Zero span b) part.ty part.span }
     ensures goes { Goes term.now state.new result (offer_work term.now state.old (b ∷ [])) }
     ensures frames { IfOk result (λ c. Resumed (frames.Zero span b) state.old.frames.items state.new.frames.items c) }
 {
-    enter(term, state, Frame::Other { span, zero: ty }, b)
+    enter(
+        term,
+        state,
+        Frame::Other {
+            span,
+            zero: part.ty,
+        },
+        b,
+    )
 }
 
 fn after_other(
@@ -265,49 +257,43 @@ fn after_other(
     state: &State,
     span: Span,
     zero: FType,
-    ty: FType,
-    found: Span,
+    part: Passed,
 ) -> Result<Control, FFault>
-    requires { Offered term.now state.now (frames.Other span zero) ty found }
+    requires { Offered term.now state.now (frames.Other span zero) part.ty part.span }
     ensures goes { Goes term.now state.now result (offer_work term.now state.now []) }
     ensures frames { IfOk result (λ c. Resumed
         (frames.Other span zero) state.now.frames.items state.now.frames.items c) }
 {
-    if !eq(&ty, &zero) {
-        return refused(Code::E13, found);
+    if !eq(&part.ty, &zero) {
+        return refused(Code::E13, part.span);
     }
     Ok(Control::Give { ty: zero, span })
 }
 
-/// What the frame does with the type of the part that it waits for, which has the place `found`.
+/// What the frame does with the part that it waits for.
 pub(crate) fn resume<'a>(
     alloc: Global,
     term: &FTerm,
     state: &mut State<'a>,
     frame: Frame<'a>,
-    ty: FType,
-    found: Span,
+    part: Passed,
 ) -> Result<Control, FFault>
-    requires { Offered term.now state.old frame ty found }
+    requires { Offered term.now state.old frame part.ty part.span }
     ensures goes { Goes term.now state.new result (offer_work term.now state.old (rest_of frame.entry)) }
     ensures frames { IfOk result (λ c. Resumed frame.entry state.old.frames.items state.new.frames.items c) }
 {
     match frame {
-        Frame::Fix { span, arg, res } => after_fix(alloc, term, state, span, arg, res, ty, found),
-        Frame::Function { span, x } => after_function(term, state, span, x, ty, found),
-        Frame::Argument { span, arg, res } => {
-            after_argument(term, state, span, arg, res, ty, found)
-        }
-        Frame::Gen { span } => after_gen(alloc, term, state, span, ty, found),
-        Frame::Inst { span, ty: arg } => after_inst(alloc, term, state, span, arg, ty, found),
-        Frame::Fields { span, types, rest } => {
-            after_field(term, state, span, types, rest, ty, found)
-        }
-        Frame::Proj { span, i } => after_proj(term, state, span, i, ty, found),
-        Frame::Left { span, b } => after_left(term, state, span, b, ty, found),
-        Frame::Right { span } => after_right(term, state, span, ty, found),
-        Frame::Test { span, a, b } => after_test(term, state, span, a, b, ty, found),
-        Frame::Zero { span, b } => after_zero(term, state, span, b, ty, found),
-        Frame::Other { span, zero } => after_other(term, state, span, zero, ty, found),
+        Frame::Fix { span, arg, res } => after_fix(alloc, term, state, span, arg, res, part),
+        Frame::Function { span, x } => after_function(term, state, span, x, part),
+        Frame::Argument { span, arg, res } => after_argument(term, state, span, arg, res, part),
+        Frame::Gen { span } => after_gen(alloc, term, state, span, part),
+        Frame::Inst { span, ty: arg } => after_inst(alloc, term, state, span, arg, part),
+        Frame::Fields { span, types, rest } => after_field(term, state, span, types, rest, part),
+        Frame::Proj { span, i } => after_proj(term, state, span, i, part),
+        Frame::Left { span, b } => after_left(term, state, span, b, part),
+        Frame::Right { span } => after_right(term, state, span, part),
+        Frame::Test { span, a, b } => after_test(term, state, span, a, b, part),
+        Frame::Zero { span, b } => after_zero(term, state, span, b, part),
+        Frame::Other { span, zero } => after_other(term, state, span, zero, part),
     }
 }

@@ -5,7 +5,7 @@ use Rattle.f_check.specs.declared.frame.Frame.TheVariants as C
 use Rattle.f_check.proofs.resume.after_function.Goals as goal
 
 pub returns-in-None-clause-goes : goal.returns-in-None-clause-goes
-returns-in-None-clause-goes c = fun_refused c.args.term.now c.args.state.now c.args.ty c.args.found c.args.span c.args.x c.requires _ _ c.refused.ensures c.in-None.ensures
+returns-in-None-clause-goes c = fun_refused c.args.term.now c.args.state.now c.args.part.ty c.args.part.span c.args.span c.args.x c.requires _ _ c.refused.ensures c.in-None.ensures
 
 pub returns-in-None-clause-frames : goal.returns-in-None-clause-frames
 returns-in-None-clause-frames c = gone _ _ _ c.refused.ensures

@@ -272,13 +272,6 @@ module _ (ns ms : List Name) (place : Place) (ps qs : List Place) (mid new : Lis
 pub steps_for : (place : Place) (f h : HForm) (vs : List AValue) (ts : List Seen) (m : ℕ) (ns ms : List Name) (ps qs : List Place) (mid new : List ANode) → f ≡ h → Steps place f vs ts m ns ms ps qs mid new → Steps place h vs ts m ns ms ps qs mid new
 steps_for place f h vs ts m ns ms ps qs mid new e s = subst (λ x. Steps place x vs ts m ns ms ps qs mid new) e s
 
--- names and places that stay as they are
-pub steps_kept : (place : Place) (f : HForm) (vs : List AValue) (ts : List Seen) (m : ℕ) (xs ns : List Name) (ys ps : List Place) (mid new : List ANode) → xs ≡ ns → ys ≡ ps → Steps place f vs ts m xs xs ys ys mid new → Steps place f vs ts m ns ns ps ps mid new
-steps_kept place f vs ts m xs ns ys ps mid new e k s = subst (λ x. Steps place f vs ts m x x ps ps mid new) e (subst (λ y. Steps place f vs ts m xs xs y y mid new) k s)
-
-pub steps_named : (place : Place) (f : HForm) (vs : List AValue) (ts : List Seen) (m : ℕ) (xs ns : List Name) (ps qs : List Place) (mid new : List ANode) → xs ≡ ns → Steps place f vs ts m xs xs ps qs mid new → Steps place f vs ts m ns ns ps qs mid new
-steps_named place f vs ts m xs ns ps qs mid new e s = subst (λ x. Steps place f vs ts m x x ps qs mid new) e s
-
 pub made_for : (ks : HBlks) (b c d : ℕ) (xs ns : List Name) (ps qs : List HPart) (old mid : List ANode) (kept tuples : List AData) (vs : List AValue) (ts : List Seen) (m : ℕ) → xs ≡ ns → ps ≡ qs →
     Made ks (scope b xs) (knowns xs) c d (reads [] ps) old kept vs ts m mid tuples → Made ks (scope b ns) (knowns ns) c d (reads [] qs) old kept vs ts m mid tuples
 made_for ks b c d xs ns ps qs old mid kept tuples vs ts m e f r =

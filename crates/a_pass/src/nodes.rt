@@ -15,7 +15,7 @@ use crate::constants::constant_value;
 use crate::emit::{after, content, malloc, under_all};
 use crate::run::{Run, read};
 use crate::scope::{body_in, field_in, own};
-use crate::state::{ConstantOf, Name, Place, Seen, TypeOf};
+use crate::state::{ConstantOf, Name, Place, Progress, Seen, TypeOf};
 use crate::types::a_types;
 use a_terms::parts::set_tuple;
 use a_terms::{ABase, AData, AForm, ANode, AType, AValue};
@@ -54,33 +54,26 @@ fn only_value(alloc: Global, values: Vec<AValue>) -> AValue
     }
 }
 
-// One more node, which names a value of this type, and the place after it.
+// One more node, which names a value, and the place after it.
 fn declare(
     form: AForm,
     values: Vec<AValue>,
-    ty: AType,
-    constant: Option<AValue>,
-    depth: u64,
-    binders: u64,
-    names: &mut Vec<Name>,
-    places: &mut Vec<Place>,
+    name: Name,
+    progress: &mut Progress,
     out: &mut Vec<ANode>,
 ) -> Result<(), OutOfMemory>
-    ensures { OnOk result (Declares form values.items ty (option_map a_value constant) depth
-        (length names.old.items) binders names.old.items names.new.items places.old.items places.new.items
-        out.old.items out.new.items) }
+    ensures { OnOk result (Declares form values.items name.ty (option_map a_value name.constant) name.level
+        (length progress.old.names.items) name.under progress.old.names.items progress.new.names.items
+        progress.old.places.items progress.new.places.items out.old.items out.new.items) }
 {
-    let next = after(depth)?;
+    let next = after(name.level)?;
+    let binders = name.under;
     out.push(ANode { form, values })?;
-    names.push(Name {
-        level: depth,
-        ty,
-        under: binders,
-        constant,
-    })?;
-    places.push(Place {
+    progress.names.push(name)?;
+    let names = progress.names.len();
+    progress.places.push(Place {
         depth: next,
-        names: names.len(),
+        names,
         binders,
     })?;
     Ok(())
@@ -97,14 +90,13 @@ fn name(
     alloc: Global,
     run: Run,
     place: Place,
-    names: &mut Vec<Name>,
-    places: &mut Vec<Place>,
+    progress: &mut Progress,
     out: &mut Vec<ANode>,
 ) -> Result<(), OutOfMemory>
-    requires names { length names.old.items ≡ place.names }
-    requires bound { Under place.binders names.old.items }
-    ensures { OnOk result (Steps place H.Name run.values.items run.types.items run.depth names.old.items
-        names.new.items places.old.items places.new.items out.old.items out.new.items) }
+    requires names { length progress.old.names.items ≡ place.names }
+    requires bound { Under place.binders progress.old.names.items }
+    ensures { OnOk result (Steps place H.Name run.values.items run.types.items run.depth progress.old.names.items
+        progress.new.names.items progress.old.places.items progress.new.places.items out.old.items out.new.items) }
 {
     let Run {
         values,
@@ -112,18 +104,19 @@ fn name(
         depth,
     } = run;
     let Seen { ty, constant } = only(types);
-    let ty = own(alloc, names, place.binders, ty)?;
-    let constant = constant_value(alloc, names, constant)?;
+    let ty = own(alloc, &progress.names, place.binders, ty)?;
+    let constant = constant_value(alloc, &progress.names, constant)?;
     let values = under_all(alloc, values, depth)?;
     declare(
         AForm::Value,
         values,
-        ty,
-        constant,
-        depth,
-        place.binders,
-        names,
-        places,
+        Name {
+            level: depth,
+            ty,
+            under: place.binders,
+            constant,
+        },
+        progress,
         out,
     )?;
     Ok(())
@@ -134,35 +127,35 @@ fn project(
     i: u64,
     run: Run,
     place: Place,
-    names: &mut Vec<Name>,
-    places: &mut Vec<Place>,
+    progress: &mut Progress,
     out: &mut Vec<ANode>,
 ) -> Result<(), OutOfMemory>
-    requires names { length names.old.items ≡ place.names }
-    requires bound { Under place.binders names.old.items }
+    requires names { length progress.old.names.items ≡ place.names }
+    requires bound { Under place.binders progress.old.names.items }
     ensures field { OnOk result (Steps place
-        (H.Proj i) run.values.items run.types.items run.depth names.old.items names.new.items places.old.items
-        places.new.items out.old.items out.new.items) }
+        (H.Proj i) run.values.items run.types.items run.depth progress.old.names.items progress.new.names.items
+        progress.old.places.items progress.new.places.items out.old.items out.new.items) }
     ensures cell { OnOk result (i ≡ 1 →
-        Steps place H.Get run.values.items run.types.items run.depth names.old.items names.new.items places.old.items
-        places.new.items out.old.items out.new.items) }
+        Steps place H.Get run.values.items run.types.items run.depth progress.old.names.items progress.new.names.items
+        progress.old.places.items progress.new.places.items out.old.items out.new.items) }
 {
     let Run {
         values,
         types,
         depth,
     } = run;
-    let ty = field_in(alloc, names, place.binders, only(types).ty, i)?;
+    let ty = field_in(alloc, &progress.names, place.binders, only(types).ty, i)?;
     let values = under_all(alloc, values, depth)?;
     declare(
         AForm::Proj(i),
         values,
-        ty,
-        None,
-        depth,
-        place.binders,
-        names,
-        places,
+        Name {
+            level: depth,
+            ty,
+            under: place.binders,
+            constant: None,
+        },
+        progress,
         out,
     )?;
     Ok(())
@@ -173,15 +166,14 @@ fn operate(
     op: Op,
     run: Run,
     place: Place,
-    names: &mut Vec<Name>,
-    places: &mut Vec<Place>,
+    progress: &mut Progress,
     out: &mut Vec<ANode>,
 ) -> Result<(), OutOfMemory>
-    requires names { length names.old.items ≡ place.names }
-    requires bound { Under place.binders names.old.items }
+    requires names { length progress.old.names.items ≡ place.names }
+    requires bound { Under place.binders progress.old.names.items }
     ensures { OnOk result (Steps place
-        (H.Arith op) run.values.items run.types.items run.depth names.old.items names.new.items places.old.items
-        places.new.items out.old.items out.new.items) }
+        (H.Arith op) run.values.items run.types.items run.depth progress.old.names.items progress.new.names.items
+        progress.old.places.items progress.new.places.items out.old.items out.new.items) }
 {
     let Run {
         values,
@@ -192,12 +184,13 @@ fn operate(
     declare(
         AForm::Arith(op),
         values,
-        AType::Int,
-        None,
-        depth,
-        place.binders,
-        names,
-        places,
+        Name {
+            level: depth,
+            ty: AType::Int,
+            under: place.binders,
+            constant: None,
+        },
+        progress,
         out,
     )?;
     Ok(())
@@ -207,14 +200,13 @@ fn unpack(
     alloc: Global,
     run: Run,
     place: Place,
-    names: &mut Vec<Name>,
-    places: &mut Vec<Place>,
+    progress: &mut Progress,
     out: &mut Vec<ANode>,
 ) -> Result<(), OutOfMemory>
-    requires names { length names.old.items ≡ place.names }
-    requires bound { Under place.binders names.old.items }
-    ensures { OnOk result (Steps place H.Unpack run.values.items run.types.items run.depth names.old.items
-        names.new.items places.old.items places.new.items out.old.items out.new.items) }
+    requires names { length progress.old.names.items ≡ place.names }
+    requires bound { Under place.binders progress.old.names.items }
+    ensures { OnOk result (Steps place H.Unpack run.values.items run.types.items run.depth progress.old.names.items
+        progress.new.names.items progress.old.places.items progress.new.places.items out.old.items out.new.items) }
 {
     let Run {
         values,
@@ -222,17 +214,18 @@ fn unpack(
         depth,
     } = run;
     let inner = after(place.binders)?;
-    let ty = body_in(alloc, names, place.binders, only(types).ty)?;
+    let ty = body_in(alloc, &progress.names, place.binders, only(types).ty)?;
     let values = under_all(alloc, values, depth)?;
     declare(
         AForm::Unpack,
         values,
-        ty,
-        None,
-        depth,
-        inner,
-        names,
-        places,
+        Name {
+            level: depth,
+            ty,
+            under: inner,
+            constant: None,
+        },
+        progress,
         out,
     )?;
     Ok(())
@@ -255,33 +248,33 @@ fn cell(
     alloc: Global,
     run: Run,
     place: Place,
-    names: &mut Vec<Name>,
-    places: &mut Vec<Place>,
+    progress: &mut Progress,
     out: &mut Vec<ANode>,
 ) -> Result<(), OutOfMemory>
-    requires names { length names.old.items ≡ place.names }
-    requires bound { Under place.binders names.old.items }
-    ensures { OnOk result (Steps place H.Cell run.values.items run.types.items run.depth names.old.items
-        names.new.items places.old.items places.new.items out.old.items out.new.items) }
+    requires names { length progress.old.names.items ≡ place.names }
+    requires bound { Under place.binders progress.old.names.items }
+    ensures { OnOk result (Steps place H.Cell run.values.items run.types.items run.depth progress.old.names.items
+        progress.new.names.items progress.old.places.items progress.new.places.items out.old.items out.new.items) }
 {
     let Run {
         values,
         types,
         depth,
     } = run;
-    let ty = own(alloc, names, place.binders, only(types).ty)?;
+    let ty = own(alloc, &progress.names, place.binders, only(types).ty)?;
     let whole = one_field(alloc, ty, out)?;
     let newest = after(depth)?;
     let values = content(alloc, only_value(alloc, values), newest)?;
     declare(
         AForm::Init(1),
         values,
-        whole,
-        None,
-        newest,
-        place.binders,
-        names,
-        places,
+        Name {
+            level: newest,
+            ty: whole,
+            under: place.binders,
+            constant: None,
+        },
+        progress,
         out,
     )?;
     Ok(())
@@ -311,14 +304,13 @@ fn set(
     alloc: Global,
     run: Run,
     place: Place,
-    names: &mut Vec<Name>,
-    places: &mut Vec<Place>,
+    progress: &mut Progress,
     out: &mut Vec<ANode>,
 ) -> Result<(), OutOfMemory>
-    requires names { length names.old.items ≡ place.names }
-    requires bound { Under place.binders names.old.items }
-    ensures { OnOk result (Steps place H.Set run.values.items run.types.items run.depth names.old.items
-        names.new.items places.old.items places.new.items out.old.items out.new.items) }
+    requires names { length progress.old.names.items ≡ place.names }
+    requires bound { Under place.binders progress.old.names.items }
+    ensures { OnOk result (Steps place H.Set run.values.items run.types.items run.depth progress.old.names.items
+        progress.new.names.items progress.old.places.items progress.new.places.items out.old.items out.new.items) }
 {
     let Run {
         values,
@@ -332,12 +324,13 @@ fn set(
     declare(
         AForm::Malloc(room),
         empty,
-        none,
-        None,
-        next,
-        place.binders,
-        names,
-        places,
+        Name {
+            level: next,
+            ty: none,
+            under: place.binders,
+            constant: None,
+        },
+        progress,
         out,
     )?;
     Ok(())
@@ -348,15 +341,14 @@ fn call(
     types: &Vec<CType>,
     run: Run,
     place: Place,
-    names: &[Name],
-    places: &[Place],
+    progress: &Progress,
     out: &mut Vec<ANode>,
 ) -> Result<(), OutOfMemory>
-    requires names { length names.now ≡ place.names }
-    requires bound { Under place.binders names.now }
+    requires names { length progress.now.names.items ≡ place.names }
+    requires bound { Under place.binders progress.now.names.items }
     ensures { OnOk result (Steps place
-        (H.Call types.now) run.values.items run.types.items run.depth names.now names.now places.now places.now
-        out.old.items out.new.items) }
+        (H.Call types.now) run.values.items run.types.items run.depth progress.now.names.items progress.now.names.items
+        progress.now.places.items progress.now.places.items out.old.items out.new.items) }
 {
     let types = a_types(alloc, types)?;
     let values = under_all(alloc, run.values, run.depth)?;
@@ -368,14 +360,13 @@ fn choose(
     alloc: Global,
     run: Run,
     place: Place,
-    names: &[Name],
-    places: &mut Vec<Place>,
+    progress: &mut Progress,
     out: &mut Vec<ANode>,
 ) -> Result<(), OutOfMemory>
-    requires names { length names.now ≡ place.names }
-    requires bound { Under place.binders names.now }
-    ensures { OnOk result (Steps place H.If0 run.values.items run.types.items run.depth names.now names.now
-        places.old.items places.new.items out.old.items out.new.items) }
+    requires names { length progress.old.names.items ≡ place.names }
+    requires bound { Under place.binders progress.old.names.items }
+    ensures { OnOk result (Steps place H.If0 run.values.items run.types.items run.depth progress.old.names.items
+        progress.new.names.items progress.old.places.items progress.new.places.items out.old.items out.new.items) }
 {
     let branch = Place {
         depth: run.depth,
@@ -384,8 +375,8 @@ fn choose(
     };
     let values = under_all(alloc, run.values, run.depth)?;
     end(AForm::If0, values, out)?;
-    places.push(branch)?;
-    places.push(branch)?;
+    progress.places.push(branch)?;
+    progress.places.push(branch)?;
     Ok(())
 }
 
@@ -393,14 +384,13 @@ fn halt(
     alloc: Global,
     run: Run,
     place: Place,
-    names: &[Name],
-    places: &[Place],
+    progress: &Progress,
     out: &mut Vec<ANode>,
 ) -> Result<(), OutOfMemory>
-    requires names { length names.now ≡ place.names }
-    requires bound { Under place.binders names.now }
-    ensures { OnOk result (Steps place H.Halt run.values.items run.types.items run.depth names.now names.now
-        places.now places.now out.old.items out.new.items) }
+    requires names { length progress.now.names.items ≡ place.names }
+    requires bound { Under place.binders progress.now.names.items }
+    ensures { OnOk result (Steps place H.Halt run.values.items run.types.items run.depth progress.now.names.items
+        progress.now.names.items progress.now.places.items progress.now.places.items out.old.items out.new.items) }
 {
     let values = under_all(alloc, run.values, run.depth)?;
     end(AForm::Halt, values, out)?;
@@ -413,26 +403,25 @@ fn form(
     form: &HForm,
     run: Run,
     place: Place,
-    names: &mut Vec<Name>,
-    places: &mut Vec<Place>,
+    progress: &mut Progress,
     out: &mut Vec<ANode>,
 ) -> Result<(), OutOfMemory>
-    requires names { length names.old.items ≡ place.names }
-    requires bound { Under place.binders names.old.items }
-    ensures { OnOk result (Steps place form.now run.values.items run.types.items run.depth names.old.items
-        names.new.items places.old.items places.new.items out.old.items out.new.items) }
+    requires names { length progress.old.names.items ≡ place.names }
+    requires bound { Under place.binders progress.old.names.items }
+    ensures { OnOk result (Steps place form.now run.values.items run.types.items run.depth progress.old.names.items
+        progress.new.names.items progress.old.places.items progress.new.places.items out.old.items out.new.items) }
 {
     match form {
-        HForm::Name => Ok(name(alloc, run, place, names, places, out)?),
-        HForm::Proj(i) => Ok(project(alloc, *i, run, place, names, places, out)?),
-        HForm::Arith(op) => Ok(operate(alloc, *op, run, place, names, places, out)?),
-        HForm::Unpack => Ok(unpack(alloc, run, place, names, places, out)?),
-        HForm::Cell => Ok(cell(alloc, run, place, names, places, out)?),
-        HForm::Get => Ok(project(alloc, 1, run, place, names, places, out)?),
-        HForm::Set => Ok(set(alloc, run, place, names, places, out)?),
-        HForm::Call(types) => Ok(call(alloc, types, run, place, names, places, out)?),
-        HForm::If0 => Ok(choose(alloc, run, place, names, places, out)?),
-        HForm::Halt => Ok(halt(alloc, run, place, names, places, out)?),
+        HForm::Name => Ok(name(alloc, run, place, progress, out)?),
+        HForm::Proj(i) => Ok(project(alloc, *i, run, place, progress, out)?),
+        HForm::Arith(op) => Ok(operate(alloc, *op, run, place, progress, out)?),
+        HForm::Unpack => Ok(unpack(alloc, run, place, progress, out)?),
+        HForm::Cell => Ok(cell(alloc, run, place, progress, out)?),
+        HForm::Get => Ok(project(alloc, 1, run, place, progress, out)?),
+        HForm::Set => Ok(set(alloc, run, place, progress, out)?),
+        HForm::Call(types) => Ok(call(alloc, types, run, place, progress, out)?),
+        HForm::If0 => Ok(choose(alloc, run, place, progress, out)?),
+        HForm::Halt => Ok(halt(alloc, run, place, progress, out)?),
     }
 }
 
@@ -441,28 +430,27 @@ pub(crate) fn step(
     blocks: &[HBlock],
     node: &HNode,
     place: Place,
-    names: &mut Vec<Name>,
-    places: &mut Vec<Place>,
+    progress: &mut Progress,
     tuples: &mut Vec<AData>,
     out: &mut Vec<ANode>,
 ) -> Result<(), OutOfMemory>
     requires arity { HArity node.now.form (h.values node.now) }
-    requires names { length names.old.items ≡ place.names }
-    requires bound { Under place.binders names.old.items }
+    requires names { length progress.old.names.items ≡ place.names }
+    requires bound { Under place.binders progress.old.names.items }
     ensures { OnOk result (Stepped (h_blocks blocks.now) place node.now.form
-        (h.values node.now) names.old.items names.new.items places.old.items places.new.items out.old.items
-        out.new.items tuples.old.items tuples.new.items) }
+        (h.values node.now) progress.old.names.items progress.new.names.items progress.old.places.items
+        progress.new.places.items out.old.items out.new.items tuples.old.items tuples.new.items) }
 {
     let run = read(
         alloc,
         blocks,
-        names,
+        &progress.names,
         place.binders,
         &node.values,
         place.depth,
         tuples,
         out,
     )?;
-    form(alloc, &node.form, run, place, names, places, out)?;
+    form(alloc, &node.form, run, place, progress, out)?;
     Ok(())
 }

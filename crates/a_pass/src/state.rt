@@ -22,6 +22,13 @@ pub struct Place {
     pub binders: u64,
 }
 
+/// How far the walk over a term has come: the names so far, and the places that are still to come, the next one last.
+#[derive(Drop)]
+pub struct Progress {
+    pub names: Vec<Name>,
+    pub places: Vec<Place>,
+}
+
 /// The type of a value: its own, or that of a name, 0 the innermost. A name's type is copied only where it is needed,
 /// and a projection copies one field of it.
 #[derive(Drop)]

@@ -9,7 +9,7 @@ ghost use Rattle.a_law.specs.Allocate.{alloc_t, arg_levels, arg_depth, atypes, d
 ghost use Rattle.a_pass.specs.Scope.{knowns, scope, Under};
 
 use crate::nodes::step;
-use crate::state::{Name, Place};
+use crate::state::{Name, Place, Progress};
 use crate::types::a_type;
 use a_terms::{AData, ANode};
 use c_terms::CType;
@@ -34,7 +34,6 @@ fn walk(
         (knowns names.items) (length tuples.old.items) depth (h_tree nodes.now)) }
     ensures one { IfOk result (λ r. ARow r.items 1) }
 {
-    let mut names = names;
     let mut out = Vec::new(alloc);
     let mut places = Vec::new(alloc);
     places.push(Place {
@@ -42,21 +41,13 @@ fn walk(
         names: names.len(),
         binders: 0,
     })?;
+    let mut progress = Progress { names, places };
     for node in nodes {
-        let Some(place) = places.pop() else {
+        let Some(place) = progress.places.pop() else {
             unreachable!()
         };
-        names.truncate(place.names);
-        step(
-            alloc,
-            blocks,
-            node,
-            place,
-            &mut names,
-            &mut places,
-            tuples,
-            &mut out,
-        )?;
+        progress.names.truncate(place.names);
+        step(alloc, blocks, node, place, &mut progress, tuples, &mut out)?;
     }
     Ok(out)
 }

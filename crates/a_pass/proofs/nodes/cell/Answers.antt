@@ -6,6 +6,6 @@ use Rattle.a_pass.proofs.nodes.cell.Goals as goal
 
 pub returns : goal.returns
 returns c =
-    cell_stepped c.args.names.now.items _ c.args.place c.args.places.now.items _ c.args.out.now.items _ c.args.run.values.items c.in_ok-values.values.items c.args.run.types.items c.args.run.depth c.requires.names c.requires.bound _ c.in_ok-newest.newest c.in_ok-ty.ty c.in_ok-whole.whole c.only_value.result c.in_ok-newest.ensures
+    cell_stepped c.args.progress.now.names.items _ c.args.place c.args.progress.now.places.items _ c.args.out.now.items _ c.args.run.values.items c.in_ok-values.values.items c.args.run.types.items c.args.run.depth c.requires.names c.requires.bound _ c.in_ok-newest.newest c.in_ok-ty.ty c.in_ok-whole.whole c.only_value.result c.in_ok-newest.ensures
     (λ t h. c.in_ok-ty.ensures ∙ ap (λ (xs : List Name). type_of (scope c.args.place.binders xs) c.only.result.ty) c.deref.ensures.value ∙ c.only.ensures.ty _ t h)
     c.in_ok-whole.ensures.ty c.in_ok-whole.ensures.emits c.only_value.ensures c.in_ok-values.ensures c.in_ok-declare.ensures

@@ -3,8 +3,8 @@ use Rattle.a_pass.proofs.nodes.declare.Goals as goal
 
 pub returns : goal.returns
 returns c = record {
-  name = record { level = c.args.depth; ty = c.args.ty; under = c.args.binders; constant = c.args.constant };
-  place = record { depth = c.in_ok-next.next; names = c.len.result; binders = c.args.binders };
+  name = c.args.name;
+  place = record { depth = c.in_ok-next.next; names = c.len-names.result; binders = c.args.name.under };
   node = record { form = c.args.form; values = c.args.values };
   names = c.in_ok-push-2.ensures.items;
   places = c.in_ok-push-3.ensures.items;

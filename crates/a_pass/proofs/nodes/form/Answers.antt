@@ -1,5 +1,5 @@
 use Rattle.std.proofs.Common.{sym, refl}
-use Rattle.a_pass.proofs.Stepping.{steps_for, steps_kept, steps_named}
+use Rattle.a_pass.proofs.Stepping.{steps_for}
 use Rattle.a_pass.proofs.nodes.form.Goals as goal
 
 pub returns-in_ok-name-in-Name : goal.returns-in_ok-name-in-Name
@@ -24,10 +24,10 @@ pub returns-in_ok-set-in-Set : goal.returns-in_ok-set-in-Set
 returns-in_ok-set-in-Set c = steps_for _ _ _ _ _ _ _ _ _ _ _ _ (sym c.in-Set.is) c.in_ok-set-in-Set.ensures
 
 pub returns-in_ok-call-in-Call : goal.returns-in_ok-call-in-Call
-returns-in_ok-call-in-Call c = steps_for _ _ _ _ _ _ _ _ _ _ _ _ (sym c.in-Call.is) (steps_kept _ _ _ _ _ _ _ _ _ _ _ c.deref.ensures.value c.deref-in-Call.ensures.value c.in_ok-call-in-Call.ensures)
+returns-in_ok-call-in-Call c = steps_for _ _ _ _ _ _ _ _ _ _ _ _ (sym c.in-Call.is) c.in_ok-call-in-Call.ensures
 
 pub returns-in_ok-choose-in-If0 : goal.returns-in_ok-choose-in-If0
-returns-in_ok-choose-in-If0 c = steps_for _ _ _ _ _ _ _ _ _ _ _ _ (sym c.in-If0.is) (steps_named _ _ _ _ _ _ _ _ _ _ _ c.deref-in-If0.ensures.value c.in_ok-choose-in-If0.ensures)
+returns-in_ok-choose-in-If0 c = steps_for _ _ _ _ _ _ _ _ _ _ _ _ (sym c.in-If0.is) c.in_ok-choose-in-If0.ensures
 
 pub returns-in_ok-halt-in-Halt : goal.returns-in_ok-halt-in-Halt
-returns-in_ok-halt-in-Halt c = steps_for _ _ _ _ _ _ _ _ _ _ _ _ (sym c.in-Halt.is) (steps_kept _ _ _ _ _ _ _ _ _ _ _ c.deref-in-Halt.ensures.value c.deref-in-Halt-2.ensures.value c.in_ok-halt-in-Halt.ensures)
+returns-in_ok-halt-in-Halt c = steps_for _ _ _ _ _ _ _ _ _ _ _ _ (sym c.in-Halt.is) c.in_ok-halt-in-Halt.ensures

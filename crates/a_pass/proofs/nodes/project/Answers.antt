@@ -7,10 +7,10 @@ use Rattle.a_pass.proofs.nodes.project.Goals as goal
 
 pub returns-clause-field : goal.returns-clause-field
 returns-clause-field c =
-    proj_stepped c.args.names.now.items _ c.args.place c.args.places.now.items _ c.args.out.now.items _ c.args.run.values.items c.in_ok-values.values.items c.args.run.types.items c.args.run.depth c.requires.names c.requires.bound c.in_ok-values.ensures c.args.i c.in_ok-ty.ty c.in_ok-declare.ensures
+    proj_stepped c.args.progress.now.names.items _ c.args.place c.args.progress.now.places.items _ c.args.out.now.items _ c.args.run.values.items c.in_ok-values.values.items c.args.run.types.items c.args.run.depth c.requires.names c.requires.bound c.in_ok-values.ensures c.args.i c.in_ok-ty.ty c.in_ok-declare.ensures
     (λ t h. c.in_ok-ty.ensures ∙ ap (λ (xs : List Name). field_of c.args.i (Some (type_of (scope c.args.place.binders xs) c.only.result.ty))) c.deref.ensures.value ∙ ap (λ x. field_of c.args.i (Some x)) (c.only.ensures.ty _ t h))
 
 pub returns-clause-cell : goal.returns-clause-cell
 returns-clause-cell c = λ one.
-    get_stepped c.args.names.now.items _ c.args.place c.args.places.now.items _ c.args.out.now.items _ c.args.run.values.items c.in_ok-values.values.items c.args.run.types.items c.args.run.depth c.requires.names c.requires.bound c.in_ok-values.ensures c.args.i c.in_ok-ty.ty one c.in_ok-declare.ensures
+    get_stepped c.args.progress.now.names.items _ c.args.place c.args.progress.now.places.items _ c.args.out.now.items _ c.args.run.values.items c.in_ok-values.values.items c.args.run.types.items c.args.run.depth c.requires.names c.requires.bound c.in_ok-values.ensures c.args.i c.in_ok-ty.ty one c.in_ok-declare.ensures
     (λ t h. c.in_ok-ty.ensures ∙ ap (λ (xs : List Name). field_of c.args.i (Some (type_of (scope c.args.place.binders xs) c.only.result.ty))) c.deref.ensures.value ∙ ap (λ x. field_of c.args.i (Some x)) (c.only.ensures.ty _ t h))

@@ -9,6 +9,6 @@ use Rattle.a_pass.proofs.nodes.set.Goals as goal
 
 pub returns : goal.returns
 returns c =
-    set_stepped c.args.names.now.items _ c.args.place c.args.places.now.items _ c.args.out.now.items _ c.args.run.values.items c.new-empty.result.items c.args.run.types.items c.args.run.depth c.requires.names c.requires.bound _ c.in_ok-next.next c.new-room.result c.in_ok-none.none c.in_ok-next.ensures.next
+    set_stepped c.args.progress.now.names.items _ c.args.place c.args.progress.now.places.items _ c.args.out.now.items _ c.args.run.values.items c.new-empty.result.items c.args.run.types.items c.args.run.depth c.requires.names c.requires.bound _ c.in_ok-next.next c.new-room.result c.in_ok-none.none c.in_ok-next.ensures.next
     (ap atrees c.new-room.ensures.items) (c.in_ok-none.ensures ∙ ap (λ (xs : List AType). a.ATuple (aset (atrees xs))) (c.deref.ensures.value ∙ c.new-room.ensures.items))
     c.in_ok-next.ensures.emits (ap (map a_value) c.new-empty.ensures.items) c.in_ok-declare.ensures

@@ -26,7 +26,7 @@ loop-node-preserved c =
 pub unreachable-requires : goal.unreachable-requires
 unreachable-requires c =
     let is = next_node c.args.nodes.now c.loop-node.node-index c.node-item.result c.loop-node-test.true c.node-item.is in
-    let none : length c.loop-node.places.items ≡ 0 = search rules in
+    let none : length c.loop-node.progress.places.items ≡ 0 = search rules in
     walk_stuck _ _ _ _ _ _ _ _ _ _ is none c.loop-node.invariant
 
 pub returns-clause-tree : goal.returns-clause-tree

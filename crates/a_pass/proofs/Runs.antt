@@ -19,12 +19,12 @@ reads_push : (vs : List HVal) (ps : List HPart) (p : HPart) → reads vs (ps ++ 
 reads_push vs [] p = refl
 reads_push vs (q ∷ ps) p = reads_push (more q vs) ps p
 
-pub made_none : (ks : HBlks) (g : List a.ATy) (ls : List Known) (d : ℕ) (vs : List AValue) (ts : List Seen) (now : List ANode) (tuples : List AData) → vs ≡ [] → ts ≡ [] → Made ks g ls (length tuples) d [] now tuples vs ts d now tuples
-made_none ks g ls d vs ts now tuples v t = record {
+pub made_none : (ks : HBlks) (g : List a.ATy) (ls : List Known) (d m : ℕ) (vs : List AValue) (ts : List Seen) (now : List ANode) (tuples : List AData) → vs ≡ [] → ts ≡ [] → m ≡ d → Made ks g ls (length tuples) d [] now tuples vs ts m now tuples
+made_none ks g ls d m vs ts now tuples v t deep = record {
   values = λ e. ap (map (value_at e)) v;
   types = ap (map _) t;
   consts = ap (map _) t;
-  depth = refl;
+  depth = deep;
   number = refl;
   emits = emits_none now;
   keeps = sym (append-nil (a_data tuples));

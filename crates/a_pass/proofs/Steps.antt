@@ -529,3 +529,7 @@ reads_leaf ks g ls v vs wnew ts unew m now tuples x t w u same number nothing no
 
 pub reads_for : (ks : HBlks) (g : List a.ATy) (ls : List Known) (p q : HPart) (vs wnew : List AValue) (ts unew : List Seen) (m k : ℕ) (now new : List ANode) (tuples more2 : List AData) → p ≡ q → Reads ks g ls (more p) vs ts m now tuples wnew unew k new more2 → Reads ks g ls (more q) vs ts m now tuples wnew unew k new more2
 reads_for ks g ls p q vs wnew ts unew m k now new tuples more2 e h = subst (λ r. Reads ks g ls (more r) vs ts m now tuples wnew unew k new more2) e h
+
+-- how many variables there are then, said otherwise
+pub reads_deep : (ks : HBlks) (g : List a.ATy) (ls : List Known) (f : List HVal → List HVal) (vs ws : List AValue) (ts us : List Seen) (m k j : ℕ) (now new : List ANode) (tuples more2 : List AData) → k ≡ j → Reads ks g ls f vs ts m now tuples ws us k new more2 → Reads ks g ls f vs ts m now tuples ws us j new more2
+reads_deep ks g ls f vs ws ts us m k j now new tuples more2 e h = subst (λ i. Reads ks g ls f vs ts m now tuples ws us i new more2) e h

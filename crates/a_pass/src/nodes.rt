@@ -13,9 +13,9 @@ ghost use Rattle.a_pass.specs.Emits.{Emits, Declares, Ends, Stepped, Steps};
 
 use crate::constants::constant_value;
 use crate::emit::{after, content, malloc, under_all};
-use crate::run::{Run, read};
+use crate::run::read;
 use crate::scope::{body_in, field_in, own};
-use crate::state::{ConstantOf, Name, Place, Progress, Seen, TypeOf};
+use crate::state::{Around, ConstantOf, Name, Place, Progress, Run, Seen, TypeOf};
 use crate::types::a_types;
 use a_terms::parts::set_tuple;
 use a_terms::{ABase, AData, AForm, ANode, AType, AValue};
@@ -441,16 +441,12 @@ pub(crate) fn step(
         (h.values node.now) progress.old.names.items progress.new.names.items progress.old.places.items
         progress.new.places.items out.old.items out.new.items tuples.old.items tuples.new.items) }
 {
-    let run = read(
-        alloc,
+    let around = Around {
         blocks,
-        &progress.names,
-        place.binders,
-        &node.values,
-        place.depth,
-        tuples,
-        out,
-    )?;
+        names: &progress.names,
+        binders: place.binders,
+    };
+    let run = read(alloc, &around, &node.values, place.depth, tuples, out)?;
     form(alloc, &node.form, run, place, progress, out)?;
     Ok(())
 }

@@ -16,36 +16,37 @@ ghost use Rattle.a_pass.specs.Emits.{Emits, Reads, inits};
 use crate::constants::{all_constants, applied_constant, constant_tuple, packed_constant};
 use crate::emit::{after, fill, malloc};
 use crate::scope::{int_leaf, label, own, own_all, plain, variable_leaf};
-use crate::state::{ConstantOf, Leaf, Name, Seen, TypeOf};
+use crate::state::{Around, ConstantOf, Leaf, Name, Run, Seen, TypeOf};
 use crate::types::{a_type, a_types};
 use a_terms::parts::{apply_all, known, set_tuple};
 use a_terms::{ABase, AData, ANode, AType, AValue, AWrap};
 use c_terms::CType;
-use h_terms::{HBlock, HPart};
+use h_terms::HPart;
 use idx_core::OutOfMemory;
 use std::alloc::Global;
 
-fn push_leaf(leaf: Leaf, values: &mut Vec<AValue>, types: &mut Vec<Seen>) -> Result<(), OutOfMemory>
-    ensures values { OnOk result (values.new.items ≡ values.old.items ++ leaf.value ∷ []) }
-    ensures types { OnOk result (types.new.items ≡ types.old.items ++ leaf.seen ∷ []) }
+fn push_leaf(run: Run, leaf: Leaf) -> Result<Run, OutOfMemory>
+    ensures values { IfOk result (λ r. r.values.items ≡ run.values.items ++ leaf.value ∷ []) }
+    ensures types { IfOk result (λ r. r.types.items ≡ run.types.items ++ leaf.seen ∷ []) }
+    ensures depth { IfOk result (λ r. r.depth ≡ run.depth) }
 {
-    let Leaf { value, seen } = leaf;
-    values.push(value)?;
-    types.push(seen)?;
-    Ok(())
+    let mut run = run;
+    run.values.push(leaf.value)?;
+    run.types.push(leaf.seen)?;
+    Ok(run)
 }
 
-fn pop_leaf(values: &mut Vec<AValue>, types: &mut Vec<Seen>) -> Option<Leaf>
-    requires even { length types.old.items ≡ length values.old.items }
-    ensures values { MatchOption result ((values.old.items ≡ []) × (values.new.items ≡ []))
-        (λ l. values.old.items ≡ values.new.items ++ l.value ∷ []) }
-    ensures types { MatchOption result ((types.old.items ≡ []) × (types.new.items ≡ []))
-        (λ l. types.old.items ≡ types.new.items ++ l.seen ∷ []) }
+fn pop_leaf(run: &mut Run) -> Option<Leaf>
+    ensures values { MatchOption result ((run.old.values.items ≡ []) × (run.new.values.items ≡ []))
+        (λ l. run.old.values.items ≡ run.new.values.items ++ l.value ∷ []) }
+    ensures types { MatchOption result ((run.old.types.items ≡ []) × (run.new.types.items ≡ []))
+        (λ l. run.old.types.items ≡ run.new.types.items ++ l.seen ∷ []) }
+    ensures depth { run.new.depth ≡ run.old.depth }
 {
-    let Some(value) = values.pop() else {
+    let Some(value) = run.values.pop() else {
         return None;
     };
-    let Some(seen) = types.pop() else {
+    let Some(seen) = run.types.pop() else {
         unreachable!()
     };
     Some(Leaf { value, seen })
@@ -69,23 +70,18 @@ fn applied(alloc: Global, code: AType, ts: &[AType]) -> Result<AType, OutOfMemor
     Ok(known(made))
 }
 
-fn apply_leaf(
-    alloc: Global,
-    names: &[Name],
-    binders: u64,
-    ts: &[CType],
-    leaf: Leaf,
-) -> Result<Leaf, OutOfMemory>
+fn apply_leaf(alloc: Global, around: &Around, ts: &[CType], leaf: Leaf) -> Result<Leaf, OutOfMemory>
     ensures value { IfOk result (λ r. (d : ℕ) →
         value_at d r.value ≡ a.Apply (value_at d leaf.value) (atypes (ctys ts.now))) }
     ensures ty { IfOk result (λ r. (g : List a.ATy) →
-        type_in g r.seen ≡ or_int (aapply (type_in (scope binders names.now) leaf.seen) (atypes (ctys ts.now)))) }
+        let code = type_in (scope around.now.binders around.now.names.now) leaf.seen in
+        type_in g r.seen ≡ or_int (aapply code (atypes (ctys ts.now)))) }
     ensures constant { IfOk result (λ r. (ls : List Known) →
         constant_in ls r.seen ≡ of_apply (atypes (ctys ts.now)) (value_at 0 leaf.value)) }
 {
     let Leaf { value, seen } = leaf;
     let args = a_types(alloc, ts)?;
-    let code = own(alloc, names, binders, seen.ty)?;
+    let code = own(alloc, around.names, around.binders, seen.ty)?;
     let ty = applied(alloc, code, &args)?;
     let constant = applied_constant(alloc, &value, &args)?;
     let value = wrap(value, AWrap::Apply(args))?;
@@ -97,27 +93,18 @@ fn apply_leaf(
 }
 
 // The newest value is applied to types.
-fn apply(
-    alloc: Global,
-    names: &[Name],
-    binders: u64,
-    ts: &[CType],
-    values: &mut Vec<AValue>,
-    types: &mut Vec<Seen>,
-) -> Result<(), OutOfMemory>
-    requires even { length types.old.items ≡ length values.old.items }
-    ensures even { OnOk result (length types.new.items ≡ length values.new.items) }
-    ensures made { OnOk result ((ks : HBlks) (ls : List Known) (m : ℕ) (out : List ANode) (tuples : List AData) →
-        Reads ks (scope binders names.now) ls
-        (at_last (λ v. HApply v
-        (ctys ts.now))) values.old.items types.old.items m out tuples values.new.items types.new.items m out tuples) }
+fn apply(alloc: Global, around: &Around, ts: &[CType], run: Run) -> Result<Run, OutOfMemory>
+    ensures { IfOk result (λ r. (ks : HBlks) (ls : List Known) (out : List ANode) (tuples : List AData) →
+        Reads ks (scope around.now.binders around.now.names.now) ls (at_last (λ v. HApply v (ctys ts.now)))
+        run.values.items run.types.items run.depth out tuples r.values.items r.types.items r.depth out tuples) }
 {
-    let Some(leaf) = pop_leaf(values, types) else {
-        return Ok(());
+    let mut run = run;
+    let Some(leaf) = pop_leaf(&mut run) else {
+        return Ok(run);
     };
-    let made = apply_leaf(alloc, names, binders, ts, leaf)?;
-    push_leaf(made, values, types)?;
-    Ok(())
+    let leaf = apply_leaf(alloc, around, ts, leaf)?;
+    let made = push_leaf(run, leaf)?;
+    Ok(made)
 }
 
 fn pack_leaf(
@@ -152,45 +139,40 @@ fn pack(
     names: &[Name],
     hidden: &CType,
     shape: &CType,
-    values: &mut Vec<AValue>,
-    types: &mut Vec<Seen>,
-) -> Result<(), OutOfMemory>
-    requires even { length types.old.items ≡ length values.old.items }
-    ensures even { OnOk result (length types.new.items ≡ length values.new.items) }
-    ensures made { OnOk result ((ks : HBlks) (g : List a.ATy) (m : ℕ) (out : List ANode) (tuples : List AData) →
-        Reads ks g (knowns names.now) (at_last
-        (λ v. HPack (ctree hidden.now) v
-        (ctree shape.now))) values.old.items types.old.items m out tuples values.new.items types.new.items m out
-        tuples) }
+    run: Run,
+) -> Result<Run, OutOfMemory>
+    ensures { IfOk result (λ r. (ks : HBlks) (g : List a.ATy) (out : List ANode) (tuples : List AData) →
+        Reads ks g (knowns names.now) (at_last (λ v. HPack (ctree hidden.now) v (ctree shape.now)))
+        run.values.items run.types.items run.depth out tuples r.values.items r.types.items r.depth out tuples) }
 {
-    let Some(leaf) = pop_leaf(values, types) else {
-        return Ok(());
+    let mut run = run;
+    let Some(leaf) = pop_leaf(&mut run) else {
+        return Ok(run);
     };
-    let made = pack_leaf(alloc, names, hidden, shape, leaf)?;
-    push_leaf(made, values, types)?;
-    Ok(())
+    let leaf = pack_leaf(alloc, names, hidden, shape, leaf)?;
+    let made = push_leaf(run, leaf)?;
+    Ok(made)
 }
 
 // A tuple of this level that is made and filled, and what is known of it.
 fn made_tuple(
     alloc: Global,
-    names: &[Name],
-    binders: u64,
+    around: &Around,
     fields: Vec<AValue>,
     seen: Vec<Seen>,
     depth: u64,
     out: &mut Vec<ANode>,
 ) -> Result<(Leaf, u64), OutOfMemory>
     ensures emits { OnOk result ((room : a.ATys) →
-        types_in (scope binders names.now) seen.items ≡ room → Emits out.old.items out.new.items
+        types_in (scope around.now.binders around.now.names.now) seen.items ≡ room → Emits out.old.items out.new.items
         (λ r. a.Let (a.Malloc room) (inits depth 1 fields.items r))) }
     ensures level { IfOk result (λ r. r.1 ≡ depth + length fields.items) }
     ensures value { IfOk result (λ r. (e : ℕ) → value_at e r.0.value ≡ a.Var (e - suc r.1)) }
     ensures ty { IfOk result (λ r. (g : List a.ATy) →
-        type_in g r.0.seen ≡ a.ATuple (aset (types_in (scope binders names.now) seen.items))) }
+        type_in g r.0.seen ≡ a.ATuple (aset (types_in (scope around.now.binders around.now.names.now) seen.items))) }
     ensures constant { IfOk result (λ r. (ls : List Known) → constant_in ls r.0.seen ≡ None) }
 {
-    let room = own_all(alloc, names, binders, seen)?;
+    let room = own_all(alloc, around.names, around.binders, seen)?;
     let ty = set_tuple(alloc, &room)?;
     malloc(alloc, room, out)?;
     let level = fill(alloc, fields, depth, out)?;
@@ -205,78 +187,69 @@ fn made_tuple(
 // The newest n values become a tuple: a data tuple where all are constants.
 fn tuple(
     alloc: Global,
-    names: &[Name],
-    binders: u64,
+    around: &Around,
     n: u64,
-    depth: u64,
-    values: &mut Vec<AValue>,
-    types: &mut Vec<Seen>,
+    run: Run,
     tuples: &mut Vec<AData>,
     out: &mut Vec<ANode>,
-) -> Result<u64, OutOfMemory>
-    requires even { length types.old.items ≡ length values.old.items }
-    ensures even { OnOk result (length types.new.items ≡ length values.new.items) }
-    ensures made { IfOk result (λ m. (ks : HBlks) →
-        Reads ks (scope binders names.now) (knowns names.now)
-        (tupled n) values.old.items types.old.items depth out.old.items tuples.old.items values.new.items
-        types.new.items m out.new.items tuples.new.items) }
+) -> Result<Run, OutOfMemory>
+    ensures { IfOk result (λ r. (ks : HBlks) →
+        Reads ks (scope around.now.binders around.now.names.now) (knowns around.now.names.now) (tupled n)
+        run.values.items run.types.items run.depth out.old.items tuples.old.items r.values.items r.types.items
+        r.depth out.new.items tuples.new.items) }
 {
-    let count = values.len();
+    let mut run = run;
+    let count = run.values.len();
     let start = count.saturating_sub(n as usize);
-    let fields = values.split_off(start)?;
-    let seen = types.split_off(start)?;
-    if all_constants(names, &seen) {
-        let leaf = constant_tuple(alloc, names, binders, seen, tuples)?;
-        push_leaf(leaf, values, types)?;
-        return Ok(depth);
+    let fields = run.values.split_off(start)?;
+    let seen = run.types.split_off(start)?;
+    if all_constants(around.names, &seen) {
+        let leaf = constant_tuple(alloc, around.names, around.binders, seen, tuples)?;
+        let made = push_leaf(run, leaf)?;
+        return Ok(made);
     }
-    let made = made_tuple(alloc, names, binders, fields, seen, depth, out)?;
-    push_leaf(made.0, values, types)?;
-    let depth = after(made.1)?;
-    Ok(depth)
+    let built = made_tuple(alloc, around, fields, seen, run.depth, out)?;
+    run.depth = after(built.1)?;
+    let made = push_leaf(run, built.0)?;
+    Ok(made)
 }
 
 // One more part.
 pub(crate) fn part(
     alloc: Global,
-    blocks: &[HBlock],
-    names: &[Name],
-    binders: u64,
+    around: &Around,
     part: &HPart,
-    depth: u64,
-    values: &mut Vec<AValue>,
-    types: &mut Vec<Seen>,
+    run: Run,
     tuples: &mut Vec<AData>,
     out: &mut Vec<ANode>,
-) -> Result<u64, OutOfMemory>
-    requires even { length types.old.items ≡ length values.old.items }
-    ensures even { OnOk result (length types.new.items ≡ length values.new.items) }
-    ensures made { IfOk result (λ m. Reads (h_blocks blocks.now) (scope binders names.now) (knowns names.now)
-        (more part.now) values.old.items types.old.items depth out.old.items tuples.old.items values.new.items
-        types.new.items m out.new.items tuples.new.items) }
+) -> Result<Run, OutOfMemory>
+    ensures { IfOk result (λ r. Reads (h_blocks around.now.blocks.now)
+        (scope around.now.binders around.now.names.now) (knowns around.now.names.now) (more part.now)
+        run.values.items run.types.items run.depth out.old.items tuples.old.items r.values.items r.types.items
+        r.depth out.new.items tuples.new.items) }
 {
     match part {
         HPart::Var(i) => {
-            push_leaf(variable_leaf(alloc, names, *i), values, types)?;
-            Ok(depth)
+            let made = push_leaf(run, variable_leaf(alloc, around.names, *i))?;
+            Ok(made)
         }
         HPart::Int(n) => {
-            push_leaf(int_leaf(alloc, *n), values, types)?;
-            Ok(depth)
+            let made = push_leaf(run, int_leaf(alloc, *n))?;
+            Ok(made)
         }
         HPart::Label(l) => {
-            let leaf = label(alloc, blocks, *l)?;
-            push_leaf(leaf, values, types)?;
-            Ok(depth)
+            let leaf = label(alloc, around.blocks, *l)?;
+            let made = push_leaf(run, leaf)?;
+            Ok(made)
         }
-        HPart::Tuple(n) => tuple(alloc, names, binders, *n, depth, values, types, tuples, out),
+        HPart::Tuple(n) => tuple(alloc, around, *n, run, tuples, out),
         HPart::Apply(ts) => {
-            apply(alloc, names, binders, ts, values, types)?;
-            Ok(depth)
+            let made = apply(alloc, around, ts, run)?;
+            Ok(made)
         }
         HPart::Pack { hidden, shape } => {
-            pack(alloc, names, hidden, shape, values, types)?;
-            Ok(depth)
+            let made = pack(alloc, around.names, hidden, shape, run)?;
+            Ok(made)
         }
     }
 }

@@ -5,56 +5,42 @@ ghost use Rattle.a_pass.specs.Scope.{knowns, scope};
 ghost use Rattle.a_pass.specs.Emits.{Made};
 
 use crate::parts::part;
-use crate::state::{Name, Seen};
-use a_terms::{AData, ANode, AValue};
-use h_terms::{HBlock, HPart};
+use crate::state::{Around, Run};
+use a_terms::{AData, ANode};
+use h_terms::HPart;
 use idx_core::OutOfMemory;
 use std::alloc::Global;
 
-/// Values that were read, their variables by level, what is known of them, and how many variables there are then.
-#[derive(Drop)]
-pub struct Run {
-    pub values: Vec<AValue>,
-    pub types: Vec<Seen>,
-    pub depth: u64,
+// No values yet, where there are so many variables.
+fn none_read(alloc: Global, depth: u64) -> Run
+    ensures values { result.values.items ≡ [] }
+    ensures types { result.types.items ≡ [] }
+    ensures depth { result.depth ≡ depth }
+{
+    Run {
+        values: Vec::new(alloc),
+        types: Vec::new(alloc),
+        depth,
+    }
 }
 
-// The values of a node; what makes their tuples is written before.
+// The values of a node, where there are so many variables before; what makes their tuples is written before.
 pub(crate) fn read(
     alloc: Global,
-    blocks: &[HBlock],
-    names: &[Name],
-    binders: u64,
+    around: &Around,
     parts: &[HPart],
-    start: u64,
+    depth: u64,
     tuples: &mut Vec<AData>,
     out: &mut Vec<ANode>,
 ) -> Result<Run, OutOfMemory>
-    ensures { IfOk result (λ r. Made (h_blocks blocks.now) (scope binders names.now) (knowns names.now)
-        (length tuples.old.items) start
+    ensures { IfOk result (λ r. Made (h_blocks around.now.blocks.now)
+        (scope around.now.binders around.now.names.now) (knowns around.now.names.now) (length tuples.old.items) depth
         (reads [] parts.now) out.old.items tuples.old.items r.values.items r.types.items r.depth out.new.items
         tuples.new.items) }
 {
-    let mut values = Vec::new(alloc);
-    let mut types = Vec::new(alloc);
-    let mut depth = start;
+    let mut run = none_read(alloc, depth);
     for one in parts {
-        depth = part(
-            alloc,
-            blocks,
-            names,
-            binders,
-            one,
-            depth,
-            &mut values,
-            &mut types,
-            tuples,
-            out,
-        )?;
+        run = part(alloc, around, one, run, tuples, out)?;
     }
-    Ok(Run {
-        values,
-        types,
-        depth,
-    })
+    Ok(run)
 }

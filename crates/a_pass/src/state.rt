@@ -1,6 +1,8 @@
 // What allocation keeps while it walks over a term.
+ghost use Rattle.std.specs.Prelude.{◌≡◌, length};
 
 use a_terms::{AType, AValue};
+use h_terms::HBlock;
 
 /// A name of the hoisted term: the level of its variable in the allocated one, its type as allocation leaves it, how
 /// many type names there were when that type was read, and the value of the constant that it names, if it names one.
@@ -57,4 +59,22 @@ pub struct Seen {
 pub struct Leaf {
     pub value: AValue,
     pub seen: Seen,
+}
+
+/// Values that were read, their variables by level, what is known of each, and how many variables there are then.
+#[derive(Drop)]
+pub struct Run {
+    pub values: Vec<AValue>,
+    pub types: Vec<Seen>,
+    pub depth: u64,
+    ghost even: { length types.items ≡ length values.items },
+}
+
+/// What is around a value that is read: the blocks that its labels name, the names of its term, and how many type
+/// names there are.
+#[derive(Clone, Copy, Drop)]
+pub struct Around<'a> {
+    pub blocks: &'a [HBlock],
+    pub names: &'a [Name],
+    pub binders: u64,
 }

@@ -10,7 +10,7 @@ use Rattle.a_pass.proofs.parts.made_tuple.Goals as goal
 
 pub returns-clause-emits : goal.returns-clause-emits
 returns-clause-emits c = λ room is.
-    let same = types_same (scope c.args.binders c.args.names.now) c.in_ok-room.room.items c.args.seen.items c.in_ok-room.ensures ∙ is in
+    let same = types_same (scope c.args.around.now.binders c.args.around.now.names.now) c.in_ok-room.room.items c.args.seen.items c.in_ok-room.ensures ∙ is in
     emits_same _ _ _ _ (λ r. ap (λ ts. a.Let (a.Malloc ts) (inits c.args.depth 1 c.args.fields.items r)) same) (emits_then _ _ _ _ _ c.in_ok-malloc.ensures c.in_ok-level.ensures.emits)
 
 pub returns-clause-level : goal.returns-clause-level
@@ -20,4 +20,4 @@ pub returns-clause-value : goal.returns-clause-value
 returns-clause-value c = c.plain-value.ensures.value
 
 pub returns-clause-ty : goal.returns-clause-ty
-returns-clause-ty c = λ g. c.in_ok-ty.ensures ∙ ap (λ ts. a.ATuple (aset ts)) (ap atrees c.deref.ensures.value ∙ types_same (scope c.args.binders c.args.names.now) c.in_ok-room.room.items c.args.seen.items c.in_ok-room.ensures)
+returns-clause-ty c = λ g. c.in_ok-ty.ensures ∙ ap (λ ts. a.ATuple (aset ts)) (ap atrees c.deref.ensures.value ∙ types_same (scope c.args.around.now.binders c.args.around.now.names.now) c.in_ok-room.room.items c.args.seen.items c.in_ok-room.ensures)

@@ -6,6 +6,9 @@ use std::hash::{DefaultHasher, Hasher};
 use t_terms::{Base, Block, Data, End, Instr, TProgram, Value};
 use t_types::{RegFile, TType};
 
+// What is below it takes 18 bits.
+const SMALL: u64 = 262144;
+
 // The program, for the hashers of its types.
 pub(crate) fn salt_of(program: &TProgram) -> Salt {
     let mut whole = DefaultHasher::new();
@@ -20,8 +23,20 @@ pub(crate) fn salt_of(program: &TProgram) -> Salt {
     Salt { read }
 }
 
+// A part, told by a tag of its own from 1 to 255, with three numbers: one word where they are small, else four, of
+// which the first has no bits where the tag of one word is. So no two programs are read alike.
+fn read_part(read: &mut DefaultHasher, tag: u64, a: u64, b: u64, c: u64) {
+    if a < SMALL && b < SMALL && c < SMALL {
+        read.write_u64(tag << 56 | a << 36 | b << 18 | c);
+    } else {
+        for number in [tag, a, b, c] {
+            read.write_u64(number);
+        }
+    }
+}
+
 fn read_data(read: &mut DefaultHasher, tuple: &Data) {
-    read.write_u64(tuple.fields.len() as u64);
+    read_part(read, 1, tuple.fields.len() as u64, 0, 0);
     for (value, ty, _) in &tuple.fields {
         read_value(read, value);
         read_type(read, ty);
@@ -29,66 +44,59 @@ fn read_data(read: &mut DefaultHasher, tuple: &Data) {
 }
 
 fn read_block(read: &mut DefaultHasher, block: &Block) {
-    read.write_u64(block.owes);
+    read_part(read, 2, block.owes, 0, 0);
     read_file(read, &block.regs);
     for (instr, _) in &block.body {
         read_instr(read, instr);
     }
     match &block.end {
         End::Jmp(v) => {
-            read.write_u64(7);
+            read_part(read, 3, 0, 0, 0);
             read_value(read, v);
         }
-        End::Halt => read.write_u64(8),
+        End::Halt => read_part(read, 4, 0, 0, 0),
     }
 }
 
 fn read_instr(read: &mut DefaultHasher, instr: &Instr) {
     match instr {
         Instr::Arith { op, rd, rs, v } => {
-            read_op(read, *op);
-            read_numbers(read, &[*rd, *rs]);
+            read_part(read, tag_of(*op), *rd, *rs, 0);
             read_value(read, v);
         }
         Instr::Bnz { r, v } => {
-            read_numbers(read, &[1, *r]);
+            read_part(read, 8, *r, 0, 0);
             read_value(read, v);
         }
-        Instr::Ld { rd, rs, field } => read_numbers(read, &[2, *rd, *rs, *field]),
+        Instr::Ld { rd, rs, field } => read_part(read, 9, *rd, *rs, *field),
         Instr::Malloc { rd, types } => {
-            read_numbers(read, &[3, *rd]);
+            read_part(read, 10, *rd, types.len() as u64, 0);
             read_types(read, types);
         }
         Instr::Mov { rd, v } => {
-            read_numbers(read, &[4, *rd]);
+            read_part(read, 11, *rd, 0, 0);
             read_value(read, v);
         }
-        Instr::St { rd, field, rs } => read_numbers(read, &[5, *rd, *field, *rs]),
+        Instr::St { rd, field, rs } => read_part(read, 12, *rd, *field, *rs),
         Instr::Unpack { rd, v } => {
-            read_numbers(read, &[6, *rd]);
+            read_part(read, 13, *rd, 0, 0);
             read_value(read, v);
         }
     }
 }
 
-fn read_op(read: &mut DefaultHasher, op: Op) {
-    read.write_u64(match op {
-        Op::Add => 9,
-        Op::Sub => 10,
-        Op::Mul => 11,
-    });
-}
-
-fn read_numbers(read: &mut DefaultHasher, numbers: &[u64]) {
-    for number in numbers {
-        read.write_u64(*number);
+fn tag_of(op: Op) -> u64 {
+    match op {
+        Op::Add => 5,
+        Op::Sub => 6,
+        Op::Mul => 7,
     }
 }
 
 fn read_value(read: &mut DefaultHasher, value: &Value) {
     match value {
         Value::Plain { base, types } => {
-            read_base(read, *base);
+            read_base(read, *base, types.len() as u64);
             read_types(read, types);
         }
         Value::Pack {
@@ -96,7 +104,7 @@ fn read_value(read: &mut DefaultHasher, value: &Value) {
             inner,
             shape,
         } => {
-            read.write_u64(4);
+            read_part(read, 14, 0, 0, 0);
             read_type(read, hidden);
             read_value(read, inner);
             read_type(read, shape);
@@ -104,43 +112,40 @@ fn read_value(read: &mut DefaultHasher, value: &Value) {
     }
 }
 
-fn read_base(read: &mut DefaultHasher, base: Base) {
+// What a value begins with, and how many types it is applied to.
+fn read_base(read: &mut DefaultHasher, base: Base, types: u64) {
     match base {
-        Base::Reg(r) => read_numbers(read, &[0, r]),
-        Base::Int(n) => {
-            read.write_u64(1);
-            read.write_i64(n);
-        }
-        Base::Label(l) => read_numbers(read, &[2, l]),
-        Base::Data(d) => read_numbers(read, &[3, d]),
+        Base::Reg(r) => read_part(read, 15, r, types, 0),
+        Base::Int(n) => read_part(read, 16, n.cast_unsigned(), types, 0),
+        Base::Label(l) => read_part(read, 17, l, types, 0),
+        Base::Data(d) => read_part(read, 18, d, types, 0),
     }
 }
 
 #[cycle(types)]
 fn read_type(read: &mut DefaultHasher, ty: &TType) {
     match ty {
-        TType::Int => read.write_u64(0),
-        TType::Var(i) => read_numbers(read, &[1, *i]),
+        TType::Int => read_part(read, 19, 0, 0, 0),
+        TType::Var(i) => read_part(read, 20, *i, 0, 0),
         TType::Code { owes, regs } => {
-            read_numbers(read, &[2, *owes]);
+            read_part(read, 21, *owes, 0, 0);
             read_file(read, regs);
         }
         TType::Exists(body) => {
-            read.write_u64(3);
+            read_part(read, 22, 0, 0, 0);
             read_type(read, body);
         }
         TType::Tuple(fields) => {
-            read_numbers(read, &[4, fields.len() as u64]);
+            read_part(read, 23, fields.len() as u64, 0, 0);
             for (field, flag) in fields {
+                read_part(read, 24, *flag as u64, 0, 0);
                 read_type(read, field);
-                read.write_u64(*flag as u64);
             }
         }
     }
 }
 
 fn read_types(read: &mut DefaultHasher, types: &[TType]) {
-    read.write_u64(types.len() as u64);
     for ty in types {
         read_type(read, ty);
     }
@@ -148,9 +153,9 @@ fn read_types(read: &mut DefaultHasher, types: &[TType]) {
 
 #[cycle(types)]
 fn read_file(read: &mut DefaultHasher, file: &RegFile) {
-    read.write_u64(file.regs.len() as u64);
+    read_part(read, 25, file.regs.len() as u64, 0, 0);
     for (register, ty) in &file.regs {
-        read.write_u64(*register);
+        read_part(read, 26, *register, 0, 0);
         read_type(read, ty);
     }
 }

@@ -153,7 +153,7 @@ pub fn body_in<'a>(
         × (read.body is.items ≡ body_of text.now labels.now scope.old (map raw_step body.now)))
         (λ e. StopsAt (body_faults text.now labels.now scope.old (map raw_step body.now)) e) }
 {
-    let mut made = Vec::new(alloc);
+    let mut made = Vec::with_capacity(alloc, body.len())?;
     for step in body {
         let instr = instr_in(alloc, text, labels, &step.0, scope)?;
         made.push((instr, step.1))?;

@@ -137,6 +137,7 @@ fn is_negative(text: &[u8], at: usize) -> bool
 }
 
 /// What stands at a place before the end of a text.
+#[inline(always)]
 pub fn next_lexeme(text: &[u8], at: usize) -> Lexeme
     requires { at < length text.now }
     ensures { IsLexeme text.now at result }

@@ -32,8 +32,11 @@ pub fn compile(alloc: Global, program: &Program) -> Result<Checked, OutOfMemory>
     gen_law::programs_are_laid_out();
     let converted = cps(alloc, program)?;
     let closed = close(alloc, &converted)?;
+    drop(converted);
     let hoisted = hoist(alloc, &closed)?;
+    drop(closed);
     let allocated = allocate(alloc, &hoisted)?;
+    drop(hoisted);
     let generated = generate(alloc, &allocated)?;
     Ok(seal(generated))
 }

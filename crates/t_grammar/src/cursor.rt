@@ -9,6 +9,7 @@ ghost use Rattle.t_terms.specs.declared.wanted.Wanted.TheVariants as want;
 
 use idx_core::Span;
 use std::alloc::{AllocError, AllocFailed};
+use t_lexer::Stored;
 use t_terms::{Kind, Token, Wanted};
 
 /// How many constructs may be open at a token.
@@ -43,10 +44,11 @@ impl From<AllocError> for Stopped {
 }
 
 /// The token at a place, or none at the end.
-pub fn peek(tokens: &[Token], at: usize) -> Option<Token>
+pub fn peek(tokens: &[Stored], at: usize) -> Option<Token>
     ensures { result ≡ slice_get tokens.now at }
 {
-    tokens.get(at).copied()
+    let stored = tokens.get(at)?;
+    Some(stored.token())
 }
 
 // the flag that a number is
@@ -95,7 +97,7 @@ fn fits_kind(wanted: Wanted, kind: Kind) -> bool
 }
 
 /// The token at a place, where it is one that is wanted.
-pub fn take(tokens: &[Token], at: usize, wanted: Wanted) -> Option<Token>
+pub fn take(tokens: &[Stored], at: usize, wanted: Wanted) -> Option<Token>
     ensures { result ≡ next_of table wanted (slice_get tokens.now at) }
 {
     let token = peek(tokens, at)?;
@@ -107,7 +109,7 @@ pub fn take(tokens: &[Token], at: usize, wanted: Wanted) -> Option<Token>
 }
 
 /// The token at a place, which must be one that is wanted.
-pub fn expect(tokens: &[Token], at: usize, wanted: Wanted) -> Result<Token, Stopped>
+pub fn expect(tokens: &[Stored], at: usize, wanted: Wanted) -> Result<Token, Stopped>
     ensures { IsExpected tokens.now at wanted result }
 {
     match take(tokens, at, wanted) {
@@ -118,7 +120,7 @@ pub fn expect(tokens: &[Token], at: usize, wanted: Wanted) -> Result<Token, Stop
 
 /// The tokens at a place and after it, which must be of these classes.
 pub fn expect_two(
-    tokens: &[Token],
+    tokens: &[Stored],
     at: usize,
     first: Wanted,
     second: Wanted,
@@ -131,7 +133,7 @@ pub fn expect_two(
 }
 
 /// The number of the register at a place, where one must stand, with its place in the text.
-pub fn expect_register(tokens: &[Token], at: usize) -> Result<(u64, Span), Stopped>
+pub fn expect_register(tokens: &[Stored], at: usize) -> Result<(u64, Span), Stopped>
     ensures { IsHeld (λ c. (register_of c.kind, c.span)) tokens.now at want.Register result }
 {
     let token = expect(tokens, at, Wanted::Register)?;
@@ -142,7 +144,7 @@ pub fn expect_register(tokens: &[Token], at: usize) -> Result<(u64, Span), Stopp
 }
 
 /// The field number at a place, where one must stand.
-pub fn expect_index(tokens: &[Token], at: usize) -> Result<u64, Stopped>
+pub fn expect_index(tokens: &[Stored], at: usize) -> Result<u64, Stopped>
     ensures { IsHeld (λ c. nat_abs (value_of c.kind)) tokens.now at want.Number result }
 {
     let token = expect(tokens, at, Wanted::Number)?;
@@ -153,7 +155,7 @@ pub fn expect_index(tokens: &[Token], at: usize) -> Result<u64, Stopped>
 }
 
 /// Whether the flag at a place, where one must stand, is that of an initialised field.
-pub(crate) fn expect_flag(tokens: &[Token], at: usize) -> Result<bool, Stopped>
+pub(crate) fn expect_flag(tokens: &[Stored], at: usize) -> Result<bool, Stopped>
     ensures { IsHeld (λ c. flag_of c.kind) tokens.now at want.Flag result }
 {
     let token = expect(tokens, at, Wanted::Flag)?;

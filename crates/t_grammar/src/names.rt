@@ -6,7 +6,8 @@ ghost use Rattle.t_grammar.specs.Reads.{IsBinds, IsNames};
 use crate::cursor::{Stopped, expect, opened, take};
 use idx_core::Span;
 use std::alloc::Global;
-use t_terms::{Token, Wanted};
+use t_lexer::Stored;
+use t_terms::Wanted;
 
 /// Names in brackets that were read, each by its place, and the number of the token after them.
 #[derive(Drop)]
@@ -16,7 +17,7 @@ pub struct FoundNames {
 }
 
 /// [ names ], where names ::= nothing | name , .. , name
-pub fn binds(alloc: Global, tokens: &[Token], at: usize, depth: u64) -> Result<FoundNames, Stopped>
+pub fn binds(alloc: Global, tokens: &[Stored], at: usize, depth: u64) -> Result<FoundNames, Stopped>
     requires depth { depth ≤ most_open }
     requires at { at ≤ length tokens.now }
     ensures { IsBinds tokens.now depth at result }
@@ -28,7 +29,7 @@ pub fn binds(alloc: Global, tokens: &[Token], at: usize, depth: u64) -> Result<F
 }
 
 // names and the closing bracket, or the bracket alone
-fn names(alloc: Global, tokens: &[Token], at: usize, depth: u64) -> Result<FoundNames, Stopped>
+fn names(alloc: Global, tokens: &[Stored], at: usize, depth: u64) -> Result<FoundNames, Stopped>
     requires depth { depth ≤ most_open }
     requires at { at ≤ length tokens.now }
     ensures { IsNames tokens.now depth at result }

@@ -14,7 +14,8 @@ use crate::names::binds;
 use crate::raw::{RawFile, RawType};
 use idx_core::Span;
 use std::alloc::Global;
-use t_terms::{Kind, Token, Wanted};
+use t_lexer::Stored;
+use t_terms::{Kind, Wanted};
 
 /// A type that was read, the end of its last token, and the number of the token after it.
 #[derive(Drop)]
@@ -56,7 +57,7 @@ fn exists(alloc: Global, name: Span, body: RawType) -> Result<RawType, Stopped>
 #[cycle(types)]
 pub fn whole_type(
     alloc: Global,
-    tokens: &[Token],
+    tokens: &[Stored],
     at: usize,
     depth: u64,
 ) -> Result<FoundType, Stopped>
@@ -92,7 +93,7 @@ pub fn whole_type(
 
 // all [ names ] File
 #[cycle(types)]
-fn code_type(alloc: Global, tokens: &[Token], at: usize, depth: u64) -> Result<FoundType, Stopped>
+fn code_type(alloc: Global, tokens: &[Stored], at: usize, depth: u64) -> Result<FoundType, Stopped>
     requires depth { depth ≤ most_open }
     requires at { at < length tokens.now }
     ensures { IsTypeFrom kinds.All tokens.now depth at result }
@@ -108,7 +109,7 @@ fn code_type(alloc: Global, tokens: &[Token], at: usize, depth: u64) -> Result<F
 
 // some name . T
 #[cycle(types)]
-fn some_type(alloc: Global, tokens: &[Token], at: usize, depth: u64) -> Result<FoundType, Stopped>
+fn some_type(alloc: Global, tokens: &[Stored], at: usize, depth: u64) -> Result<FoundType, Stopped>
     requires depth { depth ≤ most_open }
     requires at { at < length tokens.now }
     ensures { IsTypeFrom kinds.Some tokens.now depth at result }
@@ -126,7 +127,7 @@ fn some_type(alloc: Global, tokens: &[Token], at: usize, depth: u64) -> Result<F
 
 /// File ::= { } | { reg : T , .. , reg : T }
 #[cycle(types)]
-pub fn file(alloc: Global, tokens: &[Token], at: usize, depth: u64) -> Result<FoundFile, Stopped>
+pub fn file(alloc: Global, tokens: &[Stored], at: usize, depth: u64) -> Result<FoundFile, Stopped>
     requires depth { depth ≤ most_open }
     requires at { at ≤ length tokens.now }
     ensures { IsFile tokens.now depth at result }
@@ -139,7 +140,7 @@ pub fn file(alloc: Global, tokens: &[Token], at: usize, depth: u64) -> Result<Fo
 
 // reg : T , .. , reg : T and the closing brace, or the brace alone
 #[cycle(types)]
-fn regs(alloc: Global, tokens: &[Token], at: usize, depth: u64) -> Result<FoundFile, Stopped>
+fn regs(alloc: Global, tokens: &[Stored], at: usize, depth: u64) -> Result<FoundFile, Stopped>
     requires depth { depth ≤ most_open }
     requires at { at ≤ length tokens.now }
     ensures { IsRegs tokens.now depth at result }
@@ -170,7 +171,7 @@ fn regs(alloc: Global, tokens: &[Token], at: usize, depth: u64) -> Result<FoundF
 
 // reg : T
 #[cycle(types)]
-fn entry(alloc: Global, tokens: &[Token], at: usize, depth: u64) -> Result<FoundEntry, Stopped>
+fn entry(alloc: Global, tokens: &[Stored], at: usize, depth: u64) -> Result<FoundEntry, Stopped>
     requires depth { depth ≤ most_open }
     requires at { at ≤ length tokens.now }
     ensures { IsEntry tokens.now depth at result }
@@ -186,7 +187,7 @@ fn entry(alloc: Global, tokens: &[Token], at: usize, depth: u64) -> Result<Found
 
 // F , .. , F and the closing bracket, or the bracket alone
 #[cycle(types)]
-fn fields(alloc: Global, tokens: &[Token], at: usize, depth: u64) -> Result<FoundType, Stopped>
+fn fields(alloc: Global, tokens: &[Stored], at: usize, depth: u64) -> Result<FoundType, Stopped>
     requires depth { depth ≤ most_open }
     requires at { at ≤ length tokens.now }
     ensures { IsFields tokens.now depth at result }
@@ -217,7 +218,7 @@ fn fields(alloc: Global, tokens: &[Token], at: usize, depth: u64) -> Result<Foun
 
 // F ::= T ^ 0 | T ^ 1
 #[cycle(types)]
-fn field(alloc: Global, tokens: &[Token], at: usize, depth: u64) -> Result<FoundField, Stopped>
+fn field(alloc: Global, tokens: &[Stored], at: usize, depth: u64) -> Result<FoundField, Stopped>
     requires depth { depth ≤ most_open }
     requires at { at ≤ length tokens.now }
     ensures { IsField tokens.now depth at result }

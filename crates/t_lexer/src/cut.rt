@@ -8,6 +8,7 @@ ghost use Rattle.t_terms.specs.Tokens.{IsCut};
 ghost use Rattle.t_lexer.specs.Cut.{IsTokenFault, FirstTokenFault};
 
 use crate::scan::find;
+use crate::stored::Stored;
 use idx_core::Span;
 use std::alloc::Global;
 use t_terms::{TCode, TFault, Token};
@@ -27,7 +28,7 @@ fn refused(code: TCode, start: usize, end: usize) -> TFault
 
 /// The tokens of an assembly text, in order (own choice). Refused by T01 at a byte that begins no token, and by T02
 /// at a number out of range, whichever comes first.
-pub fn tokens(alloc: Global, text: &[u8]) -> Result<Vec<Token>, TFault>
+pub fn tokens(alloc: Global, text: &[u8]) -> Result<Vec<Stored>, TFault>
     ensures right { MatchResult result (λ w. IsCut text.now w.items) (λ f. IsTokenFault text.now f) }
     ensures cut { (w : List tokens_of.Token) → IsCut text.now w →
         MatchResult result (λ v. v.items ≡ w) (λ f. f ≡ fault.Memory) }
@@ -46,7 +47,8 @@ pub fn tokens(alloc: Global, text: &[u8]) -> Result<Vec<Token>, TFault>
                     start: at as u64,
                     end: end as u64,
                 };
-                out.push(Token { kind, span })?;
+                let token = Stored::new(alloc, Token { kind, span })?;
+                out.push(token)?;
                 at = end;
             }
             Found::Large(end) => return Err(refused(TCode::T02, at, end)),

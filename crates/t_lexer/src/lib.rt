@@ -4,6 +4,8 @@
 mod cut;
 mod laws;
 mod scan;
+mod stored;
 
 pub use cut::tokens;
 pub use laws::{at_most_one_cut, at_most_one_token_fault, no_token_fault_where_cut};
+pub use stored::Stored;

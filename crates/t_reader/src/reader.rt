@@ -21,11 +21,11 @@ use crate::scope::spelling;
 use crate::target::Target;
 use idx_core::Span;
 use std::alloc::Global;
-use t_grammar::Stopped;
-use t_lexer::tokens;
+use t_grammar::{Stopped, peek};
+use t_lexer::{Stored, tokens};
 use t_shapes::{RawBlock, RawData, RawItem, program};
 use t_terms::{
-    Block, Data, TCode, TFault, TProgram, Token, at_most_one_fault, at_most_one_program,
+    Block, Data, TCode, TFault, TProgram, at_most_one_fault, at_most_one_program,
     no_fault_where_read,
 };
 
@@ -37,10 +37,10 @@ struct Parts {
 }
 
 // the place of a token, or the end of the text
-fn place(text: &[u8], tokens: &[Token], at: usize) -> Span
+fn place(text: &[u8], tokens: &[Stored], at: usize) -> Span
     ensures { result ≡ place_at text.now tokens.now at }
 {
-    match tokens.get(at) {
+    match peek(tokens, at) {
         Some(token) => token.span,
         None => Span {
             start: text.len() as u64,

@@ -9,7 +9,8 @@ use crate::steps::{begins_step, step};
 use idx_core::Span;
 use std::alloc::Global;
 use t_grammar::{Stopped, expect, expect_two};
-use t_terms::{Token, Wanted};
+use t_lexer::Stored;
+use t_terms::Wanted;
 
 /// Instructions that were read, and the number of the token after them.
 #[derive(Drop)]
@@ -26,7 +27,7 @@ pub struct FoundBlock {
 }
 
 // I .. I, any number of them
-fn steps(alloc: Global, tokens: &[Token], at: usize) -> Result<FoundSteps, Stopped>
+fn steps(alloc: Global, tokens: &[Stored], at: usize) -> Result<FoundSteps, Stopped>
     requires { at ≤ length tokens.now }
     ensures { AreSteps tokens.now at result }
 {
@@ -41,7 +42,7 @@ fn steps(alloc: Global, tokens: &[Token], at: usize) -> Result<FoundSteps, Stopp
 }
 
 /// [ names ] File . I .. I End: what follows on `code` of a block with this label.
-pub fn code(alloc: Global, tokens: &[Token], at: usize, name: Span) -> Result<FoundBlock, Stopped>
+pub fn code(alloc: Global, tokens: &[Stored], at: usize, name: Span) -> Result<FoundBlock, Stopped>
     requires { at ≤ length tokens.now }
     ensures { IsCode tokens.now at name result }
 {
@@ -61,7 +62,7 @@ pub fn code(alloc: Global, tokens: &[Token], at: usize, name: Span) -> Result<Fo
 }
 
 /// Block ::= label : code [ names ] File . I .. I End
-pub fn block(alloc: Global, tokens: &[Token], at: usize) -> Result<FoundBlock, Stopped>
+pub fn block(alloc: Global, tokens: &[Stored], at: usize) -> Result<FoundBlock, Stopped>
     requires { at ≤ length tokens.now }
     ensures { IsBlock tokens.now at result }
 {

@@ -6,7 +6,8 @@ use crate::raw::RawDatum;
 use crate::words::word;
 use std::alloc::Global;
 use t_grammar::{Stopped, expect, peek, take, whole_type};
-use t_terms::{Kind, Token, Wanted};
+use t_lexer::Stored;
+use t_terms::{Kind, Wanted};
 
 /// The fields of a data tuple that were read, and the number of the token after them.
 #[derive(Drop)]
@@ -23,7 +24,7 @@ struct FoundDatum {
 }
 
 /// < > or < W : T , .. , W : T >
-pub fn tuple(alloc: Global, tokens: &[Token], at: usize) -> Result<FoundTuple, Stopped>
+pub fn tuple(alloc: Global, tokens: &[Stored], at: usize) -> Result<FoundTuple, Stopped>
     requires { at ≤ length tokens.now }
     ensures { IsTuple tokens.now at result }
 {
@@ -38,7 +39,7 @@ pub fn tuple(alloc: Global, tokens: &[Token], at: usize) -> Result<FoundTuple, S
 }
 
 // W : T , .. , W : T and the closing bracket, or the bracket alone
-fn datums(alloc: Global, tokens: &[Token], at: usize) -> Result<FoundTuple, Stopped>
+fn datums(alloc: Global, tokens: &[Stored], at: usize) -> Result<FoundTuple, Stopped>
     requires { at ≤ length tokens.now }
     ensures { AreDatums tokens.now at result }
 {
@@ -65,7 +66,7 @@ fn datums(alloc: Global, tokens: &[Token], at: usize) -> Result<FoundTuple, Stop
 }
 
 // W : T, in the bracket of a tuple
-fn datum(alloc: Global, tokens: &[Token], at: usize) -> Result<FoundDatum, Stopped>
+fn datum(alloc: Global, tokens: &[Stored], at: usize) -> Result<FoundDatum, Stopped>
     requires { at ≤ length tokens.now }
     ensures { IsDatum tokens.now at result }
 {

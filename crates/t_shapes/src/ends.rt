@@ -9,7 +9,8 @@ use crate::values::value;
 use idx_core::Span;
 use std::alloc::Global;
 use t_grammar::{Stopped, peek};
-use t_terms::{Kind, Token};
+use t_lexer::Stored;
+use t_terms::Kind;
 
 /// The end of a block that was read, with its place, and the number of the token after it.
 #[derive(Drop)]
@@ -19,7 +20,7 @@ pub struct FoundEnd {
 }
 
 /// End ::= jmp V | halt [ int ]
-pub fn end(alloc: Global, tokens: &[Token], at: usize) -> Result<FoundEnd, Stopped>
+pub fn end(alloc: Global, tokens: &[Stored], at: usize) -> Result<FoundEnd, Stopped>
     requires { at ≤ length tokens.now }
     ensures { IsEnd tokens.now at result }
 {

@@ -5,7 +5,8 @@ ghost use Rattle.t_shapes.specs.Reads.{IsHead};
 use idx_core::Span;
 use std::alloc::Global;
 use t_grammar::{RawFile, Stopped, binds, expect, file};
-use t_terms::{Token, Wanted};
+use t_lexer::Stored;
+use t_terms::Wanted;
 
 /// What was read of a block before its instructions: its names and its file, and the number of the token after them.
 #[derive(Drop)]
@@ -16,7 +17,7 @@ pub struct FoundHead {
 }
 
 /// [ names ] File .
-pub fn head(alloc: Global, tokens: &[Token], at: usize) -> Result<FoundHead, Stopped>
+pub fn head(alloc: Global, tokens: &[Stored], at: usize) -> Result<FoundHead, Stopped>
     requires { at ≤ length tokens.now }
     ensures { IsHead tokens.now at result }
 {

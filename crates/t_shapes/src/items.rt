@@ -11,7 +11,8 @@ use crate::data::tuple;
 use crate::raw::{RawData, RawItem};
 use std::alloc::Global;
 use t_grammar::{Stopped, expect, peek, take};
-use t_terms::{Kind, Token, Wanted};
+use t_lexer::Stored;
+use t_terms::{Kind, Wanted};
 
 /// An item that was read, and the number of the token after it.
 #[derive(Drop)]
@@ -35,7 +36,7 @@ fn with_block(has_block: bool, item: &RawItem) -> bool
 }
 
 // Item ::= Block | label : data < > | label : data < W : T , .. , W : T >
-fn item(alloc: Global, tokens: &[Token], at: usize) -> Result<FoundItem, Stopped>
+fn item(alloc: Global, tokens: &[Stored], at: usize) -> Result<FoundItem, Stopped>
     requires { at ≤ length tokens.now }
     ensures { IsItem tokens.now at result }
 {
@@ -68,14 +69,14 @@ fn item(alloc: Global, tokens: &[Token], at: usize) -> Result<FoundItem, Stopped
 }
 
 // whether an item is owed at a place, or one may follow there
-fn wants_item(tokens: &[Token], at: usize, has_block: bool) -> bool
+fn wants_item(tokens: &[Stored], at: usize, has_block: bool) -> bool
     ensures { result ≡ (not has_block || is_some (next_of table want.Name (slice_get tokens.now at))) }
 {
     !has_block || take(tokens, at, Wanted::Name).is_some()
 }
 
 /// Item .. Item, of which one at least is a block
-pub fn items(alloc: Global, tokens: &[Token], at: usize) -> Result<FoundItems, Stopped>
+pub fn items(alloc: Global, tokens: &[Stored], at: usize) -> Result<FoundItems, Stopped>
     requires { at ≤ length tokens.now }
     ensures { AreItems tokens.now at result }
 {

@@ -5,7 +5,8 @@ ghost use Rattle.t_shapes.specs.Reads.{IsTypes, IsTypeList, IsSomeTypes};
 
 use std::alloc::Global;
 use t_grammar::{RawType, Stopped, expect, opened, take, whole_type};
-use t_terms::{Token, Wanted};
+use t_lexer::Stored;
+use t_terms::Wanted;
 
 /// Types in brackets that were read, the end of the closing bracket, and the number of the token after it.
 #[derive(Drop)]
@@ -16,7 +17,7 @@ pub struct FoundTypes {
 }
 
 /// [ ] or [ T , .. , T ]
-pub fn types(alloc: Global, tokens: &[Token], at: usize, depth: u64) -> Result<FoundTypes, Stopped>
+pub fn types(alloc: Global, tokens: &[Stored], at: usize, depth: u64) -> Result<FoundTypes, Stopped>
     requires depth { depth ≤ most_open }
     requires at { at ≤ length tokens.now }
     ensures { IsTypes tokens.now depth at result }
@@ -28,7 +29,7 @@ pub fn types(alloc: Global, tokens: &[Token], at: usize, depth: u64) -> Result<F
 }
 
 // types and the closing bracket, or the bracket alone
-fn type_list(alloc: Global, tokens: &[Token], at: usize, depth: u64) -> Result<FoundTypes, Stopped>
+fn type_list(alloc: Global, tokens: &[Stored], at: usize, depth: u64) -> Result<FoundTypes, Stopped>
     requires depth { depth ≤ most_open }
     requires at { at ≤ length tokens.now }
     ensures { IsTypeList tokens.now depth at result }
@@ -47,7 +48,7 @@ fn type_list(alloc: Global, tokens: &[Token], at: usize, depth: u64) -> Result<F
 /// T , .. , T ]
 pub fn some_types(
     alloc: Global,
-    tokens: &[Token],
+    tokens: &[Stored],
     at: usize,
     depth: u64,
 ) -> Result<FoundTypes, Stopped>

@@ -4,7 +4,8 @@ ghost use Rattle.t_shapes.specs.Reads.{IsIndex, IsPlace, IsTarget, IsInt, IsOper
 
 use idx_core::Span;
 use t_grammar::{Stopped, expect, expect_index, expect_register, expect_two};
-use t_terms::{Token, Wanted};
+use t_lexer::Stored;
+use t_terms::Wanted;
 
 /// A number in brackets, and the end of the closing bracket.
 #[derive(Drop)]
@@ -29,7 +30,7 @@ pub struct FoundTarget {
 }
 
 /// [ n ]
-pub fn index(tokens: &[Token], at: usize) -> Result<FoundIndex, Stopped>
+pub fn index(tokens: &[Stored], at: usize) -> Result<FoundIndex, Stopped>
     requires { at ≤ length tokens.now }
     ensures { IsIndex tokens.now at result }
 {
@@ -43,7 +44,7 @@ pub fn index(tokens: &[Token], at: usize) -> Result<FoundIndex, Stopped>
 }
 
 /// reg [ n ]
-pub fn place(tokens: &[Token], at: usize) -> Result<FoundPlace, Stopped>
+pub fn place(tokens: &[Stored], at: usize) -> Result<FoundPlace, Stopped>
     requires { at ≤ length tokens.now }
     ensures { IsPlace tokens.now at result }
 {
@@ -57,7 +58,7 @@ pub fn place(tokens: &[Token], at: usize) -> Result<FoundPlace, Stopped>
 }
 
 /// [ name , reg ]
-pub fn target(tokens: &[Token], at: usize) -> Result<FoundTarget, Stopped>
+pub fn target(tokens: &[Stored], at: usize) -> Result<FoundTarget, Stopped>
     requires { at ≤ length tokens.now }
     ensures { IsTarget tokens.now at result }
 {
@@ -72,7 +73,7 @@ pub fn target(tokens: &[Token], at: usize) -> Result<FoundTarget, Stopped>
 }
 
 /// [ int ], of which the end of the closing bracket is left.
-pub fn int(tokens: &[Token], at: usize) -> Result<u64, Stopped>
+pub fn int(tokens: &[Stored], at: usize) -> Result<u64, Stopped>
     requires { at ≤ length tokens.now }
     ensures { IsInt tokens.now at result }
 {
@@ -82,7 +83,7 @@ pub fn int(tokens: &[Token], at: usize) -> Result<u64, Stopped>
 }
 
 /// reg , of which the number of the register is left.
-pub fn operand(tokens: &[Token], at: usize) -> Result<u64, Stopped>
+pub fn operand(tokens: &[Stored], at: usize) -> Result<u64, Stopped>
     requires { at ≤ length tokens.now }
     ensures { IsOperand tokens.now at result }
 {

@@ -11,6 +11,7 @@ use crate::values::value;
 use idx_core::{Op, Span};
 use std::alloc::Global;
 use t_grammar::{Stopped, expect, expect_register, peek};
+use t_lexer::Stored;
 use t_terms::{Kind, Token, Wanted};
 
 /// An instruction that was read, with its place, and the number of the token after it.
@@ -33,7 +34,7 @@ pub fn up_to(word: Token, end: u64) -> Span
 // reg , reg , V
 fn arith(
     alloc: Global,
-    tokens: &[Token],
+    tokens: &[Stored],
     at: usize,
     word: Token,
     op: Op,
@@ -54,7 +55,7 @@ fn arith(
 }
 
 // reg , V
-fn bnz(alloc: Global, tokens: &[Token], at: usize, word: Token) -> Result<FoundStep, Stopped>
+fn bnz(alloc: Global, tokens: &[Stored], at: usize, word: Token) -> Result<FoundStep, Stopped>
     requires { at ≤ length tokens.now }
     ensures { IsRest bnz_left tokens.now at word result }
 {
@@ -67,7 +68,7 @@ fn bnz(alloc: Global, tokens: &[Token], at: usize, word: Token) -> Result<FoundS
 }
 
 // reg , V
-fn mov(alloc: Global, tokens: &[Token], at: usize, word: Token) -> Result<FoundStep, Stopped>
+fn mov(alloc: Global, tokens: &[Stored], at: usize, word: Token) -> Result<FoundStep, Stopped>
     requires { at ≤ length tokens.now }
     ensures { IsRest mov_left tokens.now at word result }
 {
@@ -80,7 +81,7 @@ fn mov(alloc: Global, tokens: &[Token], at: usize, word: Token) -> Result<FoundS
 }
 
 // reg , reg [ n ]
-fn ld(tokens: &[Token], at: usize, word: Token) -> Result<FoundStep, Stopped>
+fn ld(tokens: &[Stored], at: usize, word: Token) -> Result<FoundStep, Stopped>
     requires { at ≤ length tokens.now }
     ensures { IsRest ld_left tokens.now at word result }
 {
@@ -96,7 +97,7 @@ fn ld(tokens: &[Token], at: usize, word: Token) -> Result<FoundStep, Stopped>
 }
 
 // reg [ T , .. , T ]
-fn malloc(alloc: Global, tokens: &[Token], at: usize, word: Token) -> Result<FoundStep, Stopped>
+fn malloc(alloc: Global, tokens: &[Stored], at: usize, word: Token) -> Result<FoundStep, Stopped>
     requires { at ≤ length tokens.now }
     ensures { IsRest malloc_left tokens.now at word result }
 {
@@ -109,7 +110,7 @@ fn malloc(alloc: Global, tokens: &[Token], at: usize, word: Token) -> Result<Fou
 }
 
 // reg [ n ] , reg
-fn st(tokens: &[Token], at: usize, word: Token) -> Result<FoundStep, Stopped>
+fn st(tokens: &[Stored], at: usize, word: Token) -> Result<FoundStep, Stopped>
     requires { at ≤ length tokens.now }
     ensures { IsRest st_left tokens.now at word result }
 {
@@ -126,7 +127,7 @@ fn st(tokens: &[Token], at: usize, word: Token) -> Result<FoundStep, Stopped>
 }
 
 // [ name , reg ] , V
-fn unpack(alloc: Global, tokens: &[Token], at: usize, word: Token) -> Result<FoundStep, Stopped>
+fn unpack(alloc: Global, tokens: &[Stored], at: usize, word: Token) -> Result<FoundStep, Stopped>
     requires { at ≤ length tokens.now }
     ensures { IsRest unpack_left tokens.now at word result }
 {
@@ -143,7 +144,7 @@ fn unpack(alloc: Global, tokens: &[Token], at: usize, word: Token) -> Result<Fou
 }
 
 /// Whether the token at a place begins an instruction.
-pub fn begins_step(tokens: &[Token], at: usize) -> bool
+pub fn begins_step(tokens: &[Stored], at: usize) -> bool
     ensures { result ≡ step_next (slice_get tokens.now at) }
 {
     match peek(tokens, at) {
@@ -171,7 +172,7 @@ fn is_instruction(kind: Kind) -> bool
 
 /// I ::= add reg , reg , V | sub reg , reg , V | mul reg , reg , V | bnz reg , V | ld reg , reg [ n ]
 /// | malloc reg [ T , .. , T ] | mov reg , V | st reg [ n ] , reg | unpack [ name , reg ] , V
-pub fn step(alloc: Global, tokens: &[Token], at: usize) -> Result<FoundStep, Stopped>
+pub fn step(alloc: Global, tokens: &[Stored], at: usize) -> Result<FoundStep, Stopped>
     requires { at ≤ length tokens.now }
     ensures { IsStep tokens.now at result }
 {

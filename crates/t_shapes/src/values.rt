@@ -12,6 +12,7 @@ use crate::lists::some_types;
 use crate::raw::{RawBase, RawPack, RawValue};
 use std::alloc::Global;
 use t_grammar::{RawType, Stopped, expect, opened, peek, take, whole_type};
+use t_lexer::Stored;
 use t_terms::{Kind, Token, Wanted};
 
 /// A value that was read, the end of its last token, and the number of the token after it.
@@ -68,7 +69,7 @@ pub fn package(
 // N | N [ T , .. , T ], where the base is the token at a place
 fn plain(
     alloc: Global,
-    tokens: &[Token],
+    tokens: &[Stored],
     at: usize,
     depth: u64,
     token: Token,
@@ -101,7 +102,7 @@ fn plain(
 
 /// V ::= N | N [ T , .. , T ] | pack [ T , V ] as T
 #[cycle(values)]
-pub fn value(alloc: Global, tokens: &[Token], at: usize, depth: u64) -> Result<FoundValue, Stopped>
+pub fn value(alloc: Global, tokens: &[Stored], at: usize, depth: u64) -> Result<FoundValue, Stopped>
     requires depth { depth ≤ most_open }
     requires at { at ≤ length tokens.now }
     ensures { IsValue tokens.now depth at result }
@@ -132,7 +133,7 @@ pub fn value(alloc: Global, tokens: &[Token], at: usize, depth: u64) -> Result<F
 
 // [ T , V ]
 #[cycle(values)]
-fn packed(alloc: Global, tokens: &[Token], at: usize, depth: u64) -> Result<FoundPacked, Stopped>
+fn packed(alloc: Global, tokens: &[Stored], at: usize, depth: u64) -> Result<FoundPacked, Stopped>
     requires depth { depth ≤ most_open }
     requires at { at ≤ length tokens.now }
     ensures { IsPacked tokens.now depth at result }

@@ -8,10 +8,11 @@ use crate::items::{FoundItems, items};
 use crate::raw::RawItem;
 use std::alloc::Global;
 use t_grammar::{Stopped, expect, peek, take};
-use t_terms::{Kind, Token, Wanted};
+use t_lexer::Stored;
+use t_terms::{Kind, Wanted};
 
 // Block .. Block, one or more
-fn blocks(alloc: Global, tokens: &[Token], at: usize) -> Result<FoundItems, Stopped>
+fn blocks(alloc: Global, tokens: &[Stored], at: usize) -> Result<FoundItems, Stopped>
     requires { at ≤ length tokens.now }
     ensures { AreBlocks tokens.now at result }
 {
@@ -52,7 +53,7 @@ fn version_of(kind: Kind) -> Option<Version>
 }
 
 // 1 Block .. Block | 2 Item .. Item
-fn headed(alloc: Global, tokens: &[Token], at: usize) -> Result<FoundItems, Stopped>
+fn headed(alloc: Global, tokens: &[Stored], at: usize) -> Result<FoundItems, Stopped>
     requires { at ≤ length tokens.now }
     ensures { IsHeaded tokens.now at result }
 {
@@ -71,7 +72,7 @@ fn headed(alloc: Global, tokens: &[Token], at: usize) -> Result<FoundItems, Stop
 ///
 /// The items of the program that all the tokens are, or the number of the first token, or of the end, that no
 /// program can have there, or at which more than 2000 constructs are open.
-pub fn program(alloc: Global, tokens: &[Token]) -> Result<Vec<RawItem>, Stopped>
+pub fn program(alloc: Global, tokens: &[Stored]) -> Result<Vec<RawItem>, Stopped>
     ensures { MatchResult result (λ xs. IsProgram tokens.now xs.items) (λ e. IsStop tokens.now e) }
 {
     expect(tokens, 0, Wanted::Tal)?;

@@ -12,6 +12,7 @@ use crate::values::{FoundPacked, package};
 use idx_core::Span;
 use std::alloc::Global;
 use t_grammar::{Stopped, expect, opened, peek, take, whole_type};
+use t_lexer::Stored;
 use t_terms::{Kind, Token, Wanted};
 
 /// The value of a data field that was read, with its place, and the number of the token after it.
@@ -38,7 +39,7 @@ fn word_base(token: Token) -> Option<RawBase>
 // Q | Q [ T , .. , T ], where the base is the token at a place
 fn plain_word(
     alloc: Global,
-    tokens: &[Token],
+    tokens: &[Stored],
     at: usize,
     depth: u64,
     token: Token,
@@ -71,7 +72,7 @@ fn plain_word(
 
 /// W ::= Q | Q [ T , .. , T ] | pack [ T , W ] as T, where Q ::= number | label
 #[cycle(words)]
-pub fn word(alloc: Global, tokens: &[Token], at: usize, depth: u64) -> Result<FoundWord, Stopped>
+pub fn word(alloc: Global, tokens: &[Stored], at: usize, depth: u64) -> Result<FoundWord, Stopped>
     requires depth { depth ≤ most_open }
     requires at { at ≤ length tokens.now }
     ensures { IsWord tokens.now depth at result }
@@ -104,7 +105,7 @@ pub fn word(alloc: Global, tokens: &[Token], at: usize, depth: u64) -> Result<Fo
 #[cycle(words)]
 fn packed_word(
     alloc: Global,
-    tokens: &[Token],
+    tokens: &[Stored],
     at: usize,
     depth: u64,
 ) -> Result<FoundPacked, Stopped>

@@ -1,7 +1,10 @@
 // What is read of tokens.
 
 use idx_core::Span;
+use std::alloc::Global;
+use std::test::Fail;
 use t_grammar::{RawType, Stopped, expect_index, expect_register, whole_type};
+use t_lexer::Stored;
 use t_terms::{Kind, Token};
 
 fn token(kind: Kind, start: u64) -> Token {
@@ -9,6 +12,16 @@ fn token(kind: Kind, start: u64) -> Token {
         kind,
         span: Span { start, end: start },
     }
+}
+
+// the tokens as they are kept
+fn stored(alloc: Global, tokens: &[Token]) -> Result<Vec<Stored>, Fail> {
+    let mut all = Vec::new(alloc);
+    for token in tokens {
+        let kept = Stored::new(alloc, *token)?;
+        all.push(kept)?;
+    }
+    Ok(all)
 }
 
 // the flag of a tuple type with one field
@@ -20,14 +33,17 @@ fn flag_of(ty: &RawType) -> Option<bool> {
 }
 
 #[test]
-fn reads_a_tuple_type(rt: HostRuntime) {
-    let tokens = [
-        token(Kind::LeftAngle, 3),
-        token(Kind::Int, 4),
-        token(Kind::Caret, 7),
-        token(Kind::Plain(1), 8),
-        token(Kind::RightAngle, 9),
-    ];
+fn reads_a_tuple_type(rt: HostRuntime) -> Result<(), Fail> {
+    let tokens = stored(
+        rt.alloc(),
+        &[
+            token(Kind::LeftAngle, 3),
+            token(Kind::Int, 4),
+            token(Kind::Caret, 7),
+            token(Kind::Plain(1), 8),
+            token(Kind::RightAngle, 9),
+        ],
+    )?;
     match whole_type(rt.alloc(), &tokens, 0, 1999) {
         Ok(found) => {
             assert_eq!(rt; flag_of(&found.ty), Some(true));
@@ -38,11 +54,15 @@ fn reads_a_tuple_type(rt: HostRuntime) {
     }
     let deep = whole_type(rt.alloc(), &tokens, 0, 2000);
     assert!(rt; matches!(deep, Err(Stopped::TooDeep(0))));
+    Ok(())
 }
 
 #[test]
-fn tells_what_a_token_holds(rt: HostRuntime) {
-    let tokens = [token(Kind::Register(7), 3), token(Kind::Plain(5), 6)];
+fn tells_what_a_token_holds(rt: HostRuntime) -> Result<(), Fail> {
+    let tokens = stored(
+        rt.alloc(),
+        &[token(Kind::Register(7), 3), token(Kind::Plain(5), 6)],
+    )?;
     assert_eq!(rt;
         expect_register(&tokens, 0).ok(),
         Some((7, Span { start: 3, end: 3 }))
@@ -50,4 +70,5 @@ fn tells_what_a_token_holds(rt: HostRuntime) {
     assert_eq!(rt; expect_index(&tokens, 1).ok(), Some(5));
     assert!(rt; matches!(expect_index(&tokens, 0), Err(Stopped::Unexpected(0))));
     assert!(rt; matches!(expect_register(&tokens, 2), Err(Stopped::Unexpected(2))));
+    Ok(())
 }

@@ -4,7 +4,7 @@ use idx_core::Span;
 use std::alloc::Global;
 use std::process::Abort;
 use std::test::Fail;
-use t_lexer::tokens;
+use t_lexer::{Stored, tokens};
 use t_terms::{Kind, TCode, TFault, Token};
 
 // The text has this fault, or none where it is cut.
@@ -56,12 +56,12 @@ fn are_tokens(
 ) -> Result<(), Fail> {
     let found = tokens(alloc, text)?;
     assert_eq!(rt; found.len(), wanted.len());
-    for (token, (kind, start, end)) in found.iter().zip(wanted) {
+    for (stored, (kind, start, end)) in found.iter().zip(wanted) {
         let span = Span {
             start: *start,
             end: *end,
         };
-        assert_eq!(rt; *token, Token { kind: *kind, span });
+        assert_eq!(rt; stored.token(), Token { kind: *kind, span });
     }
     Ok(())
 }
@@ -93,8 +93,8 @@ fn cuts_at_the_longest_spelling(rt: HostRuntime) -> Result<(), Fail> {
 fn are_kinds(rt: &impl Abort, alloc: Global, text: &[u8], wanted: &[Kind]) -> Result<(), Fail> {
     let found = tokens(alloc, text)?;
     assert_eq!(rt; found.len(), wanted.len());
-    for (token, kind) in found.iter().zip(wanted) {
-        assert_eq!(rt; token.kind, *kind);
+    for (stored, kind) in found.iter().zip(wanted) {
+        assert_eq!(rt; stored.token().kind, *kind);
     }
     Ok(())
 }
@@ -150,6 +150,45 @@ fn knows_every_sign(rt: HostRuntime) -> Result<(), Fail> {
             Kind::Dot,
             Kind::Colon,
             Kind::Caret,
+        ],
+    )
+}
+
+// Each kind, kept with a start and an end, comes back with them.
+fn each_kept(rt: &impl Abort, alloc: Global, rows: &[(Kind, u64, u64)]) -> Result<(), Fail> {
+    for (kind, start, end) in rows {
+        let span = Span {
+            start: *start,
+            end: *end,
+        };
+        let token = Token { kind: *kind, span };
+        assert_eq!(rt; Stored::new(alloc, token)?.token(), token);
+    }
+    Ok(())
+}
+
+#[test]
+fn keeps_each_token(rt: HostRuntime) -> Result<(), Fail> {
+    each_kept(
+        &rt,
+        rt.alloc(),
+        &[
+            (Kind::Name, 0, 65535),
+            (Kind::Name, 0, 65536),
+            (Kind::Name, 18446744073709486080, 18446744073709551615),
+            (Kind::Name, 7, 3),
+            (Kind::Register(4294967295), 1, 12),
+            (Kind::Register(4294967296), 1, 12),
+            (Kind::Plain(4294967295), 0, 10),
+            (Kind::Plain(4294967296), 0, 10),
+            (Kind::Plain(9223372036854775807), 0, 19),
+            (Kind::Plain(-1), 0, 1),
+            (Kind::Negative(0), 0, 2),
+            (Kind::Negative(-4294967295), 0, 11),
+            (Kind::Negative(-4294967296), 0, 11),
+            (Kind::Negative(-9223372036854775808), 0, 20),
+            (Kind::Negative(1), 0, 2),
+            (Kind::Caret, 5, 6),
         ],
     )
 }

@@ -3,8 +3,8 @@ use super::passes::{accepted, first_run, program, value_of};
 use pipeline::compile;
 use std::alloc::Global;
 use std::test::Fail;
-use t_lexer::tokens;
-use t_terms::{Kind, Token};
+use t_lexer::{Stored, tokens};
+use t_terms::Kind;
 use t_writer::write2;
 
 fn assembly(alloc: Global, source: &str) -> Result<Vec<u8>, Fail> {
@@ -13,10 +13,10 @@ fn assembly(alloc: Global, source: &str) -> Result<Vec<u8>, Fail> {
     Ok(write2(alloc, compiled.program())?)
 }
 
-fn count_of(tokens: &[Token], kind: Kind) -> u64 {
+fn count_of(tokens: &[Stored], kind: Kind) -> u64 {
     let mut count: u64 = 0;
-    for token in tokens {
-        if token.kind == kind {
+    for stored in tokens {
+        if stored.token().kind == kind {
             count = count.saturating_add(1);
         }
     }

@@ -13,7 +13,7 @@ pub loop-at-preserved : goal.loop-at-preserved
 loop-at-preserved c =
     let l = c.loop-at in
     let (w, e, b) = c.in-Read.ensures in
-    rw c.in_ok-push-in-Read.ensures.items (read assembly assembly_signs c.args.text.now l.at l.out.items l.invariant c.loop-at-test.true c.in-Read.end c.in-Read.kind w e b)
+    rw (c.in_ok-push-in-Read.ensures.items, c.in_ok-token-in-Read.ensures) (read assembly assembly_signs c.args.text.now l.at l.out.items l.invariant c.loop-at-test.true c.in-Read.end c.in-Read.kind w e b)
 
 pub returns-in-Large-clause-right : goal.returns-in-Large-clause-right
 returns-in-Large-clause-right c =

@@ -7,13 +7,14 @@ use Rattle.t_types.specs.Fits.{RegTypes}
 use Rattle.t_types.specs.Fields.{AField, field, filled}
 use Rattle.t_rules.specs.Registers.{with_reg}
 use Rattle.t_intern.specs.Grown.{Grown}
+use Rattle.t_intern.specs.Marks.{has, marked}
 use Rattle.t_intern.specs.Nodes.{at}
 use Rattle.t_check.specs.declared.registers.Entry.{Entry}
 use Rattle.t_check.specs.declared.registers.Registers.{Registers}
 use Rattle.t_check.specs.Bounds.{Bounded}
 use Rattle.t_check.specs.Known.{own, seen, known, IsSound, IsFound, IsSet, IsTupleWith, HasField, IsFilled}
 use Rattle.t_intern.proofs.Growing.{grown_at, grown_length}
-use Rattle.t_check.specs.Marks.{has, marks, marked}
+use Rattle.t_check.specs.Marks.{marks}
 use Rattle.t_check.proofs.Depth.{filled_shallow}
 use Rattle.t_check.proofs.Sets.{unmarked_tuple, marked_filled}
 use Rattle.t_check.proofs.Noting.{set_known, set_sound, known_grown, sound_grown}

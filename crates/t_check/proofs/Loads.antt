@@ -11,12 +11,13 @@ use Rattle.t_types.specs.WellFormed.{max_names}
 use Rattle.t_terms.specs.declared.fault.TCode.{TCode}
 use Rattle.t_terms.specs.declared.fault.TCode.TheVariants.{T09, T11, T13, T19}
 use Rattle.t_rules.specs.Faults.{Fault, register, integer, tuple, field_at}
+use Rattle.t_intern.specs.Marks.{marked_fields}
 use Rattle.t_intern.specs.Nodes.{at, fields_at}
 use Rattle.t_check.specs.Bounds.{Bounded}
 use Rattle.t_check.specs.Known.{own, seen, IsEntry}
 use Rattle.t_check.specs.declared.registers.Entry.{Entry}
 use Rattle.t_check.proofs.Depth.{bounded, bounded_shift, shift_fits, field_shallow}
-use Rattle.t_check.specs.Marks.{marks, marked_fields}
+use Rattle.t_check.specs.Marks.{marks}
 use Rattle.t_check.proofs.Sets.{tuple_marked, marked_field, marked_absent}
 use Rattle.t_check.proofs.Tuples as tuples
 

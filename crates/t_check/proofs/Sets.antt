@@ -6,9 +6,10 @@ use Rattle.std.proofs.lemmas.List.{drop_more, append_assoc}
 use Rattle.t_types.specs.Tree.{Ty, IntTy, VarTy, CodeTy, ExistsTy, TupleTy, TFields, NoFields, MoreFields}
 use Rattle.t_types.specs.Fields.{AField, field, filled}
 use Rattle.t_intern.specs.Grown.{Grown}
+use Rattle.t_intern.specs.Marks.{branch, none, has, marked_fields, marked}
 use Rattle.t_intern.specs.Nodes.{at, fields_at, FieldsBelow}
 use Rattle.t_intern.proofs.Growing.{grown_at, grown_length}
-use Rattle.t_check.specs.Marks.{branch, none, has, marked_fields, marked, IsOpened, IsWith, marks, IsMarks, with_marks, marked_list}
+use Rattle.t_check.specs.Marks.{IsOpened, IsWith, marks, IsMarks, with_marks, marked_list}
 
 -- a set's parts, looked up
 module _ (here : Bool) (left right : ℕ → Bool) where

@@ -1,8 +1,9 @@
 // Tuple types whose fields are marked as filled.
 ghost use Rattle.std.specs.Prelude.{◌≡◌, ◌<◌, ◌||◌, ℕ, length, IfOk};
 ghost use Rattle.t_intern.specs.Grown.{Grown, IsNumber};
+ghost use Rattle.t_intern.specs.Marks.{has, marked};
 ghost use Rattle.t_intern.specs.Nodes.{at};
-ghost use Rattle.t_check.specs.Marks.{has, marks, marked, IsMarks, with_marks, marked_list};
+ghost use Rattle.t_check.specs.Marks.{marks, IsMarks, with_marks, marked_list};
 
 use crate::marks::contains;
 use crate::parts::intern;
@@ -46,7 +47,23 @@ pub(crate) fn whole(types: &mut Types, n: u64, set: Option<u64>) -> Result<u64, 
     }
 }
 
+// The number of a type with the marks of a set. It is remembered, so that its fields are written out once.
 fn mark(types: &mut Types, n: u64, set: u64) -> Result<u64, OutOfMemory>
+    requires there { n < length types.old }
+    requires set { set < length types.old }
+    ensures grown { Grown types.old types.new }
+    ensures number { IfOk result (IsNumber types.new (marked (at types.old set) (at types.old n))) }
+{
+    if let Some(made) = types.recalls_mark(n, set) {
+        return Ok(made);
+    }
+    let made = mark_anew(types, n, set)?;
+    types.note_mark(n, set, made);
+    Ok(made)
+}
+
+// The same by its fields.
+fn mark_anew(types: &mut Types, n: u64, set: u64) -> Result<u64, OutOfMemory>
     requires there { n < length types.old }
     requires set { set < length types.old }
     ensures grown { Grown types.old types.new }

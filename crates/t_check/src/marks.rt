@@ -2,8 +2,9 @@
 ghost use Rattle.std.specs.Prelude.{◌≡◌, ℕ, ◌<◌, ◌≤◌, length, IfOk, false};
 ghost use Rattle.t_types.specs.Tree.{TupleTy, NoFields, MoreFields};
 ghost use Rattle.t_intern.specs.Grown.{Grown, IsNumber};
+ghost use Rattle.t_intern.specs.Marks.{has};
 ghost use Rattle.t_intern.specs.Nodes.{at};
-ghost use Rattle.t_check.specs.Marks.{has, AreBranches, IsOpened, IsWith};
+ghost use Rattle.t_check.specs.Marks.{AreBranches, IsOpened, IsWith};
 
 use crate::parts::intern;
 use idx_core::OutOfMemory;
@@ -83,7 +84,7 @@ fn joined(alloc: Global, types: &mut Types, parts: Branches) -> Result<u64, OutO
     ensures number { IfOk result (IsNumber types.new (TupleTy (MoreFields (at types.old parts.left) parts.here
         (MoreFields (at types.old parts.right) false NoFields)))) }
 {
-    let mut fields = Vec::new(alloc);
+    let mut fields = Vec::with_capacity(alloc, 2)?;
     fields.push((parts.left, parts.here))?;
     fields.push((parts.right, false))?;
     intern(types, Shape::Tuple(fields))

@@ -4,6 +4,7 @@
 mod bounds;
 mod fitting;
 mod inserting;
+mod marked;
 mod memo;
 mod numbering;
 mod pairs;

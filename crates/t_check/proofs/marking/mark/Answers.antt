@@ -1,27 +1,16 @@
-use Rattle.std.proofs.Common.{ap, sym, subst, ◌∙◌, List, ℕ, Bool, length, IfOk, arith}
-use Rattle.t_types.specs.Tree.{Ty, TupleTy}
-use Rattle.t_intern.specs.Grown.{IsNumber}
-use Rattle.t_intern.specs.Nodes.{at, fields_at, FieldsBelow}
-use Rattle.t_intern.proofs.Lists.{fields_below_more}
-use Rattle.t_check.specs.Marks.{has, marked}
-use Rattle.t_check.proofs.Sets.{marked_at, marked_below, marked_other}
+use Rattle.std.proofs.Common.{arith}
+use Rattle.t_intern.proofs.Growing.{grown_length}
+use Rattle.t_intern.proofs.MadeMarks.{mark_next}
 use Rattle.t_check.proofs.marking.mark.Goals as goal
 
-pub intern-requires : goal.intern-requires
-intern-requires c =
-    let ts = c.args.types.now in
-    let xs = c.in-Some.fields.now in
-    let set = has (at ts c.args.set) in
-    let there = c.requires.there in
-    subst (λ (ys : List (ℕ × Bool)). FieldsBelow (length ts) ys) (sym c.in_ok-fields-in-Some.ensures) (marked_below (length ts) set 1 xs (fields_below_more c.args.n (length ts) (omega arith) xs c.in-Some.ensures.1))
+pub note_mark-requires-clause-there : goal.note_mark-requires-clause-there
+note_mark-requires-clause-there c =
+    omega (arith, c.requires.there, grown_length c.args.types.now c.mark_anew.new.types c.in_ok-made.ensures.grown)
 
-pub returns-clause-number : goal.returns-clause-number
-returns-clause-number c =
-    let ts = c.args.types.now in
-    let xs = c.in-Some.fields.now in
-    let set = has (at ts c.args.set) in
-    let same = ap (λ (ys : List (ℕ × Bool)). TupleTy (fields_at ts ys)) c.in_ok-fields-in-Some.ensures ∙ ap TupleTy (marked_at ts set 1 xs) ∙ ap (marked (at ts c.args.set)) (sym c.in-Some.ensures.0) in
-    subst (λ (t : Ty). IfOk c.intern.result (IsNumber c.intern.new.types t)) same c.intern.ensures.number
+pub note_mark-requires-clause-set : goal.note_mark-requires-clause-set
+note_mark-requires-clause-set c =
+    omega (arith, c.requires.set, grown_length c.args.types.now c.mark_anew.new.types c.in_ok-made.ensures.grown)
 
-pub returns-in-None-clause-number : goal.returns-in-None-clause-number
-returns-in-None-clause-number c = (c.requires.there, sym (marked_other (at c.args.types.now c.args.set) (at c.args.types.now c.args.n) c.in-None.ensures))
+pub note_mark-requires-clause-number : goal.note_mark-requires-clause-number
+note_mark-requires-clause-number c =
+    mark_next c.args.types.now c.mark_anew.new.types c.args.n c.args.set c.in_ok-made.made c.in_ok-made.ensures.grown c.requires.there c.requires.set c.in_ok-made.ensures.number

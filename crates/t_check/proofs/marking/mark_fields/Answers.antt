@@ -1,8 +1,9 @@
 use Rattle.std.proofs.Common.{◌+◌, ◌++◌, ◌∙◌, ap, sym, get_or, false, List, [], ◌∷◌, ℕ, Bool, append-nil}
 use Rattle.std.proofs.lemmas.List.{drop_all}
+use Rattle.t_intern.specs.Marks.{has}
 use Rattle.t_intern.specs.Nodes.{at}
 use Rattle.t_intern.proofs.Walked.{item}
-use Rattle.t_check.specs.Marks.{has, marked_list}
+use Rattle.t_check.specs.Marks.{marked_list}
 use Rattle.t_check.proofs.Sets.{marked_next}
 use Rattle.t_check.proofs.marking.mark_fields.Goals as goal
 

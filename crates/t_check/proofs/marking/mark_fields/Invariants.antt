@@ -1,6 +1,7 @@
 use Rattle.std.proofs.Common.{◌≡◌, ◌+◌, ◌++◌, drop}
+use Rattle.t_intern.specs.Marks.{has}
 use Rattle.t_intern.specs.Nodes.{at}
-use Rattle.t_check.specs.Marks.{has, marked_list}
+use Rattle.t_check.specs.Marks.{marked_list}
 use Rattle.t_check.proofs.marking.mark_fields.Given as goal
 
 abbrev pub invariant-loop-i : goal.invariant-loop-i

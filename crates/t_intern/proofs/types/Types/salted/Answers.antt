@@ -8,4 +8,5 @@ invariant_of-result c = rw (c.with_hasher.ensures.empty, c.new.ensures.items) (r
   bounds = (refl, λ k l. absurd (omega (arith, l)));
   fitted = c.new-2.ensures [];
   shifted = c.new-3.ensures [];
+  marked = c.new-4.ensures [];
 })

@@ -163,6 +163,54 @@ def opened_jumps(n):
     return open_jumps(n, OPENED)
 
 
+def filled(n):
+    """A tuple of n fields of which the first is filled, in r3, and its type."""
+    wanted = "<" + ", ".join(["int^1"] + ["int^0"] * (n - 1)) + ">"
+    return f"malloc r3[{', '.join(['int'] * n)}]\nmov r2, 1\nst r3[0], r2\n", wanted
+
+
+def filled_sets(n):
+    """A tuple that is filled in part, moved again and again to a register before a jump to a file that names it."""
+    made, wanted = filled(n)
+    sets = "".join(f"mov r{i + 4}, 1\n" for i in range(n // 2 + 2))
+    regs = f"r1:{wanted}, " + file_of(4, n // 2 + 2)
+    moves = "mov r1, r3\n"
+    return HEAD + made + moves + sets + f"bnz r2, L1\n{moves * (n // 2)}jmp L1\nL1: code[]{{{regs}}}.\njmp L0\n"
+
+
+def filled_registers(n):
+    """One jump to a file of many registers, which all have the same tuple that is filled in part."""
+    made, wanted = filled(n)
+    sets = "".join(f"mov r{i + 4}, r3\n" for i in range(n // 4))
+    regs = ", ".join(f"r{i + 4}:a" for i in range(n // 4))
+    return HEAD + made + sets + f"jmp L1[{wanted}]\nL1: code[a]{{{regs}}}.\njmp L0\n"
+
+
+def filled_stores(n):
+    """A tuple that is filled in part, stored again and again."""
+    made, wanted = filled(n)
+    return HEAD + made + f"malloc r4[{wanted}]\n" + "st r4[0], r3\n" * (n // 2) + "jmp L0\n"
+
+
+def fills_in_disorder(n):
+    """A wide tuple of which each field is filled, in an order by strides."""
+    stores = "".join(f"st r1[{i * 7919 % n}], r2\n" for i in range(n))
+    return wide(n, ["mov r2, 1\n", stores])
+
+
+def put_at_depths(n):
+    """A wide type with a free name, put under each of many numbers of binders."""
+    depth, file = min(1900, n // 30), "{r1:a}"
+    for _ in range(depth):
+        file = f"{{r1:a, r2:all[b]{file}}}"
+    return HEAD + f"jmp L0\nL1: code[a]{{}}.\nmov r1, L2[{open_type(n)}]\njmp L0\nL2: code[a]{file}.\njmp L0\n"
+
+
+def applied_again(n):
+    """A label with a wide file, applied again and again to the same type."""
+    return HEAD + "mov r1, L1[int]\n" * (n // 2) + f"jmp L0\nL1: code[a]{{{file_of(1, n)}}}.\njmp L0\n"
+
+
 def names(n):
     """Long lists of names, in a header and in the types of a register."""
     some = ", ".join(f"a{i}" for i in range(n))
@@ -174,7 +222,13 @@ TEXTS = [
     (filled_moves, 10_000), (arguments, 10_000), (deep, 20), (unpacks, 10_000), (wide_jumps, 80_000),
     (changed_jumps, 40_000), (two_files, 40_000), (unpacked_jumps, 40_000), (same_pair_jumps, 20_000),
     (same_pair_stores, 20_000), (open_loads, 40_000), (opened_loads, 40_000), (open_jumps, 20_000),
-    (opened_jumps, 20_000), (names, 20_000),
+    (opened_jumps, 20_000), (names, 20_000), (filled_sets, 5_000), (filled_registers, 5_000), (filled_stores, 5_000),
+]
+# Texts that ask for more than their own length, and why (docs/TAL.md).
+LARGER = [
+    (fills_in_disorder, 10_000, "a field that is filled makes parts of a set, the binary logarithm of its number many"),
+    (put_at_depths, 2_000, "the type is another one at each depth"),
+    (applied_again, 500, "the file is made anew at each place"),
 ]
 
 
@@ -211,8 +265,8 @@ def put(path, text):
         return file.write(text)
 
 
-def report(name, small, large, few, many, bases):
-    """One line of figures of a text at two sizes, with what it misses."""
+def report(name, small, large, few, many, bases, why):
+    """One line of figures of a text at two sizes, with what it misses, and why where that is known."""
     pairs = list(zip(few, many, bases))
     times = [(b[0] - base[0]) / max(a[0] - base[0], 1e-4) for a, b, base in pairs]
     memory = max(max(0, b[1] - base[1]) / large for _, b, base in pairs)
@@ -224,7 +278,7 @@ def report(name, small, large, few, many, bases):
     print(
         f"{name}: {small} bytes in {few[0][0]:.3f} s, {large} in {many[0][0]:.3f} s; {large / small:.2f} times the "
         f"text, {times[0]:.1f} times the time to check, {times[1]:.1f} to load, {memory:.0f} bytes of memory a byte"
-        f"{': ' + ', '.join(wrong) if wrong else ''}", flush=True,
+        f"{': ' + ', '.join(wrong) if wrong else ''}{f' ({why})' if wrong and why else ''}", flush=True,
     )
 
 
@@ -235,11 +289,11 @@ def main():
         put(paths[0], HEAD + "jmp L0\n")
         bases = least(commands_of(talc, paths[0]))
         print(f"a text of one jump: {bases[0][0]:.4f} s, {bases[0][1] / 1e6:.1f} MB")
-        for make, n in TEXTS:
+        for make, n, why in [(*text, "") for text in TEXTS] + LARGER:
             if not chosen or make.__name__ in chosen:
                 small, large = put(paths[0], make(n)), put(paths[1], make(10 * n))
                 runs = least(commands_of(talc, paths[0]) + commands_of(talc, paths[1]))
-                report(make.__name__, small, large, runs[:2], runs[2:], bases)
+                report(make.__name__, small, large, runs[:2], runs[2:], bases, why)
 
 
 main()

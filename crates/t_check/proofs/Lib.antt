@@ -13,3 +13,4 @@ mod Numbering
 mod Turns
 mod Bodies
 mod Exact
+mod Applying

@@ -75,6 +75,11 @@ abbrev pub IsExists : List Ty → ℕ → Option ℕ → Type 0
 IsExists ts n (Some body) = (at ts n ≡ ExistsTy (at ts body)) × (body < length ts)
 IsExists ts n None = (body : Ty) → at ts n ≢ ExistsTy body
 
+-- how many types the code of a number owes
+abbrev pub IsOwing : List Ty → ℕ → Option ℕ → Type 0
+IsOwing ts n (Some owes) = (f : TFile) × (at ts n ≡ CodeTy owes f)
+IsOwing ts n None = (owes : ℕ) (f : TFile) → at ts n ≢ CodeTy owes f
+
 -- Under n type names, where g is known of the registers, the number of the type of a base, or its first fault. The
 -- types us are those after the call.
 abbrev pub IsTypeOfBase : TProg → List Ty → ℕ → RegTypes → Span → TBase → Result ℕ TFault → Type 0

@@ -5,7 +5,7 @@ ghost use Rattle.t_terms.specs.declared.fault.TFault.TheVariants as fault;
 ghost use Rattle.t_intern.specs.Grown.{Grown, IsNumber};
 ghost use Rattle.t_intern.specs.Nodes.{at, type_at, PartsBelow};
 ghost use Rattle.t_intern.specs.Read.{node};
-ghost use Rattle.t_check.specs.Verdict.{IsCode, IsRegsOf, IsExists};
+ghost use Rattle.t_check.specs.Verdict.{IsCode, IsOwing, IsRegsOf, IsExists};
 
 use idx_core::{OutOfMemory, Span};
 use t_intern::{Shape, Types};
@@ -55,6 +55,17 @@ pub(crate) fn code_parts(types: &Types, n: u64) -> Result<Option<CodeParts>, Out
     match types.copied(n)? {
         Shape::Code { owes, regs } => Ok(Some(CodeParts { owes, regs })),
         Shape::Int | Shape::Var(_) | Shape::Exists(_) | Shape::Tuple(_) => Ok(None),
+    }
+}
+
+// How many types code owes.
+pub(crate) fn owed(types: &Types, n: u64) -> Option<u64>
+    requires { n < length types.now }
+    ensures { IsOwing types.now n result }
+{
+    match types.shape(n) {
+        Shape::Code { owes, .. } => Some(*owes),
+        Shape::Int | Shape::Var(_) | Shape::Exists(_) | Shape::Tuple(_) => None,
     }
 }
 

@@ -1,17 +1,19 @@
 // The types of small values, by number.
-ghost use Rattle.std.specs.Prelude.{◌<◌, ◌≤◌, IfOk, length};
+ghost use Rattle.std.specs.Prelude.{◌≡◌, ℕ, ◌<◌, ◌≤◌, IfOk, length};
 ghost use Rattle.t_types.specs.WellFormed.{max_names, WellFormed, WellFormedTypes};
 ghost use Rattle.t_types.specs.Read.{tree, types as type_trees};
+ghost use Rattle.t_types.specs.Tree.{CodeTy, TFile};
 ghost use Rattle.t_terms.specs.Tree.{Plain};
 ghost use Rattle.t_terms.specs.Read.{base as base_tree, value};
-ghost use Rattle.t_intern.specs.Grown.{Grown};
+ghost use Rattle.t_intern.specs.Applied.{with_types};
+ghost use Rattle.t_intern.specs.Grown.{Grown, IsNumber};
 ghost use Rattle.t_intern.specs.Nodes.{at, regs_at, RegsBelow};
 ghost use Rattle.t_check.specs.Bounds.{Bounded, OwedFile};
 ghost use Rattle.t_check.specs.Verdict.{FormedAt, FormedBase, IsPlace, BaseTypedAt, TypedAt, AppliedAt, IsInstantiated};
 ghost use Rattle.t_check.specs.Verdict.{IsPacked};
 
 use crate::checker::Checker;
-use crate::parts::{code_parts, exists_body, intern, refused};
+use crate::parts::{code_parts, exists_body, intern, owed, refused};
 use idx_core::{OutOfMemory, Span};
 use t_intern::{Shape, Types};
 use t_terms::{Base, TCode, TFault, Value};
@@ -101,18 +103,54 @@ impl Checker<'_> {
         ensures grown { Grown types.old types.new }
         ensures applied { AppliedAt types.old types.new self.now span found (type_trees args.now) result }
     {
-        let parts = match code_parts(types, found)? {
-            Some(parts) => parts,
+        let owes = match owed(types, found) {
+            Some(owes) => owes,
             None => return refused(TCode::T17, span),
         };
         let count = args.len() as u64;
-        if count > parts.owes {
+        if count > owes {
             return refused(TCode::T17, span);
         }
-        let regs = self.instantiate(types, parts.owes, &parts.regs, args)?;
-        let owes = parts.owes - count;
-        let n = intern(types, Shape::Code { owes, regs })?;
+        let n = self.applied(types, found, args)?;
         Ok(n)
+    }
+
+    // The number of code that is applied to types. It is remembered, so that its file is made once.
+    fn applied(&self, types: &mut Types, found: u64, args: &[TType]) -> Result<u64, OutOfMemory>
+        requires few { self.now.registers.names ≤ max_names }
+        requires found { found < length types.old }
+        requires bounded { Bounded self.now.registers.names (at types.old found) }
+        requires enough { (owes : ℕ) (f : TFile) → at types.old found ≡ CodeTy owes f → length args.now ≤ owes }
+        requires args { WellFormedTypes self.now.registers.names (type_trees args.now) }
+        ensures grown { Grown types.old types.new }
+        ensures number { IfOk result (IsNumber types.new (with_types (type_trees args.now) (at types.old found))) }
+    {
+        let row = types.number_row(args)?;
+        if let Some(made) = types.recalls_applied(found, row) {
+            return Ok(made);
+        }
+        let made = self.apply_anew(types, found, args)?;
+        types.note_applied(found, row, made);
+        Ok(made)
+    }
+
+    // The same by its file.
+    fn apply_anew(&self, types: &mut Types, found: u64, args: &[TType]) -> Result<u64, OutOfMemory>
+        requires few { self.now.registers.names ≤ max_names }
+        requires found { found < length types.old }
+        requires bounded { Bounded self.now.registers.names (at types.old found) }
+        requires enough { (owes : ℕ) (f : TFile) → at types.old found ≡ CodeTy owes f → length args.now ≤ owes }
+        requires args { WellFormedTypes self.now.registers.names (type_trees args.now) }
+        ensures grown { Grown types.old types.new }
+        ensures number { IfOk result (IsNumber types.new (with_types (type_trees args.now) (at types.old found))) }
+    {
+        let parts = match code_parts(types, found)? {
+            Some(parts) => parts,
+            None => return Ok(found),
+        };
+        let regs = self.instantiate(types, parts.owes, &parts.regs, args)?;
+        let owes = parts.owes - args.len() as u64;
+        intern(types, Shape::Code { owes, regs })
     }
 
     // The registers' types of code that owes `owes` types, where the types in order are put for the first ones.

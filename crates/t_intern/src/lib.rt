@@ -4,7 +4,7 @@
 mod bounds;
 mod fitting;
 mod inserting;
-mod marked;
+mod made;
 mod memo;
 mod numbering;
 mod pairs;

@@ -1,7 +1,8 @@
 // Numbers of types that are given as trees.
 ghost use Rattle.std.specs.Prelude.{◌≡◌, length, IfOk, OnOk};
 ghost use Rattle.t_types.specs.Read.{tree, types, file, fields};
-ghost use Rattle.t_types.specs.Tree.{CodeTy};
+ghost use Rattle.t_types.specs.Tree.{CodeTy, TupleTy};
+ghost use Rattle.t_intern.specs.Applied.{row, unfilled as unfilled_fields};
 ghost use Rattle.t_intern.specs.Grown.{Grown, IsNumber, AreNumbers, AreRegs, AreFields};
 ghost use Rattle.t_intern.specs.Nodes.{regs_at, fields_at, RegsBelow, FieldsBelow};
 ghost use Rattle.t_intern.specs.Numbered.{Numbered, NumberedFile, NumberedFields};
@@ -9,7 +10,19 @@ ghost use Rattle.t_intern.specs.Numbered.{Numbered, NumberedFile, NumberedFields
 use crate::shape::Shape;
 use crate::types::Types;
 use idx_core::OutOfMemory;
+use std::alloc::Global;
 use t_types::TType;
+
+// Numbers as fields that are not filled.
+fn unfilled(alloc: Global, ns: &[u64]) -> Result<Vec<(u64, bool)>, OutOfMemory>
+    ensures { IfOk result (λ v. v.items ≡ unfilled_fields ns.now) }
+{
+    let mut made = Vec::new(alloc);
+    for i in 0..ns.len() {
+        made.push((ns[i], false))?;
+    }
+    Ok(made)
+}
 
 impl Types {
     /// The numbers of types. An error is want of memory.
@@ -23,6 +36,16 @@ impl Types {
             made.push(n)?;
         }
         Ok(made)
+    }
+
+    /// The number of a tuple of types whose fields are not filled. An error is want of memory.
+    pub fn number_row(&mut self, ts: &[TType]) -> Result<u64, OutOfMemory>
+        ensures grown { Grown self.old self.new }
+        ensures number { IfOk result (IsNumber self.new (TupleTy (row (types ts.now)))) }
+    {
+        let numbers = self.number_all(ts)?;
+        let fields = unfilled(self.alloc(), &numbers)?;
+        self.interned(Shape::Tuple(fields))
     }
 
     /// The number of code that owes `owes` types and has these registers. An error is want of memory.

@@ -1,6 +1,7 @@
 use Rattle.std.proofs.Common.{arith}
+use Rattle.t_intern.specs.Marks.{marked}
 use Rattle.t_intern.proofs.Growing.{grown_length}
-use Rattle.t_intern.proofs.MadeMarks.{mark_next}
+use Rattle.t_intern.proofs.MadePairs.{made_next}
 use Rattle.t_check.proofs.marking.mark.Goals as goal
 
 pub note_mark-requires-clause-there : goal.note_mark-requires-clause-there
@@ -13,4 +14,4 @@ note_mark-requires-clause-set c =
 
 pub note_mark-requires-clause-number : goal.note_mark-requires-clause-number
 note_mark-requires-clause-number c =
-    mark_next c.args.types.now c.mark_anew.new.types c.args.n c.args.set c.in_ok-made.made c.in_ok-made.ensures.grown c.requires.there c.requires.set c.in_ok-made.ensures.number
+    made_next marked c.args.types.now c.mark_anew.new.types c.args.n c.args.set c.in_ok-made.made c.in_ok-made.ensures.grown c.requires.there c.requires.set c.in_ok-made.ensures.number

@@ -1,11 +1,16 @@
-use Rattle.std.proofs.Common.{◌≡◌, ◌-◌, List, ℕ, length, arith, subst, Option}
+use Rattle.std.proofs.Common.{◌≡◌, ◌-◌, ◌≤◌, length, arith, refl, subst}
 use Rattle.std.proofs.lemmas.List.{length-map}
 use Rattle.t_types.specs.Read.{tree, types}
+use Rattle.t_types.specs.Tree.{Ty}
+use Rattle.t_types.specs.WellFormed.{max_names}
 use Rattle.t_terms.specs.ReadProgram.{program}
-use Rattle.t_intern.specs.Nodes.{at, regs_at}
-use Rattle.t_check.specs.declared.parts.CodeParts.{CodeParts}
-use Rattle.t_check.specs.Verdict.{IsCode, IsInstantiated}
+use Rattle.t_rules.specs.Registers.{inst_file}
+use Rattle.t_intern.specs.Grown.{IsNumber}
+use Rattle.t_intern.specs.Nodes.{at}
+use Rattle.t_check.specs.Bounds.{Bounded}
+use Rattle.t_check.proofs.Applying.{with_file}
 use Rattle.t_check.proofs.Blocks.{types_below}
+use Rattle.t_check.proofs.Depth.{inst_owed}
 use Rattle.t_check.proofs.Typing.{plain_ok}
 use Rattle.t_check.proofs.checker.Checker.apply.Goals as goal
 
@@ -14,12 +19,17 @@ returns-clause-applied c = λ g b h.
     let P = program c.args.self.now.program.now in
     let n = c.args.self.now.registers.names in
     let ts = c.args.types.now in
-    let us = c.instantiate.new.types in
-    let args = c.args.args.now in
-    let parts = c.in-Some.parts in
-    let len : length (types args) ≡ length args = length-map args tree in
-    let code = subst (λ (o : Option CodeParts). IsCode ts c.args.found o) c.in-Some.is c.in_ok-parts.ensures in
-    let made = subst (λ (xs : List (ℕ × ℕ)). IsInstantiated us n (types args) parts.owes (regs_at ts xs) c.in_ok-regs.regs.items) c.deref.ensures.value c.in_ok-regs.ensures.made in
-    let le = c.if-count-parts.false in
-    plain_ok P n g c.args.span b c.intern.new.types (types args) (at ts c.args.found) parts.owes (parts.owes - length args) c.in_ok-n.n (regs_at ts parts.regs.items) (regs_at us c.in_ok-regs.regs.items)
-    (omega (arith, len, c.requires.some)) h c.requires.bounded code.0 (omega (arith, len, le)) (omega (arith, len)) made.0.0 (types_below n args c.requires.args) made.1 c.in_ok-n.ensures.number
+    let us = c.applied.new.types in
+    let args = types c.args.args.now in
+    let t = at ts c.args.found in
+    let owes = c.in-Some.owes in
+    let code = c.in-Some.ensures in
+    let file = code.0 in
+    let len : length args ≡ length c.args.args.now = length-map c.args.args.now tree in
+    let le : length args ≤ owes = omega (arith, len, c.if-count-owes.false) in
+    let small = subst (Bounded n) code.1 c.requires.bounded in
+    let few : n ≤ max_names = search in
+    let owed = inst_owed n owes args file le small.0 few c.requires.args small.1 in
+    let number = subst (λ (u : Ty). IsNumber us u c.in_ok-n.n) (with_file args t owes file code.1 le) c.in_ok-n.ensures.number in
+    plain_ok P n g c.args.span b us args t owes (owes - length args) c.in_ok-n.n file (inst_file args owes file)
+    (omega (arith, len, c.requires.some)) h c.requires.bounded code.1 le refl refl (types_below n c.args.args.now c.requires.args) owed number

@@ -223,12 +223,12 @@ TEXTS = [
     (changed_jumps, 40_000), (two_files, 40_000), (unpacked_jumps, 40_000), (same_pair_jumps, 20_000),
     (same_pair_stores, 20_000), (open_loads, 40_000), (opened_loads, 40_000), (open_jumps, 20_000),
     (opened_jumps, 20_000), (names, 20_000), (filled_sets, 5_000), (filled_registers, 5_000), (filled_stores, 5_000),
+    (applied_again, 10_000),
 ]
 # Texts that ask for more than their own length, and why (docs/TAL.md).
 LARGER = [
     (fills_in_disorder, 10_000, "a field that is filled makes parts of a set, the binary logarithm of its number many"),
     (put_at_depths, 2_000, "the type is another one at each depth"),
-    (applied_again, 500, "the file is made anew at each place"),
 ]
 
 

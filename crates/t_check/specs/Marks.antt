@@ -1,5 +1,6 @@
 -- The parts of a set of numbers, and a type with marks, of which there may be none.
-use Rattle.std.specs.Prelude.{◌≡◌, ℕ, ◌+◌, ◌<◌, ◌≤◌, Bool, false, ◌||◌, nat_eq, List, [], ◌∷◌, length, Option, Some, None}
+use Rattle.std.specs.Prelude.{◌≡◌, ℕ, ◌+◌, ◌<◌, ◌≤◌, Bool, false, ◌||◌, nat_eq, List, [], ◌∷◌, length}
+use Rattle.std.specs.Prelude.{Option, Some, None}
 use Rattle.t_types.specs.Tree.{Ty}
 use Rattle.t_intern.specs.Marks.{branch, none, has, marked}
 use Rattle.t_intern.specs.Nodes.{at}

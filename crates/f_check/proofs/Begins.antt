@@ -1,11 +1,12 @@
 -- The first step of each form.
 use Rattle.std.proofs.Common.{◌≡◌, ℕ, ◌+◌, ◌*◌, ◌<◌, ◌≤◌, ◌∙◌, refl, ap, sym, subst, arith, All, List, [], ◌∷◌, ◌++◌, map, length, Vec, Global, Bor, Ok}
-use Rattle.std.proofs.lemmas.List.{length_push}
+use Rattle.std.proofs.lemmas.List.{length-append}
 use Rattle.std.proofs.lemmas.List.Elements.{All-head, All-tail, All-same}
 use Rattle.idx_core.specs.declared.arith.Op.{Op}
 use Rattle.idx_core.specs.declared.span.Span.{Span}
-use Rattle.f_terms.specs.Ty.{TArrow, TTuple, NoTys, Below}
-use Rattle.f_terms.specs.Tm.{Tm, SFix, SApp, SGen, SInst, STuple, SProj, SArith, SIf0, plain, plain_all, tms, NoTms}
+use Rattle.f_terms.specs.Ty.{TArrow, TTuple, TSome, NoTys, Below}
+use Rattle.f_terms.specs.Tm.{Tm, SFix, SApp, SGen, SInst, STuple, SProj, SArith, SIf0, SLet, SPack, SOpen, SRef, SDeref}
+use Rattle.f_terms.specs.Tm.{SAssign, plain, plain_all, tms, NoTms}
 use Rattle.f_terms.specs.Limits.{nodes, nodes_all, Within}
 use Rattle.f_terms.specs.Scope.{InScope}
 use Rattle.f_terms.specs.Read.{tree, place}
@@ -16,12 +17,16 @@ use Rattle.f_terms.specs.ReadTerm.{count, node_at}
 use Rattle.f_terms.specs.declared.node.FTerm.{FTerm}
 use Rattle.f_terms.specs.declared.node.FNode.{FNode}
 use Rattle.f_terms.specs.declared.node.FShape.{FShape}
-use Rattle.f_check.specs.Walk.{Part, AllPass, context, Goes, now, Opens, Leads, Enters, all_nodes, rest_of, frame_work, left, open_work, work}
-use Rattle.f_check.specs.Scopes.{Bound, bound, IsScope}
+use Rattle.f_check.specs.Walk.{Part, AllPass, context, fix_names, Goes, now, Opens, Leads, Enters, all_nodes, rest_of, frame_work, left, open_work, work}
+use Rattle.f_check.specs.Scopes.{bound, IsScope}
 use Rattle.f_check.specs.declared.scope.Binder.{Binder}
+use Rattle.f_check.specs.declared.frame.Head.{Head}
+use Rattle.f_check.specs.declared.frame.Packing.{Packing}
 use Rattle.f_check.specs.declared.frame.Frame.{Frame}
 use Rattle.f_check.specs.declared.frame.Frame.TheVariants as C
-use Rattle.f_check.proofs.Scoping.{scope_more, scope_push, bounds_push}
+use Rattle.f_terms.specs.declared.types.FType.TheVariants as T
+use Rattle.f_terms.proofs.Limited.{arrow_within}
+use Rattle.f_check.proofs.Scoping.{scope_more, scope_two}
 use Rattle.f_check.specs.declared.frame.State.{State}
 use Rattle.f_check.specs.declared.frame.Control.TheVariants.{Run, Give}
 
@@ -83,6 +88,41 @@ module _ (f : FTerm) (st : State) (i : ℕ) (n : FNode) (h : Leads f st (Run i))
       by_form (S.Arith op a b) e (C.Left n.span b) a
       (enter_same f st (C.Left n.span b) a (SArith (place n.span) op (node_at f a) (node_at f b)) o (ks 0 0 (omega arith)) (λ n m k. k.0) (omega arith) (op, refl, o.0, (refl, refl), ks 1 0 (omega arith)))
 
+  pub let_form : (a b : ℕ) → n.shape ≡ S.Let a b → Enters f st (C.Let n.span b) a × (2 * nodes (plain (node_at f a)) + frame_work f (C.Let n.span b) + left f st < work f st (Run i))
+  let_form a b e =
+      let o = opens (S.Let a b) e in
+      let ks = inside (S.Let a b) e in
+      by_form (S.Let a b) e (C.Let n.span b) a
+      (enter_same f st (C.Let n.span b) a (SLet (place n.span) (node_at f a) (node_at f b)) o (ks 0 0 (omega arith)) (λ n m k. k.0) (omega arith) (refl, o.0, (refl, refl), ks 1 0 (omega arith)))
+
+  pub open_form : (a b : ℕ) → n.shape ≡ S.Open a b → Enters f st (C.Open n.span b) a × (2 * nodes (plain (node_at f a)) + frame_work f (C.Open n.span b) + left f st < work f st (Run i))
+  open_form a b e =
+      let o = opens (S.Open a b) e in
+      let ks = inside (S.Open a b) e in
+      by_form (S.Open a b) e (C.Open n.span b) a
+      (enter_same f st (C.Open n.span b) a (SOpen (place n.span) (node_at f a) (node_at f b)) o (ks 0 0 (omega arith)) (λ n m k. k.0) (omega arith) (refl, o.0, (refl, refl), ks 1 0 (omega arith)))
+
+  pub ref_form : (a : ℕ) → n.shape ≡ S.Ref a → Enters f st (C.Ref n.span) a × (2 * nodes (plain (node_at f a)) + frame_work f (C.Ref n.span) + left f st < work f st (Run i))
+  ref_form a e =
+      let o = opens (S.Ref a) e in
+      let ks = inside (S.Ref a) e in
+      by_form (S.Ref a) e (C.Ref n.span) a
+      (enter_same f st (C.Ref n.span) a (SRef (place n.span) (node_at f a)) o (ks 0 0 (omega arith)) (λ n m k. k) (omega arith) (refl, o.0, (refl, refl)))
+
+  pub deref_form : (a : ℕ) → n.shape ≡ S.Deref a → Enters f st (C.Deref n.span) a × (2 * nodes (plain (node_at f a)) + frame_work f (C.Deref n.span) + left f st < work f st (Run i))
+  deref_form a e =
+      let o = opens (S.Deref a) e in
+      let ks = inside (S.Deref a) e in
+      by_form (S.Deref a) e (C.Deref n.span) a
+      (enter_same f st (C.Deref n.span) a (SDeref (place n.span) (node_at f a)) o (ks 0 0 (omega arith)) (λ n m k. k) (omega arith) (refl, o.0, (refl, refl)))
+
+  pub assign_form : (a b : ℕ) → n.shape ≡ S.Assign a b → Enters f st (C.Target n.span b) a × (2 * nodes (plain (node_at f a)) + frame_work f (C.Target n.span b) + left f st < work f st (Run i))
+  assign_form a b e =
+      let o = opens (S.Assign a b) e in
+      let ks = inside (S.Assign a b) e in
+      by_form (S.Assign a b) e (C.Target n.span b) a
+      (enter_same f st (C.Target n.span b) a (SAssign (place n.span) (node_at f a) (node_at f b)) o (ks 0 0 (omega arith)) (λ n m k. k.0) (omega arith) (refl, o.0, (refl, refl), ks 1 0 (omega arith)))
+
   pub if_form : (c a b : ℕ) → n.shape ≡ S.If0 c a b → Enters f st (C.Test n.span a b) c × (2 * nodes (plain (node_at f c)) + frame_work f (C.Test n.span a b) + left f st < work f st (Run i))
   if_form c a b e =
       let o = opens (S.If0 c a b) e in
@@ -93,23 +133,34 @@ module _ (f : FTerm) (st : State) (i : ℕ) (n : FNode) (h : Leads f st (Run i))
 
 module _ (f : FTerm) (st : State) where
   -- the body of a function
-  pub fix_enters : (s : Span) (a r : Bor FType) (j : ℕ) (sc : Vec Binder Global) → Opens f st (SFix (place s) (tree a.now) (tree r.now) (node_at f j)) → j < count f → Within (TArrow (tree a.now) (tree r.now)) →
-      sc.items ≡ st.scope.items ++ record { arg = a; res = r; around = st.around } ∷ [] → Enters f (record st { scope = sc }) (C.Fix s a r) j
-  fix_enters s a r j sc o lt w es =
-      let b : Bound = record { arg = tree a.now; res = tree r.now; at = st.around } in
+  pub fix_enters : (x : Head) (j : ℕ) (sc : Vec Binder Global) → Opens f st (SFix (place x.span) (tree x.arg.now) (tree x.res.now) (node_at f j)) → j < count f → Within (TArrow (tree x.arg.now) (tree x.res.now)) →
+      map bound sc.items ≡ map bound st.scope.items ++ fix_names st.around (tree x.arg.now) (tree x.res.now) → Enters f (record st { scope = sc }) (C.Fix x) j
+  fix_enters x j sc o lt w e =
       let bs = map bound st.scope.items in
-      let d : Binder = record { arg = a; res = r; around = st.around } in
-      let e : map bound sc.items ≡ bs ++ b ∷ [] = ap (map bound) es ∙ bounds_push st.scope.items d in
-      let long : 2 * length bs + 2 ≡ 2 * length (map bound sc.items) = omega (arith, ap length e, length_push bs b) in
-      let room = o.0.2 in (
-        now st (SFix (place s) (tree a.now) (tree r.now) (node_at f j)),
+      let long : length bs + 2 ≡ length (map bound sc.items) = omega (arith, ap length e, length-append bs (fix_names st.around (tree x.arg.now) (tree x.res.now))) in
+      let room = o.0.2 in
+      let wa = arrow_within (tree x.arg.now) (tree x.res.now) w in (
+        now st (SFix (place x.span) (tree x.arg.now) (tree x.res.now) (node_at f j)),
         lt,
         (
-          subst (IsScope st.around) (sym e) (scope_push st.around bs b o.0.0 (omega arith, o.0.1.0, o.0.1.1, w)),
+          subst (IsScope st.around) (sym e) (scope_two st.around bs (record { ty = TArrow (tree x.arg.now) (tree x.res.now); at = st.around }) (record { ty = tree x.arg.now; at = st.around }) o.0.0
+              (omega arith, (o.0.1.0, o.0.1.1), w) (omega arith, o.0.1.0, wa.0)),
           subst (InScope (plain (node_at f j)) st.around) long o.0.1.2,
           omega (arith, room),
         ),
         (refl, o.0, refl, e, w),
+        o.1,
+      )
+
+  -- the part of a package
+  pub pack_enters : (p : Packing) (j : ℕ) → Opens f st (SPack (place p.span) (tree p.hidden.now) (node_at f j) (tree p.shape.now)) → j < count f → tree p.shape.now ≡ TSome (tree p.body.now) → Within (tree p.hidden.now) → Within (tree p.shape.now) →
+      Enters f st (C.Pack p) j
+  pack_enters p j o lt is w v =
+      let room = o.0.2 in (
+        now st (SPack (place p.span) (tree p.hidden.now) (node_at f j) (tree p.shape.now)),
+        lt,
+        (o.0.0, o.0.1.2, omega (arith, room)),
+        (refl, o.0, (refl, refl), is, w, v),
         o.1,
       )
 
@@ -142,7 +193,7 @@ module _ (f : FTerm) (st : State) where
 
   -- a tuple with no field
   pub tuple_empty : (s : Span) (es : List ℕ) (t : FType) → length es ≡ 0 → tree t ≡ TTuple NoTys → Opens f st (STuple (place s) (tms (map (node_at f) es))) →
-      Goes f st (Ok (Give t s)) (open_work f st (STuple (place s) (tms (map (node_at f) es))))
+      Goes f st (Ok (Give t s T.Int)) (open_work f st (STuple (place s) (tms (map (node_at f) es))))
   tuple_empty s [] t e et o =
       let w : Within (TTuple NoTys) = (omega arith, omega arith) in
       ((STuple (place s) NoTms, (((NoTys, et, refl, w), subst (Below st.around) (sym et) tt, subst Within (sym et) w), refl, o.1)), omega arith)

@@ -1,7 +1,7 @@
 -- The field of a tuple.
 use Rattle.std.proofs.Common.{◌≡◌, ◌≢◌, ◌-◌, ◌<◌, ◌≤◌, ℕ, zero, suc, List, [], ◌∷◌, map, refl, ap, ◌∙◌, sym, subst, length, get_or, arith, inr, Some, None}
 use Rattle.idx_core.specs.Over.{BelowAt, AnyDepth}
-use Rattle.f_terms.specs.Ty.{Ty, TInt, TVar, TArrow, TAll, TTuple, Tys, NoTys, MoreTys, tys, Below, each_all, size, sizes, depth, depths}
+use Rattle.f_terms.specs.Ty.{Ty, TInt, TVar, TArrow, TAll, TTuple, TSome, TRef, Tys, NoTys, MoreTys, tys, Below, each_all, size, sizes, depth, depths}
 use Rattle.f_terms.specs.Read.{tree}
 use Rattle.f_terms.specs.declared.types.FType.{FType}
 use Rattle.f_terms.specs.Tm.{Spn, Tm, SProj, span_of}
@@ -66,6 +66,8 @@ module _ (n : ℕ) (g : Tys) (s : Spn) where
       pick (TArrow a b) h = (refl, sym at)
       pick (TAll t) h = (refl, sym at)
       pick (TTuple ts) h = absurd (h ts refl)
+      pick (TSome t) h = (refl, sym at)
+      pick (TRef t) h = (refl, sym at)
 
   pub proj_field : (i : ℕ) (f : Tm) (t : Ty) (ts : Tys) → Passes f n g t → t ≡ TTuple ts → field_ty ts i ≡ None → Fault (SProj s i f) n g E11 s
   proj_field i f t ts pf et ef =

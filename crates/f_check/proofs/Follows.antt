@@ -4,9 +4,11 @@ use Rattle.std.proofs.lemmas.Result.{IfOk-weaker}
 use Rattle.f_terms.specs.Ty.{Tys}
 use Rattle.f_terms.specs.Shape.{children}
 use Rattle.f_terms.specs.declared.node.FShape.{FShape}
+use Rattle.f_terms.specs.declared.node.FTerm.{FTerm}
 use Rattle.f_terms.specs.declared.fault.FFault.{FFault}
+use Rattle.f_check.specs.Scopes.{Bound}
 use Rattle.f_check.specs.Walk.{rest_of}
-use Rattle.f_check.specs.Notes.{inner, IsOf, Begun, Resumed}
+use Rattle.f_check.specs.Notes.{inner, IsOf, Begun, Becomes, Resumed}
 use Rattle.f_check.specs.declared.frame.Frame.{Frame}
 use Rattle.f_check.specs.declared.frame.Control.{Control}
 use Rattle.f_check.specs.declared.frame.Control.TheVariants.{Run}
@@ -29,7 +31,9 @@ begun r n old new fr j h is parts =
 pub same_form : (r : Result Control FFault) (n m : FShape) (old new : List Frame) → n ≡ m → IfOk r (Begun m old new) → IfOk r (Begun n old new)
 same_form r n m old new e h = subst (λ x. IfOk r (Begun x old new)) (sym e) h
 
-pub resumed : (r : Result Control FFault) (fr more : Frame) (old new : List Frame) (j : ℕ) → IfOk r (Enters j more old new) → rest_of fr ≡ j ∷ rest_of more →
-    ((n : FShape) → IsOf n fr → IsOf n more) → ((g : Tys) → (inner fr g ≡ g) × (inner more g ≡ g)) → IfOk r (Resumed fr old new)
-resumed r fr more old new j h parts is same =
-    IfOk-weaker r (Enters j more old new) (Resumed fr old new) (λ c e. subst (Resumed fr old new) (sym e.0) (more, e.1, parts, is, same)) h
+pub resumed : (r : Result Control FFault) (fr more : Frame) (bs : List Bound) (old new : List Frame) (j : ℕ) →
+    IfOk r (Enters j more old new) → rest_of fr ≡ j ∷ rest_of more → Becomes fr more →
+    ((f : FTerm) (n : FShape) (g : Tys) → inner f n fr g ≡ g) → IfOk r (Resumed fr bs old new)
+resumed r fr more bs old new j h parts is same =
+    IfOk-weaker r (Enters j more old new) (Resumed fr bs old new)
+    (λ c e. subst (Resumed fr bs old new) (sym e.0) (more, e.1, parts, is, same)) h

@@ -1,17 +1,20 @@
 -- The verdict on each form, from those on its parts.
 use Rattle.std.proofs.Common.{◌≡◌, ◌≢◌, ◌∙◌, ◌+◌, ◌-◌, ◌≤◌, ℕ, Result, Ok, Err, min, ap, ap₂, sym, refl, subst, arith, inl, inr}
-use Rattle.f_terms.specs.TyLaws.{put_bound, shift_none}
-use Rattle.f_terms.specs.Ty.{Ty, TInt, TVar, TArrow, TAll, TTuple, Tys, shift, put, Below, size, depth}
-use Rattle.f_terms.specs.Tm.{Spn, Tm, SFix, SApp, SGen, SInst, SArith, SIf0, span_of}
+use Rattle.f_terms.specs.TyLaws.{put_bound, unshift}
+use Rattle.f_terms.specs.Ty.{Ty, TInt, TVar, TArrow, TAll, TTuple, TSome, TRef, Tys, shift, put, Below, size, depth}
+use Rattle.f_terms.specs.Tm.{Spn, Tm, SFix, SApp, SGen, SInst, SArith, SIf0, SLet, SPack, SOpen, SRef, SDeref, SAssign}
+use Rattle.f_terms.specs.Tm.{span_of}
 use Rattle.f_terms.specs.Limits.{Within}
-use Rattle.f_terms.specs.Typing.{raised, in_fix}
-use Rattle.f_terms.specs.Faults.{Passes, Refusal, Fault, check, part, refuse, nothing, limits, if_arrow, if_all}
+use Rattle.f_terms.specs.Typing.{raised, in_fix, in_open}
+use Rattle.f_terms.specs.Noted.{outside}
+use Rattle.f_terms.specs.Faults.{Passes, Refusal, Fault, check, part, refuse, nothing, limits, if_arrow, if_all, if_some, if_ref}
 use Rattle.f_terms.specs.Read.{tree, place}
 use Rattle.f_terms.specs.declared.types.FType.{FType}
 use Rattle.f_terms.specs.declared.fault.FFault.{FFault}
 use Rattle.f_terms.specs.declared.fault.FFault.TheVariants.{Memory, Refused}
 use Rattle.f_terms.specs.declared.fault.Code.{Code}
-use Rattle.f_terms.specs.declared.fault.Code.TheVariants.{E07, E08, E09, E12, E13, E14, L4, L5}
+use Rattle.f_terms.specs.declared.fault.Code.TheVariants.{E07, E08, E09, E12, E13, E14, E16, E17, E18, E21, E22, L4, L5}
+use Rattle.f_terms.proofs.Limited.{unshift_within, ref_within}
 use Rattle.f_check.specs.Verdict.{Says, IsTypeOf, IsVerdict, IsPut}
 
 -- a fault of a part is one of the whole
@@ -34,13 +37,6 @@ pub limits_then : (t : Ty) (s : Spn) (rest : Refusal) (c : Code) (p : Spn) → l
 limits_then t s rest c p (inl h) = inl h
 limits_then t s rest c p (inr (e, inl k)) = inr (e, inl k)
 limits_then t s rest c p (inr (e, inr k)) = absurd k.1
-
--- the context of a body
-pub body_names : (n : ℕ) (a r : Ty) (g : Tys) → in_fix (shift (n - n) 0 a) (shift (n - n) 0 r) g ≡ in_fix a r g
-body_names n a r g = ap₂ (λ x y. in_fix x y g) (none a) (none r)
-  where
-    none : (t : Ty) → shift (n - n) 0 t ≡ t
-    none t = let z : n - n ≡ 0 = omega arith in ap (λ m. shift m 0 t) z ∙ shift_none t
 
 module _ (n : ℕ) (g : Tys) (s : Spn) where
   pub fix_limit : (a r : Ty) (b : Tm) (c : Code) (p : Spn) → limits (TArrow a r) s nothing c p → Fault (SFix s a r b) n g c p
@@ -66,6 +62,8 @@ module _ (n : ℕ) (g : Tys) (s : Spn) where
       pick (TArrow a b) h = absurd (h a b refl)
       pick (TAll t) h = (refl, sym at)
       pick (TTuple ts) h = (refl, sym at)
+      pick (TSome t) h = (refl, sym at)
+      pick (TRef t) h = (refl, sym at)
 
   pub app_in_arg : (f x : Tm) (t a b : Ty) → Passes f n g t → t ≡ TArrow a b → (c : Code) (p : Spn) → Fault x n g c p → Fault (SApp s f x) n g c p
   app_in_arg f x t a b pf et c p k = inr (TArrow a b, subst (Passes f n g) et pf, inl k)
@@ -97,6 +95,8 @@ module _ (n : ℕ) (g : Tys) (s : Spn) where
       pick (TArrow a b) h = (refl, sym at)
       pick (TAll t) h = absurd (h t refl)
       pick (TTuple ts) h = (refl, sym at)
+      pick (TSome t) h = (refl, sym at)
+      pick (TRef t) h = (refl, sym at)
 
   pub inst_limit : (f : Tm) (a t b : Ty) → Passes f n g t → t ≡ TAll b → (c : Code) (p : Spn) → limits a s (limits (put 0 a b) s nothing) c p → Fault (SInst s f a) n g c p
   inst_limit f a t b pf et c p k = inr (TAll b, subst (Passes f n g) et pf, k)
@@ -130,3 +130,82 @@ module _ (n : ℕ) (g : Tys) (s : Spn) where
 
   pub if_branches : (x a b : Tm) (t u : Ty) (q : Spn) → Passes x n g TInt → Passes a n g t → Passes b n g u → u ≢ t → span_of b ≡ q → Fault (SIf0 s x a b) n g E13 q
   if_branches x a b t u q px pa pb ne at = inr (TInt, px, inr (refl, inr (t, pa, inr (u, pb, inl (ne, (refl, sym at))))))
+
+  -- by the form of a type
+  pub by_some : (t : Ty) (f : Spn) (q : Spn) (go : Ty → Refusal) → ((b : Ty) → t ≢ TSome b) → f ≡ q → if_some t (refuse E16 f) go E16 q
+  by_some TInt f q go h at = (refl, sym at)
+  by_some (TVar i) f q go h at = (refl, sym at)
+  by_some (TArrow a b) f q go h at = (refl, sym at)
+  by_some (TAll t) f q go h at = (refl, sym at)
+  by_some (TTuple ts) f q go h at = (refl, sym at)
+  by_some (TSome t) f q go h at = absurd (h t refl)
+  by_some (TRef t) f q go h at = (refl, sym at)
+
+  pub by_ref : (t : Ty) (f : Spn) (q : Spn) (go : Ty → Refusal) → ((b : Ty) → t ≢ TRef b) → f ≡ q → if_ref t (refuse E21 f) go E21 q
+  by_ref TInt f q go h at = (refl, sym at)
+  by_ref (TVar i) f q go h at = (refl, sym at)
+  by_ref (TArrow a b) f q go h at = (refl, sym at)
+  by_ref (TAll t) f q go h at = (refl, sym at)
+  by_ref (TTuple ts) f q go h at = (refl, sym at)
+  by_ref (TSome t) f q go h at = (refl, sym at)
+  by_ref (TRef t) f q go h at = absurd (h t refl)
+
+  -- a package: its shape, its limits, its part
+  pub pack_shape : (h r : Ty) (e : Tm) → ((b : Ty) → r ≢ TSome b) → Fault (SPack s h e r) n g E16 s
+  pack_shape h r e ne = by_some r s s _ ne refl
+
+  pack_is : (h r b : Ty) (e : Tm) → r ≡ TSome b → (c : Code) (p : Spn) →
+      limits h s (limits r s (part (Fault e n g) (Passes e n g) (λ t. check (t ≡ put 0 h b) (refuse E17 (span_of e)) nothing))) c p → Fault (SPack s h e r) n g c p
+  pack_is h r b e is c p k =
+      subst (λ x. if_some x (refuse E16 s) (λ u. limits h s (limits r s (part (Fault e n g) (Passes e n g) (λ t. check (t ≡ put 0 h u) (refuse E17 (span_of e)) nothing)))) c p) (sym is) k
+
+  pub pack_hidden : (h r b : Ty) (e : Tm) → r ≡ TSome b → (c : Code) (p : Spn) → limits h s nothing c p → Fault (SPack s h e r) n g c p
+  pack_hidden h r b e is c p k = pack_is h r b e is c p (limits_then h s (limits r s (part (Fault e n g) (Passes e n g) (λ t. check (t ≡ put 0 h b) (refuse E17 (span_of e)) nothing))) c p k)
+
+  pub pack_limit : (h r b : Ty) (e : Tm) → r ≡ TSome b → Within h → (c : Code) (p : Spn) → limits r s nothing c p → Fault (SPack s h e r) n g c p
+  pack_limit h r b e is w c p k = pack_is h r b e is c p (inr (w.0, inr (w.1, limits_then r s (part (Fault e n g) (Passes e n g) (λ t. check (t ≡ put 0 h b) (refuse E17 (span_of e)) nothing)) c p k)))
+
+  pub pack_part : (h r b : Ty) (e : Tm) → r ≡ TSome b → Within h → Within r → (c : Code) (p : Spn) → Fault e n g c p → Fault (SPack s h e r) n g c p
+  pack_part h r b e is w v c p k = pack_is h r b e is c p (inr (w.0, inr (w.1, inr (v.0, inr (v.1, inl k)))))
+
+  pub pack_other : (h r b t : Ty) (e : Tm) (q : Spn) → r ≡ TSome b → Within h → Within r → Passes e n g t → t ≢ put 0 h b → span_of e ≡ q → Fault (SPack s h e r) n g E17 q
+  pack_other h r b t e q is w v ok ne at = pack_is h r b e is E17 q (inr (w.0, inr (w.1, inr (v.0, inr (v.1, inr (t, ok, inl (ne, (refl, sym at))))))))
+
+  pub pack_ok : (h r b t u : Ty) (e : Tm) → r ≡ TSome b → Within h → Within r → Below n h → Below n r → Passes e n g t → t ≡ put 0 h b → u ≡ r → IsTypeOf (SPack s h e r) n g u
+  pack_ok h r b t u e is w v bh br ok et eu =
+      ((b, is, eu, bh, br, subst (Passes e n g) et ok, w, v), subst (Below n) (sym eu) br, subst Within (sym eu) v)
+
+  -- an open
+  pub open_first : (a b : Tm) (t : Ty) (q : Spn) → Passes a n g t → ((u : Ty) → t ≢ TSome u) → span_of a ≡ q → Fault (SOpen s a b) n g E16 q
+  open_first a b t q ok ne at = inr (t, ok, by_some t (span_of a) q _ ne at)
+
+  pub open_second : (a b : Tm) (u : Ty) → Passes a n g (TSome u) → (c : Code) (p : Spn) → Fault b (n + 1) (in_open u g) c p → Fault (SOpen s a b) n g c p
+  open_second a b u ok c p k = inr (TSome u, ok, inl k)
+
+  pub open_escapes : (a b : Tm) (u v : Ty) (q : Spn) → Passes a n g (TSome u) → Passes b (n + 1) (in_open u g) v → v ≢ shift 1 0 (outside v) → span_of b ≡ q → Fault (SOpen s a b) n g E18 q
+  open_escapes a b u v q ok ok' ne at =
+      inr (TSome u, ok, inr (v, ok', inl ((λ x. ne (x.1.0 ∙ ap (shift 1 0) (sym (ap (put 0 TInt) x.1.0 ∙ unshift x.0)))), (refl, sym at))))
+
+  pub open_ok : (a b : Tm) (u v t : Ty) → Passes a n g (TSome u) → IsTypeOf b (n + 1) (in_open u g) v → v ≡ shift 1 0 t → t ≡ outside v → IsTypeOf (SOpen s a b) n g t
+  open_ok a b u v t ok h e o =
+      let low : Below n t = subst (Below n) (sym o) (put_bound n TInt v tt h.1) in
+      ((u, low, ok, subst (Passes b (n + 1) (in_open u g)) e h.0), low, unshift_within 1 t (subst Within e h.2))
+
+  -- references
+  pub ref_limit : (e : Tm) (t : Ty) → Passes e n g t → (c : Code) (p : Spn) → limits (TRef t) s nothing c p → Fault (SRef s e) n g c p
+  ref_limit e t ok c p k = inr (t, ok, k)
+
+  pub ref_ok : (e : Tm) (t u : Ty) → IsTypeOf e n g t → Within (TRef t) → u ≡ TRef t → IsTypeOf (SRef s e) n g u
+  ref_ok e t u ok w eu = ((t, eu, ok.0, w), subst (Below n) (sym eu) ok.1, subst Within (sym eu) w)
+
+  pub deref_other : (e : Tm) (t : Ty) (q : Spn) → Passes e n g t → ((u : Ty) → t ≢ TRef u) → span_of e ≡ q → Fault (SDeref s e) n g E21 q
+  deref_other e t q ok ne at = inr (t, ok, by_ref t (span_of e) q _ ne at)
+
+  pub deref_ok : (e : Tm) (t u : Ty) → IsTypeOf e n g t → t ≡ TRef u → IsTypeOf (SDeref s e) n g u
+  deref_ok e t u ok et = let h = subst (IsTypeOf e n g) et ok in (h.0, h.1, ref_within u h.2)
+
+  pub assign_first : (a b : Tm) (t : Ty) (q : Spn) → Passes a n g t → ((u : Ty) → t ≢ TRef u) → span_of a ≡ q → Fault (SAssign s a b) n g E21 q
+  assign_first a b t q ok ne at = inr (t, ok, by_ref t (span_of a) q _ ne at)
+
+  pub assign_other : (a b : Tm) (u t : Ty) (q : Spn) → Passes a n g (TRef u) → Passes b n g t → t ≢ u → span_of b ≡ q → Fault (SAssign s a b) n g E22 q
+  assign_other a b u t q ok ok' ne at = inr (TRef u, ok, inr (t, ok', inl (ne, (refl, sym at))))

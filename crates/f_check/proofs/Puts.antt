@@ -1,11 +1,12 @@
 -- The counts before a put are those of the type after it.
-use Rattle.std.proofs.Common.{zero, suc, List, [], ◌∷◌, ◌++◌, map, take, length, get_or, sum_by, ◌≡◌, ℕ, ◌+◌, ◌-◌, ◌<◌, ◌≤◌, ◌⊎◌, inl, inr, if◌then◌else◌, Bool, refl, ap, sym, ◌∙◌, arith, max, eq-eqb}
+use Rattle.std.proofs.Common.{zero, suc, List, [], ◌∷◌, ◌++◌, map, take, length, get_or, sum_by, ◌≡◌, ℕ, ◌+◌, ◌-◌, ◌<◌, ◌≤◌, ◌⊎◌, inl, inr, if◌then◌else◌, ◌==◌, Bool, true, false, refl, ap, sym, ◌∙◌, arith, max, min, eq-eqb}
 use Rattle.std.proofs.lemmas.List.{map_more}
 use Rattle.std.proofs.lemmas.List.Sums.{sum_by-cons}
 use Rattle.std.proofs.lemmas.Bool.{cases_order, ne_eqb}
 use Rattle.idx_core.specs.Over.{putted}
 use Rattle.idx_core.specs.Laws as laws
-use Rattle.f_terms.specs.Ty.{Ty, TInt, TVar, TArrow, TAll, TTuple, Tys, NoTys, MoreTys, tys, over, over_all, size, sizes, depth, depths}
+use Rattle.f_terms.specs.Ty.{Ty, TInt, TVar, TArrow, TAll, TTuple, TSome, TRef, Tys, NoTys, MoreTys, tys, over, over_all, put, size, sizes, depth, depths}
+use Rattle.f_terms.specs.Noted.{outside}
 use Rattle.f_terms.specs.Read.{tree}
 use Rattle.f_terms.specs.declared.types.FType.{FType}
 use Rattle.f_terms.proofs.Limited.{same}
@@ -33,10 +34,45 @@ module _ (s : Ty) where
     put_counts d (TArrow a b) = let x = put_counts d a in let y = put_counts d b in (omega (arith, x.0, y.0), omega (arith, x.1, y.1))
     put_counts d (TAll t) = let x = put_counts (d + 1) t in (omega (arith, x.0), omega (arith, x.1))
     put_counts d (TTuple ts) = let x = all_counts d ts in (omega (arith, x.0), omega (arith, x.1))
+    put_counts d (TSome t) = let x = put_counts (d + 1) t in (omega (arith, x.0), omega (arith, x.1))
+    put_counts d (TRef t) = let x = put_counts d t in (omega (arith, x.0), omega (arith, x.1))
 
     all_counts : (d : ℕ) (ts : Tys) → (sizes (over_all (putted TVar over 0 s) d ts) ≡ put_sizes (size s) d ts) × (depths (over_all (putted TVar over 0 s) d ts) ≡ put_depths (depth s) d ts)
     all_counts d NoTys = (refl, refl)
     all_counts d (MoreTys t ts) = let x = put_counts d t in let y = all_counts d ts in (omega (arith, x.0, y.0), omega (arith, x.1, y.1))
+
+-- the counts of a put of a type that keeps the limits
+pub depth_made : (s t : Ty) (d r : ℕ) → d ≡ min (depth s) 18446744073709551615 → d ≤ 200 → r ≡ min (put_depth d 0 t) 18446744073709551615 → r ≡ min (depth (put 0 s t)) 18446744073709551615
+depth_made s t d r ed le er =
+    let e : d ≡ depth s = omega arith in
+    omega (arith, er, (put_counts s 0 t).1, ap (λ w. put_depth w 0 t) e)
+
+pub size_made : (s t : Ty) (w r : ℕ) → w ≡ min (size s) 18446744073709551615 → w ≤ 10000 → r ≡ min (put_size w 0 t) 18446744073709551615 → r ≡ min (size (put 0 s t)) 18446744073709551615
+size_made s t w r ew le er =
+    let e : w ≡ size s = omega arith in
+    omega (arith, er, (put_counts s 0 t).0, ap (λ v. put_size v 0 t) e)
+
+-- a type outside of a name is as deep
+one_leaf : (b : Bool) → ◌≡◌ {A = ℕ} (if b then 1 else 1) 1
+one_leaf true = refl
+one_leaf false = refl
+
+mutual
+  same_depth : (d : ℕ) (t : Ty) → put_depth 1 d t ≡ depth t
+  same_depth d TInt = refl
+  same_depth d (TVar i) = one_leaf (i == d)
+  same_depth d (TArrow a b) = omega (arith, same_depth d a, same_depth d b)
+  same_depth d (TAll t) = omega (arith, same_depth (d + 1) t)
+  same_depth d (TTuple ts) = omega (arith, same_depths d ts)
+  same_depth d (TSome t) = omega (arith, same_depth (d + 1) t)
+  same_depth d (TRef t) = omega (arith, same_depth d t)
+
+  same_depths : (d : ℕ) (ts : Tys) → put_depths 1 d ts ≡ depths ts
+  same_depths d NoTys = refl
+  same_depths d (MoreTys t ts) = omega (arith, same_depth d t, same_depths d ts)
+
+pub outside_depth : (t : Ty) → depth t ≤ 200 → depth (outside t) ≤ 200
+outside_depth t le = omega (arith, (put_counts TInt 0 t).1, same_depth 0 t, le)
 
 -- the parts of a tuple
 pub part_depth : (xs : List FType) (i : ℕ) (x : FType) → x ≡ get_or xs i x → i < length xs → depth (tree x) ≤ depths (tys (map tree xs))

@@ -2,27 +2,31 @@
 use Rattle.std.proofs.Common.{◌≡◌, ◌≢◌, ℕ, ◌+◌, ◌-◌, ◌*◌, ◌<◌, ◌≤◌, ◌∙◌, refl, ap, ap₂, sym, subst, arith, List, [], ◌∷◌, ◌++◌, map, length, take, Vec, Global, Bor, Result, Ok, Err, Some, None, inl, inr}
 use Rattle.std.proofs.lemmas.List.Elements.{All-head, All-tail, All-same}
 use Rattle.idx_core.specs.declared.span.Span.{Span}
-use Rattle.f_terms.specs.Ty.{Ty, Tys, TInt, TArrow, TAll, TTuple, tys, Below, PutFits}
-use Rattle.f_terms.specs.Tm.{Tm, SFix, SApp, SGen, SInst, STuple, SProj, SArith, SIf0, plain, span_of, tms}
+use Rattle.f_terms.specs.Ty.{Ty, Tys, TInt, TArrow, TAll, TTuple, TSome, TRef, NoTys, shift, put, ShiftFits, tys, Below}
+use Rattle.f_terms.specs.Ty.{PutFits}
+use Rattle.f_terms.specs.Tm.{Tm, SFix, SApp, SGen, SInst, STuple, SProj, SArith, SIf0, SLet, SPack, SOpen, SRef, SDeref}
+use Rattle.f_terms.specs.Tm.{SAssign, plain, span_of, tms}
 use Rattle.f_terms.specs.Limits.{nodes, Within, Shallow}
 use Rattle.f_terms.specs.Scope.{InScope}
-use Rattle.f_terms.specs.Typing.{field_ty, in_fix, raised}
+use Rattle.f_terms.specs.Typing.{field_ty, in_fix, in_open, raised}
 use Rattle.f_terms.specs.Faults.{Passes, Fault, limits, nothing}
 use Rattle.f_terms.specs.Read.{tree, place}
 use Rattle.f_terms.specs.declared.types.FType.{FType}
 use Rattle.f_terms.specs.declared.types.FType.TheVariants as T
 use Rattle.f_terms.specs.declared.fault.Code.{Code}
-use Rattle.f_terms.specs.declared.fault.Code.TheVariants.{E07, E08, E09, E10, E11, E12, E13, E14}
+use Rattle.f_terms.specs.declared.fault.Code.TheVariants.{E07, E08, E09, E10, E11, E12, E13, E14, E16, E17, E18, E21, E22}
 use Rattle.f_terms.specs.declared.fault.FFault.{FFault}
 use Rattle.f_terms.specs.declared.fault.FFault.TheVariants.{Refused}
 use Rattle.f_terms.proofs.Trees.{tree_Tuple}
 use Rattle.f_terms.specs.ReadTerm.{count, node_at}
 use Rattle.f_terms.specs.declared.node.FTerm.{FTerm}
-use Rattle.f_check.specs.Scopes.{Bound, bound}
+use Rattle.f_check.specs.Scopes.{Bound, bound, IsScope}
 use Rattle.f_check.specs.Verdict.{Says, IsTypeOf, IsPut, IsVerdict}
-use Rattle.f_check.specs.Walk.{Task, context, TypeIs, FaultOf, IsReady, AllPass, Same, Part, top, now, Holds, Offered, Enters, frame_work, left, offer_work, Goes}
+use Rattle.f_check.specs.Walk.{Task, context, TypeIs, FaultOf, fix_names, IsReady, AllPass, Same, Part, top, now, Holds, Offered, Enters, frame_work, left, offer_work, Goes}
 use Rattle.arena.specs.Stack.{Chain, stack_sum}
 use Rattle.f_check.specs.declared.scope.Binder.{Binder}
+use Rattle.f_check.specs.declared.frame.Head.{Head}
+use Rattle.f_check.specs.declared.frame.Packing.{Packing}
 use Rattle.f_check.specs.declared.frame.Frame.{Frame}
 use Rattle.f_check.specs.declared.frame.Frame.TheVariants as C
 use Rattle.f_check.specs.declared.frame.Control.{Control}
@@ -30,10 +34,15 @@ use Rattle.f_check.specs.declared.frame.Control.TheVariants.{Give}
 use Rattle.f_check.specs.declared.frame.State.{State}
 use Rattle.f_check.proofs.Forms as forms
 use Rattle.f_check.proofs.Fields as fields
-use Rattle.f_check.proofs.Types.{put_fits}
+use Rattle.f_check.proofs.Types.{shift_fits, put_fits}
+use Rattle.f_check.proofs.Puts.{outside_depth}
+use Rattle.f_terms.proofs.Limited.{some_within}
+use Rattle.f_terms.specs.TyLaws.{put_bound}
+use Rattle.f_terms.specs.Noted.{outside}
+use Rattle.std.proofs.lemmas.List.{length-append}
 use Rattle.f_check.proofs.Rows.{part_known, part_nodes, one_more, all_more, tuple_ok, tuple_limit}
-use Rattle.f_check.proofs.Scoping.{bounds_pop}
-use Rattle.f_check.proofs.Steps.{moved, in_body, in_gen, fails}
+use Rattle.f_check.proofs.Scoping.{scope_more, scope_push, bounds_pop, push_is, last_bound}
+use Rattle.f_check.proofs.Steps.{moved, in_body, in_gen, in_let, in_opened, fails}
 
 -- where the state stands at the form around the part
 task_is : (w : Task) (n : ℕ) (bs : List Bound) → n ≡ w.around → bs ≡ w.scope → record { e = w.e; around = n; scope = bs } ≡ w
@@ -49,9 +58,9 @@ module _ (f : FTerm) (st : State) (w : Task) (hold : Holds f st w) where
   faulty e x is k = fails f st w hold x (subst (λ z. Says x (Fault z w.around (context w))) (sym is) k)
 
   -- a form has its type
-  pub given : (st' : State) (e : Tm) (t : FType) (s : Span) (m : ℕ) → st'.frames.items ≡ st.frames.items → now st' w.e ≡ w → w.e ≡ e → IsTypeOf e w.around (context w) (tree t) → span_of e ≡ place s → 1 + left f st < m →
-      Goes f st' (Ok (Give t s)) m
-  given st' e t s m ef en is h sp lt =
+  pub given : (o : FType) (st' : State) (e : Tm) (t : FType) (s : Span) (m : ℕ) → st'.frames.items ≡ st.frames.items → now st' w.e ≡ w → w.e ≡ e → IsTypeOf e w.around (context w) (tree t) → span_of e ≡ place s → 1 + left f st < m →
+      Goes f st' (Ok (Give t s o)) m
+  given o st' e t s m ef en is h sp lt =
       let typed : TypeIs w (tree t) = subst (λ z. IsTypeOf z w.around (context w) (tree t)) (sym is) h in
       let hold' : Holds f st' w = subst (λ fs. Chain (Part f) fs w (top f)) (sym ef) hold in (
         (w.e, (subst (λ z. TypeIs z (tree t)) (sym en) typed, ap span_of is ∙ sp, subst (Holds f st') (sym en) hold')),
@@ -70,22 +79,22 @@ module _ (f : FTerm) (st : State) (w : Task) (hold : Holds f st w) where
 -- the forms, where the type of a part is there
 module _ (f : FTerm) (st : State) (ty : FType) (q : Span) where
   -- a function
-  pub fix_refused : (s : Span) (a r : Bor FType) → Offered f st (C.Fix s a r) ty q → (st' : State) (z : Result Control FFault) (m : ℕ) → z ≡ Err (Refused E14 q) → tree ty ≢ tree r.now → Goes f st' z m
-  fix_refused s a r h st' z m ez ne =
+  pub fix_refused : (x : Head) → Offered f st (C.Fix x) ty q → (st' : State) (z : Result Control FFault) (m : ℕ) → z ≡ Err (Refused E14 q) → tree ty ≢ tree x.res.now → Goes f st' z m
+  fix_refused x h st' z m ez ne =
       let w = h.1 in
-      refused f st w h.5 (SFix (place s) (tree a.now) (tree r.now) h.0) st' E14 q z m ez h.4.0
-      (forms.fix_res w.around (context w) (place s) (tree a.now) (tree r.now) (tree ty) h.0 (in_fix (tree a.now) (tree r.now) (context w)) (place q) refl h.4.4
-      (in_body (now st h.0) w (tree a.now) (tree r.now) h.4.2 h.4.3 (λ n g. Passes h.0 n g (tree ty)) h.2.0) ne h.3)
+      refused f st w h.5 (SFix (place x.span) (tree x.arg.now) (tree x.res.now) h.0) st' E14 q z m ez h.4.0
+      (forms.fix_res w.around (context w) (place x.span) (tree x.arg.now) (tree x.res.now) (tree ty) h.0 (in_fix (tree x.arg.now) (tree x.res.now) (context w)) (place q) refl h.4.4
+      (in_body (now st h.0) w (tree x.arg.now) (tree x.res.now) h.4.2 h.4.3 (λ n g. Passes h.0 n g (tree ty)) h.2.0) ne h.3)
 
-  pub fix_given : (s : Span) (a r : Bor FType) → Offered f st (C.Fix s a r) ty q → (sc : Vec Binder Global) (t : FType) → sc.items ≡ take (length st.scope.items - 1) st.scope.items → tree ty ≡ tree r.now → tree t ≡ TArrow (tree a.now) (tree r.now) →
-      Goes f (record st { scope = sc }) (Ok (Give t s)) (offer_work f st [])
-  fix_given s a r h sc t ec et eq =
+  pub fix_given : (x : Head) → Offered f st (C.Fix x) ty q → (sc : Vec Binder Global) (t : FType) → sc.items ≡ take (length st.scope.items - 2) st.scope.items → tree ty ≡ tree x.res.now → tree t ≡ TArrow (tree x.arg.now) (tree x.res.now) →
+      Goes f (record st { scope = sc }) (Ok (Give t x.span T.Int)) (offer_work f st [])
+  fix_given x h sc t ec et eq =
       let w = h.1 in
-      let ok = subst (λ z. InScope (plain z) w.around (2 * length w.scope)) h.4.0 h.4.1.1 in
-      given f st w h.5 (record st { scope = sc }) (SFix (place s) (tree a.now) (tree r.now) h.0) t s (offer_work f st []) refl
-      (task_is w st.around (map bound sc.items) h.4.2 (bounds_pop st.scope.items sc.items w.scope (record { arg = tree a.now; res = tree r.now; at = w.around }) h.4.3 ec)) h.4.0
-      (forms.fix_ok w.around (context w) (place s) (tree a.now) (tree r.now) (tree ty) (tree t) h.0 (in_fix (tree a.now) (tree r.now) (context w)) refl h.4.4 ok.0 ok.1
-      (in_body (now st h.0) w (tree a.now) (tree r.now) h.4.2 h.4.3 (λ n g. Passes h.0 n g (tree ty)) h.2.0) et eq) refl (omega arith)
+      let ok = subst (λ z. InScope (plain z) w.around (length w.scope)) h.4.0 h.4.1.1 in
+      given f st w h.5 T.Int (record st { scope = sc }) (SFix (place x.span) (tree x.arg.now) (tree x.res.now) h.0) t x.span (offer_work f st []) refl
+      (task_is w st.around (map bound sc.items) h.4.2 (bounds_pop st.scope.items sc.items w.scope (fix_names w.around (tree x.arg.now) (tree x.res.now)) h.4.3 ec)) h.4.0
+      (forms.fix_ok w.around (context w) (place x.span) (tree x.arg.now) (tree x.res.now) (tree ty) (tree t) h.0 (in_fix (tree x.arg.now) (tree x.res.now) (context w)) refl h.4.4 ok.0 ok.1
+      (in_body (now st h.0) w (tree x.arg.now) (tree x.res.now) h.4.2 h.4.3 (λ n g. Passes h.0 n g (tree ty)) h.2.0) et eq) refl (omega arith)
 
   -- what holds of the part, under the same names
   same_type : (fr : Frame) (h : Offered f st fr ty q) → Same (now st h.0) h.1 → IsTypeOf h.0 h.1.around (context h.1) (tree ty)
@@ -104,10 +113,10 @@ module _ (f : FTerm) (st : State) (ty : FType) (q : Span) where
       refused f st w h.5 (SApp (place s) h.4.0 h.0) st E08 q z m ez h.4.1
       (forms.app_arg w.around (context w) (place s) h.4.0 h.0 (TArrow (tree a) (tree r)) (tree a) (tree r) (tree ty) (place q) h.4.4.0 refl (same_type (C.Argument s a r) h h.4.3).0 ne h.3)
 
-  pub arg_given : (s : Span) (a r : FType) → Offered f st (C.Argument s a r) ty q → tree ty ≡ tree a → Goes f st (Ok (Give r s)) (offer_work f st [])
+  pub arg_given : (s : Span) (a r : FType) → Offered f st (C.Argument s a r) ty q → tree ty ≡ tree a → Goes f st (Ok (Give r s T.Int)) (offer_work f st [])
   arg_given s a r h et =
       let w = h.1 in
-      given f st w h.5 st (SApp (place s) h.4.0 h.0) r s (offer_work f st []) refl (task_is w st.around (map bound st.scope.items) h.4.3.0 h.4.3.1) h.4.1
+      given f st w h.5 T.Int st (SApp (place s) h.4.0 h.0) r s (offer_work f st []) refl (task_is w st.around (map bound st.scope.items) h.4.3.0 h.4.3.1) h.4.1
       (forms.app_ok w.around (context w) (place s) h.4.0 h.0 (TArrow (tree a) (tree r)) (tree a) (tree r) (tree ty) h.4.4 refl (same_type (C.Argument s a r) h h.4.3).0 et) refl (omega arith)
 
   -- a type abstraction
@@ -120,11 +129,11 @@ module _ (f : FTerm) (st : State) (ty : FType) (q : Span) where
       faulty f st w h.5 (SGen (place s) h.0) x h.4.0
       (forms.says_map x _ (Fault (SGen (place s) h.0) w.around (context w)) (forms.gen_limit w.around (context w) (place s) h.0 (raised (context w)) (tree ty) refl (gen_type s h).0) k)
 
-  pub gen_given : (s : Span) → Offered f st (C.Gen s) ty q → (t : FType) → tree t ≡ TAll (tree ty) → Within (TAll (tree ty)) → Goes f (record st { around = st.around - 1 }) (Ok (Give t s)) (offer_work f st [])
+  pub gen_given : (s : Span) → Offered f st (C.Gen s) ty q → (t : FType) → tree t ≡ TAll (tree ty) → Within (TAll (tree ty)) → Goes f (record st { around = st.around - 1 }) (Ok (Give t s T.Int)) (offer_work f st [])
   gen_given s h t et wi =
       let w = h.1 in
       let en = h.4.2 in
-      given f st w h.5 (record st { around = st.around - 1 }) (SGen (place s) h.0) t s (offer_work f st []) refl (task_is w (st.around - 1) (map bound st.scope.items) (omega (arith, en)) h.4.3) h.4.0
+      given f st w h.5 T.Int (record st { around = st.around - 1 }) (SGen (place s) h.0) t s (offer_work f st []) refl (task_is w (st.around - 1) (map bound st.scope.items) (omega (arith, en)) h.4.3) h.4.0
       (forms.gen_ok w.around (context w) (place s) h.0 (raised (context w)) (tree ty) (tree t) refl (gen_type s h) wi et) refl (omega arith)
 
   -- a type application
@@ -135,7 +144,7 @@ module _ (f : FTerm) (st : State) (ty : FType) (q : Span) where
       (forms.inst_all w.around (context w) (place s) h.0 (tree a.now) (tree ty) (place q) (same_type (C.Inst s a) h h.4.2).0 ne h.3)
 
   inst_below : (s : Span) (a : Bor FType) (h : Offered f st (C.Inst s a) ty q) → Below h.1.around (tree a.now)
-  inst_below s a h = (subst (λ z. InScope (plain z) h.1.around (2 * length h.1.scope)) h.4.0 h.4.1.1).1
+  inst_below s a h = (subst (λ z. InScope (plain z) h.1.around (length h.1.scope)) h.4.0 h.4.1.1).1
 
   pub inst_fits : (s : Span) (a : Bor FType) → Offered f st (C.Inst s a) ty q → (b : FType) → tree ty ≡ TAll (tree b) → Shallow (tree a.now) → PutFits 0 (tree a.now) 0 (tree b)
   inst_fits s a h b eb small =
@@ -148,10 +157,10 @@ module _ (f : FTerm) (st : State) (ty : FType) (q : Span) where
   inst_put s a h b eb r put =
       forms.inst_put h.1.around (context h.1) (place s) h.0 (tree a.now) (tree ty) (tree b) (same_type (C.Inst s a) h h.4.2) eb (inst_below s a h) r put
 
-  pub inst_given : (s : Span) (a : Bor FType) → Offered f st (C.Inst s a) ty q → (b t : FType) → tree ty ≡ TAll (tree b) → IsPut (tree a.now) (tree b) (place s) (Ok t) → Goes f st (Ok (Give t s)) (offer_work f st [])
+  pub inst_given : (s : Span) (a : Bor FType) → Offered f st (C.Inst s a) ty q → (b t : FType) → tree ty ≡ TAll (tree b) → IsPut (tree a.now) (tree b) (place s) (Ok t) → Goes f st (Ok (Give t s T.Int)) (offer_work f st [])
   inst_given s a h b t eb put =
       let w = h.1 in
-      given f st w h.5 st (SInst (place s) h.0 (tree a.now)) t s (offer_work f st []) refl (task_is w st.around (map bound st.scope.items) h.4.2.0 h.4.2.1) h.4.0 (inst_put s a h b eb (Ok t) put) refl (omega arith)
+      given f st w h.5 T.Int st (SInst (place s) h.0 (tree a.now)) t s (offer_work f st []) refl (task_is w st.around (map bound st.scope.items) h.4.2.0 h.4.2.1) h.4.0 (inst_put s a h b eb (Ok t) put) refl (omega arith)
 
   pub inst_faulty : (s : Span) (a : Bor FType) → Offered f st (C.Inst s a) ty q → (b : FType) (x : FFault) → tree ty ≡ TAll (tree b) → IsPut (tree a.now) (tree b) (place s) (Err x) → Says x (FaultOf (top f))
   inst_faulty s a h b x eb put = faulty f st h.1 h.5 (SInst (place s) h.0 (tree a.now)) x h.4.0 (inst_put s a h b eb (Err x) put)
@@ -169,10 +178,10 @@ module _ (f : FTerm) (st : State) (ty : FType) (q : Span) where
       refused f st w h.5 (SProj (place s) i h.0) st E11 s z m ez h.4.0
       (fields.proj_field w.around (context w) (place s) i h.0 (tree ty) ts (same_type (C.Proj s i) h h.4.2).0 et none)
 
-  pub proj_given : (s : Span) (i : ℕ) → Offered f st (C.Proj s i) ty q → (ts : Tys) (t : FType) → tree ty ≡ TTuple ts → field_ty ts i ≡ Some (tree t) → Goes f st (Ok (Give t s)) (offer_work f st [])
+  pub proj_given : (s : Span) (i : ℕ) → Offered f st (C.Proj s i) ty q → (ts : Tys) (t : FType) → tree ty ≡ TTuple ts → field_ty ts i ≡ Some (tree t) → Goes f st (Ok (Give t s T.Int)) (offer_work f st [])
   proj_given s i h ts t et at =
       let w = h.1 in
-      given f st w h.5 st (SProj (place s) i h.0) t s (offer_work f st []) refl (task_is w st.around (map bound st.scope.items) h.4.2.0 h.4.2.1) h.4.0
+      given f st w h.5 T.Int st (SProj (place s) i h.0) t s (offer_work f st []) refl (task_is w st.around (map bound st.scope.items) h.4.2.0 h.4.2.1) h.4.0
       (fields.proj_ok w.around (context w) (place s) i h.0 (tree ty) (tree t) ts (same_type (C.Proj s i) h h.4.2) et at) refl (omega arith)
 
   -- operands
@@ -186,10 +195,10 @@ module _ (f : FTerm) (st : State) (ty : FType) (q : Span) where
       refused f st h.1 h.5 (SArith (place s) h.4.0 h.4.1 h.0) st E12 q z m ez h.4.2
       (inr (TInt, h.4.5, inr (refl, inr (tree ty, (same_type (C.Right s) h h.4.4).0, inl (ne, (refl, sym h.3))))))
 
-  pub right_given : (s : Span) → Offered f st (C.Right s) ty q → tree ty ≡ TInt → Goes f st (Ok (Give T.Int s)) (offer_work f st [])
+  pub right_given : (s : Span) → Offered f st (C.Right s) ty q → tree ty ≡ TInt → Goes f st (Ok (Give T.Int s T.Int)) (offer_work f st [])
   right_given s h et =
       let w = h.1 in
-      given f st w h.5 st (SArith (place s) h.4.0 h.4.1 h.0) T.Int s (offer_work f st []) refl (task_is w st.around (map bound st.scope.items) h.4.4.0 h.4.4.1) h.4.2
+      given f st w h.5 T.Int st (SArith (place s) h.4.0 h.4.1 h.0) T.Int s (offer_work f st []) refl (task_is w st.around (map bound st.scope.items) h.4.4.0 h.4.4.1) h.4.2
       ((refl, h.4.5, subst (Passes h.0 w.around (context w)) et (same_type (C.Right s) h h.4.4).0), tt, (omega arith, omega arith)) refl (omega arith)
 
   -- an if0
@@ -203,10 +212,10 @@ module _ (f : FTerm) (st : State) (ty : FType) (q : Span) where
       refused f st h.1 h.5 (SIf0 (place s) h.4.0 h.4.1 h.0) st E13 q z m ez h.4.2
       (forms.if_branches h.1.around (context h.1) (place s) h.4.0 h.4.1 h.0 (tree zero) (tree ty) (place q) h.4.5 h.4.6.0 (same_type (C.Other s zero) h h.4.4).0 ne h.3)
 
-  pub other_given : (s : Span) (zero : FType) → Offered f st (C.Other s zero) ty q → tree ty ≡ tree zero → Goes f st (Ok (Give zero s)) (offer_work f st [])
+  pub other_given : (s : Span) (zero : FType) → Offered f st (C.Other s zero) ty q → tree ty ≡ tree zero → Goes f st (Ok (Give zero s T.Int)) (offer_work f st [])
   other_given s zero h et =
       let w = h.1 in
-      given f st w h.5 st (SIf0 (place s) h.4.0 h.4.1 h.0) zero s (offer_work f st []) refl (task_is w st.around (map bound st.scope.items) h.4.4.0 h.4.4.1) h.4.2
+      given f st w h.5 T.Int st (SIf0 (place s) h.4.0 h.4.1 h.0) zero s (offer_work f st []) refl (task_is w st.around (map bound st.scope.items) h.4.4.0 h.4.4.1) h.4.2
       ((h.4.5, h.4.6.0, subst (Passes h.0 w.around (context w)) et (same_type (C.Other s zero) h h.4.4).0), h.4.6.1, h.4.6.2) refl (omega arith)
 
   -- a tuple
@@ -238,10 +247,10 @@ module _ (f : FTerm) (st : State) (ty : FType) (q : Span) where
       go (k ∷ ks) z = absurd (omega (arith, z))
 
   pub field_given : (s : Span) (ts us : Vec FType Global) (rest : Bor (List ℕ)) → Offered f st (C.Fields s ts rest) ty q → map tree us.items ≡ map tree ts.items ++ tree ty ∷ [] → length rest.now ≡ 0 → Within (TTuple (tys (map tree us.items))) →
-      Goes f st (Ok (Give (T.Tuple us) s)) (offer_work f st rest.now)
+      Goes f st (Ok (Give (T.Tuple us) s T.Int)) (offer_work f st rest.now)
   field_given s ts us rest h eu z wi =
       let w = h.1 in
-      given f st w h.5 st (STuple (place s) (tms (h.4.0 ++ h.0 ∷ []))) (T.Tuple us) s (offer_work f st rest.now) refl (task_is w st.around (map bound st.scope.items) h.4.3.0 h.4.3.1) (no_rest s ts rest h z)
+      given f st w h.5 T.Int st (STuple (place s) (tms (h.4.0 ++ h.0 ∷ []))) (T.Tuple us) s (offer_work f st rest.now) refl (task_is w st.around (map bound st.scope.items) h.4.3.0 h.4.3.1) (no_rest s ts rest h z)
       (tuple_ok w.around (context w) (place s) (h.4.0 ++ h.0 ∷ []) (map tree us.items) (tree (T.Tuple us)) (field_passes s ts us rest h eu) (tree_Tuple us) wi) refl (omega arith)
 
   pub field_faulty : (s : Span) (ts us : Vec FType Global) (rest : Bor (List ℕ)) → Offered f st (C.Fields s ts rest) ty q → map tree us.items ≡ map tree ts.items ++ tree ty ∷ [] → length rest.now ≡ 0 →
@@ -251,3 +260,207 @@ module _ (f : FTerm) (st : State) (ty : FType) (q : Span) where
       faulty f st w h.5 (STuple (place s) (tms (h.4.0 ++ h.0 ∷ []))) x (no_rest s ts rest h z)
       (forms.says_map x _ (Fault (STuple (place s) (tms (h.4.0 ++ h.0 ∷ []))) w.around (context w))
       (tuple_limit w.around (context w) (place s) (h.4.0 ++ h.0 ∷ []) (map tree us.items) (field_passes s ts us rest h eu)) k)
+
+  -- a let
+  pub let_enters : (s : Span) (b : ℕ) → Offered f st (C.Let s b) ty q → (sc : Vec Binder Global) →
+      map bound sc.items ≡ map bound st.scope.items ++ record { ty = tree ty; at = st.around } ∷ [] →
+      Enters f (record st { scope = sc }) (C.Body s) b
+  let_enters s b h sc e =
+      let w = h.1 in
+      let bs = map bound st.scope.items in
+      let n = st.around in
+      let o = subst IsReady (sym (task_is w n bs h.4.2.0 h.4.2.1)) h.4.1 in
+      let o' = subst (λ z. IsReady (now st z)) h.4.0 o in
+      let room = o'.2 in
+      let long : length bs + 1 ≡ length (map bound sc.items) =
+      omega (arith, ap length e, length-append bs (record { ty = tree ty; at = n } ∷ [])) in (
+        w,
+        h.4.3,
+        (
+          subst (IsScope n) (sym e)
+              (scope_push n bs (record { ty = tree ty; at = n }) o'.0 (omega arith, h.2.1, h.2.2)),
+          subst (InScope (plain (node_at f b)) n) long o'.1.1,
+          omega (arith, room),
+        ),
+        (
+          h.0,
+          h.4.0,
+          h.4.1,
+          h.4.2.0,
+          tree ty,
+          e ∙ ap₂ (λ (xs : List Bound) (k : ℕ). xs ++ record { ty = tree ty; at = k } ∷ []) h.4.2.1 h.4.2.0,
+          (same_type (C.Let s b) h h.4.2).0,
+        ),
+        h.5,
+      )
+
+  pub body_given : (s : Span) → Offered f st (C.Body s) ty q → (sc : Vec Binder Global) →
+      sc.items ≡ take (length st.scope.items - 1) st.scope.items →
+      Goes f (record st { scope = sc }) (Ok (Give ty s T.Int)) (offer_work f st [])
+  body_given s h sc ec =
+      let w = h.1 in
+      let u = h.4.4 in
+      let p = in_let (now st h.0) w u h.4.3 h.4.5 (λ n g. IsTypeOf h.0 n g (tree ty)) h.2 in
+      given f st w h.5 T.Int (record st { scope = sc }) (SLet (place s) h.4.0 h.0) ty s (offer_work f st []) refl
+      (task_is w st.around (map bound sc.items) h.4.3
+      (bounds_pop st.scope.items sc.items w.scope (record { ty = u; at = w.around } ∷ []) h.4.5 ec)) h.4.1
+      ((u, h.4.6, p.0), p.1, p.2) refl (omega arith)
+
+  -- a package
+  pub pack_refused : (p : Packing) → Offered f st (C.Pack p) ty q → (z : Result Control FFault) (m : ℕ) → z ≡ Err (Refused E17 q) → tree ty ≢ put 0 (tree p.hidden.now) (tree p.body.now) → Goes f st z m
+  pack_refused p h z m ez ne =
+      let w = h.1 in
+      refused f st w h.5 (SPack (place p.span) (tree p.hidden.now) h.0 (tree p.shape.now)) st E17 q z m ez h.4.0
+      (forms.pack_other w.around (context w) (place p.span) (tree p.hidden.now) (tree p.shape.now) (tree p.body.now) (tree ty) h.0 (place q) h.4.3 h.4.4 h.4.5 (same_type (C.Pack p) h h.4.2).0 ne h.3)
+
+  pub pack_large : (p : Packing) → Offered f st (C.Pack p) ty q → (z : Result Control FFault) (m : ℕ) → z ≡ Err (Refused E17 q) → (Within (put 0 (tree p.hidden.now) (tree p.body.now)) → ⊥) → Goes f st z m
+  pack_large p h z m ez large = pack_refused p h z m ez (λ e. large (subst Within e h.2.2))
+
+  pub pack_small : (p : Packing) → Offered f st (C.Pack p) ty q → Within (tree p.body.now)
+  pack_small p h = some_within (tree p.body.now) (subst Within h.4.3 h.4.5)
+
+  pack_scope : (p : Packing) (h : Offered f st (C.Pack p) ty q) → InScope (plain (SPack (place p.span) (tree p.hidden.now) h.0 (tree p.shape.now))) h.1.around (length h.1.scope)
+  pack_scope p h = subst (λ z. InScope (plain z) h.1.around (length h.1.scope)) h.4.0 h.4.1.1
+
+  pub pack_fits : (p : Packing) → Offered f st (C.Pack p) ty q → PutFits 0 (tree p.hidden.now) 0 (tree p.body.now)
+  pack_fits p h =
+      let room = h.4.1.2 in
+      put_fits h.1.around (tree p.hidden.now) (tree p.body.now) (omega (arith, room)) (pack_scope p h).0 h.4.4.0 (pack_small p h).0
+
+  pub pack_given : (p : Packing) → Offered f st (C.Pack p) ty q → (t : FType) → tree ty ≡ put 0 (tree p.hidden.now) (tree p.body.now) → tree t ≡ tree p.shape.now → Goes f st (Ok (Give t p.span T.Int)) (offer_work f st [])
+  pack_given p h t et eu =
+      let w = h.1 in
+      let sc = pack_scope p h in
+      given f st w h.5 T.Int st (SPack (place p.span) (tree p.hidden.now) h.0 (tree p.shape.now)) t p.span (offer_work f st []) refl (task_is w st.around (map bound st.scope.items) h.4.2.0 h.4.2.1) h.4.0
+      (forms.pack_ok w.around (context w) (place p.span) (tree p.hidden.now) (tree p.shape.now) (tree p.body.now) (tree ty) (tree t) h.0 h.4.3 h.4.4 h.4.5 sc.0 sc.1 (same_type (C.Pack p) h h.4.2).0 et eu) refl (omega arith)
+
+  -- an open
+  pub open_refused : (s : Span) (b : ℕ) → Offered f st (C.Open s b) ty q → (z : Result Control FFault) (m : ℕ) → z ≡ Err (Refused E16 q) → ((u : Ty) → tree ty ≢ TSome u) → Goes f st z m
+  open_refused s b h z m ez ne =
+      let w = h.1 in
+      refused f st w h.5 (SOpen (place s) h.0 (node_at f b)) st E16 q z m ez h.4.0
+      (forms.open_first w.around (context w) (place s) h.0 (node_at f b) (tree ty) (place q) (same_type (C.Open s b) h h.4.2).0 ne h.3)
+
+  pub open_enters : (s : Span) (b : ℕ) → Offered f st (C.Open s b) ty q → (sc : Vec Binder Global) (x : FType) →
+      tree ty ≡ TSome (tree x) →
+      map bound sc.items ≡ map bound st.scope.items ++ record { ty = tree x; at = st.around + 1 } ∷ [] →
+      Enters f (record st { scope = sc; around = st.around + 1 }) (C.Opened s) b
+  open_enters s b h sc x et e =
+      let w = h.1 in
+      let bs = map bound st.scope.items in
+      let n = st.around in
+      let o = subst IsReady (sym (task_is w n bs h.4.2.0 h.4.2.1)) h.4.1 in
+      let o' = subst (λ z. IsReady (now st z)) h.4.0 o in
+      let room = o'.2 in
+      let long : length bs + 1 ≡ length (map bound sc.items) =
+      omega (arith, ap length e, length-append bs (record { ty = tree x; at = n + 1 } ∷ [])) in (
+        w,
+        h.4.3,
+        (
+          subst (IsScope (n + 1)) (sym e)
+              (scope_push (n + 1) bs (record { ty = tree x; at = n + 1 }) (scope_more n bs o'.0) (omega arith, (subst (Below n) et h.2.1).1, some_within (tree x) (subst Within et h.2.2))),
+          subst (InScope (plain (node_at f b)) (n + 1)) long o'.1.1,
+          omega (arith, room),
+        ),
+        (
+          h.0,
+          h.4.0,
+          h.4.1,
+          ap (λ k. k + 1) h.4.2.0,
+          tree x,
+          e ∙ ap₂ (λ (xs : List Bound) (k : ℕ). xs ++ record { ty = tree x; at = k + 1 } ∷ []) h.4.2.1 h.4.2.0,
+          subst (Passes h.0 w.around (context w)) et (same_type (C.Open s b) h h.4.2).0,
+        ),
+        h.5,
+      )
+
+  opened_type : (s : Span) (h : Offered f st (C.Opened s) ty q) →
+      IsTypeOf h.0 (h.1.around + 1) (in_open h.4.4 (context h.1)) (tree ty)
+  opened_type s h = in_opened (now st h.0) h.1 h.4.4 h.4.2 h.4.3 h.4.5 (λ n g. IsTypeOf h.0 n g (tree ty)) h.2
+
+  pub opened_last : (s : Span) → Offered f st (C.Opened s) ty q →
+      (bs : List Binder) × (b : Binder) × (st.scope.items ≡ bs ++ b ∷ [])
+  opened_last s h =
+      let w = h.1 in
+      last_bound st.scope.items w.scope (record { ty = h.4.4; at = w.around + 1 }) h.4.5
+
+  pub opened_puts : (s : Span) → Offered f st (C.Opened s) ty q → PutFits 0 TInt 0 (tree ty)
+  opened_puts s h = put_fits 0 TInt (tree ty) (omega arith) tt (omega arith) h.2.2.0
+
+  pub opened_shifts : (s : Span) → Offered f st (C.Opened s) ty q → ShiftFits 1 0 (outside (tree ty))
+  opened_shifts s h =
+      let w = h.1 in
+      let room = h.4.2.2 in
+      let p = opened_type s h in
+      shift_fits 1 w.around (outside (tree ty)) (omega (arith, room)) (put_bound w.around TInt (tree ty) tt p.1) (outside_depth (tree ty) p.2.0)
+
+  pub opened_refused : (s : Span) → Offered f st (C.Opened s) ty q → (st' : State) (z : Result Control FFault) (m : ℕ) →
+      z ≡ Err (Refused E18 q) → tree ty ≢ shift 1 0 (outside (tree ty)) → Goes f st' z m
+  opened_refused s h st' z m ez ne =
+      let w = h.1 in
+      refused f st w h.5 (SOpen (place s) h.4.0 h.0) st' E18 q z m ez h.4.1
+      (forms.open_escapes w.around (context w) (place s) h.4.0 h.0 h.4.4 (tree ty) (place q) h.4.6 (opened_type s h).0 ne h.3)
+
+  pub opened_given : (s : Span) → Offered f st (C.Opened s) ty q → (sc : Vec Binder Global) (t o : FType) (n : ℕ) →
+      map bound st.scope.items ≡ map bound sc.items ++ record { ty = tree o; at = n } ∷ [] →
+      (tree ty ≡ shift 1 0 (tree t)) × (tree t ≡ outside (tree ty)) →
+      Goes f (record st { scope = sc; around = st.around - 1 }) (Ok (Give t s o)) (offer_work f st [])
+  opened_given s h sc t o n ec out =
+      let w = h.1 in
+      let en = h.4.3 in
+      let kept = push_is (map bound sc.items) w.scope (record { ty = tree o; at = n })
+      (record { ty = h.4.4; at = w.around + 1 }) (sym ec ∙ h.4.5) in
+      given f st w h.5 o (record st { scope = sc; around = st.around - 1 }) (SOpen (place s) h.4.0 h.0) t s (offer_work f st []) refl
+      (task_is w (st.around - 1) (map bound sc.items) (omega (arith, en)) kept.0) h.4.1
+      (forms.open_ok w.around (context w) (place s) h.4.0 h.0 h.4.4 (tree ty) (tree t) h.4.6 (opened_type s h) out.0 out.1)
+      refl (omega arith)
+
+  -- references
+  pub ref_refused : (s : Span) → Offered f st (C.Ref s) ty q → (x : FFault) → Says x (limits (TRef (tree ty)) (place s) nothing) → Says x (FaultOf (top f))
+  ref_refused s h x k =
+      let w = h.1 in
+      faulty f st w h.5 (SRef (place s) h.0) x h.4.0
+      (forms.says_map x _ (Fault (SRef (place s) h.0) w.around (context w)) (forms.ref_limit w.around (context w) (place s) h.0 (tree ty) (same_type (C.Ref s) h h.4.2).0) k)
+
+  pub ref_given : (s : Span) → Offered f st (C.Ref s) ty q → (t : FType) → tree t ≡ TRef (tree ty) → Within (TRef (tree ty)) → Goes f st (Ok (Give t s T.Int)) (offer_work f st [])
+  ref_given s h t et wi =
+      let w = h.1 in
+      given f st w h.5 T.Int st (SRef (place s) h.0) t s (offer_work f st []) refl (task_is w st.around (map bound st.scope.items) h.4.2.0 h.4.2.1) h.4.0
+      (forms.ref_ok w.around (context w) (place s) h.0 (tree ty) (tree t) (same_type (C.Ref s) h h.4.2) wi et) refl (omega arith)
+
+  pub deref_refused : (s : Span) → Offered f st (C.Deref s) ty q → (z : Result Control FFault) (m : ℕ) → z ≡ Err (Refused E21 q) → ((u : Ty) → tree ty ≢ TRef u) → Goes f st z m
+  deref_refused s h z m ez ne =
+      let w = h.1 in
+      refused f st w h.5 (SDeref (place s) h.0) st E21 q z m ez h.4.0
+      (forms.deref_other w.around (context w) (place s) h.0 (tree ty) (place q) (same_type (C.Deref s) h h.4.2).0 ne h.3)
+
+  pub deref_given : (s : Span) → Offered f st (C.Deref s) ty q → (t : FType) → tree ty ≡ TRef (tree t) → Goes f st (Ok (Give t s T.Int)) (offer_work f st [])
+  deref_given s h t et =
+      let w = h.1 in
+      given f st w h.5 T.Int st (SDeref (place s) h.0) t s (offer_work f st []) refl (task_is w st.around (map bound st.scope.items) h.4.2.0 h.4.2.1) h.4.0
+      (forms.deref_ok w.around (context w) (place s) h.0 (tree ty) (tree t) (same_type (C.Deref s) h h.4.2) et) refl (omega arith)
+
+  pub target_refused : (s : Span) (b : ℕ) → Offered f st (C.Target s b) ty q → (z : Result Control FFault) (m : ℕ) → z ≡ Err (Refused E21 q) → ((u : Ty) → tree ty ≢ TRef u) → Goes f st z m
+  target_refused s b h z m ez ne =
+      let w = h.1 in
+      refused f st w h.5 (SAssign (place s) h.0 (node_at f b)) st E21 q z m ez h.4.0
+      (forms.assign_first w.around (context w) (place s) h.0 (node_at f b) (tree ty) (place q) (same_type (C.Target s b) h h.4.2).0 ne h.3)
+
+  pub target_enters : (s : Span) (b : ℕ) → Offered f st (C.Target s b) ty q → (u : FType) → tree ty ≡ TRef (tree u) → Enters f st (C.Assigned s u) b
+  target_enters s b h u et =
+      let w = h.1 in
+      next f st w h.5 (C.Assigned s u) b (SAssign (place s) h.0 (node_at f b)) h.4.2.0 h.4.2.1 h.4.0 h.4.1 h.4.3 (λ n m k. k.1) (omega arith)
+      (h.0, h.4.0, h.4.1, h.4.2, subst (Passes h.0 w.around (context w)) et (same_type (C.Target s b) h h.4.2).0)
+
+  pub assigned_refused : (s : Span) (u : FType) → Offered f st (C.Assigned s u) ty q → (z : Result Control FFault) (m : ℕ) → z ≡ Err (Refused E22 q) → tree ty ≢ tree u → Goes f st z m
+  assigned_refused s u h z m ez ne =
+      let w = h.1 in
+      refused f st w h.5 (SAssign (place s) h.4.0 h.0) st E22 q z m ez h.4.1
+      (forms.assign_other w.around (context w) (place s) h.4.0 h.0 (tree u) (tree ty) (place q) h.4.4 (same_type (C.Assigned s u) h h.4.3).0 ne h.3)
+
+  pub assigned_given : (s : Span) (u : FType) → Offered f st (C.Assigned s u) ty q → (t : FType) → tree t ≡ TTuple NoTys → tree ty ≡ tree u → Goes f st (Ok (Give t s T.Int)) (offer_work f st [])
+  assigned_given s u h t eu et =
+      let w = h.1 in
+      let wi : Within (TTuple NoTys) = (omega arith, omega arith) in
+      given f st w h.5 T.Int st (SAssign (place s) h.4.0 h.0) t s (offer_work f st []) refl (task_is w st.around (map bound st.scope.items) h.4.3.0 h.4.3.1) h.4.1
+      ((tree u, eu, h.4.4, subst (Passes h.0 w.around (context w)) et (same_type (C.Assigned s u) h h.4.3).0), subst (Below w.around) (sym eu) tt, subst Within (sym eu) wi) refl (omega arith)

@@ -4,8 +4,9 @@ use Rattle.std.specs.List.{All}
 use Rattle.arena.specs.Stack.{Chain, stack_sum}
 use Rattle.idx_core.specs.declared.arith.Op.{Op}
 use Rattle.idx_core.specs.declared.span.Span.{Span}
-use Rattle.f_terms.specs.Ty.{Ty, Tys, NoTys, TInt, TArrow, Below}
-use Rattle.f_terms.specs.Tm.{Tm, SFix, SApp, SGen, SInst, STuple, SProj, SArith, SIf0, plain, span_of, tms}
+use Rattle.f_terms.specs.Ty.{Ty, Tys, NoTys, TInt, TArrow, TSome, TRef, Below}
+use Rattle.f_terms.specs.Tm.{Tm, SFix, SApp, SGen, SInst, STuple, SProj, SArith, SIf0, SLet, SPack, SOpen, SRef, SDeref}
+use Rattle.f_terms.specs.Tm.{SAssign, plain, span_of, tms}
 use Rattle.f_terms.specs.Limits.{Within, nodes}
 use Rattle.f_terms.specs.Scope.{InScope}
 use Rattle.f_terms.specs.Faults.{Passes, Refusal, Fault}
@@ -40,7 +41,7 @@ FaultOf t = Fault t.e t.around (context t)
 
 -- the names are bound, and there is room for numbers
 abbrev pub IsReady : Task → Type 0
-IsReady t = IsScope t.around t.scope × InScope (plain t.e) t.around (2 * length t.scope)
+IsReady t = IsScope t.around t.scope × InScope (plain t.e) t.around (length t.scope)
     × (t.around + nodes (plain t.e) ≤ 4294967296)
 
 -- some terms have passed, with these types
@@ -54,11 +55,15 @@ AllPass n g (e ∷ es) (t ∷ ts) = Passes e n g t × Below n t × AllPass n g e
 abbrev pub Same : Task → Task → Type 0
 Same t w = (t.around ≡ w.around) × (t.scope ≡ w.scope)
 
+-- what a function binds under n type names: itself and, inside of it, its argument
+abbrev pub fix_names : ℕ → Ty → Ty → List Bound
+fix_names n a r = record { ty = TArrow a r; at = n } ∷ record { ty = a; at = n } ∷ []
+
 -- t is the part of w that the frame waits for, and the parts before it have passed
 abbrev pub Part : FTerm → Frame → Task → Task → Type 0
-Part f (C.Fix s a r) t w = (w.e ≡ SFix (place s) (tree a.now) (tree r.now) t.e) × IsReady w × (t.around ≡ w.around)
-    × (t.scope ≡ w.scope ++ record { arg = tree a.now; res = tree r.now; at = w.around } ∷ [])
-    × Within (TArrow (tree a.now) (tree r.now))
+Part f (C.Fix x) t w = (w.e ≡ SFix (place x.span) (tree x.arg.now) (tree x.res.now) t.e) × IsReady w × (t.around ≡ w.around)
+    × (t.scope ≡ w.scope ++ fix_names w.around (tree x.arg.now) (tree x.res.now))
+    × Within (TArrow (tree x.arg.now) (tree x.res.now))
 Part f (C.Function s x) t w = (w.e ≡ SApp (place s) t.e (node_at f x)) × IsReady w × Same t w × (x < count f)
 Part f (C.Argument s a r) t w = (e : Tm) × (w.e ≡ SApp (place s) e t.e) × IsReady w × Same t w
     × IsTypeOf e w.around (context w) (TArrow (tree a) (tree r))
@@ -79,6 +84,19 @@ Part f (C.Zero s b) t w = (c : Tm) × (w.e ≡ SIf0 (place s) c t.e (node_at f b
 Part f (C.Other s z) t w = (c : Tm) × (a : Tm) × (w.e ≡ SIf0 (place s) c a t.e) × IsReady w × Same t w
     × Passes c w.around (context w) TInt
     × IsTypeOf a w.around (context w) (tree z)
+Part f (C.Let s b) t w = (w.e ≡ SLet (place s) t.e (node_at f b)) × IsReady w × Same t w × (b < count f)
+Part f (C.Body s) t w = (a : Tm) × (w.e ≡ SLet (place s) a t.e) × IsReady w × (t.around ≡ w.around) × (u : Ty)
+    × (t.scope ≡ w.scope ++ record { ty = u; at = w.around } ∷ []) × Passes a w.around (context w) u
+Part f (C.Pack p) t w = (w.e ≡ SPack (place p.span) (tree p.hidden.now) t.e (tree p.shape.now)) × IsReady w × Same t w
+    × (tree p.shape.now ≡ TSome (tree p.body.now)) × Within (tree p.hidden.now) × Within (tree p.shape.now)
+Part f (C.Open s b) t w = (w.e ≡ SOpen (place s) t.e (node_at f b)) × IsReady w × Same t w × (b < count f)
+Part f (C.Opened s) t w = (a : Tm) × (w.e ≡ SOpen (place s) a t.e) × IsReady w × (t.around ≡ w.around + 1) × (u : Ty)
+    × (t.scope ≡ w.scope ++ record { ty = u; at = w.around + 1 } ∷ []) × Passes a w.around (context w) (TSome u)
+Part f (C.Ref s) t w = (w.e ≡ SRef (place s) t.e) × IsReady w × Same t w
+Part f (C.Deref s) t w = (w.e ≡ SDeref (place s) t.e) × IsReady w × Same t w
+Part f (C.Target s b) t w = (w.e ≡ SAssign (place s) t.e (node_at f b)) × IsReady w × Same t w × (b < count f)
+Part f (C.Assigned s u) t w = (a : Tm) × (w.e ≡ SAssign (place s) a t.e) × IsReady w × Same t w
+    × Passes a w.around (context w) (TRef (tree u))
 
 -- the whole term, and the term e where the state stands
 abbrev pub top : FTerm → Task
@@ -101,7 +119,7 @@ Gives f st e ty s = TypeIs (now st e) (tree ty) × (span_of e ≡ place s) × Ho
 
 abbrev pub Leads : FTerm → State → Control → Type 0
 Leads f st (Run i) = (i < count f) × Opens f st (node_at f i)
-Leads f st (Give ty s) = (e : Tm) × Gives f st e ty s
+Leads f st (Give ty s o) = (e : Tm) × Gives f st e ty s
 
 -- the type of a part is there, and the frame waits for it
 abbrev pub Offered : FTerm → State → Frame → FType → Span → Type 0
@@ -119,7 +137,7 @@ all_nodes f [] = 0
 all_nodes f (k ∷ ks) = nodes (plain (node_at f k)) + all_nodes f ks
 
 abbrev pub rest_of : Frame → List ℕ
-rest_of (C.Fix s a r) = []
+rest_of (C.Fix x) = []
 rest_of (C.Function s x) = x ∷ []
 rest_of (C.Argument s a r) = []
 rest_of (C.Gen s) = []
@@ -131,6 +149,15 @@ rest_of (C.Right s) = []
 rest_of (C.Test s a b) = a ∷ b ∷ []
 rest_of (C.Zero s b) = b ∷ []
 rest_of (C.Other s z) = []
+rest_of (C.Let s b) = b ∷ []
+rest_of (C.Body s) = []
+rest_of (C.Pack p) = []
+rest_of (C.Open s b) = b ∷ []
+rest_of (C.Opened s) = []
+rest_of (C.Ref s) = []
+rest_of (C.Deref s) = []
+rest_of (C.Target s b) = b ∷ []
+rest_of (C.Assigned s u) = []
 
 abbrev pub frame_work : FTerm → Frame → ℕ
 frame_work f fr = 1 + 2 * all_nodes f (rest_of fr)
@@ -147,7 +174,7 @@ offer_work f st ks = 2 + 2 * all_nodes f ks + left f st
 
 abbrev pub work : FTerm → State → Control → ℕ
 work f st (Run i) = open_work f st (node_at f i)
-work f st (Give ty s) = 1 + left f st
+work f st (Give ty s o) = 1 + left f st
 
 -- a step: the state leads to the whole, and less work is left; or the fault is the first of the whole
 abbrev pub Goes : FTerm → State → Result Control FFault → ℕ → Type 0

@@ -2,19 +2,22 @@
 ghost use Rattle.std.specs.Global.{Global};
 ghost use Rattle.std.specs.Prelude.{◌≡◌, ℕ, ◌++◌, ◌∷◌, [], ◌<◌, map, IfOk, OnOk, Vec};
 ghost use Rattle.std.specs.List.{All};
-ghost use Rattle.f_terms.specs.Tm.{SVar, SFix, SGen, STuple, tms};
+ghost use Rattle.f_terms.specs.Tm.{SVar, SFix, SGen, STuple, SPack, tms};
 ghost use Rattle.f_terms.specs.Read.{tree, place};
 ghost use Rattle.f_terms.specs.ReadTerm.{count, node_at, shape_at};
-ghost use Rattle.f_check.specs.Walk.{Opens, Leads, Goes, open_work, work};
+ghost use Rattle.f_check.specs.Scopes.{bound};
+ghost use Rattle.f_check.specs.Walk.{Opens, Leads, Goes, fix_names, open_work, work};
 ghost use Rattle.f_terms.specs.declared.node.FShape.TheVariants as shapes;
 ghost use Rattle.f_check.specs.Notes.{Begun};
 ghost use Rattle.f_check.specs.declared.frame.Control.TheVariants as control;
 
 use crate::count::limit;
-use crate::frame::{Control, Frame, State};
-use crate::scope::{Binder, find};
+use crate::frame::{Control, Frame, Head, Packing, State};
+use crate::parts::shape_body;
+use crate::resume::refused;
+use crate::scope::{Binder, bind, copy_arrow, find};
 use crate::walk::enter;
-use f_terms::{FFault, FShape, FTerm, FType, depth, size};
+use f_terms::{Code, FFault, FShape, FTerm, FType, copy, depth, size};
 use idx_core::{OutOfMemory, Span};
 use std::alloc::Global;
 
@@ -36,8 +39,12 @@ pub(crate) fn begin<'a>(
         FShape::Int(_) => Ok(Control::Give {
             ty: FType::Int,
             span,
+            bound: FType::Int,
         }),
-        FShape::Fix { arg, res, body } => begin_fix(term, state, span, arg, res, *body),
+        FShape::Fix { arg, res, body } => {
+            let head = Head { span, arg, res };
+            begin_fix(alloc, term, state, head, *body)
+        }
         FShape::App(f, x) => enter(term, state, Frame::Function { span, x: *x }, *f),
         FShape::Gen(body) => begin_gen(term, state, span, *body),
         FShape::Inst(e, ty) => enter(term, state, Frame::Inst { span, ty }, *e),
@@ -45,6 +52,16 @@ pub(crate) fn begin<'a>(
         FShape::Proj(i, e) => enter(term, state, Frame::Proj { span, i: *i }, *e),
         FShape::Arith(_, a, b) => enter(term, state, Frame::Left { span, b: *b }, *a),
         FShape::If0(c, a, b) => enter(term, state, Frame::Test { span, a: *a, b: *b }, *c),
+        FShape::Let(a, b) => enter(term, state, Frame::Let { span, b: *b }, *a),
+        FShape::Pack {
+            hidden,
+            inner,
+            shape,
+        } => begin_pack(term, state, span, hidden, *inner, shape),
+        FShape::Open(a, b) => enter(term, state, Frame::Open { span, b: *b }, *a),
+        FShape::Ref(e) => enter(term, state, Frame::Ref { span }, *e),
+        FShape::Deref(e) => enter(term, state, Frame::Deref { span }, *e),
+        FShape::Assign(a, b) => enter(term, state, Frame::Target { span, b: *b }, *a),
     }
 }
 
@@ -60,38 +77,52 @@ fn begin_var(
     ensures frames { IfOk result (λ c. Begun (shapes.Var name) state.now.frames.items state.now.frames.items c) }
 {
     let ty = find(alloc, &state.scope, name, state.around)?;
-    Ok(Control::Give { ty, span })
+    Ok(Control::Give {
+        ty,
+        span,
+        bound: FType::Int,
+    })
 }
 
-fn push<'a>(scope: &mut Vec<Binder<'a>>, binder: Binder<'a>) -> Result<(), OutOfMemory>
-    ensures { OnOk result (scope.new.items ≡ scope.old.items ++ binder.entry ∷ []) }
+// A function and its argument are names around what follows.
+fn bind_function(
+    alloc: Global,
+    scope: &mut Vec<Binder>,
+    arg: &FType,
+    res: &FType,
+    around: u64,
+) -> Result<(), OutOfMemory>
+    ensures { OnOk result (map bound scope.new.items
+        ≡ map bound scope.old.items ++ fix_names around (tree arg.now) (tree res.now)) }
 {
-    scope.push(binder)?;
-    Ok(())
+    let function = copy_arrow(alloc, arg, res)?;
+    let argument = copy(alloc, arg)?;
+    bind(scope, function, around)?;
+    bind(scope, argument, around)
 }
 
 fn begin_fix<'a>(
+    alloc: Global,
     term: &FTerm,
     state: &mut State<'a>,
-    span: Span,
-    arg: &'a FType,
-    res: &'a FType,
+    head: Head<'a>,
     body: u64,
 ) -> Result<Control, FFault>
     requires opens { Opens term.now state.old
-        (SFix (place span) (tree arg.now) (tree res.now) (node_at term.now body)) }
+        (SFix (place head.span) (tree head.arg.now) (tree head.res.now) (node_at term.now body)) }
     requires inside { body < count term.now }
     ensures goes { Goes term.now state.new result
-        (open_work term.now state.old (SFix (place span) (tree arg.now) (tree res.now) (node_at term.now body))) }
+        (open_work term.now state.old
+        (SFix (place head.entry.span) (tree head.entry.arg.now) (tree head.entry.res.now) (node_at term.now body))) }
     ensures frames { IfOk result (λ c. Begun
-        (shapes.Fix arg.now res.now body) state.old.frames.items state.new.frames.items c) }
+        (shapes.Fix head.entry.arg.now head.entry.res.now body) state.old.frames.items state.new.frames.items c) }
 {
+    let Head { span, arg, res } = head;
     let deep = depth(arg).max(depth(res)).saturating_add(1);
     let wide = size(arg).saturating_add(size(res)).saturating_add(1);
     limit(deep, wide, span)?;
-    let around = state.around;
-    push(&mut state.scope, Binder { arg, res, around })?;
-    enter(term, state, Frame::Fix { span, arg, res }, body)
+    bind_function(alloc, &mut state.scope, arg, res, state.around)?;
+    enter(term, state, Frame::Fix(head), body)
 }
 
 fn begin_gen(term: &FTerm, state: &mut State, span: Span, body: u64) -> Result<Control, FFault>
@@ -103,6 +134,37 @@ fn begin_gen(term: &FTerm, state: &mut State, span: Span, body: u64) -> Result<C
 {
     state.around += 1;
     enter(term, state, Frame::Gen { span }, body)
+}
+
+fn begin_pack<'a>(
+    term: &FTerm,
+    state: &mut State<'a>,
+    span: Span,
+    hidden: &'a FType,
+    inner: u64,
+    shape: &'a FType,
+) -> Result<Control, FFault>
+    requires opens { Opens term.now state.old
+        (SPack (place span) (tree hidden.now) (node_at term.now inner) (tree shape.now)) }
+    requires inside { inner < count term.now }
+    ensures goes { Goes term.now state.new result (open_work term.now state.old
+        (SPack (place span) (tree hidden.now) (node_at term.now inner) (tree shape.now))) }
+    ensures frames { IfOk result (λ c. Begun
+        (shapes.Pack hidden.now inner shape.now) state.old.frames.items state.new.frames.items c) }
+{
+    let body = match shape_body(shape) {
+        Some(body) => body,
+        None => return refused(Code::E16, span),
+    };
+    limit(depth(hidden), size(hidden), span)?;
+    limit(depth(shape), size(shape), span)?;
+    let packing = Packing {
+        span,
+        hidden,
+        body,
+        shape,
+    };
+    enter(term, state, Frame::Pack(packing), inner)
 }
 
 fn begin_tuple<'a>(
@@ -124,6 +186,7 @@ fn begin_tuple<'a>(
         None => Ok(Control::Give {
             ty: FType::Tuple(types),
             span,
+            bound: FType::Int,
         }),
         Some((e, rest)) => enter(term, state, Frame::Fields { span, types, rest }, *e),
     }

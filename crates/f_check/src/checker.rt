@@ -50,9 +50,9 @@ fn type_of(alloc: Global, term: &FTerm) -> Result<(FType, Vec<FType>), FFault>
                 control = begin(alloc, term, &mut state, i)?;
                 follow(&mut path, &control)?;
             }
-            Control::Give { ty, span } => {
+            Control::Give { ty, span, bound } => {
                 let node = close(&mut path);
-                note(alloc, term, &mut types, node, &ty)?;
+                note(alloc, term, &mut types, node, &ty, bound)?;
                 match state.frames.pop() {
                     Some(frame) => {
                         let part = Passed { ty, span };
@@ -67,7 +67,8 @@ fn type_of(alloc: Global, term: &FTerm) -> Result<(FType, Vec<FType>), FFault>
 }
 
 /// The type of a closed term by the typing rules of the source, where the type of each of its parts keeps the limits
-/// on types (own choice); else the first fault in checking order, E07 to E14, L4 or L5, with the term handed back.
+/// on types (own choice); else the first fault in checking order, E07 to E14, E16 to E18, E21, E22, L4 or L5, with the
+/// term handed back.
 pub fn check(alloc: Global, term: FTerm) -> Result<Typed, (FTerm, FFault)>
     requires closed { IsClosed (term_of term) }
     requires nodes { nodes (term_of term) ≤ 4294967295 }

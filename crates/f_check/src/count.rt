@@ -11,10 +11,10 @@ use f_terms::{Code, FFault, FType};
 use idx_core::Span;
 
 // How deep a type may be.
-const DEPTH: u64 = 200;
+pub(crate) const DEPTH: u64 = 200;
 
 // How many nodes a type may have.
-const SIZE: u64 = 10000;
+pub(crate) const SIZE: u64 = 10000;
 
 // The limits of a type that has this depth and size.
 pub(crate) fn limit(deep: u64, wide: u64, span: Span) -> Result<(), FFault>
@@ -58,6 +58,8 @@ pub(crate) fn put_size(t: &FType, at: u64, what: u64) -> u64
             }
             sum
         }
+        FType::Exists(t) => put_size(t, at + 1, what).saturating_add(1),
+        FType::Ref(t) => put_size(t, at, what).saturating_add(1),
     }
 }
 
@@ -81,5 +83,7 @@ pub(crate) fn put_depth(t: &FType, at: u64, what: u64) -> u64
             }
             most.saturating_add(1)
         }
+        FType::Exists(t) => put_depth(t, at + 1, what).saturating_add(1),
+        FType::Ref(t) => put_depth(t, at, what).saturating_add(1),
     }
 }

@@ -57,14 +57,17 @@ pub(crate) fn close(path: &mut Vec<u64>) -> u64
     }
 }
 
-// What is noted of a type: where the form has it written, or none is needed, it is not.
-fn kept(alloc: Global, shape: &FShape, ty: &FType) -> Result<FType, OutOfMemory>
-    ensures { IfOk result (λ r. Keeps shape.now (tree r) (tree ty.now)) }
+// What is noted of a form with this type, where the name that it binds has the other: where the form has it written, or
+// none is needed, nothing.
+fn kept(alloc: Global, shape: &FShape, ty: &FType, bound: FType) -> Result<FType, OutOfMemory>
+    ensures { IfOk result (λ r. Keeps shape.now (tree r) (tree ty.now) (tree bound)) }
 {
     match shape {
         FShape::Var(_) | FShape::Int(_) | FShape::Fix { .. } | FShape::Arith(_, _, _) => {
             Ok(FType::Int)
         }
+        FShape::Let(_, _) | FShape::Pack { .. } | FShape::Assign(_, _) => Ok(FType::Int),
+        FShape::Open(_, _) => Ok(bound),
         _ => {
             let ty = copy(alloc, ty)?;
             Ok(ty)
@@ -79,12 +82,13 @@ pub(crate) fn note(
     types: &mut Vec<FType>,
     node: u64,
     ty: &FType,
+    bound: FType,
 ) -> Result<(), FFault>
     requires inside { node < count term.now }
     requires table { node < length types.old.items }
-    ensures right { OnOk result (Noting term.now types.old.items types.new.items node (tree ty.now)) }
+    ensures right { OnOk result (Noting term.now types.old.items types.new.items node (tree ty.now) (tree bound)) }
     ensures memory { IfErr result (λ e. e ≡ fault.Memory) }
 {
-    types[node as usize] = kept(alloc, &term.node(node).shape, ty)?;
+    types[node as usize] = kept(alloc, &term.node(node).shape, ty, bound)?;
     Ok(())
 }

@@ -2,12 +2,34 @@
 ghost use Rattle.f_terms.specs.Ty.{PutFits};
 ghost use Rattle.f_terms.specs.Limits.{Shallow, Within};
 ghost use Rattle.f_terms.specs.Read.{tree, place};
-ghost use Rattle.f_check.specs.Verdict.{IsPut};
+ghost use Rattle.std.specs.Prelude.{IfOk};
+ghost use Rattle.f_check.specs.Verdict.{IsPut, IsPutOrNone};
 
-use crate::count::{limit, put_depth, put_size};
+use crate::count::{DEPTH, SIZE, limit, put_depth, put_size};
 use f_terms::{FFault, FType, depth, size};
-use idx_core::{Scoped, Span};
+use idx_core::{OutOfMemory, Scoped, Span};
 use std::alloc::Global;
+
+// The type of a body after a put, where it keeps the limits. What is put keeps them.
+pub(crate) fn put_or_none(
+    alloc: Global,
+    body: &FType,
+    what: &FType,
+) -> Result<Option<FType>, OutOfMemory>
+    requires small { Within (tree body.now) }
+    requires kept { Within (tree what.now) }
+    requires fits { PutFits 0 (tree what.now) 0 (tree body.now) }
+    ensures { IfOk result (λ r. IsPutOrNone (tree what.now) (tree body.now) r) }
+{
+    if put_depth(body, 0, depth(what)) > DEPTH {
+        return Ok(None);
+    }
+    if put_size(body, 0, size(what)) > SIZE {
+        return Ok(None);
+    }
+    let made = body.put(alloc, 0, what)?;
+    Ok(Some(made))
+}
 
 // The type of a body after a put, where it and what is put keep the limits.
 pub(crate) fn put_within(

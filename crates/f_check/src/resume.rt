@@ -1,54 +1,52 @@
 // What comes after the type of a part.
-ghost use Rattle.std.specs.Prelude.{◌≡◌, ◌-◌, ◌++◌, ◌∷◌, [], length, map, take, IfOk, OnOk};
+ghost use Rattle.std.specs.Prelude.{◌≡◌, ◌++◌, ◌∷◌, [], map, IfOk, OnOk};
 ghost use Rattle.f_terms.specs.Read.{tree};
+ghost use Rattle.f_check.specs.Scopes.{bound};
 ghost use Rattle.f_check.specs.Walk.{Offered, Goes, offer_work, rest_of};
 ghost use Rattle.f_check.specs.Notes.{Resumed};
 ghost use Rattle.f_check.specs.declared.frame.Frame.TheVariants as frames;
 ghost use Rattle.f_terms.specs.declared.fault.FFault.TheVariants as fault;
 
 use crate::count::limit;
-use crate::frame::{Control, Frame, Passed, State};
-use crate::parts::{all_body, arrow_parts, is_int, take_field, tuple_parts};
-use crate::put::put_within;
-use crate::scope::{Binder, copy_arrow};
+use crate::frame::{Control, Frame, Head, Packing, Passed, State};
+use crate::parts::{
+    all_body, arrow_parts, held_part, is_int, outer, some_body, take_field, tuple_parts,
+};
+use crate::put::{put_or_none, put_within};
+use crate::scope::{bind, copy_arrow, leave, leave_last};
 use crate::walk::enter;
-use f_terms::{Code, FFault, FTerm, FType, depth, eq, size};
+use f_terms::{Code, FFault, FTerm, FType, copy, depth, eq, size};
 use idx_core::{OutOfMemory, Span};
 use std::alloc::Global;
 
-fn refused(code: Code, span: Span) -> Result<Control, FFault>
+pub(crate) fn refused(code: Code, span: Span) -> Result<Control, FFault>
     ensures { result ≡ Err (fault.Refused code span) }
 {
     Err(FFault::Refused { code, span })
-}
-
-// The body of the innermost function is left.
-fn leave(scope: &mut Vec<Binder>)
-    ensures { scope.new.items ≡ take (length scope.old.items - 1) scope.old.items }
-{
-    scope.pop();
 }
 
 fn after_fix(
     alloc: Global,
     term: &FTerm,
     state: &mut State,
-    span: Span,
-    arg: &FType,
-    res: &FType,
+    head: Head,
     part: Passed,
 ) -> Result<Control, FFault>
-    requires { Offered term.now state.old (frames.Fix span arg res) part.ty part.span }
+    requires { Offered term.now state.old (frames.Fix head) part.ty part.span }
     ensures goes { Goes term.now state.new result (offer_work term.now state.old []) }
-    ensures frames { IfOk result (λ c. Resumed
-        (frames.Fix span arg.entry res.entry) state.old.frames.items state.new.frames.items c) }
+    ensures frames { IfOk result (λ c. Resumed (frames.Fix head.entry)
+        (map bound state.old.scope.items) state.old.frames.items state.new.frames.items c) }
 {
-    leave(&mut state.scope);
-    if !eq(&part.ty, res) {
+    leave(&mut state.scope, 2);
+    if !eq(&part.ty, head.res) {
         return refused(Code::E14, part.span);
     }
-    let ty = copy_arrow(alloc, arg, res)?;
-    Ok(Control::Give { ty, span })
+    let ty = copy_arrow(alloc, head.arg, head.res)?;
+    Ok(Control::Give {
+        ty,
+        span: head.span,
+        bound: FType::Int,
+    })
 }
 
 fn after_function(
@@ -60,8 +58,8 @@ fn after_function(
 ) -> Result<Control, FFault>
     requires { Offered term.now state.old (frames.Function span x) part.ty part.span }
     ensures goes { Goes term.now state.new result (offer_work term.now state.old (x ∷ [])) }
-    ensures frames { IfOk result (λ c. Resumed
-        (frames.Function span x) state.old.frames.items state.new.frames.items c) }
+    ensures frames { IfOk result (λ c. Resumed (frames.Function span x)
+        (map bound state.old.scope.items) state.old.frames.items state.new.frames.items c) }
 {
     match arrow_parts(part.ty) {
         Some((arg, res)) => enter(term, state, Frame::Argument { span, arg, res }, x),
@@ -79,13 +77,17 @@ fn after_argument(
 ) -> Result<Control, FFault>
     requires { Offered term.now state.now (frames.Argument span arg res) part.ty part.span }
     ensures goes { Goes term.now state.now result (offer_work term.now state.now []) }
-    ensures frames { IfOk result (λ c. Resumed
-        (frames.Argument span arg res) state.now.frames.items state.now.frames.items c) }
+    ensures frames { IfOk result (λ c. Resumed (frames.Argument span arg res)
+        (map bound state.now.scope.items) state.now.frames.items state.now.frames.items c) }
 {
     if !eq(&part.ty, &arg) {
         return refused(Code::E08, part.span);
     }
-    Ok(Control::Give { ty: res, span })
+    Ok(Control::Give {
+        ty: res,
+        span,
+        bound: FType::Int,
+    })
 }
 
 fn after_gen(
@@ -97,14 +99,19 @@ fn after_gen(
 ) -> Result<Control, FFault>
     requires { Offered term.now state.old (frames.Gen span) part.ty part.span }
     ensures goes { Goes term.now state.new result (offer_work term.now state.old []) }
-    ensures frames { IfOk result (λ c. Resumed (frames.Gen span) state.old.frames.items state.new.frames.items c) }
+    ensures frames { IfOk result (λ c. Resumed (frames.Gen span)
+        (map bound state.old.scope.items) state.old.frames.items state.new.frames.items c) }
 {
     state.around -= 1;
     let deep = depth(&part.ty).saturating_add(1);
     let wide = size(&part.ty).saturating_add(1);
     limit(deep, wide, span)?;
     let ty = FType::All(Box::new(alloc, part.ty)?);
-    Ok(Control::Give { ty, span })
+    Ok(Control::Give {
+        ty,
+        span,
+        bound: FType::Int,
+    })
 }
 
 fn after_inst(
@@ -117,15 +124,19 @@ fn after_inst(
 ) -> Result<Control, FFault>
     requires { Offered term.now state.now (frames.Inst span arg) part.ty part.span }
     ensures goes { Goes term.now state.now result (offer_work term.now state.now []) }
-    ensures frames { IfOk result (λ c. Resumed
-        (frames.Inst span arg.entry) state.now.frames.items state.now.frames.items c) }
+    ensures frames { IfOk result (λ c. Resumed (frames.Inst span arg.entry)
+        (map bound state.now.scope.items) state.now.frames.items state.now.frames.items c) }
 {
     let body = match all_body(part.ty) {
         Some(body) => body,
         None => return refused(Code::E09, part.span),
     };
     let ty = put_within(alloc, span, &body, arg)?;
-    Ok(Control::Give { ty, span })
+    Ok(Control::Give {
+        ty,
+        span,
+        bound: FType::Int,
+    })
 }
 
 fn push(types: &mut Vec<FType>, ty: FType) -> Result<(), OutOfMemory>
@@ -145,8 +156,8 @@ fn after_field<'a>(
 ) -> Result<Control, FFault>
     requires { Offered term.now state.old (frames.Fields span types rest) part.ty part.span }
     ensures goes { Goes term.now state.new result (offer_work term.now state.old rest.now) }
-    ensures frames { IfOk result (λ c. Resumed
-        (frames.Fields span types rest.entry) state.old.frames.items state.new.frames.items c) }
+    ensures frames { IfOk result (λ c. Resumed (frames.Fields span types rest.entry)
+        (map bound state.old.scope.items) state.old.frames.items state.new.frames.items c) }
 {
     let mut types = types;
     push(&mut types, part.ty)?;
@@ -155,7 +166,11 @@ fn after_field<'a>(
         None => {
             let ty = FType::Tuple(types);
             limit(depth(&ty), size(&ty), span)?;
-            Ok(Control::Give { ty, span })
+            Ok(Control::Give {
+                ty,
+                span,
+                bound: FType::Int,
+            })
         }
     }
 }
@@ -169,14 +184,19 @@ fn after_proj(
 ) -> Result<Control, FFault>
     requires { Offered term.now state.now (frames.Proj span i) part.ty part.span }
     ensures goes { Goes term.now state.now result (offer_work term.now state.now []) }
-    ensures frames { IfOk result (λ c. Resumed (frames.Proj span i) state.now.frames.items state.now.frames.items c) }
+    ensures frames { IfOk result (λ c. Resumed (frames.Proj span i)
+        (map bound state.now.scope.items) state.now.frames.items state.now.frames.items c) }
 {
     let parts = match tuple_parts(part.ty) {
         Some(parts) => parts,
         None => return refused(Code::E10, part.span),
     };
     match take_field(parts, i) {
-        Some(ty) => Ok(Control::Give { ty, span }),
+        Some(ty) => Ok(Control::Give {
+            ty,
+            span,
+            bound: FType::Int,
+        }),
         None => refused(Code::E11, span),
     }
 }
@@ -190,7 +210,8 @@ fn after_left(
 ) -> Result<Control, FFault>
     requires { Offered term.now state.old (frames.Left span b) part.ty part.span }
     ensures goes { Goes term.now state.new result (offer_work term.now state.old (b ∷ [])) }
-    ensures frames { IfOk result (λ c. Resumed (frames.Left span b) state.old.frames.items state.new.frames.items c) }
+    ensures frames { IfOk result (λ c. Resumed (frames.Left span b)
+        (map bound state.old.scope.items) state.old.frames.items state.new.frames.items c) }
 {
     if !is_int(&part.ty) {
         return refused(Code::E12, part.span);
@@ -201,7 +222,8 @@ fn after_left(
 fn after_right(term: &FTerm, state: &State, span: Span, part: Passed) -> Result<Control, FFault>
     requires { Offered term.now state.now (frames.Right span) part.ty part.span }
     ensures goes { Goes term.now state.now result (offer_work term.now state.now []) }
-    ensures frames { IfOk result (λ c. Resumed (frames.Right span) state.now.frames.items state.now.frames.items c) }
+    ensures frames { IfOk result (λ c. Resumed (frames.Right span)
+        (map bound state.now.scope.items) state.now.frames.items state.now.frames.items c) }
 {
     if !is_int(&part.ty) {
         return refused(Code::E12, part.span);
@@ -209,6 +231,7 @@ fn after_right(term: &FTerm, state: &State, span: Span, part: Passed) -> Result<
     Ok(Control::Give {
         ty: FType::Int,
         span,
+        bound: FType::Int,
     })
 }
 
@@ -222,7 +245,8 @@ fn after_test(
 ) -> Result<Control, FFault>
     requires { Offered term.now state.old (frames.Test span a b) part.ty part.span }
     ensures goes { Goes term.now state.new result (offer_work term.now state.old (a ∷ b ∷ [])) }
-    ensures frames { IfOk result (λ c. Resumed (frames.Test span a b) state.old.frames.items state.new.frames.items c) }
+    ensures frames { IfOk result (λ c. Resumed (frames.Test span a b)
+        (map bound state.old.scope.items) state.old.frames.items state.new.frames.items c) }
 {
     if !is_int(&part.ty) {
         return refused(Code::E12, part.span);
@@ -239,7 +263,8 @@ fn after_zero(
 ) -> Result<Control, FFault>
     requires { Offered term.now state.old (frames.Zero span b) part.ty part.span }
     ensures goes { Goes term.now state.new result (offer_work term.now state.old (b ∷ [])) }
-    ensures frames { IfOk result (λ c. Resumed (frames.Zero span b) state.old.frames.items state.new.frames.items c) }
+    ensures frames { IfOk result (λ c. Resumed (frames.Zero span b)
+        (map bound state.old.scope.items) state.old.frames.items state.new.frames.items c) }
 {
     enter(
         term,
@@ -261,13 +286,196 @@ fn after_other(
 ) -> Result<Control, FFault>
     requires { Offered term.now state.now (frames.Other span zero) part.ty part.span }
     ensures goes { Goes term.now state.now result (offer_work term.now state.now []) }
-    ensures frames { IfOk result (λ c. Resumed
-        (frames.Other span zero) state.now.frames.items state.now.frames.items c) }
+    ensures frames { IfOk result (λ c. Resumed (frames.Other span zero)
+        (map bound state.now.scope.items) state.now.frames.items state.now.frames.items c) }
 {
     if !eq(&part.ty, &zero) {
         return refused(Code::E13, part.span);
     }
-    Ok(Control::Give { ty: zero, span })
+    Ok(Control::Give {
+        ty: zero,
+        span,
+        bound: FType::Int,
+    })
+}
+
+fn after_let<'a>(
+    term: &FTerm,
+    state: &mut State<'a>,
+    span: Span,
+    b: u64,
+    part: Passed,
+) -> Result<Control, FFault>
+    requires { Offered term.now state.old (frames.Let span b) part.ty part.span }
+    ensures goes { Goes term.now state.new result (offer_work term.now state.old (b ∷ [])) }
+    ensures frames { IfOk result (λ c. Resumed (frames.Let span b)
+        (map bound state.old.scope.items) state.old.frames.items state.new.frames.items c) }
+{
+    bind(&mut state.scope, part.ty, state.around)?;
+    enter(term, state, Frame::Body { span }, b)
+}
+
+fn after_body(term: &FTerm, state: &mut State, span: Span, part: Passed) -> Result<Control, FFault>
+    requires { Offered term.now state.old (frames.Body span) part.ty part.span }
+    ensures goes { Goes term.now state.new result (offer_work term.now state.old []) }
+    ensures frames { IfOk result (λ c. Resumed (frames.Body span)
+        (map bound state.old.scope.items) state.old.frames.items state.new.frames.items c) }
+{
+    leave(&mut state.scope, 1);
+    Ok(Control::Give {
+        ty: part.ty,
+        span,
+        bound: FType::Int,
+    })
+}
+
+fn after_pack(
+    alloc: Global,
+    term: &FTerm,
+    state: &State,
+    packing: Packing,
+    part: Passed,
+) -> Result<Control, FFault>
+    requires { Offered term.now state.now (frames.Pack packing) part.ty part.span }
+    ensures goes { Goes term.now state.now result (offer_work term.now state.now []) }
+    ensures frames { IfOk result (λ c. Resumed (frames.Pack packing.entry)
+        (map bound state.now.scope.items) state.now.frames.items state.now.frames.items c) }
+{
+    let wanted = match put_or_none(alloc, packing.body, packing.hidden)? {
+        Some(wanted) => wanted,
+        None => return refused(Code::E17, part.span),
+    };
+    if !eq(&part.ty, &wanted) {
+        return refused(Code::E17, part.span);
+    }
+    let ty = copy(alloc, packing.shape)?;
+    Ok(Control::Give {
+        ty,
+        span: packing.span,
+        bound: FType::Int,
+    })
+}
+
+fn after_open<'a>(
+    term: &FTerm,
+    state: &mut State<'a>,
+    span: Span,
+    b: u64,
+    part: Passed,
+) -> Result<Control, FFault>
+    requires { Offered term.now state.old (frames.Open span b) part.ty part.span }
+    ensures goes { Goes term.now state.new result (offer_work term.now state.old (b ∷ [])) }
+    ensures frames { IfOk result (λ c. Resumed (frames.Open span b)
+        (map bound state.old.scope.items) state.old.frames.items state.new.frames.items c) }
+{
+    let body = match some_body(part.ty) {
+        Some(body) => body,
+        None => return refused(Code::E16, part.span),
+    };
+    state.around += 1;
+    bind(&mut state.scope, body, state.around)?;
+    enter(term, state, Frame::Opened { span }, b)
+}
+
+fn after_opened(
+    alloc: Global,
+    term: &FTerm,
+    state: &mut State,
+    span: Span,
+    part: Passed,
+) -> Result<Control, FFault>
+    requires { Offered term.now state.old (frames.Opened span) part.ty part.span }
+    ensures goes { Goes term.now state.new result (offer_work term.now state.old []) }
+    ensures frames { IfOk result (λ c. Resumed (frames.Opened span)
+        (map bound state.old.scope.items) state.old.frames.items state.new.frames.items c) }
+{
+    let bound = leave_last(&mut state.scope);
+    state.around -= 1;
+    let outside = outer(alloc, part.ty)?;
+    match outside {
+        Some(ty) => Ok(Control::Give { ty, span, bound }),
+        None => refused(Code::E18, part.span),
+    }
+}
+
+fn after_ref(
+    alloc: Global,
+    term: &FTerm,
+    state: &State,
+    span: Span,
+    part: Passed,
+) -> Result<Control, FFault>
+    requires { Offered term.now state.now (frames.Ref span) part.ty part.span }
+    ensures goes { Goes term.now state.now result (offer_work term.now state.now []) }
+    ensures frames { IfOk result (λ c. Resumed (frames.Ref span)
+        (map bound state.now.scope.items) state.now.frames.items state.now.frames.items c) }
+{
+    let deep = depth(&part.ty).saturating_add(1);
+    let wide = size(&part.ty).saturating_add(1);
+    limit(deep, wide, span)?;
+    let ty = FType::Ref(Box::new(alloc, part.ty)?);
+    Ok(Control::Give {
+        ty,
+        span,
+        bound: FType::Int,
+    })
+}
+
+fn after_deref(term: &FTerm, state: &State, span: Span, part: Passed) -> Result<Control, FFault>
+    requires { Offered term.now state.now (frames.Deref span) part.ty part.span }
+    ensures goes { Goes term.now state.now result (offer_work term.now state.now []) }
+    ensures frames { IfOk result (λ c. Resumed (frames.Deref span)
+        (map bound state.now.scope.items) state.now.frames.items state.now.frames.items c) }
+{
+    match held_part(part.ty) {
+        Some(ty) => Ok(Control::Give {
+            ty,
+            span,
+            bound: FType::Int,
+        }),
+        None => refused(Code::E21, part.span),
+    }
+}
+
+fn after_target(
+    term: &FTerm,
+    state: &mut State,
+    span: Span,
+    b: u64,
+    part: Passed,
+) -> Result<Control, FFault>
+    requires { Offered term.now state.old (frames.Target span b) part.ty part.span }
+    ensures goes { Goes term.now state.new result (offer_work term.now state.old (b ∷ [])) }
+    ensures frames { IfOk result (λ c. Resumed (frames.Target span b)
+        (map bound state.old.scope.items) state.old.frames.items state.new.frames.items c) }
+{
+    match held_part(part.ty) {
+        Some(held) => enter(term, state, Frame::Assigned { span, held }, b),
+        None => refused(Code::E21, part.span),
+    }
+}
+
+fn after_assigned(
+    alloc: Global,
+    term: &FTerm,
+    state: &State,
+    span: Span,
+    held: FType,
+    part: Passed,
+) -> Result<Control, FFault>
+    requires { Offered term.now state.now (frames.Assigned span held) part.ty part.span }
+    ensures goes { Goes term.now state.now result (offer_work term.now state.now []) }
+    ensures frames { IfOk result (λ c. Resumed (frames.Assigned span held)
+        (map bound state.now.scope.items) state.now.frames.items state.now.frames.items c) }
+{
+    if !eq(&part.ty, &held) {
+        return refused(Code::E22, part.span);
+    }
+    Ok(Control::Give {
+        ty: FType::Tuple(Vec::new(alloc)),
+        span,
+        bound: FType::Int,
+    })
 }
 
 /// What the frame does with the part that it waits for.
@@ -280,10 +488,11 @@ pub(crate) fn resume<'a>(
 ) -> Result<Control, FFault>
     requires { Offered term.now state.old frame part.ty part.span }
     ensures goes { Goes term.now state.new result (offer_work term.now state.old (rest_of frame.entry)) }
-    ensures frames { IfOk result (λ c. Resumed frame.entry state.old.frames.items state.new.frames.items c) }
+    ensures frames { IfOk result (λ c. Resumed frame.entry
+        (map bound state.old.scope.items) state.old.frames.items state.new.frames.items c) }
 {
     match frame {
-        Frame::Fix { span, arg, res } => after_fix(alloc, term, state, span, arg, res, part),
+        Frame::Fix(head) => after_fix(alloc, term, state, head, part),
         Frame::Function { span, x } => after_function(term, state, span, x, part),
         Frame::Argument { span, arg, res } => after_argument(term, state, span, arg, res, part),
         Frame::Gen { span } => after_gen(alloc, term, state, span, part),
@@ -295,5 +504,14 @@ pub(crate) fn resume<'a>(
         Frame::Test { span, a, b } => after_test(term, state, span, a, b, part),
         Frame::Zero { span, b } => after_zero(term, state, span, b, part),
         Frame::Other { span, zero } => after_other(term, state, span, zero, part),
+        Frame::Let { span, b } => after_let(term, state, span, b, part),
+        Frame::Body { span } => after_body(term, state, span, part),
+        Frame::Pack(packing) => after_pack(alloc, term, state, packing, part),
+        Frame::Open { span, b } => after_open(term, state, span, b, part),
+        Frame::Opened { span } => after_opened(alloc, term, state, span, part),
+        Frame::Ref { span } => after_ref(alloc, term, state, span, part),
+        Frame::Deref { span } => after_deref(term, state, span, part),
+        Frame::Target { span, b } => after_target(term, state, span, b, part),
+        Frame::Assigned { span, held } => after_assigned(alloc, term, state, span, held, part),
     }
 }

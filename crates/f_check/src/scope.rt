@@ -1,6 +1,6 @@
 // What is bound around a term.
-ghost use Rattle.std.specs.Prelude.{◌≡◌, ◌<◌, ◌≤◌, ◌*◌, IfOk, Some, length, map};
-ghost use Rattle.f_terms.specs.Ty.{NoTys, TArrow, shift, ShiftFits, Below};
+ghost use Rattle.std.specs.Prelude.{◌≡◌, ℕ, ◌<◌, ◌≤◌, ◌-◌, List, ◌++◌, ◌∷◌, [], IfOk, OnOk, Some, length, map, take};
+ghost use Rattle.f_terms.specs.Ty.{NoTys, TArrow, Below};
 ghost use Rattle.f_terms.specs.Limits.{Within};
 ghost use Rattle.f_terms.specs.Typing.{ty_at};
 ghost use Rattle.f_terms.specs.Read.{tree};
@@ -10,16 +10,15 @@ use f_terms::{FType, copy};
 use idx_core::{OutOfMemory, Scoped};
 use std::alloc::Global;
 
-/// A function around a term. It binds its argument and, outside it, itself: its types as they are written, under the
-/// type names that were around it then.
-#[derive(Clone, Copy)]
-pub(crate) struct Binder<'a> {
-    pub arg: &'a FType,
-    pub res: &'a FType,
+/// A value name around a term: its type, under the type names that were around it then. A function binds two, itself
+/// and, inside of it, its argument.
+#[derive(Drop)]
+pub(crate) struct Binder {
+    pub ty: FType,
     pub around: u64,
 }
 
-// The type of a value name, as it stands under `around` type names. The innermost function is the last one.
+// The type of a value name, as it stands under `around` type names. The innermost name is the last one.
 pub(crate) fn find(
     alloc: Global,
     scope: &[Binder],
@@ -28,27 +27,13 @@ pub(crate) fn find(
 ) -> Result<FType, OutOfMemory>
     requires scope { IsScope around (map bound scope.now) }
     requires room { around ≤ 4294967296 }
-    requires known { name < 2 * length scope.now }
+    requires known { name < length scope.now }
     ensures { IfOk result (λ r. (ty_at (names around NoTys (map bound scope.now)) name ≡ Some (tree r))
         × Below around (tree r) × Within (tree r)) }
 {
-    let binder = &scope[scope.len() - 1 - (name / 2) as usize];
+    let binder = &scope[scope.len() - 1 - name as usize];
     let by = around - binder.around;
-    if name % 2 == 0 {
-        binder.arg.shift(alloc, by, 0)
-    } else {
-        shift_arrow(alloc, binder.arg, binder.res, by)
-    }
-}
-
-// The type of a function, under so many more type names.
-fn shift_arrow(alloc: Global, arg: &FType, res: &FType, by: u64) -> Result<FType, OutOfMemory>
-    requires fits { ShiftFits by 0 (TArrow (tree arg.now) (tree res.now)) }
-    ensures { IfOk result (λ r. tree r ≡ shift by 0 (TArrow (tree arg.now) (tree res.now))) }
-{
-    let arg = arg.shift(alloc, by, 0)?;
-    let res = res.shift(alloc, by, 0)?;
-    Ok(FType::Arrow(Box::new(alloc, arg)?, Box::new(alloc, res)?))
+    binder.ty.shift(alloc, by, 0)
 }
 
 // The type of a function.
@@ -58,4 +43,33 @@ pub(crate) fn copy_arrow(alloc: Global, arg: &FType, res: &FType) -> Result<FTyp
     let arg = copy(alloc, arg)?;
     let res = copy(alloc, res)?;
     Ok(FType::Arrow(Box::new(alloc, arg)?, Box::new(alloc, res)?))
+}
+
+// One name more is bound.
+pub(crate) fn bind(scope: &mut Vec<Binder>, ty: FType, around: u64) -> Result<(), OutOfMemory>
+    ensures { OnOk result (map bound scope.new.items
+        ≡ map bound scope.old.items ++ record { ty = tree ty; at = around } ∷ []) }
+{
+    scope.push(Binder { ty, around })?;
+    Ok(())
+}
+
+// The innermost name is left; the type that it had.
+pub(crate) fn leave_last(scope: &mut Vec<Binder>) -> FType
+    requires { (bs : List Binder) × (b : Binder) × (scope.old.items ≡ bs ++ b ∷ []) }
+    ensures { (at : ℕ) × (map bound scope.old.items
+        ≡ map bound scope.new.items ++ record { ty = tree result; at = at } ∷ []) }
+{
+    match scope.pop() {
+        Some(binder) => binder.ty,
+        None => unreachable!(),
+    }
+}
+
+// So many names, the innermost ones, are left.
+pub(crate) fn leave(scope: &mut Vec<Binder>, count: usize)
+    ensures { scope.new.items ≡ take (length scope.old.items - count) scope.old.items }
+{
+    let kept = scope.len().saturating_sub(count);
+    scope.truncate(kept);
 }

@@ -5,13 +5,15 @@ use Rattle.f_lexer.specs.declared.token.Token.{Token}
 use Rattle.f_lexer.specs.declared.kind.Kind.{Kind}
 use Rattle.f_lexer.specs.declared.kind.Kind.TheVariants as k
 use Rattle.f_grammar.specs.declared.cursor.Wanted.TheVariants as want
+use Rattle.f_grammar.specs.declared.types.Quantifier.TheVariants.{All, Exists}
+use Rattle.idx_core.specs.declared.span.Span.{Span}
 use Rattle.idx_core.specs.declared.arith.Op.TheVariants.{Add, Sub, Mul}
-use Rattle.f_grammar.specs.Raw.{RawTy, Piece, RawTm}
-use Rattle.f_grammar.specs.Grammar.{tok, T, U, Ts, t_all, t_arrow, t_part, u_int, u_name, u_unit, u_tuple, u_paren, ts_one, ts_more, E, S, M, A, P, Es, e_fix, e_gen, e_sum, s_plus, s_minus, s_product, m_star, m_call, a_call, a_inst, a_part, p_name, p_plain, p_negative, p_paren, p_unit, p_tuple, p_proj, p_if0, es_one, es_more, open_T, open_U, open_Ts, open_E, open_S, open_M, open_A, open_P, open_Es}
+use Rattle.f_grammar.specs.Raw.{RawTy, TyPiece, Piece, RawTm}
+use Rattle.f_grammar.specs.Grammar.{tok, T, U, Ts, t_all, t_some, t_arrow, t_part, u_int, u_name, u_unit, u_tuple, u_paren, u_ref, ts_one, ts_more, E, S, M, A, P, Es, e_fix, e_gen, e_let, e_pack, e_open, e_assign, e_sum, s_plus, s_minus, s_product, m_star, m_call, a_call, a_inst, a_part, p_name, p_plain, p_negative, p_paren, p_unit, p_tuple, p_proj, p_if0, p_ref, p_deref, es_one, es_more, open_T, open_U, open_Ts, open_E, open_S, open_M, open_A, open_P, open_Es}
 use Rattle.text_core.specs.Table.{Tm, Nt, Do, Mark, Done, Seen, then_more}
 use Rattle.text_core.proofs.Reading as reading
 use Rattle.text_core.proofs.Reading.{Opens, opens}
-use Rattle.f_grammar.specs.Machine.{table, Line, LE, LP, LFields, MoreParts, MoreFactors, MoreSums, MoreFields, LT, LU, LTypes, MoreArrow, MoreTypes, Act, MakeVar, MakeNumber, MakeFix, MakeGen, MakeParen, MakeUnit, MakeTuple, MakeProj, MakeIf0, MakeCall, MakeInst, MakeArith, MakeFirst, MakeNext, TypeInt, TypeName, TypeParen, TypeUnit, TypeTuple, TypeAll, TypeArrow, TypeFirst, TypeNext, Stack, Val, OfToken, OfTerm, OfTerms, OfType, OfTypes, act, part_after, sum_tail, expr_after, fields_after, fields_tail, parts_after, parts_tail, unit_after, type_after, type_tail, types_after, types_tail, Outcome, marks, seen, exec}
+use Rattle.f_grammar.specs.Machine.{table, Line, LE, LP, LFields, MoreParts, MoreFactors, MoreSums, MoreAssign, MoreFields, LT, LU, LTypes, MoreArrow, MoreTypes, Act, MakeVar, MakeNumber, MakeFix, MakeGen, MakeParen, MakeUnit, MakeTuple, MakeProj, MakeIf0, MakeCall, MakeInst, MakeArith, MakeLet, MakePack, MakeOpen, MakeRef, MakeDeref, MakeAssign, MakeFirst, MakeNext, TypeInt, TypeName, TypeParen, TypeUnit, TypeTuple, TypeBound, TypeArrow, TypeRef, TypeFirst, TypeNext, Stack, Val, OfToken, OfTerm, OfTerms, OfType, OfTypes, act, part_after, sum_tail, expr_after, fields_after, fields_tail, parts_after, parts_tail, unit_after, type_after, type_tail, types_after, types_tail, Outcome, marks, seen, exec}
 
 pub do_now : (w : List Token) (a : Act) (s : Stack) (vs : List Val) → exec w (Do a ∷ s) vs ≡ exec w s (act a vs)
 do_now w a s vs = reading.do_now table w a s vs
@@ -34,10 +36,39 @@ next n e = reading.next table n e
 abbrev pub Leaves : Line → List Token → Type 0
 Leaves n w = reading.Leaves table n w
 
+-- no term goes on with these tokens
+pub record Free (w : List Token) : Type 0 where
+  pub parts : Leaves MoreParts w
+  pub factors : Leaves MoreFactors w
+  pub sums : Leaves MoreSums w
+  pub assign : Leaves MoreAssign w
+  pub arrow : Leaves MoreArrow w
+
+free_end : Free []
+free_end = record { parts = λ _ _. refl; factors = λ _ _. refl; sums = λ _ _. refl; assign = λ _ _. refl; arrow = λ _ _. refl }
+
+free_paren : (s : Span) (w : List Token) → Free (tok k.RightParen s ∷ w)
+free_paren s w = record { parts = λ _ _. refl; factors = λ _ _. refl; sums = λ _ _. refl; assign = λ _ _. refl; arrow = λ _ _. refl }
+
+free_angle : (s : Span) (w : List Token) → Free (tok k.RightAngle s ∷ w)
+free_angle s w = record { parts = λ _ _. refl; factors = λ _ _. refl; sums = λ _ _. refl; assign = λ _ _. refl; arrow = λ _ _. refl }
+
+free_bracket : (s : Span) (w : List Token) → Free (tok k.RightBracket s ∷ w)
+free_bracket s w = record { parts = λ _ _. refl; factors = λ _ _. refl; sums = λ _ _. refl; assign = λ _ _. refl; arrow = λ _ _. refl }
+
+free_comma : (s : Span) (w : List Token) → Free (tok k.Comma s ∷ w)
+free_comma s w = record { parts = λ _ _. refl; factors = λ _ _. refl; sums = λ _ _. refl; assign = λ _ _. refl; arrow = λ _ _. refl }
+
+free_in : (s : Span) (w : List Token) → Free (tok k.In s ∷ w)
+free_in s w = record { parts = λ _ _. refl; factors = λ _ _. refl; sums = λ _ _. refl; assign = λ _ _. refl; arrow = λ _ _. refl }
+
 -- lines that go on as others do
 pub expr_part : (c : Kind) (r : Stack) → part_after c ≡ Some r → expr_after c ≡ Some (r ++ sum_tail)
 expr_part k.Fix r e = absurd (cc)
 expr_part k.Gen r e = absurd (cc)
+expr_part k.Let r e = absurd (cc)
+expr_part k.Pack r e = absurd (cc)
+expr_part k.Open r e = absurd (cc)
 expr_part _ r e = ap (λ (o : Option Stack). then_more o sum_tail) e
 
 pub parts_part : (c : Kind) (r : Stack) → part_after c ≡ Some r → parts_after c ≡ Some (r ++ parts_tail)
@@ -50,6 +81,7 @@ fields_expr _ r e = ap (λ (o : Option Stack). then_more o fields_tail) e
 
 type_unit : (c : Kind) (r : Stack) → unit_after c ≡ Some r → type_after c ≡ Some (r ++ type_tail)
 type_unit k.All r e = absurd (cc)
+type_unit k.Some r e = absurd (cc)
 type_unit _ r e = ap (λ (o : Option Stack). then_more o type_tail) e
 
 types_type : (c : Kind) (r : Stack) → type_after c ≡ Some r → types_after c ≡ Some (r ++ types_tail)
@@ -75,18 +107,20 @@ types_as_type o s vs = reading.as_line table LT LTypes types_tail (λ c r e. typ
 more : (n : Line) {u : List Token} (w : List Token) → Opens table n u → Opens table n (u ++ w)
 more n w o = reading.opens_more table n w o
 
-first_U : {w : List Token} {t : RawTy} → U w t → Opens table LU w
+first_U : {w : List Token} {t : TyPiece} → U w t → Opens table LU w
 first_U (u_int s) = opens _ _ _ refl
 first_U (u_name s) = opens _ _ _ refl
 first_U (u_unit o c) = opens _ _ _ refl
 first_U (u_tuple o c x) = opens _ _ _ refl
 first_U (u_paren o c x) = opens _ _ _ refl
+first_U (u_ref r x) = opens _ _ _ refl
 
 unit_opens : {w : List Token} → Opens table LU w → Opens table LT w
 unit_opens o = reading.opens_as table LU LT type_tail (λ c r e. type_unit c.kind r e) o
 
-first_T : {w : List Token} {t : RawTy} → T w t → Opens table LT w
+first_T : {w : List Token} {t : TyPiece} → T w t → Opens table LT w
 first_T (t_all a n d x) = opens _ _ _ refl
+first_T (t_some a n d x) = opens _ _ _ refl
 first_T (t_arrow {u} {v} s x y) = more LT (tok k.Arrow s ∷ v) (unit_opens (first_U x))
 first_T (t_part x) = unit_opens (first_U x)
 
@@ -103,6 +137,8 @@ first_P (p_unit o c) = opens _ _ _ refl
 first_P (p_tuple o c x) = opens _ _ _ refl
 first_P (p_proj h n s x) = opens _ _ _ refl
 first_P (p_if0 i o p q l a b c) = opens _ _ _ refl
+first_P (p_ref r x) = opens _ _ _ refl
+first_P (p_deref r x) = opens _ _ _ refl
 
 first_A : {w : List Token} {e : Piece} → A w e → Opens table LP w
 first_A (a_call {u} {v} a p) = more LP v (first_A a)
@@ -118,27 +154,36 @@ first_S (s_plus {u} {v} s x m) = more LP (tok k.Plus s ∷ v) (first_S x)
 first_S (s_minus {u} {v} s x m) = more LP (tok k.Minus s ∷ v) (first_S x)
 first_S (s_product m) = first_M m
 
+sum_opens : {w : List Token} → Opens table LP w → Opens table LE w
+sum_opens o = reading.opens_as table LP LE sum_tail (λ c r e. expr_part c.kind r e) o
+
 first_E : {w : List Token} {e : Piece} → E w e → Opens table LE w
 first_E (e_fix f n o x c p d s t r e) = opens _ _ _ refl
 first_E (e_gen g a d e) = opens _ _ _ refl
-first_E (e_sum s) = reading.opens_as table LP LE sum_tail (λ c r e. expr_part c.kind r e) (first_S s)
+first_E (e_let l n q i a b) = opens _ _ _ refl
+first_E (e_pack p o c q s t e r) = opens _ _ _ refl
+first_E (e_open p o n c x r q i a b) = opens _ _ _ refl
+first_E (e_assign {u} {v} s x y) = sum_opens (more LP (tok k.Assign s ∷ v) (first_S x))
+first_E (e_sum s) = sum_opens (first_S s)
 
 first_Es : {w : List Token} {ts : (List RawTm)} → Es w ts → Opens table LE w
 first_Es (es_one e) = first_E e
 first_Es (es_more {u} {v} c x e) = more LE (tok k.Comma c ∷ v) (first_Es x)
 
 mutual
-  pub read_T : {w : List Token} {t : RawTy} (x : T w t) (s : Stack) (vs : List Val) (rest : List Token) → Leaves MoreArrow rest →
+  pub read_T : {w : List Token} {t : TyPiece} (x : T w t) (s : Stack) (vs : List Val) (rest : List Token) → Leaves MoreArrow rest →
       exec (w ++ rest) (Nt LT ∷ s) vs ≡ seen (open_T x (marks s)) (exec rest s (OfType t ∷ vs))
   read_T (t_all a n d x) s vs rest g = next (suc (marks s)) (next (suc (marks s)) (next (suc (marks s))
-      (read_T x (Mark ∷ (Do TypeAll ∷ s)) (OfToken (tok k.Dot d) ∷ (OfToken (tok k.Name n) ∷ (OfToken (tok k.All a) ∷ vs))) rest g ∙ under (open_T x (suc (marks s))) (marked rest TypeAll s _))))
+      (read_T x (Mark ∷ (Do (TypeBound All) ∷ s)) (OfToken (tok k.Dot d) ∷ (OfToken (tok k.Name n) ∷ (OfToken (tok k.All a) ∷ vs))) rest g ∙ under (open_T x (suc (marks s))) (marked rest (TypeBound All) s _))))
+  read_T (t_some a n d x) s vs rest g = next (suc (marks s)) (next (suc (marks s)) (next (suc (marks s))
+      (read_T x (Mark ∷ (Do (TypeBound Exists) ∷ s)) (OfToken (tok k.Dot d) ∷ (OfToken (tok k.Name n) ∷ (OfToken (tok k.Some a) ∷ vs))) rest g ∙ under (open_T x (suc (marks s))) (marked rest (TypeBound Exists) s _))))
   read_T (t_arrow {u} {v} {a} p x y) s vs rest g =
       rw (append_assoc, seen_append (open_U x (marks s)) (suc (marks s) ∷ open_T y (suc (marks s))))
       (type_as_unit (more LU (tok k.Arrow p ∷ (v ++ rest)) (first_U x)) s vs ∙ (read_U x (Nt MoreArrow ∷ s) vs (tok k.Arrow p ∷ (v ++ rest)) ∙ under (open_U x (marks s)) (next (suc (marks s))
       (read_T y (Mark ∷ (Do TypeArrow ∷ s)) (OfToken (tok k.Arrow p) ∷ (OfType a ∷ vs)) rest g ∙ under (open_T y (suc (marks s))) (marked rest TypeArrow s _)))))
   read_T (t_part x) s vs rest g = type_as_unit (more LU rest (first_U x)) s vs ∙ (read_U x (Nt MoreArrow ∷ s) vs rest ∙ under (open_U x (marks s)) (g s _))
 
-  pub read_U : {w : List Token} {t : RawTy} (x : U w t) (s : Stack) (vs : List Val) (rest : List Token) →
+  pub read_U : {w : List Token} {t : TyPiece} (x : U w t) (s : Stack) (vs : List Val) (rest : List Token) →
       exec (w ++ rest) (Nt LU ∷ s) vs ≡ seen (open_U x (marks s)) (exec rest s (OfType t ∷ vs))
   read_U (u_int p) s vs rest = next (marks s) (do_now rest TypeInt s _)
   read_U (u_name p) s vs rest = next (marks s) (do_now rest TypeName s _)
@@ -152,6 +197,8 @@ mutual
       (rw (append_assoc w (tok k.RightParen c ∷ []) rest, seen_append (open_T x (suc (marks s))) (suc (marks s) ∷ []))
       (read_T x (Tm want.RightParen ∷ (Mark ∷ (Do TypeParen ∷ s))) (OfToken (tok k.LeftParen o) ∷ vs) (tok k.RightParen c ∷ rest) (λ _ _. refl) ∙
       under (open_T x (suc (marks s))) (next (suc (marks s)) (marked rest TypeParen s _))))
+  read_U (u_ref r x) s vs rest = next (suc (marks s))
+      (read_U x (Mark ∷ (Do TypeRef ∷ s)) (OfToken (tok k.Ref r) ∷ vs) rest ∙ under (open_U x (suc (marks s))) (marked rest TypeRef s _))
 
   pub read_Ts : {w : List Token} {ts : (List RawTy)} (x : Ts w ts) (s : Stack) (vs : List Val) (rest : List Token) → Leaves MoreArrow rest →
       exec (w ++ rest) (Nt LT ∷ (Do TypeFirst ∷ (Nt MoreTypes ∷ s))) vs ≡ seen (open_Ts x (marks s)) (exec rest (Nt MoreTypes ∷ s) (OfTypes ts ∷ vs))
@@ -162,9 +209,9 @@ mutual
       under (open_T y (marks s)) (do_now rest TypeNext _ _))))
 
 mutual
-  pub read_E : {w : List Token} {e : Piece} (x : E w e) (s : Stack) (vs : List Val) (rest : List Token) → Leaves MoreParts rest → Leaves MoreFactors rest → Leaves MoreSums rest →
+  pub read_E : {w : List Token} {e : Piece} (x : E w e) (s : Stack) (vs : List Val) (rest : List Token) → Free rest →
       exec (w ++ rest) (Nt LE ∷ s) vs ≡ seen (open_E x (marks s)) (exec rest s (OfTerm e ∷ vs))
-  read_E (e_fix {u} {v} {w} {t} {r} f n o x c p d b y z e) s vs rest g h i =
+  read_E (e_fix {u} {v} {w} {t} {r} f n o x c p d b y z e) s vs rest g =
       let m = marks s in
       let us = OfToken (tok k.Colon c) ∷ (OfToken (tok k.Name x) ∷ (OfToken (tok k.LeftParen o) ∷ (OfToken (tok k.Name n) ∷ (OfToken (tok k.Fix f) ∷ vs)))) in
       next (suc m) (next (suc m) (next (suc (suc m)) (next (suc (suc m)) (next (suc (suc m))
@@ -178,11 +225,52 @@ mutual
       under (open_T y (suc (suc m))) (next (suc (suc m)) (next (suc m)
       (read_T z (Tm want.Dot ∷ (Nt LE ∷ (Mark ∷ (Do MakeFix ∷ s)))) (OfToken (tok k.Colon d) ∷ (OfToken (tok k.RightParen p) ∷ (OfType t ∷ us))) (tok k.Dot b ∷ (w ++ rest)) (λ _ _. refl) ∙
       under (open_T z (suc m)) (next (suc m)
-      (read_E e (Mark ∷ (Do MakeFix ∷ s)) (OfToken (tok k.Dot b) ∷ (OfType r ∷ (OfToken (tok k.Colon d) ∷ (OfToken (tok k.RightParen p) ∷ (OfType t ∷ us))))) rest g h i ∙
+      (read_E e (Mark ∷ (Do MakeFix ∷ s)) (OfToken (tok k.Dot b) ∷ (OfType r ∷ (OfToken (tok k.Colon d) ∷ (OfToken (tok k.RightParen p) ∷ (OfType t ∷ us))))) rest g ∙
       under (open_E e (suc m)) (marked rest MakeFix s _))))))))))))
-  read_E (e_gen b a d e) s vs rest g h i = next (suc (marks s)) (next (suc (marks s)) (next (suc (marks s))
-      (read_E e (Mark ∷ (Do MakeGen ∷ s)) (OfToken (tok k.Dot d) ∷ (OfToken (tok k.Name a) ∷ (OfToken (tok k.Gen b) ∷ vs))) rest g h i ∙ under (open_E e (suc (marks s))) (marked rest MakeGen s _))))
-  read_E (e_sum x) s vs rest g h i = expr_as_part (more LP rest (first_S x)) s vs ∙ (read_S x s vs rest g h ∙ under (open_S x (marks s)) (i s _))
+  read_E (e_gen b a d e) s vs rest g = next (suc (marks s)) (next (suc (marks s)) (next (suc (marks s))
+      (read_E e (Mark ∷ (Do MakeGen ∷ s)) (OfToken (tok k.Dot d) ∷ (OfToken (tok k.Name a) ∷ (OfToken (tok k.Gen b) ∷ vs))) rest g ∙ under (open_E e (suc (marks s))) (marked rest MakeGen s _))))
+  read_E (e_let {u} {v} {a} l n q i x y) s vs rest g =
+      let m = marks s in
+      let us = OfToken (tok k.Equals q) ∷ (OfToken (tok k.Name n) ∷ (OfToken (tok k.Let l) ∷ vs)) in
+      next (suc m) (next (suc m) (next (suc m)
+      (rw (append_assoc u (tok k.In i ∷ v) rest, seen_append (open_E x (suc m)) (suc m ∷ open_E y m))
+      (read_E x (Tm want.In ∷ (Mark ∷ (Nt LE ∷ (Do MakeLet ∷ s)))) us (tok k.In i ∷ (v ++ rest)) (free_in i (v ++ rest)) ∙
+      under (open_E x (suc m)) (next (suc m) (mark_now (v ++ rest) (Nt LE ∷ (Do MakeLet ∷ s)) _ ∙
+      (read_E y (Do MakeLet ∷ s) (OfToken (tok k.In i) ∷ (OfTerm a ∷ us)) rest g ∙ under (open_E y m) (do_now rest MakeLet s _))))))))
+  read_E (e_pack {u} {v} {w} {t} {r} {e} p o c q z x y d) s vs rest g =
+      let m = marks s in
+      let us = OfToken (tok k.LeftBracket o) ∷ (OfToken (tok k.Pack p) ∷ vs) in
+      let after_y = Tm want.RightBracket ∷ (Mark ∷ (Tm want.As ∷ (Nt LT ∷ (Do MakePack ∷ s)))) in
+      let ys = OfToken (tok k.Comma c) ∷ (OfType t ∷ us) in
+      next m (next (suc m)
+      (rw (
+        append_assoc u (tok k.Comma c ∷ (v ++ tok k.RightBracket q ∷ (tok k.As z ∷ w))) rest,
+        append_assoc v (tok k.RightBracket q ∷ (tok k.As z ∷ w)) rest,
+        seen_append (open_T x (suc m)) (suc m ∷ (open_E y (suc m) ++ suc m ∷ (m ∷ open_T d m))),
+        seen_append (open_E y (suc m)) (suc m ∷ (m ∷ open_T d m)),
+      )
+      (read_T x (Tm want.Comma ∷ (Nt LE ∷ after_y)) us (tok k.Comma c ∷ (v ++ tok k.RightBracket q ∷ (tok k.As z ∷ (w ++ rest)))) (λ _ _. refl) ∙
+      under (open_T x (suc m)) (next (suc m)
+      (read_E y after_y ys (tok k.RightBracket q ∷ (tok k.As z ∷ (w ++ rest))) (free_bracket q (tok k.As z ∷ (w ++ rest))) ∙
+      under (open_E y (suc m)) (next (suc m) (next m
+      (read_T d (Do MakePack ∷ s) (OfToken (tok k.As z) ∷ (OfToken (tok k.RightBracket q) ∷ (OfTerm e ∷ ys))) rest g.arrow ∙
+      under (open_T d m) (do_now rest MakePack s _)))))))))
+  read_E (e_open {u} {v} {a} p o n c x r q i y z) s vs rest g =
+      let m = marks s in
+      let us = OfToken (tok k.RightBracket r) ∷ (OfToken (tok k.Name x) ∷ (OfToken (tok k.Comma c) ∷ (OfToken (tok k.Name n) ∷ (OfToken (tok k.LeftBracket o) ∷ (OfToken (tok k.Open p) ∷ vs))))) in
+      let ys = OfToken (tok k.Equals q) ∷ us in
+      next (suc m) (next (suc (suc m)) (next (suc (suc m)) (next (suc (suc m)) (next (suc (suc m)) (next (suc (suc m)) (next (suc m)
+      (rw (append_assoc u (tok k.In i ∷ v) rest, seen_append (open_E y (suc m)) (suc m ∷ open_E z m))
+      (read_E y (Tm want.In ∷ (Mark ∷ (Nt LE ∷ (Do MakeOpen ∷ s)))) ys (tok k.In i ∷ (v ++ rest)) (free_in i (v ++ rest)) ∙
+      under (open_E y (suc m)) (next (suc m) (mark_now (v ++ rest) (Nt LE ∷ (Do MakeOpen ∷ s)) _ ∙
+      (read_E z (Do MakeOpen ∷ s) (OfToken (tok k.In i) ∷ (OfTerm a ∷ ys)) rest g ∙ under (open_E z m) (do_now rest MakeOpen s _))))))))))))
+  read_E (e_assign {u} {v} {a} p x y) s vs rest g =
+      rw (append_assoc, seen_append (open_S x (marks s)) (marks s ∷ open_S y (marks s)))
+      (expr_as_part (more LP (tok k.Assign p ∷ (v ++ rest)) (first_S x)) s vs ∙
+      (read_S x (Nt MoreAssign ∷ s) vs (tok k.Assign p ∷ (v ++ rest)) (λ _ _. refl) (λ _ _. refl) ∙
+      under (open_S x (marks s)) (next (marks s) (read_S y (Do MakeAssign ∷ s) (OfToken (tok k.Assign p) ∷ (OfTerm a ∷ vs)) rest g.parts g.factors ∙
+      under (open_S y (marks s)) (g.sums _ _ ∙ do_now rest MakeAssign s _)))))
+  read_E (e_sum x) s vs rest g = expr_as_part (more LP rest (first_S x)) s vs ∙ (read_S x (Nt MoreAssign ∷ s) vs rest g.parts g.factors ∙ under (open_S x (marks s)) (g.sums (Nt MoreAssign ∷ s) _ ∙ g.assign s _))
 
   pub read_S : {w : List Token} {e : Piece} (x : S w e) (s : Stack) (vs : List Val) (rest : List Token) → Leaves MoreParts rest → Leaves MoreFactors rest →
       exec (w ++ rest) (Nt LP ∷ (Nt MoreParts ∷ (Nt MoreFactors ∷ (Nt MoreSums ∷ s)))) vs ≡ seen (open_S x (marks s)) (exec rest (Nt MoreSums ∷ s) (OfTerm e ∷ vs))
@@ -229,13 +317,13 @@ mutual
   read_P (p_negative n p) s vs rest = next (marks s) (do_now rest MakeNumber s _)
   read_P (p_paren {w} o c e) s vs rest = next (suc (marks s))
       (rw (append_assoc w (tok k.RightParen c ∷ []) rest, seen_append (open_E e (suc (marks s))) (suc (marks s) ∷ []))
-      (read_E e (Tm want.RightParen ∷ (Mark ∷ (Do MakeParen ∷ s))) (OfToken (tok k.LeftParen o) ∷ vs) (tok k.RightParen c ∷ rest) (λ _ _. refl) (λ _ _. refl) (λ _ _. refl) ∙
+      (read_E e (Tm want.RightParen ∷ (Mark ∷ (Do MakeParen ∷ s))) (OfToken (tok k.LeftParen o) ∷ vs) (tok k.RightParen c ∷ rest) (free_paren c rest) ∙
       under (open_E e (suc (marks s))) (next (suc (marks s)) (marked rest MakeParen s _))))
   read_P (p_unit o c) s vs rest = next (suc (marks s)) (next (suc (marks s)) (do_now rest MakeUnit _ _ ∙ marked rest MakeTuple s _))
   read_P (p_tuple {w} o c x) s vs rest = next (suc (marks s))
       (rw (append_assoc w (tok k.RightAngle c ∷ []) rest, seen_append (open_Es x (suc (marks s))) (suc (marks s) ∷ []))
       (fields_as_expr (more LE (tok k.RightAngle c ∷ rest) (first_Es x)) (Mark ∷ (Do MakeTuple ∷ s)) (OfToken (tok k.LeftAngle o) ∷ vs) ∙
-      (read_Es x (Tm want.RightAngle ∷ (Mark ∷ (Do MakeTuple ∷ s))) (OfToken (tok k.LeftAngle o) ∷ vs) (tok k.RightAngle c ∷ rest) (λ _ _. refl) (λ _ _. refl) (λ _ _. refl) ∙
+      (read_Es x (Tm want.RightAngle ∷ (Mark ∷ (Do MakeTuple ∷ s))) (OfToken (tok k.LeftAngle o) ∷ vs) (tok k.RightAngle c ∷ rest) (free_angle c rest) ∙
       under (open_Es x (suc (marks s))) (next (suc (marks s)) (marked rest MakeTuple s _)))))
   read_P (p_proj h n p x) s vs rest = next (suc (marks s)) (next (suc (marks s))
       (read_P x (Mark ∷ (Do MakeProj ∷ s)) (OfToken (tok (k.Plain n) p) ∷ (OfToken (tok k.Hash h) ∷ vs)) rest ∙ under (open_P x (suc (marks s))) (marked rest MakeProj s _)))
@@ -254,21 +342,25 @@ mutual
         seen_append (open_E y (suc m)) (suc m ∷ (open_E z (suc m) ++ suc m ∷ [])),
         seen_append (open_E z (suc m)) (suc m ∷ []),
       )
-      (read_E x after_x us (tok k.Comma p ∷ (v ++ tok k.Comma q ∷ (w ++ tok k.RightParen l ∷ rest))) (λ _ _. refl) (λ _ _. refl) (λ _ _. refl) ∙
+      (read_E x after_x us (tok k.Comma p ∷ (v ++ tok k.Comma q ∷ (w ++ tok k.RightParen l ∷ rest))) (free_comma p (v ++ tok k.Comma q ∷ (w ++ tok k.RightParen l ∷ rest))) ∙
       under (open_E x (suc m)) (next (suc m)
-      (read_E y after_y (OfToken (tok k.Comma p) ∷ (OfTerm a ∷ us)) (tok k.Comma q ∷ (w ++ tok k.RightParen l ∷ rest)) (λ _ _. refl) (λ _ _. refl) (λ _ _. refl) ∙
+      (read_E y after_y (OfToken (tok k.Comma p) ∷ (OfTerm a ∷ us)) (tok k.Comma q ∷ (w ++ tok k.RightParen l ∷ rest)) (free_comma q (w ++ tok k.RightParen l ∷ rest)) ∙
       under (open_E y (suc m)) (next (suc m)
-      (read_E z after_z (OfToken (tok k.Comma q) ∷ (OfTerm b ∷ (OfToken (tok k.Comma p) ∷ (OfTerm a ∷ us)))) (tok k.RightParen l ∷ rest) (λ _ _. refl) (λ _ _. refl) (λ _ _. refl) ∙
+      (read_E z after_z (OfToken (tok k.Comma q) ∷ (OfTerm b ∷ (OfToken (tok k.Comma p) ∷ (OfTerm a ∷ us)))) (tok k.RightParen l ∷ rest) (free_paren l rest) ∙
       under (open_E z (suc m)) (next (suc m) (marked rest MakeIf0 s _)))))))))
+  read_P (p_ref r x) s vs rest = next (suc (marks s))
+      (read_P x (Mark ∷ (Do MakeRef ∷ s)) (OfToken (tok k.Ref r) ∷ vs) rest ∙ under (open_P x (suc (marks s))) (marked rest MakeRef s _))
+  read_P (p_deref r x) s vs rest = next (suc (marks s))
+      (read_P x (Mark ∷ (Do MakeDeref ∷ s)) (OfToken (tok k.Bang r) ∷ vs) rest ∙ under (open_P x (suc (marks s))) (marked rest MakeDeref s _))
 
-  pub read_Es : {w : List Token} {ts : (List RawTm)} (x : Es w ts) (s : Stack) (vs : List Val) (rest : List Token) → Leaves MoreParts rest → Leaves MoreFactors rest → Leaves MoreSums rest →
+  pub read_Es : {w : List Token} {ts : (List RawTm)} (x : Es w ts) (s : Stack) (vs : List Val) (rest : List Token) → Free rest →
       exec (w ++ rest) (Nt LE ∷ (Do MakeFirst ∷ (Nt MoreFields ∷ s))) vs ≡ seen (open_Es x (marks s)) (exec rest (Nt MoreFields ∷ s) (OfTerms ts ∷ vs))
-  read_Es (es_one e) s vs rest g h i = read_E e (Do MakeFirst ∷ (Nt MoreFields ∷ s)) vs rest g h i ∙ under (open_E e (marks s)) (do_now rest MakeFirst _ _)
-  read_Es (es_more {u} {v} {ts} c x e) s vs rest g h i =
-      rw (append_assoc, seen_append (open_Es x (marks s)) (marks s ∷ open_E e (marks s))) (read_Es x s vs (tok k.Comma c ∷ (v ++ rest)) (λ _ _. refl) (λ _ _. refl) (λ _ _. refl) ∙
-      under (open_Es x (marks s)) (next (marks s) (read_E e (Do MakeNext ∷ (Nt MoreFields ∷ s)) (OfToken (tok k.Comma c) ∷ (OfTerms ts ∷ vs)) rest g h i ∙
+  read_Es (es_one e) s vs rest g = read_E e (Do MakeFirst ∷ (Nt MoreFields ∷ s)) vs rest g ∙ under (open_E e (marks s)) (do_now rest MakeFirst _ _)
+  read_Es (es_more {u} {v} {ts} c x e) s vs rest g =
+      rw (append_assoc, seen_append (open_Es x (marks s)) (marks s ∷ open_E e (marks s))) (read_Es x s vs (tok k.Comma c ∷ (v ++ rest)) (free_comma c (v ++ rest)) ∙
+      under (open_Es x (marks s)) (next (marks s) (read_E e (Do MakeNext ∷ (Nt MoreFields ∷ s)) (OfToken (tok k.Comma c) ∷ (OfTerms ts ∷ vs)) rest g ∙
       under (open_E e (marks s)) (do_now rest MakeNext _ _))))
 
 pub read_shape : {w : List Token} {t : Piece} (e : E w t) → exec w (Nt LE ∷ []) [] ≡ seen (open_E e 0) (Done (OfTerm t ∷ []))
 read_shape {w} {t} e =
-    let h : exec (w ++ []) (Nt LE ∷ []) [] ≡ seen (open_E e 0) (Done (OfTerm t ∷ [])) = read_E e [] [] [] (λ _ _. refl) (λ _ _. refl) (λ _ _. refl) in rw append-nil at h
+    let h : exec (w ++ []) (Nt LE ∷ []) [] ≡ seen (open_E e 0) (Done (OfTerm t ∷ [])) = read_E e [] [] [] free_end in rw append-nil at h

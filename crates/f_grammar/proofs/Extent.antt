@@ -2,8 +2,8 @@
 use Rattle.std.proofs.Common.{◌≡◌, ℕ, List, [], ◌∷◌, ◌++◌, refl, subst, append_assoc}
 use Rattle.f_lexer.specs.declared.token.Token.{Token}
 use Rattle.f_lexer.specs.declared.kind.Kind.TheVariants as k
-use Rattle.f_grammar.specs.Raw.{Piece}
-use Rattle.f_grammar.specs.Grammar.{tok, E, S, M, A, P, e_fix, e_gen, e_sum, s_plus, s_minus, s_product, m_star, m_call, a_call, a_inst, a_part, p_name, p_plain, p_negative, p_paren, p_unit, p_tuple, p_proj, p_if0}
+use Rattle.f_grammar.specs.Raw.{Piece, TyPiece}
+use Rattle.f_grammar.specs.Grammar.{tok, T, U, t_all, t_some, t_arrow, t_part, u_int, u_name, u_unit, u_tuple, u_paren, u_ref, E, S, M, A, P, e_fix, e_gen, e_let, e_pack, e_open, e_assign, e_sum, s_plus, s_minus, s_product, m_star, m_call, a_call, a_inst, a_part, p_name, p_plain, p_negative, p_paren, p_unit, p_tuple, p_proj, p_if0, p_ref, p_deref}
 
 pub data Starts : List Token → ℕ → Type 0 where
   starts : (c : Token) (w : List Token) (n : ℕ) → n ≡ c.span.start → Starts (c ∷ w) n
@@ -21,6 +21,10 @@ mutual
   pub start_E : {w : List Token} {e : Piece} → E w e → Starts w e.start
   start_E (e_fix f n o x c p d s t r e) = starts _ _ _ refl
   start_E (e_gen g a d e) = starts _ _ _ refl
+  start_E (e_let l n q i a b) = starts _ _ _ refl
+  start_E (e_pack p o c q s t e r) = starts _ _ _ refl
+  start_E (e_open p o n c x r q i a b) = starts _ _ _ refl
+  start_E (e_assign s a b) = starts_more _ (start_S a)
   start_E (e_sum s) = start_S s
 
   pub start_S : {w : List Token} {e : Piece} → S w e → Starts w e.start
@@ -46,12 +50,36 @@ mutual
   start_P (p_tuple o c x) = starts _ _ _ refl
   start_P (p_proj h n s p) = starts _ _ _ refl
   start_P (p_if0 i o p q l a b c) = starts _ _ _ refl
+  start_P (p_ref r p) = starts _ _ _ refl
+  start_P (p_deref r p) = starts _ _ _ refl
+
+mutual
+  end_T : {w : List Token} {t : TyPiece} → T w t → Ends w t.end
+  end_T (t_all a n d t) = ends_more (tok k.All a ∷ (tok k.Name n ∷ (tok k.Dot d ∷ []))) (end_T t)
+  end_T (t_some a n d t) = ends_more (tok k.Some a ∷ (tok k.Name n ∷ (tok k.Dot d ∷ []))) (end_T t)
+  end_T (t_arrow {u} s a b) = ends_more u (ends_more (tok k.Arrow s ∷ []) (end_T b))
+  end_T (t_part u) = end_U u
+
+  end_U : {w : List Token} {t : TyPiece} → U w t → Ends w t.end
+  end_U (u_int s) = ends [] _ _ refl
+  end_U (u_name s) = ends [] _ _ refl
+  end_U (u_unit o c) = ends (tok k.LeftAngle o ∷ []) (tok k.RightAngle c) _ refl
+  end_U (u_tuple {w} o c x) = ends (tok k.LeftAngle o ∷ w) (tok k.RightAngle c) _ refl
+  end_U (u_paren {w} o c t) = ends (tok k.LeftParen o ∷ w) (tok k.RightParen c) _ refl
+  end_U (u_ref r u) = ends_more (tok k.Ref r ∷ []) (end_U u)
 
 mutual
   pub end_E : {w : List Token} {e : Piece} → E w e → Ends w e.end
   end_E (e_fix {u} {v} f n o x c p d s t r e) =
       ends_more (tok k.Fix f ∷ (tok k.Name n ∷ (tok k.LeftParen o ∷ (tok k.Name x ∷ (tok k.Colon c ∷ []))))) (ends_more u (ends_more (tok k.RightParen p ∷ (tok k.Colon d ∷ [])) (ends_more v (ends_more (tok k.Dot s ∷ []) (end_E e)))))
   end_E (e_gen g a d e) = ends_more (tok k.Gen g ∷ (tok k.Name a ∷ (tok k.Dot d ∷ []))) (end_E e)
+  end_E (e_let {u} l n q i a b) =
+      ends_more (tok k.Let l ∷ (tok k.Name n ∷ (tok k.Equals q ∷ []))) (ends_more u (ends_more (tok k.In i ∷ []) (end_E b)))
+  end_E (e_pack {u} {v} p o c q s t e r) =
+      ends_more (tok k.Pack p ∷ (tok k.LeftBracket o ∷ [])) (ends_more u (ends_more (tok k.Comma c ∷ []) (ends_more v (ends_more (tok k.RightBracket q ∷ (tok k.As s ∷ [])) (end_T r)))))
+  end_E (e_open {u} p o n c x r q i a b) =
+      ends_more (tok k.Open p ∷ (tok k.LeftBracket o ∷ (tok k.Name n ∷ (tok k.Comma c ∷ (tok k.Name x ∷ (tok k.RightBracket r ∷ (tok k.Equals q ∷ []))))))) (ends_more u (ends_more (tok k.In i ∷ []) (end_E b)))
+  end_E (e_assign {u} s a b) = ends_more u (ends_more (tok k.Assign s ∷ []) (end_S b))
   end_E (e_sum s) = end_S s
 
   pub end_S : {w : List Token} {e : Piece} → S w e → Ends w e.end
@@ -78,3 +106,5 @@ mutual
   end_P (p_proj h n s p) = ends_more (tok k.Hash h ∷ (tok (k.Plain n) s ∷ [])) (end_P p)
   end_P (p_if0 {u} {v} {w} i o p q l a b c) =
       ends_more (tok k.If0 i ∷ (tok k.LeftParen o ∷ [])) (ends_more u (ends_more (tok k.Comma p ∷ v) (ends (tok k.Comma q ∷ w) (tok k.RightParen l) _ refl)))
+  end_P (p_ref r p) = ends_more (tok k.Ref r ∷ []) (end_P p)
+  end_P (p_deref r p) = ends_more (tok k.Bang r ∷ []) (end_P p)

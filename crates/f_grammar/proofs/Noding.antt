@@ -1,15 +1,15 @@
 -- A node's tree looks at its children alone.
-use Rattle.std.proofs.Common.{◌≡◌, ◌<◌, ℕ, ◌+◌, List, [], ◌∷◌, ◌++◌, map, length, get_or, refl, ap, ap₂, ◌∙◌, sym, arith, All}
+use Rattle.std.proofs.Common.{◌≡◌, ◌<◌, ℕ, List, [], ◌∷◌, ◌++◌, map, length, get_or, refl, ap, ap₂, ◌∙◌, sym, arith, All}
 use Rattle.std.proofs.lemmas.List.Elements.{All-head, All-tail}
 use Rattle.arena.specs.Arena.{InOrder}
 use Rattle.arena.proofs.Nodes.{part_at, part_new, part_old, order_new}
 use Rattle.idx_core.specs.declared.span.Span.{Span}
-use Rattle.f_grammar.specs.Raw.{RawTm, RVar, RFix, RGen, RApp, RInst, RFields, RProj, RArith, RIf0, raw_tms}
+use Rattle.f_grammar.specs.Raw.{RawTm, RVar, RFix, RGen, RApp, RInst, RFields, RProj, RArith, RIf0, RLet, RPack, ROpen, RCell, RDeref, RAssign, raw_tms}
 use Rattle.f_grammar.specs.Read.{type_of}
 use Rattle.f_grammar.specs.Nodes.{children, shape_tree, kids, node_tree, tree_at, no_place}
 use Rattle.f_grammar.specs.declared.raw.RawNode.{RawNode}
 use Rattle.f_grammar.specs.declared.raw.RawShape.{RawShape}
-use Rattle.f_grammar.specs.declared.raw.RawShape.TheVariants.{Var, Num, Fix, Gen, App, Inst, Tuple, Proj, Arith, If0}
+use Rattle.f_grammar.specs.declared.raw.RawShape.TheVariants.{Var, Num, Fix, Gen, App, Inst, Tuple, Proj, Arith, If0, Let, Pack, Open, Ref, Deref, Assign}
 
 pub same_all : (f g : ℕ → RawTm) (ks : List ℕ) → All (λ k. f k ≡ g k) ks → map f ks ≡ map g ks
 same_all f g [] h = refl
@@ -27,6 +27,12 @@ shape_local f g s (Proj n e) h = ap (RProj s n) (h 0 0 (omega arith))
 shape_local f g s (Arith op d e) h = ap₂ (RArith s op) (h 0 0 (omega arith)) (h 1 0 (omega arith))
 shape_local f g s (If0 c d e) h =
     ap (λ u. RIf0 s u (f d) (f e)) (h 0 0 (omega arith)) ∙ ap₂ (RIf0 s (g c)) (h 1 0 (omega arith)) (h 2 0 (omega arith))
+shape_local f g s (Let x d e) h = ap₂ (RLet s x) (h 0 0 (omega arith)) (h 1 0 (omega arith))
+shape_local f g s (Pack t e r) h = ap (λ u. RPack s (type_of t) u (type_of r)) (h 0 0 (omega arith))
+shape_local f g s (Open n x d e) h = ap₂ (ROpen s n x) (h 0 0 (omega arith)) (h 1 0 (omega arith))
+shape_local f g s (Ref e) h = ap (RCell s) (h 0 0 (omega arith))
+shape_local f g s (Deref e) h = ap (RDeref s) (h 0 0 (omega arith))
+shape_local f g s (Assign d e) h = ap₂ (RAssign s) (h 0 0 (omega arith)) (h 1 0 (omega arith))
 
 pub local : (f g : ℕ → RawTm) (n : RawNode) → All (λ k. f k ≡ g k) (kids n) → node_tree f n ≡ node_tree g n
 local f g n h = shape_local f g n.span n.shape h

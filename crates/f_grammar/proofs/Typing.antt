@@ -8,8 +8,9 @@ use Rattle.f_lexer.specs.declared.kind.Kind.{Kind}
 use Rattle.f_lexer.specs.declared.kind.Kind.TheVariants as k
 use Rattle.f_grammar.specs.declared.cursor.Wanted.{Wanted}
 use Rattle.f_grammar.specs.declared.cursor.Wanted.TheVariants as want
-use Rattle.f_grammar.specs.Raw.{RawTy, RInt, RName, RTuple, RArrow, RAll, RawTys, MoreRawTys, raw_tys}
-use Rattle.f_grammar.specs.Machine.{table, Line, LT, LU, LTypes, LParam, param_after, MoreArrow, MoreTypes, Stack, Val, OfToken, OfType, OfTypes, TypeInt, TypeName, TypeParen, TypeUnit, TypeTuple, TypeAll, TypeArrow, TypeFirst, TypeNext, fits, unit_after, type_after, types_after, arrow_after, type_commas_after, type_tail, types_tail}
+use Rattle.f_grammar.specs.declared.types.Quantifier.{Quantifier}
+use Rattle.f_grammar.specs.Raw.{RawTy, RTuple, RawTys, MoreRawTys, TyPiece, int_ty, name_ty, tuple_ty, arrow_ty, bound_ty, ref_ty, paren_ty, raw_tys}
+use Rattle.f_grammar.specs.Machine.{table, Line, LT, LU, LTypes, LParam, param_after, MoreArrow, MoreTypes, Stack, Val, OfToken, OfType, OfTypes, TypeInt, TypeName, TypeParen, TypeUnit, TypeTuple, TypeBound, TypeArrow, TypeRef, TypeFirst, TypeNext, fits, unit_after, type_after, types_after, arrow_after, type_commas_after, type_tail, types_tail, binder_of, binder_next, bound_owed}
 use Rattle.text_core.specs.Table.{Tm, Nt, Do, Mark, marks, then_more}
 use Rattle.text_core.specs.Table as table_of
 use Rattle.text_core.specs.Going.{Goes, Stops, at_the_end, other, next_of}
@@ -72,16 +73,24 @@ fails_deep ts d i c n rhs rest vs e h q r m = rw h.0 (step.line_too_deep table 2
 pub not_fits : (w : Wanted) (o : Option Token) (c : Token) → next_of table w o ≡ None → o ≡ Some c → fits w c.kind ≡ false
 not_fits w o c e q = step.not_fits table w o c e q
 
-abbrev pub all_owed : Stack
-all_owed = Tm want.Name ∷ (Tm want.Dot ∷ (Nt LT ∷ (Mark ∷ (Do TypeAll ∷ []))))
+pub after_bound : (c : Kind) (q : Quantifier) → binder_of c ≡ Some q → type_after c ≡ Some (bound_owed q)
+after_bound k.All q e = cc
+after_bound k.Some q e = cc
+after_bound _ q e = absurd (cc)
 
-pub after_all : (c : Kind) → fits want.All c ≡ true → type_after c ≡ Some all_owed
-after_all k.All e = refl
-after_all _ e = absurd (cc)
+not_bound : (c : Kind) → binder_of c ≡ None → type_after c ≡ then_more (unit_after c) type_tail
+not_bound k.All e = absurd (cc)
+not_bound k.Some e = absurd (cc)
+not_bound _ e = refl
 
-not_all : (c : Kind) → fits want.All c ≡ false → type_after c ≡ then_more (unit_after c) type_tail
-not_all k.All e = absurd (cc)
-not_all _ e = refl
+-- the token of a binder
+pub token_of : (o : Option Token) (q : Quantifier) → binder_next o ≡ Some q → (c : Token) × (o ≡ Some c) × (binder_of c.kind ≡ Some q)
+token_of None q e = absurd (cc)
+token_of (Some c) q e = (c, refl, e)
+
+unbound : (o : Option Token) (c : Token) → binder_next o ≡ None → o ≡ Some c → binder_of c.kind ≡ None
+unbound None c e h = absurd (cc)
+unbound (Some t) c e h = let same : t ≡ c = cc in rw (sym same) e
 
 abbrev pub arrow_owed : Stack
 arrow_owed = Nt LT ∷ (Mark ∷ (Do TypeArrow ∷ []))
@@ -110,50 +119,52 @@ not_comma : (c : Kind) → fits want.Comma c ≡ false → type_commas_after c �
 not_comma k.Comma e = absurd (cc)
 not_comma _ e = refl
 
-pub none_of : (c : Kind) → c ≢ k.Name → c ≢ k.LeftParen → c ≢ k.LeftAngle → c ≢ k.Int → unit_after c ≡ None
-none_of k.Name a b d e = absurd (a refl)
-none_of k.LeftParen a b d e = absurd (b refl)
-none_of k.LeftAngle a b d e = absurd (d refl)
-none_of k.Int a b d e = absurd (e refl)
-none_of _ a b d e = refl
+pub none_of : (c : Kind) → c ≢ k.Name → c ≢ k.LeftParen → c ≢ k.LeftAngle → c ≢ k.Int → c ≢ k.Ref → unit_after c ≡ None
+none_of k.Name a b d e f = absurd (a refl)
+none_of k.LeftParen a b d e f = absurd (b refl)
+none_of k.LeftAngle a b d e f = absurd (d refl)
+none_of k.Int a b d e f = absurd (e refl)
+none_of k.Ref a b d e f = absurd (f refl)
+none_of _ a b d e f = refl
 
 pub within : (ts : List Token) (i : ℕ) (w : Wanted) (c : Token) → next_of table w (slice_get ts i) ≡ Some c → i < length ts
 within ts i w c e = slice_get_within ts i c (step.is_next table ts i w c e)
 
 module _ (ts : List Token) (d i : ℕ) where
-  -- T ::= all name . T
-  pub all_1 : (a : Token) → next_of table want.All (slice_get ts i) ≡ Some a → d < 200 → Moves ts d i (Nt LT ∷ []) [] (i + 1) all_owed (OfToken a ∷ [])
-  all_1 a e h = step.line_goes table 200 ts d i a LT all_owed [] [] (step.is_next table ts i want.All a e) (after_all a.kind (step.is_of table ts i want.All a e)) (omega arith)
+  -- T ::= all name . T | some name . T
+  module _ (a : Token) (q : Quantifier) (e : slice_get ts i ≡ Some a) (y : binder_of a.kind ≡ Some q) (h : d < 200) where
+    pub bound_1 : Moves ts d i (Nt LT ∷ []) [] (i + 1) (bound_owed q) (OfToken a ∷ [])
+    bound_1 = step.line_goes table 200 ts d i a LT (bound_owed q) [] [] e (after_bound a.kind q y) (omega arith)
 
-  pub all_2 : (a n : Token) → next_of table want.All (slice_get ts i) ≡ Some a → d < 200 → next_of table want.Name (slice_get ts (i + 1)) ≡ Some n →
-      Moves ts d i (Nt LT ∷ []) [] (i + 2) (Tm want.Dot ∷ (Nt LT ∷ (Mark ∷ (Do TypeAll ∷ [])))) (OfToken n ∷ (OfToken a ∷ []))
-  all_2 a n e h f = step.goes_to table 200 ts d (omega arith) (step.then_goes table 200 ts d (all_1 a e h)
-      (step.token_taken table 200 ts d (i + 1) n want.Name (Tm want.Dot ∷ (Nt LT ∷ (Mark ∷ (Do TypeAll ∷ [])))) (OfToken a ∷ []) f (omega arith)))
+    pub bound_2 : (n : Token) → next_of table want.Name (slice_get ts (i + 1)) ≡ Some n →
+        Moves ts d i (Nt LT ∷ []) [] (i + 2) (Tm want.Dot ∷ (Nt LT ∷ (Mark ∷ (Do (TypeBound q) ∷ [])))) (OfToken n ∷ (OfToken a ∷ []))
+    bound_2 n f = step.goes_to table 200 ts d (omega arith) (step.then_goes table 200 ts d bound_1
+        (step.token_taken table 200 ts d (i + 1) n want.Name (Tm want.Dot ∷ (Nt LT ∷ (Mark ∷ (Do (TypeBound q) ∷ [])))) (OfToken a ∷ []) f (omega arith)))
 
-  pub all_3 : (a n s : Token) → next_of table want.All (slice_get ts i) ≡ Some a → d < 200 → next_of table want.Name (slice_get ts (i + 1)) ≡ Some n → next_of table want.Dot (slice_get ts (i + 2)) ≡ Some s →
-      Moves ts d i (Nt LT ∷ []) [] (i + 3) (Nt LT ∷ (Mark ∷ (Do TypeAll ∷ []))) (OfToken s ∷ (OfToken n ∷ (OfToken a ∷ [])))
-  all_3 a n s e h f q = step.goes_to table 200 ts d (omega arith) (step.then_goes table 200 ts d (all_2 a n e h f)
-      (step.token_taken table 200 ts d (i + 2) s want.Dot (Nt LT ∷ (Mark ∷ (Do TypeAll ∷ []))) (OfToken n ∷ (OfToken a ∷ [])) q (omega arith)))
+    pub bound_3 : (n s : Token) → next_of table want.Name (slice_get ts (i + 1)) ≡ Some n → next_of table want.Dot (slice_get ts (i + 2)) ≡ Some s →
+        Moves ts d i (Nt LT ∷ []) [] (i + 3) (Nt LT ∷ (Mark ∷ (Do (TypeBound q) ∷ []))) (OfToken s ∷ (OfToken n ∷ (OfToken a ∷ [])))
+    bound_3 n s f z = step.goes_to table 200 ts d (omega arith) (step.then_goes table 200 ts d (bound_2 n f)
+        (step.token_taken table 200 ts d (i + 2) s want.Dot (Nt LT ∷ (Mark ∷ (Do (TypeBound q) ∷ []))) (OfToken n ∷ (OfToken a ∷ [])) z (omega arith)))
 
-  pub all_whole : (a n s : Token) (m j : ℕ) (t u : RawTy) → next_of table want.All (slice_get ts i) ≡ Some a → d < 200 → next_of table want.Name (slice_get ts (i + 1)) ≡ Some n →
-      next_of table want.Dot (slice_get ts (i + 2)) ≡ Some s → m ≡ d + 1 → Reads LT ts m (i + 3) j (OfType t ∷ []) → u ≡ RAll n.span t → Reads LT ts d i j (OfType u ∷ [])
-  all_whole a n s m j t u e h f q p r x = record {
-    forward = omega (arith, r.forward);
-    in_range = r.in_range;
-    same = rw x (step.then_goes table 200 ts d (all_3 a n s e h f q)
-        (step.then_goes table 200 ts d (step.call_goes table 200 ts d (Mark ∷ (Do TypeAll ∷ [])) (OfToken s ∷ (OfToken n ∷ (OfToken a ∷ []))) (omega (arith, p)) r.same)
-        (step.then_goes table 200 ts d (step.mark_goes table 200 ts d j (Do TypeAll ∷ []) _)
-        (step.do_goes table 200 ts d j TypeAll [] (OfType t ∷ (OfToken s ∷ (OfToken n ∷ (OfToken a ∷ [])))) (OfType (RAll n.span t) ∷ []) (λ below. refl)))));
-  }
+    pub bound_whole : (n s : Token) (m j : ℕ) (t u : TyPiece) → next_of table want.Name (slice_get ts (i + 1)) ≡ Some n →
+        next_of table want.Dot (slice_get ts (i + 2)) ≡ Some s → m ≡ d + 1 → Reads LT ts m (i + 3) j (OfType t ∷ []) → u ≡ bound_ty q n.span t → Reads LT ts d i j (OfType u ∷ [])
+    bound_whole n s m j t u f z p r x = record {
+      forward = omega (arith, r.forward);
+      in_range = r.in_range;
+      same = rw x (step.then_goes table 200 ts d (bound_3 n s f z)
+          (step.then_goes table 200 ts d (step.call_goes table 200 ts d (Mark ∷ (Do (TypeBound q) ∷ [])) (OfToken s ∷ (OfToken n ∷ (OfToken a ∷ []))) (omega (arith, p)) r.same)
+          (step.then_goes table 200 ts d (step.mark_goes table 200 ts d j (Do (TypeBound q) ∷ []) _)
+          (step.do_goes table 200 ts d j (TypeBound q) [] (OfType t ∷ (OfToken s ∷ (OfToken n ∷ (OfToken a ∷ [])))) (OfType (bound_ty q n.span t) ∷ []) (λ below. refl)))));
+    }
 
   -- T ::= U -> T | U
-  pub left_1 : next_of table want.All (slice_get ts i) ≡ None → Moves ts d i (Nt LT ∷ []) [] i (Nt LU ∷ (Nt MoreArrow ∷ [])) []
-  left_1 e = step.as_any table 200 ts d i LU LT type_tail [] [] refl refl (λ c q. not_all c.kind (not_fits want.All (slice_get ts i) c e q))
+  pub left_1 : binder_next (slice_get ts i) ≡ None → Moves ts d i (Nt LT ∷ []) [] i (Nt LU ∷ (Nt MoreArrow ∷ [])) []
+  left_1 e = step.as_any table 200 ts d i LU LT type_tail [] [] refl refl (λ c q. not_bound c.kind (unbound (slice_get ts i) c e q))
 
-  pub left_2 : (j : ℕ) (t : RawTy) → next_of table want.All (slice_get ts i) ≡ None → Reads LU ts d i j (OfType t ∷ []) → Moves ts d i (Nt LT ∷ []) [] j (Nt MoreArrow ∷ []) (OfType t ∷ [])
+  pub left_2 : (j : ℕ) (t : TyPiece) → binder_next (slice_get ts i) ≡ None → Reads LU ts d i j (OfType t ∷ []) → Moves ts d i (Nt LT ∷ []) [] j (Nt MoreArrow ∷ []) (OfType t ∷ [])
   left_2 j t e r = step.then_goes table 200 ts d (left_1 e) (step.call_goes table 200 ts d (Nt MoreArrow ∷ []) [] (omega arith) r.same)
 
-  pub left_whole : (j : ℕ) (t : RawTy) → next_of table want.All (slice_get ts i) ≡ None → Reads LU ts d i j (OfType t ∷ []) → next_of table want.Arrow (slice_get ts j) ≡ None → Reads LT ts d i j (OfType t ∷ [])
+  pub left_whole : (j : ℕ) (t : TyPiece) → binder_next (slice_get ts i) ≡ None → Reads LU ts d i j (OfType t ∷ []) → next_of table want.Arrow (slice_get ts j) ≡ None → Reads LT ts d i j (OfType t ∷ [])
   left_whole j t e r f = record {
     forward = r.forward;
     in_range = r.in_range;
@@ -161,70 +172,83 @@ module _ (ts : List Token) (d i : ℕ) where
         (step.line_ends table 200 ts d j MoreArrow [] (OfType t ∷ []) refl (step.lacks_all table ts j want.Arrow MoreArrow (λ c q. not_arrow c.kind q) f));
   }
 
-  pub arrow_1 : (j : ℕ) (t : RawTy) (a : Token) → next_of table want.All (slice_get ts i) ≡ None → Reads LU ts d i j (OfType t ∷ []) → next_of table want.Arrow (slice_get ts j) ≡ Some a → d < 200 →
+  pub arrow_1 : (j : ℕ) (t : TyPiece) (a : Token) → binder_next (slice_get ts i) ≡ None → Reads LU ts d i j (OfType t ∷ []) → next_of table want.Arrow (slice_get ts j) ≡ Some a → d < 200 →
       Moves ts d i (Nt LT ∷ []) [] (j + 1) arrow_owed (OfToken a ∷ (OfType t ∷ []))
   arrow_1 j t a e r f h = step.then_goes table 200 ts d (left_2 j t e r)
       (step.line_goes table 200 ts d j a MoreArrow arrow_owed [] (OfType t ∷ []) (step.is_next table ts j want.Arrow a f) (after_arrow a.kind (step.is_of table ts j want.Arrow a f)) (omega arith))
 
-  pub arrow_whole : (j n m : ℕ) (t u v : RawTy) (a : Token) → next_of table want.All (slice_get ts i) ≡ None → Reads LU ts d i j (OfType t ∷ []) → next_of table want.Arrow (slice_get ts j) ≡ Some a → d < 200 →
-      m ≡ d + 1 → Reads LT ts m (j + 1) n (OfType u ∷ []) → v ≡ RArrow t u → Reads LT ts d i n (OfType v ∷ [])
+  pub arrow_whole : (j n m : ℕ) (t u v : TyPiece) (a : Token) → binder_next (slice_get ts i) ≡ None → Reads LU ts d i j (OfType t ∷ []) → next_of table want.Arrow (slice_get ts j) ≡ Some a → d < 200 →
+      m ≡ d + 1 → Reads LT ts m (j + 1) n (OfType u ∷ []) → v ≡ arrow_ty t u → Reads LT ts d i n (OfType v ∷ [])
   arrow_whole j n m t u v a e r f h p q x = record {
     forward = omega (arith, r.forward, q.forward);
     in_range = q.in_range;
     same = rw x (step.then_goes table 200 ts d (arrow_1 j t a e r f h)
         (step.then_goes table 200 ts d (step.call_goes table 200 ts d (Mark ∷ (Do TypeArrow ∷ [])) (OfToken a ∷ (OfType t ∷ [])) (omega (arith, p)) q.same)
         (step.then_goes table 200 ts d (step.mark_goes table 200 ts d n (Do TypeArrow ∷ []) _)
-        (step.do_goes table 200 ts d n TypeArrow [] (OfType u ∷ (OfToken a ∷ (OfType t ∷ []))) (OfType (RArrow t u) ∷ []) (λ below. refl)))));
+        (step.do_goes table 200 ts d n TypeArrow [] (OfType u ∷ (OfToken a ∷ (OfType t ∷ []))) (OfType (arrow_ty t u) ∷ []) (λ below. refl)))));
   }
 
   -- U
   pub unit_1 : (c : Token) (rhs : Stack) → slice_get ts i ≡ Some c → unit_after c.kind ≡ Some rhs → marks table rhs + d ≤ 200 → Moves ts d i (Nt LU ∷ []) [] (i + 1) (rhs ++ []) (OfToken c ∷ [])
   unit_1 c rhs e f h = step.line_goes table 200 ts d i c LU rhs [] [] e f (subst (λ (x : Stack). marks table x + d ≤ 200) (sym (append-nil rhs)) h)
 
-  pub word_whole : (c : Token) → slice_get ts i ≡ Some c → d ≤ 200 → c.kind ≡ k.Int → Reads LU ts d i (i + 1) (OfType RInt ∷ [])
+  pub word_whole : (c : Token) → slice_get ts i ≡ Some c → d ≤ 200 → c.kind ≡ k.Int → Reads LU ts d i (i + 1) (OfType (int_ty c.span) ∷ [])
   word_whole c e h q = record {
     forward = omega arith;
     in_range = (let l = slice_get_within ts i c e in omega arith);
-    same = step.then_goes table 200 ts d (unit_1 c (Do TypeInt ∷ []) e (rw q refl) (omega arith)) (step.do_goes table 200 ts d (i + 1) TypeInt [] (OfToken c ∷ []) (OfType RInt ∷ []) (λ below. refl));
+    same = step.then_goes table 200 ts d (unit_1 c (Do TypeInt ∷ []) e (rw q refl) (omega arith)) (step.do_goes table 200 ts d (i + 1) TypeInt [] (OfToken c ∷ []) (OfType (int_ty c.span) ∷ []) (λ below. refl));
   }
 
-  pub name_whole : (c : Token) → slice_get ts i ≡ Some c → d ≤ 200 → c.kind ≡ k.Name → Reads LU ts d i (i + 1) (OfType (RName c.span) ∷ [])
+  pub name_whole : (c : Token) → slice_get ts i ≡ Some c → d ≤ 200 → c.kind ≡ k.Name → Reads LU ts d i (i + 1) (OfType (name_ty c.span) ∷ [])
   name_whole c e h q = record {
     forward = omega arith;
     in_range = (let l = slice_get_within ts i c e in omega arith);
-    same = step.then_goes table 200 ts d (unit_1 c (Do TypeName ∷ []) e (rw q refl) (omega arith)) (step.do_goes table 200 ts d (i + 1) TypeName [] (OfToken c ∷ []) (OfType (RName c.span) ∷ []) (λ below. refl));
+    same = step.then_goes table 200 ts d (unit_1 c (Do TypeName ∷ []) e (rw q refl) (omega arith)) (step.do_goes table 200 ts d (i + 1) TypeName [] (OfToken c ∷ []) (OfType (name_ty c.span) ∷ []) (λ below. refl));
   }
 
   pub tuple_1 : (c : Token) → slice_get ts i ≡ Some c → c.kind ≡ k.LeftAngle → d < 200 → Moves ts d i (Nt LU ∷ []) [] (i + 1) (Nt LTypes ∷ (Mark ∷ (Do TypeTuple ∷ []))) (OfToken c ∷ [])
   tuple_1 c e q h = unit_1 c (Nt LTypes ∷ (Mark ∷ (Do TypeTuple ∷ []))) e (rw q refl) (omega arith)
 
-  pub tuple_whole : (c s : Token) (m j : ℕ) (us : List RawTy) (t : RawTy) → slice_get ts i ≡ Some c → c.kind ≡ k.LeftAngle → d < 200 → m ≡ d + 1 → Reads LTypes ts m (i + 1) j (OfToken s ∷ (OfTypes us ∷ [])) → t ≡ RTuple (raw_tys us) → Reads LU ts d i j (OfType t ∷ [])
+  pub tuple_whole : (c s : Token) (m j : ℕ) (us : List RawTy) (t : TyPiece) → slice_get ts i ≡ Some c → c.kind ≡ k.LeftAngle → d < 200 → m ≡ d + 1 → Reads LTypes ts m (i + 1) j (OfToken s ∷ (OfTypes us ∷ [])) → t ≡ tuple_ty us s.span → Reads LU ts d i j (OfType t ∷ [])
   tuple_whole c s m j us t e q h p r x = record {
     forward = omega (arith, r.forward);
     in_range = r.in_range;
     same = rw x (step.then_goes table 200 ts d (tuple_1 c e q h)
         (step.then_goes table 200 ts d (step.call_goes table 200 ts d (Mark ∷ (Do TypeTuple ∷ [])) (OfToken c ∷ []) (omega (arith, p)) r.same)
         (step.then_goes table 200 ts d (step.mark_goes table 200 ts d j (Do TypeTuple ∷ []) _)
-        (step.do_goes table 200 ts d j TypeTuple [] (OfToken s ∷ (OfTypes us ∷ (OfToken c ∷ []))) (OfType (RTuple (raw_tys us)) ∷ []) (λ below. refl)))));
+        (step.do_goes table 200 ts d j TypeTuple [] (OfToken s ∷ (OfTypes us ∷ (OfToken c ∷ []))) (OfType (tuple_ty us s.span) ∷ []) (λ below. refl)))));
   }
 
   pub paren_1 : (c : Token) → slice_get ts i ≡ Some c → c.kind ≡ k.LeftParen → d < 200 → Moves ts d i (Nt LU ∷ []) [] (i + 1) (Nt LT ∷ (Tm want.RightParen ∷ (Mark ∷ (Do TypeParen ∷ [])))) (OfToken c ∷ [])
   paren_1 c e q h = unit_1 c (Nt LT ∷ (Tm want.RightParen ∷ (Mark ∷ (Do TypeParen ∷ [])))) e (rw q refl) (omega arith)
 
-  pub paren_2 : (c : Token) (m j : ℕ) (t : RawTy) → slice_get ts i ≡ Some c → c.kind ≡ k.LeftParen → d < 200 → m ≡ d + 1 → Reads LT ts m (i + 1) j (OfType t ∷ []) →
+  pub paren_2 : (c : Token) (m j : ℕ) (t : TyPiece) → slice_get ts i ≡ Some c → c.kind ≡ k.LeftParen → d < 200 → m ≡ d + 1 → Reads LT ts m (i + 1) j (OfType t ∷ []) →
       Moves ts d i (Nt LU ∷ []) [] j (Tm want.RightParen ∷ (Mark ∷ (Do TypeParen ∷ []))) (OfType t ∷ (OfToken c ∷ []))
   paren_2 c m j t e q h p r = step.then_goes table 200 ts d (paren_1 c e q h)
       (step.call_goes table 200 ts d (Tm want.RightParen ∷ (Mark ∷ (Do TypeParen ∷ []))) (OfToken c ∷ []) (omega (arith, p)) r.same)
 
-  pub paren_whole : (c s : Token) (m j : ℕ) (t : RawTy) → slice_get ts i ≡ Some c → c.kind ≡ k.LeftParen → d < 200 → m ≡ d + 1 → Reads LT ts m (i + 1) j (OfType t ∷ []) →
-      next_of table want.RightParen (slice_get ts j) ≡ Some s → Reads LU ts d i (j + 1) (OfType t ∷ [])
+  pub paren_whole : (c s : Token) (m j : ℕ) (t : TyPiece) → slice_get ts i ≡ Some c → c.kind ≡ k.LeftParen → d < 200 → m ≡ d + 1 → Reads LT ts m (i + 1) j (OfType t ∷ []) →
+      next_of table want.RightParen (slice_get ts j) ≡ Some s → Reads LU ts d i (j + 1) (OfType (paren_ty t s.span) ∷ [])
   paren_whole c s m j t e q h p r f = record {
     forward = omega (arith, r.forward);
     in_range = (let l = within ts j want.RightParen s f in omega arith);
     same = step.then_goes table 200 ts d (paren_2 c m j t e q h p r)
         (step.then_goes table 200 ts d (step.token_taken table 200 ts d j s want.RightParen (Mark ∷ (Do TypeParen ∷ [])) (OfType t ∷ (OfToken c ∷ [])) f (omega arith))
         (step.then_goes table 200 ts d (step.mark_goes table 200 ts d (j + 1) (Do TypeParen ∷ []) _)
-        (step.do_goes table 200 ts d (j + 1) TypeParen [] (OfToken s ∷ (OfType t ∷ (OfToken c ∷ []))) (OfType t ∷ []) (λ below. refl))));
+        (step.do_goes table 200 ts d (j + 1) TypeParen [] (OfToken s ∷ (OfType t ∷ (OfToken c ∷ []))) (OfType (paren_ty t s.span) ∷ []) (λ below. refl))));
+  }
+
+  pub ref_1 : (c : Token) → slice_get ts i ≡ Some c → c.kind ≡ k.Ref → d < 200 → Moves ts d i (Nt LU ∷ []) [] (i + 1) (Nt LU ∷ (Mark ∷ (Do TypeRef ∷ []))) (OfToken c ∷ [])
+  ref_1 c e q h = unit_1 c (Nt LU ∷ (Mark ∷ (Do TypeRef ∷ []))) e (rw q refl) (omega arith)
+
+  pub ref_whole : (c : Token) (m j : ℕ) (t u : TyPiece) → slice_get ts i ≡ Some c → c.kind ≡ k.Ref → d < 200 → m ≡ d + 1 → Reads LU ts m (i + 1) j (OfType t ∷ []) → u ≡ ref_ty t → Reads LU ts d i j (OfType u ∷ [])
+  ref_whole c m j t u e q h p r x = record {
+    forward = omega (arith, r.forward);
+    in_range = r.in_range;
+    same = rw x (step.then_goes table 200 ts d (ref_1 c e q h)
+        (step.then_goes table 200 ts d (step.call_goes table 200 ts d (Mark ∷ (Do TypeRef ∷ [])) (OfToken c ∷ []) (omega (arith, p)) r.same)
+        (step.then_goes table 200 ts d (step.mark_goes table 200 ts d j (Do TypeRef ∷ []) _)
+        (step.do_goes table 200 ts d j TypeRef [] (OfType t ∷ (OfToken c ∷ [])) (OfType (ref_ty t) ∷ []) (λ below. refl)))));
   }
 
   pub no_unit : (c : Token) → slice_get ts i ≡ Some c → unit_after c.kind ≡ None → Stops table 200 ts d i (Nt LU ∷ []) [] (table_of.Unexpected (drop i ts))
@@ -246,13 +270,13 @@ module _ (ts : List Token) (d i : ℕ) where
   pub first_1 : next_of table want.RightAngle (slice_get ts i) ≡ None → Moves ts d i (Nt LTypes ∷ []) [] i (Nt LT ∷ types_tail) []
   first_1 e = step.as_any table 200 ts d i LT LTypes types_tail [] [] refl refl (λ c q. not_more c.kind (not_fits want.RightAngle (slice_get ts i) c e q))
 
-  pub first_whole : (j : ℕ) (t : RawTy) (us : List RawTy) → next_of table want.RightAngle (slice_get ts i) ≡ None → Reads LT ts d i j (OfType t ∷ []) → us ≡ t ∷ [] → ReadsSome ts d i j us
+  pub first_whole : (j : ℕ) (t : TyPiece) (us : List RawTy) → next_of table want.RightAngle (slice_get ts i) ≡ None → Reads LT ts d i j (OfType t ∷ []) → us ≡ t.ty ∷ [] → ReadsSome ts d i j us
   first_whole j t us e r x = record {
     forward = r.forward;
     in_range = r.in_range;
     same = rw x (step.then_goes table 200 ts d (first_1 e)
         (step.then_goes table 200 ts d (step.call_goes table 200 ts d types_tail [] (omega arith) r.same)
-        (step.do_goes table 200 ts d j TypeFirst (Nt MoreTypes ∷ (Tm want.RightAngle ∷ [])) (OfType t ∷ []) (OfTypes (t ∷ []) ∷ []) (λ below. refl))));
+        (step.do_goes table 200 ts d j TypeFirst (Nt MoreTypes ∷ (Tm want.RightAngle ∷ [])) (OfType t ∷ []) (OfTypes (t.ty ∷ []) ∷ []) (λ below. refl))));
   }
 
   pub comma_1 : (j : ℕ) (us : List RawTy) (c : Token) → d ≤ 200 → ReadsSome ts d i j us → next_of table want.Comma (slice_get ts j) ≡ Some c →
@@ -261,14 +285,14 @@ module _ (ts : List Token) (d i : ℕ) where
       (step.line_goes table 200 ts d j c MoreTypes (Nt LT ∷ (Do TypeNext ∷ (Nt MoreTypes ∷ []))) (Tm want.RightAngle ∷ []) (OfTypes us ∷ []) (step.is_next table ts j want.Comma c e)
       (after_comma c.kind (step.is_of table ts j want.Comma c e)) (omega arith))
 
-  pub comma_whole : (j n : ℕ) (us vs : List RawTy) (t : RawTy) (c : Token) → d ≤ 200 → ReadsSome ts d i j us → next_of table want.Comma (slice_get ts j) ≡ Some c → Reads LT ts d (j + 1) n (OfType t ∷ []) →
-      vs ≡ us ++ t ∷ [] → ReadsSome ts d i n vs
+  pub comma_whole : (j n : ℕ) (us vs : List RawTy) (t : TyPiece) (c : Token) → d ≤ 200 → ReadsSome ts d i j us → next_of table want.Comma (slice_get ts j) ≡ Some c → Reads LT ts d (j + 1) n (OfType t ∷ []) →
+      vs ≡ us ++ t.ty ∷ [] → ReadsSome ts d i n vs
   comma_whole j n us vs t c h r e q x = record {
     forward = omega (arith, r.forward, q.forward);
     in_range = q.in_range;
     same = rw x (step.then_goes table 200 ts d (comma_1 j us c h r e)
         (step.then_goes table 200 ts d (step.call_goes table 200 ts d (Do TypeNext ∷ (Nt MoreTypes ∷ (Tm want.RightAngle ∷ []))) (OfToken c ∷ (OfTypes us ∷ [])) (omega arith) q.same)
-        (step.do_goes table 200 ts d n TypeNext (Nt MoreTypes ∷ (Tm want.RightAngle ∷ [])) (OfType t ∷ (OfToken c ∷ (OfTypes us ∷ []))) (OfTypes (us ++ t ∷ []) ∷ []) (λ below. refl))));
+        (step.do_goes table 200 ts d n TypeNext (Nt MoreTypes ∷ (Tm want.RightAngle ∷ [])) (OfType t ∷ (OfToken c ∷ (OfTypes us ∷ []))) (OfTypes (us ++ t.ty ∷ []) ∷ []) (λ below. refl))));
   }
 
   pub list_1 : (j : ℕ) (us : List RawTy) → ReadsSome ts d i j us → next_of table want.Comma (slice_get ts j) ≡ None → Moves ts d i (Nt LTypes ∷ []) [] j (Tm want.RightAngle ∷ []) (OfTypes us ∷ [])
@@ -315,11 +339,11 @@ module _ (ts : List Token) (d i : ℕ) where
           Moves ts d i (Nt LParam ∷ []) [] (i + 3) (Nt LT ∷ (Tm want.RightParen ∷ (Mark ∷ []))) (OfToken c ∷ (OfToken n ∷ (OfToken o ∷ [])))
       param_3 n c f g = step.goes_to table 200 ts d (omega arith) (by_token ts d want.Colon c (Nt LT ∷ (Tm want.RightParen ∷ (Mark ∷ []))) (OfToken n ∷ (OfToken o ∷ [])) (param_2 n f) g (omega arith))
 
-      pub param_4 : (n c : Token) (m j : ℕ) (t : RawTy) → next_of table want.Name (slice_get ts (i + 1)) ≡ Some n → next_of table want.Colon (slice_get ts (i + 2)) ≡ Some c → m ≡ d + 1 →
+      pub param_4 : (n c : Token) (m j : ℕ) (t : TyPiece) → next_of table want.Name (slice_get ts (i + 1)) ≡ Some n → next_of table want.Colon (slice_get ts (i + 2)) ≡ Some c → m ≡ d + 1 →
           Reads LT ts m (i + 3) j (OfType t ∷ []) → Moves ts d i (Nt LParam ∷ []) [] j (Tm want.RightParen ∷ (Mark ∷ [])) (OfType t ∷ (OfToken c ∷ (OfToken n ∷ (OfToken o ∷ []))))
       param_4 n c m j t f g q r = by_line ts d m (Tm want.RightParen ∷ (Mark ∷ [])) (OfToken c ∷ (OfToken n ∷ (OfToken o ∷ []))) (param_3 n c f g) (omega (arith, q)) r.same
 
-      pub param_whole : (n c p : Token) (m j : ℕ) (t : RawTy) → next_of table want.Name (slice_get ts (i + 1)) ≡ Some n → next_of table want.Colon (slice_get ts (i + 2)) ≡ Some c → m ≡ d + 1 →
+      pub param_whole : (n c p : Token) (m j : ℕ) (t : TyPiece) → next_of table want.Name (slice_get ts (i + 1)) ≡ Some n → next_of table want.Colon (slice_get ts (i + 2)) ≡ Some c → m ≡ d + 1 →
           Reads LT ts m (i + 3) j (OfType t ∷ []) → next_of table want.RightParen (slice_get ts j) ≡ Some p →
           Reads LParam ts d i (j + 1) (OfToken p ∷ (OfType t ∷ (OfToken c ∷ (OfToken n ∷ (OfToken o ∷ [])))))
       param_whole n c p m j t f g q r x = record {

@@ -10,8 +10,11 @@ use Rattle.f_grammar.specs.declared.cursor.Wanted.TheVariants as want
 use Rattle.text_core.specs.Table as table_of
 use Rattle.text_core.specs.Table.{Sym, Tm, Nt, Do, Mark, Table, then_more}
 use Rattle.f_grammar.specs.Grammar.{E, open_E}
-use Rattle.f_grammar.specs.Raw.{RawTy, RInt, RName, RTuple, RArrow, RAll, raw_tys, RawTm, Piece, within, var, number}
-use Rattle.f_grammar.specs.Raw.{func, gen, call, inst, tuple, proj, arith, if0}
+use Rattle.f_grammar.specs.declared.types.Quantifier.{Quantifier}
+use Rattle.f_grammar.specs.declared.types.Quantifier.TheVariants.{All, Exists}
+use Rattle.f_grammar.specs.Raw.{RawTy, TyPiece, int_ty, name_ty, tuple_ty, arrow_ty, bound_ty, ref_ty, paren_ty, RawTm}
+use Rattle.f_grammar.specs.Raw.{Piece, within, var, number, func, gen, call, inst, tuple, proj, arith, if0, let_in}
+use Rattle.f_grammar.specs.Raw.{pack, open_in, cell, deref, assign}
 
 -- the tokens that may be owed
 abbrev pub Class : Type 0
@@ -24,9 +27,12 @@ pub data Line : Type 0 where
   LParam : Line
   LBranches : Line
   LFields : Line
+  LHidden : Line
+  LNames : Line
   MoreParts : Line
   MoreFactors : Line
   MoreSums : Line
+  MoreAssign : Line
   MoreFields : Line
   LT : Line
   LU : Line
@@ -48,6 +54,12 @@ pub data Act : Type 0 where
   MakeCall : Act
   MakeInst : Act
   MakeArith : Op → Act
+  MakeLet : Act
+  MakePack : Act
+  MakeOpen : Act
+  MakeRef : Act
+  MakeDeref : Act
+  MakeAssign : Act
   MakeFirst : Act
   MakeNext : Act
   TypeInt : Act
@@ -55,8 +67,9 @@ pub data Act : Type 0 where
   TypeParen : Act
   TypeUnit : Act
   TypeTuple : Act
-  TypeAll : Act
+  TypeBound : Quantifier → Act
   TypeArrow : Act
+  TypeRef : Act
   TypeFirst : Act
   TypeNext : Act
 
@@ -68,7 +81,7 @@ pub data Val : Type 0 where
   OfToken : Token → Val
   OfTerm : Piece → Val
   OfTerms : List RawTm → Val
-  OfType : RawTy → Val
+  OfType : TyPiece → Val
   OfTypes : List RawTy → Val
 
 abbrev pub fits : Class → Kind → Bool
@@ -77,15 +90,22 @@ fits want.Number (k.Plain z) = true
 fits want.LeftParen k.LeftParen = true
 fits want.RightParen k.RightParen = true
 fits want.RightAngle k.RightAngle = true
+fits want.LeftBracket k.LeftBracket = true
 fits want.RightBracket k.RightBracket = true
 fits want.Comma k.Comma = true
 fits want.Dot k.Dot = true
 fits want.Colon k.Colon = true
-fits want.All k.All = true
+fits want.Equals k.Equals = true
+fits want.In k.In = true
+fits want.As k.As = true
+fits want.Assign k.Assign = true
 fits want.Arrow k.Arrow = true
 fits want.Star k.Star = true
 fits want.Fix k.Fix = true
 fits want.Gen k.Gen = true
+fits want.Let k.Let = true
+fits want.Pack k.Pack = true
+fits want.Open k.Open = true
 fits _ _ = false
 
 -- the value of a number
@@ -99,7 +119,7 @@ act MakeVar (OfToken n ∷ vs) = OfTerm (var n.span) ∷ vs
 act MakeNumber (OfToken n ∷ vs) = OfTerm (number (value_of n.kind) n.span) ∷ vs
 act MakeFix (OfTerm e ∷ OfToken s ∷ OfType r ∷ OfToken d ∷ OfToken p ∷ OfType t ∷ OfToken c ∷ OfToken x ∷ OfToken o ∷
     OfToken n ∷ OfToken f ∷ vs) =
-    OfTerm (func f.span n.span x.span t r e) ∷ vs
+    OfTerm (func f.span n.span x.span t.ty r.ty e) ∷ vs
 act MakeGen (OfTerm e ∷ OfToken d ∷ OfToken a ∷ OfToken g ∷ vs) = OfTerm (gen g.span a.span e) ∷ vs
 act MakeParen (OfToken c ∷ OfTerm e ∷ OfToken o ∷ vs) = OfTerm (within o.span.start c.span.end e) ∷ vs
 act MakeUnit (OfToken c ∷ vs) = OfToken c ∷ (OfTerms [] ∷ vs)
@@ -108,19 +128,30 @@ act MakeProj (OfTerm e ∷ OfToken n ∷ OfToken h ∷ vs) = OfTerm (proj h.span
 act MakeIf0 (OfToken l ∷ OfTerm c ∷ OfToken q ∷ OfTerm b ∷ OfToken p ∷ OfTerm a ∷ OfToken o ∷ OfToken i ∷ vs) =
     OfTerm (if0 i.span a b c l.span) ∷ vs
 act MakeCall (OfTerm b ∷ OfTerm a ∷ vs) = OfTerm (call a b) ∷ vs
-act MakeInst (OfToken c ∷ OfType t ∷ OfToken o ∷ OfTerm a ∷ vs) = OfTerm (inst a t c.span) ∷ vs
+act MakeInst (OfToken c ∷ OfType t ∷ OfToken o ∷ OfTerm a ∷ vs) = OfTerm (inst a t.ty c.span) ∷ vs
 act (MakeArith op) (OfTerm b ∷ OfToken p ∷ OfTerm a ∷ vs) = OfTerm (arith op a b) ∷ vs
+act MakeLet (OfTerm b ∷ OfToken i ∷ OfTerm a ∷ OfToken q ∷ OfToken n ∷ OfToken l ∷ vs) =
+    OfTerm (let_in l.span n.span a b) ∷ vs
+act MakePack (OfType r ∷ OfToken s ∷ OfToken q ∷ OfTerm e ∷ OfToken c ∷ OfType t ∷ OfToken o ∷ OfToken p ∷ vs) =
+    OfTerm (pack p.span t e r) ∷ vs
+act MakeOpen (OfTerm b ∷ OfToken i ∷ OfTerm a ∷ OfToken q ∷ OfToken r ∷ OfToken x ∷ OfToken c ∷ OfToken n ∷
+    OfToken o ∷ OfToken p ∷ vs) =
+    OfTerm (open_in p.span n.span x.span a b) ∷ vs
+act MakeRef (OfTerm e ∷ OfToken r ∷ vs) = OfTerm (cell r.span e) ∷ vs
+act MakeDeref (OfTerm e ∷ OfToken r ∷ vs) = OfTerm (deref r.span e) ∷ vs
+act MakeAssign (OfTerm b ∷ OfToken s ∷ OfTerm a ∷ vs) = OfTerm (assign a b) ∷ vs
 act MakeFirst (OfTerm e ∷ vs) = OfTerms (e.tree ∷ []) ∷ vs
 act MakeNext (OfTerm e ∷ OfToken c ∷ OfTerms ts ∷ vs) = OfTerms (ts ++ e.tree ∷ []) ∷ vs
-act TypeInt (OfToken i ∷ vs) = OfType RInt ∷ vs
-act TypeName (OfToken n ∷ vs) = OfType (RName n.span) ∷ vs
-act TypeParen (OfToken c ∷ OfType t ∷ OfToken o ∷ vs) = OfType t ∷ vs
+act TypeInt (OfToken i ∷ vs) = OfType (int_ty i.span) ∷ vs
+act TypeName (OfToken n ∷ vs) = OfType (name_ty n.span) ∷ vs
+act TypeParen (OfToken c ∷ OfType t ∷ OfToken o ∷ vs) = OfType (paren_ty t c.span) ∷ vs
 act TypeUnit (OfToken c ∷ vs) = OfToken c ∷ (OfTypes [] ∷ vs)
-act TypeTuple (OfToken c ∷ OfTypes ts ∷ OfToken o ∷ vs) = OfType (RTuple (raw_tys ts)) ∷ vs
-act TypeAll (OfType t ∷ OfToken d ∷ OfToken n ∷ OfToken a ∷ vs) = OfType (RAll n.span t) ∷ vs
-act TypeArrow (OfType b ∷ OfToken s ∷ OfType a ∷ vs) = OfType (RArrow a b) ∷ vs
-act TypeFirst (OfType t ∷ vs) = OfTypes (t ∷ []) ∷ vs
-act TypeNext (OfType t ∷ OfToken c ∷ OfTypes ts ∷ vs) = OfTypes (ts ++ t ∷ []) ∷ vs
+act TypeTuple (OfToken c ∷ OfTypes ts ∷ OfToken o ∷ vs) = OfType (tuple_ty ts c.span) ∷ vs
+act (TypeBound q) (OfType t ∷ OfToken d ∷ OfToken n ∷ OfToken a ∷ vs) = OfType (bound_ty q n.span t) ∷ vs
+act TypeArrow (OfType b ∷ OfToken s ∷ OfType a ∷ vs) = OfType (arrow_ty a b) ∷ vs
+act TypeRef (OfType t ∷ OfToken r ∷ vs) = OfType (ref_ty t) ∷ vs
+act TypeFirst (OfType t ∷ vs) = OfTypes (t.ty ∷ []) ∷ vs
+act TypeNext (OfType t ∷ OfToken c ∷ OfTypes ts ∷ vs) = OfTypes (ts ++ t.ty ∷ []) ∷ vs
 act _ vs = vs
 
 -- what is still owed of a line after its first token, or none where it cannot begin with it
@@ -132,15 +163,24 @@ part_after k.LeftParen = Some (Nt LE ∷ (Tm want.RightParen ∷ (Mark ∷ (Do M
 part_after k.LeftAngle = Some (Nt LFields ∷ (Mark ∷ (Do MakeTuple ∷ [])))
 part_after k.Hash = Some (Tm want.Number ∷ (Nt LP ∷ (Mark ∷ (Do MakeProj ∷ []))))
 part_after k.If0 = Some (Nt LBranches ∷ (Do MakeIf0 ∷ []))
+part_after k.Ref = Some (Nt LP ∷ (Mark ∷ (Do MakeRef ∷ [])))
+part_after k.Bang = Some (Nt LP ∷ (Mark ∷ (Do MakeDeref ∷ [])))
 part_after _ = None
 
 abbrev pub sum_tail : Stack
-sum_tail = Nt MoreParts ∷ (Nt MoreFactors ∷ (Nt MoreSums ∷ []))
+sum_tail = Nt MoreParts ∷ (Nt MoreFactors ∷ (Nt MoreSums ∷ (Nt MoreAssign ∷ [])))
+
+-- what is owed after the sign or the names before it
+abbrev pub body_owed : Act → Stack
+body_owed a = Tm want.Equals ∷ (Nt LE ∷ (Tm want.In ∷ (Mark ∷ (Nt LE ∷ (Do a ∷ [])))))
 
 abbrev pub expr_after : Kind → Option Stack
 expr_after k.Fix = Some (Tm want.Name ∷
     (Nt LParam ∷ (Tm want.Colon ∷ (Nt LT ∷ (Tm want.Dot ∷ (Nt LE ∷ (Mark ∷ (Do MakeFix ∷ []))))))))
 expr_after k.Gen = Some (Tm want.Name ∷ (Tm want.Dot ∷ (Nt LE ∷ (Mark ∷ (Do MakeGen ∷ [])))))
+expr_after k.Let = Some (Tm want.Name ∷ body_owed MakeLet)
+expr_after k.Pack = Some (Nt LHidden ∷ (Tm want.As ∷ (Nt LT ∷ (Do MakePack ∷ []))))
+expr_after k.Open = Some (Nt LNames ∷ body_owed MakeOpen)
 expr_after c = then_more (part_after c) sum_tail
 
 abbrev pub param_after : Kind → Option Stack
@@ -151,6 +191,16 @@ abbrev pub branches_after : Kind → Option Stack
 branches_after k.LeftParen = Some
     (Nt LE ∷ (Tm want.Comma ∷ (Nt LE ∷ (Tm want.Comma ∷ (Nt LE ∷ (Tm want.RightParen ∷ (Mark ∷ [])))))))
 branches_after _ = None
+
+abbrev pub hidden_after : Kind → Option Stack
+hidden_after k.LeftBracket = Some
+    (Nt LT ∷ (Tm want.Comma ∷ (Nt LE ∷ (Tm want.RightBracket ∷ (Mark ∷ [])))))
+hidden_after _ = None
+
+abbrev pub names_after : Kind → Option Stack
+names_after k.LeftBracket = Some
+    (Tm want.Name ∷ (Tm want.Comma ∷ (Tm want.Name ∷ (Tm want.RightBracket ∷ (Mark ∷ [])))))
+names_after _ = None
 
 abbrev pub fields_tail : Stack
 fields_tail = Do MakeFirst ∷ (Nt MoreFields ∷ (Tm want.RightAngle ∷ []))
@@ -178,6 +228,13 @@ sums_after k.Plus = Some (term_owed Add)
 sums_after k.Minus = Some (term_owed Sub)
 sums_after _ = None
 
+abbrev pub assign_owed : Stack
+assign_owed = Nt LP ∷ (Nt MoreParts ∷ (Nt MoreFactors ∷ (Nt MoreSums ∷ (Do MakeAssign ∷ []))))
+
+abbrev pub assign_after : Kind → Option Stack
+assign_after k.Assign = Some assign_owed
+assign_after _ = None
+
 abbrev pub commas_after : Kind → Option Stack
 commas_after k.Comma = Some (Nt LE ∷ (Do MakeNext ∷ (Nt MoreFields ∷ [])))
 commas_after _ = None
@@ -187,13 +244,28 @@ unit_after k.Int = Some (Do TypeInt ∷ [])
 unit_after k.Name = Some (Do TypeName ∷ [])
 unit_after k.LeftAngle = Some (Nt LTypes ∷ (Mark ∷ (Do TypeTuple ∷ [])))
 unit_after k.LeftParen = Some (Nt LT ∷ (Tm want.RightParen ∷ (Mark ∷ (Do TypeParen ∷ []))))
+unit_after k.Ref = Some (Nt LU ∷ (Mark ∷ (Do TypeRef ∷ [])))
 unit_after _ = None
 
 abbrev pub type_tail : Stack
 type_tail = Nt MoreArrow ∷ []
 
+-- the binder that a token is, if it is one
+abbrev pub binder_of : Kind → Option Quantifier
+binder_of k.All = Some All
+binder_of k.Some = Some Exists
+binder_of _ = None
+
+abbrev pub binder_next : Option Token → Option Quantifier
+binder_next None = None
+binder_next (Some t) = binder_of t.kind
+
+abbrev pub bound_owed : Quantifier → Stack
+bound_owed q = Tm want.Name ∷ (Tm want.Dot ∷ (Nt LT ∷ (Mark ∷ (Do (TypeBound q) ∷ []))))
+
 abbrev pub type_after : Kind → Option Stack
-type_after k.All = Some (Tm want.Name ∷ (Tm want.Dot ∷ (Nt LT ∷ (Mark ∷ (Do TypeAll ∷ [])))))
+type_after k.All = Some (bound_owed All)
+type_after k.Some = Some (bound_owed Exists)
 type_after c = then_more (unit_after c) type_tail
 
 abbrev pub types_tail : Stack
@@ -217,9 +289,12 @@ after LP c = part_after c
 after LParam c = param_after c
 after LBranches c = branches_after c
 after LFields c = fields_after c
+after LHidden c = hidden_after c
+after LNames c = names_after c
 after MoreParts c = parts_after c
 after MoreFactors c = factors_after c
 after MoreSums c = sums_after c
+after MoreAssign c = assign_after c
 after MoreFields c = commas_after c
 after LT c = type_after c
 after LU c = unit_after c
@@ -231,6 +306,7 @@ abbrev pub may_end : Line → Bool
 may_end MoreParts = true
 may_end MoreFactors = true
 may_end MoreSums = true
+may_end MoreAssign = true
 may_end MoreFields = true
 may_end MoreArrow = true
 may_end MoreTypes = true

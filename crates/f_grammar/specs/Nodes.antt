@@ -2,10 +2,12 @@
 use Rattle.std.specs.Prelude.{ℕ, List, [], ◌∷◌, map}
 use Rattle.arena.specs.Arena.{parts}
 use Rattle.idx_core.specs.declared.span.Span.{Span}
-use Rattle.f_grammar.specs.Raw.{RawTm, RVar, RNum, RFix, RGen, RApp, RInst, RFields, RProj, RArith, RIf0, raw_tms}
+use Rattle.f_grammar.specs.Raw.{RawTm, RVar, RNum, RFix, RGen, RApp, RInst, RFields, RProj, RArith, RIf0, RLet}
+use Rattle.f_grammar.specs.Raw.{RPack, ROpen, RCell, RDeref, RAssign, raw_tms}
 use Rattle.f_grammar.specs.Read.{type_of}
 use Rattle.f_grammar.specs.declared.raw.RawShape.{RawShape}
 use Rattle.f_grammar.specs.declared.raw.RawShape.TheVariants.{Var, Num, Fix, Gen, App, Inst, Tuple, Proj, Arith, If0}
+use Rattle.f_grammar.specs.declared.raw.RawShape.TheVariants.{Let, Pack, Open, Ref, Deref, Assign}
 use Rattle.f_grammar.specs.declared.raw.RawNode.{RawNode}
 
 -- from left to right
@@ -20,6 +22,12 @@ children (Tuple es) = es.items
 children (Proj n e) = e ∷ []
 children (Arith op d e) = d ∷ e ∷ []
 children (If0 c d e) = c ∷ d ∷ e ∷ []
+children (Let x d e) = d ∷ e ∷ []
+children (Pack t e r) = e ∷ []
+children (Open n x d e) = d ∷ e ∷ []
+children (Ref e) = e ∷ []
+children (Deref e) = e ∷ []
+children (Assign d e) = d ∷ e ∷ []
 
 -- the tree of a form at the place s, where at has those of its children
 abbrev pub shape_tree : (ℕ → RawTm) → Span → RawShape → RawTm
@@ -33,6 +41,12 @@ shape_tree at s (Tuple es) = RFields s (raw_tms (map at es.items))
 shape_tree at s (Proj n e) = RProj s n (at e)
 shape_tree at s (Arith op d e) = RArith s op (at d) (at e)
 shape_tree at s (If0 c d e) = RIf0 s (at c) (at d) (at e)
+shape_tree at s (Let x d e) = RLet s x (at d) (at e)
+shape_tree at s (Pack t e r) = RPack s (type_of t) (at e) (type_of r)
+shape_tree at s (Open n x d e) = ROpen s n x (at d) (at e)
+shape_tree at s (Ref e) = RCell s (at e)
+shape_tree at s (Deref e) = RDeref s (at e)
+shape_tree at s (Assign d e) = RAssign s (at d) (at e)
 
 abbrev pub kids : RawNode → List ℕ
 kids n = children n.shape

@@ -1,8 +1,10 @@
 -- Terms and types before names are resolved: a name is the place where it stands. And pieces: a tree and the extent of
--- its tokens.
+-- its tokens, or a type and their end.
 use Rattle.std.specs.Prelude.{ℕ, ℤ, ◌+◌, List, [], ◌∷◌}
 use Rattle.idx_core.specs.declared.span.Span.{Span}
 use Rattle.idx_core.specs.declared.arith.Op.{Op}
+use Rattle.f_grammar.specs.declared.types.Quantifier.{Quantifier}
+use Rattle.f_grammar.specs.declared.types.Quantifier.TheVariants.{All, Exists}
 
 mutual
   pub data RawTy : Type 0 where
@@ -12,6 +14,8 @@ mutual
     RArrow : RawTy → RawTy → RawTy
     -- the name that is bound, the body
     RAll : Span → RawTy → RawTy
+    RSome : Span → RawTy → RawTy
+    RRef : RawTy → RawTy
 
   pub data RawTys : Type 0 where
     NoRawTys : RawTys
@@ -32,6 +36,15 @@ mutual
     RProj : Span → ℕ → RawTm → RawTm
     RArith : Span → Op → RawTm → RawTm → RawTm
     RIf0 : Span → RawTm → RawTm → RawTm → RawTm
+    -- the name that is bound, its part, the body
+    RLet : Span → Span → RawTm → RawTm → RawTm
+    -- the hidden type, the part, the shape
+    RPack : Span → RawTy → RawTm → RawTy → RawTm
+    -- the type name and the value name that are bound, their part, the body
+    ROpen : Span → Span → Span → RawTm → RawTm → RawTm
+    RCell : Span → RawTm → RawTm
+    RDeref : Span → RawTm → RawTm
+    RAssign : Span → RawTm → RawTm → RawTm
 
   pub data RawTms : Type 0 where
     NoRawTms : RawTms
@@ -57,6 +70,12 @@ place_of (RFields s es) = s
 place_of (RProj s n e) = s
 place_of (RArith s op a b) = s
 place_of (RIf0 s a b c) = s
+place_of (RLet s n a b) = s
+place_of (RPack s t e r) = s
+place_of (ROpen s n x a b) = s
+place_of (RCell s e) = s
+place_of (RDeref s e) = s
+place_of (RAssign s a b) = s
 
 -- the nodes of a term
 abbrev mutual
@@ -71,10 +90,48 @@ abbrev mutual
   nodes (RProj s n e) = 1 + nodes e
   nodes (RArith s op a b) = 1 + nodes a + nodes b
   nodes (RIf0 s a b c) = 1 + nodes a + nodes b + nodes c
+  nodes (RLet s n a b) = 1 + nodes a + nodes b
+  nodes (RPack s t e r) = 1 + nodes e
+  nodes (ROpen s n x a b) = 1 + nodes a + nodes b
+  nodes (RCell s e) = 1 + nodes e
+  nodes (RDeref s e) = 1 + nodes e
+  nodes (RAssign s a b) = 1 + nodes a + nodes b
 
   pub nodes_all : RawTms → ℕ
   nodes_all NoRawTms = 0
   nodes_all (MoreRawTms e es) = nodes e + nodes_all es
+
+-- a type, with the place at which its last token ends
+pub record TyPiece : Type 0 where
+  pub ty : RawTy
+  pub end : ℕ
+
+abbrev pub int_ty : Span → TyPiece
+int_ty s = record { ty = RInt; end = s.end }
+
+abbrev pub name_ty : Span → TyPiece
+name_ty s = record { ty = RName s; end = s.end }
+
+abbrev pub tuple_ty : List RawTy → Span → TyPiece
+tuple_ty ts c = record { ty = RTuple (raw_tys ts); end = c.end }
+
+abbrev pub arrow_ty : TyPiece → TyPiece → TyPiece
+arrow_ty a b = record { ty = RArrow a.ty b.ty; end = b.end }
+
+-- a name bound in a type
+abbrev pub bound : Quantifier → Span → RawTy → RawTy
+bound All n t = RAll n t
+bound Exists n t = RSome n t
+
+abbrev pub bound_ty : Quantifier → Span → TyPiece → TyPiece
+bound_ty q n t = record { ty = bound q n t.ty; end = t.end }
+
+abbrev pub ref_ty : TyPiece → TyPiece
+ref_ty t = record { ty = RRef t.ty; end = t.end }
+
+-- in parentheses
+abbrev pub paren_ty : TyPiece → Span → TyPiece
+paren_ty t c = record { ty = t.ty; end = c.end }
 
 -- a tree, with the place at which its first token begins and the one at which its last token ends
 pub record Piece : Type 0 where
@@ -119,3 +176,21 @@ arith op a b = form (λ i. RArith i op a.tree b.tree) a.start b.end
 
 abbrev pub if0 : Span → Piece → Piece → Piece → Span → Piece
 if0 i a b c k = form (λ s. RIf0 s a.tree b.tree c.tree) i.start k.end
+
+abbrev pub let_in : Span → Span → Piece → Piece → Piece
+let_in l n a b = form (λ i. RLet i n a.tree b.tree) l.start b.end
+
+abbrev pub pack : Span → TyPiece → Piece → TyPiece → Piece
+pack p t e r = form (λ i. RPack i t.ty e.tree r.ty) p.start r.end
+
+abbrev pub open_in : Span → Span → Span → Piece → Piece → Piece
+open_in p n x a b = form (λ i. ROpen i n x a.tree b.tree) p.start b.end
+
+abbrev pub cell : Span → Piece → Piece
+cell r e = form (λ i. RCell i e.tree) r.start e.end
+
+abbrev pub deref : Span → Piece → Piece
+deref r e = form (λ i. RDeref i e.tree) r.start e.end
+
+abbrev pub assign : Piece → Piece → Piece
+assign a b = form (λ i. RAssign i a.tree b.tree) a.start b.end

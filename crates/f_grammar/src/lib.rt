@@ -10,4 +10,4 @@ mod types;
 pub use cursor::{OPEN, Stopped, Wanted, expect, opened, peek, take};
 pub use params::{FoundParameter, parameter};
 pub use raw::{RawNode, RawShape, RawTerm, RawType};
-pub use types::{FoundType, whole_type};
+pub use types::{FoundType, Quantifier, whole_type};

@@ -13,6 +13,8 @@ pub enum RawType {
     Tuple(Vec<RawType>),
     Arrow(Box<RawType>, Box<RawType>),
     All(Span, Box<RawType>),
+    Exists(Span, Box<RawType>),
+    Ref(Box<RawType>),
 }
 
 /// A form of a term and its place in the text.
@@ -42,6 +44,18 @@ pub enum RawShape {
     Proj(u64, u64),
     Arith(Op, u64, u64),
     If0(u64, u64, u64),
+    /// The name that is bound, its part, the body.
+    Let(Span, u64, u64),
+    Pack {
+        hidden: RawType,
+        inner: u64,
+        shape: RawType,
+    },
+    /// The type name and the value name that are bound, their part, the body.
+    Open(Span, Span, u64, u64),
+    Ref(u64),
+    Deref(u64),
+    Assign(u64, u64),
 }
 
 /// A term of the source whose names are not resolved, as a vector of nodes in which children stand before their

@@ -11,37 +11,50 @@ use Rattle.text_core.specs.declared.lexeme.Digits.{Digits}
 use Rattle.text_core.proofs.Signs.{look_marked}
 use Rattle.f_lexer.specs.declared.kind.Kind.{Kind}
 use Rattle.f_lexer.specs.declared.kind.Kind.TheVariants as k
-use Rattle.f_lexer.specs.Source.{source, signs, pair}
-use Rattle.f_lexer.specs.Scan.{at_arrow, plain_found, negative_found}
+use Rattle.f_lexer.specs.Source.{source, signs, pair, Keeps}
+use Rattle.f_lexer.specs.Scan.{at_pair, plain_found, negative_found}
 
 -- no sign of the source begins as a word or a number
 pub source_signs : HasSigns source
-source_signs = record { of_sign = λ b x e. look_marked signs refl b x e; of_pair = λ b c x e. arrow b c x e }
+source_signs = record { of_sign = λ b x e. look_marked signs refl b x e; of_pair = λ b c x e. of_two b c x e }
   where
-    arrow : (b c : ℕ) (x : Kind) → pair b c ≡ Some x → mark b ≡ true
-    arrow b c x e = go (b == 45) (c == 62) refl e
+    of_two : (b c : ℕ) (x : Kind) → pair b c ≡ Some x → mark b ≡ true
+    of_two b c x e = go (b == 45) (c == 62) (b == 58) (c == 61) refl refl e
       where
-        go : (p q : Bool) → (b == 45) ≡ p → (if p && q then Some k.Arrow else None) ≡ Some x → mark b ≡ true
-        go true q a e = rw (eqb-true b 45 a) refl
-        go false q a e = absurd (cc)
+        go : (p q r s : Bool) → (b == 45) ≡ p → (b == 58) ≡ r →
+            (if p && q then Some k.Arrow else if r && s then Some k.Assign else None) ≡ Some x → mark b ≡ true
+        go true q r s a h e = rw (eqb-true b 45 a) refl
+        go false q true s a h e = rw (eqb-true b 58 h) refl
+        go false q false s a h e = absurd (cc)
 
-arrow_long : (s : List ℕ) → at_arrow s ≡ true → 2 ≤ length s
-arrow_long [] e = absurd (cc)
-arrow_long (b ∷ []) e = absurd (cc)
-arrow_long (b ∷ (c ∷ s)) e = omega arith
+both : (x y : Bool) → (x && y) ≡ true → (x ≡ true) × (y ≡ true)
+both true true e = (refl, refl)
+both true false e = absurd (cc)
+both false y e = absurd (cc)
 
-arrow_item : (s : List ℕ) → piece s ≡ POther → at_arrow s ≡ true → item source s ≡ Spelling k.Arrow 2
-arrow_item [] p e = absurd (cc)
-arrow_item (b ∷ []) p e = absurd (cc)
-arrow_item (b ∷ (c ∷ s)) p e = ap (λ (x : Piece). of_piece source (b ∷ (c ∷ s)) x) p ∙ rw e refl
+pair_long : (a b : ℕ) (s : List ℕ) → at_pair a b s ≡ true → 2 ≤ length s
+pair_long a b [] e = absurd (cc)
+pair_long a b (c ∷ []) e = absurd (cc)
+pair_long a b (c ∷ (d ∷ s)) e = omega arith
 
-pub arrow_found : (t : List ℕ) (at : ℕ) → at < length t → piece (drop at t) ≡ POther → at_arrow (drop at t) ≡ true →
-    Within t at (at + 2) × (item source (drop at t) ≡ Spelling k.Arrow (at + 2 - at)) × Unit {0}
-arrow_found t at l p e =
-    let m = arrow_long (drop at t) e in
+pair_item : (a b : ℕ) (x : Kind) → pair a b ≡ Some x → (s : List ℕ) → piece s ≡ POther → at_pair a b s ≡ true →
+    item source s ≡ Spelling x 2
+pair_item a b x h [] p e = absurd (cc)
+pair_item a b x h (c ∷ []) p e = absurd (cc)
+pair_item a b x h (c ∷ (d ∷ s)) p e =
+    let m = eqb-true c a (both _ _ e).0 in
+    let n = eqb-true d b (both _ _ e).1 in
+    let i : pair c d ≡ Some x = rw (m, n) h in
+    ap (λ (x : Piece). of_piece source (c ∷ (d ∷ s)) x) p ∙ rw i refl
+
+pub pair_found : (a b : ℕ) (x : Kind) → pair a b ≡ Some x → Keeps x → (t : List ℕ) (at : ℕ) → at < length t →
+    piece (drop at t) ≡ POther → at_pair a b (drop at t) ≡ true →
+    Within t at (at + 2) × (item source (drop at t) ≡ Spelling x (at + 2 - at)) × Keeps x
+pair_found a b x h y t at l p e =
+    let m = pair_long a b (drop at t) e in
     let n = length-drop at t in
     let z : at + 2 - at ≡ 2 = omega arith in
-    (record { forward = omega arith; in_range = omega arith }, rw z (arrow_item (drop at t) p e), tt)
+    (record { forward = omega arith; in_range = omega arith }, rw z (pair_item a b x h (drop at t) p e), y)
 
 pub plain_is_found : (t : List ℕ) (at : ℕ) (d : Digits) → Within t at d.end → piece (drop at t) ≡ PPlain (d.end - at) → IsValue d.value d.fits (take (d.end - at) (drop at t)) →
     IsFound source t at (plain_found d)

@@ -35,6 +35,16 @@ arrow = some_next source source_signs 45 (codes ">-")
 dash : Next source (codes "- >") (Spelling k.Minus 1)
 dash = some_next source source_signs 45 (codes " >")
 
+-- an assignment is one token, and a colon before a space is a sign
+assign : Next source (codes ":==") (Spelling k.Assign 2)
+assign = some_next source source_signs 58 (codes "==")
+
+colon : Next source (codes ": =") (Spelling k.Colon 1)
+colon = some_next source source_signs 58 (codes " =")
+
+bang : Next source (codes "!x") (Spelling k.Bang 1)
+bang = some_next source source_signs 33 (codes "x")
+
 -- a comment ends before its line feed
 comment : Next source (45 ∷ (45 ∷ (36 ∷ (10 ∷ (49 ∷ []))))) (Gap 3)
 comment = some_next source source_signs 45 (45 ∷ (36 ∷ (10 ∷ (49 ∷ []))))

@@ -6,10 +6,11 @@ use Rattle.text_core.specs.declared.lexeme.Found.TheVariants.{Read, Large}
 use Rattle.f_lexer.specs.declared.kind.Kind.{Kind}
 use Rattle.f_lexer.specs.declared.kind.Kind.TheVariants as k
 
-abbrev pub at_arrow : List ℕ → Bool
-at_arrow [] = false
-at_arrow (b ∷ []) = false
-at_arrow (b ∷ (c ∷ s)) = b == 45 && c == 62
+-- whether a text begins with two bytes
+abbrev pub at_pair : ℕ → ℕ → List ℕ → Bool
+at_pair a b [] = false
+at_pair a b (c ∷ []) = false
+at_pair a b (c ∷ (d ∷ s)) = c == a && d == b
 
 abbrev pub plain_found : Digits → Found Kind
 plain_found d = if d.fits && nat_le d.value 9223372036854775807 then Read (k.Plain (pos d.value)) d.end else Large d.end

@@ -23,17 +23,18 @@ abbrev pub word_in : List (List ℕ × Kind) → List ℕ → Kind
 word_in [] u = k.Name
 word_in (e ∷ t) u = if bytes_eq u e.0 then e.1 else word_in t u
 
--- the signs of one byte: ( ) < > [ ] , . : + - * #
+-- the signs of one byte: ( ) < > [ ] , . : + - * # = !
 abbrev pub signs : List (ℕ × Kind)
 signs =
     (40, k.LeftParen) ∷ ((41, k.RightParen) ∷
     ((60, k.LeftAngle) ∷ ((62, k.RightAngle) ∷ ((91, k.LeftBracket) ∷ ((93, k.RightBracket) ∷
     ((44, k.Comma) ∷ ((46, k.Dot) ∷
-    ((58, k.Colon) ∷ ((43, k.Plus) ∷ ((45, k.Minus) ∷ ((42, k.Star) ∷ ((35, k.Hash) ∷ []))))))))))))
+    ((58, k.Colon) ∷ ((43, k.Plus) ∷ ((45, k.Minus) ∷ ((42, k.Star) ∷ ((35, k.Hash) ∷
+    ((61, k.Equals) ∷ ((33, k.Bang) ∷ []))))))))))))))
 
--- the one sign of two bytes: ->
+-- the signs of two bytes: -> :=
 abbrev pub pair : ℕ → ℕ → Option Kind
-pair a b = if a == 45 && b == 62 then Some k.Arrow else None
+pair a b = if a == 45 && b == 62 then Some k.Arrow else if a == 58 && b == 61 then Some k.Assign else None
 
 -- the values of the numbers: from -9223372036854775808 to 9223372036854775807
 abbrev pub Keeps : Kind → Type 0

@@ -38,6 +38,10 @@ pub enum Kind {
     Minus,
     Star,
     Hash,
+    Equals,
+    Bang,
     /// `->`
     Arrow,
+    /// `:=`
+    Assign,
 }

@@ -3,7 +3,7 @@ ghost use Rattle.std.specs.Prelude.{◌≡◌, ◌≤◌, ◌<◌, ◌^◌, ℕ,
 ghost use Rattle.text_core.specs.Tokens.{look};
 ghost use Rattle.text_core.specs.Lexeme.{IsFound, piece, POther};
 ghost use Rattle.f_lexer.specs.Source.{source, words, word_in, signs};
-ghost use Rattle.f_lexer.specs.Scan.{at_arrow, plain_found, negative_found};
+ghost use Rattle.f_lexer.specs.Scan.{at_pair, plain_found, negative_found};
 
 use crate::kind::Kind;
 use text_core::{Digits, Found, Lexeme, next_lexeme};
@@ -57,15 +57,17 @@ fn sign(b: u8) -> Option<Kind>
         b'-' => Some(Kind::Minus),
         b'*' => Some(Kind::Star),
         b'#' => Some(Kind::Hash),
+        b'=' => Some(Kind::Equals),
+        b'!' => Some(Kind::Bang),
         _ => None,
     }
 }
 
-fn is_arrow(text: &[u8], at: usize) -> bool
+fn is_pair(text: &[u8], at: usize, first: u8, second: u8) -> bool
     requires { at < length text.now }
-    ensures { result ≡ at_arrow (drop at text.now) }
+    ensures { result ≡ at_pair first second (drop at text.now) }
 {
-    text[at] == b'-' && at + 1 < text.len() && text[at + 1] == b'>'
+    text[at] == first && at + 1 < text.len() && text[at + 1] == second
 }
 
 // minus a value of at most 2 to the power of 63
@@ -106,8 +108,11 @@ fn other(text: &[u8], at: usize) -> Found<Kind>
     requires other { piece (drop at text.now) ≡ POther }
     ensures { IsFound source text.now at result }
 {
-    if is_arrow(text, at) {
+    if is_pair(text, at, b'-', b'>') {
         return Found::Read(Kind::Arrow, at + 2);
+    }
+    if is_pair(text, at, b':', b'=') {
+        return Found::Read(Kind::Assign, at + 2);
     }
     match sign(text[at]) {
         Some(kind) => Found::Read(kind, at + 1),

@@ -1,11 +1,11 @@
 -- A tree stands for a term exactly where all its names are bound, and for one alone; there is one first unbound name.
 use Rattle.std.proofs.Common.{◌≡◌, ℕ, zero, suc, List, [], ◌∷◌, ◌++◌, refl, sym, ◌∙◌, ap, subst, append_assoc}
 use Rattle.idx_core.specs.Names.{Name, IsPlace, IsAbsent}
-use Rattle.f_terms.specs.Ty.{Ty, TVar, TAll, TTuple, Tys}
+use Rattle.f_terms.specs.Ty.{Ty, TVar, TAll, TTuple, TSome, TRef, Tys}
 use Rattle.f_terms.specs.Tm.{Tm, SVar, Tms}
 use Rattle.f_terms.specs.Read.{place}
 use Rattle.f_grammar.specs.Raw.{RawTy, RawTys, RawTm, RawTms}
-use Rattle.f_parser.specs.Scope.{TypeOf, of_int, of_name, of_tuple, of_arrow, of_all, TypesOf, of_no_types, of_more_types, TermOf, of_var, of_num, of_fix, of_gen, of_app, of_inst, of_fields, of_proj, of_arith, of_if0, TermsOf, of_no_terms, of_more_terms, Use, type_uses, types_uses, uses, all_uses, IsBound, IsUnbound, AllBound, IsFirstUnbound}
+use Rattle.f_parser.specs.Scope.{TypeOf, of_int, of_name, of_tuple, of_arrow, of_all, of_some, of_ref, TypesOf, of_no_types, of_more_types, TermOf, of_var, of_num, of_fix, of_gen, of_app, of_inst, of_fields, of_proj, of_arith, of_if0, of_let, of_pack, of_open, of_cell, of_deref, of_assign, TermsOf, of_no_terms, of_more_terms, Use, type_uses, types_uses, uses, all_uses, IsBound, IsUnbound, AllBound, IsFirstUnbound}
 
 pub joined : (text : List ℕ) (a b : List Use) → AllBound text a → AllBound text b → AllBound text (a ++ b)
 joined text [] b h g = g
@@ -39,6 +39,8 @@ mutual
   type_bound (of_tuple p) = types_bound p
   type_bound (of_arrow p q) = joined _ _ _ (type_bound p) (type_bound q)
   type_bound (of_all n p) = type_bound p
+  type_bound (of_some n p) = type_bound p
+  type_bound (of_ref p) = type_bound p
 
   pub types_bound : {text : List ℕ} {a : List Name} {ts : RawTys} {us : Tys} → TypesOf text a ts us → AllBound text (types_uses text a ts)
   types_bound of_no_types = tt
@@ -56,6 +58,12 @@ mutual
   term_bound (of_proj s n p) = term_bound p
   term_bound (of_arith s op p q) = joined _ _ _ (term_bound p) (term_bound q)
   term_bound (of_if0 s p q r) = joined _ _ _ (term_bound p) (joined _ _ _ (term_bound q) (term_bound r))
+  term_bound (of_let s x p q) = joined _ _ _ (term_bound p) (term_bound q)
+  term_bound (of_pack s p q r) = joined _ _ _ (type_bound p) (joined _ _ _ (term_bound q) (type_bound r))
+  term_bound (of_open s n x p q) = joined _ _ _ (term_bound p) (term_bound q)
+  term_bound (of_cell s p) = term_bound p
+  term_bound (of_deref s p) = term_bound p
+  term_bound (of_assign s p q) = joined _ _ _ (term_bound p) (term_bound q)
 
   pub terms_bound : {text : List ℕ} {v a : List Name} {es : RawTms} {ds : Tms} → TermsOf text v a es ds → AllBound text (all_uses text v a es)
   terms_bound of_no_terms = tt
@@ -69,6 +77,8 @@ mutual
   one_type (of_tuple p) (of_tuple q) = ap (λ (x : Tys). TTuple x) (one_types p q)
   one_type (of_arrow p q) (of_arrow r s) = let e = one_type p r in let f = one_type q s in cc
   one_type (of_all n p) (of_all _ q) = ap (λ (x : Ty). TAll x) (one_type p q)
+  one_type (of_some n p) (of_some _ q) = ap (λ (x : Ty). TSome x) (one_type p q)
+  one_type (of_ref p) (of_ref q) = ap (λ (x : Ty). TRef x) (one_type p q)
 
   pub one_types : {text : List ℕ} {a : List Name} {t : RawTys} {u v : Tys} → TypesOf text a t u → TypesOf text a t v → u ≡ v
   one_types of_no_types of_no_types = refl
@@ -86,6 +96,12 @@ mutual
   one_term (of_proj s n p) (of_proj _ _ i) = let e = one_term p i in cc
   one_term (of_arith s op p q) (of_arith _ _ i j) = let e = one_term p i in let f = one_term q j in cc
   one_term (of_if0 s p q r) (of_if0 _ i j l) = let e = one_term p i in let f = one_term q j in let g = one_term r l in cc
+  one_term (of_let s x p q) (of_let _ _ i j) = let e = one_term p i in let f = one_term q j in cc
+  one_term (of_pack s p q r) (of_pack _ i j l) = let e = one_type p i in let f = one_term q j in let g = one_type r l in cc
+  one_term (of_open s n x p q) (of_open _ _ _ i j) = let e = one_term p i in let f = one_term q j in cc
+  one_term (of_cell s p) (of_cell _ i) = let e = one_term p i in cc
+  one_term (of_deref s p) (of_deref _ i) = let e = one_term p i in cc
+  one_term (of_assign s p q) (of_assign _ i j) = let e = one_term p i in let f = one_term q j in cc
 
   pub one_terms : {text : List ℕ} {v a : List Name} {es : RawTms} {b d : Tms} → TermsOf text v a es b → TermsOf text v a es d → b ≡ d
   one_terms of_no_terms of_no_terms = refl

@@ -12,10 +12,10 @@ use Rattle.f_terms.specs.Tm.{Tm, Tms}
 use Rattle.f_lexer.specs.declared.token.Token.{Token}
 use Rattle.f_lexer.specs.Source.{IsCut, FirstTokenFault}
 use Rattle.f_lexer.proofs.Exact as lexer
-use Rattle.f_grammar.specs.Raw.{RawTy, RInt, RName, RTuple, RArrow, RAll, RawTys, NoRawTys, MoreRawTys, RawTm, RVar, RNum, RFix, RGen, RApp, RInst, RFields, RProj, RArith, RIf0, RawTms, NoRawTms, MoreRawTms, Piece, nodes, place_of}
+use Rattle.f_grammar.specs.Raw.{RawTy, RInt, RName, RTuple, RArrow, RAll, RSome, RRef, RawTys, NoRawTys, MoreRawTys, RawTm, RVar, RNum, RFix, RGen, RApp, RInst, RFields, RProj, RArith, RIf0, RLet, RPack, ROpen, RCell, RDeref, RAssign, RawTms, NoRawTms, MoreRawTms, Piece, nodes, place_of}
 use Rattle.f_grammar.specs.Machine.{table}
 use Rattle.f_grammar.proofs.Instance.{source_exact}
-use Rattle.f_parser.specs.Scope.{spelled, TypeOf, of_int, of_name, of_tuple, of_arrow, of_all, TypesOf, of_no_types, of_more_types, TermOf, of_var, of_num, of_fix, of_gen, of_app, of_inst, of_fields, of_proj, of_arith, of_if0, TermsOf, of_no_terms, of_more_terms, Use, use_at, type_uses, types_uses, uses, all_uses, AllBound, IsFirstUnbound, unbound_code}
+use Rattle.f_parser.specs.Scope.{spelled, TypeOf, of_int, of_name, of_tuple, of_arrow, of_all, of_some, of_ref, TypesOf, of_no_types, of_more_types, TermOf, of_var, of_num, of_fix, of_gen, of_app, of_inst, of_fields, of_proj, of_arith, of_if0, of_let, of_pack, of_open, of_cell, of_deref, of_assign, TermsOf, of_no_terms, of_more_terms, Use, use_at, type_uses, types_uses, uses, all_uses, AllBound, IsFirstUnbound, unbound_code}
 use Rattle.f_parser.specs.Text.{SourceWithin, whole_of, end_of, FewBytes, HasTokens, HasShape, FirstFault, too_long, no_token, unexpected, cut_short, too_deep, too_large, unbound, TermOrFault}
 use Rattle.f_parser.proofs.Bound.{type_bound, term_bound, first_left, first_right}
 use Rattle.f_parser.proofs.Closed.{same_nodes}
@@ -71,6 +71,8 @@ module _ (text : List ℕ) where
     type_named a (RTuple ts) = then_whole (λ x. (_, of_tuple x.1)) (types_named a ts)
     type_named a (RArrow t r) = then_whole (λ x. (_, of_arrow x.0.1 x.1.1)) (and_then (λ x. type_bound x.1) (type_named a t) (type_named a r))
     type_named a (RAll n t) = then_whole (λ x. (_, of_all n x.1)) (type_named (spelled text n ∷ a) t)
+    type_named a (RSome n t) = then_whole (λ x. (_, of_some n x.1)) (type_named (spelled text n ∷ a) t)
+    type_named a (RRef t) = then_whole (λ x. (_, of_ref x.1)) (type_named a t)
 
     types_named : (a : List Name) (ts : RawTys) → ((us : Tys) × TypesOf text a ts us) ⊎ Unbound (types_uses text a ts)
     types_named a NoRawTys = inl (_, of_no_types)
@@ -96,6 +98,16 @@ module _ (text : List ℕ) where
     term_named v a (RIf0 s c d e) =
         then_whole (λ y. (_, of_if0 s y.0.1 y.1.0.1 y.1.1.1))
         (and_then (λ y. term_bound y.1) (term_named v a c) (and_then (λ y. term_bound y.1) (term_named v a d) (term_named v a e)))
+    term_named v a (RLet s x d e) =
+        then_whole (λ y. (_, of_let s x y.0.1 y.1.1)) (and_then (λ y. term_bound y.1) (term_named v a d) (term_named (spelled text x ∷ v) a e))
+    term_named v a (RPack s t e r) =
+        then_whole (λ y. (_, of_pack s y.0.1 y.1.0.1 y.1.1.1))
+        (and_then (λ y. type_bound y.1) (type_named a t) (and_then (λ y. term_bound y.1) (term_named v a e) (type_named a r)))
+    term_named v a (ROpen s n x d e) =
+        then_whole (λ y. (_, of_open s n x y.0.1 y.1.1)) (and_then (λ y. term_bound y.1) (term_named v a d) (term_named (spelled text x ∷ v) (spelled text n ∷ a) e))
+    term_named v a (RCell s e) = then_whole (λ y. (_, of_cell s y.1)) (term_named v a e)
+    term_named v a (RDeref s e) = then_whole (λ y. (_, of_deref s y.1)) (term_named v a e)
+    term_named v a (RAssign s d e) = then_whole (λ y. (_, of_assign s y.0.1 y.1.1)) (and_then (λ y. term_bound y.1) (term_named v a d) (term_named v a e))
 
     terms_named : (v a : List Name) (es : RawTms) → ((ds : Tms) × TermsOf text v a es ds) ⊎ Unbound (all_uses text v a es)
     terms_named v a NoRawTms = inl (_, of_no_terms)
@@ -104,7 +116,7 @@ module _ (text : List ℕ) where
   abbrev Decided : Type 0
   Decided = ((tm : Tm) × SourceWithin text tm) ⊎ ((c : Code) × (s : Span) × FirstFault text c s)
 
-  named : (p : Piece) → HasShape text p → nodes p.tree ≤ 1000 → ((d : Tm) × TermOf text [] [] p.tree d) ⊎ Unbound (uses text [] [] p.tree) → Decided
+  named : (p : Piece) → HasShape text p → nodes p.tree ≤ 100000 → ((d : Tm) × TermOf text [] [] p.tree d) ⊎ Unbound (uses text [] [] p.tree) → Decided
   named p h l (inl (d, b)) = inl (
     d,
     record {
@@ -116,12 +128,12 @@ module _ (text : List ℕ) where
   )
   named p h l (inr f) = inr (unbound_code f.name.of_type, f.name.at, unbound p f.name h l f.first)
 
-  shaped : (p : Piece) → HasShape text p → (b : Bool) → nat_le (nodes p.tree) 1000 ≡ b → Decided
-  shaped p h true e = named p h (leb-true (nodes p.tree) 1000 e) (term_named [] [] p.tree)
-  shaped p h false e = inr (code.L3, place_of p.tree, too_large p h (leb-false (nodes p.tree) 1000 e))
+  shaped : (p : Piece) → HasShape text p → (b : Bool) → nat_le (nodes p.tree) 100000 ≡ b → Decided
+  shaped p h true e = named p h (leb-true (nodes p.tree) 100000 e) (term_named [] [] p.tree)
+  shaped p h false e = inr (code.L3, place_of p.tree, too_large p h (leb-false (nodes p.tree) 100000 e))
 
   judged : (w : List Token) → HasTokens text w → (v : Verdict table) → Says table 200 w v → Decided
-  judged w h (Fine vs) x = shaped x.value (record { tokens = w; has_tokens = h; is_shape = x.shape; few_open = x.within }) (nat_le (nodes x.value.tree) 1000) refl
+  judged w h (Fine vs) x = shaped x.value (record { tokens = w; has_tokens = h; is_shape = x.shape; few_open = x.within }) (nat_le (nodes x.value.tree) 100000) refl
   judged w h (Unexpected []) x = inr (code.E04, end_of text, cut_short h x)
   judged w h (Unexpected (t ∷ z)) (u, x) = inr (code.E03, t.span, unexpected u t z h x)
   judged w h (Passed []) x = absurd x
@@ -131,9 +143,9 @@ module _ (text : List ℕ) where
   tokenized l (inl (w, c)) = judged w (record { few_bytes = l; cut = c }) (bounded table 200 w (whole table w)) (source_exact 200 w)
   tokenized l (inr (c, s, f)) = inr (c, s, no_token l f)
 
-  measured : (b : Bool) → nat_le (length text) 1048576 ≡ b → Decided
-  measured true e = tokenized (leb-true (length text) 1048576 e) (lexer.cut_or_fault text)
-  measured false e = inr (code.L1, whole_of text, too_long (leb-false (length text) 1048576 e))
+  measured : (b : Bool) → nat_le (length text) 16777216 ≡ b → Decided
+  measured true e = tokenized (leb-true (length text) 16777216 e) (lexer.cut_or_fault text)
+  measured false e = inr (code.L1, whole_of text, too_long (leb-false (length text) 16777216 e))
 
 pub term_or_fault : TermOrFault
-term_or_fault text = measured text (nat_le (length text) 1048576) refl
+term_or_fault text = measured text (nat_le (length text) 16777216) refl

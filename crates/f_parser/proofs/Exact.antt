@@ -26,8 +26,8 @@ use Rattle.f_parser.proofs.Closed.{term_in_scope, same_nodes}
 
 -- what a fault after the reading of tokens says, by the tree
 data AfterShape (text : List ℕ) (t : RawTm) (c : Code) (s : Span) : Type 0 where
-  large : 1000 < nodes t → c ≡ code.L3 → s ≡ place_of t → AfterShape text t c s
-  name : (u : Use) → nodes t ≤ 1000 → IsFirstUnbound text (uses text [] [] t) u → c ≡ unbound_code u.of_type → s ≡ u.at → AfterShape text t c s
+  large : 100000 < nodes t → c ≡ code.L3 → s ≡ place_of t → AfterShape text t c s
+  name : (u : Use) → nodes t ≤ 100000 → IsFirstUnbound text (uses text [] [] t) u → c ≡ unbound_code u.of_type → s ≡ u.at → AfterShape text t c s
 
 -- what a fault after the cutting into tokens says, by the verdict on them
 data AfterCut (text : List ℕ) : Verdict table → Code → Span → Type 0 where
@@ -38,7 +38,7 @@ data AfterCut (text : List ℕ) : Verdict table → Code → Span → Type 0 whe
 
 -- how far the checks came
 data Stage (text : List ℕ) (c : Code) (s : Span) : Type 0 where
-  bytes : 1048576 < length text → c ≡ code.L1 → s ≡ whole_of text → Stage text c s
+  bytes : 16777216 < length text → c ≡ code.L1 → s ≡ whole_of text → Stage text c s
   token : FewBytes text → FirstTokenFault text c s → Stage text c s
   later : (w : List Token) (v : Verdict table) → HasTokens text w → Says table 200 w v → AfterCut text v c s → Stage text c s
 
@@ -91,14 +91,14 @@ pub one_fault : OneFault
 one_fault text c c' s s' f g = stages text c c' s s' (stage text c s f) (stage text c' s' g)
 
 -- what stands for a term within the limits
-few : (text : List ℕ) (a : Tm) (x : SourceWithin text a) → nodes x.source.shape.tree ≤ 1000
+few : (text : List ℕ) (a : Tm) (x : SourceWithin text a) → nodes x.source.shape.tree ≤ 100000
 few text a x = let e = same_nodes x.source.bound in let l = x.few_nodes in omega (arith, e, l)
 
-none_after_shape : (text : List ℕ) (t : RawTm) (a : Tm) (c : Code) (s : Span) → TermOf text [] [] t a → nodes t ≤ 1000 → ¬ AfterShape text t c s
+none_after_shape : (text : List ℕ) (t : RawTm) (a : Tm) (c : Code) (s : Span) → TermOf text [] [] t a → nodes t ≤ 100000 → ¬ AfterShape text t c s
 none_after_shape text t a c s b l (large k e p) = omega arith
 none_after_shape text t a c s b l (name u k h e p) = names.not_first text (uses text [] [] t) u (names.term_bound b) h
 
-none_after_cut : (text : List ℕ) (p : Piece) (v : Verdict table) (a : Tm) (c : Code) (s : Span) → TermOf text [] [] p.tree a → nodes p.tree ≤ 1000 → v ≡ Fine (OfTerm p ∷ []) → ¬ AfterCut text v c s
+none_after_cut : (text : List ℕ) (p : Piece) (v : Verdict table) (a : Tm) (c : Code) (s : Span) → TermOf text [] [] p.tree a → nodes p.tree ≤ 100000 → v ≡ Fine (OfTerm p ∷ []) → ¬ AfterCut text v c s
 none_after_cut text p _ a c s b l e (at_token t z f q) = cc
 none_after_cut text p _ a c s b l e (at_end f q) = cc
 none_after_cut text p _ a c s b l e (at_opener t z f q) = cc
@@ -186,5 +186,5 @@ pub token_fault : (text : List ℕ) (f : FFault) → FewBytes text → IsTokenFa
 token_fault text Memory h x = tt
 token_fault text (Refused c s) h x = no_token h x
 
-pub long_fault : (text : List ℕ) (f : FFault) (s : Span) → f ≡ Refused code.L1 s → s ≡ whole_of text → 1048576 < length text → IsFault text f
+pub long_fault : (text : List ℕ) (f : FFault) (s : Span) → f ≡ Refused code.L1 s → s ≡ whole_of text → 16777216 < length text → IsFault text f
 long_fault text f s p q l = rw (p, q) (too_long l)

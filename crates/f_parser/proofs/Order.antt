@@ -6,9 +6,9 @@ use Rattle.idx_core.specs.Names.{Name}
 use Rattle.text_core.specs.Tokens.{Cut, c_end, c_gap, c_token}
 use Rattle.f_lexer.specs.declared.token.Token.{Token}
 use Rattle.f_lexer.specs.Source.{source, IsCut}
-use Rattle.f_grammar.specs.Raw.{RawTy, RawTm, RawTys, RawTms, Piece, raw_tys, raw_tms}
+use Rattle.f_grammar.specs.Raw.{RawTy, TyPiece, RawTm, RawTys, RawTms, Piece, raw_tys, raw_tms}
 use Rattle.f_lexer.specs.declared.kind.Kind.TheVariants as k
-use Rattle.f_grammar.specs.Grammar.{tok, T, U, Ts, t_all, t_arrow, t_part, u_int, u_name, u_unit, u_tuple, u_paren, ts_one, ts_more, E, S, M, A, P, Es, e_fix, e_gen, e_sum, s_plus, s_minus, s_product, m_star, m_call, a_call, a_inst, a_part, p_name, p_plain, p_negative, p_paren, p_unit, p_tuple, p_proj, p_if0, es_one, es_more}
+use Rattle.f_grammar.specs.Grammar.{tok, T, U, Ts, t_all, t_some, t_arrow, t_part, u_int, u_name, u_unit, u_tuple, u_paren, u_ref, ts_one, ts_more, E, S, M, A, P, Es, e_fix, e_gen, e_let, e_pack, e_open, e_assign, e_sum, s_plus, s_minus, s_product, m_star, m_call, a_call, a_inst, a_part, p_name, p_plain, p_negative, p_paren, p_unit, p_tuple, p_proj, p_if0, p_ref, p_deref, es_one, es_more}
 use Rattle.f_parser.specs.Scope.{spelled, Use, type_uses, types_uses, uses, all_uses, Ascends}
 use Rattle.f_parser.specs.Text.{UsesInTextOrder}
 use Rattle.f_parser.proofs.Resolving.{types_uses_append}
@@ -33,23 +33,25 @@ more {us} {w} z x = subst (λ (xs : List Use). Sub xs (w ++ z)) (append-nil us) 
 
 module _ (text : List ℕ) where
   mutual
-    of_T : {w : List Token} {t : RawTy} → T w t → (a : List Name) → Sub (type_uses text a t) w
+    of_T : {w : List Token} {t : TyPiece} → T w t → (a : List Name) → Sub (type_uses text a t.ty) w
     of_T (t_all b n d x) a = s_skip _ (s_skip _ (s_skip _ (of_T x (spelled text n ∷ a))))
+    of_T (t_some b n d x) a = s_skip _ (s_skip _ (s_skip _ (of_T x (spelled text n ∷ a))))
     of_T (t_arrow s x y) a = join (of_U x a) (s_skip _ (of_T y a))
     of_T (t_part x) a = of_U x a
 
-    of_U : {w : List Token} {t : RawTy} → U w t → (a : List Name) → Sub (type_uses text a t) w
+    of_U : {w : List Token} {t : TyPiece} → U w t → (a : List Name) → Sub (type_uses text a t.ty) w
     of_U (u_int s) a = s_skip _ s_end
     of_U (u_name s) a = s_take _ _ refl s_end
     of_U (u_unit o c) a = s_skip _ (s_skip _ s_end)
     of_U (u_tuple o c x) a = s_skip _ (more _ (of_Ts x a))
     of_U (u_paren o c x) a = s_skip _ (more _ (of_T x a))
+    of_U (u_ref r x) a = s_skip _ (of_U x a)
 
     of_Ts : {w : List Token} {ts : List RawTy} → Ts w ts → (a : List Name) → Sub (types_uses text a (raw_tys ts)) w
-    of_Ts (ts_one {w} {t} x) a = subst (λ (us : List Use). Sub us w) (sym (append-nil (type_uses text a t))) (of_T x a)
+    of_Ts (ts_one {w} {t} x) a = subst (λ (us : List Use). Sub us w) (sym (append-nil (type_uses text a t.ty))) (of_T x a)
     of_Ts (ts_more {u} {v} {ts} {t} c x y) a =
-        let z = subst (λ (us : List Use). Sub us v) (sym (append-nil (type_uses text a t))) (of_T y a) in
-        subst (λ (us : List Use). Sub us (u ++ tok k.Comma c ∷ v)) (sym (types_uses_append text a ts (t ∷ []))) (join (of_Ts x a) (s_skip (tok k.Comma c) z))
+        let z = subst (λ (us : List Use). Sub us v) (sym (append-nil (type_uses text a t.ty))) (of_T y a) in
+        subst (λ (us : List Use). Sub us (u ++ tok k.Comma c ∷ v)) (sym (types_uses_append text a ts (t.ty ∷ []))) (join (of_Ts x a) (s_skip (tok k.Comma c) z))
 
   all_uses_append : (v a : List Name) (us vs : List RawTm) → all_uses text v a (raw_tms (us ++ vs)) ≡ all_uses text v a (raw_tms us) ++ all_uses text v a (raw_tms vs)
   all_uses_append v a [] vs = refl
@@ -60,6 +62,11 @@ module _ (text : List ℕ) where
     of_E (e_fix f n o x c p d s y z e) v a =
         s_skip _ (s_skip _ (s_skip _ (s_skip _ (s_skip _ (join (of_T y a) (s_skip _ (s_skip _ (join (of_T z a) (s_skip _ (of_E e (spelled text x ∷ (spelled text n ∷ v)) a))))))))))
     of_E (e_gen g n d e) v a = s_skip _ (s_skip _ (s_skip _ (of_E e v (spelled text n ∷ a))))
+    of_E (e_let l n q i x y) v a = s_skip _ (s_skip _ (s_skip _ (join (of_E x v a) (s_skip _ (of_E y (spelled text n ∷ v) a)))))
+    of_E (e_pack p o c q z x y d) v a = s_skip _ (s_skip _ (join (of_T x a) (s_skip _ (join (of_E y v a) (s_skip _ (s_skip _ (of_T d a)))))))
+    of_E (e_open p o n c x r q i y z) v a =
+        s_skip _ (s_skip _ (s_skip _ (s_skip _ (s_skip _ (s_skip _ (s_skip _ (join (of_E y v a) (s_skip _ (of_E z (spelled text x ∷ v) (spelled text n ∷ a))))))))))
+    of_E (e_assign s x y) v a = join (of_S x v a) (s_skip _ (of_S y v a))
     of_E (e_sum x) v a = of_S x v a
 
     of_S : {w : List Token} {p : Piece} → S w p → (v a : List Name) → Sub (uses text v a p.tree) w
@@ -85,6 +92,8 @@ module _ (text : List ℕ) where
     of_P (p_tuple o c x) v a = s_skip _ (more _ (of_Es x v a))
     of_P (p_proj h z s x) v a = s_skip _ (s_skip _ (of_P x v a))
     of_P (p_if0 i o p q l x y z) v a = s_skip _ (s_skip _ (join (of_E x v a) (s_skip _ (join (of_E y v a) (s_skip _ (more _ (of_E z v a)))))))
+    of_P (p_ref r x) v a = s_skip _ (of_P x v a)
+    of_P (p_deref r x) v a = s_skip _ (of_P x v a)
 
     of_Es : {w : List Token} {ts : List RawTm} → Es w ts → (v a : List Name) → Sub (all_uses text v a (raw_tms ts)) w
     of_Es (es_one {w} {e} x) v a = subst (λ (us : List Use). Sub us w) (sym (append-nil (uses text v a e.tree))) (of_E x v a)

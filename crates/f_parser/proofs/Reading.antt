@@ -61,7 +61,7 @@ module _ (text : List ℕ) (w : List Token) (h : HasTokens text w) (f : FoundTer
 
   -- what is kept of the tree, and what comes of that
   pub whole_kept : slice_get w f.next ≡ None → (result : Result RawTerm FFault) →
-      ((t : RawTm) → Keeps f.kept t → MatchResult result (λ e. (tree_of e ≡ t) × (nodes t ≤ 1000)) (λ x. (x ≡ Refused code.L3 (place_of t)) × (1000 < nodes t))) →
+      ((t : RawTm) → Keeps f.kept t → MatchResult result (λ e. (tree_of e ≡ t) × (nodes t ≤ 100000)) (λ x. (x ≡ Refused code.L3 (place_of t)) × (100000 < nodes t))) →
       MatchResult result (λ t. HasTree text (tree_of t)) (λ x. IsFault text x)
   whole_kept e (Ok t) k =
       let x = k r.piece.tree r.keeps in
@@ -83,7 +83,7 @@ module _ (text : List ℕ) (t : RawTm) (h : HasTree text t) where
     };
     few_bytes = h.has_shape.has_tokens.few_bytes;
     few_open = h.has_shape.few_open;
-    few_nodes = subst (λ (n : ℕ). n ≤ 1000) (sym (same_nodes b ∙ ap nodes h.is)) h.few_nodes;
+    few_nodes = subst (λ (n : ℕ). n ≤ 100000) (sym (same_nodes b ∙ ap nodes h.is)) h.few_nodes;
   }
 
   is_unbound : (u : Use) → IsFirstUnbound text (uses text [] [] t) u → FirstFault text (unbound_code u.of_type) u.at

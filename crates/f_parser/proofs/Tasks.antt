@@ -6,20 +6,20 @@ use Rattle.std.proofs.Math.Seq.{take-append_seam, drop-append_seam}
 use Rattle.idx_core.specs.declared.span.Span.{Span}
 use Rattle.idx_core.specs.declared.arith.Op.{Op}
 use Rattle.idx_core.specs.Names.{Name}
-use Rattle.f_terms.specs.Tm.{Tm, Spn, SFix, SApp, SGen, SInst, STuple, SProj, SArith, SIf0, tms}
+use Rattle.f_terms.specs.Tm.{Tm, Spn, SFix, SApp, SGen, SInst, STuple, SProj, SArith, SIf0, SLet, SPack, SOpen, SRef, SDeref, SAssign, tms}
 use Rattle.f_terms.specs.Read.{tree, place}
 use Rattle.f_terms.specs.Stacked.{arity, step_tree, stacked}
 use Rattle.f_terms.specs.declared.types.FType.{FType}
 use Rattle.f_terms.specs.declared.stack.FStep.{FStep}
 use Rattle.f_terms.specs.declared.stack.FStep.TheVariants as form
-use Rattle.f_grammar.specs.Raw.{RawTy, RawTm, RVar, RNum, RFix, RGen, RApp, RInst, RFields, RProj, RArith, RIf0, RawTms, NoRawTms, MoreRawTms, nodes, nodes_all}
-use Rattle.f_parser.specs.Scope.{spelled, TypeOf, TermOf, of_fix, of_gen, of_app, of_inst, of_fields, of_proj, of_arith, of_if0, TermsOf, of_no_terms, of_more_terms, Use, type_uses, uses, all_uses}
+use Rattle.f_grammar.specs.Raw.{RawTy, RawTm, RVar, RNum, RFix, RGen, RApp, RInst, RFields, RProj, RArith, RIf0, RLet, RPack, ROpen, RCell, RDeref, RAssign, RawTms, NoRawTms, MoreRawTms, nodes, nodes_all}
+use Rattle.f_parser.specs.Scope.{spelled, TypeOf, TermOf, of_fix, of_gen, of_app, of_inst, of_fields, of_proj, of_arith, of_if0, of_let, of_pack, of_open, of_cell, of_deref, of_assign, TermsOf, of_no_terms, of_more_terms, Use, type_uses, uses, all_uses}
 use Rattle.f_parser.specs.Resolve.{StopsAt}
-use Rattle.f_parser.specs.Binding.{Todo, Bind, BindAll, UseAt, Put, todo, todos_before, todos, Stand, stand, outer_values, outer_types, values_left, types_left, uses_left, count, Enough, field_steps, Follows, Steps}
+use Rattle.f_parser.specs.Binding.{Todo, Bind, BindAll, NameIt, NameBoth, UseAt, PackAt, Put, todo, todos_before, todos, Stand, stand, outer_values, outer_types, values_left, types_left, uses_left, count, Enough, field_steps, Follows, Steps}
 use Rattle.f_parser.specs.declared.resolve.Unresolved.{Unresolved}
 use Rattle.f_parser.specs.declared.resolve.Unresolved.TheVariants.{Memory}
 use Rattle.f_parser.specs.declared.task.Leaves.{Leaves}
-use Rattle.f_parser.specs.declared.task.Leaves.TheVariants.{Nothing, Function, Abstraction}
+use Rattle.f_parser.specs.declared.task.Leaves.TheVariants.{Nothing, Function, Abstraction, Binding, Opening}
 use Rattle.f_parser.specs.declared.task.Task.{Task}
 use Rattle.f_grammar.specs.Raw.{raw_tms}
 use Rattle.f_parser.proofs.Bound.{type_bound, term_bound}
@@ -79,6 +79,12 @@ some_nodes (RFields s es) = omega arith
 some_nodes (RProj s n e) = omega arith
 some_nodes (RArith s op a b) = omega arith
 some_nodes (RIf0 s a b c) = omega arith
+some_nodes (RLet s x a b) = omega arith
+some_nodes (RPack s t e r) = omega arith
+some_nodes (ROpen s n x a b) = omega arith
+some_nodes (RCell s e) = omega arith
+some_nodes (RDeref s e) = omega arith
+some_nodes (RAssign s a b) = omega arith
 
 field_steps_are : (es : RawTms) → field_steps es ≡ 1 + 4 * nodes_all es
 field_steps_are NoRawTms = omega arith
@@ -141,9 +147,27 @@ module _ (text : List ℕ) (tds : List Todo) (v a : List Name) (ts : List Tm) wh
     omega arith,
   )
 
+  -- the last term is packed
+  pub packed_at : (s : Span) (h : FType) (t : RawTy) (ty : FType) → TypeOf text a t (tree ty) → (us : List Tm) → us ≡ stacked (place s) (form.Pack h ty) ts → Steps text (stand (PackAt s h t ∷ tds) v a ts) (stand tds v a us)
+  packed_at s h t ty of us eu = (
+    record {
+      comes = λ ws g. (us, (ty, of, eu), g);
+      stops = λ x g. stops_right text (type_uses text a t) (uses_left text tds v a) x (type_bound of) g;
+      enough = λ g. let few = g.0 in fewer (length ts) (length us) (omega (arith, few, ap length eu, stacked_length (place s) (form.Pack h ty) ts)) g.1;
+    },
+    omega arith,
+  )
+
+  -- names come into scope
+  pub named : (n : Span) → Steps text (stand (NameIt n ∷ tds) v a ts) (stand tds (spelled text n ∷ v) a ts)
+  named n = (record { comes = λ ws h. (ts, refl, h); stops = λ x h. h; enough = λ h. h }, omega arith)
+
+  pub named_both : (t n : Span) → Steps text (stand (NameBoth t n ∷ tds) v a ts) (stand tds (spelled text n ∷ v) (spelled text t ∷ a) ts)
+  named_both t n = (record { comes = λ ws h. (ts, refl, h); stops = λ x h. h; enough = λ h. h }, omega arith)
+
   -- a form is put, and its names are left
   pub put : (s : Span) (step : FStep) (names : Leaves) (us : List Tm) → us ≡ stacked (place s) step ts →
-      Steps text (stand (Put s step names ∷ tds) v a ts) (stand tds (values_left (Put s step names) v) (types_left (Put s step names) a) us)
+      Steps text (stand (Put s step names ∷ tds) v a ts) (stand tds (values_left text (Put s step names) v) (types_left text (Put s step names) a) us)
   put s step names us eu = (
     record {
       comes = λ ws h. (us, eu, h);
@@ -199,6 +223,70 @@ module _ (text : List ℕ) (tds : List Todo) (v a : List Name) (ts : List Tm) wh
     omega (arith, some_nodes e),
   )
 
+  pub ref : (s : Span) (e : RawTm) → Steps text (stand (Bind (RCell s e) ∷ tds) v a ts) (stand (Bind e ∷ Put s form.Ref Nothing ∷ tds) v a ts)
+  ref s e = (
+    record {
+      comes = λ ws h. (h.2.0, (SRef (place s) h.1.0, of_cell s h.1.1, h.2.1 ∙ ap (stacked (place s) form.Ref) h.1.2 ∙ stacked_last (place s) form.Ref ts (h.1.0 ∷ []) refl), h.2.2);
+      stops = λ y h. h;
+      enough = λ h. (omega arith, fewer (length ts + 1) (length ts + 1 - 1 + 1) (omega arith) h);
+    },
+    omega (arith, some_nodes e),
+  )
+
+  pub deref : (s : Span) (e : RawTm) → Steps text (stand (Bind (RDeref s e) ∷ tds) v a ts) (stand (Bind e ∷ Put s form.Deref Nothing ∷ tds) v a ts)
+  deref s e = (
+    record {
+      comes = λ ws h. (h.2.0, (SDeref (place s) h.1.0, of_deref s h.1.1, h.2.1 ∙ ap (stacked (place s) form.Deref) h.1.2 ∙ stacked_last (place s) form.Deref ts (h.1.0 ∷ []) refl), h.2.2);
+      stops = λ y h. h;
+      enough = λ h. (omega arith, fewer (length ts + 1) (length ts + 1 - 1 + 1) (omega arith) h);
+    },
+    omega (arith, some_nodes e),
+  )
+
+  pub pack : (s : Span) (t : RawTy) (e : RawTm) (r : RawTy) (hidden : FType) → TypeOf text a t (tree hidden) → Steps text (stand (Bind (RPack s t e r) ∷ tds) v a ts) (stand (Bind e ∷ PackAt s hidden r ∷ tds) v a ts)
+  pack s t e r hidden p = (
+    record {
+      comes = λ ws h. (h.2.0, (SPack (place s) (tree hidden) h.1.0 (tree h.2.1.0), of_pack s p h.1.1 h.2.1.1, h.2.1.2 ∙ ap (stacked (place s) (form.Pack hidden h.2.1.0)) h.1.2 ∙ stacked_last (place s) (form.Pack hidden h.2.1.0) ts (h.1.0 ∷ []) refl), h.2.2);
+      stops = λ y h.
+          let part = uses text v a e in
+          let shape = type_uses text a r in
+          let over = uses_left text tds v a in
+          among _ _ y (sym (append_assoc (type_uses text a t) (part ++ shape) over ∙ ap (λ us. type_uses text a t ++ us) (append_assoc part shape over)))
+          (stops_right text (type_uses text a t) (part ++ (shape ++ over)) y (type_bound p) h);
+      enough = λ h. (omega arith, h);
+    },
+    omega (arith, some_nodes e),
+  )
+
+  -- a name is bound in the second part
+  pub let_form : (s x : Span) (d e : RawTm) → Steps text (stand (Bind (RLet s x d e) ∷ tds) v a ts) (stand (Bind d ∷ NameIt x ∷ Bind e ∷ Put s form.Let Binding ∷ tds) v a ts)
+  let_form s x d e = (
+    record {
+      comes = λ ws h.
+          let p = h.1.0 in
+          let q = h.2.2.1.0 in
+          let made = h.2.2.1.2 ∙ ap (λ (xs : List Tm). xs ++ q ∷ []) (h.2.1 ∙ h.1.2) ∙ two ts p q in
+          (h.2.2.2.0, (SLet (place s) p q, of_let s x h.1.1 h.2.2.1.1, h.2.2.2.1 ∙ ap (stacked (place s) form.Let) made ∙ stacked_last (place s) form.Let ts (p ∷ q ∷ []) refl), h.2.2.2.2);
+      stops = λ z h. among _ _ z (sym (append_assoc (uses text v a d) (uses text (spelled text x ∷ v) a e) (uses_left text tds v a))) h;
+      enough = λ h. (omega arith, fewer (length ts + 1) (length ts + 1 + 1 - 2 + 1) (omega arith) h);
+    },
+    omega (arith, some_nodes d, some_nodes e),
+  )
+
+  pub open_form : (s n x : Span) (d e : RawTm) → Steps text (stand (Bind (ROpen s n x d e) ∷ tds) v a ts) (stand (Bind d ∷ NameBoth n x ∷ Bind e ∷ Put s form.Open Opening ∷ tds) v a ts)
+  open_form s n x d e = (
+    record {
+      comes = λ ws h.
+          let p = h.1.0 in
+          let q = h.2.2.1.0 in
+          let made = h.2.2.1.2 ∙ ap (λ (xs : List Tm). xs ++ q ∷ []) (h.2.1 ∙ h.1.2) ∙ two ts p q in
+          (h.2.2.2.0, (SOpen (place s) p q, of_open s n x h.1.1 h.2.2.1.1, h.2.2.2.1 ∙ ap (stacked (place s) form.Open) made ∙ stacked_last (place s) form.Open ts (p ∷ q ∷ []) refl), h.2.2.2.2);
+      stops = λ z h. among _ _ z (sym (append_assoc (uses text v a d) (uses text (spelled text x ∷ v) (spelled text n ∷ a) e) (uses_left text tds v a))) h;
+      enough = λ h. (omega arith, fewer (length ts + 1) (length ts + 1 + 1 - 2 + 1) (omega arith) h);
+    },
+    omega (arith, some_nodes d, some_nodes e),
+  )
+
   pub fields : (s : Span) (es : RawTms) (n : ℕ) → n ≡ count es → Steps text (stand (Bind (RFields s es) ∷ tds) v a ts) (stand (BindAll es ∷ Put s (form.Tuple n) Nothing ∷ tds) v a ts)
   fields s es n en = (
     record {
@@ -229,6 +317,9 @@ module _ (text : List ℕ) (tds : List Todo) (v a : List Name) (ts : List Tm) wh
 
   pub app : (s : Span) (d e : RawTm) → Steps text (stand (Bind (RApp s d e) ∷ tds) v a ts) (stand (Bind d ∷ Bind e ∷ Put s form.App Nothing ∷ tds) v a ts)
   app s d e = pair s form.App (RApp s d e) d e (SApp (place s)) refl (λ x y p q. of_app s p q) (λ x y. refl) refl refl
+
+  pub assign : (s : Span) (d e : RawTm) → Steps text (stand (Bind (RAssign s d e) ∷ tds) v a ts) (stand (Bind d ∷ Bind e ∷ Put s form.Assign Nothing ∷ tds) v a ts)
+  assign s d e = pair s form.Assign (RAssign s d e) d e (SAssign (place s)) refl (λ x y p q. of_assign s p q) (λ x y. refl) refl refl
 
   pub arith_form : (s : Span) (op : Op) (d e : RawTm) → Steps text (stand (Bind (RArith s op d e) ∷ tds) v a ts) (stand (Bind d ∷ Bind e ∷ Put s (form.Arith op) Nothing ∷ tds) v a ts)
   arith_form s op d e = pair s (form.Arith op) (RArith s op d e) d e (SArith (place s) op) refl (λ x y p q. of_arith s op p q) (λ x y. refl) refl refl
@@ -321,6 +412,18 @@ pub used_in : (text : List ℕ) (tds : List Todo) (v a w b : List Name) (ts : Li
     Steps text (stand (UseAt s t ∷ tds) v a ts) (stand tds w b us)
 used_in text tds v a w b ts s t ty of us eu ew eb =
     subst (λ x. Steps text (stand (UseAt s t ∷ tds) v a ts) (stand tds x b us)) (sym ew) (subst (λ x. Steps text (stand (UseAt s t ∷ tds) v a ts) (stand tds v x us)) (sym eb) (used_at text tds v a ts s t ty of us eu))
+
+pub packed_in : (text : List ℕ) (tds : List Todo) (v a w b : List Name) (ts : List Tm) (s : Span) (h : FType) (t : RawTy) (ty : FType) → TypeOf text a t (tree ty) → (us : List Tm) → us ≡ stacked (place s) (form.Pack h ty) ts → w ≡ v → b ≡ a →
+    Steps text (stand (PackAt s h t ∷ tds) v a ts) (stand tds w b us)
+packed_in text tds v a w b ts s h t ty of us eu ew eb =
+    subst (λ x. Steps text (stand (PackAt s h t ∷ tds) v a ts) (stand tds x b us)) (sym ew) (subst (λ x. Steps text (stand (PackAt s h t ∷ tds) v a ts) (stand tds v x us)) (sym eb) (packed_at text tds v a ts s h t ty of us eu))
+
+pub named_in : (text : List ℕ) (tds : List Todo) (v a w : List Name) (ts : List Tm) (n : Span) → w ≡ spelled text n ∷ v → Steps text (stand (NameIt n ∷ tds) v a ts) (stand tds w a ts)
+named_in text tds v a w ts n e = subst (λ x. Steps text (stand (NameIt n ∷ tds) v a ts) (stand tds x a ts)) (sym e) (named text tds v a ts n)
+
+pub named_both_in : (text : List ℕ) (tds : List Todo) (v a w b : List Name) (ts : List Tm) (t n : Span) → w ≡ spelled text n ∷ v → b ≡ spelled text t ∷ a → Steps text (stand (NameBoth t n ∷ tds) v a ts) (stand tds w b ts)
+named_both_in text tds v a w b ts t n e f =
+    subst (λ x. Steps text (stand (NameBoth t n ∷ tds) v a ts) (stand tds x b ts)) (sym e) (subst (λ x. Steps text (stand (NameBoth t n ∷ tds) v a ts) (stand tds (spelled text n ∷ v) x ts)) (sym f) (named_both text tds v a ts t n))
 
 pub put_in : (text : List ℕ) (tds : List Todo) (v a w b : List Name) (ts : List Tm) (s : Span) (step : FStep) (names : Leaves) (us : List Tm) → us ≡ stacked (place s) step ts → w ≡ outer_values names v → b ≡ outer_types names a →
     Steps text (stand (Put s step names ∷ tds) v a ts) (stand tds w b us)

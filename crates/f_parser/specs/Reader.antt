@@ -7,5 +7,5 @@ use Rattle.f_parser.specs.Text.{HasShape}
 pub record HasTree (text : List ℕ) (tree : RawTm) : Type 0 where
   pub shape : Piece
   pub has_shape : HasShape text shape
-  pub few_nodes : nodes shape.tree ≤ 1000
+  pub few_nodes : nodes shape.tree ≤ 100000
   pub is : tree ≡ shape.tree

@@ -31,7 +31,7 @@ pub record Source (text : List ℕ) (tm : Tm) : Type 0 where
 
 -- L1: at most so many bytes
 abbrev pub FewBytes : List ℕ → Type 0
-FewBytes text = length text ≤ 1048576
+FewBytes text = length text ≤ 16777216
 
 -- L2: at each token so many constructs are open at most
 abbrev pub FewOpen : List Token → Type 0
@@ -66,7 +66,7 @@ pub record HasShape (text : List ℕ) (shape : Piece) : Type 0 where
 -- the first fault of a text, in the order of the checks
 pub data FirstFault (text : List ℕ) : Code → Span → Type 0 where
   -- L1: too many bytes
-  too_long : 1048576 < length text → FirstFault text code.L1 (whole_of text)
+  too_long : 16777216 < length text → FirstFault text code.L1 (whole_of text)
   -- E01 and E02, whichever comes first: a byte that begins no token, a number out of range
   no_token : {c : Code} {s : Span} → FewBytes text → FirstTokenFault text c s → FirstFault text c s
   -- E03, E04 and L2, whichever comes first. E03: what stands before t begins a shape, but no shape goes on with t
@@ -79,9 +79,9 @@ pub data FirstFault (text : List ℕ) : Code → Span → Type 0 where
   too_deep : {w : List Token} (u : List Token) (t : Token) (z : List Token) → HasTokens text w →
       IsPassed source_grammar 200 w u t z → FirstFault text code.L2 t.span
   -- L3: too many nodes
-  too_large : (p : Piece) → HasShape text p → 1000 < nodes p.tree → FirstFault text code.L3 (place_of p.tree)
+  too_large : (p : Piece) → HasShape text p → 100000 < nodes p.tree → FirstFault text code.L3 (place_of p.tree)
   -- E05 and E06, whichever comes first: a value name, a type name that has no binder around it
-  unbound : (p : Piece) (u : Use) → HasShape text p → nodes p.tree ≤ 1000 →
+  unbound : (p : Piece) (u : Use) → HasShape text p → nodes p.tree ≤ 100000 →
       IsFirstUnbound text (uses text [] [] p.tree) u → FirstFault text (unbound_code u.of_type) u.at
 
 abbrev pub IsFault : List ℕ → FFault → Type 0

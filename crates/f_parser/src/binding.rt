@@ -7,7 +7,7 @@ ghost use Rattle.f_terms.specs.ReadTerm.{spanned};
 ghost use Rattle.f_terms.specs.Stacked.{arity, stacked, trees_of};
 ghost use Rattle.f_grammar.specs.Term.{tree_of};
 ghost use Rattle.f_parser.specs.Parts.{part_tree, part_trees};
-ghost use Rattle.f_parser.specs.Scope.{TermOf, IsBinder, uses};
+ghost use Rattle.f_parser.specs.Scope.{TermOf, IsBinder, IsLetOrOpen, IsPack, uses};
 ghost use Rattle.f_parser.specs.Resolve.{StopsAt};
 ghost use Rattle.f_parser.specs.Binding.{Bind, BindAll, Put, HasParts, todo, todos};
 ghost use Rattle.f_parser.specs.Binding.{outer_values, outer_types, uses_of, Enough, stand, Steps};
@@ -87,7 +87,35 @@ fn put(alloc: Global, stack: &mut FStack, step: FStep, span: Span) -> Result<(),
     Ok(stack.put(alloc, step, span)?)
 }
 
-// The parts of a form that binds no names are to be bound.
+// The parts of a `let` or of an `open` are to be bound; the names that it binds come into scope between them.
+fn open_names<'a>(tasks: &mut Vec<Task<'a>>, term: Part<'a>) -> Result<(), Unresolved>
+    requires { IsLetOrOpen (part_tree term) }
+    ensures { MatchResult result
+        (λ u. (text : List ℕ) (v a : List Name) (ts : List Tm) → Steps text
+        (stand (Bind (part_tree term.entry) ∷ todos tasks.old.items) v a ts)
+        (stand (todos tasks.new.items) v a ts))
+        (λ e. e ≡ stopped.Memory) }
+{
+    let node = node(term);
+    let span = node.span;
+    match &node.shape {
+        RawShape::Let(name, a, b) => {
+            push_one(tasks, span, FStep::Let, Leaves::Binding, child(term, *b))?;
+            push(tasks, Task::Name(*name))?;
+            push(tasks, Task::Term(child(term, *a)))
+        }
+        RawShape::Open(ty, name, a, b) => {
+            let ty = *ty;
+            let name = *name;
+            push_one(tasks, span, FStep::Open, Leaves::Opening, child(term, *b))?;
+            push(tasks, Task::Names { ty, name })?;
+            push(tasks, Task::Term(child(term, *a)))
+        }
+        _ => unreachable!(),
+    }
+}
+
+// The parts of a form that binds no names, and has no type before them, are to be bound.
 fn open_parts<'a>(tasks: &mut Vec<Task<'a>>, term: Part<'a>) -> Result<(), Unresolved>
     requires { HasParts (part_tree term) }
     ensures { MatchResult result
@@ -123,6 +151,52 @@ fn open_parts<'a>(tasks: &mut Vec<Task<'a>>, term: Part<'a>) -> Result<(), Unres
         RawShape::If0(a, b, c) => {
             push_two(tasks, span, FStep::If0, child(term, *b), child(term, *c))?;
             push(tasks, Task::Term(child(term, *a)))
+        }
+        RawShape::Ref(a) => push_one(tasks, span, FStep::Ref, Leaves::Nothing, child(term, *a)),
+        RawShape::Deref(a) => {
+            push_one(tasks, span, FStep::Deref, Leaves::Nothing, child(term, *a))
+        }
+        RawShape::Assign(a, b) => {
+            push_two(tasks, span, FStep::Assign, child(term, *a), child(term, *b))
+        }
+        _ => unreachable!(),
+    }
+}
+
+// The hidden type of a pack is resolved, and its part is to be bound.
+fn open_pack<'a>(
+    alloc: Global,
+    text: &[u8],
+    tasks: &mut Vec<Task<'a>>,
+    term: Part<'a>,
+    values: &mut Names,
+    types: &mut Names,
+) -> Result<(), Unresolved>
+    requires { IsPack (part_tree term) }
+    ensures { MatchResult result
+        (λ u. (ts : List Tm) → Steps text.now
+        (stand (Bind (part_tree term.entry) ∷ todos tasks.old.items) values.old types.old ts)
+        (stand (todos tasks.new.items) values.new types.new ts))
+        (λ e. StopsAt text.now (uses text.now values.old types.old (part_tree term.entry)) e) }
+{
+    let node = node(term);
+    let span = node.span;
+    match &node.shape {
+        RawShape::Pack {
+            hidden,
+            inner,
+            shape,
+        } => {
+            let hidden = type_in_scope(alloc, text, hidden, types)?;
+            push(
+                tasks,
+                Task::Pack {
+                    span,
+                    hidden,
+                    shape,
+                },
+            )?;
+            push(tasks, Task::Term(child(term, *inner)))
         }
         _ => unreachable!(),
     }
@@ -202,6 +276,8 @@ fn begin<'a>(
         RawShape::Fix { .. } | RawShape::Gen(..) => {
             open_binder(alloc, text, tasks, term, values, types)
         }
+        RawShape::Pack { .. } => open_pack(alloc, text, tasks, term, values, types),
+        RawShape::Let(..) | RawShape::Open(..) => open_names(tasks, term),
         _ => open_parts(tasks, term),
     }
 }
@@ -235,6 +311,11 @@ fn leave(names: Leaves, values: &mut Names, types: &mut Names)
             values.pop();
         }
         Leaves::Abstraction => types.pop(),
+        Leaves::Binding => values.pop(),
+        Leaves::Opening => {
+            values.pop();
+            types.pop();
+        }
     }
 }
 
@@ -261,6 +342,19 @@ fn do_task<'a>(
         Task::Inst { span, ty } => {
             let ty = type_in_scope(alloc, text, ty, types)?;
             put(alloc, stack, FStep::Inst(ty), span)
+        }
+        Task::Name(name) => Ok(values.push(spelling(text, name))?),
+        Task::Names { ty, name } => {
+            types.push(spelling(text, ty))?;
+            Ok(values.push(spelling(text, name))?)
+        }
+        Task::Pack {
+            span,
+            hidden,
+            shape,
+        } => {
+            let shape = type_in_scope(alloc, text, shape, types)?;
+            put(alloc, stack, FStep::Pack { hidden, shape }, span)
         }
         Task::Form { span, step, names } => {
             leave(names, values, types);

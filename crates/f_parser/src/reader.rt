@@ -25,7 +25,7 @@ use idx_core::Span;
 use std::alloc::Global;
 
 /// How many bytes a text may have.
-pub const BYTES: usize = 1_048_576;
+pub const BYTES: usize = 16_777_216;
 
 fn refused(code: Code, span: Span) -> FFault
     ensures { result ≡ fault.Refused code span }
@@ -70,8 +70,8 @@ fn stopped_fault(text: &[u8], tokens: &[Token], stopped: Stopped) -> FFault
 
 // the tree, or the fault where it has too many nodes
 fn kept_tree(kept: Kept) -> Result<RawTerm, FFault>
-    ensures { (t : RawTm) → Keeps kept t → MatchResult result (λ e. (tree_of e ≡ t) × (nodes t ≤ 1000))
-        (λ f. (f ≡ fault.Refused L3 (place_of t)) × (1000 < nodes t)) }
+    ensures { (t : RawTm) → Keeps kept t → MatchResult result (λ e. (tree_of e ≡ t) × (nodes t ≤ 100000))
+        (λ f. (f ≡ fault.Refused L3 (place_of t)) × (100000 < nodes t)) }
 {
     match kept {
         Kept::Term(tree) => Ok(tree),

@@ -1,7 +1,7 @@
 // The binding of names in types.
 ghost use Rattle.std.specs.Prelude.{◌≡◌, MatchResult, OnOk};
 ghost use Rattle.idx_core.specs.Names.{Name};
-ghost use Rattle.f_terms.specs.Ty.{TArrow, TAll};
+ghost use Rattle.f_terms.specs.Ty.{TArrow, TAll, TSome, TRef};
 ghost use Rattle.f_terms.specs.Read.{tree};
 ghost use Rattle.f_grammar.specs.Read.{type_of};
 ghost use Rattle.f_parser.specs.Scope.{spelled, TypeOf, type_uses};
@@ -66,6 +66,18 @@ fn all(alloc: Global, body: FType) -> Result<FType, Unresolved>
     Ok(FType::All(Box::new(alloc, body)?))
 }
 
+fn some(alloc: Global, body: FType) -> Result<FType, Unresolved>
+    ensures { MatchResult result (λ t. tree t ≡ TSome (tree body)) (λ e. e ≡ stopped.Memory) }
+{
+    Ok(FType::Exists(Box::new(alloc, body)?))
+}
+
+fn reference(alloc: Global, held: FType) -> Result<FType, Unresolved>
+    ensures { MatchResult result (λ t. tree t ≡ TRef (tree held)) (λ e. e ≡ stopped.Memory) }
+{
+    Ok(FType::Ref(Box::new(alloc, held)?))
+}
+
 /// A type with its names resolved, where these type names are in scope. They are as before where the answer is a
 /// type.
 pub fn type_in_scope(
@@ -87,8 +99,7 @@ pub fn type_in_scope(
         RawType::Tuple(parts) => {
             let mut found = Vec::new(alloc);
             for part in parts {
-                let one = type_in_scope(alloc, text, part, types)?;
-                found.push(one)?;
+                found.push(type_in_scope(alloc, text, part, types)?)?;
             }
             Ok(FType::Tuple(found))
         }
@@ -103,6 +114,18 @@ pub fn type_in_scope(
             let inner = type_in_scope(alloc, text, body, types)?;
             types.pop();
             let whole = all(alloc, inner)?;
+            Ok(whole)
+        }
+        RawType::Exists(name, body) => {
+            types.push(spelling(text, *name))?;
+            let inner = type_in_scope(alloc, text, body, types)?;
+            types.pop();
+            let whole = some(alloc, inner)?;
+            Ok(whole)
+        }
+        RawType::Ref(held) => {
+            let inner = type_in_scope(alloc, text, held, types)?;
+            let whole = reference(alloc, inner)?;
             Ok(whole)
         }
     }

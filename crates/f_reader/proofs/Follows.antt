@@ -9,7 +9,7 @@ use Rattle.f_lexer.specs.declared.kind.Kind.TheVariants as k
 use Rattle.text_core.specs.Table.{Tm, Nt, Do, Mark, then_more}
 use Rattle.text_core.specs.Going.{Lacks, at_the_end, other}
 use Rattle.f_grammar.specs.declared.cursor.Wanted.TheVariants as want
-use Rattle.f_grammar.specs.Machine.{table, LE, LP, LT, MoreParts, MoreFactors, MoreSums, MoreFields, Stack, MakeUnit, MakeInst, MakeArith, MakeNext, fits, part_after, parts_after, factors_after, sums_after, term_owed, fields_after, fields_tail, expr_after, sum_tail, commas_after, branches_after}
+use Rattle.f_grammar.specs.Machine.{table, LE, LP, LT, MoreParts, MoreFactors, MoreSums, MoreFields, Stack, MakeUnit, MakeInst, MakeArith, MakeNext, fits, part_after, parts_after, factors_after, sums_after, term_owed, fields_after, fields_tail, expr_after, sum_tail, commas_after, branches_after, LHidden, LNames, MakeLet, MakePack, MakeOpen, body_owed, hidden_after, names_after, assign_after, assign_owed}
 use Rattle.f_reader.specs.declared.heads.Argument.{Argument}
 use Rattle.f_reader.specs.declared.heads.Argument.TheVariants.{Part, Bracket}
 use Rattle.f_reader.specs.Reads.{argument_of, argument_next, sign_of, sign_next}
@@ -35,6 +35,8 @@ begins_part k.LeftParen e = (_, refl)
 begins_part k.LeftAngle e = (_, refl)
 begins_part k.Hash e = (_, refl)
 begins_part k.If0 e = (_, refl)
+begins_part k.Ref e = (_, refl)
+begins_part k.Bang e = (_, refl)
 begins_part _ e = absurd (cc)
 
 abbrev pub bracket_owed : Stack
@@ -53,6 +55,8 @@ no_argument k.LeftParen e = absurd (cc)
 no_argument k.LeftAngle e = absurd (cc)
 no_argument k.Hash e = absurd (cc)
 no_argument k.If0 e = absurd (cc)
+no_argument k.Ref e = absurd (cc)
+no_argument k.Bang e = absurd (cc)
 no_argument _ e = refl
 
 pub argument_lacks : (ts : List Token) (i : ℕ) → argument_next (slice_get ts i) ≡ None → Lacks table ts i MoreParts
@@ -119,20 +123,70 @@ argument_within ts i a e = let n = argument_is ts i a e in slice_get_within ts i
 pub sign_within : (ts : List Token) (i : ℕ) (op : Op) → sign_next (slice_get ts i) ≡ Some op → i < length ts
 sign_within ts i op e = let n = sign_is ts i op e in slice_get_within ts i n.token n.is
 
-pub none_of : (c : Kind) → c ≢ k.Name → ((z : ℤ) → c ≢ k.Plain z) → ((z : ℤ) → c ≢ k.Negative z) → c ≢ k.LeftParen → c ≢ k.LeftAngle → c ≢ k.Hash → c ≢ k.If0 → part_after c ≡ None
-none_of k.Name a b d e f g h = absurd (a refl)
-none_of (k.Plain n) a b d e f g h = absurd (b n refl)
-none_of (k.Negative n) a b d e f g h = absurd (d n refl)
-none_of k.LeftParen a b d e f g h = absurd (e refl)
-none_of k.LeftAngle a b d e f g h = absurd (f refl)
-none_of k.Hash a b d e f g h = absurd (g refl)
-none_of k.If0 a b d e f g h = absurd (h refl)
-none_of _ a b d e f g h = refl
+pub none_of : (c : Kind) → c ≢ k.Name → ((z : ℤ) → c ≢ k.Plain z) → ((z : ℤ) → c ≢ k.Negative z) → c ≢ k.LeftParen → c ≢ k.LeftAngle → c ≢ k.Hash → c ≢ k.If0 → c ≢ k.Ref → c ≢ k.Bang → part_after c ≡ None
+none_of k.Name a b d e f g h i j = absurd (a refl)
+none_of (k.Plain n) a b d e f g h i j = absurd (b n refl)
+none_of (k.Negative n) a b d e f g h i j = absurd (d n refl)
+none_of k.LeftParen a b d e f g h i j = absurd (e refl)
+none_of k.LeftAngle a b d e f g h i j = absurd (f refl)
+none_of k.Hash a b d e f g h i j = absurd (g refl)
+none_of k.If0 a b d e f g h i j = absurd (h refl)
+none_of k.Ref a b d e f g h i j = absurd (i refl)
+none_of k.Bang a b d e f g h i j = absurd (j refl)
+none_of _ a b d e f g h i j = refl
 
-pub as_sum : (c : Kind) → fits want.Fix c ≡ false → fits want.Gen c ≡ false → expr_after c ≡ then_more (part_after c) sum_tail
-as_sum k.Gen a b = absurd (cc)
-as_sum k.Fix a b = absurd (cc)
-as_sum _ a b = refl
+pub as_sum : (c : Kind) → fits want.Fix c ≡ false → fits want.Gen c ≡ false → fits want.Let c ≡ false → fits want.Pack c ≡ false → fits want.Open c ≡ false → expr_after c ≡ then_more (part_after c) sum_tail
+as_sum k.Gen a b d e f = absurd (cc)
+as_sum k.Fix a b d e f = absurd (cc)
+as_sum k.Let a b d e f = absurd (cc)
+as_sum k.Pack a b d e f = absurd (cc)
+as_sum k.Open a b d e f = absurd (cc)
+as_sum _ a b d e f = refl
+
+pub after_let : (c : Kind) → fits want.Let c ≡ true → expr_after c ≡ Some (Tm want.Name ∷ body_owed MakeLet)
+after_let k.Let e = refl
+after_let _ e = absurd (cc)
+
+abbrev pub pack_owed : Stack
+pack_owed = Nt LHidden ∷ (Tm want.As ∷ (Nt LT ∷ (Do MakePack ∷ [])))
+
+pub after_pack : (c : Kind) → fits want.Pack c ≡ true → expr_after c ≡ Some pack_owed
+after_pack k.Pack e = refl
+after_pack _ e = absurd (cc)
+
+pub after_open : (c : Kind) → fits want.Open c ≡ true → expr_after c ≡ Some (Nt LNames ∷ body_owed MakeOpen)
+after_open k.Open e = refl
+after_open _ e = absurd (cc)
+
+abbrev pub hidden_owed : Stack
+hidden_owed = Nt LT ∷ (Tm want.Comma ∷ (Nt LE ∷ (Tm want.RightBracket ∷ (Mark ∷ []))))
+
+pub after_bracket : (c : Kind) → fits want.LeftBracket c ≡ true → hidden_after c ≡ Some hidden_owed
+after_bracket k.LeftBracket e = refl
+after_bracket _ e = absurd (cc)
+
+pub not_bracket : (c : Kind) → fits want.LeftBracket c ≡ false → hidden_after c ≡ None
+not_bracket k.LeftBracket e = absurd (cc)
+not_bracket _ e = refl
+
+abbrev pub names_owed : Stack
+names_owed = Tm want.Name ∷ (Tm want.Comma ∷ (Tm want.Name ∷ (Tm want.RightBracket ∷ (Mark ∷ []))))
+
+pub after_names : (c : Kind) → fits want.LeftBracket c ≡ true → names_after c ≡ Some names_owed
+after_names k.LeftBracket e = refl
+after_names _ e = absurd (cc)
+
+pub not_names : (c : Kind) → fits want.LeftBracket c ≡ false → names_after c ≡ None
+not_names k.LeftBracket e = absurd (cc)
+not_names _ e = refl
+
+pub after_assign : (c : Kind) → fits want.Assign c ≡ true → assign_after c ≡ Some assign_owed
+after_assign k.Assign e = refl
+after_assign _ e = absurd (cc)
+
+pub not_assign : (c : Kind) → fits want.Assign c ≡ false → assign_after c ≡ None
+not_assign k.Assign e = absurd (cc)
+not_assign _ e = refl
 
 abbrev pub branches_owed : Stack
 branches_owed = Nt LE ∷ (Tm want.Comma ∷ (Nt LE ∷ (Tm want.Comma ∷ (Nt LE ∷ (Tm want.RightParen ∷ (Mark ∷ []))))))

@@ -6,7 +6,7 @@ use Rattle.f_lexer.specs.declared.kind.Kind.TheVariants as k
 use Rattle.text_core.specs.Table.{Nt, Tm}
 use Rattle.text_core.specs.Going.{next_of}
 use Rattle.text_core.proofs.Going as step
-use Rattle.f_grammar.specs.Raw.{RawTy}
+use Rattle.f_grammar.specs.Raw.{TyPiece}
 use Rattle.f_grammar.specs.Machine.{table, Stack, Val, OfToken, OfType, LE, LT, LParam, fits, expr_after}
 use Rattle.f_grammar.specs.Read.{type_of}
 use Rattle.f_grammar.specs.Reads.{Fails, Reads, ReadsParameter}
@@ -67,7 +67,7 @@ module _ (ts : List Token) (d i : ℕ) (w : Token) where
 
         module _ (m : ℕ) (q : m ≡ d + 1) (p : FoundParameter) (r : ReadsParameter ts m (i + 2) p) where
           abbrev param_values : List Val
-          param_values = OfToken r.close_paren ∷ (OfType (type_of p.ty) ∷ (OfToken r.colon ∷ (OfToken p.name ∷ (OfToken r.open_paren ∷ (OfToken n ∷ (OfToken w ∷ []))))))
+          param_values = OfToken r.close_paren ∷ (OfType (record { ty = type_of p.ty; end = r.type_end }) ∷ (OfToken r.colon ∷ (OfToken p.name ∷ (OfToken r.open_paren ∷ (OfToken n ∷ (OfToken w ∷ []))))))
 
           pub fix_3 : Moves ts d i (Nt LE ∷ []) [] p.next (Tm want.Colon ∷ (Nt LT ∷ (Tm want.Dot ∷ fix_body))) param_values
           fix_3 = by_line ts d m (Tm want.Colon ∷ (Nt LT ∷ (Tm want.Dot ∷ fix_body))) (OfToken n ∷ (OfToken w ∷ [])) fix_2 (omega (arith, q)) r.reads.same
@@ -76,7 +76,7 @@ module _ (ts : List Token) (d i : ℕ) (w : Token) where
             pub fix_4 : Moves ts d i (Nt LE ∷ []) [] (p.next + 1) (Nt LT ∷ (Tm want.Dot ∷ fix_body)) (OfToken c ∷ param_values)
             fix_4 = by_token ts d want.Colon c (Nt LT ∷ (Tm want.Dot ∷ fix_body)) param_values fix_3 g (omega arith)
 
-            module _ (j : ℕ) (t : RawTy) (x : Reads LT ts m (p.next + 1) j (OfType t ∷ [])) where
+            module _ (j : ℕ) (t : TyPiece) (x : Reads LT ts m (p.next + 1) j (OfType t ∷ [])) where
               pub fix_5 : Moves ts d i (Nt LE ∷ []) [] j (Tm want.Dot ∷ fix_body) (OfType t ∷ (OfToken c ∷ param_values))
               fix_5 = by_line ts d m (Tm want.Dot ∷ fix_body) (OfToken c ∷ param_values) fix_4 (omega (arith, q)) x.same
 

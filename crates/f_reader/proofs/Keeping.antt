@@ -24,7 +24,7 @@ module _ {old new : Forest} {shape : RawShape} {s : Span} {p : Part} (h : Puts o
   kept : new.full ≡ false → (old.full ≡ false) × (new.nodes.items ≡ old.nodes.items ++ record { span = s; shape = shape } ∷ [])
   kept e = subst (λ (b : Bool). AddsBy b old new (record { span = s; shape = shape })) e h.adds
 
-  more : new.full ≡ true → (old.full ≡ true) ⊎ (1000 ≤ size old)
+  more : new.full ≡ true → (old.full ≡ true) ⊎ (100000 ≤ size old)
   more e = subst (λ (b : Bool). AddsBy b old new (record { span = s; shape = shape })) e h.adds
 
   size_more : new.full ≡ false → size new ≡ size old + 1
@@ -75,11 +75,20 @@ module _ {old new : Forest} {shape : RawShape} {s : Span} {p : Part} (h : Puts o
   held_on (frame.Other w a z) vs x = (x.0, x.1, x.2, x.3, x.4, x.5, x.6, stands_on a x.4 x.7, stands_on z x.5 x.8, x.9)
   held_on (frame.Fix d) vs x = x
   held_on (frame.Gen w n) vs x = x
+  held_on (frame.Let w n) vs x = x
+  held_on (frame.LetBody w n a) vs x = (x.0, x.1, x.2, x.3, x.4, x.5, x.6, stands_on a x.4 x.7, x.8)
+  held_on (frame.Pack w t) vs x = x
+  held_on (frame.Open w t n) vs x = x
+  held_on (frame.OpenBody w t n a) vs x = (x.0, x.1, x.2, x.3, x.4, x.5, stands_on a x.2 x.6, x.7)
+  held_on (frame.Ref w) vs x = x
+  held_on (frame.Deref w) vs x = x
   held_on (frame.Argument f) vs x = (x.0, stands_on f x.0 x.1, x.2)
   held_on (frame.Right op l) vs x = (x.0, x.1, stands_on l x.1 x.2, x.3)
+  held_on (frame.Assigned a) vs x = (x.0, x.1, stands_on a x.1 x.2, x.3)
   held_on frame.MoreParts vs x = x
   held_on frame.MoreFactors vs x = x
   held_on frame.MoreSums vs x = x
+  held_on frame.MoreAssign vs x = x
 
   pub counted_on : (vs us : List Val) → nodes_in us ≡ 1 + nodes_in vs → Counted old vs → Counted new us
   counted_on vs us e c = record {
@@ -87,11 +96,11 @@ module _ {old new : Forest} {shape : RawShape} {s : Span} {p : Part} (h : Puts o
     many = λ f. by_case (more f);
   }
     where
-      by_size : (b : Bool) → old.full ≡ b → 1000 ≤ size old → 1000 < nodes_in us
+      by_size : (b : Bool) → old.full ≡ b → 100000 ≤ size old → 100000 < nodes_in us
       by_size true f l = let n = c.many f in omega (arith, n, e)
       by_size false f l = let n = c.all f in omega (arith, n, e, l)
 
-      by_case : (old.full ≡ true) ⊎ (1000 ≤ size old) → 1000 < nodes_in us
+      by_case : (old.full ≡ true) ⊎ (100000 ≤ size old) → 100000 < nodes_in us
       by_case (inl f) = let n = c.many f in omega (arith, n, e)
       by_case (inr l) = by_size old.full refl l
 

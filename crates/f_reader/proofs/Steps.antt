@@ -12,16 +12,17 @@ use Rattle.f_lexer.specs.declared.kind.Kind.TheVariants as k
 use Rattle.text_core.specs.Table.{Tm, Nt, Do, Mark, State}
 use Rattle.arena.specs.Stack.{Chain}
 use Rattle.f_grammar.specs.declared.raw.RawNode.{RawNode}
+use Rattle.f_grammar.specs.declared.raw.RawType.{RawType}
 use Rattle.text_core.specs.Going.{Goes, at_the_end, other, next_of}
 use Rattle.text_core.proofs.Going as step
 use Rattle.text_core.proofs.Going.{marks_append}
-use Rattle.f_grammar.specs.Raw.{RawTm, RFix, RGen, RApp, RInst, RFields, RProj, RArith, RIf0, Piece, within, var, number, func, gen, call, inst, tuple, proj, arith as arith_of, if0, raw_tms}
+use Rattle.f_grammar.specs.Raw.{RawTm, RFix, RGen, RApp, RInst, RFields, RProj, RArith, RIf0, RLet, RPack, ROpen, RCell, RDeref, RAssign, TyPiece, Piece, within, var, number, func, gen, call, inst, tuple, proj, arith as arith_of, if0, let_in, pack, open_in, cell, deref, assign, raw_tms}
 use Rattle.f_grammar.specs.Read.{type_of}
 use Rattle.f_grammar.specs.Nodes.{children}
 use Rattle.f_grammar.specs.declared.cursor.Stopped.{Stopped}
 use Rattle.f_grammar.specs.declared.cursor.Stopped.TheVariants.{Unexpected}
-use Rattle.f_grammar.specs.Reads.{ReadsType}
-use Rattle.f_grammar.specs.Machine.{table, LE, LP, LFields, LBranches, LT, MoreParts, MoreFactors, MoreSums, MoreFields, Stack, Val, OfToken, OfTerm, OfTerms, OfType, MakeVar, MakeNumber, MakeParen, MakeTuple, MakeUnit, MakeProj, MakeCall, MakeInst, MakeArith, MakeFirst, MakeNext, MakeIf0, MakeFix, MakeGen, value_of, parts_tail, fields_tail, sum_tail, term_owed, part_after, marks}
+use Rattle.f_grammar.specs.Reads.{found_ty, ReadsType}
+use Rattle.f_grammar.specs.Machine.{table, LE, LP, LFields, LBranches, LT, MoreParts, MoreFactors, MoreSums, MoreFields, Stack, Val, OfToken, OfTerm, OfTerms, OfType, MakeVar, MakeNumber, MakeParen, MakeTuple, MakeUnit, MakeProj, MakeCall, MakeInst, MakeArith, MakeFirst, MakeNext, MakeIf0, MakeFix, MakeGen, MakeLet, MakePack, MakeOpen, MakeRef, MakeDeref, MakeAssign, MoreAssign, LHidden, LNames, body_owed, assign_owed, value_of, parts_tail, fields_tail, sum_tail, term_owed, part_after, marks}
 use Rattle.f_grammar.proofs.Complete.{parts_part}
 use Rattle.f_grammar.proofs.Typing.{not_fits}
 use Rattle.f_grammar.specs.declared.cursor.Wanted.TheVariants as want
@@ -37,11 +38,11 @@ use Rattle.f_reader.specs.declared.frame.Frame.{Frame}
 use Rattle.f_reader.specs.declared.frame.Frame.TheVariants as frame
 use Rattle.f_reader.specs.Reads.{argument_next, sign_next, fix_body, gen_body, ReadsHead, ReadsGenHead, IsFieldNumber}
 use Rattle.f_reader.specs.Forest.{span_from, size, tree_in, Puts, Stands, AreTrees, Counted}
-use Rattle.f_reader.specs.Frames.{fields_owed, other_owed, zero_owed, HeadIs, Around, nothing, Reached, Stays, Leads, Offered, IsLeaf, IsStop, work, Went}
+use Rattle.f_reader.specs.Frames.{fields_owed, other_owed, zero_owed, in_owed, shape_owed, Opened, opened_values, HeadIs, Around, nothing, Reached, Stays, Leads, Offered, IsLeaf, IsStop, work, Went}
 use Rattle.f_reader.specs.declared.frame.Reader.{Reader}
 use Rattle.f_reader.specs.declared.frame.Control.{Control}
 use Rattle.f_reader.specs.declared.frame.Control.TheVariants as control
-use Rattle.f_reader.proofs.Follows.{argument_is, begins_part, begins_bracket, bracket_owed, argument_lacks, sign_is, sign_lacks, star_owed, after_star, not_star, after_more, not_more, after_comma, not_comma, as_sum, branches_owed, after_paren, not_paren}
+use Rattle.f_reader.proofs.Follows.{argument_is, begins_part, begins_bracket, bracket_owed, argument_lacks, sign_is, sign_lacks, star_owed, after_star, not_star, after_more, not_more, after_comma, not_comma, as_sum, branches_owed, after_paren, not_paren, after_let, pack_owed, after_pack, after_open, hidden_owed, after_bracket, not_bracket, names_owed, after_names, not_names, after_assign, not_assign}
 use Rattle.f_reader.proofs.Keeping.{new_stands, nodes_more}
 use Rattle.f_reader.proofs.Reaching.{token, line, ends, as_line, as_begun, closed, done, made, called, enter, leave, stops_line}
 
@@ -88,6 +89,9 @@ at_frame ts r c p fs f e is h =
 pub went : (ts : List Token) (old new : Reader) (m : ℕ) (c : Control) → old.tokens.now ≡ ts → Went old.tokens.now new m (Ok c) → (new.tokens.now ≡ ts) × Leads ts new c × (work ts new c < m)
 went ts old new m c e h = subst (λ xs. (new.tokens.now ≡ xs) × Leads xs new c × (work xs new c < m)) e h
 
+abbrev packed_values : Token → Piece → Token → TyPiece → Token → Token → List Val
+packed_values z q c t o p = OfToken z ∷ (OfTerm q ∷ (OfToken c ∷ (OfType t ∷ (OfToken o ∷ (OfToken p ∷ [])))))
+
 -- a term was read
 pub record Given (ts : List Token) (fs : List Frame) (b : Forest) (depth at : ℕ) (p : parts.Part) : Type 0 where
   pub piece : Piece
@@ -96,18 +100,21 @@ pub record Given (ts : List Token) (fs : List Frame) (b : Forest) (depth at : �
 
 module _ (ts : List Token) {fs : List Frame} {b : Forest} {depth at : ℕ} where
   -- E
-  pub sum_begun : {gs hs is : List Frame} → next_of table want.Fix (slice_get ts at) ≡ None → next_of table want.Gen (slice_get ts at) ≡ None →
-      gs ≡ fs ++ frame.MoreSums ∷ [] → hs ≡ gs ++ frame.MoreFactors ∷ [] → is ≡ hs ++ frame.MoreParts ∷ [] →
+  pub sum_begun : {es gs hs is : List Frame} → next_of table want.Fix (slice_get ts at) ≡ None → next_of table want.Gen (slice_get ts at) ≡ None →
+      next_of table want.Let (slice_get ts at) ≡ None → next_of table want.Pack (slice_get ts at) ≡ None → next_of table want.Open (slice_get ts at) ≡ None →
+      es ≡ fs ++ frame.MoreAssign ∷ [] → gs ≡ es ++ frame.MoreSums ∷ [] → hs ≡ gs ++ frame.MoreFactors ∷ [] → is ≡ hs ++ frame.MoreParts ∷ [] →
       Reached ts fs b depth at (Nt LE ∷ []) [] → Reached ts is b depth at (Nt LP ∷ []) []
-  sum_begun f g x y z r =
-      let s = as_line ts LP LE sum_tail refl refl refl (λ c q. as_sum c.kind (not_fits want.Fix (slice_get ts at) c f q) (not_fits want.Gen (slice_get ts at) c g q)) r in
+  sum_begun f g h i j w x y z r =
+      let s = as_line ts LP LE sum_tail refl refl refl (λ c q. as_sum c.kind (not_fits want.Fix (slice_get ts at) c f q) (not_fits want.Gen (slice_get ts at) c g q)
+      (not_fits want.Let (slice_get ts at) c h q) (not_fits want.Pack (slice_get ts at) c i q) (not_fits want.Open (slice_get ts at) c j q)) r in
       enter ts (Nt LP ∷ []) [] frame.MoreParts [] z refl
       (enter ts (Nt LP ∷ (Nt MoreParts ∷ [])) [] frame.MoreFactors [] y refl
-      (enter ts (Nt LP ∷ (Nt MoreParts ∷ (Nt MoreFactors ∷ []))) [] frame.MoreSums [] x refl s))
+      (enter ts (Nt LP ∷ (Nt MoreParts ∷ (Nt MoreFactors ∷ []))) [] frame.MoreSums [] x refl
+      (enter ts (Nt LP ∷ (Nt MoreParts ∷ (Nt MoreFactors ∷ (Nt MoreSums ∷ [])))) [] frame.MoreAssign [] w refl s)))
 
   pub fix_begun : {gs : List Frame} (f : FoundHead) → gs ≡ fs ++ frame.Fix f.head ∷ [] → ReadsHead ts depth at f → Reached ts fs b depth at (Nt LE ∷ []) [] → Reached ts gs b (depth + 1) f.next (Nt LE ∷ []) []
   fix_begun f e h r =
-      let vs = OfToken h.dot ∷ (OfType (type_of f.head.gives) ∷ (OfToken h.colon_again ∷ (OfToken h.right ∷ (OfType (type_of f.head.takes) ∷ (OfToken h.colon ∷ (OfToken h.parameter ∷ (OfToken h.left ∷ (OfToken h.name ∷ (OfToken h.word ∷ []))))))))) in
+      let vs = OfToken h.dot ∷ (OfType (record { ty = type_of f.head.gives; end = h.gives_end }) ∷ (OfToken h.colon_again ∷ (OfToken h.right ∷ (OfType (record { ty = type_of f.head.takes; end = h.takes_end }) ∷ (OfToken h.colon ∷ (OfToken h.parameter ∷ (OfToken h.left ∷ (OfToken h.name ∷ (OfToken h.word ∷ []))))))))) in
       enter ts (Nt LE ∷ []) [] (frame.Fix f.head) vs e
       (record {
         word = h.word;
@@ -118,6 +125,8 @@ module _ (ts : List Token) {fs : List Frame} {b : Forest} {depth at : ℕ} where
         right = h.right;
         colon_again = h.colon_again;
         dot = h.dot;
+        takes_end = h.takes_end;
+        gives_end = h.gives_end;
         word_is = h.word_is;
         name_is = h.name_is;
         parameter_is = h.parameter_is;
@@ -130,6 +139,92 @@ module _ (ts : List Token) {fs : List Frame} {b : Forest} {depth at : ℕ} where
       let vs = OfToken h.dot ∷ (OfToken n ∷ (OfToken w ∷ [])) in
       enter ts (Nt LE ∷ []) [] (frame.Gen w.span n.span) vs e (w, n, h.dot, refl, refl, refl)
       (called ts [] (Nt LE ∷ []) gen_body vs (at + 3) (depth + 1) refl (omega arith) (omega (arith, h.room)) h.in_range (λ below. refl) h.same r)
+
+  module _ (c : Token) (is : next_of table want.Let (slice_get ts at) ≡ Some c) (r : Reached ts fs b depth at (Nt LE ∷ []) []) where
+    pub let_word : slice_get ts at ≡ Some c
+    let_word = step.is_next table ts at want.Let c is
+
+    pub let_owes : table.after LE c ≡ Some (Tm want.Name ∷ body_owed MakeLet)
+    let_owes = after_let c.kind (step.is_of table ts at want.Let c is)
+
+    module _ (inner : ℕ) (d : (inner ≡ depth + 1) × (depth < 200)) where
+      pub let_open : Reached ts fs b inner (at + 1) (Tm want.Name ∷ body_owed MakeLet) (OfToken c ∷ [])
+      let_open = line ts LE c (Tm want.Name ∷ body_owed MakeLet) inner r let_word let_owes (omega (arith, d.0)) (omega (arith, d.0, d.1))
+
+      module _ (n : Token) (f : next_of table want.Name (slice_get ts (at + 1)) ≡ Some n) where
+        pub let_named : Reached ts fs b inner (at + 1 + 1) (body_owed MakeLet) (OfToken n ∷ (OfToken c ∷ []))
+        let_named = token ts want.Name n let_open f
+
+        pub let_begun : {gs : List Frame} (q : Token) → next_of table want.Equals (slice_get ts (at + 1 + 1)) ≡ Some q → gs ≡ fs ++ frame.Let c.span n.span ∷ [] → Reached ts gs b inner (at + 1 + 1 + 1) (Nt LE ∷ []) []
+        let_begun q g e =
+            enter ts (Nt LE ∷ []) [] (frame.Let c.span n.span) (OfToken q ∷ (OfToken n ∷ (OfToken c ∷ []))) e (c, n, q, refl, refl, refl) (token ts want.Equals q let_named g)
+
+  module _ (c : Token) (is : next_of table want.Pack (slice_get ts at) ≡ Some c) (r : Reached ts fs b depth at (Nt LE ∷ []) []) where
+    pub pack_open : Reached ts fs b depth (at + 1) pack_owed (OfToken c ∷ [])
+    pack_open = line ts LE c pack_owed depth r (step.is_next table ts at want.Pack c is) (after_pack c.kind (step.is_of table ts at want.Pack c is)) (omega arith) r.room
+
+    module _ (o : Token) (g : next_of table want.LeftBracket (slice_get ts (at + 1)) ≡ Some o) where
+      pub hidden_word : slice_get ts (at + 1) ≡ Some o
+      hidden_word = step.is_next table ts (at + 1) want.LeftBracket o g
+
+      pub hidden_owes : table.after LHidden o ≡ Some hidden_owed
+      hidden_owes = after_bracket o.kind (step.is_of table ts (at + 1) want.LeftBracket o g)
+
+      module _ (inner : ℕ) (d : (inner ≡ depth + 1) × (depth < 200)) where
+        pub hidden_open : Reached ts fs b inner (at + 1 + 1) (hidden_owed ++ shape_owed) (OfToken o ∷ (OfToken c ∷ []))
+        hidden_open = line ts LHidden o hidden_owed inner pack_open hidden_word hidden_owes (omega (arith, d.0)) (omega (arith, d.0, d.1))
+
+        module _ (f : FoundType) (h : ReadsType LT ts inner (at + 1 + 1) f) where
+          pub hidden_typed : Reached ts fs b inner f.next (Tm want.Comma ∷ (Nt LE ∷ (Tm want.RightBracket ∷ (Mark ∷ shape_owed)))) (OfType (found_ty f) ∷ (OfToken o ∷ (OfToken c ∷ [])))
+          hidden_typed = called ts (Tm want.Comma ∷ (Nt LE ∷ (Tm want.RightBracket ∷ (Mark ∷ shape_owed)))) (Nt LT ∷ []) [] (OfType (found_ty f) ∷ []) f.next inner refl (omega arith) (omega (arith, d.0, d.1)) h.in_range (λ below. refl) h.same hidden_open
+
+          pub pack_begun : {gs : List Frame} (m : Token) → next_of table want.Comma (slice_get ts f.next) ≡ Some m → gs ≡ fs ++ frame.Pack c.span f.ty ∷ [] → Reached ts gs b inner (f.next + 1) (Nt LE ∷ []) []
+          pack_begun m k e =
+              enter ts (Nt LE ∷ []) [] (frame.Pack c.span f.ty) (OfToken m ∷ (OfType (found_ty f) ∷ (OfToken o ∷ (OfToken c ∷ [])))) e (c, o, m, f.end, refl, refl) (token ts want.Comma m hidden_typed k)
+
+  module _ (c : Token) (is : next_of table want.Open (slice_get ts at) ≡ Some c) (r : Reached ts fs b depth at (Nt LE ∷ []) []) where
+    pub open_word : slice_get ts at ≡ Some c
+    open_word = step.is_next table ts at want.Open c is
+
+    pub open_owes : table.after LE c ≡ Some (Nt LNames ∷ body_owed MakeOpen)
+    open_owes = after_open c.kind (step.is_of table ts at want.Open c is)
+
+    module _ (inner : ℕ) (d : (inner ≡ depth + 1) × (depth < 200)) where
+      pub open_open : Reached ts fs b inner (at + 1) (Nt LNames ∷ body_owed MakeOpen) (OfToken c ∷ [])
+      open_open = line ts LE c (Nt LNames ∷ body_owed MakeOpen) inner r open_word open_owes (omega (arith, d.0)) (omega (arith, d.0, d.1))
+
+      module _ (o : Token) (g : next_of table want.LeftBracket (slice_get ts (at + 1)) ≡ Some o) where
+        pub names_word : slice_get ts (at + 1) ≡ Some o
+        names_word = step.is_next table ts (at + 1) want.LeftBracket o g
+
+        pub names_owes : table.after LNames o ≡ Some names_owed
+        names_owes = after_names o.kind (step.is_of table ts (at + 1) want.LeftBracket o g)
+
+        module _ (deep : ℕ) (m : (deep ≡ inner + 1) × (inner < 200)) where
+          pub open_1 : Reached ts fs b deep (at + 1 + 1) (names_owed ++ body_owed MakeOpen) (OfToken o ∷ (OfToken c ∷ []))
+          open_1 = line ts LNames o names_owed deep open_open names_word names_owes (omega (arith, m.0)) (omega (arith, m.0, m.1))
+
+          module _ (t : Token) (f : next_of table want.Name (slice_get ts (at + 1 + 1)) ≡ Some t) where
+            pub open_2 : Reached ts fs b deep (at + 1 + 1 + 1) (Tm want.Comma ∷ (Tm want.Name ∷ (Tm want.RightBracket ∷ (Mark ∷ body_owed MakeOpen)))) (OfToken t ∷ (OfToken o ∷ (OfToken c ∷ [])))
+            open_2 = token ts want.Name t open_1 f
+
+            module _ (k : Token) (h : next_of table want.Comma (slice_get ts (at + 1 + 1 + 1)) ≡ Some k) where
+              pub open_3 : Reached ts fs b deep (at + 1 + 1 + 1 + 1) (Tm want.Name ∷ (Tm want.RightBracket ∷ (Mark ∷ body_owed MakeOpen))) (OfToken k ∷ (OfToken t ∷ (OfToken o ∷ (OfToken c ∷ []))))
+              open_3 = token ts want.Comma k open_2 h
+
+              module _ (x : Token) (i : next_of table want.Name (slice_get ts (at + 1 + 1 + 1 + 1)) ≡ Some x) where
+                pub open_4 : Reached ts fs b deep (at + 1 + 1 + 1 + 1 + 1) (Tm want.RightBracket ∷ (Mark ∷ body_owed MakeOpen)) (OfToken x ∷ (OfToken k ∷ (OfToken t ∷ (OfToken o ∷ (OfToken c ∷ [])))))
+                open_4 = token ts want.Name x open_3 i
+
+                module _ (z : Token) (j : next_of table want.RightBracket (slice_get ts (at + 1 + 1 + 1 + 1 + 1)) ≡ Some z) (outer : ℕ) (l : deep ≡ outer + 1) where
+                  pub open_5 : Reached ts fs b outer (at + 1 + 1 + 1 + 1 + 1 + 1) (body_owed MakeOpen) (OfToken z ∷ (OfToken x ∷ (OfToken k ∷ (OfToken t ∷ (OfToken o ∷ (OfToken c ∷ []))))))
+                  open_5 = closed ts outer l (token ts want.RightBracket z open_4 j)
+
+                  pub open_begun : {gs : List Frame} (q : Token) → next_of table want.Equals (slice_get ts (at + 1 + 1 + 1 + 1 + 1 + 1)) ≡ Some q → gs ≡ fs ++ frame.Open c.span t.span x.span ∷ [] →
+                      Reached ts gs b outer (at + 1 + 1 + 1 + 1 + 1 + 1 + 1) (Nt LE ∷ []) []
+                  open_begun q y e =
+                      let vs : Opened = record { word = c; left = o; ty = t; comma = k; name = x; right = z; equals = q } in
+                      enter ts (Nt LE ∷ []) [] (frame.Open c.span t.span x.span) (opened_values vs) e (vs, refl, refl, refl, refl) (token ts want.Equals q open_5 y)
 
   -- P
   module _ (c : Token) (is : slice_get ts at ≡ Some c) (r : Reached ts fs b depth at (Nt LP ∷ []) []) where
@@ -186,6 +281,16 @@ module _ (ts : List Token) {fs : List Frame} {b : Forest} {depth at : ℕ} where
     proj_begun {gs} {inner} {n} e d g f =
         enter ts (Nt LP ∷ []) [] (frame.Proj c.span n) (OfToken g.token ∷ (OfToken c ∷ [])) f (c, g.token, refl, g.value, refl)
         (token ts want.Number g.token (proj_open inner e d) g.is)
+
+    pub ref_begun : {gs : List Frame} {inner : ℕ} → c.kind ≡ k.Ref → (inner ≡ depth + 1) × (depth < 200) → gs ≡ fs ++ frame.Ref c.span ∷ [] → Reached ts gs b inner (at + 1) (Nt LP ∷ []) []
+    ref_begun {inner} e d f =
+        enter ts (Nt LP ∷ []) [] (frame.Ref c.span) (OfToken c ∷ []) f (c, refl, refl)
+        (line ts LP c (Nt LP ∷ (Mark ∷ (Do MakeRef ∷ []))) inner r is (rw e refl) (omega (arith, d.0)) (omega (arith, d.0, d.1)))
+
+    pub deref_begun : {gs : List Frame} {inner : ℕ} → c.kind ≡ k.Bang → (inner ≡ depth + 1) × (depth < 200) → gs ≡ fs ++ frame.Deref c.span ∷ [] → Reached ts gs b inner (at + 1) (Nt LP ∷ []) []
+    deref_begun {inner} e d f =
+        enter ts (Nt LP ∷ []) [] (frame.Deref c.span) (OfToken c ∷ []) f (c, refl, refl)
+        (line ts LP c (Nt LP ∷ (Mark ∷ (Do MakeDeref ∷ []))) inner r is (rw e refl) (omega (arith, d.0)) (omega (arith, d.0, d.1)))
 
     pub branches_open : c.kind ≡ k.If0 → Reached ts fs b depth (at + 1) (Nt LBranches ∷ (Do MakeIf0 ∷ [])) (OfToken c ∷ [])
     branches_open e = line ts LP c (Nt LBranches ∷ (Do MakeIf0 ∷ [])) depth r is (rw e refl) (omega arith) r.room
@@ -260,7 +365,100 @@ module _ (ts : List Token) {fs : List Frame} {b : Forest} {depth at : ℕ} where
   other_begun {gs} {w} {a} {z} p q t o c d is h g e f r =
       enter ts (Nt LE ∷ []) [] (frame.Other w a z) (OfToken d ∷ (OfTerm q ∷ (OfToken c ∷ (OfTerm p ∷ (OfToken o ∷ (OfToken t ∷ [])))))) f (t, o, c, d, p, q, is, h, g, refl) (token ts want.Comma d r e)
 
+  pub let_body_begun : {gs : List Frame} {outer : ℕ} {w n : Span} {a : parts.Part} (p : Piece) (t m q i : Token) → w ≡ t.span → n ≡ m.span → Stands b a p → next_of table want.In (slice_get ts at) ≡ Some i → depth ≡ outer + 1 →
+      gs ≡ fs ++ frame.LetBody w n a ∷ [] → Reached ts fs b depth at (in_owed MakeLet) (OfTerm p ∷ (OfToken q ∷ (OfToken m ∷ (OfToken t ∷ [])))) → Reached ts gs b outer (at + 1) (Nt LE ∷ []) []
+  let_body_begun {outer} {w} {n} {a} p t m q i is name h e d f r =
+      enter ts (Nt LE ∷ []) [] (frame.LetBody w n a) (OfToken i ∷ (OfTerm p ∷ (OfToken q ∷ (OfToken m ∷ (OfToken t ∷ []))))) f (t, m, q, i, p, is, name, h, refl) (closed ts outer d (token ts want.In i r e))
+
+  pub open_body_begun : {gs : List Frame} {outer : ℕ} {w t n : Span} {a : parts.Part} (p : Piece) (v : Opened) (i : Token) → w ≡ v.word.span → t ≡ v.ty.span → n ≡ v.name.span → Stands b a p → next_of table want.In (slice_get ts at) ≡ Some i →
+      depth ≡ outer + 1 → gs ≡ fs ++ frame.OpenBody w t n a ∷ [] → Reached ts fs b depth at (in_owed MakeOpen) (OfTerm p ∷ opened_values v) → Reached ts gs b outer (at + 1) (Nt LE ∷ []) []
+  open_body_begun {outer} {w} {t} {n} {a} p v i is ty name h e d f r =
+      enter ts (Nt LE ∷ []) [] (frame.OpenBody w t n a) (OfToken i ∷ (OfTerm p ∷ opened_values v)) f (v, i, p, is, ty, name, h, refl) (closed ts outer d (token ts want.In i r e))
+
+  module _ (outer : ℕ) (h : RawType) (n : ℕ) (q : Piece) (t o c : Token) (z : Token) (e : next_of table want.RightBracket (slice_get ts at) ≡ Some z) (d : depth ≡ outer + 1)
+      (r : Reached ts fs b depth at (Tm want.RightBracket ∷ (Mark ∷ shape_owed)) (OfTerm q ∷ (OfToken c ∷ (OfType (record { ty = type_of h; end = n }) ∷ (OfToken o ∷ (OfToken t ∷ [])))))) where
+    pub pack_closed : Reached ts fs b outer (at + 1) shape_owed (packed_values z q c (record { ty = type_of h; end = n }) o t)
+    pack_closed = closed ts outer d (token ts want.RightBracket z r e)
+
+    module _ (s : Token) (g : next_of table want.As (slice_get ts (at + 1)) ≡ Some s) where
+      pub pack_as : Reached ts fs b outer (at + 1 + 1) (Nt LT ∷ (Do MakePack ∷ [])) (OfToken s ∷ packed_values z q c (record { ty = type_of h; end = n }) o t)
+      pack_as = token ts want.As s pack_closed g
+
+      pub pack_given : {w : Span} {a p : parts.Part} {new : Forest} (f : FoundType) → w ≡ t.span → Stands b a q → ReadsType LT ts outer (at + 1 + 1) f → Puts b new (shape.Pack h a.node f.ty) (span_from w.start f.end) p → Given ts fs new outer f.next p
+      pack_given {w} {a} {p} f is x y puts =
+          let whole = pack t.span (record { ty = type_of h; end = n }) q (found_ty f) in
+          let there = ap (λ (x : Span). span_from x.start f.end) is in
+          record {
+            piece = whole;
+            stands = new_stands puts whole (sym there) (ap (λ (x : Span). x.start) (sym is)) refl
+                (λ k. ap (λ (u : RawTm). RPack (span_from w.start f.end) (type_of h) u (type_of f.ty)) (x.node k).1 ∙ ap (λ (y : Span). RPack y (type_of h) q.tree (type_of f.ty)) there);
+            reached = made ts MakePack (OfTerm whole ∷ []) (λ below. refl) (λ below. omega arith) puts
+                (called ts (Do MakePack ∷ []) (Nt LT ∷ []) [] (OfType (found_ty f) ∷ []) f.next outer refl (omega arith) pack_as.room y.in_range (λ below. refl) y.same pack_as);
+          }
+
   module _ {new : Forest} {new_part : parts.Part} where
+    pub let_given : {w n : Span} {f a : parts.Part} (p q : Piece) (t m u i : Token) → w ≡ t.span → n ≡ m.span → Stands b f p → Stands b a q → Puts b new (shape.Let n f.node a.node) (span_from w.start a.end) new_part →
+        Reached ts fs b depth at (Do MakeLet ∷ []) (OfTerm q ∷ (OfToken i ∷ (OfTerm p ∷ (OfToken u ∷ (OfToken m ∷ (OfToken t ∷ [])))))) → Given ts fs new depth at new_part
+    let_given {w} {n} {f} {a} p q t m u i is name h g puts r =
+        let whole = let_in t.span m.span p q in
+        let there = ap₂ (λ (x : Span) (y : ℕ). span_from x.start y) is g.ends in
+        record {
+          piece = whole;
+          stands = new_stands puts whole (sym there) (ap (λ (x : Span). x.start) (sym is)) (sym g.ends)
+              (λ x. ap₂ (λ (u v : RawTm). RLet (span_from w.start a.end) n u v) (h.node x).1 (g.node x).1 ∙ ap₂ (λ (y z : Span). RLet y z p.tree q.tree) there name);
+          reached = made ts MakeLet (OfTerm whole ∷ []) (λ below. refl) (λ below. omega arith) puts r;
+        }
+
+    pub open_given : {w t n : Span} {f a : parts.Part} (p q : Piece) (v : Opened) (i : Token) → w ≡ v.word.span → t ≡ v.ty.span → n ≡ v.name.span → Stands b f p → Stands b a q →
+        Puts b new (shape.Open t n f.node a.node) (span_from w.start a.end) new_part →
+        Reached ts fs b depth at (Do MakeOpen ∷ []) (OfTerm q ∷ (OfToken i ∷ (OfTerm p ∷ opened_values v))) → Given ts fs new depth at new_part
+    open_given {w} {t} {n} {f} {a} p q v i is ty name h g puts r =
+        let whole = open_in v.word.span v.ty.span v.name.span p q in
+        let there = ap₂ (λ (x : Span) (y : ℕ). span_from x.start y) is g.ends in
+        record {
+          piece = whole;
+          stands = new_stands puts whole (sym there) (ap (λ (x : Span). x.start) (sym is)) (sym g.ends)
+              (λ x. ap₂ (λ (u v : RawTm). ROpen (span_from w.start a.end) t n u v) (h.node x).1 (g.node x).1
+              ∙ (ap (λ (y : Span). ROpen y t n p.tree q.tree) there ∙ ap₂ (λ (y z : Span). ROpen (span_from v.word.span.start q.end) y z p.tree q.tree) ty name));
+          reached = made ts MakeOpen (OfTerm whole ∷ []) (λ below. refl) (λ below. omega arith) puts r;
+        }
+
+    pub ref_given : {outer : ℕ} {w : Span} {a : parts.Part} (q : Piece) (t : Token) → w ≡ t.span → Stands b a q → depth ≡ outer + 1 → Puts b new (shape.Ref a.node) (span_from w.start a.end) new_part →
+        Reached ts fs b depth at (Mark ∷ (Do MakeRef ∷ [])) (OfTerm q ∷ (OfToken t ∷ [])) → Given ts fs new outer at new_part
+    ref_given {outer} {w} {a} q t is g e puts r =
+        let whole = cell t.span q in
+        let there = ap₂ (λ (x : Span) (y : ℕ). span_from x.start y) is g.ends in
+        record {
+          piece = whole;
+          stands = new_stands puts whole (sym there) (ap (λ (x : Span). x.start) (sym is)) (sym g.ends)
+              (λ x. ap (λ (u : RawTm). RCell (span_from w.start a.end) u) (g.node x).1 ∙ ap (λ (y : Span). RCell y q.tree) there);
+          reached = made ts MakeRef (OfTerm whole ∷ []) (λ below. refl) (λ below. omega arith) puts (closed ts outer e r);
+        }
+
+    pub deref_given : {outer : ℕ} {w : Span} {a : parts.Part} (q : Piece) (t : Token) → w ≡ t.span → Stands b a q → depth ≡ outer + 1 → Puts b new (shape.Deref a.node) (span_from w.start a.end) new_part →
+        Reached ts fs b depth at (Mark ∷ (Do MakeDeref ∷ [])) (OfTerm q ∷ (OfToken t ∷ [])) → Given ts fs new outer at new_part
+    deref_given {outer} {w} {a} q t is g e puts r =
+        let whole = deref t.span q in
+        let there = ap₂ (λ (x : Span) (y : ℕ). span_from x.start y) is g.ends in
+        record {
+          piece = whole;
+          stands = new_stands puts whole (sym there) (ap (λ (x : Span). x.start) (sym is)) (sym g.ends)
+              (λ x. ap (λ (u : RawTm). RDeref (span_from w.start a.end) u) (g.node x).1 ∙ ap (λ (y : Span). RDeref y q.tree) there);
+          reached = made ts MakeDeref (OfTerm whole ∷ []) (λ below. refl) (λ below. omega arith) puts (closed ts outer e r);
+        }
+
+    pub assign_given : {l a : parts.Part} (p q : Piece) (t : Token) → Stands b l p → Stands b a q → Puts b new (shape.Assign l.node a.node) (span_from l.start a.end) new_part →
+        Reached ts fs b depth at (Do MakeAssign ∷ []) (OfTerm q ∷ (OfToken t ∷ (OfTerm p ∷ []))) → Given ts fs new depth at new_part
+    assign_given {l} {a} p q t h g puts r =
+        let whole = assign p q in
+        let there = ap₂ (λ (x y : ℕ). span_from x y) h.starts g.ends in
+        record {
+          piece = whole;
+          stands = new_stands puts whole (sym there) (sym h.starts) (sym g.ends)
+              (λ x. ap₂ (λ (u v : RawTm). RAssign (span_from l.start a.end) u v) (h.node x).1 (g.node x).1 ∙ ap (λ (y : Span). RAssign y p.tree q.tree) there);
+          reached = made ts MakeAssign (OfTerm whole ∷ []) (λ below. refl) (λ below. omega arith) puts r;
+        }
+
     pub if0_given : {outer : ℕ} {w : Span} {a z y : parts.Part} (p q v : Piece) (t o c d s : Token) → w ≡ t.span → Stands b a p → Stands b z q → Stands b y v → next_of table want.RightParen (slice_get ts at) ≡ Some s → depth ≡ outer + 1 →
         Puts b new (shape.If0 a.node z.node y.node) (span_from w.start s.span.end) new_part →
         Reached ts fs b depth at other_owed (OfTerm v ∷ (OfToken d ∷ (OfTerm q ∷ (OfToken c ∷ (OfTerm p ∷ (OfToken o ∷ (OfToken t ∷ []))))))) → Given ts fs new outer (at + 1) new_part
@@ -365,9 +563,9 @@ module _ (ts : List Token) {fs : List Frame} {b : Forest} {depth at : ℕ} where
     bracket_opened {inner} d = line ts MoreParts bracket bracket_owed inner r bracket_is bracket_owes (omega (arith, d.0)) (omega (arith, d.0, d.1))
 
     pub bracket_typed : {inner : ℕ} (f : FoundType) → (inner ≡ depth + 1) × (depth < 200) → ReadsType LT ts inner (at + 1) f →
-        Reached ts fs b inner f.next (Tm want.RightBracket ∷ (Mark ∷ (Do MakeInst ∷ (Nt MoreParts ∷ [])))) (OfType (type_of f.ty) ∷ (OfToken bracket ∷ (OfTerm q ∷ [])))
+        Reached ts fs b inner f.next (Tm want.RightBracket ∷ (Mark ∷ (Do MakeInst ∷ (Nt MoreParts ∷ [])))) (OfType (found_ty f) ∷ (OfToken bracket ∷ (OfTerm q ∷ [])))
     bracket_typed {inner} f d h =
-        called ts (Tm want.RightBracket ∷ (Mark ∷ (Do MakeInst ∷ (Nt MoreParts ∷ [])))) (Nt LT ∷ []) [] (OfType (type_of f.ty) ∷ []) f.next inner refl (omega arith) (omega (arith, d.0, d.1)) h.in_range (λ below. refl) h.same (bracket_opened d)
+        called ts (Tm want.RightBracket ∷ (Mark ∷ (Do MakeInst ∷ (Nt MoreParts ∷ [])))) (Nt LT ∷ []) [] (OfType (found_ty f) ∷ []) f.next inner refl (omega arith) (omega (arith, d.0, d.1)) h.in_range (λ below. refl) h.same (bracket_opened d)
 
     pub inst_given : {inner : ℕ} {new : Forest} {p p' : parts.Part} {gs : List Frame} (f : FoundType) (s : Token) → Stands b p q → (inner ≡ depth + 1) × (depth < 200) → ReadsType LT ts inner (at + 1) f →
         next_of table want.RightBracket (slice_get ts f.next) ≡ Some s → Puts b new (shape.Inst p.node f.ty) (span_from p.start s.span.end) p' → gs ≡ fs ++ frame.MoreParts ∷ [] → Given ts gs new depth (f.next + 1) p'
@@ -409,6 +607,19 @@ module _ (ts : List Token) {fs : List Frame} {b : Forest} {depth at : ℕ} where
   pub sums_end : {q : Piece} → sign_next (slice_get ts at) ≡ None → Reached ts fs b depth at (Nt MoreSums ∷ []) (OfTerm q ∷ []) → Reached ts fs b depth at [] (OfTerm q ∷ [])
   sums_end e r = ends ts MoreSums refl r (sign_lacks ts at e)
 
+  pub assign_begun : {gs hs is js : List Frame} {p : parts.Part} (q : Piece) (s : Token) → Stands b p q → next_of table want.Assign (slice_get ts at) ≡ Some s →
+      gs ≡ fs ++ frame.Assigned p ∷ [] → hs ≡ gs ++ frame.MoreSums ∷ [] → is ≡ hs ++ frame.MoreFactors ∷ [] → js ≡ is ++ frame.MoreParts ∷ [] →
+      Reached ts fs b depth at (Nt MoreAssign ∷ []) (OfTerm q ∷ []) → Reached ts js b depth (at + 1) (Nt LP ∷ []) []
+  assign_begun {p} q s h e w x y z r =
+      enter ts (Nt LP ∷ []) [] frame.MoreParts [] z refl
+      (enter ts (Nt LP ∷ (Nt MoreParts ∷ [])) [] frame.MoreFactors [] y refl
+      (enter ts (Nt LP ∷ (Nt MoreParts ∷ (Nt MoreFactors ∷ []))) [] frame.MoreSums [] x refl
+      (enter ts (Nt LP ∷ (Nt MoreParts ∷ (Nt MoreFactors ∷ (Nt MoreSums ∷ [])))) [] (frame.Assigned p) (OfToken s ∷ (OfTerm q ∷ [])) w (s, q, h, refl)
+      (line ts MoreAssign s assign_owed depth r (step.is_next table ts at want.Assign s e) (after_assign s.kind (step.is_of table ts at want.Assign s e)) (omega arith) r.room))))
+
+  pub assign_end : {q : Piece} → next_of table want.Assign (slice_get ts at) ≡ None → Reached ts fs b depth at (Nt MoreAssign ∷ []) (OfTerm q ∷ []) → Reached ts fs b depth at [] (OfTerm q ∷ [])
+  assign_end e r = ends ts MoreAssign refl r (step.lacks_all table ts at want.Assign MoreAssign (λ c q. not_assign c.kind q) e)
+
 -- where a part does not begin
 pub no_part : (ts : List Token) {fs : List Frame} {b : Forest} {depth at : ℕ} (c : Token) (e : Stopped) → slice_get ts at ≡ Some c → part_after c.kind ≡ None → e ≡ Unexpected at → Reached ts fs b depth at (Nt LP ∷ []) [] → IsStop ts e
 no_part ts c e is n q r = stops_line ts LP e refl q (other c is n) r
@@ -419,6 +630,14 @@ no_part_end ts e is q r = stops_line ts LP e refl q (at_the_end is) r
 pub no_branches : (ts : List Token) {fs : List Frame} {b : Forest} {depth at : ℕ} {goal : Stack} {got : List Val} (e : Stopped) → (e ≡ Unexpected at) × (next_of table want.LeftParen (slice_get ts at) ≡ None) →
     Reached ts fs b depth at (Nt LBranches ∷ goal) got → IsStop ts e
 no_branches ts {at = at} e h r = stops_line ts LBranches e refl h.0 (step.lacks_all table ts at want.LeftParen LBranches (λ c q. not_paren c.kind q) h.1) r
+
+pub no_hidden : (ts : List Token) {fs : List Frame} {b : Forest} {depth at : ℕ} {goal : Stack} {got : List Val} (e : Stopped) → (e ≡ Unexpected at) × (next_of table want.LeftBracket (slice_get ts at) ≡ None) →
+    Reached ts fs b depth at (Nt LHidden ∷ goal) got → IsStop ts e
+no_hidden ts {at = at} e h r = stops_line ts LHidden e refl h.0 (step.lacks_all table ts at want.LeftBracket LHidden (λ c q. not_bracket c.kind q) h.1) r
+
+pub no_names : (ts : List Token) {fs : List Frame} {b : Forest} {depth at : ℕ} {goal : Stack} {got : List Val} (e : Stopped) → (e ≡ Unexpected at) × (next_of table want.LeftBracket (slice_get ts at) ≡ None) →
+    Reached ts fs b depth at (Nt LNames ∷ goal) got → IsStop ts e
+no_names ts {at = at} e h r = stops_line ts LNames e refl h.0 (step.lacks_all table ts at want.LeftBracket LNames (λ c q. not_names c.kind q) h.1) r
 
 -- a leaf has no children
 pub leaf_children : (kind : Kind) (form : RawShape) (n : ℕ) → IsLeaf kind form → All (λ i. i < n) (children form)

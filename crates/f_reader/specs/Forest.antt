@@ -23,7 +23,7 @@ tree_in b = tree_at b.nodes.items
 -- the node is kept as the last one; or there are more nodes than can be kept
 abbrev pub AddsBy : Bool → Forest → Forest → RawNode → Type 0
 AddsBy false old new n = (old.full ≡ false) × (new.nodes.items ≡ old.nodes.items ++ n ∷ [])
-AddsBy true old new n = (old.full ≡ true) ⊎ (1000 ≤ size old)
+AddsBy true old new n = (old.full ≡ true) ⊎ (100000 ≤ size old)
 
 abbrev pub Adds : Forest → Forest → RawNode → Type 0
 Adds old new n = AddsBy new.full old new n
@@ -56,7 +56,7 @@ nodes_in (OfTerms ts ∷ vs) = nodes_all (raw_tms ts) + nodes_in vs
 nodes_in (OfType t ∷ vs) = nodes_in vs
 nodes_in (OfTypes ts ∷ vs) = nodes_in vs
 
--- all of them are kept, or they are more than 1000
+-- all of them are kept, or they are more than 100000
 pub record Counted (b : Forest) (vs : List Val) : Type 0 where
   pub all : b.full ≡ false → size b ≡ nodes_in vs
-  pub many : b.full ≡ true → 1000 < nodes_in vs
+  pub many : b.full ≡ true → 100000 < nodes_in vs

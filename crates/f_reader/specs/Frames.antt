@@ -12,9 +12,10 @@ use Rattle.text_core.specs.Going.{Goes}
 use Rattle.f_grammar.specs.Raw.{RawTm, Piece}
 use Rattle.f_grammar.specs.Read.{type_of}
 use Rattle.f_grammar.specs.Reads.{Fails}
-use Rattle.f_grammar.specs.Machine.{table, Stack, Val, OfToken, OfTerm, OfTerms, OfType, LE, LP, MoreParts, MoreFactors}
-use Rattle.f_grammar.specs.Machine.{MoreSums, MoreFields, MakeParen, MakeTuple, MakeProj, MakeIf0, MakeFix, MakeGen}
-use Rattle.f_grammar.specs.Machine.{MakeCall, MakeArith, MakeFirst, MakeNext, value_of, marks}
+use Rattle.f_grammar.specs.Machine.{table, Act, Stack, Val, OfToken, OfTerm, OfTerms, OfType, LE, LP, MoreParts}
+use Rattle.f_grammar.specs.Machine.{MoreFactors, MoreSums, MoreFields, MakeParen, MakeTuple, MakeProj, MakeIf0, MakeFix, MakeGen}
+use Rattle.f_grammar.specs.Machine.{MakeCall, MakeArith, MakeFirst, MakeNext, MakeLet, MakePack, MakeOpen, MakeRef}
+use Rattle.f_grammar.specs.Machine.{MakeDeref, MakeAssign, MoreAssign, LT, value_of, marks}
 use Rattle.f_grammar.specs.declared.cursor.Wanted.TheVariants as want
 use Rattle.f_grammar.specs.declared.cursor.Stopped.{Stopped}
 use Rattle.f_reader.specs.Forest.{Stands, AreTrees, Counted}
@@ -37,6 +38,12 @@ other_owed = Tm want.RightParen ∷ (Mark ∷ (Do MakeIf0 ∷ []))
 abbrev pub zero_owed : Stack
 zero_owed = Tm want.Comma ∷ (Nt LE ∷ other_owed)
 
+abbrev pub in_owed : Act → Stack
+in_owed a = Tm want.In ∷ (Mark ∷ (Nt LE ∷ (Do a ∷ [])))
+
+abbrev pub shape_owed : Stack
+shape_owed = Tm want.As ∷ (Nt LT ∷ (Do MakePack ∷ []))
+
 abbrev pub owes : Frame → Stack
 owes (frame.Paren l) = Tm want.RightParen ∷ (Mark ∷ (Do MakeParen ∷ []))
 owes (frame.First l) = Do MakeFirst ∷ fields_owed
@@ -47,11 +54,20 @@ owes (frame.Zero w a) = zero_owed
 owes (frame.Other w a z) = other_owed
 owes (frame.Fix h) = Mark ∷ (Do MakeFix ∷ [])
 owes (frame.Gen w n) = Mark ∷ (Do MakeGen ∷ [])
+owes (frame.Let w n) = in_owed MakeLet
+owes (frame.LetBody w n a) = Do MakeLet ∷ []
+owes (frame.Pack w t) = Tm want.RightBracket ∷ (Mark ∷ shape_owed)
+owes (frame.Open w t n) = in_owed MakeOpen
+owes (frame.OpenBody w t n a) = Do MakeOpen ∷ []
+owes (frame.Ref w) = Mark ∷ (Do MakeRef ∷ [])
+owes (frame.Deref w) = Mark ∷ (Do MakeDeref ∷ [])
 owes (frame.Argument f) = Do MakeCall ∷ []
 owes (frame.Right op l) = Do (MakeArith op) ∷ []
+owes (frame.Assigned a) = Do MakeAssign ∷ []
 owes frame.MoreParts = Nt MoreParts ∷ []
 owes frame.MoreFactors = Nt MoreFactors ∷ []
 owes frame.MoreSums = Nt MoreSums ∷ []
+owes frame.MoreAssign = Nt MoreAssign ∷ []
 
 -- the values of a function's head
 pub record HeadIs (h : Head) (vs : List Val) : Type 0 where
@@ -63,12 +79,28 @@ pub record HeadIs (h : Head) (vs : List Val) : Type 0 where
   pub right : Token
   pub colon_again : Token
   pub dot : Token
+  pub takes_end : ℕ
+  pub gives_end : ℕ
   pub word_is : h.word ≡ word.span
   pub name_is : h.name ≡ name.span
   pub parameter_is : h.parameter ≡ parameter.span
-  pub are : vs ≡ OfToken dot ∷ (OfType (type_of h.gives) ∷
-      (OfToken colon_again ∷ (OfToken right ∷ (OfType (type_of h.takes) ∷ (OfToken colon ∷
-      (OfToken parameter ∷ (OfToken left ∷ (OfToken name ∷ (OfToken word ∷ [])))))))))
+  pub are : vs ≡ OfToken dot ∷ (OfType (record { ty = type_of h.gives; end = gives_end }) ∷
+      (OfToken colon_again ∷ (OfToken right ∷ (OfType (record { ty = type_of h.takes; end = takes_end }) ∷
+      (OfToken colon ∷ (OfToken parameter ∷ (OfToken left ∷ (OfToken name ∷ (OfToken word ∷ [])))))))))
+
+-- the tokens open [ name , name ] =
+pub record Opened : Type 0 where
+  pub word : Token
+  pub left : Token
+  pub ty : Token
+  pub comma : Token
+  pub name : Token
+  pub right : Token
+  pub equals : Token
+
+abbrev pub opened_values : Opened → List Val
+opened_values h = OfToken h.equals ∷ (OfToken h.right ∷ (OfToken h.name ∷ (OfToken h.comma ∷ (OfToken h.ty ∷
+    (OfToken h.left ∷ (OfToken h.word ∷ []))))))
 
 -- the values that a frame holds
 abbrev pub Held : Forest → Frame → List Val → Type 0
@@ -87,11 +119,26 @@ Held b (frame.Other w a z) vs = (t : Token) × (o : Token) × (c : Token) × (d 
 Held b (frame.Fix h) vs = HeadIs h vs
 Held b (frame.Gen w n) vs = (t : Token) × (a : Token) × (d : Token) × (w ≡ t.span) × (n ≡ a.span)
     × (vs ≡ OfToken d ∷ (OfToken a ∷ (OfToken t ∷ [])))
+Held b (frame.Let w n) vs = (l : Token) × (m : Token) × (q : Token) × (w ≡ l.span) × (n ≡ m.span)
+    × (vs ≡ OfToken q ∷ (OfToken m ∷ (OfToken l ∷ [])))
+Held b (frame.LetBody w n a) vs = (l : Token) × (m : Token) × (q : Token) × (i : Token) × (p : Piece) × (w ≡ l.span)
+    × (n ≡ m.span) × Stands b a p
+    × (vs ≡ OfToken i ∷ (OfTerm p ∷ (OfToken q ∷ (OfToken m ∷ (OfToken l ∷ [])))))
+Held b (frame.Pack w t) vs = (p : Token) × (o : Token) × (c : Token) × (end : ℕ) × (w ≡ p.span)
+    × (vs ≡ OfToken c ∷ (OfType (record { ty = type_of t; end = end }) ∷ (OfToken o ∷ (OfToken p ∷ []))))
+Held b (frame.Open w t n) vs = (h : Opened) × (w ≡ h.word.span) × (t ≡ h.ty.span) × (n ≡ h.name.span)
+    × (vs ≡ opened_values h)
+Held b (frame.OpenBody w t n a) vs = (h : Opened) × (i : Token) × (p : Piece) × (w ≡ h.word.span) × (t ≡ h.ty.span)
+    × (n ≡ h.name.span) × Stands b a p × (vs ≡ OfToken i ∷ (OfTerm p ∷ opened_values h))
+Held b (frame.Ref w) vs = (t : Token) × (w ≡ t.span) × (vs ≡ OfToken t ∷ [])
+Held b (frame.Deref w) vs = (t : Token) × (w ≡ t.span) × (vs ≡ OfToken t ∷ [])
 Held b (frame.Argument f) vs = (p : Piece) × Stands b f p × (vs ≡ OfTerm p ∷ [])
 Held b (frame.Right op l) vs = (s : Token) × (p : Piece) × Stands b l p × (vs ≡ OfToken s ∷ (OfTerm p ∷ []))
+Held b (frame.Assigned a) vs = (s : Token) × (p : Piece) × Stands b a p × (vs ≡ OfToken s ∷ (OfTerm p ∷ []))
 Held b frame.MoreParts vs = vs ≡ []
 Held b frame.MoreFactors vs = vs ≡ []
 Held b frame.MoreSums vs = vs ≡ []
+Held b frame.MoreAssign vs = vs ≡ []
 
 -- what is owed and made inside a frame, by what is owed and made around it
 abbrev pub Around : Forest → Frame → State table → State table → Type 0
@@ -145,7 +192,7 @@ IsStop ts e = Fails ts 0 0 (Nt LE ∷ []) [] e
 
 -- the steps that are left, at most
 abbrev pub weight : Control → ℕ
-weight control.Term = 4
+weight control.Term = 5
 weight control.Part = 0
 weight (control.Give p) = 3
 

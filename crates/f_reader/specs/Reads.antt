@@ -21,8 +21,8 @@ use Rattle.f_reader.specs.declared.heads.Argument.TheVariants.{Part, Bracket}
 
 -- what is kept of the tree t
 abbrev pub Keeps : Kept → RawTm → Type 0
-Keeps (kept.Term e) t = (tree_of e ≡ t) × (nodes t ≤ 1000)
-Keeps (kept.TooMany s) t = (place_of t ≡ s) × (1000 < nodes t)
+Keeps (kept.Term e) t = (tree_of e ≡ t) × (nodes t ≤ 100000)
+Keeps (kept.TooMany s) t = (place_of t ≡ s) × (100000 < nodes t)
 
 -- from the first token on a term was read, up to a token
 pub record ReadsTerm (ts : List Token) (f : FoundTerm) : Type 0 where
@@ -40,6 +40,8 @@ argument_of k.LeftParen = Some Part
 argument_of k.LeftAngle = Some Part
 argument_of k.Hash = Some Part
 argument_of k.If0 = Some Part
+argument_of k.Ref = Some Part
+argument_of k.Bang = Some Part
 argument_of _ = None
 
 abbrev pub argument_next : Option Token → Option Argument
@@ -72,6 +74,8 @@ pub record ReadsHead (ts : List Token) (d i : ℕ) (f : FoundHead) : Type 0 wher
   pub right : Token
   pub colon_again : Token
   pub dot : Token
+  pub takes_end : ℕ
+  pub gives_end : ℕ
   pub word_is : f.head.word ≡ word.span
   pub name_is : f.head.name ≡ name.span
   pub parameter_is : f.head.parameter ≡ parameter.span
@@ -79,9 +83,9 @@ pub record ReadsHead (ts : List Token) (d i : ℕ) (f : FoundHead) : Type 0 wher
   pub forward : i < f.next
   pub in_range : f.next ≤ length ts
   pub same : Goes table 200 ts d i (Nt LE ∷ []) [] f.next fix_body
-      (OfToken dot ∷ (OfType (type_of f.head.gives) ∷
-      (OfToken colon_again ∷ (OfToken right ∷ (OfType (type_of f.head.takes) ∷ (OfToken colon ∷ (OfToken parameter ∷
-      (OfToken left ∷ (OfToken name ∷ (OfToken word ∷ []))))))))))
+      (OfToken dot ∷ (OfType (record { ty = type_of f.head.gives; end = gives_end }) ∷
+      (OfToken colon_again ∷ (OfToken right ∷ (OfType (record { ty = type_of f.head.takes; end = takes_end }) ∷
+      (OfToken colon ∷ (OfToken parameter ∷ (OfToken left ∷ (OfToken name ∷ (OfToken word ∷ []))))))))))
 
 -- gen name .
 pub record ReadsGenHead (ts : List Token) (d i : ℕ) (word : Token) (name : Token) : Type 0 where

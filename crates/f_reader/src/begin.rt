@@ -13,7 +13,7 @@ ghost use Rattle.f_reader.specs.declared.frame.Control.TheVariants as control;
 use crate::frame::{Control, Frame, Reader};
 use crate::heads::{field_number, function_head, gen_head};
 use crate::put::put;
-use f_grammar::{RawShape, Stopped, Wanted, expect, opened, peek, take};
+use f_grammar::{RawShape, Stopped, Wanted, expect, opened, peek, take, whole_type};
 use f_lexer::{Kind, Token};
 use std::alloc::Global;
 
@@ -53,7 +53,74 @@ fn begin_gen(reader: &mut Reader, word: Token) -> Result<Control, Stopped>
     Ok(Control::Term)
 }
 
-/// E ::= fix name ( name : T ) : T . E | gen name . E | S
+// let name = E in E
+fn begin_let(reader: &mut Reader, word: Token) -> Result<Control, Stopped>
+    requires stays { Stays reader.old.tokens.now reader.old (Nt LE ∷ []) [] }
+    requires word { next_of table want.Let (slice_get reader.old.tokens.now reader.old.at) ≡ Some word }
+    ensures { Went reader.old.tokens.now reader.new (work reader.old.tokens.now reader.old control.Term) result }
+{
+    reader.depth = opened(reader.at, reader.depth)?;
+    reader.at += 1;
+    let name = expect(reader.tokens, reader.at, Wanted::Name)?;
+    reader.at += 1;
+    expect(reader.tokens, reader.at, Wanted::Equals)?;
+    reader.at += 1;
+    let word = word.span;
+    let name = name.span;
+    push(&mut reader.frames, Frame::Let { word, name })?;
+    Ok(Control::Term)
+}
+
+// pack [ T , E ] as T
+fn begin_pack(alloc: Global, reader: &mut Reader, word: Token) -> Result<Control, Stopped>
+    requires stays { Stays reader.old.tokens.now reader.old (Nt LE ∷ []) [] }
+    requires word { next_of table want.Pack (slice_get reader.old.tokens.now reader.old.at) ≡ Some word }
+    ensures { Went reader.old.tokens.now reader.new (work reader.old.tokens.now reader.old control.Term) result }
+{
+    reader.at += 1;
+    expect(reader.tokens, reader.at, Wanted::LeftBracket)?;
+    reader.depth = opened(reader.at, reader.depth)?;
+    reader.at += 1;
+    let found = whole_type(alloc, reader.tokens, reader.at, reader.depth)?;
+    expect(reader.tokens, found.next, Wanted::Comma)?;
+    reader.at = found.next + 1;
+    let word = word.span;
+    let hidden = found.ty;
+    push(&mut reader.frames, Frame::Pack { word, hidden })?;
+    Ok(Control::Term)
+}
+
+// open [ name , name ] = E in E
+fn begin_open(reader: &mut Reader, word: Token) -> Result<Control, Stopped>
+    requires stays { Stays reader.old.tokens.now reader.old (Nt LE ∷ []) [] }
+    requires word { next_of table want.Open (slice_get reader.old.tokens.now reader.old.at) ≡ Some word }
+    ensures { Went reader.old.tokens.now reader.new (work reader.old.tokens.now reader.old control.Term) result }
+{
+    reader.depth = opened(reader.at, reader.depth)?;
+    reader.at += 1;
+    expect(reader.tokens, reader.at, Wanted::LeftBracket)?;
+    reader.depth = opened(reader.at, reader.depth)?;
+    reader.at += 1;
+    let ty = expect(reader.tokens, reader.at, Wanted::Name)?;
+    reader.at += 1;
+    expect(reader.tokens, reader.at, Wanted::Comma)?;
+    reader.at += 1;
+    let name = expect(reader.tokens, reader.at, Wanted::Name)?;
+    reader.at += 1;
+    expect(reader.tokens, reader.at, Wanted::RightBracket)?;
+    reader.at += 1;
+    reader.depth -= 1;
+    expect(reader.tokens, reader.at, Wanted::Equals)?;
+    reader.at += 1;
+    let word = word.span;
+    let ty = ty.span;
+    let name = name.span;
+    push(&mut reader.frames, Frame::Open { word, ty, name })?;
+    Ok(Control::Term)
+}
+
+/// E ::= fix name ( name : T ) : T . E | gen name . E | let name = E in E | pack [ T , E ] as T
+/// | open [ name , name ] = E in E | S := S | S
 pub(crate) fn begin_term(alloc: Global, reader: &mut Reader) -> Result<Control, Stopped>
     requires { Stays reader.old.tokens.now reader.old (Nt LE ∷ []) [] }
     ensures { Went reader.old.tokens.now reader.new (work reader.old.tokens.now reader.old control.Term) result }
@@ -64,6 +131,16 @@ pub(crate) fn begin_term(alloc: Global, reader: &mut Reader) -> Result<Control, 
     if let Some(word) = take(reader.tokens, reader.at, Wanted::Gen) {
         return begin_gen(reader, word);
     }
+    if let Some(word) = take(reader.tokens, reader.at, Wanted::Let) {
+        return begin_let(reader, word);
+    }
+    if let Some(word) = take(reader.tokens, reader.at, Wanted::Pack) {
+        return begin_pack(alloc, reader, word);
+    }
+    if let Some(word) = take(reader.tokens, reader.at, Wanted::Open) {
+        return begin_open(reader, word);
+    }
+    push(&mut reader.frames, Frame::MoreAssign)?;
     push(&mut reader.frames, Frame::MoreSums)?;
     push(&mut reader.frames, Frame::MoreFactors)?;
     push(&mut reader.frames, Frame::MoreParts)?;
@@ -151,7 +228,33 @@ fn begin_if0(reader: &mut Reader, word: Token) -> Result<Control, Stopped>
     Ok(Control::Term)
 }
 
-/// P ::= name | number | ( E ) | < > | < E , .. , E > | # number P | if0 ( E , E , E )
+// ref P
+fn begin_ref(reader: &mut Reader, word: Token) -> Result<Control, Stopped>
+    requires stays { Stays reader.old.tokens.now reader.old (Nt LP ∷ []) [] }
+    requires token { slice_get reader.old.tokens.now reader.old.at ≡ Some word }
+    requires kind { word.kind ≡ kinds.Ref }
+    ensures { Went reader.old.tokens.now reader.new (work reader.old.tokens.now reader.old control.Part) result }
+{
+    reader.depth = opened(reader.at, reader.depth)?;
+    reader.at += 1;
+    push(&mut reader.frames, Frame::Ref { word: word.span })?;
+    Ok(Control::Part)
+}
+
+// ! P
+fn begin_deref(reader: &mut Reader, sign: Token) -> Result<Control, Stopped>
+    requires stays { Stays reader.old.tokens.now reader.old (Nt LP ∷ []) [] }
+    requires token { slice_get reader.old.tokens.now reader.old.at ≡ Some sign }
+    requires kind { sign.kind ≡ kinds.Bang }
+    ensures { Went reader.old.tokens.now reader.new (work reader.old.tokens.now reader.old control.Part) result }
+{
+    reader.depth = opened(reader.at, reader.depth)?;
+    reader.at += 1;
+    push(&mut reader.frames, Frame::Deref { sign: sign.span })?;
+    Ok(Control::Part)
+}
+
+/// P ::= name | number | ( E ) | < > | < E , .. , E > | # number P | if0 ( E , E , E ) | ref P | ! P
 pub(crate) fn begin_part(alloc: Global, reader: &mut Reader) -> Result<Control, Stopped>
     requires { Stays reader.old.tokens.now reader.old (Nt LP ∷ []) [] }
     ensures { Went reader.old.tokens.now reader.new (work reader.old.tokens.now reader.old control.Part) result }
@@ -169,6 +272,8 @@ pub(crate) fn begin_part(alloc: Global, reader: &mut Reader) -> Result<Control, 
         Kind::LeftAngle => begin_tuple(alloc, reader, token),
         Kind::Hash => begin_proj(reader, token),
         Kind::If0 => begin_if0(reader, token),
+        Kind::Ref => begin_ref(reader, token),
+        Kind::Bang => begin_deref(reader, token),
         _ => Err(Stopped::Unexpected(at)),
     }
 }

@@ -19,20 +19,81 @@ pub(crate) struct Head {
 /// What is done with a term that was read: the form around it, as far as it was read, or what may follow on the term.
 #[derive(Drop)]
 pub(crate) enum Frame {
-    Paren { left: Span },
-    First { left: Span },
-    Next { left: Span, fields: Vec<u64> },
-    Proj { hash: Span, field: u64 },
-    Test { word: Span },
-    Zero { word: Span, test: Part },
-    Other { word: Span, test: Part, zero: Part },
+    Paren {
+        left: Span,
+    },
+    First {
+        left: Span,
+    },
+    Next {
+        left: Span,
+        fields: Vec<u64>,
+    },
+    Proj {
+        hash: Span,
+        field: u64,
+    },
+    Test {
+        word: Span,
+    },
+    Zero {
+        word: Span,
+        test: Part,
+    },
+    Other {
+        word: Span,
+        test: Part,
+        zero: Part,
+    },
     Fix(Head),
-    Gen { word: Span, name: Span },
-    Argument { function: Part },
-    Right { op: Op, left: Part },
+    Gen {
+        word: Span,
+        name: Span,
+    },
+    Let {
+        word: Span,
+        name: Span,
+    },
+    LetBody {
+        word: Span,
+        name: Span,
+        first: Part,
+    },
+    Pack {
+        word: Span,
+        hidden: RawType,
+    },
+    Open {
+        word: Span,
+        ty: Span,
+        name: Span,
+    },
+    OpenBody {
+        word: Span,
+        ty: Span,
+        name: Span,
+        first: Part,
+    },
+    Ref {
+        word: Span,
+    },
+    Deref {
+        sign: Span,
+    },
+    Argument {
+        function: Part,
+    },
+    Right {
+        op: Op,
+        left: Part,
+    },
+    Assigned {
+        target: Part,
+    },
     MoreParts,
     MoreFactors,
     MoreSums,
+    MoreAssign,
 }
 
 /// What is next: a whole term is read, or a part of one, or a term was read.

@@ -41,6 +41,8 @@ pub(crate) fn next_argument(tokens: &[Token], at: usize) -> Option<Argument>
         Kind::LeftAngle => Some(Argument::Part),
         Kind::Hash => Some(Argument::Part),
         Kind::If0 => Some(Argument::Part),
+        Kind::Ref => Some(Argument::Part),
+        Kind::Bang => Some(Argument::Part),
         _ => None,
     }
 }

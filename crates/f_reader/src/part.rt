@@ -13,7 +13,7 @@ pub(crate) struct Part {
     pub end: u64,
 }
 
-/// A term of at most 1000 nodes, or the place of a larger one.
+/// A term of at most 100000 nodes, or the place of a larger one.
 #[derive(Drop)]
 pub enum Kept {
     Term(RawTerm),

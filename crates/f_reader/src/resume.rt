@@ -11,7 +11,7 @@ use crate::frame::{Control, Frame, Head, Reader};
 use crate::heads::{Argument, next_argument, next_sign};
 use crate::part::Part;
 use crate::put::put;
-use f_grammar::{RawShape, Stopped, Wanted, expect, opened, take, whole_type};
+use f_grammar::{RawShape, RawType, Stopped, Wanted, expect, opened, take, whole_type};
 use idx_core::{Op, Span};
 use std::alloc::Global;
 
@@ -170,6 +170,139 @@ fn after_gen(reader: &mut Reader, word: Span, name: Span, part: Part) -> Result<
     Ok(Control::Give(part))
 }
 
+// let name = E
+fn after_let(reader: &mut Reader, word: Span, name: Span, part: Part) -> Result<Control, Stopped>
+    requires { Offered reader.old.tokens.now reader.old (frame.Let word name) part }
+    ensures { Went reader.old.tokens.now reader.new (after reader.old.tokens.now reader.old) result }
+{
+    expect(reader.tokens, reader.at, Wanted::In)?;
+    reader.at += 1;
+    reader.depth -= 1;
+    let first = part;
+    push(&mut reader.frames, Frame::LetBody { word, name, first })?;
+    Ok(Control::Term)
+}
+
+// let name = E in E
+fn after_let_body(
+    reader: &mut Reader,
+    word: Span,
+    name: Span,
+    first: Part,
+    part: Part,
+) -> Result<Control, Stopped>
+    requires { Offered reader.old.tokens.now reader.old (frame.LetBody word name first) part }
+    ensures { Went reader.old.tokens.now reader.new (after reader.old.tokens.now reader.old) result }
+{
+    let shape = RawShape::Let(name, first.node, part.node);
+    let part = put(&mut reader.forest, shape, word.start, part.end)?;
+    Ok(Control::Give(part))
+}
+
+// pack [ T , E
+fn after_pack(
+    alloc: Global,
+    reader: &mut Reader,
+    word: Span,
+    hidden: RawType,
+    part: Part,
+) -> Result<Control, Stopped>
+    requires { Offered reader.old.tokens.now reader.old (frame.Pack word hidden) part }
+    ensures { Went reader.old.tokens.now reader.new (after reader.old.tokens.now reader.old) result }
+{
+    expect(reader.tokens, reader.at, Wanted::RightBracket)?;
+    reader.at += 1;
+    reader.depth -= 1;
+    expect(reader.tokens, reader.at, Wanted::As)?;
+    reader.at += 1;
+    let found = whole_type(alloc, reader.tokens, reader.at, reader.depth)?;
+    reader.at = found.next;
+    let end = found.end;
+    let shape = RawShape::Pack {
+        hidden,
+        inner: part.node,
+        shape: found.ty,
+    };
+    let part = put(&mut reader.forest, shape, word.start, end)?;
+    Ok(Control::Give(part))
+}
+
+// open [ name , name ] = E
+fn after_open(
+    reader: &mut Reader,
+    word: Span,
+    ty: Span,
+    name: Span,
+    part: Part,
+) -> Result<Control, Stopped>
+    requires { Offered reader.old.tokens.now reader.old (frame.Open word ty name) part }
+    ensures { Went reader.old.tokens.now reader.new (after reader.old.tokens.now reader.old) result }
+{
+    expect(reader.tokens, reader.at, Wanted::In)?;
+    reader.at += 1;
+    reader.depth -= 1;
+    let first = part;
+    push(
+        &mut reader.frames,
+        Frame::OpenBody {
+            word,
+            ty,
+            name,
+            first,
+        },
+    )?;
+    Ok(Control::Term)
+}
+
+// open [ name , name ] = E in E
+fn after_open_body(
+    reader: &mut Reader,
+    word: Span,
+    ty: Span,
+    name: Span,
+    first: Part,
+    part: Part,
+) -> Result<Control, Stopped>
+    requires { Offered reader.old.tokens.now reader.old (frame.OpenBody word ty name first) part }
+    ensures { Went reader.old.tokens.now reader.new (after reader.old.tokens.now reader.old) result }
+{
+    let shape = RawShape::Open(ty, name, first.node, part.node);
+    let part = put(&mut reader.forest, shape, word.start, part.end)?;
+    Ok(Control::Give(part))
+}
+
+// ref P
+fn after_ref(reader: &mut Reader, word: Span, part: Part) -> Result<Control, Stopped>
+    requires { Offered reader.old.tokens.now reader.old (frame.Ref word) part }
+    ensures { Went reader.old.tokens.now reader.new (after reader.old.tokens.now reader.old) result }
+{
+    reader.depth -= 1;
+    let shape = RawShape::Ref(part.node);
+    let part = put(&mut reader.forest, shape, word.start, part.end)?;
+    Ok(Control::Give(part))
+}
+
+// ! P
+fn after_deref(reader: &mut Reader, sign: Span, part: Part) -> Result<Control, Stopped>
+    requires { Offered reader.old.tokens.now reader.old (frame.Deref sign) part }
+    ensures { Went reader.old.tokens.now reader.new (after reader.old.tokens.now reader.old) result }
+{
+    reader.depth -= 1;
+    let shape = RawShape::Deref(part.node);
+    let part = put(&mut reader.forest, shape, sign.start, part.end)?;
+    Ok(Control::Give(part))
+}
+
+// S := S
+fn after_assigned(reader: &mut Reader, target: Part, part: Part) -> Result<Control, Stopped>
+    requires { Offered reader.old.tokens.now reader.old (frame.Assigned target) part }
+    ensures { Went reader.old.tokens.now reader.new (after reader.old.tokens.now reader.old) result }
+{
+    let shape = RawShape::Assign(target.node, part.node);
+    let part = put(&mut reader.forest, shape, target.start, part.end)?;
+    Ok(Control::Give(part))
+}
+
 // A P
 fn after_argument(reader: &mut Reader, function: Part, part: Part) -> Result<Control, Stopped>
     requires { Offered reader.old.tokens.now reader.old (frame.Argument function) part }
@@ -259,6 +392,24 @@ fn more_sums(reader: &mut Reader, part: Part) -> Result<Control, Stopped>
     }
 }
 
+/// E ::= S := S | S
+fn more_assign(reader: &mut Reader, part: Part) -> Result<Control, Stopped>
+    requires { Offered reader.old.tokens.now reader.old frame.MoreAssign part }
+    ensures { Went reader.old.tokens.now reader.new (after reader.old.tokens.now reader.old) result }
+{
+    match take(reader.tokens, reader.at, Wanted::Assign) {
+        Some(_) => {
+            reader.at += 1;
+            push(&mut reader.frames, Frame::Assigned { target: part })?;
+            push(&mut reader.frames, Frame::MoreSums)?;
+            push(&mut reader.frames, Frame::MoreFactors)?;
+            push(&mut reader.frames, Frame::MoreParts)?;
+            Ok(Control::Part)
+        }
+        None => Ok(Control::Give(part)),
+    }
+}
+
 /// What is done with a term for which the frame waits.
 pub(crate) fn resume(
     alloc: Global,
@@ -279,10 +430,24 @@ pub(crate) fn resume(
         Frame::Other { word, test, zero } => after_other(reader, word, test, zero, part),
         Frame::Fix(head) => after_fix(reader, head, part),
         Frame::Gen { word, name } => after_gen(reader, word, name, part),
+        Frame::Let { word, name } => after_let(reader, word, name, part),
+        Frame::LetBody { word, name, first } => after_let_body(reader, word, name, first, part),
+        Frame::Pack { word, hidden } => after_pack(alloc, reader, word, hidden, part),
+        Frame::Open { word, ty, name } => after_open(reader, word, ty, name, part),
+        Frame::OpenBody {
+            word,
+            ty,
+            name,
+            first,
+        } => after_open_body(reader, word, ty, name, first, part),
+        Frame::Ref { word } => after_ref(reader, word, part),
+        Frame::Deref { sign } => after_deref(reader, sign, part),
         Frame::Argument { function } => after_argument(reader, function, part),
         Frame::Right { op, left } => after_right(reader, op, left, part),
+        Frame::Assigned { target } => after_assigned(reader, target, part),
         Frame::MoreParts => more_parts(alloc, reader, part),
         Frame::MoreFactors => more_factors(reader, part),
         Frame::MoreSums => more_sums(reader, part),
+        Frame::MoreAssign => more_assign(reader, part),
     }
 }

@@ -1,17 +1,18 @@
 -- One node is looked at, and its parts wait.
 use Rattle.std.proofs.Common.{◌≡◌, ℕ, ◌+◌, ◌*◌, ◌<◌, ◌≤◌, ◌↔◌, List, [], ◌∷◌, ◌++◌, map, refl, ap, ◌∙◌, sym, subst, arith, All}
-use Rattle.std.proofs.lemmas.List.Elements.{All-head, All-tail}
+use Rattle.std.proofs.lemmas.List.Elements.{All-nil, All-cons, All-head, All-tail}
 use Rattle.f_terms.specs.Tm.{Tm, Spn, plain, plain_all, tms}
 use Rattle.f_terms.specs.Limits.{nodes, nodes_all}
 use Rattle.f_terms.specs.Scope.{InScope, AllInScope, IsClosed}
 use Rattle.f_terms.specs.Read.{place}
 use Rattle.f_terms.specs.ReadTerm.{count, node_at, term_of}
 use Rattle.f_terms.specs.Shape.{children, kids, shape_tree, node_tree}
-use Rattle.f_terms.specs.Waiting.{IsBound, types_within, values_within, waits, PartBound, AllBound, HasRoom, AllRoom, waiting_nodes, Holds}
+use Rattle.f_terms.specs.Waiting.{IsBound, waits, parts_wait, PartBound, AllBound, HasRoom, AllRoom, waiting_nodes, Holds}
 use Rattle.f_terms.specs.declared.node.FTerm.{FTerm}
 use Rattle.f_terms.specs.declared.node.FNode.{FNode}
 use Rattle.f_terms.specs.declared.node.FShape.{FShape}
-use Rattle.f_terms.specs.declared.node.FShape.TheVariants.{Var, Int, Fix, App, Gen, Inst, Tuple, Proj, Arith, If0}
+use Rattle.f_terms.specs.declared.node.FShape.TheVariants.{Var, Int, Fix, App, Gen, Inst, Tuple, Proj, Arith, If0, Let}
+use Rattle.f_terms.specs.declared.node.FShape.TheVariants.{Pack, Open, Ref, Deref, Assign}
 use Rattle.f_terms.specs.declared.admission.Waiting.{Waiting}
 
 module _ (at : ℕ → Tm) where
@@ -45,7 +46,7 @@ module _ (at : ℕ → Tm) where
 
   -- a form is bound where its own names and its parts are
   form_bound : (s : Spn) (shape : FShape) (n m : ℕ) →
-      InScope (plain (shape_tree at s shape)) n m ↔ (IsBound shape n m × AllBound at (waits (children shape) (types_within shape n) (values_within shape m)))
+      InScope (plain (shape_tree at s shape)) n m ↔ (IsBound shape n m × AllBound at (parts_wait shape n m))
   form_bound s (Var i) n m = (λ h. (h, tt), λ h. h.0)
   form_bound s (Int i) n m = (λ h. (tt, tt), λ h. tt)
   form_bound s (Fix a r b) n m = (λ h. ((h.0, h.1), (h.2, tt)), λ h. (h.0.0, h.0.1, h.1.0))
@@ -56,8 +57,14 @@ module _ (at : ℕ → Tm) where
   form_bound s (Proj i e) n m = (λ h. (tt, (h, tt)), λ h. h.1.0)
   form_bound s (Arith op a b) n m = (λ h. (tt, (h.0, (h.1, tt))), λ h. (h.1.0, h.1.1.0))
   form_bound s (If0 c a b) n m = (λ h. (tt, (h.0, (h.1, (h.2, tt)))), λ h. (h.1.0, h.1.1.0, h.1.1.1.0))
+  form_bound s (Let a b) n m = (λ h. (tt, (h.0, (h.1, tt))), λ h. (h.1.0, h.1.1.0))
+  form_bound s (Pack x e t) n m = (λ h. ((h.0, h.1), (h.2, tt)), λ h. (h.0.0, h.0.1, h.1.0))
+  form_bound s (Open a b) n m = (λ h. (tt, (h.0, (h.1, tt))), λ h. (h.1.0, h.1.1.0))
+  form_bound s (Ref e) n m = (λ h. (tt, (h, tt)), λ h. h.1.0)
+  form_bound s (Deref e) n m = (λ h. (tt, (h, tt)), λ h. h.1.0)
+  form_bound s (Assign a b) n m = (λ h. (tt, (h.0, (h.1, tt))), λ h. (h.1.0, h.1.1.0))
 
-  form_waiting : (s : Spn) (shape : FShape) (n m : ℕ) → 1 + waiting_nodes at (waits (children shape) n m) ≡ nodes (plain (shape_tree at s shape))
+  form_waiting : (s : Spn) (shape : FShape) (n m : ℕ) → 1 + waiting_nodes at (parts_wait shape n m) ≡ nodes (plain (shape_tree at s shape))
   form_waiting s (Var i) n m = omega arith
   form_waiting s (Int i) n m = omega arith
   form_waiting s (Fix a r b) n m = omega arith
@@ -68,6 +75,12 @@ module _ (at : ℕ → Tm) where
   form_waiting s (Proj i e) n m = omega arith
   form_waiting s (Arith op a b) n m = omega arith
   form_waiting s (If0 c a b) n m = omega arith
+  form_waiting s (Let a b) n m = omega arith
+  form_waiting s (Pack x e t) n m = omega arith
+  form_waiting s (Open a b) n m = omega arith
+  form_waiting s (Ref e) n m = omega arith
+  form_waiting s (Deref e) n m = omega arith
+  form_waiting s (Assign a b) n m = omega arith
 
   -- the parts have room where the form has
   parts_room : (size : ℕ) (ks : List ℕ) (n m : ℕ) → All (λ k. k < size) ks → n + waiting_nodes at (waits ks n m) ≤ 4294967295 → m + 2 * waiting_nodes at (waits ks n m) ≤ 8589934590 →
@@ -78,33 +91,37 @@ module _ (at : ℕ → Tm) where
     parts_room size ks n m (All-tail (λ k. k < size) k ks low) (omega (arith, a)) (omega (arith, b)),
   )
 
-types_most : (shape : FShape) (n : ℕ) → types_within shape n ≤ n + 1
-types_most (Var i) n = omega arith
-types_most (Int i) n = omega arith
-types_most (Fix a r b) n = omega arith
-types_most (App f x) n = omega arith
-types_most (Gen b) n = omega arith
-types_most (Inst e t) n = omega arith
-types_most (Tuple es) n = omega arith
-types_most (Proj i e) n = omega arith
-types_most (Arith op a b) n = omega arith
-types_most (If0 c a b) n = omega arith
+  first : (size k j : ℕ) → All (λ i. i < size) (k ∷ j ∷ []) → All (λ i. i < size) (k ∷ [])
+  first size k j low = All-cons (λ i. i < size) k [] (All-head (λ i. i < size) k (j ∷ []) low) (All-nil (λ i. i < size))
 
-values_most : (shape : FShape) (m : ℕ) → values_within shape m ≤ m + 2
-values_most (Var i) m = omega arith
-values_most (Int i) m = omega arith
-values_most (Fix a r b) m = omega arith
-values_most (App f x) m = omega arith
-values_most (Gen b) m = omega arith
-values_most (Inst e t) m = omega arith
-values_most (Tuple es) m = omega arith
-values_most (Proj i e) m = omega arith
-values_most (Arith op a b) m = omega arith
-values_most (If0 c a b) m = omega arith
+  form_room : (size : ℕ) (shape : FShape) (n m : ℕ) → All (λ k. k < size) (children shape) → n + 1 + waiting_nodes at (parts_wait shape n m) ≤ 4294967295 → m + 2 + 2 * waiting_nodes at (parts_wait shape n m) ≤ 8589934590 →
+      AllRoom size at (parts_wait shape n m)
+  form_room size (Var i) n m low a b = tt
+  form_room size (Int i) n m low a b = tt
+  form_room size (Fix x r e) n m low a b = parts_room size (e ∷ []) n (m + 2) low (omega (arith, a)) (omega (arith, b))
+  form_room size (App f x) n m low a b = parts_room size (f ∷ x ∷ []) n m low (omega (arith, a)) (omega (arith, b))
+  form_room size (Gen e) n m low a b = parts_room size (e ∷ []) (n + 1) m low (omega (arith, a)) (omega (arith, b))
+  form_room size (Inst e t) n m low a b = parts_room size (e ∷ []) n m low (omega (arith, a)) (omega (arith, b))
+  form_room size (Tuple es) n m low a b = parts_room size es.items n m low (omega (arith, a)) (omega (arith, b))
+  form_room size (Proj i e) n m low a b = parts_room size (e ∷ []) n m low (omega (arith, a)) (omega (arith, b))
+  form_room size (Arith op x y) n m low a b = parts_room size (x ∷ y ∷ []) n m low (omega (arith, a)) (omega (arith, b))
+  form_room size (If0 c x y) n m low a b = parts_room size (c ∷ x ∷ y ∷ []) n m low (omega (arith, a)) (omega (arith, b))
+  form_room size (Let x y) n m low a b =
+      room_join size (waits (x ∷ []) n m) (waits (y ∷ []) n (m + 1))
+      (parts_room size (x ∷ []) n m (first size x y low) (omega (arith, a)) (omega (arith, b)))
+      (parts_room size (y ∷ []) n (m + 1) (All-tail (λ i. i < size) x (y ∷ []) low) (omega (arith, a)) (omega (arith, b)))
+  form_room size (Pack x e t) n m low a b = parts_room size (e ∷ []) n m low (omega (arith, a)) (omega (arith, b))
+  form_room size (Open x y) n m low a b =
+      room_join size (waits (x ∷ []) n m) (waits (y ∷ []) (n + 1) (m + 1))
+      (parts_room size (x ∷ []) n m (first size x y low) (omega (arith, a)) (omega (arith, b)))
+      (parts_room size (y ∷ []) (n + 1) (m + 1) (All-tail (λ i. i < size) x (y ∷ []) low) (omega (arith, a)) (omega (arith, b)))
+  form_room size (Ref e) n m low a b = parts_room size (e ∷ []) n m low (omega (arith, a)) (omega (arith, b))
+  form_room size (Deref e) n m low a b = parts_room size (e ∷ []) n m low (omega (arith, a)) (omega (arith, b))
+  form_room size (Assign x y) n m low a b = parts_room size (x ∷ y ∷ []) n m low (omega (arith, a)) (omega (arith, b))
 
 module _ (f : FTerm) (ws : List Waiting) (w : Waiting) (n : FNode) (is : node_at f w.at ≡ node_tree (node_at f) n) (low : All (λ k. k < w.at) (kids n)) where
   -- a part that waits is bound where its own names are and its parts that wait then
-  pub part_bound : PartBound (node_at f) w ↔ (IsBound n.shape w.types w.values × AllBound (node_at f) (waits (kids n) (types_within n.shape w.types) (values_within n.shape w.values)))
+  pub part_bound : PartBound (node_at f) w ↔ (IsBound n.shape w.types w.values × AllBound (node_at f) (parts_wait n.shape w.types w.values))
   part_bound =
       let r = form_bound (node_at f) (place n.span) n.shape w.types w.values in (
         λ h. r.0 (subst (λ t. InScope (plain t) w.types w.values) is h),
@@ -112,15 +129,15 @@ module _ (f : FTerm) (ws : List Waiting) (w : Waiting) (n : FNode) (is : node_at
       )
 
   -- the parts wait in its place
-  pub looked : Holds f (ws ++ w ∷ []) → IsBound n.shape w.types w.values → (vs : List Waiting) → vs ≡ ws ++ waits (kids n) (types_within n.shape w.types) (values_within n.shape w.values) →
+  pub looked : Holds f (ws ++ w ∷ []) → IsBound n.shape w.types w.values → (vs : List Waiting) → vs ≡ ws ++ parts_wait n.shape w.types w.values →
       Holds f vs × (waiting_nodes (node_at f) vs < waiting_nodes (node_at f) (ws ++ w ∷ []))
   looked h own vs e =
       let at = node_at f in
-      let ps = waits (kids n) (types_within n.shape w.types) (values_within n.shape w.values) in
+      let ps = parts_wait n.shape w.types w.values in
       let rooms = room_both at (count f) ws (w ∷ []) h.1 in
       let room = rooms.1.0 in
       let inside = room.0 in
-      let most = form_waiting at (place n.span) n.shape (types_within n.shape w.types) (values_within n.shape w.values) ∙ ap (λ t. nodes (plain t)) (sym is) in
+      let most = form_waiting at (place n.span) n.shape w.types w.values ∙ ap (λ t. nodes (plain t)) (sym is) in
       let within : All (λ k. k < count f) (kids n) = λ i d lt. let b = low i d lt in omega (arith, b, inside) in (
         (
           (
@@ -128,8 +145,7 @@ module _ (f : FTerm) (ws : List Waiting) (w : Waiting) (n : FNode) (is : node_at
             λ k. subst (AllBound at) (sym e) (let b = bound_both at ws (w ∷ []) (h.0.1 k) in bound_join at ws ps b.0 (part_bound.0 b.1.0).1),
           ),
           subst (AllRoom (count f) at) (sym e) (room_join at (count f) ws ps rooms.0
-              (parts_room at (count f) (kids n) (types_within n.shape w.types) (values_within n.shape w.values) within
-              (omega (arith, types_most n.shape w.types, most, room.1)) (omega (arith, values_most n.shape w.values, most, room.2)))),
+              (form_room at (count f) n.shape w.types w.values within (omega (arith, most, room.1)) (omega (arith, most, room.2)))),
         ),
         omega (arith, ap (waiting_nodes at) e, waiting_both at ws ps, waiting_both at ws (w ∷ []), most),
       )

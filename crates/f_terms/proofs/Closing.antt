@@ -3,7 +3,7 @@ use Rattle.std.proofs.Common.{◌≡◌, ℕ, ◌+◌, ◌-◌, ◌<◌, ◌⊎�
 use Rattle.std.proofs.lemmas.Bool.{cases_order}
 use Rattle.idx_core.specs.Over.{deep, At, putted}
 use Rattle.idx_core.specs.Laws as laws
-use Rattle.f_terms.specs.Ty.{Ty, TInt, TVar, TArrow, TAll, TTuple, Tys, NoTys, MoreTys, over, over_all, shift, put, put_from, Below, Closed}
+use Rattle.f_terms.specs.Ty.{Ty, TInt, TVar, TArrow, TAll, TTuple, TSome, TRef, Tys, NoTys, MoreTys, over, over_all, shift, put, put_from, Below, Closed}
 use Rattle.f_terms.specs.TyLaws.{types_part, types_over, types_each, put_put, put_bound}
 use Rattle.f_terms.specs.Typing.{raised}
 
@@ -40,6 +40,10 @@ close_arrow c (MoreTys s ss) a b = close_arrow c ss (put c s a) (put c s b)
 pub close_tuple : (c : ℕ) (ss ts : Tys) → close c ss (TTuple ts) ≡ TTuple (close_fields c ss ts)
 close_tuple c NoTys ts = refl
 close_tuple c (MoreTys s ss) ts = close_tuple c ss (over_all (putted TVar over c s) c ts)
+
+pub close_ref : (c : ℕ) (ss : Tys) (t : Ty) → close c ss (TRef t) ≡ TRef (close c ss t)
+close_ref c NoTys t = refl
+close_ref c (MoreTys s ss) t = close_ref c ss (put c s t)
 
 no_fields : (c : ℕ) (ss : Tys) → close_fields c ss NoTys ≡ NoTys
 no_fields c NoTys = refl
@@ -79,6 +83,10 @@ pub close_under : (c : ℕ) (ss : Tys) (t : Ty) → AllClosed ss → close c ss 
 close_under c NoTys t h = refl
 close_under c (MoreTys s ss) t h = ap (λ u. close c ss (TAll u)) (put_under c s t h.0) ∙ close_under c ss (put (c + 1) s t) h.1
 
+pub close_under_some : (c : ℕ) (ss : Tys) (t : Ty) → AllClosed ss → close c ss (TSome t) ≡ TSome (close (c + 1) ss t)
+close_under_some c NoTys t h = refl
+close_under_some c (MoreTys s ss) t h = ap (λ u. close c ss (TSome u)) (put_under c s t h.0) ∙ close_under_some c ss (put (c + 1) s t) h.1
+
 -- a context under one more type variable, which stands for r
 pub close_raised : (r : Ty) (ss g : Tys) → close_all (MoreTys r ss) (raised g) ≡ close_all ss g
 close_raised r ss NoTys = refl
@@ -98,6 +106,10 @@ close_closed c (MoreTys s ss) t h = ap (close c ss) (closed_put c s t h) ∙ clo
 -- one more type variable, which stands for the closed type r
 pub close_more : (r : Ty) (ss : Tys) (t : Ty) → Closed r → AllClosed ss → close 0 (MoreTys r ss) t ≡ put 0 r (close 1 ss t)
 close_more r ss t h k = close_put ss r t k ∙ ap (λ u. put 0 u (close 1 ss t)) (close_closed 0 ss r h)
+
+-- and a type from outside of it
+pub close_outside : (r : Ty) (ss : Tys) (t : Ty) → close 0 (MoreTys r ss) (shift 1 0 t) ≡ close 0 ss t
+close_outside r ss t = ap (close 0 ss) (laws.put_shift_law types_part types_over 0 r t)
 
 -- a type with a closed type for each of its variables is closed
 closed_below : (n : ℕ) (t : Ty) → Closed t → Below n t

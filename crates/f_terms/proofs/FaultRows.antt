@@ -1,10 +1,11 @@
 -- Worked rows on the first fault of typing. The comment above each row is its text.
-use Rattle.std.proofs.Common.{◌≡◌, ℕ, zero, suc, ◌+◌, ◌-◌, ◌≤◌, pos, refl, ap, arith, inl, inr, lit<, lit≤}
+use Rattle.std.proofs.Common.{◌≡◌, ℕ, zero, suc, ◌+◌, ◌-◌, ◌≤◌, pos, refl, sym, ◌∙◌, ap, arith, inl, inr, lit<, lit≤}
 use Rattle.idx_core.specs.declared.arith.Op.TheVariants.{Add}
-use Rattle.f_terms.specs.declared.fault.Code.TheVariants.{E07, E08, E09, E10, E11, E12, E13, E14, L4, L5}
-use Rattle.f_terms.specs.Ty.{Ty, TInt, TVar, TArrow, TAll, TTuple, Tys, NoTys, MoreTys, put, size, sizes, depth, depths, Below}
-use Rattle.f_terms.specs.TyLaws.{shift_none}
-use Rattle.f_terms.specs.Tm.{Spn, Tm, SVar, SNum, SFix, SApp, SGen, SInst, STuple, SProj, SArith, SIf0, NoTms, MoreTms}
+use Rattle.f_terms.specs.declared.fault.Code.TheVariants.{E07, E08, E09, E10, E11, E12, E13, E14, E16, E17, E18, E21, E22, L4, L5}
+use Rattle.f_terms.specs.Ty.{Ty, TInt, TVar, TArrow, TAll, TTuple, TSome, TRef, Tys, NoTys, MoreTys, shift, put, size, sizes, depth, depths, Below}
+use Rattle.f_terms.specs.TyLaws.{shift_none, unshift}
+use Rattle.f_terms.specs.Tm.{Spn, Tm, SVar, SNum, SFix, SApp, SGen, SInst, STuple, SProj, SArith, SIf0, SPack}
+use Rattle.f_terms.specs.Tm.{SOpen, SRef, SDeref, SAssign, NoTms, MoreTms}
 use Rattle.f_terms.specs.Limits.{Within}
 use Rattle.f_terms.specs.Faults.{Passes, Fault}
 
@@ -208,3 +209,43 @@ tuple_too_large s r =
       (wide_type 4997, MoreTys (wide_type 4997) NoTys, refl, each, (wide_type 4997, NoTys, refl, each, refl)),
       inr (omega (arith, ints_depth 4997), inl (λ h. omega (arith, ints_size 4997, h), (refl, refl))),
     )
+
+-- pack[int, 1] as int
+shape_is_no_existential : Fault (SPack (0, 19) TInt (one (10, 11)) TInt) 0 NoTys E16 (0, 19)
+shape_is_no_existential = (refl, refl)
+
+-- pack[int, <>] as some a. a
+pack_does_not_fit : Fault (SPack (0, 26) TInt (STuple (10, 12) NoTms) (TSome (TVar 0))) 0 NoTys E17 (10, 12)
+pack_does_not_fit =
+    inr (lit≤ tt, inr (lit≤ tt, inr (lit≤ tt, inr (lit≤ tt, inr (TTuple NoTys, unit_passes (10, 12), inl (λ e. cc, (refl, refl)))))))
+
+-- open [a,x] = 1 in 2
+opened_is_no_existential : Fault (SOpen (0, 19) (one (13, 14)) (SNum (18, 19) (pos 2))) 0 NoTys E16 (13, 14)
+opened_is_no_existential = inr (TInt, refl, (refl, refl))
+
+-- open [a,x] = pack[int,3] as some a. a in x
+hidden_is_inside : (t : Ty) → TVar 0 ≡ shift 1 0 t → ⊥
+hidden_is_inside t e =
+    let same : TInt ≡ t = ap (λ (u : Ty). put 0 TInt u) e ∙ unshift t in
+    let h : TVar 0 ≡ TInt = e ∙ ap (λ (u : Ty). shift 1 0 u) (sym same) in cc
+
+hidden_type_escapes : Fault (SOpen (0, 42) (SPack (13, 37) TInt (SNum (22, 23) (pos 3)) (TSome (TVar 0))) (SVar (41, 42) 0)) 0 NoTys E18 (41, 42)
+hidden_type_escapes =
+    inr (
+      TSome (TVar 0),
+      (TVar 0, refl, refl, tt, (tt, lit< tt), refl, (lit≤ tt, lit≤ tt), (lit≤ tt, lit≤ tt)),
+      inr (TVar 0, refl, inl (λ h. hidden_is_inside h.0 h.1.0, (refl, refl))),
+    )
+
+-- !1
+read_is_no_reference : Fault (SDeref (0, 2) (one (1, 2))) 0 NoTys E21 (1, 2)
+read_is_no_reference = inr (TInt, refl, (refl, refl))
+
+-- 1 := 2
+assigned_is_no_reference : Fault (SAssign (0, 6) (one (0, 1)) (SNum (5, 6) (pos 2))) 0 NoTys E21 (0, 1)
+assigned_is_no_reference = inr (TInt, refl, (refl, refl))
+
+-- (ref 1) := <>
+assigned_of_another_type : Fault (SAssign (0, 13) (SRef (1, 6) (one (5, 6))) (STuple (11, 13) NoTms)) 0 NoTys E22 (11, 13)
+assigned_of_another_type =
+    inr (TRef TInt, (TInt, refl, refl, (lit≤ tt, lit≤ tt)), inr (TTuple NoTys, unit_passes (11, 13), inl (λ e. cc, (refl, refl))))

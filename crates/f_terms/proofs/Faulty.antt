@@ -1,13 +1,13 @@
 -- What passes each check has no fault, and two first faults are equal.
-use Rattle.std.proofs.Common.{◌≡◌, ℕ, ◌+◌, refl}
-use Rattle.f_terms.specs.Ty.{Ty, TInt, TArrow, TAll, TTuple, Tys, put}
-use Rattle.f_terms.specs.Tm.{Tm, SVar, SNum, SFix, SApp, SGen, SInst, STuple, SProj, SArith, SIf0, Tms, NoTms, MoreTms, plain, plain_all}
-use Rattle.f_terms.specs.Typing.{field_ty, raised, in_fix, HasType, HaveTypes}
-use Rattle.f_terms.specs.Faults.{Passes, PassAll, refuse, Fault, FaultAll}
+use Rattle.std.proofs.Common.{◌≡◌, ℕ, ◌+◌, refl, sym, subst}
+use Rattle.f_terms.specs.Ty.{Ty, TInt, TArrow, TAll, TTuple, TSome, TRef, Tys, MoreTys, shift, put}
+use Rattle.f_terms.specs.Tm.{Tm, SVar, SNum, SFix, SApp, SGen, SInst, STuple, SProj, SArith, SIf0, SLet, SPack, SOpen, SRef, SDeref, SAssign, Tms, NoTms, MoreTms, plain, plain_all}
+use Rattle.f_terms.specs.Typing.{field_ty, raised, in_fix, in_open, HasType, HaveTypes}
+use Rattle.f_terms.specs.Faults.{Passes, PassAll, Refusal, refuse, if_some, Fault, FaultAll}
 use Rattle.f_terms.specs.Laws.{NoFaultBesideAPass, OneFault}
 use Rattle.f_terms.specs.declared.fault.Code.TheVariants.{E11}
 use Rattle.f_terms.specs.OneType.{one_type, one_list}
-use Rattle.f_terms.proofs.Refusals.{Clear, clear_nothing, clear_check, clear_part, clear_limits, clear_some, One, one_nothing, one_refuse, one_check, one_part, one_limits, one_arrow, one_all, one_tuple, one_none}
+use Rattle.f_terms.proofs.Refusals.{Clear, clear_nothing, clear_check, clear_part, clear_limits, clear_some, One, one_nothing, one_refuse, one_check, one_part, one_limits, one_arrow, one_all, one_tuple, one_some, one_ref, one_none}
 
 mutual
   pub has_type : (e : Tm) (n : ℕ) (g : Tys) (t : Ty) → Passes e n g t → HasType (plain e) n g t
@@ -21,6 +21,12 @@ mutual
   has_type (SProj s i e) n g t h = (h.0, h.1, has_type e n g (TTuple h.0) h.2)
   has_type (SArith s op a b) n g t h = (h.0, has_type a n g TInt h.1, has_type b n g TInt h.2)
   has_type (SIf0 s c a b) n g t h = (has_type c n g TInt h.0, has_type a n g t h.1, has_type b n g t h.2)
+  has_type (SLet s a b) n g t h = (h.0, has_type a n g h.0 h.1, has_type b n (MoreTys h.0 g) t h.2)
+  has_type (SPack s x e r) n g t h = (h.0, h.1, h.2, h.3, h.4, has_type e n g (put 0 x h.0) h.5)
+  has_type (SOpen s a b) n g t h = (h.0, h.1, has_type a n g (TSome h.0) h.2, has_type b (n + 1) (in_open h.0 g) (shift 1 0 t) h.3)
+  has_type (SRef s e) n g t h = (h.0, h.1, has_type e n g h.0 h.2)
+  has_type (SDeref s e) n g t h = has_type e n g (TRef t) h
+  has_type (SAssign s a b) n g t h = (h.0, h.1, has_type a n g (TRef h.0) h.2, has_type b n g h.0 h.3)
 
   pub have_types : (es : Tms) (n : ℕ) (g ts : Tys) → PassAll es n g ts → HaveTypes (plain_all es) n g ts
   have_types NoTms n g ts h = h
@@ -31,6 +37,9 @@ one_pass e n g t u h k = one_type (plain e) n g t u (has_type e n g t h) (has_ty
 
 pub one_pass_all : (es : Tms) (n : ℕ) (g t u : Tys) → PassAll es n g t → PassAll es n g u → t ≡ u
 one_pass_all es n g t u h k = one_list (plain_all es) n g t u (have_types es n g t h) (have_types es n g u k)
+
+clear_some_type : {t u : Ty} (other : Refusal) (go : Ty → Refusal) → t ≡ TSome u → Clear (go u) → Clear (if_some t other go)
+clear_some_type other go e k = subst (λ x. Clear (if_some x other go)) (sym e) k
 
 mutual
   no_fault : (e : Tm) (n : ℕ) (g : Tys) (t : Ty) → Passes e n g t → Clear (Fault e n g)
@@ -56,6 +65,21 @@ mutual
       clear_part TInt h.0 (no_fault c n g _ h.0) (λ u k. one_pass c n g _ u h.0 k) (clear_check refl
       (clear_part t h.1 (no_fault a n g _ h.1) (λ u k. one_pass a n g _ u h.1 k)
       (clear_part t h.2 (no_fault b n g _ h.2) (λ u k. one_pass b n g _ u h.2 k) (clear_check refl clear_nothing))))
+  no_fault (SLet s a b) n g t h =
+      clear_part h.0 h.1 (no_fault a n g _ h.1) (λ u k. one_pass a n g _ u h.1 k) (no_fault b n (MoreTys h.0 g) t h.2)
+  no_fault (SPack s x e r) n g t h =
+      clear_some_type _ _ h.1 (clear_limits x s h.6 (clear_limits r s h.7
+      (clear_part (put 0 x h.0) h.5 (no_fault e n g _ h.5) (λ u k. one_pass e n g _ u h.5 k) (clear_check refl clear_nothing))))
+  no_fault (SOpen s a b) n g t h =
+      clear_part (TSome h.0) h.2 (no_fault a n g _ h.2) (λ u k. one_pass a n g _ u h.2 k)
+      (clear_part (shift 1 0 t) h.3 (no_fault b _ _ _ h.3) (λ u k. one_pass b _ _ _ u h.3 k) (clear_check (t, (refl, h.1)) clear_nothing))
+  no_fault (SRef s e) n g t h =
+      clear_part h.0 h.2 (no_fault e n g _ h.2) (λ u k. one_pass e n g _ u h.2 k) (clear_limits (TRef h.0) s h.3 clear_nothing)
+  no_fault (SDeref s e) n g t h =
+      clear_part (TRef t) h (no_fault e n g _ h) (λ u k. one_pass e n g _ u h k) clear_nothing
+  no_fault (SAssign s a b) n g t h =
+      clear_part (TRef h.0) h.2 (no_fault a n g _ h.2) (λ u k. one_pass a n g _ u h.2 k)
+      (clear_part h.0 h.3 (no_fault b n g _ h.3) (λ u k. one_pass b n g _ u h.3 k) (clear_check refl clear_nothing))
 
   no_faults : (es : Tms) (n : ℕ) (g ts : Tys) → PassAll es n g ts → Clear (FaultAll es n g)
   no_faults NoTms n g ts h = clear_nothing
@@ -84,6 +108,19 @@ mutual
       one_part (fault_one c n g) (no_fault c n g) (one_pass c n g) (λ t. one_check one_refuse
       (one_part (fault_one a n g) (no_fault a n g) (one_pass a n g) (λ u.
       one_part (fault_one b n g) (no_fault b n g) (one_pass b n g) (λ v. one_check one_refuse one_nothing))))
+  fault_one (SLet s a b) n g = one_part (fault_one a n g) (no_fault a n g) (one_pass a n g) (λ t. fault_one b n (MoreTys t g))
+  fault_one (SPack s x e r) n g =
+      one_some r one_refuse (λ u. one_limits x s (one_limits r s
+      (one_part (fault_one e n g) (no_fault e n g) (one_pass e n g) (λ t. one_check one_refuse one_nothing))))
+  fault_one (SOpen s a b) n g =
+      one_part (fault_one a n g) (no_fault a n g) (one_pass a n g) (λ t. one_some t one_refuse (λ u.
+      one_part (fault_one b _ _) (no_fault b _ _) (one_pass b _ _) (λ v. one_check one_refuse one_nothing)))
+  fault_one (SRef s e) n g = one_part (fault_one e n g) (no_fault e n g) (one_pass e n g) (λ t. one_limits (TRef t) s one_nothing)
+  fault_one (SDeref s e) n g =
+      one_part (fault_one e n g) (no_fault e n g) (one_pass e n g) (λ t. one_ref t one_refuse (λ u. one_nothing))
+  fault_one (SAssign s a b) n g =
+      one_part (fault_one a n g) (no_fault a n g) (one_pass a n g) (λ t. one_ref t one_refuse (λ u.
+      one_part (fault_one b n g) (no_fault b n g) (one_pass b n g) (λ v. one_check one_refuse one_nothing)))
 
   faults_one : (es : Tms) (n : ℕ) (g : Tys) → One (FaultAll es n g)
   faults_one NoTms n g = one_nothing

@@ -2,11 +2,13 @@ mod Admitting
 mod Closing
 mod Decided
 mod FaultRows
+mod Replacing
 mod Rows
 mod Sound
 mod TextRows
 mod Texts
 mod Turns
+pub mod Celled
 pub mod Faulty
 pub mod Limited
 pub mod NotedNodes

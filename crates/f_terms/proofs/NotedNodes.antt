@@ -4,7 +4,8 @@ use Rattle.std.proofs.lemmas.List.Elements.{All-head, All-tail}
 use Rattle.arena.specs.Arena.{InOrder}
 use Rattle.arena.proofs.Nodes.{part_at}
 use Rattle.f_terms.specs.Ty.{Ty}
-use Rattle.f_terms.specs.Noted.{Noted, EVar, EFix, EApp, EGen, EInst, ETuple, EProj, EArith, EIf, noteds}
+use Rattle.f_terms.specs.Noted.{Noted, EVar, EFix, EApp, EGen, EInst, ETuple, EProj, EArith, EIf, ELet, EPack, EOpen}
+use Rattle.f_terms.specs.Noted.{ERef, EDeref, EAssign, noteds}
 use Rattle.f_terms.specs.Read.{tree}
 use Rattle.f_terms.specs.ReadTerm.{count}
 use Rattle.f_terms.specs.Shape.{children, kids}
@@ -14,7 +15,8 @@ use Rattle.f_terms.specs.declared.types.FType.TheVariants as T
 use Rattle.f_terms.specs.declared.node.FTerm.{FTerm}
 use Rattle.f_terms.specs.declared.node.FNode.{FNode}
 use Rattle.f_terms.specs.declared.node.FShape.{FShape}
-use Rattle.f_terms.specs.declared.node.FShape.TheVariants.{Var, Int, Fix, App, Gen, Inst, Tuple, Proj, Arith, If0}
+use Rattle.f_terms.specs.declared.node.FShape.TheVariants.{Var, Int, Fix, App, Gen, Inst, Tuple, Proj, Arith, If0, Let}
+use Rattle.f_terms.specs.declared.node.FShape.TheVariants.{Pack, Open, Ref, Deref, Assign}
 
 same_all : (f g : ℕ → Noted) (ks : List ℕ) → All (λ k. f k ≡ g k) ks → map f ks ≡ map g ks
 same_all f g [] h = refl
@@ -33,6 +35,12 @@ shape_local f g t (Proj i e) h = ap (λ u. EProj i u t) (h 0 0 (omega arith))
 shape_local f g t (Arith op a b) h = ap₂ (EArith op) (h 0 0 (omega arith)) (h 1 0 (omega arith))
 shape_local f g t (If0 c a b) h =
     ap (λ u. EIf u (f a) (f b) t) (h 0 0 (omega arith)) ∙ ap₂ (λ u v. EIf (g c) u v t) (h 1 0 (omega arith)) (h 2 0 (omega arith))
+shape_local f g t (Let a b) h = ap₂ ELet (h 0 0 (omega arith)) (h 1 0 (omega arith))
+shape_local f g t (Pack x e s) h = ap (λ u. EPack (tree x) u (tree s)) (h 0 0 (omega arith))
+shape_local f g t (Open a b) h = ap₂ (λ x y. EOpen x y t) (h 0 0 (omega arith)) (h 1 0 (omega arith))
+shape_local f g t (Ref e) h = ap (λ u. ERef u t) (h 0 0 (omega arith))
+shape_local f g t (Deref e) h = ap (λ u. EDeref u t) (h 0 0 (omega arith))
+shape_local f g t (Assign a b) h = ap₂ EAssign (h 0 0 (omega arith)) (h 1 0 (omega arith))
 
 abbrev pub pair_kids : FNode × FType → List ℕ
 pair_kids n = kids n.0

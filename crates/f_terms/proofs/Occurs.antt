@@ -6,7 +6,7 @@ use Rattle.arena.specs.Roots.{total}
 use Rattle.arena.proofs.Once as once
 use Rattle.arena.proofs.Roots.{if_same}
 use Rattle.f_terms.specs.Limits.{nodes}
-use Rattle.f_terms.specs.Tm.{Tm, Spn, plain, plain_all, tms, MFix, MApp, MGen, MInst, MTuple, MProj, MArith, MIf0, MoreTerms}
+use Rattle.f_terms.specs.Tm.{Tm, Spn, plain, plain_all, tms, MFix, MApp, MGen, MInst, MTuple, MProj, MArith, MIf0, MLet, MPack, MOpen, MRef, MDeref, MAssign, MoreTerms}
 use Rattle.f_terms.specs.Noted.{Noted, bare, bare_all, noteds}
 use Rattle.f_terms.specs.Ty.{Ty}
 use Rattle.f_terms.specs.Read.{tree, place}
@@ -18,7 +18,8 @@ use Rattle.f_terms.specs.declared.types.FType.TheVariants as T
 use Rattle.f_terms.specs.declared.node.FNode.{FNode}
 use Rattle.f_terms.specs.declared.node.FTerm.{FTerm}
 use Rattle.f_terms.specs.declared.node.FShape.{FShape}
-use Rattle.f_terms.specs.declared.node.FShape.TheVariants.{Var, Int, Fix, App, Gen, Inst, Tuple, Proj, Arith, If0}
+use Rattle.f_terms.specs.declared.node.FShape.TheVariants.{Var, Int, Fix, App, Gen, Inst, Tuple, Proj, Arith, If0, Let}
+use Rattle.f_terms.specs.declared.node.FShape.TheVariants.{Pack, Open, Ref, Deref, Assign}
 use Rattle.f_terms.proofs.Parts.{node_is, nodes_of}
 use Rattle.f_terms.proofs.NotedNodes.{noted_is, noted_any, shape_local}
 
@@ -44,7 +45,7 @@ same_get d [] i = refl
 same_get d (x ∷ xs) zero = refl
 same_get d (x ∷ xs) (suc i) = same_get d xs i
 
-abbrev at : FTerm → ℕ → FNode
+abbrev pub at : FTerm → ℕ → FNode
 at f i = get_or f.nodes.items i no_node
 
 pub node_of : (f : FTerm) (i : ℕ) → i < count f → node_at f i ≡ shape_tree (node_at f) (place (at f i).span) (shape_at f i)
@@ -118,6 +119,12 @@ shape_bare g h t s (Proj i a) e = ap (MProj i) (e 0 0 (omega arith))
 shape_bare g h t s (Arith op a b) e = ap₂ (MArith op) (e 0 0 (omega arith)) (e 1 0 (omega arith))
 shape_bare g h t s (If0 c a b) e =
     ap (λ x. MIf0 x (bare (g a)) (bare (g b))) (e 0 0 (omega arith)) ∙ ap₂ (MIf0 (plain (h c))) (e 1 0 (omega arith)) (e 2 0 (omega arith))
+shape_bare g h t s (Let a b) e = ap₂ MLet (e 0 0 (omega arith)) (e 1 0 (omega arith))
+shape_bare g h t s (Pack x a u) e = ap (λ y. MPack (tree x) y (tree u)) (e 0 0 (omega arith))
+shape_bare g h t s (Open a b) e = ap₂ MOpen (e 0 0 (omega arith)) (e 1 0 (omega arith))
+shape_bare g h t s (Ref a) e = ap MRef (e 0 0 (omega arith))
+shape_bare g h t s (Deref a) e = ap MDeref (e 0 0 (omega arith))
+shape_bare g h t s (Assign a b) e = ap₂ MAssign (e 0 0 (omega arith)) (e 1 0 (omega arith))
 
 pub bare_at : (f : FTerm) (ts : List FType) (b i : ℕ) → i < b → i < count f → bare (noted_at f ts i) ≡ plain (node_at f i)
 bare_at f ts zero i lb lt = absurd (omega (arith, lb))

@@ -14,7 +14,8 @@ use Rattle.f_terms.specs.declared.node.FNode.{FNode}
 use Rattle.f_terms.specs.declared.node.FParts.{FParts}
 use Rattle.f_terms.specs.declared.node.FTerm.{FTerm}
 use Rattle.f_terms.specs.declared.node.FShape.{FShape}
-use Rattle.f_terms.specs.declared.node.FShape.TheVariants.{Var, Int, Fix, App, Gen, Inst, Tuple, Proj, Arith, If0}
+use Rattle.f_terms.specs.declared.node.FShape.TheVariants.{Var, Int, Fix, App, Gen, Inst, Tuple, Proj, Arith, If0, Let}
+use Rattle.f_terms.specs.declared.node.FShape.TheVariants.{Pack, Open, Ref, Deref, Assign}
 use Rattle.f_terms.proofs.Shapes.{local}
 use Rattle.arena.proofs.Roots.{among_push, among_pop, among_left_all, among_was_all, of_among, roots_push, roots_low, roots_differ, counted_push, just_one, last_among}
 
@@ -37,6 +38,12 @@ nodes_of f s (Tuple es) = ap (λ n. 1 + n) (nodes_all_of f es.items)
 nodes_of f s (Proj i e) = omega arith
 nodes_of f s (Arith op a b) = omega arith
 nodes_of f s (If0 c a b) = omega arith
+nodes_of f s (Let a b) = omega arith
+nodes_of f s (Pack x e t) = omega arith
+nodes_of f s (Open a b) = omega arith
+nodes_of f s (Ref e) = omega arith
+nodes_of f s (Deref e) = omega arith
+nodes_of f s (Assign a b) = omega arith
 
 pub added : (old new : FParts) (n : FNode) (r : ℕ) → new.nodes.items ≡ old.nodes.items ++ n ∷ [] → r ≡ length old.nodes.items → All (λ k. IsLoose old k) (kids n) → IsAdded old new (place n.span) n.shape r
 added old new n r e er loose =

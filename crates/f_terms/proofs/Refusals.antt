@@ -1,9 +1,9 @@
 -- Refusals: those that don't come, and those that come in one way at most.
 use Rattle.std.proofs.Common.{◌≡◌, sym, ◌∙◌, subst, inl, inr, Option, Some, None}
-use Rattle.f_terms.specs.Ty.{Ty, TInt, TVar, TArrow, TAll, TTuple, Tys}
+use Rattle.f_terms.specs.Ty.{Ty, TInt, TVar, TArrow, TAll, TTuple, TSome, TRef, Tys}
 use Rattle.f_terms.specs.Tm.{Spn}
 use Rattle.f_terms.specs.Limits.{Within}
-use Rattle.f_terms.specs.Faults.{Refusal, nothing, refuse, check, part, limits, if_arrow, if_all, if_tuple, if_none}
+use Rattle.f_terms.specs.Faults.{Refusal, nothing, refuse, check, part, limits, if_arrow, if_all, if_tuple, if_some, if_ref, if_none}
 use Rattle.f_terms.specs.declared.fault.Code.{Code}
 
 -- a refusal that doesn't come
@@ -70,6 +70,8 @@ one_arrow TInt x y = x
 one_arrow (TVar i) x y = x
 one_arrow (TAll t) x y = x
 one_arrow (TTuple ts) x y = x
+one_arrow (TSome t) x y = x
+one_arrow (TRef t) x y = x
 
 pub one_all : {other : Refusal} {go : Ty → Refusal} (t : Ty) → One other → ((b : Ty) → One (go b)) → One (if_all t other go)
 one_all (TArrow a b) x y = x
@@ -77,6 +79,8 @@ one_all TInt x y = x
 one_all (TVar i) x y = x
 one_all (TAll t) x y = y t
 one_all (TTuple ts) x y = x
+one_all (TSome t) x y = x
+one_all (TRef t) x y = x
 
 pub one_tuple : {other : Refusal} {go : Tys → Refusal} (t : Ty) → One other → ((ts : Tys) → One (go ts)) → One (if_tuple t other go)
 one_tuple (TArrow a b) x y = x
@@ -84,6 +88,26 @@ one_tuple TInt x y = x
 one_tuple (TVar i) x y = x
 one_tuple (TAll t) x y = x
 one_tuple (TTuple ts) x y = y ts
+one_tuple (TSome t) x y = x
+one_tuple (TRef t) x y = x
+
+pub one_some : {other : Refusal} {go : Ty → Refusal} (t : Ty) → One other → ((b : Ty) → One (go b)) → One (if_some t other go)
+one_some (TArrow a b) x y = x
+one_some TInt x y = x
+one_some (TVar i) x y = x
+one_some (TAll t) x y = x
+one_some (TTuple ts) x y = x
+one_some (TSome t) x y = y t
+one_some (TRef t) x y = x
+
+pub one_ref : {other : Refusal} {go : Ty → Refusal} (t : Ty) → One other → ((b : Ty) → One (go b)) → One (if_ref t other go)
+one_ref (TArrow a b) x y = x
+one_ref TInt x y = x
+one_ref (TVar i) x y = x
+one_ref (TAll t) x y = x
+one_ref (TTuple ts) x y = x
+one_ref (TSome t) x y = x
+one_ref (TRef t) x y = y t
 
 pub one_none : (fault : Refusal) (o : Option Ty) → One fault → One (if_none o fault)
 one_none fault None x = x

@@ -1,13 +1,19 @@
 -- The first fault of typing: each part in turn, whole, with what is asked of it, and then the form itself; a `fix` has
--- its type looked at before its body.
+-- its type looked at before its body, and a `pack` its two types before its part.
 use Rattle.std.specs.Prelude.{◌≡◌, ℕ, ◌+◌, ◌⊎◌, Option, Some, None}
-use Rattle.f_terms.specs.Ty.{Ty, TInt, TVar, TArrow, TAll, TTuple, Tys, NoTys, MoreTys, put, Below}
-use Rattle.f_terms.specs.Tm.{Spn, Tm, SVar, SNum, SFix, SApp, SGen, SInst, STuple, SProj, SArith, SIf0, Tms, NoTms}
+use Rattle.f_terms.specs.Ty.{Ty, TInt, TVar, TArrow, TAll, TTuple, TSome, TRef, Tys, NoTys, MoreTys, shift, put, Below}
+use Rattle.f_terms.specs.Tm.{Spn, Tm, SVar, SNum, SFix, SApp, SGen, SInst, STuple, SProj, SArith, SIf0, SLet, SPack}
+use Rattle.f_terms.specs.Tm.{SOpen, SRef, SDeref, SAssign, Tms, NoTms}
 use Rattle.f_terms.specs.Tm.{MoreTms, span_of}
 use Rattle.f_terms.specs.Limits.{Shallow, Small, Within}
-use Rattle.f_terms.specs.Typing.{ty_at, field_ty, raised, in_fix}
+use Rattle.f_terms.specs.Typing.{ty_at, field_ty, raised, in_fix, in_open}
 use Rattle.f_terms.specs.declared.fault.Code.{Code}
-use Rattle.f_terms.specs.declared.fault.Code.TheVariants.{E07, E08, E09, E10, E11, E12, E13, E14, L4, L5}
+use Rattle.f_terms.specs.declared.fault.Code.TheVariants.{E07, E08, E09, E10, E11, E12, E13, E14, E16, E17, E18}
+use Rattle.f_terms.specs.declared.fault.Code.TheVariants.{E21, E22, L4, L5}
+
+-- a type under n type names and one more, in which that one isn't: it is t outside of it
+abbrev pub IsOutside : ℕ → Ty → Ty → Type 0
+IsOutside n v t = (v ≡ shift 1 0 t) × Below n t
 
 -- every check of the term holds, and t is its type: source typing, with the limits L4 and L5 where types are made
 abbrev mutual
@@ -24,6 +30,14 @@ abbrev mutual
   Passes (SProj s i e) n g t = (ts : Tys) × (field_ty ts i ≡ Some t) × Passes e n g (TTuple ts)
   Passes (SArith s op a b) n g t = (t ≡ TInt) × Passes a n g TInt × Passes b n g TInt
   Passes (SIf0 s c a b) n g t = Passes c n g TInt × Passes a n g t × Passes b n g t
+  Passes (SLet s a b) n g t = (u : Ty) × Passes a n g u × Passes b n (MoreTys u g) t
+  Passes (SPack s h e r) n g t = (u : Ty) × (r ≡ TSome u) × (t ≡ r) × Below n h × Below n r × Passes e n g (put 0 h u)
+      × Within h × Within r
+  Passes (SOpen s a b) n g t = (u : Ty) × Below n t × Passes a n g (TSome u)
+      × Passes b (n + 1) (in_open u g) (shift 1 0 t)
+  Passes (SRef s e) n g t = (u : Ty) × (t ≡ TRef u) × Passes e n g u × Within (TRef u)
+  Passes (SDeref s e) n g t = Passes e n g (TRef t)
+  Passes (SAssign s a b) n g t = (u : Ty) × (t ≡ TTuple NoTys) × Passes a n g (TRef u) × Passes b n g u
 
   pub PassAll : Tms → ℕ → Tys → Tys → Type 0
   PassAll NoTms n g ts = ts ≡ NoTys
@@ -58,6 +72,8 @@ if_arrow TInt other go = other
 if_arrow (TVar i) other go = other
 if_arrow (TAll t) other go = other
 if_arrow (TTuple ts) other go = other
+if_arrow (TSome t) other go = other
+if_arrow (TRef t) other go = other
 
 abbrev pub if_all : Ty → Refusal → (Ty → Refusal) → Refusal
 if_all (TAll t) other go = go t
@@ -65,6 +81,8 @@ if_all TInt other go = other
 if_all (TVar i) other go = other
 if_all (TArrow a b) other go = other
 if_all (TTuple ts) other go = other
+if_all (TSome t) other go = other
+if_all (TRef t) other go = other
 
 abbrev pub if_tuple : Ty → Refusal → (Tys → Refusal) → Refusal
 if_tuple (TTuple ts) other go = go ts
@@ -72,6 +90,26 @@ if_tuple TInt other go = other
 if_tuple (TVar i) other go = other
 if_tuple (TArrow a b) other go = other
 if_tuple (TAll t) other go = other
+if_tuple (TSome t) other go = other
+if_tuple (TRef t) other go = other
+
+abbrev pub if_some : Ty → Refusal → (Ty → Refusal) → Refusal
+if_some (TSome t) other go = go t
+if_some TInt other go = other
+if_some (TVar i) other go = other
+if_some (TArrow a b) other go = other
+if_some (TAll t) other go = other
+if_some (TTuple ts) other go = other
+if_some (TRef t) other go = other
+
+abbrev pub if_ref : Ty → Refusal → (Ty → Refusal) → Refusal
+if_ref (TRef t) other go = go t
+if_ref TInt other go = other
+if_ref (TVar i) other go = other
+if_ref (TArrow a b) other go = other
+if_ref (TAll t) other go = other
+if_ref (TTuple ts) other go = other
+if_ref (TSome t) other go = other
 
 abbrev pub if_none : Option Ty → Refusal → Refusal
 if_none None fault = fault
@@ -104,6 +142,19 @@ abbrev mutual
       part (Fault c n g) (Passes c n g) (λ t. check (t ≡ TInt) (refuse E12 (span_of c))
       (part (Fault a n g) (Passes a n g)
       (λ u. part (Fault b n g) (Passes b n g) (λ v. check (v ≡ u) (refuse E13 (span_of b)) nothing))))
+  Fault (SLet s a b) n g = part (Fault a n g) (Passes a n g) (λ t. Fault b n (MoreTys t g))
+  Fault (SPack s h e r) n g =
+      if_some r (refuse E16 s) (λ u. limits h s (limits r s
+      (part (Fault e n g) (Passes e n g) (λ t. check (t ≡ put 0 h u) (refuse E17 (span_of e)) nothing))))
+  Fault (SOpen s a b) n g =
+      part (Fault a n g) (Passes a n g) (λ t. if_some t (refuse E16 (span_of a)) (λ u.
+      part (Fault b (n + 1) (in_open u g)) (Passes b (n + 1) (in_open u g))
+      (λ v. check ((w : Ty) × IsOutside n v w) (refuse E18 (span_of b)) nothing)))
+  Fault (SRef s e) n g = part (Fault e n g) (Passes e n g) (λ t. limits (TRef t) s nothing)
+  Fault (SDeref s e) n g = part (Fault e n g) (Passes e n g) (λ t. if_ref t (refuse E21 (span_of e)) (λ u. nothing))
+  Fault (SAssign s a b) n g =
+      part (Fault a n g) (Passes a n g) (λ t. if_ref t (refuse E21 (span_of a)) (λ u.
+      part (Fault b n g) (Passes b n g) (λ v. check (v ≡ u) (refuse E22 (span_of b)) nothing)))
 
   pub FaultAll : Tms → ℕ → Tys → Refusal
   FaultAll NoTms n g = nothing

@@ -7,7 +7,8 @@ use Rattle.f_terms.specs.Scope.{IsClosed}
 use Rattle.f_terms.specs.Typing.{HasType, IsProgram}
 use Rattle.f_terms.specs.Faults.{Passes, Fault}
 use Rattle.f_terms.specs.Accepted.{KeepsLimits}
-use Rattle.f_terms.specs.Eval.{Val, Vals, Gives, eval, eval_by, turn, Evaluates, IsSpent}
+use Rattle.f_terms.specs.Eval.{Val, Vals, Gives, cells, eval, eval_by, turn, Evaluates, IsSpent}
+use Rattle.f_terms.specs.Replaced.{replaced, values_replaced, result_replaced}
 use Rattle.f_terms.specs.declared.fault.Code.{Code}
 
 -- two puts exchange, the one put into the other
@@ -47,16 +48,22 @@ OneFault = (e : Tm) (n : ℕ) (g : Tys) (c d : Code) (p q : Spn) → Fault e n g
 
 -- the rules of evaluation with no bound on the depth: those of `eval_by`, where a body is entered by `turn`
 abbrev pub KeepsRules : Type 0
-KeepsRules = (n : ℕ) (env : Vals) (e : Term) → eval n env e ≡ eval_by turn env e n
+KeepsRules = (n : ℕ) (st env : Vals) (e : Term) → eval n st env e ≡ eval_by turn env e n st
 
--- more turns: the same value, and so many more turns left
+-- more turns: the same value and store, and so many more turns left
 abbrev pub MoreTurnsKeepTheValue : Type 0
-MoreTurnsKeepTheValue = (n more left : ℕ) (env : Vals) (e : Term) (v : Val) → eval n env e ≡ Gives v left →
-    eval (n + more) env e ≡ Gives v (left + more)
+MoreTurnsKeepTheValue = (n more left : ℕ) (st env : Vals) (e : Term) (v : Val) (after : Vals) →
+    eval n st env e ≡ Gives v left after → eval (n + more) st env e ≡ Gives v (left + more) after
 
 -- no more turns are left than were allowed
 abbrev pub LeavesAtMost : Type 0
-LeavesAtMost = (n left : ℕ) (env : Vals) (e : Term) (v : Val) → eval n env e ≡ Gives v left → left ≤ n
+LeavesAtMost = (n left : ℕ) (st env : Vals) (e : Term) (v : Val) (after : Vals) → eval n st env e ≡ Gives v left after →
+    left ≤ n
+
+-- a store only grows
+abbrev pub StoreGrows : Type 0
+StoreGrows = (n left : ℕ) (st env : Vals) (e : Term) (v : Val) (after : Vals) → eval n st env e ≡ Gives v left after →
+    cells st ≤ cells after
 
 -- within any numbers of turns, one integer
 abbrev pub OneAnswer : Type 0
@@ -65,3 +72,9 @@ OneAnswer = (e : Term) (n m : ℕ) (i j : ℤ) → Evaluates e n i → Evaluates
 -- a program evaluates to an integer, or is spent: no rule is ever missing
 abbrev pub NeverStuck : Type 0
 NeverStuck = (e : Term) → IsProgram e → (n : ℕ) → ((i : ℤ) × Evaluates e n i) ⊎ IsSpent e n
+
+-- packages don't show in an evaluation: that of the term with each pack replaced by its part and each open by a let is
+-- spent at the same turns, and else gives the same value, turns left and store, with the same replaced in their bodies
+abbrev pub PackagesDoNotShow : Type 0
+PackagesDoNotShow = (n : ℕ) (st env : Vals) (e : Term) →
+    eval n (values_replaced st) (values_replaced env) (replaced e) ≡ result_replaced (eval n st env e)

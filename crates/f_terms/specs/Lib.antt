@@ -1,4 +1,5 @@
 pub mod Accepted
+pub mod Cells
 pub mod Eval
 pub mod Faults
 pub mod Laws
@@ -11,6 +12,7 @@ pub mod OneType
 pub mod Props
 pub mod Read
 pub mod ReadTerm
+pub mod Replaced
 pub mod Scope
 pub mod Shape
 pub mod Stacked

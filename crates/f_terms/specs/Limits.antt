@@ -1,7 +1,8 @@
 -- The limits of terms and types, as counts.
 use Rattle.std.specs.Prelude.{ℕ, ◌+◌, ◌≤◌}
 use Rattle.f_terms.specs.Ty.{Ty, size, depth}
-use Rattle.f_terms.specs.Tm.{Term, MVar, MNum, MFix, MApp, MGen, MInst, MTuple, MProj, MArith, MIf0, Terms, NoTerms}
+use Rattle.f_terms.specs.Tm.{Term, MVar, MNum, MFix, MApp, MGen, MInst, MTuple, MProj, MArith, MIf0, MLet, MPack, MOpen}
+use Rattle.f_terms.specs.Tm.{MRef, MDeref, MAssign, Terms, NoTerms}
 use Rattle.f_terms.specs.Tm.{MoreTerms}
 
 -- the number of nodes of a term: types written in it don't count
@@ -17,6 +18,12 @@ abbrev mutual
   nodes (MProj i e) = 1 + nodes e
   nodes (MArith op a b) = 1 + nodes a + nodes b
   nodes (MIf0 c a b) = 1 + nodes c + nodes a + nodes b
+  nodes (MLet a b) = 1 + nodes a + nodes b
+  nodes (MPack h e t) = 1 + nodes e
+  nodes (MOpen a b) = 1 + nodes a + nodes b
+  nodes (MRef e) = 1 + nodes e
+  nodes (MDeref e) = 1 + nodes e
+  nodes (MAssign a b) = 1 + nodes a + nodes b
 
   pub nodes_all : Terms → ℕ
   nodes_all NoTerms = 0
@@ -24,7 +31,7 @@ abbrev mutual
 
 -- L3: the nodes of a program
 abbrev pub FewNodes : Term → Type 0
-FewNodes e = nodes e ≤ 1000
+FewNodes e = nodes e ≤ 100000
 
 -- L4 and L5: the depth and the size of a type
 abbrev pub Shallow : Ty → Type 0

@@ -1,7 +1,7 @@
 -- What is made of parts.
 use Rattle.std.specs.Prelude.{◌≡◌, ◌≢◌, ℕ, ◌+◌, ◌<◌, ◌⊎◌, List, [], ◌∷◌, ◌++◌}
 use Rattle.std.specs.List.{All}
-use Rattle.f_terms.specs.Tm.{Tm, Spn}
+use Rattle.f_terms.specs.Tm.{Spn}
 use Rattle.f_terms.specs.Shape.{children, shape_tree}
 use Rattle.arena.specs.Roots.{without_all}
 use Rattle.f_terms.specs.ReadTerm.{size_of, part, loose_parts, IsLoose}

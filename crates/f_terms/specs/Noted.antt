@@ -1,11 +1,13 @@
--- Terms with types beside their parts, as plain trees. Beside an application, a type application, a tuple, a projection
--- and an `if0` stands its own type, beside a `gen` that of its body: the types that the term itself doesn't write.
+-- Terms with types beside their parts, as plain trees. Beside an application, a type application, a tuple, a
+-- projection, an `if0`, a `ref` and a `!` stands its own type, beside a `gen` that of its body, beside an `open` that
+-- of the name which it binds: the types that the term itself doesn't write.
 use Rattle.std.specs.Prelude.{◌≡◌, ℕ, ℤ, List, [], ◌∷◌, Option, Some, None}
 use Rattle.idx_core.specs.declared.arith.Op.{Op}
-use Rattle.f_terms.specs.Ty.{Ty, TInt, TArrow, TAll, TTuple, Tys, NoTys, MoreTys, put}
-use Rattle.f_terms.specs.Tm.{Term, MVar, MNum, MFix, MApp, MGen, MInst, MTuple, MProj, MArith, MIf0, Terms, NoTerms}
+use Rattle.f_terms.specs.Ty.{Ty, TInt, TArrow, TAll, TTuple, TSome, TRef, Tys, NoTys, MoreTys, put}
+use Rattle.f_terms.specs.Tm.{Term, MVar, MNum, MFix, MApp, MGen, MInst, MTuple, MProj, MArith, MIf0, MLet, MPack, MOpen}
+use Rattle.f_terms.specs.Tm.{MRef, MDeref, MAssign, Terms, NoTerms}
 use Rattle.f_terms.specs.Tm.{MoreTerms}
-use Rattle.f_terms.specs.Typing.{ty_at, field_ty, raised, in_fix}
+use Rattle.f_terms.specs.Typing.{ty_at, field_ty, raised, in_fix, in_open}
 
 mutual
   pub data Noted : Type 0 where
@@ -19,6 +21,12 @@ mutual
     EProj : (i : ℕ) (e : Noted) (t : Ty) → Noted
     EArith : (op : Op) (a b : Noted) → Noted
     EIf : (test zero_part other_part : Noted) (t : Ty) → Noted
+    ELet : (a b : Noted) → Noted
+    EPack : (hidden : Ty) (e : Noted) (shape : Ty) → Noted
+    EOpen : (a b : Noted) (t : Ty) → Noted
+    ERef : (e : Noted) (t : Ty) → Noted
+    EDeref : (e : Noted) (t : Ty) → Noted
+    EAssign : (a b : Noted) → Noted
 
   pub data Noteds : Type 0 where
     NoNoteds : Noteds
@@ -41,6 +49,12 @@ abbrev mutual
   bare (EProj i e t) = MProj i (bare e)
   bare (EArith op a b) = MArith op (bare a) (bare b)
   bare (EIf c a b t) = MIf0 (bare c) (bare a) (bare b)
+  bare (ELet a b) = MLet (bare a) (bare b)
+  bare (EPack h e s) = MPack h (bare e) s
+  bare (EOpen a b t) = MOpen (bare a) (bare b)
+  bare (ERef e t) = MRef (bare e)
+  bare (EDeref e t) = MDeref (bare e)
+  bare (EAssign a b) = MAssign (bare a) (bare b)
 
   pub bare_all : Noteds → Terms
   bare_all NoNoteds = NoTerms
@@ -62,6 +76,18 @@ abbrev pub fields_of : Ty → Tys
 fields_of (TTuple ts) = ts
 fields_of _ = NoTys
 
+abbrev pub opened_of : Ty → Ty
+opened_of (TSome t) = t
+opened_of _ = TInt
+
+abbrev pub held_of : Ty → Ty
+held_of (TRef t) = t
+held_of _ = TInt
+
+-- a type outside of the innermost type name, which isn't in it
+abbrev pub outside : Ty → Ty
+outside t = put 0 TInt t
+
 -- the type of a typed term, where the names have these types
 abbrev mutual
   pub type_of : Term → Tys → Ty
@@ -75,6 +101,12 @@ abbrev mutual
   type_of (MProj i e) g = or_int (field_ty (fields_of (type_of e g)) i)
   type_of (MArith op a b) g = TInt
   type_of (MIf0 c a b) g = type_of a g
+  type_of (MLet a b) g = type_of b (MoreTys (type_of a g) g)
+  type_of (MPack h e s) g = s
+  type_of (MOpen a b) g = outside (type_of b (in_open (opened_of (type_of a g)) g))
+  type_of (MRef e) g = TRef (type_of e g)
+  type_of (MDeref e) g = held_of (type_of e g)
+  type_of (MAssign a b) g = TTuple NoTys
 
   pub types_of : Terms → Tys → Tys
   types_of NoTerms g = NoTys
@@ -93,6 +125,12 @@ abbrev mutual
   Beside (EProj i e t) g = (t ≡ type_of (MProj i (bare e)) g) × Beside e g
   Beside (EArith op a b) g = Beside a g × Beside b g
   Beside (EIf c a b t) g = (t ≡ type_of (bare a) g) × Beside c g × Beside a g × Beside b g
+  Beside (ELet a b) g = Beside a g × Beside b (MoreTys (type_of (bare a) g) g)
+  Beside (EPack h e s) g = Beside e g
+  Beside (EOpen a b t) g = (t ≡ opened_of (type_of (bare a) g)) × Beside a g × Beside b (in_open t g)
+  Beside (ERef e t) g = (t ≡ type_of (MRef (bare e)) g) × Beside e g
+  Beside (EDeref e t) g = (t ≡ type_of (MDeref (bare e)) g) × Beside e g
+  Beside (EAssign a b) g = Beside a g × Beside b g
 
   pub AllBeside : Noteds → Tys → Type 0
   AllBeside NoNoteds g = Unit {0}

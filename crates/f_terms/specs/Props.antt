@@ -4,10 +4,13 @@ use Rattle.std.proofs.Math.Decide.{ℕ_discrete}
 use Rattle.std.proofs.Props.{props}
 use mathlib.Core.HLevel.{hedberg, is_prop→PathP}
 use Rattle.idx_core.specs.Over.{BelowAt, AnyDepth}
-use Rattle.f_terms.specs.Ty.{Ty, TInt, TVar, TArrow, TAll, TTuple, Tys, NoTys, MoreTys, each, each_all, put, Below}
-use Rattle.f_terms.specs.Tm.{Term, MVar, MNum, MFix, MApp, MGen, MInst, MTuple, MProj, MArith, MIf0, Terms, NoTerms}
+use Rattle.f_terms.specs.Ty.{Ty, TInt, TVar, TArrow, TAll, TTuple, TSome, TRef, Tys, NoTys, MoreTys, each, each_all}
+use Rattle.f_terms.specs.Ty.{shift}
+use Rattle.f_terms.specs.Ty.{put, Below}
+use Rattle.f_terms.specs.Tm.{Term, MVar, MNum, MFix, MApp, MGen, MInst, MTuple, MProj, MArith, MIf0, MLet, MPack, MOpen}
+use Rattle.f_terms.specs.Tm.{MRef, MDeref, MAssign, Terms, NoTerms}
 use Rattle.f_terms.specs.Tm.{MoreTerms}
-use Rattle.f_terms.specs.Typing.{ty_at, field_ty, raised, in_fix, HasType, HaveTypes, IsTyped, IsProgram}
+use Rattle.f_terms.specs.Typing.{ty_at, field_ty, raised, in_fix, in_open, HasType, HaveTypes, IsTyped, IsProgram}
 use Rattle.f_terms.specs.Accepted.{TypeWithin, KeepsLimits, AllKeepLimits, IsAccepted}
 use Rattle.f_terms.specs.OneType.{one_type}
 
@@ -40,6 +43,20 @@ if_all : {a b : Ty} → Dec (a ≡ b) → Dec (TAll a ≡ TAll b)
 if_all (yes e) = yes (ap TAll e)
 if_all (no f) = no (λ e. f (all_is e))
 
+some_is : {a b : Ty} → TSome a ≡ TSome b → a ≡ b
+some_is e = cc
+
+ref_is : {a b : Ty} → TRef a ≡ TRef b → a ≡ b
+ref_is e = cc
+
+if_some : {a b : Ty} → Dec (a ≡ b) → Dec (TSome a ≡ TSome b)
+if_some (yes e) = yes (ap TSome e)
+if_some (no f) = no (λ e. f (some_is e))
+
+if_ref : {a b : Ty} → Dec (a ≡ b) → Dec (TRef a ≡ TRef b)
+if_ref (yes e) = yes (ap TRef e)
+if_ref (no f) = no (λ e. f (ref_is e))
+
 if_tuple : {a b : Tys} → Dec (a ≡ b) → Dec (TTuple a ≡ TTuple b)
 if_tuple (yes e) = yes (ap TTuple e)
 if_tuple (no f) = no (λ e. f (tuple_is e))
@@ -56,6 +73,8 @@ mutual
   same (TArrow a b) (TArrow c d) = if_arrow (same a c) (same b d)
   same (TAll a) (TAll b) = if_all (same a b)
   same (TTuple s) (TTuple t) = if_tuple (same_all s t)
+  same (TSome a) (TSome b) = if_some (same a b)
+  same (TRef a) (TRef b) = if_ref (same a b)
   same _ _ = no (λ e. cc)
 
   same_all : (s t : Tys) → Dec (s ≡ t)
@@ -110,6 +129,20 @@ fields_prop {ts = ts} {P = P} {Q = Q} p q u v =
       is_prop→PathP (λ j. Q (e.1 j)) (λ j. q (e.1 j)) u.4 v.4 i,
     )
 
+-- what a shape hides a type in
+shape_prop : {s t : Ty} {P Q : Type 0} {R : Ty → Type 0} → IsProp P → IsProp Q → ((u : Ty) → IsProp (R u)) →
+    IsProp ((u : Ty) × (s ≡ TSome u) × (t ≡ s) × P × Q × R u)
+shape_prop {s = s} {t = t} {R = R} p q r u v =
+    let e = some_is (sym u.1 ∙ v.1) in
+    λ i. (
+      e i,
+      is_prop→PathP (λ j. s ≡ TSome (e j)) (λ j. type_set s (TSome (e j))) u.1 v.1 i,
+      type_set t s u.2 v.2 i,
+      p u.3 v.3 i,
+      q u.4 v.4 i,
+      is_prop→PathP (λ j. R (e j)) (λ j. r (e j)) u.5 v.5 i,
+    )
+
 module _ {V : ℕ → ℕ → Type 0} {B : ℕ → Type 0} (v : (d i : ℕ) → IsProp (V d i)) (b : (d : ℕ) → IsProp (B d)) where
   mutual
     each_prop : (d : ℕ) (t : Ty) → IsProp (each V B d t)
@@ -118,6 +151,8 @@ module _ {V : ℕ → ℕ → Type 0} {B : ℕ → Type 0} (v : (d i : ℕ) → 
     each_prop d (TArrow s t) = hlevel (each_prop d s, each_prop d t)
     each_prop d (TAll t) = hlevel (b (d + 1), each_prop (d + 1) t)
     each_prop d (TTuple ts) = each_all_prop d ts
+    each_prop d (TSome t) = hlevel (b (d + 1), each_prop (d + 1) t)
+    each_prop d (TRef t) = each_prop d t
 
     each_all_prop : (d : ℕ) (ts : Tys) → IsProp (each_all V B d ts)
     each_all_prop d NoTys = hlevel
@@ -149,6 +184,21 @@ mutual
       (λ ts us h k h' k'. tuple_is (one_type e n g (TTuple ts) (TTuple us) k k'))
   has_type_prop (MArith op a b) n g t = hlevel (type_set, has_type_prop a n g TInt, has_type_prop b n g TInt)
   has_type_prop (MIf0 c a b) n g t = hlevel (has_type_prop c n g TInt, has_type_prop a n g t, has_type_prop b n g t)
+  has_type_prop (MLet a b) n g t =
+      unique₃ (λ s. has_type_prop a n g s) (λ s. has_type_prop b n (MoreTys s g) t)
+      (λ s u h k h' k'. one_type a n g s u h h')
+  has_type_prop (MPack x e s) n g t =
+      shape_prop (below_prop n x) (below_prop n s) (λ u. has_type_prop e n g (put 0 x u))
+  has_type_prop (MOpen a b) n g t =
+      unique₄ (λ u. below_prop n t) (λ u. has_type_prop a n g (TSome u))
+      (λ u. has_type_prop b (n + 1) (in_open u g) (shift 1 0 t))
+      (λ u v h k l h' k' l'. some_is (one_type a n g (TSome u) (TSome v) k k'))
+  has_type_prop (MRef e) n g t =
+      unique₃ (λ s. type_set t (TRef s)) (λ s. has_type_prop e n g s) (λ s u h k h' k'. ref_is (sym h ∙ h'))
+  has_type_prop (MDeref e) n g t = has_type_prop e n g (TRef t)
+  has_type_prop (MAssign a b) n g t =
+      unique₄ (λ s. type_set t (TTuple NoTys)) (λ s. has_type_prop a n g (TRef s)) (λ s. has_type_prop b n g s)
+      (λ s u h k l h' k' l'. ref_is (one_type a n g (TRef s) (TRef u) k k'))
 
   pub have_types_prop : (es : Terms) (n : ℕ) (g ts : Tys) → IsProp (HaveTypes es n g ts)
   have_types_prop NoTerms n g ts = types_set ts NoTys
@@ -176,6 +226,15 @@ mutual
   keeps_prop (MArith op a b) n g = hlevel (type_within_prop (MArith op a b) n g, keeps_prop a n g, keeps_prop b n g)
   keeps_prop (MIf0 c a b) n g = hlevel
       (type_within_prop (MIf0 c a b) n g, keeps_prop c n g, keeps_prop a n g, keeps_prop b n g)
+  keeps_prop (MLet a b) n g = hlevel
+      (type_within_prop (MLet a b) n g, keeps_prop a n g, λ (t : Ty). keeps_prop b n (MoreTys t g))
+  keeps_prop (MPack h e s) n g = hlevel (props, type_within_prop (MPack h e s) n g, keeps_prop e n g)
+  keeps_prop (MOpen a b) n g = hlevel
+      (type_within_prop (MOpen a b) n g, keeps_prop a n g, λ (t : Ty). keeps_prop b (n + 1) (in_open t g))
+  keeps_prop (MRef e) n g = hlevel (type_within_prop (MRef e) n g, keeps_prop e n g)
+  keeps_prop (MDeref e) n g = hlevel (type_within_prop (MDeref e) n g, keeps_prop e n g)
+  keeps_prop (MAssign a b) n g = hlevel
+      (type_within_prop (MAssign a b) n g, keeps_prop a n g, keeps_prop b n g)
 
   all_keep_prop : (es : Terms) (n : ℕ) (g : Tys) → IsProp (AllKeepLimits es n g)
   all_keep_prop NoTerms n g = hlevel

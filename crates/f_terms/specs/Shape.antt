@@ -2,10 +2,12 @@
 use Rattle.std.specs.Prelude.{ℕ, List, [], ◌∷◌, map}
 use Rattle.arena.specs.Arena.{parts}
 use Rattle.f_terms.specs.Limits.{nodes}
-use Rattle.f_terms.specs.Tm.{plain, Spn, Tm, SVar, SNum, SFix, SApp, SGen, SInst, STuple, SProj, SArith, SIf0, tms}
+use Rattle.f_terms.specs.Tm.{plain, Spn, Tm, SVar, SNum, SFix, SApp, SGen, SInst, STuple, SProj, SArith, SIf0, SLet}
+use Rattle.f_terms.specs.Tm.{SPack, SOpen, SRef, SDeref, SAssign, tms}
 use Rattle.f_terms.specs.Read.{tree, place}
 use Rattle.f_terms.specs.declared.node.FShape.{FShape}
-use Rattle.f_terms.specs.declared.node.FShape.TheVariants.{Var, Int, Fix, App, Gen, Inst, Tuple, Proj, Arith, If0}
+use Rattle.f_terms.specs.declared.node.FShape.TheVariants.{Var, Int, Fix, App, Gen, Inst, Tuple, Proj, Arith, If0, Let}
+use Rattle.f_terms.specs.declared.node.FShape.TheVariants.{Pack, Open, Ref, Deref, Assign}
 use Rattle.f_terms.specs.declared.node.FNode.{FNode}
 
 -- from left to right
@@ -20,6 +22,12 @@ children (Tuple es) = es.items
 children (Proj i e) = e ∷ []
 children (Arith op a b) = a ∷ b ∷ []
 children (If0 c a b) = c ∷ a ∷ b ∷ []
+children (Let a b) = a ∷ b ∷ []
+children (Pack h e t) = e ∷ []
+children (Open a b) = a ∷ b ∷ []
+children (Ref e) = e ∷ []
+children (Deref e) = e ∷ []
+children (Assign a b) = a ∷ b ∷ []
 
 -- the tree of a form with the place s, where at has those of its children
 abbrev pub shape_tree : (ℕ → Tm) → Spn → FShape → Tm
@@ -33,6 +41,12 @@ shape_tree at s (Tuple es) = STuple s (tms (map at es.items))
 shape_tree at s (Proj i e) = SProj s i (at e)
 shape_tree at s (Arith op a b) = SArith s op (at a) (at b)
 shape_tree at s (If0 c a b) = SIf0 s (at c) (at a) (at b)
+shape_tree at s (Let a b) = SLet s (at a) (at b)
+shape_tree at s (Pack h e t) = SPack s (tree h) (at e) (tree t)
+shape_tree at s (Open a b) = SOpen s (at a) (at b)
+shape_tree at s (Ref e) = SRef s (at e)
+shape_tree at s (Deref e) = SDeref s (at e)
+shape_tree at s (Assign a b) = SAssign s (at a) (at b)
 
 abbrev pub kids : FNode → List ℕ
 kids n = children n.shape

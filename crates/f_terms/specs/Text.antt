@@ -1,24 +1,26 @@
 -- The text of a type.
 use Rattle.std.specs.Prelude.{ℕ, ◌+◌, ◌-◌, ◌==◌, List, [], ◌++◌, Bool, true, false, if◌then◌else◌, codes, decimal}
-use Rattle.f_terms.specs.Ty.{Ty, TInt, TVar, TArrow, TAll, TTuple, Tys, NoTys, MoreTys}
+use Rattle.f_terms.specs.Ty.{Ty, TInt, TVar, TArrow, TAll, TTuple, TSome, TRef, Tys, NoTys, MoreTys}
 
--- the variable of an `all` with d others around it
+-- the variable of an `all` or a `some` with d of them around it
 abbrev pub name_text : ℕ → List ℕ
 name_text d = codes "t" ++ decimal d
 
--- what takes parentheses where it is the left side of an arrow
+-- what takes parentheses where it is the left side of an arrow, or stands after `ref`
 abbrev pub is_grouped : Ty → Bool
 is_grouped (TArrow a b) = true
 is_grouped (TAll t) = true
+is_grouped (TSome t) = true
 is_grouped TInt = false
 is_grouped (TVar i) = false
 is_grouped (TTuple ts) = false
+is_grouped (TRef t) = false
 
 -- what stands between a field of a tuple and the k fields before it
 abbrev pub separator : ℕ → List ℕ
 separator k = if k == 0 then [] else codes ", "
 
--- the text inside d `all`s: the variable i is that of the `all` with i others between
+-- the text inside d `all`s and `some`s: the variable i is that of the one with i others between
 abbrev mutual
   pub text_at : ℕ → Ty → List ℕ
   text_at d TInt = codes "int"
@@ -28,6 +30,10 @@ abbrev mutual
       ++ codes " -> " ++ text_at d b
   text_at d (TAll t) = codes "all " ++ name_text d ++ codes ". " ++ text_at (d + 1) t
   text_at d (TTuple ts) = codes "<" ++ texts_at d 0 ts ++ codes ">"
+  text_at d (TSome t) = codes "some " ++ name_text d ++ codes ". " ++ text_at (d + 1) t
+  text_at d (TRef t) =
+      codes "ref " ++ (if is_grouped t then codes "(" else []) ++ text_at d t
+      ++ (if is_grouped t then codes ")" else [])
 
   pub texts_at : ℕ → ℕ → Tys → List ℕ
   texts_at d k NoTys = []

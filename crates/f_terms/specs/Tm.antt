@@ -4,7 +4,8 @@ use Rattle.idx_core.specs.declared.arith.Op.{Op}
 use Rattle.f_terms.specs.Ty.{Ty}
 
 -- places left aside. Value names and type names are numbers, counted apart, 0 the innermost binder;
--- in the body of a Fix, value 0 is its argument and value 1 is itself. Fields count from 1
+-- in the body of a Fix, value 0 is its argument and value 1 is itself. In the second part of a Let and of an Open,
+-- value 0 is the value of the first; in that of an Open, type 0 is the type that is hidden in it. Fields count from 1
 mutual
   pub data Term : Type 0 where
     MVar : (i : ℕ) → Term
@@ -17,6 +18,12 @@ mutual
     MProj : (i : ℕ) (e : Term) → Term
     MArith : (op : Op) (a b : Term) → Term
     MIf0 : (test zero_part other_part : Term) → Term
+    MLet : (a b : Term) → Term
+    MPack : (hidden : Ty) (e : Term) (shape : Ty) → Term
+    MOpen : (a b : Term) → Term
+    MRef : (e : Term) → Term
+    MDeref : (e : Term) → Term
+    MAssign : (a b : Term) → Term
 
   pub data Terms : Type 0 where
     NoTerms : Terms
@@ -39,6 +46,12 @@ mutual
     SProj : (s : Spn) (i : ℕ) (e : Tm) → Tm
     SArith : (s : Spn) (op : Op) (a b : Tm) → Tm
     SIf0 : (s : Spn) (test zero_part other_part : Tm) → Tm
+    SLet : (s : Spn) (a b : Tm) → Tm
+    SPack : (s : Spn) (hidden : Ty) (e : Tm) (shape : Ty) → Tm
+    SOpen : (s : Spn) (a b : Tm) → Tm
+    SRef : (s : Spn) (e : Tm) → Tm
+    SDeref : (s : Spn) (e : Tm) → Tm
+    SAssign : (s : Spn) (a b : Tm) → Tm
 
   pub data Tms : Type 0 where
     NoTms : Tms
@@ -57,6 +70,12 @@ abbrev mutual
   plain (SProj s i e) = MProj i (plain e)
   plain (SArith s op a b) = MArith op (plain a) (plain b)
   plain (SIf0 s c a b) = MIf0 (plain c) (plain a) (plain b)
+  plain (SLet s a b) = MLet (plain a) (plain b)
+  plain (SPack s h e t) = MPack h (plain e) t
+  plain (SOpen s a b) = MOpen (plain a) (plain b)
+  plain (SRef s e) = MRef (plain e)
+  plain (SDeref s e) = MDeref (plain e)
+  plain (SAssign s a b) = MAssign (plain a) (plain b)
 
   pub plain_all : Tms → Terms
   plain_all NoTms = NoTerms
@@ -74,6 +93,12 @@ span_of (STuple s es) = s
 span_of (SProj s i e) = s
 span_of (SArith s op a b) = s
 span_of (SIf0 s c a b) = s
+span_of (SLet s a b) = s
+span_of (SPack s h e t) = s
+span_of (SOpen s a b) = s
+span_of (SRef s e) = s
+span_of (SDeref s e) = s
+span_of (SAssign s a b) = s
 
 -- several terms, of a list
 abbrev pub terms : List Term → Terms

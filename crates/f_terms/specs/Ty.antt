@@ -9,6 +9,8 @@ mutual
     TArrow : (a b : Ty) → Ty
     TAll : (t : Ty) → Ty
     TTuple : (ts : Tys) → Ty
+    TSome : (t : Ty) → Ty
+    TRef : (t : Ty) → Ty
 
   pub data Tys : Type 0 where
     NoTys : Tys
@@ -27,6 +29,8 @@ abbrev mutual
   over f d (TArrow a b) = TArrow (over f d a) (over f d b)
   over f d (TAll t) = TAll (over f (d + 1) t)
   over f d (TTuple ts) = TTuple (over_all f d ts)
+  over f d (TSome t) = TSome (over f (d + 1) t)
+  over f d (TRef t) = TRef (over f d t)
 
   pub over_all : Over Ty Tys
   over_all f d NoTys = NoTys
@@ -40,6 +44,8 @@ abbrev mutual
   each V B d (TArrow a b) = each V B d a × each V B d b
   each V B d (TAll t) = B (d + 1) × each V B (d + 1) t
   each V B d (TTuple ts) = each_all V B d ts
+  each V B d (TSome t) = B (d + 1) × each V B (d + 1) t
+  each V B d (TRef t) = each V B d t
 
   pub each_all : Each Tys
   each_all V B d NoTys = Unit {0}
@@ -80,6 +86,8 @@ abbrev mutual
   size (TArrow a b) = 1 + size a + size b
   size (TAll t) = 1 + size t
   size (TTuple ts) = 1 + sizes ts
+  size (TSome t) = 1 + size t
+  size (TRef t) = 1 + size t
 
   pub sizes : Tys → ℕ
   sizes NoTys = 0
@@ -93,6 +101,8 @@ abbrev mutual
   depth (TArrow a b) = 1 + max (depth a) (depth b)
   depth (TAll t) = 1 + depth t
   depth (TTuple ts) = 1 + depths ts
+  depth (TSome t) = 1 + depth t
+  depth (TRef t) = 1 + depth t
 
   pub depths : Tys → ℕ
   depths NoTys = 0

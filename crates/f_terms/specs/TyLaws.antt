@@ -2,7 +2,8 @@
 use Rattle.std.proofs.Common.{◌≡◌, ℕ, ◌+◌, ◌≤◌, ◌↔◌, suc, refl, ap, ap₂, arith}
 use Rattle.idx_core.specs.Over.{deep, At, IsOver, IsPart, IsEach, IsEachPart, shifted, BelowAt, AnyDepth}
 use Rattle.idx_core.specs.Laws as laws
-use Rattle.f_terms.specs.Ty.{Ty, TInt, TVar, TArrow, TAll, TTuple, Tys, NoTys, MoreTys, over, over_all, each, each_all}
+use Rattle.f_terms.specs.Ty.{Ty, TInt, TVar, TArrow, TAll, TTuple, TSome, TRef, Tys, NoTys, MoreTys, over, over_all}
+use Rattle.f_terms.specs.Ty.{each, each_all}
 use Rattle.f_terms.specs.Ty.{shift, put, Below}
 
 mutual
@@ -12,6 +13,8 @@ mutual
   keeps f a h (TArrow b c) = ap₂ TArrow (keeps f a h b) (keeps f a h c)
   keeps f a h (TAll t) = ap TAll (keeps f (a + 1) (λ e. h (suc e)) t)
   keeps f a h (TTuple ts) = ap TTuple (keeps_all f a h ts)
+  keeps f a h (TSome t) = ap TSome (keeps f (a + 1) (λ e. h (suc e)) t)
+  keeps f a h (TRef t) = ap TRef (keeps f a h t)
 
   keeps_all : (f : At Ty) (a : ℕ) → ((e i : ℕ) → f (deep a e) i ≡ TVar i) → (ts : Tys) → over_all f a ts ≡ ts
   keeps_all f a h NoTys = refl
@@ -25,6 +28,8 @@ mutual
   after f g h a b c k (TArrow x y) = ap₂ TArrow (after f g h a b c k x) (after f g h a b c k y)
   after f g h a b c k (TAll t) = ap TAll (after f g h (a + 1) (b + 1) (c + 1) (λ e. k (suc e)) t)
   after f g h a b c k (TTuple ts) = ap TTuple (after_all f g h a b c k ts)
+  after f g h a b c k (TSome t) = ap TSome (after f g h (a + 1) (b + 1) (c + 1) (λ e. k (suc e)) t)
+  after f g h a b c k (TRef t) = ap TRef (after f g h a b c k t)
 
   after_all : (f g h : At Ty) (a b c : ℕ) → ((e i : ℕ) → over g (deep b e) (f (deep a e) i) ≡ h (deep c e) i) →
       (ts : Tys) → over_all g b (over_all f a ts) ≡ over_all h c ts
@@ -51,6 +56,8 @@ mutual
   agree V B f g a b n k (TArrow x y) u = ap₂ TArrow (agree V B f g a b n k x u.0) (agree V B f g a b n k y u.1)
   agree V B f g a b n k (TAll t) u = ap TAll (agree V B f g (a + 1) (b + 1) (n + 1) (λ e. k (suc e)) t u.1)
   agree V B f g a b n k (TTuple ts) u = ap TTuple (agree_all V B f g a b n k ts u)
+  agree V B f g a b n k (TSome t) u = ap TSome (agree V B f g (a + 1) (b + 1) (n + 1) (λ e. k (suc e)) t u.1)
+  agree V B f g a b n k (TRef t) u = ap TRef (agree V B f g a b n k t u)
 
   agree_all : (V : ℕ → ℕ → Type 0) (B : ℕ → Type 0) (f g : At Ty) (a b n : ℕ) →
       ((e i : ℕ) → V (deep n e) i → f (deep a e) i ≡ g (deep b e) i) → (ts : Tys) → each_all V B n ts →
@@ -69,6 +76,9 @@ mutual
   made V W B C f a n m k l (TAll t) u =
       (l 1 u.0, made V W B C f (a + 1) (n + 1) (m + 1) (λ e. k (suc e)) (λ e. l (suc e)) t u.1)
   made V W B C f a n m k l (TTuple ts) u = made_all V W B C f a n m k l ts u
+  made V W B C f a n m k l (TSome t) u =
+      (l 1 u.0, made V W B C f (a + 1) (n + 1) (m + 1) (λ e. k (suc e)) (λ e. l (suc e)) t u.1)
+  made V W B C f a n m k l (TRef t) u = made V W B C f a n m k l t u
 
   made_all : (V W : ℕ → ℕ → Type 0) (B C : ℕ → Type 0) (f : At Ty) (a n m : ℕ) →
       ((e i : ℕ) → V (deep n e) i → each W C (deep m e) (f (deep a e) i)) → ((e : ℕ) → B (deep n e) → C (deep m e)) →
@@ -90,6 +100,8 @@ mutual
   still n (TArrow a b) e = (still n a (cc), still n b (cc))
   still n (TAll t) e = (tt, still (n + 1) t (cc))
   still n (TTuple ts) e = still_all n ts (cc)
+  still n (TSome t) e = (tt, still (n + 1) t (cc))
+  still n (TRef t) e = still n t (cc)
 
   still_all : (n : ℕ) (ts : Tys) → over_all (shifted TVar 1) n ts ≡ ts → each_all BelowAt AnyDepth n ts
   still_all n NoTys e = tt
@@ -112,3 +124,7 @@ shift_bound k n t h = laws.below_shift types_part types_each types_over types_ea
 
 pub put_bound : (n : ℕ) (s t : Ty) → Below n s → Below (n + 1) t → Below n (put 0 s t)
 put_bound n s t h k = laws.below_put types_part types_each types_over types_each.has 0 n s t (omega arith) h k
+
+-- what a put leaves of a shifted type
+pub unshift : (t : Ty) → put 0 TInt (shift 1 0 t) ≡ t
+unshift t = laws.put_shift_law types_part types_over 0 TInt t

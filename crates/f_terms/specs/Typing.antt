@@ -1,8 +1,10 @@
 -- Source typing.
 use Rattle.std.specs.Prelude.{◌≡◌, ℕ, zero, suc, ◌+◌, Option, Some, None}
 use Rattle.idx_core.specs.Over.{shifted}
-use Rattle.f_terms.specs.Ty.{Ty, TInt, TVar, TArrow, TAll, TTuple, Tys, NoTys, MoreTys, over_all, put, Below}
-use Rattle.f_terms.specs.Tm.{Term, MVar, MNum, MFix, MApp, MGen, MInst, MTuple, MProj, MArith, MIf0, Terms, NoTerms}
+use Rattle.f_terms.specs.Ty.{Ty, TInt, TVar, TArrow, TAll, TTuple, TSome, TRef, Tys, NoTys, MoreTys, over_all, shift}
+use Rattle.f_terms.specs.Ty.{put, Below}
+use Rattle.f_terms.specs.Tm.{Term, MVar, MNum, MFix, MApp, MGen, MInst, MTuple, MProj, MArith, MIf0, MLet, MPack, MOpen}
+use Rattle.f_terms.specs.Tm.{MRef, MDeref, MAssign, Terms, NoTerms}
 use Rattle.f_terms.specs.Tm.{MoreTerms}
 
 -- the type of the value variable i
@@ -24,8 +26,13 @@ raised g = over_all (shifted TVar 1) 0 g
 abbrev pub in_fix : Ty → Ty → Tys → Tys
 in_fix arg res g = MoreTys arg (MoreTys (TArrow arg res) g)
 
+-- the context of the second part of an open, whose first part hides a type in t
+abbrev pub in_open : Ty → Tys → Tys
+in_open t g = MoreTys t (raised g)
+
 -- the term has the type t under n type variables, where g has the types of the value variables: a rule for each form,
--- where each type that is written in the term is in scope
+-- where each type that is written in the term is in scope. The type of an open is one of outside, so that the hidden
+-- type isn't in it
 abbrev mutual
   pub HasType : Term → ℕ → Tys → Ty → Type 0
   HasType (MVar i) n g t = ty_at g i ≡ Some t
@@ -38,6 +45,13 @@ abbrev mutual
   HasType (MProj i e) n g t = (ts : Tys) × (field_ty ts i ≡ Some t) × HasType e n g (TTuple ts)
   HasType (MArith op a b) n g t = (t ≡ TInt) × HasType a n g TInt × HasType b n g TInt
   HasType (MIf0 c a b) n g t = HasType c n g TInt × HasType a n g t × HasType b n g t
+  HasType (MLet a b) n g t = (s : Ty) × HasType a n g s × HasType b n (MoreTys s g) t
+  HasType (MPack h e s) n g t = (u : Ty) × (s ≡ TSome u) × (t ≡ s) × Below n h × Below n s × HasType e n g (put 0 h u)
+  HasType (MOpen a b) n g t = (u : Ty) × Below n t × HasType a n g (TSome u)
+      × HasType b (n + 1) (in_open u g) (shift 1 0 t)
+  HasType (MRef e) n g t = (s : Ty) × (t ≡ TRef s) × HasType e n g s
+  HasType (MDeref e) n g t = HasType e n g (TRef t)
+  HasType (MAssign a b) n g t = (s : Ty) × (t ≡ TTuple NoTys) × HasType a n g (TRef s) × HasType b n g s
 
   pub HaveTypes : Terms → ℕ → Tys → Tys → Type 0
   HaveTypes NoTerms n g ts = ts ≡ NoTys

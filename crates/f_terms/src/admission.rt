@@ -2,9 +2,8 @@
 ghost use Rattle.std.specs.Prelude.{◌≡◌, ◌+◌, ◌*◌, ◌<◌, ◌≤◌, ◌++◌, ◌∷◌, [], ◌↔◌, IsTrue, OnOk, IfOk};
 ghost use Rattle.f_terms.specs.Limits.{nodes};
 ghost use Rattle.f_terms.specs.Scope.{IsClosed};
-ghost use Rattle.f_terms.specs.Shape.{children};
 ghost use Rattle.f_terms.specs.ReadTerm.{count, term_of};
-ghost use Rattle.f_terms.specs.Waiting.{IsBound, types_within, values_within, waits};
+ghost use Rattle.f_terms.specs.Waiting.{IsBound, waits, parts_wait};
 
 use crate::node::{FShape, FTerm};
 use idx_core::{OutOfMemory, Scoped};
@@ -26,6 +25,7 @@ fn is_bound(shape: &FShape, types: u64, values: u64) -> bool
         FShape::Var(i) => *i < values,
         FShape::Fix { arg, res, .. } => arg.below(types) && res.below(types),
         FShape::Inst(_, t) => t.below(types),
+        FShape::Pack { hidden, shape, .. } => hidden.below(types) && shape.below(types),
         _ => true,
     }
 }
@@ -61,14 +61,24 @@ fn push_parts(
     requires types { types < u64.MAX }
     requires values { values + 2 ≤ u64.MAX }
     ensures { OnOk result (waiting.new.items ≡ waiting.old.items
-        ++ waits (children shape.now) (types_within shape.now types) (values_within shape.now values)) }
+        ++ parts_wait shape.now types values) }
 {
     match shape {
         FShape::Var(_) | FShape::Int(_) => Ok(()),
         FShape::Fix { body, .. } => push(waiting, *body, types, values + 2),
         FShape::Gen(body) => push(waiting, *body, types + 1, values),
         FShape::Inst(e, _) | FShape::Proj(_, e) => push(waiting, *e, types, values),
-        FShape::App(a, b) | FShape::Arith(_, a, b) => {
+        FShape::Pack { inner: e, .. } => push(waiting, *e, types, values),
+        FShape::Ref(e) | FShape::Deref(e) => push(waiting, *e, types, values),
+        FShape::Let(a, b) => {
+            push(waiting, *a, types, values)?;
+            push(waiting, *b, types, values + 1)
+        }
+        FShape::Open(a, b) => {
+            push(waiting, *a, types, values)?;
+            push(waiting, *b, types + 1, values + 1)
+        }
+        FShape::App(a, b) | FShape::Arith(_, a, b) | FShape::Assign(a, b) => {
             push(waiting, *a, types, values)?;
             push(waiting, *b, types, values)
         }

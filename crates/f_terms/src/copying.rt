@@ -29,5 +29,13 @@ pub fn copy(alloc: Global, t: &FType) -> Result<FType, OutOfMemory>
             }
             Ok(FType::Tuple(parts))
         }
+        FType::Exists(t) => {
+            let t = copy(alloc, t)?;
+            Ok(FType::Exists(Box::new(alloc, t)?))
+        }
+        FType::Ref(t) => {
+            let t = copy(alloc, t)?;
+            Ok(FType::Ref(Box::new(alloc, t)?))
+        }
     }
 }

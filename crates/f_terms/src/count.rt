@@ -21,6 +21,8 @@ pub fn size(t: &FType) -> u64
             }
             sum
         }
+        FType::Exists(t) => size(t).saturating_add(1),
+        FType::Ref(t) => size(t).saturating_add(1),
     }
 }
 
@@ -44,6 +46,8 @@ pub fn depth(t: &FType) -> u64
             }
             most.saturating_add(1)
         }
+        FType::Exists(t) => depth(t).saturating_add(1),
+        FType::Ref(t) => depth(t).saturating_add(1),
     }
 }
 
@@ -56,6 +60,8 @@ pub fn eq(a: &FType, b: &FType) -> bool
         (FType::Var(i), FType::Var(j)) => *i == *j,
         (FType::Arrow(a, b), FType::Arrow(c, d)) => eq(a, c) && eq(b, d),
         (FType::All(s), FType::All(t)) => eq(s, t),
+        (FType::Exists(s), FType::Exists(t)) => eq(s, t),
+        (FType::Ref(s), FType::Ref(t)) => eq(s, t),
         (FType::Tuple(ss), FType::Tuple(ts)) => {
             if ss.len() != ts.len() {
                 return false;

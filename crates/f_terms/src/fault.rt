@@ -5,8 +5,7 @@ ghost use Rattle.f_terms.specs.declared.fault.FFault.TheVariants as fault;
 use idx_core::{OutOfMemory, Span};
 use std::alloc::AllocFailed;
 
-/// The codes of the faults of a source text, in the order of its checks (own choice): `E` for what the
-/// language refuses, `L` for a limit that is passed.
+/// The codes of the faults of a source text: `E` for what the language refuses, `L` for a limit that is passed.
 #[derive(Clone, Copy, Debug, PartialEq, Eq, Drop)]
 pub enum Code {
     /// A byte begins no token.
@@ -39,11 +38,23 @@ pub enum Code {
     E14,
     /// The program is not an integer.
     E15,
-    /// The text has more than 1048576 bytes.
+    /// The shape of a pack, or the type of what is opened, is not an existential.
+    E16,
+    /// What is packed has not the type that the pack's shape and hidden type say.
+    E17,
+    /// The name of the hidden type is free in the type of the last part of an open.
+    E18,
+    /// A program that makes, reads or assigns cells is not evaluated.
+    E19,
+    /// What is read or assigned is not a reference.
+    E21,
+    /// What is assigned has another type than the cell holds.
+    E22,
+    /// The text has more than 16777216 bytes.
     L1,
     /// More than 200 constructs are open.
     L2,
-    /// The term has more than 1000 nodes.
+    /// The term has more than 100000 nodes.
     L3,
     /// A type is deeper than 200.
     L4,

@@ -1,7 +1,7 @@
 // Laws of the source calculus, as functions with an empty body that callers cite.
 ghost use Rattle.f_terms.specs.Laws.{PutsExchange, PutUnderABinder, OneType, PassesWhereTyped, NoFaultBesideAPass};
 ghost use Rattle.f_terms.specs.Laws.{PassOrFault, OneFault, KeepsRules, MoreTurnsKeepTheValue, LeavesAtMost, OneAnswer};
-ghost use Rattle.f_terms.specs.Laws.{NeverStuck};
+ghost use Rattle.f_terms.specs.Laws.{NeverStuck, StoreGrows, PackagesDoNotShow};
 
 /// For i at most j, a put of u for i and then of v for j is a put of v, shifted, for j + 1 and then of u, with v put
 /// into it, for i.
@@ -44,7 +44,7 @@ pub fn evaluation_keeps_its_rules()
     ensures { KeepsRules }
 {}
 
-/// What gives a value within some turns gives it within more, with as many more turns left.
+/// What gives a value within some turns gives it within more, with as many more turns left and the same store.
 pub fn more_turns_keep_the_value()
     ensures { MoreTurnsKeepTheValue }
 {}
@@ -52,6 +52,17 @@ pub fn more_turns_keep_the_value()
 /// An evaluation leaves at most the turns that it was allowed.
 pub fn evaluation_leaves_at_most_its_turns()
     ensures { LeavesAtMost }
+{}
+
+/// No cell of a store is lost.
+pub fn stores_only_grow()
+    ensures { StoreGrows }
+{}
+
+/// A term with each pack replaced by its part and each open by a let evaluates as before, with the same replaced in the
+/// bodies of what it gives.
+pub fn packages_do_not_show()
+    ensures { PackagesDoNotShow }
 {}
 
 /// A term evaluates to one integer at most, whatever the turns.

@@ -15,13 +15,18 @@ pub struct FNode {
 }
 
 /// The forms of a term: each child is named by its number. Value names and type names are numbers, counted apart: 0 is
-/// the innermost binder. In the body of `Fix`, value 0 is the argument and value 1 is the function itself. Fields count
-/// from 1.
+/// the innermost binder. In the body of `Fix`, value 0 is the argument and value 1 is the function itself. In the
+/// second part of `Let` and of `Open`, value 0 is the value of the first part, and in that of `Open` type 0 is the type
+/// that is hidden in it. Fields count from 1.
 #[derive(Drop)]
 pub enum FShape {
     Var(u64),
     Int(i64),
-    Fix { arg: FType, res: FType, body: u64 },
+    Fix {
+        arg: FType,
+        res: FType,
+        body: u64,
+    },
     App(u64, u64),
     Gen(u64),
     Inst(u64, FType),
@@ -29,6 +34,16 @@ pub enum FShape {
     Proj(u64, u64),
     Arith(Op, u64, u64),
     If0(u64, u64, u64),
+    Let(u64, u64),
+    Pack {
+        hidden: FType,
+        inner: u64,
+        shape: FType,
+    },
+    Open(u64, u64),
+    Ref(u64),
+    Deref(u64),
+    Assign(u64, u64),
 }
 
 /// A term of the source calculus, as a vector of nodes: children stand before their parents, and the last node is the

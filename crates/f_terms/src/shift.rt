@@ -37,6 +37,14 @@ fn shift_type(t: &FType, alloc: Global, by: u64, cut: u64) -> Result<FType, OutO
             }
             Ok(FType::Tuple(parts))
         }
+        FType::Exists(t) => {
+            let t = shift_type(t, alloc, by, cut + 1)?;
+            Ok(FType::Exists(Box::new(alloc, t)?))
+        }
+        FType::Ref(t) => {
+            let t = shift_type(t, alloc, by, cut)?;
+            Ok(FType::Ref(Box::new(alloc, t)?))
+        }
     }
 }
 
@@ -79,6 +87,14 @@ fn put_type(
             }
             Ok(FType::Tuple(parts))
         }
+        FType::Exists(t) => {
+            let t = put_type(t, alloc, at, depth + 1, what)?;
+            Ok(FType::Exists(Box::new(alloc, t)?))
+        }
+        FType::Ref(t) => {
+            let t = put_type(t, alloc, at, depth, what)?;
+            Ok(FType::Ref(Box::new(alloc, t)?))
+        }
     }
 }
 
@@ -98,6 +114,8 @@ fn has_words(t: &FType) -> bool
             }
             true
         }
+        FType::Exists(t) => has_words(t),
+        FType::Ref(t) => has_words(t),
     }
 }
 
@@ -120,6 +138,11 @@ fn type_below(t: &FType, n: u64) -> bool
             }
             true
         }
+        FType::Exists(t) => match n.checked_add(1) {
+            Some(m) => type_below(t, m),
+            None => has_words(t),
+        },
+        FType::Ref(t) => type_below(t, n),
     }
 }
 

@@ -18,6 +18,12 @@ pub enum FStep {
     Proj(u64),
     Arith(Op),
     If0,
+    Let,
+    Pack { hidden: FType, shape: FType },
+    Open,
+    Ref,
+    Deref,
+    Assign,
 }
 
 /// Terms on a stack, the top one last.

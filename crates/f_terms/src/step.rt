@@ -35,6 +35,16 @@ fn shape_of(alloc: Global, step: FStep, parts: &[u64]) -> Result<FShape, OutOfMe
         FStep::Proj(i) => FShape::Proj(i, parts[0]),
         FStep::Arith(op) => FShape::Arith(op, parts[0], parts[1]),
         FStep::If0 => FShape::If0(parts[0], parts[1], parts[2]),
+        FStep::Let => FShape::Let(parts[0], parts[1]),
+        FStep::Pack { hidden, shape } => FShape::Pack {
+            hidden,
+            inner: parts[0],
+            shape,
+        },
+        FStep::Open => FShape::Open(parts[0], parts[1]),
+        FStep::Ref => FShape::Ref(parts[0]),
+        FStep::Deref => FShape::Deref(parts[0]),
+        FStep::Assign => FShape::Assign(parts[0], parts[1]),
     })
 }
 
@@ -60,7 +70,8 @@ impl FStep {
         match self {
             FStep::Var(_) | FStep::Int(_) => 0,
             FStep::Fix { .. } | FStep::Gen | FStep::Inst(_) | FStep::Proj(_) => 1,
-            FStep::App | FStep::Arith(_) => 2,
+            FStep::Pack { .. } | FStep::Ref | FStep::Deref => 1,
+            FStep::App | FStep::Arith(_) | FStep::Let | FStep::Open | FStep::Assign => 2,
             FStep::If0 => 3,
             FStep::Tuple(n) => *n,
         }

@@ -8,4 +8,8 @@ pub enum FType {
     Arrow(Box<FType>, Box<FType>),
     All(Box<FType>),
     Tuple(Vec<FType>),
+    /// A type that hides one: it binds the name of the hidden type.
+    Exists(Box<FType>),
+    /// Cells that hold values of a type.
+    Ref(Box<FType>),
 }

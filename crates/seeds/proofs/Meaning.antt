@@ -11,6 +11,7 @@ use Rattle.f_terms.specs.Limits.{nodes}
 use Rattle.f_terms.specs.Typing.{HasType}
 use Rattle.f_terms.specs.Faults.{Passes}
 use Rattle.f_terms.specs.Accepted.{KeepsLimits}
+use Rattle.f_terms.specs.Cells.{has_cells}
 use Rattle.f_terms.specs.Laws.{PassesWhereTyped, KeepsRules}
 use Rattle.f_terms.specs.Eval.{VInt, VFun, Vals, Empty, And, Gives, Result, then_eval, operate, apply, eval_by, turn}
 use Rattle.seeds.specs.declared.item.Kind.{Kind}
@@ -110,13 +111,15 @@ turns Identity c = 2
 turns Twice c = 3
 turns _ c = 0
 
--- the term has the type int within the limits on types and so many nodes, and uses these turns, whatever is left after them
+-- the term has the type int within the limits on types and so many nodes, and uses these turns, whatever is left after them,
+-- with any store, which stays as it is; it has no cells
 pub record Given (e : Term) (used most : ℕ) : Type 0 where
   pub typed : HasType e 0 NoTys TInt
   pub limits : KeepsLimits e 0 NoTys
   pub few : nodes e ≤ most
   pub value : ℤ
-  pub gives : (n : ℕ) → eval_by turn Empty e (used + n) ≡ Gives (VInt value) n
+  pub gives : (n : ℕ) (st : Vals) → eval_by turn Empty e (used + n) st ≡ Gives (VInt value) n st
+  pub cell_free : has_cells e ≡ false
 
 one_less : (c : ℕ) → c < 20 → compute Sub (pos (suc c)) (pos 1) ≡ pos c
 one_less c h =
@@ -127,53 +130,61 @@ abbrev around : ℕ → Vals
 around c = And (VInt (pos c)) (And (VFun Empty counted) Empty)
 
 -- the body of the factorial is entered with c
-entered : KeepsRules → (c n : ℕ) → apply turn (VFun Empty counted) (VInt (pos c)) (suc c + n) ≡ eval_by turn (around c) counted (c + n)
-entered rules c n =
+entered : KeepsRules → (c n : ℕ) (st : Vals) → apply turn (VFun Empty counted) (VInt (pos c)) (suc c + n) st ≡ eval_by turn (around c) counted (c + n) st
+entered rules c n st =
     let same : suc (c + n) ≡ suc c + n = omega arith in
-    subst (λ (m : ℕ). turn (around c) counted m ≡ eval_by turn (around c) counted (c + n)) same (rules (c + n) (around c) counted)
+    subst (λ (m : ℕ). turn (around c) counted m st ≡ eval_by turn (around c) counted (c + n) st) same (rules (c + n) st (around c) counted)
 
 abbrev then_multiply : ℤ → Result → Result
-then_multiply i r = then_eval r (λ w n. operate Mul (VInt i) w n)
+then_multiply i r = then_eval r (λ w n st. operate Mul (VInt i) w n st)
 
 not_zero : (c : ℕ) → is_zero (pos (suc c)) ≡ false
 not_zero c = grind (arith, ints, nat_tests)
 
-counts : KeepsRules → (c n : ℕ) → c < 20 → apply turn (VFun Empty counted) (VInt (pos c)) (suc c + n) ≡ Gives (VInt (product_to c)) n
-counts rules zero n h = entered rules 0 n ∙ ap (λ (m : ℕ). Gives (VInt (pos 1)) m) (omega arith)
-counts rules (suc c) n h =
-    let smaller : apply turn (VFun Empty counted) (VInt (compute Sub (pos (suc c)) (pos 1))) (suc c + n) ≡ Gives (VInt (product_to c)) n =
-    ap (λ (z : ℤ). apply turn (VFun Empty counted) (VInt z) (suc c + n)) (one_less c (omega arith)) ∙ counts rules c n (omega arith) in
-    let chosen : eval_by turn (around (suc c)) counted (suc c + n) ≡ then_multiply (pos (suc c)) (apply turn (VFun Empty counted) (VInt (compute Sub (pos (suc c)) (pos 1))) (suc c + n)) =
-    ap (λ (b : Bool). cond b (Gives (VInt (pos 1)) (suc c + n)) (then_multiply (pos (suc c)) (apply turn (VFun Empty counted) (VInt (compute Sub (pos (suc c)) (pos 1))) (suc c + n)))) (not_zero c) in
-    entered rules (suc c) n ∙ (chosen ∙ ap (λ (r : Result). then_multiply (pos (suc c)) r) smaller)
+counts : KeepsRules → (c n : ℕ) (st : Vals) → c < 20 → apply turn (VFun Empty counted) (VInt (pos c)) (suc c + n) st ≡ Gives (VInt (product_to c)) n st
+counts rules zero n st h = entered rules 0 n st ∙ ap (λ (m : ℕ). Gives (VInt (pos 1)) m st) (omega arith)
+counts rules (suc c) n st h =
+    let smaller : apply turn (VFun Empty counted) (VInt (compute Sub (pos (suc c)) (pos 1))) (suc c + n) st ≡ Gives (VInt (product_to c)) n st =
+    ap (λ (z : ℤ). apply turn (VFun Empty counted) (VInt z) (suc c + n) st) (one_less c (omega arith)) ∙ counts rules c n st (omega arith) in
+    let chosen : eval_by turn (around (suc c)) counted (suc c + n) st ≡ then_multiply (pos (suc c)) (apply turn (VFun Empty counted) (VInt (compute Sub (pos (suc c)) (pos 1))) (suc c + n) st) =
+    ap (λ (b : Bool). cond b (Gives (VInt (pos 1)) (suc c + n) st) (then_multiply (pos (suc c)) (apply turn (VFun Empty counted) (VInt (compute Sub (pos (suc c)) (pos 1))) (suc c + n) st))) (not_zero c) in
+    entered rules (suc c) n st ∙ (chosen ∙ ap (λ (r : Result). then_multiply (pos (suc c)) r) smaller)
 
-branch : (b : Bool) (m : ℕ) → cond b (Gives (VInt (pos 1)) m) (Gives (VInt (pos 2)) m) ≡ Gives (VInt (cond b (pos 1) (pos 2))) m
-branch true m = refl
-branch false m = refl
+branch : (b : Bool) (m : ℕ) (st : Vals) → cond b (Gives (VInt (pos 1)) m st) (Gives (VInt (pos 2)) m st) ≡ Gives (VInt (cond b (pos 1) (pos 2))) m st
+branch true m st = refl
+branch false m st = refl
 
-evaluates : KeepsRules → (kind : Kind) (c : ℕ) → c < 20 → (i : ℤ) × ((n : ℕ) → eval_by turn Empty (item_term kind c) (turns kind c + n) ≡ Gives (VInt i) n)
-evaluates rules Number c h = (pos c, λ n. ap (λ (m : ℕ). Gives (VInt (pos c)) m) (omega arith))
-evaluates rules Factorial c h = (product_to c, λ n. counts rules c n h)
-evaluates rules Field c h = (compute Add (pos c) (pos 1), λ n. ap (λ (m : ℕ). Gives (VInt (compute Add (pos c) (pos 1))) m) (omega arith))
+evaluates : KeepsRules → (kind : Kind) (c : ℕ) → c < 20 → (i : ℤ) × ((n : ℕ) (st : Vals) → eval_by turn Empty (item_term kind c) (turns kind c + n) st ≡ Gives (VInt i) n st)
+evaluates rules Number c h = (pos c, λ n st. ap (λ (m : ℕ). Gives (VInt (pos c)) m st) (omega arith))
+evaluates rules Factorial c h = (product_to c, λ n st. counts rules c n st h)
+evaluates rules Field c h = (compute Add (pos c) (pos 1), λ n st. ap (λ (m : ℕ). Gives (VInt (compute Add (pos c) (pos 1))) m st) (omega arith))
 evaluates rules Identity c h = (
   pos c,
-  λ n.
+  λ n st.
       let same : suc (suc n) ≡ 2 + n = omega arith in
-      subst (λ (m : ℕ). eval_by turn Empty (item_term Identity c) m ≡ Gives (VInt (pos c)) n) same refl,
+      subst (λ (m : ℕ). eval_by turn Empty (item_term Identity c) m st ≡ Gives (VInt (pos c)) n st) same refl,
 )
 evaluates rules Branch c h = (
   cond (is_zero (pos c)) (pos 1) (pos 2),
-  λ n. branch (is_zero (pos c)) (0 + n) ∙ ap (λ (m : ℕ). Gives (VInt (cond (is_zero (pos c)) (pos 1) (pos 2))) m) (omega arith),
+  λ n st. branch (is_zero (pos c)) (0 + n) st ∙ ap (λ (m : ℕ). Gives (VInt (cond (is_zero (pos c)) (pos 1) (pos 2))) m st) (omega arith),
 )
 evaluates rules Twice c h = (
   compute Mul (compute Mul (pos c) (pos 3)) (pos 3),
-  λ n.
+  λ n st.
       let same : suc (suc (suc n)) ≡ 3 + n = omega arith in
-      subst (λ (m : ℕ). eval_by turn Empty (item_term Twice c) m ≡ Gives (VInt (compute Mul (compute Mul (pos c) (pos 3)) (pos 3))) n) same refl,
+      subst (λ (m : ℕ). eval_by turn Empty (item_term Twice c) m st ≡ Gives (VInt (compute Mul (compute Mul (pos c) (pos 3)) (pos 3))) n st) same refl,
 )
+
+no_cells : (kind : Kind) (c : ℕ) → has_cells (item_term kind c) ≡ false
+no_cells Number c = refl
+no_cells Factorial c = refl
+no_cells Field c = refl
+no_cells Identity c = refl
+no_cells Branch c = refl
+no_cells Twice c = refl
 
 pub item_given : PassesWhereTyped → KeepsRules → (kind : Kind) (c : ℕ) → c < 20 → Given (item_term kind c) (turns kind c) 13
 item_given typing rules kind c h =
     let typed = subst (λ (e : Term). HasType e 0 NoTys TInt × KeepsLimits e 0 NoTys) (is_item kind c) ((typing (placed kind c) 0 NoTys TInt tt).0 (passes kind c)) in
     let v = evaluates rules kind c h in
-    record { typed = typed.0; limits = typed.1; few = few_nodes kind c; value = v.0; gives = v.1 }
+    record { typed = typed.0; limits = typed.1; few = few_nodes kind c; value = v.0; gives = v.1; cell_free = no_cells kind c }

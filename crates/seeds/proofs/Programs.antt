@@ -1,5 +1,5 @@
 -- The source of every number is the text of a program: the sum of its items, nested to the left.
-use Rattle.std.proofs.Common.{◌≡◌, ◌≤◌, ◌<◌, ℕ, ℤ, zero, suc, ◌+◌, ◌*◌, ◌-◌, ◌^◌, List, [], ◌∷◌, ◌++◌, length, drop, Bool, true, false, ◌&&◌, refl, sym, ◌∙◌, ap, ap₂, subst, append_assoc, arith, lit≤, lit<, decimal, slice_index}
+use Rattle.std.proofs.Common.{◌≡◌, ◌≤◌, ◌<◌, ℕ, ℤ, zero, suc, ◌+◌, ◌*◌, ◌-◌, ◌^◌, List, [], ◌∷◌, ◌++◌, length, drop, Bool, true, false, ◌&&◌, ◌||◌, refl, sym, ◌∙◌, ap, ap₂, subst, append_assoc, arith, lit≤, lit<, decimal, slice_index}
 use Rattle.std.specs.Prelude.{codes}
 use Rattle.std.specs.List.{list_all}
 use Rattle.std.proofs.lemmas.List.{length-append, drop-drop, drop_at, append-nil}
@@ -16,7 +16,8 @@ use Rattle.f_terms.specs.Ty.{Ty, TInt}
 use Rattle.f_terms.specs.Tm.{Tm, Term, plain, MArith}
 use Rattle.f_terms.specs.Limits.{nodes, Within, FewNodes}
 use Rattle.f_terms.specs.Accepted.{IsAccepted}
-use Rattle.f_terms.specs.Eval.{Gives, VInt, Empty, Evaluates, eval_by, turn, operate, then_eval, Val, Result}
+use Rattle.f_terms.specs.Eval.{Gives, VInt, Empty, Evaluates, eval_by, turn, operate, then_eval, Val, Vals, Result}
+use Rattle.f_terms.specs.Cells.{has_cells}
 use Rattle.f_terms.specs.Laws.{PassesWhereTyped, KeepsRules}
 use Rattle.f_lexer.specs.declared.token.Token.{Token}
 use Rattle.f_lexer.specs.declared.kind.Kind.TheVariants as k
@@ -50,10 +51,11 @@ added rules e f t u a b g h = record {
   limits = (λ s q. let w : Within TInt = (lit≤ tt, lit≤ tt) in subst (λ (x : Ty). Within x) (sym q.0) w, g.limits, h.limits);
   few = let p = g.few in let q = h.few in omega arith;
   value = compute Add g.value h.value;
-  gives = λ n.
-      let first : eval_by turn Empty e (t + u + n) ≡ Gives (VInt g.value) (u + n) = subst (λ (m : ℕ). eval_by turn Empty e m ≡ Gives (VInt g.value) (u + n)) (omega arith) (g.gives (u + n)) in
-      let rest : Val → ℕ → Result = λ v m. then_eval (eval_by turn Empty f m) (λ w k. operate Add v w k) in
-      ap (λ (r : Result). then_eval r rest) first ∙ ap (λ (r : Result). then_eval r (λ w k. operate Add (VInt g.value) w k)) (h.gives n);
+  gives = λ n st.
+      let first : eval_by turn Empty e (t + u + n) st ≡ Gives (VInt g.value) (u + n) st = subst (λ (m : ℕ). eval_by turn Empty e m st ≡ Gives (VInt g.value) (u + n) st) (omega arith) (g.gives (u + n) st) in
+      let rest : Val → ℕ → Vals → Result = λ v m s. then_eval (eval_by turn Empty f m s) (λ w k z. operate Add v w k z) in
+      ap (λ (r : Result). then_eval r rest) first ∙ ap (λ (r : Result). then_eval r (λ w k z. operate Add (VInt g.value) w k z)) (h.gives n st);
+  cell_free = ap₂ (λ (x y : Bool). x || y) g.cell_free h.cell_free;
 }
 
 -- the turns of the items at the places 0 to j
@@ -93,9 +95,9 @@ sum_given typing rules n (suc j) =
 
 evaluates : KeepsRules → (e : Term) (t a m : ℕ) → Given e t a → t ≤ m → (i : ℤ) × Evaluates e m i
 evaluates rules e t a m g h =
-    let q : eval_by turn Empty e m ≡ Gives (VInt g.value) (m - t) =
-    subst (λ (x : ℕ). eval_by turn Empty e x ≡ Gives (VInt g.value) (m - t)) (omega arith) (g.gives (m - t)) in
-    (g.value, (m - t, rules m Empty e ∙ q))
+    let q : eval_by turn Empty e m Empty ≡ Gives (VInt g.value) (m - t) Empty =
+    subst (λ (x : ℕ). eval_by turn Empty e x Empty ≡ Gives (VInt g.value) (m - t) Empty) (omega arith) (g.gives (m - t) Empty) in
+    (g.value, (m - t, (Empty, rules m Empty Empty e ∙ q)))
 
 -- what it is the text of
 
@@ -202,8 +204,8 @@ pub programs : PassesWhereTyped → KeepsRules → SourcesArePrograms
 programs typing rules n =
     let s = texts n 63 (source n) (10 ∷ []) refl in
     let g = sum_given typing rules n 63 in
-    let few_nodes : nodes (sum_term n 63) ≤ 1000 = omega (arith, g.few, nodes_are 63) in
-    let few_bytes : length (source n) ≤ 1048576 = omega (arith, short_items n 63, length-append (items_to n 63) (10 ∷ [])) in
+    let few_nodes : nodes (sum_term n 63) ≤ 100000 = omega (arith, g.few, nodes_are 63) in
+    let few_bytes : length (source n) ≤ 16777216 = omega (arith, short_items n 63, length-append (items_to n 63) (10 ∷ [])) in
     let cut : Cut source_tokens 0 (source n) s.tokens_of =
     subst (λ (w : List Token). Cut source_tokens 0 (source n) w) (append-nil s.tokens_of)
     (s.cut 10 [] [] refl (c_gap (some_next source_tokens source_signs 10 []) c_end)) in
@@ -216,5 +218,6 @@ programs typing rules n =
         few_nodes = subst (λ (e : Term). FewNodes e) is few_nodes;
       },
       subst (λ (e : Term). IsAccepted e TInt) is (g.typed, g.limits),
+      subst (λ (e : Term). has_cells e ≡ false) is g.cell_free,
       subst (λ (e : Term). (i : ℤ) × Evaluates e 1280 i) is (evaluates rules (sum_term n 63) _ _ 1280 g (omega (arith, few_turns n 63))),
     )

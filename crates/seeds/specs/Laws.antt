@@ -1,5 +1,5 @@
 -- Laws of the sources of numbers.
-use Rattle.std.specs.Prelude.{ℕ, ℤ}
+use Rattle.std.specs.Prelude.{◌≡◌, ℕ, ℤ, false}
 use Rattle.idx_core.specs.declared.span.Span.{Span}
 use Rattle.f_terms.specs.declared.fault.Code.{Code}
 use Rattle.f_terms.specs.Ty.{TInt, NoTys}
@@ -7,15 +7,16 @@ use Rattle.f_terms.specs.Tm.{Tm, plain}
 use Rattle.f_terms.specs.Read.{place}
 use Rattle.f_terms.specs.Accepted.{IsAccepted}
 use Rattle.f_terms.specs.Faults.{Fault}
+use Rattle.f_terms.specs.Cells.{has_cells}
 use Rattle.f_terms.specs.Eval.{Evaluates}
 use Rattle.f_parser.specs.Text.{SourceWithin, FirstFault}
 use Rattle.seeds.specs.Source.{source}
 
--- the source of every number is the text of a program within the limits, which evaluates to an integer within 1280
--- turns
+-- the source of every number is the text of a program within the limits, which has no cells and evaluates to an integer
+-- within 1280 turns
 abbrev pub SourcesArePrograms : Type 0
 SourcesArePrograms = (n : ℕ) → (term : Tm) × SourceWithin (source n) term × IsAccepted (plain term) TInt
-    × ((i : ℤ) × Evaluates (plain term) 1280 i)
+    × (has_cells (plain term) ≡ false) × ((i : ℤ) × Evaluates (plain term) 1280 i)
 
 -- so it has no first fault of reading, and the term for which it stands none of checking
 abbrev pub SourcesHaveNoFault : Type 0

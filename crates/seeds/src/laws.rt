@@ -5,7 +5,7 @@ use f_parser::{no_fault_where_read, one_term};
 use f_terms::{evaluation_keeps_its_rules, no_fault_beside_a_pass, passes_where_typed};
 
 /// The source of every number, whatever its size, is the text of a term of type `int` within all limits, which
-/// evaluates to an integer within 1280 turns.
+/// has no cells and evaluates to an integer within 1280 turns.
 pub fn sources_are_programs()
     ensures { SourcesArePrograms }
 {

@@ -102,31 +102,31 @@ fn counts_open_tuples(rt: HostRuntime) -> Result<(), Fail> {
 #[test]
 fn counts_nodes_before_names(rt: HostRuntime) -> Result<(), Fail> {
     let alloc = rt.alloc();
-    let unbound = &[("x", 1), (" + x", 500)];
-    is_refused(&rt, alloc, unbound, Code::L3, 0, 2001)
+    let unbound = &[("x", 1), (" + x", 50_000)];
+    is_refused(&rt, alloc, unbound, Code::L3, 0, 200_001)
 }
 
-// 1000 nodes, and 1001; the place is that of the expression, which the parentheses do not widen.
+// 100,000 nodes, and 100,001; the place is that of the expression, which the parentheses do not widen.
 #[test]
 fn counts_nodes_in_parentheses(rt: HostRuntime) -> Result<(), Fail> {
     let alloc = rt.alloc();
     is_read(
         &rt,
         alloc,
-        &[("#1 (", 1), ("1", 1), (" + 1", 499), (")", 1)],
+        &[("#1 (", 1), ("1", 1), (" + 1", 49_999), (")", 1)],
     )?;
-    let more = &[(" (#1 #1 (", 1), ("1", 1), (" + 1", 499), (")) ", 1)];
-    is_refused(&rt, alloc, more, Code::L3, 2, 2007)
+    let more = &[(" (#1 #1 (", 1), ("1", 1), (" + 1", 49_999), (")) ", 1)];
+    is_refused(&rt, alloc, more, Code::L3, 2, 200_007)
 }
 
 // A sum as long as a text may be: no tree is kept of it.
 #[test]
 fn reads_the_longest_sum(rt: HostRuntime) -> Result<(), Fail> {
     let alloc = rt.alloc();
-    let sum = &[("1", 1), ("+1", 524_287)];
-    is_refused(&rt, alloc, sum, Code::L3, 0, 1_048_575)?;
-    let cut = &[("1", 1), ("+1", 524_286), ("+)", 1)];
-    is_refused(&rt, alloc, cut, Code::E03, 1_048_574, 1_048_575)
+    let sum = &[("1", 1), ("+1", 8_388_607)];
+    is_refused(&rt, alloc, sum, Code::L3, 0, 16_777_215)?;
+    let cut = &[("1", 1), ("+1", 8_388_606), ("+)", 1)];
+    is_refused(&rt, alloc, cut, Code::E03, 16_777_214, 16_777_215)
 }
 
 // The indices in a type, in the order of the text.
@@ -138,7 +138,7 @@ fn type_places(ty: &FType, out: &mut Vec<(u64, u64, u64)>) -> Result<(), AllocEr
             type_places(a, out)?;
             type_places(b, out)
         }
-        FType::All(body) => type_places(body, out),
+        FType::All(body) | FType::Exists(body) | FType::Ref(body) => type_places(body, out),
         FType::Tuple(parts) => {
             for part in parts {
                 type_places(part, out)?;
@@ -163,6 +163,10 @@ fn node_places(node: &FNode, out: &mut Vec<(u64, u64, u64)>) -> Result<(), Alloc
             type_places(res, out)
         }
         FShape::Inst(_, ty) => type_places(ty, out),
+        FShape::Pack { hidden, shape, .. } => {
+            type_places(hidden, out)?;
+            type_places(shape, out)
+        }
         _ => Ok(()),
     }
 }

@@ -1,5 +1,5 @@
 use Rattle.std.proofs.Common.{◌∙◌, ap, map}
-use Rattle.f_terms.specs.Ty.{TTuple, tys}
+use Rattle.f_terms.specs.Ty.{TTuple, TSome, TRef, tys}
 use Rattle.f_terms.specs.Read.{tree}
 use Rattle.f_terms.specs.declared.types.FType.TheVariants as T
 use Rattle.f_terms.proofs.Trees.{tree_Tuple}

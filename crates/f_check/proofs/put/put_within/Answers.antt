@@ -9,20 +9,9 @@ use Rattle.f_terms.specs.Ty.{Ty, put, size, depth}
 use Rattle.f_terms.specs.Faults.{limits, nothing}
 use Rattle.f_terms.specs.Read.{tree, place}
 use Rattle.f_check.specs.Counts.{put_size, put_depth}
-use Rattle.f_check.proofs.Puts.{put_counts}
+use Rattle.f_check.proofs.Puts.{depth_made, size_made}
 use Rattle.f_check.proofs.Forms.{within, limits_of, limits_then, says_map}
 use Rattle.f_check.proofs.put.put_within.Goals as goal
-
--- the counts of a put of a type that keeps the limits
-depth_made : (s t : Ty) (d r : ℕ) → d ≡ min (depth s) 18446744073709551615 → d ≤ 200 → r ≡ min (put_depth d 0 t) 18446744073709551615 → r ≡ min (depth (put 0 s t)) 18446744073709551615
-depth_made s t d r ed le er =
-    let e : d ≡ depth s = omega arith in
-    omega (arith, er, (put_counts s 0 t).1, ap (λ w. put_depth w 0 t) e)
-
-size_made : (s t : Ty) (w r : ℕ) → w ≡ min (size s) 18446744073709551615 → w ≤ 10000 → r ≡ min (put_size w 0 t) 18446744073709551615 → r ≡ min (size (put 0 s t)) 18446744073709551615
-size_made s t w r ew le er =
-    let e : w ≡ size s = omega arith in
-    omega (arith, er, (put_counts s 0 t).0, ap (λ v. put_size v 0 t) e)
 
 -- a fault that is passed on
 passed : (s t : Ty) (p : Spn) (r : Result FType FFault) (e f : FFault) → r ≡ Err e → e ≡ f → IsPut s t p (Err f) → IsPut s t p r

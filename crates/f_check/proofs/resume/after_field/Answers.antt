@@ -2,13 +2,14 @@ use Rattle.std.proofs.Common.{◌∙◌, ap}
 use Rattle.std.proofs.lemmas.Result.{err_from_is_err_and}
 use Rattle.f_check.proofs.Resumes.{field_enters, field_given, field_faulty}
 use Rattle.f_check.proofs.Forms.{says_map, limits_of, within}
-use Rattle.f_terms.specs.Ty.{TTuple, tys}
+use Rattle.f_terms.specs.Ty.{TTuple, TSome, TRef, tys}
 use Rattle.f_terms.specs.Read.{tree, place}
 use Rattle.f_terms.specs.Faults.{limits, nothing}
 use Rattle.f_terms.proofs.Trees.{tree_Tuple}
 use Rattle.std.proofs.Common.{map, min}
 use Rattle.f_terms.specs.Ty.{depth, size}
 use Rattle.std.proofs.Common.{refl}
+use Rattle.f_check.specs.Scopes.{bound}
 use Rattle.f_check.proofs.Follows.{resumed, none}
 use Rattle.f_check.specs.declared.frame.Frame.TheVariants as C
 use Rattle.f_check.proofs.resume.after_field.Goals as goal
@@ -36,7 +37,7 @@ returns-in_err-limit-in-None-clause-goes c =
 
 pub returns-in-Some-clause-frames : goal.returns-in-Some-clause-frames
 returns-in-Some-clause-frames c =
-    resumed _ (C.Fields c.args.span c.args.types c.args.rest) (C.Fields c.args.span c.push.new.types c.in-Some.rest) _ _ c.in-Some.e.now c.enter.ensures.frames c.in-Some.ensures.cases.0 (λ n k. k) (λ g. (refl, refl))
+    resumed _ (C.Fields c.args.span c.args.types c.args.rest) (C.Fields c.args.span c.push.new.types c.in-Some.rest) (map bound c.args.state.now.scope.items) _ _ c.in-Some.e.now c.enter.ensures.frames c.in-Some.ensures.cases.0 (λ n k. k) (λ f n g. refl)
 
 pub returns-in_ok-limit-in-None-clause-frames : goal.returns-in_ok-limit-in-None-clause-frames
-returns-in_ok-limit-in-None-clause-frames c = (refl, none _ c.in-None.ensures.cases)
+returns-in_ok-limit-in-None-clause-frames c = (refl, none _ c.in-None.ensures.cases, tt)

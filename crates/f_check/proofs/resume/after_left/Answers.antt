@@ -1,6 +1,7 @@
 use Rattle.std.proofs.Common.{true≢false, sym}
 use Rattle.f_check.proofs.Resumes.{left_refused}
-use Rattle.std.proofs.Common.{refl}
+use Rattle.std.proofs.Common.{map, refl}
+use Rattle.f_check.specs.Scopes.{bound}
 use Rattle.f_check.proofs.Follows.{gone, resumed}
 use Rattle.f_check.specs.declared.frame.Frame.TheVariants as C
 use Rattle.f_check.proofs.resume.after_left.Goals as goal
@@ -12,4 +13,4 @@ pub returns-then-not-is_int-clause-frames : goal.returns-then-not-is_int-clause-
 returns-then-not-is_int-clause-frames c = gone _ _ _ c.refused.ensures
 
 pub returns-clause-frames : goal.returns-clause-frames
-returns-clause-frames c = resumed _ (C.Left c.args.span c.args.b) (C.Right c.args.span) _ _ c.args.b c.enter.ensures.frames refl (λ n k. k) (λ g. (refl, refl))
+returns-clause-frames c = resumed _ (C.Left c.args.span c.args.b) (C.Right c.args.span) (map bound c.args.state.now.scope.items) _ _ c.args.b c.enter.ensures.frames refl (λ n k. k) (λ f n g. refl)

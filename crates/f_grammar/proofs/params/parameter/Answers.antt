@@ -2,7 +2,7 @@ use Rattle.std.proofs.Common.{[], ◌∷◌, ◌+◌, arith}
 use Rattle.std.proofs.lemmas.Result.{err_from_is_err_and}
 use Rattle.text_core.specs.Table.{Nt, Tm, Mark}
 use Rattle.f_grammar.specs.Machine.{LT}
-use Rattle.f_grammar.specs.Read.{type_of}
+use Rattle.f_grammar.specs.Reads.{found_ty}
 use Rattle.f_grammar.specs.declared.cursor.Wanted.TheVariants as want
 use Rattle.f_grammar.proofs.Typing.{within, fails_after, fails_call, fails_expect, no_param, deep_param, param_1, param_2, param_3, param_4, param_whole}
 use Rattle.f_grammar.proofs.params.parameter.Goals as goal
@@ -57,7 +57,7 @@ returns-in_err-expect-3 c =
     let i = c.args.at in
     let q = c.in_ok-inner.ensures in
     let f = c.in_ok-found.found in
-    rw (p.1, p.2) (fails_after ts d i f.next _ _ _ _ _ (param_4 ts d i _ c.in_ok-expect.ensures q.1 _ _ _ f.next (type_of f.ty) c.in_ok-name.ensures c.in_ok-expect-2.ensures q.0 c.in_ok-found.ensures)
+    rw (p.1, p.2) (fails_after ts d i f.next _ _ _ _ _ (param_4 ts d i _ c.in_ok-expect.ensures q.1 _ _ _ f.next (found_ty f) c.in_ok-name.ensures c.in_ok-expect-2.ensures q.0 c.in_ok-found.ensures)
     (fails_expect ts d f.next want.RightParen _ _ _ c.in_err-expect-3.ensures))
 
 pub returns : goal.returns
@@ -68,5 +68,6 @@ returns c =
       open_paren = _;
       colon = _;
       close_paren = _;
-      reads = param_whole c.args.tokens.now c.args.depth c.args.at _ c.in_ok-expect.ensures q.1 _ _ _ _ f.next (type_of f.ty) c.in_ok-name.ensures c.in_ok-expect-2.ensures q.0 c.in_ok-found.ensures c.in_ok-expect-3.ensures;
+      type_end = f.end;
+      reads = param_whole c.args.tokens.now c.args.depth c.args.at _ c.in_ok-expect.ensures q.1 _ _ _ _ f.next (found_ty f) c.in_ok-name.ensures c.in_ok-expect-2.ensures q.0 c.in_ok-found.ensures c.in_ok-expect-3.ensures;
     }

@@ -1,12 +1,13 @@
-use Rattle.std.proofs.Common.{◌≡◌, List, [], ◌∷◌, ◌++◌, ◌+◌, slice_get, Some, refl, sym, ◌∙◌, ap, arith}
+use Rattle.std.proofs.Common.{◌≡◌, List, [], ◌∷◌, ◌++◌, ◌+◌, slice_get, Some, refl, sym, subst, ◌∙◌, ap, arith}
 use Rattle.std.proofs.lemmas.Option.{slice_get_within}
 use Rattle.std.proofs.lemmas.Result.{err_from_is_err_and}
 use Rattle.f_grammar.specs.declared.cursor.Wanted.TheVariants as want
-use Rattle.f_grammar.specs.Machine.{table, LT, LU, LTypes, MoreArrow, MoreTypes, OfToken, OfType, TypeParen, TypeTuple, TypeAll, TypeArrow, TypeNext, unit_after, type_after, arrow_after, types_tail}
+use Rattle.f_grammar.specs.Machine.{table, LT, LU, LTypes, MoreArrow, MoreTypes, OfToken, OfType, TypeParen, TypeTuple, TypeBound, TypeArrow, TypeRef, TypeNext, bound_owed, unit_after, type_after, arrow_after, types_tail}
 use Rattle.text_core.specs.Table.{Tm, Nt, Do, Mark}
 use Rattle.text_core.proofs.Going as step
-use Rattle.f_grammar.specs.Read.{type_of}
-use Rattle.f_grammar.proofs.Typing.{type_Tuple, types_more, fails_after, fails_call, fails_expect, fails_deep, after_all, after_arrow, none_of, all_owed, arrow_owed, within, all_1, all_2, all_3, all_whole, left_1, left_2, left_whole, arrow_1, arrow_whole, word_whole, name_whole, tuple_1, tuple_whole, paren_1, paren_2, paren_whole, no_unit, no_unit_end, none_whole, first_1, first_whole, comma_1, comma_whole, list_1, list_whole}
+use Rattle.f_grammar.specs.Raw.{RawTy}
+use Rattle.f_grammar.specs.Reads.{found_ty, ReadsType}
+use Rattle.f_grammar.proofs.Typing.{type_Tuple, types_more, fails_after, fails_call, fails_expect, fails_deep, after_bound, after_arrow, none_of, arrow_owed, within, token_of, bound_1, bound_2, bound_3, bound_whole, left_1, left_2, left_whole, arrow_1, arrow_whole, word_whole, name_whole, tuple_1, tuple_whole, paren_1, paren_2, paren_whole, ref_1, ref_whole, no_unit, no_unit_end, none_whole, first_1, first_whole, comma_1, comma_whole, list_1, list_whole}
 use Rattle.f_grammar.proofs.types.+types.Goals as goal
 
 pub part_type-returns-in_default : goal.part_type-returns-in_default
@@ -78,17 +79,58 @@ part_type-returns-in_err-found-in-LeftParen t c =
     rw (p.1, p.2) (fails_after ts d i (i + 1) _ _ _ _ _ (paren_1 ts d i c.in-Some.token e c.in-LeftParen.is q.1)
     (fails_call ts _ d (i + 1) (Nt LT ∷ []) (Tm want.RightParen ∷ (Mark ∷ (Do TypeParen ∷ []))) (OfToken c.in-Some.token ∷ []) _ (omega (arith, q.0)) c.in_err-found-in-LeftParen.ensures))
 
-pub part_type-returns-in_err-expect-in-LeftParen : goal.part_type-returns-in_err-expect-in-LeftParen
-part_type-returns-in_err-expect-in-LeftParen t c =
+pub part_type-returns-in_err-close-in-LeftParen : goal.part_type-returns-in_err-close-in-LeftParen
+part_type-returns-in_err-close-in-LeftParen t c =
     let ts = c.args.tokens.now in
     let d = c.args.depth in
     let i = c.args.at in
     let e : slice_get ts i ≡ Some c.in-Some.token = sym c.peek.ensures ∙ c.in-Some.is in
-    let p = err_from_is_err_and c.from_residual-in_err-expect-in-LeftParen.result c.from_residual-in_err-expect-in-LeftParen.ensures.1 in
+    let p = err_from_is_err_and c.from_residual-in_err-close-in-LeftParen.result c.from_residual-in_err-close-in-LeftParen.ensures.1 in
     let q = c.in_ok-inner-in-LeftParen.ensures in
     let f = c.in_ok-found-in-LeftParen.found in
-    rw (p.1, p.2) (fails_after ts d i f.next _ _ _ _ _ (paren_2 ts d i c.in-Some.token _ f.next (type_of f.ty) e c.in-LeftParen.is q.1 q.0 c.in_ok-found-in-LeftParen.ensures)
-    (fails_expect ts d f.next want.RightParen (Mark ∷ (Do TypeParen ∷ [])) (OfType (type_of f.ty) ∷ (OfToken c.in-Some.token ∷ [])) _ c.in_err-expect-in-LeftParen.ensures))
+    rw (p.1, p.2) (fails_after ts d i f.next _ _ _ _ _ (paren_2 ts d i c.in-Some.token _ f.next (found_ty f) e c.in-LeftParen.is q.1 q.0 c.in_ok-found-in-LeftParen.ensures)
+    (fails_expect ts d f.next want.RightParen (Mark ∷ (Do TypeParen ∷ [])) (OfType (found_ty f) ∷ (OfToken c.in-Some.token ∷ [])) _ c.in_err-close-in-LeftParen.ensures))
+
+pub part_type-returns-in_err-inner-in-Ref : goal.part_type-returns-in_err-inner-in-Ref
+part_type-returns-in_err-inner-in-Ref t c =
+    let ts = c.args.tokens.now in
+    let d = c.args.depth in
+    let i = c.args.at in
+    let e : slice_get ts i ≡ Some c.in-Some.token = sym c.peek.ensures ∙ c.in-Some.is in
+    let p = err_from_is_err_and c.from_residual-in_err-inner-in-Ref.result c.from_residual-in_err-inner-in-Ref.ensures.1 in
+    let r : unit_after c.in-Some.token.kind ≡ Some (Nt LU ∷ (Mark ∷ (Do TypeRef ∷ []))) = rw c.in-Ref.is refl in
+    rw (p.1, p.2) (fails_deep ts d i c.in-Some.token LU (Nt LU ∷ (Mark ∷ (Do TypeRef ∷ []))) [] [] _ c.in_err-inner-in-Ref.ensures e r refl)
+
+pub part_type-part_type-requires : goal.part_type-part_type-requires
+part_type-part_type-requires t c =
+    let ts = c.args.tokens.now in
+    let d = c.args.depth in
+    let i = c.args.at in
+    let e : slice_get ts i ≡ Some c.in-Some.token = sym c.peek.ensures ∙ c.in-Some.is in
+    let l = slice_get_within ts i c.in-Some.token e in
+    let q = c.in_ok-inner-in-Ref.ensures in
+    (omega (arith, l), (omega (arith, q.0, q.1), omega (arith, l)))
+
+pub part_type-returns-in_err-held-in-Ref : goal.part_type-returns-in_err-held-in-Ref
+part_type-returns-in_err-held-in-Ref t c =
+    let ts = c.args.tokens.now in
+    let d = c.args.depth in
+    let i = c.args.at in
+    let e : slice_get ts i ≡ Some c.in-Some.token = sym c.peek.ensures ∙ c.in-Some.is in
+    let p = err_from_is_err_and c.from_residual-in_err-held-in-Ref.result c.from_residual-in_err-held-in-Ref.ensures.1 in
+    let q = c.in_ok-inner-in-Ref.ensures in
+    rw (p.1, p.2) (fails_after ts d i (i + 1) _ _ _ _ _ (ref_1 ts d i c.in-Some.token e c.in-Ref.is q.1)
+    (fails_call ts _ d (i + 1) (Nt LU ∷ []) (Mark ∷ (Do TypeRef ∷ [])) (OfToken c.in-Some.token ∷ []) _ (omega (arith, q.0)) c.in_err-held-in-Ref.ensures))
+
+pub part_type-returns-in_ok-ty-in-Ref : goal.part_type-returns-in_ok-ty-in-Ref
+part_type-returns-in_ok-ty-in-Ref t c =
+    let ts = c.args.tokens.now in
+    let d = c.args.depth in
+    let i = c.args.at in
+    let e : slice_get ts i ≡ Some c.in-Some.token = sym c.peek.ensures ∙ c.in-Some.is in
+    let q = c.in_ok-inner-in-Ref.ensures in
+    let f = c.in_ok-held-in-Ref.held in
+    ref_whole ts d i c.in-Some.token _ f.next (found_ty f) _ e c.in-Ref.is q.1 q.0 c.in_ok-held-in-Ref.ensures (ap (λ (t : RawTy). record { ty = t; end = f.end }) c.in_ok-ty-in-Ref.ensures)
 
 pub part_type-returns-in-Int : goal.part_type-returns-in-Int
 part_type-returns-in-Int t c =
@@ -96,7 +138,7 @@ part_type-returns-in-Int t c =
     let d = c.args.depth in
     let i = c.args.at in
     let e : slice_get ts i ≡ Some c.in-Some.token = sym c.peek.ensures ∙ c.in-Some.is in
-    word_whole ts d i c.in-Some.token e c.requires.depth c.in-Int.is
+    subst (ReadsType LU ts d i) (sym c.one_token.ensures) (word_whole ts d i c.in-Some.token e c.requires.depth c.in-Int.is)
 
 pub part_type-returns-in-Name : goal.part_type-returns-in-Name
 part_type-returns-in-Name t c =
@@ -104,7 +146,8 @@ part_type-returns-in-Name t c =
     let d = c.args.depth in
     let i = c.args.at in
     let e : slice_get ts i ≡ Some c.in-Some.token = sym c.peek.ensures ∙ c.in-Some.is in
-    name_whole ts d i c.in-Some.token e c.requires.depth c.in-Name.is
+    subst (ReadsType LU ts d i) (sym c.one_token-in-Name.ensures)
+    (name_whole ts d i c.in-Some.token e c.requires.depth c.in-Name.is)
 
 pub part_type-returns-in_ok-found-in-LeftAngle : goal.part_type-returns-in_ok-found-in-LeftAngle
 part_type-returns-in_ok-found-in-LeftAngle t c =
@@ -114,17 +157,17 @@ part_type-returns-in_ok-found-in-LeftAngle t c =
     let e : slice_get ts i ≡ Some c.in-Some.token = sym c.peek.ensures ∙ c.in-Some.is in
     let q = c.in_ok-inner-in-LeftAngle.ensures in
     let f = c.in_ok-found-in-LeftAngle.found in
-    tuple_whole ts d i c.in-Some.token f.close _ f.next _ _ e c.in-LeftAngle.is q.1 q.0 c.in_ok-found-in-LeftAngle.ensures (type_Tuple f.types)
+    tuple_whole ts d i c.in-Some.token f.close _ f.next _ _ e c.in-LeftAngle.is q.1 q.0 c.in_ok-found-in-LeftAngle.ensures (ap (λ (t : RawTy). record { ty = t; end = f.close.span.end }) (type_Tuple f.types))
 
-pub part_type-returns-in_ok-expect-in-LeftParen : goal.part_type-returns-in_ok-expect-in-LeftParen
-part_type-returns-in_ok-expect-in-LeftParen t c =
+pub part_type-returns-in_ok-close-in-LeftParen : goal.part_type-returns-in_ok-close-in-LeftParen
+part_type-returns-in_ok-close-in-LeftParen t c =
     let ts = c.args.tokens.now in
     let d = c.args.depth in
     let i = c.args.at in
     let e : slice_get ts i ≡ Some c.in-Some.token = sym c.peek.ensures ∙ c.in-Some.is in
     let q = c.in_ok-inner-in-LeftParen.ensures in
     let f = c.in_ok-found-in-LeftParen.found in
-    paren_whole ts d i c.in-Some.token _ _ f.next (type_of f.ty) e c.in-LeftParen.is q.1 q.0 c.in_ok-found-in-LeftParen.ensures c.in_ok-expect-in-LeftParen.ensures
+    paren_whole ts d i c.in-Some.token _ _ f.next (found_ty f) e c.in-LeftParen.is q.1 q.0 c.in_ok-found-in-LeftParen.ensures c.in_ok-close-in-LeftParen.ensures
 
 pub part_type-returns-in_default-kind : goal.part_type-returns-in_default-kind
 part_type-returns-in_default-kind t c =
@@ -132,7 +175,7 @@ part_type-returns-in_default-kind t c =
     let d = c.args.depth in
     let i = c.args.at in
     let e : slice_get ts i ≡ Some c.in-Some.token = sym c.peek.ensures ∙ c.in-Some.is in
-    no_unit ts d i c.in-Some.token e (none_of c.in-Some.token.kind c.in_default-kind.not-Name c.in_default-kind.not-LeftParen c.in_default-kind.not-LeftAngle c.in_default-kind.not-Int)
+    no_unit ts d i c.in-Some.token e (none_of c.in-Some.token.kind c.in_default-kind.not-Name c.in_default-kind.not-LeftParen c.in_default-kind.not-LeftAngle c.in_default-kind.not-Int c.in_default-kind.not-Ref)
 
 pub types-returns-in_err-first-in-None : goal.types-returns-in_err-first-in-None
 types-returns-in_err-first-in-None t c =
@@ -150,7 +193,7 @@ types-loop-types-init t c =
     let i = c.args.at in
     let e = sym c.take.ensures ∙ c.in-None.is in
     let f = c.in_ok-first-in-None.first in
-    first_whole ts d i f.next (type_of f.ty) _ e c.in_ok-first-in-None.ensures (types_more [] _ f.ty (c.in_ok-push-in-None.ensures.items ∙ ap (λ (x : List _). x ++ f.ty ∷ []) c.new-types.ensures.items))
+    first_whole ts d i f.next (found_ty f) _ e c.in_ok-first-in-None.ensures (types_more [] _ f.ty (c.in_ok-push-in-None.ensures.items ∙ ap (λ (x : List _). x ++ f.ty ∷ []) c.new-types.ensures.items))
 
 pub types-whole_type-requires-in-Some-take : goal.types-whole_type-requires-in-Some-take
 types-whole_type-requires-in-Some-take t c =
@@ -187,7 +230,7 @@ types-loop-types-preserved t c =
     let r = c.loop-types.invariant in
     let e = sym c.take-in-loop-types.ensures ∙ c.in-Some-take.is in
     let f = c.in_ok-found-in-None.found in
-    comma_whole ts d i j f.next _ _ (type_of f.ty) _ c.requires.depth r e c.in_ok-found-in-None.ensures (types_more us _ f.ty c.in_ok-push-in-None-2.ensures.items)
+    comma_whole ts d i j f.next _ _ (found_ty f) _ c.requires.depth r e c.in_ok-found-in-None.ensures (types_more us _ f.ty c.in_ok-push-in-None-2.ensures.items)
 
 pub types-returns-in_err-close-in-None : goal.types-returns-in_err-close-in-None
 types-returns-in_err-close-in-None t c =
@@ -224,41 +267,53 @@ whole_type-returns-in_err-inner-in-Some t c =
     let ts = c.args.tokens.now in
     let d = c.args.depth in
     let i = c.args.at in
-    let a = c.in-Some.field-0 in
-    let e = sym c.take.ensures ∙ c.in-Some.is in
+    let z = token_of (slice_get ts i) c.in-Some.quantifier (sym c.next_binder.ensures ∙ c.in-Some.is) in
+    let a = z.0 in
+    let e = z.1 in
+    let y = z.2 in
+    let b = c.in-Some.quantifier in
     let p = err_from_is_err_and c.from_residual.result c.from_residual.ensures.1 in
-    let r : type_after a.kind ≡ Some all_owed = after_all a.kind (step.is_of table ts i want.All a e) in
-    rw (p.1, p.2) (fails_deep ts d i a LT all_owed [] [] _ c.in_err-inner-in-Some.ensures (step.is_next table ts i want.All a e) r refl)
+    let r : type_after a.kind ≡ Some (bound_owed b) = after_bound a.kind b y in
+    rw (p.1, p.2) (fails_deep ts d i a LT (bound_owed b) [] [] _ c.in_err-inner-in-Some.ensures e r refl)
 
 pub whole_type-returns-in_err-name-in-Some : goal.whole_type-returns-in_err-name-in-Some
 whole_type-returns-in_err-name-in-Some t c =
     let ts = c.args.tokens.now in
     let d = c.args.depth in
     let i = c.args.at in
-    let a = c.in-Some.field-0 in
-    let e = sym c.take.ensures ∙ c.in-Some.is in
+    let z = token_of (slice_get ts i) c.in-Some.quantifier (sym c.next_binder.ensures ∙ c.in-Some.is) in
+    let a = z.0 in
+    let e = z.1 in
+    let y = z.2 in
+    let b = c.in-Some.quantifier in
     let q = c.in_ok-inner-in-Some.ensures in
     let p = err_from_is_err_and c.from_residual-in_err-name-in-Some.result c.from_residual-in_err-name-in-Some.ensures.1 in
-    rw (p.1, p.2) (fails_after ts d i (i + 1) _ _ _ _ _ (all_1 ts d i a e q.1) (fails_expect ts d (i + 1) want.Name _ _ _ c.in_err-name-in-Some.ensures))
+    rw (p.1, p.2) (fails_after ts d i (i + 1) _ _ _ _ _ (bound_1 ts d i a b e y q.1) (fails_expect ts d (i + 1) want.Name _ _ _ c.in_err-name-in-Some.ensures))
 
 pub whole_type-returns-in_err-expect-in-Some : goal.whole_type-returns-in_err-expect-in-Some
 whole_type-returns-in_err-expect-in-Some t c =
     let ts = c.args.tokens.now in
     let d = c.args.depth in
     let i = c.args.at in
-    let a = c.in-Some.field-0 in
-    let e = sym c.take.ensures ∙ c.in-Some.is in
+    let z = token_of (slice_get ts i) c.in-Some.quantifier (sym c.next_binder.ensures ∙ c.in-Some.is) in
+    let a = z.0 in
+    let e = z.1 in
+    let y = z.2 in
+    let b = c.in-Some.quantifier in
     let q = c.in_ok-inner-in-Some.ensures in
     let p = err_from_is_err_and c.from_residual-in_err-expect-in-Some.result c.from_residual-in_err-expect-in-Some.ensures.1 in
-    rw (p.1, p.2) (fails_after ts d i (i + 2) _ _ _ _ _ (all_2 ts d i a _ e q.1 c.in_ok-name-in-Some.ensures) (fails_expect ts d (i + 2) want.Dot _ _ _ c.in_err-expect-in-Some.ensures))
+    rw (p.1, p.2) (fails_after ts d i (i + 2) _ _ _ _ _ (bound_2 ts d i a b e y q.1 _ c.in_ok-name-in-Some.ensures) (fails_expect ts d (i + 2) want.Dot _ _ _ c.in_err-expect-in-Some.ensures))
 
 pub whole_type-whole_type-requires : goal.whole_type-whole_type-requires
 whole_type-whole_type-requires t c =
     let ts = c.args.tokens.now in
     let d = c.args.depth in
     let i = c.args.at in
-    let a = c.in-Some.field-0 in
-    let e = sym c.take.ensures ∙ c.in-Some.is in
+    let z = token_of (slice_get ts i) c.in-Some.quantifier (sym c.next_binder.ensures ∙ c.in-Some.is) in
+    let a = z.0 in
+    let e = z.1 in
+    let y = z.2 in
+    let b = c.in-Some.quantifier in
     let q = c.in_ok-inner-in-Some.ensures in
     let l = within ts (i + 2) want.Dot _ c.in_ok-expect-in-Some.ensures in
     (omega (arith, l), (omega (arith, q.0, q.1), omega (arith, l)))
@@ -268,19 +323,22 @@ whole_type-returns-in_err-body-in-Some t c =
     let ts = c.args.tokens.now in
     let d = c.args.depth in
     let i = c.args.at in
-    let a = c.in-Some.field-0 in
-    let e = sym c.take.ensures ∙ c.in-Some.is in
+    let z = token_of (slice_get ts i) c.in-Some.quantifier (sym c.next_binder.ensures ∙ c.in-Some.is) in
+    let a = z.0 in
+    let e = z.1 in
+    let y = z.2 in
+    let b = c.in-Some.quantifier in
     let q = c.in_ok-inner-in-Some.ensures in
     let p = err_from_is_err_and c.from_residual-in_err-body-in-Some.result c.from_residual-in_err-body-in-Some.ensures.1 in
-    rw (p.1, p.2) (fails_after ts d i (i + 3) _ _ _ _ _ (all_3 ts d i a _ _ e q.1 c.in_ok-name-in-Some.ensures c.in_ok-expect-in-Some.ensures)
-    (fails_call ts _ d (i + 3) (Nt LT ∷ []) (Mark ∷ (Do TypeAll ∷ [])) _ _ (omega (arith, q.0)) c.in_err-body-in-Some.ensures))
+    rw (p.1, p.2) (fails_after ts d i (i + 3) _ _ _ _ _ (bound_3 ts d i a b e y q.1 _ _ c.in_ok-name-in-Some.ensures c.in_ok-expect-in-Some.ensures)
+    (fails_call ts _ d (i + 3) (Nt LT ∷ []) (Mark ∷ (Do (TypeBound b) ∷ [])) _ _ (omega (arith, q.0)) c.in_err-body-in-Some.ensures))
 
 pub whole_type-returns-in_err-left-in-None : goal.whole_type-returns-in_err-left-in-None
 whole_type-returns-in_err-left-in-None t c =
     let ts = c.args.tokens.now in
     let d = c.args.depth in
     let i = c.args.at in
-    let e = sym c.take.ensures ∙ c.in-None.is in
+    let e = sym c.next_binder.ensures ∙ c.in-None.is in
     let p = err_from_is_err_and c.from_residual-in_err-left-in-None.result c.from_residual-in_err-left-in-None.ensures.1 in
     rw (p.1, p.2) (fails_after ts d i i _ _ _ _ _ (left_1 ts d i e) (fails_call ts d d i (Nt LU ∷ []) (Nt MoreArrow ∷ []) [] _ (omega arith) c.in_err-left-in-None.ensures))
 
@@ -289,13 +347,13 @@ whole_type-returns-in_err-inner-in-Some-take t c =
     let ts = c.args.tokens.now in
     let d = c.args.depth in
     let i = c.args.at in
-    let e = sym c.take.ensures ∙ c.in-None.is in
+    let e = sym c.next_binder.ensures ∙ c.in-None.is in
     let f = c.in_ok-left-in-None.left in
     let a = c.in-Some-take.field-0 in
-    let g = sym c.take-in-None.ensures ∙ c.in-Some-take.is in
+    let g = sym c.take.ensures ∙ c.in-Some-take.is in
     let p = err_from_is_err_and c.from_residual-in_err-inner-in-Some-take.result c.from_residual-in_err-inner-in-Some-take.ensures.1 in
     let r : arrow_after a.kind ≡ Some arrow_owed = after_arrow a.kind (step.is_of table ts f.next want.Arrow a g) in
-    rw (p.1, p.2) (fails_after ts d i f.next _ _ _ _ _ (left_2 ts d i f.next (type_of f.ty) e c.in_ok-left-in-None.ensures)
+    rw (p.1, p.2) (fails_after ts d i f.next _ _ _ _ _ (left_2 ts d i f.next (found_ty f) e c.in_ok-left-in-None.ensures)
     (fails_deep ts d f.next a MoreArrow arrow_owed [] _ _ c.in_err-inner-in-Some-take.ensures (step.is_next table ts f.next want.Arrow a g) r refl))
 
 pub whole_type-whole_type-requires-in-Some-take : goal.whole_type-whole_type-requires-in-Some-take
@@ -303,10 +361,10 @@ whole_type-whole_type-requires-in-Some-take t c =
     let ts = c.args.tokens.now in
     let d = c.args.depth in
     let i = c.args.at in
-    let e = sym c.take.ensures ∙ c.in-None.is in
+    let e = sym c.next_binder.ensures ∙ c.in-None.is in
     let f = c.in_ok-left-in-None.left in
     let a = c.in-Some-take.field-0 in
-    let g = sym c.take-in-None.ensures ∙ c.in-Some-take.is in
+    let g = sym c.take.ensures ∙ c.in-Some-take.is in
     let q = c.in_ok-inner-in-Some-take.ensures in
     let l = within ts f.next want.Arrow _ g in
     let r = c.in_ok-left-in-None.ensures in
@@ -317,13 +375,13 @@ whole_type-returns-in_err-right-in-Some-take t c =
     let ts = c.args.tokens.now in
     let d = c.args.depth in
     let i = c.args.at in
-    let e = sym c.take.ensures ∙ c.in-None.is in
+    let e = sym c.next_binder.ensures ∙ c.in-None.is in
     let f = c.in_ok-left-in-None.left in
     let a = c.in-Some-take.field-0 in
-    let g = sym c.take-in-None.ensures ∙ c.in-Some-take.is in
+    let g = sym c.take.ensures ∙ c.in-Some-take.is in
     let q = c.in_ok-inner-in-Some-take.ensures in
     let p = err_from_is_err_and c.from_residual-in_err-right-in-Some-take.result c.from_residual-in_err-right-in-Some-take.ensures.1 in
-    rw (p.1, p.2) (fails_after ts d i (f.next + 1) _ _ _ _ _ (arrow_1 ts d i f.next (type_of f.ty) a e c.in_ok-left-in-None.ensures g q.1)
+    rw (p.1, p.2) (fails_after ts d i (f.next + 1) _ _ _ _ _ (arrow_1 ts d i f.next (found_ty f) a e c.in_ok-left-in-None.ensures g q.1)
     (fails_call ts _ d (f.next + 1) (Nt LT ∷ []) (Mark ∷ (Do TypeArrow ∷ [])) _ _ (omega (arith, q.0)) c.in_err-right-in-Some-take.ensures))
 
 pub whole_type-returns-in_ok-ty-in-Some : goal.whole_type-returns-in_ok-ty-in-Some
@@ -331,30 +389,33 @@ whole_type-returns-in_ok-ty-in-Some t c =
     let ts = c.args.tokens.now in
     let d = c.args.depth in
     let i = c.args.at in
-    let a = c.in-Some.field-0 in
-    let e = sym c.take.ensures ∙ c.in-Some.is in
+    let z = token_of (slice_get ts i) c.in-Some.quantifier (sym c.next_binder.ensures ∙ c.in-Some.is) in
+    let a = z.0 in
+    let e = z.1 in
+    let y = z.2 in
+    let b = c.in-Some.quantifier in
     let q = c.in_ok-inner-in-Some.ensures in
-    let b = c.in_ok-body-in-Some.body in
-    all_whole ts d i a c.in_ok-name-in-Some.name _ _ b.next (type_of b.ty) _ e q.1 c.in_ok-name-in-Some.ensures c.in_ok-expect-in-Some.ensures q.0 c.in_ok-body-in-Some.ensures c.in_ok-ty-in-Some.ensures
+    let x = c.in_ok-body-in-Some.body in
+    bound_whole ts d i a b e y q.1 c.in_ok-name-in-Some.name _ _ x.next (found_ty x) _ c.in_ok-name-in-Some.ensures c.in_ok-expect-in-Some.ensures q.0 c.in_ok-body-in-Some.ensures (ap (λ (t : RawTy). record { ty = t; end = x.end }) c.in_ok-ty-in-Some.ensures)
 
 pub whole_type-returns-in-None-take : goal.whole_type-returns-in-None-take
 whole_type-returns-in-None-take t c =
     let ts = c.args.tokens.now in
     let d = c.args.depth in
     let i = c.args.at in
-    let e = sym c.take.ensures ∙ c.in-None.is in
+    let e = sym c.next_binder.ensures ∙ c.in-None.is in
     let f = c.in_ok-left-in-None.left in
-    left_whole ts d i f.next (type_of f.ty) e c.in_ok-left-in-None.ensures (sym c.take-in-None.ensures ∙ c.in-None-take.is)
+    left_whole ts d i f.next (found_ty f) e c.in_ok-left-in-None.ensures (sym c.take.ensures ∙ c.in-None-take.is)
 
 pub whole_type-returns-in_ok-ty-in-Some-take : goal.whole_type-returns-in_ok-ty-in-Some-take
 whole_type-returns-in_ok-ty-in-Some-take t c =
     let ts = c.args.tokens.now in
     let d = c.args.depth in
     let i = c.args.at in
-    let e = sym c.take.ensures ∙ c.in-None.is in
+    let e = sym c.next_binder.ensures ∙ c.in-None.is in
     let f = c.in_ok-left-in-None.left in
     let a = c.in-Some-take.field-0 in
-    let g = sym c.take-in-None.ensures ∙ c.in-Some-take.is in
+    let g = sym c.take.ensures ∙ c.in-Some-take.is in
     let q = c.in_ok-inner-in-Some-take.ensures in
     let b = c.in_ok-right-in-Some-take.right in
-    arrow_whole ts d i f.next b.next _ (type_of f.ty) (type_of b.ty) _ a e c.in_ok-left-in-None.ensures g q.1 q.0 c.in_ok-right-in-Some-take.ensures c.in_ok-ty-in-Some-take.ensures
+    arrow_whole ts d i f.next b.next _ (found_ty f) (found_ty b) _ a e c.in_ok-left-in-None.ensures g q.1 q.0 c.in_ok-right-in-Some-take.ensures (ap (λ (t : RawTy). record { ty = t; end = b.end }) c.in_ok-ty-in-Some-take.ensures)

@@ -15,7 +15,7 @@ returns-in_err-do_task c =
     let t = todo c.in-Some.task in
     rw (p.1, p.2)
     (stop_of_whole text (tree_of c.args.term.now) (stand (todos l.tasks.items) l.values l.types (trees_of l.stack)) (uses_of text t l.values l.types)
-    (uses_left text (todos c.pop.new.tasks.items) (values_left t l.values) (types_left t l.types)) _ l.invariant (ap (λ tds. uses_left text tds l.values l.types) c.in-Some.ensures) c.in_err-do_task.ensures)
+    (uses_left text (todos c.pop.new.tasks.items) (values_left text t l.values) (types_left text t l.types)) _ l.invariant (ap (λ tds. uses_left text tds l.values l.types) c.in-Some.ensures) c.in_err-do_task.ensures)
 
 pub loop-task-preserved : goal.loop-task-preserved
 loop-task-preserved c =

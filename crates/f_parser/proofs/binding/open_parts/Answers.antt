@@ -1,12 +1,12 @@
 use Rattle.std.proofs.Common.{◌∙◌, ◌<◌, List, ◌∷◌, length, map, ap, ap₂, sym, subst, arith, All}
-use Rattle.f_grammar.specs.Raw.{RApp, RArith, RProj, RInst, RFields, RIf0, raw_tms}
+use Rattle.f_grammar.specs.Raw.{RApp, RArith, RProj, RInst, RFields, RIf0, RLet, ROpen, RCell, RDeref, RAssign, raw_tms}
 use Rattle.f_grammar.specs.Read.{type_of}
 use Rattle.f_grammar.specs.Term.{node_at}
 use Rattle.f_grammar.specs.Term.{count as count_of}
 use Rattle.f_grammar.specs.declared.raw.RawShape.TheVariants as S
 use Rattle.f_parser.specs.Parts.{part_tree, part_trees}
-use Rattle.f_parser.specs.Binding.{Bind, BindAll, Todo, todos, count}
-use Rattle.f_parser.proofs.Tasks.{opened, by_parts, app, arith_form, proj, inst, fields, if0, count_is}
+use Rattle.f_parser.specs.Binding.{Bind, BindAll, NameIt, NameBoth, Put, Todo, todos, count}
+use Rattle.f_parser.proofs.Tasks.{opened, by_parts, app, arith_form, proj, inst, fields, if0, let_form, open_form, ref, deref, assign, count_is}
 use Rattle.f_parser.proofs.Nodes.{inside, form_is}
 use Rattle.f_parser.proofs.binding.open_parts.Goals as goal
 
@@ -76,6 +76,45 @@ returns-in_ok-push_two-in-If0 c =
     ∙ sym (ap (λ x. RIf0 s x e f) c.child-in-If0-3.ensures ∙ ap₂ (λ x y. RIf0 s (node_at c.args.term.term.now c.in-If0.a) x y) c.child-in-If0.ensures c.child-in-If0-2.ensures))
     (eq ∙ ap (λ (tds : List Todo). Bind d ∷ tds) c.in_ok-push_two-in-If0.ensures) (if0 text old v a ts s d e f))
     c.push-in-If0.ensures
+
+pub returns-in-Ref : goal.returns-in-Ref
+returns-in-Ref c =
+    let old = todos c.args.tasks.now.items in
+    let s = c.node-node.result.now.span in
+    opened c.push_one-in-Ref.result _ _
+    (λ eq text v a ts. by_parts text old (todos c.push_one-in-Ref.new.tasks.items) _ (part_tree c.args.term) (RCell s (part_tree c.child-in-Ref.result)) v a v a ts
+    (form_is c.args.term c.node-node.result.now (S.Ref c.in-Ref.a) c.node-node.ensures.tree c.in-Ref.is ∙ sym (ap (λ x. RCell s x) c.child-in-Ref.ensures)) eq (ref text old v a ts s (part_tree c.child-in-Ref.result)))
+    c.push_one-in-Ref.ensures
+
+pub returns-in-Deref : goal.returns-in-Deref
+returns-in-Deref c =
+    let old = todos c.args.tasks.now.items in
+    let s = c.node-node.result.now.span in
+    opened c.push_one-in-Deref.result _ _
+    (λ eq text v a ts. by_parts text old (todos c.push_one-in-Deref.new.tasks.items) _ (part_tree c.args.term) (RDeref s (part_tree c.child-in-Deref.result)) v a v a ts
+    (form_is c.args.term c.node-node.result.now (S.Deref c.in-Deref.a) c.node-node.ensures.tree c.in-Deref.is ∙ sym (ap (λ x. RDeref s x) c.child-in-Deref.ensures)) eq (deref text old v a ts s (part_tree c.child-in-Deref.result)))
+    c.push_one-in-Deref.ensures
+
+pub returns-in-Assign : goal.returns-in-Assign
+returns-in-Assign c =
+    let old = todos c.args.tasks.now.items in
+    let s = c.node-node.result.now.span in
+    opened c.push_two-in-Assign.result _ _
+    (λ eq text v a ts. by_parts text old (todos c.push_two-in-Assign.new.tasks.items) _ (part_tree c.args.term) (RAssign s (part_tree c.child-in-Assign.result) (part_tree c.child-in-Assign-2.result)) v a v a ts
+    (form_is c.args.term c.node-node.result.now (S.Assign c.in-Assign.a c.in-Assign.b) c.node-node.ensures.tree c.in-Assign.is ∙ sym (ap₂ (λ x y. RAssign s x y) c.child-in-Assign.ensures c.child-in-Assign-2.ensures)) eq (assign text old v a ts s (part_tree c.child-in-Assign.result) (part_tree c.child-in-Assign-2.result)))
+    c.push_two-in-Assign.ensures
+
+pub child-requires-in-Ref : goal.child-requires-in-Ref
+child-requires-in-Ref c = inside c.args.term c.node-node.result.now (S.Ref c.in-Ref.a) c.node-node.ensures.inside c.in-Ref.is 0 0 (omega arith)
+
+pub child-requires-in-Deref : goal.child-requires-in-Deref
+child-requires-in-Deref c = inside c.args.term c.node-node.result.now (S.Deref c.in-Deref.a) c.node-node.ensures.inside c.in-Deref.is 0 0 (omega arith)
+
+pub child-requires-in-Assign : goal.child-requires-in-Assign
+child-requires-in-Assign c = inside c.args.term c.node-node.result.now (S.Assign c.in-Assign.a c.in-Assign.b) c.node-node.ensures.inside c.in-Assign.is 0 0 (omega arith)
+
+pub child-requires-in-Assign-2 : goal.child-requires-in-Assign-2
+child-requires-in-Assign-2 c = inside c.args.term c.node-node.result.now (S.Assign c.in-Assign.a c.in-Assign.b) c.node-node.ensures.inside c.in-Assign.is 1 0 (omega arith)
 
 pub child-requires : goal.child-requires
 child-requires c = inside c.args.term c.node-node.result.now (S.App c.in-App.a c.in-App.b) c.node-node.ensures.inside c.in-App.is 0 0 (omega arith)

@@ -2,7 +2,7 @@ use Rattle.std.proofs.Common.{[], ◌∷◌, ◌+◌, refl, arith}
 use Rattle.std.proofs.lemmas.Result.{err_from_is_err_and}
 use Rattle.text_core.specs.Table.{Nt, Tm}
 use Rattle.f_grammar.specs.Machine.{LParam, LT}
-use Rattle.f_grammar.specs.Read.{type_of}
+use Rattle.f_grammar.specs.Reads.{found_ty}
 use Rattle.f_grammar.specs.declared.cursor.Wanted.TheVariants as want
 use Rattle.f_grammar.proofs.Typing.{fails_after, fails_call, fails_expect, within}
 use Rattle.f_reader.specs.Reads.{fix_body}
@@ -69,7 +69,7 @@ returns-in_err-expect-2 c =
     let m = c.in_ok-param.param in
     let g = c.in_ok-gives.gives in
     rw (p.1, p.2) (fails_after ts d i g.next _ _ _ _ _
-    (fix_5 ts d i c.args.word c.requires.word q.1 _ c.in_ok-name.ensures _ q.0 m c.in_ok-param.ensures _ c.in_ok-expect.ensures g.next (type_of g.ty) c.in_ok-gives.ensures)
+    (fix_5 ts d i c.args.word c.requires.word q.1 _ c.in_ok-name.ensures _ q.0 m c.in_ok-param.ensures _ c.in_ok-expect.ensures g.next (found_ty g) c.in_ok-gives.ensures)
     (fails_expect ts d g.next want.Dot _ _ _ c.in_err-expect-2.ensures))
 
 pub returns : goal.returns
@@ -92,11 +92,13 @@ returns c =
       right = _;
       colon_again = _;
       dot = _;
+      takes_end = r.type_end;
+      gives_end = g.end;
       word_is = refl;
       name_is = refl;
       parameter_is = refl;
       room = q.1;
       forward = omega (arith, r.reads.forward, x.forward);
       in_range = omega (arith, l);
-      same = fix_6 ts d i c.args.word c.requires.word q.1 _ c.in_ok-name.ensures _ q.0 m r _ c.in_ok-expect.ensures g.next (type_of g.ty) x _ c.in_ok-expect-2.ensures;
+      same = fix_6 ts d i c.args.word c.requires.word q.1 _ c.in_ok-name.ensures _ q.0 m r _ c.in_ok-expect.ensures g.next (found_ty g) x _ c.in_ok-expect-2.ensures;
     }

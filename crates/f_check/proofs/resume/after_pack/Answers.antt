@@ -1,0 +1,24 @@
+use Rattle.std.proofs.Common.{true≢false, sym, ◌∙◌, refl, subst}
+use Rattle.f_terms.specs.Read.{tree}
+use Rattle.f_check.specs.Verdict.{IsPutOrNone}
+use Rattle.f_check.proofs.Resumes.{pack_fits, pack_large, pack_refused, pack_given}
+use Rattle.f_check.proofs.resume.after_pack.Goals as goal
+
+pub put_or_none-requires-clause-fits : goal.put_or_none-requires-clause-fits
+put_or_none-requires-clause-fits c = pack_fits c.args.term.now c.args.state.now c.args.part.ty c.args.part.span c.args.packing c.requires
+
+pub returns-in-None-clause-goes : goal.returns-in-None-clause-goes
+returns-in-None-clause-goes c =
+    pack_large c.args.term.now c.args.state.now c.args.part.ty c.args.part.span c.args.packing c.requires _ _ c.refused.ensures
+    (subst (IsPutOrNone (tree c.args.packing.hidden.now) (tree c.args.packing.body.now)) c.in-None.is c.in_ok-wanted.ensures)
+
+pub returns-then-not-eq-clause-goes : goal.returns-then-not-eq-clause-goes
+returns-then-not-eq-clause-goes c =
+    let made = subst (IsPutOrNone (tree c.args.packing.hidden.now) (tree c.args.packing.body.now)) c.in-Some.is c.in_ok-wanted.ensures in
+    pack_refused c.args.term.now c.args.state.now c.args.part.ty c.args.part.span c.args.packing c.requires _ _ c.refused-then-not-eq.ensures
+    (λ e. absurd (true≢false (sym (c.if-not-eq.ensures.1 (e ∙ sym made)))))
+
+pub returns-clause-goes : goal.returns-clause-goes
+returns-clause-goes c =
+    let made = subst (IsPutOrNone (tree c.args.packing.hidden.now) (tree c.args.packing.body.now)) c.in-Some.is c.in_ok-wanted.ensures in
+    pack_given c.args.term.now c.args.state.now c.args.part.ty c.args.part.span c.args.packing c.requires c.in_ok-ty.ty (c.if-not-eq.ensures.0 refl ∙ made) c.in_ok-ty.ensures

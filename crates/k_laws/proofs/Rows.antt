@@ -4,12 +4,13 @@ use Rattle.std.proofs.Common.{pos, ◌≡◌, refl, inl, inr}
 use Rattle.std.specs.Prelude.{ℤ, false}
 use Rattle.std.specs.Int.{int_wrap}
 use Rattle.idx_core.specs.declared.arith.Op.TheVariants.{Add, Sub, Mul}
-use Rattle.f_terms.specs.Ty.{TInt, TVar}
-use Rattle.f_terms.specs.Tm.{Term, MVar, MNum, MFix, MApp, MGen, MInst, MArith, MIf0}
+use Rattle.f_terms.specs.Ty.{TInt, TVar, TArrow, TTuple, TSome, NoTys, MoreTys}
+use Rattle.f_terms.specs.Tm.{Term, MVar, MNum, MFix, MApp, MGen, MInst, MTuple, MProj, MArith, MIf0, MLet, MPack, MOpen, MRef, MDeref, MAssign, NoTerms, MoreTerms}
 use Rattle.term_core.specs.Ends.{Halted}
-use Rattle.k_terms.specs.K.{TKInt, TKCode, NoKTys, MoreKTys, KVal, KVar, KInt, KCode, NoKVals, MoreKVals, KName, KArith, KTm, KLet, KCall, KIf, KHalt}
+use Rattle.k_terms.specs.K.{KTy, TKInt, TKVar, TKCode, TKSome, NoKTys, MoreKTys, KVal, KVar, KInt, KCode, NoKVals, MoreKVals, KName, KArith, KPack, KUnpack, KCell, KGet, KSet, KTm, KLet, KCall, KIf, KHalt}
 use Rattle.k_terms.specs.Meaning.{krun}
 use Rattle.k_laws.specs.Annotate.{cps_term}
+use Rattle.k_laws.specs.Cps.{Level}
 use Rattle.k_laws.specs.Translates.{cps_program}
 use Rattle.k_laws.specs.Sites.{sites}
 use Rattle.k_laws.specs.Count.{count}
@@ -140,9 +141,89 @@ itself_is_one = (
     inr (
       _,
       _,
-      (_, refl, (refl, 1, refl, inl (_, _, (0, refl, refl), (1, refl, refl), refl))),
+      (_, refl, (refl, Level 1, refl, inl (_, _, (0, refl, refl), (1, refl, refl), refl))),
       refl,
       (refl, inl (inl (_, _, _, (0, refl, refl), refl, (_, refl, (_, (0, refl, refl), refl)), refl))),
     ),
   ),
 )
+
+-- let x = 2 in let x = x + 1 in x * x: an integer stands in place, and no name is bound twice
+abbrev square : Term
+square = MLet (MNum (pos 2)) (MLet (MArith Add (MVar 0) (MNum (pos 1))) (MArith Mul (MVar 0) (MVar 0)))
+
+square_is_it : cps_term square ≡ KLet (KArith Add (KInt (pos 2)) (KInt (pos 1))) (KLet (KArith Mul (KVar 0) (KVar 0)) (KHalt (KVar 0)))
+square_is_it = refl
+
+squares : (krun 0 (cps_term square)).end ≡ Halted (pos 9)
+unfolding int_wrap
+squares = refl
+
+-- (fix f(x: int): int. let y = x in f y) 0: the second part of a `let` is in tail place where the `let` is
+again : sites false (MApp (MFix TInt TInt (MLet (MVar 0) (MApp (MVar 2) (MVar 0)))) (MNum (pos 0))) ≡ 2
+again = refl
+
+-- open [a, x] = pack [int, <3, fix f(y: int): int. y + 1>] as some a. <a, a -> int> in (#2 x) (#1 x)
+abbrev counter : Term
+counter = MOpen
+    (MPack TInt (MTuple (MoreTerms (MNum (pos 3)) (MoreTerms (MFix TInt TInt (MArith Add (MVar 0) (MNum (pos 1)))) NoTerms)))
+    (TSome (TTuple (MoreTys (TVar 0) (MoreTys (TArrow (TVar 0) TInt) NoTys)))))
+    (MApp (MProj 2 (MVar 0)) (MProj 1 (MVar 0)))
+
+opens_to : (krun 2 (cps_term counter)).end ≡ Halted (pos 4)
+unfolding int_wrap
+opens_to = refl
+
+two_codes : sites false counter ≡ 2
+two_codes = refl
+
+-- (open [a, x] = pack [int, 3] as some a. a in 1) + (gen b. fix f(y: b): b. y)[int] 2: the hidden type has a name in all that
+-- comes after, so that the code of `gen b` stands under two
+abbrev opened_first : Term
+opened_first = MArith Add (MOpen (MPack TInt (MNum (pos 3)) (TSome (TVar 0))) (MNum (pos 1))) (MApp (MInst (MGen (MFix (TVar 0) (TVar 0) (MVar 0))) TInt) (MNum (pos 2)))
+
+-- gen b. open [a, x] = pack [b -> b, fix f(y: b): b. y] as some a. a in fix g(z: b): b. z: b is the first type name and a the
+-- second, so that b stands as 1 under both
+abbrev under_both : Term
+under_both = MGen (MOpen (MPack (TArrow (TVar 0) (TVar 0)) (MFix (TVar 0) (TVar 0) (MVar 0)) (TSome (TVar 0))) (MFix (TVar 1) (TVar 1) (MVar 0)))
+
+abbrev function : KTy → KTy
+function t = TKCode 0 (MoreKTys t (MoreKTys (TKCode 0 (MoreKTys t NoKTys)) NoKTys))
+
+abbrev same_of : KTy → KVal
+same_of t = KCode 0 (MoreKTys t (MoreKTys (TKCode 0 (MoreKTys t NoKTys)) NoKTys)) (KCall (KVar 0) NoKTys (MoreKVals (KVar 1) NoKVals))
+
+under_both_is_it : cps_term under_both
+    ≡ KLet (KName (KCode 1 (MoreKTys (TKCode 0 (MoreKTys (function (TKVar 0)) NoKTys)) NoKTys)
+    (KLet (KName (same_of (TKVar 0)))
+    (KLet (KPack (function (TKVar 0)) (KVar 0) (TKSome (TKVar 0)))
+    (KLet (KUnpack (KVar 0))
+    (KLet (KName (same_of (TKVar 1))) (KCall (KVar 4) NoKTys (MoreKVals (KVar 0) NoKVals))))))))
+    (KHalt (KVar 0))
+under_both_is_it = refl
+
+opened_adds : (krun 4 (cps_term opened_first)).end ≡ Halted (pos 3)
+unfolding int_wrap
+opened_adds = refl
+
+-- let c = ref 1 in (let u = c := 2 in 10) + !c: parts come from left to right
+abbrev left_first : Term
+left_first = MLet (MRef (MNum (pos 1))) (MArith Add (MLet (MAssign (MVar 0) (MNum (pos 2))) (MNum (pos 10))) (MDeref (MVar 0)))
+
+left_first_is_it : cps_term left_first
+    ≡ KLet (KCell (KInt (pos 1))) (KLet (KSet (KVar 0) (KInt (pos 2))) (KLet (KGet (KVar 1)) (KLet (KArith Add (KInt (pos 10)) (KVar 0)) (KHalt (KVar 0)))))
+left_first_is_it = refl
+
+gives_twelve : (krun 0 (cps_term left_first)).end ≡ Halted (pos 12)
+unfolding int_wrap
+gives_twelve = refl
+
+-- let r = ref (fix f(n: int): int. n) in let u = r := (fix g(n: int): int. if0(n, 0, 1 + (!r) (n - 1))) in (!r) 4
+abbrev through_a_cell : Term
+through_a_cell = MLet (MRef (MFix TInt TInt (MVar 0)))
+    (MLet (MAssign (MVar 0) (MFix TInt TInt (MIf0 (MVar 0) (MNum (pos 0)) (MArith Add (MNum (pos 1)) (MApp (MDeref (MVar 2)) (MArith Sub (MVar 0) (MNum (pos 1))))))))
+    (MApp (MDeref (MVar 1)) (MNum (pos 4))))
+
+counts_down : (krun 10 (cps_term through_a_cell)).end ≡ Halted (pos 4)
+unfolding int_wrap
+counts_down = refl

@@ -1,18 +1,14 @@
--- Runs with more calls, from the empty store: a conversion makes no cells.
+-- Runs with more calls.
 use Rattle.std.proofs.Common.{◌≡◌, ◌≤◌, ℕ, zero, suc, ◌+◌, ◌⊎◌, inl, inr, Bool, true, false, ◌&&◌, nat_eq, refl, sym, ap, subst, arith}
 use Rattle.idx_core.specs.Arith.{is_zero}
 use Rattle.term_core.specs.Ends.{if_fits, pick, Spent, Result, stops, enters}
 use Rattle.k_terms.specs.K.{KTm, KLet, KCall, KIf, KHalt, kcount, kv_next, kd_next, kt_next}
-use Rattle.k_terms.specs.Meaning.{KWord, WInt, WTuple, WCode, WCell, KWords, NoWords, MoreWords, size, onto, kv_value, kvs_value, Made, Makes, Fails, kd_value, KEnter, kopen, with_value, at_zero, kterm, kenter}
+use Rattle.k_terms.specs.Meaning.{KWord, WInt, WTuple, WCode, WCell, KWords, MoreWords, size, onto, kv_value, kvs_value, Made, Makes, Fails, kd_value, KEnter, kopen, with_value, at_zero, kterm, kenter}
 use Rattle.k_laws.specs.Count.{count}
 
--- within m calls, a term whose first code has the number b
-abbrev pub run : ℕ → ℕ → KWords → KTm → Result
-run m b env t = kterm (kenter m) b t env NoWords
-
--- a word is called
-abbrev pub called : ℕ → ℕ → KWord → KWords → Result
-called j m f args = kopen (kenter j) m f args NoWords
+-- within m calls, a term whose first code has the number b, from a store
+abbrev pub run : ℕ → ℕ → KWords → KTm → KWords → Result
+run m b env t st = kterm (kenter m) b t env st
 
 -- what holds of a run and itself, of a run that had no calls and any, and under an entry, holds of a run and one with more calls
 module _ (Q : Result → Result → Type 0) (same : (r : Result) → Q r r) (none : (r : Result) → Q (stops Spent) r) (entering : (c : ℕ) (r r' : Result) → Q r r' → Q (enters c r) (enters c r')) where
@@ -55,8 +51,8 @@ module _ (Q : Result → Result → Type 0) (same : (r : Result) → Q r r) (non
   at_enter zero c body env st = none _
   at_enter (suc m) c body env st = entering c _ _ (at_run (kenter m) (kenter (suc m)) (at_enter m) (suc c) env st body)
 
-  pub one_more : (m b : ℕ) (env : KWords) (t : KTm) → Q (run m b env t) (run (suc m) b env t)
-  one_more m b env t = at_run (kenter m) (kenter (suc m)) (at_enter m) b env NoWords t
+  pub one_more : (m b : ℕ) (env : KWords) (t : KTm) (st : KWords) → Q (run m b env t st) (run (suc m) b env t st)
+  one_more m b env t st = at_run (kenter m) (kenter (suc m)) (at_enter m) b env st t
 
 abbrev pub IsOut : Result → Type 0
 IsOut r = r.end ≡ Spent
@@ -70,13 +66,13 @@ less_entering c r r' (inl e) = inl (ap (enters c) e)
 less_entering c r r' (inr o) = inr o
 
 -- one more call changes no run that is over
-pub less_more : (m b : ℕ) (env : KWords) (t : KTm) → Less (run m b env t) (run (suc m) b env t)
-less_more m b env t = one_more Less (λ r. inl refl) (λ r. inr refl) less_entering m b env t
+pub less_more : (m b : ℕ) (env : KWords) (t : KTm) (st : KWords) → Less (run m b env t st) (run (suc m) b env t st)
+less_more m b env t st = one_more Less (λ r. inl refl) (λ r. inr refl) less_entering m b env t st
 
 -- and only adds to what was entered
-pub fewer_more : (c m b : ℕ) (env : KWords) (t : KTm) → count c (run m b env t).entered ≤ count c (run (suc m) b env t).entered
-fewer_more c m b env t =
-    one_more (λ r r'. count c r.entered ≤ count c r'.entered) (λ r. omega arith) (λ r. omega arith) (λ d r r' h. omega (arith, h)) m b env t
+pub fewer_more : (c m b : ℕ) (env : KWords) (t : KTm) (st : KWords) → count c (run m b env t st).entered ≤ count c (run (suc m) b env t st).entered
+fewer_more c m b env t st =
+    one_more (λ r r'. count c r.entered ≤ count c r'.entered) (λ r. omega arith) (λ r. omega arith) (λ d r r' h. omega (arith, h)) m b env t st
 
 pub out_before : (r r' : Result) → Less r r' → IsOut r' → IsOut r
 out_before r r' (inl e) h = subst IsOut (sym e) h
@@ -87,16 +83,16 @@ less_trans a b c (inr o) k = inr o
 less_trans a b c (inl e) k = subst (λ r. Less r c) (sym e) k
 
 -- any number of calls more
-pub less_by : (m k b : ℕ) (env : KWords) (t : KTm) → Less (run m b env t) (run (k + m) b env t)
-less_by m zero b env t = let e : m ≡ 0 + m = omega arith in inl (ap (λ j. run j b env t) e)
-less_by m (suc k) b env t =
+pub less_by : (m k b : ℕ) (env : KWords) (t : KTm) (st : KWords) → Less (run m b env t st) (run (k + m) b env t st)
+less_by m zero b env t st = let e : m ≡ 0 + m = omega arith in inl (ap (λ j. run j b env t st) e)
+less_by m (suc k) b env t st =
     let e : suc (k + m) ≡ suc k + m = omega arith in
-    less_trans _ _ _ (less_by m k b env t) (subst (λ j. Less (run (k + m) b env t) (run j b env t)) e (less_more (k + m) b env t))
+    less_trans _ _ _ (less_by m k b env t st) (subst (λ j. Less (run (k + m) b env t st) (run j b env t st)) e (less_more (k + m) b env t st))
 
-pub fewer_by : (c m k b : ℕ) (env : KWords) (t : KTm) → count c (run m b env t).entered ≤ count c (run (k + m) b env t).entered
-fewer_by c m zero b env t = let e : m ≡ 0 + m = omega arith in subst (λ j. count c (run m b env t).entered ≤ count c (run j b env t).entered) e (omega arith)
-fewer_by c m (suc k) b env t =
+pub fewer_by : (c m k b : ℕ) (env : KWords) (t : KTm) (st : KWords) → count c (run m b env t st).entered ≤ count c (run (k + m) b env t st).entered
+fewer_by c m zero b env t st = let e : m ≡ 0 + m = omega arith in subst (λ j. count c (run m b env t st).entered ≤ count c (run j b env t st).entered) e (omega arith)
+fewer_by c m (suc k) b env t st =
     let e : suc (k + m) ≡ suc k + m = omega arith in
-    let x = fewer_by c m k b env t in
-    let y = subst (λ j. count c (run (k + m) b env t).entered ≤ count c (run j b env t).entered) e (fewer_more c (k + m) b env t) in
+    let x = fewer_by c m k b env t st in
+    let y = subst (λ j. count c (run (k + m) b env t st).entered ≤ count c (run j b env t st).entered) e (fewer_more c (k + m) b env t st) in
     omega (arith, x, y)

@@ -1,5 +1,6 @@
 -- The conversion keeps what every translation keeps.
 use Rattle.std.proofs.Common.{◌+◌, ◌*◌, arith}
+use Rattle.f_terms.specs.Laws.{NeverStuck}
 use Rattle.f_terms.specs.Limits.{nodes}
 use Rattle.k_terms.proofs.Mono.{within_more, fits_more}
 use Rattle.k_laws.specs.Annotate.{cps_term}
@@ -10,8 +11,8 @@ use Rattle.k_laws.proofs.Reach.{reach_kept}
 use Rattle.k_laws.proofs.Size.{size_is}
 use Rattle.k_laws.proofs.Types.{translated}
 
-pub meaning : CpsKeepsMeaning
-meaning e h = kept e (cps_term e) (translated e h)
+pub meaning : NeverStuck → CpsKeepsMeaning
+meaning never e h = kept never e (cps_term e) (translated e h)
 
 pub types : CpsKeepsTypes
 types e h = types_kept e (cps_term e) (translated e h)

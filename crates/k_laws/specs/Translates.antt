@@ -1,61 +1,69 @@
 -- The translation to continuation-passing style, as a relation between typed terms.
-use Rattle.f_terms.specs.Typing.{raised, in_fix}
-use Rattle.k_laws.specs.Cps.{kty, taking}
+use Rattle.f_terms.specs.Typing.{raised, in_fix, in_open}
+use Rattle.k_laws.specs.Cps.{kat, kcat, Atom, Level, Literal, packing}
 use Rattle.std.specs.Prelude.{ℤ, ◌≡◌, ℕ, zero, suc, ◌+◌, List, [], ◌∷◌, ◌⊎◌, Some}
-use Rattle.idx_core.specs.declared.arith.Op.{Op}
-use Rattle.f_terms.specs.Ty.{Ty, TInt, TArrow, TAll, TTuple, Tys, NoTys, MoreTys, put}
-use Rattle.f_terms.specs.Tm.{Term, MVar, MNum, MFix, MApp, MGen, MInst, MTuple, MProj, MArith, MIf0, Terms, NoTerms}
-use Rattle.f_terms.specs.Tm.{MoreTerms}
+use Rattle.f_terms.specs.Ty.{Ty, TInt, TArrow, TAll, TTuple, TSome, TRef, Tys, NoTys, MoreTys, shift, put}
+use Rattle.f_terms.specs.Tm.{Term, MVar, MNum, MFix, MApp, MGen, MInst, MTuple, MProj, MArith, MIf0, MLet, MPack}
+use Rattle.f_terms.specs.Tm.{MOpen, MRef, MDeref, MAssign, Terms, NoTerms, MoreTerms}
 use Rattle.f_terms.specs.Typing.{field_ty, HasType}
-use Rattle.k_terms.specs.K.{KTy, NoKTys, MoreKTys, KVal, KVar, KInt, KTuple, KCode, KVals, NoKVals, MoreKVals, KName}
-use Rattle.k_terms.specs.K.{KProj, KArith, KTm, KLet, KCall, KIf, KHalt}
+use Rattle.k_terms.specs.K.{NoKTys, MoreKTys, KVal, KVar, KInt, KTuple, KCode, KVals, NoKVals, MoreKVals, KDecl}
+use Rattle.k_terms.specs.K.{KName, KProj, KArith, KUnpack, KCell, KGet, KSet, KTm, KLet, KCall, KIf, KHalt}
 
-abbrev pub kcty : Ty → KTy
-kcty t = taking (kty t)
-
--- what is delivered: which values stand for it, at a place with that many names in scope
-abbrev pub Thing : Type 1
-Thing = ℕ → KVal → Type 0
+-- what is delivered: an atom, or which values stand for it, at a place with so many type names and so many names in
+-- scope
+pub data Thing : Type 1 where
+  Plain : (a : Atom) → Thing
+  Made : (values : ℕ → ℕ → KVal → Type 0) → Thing
 
 pub data Things : Type 1 where
   NoThings : Things
   MoreThings : (x : Thing) → (xs : Things) → Things
 
--- the name that has so many names outside it
+-- the name that has so many names outside it, or the integer
+abbrev pub is_atom : Atom → ℕ → KVal → Type 0
+is_atom (Level l) depth v = (i : ℕ) × (v ≡ KVar i) × (i + suc l ≡ depth)
+is_atom (Literal n) depth v = v ≡ KInt n
+
+abbrev pub stands : Thing → ℕ → ℕ → KVal → Type 0
+stands (Plain a) td depth v = is_atom a depth v
+stands (Made values) td depth v = values td depth v
+
 abbrev pub named : ℕ → Thing
-named l depth v = (i : ℕ) × (v ≡ KVar i) × (i + suc l ≡ depth)
+named l = Plain (Level l)
 
 abbrev pub number : ℤ → Thing
-number n depth v = v ≡ KInt n
+number n = Plain (Literal n)
 
-abbrev pub stand : Things → ℕ → KVals → Type 0
-stand NoThings depth vs = vs ≡ NoKVals
-stand (MoreThings x xs) depth vs = (v : KVal) × (vs' : KVals) × (vs ≡ MoreKVals v vs') × x depth v × stand xs depth vs'
+abbrev pub stand : Things → ℕ → ℕ → KVals → Type 0
+stand NoThings td depth vs = vs ≡ NoKVals
+stand (MoreThings x xs) td depth vs = (v : KVal) × (vs' : KVals) × (vs ≡ MoreKVals v vs') × stands x td depth v
+    × stand xs td depth vs'
 
 abbrev pub tuple_of : Things → Thing
-tuple_of xs depth v = (vs : KVals) × (v ≡ KTuple vs) × stand xs depth vs
+tuple_of xs = Made (λ td depth v. (vs : KVals) × (v ≡ KTuple vs) × stand xs td depth vs)
 
--- the terms that a rest `x. M` gives at a depth, for what stands for x
+-- the terms that a rest `x. M` gives at a place, for what stands for x
 abbrev pub Form : Type 1
-Form = ℕ → Thing → KTm → Type 0
+Form = ℕ → ℕ → Thing → KTm → Type 0
 
 abbrev pub Forms : Type 1
-Forms = ℕ → Things → KTm → Type 0
+Forms = ℕ → ℕ → Things → KTm → Type 0
 
--- k: a rest, or the value of a name
+-- k: a rest for a value of type t, whose type names have these levels, or the value of a name
 pub data AnyRest : Type 1 where
-  Bind : (t : Ty) → (form : Form) → AnyRest
+  Bind : (tl : List ℕ) → (t : Ty) → (form : Form) → AnyRest
   Pass : (level : ℕ) → AnyRest
 
 -- x stands in place, or has a name
 abbrev pub in_place_or_named : Form → Form
-in_place_or_named form depth x m =
-    form depth x m
-    ⊎ ((v : KVal) × (rest : KTm) × x depth v × (m ≡ KLet (KName v) rest) × form (suc depth) (named depth) rest)
+in_place_or_named form td depth x m =
+    form td depth x m
+    ⊎ ((v : KVal) × (rest : KTm) × stands x td depth v × (m ≡ KLet (KName v) rest)
+    × form td (suc depth) (named depth) rest)
 
 abbrev pub to_rest : AnyRest → Form
-to_rest (Bind t form) depth x m = form depth x m
-to_rest (Pass l) depth x m = (k : KVal) × (v : KVal) × named l depth k × x depth v
+to_rest (Bind tl t form) td depth x m = form td depth x m
+to_rest (Pass l) td depth x m = (k : KVal) × (v : KVal) × is_atom (Level l) depth k × stands x td depth v
     × (m ≡ KCall k NoKTys (MoreKVals v NoKVals))
 
 abbrev pub deliver : AnyRest → Form
@@ -63,94 +71,132 @@ deliver r = in_place_or_named (to_rest r)
 
 -- k as a value: its name, or the code that takes x
 abbrev pub as_value : AnyRest → Thing
-as_value (Pass l) depth v = named l depth v
-as_value (Bind t form) depth v =
-    (body : KTm) × (v ≡ KCode 0 (MoreKTys (kty t) NoKTys) body) × form (suc (suc depth)) (named (suc depth)) body
+as_value (Pass l) = named l
+as_value (Bind tl t form) = Made
+    (λ td depth v. (body : KTm) × (v ≡ KCode 0 (MoreKTys (kat td tl t) NoKTys) body)
+    × form td (suc (suc depth)) (named (suc depth)) body)
 
 -- k as a value that is bound once
-abbrev pub bound_once : AnyRest → ℕ → (ℕ → ℕ → KTm → Type 0) → KTm → Type 0
-bound_once (Pass l) depth body m = body depth l m
-bound_once (Bind t form) depth body m =
-    (v : KVal) × (rest : KTm) × as_value (Bind t form) depth v × (m ≡ KLet (KName v) rest) × body (suc depth) depth rest
+abbrev pub bound_once : AnyRest → ℕ → ℕ → (ℕ → ℕ → KTm → Type 0) → KTm → Type 0
+bound_once (Pass l) td depth body m = body depth l m
+bound_once (Bind tl t form) td depth body m =
+    (v : KVal) × (rest : KTm) × stands (as_value (Bind tl t form)) td depth v × (m ≡ KLet (KName v) rest)
+    × body (suc depth) depth rest
 
--- the level of a source variable's name
-abbrev pub level_of : List ℕ → ℕ → ℕ → Type 0
-level_of [] i l = ⊥
-level_of (k ∷ names) zero l = k ≡ l
-level_of (k ∷ names) (suc i) l = level_of names i l
+-- what stands for a source variable
+abbrev pub atom_of : List Atom → ℕ → Atom → Type 0
+atom_of [] i a = ⊥
+atom_of (k ∷ names) zero a = k ≡ a
+atom_of (k ∷ names) (suc i) a = atom_of names i a
 
--- the forms at which a call, an operation and a choice are made
+-- the forms at which a call and a declaration are made
 abbrev pub call_now : Thing → Thing → Form
-call_now fv xv depth kv m = (f' x' k' : KVal) × fv depth f' × xv depth x' × kv depth k'
+call_now fv xv td depth kv m = (f' x' k' : KVal) × stands fv td depth f' × stands xv td depth x' × stands kv td depth k'
     × (m ≡ KCall f' NoKTys (MoreKVals x' (MoreKVals k' NoKVals)))
 
 abbrev pub call_form : AnyRest → Thing → Form
-call_form k fv depth xv m = in_place_or_named (call_now fv xv) depth (as_value k) m
+call_form k fv td depth xv m = in_place_or_named (call_now fv xv) td depth (as_value k) m
 
-abbrev pub inst_now : Ty → Thing → Form
-inst_now t ev depth kv m = (e' k' : KVal) × ev depth e' × kv depth k'
-    × (m ≡ KCall e' (MoreKTys (kty t) NoKTys) (MoreKVals k' NoKVals))
+abbrev pub inst_now : List ℕ → Ty → Thing → Form
+inst_now tl t ev td depth kv m = (e' k' : KVal) × stands ev td depth e' × stands kv td depth k'
+    × (m ≡ KCall e' (MoreKTys (kat td tl t) NoKTys) (MoreKVals k' NoKVals))
 
-abbrev pub inst_form : AnyRest → Ty → Form
-inst_form k t depth ev m = in_place_or_named (inst_now t ev) depth (as_value k) m
+abbrev pub inst_form : AnyRest → List ℕ → Ty → Form
+inst_form k tl t td depth ev m = in_place_or_named (inst_now tl t ev) td depth (as_value k) m
 
-abbrev pub arith_form : AnyRest → Op → Thing → Form
-arith_form k op av depth bv m = (a' b' : KVal) × (rest : KTm) × av depth a' × bv depth b'
-    × (m ≡ KLet (KArith op a' b') rest) × deliver k (suc depth) (named depth) rest
+-- one declaration of two parts, or of one; what it names is delivered
+abbrev pub two_form : AnyRest → (KVal → KVal → KDecl) → Thing → Form
+two_form k make av td depth bv m = (a' b' : KVal) × (rest : KTm) × stands av td depth a' × stands bv td depth b'
+    × (m ≡ KLet (make a' b') rest) × deliver k td (suc depth) (named depth) rest
 
-abbrev pub proj_form : AnyRest → ℕ → Form
-proj_form k i depth ev m = (e' : KVal) × (rest : KTm) × ev depth e' × (m ≡ KLet (KProj i e') rest)
-    × deliver k (suc depth) (named depth) rest
+abbrev pub one_form : AnyRest → (ℕ → KVal → KDecl) → Form
+one_form k make td depth ev m = (e' : KVal) × (rest : KTm) × stands ev td depth e'
+    × (m ≡ KLet (make td e') rest) × deliver k td (suc depth) (named depth) rest
 
--- [e]k for e of type t under n type names and the types g, at a depth, where the source variables have names of these
--- levels
+-- a variable or an integer stands in place, anything else is named
+abbrev pub let_form : (ℕ → ℕ → Atom → KTm → Type 0) → Form
+let_form body td depth (Plain a) m = body td depth a m
+let_form body td depth (Made values) m = (v : KVal) × (rest : KTm) × values td depth v × (m ≡ KLet (KName v) rest)
+    × body td (suc depth) (Level depth) rest
+
+-- what is unpacked has a name, and its type has one
+abbrev pub open_form : (ℕ → ℕ → KTm → Type 0) → Form
+open_form body td depth x m = (v : KVal) × (rest : KTm) × stands x td depth v × (m ≡ KLet (KUnpack v) rest)
+    × body td depth rest
+
+-- [e]k for e of type t under n type names, which have the levels tl, and the types g, at a place, where these stand for
+-- the source variables
 abbrev mutual
-  pub cps : Term → ℕ → Tys → Ty → ℕ → List ℕ → AnyRest → KTm → Type 0
-  cps (MVar i) n g t depth names k m = HasType (MVar i) n g t × (l : ℕ) × level_of names i l
-      × deliver k depth (named l) m
-  cps (MNum i) n g t depth names k m = HasType (MNum i) n g t × deliver k depth (number i) m
-  cps (MFix arg res e) n g t depth names k m =
+  pub cps : Term → ℕ → List ℕ → Tys → Ty → ℕ → ℕ → List Atom → AnyRest → KTm → Type 0
+  cps (MVar i) n tl g t td depth names k m = HasType (MVar i) n g t × (a : Atom) × atom_of names i a
+      × deliver k td depth (Plain a) m
+  cps (MNum i) n tl g t td depth names k m = HasType (MNum i) n g t × deliver k td depth (number i) m
+  cps (MFix arg res e) n tl g t td depth names k m =
       HasType (MFix arg res e) n g t
-      × deliver k depth
-      (λ at v. (body : KTm) × (v ≡ KCode 0 (MoreKTys (kty arg) (MoreKTys (kcty res) NoKTys)) body)
-      × cps e n (in_fix arg res g) res (suc (suc (suc at))) (suc at ∷ at ∷ names) (Pass (suc (suc at))) body) m
-  cps (MGen e) n g t depth names k m =
+      × deliver k td depth (Made
+      (λ ta at v. (body : KTm) × (v ≡ KCode 0 (MoreKTys (kat ta tl arg) (MoreKTys (kcat ta tl res) NoKTys)) body)
+      × cps e n tl (in_fix arg res g) res ta (suc (suc (suc at))) (Level (suc at) ∷ Level at ∷ names)
+      (Pass (suc (suc at))) body)) m
+  cps (MGen e) n tl g t td depth names k m =
       HasType (MGen e) n g t × (s : Ty) × (t ≡ TAll s)
-      × deliver k depth (λ at v. (body : KTm) × (v ≡ KCode 1 (MoreKTys (kcty s) NoKTys) body)
-      × cps e (n + 1) (raised g) s (suc (suc at)) names (Pass (suc at)) body) m
-  cps (MApp f x) n g t depth names k m =
+      × deliver k td depth (Made
+      (λ ta at v. (body : KTm) × (v ≡ KCode 1 (MoreKTys (kcat (suc ta) (ta ∷ tl) s) NoKTys) body)
+      × cps e (n + 1) (ta ∷ tl) (raised g) s (suc ta) (suc (suc at)) names (Pass (suc at)) body)) m
+  cps (MApp f x) n tl g t td depth names k m =
       HasType (MApp f x) n g t × (s : Ty)
-      × cps f n g (TArrow s t) depth names (Bind (TArrow s t)
-      (λ d1 fv m1. cps x n g s d1 names (Bind s (call_form k fv)) m1)) m
-  cps (MInst e s) n g t depth names k m =
+      × cps f n tl g (TArrow s t) td depth names (Bind tl (TArrow s t)
+      (λ ta d1 fv m1. cps x n tl g s ta d1 names (Bind tl s (call_form k fv)) m1)) m
+  cps (MInst e s) n tl g t td depth names k m =
       HasType (MInst e s) n g t × (b : Ty) × (t ≡ put 0 s b)
-      × cps e n g (TAll b) depth names (Bind (TAll b) (inst_form k s)) m
-  cps (MTuple es) n g t depth names k m =
+      × cps e n tl g (TAll b) td depth names (Bind tl (TAll b) (inst_form k tl s)) m
+  cps (MTuple es) n tl g t td depth names k m =
       HasType (MTuple es) n g t × (ts : Tys) × (t ≡ TTuple ts)
-      × cps_all es n g ts depth names (λ d xs m. deliver k d (tuple_of xs) m) m
-  cps (MProj i e) n g t depth names k m =
+      × cps_all es n tl g ts td depth names (λ ta d xs m. deliver k ta d (tuple_of xs) m) m
+  cps (MProj i e) n tl g t td depth names k m =
       HasType (MProj i e) n g t × (ts : Tys) × (field_ty ts i ≡ Some t)
-      × cps e n g (TTuple ts) depth names (Bind (TTuple ts) (proj_form k i)) m
-  cps (MArith op a b) n g t depth names k m =
+      × cps e n tl g (TTuple ts) td depth names (Bind tl (TTuple ts) (one_form k (λ ta v. KProj i v))) m
+  cps (MArith op a b) n tl g t td depth names k m =
       HasType (MArith op a b) n g t
-      × cps a n g TInt depth names (Bind TInt
-      (λ d1 av m1. cps b n g TInt d1 names (Bind TInt (arith_form k op av)) m1)) m
-  cps (MIf0 c a b) n g t depth names k m =
+      × cps a n tl g TInt td depth names (Bind tl TInt
+      (λ ta d1 av m1. cps b n tl g TInt ta d1 names (Bind tl TInt (two_form k (KArith op) av)) m1)) m
+  cps (MIf0 c a b) n tl g t td depth names k m =
       HasType (MIf0 c a b) n g t
-      × bound_once k depth
-      (λ d1 l m1. cps c n g TInt d1 names (Bind TInt (λ d2 cv m2. (c' : KVal) × (ma mb : KTm) × cv d2 c'
-      × (m2 ≡ KIf c' ma mb) × cps a n g t d2 names (Pass l) ma × cps b n g t d2 names (Pass l) mb)) m1) m
+      × bound_once k td depth
+      (λ d1 l m1. cps c n tl g TInt td d1 names (Bind tl TInt (λ ta d2 cv m2. (c' : KVal) × (ma mb : KTm)
+      × stands cv ta d2 c' × (m2 ≡ KIf c' ma mb) × cps a n tl g t ta d2 names (Pass l) ma
+      × cps b n tl g t ta d2 names (Pass l) mb)) m1) m
+  cps (MLet a b) n tl g t td depth names k m =
+      HasType (MLet a b) n g t × (s : Ty)
+      × cps a n tl g s td depth names (Bind tl s
+      (let_form (λ ta d x m1. cps b n tl (MoreTys s g) t ta d (x ∷ names) k m1))) m
+  cps (MPack h e s) n tl g t td depth names k m =
+      HasType (MPack h e s) n g t × (u : Ty) × (s ≡ TSome u) × (t ≡ s)
+      × cps e n tl g (put 0 h u) td depth names (Bind tl (put 0 h u) (one_form k (packing tl h s))) m
+  cps (MOpen a b) n tl g t td depth names k m =
+      HasType (MOpen a b) n g t × (u : Ty)
+      × cps a n tl g (TSome u) td depth names (Bind tl (TSome u) (open_form
+      (λ ta d m1. cps b (n + 1) (ta ∷ tl) (in_open u g) (shift 1 0 t) (suc ta) (suc d) (Level d ∷ names) k m1))) m
+  cps (MRef e) n tl g t td depth names k m =
+      HasType (MRef e) n g t × (s : Ty) × (t ≡ TRef s)
+      × cps e n tl g s td depth names (Bind tl s (one_form k (λ ta v. KCell v))) m
+  cps (MDeref e) n tl g t td depth names k m =
+      HasType (MDeref e) n g t
+      × cps e n tl g (TRef t) td depth names (Bind tl (TRef t) (one_form k (λ ta v. KGet v))) m
+  cps (MAssign a b) n tl g t td depth names k m =
+      HasType (MAssign a b) n g t × (s : Ty) × (t ≡ TTuple NoTys)
+      × cps a n tl g (TRef s) td depth names (Bind tl (TRef s)
+      (λ ta d1 av m1. cps b n tl g s ta d1 names (Bind tl s (two_form k KSet av)) m1)) m
 
-  pub cps_all : Terms → ℕ → Tys → Tys → ℕ → List ℕ → Forms → KTm → Type 0
-  cps_all NoTerms n g ts depth names form m = (ts ≡ NoTys) × form depth NoThings m
-  cps_all (MoreTerms e es) n g ts depth names form m =
+  pub cps_all : Terms → ℕ → List ℕ → Tys → Tys → ℕ → ℕ → List Atom → Forms → KTm → Type 0
+  cps_all NoTerms n tl g ts td depth names form m = (ts ≡ NoTys) × form td depth NoThings m
+  cps_all (MoreTerms e es) n tl g ts td depth names form m =
       (t : Ty) × (ts' : Tys) × (ts ≡ MoreTys t ts')
-      × cps e n g t depth names (Bind t
-      (λ d1 x m1. cps_all es n g ts' d1 names (λ d2 xs m2. form d2 (MoreThings x xs) m2) m1)) m
+      × cps e n tl g t td depth names (Bind tl t
+      (λ ta d1 x m1. cps_all es n tl g ts' ta d1 names (λ tb d2 xs m2. form tb d2 (MoreThings x xs) m2) m1)) m
 
 -- the rest of a program: x. halt x
 abbrev pub halting : Form
-halting depth x m = (v : KVal) × x depth v × (m ≡ KHalt v)
+halting td depth x m = (v : KVal) × stands x td depth v × (m ≡ KHalt v)
 
 abbrev pub cps_program : Term → KTm → Type 0
-cps_program e m = cps e 0 NoTys TInt 0 [] (Bind TInt halting) m
+cps_program e m = cps e 0 [] NoTys TInt 0 0 [] (Bind [] TInt halting) m

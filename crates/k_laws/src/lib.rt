@@ -5,10 +5,14 @@ ghost use Rattle.k_laws.specs.Correct.{KeepsMeaning, KeepsTypes, KeepsReach, IsT
 ghost use Rattle.k_laws.specs.Correct.{CpsKeepsTypes, CpsKeepsReach, SizeIs, CpsFits, CpsKeepsBound, OneConversion};
 ghost use Rattle.k_laws.specs.Sites.{CodesAreSites};
 
+use f_terms::programs_are_never_stuck;
+
 /// Every translation keeps the meaning.
 pub fn meaning_is_kept()
     ensures { KeepsMeaning }
-{}
+{
+    programs_are_never_stuck();
+}
 
 /// Every translation is typed, with all types in scope.
 pub fn types_are_kept()
@@ -28,7 +32,9 @@ pub fn conversion_is_a_translation()
 /// The conversion keeps the meaning.
 pub fn conversion_keeps_meaning()
     ensures { CpsKeepsMeaning }
-{}
+{
+    programs_are_never_stuck();
+}
 
 /// The conversion is typed.
 pub fn conversion_keeps_types()

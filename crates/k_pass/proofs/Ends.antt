@@ -6,19 +6,20 @@ use Rattle.f_terms.specs.NotedTerm.{noted_at, noted_of}
 use Rattle.f_terms.specs.ReadTerm.{count}
 use Rattle.f_terms.specs.declared.node.FTerm.{FTerm}
 use Rattle.f_terms.specs.declared.types.FType.{FType}
+use Rattle.k_laws.specs.Cps as s
 use Rattle.k_pass.specs.Emit.{emit_of}
-use Rattle.k_pass.specs.Machine.{Nodes, scope, rests, todo, says, stream, written, control_steps, owed, Steps, ResumeIs}
+use Rattle.k_pass.specs.Machine.{Nodes, levels, atoms, rests, todo, says, stream, written, control_steps, owed, Steps, ResumeIs}
 use Rattle.k_pass.specs.declared.work.Control.{Control}
 use Rattle.k_pass.specs.declared.work.Control.TheVariants as C
 use Rattle.k_pass.specs.declared.work.Work.{Work}
 use Rattle.k_pass.proofs.Stacks.{arrives}
 
-pub starts : (f : FTerm) (ts : List FType) (w : Work) (i : ℕ) → w.out.items ≡ [] → w.frames.items ≡ [] → w.pending.items ≡ [] → w.names.items ≡ [] → w.types ≡ 0 → i ≡ count f - 1 →
+pub starts : (f : FTerm) (ts : List FType) (w : Work) (i : ℕ) → w.out.items ≡ [] → w.frames.items ≡ [] → w.pending.items ≡ [] → w.names.items ≡ [] → w.levels.items ≡ [] → w.types ≡ 0 → i ≡ count f - 1 →
     written w ++ stream (noted_at f ts) w (C.Walk i 0) ≡ emit_of (noted_of f ts)
-starts f ts w i o fr p x tv e =
+starts f ts w i o fr p x ls tv e =
     ap (λ (ns : Nodes). ns ++ stream (noted_at f ts) w (C.Walk i 0)) (ap (map knode) o)
-    ∙ arrives (noted_at f ts) w (C.Walk i 0) [] (λ names ks. []) (0, []) (ap (rests (noted_at f ts)) fr) (ap (todo (noted_at f ts)) p) (ap₂ (λ (y : ℕ) (ns : List ℕ). (y, ns)) tv (ap scope x))
-    ∙ ap (λ (k : ℕ). says (noted_at f ts) [] (λ names ks. []) (0, []) (C.Walk k 0)) e
+    ∙ arrives (noted_at f ts) w (C.Walk i 0) [] (λ q ks. []) 0 ([], []) (ap (rests (noted_at f ts)) fr) (ap (todo (noted_at f ts)) p) tv (ap₂ (λ (y : List ℕ) (ns : List s.Atom). (y, ns)) (ap levels ls) (ap atoms x))
+    ∙ ap (λ (k : ℕ). says (noted_at f ts) [] (λ q ks. []) 0 ([], []) (C.Walk k 0)) e
 
 -- a step keeps what is written and still to be written
 pub kept : (t : ℕ → Noted) (w w' : Work) (c d c' : Control) (ns : Nodes) → c ≡ d → Steps t w d w' c' → written w ++ stream t w c ≡ ns → written w' ++ stream t w' c' ≡ ns

@@ -5,14 +5,15 @@ use Rattle.k_terms.specs.K as K
 use Rattle.k_terms.specs.Stream.{NVar, NCode, NEnd, NName, NElse}
 use Rattle.k_terms.specs.Read.{knode}
 use Rattle.k_terms.specs.declared.node.KNode.{KNode}
-use Rattle.f_terms.specs.Ty.{Ty, TArrow, TAll}
+use Rattle.f_terms.specs.Ty.{Ty}
 use Rattle.f_terms.specs.Read.{tree}
 use Rattle.f_terms.specs.declared.types.FType.{FType}
 use Rattle.f_terms.specs.Noted.{Noted, EFix, EGen, EIf}
 use Rattle.k_laws.specs.Cps as s
-use Rattle.k_laws.specs.Cps.{Level, kty, taking}
-use Rattle.k_pass.specs.Emit.{Rest, Bind, Pass, Place, deliver, named, as_value, bound_once, rest_args, fix_args, gen_args, emit}
-use Rattle.k_pass.specs.Machine.{Nodes, folded, scope, inner, at, Rests, top, below, branches, through, rests, Todo, then, todo, says, written, steps, frame_steps, pending_steps, control_steps, owed, Begins, Steps, Goes, Hands, Opens, IsRestless, tail_of}
+use Rattle.k_laws.specs.Cps.{Level, kat, taking}
+use Rattle.k_pass.specs.Emit.{Rest, Bind, Pass, Scope, deliver, named, as_value, bound_once, rest_args, fix_args, gen_args, emit}
+use Rattle.k_pass.specs.Machine.{Nodes, atom, folded, levels, atoms, inner, at, Rests, top, below, branches, through, rests, Todo, then, todo, says, written, steps, frame_steps, pending_steps, control_steps, owed, Begins, Steps, Goes, Hands, Opens, IsRestless, tail_of}
+use Rattle.k_pass.specs.declared.work.Atom.{Atom}
 use Rattle.k_pass.specs.declared.work.Atom.TheVariants as A
 use Rattle.k_pass.specs.declared.work.Frame.{Frame}
 use Rattle.k_pass.specs.declared.work.Frame.TheVariants as F
@@ -32,33 +33,47 @@ pub pop_is : {A : Type 0} (old rest : List A) (x y : A) → old ≡ rest ++ x �
 pop_is old rest x y e is = e ∙ ap (λ z. rest ++ z ∷ []) is
 
 -- a move to a state whose stacks are known
-pub finish : (t : ℕ → Noted) (w w' : Work) (ns : Nodes) (n : ℕ) (c : Control) (ks : Rests) (td : Todo) (p : Place) →
-    rests t w'.frames.items ≡ ks → todo t w'.pending.items ≡ td → at w' ≡ p →
-    written w' ++ says t ks td p c ≡ written w ++ ns → control_steps t c + owed t w' < n + owed t w → Begins t w ns n w' c
-finish t w w' ns n c ks td p e f g same less = (sym same ∙ ap (λ (x : Nodes). written w' ++ x) (sym (arrives t w' c ks td p e f g)), less)
+pub finish : (t : ℕ → Noted) (w w' : Work) (ns : Nodes) (n : ℕ) (c : Control) (ks : Rests) (td : Todo) (tv : ℕ) (q : Scope) →
+    rests t w'.frames.items ≡ ks → todo t w'.pending.items ≡ td → w'.types ≡ tv → at w' ≡ q →
+    written w' ++ says t ks td tv q c ≡ written w ++ ns → control_steps t c + owed t w' < n + owed t w → Begins t w ns n w' c
+finish t w w' ns n c ks td tv q e f v g same less = (sym same ∙ ap (λ (x : Nodes). written w' ++ x) (sym (arrives t w' c ks td tv q e f v g)), less)
+
+-- stacks of names and of type names with one more
+pub atoms_push : (xs ys : List Atom) (a : Atom) → ys ≡ xs ++ a ∷ [] → atoms ys ≡ atom a ∷ atoms xs
+atoms_push xs ys a e = folded_push (λ x names. atom x ∷ names) [] xs ys a e
+
+pub levels_push : (xs ys : List ℕ) (l : ℕ) → ys ≡ xs ++ l ∷ [] → levels ys ≡ l ∷ levels xs
+levels_push xs ys l e = folded_push (λ x ls. x ∷ ls) [] xs ys l e
+
+abbrev pub scope_of : List ℕ → List s.Atom → Scope
+scope_of ls xs = (ls, xs)
+
+pub scope_is : (ls ms : List ℕ) (xs ys : List s.Atom) → ls ≡ ms → xs ≡ ys → scope_of ls xs ≡ scope_of ms ys
+scope_is ls ms xs ys e f = ap₂ scope_of e f
 
 -- a function: its body comes first, in tail place, under its own name, its argument's and that of what comes after
-pub fixes : (t : ℕ → Noted) (w w' : Work) (arg res : Bor FType) (body d first level inside : ℕ) (xs : List ℕ) (tys : K.KTys) →
+pub fixes : (t : ℕ → Noted) (w w' : Work) (arg res : Bor FType) (body d first level inside : ℕ) (xs : List Atom) (tys : K.KTys) →
     ((ns : Nodes) → written w' ++ ns ≡ written w ++ NCode d w.types 0 tys ∷ ns) →
-    tys ≡ fix_args (tree arg.now) (tree res.now) →
-    w'.frames.items ≡ w.frames.items ++ F.Tail level ∷ [] → w'.pending.items ≡ w.pending.items ++ P.Fix d arg res ∷ [] →
-    xs ≡ w.names.items ++ d ∷ [] → w'.names.items ≡ xs ++ first ∷ [] → w'.types ≡ w.types →
+    tys ≡ fix_args w.types (levels w.levels.items) (tree arg.now) (tree res.now) →
+    w'.frames.items ≡ w.frames.items ++ F.Tail level ∷ [] → w'.pending.items ≡ w.pending.items ++ P.Fix d w.types arg res ∷ [] →
+    xs ≡ w.names.items ++ A.Level d ∷ [] → w'.names.items ≡ xs ++ A.Level first ∷ [] → w'.levels.items ≡ w.levels.items → w'.types ≡ w.types →
     first ≡ suc d → level ≡ suc first → inside ≡ suc level →
     Goes t w (EFix (tree arg.now) (tree res.now) (t body)) d w' (C.Walk body inside)
-fixes t w w' arg res body d first level inside xs tys wr tyse fse pse xse xse' tve e1 e2 e3 =
-    let names = scope w.names.items in
+fixes t w w' arg res body d first level inside xs tys wr tyse fse pse xse xse' lse tve e1 e2 e3 =
+    let q = at w in
     let tv = w.types in
     let ks = rests t w.frames.items in
     let td = todo t w.pending.items in
-    let R : Nodes = NEnd ∷ named (kty (TArrow (tree arg.now) (tree res.now))) (top ks (tv, names)) d (td (tv, names) (below ks)) in
-    let E : ℕ → ℕ → ℕ → Nodes = λ x y z. emit (t body) z (tv, x ∷ d ∷ names) (Pass tv y) R in
-    let T : K.KTys = fix_args (tree arg.now) (tree res.now) in
+    let T : K.KTys = fix_args tv q.0 (tree arg.now) (tree res.now) in
+    let R : Nodes = NEnd ∷ named (K.TKCode 0 T) (top ks q) tv d (td q (below ks)) in
+    let E : ℕ → ℕ → ℕ → Nodes = λ x y z. emit (t body) tv z (q.0, Level x ∷ Level d ∷ q.1) (Pass y) R in
     let f1 : level ≡ suc (suc d) = e2 ∙ ap suc e1 in
     let f2 : inside ≡ suc (suc (suc d)) = e3 ∙ ap suc f1 in
-    finish t w w' _ (steps (EFix (tree arg.now) (tree res.now) (t body))) (C.Walk body inside) (through t (F.Tail level) ks) (then t (P.Fix d arg res) td) (tv, first ∷ d ∷ names)
+    finish t w w' _ (steps (EFix (tree arg.now) (tree res.now) (t body))) (C.Walk body inside) (through t (F.Tail level) ks) (then t (P.Fix d tv arg res) td) tv (q.0, Level first ∷ Level d ∷ q.1)
     (folded_push (through t) [] _ _ (F.Tail level) fse)
-    (folded_push (then t) (λ ns qs. []) _ _ (P.Fix d arg res) pse)
-    (ap₂ (λ (x : ℕ) (ns : List ℕ). (x, ns)) tve (folded_push (λ x ns. x ∷ ns) [] _ _ first xse' ∙ ap (λ (ns : List ℕ). first ∷ ns) (folded_push (λ x ns. x ∷ ns) [] _ _ d xse)))
+    (folded_push (then t) (λ q ks. []) _ _ (P.Fix d tv arg res) pse)
+    tve
+    (scope_is _ _ _ _ (ap levels lse) (atoms_push _ _ (A.Level first) xse' ∙ ap (λ (ns : List s.Atom). Level first ∷ ns) (atoms_push _ _ (A.Level d) xse)))
     (wr (E first level inside)
     ∙ ap (λ (u : K.KTys). written w ++ NCode d tv 0 u ∷ E first level inside) tyse
     ∙ ap (λ x. written w ++ NCode d tv 0 T ∷ E x level inside) e1
@@ -68,25 +83,27 @@ fixes t w w' arg res body d first level inside xs tys wr tyse fse pse xse xse' t
 
 pub gens : (t : ℕ → Noted) (w w' : Work) (ty : Bor FType) (body d level inside tv' : ℕ) (tys : K.KTys) →
     ((ns : Nodes) → written w' ++ ns ≡ written w ++ NCode d w.types 1 tys ∷ ns) →
-    tys ≡ gen_args (tree ty.now) →
+    tys ≡ gen_args tv' (levels w'.levels.items) (tree ty.now) →
     w'.frames.items ≡ w.frames.items ++ F.Tail level ∷ [] → w'.pending.items ≡ w.pending.items ++ P.Gen d w.types ty ∷ [] → w'.names.items ≡ w.names.items →
-    w'.types ≡ tv' → tv' ≡ suc w.types → level ≡ suc d → inside ≡ suc level →
+    w'.levels.items ≡ w.levels.items ++ w.types ∷ [] → w'.types ≡ tv' → tv' ≡ suc w.types → level ≡ suc d → inside ≡ suc level →
     Goes t w (EGen (t body) (tree ty.now)) d w' (C.Walk body inside)
-gens t w w' ty body d level inside tv' tys wr tyse fse pse xse tve tve' e1 e2 =
-    let names = scope w.names.items in
+gens t w w' ty body d level inside tv' tys wr tyse fse pse xse lse tve tve' e1 e2 =
+    let q = at w in
     let tv = w.types in
     let ks = rests t w.frames.items in
     let td = todo t w.pending.items in
-    let R : Nodes = NEnd ∷ named (kty (TAll (tree ty.now))) (top ks (tv, names)) d (td (tv, names) (below ks)) in
-    let E : ℕ → ℕ → Nodes = λ y z. emit (t body) z (suc tv, names) (Pass (suc tv) y) R in
-    let T : K.KTys = gen_args (tree ty.now) in
+    let under : levels w'.levels.items ≡ tv ∷ q.0 = levels_push _ _ tv lse in
+    let T : K.KTys = gen_args (suc tv) (tv ∷ q.0) (tree ty.now) in
+    let R : Nodes = NEnd ∷ named (K.TKCode 1 T) (top ks q) tv d (td q (below ks)) in
+    let E : ℕ → ℕ → Nodes = λ y z. emit (t body) (suc tv) z (tv ∷ q.0, q.1) (Pass y) R in
     let f2 : inside ≡ suc (suc d) = e2 ∙ ap suc e1 in
-    finish t w w' _ (steps (EGen (t body) (tree ty.now))) (C.Walk body inside) (through t (F.Tail level) ks) (then t (P.Gen d tv ty) td) (suc tv, names)
+    finish t w w' _ (steps (EGen (t body) (tree ty.now))) (C.Walk body inside) (through t (F.Tail level) ks) (then t (P.Gen d tv ty) td) (suc tv) (tv ∷ q.0, q.1)
     (folded_push (through t) [] _ _ (F.Tail level) fse)
-    (folded_push (then t) (λ ns qs. []) _ _ (P.Gen d tv ty) pse)
-    (ap₂ (λ (x : ℕ) (ns : List ℕ). (x, ns)) (tve ∙ tve') (ap scope xse))
+    (folded_push (then t) (λ q ks. []) _ _ (P.Gen d tv ty) pse)
+    (tve ∙ tve')
+    (scope_is _ _ _ _ under (ap atoms xse))
     (wr (E level inside)
-    ∙ ap (λ (u : K.KTys). written w ++ NCode d tv 1 u ∷ E level inside) tyse
+    ∙ ap (λ (u : K.KTys). written w ++ NCode d tv 1 u ∷ E level inside) (tyse ∙ ap₂ (λ (x : ℕ) (ls : List ℕ). gen_args x ls (tree ty.now)) tve' under)
     ∙ ap (λ x. written w ++ NCode d tv 1 T ∷ E x inside) e1
     ∙ ap (λ x. written w ++ NCode d tv 1 T ∷ E (suc d) x) f2)
     (omega (arith, sum_push (frame_steps t) _ _ _ fse, sum_push (pending_steps t) _ _ _ pse))
@@ -96,35 +113,37 @@ pub if_tail : (t : ℕ → Noted) (w : Work) (v v2 : Vec Frame Global) (ty : Ty)
     w.frames.items ≡ v.items ++ F.Tail l ∷ [] → v2.items ≡ v.items ++ F.Test a b l ∷ [] →
     Goes t w (EIf (t c) (t a) (t b) ty) d (record w { frames = v2 }) (C.Walk c d)
 if_tail t w v v2 ty c a b d l e f =
-    let p = at w in
+    let q = at w in
     let td = todo t w.pending.items in (
-      ap (λ (ks : Rests). written w ++ emit (EIf (t c) (t a) (t b) ty) d p (top ks p) (td p (below ks))) (folded_push (through t) [] _ _ (F.Tail l) e)
-          ∙ ap (λ (ks : Rests). written w ++ says t ks td p (C.Walk c d)) (sym (folded_push (through t) [] _ _ (F.Test a b l) f)),
+      ap (λ (ks : Rests). written w ++ emit (EIf (t c) (t a) (t b) ty) w.types d q (top ks q) (td q (below ks))) (folded_push (through t) [] _ _ (F.Tail l) e)
+          ∙ ap (λ (ks : Rests). written w ++ says t ks td w.types q (C.Walk c d)) (sym (folded_push (through t) [] _ _ (F.Test a b l) f)),
       omega (arith, sum_push (frame_steps t) _ _ _ e, sum_push (frame_steps t) _ _ _ f),
     )
 
 -- one that isn't: what comes after it is named first, and comes now
 pub if_rest : (t : ℕ → Noted) (w : Work) (v : Vec Frame Global) (w' : Work) (ty : Bor FType) (c a b d : ℕ) →
     v.items ≡ w.frames.items → IsRestless t w.frames.items →
-    Opens (record w { frames = v }) (kty (tree ty.now)) d (P.If0 c a b d ty) w' →
+    Opens (record w { frames = v }) (kat w.types (at w).0 (tree ty.now)) d (P.If0 c a b d w.types ty) w' →
     Goes t w (EIf (t c) (t a) (t b) (tree ty.now)) d w' (C.Give (A.Level (suc d)) (suc (suc d)))
 if_rest t w v w' ty c a b d same restless made =
-    let p = at w in
+    let q = at w in
     let tv = w.types in
+    let u = kat tv q.0 (tree ty.now) in
     let ks = rests t w.frames.items in
     let td = todo t w.pending.items in
-    let R : Nodes = td p (below ks) in
-    let S : Nodes = NEnd ∷ NName d (taking (kty (tree ty.now))) ∷ emit (t c) (suc d) p (branches (t a) (t b) d p) R in
-    let G : Rest → Nodes = λ k. bound_once tv (kty (tree ty.now)) k d (λ d1 l. emit (t c) d1 p (branches (t a) (t b) l p)) R in
-    let H : Rest → Nodes = λ k. deliver k (suc (suc d)) (Level (suc d)) S in
+    let R : Nodes = td q (below ks) in
+    let S : Nodes = NEnd ∷ NName d (taking u) ∷ emit (t c) tv (suc d) q (branches (t a) (t b) d q) R in
+    let G : Rest → Nodes = λ k. bound_once u k tv d (λ d1 l. emit (t c) tv d1 q (branches (t a) (t b) l q)) R in
+    let H : Rest → Nodes = λ k. deliver k tv (suc (suc d)) (Level (suc d)) S in
     let fse : w'.frames.items ≡ w.frames.items = made.same_frames ∙ same in
-    finish t w w' (G (top ks p)) (steps (EIf (t c) (t a) (t b) (tree ty.now))) (C.Give (A.Level (suc d)) (suc (suc d))) ks (then t (P.If0 c a b d ty) td) p
+    finish t w w' (G (top ks q)) (steps (EIf (t c) (t a) (t b) (tree ty.now))) (C.Give (A.Level (suc d)) (suc (suc d))) ks (then t (P.If0 c a b d tv ty) td) tv q
     (ap (rests t) fse)
-    (folded_push (then t) (λ ns qs. []) _ _ (P.If0 c a b d ty) made.keeps)
+    (folded_push (then t) (λ q ks. []) _ _ (P.If0 c a b d tv ty) made.keeps)
+    made.same_types
     made.same_place
-    (made.writes (H (top ks p))
-    ∙ ap (λ (k : Rest). written w ++ NCode d tv 0 (rest_args (kty (tree ty.now))) ∷ H k) (restless p).1
-    ∙ sym (ap (λ (k : Rest). written w ++ G k) (restless p).1))
+    (made.writes (H (top ks q))
+    ∙ ap (λ (k : Rest). written w ++ NCode d tv 0 (rest_args u) ∷ H k) (restless q).1
+    ∙ sym (ap (λ (k : Rest). written w ++ G k) (restless q).1))
     (omega (arith, ap (sum_by (frame_steps t)) fse, sum_push (pending_steps t) _ _ _ made.keeps))
 
 -- what comes after a term is handed over
@@ -133,10 +152,10 @@ pub hand_tail : (t : ℕ → Noted) (w : Work) (o : Vec KNode Global) (v : Vec F
     ((ns : Nodes) → map knode o.items ++ ns ≡ written w ++ NVar l ∷ ns) →
     Hands t w ty d (record w { out = o; frames = v }) C.Ended
 hand_tail t w o v ty d l e wr =
-    let p = at w in
+    let q = at w in
     let td = todo t w.pending.items in (
-      ap (λ (ks : Rests). written w ++ as_value w.types ty (top ks p) d (td p (below ks))) (folded_push (through t) [] _ _ (F.Tail l) e)
-          ∙ sym (wr (td p (rests t v.items))),
+      ap (λ (ks : Rests). written w ++ as_value ty (top ks q) w.types d (td q (below ks))) (folded_push (through t) [] _ _ (F.Tail l) e)
+          ∙ sym (wr (td q (rests t v.items))),
       omega (arith, sum_push (frame_steps t) _ _ _ e),
     )
 
@@ -145,26 +164,26 @@ pub hand_rest : (t : ℕ → Noted) (w : Work) (v : Vec Frame Global) (w' : Work
     Opens (record w { frames = v }) ty d P.End w' →
     Hands t w ty d w' (C.Give (A.Level (suc d)) (suc (suc d)))
 hand_rest t w v w' ty d same restless made =
-    let p = at w in
+    let q = at w in
     let tv = w.types in
     let ks = rests t w.frames.items in
     let td = todo t w.pending.items in
-    let R : Nodes = td p (below ks) in
-    let G : Rest → Nodes = λ k. as_value tv ty k d R in
-    let H : Rest → Nodes = λ k. deliver k (suc (suc d)) (Level (suc d)) (NEnd ∷ R) in
+    let R : Nodes = td q (below ks) in
+    let G : Rest → Nodes = λ k. as_value ty k tv d R in
+    let H : Rest → Nodes = λ k. deliver k tv (suc (suc d)) (Level (suc d)) (NEnd ∷ R) in
     let fse : w'.frames.items ≡ w.frames.items = made.same_frames ∙ same in
-    finish t w w' (G (top ks p)) 3 (C.Give (A.Level (suc d)) (suc (suc d))) ks (then t P.End td) p
-    (ap (rests t) fse) (folded_push (then t) (λ ns qs. []) _ _ P.End made.keeps) made.same_place
-    (made.writes (H (top ks p))
-    ∙ ap (λ (k : Rest). written w ++ NCode d tv 0 (rest_args ty) ∷ H k) (restless p).1
-    ∙ sym (ap (λ (k : Rest). written w ++ G k) (restless p).1))
+    finish t w w' (G (top ks q)) 3 (C.Give (A.Level (suc d)) (suc (suc d))) ks (then t P.End td) tv q
+    (ap (rests t) fse) (folded_push (then t) (λ q ks. []) _ _ P.End made.keeps) made.same_types made.same_place
+    (made.writes (H (top ks q))
+    ∙ ap (λ (k : Rest). written w ++ NCode d tv 0 (rest_args ty) ∷ H k) (restless q).1
+    ∙ sym (ap (λ (k : Rest). written w ++ G k) (restless q).1))
     (omega (arith, ap (sum_by (frame_steps t)) fse, sum_push (pending_steps t) _ _ _ made.keeps))
 
 -- the last frame
 abbrev IsBinding : Rest → Type 0
-IsBinding k = (form : ℕ → s.Atom → Nodes → Nodes) × (k ≡ Bind form)
+IsBinding k = (form : ℕ → ℕ → s.Atom → Nodes → Nodes) × (k ≡ Bind form)
 
-binds : (t : ℕ → Noted) (f : Frame) (ks : Rests) (p : Place) → tail_of f ≡ None → IsBinding (top (through t f ks) p)
+binds : (t : ℕ → Noted) (f : Frame) (ks : Rests) (q : Scope) → tail_of f ≡ None → IsBinding (top (through t f ks) q)
 binds t (F.Fun x ty) ks names e = (_, refl)
 binds t (F.Arg f ty) ks names e = (_, refl)
 binds t (F.Inst arg ty) ks names e = (_, refl)
@@ -174,6 +193,15 @@ binds t (F.Proj i ty) ks names e = (_, refl)
 binds t (F.Fields rest done ty) ks names e = (_, refl)
 binds t (F.Tail l) ks names e = let h : Some l ≡ None = e in cc
 binds t (F.Test a b l) ks names e = (_, refl)
+binds t (F.Let b) ks names e = (_, refl)
+binds t (F.Open b ty) ks names e = (_, refl)
+binds t F.Leave ks names e = (_, refl)
+binds t F.LeaveType ks names e = (_, refl)
+binds t (F.Pack h ty) ks names e = (_, refl)
+binds t (F.Ref ty) ks names e = (_, refl)
+binds t (F.Deref ty) ks names e = (_, refl)
+binds t (F.Cell b) ks names e = (_, refl)
+binds t (F.Set a) ks names e = (_, refl)
 
 is_tail : (f : Frame) (l : ℕ) → tail_of f ≡ Some l → f ≡ F.Tail l
 is_tail (F.Tail k) l e = let h : Some k ≡ Some l = e in cc
@@ -185,6 +213,15 @@ is_tail (F.Right op a) l e = let h : None ≡ Some l = e in cc
 is_tail (F.Proj i ty) l e = let h : None ≡ Some l = e in cc
 is_tail (F.Fields rest done ty) l e = let h : None ≡ Some l = e in cc
 is_tail (F.Test a b k) l e = let h : None ≡ Some l = e in cc
+is_tail (F.Let b) l e = let h : None ≡ Some l = e in cc
+is_tail (F.Open b ty) l e = let h : None ≡ Some l = e in cc
+is_tail F.Leave l e = let h : None ≡ Some l = e in cc
+is_tail F.LeaveType l e = let h : None ≡ Some l = e in cc
+is_tail (F.Pack hid ty) l e = let h : None ≡ Some l = e in cc
+is_tail (F.Ref ty) l e = let h : None ≡ Some l = e in cc
+is_tail (F.Deref ty) l e = let h : None ≡ Some l = e in cc
+is_tail (F.Cell b) l e = let h : None ≡ Some l = e in cc
+is_tail (F.Set a) l e = let h : None ≡ Some l = e in cc
 
 last_is : {A : Type 0} (xs : List A) (n : ℕ) (x : A) → length xs ≡ suc n → x ≡ get_or xs n x → xs ≡ take n xs ++ x ∷ []
 last_is [] n x e at = absurd (omega (arith, e))
@@ -204,14 +241,24 @@ pub restless_empty : (t : ℕ → Noted) (xs : List Frame) → length xs ≡ 0 �
 restless_empty t [] e names = (_, refl)
 restless_empty t (x ∷ xs) e names = absurd (omega (arith, e))
 
--- the innermost source name goes
-inner_go : (ls : List ℕ) (x : ℕ) (xs : List ℕ) → folded (λ y ns. y ∷ ns) ls (take (length xs) (x ∷ xs)) ≡ inner (folded (λ y ns. y ∷ ns) (x ∷ ls) xs)
-inner_go ls x [] = refl
-inner_go ls x (y ∷ xs) = inner_go (x ∷ ls) y xs
+-- the innermost name of a stack goes
+module _ {A B : Type 0} (f : A → B) where
+  abbrev stack : List B → List A → List B
+  stack ls xs = folded (λ y ns. f y ∷ ns) ls xs
 
-pub scope_inner : (xs ys : List ℕ) → ys ≡ take (length xs - 1) xs → scope ys ≡ inner (scope xs)
-scope_inner [] ys e = ap scope e
-scope_inner (x ∷ xs) ys e = ap scope (e ∙ ap (λ (n : ℕ). take n (x ∷ xs)) (let h : suc (length xs) - 1 ≡ length xs = omega arith in h)) ∙ inner_go [] x xs
+  inner_go : (ls : List B) (x : A) (xs : List A) → stack ls (take (length xs) (x ∷ xs)) ≡ inner (stack (f x ∷ ls) xs)
+  inner_go ls x [] = refl
+  inner_go ls x (y ∷ xs) = inner_go (f x ∷ ls) y xs
+
+  pub stack_inner : (xs ys : List A) → ys ≡ take (length xs - 1) xs → stack [] ys ≡ inner (stack [] xs)
+  stack_inner [] ys e = ap (stack []) e
+  stack_inner (x ∷ xs) ys e = ap (stack []) (e ∙ ap (λ (n : ℕ). take n (x ∷ xs)) (let h : suc (length xs) - 1 ≡ length xs = omega arith in h)) ∙ inner_go [] x xs
+
+pub atoms_inner : (xs ys : List Atom) → ys ≡ take (length xs - 1) xs → atoms ys ≡ inner (atoms xs)
+atoms_inner xs ys e = stack_inner atom xs ys e
+
+pub levels_inner : (xs ys : List ℕ) → ys ≡ take (length xs - 1) xs → levels ys ≡ inner (levels xs)
+levels_inner xs ys e = stack_inner (λ (x : ℕ). x) xs ys e
 
 -- what was kept for later comes
 pub resumed : (t : ℕ → Noted) (w : Work) (v : Vec Pending Global) (p : Pending) (w' : Work) (c' : Control) →
@@ -219,48 +266,53 @@ pub resumed : (t : ℕ → Noted) (w : Work) (v : Vec Pending Global) (p : Pendi
     Begins t (record w { pending = v }) (then t p (todo t v.items) (at w) (rests t w.frames.items)) (pending_steps t p) w' c' →
     Steps t w C.Ended w' c'
 resumed t w v p w' c' e (b, l) = (
-  ap (λ (td : Todo). written w ++ td (at w) (rests t w.frames.items)) (folded_push (then t) (λ ns qs. []) _ _ p e) ∙ b,
+  ap (λ (td : Todo). written w ++ td (at w) (rests t w.frames.items)) (folded_push (then t) (λ q ks. []) _ _ p e) ∙ b,
   omega (arith, l, sum_push (pending_steps t) _ _ p e),
 )
 
--- a function or a suspended body is named, where the names and the type variables around it are known again
-pub comes_name : (t : ℕ → Noted) (w : Work) (o : Vec KNode Global) (v : Vec ℕ Global) (tv d inside : ℕ) (q : Place) (ty u : K.KTy) →
+-- a function or a suspended body is named, where the names and the type names around it are known again
+pub comes_name : (t : ℕ → Noted) (w : Work) (o : Vec KNode Global) (v : Vec Atom Global) (ls : Vec ℕ Global) (tv d inside : ℕ) (q : Scope) (ty u : K.KTy) →
     ((ns : Nodes) → map knode o.items ++ ns ≡ written w ++ NEnd ∷ NName d u ∷ ns) → u ≡ ty →
-    (tv, scope v.items) ≡ q → inside ≡ suc d →
-    Begins t w (NEnd ∷ named ty (top (rests t w.frames.items) q) d (todo t w.pending.items q (below (rests t w.frames.items)))) 2 (record w { out = o; names = v; types = tv }) (C.Give (A.Level d) inside)
-comes_name t w o v tv d inside q ty u wr tye qe e =
-    let w' : Work = record w { out = o; names = v; types = tv } in
+    scope_of (levels ls.items) (atoms v.items) ≡ q → inside ≡ suc d →
+    Begins t w (NEnd ∷ named ty (top (rests t w.frames.items) q) tv d (todo t w.pending.items q (below (rests t w.frames.items)))) 2 (record w { out = o; names = v; levels = ls; types = tv }) (C.Give (A.Level d) inside)
+comes_name t w o v ls tv d inside q ty u wr tye qe e =
+    let w' : Work = record w { out = o; names = v; levels = ls; types = tv } in
     let ks = rests t w.frames.items in
     let td = todo t w.pending.items in
-    let R : Place → ℕ → Nodes = λ p x. deliver (top ks p) x (Level d) (td p (below ks)) in (
-      ap (λ (p : Place). written w ++ NEnd ∷ NName d ty ∷ R p (suc d)) (sym qe)
+    let R : Scope → ℕ → Nodes = λ p x. deliver (top ks p) tv x (Level d) (td p (below ks)) in (
+      ap (λ (p : Scope). written w ++ NEnd ∷ NName d ty ∷ R p (suc d)) (sym qe)
           ∙ ap (λ (x : ℕ). written w ++ NEnd ∷ NName d ty ∷ R (at w') x) (sym e)
           ∙ ap (λ (x : K.KTy). written w ++ NEnd ∷ NName d x ∷ R (at w') inside) (sym tye)
           ∙ sym (wr (R (at w') inside)),
       omega arith,
     )
 
-pub comes_term : (t : ℕ → Noted) (w : Work) (o : Vec KNode Global) (v : Vec Frame Global) (i d l : ℕ) →
-    ((ns : Nodes) → map knode o.items ++ ns ≡ written w ++ NElse w.types ∷ ns) → v.items ≡ w.frames.items ++ F.Tail l ∷ [] →
-    Begins t w (then t (P.Other i d l) (todo t w.pending.items) (at w) (rests t w.frames.items)) (1 + steps (t i)) (record w { out = o; frames = v }) (C.Walk i d)
-comes_term t w o v i d l wr e =
-    let R : Nodes = emit (t i) d (at w) (Pass w.types l) (todo t w.pending.items (at w) (rests t w.frames.items)) in
-    wrote t w (record w { out = o }) (record w { out = o; frames = v }) (C.Walk i d) (1 + steps (t i)) R (NElse w.types ∷ R) (wr R) refl
-    (pushed t (record w { out = o }) v (F.Tail l) R (1 + steps (t i)) (C.Walk i d) e refl (omega arith))
+pub comes_term : (t : ℕ → Noted) (w : Work) (o : Vec KNode Global) (v : Vec Frame Global) (i d tv l : ℕ) →
+    ((ns : Nodes) → map knode o.items ++ ns ≡ written w ++ NElse tv ∷ ns) → v.items ≡ w.frames.items ++ F.Tail l ∷ [] →
+    Begins t w (then t (P.Other i d tv l) (todo t w.pending.items) (at w) (rests t w.frames.items)) (1 + steps (t i)) (record w { out = o; frames = v; types = tv }) (C.Walk i d)
+comes_term t w o v i d tv l wr e =
+    let R : Nodes = emit (t i) tv d (at w) (Pass l) (todo t w.pending.items (at w) (rests t w.frames.items)) in
+    wrote t w (record w { out = o; types = tv }) (record w { out = o; frames = v; types = tv }) (C.Walk i d) (1 + steps (t i)) R (NElse tv ∷ R) (wr R) refl
+    (pushed t (record w { out = o; types = tv }) v (F.Tail l) R (1 + steps (t i)) (C.Walk i d) e refl (omega arith))
 
-pub comes_test : (t : ℕ → Noted) (w : Work) (o : Vec KNode Global) (v : Vec Frame Global) (c a b d inside : ℕ) (ty : Bor FType) (u : K.KTy) →
-    ((ns : Nodes) → map knode o.items ++ ns ≡ written w ++ NEnd ∷ NName d u ∷ ns) → u ≡ taking (kty (tree ty.now)) →
+pub comes_test : (t : ℕ → Noted) (w : Work) (o : Vec KNode Global) (v : Vec Frame Global) (c a b d tv inside : ℕ) (ty : Bor FType) (u : K.KTy) →
+    ((ns : Nodes) → map knode o.items ++ ns ≡ written w ++ NEnd ∷ NName d u ∷ ns) → u ≡ taking (kat tv (at w).0 (tree ty.now)) →
     v.items ≡ w.frames.items ++ F.Test a b d ∷ [] → inside ≡ suc d →
-    Begins t w (then t (P.If0 c a b d ty) (todo t w.pending.items) (at w) (rests t w.frames.items)) (2 + (steps (t c) + steps (t a) + steps (t b))) (record w { out = o; frames = v }) (C.Walk c inside)
-comes_test t w o v c a b d inside ty u wr tye e f =
-    let R : Nodes = emit (t c) (suc d) (at w) (branches (t a) (t b) d (at w)) (todo t w.pending.items (at w) (rests t w.frames.items)) in
-    wrote t w (record w { out = o }) (record w { out = o; frames = v }) (C.Walk c inside) (2 + (steps (t c) + steps (t a) + steps (t b))) R (NEnd ∷ NName d (taking (kty (tree ty.now))) ∷ R)
+    Begins t w (then t (P.If0 c a b d tv ty) (todo t w.pending.items) (at w) (rests t w.frames.items)) (2 + (steps (t c) + steps (t a) + steps (t b))) (record w { out = o; frames = v; types = tv }) (C.Walk c inside)
+comes_test t w o v c a b d tv inside ty u wr tye e f =
+    let R : Nodes = emit (t c) tv (suc d) (at w) (branches (t a) (t b) d (at w)) (todo t w.pending.items (at w) (rests t w.frames.items)) in
+    wrote t w (record w { out = o; types = tv }) (record w { out = o; frames = v; types = tv }) (C.Walk c inside) (2 + (steps (t c) + steps (t a) + steps (t b))) R (NEnd ∷ NName d (taking (kat tv (at w).0 (tree ty.now))) ∷ R)
     (wr R ∙ ap (λ (x : K.KTy). written w ++ NEnd ∷ NName d x ∷ R) tye) refl
-    (pushed t (record w { out = o }) v (F.Test a b d) R (2 + (steps (t c) + steps (t a) + steps (t b))) (C.Walk c inside) e
-    (ap (λ (x : ℕ). emit (t c) x (at w) (branches (t a) (t b) d (at w)) (todo t w.pending.items (at w) (rests t w.frames.items))) (sym f))
+    (pushed t (record w { out = o; types = tv }) v (F.Test a b d) R (2 + (steps (t c) + steps (t a) + steps (t b))) (C.Walk c inside) e
+    (ap (λ (x : ℕ). emit (t c) tv x (at w) (branches (t a) (t b) d (at w)) (todo t w.pending.items (at w) (rests t w.frames.items))) (sym f))
     (omega arith))
 
 pub comes_end : (t : ℕ → Noted) (w : Work) (o : Vec KNode Global) →
     ((ns : Nodes) → map knode o.items ++ ns ≡ written w ++ NEnd ∷ ns) →
     Begins t w (then t P.End (todo t w.pending.items) (at w) (rests t w.frames.items)) 1 (record w { out = o }) C.Ended
 comes_end t w o wr = (sym (wr (todo t w.pending.items (at w) (rests t w.frames.items))), omega arith)
+
+-- a name goes, or comes again
+pub comes_scope : (t : ℕ → Noted) (w : Work) (v : Vec Atom Global) (ls : Vec ℕ Global) (q : Scope) → scope_of (levels ls.items) (atoms v.items) ≡ q →
+    Begins t w (todo t w.pending.items q (rests t w.frames.items)) 1 (record w { names = v; levels = ls }) C.Ended
+comes_scope t w v ls q e = (ap (λ (p : Scope). written w ++ todo t w.pending.items p (rests t w.frames.items)) (sym e), omega arith)

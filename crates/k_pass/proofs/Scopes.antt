@@ -11,8 +11,8 @@ at_krens q [] i = refl
 at_krens q (t ∷ g) zero = refl
 at_krens q (t ∷ g) (suc i) = at_krens q g i
 
-pub field_is : (ts : Tys) (i : ℕ) (t : Ty) → field_ty ts i ≡ Some t → kfield i (all_kty ts) ≡ kty t
-field_is ts zero t e = let x : None ≡ Some t = e in cc
-field_is NoTys (suc i) t e = let x : None ≡ Some t = e in cc
-field_is (MoreTys u ts) (suc zero) t e = let x : Some u ≡ Some t = e in let y : u ≡ t = cc in ap kty y
-field_is (MoreTys u ts) (suc (suc i)) t e = field_is ts (suc i) t e
+pub field_is : (r : ℕ → ℕ) (ts : Tys) (i : ℕ) (t : Ty) → field_ty ts i ≡ Some t → kfield i (all_kty r ts) ≡ kty r t
+field_is r ts zero t e = let x : None ≡ Some t = e in cc
+field_is r NoTys (suc i) t e = let x : None ≡ Some t = e in cc
+field_is r (MoreTys u ts) (suc zero) t e = let x : Some u ≡ Some t = e in let y : u ≡ t = cc in ap (kty r) y
+field_is r (MoreTys u ts) (suc (suc i)) t e = field_is r ts (suc i) t e

@@ -5,9 +5,9 @@ ghost use Rattle.k_terms.specs.Read.{knode};
 ghost use Rattle.f_terms.specs.NotedTerm.{noted_at, noted_node};
 ghost use Rattle.f_terms.specs.ReadTerm.{count};
 ghost use Rattle.f_terms.specs.Shape.{kids};
-ghost use Rattle.k_laws.specs.Cps.{level_at};
+ghost use Rattle.k_laws.specs.Cps.{type_level, atom_at};
 ghost use Rattle.k_pass.specs.Emit.{atom_node};
-ghost use Rattle.k_pass.specs.Machine.{Nodes, atom, scope, inner};
+ghost use Rattle.k_pass.specs.Machine.{Nodes, atom, levels as levels_of, atoms, inner};
 
 use crate::work::Atom;
 use f_terms::{FNode, FTerm, FType, typed_node};
@@ -25,23 +25,42 @@ pub(crate) fn node_at<'a>(term: &'a FTerm, types: &'a [FType], i: u64) -> (&'a F
     typed_node(term, types, i)
 }
 
-// The level of a source name.
-pub(crate) fn level_of(names: &[u64], i: u64) -> u64
-    ensures { result ≡ level_at (scope names.now) i }
+// The level of a type name of the source.
+pub(crate) fn level_of(levels: &[u64], i: u64) -> u64
+    ensures { result ≡ type_level (levels_of levels.now) i }
 {
-    let count = names.len() as u64;
+    let count = levels.len() as u64;
     if i < count {
-        names[(count - 1 - i) as usize]
+        levels[(count - 1 - i) as usize]
     } else {
         0
     }
 }
 
+// What stands for a source name.
+pub(crate) fn atom_of(names: &[Atom], i: u64) -> Atom
+    ensures { atom result ≡ atom_at (atoms names.now) i }
+{
+    let count = names.len() as u64;
+    if i < count {
+        names[(count - 1 - i) as usize]
+    } else {
+        Atom::Level(0)
+    }
+}
+
 // The innermost source name goes.
-pub(crate) fn leave(names: &mut Vec<u64>)
-    ensures { scope names.new.items ≡ inner (scope names.old.items) }
+pub(crate) fn leave(names: &mut Vec<Atom>)
+    ensures { atoms names.new.items ≡ inner (atoms names.old.items) }
 {
     names.pop();
+}
+
+// The innermost type name goes.
+pub(crate) fn leave_type(levels: &mut Vec<u64>)
+    ensures { levels_of levels.new.items ≡ inner (levels_of levels.old.items) }
+{
+    levels.pop();
 }
 
 // One name more.

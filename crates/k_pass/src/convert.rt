@@ -24,6 +24,7 @@ pub fn emit(alloc: Global, term: &FTerm, types: &[FType]) -> Result<Vec<KNode>, 
         frames: Vec::new(alloc),
         pending: Vec::new(alloc),
         names: Vec::new(alloc),
+        levels: Vec::new(alloc),
         types: 0,
     };
     let mut control = Control::Walk {

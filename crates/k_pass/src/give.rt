@@ -3,14 +3,13 @@ ghost use Rattle.std.specs.Prelude.{ℕ, ◌<◌, ◌++◌, ◌∷◌, [], IfOk,
 ghost use Rattle.std.specs.List.{All};
 ghost use Rattle.f_terms.specs.Noted.{Noted};
 ghost use Rattle.f_terms.specs.Read.{tree};
-ghost use Rattle.k_laws.specs.Cps.{kty};
 ghost use Rattle.k_pass.specs.Machine.{atom, Steps, Takes, FieldsGo, KeptIn, Inside};
 ghost use Rattle.k_pass.specs.declared.work.Frame.TheVariants as frames;
 ghost use Rattle.k_pass.specs.declared.work.Control.TheVariants as controls;
 
 use crate::access::{deeper, put_call, put_one, put_two};
-use crate::hand::hand_over;
-use crate::types::{k_type, rest_types};
+use crate::hand::{hand_over, take_tail};
+use crate::types::{k_type_at, opened_type, rest_types};
 use crate::walk::{enter, walk_fields};
 use crate::work::{Atom, Control, Frame, Pending, Work};
 use f_terms::FType;
@@ -51,6 +50,17 @@ pub(crate) fn give<'a>(
         Some(Frame::Test { zero, other, level }) => {
             give_test(work, zero, other, level, given, depth)
         }
+        Some(Frame::Let { body }) => give_let(work, body, given, depth),
+        Some(Frame::Open { body, ty }) => give_open(alloc, work, body, ty, given, depth),
+        Some(Frame::Leave) => give_leave(work, given, depth),
+        Some(Frame::LeaveType) => give_leave_type(work, given, depth),
+        Some(Frame::Pack { hidden, ty }) => give_pack(alloc, work, hidden, ty, given, depth),
+        Some(Frame::Ref { ty }) => give_ref(alloc, work, ty, given, depth),
+        Some(Frame::Deref { ty }) => give_deref(alloc, work, ty, given, depth),
+        Some(Frame::Cell { value }) => {
+            enter(&mut work.frames, Frame::Set { cell: given }, value, depth)
+        }
+        Some(Frame::Set { cell }) => give_set(work, cell, given, depth),
     }
 }
 
@@ -90,7 +100,7 @@ fn give_inst<'a>(
         Takes t work.old (frames.Inst arg.entry ty.entry) given depth work.new r) }
     ensures inside { IfOk result (λ r. (m : ℕ) → KeptIn m work.old → Inside m work.new r) }
 {
-    let types = rest_types(alloc, arg)?;
+    let types = rest_types(alloc, arg, work.types, &work.levels)?;
     let call = KNode::Call {
         level: depth,
         depth: work.types,
@@ -134,7 +144,7 @@ fn give_proj<'a>(
         Takes t work.old (frames.Proj i ty.entry) given depth work.new r) }
     ensures inside { IfOk result (λ r. (m : ℕ) → KeptIn m work.old → Inside m work.new r) }
 {
-    let ty = k_type(alloc, ty)?;
+    let ty = k_type_at(alloc, ty, work.types, &work.levels)?;
     let proj = KNode::Proj {
         level: depth,
         field: i,
@@ -159,7 +169,7 @@ fn give_field<'a>(
     depth: u64,
 ) -> Result<Control, OutOfMemory>
     ensures steps { IfOk result (λ r. (t : ℕ → Noted) →
-        FieldsGo t work.old rest.now (map atom done.items ++ atom given ∷ []) (kty (tree ty.now)) depth work.new r) }
+        FieldsGo t work.old rest.now (map atom done.items ++ atom given ∷ []) (tree ty.now) depth work.new r) }
     ensures inside { IfOk result (λ r. (m : ℕ) → All (λ i. i < m) rest.now → KeptIn m work.old → Inside m work.new r) }
 {
     done.push(given)?;
@@ -206,7 +216,185 @@ fn give_test<'a>(
     work.pending.push(Pending::Other {
         node: other,
         depth,
+        types: work.types,
         level,
     })?;
     enter(&mut work.frames, Frame::Tail { level }, zero, depth)
+}
+
+// What a name of the source stands for is given: the name is the innermost one in the body, which comes now. It goes
+// where the body ends; where the body isn't in tail place, it goes already where what the body gives is handed on, and
+// comes again for what was begun in the body and ends later.
+fn give_let<'a>(
+    work: &mut Work<'a>,
+    body: u64,
+    given: Atom,
+    depth: u64,
+) -> Result<Control, OutOfMemory>
+    ensures steps { IfOk result (λ r. (t : ℕ → Noted) →
+        Takes t work.old (frames.Let body) given depth work.new r) }
+    ensures inside { IfOk result (λ r. (m : ℕ) → body < m → KeptIn m work.old → Inside m work.new r) }
+{
+    work.names.push(given)?;
+    work.pending.push(Pending::Leave)?;
+    match take_tail(&mut work.frames) {
+        Some(level) => enter(&mut work.frames, Frame::Tail { level }, body, depth),
+        None => enter(&mut work.frames, Frame::Leave, body, depth),
+    }
+}
+
+// A package is given: it is unpacked, and the body comes under one more type name and one more name.
+fn give_open<'a>(
+    alloc: Global,
+    work: &mut Work<'a>,
+    body: u64,
+    ty: &'a FType,
+    given: Atom,
+    depth: u64,
+) -> Result<Control, OutOfMemory>
+    ensures steps { IfOk result (λ r. (t : ℕ → Noted) →
+        Takes t work.old (frames.Open body ty.entry) given depth work.new r) }
+    ensures inside { IfOk result (λ r. (m : ℕ) → body < m → KeptIn m work.old → Inside m work.new r) }
+{
+    let types = work.types;
+    let ty = opened_type(alloc, ty, types, &work.levels)?;
+    let unpack = KNode::Unpack {
+        level: depth,
+        depth: types,
+        ty,
+    };
+    put_one(&mut work.out, given, unpack)?;
+    let inside = deeper(depth)?;
+    let under = deeper(types)?;
+    work.types = under;
+    work.levels.push(types)?;
+    work.names.push(Atom::Level(depth))?;
+    work.pending.push(Pending::Leave)?;
+    work.pending.push(Pending::LeaveType)?;
+    match take_tail(&mut work.frames) {
+        Some(level) => enter(&mut work.frames, Frame::Tail { level }, body, inside),
+        None => {
+            work.frames.push(Frame::LeaveType)?;
+            enter(&mut work.frames, Frame::Leave, body, inside)
+        }
+    }
+}
+
+// The innermost name goes, and comes again for what was begun under it and ends later.
+fn give_leave<'a>(work: &mut Work<'a>, given: Atom, depth: u64) -> Result<Control, OutOfMemory>
+    ensures steps { IfOk result (λ r. (t : ℕ → Noted) → Takes t work.old frames.Leave given depth work.new r) }
+    ensures inside { IfOk result (λ r. (m : ℕ) → KeptIn m work.old → Inside m work.new r) }
+{
+    match work.names.pop() {
+        Some(atom) => {
+            work.pending.push(Pending::Enter { atom })?;
+            Ok(Control::Give { atom: given, depth })
+        }
+        None => Ok(Control::Give { atom: given, depth }),
+    }
+}
+
+// The innermost type name goes.
+fn give_leave_type<'a>(work: &mut Work<'a>, given: Atom, depth: u64) -> Result<Control, OutOfMemory>
+    ensures steps { IfOk result (λ r. (t : ℕ → Noted) → Takes t work.old frames.LeaveType given depth work.new r) }
+    ensures inside { IfOk result (λ r. (m : ℕ) → KeptIn m work.old → Inside m work.new r) }
+{
+    match work.levels.pop() {
+        Some(level) => {
+            work.pending.push(Pending::EnterType { level })?;
+            Ok(Control::Give { atom: given, depth })
+        }
+        None => Ok(Control::Give { atom: given, depth }),
+    }
+}
+
+// What is packed is given: the package is named.
+fn give_pack<'a>(
+    alloc: Global,
+    work: &mut Work<'a>,
+    hidden: &'a FType,
+    ty: &'a FType,
+    given: Atom,
+    depth: u64,
+) -> Result<Control, OutOfMemory>
+    ensures steps { IfOk result (λ r. (t : ℕ → Noted) →
+        Takes t work.old (frames.Pack hidden.entry ty.entry) given depth work.new r) }
+    ensures inside { IfOk result (λ r. (m : ℕ) → KeptIn m work.old → Inside m work.new r) }
+{
+    let types = work.types;
+    let hidden = k_type_at(alloc, hidden, types, &work.levels)?;
+    let shape = k_type_at(alloc, ty, types, &work.levels)?;
+    let pack = KNode::Pack {
+        level: depth,
+        depth: types,
+        hidden,
+        shape,
+    };
+    put_one(&mut work.out, given, pack)?;
+    let inside = deeper(depth)?;
+    Ok(Control::Give {
+        atom: Atom::Level(depth),
+        depth: inside,
+    })
+}
+
+// What a cell is to hold is given: the cell is named.
+fn give_ref<'a>(
+    alloc: Global,
+    work: &mut Work<'a>,
+    ty: &'a FType,
+    given: Atom,
+    depth: u64,
+) -> Result<Control, OutOfMemory>
+    ensures steps { IfOk result (λ r. (t : ℕ → Noted) →
+        Takes t work.old (frames.Ref ty.entry) given depth work.new r) }
+    ensures inside { IfOk result (λ r. (m : ℕ) → KeptIn m work.old → Inside m work.new r) }
+{
+    let ty = k_type_at(alloc, ty, work.types, &work.levels)?;
+    put_one(&mut work.out, given, KNode::Cell { level: depth, ty })?;
+    let inside = deeper(depth)?;
+    Ok(Control::Give {
+        atom: Atom::Level(depth),
+        depth: inside,
+    })
+}
+
+// A cell is given: what it holds is named.
+fn give_deref<'a>(
+    alloc: Global,
+    work: &mut Work<'a>,
+    ty: &'a FType,
+    given: Atom,
+    depth: u64,
+) -> Result<Control, OutOfMemory>
+    ensures steps { IfOk result (λ r. (t : ℕ → Noted) →
+        Takes t work.old (frames.Deref ty.entry) given depth work.new r) }
+    ensures inside { IfOk result (λ r. (m : ℕ) → KeptIn m work.old → Inside m work.new r) }
+{
+    let ty = k_type_at(alloc, ty, work.types, &work.levels)?;
+    put_one(&mut work.out, given, KNode::Get { level: depth, ty })?;
+    let inside = deeper(depth)?;
+    Ok(Control::Give {
+        atom: Atom::Level(depth),
+        depth: inside,
+    })
+}
+
+// What is put in a cell is given: the empty tuple is named.
+fn give_set<'a>(
+    work: &mut Work<'a>,
+    cell: Atom,
+    given: Atom,
+    depth: u64,
+) -> Result<Control, OutOfMemory>
+    ensures steps { IfOk result (λ r. (t : ℕ → Noted) →
+        Takes t work.old (frames.Set cell) given depth work.new r) }
+    ensures inside { IfOk result (λ r. (m : ℕ) → KeptIn m work.old → Inside m work.new r) }
+{
+    put_two(&mut work.out, cell, given, KNode::Set { level: depth })?;
+    let inside = deeper(depth)?;
+    Ok(Control::Give {
+        atom: Atom::Level(depth),
+        depth: inside,
+    })
 }

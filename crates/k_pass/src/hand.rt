@@ -2,8 +2,8 @@
 ghost use Rattle.std.specs.Prelude.{◌≡◌, ℕ, suc, ◌++◌, ◌∷◌, [], IfOk, MatchOption};
 ghost use Rattle.f_terms.specs.Noted.{Noted};
 ghost use Rattle.f_terms.specs.Read.{tree};
-ghost use Rattle.k_laws.specs.Cps.{kty};
-ghost use Rattle.k_pass.specs.Machine.{Hands, Opens, IsRestless, tail_of, KeptIn, Inside};
+ghost use Rattle.k_laws.specs.Cps.{kat};
+ghost use Rattle.k_pass.specs.Machine.{at, Hands, Opens, IsRestless, tail_of, KeptIn, Inside};
 ghost use Rattle.k_pass.specs.declared.work.Atom.TheVariants as atoms;
 ghost use Rattle.k_pass.specs.declared.work.Control.TheVariants as controls;
 ghost use Rattle.k_pass.specs.declared.work.Frame.TheVariants as frames;
@@ -54,12 +54,13 @@ pub(crate) fn open_rest<'a>(
     depth: u64,
 ) -> Result<Control, OutOfMemory>
     ensures { IfOk result (λ c. (c ≡ controls.Give (atoms.Level (suc depth)) (suc (suc depth)))
-        × Opens work.old (kty (tree ty.now)) depth pending.entry work.new) }
+        × Opens work.old (kat work.old.types (at work.old).0 (tree ty.now)) depth pending.entry work.new) }
 {
-    let args = rest_types(alloc, ty)?;
+    let types = work.types;
+    let args = rest_types(alloc, ty, types, &work.levels)?;
     let code = KNode::Code {
         level: depth,
-        depth: work.types,
+        depth: types,
         owes: 0,
         args,
     };
@@ -80,7 +81,8 @@ pub(crate) fn hand_over<'a>(
     ty: &FType,
     depth: u64,
 ) -> Result<Control, OutOfMemory>
-    ensures steps { IfOk result (λ r. (t : ℕ → Noted) → Hands t work.old (kty (tree ty.now)) depth work.new r) }
+    ensures steps { IfOk result (λ r. (t : ℕ → Noted) →
+        Hands t work.old (kat work.old.types (at work.old).0 (tree ty.now)) depth work.new r) }
     ensures inside { IfOk result (λ r. (m : ℕ) → KeptIn m work.old → Inside m work.new r) }
 {
     match take_tail(&mut work.frames) {

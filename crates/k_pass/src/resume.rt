@@ -6,7 +6,7 @@ ghost use Rattle.k_terms.specs.Read.{knode, ktree};
 ghost use Rattle.k_pass.specs.Machine.{Nodes, ResumeIs, Follows, KeptIn, Inside, NextIn};
 ghost use Rattle.k_pass.specs.declared.work.Pending.TheVariants as pendings;
 
-use crate::access::{deeper, leave, put};
+use crate::access::{deeper, leave, leave_type, put};
 use crate::types::{fix_type, gen_type, rest_type};
 use crate::walk::enter;
 use crate::work::{Atom, Control, Frame, Pending, Work};
@@ -32,26 +32,56 @@ pub(crate) fn resume<'a>(alloc: Global, work: &mut Work<'a>) -> Result<Option<Co
 {
     match work.pending.pop() {
         None => Ok(None),
-        Some(Pending::Fix { depth, arg, res }) => {
-            Ok(Some(name_fix(alloc, work, depth, arg, res)?))
-        }
+        Some(
+            Pending::Fix {
+                depth,
+                types,
+                arg,
+                res,
+            },
+        ) => Ok(Some(name_fix(alloc, work, depth, types, arg, res)?)),
         Some(Pending::Gen { depth, types, ty }) => {
             Ok(Some(name_gen(alloc, work, depth, types, ty)?))
         }
-        Some(Pending::Other { node, depth, level }) => {
-            Ok(Some(walk_other(work, node, depth, level)?))
-        }
+        Some(
+            Pending::Other {
+                node,
+                depth,
+                types,
+                level,
+            },
+        ) => Ok(Some(walk_other(work, node, depth, types, level)?)),
         Some(
             Pending::If0 {
                 test,
                 zero,
                 other,
                 depth,
+                types,
                 ty,
             },
-        ) => Ok(Some(walk_test(alloc, work, test, zero, other, depth, ty)?)),
+        ) => {
+            let next = walk_test(alloc, work, test, zero, other, depth, types, ty)?;
+            Ok(Some(next))
+        }
         Some(Pending::End) => {
             put(&mut work.out, KNode::End)?;
+            Ok(Some(Control::Ended))
+        }
+        Some(Pending::Leave) => {
+            leave(&mut work.names);
+            Ok(Some(Control::Ended))
+        }
+        Some(Pending::LeaveType) => {
+            leave_type(&mut work.levels);
+            Ok(Some(Control::Ended))
+        }
+        Some(Pending::Enter { atom }) => {
+            work.names.push(atom)?;
+            Ok(Some(Control::Ended))
+        }
+        Some(Pending::EnterType { level }) => {
+            work.levels.push(level)?;
             Ok(Some(Control::Ended))
         }
     }
@@ -62,16 +92,18 @@ fn name_fix<'a>(
     alloc: Global,
     work: &mut Work<'a>,
     depth: u64,
+    types: u64,
     arg: &'a FType,
     res: &'a FType,
 ) -> Result<Control, OutOfMemory>
     ensures steps { IfOk result (λ r. (t : ℕ → Noted) →
-        Follows t work.old (pendings.Fix depth arg.entry res.entry) work.new r) }
+        Follows t work.old (pendings.Fix depth types arg.entry res.entry) work.new r) }
     ensures inside { IfOk result (λ r. (m : ℕ) → KeptIn m work.old → Inside m work.new r) }
 {
     leave(&mut work.names);
     leave(&mut work.names);
-    let ty = fix_type(alloc, arg, res)?;
+    work.types = types;
+    let ty = fix_type(alloc, arg, res, types, &work.levels)?;
     put_name(&mut work.out, depth, ty)?;
     let inside = deeper(depth)?;
     Ok(Control::Give {
@@ -92,8 +124,10 @@ fn name_gen<'a>(
         Follows t work.old (pendings.Gen depth types ty.entry) work.new r) }
     ensures inside { IfOk result (λ r. (m : ℕ) → KeptIn m work.old → Inside m work.new r) }
 {
+    let under = deeper(types)?;
+    let ty = gen_type(alloc, ty, under, &work.levels)?;
+    leave_type(&mut work.levels);
     work.types = types;
-    let ty = gen_type(alloc, ty)?;
     put_name(&mut work.out, depth, ty)?;
     let inside = deeper(depth)?;
     Ok(Control::Give {
@@ -107,14 +141,16 @@ fn walk_other<'a>(
     work: &mut Work<'a>,
     node: u64,
     depth: u64,
+    types: u64,
     level: u64,
 ) -> Result<Control, OutOfMemory>
     ensures steps { IfOk result (λ r. (t : ℕ → Noted) →
-        Follows t work.old (pendings.Other node depth level) work.new r) }
+        Follows t work.old (pendings.Other node depth types level) work.new r) }
     ensures inside { IfOk result (λ r. (m : ℕ) → node < m → KeptIn m work.old → Inside m work.new r) }
 {
-    let mark = KNode::Else { depth: work.types };
+    let mark = KNode::Else { depth: types };
     put(&mut work.out, mark)?;
+    work.types = types;
     enter(&mut work.frames, Frame::Tail { level }, node, depth)
 }
 
@@ -126,14 +162,16 @@ fn walk_test<'a>(
     zero: u64,
     other: u64,
     depth: u64,
+    types: u64,
     ty: &'a FType,
 ) -> Result<Control, OutOfMemory>
     ensures steps { IfOk result (λ r. (t : ℕ → Noted) →
-        Follows t work.old (pendings.If0 test zero other depth ty.entry) work.new r) }
+        Follows t work.old (pendings.If0 test zero other depth types ty.entry) work.new r) }
     ensures inside { IfOk result (λ r. (m : ℕ) → test < m → zero < m → other < m → KeptIn m work.old →
         Inside m work.new r) }
 {
-    let ty = rest_type(alloc, ty)?;
+    work.types = types;
+    let ty = rest_type(alloc, ty, types, &work.levels)?;
     put_name(&mut work.out, depth, ty)?;
     let inside = deeper(depth)?;
     let frame = Frame::Test {

@@ -7,14 +7,13 @@ ghost use Rattle.k_terms.specs.Read.{knode, ktree};
 ghost use Rattle.f_terms.specs.Noted.{Noted, EFix, EGen, EIf};
 ghost use Rattle.f_terms.specs.NotedTerm.{noted_at};
 ghost use Rattle.f_terms.specs.ReadTerm.{count};
-ghost use Rattle.k_laws.specs.Cps.{kty};
 ghost use Rattle.k_pass.specs.Emit.{atom_nodes};
 ghost use Rattle.k_pass.specs.Machine.{Nodes, atom, Steps, Goes, FieldsGo, KeptIn, Inside};
 ghost use Rattle.k_pass.specs.declared.work.Control.TheVariants as controls;
 
-use crate::access::{deeper, level_of, node_at, put, put_atom};
+use crate::access::{atom_of, deeper, node_at, put, put_atom};
 use crate::hand::{open_rest, take_tail};
-use crate::types::{fix_types, gen_types, k_type, under_all};
+use crate::types::{fix_types, gen_types, k_type_at, under_all};
 use crate::work::{Atom, Control, Frame, Pending, Work};
 use f_terms::{FShape, FTerm, FType};
 use idx_core::OutOfMemory;
@@ -54,7 +53,7 @@ pub(crate) fn walk<'a>(
     let ty = found.1;
     match &found.0.shape {
         FShape::Var(i) => {
-            let atom = Atom::Level(level_of(&work.names, *i));
+            let atom = atom_of(&work.names, *i);
             Ok(Control::Give { atom, depth })
         }
         FShape::Int(n) => Ok(Control::Give {
@@ -71,6 +70,21 @@ pub(crate) fn walk<'a>(
             enter(&mut work.frames, Frame::Left { op: *op, b: *b }, *a, depth)
         }
         FShape::If0(test, zero, other) => { walk_if0(alloc, work, *test, *zero, *other, ty, depth) }
+        FShape::Let(a, b) => enter(&mut work.frames, Frame::Let { body: *b }, *a, depth),
+        FShape::Pack {
+            hidden,
+            inner,
+            shape,
+        } => enter(
+            &mut work.frames,
+            Frame::Pack { hidden, ty: shape },
+            *inner,
+            depth,
+        ),
+        FShape::Open(a, b) => enter(&mut work.frames, Frame::Open { body: *b, ty }, *a, depth),
+        FShape::Ref(e) => enter(&mut work.frames, Frame::Ref { ty }, *e, depth),
+        FShape::Deref(e) => enter(&mut work.frames, Frame::Deref { ty }, *e, depth),
+        FShape::Assign(a, b) => enter(&mut work.frames, Frame::Cell { value: *b }, *a, depth),
     }
 }
 
@@ -87,10 +101,11 @@ fn walk_fix<'a>(
         Goes t work.old (EFix (tree arg.now) (tree res.now) (t body)) depth work.new r) }
     ensures inside { IfOk result (λ r. (m : ℕ) → body < m → KeptIn m work.old → Inside m work.new r) }
 {
-    let args = fix_types(alloc, arg, res)?;
+    let types = work.types;
+    let args = fix_types(alloc, arg, res, types, &work.levels)?;
     let code = KNode::Code {
         level: depth,
-        depth: work.types,
+        depth: types,
         owes: 0,
         args,
     };
@@ -98,9 +113,14 @@ fn walk_fix<'a>(
     let first = deeper(depth)?;
     let level = deeper(first)?;
     let inside = deeper(level)?;
-    work.names.push(depth)?;
-    work.names.push(first)?;
-    work.pending.push(Pending::Fix { depth, arg, res })?;
+    work.names.push(Atom::Level(depth))?;
+    work.names.push(Atom::Level(first))?;
+    work.pending.push(Pending::Fix {
+        depth,
+        types,
+        arg,
+        res,
+    })?;
     enter(&mut work.frames, Frame::Tail { level }, body, inside)
 }
 
@@ -116,8 +136,11 @@ fn walk_gen<'a>(
         Goes t work.old (EGen (t body) (tree ty.now)) depth work.new r) }
     ensures inside { IfOk result (λ r. (m : ℕ) → body < m → KeptIn m work.old → Inside m work.new r) }
 {
-    let args = gen_types(alloc, ty)?;
     let types = work.types;
+    let under = deeper(types)?;
+    work.types = under;
+    work.levels.push(types)?;
+    let args = gen_types(alloc, ty, under, &work.levels)?;
     let code = KNode::Code {
         level: depth,
         depth: types,
@@ -127,8 +150,6 @@ fn walk_gen<'a>(
     put(&mut work.out, code)?;
     let level = deeper(depth)?;
     let inside = deeper(level)?;
-    let under = deeper(types)?;
-    work.types = under;
     work.pending.push(Pending::Gen { depth, types, ty })?;
     enter(&mut work.frames, Frame::Tail { level }, body, inside)
 }
@@ -159,6 +180,7 @@ fn walk_if0<'a>(
                 zero,
                 other,
                 depth,
+                types: work.types,
                 ty,
             };
             open_rest(alloc, work, ty, ended, depth)
@@ -176,12 +198,13 @@ pub(crate) fn walk_fields<'a>(
     depth: u64,
 ) -> Result<Control, OutOfMemory>
     ensures steps { IfOk result (λ r. (t : ℕ → Noted) →
-        FieldsGo t work.old rest.now (map atom done.items) (kty (tree ty.now)) depth work.new r) }
+        FieldsGo t work.old rest.now (map atom done.items) (tree ty.now) depth work.new r) }
     ensures inside { IfOk result (λ r. (m : ℕ) → All (λ i. i < m) rest.now → KeptIn m work.old → Inside m work.new r) }
 {
     match rest.split_first() {
         None => {
-            put_tuple(&mut work.out, &done, k_type(alloc, ty)?, depth)?;
+            let made = k_type_at(alloc, ty, work.types, &work.levels)?;
+            put_tuple(&mut work.out, &done, made, depth)?;
             let inside = deeper(depth)?;
             Ok(Control::Give {
                 atom: Atom::Level(depth),

@@ -60,18 +60,54 @@ pub(crate) enum Frame<'a> {
         other: u64,
         level: u64,
     },
+    /// It has the innermost name in what is next.
+    Let {
+        body: u64,
+    },
+    /// It is a package: it is unpacked, and what it holds has the innermost name in what is next, its hidden type the
+    /// innermost type name.
+    Open {
+        body: u64,
+        ty: &'a FType,
+    },
+    /// The innermost name goes.
+    Leave,
+    /// The innermost type name goes.
+    LeaveType,
+    /// It is packed.
+    Pack {
+        hidden: &'a FType,
+        ty: &'a FType,
+    },
+    /// A cell is made that holds it.
+    Ref {
+        ty: &'a FType,
+    },
+    /// It is a cell: what it holds is named.
+    Deref {
+        ty: &'a FType,
+    },
+    /// It is a cell: what is put there is next.
+    Cell {
+        value: u64,
+    },
+    /// It is put in a cell.
+    Set {
+        cell: Atom,
+    },
 }
 
-/// What comes where a term has ended.
+/// What comes where a term has ended. `types` is the number of type variables there.
 #[derive(Clone, Copy)]
 pub(crate) enum Pending<'a> {
     /// The term was the body of a `fix`, which gets a name.
     Fix {
         depth: u64,
+        types: u64,
         arg: &'a FType,
         res: &'a FType,
     },
-    /// The term was the body of a `gen`, which gets a name; so many type variables are around it.
+    /// The term was the body of a `gen`, which gets a name.
     Gen {
         depth: u64,
         types: u64,
@@ -81,6 +117,7 @@ pub(crate) enum Pending<'a> {
     Other {
         node: u64,
         depth: u64,
+        types: u64,
         level: u64,
     },
     /// The term was what comes after an `if0`: its test and its branches come now.
@@ -89,10 +126,23 @@ pub(crate) enum Pending<'a> {
         zero: u64,
         other: u64,
         depth: u64,
+        types: u64,
         ty: &'a FType,
     },
     /// The term was the body of a code that is handed over.
     End,
+    /// The innermost name goes.
+    Leave,
+    /// The innermost type name goes.
+    LeaveType,
+    /// This is the innermost name again.
+    Enter {
+        atom: Atom,
+    },
+    /// This is the innermost type name again.
+    EnterType {
+        level: u64,
+    },
 }
 
 /// What is next.
@@ -103,13 +153,14 @@ pub(crate) enum Control {
     Ended,
 }
 
-/// The nodes so far, the frames, what comes where a term ends, the levels of the source's names, and the number of
-/// type variables in scope.
+/// The nodes so far, the frames, what comes where a term ends, what stands for the source's names, the levels of its
+/// type names, and the number of type variables in scope.
 #[derive(Drop)]
 pub(crate) struct Work<'a> {
     pub(crate) out: Vec<KNode>,
     pub(crate) frames: Vec<Frame<'a>>,
     pub(crate) pending: Vec<Pending<'a>>,
-    pub(crate) names: Vec<u64>,
+    pub(crate) names: Vec<Atom>,
+    pub(crate) levels: Vec<u64>,
     pub(crate) types: u64,
 }

@@ -11,8 +11,8 @@ pub loop-control-init : goal.loop-control-init
 loop-control-init c =
     let m = count c.args.term.now in
     record {
-      all = starts c.args.term.now c.args.types.now (record { out = c.new.result; frames = c.new-2.result; pending = c.new-3.result; names = c.new-4.result; types = 0 }) _
-          c.new.ensures.items c.new-2.ensures.items c.new-3.ensures.items c.new-4.ensures.items refl (ap (λ (k : ℕ). k - 1) c.count.ensures.number);
+      all = starts c.args.term.now c.args.types.now (record { out = c.new.result; frames = c.new-2.result; pending = c.new-3.result; names = c.new-4.result; levels = c.new-5.result; types = 0 }) _
+          c.new.ensures.items c.new-2.ensures.items c.new-3.ensures.items c.new-4.ensures.items c.new-5.ensures.items refl (ap (λ (k : ℕ). k - 1) c.count.ensures.number);
       inside = (omega (arith, c.count.ensures.number, c.count.ensures.some), all_same (FrameIn m) [] _ c.new-2.ensures.items (All-nil (FrameIn m)), all_same (PendingIn m) [] _ c.new-3.ensures.items (All-nil (PendingIn m)));
     }
 

@@ -1,12 +1,14 @@
 use Rattle.std.proofs.Common.{◌∙◌, ap}
 use Rattle.k_terms.specs.K as K
-use Rattle.k_terms.specs.K.{TKCode, NoKTys, MoreKTys}
+use Rattle.k_terms.specs.K.{NoKTys, MoreKTys}
 use Rattle.f_terms.specs.Read.{tree}
-use Rattle.k_laws.specs.Cps.{kty, taking}
+use Rattle.k_laws.specs.Cps.{kat, taking}
+use Rattle.k_pass.specs.Machine.{levels as levels_of}
 use Rattle.k_pass.proofs.TypeLists.{ktys_push}
 use Rattle.k_pass.proofs.types.fix_types.Goals as goal
 
 pub returns : goal.returns
 returns c =
-    ktys_push c.in_ok-types.types.items c.push.new.self.items _ (kty (tree c.args.arg.now)) c.in_ok-types.ensures c.in_ok-push.ensures.items
-    ∙ ap (λ (t : K.KTy). MoreKTys (kty (tree c.args.arg.now)) (MoreKTys t NoKTys)) (c.in_ok-taking_type.ensures ∙ ap taking c.in_ok-k.ensures)
+    let t = kat c.args.types (levels_of c.args.levels.now.items) (tree c.args.arg.now) in
+    ktys_push c.in_ok-args.args.items c.push.new.self.items _ t c.in_ok-args.ensures c.in_ok-push.ensures.items
+    ∙ ap (λ (u : K.KTy). MoreKTys t (MoreKTys u NoKTys)) (c.in_ok-taking_type.ensures ∙ ap taking c.in_ok-k.ensures)

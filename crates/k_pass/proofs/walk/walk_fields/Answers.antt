@@ -2,7 +2,6 @@ use Rattle.std.proofs.Common.{◌∙◌, ◌++◌, ◌∷◌, length, List, ap, 
 use Rattle.f_terms.specs.Read.{tree}
 use Rattle.k_terms.specs.Stream.{NTuple, NName}
 use Rattle.k_terms.specs.Read.{ktree}
-use Rattle.k_laws.specs.Cps.{kty}
 use Rattle.k_pass.specs.Emit.{atom_nodes}
 use Rattle.k_pass.specs.declared.work.Atom.{Atom}
 use Rattle.k_pass.specs.Machine.{atom, written}
@@ -21,10 +20,10 @@ returns-in-Some-clause-steps c =
 
 pub returns-in_ok-inside-in-None-clause-steps : goal.returns-in_ok-inside-in-None-clause-steps
 returns-in_ok-inside-in-None-clause-steps c = λ t.
-    fields_end t c.args.work.now c.put_tuple.new.out c.args.rest.now (map atom c.args.done.items) (kty (tree c.args.ty.now)) (ktree c.in_ok-k_type-in-None.field-0) c.args.depth c.in_ok-inside-in-None.inside
+    fields_end t c.args.work.now c.put_tuple.new.out c.args.rest.now (map atom c.args.done.items) (tree c.args.ty.now) (ktree c.in_ok-made-in-None.made) c.args.depth c.in_ok-inside-in-None.inside
     c.in-None.ensures.cases
-    (λ ns. c.in_ok-put_tuple-in-None.ensures ns ∙ ap (λ (xs : List Atom). written c.args.work.now ++ atom_nodes (map atom xs) (NTuple (length (map atom xs)) ∷ NName c.args.depth (ktree c.in_ok-k_type-in-None.field-0) ∷ ns)) c.deref.ensures.value)
-    c.in_ok-k_type-in-None.ensures c.in_ok-inside-in-None.ensures
+    (λ ns. c.in_ok-put_tuple-in-None.ensures ns ∙ ap (λ (xs : List Atom). written c.args.work.now ++ atom_nodes (map atom xs) (NTuple (length (map atom xs)) ∷ NName c.args.depth (ktree c.in_ok-made-in-None.made) ∷ ns)) c.deref.ensures.value)
+    c.in_ok-made-in-None.ensures c.in_ok-inside-in-None.ensures
 
 pub returns-in-Some-clause-inside : goal.returns-in-Some-clause-inside
 returns-in-Some-clause-inside c =

@@ -1,0 +1,10 @@
+use Rattle.std.proofs.Common.{refl}
+use Rattle.k_terms.specs.Stream.{NSet}
+use Rattle.k_pass.specs.declared.work.Frame.TheVariants as F
+use Rattle.k_pass.proofs.Gives.{takes_two}
+use Rattle.k_pass.proofs.give.give_set.Goals as goal
+
+pub returns-clause-steps : goal.returns-clause-steps
+returns-clause-steps c = λ t.
+    takes_two t c.args.work.now c.put_two.new.out (F.Set c.args.cell) c.args.cell c.args.given c.args.depth c.in_ok-inside.inside (NSet c.args.depth) refl refl
+    c.in_ok-put_two.ensures c.in_ok-inside.ensures

@@ -15,7 +15,7 @@ use Rattle.a_terms.specs.declared.nodes.AWrap.TheVariants.{Apply, Pack}
 use Rattle.a_terms.specs.declared.nodes.ABlock.{ABlock}
 use Rattle.a_terms.specs.TypeLaws.{field_shift, body_shift}
 use Rattle.a_scope.proofs.Filling.{filled_shift, field_filled_to, body_filled_to}
-use Rattle.a_scope.specs.Scope.{filled_to, noted, shown, scope, Under, Stands, Held, wrap_type, decl_ty}
+use Rattle.a_scope.specs.Scope.{filled_to, noted, shown, scope, homes, Under, Stands, Held, wrap_type, decl_ty}
 use Rattle.a_scope.specs.declared.scope.Entry.{Entry}
 
 -- places in lists
@@ -210,3 +210,11 @@ pub packed_of : (p : a.AProg) (g : List a.ATy) (v : a.AVal) (ws xs : List AWrap)
     Some (atree s) ≡ type_of p g (wrapped v ws)
 packed_of p g v ws xs same i x h s n is e =
     packed_last p g v xs i x h s n is e ∙ ap (λ ys. type_of p g (wrapped v ys)) same
+
+pub homes_snoc : (es : List Entry) (e : Entry) → homes (es ++ e ∷ []) ≡ e.register ∷ homes es
+homes_snoc [] e = refl
+homes_snoc (x ∷ es) e = ap (λ xs. xs ++ x.register ∷ []) (homes_snoc es e)
+
+pub length_homes : (es : List Entry) → length (homes es) ≡ length es
+length_homes [] = refl
+length_homes (e ∷ es) = omega (arith, length-append (homes es) (e.register ∷ []), length_homes es)

@@ -26,6 +26,11 @@ abbrev pub scope : ℕ → List Entry → List a.ATy
 scope k [] = []
 scope k (e ∷ es) = scope k es ++ shown k e ∷ []
 
+-- the registers of the variables, the last one first
+abbrev pub homes : List Entry → List ℕ
+homes [] = []
+homes (e ∷ es) = homes es ++ e.register ∷ []
+
 -- each type was noted where no more than k names were in scope
 abbrev pub Under : ℕ → List Entry → Type 0
 Under k [] = Unit {0}

@@ -9,7 +9,7 @@ ghost use Rattle.a_scope.specs.Scope.{scope, Under, Stands, decl_ty};
 ghost use Rattle.a_scope.specs.declared.scope.Entry.{Entry as TheEntry};
 
 use crate::field::{body_of_value, field_of_value};
-use crate::scope::{Entry, noted_now};
+use crate::scope::{Entry, noted_now, placed};
 use crate::sharing::shared;
 use crate::value::{first, type_of_value};
 use a_terms::parts::{filled_of, known, unset_tuple};
@@ -98,12 +98,13 @@ fn declared_entry(
     }
 }
 
-/// One more variable: the type names in scope then. An error is want of memory.
+/// One more variable, in this register: the type names in scope then. An error is want of memory.
 pub fn declare(
     alloc: Global,
     program: &AProgram,
     vars: &mut Vec<Entry>,
     names: u64,
+    register: u64,
     form: &AForm,
     values: &[AValue],
 ) -> Result<u64, OutOfMemory>
@@ -114,10 +115,11 @@ pub fn declare(
     ensures scope { OnOk result (scope (more_vars (a_decl form.now (a_values values.now)) names) vars.new.items
         ≡ declared (program_in program.now) (scope names vars.old.items) (a_decl form.now (a_values values.now))) }
     ensures more { OnOk result ((e : TheEntry) × (e.names ≤ more_vars (a_decl form.now (a_values values.now)) names)
-        × (vars.new.items ≡ vars.old.items ++ e ∷ [])) }
+        × (e.register ≡ register) × (vars.new.items ≡ vars.old.items ++ e ∷ [])) }
 {
     let after = names_after(form, values, names)?;
-    let entry = declared_entry(alloc, program, vars, names, after, form, values)?;
+    let made = declared_entry(alloc, program, vars, names, after, form, values)?;
+    let entry = placed(made, register);
     vars.push(entry)?;
     Ok(after)
 }

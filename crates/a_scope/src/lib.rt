@@ -8,5 +8,5 @@ mod sharing;
 mod value;
 
 pub use declaring::declare;
-pub use scope::{Entry, noted_now, show};
+pub use scope::{Entry, noted_now, placed, show};
 pub use value::{first, second, type_of_value};

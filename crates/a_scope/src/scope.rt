@@ -1,5 +1,5 @@
 // The variables in scope.
-ghost use Rattle.std.specs.Prelude.{◌≡◌, IfOk};
+ghost use Rattle.std.specs.Prelude.{◌≡◌, ℕ, IfOk};
 ghost use Rattle.a_terms.specs.Read.{atree};
 ghost use Rattle.a_scope.specs.Scope.{shown, noted, filled_to};
 
@@ -12,12 +12,13 @@ use std::rc::Rc;
 
 /// The type of a variable, as it was when `names` type names were in scope, with the first `filled` fields of the tuple
 /// initialised besides. It is shifted, and its fields are marked, where it is read. So the variables that stand for one
-/// tuple, one after each field that is initialised, share its type (own choice).
+/// tuple, one after each field that is initialised, share its type (own choice). `register` is where it lives.
 #[derive(Drop)]
 pub struct Entry {
     pub ty: Rc<AType>,
     pub filled: u64,
     pub names: u64,
+    pub register: u64,
 }
 
 /// A variable of this type, where `names` type names are in scope. An error is want of memory.
@@ -30,7 +31,19 @@ pub fn noted_now(alloc: Global, ty: AType, names: u64) -> Result<Entry, OutOfMem
         ty,
         filled: 0,
         names,
+        register: 0,
     })
+}
+
+/// The variable, living in this register.
+pub fn placed(entry: Entry, register: u64) -> Entry
+    ensures register { result.register ≡ register }
+    ensures names { result.names ≡ entry.names }
+    ensures shown { (k : ℕ) → shown k result ≡ shown k entry }
+{
+    let mut made = entry;
+    made.register = register;
+    made
 }
 
 /// One more variable of the same type, with this many fields initialised besides. An error is want of memory.
@@ -43,6 +56,7 @@ pub fn sharing(entry: &Entry, filled: u64) -> Result<Entry, OutOfMemory>
         ty,
         filled,
         names: entry.names,
+        register: 0,
     })
 }
 

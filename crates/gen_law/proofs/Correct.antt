@@ -5,8 +5,8 @@ use Rattle.std.proofs.lemmas.Bool.{cases_eq, cases_order, eq-eqb, ne_eqb}
 use Rattle.a_terms.specs.Tree as A
 use Rattle.a_terms.specs.Tree.{ATm, ABlk, AConsts, AProg, AVal, Var, Num, Lab, Data, Apply}
 use Rattle.a_terms.specs.Meaning.{AWord, Result, Halted, Spent, Wrong, value, datum, start_heap, meaning, NeverWrong}
-use Rattle.t_types.specs.Tree.{Ty, NoRegs}
-use Rattle.t_terms.specs.Tree.{TValue, Plain, Pack, TBlock}
+use Rattle.t_types.specs.Tree.{NoRegs}
+use Rattle.t_terms.specs.Tree.{TBlock}
 use Rattle.t_terms.specs.Whole.{Whole}
 use Rattle.t_rules.specs.Rules.{Accepted}
 use Rattle.t_rules.specs.Machine as M
@@ -16,7 +16,7 @@ use Rattle.t_rules.specs.Erase.{ESeq, EThen, EJmp, EHalt, EAt, EStep, EGoes, no_
 use Rattle.t_rules.specs.ErasedRuns.{RunsErase, HaltsErased, StepsFirst}
 use Rattle.t_rules.specs.LawsTimes.{TimesWithinEntries}
 use Rattle.a_terms.specs.Bound.{thirds}
-use Rattle.gen_law.specs.Gen.{tys, block, generated_blocks, generated, firsts, seconds, extras, applied_to, constant, data_of, generated_heap}
+use Rattle.gen_law.specs.Gen.{tys, block, generated_blocks, generated, firsts, seconds, extras, constant, data_of, generated_heap}
 use Rattle.gen_law.specs.GenLaws.{length_extras}
 use Rattle.gen_law.specs.Counting.{one, count, first_of, spare, share, share_of, credit, log_of, MadeOf}
 use Rattle.gen_law.specs.Correct.{FromMain, Keeps}
@@ -24,6 +24,7 @@ use Rattle.gen_law.proofs.Leads.{LState, On, logged, lstep, so, after}
 use Rattle.gen_law.proofs.Words.{word, slot, tuple, heap}
 use Rattle.gen_law.proofs.Lift.{HaltsAt, start_of, count_same, run_logged, halts_typed, typed_halts}
 use Rattle.gen_law.proofs.Places.{has_all, has_front, has_back, length_firsts}
+use Rattle.gen_law.proofs.Loads.{applied_base}
 use Rattle.gen_law.proofs.Runs.{IsCalling, entered, Follows, term_runs, calls_run}
 
 -- the blocks entered are kept
@@ -98,10 +99,6 @@ held_slot : (o : Option AWord) → held (option_map word o) ≡ slot o
 held_slot None = refl
 held_slot (Some w) = refl
 
-applied_base : (v : TValue) (ts : List Ty) → erase_value (applied_to v ts) ≡ erase_value v
-applied_base (Plain b us) ts = refl
-applied_base (Pack h v s) ts = refl
-
 constant_word : (v : AVal) → base_word no_ewords (erase_value (constant v)) ≡ option_map word (value [] v)
 constant_word (Var n) = refl
 constant_word (Num i) = refl
@@ -117,6 +114,9 @@ tuple_word (c ∷ cs) = ap₂ (λ o q. o ∷ q) (ap held (constant_word c.value)
 heap_word : (xs : List AConsts) → map (map erase_datum) (generated_heap xs) ≡ heap (start_heap xs)
 heap_word [] = refl
 heap_word (x ∷ xs) = ap₂ (λ o q. o ∷ q) (tuple_word x) (heap_word xs)
+
+no_variable : (n : ℕ) (w : AWord) → slice_get [] n ≡ Some w → ⊥
+no_variable n w x = cc
 
 -- the simulation, from the start
 module _ (p : AProg) (main : ATm) (k : ℕ) where
@@ -137,24 +137,24 @@ module _ (p : AProg) (main : ATm) (k : ℕ) where
   limit = credit p.blocks (at + thirds main) k budget
 
   abbrev begins : LState
-  begins = start_of (generated p main) (block 0 NoRegs 0 at main)
+  begins = start_of (generated p main) (block 0 NoRegs [] at main)
 
   follows : (c : ℕ) → Follows B k limit begins c (meaning p main c)
   follows c =
       let fs = firsts p.blocks (at + thirds main) in
-      let es = extras p 0 0 [] at main in
+      let es = extras p 0 [] [] at main in
       let ss = seconds p p.blocks (at + thirds main) in
       let all = (has_all P).1 in
       let n1 = length_firsts p.blocks (at + thirds main) in
-      let n2 = length_extras p 0 0 [] at main in
+      let n2 = length_extras p 0 [] [] at main in
       let blocks = has_front P 1 fs (es ++ ss) all in
       let rest = has_back P 1 at fs (es ++ ss) (omega arith) all in
       let thirds_main = has_front P at es ss rest in
       let thirds_rest = has_back P at (at + thirds main) es ss (omega arith) rest in
       let base : count k (0 ∷ []) + spare k at (thirds main) ≤ limit [] = omega arith in
-      let first = block 0 NoRegs 0 at main in
+      let first = block 0 NoRegs [] at main in
       subst (λ h. Follows B k limit (On (EAt h no_ewords (erase_block first)) (0 ∷ [])) c (meaning p main c)) (sym (heap_word p.tuples))
-      (term_runs p P (at + thirds main) k budget blocks thirds_rest c (calls_run p P (at + thirds main) k budget blocks thirds_rest c) main [] 0 at [] (start_heap p.tuples) [] no_ewords (0 ∷ []) tt thirds_main base)
+      (term_runs p P (at + thirds main) k budget blocks thirds_rest c (calls_run p P (at + thirds main) k budget blocks thirds_rest c) main [] 0 at [] [] (start_heap p.tuples) [] no_ewords (0 ∷ []) (λ n w y x. absurd (no_variable n w x)) thirds_main base)
 
   back_from : (m n : ℕ) (i : ℤ) (t : LState) → n ≤ m → after B n begins ≡ Some t → HaltsAt t i → (r : Result) → ((log : List ℕ) → r ≡ Wrong log → ⊥) → Follows B k limit begins m r → (log : List ℕ) × (r ≡ Halted i log)
   back_from m n i t le a h (Halted j log) ne f =
@@ -292,7 +292,7 @@ credit_zero bs at main (j ∷ log) l = let r = credit_zero bs at main log l in l
 
 module _ (runs : RunsErase) (halts : HaltsErased) (steps : StepsFirst) (times : TimesWithinEntries) (p : AProg) (main : ATm) (never : NeverWrong p main) (whole : Whole (generated p main)) (acc : Accepted (generated p main)) where
   abbrev first_block : TBlock
-  first_block = block 0 NoRegs 0 (suc (length p.blocks)) main
+  first_block = block 0 NoRegs [] (suc (length p.blocks)) main
 
   abbrev n : ℕ
   n = suc (length p.blocks)

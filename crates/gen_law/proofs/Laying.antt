@@ -6,7 +6,7 @@ use Rattle.a_terms.specs.Typing.{declared, more_vars, types_of}
 use Rattle.t_terms.specs.Tree.{TBlock}
 use Rattle.a_terms.specs.Bound.{thirds, all_thirds}
 use Rattle.gen_law.specs.Counting.{first_of}
-use Rattle.gen_law.specs.Gen.{extras, firsts, seconds, data_of, generated_blocks, generated_heap}
+use Rattle.gen_law.specs.Gen.{target, extras, rows, firsts, seconds, data_of, generated_blocks, generated_heap}
 use Rattle.gen_law.specs.GenLaws.{length_extras}
 use Rattle.gen_law.specs.Layout.{LaidOut, ThirdsAt}
 use Rattle.gen_law.proofs.Places.{HasAt, has_all, has_back, has_front, length_firsts, block_at, extras_at}
@@ -14,9 +14,9 @@ use Rattle.gen_law.proofs.Places.{HasAt, has_all, has_back, has_front, length_fi
 length_seconds : (p : AProg) (bs : List ABlk) (at : ℕ) → length (seconds p bs at) ≡ all_thirds bs
 length_seconds p [] at = refl
 length_seconds p (b ∷ bs) at =
-    let es = extras p b.owes (arity b.args) (types_of b.args []) at b.body in
+    let es = extras p b.owes (rows (arity b.args)) (types_of b.args []) at b.body in
     let rest = seconds p bs (at + thirds b.body) in
-    omega (arith, length-append es rest, length_extras p b.owes (arity b.args) (types_of b.args []) at b.body, length_seconds p bs (at + thirds b.body))
+    omega (arith, length-append es rest, length_extras p b.owes (rows (arity b.args)) (types_of b.args []) at b.body, length_seconds p bs (at + thirds b.body))
 
 length_heap : (xs : List AConsts) → length (generated_heap xs) ≡ length xs
 length_heap [] = refl
@@ -27,15 +27,15 @@ tuple_at [] n x e = cc
 tuple_at (y ∷ xs) zero x e = ap (option_map data_of) e
 tuple_at (y ∷ xs) (suc n) x e = tuple_at xs n x e
 
-thirds_at : (P : List TBlock) (p : AProg) (k d : ℕ) (g : List ATy) (at : ℕ) (e : ATm) → HasAt P at (extras p k d g at e) → ThirdsAt P p k d g at e
-thirds_at P p k d g at (Let x e) h = thirds_at P p (more_vars x k) (suc d) (declared p g x) at e h
-thirds_at P p k d g at (Call v ts vs) h = tt
-thirds_at P p k d g at (If0 v a b) h =
-    let ea = extras p k d g (suc at) a in
-    let eb = extras p k d g (suc at + thirds a) b in
-    let n = length_extras p k d g (suc at) a in
-    (h.0, thirds_at P p k d g (suc at) a (has_front P (suc at) ea eb h.1), thirds_at P p k d g (suc at + thirds a) b (has_back P (suc at) (suc at + thirds a) ea eb (ap (λ i. suc at + i) (sym n)) h.1))
-thirds_at P p k d g at (Halt v) h = tt
+thirds_at : (P : List TBlock) (p : AProg) (k : ℕ) (m : List ℕ) (g : List ATy) (at : ℕ) (e : ATm) → HasAt P at (extras p k m g at e) → ThirdsAt P p k m g at e
+thirds_at P p k m g at (Let x e) h = thirds_at P p (more_vars x k) (target m x e ∷ m) (declared p g x) at e h
+thirds_at P p k m g at (Call v ts vs) h = tt
+thirds_at P p k m g at (If0 v a b) h =
+    let ea = extras p k m g (suc at) a in
+    let eb = extras p k m g (suc at + thirds a) b in
+    let n = length_extras p k m g (suc at) a in
+    (h.0, thirds_at P p k m g (suc at) a (has_front P (suc at) ea eb h.1), thirds_at P p k m g (suc at + thirds a) b (has_back P (suc at) (suc at + thirds a) ea eb (ap (λ i. suc at + i) (sym n)) h.1))
+thirds_at P p k m g at (Halt v) h = tt
 
 pub laid_out : LaidOut
 laid_out p main =
@@ -43,10 +43,10 @@ laid_out p main =
     let at = suc (length p.blocks) in
     let at0 = at + thirds main in
     let fs = firsts p.blocks at0 in
-    let es = extras p 0 0 [] at main in
+    let es = extras p 0 [] [] at main in
     let ss = seconds p p.blocks at0 in
     let l1 = length_firsts p.blocks at0 in
-    let l2 = length_extras p 0 0 [] at main in
+    let l2 = length_extras p 0 [] [] at main in
     let l3 = length_seconds p p.blocks at0 in
     let l4 = length-append fs (es ++ ss) in
     let l5 = length-append es ss in
@@ -56,8 +56,8 @@ laid_out p main =
     record {
       main_block = refl;
       blocks = λ l b e. (let z : 1 + l ≡ suc l = omega arith in ap (slice_get P) (sym z) ∙ block_at P p.blocks 1 at0 l b there e);
-      main_thirds = thirds_at P p 0 0 [] at main (has_front P at es ss others);
-      block_thirds = λ l b e. thirds_at P p b.owes (arity b.args) (types_of b.args []) (first_of p.blocks at0 l) b.body (extras_at P p p.blocks at0 l b later e);
+      main_thirds = thirds_at P p 0 [] [] at main (has_front P at es ss others);
+      block_thirds = λ l b e. thirds_at P p b.owes (rows (arity b.args)) (types_of b.args []) (first_of p.blocks at0 l) b.body (extras_at P p p.blocks at0 l b later e);
       count = omega (arith, l1, l2, l3, l4, l5);
       tuples = tuple_at p.tuples;
       tuple_count = length_heap p.tuples;

@@ -1,16 +1,20 @@
+mod Accepted
 mod Correct
 mod Covers
 mod Decls
 mod Flats
+pub mod Free
 mod Laying
 mod Leads
 mod Lift
 mod Loads
+pub mod Own
 mod Places
 mod Rows
 mod Runs
 mod TypeLaws
 mod Typed
 mod TypedEach
+mod Values
 mod Wholes
 mod Words

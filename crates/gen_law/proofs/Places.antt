@@ -4,7 +4,7 @@ use Rattle.std.specs.Prelude.{slice_get}
 use Rattle.a_terms.specs.Tree.{ABlk, AProg, arity}
 use Rattle.t_terms.specs.Tree.{TBlock}
 use Rattle.a_terms.specs.Typing.{types_of}
-use Rattle.gen_law.specs.Gen.{ty_args, block, extras, firsts, seconds}
+use Rattle.gen_law.specs.Gen.{ty_args, block, extras, rows, firsts, seconds}
 use Rattle.a_terms.specs.Bound.{thirds}
 use Rattle.gen_law.specs.GenLaws.{length_extras}
 use Rattle.gen_law.specs.Counting.{first_of}
@@ -39,10 +39,10 @@ pub has_all : (xs : List TBlock) → HasAt xs 0 xs
 has_all xs = has_self [] xs 0 refl
 
 abbrev pub main_block : ABlk → ℕ → TBlock
-main_block b at = block b.owes (ty_args b.args 1) (arity b.args) at b.body
+main_block b at = block b.owes (ty_args b.args 1) (rows (arity b.args)) at b.body
 
 abbrev pub main_extras : AProg → ABlk → ℕ → List TBlock
-main_extras p b at = extras p b.owes (arity b.args) (types_of b.args []) at b.body
+main_extras p b at = extras p b.owes (rows (arity b.args)) (types_of b.args []) at b.body
 
 pub length_firsts : (bs : List ABlk) (at : ℕ) → length (firsts bs at) ≡ length bs
 length_firsts [] at = refl
@@ -64,5 +64,5 @@ extras_at P p (c ∷ bs) at zero b h e =
     let same : c ≡ b = cc in
     subst (λ x. HasAt P at (main_extras p x at)) same (has_front P at (main_extras p c at) _ h)
 extras_at P p (c ∷ bs) at (suc l) b h e =
-    let n = length_extras p c.owes (arity c.args) (types_of c.args []) at c.body in
+    let n = length_extras p c.owes (rows (arity c.args)) (types_of c.args []) at c.body in
     extras_at P p bs (at + thirds c.body) l b (has_back P at (at + thirds c.body) (main_extras p c at) _ (ap (λ k. at + k) (sym n)) h) e

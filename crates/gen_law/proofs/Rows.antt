@@ -2,11 +2,11 @@
 use Rattle.std.proofs.Common.{◌≡◌, ℕ, suc, List, [], ◌∷◌, Option, Some, None, refl, ap, arith, slice_get, take}
 use Rattle.std.specs.Prelude.{ℤ, pos}
 use Rattle.std.specs.Int.{int_wrap}
-use Rattle.idx_core.specs.declared.arith.Op.TheVariants.{Sub}
+use Rattle.idx_core.specs.declared.arith.Op.TheVariants.{Add, Sub}
 use Rattle.a_terms.specs.Tree.{ATy, AInt, AVar, NoATys, MoreATys, AVal, Var, Num, Lab, Arith, ATm, Let, Call, If0, Halt, AProg}
 use Rattle.a_terms.specs.Typing.{Fine, type_of, Has, Program-ok}
 use Rattle.a_terms.specs.Meaning.{Halted, meaning}
-use Rattle.t_types.specs.Tree.{IntTy, NoRegs, MoreRegs}
+use Rattle.t_types.specs.Tree.{IntTy, VarTy, ExistsTy, NoRegs, MoreRegs}
 use Rattle.t_terms.specs.Tree as T
 use Rattle.t_terms.specs.Tree.{TSeq, Then, Ends, TBlock, TProg}
 use Rattle.t_terms.specs.Whole.{Whole}
@@ -14,10 +14,10 @@ use Rattle.t_rules.specs.Rules.{Accepted}
 use Rattle.t_rules.specs.Machine.{Place}
 use Rattle.t_rules.specs.Erase.{EState, erase_blocks, EHaltedWith}
 use Rattle.t_rules.specs.ErasedRuns.{EOn, erun, begun}
-use Rattle.gen_law.specs.Gen.{generated}
+use Rattle.gen_law.specs.Gen.{reg, generated}
 use Rattle.gen_law.specs.Layout.{Layout}
-use Rattle.gen_law.specs.Worked.{factorial, of_five, downs_alone, counting}
-use Rattle.gen_law.proofs.Typed.{accepted}
+use Rattle.gen_law.specs.Worked.{factorial, of_five, downs_alone, counting, example, of_eight, exchange, exchanging, alone, nested, assigned}
+use Rattle.gen_law.proofs.Accepted.{accepted}
 use Rattle.gen_law.proofs.Wholes.{whole}
 
 has : {p : AProg} {k : ℕ} {g : List ATy} {v : AVal} {t : ATy} → Fine p k g v → type_of p g v ≡ Some t → Has p k g v t
@@ -46,7 +46,7 @@ factorial_whole : Whole (generated factorial of_five)
 factorial_whole = whole factorial of_five factorial_typed (100, search arith, search arith, search arith)
 
 -- five blocks and two data tuples; the machine of the generated program halts with 120
-factorial_halts : ErasedHalts (generated factorial of_five) 252 (pos 120)
+factorial_halts : ErasedHalts (generated factorial of_five) 101 (pos 120)
 unfolding int_wrap
 factorial_halts = (_, _, _, _, refl, refl, refl)
 
@@ -68,9 +68,26 @@ unfolding int_wrap
 down_means = refl
 
 -- an `if0` under a type variable
-down_halts : ErasedHalts (generated downs_alone counting) 52 (pos 7)
+down_halts : ErasedHalts (generated downs_alone counting) 20 (pos 7)
 unfolding int_wrap
 down_halts = (_, _, _, _, refl, refl, refl)
+
+-- the program of the document on the passes: 49 instructions
+example_halts : ErasedHalts (generated example of_eight) 49 (pos 9)
+unfolding int_wrap
+example_halts = (_, _, _, _, refl, refl, refl)
+
+-- a register that a later argument reads is saved, and its own argument is not moved twice
+exchanged_is : (generated exchange exchanging).blocks ≡ (record { owes = 0; file = NoRegs; code = (Then (T.Mov 1 (T.Plain (T.Int (pos 3)) [])) (Then (T.Mov 2 (T.Plain (T.Int (pos 0)) [])) (Ends (T.Jmp (T.Plain (T.Label 1) []))))) } ∷ record { owes = 0; file = (MoreRegs 1 IntTy (MoreRegs 2 IntTy NoRegs)); code = (Then (T.Bnz 1 (T.Plain (T.Label 2) [])) (Then (T.Mov 1 (reg 2)) (Ends T.Halt))) } ∷ record { owes = 0; file = (MoreRegs 1 IntTy (MoreRegs 2 IntTy NoRegs)); code = (Then (T.Mov 3 (reg 1)) (Then (T.Mov 1 (reg 2)) (Then (T.Mov 2 (reg 3)) (Ends (T.Jmp (T.Plain (T.Label 1) [])))))) } ∷ [])
+exchanged_is = refl
+
+-- a package inside a package is put into a register first
+nested_is : (generated alone nested).blocks ≡ (record { owes = 0; file = NoRegs; code = (Then (T.Mov 1 (T.Pack IntTy (T.Plain (T.Int (pos 7)) []) (ExistsTy (VarTy 0)))) (Then (T.Mov 1 (T.Pack (ExistsTy (VarTy 0)) (reg 1) (ExistsTy (VarTy 0)))) (Then (T.Unpack 1 (reg 1)) (Then (T.Mov 1 (T.Plain (T.Int (pos 1)) [])) (Ends T.Halt))))) } ∷ [])
+nested_is = refl
+
+-- a tuple stays in its register, and the third part takes the one register that it reads
+assigned_is : (generated alone assigned).blocks ≡ (record { owes = 0; file = NoRegs; code = (Then (T.Malloc 1 (IntTy ∷ [])) (Then (T.Mov 3 (T.Plain (T.Int (pos 3)) [])) (Then (T.St 1 0 3) (Then (T.Mov 3 (T.Plain (T.Int (pos 4)) [])) (Then (T.St 1 0 3) (Then (T.Mov 2 (T.Plain (T.Int (pos 20)) [])) (Then (T.Arith Add 2 2 (T.Plain (T.Int (pos 1)) [])) (Then (T.Ld 1 1 0) (Then (T.Bnz 1 (T.Plain (T.Label 1) [])) (Then (T.Mov 1 (T.Plain (T.Int (pos 0)) [])) (Ends T.Halt))))))))))) } ∷ record { owes = 0; file = (MoreRegs 1 IntTy NoRegs); code = (Ends T.Halt) } ∷ [])
+assigned_is = refl
 
 -- main: if 0 is 0 then L0(5, 2) else halt 1; L0(x: int, y: int). d = x - y; halt d
 abbrev minus : AProg
@@ -85,15 +102,9 @@ choice = If0 (Num (pos 0)) (Call (Lab 0) NoATys (Num (pos 5) ∷ Num (pos 2) ∷
 abbrev number_in : ℕ → ℤ → TSeq → TSeq
 number_in r i rest = Then (T.Mov r (T.Plain (T.Int i) [])) rest
 
-abbrev moved : ℕ → ℕ → TSeq → TSeq
-moved r from rest = Then (T.Mov r (T.Plain (T.Reg from) [])) rest
-
--- a call puts the code and then the arguments above all variables, and moves the arguments down to the registers from 1
--- on; `called` is the register of the first one
-abbrev calls_minus : ℕ → TSeq
-calls_minus first =
-    Then (T.Mov 3 (T.Plain (T.Label 1) []))
-    (number_in 4 (pos 5) (number_in 5 (pos 2) (moved first 4 (moved (suc first) 5 (Ends (T.Jmp (T.Plain (T.Reg 3) [])))))))
+-- a call puts its arguments into the registers from 1 on; `called` is the register of the first one
+abbrev pub calls_minus : ℕ → TSeq
+calls_minus called = number_in called (pos 5) (number_in (suc called) (pos 2) (Ends (T.Jmp (T.Plain (T.Label 1) []))))
 
 abbrev halts_with_one : TSeq
 halts_with_one = number_in 1 (pos 1) (Ends T.Halt)
@@ -107,7 +118,7 @@ minus_code now third = record {
       ∷ record {
         owes = 0;
         file = MoreRegs 1 IntTy (MoreRegs 2 IntTy NoRegs);
-        code = moved 3 1 (moved 4 2 (Then (T.Arith Sub 3 3 (T.Plain (T.Reg 4) [])) (moved 1 3 (Ends T.Halt))));
+        code = Then (T.Arith Sub 1 1 (T.Plain (T.Reg 2) [])) (Ends T.Halt);
       }
       ∷ record { owes = 0; file = NoRegs; code = third }
       ∷ [];

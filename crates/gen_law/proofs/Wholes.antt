@@ -1,18 +1,22 @@
 -- The generated program keeps the invariant of programs.
-use Rattle.std.proofs.Common.{◌≡◌, ℕ, zero, suc, ◌+◌, ◌-◌, ◌<◌, ◌≤◌, List, [], ◌∷◌, ◌++◌, length, Some, refl, sym, ap, ◌∙◌, subst, arith, length-append, slice_get}
+use Rattle.std.proofs.Common.{◌≡◌, ℕ, zero, suc, ◌+◌, ◌-◌, ◌<◌, ◌≤◌, List, [], ◌∷◌, ◌++◌, length, Some, refl, sym, ap, ◌∙◌, subst, arith, ⊎_elim, length-append, slice_get}
+use Rattle.std.specs.Prelude.{◌||◌, ◌==◌, nat_lt, Bool, true, false, cond, not, ◌&&◌, map}
+use Rattle.std.proofs.lemmas.Bool.{cond_both, eqb-true, eq-eqb, ltb-true, ltb-false, cases_order}
 use Rattle.std.proofs.lemmas.Option.{slice_get_within}
 use Rattle.a_terms.specs.Tree.{ATy, AInt, AVar, ATuple, ACode, AExists, ATys, NoATys, MoreATys, AFields, NoAFields, MoreAFields, AVal, Var, Num, Lab, Data, Apply, Pack, ADecl, Value, Proj, Arith, Unpack, Malloc, Init, ATm, Let, Call, If0, Halt, ABlk, AConsts, AProg, arity, ABelow, ABelow-types, ABelow-fields}
 use Rattle.a_terms.specs.Typing.{data_fields, type_of, Fine, declared, more_vars, Decl-ok, All-have, Term-ok, types_of, Blocks-ok, Data-ok, Tuples-ok, Program-ok}
-use Rattle.a_terms.specs.TypeLaws.{All-below, Args-below, args_below, declared_below, below_args, split_code, split_data, split_applied, length_declared, length_types_of}
+use Rattle.a_terms.specs.TypeLaws.{All-below, Args-below, args_below, declared_below, below_args, split_code, split_data, split_applied, length_declared, length_maps, length_types_of}
 use Rattle.a_terms.specs.Sizes.{bulk, bulk_types, bulk_fields, value_weight, values_weight, decl_weight, weight, Blocks-fit, Data-fit, Tuples-fit, Fits-in}
 use Rattle.a_terms.specs.SizeLaws.{All-small, Labels-small, small_declared, small_args, sum_least}
 use Rattle.t_types.specs.Tree.{Ty, TFile, NoRegs, MoreRegs}
-use Rattle.t_types.specs.WellFormed.{max_number, max_names, WellFormed, RegsAbove, WellFormedFields, WellFormedTypes}
+use Rattle.t_types.specs.WellFormed.{max_number, max_names, IsRegister, WellFormed, RegsAbove, WellFormedFields, WellFormedTypes}
 use Rattle.t_terms.specs.Tree as T
 use Rattle.t_terms.specs.Tree.{TValue, TSeq, Then, Ends, TBlock}
 use Rattle.t_terms.specs.Whole.{HasNoRegister, WellFormedValue, WellFormedSeq, WellFormedBlocks, WellFormedData, WellFormedHeap, Whole}
-use Rattle.gen_law.specs.Gen.{ty, ty_args, ty_fields, tys, reg, into, intos, downs, above, decl_code, tvars, code, file_onto, extras, firsts, seconds, generated_blocks, applied_to, constant, data_of, generated_heap, generated}
+use Rattle.gen_law.specs.Gen.{ty, ty_args, ty_fields, tys, place, inside, small, boxed, unnest, stands, move, home, settle, uses, used, top, over, free, owner, target, decl_code, later, owns, saved, above_saved, instead, places_saved, call_code, above, tvars, code, insert, header, extras, rows, firsts, seconds, generated_blocks, applied_to, constant, data_of, generated_heap, generated}
 use Rattle.a_terms.specs.Bound.{thirds}
+use Rattle.gen_law.proofs.Loads.{length_rows}
+use Rattle.gen_law.proofs.Free.{free_least}
 use Rattle.gen_law.proofs.Places.{length_firsts}
 use Rattle.gen_law.specs.GenLaws.{length_extras}
 
@@ -40,60 +44,219 @@ vars_whole : (n k : ℕ) → n ≤ k → WellFormedTypes k (tvars n)
 vars_whole zero k l = tt
 vars_whole (suc n) k l = (omega arith, vars_whole n k (omega arith))
 
-onto_whole : (n m : ℕ) (g : List ATy) (f : TFile) → n + m ≤ max_names → length g ≤ max_names → All-below n g → All-small m g → RegsAbove (length g) n f → RegsAbove 0 n (file_onto g f)
-onto_whole n m [] f le many b s h = h
-onto_whole n m (t ∷ g) f le many b s h =
-    onto_whole n m g (MoreRegs (suc (length g)) (ty t) f) le (omega arith) b.1 s.1 (omega arith, omega arith, type_whole t n b.0 (omega (arith, s.0)), h)
+insert_whole : (low r n : ℕ) (t : Ty) (f : TFile) → low < r → r ≤ max_number → WellFormed n t → RegsAbove low n f → RegsAbove low n (insert r t f)
+insert_whole low r n t NoRegs lt hi w h = (lt, hi, w, tt)
+insert_whole low r n t (MoreRegs q u f) lt hi w h =
+    cond_both (r == q) (MoreRegs r t f) (cond (nat_lt r q) (MoreRegs r t (MoreRegs q u f)) (MoreRegs q u (insert r t f))) (RegsAbove low n)
+    (λ c. let same = eqb-true r q c in (lt, hi, w, subst (λ z. RegsAbove z n f) (sym same) h.3))
+    (λ c. cond_both (nat_lt r q) (MoreRegs r t (MoreRegs q u f)) (MoreRegs q u (insert r t f)) (RegsAbove low n)
+    (λ d. (lt, hi, w, (ltb-true r q d, h.1, h.2, h.3)))
+    (λ d.
+    let ge = ltb-false r q d in
+    let apart : r ≡ q → ⊥ = λ z. clash (sym (eq-eqb r q z) ∙ c) in
+    (h.0, h.1, h.2, insert_whole q r n t f (⊎_elim (λ z. absurd (apart z)) (λ z. ⊎_elim (λ y. absurd (omega arith)) (λ y. y) z) (cases_order r q)) hi w h.3)))
+  where
+    clash : true ≡ false → ⊥
+    clash y = cc
+
+-- each of them is a register
+abbrev Registers : List ℕ → Type 0
+Registers [] = Unit {0}
+Registers (r ∷ m) = IsRegister r × Registers m
+
+place_in : (m : List ℕ) (n : ℕ) → n < length m → Registers m → IsRegister (place m n)
+place_in [] n lt h = absurd (omega arith)
+place_in (r ∷ m) zero lt h = h.0
+place_in (r ∷ m) (suc n) lt h = place_in m n (omega arith) h.1
+
+-- none of them is greater
+abbrev Under : ℕ → List ℕ → Type 0
+Under k [] = Unit {0}
+Under k (r ∷ m) = (r ≤ k) × Under k m
+
+under_more : (k j : ℕ) (m : List ℕ) → k ≤ j → Under k m → Under j m
+under_more k j [] le h = tt
+under_more k j (r ∷ m) le h = (omega (arith, h.0), under_more k j m le h.1)
+
+under_place : (k : ℕ) (m : List ℕ) (n : ℕ) → Under k m → place m n ≤ k
+under_place k [] n h = omega arith
+under_place k (r ∷ m) zero h = h.0
+under_place k (r ∷ m) (suc n) h = under_place k m n h.1
+
+under_top : (b k : ℕ) (m : List ℕ) (u : ℕ → Bool) → b ≤ k → Under k m → top b m u ≤ k
+under_top b k [] u le h = le
+under_top b k (r ∷ m) u le h =
+    let first : cond (u 0 && nat_lt b r) r b ≤ k = cond_both (u 0 && nat_lt b r) r b (λ x. x ≤ k) (λ c. h.0) (λ c. le) in
+    under_top (cond (u 0 && nat_lt b r) r b) k m (λ n. u (suc n)) first h.1
+
+under_free : (m : List ℕ) (u : ℕ → Bool) → Under (length m) m → (1 ≤ free m u) × (free m u ≤ suc (length m))
+under_free m u h =
+    let f = free_least m u in
+    let t = under_top 0 (length m) m u (omega arith) h in
+    (f.0, omega (arith, f.1, t))
+
+rows_under : (n k : ℕ) → n ≤ k → Under k (rows n)
+rows_under zero k le = tt
+rows_under (suc n) k le = (le, rows_under n k (omega arith))
+
+rows_in : (n : ℕ) → n ≤ max_number → Registers (rows n)
+rows_in zero le = tt
+rows_in (suc n) le = ((omega arith, le), rows_in n (omega arith))
+
+header_whole : (n z : ℕ) (u : ℕ → Bool) (m : List ℕ) (g : List ATy) → n + z ≤ max_names → Registers m → All-below n g → All-small z g → RegsAbove 0 n (header u m g)
+header_whole n z u m [] le h b s = tt
+header_whole n z u [] (t ∷ g) le h b s = tt
+header_whole n z u (r ∷ m) (t ∷ g) le h b s =
+    let f = header (λ n. u (suc n)) m g in
+    let rest = header_whole n z (λ n. u (suc n)) m g le h.1 b.1 s.1 in
+    cond_both (u 0) (insert r (ty t) f) f (RegsAbove 0 n) (λ c. insert_whole 0 r n (ty t) f (omega (arith, h.0.0)) h.0.1 (type_whole t n b.0 (omega (arith, s.0))) rest) (λ c. rest)
 
 more_small : (low m : ℕ) (prog : AProg) → low ≤ m → Labels-small low prog → Labels-small m prog
 more_small low m prog le l = record { codes = λ i c e. omega (arith, l.codes i c e); data_in = λ i x e. omega (arith, l.data_in i x e) }
 
 module _ (prog : AProg) (p z : ℕ) (room : length prog.blocks < p) (all : length prog.tuples ≤ z) where
-  into_whole : (k : ℕ) (g : List ATy) (v : AVal) (t : ATy) (d r : ℕ) (rest : TSeq) → d ≡ length g → d ≤ max_names → 1 ≤ r → r ≤ max_number → k + value_weight v ≤ max_names → Fine prog k g v → type_of prog g v ≡ Some t → WellFormedSeq p z k rest → WellFormedSeq p z k (into d r v rest)
-  into_whole k g (Var i) t d r rest n many lo hi le f x s = let w = slice_get_within g i t x in (((lo, hi), ((omega arith, omega arith), tt)), omega arith, s)
-  into_whole k g (Num i) t d r rest n many lo hi le f x s = (((lo, hi), (tt, tt)), omega arith, s)
-  into_whole k g (Lab l) t d r rest n many lo hi le f x s =
-      let c = split_code (slice_get prog.blocks l) t x in let w = slice_get_within prog.blocks l c.0 c.1 in (((lo, hi), (omega arith, tt)), omega arith, s)
-  into_whole k g (Data l) t d r rest n many lo hi le f x s =
-      let c = split_data (slice_get prog.tuples l) t x in let w = slice_get_within prog.tuples l c.0 c.1 in (((lo, hi), (omega arith, tt)), omega arith, s)
-  into_whole k g (Apply v ts) t d r rest n many lo hi le f x s =
+  both_types : (k : ℕ) (us ts : List Ty) → WellFormedTypes k us → WellFormedTypes k ts → WellFormedTypes k (us ++ ts)
+  both_types k [] ts a b = b
+  both_types k (u ∷ us) ts a b = (a.0, both_types k us ts a.1 b)
+
+  applied_whole : (k : ℕ) (v : TValue) (ts : List Ty) → WellFormedValue p z k v → WellFormedTypes k ts → WellFormedValue p z k (applied_to v ts)
+  applied_whole k (T.Plain b us) ts a c = (a.0, both_types k us ts a.1 c)
+  applied_whole k (T.Pack h v s) ts a c = a
+
+  inside_whole : (k s : ℕ) (x : TValue) → IsRegister s → WellFormedValue p z k x → WellFormedValue p z k (inside s x)
+  inside_whole k s (T.Plain b us) r h = h
+  inside_whole k s (T.Pack y v w) r h = (r, tt)
+
+  small_whole : (k : ℕ) (g : List ATy) (m : List ℕ) (v : AVal) (t : ATy) (s : ℕ) → length m ≡ length g → Registers m → IsRegister s → k + value_weight v ≤ max_names → Fine prog k g v → type_of prog g v ≡ Some t → WellFormedValue p z k (small s m v)
+  small_whole k g m (Var i) t s n ms hs le f x = let w = slice_get_within g i t x in (place_in m i (omega arith) ms, tt)
+  small_whole k g m (Num i) t s n ms hs le f x = (tt, tt)
+  small_whole k g m (Lab l) t s n ms hs le f x =
+      let c = split_code (slice_get prog.blocks l) t x in let w = slice_get_within prog.blocks l c.0 c.1 in (omega arith, tt)
+  small_whole k g m (Data l) t s n ms hs le f x =
+      let c = split_data (slice_get prog.tuples l) t x in let w = slice_get_within prog.tuples l c.0 c.1 in (omega arith, tt)
+  small_whole k g m (Apply v ts) t s n ms hs le f x =
       let c = split_applied (type_of prog g v) ts t x in
-      into_whole k g v c.0 d r (Then (T.Mov r (T.Plain (T.Reg r) (tys ts))) rest) n many lo hi (omega arith) f.0 c.1
-      (((lo, hi), ((lo, hi), types_whole ts k f.1 (omega (arith, sum_least ts)))), omega arith, s)
-  into_whole k g (Pack h v u) t d r rest n many lo hi le f x s =
-      into_whole k g v _ d r (Then (T.Mov r (T.Pack (ty h) (reg r) (ty u))) rest) n many lo hi (omega arith) f.1 f.5
-      (((lo, hi), (type_whole h k f.2 (omega arith), ((lo, hi), tt), type_whole u k f.3 (omega arith))), omega arith, s)
+      applied_whole k (small s m v) (tys ts) (small_whole k g m v c.0 s n ms hs (omega arith) f.0 c.1) (types_whole ts k f.1 (omega (arith, sum_least ts)))
+  small_whole k g m (Pack h v u) t s n ms hs le f x =
+      (type_whole h k f.2 (omega arith), inside_whole k s (small s m v) hs (small_whole k g m v _ s n ms hs (omega arith) f.1 f.5), type_whole u k f.3 (omega arith))
 
-  intos_whole : (k : ℕ) (g : List ATy) (vs : List AVal) (us : ATys) (d r : ℕ) (rest : TSeq) → d ≡ length g → d ≤ max_names → 1 ≤ r → r + length vs ≤ max_number → k + values_weight vs ≤ max_names → All-have prog k g vs us → WellFormedSeq p z k rest → WellFormedSeq p z k (intos d r vs rest)
-  intos_whole k g [] us d r rest n many lo hi le a s = s
-  intos_whole k g (v ∷ vs) NoATys d r rest n many lo hi le a s = absurd a
-  intos_whole k g (v ∷ vs) (MoreATys t us) d r rest n many lo hi le a s =
-      into_whole k g v t d r (intos d (suc r) vs rest) n many lo (omega arith) (omega arith) a.0.fine a.0.is
-      (intos_whole k g vs us d (suc r) rest n many (omega arith) (omega arith) (omega arith) a.1 s)
+  boxed_whole : (k s : ℕ) (x : TValue) (rest : TSeq) → k ≤ max_names → IsRegister s → WellFormedValue p z k x → WellFormedSeq p z k rest → WellFormedSeq p z k (boxed s x rest)
+  boxed_whole k s (T.Plain b us) rest le r h c = c
+  boxed_whole k s (T.Pack y v w) rest le r h c = ((r, h), le, c)
 
-  downs_whole : (k m j r : ℕ) (rest : TSeq) → k ≤ max_names → 1 ≤ j → 1 ≤ r → j + m ≤ max_number → r + m ≤ max_number → WellFormedSeq p z k rest → WellFormedSeq p z k (downs m j r rest)
-  downs_whole k zero j r rest le a b c d s = s
-  downs_whole k (suc m) j r rest le a b c d s =
-      (((a, omega arith), ((b, omega arith), tt)), le, downs_whole k m (suc j) (suc r) rest le (omega arith) (omega arith) (omega arith) (omega arith) s)
+  unnest_whole : (k : ℕ) (g : List ATy) (m : List ℕ) (v : AVal) (t : ATy) (s : ℕ) (rest : TSeq) → length m ≡ length g → Registers m → IsRegister s → k + value_weight v ≤ max_names → Fine prog k g v → type_of prog g v ≡ Some t → WellFormedSeq p z k rest → WellFormedSeq p z k (unnest s m v rest)
+  unnest_whole k g m (Var i) t s rest n ms hs le f x c = c
+  unnest_whole k g m (Num i) t s rest n ms hs le f x c = c
+  unnest_whole k g m (Lab l) t s rest n ms hs le f x c = c
+  unnest_whole k g m (Data l) t s rest n ms hs le f x c = c
+  unnest_whole k g m (Apply v ts) t s rest n ms hs le f x c =
+      let d = split_applied (type_of prog g v) ts t x in unnest_whole k g m v d.0 s rest n ms hs (omega arith) f.0 d.1 c
+  unnest_whole k g m (Pack h v u) t s rest n ms hs le f x c =
+      unnest_whole k g m v _ s (boxed s (small s m v) rest) n ms hs (omega arith) f.1 f.5
+      (boxed_whole k s (small s m v) rest (omega arith) hs (small_whole k g m v _ s n ms hs (omega arith) f.1 f.5) c)
 
-  decl_whole : (k : ℕ) (g : List ATy) (x : ADecl) (d : ℕ) (rest : TSeq) → d ≡ length g → d + 2 ≤ max_names → k + decl_weight x ≤ max_names → Decl-ok prog k g x → WellFormedSeq p z (more_vars x k) rest → WellFormedSeq p z k (decl_code d x rest)
-  decl_whole k g (Value v) d rest n many le a s = into_whole k g v a.0 d (suc d) rest n (omega arith) (omega arith) (omega arith) (omega arith) a.1.fine a.1.is s
-  decl_whole k g (Proj i v) d rest n many le a s =
-      into_whole k g v (ATuple a.0) d (suc d) _ n (omega arith) (omega arith) (omega arith) (omega arith) a.3.fine a.3.is
-      (((omega arith, omega arith), (omega arith, omega arith), omega arith), omega arith, s)
-  decl_whole k g (Arith o v w) d rest n many le a s =
-      into_whole k g v AInt d (suc d) _ n (omega arith) (omega arith) (omega arith) (omega arith) a.0.fine a.0.is
-      (into_whole k g w AInt d (suc (suc d)) _ n (omega arith) (omega arith) (omega arith) (omega arith) a.1.fine a.1.is
-      (((omega arith, omega arith), (omega arith, omega arith), ((omega arith, omega arith), tt)), omega arith, s))
-  decl_whole k g (Unpack v) d rest n many le a s =
+  move_whole : (k r : ℕ) (x : TValue) (rest : TSeq) → k ≤ max_names → IsRegister r → WellFormedValue p z k x → WellFormedSeq p z k rest → WellFormedSeq p z k (move r x rest)
+  move_whole k r x rest le hr h c = cond_both (stands r x) rest (Then (T.Mov r x) rest) (WellFormedSeq p z k) (λ e. c) (λ e. ((hr, h), le, c))
+
+  settle_whole : (k s : ℕ) (x : TValue) (rest : TSeq) → k ≤ max_names → IsRegister s → WellFormedValue p z k x → WellFormedSeq p z k rest → WellFormedSeq p z k (settle s x rest)
+  settle_whole k s (T.Plain (T.Reg r) []) rest le hs h c = c
+  settle_whole k s (T.Plain (T.Reg r) (u ∷ us)) rest le hs h c = ((hs, h), le, c)
+  settle_whole k s (T.Plain (T.Int i) us) rest le hs h c = ((hs, h), le, c)
+  settle_whole k s (T.Plain (T.Label l) us) rest le hs h c = ((hs, h), le, c)
+  settle_whole k s (T.Plain (T.Data d) us) rest le hs h c = ((hs, h), le, c)
+  settle_whole k s (T.Pack y v w) rest le hs h c = ((hs, h), le, c)
+
+  home_in : (k s : ℕ) (x : TValue) → IsRegister s → WellFormedValue p z k x → IsRegister (home s x)
+  home_in k s (T.Plain (T.Reg r) []) hs h = h.0
+  home_in k s (T.Plain (T.Reg r) (u ∷ us)) hs h = hs
+  home_in k s (T.Plain (T.Int i) us) hs h = hs
+  home_in k s (T.Plain (T.Label l) us) hs h = hs
+  home_in k s (T.Plain (T.Data d) us) hs h = hs
+  home_in k s (T.Pack y v w) hs h = hs
+
+  free_in : (m : List ℕ) (u : ℕ → Bool) → Under (length m) m → suc (length m) ≤ max_number → IsRegister (free m u) × (free m u ≤ suc (length m))
+  free_in m u lo hi = let f = under_free m u lo in ((f.0, omega (arith, f.1)), f.1)
+
+  owner_in : (g : List ATy) (m : List ℕ) (v : AVal) (t : ATy) (u : ℕ → Bool) (e : ATm) → length m ≡ length g → Registers m → Under (length m) m → suc (length m) ≤ max_number → type_of prog g v ≡ Some t → IsRegister (owner m v u e) × (owner m v u e ≤ suc (length m))
+  owner_in g m (Var n) t u e l ms lo hi x =
+      cond_both (used e (suc n) && used e 0) (free m u) (place m n) (λ r. IsRegister r × (r ≤ suc (length m))) (λ c. free_in m u lo hi) (λ c. let w = slice_get_within g n t x in let y = under_place (length m) m n lo in (place_in m n (omega arith) ms, omega (arith, y)))
+  owner_in g m (Num i) t u e l ms lo hi x = free_in m u lo hi
+  owner_in g m (Lab i) t u e l ms lo hi x = free_in m u lo hi
+  owner_in g m (Data i) t u e l ms lo hi x = free_in m u lo hi
+  owner_in g m (Apply v ts) t u e l ms lo hi x = free_in m u lo hi
+  owner_in g m (Pack h v s) t u e l ms lo hi x = free_in m u lo hi
+
+  target_in : (k : ℕ) (g : List ATy) (m : List ℕ) (x : ADecl) (e : ATm) → length m ≡ length g → Registers m → Under (length m) m → suc (length m) ≤ max_number → Decl-ok prog k g x → IsRegister (target m x e) × (target m x e ≤ suc (length m))
+  target_in k g m (Value v) e l ms lo hi a = owner_in g m v a.0 (λ n. used e (suc n)) e l ms lo hi a.1.is
+  target_in k g m (Proj i v) e l ms lo hi a = free_in m (λ n. used e (suc n)) lo hi
+  target_in k g m (Arith o v w) e l ms lo hi a = free_in m (λ n. used e (suc n)) lo hi
+  target_in k g m (Unpack v) e l ms lo hi a = free_in m (λ n. used e (suc n)) lo hi
+  target_in k g m (Malloc ts) e l ms lo hi a = free_in m (λ n. used e (suc n)) lo hi
+  target_in k g m (Init v i w) e l ms lo hi a = owner_in g m v (ATuple a.0) (λ n. uses w n || used e (suc n)) e l ms lo hi a.3.is
+
+  decl_whole : (k : ℕ) (g : List ATy) (m : List ℕ) (x : ADecl) (r t : ℕ) (rest : TSeq) → length m ≡ length g → Registers m → IsRegister r → IsRegister t → IsRegister (suc t) → k + decl_weight x ≤ max_names → Decl-ok prog k g x → WellFormedSeq p z (more_vars x k) rest → WellFormedSeq p z k (decl_code t m r x rest)
+  decl_whole k g m (Value v) r t rest n ms hr ht ht2 le a s =
+      let x = small_whole k g m v a.0 t n ms ht (omega arith) a.1.fine a.1.is in
+      unnest_whole k g m v a.0 t _ n ms ht (omega arith) a.1.fine a.1.is
+      (move_whole k r (small t m v) rest (omega arith) hr x s)
+  decl_whole k g m (Proj i v) r t rest n ms hr ht ht2 le a s =
+      let x = small_whole k g m v (ATuple a.0) r n ms hr (omega arith) a.3.fine a.3.is in
+      unnest_whole k g m v (ATuple a.0) r _ n ms hr (omega arith) a.3.fine a.3.is
+      (settle_whole k r (small r m v) _ (omega arith) hr x ((hr, home_in k r (small r m v) hr x, omega arith), omega arith, s))
+  decl_whole k g m (Arith o v w) r t rest n ms hr ht ht2 le a s =
+      let x = small_whole k g m v AInt t n ms ht (omega arith) a.0.fine a.0.is in
+      let y = small_whole k g m w AInt (suc t) n ms ht2 (omega arith) a.1.fine a.1.is in
+      unnest_whole k g m v AInt t _ n ms ht (omega arith) a.0.fine a.0.is
+      (settle_whole k t (small t m v) _ (omega arith) ht x
+      (unnest_whole k g m w AInt (suc t) _ n ms ht2 (omega arith) a.1.fine a.1.is ((hr, home_in k t (small t m v) ht x, y), omega arith, s)))
+  decl_whole k g m (Unpack v) r t rest n ms hr ht ht2 le a s =
       let more : suc k ≡ k + 1 = omega arith in
-      into_whole k g v (AExists a.0) d (suc d) _ n (omega arith) (omega arith) (omega arith) (omega arith) a.1.fine a.1.is
-      (((omega arith, omega arith), ((omega arith, omega arith), tt)), omega arith, subst (λ q. WellFormedSeq p z q rest) more s)
-  decl_whole k g (Malloc ts) d rest n many le a s = (((omega arith, omega arith), types_whole ts k a (omega arith)), omega arith, s)
-  decl_whole k g (Init v i w) d rest n many le a s =
-      into_whole k g v (ATuple a.0) d (suc d) _ n (omega arith) (omega arith) (omega arith) (omega arith) a.3.fine a.3.is
-      (into_whole k g w a.2 d (suc (suc d)) _ n (omega arith) (omega arith) (omega arith) (omega arith) a.4.fine a.4.is
-      (((omega arith, omega arith), omega arith, (omega arith, omega arith)), omega arith, s))
+      let x = small_whole k g m v (AExists a.0) r n ms hr (omega arith) a.1.fine a.1.is in
+      unnest_whole k g m v (AExists a.0) r _ n ms hr (omega arith) a.1.fine a.1.is ((hr, x), omega arith, subst (λ q. WellFormedSeq p z q rest) more s)
+  decl_whole k g m (Malloc ts) r t rest n ms hr ht ht2 le a s = ((hr, types_whole ts k a (omega arith)), omega arith, s)
+  decl_whole k g m (Init v i w) r t rest n ms hr ht ht2 le a s =
+      let x = small_whole k g m v (ATuple a.0) (suc t) n ms ht2 (omega arith) a.3.fine a.3.is in
+      let y = small_whole k g m w a.2 (suc t) n ms ht2 (omega arith) a.4.fine a.4.is in
+      unnest_whole k g m v (ATuple a.0) (suc t) _ n ms ht2 (omega arith) a.3.fine a.3.is
+      (move_whole k r (small (suc t) m v) _ (omega arith) hr x
+      (unnest_whole k g m w a.2 (suc t) _ n ms ht2 (omega arith) a.4.fine a.4.is
+      (settle_whole k (suc t) (small (suc t) m w) _ (omega arith) ht2 y ((hr, omega arith, home_in k (suc t) (small (suc t) m w) ht2 y), omega arith, s))))
+
+  saved_whole : (k : ℕ) (o : Bool) (b r : ℕ) (rest : TSeq) → k ≤ max_names → IsRegister b → IsRegister r → WellFormedSeq p z k rest → WellFormedSeq p z k (saved o b r rest)
+  saved_whole k false b r rest le hb hr s = s
+  saved_whole k true b r rest le hb hr s = ((hb, (hr, tt)), le, s)
+
+  instead_in : (b r : ℕ) (m : List ℕ) → IsRegister b → Registers m → Registers (map (instead b r) m)
+  instead_in b r [] hb h = tt
+  instead_in b r (q ∷ m) hb h = (cond_both (q == r) b q IsRegister (λ c. hb) (λ c. h.0), instead_in b r m hb h.1)
+
+  places_in : (o : Bool) (b r : ℕ) (m : List ℕ) → IsRegister b → Registers m → Registers (places_saved o b r m) × (length (places_saved o b r m) ≡ length m)
+  places_in false b r m hb h = (h, refl)
+  places_in true b r m hb h = (instead_in b r m hb h, length_maps (instead b r) m)
+
+  above_in : (o : Bool) (b : ℕ) → (b ≤ above_saved o b) × (above_saved o b ≤ suc b)
+  above_in false b = (omega arith, omega arith)
+  above_in true b = (omega arith, omega arith)
+
+  call_whole : (k : ℕ) (g : List ATy) (c : AVal) (t : ATy) (ts : ATys) (vs : List AVal) (us : ATys) (j b : ℕ) (m : List ℕ) → length m ≡ length g → Registers m → 1 ≤ j → j + length vs ≤ max_number → 1 ≤ b → b + length vs ≤ max_number → k + (value_weight c + (bulk_types ts + values_weight vs)) ≤ max_names → Fine prog k g c → type_of prog g c ≡ Some t → ABelow-types k ts → All-have prog k g vs us → WellFormedSeq p z k (call_code j b m vs c (tys ts))
+  call_whole k g c t ts [] us j b m n ms lj hj lb hb le f x bs a =
+      let hb2 : IsRegister b = (lb, omega arith) in
+      unnest_whole k g m c t b _ n ms hb2 (omega arith) f x (applied_whole k (small b m c) (tys ts) (small_whole k g m c t b n ms hb2 (omega arith) f x) (types_whole ts k bs (omega arith)))
+  call_whole k g c t ts (v ∷ vs) NoATys j b m n ms lj hj lb hb le f x bs a = absurd a
+  call_whole k g c t ts (v ∷ vs) (MoreATys t1 us) j b m n ms lj hj lb hb le f x bs a =
+      let o = not (owns j m v) && later j m vs c in
+      let hb2 : IsRegister b = (lb, omega arith) in
+      let hj2 : IsRegister j = (lj, omega arith) in
+      let l = places_saved o b j m in
+      let b2 = above_saved o b in
+      let bound = above_in o b in
+      let here = places_in o b j m hb2 ms in
+      let hb3 : IsRegister b2 = (omega (arith, bound.0), omega (arith, bound.1)) in
+      let n2 : length l ≡ length g = here.1 ∙ n in
+      saved_whole k o b j _ (omega arith) hb2 hj2
+      (unnest_whole k g l v t1 b2 _ n2 here.0 hb3 (omega arith) a.0.fine a.0.is
+      (move_whole k j (small b2 l v) _ (omega arith) hj2 (small_whole k g l v t1 b2 n2 here.0 hb3 (omega arith) a.0.fine a.0.is)
+      (call_whole k g c t ts vs us (suc j) b2 l n2 here.0 (omega arith) (omega arith) hb3.0 (omega (arith, bound.1)) (omega arith) f x bs a.1)))
 
   decl_least : (x : ADecl) (k : ℕ) → (2 ≤ decl_weight x) × (more_vars x k ≤ k + 1)
   decl_least (Value v) k = (omega arith, omega arith)
@@ -109,70 +272,79 @@ module _ (prog : AProg) (p z : ℕ) (room : length prog.blocks < p) (all : lengt
   weight_least (If0 v a b) = omega arith
   weight_least (Halt v) = omega arith
 
-  term_whole : (e : ATm) (k : ℕ) (g : List ATy) (d at : ℕ) → d ≡ length g → d + weight e ≤ max_names → k + weight e ≤ max_names → at + thirds e ≤ p → Term-ok prog k g e → WellFormedSeq p z k (code k d at e)
-  term_whole (Let x e) k g d at n many le l a =
+  term_whole : (e : ATm) (k : ℕ) (g : List ATy) (m : List ℕ) (at : ℕ) → length m ≡ length g → Registers m → Under (length m) m → length m + weight e ≤ max_names → k + weight e ≤ max_names → at + thirds e ≤ p → Term-ok prog k g e → WellFormedSeq p z k (code k m at e)
+  term_whole (Let x e) k g m at n ms lo many le l a =
       let least = decl_least x k in
-      decl_whole k g x d _ n (omega (arith, weight_least e)) (omega arith) a.0
-      (term_whole e (more_vars x k) (declared prog g x) (suc d) at (ap suc n ∙ sym (length_declared prog g x)) (omega (arith, least.0)) (omega (arith, least.0, least.1)) l a.1)
-  term_whole (Call v ts vs) k g d at n many le l a =
-      let r = above d vs in
-      into_whole k g v a.0 d r _ n (omega arith) (omega arith) (omega arith) (omega arith) a.2.fine a.2.is
-      (intos_whole k g vs a.1 d (suc r) _ n (omega arith) (omega arith) (omega arith) (omega arith) a.5
-      (downs_whole k (length vs) 1 (suc r) _ (omega arith) (omega arith) (omega arith) (omega arith) (omega arith) ((omega arith, omega arith), types_whole ts k a.3 (omega arith))))
-  term_whole (If0 v x y) k g d at n many le l a =
-      into_whole k g v AInt d (suc d) _ n (omega arith) (omega arith) (omega arith) (omega arith) a.0.fine a.0.is
-      (((omega arith, omega arith), (omega arith, vars_whole k k (omega arith))), omega arith, term_whole x k g d (suc at) n (omega arith) (omega arith) (omega arith) a.1)
-  term_whole (Halt v) k g d at n many le l a = into_whole k g v AInt d 1 (Ends T.Halt) n (omega arith) (omega arith) (omega arith) (omega arith) a.fine a.is tt
+      let more = weight_least e in
+      let here = target_in k g m x e n ms lo (omega (arith, more)) a.0 in
+      let t = under_top 0 (length m) m (used (Let x e)) (omega arith) lo in
+      decl_whole k g m x (target m x e) (over m (used (Let x e))) _ n ms here.0 (omega arith, omega (arith, t, more)) (omega arith, omega (arith, t, more)) (omega arith) a.0
+      (term_whole e (more_vars x k) (declared prog g x) (target m x e ∷ m) at (ap suc n ∙ sym (length_declared prog g x)) (here.0, ms) (here.1, under_more (length m) (suc (length m)) m (omega arith) lo) (omega (arith, least.0)) (omega (arith, least.0, least.1)) l a.1)
+  term_whole (Call v ts vs) k g m at n ms lo many le l a =
+      let t = under_top (length vs) (length m + length vs) m (used (Call v ts vs)) (omega arith) (under_more (length m) (length m + length vs) m (omega arith) lo) in
+      call_whole k g v a.0 ts vs a.1 1 (above m v vs) m n ms (omega arith) (omega arith) (omega arith) (omega (arith, t)) (omega arith) a.2.fine a.2.is a.3 a.5
+  term_whole (If0 v x y) k g m at n ms lo many le l a =
+      let d = over m (used (If0 v x y)) in
+      let t = under_top 0 (length m) m (used (If0 v x y)) (omega arith) lo in
+      let hd : IsRegister d = (omega arith, omega (arith, t)) in
+      let s = small_whole k g m v AInt d n ms hd (omega arith) a.0.fine a.0.is in
+      unnest_whole k g m v AInt d _ n ms hd (omega arith) a.0.fine a.0.is
+      (settle_whole k d (small d m v) _ (omega arith) hd s
+      ((home_in k d (small d m v) hd s, (omega arith, vars_whole k k (omega arith))), omega arith, term_whole x k g m (suc at) n ms lo (omega arith) (omega arith) (omega arith) a.1))
+  term_whole (Halt v) k g m at n ms lo many le l a =
+      let d = over m (uses v) in
+      let t = under_top 0 (length m) m (uses v) (omega arith) lo in
+      let hd : IsRegister d = (omega arith, omega (arith, t)) in
+      unnest_whole k g m v AInt d _ n ms hd (omega arith) a.fine a.is
+      (move_whole k 1 (small d m v) (Ends T.Halt) (omega arith) (omega arith, omega arith) (small_whole k g m v AInt d n ms hd (omega arith) a.fine a.is) tt)
 
   both_whole : (xs ys : List TBlock) → WellFormedBlocks p z xs → WellFormedBlocks p z ys → WellFormedBlocks p z (xs ++ ys)
   both_whole [] ys a b = b
   both_whole (x ∷ xs) ys a b = (a.0, both_whole xs ys a.1 b)
 
   module _ (ok : Args-below prog) (low : ℕ) (labels : Labels-small low prog) where
-    -- m bounds the types in scope, and is no less than those of the labels
-    extras_whole : (e : ATm) (k m : ℕ) (g : List ATy) (d at : ℕ) → d ≡ length g → d + weight e ≤ max_names → k + (m + weight e) ≤ max_names → low ≤ m → at + thirds e ≤ p → All-below k g → All-small m g → Term-ok prog k g e → WellFormedBlocks p z (extras prog k d g at e)
-    extras_whole (Let x e) k m g d at n many le lo l b s a =
+    -- z2 bounds the types in scope, and is no less than those of the labels
+    extras_whole : (e : ATm) (k z2 : ℕ) (g : List ATy) (m : List ℕ) (at : ℕ) → length m ≡ length g → Registers m → Under (length m) m → length m + weight e ≤ max_names → k + (z2 + weight e) ≤ max_names → low ≤ z2 → at + thirds e ≤ p → All-below k g → All-small z2 g → Term-ok prog k g e → WellFormedBlocks p z (extras prog k m g at e)
+    extras_whole (Let x e) k z2 g m at n ms un many le lo l b s a =
         let least = decl_least x k in
-        extras_whole e (more_vars x k) (m + decl_weight x - 2) (declared prog g x) (suc d) at (ap suc n ∙ sym (length_declared prog g x)) (omega (arith, least.0)) (omega (arith, least.0, least.1)) (omega (arith, least.0)) l
-        (declared_below prog ok k g b x a.0) (small_declared prog m (more_small low m prog lo labels) g s x (m + decl_weight x - 2) (omega (arith, least.0))) a.1
-    extras_whole (Call v ts vs) k m g d at n many le lo l b s a = tt
-    extras_whole (If0 v x y) k m g d at n many le lo l b s a = (
-      (omega arith, onto_whole k m g NoRegs (omega arith) (omega arith) b s tt, term_whole y k g d (suc at + thirds x) n (omega arith) (omega arith) (omega arith) a.2),
-      both_whole (extras prog k d g (suc at) x) (extras prog k d g (suc at + thirds x) y)
-          (extras_whole x k m g d (suc at) n (omega arith) (omega arith) lo (omega arith) b s a.1)
-          (extras_whole y k m g d (suc at + thirds x) n (omega arith) (omega arith) lo (omega arith) b s a.2),
+        let more = weight_least e in
+        let here = target_in k g m x e n ms un (omega (arith, more, least.0)) a.0 in
+        extras_whole e (more_vars x k) (z2 + decl_weight x - 2) (declared prog g x) (target m x e ∷ m) at (ap suc n ∙ sym (length_declared prog g x)) (here.0, ms) (here.1, under_more (length m) (suc (length m)) m (omega arith) un) (omega (arith, least.0)) (omega (arith, least.0, least.1)) (omega (arith, least.0)) l
+        (declared_below prog ok k g b x a.0) (small_declared prog z2 (more_small low z2 prog lo labels) g s x (z2 + decl_weight x - 2) (omega (arith, least.0))) a.1
+    extras_whole (Call v ts vs) k z2 g m at n ms un many le lo l b s a = tt
+    extras_whole (If0 v x y) k z2 g m at n ms un many le lo l b s a = (
+      (omega arith, header_whole k z2 (used y) m g (omega arith) ms b s, term_whole y k g m (suc at + thirds x) n ms un (omega arith) (omega arith) (omega arith) a.2),
+      both_whole (extras prog k m g (suc at) x) (extras prog k m g (suc at + thirds x) y)
+          (extras_whole x k z2 g m (suc at) n ms un (omega arith) (omega arith) lo (omega arith) b s a.1)
+          (extras_whole y k z2 g m (suc at + thirds x) n ms un (omega arith) (omega arith) lo (omega arith) b s a.2),
     )
-    extras_whole (Halt v) k m g d at n many le lo l b s a = tt
+    extras_whole (Halt v) k z2 g m at n ms un many le lo l b s a = tt
 
     blocks_whole : (some : List ABlk) (at : ℕ) → at + length (seconds prog some at) ≤ p → Blocks-ok prog some → Blocks-fit low max_names some → WellFormedBlocks p z (firsts some at) × WellFormedBlocks p z (seconds prog some at)
     blocks_whole [] at l a f = (tt, tt)
     blocks_whole (b ∷ some) at l a f =
         let g = types_of b.args [] in
-        let n : arity b.args ≡ length g = sym (length_types_of b.args) in
-        let es = extras prog b.owes (arity b.args) g at b.body in
+        let m = rows (arity b.args) in
+        let long = length_rows (arity b.args) in
+        let n : length m ≡ length g = long ∙ sym (length_types_of b.args) in
+        let es = extras prog b.owes m g at b.body in
         let rest = seconds prog some (at + thirds b.body) in
-        let len = length_extras prog b.owes (arity b.args) g at b.body in
+        let len = length_extras prog b.owes m g at b.body in
         let all = length-append es rest in
         let r = blocks_whole some (at + thirds b.body) (omega (arith, len, all)) a.1 f.1 in
         let below = below_args b.owes b.args [] a.0.0 tt in
         let small = small_args low b.args [] (omega (arith, f.0.0)) tt in
-        let le : arity b.args + weight b.body ≤ max_names = omega (arith, f.0.0, f.0.1) in
+        let le : length m + weight b.body ≤ max_names = omega (arith, long, f.0.0, f.0.1) in
+        let ms = rows_in (arity b.args) (omega (arith, f.0.0, f.0.1)) in
+        let un = rows_under (arity b.args) (length m) (omega (arith, long)) in
         let ke : b.owes + weight b.body ≤ max_names = omega (arith, f.0.1) in
         let wide = args_whole b.args 0 1 b.owes (omega arith) (omega (arith, f.0.0, f.0.1)) a.0.0 (omega (arith, f.0.0, f.0.1)) in
         let kl : b.owes + (low + weight b.body) ≤ max_names = f.0.1 in (
-          ((omega (arith, f.0.1), wide, term_whole b.body b.owes g (arity b.args) at n le ke (omega (arith, len, all)) a.0.1), r.0),
-          both_whole es rest (extras_whole b.body b.owes low g (arity b.args) at n le kl (omega arith) (omega (arith, len, all)) below small a.0.1) r.1,
+          ((omega (arith, f.0.1), wide, term_whole b.body b.owes g m at n ms un le ke (omega (arith, len, all)) a.0.1), r.0),
+          both_whole es rest (extras_whole b.body b.owes low g m at n ms un le kl (omega arith) (omega (arith, len, all)) below small a.0.1) r.1,
         )
 
   -- the data
-  both_types : (us ts : List Ty) → WellFormedTypes 0 us → WellFormedTypes 0 ts → WellFormedTypes 0 (us ++ ts)
-  both_types [] ts a b = b
-  both_types (u ∷ us) ts a b = (a.0, both_types us ts a.1 b)
-
-  applied_whole : (v : TValue) (ts : List Ty) → WellFormedValue p z 0 v → WellFormedTypes 0 ts → WellFormedValue p z 0 (applied_to v ts)
-  applied_whole (T.Plain b us) ts a c = (a.0, both_types us ts a.1 c)
-  applied_whole (T.Pack h v s) ts a c = a
-
   applied_register : (v : TValue) (ts : List Ty) → HasNoRegister v → HasNoRegister (applied_to v ts)
   applied_register (T.Plain (T.Reg r) us) ts a = a
   applied_register (T.Plain (T.Int i) us) ts a = tt
@@ -193,7 +365,7 @@ module _ (prog : AProg) (p z : ℕ) (room : length prog.blocks < p) (all : lengt
   constant_whole (Apply v ts) t le f x =
       let c = split_applied (type_of prog [] v) ts t x in
       let r = constant_whole v c.0 (omega arith) f.0 c.1 in
-      (applied_whole (constant v) (tys ts) r.0 (types_whole ts 0 f.1 (omega (arith, sum_least ts))), applied_register (constant v) (tys ts) r.1)
+      (applied_whole 0 (constant v) (tys ts) r.0 (types_whole ts 0 f.1 (omega (arith, sum_least ts))), applied_register (constant v) (tys ts) r.1)
   constant_whole (Pack h v u) t le f x =
       let r = constant_whole v _ (omega arith) f.1 f.5 in
       ((type_whole h 0 f.2 (omega arith), r.0, type_whole u 0 f.3 (omega arith)), r.1)
@@ -231,12 +403,12 @@ whole p main q f =
     let at = suc (length p.blocks) in
     let at0 = at + thirds main in
     let fs = firsts p.blocks at0 in
-    let es = extras p 0 0 [] at main in
+    let es = extras p 0 [] [] at main in
     let ss = seconds p p.blocks at0 in
     let n = length (generated_blocks p main) in
     let z = length (generated_heap p.tuples) in
     let l1 = length_firsts p.blocks at0 in
-    let l2 = length_extras p 0 0 [] at main in
+    let l2 = length_extras p 0 [] [] at main in
     let l3 = length-append fs (es ++ ss) in
     let l4 = length-append es ss in
     let l5 = length_heap p.tuples in
@@ -250,8 +422,8 @@ whole p main q f =
     let r = blocks_whole p n z room all ok f.0 labels p.blocks at0 (omega (arith, l1, l2, l3, l4)) q.blocks f.1 in (
       omega arith,
       (
-        (omega arith, tt, term_whole p n z room all main 0 [] 0 at refl le le (omega (arith, l1, l2, l3, l4)) q.main_ok),
-        both_whole p n z room all fs (es ++ ss) r.0 (both_whole p n z room all es ss (extras_whole p n z room all ok f.0 labels main 0 f.0 [] 0 at refl le kl (omega arith) (omega (arith, l1, l2, l3, l4)) tt tt q.main_ok) r.1),
+        (omega arith, tt, term_whole p n z room all main 0 [] [] at refl tt tt le le (omega (arith, l1, l2, l3, l4)) q.main_ok),
+        both_whole p n z room all fs (es ++ ss) r.0 (both_whole p n z room all es ss (extras_whole p n z room all ok f.0 labels main 0 f.0 [] [] at refl tt tt le kl (omega arith) (omega (arith, l1, l2, l3, l4)) tt tt q.main_ok) r.1),
       ),
       heap_whole p n z room all f.0 p.tuples low q.tuples f.2,
     )

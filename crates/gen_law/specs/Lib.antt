@@ -5,5 +5,6 @@ pub mod GenLaws
 pub mod Laws
 pub mod Layout
 pub mod Packs
+pub mod Registers
 pub mod TypesEach
 pub mod Worked

@@ -1,16 +1,20 @@
 -- Instructions in front of a rest, blocks that are reserved with their headers and filled later, and what is put
 -- round a value.
-use Rattle.std.specs.Prelude.{◌≡◌, ℕ, zero, suc, List, [], ◌∷◌}
+use Rattle.std.specs.Prelude.{◌≡◌, ℕ, zero, suc, ◌≤◌, ◌<◌, ◌&&◌, ◌||◌, List, [], ◌∷◌, map, Bool, true, false}
+use Rattle.std.specs.Prelude.{Option, Some, None, slice_get}
 use Rattle.idx_core.specs.declared.span.Span.{Span}
-use Rattle.t_types.specs.Tree.{TFile}
+use Rattle.t_types.specs.Tree.{TFile, NoRegs}
 use Rattle.t_terms.specs.Tree as T
 use Rattle.t_terms.specs.Tree.{TValue, TSeq, Then, Ends, TBlock}
 use Rattle.t_terms.specs.Read.{instr}
 use Rattle.t_terms.specs.declared.instr.Instr.{Instr}
+use Rattle.a_terms.specs.Tree as a
 use Rattle.a_terms.specs.Read.{atree, atrees}
 use Rattle.a_terms.specs.declared.nodes.AWrap.{AWrap}
 use Rattle.a_terms.specs.declared.nodes.AWrap.TheVariants.{Apply, Pack}
-use Rattle.gen_law.specs.Gen.{ty, tys, reg, applied_to}
+use Rattle.a_scope.specs.Scope.{homes}
+use Rattle.a_scope.specs.declared.scope.Entry.{Entry}
+use Rattle.gen_law.specs.Gen.{ty, tys, applied_to, inside, boxed, place, insert, instead, uses, used}
 
 -- the instructions of a body, without their places, in front of the rest
 abbrev pub onto : List (Instr × Span) → TSeq → TSeq
@@ -35,12 +39,89 @@ fill n c [] = []
 fill zero c (b ∷ bs) = coded b c ∷ bs
 fill (suc n) c (b ∷ bs) = b ∷ fill n c bs
 
--- what is put round the value in register t
-abbrev pub wrap_code : ℕ → AWrap → TSeq → TSeq
-wrap_code t (Apply ts) rest = Then (T.Mov t (T.Plain (T.Reg t) (tys (atrees ts.items)))) rest
-wrap_code t (Pack h s) rest = Then (T.Mov t (T.Pack (ty (atree h)) (reg t) (ty (atree s)))) rest
+-- what is put round a value in place
+abbrev pub wrap_small : ℕ → AWrap → TValue → TValue
+wrap_small t (Apply ts) x = applied_to x (tys (atrees ts.items))
+wrap_small t (Pack h s) x = T.Pack (ty (atree h)) (inside t x) (ty (atree s))
+
+-- and the instructions for it
+abbrev pub wrap_boxed : ℕ → AWrap → TValue → TSeq → TSeq
+wrap_boxed t (Apply ts) x rest = rest
+wrap_boxed t (Pack h s) x rest = boxed t x rest
 
 -- what is put round the value of a data field
 abbrev pub wrap_constant : AWrap → TValue → TValue
 wrap_constant (Apply ts) v = applied_to v (tys (atrees ts.items))
 wrap_constant (Pack h s) v = T.Pack (ty (atree h)) v (ty (atree s))
+
+-- the register that the value is
+abbrev pub bare : TValue → Option ℕ
+bare (T.Plain (T.Reg r) []) = Some r
+bare (T.Plain (T.Reg r) (u ∷ us)) = None
+bare (T.Plain (T.Int i) us) = None
+bare (T.Plain (T.Label l) us) = None
+bare (T.Plain (T.Data n) us) = None
+bare (T.Pack h v s) = None
+
+-- a register after some were saved in others
+abbrev pub seen : List (ℕ × ℕ) → ℕ → ℕ
+seen [] q = q
+seen (s ∷ xs) q = seen xs (instead s.1 s.0 q)
+
+-- the registers of the variables then
+abbrev pub after_saves : List (ℕ × ℕ) → List ℕ → List ℕ
+after_saves [] m = m
+after_saves (s ∷ xs) m = after_saves xs (map (instead s.1 s.0) m)
+
+abbrev pub places : List Entry → List (ℕ × ℕ) → List ℕ
+places es xs = after_saves xs (homes es)
+
+-- the variable that the value is
+abbrev pub bare_var : a.AVal → Option ℕ
+bare_var (a.Var n) = Some n
+bare_var (a.Num i) = None
+bare_var (a.Lab l) = None
+bare_var (a.Data n) = None
+bare_var (a.Apply v ts) = None
+bare_var (a.Pack h v s) = None
+
+-- whether the rest uses a variable by both of its names, where a declaration gives it one more
+abbrev pub both_used : a.AVal → a.ATm → Bool
+both_used (a.Var n) e = used e (suc n) && used e 0
+both_used (a.Num i) e = false
+both_used (a.Lab l) e = false
+both_used (a.Data n) e = false
+both_used (a.Apply v ts) e = false
+both_used (a.Pack h v s) e = false
+
+abbrev pub both_names : a.ADecl → a.ATm → Bool
+both_names (a.Value v) e = both_used v e
+both_names (a.Proj i v) e = false
+both_names (a.Arith o v w) e = false
+both_names (a.Unpack v) e = false
+both_names (a.Malloc ts) e = false
+both_names (a.Init v i w) e = both_used v e
+
+-- the variables whose registers the declared one does not get: those of the rest, and what is stored
+abbrev pub kept : a.ADecl → a.ATm → ℕ → Bool
+kept (a.Value v) e n = used e (suc n)
+kept (a.Proj i v) e n = used e (suc n)
+kept (a.Arith o v w) e n = used e (suc n)
+kept (a.Unpack v) e n = used e (suc n)
+kept (a.Malloc ts) e n = used e (suc n)
+kept (a.Init v i w) e n = uses w n || used e (suc n)
+
+-- the numbers from n on that u holds of, in ascending order
+abbrev pub Listed : (ℕ → Bool) → ℕ → List ℕ → Type 0
+Listed u n [] = (i : ℕ) → n ≤ i → u i ≡ false
+Listed u n (x ∷ xs) = (n ≤ x) × ((i : ℕ) → n ≤ i → i < x → u i ≡ false) × (u x ≡ true) × Listed u (suc x) xs
+
+-- the file with a variable's register, if there is one
+abbrev pub with_type : ℕ → Option a.ATy → TFile → TFile
+with_type r None f = f
+with_type r (Some t) f = insert r (ty t) f
+
+-- the file of these variables
+abbrev pub chosen : List ℕ → List ℕ → List a.ATy → TFile
+chosen [] m g = NoRegs
+chosen (n ∷ xs) m g = with_type (place m n) (slice_get g n) (chosen xs m g)

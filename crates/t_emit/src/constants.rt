@@ -32,7 +32,7 @@ fn constant_base(alloc: Global, base: ABase) -> Result<Value, OutOfMemory>
 }
 
 // A value at once with types: a package takes none.
-fn apply_constant(alloc: Global, v: Value, types: &[AType]) -> Result<Value, OutOfMemory>
+pub(crate) fn apply_constant(alloc: Global, v: Value, types: &[AType]) -> Result<Value, OutOfMemory>
     ensures { IfOk result (λ r. value_tree r ≡ applied_to (value_tree v) (tys (atrees types.now))) }
 {
     match v {

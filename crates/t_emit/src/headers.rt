@@ -1,21 +1,23 @@
 // The header of a third part.
-ghost use Rattle.std.specs.Prelude.{◌≡◌, ◌+◌, ◌<◌, ◌^◌, ◌++◌, ◌∷◌, [], suc, length, IfOk, OnOk};
-ghost use Rattle.t_types.specs.Read.{file as file_tree, types as type_trees};
+ghost use Rattle.std.specs.Prelude.{◌≡◌, ◌+◌, ◌<◌, ◌^◌, ◌++◌, ◌∷◌, [], ℕ, Bool, suc, length, slice_get, IfOk, OnOk};
+ghost use Rattle.t_types.specs.Read.{tree, file as file_tree, types as type_trees};
 ghost use Rattle.t_terms.specs.Tree.{TSeq, Then, Bnz, Plain, Label};
 ghost use Rattle.t_terms.specs.Read.{blocks_of};
-ghost use Rattle.t_emit.specs.Code.{Grows};
+ghost use Rattle.t_emit.specs.Code.{Grows, Listed, chosen, with_type};
 ghost use Rattle.t_emit.specs.Code.{reserved};
-ghost use Rattle.gen_law.specs.Gen.{test_code, tvars, file};
+ghost use Rattle.gen_law.specs.Gen.{ty, place, insert, test_code, tvars, header as the_header};
 ghost use Rattle.a_terms.specs.NodeTrees.{a_value};
-ghost use Rattle.a_scope.specs.Scope.{scope};
+ghost use Rattle.a_scope.specs.Scope.{shown, scope, homes};
 
 use crate::blocks::reserve;
+use crate::code::put;
 use crate::types::written;
-use crate::values::emit_one;
+use crate::values::emit_settled;
 use a_scope::{Entry, show};
 use a_terms::AValue;
 use idx_core::{OutOfMemory, Span};
 use std::alloc::Global;
+use std::collections::BTreeMap;
 use t_terms::{Base, Block, Instr, Value};
 use t_types::TType;
 
@@ -32,49 +34,106 @@ pub fn names_in_scope(alloc: Global, names: u64) -> Result<Vec<TType>, OutOfMemo
     Ok(types)
 }
 
-/// The registers of the variables, from 1 on, with their types. An error is want of memory.
-pub fn header(alloc: Global, vars: &[Entry], names: u64) -> Result<Vec<(u64, TType)>, OutOfMemory>
-    ensures { IfOk result (λ r. file_tree r.items ≡ file (scope names vars.now)) }
+// The map's entries, in order.
+fn entries(alloc: Global, map: BTreeMap<u64, TType>) -> Result<Vec<(u64, TType)>, OutOfMemory>
+    ensures { IfOk result (λ r. r.items ≡ map.entries) }
 {
+    let mut left = map;
     let mut regs = Vec::new(alloc);
-    let mut r = 1;
-    for entry in vars {
-        let shown = show(alloc, entry, names)?;
-        let ty = written(alloc, &shown)?;
-        regs.push((r, ty))?;
-        r += 1;
+    while let Some(entry) = left.pop_first() {
+        regs.push(entry)?;
     }
     Ok(regs)
 }
 
-/// The instructions of an `if0` up to its second part; the block of its third part is reserved at the end. An error is
-/// want of memory.
+// A register's type is put into the map.
+fn put_type(map: &mut BTreeMap<u64, TType>, r: u64, t: TType) -> Result<(), OutOfMemory>
+    ensures { OnOk result (file_tree map.new.entries ≡ insert r (tree t) (file_tree map.old.entries)) }
+{
+    map.insert(r, t)?;
+    Ok(())
+}
+
+// A variable's register and type are put into the map.
+fn put_entry(
+    alloc: Global,
+    map: &mut BTreeMap<u64, TType>,
+    entry: &Entry,
+    names: u64,
+) -> Result<(), OutOfMemory>
+    ensures { OnOk result (file_tree map.new.entries
+        ≡ insert entry.now.register (ty (shown names entry.now)) (file_tree map.old.entries)) }
+{
+    let shown = show(alloc, entry, names)?;
+    let ty = written(alloc, &shown)?;
+    put_type(map, entry.register, ty)?;
+    Ok(())
+}
+
+// The register and type of variable n, if it is in scope, are put into the map.
+fn put_variable(
+    alloc: Global,
+    map: &mut BTreeMap<u64, TType>,
+    vars: &[Entry],
+    names: u64,
+    n: u64,
+) -> Result<(), OutOfMemory>
+    ensures { OnOk result (file_tree map.new.entries
+        ≡ with_type (place (homes vars.now) n) (slice_get (scope names vars.now) n) (file_tree map.old.entries)) }
+{
+    let count = vars.len();
+    if n < count as u64 {
+        put_entry(alloc, map, &vars[count - 1 - n as usize], names)?;
+        return Ok(());
+    }
+    Ok(())
+}
+
+/// The registers of these variables, in ascending order, with their types. An error is want of memory.
+pub fn header(
+    alloc: Global,
+    vars: &[Entry],
+    names: u64,
+    third: &[u64],
+) -> Result<Vec<(u64, TType)>, OutOfMemory>
+    ensures { IfOk result (λ r. file_tree r.items ≡ chosen third.now (homes vars.now) (scope names vars.now)) }
+{
+    let mut map = BTreeMap::new(alloc);
+    let mut left = third.len();
+    while left > 0 {
+        left -= 1;
+        put_variable(alloc, &mut map, vars, names, third[left])?;
+    }
+    let regs = entries(alloc, map)?;
+    Ok(regs)
+}
+
+/// The instructions of an `if0` up to its second part; the block of its third part, which uses these variables, is
+/// reserved at the end. Register `spare` holds nothing. An error is want of memory.
 pub fn emit_if0(
     alloc: Global,
     out: &mut Vec<Block>,
     code: &mut Vec<(Instr, Span)>,
     vars: &[Entry],
+    spare: u64,
     names: u64,
+    third: &[u64],
     v: &AValue,
 ) -> Result<(), OutOfMemory>
     ensures code { OnOk result (Grows code.old.items code.new.items
-        (test_code names (length vars.now) (a_value v.now) (length out.old.items))) }
-    ensures out { OnOk result (blocks_of out.new.items ≡ blocks_of out.old.items ++ reserved names
-        (file (scope names vars.now)) ∷ []) }
+        (test_code spare names (homes vars.now) (a_value v.now) (length out.old.items))) }
+    ensures out { OnOk result ((u : ℕ → Bool) → Listed u 0 third.now → blocks_of out.new.items
+        ≡ blocks_of out.old.items ++ reserved names (the_header u (homes vars.now) (scope names vars.now)) ∷ []) }
 {
-    let depth = vars.len() as u64;
     let block = out.len() as u64;
+    let r = emit_settled(alloc, code, vars, spare, v)?;
     let types = names_in_scope(alloc, names)?;
     let target = Value::Plain {
         base: Base::Label(block),
         types,
     };
-    let last = Instr::Bnz {
-        r: depth + 1,
-        v: target,
-    };
-    emit_one(alloc, code, depth, v, last)?;
-    let registers = header(alloc, vars, names)?;
+    put(code, Instr::Bnz { r, v: target })?;
+    let registers = header(alloc, vars, names, third)?;
     reserve(alloc, out, names, registers)?;
     Ok(())
 }

@@ -1,14 +1,16 @@
-// Instructions are emitted for values.
-ghost use Rattle.std.specs.Prelude.{◌≡◌, ◌+◌, ◌<◌, ◌^◌, suc, IfOk, OnOk};
-ghost use Rattle.t_terms.specs.Tree.{TSeq, Then};
-ghost use Rattle.t_terms.specs.Read.{instr as instr_tree};
-ghost use Rattle.t_emit.specs.Code.{Grows};
-ghost use Rattle.gen_law.specs.Gen.{into};
+// Values in place.
+ghost use Rattle.std.specs.Prelude.{◌≡◌, ℕ, suc, IfOk, OnOk};
+ghost use Rattle.t_terms.specs.Tree.{TSeq};
+ghost use Rattle.t_terms.specs.Read.{value as value_tree};
+ghost use Rattle.t_emit.specs.Code.{Grows, wrap_small, wrap_boxed, seen, places};
+ghost use Rattle.gen_law.specs.Gen.{place, small, unnest, instead, home, settle, move};
 ghost use Rattle.a_terms.specs.NodeTrees.{base as base_tree, a_value};
-ghost use Rattle.t_emit.specs.Code.{wrap_code};
+ghost use Rattle.a_scope.specs.Scope.{homes};
 
-use crate::code::{plain, put};
-use crate::types::{written, written_all};
+use crate::code::{boxed, emit_move, emit_settle, plain};
+use crate::constants::apply_constant;
+use crate::types::written;
+use a_scope::Entry;
 use a_terms::{ABase, AValue, AWrap};
 use idx_core::{OutOfMemory, Span};
 use std::alloc::Global;
@@ -24,119 +26,171 @@ pub fn after(n: u64) -> Result<u64, OutOfMemory>
     }
 }
 
-// The instruction for a base.
-pub(crate) fn emit_base(
-    alloc: Global,
-    code: &mut Vec<(Instr, Span)>,
-    depth: u64,
-    target: u64,
-    base: ABase,
-) -> Result<(), OutOfMemory>
-    ensures { OnOk result (Grows code.old.items code.new.items (into depth target (base_tree base))) }
+// The register `to` in the place of `from`.
+fn replaced(r: u64, from: u64, to: u64) -> u64
+    ensures { result ≡ instead to from r }
 {
-    match base {
-        ABase::Var(n) => {
-            let r = depth.saturating_sub(n);
-            let v = plain(alloc, Base::Reg(r));
-            put(code, Instr::Mov { rd: target, v })
-        }
-        ABase::Int(i) => {
-            let v = plain(alloc, Base::Int(i));
-            put(code, Instr::Mov { rd: target, v })
-        }
-        ABase::Label(l) => {
-            let block = after(l)?;
-            let v = plain(alloc, Base::Label(block));
-            put(code, Instr::Mov { rd: target, v })
-        }
-        ABase::Data(n) => {
-            let v = plain(alloc, Base::Data(n));
-            put(code, Instr::Mov { rd: target, v })
-        }
+    if r == from { to } else { r }
+}
+
+// A register, after some were saved in others.
+fn moved(saved: &[(u64, u64)], r: u64) -> u64
+    ensures { result ≡ seen saved.now r }
+{
+    let mut now = r;
+    for i in 0..saved.len() {
+        let (from, to) = saved[i];
+        now = replaced(now, from, to);
+    }
+    now
+}
+
+/// The register of variable n, after some were saved in others.
+pub fn register(vars: &[Entry], saved: &[(u64, u64)], n: u64) -> u64
+    ensures { result ≡ place (places vars.now saved.now) n }
+{
+    let count = vars.len();
+    if n < count as u64 {
+        let entry = &vars[count - 1 - n as usize];
+        moved(saved, entry.register)
+    } else {
+        0
     }
 }
 
-// The instruction for a value made of the one that is in the register.
-pub(crate) fn emit_wrap(
+/// The register of variable n.
+pub fn register_now(vars: &[Entry], n: u64) -> u64
+    ensures { result ≡ place (homes vars.now) n }
+{
+    let count = vars.len();
+    if n < count as u64 {
+        let entry = &vars[count - 1 - n as usize];
+        entry.register
+    } else {
+        0
+    }
+}
+
+// What a value begins with, in place.
+fn small_base(
+    alloc: Global,
+    vars: &[Entry],
+    saved: &[(u64, u64)],
+    base: ABase,
+) -> Result<Value, OutOfMemory>
+    ensures { IfOk result (λ r. (t : ℕ) → value_tree r ≡ small t (places vars.now saved.now) (base_tree base)) }
+{
+    match base {
+        ABase::Var(n) => {
+            let r = register(vars, saved, n);
+            Ok(plain(alloc, Base::Reg(r)))
+        }
+        ABase::Int(i) => Ok(plain(alloc, Base::Int(i))),
+        ABase::Label(l) => {
+            let block = after(l)?;
+            Ok(plain(alloc, Base::Label(block)))
+        }
+        ABase::Data(n) => Ok(plain(alloc, Base::Data(n))),
+    }
+}
+
+// What is put round a value in place: a package inside a package goes into register `spare`.
+fn small_wrap(
     alloc: Global,
     code: &mut Vec<(Instr, Span)>,
-    target: u64,
+    spare: u64,
+    v: Value,
     w: &AWrap,
-) -> Result<(), OutOfMemory>
-    ensures { OnOk result (Grows code.old.items code.new.items (wrap_code target w.now)) }
+) -> Result<Value, OutOfMemory>
+    ensures value { IfOk result (λ r. value_tree r ≡ wrap_small spare w.now (value_tree v)) }
+    ensures code { OnOk result (Grows code.old.items code.new.items (wrap_boxed spare w.now (value_tree v))) }
 {
     match w {
         AWrap::Apply(types) => {
-            let types = written_all(alloc, types)?;
-            let v = Value::Plain {
-                base: Base::Reg(target),
-                types,
-            };
-            put(code, Instr::Mov { rd: target, v })
+            let made = apply_constant(alloc, v, types)?;
+            Ok(made)
         }
         AWrap::Pack { hidden, shape } => {
             let hidden = written(alloc, hidden)?;
             let shape = written(alloc, shape)?;
-            let inner = Box::new(alloc, plain(alloc, Base::Reg(target)))?;
-            let v = Value::Pack {
+            let held = boxed(alloc, code, spare, v)?;
+            let inner = Box::new(alloc, held)?;
+            Ok(Value::Pack {
                 hidden,
                 inner,
                 shape,
-            };
-            put(code, Instr::Mov { rd: target, v })
+            })
         }
     }
 }
 
-/// The instructions that put a value into register `target`. An error is want of memory.
+/// A value in place, after the instructions for it: those for packages inside packages, by register `spare`. An error is
+/// want of memory.
+pub fn emit_small(
+    alloc: Global,
+    code: &mut Vec<(Instr, Span)>,
+    vars: &[Entry],
+    saved: &[(u64, u64)],
+    spare: u64,
+    v: &AValue,
+) -> Result<Value, OutOfMemory>
+    ensures value { IfOk result (λ r. value_tree r ≡ small spare (places vars.now saved.now) (a_value v.now)) }
+    ensures code { OnOk result (Grows code.old.items code.new.items
+        (unnest spare (places vars.now saved.now) (a_value v.now))) }
+{
+    let mut made = small_base(alloc, vars, saved, v.base)?;
+    for w in &v.wraps {
+        made = small_wrap(alloc, code, spare, made, w)?;
+    }
+    Ok(made)
+}
+
+/// A value in place, where no register was saved. An error is want of memory.
 pub fn emit_value(
     alloc: Global,
     code: &mut Vec<(Instr, Span)>,
-    depth: u64,
-    target: u64,
+    vars: &[Entry],
+    spare: u64,
     v: &AValue,
-) -> Result<(), OutOfMemory>
-    ensures { OnOk result (Grows code.old.items code.new.items (into depth target (a_value v.now))) }
+) -> Result<Value, OutOfMemory>
+    ensures value { IfOk result (λ r. value_tree r ≡ small spare (homes vars.now) (a_value v.now)) }
+    ensures code { OnOk result (Grows code.old.items code.new.items (unnest spare (homes vars.now) (a_value v.now))) }
 {
-    emit_base(alloc, code, depth, target, v.base)?;
-    for w in &v.wraps {
-        emit_wrap(alloc, code, target, w)?;
-    }
-    Ok(())
+    let saved = Vec::new(alloc);
+    let made = emit_small(alloc, code, vars, &saved, spare, v)?;
+    Ok(made)
 }
 
-/// A value in the next register, and an instruction. An error is want of memory.
-pub fn emit_one(
+/// A value in a register, its own or `spare`: which. An error is want of memory.
+pub fn emit_settled(
     alloc: Global,
     code: &mut Vec<(Instr, Span)>,
-    depth: u64,
+    vars: &[Entry],
+    spare: u64,
     v: &AValue,
-    last: Instr,
-) -> Result<(), OutOfMemory>
-    requires room { depth + 1 < 2 ^ 64 }
-    ensures { OnOk result (Grows code.old.items code.new.items
-        (λ rest. into depth (suc depth) (a_value v.now) (Then (instr_tree last) rest))) }
+) -> Result<u64, OutOfMemory>
+    ensures value { IfOk result (λ r. r ≡ home spare (small spare (homes vars.now) (a_value v.now))) }
+    ensures code { OnOk result (Grows code.old.items code.new.items (λ rest. unnest spare (homes vars.now)
+        (a_value v.now) (settle spare (small spare (homes vars.now) (a_value v.now)) rest))) }
 {
-    emit_value(alloc, code, depth, depth + 1, v)?;
-    put(code, last)?;
-    Ok(())
+    let held = emit_value(alloc, code, vars, spare, v)?;
+    let r = emit_settle(code, spare, held)?;
+    Ok(r)
 }
 
-/// Two values in the next registers, and an instruction. An error is want of memory.
-pub fn emit_two(
+/// A value in this register. An error is want of memory.
+pub fn emit_into(
     alloc: Global,
     code: &mut Vec<(Instr, Span)>,
-    depth: u64,
+    vars: &[Entry],
+    spare: u64,
+    r: u64,
     v: &AValue,
-    w: &AValue,
-    last: Instr,
 ) -> Result<(), OutOfMemory>
-    requires room { depth + 2 < 2 ^ 64 }
-    ensures { OnOk result (Grows code.old.items code.new.items (λ rest. into depth (suc depth) (a_value v.now)
-        (into depth (suc (suc depth)) (a_value w.now) (Then (instr_tree last) rest)))) }
+    ensures { OnOk result (Grows code.old.items code.new.items (λ rest. unnest spare (homes vars.now)
+        (a_value v.now) (move r (small spare (homes vars.now) (a_value v.now)) rest))) }
 {
-    emit_value(alloc, code, depth, depth + 1, v)?;
-    emit_value(alloc, code, depth, depth + 2, w)?;
-    put(code, last)?;
+    let held = emit_value(alloc, code, vars, spare, v)?;
+    emit_move(code, r, held)?;
     Ok(())
 }

@@ -6,14 +6,18 @@ ghost use Rattle.a_terms.specs.Typing.{types_of};
 ghost use Rattle.a_terms.specs.Read.{atrees};
 ghost use Rattle.a_terms.specs.Program.{program_in};
 ghost use Rattle.a_terms.specs.Arity.{ARow};
-ghost use Rattle.a_scope.specs.Scope.{scope, Under};
+ghost use Rattle.a_scope.specs.Scope.{scope, homes, Under};
+ghost use Rattle.a_terms.specs.Tree.{arity};
+ghost use Rattle.gen_law.specs.Gen.{rows};
 ghost use Rattle.t_gen.specs.Pending.{body_job};
 
+use crate::choosing::registers_of;
 use crate::state::{Place, Walk};
 use crate::step::step;
-use a_scope::{Entry, noted_now};
+use a_scope::{Entry, noted_now, placed};
 use a_terms::walks::copy;
 use a_terms::{ANode, AProgram, AType};
+use a_uses::{Aheads, look_ahead};
 use idx_core::OutOfMemory;
 use std::alloc::Global;
 use t_terms::Block;
@@ -30,12 +34,18 @@ pub fn emit_body(
 ) -> Result<(), OutOfMemory>
     requires one { ARow nodes.now 1 }
     requires under { Under names vars.items }
+    requires homes { homes vars.items ≡ rows (length vars.items) }
     requires block { block < length out.old.items }
     ensures { OnOk result (blocks_of out.new.items ≡ finish (program_in program.now)
         (length (blocks_of out.old.items)) (blocks_of out.old.items)
-        (body_job block names (scope names vars.items) nodes.now ∷ [])) }
+        (body_job block names (homes vars.items) (scope names vars.items) nodes.now ∷ [])) }
 {
     let count = vars.len();
+    let Aheads {
+        each: mut aheads,
+        first,
+    } = look_ahead(alloc, nodes)?;
+    let registers = registers_of(alloc, &vars, &first)?;
     let mut walk = Walk {
         code: Vec::new(alloc),
         vars,
@@ -45,13 +55,17 @@ pub fn emit_body(
         block,
         names,
         vars: count,
+        registers,
     })?;
     for node in nodes {
         let Some(place) = walk.places.pop() else {
             unreachable!()
         };
+        let Some(ahead) = aheads.pop() else {
+            unreachable!()
+        };
         walk.vars.truncate(place.vars);
-        step(alloc, program, out, &mut walk, place, node)?;
+        step(alloc, program, out, &mut walk, place, node, &ahead)?;
     }
     Ok(())
 }
@@ -60,12 +74,14 @@ pub fn emit_body(
 pub fn arguments(alloc: Global, owes: u64, args: &[AType]) -> Result<Vec<Entry>, OutOfMemory>
     ensures scope { IfOk result (λ r. scope owes r.items ≡ types_of (atrees args.now) []) }
     ensures under { IfOk result (λ r. Under owes r.items) }
+    ensures homes { IfOk result (λ r. homes r.items ≡ rows (arity (atrees args.now))) }
 {
     let mut vars = Vec::new(alloc);
     for t in args {
         let ty = copy(alloc, t)?;
-        let entry = noted_now(alloc, ty, owes)?;
-        vars.push(entry)?;
+        let noted = noted_now(alloc, ty, owes)?;
+        let register = vars.len() as u64 + 1;
+        vars.push(placed(noted, register))?;
     }
     Ok(vars)
 }

@@ -6,6 +6,7 @@ ghost use Rattle.t_emit.specs.Code.{onto};
 ghost use Rattle.t_emit.specs.Code.{fill};
 ghost use Rattle.a_terms.specs.NodeTrees.{is_decl};
 
+use crate::registers::Registers;
 use a_scope::Entry;
 use a_terms::AForm;
 use idx_core::Span;
@@ -14,12 +15,14 @@ use std::mem;
 use t_emit::blocks::close;
 use t_terms::{Block, End, Instr};
 
-/// A term that is still to come: into which block its code goes, and how many type names and variables are in scope.
-#[derive(Clone, Copy, Drop)]
+/// A term that is still to come: into which block its code goes, how many type names and variables are in scope, and
+/// the registers of the variables that it uses.
+#[derive(Drop)]
 pub struct Place {
     pub block: usize,
     pub names: u64,
     pub vars: usize,
+    pub registers: Registers,
 }
 
 /// A walk over the nodes of a body: the code so far of the block that is open, the variables that are in scope, and

@@ -8,17 +8,20 @@ ghost use Rattle.a_terms.specs.NodeTrees.{a_values, a_build, a_decl, a_let, is_d
 ghost use Rattle.a_terms.specs.Arity.{a_kids, AArity};
 ghost use Rattle.a_terms.specs.Row.{IsOne, IsSome, top, others};
 ghost use Rattle.a_terms.specs.Program.{program_in};
-ghost use Rattle.t_gen.specs.Pending.{tops, Fit, Ready, Stepped};
+ghost use Rattle.a_uses.specs.Uses.{Ending, Tells};
+ghost use Rattle.t_gen.specs.Pending.{tops, Fit, KeepsAll, Parting, Ready, Stepped};
 
+use crate::choosing::{above, choose, registers_of, release_all};
 use crate::state::{Place, Walk, close_block, declares};
 use a_scope::{declare, first};
 use a_terms::{AForm, ANode, AProgram, AType, AValue};
+use a_uses::Ahead;
 use idx_core::OutOfMemory;
 use std::alloc::Global;
-use t_emit::calls::{above_all, emit_call, jump};
+use t_emit::calls::emit_call;
 use t_emit::decls::emit_declaration;
 use t_emit::headers::emit_if0;
-use t_emit::values::emit_value;
+use t_emit::values::emit_into;
 use t_terms::{Block, End};
 
 // A declaration.
@@ -29,25 +32,37 @@ fn step_let(
     place: Place,
     form: &AForm,
     values: &[AValue],
+    ahead: &Ahead,
 ) -> Result<(), OutOfMemory>
     requires form { is_decl form.now ≡ true }
     requires arity { AArity form.now (a_values values.now) }
     requires vars { place.vars ≡ length walk.old.vars.items }
     requires fit { (b : ℕ) × Fit b walk.old.vars.items (length walk.old.vars.items)
         (place ∷ tops walk.old.places.items) }
-    ensures { OnOk result ((o : List TheBlock) → Ready o walk.old.vars.items place walk.old.places.items
-        → Stepped (program_in program.now) place
+    ensures { OnOk result ((o : List TheBlock) (ts : List ATm)
+        → Ending (a_decl form.now (a_values values.now)) (top no_term ts) ahead.now
+        → Ready o walk.old.vars.items place walk.old.places.items
+        → KeepsAll walk.old.vars.items (place ∷ tops walk.old.places.items)
+        (a_let (a_decl form.now (a_values values.now)) ts) → Stepped (program_in program.now) place ts
         (a_let (a_decl form.now (a_values values.now))) 1 walk.old.vars.items walk.new.vars.items
         walk.old.places.items walk.new.places.items o o walk.old.code.items walk.new.code.items) }
 {
-    let depth = walk.vars.len() as u64;
-    emit_declaration(alloc, &mut walk.code, depth, form, values)?;
-    let names = declare(alloc, program, &mut walk.vars, place.names, form, values)?;
-    let count = walk.vars.len();
-    walk.places.push(Place {
-        block: place.block,
+    let Place {
+        block,
         names,
-        vars: count,
+        mut registers,
+        ..
+    } = place;
+    let spare = above(&registers, 0)?;
+    let rd = choose(&mut registers, &walk.vars, form, values, ahead)?;
+    emit_declaration(alloc, &mut walk.code, &walk.vars, spare, rd, form, values)?;
+    let names = declare(alloc, program, &mut walk.vars, names, rd, form, values)?;
+    let vars = walk.vars.len();
+    walk.places.push(Place {
+        block,
+        names,
+        vars,
+        registers,
     })?;
     Ok(())
 }
@@ -64,16 +79,17 @@ fn step_call(
     requires arity { IsSome (a_values values.now) }
     requires vars { place.vars ≡ length walk.old.vars.items }
     requires block { place.block < length out.old.items }
-    ensures { OnOk result ((prog : AProg) → Ready out.old.items walk.old.vars.items place walk.old.places.items
-        → Stepped prog place
-        (λ ts. Call (top no_value (a_values values.now)) (atrees types.now) (others (a_values values.now)) ∷ ts)
+    ensures { OnOk result ((prog : AProg) (rest : List ATm)
+        → Ready out.old.items walk.old.vars.items place walk.old.places.items
+        → KeepsAll walk.old.vars.items (place ∷ tops walk.old.places.items)
+        (Call (top no_value (a_values values.now)) (atrees types.now) (others (a_values values.now)) ∷ rest)
+        → Stepped prog place rest (λ ts. Call (top no_value (a_values values.now)) (atrees types.now) (others (a_values values.now)) ∷ ts)
         0 walk.old.vars.items walk.new.vars.items walk.old.places.items walk.new.places.items
         out.old.items out.new.items walk.old.code.items walk.new.code.items) }
 {
-    let depth = walk.vars.len() as u64;
-    let above = above_all(depth, values);
-    emit_call(alloc, &mut walk.code, depth, above, values)?;
-    let end = jump(alloc, above, types)?;
+    let arguments = values.len() as u64 - 1;
+    let above = above(&place.registers, arguments)?;
+    let end = emit_call(alloc, &mut walk.code, &walk.vars, above, values, types)?;
     close_block(alloc, out, &mut walk.code, place.block, end);
     Ok(())
 }
@@ -89,13 +105,16 @@ fn step_halt(
     requires arity { IsOne (a_values values.now) }
     requires vars { place.vars ≡ length walk.old.vars.items }
     requires block { place.block < length out.old.items }
-    ensures { OnOk result ((prog : AProg) → Ready out.old.items walk.old.vars.items place walk.old.places.items
-        → Stepped prog place (λ ts. Halt (top no_value (a_values values.now)) ∷ ts)
+    ensures { OnOk result ((prog : AProg) (rest : List ATm)
+        → Ready out.old.items walk.old.vars.items place walk.old.places.items
+        → KeepsAll walk.old.vars.items (place ∷ tops walk.old.places.items)
+        (Halt (top no_value (a_values values.now)) ∷ rest)
+        → Stepped prog place rest (λ ts. Halt (top no_value (a_values values.now)) ∷ ts)
         0 walk.old.vars.items walk.new.vars.items walk.old.places.items walk.new.places.items
         out.old.items out.new.items walk.old.code.items walk.new.code.items) }
 {
-    let depth = walk.vars.len() as u64;
-    emit_value(alloc, &mut walk.code, depth, 1, first(values))?;
+    let spare = above(&place.registers, 0)?;
+    emit_into(alloc, &mut walk.code, &walk.vars, spare, 1, first(values))?;
     close_block(alloc, out, &mut walk.code, place.block, End::Halt);
     Ok(())
 }
@@ -107,32 +126,53 @@ fn step_if(
     walk: &mut Walk,
     place: Place,
     values: &[AValue],
+    ahead: &Ahead,
 ) -> Result<(), OutOfMemory>
     requires arity { IsOne (a_values values.now) }
     requires vars { place.vars ≡ length walk.old.vars.items }
-    ensures { OnOk result ((prog : AProg) → Ready out.old.items walk.old.vars.items place walk.old.places.items
-        → Stepped prog place
+    ensures { OnOk result ((prog : AProg) (rest : List ATm)
+        → Parting (top no_value (a_values values.now)) rest ahead.now
+        → Ready out.old.items walk.old.vars.items place walk.old.places.items
+        → KeepsAll walk.old.vars.items (place ∷ tops walk.old.places.items)
+        (If0 (top no_value (a_values values.now)) (top no_term rest) (top no_term (others rest))
+        ∷ others (others rest)) → Stepped prog place rest
         (λ ts. If0 (top no_value (a_values values.now)) (top no_term ts) (top no_term (others ts))
         ∷ others (others ts))
         2 walk.old.vars.items walk.new.vars.items walk.old.places.items walk.new.places.items
         out.old.items out.new.items walk.old.code.items walk.new.code.items) }
 {
-    let block = out.len();
-    let third = Place {
+    let Place {
         block,
-        names: place.names,
-        vars: place.vars,
+        names,
+        vars,
+        mut registers,
+    } = place;
+    let spare = above(&registers, 0)?;
+    let third = Place {
+        block: out.len(),
+        names,
+        vars,
+        registers: registers_of(alloc, &walk.vars, &ahead.third)?,
     };
     emit_if0(
         alloc,
         out,
         &mut walk.code,
         &walk.vars,
-        place.names,
+        spare,
+        names,
+        &ahead.third,
         first(values),
     )?;
+    release_all(&mut registers, &walk.vars, &ahead.gone, None)?;
+    let second = Place {
+        block,
+        names,
+        vars,
+        registers,
+    };
     walk.places.push(third)?;
-    walk.places.push(place)?;
+    walk.places.push(second)?;
     Ok(())
 }
 
@@ -144,18 +184,22 @@ pub fn step(
     walk: &mut Walk,
     place: Place,
     node: &ANode,
+    ahead: &Ahead,
 ) -> Result<(), OutOfMemory>
     requires arity { AArity node.now.form (a_values node.now.values.items) }
     requires vars { place.vars ≡ length walk.old.vars.items }
     requires fit { Ready out.old.items walk.old.vars.items place walk.old.places.items }
-    ensures { OnOk result (Stepped (program_in program.now) place
+    ensures { OnOk result ((ts : List ATm) → Tells node.now.form (a_values node.now.values.items) ts ahead.now
+        → KeepsAll walk.old.vars.items (place ∷ tops walk.old.places.items)
+        (a_build node.now.form (a_values node.now.values.items) ts)
+        → Stepped (program_in program.now) place ts
         (a_build node.now.form (a_values node.now.values.items)) (a_kids node.now.form)
         walk.old.vars.items walk.new.vars.items walk.old.places.items walk.new.places.items
         out.old.items out.new.items walk.old.code.items walk.new.code.items) }
 {
     let values = node.values.as_slice();
     if declares(&node.form) {
-        step_let(alloc, program, walk, place, &node.form, values)?;
+        step_let(alloc, program, walk, place, &node.form, values, ahead)?;
         return Ok(());
     }
     match &node.form {
@@ -168,7 +212,7 @@ pub fn step(
             Ok(())
         }
         AForm::If0 => {
-            step_if(alloc, out, walk, place, values)?;
+            step_if(alloc, out, walk, place, values, ahead)?;
             Ok(())
         }
         _ => unreachable!(),

@@ -1,4 +1,4 @@
-use Rattle.gen_law.proofs.Typed.{accepted}
+use Rattle.gen_law.proofs.Accepted.{accepted}
 use Rattle.gen_law.proofs.types_are_kept.Goals as goal
 
 pub returns : goal.returns

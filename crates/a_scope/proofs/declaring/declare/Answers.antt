@@ -10,13 +10,14 @@ returns-clause-scope c =
     let x = a_decl c.args.form.now (a_values c.args.values.now) in
     let p = program_in c.args.program.now in
     let es = c.args.vars.now.items in
-    let e = c.in_ok-entry.entry in
+    let e = c.placed-entry.result in
+    let made = c.in_ok-made.made in
     declared_is p x c.args.names es _ e c.in_ok-push.ensures.items c.requires.under (
     subst (λ k. shown k e ≡ decl_ty p (scope c.args.names es) x) c.in_ok-after.ensures (
-    c.in_ok-entry.ensures.0 ∙ ap (λ us. decl_ty p (scope c.args.names us) x) c.deref.ensures.value
+    c.placed-entry.ensures.shown c.in_ok-after.after ∙ c.in_ok-made.ensures.0 ∙ ap (λ us. decl_ty p (scope c.args.names us) x) c.deref.ensures.value
     )
     )
 
 pub returns-clause-more : goal.returns-clause-more
 returns-clause-more c =
-    (c.in_ok-entry.entry, omega (arith, c.in_ok-entry.ensures.1, c.in_ok-after.ensures), c.in_ok-push.ensures.items)
+    (c.placed-entry.result, omega (arith, c.placed-entry.ensures.names, c.in_ok-made.ensures.1, c.in_ok-after.ensures), c.placed-entry.ensures.register, c.in_ok-push.ensures.items)

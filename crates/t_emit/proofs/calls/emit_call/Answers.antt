@@ -1,20 +1,42 @@
-use Rattle.std.proofs.Common.{◌≡◌, ◌+◌, ◌-◌, suc, ◌∙◌, ap, ap₂, arith, length}
-use Rattle.t_emit.specs.Code.{onto}
-use Rattle.gen_law.specs.Gen.{into, intos, downs}
-use Rattle.a_terms.specs.NodeTrees.{a_values, no_value}
-use Rattle.a_terms.specs.Row.{top, others}
-use Rattle.t_emit.proofs.Emitted.{some_length}
+use Rattle.std.proofs.Common.{◌≡◌, ◌+◌, suc, [], ◌∙◌, ap, drop, arith}
+use Rattle.t_emit.specs.Code.{onto, places}
+use Rattle.gen_law.specs.Gen.{call_code, tys}
+use Rattle.a_scope.specs.Scope.{homes}
+use Rattle.a_terms.specs.Tree.{AVal}
+use Rattle.a_terms.specs.Read.{atrees}
+use Rattle.a_terms.specs.NodeTrees.{a_value, a_values, no_value}
+use Rattle.a_terms.specs.Row.{top}
+use Rattle.t_emit.proofs.Emitted.{call_first, call_end}
 use Rattle.t_emit.proofs.calls.emit_call.Goals as goal
 
-pub returns : goal.returns
-returns c = λ rest.
-    let d = c.args.depth in
-    let vs = others (a_values c.args.values.now) in
-    let v = top no_value (a_values c.args.values.now) in
+pub loop-i-init : goal.loop-i-init
+loop-i-init c = λ ts.
+    let es = c.args.vars.now in
+    let vs = c.args.values.now in
+    let k = top no_value (a_values vs) in
     let old = c.args.code.now.items in
-    let one : c.args.above + 1 ≡ suc c.args.above = omega arith in
-    let count : length c.args.values.now - 1 ≡ length vs = omega (arith, some_length c.args.values.now c.requires.some) in
-    c.in_ok-emit_downs.ensures rest ∙ c.in_ok-emit_arguments.ensures _ ∙ c.in_ok-emit_value.ensures _
-    ∙ ap (λ u. onto old (into d c.args.above u (intos d (suc c.args.above) vs (downs (length c.args.values.now - 1) 1 (c.args.above + 1) rest)))) c.first.ensures
-    ∙ ap₂ (λ n r. onto old (into d c.args.above v (intos d (suc c.args.above) vs (downs n 1 r rest)))) count one
-    ∙ ap (λ r. onto old (into d r v (intos d (suc r) vs (downs (length vs) 1 (suc r) rest)))) c.requires.above
+    let b = c.args.above in
+    ap (λ xs. onto old (call_code 1 b (places es xs) (a_values (drop 1 vs)) k ts)) c.new-saved.ensures.items
+    ∙ ap (onto old) (call_first 1 b (homes es) vs k ts)
+
+pub loop-i-preserved : goal.loop-i-preserved
+loop-i-preserved c = λ ts.
+    let vs = c.args.values.now in
+    let more : c.loop-i.i + 1 ≡ suc c.loop-i.i = omega arith in
+    ap (λ j. onto c.emit_argument.new.code.items (call_code j c.in_ok-free.free (places c.args.vars.now c.emit_argument.new.saved.items) (a_values (drop (c.loop-i.i + 1) vs)) (top no_value (a_values vs)) ts)) more
+    ∙ c.in_ok-free.ensures ts ∙ c.loop-i.invariant ts
+
+pub returns : goal.returns
+returns c =
+    let es = c.args.vars.now in
+    let vs = c.args.values.now in
+    let k = top no_value (a_values vs) in
+    let ts = tys (atrees c.args.types.now) in
+    let i = c.loop-i.i in
+    let old = c.loop-i.code.items in
+    let b = c.loop-i.free in
+    c.in_ok-end.ensures i
+    ∙ ap (λ xs. onto old (call_code i b (places es xs) [] (a_value c.first.result.now) ts)) c.deref.ensures.value
+    ∙ ap (λ (v : AVal). onto old (call_code i b (places es c.loop-i.saved.items) [] v ts)) c.first.ensures
+    ∙ ap (onto old) (call_end i b (places es c.loop-i.saved.items) vs k ts i c.loop-i-test.false)
+    ∙ c.loop-i.invariant ts

@@ -2,15 +2,16 @@ use Rattle.std.proofs.Common.{◌+◌, ap, sym, subst, length, arith, List}
 use Rattle.t_terms.specs.Read.{blocks_of}
 use Rattle.t_terms.proofs.Blocks.{blocks_count}
 use Rattle.a_terms.specs.Program.{program_in}
-use Rattle.a_scope.specs.Scope.{Under}
+use Rattle.a_scope.specs.Scope.{homes, Under}
 use Rattle.a_scope.specs.declared.scope.Entry.{Entry}
-use Rattle.t_gen.proofs.Bodies.{begins, begins_long, block_next, block_long, blocks_end, rows_at}
+use Rattle.t_gen.proofs.Bodies.{homes_rows, begins, begins_long, block_next, block_long, blocks_end, rows_at}
 use Rattle.t_gen.proofs.program.all_blocks.Goals as goal
 
 pub emit_body-requires : goal.emit_body-requires
 emit_body-requires c = record {
   one = c.requires.main;
   under = subst (λ (es : List Entry). Under 0 es) (sym c.new.ensures.items) tt;
+  homes = homes_rows c.new.result.items 0 (ap homes c.new.ensures.items);
   block = omega (arith, ap length c.in_ok-out.ensures, blocks_count c.in_ok-out.out.items);
 }
 

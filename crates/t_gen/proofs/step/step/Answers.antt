@@ -8,7 +8,9 @@ use Rattle.a_terms.specs.NodeTrees.{a_values, a_build, a_let, a_decl, no_value, 
 use Rattle.a_terms.specs.Arity.{a_kids, AArity}
 use Rattle.a_terms.specs.Row.{IsOne, IsSome, top, others}
 use Rattle.a_terms.specs.declared.nodes.AForm.{AForm}
-use Rattle.t_gen.proofs.Stepping.{build_decl, stepped_as}
+use Rattle.a_uses.specs.Uses.{Tells, Ending}
+use Rattle.t_gen.proofs.Stepping.{build_decl, stepped_as, keeps_as, told_ending}
+use Rattle.t_gen.specs.Pending.{Parting}
 use Rattle.t_gen.proofs.step.step.Goals as goal
 
 pub step_let-requires : goal.step_let-requires
@@ -40,28 +42,34 @@ step_if-requires c = record {
 }
 
 pub returns-then-declares : goal.returns-then-declares
-returns-then-declares c =
+returns-then-declares c = λ ts told k.
     let f = c.args.node.now.form in
-    let b = build_decl f (a_values c.args.node.now.values.items) (sym c.declares.ensures ∙ c.if-declares.true) in
-    stepped_as (b.0 ∙ ap (λ xs. a_let (a_decl f (a_values xs))) (sym c.as_slice-values.ensures.value)) b.1 (c.in_ok-step_let.ensures c.args.out.now.items c.requires.fit)
+    let is = sym c.declares.ensures ∙ c.if-declares.true in
+    let b = build_decl f (a_values c.args.node.now.values.items) is in
+    let same = c.as_slice-values.ensures.value in
+    let w = c.args.ahead.now in
+    let t = told_ending f (a_values c.args.node.now.values.items) ts w is told in
+    let t2 = subst (λ xs. Ending (a_decl f (a_values xs)) (top no_term ts) w) (sym same) t in
+    let e = b.0 ∙ ap (λ xs. a_let (a_decl f (a_values xs))) (sym same) in
+    stepped_as e b.1 (c.in_ok-step_let.ensures c.args.out.now.items ts t2 c.requires.fit (keeps_as c.args.walk.now.vars.items c.args.place c.args.walk.now.places.items ts e k))
 
 pub returns-in_ok-step_call-in-Call : goal.returns-in_ok-step_call-in-Call
-returns-in_ok-step_call-in-Call c =
-    stepped_as
-    (ap (λ (f : AForm). a_build f (a_values c.args.node.now.values.items)) c.in-Call.is
-    ∙ ap₂ (λ xs us ts. a.Call (top no_value (a_values xs)) (atrees us) (others (a_values xs)) ∷ ts) (sym c.as_slice-values.ensures.value) (sym c.deref.ensures.value))
-    (ap a_kids c.in-Call.is) (c.in_ok-step_call-in-Call.ensures (program_in c.args.program.now) c.requires.fit)
+returns-in_ok-step_call-in-Call c = λ rest told k.
+    let e = ap (λ (f : AForm). a_build f (a_values c.args.node.now.values.items)) c.in-Call.is
+    ∙ ap₂ (λ xs us ts. a.Call (top no_value (a_values xs)) (atrees us) (others (a_values xs)) ∷ ts) (sym c.as_slice-values.ensures.value) (sym c.deref.ensures.value) in
+    stepped_as e (ap a_kids c.in-Call.is) (c.in_ok-step_call-in-Call.ensures (program_in c.args.program.now) rest c.requires.fit (keeps_as c.args.walk.now.vars.items c.args.place c.args.walk.now.places.items rest e k))
 
 pub returns-in_ok-step_halt-in-Halt : goal.returns-in_ok-step_halt-in-Halt
-returns-in_ok-step_halt-in-Halt c =
-    stepped_as
-    (ap (λ (f : AForm). a_build f (a_values c.args.node.now.values.items)) c.in-Halt.is
-    ∙ ap (λ xs ts. a.Halt (top no_value (a_values xs)) ∷ ts) (sym c.as_slice-values.ensures.value))
-    (ap a_kids c.in-Halt.is) (c.in_ok-step_halt-in-Halt.ensures (program_in c.args.program.now) c.requires.fit)
+returns-in_ok-step_halt-in-Halt c = λ rest told k.
+    let e = ap (λ (f : AForm). a_build f (a_values c.args.node.now.values.items)) c.in-Halt.is
+    ∙ ap (λ xs ts. a.Halt (top no_value (a_values xs)) ∷ ts) (sym c.as_slice-values.ensures.value) in
+    stepped_as e (ap a_kids c.in-Halt.is) (c.in_ok-step_halt-in-Halt.ensures (program_in c.args.program.now) rest c.requires.fit (keeps_as c.args.walk.now.vars.items c.args.place c.args.walk.now.places.items rest e k))
 
 pub returns-in_ok-step_if-in-If0 : goal.returns-in_ok-step_if-in-If0
-returns-in_ok-step_if-in-If0 c =
-    stepped_as
-    (ap (λ (f : AForm). a_build f (a_values c.args.node.now.values.items)) c.in-If0.is
-    ∙ ap (λ xs ts. a.If0 (top no_value (a_values xs)) (top no_term ts) (top no_term (others ts)) ∷ others (others ts)) (sym c.as_slice-values.ensures.value))
-    (ap a_kids c.in-If0.is) (c.in_ok-step_if-in-If0.ensures (program_in c.args.program.now) c.requires.fit)
+returns-in_ok-step_if-in-If0 c = λ rest told k.
+    let w = c.args.ahead.now in
+    let parting = subst (λ (f : AForm). Tells f (a_values c.args.node.now.values.items) rest w) c.in-If0.is told in
+    let same = c.as_slice-values.ensures.value in
+    let e = ap (λ (f : AForm). a_build f (a_values c.args.node.now.values.items)) c.in-If0.is
+    ∙ ap (λ xs ts. a.If0 (top no_value (a_values xs)) (top no_term ts) (top no_term (others ts)) ∷ others (others ts)) (sym same) in
+    stepped_as e (ap a_kids c.in-If0.is) (c.in_ok-step_if-in-If0.ensures (program_in c.args.program.now) rest (subst (λ xs. Parting (top no_value (a_values xs)) rest w) (sym same) parting) c.requires.fit (keeps_as c.args.walk.now.vars.items c.args.place c.args.walk.now.places.items rest e k))

@@ -1,20 +1,20 @@
-use Rattle.std.proofs.Common.{◌≡◌, length, rules, ◌∙◌, ap}
-use Rattle.t_terms.specs.Tree as T
-use Rattle.t_terms.specs.Tree.{Ends}
+use Rattle.std.proofs.Common.{◌≡◌, ◌∙◌, suc, List, ap, sym}
 use Rattle.t_terms.specs.Read.{blocks_of}
-use Rattle.t_emit.specs.Code.{onto}
-use Rattle.t_emit.specs.Code.{fill}
+use Rattle.t_emit.specs.Code.{onto, fill}
 use Rattle.t_gen.proofs.Filled.{call_step}
-use Rattle.gen_law.specs.Gen.{above, tys, call_code}
+use Rattle.gen_law.specs.Gen.{used, top as greatest, above, tys, call_code}
 use Rattle.a_terms.specs.Tree as a
 use Rattle.a_terms.specs.Read.{atrees}
 use Rattle.a_terms.specs.NodeTrees.{a_values, no_value}
 use Rattle.a_terms.specs.Row.{top, others}
-use Rattle.t_gen.proofs.Stepping.{end_stepped}
+use Rattle.a_scope.specs.Scope.{homes}
+use Rattle.a_scope.specs.declared.scope.Entry.{Entry}
+use Rattle.t_gen.proofs.Stepping.{end_stepped, keeps_first, length_arguments}
+use Rattle.t_gen.specs.Pending.{tops}
 use Rattle.t_gen.proofs.step.step_call.Goals as goal
 
 pub returns : goal.returns
-returns c = λ bs f.
+returns c = λ bs rest f k.
     let vs = others (a_values c.args.values.now) in
     let v = top no_value (a_values c.args.values.now) in
     let ts = atrees c.args.types.now in
@@ -23,13 +23,12 @@ returns c = λ bs f.
     let o = blocks_of c.args.out.now.items in
     let p = c.args.place in
     let old = c.args.walk.now.code.items in
-    let d = c.len-depth.result in
-    let long : d ≡ length es = search rules in
     let t = a.Call v ts vs in
-    end_stepped bs p t es ps c.args.out.now.items c.close_block.new.out.items old c.close_block.new.code.items
+    let m = homes es in
+    let k0 = keeps_first p (tops ps) es t rest c.requires.vars k in
+    let free : c.in_ok-above.above ≡ above m v vs = c.in_ok-above.ensures m (used t) k0 ∙ ap (λ b. suc (greatest b m (used t))) (sym (length_arguments c.args.values.now)) in
+    end_stepped bs p t rest es ps c.args.out.now.items c.close_block.new.out.items old c.close_block.new.code.items
     c.requires.vars c.close_block.ensures.empty
     (c.close_block.ensures.filled
-    ∙ ap (λ e. fill p.block (onto c.emit_call.new.code.items (Ends e)) o) (c.in_ok-end.ensures ∙ ap (λ r. T.Jmp (T.Plain (T.Reg r) (tys ts))) c.above_all-above.ensures)
-    ∙ ap (λ x. fill p.block x o) (c.in_ok-emit_call.ensures (Ends (T.Jmp (T.Plain (T.Reg (above d vs)) (tys ts)))))
-    ∙ ap (λ n. fill p.block (onto old (call_code n v vs (Ends (T.Jmp (T.Plain (T.Reg (above n vs)) (tys ts)))))) o) long)
-    f (λ out at k g js. call_step bs at out (onto old) p.block k g v ts vs js)
+    ∙ ap (λ x. fill p.block x o) (c.in_ok-end.ensures ∙ ap (λ (xs : List Entry). onto old (call_code 1 c.in_ok-above.above (homes xs) vs v (tys ts))) c.deref.ensures.value ∙ ap (λ b. onto old (call_code 1 b m vs v (tys ts))) free))
+    f (λ out at k m g js. call_step bs at out (onto old) p.block k m g v ts vs js) k

@@ -1,0 +1,241 @@
+// What code generation asks of the terms that are still to come.
+ghost use Rattle.std.specs.Prelude.{◌≡◌, ◌≤◌, [], ◌∷◌, ◌||◌, ◌&&◌, not, List, ℕ, true, length, IfOk, OnOk};
+ghost use Rattle.a_terms.specs.Tree.{ATm};
+ghost use Rattle.a_terms.specs.NodeTrees.{a_value, a_values, a_decl, a_let, a_build, a_onto, a_tree, is_decl, no_value, no_term};
+ghost use Rattle.a_terms.specs.Tree.{Call, If0, Halt};
+ghost use Rattle.a_terms.specs.Arity.{AArity, ARow};
+ghost use Rattle.a_terms.specs.Row.{IsOne, IsSome, top, others};
+ghost use Rattle.gen_law.specs.Gen.{used, uses, uses_any};
+ghost use Rattle.a_uses.specs.Uses.{has, mem, Ending, both_used, both_names, newest, AllHold, Holds, Listed, Tells, Told, back};
+
+use crate::used::{Used, add_all, has_number, list, missing, missing_of, none, note_all, outside};
+use a_terms::walks::sum;
+use a_terms::{ABase, AForm, ANode, AValue};
+use idx_core::OutOfMemory;
+use std::alloc::Global;
+
+/// Of a declaration: whether the rest uses a variable by both of its names, whether it uses the new name, and which
+/// variables the declaration uses and the rest does not. Of a choice: which variables its value or its third part uses
+/// and its second part does not, and those that its third part uses, in ascending order.
+#[derive(Drop)]
+pub struct Ahead {
+    pub both: bool,
+    pub new: bool,
+    pub gone: Vec<u64>,
+    pub third: Vec<u64>,
+}
+
+/// What code generation asks of a row of nodes: of what comes after each of them, the last one first, and which variables
+/// the row's first term uses, in ascending order.
+#[derive(Drop)]
+pub struct Aheads {
+    pub each: Vec<Ahead>,
+    pub first: Vec<u64>,
+}
+
+// Of a value that gets one more name: whether the rest, which uses these, uses both.
+fn both_of(rest: &Used, v: &AValue) -> Result<bool, OutOfMemory>
+    ensures { IfOk result (λ r. (e : ATm) → Holds rest.now e → r ≡ both_used (a_value v.now) e) }
+{
+    let wraps = v.wraps.as_slice();
+    if wraps.len() > 0 {
+        return Ok(false);
+    }
+    match v.base {
+        ABase::Var(n) => {
+            let inner = sum(n, 1)?;
+            let old = has_number(rest, inner)?;
+            let new = has_number(rest, 0)?;
+            Ok(old && new)
+        }
+        ABase::Int(_) => Ok(false),
+        ABase::Label(_) => Ok(false),
+        ABase::Data(_) => Ok(false),
+    }
+}
+
+// The same of a declaration.
+fn both(rest: &Used, form: &AForm, values: &[AValue]) -> Result<bool, OutOfMemory>
+    requires form { is_decl form.now ≡ true }
+    requires arity { AArity form.now (a_values values.now) }
+    ensures { IfOk result (λ r. (e : ATm) → Holds rest.now e
+        → r ≡ both_names (a_decl form.now (a_values values.now)) e) }
+{
+    match form {
+        AForm::Value => Ok(both_of(rest, first(values))?),
+        AForm::Init(_) => Ok(both_of(rest, first(values))?),
+        AForm::Proj(_) => Ok(false),
+        AForm::Arith(_) => Ok(false),
+        AForm::Unpack => Ok(false),
+        AForm::Malloc(_) => Ok(false),
+        _ => unreachable!(),
+    }
+}
+
+// The first value.
+fn first(values: &[AValue]) -> &AValue
+    requires { 1 ≤ length values.now }
+    ensures { a_value result.now ≡ top no_value (a_values values.now) }
+{
+    &values[0]
+}
+
+// Of a declaration, where these are the sets of the terms so far.
+fn before_let(
+    alloc: Global,
+    sets: &mut Vec<Used>,
+    form: &AForm,
+    values: &[AValue],
+) -> Result<Ahead, OutOfMemory>
+    requires form { is_decl form.now ≡ true }
+    requires arity { AArity form.now (a_values values.now) }
+    ensures { IfOk result (λ w. (ts : List ATm) → AllHold (newest sets.old.items) ts
+        → Ending (a_decl form.now (a_values values.now)) (top no_term ts) w
+        × AllHold (newest sets.new.items) (a_let (a_decl form.now (a_values values.now)) ts)) }
+{
+    let Some(mut rest) = sets.pop() else {
+        return Err(OutOfMemory);
+    };
+    let named = both(&rest, form, values)?;
+    let new = has_number(&rest, 0)?;
+    outside(&mut rest)?;
+    let mut gone = Vec::new(alloc);
+    missing(&mut gone, &rest, values)?;
+    note_all(&mut rest, values)?;
+    sets.push(rest)?;
+    Ok(Ahead {
+        both: named,
+        new,
+        gone,
+        third: Vec::new(alloc),
+    })
+}
+
+// Of an end.
+fn before_end(alloc: Global, sets: &mut Vec<Used>, values: &[AValue]) -> Result<Ahead, OutOfMemory>
+    ensures { OnOk result ((ts : List ATm) (e : ATm) → ((n : ℕ) → used e n ≡ uses_any (a_values values.now) n)
+        → AllHold (newest sets.old.items) ts → AllHold (newest sets.new.items) (e ∷ ts)) }
+{
+    let mut own = none(alloc);
+    note_all(&mut own, values)?;
+    sets.push(own)?;
+    Ok(Ahead {
+        both: false,
+        new: false,
+        gone: Vec::new(alloc),
+        third: Vec::new(alloc),
+    })
+}
+
+// Of a choice.
+fn before_if(alloc: Global, sets: &mut Vec<Used>, values: &[AValue]) -> Result<Ahead, OutOfMemory>
+    requires arity { IsOne (a_values values.now) }
+    ensures { IfOk result (λ w. (ts : List ATm) → AllHold (newest sets.old.items) ts
+        → (Listed (used (top no_term (others ts))) 0 w.third.items
+        × ((i : ℕ) → mem w.gone.items i ≡ ((uses (top no_value (a_values values.now)) i
+        || used (top no_term (others ts)) i) && not (used (top no_term ts) i))))
+        × AllHold (newest sets.new.items) (If0 (top no_value (a_values values.now)) (top no_term ts)
+        (top no_term (others ts)) ∷ others (others ts))) }
+{
+    let Some(mut second) = sets.pop() else {
+        return Err(OutOfMemory);
+    };
+    let Some(other) = sets.pop() else {
+        return Err(OutOfMemory);
+    };
+    let third = list(alloc, other)?;
+    let mut gone = Vec::new(alloc);
+    missing(&mut gone, &second, values)?;
+    missing_of(&mut gone, &second, &third)?;
+    add_all(&mut second, &third)?;
+    note_all(&mut second, values)?;
+    sets.push(second)?;
+    Ok(Ahead {
+        both: false,
+        new: false,
+        gone,
+        third,
+    })
+}
+
+// Whether a node is a declaration.
+fn declares(form: &AForm) -> bool
+    ensures { result ≡ is_decl form.now }
+{
+    match form {
+        AForm::Value => true,
+        AForm::Proj(_) => true,
+        AForm::Arith(_) => true,
+        AForm::Unpack => true,
+        AForm::Malloc(_) => true,
+        AForm::Init(_) => true,
+        AForm::Call(_) => false,
+        AForm::If0 => false,
+        AForm::Halt => false,
+    }
+}
+
+// Of a node.
+fn before(alloc: Global, sets: &mut Vec<Used>, node: &ANode) -> Result<Ahead, OutOfMemory>
+    requires { AArity node.now.form (a_values node.now.values.items) }
+    ensures { IfOk result (λ w. (ts : List ATm) → AllHold (newest sets.old.items) ts
+        → Tells node.now.form (a_values node.now.values.items) ts w
+        × AllHold (newest sets.new.items) (a_build node.now.form (a_values node.now.values.items) ts)) }
+{
+    let values = node.values.as_slice();
+    if declares(&node.form) {
+        let made = before_let(alloc, sets, &node.form, values)?;
+        return Ok(made);
+    }
+    match &node.form {
+        AForm::Call(_) => {
+            let made = before_end(alloc, sets, values)?;
+            Ok(made)
+        }
+        AForm::Halt => {
+            let made = before_end(alloc, sets, values)?;
+            Ok(made)
+        }
+        AForm::If0 => {
+            let made = before_if(alloc, sets, values)?;
+            Ok(made)
+        }
+        _ => unreachable!(),
+    }
+}
+
+// What comes after each node, the last node first, and the sets of the terms that the nodes make.
+fn look_back(
+    alloc: Global,
+    nodes: &[ANode],
+    sets: &mut Vec<Used>,
+) -> Result<Vec<Ahead>, OutOfMemory>
+    requires row { ARow nodes.now 1 }
+    requires none { sets.old.items ≡ [] }
+    ensures told { IfOk result (λ r. Told nodes.now (back r.items)) }
+    ensures sets { OnOk result (AllHold (newest sets.new.items) (a_onto nodes.now [])) }
+{
+    let mut made = Vec::new(alloc);
+    let mut left = nodes.len();
+    while left > 0 {
+        left -= 1;
+        let ahead = before(alloc, sets, &nodes[left])?;
+        made.push(ahead)?;
+    }
+    Ok(made)
+}
+
+/// What code generation asks of what comes after each node, and of the whole. An error is want of memory.
+pub fn look_ahead(alloc: Global, nodes: &[ANode]) -> Result<Aheads, OutOfMemory>
+    requires { ARow nodes.now 1 }
+    ensures told { IfOk result (λ r. Told nodes.now (back r.each.items)) }
+    ensures first { IfOk result (λ r. Listed (used (a_tree nodes.now)) 0 r.first.items) }
+{
+    let mut sets = Vec::new(alloc);
+    let each = look_back(alloc, nodes, &mut sets)?;
+    let Some(whole) = sets.pop() else {
+        return Err(OutOfMemory);
+    };
+    let first = list(alloc, whole)?;
+    Ok(Aheads { each, first })
+}

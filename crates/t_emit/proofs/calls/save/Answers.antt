@@ -1,0 +1,11 @@
+use Rattle.std.proofs.Common.{◌∙◌, sym, ap}
+use Rattle.t_emit.specs.Code.{after_saves}
+use Rattle.gen_law.specs.Gen.{places_saved}
+use Rattle.t_emit.proofs.Emitted.{saves_push}
+use Rattle.t_emit.proofs.calls.save.Goals as goal
+
+pub returns-in_ok-next-clause-places : goal.returns-in_ok-next-clause-places
+returns-in_ok-next-clause-places c = λ m.
+    let old = c.args.saved.now.items in
+    ap (λ xs. after_saves xs m) c.in_ok-push.ensures.items ∙ saves_push old (c.args.r, c.args.above) m
+    ∙ sym (ap (λ b. places_saved b c.args.above c.args.r (after_saves old m)) c.if-lost.true)

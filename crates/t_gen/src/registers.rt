@@ -1,0 +1,137 @@
+// The registers that hold something.
+ghost use Rattle.std.specs.Prelude.{◌≡◌, ℕ, ◌==◌, ◌||◌, ◌&&◌, ◌+◌, ◌≤◌, ◌<◌, ◌^◌, not, Bool, true, false, Some, IfOk, OnOk, IfSome, IfNone};
+ghost use Rattle.std.specs.Ordering.{nat_cmp};
+ghost use Rattle.std.specs.BTreeMap.{get};
+ghost use Rattle.t_gen.specs.Registers.{Holds, Gaps, Besides, Greatest, Least};
+
+use idx_core::OutOfMemory;
+use std::alloc::Global;
+use std::collections::{BTreeMap, BTreeSet};
+
+/// Registers from 1 on: those that hold something, and the gaps between them, each as its first register and the one
+/// after its last. So the least register that holds nothing is found in logarithmic time.
+#[derive(Drop)]
+pub struct Registers {
+    pub busy: BTreeSet<u64>,
+    pub gaps: BTreeMap<u64, u64>,
+}
+
+impl Registers {
+    /// Where none holds anything. An error is want of memory.
+    pub fn new(alloc: Global) -> Result<Registers, OutOfMemory>
+        ensures { IfOk result (λ s. Holds s (λ r. false)) }
+    {
+        let gaps = whole(alloc)?;
+        Ok(Registers {
+            busy: BTreeSet::new(alloc),
+            gaps,
+        })
+    }
+
+    /// The greatest register that holds something, or 0.
+    pub fn top(&self) -> u64
+        ensures { (h : ℕ → Bool) → Holds self.now h → Greatest result h }
+    {
+        match self.busy.last() {
+            Some(r) => *r,
+            None => 0,
+        }
+    }
+
+    /// The least register that holds nothing. An error says that there is none.
+    pub fn least(&self) -> Result<u64, OutOfMemory>
+        ensures { IfOk result (λ f. (h : ℕ → Bool) → Holds self.now h → Least f h) }
+    {
+        match self.gaps.first_key_value() {
+            Some((first, _)) => {
+                let first = *first;
+                Ok(first)
+            }
+            None => Err(OutOfMemory),
+        }
+    }
+
+    /// Register r holds nothing any more. An error is want of memory.
+    pub fn release(&mut self, r: u64) -> Result<(), OutOfMemory>
+        ensures { OnOk result ((h : ℕ → Bool) → Holds self.old h → Holds self.new (λ q. h q && not (r == q))) }
+    {
+        if r == 0 {
+            return Ok(());
+        }
+        if self.busy.remove(&r) {
+            let Some(end) = r.checked_add(1) else {
+                return Err(OutOfMemory);
+            };
+            put_gap(&mut self.gaps, r, end)?;
+        }
+        Ok(())
+    }
+
+    /// Register r holds something from now on. An error is want of memory.
+    pub fn take(&mut self, r: u64) -> Result<(), OutOfMemory>
+        ensures { OnOk result ((h : ℕ → Bool) → Holds self.old h → Holds self.new (λ q. (r == q) || h q)) }
+    {
+        self.busy.insert(r)?;
+        match gap_of(&self.gaps, r) {
+            Some((first, end)) => {
+                split(&mut self.gaps, first, end, r)?;
+                Ok(())
+            }
+            None => Ok(()),
+        }
+    }
+}
+
+// One gap with all registers.
+fn whole(alloc: Global) -> Result<BTreeMap<u64, u64>, OutOfMemory>
+    ensures { IfOk result (λ g. Gaps g (λ r. false)) }
+{
+    let mut gaps = BTreeMap::new(alloc);
+    gaps.insert(1, u64::MAX)?;
+    Ok(gaps)
+}
+
+// The gap that register r is in.
+fn gap_of(gaps: &BTreeMap<u64, u64>, r: u64) -> Option<(u64, u64)>
+    ensures some { IfSome result (λ p. (get nat_cmp gaps.now p.0 ≡ Some p.1) × (p.0 ≤ r) × (r < p.1)) }
+    ensures none { IfNone result ((h : ℕ → Bool) → Gaps gaps.now h → 1 ≤ r → r + 1 < 2 ^ 64 → h r ≡ true) }
+{
+    let (first, end) = last_up_to(gaps, r)?;
+    if r < end {
+        return Some((first, end));
+    }
+    None
+}
+
+// The last gap that does not begin after register r.
+fn last_up_to(gaps: &BTreeMap<u64, u64>, r: u64) -> Option<(u64, u64)>
+    ensures some { IfSome result (λ p. (get nat_cmp gaps.now p.0 ≡ Some p.1) × (p.0 ≤ r)
+        × ((a b : ℕ) → get nat_cmp gaps.now a ≡ Some b → a ≤ r → a ≤ p.0)) }
+    ensures none { IfNone result ((a b : ℕ) → get nat_cmp gaps.now a ≡ Some b → a ≤ r → ⊥) }
+{
+    let (first, end) = gaps.range(..=r).next_back()?;
+    Some((*first, *end))
+}
+
+// The registers from `first` on and before `end` become a gap, if there are any.
+fn put_gap(gaps: &mut BTreeMap<u64, u64>, first: u64, end: u64) -> Result<(), OutOfMemory>
+    ensures { OnOk result ((h i : ℕ → Bool) → Gaps gaps.old h → 1 ≤ first
+        → ((r : ℕ) → first ≤ r → r < end → (h r ≡ true) × (i r ≡ false)) → Besides first end h i → Gaps gaps.new i) }
+{
+    if first < end {
+        gaps.insert(first, end)?;
+    }
+    Ok(())
+}
+
+// The gap without register r.
+fn split(gaps: &mut BTreeMap<u64, u64>, first: u64, end: u64, r: u64) -> Result<(), OutOfMemory>
+    requires { r < end }
+    ensures { OnOk result ((h : ℕ → Bool) → get nat_cmp gaps.old first ≡ Some end → first ≤ r → Gaps gaps.old h
+        → Gaps gaps.new (λ q. (r == q) || h q)) }
+{
+    gaps.remove(&first);
+    put_gap(gaps, first, r)?;
+    put_gap(gaps, r + 1, end)?;
+    Ok(())
+}

@@ -1,0 +1,17 @@
+pub mod Computed
+pub mod Erased
+pub mod Files
+pub mod Heaps
+pub mod Kept
+pub mod Live
+pub mod Meaning
+pub mod Reached
+pub mod Scopes
+pub mod Sim
+pub mod Small
+pub mod Standing
+pub mod TypeLaws
+pub mod Typed
+pub mod Visits
+pub mod Walks
+pub mod Wholes

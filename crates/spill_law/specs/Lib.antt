@@ -1,0 +1,6 @@
+pub mod Bound
+pub mod Bounded
+pub mod Correct
+pub mod Laws
+pub mod Reach
+pub mod Spill

@@ -1,0 +1,16 @@
+pub mod Applies
+pub mod Blocks
+pub mod Bounding
+pub mod Data
+pub mod Depth
+pub mod Fronts
+pub mod Knowing
+pub mod Lasts
+pub mod Onward
+pub mod Parts
+pub mod Places
+pub mod Props
+pub mod Readying
+pub mod Tuples
+pub mod Walk
+pub mod Wants

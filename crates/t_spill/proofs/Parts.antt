@@ -1,0 +1,120 @@
+-- Blocks and data made one by one.
+use Rattle.std.proofs.Common.{◌≡◌, ℕ, zero, suc, ◌+◌, ◌<◌, ◌≤◌, List, [], ◌∷◌, ◌++◌, map, refl, sym, ap, ◌∙◌, take, drop, length, get_or, arith, subst}
+use Rattle.idx_core.specs.declared.span.Span.{Span}
+use Rattle.t_types.specs.declared.types.TType.{TType}
+use Rattle.t_terms.specs.Tree.{TBlock, TDatum, TData, TProg}
+use Rattle.t_terms.specs.Read.{value, block, blocks_of, data_of, data_fields as data_items}
+use Rattle.t_types.specs.Read.{tree}
+use Rattle.t_terms.specs.Spanned.{plain_fields}
+use Rattle.t_terms.specs.declared.block.Block.{Block}
+use Rattle.t_terms.specs.declared.data.Data.{Data}
+use Rattle.t_terms.specs.declared.value.Value.{Value}
+use Rattle.spill_law.specs.Spill.{sp_block, sp_blocks, sp_datum, sp_data, entry}
+use Rattle.t_frames.specs.Onto.{ValueFits}
+use Rattle.t_spill.specs.Ready.{BlockReady, BlocksReady, DataReady, HeapReady}
+
+-- blocks
+pub blocks_more : (bs : List Block) (b : Block) → blocks_of (bs ++ b ∷ []) ≡ blocks_of bs ++ block b ∷ []
+blocks_more [] b = refl
+blocks_more (x ∷ bs) b = ap (λ (ys : List TBlock). block x ∷ ys) (blocks_more bs b)
+
+blocks_suc : (P : TProg) (bs : List Block) (i : ℕ) (b : Block) → i < length bs → b ≡ get_or bs i b → sp_blocks P (blocks_of (drop i bs)) ≡ sp_block P (block b) ∷ sp_blocks P (blocks_of (drop (suc i) bs))
+blocks_suc P [] i b lt is = absurd (omega arith)
+blocks_suc P (x ∷ bs) zero b lt is = ap (λ (y : Block). sp_block P (block y) ∷ sp_blocks P (blocks_of bs)) (sym is)
+blocks_suc P (x ∷ bs) (suc i) b lt is = blocks_suc P bs i b (omega arith) is
+
+block_there : (P : TProg) (bs : List Block) (i : ℕ) (b : Block) → i < length bs → b ≡ get_or bs i b → BlocksReady P (blocks_of bs) → BlockReady P (block b)
+block_there P [] i b lt is h = absurd (omega arith)
+block_there P (x ∷ bs) zero b lt is h = subst (λ (y : Block). BlockReady P (block y)) (sym is) h.0
+block_there P (x ∷ bs) (suc i) b lt is h = block_there P bs i b (omega arith) is h.1
+
+pub block_ready : (P : TProg) (bs : List Block) (i : ℕ) (b : Block) → i < length bs → b ≡ get_or bs i b → BlocksReady P (blocks_of bs) → BlockReady P (block b)
+block_ready P bs i b lt is h = block_there P bs i b lt is h
+
+longer : (xs : List TBlock) (y : TBlock) (ys : List TBlock) → (xs ++ y ∷ []) ++ ys ≡ xs ++ (y ∷ ys)
+longer [] y ys = refl
+longer (x ∷ xs) y ys = ap (λ (zs : List TBlock). x ∷ zs) (longer xs y ys)
+
+pub one_block : (P : TProg) (bs : List Block) (i : ℕ) (b : Block) (old new : List Block) (made : Block) (all : List TBlock) → i < length bs → b ≡ get_or bs i b → new ≡ old ++ made ∷ [] → block made ≡ sp_block P (block b) →
+    blocks_of old ++ sp_blocks P (blocks_of (drop i bs)) ≡ all → blocks_of new ++ sp_blocks P (blocks_of (drop (i + 1) bs)) ≡ all
+one_block P bs i b old new made all lt is put same h =
+    let one : suc i ≡ i + 1 = omega arith in
+    ap (λ (xs : List Block). blocks_of xs ++ sp_blocks P (blocks_of (drop (i + 1) bs))) put
+    ∙ ap (λ (ys : List TBlock). ys ++ sp_blocks P (blocks_of (drop (i + 1) bs))) (blocks_more old made ∙ ap (λ y. blocks_of old ++ y ∷ []) same)
+    ∙ longer (blocks_of old) (sp_block P (block b)) (sp_blocks P (blocks_of (drop (i + 1) bs)))
+    ∙ ap (λ n. blocks_of old ++ (sp_block P (block b) ∷ sp_blocks P (blocks_of (drop n bs)))) (sym one)
+    ∙ ap (λ ys. blocks_of old ++ ys) (sym (blocks_suc P bs i b lt is)) ∙ h
+
+none_after : (P : TProg) (bs : List Block) (i : ℕ) → length bs ≤ i → sp_blocks P (blocks_of (drop i bs)) ≡ []
+none_after P [] zero le = refl
+none_after P [] (suc i) le = refl
+none_after P (x ∷ bs) zero le = absurd (omega arith)
+none_after P (x ∷ bs) (suc i) le = none_after P bs i (omega arith)
+
+no_more : (xs : List TBlock) → xs ++ [] ≡ xs
+no_more [] = refl
+no_more (x ∷ xs) = ap (λ (zs : List TBlock). x ∷ zs) (no_more xs)
+
+pub all_blocks : (P : TProg) (bs made : List Block) (i : ℕ) (all : List TBlock) → length bs ≤ i → blocks_of made ++ sp_blocks P (blocks_of (drop i bs)) ≡ all → blocks_of made ≡ all
+all_blocks P bs made i all le h = sym (no_more (blocks_of made)) ∙ ap (λ ys. blocks_of made ++ ys) (sym (none_after P bs i le)) ∙ h
+
+pub first_block : (xs : List Block) (b : Block) (ys : List TBlock) → xs ≡ b ∷ [] → block b ≡ entry → blocks_of xs ++ ys ≡ entry ∷ ys
+first_block xs b ys e same = ap (λ (zs : List Block). blocks_of zs ++ ys) e ∙ ap (λ y. y ∷ ys) same
+
+-- fields of data
+abbrev pub spilled_field : Value × TType × Span → TDatum
+spilled_field x = sp_datum (record { value = value x.0; ty = tree x.1 })
+
+abbrev pub plain_field : Value × TType × Span → TDatum
+plain_field x = record { value = value x.0; ty = tree x.1 }
+
+plain_are : (xs : List (Value × TType × Span)) → plain_fields (data_items xs) ≡ map plain_field xs
+plain_are [] = refl
+plain_are (x ∷ xs) = ap (λ (ys : TData). plain_field x ∷ ys) (plain_are xs)
+
+spilled_are : (xs : List (Value × TType × Span)) → sp_data (plain_fields (data_items xs)) ≡ map spilled_field xs
+spilled_are [] = refl
+spilled_are (x ∷ xs) = ap (λ (ys : TData). spilled_field x ∷ ys) (spilled_are xs)
+
+take_more : (xs : List (Value × TType × Span)) (n : ℕ) → length xs ≤ n → take n xs ≡ xs
+take_more [] zero le = refl
+take_more [] (suc n) le = refl
+take_more (x ∷ xs) zero le = absurd (omega arith)
+take_more (x ∷ xs) (suc n) le = ap (λ (ys : List (Value × TType × Span)). x ∷ ys) (take_more xs n (omega arith))
+
+pub all_fields : (ys xs : List (Value × TType × Span)) (n : ℕ) → map plain_field ys ≡ map spilled_field (take n xs) → length xs ≤ n → plain_fields (data_items ys) ≡ sp_data (plain_fields (data_items xs))
+all_fields ys xs n done le = plain_are ys ∙ done ∙ ap (λ (zs : List (Value × TType × Span)). map spilled_field zs) (take_more xs n le) ∙ sym (spilled_are xs)
+
+pub field_ready : (xs : List (Value × TType × Span)) (i : ℕ) (x : Value × TType × Span) → i < length xs → x ≡ get_or xs i x → DataReady (plain_fields (data_items xs)) → ValueFits (value x.0)
+field_ready [] i x lt is h = absurd (omega arith)
+field_ready (y ∷ xs) zero x lt is h = subst (λ (z : Value × TType × Span). ValueFits (value z.0)) (sym is) h.0
+field_ready (y ∷ xs) (suc i) x lt is h = field_ready xs i x (omega arith) is h.1
+
+-- data tuples
+abbrev pub plain_tuple : Data → TData
+plain_tuple x = plain_fields (data_items x.fields.items)
+
+abbrev pub spilled_tuple : Data → TData
+spilled_tuple x = sp_data (plain_tuple x)
+
+tuples_are : (xs : List Data) → data_of xs ≡ map plain_tuple xs
+tuples_are [] = refl
+tuples_are (x ∷ xs) = ap (λ (ys : List TData). plain_tuple x ∷ ys) (tuples_are xs)
+
+spilled_tuples_are : (xs : List Data) → map sp_data (data_of xs) ≡ map spilled_tuple xs
+spilled_tuples_are [] = refl
+spilled_tuples_are (x ∷ xs) = ap (λ (ys : List TData). spilled_tuple x ∷ ys) (spilled_tuples_are xs)
+
+take_tuples : (xs : List Data) (n : ℕ) → length xs ≤ n → take n xs ≡ xs
+take_tuples [] zero le = refl
+take_tuples [] (suc n) le = refl
+take_tuples (x ∷ xs) zero le = absurd (omega arith)
+take_tuples (x ∷ xs) (suc n) le = ap (λ (ys : List Data). x ∷ ys) (take_tuples xs n (omega arith))
+
+pub all_tuples : (ys xs : List Data) (n : ℕ) → map plain_tuple ys ≡ map spilled_tuple (take n xs) → length xs ≤ n → data_of ys ≡ map sp_data (data_of xs)
+all_tuples ys xs n done le = tuples_are ys ∙ done ∙ ap (λ (zs : List Data). map spilled_tuple zs) (take_tuples xs n le) ∙ sym (spilled_tuples_are xs)
+
+pub tuple_ready : (xs : List Data) (i : ℕ) (x : Data) → i < length xs → x ≡ get_or xs i x → HeapReady (data_of xs) → DataReady (plain_tuple x)
+tuple_ready [] i x lt is h = absurd (omega arith)
+tuple_ready (y ∷ xs) zero x lt is h = subst (λ (z : Data). DataReady (plain_tuple z)) (sym is) h.0
+tuple_ready (y ∷ xs) (suc i) x lt is h = tuple_ready xs i x (omega arith) is h.1

@@ -1,0 +1,51 @@
+use Rattle.std.proofs.Common.{◌≡◌, ◌<◌, ◌^◌, List, ◌∷◌, map, length, sym, ap, ap₂, subst, ◌∙◌, rules, arith}
+use Rattle.std.proofs.Math.Logic.{∥∥₁_elim}
+use Rattle.t_terms.specs.Tree.{TBlock, TData, TProg}
+use Rattle.t_terms.specs.Whole.{Whole, whole_prop}
+use Rattle.t_terms.specs.Read.{blocks_of, data_of, parts}
+use Rattle.t_terms.specs.ReadProgram.{program}
+use Rattle.t_terms.specs.declared.block.Block.{Block}
+use Rattle.t_terms.specs.declared.data.Data.{Data}
+use Rattle.t_terms.proofs.Blocks.{blocks_count}
+use Rattle.spill_law.specs.Spill.{sp_blocks, sp_data, entry, spilled}
+use Rattle.t_spill.specs.Ready.{BlocksReady, HeapReady}
+use Rattle.t_spill.proofs.Readying.{blocks_ready, heap_ready}
+use Rattle.t_spill.proofs.Props.{blocks_prop}
+use Rattle.t_spill.proofs.program.spilled_program.Goals as goal
+
+pub spilled_blocks-requires-clause-ready : goal.spilled_blocks-requires-clause-ready
+spilled_blocks-requires-clause-ready c =
+    let P = program c.args.program.now in
+    subst (λ (bs : List Block). BlocksReady P (blocks_of bs)) (sym c.deref.ensures.value)
+    (∥∥₁_elim c.requires.accepted (blocks_prop P P.blocks) (λ a. ∥∥₁_elim c.requires.names (blocks_prop P P.blocks) (λ f. blocks_ready P c.args.program.now.whole a f)))
+
+pub spilled_blocks-requires-clause-few : goal.spilled_blocks-requires-clause-few
+spilled_blocks-requires-clause-few c =
+    let n : length c.args.program.now.blocks.items < 2 ^ 64 = search rules in
+    omega (arith, n, blocks_count c.args.program.now.blocks.items)
+
+pub spilled_heap-requires : goal.spilled_heap-requires
+spilled_heap-requires c =
+    let n : length c.args.program.now.blocks.items < 2 ^ 64 = search rules in
+    subst (λ (xs : List Data). HeapReady (data_of xs)) (sym c.deref-2.ensures.value)
+    (heap_ready (program c.args.program.now) (omega (arith, n, blocks_count c.args.program.now.blocks.items)) c.args.program.now.whole)
+
+made : (P : TProg) (bs : List Block) (ds : List Data) → blocks_of bs ≡ entry ∷ sp_blocks P P.blocks → data_of ds ≡ map sp_data P.heap → parts bs ds ≡ spilled P
+made P bs ds b d = ap₂ (λ (x : List TBlock) (y : List TData). (let q : TProg = record { blocks = x; heap = y } in q)) b d
+
+pub invariant_of-result : goal.invariant_of-result
+invariant_of-result c =
+    let P = program c.args.program.now in
+    let same = made P c.in_ok-blocks.blocks.items c.in_ok-heap.heap.items
+    (c.in_ok-blocks.ensures ∙ ap (λ (bs : List Block). entry ∷ sp_blocks P (blocks_of bs)) c.deref.ensures.value)
+    (c.in_ok-heap.ensures ∙ ap (λ (xs : List Data). map sp_data (data_of xs)) c.deref-2.ensures.value) in
+    let goal_prop = whole_prop (spilled P) in
+    let whole : Whole (spilled P) = ∥∥₁_elim c.requires.accepted goal_prop (λ a. ∥∥₁_elim c.requires.names goal_prop (λ f. c.programs_are_whole.ensures P c.args.program.now.whole a f)) in
+    record { whole = subst Whole (sym same) whole }
+
+pub returns : goal.returns
+returns c =
+    let P = program c.args.program.now in
+    made P c.in_ok-blocks.blocks.items c.in_ok-heap.heap.items
+    (c.in_ok-blocks.ensures ∙ ap (λ (bs : List Block). entry ∷ sp_blocks P (blocks_of bs)) c.deref.ensures.value)
+    (c.in_ok-heap.ensures ∙ ap (λ (xs : List Data). map sp_data (data_of xs)) c.deref-2.ensures.value)

@@ -1,0 +1,133 @@
+// Whole programs.
+ghost use Rattle.std.specs.Prelude.{◌≡◌, ◌∷◌, ◌≤◌, ◌<◌, ◌^◌, IfOk, length, map};
+ghost use Rattle.t_terms.specs.Read.{block as block_tree, blocks_of, data_of, data_fields as data_items};
+ghost use Rattle.t_terms.specs.Spanned.{plain_fields};
+ghost use Rattle.t_terms.specs.ReadProgram.{program as program_tree};
+ghost use Rattle.t_rules.specs.Rules.{Accepted};
+ghost use Rattle.spill_law.specs.Spill.{sp_blocks, sp_data, entry, spilled, TypesFew};
+ghost use Rattle.spill_law.specs.Correct.{origin};
+ghost use Rattle.spill_law.specs.Bounded.{Spills};
+ghost use Rattle.t_spill.specs.Ready.{BlocksReady, DataReady, HeapReady};
+
+use crate::block::spilled_block;
+use idx_core::{OutOfMemory, Span};
+use std::alloc::Global;
+use t_frames::{NOWHERE, spilled_type, spilled_value};
+use t_terms::{Base, Block, Data, End, Instr, TProgram, Value};
+use t_types::{RegFile, TType};
+
+// The first block makes an empty frame, and enters the old first block.
+fn entry_block(alloc: Global) -> Result<Block, OutOfMemory>
+    ensures { IfOk result (λ b. block_tree b ≡ entry) }
+{
+    let mut body = Vec::new(alloc);
+    let frame = Instr::Malloc {
+        rd: 1,
+        types: Vec::new(alloc),
+    };
+    body.push((frame, NOWHERE))?;
+    let first = Value::Plain {
+        base: Base::Label(1),
+        types: Vec::new(alloc),
+    };
+    Ok(Block {
+        name: NOWHERE,
+        owes: 0,
+        regs: RegFile {
+            regs: Vec::new(alloc),
+        },
+        body,
+        end: End::Jmp(first),
+        end_span: NOWHERE,
+    })
+}
+
+fn spilled_blocks(
+    alloc: Global,
+    program: &TProgram,
+    blocks: &[Block],
+) -> Result<Vec<Block>, OutOfMemory>
+    requires ready { BlocksReady (program_tree program.now) (blocks_of blocks.now) }
+    requires few { length (program_tree program.now).blocks < 2 ^ 64 }
+    ensures { IfOk result (λ r.
+        blocks_of r.items ≡ entry ∷ sp_blocks (program_tree program.now) (blocks_of blocks.now)) }
+{
+    let mut made = Vec::new(alloc);
+    let entry = entry_block(alloc)?;
+    made.push(entry)?;
+    for block in blocks {
+        let block = spilled_block(alloc, program, block)?;
+        made.push(block)?;
+    }
+    Ok(made)
+}
+
+fn spilled_fields(
+    alloc: Global,
+    fields: &[(Value, TType, Span)],
+) -> Result<Vec<(Value, TType, Span)>, OutOfMemory>
+    requires { DataReady (plain_fields (data_items fields.now)) }
+    ensures { IfOk result (λ r.
+        plain_fields (data_items r.items) ≡ sp_data (plain_fields (data_items fields.now))) }
+{
+    let mut made = Vec::new(alloc);
+    for field in fields {
+        let value = spilled_value(alloc, &field.0)?;
+        let ty = spilled_type(alloc, &field.1)?;
+        made.push((value, ty, NOWHERE))?;
+    }
+    Ok(made)
+}
+
+fn spilled_tuple(alloc: Global, tuple: &Data) -> Result<Data, OutOfMemory>
+    requires { DataReady (plain_fields (data_items tuple.now.fields.items)) }
+    ensures { IfOk result (λ r.
+        plain_fields (data_items r.fields.items) ≡ sp_data (plain_fields (data_items tuple.now.fields.items))) }
+{
+    let fields = spilled_fields(alloc, &tuple.fields)?;
+    Ok(Data {
+        name: NOWHERE,
+        fields,
+    })
+}
+
+fn spilled_heap(alloc: Global, heap: &[Data]) -> Result<Vec<Data>, OutOfMemory>
+    requires { HeapReady (data_of heap.now) }
+    ensures { IfOk result (λ r. data_of r.items ≡ map sp_data (data_of heap.now)) }
+{
+    let mut made = Vec::new(alloc);
+    for tuple in heap {
+        let tuple = spilled_tuple(alloc, tuple)?;
+        made.push(tuple)?;
+    }
+    Ok(made)
+}
+
+// The program with frames.
+fn spilled_program(alloc: Global, program: &TProgram) -> Result<TProgram, OutOfMemory>
+    requires accepted { ∥ Accepted (program_tree program.now) ∥₁ }
+    requires names { ∥ TypesFew (program_tree program.now) ∥₁ }
+    ensures { IfOk result (λ q. program_tree q ≡ spilled (program_tree program.now)) }
+{
+    spill_law::programs_are_whole();
+    let blocks = spilled_blocks(alloc, program, &program.blocks)?;
+    let heap = spilled_heap(alloc, &program.heap)?;
+    Ok(TProgram { blocks, heap })
+}
+
+/// A program that means the same and has no register above `k`, in an instruction or in a register file at any depth of
+/// a type. The typing rules accept it. Each of its places comes from a place of the program, and is executed no more
+/// often than that place is the place of a state. Where the program has no package inside a package, hardly more
+/// constructs are open in its text than the program's types reach. Answers want of memory alone.
+pub fn spill(alloc: Global, program: &TProgram, k: u64) -> Result<TProgram, OutOfMemory>
+    requires least { 8 ≤ k }
+    requires accepted { ∥ Accepted (program_tree program.now) ∥₁ }
+    requires names { ∥ TypesFew (program_tree program.now) ∥₁ }
+    ensures is { IfOk result (λ q. program_tree q ≡ spilled (program_tree program.now)) }
+    ensures spills { IfOk result (λ q.
+        ∥ Spills k (program_tree program.now) (program_tree q) (origin (program_tree program.now)) ∥₁) }
+{
+    spill_law::registers_are_bounded();
+    let made = spilled_program(alloc, program)?;
+    Ok(made)
+}

@@ -5,6 +5,7 @@ mod grammar;
 mod interning;
 mod jumps;
 mod lexing;
+mod lines;
 mod programs;
 mod reading;
 mod running;

@@ -14,3 +14,4 @@ mod Turns
 mod Bodies
 mod Exact
 mod Applying
+mod Walking

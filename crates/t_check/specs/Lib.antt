@@ -5,3 +5,4 @@ pub mod Known
 pub mod Labels
 pub mod Marks
 pub mod Verdict
+pub mod Walks

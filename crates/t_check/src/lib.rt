@@ -14,6 +14,8 @@ mod program;
 mod registers;
 mod salt;
 mod values;
+mod walk;
 
 pub use checked::Checked;
 pub use checker::{check, seal};
+pub use walk::{Walk, types_at};

@@ -114,7 +114,12 @@ fn check_block(
 }
 
 // What a block's header says of the registers.
-fn header(alloc: Global, types: &Types, block: &Block, code: u64) -> Result<Registers, OutOfMemory>
+pub(crate) fn header(
+    alloc: Global,
+    types: &Types,
+    block: &Block,
+    code: u64,
+) -> Result<Registers, OutOfMemory>
     requires few { block.now.owes ≤ max_names }
     requires file { WellFormedFile block.now.owes (file block.now.regs.regs.items) }
     requires code { IsNumber types.now (CodeTy block.now.owes (file block.now.regs.regs.items)) code }

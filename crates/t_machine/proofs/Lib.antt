@@ -11,3 +11,4 @@ pub mod Exactly
 pub mod Asking
 pub mod Covering
 pub mod Rows
+pub mod Placed

@@ -15,6 +15,7 @@ use Rattle.t_machine.specs.Places.{ArePlaces}
 use Rattle.t_machine.specs.Words.{regs_of}
 use Rattle.t_machine.specs.Heap.{IsHeap}
 use Rattle.t_machine.specs.Code.{IsCode}
+use Rattle.t_machine.specs.Laid.{IsLaid}
 use Rattle.t_machine.specs.State.{Shows}
 use Rattle.t_machine.specs.declared.word.Word.{Word}
 use Rattle.t_machine.specs.declared.word.Word.TheVariants.{Empty}
@@ -45,8 +46,8 @@ first_there : (bs : List TBlock) → 1 ≤ length bs → (b : TBlock) × (slice_
 first_there [] some = absurd (omega arith)
 first_there (b ∷ bs) some = (b, refl)
 
-pub begins : ProgramLaws → (P : TProg) (x : Heap) (ws : List Word) (code : Code) (at : ℕ) → 1 ≤ length P.blocks → IsCode code (erase_blocks P) → ArePlaces code.places → IsHeap x (erase_heap P) → ws ≡ replicate (length code.places) Empty → slice_get code.entries.items 0 ≡ Some at → Shows P 0 x ws code at
-begins laws P x ws code at some is places heap words entry =
+pub begins : ProgramLaws → (P : TProg) (x : Heap) (ws : List Word) (code : Code) (at : ℕ) → 1 ≤ length P.blocks → IsCode code (erase_blocks P) → IsLaid code (erase_blocks P) → ArePlaces code.places → IsHeap x (erase_heap P) → ws ≡ replicate (length code.places) Empty → slice_get code.entries.items 0 ≡ Some at → Shows P 0 x ws code at
+begins laws P x ws code at some is laid places heap words entry =
     let b = first_there P.blocks some in
     record {
       tuples = erase_heap P;
@@ -58,6 +59,7 @@ begins laws P x ws code at some is places heap words entry =
           (no_words_yet code.places (length code.places) ∙ ap (regs_of code.places) (sym words))
           (laws.starts P b.0 b.1);
       has_code = is;
+      laid = laid;
       has_places = places;
       has_heap = heap;
       has_words = ap (λ us. length us) words ∙ replicate_count (length code.places) Empty;
@@ -66,13 +68,14 @@ begins laws P x ws code at some is places heap words entry =
     }
 
 -- what loading makes
-pub starts : ProgramLaws → (p : TProgram) → 1 ≤ length (blocks_of p.blocks.items) → (lent : List Block) → lent ≡ p.blocks.items → (code : Code) → IsCode code (map erase_block (blocks_of lent)) → ArePlaces code.places → (n : ℕ) → n ≡ length code.places
+pub starts : ProgramLaws → (p : TProgram) → 1 ≤ length (blocks_of p.blocks.items) → (lent : List Block) → lent ≡ p.blocks.items → (code : Code) → IsCode code (map erase_block (blocks_of lent)) → IsLaid code (map erase_block (blocks_of lent)) → ArePlaces code.places → (n : ℕ) → n ≡ length code.places
     → (x : Heap) (tuples : List Data) → tuples ≡ p.heap.items → IsHeap x (map (map erase_datum) (data_of tuples))
     → (xs : List Word) → xs ≡ [] → (k : ℕ) → k ≡ 0 → (ws : List Word) → ws ≡ take n xs ++ replicate (n - k) Empty → (at : ℕ) → at ≡ get_or code.entries.items 0 at → Shows (program p) 0 x ws code at
-starts laws p some lent same code is places n count x tuples all heap xs none k none_kept ws words at entry =
+starts laws p some lent same code is laid places n count x tuples all heap xs none k none_kept ws words at entry =
     let bs = p.blocks.items in
     let holds = subst (λ (cs : List Block). IsCode code (map erase_block (blocks_of cs))) same is in
+    let lies = subst (λ (cs : List Block). IsLaid code (map erase_block (blocks_of cs))) same laid in
     let entries = first_entry code.places code.instructions.items code.entries.items (map erase_block (blocks_of bs)) holds (erased_count (blocks_of bs) some) in
-    begins laws (program p) x ws code at some holds places (subst (λ (ys : List Data). IsHeap x (map (map erase_datum) (data_of ys))) all heap)
+    begins laws (program p) x ws code at some holds lies places (subst (λ (ys : List Data). IsHeap x (map (map erase_datum) (data_of ys))) all heap)
     (filled_up n k xs ws none none_kept words ∙ ap (λ j. replicate j Empty) count)
     (slice_get_read code.entries.items (length code.entries.items) 0 at refl entries entry)

@@ -3,6 +3,7 @@ pub mod Heap
 pub mod Laid
 pub mod Lowering
 pub mod Places
+pub mod Placing
 pub mod ProgramLaws
 pub mod Room
 pub mod Runs

@@ -1,9 +1,13 @@
 -- What a run of the machine tells of the program that it runs.
-use Rattle.std.specs.Prelude.{◌≡◌, ℕ, ◌+◌, ◌<◌, ◌≤◌, ℤ, Some, slice_get}
+use Rattle.std.specs.Prelude.{◌≡◌, ℕ, ◌+◌, ◌<◌, ◌≤◌, ℤ, Option, Some, option_map, slice_get}
+use Rattle.t_terms.specs.declared.shown.Shown.{Shown}
 use Rattle.t_terms.specs.Tree.{TProg}
 use Rattle.t_terms.specs.Whole.{Whole}
 use Rattle.t_rules.specs.Rules.{Accepted}
-use Rattle.t_rules.specs.Machine.{HaltedAfter, HaltsWithin, GoesOnAfter, BeforeMalloc}
+use Rattle.t_rules.specs.Machine.{State, Place, Spot, After, HaltedAfter, HaltsWithin, GoesOnAfter, BeforeMalloc}
+use Rattle.t_rules.specs.LawsSound.{regs_of}
+use Rattle.t_rules.specs.Erase.{ERegs, erase_regs}
+use Rattle.t_machine.specs.Words.{shown_word, regs_of as held_in}
 use Rattle.t_machine.specs.Steps.{IsHalt}
 use Rattle.t_machine.specs.State.{Shows}
 use Rattle.t_machine.specs.declared.code.Instruction.{Instruction}
@@ -14,6 +18,18 @@ use Rattle.t_machine.specs.declared.machine.Ran.TheVariants.{Halted, Spent, NoMe
 -- the machine stands for P after m steps
 abbrev pub Stands : TProg → ℕ → Machine → Type 0
 Stands P m x = Shows P m x.heap x.registers.items x.code x.at
+
+-- the words of the machine's registers
+abbrev pub words_in : Machine → ERegs
+words_in x = held_in x.code.places x.registers.items
+
+-- the place of P's state after m steps
+abbrev pub IsPlaceAfter : TProg → ℕ → ℕ → ℕ → Type 0
+IsPlaceAfter P m block index = (s : State) (p : Place) → After P m s p → p ≡ Spot block index
+
+-- the word of a register in that state, without types, if it has one
+abbrev pub IsRegAfter : TProg → ℕ → ℕ → Option Shown → Type 0
+IsRegAfter P m r word = (s : State) (p : Place) → After P m s p → option_map shown_word word ≡ erase_regs (regs_of s) r
 
 -- the machine's next instruction is not `halt`
 abbrev pub IsRunning : Machine → Type 0

@@ -9,6 +9,7 @@ mod laws;
 mod loading;
 mod machine;
 mod places;
+mod placing;
 mod word;
 
 pub use laws::{

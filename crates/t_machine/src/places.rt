@@ -42,6 +42,13 @@ impl Places {
         self.map.len()
     }
 
+    // The place of a register, where it has one.
+    pub(crate) fn find(&self, register: u64) -> Option<usize>
+        ensures { result ≡ place_of self.now register }
+    {
+        self.map.get(&register).copied()
+    }
+
     // The place of a register, a new one where it has none yet.
     pub(crate) fn place(&mut self, register: u64) -> Result<usize, OutOfMemory>
         ensures place { IfOk result (λ k. place_of self.new register ≡ Some k) }

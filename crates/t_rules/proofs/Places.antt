@@ -121,6 +121,10 @@ module _ (P : TProg) where
   code_of : (b i : ℕ) (x : TBlock) → slice_get P.blocks b ≡ Some x → code_at P b i ≡ seq_from i x.code
   code_of b i x e = ap (option_and_then (λ y. seq_from i y.code)) e
 
+  -- what a typed instruction leaves known is known behind it
+  pub known_after : (b i n : ℕ) (g h : RegTypes) (j : TInstr) (rest : TSeq) → KnownAt P b i n g → code_at P b i ≡ Some (Then j rest) → Typed P n g j h → KnownAt P b (suc i) (names_after j n) h
+  known_after b i n g h j rest k e typed = (k.0, k.1, (from_next k.0.code i k.0.owes n (lookup k.0.file) g h j rest k.2 (code_in b i k.0 _ k.1 e) typed).0)
+
   module _ (blocks : (l : ℕ) (b : TBlock) → slice_get P.blocks l ≡ Some b → BlockAccepted P b) where
     -- the code at a place is accepted with what is known there
     pub accepted_at : (b i n : ℕ) (g : RegTypes) (body : TSeq) → KnownAt P b i n g → code_at P b i ≡ Some body → SeqAccepted P n g body

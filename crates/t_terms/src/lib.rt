@@ -10,6 +10,7 @@ mod laws;
 mod nesting_laws;
 mod program;
 mod scopes;
+mod shown;
 mod text_laws;
 mod token;
 mod value;
@@ -23,6 +24,7 @@ pub use instr::{End, Instr};
 pub use laws::{places_aside, puts_exchange, puts_under};
 pub use nesting_laws::{counts_open, keeps_by_nesting};
 pub use program::TProgram;
+pub use shown::Shown;
 pub use text_laws::{
     at_most_one_fault, at_most_one_program, no_fault_where_read, no_program_where_faulty,
     program_or_fault,

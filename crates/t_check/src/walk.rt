@@ -1,0 +1,224 @@
+// What typing knows at the places of an accepted program: how many type names are in scope, and the types of the
+// registers.
+ghost use Rattle.std.specs.Prelude.{◌≡◌, ◌↔◌, ◌≤◌, IsTrue, IfOk, OnOk, Some, None};
+ghost use Rattle.t_types.specs.Read.{file};
+ghost use Rattle.t_types.specs.WellFormed.{max_names};
+ghost use Rattle.t_terms.specs.Tree.{TSeq, names_after};
+ghost use Rattle.t_terms.specs.Read.{instr};
+ghost use Rattle.t_terms.specs.ReadProgram.{program as program_of};
+ghost use Rattle.t_rules.specs.Known.{code_at};
+ghost use Rattle.t_rules.specs.Rules.{Accepted};
+ghost use Rattle.t_intern.specs.Grown.{Grown};
+ghost use Rattle.t_check.specs.Checked.{checked_program};
+ghost use Rattle.t_check.specs.Known.{known, IsSound};
+ghost use Rattle.t_check.specs.Labels.{AreLabels};
+ghost use Rattle.t_check.specs.Verdict.{FormedInstr, IsPlace, program_in};
+ghost use Rattle.t_check.specs.Walks.{IsFileOf, IsKnownFile, IsTyped, IsPassed, IsStand, IsStandAt, IsWalk, walked};
+
+use crate::checked::Checked;
+use crate::checker::Checker;
+use crate::labels::Labels;
+use crate::program::header;
+use crate::registers::Registers;
+use crate::salt::salt_of;
+use idx_core::{OutOfMemory, Span};
+use std::alloc::Global;
+use t_intern::Types;
+use t_rules::{no_fault_where_typed, places_go_on};
+use t_terms::{Instr, TFault, TProgram};
+use t_types::RegFile;
+
+/// A place of a program, with what is known of the registers there.
+#[derive(Drop)]
+pub(crate) struct Stand {
+    pub(crate) block: u64,
+    pub(crate) index: u64,
+    pub(crate) registers: Registers,
+}
+
+/// Goes over the places of an accepted program. It remembers where it stands, so that a place further on in the same
+/// block costs a step for each instruction between, and any other place a step for each instruction before it in its
+/// block. Types are numbered once for the whole program.
+#[derive(Drop)]
+pub struct Walk<'a> {
+    pub(crate) alloc: Global,
+    pub(crate) program: &'a TProgram,
+    pub(crate) types: Types,
+    pub(crate) labels: Labels,
+    pub(crate) stand: Option<Stand>,
+}
+
+impl Checker<'_> {
+    // Passes an instruction that is typed.
+    fn pass_instr(&mut self, types: &mut Types, i: &Instr, span: Span) -> Result<(), OutOfMemory>
+        requires place { IsPlace types.old self.old }
+        requires instr { FormedInstr self.old.program.now self.old.registers.names (instr i.now) }
+        requires few { names_after (instr i.now) self.old.registers.names ≤ max_names }
+        requires typed { IsTyped types.old self.old (instr i.now) }
+        ensures grown { Grown types.old types.new }
+        ensures step { OnOk result (IsPassed types.old types.new self.old self.new (instr i.now)) }
+        ensures program { self.new.program ≡ self.old.program }
+        ensures labels { self.new.labels ≡ self.old.labels }
+    {
+        no_fault_where_typed();
+        match self.check_instr(types, i, span) {
+            Ok(()) => Ok(()),
+            Err(TFault::Memory) => Err(OutOfMemory),
+            Err(TFault::Refused { .. }) => unreachable!(),
+        }
+    }
+}
+
+// From a place of an accepted program to one further on in its block.
+fn pass(
+    alloc: Global,
+    types: &mut Types,
+    program: &TProgram,
+    labels: &Labels,
+    stand: Stand,
+    index: u64,
+) -> Result<Stand, OutOfMemory>
+    requires accepted { ∥ Accepted (program_of program.now) ∥₁ }
+    requires labels { AreLabels types.old program.now labels.now }
+    requires stands { IsStand types.old program.now stand }
+    requires order { stand.index ≤ index }
+    requires there { (c : TSeq) × (code_at (program_of program.now) stand.block index ≡ Some c) }
+    ensures grown { Grown types.old types.new }
+    ensures stands { IfOk result (IsStandAt types.new program.now stand.block index) }
+{
+    places_go_on();
+    let Stand {
+        block,
+        index: from,
+        registers,
+    } = stand;
+    let body = &program.blocks[block as usize].body;
+    let mut checker = Checker {
+        alloc,
+        program,
+        labels,
+        registers,
+    };
+    for i in from..index {
+        let step = &body[i as usize];
+        checker.pass_instr(types, &step.0, step.1)?;
+    }
+    let Checker { registers, .. } = checker;
+    Ok(Stand {
+        block,
+        index,
+        registers,
+    })
+}
+
+// What is known of the registers, as a file.
+fn file_of(alloc: Global, types: &mut Types, registers: &Registers) -> Result<RegFile, OutOfMemory>
+    requires { IsSound types.old registers.now }
+    ensures grown { Grown types.old types.new }
+    ensures file { IfOk result (λ f. IsFileOf (known types.old registers.now) registers.now.names (file f.regs.items)) }
+{
+    let mut regs = Vec::new(alloc);
+    for pair in &registers.entries {
+        let (r, entry) = pair;
+        let n = registers.shown(types, *entry)?;
+        let t = types.tree(n)?;
+        regs.push((*r, t))?;
+    }
+    Ok(RegFile { regs })
+}
+
+impl<'a> Walk<'a> {
+    /// A walk that stands nowhere yet. An error of a walk is want of memory.
+    pub fn new(alloc: Global, program: &'a Checked) -> Result<Walk<'a>, OutOfMemory>
+        ensures walk { IfOk result IsWalk }
+        ensures program { IfOk result (λ w. walked w ≡ program_of (checked_program program.entry.now)) }
+    {
+        let program = program.program();
+        let mut types = Types::salted(alloc, salt_of(program));
+        let labels = Labels::of_program(alloc, &mut types, program)?;
+        Ok(Walk {
+            alloc,
+            program,
+            types,
+            labels,
+            stand: None,
+        })
+    }
+
+    // Where to go on from to a place: from where the walk stands, or from the start of the block.
+    fn start(&mut self, block: u64, index: u64) -> Result<Stand, OutOfMemory>
+        requires walk { IsWalk self.old }
+        requires there { (c : TSeq) × (code_at (walked self.old) block index ≡ Some c) }
+        ensures program { self.new.program ≡ self.old.program }
+        ensures types { self.new.types ≡ self.old.types }
+        ensures labels { self.new.labels ≡ self.old.labels }
+        ensures stand { self.new.stand ≡ None }
+        ensures stands { IfOk result (λ s. IsStand self.old.types self.old.program.now s
+            × (s.block ≡ block) × (s.index ≤ index)) }
+    {
+        if let Some(stand) = self.stand.take() {
+            if is_before(&stand, block, index) {
+                return Ok(stand);
+            }
+        }
+        let registers = header(
+            self.alloc,
+            &self.types,
+            &self.program.blocks[block as usize],
+            self.labels.blocks[block as usize],
+        )?;
+        Ok(Stand {
+            block,
+            index: 0,
+            registers,
+        })
+    }
+
+    /// What is known before an instruction or the end of a block: how many type names are in scope, and the types of the
+    /// registers, as a file whose registers rise.
+    pub fn to(&mut self, block: u64, index: u64) -> Result<(u64, RegFile), OutOfMemory>
+        requires walk { IsWalk self.old }
+        requires there { (c : TSeq) × (code_at (walked self.old) block index ≡ Some c) }
+        ensures walk { IsWalk self.new }
+        ensures program { self.new.program ≡ self.old.program }
+        ensures known { IfOk result (λ r. IsKnownFile (walked self.old) block index r.0 (file r.1.regs.items)) }
+    {
+        let stand = self.start(block, index)?;
+        let stand = pass(
+            self.alloc,
+            &mut self.types,
+            self.program,
+            &self.labels,
+            stand,
+            index,
+        )?;
+        let regs = file_of(self.alloc, &mut self.types, &stand.registers)?;
+        let vars = stand.registers.names;
+        self.stand = Some(stand);
+        Ok((vars, regs))
+    }
+}
+
+// Whether it stands in the block, at the place or before it.
+fn is_before(stand: &Stand, block: u64, index: u64) -> bool
+    ensures { IsTrue result ↔ ((stand.now.block ≡ block) × (stand.now.index ≤ index)) }
+{
+    stand.block == block && stand.index <= index
+}
+
+/// What is known before an instruction or the end of a block of an accepted program: how many type names are in scope,
+/// and the types of the registers, as a file whose registers rise. An error is want of memory.
+pub fn types_at(
+    alloc: Global,
+    program: &Checked,
+    block: u64,
+    index: u64,
+) -> Result<(u64, RegFile), OutOfMemory>
+    requires { (c : TSeq) × (code_at (program_of (checked_program program.now)) block index ≡ Some c) }
+    ensures { IfOk result (λ r. IsKnownFile (program_of (checked_program program.now)) block index r.0
+        (file r.1.regs.items)) }
+{
+    let mut walk = Walk::new(alloc, program)?;
+    let known = walk.to(block, index)?;
+    Ok(known)
+}

@@ -6,21 +6,26 @@ use std::alloc::{AllocError, Global};
 use std::process::ExitCode;
 use talc_core::{Status, talc};
 
-// The sources: each is evaluated, compiled, and run as compiled.
-const SOURCES: [&str; 14] = [
+// The sources: each is evaluated, compiled, and run as compiled. Two have cells, which are not evaluated.
+const SOURCES: [&str; 19] = [
     "church",
     "closure",
     "compose",
+    "counter",
     "curry",
     "dispatch",
     "even",
     "factorial",
     "fibonacci",
     "forever",
+    "fractions",
     "identity",
+    "knot",
+    "memo",
     "pair",
     "repeat",
     "seven",
+    "stack",
     "swap",
 ];
 
@@ -41,9 +46,25 @@ const FIRST: [&str; 8] = [
     "talc eval factorial.f --turns 5",
     "talc compile factorial.f made.tal",
     "talc check made.tal",
-    "talc run made.tal --fuel 362",
-    "talc run made.tal --fuel 361",
+    "talc run made.tal --fuel 161",
+    "talc run made.tal --fuel 160",
     "talc run made.tal --fuel 100",
+];
+
+// A program of nine registers within 1 to 8, and one of eight, which stays as it is; and the states of two assembly
+// texts, which docs/TAL.md shows.
+const FURTHER: [&str; 11] = [
+    "talc compile counter.f made.tal",
+    "talc run made.tal --fuel 290",
+    "talc compile --registers 8 counter.f small.tal",
+    "talc check small.tal",
+    "talc run small.tal --fuel 3516",
+    "talc run small.tal --fuel 3515",
+    "talc compile --registers 8 factorial.f small.tal",
+    "talc run small.tal --fuel 161",
+    "talc run small.tal --fuel 160",
+    "talc trace factorial.tal --from 0 --to 1000",
+    "talc trace package.tal --from 0 --to 1000",
 ];
 
 fn words(alloc: Global, line: &str) -> Result<Vec<String>, AllocError> {
@@ -123,6 +144,19 @@ fn show_first<F: Files, O: Sink, E: Sink>(
     out.put(alloc, &text).ok()
 }
 
+// What further commands do.
+fn show_further<F: Files, O: Sink, E: Sink>(
+    alloc: Global,
+    files: &mut F,
+    out: &mut O,
+    err: &mut E,
+) -> Option<()> {
+    for line in &FURTHER {
+        show(alloc, files, out, err, line)?;
+    }
+    Some(())
+}
+
 fn show_all<F: Files, O: Sink, E: Sink>(
     alloc: Global,
     files: &mut F,
@@ -135,7 +169,8 @@ fn show_all<F: Files, O: Sink, E: Sink>(
     for name in &ASSEMBLIES {
         show_assembly(alloc, files, out, err, name)?;
     }
-    show_first(alloc, files, out, err)
+    show_first(alloc, files, out, err)?;
+    show_further(alloc, files, out, err)
 }
 
 // What goes to the standard error of `talc` is shown with the rest.

@@ -1,14 +1,14 @@
 -- Which block of an assembly program comes from which allocated block, and that no other block is executed.
-use Rattle.std.proofs.Common.{◌≡◌, ℕ, zero, suc, ◌+◌, ◌<◌, ◌≤◌, ◌==◌, cond, Bool, List, [], ◌∷◌, length, map, Some, None, refl, ap, subst, arith, ◌⊎◌, inl, inr, ⊎_elim, slice_get, option_and_then}
-use Rattle.std.specs.Prelude.{◌&&◌, count_by}
+use Rattle.std.proofs.Common.{◌≡◌, ℕ, zero, suc, ◌+◌, ◌<◌, ◌≤◌, ◌==◌, cond, List, [], ◌∷◌, length, map, Some, None, refl, ◌∙◌, subst, arith, ◌⊎◌, inl, inr, ⊎_elim, slice_get, option_and_then}
+use Rattle.std.specs.Prelude.{count_by}
 use Rattle.std.proofs.lemmas.Bool.{cases_lt}
 use Rattle.std.proofs.lemmas.List.Sums.{sum_by-cons}
 use Rattle.std.proofs.lemmas.Bool.Decides.{nat_tests}
 use Rattle.a_terms.specs.Tree.{ABlk, ATm, AProg}
 use Rattle.a_terms.specs.Bound.{thirds, all_thirds}
 use Rattle.t_terms.specs.Tree.{TBlock, TProg}
-use Rattle.t_rules.specs.Machine.{State, Place, Spot, After}
-use Rattle.t_rules.specs.Times.{places, is_spot, Times}
+use Rattle.t_rules.specs.Machine.{State, Where, Next, Into, Place, Spot, moved, After}
+use Rattle.t_rules.specs.Times.{places, entered_by, entries, is_spot, Times, Entries}
 use Rattle.t_rules.specs.Erase.{ESeq, erase, erase_block, erase_blocks, drop_seq}
 use Rattle.t_rules.specs.LawsErased.{StandsAt, seq_of}
 use Rattle.gen_law.specs.Counting.{first_of, first_third, MadeOf}
@@ -38,6 +38,33 @@ absent stands P (suc m) s p run block index le =
     there b i e =
         within P.blocks b i (seq_of (erase run.0))
         (stands P m (erase_blocks P) (erase run.0) (Spot b i) (refl, (run.0, subst (λ q. After P m run.0 q) e run.3, refl)))
+
+-- nor entered
+not_entered : (l block n : ℕ) → l < n → n ≤ block → cond {A = ℕ} (l == block) 1 0 ≡ 0
+not_entered l block n lt le = grind (arith, lt, le, nat_tests)
+
+into_is : (q : Place) (l : ℕ) → moved q (Into l) ≡ Spot l 0
+into_is (Spot b i) l = refl
+
+stands_there : StandsAt → (P : TProg) (m : ℕ) (s : State) (p : Place) (run : After P m s p) (b i : ℕ) → p ≡ Spot b i → b < length P.blocks
+stands_there stands P m s p run b i e =
+    within P.blocks b i (seq_of (erase s)) (stands P m (erase_blocks P) (erase s) (Spot b i) (refl, (s, subst (λ q. After P m s q) e run, refl)))
+
+pub absent_entries : StandsAt → (P : TProg) (m : ℕ) (s : State) (p : Place) (run : After P m s p) (block : ℕ) → length P.blocks ≤ block → Entries P m s p run block ≡ 0
+absent_entries stands P zero s p run block le =
+    let lt = stands_there stands P zero s p run 0 0 run.1 in
+    let here = not_entered 0 block (length P.blocks) lt le in
+    let more = sum_by-cons (λ l. cond (l == block) 1 0) 0 [] in
+    omega (arith, here, more)
+absent_entries stands P (suc m) s p run block le = go (absent_entries stands P m run.0 run.1 run.3 block le) run.2 run.5
+  where
+    go : Entries P m run.0 run.1 run.3 block ≡ 0 → (k : Where) → p ≡ moved run.1 k → count_by (λ l. l == block) (entered_by k (entries P m run.0 run.1 run.3)) ≡ 0
+    go rest Next e = rest
+    go rest (Into l) e =
+        let lt = stands_there stands P (suc m) s p run l 0 (e ∙ into_is run.1 l) in
+        let here = not_entered l block (length P.blocks) lt le in
+        let more = sum_by-cons (λ k. cond (k == block) 1 0) l (entries P m run.0 run.1 run.3) in
+        omega (arith, rest, here, more)
 
 pub record Found (bs : List ABlk) (at k : ℕ) : Type 0 where
   pub label : ℕ

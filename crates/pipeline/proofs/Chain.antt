@@ -1,7 +1,6 @@
 -- What the passes keep, from the source to the machine.
-use Rattle.std.proofs.Common.{◌≡◌, ◌↔◌, ℕ, suc, ℤ, ◌+◌, ◌*◌, ◌≤◌, List, [], ◌∷◌, length, refl, sym, ap, ◌∙◌, arith, ◌⊎◌, inl, inr, ⊎_elim}
+use Rattle.std.proofs.Common.{◌≡◌, ◌↔◌, ℕ, suc, ℤ, ◌+◌, ◌≤◌, List, [], ◌∷◌, length, refl, sym, ap, ◌∙◌, arith, ◌⊎◌, ⊎_elim}
 use Rattle.f_terms.specs.Tm.{Term}
-use Rattle.f_terms.specs.Eval.{Evaluates}
 use Rattle.term_core.specs.Ends.{End, Halted, Spent, Stuck}
 use Rattle.k_terms.specs.K.{KTm}
 use Rattle.k_terms.specs.Meaning.{krun}
@@ -16,14 +15,12 @@ use Rattle.a_terms.specs.Bound.{thirds, all_thirds}
 use Rattle.a_terms.specs.Meaning as A
 use Rattle.a_law.specs.Statements.{onto_log, finish, ends}
 use Rattle.t_terms.specs.Tree.{TProg}
-use Rattle.t_rules.specs.Machine.{State, Place, After, HaltsWithin}
-use Rattle.t_rules.specs.Times.{Times, program_size}
 use Rattle.t_rules.specs.LawsErased.{StandsAt}
 use Rattle.t_rules.specs.LawsTimes.{RunsWithinTimes}
 use Rattle.gen_law.specs.Counting.{count, log_of, first_third}
 use Rattle.gen_law.specs.Correct.{FromMain, Keeps}
-use Rattle.pipeline.specs.Meaning.{SameMeaning, RunsSeldom, HaltsSoon}
-use Rattle.pipeline.proofs.Blocks.{Found, each_block, absent}
+use Rattle.pipeline.specs.Meaning.{SameMeaning, RunsSeldom, EntersSeldom, HaltsSoon}
+use Rattle.pipeline.proofs.Blocks.{Found, each_block, absent, absent_entries}
 
 count_onto : (k : ℕ) (bs log : List ℕ) → count k (onto_log bs log) ≡ K.count k bs + count k log
 count_onto k [] log = omega arith
@@ -77,6 +74,21 @@ module _ (e : Term) (k : KTm) (c : CTm) (ks : HBlks) (t : HTm) (p : AProg) (main
       omega (arith, x, y, z))
       (λ (f : suc (length p.blocks) + thirds main + all_thirds p.blocks ≤ block).
       let x = absent stands P m s q run block index (omega (arith, f, long)) in
+      omega (arith, x))
+      h)
+      (each_block p main block)
+
+  pub entered : StandsAt → length P.blocks ≡ suc (length p.blocks) + thirds main + all_thirds p.blocks → EntersSeldom e P
+  entered stands long n i ev m s q run block = ⊎_elim
+      (λ (h : FromMain p main block). let x = made.main_entries m s q run block h in omega (arith, x))
+      (λ (h : Found p.blocks (first_third p main) block ⊎ (suc (length p.blocks) + thirds main + all_thirds p.blocks ≤ block)). ⊎_elim
+      (λ (f : Found p.blocks (first_third p main) block).
+      let x = made.entries m s q run block f.label f.block f.made in
+      let y = entries m f.label in
+      let z = kept.seldom n i m f.label ev in
+      omega (arith, x, y, z))
+      (λ (f : suc (length p.blocks) + thirds main + all_thirds p.blocks ≤ block).
+      let x = absent_entries stands P m s q run block (omega (arith, f, long)) in
       omega (arith, x))
       h)
       (each_block p main block)

@@ -25,9 +25,9 @@ use Rattle.t_rules.specs.LawsTimes.{RunsWithinTimes}
 use Rattle.gen_law.specs.Gen.{generated}
 use Rattle.gen_law.specs.Correct.{Keeps}
 use Rattle.gen_law.specs.Layout.{LaidOut}
-use Rattle.pipeline.specs.Meaning.{SameMeaning, RunsSeldom}
+use Rattle.pipeline.specs.Meaning.{SameMeaning, RunsSeldom, EntersSeldom}
 use Rattle.pipeline.specs.Compilation.{IsCompilation}
-use Rattle.pipeline.proofs.Chain.{same_meaning, seldom, soon}
+use Rattle.pipeline.proofs.Chain.{same_meaning, seldom, entered, soon}
 
 module _ (e : Term) (k : KTm) (c : CTm) (ks : HBlks) (t : HTm) (p : AProg) (main : ATm) (P : TProg) (stands : StandsAt) (within : RunsWithinTimes) (laid : LaidOut) (converted : Converted e k) (closed : closing.IsTranslation k c) (halts : (n : ℕ) (i : ℤ) → (crun n c).end ≡ Halted i ↔ (krun n k).end ≡ Halted i) (codes : (n : ℕ) → (crun n c).entered ≡ (krun n k).entered) (hoisted : IsHoisted ks t c) (are_blocks : ks ≡ blocks_of c) (is_main : t ≡ main_of c) (runs : (n : ℕ) → hrun n ks t ≡ crun n c) (allocated : Stands p main ks t) (is_allocated : p ≡ alloc_prog ks t) (is_start : main ≡ alloc_main ks t) (means : (n : ℕ) → A.meaning p main n ≡ ends [] (hrun n ks t)) (made : P ≡ generated p main) (accepted : Accepted P) (keeps : Keeps p main P) where
   means_same : SameMeaning e P
@@ -41,6 +41,9 @@ module _ (e : Term) (k : KTm) (c : CTm) (ks : HBlks) (t : HTm) (p : AProg) (main
 
   runs_seldom : RunsSeldom e P
   runs_seldom = seldom e k c ks t p main P converted.meaning halts codes runs means keeps stands long
+
+  pub enters_seldom : EntersSeldom e P
+  enters_seldom = entered e k c ks t p main P converted.meaning halts codes runs means keeps stands long
 
   pub compilation : IsCompilation e P
   compilation = record {

@@ -1,4 +1,6 @@
-mod Blocks
-mod Chain
-mod Compiled
-mod Shallow
+pub mod Blocks
+pub mod Bounded
+pub mod Chain
+pub mod Compiled
+pub mod Framed
+pub mod Shallow

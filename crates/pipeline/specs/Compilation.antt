@@ -1,5 +1,5 @@
 -- When an assembly program is what a term of the source is compiled to.
-use Rattle.std.specs.Prelude.{◌≡◌}
+use Rattle.std.specs.Prelude.{◌≡◌, ℕ}
 use Rattle.f_terms.specs.Tm.{Term}
 use Rattle.k_terms.specs.K.{KTm}
 use Rattle.k_laws.specs.Translates.{cps_program}
@@ -14,6 +14,8 @@ use Rattle.a_law.specs.Stands.{Stands}
 use Rattle.t_terms.specs.Tree.{TProg}
 use Rattle.t_rules.specs.Rules.{Accepted}
 use Rattle.gen_law.specs.Gen.{generated}
+use Rattle.spill_law.specs.Bound.{RegistersUpTo}
+use Rattle.spill_law.specs.Spill.{spilled}
 use Rattle.pipeline.specs.Meaning.{SameMeaning, RunsSeldom, HaltsSoon}
 
 -- the program is a translation of the term by the rules of the passes in turn: conversion to continuation-passing
@@ -45,3 +47,16 @@ pub record IsCompilation (e : Term) (P : TProg) : Type 0 where
   pub translation : IsTranslation e P
   pub seldom : RunsSeldom e P
   pub soon : HaltsSoon e P
+
+-- The same of a program that has no register above k: it is a translation of the term where that has none, and else
+-- comes from one by keeping registers in tuples of the heap.
+pub record IsCompilationWithin (k : ℕ) (e : Term) (P : TProg) : Type 0 where
+  pub translated : TProg
+  pub translation : IsTranslation e translated
+  pub accepted : Accepted P
+  pub meaning : SameMeaning e P
+  pub seldom : RunsSeldom e P
+  pub soon : HaltsSoon e P
+  pub few : RegistersUpTo k P
+  pub stays : RegistersUpTo k translated → P ≡ translated
+  pub framed : (RegistersUpTo k translated → ⊥) → P ≡ spilled translated

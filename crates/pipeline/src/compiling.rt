@@ -6,7 +6,10 @@ ghost use Rattle.t_terms.specs.ReadProgram.{program as program_tree};
 ghost use Rattle.t_terms.specs.Nesting.{nesting};
 ghost use Rattle.t_terms.specs.Text.{most_open};
 ghost use Rattle.t_check.specs.Checked.{checked_program};
-ghost use Rattle.pipeline.specs.Compilation.{IsCompilation};
+ghost use Rattle.gen_law.specs.Packs.{FlatProgram};
+ghost use Rattle.gen_law.specs.TypesEach.{TypesEach, TWithin};
+ghost use Rattle.pipeline.specs.Meaning.{EntersSeldom};
+ghost use Rattle.pipeline.specs.Compilation.{IsCompilation, IsCompilationWithin};
 
 use a_pass::allocate;
 use c_pass::close;
@@ -17,15 +20,17 @@ use k_pass::cps;
 use std::alloc::Global;
 use t_check::{Checked, seal};
 use t_gen::generate;
+use t_spill::{is_within, spill};
+use t_terms::TProgram;
 
-/// The assembly program of a source program, by conversion to continuation-passing style, closure conversion, hoisting,
-/// allocation and code generation. The typing rules accept it, and it halts with an integer exactly where the source
-/// evaluates to it, in at least as many instructions as that takes turns; no place of it is executed more often than
-/// once more than these turns. Its nesting is within the limit on open constructs. Answers want of memory alone.
-pub fn compile(alloc: Global, program: &Program) -> Result<Checked, OutOfMemory>
+// The passes one after the other.
+fn assemble(alloc: Global, program: &Program) -> Result<TProgram, OutOfMemory>
     ensures compiled { IfOk result (λ p.
-        ∥ IsCompilation (term_of (program_term program.now)) (program_tree (checked_program p)) ∥₁) }
-    ensures shallow { IfOk result (λ p. nesting (program_tree (checked_program p)) ≤ most_open) }
+        ∥ IsCompilation (term_of (program_term program.now)) (program_tree p) ∥₁) }
+    ensures entered { IfOk result (λ p. ∥ EntersSeldom (term_of (program_term program.now)) (program_tree p) ∥₁) }
+    ensures flat { IfOk result (λ p. ∥ FlatProgram (program_tree p) ∥₁) }
+    ensures within { IfOk result (λ p.
+        ∥ TypesEach (TWithin 70368744177664 1606 140737488355328) (program_tree p) ∥₁) }
 {
     t_rules::erased_code_stands_at_its_place();
     t_rules::runs_stay_within_times();
@@ -38,5 +43,38 @@ pub fn compile(alloc: Global, program: &Program) -> Result<Checked, OutOfMemory>
     let allocated = allocate(alloc, &hoisted)?;
     drop(hoisted);
     let generated = generate(alloc, &allocated)?;
-    Ok(seal(generated))
+    Ok(generated)
+}
+
+/// The assembly program of a source program, by conversion to continuation-passing style, closure conversion, hoisting,
+/// allocation and code generation. The typing rules accept it, and it halts with an integer exactly where the source
+/// evaluates to it, in at least as many instructions as that takes turns; no place of it is executed more often than
+/// once more than these turns. Its nesting is within the limit on open constructs. Answers want of memory alone.
+pub fn compile(alloc: Global, program: &Program) -> Result<Checked, OutOfMemory>
+    ensures compiled { IfOk result (λ p.
+        ∥ IsCompilation (term_of (program_term program.now)) (program_tree (checked_program p)) ∥₁) }
+    ensures shallow { IfOk result (λ p. nesting (program_tree (checked_program p)) ≤ most_open) }
+{
+    let made = assemble(alloc, program)?;
+    Ok(seal(made))
+}
+
+/// The same within registers 1 to `k`. A program that has no register above `k` stays as `compile` makes it; of any
+/// other, what is in its registers is kept in tuples of the heap. Answers want of memory alone.
+pub fn compile_within(alloc: Global, program: &Program, k: u64) -> Result<Checked, OutOfMemory>
+    requires { 8 ≤ k }
+    ensures compiled { IfOk result (λ p.
+        ∥ IsCompilationWithin k (term_of (program_term program.now)) (program_tree (checked_program p)) ∥₁) }
+    ensures shallow { IfOk result (λ p. nesting (program_tree (checked_program p)) ≤ most_open) }
+{
+    t_rules::runs_stay_within_times();
+    spill_law::places_run_seldom();
+    spill_law::few_registers_may_stay();
+    let made = assemble(alloc, program)?;
+    if is_within(&made, k) {
+        return Ok(seal(made));
+    }
+    let framed = spill(alloc, &made, k)?;
+    drop(made);
+    Ok(seal(framed))
 }

@@ -3,4 +3,4 @@
 
 mod compiling;
 
-pub use compiling::compile;
+pub use compiling::{compile, compile_within};

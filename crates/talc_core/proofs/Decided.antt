@@ -1,10 +1,11 @@
 -- Each text is what is needed of it, or has a first fault.
-use Rattle.std.proofs.Common.{◌≡◌, ◌≢◌, ◌⊎◌, inl, inr, ℕ, List, refl, subst}
+use Rattle.std.proofs.Common.{◌≡◌, ◌≢◌, ◌⊎◌, inl, inr, ℕ, List, Bool, true, false, refl, subst}
 use Rattle.idx_core.specs.declared.span.Span.{Span}
 use Rattle.f_terms.specs.declared.fault.Code.{Code}
-use Rattle.f_terms.specs.declared.fault.Code.TheVariants.{E15}
-use Rattle.f_terms.specs.Ty.{Ty, TInt, TVar, TArrow, TAll, TTuple, NoTys}
+use Rattle.f_terms.specs.declared.fault.Code.TheVariants.{E15, E19}
+use Rattle.f_terms.specs.Ty.{Ty, TInt, TVar, TArrow, TAll, TTuple, TSome, TRef, NoTys}
 use Rattle.f_terms.specs.Tm.{Tm, Spn, plain, span_of}
+use Rattle.f_terms.specs.Cells.{has_cells}
 use Rattle.f_terms.specs.Faults as typing
 use Rattle.f_parser.specs.Text as parser
 use Rattle.t_terms.specs.declared.fault.TCode.{TCode}
@@ -14,7 +15,7 @@ use Rattle.t_rules.specs.Rules.{Accepted}
 use Rattle.t_rules.specs.Faults as checking
 use Rattle.talc_core.specs.declared.fault.Fault.{Fault}
 use Rattle.talc_core.specs.declared.fault.Fault.TheVariants.{Source, Tal}
-use Rattle.talc_core.specs.FirstFault.{AnyTerm, AProgram, AnAssembly, IsParsed, IsChecked, IsAssembly, TermFault}
+use Rattle.talc_core.specs.FirstFault.{AnyTerm, AProgram, CellFree, AnAssembly, IsParsed, IsChecked, IsAssembly, TermFault}
 use Rattle.talc_core.specs.FirstFault.{IsTaken, FirstFault, KeepsBounds, TakenOrFault}
 use Rattle.talc_core.specs.TextLaws.{TextLaws}
 
@@ -59,10 +60,27 @@ module _ (laws : TextLaws) where
       by_form (TArrow a b) e = other (λ x. absurd (cc))
       by_form (TAll a) e = other (λ x. absurd (cc))
       by_form (TTuple ts) e = other (λ x. absurd (cc))
+      by_form (TSome a) e = other (λ x. absurd (cc))
+      by_form (TRef a) e = other (λ x. absurd (cc))
 
   a_program : (text : List ℕ) → Checked text → IsTaken AProgram text ⊎ ((a : Fault) × FirstFault AProgram text a)
   a_program text (inl (term, t, checked)) = by_type text term t checked
   a_program text (inr (c, s, fault)) = inr (Source c s, inl fault)
+
+  -- a program has cells or none
+  by_cells : (text : List ℕ) (term : Tm) → IsChecked text term TInt → (b : Bool) → has_cells (plain term) ≡ b →
+      IsTaken CellFree text ⊎ ((a : Fault) × FirstFault CellFree text a)
+  by_cells text term checked false e = inl (term, checked, e)
+  by_cells text term checked true e = inr (
+    Source E19 (spanned (span_of term)),
+    inr (record { term = term; checked = checked; cells = e; is_code = refl; whole = refl }),
+  )
+
+  cell_free : (text : List ℕ) → IsTaken AProgram text ⊎ ((a : Fault) × FirstFault AProgram text a) →
+      IsTaken CellFree text ⊎ ((a : Fault) × FirstFault CellFree text a)
+  cell_free text (inl (term, checked)) = by_cells text term checked (has_cells (plain term)) refl
+  cell_free text (inr (Source c s, fault)) = inr (Source c s, inl fault)
+  cell_free text (inr (Tal c s, fault)) = absurd fault
 
   by_acceptance : (text : List ℕ) (P : SProg) → IsAssembly text P →
       Accepted (plain_program P) ⊎ ((c : TCode) × (s : Span) × checking.ProgramFault P c s) →
@@ -79,4 +97,5 @@ module _ (laws : TextLaws) where
   pub taken_or_fault : TakenOrFault
   taken_or_fault AnyTerm text keeps = any_term text (by_reading text (laws.term_or_fault text))
   taken_or_fault AProgram text keeps = a_program text (by_reading text (laws.term_or_fault text))
+  taken_or_fault CellFree text keeps = cell_free text (a_program text (by_reading text (laws.term_or_fault text)))
   taken_or_fault AnAssembly text keeps = an_assembly text keeps (laws.program_or_fault text)

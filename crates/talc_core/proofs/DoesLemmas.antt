@@ -7,11 +7,11 @@ use Rattle.talc_core.specs.declared.report.Failure.{Failure}
 use Rattle.talc_core.specs.declared.report.Failure.TheVariants as failed
 use Rattle.talc_core.specs.declared.status.Status.{Status}
 use Rattle.talc_core.specs.declared.status.Status.TheVariants.{Done, Refused, Usage, Limit, Budget, ReadFault, WriteFault, Memory}
-use Rattle.talc_core.specs.Command.{Asked, Compiles, Types, Evaluates, Checks, Runs, Generates, Upgrades}
-use Rattle.talc_core.specs.FirstFault.{Need, AnyTerm, AProgram, AnAssembly}
-use Rattle.talc_core.specs.Compiled.{IsCompiled}
+use Rattle.talc_core.specs.Command.{Asked, Compiles, CompilesWithin, Types, Evaluates, Checks, Runs, Generates, Upgrades, Traces}
+use Rattle.talc_core.specs.FirstFault.{Need, AnyTerm, AProgram, CellFree, AnAssembly}
+use Rattle.talc_core.specs.Compiled.{IsCompiled, IsCompiledWithin}
 use Rattle.talc_core.specs.Upgraded.{IsUpgraded}
-use Rattle.talc_core.specs.Shown.{Showing, ShowsType, ShowsValue, ShowsAccepted, ShowsRun}
+use Rattle.talc_core.specs.Shown.{Showing, ShowsType, ShowsValue, ShowsAccepted, ShowsRun, ShowsTrace}
 use Rattle.talc_core.specs.Headline.{Outside, Making, TextAnswer, LineAnswer, SeedAnswer, Does}
 use Rattle.talc_core.specs.Steps.{status_at, MakesFile, ShowsFile, ShowsSeed, Performs, Reports}
 
@@ -126,9 +126,11 @@ module _ (f f' : FilesState) (o o' e e' : SinkState) where
 
   pub does_failed : (asked : Asked) (failure : Failure) (status : Status) → Performs asked f f' o o' (Err failure) → Reports failure e e' status → Does (outside f o e) (outside f' o' e') status asked
   does_failed (Compiles input output) failure status done told = text_failed IsCompiled AProgram input output done.1 failure status done.0 told
+  does_failed (CompilesWithin input output k) failure status done told = text_failed (IsCompiledWithin k) AProgram input output done.1 failure status done.0 told
   does_failed (Types input) failure status done told = line_failed ShowsType AnyTerm input failure status done told
-  does_failed (Evaluates input turns) failure status done told = line_failed (ShowsValue turns) AProgram input failure status done told
+  does_failed (Evaluates input turns) failure status done told = line_failed (ShowsValue turns) CellFree input failure status done told
   does_failed (Checks input) failure status done told = line_failed ShowsAccepted AnAssembly input failure status done told
   does_failed (Runs input fuel) failure status done told = line_failed (ShowsRun fuel) AnAssembly input failure status done told
+  does_failed (Traces input from to) failure status done told = line_failed (ShowsTrace from to) AnAssembly input failure status done told
   does_failed (Generates seed output) failure status done told = seed_failed seed output failure status done told
   does_failed (Upgrades input output) failure status done told = text_failed IsUpgraded AnAssembly input output done.1 failure status done.0 told

@@ -9,11 +9,11 @@ use Rattle.f_terms.specs.Tm.{plain}
 use Rattle.f_terms.specs.Eval.{Gives, Spent, EvaluatesLeaving, IsSpent}
 use Rattle.t_terms.specs.Spanned.{plain_program}
 use Rattle.t_rules.specs.Machine.{GoesOnAfter}
-use Rattle.talc_core.specs.FirstFault.{Need, AnyTerm, AProgram, AnAssembly, IsTaken}
-use Rattle.talc_core.specs.Command.{Asked, Compiles, Types, Evaluates, Checks, Runs, Generates, Upgrades, command_of, need_of}
-use Rattle.talc_core.specs.Compiled.{IsCompiled}
+use Rattle.talc_core.specs.FirstFault.{Need, AnyTerm, AProgram, CellFree, AnAssembly, IsTaken}
+use Rattle.talc_core.specs.Command.{Asked, Compiles, CompilesWithin, Types, Evaluates, Checks, Runs, Generates, Upgrades, Traces, command_of, need_of}
+use Rattle.talc_core.specs.Compiled.{IsCompiled, IsCompiledWithin}
 use Rattle.talc_core.specs.Upgraded.{IsUpgraded}
-use Rattle.talc_core.specs.Shown.{Showing, ShowsType, ShowsValue, ValueShown, ShowsAccepted, ShowsRun, HaltedShown}
+use Rattle.talc_core.specs.Shown.{Showing, ShowsType, ShowsValue, ValueShown, ShowsAccepted, ShowsRun, ShowsTrace, HaltedShown}
 use Rattle.talc_core.specs.Headline.{Outside, Making, Headline, TextRefused, TextAnswer, LineAnswer, SeedAnswer, UsageAnswer, Does}
 use Rattle.talc_core.specs.Exact.{IsSettled, Tells, WorksOn, IsMissing, CannotRead, LeadsTo, CannotWrite, HasBudget, GoesOn, NoFaults, Works, HeadlineIsExact}
 use Rattle.talc_core.specs.TextLaws.{TextLaws}
@@ -68,10 +68,12 @@ Judged asked source status = IsDone asked source status ⊎ (IsOver asked source
 -- what goes on after the budget is what is needed
 goes_on_taken : (asked : Asked) (source : List ℕ) → GoesOn asked source → IsTaken (need_of asked) source
 goes_on_taken (Compiles input output) source more = absurd more
+goes_on_taken (CompilesWithin input output k) source more = absurd more
 goes_on_taken (Types input) source more = absurd more
-goes_on_taken (Evaluates input turns) source more = (more.0, more.1)
+goes_on_taken (Evaluates input turns) source more = (more.0, more.1, more.2)
 goes_on_taken (Checks input) source more = absurd more
 goes_on_taken (Runs input fuel) source more = (more.0, more.1)
+goes_on_taken (Traces input from to) source more = (more.0, more.1)
 goes_on_taken (Generates seed output) source more = absurd more
 goes_on_taken (Upgrades input output) source more = absurd more
 
@@ -121,9 +123,9 @@ module _ (laws : TextLaws) (asked : Asked) (source : List ℕ) (status : Status)
 value_ends : TextLaws → (turns : ℕ) (source line : List ℕ) → ValueShown turns source line → GoesOn (Evaluates [] turns) source → ⊥
 value_ends laws turns source line shown more =
     let same : shown.term ≡ more.0 = same_term laws source shown.term more.0 shown.checked.0 more.1.0 in
-    let spent : IsSpent (plain shown.term) turns = subst (λ t. IsSpent (plain t) turns) (sym same) more.2 in
+    let spent : IsSpent (plain shown.term) turns = subst (λ t. IsSpent (plain t) turns) (sym same) more.3 in
     let value : EvaluatesLeaving (plain shown.term) turns shown.value shown.left = shown.evaluates in
-    let e : Gives _ _ ≡ Spent = sym value ∙ spent in
+    let e : Gives _ _ _ ≡ Spent = sym value.1 ∙ spent in
     cc
 
 run_ends : TextLaws → (fuel : ℕ) (text line : List ℕ) → HaltedShown fuel text line → GoesOn (Runs [] fuel) text → ⊥
@@ -132,6 +134,13 @@ run_ends laws fuel text line shown more =
     let goes_on : GoesOnAfter (plain_program shown.program) fuel = subst (λ P. GoesOnAfter (plain_program P) fuel) (sym same) more.2 in
     let halts = shown.halts in
     going_not_halted laws (plain_program shown.program) halts.0 fuel shown.value halts.2 goes_on halts.1
+
+trace_ends : TextLaws → (from to : ℕ) (text lines : List ℕ) → ShowsTrace from to Done text lines → GoesOn (Traces [] from to) text → ⊥
+trace_ends laws from to text lines shown more =
+    let same : shown.0 ≡ more.0 = same_program laws text shown.0 more.0 shown.1.0 more.1.0 in
+    let goes_on : GoesOnAfter (plain_program shown.0) to = subst (λ P. GoesOnAfter (plain_program P) to) (sym same) more.2 in
+    let states = shown.2 in
+    going_not_halted laws (plain_program shown.0) states.steps to states.value states.halted goes_on states.within
 
 -- a line with the status 0 is shown of a text that is what is needed and ends within the budget, one with 4 of a text that goes on
 pub record IsSound (asked : Asked) (Says : Showing) : Type 0 where
@@ -146,8 +155,8 @@ type_sound input = record {
 
 value_sound : TextLaws → (input : List ℕ) (turns : ℕ) → IsSound (Evaluates input turns) (ShowsValue turns)
 value_sound laws input turns = record {
-  done = λ source line shown. ((shown.term, shown.checked), value_ends laws turns source line shown);
-  over = λ source line shown. ((shown.term, shown.checked), (shown.term, shown.checked, shown.spent), tt);
+  done = λ source line shown. ((shown.term, shown.checked, shown.cell_free), value_ends laws turns source line shown);
+  over = λ source line shown. ((shown.term, shown.checked, shown.cell_free), (shown.term, shown.checked, shown.cell_free, shown.spent), tt);
 }
 
 accepted_sound : (input : List ℕ) → IsSound (Checks input) ShowsAccepted
@@ -162,6 +171,12 @@ run_sound laws input fuel = record {
   over = λ text line shown. ((shown.program, shown.accepted), (shown.program, shown.accepted, shown.goes_on), tt);
 }
 
+trace_sound : TextLaws → (input : List ℕ) (from to : ℕ) → IsSound (Traces input from to) (ShowsTrace from to)
+trace_sound laws input from to = record {
+  done = λ text lines shown. ((shown.0, shown.1), trace_ends laws from to text lines shown);
+  over = λ text lines shown. ((shown.0, shown.1), (shown.0, shown.1, shown.2.goes_on), tt);
+}
+
 -- a text is made of one that is what is needed, and no command that makes one has a budget
 pub record Makers (asked : Asked) (Makes : Making) : Type 0 where
   pub made : (source target : List ℕ) → Makes source target → IsTaken (need_of asked) source
@@ -169,6 +184,9 @@ pub record Makers (asked : Asked) (Makes : Making) : Type 0 where
 
 compiled_sound : (input output : List ℕ) → Makers (Compiles input output) IsCompiled
 compiled_sound input output = record { made = λ source target made. (made.term, made.checked); ends = λ source more. more }
+
+bounded_sound : (input output : List ℕ) (k : ℕ) → Makers (CompilesWithin input output k) (IsCompiledWithin k)
+bounded_sound input output k = record { made = λ source target made. (made.term, made.checked); ends = λ source more. more }
 
 upgraded_sound : (input output : List ℕ) → Makers (Upgrades input output) IsUpgraded
 upgraded_sound input output = record { made = λ source target made. (made.program, made.accepted); ends = λ source more. more }
@@ -216,7 +234,9 @@ module _ (laws : TextLaws) (old new : Outside) where
   judged (Evaluates input turns) source status answer tells settled = line_judged (Evaluates input turns) input (ShowsValue turns) (value_sound laws input turns) source status answer tells settled
   judged (Checks input) source status answer tells settled = line_judged (Checks input) input ShowsAccepted (accepted_sound input) source status answer tells settled
   judged (Runs input fuel) source status answer tells settled = line_judged (Runs input fuel) input (ShowsRun fuel) (run_sound laws input fuel) source status answer tells settled
+  judged (Traces input from to) source status answer tells settled = line_judged (Traces input from to) input (ShowsTrace from to) (trace_sound laws input from to) source status answer tells settled
   judged (Compiles input output) source status answer tells settled = text_judged (Compiles input output) input output IsCompiled (compiled_sound input output) source status answer tells settled
+  judged (CompilesWithin input output k) source status answer tells settled = text_judged (CompilesWithin input output k) input output (IsCompiledWithin k) (bounded_sound input output k) source status answer tells settled
   judged (Upgrades input output) source status answer tells settled = text_judged (Upgrades input output) input output IsUpgraded (upgraded_sound input output) source status answer tells settled
   judged (Generates seed output) source Done answer is settled =
       let done = answer.says in
@@ -252,39 +272,47 @@ module _ (laws : TextLaws) (old new : Outside) where
 
   absent_at : (asked : Asked) (status : Status) → Does old new status asked → IsMissing asked old → (status ≡ ReadFault) ⊎ (status ≡ Memory)
   absent_at (Types input) status answer absent = line_absent ShowsType AnyTerm input status answer absent
-  absent_at (Evaluates input turns) status answer absent = line_absent (ShowsValue turns) AProgram input status answer absent
+  absent_at (Evaluates input turns) status answer absent = line_absent (ShowsValue turns) CellFree input status answer absent
   absent_at (Checks input) status answer absent = line_absent ShowsAccepted AnAssembly input status answer absent
   absent_at (Runs input fuel) status answer absent = line_absent (ShowsRun fuel) AnAssembly input status answer absent
+  absent_at (Traces input from to) status answer absent = line_absent (ShowsTrace from to) AnAssembly input status answer absent
   absent_at (Compiles input output) status answer absent = text_absent IsCompiled AProgram input output status answer absent
+  absent_at (CompilesWithin input output k) status answer absent = text_absent (IsCompiledWithin k) AProgram input output status answer absent
   absent_at (Upgrades input output) status answer absent = text_absent IsUpgraded AnAssembly input output status answer absent
   absent_at (Generates seed output) status answer absent = absurd absent
 
   read_fault_at : (asked : Asked) → Does old new ReadFault asked → CannotRead asked old new
   read_fault_at (Compiles input output) answer = answer.cause
+  read_fault_at (CompilesWithin input output k) answer = answer.cause
   read_fault_at (Types input) answer = answer.cause
   read_fault_at (Evaluates input turns) answer = answer.cause
   read_fault_at (Checks input) answer = answer.cause
   read_fault_at (Runs input fuel) answer = answer.cause
+  read_fault_at (Traces input from to) answer = answer.cause
   read_fault_at (Generates seed output) answer = answer
   read_fault_at (Upgrades input output) answer = answer.cause
 
   write_fault_at : (asked : Asked) → Does old new WriteFault asked → CannotWrite asked old new
   write_fault_at (Compiles input output) answer = answer.cause
+  write_fault_at (CompilesWithin input output k) answer = answer.cause
   write_fault_at (Upgrades input output) answer = answer.cause
   write_fault_at (Types input) answer = answer.cause
   write_fault_at (Evaluates input turns) answer = answer.cause
   write_fault_at (Checks input) answer = answer.cause
   write_fault_at (Runs input fuel) answer = answer.cause
+  write_fault_at (Traces input from to) answer = answer.cause
   write_fault_at (Generates seed output) (inl unwritten) = inl unwritten.cause
   write_fault_at (Generates seed output) (inr unshown) = inr unshown.cause
 
   cannot : (asked : Asked) → NoFaults old new → CannotWrite asked old new → ⊥
   cannot (Compiles input output) none rose = none.writes rose
+  cannot (CompilesWithin input output k) none rose = none.writes rose
   cannot (Upgrades input output) none rose = none.writes rose
   cannot (Types input) none rose = none.puts rose
   cannot (Evaluates input turns) none rose = none.puts rose
   cannot (Checks input) none rose = none.puts rose
   cannot (Runs input fuel) none rose = none.puts rose
+  cannot (Traces input from to) none rose = none.puts rose
   cannot (Generates seed output) none (inl rose) = none.writes rose
   cannot (Generates seed output) none (inr rose) = none.puts rose
 
@@ -295,29 +323,35 @@ module _ (laws : TextLaws) (old new : Outside) where
 
   cannot_read : (asked : Asked) (source : List ℕ) → NoFaults old new → WorksOn asked old source → CannotRead asked old new → ⊥
   cannot_read (Compiles input output) source none tells why = told_is_read input source none tells why
+  cannot_read (CompilesWithin input output k) source none tells why = told_is_read input source none tells why
   cannot_read (Upgrades input output) source none tells why = told_is_read input source none tells why
   cannot_read (Types input) source none tells why = told_is_read input source none tells why
   cannot_read (Evaluates input turns) source none tells why = told_is_read input source none tells why
   cannot_read (Checks input) source none tells why = told_is_read input source none tells why
   cannot_read (Runs input fuel) source none tells why = told_is_read input source none tells why
+  cannot_read (Traces input from to) source none tells why = told_is_read input source none tells why
   cannot_read (Generates seed output) source none is why = why
 
   no_usage : (asked : Asked) → Does old new Usage asked → ⊥
   no_usage (Compiles input output) answer = answer
+  no_usage (CompilesWithin input output k) answer = answer
   no_usage (Upgrades input output) answer = answer
   no_usage (Types input) answer = answer
   no_usage (Evaluates input turns) answer = answer
   no_usage (Checks input) answer = answer
   no_usage (Runs input fuel) answer = answer
+  no_usage (Traces input from to) answer = answer
   no_usage (Generates seed output) answer = answer
 
   budget_has : (asked : Asked) → Does old new Budget asked → HasBudget asked
   budget_has (Compiles input output) answer = answer
+  budget_has (CompilesWithin input output k) answer = answer
   budget_has (Upgrades input output) answer = answer
   budget_has (Types input) answer = answer.says
   budget_has (Evaluates input turns) answer = tt
   budget_has (Checks input) answer = answer.says
   budget_has (Runs input fuel) answer = tt
+  budget_has (Traces input from to) answer = tt
   budget_has (Generates seed output) answer = answer
 
   generates_at : (seed : ℕ) (output : List ℕ) (status : Status) → SeedAnswer seed output old new status → (status ≡ Done) ⊎ ((status ≡ WriteFault) ⊎ (status ≡ Memory))

@@ -1,5 +1,5 @@
 -- First faults of texts.
-use Rattle.std.proofs.Common.{◌≡◌, ◌∙◌, ℕ, List, sym, ap, subst, inl, inr}
+use Rattle.std.proofs.Common.{◌≡◌, ◌∙◌, ℕ, List, true, false, sym, ap, subst, inl, inr}
 use Rattle.idx_core.specs.declared.span.Span.{Span}
 use Rattle.text_core.proofs.Places.{same_span}
 use Rattle.f_terms.specs.declared.fault.Code.{Code}
@@ -7,12 +7,13 @@ use Rattle.f_terms.specs.Ty.{Ty, TInt, NoTys}
 use Rattle.f_terms.specs.Tm.{Tm, plain, span_of}
 use Rattle.f_terms.specs.Read.{place}
 use Rattle.f_terms.specs.Accepted.{IsAccepted}
+use Rattle.f_terms.specs.Cells.{has_cells}
 use Rattle.f_terms.specs.Faults as typing
 use Rattle.talc_core.specs.declared.fault.Fault.TheVariants.{Source, Tal}
 use Rattle.t_terms.specs.declared.fault.TCode.{TCode}
 use Rattle.t_terms.specs.Spanned.{SProg}
 use Rattle.t_rules.specs.Faults as checking
-use Rattle.talc_core.specs.FirstFault.{AnyTerm, AProgram, AnAssembly, IsParsed, IsChecked, IsAssembly, IsAcceptedText, TermFault, ProgramFault, AssemblyFault, OneFault, NoFaultWhereTaken}
+use Rattle.talc_core.specs.FirstFault.{AnyTerm, AProgram, CellFree, AnAssembly, IsParsed, IsChecked, IsAssembly, IsAcceptedText, TermFault, ProgramFault, CellFault, AssemblyFault, OneFault, NoFaultWhereTaken}
 use Rattle.talc_core.specs.TextLaws.{TextLaws}
 
 -- code and place of two faults agree
@@ -51,6 +52,15 @@ module _ (laws : TextLaws) where
       let same : other.term ≡ term = same_term text other.term term other.checked.0 checked.0 in
       other.other (laws.one_type (plain term) 0 NoTys other.type TInt (subst (λ e. IsAccepted (plain e) other.type) same other.checked.1).0 checked.1.0)
 
+  -- a program without cells is no other with cells
+  no_cell_fault : (text : List ℕ) (c : Code) (s : Span) (term : Tm) → IsChecked text term TInt → has_cells (plain term) ≡ false → CellFault text c s → ⊥
+  no_cell_fault text c s term checked free (inl fault) = no_program_fault text c s term checked fault
+  no_cell_fault text c s term checked free (inr other) =
+      let same : other.term ≡ term = same_term text other.term term other.checked.0 checked.0 in
+      let has : has_cells (plain term) ≡ true = subst (λ (e : Tm). has_cells (plain e) ≡ true) same other.cells in
+      let e : true ≡ false = sym has ∙ free in
+      cc
+
   -- the same assembly text is read as the same program
   pub same_program : (text : List ℕ) (a b : SProg) → IsAssembly text a → IsAssembly text b → a ≡ b
   same_program text a b x y = laws.one_program text a b x.stands y.stands
@@ -64,9 +74,11 @@ module _ (laws : TextLaws) where
   pub no_fault_where_taken : NoFaultWhereTaken
   no_fault_where_taken AnyTerm text (Source c s) taken fault = no_term_fault text c s taken.0 taken.1 taken.2 fault
   no_fault_where_taken AProgram text (Source c s) taken fault = no_program_fault text c s taken.0 taken.1 fault
+  no_fault_where_taken CellFree text (Source c s) taken fault = no_cell_fault text c s taken.0 taken.1 taken.2 fault
   no_fault_where_taken AnAssembly text (Tal c s) taken fault = no_assembly_fault text c s taken.0 taken.1 fault
   no_fault_where_taken AnyTerm text (Tal c s) taken fault = absurd fault
   no_fault_where_taken AProgram text (Tal c s) taken fault = absurd fault
+  no_fault_where_taken CellFree text (Tal c s) taken fault = absurd fault
   no_fault_where_taken AnAssembly text (Source c s) taken fault = absurd fault
 
   -- ---- one fault
@@ -87,6 +99,14 @@ module _ (laws : TextLaws) where
       let same : x.term ≡ y.term = same_term text x.term y.term x.checked.0 y.checked.0 in
       (x.is_code ∙ sym y.is_code, x.whole ∙ ap span_of same ∙ sym y.whole)
 
+  one_cell_fault : (text : List ℕ) (c d : Code) (s t : Span) → CellFault text c s → CellFault text d t → Same c s d t
+  one_cell_fault text c d s t (inl x) (inl y) = one_program_fault text c d s t x y
+  one_cell_fault text c d s t (inl x) (inr y) = absurd (no_program_fault text c s y.term y.checked x)
+  one_cell_fault text c d s t (inr x) (inl y) = absurd (no_program_fault text d t x.term x.checked y)
+  one_cell_fault text c d s t (inr x) (inr y) =
+      let same : x.term ≡ y.term = same_term text x.term y.term x.checked.0 y.checked.0 in
+      (x.is_code ∙ sym y.is_code, x.whole ∙ ap span_of same ∙ sym y.whole)
+
   one_assembly_fault : (text : List ℕ) (c d : TCode) (s t : Span) → AssemblyFault text c s → AssemblyFault text d t → (c ≡ d) × (s ≡ t)
   one_assembly_fault text c d s t (inl x) (inl y) = laws.one_assembly_fault text c d s t x y
   one_assembly_fault text c d s t (inl x) (inr y) = absurd (laws.no_fault_of_a_program text y.program c s y.read x)
@@ -98,10 +118,13 @@ module _ (laws : TextLaws) where
   pub one_fault : OneFault
   one_fault AnyTerm text (Source c s) (Source d t) x y = same_source c d s t (one_term_fault text c d s t x y)
   one_fault AProgram text (Source c s) (Source d t) x y = same_source c d s t (one_program_fault text c d s t x y)
+  one_fault CellFree text (Source c s) (Source d t) x y = same_source c d s t (one_cell_fault text c d s t x y)
   one_fault AnAssembly text (Tal c s) (Tal d t) x y = same_tal c d s t (one_assembly_fault text c d s t x y)
   one_fault AnyTerm text (Source c s) (Tal d t) x y = absurd y
   one_fault AProgram text (Source c s) (Tal d t) x y = absurd y
+  one_fault CellFree text (Source c s) (Tal d t) x y = absurd y
   one_fault AnyTerm text (Tal c s) b x y = absurd x
   one_fault AProgram text (Tal c s) b x y = absurd x
+  one_fault CellFree text (Tal c s) b x y = absurd x
   one_fault AnAssembly text (Source c s) b x y = absurd x
   one_fault AnAssembly text (Tal c s) (Source d t) x y = absurd y

@@ -9,3 +9,6 @@ mod RunLemmas
 mod SeedLemmas
 mod SizeLemmas
 mod SourceLemmas
+pub mod TraceLemmas
+pub mod LineLemmas
+pub mod TraceLawLemmas

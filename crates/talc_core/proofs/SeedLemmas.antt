@@ -1,10 +1,11 @@
 -- What the steps of `gen` come to: the source of a seed is a program, so that nothing but want of memory stops them.
-use Rattle.std.proofs.Common.{◌≡◌, ◌≤◌, ◌+◌, ◌*◌, ℕ, ℤ, List, length, Result, Ok, Err, Vec, sym, ◌∙◌, ap, subst, arith}
+use Rattle.std.proofs.Common.{◌≡◌, ◌≤◌, ◌+◌, ◌*◌, ℕ, ℤ, false, List, length, Result, Ok, Err, Vec, sym, ◌∙◌, ap, subst, arith}
 use Rattle.std.specs.declared.alloc.Global.{Global}
 use Rattle.std.proofs.Math.Logic.{∥∥₁_elim}
 use Rattle.std.proofs.Math.IntN.{ℤ_set}
 use Rattle.f_terms.specs.Ty.{TInt}
 use Rattle.f_terms.specs.Tm.{Tm, plain}
+use Rattle.f_terms.specs.Cells.{has_cells}
 use Rattle.f_terms.specs.Eval.{Empty, VInt, Gives, Spent, eval, Evaluates, IsSpent}
 use Rattle.f_terms.specs.Laws.{MoreTurnsKeepTheValue, OneAnswer}
 use Rattle.t_terms.specs.Spanned.{SProg, plain_program}
@@ -53,16 +54,25 @@ pub reads : NoFaultWhereTaken → SourcesArePrograms → (seed : ℕ) (text : Li
 reads no_fault programs seed text is (Ok program) checked = subst (λ t. IsChecked t (spanned (program_term program)) TInt) is checked
 reads no_fault programs seed text is (Err failure) why = refused no_fault programs seed text is failure why
 
+-- the source of a seed has no cells
+pub no_cells : TextLaws → SourcesArePrograms → (seed : ℕ) (term : Tm) → IsChecked (source_of seed) term TInt → has_cells (plain term) ≡ false
+no_cells laws programs seed term checked =
+    let p = programs seed in
+    let same : p.0 ≡ term = same_term laws (source_of seed) p.0 term p.1 checked.0 in
+    subst (λ (t : Tm). has_cells (plain t) ≡ false) same p.3
+
 -- the turns suffice
 pub not_spent : TextLaws → SourcesArePrograms → MoreTurnsKeepTheValue → (seed : ℕ) (term : Tm) → IsChecked (source_of seed) term TInt → IsSpent (plain term) seed_turns → ⊥
 not_spent laws programs more seed term checked spent =
     let p = programs seed in
     let same : p.0 ≡ term = same_term laws (source_of seed) p.0 term p.1 checked.0 in
-    let found = p.3 in
-    let value : eval 1280 Empty (plain p.0) ≡ Gives (VInt found.0) found.1.0 = found.1.1 in
-    let longer : eval 1000000 Empty (plain p.0) ≡ Gives (VInt found.0) (found.1.0 + 998720) = more 1280 998720 found.1.0 Empty (plain p.0) (VInt found.0) value in
-    let over : eval 1000000 Empty (plain p.0) ≡ Spent = subst (λ t. eval 1000000 Empty (plain t) ≡ Spent) (sym same) spent in
-    let e : Gives (VInt found.0) (found.1.0 + 998720) ≡ Spent = sym longer ∙ over in
+    let found = p.4 in
+    let left = found.1.0 in
+    let st = found.1.1.0 in
+    let value : eval 1280 Empty Empty (plain p.0) ≡ Gives (VInt found.0) left st = found.1.1.1 in
+    let longer : eval 1000000 Empty Empty (plain p.0) ≡ Gives (VInt found.0) (left + 998720) st = more 1280 998720 left Empty Empty (plain p.0) (VInt found.0) st value in
+    let over : eval 1000000 Empty Empty (plain p.0) ≡ Spent = subst (λ t. eval 1000000 Empty Empty (plain t) ≡ Spent) (sym same) spent in
+    let e : Gives (VInt found.0) (left + 998720) st ≡ Spent = sym longer ∙ over in
     cc
 
 -- what is compiled is accepted

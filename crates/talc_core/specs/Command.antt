@@ -1,24 +1,30 @@
 -- What the words of the command line ask for: see the crate of the words, where it is a definition over `clap`'s rules.
 use Rattle.std.specs.Prelude.{List, ℕ, Option, Some, None}
-use Rattle.talc_core.specs.FirstFault.{Need, AnyTerm, AProgram, AnAssembly}
-pub use Rattle.words.specs.Command.{Asked, Compiles, Types, Evaluates, Checks, Runs, Generates, Upgrades, command_of}
+use Rattle.talc_core.specs.FirstFault.{Need, AnyTerm, AProgram, CellFree, AnAssembly}
+pub use Rattle.words.specs.Command.{Asked, Compiles, CompilesWithin, Types, Evaluates, Checks, Runs, Generates}
+pub use Rattle.words.specs.Command.{Upgrades, Traces}
+pub use Rattle.words.specs.Command.{command_of}
 
 -- what the command needs of the text that it works on: of the one that it reads, or of the source that it makes
 abbrev pub need_of : Asked → Need
 need_of (Compiles input output) = AProgram
+need_of (CompilesWithin input output k) = AProgram
 need_of (Types input) = AnyTerm
-need_of (Evaluates input turns) = AProgram
+need_of (Evaluates input turns) = CellFree
 need_of (Checks input) = AnAssembly
 need_of (Runs input fuel) = AnAssembly
 need_of (Generates seed output) = AProgram
 need_of (Upgrades input output) = AnAssembly
+need_of (Traces input from to) = AnAssembly
 
 -- the name of the file that it reads, if it reads one
 abbrev pub input_of : Asked → Option (List ℕ)
 input_of (Compiles input output) = Some input
+input_of (CompilesWithin input output k) = Some input
 input_of (Types input) = Some input
 input_of (Evaluates input turns) = Some input
 input_of (Checks input) = Some input
 input_of (Runs input fuel) = Some input
 input_of (Generates seed output) = None
 input_of (Upgrades input output) = Some input
+input_of (Traces input from to) = Some input

@@ -1,10 +1,11 @@
 -- The first fault of a text, in the one order: reading, checking, and what a command needs beyond that.
-use Rattle.std.specs.Prelude.{◌≡◌, ◌≢◌, ◌⊎◌, ℕ, List}
+use Rattle.std.specs.Prelude.{◌≡◌, ◌≢◌, ◌⊎◌, ℕ, List, true, false}
 use Rattle.idx_core.specs.declared.span.Span.{Span}
 use Rattle.f_terms.specs.declared.fault.Code.{Code}
-use Rattle.f_terms.specs.declared.fault.Code.TheVariants.{E15}
+use Rattle.f_terms.specs.declared.fault.Code.TheVariants.{E15, E19}
 use Rattle.f_terms.specs.Ty.{Ty, TInt, NoTys}
 use Rattle.f_terms.specs.Tm.{Tm, plain, span_of}
+use Rattle.f_terms.specs.Cells.{has_cells}
 use Rattle.f_terms.specs.Read.{place}
 use Rattle.f_terms.specs.Accepted.{IsAccepted}
 use Rattle.f_terms.specs.Faults as typing
@@ -18,10 +19,12 @@ use Rattle.t_rules.specs.Faults as checking
 use Rattle.talc_core.specs.declared.fault.Fault.{Fault}
 use Rattle.talc_core.specs.declared.fault.Fault.TheVariants.{Source, Tal}
 
--- what a command needs of a text: a term of any type, a program, or an assembly program that the typing rules accept
+-- what a command needs of a text: a term of any type, a program, a program without cells, or an assembly program that
+-- the typing rules accept
 pub data Need : Type 0 where
   AnyTerm : Need
   AProgram : Need
+  CellFree : Need
   AnAssembly : Need
 
 -- the text is read: it stands for the term, within the limits of reading
@@ -51,6 +54,14 @@ pub record NotAProgram (text : List ℕ) (code : Code) (span : Span) : Type 0 wh
   pub is_code : code ≡ E15
   pub whole : place span ≡ span_of term
 
+-- E19, at the whole term: the program has cells, which are not evaluated
+pub record OfCells (text : List ℕ) (code : Code) (span : Span) : Type 0 where
+  pub term : Tm
+  pub checked : IsChecked text term TInt
+  pub cells : has_cells (plain term) ≡ true
+  pub is_code : code ≡ E19
+  pub whole : place span ≡ span_of term
+
 -- of a text that is to be a term: the first fault of reading, then of checking
 abbrev pub TermFault : List ℕ → Code → Span → Type 0
 TermFault text code span = ReadingFault text code span ⊎ CheckingFault text code span
@@ -58,6 +69,10 @@ TermFault text code span = ReadingFault text code span ⊎ CheckingFault text co
 -- of a text that is to be a program: then E15
 abbrev pub ProgramFault : List ℕ → Code → Span → Type 0
 ProgramFault text code span = TermFault text code span ⊎ NotAProgram text code span
+
+-- of a text that is to be evaluated: then E19
+abbrev pub CellFault : List ℕ → Code → Span → Type 0
+CellFault text code span = ProgramFault text code span ⊎ OfCells text code span
 
 -- the assembly text is read: it stands for the program, within the limit on open constructs
 abbrev pub IsAssembly : List ℕ → SProg → Type 0
@@ -81,15 +96,18 @@ AssemblyFault text code span = assembly.FirstFault text code span ⊎ AcceptingF
 abbrev pub FirstFault : Need → List ℕ → Fault → Type 0
 FirstFault AnyTerm text (Source code span) = TermFault text code span
 FirstFault AProgram text (Source code span) = ProgramFault text code span
+FirstFault CellFree text (Source code span) = CellFault text code span
 FirstFault AnAssembly text (Tal code span) = AssemblyFault text code span
 FirstFault AnyTerm text (Tal code span) = ⊥
 FirstFault AProgram text (Tal code span) = ⊥
+FirstFault CellFree text (Tal code span) = ⊥
 FirstFault AnAssembly text (Source code span) = ⊥
 
 -- the text is one of which this is needed
 abbrev pub IsTaken : Need → List ℕ → Type 0
 IsTaken AnyTerm text = (term : Tm) × (type : Ty) × IsChecked text term type
 IsTaken AProgram text = (term : Tm) × IsChecked text term TInt
+IsTaken CellFree text = (term : Tm) × IsChecked text term TInt × (has_cells (plain term) ≡ false)
 IsTaken AnAssembly text = (program : SProg) × IsAcceptedText text program
 
 -- The laws.

@@ -7,12 +7,14 @@ use Rattle.talc_core.specs.declared.status.Status.TheVariants.{Done, Refused, Us
 use Rattle.talc_core.specs.declared.status.Status.TheVariants.{Budget, ReadFault, WriteFault, Memory}
 use Rattle.talc_core.specs.declared.fault.Fault.{Fault}
 use Rattle.talc_core.specs.Fault.{status_of}
-use Rattle.talc_core.specs.FirstFault.{Need, AnyTerm, AProgram, AnAssembly, FirstFault}
-use Rattle.talc_core.specs.Compiled.{IsCompiled}
+use Rattle.talc_core.specs.FirstFault.{Need, AnyTerm, AProgram, CellFree, AnAssembly, FirstFault}
+use Rattle.talc_core.specs.Compiled.{IsCompiled, IsCompiledWithin}
 use Rattle.talc_core.specs.Upgraded.{IsUpgraded}
 use Rattle.seeds.specs.Source.{source}
-use Rattle.talc_core.specs.Shown.{Showing, ShowsType, ShowsValue, ShowsAccepted, ShowsRun, SeedShown}
-use Rattle.talc_core.specs.Command.{Asked, Compiles, Types, Evaluates, Checks, Runs, Generates, Upgrades, command_of}
+use Rattle.talc_core.specs.Shown.{Showing, ShowsType, ShowsValue, ShowsAccepted, ShowsRun, ShowsTrace, SeedShown}
+use Rattle.talc_core.specs.Command.{Asked, Compiles, CompilesWithin, Types, Evaluates, Checks, Runs, Generates}
+use Rattle.talc_core.specs.Command.{Upgrades, Traces}
+use Rattle.talc_core.specs.Command.{command_of}
 use Rattle.talc_core.specs.Lines.{fault_line, read_line, write_line, memory_line}
 
 -- what the call reaches: the files, the output and the error output
@@ -95,7 +97,7 @@ TextAnswer Makes need input output old new other = ⊥
 
 -- ---- the commands that show a line
 
--- 0 and 4: the line is on the output, and nothing else is done
+-- 0 and 4: the line, or the lines, are on the output, and nothing else is done
 pub record LineShown (Says : List ℕ → List ℕ → Type 0) (input : List ℕ) (old new : Outside) : Type 0 where
   pub source : List ℕ
   pub line : List ℕ
@@ -194,12 +196,15 @@ UsageAnswer old new other = ⊥
 -- what the command does
 abbrev pub Does : Outside → Outside → Status → Asked → Type 0
 Does old new status (Compiles input output) = TextAnswer IsCompiled AProgram input output old new status
+Does old new status (CompilesWithin input output k) =
+    TextAnswer (IsCompiledWithin k) AProgram input output old new status
 Does old new status (Types input) = LineAnswer ShowsType AnyTerm input old new status
-Does old new status (Evaluates input turns) = LineAnswer (ShowsValue turns) AProgram input old new status
+Does old new status (Evaluates input turns) = LineAnswer (ShowsValue turns) CellFree input old new status
 Does old new status (Checks input) = LineAnswer ShowsAccepted AnAssembly input old new status
 Does old new status (Runs input fuel) = LineAnswer (ShowsRun fuel) AnAssembly input old new status
 Does old new status (Generates seed output) = SeedAnswer seed output old new status
 Does old new status (Upgrades input output) = TextAnswer IsUpgraded AnAssembly input output old new status
+Does old new status (Traces input from to) = LineAnswer (ShowsTrace from to) AnAssembly input old new status
 
 -- The whole of it: what the words ask for is done, or the user is told that they are no command.
 abbrev pub Headline : List (List ℕ) → Outside → Outside → Status → Type 0

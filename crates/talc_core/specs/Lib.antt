@@ -12,3 +12,6 @@ pub mod Steps
 pub mod Exact
 pub mod Composition
 pub mod TextLaws
+pub mod Traced
+pub mod Tracing
+pub mod TraceLaws

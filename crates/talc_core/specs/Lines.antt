@@ -5,7 +5,8 @@ use Rattle.f_terms.specs.Ty.{Ty}
 use Rattle.f_terms.specs.Text.{type_text}
 use Rattle.f_terms.specs.declared.fault.Code.{Code}
 use Rattle.f_terms.specs.declared.fault.Code.TheVariants.{E01, E02, E03, E04, E05, E06, E07, E08, E09, E10}
-use Rattle.f_terms.specs.declared.fault.Code.TheVariants.{E11, E12, E13, E14, E15, L1, L2, L3, L4, L5}
+use Rattle.f_terms.specs.declared.fault.Code.TheVariants.{E11, E12, E13, E14, E15, E16, E17, E18}
+use Rattle.f_terms.specs.declared.fault.Code.TheVariants.{E19, E21, E22, L1, L2, L3, L4, L5}
 use Rattle.t_terms.specs.declared.fault.TCode.{TCode}
 use Rattle.t_terms.specs.declared.fault.TCode.TheVariants.{T01, T02, T03, T04, T05, T06, T07, T08, T09, T10}
 use Rattle.t_terms.specs.declared.fault.TCode.TheVariants.{T11, T12, T13, T14, T15, T16, T17, T18, T19, T20, M1}
@@ -30,6 +31,12 @@ source_code E12 = codes "E12"
 source_code E13 = codes "E13"
 source_code E14 = codes "E14"
 source_code E15 = codes "E15"
+source_code E16 = codes "E16"
+source_code E17 = codes "E17"
+source_code E18 = codes "E18"
+source_code E19 = codes "E19"
+source_code E21 = codes "E21"
+source_code E22 = codes "E22"
 source_code L1 = codes "L1"
 source_code L2 = codes "L2"
 source_code L3 = codes "L3"
@@ -53,9 +60,15 @@ source_words E12 = codes "operand is not int"
 source_words E13 = codes "branches of two types"
 source_words E14 = codes "body not of the declared type"
 source_words E15 = codes "program is not int"
-source_words L1 = codes "more than 1048576 bytes"
+source_words E16 = codes "not an existential"
+source_words E17 = codes "pack does not fit"
+source_words E18 = codes "hidden type escapes"
+source_words E19 = codes "cells are not evaluated"
+source_words E21 = codes "not a reference"
+source_words E22 = codes "assigned value of another type"
+source_words L1 = codes "more than 16777216 bytes"
 source_words L2 = codes "more than 200 open constructs"
-source_words L3 = codes "more than 1000 nodes"
+source_words L3 = codes "more than 100000 nodes"
 source_words L4 = codes "type deeper than 200"
 source_words L5 = codes "type of more than 10000 nodes"
 

@@ -1,7 +1,8 @@
 -- What the commands that write no file show of a text, by the status that they end with.
-use Rattle.std.specs.Prelude.{◌≡◌, ◌+◌, ℕ, ℤ, List, length}
+use Rattle.std.specs.Prelude.{◌≡◌, ◌+◌, ℕ, ℤ, List, length, false}
 use Rattle.f_terms.specs.Ty.{Ty, TInt}
 use Rattle.f_terms.specs.Tm.{Tm, plain}
+use Rattle.f_terms.specs.Cells.{has_cells}
 use Rattle.f_terms.specs.Eval.{EvaluatesLeaving, IsSpent}
 use Rattle.talc_core.specs.declared.status.Status.{Status}
 use Rattle.talc_core.specs.declared.status.Status.TheVariants.{Done, Budget}
@@ -10,6 +11,7 @@ use Rattle.t_rules.specs.Machine.{HaltsWithin, Halts, GoesOnAfter, NeverSticks}
 use Rattle.seeds.specs.Source.{source as source_of}
 use Rattle.talc_core.specs.FirstFault.{IsChecked, IsAcceptedText}
 use Rattle.talc_core.specs.Compiled.{IsCompiled}
+use Rattle.talc_core.specs.Traced.{HaltedStates, RunningStates}
 use Rattle.talc_core.specs.Lines.{type_line, value_line, more_turns_line}
 use Rattle.talc_core.specs.Lines.{accepted_line, integer_line, more_instructions_line, seed_lines}
 
@@ -28,22 +30,24 @@ abbrev pub ShowsType : Showing
 ShowsType Done source line = TypeShown source line
 ShowsType other source line = ⊥
 
--- the source text is a text of a program, it evaluates to an integer within so many turns, and the line says that
--- integer and how many of them were used
+-- the source text is a text of a program without cells, it evaluates to an integer within so many turns, and the line
+-- says that integer and how many of them were used
 pub record ValueShown (turns : ℕ) (source line : List ℕ) : Type 0 where
   pub term : Tm
   pub value : ℤ
   pub used : ℕ
   pub left : ℕ
   pub checked : IsChecked source term TInt
+  pub cell_free : has_cells (plain term) ≡ false
   pub evaluates : EvaluatesLeaving (plain term) turns value left
   pub turns_used : used + left ≡ turns
   pub is : line ≡ value_line value used
 
--- the source text is a text of a program that goes on after so many turns, and the line says so
+-- the source text is a text of a program without cells that goes on after so many turns, and the line says so
 pub record SpentShown (turns : ℕ) (source line : List ℕ) : Type 0 where
   pub term : Tm
   pub checked : IsChecked source term TInt
+  pub cell_free : has_cells (plain term) ≡ false
   pub spent : IsSpent (plain term) turns
   pub is : line ≡ more_turns_line turns
 
@@ -84,6 +88,15 @@ abbrev pub ShowsRun : ℕ → Showing
 ShowsRun fuel Done text line = HaltedShown fuel text line
 ShowsRun fuel Budget text line = RunningShown fuel text line
 ShowsRun fuel other text line = ⊥
+
+-- The assembly text stands for an accepted program, and the lines are those of its states from one number of
+-- instructions to another, as far as it comes, and what `run` shows of it.
+abbrev pub ShowsTrace : (from to : ℕ) → Showing
+ShowsTrace from to Done text lines =
+    (program : SProg) × IsAcceptedText text program × HaltedStates (plain_program program) from to lines
+ShowsTrace from to Budget text lines =
+    (program : SProg) × IsAcceptedText text program × RunningStates (plain_program program) from to lines
+ShowsTrace from to other text lines = ⊥
 
 -- the turns within which `gen` evaluates
 abbrev pub seed_turns : ℕ

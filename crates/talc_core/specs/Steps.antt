@@ -1,13 +1,14 @@
 -- What the steps of a call do.
-use Rattle.std.specs.Prelude.{◌≡◌, ◌≤◌, ◌⊎◌, ◌+◌, ◌*◌, ℕ, ℤ, List, Result, Ok, Err, Vec}
+use Rattle.std.specs.Prelude.{◌≡◌, ◌≤◌, ◌⊎◌, ◌+◌, ◌*◌, ℕ, ℤ, List, Result, Ok, Err, Vec, false}
 use Rattle.std.specs.declared.alloc.Global.{Global}
 use Rattle.io_core.specs.Outside.{FilesState, SinkState, Faulted, IsAbsent, Holds, SameBut}
 use Rattle.io_core.specs.Outside.{with_file, gained, GainedPart}
 use Rattle.f_terms.specs.Ty.{TInt}
 use Rattle.f_terms.specs.Tm.{Tm, plain}
+use Rattle.f_terms.specs.Cells.{has_cells}
 use Rattle.f_terms.specs.Eval.{EvaluatesLeaving}
 use Rattle.f_terms.specs.Read.{tree}
-use Rattle.f_terms.specs.ReadTerm.{spanned}
+use Rattle.f_terms.specs.ReadTerm.{spanned, term_of}
 use Rattle.f_check.specs.Typed.{typed_term, typed_type, program_term}
 use Rattle.f_check.specs.declared.typed.Typed.{Typed}
 use Rattle.f_check.specs.declared.typed.Program.{Program}
@@ -25,12 +26,15 @@ use Rattle.talc_core.specs.declared.commands.Ending.{Ending}
 use Rattle.talc_core.specs.declared.commands.Ending.TheVariants.{Ends, GoesOn}
 use Rattle.talc_core.specs.declared.commands.Reply.{Reply}
 use Rattle.talc_core.specs.Fault.{status_of}
-use Rattle.talc_core.specs.Command.{Asked, Compiles, Types, Evaluates, Checks, Runs, Generates, Upgrades}
-use Rattle.talc_core.specs.FirstFault.{Need, AnyTerm, AProgram, AnAssembly, IsChecked, IsAcceptedText, FirstFault}
-use Rattle.talc_core.specs.Compiled.{IsCompiled}
+use Rattle.talc_core.specs.Command.{Asked, Compiles, CompilesWithin, Types, Evaluates, Checks, Runs, Generates}
+use Rattle.talc_core.specs.Command.{Upgrades, Traces}
+use Rattle.talc_core.specs.FirstFault.{Need, AnyTerm, AProgram, CellFree, AnAssembly}
+use Rattle.talc_core.specs.FirstFault.{IsChecked, IsAcceptedText, FirstFault}
+use Rattle.talc_core.specs.Compiled.{IsCompiled, IsCompiledWithin}
 use Rattle.talc_core.specs.Upgraded.{IsUpgraded}
 use Rattle.seeds.specs.Source.{source as source_of}
-use Rattle.talc_core.specs.Shown.{Showing, ShowsType, ShowsValue, ShowsAccepted, ShowsRun, SeedShown, seed_turns}
+use Rattle.talc_core.specs.Shown.{Showing, ShowsType, ShowsValue, ShowsAccepted, ShowsRun, ShowsTrace}
+use Rattle.talc_core.specs.Shown.{SeedShown, seed_turns}
 use Rattle.talc_core.specs.Headline.{Making, Shows, ShowsOrNot}
 use Rattle.talc_core.specs.Lines.{fault_line, read_line, write_line, memory_line}
 
@@ -51,6 +55,12 @@ ChecksSource source (Err failure) = RefusedBy AnyTerm source failure
 abbrev pub ReadsProgram : List ℕ → Result Program Failure → Type 0
 ReadsProgram source (Ok program) = IsChecked source (spanned (program_term program)) TInt
 ReadsProgram source (Err failure) = RefusedBy AProgram source failure
+
+-- the program of a source text, which has no cells, or its first fault
+abbrev pub ReadsCellFree : List ℕ → Result Program Failure → Type 0
+ReadsCellFree source (Ok program) =
+    IsChecked source (spanned (program_term program)) TInt × (has_cells (term_of (program_term program)) ≡ false)
+ReadsCellFree source (Err failure) = RefusedBy CellFree source failure
 
 -- the accepted program of an assembly text, or its first fault
 abbrev pub ChecksAssembly : List ℕ → Result Checked Failure → Type 0
@@ -179,15 +189,19 @@ abbrev pub Performs :
     Asked → FilesState → FilesState → SinkState → SinkState → Result Ending Failure → Type 0
 Performs (Compiles input output) old new out out' result =
     MakesFile IsCompiled AProgram input output old new result × (out' ≡ out)
+Performs (CompilesWithin input output k) old new out out' result =
+    MakesFile (IsCompiledWithin k) AProgram input output old new result × (out' ≡ out)
 Performs (Types input) old new out out' result = ShowsFile ShowsType AnyTerm input old new out out' result
 Performs (Evaluates input turns) old new out out' result =
-    ShowsFile (ShowsValue turns) AProgram input old new out out' result
+    ShowsFile (ShowsValue turns) CellFree input old new out out' result
 Performs (Checks input) old new out out' result = ShowsFile ShowsAccepted AnAssembly input old new out out' result
 Performs (Runs input fuel) old new out out' result =
     ShowsFile (ShowsRun fuel) AnAssembly input old new out out' result
 Performs (Generates seed output) old new out out' result = ShowsSeed seed output old new out out' result
 Performs (Upgrades input output) old new out out' result =
     MakesFile IsUpgraded AnAssembly input output old new result × (out' ≡ out)
+Performs (Traces input from to) old new out out' result =
+    ShowsFile (ShowsTrace from to) AnAssembly input old new out out' result
 
 -- ---- the lines for the user
 

@@ -1,13 +1,15 @@
 // What the commands do: one module for each.
 ghost use Rattle.std.specs.Prelude.{◌≡◌};
 ghost use Rattle.talc_core.specs.Steps.{status_at, Performs, PutsReply};
+ghost use Rattle.words.specs.Command.{EnoughRegisters};
 ghost use Rattle.words.specs.Reads.{asked_by};
 
 use crate::commands::check::show_acceptance;
-use crate::commands::compile::compile_file;
+use crate::commands::compile::{compile_file, compile_file_within};
 use crate::commands::eval::show_value;
 use crate::commands::run::show_run;
 use crate::commands::seed::show_seed;
+use crate::commands::trace::{Window, show_trace};
 use crate::commands::type_of::show_type;
 use crate::commands::upgrade::upgrade_file;
 use crate::outside::put_line;
@@ -22,6 +24,7 @@ mod compile;
 mod eval;
 mod run;
 mod seed;
+pub(crate) mod trace;
 mod type_of;
 mod upgrade;
 
@@ -45,7 +48,7 @@ impl Ending {
     }
 }
 
-// The line that a command shows of a text.
+// The line, or the lines, that a command shows of a text.
 #[derive(Debug, Drop)]
 pub(crate) struct Reply {
     pub(crate) ending: Ending,
@@ -67,16 +70,25 @@ pub(crate) fn perform<F: Files, O: Sink>(
     out: &mut O,
     command: Command,
 ) -> Result<Ending, Failure>
+    requires { EnoughRegisters (asked_by command) }
     ensures { Performs (asked_by command.entry) (F.state files.old) (F.state files.new)
         (O.state out.old) (O.state out.new) result }
 {
     match command {
         Command::Compile { input, output } => compile_file(alloc, files, input, output),
+        Command::CompileWithin {
+            input,
+            output,
+            registers,
+        } => compile_file_within(alloc, files, input, output, registers),
         Command::Check { input } => show_acceptance(alloc, files, out, input),
         Command::Run { input, fuel } => show_run(alloc, files, out, input, fuel),
         Command::Typeof { input } => show_type(alloc, files, out, input),
         Command::Eval { input, turns } => show_value(alloc, files, out, input, turns),
         Command::Gen { seed, output } => show_seed(alloc, files, out, seed, output),
         Command::Upgrade { input, output } => upgrade_file(alloc, files, input, output),
+        Command::Trace { input, from, to } => {
+            show_trace(alloc, files, out, input, Window { from, to })
+        }
     }
 }

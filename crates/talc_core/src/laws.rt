@@ -2,13 +2,21 @@
 // them.
 ghost use Rattle.talc_core.specs.FirstFault.{OneFault, NoFaultWhereTaken, TakenOrFault};
 ghost use Rattle.talc_core.specs.Composition.{CompiledIsTaken, CompiledMeansTheSame, CompiledShowsTheSame};
+ghost use Rattle.talc_core.specs.Composition.{BoundedIsTaken, BoundedMeansTheSame, BoundedShowsTheSame};
+ghost use Rattle.talc_core.specs.Composition.{BoundedHasFewRegisters};
 ghost use Rattle.talc_core.specs.Composition.{UpgradedIsTaken, UpgradedIsTheSame, UpgradedRunsTheSame};
+ghost use Rattle.talc_core.specs.Composition.{UpgradedTracesTheSame};
 ghost use Rattle.talc_core.specs.Exact.{HeadlineIsExact};
 ghost use Rattle.talc_core.specs.TextLaws.{TextLaws};
+ghost use Rattle.talc_core.specs.Traced.{LinesShowKinds, OneLine};
+ghost use Rattle.talc_core.specs.TraceLaws.{OneTrace, TraceEndsAsRun};
 
 use f_parser::{closed_terms, one_term, term_or_fault};
 use f_terms::{no_fault_beside_a_pass, one_answer, one_type, pass_or_fault, passes_where_typed};
-use t_rules::{accepted_or_fault, no_fault_where_accepted, runs_are_unique};
+use t_rules::{
+    accepted_or_fault, erased_words_are_of_their_kind, no_fault_where_accepted, places_are_known,
+    runs_are_unique,
+};
 use t_terms::{at_most_one_program, program_or_fault};
 
 // What the laws of texts stand on: laws of the crates below.
@@ -77,6 +85,33 @@ pub fn compiled_shows_the_same()
     one_answer();
 }
 
+/// What `compile` with a number of registers writes is a text that `check` and `run` take too.
+pub fn bounded_is_taken()
+    ensures { BoundedIsTaken }
+{}
+
+/// Its program means the same as the term of the source.
+pub fn bounded_means_the_same()
+    ensures { BoundedMeansTheSame }
+{
+    texts_keep_laws();
+}
+
+/// So `run` shows of it the integer that `eval` shows of the source.
+pub fn bounded_shows_the_same()
+    ensures { BoundedShowsTheSame }
+{
+    texts_keep_laws();
+    one_answer();
+}
+
+/// And the program that is read of it has no register above that number.
+pub fn bounded_has_few_registers()
+    ensures { BoundedHasFewRegisters }
+{
+    texts_keep_laws();
+}
+
 /// What `upgrade` writes is a text that `check`, `run` and `upgrade` take: it stands for a program that the typing
 /// rules accept.
 pub fn upgraded_is_taken()
@@ -96,6 +131,43 @@ pub fn upgraded_runs_the_same()
 {
     texts_keep_laws();
 }
+
+/// What `trace` shows of what `upgrade` wrote is what it shows of the old text, with the same status.
+pub fn upgraded_traces_the_same()
+    ensures { UpgradedTracesTheSame }
+{
+    texts_keep_laws();
+}
+
+/// A program has one line at most after so many steps.
+pub fn one_line()
+    ensures { OneLine }
+{
+    runs_are_unique();
+    places_are_known();
+}
+
+/// Each word that a line of an accepted program shows is of the kind of its type: an integer at `int`, the address of a
+/// tuple of the heap at a tuple type, the label of a block at a code type.
+pub fn lines_show_kinds()
+    ensures { LinesShowKinds }
+{
+    erased_words_are_of_their_kind();
+}
+
+/// What `trace` shows of a text, and its status, are told by the text and the two numbers.
+pub fn one_trace()
+    ensures { OneTrace }
+{
+    texts_keep_laws();
+    one_line();
+}
+
+/// The last line that `trace` shows is the one that `run` shows of the text within as many instructions, with the same
+/// status.
+pub fn trace_ends_as_run()
+    ensures { TraceEndsAsRun }
+{}
 
 // What a call does by its status tells when each status comes.
 pub(crate) fn headline_is_exact()

@@ -16,8 +16,10 @@ mod top;
 
 pub use fault::Fault;
 pub use laws::{
-    compiled_is_taken, compiled_means_the_same, compiled_shows_the_same, no_fault_where_taken,
-    one_fault, taken_or_fault, upgraded_is_taken, upgraded_is_the_same, upgraded_runs_the_same,
+    bounded_has_few_registers, bounded_is_taken, bounded_means_the_same, bounded_shows_the_same,
+    compiled_is_taken, compiled_means_the_same, compiled_shows_the_same, lines_show_kinds,
+    no_fault_where_taken, one_fault, one_line, one_trace, taken_or_fault, trace_ends_as_run,
+    upgraded_is_taken, upgraded_is_the_same, upgraded_runs_the_same, upgraded_traces_the_same,
 };
 pub use lines::fault_line;
 pub use seeds::source_of;

@@ -1,15 +1,18 @@
 // From a source text to its term, to the term's type, and to a program.
 ghost use Rattle.std.specs.Prelude.{◌≡◌};
 ghost use Rattle.f_terms.specs.declared.fault.Code.TheVariants as code;
+ghost use Rattle.f_terms.specs.Read.{place};
+ghost use Rattle.f_terms.specs.ReadTerm.{spanned};
+ghost use Rattle.f_terms.specs.Tm.{span_of};
 ghost use Rattle.talc_core.specs.declared.fault.Fault.TheVariants as fault;
 ghost use Rattle.talc_core.specs.declared.report.Failure.TheVariants as failed;
-ghost use Rattle.talc_core.specs.Steps.{ChecksSource, ReadsProgram};
+ghost use Rattle.talc_core.specs.Steps.{ChecksSource, ReadsProgram, ReadsCellFree};
 
 use crate::fault::Fault;
 use crate::report::Failure;
 use f_check::{Program, Typed, check};
 use f_parser::{closed_terms, parse};
-use f_terms::Code;
+use f_terms::{Code, FTerm, has_cells};
 use idx_core::Span;
 use std::alloc::Global;
 
@@ -38,5 +41,31 @@ pub(crate) fn read_program(alloc: Global, source: &[u8]) -> Result<Program, Fail
     match typed.program() {
         Ok(program) => Ok(program),
         Err(refused) => Err(not_a_program(refused)),
+    }
+}
+
+// The place of a whole term.
+fn whole(term: &FTerm) -> Span
+    ensures { place result ≡ span_of (spanned term.now) }
+{
+    term.node(term.count() - 1).span
+}
+
+// Why a program with cells is not evaluated.
+fn of_cells(span: Span) -> Failure
+    ensures { result ≡ failed.Refused (fault.Source code.E19 span) }
+{
+    Failure::Refused(Fault::Source(Code::E19, span))
+}
+
+// The program of the text, which has no cells.
+pub(crate) fn read_cell_free(alloc: Global, source: &[u8]) -> Result<Program, Failure>
+    ensures { ReadsCellFree source.now result }
+{
+    let program = read_program(alloc, source)?;
+    if has_cells(program.term()) {
+        Err(of_cells(whole(program.term())))
+    } else {
+        Ok(program)
     }
 }

@@ -14,6 +14,7 @@ mod memory;
 mod outside_rows;
 mod seed_rows;
 mod source_rows;
+mod trace_rows;
 mod upgrade_rows;
 mod value_rows;
 
@@ -54,7 +55,7 @@ fn a_file_is_compiled_into_itself(rt: HostRuntime) -> Result<(), Fail> {
     leads(&rt, rt.alloc(), line, before, after)
 }
 
-// No file is read, and there is a text for the user.
+// No file is read or written, and there is a text for the user.
 fn is_usage(status: Status, outside: &Outside) -> bool {
     status == Status::Usage
         && outside.files.faults() == (0, 0)
@@ -94,6 +95,7 @@ fn other_words_are_no_command(rt: HostRuntime) -> Result<(), Fail> {
             "talc gen --seed 0",
             "talc gen g.f",
             "talc upgrade x.tal",
+            "talc trace x.tal --from 0",
             "talc link x.tal y.tal",
             "talc help",
             "talc --help",
@@ -106,6 +108,48 @@ fn other_words_are_no_command(rt: HostRuntime) -> Result<(), Fail> {
             "talc eval x.f --turns",
             "talc eval x.f --turns x",
             "talc eval x.f --turns 18446744073709551616",
+        ],
+    )
+}
+
+#[test]
+fn faulty_numbers_of_registers_are_no_command(rt: HostRuntime) -> Result<(), Fail> {
+    are_no_commands(
+        &rt,
+        rt.alloc(),
+        &[
+            "talc compile --registers 7 x.f x.tal",
+            "talc compile --registers 0 x.f x.tal",
+            "talc compile --registers x x.f x.tal",
+            "talc compile --registers -8 x.f x.tal",
+            "talc compile --registers 18446744073709551616 x.f x.tal",
+            "talc compile x.f x.tal --registers",
+            "talc compile --registers 8 --registers 8 x.f x.tal",
+            "talc compile --registers 8 x.f",
+            "talc check --registers 8 x.f",
+            "talc run --registers 8 x.f --fuel 1",
+            "talc upgrade --registers 8 x.f x.tal",
+        ],
+    )
+}
+
+#[test]
+fn faulty_numbers_of_a_trace_are_no_command(rt: HostRuntime) -> Result<(), Fail> {
+    are_no_commands(
+        &rt,
+        rt.alloc(),
+        &[
+            "talc trace x.f",
+            "talc trace x.f --to 1",
+            "talc trace x.f --from 0",
+            "talc trace x.f --from 0 --to",
+            "talc trace x.f --from --to 1",
+            "talc trace x.f --from 0 --to x",
+            "talc trace x.f --from -1 --to 1",
+            "talc trace x.f --from ~1 --to 1",
+            "talc trace x.f --from 0 --to 18446744073709551616",
+            "talc trace x.f --from 0 --to 1 --to 1",
+            "talc trace --from 0 --to 1",
         ],
     )
 }

@@ -1,5 +1,6 @@
 // The top call.
 ghost use Rattle.std.specs.Prelude.{map, string_bytes};
+ghost use Rattle.words.specs.Command.{EnoughRegisters};
 ghost use Rattle.words.specs.Reads.{asked_by};
 ghost use Rattle.talc_core.specs.Headline.{Does, Headline};
 ghost use Rattle.talc_core.specs.Exact.{Exactly};
@@ -10,7 +11,7 @@ use crate::report::{Failure, report, show};
 use crate::status::Status;
 use io_core::{Files, Sink};
 use std::alloc::Global;
-use words::{Command, NoCommand, read};
+use words::{Command, NoCommand, read, registers_are_enough};
 
 // Does a command, and tells the user why where it fails.
 fn run_command<F: Files, O: Sink, E: Sink>(
@@ -20,6 +21,7 @@ fn run_command<F: Files, O: Sink, E: Sink>(
     err: &mut E,
     command: Command,
 ) -> Status
+    requires { EnoughRegisters (asked_by command) }
     ensures { Does
         (record { files = F.state files.old; out = O.state out.old; err = E.state err.old })
         (record { files = F.state files.new; out = O.state out.new; err = E.state err.new })
@@ -50,6 +52,7 @@ pub fn talc<F: Files, O: Sink, E: Sink>(
         result }
 {
     headline_is_exact();
+    registers_are_enough();
     match read(alloc, words) {
         Ok(command) => run_command(alloc, files, out, err, command),
         Err(NoCommand::Usage(text)) => show(alloc, err, text.as_bytes(), Status::Usage),

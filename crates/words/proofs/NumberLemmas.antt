@@ -1,12 +1,12 @@
 -- What `clap`'s reader of whole numbers takes is a number, and `get_one` reads that number.
-use Rattle.std.proofs.Common.{◌≡◌, ◌≤◌, ℕ, Bool, true, false, [], Option, Some, None, IsSome, option_and_then, Result, Ok, Err, refl, ap, arith}
+use Rattle.std.proofs.Common.{◌≡◌, ◌≤◌, ℕ, Bool, true, false, [], Option, Some, None, IsSome, MatchOption, option_and_then, Result, Ok, Err, refl, ap, arith}
 use Rattle.std.specs.Str.Parse.{ParsesUnsigned, digits_value, without_leading_plus}
 use Rattle.clap.specs.Words.{ReadsOne, Text}
 use Rattle.clap.specs.Kinds.{value_kinds}
 use Rattle.clap.specs.ValueTests.{accepts}
 use Rattle.clap.proofs.ValueTestLemmas.{Accepts-accepts, accepts-Accepts}
 use Rattle.words.specs.Command.{number_of}
-use Rattle.words.specs.Description.{whole_number}
+use Rattle.words.specs.Description.{register_number, whole_number}
 
 -- a text that the reader takes is a number's
 pub taken_number : (text : Text) → value_kinds false whole_number text ≡ [] → IsSome (number_of text)
@@ -34,3 +34,15 @@ number_read E gives parses (Some t) None none some = go (accepts false whole_num
         let is_one = accepts-Accepts false whole_number t is in
         absurd (parses t (Err read.0) read.1 (is_one.0, is_one.1))
     go false is = rw is refl
+
+-- a text that the reader of numbers from 8 on takes is that of such a number
+pub taken_enough : (text : Text) → value_kinds false register_number text ≡ [] → MatchOption (number_of text) ⊥ (λ k. 8 ≤ k)
+taken_enough text none = go (accepts false register_number text) refl
+  where
+    go : (b : Bool) → accepts false register_number text ≡ b → MatchOption (number_of text) ⊥ (λ k. 8 ≤ k)
+    go true is =
+        let is_one = accepts-Accepts false register_number text is in
+        let least : 0 ≤ digits_value 10 (without_leading_plus text) = omega arith in
+        let takes : accepts false whole_number text ≡ true = Accepts-accepts false whole_number text (is_one.0, is_one.1, least, is_one.3) in
+        rw takes is_one.2
+    go false is = let bad = rw is at none in cc

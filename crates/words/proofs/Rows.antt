@@ -2,12 +2,34 @@
 use Rattle.std.proofs.Common.{◌≡◌, [], ◌∷◌, Some, None, refl}
 use Rattle.std.specs.Prelude.{codes}
 use Rattle.clap.proofs.OnLiterals.{clap_on_literals}
-use Rattle.words.specs.Command.{Checks, Compiles, Evaluates, Generates, Runs, Types, Upgrades, command_of}
+use Rattle.words.specs.Command.{Checks, Compiles, CompilesWithin, Evaluates, Generates, Runs, Traces, Types, Upgrades, command_of}
 
 -- talc compile x.f x.tal
 compile_words : command_of (codes "talc" ∷ codes "compile" ∷ codes "x.f" ∷ codes "x.tal" ∷ []) ≡ Some (Compiles (codes "x.f") (codes "x.tal"))
 unfolding command_of clap_on_literals
 compile_words = refl
+
+-- the same within registers, 8 at least
+within_words : command_of (codes "talc" ∷ codes "compile" ∷ codes "--registers" ∷ codes "8" ∷ codes "x.f" ∷ codes "x.tal" ∷ []) ≡ Some (CompilesWithin (codes "x.f") (codes "x.tal") 8)
+unfolding command_of clap_on_literals
+within_words = refl
+
+within_few : command_of (codes "talc" ∷ codes "compile" ∷ codes "--registers" ∷ codes "7" ∷ codes "x.f" ∷ codes "x.tal" ∷ []) ≡ None
+unfolding command_of clap_on_literals
+within_few = refl
+
+within_no_number : command_of (codes "talc" ∷ codes "compile" ∷ codes "--registers" ∷ codes "x" ∷ codes "x.f" ∷ codes "x.tal" ∷ []) ≡ None
+unfolding command_of clap_on_literals
+within_no_number = refl
+
+within_twice : command_of (codes "talc" ∷ codes "compile" ∷ codes "--registers" ∷ codes "8" ∷ codes "--registers" ∷ codes "8" ∷ codes "x.f" ∷ codes "x.tal" ∷ []) ≡ None
+unfolding command_of clap_on_literals
+within_twice = refl
+
+-- the option on another command
+within_elsewhere : command_of (codes "talc" ∷ codes "check" ∷ codes "--registers" ∷ codes "8" ∷ codes "x.tal" ∷ []) ≡ None
+unfolding command_of clap_on_literals
+within_elsewhere = refl
 
 -- talc check x.tal
 check_words : command_of (codes "talc" ∷ codes "check" ∷ codes "x.tal" ∷ []) ≡ Some (Checks (codes "x.tal"))
@@ -167,6 +189,31 @@ upgrade_words = refl
 upgrade_missing_file : command_of (codes "talc" ∷ codes "upgrade" ∷ codes "x.tal" ∷ []) ≡ None
 unfolding command_of clap_on_literals
 upgrade_missing_file = refl
+
+-- talc trace x.tal --from 3 --to 4, the same with the options first, and without one of the numbers
+trace_words : command_of (codes "talc" ∷ codes "trace" ∷ codes "x.tal" ∷ codes "--from" ∷ codes "3" ∷ codes "--to" ∷ codes "4" ∷ []) ≡ Some (Traces (codes "x.tal") 3 4)
+unfolding command_of clap_on_literals
+trace_words = refl
+
+trace_first : command_of (codes "talc" ∷ codes "trace" ∷ codes "--to=4" ∷ codes "--from=3" ∷ codes "x.tal" ∷ []) ≡ Some (Traces (codes "x.tal") 3 4)
+unfolding command_of clap_on_literals
+trace_first = refl
+
+trace_missing_from : command_of (codes "talc" ∷ codes "trace" ∷ codes "x.tal" ∷ codes "--to" ∷ codes "4" ∷ []) ≡ None
+unfolding command_of clap_on_literals
+trace_missing_from = refl
+
+trace_missing_to : command_of (codes "talc" ∷ codes "trace" ∷ codes "x.tal" ∷ codes "--from" ∷ codes "3" ∷ []) ≡ None
+unfolding command_of clap_on_literals
+trace_missing_to = refl
+
+trace_no_number : command_of (codes "talc" ∷ codes "trace" ∷ codes "x.tal" ∷ codes "--from" ∷ codes "3" ∷ codes "--to" ∷ codes "x" ∷ []) ≡ None
+unfolding command_of clap_on_literals
+trace_no_number = refl
+
+trace_twice : command_of (codes "talc" ∷ codes "trace" ∷ codes "x.tal" ∷ codes "--from" ∷ codes "3" ∷ codes "--to" ∷ codes "4" ∷ codes "--to" ∷ codes "4" ∷ []) ≡ None
+unfolding command_of clap_on_literals
+trace_twice = refl
 
 -- no command
 other_words : command_of (codes "talc" ∷ codes "link" ∷ codes "x.tal" ∷ codes "y.tal" ∷ []) ≡ None

@@ -1,5 +1,5 @@
 -- When words are a command, and what they ask for.
-use Rattle.std.specs.Prelude.{ℕ, false, List, [], ◌∷◌, Option, Some, None, if◌then◌else◌, codes}
+use Rattle.std.specs.Prelude.{◌≤◌, ℕ, false, List, [], ◌∷◌, Option, Some, None, if◌then◌else◌, codes}
 use Rattle.std.specs.Prelude.{option_and_then, option_map}
 use Rattle.std.specs.Str.{bytes_eq}
 use Rattle.std.specs.Str.Parse.{digits_value, without_leading_plus}
@@ -7,18 +7,21 @@ use Rattle.clap.specs.ValueTests.{accepts}
 use Rattle.clap.specs.Words.{Kinds, Row, Text, fault_of, first_of, one_of, subcommand_of}
 use Rattle.words.specs.Description.{talc_app, whole_number}
 
--- what the words ask for: to compile the source text of the file IN into the file OUT, to check the TAL text of IN, to
--- run it for so many instructions, to show the type of the source text of IN, to evaluate it within so many turns, to
--- put the source of a seed through all of that and write it to the file OUT, or to write the program of the TAL text of
--- IN to the file OUT in the newest version of the language
+-- what the words ask for: to compile the source text of the file IN into the file OUT, or into a text that uses the
+-- registers up to a number alone, to check the TAL text of IN, to run it for so many instructions, to show the type of
+-- the source text of IN, to evaluate it within so many turns, to put the source of a seed through all of that and write
+-- it to the file OUT, to write the program of the TAL text of IN to the file OUT in the newest version of the language,
+-- or to run the TAL text of IN and show its states from one number of instructions to another
 pub data Asked : Type 0 where
   Compiles : (input output : Text) → Asked
+  CompilesWithin : (input output : Text) (registers : ℕ) → Asked
   Checks : (input : Text) → Asked
   Runs : (input : Text) (fuel : ℕ) → Asked
   Types : (input : Text) → Asked
   Evaluates : (input : Text) (turns : ℕ) → Asked
   Generates : (seed : ℕ) (output : Text) → Asked
   Upgrades : (input output : Text) → Asked
+  Traces : (input : Text) (from to : ℕ) → Asked
 
 -- the number that a text writes, where `clap`'s reader of whole numbers takes it: decimal digits, perhaps after a plus,
 -- of a number below 2 ^ 64
@@ -34,11 +37,23 @@ abbrev pub asked_with : {X : Type 0} → (Text → X → Asked) → Option Text 
 asked_with asks (Some input) (Some more) = Some (asks input more)
 asked_with asks _ _ = None
 
+-- what a text and two numbers ask for, where all are there
+abbrev pub asked_between : Option Text → Option ℕ → Option ℕ → Option Asked
+asked_between (Some input) (Some from) (Some to) = Some (Traces input from to)
+asked_between _ _ _ = None
+
+-- what two texts ask for, and a third one, a number's, that may be left out
+abbrev pub asked_within : Option Text → Option Text → Option Text → Option Asked
+asked_within (Some input) (Some output) None = Some (Compiles input output)
+asked_within (Some input) (Some output) (Some text) = option_map (CompilesWithin input output) (number_of text)
+asked_within _ _ _ = None
+
 -- what a subcommand asks for, by its name and the values that `clap` gives its arguments
 abbrev pub asked_in : Text → List Row → Option Asked
 asked_in name rows =
     let input = first_of (codes "IN") rows in
-    if bytes_eq name (codes "compile") then asked_with Compiles input (first_of (codes "OUT") rows)
+    if bytes_eq name (codes "compile") then
+    asked_within input (first_of (codes "OUT") rows) (one_of (codes "registers") rows)
     else (if bytes_eq name (codes "check") then option_map Checks input
     else (if bytes_eq name (codes "run") then asked_with Runs input (number_in (codes "fuel") rows)
     else (if bytes_eq name (codes "typeof") then option_map Types input
@@ -46,7 +61,9 @@ asked_in name rows =
     else (if bytes_eq name (codes "gen") then
     asked_with (λ output seed. Generates seed output) (first_of (codes "OUT") rows) (number_in (codes "seed") rows)
     else (if bytes_eq name (codes "upgrade") then asked_with Upgrades input (first_of (codes "OUT") rows)
-    else None))))))
+    else (if bytes_eq name (codes "trace") then
+    asked_between input (number_in (codes "from") rows) (number_in (codes "to") rows)
+    else None)))))))
 
 abbrev pub asked_of : Option (Text × List Row) → Option Asked
 asked_of entered = option_and_then (λ p. asked_in p.0 p.1) entered
@@ -60,3 +77,8 @@ where_none (kind ∷ kinds) asked = None
 -- what is asked. The first word is the program's name.
 unfoldable pub command_of : List Text → Option Asked
 command_of words = where_none (fault_of talc_app words) (asked_of (subcommand_of talc_app words))
+
+-- the registers to which a text is bounded are 8 at least
+abbrev pub EnoughRegisters : Asked → Type 0
+EnoughRegisters (CompilesWithin input output registers) = 8 ≤ registers
+EnoughRegisters other = Unit {0}

@@ -25,9 +25,25 @@ number_rule name =
       parser = Some whole_number;
     }
 
--- compile IN OUT
+-- the reader of whole numbers from 8 on and below 2 ^ 64
+abbrev pub register_number : ValueParser
+register_number = Unsigned 8 18446744073709551615
+
+-- the option of one such number, called `registers`, which may be left out
+abbrev pub registers_rule : Rule
+registers_rule =
+    record (new_rule (codes "registers")) {
+      long = Some (codes "registers");
+      value_names = 1;
+      action = Some Set;
+      parser = Some register_number;
+    }
+
+-- compile IN OUT, perhaps with --registers K
 abbrev pub compile_app : App
-compile_app = with_rule (with_rule (new_app (codes "compile")) (file_rule (codes "IN"))) (file_rule (codes "OUT"))
+compile_app =
+    with_rule (with_rule (with_rule (new_app (codes "compile")) (file_rule (codes "IN"))) (file_rule (codes "OUT")))
+    registers_rule
 
 -- check IN
 abbrev pub check_app : App
@@ -53,6 +69,12 @@ gen_app = with_rule (with_rule (new_app (codes "gen")) (file_rule (codes "OUT"))
 abbrev pub upgrade_app : App
 upgrade_app = with_rule (with_rule (new_app (codes "upgrade")) (file_rule (codes "IN"))) (file_rule (codes "OUT"))
 
+-- trace IN --from N --to N
+abbrev pub trace_app : App
+trace_app =
+    with_rule (with_rule (with_rule (new_app (codes "trace")) (file_rule (codes "IN"))) (number_rule (codes "from")))
+    (number_rule (codes "to"))
+
 -- the command line without its subcommands: one must be given, and there is no `help` among them
 abbrev pub bare_app : App
 bare_app =
@@ -62,4 +84,5 @@ bare_app =
 abbrev pub talc_app : App
 talc_app =
     fold with_subcommand bare_app
-    (compile_app.top ∷ check_app.top ∷ run_app.top ∷ typeof_app.top ∷ eval_app.top ∷ gen_app.top ∷ upgrade_app.top ∷ [])
+    (compile_app.top ∷ check_app.top ∷ run_app.top ∷ typeof_app.top ∷ eval_app.top ∷ gen_app.top ∷ upgrade_app.top
+    ∷ trace_app.top ∷ [])

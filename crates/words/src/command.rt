@@ -7,20 +7,52 @@ use std::fmt;
 #[derive(Clone, Copy, Debug, PartialEq, Eq, Drop)]
 pub enum Command<'a> {
     /// `compile IN OUT`: compiles the source text of one file into the assembly text of another.
-    Compile { input: &'a str, output: &'a str },
+    Compile {
+        input: &'a str,
+        output: &'a str,
+    },
+    /// `compile --registers K IN OUT`: the same, with an assembly text that uses the registers 1 to K alone.
+    CompileWithin {
+        input: &'a str,
+        output: &'a str,
+        registers: u64,
+    },
     /// `check IN`: checks the assembly text of a file.
-    Check { input: &'a str },
+    Check {
+        input: &'a str,
+    },
     /// `run IN --fuel N`: runs the assembly text of a file for a number of instructions.
-    Run { input: &'a str, fuel: u64 },
+    Run {
+        input: &'a str,
+        fuel: u64,
+    },
     /// `typeof IN`: shows the type of the source text of a file.
-    Typeof { input: &'a str },
+    Typeof {
+        input: &'a str,
+    },
     /// `eval IN --turns N`: evaluates the source text of a file within a number of turns.
-    Eval { input: &'a str, turns: u64 },
+    Eval {
+        input: &'a str,
+        turns: u64,
+    },
     /// `gen --seed N OUT`: writes the source of a seed to a file, after all the work of the other commands on it.
-    Gen { seed: u64, output: &'a str },
+    Gen {
+        seed: u64,
+        output: &'a str,
+    },
     /// `upgrade IN OUT`: writes the program of the assembly text of one file to another, in the newest version of the
     /// language.
-    Upgrade { input: &'a str, output: &'a str },
+    Upgrade {
+        input: &'a str,
+        output: &'a str,
+    },
+    /// `trace IN --from A --to B`: runs the assembly text of a file for a number of instructions, and shows its states
+    /// from another number on.
+    Trace {
+        input: &'a str,
+        from: u64,
+        to: u64,
+    },
 }
 
 /// Why words come to no command.

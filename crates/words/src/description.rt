@@ -2,10 +2,11 @@
 ghost use Rattle.std.specs.Prelude.{◌≡◌, IfOk, false, true};
 ghost use Rattle.std.specs.Result.{IsOkAnd};
 ghost use Rattle.clap.specs.Words.{app_of, rule_of, with_subcommand};
-ghost use Rattle.words.specs.Description.{file_rule, number_rule, compile_app, check_app, run_app};
-ghost use Rattle.words.specs.Description.{typeof_app, eval_app, gen_app, upgrade_app};
+ghost use Rattle.words.specs.Description.{file_rule, number_rule, registers_rule, compile_app, check_app, run_app};
+ghost use Rattle.words.specs.Description.{typeof_app, eval_app, gen_app, upgrade_app, trace_app};
 ghost use Rattle.words.specs.Description.{bare_app, talc_app};
 
+use clap::builder::ValueParser;
 use clap::{Arg, ArgAction, Command, value_parser};
 use std::alloc::{AllocError, Global};
 
@@ -30,13 +31,28 @@ fn number<'a>(alloc: Global, name: &'a str, help: &'a str) -> Arg<'a>
         .value_parser(value_parser!(u64))
 }
 
+// The option of the registers that a text may use, a whole number from 8 on and below 2 ^ 64.
+fn registers<'a>(alloc: Global) -> Arg<'a>
+    ensures rule { rule_of result ≡ registers_rule }
+    ensures local { result.global ≡ false }
+{
+    let arg = Arg::new(alloc, "registers").help(
+        "The greatest register that OUT may use, 8 at least",
+    );
+    arg.long("registers")
+        .value_name("K")
+        .action(ArgAction::Set)
+        .value_parser(ValueParser::unsigned(8, u64::MAX))
+}
+
 fn compile_words<'a>(alloc: Global) -> Result<Command<'a>, AllocError>
     ensures { IfOk result (λ c. app_of c ≡ compile_app) }
 {
     Command::new(alloc, "compile")
         .about("Compiles the source text IN into the TAL text OUT")
         .arg(file(alloc, "IN", "The file to read"))?
-        .arg(file(alloc, "OUT", "The file to write over"))
+        .arg(file(alloc, "OUT", "The file to write over"))?
+        .arg(registers(alloc))
 }
 
 fn check_words<'a>(alloc: Global) -> Result<Command<'a>, AllocError>
@@ -91,6 +107,22 @@ fn upgrade_words<'a>(alloc: Global) -> Result<Command<'a>, AllocError>
         .arg(file(alloc, "OUT", "The file to write over"))
 }
 
+fn trace_words<'a>(alloc: Global) -> Result<Command<'a>, AllocError>
+    ensures { IfOk result (λ c. app_of c ≡ trace_app) }
+{
+    Command::new(alloc, "trace")
+        .about(
+            "Runs the TAL text IN for at most --to instructions, and shows each state from --from on",
+        )
+        .arg(file(alloc, "IN", "The file to read"))?
+        .arg(number(
+            alloc,
+            "from",
+            "The number of instructions before the first state that is shown",
+        ))?
+        .arg(number(alloc, "to", "The most instructions to make"))
+}
+
 // The command line without its subcommands: one must be given, and there is no `help` among them.
 fn bare_words<'a>(alloc: Global) -> Command<'a>
     ensures { app_of result ≡ bare_app }
@@ -123,6 +155,7 @@ pub(crate) fn talc_words<'a>(alloc: Global) -> Result<Command<'a>, AllocError>
     let type_of = with_words(run, typeof_words(alloc))?;
     let eval = with_words(type_of, eval_words(alloc))?;
     let generate = with_words(eval, gen_words(alloc))?;
-    let all = with_words(generate, upgrade_words(alloc))?;
+    let upgrade = with_words(generate, upgrade_words(alloc))?;
+    let all = with_words(upgrade, trace_words(alloc))?;
     Ok(all)
 }

@@ -7,5 +7,5 @@ mod laws;
 mod reading;
 
 pub use command::{Command, NoCommand};
-pub use laws::command_where_taken;
+pub use laws::{command_where_taken, registers_are_enough};
 pub use reading::read;

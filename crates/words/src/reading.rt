@@ -1,9 +1,9 @@
 // From the words of a command line to the command.
-ghost use Rattle.std.specs.Prelude.{◌≡◌, map, string_bytes};
+ghost use Rattle.std.specs.Prelude.{◌≡◌, Some, codes, is_some, map, string_bytes};
 ghost use Rattle.std.specs.Option.{option_map};
-ghost use Rattle.clap.specs.Words.{first_of, found_of, kind_of, rows_of, subcommand_rows_of};
+ghost use Rattle.clap.specs.Words.{first_of, found_of, kind_of, one_of, rows_of, subcommand_rows_of};
 ghost use Rattle.clap.specs.declared.error.kind.ErrorKind.TheVariants.{OutOfMemory};
-ghost use Rattle.words.specs.Command.{asked_in, asked_of, number_in};
+ghost use Rattle.words.specs.Command.{asked_in, asked_of, asked_within, number_in};
 ghost use Rattle.words.specs.Reads.{asked_by, Reads};
 
 use crate::command::{Command, NoCommand};
@@ -26,13 +26,37 @@ fn number(matches: &ArgMatches, name: &str) -> Option<u64>
     matches.get_one::<u64>(name)
 }
 
+// Whether an argument has a value.
+fn is_there(matches: &ArgMatches, name: &str) -> bool
+    ensures { result ≡ is_some (one_of name.now (rows_of (found_of matches.now))) }
+{
+    value(matches, name).is_some()
+}
+
+// What `compile` asks for, with its option or without.
+fn compiling<'a>(matches: &ArgMatches<'a>) -> Option<Command<'a>>
+    ensures { option_map asked_by result ≡ asked_within (first_of (codes "IN") (rows_of (found_of matches.now)))
+        (first_of (codes "OUT") (rows_of (found_of matches.now)))
+        (one_of (codes "registers") (rows_of (found_of matches.now))) }
+{
+    let (input, output) = (value(matches, "IN")?, value(matches, "OUT")?);
+    if !is_there(matches, "registers") {
+        return Some(Command::Compile { input, output });
+    }
+    let registers = number(matches, "registers")?;
+    Some(Command::CompileWithin {
+        input,
+        output,
+        registers,
+    })
+}
+
 // What the subcommand that was entered asks for.
 fn entered<'a>(name: &str, matches: &ArgMatches<'a>) -> Option<Command<'a>>
     ensures { option_map asked_by result ≡ asked_in name.now (rows_of (found_of matches.now)) }
 {
     if name == "compile" {
-        let (input, output) = (value(matches, "IN")?, value(matches, "OUT")?);
-        return Some(Command::Compile { input, output });
+        return compiling(matches);
     }
     if name == "check" {
         let input = value(matches, "IN")?;
@@ -58,6 +82,11 @@ fn entered<'a>(name: &str, matches: &ArgMatches<'a>) -> Option<Command<'a>>
         let input = value(matches, "IN")?;
         let output = value(matches, "OUT")?;
         return Some(Command::Upgrade { input, output });
+    }
+    if name == "trace" {
+        let (input, from) = (value(matches, "IN")?, number(matches, "from")?);
+        let to = number(matches, "to")?;
+        return Some(Command::Trace { input, from, to });
     }
     None
 }

@@ -25,6 +25,13 @@ fn compile_and_typeof_have_their_values(rt: HostRuntime) -> Result<(), Fail> {
     let (input, output) = ("x.f", "x.tal");
     let line = "talc compile x.f x.tal";
     asks(&rt, alloc, line, Command::Compile { input, output })?;
+    let line = "talc compile --registers 8 x.f x.tal";
+    let within = Command::CompileWithin {
+        input,
+        output,
+        registers: 8,
+    };
+    asks(&rt, alloc, line, within)?;
     let input = "-x.f";
     asks(&rt, alloc, "talc typeof -- -x.f", Command::Typeof { input })
 }
@@ -76,6 +83,13 @@ fn upgrade_has_its_values(rt: HostRuntime) -> Result<(), Fail> {
     asks(&rt, rt.alloc(), line, Command::Upgrade { input, output })
 }
 
+#[test]
+fn trace_has_its_values(rt: HostRuntime) -> Result<(), Fail> {
+    let (input, from, to) = ("x.tal", 3, 4);
+    let line = "talc trace x.tal --from 3 --to 4";
+    asks(&rt, rt.alloc(), line, Command::Trace { input, from, to })
+}
+
 fn is_text(read: Result<Command, NoCommand>, wanted: &str) -> bool {
     match read {
         Err(NoCommand::Usage(text)) => text.as_str() == wanted,
@@ -101,7 +115,7 @@ fn other_words_get_a_text(rt: HostRuntime) -> Result<(), Fail> {
             (
                 "talc",
                 "error: 'talc' requires a subcommand but one was not provided
-  [subcommands: compile, check, run, typeof, eval, gen, upgrade]
+  [subcommands: compile, check, run, typeof, eval, gen, upgrade, trace]
 
 Usage: talc <COMMAND>
 
@@ -123,6 +137,13 @@ For more information, try '--help'.
   <OUT>
 
 Usage: talc compile <IN> <OUT>
+
+For more information, try '--help'.
+",
+            ),
+            (
+                "talc compile --registers 7 x.f x.tal",
+                "error: invalid value '7' for '--registers <K>': 7 is not in 8..18446744073709551615
 
 For more information, try '--help'.
 ",
@@ -199,6 +220,7 @@ Commands:
   eval     Evaluates the source text IN within N turns
   gen      Writes the source of the seed N to OUT, compiled, evaluated, checked and run
   upgrade  Writes the program of the TAL text IN to OUT in the newest version of the language
+  trace    Runs the TAL text IN for at most --to instructions, and shows each state from --from on
 
 Options:
   -h, --help  Print help
@@ -208,14 +230,15 @@ Options:
                 "talc compile --help",
                 "Compiles the source text IN into the TAL text OUT
 
-Usage: talc compile <IN> <OUT>
+Usage: talc compile [OPTIONS] <IN> <OUT>
 
 Arguments:
   <IN>   The file to read
   <OUT>  The file to write over
 
 Options:
-  -h, --help  Print help
+      --registers <K>  The greatest register that OUT may use, 8 at least
+  -h, --help           Print help
 ",
             ),
             (
@@ -230,6 +253,21 @@ Arguments:
 
 Options:
   -h, --help  Print help
+",
+            ),
+            (
+                "talc trace --help",
+                "Runs the TAL text IN for at most --to instructions, and shows each state from --from on
+
+Usage: talc trace --from <N> --to <N> <IN>
+
+Arguments:
+  <IN>  The file to read
+
+Options:
+      --from <N>  The number of instructions before the first state that is shown
+      --to <N>    The most instructions to make
+  -h, --help      Print help
 ",
             ),
             (

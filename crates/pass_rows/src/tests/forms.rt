@@ -164,119 +164,69 @@ D0: data <>
 D1: data <>
 D2: data <L5 : all[]{r1:<>, r2:int}, D1 : <>>
 D3: data <>
-D4: data <L1 : all[T0]{r1:<>, r2:some T1. <all[]{r1:T1, r2:some T2. <all[]{r1:T2, r2:T0, r3:some T3. \
-    <all[]{r1:T3, r2:T0}^1, T3^1>}^1, T2^1>}^1, T1^1>}, D3 : <>>
+D4: data <L1 : all[T0]{r1:<>, r2:some T1. <all[]{r1:T1, r2:some T2. <all[]{r1:T2, r2:T0, r3:some T3. <all[]{r1:T3, \
+    r2:T0}^1, T3^1>}^1, T2^1>}^1, T1^1>}, D3 : <>>
 D5: data <>
-D6: data <L4 : all[]{r1:<>, r2:some T0. <all[]{r1:T0, r2:int, r3:some T1. <all[]{r1:T1, r2:int}^1, T1^1>}^1, \
-    T0^1>}, D5 : <>>
+D6: data <L4 : all[]{r1:<>, r2:some T0. <all[]{r1:T0, r2:int, r3:some T1. <all[]{r1:T1, r2:int}^1, T1^1>}^1, T0^1>}, \
+    D5 : <>>
 L0: code[]{}.
-mov r1, D4
-mov r1, pack[<>, r1] as some T0. <all[T1]{r1:T0, r2:some T2. <all[]{r1:T2, r2:some T3. <all[]{r1:T3, r2:T1, \
-    r3:some T4. <all[]{r1:T4, r2:T1}^1, T4^1>}^1, T3^1>}^1, T2^1>}^1, T0^1>
-mov r2, r1
-unpack[T0, r2], r2
+mov r1, pack[<>, D4] as some T0. <all[T1]{r1:T0, r2:some T2. <all[]{r1:T2, r2:some T3. <all[]{r1:T3, r2:T1, r3:some \
+    T4. <all[]{r1:T4, r2:T1}^1, T4^1>}^1, T3^1>}^1, T2^1>}^1, T0^1>
+unpack[T0, r1], r1
+ld r2, r1[0]
+ld r1, r1[1]
 mov r3, r2
-ld r3, r3[0]
-mov r4, r2
-ld r4, r4[1]
-mov r7, r3
-mov r8, r4
-mov r9, D6
-mov r9, pack[<>, r9] as some T1. <all[]{r1:T1, r2:some T2. <all[]{r1:T2, r2:int, r3:some T3. \
-    <all[]{r1:T3, r2:int}^1, T3^1>}^1, T2^1>}^1, T1^1>
-mov r1, r8
-mov r2, r9
-jmp r7[int]
-L1: code[T0]{r1:<>, r2:some T1. <all[]{r1:T1, r2:some T2. <all[]{r1:T2, r2:T0, r3:some T3. <all[]{r1:T3, \
-    r2:T0}^1, T3^1>}^1, T2^1>}^1, T1^1>}.
-malloc r3[all[]{r1:<>, r2:T0, r3:some T1. <all[]{r1:T1, r2:T0}^1, T1^1>}, <>]
-mov r4, r3
-mov r5, L2
-mov r5, r5[T0]
-st r4[0], r5
-mov r5, r4
-mov r6, D0
-st r5[1], r6
-mov r6, r5
-mov r6, pack[<>, r6] as some T1. <all[]{r1:T1, r2:T0, r3:some T2. <all[]{r1:T2, r2:T0}^1, T2^1>}^1, T1^1>
-mov r7, r2
-unpack[T1, r7], r7
-mov r8, r7
-ld r8, r8[0]
-mov r9, r7
-ld r9, r9[1]
-mov r12, r8
-mov r13, r9
-mov r14, r6
-mov r1, r13
-mov r2, r14
-jmp r12
-L2: code[T0]{r1:<>, r2:T0, r3:some T1. <all[]{r1:T1, r2:T0}^1, T1^1>}.
-malloc r4[T0]
-mov r5, r4
-mov r6, r2
-st r5[0], r6
-malloc r6[all[]{r1:<T0^1>, r2:int, r3:some T1. <all[]{r1:T1, r2:T0}^1, T1^1>}, <T0^1>]
-mov r7, r6
-mov r8, L3
-mov r8, r8[T0]
-st r7[0], r8
-mov r8, r7
-mov r9, r5
-st r8[1], r9
-mov r9, r8
-mov r9, pack[<T0^1>, r9] as some T1. <all[]{r1:T1, r2:int, r3:some T2. <all[]{r1:T2, r2:T0}^1, T2^1>}^1, \
-    T1^1>
-mov r10, r9
-unpack[T1, r10], r10
-mov r11, r10
-ld r11, r11[0]
-mov r12, r10
-ld r12, r12[1]
-mov r16, r11
-mov r17, r12
-mov r18, 0
-mov r19, r3
-mov r1, r17
-mov r2, r18
-mov r3, r19
-jmp r16
-L3: code[T0]{r1:<T0^1>, r2:int, r3:some T1. <all[]{r1:T1, r2:T0}^1, T1^1>}.
+mov r2, pack[<>, D6] as some T1. <all[]{r1:T1, r2:some T2. <all[]{r1:T2, r2:int, r3:some T3. <all[]{r1:T3, r2:int}^1, \
+    T3^1>}^1, T2^1>}^1, T1^1>
+jmp r3[int]
+L1: code[T0]{r1:<>, r2:some T1. <all[]{r1:T1, r2:some T2. <all[]{r1:T2, r2:T0, r3:some T3. <all[]{r1:T3, r2:T0}^1, \
+    T3^1>}^1, T2^1>}^1, T1^1>}.
+malloc r1[all[]{r1:<>, r2:T0, r3:some T1. <all[]{r1:T1, r2:T0}^1, T1^1>}, <>]
+mov r4, L2[T0]
+st r1[0], r4
+mov r4, D0
+st r1[1], r4
+mov r1, pack[<>, r1] as some T1. <all[]{r1:T1, r2:T0, r3:some T2. <all[]{r1:T2, r2:T0}^1, T2^1>}^1, T1^1>
+unpack[T1, r2], r2
+ld r3, r2[0]
+ld r2, r2[1]
 mov r4, r1
-ld r4, r4[0]
-mov r5, r3
-unpack[T1, r5], r5
-mov r6, r5
-ld r6, r6[0]
-mov r7, r5
-ld r7, r7[1]
-mov r10, r6
-mov r11, r7
-mov r12, r4
-mov r1, r11
-mov r2, r12
-jmp r10
+mov r1, r2
+mov r2, r4
+jmp r3
+L2: code[T0]{r1:<>, r2:T0, r3:some T1. <all[]{r1:T1, r2:T0}^1, T1^1>}.
+malloc r1[T0]
+st r1[0], r2
+malloc r2[all[]{r1:<T0^1>, r2:int, r3:some T1. <all[]{r1:T1, r2:T0}^1, T1^1>}, <T0^1>]
+mov r5, L3[T0]
+st r2[0], r5
+st r2[1], r1
+mov r1, pack[<T0^1>, r2] as some T1. <all[]{r1:T1, r2:int, r3:some T2. <all[]{r1:T2, r2:T0}^1, T2^1>}^1, T1^1>
+unpack[T1, r1], r1
+ld r2, r1[0]
+ld r1, r1[1]
+mov r4, r2
+mov r2, 0
+jmp r4
+L3: code[T0]{r1:<T0^1>, r2:int, r3:some T1. <all[]{r1:T1, r2:T0}^1, T1^1>}.
+ld r1, r1[0]
+unpack[T1, r2], r3
+ld r3, r2[0]
+ld r2, r2[1]
+mov r4, r1
+mov r1, r2
+mov r2, r4
+jmp r3
 L4: code[]{r1:<>, r2:some T0. <all[]{r1:T0, r2:int, r3:some T1. <all[]{r1:T1, r2:int}^1, T1^1>}^1, T0^1>}.
-mov r3, r2
-unpack[T0, r3], r3
-mov r4, r3
-ld r4, r4[0]
-mov r5, r3
-ld r5, r5[1]
-mov r9, r4
-mov r10, r5
-mov r11, 8
-mov r12, D2
-mov r12, pack[<>, r12] as some T1. <all[]{r1:T1, r2:int}^1, T1^1>
-mov r1, r10
-mov r2, r11
-mov r3, r12
-jmp r9
+unpack[T0, r1], r2
+ld r2, r1[0]
+ld r1, r1[1]
+mov r4, r2
+mov r2, 8
+mov r3, pack[<>, D2] as some T1. <all[]{r1:T1, r2:int}^1, T1^1>
+jmp r4
 L5: code[]{r1:<>, r2:int}.
-mov r3, r2
-mov r4, 1
-add r3, r3, r4
-mov r1, r3
+add r1, r2, 1
 halt[int]
 ";
 

@@ -4,8 +4,9 @@ use a_terms::AProgram;
 use c_pass::close;
 use c_terms::CProgram;
 use f_check::{Program, Typed, check};
+use f_eval::{Ended, eval};
 use f_parser::parse;
-use f_terms::{Code, FFault, FTerm, admit};
+use f_terms::{Code, FFault, FTerm, admit, has_cells};
 use h_pass::hoist;
 use h_terms::HProgram;
 use idx_core::{OutOfMemory, Span};
@@ -40,6 +41,14 @@ pub fn program_of(alloc: Global, term: FTerm) -> Result<Program, Fail> {
 /// The program that a source text is.
 pub fn program(alloc: Global, source: &str) -> Result<Program, Fail> {
     program_of(alloc, parse(alloc, source.as_bytes())?)
+}
+
+/// How its evaluation within so many turns ends, where it makes no cells.
+pub fn evaluated(alloc: Global, program: &Program, turns: u64) -> Result<Ended, Fail> {
+    if has_cells(program.term()) {
+        return Err(Fail::new("the term has cells"));
+    }
+    Ok(eval(alloc, program, turns)?)
 }
 
 pub fn closed(alloc: Global, program: &Program) -> Result<CProgram, OutOfMemory> {

@@ -1,8 +1,8 @@
 // Small source texts through all passes: how many codes conversion makes, and that what is made is accepted and runs to
 // the value of the source.
-use super::passes::{accepted, first_run, program, value_of};
+use super::passes::{accepted, evaluated, first_run, program, value_of};
 use f_check::Program;
-use f_eval::{Ended, eval};
+use f_eval::Ended;
 use f_parser::parse;
 use k_pass::cps;
 use k_terms::codes;
@@ -40,7 +40,7 @@ fn evaluates(
     turns: u64,
     ended: Ended,
 ) -> Result<(), Fail> {
-    assert_eq!(rt; eval(alloc, program, turns)?, ended, "{source}");
+    assert_eq!(rt; evaluated(alloc, program, turns)?, ended, "{source}");
     Ok(())
 }
 

@@ -1,6 +1,7 @@
 // The command `compile`.
+ghost use Rattle.std.specs.Prelude.{◌≤◌};
 ghost use Rattle.talc_core.specs.FirstFault.{AProgram};
-ghost use Rattle.talc_core.specs.Compiled.{IsCompiled};
+ghost use Rattle.talc_core.specs.Compiled.{IsCompiled, IsCompiledWithin};
 ghost use Rattle.talc_core.specs.Steps.{MakesText, MakesFile};
 
 use crate::commands::Ending;
@@ -8,7 +9,7 @@ use crate::outside::{read_input, write_output};
 use crate::report::Failure;
 use crate::source::read_program;
 use io_core::Files;
-use pipeline::compile;
+use pipeline::{compile, compile_within};
 use std::alloc::Global;
 use t_writer::write2;
 
@@ -34,6 +35,35 @@ pub(crate) fn compile_file<F: Files>(
 {
     let source = read_input(alloc, files, input)?;
     let target = compile_text(alloc, &source)?;
+    write_output(alloc, files, output, &target)?;
+    Ok(Ending::Ends)
+}
+
+// The assembly text within registers 1 to `registers` that a source text is compiled to, or why there is none.
+fn bounded_text(alloc: Global, source: &[u8], registers: u64) -> Result<Vec<u8>, Failure>
+    requires { 8 ≤ registers }
+    ensures { MakesText (IsCompiledWithin registers) AProgram source.now result }
+{
+    let program = read_program(alloc, source)?;
+    let bounded = compile_within(alloc, &program, registers)?;
+    let target = write2(alloc, bounded.program())?;
+    Ok(target)
+}
+
+// Compiles the source text of one file into the assembly text of another, within registers 1 to `registers`.
+pub(crate) fn compile_file_within<F: Files>(
+    alloc: Global,
+    files: &mut F,
+    input: &str,
+    output: &str,
+    registers: u64,
+) -> Result<Ending, Failure>
+    requires { 8 ≤ registers }
+    ensures { MakesFile (IsCompiledWithin registers) AProgram input.now output.now
+        (F.state files.old) (F.state files.new) result }
+{
+    let source = read_input(alloc, files, input)?;
+    let target = bounded_text(alloc, &source, registers)?;
     write_output(alloc, files, output, &target)?;
     Ok(Ending::Ends)
 }

@@ -1,6 +1,6 @@
 // The command `eval`.
 ghost use Rattle.std.specs.Prelude.{◌≡◌, IfOk};
-ghost use Rattle.talc_core.specs.FirstFault.{AProgram};
+ghost use Rattle.talc_core.specs.FirstFault.{CellFree};
 ghost use Rattle.talc_core.specs.Lines.{value_line, more_turns_line};
 ghost use Rattle.talc_core.specs.Shown.{ShowsValue};
 ghost use Rattle.talc_core.specs.Steps.{ShowsText, ShowsFile};
@@ -9,7 +9,7 @@ use crate::commands::{Ending, Reply, put_reply};
 use crate::lines::more_line;
 use crate::outside::read_input;
 use crate::report::Failure;
-use crate::source::read_program;
+use crate::source::read_cell_free;
 use f_eval::{Ended, eval};
 use idx_core::OutOfMemory;
 use io_core::{Files, Sink};
@@ -35,11 +35,11 @@ fn more_turns_line(alloc: Global, turns: u64) -> Result<Vec<u8>, OutOfMemory>
     more_line(alloc, turns, b" turns\n")
 }
 
-// Says what a source text evaluates to within so many turns.
+// Says what a source text without cells evaluates to within so many turns.
 fn value_reply(alloc: Global, source: &[u8], turns: u64) -> Result<Reply, Failure>
-    ensures { ShowsText (ShowsValue turns) AProgram source.now result }
+    ensures { ShowsText (ShowsValue turns) CellFree source.now result }
 {
-    let program = read_program(alloc, source)?;
+    let program = read_cell_free(alloc, source)?;
     match eval(alloc, &program, turns)? {
         Ended::Value { value, used } => Ok(Reply {
             ending: Ending::Ends,
@@ -60,7 +60,7 @@ pub(crate) fn show_value<F: Files, O: Sink>(
     input: &str,
     turns: u64,
 ) -> Result<Ending, Failure>
-    ensures { ShowsFile (ShowsValue turns) AProgram input.now (F.state files.old) (F.state files.new)
+    ensures { ShowsFile (ShowsValue turns) CellFree input.now (F.state files.old) (F.state files.new)
         (O.state out.old) (O.state out.new) result }
 {
     let source = read_input(alloc, files, input)?;

@@ -32,7 +32,7 @@ pub(crate) fn integer_line(alloc: Global, value: i64) -> Result<Vec<u8>, OutOfMe
 }
 
 // The line of a program that goes on after so many instructions.
-fn more_instructions_line(alloc: Global, count: u64) -> Result<Vec<u8>, OutOfMemory>
+pub(crate) fn more_instructions_line(alloc: Global, count: u64) -> Result<Vec<u8>, OutOfMemory>
     ensures { IfOk result (λ line. line.items ≡ more_instructions_line count) }
 {
     more_line(alloc, count, b" instructions\n")

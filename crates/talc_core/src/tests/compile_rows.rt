@@ -1,11 +1,14 @@
 // Compiled programs: what they run to, and which texts are not compiled.
 use super::memory::{
-    Pieces, built, each_refused, has_taken, is_status, outside_of, run, shows_of, with_file,
+    Outside, Pieces, built, each_refused, has_taken, is_status, outside_of, run, shows_of,
+    with_file,
 };
 use crate::Status;
-use std::alloc::Global;
+use std::alloc::{AllocError, Global};
 use std::process::Abort;
 use std::test::Fail;
+use t_lexer::tokens;
+use t_terms::Kind;
 
 const COMPILE: &str = "talc compile x y";
 
@@ -13,7 +16,30 @@ const CHECK: &str = "talc check y";
 
 const FACTORIAL: &str = "(fix f(n:int):int. if0(n, 1, n * f(n - 1))) ";
 
+/// How a source text is compiled and run, and what the run shows.
+#[derive(Clone, Copy)]
+struct Wanted<'a> {
+    compile: &'a str,
+    run: &'a str,
+    status: Status,
+    out: &'a str,
+}
+
 /// Compiles the source text, checks what it is compiled to, runs it, and asserts the status and the line of the run.
+fn leaves(rt: &impl Abort, alloc: Global, source: Pieces, wanted: Wanted) -> Result<Outside, Fail> {
+    let source = built(alloc, source)?;
+    let mut outside = outside_of(alloc, with_file("x", &source))?;
+    let compiled = run(alloc, wanted.compile, &mut outside)?;
+    is_status(rt, wanted.compile, compiled, Status::Done);
+    let checked = run(alloc, CHECK, &mut outside)?;
+    is_status(rt, CHECK, checked, Status::Done);
+    let ran = run(alloc, wanted.run, &mut outside)?;
+    is_status(rt, wanted.run, ran, wanted.status);
+    let out = format!(in alloc; "accepted\n{}", wanted.out)?;
+    has_taken(rt, wanted.run, &outside.out, out.as_bytes());
+    Ok(outside)
+}
+
 fn runs_of(
     rt: &impl Abort,
     alloc: Global,
@@ -22,16 +48,13 @@ fn runs_of(
     status: Status,
     out: &str,
 ) -> Result<(), Fail> {
-    let source = built(alloc, source)?;
-    let mut outside = outside_of(alloc, with_file("x", &source))?;
-    let compiled = run(alloc, COMPILE, &mut outside)?;
-    is_status(rt, COMPILE, compiled, Status::Done);
-    let checked = run(alloc, CHECK, &mut outside)?;
-    is_status(rt, CHECK, checked, Status::Done);
-    let ran = run(alloc, line, &mut outside)?;
-    is_status(rt, line, ran, status);
-    let out = format!(in alloc; "accepted\n{out}")?;
-    has_taken(rt, line, &outside.out, out.as_bytes());
+    let wanted = Wanted {
+        compile: COMPILE,
+        run: line,
+        status,
+        out,
+    };
+    leaves(rt, alloc, source, wanted)?;
     Ok(())
 }
 
@@ -67,6 +90,122 @@ fn compiled_programs_halt_with_their_value(rt: HostRuntime) -> Result<(), Fail> 
             ),
         ],
     )
+}
+
+#[test]
+fn compiled_names_packages_and_cells(rt: HostRuntime) -> Result<(), Fail> {
+    each_halts(
+        &rt,
+        rt.alloc(),
+        &[
+            ("let x = 2 in let x = x + 1 in x * x", "int 9\n"),
+            (
+                "open [a, x] = pack[int, <3, fix f(y:int):int. y + 1>] \
+                as some a. <a, a -> int> in (#2 x) (#1 x)",
+                "int 4\n",
+            ),
+            ("let c = ref 5 in let u = c := !c + 2 in !c", "int 7\n"),
+            (
+                "let c = ref 1 in let d = c in let u = d := 9 in !c",
+                "int 9\n",
+            ),
+            ("let c = ref 1 in (let u = c := 2 in 10) + !c", "int 12\n"),
+            (
+                "let r = ref (fix f(n:int):int. n) in \
+                let u = r := (fix g(n:int):int. if0(n, 0, 1 + (!r) (n - 1))) in (!r) 4",
+                "int 4\n",
+            ),
+        ],
+    )
+}
+
+// 99,999 forms.
+#[test]
+fn compiled_names_as_many_as_a_text_may_bind(rt: HostRuntime) -> Result<(), Fail> {
+    let names = &[
+        ("let x = 0 in ", 1),
+        ("let x = x + 1 in ", 24_999),
+        ("x", 1),
+    ];
+    let line = "talc run y --fuel 10000000";
+    runs_of(&rt, rt.alloc(), names, line, Status::Done, "int 24999\n")
+}
+
+#[test]
+fn compiled_packages_in_packages(rt: HostRuntime) -> Result<(), Fail> {
+    let packages = &[
+        ("let x = pack[int, 1] as some a. a in ", 1),
+        ("let x = pack[some a. a, x] as some a. a in ", 2_500),
+        ("#1 <2, x>", 1),
+    ];
+    let line = "talc run y --fuel 1000000";
+    runs_of(&rt, rt.alloc(), packages, line, Status::Done, "int 2\n")
+}
+
+// The greatest register that an assembly text names.
+fn top_register(alloc: Global, text: &[u8]) -> Result<u64, Fail> {
+    let mut top: u64 = 0;
+    let tokens = tokens(alloc, text)?;
+    for stored in &tokens {
+        if let Kind::Register(r) = stored.token().kind {
+            if r > top {
+                top = r;
+            }
+        }
+    }
+    Ok(top)
+}
+
+// What a source text is compiled to within eight registers names no other, and halts with the line.
+fn stays_bounded(rt: &impl Abort, alloc: Global, source: &str, out: &str) -> Result<(), Fail> {
+    let wanted = Wanted {
+        compile: "talc compile --registers 8 x y",
+        run: "talc run y --fuel 1000000",
+        status: Status::Done,
+        out,
+    };
+    let outside = leaves(rt, alloc, &[(source, 1)], wanted)?;
+    let top = match outside.files.files().get("y") {
+        Some(text) => top_register(alloc, text)?,
+        None => u64::MAX,
+    };
+    assert!(rt; top <= 8, "{source}");
+    Ok(())
+}
+
+// Thirty names for these parts and their numbers, and the sum of all of them and of one more.
+fn thirty_names(alloc: Global, part: &str) -> Result<String, AllocError> {
+    let mut text = String::new(alloc);
+    for i in 1..31 {
+        let name = format!(in alloc; "let x{i} = {part}{i} in ")?;
+        text.push_str(&name)?;
+    }
+    text.push_str("(fix f(y:int):int. ")?;
+    for i in 1..31 {
+        let name = format!(in alloc; "x{i} + ")?;
+        text.push_str(&name)?;
+    }
+    text.push_str("y) 0")?;
+    Ok(text)
+}
+
+#[test]
+fn the_factorial_stays_within_eight_registers(rt: HostRuntime) -> Result<(), Fail> {
+    let source = format!(in rt.alloc(); "{FACTORIAL}5")?;
+    stays_bounded(&rt, rt.alloc(), &source, "int 120\n")
+}
+
+#[test]
+fn thirty_names_stay_within_eight_registers(rt: HostRuntime) -> Result<(), Fail> {
+    let source = thirty_names(rt.alloc(), "")?;
+    stays_bounded(&rt, rt.alloc(), &source, "int 465\n")
+}
+
+// Names of values that are computed, so that each takes a register.
+#[test]
+fn thirty_sums_stay_within_eight_registers(rt: HostRuntime) -> Result<(), Fail> {
+    let source = thirty_names(rt.alloc(), "0 + ")?;
+    stays_bounded(&rt, rt.alloc(), &source, "int 465\n")
 }
 
 #[test]
@@ -136,19 +275,19 @@ fn texts_that_are_not_compiled(rt: HostRuntime) -> Result<(), Fail> {
 #[test]
 fn spaces_are_not_compiled(rt: HostRuntime) -> Result<(), Fail> {
     let alloc = rt.alloc();
-    let most = &[(" ", 1_048_576)];
-    let err = "E04 1048576..1048576 unexpected end of text\n";
+    let most = &[(" ", 16_777_216)];
+    let err = "E04 16777216..16777216 unexpected end of text\n";
     shows_of(&rt, alloc, COMPILE, most, Status::Refused, "", err)?;
-    let more = &[(" ", 1_048_577)];
-    let err = "L1 0..1048577 more than 1048576 bytes\n";
+    let more = &[(" ", 16_777_217)];
+    let err = "L1 0..16777217 more than 16777216 bytes\n";
     shows_of(&rt, alloc, COMPILE, more, Status::Limit, "", err)
 }
 
 #[test]
 fn texts_past_a_limit_are_not_compiled(rt: HostRuntime) -> Result<(), Fail> {
     let alloc = rt.alloc();
-    let large = &[("1", 1), (" + 1", 500)];
-    let err = "L3 0..2001 more than 1000 nodes\n";
+    let large = &[("1", 1), (" + 1", 50_000)];
+    let err = "L3 0..200001 more than 100000 nodes\n";
     shows_of(&rt, alloc, COMPILE, large, Status::Limit, "", err)?;
     let deep = &[("(", 201), ("1", 1), (")", 201)];
     let err = "L2 200..201 more than 200 open constructs\n";

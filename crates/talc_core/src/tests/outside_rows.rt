@@ -67,6 +67,18 @@ fn failing_files(rt: HostRuntime) -> Result<(), Fail> {
                 tells(Status::ReadFault, b"read fault\n", (1, 0)),
             ),
             (COMPILE, &[(1, 4)], &[], cut),
+            (
+                "talc trace no.tal --from 0 --to 9",
+                &[],
+                &[],
+                tells(Status::ReadFault, b"read fault\n", (0, 0)),
+            ),
+            (
+                "talc trace x.f --from 0 --to 9",
+                &[(0, 0)],
+                &[],
+                tells(Status::ReadFault, b"read fault\n", (1, 0)),
+            ),
             // a failing put changes nothing of the status
             (
                 "talc compile no.f x",
@@ -130,6 +142,11 @@ fn one_file_is_read(rt: HostRuntime) -> Result<(), Fail> {
             ("talc eval x --turns 0", b"7", b"int 7 after 0 turns\n"),
             ("talc check x", SEVEN, b"accepted\n"),
             ("talc run x --fuel 2", SEVEN, b"int 7\n"),
+            (
+                "talc trace x --from 0 --to 2",
+                SEVEN,
+                b"0 b0.0 {}\n1 b0.1 {r1=7:int}\nint 7\n",
+            ),
         ],
     )
 }
@@ -166,6 +183,7 @@ fn failing_outputs(rt: HostRuntime) -> Result<(), Fail> {
             ("talc eval x --turns 0", b"7", 5, b"int 7"),
             ("talc check x", forever, 3, b"acc"),
             ("talc run x --fuel 0", forever, 0, b""),
+            ("talc trace x --from 0 --to 0", forever, 0, b""),
         ],
     )
 }
@@ -313,6 +331,7 @@ fn files_without_memory(rt: HostRuntime) -> Result<(), Fail> {
     files_want_memory(&rt, alloc, "talc compile x y")?;
     files_want_memory(&rt, alloc, "talc check x")?;
     files_want_memory(&rt, alloc, "talc upgrade x y")?;
+    files_want_memory(&rt, alloc, "talc trace x --from 0 --to 1")?;
     files_and_line_want_memory(&rt, alloc, "talc check x")
 }
 

@@ -27,6 +27,8 @@ fn types_of_texts(rt: HostRuntime) -> Result<(), Fail> {
                 "<(int -> int) -> <>, int>\n",
             ),
             ("fix f(f:int):int. f", "int -> int\n"),
+            ("pack[int, 3] as some a. a", "some t0. t0\n"),
+            ("ref (fix f(x:int):int. x)", "ref (int -> int)\n"),
         ],
     )
 }
@@ -63,6 +65,29 @@ fn first_faults_of_texts(rt: HostRuntime) -> Result<(), Fail> {
             ("x )", "E03 2..3 unexpected token\n"),
             ("fix f(x:b):int. y", "E06 8..9 unbound type name\n"),
             ("<1> + y", "E05 6..7 unbound name\n"),
+            ("1 = 2", "E03 2..3 unexpected token\n"),
+            ("let x = x in 1", "E05 8..9 unbound name\n"),
+            ("let x = 1", "E04 9..9 unexpected end of text\n"),
+            (
+                "open [a,x] = pack[int,3] as some a. a in x",
+                "E18 41..42 hidden type escapes\n",
+            ),
+            (
+                "open [a,x] = pack[int,3] as some a. a in x + 1",
+                "E12 41..42 operand is not int\n",
+            ),
+            (
+                "pack[int, <>] as some a. a",
+                "E17 10..12 pack does not fit\n",
+            ),
+            ("pack[int, 1] as int", "E16 0..19 not an existential\n"),
+            ("open [a,x] = 1 in 2", "E16 13..14 not an existential\n"),
+            ("!1", "E21 1..2 not a reference\n"),
+            ("1 := 2", "E21 0..1 not a reference\n"),
+            (
+                "(ref 1) := <>",
+                "E22 11..13 assigned value of another type\n",
+            ),
         ],
     )
 }
@@ -84,22 +109,22 @@ fn limit_is(
 #[test]
 fn bytes_are_limited(rt: HostRuntime) -> Result<(), Fail> {
     let alloc = rt.alloc();
-    let err = "E04 1048576..1048576 unexpected end of text\n";
+    let err = "E04 16777216..16777216 unexpected end of text\n";
     shows_of(
         &rt,
         alloc,
         TYPEOF,
-        &[(" ", 1_048_576)],
+        &[(" ", 16_777_216)],
         Status::Refused,
         "",
         err,
     )?;
-    let err = "L1 0..1048577 more than 1048576 bytes\n";
+    let err = "L1 0..16777217 more than 16777216 bytes\n";
     shows_of(
         &rt,
         alloc,
         TYPEOF,
-        &[(" ", 1_048_577)],
+        &[(" ", 16_777_217)],
         Status::Limit,
         "",
         err,
@@ -118,15 +143,51 @@ fn open_constructs_are_limited(rt: HostRuntime) -> Result<(), Fail> {
     )
 }
 
+// Each text opens its 201st construct at the place of the fault.
+fn each_is_too_deep(rt: &impl Abort, alloc: Global, rows: &[(Pieces, &str)]) -> Result<(), Fail> {
+    for (text, place) in rows {
+        let err = format!(in alloc; "L2 {place} more than 200 open constructs\n")?;
+        shows_of(rt, alloc, TYPEOF, *text, Status::Limit, "", &err)?;
+    }
+    Ok(())
+}
+
+#[test]
+fn each_form_opens_constructs(rt: HostRuntime) -> Result<(), Fail> {
+    each_is_too_deep(
+        &rt,
+        rt.alloc(),
+        &[
+            (&[("let x = ", 201)], "1600..1603"),
+            (&[("open [a,x] = ", 200)], "2592..2593"),
+            (&[("pack[int, ", 201)], "2004..2005"),
+            (&[("ref ", 201)], "800..803"),
+            (&[("!", 201)], "200..201"),
+            (&[("fix f(x:", 1), ("some a. ", 199)], "1592..1596"),
+            (&[("fix f(x:", 1), ("ref ", 199)], "800..803"),
+        ],
+    )
+}
+
+// A row of names is not deep: a `let` and an `open` are open up to their `in`.
+#[test]
+fn names_in_a_row_are_not_deep(rt: HostRuntime) -> Result<(), Fail> {
+    let alloc = rt.alloc();
+    let lets = &[("let x = 1 in ", 300), ("x", 1)];
+    shows_of(&rt, alloc, TYPEOF, lets, Status::Done, "int\n", "")?;
+    let opens = &[("open [a,x] = pack[int,1] as some a. a in ", 300), ("1", 1)];
+    shows_of(&rt, alloc, TYPEOF, opens, Status::Done, "int\n", "")
+}
+
 #[test]
 fn nodes_are_limited(rt: HostRuntime) -> Result<(), Fail> {
     limit_is(
         &rt,
         rt.alloc(),
-        &[("1", 1), (" + 1", 499)],
+        &[("1", 1), (" + 1", 49_999)],
         &[("int\n", 1)],
-        &[("1", 1), (" + 1", 500)],
-        "L3 0..2001 more than 1000 nodes\n",
+        &[("1", 1), (" + 1", 50_000)],
+        "L3 0..200001 more than 100000 nodes\n",
     )
 }
 

@@ -120,8 +120,10 @@ fn calls_are_as_deep_as_memory_allows(rt: HostRuntime) -> Result<(), Fail> {
 #[test]
 fn long_sums_and_deep_parentheses(rt: HostRuntime) -> Result<(), Fail> {
     let alloc = rt.alloc();
-    let sum = &[("1", 1), (" + 1", 499)];
-    evaluates(&rt, alloc, sum, "0", "int 500 after 0 turns\n")?;
+    let sum = &[("1", 1), (" + 1", 500)];
+    evaluates(&rt, alloc, sum, "0", "int 501 after 0 turns\n")?;
+    let longest = &[("1", 1), (" + 1", 49_999)];
+    evaluates(&rt, alloc, longest, "0", "int 50000 after 0 turns\n")?;
     let deep = &[("(", 200), ("1", 1), (")", 200)];
     evaluates(&rt, alloc, deep, "0", "int 1 after 0 turns\n")
 }
@@ -138,15 +140,35 @@ fn faults_come_before_values(rt: HostRuntime) -> Result<(), Fail> {
             ("9223372036854775808", "E02 0..19 number out of range\n"),
             ("gen a. 1", "E15 0..8 program is not int\n"),
             ("1 2", "E07 0..1 not a function\n"),
+            ("!(ref 4)", "E19 0..8 cells are not evaluated\n"),
+            ("ref 4", "E15 0..5 program is not int\n"),
         ],
     )
 }
 
 #[test]
+fn names_and_packages_have_values(rt: HostRuntime) -> Result<(), Fail> {
+    let alloc = rt.alloc();
+    let text = &[("let x = 2 in let x = x + 1 in x * x", 1)];
+    evaluates(&rt, alloc, text, "0", "int 9 after 0 turns\n")?;
+    let text = &[(
+        "open [a, x] = pack[int, <3, fix f(y:int):int. y + 1>] as some a. <a, a -> int> in (#2 x) (#1 x)",
+        1,
+    )];
+    evaluates(&rt, alloc, text, "1", "int 4 after 1 turns\n")?;
+    let text = &[
+        ("let x = 0 in ", 1),
+        ("let x = x + 1 in ", 24_999),
+        ("x", 1),
+    ];
+    evaluates(&rt, alloc, text, "0", "int 24999 after 0 turns\n")
+}
+
+#[test]
 fn limits_come_before_values(rt: HostRuntime) -> Result<(), Fail> {
     let alloc = rt.alloc();
-    let large = &[("1", 1), (" + 1", 500)];
-    let err = "L3 0..2001 more than 1000 nodes\n";
+    let large = &[("1", 1), (" + 1", 50_000)];
+    let err = "L3 0..200001 more than 100000 nodes\n";
     shows_of(&rt, alloc, NINE_TURNS, large, Status::Limit, "", err)?;
     let deep = &[("(", 201), ("1", 1), (")", 201)];
     let err = "L2 200..201 more than 200 open constructs\n";

@@ -18,4 +18,5 @@ returns c =
     let type_of = added _ _ _ _ _ c.in_ok-type_of.ensures run c.typeof_words.ensures refl in
     let eval = added _ _ _ _ _ c.in_ok-eval.ensures type_of c.eval_words.ensures refl in
     let generate = added _ _ _ _ _ c.in_ok-generate.ensures eval c.gen_words.ensures refl in
-    added _ _ _ _ _ c.in_ok-all.ensures generate c.upgrade_words.ensures refl
+    let upgrade = added _ _ _ _ _ c.in_ok-upgrade.ensures generate c.upgrade_words.ensures refl in
+    added _ _ _ _ _ c.in_ok-all.ensures upgrade c.trace_words.ensures refl

@@ -1,0 +1,123 @@
+-- What `trace` shows of a text is one answer, and ends as what `run` shows.
+use Rattle.std.proofs.Common.{◌≡◌, ◌∙◌, ℕ, ℤ, zero, suc, ◌+◌, ◌-◌, ◌≤◌, List, ◌++◌, Some, refl, sym, ap, ap₂, subst, arith}
+use Rattle.t_terms.specs.Tree.{TProg, Then, Ends, Jmp, Halt}
+use Rattle.t_terms.specs.Spanned.{SProg, plain_program}
+use Rattle.t_rules.specs.Machine.{IntWord, State, At, HaltedWith, HaltedAfter}
+use Rattle.talc_core.specs.declared.status.Status.TheVariants.{Done, Refused, Usage, Limit, Budget, ReadFault, WriteFault, Memory}
+use Rattle.talc_core.specs.FirstFault.{IsAcceptedText}
+use Rattle.talc_core.specs.Lines.{integer_line, more_instructions_line}
+use Rattle.talc_core.specs.TextLaws.{TextLaws}
+use Rattle.talc_core.specs.Traced.{AreLines, HaltedStates, RunningStates, OneLine}
+use Rattle.talc_core.specs.TraceLaws.{OneTrace, TraceEndsAsRun}
+use Rattle.talc_core.proofs.FaultLemmas.{same_program}
+use Rattle.talc_core.proofs.RunLemmas.{going_not_halted}
+
+pub trace_ends_as_run : TraceEndsAsRun
+trace_ends_as_run from to Done text lines shown = (
+  shown.2.shown,
+  integer_line shown.2.value,
+  record {
+    program = shown.0;
+    value = shown.2.value;
+    accepted = shown.1;
+    halts = (shown.2.steps, shown.2.within, shown.2.halted);
+    is = refl;
+  },
+  shown.2.is,
+)
+trace_ends_as_run from to Budget text lines shown = (
+  shown.2.shown,
+  more_instructions_line to,
+  record {
+    program = shown.0;
+    accepted = shown.1;
+    goes_on = shown.2.goes_on;
+    is = refl;
+  },
+  shown.2.is,
+)
+trace_ends_as_run from to Refused text lines shown = absurd shown
+trace_ends_as_run from to Usage text lines shown = absurd shown
+trace_ends_as_run from to Limit text lines shown = absurd shown
+trace_ends_as_run from to ReadFault text lines shown = absurd shown
+trace_ends_as_run from to WriteFault text lines shown = absurd shown
+trace_ends_as_run from to Memory text lines shown = absurd shown
+
+-- the integer of a halted state
+one_integer : (s : State) (i j : ℤ) → HaltedWith s i → HaltedWith s j → i ≡ j
+one_integer (At h r (Then k c)) i j x y = absurd x
+one_integer (At h r (Ends (Jmp v))) i j x y = absurd x
+one_integer (At h r (Ends Halt)) i j x y = let e : Some (IntWord i) ≡ Some (IntWord j) = sym x ∙ y in cc
+
+-- the lines of states
+same_lines : OneLine → (P : TProg) (m count : ℕ) (a b : List ℕ) → AreLines P m count a → AreLines P m count b → a ≡ b
+same_lines one P m zero a b x y = x ∙ sym y
+same_lines one P m (suc count) a b x y =
+    x.4
+    ∙ ap₂ (λ (before line : List ℕ). before ++ line) (same_lines one P m count x.0 y.0 x.2 y.2) (one P (m + count) x.1 y.1 x.3 y.3)
+    ∙ sym y.4
+
+module _ (laws : TextLaws) (one : OneLine) where
+  same_steps : (P : TProg) (n m : ℕ) (i j : ℤ) → HaltedAfter P n i → HaltedAfter P m j → n ≡ m
+  same_steps P n m i j x y =
+      let le : m ≤ n = laws.halting_is_last P n m i y.0 y.1 x y.2 in
+      let ge : n ≤ m = laws.halting_is_last P m n j x.0 x.1 y x.2 in
+      omega (arith, le, ge)
+
+  same_value : (P : TProg) (n : ℕ) (i j : ℤ) → HaltedAfter P n i → HaltedAfter P n j → i ≡ j
+  same_value P n i j x y = one_integer x.0 i j x.3 (subst (λ s. HaltedWith s j) (laws.one_run P n y.0 x.0 y.1 x.1 y.2 x.2).0 y.3)
+
+  same_halted : (P : TProg) (from to : ℕ) (a b : List ℕ) → HaltedStates P from to a → HaltedStates P from to b → a ≡ b
+  same_halted P from to a b x y =
+      let steps : y.steps ≡ x.steps = same_steps P y.steps x.steps y.value x.value y.halted x.halted in
+      let value : x.value ≡ y.value = same_value P x.steps x.value y.value x.halted (subst (λ n. HaltedAfter P n y.value) steps y.halted) in
+      let states : AreLines P from (suc x.steps - from) y.shown = subst (λ n. AreLines P from (suc n - from) y.shown) steps y.states in
+      x.is
+      ∙ ap₂ (λ (s : List ℕ) (i : ℤ). s ++ integer_line i) (same_lines one P from (suc x.steps - from) x.shown y.shown x.states states) value
+      ∙ sym y.is
+
+  same_running : (P : TProg) (from to : ℕ) (a b : List ℕ) → RunningStates P from to a → RunningStates P from to b → a ≡ b
+  same_running P from to a b x y =
+      x.is
+      ∙ ap (λ (s : List ℕ). s ++ more_instructions_line to) (same_lines one P from (suc to - from) x.shown y.shown x.states y.states)
+      ∙ sym y.is
+
+  -- one program is read of a text
+  there : (text : List ℕ) (a b : SProg) → IsAcceptedText text a → IsAcceptedText text b → plain_program a ≡ plain_program b
+  there text a b x y = ap plain_program (same_program laws text a b x.0 y.0)
+
+  -- which doesn't both halt and go on
+  not_both : (P : TProg) (from to : ℕ) (a b : List ℕ) → HaltedStates P from to a → RunningStates P from to b → ⊥
+  not_both P from to a b x y = going_not_halted laws P x.steps to x.value x.halted y.goes_on x.within
+
+  pub one_trace : OneTrace
+  one_trace from to Done Done text a b x y =
+      let program = there text y.0 x.0 y.1 x.1 in
+      (refl, same_halted (plain_program x.0) from to a b x.2 (subst (λ P. HaltedStates P from to b) program y.2))
+  one_trace from to Budget Budget text a b x y =
+      let program = there text y.0 x.0 y.1 x.1 in
+      (refl, same_running (plain_program x.0) from to a b x.2 (subst (λ P. RunningStates P from to b) program y.2))
+  one_trace from to Done Budget text a b x y =
+      let program = there text y.0 x.0 y.1 x.1 in
+      absurd (not_both (plain_program x.0) from to a b x.2 (subst (λ P. RunningStates P from to b) program y.2))
+  one_trace from to Budget Done text a b x y =
+      let program = there text x.0 y.0 x.1 y.1 in
+      absurd (not_both (plain_program y.0) from to b a y.2 (subst (λ P. RunningStates P from to a) program x.2))
+  one_trace from to Done Refused text a b x y = absurd y
+  one_trace from to Done Usage text a b x y = absurd y
+  one_trace from to Done Limit text a b x y = absurd y
+  one_trace from to Done ReadFault text a b x y = absurd y
+  one_trace from to Done WriteFault text a b x y = absurd y
+  one_trace from to Done Memory text a b x y = absurd y
+  one_trace from to Budget Refused text a b x y = absurd y
+  one_trace from to Budget Usage text a b x y = absurd y
+  one_trace from to Budget Limit text a b x y = absurd y
+  one_trace from to Budget ReadFault text a b x y = absurd y
+  one_trace from to Budget WriteFault text a b x y = absurd y
+  one_trace from to Budget Memory text a b x y = absurd y
+  one_trace from to Refused u text a b x y = absurd x
+  one_trace from to Usage u text a b x y = absurd x
+  one_trace from to Limit u text a b x y = absurd x
+  one_trace from to ReadFault u text a b x y = absurd x
+  one_trace from to WriteFault u text a b x y = absurd x
+  one_trace from to Memory u text a b x y = absurd x

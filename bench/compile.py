@@ -1,16 +1,22 @@
-"""Compiling: `talc compile` on sources of 250, 500 and about 1000 nodes, in six shapes.
+"""Compiling: `talc compile` on sources of up to 100000 nodes, the limit, in eight shapes whose assembly text grows with
+the source, and of up to about 1000 nodes in two shapes whose text grows faster; of three of the first, with nine names
+in use around them that no eight registers hold, also `compile --registers 8`, on up to 20000 nodes.
 
-Of four shapes the assembly text grows with the source. For each size: processor seconds less those of the text `7`, the
-time as a multiple of that of the half (wanted: at most 2.2), bytes of the text a node of the source, and peak memory a
-byte of the text (wanted: at most 100). Of two shapes the text itself grows with the square of the source, since each
-closure has a copy of what it keeps; there the time a byte of the text stands against that of the half. A row that
-misses says so. Where ocamlopt is installed, its time for a program of the same meaning and the largest size stands
-beside it, each less that of the smallest program. Then the instructions that compiled programs execute, for each turn
-of their source. What lies in larger terms is measured by `passes.py`.
+For each size: processor seconds less those of the text `7`, the time as a multiple of that of the half (wanted: at most
+2.2), bytes of the text a node of the source, and peak memory a byte of the text (wanted: at most 100). In the last two
+shapes each closure has a copy of what it keeps; there the time a byte of the text stands against that of the half. A
+row that misses says so. Where ocamlopt is installed, its time for a program of the same meaning and of some 1000 nodes
+stands beside that of talc, each less that of the smallest program.
+
+Then, of small programs: the instructions that they execute, those a turn of their source and those in their text, how
+many of these are moves, and the greatest register; and the same with `--registers 8` and `--registers 16`, with bytes,
+instructions executed and time as multiples of those without. What lies in larger terms is measured by `passes.py`.
 """
+import re
 import shutil
 import sys
-from measure import Run, best, folder, program
+from pathlib import Path
+from measure import ROOT, Run, best, folder, program
 
 
 def ones(n):
@@ -30,6 +36,24 @@ def branches(n):
 def functions(n):
     """Functions in a row, each called where it stands."""
     return " + ".join(["(fix f(x:int):int. x) 1"] * ((n + 1) // 5))
+
+
+def lets(n):
+    return "let x = 0 in " + "let x = x + 1 in " * (n // 4 - 1) + "x"
+
+
+def packs(n):
+    """A package in a package in a package."""
+    around = "let x = pack[some a. a, x] as some a. a in " * (n // 3 - 3)
+    return "let x = pack[int, 1] as some a. a in " + around + "#1 <2, x>"
+
+
+def opens(n):
+    return "open [a, x] = pack[int, 1] as some b. b in " * (n // 3 - 1) + "1"
+
+
+def cells(n):
+    return "let c = ref 0 in " + "let u = c := !c + 1 in " * (n // 7 - 1) + "!c"
 
 
 def written_out(n):
@@ -65,6 +89,14 @@ def functions_in_ocaml(n):
     return " + ".join(["(let rec f x = x in f) 1"] * ((n + 1) // 5))
 
 
+def lets_in_ocaml(n):
+    return lets(n)
+
+
+def cells_in_ocaml(n):
+    return cells(n)
+
+
 def written_out_in_ocaml(n):
     text = "0"
     for _ in range(n // 7):
@@ -83,23 +115,54 @@ def closures_in_ocaml(n):
     return f"({text})" + "".join(f" {i}" for i in range(depth))
 
 
+def among_nine(shape):
+    """A shape with nine names around it that are in use up to its end, of 54 nodes."""
+    names = [f"a{i}" for i in range(1, 10)]
+    around = "".join(f"let {name} = #1 <1> in " for name in names)
+    return lambda n: f"{around}{shape(n - 54)} + {' + '.join(names)}"
+
+
 LINEAR = [
     ("a sum", ones, ones_in_ocaml),
     ("nested calls of one function", calls, calls_in_ocaml),
     ("choices in a row", branches, branches_in_ocaml),
     ("functions in a row", functions, functions_in_ocaml),
+    ("lets in a row", lets, lets_in_ocaml),
+    ("packages, each in the next", packs, None),
+    ("packages opened in a row", opens, None),
+    ("assignments in a row", cells, cells_in_ocaml),
 ]
-QUADRATIC = [
+FASTER = [
     ("nested calls of functions that are written out", written_out, written_out_in_ocaml),
     ("functions that keep much", closures, closures_in_ocaml),
 ]
-SIZES = [250, 500, 998]
+WITHIN = [
+    ("a sum", among_nine(ones)), ("functions in a row", among_nine(functions)),
+    ("assignments in a row", among_nine(cells)),
+]
+SIZES, WITHIN_SIZES, SMALL_SIZES = [25000, 50000, 99998], [5000, 10000, 20000], [250, 500, 998]
 MOST_TIMES, MOST_BYTES = 2.2, 100
 
+
+def example(name):
+    return Path(ROOT, "examples", name).read_text(encoding="ascii")
+
+
+# The names of thirty computed values, all in use at once.
+NAMES = [f"x{i}" for i in range(1, 31)]
+THIRTY = "".join(f"let {name} = #1 <{i}> in " for i, name in enumerate(NAMES, 1))
+THIRTY += f"(fix f(y:int):int. {' + '.join(NAMES)} + y) 0"
+
+# Each with its turns, and the instructions wanted at most.
 TURNS = [
-    ("factorial of 5", "(fix f(n:int):int. if0(n, 1, n * f(n - 1))) 5", 6, 380),
-    ("tenth Fibonacci number", "(fix f(n:int):int. if0(n, 0, if0(n - 1, 1, f(n - 1) + f(n - 2)))) 10", 177, None),
-    ("polymorphic identity", "(gen a. fix f(x:a):a. x)[int] 3", 2, None),
+    ("factorial of 5", example("factorial.f"), 6, 180),
+    ("tenth Fibonacci number", example("fibonacci.f"), 177, 6200),
+    ("polymorphic identity", example("identity.f"), 2, None),
+    ("a package with two implementations", example("counter.f"), 14, None),
+    ("a stack as a package", example("stack.f"), 25, None),
+    ("fractions", example("fractions.f"), 561, None),
+    ("recursion through a reference", example("knot.f"), 6, None),
+    ("thirty names", THIRTY, 1, None),
 ]
 
 
@@ -118,15 +181,26 @@ def instructions(talc, target):
     return low
 
 
+class Text:
+    """An assembly text: its bytes, its instructions and ends, the moves among them, and its greatest register."""
+
+    def __init__(self, name):
+        text = Path(name).read_text(encoding="ascii")
+        lines = [line for line in text.splitlines()[1:] if ": code[" not in line and ": data <" not in line]
+        self.bytes, self.instructions = len(text), len(lines)
+        self.moves = sum(line.startswith("mov ") for line in lines)
+        self.register = max((int(number) for number in re.findall(r"\br(\d+)\b", text)), default=0)
+
+
 def main():
     talc = program()
     with folder() as place:
         source, target = f"{place}/text.f", f"{place}/text.tal"
 
-        def timed(text):
+        def timed(text, *option, times=9):
             with open(source, "w", encoding="ascii") as file:
                 file.write(text)
-            run = best([talc, "compile", source, target], times=9, wanted=(0, ""))
+            run = best([talc, "compile", *option, source, target], times=times, wanted=(0, ""))
             with open(target, "rb") as file:
                 return run, len(file.read())
 
@@ -141,11 +215,11 @@ def main():
         if peer:
             print(f"the text 7 by ocamlopt: {peer.seconds:.3f} s")
 
-        def rows(name, shape, is_linear):
-            """Prints a row for each size, and gives the time of the largest."""
+        def rows(name, shape, sizes, is_linear, *option):
+            """Prints a row for each size."""
             last = None
-            for size in SIZES:
-                run, length = timed(shape(size))
+            for size in sizes:
+                run, length = timed(shape(size), *option, times=3 if is_linear else 9)
                 spent = max(run.seconds - base.seconds, 1e-4)
                 measure = spent if is_linear else spent / length
                 ratio = measure / last if last else 0
@@ -160,19 +234,42 @@ def main():
                     + f", {memory:.1f} bytes of memory a byte{': ' + ', '.join(wrong) if wrong else ''}"
                 )
                 last = measure
-            return spent
 
-        for name, shape, in_ocaml, is_linear in [(*row, True) for row in LINEAR] + [(*row, False) for row in QUADRATIC]:
-            spent = rows(name, shape, is_linear)
-            if peer:
-                beside = ocamlopt(in_ocaml(SIZES[-1])).seconds - peer.seconds
-                share = spent / max(beside, 0.001)
-                print(f"{name}, {SIZES[-1]} nodes by ocamlopt: {beside:.3f} s, of which talc takes {share:.2f}")
-        for name, text, turns, most in TURNS:
-            timed(text)
-            made = instructions(talc, target)
+        def beside_peer(name, shape, in_ocaml):
+            size = SMALL_SIZES[-1]
+            spent = max(timed(shape(size))[0].seconds - base.seconds, 1e-4)
+            beside = ocamlopt(in_ocaml(size)).seconds - peer.seconds
+            share = spent / max(beside, 0.001)
+            print(f"{name}, {size} nodes by ocamlopt: {beside:.3f} s, of which talc takes {share:.2f}")
+
+        def counted(name, text, turns, most):
+            """Prints a row without the option, and one for each bound on registers."""
+            run, _ = timed(text, times=3)
+            plain, made = Text(target), instructions(talc, target)
             wanted = "" if most is None else f", wanted at most {most}{': many' if made > most else ''}"
-            print(f"{name}: {made} instructions for {turns} turns, {made / turns:.1f} a turn{wanted}")
+            print(
+                f"{name}: {made} instructions for {turns} turns, {made / turns:.1f} a turn{wanted}; in the text "
+                f"{plain.instructions}, of which {plain.moves} moves, up to r{plain.register}, {plain.bytes} bytes"
+            )
+            for bound in [8, 16]:
+                within, _ = timed(text, "--registers", str(bound), times=3)
+                small, more = Text(target), instructions(talc, target)
+                wrong = f": r{small.register} is above the bound" if small.register > bound else ""
+                print(
+                    f"{name} within {bound} registers: {more} instructions, {more / made:.1f} times; in the text "
+                    f"{small.instructions}, up to r{small.register}, {small.bytes} bytes, "
+                    f"{small.bytes / plain.bytes:.1f} times; "
+                    f"compiled in {within.seconds / run.seconds:.1f} times{wrong}"
+                )
+
+        for name, shape, in_ocaml, is_linear in [(*row, True) for row in LINEAR] + [(*row, False) for row in FASTER]:
+            rows(name, shape, SIZES if is_linear else SMALL_SIZES, is_linear)
+            if peer and in_ocaml:
+                beside_peer(name, shape, in_ocaml)
+        for name, shape in WITHIN:
+            rows(f"{name} within 8 registers", shape, WITHIN_SIZES, True, "--registers", "8")
+        for row in TURNS:
+            counted(*row)
 
 
 main()

@@ -20,19 +20,34 @@ def folder():
     return tempfile.TemporaryDirectory(prefix="talc-bench-")
 
 
+# Runs the words, and writes the status, the processor seconds and the peak memory to the descriptor that comes first. It
+# is a small process, since the peak of one counts what its parent held when it was forked.
+RUNNER = """
+import os
+import sys
+told, words = int(sys.argv[1]), sys.argv[2:]
+child = os.fork()
+if child == 0:
+    os.close(told)
+    os.execvp(words[0], words)
+_, status, usage = os.wait4(child, 0)
+status = os.waitstatus_to_exitcode(status)
+os.write(told, f"{status} {usage.ru_utime + usage.ru_stime} {usage.ru_maxrss}".encode())
+"""
+
+
 class Run:
     """One run of a command: processor seconds, peak memory in bytes, what it printed, its status."""
 
     def __init__(self, words):
-        with tempfile.TemporaryFile() as out:
-            child = subprocess.Popen(words, stdout=out, stderr=subprocess.STDOUT)
-            _, status, usage = os.wait4(child.pid, 0)
-            child.returncode = os.waitstatus_to_exitcode(status)
+        with tempfile.TemporaryFile() as out, tempfile.TemporaryFile() as told:
+            runner = [sys.executable, "-S", "-E", "-c", RUNNER, str(told.fileno()), *words]
+            subprocess.run(runner, stdout=out, stderr=subprocess.STDOUT, pass_fds=[told.fileno()], check=True)
             out.seek(0)
+            told.seek(0)
             self.text = out.read().decode(errors="replace")
-        self.status = child.returncode
-        self.seconds = usage.ru_utime + usage.ru_stime
-        self.peak = usage.ru_maxrss * 1024
+            status, seconds, peak = told.read().decode().split()
+        self.status, self.seconds, self.peak = int(status), float(seconds), int(peak) * 1024
 
 
 def best(words, times=3, wanted=None):

@@ -1,4 +1,4 @@
-"""The passes of the compiler one by one, on source terms larger than any text may be, by the program `pass_sizes`.
+"""The passes of the compiler one by one, on large source terms, by the program `pass_sizes`.
 
 For each shape and each pass: processor seconds of all up to the pass at a size and at twice the size, their ratio, what
 the pass adds, and peak memory at both. What is wanted of a row that takes longer than a fifth of a second: at most 2.2

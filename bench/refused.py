@@ -1,5 +1,5 @@
-"""Refused memory: over a dozen inputs, every allocation of a command is refused once, in a run of its own; of `gen`,
-which allocates some tens of thousands of times, some two thousand, the last ones among them.
+"""Refused memory: over two dozen inputs, every allocation of a command is refused once, in a run of its own; of one
+that allocates more than two thousand times, as `gen` does, some two thousand, the last ones among them.
 
 What is wanted: all as with ample memory, or status 7 with nothing on the output, the line `out of memory` or nothing on
 the error output, and no file changed, but that `gen` may have written its source. It prints how many refusals it tried,
@@ -72,6 +72,12 @@ __attribute__((destructor)) static void told(void) {
 
 FACTORIAL = "(fix f(n:int):int. if0(n, 1, n * f(n - 1))) 5"
 POLYMORPHIC = "((gen a. fix f(x:a):int -> a. fix g(y:int):a. x)[int] 8) 1"
+PACKED = (
+    "open [a, x] = pack[int, <3, fix f(y:int):int. y + 1>] as some a. <a, a -> int> in let g = #2 x in g (#1 x)"
+)
+CELLS = "let c = ref 5 in let u = c := !c + 2 in !c"
+# Seven cells, for which no eight registers are enough.
+MANY = "".join(f"let c{i} = ref {i} in " for i in range(1, 8)) + "if0(!c1, 1, !c2 + !c3 + !c4 + !c5 + !c6 + !c7)"
 LOOP = "tal 1\nL0: code[]{}.\njmp L0\n"
 TUPLE = "tal 1\nL0: code[]{}.\nmalloc r1[int]\nmov r2, 5\nst r1[0], r2\nld r1, r1[0]\nhalt[int]\n"
 PACKAGE = (
@@ -91,10 +97,18 @@ MOST = 2000
 CASES = [
     ("compile IN OUT", "7"), ("compile IN OUT", FACTORIAL), ("compile IN OUT", POLYMORPHIC),
     ("compile IN OUT", "1 + <>"), ("typeof IN", "fix f(x:<int, all a. a -> a>):int. #1 x"), ("typeof IN", "(1 +"),
+    ("typeof IN", "pack[int, ref 3] as some a. ref a"), ("typeof IN", "(ref 1) := <>"),
+    ("compile IN OUT", PACKED), ("compile IN OUT", CELLS), ("compile IN OUT", "pack[int, 1] as int"),
+    ("compile --registers 8 IN OUT", FACTORIAL), ("compile --registers 8 IN OUT", MANY),
+    ("compile --registers 8 IN OUT", "1 + <>"), ("compile --registers 7 IN OUT", "7"),
+    ("eval IN --turns 6", PACKED), ("eval IN --turns 6", CELLS),
     ("eval IN --turns 6", FACTORIAL),
     ("eval IN --turns 5", FACTORIAL), ("check IN", PACKAGE), ("check IN", "tal 1\nL0: code[]{}.\nhalt[int]\n"),
     ("run IN --fuel 5", TUPLE), ("run IN --fuel 10", LOOP), ("run IN", LOOP), ("check NONE", LOOP),
     ("upgrade IN OUT", PACKAGE), ("upgrade IN OUT", DATA), ("run IN --fuel 3", DATA),
+    ("trace IN --from 0 --to 5", PACKAGE), ("trace IN --from 2 --to 3", DATA), ("trace IN --from 0 --to 4", LOOP),
+    ("trace IN --from 9 --to 4", LOOP), ("trace IN --from 0 --to 9", "tal 1\nL0: code[]{}.\nhalt[int]\n"),
+    ("trace IN --from 0", LOOP), ("trace NONE --from 0 --to 9", LOOP),
     ("gen --seed 0 OUT", ""),
 ]
 

@@ -1,0 +1,119 @@
+"""The bound on registers: `talc compile --registers K`, with 8 and with 16, beside `talc compile`, as ratios.
+
+For each example and for thirty `let`s: instructions made, bytes of the text, instructions executed up to the end, and
+processor seconds of the compiler less those for the text `7`, without the option and as multiples of that with it. A
+text that is the same with the option as without says so; one with a register above the bound ends the script. Then the
+compiler's time on straight lines of sums, each twice as long as the one before it, with nine names in use from the
+first to the last, so that the option makes a frame for each sum: the time as a multiple of that of the half.
+"""
+import re
+import sys
+from measure import ROOT, Run, best, folder, program
+
+BOUNDS = [8, 16]
+MOST_STEPS = {8: 5, 16: 3}
+FUEL = 1 << 24
+LINES = [2500, 5000, 10000, 20000]
+NAMES = [f"a{i}" for i in range(1, 10)]
+NINE = "".join(f"let {name} = #1 <1> in " for name in NAMES)
+
+
+def lets(value):
+    """Thirty names that are all alive in the function that adds them up."""
+    names = "".join(f"let x{i} = {value(i)} in " for i in range(1, 31))
+    return f"{names}(fix f(y:int):int. {' + '.join(f'x{i}' for i in range(1, 31))} + y) 0"
+
+
+def sources():
+    """The examples by name, and the rows of thirty `let`s."""
+    for path in sorted((ROOT / "examples").glob("*.f")):
+        yield path.name, path.read_text(encoding="ascii")
+    yield "30 lets of numbers", lets(str)
+    yield "30 lets of computed values", lets(lambda i: f"#1 <{i}>")
+
+
+def executed(talc, target):
+    """How many instructions a program executes, by halving; None where it has not ended within the fuel."""
+    if Run([talc, "run", target, "--fuel", str(FUEL)]).status != 0:
+        return None
+    low, high = 0, FUEL
+    while low < high:
+        middle = (low + high) // 2
+        if Run([talc, "run", target, "--fuel", str(middle)]).status == 0:
+            high = middle
+        else:
+            low = middle + 1
+    return low
+
+
+class Made:
+    """What the compiler made of a source: its text, its size, its steps, and the time that it took."""
+
+    def __init__(self, talc, source, target, bound, times):
+        option = [] if bound is None else ["--registers", str(bound)]
+        run = best([talc, "compile", *option, source, target], times=times, wanted=(0, ""))
+        with open(target, encoding="ascii") as file:
+            self.text = file.read()
+        self.seconds = run.seconds
+        self.bytes = len(self.text)
+        self.instructions = sum(1 for line in self.text.splitlines() if re.match(r"[a-z]", line)) - 1
+        top = max((int(r) for r in re.findall(r"\br([0-9]+)\b", self.text)), default=0)
+        if bound is not None and top > bound:
+            sys.exit(f"{source}: register {top} within {bound}")
+
+    def walked(self, talc, target):
+        self.steps = executed(talc, target)
+        return self
+
+
+def times(part, whole):
+    return f"{part / whole:.1f}" if whole else "-"
+
+
+def main():
+    talc = program()
+    with folder() as place:
+        source, target = f"{place}/text.f", f"{place}/text.tal"
+
+        def made(text, bound, repeat=5):
+            with open(source, "w", encoding="ascii") as file:
+                file.write(text)
+            return Made(talc, source, target, bound, repeat)
+
+        base = made("7", None, 9).seconds
+
+        def spent(it):
+            return max(it.seconds - base, 1e-4)
+
+        for name, text in sources():
+            plain = made(text, None).walked(talc, target)
+            print(
+                f"{name}: {plain.instructions} instructions, {plain.bytes} bytes, "
+                f"{'no end' if plain.steps is None else plain.steps} steps, {spent(plain):.4f} s"
+            )
+            for bound in BOUNDS:
+                framed = made(text, bound).walked(talc, target)
+                if framed.text == plain.text:
+                    print(f"  within {bound}: the same text")
+                    continue
+                more = None if plain.steps is None else framed.steps / plain.steps
+                print(
+                    f"  within {bound}: {times(framed.instructions, plain.instructions)} times the instructions, "
+                    f"{times(framed.bytes, plain.bytes)} times the bytes, "
+                    + ("no end" if more is None else f"{more:.1f} times the steps")
+                    + f", {times(spent(framed), spent(plain))} times the time"
+                    + (f": more than {MOST_STEPS[bound]}" if more is not None and more > MOST_STEPS[bound] else "")
+                )
+        last = None
+        for length in LINES:
+            text = NINE + " + ".join(["1"] * length + NAMES)
+            plain, framed = made(text, None, 3), made(text, BOUNDS[0], 3)
+            print(
+                f"{length} ones added up: {spent(plain):.3f} s, within {BOUNDS[0]} {spent(framed):.3f} s, "
+                f"{framed.instructions} instructions"
+                + (f", as a multiple of the half {spent(framed) / last:.2f}" if last else "")
+            )
+            last = spent(framed)
+
+
+main()

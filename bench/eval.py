@@ -1,17 +1,21 @@
 """Evaluation: `talc eval` beside lua5.4 on the same two programs, as ratios in one run.
 
-The first calls 100000 deep, the second makes 10000000 turns in a loop. For each: turns a second, the time as a multiple
-of Lua's, and the memory for each turn beyond that of the text `7`.
+The first calls 100000 deep, twenty times, as deep as Lua goes; the second makes 10000000 turns in a loop. For each:
+turns a second, the memory for each turn beyond that of the text `7`, and the time as a multiple of Lua's (wanted: at
+most 3). A row that misses says so.
 """
-from measure import available, best, folder, program
+from measure import Spent, available, best, folder, program, ratio
+
+MOST_TIMES = 3
+DEEP = " + ".join(["f(100000)"] * 20)
 
 CASES = [
     (
-        "100000 calls deep",
-        "(fix f(n:int):int. if0(n, 0, 1 + f(n - 1))) 100000",
-        100001,
-        "int 100000 after 100001 turns\n",
-        "local function f(n) if n == 0 then return 0 else return 1 + f(n - 1) end end print(f(100000))",
+        "20 times 100000 calls deep",
+        f"let f = fix f(n:int):int. if0(n, 0, 1 + f(n - 1)) in {DEEP}",
+        2000020,
+        "int 2000000 after 2000020 turns\n",
+        f"local function f(n) if n == 0 then return 0 else return 1 + f(n - 1) end end print({DEEP})",
     ),
     (
         "a loop of 10000000 turns",
@@ -36,13 +40,11 @@ def main():
         bare = best([lua, written("bare.lua", "")])
         for name, source, turns, wanted, script in CASES:
             text = written("text.f", source)
-            ours = best([talc, "eval", text, "--turns", str(turns)], wanted=(0, wanted))
-            theirs = best([lua, written("text.lua", script)])
-            spent, lua_spent = ours.seconds - base.seconds, theirs.seconds - bare.seconds
-            ratio = f"{spent / lua_spent:.1f}" if lua_spent > 0.002 else "too short to say"
+            ours = Spent([talc, "eval", text, "--turns", str(turns)], base, wanted=(0, wanted))
+            theirs = Spent([lua, written("text.lua", script)], bare)
             print(
-                f"{name}: {turns / max(spent, 1e-3):.2e} turns a second, times Lua's time: {ratio}, "
-                f"{(ours.peak - base.peak) / turns:.1f} bytes a turn"
+                f"{name}: {turns / max(ours.seconds, 1e-3):.2e} turns a second, {ours.bytes / turns:.1f} bytes a turn, "
+                f"times Lua's time: {ratio(ours, theirs, MOST_TIMES)}"
             )
 
 

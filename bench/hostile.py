@@ -225,7 +225,7 @@ TEXTS = [
     (opened_jumps, 20_000), (names, 20_000), (filled_sets, 5_000), (filled_registers, 5_000), (filled_stores, 5_000),
     (applied_again, 10_000),
 ]
-# Texts that ask for more than their own length, and why (docs/TAL.md).
+# Texts that ask for more than their own length, and why (docs/COSTS.md).
 LARGER = [
     (fills_in_disorder, 10_000, "a field that is filled makes parts of a set, the binary logarithm of its number many"),
     (put_at_depths, 2_000, "the type is another one at each depth"),

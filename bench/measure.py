@@ -1,4 +1,6 @@
-"""What the benchmarks share: the built program, a folder, timed runs, and other packages' commands."""
+"""What the benchmarks share: the built program, a folder, timed runs, ratios with their goals, and other packages'
+commands. Runs are started by bench/launcher.c, which wants a C compiler."""
+import functools
 import os
 import subprocess
 import sys
@@ -7,6 +9,9 @@ from pathlib import Path
 
 ROOT = Path(__file__).resolve().parent.parent
 TALC = ROOT / "crates" / "talc" / "out" / "talc"
+
+# A difference of times that is smaller tells nothing.
+LEAST_SECONDS = 0.05
 
 
 def program():
@@ -20,34 +25,31 @@ def folder():
     return tempfile.TemporaryDirectory(prefix="talc-bench-")
 
 
-# Runs the words, and writes the status, the processor seconds and the peak memory to the descriptor that comes first. It
-# is a small process, since the peak of one counts what its parent held when it was forked.
-RUNNER = """
-import os
-import sys
-told, words = int(sys.argv[1]), sys.argv[2:]
-child = os.fork()
-if child == 0:
-    os.close(told)
-    os.execvp(words[0], words)
-_, status, usage = os.wait4(child, 0)
-status = os.waitstatus_to_exitcode(status)
-os.write(told, f"{status} {usage.ru_utime + usage.ru_stime} {usage.ru_maxrss}".encode())
-"""
+@functools.cache
+def launcher():
+    """The small process that starts what is measured, built anew for each script."""
+    built = folder()
+    code, path = ROOT / "bench" / "launcher.c", f"{built.name}/launcher"
+    subprocess.run(["cc", "-O2", "-o", path, str(code)], check=True)
+    return built, path
 
 
 class Run:
-    """One run of a command: processor seconds, peak memory in bytes, what it printed, its status."""
+    """One run of a command: processor seconds, peak memory in bytes, page faults, what it printed, its status."""
 
-    def __init__(self, words):
+    def __init__(self, words, seconds=0, most_bytes=0):
         with tempfile.TemporaryFile() as out, tempfile.TemporaryFile() as told:
-            runner = [sys.executable, "-S", "-E", "-c", RUNNER, str(told.fileno()), *words]
-            subprocess.run(runner, stdout=out, stderr=subprocess.STDOUT, pass_fds=[told.fileno()], check=True)
+            bounds = [str(told.fileno()), str(seconds), str(most_bytes)]
+            subprocess.run(
+                [launcher()[1], *bounds, *words], stdout=out, stderr=subprocess.STDOUT, pass_fds=[told.fileno()],
+                check=True,
+            )
             out.seek(0)
             told.seek(0)
             self.text = out.read().decode(errors="replace")
-            status, seconds, peak = told.read().decode().split()
-        self.status, self.seconds, self.peak = int(status), float(seconds), int(peak) * 1024
+            status, spent, peak, faults = map(int, told.read().decode().split())
+        self.status, self.seconds, self.peak, self.faults = status, spent / 1e6, peak * 1024, faults
+        self.rests = self.seconds
 
 
 def best(words, times=3, wanted=None):
@@ -60,6 +62,34 @@ def best(words, times=3, wanted=None):
             sys.exit(f"{' '.join(words)}: status {run.status}, {run.text[:200]!r}")
         runs.append(run)
     return min(runs, key=lambda r: r.seconds)
+
+
+class Spent:
+    """What a command takes beyond another that does nothing: seconds and bytes a run, and the seconds of all the runs
+    that this rests on. Short runs are repeated, at most 200 times."""
+
+    def __init__(self, words, base, times=3, wanted=None):
+        self.run = best(words, times, wanted)
+        self.seconds = self.rests = self.run.seconds - base.seconds
+        self.bytes = max(0, self.run.peak - base.peak)
+        if self.seconds < LEAST_SECONDS:
+            count = min(200, int(LEAST_SECONDS / max(self.seconds, 1e-5)) + 2)
+            runs = sorted(Run(words).seconds for _ in range(2 * count))[:count]
+            self.rests = max(0.0, sum(runs) - count * base.seconds)
+            self.seconds = self.rests / count
+
+
+def says_something(*times):
+    return all(it.rests >= LEAST_SECONDS for it in times)
+
+
+def ratio(part, whole, most, size=1):
+    """The ratio of two runs' times, each by its size, with its goal, `slow` where it misses, or that they are too short
+    to say."""
+    if not says_something(part, whole):
+        return f"too short to say ({part.seconds:.4f} s and {whole.seconds:.4f} s)"
+    found = part.seconds / whole.seconds / size
+    return f"{found:.2f} (wanted: at most {most}){': slow' if found > most else ''}"
 
 
 def available(name):

@@ -1,12 +1,11 @@
 """The passes of the compiler one by one, on large source terms, by the program `pass_sizes`.
 
-For each shape and each pass: processor seconds of all up to the pass at a size and at twice the size, their ratio, what
-the pass adds, and peak memory at both. What is wanted of a row that takes longer than a fifth of a second: at most 2.2
-times the time for twice the size. A row that misses it says so. Memory does not depend on what else the machine does,
-and its ratio tells as much.
+For each shape and each pass: processor seconds of all up to the pass at a size and at twice the size, what the pass
+adds, peak memory at both, and the ratio of the times (wanted: at most 2.2), where both are 0.05 seconds or more. A row
+that misses it says so. Memory does not depend on what else the machine does, and its ratio tells as much.
 """
 import sys
-from measure import ROOT, best
+from measure import ROOT, best, ratio
 
 PROGRAM = ROOT / "crates" / "pass_sizes" / "out" / "pass_sizes"
 PASSES = ["check", "cps", "close", "hoist", "allocate", "generate"]
@@ -18,7 +17,7 @@ SHAPES = [
     ("choices", "choices in a row", 10_000),
     ("closures", "functions in a row that are called where they stand", 10_000),
 ]
-MOST_TIMES, LEAST_SECONDS = 2.2, 0.2
+MOST_TIMES = 2.2
 
 
 def run(shape, count, name):
@@ -34,13 +33,12 @@ def main():
         before = [0, 0]
         for name in PASSES:
             small, large = run(shape, half, name), run(shape, 2 * half, name)
-            ratio = large.seconds / max(small.seconds, 1e-3)
-            slow = large.seconds > LEAST_SECONDS and ratio > MOST_TIMES
-            missed += slow
+            times = ratio(large, small, MOST_TIMES)
+            missed += times.endswith("slow")
             print(
-                f"  up to {name}: {small.seconds:.3f} s and {large.seconds:.3f} s, {ratio:.2f} times; this pass "
+                f"  up to {name}: {small.seconds:.3f} s and {large.seconds:.3f} s; this pass "
                 f"{small.seconds - before[0]:.3f} s and {large.seconds - before[1]:.3f} s; {small.peak / 1e6:.0f} MB "
-                f"and {large.peak / 1e6:.0f} MB, {large.peak / small.peak:.2f} times{': slow' if slow else ''}"
+                f"and {large.peak / 1e6:.0f} MB, {large.peak / small.peak:.2f} times; times the half: {times}"
             )
             before = [small.seconds, large.seconds]
     print(f"rows that miss {MOST_TIMES} times: {missed}")

@@ -6,7 +6,7 @@ For each: lines a second, bytes a line, peak memory a byte of the output, and th
 Then eleven lines after 100000000 instructions, beside `run` to there (wanted: at most 1.1 times its time). A row that
 misses says so.
 """
-from measure import Run, best, folder, program
+from measure import Run, best, folder, program, ratio
 
 # The loop of examples/factorial.tal, with a number that it does not come to the end of.
 LOOP = """tal 1
@@ -89,13 +89,14 @@ def main():
             for count in [lines // 2, lines]:
                 written(text(count))
                 shown, ran = traced(count)
-                spent.append(max(shown.seconds - ran.seconds, 1e-4))
-            size, ratio = len(shown.text), spent[1] / spent[0]
+                peak = shown.peak - ran.peak
+                shown.seconds = shown.rests = max(shown.seconds - ran.seconds, 1e-4)
+                spent.append(shown)
+            size, seconds = len(shown.text), shown.seconds
             print(
-                f"{case}: {lines} lines, {spent[1]:.2f} s, {lines / spent[1]:.2e} lines a second, "
-                f"{size / lines:.0f} bytes a line, {1e9 * spent[1] / size:.0f} ns a byte, "
-                f"{(shown.peak - ran.peak) / size:.1f} bytes of memory a byte, "
-                f"times the half: {ratio:.2f}{': slow' if ratio > MOST_TIMES else ''}"
+                f"{case}: {lines} lines, {seconds:.2f} s, {lines / seconds:.2e} lines a second, "
+                f"{size / lines:.0f} bytes a line, {1e9 * seconds / size:.0f} ns a byte, "
+                f"{peak / size:.1f} bytes of memory a byte, times the half: {ratio(spent[1], spent[0], MOST_TIMES)}"
             )
 
         for case, text, lines in CASES:
@@ -114,10 +115,9 @@ def main():
         written(LOOP)
         late = best([talc, "trace", name, "--from", "100000000", "--to", "100000010"], wanted=(4, None))
         ran = best([talc, "run", name, "--fuel", "100000010"], wanted=(4, None))
-        ratio = late.seconds / ran.seconds
         print(
             f"the loop of the factorial, {late.text.count(chr(10))} lines after 100000000 instructions: "
-            f"{late.seconds:.2f} s, times `run` to there: {ratio:.2f}{': slow' if ratio > MOST_BESIDE else ''}"
+            f"{late.seconds:.2f} s, times `run` to there: {ratio(late, ran, MOST_BESIDE)}"
         )
 
 

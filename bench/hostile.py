@@ -1,20 +1,17 @@
 """Texts that are made to be slow: `talc check` and `talc run --fuel 0`, which loads, on each at two sizes.
 
-The second size is ten times the first. What is wanted: each text is accepted, at most 13 times the time for ten times
-the text, and at most 200 bytes of memory a byte of text. A row that misses one of these says so. The two texts are run
-in turn, and the time of a text is the least of its runs, less that of a text of one jump. A run is ended after 60
-seconds of processor time or at 8 GB. The names of texts may be given, for these alone; without any, all are run.
+The second size is ten times the first, and the first is large enough that each takes 0.05 seconds or more. What is
+wanted: each text is accepted, at most 13 times the time for ten times the text, and at most 200 bytes of memory a byte
+of text. A row that misses one of these says so. The two texts are run in turn, and the time of a text is the least of
+its runs, less that of a text of one jump. A run is ended after 60 seconds of processor time or at 8 GB. The names of
+texts may be given, for these alone; without any, all are run.
 """
-import os
-import resource
-import subprocess
 import sys
-import tempfile
-from measure import folder, program
+from measure import LEAST_SECONDS, Run, folder, program
 
 SECONDS, BYTES = 60, 8 << 30
-MOST_TIMES, MOST_BYTES = 13, 200
-RUNS = 15
+MOST_TIMES, MOST_BYTES, MOST_TEXT = 13, 200, 50_000_000
+RUNS = 5
 HEAD = "tal 1\nL0: code[]{}.\n"
 
 
@@ -232,18 +229,10 @@ LARGER = [
 ]
 
 
-def limited():
-    resource.setrlimit(resource.RLIMIT_CPU, (SECONDS, SECONDS))
-    resource.setrlimit(resource.RLIMIT_AS, (BYTES, BYTES))
-
-
 def measured(words, wanted):
     """Processor seconds and peak bytes of one run, and whether its status is another than the one wanted."""
-    with tempfile.TemporaryFile() as out:
-        child = subprocess.Popen(words, stdout=out, stderr=out, preexec_fn=limited)
-        _, status, usage = os.wait4(child.pid, 0)
-        child.returncode = os.waitstatus_to_exitcode(status)
-    return usage.ru_utime + usage.ru_stime, usage.ru_maxrss * 1024, child.returncode != wanted
+    run = Run(words, SECONDS, BYTES)
+    return run.seconds, run.peak, run.status != wanted
 
 
 def least(commands, times=RUNS):
@@ -268,11 +257,12 @@ def put(path, text):
 def report(name, small, large, few, many, bases, why):
     """One line of figures of a text at two sizes, with what it misses, and why where that is known."""
     pairs = list(zip(few, many, bases))
-    times = [(b[0] - base[0]) / max(a[0] - base[0], 1e-4) for a, b, base in pairs]
+    times = [(b[0] - base[0]) / max(a[0] - base[0], 1e-6) for a, b, base in pairs]
     memory = max(max(0, b[1] - base[1]) / large for _, b, base in pairs)
     misses = [
         ("not accepted", any(a[2] or b[2] for a, b, _ in pairs)),
         ("slow", max(times) > MOST_TIMES * large / small / 10), ("large", memory > MOST_BYTES),
+        ("too short to say", min(a[0] - base[0] for a, _, base in pairs) < LEAST_SECONDS),
     ]
     wrong = [word for word, is_so in misses if is_so]
     print(
@@ -280,6 +270,17 @@ def report(name, small, large, few, many, bases, why):
         f"text, {times[0]:.1f} times the time to check, {times[1]:.1f} to load, {memory:.0f} bytes of memory a byte"
         f"{': ' + ', '.join(wrong) if wrong else ''}{f' ({why})' if wrong and why else ''}", flush=True,
     )
+
+
+def enough(talc, path, make, n, bases):
+    """A size, this or ten or a hundred times it, at which both commands take long enough, and ten times it is no larger
+    than texts may be."""
+    while 100 * put(path, make(n)) < MOST_TEXT:
+        runs = least(commands_of(talc, path), times=2)
+        if min(run[0] - base[0] for run, base in zip(runs, bases)) >= LEAST_SECONDS:
+            break
+        n *= 10
+    return n
 
 
 def main():
@@ -291,6 +292,7 @@ def main():
         print(f"a text of one jump: {bases[0][0]:.4f} s, {bases[0][1] / 1e6:.1f} MB")
         for make, n, why in [(*text, "") for text in TEXTS] + LARGER:
             if not chosen or make.__name__ in chosen:
+                n = enough(talc, paths[0], make, n, bases)
                 small, large = put(paths[0], make(n)), put(paths[1], make(10 * n))
                 runs = least(commands_of(talc, paths[0]) + commands_of(talc, paths[1]))
                 report(make.__name__, small, large, runs[:2], runs[2:], bases, why)

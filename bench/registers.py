@@ -1,17 +1,18 @@
 """The bound on registers: `talc compile --registers K`, with 8 and with 16, beside `talc compile`, as ratios.
 
-For each example and for thirty `let`s: instructions made, bytes of the text, instructions executed up to the end, and
-processor seconds of the compiler less those for the text `7`, without the option and as multiples of that with it. A
-text that is the same with the option as without says so; one with a register above the bound ends the script. Then the
-compiler's time on straight lines of sums, each twice as long as the one before it, with nine names in use from the
-first to the last, so that the option makes a frame for each sum: the time as a multiple of that of the half.
+For each example that is a program and for thirty `let`s: instructions made, bytes of the text, and instructions
+executed up to the end (wanted: at most 5 times with 8 registers, and 3 times with 16), without the option and as
+multiples of that with it. A text that is the same with the option as without says so; one with a register above the
+bound ends the script. Then the compiler's time, less that for the text `7`, on straight lines of sums, each twice as
+long as the one before it, with nine names in use from the first to the last, so that the option makes a frame for each
+sum: the time as a multiple of that of the half (wanted: at most 2.2). A row that misses says so.
 """
 import re
 import sys
-from measure import ROOT, Run, best, folder, program
+from measure import ROOT, Run, Spent, best, folder, program, ratio
 
 BOUNDS = [8, 16]
-MOST_STEPS = {8: 5, 16: 3}
+MOST_STEPS, MOST_TIMES = {8: 5, 16: 3}, 2.2
 FUEL = 1 << 24
 LINES = [2500, 5000, 10000, 20000]
 NAMES = [f"a{i}" for i in range(1, 10)]
@@ -25,9 +26,10 @@ def lets(value):
 
 
 def sources():
-    """The examples by name, and the rows of thirty `let`s."""
+    """The examples that are programs, by name, and the rows of thirty `let`s."""
     for path in sorted((ROOT / "examples").glob("*.f")):
-        yield path.name, path.read_text(encoding="ascii")
+        if path.name not in ("escape.f", "turn.f"):
+            yield path.name, path.read_text(encoding="ascii")
     yield "30 lets of numbers", lets(str)
     yield "30 lets of computed values", lets(lambda i: f"#1 <{i}>")
 
@@ -47,19 +49,17 @@ def executed(talc, target):
 
 
 class Made:
-    """What the compiler made of a source: its text, its size, its steps, and the time that it took."""
+    """What the compiler made of a source: its text, its size, and its steps."""
 
-    def __init__(self, talc, source, target, bound, times):
-        option = [] if bound is None else ["--registers", str(bound)]
-        run = best([talc, "compile", *option, source, target], times=times, wanted=(0, ""))
+    def __init__(self, words, target, bound):
+        best(words, times=1, wanted=(0, ""))
         with open(target, encoding="ascii") as file:
             self.text = file.read()
-        self.seconds = run.seconds
         self.bytes = len(self.text)
         self.instructions = sum(1 for line in self.text.splitlines() if re.match(r"[a-z]", line)) - 1
         top = max((int(r) for r in re.findall(r"\br([0-9]+)\b", self.text)), default=0)
         if bound is not None and top > bound:
-            sys.exit(f"{source}: register {top} within {bound}")
+            sys.exit(f"{' '.join(words)}: register {top}")
 
     def walked(self, talc, target):
         self.steps = executed(talc, target)
@@ -75,21 +75,21 @@ def main():
     with folder() as place:
         source, target = f"{place}/text.f", f"{place}/text.tal"
 
-        def made(text, bound, repeat=5):
+        def written(text, bound):
             with open(source, "w", encoding="ascii") as file:
                 file.write(text)
-            return Made(talc, source, target, bound, repeat)
+            return [talc, "compile", *([] if bound is None else ["--registers", str(bound)]), source, target]
 
-        base = made("7", None, 9).seconds
+        def made(text, bound):
+            return Made(written(text, bound), target, bound)
 
-        def spent(it):
-            return max(it.seconds - base, 1e-4)
+        base = best(written("7", None), times=20, wanted=(0, ""))
 
         for name, text in sources():
             plain = made(text, None).walked(talc, target)
             print(
                 f"{name}: {plain.instructions} instructions, {plain.bytes} bytes, "
-                f"{'no end' if plain.steps is None else plain.steps} steps, {spent(plain):.4f} s"
+                f"{'no end' if plain.steps is None else plain.steps} steps"
             )
             for bound in BOUNDS:
                 framed = made(text, bound).walked(talc, target)
@@ -101,19 +101,20 @@ def main():
                     f"  within {bound}: {times(framed.instructions, plain.instructions)} times the instructions, "
                     f"{times(framed.bytes, plain.bytes)} times the bytes, "
                     + ("no end" if more is None else f"{more:.1f} times the steps")
-                    + f", {times(spent(framed), spent(plain))} times the time"
-                    + (f": more than {MOST_STEPS[bound]}" if more is not None and more > MOST_STEPS[bound] else "")
+                    + f" (wanted: at most {MOST_STEPS[bound]})"
+                    + (": slow" if more is not None and more > MOST_STEPS[bound] else "")
                 )
         last = None
         for length in LINES:
             text = NINE + " + ".join(["1"] * length + NAMES)
-            plain, framed = made(text, None, 3), made(text, BOUNDS[0], 3)
+            framed = made(text, BOUNDS[0])
+            plain, spent = [Spent(written(text, bound), base, wanted=(0, "")) for bound in (None, BOUNDS[0])]
             print(
-                f"{length} ones added up: {spent(plain):.3f} s, within {BOUNDS[0]} {spent(framed):.3f} s, "
+                f"{length} ones added up: {plain.seconds:.3f} s, within {BOUNDS[0]} {spent.seconds:.3f} s, "
                 f"{framed.instructions} instructions"
-                + (f", as a multiple of the half {spent(framed) / last:.2f}" if last else "")
+                + (f", as a multiple of the half {ratio(spent, last, MOST_TIMES)}" if last else "")
             )
-            last = spent(framed)
+            last = spent
 
 
 main()

@@ -17,7 +17,7 @@ import re
 import shutil
 import sys
 from pathlib import Path
-from measure import ROOT, Run, Spent, best, folder, program, ratio
+from measure import ROOT, Run, Spent, best, folder, program, ratio, says_something
 
 
 def ones(n):
@@ -257,11 +257,12 @@ def main():
                 within, _ = timed(text, "--registers", str(bound))
                 small, more = Text(target), instructions(talc, target)
                 wrong = f": r{small.register} is above the bound" if small.register > bound else ""
+                times = f"{within.seconds / spent.seconds:.1f}" if says_something(within, spent) else "too short to say"
                 print(
                     f"{name} within {bound} registers: {more} instructions, {more / made:.1f} times; in the text "
                     f"{small.instructions}, up to r{small.register}, {small.bytes} bytes, "
                     f"{small.bytes / plain.bytes:.1f} times; "
-                    f"compiled in {within.seconds / spent.seconds:.1f} times{wrong}"
+                    f"times the time to compile: {times}{wrong}"
                 )
 
         for name, shape, in_ocaml, is_linear in [(*row, True) for row in LINEAR] + [(*row, False) for row in FASTER]:

@@ -1,5 +1,5 @@
 -- Names in scope, innermost first.
-use Rattle.std.specs.Prelude.{◌≡◌, ◌≢◌, ℕ, zero, suc, ◌≤◌, List, [], ◌∷◌, take, drop, Option, MatchOption}
+use Rattle.std.specs.Prelude.{◌≡◌, ◌≢◌, ℕ, zero, suc, List, [], ◌∷◌, Option, MatchOption}
 
 -- the bytes of a name
 abbrev pub Name : Type 0
@@ -19,13 +19,3 @@ IsAbsent name (n ∷ ns) = (name ≢ n) × IsAbsent name ns
 -- the first place of the name, or none exactly where it is not there
 abbrev pub FindsPlace : Name → List Name → Option ℕ → Type 0
 FindsPlace name names result = MatchOption result (IsAbsent name names) (λ i. IsPlace name names i)
-
--- the names that stand one after the other in the bytes, by their starts, the last first
-abbrev pub names_at : List ℕ → List ℕ → List Name
-names_at bytes [] = []
-names_at bytes (start ∷ starts) = drop start bytes ∷ names_at (take start bytes) starts
-
--- each start is at most the one before it, and the first at most the end
-abbrev pub InOrder : ℕ → List ℕ → Type 0
-InOrder end [] = Unit {0}
-InOrder end (start ∷ starts) = (start ≤ end) × InOrder start starts

@@ -1,30 +1,35 @@
-use Rattle.std.proofs.Common.{◌≡◌, ◌≢◌, ◌+◌, ◌-◌, ap, sym, ◌∙◌, arith, ℕ, List, take, drop, get_or}
-use Rattle.std.specs.Cmp.Lexicographic.{same_text, other_text}
-use Rattle.idx_core.proofs.Stacks.{next, found, placed_on, absent_on}
+use Rattle.std.proofs.Common.{◌≡◌, ◌<◌, ℕ, List, length, reverse, sym, ap, ◌∙◌, arith, subst}
+use Rattle.std.proofs.lemmas.List.{length-reverse}
+use Rattle.idx_core.specs.Names.{Name, IsPlace}
+use Rattle.idx_core.specs.Levels.{level_of}
+use Rattle.idx_core.specs.Bounds.{names_at}
+use Rattle.idx_core.specs.declared.names.Bound.{Bound}
+use Rattle.idx_core.proofs.Kept.{count_names}
+use Rattle.idx_core.proofs.Leveled.{absent_without_level, place_by_level, level_within}
 use Rattle.idx_core.proofs.names.Names.find.Goals as goal
 
-pub returns-then-eq : goal.returns-then-eq
-returns-then-eq c =
-    let bytes = c.self.inside.bytes.items in
-    let starts = c.self.inside.starts.items in
-    let start = c.index-start.result.now in
-    let is : start ≡ get_or starts (c.len-count.result - (c.loop-place.place + 1)) start = c.index-start.ensures ∙ ap (λ j. get_or starts j start) (omega arith) in
-    let ahead = next bytes starts c.loop-place.end start (c.len-count.result - c.loop-place.place) (c.len-count.result - (c.loop-place.place + 1)) (omega arith) (omega arith) is c.loop-place.invariant.order in
-    found c.args.name.now bytes starts c.loop-place.end start _ _ c.loop-place.place ahead c.args.self.now c.loop-place.invariant.placed
-    (sym (same_text _ _ c.if-eq.ensures) ∙ ap (λ (x : List ℕ). take (c.loop-place.end - start) (drop start x)) c.deref.ensures.value)
+-- there are as many names as are bound
+count : (bytes : List ℕ) (bs : List Bound) (ns : List Name) → names_at bytes (reverse bs) ≡ ns → length ns ≡ length bs
+count bytes bs ns e = ap length (sym e) ∙ count_names bytes (reverse bs) ∙ length-reverse bs
 
-pub loop-place-preserved : goal.loop-place-preserved
-loop-place-preserved c =
-    let bytes = c.self.inside.bytes.items in
-    let starts = c.self.inside.starts.items in
-    let start = c.index-start.result.now in
-    let is : start ≡ get_or starts (c.len-count.result - (c.loop-place.place + 1)) start = c.index-start.ensures ∙ ap (λ j. get_or starts j start) (omega arith) in
-    let ahead = next bytes starts c.loop-place.end start (c.len-count.result - c.loop-place.place) (c.len-count.result - (c.loop-place.place + 1)) (omega arith) (omega arith) is c.loop-place.invariant.order in
-    let other : c.args.name.now ≢ take (c.loop-place.end - start) (drop start bytes) =
-    λ h. other_text _ _ c.if-eq.ensures (ap (λ (x : List ℕ). take (c.loop-place.end - start) (drop start x)) c.deref.ensures.value ∙ sym h) in
-    record {
-      low = omega (arith, ahead.low, c.loop-place.invariant.low);
-      order = ahead.order;
-      placed = placed_on c.args.name.now bytes starts c.loop-place.end start _ _ c.loop-place.place ahead c.args.self.now c.loop-place.invariant.placed other;
-      absent = absent_on c.args.name.now bytes starts c.loop-place.end start _ _ c.args.self.now ahead c.loop-place.invariant.absent other;
-    }
+pub returns-then-level-eq0 : goal.returns-then-level-eq0
+returns-then-level-eq0 c =
+    let e = sym (c.self.invariant.1 c.args.name.now) ∙ sym c.level-level.ensures ∙ c.if-level-eq0.true in
+    absent_without_level c.args.name.now c.args.self.now (ap (level_of c.args.name.now) (sym c.self.view_is) ∙ e)
+
+pub overflow_sub-result : goal.overflow_sub-result
+overflow_sub-result c =
+    let e =
+    c.level-level.ensures ∙ c.self.invariant.1 c.args.name.now ∙ ap (level_of c.args.name.now) c.self.view_is in
+    let n = count c.self.inside.bytes.items c.self.inside.bound.items c.args.self.now c.self.view_is in
+    let w = level_within c.args.name.now c.args.self.now in
+    omega (arith, c.self.inside.bound.ok.0)
+
+pub returns : goal.returns
+returns c =
+    let e =
+    c.level-level.ensures ∙ c.self.invariant.1 c.args.name.now ∙ ap (level_of c.args.name.now) c.self.view_is in
+    let n = count c.self.inside.bytes.items c.self.inside.bound.items c.args.self.now c.self.view_is in
+    let some : 0 < level_of c.args.name.now c.args.self.now = omega (arith, c.if-level-eq0.false) in
+    subst (IsPlace c.args.name.now c.args.self.now) (omega (arith, c.self.inside.bound.ok.0))
+    (place_by_level c.args.name.now c.args.self.now some)

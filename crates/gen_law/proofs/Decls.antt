@@ -13,8 +13,8 @@ use Rattle.t_terms.specs.Tree.{TValue, TInstr, TSeq, Then, Ends}
 use Rattle.t_rules.specs.Registers.{with_reg}
 use Rattle.t_rules.specs.Machine.{Next}
 use Rattle.t_rules.specs.Erase.{EWord, EInt, EAddress, EEmpty, EHeap, ERegs, EAt, EStep, EGoes, ESeq, erase_seq, erase_value, base_word, on_full}
-use Rattle.gen_law.specs.Gen.{tys, place, small, unnest, settle, home, uses, uses_decl, used, over, free, owner, target, decl_code}
-use Rattle.gen_law.proofs.Free.{top_place, free_apart, free_fewer}
+use Rattle.gen_law.specs.Gen.{tys, place, small, unnest, settle, home, uses, uses_decl, used, over, free, owner, target, spare, decl_code}
+use Rattle.gen_law.proofs.Free.{top_place, free_apart, spare_apart}
 use Rattle.gen_law.proofs.Leads.{lstep, logged, Leads, leads_none, leads_on, leads_step}
 use Rattle.gen_law.proofs.Words.{word, slot, tuple, heap, tuple_empties, get_same, get_other, Agree, Stays, agree_kept, agree_stays, agree_fewer, agree_next}
 use Rattle.gen_law.proofs.Loads.{at, home_low, unnest_runs, settled_runs, named_runs}
@@ -72,14 +72,14 @@ module _ (B : List ESeq) (log : List ℕ) where
 
   module _ (ρ : ERegs) (m : List ℕ) (env : List AWord) (h : AHeap) (e : ATm) (rest : TSeq) where
     -- an instruction that ends a declaration, in a free register
-    ends : (x : ADecl) (σ : ERegs) (is : TSeq) (i : TInstr) (u : AWord) (h2 : AHeap) → Agree ρ m env (over m (used (Let x e))) (used (Let x e)) → Leads B (at (heap h) ρ is log) (at (heap h) σ (Then i rest) log) → Stays ρ σ m (λ n. used e (suc n)) → lstep B (at (heap h) σ (Then i rest) log) ≡ Some (at (heap h2) (with_reg σ (free m (λ n. used e (suc n))) (word u)) rest log) → Declares B log m (free m (λ n. used e (suc n))) e ρ env h is rest u h2
+    ends : (x : ADecl) (σ : ERegs) (is : TSeq) (i : TInstr) (u : AWord) (h2 : AHeap) → Agree ρ m env (over m (used (Let x e))) (used (Let x e)) → Leads B (at (heap h) ρ is log) (at (heap h) σ (Then i rest) log) → Stays ρ σ m (λ n. used e (suc n)) → lstep B (at (heap h) σ (Then i rest) log) ≡ Some (at (heap h2) (with_reg σ (free m (λ n. used e (suc n)) e) (word u)) rest log) → Declares B log m (free m (λ n. used e (suc n)) e) e ρ env h is rest u h2
     ends x σ is i u h2 agree to same s =
-        let r = free m (λ n. used e (suc n)) in
+        let r = free m (λ n. used e (suc n)) e in
         let last = with_reg σ r (word u) in
         record {
           regs = last;
           leads = leads_on B _ _ _ to (leads_step B _ _ s);
-          agree = agree_next ρ last m env (over m (used (Let x e))) (used (Let x e)) (used e) r u agree (λ n y. or_right (uses_decl x n) (used e (suc n)) y) (get_same σ r (word u)) (λ n y. get_other σ r (place m n) (word u) (λ z. absurd (free_apart m (λ n. used e (suc n)) n y z)) ∙ same n y);
+          agree = agree_next ρ last m env (over m (used (Let x e))) (used (Let x e)) (used e) r u agree (λ n y. or_right (uses_decl x n) (used e (suc n)) y) (get_same σ r (word u)) (λ n y. get_other σ r (place m n) (word u) (λ z. absurd (free_apart m (λ n. used e (suc n)) e n y z)) ∙ same n y);
         }
 
     -- the variables that the rest uses are below the spare registers
@@ -94,20 +94,20 @@ module _ (B : List ESeq) (log : List ℕ) where
         let u = used (Let (Value v) e) in
         let d = over m u in
         let few = agree_fewer ρ m env d u (uses v) (λ n y. or_left (uses v n) (used e (suc n)) y) agree in
-        let a = named_runs B (heap h) log v ρ m env d d (λ n. used e (suc n)) e w rest (omega arith) (below (Value v)) (free_fewer m u (λ n. used e (suc n)) (λ n y. or_right (uses v n) (used e (suc n)) y)) few x in
+        let a = named_runs B (heap h) log v ρ m env d d (λ n. used e (suc n)) e w rest (omega arith) (below (Value v)) few x in
         record { regs = a.regs; leads = a.leads; agree = agree_next ρ a.regs m env d u (used e) (owner m v (λ n. used e (suc n)) e) w agree (λ n y. or_right (uses v n) (used e (suc n)) y) a.here a.stays })
     decl_runs (Proj i v) agree = ok_address m _ e ρ env h _ rest (value env v) _ (λ a x. ok_field m _ e ρ env h _ rest i _ (λ j z. ok_given m _ e ρ env h _ rest (slice_get h a) _ (λ t y. ok_given m _ e ρ env h _ rest (slice_get t j) _ (λ f u. ok_given m _ e ρ env h _ rest f _ (λ w p.
         let d = over m (used (Let (Proj i v) e)) in
-        let r = free m (λ n. used e (suc n)) in
+        let r = free m (λ n. used e (suc n)) e in
         let s = field_at a j t f y u in
         let n : j ≡ i - 1 = omega arith in
         let there = subst (λ k. slice_get (tuple t) k ≡ Some (word w)) n (s.1 ∙ ap (λ o. Some (slot o)) p) in
         let few = agree_fewer ρ m env d (used (Let (Proj i v) e)) (uses v) (λ n y. or_left (uses v n) (used e (suc n)) y) agree in
         let g = settled_runs B (heap h) log v ρ m env d r (ZTuple a) (Then (T.Ld r (home r (small r m v)) (i - 1)) rest) few x in
-        ends (Proj i v) g.regs _ (T.Ld r (home r (small r m v)) (i - 1)) w h agree g.leads (λ n y. g.others (place m n) (λ z. absurd (free_apart m (λ n. used e (suc n)) n y z))) (ld_step (heap h) g.regs rest r (home r (small r m v)) (i - 1) a (tuple t) w g.here s.0 there))))))
+        ends (Proj i v) g.regs _ (T.Ld r (home r (small r m v)) (i - 1)) w h agree g.leads (λ n y. g.others (place m n) (λ z. absurd (free_apart m (λ n. used e (suc n)) e n y z))) (ld_step (heap h) g.regs rest r (home r (small r m v)) (i - 1) a (tuple t) w g.here s.0 there))))))
     decl_runs (Arith o v v2) agree = ok_number m _ e ρ env h _ rest (value env v) _ (λ a x. ok_number m _ e ρ env h _ rest (value env v2) _ (λ b y.
         let d = over m (used (Let (Arith o v v2) e)) in
-        let r = free m (λ n. used e (suc n)) in
+        let r = free m (λ n. used e (suc n)) e in
         let first = home d (small d m v) in
         let last = T.Arith o r first (small (suc d) m v2) in
         let few = agree_fewer ρ m env d (used (Let (Arith o v v2) e)) (uses v) (λ n y. or_left (uses v n || uses v2 n) (used e (suc n)) (or_left (uses v n) (uses v2 n) y)) agree in
@@ -118,12 +118,12 @@ module _ (B : List ESeq) (log : List ℕ) where
         ends (Arith o v v2) k.regs _ last (ZInt (compute o a b)) h agree (leads_on B _ _ _ g.leads k.leads) (λ n y. (let lt = below (Arith o v v2) n y in k.others (place m n) (λ z. absurd (omega (arith, lt))) ∙ g.others (place m n) (λ z. absurd (omega (arith, lt))))) (arith_step (heap h) k.regs rest o r first (small (suc d) m v2) a b (k.others first (λ z. absurd (omega (arith, low))) ∙ g.here) k.here)))
     decl_runs (Unpack v) agree = ok_given m _ e ρ env h _ rest (value env v) _ (λ w x.
         let d = over m (used (Let (Unpack v) e)) in
-        let r = free m (λ n. used e (suc n)) in
+        let r = free m (λ n. used e (suc n)) e in
         let few = agree_fewer ρ m env d (used (Let (Unpack v) e)) (uses v) (λ n y. or_left (uses v n) (used e (suc n)) y) agree in
         let g = unnest_runs B (heap h) log v ρ m env d r w (Then (T.Unpack r (small r m v)) rest) few x in
-        ends (Unpack v) g.regs _ (T.Unpack r (small r m v)) w h agree g.leads (λ n y. g.others (place m n) (λ z. absurd (free_apart m (λ n. used e (suc n)) n y z))) (unpack_step (heap h) g.regs rest r (small r m v) (word w) g.here))
+        ends (Unpack v) g.regs _ (T.Unpack r (small r m v)) w h agree g.leads (λ n y. g.others (place m n) (λ z. absurd (free_apart m (λ n. used e (suc n)) e n y z))) (unpack_step (heap h) g.regs rest r (small r m v) (word w) g.here))
     decl_runs (Malloc ts) agree =
-        let d = free m (λ n. used e (suc n)) in
+        let d = free m (λ n. used e (suc n)) e in
         let h2 = h ++ empties ts ∷ [] in
         let grown : heap h ++ replicate (length (tys ts)) EEmpty ∷ [] ≡ heap h2 = ap (λ t. heap h ++ t ∷ []) (sym (tuple_empties ts)) ∙ sym (map-append tuple h (empties ts ∷ [])) in
         let place : EAddress (length (heap h)) ≡ EAddress (length h) = ap EAddress (length-map h tuple) in
@@ -140,16 +140,17 @@ module _ (B : List ESeq) (log : List ℕ) where
         let new : slice_set (heap h) a (slice_set (tuple t) (i - 1) (word w)) ≡ heap (slice_set h a (slice_set t j (Some w))) =
         ap (λ k. slice_set (heap h) a (slice_set (tuple t) k (word w))) (sym n) ∙ ap (λ l. slice_set (heap h) a l) (sym (map-set slot t j (Some w))) ∙ sym (map-set tuple h a (slice_set t j (Some w))) in
         let r = owner m v (λ n. uses v2 n || used e (suc n)) e in
-        let last = T.St r (i - 1) (home (suc d) (small (suc d) m v2)) in
+        let c = spare r d in
+        let own = spare_apart r d in
+        let last = T.St r (i - 1) (home c (small c m v2)) in
         let few = agree_fewer ρ m env d (used (Let (Init v i v2) e)) (uses v) (λ n y. or_left (uses v n || uses v2 n) (used e (suc n)) (or_left (uses v n) (uses v2 n) y)) agree in
         let few2 = agree_fewer ρ m env d (used (Let (Init v i v2) e)) (uses v2) (λ n y. or_left (uses v n || uses v2 n) (used e (suc n)) (or_right (uses v n) (uses v2 n) y)) agree in
-        let g = named_runs B (heap h) log v ρ m env d (suc d) (λ n. uses v2 n || used e (suc n)) e (ZTuple a) (unnest (suc d) m v2 (settle (suc d) (small (suc d) m v2) (Then last rest))) (omega arith) far (free_fewer m all (λ n. uses v2 n || used e (suc n)) more) few x in
-        let k = settled_runs B (heap h) log v2 g.regs m env d (suc d) w (Then last rest) (agree_stays ρ g.regs m env d (uses v2) (λ n y. g.stays n (or_left (uses v2 n) (used e (suc n)) y)) few2) y in
-        let low = g.low in
-        let there : k.regs r ≡ Some (EAddress a) = k.others r (λ z. absurd (omega arith)) ∙ g.here in
-        let st = st_step (heap h) k.regs rest r (home (suc d) (small (suc d) m v2)) (i - 1) a (tuple t) (word w) there k.here s.0 within ∙ ap (λ l. Some (at l k.regs rest log)) new in
+        let g = named_runs B (heap h) log v ρ m env d c (λ n. uses v2 n || used e (suc n)) e (ZTuple a) (unnest c m v2 (settle c (small c m v2) (Then last rest))) own.0 far few x in
+        let k = settled_runs B (heap h) log v2 g.regs m env d c w (Then last rest) (agree_stays ρ g.regs m env d (uses v2) (λ n y. g.stays n (or_left (uses v2 n) (used e (suc n)) y)) few2) y in
+        let there : k.regs r ≡ Some (EAddress a) = k.others r own.2 ∙ g.here in
+        let st = st_step (heap h) k.regs rest r (home c (small c m v2)) (i - 1) a (tuple t) (word w) there k.here s.0 within ∙ ap (λ l. Some (at l k.regs rest log)) new in
         record {
           regs = k.regs;
           leads = leads_on B _ _ _ g.leads (leads_on B _ _ _ k.leads (leads_step B _ _ st));
-          agree = agree_next ρ k.regs m env d (used (Let (Init v i v2) e)) (used e) r (ZTuple a) agree (λ n y. or_right (uses v n || uses v2 n) (used e (suc n)) y) there (λ n y. (let t = far n (or_right (uses v2 n) (used e (suc n)) y) in k.others (place m n) (λ z. absurd (omega (arith, t))) ∙ g.stays n (or_right (uses v2 n) (used e (suc n)) y)));
+          agree = agree_next ρ k.regs m env d (used (Let (Init v i v2) e)) (used e) r (ZTuple a) agree (λ n y. or_right (uses v n || uses v2 n) (used e (suc n)) y) there (λ n y. (let t = far n (or_right (uses v2 n) (used e (suc n)) y) in k.others (place m n) (λ z. absurd (omega (arith, t, own.0))) ∙ g.stays n (or_right (uses v2 n) (used e (suc n)) y)));
         })))))

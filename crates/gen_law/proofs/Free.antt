@@ -1,8 +1,9 @@
 -- Registers above those that are used, and free ones.
 use Rattle.std.proofs.Common.{◌≡◌, ℕ, zero, suc, ◌+◌, ◌<◌, ◌≤◌, List, [], ◌∷◌, sym, ◌∙◌, arith, cond, ⊎_elim}
-use Rattle.std.specs.Prelude.{◌==◌, nat_lt, Bool, true, false, ◌&&◌}
-use Rattle.std.proofs.lemmas.Bool.{eq-eqb, ltb-true, ltb-false, cond_both, or_left, or_right, and_from, and_parts, and_cases}
-use Rattle.gen_law.specs.Gen.{place, top, over, busy, first_free, free}
+use Rattle.std.specs.Prelude.{◌==◌, nat_lt, Bool, true, false, ◌&&◌, not, length}
+use Rattle.std.proofs.lemmas.Bool.{eq-eqb, eqb-true, ltb-true, ltb-false, cond_both, or_left, or_right, or_cases, and_from, and_parts, and_cases, not-true}
+use Rattle.a_terms.specs.Tree.{AVal, ATm, Let, Call, If0, Halt}
+use Rattle.gen_law.specs.Gen.{place, top, busy, first_free, names, argument, wanted, arguments, picked, free, spare}
 
 clash : true ≡ false → ⊥
 clash y = cc
@@ -45,29 +46,79 @@ busy_place r [] u n le y e = absurd (omega (arith, e))
 busy_place r (q ∷ m) u zero le y e = or_left (u 0 && q == r) (busy r m (λ n. u (suc n))) (and_from (u 0) (q == r) y (eq-eqb q r e))
 busy_place r (q ∷ m) u (suc n) le y e = or_right (u 0 && q == r) (busy r m (λ n. u (suc n))) (busy_place r m (λ n. u (suc n)) n le y e)
 
-first_least : (n r : ℕ) (m : List ℕ) (u : ℕ → Bool) → (r ≤ first_free n r m u) × (first_free n r m u ≤ r + n)
-first_least zero r m u = (omega arith, omega arith)
-first_least (suc n) r m u =
-    cond_both (busy r m u) (first_free n (suc r) m u) r (λ x. (r ≤ x) × (x ≤ r + suc n))
-    (λ e. let s = first_least n (suc r) m u in (omega (arith, s.0), omega (arith, s.1)))
-    (λ e. (omega arith, omega arith))
+-- and one that is found is that of a variable that is used
+pub busy_found : (r : ℕ) (m : List ℕ) (u : ℕ → Bool) → busy r m u ≡ true → (n : ℕ) × (u n ≡ true) × (place m n ≡ r)
+busy_found r [] u e = absurd (clash (sym e))
+busy_found r (q ∷ m) u e = ⊎_elim
+    (λ x. let p = and_parts (u 0) (q == r) x in (0, p.0, eqb-true q r p.1))
+    (λ x. let p = busy_found r m (λ n. u (suc n)) x in (suc p.0, p.1, p.2))
+    (or_cases (u 0 && q == r) (busy r m (λ n. u (suc n))) e)
 
-first_apart : (n r : ℕ) (m : List ℕ) (u : ℕ → Bool) (i : ℕ) → 1 ≤ r → top 0 m u < r + n → u i ≡ true → place m i ≡ first_free n r m u → ⊥
+pub first_low : (n r : ℕ) (m : List ℕ) (u : ℕ → Bool) → r ≤ first_free n r m u
+first_low zero r m u = omega arith
+first_low (suc n) r m u =
+    cond_both (busy r m u) (first_free n (suc r) m u) r (λ x. r ≤ x)
+    (λ e. let s = first_low n (suc r) m u in omega (arith, s)) (λ e. omega arith)
+
+-- the first one that holds none is above all by one at most, or where the search begins
+first_within : (n r k : ℕ) (m : List ℕ) (u : ℕ → Bool) → top 0 m u < k → r ≤ k → first_free n r m u ≤ k
+first_within zero r k m u lt le = le
+first_within (suc n) r k m u lt le =
+    cond_both (busy r m u) (first_free n (suc r) m u) r (λ x. x ≤ k)
+    (λ e.
+    let p = busy_found r m u e in
+    let t = top_place 0 m u p.0 p.1 in
+    first_within n (suc r) k m u lt (omega (arith, lt, t, p.2)))
+    (λ e. le)
+
+pub first_apart : (n r : ℕ) (m : List ℕ) (u : ℕ → Bool) (i : ℕ) → 1 ≤ r → top 0 m u < r + n → u i ≡ true → place m i ≡ first_free n r m u → ⊥
 first_apart zero r m u i le lt y e = let t = top_place 0 m u i y in absurd (omega (arith, t, e))
 first_apart (suc n) r m u i le lt y e =
     cond_both (busy r m u) (first_free n (suc r) m u) r (λ x. place m i ≡ x → ⊥)
     (λ c z. first_apart n (suc r) m u i (omega arith) (omega arith) y z)
     (λ c z. clash (sym (busy_place r m u i le y z) ∙ c)) e
 
-pub free_apart : (m : List ℕ) (u : ℕ → Bool) (i : ℕ) → u i ≡ true → place m i ≡ free m u → ⊥
-free_apart m u i y e = first_apart (top 0 m u) 1 m u i (omega arith) (omega arith) y e
+picked_apart : (h s : ℕ) (m : List ℕ) (u : ℕ → Bool) (i : ℕ) → 1 ≤ s → u i ≡ true → place m i ≡ picked h s m u → ⊥
+picked_apart h s m u i le y e =
+    cond_both (nat_lt 0 h && not (busy h m u)) h (first_free (top 0 m u) s m u) (λ x. place m i ≡ x → ⊥)
+    (λ c z.
+    let p = and_parts (nat_lt 0 h) (not (busy h m u)) c in
+    let one = ltb-true 0 h p.0 in
+    clash (sym (busy_place h m u i (omega (arith, one)) y z) ∙ not-true (busy h m u) p.1))
+    (λ c z. first_apart (top 0 m u) s m u i le (omega (arith, le)) y z) e
 
-pub free_least : (m : List ℕ) (u : ℕ → Bool) → (1 ≤ free m u) × (free m u ≤ over m u)
-free_least m u = let f = first_least (top 0 m u) 1 m u in (f.0, omega (arith, f.1))
+-- the register of a new variable is no other's that is used
+pub free_apart : (m : List ℕ) (u : ℕ → Bool) (e : ATm) (i : ℕ) → u i ≡ true → place m i ≡ free m u e → ⊥
+free_apart m u e i y z = picked_apart (wanted e 0) (suc (arguments e)) m u i (omega arith) y z
 
--- no greater than that of more
-pub free_fewer : (m : List ℕ) (u v : ℕ → Bool) → ((n : ℕ) → v n ≡ true → u n ≡ true) → free m v < suc (over m u)
-free_fewer m u v k =
-    let f = free_least m v in
-    let t = top_fewer 0 0 m u v k (omega arith) in
-    omega (arith, f.1, t)
+picked_within : (h s k : ℕ) (m : List ℕ) (u : ℕ → Bool) → 1 ≤ s → top 0 m u < k → h ≤ k → s ≤ k → (1 ≤ picked h s m u) × (picked h s m u ≤ k)
+picked_within h s k m u one lt hk sk =
+    cond_both (nat_lt 0 h && not (busy h m u)) h (first_free (top 0 m u) s m u) (λ x. (1 ≤ x) × (x ≤ k))
+    (λ c. let l = ltb-true 0 h (and_parts (nat_lt 0 h) (not (busy h m u)) c).0 in (omega (arith, l), hk))
+    (λ c. let f = first_low (top 0 m u) s m u in (omega (arith, one, f), first_within (top 0 m u) s k m u lt sk))
+
+argument_within : (j : ℕ) (vs : List AVal) (n : ℕ) → argument j vs n < suc (j + length vs)
+argument_within j [] n = omega arith
+argument_within j (v ∷ vs) n =
+    cond_both (names v n) j (argument (suc j) vs n) (λ x. x < suc (j + suc (length vs)))
+    (λ c. omega arith) (λ c. let r = argument_within (suc j) vs n in omega (arith, r))
+
+-- the end wants a variable in the register of one of its arguments, or in the first one
+wanted_within : (e : ATm) (n : ℕ) → wanted e n ≤ suc (arguments e)
+wanted_within (Let x e) n = wanted_within e (suc n)
+wanted_within (Call v ts vs) n = let r = argument_within 1 vs n in omega (arith, r)
+wanted_within (If0 v a b) n = wanted_within a n
+wanted_within (Halt v) n = cond_both (names v n) 1 0 (λ x. x ≤ 1) (λ c. omega arith) (λ c. omega arith)
+
+-- it is above all that are used, or above the arguments of the end, by one at most
+pub free_within : (k : ℕ) (m : List ℕ) (u : ℕ → Bool) (e : ATm) → top 0 m u < k → arguments e < k → (1 ≤ free m u e) × (free m u e ≤ k)
+free_within k m u e lt more =
+    let w = wanted_within e 0 in
+    picked_within (wanted e 0) (suc (arguments e)) k m u (omega arith) lt (omega (arith, w, more)) (omega (arith, more))
+
+-- a spare register is the given one or the next, and not r
+pub spare_apart : (r t : ℕ) → (t ≤ spare r t) × (spare r t ≤ suc t) × (r ≡ spare r t → ⊥)
+spare_apart r t =
+    cond_both (r == t) (suc t) t (λ s. (t ≤ s) × (s ≤ suc t) × (r ≡ s → ⊥))
+    (λ c. let same = eqb-true r t c in (omega arith, omega arith, λ z. absurd (omega (arith, same, z))))
+    (λ c. (omega arith, omega arith, λ z. clash (sym (eq-eqb r t z) ∙ c)))

@@ -127,35 +127,34 @@ home_low (Apply v ts) ρ m env b t w a x le =
 home_low (Pack p v s) ρ m env b t w a x le = omega arith
 
 -- a value in the register that is its new name's, where the variables that u tells stay
-pub record Names (B : List ESeq) (h : EHeap) (log : List ℕ) (ρ : ERegs) (is rest : TSeq) (m : List ℕ) (b : ℕ) (u : ℕ → Bool) (r : ℕ) (w : EWord) : Type 0 where
+pub record Names (B : List ESeq) (h : EHeap) (log : List ℕ) (ρ : ERegs) (is rest : TSeq) (m : List ℕ) (u : ℕ → Bool) (r : ℕ) (w : EWord) : Type 0 where
   pub regs : ERegs
   pub leads : Leads B (at h ρ is log) (at h regs rest log)
   pub here : regs r ≡ Some w
-  pub low : r < suc b
   pub stays : Stays ρ regs m u
 
 -- to put a variable into its own register changes none
-owner_kept : (v : AVal) (w : AWord) (ρ σ : ERegs) (m : List ℕ) (env : List AWord) (b : ℕ) (u : ℕ → Bool) (e : ATm) → free m u < suc b → Agree ρ m env b (uses v) → value env v ≡ Some w → σ (owner m v u e) ≡ Some (word w) → ((q : ℕ) → q ≢ owner m v u e → σ q ≡ ρ q) → (owner m v u e < suc b) × Stays ρ σ m u
-owner_kept (Var n) w ρ σ m env b u e lt a x here o =
-    cond_both (used e (suc n) && used e 0) (free m u) (place m n) (λ r. σ r ≡ Some (word w) → ((q : ℕ) → q ≢ r → σ q ≡ ρ q) → (r < suc b) × Stays ρ σ m u)
-    (λ c at_r o2. (lt, λ i y. o2 (place m i) (λ z. absurd (free_apart m u i y z))))
-    (λ c at_r o2.
+owner_kept : (v : AVal) (w : AWord) (ρ σ : ERegs) (m : List ℕ) (env : List AWord) (b : ℕ) (u : ℕ → Bool) (e : ATm) → Agree ρ m env b (uses v) → value env v ≡ Some w → σ (owner m v u e) ≡ Some (word w) → ((q : ℕ) → q ≢ owner m v u e → σ q ≡ ρ q) → Stays ρ σ m u
+owner_kept (Var n) w ρ σ m env b u e a x here o =
+    cond_both (used e (suc n) && used e 0) (free m u e) (place m n) (λ r. σ r ≡ Some (word w) → ((q : ℕ) → q ≢ r → σ q ≡ ρ q) → Stays ρ σ m u)
+    (λ c at_r o2 i y. o2 (place m i) (λ z. absurd (free_apart m u e i y z)))
+    (λ c at_r o2 i y.
     let own = a n w (eq-eqb n n refl) x in
-    (omega (arith, own.1), λ i y. ⊎_elim (λ z. ap σ z ∙ at_r ∙ sym own.0 ∙ ap ρ (sym z)) (λ ne. o2 (place m i) ne) (cases_eq (place m i) (place m n)))) here o
-owner_kept (Num i) w ρ σ m env b u e lt a x here o = (lt, λ i y. o (place m i) (λ z. absurd (free_apart m u i y z)))
-owner_kept (Lab l) w ρ σ m env b u e lt a x here o = (lt, λ i y. o (place m i) (λ z. absurd (free_apart m u i y z)))
-owner_kept (Data l) w ρ σ m env b u e lt a x here o = (lt, λ i y. o (place m i) (λ z. absurd (free_apart m u i y z)))
-owner_kept (Apply v ts) w ρ σ m env b u e lt a x here o = (lt, λ i y. o (place m i) (λ z. absurd (free_apart m u i y z)))
-owner_kept (Pack p v s) w ρ σ m env b u e lt a x here o = (lt, λ i y. o (place m i) (λ z. absurd (free_apart m u i y z)))
+    ⊎_elim (λ z. ap σ z ∙ at_r ∙ sym own.0 ∙ ap ρ (sym z)) (λ ne. o2 (place m i) ne) (cases_eq (place m i) (place m n))) here o
+owner_kept (Num i) w ρ σ m env b u e a x here o = λ i y. o (place m i) (λ z. absurd (free_apart m u e i y z))
+owner_kept (Lab l) w ρ σ m env b u e a x here o = λ i y. o (place m i) (λ z. absurd (free_apart m u e i y z))
+owner_kept (Data l) w ρ σ m env b u e a x here o = λ i y. o (place m i) (λ z. absurd (free_apart m u e i y z))
+owner_kept (Apply v ts) w ρ σ m env b u e a x here o = λ i y. o (place m i) (λ z. absurd (free_apart m u e i y z))
+owner_kept (Pack p v s) w ρ σ m env b u e a x here o = λ i y. o (place m i) (λ z. absurd (free_apart m u e i y z))
 
-pub named_runs : (B : List ESeq) (h : EHeap) (log : List ℕ) (v : AVal) (ρ : ERegs) (m : List ℕ) (env : List AWord) (b t : ℕ) (u : ℕ → Bool) (e : ATm) (w : AWord) (rest : TSeq) → b ≤ t → ((n : ℕ) → u n ≡ true → place m n < b) → free m u < suc b → Agree ρ m env b (uses v) → value env v ≡ Some w → Names B h log ρ (unnest t m v (move (owner m v u e) (small t m v) rest)) rest m b u (owner m v u e) (word w)
-named_runs B h log v ρ m env b t u e w rest le far lt a x =
+pub named_runs : (B : List ESeq) (h : EHeap) (log : List ℕ) (v : AVal) (ρ : ERegs) (m : List ℕ) (env : List AWord) (b t : ℕ) (u : ℕ → Bool) (e : ATm) (w : AWord) (rest : TSeq) → b ≤ t → ((n : ℕ) → u n ≡ true → place m n < b) → Agree ρ m env b (uses v) → value env v ≡ Some w → Names B h log ρ (unnest t m v (move (owner m v u e) (small t m v) rest)) rest m u (owner m v u e) (word w)
+named_runs B h log v ρ m env b t u e w rest le far a x =
     let r = owner m v u e in
     let c = unnest_runs B h log v ρ m env b t w (move r (small t m v) rest) a x in
     let d = move_runs B h log c.regs r (small t m v) (word w) rest c.here in
     let same : (q : ℕ) → q < b → c.regs q ≡ ρ q = λ q l. c.others q (λ z. absurd (omega arith)) in
-    let k = owner_kept v w c.regs d.regs m env b u e lt (agree_kept ρ c.regs m env b (uses v) same a) x d.here d.others in
-    record { regs = d.regs; leads = leads_on B _ _ _ c.leads d.leads; here = d.here; low = k.0; stays = λ n y. k.1 n y ∙ same (place m n) (far n y) }
+    let k = owner_kept v w c.regs d.regs m env b u e (agree_kept ρ c.regs m env b (uses v) same a) x d.here d.others in
+    record { regs = d.regs; leads = leads_on B _ _ _ c.leads d.leads; here = d.here; stays = λ n y. k n y ∙ same (place m n) (far n y) }
 
 -- the value of a register that is read
 reads_word : (v : AVal) (r b : ℕ) (ρ : ERegs) (m : List ℕ) (env : List AWord) (w : AWord) → Agree ρ m env b (uses v) → value env v ≡ Some w → reads r m v ≡ true → ρ r ≡ Some (word w)

@@ -2,12 +2,12 @@
 -- (the same as `Apart`, for programs that may have no types), and the free register and the greatest one in use by what
 -- registers are held.
 use Rattle.std.proofs.Common.{◌≡◌, ℕ, zero, suc, ◌<◌, ◌≤◌, List, [], ◌∷◌, refl, sym, ap, ◌∙◌, arith, ⊎_elim, ◌⊎◌, inl, inr}
-use Rattle.std.specs.Prelude.{Bool, true, false, ◌&&◌, ◌||◌, ◌==◌, nat_lt}
-use Rattle.std.proofs.lemmas.Bool.{eq-eqb, eqb-true, cond_both, cases_order, or_left, or_right, or_cases, and_from, and_parts}
+use Rattle.std.specs.Prelude.{Bool, true, false, ◌&&◌, ◌||◌, ◌==◌, nat_lt, not}
+use Rattle.std.proofs.lemmas.Bool.{eq-eqb, cond_both, cases_order, or_left, or_right, and_from, and_parts}
 use Rattle.a_terms.specs.Tree.{AVal, Var, Num, Lab, Data, Apply, Pack, ADecl, Value, Proj, Arith, Unpack, Malloc, Init, ATm, Let}
-use Rattle.gen_law.specs.Gen.{place, uses, uses_decl, used, top, busy, first_free, free, owner, target}
+use Rattle.gen_law.specs.Gen.{place, uses, uses_decl, used, top, busy, first_free, picked, free, owner, target}
 use Rattle.gen_law.specs.Registers.{Own}
-use Rattle.gen_law.proofs.Free.{top_place, top_least, free_apart, free_least}
+use Rattle.gen_law.proofs.Free.{top_place, top_least, busy_found, first_low, first_apart, free_apart}
 
 pub own_fewer : (m : List ℕ) (u v : ℕ → Bool) → ((n : ℕ) → v n ≡ true → u n ≡ true) → Own m u → Own m v
 own_fewer m u v k o = λ i j x y. o i j (k i x) (k j y)
@@ -26,19 +26,19 @@ not_both y = cc
 
 own_owner : (v : AVal) (m : List ℕ) (w : ℕ → Bool) (e : ATm) (u : ℕ → Bool) → Own m u → ((n : ℕ) → used e (suc n) ≡ true → u n ≡ true) → ((n : ℕ) → uses v n ≡ true → u n ≡ true) → ((n : ℕ) → used e (suc n) ≡ true → w n ≡ true) → (j : ℕ) → used e 0 ≡ true → used e (suc j) ≡ true → 1 ≤ owner m v w e → owner m v w e ≡ place m j → ⊥
 own_owner (Var n) m w e u o k l kw =
-    cond_both (used e (suc n) && used e 0) (free m w) (place m n) (λ r. (j : ℕ) → used e 0 ≡ true → used e (suc j) ≡ true → 1 ≤ r → r ≡ place m j → ⊥)
-    (λ c j y z one q. free_apart m w j (kw j z) (sym q))
+    cond_both (used e (suc n) && used e 0) (free m w e) (place m n) (λ r. (j : ℕ) → used e 0 ≡ true → used e (suc j) ≡ true → 1 ≤ r → r ≡ place m j → ⊥)
+    (λ c j y z one q. free_apart m w e j (kw j z) (sym q))
     (λ c j y z one q.
     let same : n ≡ j = o n j (l n (eq-eqb n n refl)) (k j z) one q in
     not_both (sym (and_from (used e (suc n)) (used e 0) (ap (λ i. used e (suc i)) same ∙ z) y) ∙ c))
-own_owner (Num i) m w e u o k l kw = λ j y z one q. free_apart m w j (kw j z) (sym q)
-own_owner (Lab i) m w e u o k l kw = λ j y z one q. free_apart m w j (kw j z) (sym q)
-own_owner (Data i) m w e u o k l kw = λ j y z one q. free_apart m w j (kw j z) (sym q)
-own_owner (Apply v ts) m w e u o k l kw = λ j y z one q. free_apart m w j (kw j z) (sym q)
-own_owner (Pack h v s) m w e u o k l kw = λ j y z one q. free_apart m w j (kw j z) (sym q)
+own_owner (Num i) m w e u o k l kw = λ j y z one q. free_apart m w e j (kw j z) (sym q)
+own_owner (Lab i) m w e u o k l kw = λ j y z one q. free_apart m w e j (kw j z) (sym q)
+own_owner (Data i) m w e u o k l kw = λ j y z one q. free_apart m w e j (kw j z) (sym q)
+own_owner (Apply v ts) m w e u o k l kw = λ j y z one q. free_apart m w e j (kw j z) (sym q)
+own_owner (Pack h v s) m w e u o k l kw = λ j y z one q. free_apart m w e j (kw j z) (sym q)
 
-own_free : (m : List ℕ) (e : ATm) (u : ℕ → Bool) → Own m u → ((n : ℕ) → used e (suc n) ≡ true → u n ≡ true) → Own (free m (λ n. used e (suc n)) ∷ m) (used e)
-own_free m e u o k = own_push m u (used e) (free m (λ n. used e (suc n))) o k (λ j y z one q. free_apart m (λ n. used e (suc n)) j z (sym q))
+own_free : (m : List ℕ) (e : ATm) (u : ℕ → Bool) → Own m u → ((n : ℕ) → used e (suc n) ≡ true → u n ≡ true) → Own (free m (λ n. used e (suc n)) e ∷ m) (used e)
+own_free m e u o k = own_push m u (used e) (free m (λ n. used e (suc n)) e) o k (λ j y z one q. free_apart m (λ n. used e (suc n)) e j z (sym q))
 
 pub own_next : (x : ADecl) (e : ATm) (m : List ℕ) → Own m (used (Let x e)) → Own (target m x e ∷ m) (used e)
 own_next (Value v) e m o =
@@ -54,17 +54,6 @@ own_next (Arith p v w) e m o = own_free m e (used (Let (Arith p v w) e)) o (λ n
 own_next (Unpack v) e m o = own_free m e (used (Let (Unpack v) e)) o (λ n y. or_right (uses_decl (Unpack v) n) (used e (suc n)) y)
 own_next (Malloc ts) e m o = own_free m e (used (Let (Malloc ts) e)) o (λ n y. y)
 
--- a register that is found holds a variable that is used
-pub busy_found : (r : ℕ) (m : List ℕ) (u : ℕ → Bool) → busy r m u ≡ true → (n : ℕ) × (u n ≡ true) × (place m n ≡ r)
-busy_found r [] u e = absurd (not_both (sym e))
-busy_found r (q ∷ m) u e = ⊎_elim
-    (λ x. let p = and_parts (u 0) (q == r) x in (0, p.0, eqb-true q r p.1))
-    (λ x. let p = busy_found r m (λ n. u (suc n)) x in (suc p.0, p.1, p.2))
-    (or_cases (u 0 && q == r) (busy r m (λ n. u (suc n))) e)
-
-free_none : (m : List ℕ) (u : ℕ → Bool) → busy (free m u) m u ≡ true → ⊥
-free_none m u e = let p = busy_found (free m u) m u e in free_apart m u p.0 p.1 p.2
-
 first_busy : (n r q : ℕ) (m : List ℕ) (u : ℕ → Bool) → r ≤ q → q < first_free n r m u → busy q m u ≡ true
 first_busy zero r q m u le lt = absurd (omega arith)
 first_busy (suc n) r q m u le lt =
@@ -72,13 +61,27 @@ first_busy (suc n) r q m u le lt =
     (λ c l. ⊎_elim (λ (e : q ≡ r). ap (λ z. busy z m u) e ∙ c) (λ ne. ⊎_elim (λ (z : q < r). absurd (omega arith)) (λ (z : r < q). first_busy n (suc r) q m u (omega arith) l) ne) (cases_order q r))
     (λ c l. absurd (omega arith)) lt
 
--- the least register that is not held is the free one
-pub free_is : (m : List ℕ) (u : ℕ → Bool) (f : ℕ) → 1 ≤ f → busy f m u ≡ false → ((r : ℕ) → 1 ≤ r → r < f → busy r m u ≡ true) → f ≡ free m u
-free_is m u f one none less = ⊎_elim (λ (e : f ≡ free m u). e)
+-- the least register from s on that is not held is the first free one
+first_is : (m : List ℕ) (u : ℕ → Bool) (s f : ℕ) → 1 ≤ s → s ≤ f → busy f m u ≡ false → ((r : ℕ) → s ≤ r → r < f → busy r m u ≡ true) → f ≡ first_free (top 0 m u) s m u
+first_is m u s f one le none less =
+    let g = first_free (top 0 m u) s m u in
+    ⊎_elim (λ (e : f ≡ g). e)
     (λ ne. ⊎_elim
-    (λ (lt : f < free m u). absurd (not_both (sym (first_busy (top 0 m u) 1 f m u one lt) ∙ none)))
-    (λ (gt : free m u < f). absurd (free_none m u (less (free m u) (free_least m u).0 gt))) ne)
-    (cases_order f (free m u))
+    (λ (lt : f < g). absurd (not_both (sym (first_busy (top 0 m u) s f m u le lt) ∙ none)))
+    (λ (gt : g < f). absurd (free_none (less g (first_low (top 0 m u) s m u) gt))) ne)
+    (cases_order f g)
+  where
+    free_none : busy (first_free (top 0 m u) s m u) m u ≡ true → ⊥
+    free_none e = let p = busy_found (first_free (top 0 m u) s m u) m u e in first_apart (top 0 m u) s m u p.0 one (omega (arith, one)) p.1 p.2
+
+-- the register that is picked, where it is known of h whether it is held
+pub picked_is : (m : List ℕ) (u : ℕ → Bool) (h s f : ℕ) → 1 ≤ s
+    → ((nat_lt 0 h && not (busy h m u)) ≡ true → f ≡ h)
+    → ((nat_lt 0 h && not (busy h m u)) ≡ false → (s ≤ f) × (busy f m u ≡ false) × ((r : ℕ) → s ≤ r → r < f → busy r m u ≡ true))
+    → f ≡ picked h s m u
+picked_is m u h s f one there gone =
+    cond_both (nat_lt 0 h && not (busy h m u)) h (first_free (top 0 m u) s m u) (λ x. f ≡ x)
+    there (λ c. let l = gone c in first_is m u s f one l.0 l.1 l.2)
 
 top_found : (b : ℕ) (m : List ℕ) (u : ℕ → Bool) → (top b m u ≡ b) ⊎ (busy (top b m u) m u ≡ true)
 top_found b [] u = inl refl

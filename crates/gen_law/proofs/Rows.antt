@@ -2,7 +2,7 @@
 use Rattle.std.proofs.Common.{◌≡◌, ℕ, suc, List, [], ◌∷◌, Option, Some, None, refl, ap, arith, slice_get, take}
 use Rattle.std.specs.Prelude.{ℤ, pos}
 use Rattle.std.specs.Int.{int_wrap}
-use Rattle.idx_core.specs.declared.arith.Op.TheVariants.{Add, Sub}
+use Rattle.idx_core.specs.declared.arith.Op.TheVariants.{Add, Sub, Mul}
 use Rattle.a_terms.specs.Tree.{ATy, AInt, AVar, NoATys, MoreATys, AVal, Var, Num, Lab, Arith, ATm, Let, Call, If0, Halt, AProg}
 use Rattle.a_terms.specs.Typing.{Fine, type_of, Has, Program-ok}
 use Rattle.a_terms.specs.Meaning.{Halted, meaning}
@@ -16,7 +16,7 @@ use Rattle.t_rules.specs.Erase.{EState, erase_blocks, EHaltedWith}
 use Rattle.t_rules.specs.ErasedRuns.{EOn, erun, begun}
 use Rattle.gen_law.specs.Gen.{reg, generated}
 use Rattle.gen_law.specs.Layout.{Layout}
-use Rattle.gen_law.specs.Worked.{factorial, of_five, downs_alone, counting, example, of_eight, exchange, exchanging, alone, nested, assigned}
+use Rattle.gen_law.specs.Worked.{factorial, of_five, downs_alone, counting, example, of_eight, exchange, exchanging, alone, nested, assigned, placing, placed}
 use Rattle.gen_law.proofs.Accepted.{accepted}
 use Rattle.gen_law.proofs.Wholes.{whole}
 
@@ -46,7 +46,7 @@ factorial_whole : Whole (generated factorial of_five)
 factorial_whole = whole factorial of_five factorial_typed (100, search arith, search arith, search arith)
 
 -- five blocks and two data tuples; the machine of the generated program halts with 120
-factorial_halts : ErasedHalts (generated factorial of_five) 101 (pos 120)
+factorial_halts : ErasedHalts (generated factorial of_five) 100 (pos 120)
 unfolding int_wrap
 factorial_halts = (_, _, _, _, refl, refl, refl)
 
@@ -68,12 +68,12 @@ unfolding int_wrap
 down_means = refl
 
 -- an `if0` under a type variable
-down_halts : ErasedHalts (generated downs_alone counting) 20 (pos 7)
+down_halts : ErasedHalts (generated downs_alone counting) 18 (pos 7)
 unfolding int_wrap
 down_halts = (_, _, _, _, refl, refl, refl)
 
--- the program of the document on the passes: 49 instructions
-example_halts : ErasedHalts (generated example of_eight) 49 (pos 9)
+-- the program of the document on the passes: 41 instructions
+example_halts : ErasedHalts (generated example of_eight) 41 (pos 9)
 unfolding int_wrap
 example_halts = (_, _, _, _, refl, refl, refl)
 
@@ -86,8 +86,12 @@ nested_is : (generated alone nested).blocks ≡ (record { owes = 0; file = NoReg
 nested_is = refl
 
 -- a tuple stays in its register, and the third part takes the one register that it reads
-assigned_is : (generated alone assigned).blocks ≡ (record { owes = 0; file = NoRegs; code = (Then (T.Malloc 1 (IntTy ∷ [])) (Then (T.Mov 3 (T.Plain (T.Int (pos 3)) [])) (Then (T.St 1 0 3) (Then (T.Mov 3 (T.Plain (T.Int (pos 4)) [])) (Then (T.St 1 0 3) (Then (T.Mov 2 (T.Plain (T.Int (pos 20)) [])) (Then (T.Arith Add 2 2 (T.Plain (T.Int (pos 1)) [])) (Then (T.Ld 1 1 0) (Then (T.Bnz 1 (T.Plain (T.Label 1) [])) (Then (T.Mov 1 (T.Plain (T.Int (pos 0)) [])) (Ends T.Halt))))))))))) } ∷ record { owes = 0; file = (MoreRegs 1 IntTy NoRegs); code = (Ends T.Halt) } ∷ [])
+assigned_is : (generated alone assigned).blocks ≡ (record { owes = 0; file = NoRegs; code = (Then (T.Malloc 1 (IntTy ∷ [])) (Then (T.Mov 2 (T.Plain (T.Int (pos 3)) [])) (Then (T.St 1 0 2) (Then (T.Mov 2 (T.Plain (T.Int (pos 4)) [])) (Then (T.St 1 0 2) (Then (T.Mov 2 (T.Plain (T.Int (pos 20)) [])) (Then (T.Arith Add 2 2 (T.Plain (T.Int (pos 1)) [])) (Then (T.Ld 1 1 0) (Then (T.Bnz 1 (T.Plain (T.Label 1) [])) (Then (T.Mov 1 (T.Plain (T.Int (pos 0)) [])) (Ends T.Halt))))))))))) } ∷ record { owes = 0; file = (MoreRegs 1 IntTy NoRegs); code = (Ends T.Halt) } ∷ [])
 assigned_is = refl
+
+-- variables stand where the call wants them; one whose register is in use, and the code, stand above the arguments
+placed_is : (generated placing placed).blocks ≡ (record { owes = 0; file = NoRegs; code = (Then (T.Mov 1 (T.Plain (T.Int (pos 2)) [])) (Then (T.Arith Mul 2 1 (T.Plain (T.Int (pos 3)) [])) (Then (T.Arith Add 1 2 (T.Plain (T.Int (pos 1)) [])) (Ends (T.Jmp (T.Plain (T.Label 1) [])))))) } ∷ record { owes = 0; file = (MoreRegs 1 IntTy (MoreRegs 2 IntTy NoRegs)); code = (Then (T.Mov 3 (T.Plain (T.Label 2) [])) (Then (T.Arith Sub 4 1 (reg 2)) (Then (T.Mov 5 (reg 1)) (Then (T.Mov 1 (reg 4)) (Then (T.Mov 2 (reg 5)) (Ends (T.Jmp (reg 3)))))))) } ∷ record { owes = 0; file = (MoreRegs 1 IntTy (MoreRegs 2 IntTy NoRegs)); code = (Then (T.Arith Add 1 1 (reg 2)) (Ends T.Halt)) } ∷ [])
+placed_is = refl
 
 -- main: if 0 is 0 then L0(5, 2) else halt 1; L0(x: int, y: int). d = x - y; halt d
 abbrev minus : AProg

@@ -16,25 +16,25 @@ use Rattle.t_terms.specs.Tree.{TBase, TValue, TSeq, Then, Ends, TBlock, TProg}
 use Rattle.t_rules.specs.Registers.{with_reg, raised}
 use Rattle.t_rules.specs.Rules as R
 use Rattle.t_rules.specs.Rules.{BaseHas, DataAccepted, HeapAccepted}
-use Rattle.gen_law.specs.Gen.{ty, ty_args, ty_fields, tys, reg, applied_to, place, inside, small, boxed, unnest, stands, move, home, settle, uses, uses_decl, used, over, free, owner, target, decl_code, tvars, reads, later, owns, saved, above_saved, instead, places_saved, call_code, above, code, insert, header, block, extras, rows, firsts, seconds}
+use Rattle.gen_law.specs.Gen.{ty, ty_args, ty_fields, tys, reg, applied_to, place, inside, small, boxed, unnest, stands, move, home, settle, uses, uses_decl, used, over, free, owner, target, spare, decl_code, tvars, reads, later, owns, saved, above_saved, instead, places_saved, call_code, above, code, insert, header, block, extras, rows, firsts, seconds}
 use Rattle.gen_law.specs.GenLaws.{length_extras}
 use Rattle.gen_law.specs.TypesEach.{TProp, AllTypes, FileTypes, HasEach, SeqEach}
 use Rattle.gen_law.proofs.TypeLaws.{ty_put, ty_field, ty_filled, ty_unset}
 use Rattle.gen_law.proofs.Covers.{look_same, look_other, Live, live_kept, live_fewer, live_above, live_next, live_shift, fits_header, Apart, apart_fewer, in_scope, live_header, live_args, apart_args, Keeps, live_stays, live_over}
 use Rattle.gen_law.proofs.Places.{HasAt, has_front, has_back}
 use Rattle.gen_law.proofs.Loads.{home_applied, wants, of_code, of_first, of_rest, later_none, owns_stands, true_from_not, place_instead, instead_not}
-use Rattle.gen_law.proofs.Free.{top_least, top_place, top_fewer, free_apart, free_fewer}
+use Rattle.gen_law.proofs.Free.{top_least, top_place, top_fewer, free_apart, spare_apart}
 use Rattle.gen_law.proofs.Values.{below_ty, below_ty_args, below_tys, below_header, same_fits, tuple_fits, int_no_tuple, code_no_tuple, exists_no_tuple, Labels, has_vars, applied_none, takes_types, applied_has, All-of, Carried, some_same}
 
 -- the register in which a value is left is a variable's own, where a variable that is still used has it
 owner_shared : (v : AVal) (m : List ℕ) (u : ℕ → Bool) (e : ATm) (j : ℕ) → u j ≡ true → place m j ≡ owner m v u e → (n : ℕ) × (v ≡ Var n) × (place m j ≡ place m n)
 owner_shared (Var n) m u e j y x =
-    cond_both (used e (suc n) && used e 0) (free m u) (place m n) (λ r. place m j ≡ r → (i : ℕ) × (Var n ≡ Var i) × (place m j ≡ place m i)) (λ c z. absurd (free_apart m u j y z)) (λ c z. (n, refl, z)) x
-owner_shared (Num i) m u e j y x = absurd (free_apart m u j y x)
-owner_shared (Lab i) m u e j y x = absurd (free_apart m u j y x)
-owner_shared (Data i) m u e j y x = absurd (free_apart m u j y x)
-owner_shared (Apply v ts) m u e j y x = absurd (free_apart m u j y x)
-owner_shared (Pack h v s) m u e j y x = absurd (free_apart m u j y x)
+    cond_both (used e (suc n) && used e 0) (free m u e) (place m n) (λ r. place m j ≡ r → (i : ℕ) × (Var n ≡ Var i) × (place m j ≡ place m i)) (λ c z. absurd (free_apart m u e j y z)) (λ c z. (n, refl, z)) x
+owner_shared (Num i) m u e j y x = absurd (free_apart m u e j y x)
+owner_shared (Lab i) m u e j y x = absurd (free_apart m u e j y x)
+owner_shared (Data i) m u e j y x = absurd (free_apart m u e j y x)
+owner_shared (Apply v ts) m u e j y x = absurd (free_apart m u e j y x)
+owner_shared (Pack h v s) m u e j y x = absurd (free_apart m u e j y x)
 
 -- one more variable, in register r
 apart_push : (m : List ℕ) (g g2 : List ATy) (u v : ℕ → Bool) (r : ℕ) → Apart m g u → ((n : ℕ) → v (suc n) ≡ true → u n ≡ true) → length g2 ≡ suc (length g) → ((j : ℕ) → v 0 ≡ true → v (suc j) ≡ true → j < length m → r ≡ place m j → ⊥) → Apart (r ∷ m) g2 v
@@ -52,20 +52,20 @@ not_both y = cc
 -- where w tells what is still used, the rest's variables among them
 owner_apart : (p : AProg) (g : List ATy) (v : AVal) (t : ATy) (m : List ℕ) (w : ℕ → Bool) (e : ATm) (u : ℕ → Bool) → Apart m g u → ((n : ℕ) → used e (suc n) ≡ true → u n ≡ true) → ((n : ℕ) → uses v n ≡ true → u n ≡ true) → ((n : ℕ) → used e (suc n) ≡ true → w n ≡ true) → type_of p g v ≡ Some t → (j : ℕ) → used e 0 ≡ true → used e (suc j) ≡ true → j < length m → owner m v w e ≡ place m j → ⊥
 owner_apart p g (Var n) t m w e u a k l kw x =
-    cond_both (used e (suc n) && used e 0) (free m w) (place m n) (λ r. (j : ℕ) → used e 0 ≡ true → used e (suc j) ≡ true → j < length m → r ≡ place m j → ⊥)
-    (λ c j y z lt q. free_apart m w j (kw j z) (sym q))
+    cond_both (used e (suc n) && used e 0) (free m w e) (place m n) (λ r. (j : ℕ) → used e 0 ≡ true → used e (suc j) ≡ true → j < length m → r ≡ place m j → ⊥)
+    (λ c j y z lt q. free_apart m w e j (kw j z) (sym q))
     (λ c j y z lj q.
     let lt = in_scope m g u n t a x in
     let same : n ≡ j = a.own n j (l n (eq-eqb n n refl)) (k j z) lt lj q in
     not_both (sym (and_from (used e (suc n)) (used e 0) (ap (λ i. used e (suc i)) same ∙ z) y) ∙ c))
-owner_apart p g (Num i) t m w e u a k l kw x = λ j y z lt q. free_apart m w j (kw j z) (sym q)
-owner_apart p g (Lab i) t m w e u a k l kw x = λ j y z lt q. free_apart m w j (kw j z) (sym q)
-owner_apart p g (Data i) t m w e u a k l kw x = λ j y z lt q. free_apart m w j (kw j z) (sym q)
-owner_apart p g (Apply v ts) t m w e u a k l kw x = λ j y z lt q. free_apart m w j (kw j z) (sym q)
-owner_apart p g (Pack h v s) t m w e u a k l kw x = λ j y z lt q. free_apart m w j (kw j z) (sym q)
+owner_apart p g (Num i) t m w e u a k l kw x = λ j y z lt q. free_apart m w e j (kw j z) (sym q)
+owner_apart p g (Lab i) t m w e u a k l kw x = λ j y z lt q. free_apart m w e j (kw j z) (sym q)
+owner_apart p g (Data i) t m w e u a k l kw x = λ j y z lt q. free_apart m w e j (kw j z) (sym q)
+owner_apart p g (Apply v ts) t m w e u a k l kw x = λ j y z lt q. free_apart m w e j (kw j z) (sym q)
+owner_apart p g (Pack h v s) t m w e u a k l kw x = λ j y z lt q. free_apart m w e j (kw j z) (sym q)
 
-fresh_apart : (m : List ℕ) (e : ATm) (j : ℕ) → used e (suc j) ≡ true → free m (λ n. used e (suc n)) ≡ place m j → ⊥
-fresh_apart m e j y q = free_apart m (λ n. used e (suc n)) j y (sym q)
+fresh_apart : (m : List ℕ) (e : ATm) (j : ℕ) → used e (suc j) ≡ true → free m (λ n. used e (suc n)) e ≡ place m j → ⊥
+fresh_apart m e j y q = free_apart m (λ n. used e (suc n)) e j y (sym q)
 
 apart_next : (p : AProg) (k : ℕ) (g : List ATy) (m : List ℕ) (x : ADecl) (e : ATm) → Apart m g (used (Let x e)) → Decl-ok p k g x → Apart (target m x e ∷ m) (declared p g x) (used e)
 apart_next p k g m (Value v) e a d =
@@ -75,13 +75,13 @@ apart_next p k g m (Init v i w) e a d =
     apart_push m g (declared p g (Init v i w)) (used (Let (Init v i w) e)) (used e) (owner m v (λ n. uses w n || used e (suc n)) e) a (λ n y. or_right (uses v n || uses w n) (used e (suc n)) y) (length_declared p g (Init v i w))
     (owner_apart p g v (ATuple d.0) m (λ n. uses w n || used e (suc n)) e (used (Let (Init v i w) e)) a (λ n y. or_right (uses v n || uses w n) (used e (suc n)) y) (λ n y. or_left (uses v n || uses w n) (used e (suc n)) (or_left (uses v n) (uses w n) y)) (λ n y. or_right (uses w n) (used e (suc n)) y) d.3.is)
 apart_next p k g m (Proj i v) e a d =
-    apart_push m g (declared p g (Proj i v)) (used (Let (Proj i v) e)) (used e) (free m (λ n. used e (suc n))) a (λ n y. or_right (uses_decl (Proj i v) n) (used e (suc n)) y) (length_declared p g (Proj i v)) (λ j y z lt q. fresh_apart m e j z q)
+    apart_push m g (declared p g (Proj i v)) (used (Let (Proj i v) e)) (used e) (free m (λ n. used e (suc n)) e) a (λ n y. or_right (uses_decl (Proj i v) n) (used e (suc n)) y) (length_declared p g (Proj i v)) (λ j y z lt q. fresh_apart m e j z q)
 apart_next p k g m (Arith o v w) e a d =
-    apart_push m g (declared p g (Arith o v w)) (used (Let (Arith o v w) e)) (used e) (free m (λ n. used e (suc n))) a (λ n y. or_right (uses_decl (Arith o v w) n) (used e (suc n)) y) (length_declared p g (Arith o v w)) (λ j y z lt q. fresh_apart m e j z q)
+    apart_push m g (declared p g (Arith o v w)) (used (Let (Arith o v w) e)) (used e) (free m (λ n. used e (suc n)) e) a (λ n y. or_right (uses_decl (Arith o v w) n) (used e (suc n)) y) (length_declared p g (Arith o v w)) (λ j y z lt q. fresh_apart m e j z q)
 apart_next p k g m (Unpack v) e a d =
-    apart_push m g (declared p g (Unpack v)) (used (Let (Unpack v) e)) (used e) (free m (λ n. used e (suc n))) a (λ n y. or_right (uses_decl (Unpack v) n) (used e (suc n)) y) (length_declared p g (Unpack v)) (λ j y z lt q. fresh_apart m e j z q)
+    apart_push m g (declared p g (Unpack v)) (used (Let (Unpack v) e)) (used e) (free m (λ n. used e (suc n)) e) a (λ n y. or_right (uses_decl (Unpack v) n) (used e (suc n)) y) (length_declared p g (Unpack v)) (λ j y z lt q. fresh_apart m e j z q)
 apart_next p k g m (Malloc ts) e a d =
-    apart_push m g (declared p g (Malloc ts)) (used (Let (Malloc ts) e)) (used e) (free m (λ n. used e (suc n))) a (λ n y. y) (length_declared p g (Malloc ts)) (λ j y z lt q. fresh_apart m e j z q)
+    apart_push m g (declared p g (Malloc ts)) (used (Let (Malloc ts) e)) (used e) (free m (λ n. used e (suc n)) e) a (λ n y. y) (length_declared p g (Malloc ts)) (λ j y z lt q. fresh_apart m e j z q)
 
 module _ (A : AProp) (N : ℕ → Type 0) (S : ATy → Type 0) (Q : TProp) (C : Carried A N S Q) where
   to_q : (k : ℕ) (t : ATy) (u : Ty) → A k t → Fits u (ty t) → Q k u
@@ -273,53 +273,52 @@ module _ (A : AProp) (N : ℕ → Type 0) (S : ATy → Type 0) (Q : TProp) (C : 
         home_low (Pack hid v w) t f m b s c a e le = omega arith
 
         -- to put a variable into its own register changes none
-        owner_kept : (v : AVal) (t : ATy) (u : Ty) (s : ℕ) (f h : RegTypes) (m : List ℕ) (b : ℕ) (w : ℕ → Bool) (e : ATm) → free m w < suc b → Live f m g b (uses v) → type_of p g v ≡ Some t → HasEach Q P k f (small s m v) u → h (owner m v w e) ≡ Some u → ((q : ℕ) → q ≢ owner m v w e → h q ≡ f q) → (owner m v w e < suc b) × Keeps f h m w
-        owner_kept (Var n) t u s f h m b w e lt c x has here o =
-            cond_both (used e (suc n) && used e 0) (free m w) (place m n) (λ r. h r ≡ Some u → ((q : ℕ) → q ≢ r → h q ≡ f q) → (r < suc b) × Keeps f h m w)
-            (λ z at_r o2. (lt, λ i y. o2 (place m i) (λ z. absurd (free_apart m w i y z))))
-            (λ z at_r o2.
+        owner_kept : (v : AVal) (t : ATy) (u : Ty) (s : ℕ) (f h : RegTypes) (m : List ℕ) (b : ℕ) (w : ℕ → Bool) (e : ATm) → Live f m g b (uses v) → type_of p g v ≡ Some t → HasEach Q P k f (small s m v) u → h (owner m v w e) ≡ Some u → ((q : ℕ) → q ≢ owner m v w e → h q ≡ f q) → Keeps f h m w
+        owner_kept (Var n) t u s f h m b w e c x has here o =
+            cond_both (used e (suc n) && used e 0) (free m w e) (place m n) (λ r. h r ≡ Some u → ((q : ℕ) → q ≢ r → h q ≡ f q) → Keeps f h m w)
+            (λ z at_r o2 i y. o2 (place m i) (λ z. absurd (free_apart m w e i y z)))
+            (λ z at_r o2 i y.
             let own = c n t (eq-eqb n n refl) x in
-            (omega (arith, own.3), λ i y. ⊎_elim (λ z. ap h z ∙ at_r ∙ sym has.0 ∙ ap f (sym z)) (λ ne. o2 (place m i) ne) (cases_eq (place m i) (place m n)))) here o
-        owner_kept (Num i) t u s f h m b w e lt c x has here o = (lt, λ i y. o (place m i) (λ z. absurd (free_apart m w i y z)))
-        owner_kept (Lab l) t u s f h m b w e lt c x has here o = (lt, λ i y. o (place m i) (λ z. absurd (free_apart m w i y z)))
-        owner_kept (Data l) t u s f h m b w e lt c x has here o = (lt, λ i y. o (place m i) (λ z. absurd (free_apart m w i y z)))
-        owner_kept (Apply v ts) t u s f h m b w e lt c x has here o = (lt, λ i y. o (place m i) (λ z. absurd (free_apart m w i y z)))
-        owner_kept (Pack y v z) t u s f h m b w e lt c x has here o = (lt, λ i y. o (place m i) (λ z. absurd (free_apart m w i y z)))
+            ⊎_elim (λ z. ap h z ∙ at_r ∙ sym has.0 ∙ ap f (sym z)) (λ ne. o2 (place m i) ne) (cases_eq (place m i) (place m n))) here o
+        owner_kept (Num i) t u s f h m b w e c x has here o = λ i y. o (place m i) (λ z. absurd (free_apart m w e i y z))
+        owner_kept (Lab l) t u s f h m b w e c x has here o = λ i y. o (place m i) (λ z. absurd (free_apart m w e i y z))
+        owner_kept (Data l) t u s f h m b w e c x has here o = λ i y. o (place m i) (λ z. absurd (free_apart m w e i y z))
+        owner_kept (Apply v ts) t u s f h m b w e c x has here o = λ i y. o (place m i) (λ z. absurd (free_apart m w e i y z))
+        owner_kept (Pack y v z) t u s f h m b w e c x has here o = λ i y. o (place m i) (λ z. absurd (free_apart m w e i y z))
 
-        named_each : (v : AVal) (t : ATy) (f : RegTypes) (m : List ℕ) (b s : ℕ) (w : ℕ → Bool) (e : ATm) (rest : TSeq) → b ≤ s → ((n : ℕ) → w n ≡ true → place m n < b) → free m w < suc b → Live f m g b (uses v) → Fine p k g v → type_of p g v ≡ Some t → VEach A p k g v → ((h : RegTypes) (u : Ty) → h (owner m v w e) ≡ Some u → Fits u (ty t) → owner m v w e < suc b → Keeps f h m w → SeqEach Q P k h rest) → SeqEach Q P k f (unnest s m v (move (owner m v w e) (small s m v) rest))
-        named_each v t f m b s w e rest le far lt c a x h go =
+        named_each : (v : AVal) (t : ATy) (f : RegTypes) (m : List ℕ) (b s : ℕ) (w : ℕ → Bool) (e : ATm) (rest : TSeq) → b ≤ s → ((n : ℕ) → w n ≡ true → place m n < b) → Live f m g b (uses v) → Fine p k g v → type_of p g v ≡ Some t → VEach A p k g v → ((h : RegTypes) (u : Ty) → h (owner m v w e) ≡ Some u → Fits u (ty t) → Keeps f h m w → SeqEach Q P k h rest) → SeqEach Q P k f (unnest s m v (move (owner m v w e) (small s m v) rest))
+        named_each v t f m b s w e rest le far c a x h go =
             let r = owner m v w e in
             unnest_each v t f m b s (move r (small s m v) rest) c a x h (λ f2 u y fit o.
             let same : (q : ℕ) → q < b → f2 q ≡ f q = λ q l. o q (λ z. absurd (omega arith)) in
             move_each k f2 r (small s m v) u rest y (λ f3 here o2.
-            let own = owner_kept v t u s f2 f3 m b w e lt (live_kept f f2 m g b (uses v) same c) x y here o2 in
-            go f3 u here fit own.0 (λ n z. own.1 n z ∙ same (place m n) (far n z))))
+            let own = owner_kept v t u s f2 f3 m b w e (live_kept f f2 m g b (uses v) same c) x y here o2 in
+            go f3 u here fit (λ n z. own n z ∙ same (place m n) (far n z))))
 
         -- the variables that the rest uses are below the spare registers
         below : (m : List ℕ) (x : ADecl) (e : ATm) (n : ℕ) → used e (suc n) ≡ true → place m n < over m (used (Let x e))
         below m x e n y = let t = top_place 0 m (used (Let x e)) n (or_right (uses_decl x n) (used e (suc n)) y) in omega (arith, t)
 
         -- one more variable, in a free register
-        next_live : (f h : RegTypes) (m : List ℕ) (x : ADecl) (e : ATm) (t : ATy) (u : Ty) → Live f m g (over m (used (Let x e))) (used (Let x e)) → Keeps f h m (λ n. used e (suc n)) → Fits u (ty t) → Live (with_reg h (free m (λ n. used e (suc n))) u) (free m (λ n. used e (suc n)) ∷ m) (t ∷ g) (over (free m (λ n. used e (suc n)) ∷ m) (used e)) (used e)
+        next_live : (f h : RegTypes) (m : List ℕ) (x : ADecl) (e : ATm) (t : ATy) (u : Ty) → Live f m g (over m (used (Let x e))) (used (Let x e)) → Keeps f h m (λ n. used e (suc n)) → Fits u (ty t) → Live (with_reg h (free m (λ n. used e (suc n)) e) u) (free m (λ n. used e (suc n)) e ∷ m) (t ∷ g) (over (free m (λ n. used e (suc n)) e ∷ m) (used e)) (used e)
         next_live f h m x e t u c o fit =
             let d = over m (used (Let x e)) in
-            let r = free m (λ n. used e (suc n)) in
+            let r = free m (λ n. used e (suc n)) e in
             let h2 = with_reg h r u in
             live_next h2 m g d (used e) r t u
-            (live_stays f h2 m g d (λ n. used e (suc n)) (λ n y. look_other h r (place m n) u (λ z. absurd (free_apart m (λ n. used e (suc n)) n y z)) ∙ o n y) (live_fewer f m g d (used (Let x e)) (λ n. used e (suc n)) (λ n y. or_right (uses_decl x n) (used e (suc n)) y) c))
+            (live_stays f h2 m g d (λ n. used e (suc n)) (λ n y. look_other h r (place m n) u (λ z. absurd (free_apart m (λ n. used e (suc n)) e n y z)) ∙ o n y) (live_fewer f m g d (used (Let x e)) (λ n. used e (suc n)) (λ n y. or_right (uses_decl x n) (used e (suc n)) y) c))
             (look_same h r u) fit
 
         decl_each : (x : ADecl) (e : ATm) (f : RegTypes) (m : List ℕ) (rest : TSeq) → Apart m g (used (Let x e)) → Live f m g (over m (used (Let x e))) (used (Let x e)) → Decl-ok p k g x → DEach A p k g x → ((h : RegTypes) → Live h (target m x e ∷ m) (declared p g x) (over (target m x e ∷ m) (used e)) (used e) → SeqEach Q P (more_vars x k) h rest) → SeqEach Q P k f (decl_code (over m (used (Let x e))) m (target m x e) x rest)
         decl_each (Value v) e f m rest ap_ c a h go =
-            let all = used (Let (Value v) e) in
-            let d = over m all in
+            let d = over m (used (Let (Value v) e)) in
             let few = live_fewer f m g d (used (Let (Value v) e)) (uses v) (λ n y. or_left (uses v n) (used e (suc n)) y) c in
-            named_each v a.0 f m d d (λ n. used e (suc n)) e rest (omega arith) (below m (Value v) e) (free_fewer m all (λ n. used e (suc n)) (λ n y. or_right (uses v n) (used e (suc n)) y)) few a.1.fine a.1.is h (λ f2 u here fit low same.
+            named_each v a.0 f m d d (λ n. used e (suc n)) e rest (omega arith) (below m (Value v) e) few a.1.fine a.1.is h (λ f2 u here fit same.
             let fit2 : Fits u (ty (or_int (type_of p g v))) = subst (λ t. Fits u (ty t)) (sym (ap or_int a.1.is)) fit in
             go f2 (live_next f2 m g d (used e) (owner m v (λ n. used e (suc n)) e) (or_int (type_of p g v)) u (live_stays f f2 m g d (λ n. used e (suc n)) same (live_fewer f m g d (used (Let (Value v) e)) (λ n. used e (suc n)) (λ n y. or_right (uses v n) (used e (suc n)) y) c)) here fit2))
         decl_each (Proj i v) e f m rest ap_ c a h go =
             let d = over m (used (Let (Proj i v) e)) in
-            let r = free m (λ n. used e (suc n)) in
+            let r = free m (λ n. used e (suc n)) e in
             let fs = a.0 in
             let n : a.1 ≡ i - 1 = omega (arith, a.4) in
             let ft = subst (λ m. field (ty_fields fs) m ≡ Some (AField (ty a.2) true)) n (ty_field fs a.1 a.2 a.5 ∙ ap (λ z. Some (AField (ty a.2) z)) a.6) in
@@ -332,10 +331,10 @@ module _ (A : AProp) (N : ℕ → Type 0) (S : ATy → Type 0) (Q : TProp) (C : 
             let same = field_is i a.1 fs a.2 (type_of p g v) a.3.is a.4 a.5 in
             let q : Q k (ty a.2) = own_q k a.2 (subst (A k) same h.1) in
             let fit2 : Fits (ty a.2) (ty (field_of i (type_of p g v))) = inl (ap ty (sym same)) in
-            (with_reg f2 r (ty a.2), (tup.0, ty a.2, there, read, refl), (ty a.2, (tup.0, ty a.2, there, read, refl), q), go (with_reg f2 r (ty a.2)) (next_live f f2 m (Proj i v) e (field_of i (type_of p g v)) (ty a.2) c (λ n y. o (place m n) (λ z. absurd (free_apart m (λ n. used e (suc n)) n y z))) fit2)))
+            (with_reg f2 r (ty a.2), (tup.0, ty a.2, there, read, refl), (ty a.2, (tup.0, ty a.2, there, read, refl), q), go (with_reg f2 r (ty a.2)) (next_live f f2 m (Proj i v) e (field_of i (type_of p g v)) (ty a.2) c (λ n y. o (place m n) (λ z. absurd (free_apart m (λ n. used e (suc n)) e n y z))) fit2)))
         decl_each (Arith op v w) e f m rest ap_ c a h go =
             let d = over m (used (Let (Arith op v w) e)) in
-            let to = free m (λ n. used e (suc n)) in
+            let to = free m (λ n. used e (suc n)) e in
             let r = home d (small d m v) in
             let last = T.Arith op to r (small (suc d) m w) in
             let few = live_fewer f m g d (used (Let (Arith op v w) e)) (uses v) (λ n y. or_left (uses v n || uses w n) (used e (suc n)) (or_left (uses v n) (uses w n) y)) c in
@@ -348,7 +347,7 @@ module _ (A : AProp) (N : ℕ → Type 0) (S : ATy → Type 0) (Q : TProp) (C : 
             (with_reg f3 to IntTy, (left, each_has k f3 (small (suc d) m w) IntTy right, refl), right, go (with_reg f3 to IntTy) (next_live f f3 m (Arith op v w) e AInt IntTy c (λ n y. (let lt = below m (Arith op v w) e n y in o2 (place m n) (λ z. absurd (omega (arith, lt))) ∙ o (place m n) (λ z. absurd (omega (arith, lt))))) (inl refl)))))
         decl_each (Unpack v) e f m rest ap_ c a h go =
             let d = over m (used (Let (Unpack v) e)) in
-            let r = free m (λ n. used e (suc n)) in
+            let r = free m (λ n. used e (suc n)) e in
             let few = live_fewer f m g d (used (Let (Unpack v) e)) (uses v) (λ n y. or_left (uses v n) (used e (suc n)) y) c in
             unnest_each v (AExists a.0) f m d r (Then (T.Unpack r (small r m v)) rest) few a.1.fine a.1.is h.0 (λ f2 u x fit o.
             let y = subst (HasEach Q P k f2 (small r m v)) (same_fits u (ExistsTy (ty a.0)) fit (exists_no_tuple (ty a.0))) x in
@@ -357,13 +356,13 @@ module _ (A : AProp) (N : ℕ → Type 0) (S : ATy → Type 0) (Q : TProp) (C : 
             let g2 = map (ashift 1 0) g in
             let t = body_of (type_of p g v) in
             let qt : Q (suc k) (ty a.0) = own_q (suc k) a.0 (subst (λ o. A (suc k) (body_of o)) a.1.is h.1) in
-            let c2 = live_stays f f2 m g d (λ n. used e (suc n)) (λ n y. o (place m n) (λ z. absurd (free_apart m (λ n. used e (suc n)) n y z))) (live_fewer f m g d (used (Let (Unpack v) e)) (λ n. used e (suc n)) (λ n y. or_right (uses v n) (used e (suc n)) y) c) in
-            let c3 = live_stays f3 f4 m g2 d (λ n. used e (suc n)) (λ n y. look_other f3 r (place m n) (ty a.0) (λ z. absurd (free_apart m (λ n. used e (suc n)) n y z))) (live_shift f2 m g d (λ n. used e (suc n)) c2) in
+            let c2 = live_stays f f2 m g d (λ n. used e (suc n)) (λ n y. o (place m n) (λ z. absurd (free_apart m (λ n. used e (suc n)) e n y z))) (live_fewer f m g d (used (Let (Unpack v) e)) (λ n. used e (suc n)) (λ n y. or_right (uses v n) (used e (suc n)) y) c) in
+            let c3 = live_stays f3 f4 m g2 d (λ n. used e (suc n)) (λ n y. look_other f3 r (place m n) (ty a.0) (λ z. absurd (free_apart m (λ n. used e (suc n)) e n y z))) (live_shift f2 m g d (λ n. used e (suc n)) c2) in
             let fit2 : Fits (ty a.0) (ty t) = inl (ap (λ s. ty (body_of s)) (sym a.1.is)) in
             let more : suc k ≡ k + 1 = omega arith in
             (f4, (ty a.0, each_has k f2 (small r m v) (ExistsTy (ty a.0)) y, refl), (ty a.0, y, qt), subst (λ m. SeqEach Q P m f4 rest) more (go f4 (live_next f4 m g2 d (used e) r t (ty a.0) c3 (look_same f3 r (ty a.0)) fit2))))
         decl_each (Malloc ts) e f m rest ap_ c a h go =
-            let d = free m (λ n. used e (suc n)) in
+            let d = free m (λ n. used e (suc n)) e in
             let u = TupleTy (empty_fields (tys ts)) in
             let fit : Fits u (ty (ATuple (aunset ts))) = inl (ap TupleTy (sym (ty_unset ts))) in
             (with_reg f d u, (refl, below_tys ts k a), (all_q k ts h.0, subst (λ fs. Q k (TupleTy fs)) (ty_unset ts) (own_q k (ATuple (aunset ts)) h.1)), go (with_reg f d u) (next_live f f m (Malloc ts) e (ATuple (aunset ts)) u c (λ n y. refl) fit))
@@ -376,17 +375,19 @@ module _ (A : AProp) (N : ℕ → Type 0) (S : ATy → Type 0) (Q : TProp) (C : 
             let n : a.1 ≡ i - 1 = omega (arith, a.5) in
             let ft = subst (λ m. field (ty_fields fs) m ≡ Some (AField (ty a.2) (afield_flag fs a.1))) n (ty_field fs a.1 a.2 a.6) in
             let r = owner m v (λ n. uses w n || used e (suc n)) e in
-            let at_w = home (suc d) (small (suc d) m w) in
+            let at = spare r d in
+            let own = spare_apart r d in
+            let at_w = home at (small at m w) in
             let last = T.St r (i - 1) at_w in
             let few = live_fewer f m g d (used (Let (Init v i w) e)) (uses v) (λ n y. or_left (uses v n || uses w n) (used e (suc n)) (or_left (uses v n) (uses w n) y)) c in
             let few2 = live_fewer f m g d (used (Let (Init v i w) e)) (uses w) (λ n y. or_left (uses v n || uses w n) (used e (suc n)) (or_right (uses v n) (uses w n) y)) c in
-            named_each v (ATuple fs) f m d (suc d) (λ n. uses w n || used e (suc n)) e (unnest (suc d) m w (settle (suc d) (small (suc d) m w) (Then last rest))) (omega arith) far (free_fewer m all (λ n. uses w n || used e (suc n)) more) few a.3.fine a.3.is h.0 (λ f2 u here fit low same.
-            settled_each w a.2 f2 m d (suc d) (Then last rest) (live_stays f f2 m g d (uses w) (λ n y. same n (or_left (uses w n) (used e (suc n)) y)) few2) a.4.fine a.4.is h.1 (λ f3 u2 y fit2 o2.
+            named_each v (ATuple fs) f m d at (λ n. uses w n || used e (suc n)) e (unnest at m w (settle at (small at m w) (Then last rest))) own.0 far few a.3.fine a.3.is h.0 (λ f2 u here fit same.
+            settled_each w a.2 f2 m d at (Then last rest) (live_stays f f2 m g d (uses w) (λ n y. same n (or_left (uses w n) (used e (suc n)) y)) few2) a.4.fine a.4.is h.1 (λ f3 u2 y fit2 o2.
             let tup = tuple_fits u (ty_fields fs) fit in
             let at_i = field_fits tup.0 (ty_fields fs) (i - 1) (ty a.2) (afield_flag fs a.1) tup.2 ft in
             let z = TupleTy (filled tup.0 (i - 1)) in
             let f4 = with_reg f3 r z in
-            let there : f3 r ≡ Some (TupleTy tup.0) = o2 r (λ q. absurd (omega (arith, low))) ∙ here ∙ ap Some tup.1 in
+            let there : f3 r ≡ Some (TupleTy tup.0) = o2 r own.2 ∙ here ∙ ap Some tup.1 in
             let after = filled_is i a.1 fs (type_of p g v) a.3.is a.5 in
             let new : TupleTy (filled (ty_fields fs) (i - 1)) ≡ ty (ATuple (afilled fs a.1)) = ap (λ m. TupleTy (filled (ty_fields fs) m)) (sym n) ∙ ap TupleTy (sym (ty_filled fs a.1)) in
             let fit_new : Fits z (ty (ATuple (afilled fs a.1))) = subst (Fits z) new (inr (filled tup.0 (i - 1), filled (ty_fields fs) (i - 1), refl, refl, both_filled tup.0 (ty_fields fs) (i - 1) tup.2)) in
@@ -404,7 +405,7 @@ module _ (A : AProp) (N : ℕ → Type 0) (S : ATy → Type 0) (Q : TProp) (C : 
             let one : j ≡ s.0 = ap_.own j s.0 b2 used_var (in_scope m g (used (Let (Init v i w) e)) j t ap_ x) (in_scope m g (used (Let (Init v i w) e)) s.0 (ATuple fs) ap_ is_var) s.2 in
             let t_is : ATuple fs ≡ t = some_same (ATuple fs) t (sym is_var ∙ ap (slice_get g) (sym one) ∙ x) in
             (z, ap f4 eq ∙ look_same f3 r z, subst (λ t. Fits z (ty t)) t_is fit_old, l.3))
-            (λ ne. (l.0, look_other f3 r (place m j) z ne ∙ o2 (place m j) (λ q. absurd (omega (arith, l.3))) ∙ same j b3 ∙ l.1, l.2, l.3))
+            (λ ne. (l.0, look_other f3 r (place m j) z ne ∙ o2 (place m j) (λ q. absurd (omega (arith, l.3, own.0))) ∙ same j b3 ∙ l.1, l.2, l.3))
             (cases_eq (place m j) r)) in
             let fit3 : Fits z (ty (filled_of i (type_of p g v))) = subst (λ t. Fits z (ty t)) (sym after) fit_new in
             (f4, (tup.0, ty a.2, at_i.0, u2, there, at_i.1, y, fit2, refl), (tup.0, there, qz), go f4 (live_next f4 m g d (used e) r (filled_of i (type_of p g v)) z others (look_same f3 r z) fit3))))

@@ -13,10 +13,10 @@ use Rattle.t_types.specs.WellFormed.{max_number, max_names, IsRegister, WellForm
 use Rattle.t_terms.specs.Tree as T
 use Rattle.t_terms.specs.Tree.{TValue, TSeq, Then, Ends, TBlock}
 use Rattle.t_terms.specs.Whole.{HasNoRegister, WellFormedValue, WellFormedSeq, WellFormedBlocks, WellFormedData, WellFormedHeap, Whole}
-use Rattle.gen_law.specs.Gen.{ty, ty_args, ty_fields, tys, place, inside, small, boxed, unnest, stands, move, home, settle, uses, used, top, over, free, owner, target, decl_code, later, owns, saved, above_saved, instead, places_saved, call_code, above, tvars, code, insert, header, extras, rows, firsts, seconds, generated_blocks, applied_to, constant, data_of, generated_heap, generated}
+use Rattle.gen_law.specs.Gen.{ty, ty_args, ty_fields, tys, place, inside, small, boxed, unnest, stands, move, home, settle, uses, used, top, over, arguments, free, owner, target, spare, decl_code, later, owns, saved, above_saved, instead, places_saved, call_code, above, tvars, code, insert, header, extras, rows, firsts, seconds, generated_blocks, applied_to, constant, data_of, generated_heap, generated}
 use Rattle.a_terms.specs.Bound.{thirds}
 use Rattle.gen_law.proofs.Loads.{length_rows}
-use Rattle.gen_law.proofs.Free.{free_least}
+use Rattle.gen_law.proofs.Free.{free_within, spare_apart}
 use Rattle.gen_law.proofs.Places.{length_firsts}
 use Rattle.gen_law.specs.GenLaws.{length_extras}
 
@@ -88,12 +88,6 @@ under_top b k [] u le h = le
 under_top b k (r ∷ m) u le h =
     let first : cond (u 0 && nat_lt b r) r b ≤ k = cond_both (u 0 && nat_lt b r) r b (λ x. x ≤ k) (λ c. h.0) (λ c. le) in
     under_top (cond (u 0 && nat_lt b r) r b) k m (λ n. u (suc n)) first h.1
-
-under_free : (m : List ℕ) (u : ℕ → Bool) → Under (length m) m → (1 ≤ free m u) × (free m u ≤ suc (length m))
-under_free m u h =
-    let f = free_least m u in
-    let t = under_top 0 (length m) m u (omega arith) h in
-    (f.0, omega (arith, f.1, t))
 
 rows_under : (n k : ℕ) → n ≤ k → Under k (rows n)
 rows_under zero k le = tt
@@ -174,25 +168,28 @@ module _ (prog : AProg) (p z : ℕ) (room : length prog.blocks < p) (all : lengt
   home_in k s (T.Plain (T.Data d) us) hs h = hs
   home_in k s (T.Pack y v w) hs h = hs
 
-  free_in : (m : List ℕ) (u : ℕ → Bool) → Under (length m) m → suc (length m) ≤ max_number → IsRegister (free m u) × (free m u ≤ suc (length m))
-  free_in m u lo hi = let f = under_free m u lo in ((f.0, omega (arith, f.1)), f.1)
+  -- the register of a new variable, where d of them are bound and the end of the rest has arguments
+  free_in : (d : ℕ) (m : List ℕ) (u : ℕ → Bool) (e : ATm) → Under (d + arguments e) m → suc (d + arguments e) ≤ max_number → IsRegister (free m u e) × (free m u e ≤ suc (d + arguments e))
+  free_in d m u e lo hi =
+      let f = free_within (suc (d + arguments e)) m u e (omega (arith, under_top 0 (d + arguments e) m u (omega arith) lo)) (omega arith) in
+      ((f.0, omega (arith, f.1, hi)), f.1)
 
-  owner_in : (g : List ATy) (m : List ℕ) (v : AVal) (t : ATy) (u : ℕ → Bool) (e : ATm) → length m ≡ length g → Registers m → Under (length m) m → suc (length m) ≤ max_number → type_of prog g v ≡ Some t → IsRegister (owner m v u e) × (owner m v u e ≤ suc (length m))
-  owner_in g m (Var n) t u e l ms lo hi x =
-      cond_both (used e (suc n) && used e 0) (free m u) (place m n) (λ r. IsRegister r × (r ≤ suc (length m))) (λ c. free_in m u lo hi) (λ c. let w = slice_get_within g n t x in let y = under_place (length m) m n lo in (place_in m n (omega arith) ms, omega (arith, y)))
-  owner_in g m (Num i) t u e l ms lo hi x = free_in m u lo hi
-  owner_in g m (Lab i) t u e l ms lo hi x = free_in m u lo hi
-  owner_in g m (Data i) t u e l ms lo hi x = free_in m u lo hi
-  owner_in g m (Apply v ts) t u e l ms lo hi x = free_in m u lo hi
-  owner_in g m (Pack h v s) t u e l ms lo hi x = free_in m u lo hi
+  owner_in : (d : ℕ) (g : List ATy) (m : List ℕ) (v : AVal) (t : ATy) (u : ℕ → Bool) (e : ATm) → length m ≡ length g → Registers m → Under (d + arguments e) m → suc (d + arguments e) ≤ max_number → type_of prog g v ≡ Some t → IsRegister (owner m v u e) × (owner m v u e ≤ suc (d + arguments e))
+  owner_in d g m (Var n) t u e l ms lo hi x =
+      cond_both (used e (suc n) && used e 0) (free m u e) (place m n) (λ r. IsRegister r × (r ≤ suc (d + arguments e))) (λ c. free_in d m u e lo hi) (λ c. let w = slice_get_within g n t x in let y = under_place (d + arguments e) m n lo in (place_in m n (omega arith) ms, omega (arith, y)))
+  owner_in d g m (Num i) t u e l ms lo hi x = free_in d m u e lo hi
+  owner_in d g m (Lab i) t u e l ms lo hi x = free_in d m u e lo hi
+  owner_in d g m (Data i) t u e l ms lo hi x = free_in d m u e lo hi
+  owner_in d g m (Apply v ts) t u e l ms lo hi x = free_in d m u e lo hi
+  owner_in d g m (Pack h v s) t u e l ms lo hi x = free_in d m u e lo hi
 
-  target_in : (k : ℕ) (g : List ATy) (m : List ℕ) (x : ADecl) (e : ATm) → length m ≡ length g → Registers m → Under (length m) m → suc (length m) ≤ max_number → Decl-ok prog k g x → IsRegister (target m x e) × (target m x e ≤ suc (length m))
-  target_in k g m (Value v) e l ms lo hi a = owner_in g m v a.0 (λ n. used e (suc n)) e l ms lo hi a.1.is
-  target_in k g m (Proj i v) e l ms lo hi a = free_in m (λ n. used e (suc n)) lo hi
-  target_in k g m (Arith o v w) e l ms lo hi a = free_in m (λ n. used e (suc n)) lo hi
-  target_in k g m (Unpack v) e l ms lo hi a = free_in m (λ n. used e (suc n)) lo hi
-  target_in k g m (Malloc ts) e l ms lo hi a = free_in m (λ n. used e (suc n)) lo hi
-  target_in k g m (Init v i w) e l ms lo hi a = owner_in g m v (ATuple a.0) (λ n. uses w n || used e (suc n)) e l ms lo hi a.3.is
+  target_in : (d k : ℕ) (g : List ATy) (m : List ℕ) (x : ADecl) (e : ATm) → length m ≡ length g → Registers m → Under (d + arguments e) m → suc (d + arguments e) ≤ max_number → Decl-ok prog k g x → IsRegister (target m x e) × (target m x e ≤ suc (d + arguments e))
+  target_in d k g m (Value v) e l ms lo hi a = owner_in d g m v a.0 (λ n. used e (suc n)) e l ms lo hi a.1.is
+  target_in d k g m (Proj i v) e l ms lo hi a = free_in d m (λ n. used e (suc n)) e lo hi
+  target_in d k g m (Arith o v w) e l ms lo hi a = free_in d m (λ n. used e (suc n)) e lo hi
+  target_in d k g m (Unpack v) e l ms lo hi a = free_in d m (λ n. used e (suc n)) e lo hi
+  target_in d k g m (Malloc ts) e l ms lo hi a = free_in d m (λ n. used e (suc n)) e lo hi
+  target_in d k g m (Init v i w) e l ms lo hi a = owner_in d g m v (ATuple a.0) (λ n. uses w n || used e (suc n)) e l ms lo hi a.3.is
 
   decl_whole : (k : ℕ) (g : List ATy) (m : List ℕ) (x : ADecl) (r t : ℕ) (rest : TSeq) → length m ≡ length g → Registers m → IsRegister r → IsRegister t → IsRegister (suc t) → k + decl_weight x ≤ max_names → Decl-ok prog k g x → WellFormedSeq p z (more_vars x k) rest → WellFormedSeq p z k (decl_code t m r x rest)
   decl_whole k g m (Value v) r t rest n ms hr ht ht2 le a s =
@@ -215,12 +212,15 @@ module _ (prog : AProg) (p z : ℕ) (room : length prog.blocks < p) (all : lengt
       unnest_whole k g m v (AExists a.0) r _ n ms hr (omega arith) a.1.fine a.1.is ((hr, x), omega arith, subst (λ q. WellFormedSeq p z q rest) more s)
   decl_whole k g m (Malloc ts) r t rest n ms hr ht ht2 le a s = ((hr, types_whole ts k a (omega arith)), omega arith, s)
   decl_whole k g m (Init v i w) r t rest n ms hr ht ht2 le a s =
-      let x = small_whole k g m v (ATuple a.0) (suc t) n ms ht2 (omega arith) a.3.fine a.3.is in
-      let y = small_whole k g m w a.2 (suc t) n ms ht2 (omega arith) a.4.fine a.4.is in
-      unnest_whole k g m v (ATuple a.0) (suc t) _ n ms ht2 (omega arith) a.3.fine a.3.is
-      (move_whole k r (small (suc t) m v) _ (omega arith) hr x
-      (unnest_whole k g m w a.2 (suc t) _ n ms ht2 (omega arith) a.4.fine a.4.is
-      (settle_whole k (suc t) (small (suc t) m w) _ (omega arith) ht2 y ((hr, omega arith, home_in k (suc t) (small (suc t) m w) ht2 y), omega arith, s))))
+      let q = spare r t in
+      let own = spare_apart r t in
+      let hq : IsRegister q = (omega (arith, ht.0, own.0), omega (arith, ht2.1, own.1)) in
+      let x = small_whole k g m v (ATuple a.0) q n ms hq (omega arith) a.3.fine a.3.is in
+      let y = small_whole k g m w a.2 q n ms hq (omega arith) a.4.fine a.4.is in
+      unnest_whole k g m v (ATuple a.0) q _ n ms hq (omega arith) a.3.fine a.3.is
+      (move_whole k r (small q m v) _ (omega arith) hr x
+      (unnest_whole k g m w a.2 q _ n ms hq (omega arith) a.4.fine a.4.is
+      (settle_whole k q (small q m w) _ (omega arith) hq y ((hr, omega arith, home_in k q (small q m w) hq y), omega arith, s))))
 
   saved_whole : (k : ℕ) (o : Bool) (b r : ℕ) (rest : TSeq) → k ≤ max_names → IsRegister b → IsRegister r → WellFormedSeq p z k rest → WellFormedSeq p z k (saved o b r rest)
   saved_whole k false b r rest le hb hr s = s
@@ -266,37 +266,39 @@ module _ (prog : AProg) (p z : ℕ) (room : length prog.blocks < p) (all : lengt
   decl_least (Malloc ts) k = (omega arith, omega arith)
   decl_least (Init v i w) k = (omega arith, omega arith)
 
-  weight_least : (e : ATm) → 2 ≤ weight e
+  weight_least : (e : ATm) → arguments e + 2 ≤ weight e
   weight_least (Let x e) = omega (arith, weight_least e)
   weight_least (Call v ts vs) = omega arith
-  weight_least (If0 v a b) = omega arith
+  weight_least (If0 v a b) = omega (arith, weight_least a)
   weight_least (Halt v) = omega arith
 
-  term_whole : (e : ATm) (k : ℕ) (g : List ATy) (m : List ℕ) (at : ℕ) → length m ≡ length g → Registers m → Under (length m) m → length m + weight e ≤ max_names → k + weight e ≤ max_names → at + thirds e ≤ p → Term-ok prog k g e → WellFormedSeq p z k (code k m at e)
-  term_whole (Let x e) k g m at n ms lo many le l a =
+  -- d bounds the registers, but for those that the arguments of the end are wanted in
+  term_whole : (e : ATm) (d k : ℕ) (g : List ATy) (m : List ℕ) (at : ℕ) → length m ≡ length g → Registers m → Under (d + arguments e) m → d + weight e ≤ max_names → k + weight e ≤ max_names → at + thirds e ≤ p → Term-ok prog k g e → WellFormedSeq p z k (code k m at e)
+  term_whole (Let x e) d k g m at n ms lo many le l a =
       let least = decl_least x k in
       let more = weight_least e in
-      let here = target_in k g m x e n ms lo (omega (arith, more)) a.0 in
-      let t = under_top 0 (length m) m (used (Let x e)) (omega arith) lo in
+      let here = target_in d k g m x e n ms lo (omega (arith, more)) a.0 in
+      let t = under_top 0 (d + arguments e) m (used (Let x e)) (omega arith) lo in
       decl_whole k g m x (target m x e) (over m (used (Let x e))) _ n ms here.0 (omega arith, omega (arith, t, more)) (omega arith, omega (arith, t, more)) (omega arith) a.0
-      (term_whole e (more_vars x k) (declared prog g x) (target m x e ∷ m) at (ap suc n ∙ sym (length_declared prog g x)) (here.0, ms) (here.1, under_more (length m) (suc (length m)) m (omega arith) lo) (omega (arith, least.0)) (omega (arith, least.0, least.1)) l a.1)
-  term_whole (Call v ts vs) k g m at n ms lo many le l a =
-      let t = under_top (length vs) (length m + length vs) m (used (Call v ts vs)) (omega arith) (under_more (length m) (length m + length vs) m (omega arith) lo) in
+      (term_whole e (suc d) (more_vars x k) (declared prog g x) (target m x e ∷ m) at (ap suc n ∙ sym (length_declared prog g x)) (here.0, ms) (omega (arith, here.1), under_more (d + arguments e) (suc d + arguments e) m (omega arith) lo) (omega (arith, least.0)) (omega (arith, least.0, least.1)) l a.1)
+  term_whole (Call v ts vs) d k g m at n ms lo many le l a =
+      let t = under_top (length vs) (d + length vs) m (used (Call v ts vs)) (omega arith) lo in
       call_whole k g v a.0 ts vs a.1 1 (above m v vs) m n ms (omega arith) (omega arith) (omega arith) (omega (arith, t)) (omega arith) a.2.fine a.2.is a.3 a.5
-  term_whole (If0 v x y) k g m at n ms lo many le l a =
-      let d = over m (used (If0 v x y)) in
-      let t = under_top 0 (length m) m (used (If0 v x y)) (omega arith) lo in
-      let hd : IsRegister d = (omega arith, omega (arith, t)) in
-      let s = small_whole k g m v AInt d n ms hd (omega arith) a.0.fine a.0.is in
-      unnest_whole k g m v AInt d _ n ms hd (omega arith) a.0.fine a.0.is
-      (settle_whole k d (small d m v) _ (omega arith) hd s
-      ((home_in k d (small d m v) hd s, (omega arith, vars_whole k k (omega arith))), omega arith, term_whole x k g m (suc at) n ms lo (omega arith) (omega arith) (omega arith) a.1))
-  term_whole (Halt v) k g m at n ms lo many le l a =
-      let d = over m (uses v) in
-      let t = under_top 0 (length m) m (uses v) (omega arith) lo in
-      let hd : IsRegister d = (omega arith, omega (arith, t)) in
-      unnest_whole k g m v AInt d _ n ms hd (omega arith) a.fine a.is
-      (move_whole k 1 (small d m v) (Ends T.Halt) (omega arith) (omega arith, omega arith) (small_whole k g m v AInt d n ms hd (omega arith) a.fine a.is) tt)
+  term_whole (If0 v x y) d k g m at n ms lo many le l a =
+      let d2 = over m (used (If0 v x y)) in
+      let t = under_top 0 (d + arguments x) m (used (If0 v x y)) (omega arith) lo in
+      let more = weight_least x in
+      let hd : IsRegister d2 = (omega arith, omega (arith, t, more)) in
+      let s = small_whole k g m v AInt d2 n ms hd (omega arith) a.0.fine a.0.is in
+      unnest_whole k g m v AInt d2 _ n ms hd (omega arith) a.0.fine a.0.is
+      (settle_whole k d2 (small d2 m v) _ (omega arith) hd s
+      ((home_in k d2 (small d2 m v) hd s, (omega arith, vars_whole k k (omega arith))), omega arith, term_whole x d k g m (suc at) n ms lo (omega arith) (omega arith) (omega arith) a.1))
+  term_whole (Halt v) d k g m at n ms lo many le l a =
+      let d2 = over m (uses v) in
+      let t = under_top 0 (d + 0) m (uses v) (omega arith) lo in
+      let hd : IsRegister d2 = (omega arith, omega (arith, t)) in
+      unnest_whole k g m v AInt d2 _ n ms hd (omega arith) a.fine a.is
+      (move_whole k 1 (small d2 m v) (Ends T.Halt) (omega arith) (omega arith, omega arith) (small_whole k g m v AInt d2 n ms hd (omega arith) a.fine a.is) tt)
 
   both_whole : (xs ys : List TBlock) → WellFormedBlocks p z xs → WellFormedBlocks p z ys → WellFormedBlocks p z (xs ++ ys)
   both_whole [] ys a b = b
@@ -304,21 +306,24 @@ module _ (prog : AProg) (p z : ℕ) (room : length prog.blocks < p) (all : lengt
 
   module _ (ok : Args-below prog) (low : ℕ) (labels : Labels-small low prog) where
     -- z2 bounds the types in scope, and is no less than those of the labels
-    extras_whole : (e : ATm) (k z2 : ℕ) (g : List ATy) (m : List ℕ) (at : ℕ) → length m ≡ length g → Registers m → Under (length m) m → length m + weight e ≤ max_names → k + (z2 + weight e) ≤ max_names → low ≤ z2 → at + thirds e ≤ p → All-below k g → All-small z2 g → Term-ok prog k g e → WellFormedBlocks p z (extras prog k m g at e)
-    extras_whole (Let x e) k z2 g m at n ms un many le lo l b s a =
+    extras_whole : (e : ATm) (d k z2 : ℕ) (g : List ATy) (m : List ℕ) (at : ℕ) → length m ≡ length g → Registers m → Under (d + arguments e) m → d + weight e ≤ max_names → k + (z2 + weight e) ≤ max_names → low ≤ z2 → at + thirds e ≤ p → All-below k g → All-small z2 g → Term-ok prog k g e → WellFormedBlocks p z (extras prog k m g at e)
+    extras_whole (Let x e) d k z2 g m at n ms un many le lo l b s a =
         let least = decl_least x k in
         let more = weight_least e in
-        let here = target_in k g m x e n ms un (omega (arith, more, least.0)) a.0 in
-        extras_whole e (more_vars x k) (z2 + decl_weight x - 2) (declared prog g x) (target m x e ∷ m) at (ap suc n ∙ sym (length_declared prog g x)) (here.0, ms) (here.1, under_more (length m) (suc (length m)) m (omega arith) un) (omega (arith, least.0)) (omega (arith, least.0, least.1)) (omega (arith, least.0)) l
+        let here = target_in d k g m x e n ms un (omega (arith, more, least.0)) a.0 in
+        extras_whole e (suc d) (more_vars x k) (z2 + decl_weight x - 2) (declared prog g x) (target m x e ∷ m) at (ap suc n ∙ sym (length_declared prog g x)) (here.0, ms) (omega (arith, here.1), under_more (d + arguments e) (suc d + arguments e) m (omega arith) un) (omega (arith, least.0)) (omega (arith, least.0, least.1)) (omega (arith, least.0)) l
         (declared_below prog ok k g b x a.0) (small_declared prog z2 (more_small low z2 prog lo labels) g s x (z2 + decl_weight x - 2) (omega (arith, least.0))) a.1
-    extras_whole (Call v ts vs) k z2 g m at n ms un many le lo l b s a = tt
-    extras_whole (If0 v x y) k z2 g m at n ms un many le lo l b s a = (
-      (omega arith, header_whole k z2 (used y) m g (omega arith) ms b s, term_whole y k g m (suc at + thirds x) n ms un (omega arith) (omega arith) (omega arith) a.2),
-      both_whole (extras prog k m g (suc at) x) (extras prog k m g (suc at + thirds x) y)
-          (extras_whole x k z2 g m (suc at) n ms un (omega arith) (omega arith) lo (omega arith) b s a.1)
-          (extras_whole y k z2 g m (suc at + thirds x) n ms un (omega arith) (omega arith) lo (omega arith) b s a.2),
-    )
-    extras_whole (Halt v) k z2 g m at n ms un many le lo l b s a = tt
+    extras_whole (Call v ts vs) d k z2 g m at n ms un many le lo l b s a = tt
+    extras_whole (If0 v x y) d k z2 g m at n ms un many le lo l b s a =
+        let more = weight_least x in
+        let d2 = d + arguments x in
+        let un2 = under_more (d + arguments x) (d2 + arguments y) m (omega arith) un in (
+          (omega arith, header_whole k z2 (used y) m g (omega arith) ms b s, term_whole y d2 k g m (suc at + thirds x) n ms un2 (omega (arith, more)) (omega arith) (omega arith) a.2),
+          both_whole (extras prog k m g (suc at) x) (extras prog k m g (suc at + thirds x) y)
+              (extras_whole x d k z2 g m (suc at) n ms un (omega arith) (omega arith) lo (omega arith) b s a.1)
+              (extras_whole y d2 k z2 g m (suc at + thirds x) n ms un2 (omega (arith, more)) (omega arith) lo (omega arith) b s a.2),
+        )
+    extras_whole (Halt v) d k z2 g m at n ms un many le lo l b s a = tt
 
     blocks_whole : (some : List ABlk) (at : ℕ) → at + length (seconds prog some at) ≤ p → Blocks-ok prog some → Blocks-fit low max_names some → WellFormedBlocks p z (firsts some at) × WellFormedBlocks p z (seconds prog some at)
     blocks_whole [] at l a f = (tt, tt)
@@ -334,14 +339,14 @@ module _ (prog : AProg) (p z : ℕ) (room : length prog.blocks < p) (all : lengt
         let r = blocks_whole some (at + thirds b.body) (omega (arith, len, all)) a.1 f.1 in
         let below = below_args b.owes b.args [] a.0.0 tt in
         let small = small_args low b.args [] (omega (arith, f.0.0)) tt in
-        let le : length m + weight b.body ≤ max_names = omega (arith, long, f.0.0, f.0.1) in
+        let le : arity b.args + weight b.body ≤ max_names = omega (arith, f.0.0, f.0.1) in
         let ms = rows_in (arity b.args) (omega (arith, f.0.0, f.0.1)) in
-        let un = rows_under (arity b.args) (length m) (omega (arith, long)) in
+        let un = rows_under (arity b.args) (arity b.args + arguments b.body) (omega arith) in
         let ke : b.owes + weight b.body ≤ max_names = omega (arith, f.0.1) in
         let wide = args_whole b.args 0 1 b.owes (omega arith) (omega (arith, f.0.0, f.0.1)) a.0.0 (omega (arith, f.0.0, f.0.1)) in
         let kl : b.owes + (low + weight b.body) ≤ max_names = f.0.1 in (
-          ((omega (arith, f.0.1), wide, term_whole b.body b.owes g m at n ms un le ke (omega (arith, len, all)) a.0.1), r.0),
-          both_whole es rest (extras_whole b.body b.owes low g m at n ms un le kl (omega arith) (omega (arith, len, all)) below small a.0.1) r.1,
+          ((omega (arith, f.0.1), wide, term_whole b.body (arity b.args) b.owes g m at n ms un le ke (omega (arith, len, all)) a.0.1), r.0),
+          both_whole es rest (extras_whole b.body (arity b.args) b.owes low g m at n ms un le kl (omega arith) (omega (arith, len, all)) below small a.0.1) r.1,
         )
 
   -- the data
@@ -422,8 +427,8 @@ whole p main q f =
     let r = blocks_whole p n z room all ok f.0 labels p.blocks at0 (omega (arith, l1, l2, l3, l4)) q.blocks f.1 in (
       omega arith,
       (
-        (omega arith, tt, term_whole p n z room all main 0 [] [] at refl tt tt le le (omega (arith, l1, l2, l3, l4)) q.main_ok),
-        both_whole p n z room all fs (es ++ ss) r.0 (both_whole p n z room all es ss (extras_whole p n z room all ok f.0 labels main 0 f.0 [] [] at refl tt tt le kl (omega arith) (omega (arith, l1, l2, l3, l4)) tt tt q.main_ok) r.1),
+        (omega arith, tt, term_whole p n z room all main 0 0 [] [] at refl tt tt le le (omega (arith, l1, l2, l3, l4)) q.main_ok),
+        both_whole p n z room all fs (es ++ ss) r.0 (both_whole p n z room all es ss (extras_whole p n z room all ok f.0 labels main 0 0 f.0 [] [] at refl tt tt le kl (omega arith) (omega (arith, l1, l2, l3, l4)) tt tt q.main_ok) r.1),
       ),
       heap_whole p n z room all f.0 p.tuples low q.tuples f.2,
     )

@@ -1,7 +1,7 @@
 -- Code generation. Block 0 holds the main term; each block has its own, and each `if0` one more for its third part. A
 -- call leaves argument j in register j. Each data tuple has its own too. Values stand in place, in instructions and in
--- jumps, and what is not in its register is moved there once. A variable has one register, from its declaration on; a
--- tuple that gets a field stays where it is.
+-- jumps, and what is not in its register is moved there once. A variable has one register, from its declaration on: the
+-- one in which the call at the end wants it, where that is free. A tuple that gets a field stays where it is.
 use Rattle.std.specs.Prelude.{ℕ, zero, suc, ◌+◌, ◌-◌, ◌++◌, ◌==◌, nat_lt, List, [], ◌∷◌, length, map, Bool, true, false}
 use Rattle.std.specs.Prelude.{cond, not, ◌&&◌, ◌||◌}
 use Rattle.t_types.specs.Tree.{Ty, IntTy, VarTy, CodeTy, ExistsTy, TupleTy, TFile, NoRegs, MoreRegs, TFields, NoFields}
@@ -158,28 +158,66 @@ abbrev pub first_free : ℕ → ℕ → List ℕ → (ℕ → Bool) → ℕ
 first_free zero r m u = r
 first_free (suc n) r m u = cond (busy r m u) (first_free n (suc r) m u) r
 
--- the least register that holds none
-abbrev pub free : List ℕ → (ℕ → Bool) → ℕ
-free m u = first_free (top 0 m u) 1 m u
+-- whether the value is variable n
+abbrev pub names : AVal → ℕ → Bool
+names (Var i) n = i == n
+names (Num i) n = false
+names (Lab l) n = false
+names (Data i) n = false
+names (Apply v ts) n = false
+names (Pack h v s) n = false
+
+-- the register of the first of these arguments that is variable n, where the first one's is j, or 0 where none is
+abbrev pub argument : ℕ → List AVal → ℕ → ℕ
+argument j [] n = 0
+argument j (v ∷ vs) n = cond (names v n) j (argument (suc j) vs n)
+
+-- the register in which the end of a term wants variable n, or 0 where it wants it in none; the end of an `if0` is that
+-- of its second part, whose code goes on in the same block
+abbrev pub wanted : ATm → ℕ → ℕ
+wanted (Let x e) n = wanted e (suc n)
+wanted (Call v ts vs) n = argument 1 vs n
+wanted (If0 v a b) n = wanted a n
+wanted (Halt v) n = cond (names v n) 1 0
+
+-- how many arguments the end of a term has
+abbrev pub arguments : ATm → ℕ
+arguments (Let x e) = arguments e
+arguments (Call v ts vs) = length vs
+arguments (If0 v a b) = arguments a
+arguments (Halt v) = 0
+
+-- register h, if it is one and holds none, or else the least register from s on that holds none
+abbrev pub picked : ℕ → ℕ → List ℕ → (ℕ → Bool) → ℕ
+picked h s m u = cond (nat_lt 0 h && not (busy h m u)) h (first_free (top 0 m u) s m u)
+
+-- the register of a new variable, the last one of the rest e, where u tells which other ones are still used: the one in
+-- which the end of e wants it, if it is free, or else the first free one above the arguments of that end
+abbrev pub free : List ℕ → (ℕ → Bool) → ATm → ℕ
+free m u e = picked (wanted e 0) (suc (arguments e)) m u
 
 -- the register in which a declaration that names a value, or a tuple with one field more, leaves it: a variable's own,
 -- unless the rest uses both names, and else a free one, where u tells which variables are still used
 abbrev pub owner : List ℕ → AVal → (ℕ → Bool) → ATm → ℕ
-owner m (Var n) u e = cond (used e (suc n) && used e 0) (free m u) (place m n)
-owner m (Num i) u e = free m u
-owner m (Lab l) u e = free m u
-owner m (Data n) u e = free m u
-owner m (Apply v ts) u e = free m u
-owner m (Pack h v s) u e = free m u
+owner m (Var n) u e = cond (used e (suc n) && used e 0) (free m u e) (place m n)
+owner m (Num i) u e = free m u e
+owner m (Lab l) u e = free m u e
+owner m (Data n) u e = free m u e
+owner m (Apply v ts) u e = free m u e
+owner m (Pack h v s) u e = free m u e
 
 -- the register of the variable that is declared
 abbrev pub target : List ℕ → ADecl → ATm → ℕ
 target m (Value v) e = owner m v (λ n. used e (suc n)) e
-target m (Proj i v) e = free m (λ n. used e (suc n))
-target m (Arith o v w) e = free m (λ n. used e (suc n))
-target m (Unpack v) e = free m (λ n. used e (suc n))
-target m (Malloc ts) e = free m (λ n. used e (suc n))
+target m (Proj i v) e = free m (λ n. used e (suc n)) e
+target m (Arith o v w) e = free m (λ n. used e (suc n)) e
+target m (Unpack v) e = free m (λ n. used e (suc n)) e
+target m (Malloc ts) e = free m (λ n. used e (suc n)) e
 target m (Init v i w) e = owner m v (λ n. uses w n || used e (suc n)) e
+
+-- the first register from t on but r
+abbrev pub spare : ℕ → ℕ → ℕ
+spare r t = cond (r == t) (suc t) t
 
 -- a declaration, whose variable's register is r, where t and those after it hold nothing
 abbrev pub decl_code : ℕ → List ℕ → ℕ → ADecl → TSeq → TSeq
@@ -193,7 +231,7 @@ decl_code t m r (Arith o v w) rest =
 decl_code t m r (Unpack v) rest = unnest r m v (Then (T.Unpack r (small r m v)) rest)
 decl_code t m r (Malloc ts) rest = Then (T.Malloc r (tys ts)) rest
 decl_code t m r (Init v i w) rest =
-    let s = suc t in
+    let s = spare r t in
     let y = small s m w in
     unnest s m v (move r (small s m v) (unnest s m w (settle s y (Then (T.St r (i - 1) (home s y)) rest))))
 

@@ -128,3 +128,28 @@ nested = (Let (Value (Pack (AExists (AVar 0)) (Pack AInt (Num (pos 7)) (AExists 
 -- a cell that is assigned to, under a name that nothing uses
 abbrev pub assigned : ATm
 assigned = (Let (Malloc (MoreATys AInt NoATys)) (Let (Init (Var 0) 1 (Num (pos 3))) (Let (Init (Var 0) 1 (Num (pos 4))) (Let (Arith Add (Num (pos 20)) (Num (pos 1))) (Let (Proj 1 (Var 2)) (If0 (Var 0) (Halt (Num (pos 0))) (Halt (Var 0))))))))
+
+-- L0(x, y) = L1(x - y, x), where the code of the call has a name, and L1(x, y) = x + y
+abbrev pub placing : AProg
+placing = record {
+  blocks =
+      record {
+        owes = 0;
+        args = MoreATys AInt (MoreATys AInt NoATys);
+        body =
+            Let (Value (Lab 1)) (Let (Arith Sub (Var 2) (Var 1)) (Call (Var 1) NoATys (Var 0 ∷ Var 3 ∷ [])));
+      }
+      ∷ record {
+        owes = 0;
+        args = MoreATys AInt (MoreATys AInt NoATys);
+        body = Let (Arith Add (Var 1) (Var 0)) (Halt (Var 0));
+      }
+      ∷ [];
+  tuples = [];
+}
+
+-- L0(2 * 3 + 1, 2 * 3)
+abbrev pub placed : ATm
+placed =
+    Let (Arith Mul (Num (pos 2)) (Num (pos 3)))
+    (Let (Arith Add (Var 0) (Num (pos 1))) (Call (Lab 0) NoATys (Var 0 ∷ Var 1 ∷ [])))

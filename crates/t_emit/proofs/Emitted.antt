@@ -158,7 +158,7 @@ pub no_wraps : (v : a.AVal) (ws : List AWrap) → length ws ≤ 0 → v ≡ wrap
 no_wraps v [] le = refl
 no_wraps v (w ∷ ws) le = absurd (omega arith)
 
-pub owner_none : (m : List ℕ) (v : a.AVal) (u : ℕ → Bool) (e : a.ATm) → None ≡ bare_var v → free m u ≡ owner m v u e
+pub owner_none : (m : List ℕ) (v : a.AVal) (u : ℕ → Bool) (e : a.ATm) → None ≡ bare_var v → free m u e ≡ owner m v u e
 owner_none m (a.Var n) u e x = cc
 owner_none m (a.Num i) u e x = refl
 owner_none m (a.Lab i) u e x = refl
@@ -166,8 +166,8 @@ owner_none m (a.Data i) u e x = refl
 owner_none m (a.Apply v ts) u e x = refl
 owner_none m (a.Pack h v s) u e x = refl
 
-pub owner_var : (m : List ℕ) (n : ℕ) (v : a.AVal) (u : ℕ → Bool) (e : a.ATm) (both : Bool) → Some n ≡ bare_var v → both ≡ both_used v e → cond both (free m u) (place m n) ≡ owner m v u e
-owner_var m n (a.Var i) u e both x y = let z : n ≡ i = cc in ap (λ j. cond both (free m u) (place m j)) z ∙ ap (λ b. cond b (free m u) (place m i)) y
+pub owner_var : (m : List ℕ) (n : ℕ) (v : a.AVal) (u : ℕ → Bool) (e : a.ATm) (both : Bool) → Some n ≡ bare_var v → both ≡ both_used v e → cond both (free m u e) (place m n) ≡ owner m v u e
+owner_var m n (a.Var i) u e both x y = let z : n ≡ i = cc in ap (λ j. cond both (free m u e) (place m j)) z ∙ ap (λ b. cond b (free m u e) (place m i)) y
 owner_var m n (a.Num i) u e both x y = cc
 owner_var m n (a.Lab i) u e both x y = cc
 owner_var m n (a.Data i) u e both x y = cc

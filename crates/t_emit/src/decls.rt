@@ -1,8 +1,8 @@
 // Instructions are emitted for declarations.
-ghost use Rattle.std.specs.Prelude.{◌≡◌, ℕ, true, Bool, Option, OnOk};
+ghost use Rattle.std.specs.Prelude.{◌≡◌, ℕ, true, Bool, Option, OnOk, IfOk};
 ghost use Rattle.t_terms.specs.Tree.{TSeq};
 ghost use Rattle.t_emit.specs.Code.{Grows, bare_var, both_used, both_names, kept};
-ghost use Rattle.gen_law.specs.Gen.{free as the_free, owner as the_owner, target as the_target, decl_code};
+ghost use Rattle.gen_law.specs.Gen.{free as the_free, owner as the_owner, target as the_target, spare as the_spare, decl_code};
 ghost use Rattle.a_terms.specs.NodeTrees.{a_value, a_values, is_decl, a_decl};
 ghost use Rattle.a_terms.specs.Tree.{ATm, Value as TheValue, Proj, Arith, Unpack, Init};
 ghost use Rattle.a_terms.specs.Arity.{AArity};
@@ -18,7 +18,7 @@ use std::alloc::Global;
 use t_terms::Instr;
 
 /// The variable that a value is, if it is one with nothing around it.
-pub(crate) fn bare_variable(v: &AValue) -> Option<u64>
+pub fn bare_variable(v: &AValue) -> Option<u64>
     ensures { result ≡ bare_var (a_value v.now) }
 {
     let wraps = v.wraps.as_slice();
@@ -35,7 +35,7 @@ pub(crate) fn bare_variable(v: &AValue) -> Option<u64>
 
 // The register in which a value is left that gets one more name: `both` says that both names are used.
 fn owner(vars: &[Entry], v: &AValue, both: bool, free: u64) -> u64
-    ensures { (u : ℕ → Bool) (e : ATm) → both ≡ both_used (a_value v.now) e → free ≡ the_free (homes vars.now) u
+    ensures { (u : ℕ → Bool) (e : ATm) → both ≡ both_used (a_value v.now) e → free ≡ the_free (homes vars.now) u e
         → result ≡ the_owner (homes vars.now) (a_value v.now) u e }
 {
     match bare_variable(v) {
@@ -48,12 +48,12 @@ fn owner(vars: &[Entry], v: &AValue, both: bool, free: u64) -> u64
 }
 
 /// The register of the variable that is declared: `both` says that the rest uses a value by both of its names, and
-/// `free` is the least register that holds nothing of the rest, nor what is stored.
+/// `free` is the register of a new variable, which holds nothing of the rest, nor what is stored.
 pub fn target(vars: &[Entry], form: &AForm, values: &[AValue], both: bool, free: u64) -> u64
     requires form { is_decl form.now ≡ true }
     requires arity { AArity form.now (a_values values.now) }
     ensures { (e : ATm) → both ≡ both_names (a_decl form.now (a_values values.now)) e
-        → free ≡ the_free (homes vars.now) (kept (a_decl form.now (a_values values.now)) e)
+        → free ≡ the_free (homes vars.now) (kept (a_decl form.now (a_values values.now)) e) e
         → result ≡ the_target (homes vars.now) (a_decl form.now (a_values values.now)) e }
 {
     match form {
@@ -195,6 +195,16 @@ fn open(
     Ok(())
 }
 
+// The first register from `spare` on but rd.
+fn spare_besides(spare: u64, rd: u64) -> Result<u64, OutOfMemory>
+    ensures { IfOk result (λ s. s ≡ the_spare rd spare) }
+{
+    if rd == spare {
+        return Ok(after(spare)?);
+    }
+    Ok(spare)
+}
+
 // The store of a value in a tuple's field i.
 fn initialise(
     alloc: Global,
@@ -209,7 +219,7 @@ fn initialise(
     ensures { OnOk result (Grows code.old.items code.new.items
         (decl_code spare (homes vars.now) rd (Init (a_value v.now) i (a_value w.now)))) }
 {
-    let next = after(spare)?;
+    let next = spare_besides(spare, rd)?;
     emit_into(alloc, code, vars, next, rd, v)?;
     let rs = emit_settled(alloc, code, vars, next, w)?;
     let field = i.saturating_sub(1);

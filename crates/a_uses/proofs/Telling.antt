@@ -4,7 +4,7 @@ use Rattle.std.specs.Prelude.{Bool, true, false, ◌||◌, ◌&&◌, not}
 use Rattle.std.proofs.lemmas.List.{drop_more}
 use Rattle.a_terms.specs.Tree as a
 use Rattle.a_terms.specs.NodeTrees.{a_values, a_decl, a_let, a_build, a_onto, is_decl, no_value, no_term, wrap, wrapped}
-use Rattle.a_terms.specs.Row.{top, others, IsOne}
+use Rattle.a_terms.specs.Row.{top, others, IsOne, IsSome}
 use Rattle.a_terms.specs.Arity.{AArity, ARow, a_kids}
 use Rattle.term_core.specs.Ends.{lift}
 use Rattle.a_terms.specs.declared.nodes.AForm.{AForm}
@@ -13,12 +13,13 @@ use Rattle.a_terms.specs.declared.nodes.ANode.{ANode}
 use Rattle.a_terms.specs.declared.nodes.AWrap.{AWrap}
 use Rattle.a_terms.specs.declared.nodes.AWrap.TheVariants.{Apply, Pack}
 use Rattle.gen_law.specs.Gen.{uses, uses_any, uses_decl, used}
-use Rattle.a_uses.specs.Uses.{both_used, Ending, has, Holds, newest, back, AllHold, Tells, Told}
+use Rattle.a_uses.specs.Uses.{both_used, Ending, has, Holds, Leads, newest, back, AllHold, Tells, Told}
 use Rattle.a_uses.specs.declared.used.Used.{Used}
 use Rattle.a_uses.specs.declared.ahead.Ahead.{Ahead}
+use Rattle.a_uses.specs.declared.ahead.Rest.{Rest}
 use Rattle.a_uses.proofs.Sets.{or_none}
 
-newest_push : (ss : List Used) (s : Used) → newest (ss ++ s ∷ []) ≡ s ∷ newest ss
+newest_push : (ss : List Rest) (s : Rest) → newest (ss ++ s ∷ []) ≡ s ∷ newest ss
 newest_push [] s = refl
 newest_push (x ∷ ss) s = ap (λ xs. xs ++ x ∷ []) (newest_push ss s)
 
@@ -26,11 +27,11 @@ back_push : (ss : List Ahead) (s : Ahead) → back (ss ++ s ∷ []) ≡ s ∷ ba
 back_push [] s = refl
 back_push (x ∷ ss) s = ap (λ xs. xs ++ x ∷ []) (back_push ss s)
 
-pub popped : (old new : List Used) (s : Used) (ts : List a.ATm) → old ≡ new ++ s ∷ [] → AllHold (newest old) ts → Holds s (top no_term ts) × AllHold (newest new) (others ts)
-popped old new s ts e h = subst (λ xs. AllHold xs ts) (ap newest e ∙ newest_push new s) h
+pub popped : (old new : List Rest) (s : Rest) (ts : List a.ATm) → old ≡ new ++ s ∷ [] → AllHold (newest old) ts → Holds s.used (top no_term ts) × Leads s.wants (top no_term ts) × AllHold (newest new) (others ts)
+popped old new s ts e h = let k : AllHold (s ∷ newest new) ts = subst (λ xs. AllHold xs ts) (ap newest e ∙ newest_push new s) h in (k.0.0, k.0.1, k.1)
 
-pub pushed : (old new : List Used) (s : Used) (t : a.ATm) (ts : List a.ATm) → new ≡ old ++ s ∷ [] → Holds s t → AllHold (newest old) ts → AllHold (newest new) (t ∷ ts)
-pushed old new s t ts e h k = subst (λ xs. AllHold xs (t ∷ ts)) (sym (ap newest e ∙ newest_push old s)) (h, k)
+pub pushed : (old new : List Rest) (s : Rest) (t : a.ATm) (ts : List a.ATm) → new ≡ old ++ s ∷ [] → Holds s.used t → Leads s.wants t → AllHold (newest old) ts → AllHold (newest new) (t ∷ ts)
+pushed old new s t ts e h l k = subst (λ xs. AllHold xs (t ∷ ts)) (sym (ap newest e ∙ newest_push old s)) ((h, l), k)
 
 or_swap : (x y : Bool) → (x || y) ≡ (y || x)
 or_swap true true = refl
@@ -81,6 +82,11 @@ if_gone vs x second third first gone listed h k l f g = λ i.
     g i ∙ ap₂ (λ p q. p || (q && not (has second i))) (f i) (l i) ∙ or_end (uses_any vs i) (third i) (not (has second i))
     ∙ ap₂ (λ p q. (p || third i) && not q) (one_uses vs i h) (k i)
 
+-- a call
+pub call_uses : (vs : List a.AVal) (n : ℕ) → IsSome vs → (uses (top no_value vs) n || uses_any (others vs) n) ≡ uses_any vs n
+call_uses [] n h = absurd h
+call_uses (v ∷ vs) n h = refl
+
 -- an end
 pub end_holds : (vs : List a.AVal) (e : a.ATm) (own new : Used) → ((i : ℕ) → has own i ≡ false) → ((i : ℕ) → has new i ≡ (has own i || uses_any vs i)) → ((i : ℕ) → used e i ≡ uses_any vs i) → Holds new e
 end_holds vs e own new z n s = λ i. n i ∙ ap (λ b. b || uses_any vs i) (z i) ∙ sym (s i)
@@ -91,7 +97,7 @@ if_holds vs x y second new mid h k m n = λ i.
     n i ∙ ap₂ (λ p q. p || q) (m i ∙ ap (λ b. b || used y i) (k i)) (one_uses vs i h) ∙ or_swap (used x i || used y i) (uses (top no_value vs) i)
 
 -- forms
-pub told_decl : (f : AForm) (vs : List a.AVal) (ts : List a.ATm) (w : Ahead) (ss : List Used) → is_decl f ≡ true → Ending (a_decl f vs) (top no_term ts) w → AllHold ss (a_let (a_decl f vs) ts) → Tells f vs ts w × AllHold ss (a_build f vs ts)
+pub told_decl : (f : AForm) (vs : List a.AVal) (ts : List a.ATm) (w : Ahead) (ss : List Rest) → is_decl f ≡ true → Ending (a_decl f vs) (top no_term ts) w → AllHold ss (a_let (a_decl f vs) ts) → Tells f vs ts w × AllHold ss (a_build f vs ts)
 told_decl Value vs ts w ss d b h = (b, h)
 told_decl (Proj i) vs ts w ss d b h = (b, h)
 told_decl (Arith o) vs ts w ss d b h = (b, h)
@@ -113,7 +119,7 @@ both_some_wraps v [] e lt = absurd (omega arith)
 both_some_wraps v (w ∷ ws) e lt = both_wrapped v w ws e
 
 -- one node more, before the others
-pub told_more : (ns : List ANode) (j left : ℕ) (x : ANode) (sets new : List Used) (made more : List Ahead) (w : Ahead) → left ≡ suc j → j < length ns → x ≡ get_or ns j x → more ≡ made ++ w ∷ [] → ((ts : List a.ATm) → AllHold (newest sets) ts → Tells x.form (a_values x.values.items) ts w × AllHold (newest new) (a_build x.form (a_values x.values.items) ts)) → AllHold (newest sets) (a_onto (drop left ns) []) → Told (drop left ns) (back made) → AllHold (newest new) (a_onto (drop j ns) []) × Told (drop j ns) (back more)
+pub told_more : (ns : List ANode) (j left : ℕ) (x : ANode) (sets new : List Rest) (made more : List Ahead) (w : Ahead) → left ≡ suc j → j < length ns → x ≡ get_or ns j x → more ≡ made ++ w ∷ [] → ((ts : List a.ATm) → AllHold (newest sets) ts → Tells x.form (a_values x.values.items) ts w × AllHold (newest new) (a_build x.form (a_values x.values.items) ts)) → AllHold (newest sets) (a_onto (drop left ns) []) → Told (drop left ns) (back made) → AllHold (newest new) (a_onto (drop j ns) []) × Told (drop j ns) (back more)
 told_more ns j left x sets new made more w l lt is e f h t =
     let rest = drop (j + 1) ns in
     let from : left ≡ j + 1 = omega arith in

@@ -6,23 +6,35 @@ ghost use Rattle.a_terms.specs.Tree.{Call, If0, Halt};
 ghost use Rattle.a_terms.specs.Arity.{AArity, ARow};
 ghost use Rattle.a_terms.specs.Row.{IsOne, IsSome, top, others};
 ghost use Rattle.gen_law.specs.Gen.{used, uses, uses_any};
-ghost use Rattle.a_uses.specs.Uses.{has, mem, Ending, both_used, both_names, newest, AllHold, Holds, Listed, Tells, Told, back};
+ghost use Rattle.a_uses.specs.Uses.{has, mem, Ending, both_used, both_names, newest, AllHold, Holds, Leads, Listed, Tells};
+ghost use Rattle.a_uses.specs.Uses.{Told, back};
 
 use crate::used::{Used, add_all, has_number, list, missing, missing_of, none, note_all, outside};
+use crate::wants::{Wants, last_wanted, leave, of_call, of_halt};
 use a_terms::walks::sum;
 use a_terms::{ABase, AForm, ANode, AValue};
 use idx_core::OutOfMemory;
 use std::alloc::Global;
 
-/// Of a declaration: whether the rest uses a variable by both of its names, whether it uses the new name, and which
-/// variables the declaration uses and the rest does not. Of a choice: which variables its value or its third part uses
-/// and its second part does not, and those that its third part uses, in ascending order.
+/// Of a declaration: whether the rest uses a variable by both of its names, whether it uses the new name, which variables
+/// the declaration uses and the rest does not, the register in which the end of the rest wants the new one, or 0, and how
+/// many arguments that end has. Of a choice: which variables its value or its third part uses and its second part does
+/// not, and those that its third part uses, in ascending order.
 #[derive(Drop)]
 pub struct Ahead {
     pub both: bool,
     pub new: bool,
     pub gone: Vec<u64>,
+    pub wanted: u64,
+    pub arguments: u64,
     pub third: Vec<u64>,
+}
+
+/// Of a term: the variables that it uses, and where its end wants them.
+#[derive(Drop)]
+pub struct Rest {
+    pub used: Used,
+    pub wants: Wants,
 }
 
 /// What code generation asks of a row of nodes: of what comes after each of them, the last one first, and which variables
@@ -80,10 +92,10 @@ fn first(values: &[AValue]) -> &AValue
     &values[0]
 }
 
-// Of a declaration, where these are the sets of the terms so far.
+// Of a declaration, where these are of the terms so far.
 fn before_let(
     alloc: Global,
-    sets: &mut Vec<Used>,
+    sets: &mut Vec<Rest>,
     form: &AForm,
     values: &[AValue],
 ) -> Result<Ahead, OutOfMemory>
@@ -93,42 +105,58 @@ fn before_let(
         → Ending (a_decl form.now (a_values values.now)) (top no_term ts) w
         × AllHold (newest sets.new.items) (a_let (a_decl form.now (a_values values.now)) ts)) }
 {
-    let Some(mut rest) = sets.pop() else {
+    let Some(rest) = sets.pop() else {
         return Err(OutOfMemory);
     };
-    let named = both(&rest, form, values)?;
-    let new = has_number(&rest, 0)?;
-    outside(&mut rest)?;
+    let Rest {
+        mut used,
+        mut wants,
+    } = rest;
+    let wanted = last_wanted(&wants);
+    let arguments = wants.arguments;
+    leave(&mut wants)?;
+    let named = both(&used, form, values)?;
+    let new = has_number(&used, 0)?;
+    outside(&mut used)?;
     let mut gone = Vec::new(alloc);
-    missing(&mut gone, &rest, values)?;
-    note_all(&mut rest, values)?;
-    sets.push(rest)?;
+    missing(&mut gone, &used, values)?;
+    note_all(&mut used, values)?;
+    sets.push(Rest { used, wants })?;
     Ok(Ahead {
         both: named,
         new,
         gone,
+        wanted,
+        arguments,
         third: Vec::new(alloc),
     })
 }
 
-// Of an end.
-fn before_end(alloc: Global, sets: &mut Vec<Used>, values: &[AValue]) -> Result<Ahead, OutOfMemory>
+// Of an end, which wants its variables there.
+fn before_end(
+    alloc: Global,
+    sets: &mut Vec<Rest>,
+    values: &[AValue],
+    wants: Wants,
+) -> Result<Ahead, OutOfMemory>
     ensures { OnOk result ((ts : List ATm) (e : ATm) → ((n : ℕ) → used e n ≡ uses_any (a_values values.now) n)
-        → AllHold (newest sets.old.items) ts → AllHold (newest sets.new.items) (e ∷ ts)) }
+        → Leads wants e → AllHold (newest sets.old.items) ts → AllHold (newest sets.new.items) (e ∷ ts)) }
 {
     let mut own = none(alloc);
     note_all(&mut own, values)?;
-    sets.push(own)?;
+    sets.push(Rest { used: own, wants })?;
     Ok(Ahead {
         both: false,
         new: false,
         gone: Vec::new(alloc),
+        wanted: 0,
+        arguments: 0,
         third: Vec::new(alloc),
     })
 }
 
 // Of a choice.
-fn before_if(alloc: Global, sets: &mut Vec<Used>, values: &[AValue]) -> Result<Ahead, OutOfMemory>
+fn before_if(alloc: Global, sets: &mut Vec<Rest>, values: &[AValue]) -> Result<Ahead, OutOfMemory>
     requires arity { IsOne (a_values values.now) }
     ensures { IfOk result (λ w. (ts : List ATm) → AllHold (newest sets.old.items) ts
         → (Listed (used (top no_term (others ts))) 0 w.third.items
@@ -137,23 +165,26 @@ fn before_if(alloc: Global, sets: &mut Vec<Used>, values: &[AValue]) -> Result<A
         × AllHold (newest sets.new.items) (If0 (top no_value (a_values values.now)) (top no_term ts)
         (top no_term (others ts)) ∷ others (others ts))) }
 {
-    let Some(mut second) = sets.pop() else {
+    let Some(second) = sets.pop() else {
         return Err(OutOfMemory);
     };
+    let Rest { mut used, wants } = second;
     let Some(other) = sets.pop() else {
         return Err(OutOfMemory);
     };
-    let third = list(alloc, other)?;
+    let third = list(alloc, other.used)?;
     let mut gone = Vec::new(alloc);
-    missing(&mut gone, &second, values)?;
-    missing_of(&mut gone, &second, &third)?;
-    add_all(&mut second, &third)?;
-    note_all(&mut second, values)?;
-    sets.push(second)?;
+    missing(&mut gone, &used, values)?;
+    missing_of(&mut gone, &used, &third)?;
+    add_all(&mut used, &third)?;
+    note_all(&mut used, values)?;
+    sets.push(Rest { used, wants })?;
     Ok(Ahead {
         both: false,
         new: false,
         gone,
+        wanted: 0,
+        arguments: 0,
         third,
     })
 }
@@ -176,7 +207,7 @@ fn declares(form: &AForm) -> bool
 }
 
 // Of a node.
-fn before(alloc: Global, sets: &mut Vec<Used>, node: &ANode) -> Result<Ahead, OutOfMemory>
+fn before(alloc: Global, sets: &mut Vec<Rest>, node: &ANode) -> Result<Ahead, OutOfMemory>
     requires { AArity node.now.form (a_values node.now.values.items) }
     ensures { IfOk result (λ w. (ts : List ATm) → AllHold (newest sets.old.items) ts
         → Tells node.now.form (a_values node.now.values.items) ts w
@@ -189,11 +220,13 @@ fn before(alloc: Global, sets: &mut Vec<Used>, node: &ANode) -> Result<Ahead, Ou
     }
     match &node.form {
         AForm::Call(_) => {
-            let made = before_end(alloc, sets, values)?;
+            let wants = of_call(alloc, values)?;
+            let made = before_end(alloc, sets, values, wants)?;
             Ok(made)
         }
         AForm::Halt => {
-            let made = before_end(alloc, sets, values)?;
+            let wants = of_halt(alloc, first(values))?;
+            let made = before_end(alloc, sets, values, wants)?;
             Ok(made)
         }
         AForm::If0 => {
@@ -204,11 +237,11 @@ fn before(alloc: Global, sets: &mut Vec<Used>, node: &ANode) -> Result<Ahead, Ou
     }
 }
 
-// What comes after each node, the last node first, and the sets of the terms that the nodes make.
+// What comes after each node, the last node first, and what the terms use that the nodes make.
 fn look_back(
     alloc: Global,
     nodes: &[ANode],
-    sets: &mut Vec<Used>,
+    sets: &mut Vec<Rest>,
 ) -> Result<Vec<Ahead>, OutOfMemory>
     requires row { ARow nodes.now 1 }
     requires none { sets.old.items ≡ [] }
@@ -236,6 +269,6 @@ pub fn look_ahead(alloc: Global, nodes: &[ANode]) -> Result<Aheads, OutOfMemory>
     let Some(whole) = sets.pop() else {
         return Err(OutOfMemory);
     };
-    let first = list(alloc, whole)?;
+    let first = list(alloc, whole.used)?;
     Ok(Aheads { each, first })
 }

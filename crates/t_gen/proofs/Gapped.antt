@@ -1,18 +1,18 @@
 -- What is done to gaps, and to the registers in use.
-use Rattle.std.proofs.Common.{◌≡◌, ℕ, ◌+◌, ◌<◌, ◌≤◌, refl, sym, ap, ◌∙◌, arith, ⊎_elim, ◌⊎◌, inl, inr}
-use Rattle.std.specs.Prelude.{Bool, true, false, ◌&&◌, ◌||◌, ◌==◌, nat_lt, ◌^◌, not, cond, Option, Some, None, IsSome, is_some, List, [], ◌∷◌, ◌++◌}
+use Rattle.std.proofs.Common.{◌≡◌, ℕ, ◌+◌, ◌<◌, ◌≤◌, refl, sym, ap, ◌∙◌, subst, arith, ⊎_elim, ◌⊎◌, inl, inr}
+use Rattle.std.specs.Prelude.{Bool, true, false, ◌&&◌, ◌||◌, ◌==◌, nat_lt, ◌^◌, not, cond, Option, Some, None, IsSome, is_some, IfSome, List, [], ◌∷◌, ◌++◌, slice_get}
 use Rattle.std.proofs.lemmas.Bool.{eq-eqb, ne_eqb, lt-ltb, le-ltb, cases_lt, cases_eq}
 use Rattle.std.specs.Ordering.{nat_cmp, is_eq, is_gt}
 use Rattle.std.proofs.lemmas.Cmp.{by_ranked, ranked}
 use Rattle.std.proofs.lemmas.Map.Keys.{le_from_not_gt, ge_from_not_lt}
 use Rattle.std.specs.declared.ops.Bound.TheVariants.{Included, Unbounded}
-use Rattle.std.specs.BTreeMap.Range.{IsRangeOf}
+use Rattle.std.specs.BTreeMap.Range.{IsRangeOf, IsEntryInRange, IsLeBy}
 use Rattle.std.specs.Cmp.{unsigned_tied}
-use Rattle.std.specs.BTreeMap.{BTreeMap, get, IsLowerBound}
+use Rattle.std.specs.BTreeMap.{BTreeMap, get}
 use Rattle.std.specs.BTreeSet.{BTreeSet, contains}
 use Rattle.t_gen.specs.Registers.{Gaps, Besides, Least}
 
-clash : {x : Bool} → x ≡ true → x ≡ false → ⊥
+pub clash : {x : Bool} → x ≡ true → x ≡ false → ⊥
 clash y z = cc
 
 and_none : (x : Bool) → (x && false) ≡ false
@@ -254,16 +254,26 @@ besides_one h r q one s = same_less h r q (λ e. absurd (apart e))
     apart : r ≡ q → ⊥
     apart e = ⊎_elim (λ (b : q < r). omega (arith, b, e)) (λ (b : r + 1 ≤ q). omega (arith, b, e)) s
 
--- the first gap's first register is the least one
-pub gaps_least : (g : BTreeMap ℕ ℕ) (h : ℕ → Bool) (f e : ℕ) → Gaps g h → get nat_cmp g f ≡ Some e → ((a b : ℕ) → get nat_cmp g a ≡ Some b → a < f → ⊥) → Least f h
-gaps_least g h f e k at low =
-    (n.0, k.only f e f at (omega arith) n.1, λ r le lt. held r le lt)
-  where
-    n : (1 ≤ f) × (f < e) × (e < 2 ^ 64)
-    n = k.ends f e at
+-- a register that is in a gap is the least one from itself on
+pub gap_here : (g : BTreeMap ℕ ℕ) (h : ℕ → Bool) (s a b : ℕ) → Gaps g h → get nat_cmp g a ≡ Some b → a ≤ s → s < b → Least s s h
+gap_here g h s a b k at le lt = (omega arith, k.only a b s at le lt, λ r from to. absurd (omega (arith, from, to)))
 
-    held : (r : ℕ) → 1 ≤ r → r < f → h r ≡ true
-    held r le lt = ⊎_elim (λ y. y) (λ z. let o = k.found r le (omega (arith, lt, n.1, n.2)) z in absurd (low o.0 o.1 o.2 (omega (arith, o.3, lt)))) (bool_cases (h r))
+-- and where one is in none, the first register of the next gap is
+pub gap_next : (g : BTreeMap ℕ ℕ) (h : ℕ → Bool) (s f b : ℕ) → Gaps g h → 1 ≤ s → (s + 1 < 2 ^ 64 → h s ≡ true) → s ≤ f → get nat_cmp g f ≡ Some b → ((a b : ℕ) → get nat_cmp g a ≡ Some b → s ≤ a → f ≤ a) → Least s f h
+gap_next g h s f b k one on le at low = (le, k.only f b f at (omega arith) n.1, λ r from to. held r from to)
+  where
+    n : (1 ≤ f) × (f < b) × (b < 2 ^ 64)
+    n = k.ends f b at
+
+    held : (r : ℕ) → s ≤ r → r < f → h r ≡ true
+    held r from to = ⊎_elim (λ y. y)
+        (λ z.
+        let o = k.found r (omega (arith, one, from)) (omega (arith, to, n.1, n.2)) z in
+        ⊎_elim
+        (λ (lt : o.0 < s). absurd (clash (on (omega (arith, from, to, n.1, n.2))) (k.only o.0 o.1 s o.2 (omega (arith, lt)) (omega (arith, from, o.4)))))
+        (λ (ge : s ≤ o.0). (let up = low o.0 o.1 o.2 ge in absurd (omega (arith, up, o.3, to))))
+        (cases_lt o.0 s))
+        (bool_cases (h r))
 
 not_gt : (a b : ℕ) → a ≤ b → is_gt (nat_cmp a b) ≡ false
 not_gt a b le = by_ranked (a < b) (a ≡ b) (b < a) (nat_cmp a b) (ranked a b (nat_cmp a b) refl)
@@ -272,9 +282,16 @@ not_gt a b le = by_ranked (a < b) (a ≡ b) (b < a) (nat_cmp a b) (ranked a b (n
 there : {x : Option ℕ} (w : ℕ) → x ≡ Some w → IsSome x
 there w e = ap is_some e
 
--- no gap begins before the first one
-pub not_below : (g : BTreeMap ℕ ℕ) (f : ℕ) → IsLowerBound nat_cmp g f → (a b : ℕ) → get nat_cmp g a ≡ Some b → a < f → ⊥
-not_below g f low a b e lt = let le = le_from_not_gt f a (low a (there b e)) in omega (arith, le, lt)
+-- the first gap of those that begin at r or after it
+pub first_one : (g : BTreeMap ℕ ℕ) (r x y : ℕ) (es t : List (ℕ × ℕ)) → IsRangeOf nat_cmp (Included r) Unbounded g es → es ≡ (x, y) ∷ t →
+    (r ≤ x) × ((b : ℕ) × (get nat_cmp g x ≡ Some b)) × ((a b : ℕ) → get nat_cmp g a ≡ Some b → r ≤ a → x ≤ a)
+first_one g r x y es t p e =
+    let h : slice_get es 0 ≡ Some (x, y) = ap (λ zs. slice_get zs 0) e in
+    let i = subst (λ o. IfSome o (IsEntryInRange nat_cmp (Included r) Unbounded g)) h p.1 in (
+      le_from_not_gt r x i.0.0,
+      (y, i.1),
+      λ a b z le. le_from_not_gt x a (subst (λ o. IfSome o (λ (e : ℕ × ℕ). IsLeBy nat_cmp e.0 a)) h (p.2 a (not_gt r a le, tt) (there b z))),
+    )
 
 -- the last gap of those that begin at r or before it
 pub last_one : (g : BTreeMap ℕ ℕ) (r x y : ℕ) (es t : List (ℕ × ℕ)) → IsRangeOf nat_cmp Unbounded (Included r) g es → es ≡ t ++ (x, y) ∷ [] →

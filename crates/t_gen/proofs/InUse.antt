@@ -6,12 +6,12 @@ use Rattle.a_terms.specs.Tree as a
 use Rattle.a_uses.specs.Uses.{Listed, mem, Ending}
 use Rattle.a_uses.specs.declared.ahead.Ahead.{Ahead}
 use Rattle.a_uses.proofs.Sets.{or_none, listed_mem}
-use Rattle.gen_law.specs.Gen.{place, top, busy, free, uses, uses_decl, used, target, rows}
+use Rattle.gen_law.specs.Gen.{place, top, busy, picked, free, uses, uses_decl, used, target, rows}
 use Rattle.gen_law.specs.Registers.{Own}
-use Rattle.gen_law.proofs.Free.{busy_place}
-use Rattle.gen_law.proofs.Own.{own_fewer, own_next, busy_found, free_is, top_is}
+use Rattle.gen_law.proofs.Free.{busy_place, busy_found}
+use Rattle.gen_law.proofs.Own.{own_fewer, own_next, top_is}
 use Rattle.t_emit.specs.Code.{kept}
-use Rattle.t_gen.specs.Registers.{Holds, Least, Greatest}
+use Rattle.t_gen.specs.Registers.{Holds, Greatest}
 use Rattle.a_terms.specs.Row.{top as top_of, others}
 use Rattle.a_terms.specs.NodeTrees.{no_term}
 use Rattle.t_gen.specs.Pending.{Parting}
@@ -185,8 +185,8 @@ module _ (d : a.ADecl) (e : a.ATm) (w : Ahead) (m : List ℕ) (ending : Ending d
       (λ n. ap₂ (λ x y. x && not (y && true)) (kept_is d e n) (ending.2 n) ∙ then_left (uses_decl d n) (used e (suc n)) (stores d n) (stores_uses d n))
       s h
 
-  pub least_free : (f : ℕ) → Least f (λ r. busy r m (kept d e)) → f ≡ free m (kept d e)
-  least_free f l = free_is m (kept d e) f l.0 l.1 l.2
+  pub free_is : (f from : ℕ) → from ≡ suc w.arguments → f ≡ picked w.wanted from m (kept d e) → f ≡ free m (kept d e) e
+  free_is f from next is = is ∙ ap₂ (λ h s. picked h s m (kept d e)) ending.3 (next ∙ ap suc ending.4)
 
   pub chosen : (s : Registers) (rd : ℕ) → rd ≡ target m d e → Holds s (λ r. (w.new && rd == r) || busy r m (λ n. used e (suc n))) → Keeps s (rd ∷ m) (used e)
   chosen s rd is h = record {

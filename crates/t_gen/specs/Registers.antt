@@ -21,9 +21,9 @@ pub record Holds (s : Registers) (h : ℕ → Bool) : Type 0 where
 abbrev pub Besides : ℕ → ℕ → (ℕ → Bool) → (ℕ → Bool) → Type 0
 Besides a b h i = (r : ℕ) → 1 ≤ r → (r < a) ⊎ (b ≤ r) → h r ≡ i r
 
--- f is the first register that h is not true of
-abbrev pub Least : ℕ → (ℕ → Bool) → Type 0
-Least f h = (1 ≤ f) × (h f ≡ false) × ((r : ℕ) → 1 ≤ r → r < f → h r ≡ true)
+-- f is the first register from s on that h is not true of
+abbrev pub Least : ℕ → ℕ → (ℕ → Bool) → Type 0
+Least s f h = (s ≤ f) × (h f ≡ false) × ((r : ℕ) → s ≤ r → r < f → h r ≡ true)
 
 -- t is the last register that h is true of, or 0
 abbrev pub Greatest : ℕ → (ℕ → Bool) → Type 0

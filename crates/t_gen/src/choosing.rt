@@ -122,7 +122,8 @@ fn stored(form: &AForm, values: &[AValue]) -> Option<u64>
 }
 
 /// The register of the variable that is declared: those in use are then the ones of the rest. What is stored keeps its
-/// register until it is stored. An error is want of memory.
+/// register until it is stored. A new register is the one in which the end of the rest wants the variable, where it is
+/// free, or else the first free one above that end's arguments. An error is want of memory.
 pub fn choose(
     registers: &mut Registers,
     vars: &[Entry],
@@ -138,7 +139,8 @@ pub fn choose(
         × Keeps registers.new (rd ∷ homes vars.now) (used e)) }
 {
     release_all(registers, vars, &ahead.gone, stored(form, values))?;
-    let free = registers.least()?;
+    let from = after(ahead.arguments)?;
+    let free = registers.pick(ahead.wanted, from)?;
     let rd = target(vars, form, values, ahead.both, free);
     release_all(registers, vars, &ahead.gone, None)?;
     take_if(registers, rd, ahead.new)?;

@@ -1,7 +1,9 @@
 // The registers that hold something.
-ghost use Rattle.std.specs.Prelude.{◌≡◌, ℕ, ◌==◌, ◌||◌, ◌&&◌, ◌+◌, ◌≤◌, ◌<◌, ◌^◌, not, Bool, true, false, Some, IfOk, OnOk, IfSome, IfNone};
+ghost use Rattle.std.specs.Prelude.{◌≡◌, ℕ, ◌==◌, ◌||◌, ◌&&◌, ◌+◌, ◌≤◌, ◌<◌, ◌^◌, not, nat_lt, Bool, true, false, Some, List};
+ghost use Rattle.std.specs.Prelude.{IfOk, OnOk, IfSome, IfNone};
 ghost use Rattle.std.specs.Ordering.{nat_cmp};
 ghost use Rattle.std.specs.BTreeMap.{get};
+ghost use Rattle.gen_law.specs.Gen.{busy, picked};
 ghost use Rattle.t_gen.specs.Registers.{Holds, Gaps, Besides, Greatest, Least};
 
 use idx_core::OutOfMemory;
@@ -38,17 +40,40 @@ impl Registers {
         }
     }
 
-    /// The least register that holds nothing. An error says that there is none.
-    pub fn least(&self) -> Result<u64, OutOfMemory>
-        ensures { IfOk result (λ f. (h : ℕ → Bool) → Holds self.now h → Least f h) }
+    // The least register from `from` on that holds nothing. An error says that there is none.
+    fn least(&self, from: u64) -> Result<u64, OutOfMemory>
+        ensures { IfOk result (λ f. (h : ℕ → Bool) → Holds self.now h → 1 ≤ from → Least from f h) }
     {
-        match self.gaps.first_key_value() {
-            Some((first, _)) => {
-                let first = *first;
+        match gap_of(&self.gaps, from) {
+            Some(_) => Ok(from),
+            None => {
+                let first = first_from(&self.gaps, from)?;
                 Ok(first)
             }
-            None => Err(OutOfMemory),
         }
+    }
+
+    // Whether register r is one and holds nothing.
+    fn is_free(&self, r: u64) -> bool
+        ensures { (h : ℕ → Bool) → Holds self.now h → result ≡ (nat_lt 0 r && not (h r)) }
+    {
+        if r == 0 {
+            return false;
+        }
+        !self.busy.contains(&r)
+    }
+
+    /// Register `wanted`, if it is one and holds nothing, or else the least one from `from` on that holds nothing. An
+    /// error says that there is none.
+    pub fn pick(&self, wanted: u64, from: u64) -> Result<u64, OutOfMemory>
+        ensures { IfOk result (λ f. (m : List ℕ) (u : ℕ → Bool) → Holds self.now (λ r. busy r m u) → 1 ≤ from
+            → f ≡ picked wanted from m u) }
+    {
+        if self.is_free(wanted) {
+            return Ok(wanted);
+        }
+        let first = self.least(from)?;
+        Ok(first)
     }
 
     /// Register r holds nothing any more. An error is want of memory.
@@ -111,6 +136,20 @@ fn last_up_to(gaps: &BTreeMap<u64, u64>, r: u64) -> Option<(u64, u64)>
 {
     let (first, end) = gaps.range(..=r).next_back()?;
     Some((*first, *end))
+}
+
+// The first register of the first gap that begins at register r or after it. An error says that there is none.
+fn first_from(gaps: &BTreeMap<u64, u64>, r: u64) -> Result<u64, OutOfMemory>
+    ensures { IfOk result (λ f. (r ≤ f) × ((b : ℕ) × (get nat_cmp gaps.now f ≡ Some b))
+        × ((a b : ℕ) → get nat_cmp gaps.now a ≡ Some b → r ≤ a → f ≤ a)) }
+{
+    match gaps.range(r..).next() {
+        Some((first, _)) => {
+            let first = *first;
+            Ok(first)
+        }
+        None => Err(OutOfMemory),
+    }
 }
 
 // The registers from `first` on and before `end` become a gap, if there are any.

@@ -1,10 +1,10 @@
 -- Putting the tuples and the data back gives the hoisted program, its tuples of constants written out.
-use Rattle.std.proofs.Common.{◌≡◌, ◌≤◌, ◌+◌, ◌-◌, inl, inr, ℕ, zero, suc, List, [], ◌∷◌, ◌++◌, Option, Some, None, refl, sym, ap, ap₂, ◌∙◌, subst, arith}
+use Rattle.std.proofs.Common.{◌≡◌, ◌≤◌, ◌+◌, ◌-◌, inl, inr, ℕ, zero, suc, List, [], ◌∷◌, ◌++◌, length, Option, Some, None, refl, sym, ap, ap₂, ◌∙◌, subst, arith}
 use Rattle.std.specs.Prelude.{Bool, true, false, ◌&&◌, not, option_map, slice_get}
 use Rattle.a_law.specs.Allocate.{afull, all_closed, atype, atypes, closed, is_label}
 use Rattle.a_law.specs.Back.{NoCell_t, NoCell_v, NoCell_vs, NoCells, NoRef, NoRefs, PutsBack, add_field, add_last, arg_count, arg_names, back_all, back_data, back_fields, back_t, back_v, back_vs, drop, drop_fields, drops, held_by, shown_at}
 use Rattle.a_law.specs.Constants.{Constants, constant, constant_at, constants, is_package, of_args, one_if, or_else, packed, settle_all, settle_t, settle_v, settle_vs, tuples_all, tuples_in, tuples_t, tuples_v, tuples_vs, two}
-use Rattle.a_law.specs.Stands.{Any, Content, Gone, Is, Making, Means, Shown, Shows, Shows_fields, Shows_v, Stands_all, Stands_t, Stands_v, Stands_vs, Thing, arg_things, listed, named, thing_at}
+use Rattle.a_law.specs.Stands.{Any, Content, Filling, Gone, Is, Made, Means, Shown, Shows, Shows_fields, Shows_v, Stands_all, Stands_t, Stands_v, Stands_vs, Thing, arg_things, listed, named, takes, thing_at}
 use Rattle.a_terms.specs.Meaning.{pick}
 use Rattle.a_terms.specs.Tree.{ABlk, AConsts, ATm, ATys, AVal, Apply, Arith, Call, Data, Halt, If0, Init, Lab, Let, Malloc, MoreATys, NoATys, Num, Pack, Proj, Unpack, Value, Var, arity}
 use Rattle.c_terms.specs.C.{CTy, CTys, MoreCTys, NoCTys, TCCode, TCInt, TCRef, TCSome, TCTuple, TCVar}
@@ -165,7 +165,7 @@ module _ (ds : List HVal) where
   -- what is put back of a variable
   abbrev Puts : Constants → ℕ → Thing → Shown → Type 0
   Puts os k (Is f) s = (m : ℕ) → (i : ℕ) × (f m ≡ HVar i) × (s m ≡ HVar i)
-  Puts os k (Making j fs n) s = (j ≤ k) × (NoCell_vs (listed fs) → j ≡ k → s k ≡ HTuple (settle_vs os (listed fs)))
+  Puts os k (Made l j fs) s = (j ≤ k) × (NoCell_vs (listed fs) → j ≡ k → s k ≡ HTuple (settle_vs os (listed fs)))
   Puts os k Gone s = Unit {0}
 
   abbrev EnvOk : Constants → ℕ → List Thing → List Shown → Type 0
@@ -173,7 +173,7 @@ module _ (ds : List HVal) where
 
   puts_on : (os : Constants) (o : Option HVal) (k : ℕ) (x : Thing) (s : Shown) → Puts os k x s → Puts (o ∷ os) (suc k) x s
   puts_on os o k (Is f) s p = p
-  puts_on os o k (Making j fs n) s p = (omega (arith, p.0), λ c e. absurd (omega (arith, p.0, e)))
+  puts_on os o k (Made l j fs) s p = (omega (arith, p.0), λ c e. absurd (omega (arith, p.0, e)))
   puts_on os o k Gone s p = tt
 
   env_on : (os : Constants) (o : Option HVal) (k : ℕ) (env : List Thing) (benv : List Shown) → EnvOk os k env benv → EnvOk (o ∷ os) (suc k) (Is (named k) ∷ env) (named k ∷ benv)
@@ -186,11 +186,10 @@ module _ (ds : List HVal) where
 
   var_back : (os : Constants) (k : ℕ) (x : Thing) (s : Shown) (w : HVal) → Means os x k w → NoCell_v w → Puts os k x s → s k ≡ settle_v os w
   var_back os k (Is f) s w m c p = let r = p k in r.2 ∙ sym (ap (settle_v os) (m ∙ r.1))
-  var_back os k (Making j fs zero) s w m c p =
+  var_back os k (Made l j fs) s w m c p =
       let n = subst NoCell_v m.1 c in
       p.1 n m.0
       ∙ sym (ap (settle_v os) m.1 ∙ ap (λ o. or_else o (HTuple (settle_vs os (listed fs)))) (ap (constant os) (sym m.1) ∙ m.2))
-  var_back os k (Making j fs (suc n)) s w m c p = absurd m
   var_back os k Gone s w m c p = absurd m
 
   value_back : (v : AVal) (w : HVal) (os : Constants) (k : ℕ) (env : List Thing) (benv : List Shown) → Stands_v ds os env k v w → NoCell_v w → EnvOk os k env benv → back_v ds benv k v ≡ settle_v os w
@@ -217,16 +216,16 @@ module _ (ds : List HVal) where
       ap₂ MoreHVals (value_back v s.0 os k env benv s.3 n.0 ok) (values_back vs s.1 os k env benv s.4 n.1 ok)
       ∙ sym (ap (settle_vs os) s.2)
 
-  content_no : (a : ATm) (h : HTm) (os : Constants) (env : List Thing) (k : ℕ) → Stands_t ds os Content env k a h → NoCell_t h → ⊥
-  content_no (Let (Init v i w) e) h os env k s c = (subst NoCell_t s.4 c).0
-  content_no (Let (Value v) e) h os env k s c = s
-  content_no (Let (Proj i v) e) h os env k s c = s
-  content_no (Let (Arith op v w) e) h os env k s c = s
-  content_no (Let (Unpack v) e) h os env k s c = s
-  content_no (Let (Malloc ts) e) h os env k s c = s
-  content_no (Call v ts vs) h os env k s c = s
-  content_no (If0 v a b) h os env k s c = s
-  content_no (Halt v) h os env k s c = s
+  content_no : (a : ATm) (h : HTm) (os : Constants) (made : List ℕ) (env : List Thing) (k : ℕ) → Stands_t ds os Content made env k a h → NoCell_t h → ⊥
+  content_no (Let (Init v i w) e) h os made env k s c = (subst NoCell_t s.4 c).0
+  content_no (Let (Value v) e) h os made env k s c = s
+  content_no (Let (Proj i v) e) h os made env k s c = s
+  content_no (Let (Arith op v w) e) h os made env k s c = s
+  content_no (Let (Unpack v) e) h os made env k s c = s
+  content_no (Let (Malloc ts) e) h os made env k s c = s
+  content_no (Call v ts vs) h os made env k s c = s
+  content_no (If0 v a b) h os made env k s c = s
+  content_no (Halt v) h os made env k s c = s
 
   more_fields : (fs : List HVal) (y : HVal) (os : Constants) → add_last (settle_vs os (listed fs)) (settle_v os y) ≡ settle_vs os (listed (fs ++ y ∷ []))
   more_fields [] y os = refl
@@ -236,54 +235,76 @@ module _ (ds : List HVal) where
   fields_no [] y c = (tt, c.0)
   fields_no (x ∷ fs) y c = let r = fields_no fs y c.1 in ((c.0, r.0), r.1)
 
-  init_back : (v w : AVal) (os : Constants) (k : ℕ) (env : List Thing) (benv : List Shown) (j : ℕ) (fs : List HVal) (n : ℕ) (y : HVal) → v ≡ Var j → thing_at env j ≡ Making k fs (suc n) → Stands_v ds os env k w y → EnvOk os k env benv → NoCell_vs (listed (fs ++ y ∷ [])) →
-      add_field (back_v ds benv k v) (back_v ds benv k w) ≡ HTuple (settle_vs os (listed (fs ++ y ∷ [])))
-  init_back v w os k env benv j fs n y ev et sw ok c =
+  -- one field more of a tuple that is filled in part
+  abbrev Partly : Constants → ℕ → List HVal → Shown → Type 0
+  Partly os k fs s = NoCell_vs (listed fs) → s k ≡ HTuple (settle_vs os (listed fs))
+
+  init_back : (v w : AVal) (os : Constants) (k : ℕ) (env : List Thing) (benv : List Shown) (fs : List HVal) (y : HVal) →
+      v ≡ Var 0 → Stands_v ds os env k w y → EnvOk os k env benv → Partly os k fs (shown_at benv 0) →
+      Partly os k (fs ++ y ∷ []) (λ m. add_field (back_v ds benv m v) (back_v ds benv m w))
+  init_back v w os k env benv fs y ev sw ok old c =
       let no = fields_no fs y c in
-      let old = subst (λ x. Puts os k x (shown_at benv j)) et (ok j) in
-      ap₂ add_field (ap (back_v ds benv k) ev ∙ old.1 no.0 refl) (value_back w y os k env benv sw no.1 ok)
+      ap₂ add_field (ap (back_v ds benv k) ev ∙ old no.0) (value_back w y os k env benv sw no.1 ok)
       ∙ ap HTuple (more_fields fs y os)
 
-  term_back : (a : ATm) (h : HTm) (os : Constants) (k : ℕ) (env : List Thing) (benv : List Shown) → Stands_t ds os Any env k a h → NoCell_t h → EnvOk os k env benv → back_t ds benv k a ≡ settle_t os h
-  term_back (Let (Value v) e) h os k env benv (w, t, is, sv, st) c ok =
-      let n = subst NoCell_t is c in
-      ap₂ (λ x y. HLet (HName x) y) (value_back v w os k env benv sv n.0 ok) (term_back e t (constant os w ∷ os) (suc k) (Is (named k) ∷ env) (named k ∷ benv) st n.1 (env_on os (constant os w) k env benv ok))
-      ∙ sym (ap (settle_t os) is)
-  term_back (Let (Proj i v) e) h os k env benv (w, t, inl is, sv, st) c ok =
-      let n = subst NoCell_t is c in
-      ap₂ (λ x y. HLet (HProj i x) y) (value_back v w os k env benv sv n.0 ok) (term_back e t (None ∷ os) (suc k) (Is (named k) ∷ env) (named k ∷ benv) st n.1 (env_on os None k env benv ok))
-      ∙ sym (ap (settle_t os) is)
-  term_back (Let (Proj i v) e) h os k env benv (w, t, inr get, sv, st) c ok = absurd (subst NoCell_t get.1 c).0
-  term_back (Let (Arith op v w) e) h os k env benv (x, y, t, is, sv, sw, st) c ok =
-      let n = subst NoCell_t is c in
-      ap₂ (λ p q. HLet (HArith op p q) (back_t ds (named k ∷ benv) (suc k) e)) (value_back v x os k env benv sv n.0.0 ok) (value_back w y os k env benv sw n.0.1 ok)
-      ∙ ap (HLet (HArith op (settle_v os x) (settle_v os y))) (term_back e t (None ∷ os) (suc k) (Is (named k) ∷ env) (named k ∷ benv) st n.1 (env_on os None k env benv ok))
-      ∙ sym (ap (settle_t os) is)
-  term_back (Let (Unpack v) e) h os k env benv (w, t, is, sv, st) c ok =
-      let n = subst NoCell_t is c in
-      ap₂ (λ x y. HLet (HUnpack x) y) (value_back v w os k env benv sv n.0 ok) (term_back e t (None ∷ os) (suc k) (Is (named k) ∷ env) (named k ∷ benv) st n.1 (env_on os None k env benv ok))
-      ∙ sym (ap (settle_t os) is)
-  term_back (Let (Malloc ts) e) h os k env benv (inl st) c ok =
-      term_back e h os k (Making k [] (arity ts) ∷ env) ((λ m. HTuple NoHVals) ∷ benv) st c (env_more os k env benv (Making k [] (arity ts)) (λ m. HTuple NoHVals) (omega arith, λ n q. refl) ok)
-  term_back (Let (Malloc ts) e) h os k env benv (inr st) c ok = absurd (content_no e h os (Gone ∷ env) k st c)
-  term_back (Let (Init v i w) e) h os k env benv (inl (j, fs, n, y, ev, et, ei, sw, st)) c ok =
-      let s : Shown = λ m. add_field (back_v ds benv m v) (back_v ds benv m w) in
-      let new = Making k (fs ++ y ∷ []) n in
-      term_back e h os k (new ∷ env) (s ∷ benv) st c (env_more os k env benv new s (omega arith, λ q z. init_back v w os k env benv j fs n y ev et sw ok q) ok)
-  term_back (Let (Init v i w) e) h os k env benv (inr (x, y, t, one, is, sv, sw, st)) c ok = absurd (subst NoCell_t is c).0
-  term_back (Call v ts vs) h os k env benv (x, us, xs, is, types, sv, svs) c ok =
-      let n = subst NoCell_t is c in
-      ap₂ (λ p q. HCall p q (back_vs ds benv k vs)) (value_back v x os k env benv sv n.0 ok) (ap drops (sym types) ∙ drops_are us n.1)
-      ∙ ap (HCall (settle_v os x) us) (values_back vs xs os k env benv svs n.2 ok)
-      ∙ sym (ap (settle_t os) is)
-  term_back (If0 v a b) h os k env benv (x, t, u, is, sv, st, su) c ok =
-      let n = subst NoCell_t is c in
-      ap₂ (λ p q. HIf p q (back_t ds benv k b)) (value_back v x os k env benv sv n.0 ok) (term_back a t os k env benv st n.1 ok)
-      ∙ ap (HIf (settle_v os x) (settle_t os t)) (term_back b u os k env benv su n.2 ok)
-      ∙ sym (ap (settle_t os) is)
-  term_back (Halt v) h os k env benv (x, is, sv) c ok =
-      let n = subst NoCell_t is c in
-      ap HHalt (value_back v x os k env benv sv n ok) ∙ sym (ap (settle_t os) is)
+  mutual
+    term_back : (a : ATm) (h : HTm) (os : Constants) (made : List ℕ) (k : ℕ) (env : List Thing) (benv : List Shown) → Stands_t ds os Any made env k a h → NoCell_t h → EnvOk os k env benv → back_t ds benv k a ≡ settle_t os h
+    term_back (Let (Value v) e) h os made k env benv (w, t, is, sv, at, st) c ok =
+        let n = subst NoCell_t is c in
+        ap₂ (λ x y. HLet (HName x) y) (value_back v w os k env benv sv n.0 ok) (term_back e t (constant os w ∷ os) [] (suc k) (Is (named k) ∷ env) (named k ∷ benv) st n.1 (env_on os (constant os w) k env benv ok))
+        ∙ sym (ap (settle_t os) is)
+    term_back (Let (Proj i v) e) h os made k env benv (w, t, inl is, sv, at, st) c ok =
+        let n = subst NoCell_t is c in
+        ap₂ (λ x y. HLet (HProj i x) y) (value_back v w os k env benv sv n.0 ok) (term_back e t (None ∷ os) [] (suc k) (Is (named k) ∷ env) (named k ∷ benv) st n.1 (env_on os None k env benv ok))
+        ∙ sym (ap (settle_t os) is)
+    term_back (Let (Proj i v) e) h os made k env benv (w, t, inr get, sv, at, st) c ok = absurd (subst NoCell_t get.1 c).0
+    term_back (Let (Arith op v w) e) h os made k env benv (x, y, t, is, sv, sw, at, st) c ok =
+        let n = subst NoCell_t is c in
+        ap₂ (λ p q. HLet (HArith op p q) (back_t ds (named k ∷ benv) (suc k) e)) (value_back v x os k env benv sv n.0.0 ok) (value_back w y os k env benv sw n.0.1 ok)
+        ∙ ap (HLet (HArith op (settle_v os x) (settle_v os y))) (term_back e t (None ∷ os) [] (suc k) (Is (named k) ∷ env) (named k ∷ benv) st n.1 (env_on os None k env benv ok))
+        ∙ sym (ap (settle_t os) is)
+    term_back (Let (Unpack v) e) h os made k env benv (w, t, is, sv, at, st) c ok =
+        let n = subst NoCell_t is c in
+        ap₂ (λ x y. HLet (HUnpack x) y) (value_back v w os k env benv sv n.0 ok) (term_back e t (None ∷ os) [] (suc k) (Is (named k) ∷ env) (named k ∷ benv) st n.1 (env_on os None k env benv ok))
+        ∙ sym (ap (settle_t os) is)
+    term_back (Let (Malloc ts) e) h os made k env benv (inl (n, many, st)) c ok =
+        let s : Shown = λ m. HTuple NoHVals in
+        fill_back e h os [] n [] made k (Gone ∷ env) (s ∷ benv) st c (env_more os k env benv Gone s tt ok) (λ q. refl)
+    term_back (Let (Malloc ts) e) h os made k env benv (inr (one, st)) c ok = absurd (content_no e h os made (Gone ∷ env) k st c)
+    term_back (Let (Init v i w) e) h os made k env benv (x, y, t, one, is, sv, sw, at, st) c ok = absurd (subst NoCell_t is c).0
+    term_back (Call v ts vs) h os made k env benv (x, us, xs, is, types, sv, svs, at) c ok =
+        let n = subst NoCell_t is c in
+        ap₂ (λ p q. HCall p q (back_vs ds benv k vs)) (value_back v x os k env benv sv n.0 ok) (ap drops (sym types) ∙ drops_are us n.1)
+        ∙ ap (HCall (settle_v os x) us) (values_back vs xs os k env benv svs n.2 ok)
+        ∙ sym (ap (settle_t os) is)
+    term_back (If0 v a b) h os made k env benv (x, t, u, is, sv, at, st, su) c ok =
+        let n = subst NoCell_t is c in
+        ap₂ (λ p q. HIf p q (back_t ds benv k b)) (value_back v x os k env benv sv n.0 ok) (term_back a t os [] k env benv st n.1 ok)
+        ∙ ap (HIf (settle_v os x) (settle_t os t)) (term_back b u os [] k env benv su n.2 ok)
+        ∙ sym (ap (settle_t os) is)
+    term_back (Halt v) h os made k env benv (x, is, sv, at) c ok =
+        let n = subst NoCell_t is c in
+        ap HHalt (value_back v x os k env benv sv n ok) ∙ sym (ap (settle_t os) is)
+
+    fill_back : (a : ATm) (h : HTm) (os : Constants) (fs : List HVal) (n : ℕ) (taken made : List ℕ) (k : ℕ) (env : List Thing) (benv : List Shown) → Stands_t ds os (Filling fs n taken) made env k a h → NoCell_t h → EnvOk os k env benv →
+        Partly os k fs (shown_at benv 0) → back_t ds benv k a ≡ settle_t os h
+    fill_back (Let (Init v i w) e) h os fs zero taken made k env benv (y, left, ev, ei, sw, at, st) c ok old =
+        let s : Shown = λ m. add_field (back_v ds benv m v) (back_v ds benv m w) in
+        let new = Made (length env) k (fs ++ y ∷ []) in
+        let part = init_back v w os k env benv fs y ev sw ok old in
+        term_back e h os (left ++ length env ∷ []) k (new ∷ env) (s ∷ benv) st c (env_more os k env benv new s (omega arith, λ q z. part q) ok)
+    fill_back (Let (Init v i w) e) h os fs (suc n) taken made k env benv (y, ev, ei, sw, st) c ok old =
+        let s : Shown = λ m. add_field (back_v ds benv m v) (back_v ds benv m w) in
+        let part = init_back v w os k env benv fs y ev sw ok old in
+        fill_back e h os (fs ++ y ∷ []) n (taken ++ takes env w) made k (Gone ∷ env) (s ∷ benv) st c (env_more os k env benv Gone s tt ok) part
+    fill_back (Let (Value v) e) h os fs n taken made k env benv s c ok old = absurd s
+    fill_back (Let (Proj i v) e) h os fs n taken made k env benv s c ok old = absurd s
+    fill_back (Let (Arith op v w) e) h os fs n taken made k env benv s c ok old = absurd s
+    fill_back (Let (Unpack v) e) h os fs n taken made k env benv s c ok old = absurd s
+    fill_back (Let (Malloc ts) e) h os fs n taken made k env benv s c ok old = absurd s
+    fill_back (Call v ts vs) h os fs n taken made k env benv s c ok old = absurd s
+    fill_back (If0 v a b) h os fs n taken made k env benv s c ok old = absurd s
+    fill_back (Halt v) h os fs n taken made k env benv s c ok old = absurd s
 
   args_ok : (ts : ATys) (k : ℕ) (env : List Thing) (benv : List Shown) → ((os : Constants) (m : ℕ) → EnvOk os m env benv) → (os : Constants) (m : ℕ) → EnvOk os m (arg_things k env ts) (arg_names k benv ts)
   args_ok NoATys k env benv ok os m = ok os m
@@ -302,8 +323,8 @@ module _ (ds : List HVal) where
       let os = of_args x.args [] in
       let k = arg_count 0 b.args in
       let z : arity b.args ≡ k = sym (count_is b.args 0 ∙ omega arith) in
-      let st = subst (λ m. Stands_t ds os Any (arg_things 0 [] b.args) m b.body x.body) z s.0.2 in
-      let body = term_back b.body x.body os k (arg_things 0 [] b.args) (arg_names 0 [] b.args) st c.0.1 (args_ok b.args 0 [] [] (λ os m i. tt) os k) in
+      let st = subst (λ m. Stands_t ds os Any [] (arg_things 0 [] b.args) m b.body x.body) z s.0.2 in
+      let body = term_back b.body x.body os [] k (arg_things 0 [] b.args) (arg_names 0 [] b.args) st c.0.1 (args_ok b.args 0 [] [] (λ os m i. tt) os k) in
       let args = ap drops (sym s.0.1) ∙ drops_are x.args c.0.0 in
       ap₂ (λ p q. p ∷ q)
       (ap (λ o. record { owes = o; args = drops b.args; body = back_t ds (arg_names 0 [] b.args) k b.body }) s.0.0
@@ -314,4 +335,4 @@ pub put_back : PutsBack
 put_back p main ks t s c d =
     let ds = tuples_in ks t in
     let no = all_no (tuples_all ks) (tuples_t [] t) (tuples_all_no ks c) (tuples_t_no t [] tt d) in
-    (data_back ds p.tuples ds s.0 no, blocks_back ds p.blocks ks s.1 c, term_back ds main t [] 0 [] [] s.2 d (λ i. tt))
+    (data_back ds p.tuples ds s.0 no, blocks_back ds p.blocks ks s.1 c, term_back ds main t [] [] 0 [] [] s.2 d (λ i. tt))

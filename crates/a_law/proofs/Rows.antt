@@ -1,15 +1,16 @@
 -- Worked rows of allocation: hoisted terms and what they become, held beside the relation, and allocated terms that no
 -- hoisted term stands behind.
-use Rattle.std.proofs.Common.{pos, ◌≡◌, ℕ, suc, List, [], ◌∷◌, length, refl, ap, ◌∙◌, sym, arith, inl, inr}
+use Rattle.std.proofs.Common.{pos, ◌≡◌, ℕ, zero, suc, List, [], ◌∷◌, ◌++◌, refl, ◌∙◌, arith, inl, inr}
 use Rattle.std.specs.Prelude.{true}
+use Rattle.idx_core.specs.declared.arith.Op.TheVariants.{Add}
 use Rattle.a_terms.specs.Meaning.{Halted, meaning}
-use Rattle.a_terms.specs.Tree.{AInt, AVar, ATuple, AExists, ATy, NoATys, MoreATys, MoreAFields, NoAFields, AVal, Var, Num, Lab, Data, Apply, Pack, Value, Proj, Malloc, Init, ATm, Let, Halt}
+use Rattle.a_terms.specs.Tree.{AInt, AVar, ATuple, AExists, ATy, NoATys, MoreATys, MoreAFields, NoAFields, Var, Num, Lab, Data, Apply, Pack, Value, Proj, Arith, Malloc, Init, ATm, Let, Halt}
 use Rattle.c_terms.specs.C.{CTy, TCInt, TCRef, TCVar, TCSome, NoCTys, MoreCTys}
 use Rattle.h_terms.specs.H.{HVar, HInt, HLabel, HTuple, HApply, HPack, HVal, NoHVals, MoreHVals, HName, HProj, HCell, HGet, HSet, HTm, HLet, HHalt, HBlk}
 use Rattle.a_law.specs.Allocate.{alloc_data, alloc_main, alloc_prog, atype}
 use Rattle.a_law.specs.Back.{back_data, back_t}
 use Rattle.a_law.specs.Constants.{settle_t, tuples_in}
-use Rattle.a_law.specs.Stands.{Thing, Making, thing_at, Any, Stands_t}
+use Rattle.a_law.specs.Stands.{Any, Stands_t}
 
 abbrev any : CTy
 any = TCSome (TCVar 0)
@@ -186,9 +187,9 @@ cell_made =
 cell_is_made : alloc_main [] cell ≡ cell_made
 cell_is_made = refl
 
-cell_stands : Stands_t [] [] Any [] 0 cell_made cell
+cell_stands : Stands_t [] [] Any [] [] 0 cell_made cell
 cell_stands =
-    inr (_, _, refl, refl, refl, refl, inr (_, _, _, refl, refl, refl, refl, (refl, (_, _, inr (refl, refl), refl, (_, refl, refl)))))
+    inr (refl, (_, _, refl, refl, refl, refl, refl, (_, _, _, refl, refl, refl, refl, refl, (refl, (_, _, inr (refl, refl), refl, refl, (_, refl, refl, refl))))))
 
 reference : atype (TCRef TCInt) ≡ ATuple (MoreAFields AInt true NoAFields)
 reference = refl
@@ -200,18 +201,57 @@ second_field = Let (Malloc (MoreATys AInt NoATys)) (Let (Init (Var 0) 2 (Num (po
 not_first : (i : ℕ) → i ≡ 2 → i ≡ 1 → ⊥
 not_first i two one = omega (arith, two, one)
 
-abbrev fields_of : Thing → List HVal
-fields_of (Making k fs n) = fs
-fields_of t = []
+not_second : (ds : List HVal) (h : HTm) → Stands_t ds [] Any [] [] 0 second_field h → ⊥
+not_second ds h (inl (zero, many, (y, left, var, field, means, at, rest))) = not_first 2 refl field
+not_second ds h (inl (suc n, many, (y, var, field, means, rest))) = not_first 2 refl field
+not_second ds h (inr (one, (x, t, var, field, is, means, takes, rest))) = not_first 2 refl field
 
-abbrev index : AVal → ℕ
-index (Var i) = i
-index v = 0
+-- p = malloc[int, int]; q = p[1] <- 5; r = q[2] <- 6; halt 0: a tuple that nothing takes stands for no hoisted term
+abbrev idle : ATm
+idle =
+    Let (Malloc (MoreATys AInt (MoreATys AInt NoATys)))
+    (Let (Init (Var 0) 1 (Num (pos 5))) (Let (Init (Var 0) 2 (Num (pos 6))) (Halt (Num (pos 0)))))
 
-not_second : (ds : List HVal) (h : HTm) → Stands_t ds [] Any [] 0 second_field h → ⊥
-not_second ds h (inl (inl (j, fs, n, y, var, at, field, means, rest))) =
-    let zero_is : 0 ≡ j = ap index var in
-    let none : [] ≡ fs = ap (λ i. fields_of (thing_at (Making 0 [] 1 ∷ []) i)) zero_is ∙ ap fields_of at in
-    not_first 2 refl (field ∙ ap (λ gs. suc (length gs)) (sym none))
-not_second ds h (inl (inr (x, y, t, field, is, vx, vy, rest))) = not_first 2 refl field
-not_second ds h (inr (x, t, var, field, is, vx, rest)) = not_first 2 refl field
+none_left : (xs : List ℕ) (x : ℕ) → [] ≡ xs ++ x ∷ [] → ⊥
+none_left [] x e = cc
+none_left (y ∷ xs) x e = cc
+
+more_than_two : (n : ℕ) → 2 ≡ suc (suc (suc n)) → ⊥
+more_than_two n e = omega (arith, e)
+
+not_idle : (ds : List HVal) (h : HTm) → Stands_t ds [] Any [] [] 0 idle h → ⊥
+not_idle ds h (inl (zero, many, (y, left, var, field, means, at, (x, z, t, set, is, vx, vz, takes, rest)))) = not_first 2 refl set
+not_idle ds h (inl (suc zero, many, (y, var, field, means, (z, left, var2, field2, means2, at, (x, is, value, takes))))) =
+    none_left left 2 takes
+not_idle ds h (inl (suc (suc n), many, rest)) = more_than_two n many
+not_idle ds h (inr (one, rest)) = not_first 2 refl one
+
+-- n = 1 + 2; t = malloc[int, int]; t1 = t[1] <- n; t2 = t1[2] <- 4; t3 = t1[2] <- 5;
+-- u = malloc[<int, int>, <int, int>]; u1 = u[1] <- t2; u2 = u1[2] <- t3; x = u2; y = #1 x; z = #2 y; halt z:
+-- one tuple in the place of two is filled twice, and halts with 5, where n = 1 + 2; x = <<n, 4>, <n, 5>>; y = #1 x;
+-- z = #2 y; halt z halts with 4; it stands for no hoisted term
+abbrev full : ATy
+full = ATuple (MoreAFields AInt true (MoreAFields AInt true NoAFields))
+
+abbrev shared : ATm
+shared =
+    Let (Arith Add (Num (pos 1)) (Num (pos 2)))
+    (Let (Malloc (MoreATys AInt (MoreATys AInt NoATys)))
+    (Let (Init (Var 0) 1 (Var 1))
+    (Let (Init (Var 0) 2 (Num (pos 4)))
+    (Let (Init (Var 1) 2 (Num (pos 5)))
+    (Let (Malloc (MoreATys full (MoreATys full NoATys)))
+    (Let (Init (Var 0) 1 (Var 2))
+    (Let (Init (Var 0) 2 (Var 2))
+    (Let (Value (Var 0)) (Let (Proj 1 (Var 0)) (Let (Proj 2 (Var 0)) (Halt (Var 0))))))))))))
+
+shared_halts : meaning (record { blocks = []; tuples = [] }) shared 0 ≡ Halted (pos 5) []
+shared_halts = refl
+
+not_shared : (ds : List HVal) (h : HTm) → Stands_t ds [] Any [] [] 0 shared h → ⊥
+not_shared ds h (x, y, t, is, vx, vy, takes, inl (zero, many, (z, left, var, field, means, at, (a, b, c, set, set_is, va, vb, set_takes, rest)))) =
+    not_first 2 refl set
+not_shared ds h (x, y, t, is, vx, vy, takes, inl (suc zero, many, (z, var, field, means, (w, left, var2, field2, means2, at, (a, b, c, set, set_is, va, vb, set_takes, rest))))) =
+    not_first 2 refl set
+not_shared ds h (x, y, t, is, vx, vy, takes, inl (suc (suc n), many, rest)) = more_than_two n many
+not_shared ds h (x, y, t, is, vx, vy, takes, inr (one, rest)) = not_first 2 refl one

@@ -1,5 +1,5 @@
 -- The allocation of a typed program stands for it.
-use Rattle.std.proofs.Common.{◌≡◌, ◌<◌, inl, inr, ℕ, zero, suc, ◌+◌, ◌-◌, List, [], ◌∷◌, ◌++◌, length, Some, None, refl, sym, ap, ◌∙◌, subst, arith, slice_get, length-append}
+use Rattle.std.proofs.Common.{◌≡◌, ◌<◌, inl, inr, ℕ, zero, suc, ◌+◌, ◌-◌, List, [], ◌∷◌, ◌++◌, length, Some, None, refl, sym, ap, ◌∙◌, subst, arith, slice_get, length-append, append-nil, append_assoc, ap₂, true≢false}
 use Rattle.std.specs.Prelude.{Bool}
 use Rattle.a_law.proofs.Consts.{Within, back, front, whole}
 use Rattle.a_law.proofs.Known.{AgreeK, Told, all_shows, agree_args, fact, fact_all, fact_block, fact_d, fact_t}
@@ -8,9 +8,9 @@ use Rattle.a_law.proofs.Scopes.{InT, InV, InVs, args_length, in_t}
 use Rattle.a_law.specs.Allocate.{Known, alloc_all, alloc_t, are_const, arg_depth, arg_levels, atypes, d_types, data_all, data_t, dcl, fill, final, known_of, level_of, n_all, n_block, n_d, n_t, n_v, n_vs, plain, pre_v, pre_vs, v_next, v_type, v_types, val, vals, var_of, vs_next}
 use Rattle.a_law.specs.Back.{arg_count}
 use Rattle.a_law.specs.Constants.{Constants, constant, named_by, of_args, one_if, tuples_all, tuples_d, tuples_in, tuples_t, tuples_v, tuples_vs}
-use Rattle.a_law.specs.Stands.{AllocStands, Any, Gone, Is, Making, Means, Stands_all, Stands_t, Stands_v, Stands_vs, Thing, arg_things, listed, named, thing_at}
+use Rattle.a_law.specs.Stands.{AllocStands, Any, Filling, Gone, Is, Made, Means, Stands_all, Stands_t, Stands_v, Stands_vs, Thing, all_take, arg_things, listed, named, takes, thing_at, tuple_of}
 use Rattle.a_terms.specs.Meaning.{pick}
-use Rattle.a_terms.specs.Tree.{ATm, ATy, ATys, Call, Data, Halt, If0, Init, Let, Malloc, MoreATys, NoATys, Var, arity}
+use Rattle.a_terms.specs.Tree.{AVal, ATm, ATy, ATys, Call, Data, Halt, If0, Init, Let, Malloc, MoreATys, NoATys, Var, arity}
 use Rattle.a_terms.specs.Typing.{types_of}
 use Rattle.c_terms.specs.C.{CTys, MoreCTys, NoCTys}
 use Rattle.c_terms.specs.Typing.{cargs_onto}
@@ -49,40 +49,64 @@ agree_later (l ∷ ls) (suc k) d d2 env env2 q a = (q l.level (Is (named k)) a.0
 
 module _ (ds : List HVal) where
   module _ (k0 : ℕ) (ks : HBlks) (g : List ATy) (ls : List Known) (os : Constants) (known : AgreeK ds ls os) where
-    -- what is left of a value stands for it, from depth d on
-    abbrev Read : ℕ → ℕ → HVal → ℕ → List Thing → Type 0
-    Read b e v d env = (d3 : ℕ) (env3 : List Thing) → Later d env d3 env3 → Stands_v ds os env3 k0 (val ls b e d3 v) v
+    -- what is left of a value stands for it, and takes these tuples, from depth d on
+    abbrev Read : ℕ → ℕ → HVal → ℕ → List ℕ → List Thing → Type 0
+    Read b e v d taken env =
+        (d3 : ℕ) (env3 : List Thing) → Later d env d3 env3 →
+        Stands_v ds os env3 k0 (val ls b e d3 v) v × (takes env3 (val ls b e d3 v) ≡ taken)
 
-    abbrev Reads : ℕ → ℕ → HVals → ℕ → List Thing → Type 0
-    Reads b e NoHVals d env = Unit {0}
-    Reads b e (MoreHVals v vs) d env = Read b e v d env × Reads (n_v ls b v) (v_next ls e v) vs d env
+    abbrev Reads : ℕ → ℕ → HVals → ℕ → List ℕ → List Thing → Type 0
+    Reads b e NoHVals d taken env = taken ≡ []
+    Reads b e (MoreHVals v vs) d taken env =
+        (xs : List ℕ) × (ys : List ℕ) × (taken ≡ xs ++ ys) × Read b e v d xs env
+        × Reads (n_v ls b v) (v_next ls e v) vs d ys env
 
-    reads_later : (vs : HVals) (b e d d2 : ℕ) (env env2 : List Thing) → Later d env d2 env2 → Reads b e vs d env → Reads b e vs d2 env2
-    reads_later NoHVals b e d d2 env env2 q r = tt
-    reads_later (MoreHVals v vs) b e d d2 env env2 q r =
-        (λ d3 env3 p. r.0 d3 env3 (λ l x a. p l x (q l x a)), reads_later vs (n_v ls b v) (v_next ls e v) d d2 env env2 q r.1)
+    reads_later : (vs : HVals) (b e d d2 : ℕ) (taken : List ℕ) (env env2 : List Thing) → Later d env d2 env2 →
+        Reads b e vs d taken env → Reads b e vs d2 taken env2
+    reads_later NoHVals b e d d2 taken env env2 q r = r
+    reads_later (MoreHVals v vs) b e d d2 taken env env2 q r =
+        let rest = reads_later vs (n_v ls b v) (v_next ls e v) d d2 r.1 env env2 q r.4 in
+        (r.0, r.1, r.2, λ d3 env3 p. r.3 d3 env3 (λ l x a. p l x (q l x a)), rest)
 
-    all_read : (vs : HVals) (b e d : ℕ) (env : List Thing) → Reads b e vs d env → Stands_vs ds os env k0 (vals ls b e d vs) vs
-    all_read NoHVals b e d env r = refl
-    all_read (MoreHVals v vs) b e d env r =
-        (v, vs, refl, r.0 d env (λ l x a. a), all_read vs (n_v ls b v) (v_next ls e v) d env r.1)
+    all_read : (vs : HVals) (b e d : ℕ) (taken : List ℕ) (env : List Thing) → Reads b e vs d taken env →
+        Stands_vs ds os env k0 (vals ls b e d vs) vs × (all_take env (vals ls b e d vs) ≡ taken)
+    all_read NoHVals b e d taken env r = (refl, sym r)
+    all_read (MoreHVals v vs) b e d taken env r =
+        let first = r.3 d env (λ l x a. a) in
+        let rest = all_read vs (n_v ls b v) (v_next ls e v) d r.1 env r.4 in
+        ((v, vs, refl, first.0, rest.0), ap₂ ◌++◌ first.1 rest.1 ∙ sym r.2)
 
-    var_read : (ms : List Known) (k j i d : ℕ) (env : List Thing) → k0 ≡ k + j → i < k → Agree d ms k env → (d3 : ℕ) (env3 : List Thing) → Later d env d3 env3 → Stands_v ds os env3 k0 (var_of d3 (level_of (slice_get ms i))) (HVar (j + i))
+    -- a variable stands for a hoisted one, and takes no tuple
+    abbrev Stays : List Thing → AVal → ℕ → Type 0
+    Stays env v i = Stands_v ds os env k0 v (HVar i) × (takes env v ≡ [])
+
+    var_read : (ms : List Known) (k j i d : ℕ) (env : List Thing) → k0 ≡ k + j → i < k → Agree d ms k env →
+        (d3 : ℕ) (env3 : List Thing) → Later d env d3 env3 →
+        Stays env3 (var_of d3 (level_of (slice_get ms i))) (j + i)
     var_read [] zero j i d env e s a d3 env3 q = absurd (omega arith)
     var_read [] (suc k) j i d env e s a d3 env3 q = absurd a
     var_read (l ∷ ms) zero j i d env e s a d3 env3 q = absurd a
     var_read (l ∷ ms) (suc k) j zero d env e s a d3 env3 q =
         let z : j + 0 ≡ k0 - suc k = omega (arith, e) in
-        subst (λ x. Means os x k0 (HVar (j + 0))) (sym (thing_nth env3 (d3 - suc l.level) (Is (named k)) (q l.level (Is (named k)) a.0).1)) (ap HVar z)
+        let there = thing_nth env3 (d3 - suc l.level) (Is (named k)) (q l.level (Is (named k)) a.0).1 in
+        subst (λ x. Means os x k0 (HVar (j + 0)) × (tuple_of x ≡ [])) (sym there) (ap HVar z, refl)
     var_read (l ∷ ms) (suc k) j (suc i) d env e s a d3 env3 q =
         let z : suc j + i ≡ j + suc i = omega arith in
-        subst (λ n. Stands_v ds os env3 k0 (var_of d3 (level_of (slice_get ms i))) (HVar n)) z (var_read ms k (suc j) i d env (omega (arith, e)) (omega arith) a.1 d3 env3 q)
+        subst (λ n. Stays env3 (var_of d3 (level_of (slice_get ms i))) n) z
+        (var_read ms k (suc j) i d env (omega (arith, e)) (omega arith) a.1 d3 env3 q)
 
-    record Comes (d : ℕ) (env : List Thing) (pre : ATm → ATm) (d2 : ℕ) (Q : List Thing → Type 0) : Type 0 where
+    record Comes (d : ℕ) (env : List Thing) (pre : ATm → ATm) (d2 : ℕ) (Q : List ℕ → List Thing → Type 0) : Type 0 where
       vars : List Thing
-      shows : (rest : ATm) (h : HTm) → Stands_t ds os Any vars k0 rest h → Stands_t ds os Any env k0 (pre rest) h
+      taken : List ℕ
+      shows : (made next : List ℕ) → next ≡ made ++ taken → (rest : ATm) (h : HTm) →
+          Stands_t ds os Any next vars k0 rest h → Stands_t ds os Any made env k0 (pre rest) h
       later : Later d env d2 vars
-      good : Q vars
+      good : Q taken vars
+
+    -- nothing is made
+    as_is : (made next : List ℕ) → next ≡ made ++ [] → (env : List Thing) (rest : ATm) (h : HTm) →
+        Stands_t ds os Any next env k0 rest h → Stands_t ds os Any made env k0 rest h
+    as_is made next e env rest h x = subst (λ m. Stands_t ds os Any m env k0 rest h) (e ∙ append-nil made) x
 
     -- the fields after those of vs
     abbrev then_all : List HVal → HVals → List HVal
@@ -105,24 +129,58 @@ module _ (ds : List HVal) where
     then_is NoHVals fs = sym (onto_none (listed fs))
     then_is (MoreHVals v vs) fs = then_is vs (fs ++ v ∷ []) ∙ at_last fs v vs
 
-    record Filled (l : ℕ) (fs : List HVal) (env : List Thing) (vs : HVals) (pre : ATm → ATm) : Type 0 where
+    record Filled (l : ℕ) (fs : List HVal) (env : List Thing) (v : HVal) (vs : HVals) (done taken : List ℕ)
+        (pre : ATm → ATm) : Type 0 where
       vars : List Thing
-      shows : (rest : ATm) (h : HTm) → Stands_t ds os Any (Making k0 (then_all fs vs) 0 ∷ vars) k0 rest h → Stands_t ds os Any (Making k0 fs (many vs) ∷ env) k0 (pre rest) h
-      later : Later (suc l) (Making k0 fs (many vs) ∷ env) (suc (final l vs)) (Making k0 (then_all fs vs) 0 ∷ vars)
+      number : ℕ
+      shows : (made left next : List ℕ) → made ≡ left ++ (done ++ taken) → next ≡ left ++ number ∷ [] →
+          (rest : ATm) (h : HTm) →
+          Stands_t ds os Any next (Made number k0 (then_all fs (MoreHVals v vs)) ∷ vars) k0 rest h →
+          Stands_t ds os (Filling fs (many vs) done) made (Gone ∷ env) k0 (pre rest) h
+      later : Later (suc l) (Gone ∷ env) (suc (final l (MoreHVals v vs)))
+          (Made number k0 (then_all fs (MoreHVals v vs)) ∷ vars)
 
-    filled : (vs : HVals) (b e l i : ℕ) (fs : List HVal) (env : List Thing) → i ≡ suc (length fs) → Reads b e vs (suc l) (Making k0 fs (many vs) ∷ env) → Filled l fs env vs (fill ls b e l i vs)
-    filled NoHVals b e l i fs env q r = record { vars = env; shows = λ rest h x. x; later = λ p x a. a }
-    filled (MoreHVals v vs) b e l i fs env q r =
-        let old = Making k0 fs (suc (many vs)) in
-        let new = Making k0 (fs ++ v ∷ []) (many vs) in
-        let on : Later (suc l) (old ∷ env) (suc (suc l)) (new ∷ old ∷ env) = λ p x a. at_more (suc l) (old ∷ env) p x new a in
-        let n : suc i ≡ suc (length (fs ++ v ∷ [])) = omega (arith, q, length-append fs (v ∷ [])) in
+    filled : (vs : HVals) (v : HVal) (b e l i : ℕ) (fs : List HVal) (env : List Thing) (done taken : List ℕ) →
+        i ≡ suc (length fs) → Reads b e (MoreHVals v vs) (suc l) taken (Gone ∷ env) →
+        Filled l fs env v vs done taken (fill ls b e l i (MoreHVals v vs))
+    filled NoHVals v b e l i fs env done taken q r =
+        let old = Gone ∷ env in
+        let new = Made (length old) k0 (fs ++ v ∷ []) in
+        let first = r.3 (suc l) old (λ p y a. a) in
+        let same : takes old (val ls b e (suc l) v) ≡ taken =
+        first.1 ∙ sym (append-nil r.0) ∙ sym (ap (λ ys. r.0 ++ ys) r.4) ∙ sym r.2 in
+        record {
+          vars = old;
+          number = length old;
+          shows = λ made left next m n rest h x. (
+            v,
+            left,
+            refl,
+            q,
+            first.0,
+            m ∙ ap (λ xs. left ++ (done ++ xs)) (sym same),
+            subst (λ z. Stands_t ds os Any z (new ∷ old) k0 rest h) n x,
+          );
+          later = λ p x a. at_more (suc l) old p x new a;
+        }
+    filled (MoreHVals u us) v b e l i fs env done taken q r =
+        let old = Gone ∷ env in
         let b1 = n_v ls b v in
         let e1 = v_next ls e v in
-        let z = filled vs b1 e1 (suc l) (suc i) (fs ++ v ∷ []) (old ∷ env) n (reads_later vs b1 e1 (suc l) (suc (suc l)) (old ∷ env) (new ∷ old ∷ env) on r.1) in
+        let on : Later (suc l) old (suc (suc l)) (Gone ∷ old) = λ p x a. at_more (suc l) old p x Gone a in
+        let n : suc i ≡ suc (length (fs ++ v ∷ [])) = omega (arith, q, length-append fs (v ∷ [])) in
+        let first = r.3 (suc l) old (λ p y a. a) in
+        let w = val ls b e (suc l) v in
+        let done1 = done ++ takes old w in
+        let more = reads_later (MoreHVals u us) b1 e1 (suc l) (suc (suc l)) r.1 old (Gone ∷ old) on r.4 in
+        let z = filled us u b1 e1 (suc l) (suc i) (fs ++ v ∷ []) old done1 r.1 n more in
+        let same : done ++ taken ≡ done1 ++ r.1 =
+        ap (λ xs. done ++ xs) (r.2 ∙ ap (λ xs. xs ++ r.1) (sym first.1)) ∙ sym (append_assoc done (takes old w) r.1) in
         record {
           vars = z.vars;
-          shows = λ rest h x. inl (0, fs, many vs, v, refl, refl, q, r.0 (suc l) (old ∷ env) (λ p y a. a), z.shows rest h x);
+          number = z.number;
+          shows = λ made left next m p rest h x.
+              (v, refl, q, first.0, z.shows made left next (m ∙ ap (λ xs. left ++ xs) same) p rest h x);
           later = λ p x a. z.later p x (on p x a);
         }
 
@@ -130,52 +188,92 @@ module _ (ds : List HVal) where
     abbrev TupleComes : HVals → ℕ → ℕ → List Thing → Bool → Type 0
     TupleComes vs b d env c =
         Comes d env (λ rest. pick c rest (pre_vs ks g ls b d vs (Let (Malloc (v_types ks g vs)) (fill ls b d (vs_next ls d vs) 1 vs rest)))) (pick c d (suc (final (vs_next ls d vs) vs)))
-        (λ env2. (d3 : ℕ) (env3 : List Thing) → Later (pick c d (suc (final (vs_next ls d vs) vs))) env2 d3 env3 → Stands_v ds os env3 k0 (pick c (Data (n_vs ls b vs)) (Var (d3 - suc (final (vs_next ls d vs) vs)))) (HTuple vs))
+        (λ taken env2. (d3 : ℕ) (env3 : List Thing) → Later (pick c d (suc (final (vs_next ls d vs) vs))) env2 d3 env3 →
+        Stands_v ds os env3 k0 (pick c (Data (n_vs ls b vs)) (Var (d3 - suc (final (vs_next ls d vs) vs)))) (HTuple vs)
+        × (takes env3 (pick c (Data (n_vs ls b vs)) (Var (d3 - suc (final (vs_next ls d vs) vs)))) ≡ taken))
 
     tuple_comes : (vs : HVals) (b d : ℕ) (env : List Thing) → Comes d env (pre_vs ks g ls b d vs) (vs_next ls d vs) (Reads b d vs (vs_next ls d vs)) → Told ds ks g ls os known b (HTuple vs) → TupleComes vs b d env (are_const ls vs)
     tuple_comes vs b d env f (inl c) = subst (TupleComes vs b d env) (sym c.yes) (record {
       vars = env;
-      shows = λ rest h x. x;
+      taken = [];
+      shows = λ made next e rest h x. as_is made next e env rest h x;
       later = λ p x q. q;
-      good = λ d3 env3 q. (vs, c.value, refl, c.is, c.shows);
+      good = λ d3 env3 q. ((vs, c.value, refl, c.is, c.shows), refl);
     })
-    tuple_comes vs b d env f (inr n) =
+    tuple_comes NoHVals b d env f (inr n) = absurd (true≢false n.0)
+    tuple_comes (MoreHVals v us) b d env f (inr n) =
+        let vs = MoreHVals v us in
         let l = vs_next ls d vs in
-        let none = Making k0 [] (many vs) in
-        let on : Later l f.vars (suc l) (none ∷ f.vars) = λ p x q. at_more l f.vars p x none q in
-        let z = filled vs b d l 1 [] f.vars refl (reads_later vs b d l (suc l) f.vars (none ∷ f.vars) on f.good) in
-        let full = Making k0 (then_all [] vs) 0 in
+        let on : Later l f.vars (suc l) (Gone ∷ f.vars) = λ p x q. at_more l f.vars p x Gone q in
+        let more = reads_later vs b d l (suc l) f.taken f.vars (Gone ∷ f.vars) on f.good in
+        let z = filled us v b d l 1 [] f.vars [] f.taken refl more in
+        let full = Made z.number k0 (then_all [] vs) in
         subst (TupleComes vs b d env) (sym n.0) (record {
           vars = full ∷ z.vars;
-          shows = λ rest h x. f.shows (Let (Malloc (v_types ks g vs)) (fill ls b d l 1 vs rest)) h
-              (inl (subst (λ n. Stands_t ds os Any (Making k0 [] n ∷ f.vars) k0 (fill ls b d l 1 vs rest) h) (sym (many_types ks g vs)) (z.shows rest h x)));
+          taken = z.number ∷ [];
+          shows = λ made next e rest h x.
+              f.shows made (made ++ f.taken) refl (Let (Malloc (v_types ks g vs)) (fill ls b d l 1 vs rest)) h
+              (inl (many us, many_types ks g vs, z.shows (made ++ f.taken) made next refl e rest h x));
           later = λ p x q. z.later p x (on p x (f.later p x q));
           good = λ d3 env3 q.
-              subst (λ x. Means os x k0 (HTuple vs)) (sym (thing_nth env3 (d3 - suc (final l vs)) full (q (final l vs) full (at_new (final l vs) z.vars full)).1)) (refl, ap HTuple (sym (then_is vs [])), n.1);
+              let there = thing_nth env3 (d3 - suc (final l vs)) full (q (final l vs) full (at_new (final l vs) z.vars full)).1 in
+              subst (λ x. Means os x k0 (HTuple vs) × (tuple_of x ≡ z.number ∷ [])) (sym there)
+              ((refl, ap HTuple (sym (then_is vs [])), n.1), refl);
         })
 
     mutual
       comes_v : (v : HVal) (b d : ℕ) (env : List Thing) → Within ds b (tuples_v os v) → InV k0 v → Agree d ls k0 env → Comes d env (pre_v ks g ls b d v) (v_next ls d v) (Read b d v (v_next ls d v))
       comes_v (HVar i) b d env wi s a = record {
         vars = env;
-        shows = λ rest h x. x;
+        taken = [];
+        shows = λ made next e rest h x. as_is made next e env rest h x;
         later = λ p x q. q;
         good = λ d3 env3 q. (let z : k0 ≡ k0 + 0 = omega arith in let y : 0 + i ≡ i = omega arith in
-            subst (λ n. Stands_v ds os env3 k0 (var_of d3 (level_of (slice_get ls i))) (HVar n)) y (var_read ls k0 0 i d env z s a d3 env3 q));
+            subst (λ n. Stays env3 (var_of d3 (level_of (slice_get ls i))) n) y (var_read ls k0 0 i d env z s a d3 env3 q));
       }
-      comes_v (HInt n) b d env wi s a = record { vars = env; shows = λ rest h x. x; later = λ p x q. q; good = λ d3 env3 q. refl }
-      comes_v (HLabel l) b d env wi s a = record { vars = env; shows = λ rest h x. x; later = λ p x q. q; good = λ d3 env3 q. refl }
+      comes_v (HInt n) b d env wi s a = record {
+        vars = env;
+        taken = [];
+        shows = λ made next e rest h x. as_is made next e env rest h x;
+        later = λ p x q. q;
+        good = λ d3 env3 q. (refl, refl);
+      }
+      comes_v (HLabel l) b d env wi s a = record {
+        vars = env;
+        taken = [];
+        shows = λ made next e rest h x. as_is made next e env rest h x;
+        later = λ p x q. q;
+        good = λ d3 env3 q. (refl, refl);
+      }
       comes_v (HTuple vs) b d env wi s a =
           tuple_comes vs b d env (comes_vs vs b d env (front ds b (tuples_vs os vs) (one_if (constant os (HTuple vs))) wi) s a) (fact ds ks g ls os known (HTuple vs) b wi).told
       comes_v (HApply v ts) b d env wi s a =
           let r = comes_v v b d env wi s a in
-          record { vars = r.vars; shows = r.shows; later = r.later; good = λ d3 env3 q. (v, ts, refl, refl, r.good d3 env3 q) }
+          record {
+            vars = r.vars;
+            taken = r.taken;
+            shows = r.shows;
+            later = r.later;
+            good = λ d3 env3 q. (let x = r.good d3 env3 q in ((v, ts, refl, refl, x.0), x.1));
+          }
       comes_v (HPack h v u) b d env wi s a =
           let r = comes_v v b d env wi s a in
-          record { vars = r.vars; shows = r.shows; later = r.later; good = λ d3 env3 q. (h, v, u, refl, refl, refl, r.good d3 env3 q) }
+          record {
+            vars = r.vars;
+            taken = r.taken;
+            shows = r.shows;
+            later = r.later;
+            good = λ d3 env3 q. (let x = r.good d3 env3 q in ((h, v, u, refl, refl, refl, x.0), x.1));
+          }
 
       comes_vs : (vs : HVals) (b d : ℕ) (env : List Thing) → Within ds b (tuples_vs os vs) → InVs k0 vs → Agree d ls k0 env → Comes d env (pre_vs ks g ls b d vs) (vs_next ls d vs) (Reads b d vs (vs_next ls d vs))
-      comes_vs NoHVals b d env wi s a = record { vars = env; shows = λ rest h x. x; later = λ p x q. q; good = tt }
+      comes_vs NoHVals b d env wi s a = record {
+        vars = env;
+        taken = [];
+        shows = λ made next e rest h x. as_is made next e env rest h x;
+        later = λ p x q. q;
+        good = refl;
+      }
       comes_vs (MoreHVals v vs) b d env wi s a =
           let b1 = n_v ls b v in
           let us = tuples_v os v in
@@ -186,9 +284,12 @@ module _ (ds : List HVal) where
           let y = comes_vs vs b1 d1 x.vars (back ds b b1 us ws (fact ds ks g ls os known v b w0).long wi) s.1 (agree_later ls k0 d d1 env x.vars x.later a) in
           record {
             vars = y.vars;
-            shows = λ rest h q. x.shows (pre_vs ks g ls b1 d1 vs rest) h (y.shows rest h q);
+            taken = x.taken ++ y.taken;
+            shows = λ made next e rest h q.
+                x.shows made (made ++ x.taken) refl (pre_vs ks g ls b1 d1 vs rest) h
+                (y.shows (made ++ x.taken) next (e ∙ sym (append_assoc made x.taken y.taken)) rest h q);
             later = λ p u q. y.later p u (x.later p u q);
-            good = (λ d3 env3 q. x.good d3 env3 (λ p u a2. q p u (y.later p u a2)), y.good);
+            good = (x.taken, y.taken, refl, λ d3 env3 q. x.good d3 env3 (λ p u a2. q p u (y.later p u a2)), y.good);
           }
 
     -- two values, one after the other
@@ -212,7 +313,7 @@ module _ (ds : List HVal) where
 
   module _ (ks : HBlks) where
     abbrev Standing : HTm → List ATy → List Known → Constants → ℕ → ℕ → ℕ → List Thing → Type 0
-    Standing t g ls os k b d env = Stands_t ds os Any env k (alloc_t ks g ls b d t) t
+    Standing t g ls os k b d env = Stands_t ds os Any [] env k (alloc_t ks g ls b d t) t
 
     stands_is : (t : HTm) (g : List ATy) (ls : List Known) (os : Constants) (k b d : ℕ) (env : List Thing) → Within ds b (tuples_t os t) → AgreeK ds ls os → InT k t → Agree d ls k env → Standing t g ls os k b d env
     stands_is (HLet (HName v) t) g ls os k b d env wi kn s a =
@@ -223,7 +324,8 @@ module _ (ds : List HVal) where
         let l = known_of ls b d e in
         let x = comes_v k ks g ls os kn v b d env w0 s.0 a in
         let d2 = v_next ls d v in
-        x.shows _ _ (v, t, refl, x.good d2 x.vars (λ p u q. q), stands_is t (d_types ks g e) (l ∷ ls) (constant os v ∷ os) (suc k) (n_d ls b e) (suc d2) (Is (named k) ∷ x.vars) w1 (f.same, kn) s.1 (further ls l k d d2 env x.vars refl x.later a))
+        let r = x.good d2 x.vars (λ p u q. q) in
+        x.shows [] x.taken refl _ _ (v, t, refl, r.0, r.1, stands_is t (d_types ks g e) (l ∷ ls) (constant os v ∷ os) (suc k) (n_d ls b e) (suc d2) (Is (named k) ∷ x.vars) w1 (f.same, kn) s.1 (further ls l k d d2 env x.vars refl x.later a))
     stands_is (HLet (HProj i v) t) g ls os k b d env wi kn s a =
         let e : HDecl = HProj i v in
         let w0 = front ds b (tuples_d os e) (tuples_t (named_by os e ∷ os) t) wi in
@@ -232,7 +334,8 @@ module _ (ds : List HVal) where
         let l = known_of ls b d e in
         let x = comes_v k ks g ls os kn v b d env w0 s.0 a in
         let d2 = v_next ls d v in
-        x.shows _ _ (v, t, inl refl, x.good d2 x.vars (λ p u q. q), stands_is t (d_types ks g e) (l ∷ ls) (None ∷ os) (suc k) (n_d ls b e) (suc d2) (Is (named k) ∷ x.vars) w1 (tt, kn) s.1 (further ls l k d d2 env x.vars refl x.later a))
+        let r = x.good d2 x.vars (λ p u q. q) in
+        x.shows [] x.taken refl _ _ (v, t, inl refl, r.0, r.1, stands_is t (d_types ks g e) (l ∷ ls) (None ∷ os) (suc k) (n_d ls b e) (suc d2) (Is (named k) ∷ x.vars) w1 (tt, kn) s.1 (further ls l k d d2 env x.vars refl x.later a))
     stands_is (HLet (HArith op v w) t) g ls os k b d env wi kn s a =
         let e : HDecl = HArith op v w in
         let w0 = front ds b (tuples_d os e) (tuples_t (named_by os e ∷ os) t) wi in
@@ -246,13 +349,16 @@ module _ (ds : List HVal) where
         let d2 = v_next ls d1 w in
         let rest = alloc_t ks (d_types ks g e) (l ∷ ls) (n_d ls b e) (suc d2) t in
         let end = Let (dcl ls b d e) rest in
-        x.shows (pre_v ks g ls (n_v ls b v) d1 w end) _ (y.shows end _ (
+        let r = x.good d2 y.vars y.later in
+        let s2 = y.good d2 y.vars (λ p u q. q) in
+        x.shows [] x.taken refl (pre_v ks g ls (n_v ls b v) d1 w end) _ (y.shows x.taken (x.taken ++ y.taken) refl end _ (
           v,
           w,
           t,
           refl,
-          x.good d2 y.vars y.later,
-          y.good d2 y.vars (λ p u q. q),
+          r.0,
+          s2.0,
+          ap₂ ◌++◌ r.1 s2.1,
           stands_is t (d_types ks g e) (l ∷ ls) (None ∷ os) (suc k) (n_d ls b e) (suc d2) (Is (named k) ∷ y.vars) w1 (tt, kn) s.1 (further ls l k d d2 env y.vars refl (λ p u q. y.later p u (x.later p u q)) a),
         ))
     stands_is (HLet (HUnpack v) t) g ls os k b d env wi kn s a =
@@ -263,7 +369,8 @@ module _ (ds : List HVal) where
         let l = known_of ls b d e in
         let x = comes_v k ks g ls os kn v b d env w0 s.0 a in
         let d2 = v_next ls d v in
-        x.shows _ _ (v, t, refl, x.good d2 x.vars (λ p u q. q), stands_is t (d_types ks g e) (l ∷ ls) (None ∷ os) (suc k) (n_d ls b e) (suc d2) (Is (named k) ∷ x.vars) w1 (tt, kn) s.1 (further ls l k d d2 env x.vars refl x.later a))
+        let r = x.good d2 x.vars (λ p u q. q) in
+        x.shows [] x.taken refl _ _ (v, t, refl, r.0, r.1, stands_is t (d_types ks g e) (l ∷ ls) (None ∷ os) (suc k) (n_d ls b e) (suc d2) (Is (named k) ∷ x.vars) w1 (tt, kn) s.1 (further ls l k d d2 env x.vars refl x.later a))
     stands_is (HLet (HCell v) t) g ls os k b d env wi kn s a =
         let e : HDecl = HCell v in
         let w0 = front ds b (tuples_d os e) (tuples_t (named_by os e ∷ os) t) wi in
@@ -274,14 +381,19 @@ module _ (ds : List HVal) where
         let d1 = v_next ls d v in
         let on : Later d1 x.vars (suc d1) (Gone ∷ x.vars) = λ p u q. at_more d1 x.vars p u Gone q in
         let rest = alloc_t ks (d_types ks g e) (l ∷ ls) (n_d ls b e) (suc (suc d1)) t in
-        x.shows (Let (Malloc (MoreATys (v_type ks g v) NoATys)) (Let (dcl ls b d e) rest)) _ (inr (
-          v,
-          t,
+        let r = x.good (suc d1) (Gone ∷ x.vars) on in
+        x.shows [] x.taken refl (Let (Malloc (MoreATys (v_type ks g v) NoATys)) (Let (dcl ls b d e) rest)) _ (inr (
           refl,
-          refl,
-          refl,
-          x.good (suc d1) (Gone ∷ x.vars) on,
-          stands_is t (d_types ks g e) (l ∷ ls) (None ∷ os) (suc k) (n_d ls b e) (suc (suc d1)) (Is (named k) ∷ Gone ∷ x.vars) w1 (tt, kn) s.1 (further ls l k d (suc d1) env (Gone ∷ x.vars) refl (λ p u q. on p u (x.later p u q)) a),
+          (
+            v,
+            t,
+            refl,
+            refl,
+            refl,
+            r.0,
+            r.1,
+            stands_is t (d_types ks g e) (l ∷ ls) (None ∷ os) (suc k) (n_d ls b e) (suc (suc d1)) (Is (named k) ∷ Gone ∷ x.vars) w1 (tt, kn) s.1 (further ls l k d (suc d1) env (Gone ∷ x.vars) refl (λ p u q. on p u (x.later p u q)) a),
+          ),
         ))
     stands_is (HLet (HGet v) t) g ls os k b d env wi kn s a =
         let e : HDecl = HGet v in
@@ -291,7 +403,8 @@ module _ (ds : List HVal) where
         let l = known_of ls b d e in
         let x = comes_v k ks g ls os kn v b d env w0 s.0 a in
         let d2 = v_next ls d v in
-        x.shows _ _ (v, t, inr (refl, refl), x.good d2 x.vars (λ p u q. q), stands_is t (d_types ks g e) (l ∷ ls) (None ∷ os) (suc k) (n_d ls b e) (suc d2) (Is (named k) ∷ x.vars) w1 (tt, kn) s.1 (further ls l k d d2 env x.vars refl x.later a))
+        let r = x.good d2 x.vars (λ p u q. q) in
+        x.shows [] x.taken refl _ _ (v, t, inr (refl, refl), r.0, r.1, stands_is t (d_types ks g e) (l ∷ ls) (None ∷ os) (suc k) (n_d ls b e) (suc d2) (Is (named k) ∷ x.vars) w1 (tt, kn) s.1 (further ls l k d d2 env x.vars refl x.later a))
     stands_is (HLet (HSet v w) t) g ls os k b d env wi kn s a =
         let e : HDecl = HSet v w in
         let w0 = front ds b (tuples_d os e) (tuples_t (named_by os e ∷ os) t) wi in
@@ -306,16 +419,19 @@ module _ (ds : List HVal) where
         let on : Later d2 y.vars (suc d2) (Gone ∷ y.vars) = λ p u q. at_more d2 y.vars p u Gone q in
         let rest = alloc_t ks (d_types ks g e) (l ∷ ls) (n_d ls b e) (suc (suc d2)) t in
         let end = Let (Init (val ls b d d2 v) 1 (val ls (n_v ls b v) d1 d2 w)) (Let (Malloc NoATys) rest) in
-        x.shows (pre_v ks g ls (n_v ls b v) d1 w end) _ (y.shows end _ (inr (
+        let r = x.good d2 y.vars y.later in
+        let s2 = y.good d2 y.vars (λ p u q. q) in
+        x.shows [] x.taken refl (pre_v ks g ls (n_v ls b v) d1 w end) _ (y.shows x.taken (x.taken ++ y.taken) refl end _ (
           v,
           w,
           t,
           refl,
           refl,
-          x.good d2 y.vars y.later,
-          y.good d2 y.vars (λ p u q. q),
+          r.0,
+          s2.0,
+          ap₂ ◌++◌ r.1 s2.1,
           (refl, stands_is t (d_types ks g e) (l ∷ ls) (None ∷ os) (suc k) (n_d ls b e) (suc (suc d2)) (Is (named k) ∷ Gone ∷ y.vars) w1 (tt, kn) s.1 (further ls l k d (suc d2) env (Gone ∷ y.vars) refl (λ p u q. on p u (y.later p u (x.later p u q))) a)),
-        )))
+        ))
     stands_is (HCall f ts vs) g ls os k b d env wi kn s a =
         let us = tuples_v os f in
         let ws = tuples_vs os vs in
@@ -326,7 +442,10 @@ module _ (ds : List HVal) where
         let y = comes_vs k ks g ls os kn vs b1 d1 x.vars (back ds b b1 us ws (fact ds ks g ls os kn f b w0).long wi) s.1 (agree_later ls k d d1 env x.vars x.later a) in
         let d2 = vs_next ls d1 vs in
         let end = Call (val ls b d d2 f) (atypes ts) (vals ls b1 d1 d2 vs) in
-        x.shows (pre_vs ks g ls b1 d1 vs end) _ (y.shows end _ (f, ts, vs, refl, refl, x.good d2 y.vars y.later, all_read k ks g ls os kn vs b1 d1 d2 y.vars y.good))
+        let r = x.good d2 y.vars y.later in
+        let s2 = all_read k ks g ls os kn vs b1 d1 d2 y.taken y.vars y.good in
+        x.shows [] x.taken refl (pre_vs ks g ls b1 d1 vs end) _
+        (y.shows x.taken (x.taken ++ y.taken) refl end _ (f, ts, vs, refl, refl, r.0, s2.0, ap₂ ◌++◌ r.1 s2.1))
     stands_is (HIf v t u) g ls os k b d env wi kn s a =
         let us = tuples_v os v in
         let ws = tuples_t os t in
@@ -340,12 +459,14 @@ module _ (ds : List HVal) where
         let w3 = back ds b1 b2 ws zs (fact_t ds ks t g ls os b1 d1 kn w2).0 w1 in
         let x = comes_v k ks g ls os kn v b d env w0 s.0 a in
         let a2 = agree_later ls k d d1 env x.vars x.later a in
-        x.shows (If0 (val ls b d d1 v) (alloc_t ks g ls b1 d1 t) (alloc_t ks g ls b2 d1 u)) _
-        (v, t, u, refl, x.good d1 x.vars (λ p z q. q), stands_is t g ls os k b1 d1 x.vars w2 kn s.1 a2, stands_is u g ls os k b2 d1 x.vars w3 kn s.2 a2)
+        let r = x.good d1 x.vars (λ p z q. q) in
+        x.shows [] x.taken refl (If0 (val ls b d d1 v) (alloc_t ks g ls b1 d1 t) (alloc_t ks g ls b2 d1 u)) _
+        (v, t, u, refl, r.0, r.1, stands_is t g ls os k b1 d1 x.vars w2 kn s.1 a2, stands_is u g ls os k b2 d1 x.vars w3 kn s.2 a2)
     stands_is (HHalt v) g ls os k b d env wi kn s a =
         let x = comes_v k ks g ls os kn v b d env wi s a in
         let d1 = v_next ls d v in
-        x.shows (Halt (val ls b d d1 v)) _ (v, refl, x.good d1 x.vars (λ p z q. q))
+        let r = x.good d1 x.vars (λ p z q. q) in
+        x.shows [] x.taken refl (Halt (val ls b d d1 v)) _ (v, refl, r.0, r.1)
 
     args_agree : (args : CTys) (ls : List Known) (k d : ℕ) (env : List Thing) → Agree d ls k env → Agree (arg_depth d args) (arg_levels d ls args) (arg_count k (atypes args)) (arg_things k env (atypes args))
     args_agree NoCTys ls k d env a = a
@@ -367,7 +488,7 @@ module _ (ds : List HVal) where
         let s = in_t ks x.owes (cargs_onto x.args []) (arg_count 0 (atypes x.args)) (args_length x.args [] 0 refl) x.body h.0.1 in
         let z = stands_is x.body (types_of (atypes x.args) []) (arg_levels 0 [] x.args) os (arg_count 0 (atypes x.args)) b (arg_depth 0 x.args) (arg_things 0 [] (atypes x.args)) w0 (agree_args ds x.args 0 [] [] tt) s (args_agree x.args [] 0 0 [] tt) in
         let n : arg_count 0 (atypes x.args) ≡ arity (atypes x.args) = count_is (atypes x.args) 0 ∙ omega arith in
-        ((refl, refl, subst (λ k. Stands_t ds os Any (arg_things 0 [] (atypes x.args)) k (alloc_t ks (types_of (atypes x.args) []) (arg_levels 0 [] x.args) b (arg_depth 0 x.args) x.body) x.body) n z), all_stand xs b1 w1 h.1)
+        ((refl, refl, subst (λ k. Stands_t ds os Any [] (arg_things 0 [] (atypes x.args)) k (alloc_t ks (types_of (atypes x.args) []) (arg_levels 0 [] x.args) b (arg_depth 0 x.args) x.body) x.body) n z), all_stand xs b1 w1 h.1)
 
 pub alloc_stands : AllocStands
 alloc_stands ks t h =

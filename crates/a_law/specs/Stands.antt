@@ -1,7 +1,9 @@
 -- Which hoisted term an allocated term stands for: a data tuple is put back as the tuple of constants that it stands
--- for, a malloc and the initialisations of all fields, in order, as the tuple that the last of them names, which is not
--- one of constants alone, and types are those of hoisted types with every flag at 1. A cell looks like a tuple of one
--- field, so at a malloc, an initialisation and a projection either may be meant.
+-- for, a malloc, with the initialisations of all fields at once after it and in order, as the tuple that the last of
+-- them names, which is not one of constants alone, and types are those of hoisted types with every flag at 1. Each tuple
+-- that is made is taken once, and tuples are taken in the order in which they are made: by the next tuple, as a field,
+-- or by the next declaration, call, choice or halt. So none is idle, and none stands for two. A cell looks like a tuple
+-- of one field, so at a malloc, an initialisation and a projection either may be meant.
 use Rattle.std.specs.Prelude.{◌≡◌, ◌⊎◌, ◌++◌, ℕ, zero, suc, ◌-◌, List, [], ◌∷◌, length, slice_get, Some, None}
 use Rattle.c_terms.specs.C.{CTy, CTys}
 use Rattle.h_terms.specs.H.{HVal, HVar, HInt, HLabel, HTuple, HApply, HPack, HVals, NoHVals, MoreHVals, HName, HProj}
@@ -24,11 +26,11 @@ abbrev pub listed : List HVal → HVals
 listed [] = NoHVals
 listed (w ∷ ws) = MoreHVals w (listed ws)
 
--- what a variable of the allocated term stands for: a value; a tuple, under k variables, with these fields, and n more
--- to come; or nothing, as a cell that is not yet set
+-- what a variable of the allocated term stands for: a value; tuple number l, made under k variables, with these fields;
+-- or nothing, as a cell that is not yet set, or a tuple that is not yet filled
 pub data Thing : Type 0 where
   Is : (f : Shown) → Thing
-  Making : (k : ℕ) (fs : List HVal) (n : ℕ) → Thing
+  Made : (l k : ℕ) (fs : List HVal) → Thing
   Gone : Thing
 
 abbrev pub thing_at : List Thing → ℕ → Thing
@@ -36,12 +38,29 @@ thing_at [] i = Gone
 thing_at (x ∷ xs) zero = x
 thing_at (x ∷ xs) (suc i) = thing_at xs i
 
--- under m variables, which name the constants os; a tuple is one once no field is to come, and it is no constant
+-- under m variables, which name the constants os; a tuple that is made is no constant
 abbrev pub Means : Constants → Thing → ℕ → HVal → Type 0
 Means os (Is f) m w = w ≡ f m
-Means os (Making k fs zero) m w = (k ≡ m) × (w ≡ HTuple (listed fs)) × (constant os w ≡ None)
-Means os (Making k fs (suc n)) m w = ⊥
+Means os (Made l k fs) m w = (k ≡ m) × (w ≡ HTuple (listed fs)) × (constant os w ≡ None)
 Means os Gone m w = ⊥
+
+-- the tuples that a value takes, and several values, one after the other
+abbrev pub tuple_of : Thing → List ℕ
+tuple_of (Is f) = []
+tuple_of (Made l k fs) = l ∷ []
+tuple_of Gone = []
+
+abbrev pub takes : List Thing → AVal → List ℕ
+takes env (Var i) = tuple_of (thing_at env i)
+takes env (Num n) = []
+takes env (Lab l) = []
+takes env (Data n) = []
+takes env (Apply v ts) = takes env v
+takes env (Pack h v s) = takes env v
+
+abbrev pub all_take : List Thing → List AVal → List ℕ
+all_take env [] = []
+all_take env (v ∷ vs) = takes env v ++ all_take env vs
 
 -- the value v stands for w, where the data stand for ds
 abbrev pub Stands_v : List HVal → Constants → List Thing → ℕ → AVal → HVal → Type 0
@@ -82,61 +101,83 @@ Shows ds [] ws = ws ≡ []
 Shows ds (x ∷ xs) ws =
     (vs : HVals) × (us : List HVal) × (ws ≡ HTuple vs ∷ us) × Shows_fields ds x vs × Shows ds xs us
 
--- what is to come: anything; the content of a new cell; or the empty tuple that names an assignment
+-- what is to come: anything; a tuple's fields, where these are filled, n + 1 are not, and those took these tuples; the
+-- content of a new cell; or the empty tuple that names an assignment
 pub data Mode : Type 0 where
   Any : Mode
+  Filling : (fs : List HVal) (n : ℕ) (taken : List ℕ) → Mode
   Content : Mode
   Unit_named : Mode
 
--- the term a stands for h, where k variables of the hoisted term are in scope, and name the constants os
-abbrev pub Stands_t : List HVal → Constants → Mode → List Thing → ℕ → ATm → HTm → Type 0
-Stands_t ds os Any env k (Let (Value v) e) h =
-    (w : HVal) × (t : HTm) × (h ≡ HLet (HName w) t) × Stands_v ds os env k v w
-    × Stands_t ds (constant os w ∷ os) Any (Is (named k) ∷ env) (suc k) e t
-Stands_t ds os Any env k (Let (Proj i v) e) h =
+-- the term a stands for h, where k variables of the hoisted term are in scope, and name the constants os, and these
+-- tuples are made and not taken
+abbrev pub Stands_t : List HVal → Constants → Mode → List ℕ → List Thing → ℕ → ATm → HTm → Type 0
+Stands_t ds os Any made env k (Let (Value v) e) h =
+    (w : HVal) × (t : HTm) × (h ≡ HLet (HName w) t) × Stands_v ds os env k v w × (takes env v ≡ made)
+    × Stands_t ds (constant os w ∷ os) Any [] (Is (named k) ∷ env) (suc k) e t
+Stands_t ds os Any made env k (Let (Proj i v) e) h =
     (w : HVal) × (t : HTm) × ((h ≡ HLet (HProj i w) t) ⊎ ((i ≡ 1) × (h ≡ HLet (HGet w) t)))
-    × Stands_v ds os env k v w × Stands_t ds (None ∷ os) Any (Is (named k) ∷ env) (suc k) e t
-Stands_t ds os Any env k (Let (Arith op v w) e) h =
+    × Stands_v ds os env k v w × (takes env v ≡ made)
+    × Stands_t ds (None ∷ os) Any [] (Is (named k) ∷ env) (suc k) e t
+Stands_t ds os Any made env k (Let (Arith op v w) e) h =
     (x : HVal) × (y : HVal) × (t : HTm) × (h ≡ HLet (HArith op x y) t) × Stands_v ds os env k v x
-    × Stands_v ds os env k w y × Stands_t ds (None ∷ os) Any (Is (named k) ∷ env) (suc k) e t
-Stands_t ds os Any env k (Let (Unpack v) e) h =
-    (w : HVal) × (t : HTm) × (h ≡ HLet (HUnpack w) t) × Stands_v ds os env k v w
-    × Stands_t ds (None ∷ os) Any (Is (named k) ∷ env) (suc k) e t
-Stands_t ds os Any env k (Let (Malloc ts) e) h =
-    Stands_t ds os Any (Making k [] (arity ts) ∷ env) k e h ⊎ Stands_t ds os Content (Gone ∷ env) k e h
-Stands_t ds os Any env k (Let (Init v i w) e) h =
-    ((j : ℕ) × (fs : List HVal) × (n : ℕ) × (y : HVal) × (v ≡ Var j) × (thing_at env j ≡ Making k fs (suc n))
-    × (i ≡ suc (length fs)) × Stands_v ds os env k w y × Stands_t ds os Any (Making k (fs ++ y ∷ []) n ∷ env) k e h)
-    ⊎ ((x : HVal) × (y : HVal) × (t : HTm) × (i ≡ 1) × (h ≡ HLet (HSet x y) t) × Stands_v ds os env k v x
-    × Stands_v ds os env k w y × Stands_t ds (None ∷ os) Unit_named (Gone ∷ env) k e t)
-Stands_t ds os Any env k (Call v ts vs) h =
+    × Stands_v ds os env k w y × (takes env v ++ takes env w ≡ made)
+    × Stands_t ds (None ∷ os) Any [] (Is (named k) ∷ env) (suc k) e t
+Stands_t ds os Any made env k (Let (Unpack v) e) h =
+    (w : HVal) × (t : HTm) × (h ≡ HLet (HUnpack w) t) × Stands_v ds os env k v w × (takes env v ≡ made)
+    × Stands_t ds (None ∷ os) Any [] (Is (named k) ∷ env) (suc k) e t
+Stands_t ds os Any made env k (Let (Malloc ts) e) h =
+    ((n : ℕ) × (arity ts ≡ suc n) × Stands_t ds os (Filling [] n []) made (Gone ∷ env) k e h)
+    ⊎ ((arity ts ≡ 1) × Stands_t ds os Content made (Gone ∷ env) k e h)
+Stands_t ds os Any made env k (Let (Init v i w) e) h =
+    (x : HVal) × (y : HVal) × (t : HTm) × (i ≡ 1) × (h ≡ HLet (HSet x y) t) × Stands_v ds os env k v x
+    × Stands_v ds os env k w y × (takes env v ++ takes env w ≡ made)
+    × Stands_t ds (None ∷ os) Unit_named [] (Gone ∷ env) k e t
+Stands_t ds os Any made env k (Call v ts vs) h =
     (x : HVal) × (us : CTys) × (xs : HVals) × (h ≡ HCall x us xs) × (atypes us ≡ ts) × Stands_v ds os env k v x
-    × Stands_vs ds os env k vs xs
-Stands_t ds os Any env k (If0 v a b) h =
-    (x : HVal) × (t : HTm) × (u : HTm) × (h ≡ HIf x t u) × Stands_v ds os env k v x × Stands_t ds os Any env k a t
-    × Stands_t ds os Any env k b u
-Stands_t ds os Any env k (Halt v) h = (x : HVal) × (h ≡ HHalt x) × Stands_v ds os env k v x
-Stands_t ds os Content env k (Let (Init v i w) e) h =
+    × Stands_vs ds os env k vs xs × (takes env v ++ all_take env vs ≡ made)
+Stands_t ds os Any made env k (If0 v a b) h =
+    (x : HVal) × (t : HTm) × (u : HTm) × (h ≡ HIf x t u) × Stands_v ds os env k v x × (takes env v ≡ made)
+    × Stands_t ds os Any [] env k a t × Stands_t ds os Any [] env k b u
+Stands_t ds os Any made env k (Halt v) h =
+    (x : HVal) × (h ≡ HHalt x) × Stands_v ds os env k v x × (takes env v ≡ made)
+-- the last field; the tuples that the fields took are the last that were made, and the new one comes in their place
+Stands_t ds os (Filling fs zero taken) made env k (Let (Init v i w) e) h =
+    (y : HVal) × (left : List ℕ) × (v ≡ Var 0) × (i ≡ suc (length fs)) × Stands_v ds os env k w y
+    × (made ≡ left ++ (taken ++ takes env w))
+    × Stands_t ds os Any (left ++ length env ∷ []) (Made (length env) k (fs ++ y ∷ []) ∷ env) k e h
+Stands_t ds os (Filling fs (suc n) taken) made env k (Let (Init v i w) e) h =
+    (y : HVal) × (v ≡ Var 0) × (i ≡ suc (length fs)) × Stands_v ds os env k w y
+    × Stands_t ds os (Filling (fs ++ y ∷ []) n (taken ++ takes env w)) made (Gone ∷ env) k e h
+Stands_t ds os (Filling fs n taken) made env k (Let (Value v) e) h = ⊥
+Stands_t ds os (Filling fs n taken) made env k (Let (Proj i v) e) h = ⊥
+Stands_t ds os (Filling fs n taken) made env k (Let (Arith op v w) e) h = ⊥
+Stands_t ds os (Filling fs n taken) made env k (Let (Unpack v) e) h = ⊥
+Stands_t ds os (Filling fs n taken) made env k (Let (Malloc ts) e) h = ⊥
+Stands_t ds os (Filling fs n taken) made env k (Call v ts vs) h = ⊥
+Stands_t ds os (Filling fs n taken) made env k (If0 v a b) h = ⊥
+Stands_t ds os (Filling fs n taken) made env k (Halt v) h = ⊥
+Stands_t ds os Content made env k (Let (Init v i w) e) h =
     (x : HVal) × (t : HTm) × (v ≡ Var 0) × (i ≡ 1) × (h ≡ HLet (HCell x) t) × Stands_v ds os env k w x
-    × Stands_t ds (None ∷ os) Any (Is (named k) ∷ env) (suc k) e t
-Stands_t ds os Content env k (Let (Value v) e) h = ⊥
-Stands_t ds os Content env k (Let (Proj i v) e) h = ⊥
-Stands_t ds os Content env k (Let (Arith op v w) e) h = ⊥
-Stands_t ds os Content env k (Let (Unpack v) e) h = ⊥
-Stands_t ds os Content env k (Let (Malloc ts) e) h = ⊥
-Stands_t ds os Content env k (Call v ts vs) h = ⊥
-Stands_t ds os Content env k (If0 v a b) h = ⊥
-Stands_t ds os Content env k (Halt v) h = ⊥
-Stands_t ds os Unit_named env k (Let (Malloc ts) e) h =
-    (ts ≡ NoATys) × Stands_t ds os Any (Is (named k) ∷ env) (suc k) e h
-Stands_t ds os Unit_named env k (Let (Init v i w) e) h = ⊥
-Stands_t ds os Unit_named env k (Let (Value v) e) h = ⊥
-Stands_t ds os Unit_named env k (Let (Proj i v) e) h = ⊥
-Stands_t ds os Unit_named env k (Let (Arith op v w) e) h = ⊥
-Stands_t ds os Unit_named env k (Let (Unpack v) e) h = ⊥
-Stands_t ds os Unit_named env k (Call v ts vs) h = ⊥
-Stands_t ds os Unit_named env k (If0 v a b) h = ⊥
-Stands_t ds os Unit_named env k (Halt v) h = ⊥
+    × (takes env w ≡ made) × Stands_t ds (None ∷ os) Any [] (Is (named k) ∷ env) (suc k) e t
+Stands_t ds os Content made env k (Let (Value v) e) h = ⊥
+Stands_t ds os Content made env k (Let (Proj i v) e) h = ⊥
+Stands_t ds os Content made env k (Let (Arith op v w) e) h = ⊥
+Stands_t ds os Content made env k (Let (Unpack v) e) h = ⊥
+Stands_t ds os Content made env k (Let (Malloc ts) e) h = ⊥
+Stands_t ds os Content made env k (Call v ts vs) h = ⊥
+Stands_t ds os Content made env k (If0 v a b) h = ⊥
+Stands_t ds os Content made env k (Halt v) h = ⊥
+Stands_t ds os Unit_named made env k (Let (Malloc ts) e) h =
+    (ts ≡ NoATys) × Stands_t ds os Any made (Is (named k) ∷ env) (suc k) e h
+Stands_t ds os Unit_named made env k (Let (Init v i w) e) h = ⊥
+Stands_t ds os Unit_named made env k (Let (Value v) e) h = ⊥
+Stands_t ds os Unit_named made env k (Let (Proj i v) e) h = ⊥
+Stands_t ds os Unit_named made env k (Let (Arith op v w) e) h = ⊥
+Stands_t ds os Unit_named made env k (Let (Unpack v) e) h = ⊥
+Stands_t ds os Unit_named made env k (Call v ts vs) h = ⊥
+Stands_t ds os Unit_named made env k (If0 v a b) h = ⊥
+Stands_t ds os Unit_named made env k (Halt v) h = ⊥
 
 -- the arguments of a block are its first variables
 abbrev pub arg_things : ℕ → List Thing → ATys → List Thing
@@ -149,14 +190,14 @@ Stands_all ds [] (x ∷ xs) = ⊥
 Stands_all ds (b ∷ bs) [] = ⊥
 Stands_all ds (b ∷ bs) (x ∷ xs) =
     ((b.owes ≡ x.owes) × (atypes x.args ≡ b.args)
-    × Stands_t ds (of_args x.args []) Any (arg_things 0 [] b.args) (arity b.args) b.body x.body) × Stands_all ds bs xs
+    × Stands_t ds (of_args x.args []) Any [] (arg_things 0 [] b.args) (arity b.args) b.body x.body) × Stands_all ds bs xs
 
 -- a program stands for a hoisted program, block by block; its data tuples, one after the other, are the tuples of
 -- constants of that
 abbrev pub Stands : AProg → ATm → HBlks → HTm → Type 0
 Stands p main ks t =
     Shows (tuples_in ks t) p.tuples (tuples_in ks t) × Stands_all (tuples_in ks t) p.blocks ks
-    × Stands_t (tuples_in ks t) [] Any [] 0 main t
+    × Stands_t (tuples_in ks t) [] Any [] [] 0 main t
 
 -- the allocation of a typed program stands for it
 abbrev pub AllocStands : Type 0

@@ -1,3 +1,4 @@
+mod Asking
 mod CLaws
 mod Cells
 pub mod Consts

@@ -4,7 +4,7 @@ use Rattle.std.specs.Prelude.{Bool, true, false, ◌&&◌, not, option_map, slic
 use Rattle.a_law.specs.Allocate.{afull, all_closed, atype, atypes, closed, is_label}
 use Rattle.a_law.specs.Back.{NoCell_t, NoCell_v, NoCell_vs, NoCells, NoRef, NoRefs, PutsBack, add_field, add_last, arg_count, arg_names, back_all, back_data, back_fields, back_t, back_v, back_vs, drop, drop_fields, drops, held_by, shown_at}
 use Rattle.a_law.specs.Constants.{Constants, constant, constant_at, constants, is_package, of_args, one_if, or_else, packed, settle_all, settle_t, settle_v, settle_vs, tuples_all, tuples_in, tuples_t, tuples_v, tuples_vs, two}
-use Rattle.a_law.specs.Stands.{Any, Content, Filling, Gone, Is, Made, Means, Shown, Shows, Shows_fields, Shows_v, Stands_all, Stands_t, Stands_v, Stands_vs, Thing, arg_things, listed, named, takes, thing_at}
+use Rattle.a_law.specs.Stands.{Any, Content, Filling, Gone, Is, Made, Means, Shown, Shows, Shows_fields, Shows_v, Stands_all, Stands_t, Stands_v, Stands_vs, Thing, arg_things, listed, made_at, named, takes, thing_at}
 use Rattle.a_terms.specs.Meaning.{pick}
 use Rattle.a_terms.specs.Tree.{ABlk, AConsts, ATm, ATys, AVal, Apply, Arith, Call, Data, Halt, If0, Init, Lab, Let, Malloc, MoreATys, NoATys, Num, Pack, Proj, Unpack, Value, Var, arity}
 use Rattle.c_terms.specs.C.{CTy, CTys, MoreCTys, NoCTys, TCCode, TCInt, TCRef, TCSome, TCTuple, TCVar}
@@ -164,7 +164,7 @@ module _ (ds : List HVal) where
 
   -- what is put back of a variable
   abbrev Puts : Constants → ℕ → Thing → Shown → Type 0
-  Puts os k (Is f) s = (m : ℕ) → (i : ℕ) × (f m ≡ HVar i) × (s m ≡ HVar i)
+  Puts os k (Is l) s = (m : ℕ) → s m ≡ named l m
   Puts os k (Made l j fs) s = (j ≤ k) × (NoCell_vs (listed fs) → j ≡ k → s k ≡ HTuple (settle_vs os (listed fs)))
   Puts os k Gone s = Unit {0}
 
@@ -172,12 +172,12 @@ module _ (ds : List HVal) where
   EnvOk os k env benv = (i : ℕ) → Puts os k (thing_at env i) (shown_at benv i)
 
   puts_on : (os : Constants) (o : Option HVal) (k : ℕ) (x : Thing) (s : Shown) → Puts os k x s → Puts (o ∷ os) (suc k) x s
-  puts_on os o k (Is f) s p = p
+  puts_on os o k (Is l) s p = p
   puts_on os o k (Made l j fs) s p = (omega (arith, p.0), λ c e. absurd (omega (arith, p.0, e)))
   puts_on os o k Gone s p = tt
 
-  env_on : (os : Constants) (o : Option HVal) (k : ℕ) (env : List Thing) (benv : List Shown) → EnvOk os k env benv → EnvOk (o ∷ os) (suc k) (Is (named k) ∷ env) (named k ∷ benv)
-  env_on os o k env benv ok zero = λ m. (m - suc k, refl, refl)
+  env_on : (os : Constants) (o : Option HVal) (k : ℕ) (env : List Thing) (benv : List Shown) → EnvOk os k env benv → EnvOk (o ∷ os) (suc k) (Is k ∷ env) (named k ∷ benv)
+  env_on os o k env benv ok zero = λ m. refl
   env_on os o k env benv ok (suc i) = puts_on os o k (thing_at env i) (shown_at benv i) (ok i)
 
   env_more : (os : Constants) (k : ℕ) (env : List Thing) (benv : List Shown) (x : Thing) (s : Shown) → Puts os k x s → EnvOk os k env benv → EnvOk os k (x ∷ env) (s ∷ benv)
@@ -185,7 +185,7 @@ module _ (ds : List HVal) where
   env_more os k env benv x s p ok (suc i) = ok i
 
   var_back : (os : Constants) (k : ℕ) (x : Thing) (s : Shown) (w : HVal) → Means os x k w → NoCell_v w → Puts os k x s → s k ≡ settle_v os w
-  var_back os k (Is f) s w m c p = let r = p k in r.2 ∙ sym (ap (settle_v os) (m ∙ r.1))
+  var_back os k (Is l) s w m c p = p k ∙ sym (ap (settle_v os) m)
   var_back os k (Made l j fs) s w m c p =
       let n = subst NoCell_v m.1 c in
       p.1 n m.0
@@ -216,7 +216,7 @@ module _ (ds : List HVal) where
       ap₂ MoreHVals (value_back v s.0 os k env benv s.3 n.0 ok) (values_back vs s.1 os k env benv s.4 n.1 ok)
       ∙ sym (ap (settle_vs os) s.2)
 
-  content_no : (a : ATm) (h : HTm) (os : Constants) (made : List ℕ) (env : List Thing) (k : ℕ) → Stands_t ds os Content made env k a h → NoCell_t h → ⊥
+  content_no : (a : ATm) (h : HTm) (os : Constants) (made : List Thing) (env : List Thing) (k : ℕ) → Stands_t ds os Content made env k a h → NoCell_t h → ⊥
   content_no (Let (Init v i w) e) h os made env k s c = (subst NoCell_t s.4 c).0
   content_no (Let (Value v) e) h os made env k s c = s
   content_no (Let (Proj i v) e) h os made env k s c = s
@@ -248,24 +248,24 @@ module _ (ds : List HVal) where
       ∙ ap HTuple (more_fields fs y os)
 
   mutual
-    term_back : (a : ATm) (h : HTm) (os : Constants) (made : List ℕ) (k : ℕ) (env : List Thing) (benv : List Shown) → Stands_t ds os Any made env k a h → NoCell_t h → EnvOk os k env benv → back_t ds benv k a ≡ settle_t os h
+    term_back : (a : ATm) (h : HTm) (os : Constants) (made : List Thing) (k : ℕ) (env : List Thing) (benv : List Shown) → Stands_t ds os Any made env k a h → NoCell_t h → EnvOk os k env benv → back_t ds benv k a ≡ settle_t os h
     term_back (Let (Value v) e) h os made k env benv (w, t, is, sv, at, st) c ok =
         let n = subst NoCell_t is c in
-        ap₂ (λ x y. HLet (HName x) y) (value_back v w os k env benv sv n.0 ok) (term_back e t (constant os w ∷ os) [] (suc k) (Is (named k) ∷ env) (named k ∷ benv) st n.1 (env_on os (constant os w) k env benv ok))
+        ap₂ (λ x y. HLet (HName x) y) (value_back v w os k env benv sv n.0 ok) (term_back e t (constant os w ∷ os) [] (suc k) (Is k ∷ env) (named k ∷ benv) st n.1 (env_on os (constant os w) k env benv ok))
         ∙ sym (ap (settle_t os) is)
     term_back (Let (Proj i v) e) h os made k env benv (w, t, inl is, sv, at, st) c ok =
         let n = subst NoCell_t is c in
-        ap₂ (λ x y. HLet (HProj i x) y) (value_back v w os k env benv sv n.0 ok) (term_back e t (None ∷ os) [] (suc k) (Is (named k) ∷ env) (named k ∷ benv) st n.1 (env_on os None k env benv ok))
+        ap₂ (λ x y. HLet (HProj i x) y) (value_back v w os k env benv sv n.0 ok) (term_back e t (None ∷ os) [] (suc k) (Is k ∷ env) (named k ∷ benv) st n.1 (env_on os None k env benv ok))
         ∙ sym (ap (settle_t os) is)
     term_back (Let (Proj i v) e) h os made k env benv (w, t, inr get, sv, at, st) c ok = absurd (subst NoCell_t get.1 c).0
     term_back (Let (Arith op v w) e) h os made k env benv (x, y, t, is, sv, sw, at, st) c ok =
         let n = subst NoCell_t is c in
         ap₂ (λ p q. HLet (HArith op p q) (back_t ds (named k ∷ benv) (suc k) e)) (value_back v x os k env benv sv n.0.0 ok) (value_back w y os k env benv sw n.0.1 ok)
-        ∙ ap (HLet (HArith op (settle_v os x) (settle_v os y))) (term_back e t (None ∷ os) [] (suc k) (Is (named k) ∷ env) (named k ∷ benv) st n.1 (env_on os None k env benv ok))
+        ∙ ap (HLet (HArith op (settle_v os x) (settle_v os y))) (term_back e t (None ∷ os) [] (suc k) (Is k ∷ env) (named k ∷ benv) st n.1 (env_on os None k env benv ok))
         ∙ sym (ap (settle_t os) is)
     term_back (Let (Unpack v) e) h os made k env benv (w, t, is, sv, at, st) c ok =
         let n = subst NoCell_t is c in
-        ap₂ (λ x y. HLet (HUnpack x) y) (value_back v w os k env benv sv n.0 ok) (term_back e t (None ∷ os) [] (suc k) (Is (named k) ∷ env) (named k ∷ benv) st n.1 (env_on os None k env benv ok))
+        ap₂ (λ x y. HLet (HUnpack x) y) (value_back v w os k env benv sv n.0 ok) (term_back e t (None ∷ os) [] (suc k) (Is k ∷ env) (named k ∷ benv) st n.1 (env_on os None k env benv ok))
         ∙ sym (ap (settle_t os) is)
     term_back (Let (Malloc ts) e) h os made k env benv (inl (n, many, st)) c ok =
         let s : Shown = λ m. HTuple NoHVals in
@@ -286,13 +286,13 @@ module _ (ds : List HVal) where
         let n = subst NoCell_t is c in
         ap HHalt (value_back v x os k env benv sv n ok) ∙ sym (ap (settle_t os) is)
 
-    fill_back : (a : ATm) (h : HTm) (os : Constants) (fs : List HVal) (n : ℕ) (taken made : List ℕ) (k : ℕ) (env : List Thing) (benv : List Shown) → Stands_t ds os (Filling fs n taken) made env k a h → NoCell_t h → EnvOk os k env benv →
+    fill_back : (a : ATm) (h : HTm) (os : Constants) (fs : List HVal) (n : ℕ) (taken made : List Thing) (k : ℕ) (env : List Thing) (benv : List Shown) → Stands_t ds os (Filling fs n taken) made env k a h → NoCell_t h → EnvOk os k env benv →
         Partly os k fs (shown_at benv 0) → back_t ds benv k a ≡ settle_t os h
     fill_back (Let (Init v i w) e) h os fs zero taken made k env benv (y, left, ev, ei, sw, at, st) c ok old =
         let s : Shown = λ m. add_field (back_v ds benv m v) (back_v ds benv m w) in
-        let new = Made (length env) k (fs ++ y ∷ []) in
+        let new = made_at env k (fs ++ y ∷ []) in
         let part = init_back v w os k env benv fs y ev sw ok old in
-        term_back e h os (left ++ length env ∷ []) k (new ∷ env) (s ∷ benv) st c (env_more os k env benv new s (omega arith, λ q z. part q) ok)
+        term_back e h os (left ++ new ∷ []) k (new ∷ env) (s ∷ benv) st c (env_more os k env benv new s (omega arith, λ q z. part q) ok)
     fill_back (Let (Init v i w) e) h os fs (suc n) taken made k env benv (y, ev, ei, sw, st) c ok old =
         let s : Shown = λ m. add_field (back_v ds benv m v) (back_v ds benv m w) in
         let part = init_back v w os k env benv fs y ev sw ok old in
@@ -309,7 +309,7 @@ module _ (ds : List HVal) where
   args_ok : (ts : ATys) (k : ℕ) (env : List Thing) (benv : List Shown) → ((os : Constants) (m : ℕ) → EnvOk os m env benv) → (os : Constants) (m : ℕ) → EnvOk os m (arg_things k env ts) (arg_names k benv ts)
   args_ok NoATys k env benv ok os m = ok os m
   args_ok (MoreATys t ts) k env benv ok os m =
-      args_ok ts (suc k) (Is (named k) ∷ env) (named k ∷ benv) (λ os m. env_more os m env benv (Is (named k)) (named k) (λ z. (z - suc k, refl, refl)) (ok os m)) os m
+      args_ok ts (suc k) (Is k ∷ env) (named k ∷ benv) (λ os m. env_more os m env benv (Is k) (named k) (λ z. refl) (ok os m)) os m
 
   count_is : (ts : ATys) (k : ℕ) → arg_count k ts ≡ k + arity ts
   count_is NoATys k = omega arith

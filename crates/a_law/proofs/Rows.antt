@@ -10,7 +10,7 @@ use Rattle.h_terms.specs.H.{HVar, HInt, HLabel, HTuple, HApply, HPack, HVal, NoH
 use Rattle.a_law.specs.Allocate.{alloc_data, alloc_main, alloc_prog, atype}
 use Rattle.a_law.specs.Back.{back_data, back_t}
 use Rattle.a_law.specs.Constants.{settle_t, tuples_in}
-use Rattle.a_law.specs.Stands.{Any, Stands_t}
+use Rattle.a_law.specs.Stands.{Any, Stands_t, Thing}
 
 abbrev any : CTy
 any = TCSome (TCVar 0)
@@ -212,7 +212,7 @@ idle =
     Let (Malloc (MoreATys AInt (MoreATys AInt NoATys)))
     (Let (Init (Var 0) 1 (Num (pos 5))) (Let (Init (Var 0) 2 (Num (pos 6))) (Halt (Num (pos 0)))))
 
-none_left : (xs : List ℕ) (x : ℕ) → [] ≡ xs ++ x ∷ [] → ⊥
+none_left : (xs : List Thing) (x : Thing) → [] ≡ xs ++ x ∷ [] → ⊥
 none_left [] x e = cc
 none_left (y ∷ xs) x e = cc
 
@@ -222,7 +222,7 @@ more_than_two n e = omega (arith, e)
 not_idle : (ds : List HVal) (h : HTm) → Stands_t ds [] Any [] [] 0 idle h → ⊥
 not_idle ds h (inl (zero, many, (y, left, var, field, means, at, (x, z, t, set, is, vx, vz, takes, rest)))) = not_first 2 refl set
 not_idle ds h (inl (suc zero, many, (y, var, field, means, (z, left, var2, field2, means2, at, (x, is, value, takes))))) =
-    none_left left 2 takes
+    none_left left _ takes
 not_idle ds h (inl (suc (suc n), many, rest)) = more_than_two n many
 not_idle ds h (inr (one, rest)) = not_first 2 refl one
 

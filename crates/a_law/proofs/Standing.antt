@@ -39,36 +39,36 @@ abbrev Agree : ℕ → List Known → ℕ → List Thing → Type 0
 Agree d [] zero env = Unit {0}
 Agree d [] (suc k) env = ⊥
 Agree d (l ∷ ls) zero env = ⊥
-Agree d (l ∷ ls) (suc k) env = At d env l.level (Is (named k)) × Agree d ls k env
+Agree d (l ∷ ls) (suc k) env = At d env l.level (Is k) × Agree d ls k env
 
 agree_later : (ls : List Known) (k d d2 : ℕ) (env env2 : List Thing) → Later d env d2 env2 → Agree d ls k env → Agree d2 ls k env2
 agree_later [] zero d d2 env env2 q a = tt
 agree_later [] (suc k) d d2 env env2 q a = absurd a
 agree_later (l ∷ ls) zero d d2 env env2 q a = absurd a
-agree_later (l ∷ ls) (suc k) d d2 env env2 q a = (q l.level (Is (named k)) a.0, agree_later ls k d d2 env env2 q a.1)
+agree_later (l ∷ ls) (suc k) d d2 env env2 q a = (q l.level (Is k) a.0, agree_later ls k d d2 env env2 q a.1)
 
 module _ (ds : List HVal) where
   module _ (k0 : ℕ) (ks : HBlks) (g : List ATy) (ls : List Known) (os : Constants) (known : AgreeK ds ls os) where
     -- what is left of a value stands for it, and takes these tuples, from depth d on
-    abbrev Read : ℕ → ℕ → HVal → ℕ → List ℕ → List Thing → Type 0
+    abbrev Read : ℕ → ℕ → HVal → ℕ → List Thing → List Thing → Type 0
     Read b e v d taken env =
         (d3 : ℕ) (env3 : List Thing) → Later d env d3 env3 →
         Stands_v ds os env3 k0 (val ls b e d3 v) v × (takes env3 (val ls b e d3 v) ≡ taken)
 
-    abbrev Reads : ℕ → ℕ → HVals → ℕ → List ℕ → List Thing → Type 0
+    abbrev Reads : ℕ → ℕ → HVals → ℕ → List Thing → List Thing → Type 0
     Reads b e NoHVals d taken env = taken ≡ []
     Reads b e (MoreHVals v vs) d taken env =
-        (xs : List ℕ) × (ys : List ℕ) × (taken ≡ xs ++ ys) × Read b e v d xs env
+        (xs : List Thing) × (ys : List Thing) × (taken ≡ xs ++ ys) × Read b e v d xs env
         × Reads (n_v ls b v) (v_next ls e v) vs d ys env
 
-    reads_later : (vs : HVals) (b e d d2 : ℕ) (taken : List ℕ) (env env2 : List Thing) → Later d env d2 env2 →
+    reads_later : (vs : HVals) (b e d d2 : ℕ) (taken : List Thing) (env env2 : List Thing) → Later d env d2 env2 →
         Reads b e vs d taken env → Reads b e vs d2 taken env2
     reads_later NoHVals b e d d2 taken env env2 q r = r
     reads_later (MoreHVals v vs) b e d d2 taken env env2 q r =
         let rest = reads_later vs (n_v ls b v) (v_next ls e v) d d2 r.1 env env2 q r.4 in
         (r.0, r.1, r.2, λ d3 env3 p. r.3 d3 env3 (λ l x a. p l x (q l x a)), rest)
 
-    all_read : (vs : HVals) (b e d : ℕ) (taken : List ℕ) (env : List Thing) → Reads b e vs d taken env →
+    all_read : (vs : HVals) (b e d : ℕ) (taken : List Thing) (env : List Thing) → Reads b e vs d taken env →
         Stands_vs ds os env k0 (vals ls b e d vs) vs × (all_take env (vals ls b e d vs) ≡ taken)
     all_read NoHVals b e d taken env r = (refl, sym r)
     all_read (MoreHVals v vs) b e d taken env r =
@@ -88,23 +88,23 @@ module _ (ds : List HVal) where
     var_read (l ∷ ms) zero j i d env e s a d3 env3 q = absurd a
     var_read (l ∷ ms) (suc k) j zero d env e s a d3 env3 q =
         let z : j + 0 ≡ k0 - suc k = omega (arith, e) in
-        let there = thing_nth env3 (d3 - suc l.level) (Is (named k)) (q l.level (Is (named k)) a.0).1 in
+        let there = thing_nth env3 (d3 - suc l.level) (Is k) (q l.level (Is k) a.0).1 in
         subst (λ x. Means os x k0 (HVar (j + 0)) × (tuple_of x ≡ [])) (sym there) (ap HVar z, refl)
     var_read (l ∷ ms) (suc k) j (suc i) d env e s a d3 env3 q =
         let z : suc j + i ≡ j + suc i = omega arith in
         subst (λ n. Stays env3 (var_of d3 (level_of (slice_get ms i))) n) z
         (var_read ms k (suc j) i d env (omega (arith, e)) (omega arith) a.1 d3 env3 q)
 
-    record Comes (d : ℕ) (env : List Thing) (pre : ATm → ATm) (d2 : ℕ) (Q : List ℕ → List Thing → Type 0) : Type 0 where
+    record Comes (d : ℕ) (env : List Thing) (pre : ATm → ATm) (d2 : ℕ) (Q : List Thing → List Thing → Type 0) : Type 0 where
       vars : List Thing
-      taken : List ℕ
-      shows : (made next : List ℕ) → next ≡ made ++ taken → (rest : ATm) (h : HTm) →
+      taken : List Thing
+      shows : (made next : List Thing) → next ≡ made ++ taken → (rest : ATm) (h : HTm) →
           Stands_t ds os Any next vars k0 rest h → Stands_t ds os Any made env k0 (pre rest) h
       later : Later d env d2 vars
       good : Q taken vars
 
     -- nothing is made
-    as_is : (made next : List ℕ) → next ≡ made ++ [] → (env : List Thing) (rest : ATm) (h : HTm) →
+    as_is : (made next : List Thing) → next ≡ made ++ [] → (env : List Thing) (rest : ATm) (h : HTm) →
         Stands_t ds os Any next env k0 rest h → Stands_t ds os Any made env k0 rest h
     as_is made next e env rest h x = subst (λ m. Stands_t ds os Any m env k0 rest h) (e ∙ append-nil made) x
 
@@ -129,18 +129,19 @@ module _ (ds : List HVal) where
     then_is NoHVals fs = sym (onto_none (listed fs))
     then_is (MoreHVals v vs) fs = then_is vs (fs ++ v ∷ []) ∙ at_last fs v vs
 
-    record Filled (l : ℕ) (fs : List HVal) (env : List Thing) (v : HVal) (vs : HVals) (done taken : List ℕ)
+    record Filled (l : ℕ) (fs : List HVal) (env : List Thing) (v : HVal) (vs : HVals) (done taken : List Thing)
         (pre : ATm → ATm) : Type 0 where
       vars : List Thing
       number : ℕ
-      shows : (made left next : List ℕ) → made ≡ left ++ (done ++ taken) → next ≡ left ++ number ∷ [] →
+      shows : (made left next : List Thing) → made ≡ left ++ (done ++ taken) →
+          next ≡ left ++ Made number k0 (then_all fs (MoreHVals v vs)) ∷ [] →
           (rest : ATm) (h : HTm) →
           Stands_t ds os Any next (Made number k0 (then_all fs (MoreHVals v vs)) ∷ vars) k0 rest h →
           Stands_t ds os (Filling fs (many vs) done) made (Gone ∷ env) k0 (pre rest) h
       later : Later (suc l) (Gone ∷ env) (suc (final l (MoreHVals v vs)))
           (Made number k0 (then_all fs (MoreHVals v vs)) ∷ vars)
 
-    filled : (vs : HVals) (v : HVal) (b e l i : ℕ) (fs : List HVal) (env : List Thing) (done taken : List ℕ) →
+    filled : (vs : HVals) (v : HVal) (b e l i : ℕ) (fs : List HVal) (env : List Thing) (done taken : List Thing) →
         i ≡ suc (length fs) → Reads b e (MoreHVals v vs) (suc l) taken (Gone ∷ env) →
         Filled l fs env v vs done taken (fill ls b e l i (MoreHVals v vs))
     filled NoHVals v b e l i fs env done taken q r =
@@ -210,14 +211,14 @@ module _ (ds : List HVal) where
         let full = Made z.number k0 (then_all [] vs) in
         subst (TupleComes vs b d env) (sym n.0) (record {
           vars = full ∷ z.vars;
-          taken = z.number ∷ [];
+          taken = full ∷ [];
           shows = λ made next e rest h x.
               f.shows made (made ++ f.taken) refl (Let (Malloc (v_types ks g vs)) (fill ls b d l 1 vs rest)) h
               (inl (many us, many_types ks g vs, z.shows (made ++ f.taken) made next refl e rest h x));
           later = λ p x q. z.later p x (on p x (f.later p x q));
           good = λ d3 env3 q.
               let there = thing_nth env3 (d3 - suc (final l vs)) full (q (final l vs) full (at_new (final l vs) z.vars full)).1 in
-              subst (λ x. Means os x k0 (HTuple vs) × (tuple_of x ≡ z.number ∷ [])) (sym there)
+              subst (λ x. Means os x k0 (HTuple vs) × (tuple_of x ≡ full ∷ [])) (sym there)
               ((refl, ap HTuple (sym (then_is vs [])), n.1), refl);
         })
 
@@ -307,9 +308,9 @@ module _ (ds : List HVal) where
         let d1 = v_next ls d v in
         record { one = x; two = comes_v w b1 d1 x.vars (back ds b b1 us ws (fact ds ks g ls os known v b w0).long wi) s.1 (agree_later ls k0 d d1 env x.vars x.later a) }
 
-  further : (ls : List Known) (l : Known) (k d d2 : ℕ) (env vars : List Thing) → l.level ≡ d2 → Later d env d2 vars → Agree d ls k env → Agree (suc d2) (l ∷ ls) (suc k) (Is (named k) ∷ vars)
+  further : (ls : List Known) (l : Known) (k d d2 : ℕ) (env vars : List Thing) → l.level ≡ d2 → Later d env d2 vars → Agree d ls k env → Agree (suc d2) (l ∷ ls) (suc k) (Is k ∷ vars)
   further ls l k d d2 env vars e q a =
-      (subst (λ m. At (suc d2) (Is (named k) ∷ vars) m (Is (named k))) (sym e) (at_new d2 vars (Is (named k))), agree_later ls k d (suc d2) env (Is (named k) ∷ vars) (λ p u b. at_more d2 vars p u (Is (named k)) (q p u b)) a)
+      (subst (λ m. At (suc d2) (Is k ∷ vars) m (Is k)) (sym e) (at_new d2 vars (Is k)), agree_later ls k d (suc d2) env (Is k ∷ vars) (λ p u b. at_more d2 vars p u (Is k) (q p u b)) a)
 
   module _ (ks : HBlks) where
     abbrev Standing : HTm → List ATy → List Known → Constants → ℕ → ℕ → ℕ → List Thing → Type 0
@@ -325,7 +326,7 @@ module _ (ds : List HVal) where
         let x = comes_v k ks g ls os kn v b d env w0 s.0 a in
         let d2 = v_next ls d v in
         let r = x.good d2 x.vars (λ p u q. q) in
-        x.shows [] x.taken refl _ _ (v, t, refl, r.0, r.1, stands_is t (d_types ks g e) (l ∷ ls) (constant os v ∷ os) (suc k) (n_d ls b e) (suc d2) (Is (named k) ∷ x.vars) w1 (f.same, kn) s.1 (further ls l k d d2 env x.vars refl x.later a))
+        x.shows [] x.taken refl _ _ (v, t, refl, r.0, r.1, stands_is t (d_types ks g e) (l ∷ ls) (constant os v ∷ os) (suc k) (n_d ls b e) (suc d2) (Is k ∷ x.vars) w1 (f.same, kn) s.1 (further ls l k d d2 env x.vars refl x.later a))
     stands_is (HLet (HProj i v) t) g ls os k b d env wi kn s a =
         let e : HDecl = HProj i v in
         let w0 = front ds b (tuples_d os e) (tuples_t (named_by os e ∷ os) t) wi in
@@ -335,7 +336,7 @@ module _ (ds : List HVal) where
         let x = comes_v k ks g ls os kn v b d env w0 s.0 a in
         let d2 = v_next ls d v in
         let r = x.good d2 x.vars (λ p u q. q) in
-        x.shows [] x.taken refl _ _ (v, t, inl refl, r.0, r.1, stands_is t (d_types ks g e) (l ∷ ls) (None ∷ os) (suc k) (n_d ls b e) (suc d2) (Is (named k) ∷ x.vars) w1 (tt, kn) s.1 (further ls l k d d2 env x.vars refl x.later a))
+        x.shows [] x.taken refl _ _ (v, t, inl refl, r.0, r.1, stands_is t (d_types ks g e) (l ∷ ls) (None ∷ os) (suc k) (n_d ls b e) (suc d2) (Is k ∷ x.vars) w1 (tt, kn) s.1 (further ls l k d d2 env x.vars refl x.later a))
     stands_is (HLet (HArith op v w) t) g ls os k b d env wi kn s a =
         let e : HDecl = HArith op v w in
         let w0 = front ds b (tuples_d os e) (tuples_t (named_by os e ∷ os) t) wi in
@@ -359,7 +360,7 @@ module _ (ds : List HVal) where
           r.0,
           s2.0,
           ap₂ ◌++◌ r.1 s2.1,
-          stands_is t (d_types ks g e) (l ∷ ls) (None ∷ os) (suc k) (n_d ls b e) (suc d2) (Is (named k) ∷ y.vars) w1 (tt, kn) s.1 (further ls l k d d2 env y.vars refl (λ p u q. y.later p u (x.later p u q)) a),
+          stands_is t (d_types ks g e) (l ∷ ls) (None ∷ os) (suc k) (n_d ls b e) (suc d2) (Is k ∷ y.vars) w1 (tt, kn) s.1 (further ls l k d d2 env y.vars refl (λ p u q. y.later p u (x.later p u q)) a),
         ))
     stands_is (HLet (HUnpack v) t) g ls os k b d env wi kn s a =
         let e : HDecl = HUnpack v in
@@ -370,7 +371,7 @@ module _ (ds : List HVal) where
         let x = comes_v k ks g ls os kn v b d env w0 s.0 a in
         let d2 = v_next ls d v in
         let r = x.good d2 x.vars (λ p u q. q) in
-        x.shows [] x.taken refl _ _ (v, t, refl, r.0, r.1, stands_is t (d_types ks g e) (l ∷ ls) (None ∷ os) (suc k) (n_d ls b e) (suc d2) (Is (named k) ∷ x.vars) w1 (tt, kn) s.1 (further ls l k d d2 env x.vars refl x.later a))
+        x.shows [] x.taken refl _ _ (v, t, refl, r.0, r.1, stands_is t (d_types ks g e) (l ∷ ls) (None ∷ os) (suc k) (n_d ls b e) (suc d2) (Is k ∷ x.vars) w1 (tt, kn) s.1 (further ls l k d d2 env x.vars refl x.later a))
     stands_is (HLet (HCell v) t) g ls os k b d env wi kn s a =
         let e : HDecl = HCell v in
         let w0 = front ds b (tuples_d os e) (tuples_t (named_by os e ∷ os) t) wi in
@@ -392,7 +393,7 @@ module _ (ds : List HVal) where
             refl,
             r.0,
             r.1,
-            stands_is t (d_types ks g e) (l ∷ ls) (None ∷ os) (suc k) (n_d ls b e) (suc (suc d1)) (Is (named k) ∷ Gone ∷ x.vars) w1 (tt, kn) s.1 (further ls l k d (suc d1) env (Gone ∷ x.vars) refl (λ p u q. on p u (x.later p u q)) a),
+            stands_is t (d_types ks g e) (l ∷ ls) (None ∷ os) (suc k) (n_d ls b e) (suc (suc d1)) (Is k ∷ Gone ∷ x.vars) w1 (tt, kn) s.1 (further ls l k d (suc d1) env (Gone ∷ x.vars) refl (λ p u q. on p u (x.later p u q)) a),
           ),
         ))
     stands_is (HLet (HGet v) t) g ls os k b d env wi kn s a =
@@ -404,7 +405,7 @@ module _ (ds : List HVal) where
         let x = comes_v k ks g ls os kn v b d env w0 s.0 a in
         let d2 = v_next ls d v in
         let r = x.good d2 x.vars (λ p u q. q) in
-        x.shows [] x.taken refl _ _ (v, t, inr (refl, refl), r.0, r.1, stands_is t (d_types ks g e) (l ∷ ls) (None ∷ os) (suc k) (n_d ls b e) (suc d2) (Is (named k) ∷ x.vars) w1 (tt, kn) s.1 (further ls l k d d2 env x.vars refl x.later a))
+        x.shows [] x.taken refl _ _ (v, t, inr (refl, refl), r.0, r.1, stands_is t (d_types ks g e) (l ∷ ls) (None ∷ os) (suc k) (n_d ls b e) (suc d2) (Is k ∷ x.vars) w1 (tt, kn) s.1 (further ls l k d d2 env x.vars refl x.later a))
     stands_is (HLet (HSet v w) t) g ls os k b d env wi kn s a =
         let e : HDecl = HSet v w in
         let w0 = front ds b (tuples_d os e) (tuples_t (named_by os e ∷ os) t) wi in
@@ -430,7 +431,7 @@ module _ (ds : List HVal) where
           r.0,
           s2.0,
           ap₂ ◌++◌ r.1 s2.1,
-          (refl, stands_is t (d_types ks g e) (l ∷ ls) (None ∷ os) (suc k) (n_d ls b e) (suc (suc d2)) (Is (named k) ∷ Gone ∷ y.vars) w1 (tt, kn) s.1 (further ls l k d (suc d2) env (Gone ∷ y.vars) refl (λ p u q. on p u (y.later p u (x.later p u q))) a)),
+          (refl, stands_is t (d_types ks g e) (l ∷ ls) (None ∷ os) (suc k) (n_d ls b e) (suc (suc d2)) (Is k ∷ Gone ∷ y.vars) w1 (tt, kn) s.1 (further ls l k d (suc d2) env (Gone ∷ y.vars) refl (λ p u q. on p u (y.later p u (x.later p u q))) a)),
         ))
     stands_is (HCall f ts vs) g ls os k b d env wi kn s a =
         let us = tuples_v os f in
@@ -470,7 +471,7 @@ module _ (ds : List HVal) where
 
     args_agree : (args : CTys) (ls : List Known) (k d : ℕ) (env : List Thing) → Agree d ls k env → Agree (arg_depth d args) (arg_levels d ls args) (arg_count k (atypes args)) (arg_things k env (atypes args))
     args_agree NoCTys ls k d env a = a
-    args_agree (MoreCTys t ts) ls k d env a = args_agree ts (plain d ∷ ls) (suc k) (suc d) (Is (named k) ∷ env) (further ls (plain d) k d d env env refl (λ p u q. q) a)
+    args_agree (MoreCTys t ts) ls k d env a = args_agree ts (plain d ∷ ls) (suc k) (suc d) (Is k ∷ env) (further ls (plain d) k d d env env refl (λ p u q. q) a)
 
     count_is : (ts : ATys) (k : ℕ) → arg_count k ts ≡ k + arity ts
     count_is NoATys k = omega arith

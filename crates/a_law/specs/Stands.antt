@@ -1,9 +1,9 @@
 -- Which hoisted term an allocated term stands for: a data tuple is put back as the tuple of constants that it stands
 -- for, a malloc, with the initialisations of all fields at once after it and in order, as the tuple that the last of
--- them names, which is not one of constants alone, and types are those of hoisted types with every flag at 1. Each tuple
--- that is made is taken once, and tuples are taken in the order in which they are made: by the next tuple, as a field,
--- or by the next declaration, call, choice or halt. So none is idle, and none stands for two. A cell looks like a tuple
--- of one field, so at a malloc, an initialisation and a projection either may be meant.
+-- them names, which is not one of constants alone, and types are those of hoisted types with every flag at 1. Each
+-- tuple that is made is taken once, and tuples are taken in the order in which they are made: by the next tuple, as a
+-- field, or by the next declaration, call, choice or halt. So none is idle, and none stands for two. A cell looks like
+-- a tuple of one field, so at a malloc, an initialisation and a projection either may be meant.
 use Rattle.std.specs.Prelude.{◌≡◌, ◌⊎◌, ◌++◌, ℕ, zero, suc, ◌-◌, List, [], ◌∷◌, length, slice_get, Some, None}
 use Rattle.c_terms.specs.C.{CTy, CTys}
 use Rattle.h_terms.specs.H.{HVal, HVar, HInt, HLabel, HTuple, HApply, HPack, HVals, NoHVals, MoreHVals, HName, HProj}
@@ -26,10 +26,10 @@ abbrev pub listed : List HVal → HVals
 listed [] = NoHVals
 listed (w ∷ ws) = MoreHVals w (listed ws)
 
--- what a variable of the allocated term stands for: a value; tuple number l, made under k variables, with these fields;
--- or nothing, as a cell that is not yet set, or a tuple that is not yet filled
+-- what a variable of the allocated term stands for: variable l of the hoisted term; tuple number l, made under k
+-- variables, with these fields; or nothing, as a cell that is not yet set, or a tuple that is not yet filled
 pub data Thing : Type 0 where
-  Is : (f : Shown) → Thing
+  Is : (l : ℕ) → Thing
   Made : (l k : ℕ) (fs : List HVal) → Thing
   Gone : Thing
 
@@ -40,17 +40,17 @@ thing_at (x ∷ xs) (suc i) = thing_at xs i
 
 -- under m variables, which name the constants os; a tuple that is made is no constant
 abbrev pub Means : Constants → Thing → ℕ → HVal → Type 0
-Means os (Is f) m w = w ≡ f m
+Means os (Is l) m w = w ≡ named l m
 Means os (Made l k fs) m w = (k ≡ m) × (w ≡ HTuple (listed fs)) × (constant os w ≡ None)
 Means os Gone m w = ⊥
 
 -- the tuples that a value takes, and several values, one after the other
-abbrev pub tuple_of : Thing → List ℕ
-tuple_of (Is f) = []
-tuple_of (Made l k fs) = l ∷ []
+abbrev pub tuple_of : Thing → List Thing
+tuple_of (Is l) = []
+tuple_of (Made l k fs) = Made l k fs ∷ []
 tuple_of Gone = []
 
-abbrev pub takes : List Thing → AVal → List ℕ
+abbrev pub takes : List Thing → AVal → List Thing
 takes env (Var i) = tuple_of (thing_at env i)
 takes env (Num n) = []
 takes env (Lab l) = []
@@ -58,9 +58,13 @@ takes env (Data n) = []
 takes env (Apply v ts) = takes env v
 takes env (Pack h v s) = takes env v
 
-abbrev pub all_take : List Thing → List AVal → List ℕ
+abbrev pub all_take : List Thing → List AVal → List Thing
 all_take env [] = []
 all_take env (v ∷ vs) = takes env v ++ all_take env vs
+
+-- the tuple that is made where these are the variables and k those of the hoisted term
+abbrev pub made_at : List Thing → ℕ → List HVal → Thing
+made_at env k fs = Made (length env) k fs
 
 -- the value v stands for w, where the data stand for ds
 abbrev pub Stands_v : List HVal → Constants → List Thing → ℕ → AVal → HVal → Type 0
@@ -105,27 +109,27 @@ Shows ds (x ∷ xs) ws =
 -- content of a new cell; or the empty tuple that names an assignment
 pub data Mode : Type 0 where
   Any : Mode
-  Filling : (fs : List HVal) (n : ℕ) (taken : List ℕ) → Mode
+  Filling : (fs : List HVal) (n : ℕ) (taken : List Thing) → Mode
   Content : Mode
   Unit_named : Mode
 
 -- the term a stands for h, where k variables of the hoisted term are in scope, and name the constants os, and these
 -- tuples are made and not taken
-abbrev pub Stands_t : List HVal → Constants → Mode → List ℕ → List Thing → ℕ → ATm → HTm → Type 0
+abbrev pub Stands_t : List HVal → Constants → Mode → List Thing → List Thing → ℕ → ATm → HTm → Type 0
 Stands_t ds os Any made env k (Let (Value v) e) h =
     (w : HVal) × (t : HTm) × (h ≡ HLet (HName w) t) × Stands_v ds os env k v w × (takes env v ≡ made)
-    × Stands_t ds (constant os w ∷ os) Any [] (Is (named k) ∷ env) (suc k) e t
+    × Stands_t ds (constant os w ∷ os) Any [] (Is k ∷ env) (suc k) e t
 Stands_t ds os Any made env k (Let (Proj i v) e) h =
     (w : HVal) × (t : HTm) × ((h ≡ HLet (HProj i w) t) ⊎ ((i ≡ 1) × (h ≡ HLet (HGet w) t)))
     × Stands_v ds os env k v w × (takes env v ≡ made)
-    × Stands_t ds (None ∷ os) Any [] (Is (named k) ∷ env) (suc k) e t
+    × Stands_t ds (None ∷ os) Any [] (Is k ∷ env) (suc k) e t
 Stands_t ds os Any made env k (Let (Arith op v w) e) h =
     (x : HVal) × (y : HVal) × (t : HTm) × (h ≡ HLet (HArith op x y) t) × Stands_v ds os env k v x
     × Stands_v ds os env k w y × (takes env v ++ takes env w ≡ made)
-    × Stands_t ds (None ∷ os) Any [] (Is (named k) ∷ env) (suc k) e t
+    × Stands_t ds (None ∷ os) Any [] (Is k ∷ env) (suc k) e t
 Stands_t ds os Any made env k (Let (Unpack v) e) h =
     (w : HVal) × (t : HTm) × (h ≡ HLet (HUnpack w) t) × Stands_v ds os env k v w × (takes env v ≡ made)
-    × Stands_t ds (None ∷ os) Any [] (Is (named k) ∷ env) (suc k) e t
+    × Stands_t ds (None ∷ os) Any [] (Is k ∷ env) (suc k) e t
 Stands_t ds os Any made env k (Let (Malloc ts) e) h =
     ((n : ℕ) × (arity ts ≡ suc n) × Stands_t ds os (Filling [] n []) made (Gone ∷ env) k e h)
     ⊎ ((arity ts ≡ 1) × Stands_t ds os Content made (Gone ∷ env) k e h)
@@ -143,9 +147,9 @@ Stands_t ds os Any made env k (Halt v) h =
     (x : HVal) × (h ≡ HHalt x) × Stands_v ds os env k v x × (takes env v ≡ made)
 -- the last field; the tuples that the fields took are the last that were made, and the new one comes in their place
 Stands_t ds os (Filling fs zero taken) made env k (Let (Init v i w) e) h =
-    (y : HVal) × (left : List ℕ) × (v ≡ Var 0) × (i ≡ suc (length fs)) × Stands_v ds os env k w y
+    (y : HVal) × (left : List Thing) × (v ≡ Var 0) × (i ≡ suc (length fs)) × Stands_v ds os env k w y
     × (made ≡ left ++ (taken ++ takes env w))
-    × Stands_t ds os Any (left ++ length env ∷ []) (Made (length env) k (fs ++ y ∷ []) ∷ env) k e h
+    × Stands_t ds os Any (left ++ made_at env k (fs ++ y ∷ []) ∷ []) (made_at env k (fs ++ y ∷ []) ∷ env) k e h
 Stands_t ds os (Filling fs (suc n) taken) made env k (Let (Init v i w) e) h =
     (y : HVal) × (v ≡ Var 0) × (i ≡ suc (length fs)) × Stands_v ds os env k w y
     × Stands_t ds os (Filling (fs ++ y ∷ []) n (taken ++ takes env w)) made (Gone ∷ env) k e h
@@ -159,7 +163,7 @@ Stands_t ds os (Filling fs n taken) made env k (If0 v a b) h = ⊥
 Stands_t ds os (Filling fs n taken) made env k (Halt v) h = ⊥
 Stands_t ds os Content made env k (Let (Init v i w) e) h =
     (x : HVal) × (t : HTm) × (v ≡ Var 0) × (i ≡ 1) × (h ≡ HLet (HCell x) t) × Stands_v ds os env k w x
-    × (takes env w ≡ made) × Stands_t ds (None ∷ os) Any [] (Is (named k) ∷ env) (suc k) e t
+    × (takes env w ≡ made) × Stands_t ds (None ∷ os) Any [] (Is k ∷ env) (suc k) e t
 Stands_t ds os Content made env k (Let (Value v) e) h = ⊥
 Stands_t ds os Content made env k (Let (Proj i v) e) h = ⊥
 Stands_t ds os Content made env k (Let (Arith op v w) e) h = ⊥
@@ -169,7 +173,7 @@ Stands_t ds os Content made env k (Call v ts vs) h = ⊥
 Stands_t ds os Content made env k (If0 v a b) h = ⊥
 Stands_t ds os Content made env k (Halt v) h = ⊥
 Stands_t ds os Unit_named made env k (Let (Malloc ts) e) h =
-    (ts ≡ NoATys) × Stands_t ds os Any made (Is (named k) ∷ env) (suc k) e h
+    (ts ≡ NoATys) × Stands_t ds os Any made (Is k ∷ env) (suc k) e h
 Stands_t ds os Unit_named made env k (Let (Init v i w) e) h = ⊥
 Stands_t ds os Unit_named made env k (Let (Value v) e) h = ⊥
 Stands_t ds os Unit_named made env k (Let (Proj i v) e) h = ⊥
@@ -182,7 +186,7 @@ Stands_t ds os Unit_named made env k (Halt v) h = ⊥
 -- the arguments of a block are its first variables
 abbrev pub arg_things : ℕ → List Thing → ATys → List Thing
 arg_things k env NoATys = env
-arg_things k env (MoreATys t ts) = arg_things (suc k) (Is (named k) ∷ env) ts
+arg_things k env (MoreATys t ts) = arg_things (suc k) (Is k ∷ env) ts
 
 abbrev pub Stands_all : List HVal → List ABlk → HBlks → Type 0
 Stands_all ds [] [] = Unit {0}
@@ -190,7 +194,8 @@ Stands_all ds [] (x ∷ xs) = ⊥
 Stands_all ds (b ∷ bs) [] = ⊥
 Stands_all ds (b ∷ bs) (x ∷ xs) =
     ((b.owes ≡ x.owes) × (atypes x.args ≡ b.args)
-    × Stands_t ds (of_args x.args []) Any [] (arg_things 0 [] b.args) (arity b.args) b.body x.body) × Stands_all ds bs xs
+    × Stands_t ds (of_args x.args []) Any [] (arg_things 0 [] b.args) (arity b.args) b.body x.body)
+    × Stands_all ds bs xs
 
 -- a program stands for a hoisted program, block by block; its data tuples, one after the other, are the tuples of
 -- constants of that

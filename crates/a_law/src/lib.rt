@@ -2,6 +2,7 @@
 #![tactic(auto)]
 
 ghost use Rattle.a_law.specs.Back.{PutsBack, Settled};
+ghost use Rattle.a_law.specs.Mallocs.{MallocsAreAsked};
 ghost use Rattle.a_law.specs.Stands.{AllocStands};
 ghost use Rattle.a_law.specs.Statements.{AllocFits, AllocKept, AllocTypesKept};
 
@@ -32,6 +33,12 @@ pub fn bounds_are_kept()
 /// The allocation of a typed program stands for it.
 pub fn allocation_stands_for_its_program()
     ensures { AllocStands }
+{}
+
+/// What stands for a program has one malloc for each of its tuples that are no constants, each of its cells and each of
+/// its assignments.
+pub fn mallocs_are_asked()
+    ensures { MallocsAreAsked }
 {}
 
 /// What stands for a program with no cell gives, its tuples and data put back and its flags dropped, that program,

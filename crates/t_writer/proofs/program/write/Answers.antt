@@ -2,7 +2,7 @@ use Rattle.std.proofs.Common.{◌<◌, ◌^◌, length, arith}
 use Rattle.t_terms.specs.Read.{blocks_of, data_of}
 use Rattle.t_terms.specs.ReadProgram.{program}
 use Rattle.t_terms.specs.Text.{StandsFor}
-use Rattle.t_writer.proofs.Texts.{first_text, reads_back}
+use Rattle.t_writer.proofs.Texts.{first_is, first_text, reads_back}
 use Rattle.t_writer.proofs.program.write.Goals as goal
 
 pub write_blocks-requires : goal.write_blocks-requires
@@ -21,3 +21,8 @@ returns-clause-stands c = stands c
 
 pub returns-clause-reads : goal.returns-clause-reads
 returns-clause-reads c = reads_back c.keeps_by_nesting.ensures _ _ (stands c)
+
+pub returns-clause-same : goal.returns-clause-same
+returns-clause-same c =
+    let p = c.args.program.now in
+    first_is _ _ p.blocks.items p.heap.items c.in_ok-text.ensures.items (rw c.deref.ensures.value at c.in_ok-write_blocks.ensures.written)

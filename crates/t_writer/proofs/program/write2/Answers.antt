@@ -2,7 +2,7 @@ use Rattle.std.proofs.Common.{◌<◌, ◌^◌, length, arith}
 use Rattle.t_terms.specs.Read.{blocks_of, data_of}
 use Rattle.t_terms.specs.ReadProgram.{program}
 use Rattle.t_terms.specs.Text.{StandsFor}
-use Rattle.t_writer.proofs.Texts.{second_text, reads_back}
+use Rattle.t_writer.proofs.Texts.{second_is, second_text, reads_back}
 use Rattle.t_writer.proofs.program.write2.Goals as goal
 
 pub write_heap-requires : goal.write_heap-requires
@@ -28,3 +28,8 @@ returns-clause-stands c = stands c
 
 pub returns-clause-reads : goal.returns-clause-reads
 returns-clause-reads c = reads_back c.keeps_by_nesting.ensures _ _ (stands c)
+
+pub returns-clause-same : goal.returns-clause-same
+returns-clause-same c =
+    let p = c.args.program.now in
+    second_is _ _ _ p.blocks.items p.heap.items c.in_ok-text.ensures.items (rw c.deref.ensures.value at c.in_ok-write_heap.ensures.written) (rw c.deref-2.ensures.value at c.in_ok-write_blocks.ensures.written)

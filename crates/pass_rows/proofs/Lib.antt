@@ -1,3 +1,4 @@
 mod Cells
 mod Example
+mod FewNames
 mod Ones

@@ -1,7 +1,9 @@
 // Source texts and large terms through the passes.
 mod bounded_text;
+mod by_hand;
 mod cells;
 mod closing;
+mod few_names;
 mod forms;
 mod generating;
 mod hoisting;

@@ -50,8 +50,8 @@ fn assembly(alloc: Global, source: &str) -> Result<Checked, Fail> {
     Ok(compile(alloc, &program)?)
 }
 
-// The greatest register that the program's text names.
-fn top_register(alloc: Global, program: &Checked) -> Result<u64, Fail> {
+/// The greatest register that the program's text names.
+pub fn top_register(alloc: Global, program: &Checked) -> Result<u64, Fail> {
     let text = write2(alloc, program.program())?;
     let mut top: u64 = 0;
     let tokens = tokens(alloc, &text)?;

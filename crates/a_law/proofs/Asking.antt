@@ -4,12 +4,11 @@ use Rattle.std.proofs.Common.{arith}
 use Rattle.h_terms.specs.H.{HVal, HTuple, HVals, HTm, HBlks}
 use Rattle.a_terms.specs.Tree.{AVal, Var, Num, Lab, Data, Apply, Pack, ATm, Let, Call, If0, Halt, Value, Proj, Arith}
 use Rattle.a_terms.specs.Tree.{Unpack, Malloc, Init, ABlk, arity}
-use Rattle.a_law.specs.Constants.{Constants, constant, of_args}
+use Rattle.a_law.specs.Constants.{Constants, constant, of_args, tuples_in}
 use Rattle.a_law.specs.Mallocs.{mallocs, all_mallocs, unless_constant, tuples_made, all_made, made_in, made_in_all}
 use Rattle.a_law.specs.Mallocs.{MallocsAreAsked}
 use Rattle.a_law.specs.Stands.{Thing, Is, Made, Gone, thing_at, listed, Means, takes, all_take, made_at, Stands_v}
 use Rattle.a_law.specs.Stands.{tuple_of, Stands_vs, Any, Filling, Content, Unit_named, Stands_t, Stands_all, arg_things}
-use Rattle.a_law.specs.Constants.{tuples_in}
 
 -- how many tuples these are, with those inside them
 abbrev thing_made : Constants → Thing → ℕ

@@ -3,9 +3,14 @@ mod CLaws
 mod Cells
 pub mod Consts
 mod Data
+mod Endings
+mod FilledAlike
 mod Fits
 mod Known
 mod Meaning
+mod OneAllocating
+mod OneValue
+mod Posts
 mod PutBack
 mod Readings
 mod Regs

@@ -3,6 +3,7 @@
 
 ghost use Rattle.a_law.specs.Back.{PutsBack, Settled};
 ghost use Rattle.a_law.specs.Mallocs.{MallocsAreAsked};
+ghost use Rattle.a_law.specs.OneAllocation.{OneAllocation};
 ghost use Rattle.a_law.specs.Stands.{AllocStands};
 ghost use Rattle.a_law.specs.Statements.{AllocFits, AllocKept, AllocTypesKept};
 
@@ -39,6 +40,12 @@ pub fn allocation_stands_for_its_program()
 /// its assignments.
 pub fn mallocs_are_asked()
     ensures { MallocsAreAsked }
+{}
+
+/// What stands for a program is one program, but for the types of its mallocs, which typing tells, and for which of
+/// equal data tuples is named where.
+pub fn one_program_stands_for_each()
+    ensures { OneAllocation }
 {}
 
 /// What stands for a program with no cell gives, its tuples and data put back and its flags dropped, that program,

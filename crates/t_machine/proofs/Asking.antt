@@ -18,7 +18,7 @@ use Rattle.t_machine.specs.declared.code.Instruction.{Instruction}
 use Rattle.t_machine.specs.declared.code.Instruction.TheVariants.{Arith, Bnz, Ld, Malloc, Mov, St, Jmp, Halt}
 use Rattle.t_machine.proofs.Standing.{holds_here}
 
-abbrev asked_code : ESeq → Option ℕ
+abbrev pub asked_code : ESeq → Option ℕ
 asked_code (EThen (EMalloc rd n) r) = Some n
 asked_code other = None
 
@@ -49,7 +49,7 @@ asked_held m o os c h = ⊎_elim
     (λ (z : IsEnd m o c). asked_end m o c z)
     h
 
-asked_seq : (h : Heap) (g : RegWords) (c : TSeq) → asked_code (erase_seq c) ≡ asked_next (At h g c)
+pub asked_seq : (h : Heap) (g : RegWords) (c : TSeq) → asked_code (erase_seq c) ≡ asked_next (At h g c)
 asked_seq h g (Then (tree.Arith op d s v) c) = refl
 asked_seq h g (Then (tree.Bnz s v) c) = refl
 asked_seq h g (Then (tree.Ld d s f) c) = refl

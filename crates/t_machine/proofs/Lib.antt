@@ -12,3 +12,5 @@ pub mod Asking
 pub mod Covering
 pub mod Rows
 pub mod Placed
+pub mod Seldom
+pub mod Splitting

@@ -7,6 +7,7 @@ pub mod Placing
 pub mod ProgramLaws
 pub mod Room
 pub mod Runs
+pub mod Seldom
 pub mod State
 pub mod Steps
 pub mod Words

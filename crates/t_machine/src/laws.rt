@@ -1,12 +1,13 @@
 // Laws of runs, as functions that callers cite: they do nothing, or call the laws that they stand on.
 ghost use Rattle.t_machine.specs.Laid.{PlacesAreReadBack};
 ghost use Rattle.t_machine.specs.ProgramLaws.{ProgramLaws};
-ghost use Rattle.t_machine.specs.Room.{StepsMakeWhatTheyAsk, StepsAreCovered};
+ghost use Rattle.t_machine.specs.Room.{StepsMakeWhatTheyAsk, StepsAreCovered, RestIsCovered};
 ghost use Rattle.t_machine.specs.Runs.{HaltedExactly, SpentExactly, FirstRuns};
+ghost use Rattle.t_machine.specs.Seldom.{SeldomRunsAreCovered};
 
 use t_rules::{
     accepted_programs_are_never_stuck, erased_code_stands_at_its_place, erased_machine_starts,
-    erased_states_go_on, erased_states_halt_alike, runs_are_unique,
+    erased_states_go_on, erased_states_halt_alike, runs_are_unique, runs_weigh_within_times,
 };
 
 // What the machine stands on: laws of programs and of their erasure.
@@ -44,6 +45,22 @@ pub fn steps_allocate_what_they_ask()
     ensures covered { StepsAreCovered }
 {
     programs_keep_laws();
+}
+
+/// A run in parts needs no more than a run at once: where some steps and those after them are covered, and the first
+/// lowered what is spare by no more than they allocate, as `run` says of them, those after them are covered by what is
+/// left.
+pub fn the_rest_is_covered()
+    ensures { RestIsCovered }
+{}
+
+/// Where no place of a program is executed more than n times, any number of steps from its start is covered by n times
+/// the number of its `malloc`s, and n times the number of their fields. So a run that begins there with so many spare
+/// never wants memory.
+pub fn seldom_runs_are_covered()
+    ensures { SeldomRunsAreCovered }
+{
+    runs_weigh_within_times();
 }
 
 /// Where the code is the blocks one after the other, a place of it tells the block and the instruction.

@@ -11,7 +11,9 @@ each less that of the smallest program.
 
 Then, of small programs: the instructions that they execute, those a turn of their source and those in their text, how
 many of these are moves, and the greatest register; and the same with `--registers 8` and `--registers 16`, with bytes,
-instructions executed and time as multiples of those without. What lies in larger terms is measured by `passes.py`.
+instructions executed and time as multiples of those without. Last, of the text of each example and of all together: how
+many of 100 instructions are moves (wanted of all: at most 25), and the greatest register (wanted: at most 16). What
+lies in larger terms is measured by `passes.py`.
 """
 import re
 import shutil
@@ -143,6 +145,7 @@ WITHIN = [
 ]
 SIZES, WITHIN_SIZES, SMALL_SIZES = [25000, 50000, 99998], [5000, 10000, 20000], [250, 500, 998]
 MOST_TIMES, MOST_BYTES, MOST_OF_OCAML = 2.2, 100, 1
+MOST_MOVES, MOST_REGISTER = 25, 16
 
 
 def example(name):
@@ -265,6 +268,25 @@ def main():
                     f"times the time to compile: {times}{wrong}"
                 )
 
+        def moved():
+            """Prints a row for each example, and one for all."""
+            instructions = moves = 0
+            for path in sorted((ROOT / "examples").glob("*.f")):
+                timed(path.read_text(encoding="ascii"), times=1)
+                text = Text(target)
+                instructions += text.instructions
+                moves += text.moves
+                wrong = ": many registers" if text.register > MOST_REGISTER else ""
+                print(
+                    f"{path.name}: {text.moves} of {text.instructions} instructions are moves, "
+                    f"{100 * text.moves / text.instructions:.0f} of 100, up to r{text.register}{wrong}"
+                )
+            share = 100 * moves / instructions
+            print(
+                f"all examples: {moves} of {instructions} instructions are moves, {share:.1f} of 100, wanted at most "
+                f"{MOST_MOVES}{': many' if share > MOST_MOVES else ''}"
+            )
+
         for name, shape, in_ocaml, is_linear in [(*row, True) for row in LINEAR] + [(*row, False) for row in FASTER]:
             rows(name, shape, SIZES if is_linear else SMALL_SIZES, is_linear)
             if peer and in_ocaml:
@@ -273,6 +295,7 @@ def main():
             rows(f"{name} within 8 registers", shape, WITHIN_SIZES, True, "--registers", "8")
         for row in TURNS:
             counted(*row)
+        moved()
 
 
 main()

@@ -11,7 +11,7 @@ use std::alloc::Global;
 use std::collections::{BTreeMap, BTreeSet};
 
 /// Registers from 1 on: those that hold something, and the gaps between them, each as its first register and the one
-/// after its last. So the least register that holds nothing is found in logarithmic time.
+/// after its last. So the least one from any register on that holds nothing is found in logarithmic time.
 #[derive(Drop)]
 pub struct Registers {
     pub busy: BTreeSet<u64>,

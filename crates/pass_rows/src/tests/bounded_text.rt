@@ -99,40 +99,39 @@ const LOOP: &str = "(fix f(n:int):int. if0(n, 42, f (n - 1))) \
 const BLOCKS: &str = "\
 L1: code[]{r1:<>, r2:int, r3:some T0. <all[]{r1:T0, r2:int}^1, T0^1>}.
 malloc r4[all[]{r1:<>, r2:int, r3:some T0. <all[]{r1:T0, r2:int}^1, T0^1>}, <>]
-mov r6, L1
-st r4[0], r6
+mov r5, L1
+st r4[0], r5
 st r4[1], r1
-mov r1, pack[<>, r4] as some T0. <all[]{r1:T0, r2:int, r3:some T1. <all[]{r1:T1, r2:int}^1, T1^1>}^1, T0^1>
+mov r4, pack[<>, r4] as some T0. <all[]{r1:T0, r2:int, r3:some T1. <all[]{r1:T1, r2:int}^1, T1^1>}^1, T0^1>
 bnz r2, L3
-unpack[T0, r1], r3
-ld r2, r1[0]
-ld r1, r1[1]
-mov r3, r2
+unpack[T0, r3], r3
+ld r4, r3[0]
+ld r1, r3[1]
 mov r2, 42
-jmp r3
+jmp r4
 L2: code[]{r1:<>, r2:int}.
 mov r1, r2
 halt[int]
-L3: code[]{r1:some T0. <all[]{r1:T0, r2:int, r3:some T1. <all[]{r1:T1, r2:int}^1, T1^1>}^1, T0^1>, r2:int, r3:some \
-    T0. <all[]{r1:T0, r2:int}^1, T0^1>}.
+L3: code[]{r2:int, r3:some T0. <all[]{r1:T0, r2:int}^1, T0^1>, r4:some T0. <all[]{r1:T0, r2:int, r3:some T1. \
+    <all[]{r1:T1, r2:int}^1, T1^1>}^1, T0^1>}.
 sub r2, r2, 1
-unpack[T0, r1], r1
-ld r4, r1[0]
-ld r1, r1[1]
-jmp r4
+unpack[T0, r4], r4
+ld r5, r4[0]
+ld r1, r4[1]
+jmp r5
 ";
 
 // Within eight registers: its `if0`.
 const BRANCH: &str = "\
 ld r2, r1[1]
 mov r6, r1
-malloc r4[some T0. <all[]{r1:<T0^1, int^1, some T1. <all[]{r1:<T1^1, int^1>}^1, T1^1>^1>}^1, T0^1>, int, some T0. \
-    <all[]{r1:<T0^1, int^1>}^1, T0^1>]
-ld r5, r1[0]
-st r4[0], r5
+malloc r4[int, some T0. <all[]{r1:<T0^1, int^1>}^1, T0^1>, some T0. <all[]{r1:<T0^1, int^1, some T1. <all[]{r1:<T1^1, \
+    int^1>}^1, T1^1>^1>}^1, T0^1>]
 ld r5, r1[1]
-st r4[1], r5
+st r4[0], r5
 ld r5, r1[2]
+st r4[1], r5
+ld r5, r1[3]
 st r4[2], r5
 mov r1, r4
 bnz r2, L4
@@ -141,15 +140,15 @@ mov r1, r6
 
 // The third part up to its subtraction.
 const SUBTRACTION: &str = "\
-L4: code[]{r1:<some T0. <all[]{r1:<T0^1, int^1, some T1. <all[]{r1:<T1^1, int^1>}^1, T1^1>^1>}^1, T0^1>^1, int^1, \
-    some T0. <all[]{r1:<T0^1, int^1>}^1, T0^1>^1>}.
-ld r2, r1[1]
+L4: code[]{r1:<int^1, some T0. <all[]{r1:<T0^1, int^1>}^1, T0^1>^1, some T0. <all[]{r1:<T0^1, int^1, some T1. \
+    <all[]{r1:<T1^1, int^1>}^1, T1^1>^1>}^1, T0^1>^1>}.
+ld r2, r1[0]
 sub r3, r2, 1
-malloc r4[some T0. <all[]{r1:<T0^1, int^1, some T1. <all[]{r1:<T1^1, int^1>}^1, T1^1>^1>}^1, T0^1>, int, some T0. \
-    <all[]{r1:<T0^1, int^1>}^1, T0^1>]
-ld r5, r1[0]
-st r4[0], r5
+malloc r4[int, some T0. <all[]{r1:<T0^1, int^1>}^1, T0^1>, some T0. <all[]{r1:<T0^1, int^1, some T1. <all[]{r1:<T1^1, \
+    int^1>}^1, T1^1>^1>}^1, T0^1>]
 mov r5, r3
+st r4[0], r5
+ld r5, r1[1]
 st r4[1], r5
 ld r5, r1[2]
 st r4[2], r5

@@ -170,61 +170,53 @@ D5: data <>
 D6: data <L4 : all[]{r1:<>, r2:some T0. <all[]{r1:T0, r2:int, r3:some T1. <all[]{r1:T1, r2:int}^1, T1^1>}^1, T0^1>}, \
     D5 : <>>
 L0: code[]{}.
-mov r1, pack[<>, D4] as some T0. <all[T1]{r1:T0, r2:some T2. <all[]{r1:T2, r2:some T3. <all[]{r1:T3, r2:T1, r3:some \
+mov r3, pack[<>, D4] as some T0. <all[T1]{r1:T0, r2:some T2. <all[]{r1:T2, r2:some T3. <all[]{r1:T3, r2:T1, r3:some \
     T4. <all[]{r1:T4, r2:T1}^1, T4^1>}^1, T3^1>}^1, T2^1>}^1, T0^1>
-unpack[T0, r1], r1
-ld r2, r1[0]
-ld r1, r1[1]
-mov r3, r2
+unpack[T0, r3], r3
+ld r4, r3[0]
+ld r1, r3[1]
 mov r2, pack[<>, D6] as some T1. <all[]{r1:T1, r2:some T2. <all[]{r1:T2, r2:int, r3:some T3. <all[]{r1:T3, r2:int}^1, \
     T3^1>}^1, T2^1>}^1, T1^1>
-jmp r3[int]
+jmp r4[int]
 L1: code[T0]{r1:<>, r2:some T1. <all[]{r1:T1, r2:some T2. <all[]{r1:T2, r2:T0, r3:some T3. <all[]{r1:T3, r2:T0}^1, \
     T3^1>}^1, T2^1>}^1, T1^1>}.
-malloc r1[all[]{r1:<>, r2:T0, r3:some T1. <all[]{r1:T1, r2:T0}^1, T1^1>}, <>]
+malloc r3[all[]{r1:<>, r2:T0, r3:some T1. <all[]{r1:T1, r2:T0}^1, T1^1>}, <>]
 mov r4, L2[T0]
-st r1[0], r4
+st r3[0], r4
 mov r4, D0
-st r1[1], r4
-mov r1, pack[<>, r1] as some T1. <all[]{r1:T1, r2:T0, r3:some T2. <all[]{r1:T2, r2:T0}^1, T2^1>}^1, T1^1>
-unpack[T1, r2], r2
-ld r3, r2[0]
-ld r2, r2[1]
-mov r4, r1
-mov r1, r2
-mov r2, r4
-jmp r3
+st r3[1], r4
+mov r3, pack[<>, r3] as some T1. <all[]{r1:T1, r2:T0, r3:some T2. <all[]{r1:T2, r2:T0}^1, T2^1>}^1, T1^1>
+unpack[T1, r4], r2
+ld r5, r4[0]
+ld r1, r4[1]
+mov r2, r3
+jmp r5
 L2: code[T0]{r1:<>, r2:T0, r3:some T1. <all[]{r1:T1, r2:T0}^1, T1^1>}.
-malloc r1[T0]
-st r1[0], r2
-malloc r2[all[]{r1:<T0^1>, r2:int, r3:some T1. <all[]{r1:T1, r2:T0}^1, T1^1>}, <T0^1>]
-mov r5, L3[T0]
-st r2[0], r5
-st r2[1], r1
-mov r1, pack[<T0^1>, r2] as some T1. <all[]{r1:T1, r2:int, r3:some T2. <all[]{r1:T2, r2:T0}^1, T2^1>}^1, T1^1>
-unpack[T1, r1], r1
-ld r2, r1[0]
-ld r1, r1[1]
-mov r4, r2
+malloc r4[T0]
+st r4[0], r2
+malloc r5[all[]{r1:<T0^1>, r2:int, r3:some T1. <all[]{r1:T1, r2:T0}^1, T1^1>}, <T0^1>]
+mov r6, L3[T0]
+st r5[0], r6
+st r5[1], r4
+mov r4, pack[<T0^1>, r5] as some T1. <all[]{r1:T1, r2:int, r3:some T2. <all[]{r1:T2, r2:T0}^1, T2^1>}^1, T1^1>
+unpack[T1, r4], r4
+ld r5, r4[0]
+ld r1, r4[1]
 mov r2, 0
-jmp r4
+jmp r5
 L3: code[T0]{r1:<T0^1>, r2:int, r3:some T1. <all[]{r1:T1, r2:T0}^1, T1^1>}.
-ld r1, r1[0]
-unpack[T1, r2], r3
-ld r3, r2[0]
-ld r2, r2[1]
-mov r4, r1
-mov r1, r2
-mov r2, r4
-jmp r3
-L4: code[]{r1:<>, r2:some T0. <all[]{r1:T0, r2:int, r3:some T1. <all[]{r1:T1, r2:int}^1, T1^1>}^1, T0^1>}.
-unpack[T0, r1], r2
 ld r2, r1[0]
-ld r1, r1[1]
-mov r4, r2
+unpack[T1, r3], r3
+ld r4, r3[0]
+ld r1, r3[1]
+jmp r4
+L4: code[]{r1:<>, r2:some T0. <all[]{r1:T0, r2:int, r3:some T1. <all[]{r1:T1, r2:int}^1, T1^1>}^1, T0^1>}.
+unpack[T0, r4], r2
+ld r5, r4[0]
+ld r1, r4[1]
 mov r2, 8
 mov r3, pack[<>, D2] as some T1. <all[]{r1:T1, r2:int}^1, T1^1>
-jmp r4
+jmp r5
 L5: code[]{r1:<>, r2:int}.
 add r1, r2, 1
 halt[int]

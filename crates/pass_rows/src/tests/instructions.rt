@@ -54,7 +54,7 @@ fn the_factorial_runs_within_its_instructions(rt: HostRuntime) -> Result<(), Fai
     let alloc = rt.alloc();
     let program = program(alloc, "(fix f(n:int):int. if0(n, 1, n * f(n - 1))) 5")?;
     let made = accepted(alloc, &program)?;
-    assert_eq!(rt; value_of(first_run(alloc, &made, 161)?), Some(120));
-    assert_eq!(rt; value_of(first_run(alloc, &made, 160)?), None);
+    assert_eq!(rt; value_of(first_run(alloc, &made, 154)?), Some(120));
+    assert_eq!(rt; value_of(first_run(alloc, &made, 153)?), None);
     Ok(())
 }

@@ -136,43 +136,38 @@ tal 2
 D0: data <>
 D1: data <L1 : all[]{r1:<>, r2:<int^1>, r3:some T0. <all[]{r1:T0, r2:<>}^1, T0^1>}, D0 : <>>
 L0: code[]{}.
-malloc r1[int]
-mov r3, 5
-st r1[0], r3
-mov r2, pack[<>, D1] as some T0. <all[]{r1:T0, r2:<int^1>, r3:some T1. <all[]{r1:T1, r2:<>}^1, T1^1>}^1, T0^1>
-malloc r3[<int^1>, some T0. <all[]{r1:T0, r2:<int^1>, r3:some T1. <all[]{r1:T1, r2:<>}^1, T1^1>}^1, T0^1>]
-st r3[0], r1
-st r3[1], r2
-mov r2, pack[<int^1>, r3] as some T0. <T0^1, some T1. <all[]{r1:T1, r2:T0, r3:some T2. <all[]{r1:T2, r2:<>}^1, \
+malloc r4[int]
+mov r5, 5
+st r4[0], r5
+mov r5, pack[<>, D1] as some T0. <all[]{r1:T0, r2:<int^1>, r3:some T1. <all[]{r1:T1, r2:<>}^1, T1^1>}^1, T0^1>
+malloc r6[<int^1>, some T0. <all[]{r1:T0, r2:<int^1>, r3:some T1. <all[]{r1:T1, r2:<>}^1, T1^1>}^1, T0^1>]
+st r6[0], r4
+st r6[1], r5
+mov r5, pack[<int^1>, r6] as some T0. <T0^1, some T1. <all[]{r1:T1, r2:T0, r3:some T2. <all[]{r1:T2, r2:<>}^1, \
     T2^1>}^1, T1^1>^1>
-unpack[T0, r2], r2
-ld r3, r2[1]
-ld r2, r2[0]
-unpack[T1, r3], r3
-ld r4, r3[0]
-ld r3, r3[1]
+unpack[T0, r5], r5
+ld r6, r5[1]
+ld r2, r5[0]
+unpack[T1, r5], r6
+ld r6, r5[0]
+ld r1, r5[1]
 malloc r5[<int^1>]
-st r5[0], r1
-malloc r1[all[]{r1:<<int^1>^1>, r2:<>}, <<int^1>^1>]
+st r5[0], r4
+malloc r4[all[]{r1:<<int^1>^1>, r2:<>}, <<int^1>^1>]
 mov r7, L2
-st r1[0], r7
-st r1[1], r5
-mov r5, r1
-mov r1, r3
-mov r3, pack[<<int^1>^1>, r5] as some T2. <all[]{r1:T2, r2:<>}^1, T2^1>
-jmp r4
+st r4[0], r7
+st r4[1], r5
+mov r3, pack[<<int^1>^1>, r4] as some T2. <all[]{r1:T2, r2:<>}^1, T2^1>
+jmp r6
 L1: code[]{r1:<>, r2:<int^1>, r3:some T0. <all[]{r1:T0, r2:<>}^1, T0^1>}.
-ld r1, r2[0]
-add r1, r1, 2
-st r2[0], r1
-malloc r1[]
-unpack[T0, r2], r3
-ld r3, r2[0]
-ld r2, r2[1]
-mov r4, r1
-mov r1, r2
-mov r2, r4
-jmp r3
+ld r4, r2[0]
+add r4, r4, 2
+st r2[0], r4
+malloc r2[]
+unpack[T0, r3], r3
+ld r4, r3[0]
+ld r1, r3[1]
+jmp r4
 L2: code[]{r1:<<int^1>^1>, r2:<>}.
 ld r1, r1[0]
 ld r1, r1[0]

@@ -57,6 +57,7 @@ module _ (e : Term) (k : KTm) (c : CTm) (ks : HBlks) (t : HTm) (p : AProg) (main
       allocated = p;
       start = main;
       to_converted = converted.translation;
+      is_converted = converted.tree;
       to_closed = closed;
       to_hoisted = hoisted;
       are_blocks = are_blocks;

@@ -2,6 +2,7 @@
 use Rattle.std.specs.Prelude.{◌≡◌, ℕ}
 use Rattle.f_terms.specs.Tm.{Term}
 use Rattle.k_terms.specs.K.{KTm}
+use Rattle.k_laws.specs.Annotate.{cps_term}
 use Rattle.k_laws.specs.Translates.{cps_program}
 use Rattle.c_terms.specs.C.{CTm}
 use Rattle.c_law.specs.Row as closing
@@ -20,8 +21,9 @@ use Rattle.pipeline.specs.Meaning.{SameMeaning, RunsSeldom, HaltsSoon}
 
 -- the program is a translation of the term by the rules of the passes in turn: conversion to continuation-passing
 -- style, closure conversion, hoisting, allocation, code generation. The hoisted program gives the closed term when
--- codes are put back for labels, and the allocated program stands for the hoisted one; both are those that the
--- definitions of hoisting and of allocation give: nothing else is added or left out
+-- codes are put back for labels, and the allocated program stands for the hoisted one. The converted term, the hoisted
+-- program and the allocated one are those that the definitions of these passes give, and the rules of closure
+-- conversion give one term: nothing else is added or left out, and there is one such program
 pub record IsTranslation (e : Term) (P : TProg) : Type 0 where
   pub converted : KTm
   pub closed : CTm
@@ -30,6 +32,7 @@ pub record IsTranslation (e : Term) (P : TProg) : Type 0 where
   pub allocated : AProg
   pub start : ATm
   pub to_converted : cps_program e converted
+  pub is_converted : converted ≡ cps_term e
   pub to_closed : closing.IsTranslation converted closed
   pub to_hoisted : IsHoisted blocks main closed
   pub are_blocks : blocks ≡ blocks_of closed

@@ -1,2 +1,5 @@
 pub mod Compilation
 pub mod Meaning
+pub mod OneProgram
+pub mod Weights
+pub mod Work

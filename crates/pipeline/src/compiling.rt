@@ -10,6 +10,7 @@ ghost use Rattle.gen_law.specs.Packs.{FlatProgram};
 ghost use Rattle.gen_law.specs.TypesEach.{TypesEach, TWithin};
 ghost use Rattle.pipeline.specs.Meaning.{EntersSeldom};
 ghost use Rattle.pipeline.specs.Compilation.{IsCompilation, IsCompilationWithin};
+ghost use Rattle.pipeline.specs.Work.{HasBlocks, SameWeights, WorkWithin};
 
 use a_pass::allocate;
 use c_pass::close;
@@ -27,6 +28,8 @@ use t_terms::TProgram;
 fn assemble(alloc: Global, program: &Program) -> Result<TProgram, OutOfMemory>
     ensures compiled { IfOk result (λ p.
         ∥ IsCompilation (term_of (program_term program.now)) (program_tree p) ∥₁) }
+    ensures work { IfOk result (λ p. HasBlocks (term_of (program_term program.now)) (program_tree p)) }
+    ensures weights { IfOk result (λ p. SameWeights (term_of (program_term program.now)) (program_tree p)) }
     ensures entered { IfOk result (λ p. ∥ EntersSeldom (term_of (program_term program.now)) (program_tree p) ∥₁) }
     ensures flat { IfOk result (λ p. ∥ FlatProgram (program_tree p) ∥₁) }
     ensures within { IfOk result (λ p.
@@ -49,10 +52,18 @@ fn assemble(alloc: Global, program: &Program) -> Result<TProgram, OutOfMemory>
 /// The assembly program of a source program, by conversion to continuation-passing style, closure conversion, hoisting,
 /// allocation and code generation. The typing rules accept it, and it halts with an integer exactly where the source
 /// evaluates to it, in at least as many instructions as that takes turns; no place of it is executed more often than
-/// once more than these turns. Its nesting is within the limit on open constructs. Answers want of memory alone.
+/// once more than these turns. It has one block for the whole, one for each `fix` and `gen`, for each application,
+/// type application and `if0` outside tail place, and for the third part of each `if0`; one `add`, `sub` or `mul` for
+/// each of the source's, one `bnz` for each `if0`, one `unpack` for each `open` and each call, one `jmp` for each call,
+/// and one `halt` (own choice, as what the paper's passes make). Its nesting is within the limit on open constructs.
+/// Answers want of memory alone.
 pub fn compile(alloc: Global, program: &Program) -> Result<Checked, OutOfMemory>
     ensures compiled { IfOk result (λ p.
         ∥ IsCompilation (term_of (program_term program.now)) (program_tree (checked_program p)) ∥₁) }
+    ensures work { IfOk result (λ p.
+        HasBlocks (term_of (program_term program.now)) (program_tree (checked_program p))) }
+    ensures weights { IfOk result (λ p.
+        SameWeights (term_of (program_term program.now)) (program_tree (checked_program p))) }
     ensures shallow { IfOk result (λ p. nesting (program_tree (checked_program p)) ≤ most_open) }
 {
     let made = assemble(alloc, program)?;
@@ -60,11 +71,14 @@ pub fn compile(alloc: Global, program: &Program) -> Result<Checked, OutOfMemory>
 }
 
 /// The same within registers 1 to `k`. A program that has no register above `k` stays as `compile` makes it; of any
-/// other, what is in its registers is kept in tuples of the heap. Answers want of memory alone.
+/// other, what is in its registers is kept in tuples of the heap: it does the same work, and has one block more, which
+/// jumps. Answers want of memory alone.
 pub fn compile_within(alloc: Global, program: &Program, k: u64) -> Result<Checked, OutOfMemory>
     requires { 8 ≤ k }
     ensures compiled { IfOk result (λ p.
         ∥ IsCompilationWithin k (term_of (program_term program.now)) (program_tree (checked_program p)) ∥₁) }
+    ensures work { IfOk result (λ p.
+        WorkWithin (term_of (program_term program.now)) (program_tree (checked_program p))) }
     ensures shallow { IfOk result (λ p. nesting (program_tree (checked_program p)) ≤ most_open) }
 {
     t_rules::runs_stay_within_times();

@@ -2,5 +2,7 @@
 #![tactic(auto)]
 
 mod compiling;
+mod laws;
 
 pub use compiling::{compile, compile_within};
+pub use laws::{one_source_gives_one_program, one_source_gives_one_program_within};

@@ -7,6 +7,7 @@ use Rattle.h_terms.specs.Program as H
 use Rattle.a_terms.specs.Program as A
 use Rattle.t_terms.specs.ReadProgram.{program}
 use Rattle.pipeline.proofs.Compiled.{compilation, enters_seldom}
+use Rattle.pipeline.proofs.Weighing.{blocks_counted, same_weights}
 use Rattle.pipeline.proofs.compiling.assemble.Goals as goal
 
 pub returns-clause-compiled : goal.returns-clause-compiled
@@ -44,3 +45,36 @@ returns-clause-entered c =
     enters_seldom e k d (H.blocks_in h) (H.main_in h) (A.program_in a) (A.main_in a) (program c.in_ok-generated.generated)
     c.erased_code_stands_at_its_place.ensures c.runs_stay_within_times.ensures c.programs_are_laid_out.ensures c.in_ok-converted.ensures closed.rules closed.halts closed.codes
     hoisted.back hoisted.blocks hoisted.main hoisted.meaning stands allocated.program allocated.main means made.is accepted keeps))))
+
+pub returns-clause-work : goal.returns-clause-work
+returns-clause-work c =
+    let e = source.term_of (program_term c.args.program.now) in
+    let k = K.term_of c.in_ok-converted.converted in
+    let d = C.term_of c.in_ok-closed.closed in
+    let h = c.in_ok-hoisted.hoisted in
+    let a = c.in_ok-allocated.allocated in
+    let converted = c.in_ok-converted.ensures in
+    let closed = c.in_ok-closed.ensures in
+    let hoisted = c.in_ok-hoisted.ensures in
+    let allocated = c.in_ok-allocated.ensures in
+    let made = c.in_ok-generated.ensures in
+    let P = program c.in_ok-generated.generated in
+    blocks_counted e k d (H.blocks_in h) (H.main_in h) (A.program_in a) (A.main_in a) P
+    converted.tree closed.same hoisted.blocks hoisted.main allocated.program allocated.main made.is
+    c.programs_are_laid_out.ensures converted.codes
+
+pub returns-clause-weights : goal.returns-clause-weights
+returns-clause-weights c =
+    let e = source.term_of (program_term c.args.program.now) in
+    let k = K.term_of c.in_ok-converted.converted in
+    let d = C.term_of c.in_ok-closed.closed in
+    let h = c.in_ok-hoisted.hoisted in
+    let a = c.in_ok-allocated.allocated in
+    let converted = c.in_ok-converted.ensures in
+    let closed = c.in_ok-closed.ensures in
+    let hoisted = c.in_ok-hoisted.ensures in
+    let allocated = c.in_ok-allocated.ensures in
+    let made = c.in_ok-generated.ensures in
+    let P = program c.in_ok-generated.generated in
+    same_weights e k d (H.blocks_in h) (H.main_in h) (A.program_in a) (A.main_in a) P
+    converted.tree closed.same hoisted.blocks hoisted.main allocated.program allocated.main made.is

@@ -8,6 +8,7 @@ use Rattle.t_terms.specs.ReadProgram.{program}
 use Rattle.t_terms.specs.Text.{most_open}
 use Rattle.t_terms.specs.declared.program.TProgram.{TProgram}
 use Rattle.pipeline.specs.Compilation.{IsCompilation}
+use Rattle.pipeline.specs.Work.{HasBlocks, SameWeights}
 use Rattle.pipeline.proofs.Shallow.{shallow}
 use Rattle.pipeline.proofs.compiling.compile.Goals as goal
 
@@ -25,3 +26,13 @@ returns-clause-shallow c =
     (∥∥₁_elim c.in_ok-made.ensures.flat le_prop (λ flat.
     ∥∥₁_elim c.in_ok-made.ensures.within le_prop (λ within.
     let x = shallow 70368744177664 1606 140737488355328 P flat within in omega (arith, x))))
+
+pub returns-clause-work : goal.returns-clause-work
+returns-clause-work c =
+    let e = source.term_of (program_term c.args.program.now) in
+    subst (λ (x : TProgram). HasBlocks e (program x)) (sym c.seal.ensures) c.in_ok-made.ensures.work
+
+pub returns-clause-weights : goal.returns-clause-weights
+returns-clause-weights c =
+    let e = source.term_of (program_term c.args.program.now) in
+    subst (λ (x : TProgram). SameWeights e (program x)) (sym c.seal.ensures) c.in_ok-made.ensures.weights

@@ -11,9 +11,11 @@ use Rattle.t_rules.specs.Machine.{Place}
 use Rattle.spill_law.specs.Bound.{RegistersUpTo}
 use Rattle.spill_law.specs.Correct.{origin}
 use Rattle.pipeline.specs.Compilation.{IsCompilationWithin}
+use Rattle.pipeline.specs.Work.{WorkWithin}
 use Rattle.pipeline.proofs.Bounded.{bounded}
 use Rattle.pipeline.proofs.Framed.{flat, types_few, reach_within}
 use Rattle.pipeline.proofs.Shallow.{shallow}
+use Rattle.pipeline.proofs.Weighing.{stays, framed}
 use Rattle.pipeline.proofs.compiling.compile_within.Goals as goal
 
 pub seal-requires : goal.seal-requires
@@ -42,6 +44,13 @@ returns-then-is_within-clause-compiled c =
     (∥∥₁_map₂ c.in_ok-made.ensures.compiled c.in_ok-made.ensures.entered (λ made entered.
     let spills = c.few_registers_may_stay.ensures k P c.in_ok-made.made.whole made.accepted within in
     bounded k e P P (λ (p : Place). p) times seldom made entered spills (λ h. refl) (λ above. absurd (above within))))
+
+pub returns-then-is_within-clause-work : goal.returns-then-is_within-clause-work
+returns-then-is_within-clause-work c =
+    let e = source.term_of (program_term c.args.program.now) in
+    let made = c.in_ok-made.ensures in
+    subst (λ (x : TProgram). WorkWithin e (program x)) (sym c.seal.ensures)
+    (stays e (program c.in_ok-made.made) made.work made.weights)
 
 pub returns-then-is_within-clause-shallow : goal.returns-then-is_within-clause-shallow
 returns-then-is_within-clause-shallow c =
@@ -76,3 +85,12 @@ returns-clause-shallow c =
     let x = spills.shallow (flat P packs) in
     let y = reach_within 70368744177664 1606 140737488355328 (omega arith) P within in
     omega (arith, x, y)))))
+
+pub returns-clause-work : goal.returns-clause-work
+returns-clause-work c =
+    let e = source.term_of (program_term c.args.program.now) in
+    let P = program c.in_ok-made.made in
+    let Q = program c.in_ok-framed.framed in
+    let made = c.in_ok-made.ensures in
+    subst (λ (x : TProgram). WorkWithin e (program x)) (sym c.seal-2.ensures)
+    (framed e P Q c.in_ok-framed.ensures.is made.work made.weights)

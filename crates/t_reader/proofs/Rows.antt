@@ -1,7 +1,8 @@
 -- Levels of names in scope, worked: `a` and then `b` and `a` were bound, so the innermost `a` hides level 1.
 use Rattle.std.proofs.Common.{◌≡◌, List, [], ◌∷◌, codes, refl, Bor}
 use Rattle.idx_core.specs.Names.{Name}
-use Rattle.t_reader.specs.Levels.{Bound, names_of, level_of, KeepsHidden}
+use Rattle.idx_core.specs.Levels.{level_of}
+use Rattle.t_reader.specs.Levels.{Bound, names_of, KeepsHidden}
 
 abbrev at : Name → Bor Name
 at name = record { ref_ptr = (0, 0); now = name }

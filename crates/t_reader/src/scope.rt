@@ -3,7 +3,7 @@ ghost use Rattle.std.specs.Prelude.{◌≡◌, [], ◌∷◌, drop, OnOk, OnErr,
 ghost use Rattle.indexmap.specs.IndexMap.{IsEmpty};
 ghost use Rattle.t_terms.specs.Names.{spelled, bind};
 ghost use Rattle.t_reader.specs.Resolve.{IsFound};
-ghost use Rattle.t_reader.specs.Levels.{level_of};
+ghost use Rattle.idx_core.specs.Levels.{level_of};
 ghost use Rattle.t_terms.specs.declared.fault.TFault.TheVariants as fault;
 
 use idx_core::{OutOfMemory, Salt, Span};
@@ -33,14 +33,15 @@ pub struct Scope<'a> {
 
 impl<'a> Model for Scope<'a> {
     ghost use Rattle.std.specs.Prelude.{ℕ, List, reverse};
-    ghost use Rattle.t_reader.specs.Levels.{names_of, KeepsHidden, HasLevels};
+    ghost use Rattle.idx_core.specs.Levels.{HasLevels};
+    ghost use Rattle.t_reader.specs.Levels.{names_of, KeepsHidden, kept_level};
 
     ghost Value = { List (List ℕ) };
 
     ghost view = { λ s. names_of (reverse s.bound.items) };
 
     ghost invariant = { λ s.
-        HasLevels s.levels (names_of (reverse s.bound.items)) × KeepsHidden (reverse s.bound.items) };
+        HasLevels (kept_level s.levels) (names_of (reverse s.bound.items)) × KeepsHidden (reverse s.bound.items) };
 }
 
 impl<'a> Scope<'a> {

@@ -1,8 +1,10 @@
 use Rattle.std.proofs.Common.{◌≡◌, ◌<◌, List, length, reverse, arith, ap, ◌∙◌, sym}
 use Rattle.std.proofs.lemmas.List.{length-reverse, length-map}
 use Rattle.idx_core.specs.Names.{Name}
-use Rattle.t_reader.specs.Levels.{Bound, level_of, names_of}
-use Rattle.t_reader.proofs.Leveled.{no_level, level_within, place_by_level}
+use Rattle.idx_core.specs.Levels.{level_of}
+use Rattle.idx_core.proofs.Leveled.{level_within}
+use Rattle.t_reader.specs.Levels.{Bound, names_of}
+use Rattle.t_reader.proofs.Leveled.{no_level, place_by_level}
 use Rattle.t_reader.proofs.scope.Scope.find.Goals as goal
 
 count : (bs : List Bound) (ns : List Name) → names_of (reverse bs) ≡ ns → length bs ≡ length ns

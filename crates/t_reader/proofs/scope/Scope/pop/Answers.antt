@@ -2,14 +2,17 @@ use Rattle.std.proofs.Common.{◌≡◌, [], ◌∷◌, reverse, ap, sym, ◌∙
 use Rattle.std.proofs.lemmas.List.{reverse-append}
 use Rattle.idx_core.specs.Levels.{HasLevels}
 use Rattle.idx_core.proofs.Leveled.{levels_popped, bound_has_level}
-use Rattle.t_reader.specs.Levels.{names_of, KeepsHidden, kept_level}
+use Rattle.t_reader.specs.Levels.{Bound, names_of, KeepsHidden, kept_level}
 use Rattle.t_reader.proofs.Leveled.{level_set}
 use Rattle.t_reader.proofs.scope.Scope.pop.Goals as goal
 
 pub invariant_of-self : goal.invariant_of-self
 invariant_of-self c =
-    let e : reverse c.self.inside.bound.items ≡ (c.in-Some.name, c.in-Some.hidden) ∷ reverse c.pop.new.self.items = ap reverse c.in-Some.ensures.items ∙ reverse-append c.pop.new.self.items ((c.in-Some.name, c.in-Some.hidden) ∷ []) in
-    let i : HasLevels (kept_level c.self.inside.levels) (names_of (reverse c.self.inside.bound.items)) = c.self.invariant.0 in
+    let b : Bound = (c.in-Some.name, c.in-Some.hidden) in
+    let e : reverse c.self.inside.bound.items ≡ b ∷ reverse c.pop.new.self.items =
+    ap reverse c.in-Some.ensures.items ∙ reverse-append c.pop.new.self.items (b ∷ []) in
+    let i : HasLevels (kept_level c.self.inside.levels) (names_of (reverse c.self.inside.bound.items)) =
+    c.self.invariant.0 in
     let h : KeepsHidden (reverse c.self.inside.bound.items) = c.self.invariant.1 in
     let j = rw e at i in
     let k = rw e at h in
@@ -25,8 +28,11 @@ invariant_of-self c =
 
 pub invariant_of-self-in_default-get_mut : goal.invariant_of-self-in_default-get_mut
 invariant_of-self-in_default-get_mut c =
-    let e : reverse c.self.inside.bound.items ≡ (c.in-Some.name, c.in-Some.hidden) ∷ reverse c.pop.new.self.items = ap reverse c.in-Some.ensures.items ∙ reverse-append c.pop.new.self.items ((c.in-Some.name, c.in-Some.hidden) ∷ []) in
-    let i : HasLevels (kept_level c.self.inside.levels) (names_of (reverse c.self.inside.bound.items)) = c.self.invariant.0 in
+    let b : Bound = (c.in-Some.name, c.in-Some.hidden) in
+    let e : reverse c.self.inside.bound.items ≡ b ∷ reverse c.pop.new.self.items =
+    ap reverse c.in-Some.ensures.items ∙ reverse-append c.pop.new.self.items (b ∷ []) in
+    let i : HasLevels (kept_level c.self.inside.levels) (names_of (reverse c.self.inside.bound.items)) =
+    c.self.invariant.0 in
     let j = rw e at i in
     let kept = kept_level c.self.inside.levels in
     let none = ap (λ (o : Option ℕ). unwrap_or o 0) (sym c.in_default-get_mut.ensures.value) in

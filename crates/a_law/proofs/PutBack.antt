@@ -1,5 +1,5 @@
 -- Putting the tuples and the data back gives the hoisted program, its tuples of constants written out.
-use Rattle.std.proofs.Common.{◌≡◌, ◌≤◌, ◌+◌, ◌-◌, inl, inr, ℕ, zero, suc, List, [], ◌∷◌, ◌++◌, length, Option, Some, None, refl, sym, ap, ap₂, ◌∙◌, subst, arith}
+use Rattle.std.proofs.Common.{◌≡◌, ◌≤◌, ◌+◌, inl, inr, ℕ, zero, suc, List, [], ◌∷◌, ◌++◌, Option, Some, None, refl, sym, ap, ap₂, ◌∙◌, subst, arith}
 use Rattle.std.specs.Prelude.{Bool, true, false, ◌&&◌, not, option_map, slice_get}
 use Rattle.a_law.specs.Allocate.{afull, all_closed, atype, atypes, closed, is_label}
 use Rattle.a_law.specs.Back.{NoCell_t, NoCell_v, NoCell_vs, NoCells, NoRef, NoRefs, PutsBack, add_field, add_last, arg_count, arg_names, back_all, back_data, back_fields, back_t, back_v, back_vs, drop, drop_fields, drops, held_by, shown_at}

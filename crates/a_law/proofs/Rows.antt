@@ -1,6 +1,6 @@
 -- Worked rows of allocation: hoisted terms and what they become, held beside the relation, and allocated terms that no
 -- hoisted term stands behind.
-use Rattle.std.proofs.Common.{pos, ◌≡◌, ℕ, zero, suc, List, [], ◌∷◌, ◌++◌, refl, ◌∙◌, arith, inl, inr}
+use Rattle.std.proofs.Common.{pos, ◌≡◌, ℕ, zero, suc, List, [], ◌∷◌, ◌++◌, refl, arith, inl, inr}
 use Rattle.std.specs.Prelude.{true}
 use Rattle.idx_core.specs.declared.arith.Op.TheVariants.{Add}
 use Rattle.a_terms.specs.Meaning.{Halted, meaning}

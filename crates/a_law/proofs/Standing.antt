@@ -8,7 +8,7 @@ use Rattle.a_law.proofs.Scopes.{InT, InV, InVs, args_length, in_t}
 use Rattle.a_law.specs.Allocate.{Known, alloc_all, alloc_t, are_const, arg_depth, arg_levels, atypes, d_types, data_all, data_t, dcl, fill, final, known_of, level_of, n_all, n_block, n_d, n_t, n_v, n_vs, plain, pre_v, pre_vs, v_next, v_type, v_types, val, vals, var_of, vs_next}
 use Rattle.a_law.specs.Back.{arg_count}
 use Rattle.a_law.specs.Constants.{Constants, constant, named_by, of_args, one_if, tuples_all, tuples_d, tuples_in, tuples_t, tuples_v, tuples_vs}
-use Rattle.a_law.specs.Stands.{AllocStands, Any, Filling, Gone, Is, Made, Means, Stands_all, Stands_t, Stands_v, Stands_vs, Thing, all_take, arg_things, listed, named, takes, thing_at, tuple_of}
+use Rattle.a_law.specs.Stands.{AllocStands, Any, Filling, Gone, Is, Made, Means, Stands_all, Stands_t, Stands_v, Stands_vs, Thing, all_take, arg_things, listed, takes, thing_at, tuple_of}
 use Rattle.a_terms.specs.Meaning.{pick}
 use Rattle.a_terms.specs.Tree.{AVal, ATm, ATy, ATys, Call, Data, Halt, If0, Init, Let, Malloc, MoreATys, NoATys, Var, arity}
 use Rattle.a_terms.specs.Typing.{types_of}

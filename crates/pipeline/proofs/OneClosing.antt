@@ -1,9 +1,9 @@
 -- The rules of closure conversion give one closed term.
-use Rattle.std.proofs.Common.{◌≡◌, ℕ, suc, ◌+◌, List, [], ◌∷◌, sym, ap, ap₂, ◌∙◌, arith}
+use Rattle.std.proofs.Common.{◌≡◌, ℕ, List, [], ◌∷◌, sym, ap, ap₂, ◌∙◌, arith}
 use Rattle.k_terms.specs.K.{KVal, KVar, KInt, KTuple, KCode, KVals, NoKVals, MoreKVals, KDecl, KName, KProj, KArith}
 use Rattle.k_terms.specs.K.{KPack, KUnpack, KCell, KGet, KSet, KTm, KLet, KCall, KIf, KHalt, opens}
 use Rattle.k_terms.specs.Types.{kd_type}
-use Rattle.c_terms.specs.C.{CVal, CVar, CTuple, CPack, CVals, NoCVals, MoreCVals, CDecl, CName, CProj, CArith, CUnpack}
+use Rattle.c_terms.specs.C.{CVal, CVar, CTuple, CPack, CVals, MoreCVals, CDecl, CName, CProj, CArith, CUnpack}
 use Rattle.c_terms.specs.C.{CCell, CGet, CSet, CTm, CLet, CCall, CIf, CHalt}
 use Rattle.c_law.specs.Close.{ctype, ctypes}
 use Rattle.c_law.specs.Row.{Where, Stands, AllStand, RowV, RowVs, RowD, RowT, IsTranslation, packed, closed_over, frees}

@@ -1,5 +1,5 @@
 -- A compiled program weighs what the term weighs, and has as many blocks as the term says.
-use Rattle.std.proofs.Common.{◌≡◌, ℕ, ◌+◌, false, [], length, ap, inl, inr, arith}
+use Rattle.std.proofs.Common.{◌≡◌, ◌+◌, false, [], length, ap, inl, inr, arith}
 use Rattle.f_terms.specs.Tm.{Term}
 use Rattle.k_terms.specs.K.{KTm}
 use Rattle.k_terms.specs.Size.{codes_t}
@@ -20,7 +20,7 @@ use Rattle.gen_law.specs.Gen.{generated}
 use Rattle.gen_law.specs.Layout.{LaidOut}
 use Rattle.spill_law.specs.Spill.{spilled}
 use Rattle.pipeline.specs.Weights.{Weights, term_weight, blocks_weight}
-use Rattle.pipeline.specs.Work.{only_choices, choices, HasBlocks, SameWeights, FramedWork, WorkWithin}
+use Rattle.pipeline.specs.Work.{only_choices, choices, HasBlocks, SameWeights, WorkWithin}
 use Rattle.pipeline.proofs.WeightsConverted.{k_t, converted_weight}
 use Rattle.pipeline.proofs.WeightsClosed.{c_t, closed_weight}
 use Rattle.pipeline.proofs.WeightsHoisted.{h_t, h_all, hoisted_weight}

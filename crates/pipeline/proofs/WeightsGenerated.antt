@@ -3,16 +3,16 @@ use Rattle.std.proofs.Common.{◌≡◌, ℕ, suc, ◌+◌, ◌-◌, ◌++◌, L
 use Rattle.std.proofs.Common.{refl, ◌∙◌, arith}
 use Rattle.t_types.specs.Tree.{Ty}
 use Rattle.t_terms.specs.Tree as T
-use Rattle.t_terms.specs.Tree.{TInstr, TValue, TSeq, Then, Ends, TBlock}
+use Rattle.t_terms.specs.Tree.{TValue, TSeq, Then, Ends, TBlock}
 use Rattle.a_terms.specs.Tree.{ATy, AVal, Var, Num, Lab, Data, Apply, Pack, ADecl, Value, Proj, Arith, Unpack, Malloc}
 use Rattle.a_terms.specs.Tree.{Init, ATm, Let, Call, If0, Halt, ABlk, AProg, arity}
 use Rattle.a_terms.specs.Typing.{declared, more_vars, types_of}
 use Rattle.a_terms.specs.Bound.{thirds}
-use Rattle.gen_law.specs.Gen.{ty, tys, small, boxed, unnest, stands, move, home, settle, over, uses, used, target}
+use Rattle.gen_law.specs.Gen.{tys, small, boxed, unnest, stands, move, home, settle, over, uses, used, target}
 use Rattle.gen_law.specs.Gen.{decl_code, tvars, later, owns, saved, above_saved, places_saved, call_code, above}
 use Rattle.gen_law.specs.Gen.{test_code}
 use Rattle.gen_law.specs.Gen.{code, extras, rows, firsts, seconds, generated_blocks}
-use Rattle.pipeline.specs.Weights.{Weights, instr_weight, seq_weight, blocks_weight}
+use Rattle.pipeline.specs.Weights.{Weights, seq_weight, blocks_weight}
 use Rattle.pipeline.proofs.WeightsAllocated.{a_d, a_t, a_all}
 
 module _ (w : Weights) where

@@ -1,13 +1,13 @@
 -- Frames keep the weight; the block that makes the first one jumps.
-use Rattle.std.proofs.Common.{◌≡◌, ℕ, suc, ◌+◌, List, [], ◌∷◌, length, map, Bool, true, false, cond, Option, Some, None}
+use Rattle.std.proofs.Common.{◌≡◌, ℕ, suc, ◌+◌, List, [], ◌∷◌, length, Bool, true, false, cond, Option, Some, None}
 use Rattle.std.proofs.Common.{refl, ap, ◌∙◌, arith}
-use Rattle.t_types.specs.Tree.{Ty, TFile, NoRegs, MoreRegs, shift_file}
+use Rattle.t_types.specs.Tree.{TFile, NoRegs, MoreRegs, shift_file}
 use Rattle.t_terms.specs.Tree.{TBase, Reg, Int, Label, Data, TValue, Plain, Pack, TInstr, Arith, Bnz, Ld, Malloc, Mov}
 use Rattle.t_terms.specs.Tree.{St}
-use Rattle.t_terms.specs.Tree.{Unpack, TEnd, Jmp, Halt, TSeq, Then, Ends, TBlock, TProg}
-use Rattle.spill_law.specs.Spill.{build, code, cells, fetch, fetch_base, fill, index, is_new, kept, reg, source, sp}
-use Rattle.spill_law.specs.Spill.{sp_block, sp_blocks, sp_value, spilled, step, target_file, type_of}
-use Rattle.pipeline.specs.Weights.{Weights, instr_weight, end_weight, seq_weight, blocks_weight}
+use Rattle.t_terms.specs.Tree.{Unpack, Jmp, Halt, TSeq, Then, Ends, TBlock, TProg}
+use Rattle.spill_law.specs.Spill.{build, code, fetch, fetch_base, fill, index, is_new, kept, reg}
+use Rattle.spill_law.specs.Spill.{sp_blocks, sp_value, spilled, step, target_file, type_of}
+use Rattle.pipeline.specs.Weights.{Weights, instr_weight, seq_weight, blocks_weight}
 
 module _ (w : Weights) where
   of_base : (file : TFile) (b : TBase) (rest : TSeq) → seq_weight w (fetch_base file b rest) ≡ seq_weight w rest

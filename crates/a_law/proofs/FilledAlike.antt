@@ -1,5 +1,5 @@
 -- Two tuples that are filled beside each other with the same fields are filled alike.
-use Rattle.std.proofs.Common.{◌≡◌, ℕ, zero, suc, ◌+◌, List, [], ◌∷◌, ◌++◌, length, refl, sym, ap, ap₂, ◌∙◌, subst}
+use Rattle.std.proofs.Common.{◌≡◌, ℕ, zero, suc, List, [], ◌∷◌, ◌++◌, length, refl, sym, ap, ap₂, ◌∙◌, subst}
 use Rattle.std.proofs.Common.{append_assoc, length-append, arith}
 use Rattle.h_terms.specs.H.{HVal, HTuple, HTm}
 use Rattle.a_terms.specs.Tree.{ATm, Let, Call, If0, Halt, Value, Proj, Arith, Unpack, Malloc, Init}

@@ -1,5 +1,5 @@
 -- What stands for a hoisted program is one program, but for the types of its mallocs and the numbers of equal data.
-use Rattle.std.proofs.Common.{◌≡◌, ◌⊎◌, ⊎_elim, ℕ, suc, ◌+◌, List, [], ◌∷◌, ◌++◌, length, None, refl, sym, ap, ap₂, ◌∙◌}
+use Rattle.std.proofs.Common.{◌≡◌, ⊎_elim, ℕ, suc, ◌+◌, List, [], ◌∷◌, ◌++◌, length, None, refl, sym, ap, ap₂, ◌∙◌}
 use Rattle.std.proofs.Common.{subst, append-nil, arith}
 use Rattle.h_terms.specs.H.{HVal, HTuple, HVals, NoHVals, MoreHVals, HName, HProj, HArith, HUnpack, HCell, HGet, HSet}
 use Rattle.h_terms.specs.H.{HTm, HLet, HCall, HIf, HHalt, HBlks}

@@ -1,5 +1,5 @@
 -- The passes give one program.
-use Rattle.std.proofs.Common.{◌≡◌, ◌⊎◌, ⊎_elim, sym, ap, ap₂, subst, ◌∙◌}
+use Rattle.std.proofs.Common.{◌≡◌, ⊎_elim, sym, ap, ap₂, subst, ◌∙◌}
 use Rattle.f_terms.specs.Tm.{Term}
 use Rattle.h_pass.specs.Hoist.{blocks_of, main_of}
 use Rattle.a_law.specs.Allocate.{alloc_prog, alloc_main}

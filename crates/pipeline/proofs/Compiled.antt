@@ -19,6 +19,7 @@ use Rattle.a_law.specs.Allocate.{alloc_prog, alloc_main}
 use Rattle.a_law.specs.Stands.{Stands}
 use Rattle.a_law.specs.Statements.{ends}
 use Rattle.t_terms.specs.Tree.{TProg}
+use Rattle.t_terms.specs.Whole.{Whole}
 use Rattle.t_rules.specs.Rules.{Accepted}
 use Rattle.t_rules.specs.LawsErased.{StandsAt}
 use Rattle.t_rules.specs.LawsTimes.{RunsWithinTimes}
@@ -29,7 +30,7 @@ use Rattle.pipeline.specs.Meaning.{SameMeaning, RunsSeldom, EntersSeldom}
 use Rattle.pipeline.specs.Compilation.{IsCompilation}
 use Rattle.pipeline.proofs.Chain.{same_meaning, seldom, entered, soon}
 
-module _ (e : Term) (k : KTm) (c : CTm) (ks : HBlks) (t : HTm) (p : AProg) (main : ATm) (P : TProg) (stands : StandsAt) (within : RunsWithinTimes) (laid : LaidOut) (converted : Converted e k) (closed : closing.IsTranslation k c) (halts : (n : ℕ) (i : ℤ) → (crun n c).end ≡ Halted i ↔ (krun n k).end ≡ Halted i) (codes : (n : ℕ) → (crun n c).entered ≡ (krun n k).entered) (hoisted : IsHoisted ks t c) (are_blocks : ks ≡ blocks_of c) (is_main : t ≡ main_of c) (runs : (n : ℕ) → hrun n ks t ≡ crun n c) (allocated : Stands p main ks t) (is_allocated : p ≡ alloc_prog ks t) (is_start : main ≡ alloc_main ks t) (means : (n : ℕ) → A.meaning p main n ≡ ends [] (hrun n ks t)) (made : P ≡ generated p main) (accepted : Accepted P) (keeps : Keeps p main P) where
+module _ (e : Term) (k : KTm) (c : CTm) (ks : HBlks) (t : HTm) (p : AProg) (main : ATm) (P : TProg) (stands : StandsAt) (within : RunsWithinTimes) (laid : LaidOut) (converted : Converted e k) (closed : closing.IsTranslation k c) (halts : (n : ℕ) (i : ℤ) → (crun n c).end ≡ Halted i ↔ (krun n k).end ≡ Halted i) (codes : (n : ℕ) → (crun n c).entered ≡ (krun n k).entered) (hoisted : IsHoisted ks t c) (are_blocks : ks ≡ blocks_of c) (is_main : t ≡ main_of c) (runs : (n : ℕ) → hrun n ks t ≡ crun n c) (allocated : Stands p main ks t) (is_allocated : p ≡ alloc_prog ks t) (is_start : main ≡ alloc_main ks t) (means : (n : ℕ) → A.meaning p main n ≡ ends [] (hrun n ks t)) (made : P ≡ generated p main) (accepted : Accepted P) (keeps : Keeps p main P) (whole : Whole P) where
   means_same : SameMeaning e P
   means_same = same_meaning e k c ks t p main P converted.meaning halts codes runs means keeps
 
@@ -47,6 +48,7 @@ module _ (e : Term) (k : KTm) (c : CTm) (ks : HBlks) (t : HTm) (p : AProg) (main
 
   pub compilation : IsCompilation e P
   compilation = record {
+    whole = whole;
     accepted = accepted;
     meaning = means_same;
     translation = record {

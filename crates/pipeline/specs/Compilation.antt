@@ -13,6 +13,7 @@ use Rattle.a_terms.specs.Tree.{ATm, AProg}
 use Rattle.a_law.specs.Allocate.{alloc_prog, alloc_main}
 use Rattle.a_law.specs.Stands.{Stands}
 use Rattle.t_terms.specs.Tree.{TProg}
+use Rattle.t_terms.specs.Whole.{Whole}
 use Rattle.t_rules.specs.Rules.{Accepted}
 use Rattle.gen_law.specs.Gen.{generated}
 use Rattle.spill_law.specs.Bound.{RegistersUpTo}
@@ -42,9 +43,10 @@ pub record IsTranslation (e : Term) (P : TProg) : Type 0 where
   pub is_start : start ≡ alloc_main blocks main
   pub to_assembly : P ≡ generated allocated start
 
--- the typing rules accept the program; it means the same as the term; it is a translation of it, no place of it is
--- executed more often than once more than the term takes turns, and so it halts soon
+-- the program is well formed, and the typing rules accept it; it means the same as the term; it is a translation of it,
+-- no place of it is executed more often than once more than the term takes turns, and so it halts soon
 pub record IsCompilation (e : Term) (P : TProg) : Type 0 where
+  pub whole : Whole P
   pub accepted : Accepted P
   pub meaning : SameMeaning e P
   pub translation : IsTranslation e P
@@ -56,6 +58,7 @@ pub record IsCompilation (e : Term) (P : TProg) : Type 0 where
 pub record IsCompilationWithin (k : ℕ) (e : Term) (P : TProg) : Type 0 where
   pub translated : TProg
   pub translation : IsTranslation e translated
+  pub whole : Whole P
   pub accepted : Accepted P
   pub meaning : SameMeaning e P
   pub seldom : RunsSeldom e P

@@ -26,7 +26,7 @@ returns-clause-compiled c =
     ∥∥₁_map₂ made.accepted made.keeps (λ accepted keeps.
     compilation e k d (H.blocks_in h) (H.main_in h) (A.program_in a) (A.main_in a) (program c.in_ok-generated.generated)
     c.erased_code_stands_at_its_place.ensures c.runs_stay_within_times.ensures c.programs_are_laid_out.ensures c.in_ok-converted.ensures closed.rules closed.halts closed.codes
-    hoisted.back hoisted.blocks hoisted.main hoisted.meaning stands allocated.program allocated.main means made.is accepted keeps))))
+    hoisted.back hoisted.blocks hoisted.main hoisted.meaning stands allocated.program allocated.main means made.is accepted keeps c.in_ok-generated.generated.whole))))
 
 pub returns-clause-entered : goal.returns-clause-entered
 returns-clause-entered c =
@@ -44,7 +44,7 @@ returns-clause-entered c =
     ∥∥₁_map₂ made.accepted made.keeps (λ accepted keeps.
     enters_seldom e k d (H.blocks_in h) (H.main_in h) (A.program_in a) (A.main_in a) (program c.in_ok-generated.generated)
     c.erased_code_stands_at_its_place.ensures c.runs_stay_within_times.ensures c.programs_are_laid_out.ensures c.in_ok-converted.ensures closed.rules closed.halts closed.codes
-    hoisted.back hoisted.blocks hoisted.main hoisted.meaning stands allocated.program allocated.main means made.is accepted keeps))))
+    hoisted.back hoisted.blocks hoisted.main hoisted.meaning stands allocated.program allocated.main means made.is accepted keeps c.in_ok-generated.generated.whole))))
 
 pub returns-clause-work : goal.returns-clause-work
 returns-clause-work c =

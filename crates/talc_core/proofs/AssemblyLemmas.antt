@@ -10,19 +10,21 @@ use Rattle.t_terms.specs.declared.fault.TFault.TheVariants.{Memory, Refused}
 use Rattle.t_rules.specs.Faults.{ProgramFault}
 use Rattle.t_rules.specs.LawsSound.{NothingSticks}
 use Rattle.t_check.specs.Verdict.{Says}
-use Rattle.t_writer.specs.Written.{HasSecondHeader}
-use Rattle.talc_core.specs.declared.report.Failure.{Failure}
+use Rattle.t_writer.specs.Lexeme.{render}
+use Rattle.t_writer.specs.Written.{second_written}
+use Rattle.talc_core.specs.declared.refusal.Refusal.{Refusal}
 use Rattle.talc_core.specs.FirstFault.{AnAssembly, IsAssembly, IsAcceptedText}
-use Rattle.talc_core.specs.Failures.{failure_of_assembly}
-use Rattle.talc_core.specs.Steps.{RefusedBy}
+use Rattle.talc_core.specs.Failures.{refusal_of_assembly}
+use Rattle.talc_core.specs.OnTexts.{RefusedBy}
 use Rattle.talc_core.specs.Upgraded.{IsUpgraded}
+use Rattle.talc_core.proofs.WrittenLemmas.{written}
 use Rattle.talc_core.specs.Lines.{accepted_line}
 use Rattle.talc_core.specs.Shown.{AcceptedShown}
 
 -- a text is refused whose program is
-pub refused : (text : List ℕ) (p : TProgram) (fault : TFault) (failure : Failure) → IsAssembly text (spanned_program p) → Says fault (ProgramFault (spanned_program p)) → failure ≡ failure_of_assembly fault → RefusedBy AnAssembly text failure
-refused text p Memory failure read says is = subst (RefusedBy AnAssembly text) (sym is) tt
-refused text p (Refused code span) failure read says is = subst (RefusedBy AnAssembly text) (sym is) (inr (record { program = spanned_program p; read = read; fault = says }))
+pub refused : (text : List ℕ) (p : TProgram) (fault : TFault) (why : Refusal) → IsAssembly text (spanned_program p) → Says fault (ProgramFault (spanned_program p)) → why ≡ refusal_of_assembly fault → RefusedBy AnAssembly text why
+refused text p Memory why read says is = subst (RefusedBy AnAssembly text) (sym is) tt
+refused text p (Refused code span) why read says is = subst (RefusedBy AnAssembly text) (sym is) (inr (record { program = spanned_program p; read = read; fault = says }))
 
 pub accepted_shown : NothingSticks → (text line : List ℕ) (p : TProgram) → Whole (program p) → IsAcceptedText text (spanned_program p) → line ≡ accepted_line → AcceptedShown text line
 accepted_shown sticks text line p whole accepted is = record {
@@ -33,12 +35,16 @@ accepted_shown sticks text line p whole accepted is = record {
 }
 
 -- what is written of the program of a text that was read keeps the limit on open constructs, as that text does
-pub upgraded : KeepsByNesting → (text target : List ℕ) (p q : TProgram) → q ≡ p → IsAcceptedText text (spanned_program p) → HasSecondHeader target → (nesting (program q) ≤ most_open → ReadsBack target (program q)) → IsUpgraded text target
-upgraded keeps text target p q same accepted header reads =
-    let within : nesting (program p) ≤ most_open = (keeps text (program p) (spanned_program p, accepted.0.stands, refl)).0 accepted.0.within in
+pub upgraded : KeepsByNesting → (text target : List ℕ) (p q : TProgram) → q ≡ p →
+    IsAcceptedText text (spanned_program p) → target ≡ render (second_written (program q)) →
+    (nesting (program q) ≤ most_open → ReadsBack target (program q)) → IsUpgraded text target
+upgraded keeps text target p q same accepted is reads =
+    let stands = accepted.0.stands in
+    let within : nesting (program p) ≤ most_open =
+    (keeps text (program p) (spanned_program p, stands, refl)).0 accepted.0.within in
     record {
       program = spanned_program p;
       accepted = accepted;
-      header = header;
-      reads = subst (λ (r : TProgram). nesting (program r) ≤ most_open → ReadsBack target (program r)) same reads within;
+      whole = p.whole;
+      written = written target p q same within is reads;
     }

@@ -1,19 +1,22 @@
 -- What a command does where its work fails, from what the work does then and what is told.
-use Rattle.std.proofs.Common.{◌≡◌, ℕ, List, Ok, Err, refl, inl, inr}
+use Rattle.std.proofs.Common.{◌≡◌, ◌⊎◌, ℕ, List, Ok, Err, refl, inl, inr}
 use Rattle.io_core.specs.Outside.{FilesState, SinkState}
-use Rattle.talc_core.specs.declared.commands.Ending.{Ending}
-use Rattle.talc_core.specs.declared.commands.Ending.TheVariants.{Ends, GoesOn}
+use Rattle.talc_core.specs.declared.reply.Ending.{Ending}
+use Rattle.talc_core.specs.declared.reply.Ending.TheVariants.{Ends, GoesOn}
 use Rattle.talc_core.specs.declared.report.Failure.{Failure}
 use Rattle.talc_core.specs.declared.report.Failure.TheVariants as failed
 use Rattle.talc_core.specs.declared.status.Status.{Status}
 use Rattle.talc_core.specs.declared.status.Status.TheVariants.{Done, Refused, Usage, Limit, Budget, ReadFault, WriteFault, Memory}
 use Rattle.talc_core.specs.Command.{Asked, Compiles, CompilesWithin, Types, Evaluates, Checks, Runs, Generates, Upgrades, Traces}
 use Rattle.talc_core.specs.FirstFault.{Need, AnyTerm, AProgram, CellFree, AnAssembly}
-use Rattle.talc_core.specs.Compiled.{IsCompiled, IsCompiledWithin}
+use Rattle.talc_core.specs.CompiledText.{CompiledText, CompiledTextWithin}
 use Rattle.talc_core.specs.Upgraded.{IsUpgraded}
-use Rattle.talc_core.specs.Shown.{Showing, ShowsType, ShowsValue, ShowsAccepted, ShowsRun, ShowsTrace}
-use Rattle.talc_core.specs.Headline.{Outside, Making, TextAnswer, LineAnswer, SeedAnswer, Does}
-use Rattle.talc_core.specs.Steps.{status_at, MakesFile, ShowsFile, ShowsSeed, Performs, Reports}
+use Rattle.talc_core.specs.Shown.{Showing, ShowsType, ShowsValue, ShowsAccepted, ShowsRun, ShowsTrace, SeedShown}
+use Rattle.talc_core.specs.Headline.{Outside, Unwritten, SeedWrittenAlone, TextAnswer, LineAnswer, SeedAnswer, Does}
+use Rattle.seeds.specs.Source.{source as source_of}
+use Rattle.io_core.specs.Outside.{with_file}
+use Rattle.talc_core.specs.OnTexts.{Making, status_at}
+use Rattle.talc_core.specs.Steps.{MakesFile, ShowsFile, ShowsSeed, Performs, Reports}
 
 -- the outside of a call
 abbrev outside : FilesState → SinkState → SinkState → Outside
@@ -95,12 +98,18 @@ module _ (f f' : FilesState) (o o' e e' : SinkState) where
   -- ---- the command `gen`
 
   pub seed_ended : (seed : ℕ) (output : List ℕ) (ending : Ending) → ShowsSeed seed output f f' o o' (Ok ending) → SeedAnswer seed output (outside f o e) (outside f' o' e) (status_at ending)
-  seed_ended seed output Ends shown = record { lines = shown.0; says = shown.1; written = shown.2; out = shown.3; err = refl }
+  seed_ended seed output Ends shown = record { lines = shown.0; says = shown.1; written = shown.2; out = shown.3; err = refl; unread = shown.4 }
   seed_ended seed output GoesOn shown = absurd shown
 
   seed_unwritten : (seed : ℕ) (output : List ℕ) → ShowsSeed seed output f f' o o' (Err failed.Write) → Reports failed.Write e e' WriteFault → SeedAnswer seed output (outside f o e) (outside f' o' e') WriteFault
-  seed_unwritten seed output (inl unwritten) told = inl (record { cause = unwritten.0; line = told; out = unwritten.2; files = unwritten.1 })
-  seed_unwritten seed output (inr unshown) told = inr (record { lines = unshown.0; says = unshown.1; written = unshown.2; cause = unshown.3; line = told; out = unshown.4 })
+  seed_unwritten seed output (inl unwritten) told = inl (record { lines = unwritten.0; says = unwritten.1; cause = unwritten.2; line = told; out = unwritten.4; files = unwritten.3; unread = unwritten.5 })
+  seed_unwritten seed output (inr unshown) told = inr (record { lines = unshown.0; says = unshown.1; written = unshown.2; cause = unshown.3; line = told; out = unshown.4; unread = unshown.5 })
+
+  seed_files : (seed : ℕ) (output : List ℕ) →
+      Unwritten f f' ⊎ ((lines : List ℕ) × SeedShown seed lines × (f'.told ≡ with_file f.told output (source_of seed))) →
+      Unwritten f f' ⊎ SeedWrittenAlone seed output (outside f o e) (outside f' o' e')
+  seed_files seed output (inl unwritten) = inl unwritten
+  seed_files seed output (inr alone) = inr (record { lines = alone.0; says = alone.1; written = alone.2 })
 
   seed_failed : (seed : ℕ) (output : List ℕ) (failure : Failure) (status : Status) → ShowsSeed seed output f f' o o' (Err failure) → Reports failure e e' status → SeedAnswer seed output (outside f o e) (outside f' o' e') status
   seed_failed seed output (failed.Refused fault) status shown told = absurd shown
@@ -120,13 +129,13 @@ module _ (f f' : FilesState) (o o' e e' : SinkState) where
   seed_failed seed output failed.Memory Budget shown told = absurd told
   seed_failed seed output failed.Memory ReadFault shown told = absurd told
   seed_failed seed output failed.Memory WriteFault shown told = absurd told
-  seed_failed seed output failed.Memory Memory shown told = record { line = told; out = shown.0; files = shown.1 }
+  seed_failed seed output failed.Memory Memory shown told = record { line = told; out = shown.0; unread = shown.1; files = seed_files seed output shown.2 }
 
   -- ---- by the command
 
   pub does_failed : (asked : Asked) (failure : Failure) (status : Status) → Performs asked f f' o o' (Err failure) → Reports failure e e' status → Does (outside f o e) (outside f' o' e') status asked
-  does_failed (Compiles input output) failure status done told = text_failed IsCompiled AProgram input output done.1 failure status done.0 told
-  does_failed (CompilesWithin input output k) failure status done told = text_failed (IsCompiledWithin k) AProgram input output done.1 failure status done.0 told
+  does_failed (Compiles input output) failure status done told = text_failed CompiledText AProgram input output done.1 failure status done.0 told
+  does_failed (CompilesWithin input output k) failure status done told = text_failed (CompiledTextWithin k) AProgram input output done.1 failure status done.0 told
   does_failed (Types input) failure status done told = line_failed ShowsType AnyTerm input failure status done told
   does_failed (Evaluates input turns) failure status done told = line_failed (ShowsValue turns) CellFree input failure status done told
   does_failed (Checks input) failure status done told = line_failed ShowsAccepted AnAssembly input failure status done told

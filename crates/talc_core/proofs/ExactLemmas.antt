@@ -11,10 +11,11 @@ use Rattle.t_terms.specs.Spanned.{plain_program}
 use Rattle.t_rules.specs.Machine.{GoesOnAfter}
 use Rattle.talc_core.specs.FirstFault.{Need, AnyTerm, AProgram, CellFree, AnAssembly, IsTaken}
 use Rattle.talc_core.specs.Command.{Asked, Compiles, CompilesWithin, Types, Evaluates, Checks, Runs, Generates, Upgrades, Traces, command_of, need_of}
-use Rattle.talc_core.specs.Compiled.{IsCompiled, IsCompiledWithin}
+use Rattle.talc_core.specs.CompiledText.{CompiledText, CompiledTextWithin}
 use Rattle.talc_core.specs.Upgraded.{IsUpgraded}
 use Rattle.talc_core.specs.Shown.{Showing, ShowsType, ShowsValue, ValueShown, ShowsAccepted, ShowsRun, ShowsTrace, HaltedShown}
-use Rattle.talc_core.specs.Headline.{Outside, Making, Headline, TextRefused, TextAnswer, LineAnswer, SeedAnswer, UsageAnswer, Does}
+use Rattle.talc_core.specs.OnTexts.{Making}
+use Rattle.talc_core.specs.Headline.{Outside, Headline, TextRefused, TextAnswer, LineAnswer, SeedAnswer, UsageAnswer, Does}
 use Rattle.talc_core.specs.Exact.{IsSettled, Tells, WorksOn, IsMissing, CannotRead, LeadsTo, CannotWrite, HasBudget, GoesOn, NoFaults, Works, HeadlineIsExact}
 use Rattle.talc_core.specs.TextLaws.{TextLaws}
 use Rattle.talc_core.proofs.FaultLemmas.{one_fault, no_fault_where_taken, same_term, same_program}
@@ -182,11 +183,11 @@ pub record Makers (asked : Asked) (Makes : Making) : Type 0 where
   pub made : (source target : List ℕ) → Makes source target → IsTaken (need_of asked) source
   pub ends : (source : List ℕ) → ¬ GoesOn asked source
 
-compiled_sound : (input output : List ℕ) → Makers (Compiles input output) IsCompiled
-compiled_sound input output = record { made = λ source target made. (made.term, made.checked); ends = λ source more. more }
+compiled_sound : (input output : List ℕ) → Makers (Compiles input output) CompiledText
+compiled_sound input output = record { made = λ source target made. (made.compiled.term, made.compiled.checked); ends = λ source more. more }
 
-bounded_sound : (input output : List ℕ) (k : ℕ) → Makers (CompilesWithin input output k) (IsCompiledWithin k)
-bounded_sound input output k = record { made = λ source target made. (made.term, made.checked); ends = λ source more. more }
+bounded_sound : (input output : List ℕ) (k : ℕ) → Makers (CompilesWithin input output k) (CompiledTextWithin k)
+bounded_sound input output k = record { made = λ source target made. (made.compiled.compiled.term, made.compiled.compiled.checked); ends = λ source more. more }
 
 upgraded_sound : (input output : List ℕ) → Makers (Upgrades input output) IsUpgraded
 upgraded_sound input output = record { made = λ source target made. (made.program, made.accepted); ends = λ source more. more }
@@ -235,8 +236,8 @@ module _ (laws : TextLaws) (old new : Outside) where
   judged (Checks input) source status answer tells settled = line_judged (Checks input) input ShowsAccepted (accepted_sound input) source status answer tells settled
   judged (Runs input fuel) source status answer tells settled = line_judged (Runs input fuel) input (ShowsRun fuel) (run_sound laws input fuel) source status answer tells settled
   judged (Traces input from to) source status answer tells settled = line_judged (Traces input from to) input (ShowsTrace from to) (trace_sound laws input from to) source status answer tells settled
-  judged (Compiles input output) source status answer tells settled = text_judged (Compiles input output) input output IsCompiled (compiled_sound input output) source status answer tells settled
-  judged (CompilesWithin input output k) source status answer tells settled = text_judged (CompilesWithin input output k) input output (IsCompiledWithin k) (bounded_sound input output k) source status answer tells settled
+  judged (Compiles input output) source status answer tells settled = text_judged (Compiles input output) input output CompiledText (compiled_sound input output) source status answer tells settled
+  judged (CompilesWithin input output k) source status answer tells settled = text_judged (CompilesWithin input output k) input output (CompiledTextWithin k) (bounded_sound input output k) source status answer tells settled
   judged (Upgrades input output) source status answer tells settled = text_judged (Upgrades input output) input output IsUpgraded (upgraded_sound input output) source status answer tells settled
   judged (Generates seed output) source Done answer is settled =
       let done = answer.says in
@@ -276,8 +277,8 @@ module _ (laws : TextLaws) (old new : Outside) where
   absent_at (Checks input) status answer absent = line_absent ShowsAccepted AnAssembly input status answer absent
   absent_at (Runs input fuel) status answer absent = line_absent (ShowsRun fuel) AnAssembly input status answer absent
   absent_at (Traces input from to) status answer absent = line_absent (ShowsTrace from to) AnAssembly input status answer absent
-  absent_at (Compiles input output) status answer absent = text_absent IsCompiled AProgram input output status answer absent
-  absent_at (CompilesWithin input output k) status answer absent = text_absent (IsCompiledWithin k) AProgram input output status answer absent
+  absent_at (Compiles input output) status answer absent = text_absent CompiledText AProgram input output status answer absent
+  absent_at (CompilesWithin input output k) status answer absent = text_absent (CompiledTextWithin k) AProgram input output status answer absent
   absent_at (Upgrades input output) status answer absent = text_absent IsUpgraded AnAssembly input output status answer absent
   absent_at (Generates seed output) status answer absent = absurd absent
 

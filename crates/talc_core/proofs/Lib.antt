@@ -1,4 +1,6 @@
 mod AssemblyLemmas
+mod BothWays
+mod CompileLemmas
 pub mod CompositionLemmas
 mod Decided
 mod DoesLemmas
@@ -9,6 +11,7 @@ mod RunLemmas
 mod SeedLemmas
 mod SizeLemmas
 mod SourceLemmas
+mod WrittenLemmas
 pub mod TraceLemmas
 pub mod LineLemmas
 pub mod TraceLawLemmas

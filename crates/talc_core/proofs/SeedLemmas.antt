@@ -6,7 +6,7 @@ use Rattle.std.proofs.Math.IntN.{ℤ_set}
 use Rattle.f_terms.specs.Ty.{TInt}
 use Rattle.f_terms.specs.Tm.{Tm, plain}
 use Rattle.f_terms.specs.Cells.{has_cells}
-use Rattle.f_terms.specs.Eval.{Empty, VInt, Gives, Spent, eval, Evaluates, IsSpent}
+use Rattle.f_terms.specs.Eval.{Empty, VInt, Gives, Spent, eval, IsSpent}
 use Rattle.f_terms.specs.Laws.{MoreTurnsKeepTheValue, OneAnswer}
 use Rattle.t_terms.specs.Spanned.{SProg, plain_program}
 use Rattle.t_terms.specs.ReadProgram.{spanned_program}
@@ -20,17 +20,19 @@ use Rattle.t_check.specs.declared.checked.Checked.{Checked}
 use Rattle.seeds.specs.Source.{source as source_of}
 use Rattle.seeds.specs.Laws.{SourcesArePrograms}
 use Rattle.talc_core.specs.declared.fault.Fault.{Fault}
-use Rattle.talc_core.specs.declared.report.Failure.{Failure}
-use Rattle.talc_core.specs.declared.report.Failure.TheVariants.{Refused, Read, Write, Memory}
+use Rattle.talc_core.specs.declared.refusal.Refusal.{Refusal}
+use Rattle.talc_core.specs.declared.refusal.Refusal.TheVariants as refusal
 use Rattle.talc_core.specs.FirstFault.{AProgram, AnAssembly, FirstFault, IsChecked, IsAcceptedText, IsTaken, NoFaultWhereTaken}
 use Rattle.talc_core.specs.Compiled.{IsCompiled}
 use Rattle.talc_core.specs.Lines.{seed_lines}
 use Rattle.talc_core.specs.Shown.{seed_turns, SeedShown}
-use Rattle.talc_core.specs.Steps.{RefusedBy, ReadsProgram, ChecksAssembly, MakesText, WantsMemory, OrMemory, Evaluated, HaltsSoonEnough}
+use Rattle.talc_core.specs.CompiledText.{CompiledText}
+use Rattle.talc_core.specs.OnTexts.{RefusedBy, MakesText}
+use Rattle.talc_core.specs.Steps.{ReadsProgram, ChecksAssembly, WantsMemory, OrMemory, Evaluated, HaltsSoonEnough}
 use Rattle.talc_core.specs.TextLaws.{TextLaws}
 use Rattle.talc_core.proofs.FaultLemmas.{same_term}
 use Rattle.talc_core.proofs.RunLemmas.{going_not_halted}
-use Rattle.talc_core.proofs.CompositionLemmas.{compiled_is_taken, compiled_means_the_same, same_assembly}
+use Rattle.talc_core.proofs.CompositionLemmas.{compiled_is_taken, compiled_means_the_same, compiled_halts}
 
 taken : SourcesArePrograms → (seed : ℕ) → IsTaken AProgram (source_of seed)
 taken programs seed = let p = programs seed in (p.0, (p.1, p.2))
@@ -39,20 +41,20 @@ no_seed_fault : NoFaultWhereTaken → SourcesArePrograms → (seed : ℕ) (text 
 no_seed_fault no_fault programs seed text is fault first =
     no_fault AProgram (source_of seed) fault (taken programs seed) (subst (λ t. FirstFault AProgram t fault) is first)
 
--- no failure but want of memory
-refused : NoFaultWhereTaken → SourcesArePrograms → (seed : ℕ) (text : List ℕ) → text ≡ source_of seed → (failure : Failure) → RefusedBy AProgram text failure → WantsMemory failure
-refused no_fault programs seed text is (Refused fault) why = absurd (no_seed_fault no_fault programs seed text is fault why)
-refused no_fault programs seed text is Memory why = tt
-refused no_fault programs seed text is Read why = why
-refused no_fault programs seed text is Write why = why
+-- it is refused for want of memory alone
+refused : NoFaultWhereTaken → SourcesArePrograms → (seed : ℕ) (text : List ℕ) → text ≡ source_of seed →
+    (why : Refusal) → RefusedBy AProgram text why → WantsMemory why
+refused no_fault programs seed text is (refusal.Fault fault) first =
+    no_seed_fault no_fault programs seed text is fault first
+refused no_fault programs seed text is refusal.Memory first = tt
 
-pub compiles : NoFaultWhereTaken → SourcesArePrograms → (seed : ℕ) (text : List ℕ) → text ≡ source_of seed → (r : Result (Vec ℕ Global) Failure) → MakesText IsCompiled AProgram text r → OrMemory (λ target. IsCompiled (source_of seed) target.items) r
-compiles no_fault programs seed text is (Ok target) made = subst (λ t. IsCompiled t target.items) is made
-compiles no_fault programs seed text is (Err failure) why = refused no_fault programs seed text is failure why
+pub compiles : NoFaultWhereTaken → SourcesArePrograms → (seed : ℕ) (text : List ℕ) → text ≡ source_of seed → (r : Result (Vec ℕ Global) Refusal) → MakesText CompiledText AProgram text r → OrMemory (λ target. IsCompiled (source_of seed) target.items) r
+compiles no_fault programs seed text is (Ok target) made = subst (λ t. IsCompiled t target.items) is made.compiled
+compiles no_fault programs seed text is (Err why) first = refused no_fault programs seed text is why first
 
-pub reads : NoFaultWhereTaken → SourcesArePrograms → (seed : ℕ) (text : List ℕ) → text ≡ source_of seed → (r : Result Program Failure) → ReadsProgram text r → OrMemory (λ program. IsChecked (source_of seed) (spanned (program_term program)) TInt) r
+pub reads : NoFaultWhereTaken → SourcesArePrograms → (seed : ℕ) (text : List ℕ) → text ≡ source_of seed → (r : Result Program Refusal) → ReadsProgram text r → OrMemory (λ program. IsChecked (source_of seed) (spanned (program_term program)) TInt) r
 reads no_fault programs seed text is (Ok program) checked = subst (λ t. IsChecked t (spanned (program_term program)) TInt) is checked
-reads no_fault programs seed text is (Err failure) why = refused no_fault programs seed text is failure why
+reads no_fault programs seed text is (Err why) first = refused no_fault programs seed text is why first
 
 -- the source of a seed has no cells
 pub no_cells : TextLaws → SourcesArePrograms → (seed : ℕ) (term : Tm) → IsChecked (source_of seed) term TInt → has_cells (plain term) ≡ false
@@ -79,25 +81,20 @@ not_spent laws programs more seed term checked spent =
 pub target_taken : (source target : List ℕ) → IsCompiled source target → ∥ IsTaken AnAssembly target ∥₁
 target_taken source target made = compiled_is_taken source target made
 
-pub checks : NoFaultWhereTaken → (target : List ℕ) → ∥ IsTaken AnAssembly target ∥₁ → (r : Result Checked Failure) → ChecksAssembly target r → OrMemory (λ checked. IsAcceptedText target (spanned_program (checked_program checked))) r
+pub checks : NoFaultWhereTaken → (target : List ℕ) → ∥ IsTaken AnAssembly target ∥₁ → (r : Result Checked Refusal) → ChecksAssembly target r → OrMemory (λ checked. IsAcceptedText target (spanned_program (checked_program checked))) r
 checks no_fault target taken (Ok checked) accepted = accepted
-checks no_fault target taken (Err (Refused fault)) first = ∥∥₁_elim taken (λ a b. absurd a) (λ t. no_fault AnAssembly target fault t first)
-checks no_fault target taken (Err Memory) why = tt
-checks no_fault target taken (Err Read) why = why
-checks no_fault target taken (Err Write) why = why
+checks no_fault target taken (Err (refusal.Fault fault)) first = ∥∥₁_elim taken (λ a b. absurd a) (λ t. no_fault AnAssembly target fault t first)
+checks no_fault target taken (Err refusal.Memory) why = tt
 
 -- and halts
 pub soon : TextLaws → (seed : ℕ) (target : List ℕ) → IsCompiled (source_of seed) target → (value : ℤ) (used : ℕ) → Evaluated seed value used → (program : SProg) → IsAcceptedText target program → HaltsSoonEnough (plain_program program)
 soon laws seed target made value used evaluated program accepted fuel enough goes_on =
-    let terms : evaluated.term ≡ made.term = same_term laws (source_of seed) evaluated.term made.term evaluated.checked.0 made.checked.0 in
-    let programs : plain_program program ≡ made.program = same_assembly laws (source_of seed) target made program accepted in
-    let on : GoesOnAfter made.program fuel = subst (λ P. GoesOnAfter P fuel) programs goes_on in
-    let within : (seed_turns + 1) * program_size made.program ≤ fuel = subst (λ P. (seed_turns + 1) * program_size P ≤ fuel) programs enough in
-    let evaluates : Evaluates (plain made.term) seed_turns value = subst (λ t. Evaluates (plain t) seed_turns value) terms (evaluated.left, evaluated.evaluates) in
-    ∥∥₁_elim made.compiled (λ a b. absurd a) (λ c.
-    let halts : HaltsWithin made.program ((seed_turns + 1) * program_size made.program) value = c.soon seed_turns value evaluates in
+    let P = plain_program program in
+    let halts : HaltsWithin P ((seed_turns + 1) * program_size P) value =
+    compiled_halts laws (source_of seed) target made evaluated.term evaluated.checked seed_turns value
+    (evaluated.left, evaluated.evaluates) program accepted in
     let most = halts.1 in
-    going_not_halted laws made.program halts.0 fuel value halts.2 on (omega (arith, most, within)))
+    going_not_halted laws P halts.0 fuel value halts.2 goes_on (omega (arith, most, enough))
 
 same_value : TextLaws → OneAnswer → (seed : ℕ) (target : List ℕ) → IsCompiled (source_of seed) target → (value : ℤ) (used : ℕ) → Evaluated seed value used → (program : SProg) → IsAcceptedText target program →
     (halted : ℤ) → Halts (plain_program program) halted → halted ≡ value

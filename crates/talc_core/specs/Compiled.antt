@@ -1,34 +1,32 @@
--- When a target text is what a source text compiles to.
+-- When a target text is what a source text compiles to, and does the same.
 use Rattle.std.specs.Prelude.{ℕ, List}
 use Rattle.f_terms.specs.Ty.{TInt}
 use Rattle.f_terms.specs.Tm.{Tm, plain}
 use Rattle.t_terms.specs.Tree.{TProg}
-use Rattle.t_terms.specs.Text.{StandsFor, KeepsLimit}
-use Rattle.t_writer.specs.Written.{HasSecondHeader}
-use Rattle.pipeline.specs.Compilation.{IsCompilation, IsCompilationWithin}
+use Rattle.t_terms.specs.Whole.{Whole}
+use Rattle.t_rules.specs.Rules.{Accepted}
+use Rattle.spill_law.specs.Bound.{RegistersUpTo}
+use Rattle.pipeline.specs.Meaning.{SameMeaning, RunsSeldom, HaltsSoon}
 use Rattle.talc_core.specs.FirstFault.{IsChecked}
+use Rattle.talc_core.specs.Written.{IsWritten}
 
--- The source text is a text of a program. The target text begins with the words of the second version of the language,
--- and stands for an assembly program within the limit on open constructs. The typing rules accept that one, and it
--- means the same: it halts with an integer exactly where the source evaluates to it, in no fewer instructions than
--- turns. It is a translation of the source by the passes in turn, and each place of it is executed at most n + 1 times,
--- where n turns are enough for the source.
+-- The source text is a text of a program, and the target text the one that is written of an assembly program. That one
+-- is well formed, and the typing rules accept it. It means the same: it halts with an integer exactly where the source
+-- evaluates to it, in no fewer instructions than turns. Where n turns are enough for the source, each place of it is
+-- executed at most n + 1 times, so that it halts within n + 1 times the number of its instructions and jumps. How it
+-- comes of the source is not said here.
 pub record IsCompiled (source target : List ℕ) : Type 0 where
   pub term : Tm
   pub program : TProg
   pub checked : IsChecked source term TInt
-  pub header : HasSecondHeader target
-  pub text : StandsFor target program
-  pub keeps : KeepsLimit target
-  pub compiled : ∥ IsCompilation (plain term) program ∥₁
+  pub written : IsWritten program target
+  pub whole : Whole program
+  pub accepted : ∥ Accepted program ∥₁
+  pub meaning : ∥ SameMeaning (plain term) program ∥₁
+  pub seldom : RunsSeldom (plain term) program
+  pub soon : ∥ HaltsSoon (plain term) program ∥₁
 
--- The same of a target text that names the registers 1 to k alone: what it stands for is a translation of the source
--- where that names no other, and else the program to which one is spilled.
+-- The same of a target text of which the program names no register above k.
 pub record IsCompiledWithin (k : ℕ) (source target : List ℕ) : Type 0 where
-  pub term : Tm
-  pub program : TProg
-  pub checked : IsChecked source term TInt
-  pub header : HasSecondHeader target
-  pub text : StandsFor target program
-  pub keeps : KeepsLimit target
-  pub compiled : ∥ IsCompilationWithin k (plain term) program ∥₁
+  pub compiled : IsCompiled source target
+  pub few : ∥ RegistersUpTo k compiled.program ∥₁

@@ -1,14 +1,21 @@
 -- What the commands do with a text that `compile` or `upgrade` wrote.
-use Rattle.std.specs.Prelude.{◌≡◌, ◌↔◌, ℕ, List}
+use Rattle.std.specs.Prelude.{◌≡◌, ◌↔◌, ◌+◌, ◌*◌, ℕ, ℤ, List, false}
 use Rattle.talc_core.specs.declared.status.Status.{Status}
 use Rattle.f_terms.specs.Ty.{TInt}
 use Rattle.f_terms.specs.Tm.{Tm, plain}
+use Rattle.f_terms.specs.Cells.{has_cells}
+use Rattle.f_terms.specs.Eval.{Evaluates, IsSpent}
 use Rattle.t_terms.specs.Spanned.{SProg, plain_program}
+use Rattle.t_terms.specs.Tree.{TProg}
+use Rattle.t_rules.specs.Machine.{NeverSticks, GoesOnAfter}
+use Rattle.t_rules.specs.Times.{program_size}
 use Rattle.spill_law.specs.Bound.{RegistersUpTo}
 use Rattle.pipeline.specs.Meaning.{SameMeaning}
-use Rattle.talc_core.specs.FirstFault.{AnAssembly, IsChecked, IsAcceptedText, IsTaken}
+use Rattle.talc_core.specs.FirstFault.{AnAssembly, IsChecked, IsAssembly, IsAcceptedText, IsTaken}
+use Rattle.talc_core.specs.Written.{IsWritten}
 use Rattle.talc_core.specs.Compiled.{IsCompiled, IsCompiledWithin}
 use Rattle.talc_core.specs.Upgraded.{IsUpgraded}
+use Rattle.talc_core.specs.Lines.{integer_line}
 use Rattle.talc_core.specs.Shown.{ValueShown, HaltedShown, ShowsRun, ShowsTrace}
 
 -- `check` takes it: it stands for a program that the typing rules accept
@@ -29,7 +36,50 @@ CompiledShowsTheSame =
     (value : ValueShown turns source evaluated) → (halted : HaltedShown fuel target ran) →
     value.value ≡ halted.value
 
--- the same of a text within registers 1 to k
+-- what `run` shows of it within so many instructions, the source evaluates to within as many turns
+abbrev pub CompiledRunsAreEvaluations : Type 0
+CompiledRunsAreEvaluations =
+    (source target ran : List ℕ) → IsCompiled source target → (fuel : ℕ) → (halted : HaltedShown fuel target ran) →
+    (term : Tm) → IsChecked source term TInt → Evaluates (plain term) fuel halted.value
+
+-- and `eval` shows it, where the source has no cells
+abbrev pub CompiledRunsAreShown : Type 0
+CompiledRunsAreShown =
+    (source target ran : List ℕ) → IsCompiled source target → (fuel : ℕ) → (halted : HaltedShown fuel target ran) →
+    (term : Tm) → IsChecked source term TInt → has_cells (plain term) ≡ false →
+    (evaluated : List ℕ) × (shown : ValueShown fuel source evaluated) × (shown.value ≡ halted.value)
+
+-- what the source evaluates to within so many turns, `run` shows of it within once more than these turns times the
+-- number of its instructions and jumps
+abbrev pub CompiledEvaluationsRun : Type 0
+CompiledEvaluationsRun =
+    (source target : List ℕ) → IsCompiled source target →
+    (term : Tm) → IsChecked source term TInt → (turns : ℕ) (value : ℤ) → Evaluates (plain term) turns value →
+    (program : SProg) → IsAcceptedText target program →
+    HaltedShown ((turns + 1) * program_size (plain_program program)) target (integer_line value)
+
+-- so it shows what `eval` shows of the source
+abbrev pub CompiledValuesRun : Type 0
+CompiledValuesRun =
+    (source target evaluated : List ℕ) → IsCompiled source target →
+    (turns : ℕ) → (shown : ValueShown turns source evaluated) → (program : SProg) → IsAcceptedText target program →
+    HaltedShown ((turns + 1) * program_size (plain_program program)) target (integer_line shown.value)
+
+-- it never sticks
+abbrev pub CompiledNeverSticks : Type 0
+CompiledNeverSticks =
+    (source target : List ℕ) → IsCompiled source target → (program : SProg) → IsAcceptedText target program →
+    NeverSticks (plain_program program)
+
+-- it goes on after every number of instructions exactly where the source is spent at every number of turns
+abbrev pub CompiledGoesOn : Type 0
+CompiledGoesOn =
+    (source target : List ℕ) → IsCompiled source target →
+    (term : Tm) → IsChecked source term TInt → (program : SProg) → IsAcceptedText target program →
+    ((turns : ℕ) → IsSpent (plain term) turns) ↔ ((fuel : ℕ) → GoesOnAfter (plain_program program) fuel)
+
+-- The same of a text within registers 1 to k. It is compiled (`IsCompiledWithin.compiled`), so all laws above hold of
+-- it; those that `run` and `check` show stand here once more.
 abbrev pub BoundedIsTaken : Type 0
 BoundedIsTaken = (k : ℕ) (source target : List ℕ) → IsCompiledWithin k source target → ∥ IsTaken AnAssembly target ∥₁
 
@@ -55,6 +105,12 @@ BoundedHasFewRegisters =
 abbrev pub UpgradedIsTaken : Type 0
 UpgradedIsTaken = (source target : List ℕ) → IsUpgraded source target → IsTaken AnAssembly target
 
+-- it never sticks
+abbrev pub UpgradedNeverSticks : Type 0
+UpgradedNeverSticks =
+    (source target : List ℕ) → IsUpgraded source target → (program : SProg) → IsAcceptedText target program →
+    NeverSticks (plain_program program)
+
 -- its program is that of the old text, places aside
 abbrev pub UpgradedIsTheSame : Type 0
 UpgradedIsTheSame =
@@ -73,3 +129,21 @@ abbrev pub UpgradedTracesTheSame : Type 0
 UpgradedTracesTheSame =
     (source target : List ℕ) → IsUpgraded source target → (from to : ℕ) (status : Status) (lines : List ℕ) →
     ShowsTrace from to status source lines ↔ ShowsTrace from to status target lines
+
+-- one text is written for one program: two written texts whose programs are the same, places aside, are the same bytes
+abbrev pub OneWrittenText : Type 0
+OneWrittenText =
+    (P Q : TProg) (a b : List ℕ) → IsWritten P a → IsWritten Q b → (p q : SProg) → IsAssembly a p → IsAssembly b q →
+    plain_program p ≡ plain_program q → a ≡ b
+
+-- a text is upgraded to one text at most
+abbrev pub OneUpgrade : Type 0
+OneUpgrade = (source a b : List ℕ) → IsUpgraded source a → IsUpgraded source b → a ≡ b
+
+-- what `upgrade` wrote is upgraded to the same bytes
+abbrev pub UpgradedIsKept : Type 0
+UpgradedIsKept = (source target again : List ℕ) → IsUpgraded source target → IsUpgraded target again → again ≡ target
+
+-- and so is what `compile` wrote
+abbrev pub CompiledIsKept : Type 0
+CompiledIsKept = (source target again : List ℕ) → IsCompiled source target → IsUpgraded target again → again ≡ target

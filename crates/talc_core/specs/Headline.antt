@@ -8,10 +8,11 @@ use Rattle.talc_core.specs.declared.status.Status.TheVariants.{Budget, ReadFault
 use Rattle.talc_core.specs.declared.fault.Fault.{Fault}
 use Rattle.talc_core.specs.Fault.{status_of}
 use Rattle.talc_core.specs.FirstFault.{Need, AnyTerm, AProgram, CellFree, AnAssembly, FirstFault}
-use Rattle.talc_core.specs.Compiled.{IsCompiled, IsCompiledWithin}
+use Rattle.talc_core.specs.CompiledText.{CompiledText, CompiledTextWithin}
 use Rattle.talc_core.specs.Upgraded.{IsUpgraded}
 use Rattle.seeds.specs.Source.{source}
 use Rattle.talc_core.specs.Shown.{Showing, ShowsType, ShowsValue, ShowsAccepted, ShowsRun, ShowsTrace, SeedShown}
+use Rattle.talc_core.specs.OnTexts.{Making}
 use Rattle.talc_core.specs.Command.{Asked, Compiles, CompilesWithin, Types, Evaluates, Checks, Runs, Generates}
 use Rattle.talc_core.specs.Command.{Upgrades, Traces}
 use Rattle.talc_core.specs.Command.{command_of}
@@ -28,13 +29,22 @@ abbrev pub Shows : SinkState → SinkState → List ℕ → Type 0
 Shows old new line =
     (new.taken ≡ gained old.taken line) ⊎ (Faulted old.faults new.faults × GainedPart old.taken line new.taken)
 
--- the same, or nothing where memory was wanted
+-- the same; or memory was wanted, and the sink is as it was
 abbrev pub ShowsOrNot : SinkState → SinkState → List ℕ → Type 0
-ShowsOrNot old new line = (new.taken ≡ old.taken) ⊎ Shows old new line
+ShowsOrNot old new line = (new ≡ old) ⊎ Shows old new line
+
+-- no file is written: what is told of the files is as before, and so is the count of writes that failed, which any
+-- write might raise, also where no content is told
+abbrev pub Unwritten : FilesState → FilesState → Type 0
+Unwritten old new = (new.told ≡ old.told) × (new.writes ≡ old.writes)
+
+-- no file is read: the count of reads that failed, which any read might raise, is as before
+abbrev pub Unread : FilesState → FilesState → Type 0
+Unread old new = new.reads ≡ old.reads
 
 -- ---- what several commands do
 
--- 1 and 3: the input's text has this first fault, which leads to this status; the line names it
+-- 1 and 3: the input's text has this first fault, which leads to this status; the line names it, and no file is written
 pub record TextRefused (status : Status) (need : Need) (input : List ℕ) (old new : Outside) : Type 0 where
   pub source : List ℕ
   pub fault : Fault
@@ -43,26 +53,22 @@ pub record TextRefused (status : Status) (need : Need) (input : List ℕ) (old n
   pub leads : status_of fault ≡ status
   pub line : Shows old.err new.err (fault_line fault)
   pub out : new.out ≡ old.out
-  pub files : new.files.told ≡ old.files.told
+  pub files : Unwritten old.files new.files
 
--- 5: the count of reads rose or stands at its last value, or there is no such file
+-- 5: the count of reads rose or stands at its last value, or there is no such file; no file is written
 pub record NotRead (input : List ℕ) (old new : Outside) : Type 0 where
   pub cause : Faulted old.files.reads new.files.reads ⊎ IsAbsent old.files.told input
   pub line : Shows old.err new.err read_line
   pub out : new.out ≡ old.out
-  pub files : new.files.told ≡ old.files.told
+  pub files : Unwritten old.files new.files
 
--- 7: nothing is written
+-- 7: no file is written
 pub record OutOfMemory (old new : Outside) : Type 0 where
   pub line : ShowsOrNot old.err new.err memory_line
   pub out : new.out ≡ old.out
-  pub files : new.files.told ≡ old.files.told
+  pub files : Unwritten old.files new.files
 
 -- ---- the commands that write a text made of another
-
--- what such a command makes of a text
-abbrev pub Making : Type 1
-Making = List ℕ → List ℕ → Type 0
 
 -- 0: the output's file is set to what the command makes of the input's text, and nothing else is done
 pub record TextWritten (Makes : Making) (input output : List ℕ) (old new : Outside) : Type 0 where
@@ -97,7 +103,7 @@ TextAnswer Makes need input output old new other = ⊥
 
 -- ---- the commands that show a line
 
--- 0 and 4: the line, or the lines, are on the output, and nothing else is done
+-- 0 and 4: the line, or the lines, are on the output, and nothing else is done: no file is written
 pub record LineShown (Says : List ℕ → List ℕ → Type 0) (input : List ℕ) (old new : Outside) : Type 0 where
   pub source : List ℕ
   pub line : List ℕ
@@ -105,7 +111,7 @@ pub record LineShown (Says : List ℕ → List ℕ → Type 0) (input : List ℕ
   pub says : Says source line
   pub out : new.out.taken ≡ gained old.out.taken line
   pub err : new.err ≡ old.err
-  pub files : new.files.told ≡ old.files.told
+  pub files : Unwritten old.files new.files
 
 -- 6: the output's count rose or stands at its last value, and it has taken a first part of the line
 pub record LineNotShown (Says : Showing) (input : List ℕ) (old new : Outside) : Type 0 where
@@ -117,7 +123,7 @@ pub record LineNotShown (Says : Showing) (input : List ℕ) (old new : Outside) 
   pub cause : Faulted old.out.faults new.out.faults
   pub line : ShowsOrNot old.err new.err write_line
   pub out : GainedPart old.out.taken shown new.out.taken
-  pub files : new.files.told ≡ old.files.told
+  pub files : Unwritten old.files new.files
 
 -- what such a command does, which needs this of the text and may show these lines
 abbrev pub LineAnswer : Showing → Need → List ℕ → Outside → Outside → Status → Type 0
@@ -136,20 +142,25 @@ LineAnswer Says need input old new Usage = ⊥
 abbrev pub SeedWritten : ℕ → List ℕ → Outside → Outside → Type 0
 SeedWritten seed output old new = new.files.told ≡ with_file old.files.told output (source seed)
 
--- 0: the output's file is set to the source of the seed, and the four lines are on the output
+-- 0: the output's file is set to the source of the seed, and the four lines are on the output; no file is read
 pub record SeedDone (seed : ℕ) (output : List ℕ) (old new : Outside) : Type 0 where
   pub lines : List ℕ
   pub says : SeedShown seed lines
   pub written : SeedWritten seed output old new
   pub out : new.out.taken ≡ gained old.out.taken lines
   pub err : new.err ≡ old.err
+  pub unread : Unread old.files new.files
 
--- 6 from the write: the count of writes rose or stands at its last value; every other file is as before
+-- 6 from the write: the count of writes rose or stands at its last value; every other file is as before. The write came
+-- after the work: there are lines to be shown
 pub record SeedNotWritten (seed : ℕ) (output : List ℕ) (old new : Outside) : Type 0 where
+  pub lines : List ℕ
+  pub says : SeedShown seed lines
   pub cause : Faulted old.files.writes new.files.writes
   pub line : ShowsOrNot old.err new.err write_line
   pub out : new.out ≡ old.out
   pub files : SameBut output old.files.told new.files.told
+  pub unread : Unread old.files new.files
 
 -- 6 from the output: its count rose or stands at its last value, and it has taken a first part of the lines
 pub record SeedNotShown (seed : ℕ) (output : List ℕ) (old new : Outside) : Type 0 where
@@ -159,12 +170,20 @@ pub record SeedNotShown (seed : ℕ) (output : List ℕ) (old new : Outside) : T
   pub cause : Faulted old.out.faults new.out.faults
   pub line : ShowsOrNot old.err new.err write_line
   pub out : GainedPart old.out.taken lines new.out.taken
+  pub unread : Unread old.files new.files
 
--- 7: nothing is changed; or the put found no memory after the write
+-- the output's file is set to the source of the seed, after the work: there are lines to be shown
+pub record SeedWrittenAlone (seed : ℕ) (output : List ℕ) (old new : Outside) : Type 0 where
+  pub lines : List ℕ
+  pub says : SeedShown seed lines
+  pub written : SeedWritten seed output old new
+
+-- 7: no file is written; or the file is, and then the put found no memory
 pub record SeedOutOfMemory (seed : ℕ) (output : List ℕ) (old new : Outside) : Type 0 where
   pub line : ShowsOrNot old.err new.err memory_line
   pub out : new.out ≡ old.out
-  pub files : (new.files.told ≡ old.files.told) ⊎ SeedWritten seed output old new
+  pub unread : Unread old.files new.files
+  pub files : Unwritten old.files new.files ⊎ SeedWrittenAlone seed output old new
 
 -- what `gen` does; other statuses never come
 abbrev pub SeedAnswer : ℕ → List ℕ → Outside → Outside → Status → Type 0
@@ -195,9 +214,9 @@ UsageAnswer old new other = ⊥
 
 -- what the command does
 abbrev pub Does : Outside → Outside → Status → Asked → Type 0
-Does old new status (Compiles input output) = TextAnswer IsCompiled AProgram input output old new status
+Does old new status (Compiles input output) = TextAnswer CompiledText AProgram input output old new status
 Does old new status (CompilesWithin input output k) =
-    TextAnswer (IsCompiledWithin k) AProgram input output old new status
+    TextAnswer (CompiledTextWithin k) AProgram input output old new status
 Does old new status (Types input) = LineAnswer ShowsType AnyTerm input old new status
 Does old new status (Evaluates input turns) = LineAnswer (ShowsValue turns) CellFree input old new status
 Does old new status (Checks input) = LineAnswer ShowsAccepted AnAssembly input old new status

@@ -4,9 +4,13 @@ pub mod Failures
 pub mod Lines
 pub mod FirstFault
 pub mod Command
+pub mod Written
 pub mod Compiled
+pub mod Translated
+pub mod CompiledText
 pub mod Upgraded
 pub mod Shown
+pub mod OnTexts
 pub mod Headline
 pub mod Steps
 pub mod Exact

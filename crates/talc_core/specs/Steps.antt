@@ -1,4 +1,4 @@
--- What the steps of a call do.
+-- What the steps of a call do: the contracts of private functions. Nothing that is promised rests on this file.
 use Rattle.std.specs.Prelude.{◌≡◌, ◌≤◌, ◌⊎◌, ◌+◌, ◌*◌, ℕ, ℤ, List, Result, Ok, Err, Vec, false}
 use Rattle.std.specs.declared.alloc.Global.{Global}
 use Rattle.io_core.specs.Outside.{FilesState, SinkState, Faulted, IsAbsent, Holds, SameBut}
@@ -22,81 +22,63 @@ use Rattle.talc_core.specs.declared.status.Status.{Status}
 use Rattle.talc_core.specs.declared.status.Status.TheVariants as status
 use Rattle.talc_core.specs.declared.report.Failure.{Failure}
 use Rattle.talc_core.specs.declared.report.Failure.TheVariants.{Refused, Read, Write, Memory}
-use Rattle.talc_core.specs.declared.commands.Ending.{Ending}
-use Rattle.talc_core.specs.declared.commands.Ending.TheVariants.{Ends, GoesOn}
-use Rattle.talc_core.specs.declared.commands.Reply.{Reply}
+use Rattle.talc_core.specs.declared.refusal.Refusal.{Refusal}
+use Rattle.talc_core.specs.declared.refusal.Refusal.TheVariants as refusal
+use Rattle.talc_core.specs.declared.reply.Ending.{Ending}
+use Rattle.talc_core.specs.declared.reply.Ending.TheVariants.{Ends, GoesOn}
+use Rattle.talc_core.specs.declared.reply.Reply.{Reply}
 use Rattle.talc_core.specs.Fault.{status_of}
 use Rattle.talc_core.specs.Command.{Asked, Compiles, CompilesWithin, Types, Evaluates, Checks, Runs, Generates}
 use Rattle.talc_core.specs.Command.{Upgrades, Traces}
 use Rattle.talc_core.specs.FirstFault.{Need, AnyTerm, AProgram, CellFree, AnAssembly}
 use Rattle.talc_core.specs.FirstFault.{IsChecked, IsAcceptedText, FirstFault}
-use Rattle.talc_core.specs.Compiled.{IsCompiled, IsCompiledWithin}
+use Rattle.talc_core.specs.CompiledText.{CompiledText, CompiledTextWithin}
 use Rattle.talc_core.specs.Upgraded.{IsUpgraded}
 use Rattle.seeds.specs.Source.{source as source_of}
 use Rattle.talc_core.specs.Shown.{Showing, ShowsType, ShowsValue, ShowsAccepted, ShowsRun, ShowsTrace}
 use Rattle.talc_core.specs.Shown.{SeedShown, seed_turns}
-use Rattle.talc_core.specs.Headline.{Making, Shows, ShowsOrNot}
+use Rattle.talc_core.specs.OnTexts.{Making, RefusedBy, status_at}
+use Rattle.talc_core.specs.Headline.{Shows, ShowsOrNot, Unwritten, Unread}
 use Rattle.talc_core.specs.Lines.{fault_line, read_line, write_line, memory_line}
 
--- ---- from a text to an answer
-
--- the failure is want of memory, or the first fault of a text of which this is needed
-abbrev pub RefusedBy : Need → List ℕ → Failure → Type 0
-RefusedBy need text (Refused fault) = FirstFault need text fault
-RefusedBy need text Memory = Unit {0}
-RefusedBy need text other = ⊥
+-- ---- from a text to what a command needs of it
 
 -- the term of a source text with its type, or its first fault
-abbrev pub ChecksSource : List ℕ → Result Typed Failure → Type 0
+abbrev pub ChecksSource : List ℕ → Result Typed Refusal → Type 0
 ChecksSource source (Ok typed) = IsChecked source (spanned (typed_term typed)) (tree (typed_type typed))
-ChecksSource source (Err failure) = RefusedBy AnyTerm source failure
+ChecksSource source (Err why) = RefusedBy AnyTerm source why
 
 -- the program of a source text, or its first fault
-abbrev pub ReadsProgram : List ℕ → Result Program Failure → Type 0
+abbrev pub ReadsProgram : List ℕ → Result Program Refusal → Type 0
 ReadsProgram source (Ok program) = IsChecked source (spanned (program_term program)) TInt
-ReadsProgram source (Err failure) = RefusedBy AProgram source failure
+ReadsProgram source (Err why) = RefusedBy AProgram source why
 
 -- the program of a source text, which has no cells, or its first fault
-abbrev pub ReadsCellFree : List ℕ → Result Program Failure → Type 0
+abbrev pub ReadsCellFree : List ℕ → Result Program Refusal → Type 0
 ReadsCellFree source (Ok program) =
     IsChecked source (spanned (program_term program)) TInt × (has_cells (term_of (program_term program)) ≡ false)
-ReadsCellFree source (Err failure) = RefusedBy CellFree source failure
+ReadsCellFree source (Err why) = RefusedBy CellFree source why
 
 -- the accepted program of an assembly text, or its first fault
-abbrev pub ChecksAssembly : List ℕ → Result Checked Failure → Type 0
+abbrev pub ChecksAssembly : List ℕ → Result Checked Refusal → Type 0
 ChecksAssembly text (Ok checked) = IsAcceptedText text (spanned_program (checked_program checked))
-ChecksAssembly text (Err failure) = RefusedBy AnAssembly text failure
-
--- what is made of a text of which this is needed, or its first fault
-abbrev pub MakesText : Making → Need → List ℕ → Result (Vec ℕ Global) Failure → Type 0
-MakesText Makes need source (Ok target) = Makes source target.items
-MakesText Makes need source (Err failure) = RefusedBy need source failure
-
--- the status of a command that failed nowhere
-abbrev pub status_at : Ending → Status
-status_at Ends = status.Done
-status_at GoesOn = status.Budget
-
--- the line to be shown of a text of which this is needed, or its first fault
-abbrev pub ShowsText : Showing → Need → List ℕ → Result Reply Failure → Type 0
-ShowsText Says need text (Ok reply) = Says (status_at reply.ending) text reply.line.items
-ShowsText Says need text (Err failure) = RefusedBy need text failure
+ChecksAssembly text (Err why) = RefusedBy AnAssembly text why
 
 -- ---- the calls of the outside
 
 -- the input's content, or why there is none
 abbrev pub ReadsInput : List ℕ → FilesState → FilesState → Result (Vec ℕ Global) Failure → Type 0
-ReadsInput input old new (Ok bytes) =
-    Holds old.told input bytes.items × (new.told ≡ old.told) × (new.writes ≡ old.writes)
+ReadsInput input old new (Ok bytes) = Holds old.told input bytes.items × Unwritten old new
 ReadsInput input old new (Err Read) =
-    (Faulted old.reads new.reads ⊎ IsAbsent old.told input) × (new.told ≡ old.told)
+    (Faulted old.reads new.reads ⊎ IsAbsent old.told input) × Unwritten old new
 ReadsInput input old new (Err Memory) = new ≡ old
 ReadsInput input old new (Err other) = ⊥
 
 -- the output set to a text, or why not
 abbrev pub WritesOutput : List ℕ → List ℕ → FilesState → FilesState → Result (Unit {0}) Failure → Type 0
-WritesOutput output text old new (Ok done) = new.told ≡ with_file old.told output text
-WritesOutput output text old new (Err Write) = Faulted old.writes new.writes × SameBut output old.told new.told
+WritesOutput output text old new (Ok done) = (new.told ≡ with_file old.told output text) × Unread old new
+WritesOutput output text old new (Err Write) =
+    Faulted old.writes new.writes × SameBut output old.told new.told × Unread old new
 WritesOutput output text old new (Err Memory) = new ≡ old
 WritesOutput output text old new (Err other) = ⊥
 
@@ -124,39 +106,39 @@ MakesFile Makes need input output old new (Ok Ends) =
     × (new.told ≡ with_file old.told output target)
 MakesFile Makes need input output old new (Ok GoesOn) = ⊥
 MakesFile Makes need input output old new (Err (Refused fault)) =
-    (source : List ℕ) × Holds old.told input source × FirstFault need source fault × (new.told ≡ old.told)
+    (source : List ℕ) × Holds old.told input source × FirstFault need source fault × Unwritten old new
 MakesFile Makes need input output old new (Err Read) =
-    (Faulted old.reads new.reads ⊎ IsAbsent old.told input) × (new.told ≡ old.told)
+    (Faulted old.reads new.reads ⊎ IsAbsent old.told input) × Unwritten old new
 MakesFile Makes need input output old new (Err Write) =
     (source target : List ℕ) × Holds old.told input source × Makes source target
     × Faulted old.writes new.writes × SameBut output old.told new.told
-MakesFile Makes need input output old new (Err Memory) = new.told ≡ old.told
+MakesFile Makes need input output old new (Err Memory) = Unwritten old new
 
 -- a line of a file put on the output, or why not
 abbrev pub ShowsFile :
     Showing → Need → List ℕ → FilesState → FilesState → SinkState → SinkState → Result Ending Failure → Type 0
 ShowsFile Says need input old new out out' (Ok ending) =
     (text line : List ℕ) × Holds old.told input text × Says (status_at ending) text line
-    × (out'.taken ≡ gained out.taken line) × (new.told ≡ old.told)
+    × (out'.taken ≡ gained out.taken line) × Unwritten old new
 ShowsFile Says need input old new out out' (Err (Refused fault)) =
     (text : List ℕ) × Holds old.told input text × FirstFault need text fault
-    × (new.told ≡ old.told) × (out' ≡ out)
+    × Unwritten old new × (out' ≡ out)
 ShowsFile Says need input old new out out' (Err Read) =
-    (Faulted old.reads new.reads ⊎ IsAbsent old.told input) × (new.told ≡ old.told) × (out' ≡ out)
+    (Faulted old.reads new.reads ⊎ IsAbsent old.told input) × Unwritten old new × (out' ≡ out)
 ShowsFile Says need input old new out out' (Err Write) =
     (text line : List ℕ) × (ending : Ending) × Holds old.told input text × Says (status_at ending) text line
-    × Faulted out.faults out'.faults × GainedPart out.taken line out'.taken × (new.told ≡ old.told)
-ShowsFile Says need input old new out out' (Err Memory) = (new.told ≡ old.told) × (out' ≡ out)
+    × Faulted out.faults out'.faults × GainedPart out.taken line out'.taken × Unwritten old new
+ShowsFile Says need input old new out out' (Err Memory) = Unwritten old new × (out' ≡ out)
 
--- the failure is want of memory
-abbrev pub WantsMemory : Failure → Type 0
-WantsMemory Memory = Unit {0}
-WantsMemory other = ⊥
+-- memory was wanted
+abbrev pub WantsMemory : Refusal → Type 0
+WantsMemory (refusal.Fault fault) = ⊥
+WantsMemory refusal.Memory = Unit {0}
 
 -- the fact, or want of memory
-abbrev pub OrMemory : {X : Type 0} → (X → Type 0) → Result X Failure → Type 0
+abbrev pub OrMemory : {X : Type 0} → (X → Type 0) → Result X Refusal → Type 0
 OrMemory P (Ok x) = P x
-OrMemory P (Err failure) = WantsMemory failure
+OrMemory P (Err why) = WantsMemory why
 
 -- the source of the seed evaluates to this integer, with so many turns used of those within which `gen` evaluates
 pub record Evaluated (seed : ℕ) (value : ℤ) (used : ℕ) : Type 0 where
@@ -170,27 +152,31 @@ pub record Evaluated (seed : ℕ) (value : ℤ) (used : ℕ) : Type 0 where
 abbrev pub HaltsSoonEnough : TProg → Type 0
 HaltsSoonEnough P = (fuel : ℕ) → (seed_turns + 1) * program_size P ≤ fuel → ¬ GoesOnAfter P fuel
 
--- the source of a seed written, and what is shown of it put on the output; or why not
+-- the source of a seed written after all work on it, and what is shown of it put on the output, with no file read; or
+-- why not
 abbrev pub ShowsSeed :
     ℕ → List ℕ → FilesState → FilesState → SinkState → SinkState → Result Ending Failure → Type 0
 ShowsSeed seed output old new out out' (Ok Ends) =
     (lines : List ℕ) × SeedShown seed lines × (new.told ≡ with_file old.told output (source_of seed))
-    × (out'.taken ≡ gained out.taken lines)
+    × (out'.taken ≡ gained out.taken lines) × Unread old new
 ShowsSeed seed output old new out out' (Err Write) =
-    (Faulted old.writes new.writes × SameBut output old.told new.told × (out' ≡ out))
+    ((lines : List ℕ) × SeedShown seed lines × Faulted old.writes new.writes × SameBut output old.told new.told
+    × (out' ≡ out) × Unread old new)
     ⊎ ((lines : List ℕ) × SeedShown seed lines × (new.told ≡ with_file old.told output (source_of seed))
-    × Faulted out.faults out'.faults × GainedPart out.taken lines out'.taken)
+    × Faulted out.faults out'.faults × GainedPart out.taken lines out'.taken × Unread old new)
 ShowsSeed seed output old new out out' (Err Memory) =
-    (out' ≡ out) × ((new.told ≡ old.told) ⊎ (new.told ≡ with_file old.told output (source_of seed)))
+    (out' ≡ out) × Unread old new
+    × (Unwritten old new
+    ⊎ ((lines : List ℕ) × SeedShown seed lines × (new.told ≡ with_file old.told output (source_of seed))))
 ShowsSeed seed output old new out out' other = ⊥
 
 -- what a command does on the files and the output, or why not
 abbrev pub Performs :
     Asked → FilesState → FilesState → SinkState → SinkState → Result Ending Failure → Type 0
 Performs (Compiles input output) old new out out' result =
-    MakesFile IsCompiled AProgram input output old new result × (out' ≡ out)
+    MakesFile CompiledText AProgram input output old new result × (out' ≡ out)
 Performs (CompilesWithin input output k) old new out out' result =
-    MakesFile (IsCompiledWithin k) AProgram input output old new result × (out' ≡ out)
+    MakesFile (CompiledTextWithin k) AProgram input output old new result × (out' ≡ out)
 Performs (Types input) old new out out' result = ShowsFile ShowsType AnyTerm input old new out out' result
 Performs (Evaluates input turns) old new out out' result =
     ShowsFile (ShowsValue turns) CellFree input old new out out' result

@@ -3,7 +3,7 @@ use Rattle.f_parser.specs.Text as reading
 use Rattle.f_terms.specs.Laws as typing
 use Rattle.t_terms.specs.Text as assembly
 use Rattle.t_rules.specs.LawsFaults as checking
-use Rattle.t_rules.specs.LawsSound.{OneRun, HaltingIsLast}
+use Rattle.t_rules.specs.LawsSound.{OneRun, HaltingIsLast, HaltedOrOneStep, RunsOn, NothingSticks}
 
 pub record TextLaws : Type 0 where
   -- of source texts
@@ -18,6 +18,9 @@ pub record TextLaws : Type 0 where
   pub pass_or_fault : typing.PassOrFault
   pub no_fault_beside_a_pass : typing.NoFaultBesideAPass
   pub one_typing_fault : typing.OneFault
+  pub one_value : typing.OneAnswer
+  pub value_or_spent : typing.NeverStuck
+  pub leaves_at_most : typing.LeavesAtMost
   -- of assembly texts
   pub one_program : assembly.AtMostOneProgram
   pub program_or_fault : assembly.ProgramOrFault
@@ -29,3 +32,6 @@ pub record TextLaws : Type 0 where
   pub one_accepting_fault : checking.AtMostOneFault
   pub one_run : OneRun
   pub halting_is_last : HaltingIsLast
+  pub halted_or_one_step : HaltedOrOneStep
+  pub runs_on : RunsOn
+  pub nothing_sticks : NothingSticks

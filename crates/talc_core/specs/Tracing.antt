@@ -3,8 +3,8 @@ use Rattle.std.specs.Prelude.{◌≡◌, ◌++◌, ℕ, List, Some}
 use Rattle.t_types.specs.Tree.{TFile, NoRegs, MoreRegs}
 use Rattle.t_terms.specs.Tree.{TProg}
 use Rattle.t_rules.specs.Erase.{EWord, ERegs}
-use Rattle.talc_core.specs.declared.commands.Ending.{Ending}
-use Rattle.talc_core.specs.declared.commands.Ending.TheVariants.{Ends, GoesOn}
+use Rattle.talc_core.specs.declared.reply.Ending.{Ending}
+use Rattle.talc_core.specs.declared.reply.Ending.TheVariants.{Ends, GoesOn}
 use Rattle.talc_core.specs.Traced.{IsLine, HaltedStates, RunningStates}
 
 -- each register of the file has a word

@@ -1,6 +1,5 @@
 // What the commands do: one module for each.
-ghost use Rattle.std.specs.Prelude.{◌≡◌};
-ghost use Rattle.talc_core.specs.Steps.{status_at, Performs, PutsReply};
+ghost use Rattle.talc_core.specs.Steps.{Performs, PutsReply};
 ghost use Rattle.words.specs.Command.{EnoughRegisters};
 ghost use Rattle.words.specs.Reads.{asked_by};
 
@@ -13,8 +12,8 @@ use crate::commands::trace::{Window, show_trace};
 use crate::commands::type_of::show_type;
 use crate::commands::upgrade::upgrade_file;
 use crate::outside::put_line;
+use crate::reply::{Ending, Reply};
 use crate::report::Failure;
-use crate::status::Status;
 use io_core::{Files, Sink};
 use std::alloc::Global;
 use words::Command;
@@ -28,32 +27,13 @@ pub(crate) mod trace;
 mod type_of;
 mod upgrade;
 
-// How a command ended that failed nowhere.
-#[derive(Clone, Copy, Debug, PartialEq, Eq, Drop)]
-pub(crate) enum Ending {
-    // The work is done.
-    Ends,
-    // The budget is used up, and the program goes on.
-    GoesOn,
-}
-
-impl Ending {
-    pub(crate) fn status(self) -> Status
-        ensures { result ≡ status_at self }
-    {
-        match self {
-            Ending::Ends => Status::Done,
-            Ending::GoesOn => Status::Budget,
-        }
-    }
-}
-
-// The line, or the lines, that a command shows of a text.
-#[derive(Debug, Drop)]
-pub(crate) struct Reply {
-    pub(crate) ending: Ending,
-    pub(crate) line: Vec<u8>,
-}
+pub use check::check_text;
+pub use compile::{compile_text, compile_text_within};
+pub use eval::eval_text;
+pub use run::run_text;
+pub use trace::trace_text;
+pub use type_of::type_of_text;
+pub use upgrade::upgrade_text;
 
 // Puts a reply on the output.
 fn put_reply<O: Sink>(alloc: Global, out: &mut O, reply: &Reply) -> Result<Ending, Failure>

@@ -2,20 +2,27 @@
 // them.
 ghost use Rattle.talc_core.specs.FirstFault.{OneFault, NoFaultWhereTaken, TakenOrFault};
 ghost use Rattle.talc_core.specs.Composition.{CompiledIsTaken, CompiledMeansTheSame, CompiledShowsTheSame};
+ghost use Rattle.talc_core.specs.Composition.{CompiledRunsAreEvaluations, CompiledRunsAreShown};
+ghost use Rattle.talc_core.specs.Composition.{CompiledEvaluationsRun, CompiledValuesRun};
+ghost use Rattle.talc_core.specs.Composition.{CompiledNeverSticks, CompiledGoesOn, CompiledIsKept};
 ghost use Rattle.talc_core.specs.Composition.{BoundedIsTaken, BoundedMeansTheSame, BoundedShowsTheSame};
 ghost use Rattle.talc_core.specs.Composition.{BoundedHasFewRegisters};
 ghost use Rattle.talc_core.specs.Composition.{UpgradedIsTaken, UpgradedIsTheSame, UpgradedRunsTheSame};
-ghost use Rattle.talc_core.specs.Composition.{UpgradedTracesTheSame};
+ghost use Rattle.talc_core.specs.Composition.{UpgradedTracesTheSame, UpgradedNeverSticks, UpgradedIsKept};
+ghost use Rattle.talc_core.specs.Composition.{OneUpgrade, OneWrittenText};
 ghost use Rattle.talc_core.specs.Exact.{HeadlineIsExact};
 ghost use Rattle.talc_core.specs.TextLaws.{TextLaws};
 ghost use Rattle.talc_core.specs.Traced.{LinesShowKinds, OneLine};
 ghost use Rattle.talc_core.specs.TraceLaws.{OneTrace, TraceEndsAsRun};
 
 use f_parser::{closed_terms, one_term, term_or_fault};
-use f_terms::{no_fault_beside_a_pass, one_answer, one_type, pass_or_fault, passes_where_typed};
+use f_terms::{
+    evaluation_leaves_at_most_its_turns, no_fault_beside_a_pass, one_answer, one_type,
+    pass_or_fault, passes_where_typed, programs_are_never_stuck,
+};
 use t_rules::{
-    accepted_or_fault, erased_words_are_of_their_kind, no_fault_where_accepted, places_are_known,
-    runs_are_unique,
+    accepted_or_fault, accepted_programs_are_never_stuck, accepted_programs_go_on,
+    erased_words_are_of_their_kind, no_fault_where_accepted, places_are_known, runs_are_unique,
 };
 use t_terms::{at_most_one_program, program_or_fault};
 
@@ -33,6 +40,9 @@ pub(crate) fn texts_keep_laws()
     pass_or_fault();
     no_fault_beside_a_pass();
     f_terms::one_fault();
+    one_answer();
+    programs_are_never_stuck();
+    evaluation_leaves_at_most_its_turns();
     at_most_one_program();
     program_or_fault();
     t_terms::no_fault_where_read();
@@ -41,6 +51,8 @@ pub(crate) fn texts_keep_laws()
     no_fault_where_accepted();
     t_rules::at_most_one_fault();
     runs_are_unique();
+    accepted_programs_go_on();
+    accepted_programs_are_never_stuck();
 }
 
 /// Two first faults of one text are equal, where the same is needed of it.
@@ -83,6 +95,57 @@ pub fn compiled_shows_the_same()
 {
     texts_keep_laws();
     one_answer();
+}
+
+/// What `run` shows of what `compile` wrote within so many instructions, the source evaluates to within as many turns.
+pub fn compiled_runs_are_evaluations()
+    ensures { CompiledRunsAreEvaluations }
+{
+    texts_keep_laws();
+}
+
+/// And `eval` shows it, where the source has no cells.
+pub fn compiled_runs_are_shown()
+    ensures { CompiledRunsAreShown }
+{
+    texts_keep_laws();
+}
+
+/// What the source evaluates to within so many turns, `run` shows of what `compile` wrote, within once more than these
+/// turns times the number of its instructions and jumps.
+pub fn compiled_evaluations_run()
+    ensures { CompiledEvaluationsRun }
+{
+    texts_keep_laws();
+}
+
+/// So `run` shows of what `compile` wrote what `eval` shows of the source.
+pub fn compiled_values_run()
+    ensures { CompiledValuesRun }
+{
+    texts_keep_laws();
+}
+
+/// What `compile` wrote never sticks.
+pub fn compiled_never_sticks()
+    ensures { CompiledNeverSticks }
+{
+    texts_keep_laws();
+}
+
+/// What `compile` wrote goes on after every number of instructions exactly where the source is spent at every number of
+/// turns.
+pub fn compiled_goes_on()
+    ensures { CompiledGoesOn }
+{
+    texts_keep_laws();
+}
+
+/// What `compile` wrote is upgraded to the same bytes.
+pub fn compiled_is_kept()
+    ensures { CompiledIsKept }
+{
+    texts_keep_laws();
 }
 
 /// What `compile` with a number of registers writes is a text that `check` and `run` take too.
@@ -135,6 +198,34 @@ pub fn upgraded_runs_the_same()
 /// What `trace` shows of what `upgrade` wrote is what it shows of the old text, with the same status.
 pub fn upgraded_traces_the_same()
     ensures { UpgradedTracesTheSame }
+{
+    texts_keep_laws();
+}
+
+/// What `upgrade` wrote never sticks.
+pub fn upgraded_never_sticks()
+    ensures { UpgradedNeverSticks }
+{
+    texts_keep_laws();
+}
+
+/// What `upgrade` wrote is upgraded to the same bytes.
+pub fn upgraded_is_kept()
+    ensures { UpgradedIsKept }
+{
+    texts_keep_laws();
+}
+
+/// A text is upgraded to one text at most.
+pub fn one_upgrade()
+    ensures { OneUpgrade }
+{
+    texts_keep_laws();
+}
+
+/// Two texts that `compile` or `upgrade` wrote, of programs that are the same, places aside, are the same bytes.
+pub fn one_written_text()
+    ensures { OneWrittenText }
 {
     texts_keep_laws();
 }

@@ -7,6 +7,8 @@ mod fault;
 mod laws;
 mod lines;
 mod outside;
+mod refusal;
+mod reply;
 mod report;
 mod source;
 mod status;
@@ -14,14 +16,23 @@ mod status;
 mod tests;
 mod top;
 
+pub use commands::{
+    check_text, compile_text, compile_text_within, eval_text, run_text, trace_text, type_of_text,
+    upgrade_text,
+};
 pub use fault::Fault;
 pub use laws::{
     bounded_has_few_registers, bounded_is_taken, bounded_means_the_same, bounded_shows_the_same,
-    compiled_is_taken, compiled_means_the_same, compiled_shows_the_same, lines_show_kinds,
-    no_fault_where_taken, one_fault, one_line, one_trace, taken_or_fault, trace_ends_as_run,
-    upgraded_is_taken, upgraded_is_the_same, upgraded_runs_the_same, upgraded_traces_the_same,
+    compiled_evaluations_run, compiled_goes_on, compiled_is_kept, compiled_is_taken,
+    compiled_means_the_same, compiled_never_sticks, compiled_runs_are_evaluations,
+    compiled_runs_are_shown, compiled_shows_the_same, compiled_values_run, lines_show_kinds,
+    no_fault_where_taken, one_fault, one_line, one_trace, one_upgrade, one_written_text,
+    taken_or_fault, trace_ends_as_run, upgraded_is_kept, upgraded_is_taken, upgraded_is_the_same,
+    upgraded_never_sticks, upgraded_runs_the_same, upgraded_traces_the_same,
 };
 pub use lines::fault_line;
+pub use refusal::Refusal;
+pub use reply::{Ending, Reply};
 pub use seeds::source_of;
 pub use status::Status;
 pub use top::talc;

@@ -1,17 +1,16 @@
 // Why a command did not do its work, and how that is told.
 ghost use Rattle.std.specs.Prelude.{◌≡◌};
 ghost use Rattle.talc_core.specs.declared.report.Failure.TheVariants as failure;
-ghost use Rattle.talc_core.specs.Failures.{failure_of, failure_of_assembly};
+ghost use Rattle.talc_core.specs.Failures.{failure_of};
 ghost use Rattle.talc_core.specs.Steps.{Reports, ShowsFor};
 
 use crate::fault::Fault;
 use crate::lines::fault_line;
+use crate::refusal::Refusal;
 use crate::status::Status;
-use f_terms::{FFault, FTerm};
 use idx_core::OutOfMemory;
 use io_core::{Sink, Stop};
-use std::alloc::{AllocError, Global};
-use t_terms::{TFault, TProgram};
+use std::alloc::Global;
 
 // Why a command did not do its work.
 #[derive(Clone, Copy, Debug, PartialEq, Eq, Drop)]
@@ -26,59 +25,22 @@ pub(crate) enum Failure {
     Memory,
 }
 
+impl From<Refusal> for Failure {
+    ghost from_gives = { λ r e. e ≡ failure_of r };
+
+    fn from(why: Refusal) -> Failure {
+        match why {
+            Refusal::Fault(fault) => Failure::Refused(fault),
+            Refusal::Memory => Failure::Memory,
+        }
+    }
+}
+
 impl From<OutOfMemory> for Failure {
     ghost from_gives = { λ _ e. e ≡ failure.Memory };
 
     fn from(_: OutOfMemory) -> Failure {
         Failure::Memory
-    }
-}
-
-impl From<AllocError> for Failure {
-    ghost from_gives = { λ _ e. e ≡ failure.Memory };
-
-    fn from(_: AllocError) -> Failure {
-        Failure::Memory
-    }
-}
-
-impl From<FFault> for Failure {
-    ghost from_gives = { λ f e. e ≡ failure_of f };
-
-    fn from(fault: FFault) -> Failure {
-        match fault {
-            FFault::Refused { code, span } => Failure::Refused(Fault::Source(code, span)),
-            FFault::Memory => Failure::Memory,
-        }
-    }
-}
-
-impl From<TFault> for Failure {
-    ghost from_gives = { λ f e. e ≡ failure_of_assembly f };
-
-    fn from(fault: TFault) -> Failure {
-        match fault {
-            TFault::Refused { code, span } => Failure::Refused(Fault::Tal(code, span)),
-            TFault::Memory => Failure::Memory,
-        }
-    }
-}
-
-// A term that the checker refuses comes back with its fault; of the two the fault is told.
-impl From<(FTerm, FFault)> for Failure {
-    ghost from_gives = { λ r e. e ≡ failure_of r.1 };
-
-    fn from(refused: (FTerm, FFault)) -> Failure {
-        Failure::from(refused.1)
-    }
-}
-
-// So does a program.
-impl From<(TProgram, TFault)> for Failure {
-    ghost from_gives = { λ r e. e ≡ failure_of_assembly r.1 };
-
-    fn from(refused: (TProgram, TFault)) -> Failure {
-        Failure::from(refused.1)
     }
 }
 

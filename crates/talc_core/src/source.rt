@@ -5,11 +5,11 @@ ghost use Rattle.f_terms.specs.Read.{place};
 ghost use Rattle.f_terms.specs.ReadTerm.{spanned};
 ghost use Rattle.f_terms.specs.Tm.{span_of};
 ghost use Rattle.talc_core.specs.declared.fault.Fault.TheVariants as fault;
-ghost use Rattle.talc_core.specs.declared.report.Failure.TheVariants as failed;
+ghost use Rattle.talc_core.specs.declared.refusal.Refusal.TheVariants as refusal;
 ghost use Rattle.talc_core.specs.Steps.{ChecksSource, ReadsProgram, ReadsCellFree};
 
 use crate::fault::Fault;
-use crate::report::Failure;
+use crate::refusal::Refusal;
 use f_check::{Program, Typed, check};
 use f_parser::{closed_terms, parse};
 use f_terms::{Code, FTerm, has_cells};
@@ -17,7 +17,7 @@ use idx_core::Span;
 use std::alloc::Global;
 
 // The term of the text, with its type.
-pub(crate) fn check_source(alloc: Global, source: &[u8]) -> Result<Typed, Failure>
+pub(crate) fn check_source(alloc: Global, source: &[u8]) -> Result<Typed, Refusal>
     ensures { ChecksSource source.now result }
 {
     closed_terms();
@@ -27,14 +27,14 @@ pub(crate) fn check_source(alloc: Global, source: &[u8]) -> Result<Typed, Failur
 }
 
 // Why a term of another type than int is no program.
-fn not_a_program(refused: (Typed, Span)) -> Failure
-    ensures { result ≡ failed.Refused (fault.Source code.E15 refused.1) }
+fn not_a_program(refused: (Typed, Span)) -> Refusal
+    ensures { result ≡ refusal.Fault (fault.Source code.E15 refused.1) }
 {
-    Failure::Refused(Fault::Source(Code::E15, refused.1))
+    Refusal::Fault(Fault::Source(Code::E15, refused.1))
 }
 
 // The program of the text.
-pub(crate) fn read_program(alloc: Global, source: &[u8]) -> Result<Program, Failure>
+pub(crate) fn read_program(alloc: Global, source: &[u8]) -> Result<Program, Refusal>
     ensures { ReadsProgram source.now result }
 {
     let typed = check_source(alloc, source)?;
@@ -52,14 +52,14 @@ fn whole(term: &FTerm) -> Span
 }
 
 // Why a program with cells is not evaluated.
-fn of_cells(span: Span) -> Failure
-    ensures { result ≡ failed.Refused (fault.Source code.E19 span) }
+fn of_cells(span: Span) -> Refusal
+    ensures { result ≡ refusal.Fault (fault.Source code.E19 span) }
 {
-    Failure::Refused(Fault::Source(Code::E19, span))
+    Refusal::Fault(Fault::Source(Code::E19, span))
 }
 
 // The program of the text, which has no cells.
-pub(crate) fn read_cell_free(alloc: Global, source: &[u8]) -> Result<Program, Failure>
+pub(crate) fn read_cell_free(alloc: Global, source: &[u8]) -> Result<Program, Refusal>
     ensures { ReadsCellFree source.now result }
 {
     let program = read_program(alloc, source)?;

@@ -1,18 +1,22 @@
 // The command `check`.
 ghost use Rattle.talc_core.specs.FirstFault.{AnAssembly};
 ghost use Rattle.talc_core.specs.Shown.{ShowsAccepted};
-ghost use Rattle.talc_core.specs.Steps.{ShowsText, ShowsFile};
+ghost use Rattle.talc_core.specs.OnTexts.{ShowsText};
+ghost use Rattle.talc_core.specs.Steps.{ShowsFile};
 
 use crate::assembly::check_assembly;
-use crate::commands::{Ending, Reply, put_reply};
+use crate::commands::put_reply;
 use crate::outside::read_input;
+use crate::refusal::Refusal;
+use crate::reply::{Ending, Reply};
 use crate::report::Failure;
 use io_core::{Files, Sink};
 use std::alloc::Global;
 use t_rules::accepted_programs_are_never_stuck;
 
-// Says of an assembly text that its program is accepted.
-fn acceptance_reply(alloc: Global, text: &[u8]) -> Result<Reply, Failure>
+/// What `check` shows of an assembly text (TAL typing of the paper of 1999): that the typing rules accept its program,
+/// which then never gets stuck. Refuses a text by its first fault, or for want of memory.
+pub fn check_text(alloc: Global, text: &[u8]) -> Result<Reply, Refusal>
     ensures { ShowsText ShowsAccepted AnAssembly text.now result }
 {
     accepted_programs_are_never_stuck();
@@ -35,6 +39,6 @@ pub(crate) fn show_acceptance<F: Files, O: Sink>(
         (O.state out.old) (O.state out.new) result }
 {
     let text = read_input(alloc, files, input)?;
-    let reply = acceptance_reply(alloc, &text)?;
+    let reply = check_text(alloc, &text)?;
     put_reply(alloc, out, &reply)
 }

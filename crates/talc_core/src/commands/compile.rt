@@ -1,11 +1,13 @@
 // The command `compile`.
 ghost use Rattle.std.specs.Prelude.{◌≤◌};
 ghost use Rattle.talc_core.specs.FirstFault.{AProgram};
-ghost use Rattle.talc_core.specs.Compiled.{IsCompiled, IsCompiledWithin};
-ghost use Rattle.talc_core.specs.Steps.{MakesText, MakesFile};
+ghost use Rattle.talc_core.specs.CompiledText.{CompiledText, CompiledTextWithin};
+ghost use Rattle.talc_core.specs.OnTexts.{MakesText};
+ghost use Rattle.talc_core.specs.Steps.{MakesFile};
 
-use crate::commands::Ending;
 use crate::outside::{read_input, write_output};
+use crate::refusal::Refusal;
+use crate::reply::Ending;
 use crate::report::Failure;
 use crate::source::read_program;
 use io_core::Files;
@@ -13,9 +15,11 @@ use pipeline::{compile, compile_within};
 use std::alloc::Global;
 use t_writer::write2;
 
-// The assembly text that a source text is compiled to, or why there is none.
-pub(crate) fn compile_text(alloc: Global, source: &[u8]) -> Result<Vec<u8>, Failure>
-    ensures { MakesText IsCompiled AProgram source.now result }
+/// The assembly text that a source text is compiled to: the text of an accepted program that means the same, and comes
+/// of the source by the passes in turn (those of the paper of 1999). Refuses a text by its first fault, or for want of
+/// memory.
+pub fn compile_text(alloc: Global, source: &[u8]) -> Result<Vec<u8>, Refusal>
+    ensures { MakesText CompiledText AProgram source.now result }
 {
     let program = read_program(alloc, source)?;
     let compiled = compile(alloc, &program)?;
@@ -31,7 +35,7 @@ pub(crate) fn compile_file<F: Files>(
     input: &str,
     output: &str,
 ) -> Result<Ending, Failure>
-    ensures { MakesFile IsCompiled AProgram input.now output.now (F.state files.old) (F.state files.new) result }
+    ensures { MakesFile CompiledText AProgram input.now output.now (F.state files.old) (F.state files.new) result }
 {
     let source = read_input(alloc, files, input)?;
     let target = compile_text(alloc, &source)?;
@@ -39,10 +43,10 @@ pub(crate) fn compile_file<F: Files>(
     Ok(Ending::Ends)
 }
 
-// The assembly text within registers 1 to `registers` that a source text is compiled to, or why there is none.
-fn bounded_text(alloc: Global, source: &[u8], registers: u64) -> Result<Vec<u8>, Failure>
+/// The same within registers 1 to `registers` (own choice): a program that names a register above that is spilled.
+pub fn compile_text_within(alloc: Global, source: &[u8], registers: u64) -> Result<Vec<u8>, Refusal>
     requires { 8 ≤ registers }
-    ensures { MakesText (IsCompiledWithin registers) AProgram source.now result }
+    ensures { MakesText (CompiledTextWithin registers) AProgram source.now result }
 {
     let program = read_program(alloc, source)?;
     let bounded = compile_within(alloc, &program, registers)?;
@@ -59,11 +63,11 @@ pub(crate) fn compile_file_within<F: Files>(
     registers: u64,
 ) -> Result<Ending, Failure>
     requires { 8 ≤ registers }
-    ensures { MakesFile (IsCompiledWithin registers) AProgram input.now output.now
+    ensures { MakesFile (CompiledTextWithin registers) AProgram input.now output.now
         (F.state files.old) (F.state files.new) result }
 {
     let source = read_input(alloc, files, input)?;
-    let target = bounded_text(alloc, &source, registers)?;
+    let target = compile_text_within(alloc, &source, registers)?;
     write_output(alloc, files, output, &target)?;
     Ok(Ending::Ends)
 }

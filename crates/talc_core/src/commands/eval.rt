@@ -3,11 +3,14 @@ ghost use Rattle.std.specs.Prelude.{◌≡◌, IfOk};
 ghost use Rattle.talc_core.specs.FirstFault.{CellFree};
 ghost use Rattle.talc_core.specs.Lines.{value_line, more_turns_line};
 ghost use Rattle.talc_core.specs.Shown.{ShowsValue};
-ghost use Rattle.talc_core.specs.Steps.{ShowsText, ShowsFile};
+ghost use Rattle.talc_core.specs.OnTexts.{ShowsText};
+ghost use Rattle.talc_core.specs.Steps.{ShowsFile};
 
-use crate::commands::{Ending, Reply, put_reply};
+use crate::commands::put_reply;
 use crate::lines::more_line;
 use crate::outside::read_input;
+use crate::refusal::Refusal;
+use crate::reply::{Ending, Reply};
 use crate::report::Failure;
 use crate::source::read_cell_free;
 use f_eval::{Ended, eval};
@@ -35,8 +38,10 @@ fn more_turns_line(alloc: Global, turns: u64) -> Result<Vec<u8>, OutOfMemory>
     more_line(alloc, turns, b" turns\n")
 }
 
-// Says what a source text without cells evaluates to within so many turns.
-fn value_reply(alloc: Global, source: &[u8], turns: u64) -> Result<Reply, Failure>
+/// What `eval` shows of a source text without cells (evaluation of System F in the paper of 1999, by turns): the
+/// integer to which it evaluates within so many turns, and how many of them it took; or that it goes on after them.
+/// Refuses a text by its first fault, or for want of memory.
+pub fn eval_text(alloc: Global, source: &[u8], turns: u64) -> Result<Reply, Refusal>
     ensures { ShowsText (ShowsValue turns) CellFree source.now result }
 {
     let program = read_cell_free(alloc, source)?;
@@ -64,6 +69,6 @@ pub(crate) fn show_value<F: Files, O: Sink>(
         (O.state out.old) (O.state out.new) result }
 {
     let source = read_input(alloc, files, input)?;
-    let reply = value_reply(alloc, &source, turns)?;
+    let reply = eval_text(alloc, &source, turns)?;
     put_reply(alloc, out, &reply)
 }

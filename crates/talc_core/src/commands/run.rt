@@ -7,12 +7,15 @@ ghost use Rattle.t_machine.specs.Runs.{FirstRun};
 ghost use Rattle.talc_core.specs.FirstFault.{AnAssembly};
 ghost use Rattle.talc_core.specs.Lines.{integer_line, more_instructions_line};
 ghost use Rattle.talc_core.specs.Shown.{ShowsRun};
-ghost use Rattle.talc_core.specs.Steps.{ShowsText, ShowsFile};
+ghost use Rattle.talc_core.specs.OnTexts.{ShowsText};
+ghost use Rattle.talc_core.specs.Steps.{ShowsFile};
 
 use crate::assembly::check_assembly;
-use crate::commands::{Ending, Reply, put_reply};
+use crate::commands::put_reply;
 use crate::lines::more_line;
 use crate::outside::read_input;
+use crate::refusal::Refusal;
+use crate::reply::{Ending, Reply};
 use crate::report::Failure;
 use idx_core::OutOfMemory;
 use io_core::{Files, Sink};
@@ -49,8 +52,10 @@ pub(crate) fn first_run(alloc: Global, program: &Checked, fuel: u64) -> Result<R
     Ok(ran)
 }
 
-// Says how the program of an assembly text runs within so many instructions.
-fn run_reply(alloc: Global, text: &[u8], fuel: u64) -> Result<Reply, Failure>
+/// What `run` shows of an assembly text (the TAL machine of the paper of 1999): the integer with which its accepted
+/// program halts within `fuel` instructions, or that it goes on after them. Refuses a text by its first fault, or for
+/// want of memory.
+pub fn run_text(alloc: Global, text: &[u8], fuel: u64) -> Result<Reply, Refusal>
     ensures { ShowsText (ShowsRun fuel) AnAssembly text.now result }
 {
     let program = check_assembly(alloc, text)?;
@@ -63,7 +68,7 @@ fn run_reply(alloc: Global, text: &[u8], fuel: u64) -> Result<Reply, Failure>
             ending: Ending::GoesOn,
             line: more_instructions_line(alloc, fuel)?,
         }),
-        Ran::NoMemory { .. } => Err(Failure::Memory),
+        Ran::NoMemory { .. } => Err(Refusal::Memory),
     }
 }
 
@@ -79,6 +84,6 @@ pub(crate) fn show_run<F: Files, O: Sink>(
         (O.state out.old) (O.state out.new) result }
 {
     let text = read_input(alloc, files, input)?;
-    let reply = run_reply(alloc, &text, fuel)?;
+    let reply = run_text(alloc, &text, fuel)?;
     put_reply(alloc, out, &reply)
 }

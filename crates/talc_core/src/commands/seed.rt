@@ -16,12 +16,13 @@ ghost use Rattle.talc_core.specs.Shown.{seed_turns, SeedShown};
 ghost use Rattle.talc_core.specs.Steps.{OrMemory, Evaluated, HaltsSoonEnough, ShowsSeed};
 
 use crate::assembly::check_assembly;
-use crate::commands::Ending;
 use crate::commands::compile::compile_text;
 use crate::commands::eval::value_line;
 use crate::commands::run::{first_run, integer_line};
 use crate::laws::{no_fault_where_taken, texts_keep_laws};
 use crate::outside::{put_line, write_output};
+use crate::refusal::Refusal;
+use crate::reply::Ending;
 use crate::report::Failure;
 use crate::source::read_program;
 use f_check::Program;
@@ -69,7 +70,7 @@ fn seed_lines(
 }
 
 // The assembly text that the source of a seed is compiled to.
-fn compile_seed(alloc: Global, seed: u64, text: &[u8]) -> Result<Vec<u8>, Failure>
+fn compile_seed(alloc: Global, seed: u64, text: &[u8]) -> Result<Vec<u8>, Refusal>
     requires { text.now ≡ source seed }
     ensures { OrMemory (λ target. IsCompiled (source seed) target.items) result }
 {
@@ -79,7 +80,7 @@ fn compile_seed(alloc: Global, seed: u64, text: &[u8]) -> Result<Vec<u8>, Failur
 }
 
 // The program of the source of a seed.
-fn read_seed(alloc: Global, seed: u64, text: &[u8]) -> Result<Program, Failure>
+fn read_seed(alloc: Global, seed: u64, text: &[u8]) -> Result<Program, Refusal>
     requires { text.now ≡ source seed }
     ensures { OrMemory (λ program. IsChecked (source seed) (spanned (program_term program)) TInt) result }
 {
@@ -96,7 +97,7 @@ struct Evaluation {
 }
 
 // Evaluates the source of a seed.
-fn evaluate_seed(alloc: Global, seed: u64, text: &[u8]) -> Result<Evaluation, Failure>
+fn evaluate_seed(alloc: Global, seed: u64, text: &[u8]) -> Result<Evaluation, Refusal>
     requires { text.now ≡ source seed }
     ensures { OrMemory (λ e. Evaluated seed e.value e.used) result }
 {
@@ -111,7 +112,7 @@ fn evaluate_seed(alloc: Global, seed: u64, text: &[u8]) -> Result<Evaluation, Fa
 }
 
 // The program of a text that was compiled, accepted.
-fn check_target(alloc: Global, target: &[u8]) -> Result<Checked, Failure>
+fn check_target(alloc: Global, target: &[u8]) -> Result<Checked, Refusal>
     requires { ∥ IsTaken AnAssembly target.now ∥₁ }
     ensures { OrMemory (λ checked. IsAcceptedText target.now (spanned_program (checked_program checked))) result }
 {
@@ -133,23 +134,23 @@ fn enough_fuel(program: &TProgram) -> Option<u64>
 
 // The integer with which a compiled program halts. A program of which 64 bits don't count the instructions is as one
 // that memory doesn't hold.
-fn halting_value(alloc: Global, program: &Checked) -> Result<i64, Failure>
+fn halting_value(alloc: Global, program: &Checked) -> Result<i64, Refusal>
     requires accepted { Accepted (program_of (checked_program program.now)) }
     requires soon { HaltsSoonEnough (program_of (checked_program program.now)) }
     ensures { OrMemory (λ i. Halts (program_of (checked_program program.now)) i) result }
 {
     let Some(fuel) = enough_fuel(program.program()) else {
-        return Err(Failure::Memory);
+        return Err(Refusal::Memory);
     };
     match first_run(alloc, program, fuel)? {
         Ran::Halted { value, .. } => Ok(value),
         Ran::Spent => unreachable!(),
-        Ran::NoMemory { .. } => Err(Failure::Memory),
+        Ran::NoMemory { .. } => Err(Refusal::Memory),
     }
 }
 
 // Does the work of `compile`, `eval`, `check` and `run` on the source of a seed, and says what comes of it.
-fn work_on_seed(alloc: Global, seed: u64, text: &[u8]) -> Result<Vec<u8>, Failure>
+fn work_on_seed(alloc: Global, seed: u64, text: &[u8]) -> Result<Vec<u8>, Refusal>
     requires { text.now ≡ source seed }
     ensures { OrMemory (λ lines. SeedShown seed lines.items) result }
 {

@@ -10,14 +10,17 @@ ghost use Rattle.t_check.specs.Walks.{IsWalk, walked};
 ghost use Rattle.t_machine.specs.Runs.{Stands, words_in};
 ghost use Rattle.talc_core.specs.FirstFault.{AnAssembly};
 ghost use Rattle.talc_core.specs.Shown.{ShowsTrace};
-ghost use Rattle.talc_core.specs.Steps.{ShowsText, ShowsFile};
+ghost use Rattle.talc_core.specs.OnTexts.{ShowsText};
+ghost use Rattle.talc_core.specs.Steps.{ShowsFile};
 ghost use Rattle.talc_core.specs.Traced.{HaveWords, IsLine, AreLines, HaltedStates, RunningStates};
 ghost use Rattle.talc_core.specs.Tracing.{HaveAll, AddsLine, StatesShown};
 
 use crate::assembly::check_assembly;
+use crate::commands::put_reply;
 use crate::commands::run::{first_run, integer_line, more_instructions_line};
-use crate::commands::{Ending, Reply, put_reply};
 use crate::outside::read_input;
+use crate::refusal::Refusal;
+use crate::reply::{Ending, Reply};
 use crate::report::Failure;
 use idx_core::OutOfMemory;
 use io_core::{Files, Sink};
@@ -213,12 +216,14 @@ fn states(alloc: Global, program: &Checked, window: Window) -> Result<Reply, Out
     Ok(reply)
 }
 
-// The states of the program of an assembly text.
-fn trace_reply(alloc: Global, text: &[u8], window: Window) -> Result<Reply, Failure>
-    ensures { ShowsText (ShowsTrace window.from window.to) AnAssembly text.now result }
+/// What `trace` shows of an assembly text (own choice): the states of its accepted program from the one after `from`
+/// instructions to the one after `to`, a line each, and what `run` shows of it within `to` instructions. Refuses a text
+/// by its first fault, or for want of memory.
+pub fn trace_text(alloc: Global, text: &[u8], from: u64, to: u64) -> Result<Reply, Refusal>
+    ensures { ShowsText (ShowsTrace from to) AnAssembly text.now result }
 {
     let program = check_assembly(alloc, text)?;
-    let reply = states(alloc, &program, window)?;
+    let reply = states(alloc, &program, Window { from, to })?;
     Ok(reply)
 }
 
@@ -235,6 +240,6 @@ pub(crate) fn show_trace<F: Files, O: Sink>(
         (O.state out.old) (O.state out.new) result }
 {
     let text = read_input(alloc, files, input)?;
-    let reply = trace_reply(alloc, &text, window)?;
+    let reply = trace_text(alloc, &text, window.from, window.to)?;
     put_reply(alloc, out, &reply)
 }

@@ -5,10 +5,13 @@ ghost use Rattle.f_terms.specs.Read.{tree};
 ghost use Rattle.talc_core.specs.FirstFault.{AnyTerm};
 ghost use Rattle.talc_core.specs.Lines.{type_line};
 ghost use Rattle.talc_core.specs.Shown.{ShowsType};
-ghost use Rattle.talc_core.specs.Steps.{ShowsText, ShowsFile};
+ghost use Rattle.talc_core.specs.OnTexts.{ShowsText};
+ghost use Rattle.talc_core.specs.Steps.{ShowsFile};
 
-use crate::commands::{Ending, Reply, put_reply};
+use crate::commands::put_reply;
 use crate::outside::read_input;
+use crate::refusal::Refusal;
+use crate::reply::{Ending, Reply};
 use crate::report::Failure;
 use crate::source::check_source;
 use f_terms::{FType, type_text};
@@ -26,8 +29,9 @@ fn type_line(alloc: Global, ty: &FType) -> Result<Vec<u8>, OutOfMemory>
     Ok(line)
 }
 
-// Says the type of a source text.
-fn type_reply(alloc: Global, source: &[u8]) -> Result<Reply, Failure>
+/// What `typeof` shows of a source text (typing of System F in the paper of 1999): the type of its term. Refuses a text
+/// by its first fault, or for want of memory.
+pub fn type_of_text(alloc: Global, source: &[u8]) -> Result<Reply, Refusal>
     ensures { ShowsText ShowsType AnyTerm source.now result }
 {
     let typed = check_source(alloc, source)?;
@@ -49,6 +53,6 @@ pub(crate) fn show_type<F: Files, O: Sink>(
         (O.state out.old) (O.state out.new) result }
 {
     let source = read_input(alloc, files, input)?;
-    let reply = type_reply(alloc, &source)?;
+    let reply = type_of_text(alloc, &source)?;
     put_reply(alloc, out, &reply)
 }

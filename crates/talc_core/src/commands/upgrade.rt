@@ -1,19 +1,22 @@
 // The command `upgrade`.
 ghost use Rattle.talc_core.specs.FirstFault.{AnAssembly};
 ghost use Rattle.talc_core.specs.Upgraded.{IsUpgraded};
-ghost use Rattle.talc_core.specs.Steps.{MakesText, MakesFile};
+ghost use Rattle.talc_core.specs.OnTexts.{MakesText};
+ghost use Rattle.talc_core.specs.Steps.{MakesFile};
 
 use crate::assembly::check_assembly;
-use crate::commands::Ending;
 use crate::outside::{read_input, write_output};
+use crate::refusal::Refusal;
+use crate::reply::Ending;
 use crate::report::Failure;
 use io_core::Files;
 use std::alloc::Global;
 use t_terms::keeps_by_nesting;
 use t_writer::write2;
 
-// The program of an assembly text, accepted, as a text in the newest version of the language, or why there is none.
-fn upgrade_text(alloc: Global, text: &[u8]) -> Result<Vec<u8>, Failure>
+/// The accepted program of an assembly text as a text in the newest version of the language (own choice). Refuses a
+/// text by its first fault, or for want of memory.
+pub fn upgrade_text(alloc: Global, text: &[u8]) -> Result<Vec<u8>, Refusal>
     ensures { MakesText IsUpgraded AnAssembly text.now result }
 {
     keeps_by_nesting();

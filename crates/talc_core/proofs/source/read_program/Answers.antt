@@ -3,7 +3,7 @@ use Rattle.f_terms.specs.Read.{tree}
 use Rattle.f_terms.specs.ReadTerm.{spanned}
 use Rattle.f_check.specs.Typed.{typed_term, typed_type}
 use Rattle.talc_core.specs.FirstFault.{AProgram}
-use Rattle.talc_core.specs.Steps.{RefusedBy}
+use Rattle.talc_core.specs.OnTexts.{RefusedBy}
 use Rattle.talc_core.proofs.SourceLemmas.{no_program}
 use Rattle.talc_core.proofs.source.read_program.Goals as goal
 

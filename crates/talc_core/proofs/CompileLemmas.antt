@@ -1,0 +1,66 @@
+-- What `compile` makes of a source text, from what its program is compiled to and how that is written.
+use Rattle.std.proofs.Common.{ℕ, List}
+use Rattle.std.proofs.Math.Bridge.{le_prop}
+use Rattle.std.proofs.Math.Logic.{∥∥₁_map, ∥∥₁_elim}
+use Rattle.f_terms.specs.Ty.{TInt}
+use Rattle.f_terms.specs.Tm.{Tm, plain}
+use Rattle.t_terms.specs.ReadProgram.{program}
+use Rattle.t_terms.specs.declared.program.TProgram.{TProgram}
+use Rattle.t_rules.specs.Rules.{Accepted}
+use Rattle.pipeline.specs.Meaning.{SameMeaning, RunsSeldom, HaltsSoon}
+use Rattle.pipeline.specs.Compilation.{IsCompilation, IsCompilationWithin}
+use Rattle.talc_core.specs.FirstFault.{IsChecked}
+use Rattle.talc_core.specs.Written.{IsWritten}
+use Rattle.talc_core.specs.Compiled.{IsCompiled}
+use Rattle.talc_core.specs.CompiledText.{CompiledText, CompiledTextWithin}
+
+module _ (source target : List ℕ) (term : Tm) (p : TProgram) (checked : IsChecked source term TInt)
+    (written : IsWritten (program p) target) where
+  abbrev means : ∥ Accepted (program p) ∥₁ → ∥ SameMeaning (plain term) (program p) ∥₁ →
+      ∥ RunsSeldom (plain term) (program p) ∥₁ → ∥ HaltsSoon (plain term) (program p) ∥₁ → IsCompiled source target
+  means accepted meaning seldom soon = record {
+    term = term;
+    program = program p;
+    checked = checked;
+    written = written;
+    whole = p.whole;
+    accepted = accepted;
+    meaning = meaning;
+    seldom = λ n i ev m s q run block index. ∥∥₁_elim seldom le_prop (λ few. few n i ev m s q run block index);
+    soon = soon;
+  }
+
+  pub compiled_text : ∥ IsCompilation (plain term) (program p) ∥₁ → CompiledText source target
+  compiled_text made = record {
+    compiled = means (∥∥₁_map made (λ c. c.accepted)) (∥∥₁_map made (λ c. c.meaning))
+        (∥∥₁_map made (λ c. c.seldom)) (∥∥₁_map made (λ c. c.soon));
+    translated = record {
+      term = term;
+      program = program p;
+      checked = checked;
+      written = written;
+      translation = ∥∥₁_map made (λ c. c.translation);
+    };
+  }
+
+  pub compiled_text_within : (k : ℕ) → ∥ IsCompilationWithin k (plain term) (program p) ∥₁ →
+      CompiledTextWithin k source target
+  compiled_text_within k made = record {
+    compiled = record {
+      compiled = means (∥∥₁_map made (λ c. c.accepted)) (∥∥₁_map made (λ c. c.meaning))
+          (∥∥₁_map made (λ c. c.seldom)) (∥∥₁_map made (λ c. c.soon));
+      few = ∥∥₁_map made (λ c. c.few);
+    };
+    translated = record {
+      term = term;
+      program = program p;
+      checked = checked;
+      written = written;
+      translation = ∥∥₁_map made (λ c. record {
+        translated = c.translated;
+        translation = c.translation;
+        stays = c.stays;
+        framed = c.framed;
+      });
+    };
+  }

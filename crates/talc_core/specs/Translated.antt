@@ -1,0 +1,35 @@
+-- When a target text comes of a source text by the passes' rules.
+use Rattle.std.specs.Prelude.{◌≡◌, ℕ, List}
+use Rattle.f_terms.specs.Ty.{TInt}
+use Rattle.f_terms.specs.Tm.{Term, Tm, plain}
+use Rattle.t_terms.specs.Tree.{TProg}
+use Rattle.spill_law.specs.Bound.{RegistersUpTo}
+use Rattle.spill_law.specs.Spill.{spilled}
+use Rattle.pipeline.specs.Compilation.{IsTranslation}
+use Rattle.talc_core.specs.FirstFault.{IsChecked}
+use Rattle.talc_core.specs.Written.{IsWritten}
+
+-- The source text is a text of a program, and the target text the one that is written of a translation of it by the
+-- passes in turn.
+pub record IsTranslated (source target : List ℕ) : Type 0 where
+  pub term : Tm
+  pub program : TProg
+  pub checked : IsChecked source term TInt
+  pub written : IsWritten program target
+  pub translation : ∥ IsTranslation (plain term) program ∥₁
+
+-- The program is a translation of the term where that names no register above k, and else what such a one is spilled
+-- to.
+pub record IsTranslationWithin (k : ℕ) (e : Term) (P : TProg) : Type 0 where
+  pub translated : TProg
+  pub translation : IsTranslation e translated
+  pub stays : RegistersUpTo k translated → P ≡ translated
+  pub framed : (RegistersUpTo k translated → ⊥) → P ≡ spilled translated
+
+-- The same of a target text within registers 1 to k.
+pub record IsTranslatedWithin (k : ℕ) (source target : List ℕ) : Type 0 where
+  pub term : Tm
+  pub program : TProg
+  pub checked : IsChecked source term TInt
+  pub written : IsWritten program target
+  pub translation : ∥ IsTranslationWithin k (plain term) program ∥₁

@@ -9,6 +9,7 @@ use Rattle.t_terms.specs.declared.program.TProgram.{TProgram}
 use Rattle.t_rules.specs.Rules.{Accepted}
 use Rattle.pipeline.specs.Meaning.{SameMeaning, RunsSeldom, HaltsSoon}
 use Rattle.pipeline.specs.Compilation.{IsCompilation, IsCompilationWithin}
+use Rattle.pipeline.specs.Work.{HasBlocks, SameWeights, WorkWithin}
 use Rattle.talc_core.specs.FirstFault.{IsChecked}
 use Rattle.talc_core.specs.Written.{IsWritten}
 use Rattle.talc_core.specs.Compiled.{IsCompiled}
@@ -30,8 +31,9 @@ module _ (source target : List ℕ) (term : Tm) (p : TProgram) (checked : IsChec
     soon = soon;
   }
 
-  pub compiled_text : ∥ IsCompilation (plain term) (program p) ∥₁ → CompiledText source target
-  compiled_text made = record {
+  pub compiled_text : ∥ IsCompilation (plain term) (program p) ∥₁ → HasBlocks (plain term) (program p) →
+      SameWeights (plain term) (program p) → CompiledText source target
+  compiled_text made blocks weights = record {
     compiled = means (∥∥₁_map made (λ c. c.accepted)) (∥∥₁_map made (λ c. c.meaning))
         (∥∥₁_map made (λ c. c.seldom)) (∥∥₁_map made (λ c. c.soon));
     translated = record {
@@ -41,11 +43,13 @@ module _ (source target : List ℕ) (term : Tm) (p : TProgram) (checked : IsChec
       written = written;
       translation = ∥∥₁_map made (λ c. c.translation);
     };
+    blocks = blocks;
+    weights = weights;
   }
 
   pub compiled_text_within : (k : ℕ) → ∥ IsCompilationWithin k (plain term) (program p) ∥₁ →
-      CompiledTextWithin k source target
-  compiled_text_within k made = record {
+      WorkWithin (plain term) (program p) → CompiledTextWithin k source target
+  compiled_text_within k made work = record {
     compiled = record {
       compiled = means (∥∥₁_map made (λ c. c.accepted)) (∥∥₁_map made (λ c. c.meaning))
           (∥∥₁_map made (λ c. c.seldom)) (∥∥₁_map made (λ c. c.soon));
@@ -63,4 +67,5 @@ module _ (source target : List ℕ) (term : Tm) (p : TProgram) (checked : IsChec
         framed = c.framed;
       });
     };
+    work = work;
   }

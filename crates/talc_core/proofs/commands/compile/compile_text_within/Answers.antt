@@ -13,4 +13,4 @@ returns c =
     let text = written target made _ c.program.ensures.same c.in_ok-bounded.ensures.shallow
     c.in_ok-target.ensures.same c.in_ok-target.ensures.reads in
     compiled_text_within c.args.source.now target term made c.in_ok-program.ensures text
-    c.args.registers c.in_ok-bounded.ensures.compiled
+    c.args.registers c.in_ok-bounded.ensures.compiled c.in_ok-bounded.ensures.work

@@ -14,7 +14,8 @@ use Rattle.t_rules.specs.Rules.{Accepted}
 use Rattle.t_rules.specs.Machine.{HaltsWithin, GoesOnAfter}
 use Rattle.t_rules.specs.Times.{program_size}
 use Rattle.spill_law.specs.Bound.{RegistersUpTo}
-use Rattle.pipeline.specs.Meaning.{SameMeaning, HaltsSoon}
+use Rattle.pipeline.specs.Meaning.{SameMeaning, RunsSeldom, HaltsSoon}
+use Rattle.t_machine.specs.Seldom.{SeldomRunsAreCovered}
 use Rattle.talc_core.specs.FirstFault.{AnAssembly, IsChecked, IsAcceptedText, IsTaken}
 use Rattle.talc_core.specs.declared.status.Status.{Status}
 use Rattle.talc_core.specs.declared.status.Status.TheVariants.{Done, Refused, Usage, Limit, Budget, ReadFault, WriteFault, Memory}
@@ -26,7 +27,7 @@ use Rattle.talc_core.specs.Shown.{ShowsRun, ShowsTrace}
 use Rattle.talc_core.specs.Traced.{HaltedStates, RunningStates}
 use Rattle.talc_core.specs.Composition.{CompiledIsTaken, CompiledMeansTheSame, CompiledShowsTheSame}
 use Rattle.talc_core.specs.Composition.{CompiledRunsAreEvaluations, CompiledRunsAreShown, CompiledEvaluationsRun}
-use Rattle.talc_core.specs.Composition.{CompiledValuesRun, CompiledNeverSticks, CompiledGoesOn}
+use Rattle.talc_core.specs.Composition.{CompiledValuesRun, CompiledIsCovered, CompiledNeverSticks, CompiledGoesOn}
 use Rattle.talc_core.specs.Composition.{BoundedIsTaken, BoundedMeansTheSame, BoundedShowsTheSame, BoundedHasFewRegisters}
 use Rattle.talc_core.specs.Composition.{UpgradedIsTaken, UpgradedNeverSticks, UpgradedIsTheSame, UpgradedRunsTheSame}
 use Rattle.talc_core.specs.Composition.{UpgradedTracesTheSame}
@@ -70,12 +71,22 @@ module _ (laws : TextLaws) (source target : List ℕ) (made : IsCompiled source 
       ∥ HaltsSoon (plain term) (plain_program program) ∥₁
   halts_soon = both (λ e P. ∥ HaltsSoon e P ∥₁) made.soon
 
+  pub runs_seldom : (term : Tm) → IsChecked source term TInt → (program : SProg) → IsAcceptedText target program →
+      RunsSeldom (plain term) (plain_program program)
+  runs_seldom = both RunsSeldom made.seldom
+
   pub whole : (program : SProg) → IsAcceptedText target program → Whole (plain_program program)
   whole program accepted = subst Whole (sym (same_assembly program accepted)) made.whole
 
 pub compiled_means_the_same : TextLaws → CompiledMeansTheSame
 compiled_means_the_same laws source target made term checked program accepted =
     means laws source target made term checked program accepted
+
+pub compiled_is_covered : TextLaws → SeldomRunsAreCovered → CompiledIsCovered
+compiled_is_covered laws covered source target made term checked turns value evaluates program accepted =
+    covered (plain_program program) (turns + 1)
+    (λ m s p run block index.
+    runs_seldom laws source target made term checked program accepted turns value evaluates m s p run block index)
 
 pub compiled_runs_are_evaluations : TextLaws → CompiledRunsAreEvaluations
 compiled_runs_are_evaluations laws source target ran made fuel halted term checked =

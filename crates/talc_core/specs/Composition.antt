@@ -1,5 +1,5 @@
 -- What the commands do with a text that `compile` or `upgrade` wrote.
-use Rattle.std.specs.Prelude.{◌≡◌, ◌↔◌, ◌+◌, ◌*◌, ℕ, ℤ, List, false}
+use Rattle.std.specs.Prelude.{◌≡◌, ◌↔◌, ◌+◌, ◌*◌, ◌≤◌, ℕ, ℤ, List, false}
 use Rattle.talc_core.specs.declared.status.Status.{Status}
 use Rattle.f_terms.specs.Ty.{TInt}
 use Rattle.f_terms.specs.Tm.{Tm, plain}
@@ -9,6 +9,8 @@ use Rattle.t_terms.specs.Spanned.{SProg, plain_program}
 use Rattle.t_terms.specs.Tree.{TProg}
 use Rattle.t_rules.specs.Machine.{NeverSticks, GoesOnAfter}
 use Rattle.t_rules.specs.Times.{program_size}
+use Rattle.t_machine.specs.Room.{Covers}
+use Rattle.t_machine.specs.Seldom.{mallocs, malloc_fields}
 use Rattle.spill_law.specs.Bound.{RegistersUpTo}
 use Rattle.pipeline.specs.Meaning.{SameMeaning}
 use Rattle.talc_core.specs.FirstFault.{AnAssembly, IsChecked, IsAssembly, IsAcceptedText, IsTaken}
@@ -64,6 +66,17 @@ CompiledValuesRun =
     (source target evaluated : List ℕ) → IsCompiled source target →
     (turns : ℕ) → (shown : ValueShown turns source evaluated) → (program : SProg) → IsAcceptedText target program →
     HaltedShown ((turns + 1) * program_size (plain_program program)) target (integer_line shown.value)
+
+-- where n turns are enough for the source, n + 1 times its `malloc`s, and as often their fields, are memory enough for
+-- any number of its instructions: with so many spare `run` never wants memory
+abbrev pub CompiledIsCovered : Type 0
+CompiledIsCovered =
+    (source target : List ℕ) → IsCompiled source target →
+    (term : Tm) → IsChecked source term TInt → (turns : ℕ) (value : ℤ) → Evaluates (plain term) turns value →
+    (program : SProg) → IsAcceptedText target program → (tuples fields : ℕ) →
+    (turns + 1) * mallocs (plain_program program) ≤ tuples →
+    (turns + 1) * malloc_fields (plain_program program) ≤ fields →
+    (steps : ℕ) → Covers (plain_program program) 0 steps tuples fields
 
 -- it never sticks
 abbrev pub CompiledNeverSticks : Type 0

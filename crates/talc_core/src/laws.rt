@@ -4,7 +4,7 @@ ghost use Rattle.talc_core.specs.FirstFault.{OneFault, NoFaultWhereTaken, TakenO
 ghost use Rattle.talc_core.specs.Composition.{CompiledIsTaken, CompiledMeansTheSame, CompiledShowsTheSame};
 ghost use Rattle.talc_core.specs.Composition.{CompiledRunsAreEvaluations, CompiledRunsAreShown};
 ghost use Rattle.talc_core.specs.Composition.{CompiledEvaluationsRun, CompiledValuesRun};
-ghost use Rattle.talc_core.specs.Composition.{CompiledNeverSticks, CompiledGoesOn, CompiledIsKept};
+ghost use Rattle.talc_core.specs.Composition.{CompiledNeverSticks, CompiledGoesOn, CompiledIsKept, CompiledIsCovered};
 ghost use Rattle.talc_core.specs.Composition.{BoundedIsTaken, BoundedMeansTheSame, BoundedShowsTheSame};
 ghost use Rattle.talc_core.specs.Composition.{BoundedHasFewRegisters};
 ghost use Rattle.talc_core.specs.Composition.{UpgradedIsTaken, UpgradedIsTheSame, UpgradedRunsTheSame};
@@ -20,6 +20,7 @@ use f_terms::{
     evaluation_leaves_at_most_its_turns, no_fault_beside_a_pass, one_answer, one_type,
     pass_or_fault, passes_where_typed, programs_are_never_stuck,
 };
+use t_machine::seldom_runs_are_covered;
 use t_rules::{
     accepted_or_fault, accepted_programs_are_never_stuck, accepted_programs_go_on,
     erased_words_are_of_their_kind, no_fault_where_accepted, places_are_known, runs_are_unique,
@@ -124,6 +125,15 @@ pub fn compiled_values_run()
     ensures { CompiledValuesRun }
 {
     texts_keep_laws();
+}
+
+/// Where n turns are enough for the source, n + 1 times the `malloc`s of what `compile` wrote, and as often their
+/// fields, are memory enough for any number of its instructions: with so many spare a run of it never wants memory.
+pub fn compiled_is_covered()
+    ensures { CompiledIsCovered }
+{
+    texts_keep_laws();
+    seldom_runs_are_covered();
 }
 
 /// What `compile` wrote never sticks.

@@ -23,12 +23,13 @@ pub use commands::{
 pub use fault::Fault;
 pub use laws::{
     bounded_has_few_registers, bounded_is_taken, bounded_means_the_same, bounded_shows_the_same,
-    compiled_evaluations_run, compiled_goes_on, compiled_is_kept, compiled_is_taken,
-    compiled_means_the_same, compiled_never_sticks, compiled_runs_are_evaluations,
-    compiled_runs_are_shown, compiled_shows_the_same, compiled_values_run, lines_show_kinds,
-    no_fault_where_taken, one_fault, one_line, one_trace, one_upgrade, one_written_text,
-    taken_or_fault, trace_ends_as_run, upgraded_is_kept, upgraded_is_taken, upgraded_is_the_same,
-    upgraded_never_sticks, upgraded_runs_the_same, upgraded_traces_the_same,
+    compiled_evaluations_run, compiled_goes_on, compiled_is_covered, compiled_is_kept,
+    compiled_is_taken, compiled_means_the_same, compiled_never_sticks,
+    compiled_runs_are_evaluations, compiled_runs_are_shown, compiled_shows_the_same,
+    compiled_values_run, lines_show_kinds, no_fault_where_taken, one_fault, one_line, one_trace,
+    one_upgrade, one_written_text, taken_or_fault, trace_ends_as_run, upgraded_is_kept,
+    upgraded_is_taken, upgraded_is_the_same, upgraded_never_sticks, upgraded_runs_the_same,
+    upgraded_traces_the_same,
 };
 pub use lines::fault_line;
 pub use refusal::Refusal;

@@ -14,6 +14,7 @@ mod memory;
 mod outside_rows;
 mod seed_rows;
 mod source_rows;
+mod text_rows;
 mod trace_rows;
 mod upgrade_rows;
 mod value_rows;

@@ -42,7 +42,7 @@ fn copied_wrap(alloc: Global, wrap: &AWrap) -> Result<AWrap, OutOfMemory>
 fn copied_wraps(alloc: Global, wraps: &[AWrap]) -> Result<Vec<AWrap>, OutOfMemory>
     ensures { IfOk result (λ r. (v : a.AVal) → tree.wrapped v r.items ≡ tree.wrapped v wraps.now) }
 {
-    let mut made = Vec::new(alloc);
+    let mut made = Vec::with_capacity(alloc, wraps.len())?;
     for wrap in wraps {
         let one = copied_wrap(alloc, wrap)?;
         made.push(one)?;
@@ -188,7 +188,7 @@ fn applied_label(alloc: Global, l: u64, types: &[AType]) -> Result<AValue, OutOf
     ensures { IfOk result (λ r. a_value r ≡ a.Apply (a.Lab l) (atrees types.now)) }
 {
     let types = copies(alloc, types)?;
-    let mut wraps = Vec::new(alloc);
+    let mut wraps = Vec::with_capacity(alloc, 1)?;
     wraps.push(AWrap::Apply(types))?;
     Ok(AValue {
         base: ABase::Label(l),
@@ -289,7 +289,7 @@ fn constant_fields(
     ensures { IfOk result (λ r. a_consts r.items ≡
         map (field_at (scope binders names.now) (knowns names.now)) fields.items) }
 {
-    let mut made = Vec::new(alloc);
+    let mut made = Vec::with_capacity(alloc, fields.len())?;
     for field in fields {
         let one = constant_field(alloc, names, binders, field)?;
         made.push(one)?;
@@ -301,7 +301,7 @@ fn constant_fields(
 fn tuple_type(alloc: Global, fields: &[(AValue, AType)]) -> Result<AType, OutOfMemory>
     ensures { IfOk result (λ r. atree r ≡ a.ATuple (data_fields (a_consts fields.now))) }
 {
-    let mut made = Vec::new(alloc);
+    let mut made = Vec::with_capacity(alloc, fields.len())?;
     for field in fields {
         let one = copy(alloc, &field.1)?;
         made.push((one, true))?;

@@ -53,7 +53,7 @@ fn all_blocks(
     ensures keeps { OnOk result (a_data tuples.new.items ≡ data_all (h_blocks blocks.now) 0 (h_blocks blocks.now)) }
     ensures right { IfOk result (λ r. ARows r.items) }
 {
-    let mut made = Vec::new(alloc);
+    let mut made = Vec::with_capacity(alloc, blocks.len())?;
     for one in blocks {
         let b = block(alloc, blocks, one, tuples)?;
         made.push(b)?;

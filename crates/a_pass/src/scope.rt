@@ -193,7 +193,7 @@ pub(crate) fn own_all(
 ) -> Result<Vec<AType>, OutOfMemory>
     ensures { IfOk result (λ r. map atree r.items ≡ map (type_in (scope binders names.now)) types.items) }
 {
-    let mut made = Vec::new(alloc);
+    let mut made = Vec::with_capacity(alloc, types.len())?;
     for ty in types {
         let one = own_type(alloc, names, binders, ty)?;
         made.push(one)?;

@@ -34,7 +34,7 @@ pub(crate) fn a_type(alloc: Global, t: &CType) -> Result<AType, OutOfMemory>
         }
         CType::Ref(inner) => {
             let inside = a_type(alloc, inner)?;
-            let mut field = Vec::new(alloc);
+            let mut field = Vec::with_capacity(alloc, 1)?;
             field.push((inside, true))?;
             Ok(AType::Tuple(field))
         }
@@ -46,7 +46,7 @@ pub(crate) fn a_type(alloc: Global, t: &CType) -> Result<AType, OutOfMemory>
 pub(crate) fn a_types(alloc: Global, ts: &[CType]) -> Result<Vec<AType>, OutOfMemory>
     ensures { IfOk result (λ r. atrees r.items ≡ atypes (ctys ts.now)) }
 {
-    let mut made = Vec::new(alloc);
+    let mut made = Vec::with_capacity(alloc, ts.len())?;
     for t in ts {
         let one = a_type(alloc, t)?;
         made.push(one)?;
@@ -59,7 +59,7 @@ pub(crate) fn a_types(alloc: Global, ts: &[CType]) -> Result<Vec<AType>, OutOfMe
 fn a_fields(alloc: Global, ts: &[CType]) -> Result<Vec<(AType, bool)>, OutOfMemory>
     ensures { IfOk result (λ r. afields r.items ≡ afull (ctys ts.now)) }
 {
-    let mut made = Vec::new(alloc);
+    let mut made = Vec::with_capacity(alloc, ts.len())?;
     for t in ts {
         let one = a_type(alloc, t)?;
         made.push((one, true))?;

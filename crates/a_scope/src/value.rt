@@ -46,7 +46,7 @@ fn label(alloc: Global, blocks: &[ABlock], l: u64) -> Result<Option<AType>, OutO
 fn full_tuple(alloc: Global, consts: &[(AValue, AType)]) -> Result<AType, OutOfMemory>
     ensures { IfOk result (λ r. atree r ≡ ATuple (data_fields (a_consts consts.now))) }
 {
-    let mut fields = Vec::new(alloc);
+    let mut fields = Vec::with_capacity(alloc, consts.len())?;
     for c in consts {
         let one = copy(alloc, &c.1)?;
         fields.push((one, true))?;

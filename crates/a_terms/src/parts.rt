@@ -181,7 +181,7 @@ pub fn filled_of(ty: Option<AType>, i: u64) -> AType
 pub fn unset_tuple(alloc: Global, types: &[AType]) -> Result<AType, OutOfMemory>
     ensures { IfOk result (λ r. atree r ≡ ATuple (aunset (atrees types.now))) }
 {
-    let mut fields = Vec::new(alloc);
+    let mut fields = Vec::with_capacity(alloc, types.len())?;
     for t in types {
         let one = copy(alloc, t)?;
         fields.push((one, false))?;
@@ -193,7 +193,7 @@ pub fn unset_tuple(alloc: Global, types: &[AType]) -> Result<AType, OutOfMemory>
 pub fn set_tuple(alloc: Global, types: &[AType]) -> Result<AType, OutOfMemory>
     ensures { IfOk result (λ r. atree r ≡ ATuple (aset (atrees types.now))) }
 {
-    let mut fields = Vec::new(alloc);
+    let mut fields = Vec::with_capacity(alloc, types.len())?;
     for t in types {
         let one = copy(alloc, t)?;
         fields.push((one, true))?;

@@ -65,7 +65,7 @@ pub fn shift_type(alloc: Global, t: &AType, by: u64, d: u64) -> Result<AType, Ou
 pub fn shift_all(alloc: Global, ts: &[AType], by: u64, d: u64) -> Result<Vec<AType>, OutOfMemory>
     ensures { IfOk result (λ r. atrees r.items ≡ over_types (shifted AVar by) d (atrees ts.now)) }
 {
-    let mut made = Vec::new(alloc);
+    let mut made = Vec::with_capacity(alloc, ts.len())?;
     for t in ts {
         let one = shift_type(alloc, t, by, d)?;
         made.push(one)?;
@@ -82,7 +82,7 @@ fn shift_fields(
 ) -> Result<Vec<(AType, bool)>, OutOfMemory>
     ensures { IfOk result (λ r. afields r.items ≡ over_fields (shifted AVar by) d (afields ts.now)) }
 {
-    let mut made = Vec::new(alloc);
+    let mut made = Vec::with_capacity(alloc, ts.len())?;
     for t in ts {
         let one = shift_type(alloc, &t.0, by, d)?;
         made.push((one, t.1))?;
@@ -164,7 +164,7 @@ pub fn put_all(
     requires { c ≤ d }
     ensures { IfOk result (λ r. atrees r.items ≡ over_types (putted AVar over c (atree s.now)) d (atrees ts.now)) }
 {
-    let mut made = Vec::new(alloc);
+    let mut made = Vec::with_capacity(alloc, ts.len())?;
     for t in ts {
         let one = put_type(alloc, t, s, c, d)?;
         made.push(one)?;
@@ -183,7 +183,7 @@ fn put_fields(
     requires { c ≤ d }
     ensures { IfOk result (λ r. afields r.items ≡ over_fields (putted AVar over c (atree s.now)) d (afields ts.now)) }
 {
-    let mut made = Vec::new(alloc);
+    let mut made = Vec::with_capacity(alloc, ts.len())?;
     for t in ts {
         let one = put_type(alloc, &t.0, s, c, d)?;
         made.push((one, t.1))?;

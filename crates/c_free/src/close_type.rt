@@ -18,7 +18,7 @@ fn closure_type(alloc: Global, owes: u64, args: Vec<CType>) -> Result<CType, Out
     ensures { IfOk result
         (λ r. ctree r ≡ TCSome (TCTuple (MoreCTys (TCCode owes (ctys args.items)) (MoreCTys (TCVar 0) NoCTys)))) }
 {
-    let mut parts = Vec::new(alloc);
+    let mut parts = Vec::with_capacity(alloc, 2)?;
     parts.push(CType::Code { owes, args })?;
     parts.push(CType::Var(0))?;
     let pair = Box::new(alloc, CType::Tuple(parts))?;
@@ -37,7 +37,7 @@ pub fn close_type(alloc: Global, t: &KType, names: &Renaming) -> Result<CType, O
             Ok(CType::Var(at))
         }
         KType::Tuple(ts) => {
-            let made = Vec::new(alloc);
+            let made = Vec::with_capacity(alloc, ts.len())?;
             let made = close_types(alloc, ts, names, made)?;
             Ok(CType::Tuple(made))
         }
@@ -46,7 +46,7 @@ pub fn close_type(alloc: Global, t: &KType, names: &Renaming) -> Result<CType, O
                 owes: *owes,
                 around: &*names,
             };
-            let mut made = Vec::new(alloc);
+            let mut made = Vec::with_capacity(alloc, args.len().saturating_add(1))?;
             made.push(CType::Var(*owes))?;
             let made = close_types(alloc, args, &inner, made)?;
             let t = closure_type(alloc, *owes, made)?;

@@ -38,7 +38,7 @@ pub fn copied(alloc: Global, t: &KType) -> Result<KType, OutOfMemory>
 pub fn all_copied(alloc: Global, ts: &[KType]) -> Result<Vec<KType>, OutOfMemory>
     ensures { IfOk result (λ r. ktys r.items ≡ ktys ts.now) }
 {
-    let mut made = Vec::new(alloc);
+    let mut made = Vec::with_capacity(alloc, ts.len())?;
     for t in ts {
         made.push(copied(alloc, t)?)?;
     }

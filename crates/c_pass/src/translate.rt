@@ -69,7 +69,7 @@ pub fn types_at(
     ensures { IfOk result (λ r. ctys r.items ≡ W.bound_types (var_of outside (side f.now)) depth
         (bounds xs.now) levels.now) }
 {
-    let mut made = Vec::new(alloc);
+    let mut made = Vec::with_capacity(alloc, levels.len())?;
     for l in levels {
         let t = type_at(alloc, xs, *l, depth, f, outside)?;
         made.push(t)?;
@@ -99,7 +99,7 @@ pub fn variables(
 ) -> Result<Vec<CType>, OutOfMemory>
     ensures { IfOk result (λ r. ctys r.items ≡ W.variables (var_of outside (side f.now)) depth levels.now) }
 {
-    let mut made = Vec::new(alloc);
+    let mut made = Vec::with_capacity(alloc, levels.len())?;
     for l in levels {
         let at = var(f, outside, level_of(depth, *l))?;
         made.push(CType::Var(at))?;

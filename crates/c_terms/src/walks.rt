@@ -49,7 +49,7 @@ fn shift_types(ts: &[CType], alloc: Global, by: u64, cut: u64) -> Result<Vec<CTy
     requires { each_all (ShiftFitsAt by) IsWord cut (ctys ts.now) }
     ensures { IfOk result (λ r. ctys r.items ≡ shift_all by cut (ctys ts.now)) }
 {
-    let mut made = Vec::new(alloc);
+    let mut made = Vec::with_capacity(alloc, ts.len())?;
     for t in ts {
         made.push(shift_type(t, alloc, by, cut)?)?;
     }
@@ -111,7 +111,7 @@ fn put_types(
     requires fits { each_all (PutFitsAt each at (ctree what.now)) IsWord depth (ctys ts.now) }
     ensures { IfOk result (λ r. ctys r.items ≡ put_all_from at (ctree what.now) depth (ctys ts.now)) }
 {
-    let mut made = Vec::new(alloc);
+    let mut made = Vec::with_capacity(alloc, ts.len())?;
     for t in ts {
         made.push(put_type(t, alloc, at, depth, what)?)?;
     }

@@ -41,7 +41,7 @@ pub fn copy_type(alloc: Global, t: &CType) -> Result<CType, OutOfMemory>
 pub fn copy_types(alloc: Global, ts: &[CType]) -> Result<Vec<CType>, OutOfMemory>
     ensures { IfOk result (λ r. ctys r.items ≡ ctys ts.now) }
 {
-    let mut made = Vec::new(alloc);
+    let mut made = Vec::with_capacity(alloc, ts.len())?;
     for t in ts {
         let one = copy_type(alloc, t)?;
         made.push(one)?;

@@ -21,7 +21,7 @@ use std::alloc::Global;
 pub(crate) fn taking_type(alloc: Global, t: KType) -> Result<KType, OutOfMemory>
     ensures { IfOk result (λ r. ktree r ≡ taking (ktree t)) }
 {
-    let mut args = Vec::new(alloc);
+    let mut args = Vec::with_capacity(alloc, 1)?;
     args.push(t)?;
     Ok(KType::Code { owes: 0, args })
 }
@@ -30,7 +30,7 @@ pub(crate) fn taking_type(alloc: Global, t: KType) -> Result<KType, OutOfMemory>
 pub(crate) fn arrow_type(alloc: Global, a: KType, b: KType) -> Result<KType, OutOfMemory>
     ensures { IfOk result (λ r. ktree r ≡ TKCode 0 (MoreKTys (ktree a) (MoreKTys (taking (ktree b)) NoKTys))) }
 {
-    let mut args = Vec::new(alloc);
+    let mut args = Vec::with_capacity(alloc, 2)?;
     args.push(a)?;
     let rest = taking_type(alloc, b)?;
     args.push(rest)?;
@@ -41,7 +41,7 @@ pub(crate) fn arrow_type(alloc: Global, a: KType, b: KType) -> Result<KType, Out
 pub(crate) fn all_type(alloc: Global, t: KType) -> Result<KType, OutOfMemory>
     ensures { IfOk result (λ r. ktree r ≡ TKCode 1 (MoreKTys (taking (ktree t)) NoKTys)) }
 {
-    let mut args = Vec::new(alloc);
+    let mut args = Vec::with_capacity(alloc, 1)?;
     let rest = taking_type(alloc, t)?;
     args.push(rest)?;
     Ok(KType::Code { owes: 1, args })
@@ -104,7 +104,7 @@ pub(crate) fn k_type(
             Ok(made)
         }
         FType::Tuple(ts) => {
-            let mut parts = Vec::new(alloc);
+            let mut parts = Vec::with_capacity(alloc, ts.len())?;
             for part in ts {
                 parts.push(k_type(alloc, part, types, levels, bound)?)?;
             }
@@ -167,7 +167,7 @@ pub(crate) fn rest_types(
 ) -> Result<Vec<KType>, OutOfMemory>
     ensures { IfOk result (λ v. ktys v.items ≡ MoreKTys (kat types (levels_of levels.now.items) (tree t.now)) NoKTys) }
 {
-    let mut args = Vec::new(alloc);
+    let mut args = Vec::with_capacity(alloc, 1)?;
     args.push(k_type_at(alloc, t, types, levels)?)?;
     Ok(args)
 }
@@ -181,7 +181,7 @@ pub(crate) fn gen_types(
 ) -> Result<Vec<KType>, OutOfMemory>
     ensures { IfOk result (λ v. ktys v.items ≡ gen_args types (levels_of levels.now.items) (tree t.now)) }
 {
-    let mut args = Vec::new(alloc);
+    let mut args = Vec::with_capacity(alloc, 1)?;
     let k = k_type_at(alloc, t, types, levels)?;
     args.push(taking_type(alloc, k)?)?;
     Ok(args)

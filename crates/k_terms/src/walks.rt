@@ -49,7 +49,7 @@ fn shift_types(ts: &[KType], alloc: Global, by: u64, cut: u64) -> Result<Vec<KTy
     requires { each_all (ShiftFitsAt by) IsWord cut (ktys ts.now) }
     ensures { IfOk result (λ r. ktys r.items ≡ shift_all by cut (ktys ts.now)) }
 {
-    let mut made = Vec::new(alloc);
+    let mut made = Vec::with_capacity(alloc, ts.len())?;
     for t in ts {
         made.push(shift_type(t, alloc, by, cut)?)?;
     }
@@ -111,7 +111,7 @@ fn put_types(
     requires fits { each_all (PutFitsAt each at (ktree what.now)) IsWord depth (ktys ts.now) }
     ensures { IfOk result (λ r. ktys r.items ≡ put_all_from at (ktree what.now) depth (ktys ts.now)) }
 {
-    let mut made = Vec::new(alloc);
+    let mut made = Vec::with_capacity(alloc, ts.len())?;
     for t in ts {
         made.push(put_type(t, alloc, at, depth, what)?)?;
     }

@@ -94,7 +94,7 @@ fn constant_fields(
 ) -> Result<Vec<(Value, TType, Span)>, OutOfMemory>
     ensures { IfOk result (λ r. plain_fields (data_fields r.items) ≡ data_of (a_consts consts.now)) }
 {
-    let mut fields = Vec::new(alloc);
+    let mut fields = Vec::with_capacity(alloc, consts.len())?;
     for c in consts {
         let value = constant_value(alloc, &c.0)?;
         let ty = written(alloc, &c.1)?;
@@ -107,7 +107,7 @@ fn constant_fields(
 pub fn all_data(alloc: Global, tuples: &[AData]) -> Result<Vec<Data>, OutOfMemory>
     ensures { IfOk result (λ r. data_trees r.items ≡ generated_heap (a_data tuples.now)) }
 {
-    let mut made = Vec::new(alloc);
+    let mut made = Vec::with_capacity(alloc, tuples.len())?;
     for tuple in tuples {
         let fields = constant_fields(alloc, &tuple.fields)?;
         made.push(Data {

@@ -40,7 +40,7 @@ pub fn written(alloc: Global, t: &AType) -> Result<TType, OutOfMemory>
 pub fn written_args(alloc: Global, ts: &[AType]) -> Result<Vec<(u64, TType)>, OutOfMemory>
     ensures { IfOk result (λ r. file r.items ≡ ty_args (atrees ts.now) 1) }
 {
-    let mut made = Vec::new(alloc);
+    let mut made = Vec::with_capacity(alloc, ts.len())?;
     let mut r = 1;
     for t in ts {
         let one = written(alloc, t)?;
@@ -54,7 +54,7 @@ pub fn written_args(alloc: Global, ts: &[AType]) -> Result<Vec<(u64, TType)>, Ou
 fn written_fields(alloc: Global, ts: &[(AType, bool)]) -> Result<Vec<(TType, bool)>, OutOfMemory>
     ensures { IfOk result (λ r. field_trees r.items ≡ ty_fields (afields ts.now)) }
 {
-    let mut made = Vec::new(alloc);
+    let mut made = Vec::with_capacity(alloc, ts.len())?;
     for t in ts {
         let one = written(alloc, &t.0)?;
         made.push((one, t.1))?;

@@ -35,7 +35,7 @@ fn shift_body(
     ensures made { IfOk result (λ r. body r.body.items ≡ over_body (shifted VarTy by) cut (body entries.now)) }
     ensures depth { IfOk result (λ r. r.depth ≡ body_depth (body entries.now) cut) }
 {
-    let mut made = Vec::new(alloc);
+    let mut made = Vec::with_capacity(alloc, entries.len())?;
     let mut depth = cut;
     for entry in entries {
         let i = shift_instr(alloc, &entry.0, by, depth)?;
@@ -60,7 +60,7 @@ fn put_body(
     ensures depth { IfOk result (λ r. r.depth ≡ body_depth (body entries.now) start) }
     ensures below { IfOk result (λ r. at ≤ r.depth) }
 {
-    let mut made = Vec::new(alloc);
+    let mut made = Vec::with_capacity(alloc, entries.len())?;
     let mut depth = start;
     for entry in entries {
         let i = put_instr(alloc, &entry.0, at, depth, what)?;

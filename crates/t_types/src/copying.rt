@@ -36,7 +36,7 @@ pub fn copy(alloc: Global, t: &TType) -> Result<TType, OutOfMemory>
 fn copy_regs(alloc: Global, regs: &[(u64, TType)]) -> Result<Vec<(u64, TType)>, OutOfMemory>
     ensures { IfOk result (λ r. file r.items ≡ file regs.now) }
 {
-    let mut made = Vec::new(alloc);
+    let mut made = Vec::with_capacity(alloc, regs.len())?;
     for reg in regs {
         let t = copy(alloc, &reg.1)?;
         made.push((reg.0, t))?;
@@ -48,7 +48,7 @@ fn copy_regs(alloc: Global, regs: &[(u64, TType)]) -> Result<Vec<(u64, TType)>, 
 fn copy_flagged(alloc: Global, fs: &[(TType, bool)]) -> Result<Vec<(TType, bool)>, OutOfMemory>
     ensures { IfOk result (λ r. fields r.items ≡ fields fs.now) }
 {
-    let mut made = Vec::new(alloc);
+    let mut made = Vec::with_capacity(alloc, fs.len())?;
     for field in fs {
         let t = copy(alloc, &field.0)?;
         made.push((t, field.1))?;

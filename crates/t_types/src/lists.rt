@@ -64,7 +64,7 @@ pub fn shift_types(
     requires { each_types (ShiftFitsAt by) IsWord cut (types ts.now) }
     ensures { IfOk result (λ r. types r.items ≡ over_types (shifted VarTy by) cut (types ts.now)) }
 {
-    let mut made = Vec::new(alloc);
+    let mut made = Vec::with_capacity(alloc, ts.len())?;
     for t in ts {
         let t = t.shift(alloc, by, cut)?;
         made.push(t)?;
@@ -86,7 +86,7 @@ pub fn put_types(
     ensures { IfOk result (λ r.
         types r.items ≡ over_types (putted VarTy over at (tree what.now)) depth (types ts.now)) }
 {
-    let mut made = Vec::new(alloc);
+    let mut made = Vec::with_capacity(alloc, ts.len())?;
     for t in ts {
         let t = put_type(alloc, t, at, depth, what)?;
         made.push(t)?;

@@ -54,7 +54,7 @@ pub(crate) fn shift_regs(
     requires fits { each_file (ShiftFitsAt by) IsWord cut (file regs.now) }
     ensures { IfOk result (λ r. file r.items ≡ shift_file by cut (file regs.now)) }
 {
-    let mut made = Vec::new(alloc);
+    let mut made = Vec::with_capacity(alloc, regs.len())?;
     for reg in regs {
         let t = shift_type(alloc, &reg.1, by, cut)?;
         made.push((reg.0, t))?;
@@ -72,7 +72,7 @@ fn shift_flagged(
     requires fits { each_fields (ShiftFitsAt by) IsWord cut (fields fs.now) }
     ensures { IfOk result (λ r. fields r.items ≡ shift_fields by cut (fields fs.now)) }
 {
-    let mut made = Vec::new(alloc);
+    let mut made = Vec::with_capacity(alloc, fs.len())?;
     for field in fs {
         let t = shift_type(alloc, &field.0, by, cut)?;
         made.push((t, field.1))?;
@@ -137,7 +137,7 @@ pub fn put_regs(
     requires fits { each_file (PutFitsAt each at (tree what.now)) IsWord depth (file regs.now) }
     ensures { IfOk result (λ r. file r.items ≡ put_file_from at (tree what.now) depth (file regs.now)) }
 {
-    let mut made = Vec::new(alloc);
+    let mut made = Vec::with_capacity(alloc, regs.len())?;
     for reg in regs {
         let t = put_type(alloc, &reg.1, at, depth, what)?;
         made.push((reg.0, t))?;
@@ -157,7 +157,7 @@ fn put_flagged(
     requires fits { each_fields (PutFitsAt each at (tree what.now)) IsWord depth (fields fs.now) }
     ensures { IfOk result (λ r. fields r.items ≡ put_fields_from at (tree what.now) depth (fields fs.now)) }
 {
-    let mut made = Vec::new(alloc);
+    let mut made = Vec::with_capacity(alloc, fs.len())?;
     for field in fs {
         let t = put_type(alloc, &field.0, at, depth, what)?;
         made.push((t, field.1))?;

@@ -1,28 +1,32 @@
 -- Where the erased machine has a step, the instruction is ready, and what it does leads to the state after the step.
 use Rattle.std.proofs.Common.{◌≡◌, ℕ, ◌+◌, ◌<◌, List, [], ◌∷◌, ◌++◌, length, Option, Some, None, refl, sym, ap, ap₂, ◌∙◌, subst, arith, cond, nat_lt, true, false, slice_get, slice_set, option_and_then, replicate, get_or, ⊎_elim}
-use Rattle.std.specs.Prelude.{ℤ, option_map}
+use Rattle.std.specs.Prelude.{ℤ, option_map, slice_index}
 use Rattle.std.proofs.lemmas.Bool.Decides.{nat_tests}
 use Rattle.std.proofs.lemmas.Option.{slice_get_within, slice_get-get_or, get_or_from_slice_get}
 use Rattle.idx_core.specs.declared.arith.Op.{Op}
 use Rattle.idx_core.specs.Arith.{compute, is_zero}
 use Rattle.t_terms.specs.Tree.{TBase}
+use Rattle.t_terms.specs.Tree as tree
 use Rattle.t_rules.specs.Registers.{with_reg}
 use Rattle.t_rules.specs.Machine.{Where, Next, Into}
 use Rattle.t_rules.specs.Erase.{EWord, EInt, EAddress, ELabel, EEmpty, EInstr, EArith, EBnz, ELd, EMalloc, EMov, ESt, ESeq, EThen, EHeap, ERegs, EAt, EStep, EGoes, base_word, on_int, on_address, on_label, on_full, enter, estep}
 use Rattle.t_machine.specs.Places.{PlaceList, place_of, ArePlaces}
 use Rattle.t_machine.specs.Words.{word, held, regs_of}
 use Rattle.t_machine.specs.Heap.{IsHeap, HasField, cell_of, field_of}
-use Rattle.t_machine.specs.Code.{IsBase, IsInstr, IsEnd, HoldsBlocks}
-use Rattle.t_machine.specs.Steps.{at_place, value_of, EntersBlock, entry_of, tests_zero, computed, IsReady, Leads}
+use Rattle.t_machine.specs.Action.{Action, Arith, Bnz, Ld, Malloc, Mov, St, Jmp, Halt}
+use Rattle.t_machine.specs.Code.{IsBase, IsNumber, IsEntry, IsTarget, IsInstr, IsEnd, HoldsBlocks}
+use Rattle.t_machine.specs.Steps.{at_place, value_of, number_of, EntersBlock, entry_of, TargetInRange, EntersTarget, target_of, tests_zero, computed, IsReady, Leads}
 use Rattle.t_machine.specs.declared.word.Word.{Word}
 use Rattle.t_machine.specs.declared.word.Word.TheVariants.{Int, Address}
 use Rattle.t_machine.specs.declared.heap.Heap.{Heap}
 use Rattle.t_machine.specs.declared.code.Operand.{Operand}
+use Rattle.t_machine.specs.declared.code.Number.{Number}
+use Rattle.t_machine.specs.declared.code.Target.{Target}
+use Rattle.t_machine.specs.declared.code.Target.TheVariants as target
 use Rattle.t_machine.specs.declared.code.Instruction.{Instruction}
-use Rattle.t_machine.specs.declared.code.Instruction.TheVariants.{Arith, Bnz, Ld, Malloc, Mov, St, Jmp, Halt}
 use Rattle.t_machine.proofs.Loads.{at_entry}
 use Rattle.t_machine.proofs.Cells.{has_field, field_is, stored, grown, tuple_count}
-use Rattle.t_machine.proofs.Registers.{held_int, held_address, held_label, held_word, held_full, is_integer, reads, in_range, operand_in_range, operand, writes, set_count}
+use Rattle.t_machine.proofs.Registers.{held_int, held_address, held_label, held_word, held_full, is_integer, reads, in_range, place_in_range, operand_in_range, placed, operand, number, writes, set_count}
 use Rattle.t_machine.proofs.Inverses.{int_read, address_read, label_read, full_read, some_read, map_read, test_read}
 
 -- the place n is where the step leads from the place a
@@ -41,41 +45,55 @@ pub record Onward (blocks : List ESeq) (m : PlaceList) (es : List ℕ) (h : EHea
   pub leading : Leading es a n way
 
 -- the instruction can be executed before the code c, and leads on
-abbrev pub Works : List ESeq → PlaceList → List ℕ → Heap → EHeap → List Word → Instruction → ESeq → Type 0
+abbrev pub Works : List ESeq → PlaceList → List ℕ → Heap → EHeap → List Word → Action → ESeq → Type 0
 Works blocks m es x h ws o c =
     IsReady x ws es o × ((y : Heap) (us : List Word) (a n : ℕ) → Leads x ws es a o y us n → Onward blocks m es h ws c y us a n)
 
 -- where a jump leads
-record Entered (blocks : List ESeq) (m : PlaceList) (es : List ℕ) (h : EHeap) (ws : List Word) (v : Operand) (b : TBase) : Type 0 where
+record Entered (blocks : List ESeq) (m : PlaceList) (es : List ℕ) (h : EHeap) (ws : List Word) (v : Target) (b : TBase) : Type 0 where
   label : ℕ
   code : ESeq
-  start : ℕ
   enters : enter blocks h (regs_of m ws) b ≡ Some (EGoes (Into label) (EAt h (regs_of m ws) code))
-  at : slice_get es label ≡ Some start
-  ready : EntersBlock es (value_of ws v)
-  entry : entry_of es (value_of ws v) ≡ start
+  ready : EntersTarget ws es v
+  at : slice_get es label ≡ Some (target_of ws es v)
 
-module _ (blocks : List ESeq) (m : PlaceList) (os : List Instruction) (es : List ℕ) (code : HoldsBlocks m os es blocks) (x : Heap) (h : EHeap) (is : IsHeap x h) (ws : List Word) (places : ArePlaces m) (count : length ws ≡ length m) where
+-- the entry of a base that is a label
+entry_is : (R : ERegs) (es : List ℕ) (n : ℕ) (b : TBase) (l start : ℕ) → IsEntry es n b → base_word R b ≡ Some (ELabel l) → slice_get es l ≡ Some start → n ≡ start
+entry_is R es n (tree.Reg r) l start is e at = absurd is
+entry_is R es n (tree.Int i) l start is e at = cc
+entry_is R es n (tree.Label k) l start is e at = let same : k ≡ l = cc in is ∙ ap (λ j. slice_index es j) same ∙ get_or_from_slice_get es l start 0 at
+entry_is R es n (tree.Data d) l start is e at = cc
+
+module _ (blocks : List ESeq) (m : PlaceList) (os : List Instruction) (es : List ℕ) (code : HoldsBlocks m es os es blocks) (x : Heap) (h : EHeap) (is : IsHeap x h) (ws : List Word) (places : ArePlaces m) (count : length ws ≡ length m) where
   abbrev R : ERegs
   R = regs_of m ws
 
   abbrev putting : ℕ → ESeq → EWord → Option EStep
   putting rd r w = Some (EGoes Next (EAt h (with_reg R rd w) r))
 
-  entered : (v : Operand) (b : TBase) → IsBase m v b → (st : EStep) → enter blocks h R b ≡ Some st → Entered blocks m es h ws v b
+  target_in_range : (v : Target) (b : TBase) → IsTarget m es v b → TargetInRange (length ws) v
+  target_in_range (target.Register k) b pb = place_in_range m ws places count k b pb
+  target_in_range (target.Entry n) b pb = tt
+
+  -- the target's place, where its base has a label
+  target_is : (v : Target) (b : TBase) (l start : ℕ) → IsTarget m es v b → base_word R b ≡ Some (ELabel l) → slice_get es l ≡ Some start → EntersTarget ws es v × (target_of ws es v ≡ start)
+  target_is (target.Register k) b l start pb e at =
+      let is_label = held_label (at_place ws k) l (placed m ws places count k b (ELabel l) pb e) in
+      (subst (EntersBlock es) (sym is_label) (slice_get_within es l start at), ap (entry_of es) is_label ∙ get_or_from_slice_get es l start 0 at)
+  target_is (target.Entry n) b l start pb e at = (tt, entry_is R es n b l start pb e at)
+
+  entered : (v : Target) (b : TBase) → IsTarget m es v b → (st : EStep) → enter blocks h R b ≡ Some st → Entered blocks m es h ws v b
   entered v b pb st e =
       let lab = label_read (base_word R b) (λ l. option_map (λ (c : ESeq). EGoes (Into l) (EAt h R c)) (slice_get blocks l)) st e in
       let got = map_read (slice_get blocks lab.0) (λ (c : ESeq). EGoes (Into lab.0) (EAt h R c)) st lab.2 in
-      let ent = at_entry m os es blocks code lab.0 got.0 got.1 in
-      let is_label = held_label (value_of ws v) lab.0 (operand m ws places count v b (ELabel lab.0) pb lab.1) in
+      let ent = at_entry es m os es blocks code lab.0 got.0 got.1 in
+      let to = target_is v b lab.0 ent.0 pb lab.1 ent.1 in
       record {
         label = lab.0;
         code = got.0;
-        start = ent.0;
         enters = ap (λ z. on_label z (λ l. option_map (λ (c : ESeq). EGoes (Into l) (EAt h R c)) (slice_get blocks l))) lab.1 ∙ ap (option_map (λ (c : ESeq). EGoes (Into lab.0) (EAt h R c))) got.1;
-        at = ent.1;
-        ready = subst (EntersBlock es) (sym is_label) (slice_get_within es lab.0 ent.0 ent.1);
-        entry = ap (entry_of es) is_label ∙ get_or_from_slice_get es lab.0 ent.0 0 ent.1;
+        ready = to.0;
+        at = ent.1 ∙ ap Some (sym to.1);
       }
 
   -- the register at d gets the word v
@@ -89,16 +107,16 @@ module _ (blocks : List ESeq) (m : PlaceList) (os : List Instruction) (es : List
   kept us e = ap (λ z. length z) e ∙ count
 
   module _ (r : ESeq) (st : EStep) where
-    adds : (op : Op) (d s : ℕ) (v : Operand) (rd rs : ℕ) (b : TBase) → place_of m rd ≡ Some d → place_of m rs ≡ Some s → IsBase m v b → estep blocks (EAt h R (EThen (EArith op rd rs b) r)) ≡ Some st → Works blocks m es x h ws (Arith op d s v) (EThen (EArith op rd rs b) r)
+    adds : (op : Op) (d s : ℕ) (v : Number) (rd rs : ℕ) (b : TBase) → place_of m rd ≡ Some d → place_of m rs ≡ Some s → IsNumber m v b → estep blocks (EAt h R (EThen (EArith op rd rs b) r)) ≡ Some st → Works blocks m es x h ws (Arith op d s v) (EThen (EArith op rd rs b) r)
     adds op d s v rd rs b pd ps pb e =
         let one = int_read (R rs) (λ i. on_int (base_word R b) (λ j. putting rd r (EInt (compute op i j)))) st e in
         let two = int_read (base_word R b) (λ j. putting rd r (EInt (compute op one.0 j))) st one.2 in
         let left = reads m ws rs s (EInt one.0) one.1 ps in
-        let right = operand m ws places count v b (EInt two.0) pb two.1 in
         let left_is = held_int (at_place ws s) one.0 left.1 in
-        let right_is = held_int (value_of ws v) two.0 right in
-        let result : computed op (at_place ws s) (value_of ws v) ≡ Int (compute op one.0 two.0) = ap₂ (computed op) left_is right_is in (
-          (in_range m ws places count rd d pd, left.0, operand_in_range m ws places count v b pb, is_integer (at_place ws s) one.0 left_is, is_integer (value_of ws v) two.0 right_is),
+        let right = number m ws places count v b two.0 pb two.1 in
+        let right_is = right.1 in
+        let result : computed op (at_place ws s) (number_of ws v) ≡ Int (compute op one.0 two.0) = ap₂ (computed op) left_is right_is in (
+          (in_range m ws places count rd d pd, left.0, right.0, is_integer (at_place ws s) one.0 left_is, is_integer (number_of ws v) two.0 right_is),
           (λ y us a n leads.
               let same = leads.2 ∙ ap (slice_set ws d) result in
               record {
@@ -114,7 +132,7 @@ module _ (blocks : List ESeq) (m : PlaceList) (os : List Instruction) (es : List
               }),
         )
 
-    bnz : (s : ℕ) (v : Operand) (q : ℕ) (b : TBase) → place_of m q ≡ Some s → IsBase m v b → estep blocks (EAt h R (EThen (EBnz q b) r)) ≡ Some st → Works blocks m es x h ws (Bnz s v) (EThen (EBnz q b) r)
+    bnz : (s : ℕ) (v : Target) (q : ℕ) (b : TBase) → place_of m q ≡ Some s → IsTarget m es v b → estep blocks (EAt h R (EThen (EBnz q b) r)) ≡ Some st → Works blocks m es x h ws (Bnz s v) (EThen (EBnz q b) r)
     bnz s v q b ps pb e =
         let branch = λ (i : ℤ). cond (is_zero i) (Some (EGoes Next (EAt h R r))) (enter blocks h R b) in
         let one = int_read (R q) branch st e in
@@ -123,7 +141,7 @@ module _ (blocks : List ESeq) (m : PlaceList) (os : List Instruction) (es : List
         let test : tests_zero (at_place ws s) ≡ is_zero one.0 = ap tests_zero left_is in
         let goes : tests_zero (at_place ws s) ≡ false → Entered blocks m es h ws v b =
         λ f. entered v b pb st (sym (ap (λ t. cond t (Some (EGoes Next (EAt h R r))) (enter blocks h R b)) (sym test ∙ f)) ∙ one.2) in (
-          (left.0, operand_in_range m ws places count v b pb, is_integer (at_place ws s) one.0 left_is, (λ f. (goes f).ready)),
+          (left.0, target_in_range v b pb, is_integer (at_place ws s) one.0 left_is, (λ f. (goes f).ready)),
           (λ y us a n leads. ⊎_elim
               (λ (z : (tests_zero (at_place ws s) ≡ true) × (n ≡ a + 1)). record {
                 way = Next;
@@ -136,7 +154,7 @@ module _ (blocks : List ESeq) (m : PlaceList) (os : List Instruction) (es : List
                 has_words = kept us leads.1;
                 leading = z.1;
               })
-              (λ (z : (tests_zero (at_place ws s) ≡ false) × (n ≡ entry_of es (value_of ws v))).
+              (λ (z : (tests_zero (at_place ws s) ≡ false) × (n ≡ target_of ws es v)).
               let to = goes z.0 in
               record {
                 way = Into to.label;
@@ -148,7 +166,7 @@ module _ (blocks : List ESeq) (m : PlaceList) (os : List Instruction) (es : List
                     ∙ ap (λ g. Some (EGoes (Into to.label) (EAt h g to.code))) (ap (regs_of m) (sym leads.1));
                 has_heap = subst (λ z. IsHeap z h) (sym leads.0) is;
                 has_words = kept us leads.1;
-                leading = to.at ∙ ap Some (sym (z.1 ∙ to.entry));
+                leading = to.at ∙ ap Some (sym z.1);
               })
               leads.2),
         )
@@ -252,7 +270,7 @@ module _ (blocks : List ESeq) (m : PlaceList) (os : List Instruction) (es : List
               }),
         )
 
-  pub works_instr : (o : Instruction) (i : EInstr) (r : ESeq) → IsInstr m o i → (st : EStep) → estep blocks (EAt h R (EThen i r)) ≡ Some st → Works blocks m es x h ws o (EThen i r)
+  pub works_instr : (o : Action) (i : EInstr) (r : ESeq) → IsInstr m es o i → (st : EStep) → estep blocks (EAt h R (EThen i r)) ≡ Some st → Works blocks m es x h ws o (EThen i r)
   works_instr (Arith op d s v) i r p st e =
       subst (λ j. Works blocks m es x h ws (Arith op d s v) (EThen j r)) (sym p.6)
       (adds r st op d s v p.0 p.1 p.2 p.3 p.4 p.5 (subst (λ j. estep blocks (EAt h R (EThen j r)) ≡ Some st) p.6 e))
@@ -268,10 +286,10 @@ module _ (blocks : List ESeq) (m : PlaceList) (os : List Instruction) (es : List
   works_instr (Jmp v) i r p st e = absurd p
   works_instr (Halt s) i r p st e = absurd p
 
-  pub works_jump : (v : Operand) (c : ESeq) → IsEnd m (Jmp v) c → (st : EStep) → estep blocks (EAt h R c) ≡ Some st → Works blocks m es x h ws (Jmp v) c
+  pub works_jump : (v : Target) (c : ESeq) → IsEnd m es (Jmp v) c → (st : EStep) → estep blocks (EAt h R c) ≡ Some st → Works blocks m es x h ws (Jmp v) c
   works_jump v c p st e =
       let to = entered v p.0 p.1 st (subst (λ d. estep blocks (EAt h R d) ≡ Some st) p.2 e) in (
-        (operand_in_range m ws places count v p.0 p.1, to.ready),
+        (target_in_range v p.0 p.1, to.ready),
         (λ y us a n leads. record {
           way = Into to.label;
           tuples = h;
@@ -279,6 +297,6 @@ module _ (blocks : List ESeq) (m : PlaceList) (os : List Instruction) (es : List
           steps = ap (λ d. estep blocks (EAt h R d)) p.2 ∙ to.enters ∙ ap (λ g. Some (EGoes (Into to.label) (EAt h g to.code))) (ap (regs_of m) (sym leads.1));
           has_heap = subst (λ z. IsHeap z h) (sym leads.0) is;
           has_words = kept us leads.1;
-          leading = to.at ∙ ap Some (sym (leads.2 ∙ to.entry));
+          leading = to.at ∙ ap Some (sym leads.2);
         }),
       )

@@ -6,17 +6,20 @@ use Rattle.std.proofs.Math.Path.{fun_ext}
 use Rattle.std.proofs.lemmas.Bool.Decides.{nat_tests}
 use Rattle.std.specs.Prelude.{ℤ}
 use Rattle.t_terms.specs.Tree.{TBase}
+use Rattle.t_terms.specs.Tree as tree
 use Rattle.t_rules.specs.Registers.{with_reg}
 use Rattle.t_rules.specs.Erase.{EWord, EInt, EAddress, ELabel, EEmpty, base_word}
 use Rattle.t_rules.specs.Erase.{no_ewords}
 use Rattle.t_machine.specs.Places.{PlaceList, place_of, ArePlaces}
 use Rattle.t_machine.specs.Words.{word, held, regs_of, IsInteger}
-use Rattle.t_machine.specs.Code.{IsBase}
-use Rattle.t_machine.specs.Steps.{InRange, at_place, value_of}
+use Rattle.t_machine.specs.Code.{IsPlace, IsBase, IsNoNumber, IsNumber}
+use Rattle.t_machine.specs.Steps.{InRange, NumberInRange, at_place, value_of, number_of}
 use Rattle.t_machine.specs.declared.word.Word.{Word}
 use Rattle.t_machine.specs.declared.word.Word.TheVariants.{Int, Address, Label, Empty}
 use Rattle.t_machine.specs.declared.code.Operand.{Operand}
 use Rattle.t_machine.specs.declared.code.Operand.TheVariants as O
+use Rattle.t_machine.specs.declared.code.Number.{Number}
+use Rattle.t_machine.specs.declared.code.Number.TheVariants as N
 
 held_at : (ws : List Word) (k : ℕ) (w : EWord) → option_and_then held (slice_get ws k) ≡ Some w → (k < length ws) × (held (at_place ws k) ≡ Some w)
 held_at [] k w h = cc
@@ -83,8 +86,11 @@ module _ (m : PlaceList) (ws : List Word) where
     pub in_range : (r k : ℕ) → place_of m r ≡ Some k → k < length ws
     in_range r k e = let lt = places.0 r k e in omega arith
 
+    pub place_in_range : (k : ℕ) (b : TBase) → IsPlace m k b → k < length ws
+    place_in_range k b h = in_range h.0 k h.1
+
     pub operand_in_range : (v : Operand) (b : TBase) → IsBase m v b → InRange (length ws) v
-    operand_in_range (O.Register k) b h = in_range h.0 k h.1
+    operand_in_range (O.Register k) b h = place_in_range k b h
     operand_in_range (O.Int i) b h = tt
     operand_in_range (O.Label l) b h = tt
     operand_in_range (O.Data d) b h = tt
@@ -117,11 +123,31 @@ module _ (m : PlaceList) (ws : List Word) where
     pub writes : (r d : ℕ) (v : Word) (w : EWord) → place_of m r ≡ Some d → held v ≡ Some w → with_reg (regs_of m ws) r w ≡ regs_of m (slice_set ws d v)
     writes r d v w e h = fun_ext (λ q. sym (written r d v w e h q (place_of m q) refl))
 
+    pub placed : (k : ℕ) (b : TBase) (w : EWord) → IsPlace m k b → base_word (regs_of m ws) b ≡ Some w → held (at_place ws k) ≡ Some w
+    placed k b w h e = (reads h.0 k w (sym (ap (base_word (regs_of m ws)) h.2) ∙ e) h.1).1
+
     pub operand : (v : Operand) (b : TBase) (w : EWord) → IsBase m v b → base_word (regs_of m ws) b ≡ Some w → held (value_of ws v) ≡ Some w
-    operand (O.Register k) b w h e = (reads h.0 k w (sym (ap (base_word (regs_of m ws)) h.2) ∙ e) h.1).1
+    operand (O.Register k) b w h e = placed k b w h e
     operand (O.Int i) b w h e = sym (ap (base_word (regs_of m ws)) h) ∙ e
     operand (O.Label l) b w h e = sym (ap (base_word (regs_of m ws)) h) ∙ e
     operand (O.Data d) b w h e = sym (ap (base_word (regs_of m ws)) h) ∙ e
+
+    -- an integer comes of what is a number alone
+    number_int : (v : ℤ) (b : TBase) (i : ℤ) → (b ≡ tree.Int v) ⊎ IsNoNumber b → base_word (regs_of m ws) b ≡ Some (EInt i) → v ≡ i
+    number_int v (tree.Int j) i h e = ⊎_elim
+        (λ (same : tree.Int j ≡ tree.Int v). cc)
+        (λ (none : ⊥). absurd none)
+        h
+    number_int v (tree.Reg r) i h e = ⊎_elim
+        (λ (same : tree.Reg r ≡ tree.Int v). cc)
+        (λ (none : ⊥). absurd none)
+        h
+    number_int v (tree.Label l) i h e = cc
+    number_int v (tree.Data d) i h e = cc
+
+    pub number : (v : Number) (b : TBase) (i : ℤ) → IsNumber m v b → base_word (regs_of m ws) b ≡ Some (EInt i) → NumberInRange (length ws) v × (number_of ws v ≡ Int i)
+    number (N.Register k) b i h e = (place_in_range k b h, held_int (at_place ws k) i (placed k b (EInt i) h e))
+    number (N.Int j) b i h e = (tt, ap Int (number_int j b i h e))
 
 -- a word that is read
 pub read_at : (ws : List Word) (k : ℕ) (w : Word) → k < length ws → w ≡ get_or ws k w → at_place ws k ≡ w

@@ -75,7 +75,7 @@ starts laws p some lent same code is laid places n count x tuples all heap xs no
     let bs = p.blocks.items in
     let holds = subst (λ (cs : List Block). IsCode code (map erase_block (blocks_of cs))) same is in
     let lies = subst (λ (cs : List Block). IsLaid code (map erase_block (blocks_of cs))) same laid in
-    let entries = first_entry code.places code.instructions.items code.entries.items (map erase_block (blocks_of bs)) holds (erased_count (blocks_of bs) some) in
+    let entries = first_entry code.places code.entries.items code.instructions.items code.entries.items (map erase_block (blocks_of bs)) holds (erased_count (blocks_of bs) some) in
     begins laws (program p) x ws code at some holds lies places (subst (λ (ys : List Data). IsHeap x (map (map erase_datum) (data_of ys))) all heap)
     (filled_up n k xs ws none none_kept words ∙ ap (λ j. replicate j Empty) count)
     (slice_get_read code.entries.items (length code.entries.items) 0 at refl entries entry)

@@ -32,7 +32,8 @@ unfolding asked_action
 asked_is (code.Malloc d n) = refl
 asked_is other = refl
 
-asked_instr : (m : PlaceList) (es : List ℕ) (o : Action) (i : EInstr) (r : ESeq) → IsInstr m es o i → asked_action o ≡ asked_code (EThen i r)
+asked_instr : (m : PlaceList) (es : List ℕ) (o : Action) (i : EInstr) (r : ESeq) → IsInstr m es o i →
+    asked_action o ≡ asked_code (EThen i r)
 unfolding asked_action
 asked_instr m es (Arith op d s v) i r is = ap (λ j. asked_code (EThen j r)) (sym is.6)
 asked_instr m es (Bnz s v) i r is = ap (λ j. asked_code (EThen j r)) (sym is.4)
@@ -54,7 +55,8 @@ asked_end m es (Malloc d n) c is = absurd is
 asked_end m es (Mov d v) c is = absurd is
 asked_end m es (St d f s) c is = absurd is
 
-asked_held : (m : PlaceList) (es : List ℕ) (o : Instruction) (os : List Instruction) (c : ESeq) → Holds m es (o ∷ os) c → asked o ≡ asked_code c
+asked_held : (m : PlaceList) (es : List ℕ) (o : Instruction) (os : List Instruction) (c : ESeq) →
+    Holds m es (o ∷ os) c → asked o ≡ asked_code c
 asked_held m es o os c h = asked_is o ∙ ⊎_elim
     (λ (z : (i : EInstr) × (r : ESeq) × IsInstr m es (action o) i × (c ≡ EThen i r) × Holds m es os r).
     asked_instr m es (action o) z.0 z.1 z.2 ∙ ap asked_code (sym z.3))
@@ -75,11 +77,14 @@ asked_seq h g (Ends tree.Halt) = refl
 asked_state : (t : State) (h : EHeap) (g : ERegs) (c : ESeq) → EAt h g c ≡ erase t → asked_code c ≡ asked_next t
 asked_state (At h1 g1 d) h g c e = let code : c ≡ erase_seq d = cc in ap asked_code code ∙ asked_seq h1 g1 d
 
-module _ (laws : ProgramLaws) (P : TProg) (whole : Whole P) (acc : Accepted P) (m : ℕ) (x : declared.Heap) (ws : List Word) (code : Code) (at : ℕ) (s : Shows P m x ws code at) where
-  pub asks : (o : Instruction) → slice_get code.instructions.items at ≡ Some o → (t : State) (q : Place) → After P m t q → asked o ≡ asked_next t
+module _ (laws : ProgramLaws) (P : TProg) (whole : Whole P) (acc : Accepted P) (m : ℕ) (x : declared.Heap)
+    (ws : List Word) (code : Code) (at : ℕ) (s : Shows P m x ws code at) where
+  pub asks : (o : Instruction) → slice_get code.instructions.items at ≡ Some o → (t : State) (q : Place) →
+      After P m t q → asked o ≡ asked_next t
   asks o e t q run =
       let there = s.erased.1 in
       let same = laws.one P m there.0 t (Spot s.block s.index) q there.1 run in
-      asked_held code.places code.entries.items o (drop (suc at) code.instructions.items) s.rest (holds_here laws P whole acc m x ws code at s o e)
+      asked_held code.places code.entries.items o (drop (suc at) code.instructions.items) s.rest
+      (holds_here laws P whole acc m x ws code at s o e)
       ∙ asked_state there.0 s.tuples _ s.rest there.2
       ∙ ap asked_next same.0

@@ -1,5 +1,5 @@
 -- The code of the running machine, and the erased blocks that it stands for.
-use Rattle.std.specs.Prelude.{◌≡◌, ℕ, List, [], ◌∷◌, drop, length, Some, ◌⊎◌, slice_index}
+use Rattle.std.specs.Prelude.{◌≡◌, ℕ, List, [], ◌∷◌, drop, Some, ◌⊎◌, slice_index}
 use Rattle.t_terms.specs.Tree.{TBase, Reg}
 use Rattle.t_terms.specs.Tree as tree
 use Rattle.t_rules.specs.Erase.{EInstr, EArith, EBnz, ELd, EMalloc, EMov, ESt, ESeq, EThen, EJmp, EHalt}

@@ -1,5 +1,5 @@
 -- What it means that some of the blocks, or a part of one, have been loaded.
-use Rattle.std.specs.Prelude.{◌≡◌, ℕ, ◌+◌, List, [], ◌∷◌, ◌++◌, length}
+use Rattle.std.specs.Prelude.{◌≡◌, ℕ, ◌+◌, List, ◌++◌, length}
 use Rattle.t_rules.specs.Erase.{ESeq}
 use Rattle.t_machine.specs.Places.{PlaceList, Extends}
 use Rattle.t_machine.specs.Code.{Holds, HoldsBlocks}

@@ -30,7 +30,8 @@ use t_types::TType;
 
 /// A machine that stands at the start of the program. It takes a place for each register that the program names and for
 /// no other, and the data and the code; a run takes memory at a `malloc` alone. Its code is the blocks one after the
-/// other, so that a place in it tells the block and the instruction (`places_are_read_back`).
+/// other, so that a place in it tells the block and the instruction (`places_are_read_back`). Answers want of memory
+/// also where the program names more than 2^32 registers, or its code has more places than an index can tell.
 pub fn load(alloc: Global, program: &Checked) -> Result<Machine, OutOfMemory>
     ensures stands { IfOk result (Stands (program_of (checked_program program.now)) 0) }
     ensures laid { IfOk result (λ x. IsLaid x.code (erase_blocks (program_of (checked_program program.now)))) }

@@ -1,10 +1,11 @@
-use Rattle.std.proofs.Common.{◌≡◌, ℕ, suc, ◌+◌, List, [], ◌∷◌, ◌++◌, length, drop, refl, sym, ap, ◌∙◌, subst, arith, inl, inr, ◌⊎◌, append_assoc, length-append}
+use Rattle.std.proofs.Common.{◌≡◌, ℕ, suc, ◌+◌, List, [], ◌∷◌, ◌++◌, length, drop, refl, sym, ap, ◌∙◌, subst, arith}
+use Rattle.std.proofs.Common.{inl, inr, ◌⊎◌, append_assoc, length-append}
 use Rattle.std.proofs.lemmas.List.{append-nil, drop_more, drop_all}
 use Rattle.idx_core.specs.declared.span.Span.{Span}
 use Rattle.t_terms.specs.Spanned.{seq_of}
 use Rattle.t_terms.specs.Read.{instr, body, end_of}
 use Rattle.t_terms.specs.declared.instr.Instr.{Instr}
-use Rattle.t_rules.specs.Erase.{ESeq, erase_instr, erase_end, erase_seq}
+use Rattle.t_rules.specs.Erase.{erase_instr, erase_end, erase_seq}
 use Rattle.t_machine.specs.Action.{action}
 use Rattle.t_machine.specs.Code.{IsInstr, IsEnd, HoldsBlocks}
 use Rattle.t_machine.specs.Laid.{size, sizes, begins, InInstr, InBlock, Adds}
@@ -83,7 +84,7 @@ returns-clause-filled c =
     let ended = drop_all l.step-index xs c.loop-step-test.false in
     let left = subst (λ (ys : List (Instr × Span)). IsLoaded l.code.places es inv.done
     (erase_seq (seq_of (body ys) e)) all) ended inv.loaded in
-    let is = subst (λ ks. IsEnd p ks (action o) (erase_end e)) (c.deref.ensures.value ∙ inv.entries)
+    let is = subst (λ ks. IsEnd p ks (action o) (erase_end e)) (c.deref-2.ensures.value ∙ inv.entries)
     c.in_ok-last.ensures.same in
     let last = loaded_all es l.code.places p c.in_ok-last.ensures.kept inv.done o (erase_end e) all is left in
     let same = c.in_ok-push-2.ensures.items ∙ ap (λ (os : List Instruction). os ++ o ∷ []) inv.instructions
@@ -95,12 +96,12 @@ returns-clause-filled c =
     omega (arith, counts, size_of_end e, length-append inv.done (o ∷ [])) in
     λ cs h.
     let filled = filled_more before.places p es (extends_both _ _ _ inv.kept c.in_ok-last.ensures.kept)
-    before.instructions.items (inv.done ++ o ∷ []) c.push.new.self.items cs all h.0 h.1 same last one in
-    subst (λ (ys : List (Instr × Span)). HoldsBlocks p l.code.entries.items c.push.new.self.items
+    before.instructions.items (inv.done ++ o ∷ []) c.push-2.new.self.items cs all h.0 h.1 same last one in
+    subst (λ (ys : List (Instr × Span)). HoldsBlocks p l.code.entries.items c.push-2.new.self.items
     (begins 0 (cs ++ erase_seq (seq_of (body ys) e) ∷ [])) (cs ++ erase_seq (seq_of (body ys) e) ∷ []) ×
-    (length c.push.new.self.items ≡ sizes (cs ++ erase_seq (seq_of (body ys) e) ∷ [])))
+    (length c.push-2.new.self.items ≡ sizes (cs ++ erase_seq (seq_of (body ys) e) ∷ [])))
     c.deref-step-items.ensures.value (
-      subst (λ ks. HoldsBlocks p ks c.push.new.self.items (begins 0 (cs ++ all ∷ [])) (cs ++ all ∷ []))
+      subst (λ ks. HoldsBlocks p ks c.push-2.new.self.items (begins 0 (cs ++ all ∷ [])) (cs ++ all ∷ []))
           (sym inv.entries) filled.0,
       filled.1,
     )

@@ -1,9 +1,9 @@
-use Rattle.std.proofs.Common.{◌≡◌, ◌+◌, List, [], ◌∷◌, ◌++◌, ◌∙◌, map, take, ap, sym, subst, arith}
+use Rattle.std.proofs.Common.{◌≡◌, List, [], ◌∷◌, ◌++◌, ◌∙◌, map, take, ap, sym, subst, arith}
 use Rattle.std.proofs.lemmas.List.{take_all}
 use Rattle.t_terms.specs.Read.{blocks_of, block as block_tree}
 use Rattle.t_terms.specs.declared.block.Block.{Block}
 use Rattle.t_rules.specs.Erase.{ESeq, erase_block}
-use Rattle.t_machine.specs.Laid.{size, sizes, begins}
+use Rattle.t_machine.specs.Laid.{sizes, begins}
 use Rattle.t_machine.proofs.Laying.{begins_more, sizes_snoc}
 use Rattle.t_machine.proofs.Loads.{blocks_taken}
 use Rattle.t_machine.proofs.loading.load_entries.Goals as goal
@@ -19,7 +19,8 @@ loop-block-preserved c =
     let more : c.in_ok-end.end ≡ sizes (cs ++ b ∷ []) =
     omega (arith, c.in_ok-end.ensures, l.invariant.start, sizes_snoc cs b) in
     record {
-      entries = c.in_ok-push.ensures.items ∙ begins_more l.entries.items l.start cs b l.invariant.entries l.invariant.start
+      entries = c.in_ok-push.ensures.items
+          ∙ begins_more l.entries.items l.start cs b l.invariant.entries l.invariant.start
           ∙ ap (λ (ds : List ESeq). begins 0 ds) all;
       start = more ∙ ap (λ (ds : List ESeq). sizes ds) all;
     }

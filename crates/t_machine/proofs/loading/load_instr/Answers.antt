@@ -10,8 +10,9 @@ use Rattle.t_machine.proofs.loading.load_instr.Goals as goal
 pub returns-in_ok-v-in-Arith-clause-same : goal.returns-in_ok-v-in-Arith-clause-same
 returns-in_ok-v-in-Arith-clause-same c =
     let kept = c.in_ok-v-in-Arith.ensures.kept in
-    subst (λ (a : Action). IsInstr c.load_number.new.places c.args.entries.now a (erase_instr (instr_tree c.args.i.now)))
-    (sym c.arith.ensures) (
+    subst (λ (a : Action). IsInstr c.load_number.new.places c.args.entries.now a (erase_instr
+    (instr_tree c.args.i.now)))
+    (sym c.arith-arith.ensures) (
       c.in-Arith.rd,
       c.in-Arith.rs,
       _,

@@ -1,17 +1,22 @@
 -- How the blocks lie in the code, and which registers have places.
-use Rattle.std.proofs.Common.{◌≡◌, ℕ, zero, suc, ◌+◌, ◌<◌, ◌≤◌, false, List, [], ◌∷◌, ◌++◌, length, refl, sym, ap, ◌∙◌, subst, arith, inl, inr, ◌⊎◌, ⊎_elim, Some, length-append}
+use Rattle.std.proofs.Common.{◌≡◌, ℕ, zero, suc, ◌+◌, ◌<◌, ◌≤◌, false, List, [], ◌∷◌, ◌++◌, length, refl, sym, ap}
+use Rattle.std.proofs.Common.{◌∙◌, arith, inl, inr, ⊎_elim, Some, length-append}
 use Rattle.std.proofs.lemmas.Bool.{cases_lt}
 use Rattle.std.specs.BTreeMap.{is_at}
 use Rattle.std.specs.Ordering.{nat_cmp, is_eq}
 use Rattle.std.specs.Cmp.{nat_cmp_is}
 use Rattle.std.specs.declared.cmp.Ordering.TheVariants.{Less, Greater}
 use Rattle.t_terms.specs.Tree.{TEnd, Jmp, Halt}
-use Rattle.t_rules.specs.Erase.{ESeq, erase_end}
+use Rattle.t_terms.specs.Spanned.{seq_of}
+use Rattle.t_terms.specs.Read.{body}
+use Rattle.t_terms.specs.declared.instr.Instr.{Instr}
+use Rattle.idx_core.specs.declared.span.Span.{Span}
+use Rattle.t_rules.specs.Erase.{ESeq, erase_end, erase_seq}
 use Rattle.t_machine.specs.Places.{PlaceList, place_of}
 use Rattle.t_machine.specs.Laid.{size, sizes, begins, Within, PlacesAreReadBack, InBlock, InBlocks, HasPlace, Adds}
 
 -- one block more
-sizes_snoc : (cs : List ESeq) (c : ESeq) → sizes (cs ++ c ∷ []) ≡ sizes cs + size c
+pub sizes_snoc : (cs : List ESeq) (c : ESeq) → sizes (cs ++ c ∷ []) ≡ sizes cs + size c
 sizes_snoc [] c = omega arith
 sizes_snoc (d ∷ cs) c = omega (arith, sizes_snoc cs c)
 
@@ -34,6 +39,11 @@ sizes_more os done now cs c is count one = omega (arith, ap length is, length-ap
 pub size_of_end : (e : TEnd) → size (erase_end e) ≡ 1
 size_of_end (Jmp v) = refl
 size_of_end Halt = refl
+
+-- a block of some instructions has its end too
+pub size_of_body : (xs : List (Instr × Span)) (e : TEnd) → size (erase_seq (seq_of (body xs) e)) ≡ length xs + 1
+size_of_body [] e = size_of_end e
+size_of_body (x ∷ xs) e = omega (arith, size_of_body xs e)
 
 -- places are read back
 before : (n : ℕ) (cs : List ESeq) (b i at : ℕ) → Within n cs b i at → at < n → ⊥

@@ -1,26 +1,25 @@
 -- The place at which the machine stands, and the words of its registers.
-use Rattle.std.proofs.Common.{◌≡◌, ℕ, zero, suc, ◌+◌, ◌-◌, ◌<◌, ◌≤◌, List, [], ◌∷◌, length, Option, Some, None, refl, sym, ap, ap₂, ◌∙◌, subst, arith, slice_get, get_or, option_and_then}
+use Rattle.std.proofs.Common.{◌≡◌, ℕ, zero, suc, ◌+◌, ◌-◌, ◌<◌, ◌≤◌, List, [], ◌∷◌, length, Option, Some, None, refl}
+use Rattle.std.proofs.Common.{sym, ap, ap₂, ◌∙◌, subst, arith, slice_get, get_or, option_and_then}
 use Rattle.std.specs.Coded.{le_prop}
-use Rattle.std.specs.Prelude.{option_map, slice_index_or}
+use Rattle.std.specs.Prelude.{option_map}
 use Rattle.std.proofs.Math.Logic.{∥∥₁_elim}
 use Rattle.std.proofs.lemmas.Option.{get_or_from_slice_get, slice_get_read}
 use Rattle.t_terms.specs.Tree.{TProg}
 use Rattle.t_terms.specs.declared.shown.Shown.{Shown}
 use Rattle.t_rules.specs.Machine.{State, At, Place, Spot, After}
 use Rattle.t_rules.specs.LawsSound.{regs_of}
-use Rattle.t_rules.specs.Erase.{EWord, ERegs, ESeq, EThen, EJmp, EHalt, EState, EAt, EHeap, erase, erase_blocks, erase_regs, drop_seq, seq_at, Erased}
-use Rattle.t_rules.specs.LawsErased.{seq_of}
+use Rattle.t_rules.specs.Erase.{ERegs, ESeq, EThen, EJmp, EHalt, EAt, erase, erase_blocks, erase_regs, drop_seq}
 use Rattle.t_machine.specs.ProgramLaws.{ProgramLaws}
-use Rattle.t_machine.specs.Places.{PlaceList, place_of, ArePlaces}
+use Rattle.t_machine.specs.Places.{PlaceList, place_of}
 use Rattle.t_machine.specs.Placing.{begin_at, IsBlockAt}
 use Rattle.t_machine.specs.Words.{held, shown_word, regs_of as held_in}
-use Rattle.t_machine.specs.Laid.{size, sizes, begins, IsLaid, Within}
+use Rattle.t_machine.specs.Laid.{size, sizes, begins, Within}
 use Rattle.t_machine.specs.State.{Shows, ShowsSome}
-use Rattle.t_machine.specs.Runs.{Stands, IsPlaceAfter, IsRegAfter}
+use Rattle.t_machine.specs.Runs.{IsPlaceAfter, IsRegAfter}
 use Rattle.t_machine.specs.declared.word.Word.{Word}
 use Rattle.t_machine.specs.declared.heap.Heap.{Heap}
 use Rattle.t_machine.specs.declared.code.Code.{Code}
-use Rattle.t_machine.specs.declared.machine.Machine.{Machine}
 use Rattle.t_machine.proofs.Laying.{read_back}
 
 -- an instruction of a block is one of so many
@@ -32,7 +31,8 @@ drop_size (suc i) (EThen j c) d e = let lt = drop_size i c d e in omega (arith, 
 drop_size (suc i) (EJmp b) d e = cc
 drop_size (suc i) EHalt d e = cc
 
-within_at : (n : ℕ) (cs : List ESeq) (b i start : ℕ) (d : ESeq) → slice_get (begins n cs) b ≡ Some start → option_and_then (drop_seq i) (slice_get cs b) ≡ Some d → Within n cs b i (start + i)
+within_at : (n : ℕ) (cs : List ESeq) (b i start : ℕ) (d : ESeq) → slice_get (begins n cs) b ≡ Some start →
+    option_and_then (drop_seq i) (slice_get cs b) ≡ Some d → Within n cs b i (start + i)
 within_at n [] b i start d e f = cc
 within_at n (c ∷ cs) zero i start d e f = let same : n ≡ start = cc in (drop_size i c d f, omega (arith, same))
 within_at n (c ∷ cs) (suc b) i start d e f = within_at (n + size c) cs b i start d e f
@@ -43,25 +43,30 @@ within_less n (c ∷ cs) zero i at w = omega (arith, w.0, w.1)
 within_less n (c ∷ cs) (suc b) i at w = let lt = within_less (n + size c) cs b i at w in omega (arith, lt)
 
 -- the block that is found
-found_in : (n : ℕ) (cs : List ESeq) (b at : ℕ) → b < length (begins n cs) → begin_at (begins n cs) b ≤ at → (b + 1 < length (begins n cs) → at < begin_at (begins n cs) (b + 1)) → at < n + sizes cs →
+found_in : (n : ℕ) (cs : List ESeq) (b at : ℕ) → b < length (begins n cs) → begin_at (begins n cs) b ≤ at →
+    (b + 1 < length (begins n cs) → at < begin_at (begins n cs) (b + 1)) → at < n + sizes cs →
     Within n cs b (at - begin_at (begins n cs) b) at
 found_in n [] b at lt le next less = absurd (omega (arith, lt))
 found_in n (c ∷ []) zero at lt le next less = (omega (arith, le, less), omega (arith, le))
-found_in n (c ∷ d ∷ cs) zero at lt le next less = let before = next (omega arith) in (omega (arith, le, before), omega (arith, le))
+found_in n (c ∷ d ∷ cs) zero at lt le next less = let before = next (omega arith) in
+    (omega (arith, le, before), omega (arith, le))
 found_in n (c ∷ cs) (suc b) at lt le next less =
     let one : suc b + 1 ≡ suc (b + 1) = omega arith in
     found_in (n + size c) cs b at (omega (arith, lt)) le
     (λ l. subst (λ k. at < begin_at (begins n (c ∷ cs)) k) one (next (omega (arith, l)))) (omega (arith, less))
 
-module _ (laws : ProgramLaws) (P : TProg) (m : ℕ) (x : Heap) (ws : List Word) (code : Code) (at : ℕ) (s : Shows P m x ws code at) where
+module _ (laws : ProgramLaws) (P : TProg) (m : ℕ) (x : Heap) (ws : List Word) (code : Code) (at : ℕ)
+    (s : Shows P m x ws code at) where
   blocks : List ESeq
   blocks = erase_blocks P
 
   here : Within 0 (erase_blocks P) s.block s.index at
   here =
-      let stands = laws.stands P m (erase_blocks P) (EAt s.tuples (held_in code.places ws) s.rest) (Spot s.block s.index) s.erased in
+      let stands = laws.stands P m (erase_blocks P) (EAt s.tuples (held_in code.places ws) s.rest)
+      (Spot s.block s.index) s.erased in
       let begun = subst (λ (es : List ℕ). slice_get es s.block ≡ Some s.start) s.laid.0 s.entered in
-      subst (Within 0 (erase_blocks P) s.block s.index) (sym s.placed) (within_at 0 (erase_blocks P) s.block s.index s.start s.rest begun stands)
+      subst (Within 0 (erase_blocks P) s.block s.index) (sym s.placed) (within_at 0
+      (erase_blocks P) s.block s.index s.start s.rest begun stands)
 
   less : at < sizes (erase_blocks P)
   less = let lt = within_less 0 (erase_blocks P) s.block s.index at here in omega (arith, lt)
@@ -89,9 +94,11 @@ module _ (laws : ProgramLaws) (P : TProg) (m : ℕ) (x : Heap) (ws : List Word) 
       one.1 ∙ ap₂ Spot same.0 (same.1 ∙ ap (λ (es : List ℕ). at - begin_at es b) (sym s.laid.0))
 
   words_of : (t : State) (p : Place) → After P m t p → (r : ℕ) → erase_regs (regs_of t) r ≡ held_in code.places ws r
-  words_of t p run r = by_state s.erased.1.0 (laws.one P m t s.erased.1.0 p (Spot s.block s.index) run s.erased.1.1).0 s.erased.1.2
+  words_of t p run r = by_state s.erased.1.0 (laws.one P m t s.erased.1.0 p
+      (Spot s.block s.index) run s.erased.1.1).0 s.erased.1.2
     where
-      by_state : (u : State) → t ≡ u → EAt s.tuples (held_in code.places ws) s.rest ≡ erase u → erase_regs (regs_of t) r ≡ held_in code.places ws r
+      by_state : (u : State) → t ≡ u → EAt s.tuples (held_in code.places ws) s.rest ≡ erase u →
+          erase_regs (regs_of t) r ≡ held_in code.places ws r
       by_state (At h g c) same e =
           let words : held_in code.places ws ≡ erase_regs g = cc in
           ap (λ (z : State). erase_regs (regs_of z) r) same ∙ sym (ap (λ (f : ERegs). f r) words)
@@ -103,15 +110,20 @@ pub start_is : (es : List ℕ) (b n : ℕ) → b < length es → n ≡ get_or es
 start_is es b n lt is = get_or_from_slice_get es b n 0 (slice_get_read es (length es) b n refl lt is)
 
 -- the words of the machine, by its places
-pub word_none : (places : PlaceList) (ws : List Word) (r : ℕ) → place_of places r ≡ None → option_map shown_word None ≡ held_in places ws r
+pub word_none : (places : PlaceList) (ws : List Word) (r : ℕ) → place_of places r ≡ None →
+    option_map shown_word None ≡ held_in places ws r
 word_none places ws r e = sym (ap (option_and_then (λ k. option_and_then held (slice_get ws k))) e)
 
-pub word_some : (places : PlaceList) (ws : List Word) (r k : ℕ) (w : Word) (o : Option Shown) → place_of places r ≡ Some k → k < length ws → w ≡ get_or ws k w → option_map shown_word o ≡ held w → option_map shown_word o ≡ held_in places ws r
+pub word_some : (places : PlaceList) (ws : List Word) (r k : ℕ) (w : Word) (o : Option Shown) →
+    place_of places r ≡ Some k → k < length ws → w ≡ get_or ws k w → option_map shown_word o ≡ held w →
+    option_map shown_word o ≡ held_in places ws r
 word_some places ws r k w o e lt is same =
-    same ∙ sym (ap (option_and_then (λ j. option_and_then held (slice_get ws j))) e ∙ ap (option_and_then held) (slice_get_read ws (length ws) k w refl lt is))
+    same ∙ sym (ap (option_and_then (λ j. option_and_then held (slice_get ws j))) e ∙ ap (option_and_then held)
+    (slice_get_read ws (length ws) k w refl lt is))
 
 -- what holds of a machine, whichever program it stands for
-module _ (laws : ProgramLaws) (x : Heap) (ws : List Word) (code : Code) (at : ℕ) (some : ∥ ShowsSome x ws code at ∥₁) where
+module _ (laws : ProgramLaws) (x : Heap) (ws : List Word) (code : Code) (at : ℕ)
+    (some : ∥ ShowsSome x ws code at ∥₁) where
   pub some_there : 0 < length code.entries.items
   some_there = ∥∥₁_elim some le_prop (λ k. some_blocks laws k.0 k.1 x ws code at k.4)
 

@@ -1,24 +1,30 @@
 -- Registers that are read and written.
-use Rattle.std.proofs.Common.{◌≡◌, ◌≢◌, ℕ, zero, suc, ◌<◌, ◌≤◌, List, [], ◌∷◌, length, Option, Some, None, refl, sym, ap, ◌∙◌, subst, arith, cond, nat_eq, true, false, slice_get, slice_set, get_or, option_and_then, replicate, inl, inr, ◌⊎◌, ⊎_elim}
+use Rattle.std.proofs.Common.{◌≡◌, ◌≢◌, ℕ, zero, suc, ◌<◌, ◌≤◌, List, [], ◌∷◌, length, Option, Some, None, refl, sym}
+use Rattle.std.proofs.Common.{ap, ◌∙◌, subst, arith, cond, nat_eq, true, false, slice_get, slice_set, get_or}
+use Rattle.std.proofs.Common.{option_and_then, replicate, inl, inr, ◌⊎◌, ⊎_elim}
 use Rattle.std.proofs.lemmas.Bool.{cases_lt}
 use Rattle.std.proofs.lemmas.Option.{get_or_from_slice_get, slice_get_read, slice_get-get_or}
 use Rattle.std.proofs.Math.Path.{fun_ext}
 use Rattle.std.proofs.lemmas.Bool.Decides.{nat_tests}
 use Rattle.std.specs.Prelude.{ℤ}
 use Rattle.t_terms.specs.Tree.{TBase}
+use Rattle.t_terms.specs.Tree as tree
 use Rattle.t_rules.specs.Registers.{with_reg}
 use Rattle.t_rules.specs.Erase.{EWord, EInt, EAddress, ELabel, EEmpty, base_word}
 use Rattle.t_rules.specs.Erase.{no_ewords}
 use Rattle.t_machine.specs.Places.{PlaceList, place_of, ArePlaces}
 use Rattle.t_machine.specs.Words.{word, held, regs_of, IsInteger}
-use Rattle.t_machine.specs.Code.{IsBase}
-use Rattle.t_machine.specs.Steps.{InRange, at_place, value_of}
+use Rattle.t_machine.specs.Code.{IsPlace, IsBase, IsNoNumber, IsNumber}
+use Rattle.t_machine.specs.Steps.{InRange, NumberInRange, at_place, value_of, number_of}
 use Rattle.t_machine.specs.declared.word.Word.{Word}
 use Rattle.t_machine.specs.declared.word.Word.TheVariants.{Int, Address, Label, Empty}
 use Rattle.t_machine.specs.declared.code.Operand.{Operand}
 use Rattle.t_machine.specs.declared.code.Operand.TheVariants as O
+use Rattle.t_machine.specs.declared.code.Number.{Number}
+use Rattle.t_machine.specs.declared.code.Number.TheVariants as N
 
-held_at : (ws : List Word) (k : ℕ) (w : EWord) → option_and_then held (slice_get ws k) ≡ Some w → (k < length ws) × (held (at_place ws k) ≡ Some w)
+held_at : (ws : List Word) (k : ℕ) (w : EWord) → option_and_then held (slice_get ws k) ≡ Some w →
+    (k < length ws) × (held (at_place ws k) ≡ Some w)
 held_at [] k w h = cc
 held_at (x ∷ ws) zero w h = (omega arith, h)
 held_at (x ∷ ws) (suc k) w h = let rest = held_at ws k w h in let lt = rest.0 in (omega arith, rest.1)
@@ -76,20 +82,25 @@ same_or_not r q = ⊎_elim
     (cases_lt r q)
 
 module _ (m : PlaceList) (ws : List Word) where
-  pub reads : (r k : ℕ) (w : EWord) → regs_of m ws r ≡ Some w → place_of m r ≡ Some k → (k < length ws) × (held (at_place ws k) ≡ Some w)
+  pub reads : (r k : ℕ) (w : EWord) → regs_of m ws r ≡ Some w → place_of m r ≡ Some k →
+      (k < length ws) × (held (at_place ws k) ≡ Some w)
   reads r k w h e = held_at ws k w (sym (ap (option_and_then (λ j. option_and_then held (slice_get ws j))) e) ∙ h)
 
   module _ (places : ArePlaces m) (count : length ws ≡ length m) where
     pub in_range : (r k : ℕ) → place_of m r ≡ Some k → k < length ws
     in_range r k e = let lt = places.0 r k e in omega arith
 
+    pub place_in_range : (k : ℕ) (b : TBase) → IsPlace m k b → k < length ws
+    place_in_range k b h = in_range h.0 k h.1
+
     pub operand_in_range : (v : Operand) (b : TBase) → IsBase m v b → InRange (length ws) v
-    operand_in_range (O.Register k) b h = in_range h.0 k h.1
+    operand_in_range (O.Register k) b h = place_in_range k b h
     operand_in_range (O.Int i) b h = tt
     operand_in_range (O.Label l) b h = tt
     operand_in_range (O.Data d) b h = tt
 
-    written : (r d : ℕ) (v : Word) (w : EWord) → place_of m r ≡ Some d → held v ≡ Some w → (q : ℕ) (o : Option ℕ) → place_of m q ≡ o → regs_of m (slice_set ws d v) q ≡ cond (nat_eq r q) (Some w) (regs_of m ws q)
+    written : (r d : ℕ) (v : Word) (w : EWord) → place_of m r ≡ Some d → held v ≡ Some w → (q : ℕ) (o : Option ℕ) →
+        place_of m q ≡ o → regs_of m (slice_set ws d v) q ≡ cond (nat_eq r q) (Some w) (regs_of m ws q)
     written r d v w e h q None f =
         let apart : r ≢ q = λ s. let z : Some d ≡ None = sym e ∙ ap (place_of m) s ∙ f in cc in
         let test : nat_eq r q ≡ false = grind (arith, nat_tests) in
@@ -114,14 +125,39 @@ module _ (m : PlaceList) (ws : List Word) where
         ∙ sym (ap (λ b. cond b (Some w) (regs_of m ws q)) test))
         (same_or_not r q)
 
-    pub writes : (r d : ℕ) (v : Word) (w : EWord) → place_of m r ≡ Some d → held v ≡ Some w → with_reg (regs_of m ws) r w ≡ regs_of m (slice_set ws d v)
+    pub writes : (r d : ℕ) (v : Word) (w : EWord) → place_of m r ≡ Some d → held v ≡ Some w →
+        with_reg (regs_of m ws) r w ≡ regs_of m (slice_set ws d v)
     writes r d v w e h = fun_ext (λ q. sym (written r d v w e h q (place_of m q) refl))
 
-    pub operand : (v : Operand) (b : TBase) (w : EWord) → IsBase m v b → base_word (regs_of m ws) b ≡ Some w → held (value_of ws v) ≡ Some w
-    operand (O.Register k) b w h e = (reads h.0 k w (sym (ap (base_word (regs_of m ws)) h.2) ∙ e) h.1).1
+    pub placed : (k : ℕ) (b : TBase) (w : EWord) → IsPlace m k b → base_word (regs_of m ws) b ≡ Some w →
+        held (at_place ws k) ≡ Some w
+    placed k b w h e = (reads h.0 k w (sym (ap (base_word (regs_of m ws)) h.2) ∙ e) h.1).1
+
+    pub operand : (v : Operand) (b : TBase) (w : EWord) → IsBase m v b → base_word (regs_of m ws) b ≡ Some w →
+        held (value_of ws v) ≡ Some w
+    operand (O.Register k) b w h e = placed k b w h e
     operand (O.Int i) b w h e = sym (ap (base_word (regs_of m ws)) h) ∙ e
     operand (O.Label l) b w h e = sym (ap (base_word (regs_of m ws)) h) ∙ e
     operand (O.Data d) b w h e = sym (ap (base_word (regs_of m ws)) h) ∙ e
+
+    -- an integer comes of what is a number alone
+    number_int : (v : ℤ) (b : TBase) (i : ℤ) → (b ≡ tree.Int v) ⊎ IsNoNumber b → base_word (regs_of m ws) b ≡ Some
+        (EInt i) → v ≡ i
+    number_int v (tree.Int j) i h e = ⊎_elim
+        (λ (same : tree.Int j ≡ tree.Int v). cc)
+        (λ (none : ⊥). absurd none)
+        h
+    number_int v (tree.Reg r) i h e = ⊎_elim
+        (λ (same : tree.Reg r ≡ tree.Int v). cc)
+        (λ (none : ⊥). absurd none)
+        h
+    number_int v (tree.Label l) i h e = cc
+    number_int v (tree.Data d) i h e = cc
+
+    pub number : (v : Number) (b : TBase) (i : ℤ) → IsNumber m v b → base_word (regs_of m ws) b ≡ Some (EInt i) →
+        NumberInRange (length ws) v × (number_of ws v ≡ Int i)
+    number (N.Register k) b i h e = (place_in_range k b h, held_int (at_place ws k) i (placed k b (EInt i) h e))
+    number (N.Int j) b i h e = (tt, ap Int (number_int j b i h e))
 
 -- a word that is read
 pub read_at : (ws : List Word) (k : ℕ) (w : Word) → k < length ws → w ≡ get_or ws k w → at_place ws k ≡ w
@@ -141,7 +177,8 @@ empty_at zero k = refl
 empty_at (suc n) zero = refl
 empty_at (suc n) (suc k) = empty_at n k
 
-none_yet : (n : ℕ) (o : Option ℕ) → option_and_then (λ k. option_and_then held (slice_get (replicate n Empty) k)) o ≡ None
+none_yet : (n : ℕ) (o : Option ℕ) → option_and_then (λ k. option_and_then held (slice_get
+    (replicate n Empty) k)) o ≡ None
 none_yet n None = refl
 none_yet n (Some k) = empty_at n k
 

@@ -1,5 +1,6 @@
 -- A worked example of what the steps of a program allocate.
-use Rattle.std.proofs.Common.{◌≡◌, ℕ, zero, suc, ◌+◌, ◌≤◌, [], ◌∷◌, Some, refl, sym, ap, ◌∙◌, subst, arith, inl, inr, ◌⊎◌, ⊎_elim, slice_get}
+use Rattle.std.proofs.Common.{◌≡◌, ℕ, zero, suc, ◌+◌, ◌≤◌, [], ◌∷◌, Some, refl, sym, ap, ◌∙◌, subst, arith, inl, inr}
+use Rattle.std.proofs.Common.{◌⊎◌, ⊎_elim, slice_get}
 use Rattle.t_types.specs.Tree.{IntTy, NoRegs}
 use Rattle.t_terms.specs.Tree.{Label, Plain, Malloc, Jmp, TSeq, Then, Ends, TBlock, TProg}
 use Rattle.t_rules.specs.Registers.{inst_seq}
@@ -27,7 +28,8 @@ Before j t f s = (h : Heap) × (r : RegWords) × (s ≡ At h r body) × (j ≡ t
 abbrev Behind : (j t f : ℕ) → State → Type 0
 Behind j t f s = (h : Heap) × (r : RegWords) × (s ≡ At h r jump) × (j + 1 ≡ t + t) × (f ≡ t)
 
-allocated : (j t f : ℕ) (a : State) (k : Where) (s : State) → Before j t f a → Step taking a k s → Behind (suc j) (t + tuples_wanted (asked_next a)) (f + fields_wanted (asked_next a)) s
+allocated : (j t f : ℕ) (a : State) (k : Where) (s : State) → Before j t f a → Step taking a k s →
+    Behind (suc j) (t + tuples_wanted (asked_next a)) (f + fields_wanted (asked_next a)) s
 allocated j t f a k s b step =
     let go : Step taking (At b.0 b.1 body) k s = subst (λ z. Step taking z k s) b.2 step in
     let tuples : tuples_wanted (asked_next a) ≡ 1 = ap (λ z. tuples_wanted (asked_next z)) b.2 in
@@ -36,7 +38,8 @@ allocated j t f a k s b step =
     let same = b.4 in
     (_, _, go.1, omega arith, omega arith)
 
-jumped : (j t f : ℕ) (a : State) (k : Where) (s : State) → Behind j t f a → Step taking a k s → Before (suc j) (t + tuples_wanted (asked_next a)) (f + fields_wanted (asked_next a)) s
+jumped : (j t f : ℕ) (a : State) (k : Where) (s : State) → Behind j t f a → Step taking a k s →
+    Before (suc j) (t + tuples_wanted (asked_next a)) (f + fields_wanted (asked_next a)) s
 jumped j t f a k s b step =
     let go : Step taking (At b.0 b.1 jump) k s = subst (λ z. Step taking z k s) b.2 step in
     let tuples : tuples_wanted (asked_next a) ≡ 0 = ap (λ z. tuples_wanted (asked_next z)) b.2 in
@@ -49,21 +52,31 @@ jumped j t f a k s b step =
     let types : entry.0 ≡ [] = cc in
     let here : Some only ≡ Some entry.1 = ap (slice_get taking.blocks) label ∙ entry.3 in
     let block : only ≡ entry.1 = cc in
-    let code : go.2 ≡ body = entry.5 ∙ ap (λ z. inst_seq z entry.1.owes entry.1.code) types ∙ ap (λ z. z.code) (sym block) in
+    let code : go.2 ≡ body = entry.5 ∙ ap (λ z. inst_seq z entry.1.owes entry.1.code) types
+    ∙ ap (λ z. z.code) (sym block) in
     (b.0, b.1, go.6 ∙ ap (At b.0 b.1) code, omega arith, omega arith)
 
-taken : (j : ℕ) (s : State) (p : Place) (run : After taking j s p) → Before j (tuples_made taking j j s p run) (fields_made taking j j s p run) s ⊎ Behind j (tuples_made taking j j s p run) (fields_made taking j j s p run) s
+taken : (j : ℕ) (s : State) (p : Place) (run : After taking j s p) → Before j (tuples_made taking j j s p run)
+    (fields_made taking j j s p run) s ⊎ Behind j (tuples_made taking j j s p run) (fields_made taking j j s p run) s
 taken zero s p run =
     let e = run.0.1 in
     let block : only ≡ run.0.0 = cc in
-    inl (start_heap taking, no_words, run.0.2 ∙ ap (λ z. At (start_heap taking) no_words z.code) (sym block), refl, refl)
+    inl (
+      start_heap taking,
+      no_words,
+      run.0.2 ∙ ap (λ z. At (start_heap taking) no_words z.code)
+          (sym block),
+      refl,
+      refl,
+    )
 taken (suc j) s p run = ⊎_elim
     (λ z. inr (allocated j _ _ run.0 run.2 s z run.4))
     (λ z. inl (jumped j _ _ run.0 run.2 s z run.4))
     (taken j run.0 run.1 run.3)
 
 -- any n + n steps of it allocate at most n tuples and n fields
-within : (n j : ℕ) → j ≤ n + n → (s : State) (p : Place) (run : After taking j s p) → (tuples_made taking j j s p run ≤ n) × (fields_made taking j j s p run ≤ n)
+within : (n j : ℕ) → j ≤ n + n → (s : State) (p : Place) (run : After taking j s p) →
+    (tuples_made taking j j s p run ≤ n) × (fields_made taking j j s p run ≤ n)
 within n j le s p run =
     let t = tuples_made taking j j s p run in
     let f = fields_made taking j j s p run in
@@ -73,7 +86,8 @@ within n j le s p run =
     (taken j s p run)
 
 Limits : (n j k : ℕ) → Type 0
-Limits n j k = (s : State) (p : Place) (run : After taking k s p) → (tuples_made taking j k s p run ≤ n) × (fields_made taking j k s p run ≤ n)
+Limits n j k = (s : State) (p : Place) (run : After taking k s p) → (tuples_made taking j k s p run ≤ n) ×
+    (fields_made taking j k s p run ≤ n)
 
 taking_covered : (n : ℕ) → Covers taking 0 (n + n) n n
 unfolding Limits

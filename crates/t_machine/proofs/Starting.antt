@@ -1,5 +1,6 @@
 -- A machine that was loaded stands for the start of its program.
-use Rattle.std.proofs.Common.{◌≡◌, ℕ, zero, suc, ◌-◌, ◌≤◌, List, [], ◌∷◌, ◌++◌, length, take, Some, refl, sym, ap, ◌∙◌, subst, arith, slice_get, get_or, replicate}
+use Rattle.std.proofs.Common.{◌≡◌, ℕ, zero, suc, ◌-◌, ◌≤◌, List, [], ◌∷◌, ◌++◌, length, take, Some, refl, sym, ap}
+use Rattle.std.proofs.Common.{◌∙◌, subst, arith, slice_get, get_or, replicate}
 use Rattle.std.proofs.lemmas.Option.{slice_get_read}
 use Rattle.std.specs.Prelude.{map}
 use Rattle.t_terms.specs.Tree.{TBlock, TProg}
@@ -36,17 +37,21 @@ take_none zero = refl
 take_none (suc n) = refl
 
 -- a vector that was empty, after it was filled up
-pub filled_up : (n k : ℕ) (xs ys : List Word) → xs ≡ [] → k ≡ 0 → ys ≡ take n xs ++ replicate (n - k) Empty → ys ≡ replicate n Empty
+pub filled_up : (n k : ℕ) (xs ys : List Word) → xs ≡ [] → k ≡ 0 → ys ≡ take n xs ++ replicate (n - k) Empty →
+    ys ≡ replicate n Empty
 filled_up n k xs ys e z is =
     let whole : n - k ≡ n = omega arith in
-    is ∙ ap (λ us. take n us ++ replicate (n - k) Empty) e ∙ ap (λ us. us ++ replicate (n - k) Empty) (take_none n) ∙ ap (λ j. replicate j Empty) whole
+    is ∙ ap (λ us. take n us ++ replicate (n - k) Empty) e ∙ ap (λ us. us ++ replicate (n - k) Empty) (take_none n)
+    ∙ ap (λ j. replicate j Empty) whole
 
 -- what is in range is there
 first_there : (bs : List TBlock) → 1 ≤ length bs → (b : TBlock) × (slice_get bs 0 ≡ Some b)
 first_there [] some = absurd (omega arith)
 first_there (b ∷ bs) some = (b, refl)
 
-pub begins : ProgramLaws → (P : TProg) (x : Heap) (ws : List Word) (code : Code) (at : ℕ) → 1 ≤ length P.blocks → IsCode code (erase_blocks P) → IsLaid code (erase_blocks P) → ArePlaces code.places → IsHeap x (erase_heap P) → ws ≡ replicate (length code.places) Empty → slice_get code.entries.items 0 ≡ Some at → Shows P 0 x ws code at
+pub begins : ProgramLaws → (P : TProg) (x : Heap) (ws : List Word) (code : Code) (at : ℕ) → 1 ≤ length P.blocks →
+    IsCode code (erase_blocks P) → IsLaid code (erase_blocks P) → ArePlaces code.places → IsHeap x (erase_heap P) →
+    ws ≡ replicate (length code.places) Empty → slice_get code.entries.items 0 ≡ Some at → Shows P 0 x ws code at
 begins laws P x ws code at some is laid places heap words entry =
     let b = first_there P.blocks some in
     record {
@@ -68,14 +73,19 @@ begins laws P x ws code at some is laid places heap words entry =
     }
 
 -- what loading makes
-pub starts : ProgramLaws → (p : TProgram) → 1 ≤ length (blocks_of p.blocks.items) → (lent : List Block) → lent ≡ p.blocks.items → (code : Code) → IsCode code (map erase_block (blocks_of lent)) → IsLaid code (map erase_block (blocks_of lent)) → ArePlaces code.places → (n : ℕ) → n ≡ length code.places
+pub starts : ProgramLaws → (p : TProgram) → 1 ≤ length (blocks_of p.blocks.items) → (lent : List Block) →
+    lent ≡ p.blocks.items → (code : Code) → IsCode code (map erase_block (blocks_of lent)) →
+    IsLaid code (map erase_block (blocks_of lent)) → ArePlaces code.places → (n : ℕ) → n ≡ length code.places
     → (x : Heap) (tuples : List Data) → tuples ≡ p.heap.items → IsHeap x (map (map erase_datum) (data_of tuples))
-    → (xs : List Word) → xs ≡ [] → (k : ℕ) → k ≡ 0 → (ws : List Word) → ws ≡ take n xs ++ replicate (n - k) Empty → (at : ℕ) → at ≡ get_or code.entries.items 0 at → Shows (program p) 0 x ws code at
+    → (xs : List Word) → xs ≡ [] → (k : ℕ) → k ≡ 0 → (ws : List Word) → ws ≡ take n xs ++ replicate (n - k) Empty →
+    (at : ℕ) → at ≡ get_or code.entries.items 0 at → Shows (program p) 0 x ws code at
 starts laws p some lent same code is laid places n count x tuples all heap xs none k none_kept ws words at entry =
     let bs = p.blocks.items in
     let holds = subst (λ (cs : List Block). IsCode code (map erase_block (blocks_of cs))) same is in
     let lies = subst (λ (cs : List Block). IsLaid code (map erase_block (blocks_of cs))) same laid in
-    let entries = first_entry code.places code.instructions.items code.entries.items (map erase_block (blocks_of bs)) holds (erased_count (blocks_of bs) some) in
-    begins laws (program p) x ws code at some holds lies places (subst (λ (ys : List Data). IsHeap x (map (map erase_datum) (data_of ys))) all heap)
+    let entries = first_entry code.places code.entries.items code.instructions.items code.entries.items
+    (map erase_block (blocks_of bs)) holds (erased_count (blocks_of bs) some) in
+    begins laws (program p) x ws code at some holds lies places (subst (λ (ys : List Data). IsHeap x (map
+    (map erase_datum) (data_of ys))) all heap)
     (filled_up n k xs ws none none_kept words ∙ ap (λ j. replicate j Empty) count)
     (slice_get_read code.entries.items (length code.entries.items) 0 at refl entries entry)

@@ -1,5 +1,5 @@
 -- How the blocks lie in the code, and which registers have places.
-use Rattle.std.specs.Prelude.{◌≡◌, ℕ, zero, suc, ◌+◌, ◌<◌, List, [], ◌∷◌, length, Some, slice_get, ◌⊎◌}
+use Rattle.std.specs.Prelude.{◌≡◌, ℕ, zero, suc, ◌+◌, ◌<◌, List, [], ◌∷◌, length, Some, ◌⊎◌}
 use Rattle.t_terms.specs.Tree.{TBase, Reg, Int, Label, Data}
 use Rattle.t_rules.specs.Erase.{EInstr, EArith, EBnz, ELd, EMalloc, EMov, ESt, ESeq, EThen, EJmp, EHalt}
 use Rattle.t_machine.specs.Places.{PlaceList, place_of}

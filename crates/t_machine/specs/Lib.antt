@@ -1,3 +1,5 @@
+pub mod Action
+pub mod Along
 pub mod Code
 pub mod Heap
 pub mod Laid

@@ -1,5 +1,5 @@
 -- What a run of the machine tells of the program that it runs.
-use Rattle.std.specs.Prelude.{◌≡◌, ℕ, ◌+◌, ◌<◌, ◌≤◌, ℤ, Option, Some, option_map, slice_get}
+use Rattle.std.specs.Prelude.{◌≡◌, ℕ, ◌+◌, ◌<◌, ◌≤◌, ℤ, Option, option_map}
 use Rattle.t_terms.specs.declared.shown.Shown.{Shown}
 use Rattle.t_terms.specs.Tree.{TProg}
 use Rattle.t_terms.specs.Whole.{Whole}
@@ -8,9 +8,7 @@ use Rattle.t_rules.specs.Machine.{State, Place, Spot, After, HaltedAfter, HaltsW
 use Rattle.t_rules.specs.LawsSound.{regs_of}
 use Rattle.t_rules.specs.Erase.{ERegs, erase_regs}
 use Rattle.t_machine.specs.Words.{shown_word, regs_of as held_in}
-use Rattle.t_machine.specs.Steps.{IsHalt}
 use Rattle.t_machine.specs.State.{Shows}
-use Rattle.t_machine.specs.declared.code.Instruction.{Instruction}
 use Rattle.t_machine.specs.declared.machine.Machine.{Machine}
 use Rattle.t_machine.specs.declared.machine.Ran.{Ran}
 use Rattle.t_machine.specs.declared.machine.Ran.TheVariants.{Halted, Spent, NoMemory}
@@ -30,10 +28,6 @@ IsPlaceAfter P m block index = (s : State) (p : Place) → After P m s p → p �
 -- the word of a register in that state, without types, if it has one
 abbrev pub IsRegAfter : TProg → ℕ → ℕ → Option Shown → Type 0
 IsRegAfter P m r word = (s : State) (p : Place) → After P m s p → option_map shown_word word ≡ erase_regs (regs_of s) r
-
--- the machine's next instruction is not `halt`
-abbrev pub IsRunning : Machine → Type 0
-IsRunning x = (i : Instruction) → slice_get x.code.instructions.items x.at ≡ Some i → IsHalt i → ⊥
 
 -- how many steps were made by a run that was allowed n
 abbrev pub steps_made : ℕ → Ran → ℕ

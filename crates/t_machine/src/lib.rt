@@ -10,6 +10,7 @@ mod loading;
 mod machine;
 mod places;
 mod placing;
+mod running;
 mod word;
 
 pub use laws::{

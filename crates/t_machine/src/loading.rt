@@ -1,5 +1,5 @@
 // Loading: registers get places, and types and packages are left out.
-ghost use Rattle.std.specs.Prelude.{◌≡◌, ℕ, List, [], ◌∷◌, ◌++◌, map, IfOk, OnOk};
+ghost use Rattle.std.specs.Prelude.{◌≡◌, ℕ, ◌+◌, List, [], ◌∷◌, ◌++◌, map, slice_index, IfOk, OnOk};
 ghost use Rattle.t_terms.specs.Read.{base as base_tree, value as value_tree, instr as instr_tree, end_of};
 ghost use Rattle.t_terms.specs.Read.{block as block_tree, blocks_of, data_fields, data_of};
 ghost use Rattle.t_terms.specs.ReadProgram.{program as program_of};
@@ -10,11 +10,13 @@ ghost use Rattle.t_rules.specs.Erase.{erase_value, erase_instr, erase_end, erase
 ghost use Rattle.t_machine.specs.Heap.{IsHeap};
 ghost use Rattle.t_machine.specs.Words.{word};
 ghost use Rattle.t_machine.specs.Places.{Extends};
-ghost use Rattle.t_machine.specs.Code.{IsBase, IsInstr, IsEnd, IsCode};
-ghost use Rattle.t_machine.specs.Laid.{Adds, InBase, InInstr, InBlock, IsLaid, IsNamed};
+ghost use Rattle.t_machine.specs.Action.{action};
+ghost use Rattle.t_machine.specs.Code.{IsBase, IsNumber, IsTarget, IsInstr, IsEnd, IsCode};
+ghost use Rattle.t_machine.specs.Laid.{size, begins, Adds, InBase, InInstr, InBlock, IsLaid, IsNamed};
+ghost use Rattle.t_machine.specs.Lowering.{IsFilled};
 ghost use Rattle.t_machine.specs.Runs.{Stands};
 
-use crate::code::{Code, Instruction, Operand};
+use crate::code::{Code, Instruction, Number, Operand, Target};
 use crate::heap::Heap;
 use crate::laws::programs_keep_laws;
 use crate::machine::Machine;
@@ -28,7 +30,8 @@ use t_types::TType;
 
 /// A machine that stands at the start of the program. It takes a place for each register that the program names and for
 /// no other, and the data and the code; a run takes memory at a `malloc` alone. Its code is the blocks one after the
-/// other, so that a place in it tells the block and the instruction (`places_are_read_back`).
+/// other, so that a place in it tells the block and the instruction (`places_are_read_back`). Answers want of memory
+/// also where the program names more than 2^32 registers, or its code has more places than an index can tell.
 pub fn load(alloc: Global, program: &Checked) -> Result<Machine, OutOfMemory>
     ensures stands { IfOk result (Stands (program_of (checked_program program.now)) 0) }
     ensures laid { IfOk result (λ x. IsLaid x.code (erase_blocks (program_of (checked_program program.now)))) }
@@ -90,9 +93,10 @@ fn load_blocks(alloc: Global, blocks: &[Block]) -> Result<Code, OutOfMemory>
     ensures laid { IfOk result (λ x. IsLaid x (map erase_block (blocks_of blocks.now))) }
     ensures named { IfOk result (λ x. IsNamed x (map erase_block (blocks_of blocks.now))) }
 {
+    let entries = load_entries(alloc, blocks)?;
     let mut code = Code {
         instructions: Vec::new(alloc),
-        entries: Vec::new(alloc),
+        entries,
         places: Places::new(alloc),
     };
     for block in blocks {
@@ -101,26 +105,52 @@ fn load_blocks(alloc: Global, blocks: &[Block]) -> Result<Code, OutOfMemory>
     Ok(code)
 }
 
+// Where each block is to begin in the code.
+fn load_entries(alloc: Global, blocks: &[Block]) -> Result<Vec<usize>, OutOfMemory>
+    ensures { IfOk result (λ v. v.items ≡ begins 0 (map erase_block (blocks_of blocks.now))) }
+{
+    let mut entries = Vec::new(alloc);
+    let mut start = 0;
+    for block in blocks {
+        entries.push(start)?;
+        let end = block_end(start, block)?;
+        start = end;
+    }
+    Ok(entries)
+}
+
+// Where a block ends that begins at the place.
+fn block_end(start: usize, block: &Block) -> Result<usize, OutOfMemory>
+    ensures { IfOk result (λ n. n ≡ start + size (erase_block (block_tree block.now))) }
+{
+    let count = block.body.len();
+    let Some(last) = start.checked_add(count) else {
+        return Err(OutOfMemory);
+    };
+    match last.checked_add(1) {
+        Some(end) => Ok(end),
+        None => Err(OutOfMemory),
+    }
+}
+
 // Puts a block after the blocks of the code.
 fn load_block(code: &mut Code, block: &Block) -> Result<(), OutOfMemory>
-    ensures code { OnOk result ((cs : List ESeq) → IsCode code.old cs →
-        IsCode code.new (cs ++ erase_block (block_tree block.now) ∷ [])) }
-    ensures laid { OnOk result ((cs : List ESeq) → IsLaid code.old cs →
-        IsLaid code.new (cs ++ erase_block (block_tree block.now) ∷ [])) }
+    ensures filled { OnOk result ((cs : List ESeq) → IsFilled code.old cs →
+        IsFilled code.new (cs ++ erase_block (block_tree block.now) ∷ [])) }
+    ensures entries { OnOk result (code.new.entries.items ≡ code.old.entries.items) }
     ensures named { OnOk result (Adds code.old.places code.new.places (InBlock (erase_block (block_tree block.now)))) }
 {
-    code.entries.push(code.instructions.len())?;
     for step in &block.body {
-        let instruction = load_instr(&mut code.places, &step.0)?;
+        let instruction = load_instr(&mut code.places, &code.entries, &step.0)?;
         code.instructions.push(instruction)?;
     }
-    let last = load_end(&mut code.places, &block.end)?;
+    let last = load_end(&mut code.places, &code.entries, &block.end)?;
     code.instructions.push(last)?;
     Ok(())
 }
 
-fn load_instr(places: &mut Places, i: &Instr) -> Result<Instruction, OutOfMemory>
-    ensures same { IfOk result (λ o. IsInstr places.new o (erase_instr (instr_tree i.now))) }
+fn load_instr(places: &mut Places, entries: &[usize], i: &Instr) -> Result<Instruction, OutOfMemory>
+    ensures same { IfOk result (λ o. IsInstr places.new entries.now (action o) (erase_instr (instr_tree i.now))) }
     ensures kept { OnOk result (Extends places.old places.new) }
     ensures named { OnOk result (Adds places.old places.new (InInstr (erase_instr (instr_tree i.now)))) }
 {
@@ -128,13 +158,15 @@ fn load_instr(places: &mut Places, i: &Instr) -> Result<Instruction, OutOfMemory
         Instr::Arith { op, rd, rs, v } => {
             let rd = places.place(*rd)?;
             let rs = places.place(*rs)?;
-            let v = load_value(places, v)?;
-            Ok(Instruction::Arith { op: *op, rd, rs, v })
+            let v = load_number(places, v)?;
+            let arith = Instruction::arith(*op, rd, rs, v);
+            Ok(arith)
         }
         Instr::Bnz { r, v } => {
             let r = places.place(*r)?;
-            let v = load_value(places, v)?;
-            Ok(Instruction::Bnz { r, v })
+            let v = load_target(places, entries, v)?;
+            let bnz = Instruction::bnz(r, v);
+            Ok(bnz)
         }
         Instr::Ld { rd, rs, field } => load_read(places, *rd, *rs, *field),
         Instr::Malloc { rd, types } => {
@@ -152,7 +184,7 @@ fn load_instr(places: &mut Places, i: &Instr) -> Result<Instruction, OutOfMemory
 
 // A read of a field.
 fn load_read(places: &mut Places, rd: u64, rs: u64, field: u64) -> Result<Instruction, OutOfMemory>
-    ensures same { IfOk result (λ o. IsInstr places.new o (ELd rd rs field)) }
+    ensures same { IfOk result (λ o. (es : List ℕ) → IsInstr places.new es (action o) (ELd rd rs field)) }
     ensures kept { OnOk result (Extends places.old places.new) }
     ensures named { OnOk result (Adds places.old places.new (InInstr (ELd rd rs field))) }
 {
@@ -164,7 +196,7 @@ fn load_read(places: &mut Places, rd: u64, rs: u64, field: u64) -> Result<Instru
 
 // A write of a field.
 fn load_write(places: &mut Places, rd: u64, field: u64, rs: u64) -> Result<Instruction, OutOfMemory>
-    ensures same { IfOk result (λ o. IsInstr places.new o (ESt rd field rs)) }
+    ensures same { IfOk result (λ o. (es : List ℕ) → IsInstr places.new es (action o) (ESt rd field rs)) }
     ensures kept { OnOk result (Extends places.old places.new) }
     ensures named { OnOk result (Adds places.old places.new (InInstr (ESt rd field rs))) }
 {
@@ -176,24 +208,27 @@ fn load_write(places: &mut Places, rd: u64, field: u64, rs: u64) -> Result<Instr
 
 // A move, or an unpack, which is one without types.
 fn load_move(places: &mut Places, rd: u64, v: &Value) -> Result<Instruction, OutOfMemory>
-    ensures same { IfOk result (λ o. IsInstr places.new o (EMov rd (erase_value (value_tree v.now)))) }
+    ensures same { IfOk result (λ o. (es : List ℕ) →
+        IsInstr places.new es (action o) (EMov rd (erase_value (value_tree v.now)))) }
     ensures kept { OnOk result (Extends places.old places.new) }
     ensures named { OnOk result (Adds places.old places.new (InInstr (EMov rd (erase_value (value_tree v.now))))) }
 {
     let rd = places.place(rd)?;
     let v = load_value(places, v)?;
-    Ok(Instruction::Mov { rd, v })
+    let mov = Instruction::mov(rd, v);
+    Ok(mov)
 }
 
-fn load_end(places: &mut Places, end: &End) -> Result<Instruction, OutOfMemory>
-    ensures same { IfOk result (λ o. IsEnd places.new o (erase_end (end_of end.now))) }
+fn load_end(places: &mut Places, entries: &[usize], end: &End) -> Result<Instruction, OutOfMemory>
+    ensures same { IfOk result (λ o. IsEnd places.new entries.now (action o) (erase_end (end_of end.now))) }
     ensures kept { OnOk result (Extends places.old places.new) }
     ensures named { OnOk result (Adds places.old places.new (InBlock (erase_end (end_of end.now)))) }
 {
     match end {
         End::Jmp(v) => {
-            let v = load_value(places, v)?;
-            Ok(Instruction::Jmp { v })
+            let v = load_target(places, entries, v)?;
+            let jmp = Instruction::jmp(v);
+            Ok(jmp)
         }
         End::Halt => {
             let r = places.place(1)?;
@@ -215,6 +250,50 @@ fn load_value(places: &mut Places, v: &Value) -> Result<Operand, OutOfMemory>
         Base::Int(i) => Ok(Operand::Int(i)),
         Base::Label(l) => Ok(Operand::Label(l as usize)),
         Base::Data(d) => Ok(Operand::Data(d as usize)),
+    }
+}
+
+// The right operand of an operation. What is no integer, with which no accepted program computes, counts as 0.
+fn load_number(places: &mut Places, v: &Value) -> Result<Number, OutOfMemory>
+    ensures same { IfOk result (λ o. IsNumber places.new o (erase_value (value_tree v.now))) }
+    ensures kept { OnOk result (Extends places.old places.new) }
+    ensures named { OnOk result (Adds places.old places.new (InBase (erase_value (value_tree v.now)))) }
+{
+    match base_of(v) {
+        Base::Reg(r) => {
+            let place = places.place(r)?;
+            Ok(Number::Register(place))
+        }
+        Base::Int(i) => Ok(Number::Int(i)),
+        Base::Label(_) => Ok(Number::Int(0)),
+        Base::Data(_) => Ok(Number::Int(0)),
+    }
+}
+
+// Where a branch or a jump leads. What is no label, to which no accepted program goes, counts as the first place.
+fn load_target(places: &mut Places, entries: &[usize], v: &Value) -> Result<Target, OutOfMemory>
+    ensures same { IfOk result (λ o. IsTarget places.new entries.now o (erase_value (value_tree v.now))) }
+    ensures kept { OnOk result (Extends places.old places.new) }
+    ensures named { OnOk result (Adds places.old places.new (InBase (erase_value (value_tree v.now)))) }
+{
+    match base_of(v) {
+        Base::Reg(r) => {
+            let place = places.place(r)?;
+            Ok(Target::Register(place))
+        }
+        Base::Label(l) => Ok(Target::Entry(entry(entries, l))),
+        Base::Int(_) => Ok(Target::Entry(0)),
+        Base::Data(_) => Ok(Target::Entry(0)),
+    }
+}
+
+// Where the block of a label begins, or 0 where there is no such block.
+fn entry(entries: &[usize], label: u64) -> usize
+    ensures { result ≡ slice_index entries.now label }
+{
+    match entries.get(label as usize) {
+        Some(start) => *start,
+        None => 0,
     }
 }
 

@@ -8,11 +8,12 @@ use std::alloc::Global;
 use std::collections::BTreeMap;
 use std::marker::Model;
 
-/// A place for the word of each register that a program names, whatever the register's number. The places count from 0.
-/// Contracts see it as the list of the registers, each with its place.
+/// A place for the word of each register that a program names, whatever the register's number. The places count from 0,
+/// and are 32 bits each: for more than 2^32 registers memory is wanted. Contracts see it as the list of the registers,
+/// each with its place.
 #[derive(Drop)]
 pub(crate) struct Places {
-    map: BTreeMap<u64, usize>,
+    map: BTreeMap<u64, u32>,
 }
 
 impl Model for Places {
@@ -43,14 +44,14 @@ impl Places {
     }
 
     // The place of a register, where it has one.
-    pub(crate) fn find(&self, register: u64) -> Option<usize>
+    pub(crate) fn find(&self, register: u64) -> Option<u32>
         ensures { result ≡ place_of self.now register }
     {
         self.map.get(&register).copied()
     }
 
     // The place of a register, a new one where it has none yet.
-    pub(crate) fn place(&mut self, register: u64) -> Result<usize, OutOfMemory>
+    pub(crate) fn place(&mut self, register: u64) -> Result<u32, OutOfMemory>
         ensures place { IfOk result (λ k. place_of self.new register ≡ Some k) }
         ensures kept { OnOk result (Extends self.old self.new) }
         ensures only { OnOk result (Adds self.old self.new (λ r. r ≡ register)) }
@@ -58,7 +59,11 @@ impl Places {
         if let Some(place) = self.map.get(&register) {
             return Ok(*place);
         }
-        let place = self.map.len();
+        let count = self.map.len();
+        if count > u32::MAX as usize {
+            return Err(OutOfMemory);
+        }
+        let place = count as u32;
         self.map.insert(register, place)?;
         Ok(place)
     }

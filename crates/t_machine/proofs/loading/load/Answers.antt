@@ -15,7 +15,8 @@ invariant_of-result c =
     let tuples = c.deref-2.ensures.value
     ∙ ap (λ (q : TProgram). q.heap.items) (c.program-2.ensures.same ∙ sym c.program.ensures.same) in
     let shows = starts c.programs_keep_laws.ensures p c.program.result.now.whole.0 c.deref.result.now
-    c.deref.ensures.value c.in_ok-code.code c.in_ok-code.ensures.code c.in_ok-code.ensures.laid c.len-count.ensures.places
+    c.deref.ensures.value c.in_ok-code.code c.in_ok-code.ensures.code c.in_ok-code.ensures.laid
+    c.len-count.ensures.places
     c.len-count.result c.len-count.ensures.len c.in_ok-heap.heap c.deref-2.result.now tuples
     c.in_ok-heap.ensures c.new-registers.result.items c.new-registers.ensures.items _
     c.new-registers.ensures.len c.resize.new.self.items c.in_ok-resize.ensures.items c.index-at.result.now
@@ -28,7 +29,8 @@ returns-clause-stands c =
     let tuples = c.deref-2.ensures.value
     ∙ ap (λ (q : TProgram). q.heap.items) (c.program-2.ensures.same ∙ sym c.program.ensures.same) in
     let shows = starts c.programs_keep_laws.ensures p c.program.result.now.whole.0 c.deref.result.now
-    c.deref.ensures.value c.in_ok-code.code c.in_ok-code.ensures.code c.in_ok-code.ensures.laid c.len-count.ensures.places
+    c.deref.ensures.value c.in_ok-code.code c.in_ok-code.ensures.code c.in_ok-code.ensures.laid
+    c.len-count.ensures.places
     c.len-count.result c.len-count.ensures.len c.in_ok-heap.heap c.deref-2.result.now tuples
     c.in_ok-heap.ensures c.new-registers.result.items c.new-registers.ensures.items _
     c.new-registers.ensures.len c.resize.new.self.items c.in_ok-resize.ensures.items c.index-at.result.now

@@ -7,4 +7,5 @@ use Rattle.t_machine.proofs.loading.load_block.Given as goal
 
 abbrev pub invariant-loop-step : goal.invariant-loop-step
 invariant-loop-step l =
-    IsBegun l.fn.code l.code (erase_seq (seq_of (body (drop l.step-index l.step-items)) (end_of l.block.end))) (erase_seq (seq_of (body l.step-items) (end_of l.block.end)))
+    IsBegun l.fn.code l.code (erase_seq (seq_of (body (drop l.step-index l.step-items)) (end_of l.block.end)))
+    (erase_seq (seq_of (body l.step-items) (end_of l.block.end)))

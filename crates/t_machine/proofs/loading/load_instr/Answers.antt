@@ -2,12 +2,17 @@ use Rattle.std.proofs.Common.{OnOk, ap, sym, subst}
 use Rattle.t_terms.specs.Read.{instr as instr_tree}
 use Rattle.t_rules.specs.Erase.{erase_instr}
 use Rattle.t_terms.specs.declared.instr.Instr.{Instr}
+use Rattle.t_machine.specs.Action.{Action}
+use Rattle.t_machine.specs.Code.{IsInstr}
 use Rattle.t_machine.specs.Laid.{InInstr, Adds}
 use Rattle.t_machine.proofs.loading.load_instr.Goals as goal
 
 pub returns-in_ok-v-in-Arith-clause-same : goal.returns-in_ok-v-in-Arith-clause-same
 returns-in_ok-v-in-Arith-clause-same c =
-    let kept = c.in_ok-v-in-Arith.ensures.kept in (
+    let kept = c.in_ok-v-in-Arith.ensures.kept in
+    subst (λ (a : Action). IsInstr c.load_number.new.places c.args.entries.now a (erase_instr
+    (instr_tree c.args.i.now)))
+    (sym c.arith-arith.ensures) (
       c.in-Arith.rd,
       c.in-Arith.rs,
       _,

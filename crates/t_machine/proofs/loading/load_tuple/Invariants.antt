@@ -8,5 +8,6 @@ use Rattle.t_machine.proofs.loading.load_tuple.Given as goal
 abbrev pub invariant-loop-field : goal.invariant-loop-field
 invariant-loop-field l = record {
   starts : l.heap.starts.items ≡ l.fn.heap.starts.items ++ length l.fn.heap.cells.items ∷ [];
-  cells : map word l.heap.cells.items ≡ map word l.fn.heap.cells.items ++ map erase_datum (plain_fields (data_fields (take l.field-index l.fields)));
+  cells : map word l.heap.cells.items ≡ map word l.fn.heap.cells.items ++ map erase_datum (plain_fields (data_fields
+      (take l.field-index l.fields)));
 }

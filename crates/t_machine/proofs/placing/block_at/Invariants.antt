@@ -1,4 +1,4 @@
-use Rattle.std.proofs.Common.{ℕ, ◌-◌, ◌<◌, ◌≤◌, length}
+use Rattle.std.proofs.Common.{◌-◌, ◌<◌, ◌≤◌, length}
 use Rattle.t_machine.specs.Placing.{begin_at}
 use Rattle.t_machine.proofs.placing.block_at.Given as goal
 

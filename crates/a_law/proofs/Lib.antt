@@ -18,8 +18,8 @@ mod Rel
 mod Rows
 mod Scopes
 mod Settling
+mod Shown
 mod Standing
 mod Thirds
-mod Tuples
 mod Types
 mod Typing

@@ -105,7 +105,7 @@ module _ (env : List Thing) (k : ℕ) (good : Good env k) where
       small (suc i) l m gs e = let x = good.small i l m gs e in omega (arith, x)
 
 -- which form a value has
-abbrev form : HVal → ℕ
+abbrev pub form : HVal → ℕ
 form (HVar i) = 0
 form (HInt n) = 1
 form (HLabel l) = 2

@@ -1,11 +1,9 @@
 -- Hoisted values and allocated words; variables by level, and the constants that they name; data in the heap.
-use Rattle.std.proofs.Common.{pos, ◌≡◌, ◌<◌, ℕ, zero, suc, ◌-◌, List, [], ◌∷◌, ◌++◌, length, Option, Some, None, refl, ap, ◌∙◌, arith}
-use Rattle.std.specs.Prelude.{map, slice_get, slice_set, true, false}
-use Rattle.a_law.specs.Allocate.{Known, is_some, level_of, n_v, named, or_zero, v_next, val, vals, var_of}
-use Rattle.a_terms.specs.Meaning.{AHeap, AWord, ZInt, ZLabel, ZTuple, datum, value, values, with_first}
-use Rattle.a_terms.specs.Tree.{AConsts, AVal}
-use Rattle.h_terms.specs.H.{HVal, HVals, MoreHVals, NoHVals}
-use Rattle.h_terms.specs.Meaning.{HWord, HWords, MoreHWords, NoHWords, YCell, YInt, YLabel, YTuple, hat, hheld, hsize}
+use Rattle.std.proofs.Common.{◌≡◌, ◌<◌, ℕ, zero, suc, ◌-◌, List, [], ◌∷◌, ◌++◌, length, Option, Some, None, refl, ap, ◌∙◌, arith}
+use Rattle.std.specs.Prelude.{map, slice_get, slice_set}
+use Rattle.a_terms.specs.Meaning.{AHeap, AWord, ZInt, ZLabel, ZTuple, datum}
+use Rattle.a_terms.specs.Tree.{AConsts}
+use Rattle.h_terms.specs.Meaning.{HWord, HWords, MoreHWords, NoHWords, YCell, YInt, YLabel, YTuple, hheld, hsize}
 
 -- no cell has this address; m: the address of each cell, by place
 abbrev pub Apart : List ℕ → ℕ → Type 0
@@ -110,64 +108,6 @@ at_new d xs y =
 -- every level's word stays
 abbrev pub Later : {A : Type 0} → ℕ → List A → ℕ → List A → Type 0
 Later {A} d xs d2 xs2 = (l : ℕ) (x : A) → At d xs l x → At d2 xs2 l x
-
--- the word of the constant that a variable names
-abbrev pub Names : Option AVal → AWord → Type 0
-Names None w = Unit {0}
-Names (Some c) w = value [] c ≡ Some w
-
-abbrev pub Agree : List ℕ → AHeap → ℕ → List Known → HWords → List AWord → Type 0
-Agree m h d [] NoHWords env = Unit {0}
-Agree m h d [] (MoreHWords y ys) env = ⊥
-Agree m h d (l ∷ ls) NoHWords env = ⊥
-Agree m h d (l ∷ ls) (MoreHWords y ys) env = ((w : AWord) × Rel m h y w × At d env l.level w × Names l.constant w) × Agree m h d ls ys env
-
-pub agree_later : (ls : List Known) (ys : HWords) (m m2 : List ℕ) (h h2 : AHeap) (d d2 : ℕ) (env env2 : List AWord) → Moves m h m2 h2 → Later d env d2 env2 → Agree m h d ls ys env → Agree m2 h2 d2 ls ys env2
-agree_later [] NoHWords m m2 h h2 d d2 env env2 g k a = tt
-agree_later [] (MoreHWords y ys) m m2 h h2 d d2 env env2 g k a = absurd a
-agree_later (l ∷ ls) NoHWords m m2 h h2 d d2 env env2 g k a = absurd a
-agree_later (l ∷ ls) (MoreHWords y ys) m m2 h h2 d d2 env env2 g k a =
-    ((a.0.0, rel_moves y a.0.0 m m2 h h2 g a.0.1, k l.level a.0.0 a.0.2, a.0.3), agree_later ls ys m m2 h h2 d d2 env env2 g k a.1)
-
--- what is left of a value reads w, from depth d on
-abbrev pub Read : List Known → ℕ → ℕ → HVal → AWord → ℕ → List AWord → Type 0
-Read ls b e v w d env = (d3 : ℕ) (env3 : List AWord) → Later d env d3 env3 → value env3 (val ls b e d3 v) ≡ Some w
-
-abbrev pub Reads : List Known → ℕ → ℕ → HVals → List AWord → ℕ → List AWord → Type 0
-Reads ls b e NoHVals [] d env = Unit {0}
-Reads ls b e NoHVals (w ∷ ws) d env = ⊥
-Reads ls b e (MoreHVals v vs) [] d env = ⊥
-Reads ls b e (MoreHVals v vs) (w ∷ ws) d env = Read ls b e v w d env × Reads ls (n_v ls b v) (v_next ls e v) vs ws d env
-
-pub reads_later : (vs : HVals) (ws : List AWord) (ls : List Known) (b e d d2 : ℕ) (env env2 : List AWord) → Later d env d2 env2 → Reads ls b e vs ws d env → Reads ls b e vs ws d2 env2
-reads_later NoHVals [] ls b e d d2 env env2 k r = tt
-reads_later NoHVals (w ∷ ws) ls b e d d2 env env2 k r = absurd r
-reads_later (MoreHVals v vs) [] ls b e d d2 env env2 k r = absurd r
-reads_later (MoreHVals v vs) (w ∷ ws) ls b e d d2 env env2 k r =
-    (λ d3 env3 q. r.0 d3 env3 (λ l x a. q l x (k l x a)), reads_later vs ws ls (n_v ls b v) (v_next ls e v) d d2 env env2 k r.1)
-
-pub all_read : (vs : HVals) (ws : List AWord) (ls : List Known) (b e d : ℕ) (env : List AWord) → Reads ls b e vs ws d env → values env (vals ls b e d vs) ≡ Some ws
-all_read NoHVals [] ls b e d env r = refl
-all_read NoHVals (w ∷ ws) ls b e d env r = absurd r
-all_read (MoreHVals v vs) [] ls b e d env r = absurd r
-all_read (MoreHVals v vs) (w ∷ ws) ls b e d env r =
-    ap (λ o. with_first o (values env (vals ls (n_v ls b v) (v_next ls e v) d vs))) (r.0 d env (λ l x a. a)) ∙ ap (with_first (Some w)) (all_read vs ws ls (n_v ls b v) (v_next ls e v) d env r.1)
-
--- a variable that names a constant
-pub named_read : (o : Option AVal) (w : AWord) → Names o w → is_some o ≡ true → value [] (or_zero o) ≡ Some w
-named_read None w n e = absurd (impossible e)
-  where
-    impossible : false ≡ true → ⊥
-    impossible x = cc
-named_read (Some c) w n e = n
-
-pub var_read : (m : List ℕ) (h : AHeap) (ls : List Known) (ys : HWords) (i d : ℕ) (env : List AWord) → Agree m h d ls ys env →
-    (w : AWord) × Rel m h (hat ys i) w × ((d3 : ℕ) (env3 : List AWord) → Later d env d3 env3 → value env3 (var_of d3 (level_of (slice_get ls i))) ≡ Some w) × Names (named (slice_get ls i)) w
-var_read m h [] NoHWords i d env a = (ZInt (pos 0), refl, λ d3 env3 k. refl, tt)
-var_read m h [] (MoreHWords y ys) i d env a = absurd a
-var_read m h (l ∷ ls) NoHWords i d env a = absurd a
-var_read m h (l ∷ ls) (MoreHWords y ys) zero d env a = (a.0.0, a.0.1, λ d3 env3 k. (k l.level a.0.0 a.0.2).1, a.0.3)
-var_read m h (l ∷ ls) (MoreHWords y ys) (suc i) d env a = var_read m h ls ys i d env a.1
 
 -- lists
 pub nth_seam : {A : Type 0} (xs ys : List A) (y : A) (i : ℕ) → i ≡ length xs → slice_get (xs ++ y ∷ ys) i ≡ Some y

@@ -10,7 +10,7 @@ use Rattle.h_terms.specs.H.{HVar, HInt, HLabel, HTuple, HApply, HPack, HVal, NoH
 use Rattle.a_law.specs.Allocate.{alloc_data, alloc_main, alloc_prog, atype}
 use Rattle.a_law.specs.Back.{back_data, back_t}
 use Rattle.a_law.specs.Constants.{settle_t, tuples_in}
-use Rattle.a_law.specs.Stands.{Any, Stands_t, Thing}
+use Rattle.a_law.specs.Stands.{Any, Stands, Stands_t, Thing}
 
 abbrev any : CTy
 any = TCSome (TCVar 0)
@@ -255,3 +255,30 @@ not_shared ds h (x, y, t, is, vx, vy, takes, inl (suc zero, many, (z, var, field
     not_first 2 refl set
 not_shared ds h (x, y, t, is, vx, vy, takes, inl (suc (suc n), many, rest)) = more_than_two n many
 not_shared ds h (x, y, t, is, vx, vy, takes, inr (one, rest)) = not_first 2 refl one
+
+-- x = <7>; y = <7>; z = #1 y; halt z: where the other one of two equal data is named each time, that is not the
+-- allocation, and stands for it too
+abbrev twins : HTm
+twins =
+    HLet (HName (one (HInt (pos 7))))
+    (HLet (HName (one (HInt (pos 7)))) (HLet (HProj 1 (HVar 0)) (HHalt (HVar 0))))
+
+abbrev exchanged : ATm
+exchanged = Let (Value (Data 1)) (Let (Value (Data 0)) (Let (Proj 1 (Var 0)) (Halt (Var 0))))
+
+exchanged_stands : Stands (alloc_prog [] twins) exchanged [] twins
+exchanged_stands = (
+  (_, _, refl, (_, _, refl, refl, refl), (_, _, refl, (_, _, refl, refl, refl), refl)),
+  tt,
+  (
+    _,
+    _,
+    refl,
+    (_, _, refl, refl, refl),
+    refl,
+    (_, _, refl, (_, _, refl, refl, refl), refl, (_, _, inl refl, refl, refl, (_, refl, refl, refl))),
+  ),
+)
+
+exchanged_halts : meaning (alloc_prog [] twins) exchanged 0 ≡ Halted (pos 7) []
+exchanged_halts = refl

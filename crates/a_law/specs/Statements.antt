@@ -7,8 +7,10 @@ use Rattle.h_terms.specs.Meaning.{hrun}
 use Rattle.h_terms.specs.Typing.{HProgramGood}
 use Rattle.a_terms.specs.Bound.{AFits}
 use Rattle.a_terms.specs.Meaning as A
+use Rattle.a_terms.specs.Tree.{ATm, AProg}
 use Rattle.a_terms.specs.Typing.{Program-ok}
 use Rattle.a_law.specs.Allocate.{alloc_prog, alloc_main}
+use Rattle.a_law.specs.Stands.{Stands}
 
 -- the blocks entered, the last one first
 abbrev pub onto_log : List ℕ → List ℕ → List ℕ
@@ -23,6 +25,12 @@ finish Stuck log = A.Wrong log
 -- a hoisted program's result as one of the allocated calculus, after the blocks of log
 abbrev pub ends : List ℕ → Result → A.Result
 ends log r = finish r.end (onto_log r.entered log)
+
+-- a typed program and whatever stands for it end alike within each number of calls, and enter the same blocks
+abbrev pub StandingMeansTheSame : Type 0
+StandingMeansTheSame =
+    (p : AProg) (main : ATm) (ks : HBlks) (t : HTm) → HProgramGood ks t → Stands p main ks t → (n : ℕ) →
+    A.meaning p main n ≡ ends [] (hrun n ks t)
 
 -- a typed program and its allocation end alike within each number of calls, and enter the same blocks
 abbrev pub AllocKept : Type 0

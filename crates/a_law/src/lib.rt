@@ -5,11 +5,18 @@ ghost use Rattle.a_law.specs.Back.{PutsBack, Settled};
 ghost use Rattle.a_law.specs.Mallocs.{MallocsAreAsked};
 ghost use Rattle.a_law.specs.OneAllocation.{OneAllocation};
 ghost use Rattle.a_law.specs.Stands.{AllocStands};
-ghost use Rattle.a_law.specs.Statements.{AllocFits, AllocKept, AllocTypesKept};
+ghost use Rattle.a_law.specs.Statements.{AllocFits, AllocKept, AllocTypesKept, StandingMeansTheSame};
 
 /// A typed program and its allocation end alike within each number of calls, and enter the same blocks.
 pub fn meaning_is_kept()
     ensures { AllocKept }
+{
+    h_terms::laws::h_never_stuck_law();
+}
+
+/// A typed program and whatever stands for it end alike within each number of calls, and enter the same blocks.
+pub fn standing_means_the_same()
+    ensures { StandingMeansTheSame }
 {
     h_terms::laws::h_never_stuck_law();
 }

@@ -1,31 +1,29 @@
--- Both ways, and the counts.
-use Rattle.std.proofs.Common.{◌≡◌, ℕ, zero, suc, ◌+◌, ◌<◌, ◌≤◌, ◌==◌, List, [], ◌∷◌, ◌++◌, length, Option, Some, None, refl, sym, ap, ap₂, ◌∙◌, subst, arith, ⊎_elim, ◌⊎◌, inl, inr, slice_get}
+-- Both ways, and the counts, of whatever is so by the rules.
+use Rattle.std.proofs.Common.{◌≡◌, ℕ, zero, suc, ◌+◌, ◌<◌, ◌≤◌, ◌==◌, List, [], ◌∷◌, length, Option, Some, None, refl}
+use Rattle.std.proofs.Common.{sym, ap, ap₂, ◌∙◌, subst, arith, ⊎_elim, ◌⊎◌, inl, inr, slice_get}
 use Rattle.std.specs.Prelude.{ℤ, option_map, map}
 use Rattle.std.proofs.lemmas.Bool.{cases_eq, cases_order, eq-eqb, ne_eqb}
-use Rattle.a_terms.specs.Tree as A
-use Rattle.a_terms.specs.Tree.{ATm, ABlk, AConsts, AProg, AVal, Var, Num, Lab, Data, Apply}
-use Rattle.a_terms.specs.Meaning.{AWord, Result, Halted, Spent, Wrong, value, datum, start_heap, meaning, NeverWrong}
-use Rattle.t_types.specs.Tree.{NoRegs}
-use Rattle.t_terms.specs.Tree.{TBlock}
+use Rattle.a_terms.specs.Tree.{ATm, ABlk, AConsts, AProg, AVal}
+use Rattle.a_terms.specs.Meaning.{AWord, Result, Halted, Spent, Wrong, datum, start_heap, meaning, NeverWrong}
+use Rattle.a_terms.specs.Bound.{thirds}
+use Rattle.t_terms.specs.Tree.{TBlock, TData, TProg}
 use Rattle.t_terms.specs.Whole.{Whole}
 use Rattle.t_rules.specs.Rules.{Accepted}
 use Rattle.t_rules.specs.Machine as M
 use Rattle.t_rules.specs.Machine.{Where, Next, Into, State, Place, After, HaltsWithin}
 use Rattle.t_rules.specs.Times.{Entries, entries, entered_by}
-use Rattle.t_rules.specs.Erase.{ESeq, EThen, EJmp, EHalt, EAt, EStep, EGoes, no_ewords, base_word, held, erase_value, erase_datum, erase_block, erase_blocks, estep}
+use Rattle.t_rules.specs.Erase.{ESeq, EThen, EJmp, EHalt, EAt, EStep, EGoes, no_ewords, held}
+use Rattle.t_rules.specs.Erase.{erase_datum, erase_block, erase_blocks, estep}
 use Rattle.t_rules.specs.ErasedRuns.{RunsErase, HaltsErased, StepsFirst}
 use Rattle.t_rules.specs.LawsTimes.{TimesWithinEntries}
-use Rattle.a_terms.specs.Bound.{thirds}
-use Rattle.gen_law.specs.Gen.{tys, block, generated_blocks, generated, firsts, seconds, extras, constant, data_of, generated_heap}
-use Rattle.gen_law.specs.GenLaws.{length_extras}
 use Rattle.gen_law.specs.Counting.{one, count, first_of, spare, share, share_of, credit, log_of, MadeOf}
 use Rattle.gen_law.specs.Correct.{FromMain, Keeps}
+use Rattle.gen_law.specs.Rules.{nothing, Fields, Tuples, Generates}
 use Rattle.gen_law.proofs.Leads.{LState, On, logged, lstep, so, after}
-use Rattle.gen_law.proofs.Words.{word, slot, tuple, heap}
+use Rattle.gen_law.proofs.Words.{slot, tuple, heap, Fits}
+use Rattle.gen_law.proofs.Decls.{reads_word}
 use Rattle.gen_law.proofs.Lift.{HaltsAt, start_of, count_same, run_logged, halts_typed, typed_halts}
-use Rattle.gen_law.proofs.Places.{has_all, has_front, has_back, length_firsts}
-use Rattle.gen_law.proofs.Loads.{applied_base}
-use Rattle.gen_law.proofs.Runs.{IsCalling, entered, Follows, term_runs, calls_run}
+use Rattle.gen_law.proofs.Runs.{IsCalling, entered, Follows, Laid, term_runs, calls_run}
 
 -- the blocks entered are kept
 abbrev Grown : ℕ → List ℕ → Option LState → Type 0
@@ -95,39 +93,39 @@ module _ (B : List ESeq) where
       go (Some v) p q k = let r = k v p q in (omega (arith, r.0), λ l. r.1 (omega arith))
 
 -- the first tuples of the heap
-held_slot : (o : Option AWord) → held (option_map word o) ≡ slot o
-held_slot None = refl
-held_slot (Some w) = refl
+none_held : (r : ℕ) (v : AVal) → None ≡ Some v → ⊥
+none_held r v e = cc
 
-constant_word : (v : AVal) → base_word no_ewords (erase_value (constant v)) ≡ option_map word (value [] v)
-constant_word (Var n) = refl
-constant_word (Num i) = refl
-constant_word (Lab l) = refl
-constant_word (Data n) = refl
-constant_word (Apply v ts) = ap (base_word no_ewords) (applied_base (constant v) (tys ts)) ∙ constant_word v
-constant_word (A.Pack h v s) = constant_word v
+none_fit : Fits no_ewords nothing []
+none_fit r v e = absurd (none_held r v e)
 
-tuple_word : (x : AConsts) → map erase_datum (data_of x) ≡ tuple (datum x)
-tuple_word [] = refl
-tuple_word (c ∷ cs) = ap₂ (λ o q. o ∷ q) (ap held (constant_word c.value) ∙ held_slot (value [] c.value)) (tuple_word cs)
+fields_word : (x : AConsts) (d : TData) → Fields x d → map erase_datum d ≡ tuple (datum x)
+fields_word [] [] f = refl
+fields_word [] (d ∷ ds) f = absurd f
+fields_word (c ∷ cs) [] f = absurd f
+fields_word (c ∷ cs) (d ∷ ds) f =
+    let r = reads_word no_ewords nothing [] none_fit c.value d.value f.0.0 in
+    ap₂ (λ o q. o ∷ q) (ap held r.2 ∙ sym (ap slot r.1)) (fields_word cs ds f.1)
 
-heap_word : (xs : List AConsts) → map (map erase_datum) (generated_heap xs) ≡ heap (start_heap xs)
-heap_word [] = refl
-heap_word (x ∷ xs) = ap₂ (λ o q. o ∷ q) (tuple_word x) (heap_word xs)
+heap_word : (xs : List AConsts) (ds : List TData) → Tuples xs ds → map (map erase_datum) ds ≡ heap (start_heap xs)
+heap_word [] [] f = refl
+heap_word [] (d ∷ ds) f = absurd f
+heap_word (x ∷ xs) [] f = absurd f
+heap_word (x ∷ xs) (d ∷ ds) f = ap₂ (λ o q. o ∷ q) (fields_word x d f.0) (heap_word xs ds f.1)
 
 no_variable : (n : ℕ) (w : AWord) → slice_get [] n ≡ Some w → ⊥
 no_variable n w x = cc
 
 -- the simulation, from the start
-module _ (p : AProg) (main : ATm) (k : ℕ) where
-  abbrev P : List TBlock
-  P = generated_blocks p main
-
+module _ (p : AProg) (main : ATm) (P : TProg) (by_rules : Generates p main P) (k : ℕ) where
   abbrev B : List ESeq
-  B = map erase_block P
+  B = map erase_block P.blocks
 
   abbrev at : ℕ
   at = suc (length p.blocks)
+
+  abbrev first : TBlock
+  first = by_rules.main_block.0
 
   -- the main term's block, and those of its third parts
   abbrev budget : ℕ
@@ -137,24 +135,19 @@ module _ (p : AProg) (main : ATm) (k : ℕ) where
   limit = credit p.blocks (at + thirds main) k budget
 
   abbrev begins : LState
-  begins = start_of (generated p main) (block 0 NoRegs [] at main)
+  begins = start_of P first
+
+  laid : Laid p P.blocks (at + thirds main)
+  laid = record { blocks = by_rules.blocks }
 
   follows : (c : ℕ) → Follows B k limit begins c (meaning p main c)
   follows c =
-      let fs = firsts p.blocks (at + thirds main) in
-      let es = extras p 0 [] [] at main in
-      let ss = seconds p p.blocks (at + thirds main) in
-      let all = (has_all P).1 in
-      let n1 = length_firsts p.blocks (at + thirds main) in
-      let n2 = length_extras p 0 [] [] at main in
-      let blocks = has_front P 1 fs (es ++ ss) all in
-      let rest = has_back P 1 at fs (es ++ ss) (omega arith) all in
-      let thirds_main = has_front P at es ss rest in
-      let thirds_rest = has_back P at (at + thirds main) es ss (omega arith) rest in
       let base : count k (0 ∷ []) + spare k at (thirds main) ≤ limit [] = omega arith in
-      let first = block 0 NoRegs [] at main in
-      subst (λ h. Follows B k limit (On (EAt h no_ewords (erase_block first)) (0 ∷ [])) c (meaning p main c)) (sym (heap_word p.tuples))
-      (term_runs p P (at + thirds main) k budget blocks thirds_rest c (calls_run p P (at + thirds main) k budget blocks thirds_rest c) main [] 0 at [] [] (start_heap p.tuples) [] no_ewords (0 ∷ []) (λ n w y x. absurd (no_variable n w x)) thirds_main base)
+      subst (λ h. Follows B k limit (On (EAt h no_ewords (erase_block first)) (0 ∷ [])) c (meaning p main c))
+      (sym (heap_word p.tuples P.heap by_rules.tuples))
+      (term_runs p P.blocks (at + thirds main) k budget laid c
+      (calls_run p P.blocks (at + thirds main) k budget laid c) main first.code [] 0 at [] [] (start_heap p.tuples) []
+      no_ewords (0 ∷ []) by_rules.main_block.2.code refl (λ n w y x. absurd (no_variable n w x)) base)
 
   back_from : (m n : ℕ) (i : ℤ) (t : LState) → n ≤ m → after B n begins ≡ Some t → HaltsAt t i → (r : Result) → ((log : List ℕ) → r ≡ Wrong log → ⊥) → Follows B k limit begins m r → (log : List ℕ) × (r ≡ Halted i log)
   back_from m n i t le a h (Halted j log) ne f =
@@ -290,33 +283,38 @@ credit_zero : (bs : List ABlk) (at main : ℕ) (log : List ℕ) → 0 < at → c
 credit_zero bs at main [] l = refl
 credit_zero bs at main (j ∷ log) l = let r = credit_zero bs at main log l in let s = share_zero bs at j (slice_get bs j) l in omega (arith, r, s)
 
-module _ (runs : RunsErase) (halts : HaltsErased) (steps : StepsFirst) (times : TimesWithinEntries) (p : AProg) (main : ATm) (never : NeverWrong p main) (whole : Whole (generated p main)) (acc : Accepted (generated p main)) where
+module _ (runs : RunsErase) (halts : HaltsErased) (steps : StepsFirst) (times : TimesWithinEntries) (p : AProg)
+    (main : ATm) (P : TProg) (by_rules : Generates p main P) (never : NeverWrong p main) (whole : Whole P)
+    (acc : Accepted P) where
   abbrev first_block : TBlock
-  first_block = block 0 NoRegs [] (suc (length p.blocks)) main
+  first_block = by_rules.main_block.0
+
+  at_first : slice_get P.blocks 0 ≡ Some first_block
+  at_first = by_rules.main_block.1
 
   abbrev n : ℕ
   n = suc (length p.blocks)
 
   -- the entries of a run, by the credit of the calls
-  most : (m : ℕ) (s : State) (z : Place) (run : After (generated p main) m s z) (k : ℕ) → count k (entries (generated p main) m s z run) ≤ limit p main k (log_of (meaning p main m))
+  most : (m : ℕ) (s : State) (z : Place) (run : After P m s z) (k : ℕ) → count k (entries P m s z run) ≤ limit p main P by_rules k (log_of (meaning p main m))
   most m s z run k =
-      counts_from p main k m _ (run_logged runs halts steps (generated p main) whole acc first_block refl m s z run) (meaning p main m) (never m) (follows p main k m)
+      counts_from p main P by_rules k m _ (run_logged runs halts steps P whole acc first_block at_first m s z run) (meaning p main m) (never m) (follows p main P by_rules k m)
 
-  forth : (c : ℕ) (i : ℤ) (log : List ℕ) → meaning p main c ≡ Halted i log → M.Halts (generated p main) i
-  forth c i log e = go (subst (Follows (erase_blocks (generated p main)) 0 (limit p main 0) (begins p main 0) c) e (follows p main 0 c))
+  forth : (c : ℕ) (i : ℤ) (log : List ℕ) → meaning p main c ≡ Halted i log → M.Halts P i
+  forth c i log e = go (subst (Follows (erase_blocks P) 0 (limit p main P by_rules 0) (begins p main P by_rules 0) c) e (follows p main P by_rules 0 c))
     where
-      go : Follows (erase_blocks (generated p main)) 0 (limit p main 0) (begins p main 0) c (Halted i log) → M.Halts (generated p main) i
+      go : Follows (erase_blocks P) 0 (limit p main P by_rules 0) (begins p main P by_rules 0) c (Halted i log) → M.Halts P i
       go f = typed f.state f.runs f.answers
         where
-          typed : (t : LState) → after (erase_blocks (generated p main)) f.steps (begins p main 0) ≡ Some t → HaltsAt t i → M.Halts (generated p main) i
-          typed (On x tlog) r a = (f.steps, halts_typed runs halts steps (generated p main) whole acc first_block refl f.steps x tlog i r a)
+          typed : (t : LState) → after (erase_blocks P) f.steps (begins p main P by_rules 0) ≡ Some t → HaltsAt t i → M.Halts P i
+          typed (On x tlog) r a = (f.steps, halts_typed runs halts steps P whole acc first_block at_first f.steps x tlog i r a)
 
-  back : (m : ℕ) (i : ℤ) → HaltsWithin (generated p main) m i → (log : List ℕ) × (meaning p main m ≡ Halted i log)
+  back : (m : ℕ) (i : ℤ) → HaltsWithin P m i → (log : List ℕ) × (meaning p main m ≡ Halted i log)
   back m i h =
-      let x = typed_halts runs halts steps (generated p main) whole acc first_block refl m i h in
-      back_from p main 0 m x.0 i x.1 x.2 x.3 x.4 (meaning p main m) (never m) (follows p main 0 m)
+      let x = typed_halts runs halts steps P whole acc first_block at_first m i h in
+      back_from p main P by_rules 0 m x.0 i x.1 x.2 x.3 x.4 (meaning p main m) (never m) (follows p main P by_rules 0 m)
 
-  entries_most : (m : ℕ) (s : State) (z : Place) (run : After (generated p main) m s z) (k l : ℕ) (b : ABlk) → MadeOf p.blocks (n + thirds main) k l b → Entries (generated p main) m s z run k ≤ count l (log_of (meaning p main m))
+  entries_most : (m : ℕ) (s : State) (z : Place) (run : After P m s z) (k l : ℕ) (b : ABlk) → MadeOf p.blocks (n + thirds main) k l b → Entries P m s z run k ≤ count l (log_of (meaning p main m))
   entries_most m s z run k l b o =
       let x = most m s z run k in
       let past : length p.blocks < (n + thirds main) = omega arith in
@@ -324,32 +322,32 @@ module _ (runs : RunsErase) (halts : HaltsErased) (steps : StepsFirst) (times : 
       let far = own_far p.blocks (n + thirds main) k l b past o n (thirds main) refl refl in
       let no : k ≡ 0 → ⊥ = λ e. ⊎_elim (λ y. absurd (omega arith)) (λ y. absurd (omega (arith, g))) o.own in
       let first = ap one (ne_eqb k 0 no) in
-      let y = credit_most p.blocks (n + thirds main) k l b past o (budget p main k) (omega (arith, far, first)) (log_of (meaning p main m)) in
-      omega (arith, x, y, count_same k (entries (generated p main) m s z run))
+      let y = credit_most p.blocks (n + thirds main) k l b past o (budget p main P by_rules k) (omega (arith, far, first)) (log_of (meaning p main m)) in
+      omega (arith, x, y, count_same k (entries P m s z run))
 
-  main_most : (m : ℕ) (s : State) (z : Place) (run : After (generated p main) m s z) (k : ℕ) → FromMain p main k → Entries (generated p main) m s z run k ≤ 1
+  main_most : (m : ℕ) (s : State) (z : Place) (run : After P m s z) (k : ℕ) → FromMain p main k → Entries P m s z run k ≤ 1
   main_most m s z run k o = ⊎_elim
       (λ (e : k ≡ 0).
       let x = most m s z run 0 in
-      let y = credit_zero p.blocks (n + thirds main) (budget p main 0) (log_of (meaning p main m)) (omega arith) in
+      let y = credit_zero p.blocks (n + thirds main) (budget p main P by_rules 0) (log_of (meaning p main m)) (omega arith) in
       let r = spare_out 0 n (thirds main) (inl (omega arith)) in
-      let c = count_same 0 (entries (generated p main) m s z run) in
+      let c = count_same 0 (entries P m s z run) in
       let one0 : one (0 == 0) ≡ 1 = refl in
-      let same = ap (Entries (generated p main) m s z run) e in
+      let same = ap (Entries P m s z run) e in
       omega (arith, x, y, r, c, same, one0))
       (λ (gt : length p.blocks < k).
       let x = most m s z run k in
-      let y = credit_main p.blocks (n + thirds main) k gt o.0 (budget p main k) (log_of (meaning p main m)) in
+      let y = credit_main p.blocks (n + thirds main) k gt o.0 (budget p main P by_rules k) (log_of (meaning p main m)) in
       let first = ap one (ne_eqb k 0 (λ z. absurd (omega arith))) in
-      omega (arith, x, y, first, spare_one k n (thirds main), count_same k (entries (generated p main) m s z run)))
+      omega (arith, x, y, first, spare_one k n (thirds main), count_same k (entries P m s z run)))
       o.1
 
-  pub keeps : Keeps p main (generated p main)
+  pub keeps : Keeps p main P
   keeps = record {
     forth = forth;
     back = back;
     entries = entries_most;
     main_entries = main_most;
-    places = λ m s z run k l i b o. omega (arith, times (generated p main) m s z run k i, entries_most m s z run k l b o);
-    main_places = λ m s z run k i o. omega (arith, times (generated p main) m s z run k i, main_most m s z run k o);
+    places = λ m s z run k l i b o. omega (arith, times P m s z run k i, entries_most m s z run k l b o);
+    main_places = λ m s z run k i o. omega (arith, times P m s z run k i, main_most m s z run k o);
   }

@@ -91,7 +91,7 @@ fits_header f (r ∷ m) (t ∷ g) b u a =
     (λ c. let own = a 0 t c refl in fits_insert f r (ty t) own.0 (header (λ n. u (suc n)) m g) own.1 own.2 rest)
     (λ c. rest)
 
-look_insert : (r : ℕ) (t : Ty) (x : TFile) → (lookup (insert r t x) r ≡ Some t) × ((q : ℕ) → q ≢ r → lookup (insert r t x) q ≡ lookup x q)
+pub look_insert : (r : ℕ) (t : Ty) (x : TFile) → (lookup (insert r t x) r ≡ Some t) × ((q : ℕ) → q ≢ r → lookup (insert r t x) q ≡ lookup x q)
 look_insert r t NoRegs = (look_same (lookup NoRegs) r t, λ q ne. look_other (lookup NoRegs) r q t ne)
 look_insert r t (MoreRegs p u x) =
     cond_both (r == p) (MoreRegs r t x) (cond (nat_lt r p) (MoreRegs r t (MoreRegs p u x)) (MoreRegs p u (insert r t x))) (λ z. (lookup z r ≡ Some t) × ((q : ℕ) → q ≢ r → lookup z q ≡ lookup (MoreRegs p u x) q))
@@ -118,7 +118,7 @@ pub apart_fewer : (m : List ℕ) (g : List ATy) (u v : ℕ → Bool) → ((n : �
 apart_fewer m g u v k a = record { same = a.same; own = λ i j x y. a.own i j (k i x) (k j y) }
 
 -- the header gives each its type
-look_header : (m : List ℕ) (g : List ATy) (u : ℕ → Bool) (n : ℕ) (t : ATy) → ((i j : ℕ) → u i ≡ true → u j ≡ true → i < length m → j < length m → place m i ≡ place m j → i ≡ j) → u n ≡ true → n < length m → slice_get g n ≡ Some t → lookup (header u m g) (place m n) ≡ Some (ty t)
+pub look_header : (m : List ℕ) (g : List ATy) (u : ℕ → Bool) (n : ℕ) (t : ATy) → ((i j : ℕ) → u i ≡ true → u j ≡ true → i < length m → j < length m → place m i ≡ place m j → i ≡ j) → u n ≡ true → n < length m → slice_get g n ≡ Some t → lookup (header u m g) (place m n) ≡ Some (ty t)
 look_header m [] u n t own y lt e = cc
 look_header [] (x ∷ g) u n t own y lt e = absurd (omega arith)
 look_header (r ∷ m) (x ∷ g) u zero t own y lt e =
@@ -131,6 +131,29 @@ look_header (r ∷ m) (x ∷ g) u (suc n) t own y lt e =
     cond_both (u 0) (insert r (ty x) f) f (λ z. lookup z (place m n) ≡ Some (ty t))
     (λ c. (look_insert r (ty x) f).1 (place m n) (λ z. let k = own 0 (suc n) c y (omega arith) lt (sym z) in absurd (omega arith)) ∙ rest)
     (λ c. rest)
+
+-- and nothing else is in it
+pub header_only : (m : List ℕ) (g : List ATy) (u : ℕ → Bool) (r : ℕ) (s : Ty) → lookup (header u m g) r ≡ Some s →
+    (n : ℕ) × (u n ≡ true) × (n < length g) × (place m n ≡ r)
+header_only m [] u r s e = absurd (none_some s e)
+  where
+    none_some : (s : Ty) → None ≡ Some s → ⊥
+    none_some s x = cc
+header_only [] (x ∷ g) u r s e = absurd (none_some s e)
+  where
+    none_some : (s : Ty) → None ≡ Some s → ⊥
+    none_some s x = cc
+header_only (q ∷ m) (x ∷ g) u r s e =
+    let f = header (λ n. u (suc n)) m g in
+    let more : lookup f r ≡ Some s → (n : ℕ) × (u n ≡ true) × (n < suc (length g)) × (place (q ∷ m) n ≡ r) = λ y.
+    (let z = header_only m g (λ n. u (suc n)) r s y in (suc z.0, z.1, omega (arith, z.2), z.3)) in
+    cond_both (u 0) (insert q (ty x) f) f
+    (λ z. lookup z r ≡ Some s → (n : ℕ) × (u n ≡ true) × (n < suc (length g)) × (place (q ∷ m) n ≡ r))
+    (λ c y. ⊎_elim
+    (λ (same : r ≡ q). (0, c, omega arith, sym same))
+    (λ ne. more (sym ((look_insert q (ty x) f).1 r ne) ∙ y))
+    (cases_eq r q))
+    (λ c y. more y) e
 
 within : (g : List ATy) (n : ℕ) (t : ATy) → slice_get g n ≡ Some t → n < length g
 within [] n t e = cc

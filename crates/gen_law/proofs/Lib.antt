@@ -1,4 +1,5 @@
 mod Accepted
+mod ByRules
 mod Correct
 mod Covers
 mod Decls
@@ -11,6 +12,7 @@ mod Loads
 pub mod Own
 mod Places
 mod Rows
+mod RulesRows
 mod Runs
 mod TypeLaws
 mod Typed

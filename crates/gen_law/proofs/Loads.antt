@@ -1,110 +1,216 @@
--- Values are put into registers, or stand in place.
-use Rattle.std.proofs.Common.{◌≡◌, ℕ, zero, suc, ◌+◌, ◌<◌, ◌≤◌, List, [], ◌∷◌, length, map, Option, Some, None, refl, sym, ap, ◌∙◌, subst, arith, ⊎_elim, ◌⊎◌, inl, inr, slice_get}
-use Rattle.std.specs.Prelude.{◌≢◌, ◌==◌, option_map, Bool, true, false, cond, not, ◌&&◌, ◌||◌}
-use Rattle.std.proofs.lemmas.Bool.{eq-eqb, ne_eqb, eqb-true, cases_eq, cond_both, or_cases, or_parts, or_left, or_right, and_parts, and_cases}
-use Rattle.a_terms.specs.Tree.{AVal, Var, Num, Lab, Data, Apply, Pack, ATm}
-use Rattle.a_terms.specs.Meaning.{AWord, ZInt, ZTuple, ZLabel, value, values, with_first, push_all}
+-- What code generation puts before an instruction brings its operands.
+use Rattle.std.proofs.Common.{◌≡◌, ◌⊎◌, ◌<◌, ◌≤◌, ℕ, zero, suc, ◌+◌, List, [], ◌∷◌, ◌++◌, length, map, Some, refl, sym}
+use Rattle.std.proofs.Common.{ap, ◌∙◌, subst, arith, ⊎_elim, inl, inr, length-append}
+use Rattle.std.specs.Prelude.{◌≢◌, ◌==◌, Bool, true, false, cond, not, ◌&&◌, ◌||◌}
+use Rattle.std.proofs.lemmas.Bool.{eq-eqb, ne_eqb, eqb-true, cases_eq, cond_both, or_cases, or_parts, or_left, or_right}
+use Rattle.std.proofs.lemmas.Bool.{and_parts, and_cases}
+use Rattle.a_terms.specs.Tree.{ATys, AVal, Var, Num, Lab, Data, Apply, Pack, ATm}
 use Rattle.t_types.specs.Tree.{Ty}
 use Rattle.t_terms.specs.Tree as T
-use Rattle.t_terms.specs.Tree.{TValue, TSeq, Then, Ends}
+use Rattle.t_terms.specs.Tree.{TBase, TValue, TSeq, Then, Ends}
 use Rattle.t_rules.specs.Registers.{with_reg}
-use Rattle.t_rules.specs.Machine.{Next}
-use Rattle.t_rules.specs.Erase.{EWord, EHeap, ERegs, EAt, EGoes, ESeq, erase_seq, erase_value, base_word}
-use Rattle.gen_law.specs.Gen.{tys, reg, applied_to, place, inside, small, boxed, unnest, stands, move, home, settle, uses, uses_any, used, free, owner, reads, later, owns, saved, above_saved, instead, places_saved, call_code, rows}
-use Rattle.gen_law.proofs.Leads.{LState, On, logged, Leads, leads_on, leads_step, leads_none}
+use Rattle.t_rules.specs.Erase.{erase_value}
+use Rattle.gen_law.specs.Gen.{tys, reg, applied_to, place, inside, small, boxed, unnest, stands, move, home, settle}
+use Rattle.gen_law.specs.Gen.{uses, uses_any, used, free, owner, reads, later, owns, saved, above_saved, instead}
+use Rattle.gen_law.specs.Gen.{places_saved, call_code}
+use Rattle.gen_law.specs.Rules.{Held, InRegister, IsPlain, Reads, Move, before, Brings, packages, most_all, InOrder}
 use Rattle.gen_law.proofs.Free.{free_apart}
-use Rattle.gen_law.proofs.Words.{word, Agree, Stays, agree_kept, agree_fewer, get_same, get_other}
+use Rattle.gen_law.proofs.Words.{get_same, get_other}
+use Rattle.gen_law.proofs.Decls.{applied_base}
 
--- the machine before the instructions
-abbrev pub at : EHeap → ERegs → TSeq → List ℕ → LState
-at h ρ is log = On (EAt h ρ (erase_seq is)) log
+-- each variable that u tells is in its register, which is below b
+abbrev pub Known : Held → List ℕ → ℕ → (ℕ → Bool) → Type 0
+Known c m b u = (n : ℕ) → u n ≡ true → (c (place m n) ≡ Some (Var n)) × (place m n < b)
 
--- the instructions lead from is to rest with w as the value x, and all registers but t as before
-pub record Readies (B : List ESeq) (h : EHeap) (log : List ℕ) (ρ : ERegs) (is rest : TSeq) (t : ℕ) (x : TValue) (w : EWord) : Type 0 where
-  pub regs : ERegs
-  pub leads : Leads B (at h ρ is log) (at h regs rest log)
-  pub here : base_word regs (erase_value x) ≡ Some w
-  pub others : (q : ℕ) → q ≢ t → regs q ≡ ρ q
+pub known_kept : (c d : Held) (m : List ℕ) (b : ℕ) (u : ℕ → Bool) → ((q : ℕ) → q < b → d q ≡ c q) → Known c m b u →
+    Known d m b u
+known_kept c d m b u k a = λ n y. let x = a n y in (k (place m n) x.1 ∙ x.0, x.1)
 
--- values in registers one after another
-abbrev pub Holds : ERegs → ℕ → List AWord → Type 0
-Holds ρ t [] = Unit {0}
-Holds ρ t (w ∷ ws) = (ρ t ≡ Some (word w)) × Holds ρ (suc t) ws
+pub known_fewer : (c : Held) (m : List ℕ) (b : ℕ) (u v : ℕ → Bool) → ((n : ℕ) → v n ≡ true → u n ≡ true) →
+    Known c m b u → Known c m b v
+known_fewer c m b u v k a = λ n y. a n (k n y)
 
--- what a list of values comes from
-split_values : (a : Option AWord) (b : Option (List AWord)) (ws : List AWord) → with_first a b ≡ Some ws → (w : AWord) × (us : List AWord) × (a ≡ Some w) × (b ≡ Some us) × (ws ≡ w ∷ us)
-split_values None b ws e = cc
-split_values (Some w) None ws e = cc
-split_values (Some w) (Some us) ws e = (w, us, refl, refl, cc)
+pub known_above : (c : Held) (m : List ℕ) (b d : ℕ) (u : ℕ → Bool) → b ≤ d → Known c m b u → Known c m d u
+known_above c m b d u le a = λ n y. let x = a n y in (x.0, omega (arith, x.1, le))
 
-pub values_length : (env : List AWord) (vs : List AVal) (ws : List AWord) → values env vs ≡ Some ws → length vs ≡ length ws
-values_length env [] ws e = let n : [] ≡ ws = cc in ap length n
-values_length env (v ∷ vs) ws e =
-    let x = split_values (value env v) (values env vs) ws e in
-    ap suc (values_length env vs x.1 x.3) ∙ sym (ap length x.4)
+-- moves one after the other
+pub brings_on : (ms ns : List Move) (c d e : Held) → Brings c ms d → Brings d ns e → Brings c (ms ++ ns) e
+brings_on [] ns c d e a b = subst (λ z. Brings z ns e) (sym a) b
+brings_on (x ∷ ms) ns c d e a b = (a.0, a.1, brings_on ms ns (with_reg c x.to a.0) d e a.2 b)
 
-pub applied_base : (v : TValue) (ts : List Ty) → erase_value (applied_to v ts) ≡ erase_value v
-applied_base (T.Plain b us) ts = refl
-applied_base (T.Pack h v s) ts = refl
+pub before_on : (ms ns : List Move) (rest : TSeq) → before (ms ++ ns) rest ≡ before ms (before ns rest)
+before_on [] ns rest = refl
+before_on (x ∷ ms) ns rest = ap (λ z. Then (T.Mov x.to x.value) z) (before_on ms ns rest)
+
+-- a register that holds a value
+pub in_register : (c : Held) (r : ℕ) (v : AVal) → c r ≡ Some v → Reads c v (reg r)
+in_register c r (Var n) e = (r, refl, e)
+in_register c r (Num i) e = inl (r, refl, e)
+in_register c r (Lab l) e = inl (r, refl, e)
+in_register c r (Data n) e = inl (r, refl, e)
+in_register c r (Apply v ts) e = inl (r, refl, e)
+in_register c r (Pack h v s) e = inl (r, refl, e)
+
+same_reg : {r q : ℕ} → reg r ≡ reg q → r ≡ q
+same_reg e = cc
+
+pub base_reg : {r q : ℕ} → T.Reg r ≡ T.Reg q → r ≡ q
+base_reg e = cc
+
+-- what names only registers that keep what they hold reads as before
+pub reads_same : (c d : Held) (v : AVal) (y : TValue) → ((q : ℕ) → erase_value y ≡ T.Reg q → d q ≡ c q) → Reads c v y →
+    Reads d v y
+reads_same c d v y same x = go v y same x
+  where
+    register : (v : AVal) (y : TValue) → ((q : ℕ) → erase_value y ≡ T.Reg q → d q ≡ c q) → InRegister c v y →
+        InRegister d v y
+    register v y k x = (x.0, x.1, k x.0 (ap erase_value x.1) ∙ x.2)
+
+    go : (v : AVal) (y : TValue) → ((q : ℕ) → erase_value y ≡ T.Reg q → d q ≡ c q) → Reads c v y → Reads d v y
+    go (Var n) y k x = register (Var n) y k x
+    go (Num i) y k (inl x) = inl (register (Num i) y k x)
+    go (Num i) y k (inr x) = inr x
+    go (Lab l) y k (inl x) = inl (register (Lab l) y k x)
+    go (Lab l) y k (inr x) = inr x
+    go (Data n) y k (inl x) = inl (register (Data n) y k x)
+    go (Data n) y k (inr x) = inr x
+    go (Apply v ts) y k (inl x) = inl (register (Apply v ts) y k x)
+    go (Apply v ts) y k (inr (z, x, e)) =
+        inr (z, go v z (λ q s. k q (ap erase_value e ∙ applied_base z (tys ts) ∙ s)) x, e)
+    go (Pack h v b) y k (inl x) = inl (register (Pack h v b) y k x)
+    go (Pack h v b) y k (inr (z, x, plain, e)) = inr (z, go v z (λ q s. k q (ap erase_value e ∙ s)) x, plain, e)
+
+-- n moves at most lead from is to rest with x as the value v, and all registers but t as before
+pub record Readies (c : Held) (is rest : TSeq) (t : ℕ) (v : AVal) (x : TValue) (n : ℕ) : Type 0 where
+  pub moves : List Move
+  pub same : is ≡ before moves rest
+  pub held : Held
+  pub brings : Brings c moves held
+  pub here : Reads held v x
+  pub others : (q : ℕ) → q ≢ t → held q ≡ c q
+  pub few : length moves ≤ n
+
+abbrev none : (c : Held) (t : ℕ) (v : AVal) (x : TValue) (rest : TSeq) (n : ℕ) → Reads c v x → Readies c rest rest t v x n
+none c t v x rest n s =
+    record { moves = []; same = refl; held = c; brings = refl; here = s; others = λ q ne. refl; few = omega arith }
+
+abbrev mov : (c : Held) (t : ℕ) (v : AVal) (x : TValue) (rest : TSeq) → Reads c v x →
+    Readies c (Then (T.Mov t x) rest) rest t v (reg t) 1
+mov c t v x rest s = record {
+  moves = record { to = t; value = x } ∷ [];
+  same = refl;
+  held = with_reg c t v;
+  brings = (v, s, refl);
+  here = in_register (with_reg c t v) t v (get_same c t v);
+  others = λ q ne. get_other c t q v ne;
+  few = omega arith;
+}
+
+-- one after the other
+then_ready : (c : Held) (is next rest : TSeq) (t : ℕ) (v w : AVal) (x y : TValue) (n k : ℕ)
+    (a : Readies c is next t v x n) → Readies a.held next rest t w y k → Readies c is rest t w y (n + k)
+then_ready c is next rest t v w x y n k a b = record {
+  moves = a.moves ++ b.moves;
+  same = a.same ∙ ap (before a.moves) b.same ∙ sym (before_on a.moves b.moves rest);
+  held = b.held;
+  brings = brings_on a.moves b.moves c a.held b.held a.brings b.brings;
+  here = b.here;
+  others = λ q ne. b.others q ne ∙ a.others q ne;
+  few = (let z = length-append a.moves b.moves in omega (arith, a.few, b.few, z));
+}
+
+-- a package comes into a register
+box_plain : (t : ℕ) (x : TValue) → IsPlain (inside t x)
+box_plain t (T.Plain b us) = tt
+box_plain t (T.Pack h v s) = tt
+
+box_is : (x : TValue) (c : Held) (t : ℕ) (v : AVal) (rest : TSeq) → Reads c v x →
+    Readies c (boxed t x rest) rest t v (inside t x) 1
+box_is (T.Plain b us) c t v rest s = none c t v (T.Plain b us) rest 1 s
+box_is (T.Pack h x b) c t v rest s = mov c t v (T.Pack h x b) rest s
+
+pub unnest_is : (v : AVal) (c : Held) (m : List ℕ) (b t : ℕ) (rest : TSeq) → Known c m b (uses v) →
+    Readies c (unnest t m v rest) rest t v (small t m v) (packages v)
+unnest_is (Var n) c m b t rest a =
+    none c t (Var n) (reg (place m n)) rest 0 (place m n, refl, (a n (eq-eqb n n refl)).0)
+unnest_is (Num i) c m b t rest a = none c t (Num i) (T.Plain (T.Int i) []) rest 0 (inr refl)
+unnest_is (Lab l) c m b t rest a = none c t (Lab l) (T.Plain (T.Label (suc l)) []) rest 0 (inr refl)
+unnest_is (Data n) c m b t rest a = none c t (Data n) (T.Plain (T.Data n) []) rest 0 (inr refl)
+unnest_is (Apply v ts) c m b t rest a =
+    let r = unnest_is v c m b t rest a in
+    record {
+      moves = r.moves;
+      same = r.same;
+      held = r.held;
+      brings = r.brings;
+      here = inr (small t m v, r.here, refl);
+      others = r.others;
+      few = r.few;
+    }
+unnest_is (Pack h v s) c m b t rest a =
+    let x = small t m v in
+    let r = unnest_is v c m b t (boxed t x rest) a in
+    let d = box_is x r.held t v rest r.here in
+    let both = then_ready c (unnest t m v (boxed t x rest)) (boxed t x rest) rest t v v x (inside t x) (packages v) 1 r d in
+    record {
+      moves = both.moves;
+      same = both.same;
+      held = both.held;
+      brings = both.brings;
+      here = inr (inside t x, both.here, box_plain t x, refl);
+      others = both.others;
+      few = omega (arith, both.few);
+    }
 
 -- a value that stands in register r
-pub stands_base : (r : ℕ) (x : TValue) → stands r x ≡ true → erase_value x ≡ T.Reg r
-stands_base r (T.Plain (T.Reg q) []) e = ap T.Reg (sym (eqb-true r q e))
-stands_base r (T.Plain (T.Reg q) (u ∷ us)) e = cc
-stands_base r (T.Plain (T.Int i) us) e = cc
-stands_base r (T.Plain (T.Label l) us) e = cc
-stands_base r (T.Plain (T.Data n) us) e = cc
-stands_base r (T.Pack h v s) e = cc
+stands_reg : (r : ℕ) (x : TValue) → stands r x ≡ true → x ≡ reg r
+stands_reg r (T.Plain (T.Reg q) []) e = ap reg (sym (eqb-true r q e))
+stands_reg r (T.Plain (T.Reg q) (u ∷ us)) e = cc
+stands_reg r (T.Plain (T.Int i) us) e = cc
+stands_reg r (T.Plain (T.Label l) us) e = cc
+stands_reg r (T.Plain (T.Data n) us) e = cc
+stands_reg r (T.Pack h v s) e = cc
 
-module _ (B : List ESeq) (h : EHeap) (log : List ℕ) where
-  mov : (ρ : ERegs) (t : ℕ) (v : TValue) (w : EWord) (rest : TSeq) → base_word ρ (erase_value v) ≡ Some w → Readies B h log ρ (Then (T.Mov t v) rest) rest t (reg t) w
-  mov ρ t v w rest x = record {
-    regs = with_reg ρ t w;
-    leads = leads_step B _ _ (ap (λ o. option_map (logged log) (option_map (λ w. EGoes Next (EAt h (with_reg ρ t w) (erase_seq rest))) o)) x);
-    here = get_same ρ t w;
-    others = λ q ne. get_other ρ t q w ne;
-  }
+true_false : true ≡ false → ⊥
+true_false e = cc
 
-  none : (ρ : ERegs) (t : ℕ) (v : TValue) (w : EWord) (rest : TSeq) → base_word ρ (erase_value v) ≡ Some w → Readies B h log ρ rest rest t v w
-  none ρ t v w rest x = record { regs = ρ; leads = leads_none B _; here = x; others = λ q ne. refl }
+-- a value put into register r, which keeps what it holds where the value stands there
+abbrev pub Moved : Held → TSeq → TSeq → ℕ → AVal → TValue → Type 0
+Moved c is rest r v x = (a : Readies c is rest r v (reg r) 1) × (stands r x ≡ true → a.held r ≡ c r)
 
-  box_runs : (v : TValue) (ρ : ERegs) (t : ℕ) (w : EWord) (rest : TSeq) → base_word ρ (erase_value v) ≡ Some w → Readies B h log ρ (boxed t v rest) rest t (inside t v) w
-  box_runs (T.Plain b us) ρ t w rest x = none ρ t (T.Plain b us) w rest x
-  box_runs (T.Pack p v s) ρ t w rest x = mov ρ t (T.Pack p v s) w rest x
+pub move_is : (r : ℕ) (x : TValue) (v : AVal) (c : Held) (rest : TSeq) → Reads c v x →
+    Moved c (move r x rest) rest r v x
+move_is r x v c rest s =
+    cond_both (stands r x) rest (Then (T.Mov r x) rest) (λ is. Moved c is rest r v x)
+    (λ e. (none c r v (reg r) rest 1 (subst (Reads c v) (stands_reg r x e) s), λ q. refl))
+    (λ e. (mov c r v x rest s, λ q. absurd (true_false (sym q ∙ e))))
 
-  pub unnest_runs : (v : AVal) (ρ : ERegs) (m : List ℕ) (env : List AWord) (b t : ℕ) (w : AWord) (rest : TSeq) → Agree ρ m env b (uses v) → value env v ≡ Some w → Readies B h log ρ (unnest t m v rest) rest t (small t m v) (word w)
-  unnest_runs (Var n) ρ m env b t w rest a x = none ρ t (reg (place m n)) (word w) rest (a n w (eq-eqb n n refl) x).0
-  unnest_runs (Num i) ρ m env b t w rest a x = let y : ZInt i ≡ w = cc in none ρ t (T.Plain (T.Int i) []) (word w) rest (ap (λ u. Some (word u)) y)
-  unnest_runs (Lab l) ρ m env b t w rest a x = let y : ZLabel l ≡ w = cc in none ρ t (T.Plain (T.Label (suc l)) []) (word w) rest (ap (λ u. Some (word u)) y)
-  unnest_runs (Data l) ρ m env b t w rest a x = let y : ZTuple l ≡ w = cc in none ρ t (T.Plain (T.Data l) []) (word w) rest (ap (λ u. Some (word u)) y)
-  unnest_runs (Apply v ts) ρ m env b t w rest a x =
-      let c = unnest_runs v ρ m env b t w rest a x in
-      record { regs = c.regs; leads = c.leads; here = ap (base_word c.regs) (applied_base (small t m v) (tys ts)) ∙ c.here; others = c.others }
-  unnest_runs (Pack p v s) ρ m env b t w rest a x =
-      let c = unnest_runs v ρ m env b t w (boxed t (small t m v) rest) a x in
-      let d = box_runs (small t m v) c.regs t (word w) rest c.here in
-      record { regs = d.regs; leads = leads_on B _ _ _ c.leads d.leads; here = d.here; others = λ q ne. d.others q ne ∙ c.others q ne }
+pub settle_is : (x : TValue) (v : AVal) (c : Held) (t : ℕ) (rest : TSeq) → Reads c v x →
+    Readies c (settle t x rest) rest t v (reg (home t x)) 1
+settle_is (T.Plain (T.Reg r) []) v c t rest s = none c t v (reg r) rest 1 s
+settle_is (T.Plain (T.Reg r) (u ∷ us)) v c t rest s = mov c t v (T.Plain (T.Reg r) (u ∷ us)) rest s
+settle_is (T.Plain (T.Int i) us) v c t rest s = mov c t v (T.Plain (T.Int i) us) rest s
+settle_is (T.Plain (T.Label l) us) v c t rest s = mov c t v (T.Plain (T.Label l) us) rest s
+settle_is (T.Plain (T.Data n) us) v c t rest s = mov c t v (T.Plain (T.Data n) us) rest s
+settle_is (T.Pack h x b) v c t rest s = mov c t v (T.Pack h x b) rest s
 
-  pub move_runs : (ρ : ERegs) (r : ℕ) (v : TValue) (w : EWord) (rest : TSeq) → base_word ρ (erase_value v) ≡ Some w → Readies B h log ρ (move r v rest) rest r (reg r) w
-  move_runs ρ r v w rest x =
-      cond_both (stands r v) rest (Then (T.Mov r v) rest) (λ is. Readies B h log ρ is rest r (reg r) w)
-      (λ e. none ρ r (reg r) w rest (ap (base_word ρ) (sym (stands_base r v e)) ∙ x))
-      (λ e. mov ρ r v w rest x)
-
-  pub settle_runs : (v : TValue) (ρ : ERegs) (t : ℕ) (w : EWord) (rest : TSeq) → base_word ρ (erase_value v) ≡ Some w → Readies B h log ρ (settle t v rest) rest t (reg (home t v)) w
-  settle_runs (T.Plain (T.Reg r) []) ρ t w rest x = none ρ t (reg r) w rest x
-  settle_runs (T.Plain (T.Reg r) (u ∷ us)) ρ t w rest x = mov ρ t (T.Plain (T.Reg r) (u ∷ us)) w rest x
-  settle_runs (T.Plain (T.Int i) us) ρ t w rest x = mov ρ t (T.Plain (T.Int i) us) w rest x
-  settle_runs (T.Plain (T.Label l) us) ρ t w rest x = mov ρ t (T.Plain (T.Label l) us) w rest x
-  settle_runs (T.Plain (T.Data l) us) ρ t w rest x = mov ρ t (T.Plain (T.Data l) us) w rest x
-  settle_runs (T.Pack p v s) ρ t w rest x = mov ρ t (T.Pack p v s) w rest x
-
-  -- a value in place, put into a register where it is in none
-  pub settled_runs : (v : AVal) (ρ : ERegs) (m : List ℕ) (env : List AWord) (b t : ℕ) (w : AWord) (rest : TSeq) → Agree ρ m env b (uses v) → value env v ≡ Some w → Readies B h log ρ (unnest t m v (settle t (small t m v) rest)) rest t (reg (home t (small t m v))) (word w)
-  settled_runs v ρ m env b t w rest a x =
-      let c = unnest_runs v ρ m env b t w (settle t (small t m v) rest) a x in
-      let d = settle_runs (small t m v) c.regs t (word w) rest c.here in
-      record { regs = d.regs; leads = leads_on B _ _ _ c.leads d.leads; here = d.here; others = λ q ne. d.others q ne ∙ c.others q ne }
+-- a value in place, put into a register where it is in none
+pub settled_is : (v : AVal) (c : Held) (m : List ℕ) (b t : ℕ) (rest : TSeq) → Known c m b (uses v) →
+    Readies c (unnest t m v (settle t (small t m v) rest)) rest t v (reg (home t (small t m v))) (suc (packages v))
+settled_is v c m b t rest a =
+    let x = small t m v in
+    let r = unnest_is v c m b t (settle t x rest) a in
+    let d = settle_is x v r.held t rest r.here in
+    let both = then_ready c _ (settle t x rest) rest t v v x (reg (home t x)) (packages v) 1 r d in
+    record {
+      moves = both.moves;
+      same = both.same;
+      held = both.held;
+      brings = both.brings;
+      here = both.here;
+      others = both.others;
+      few = omega (arith, both.few);
+    }
 
 -- a value's register is that of a variable, or the one that is given
 pub home_applied : (t : ℕ) (x : TValue) (us : List Ty) → (home t (applied_to x us) ≡ home t x) ⊎ (home t (applied_to x us) ≡ t)
@@ -116,54 +222,74 @@ home_applied t (T.Plain (T.Label l) xs) us = inr refl
 home_applied t (T.Plain (T.Data n) xs) us = inr refl
 home_applied t (T.Pack p v s) us = inr refl
 
-pub home_low : (v : AVal) (ρ : ERegs) (m : List ℕ) (env : List AWord) (b t : ℕ) (w : AWord) → Agree ρ m env b (uses v) → value env v ≡ Some w → b ≤ t → home t (small t m v) ≤ t
-home_low (Var n) ρ m env b t w a x le = let c = a n w (eq-eqb n n refl) x in omega (arith, c.1)
-home_low (Num i) ρ m env b t w a x le = omega arith
-home_low (Lab l) ρ m env b t w a x le = omega arith
-home_low (Data l) ρ m env b t w a x le = omega arith
-home_low (Apply v ts) ρ m env b t w a x le =
-    let r = home_low v ρ m env b t w a x le in
+pub home_low : (v : AVal) (c : Held) (m : List ℕ) (b t : ℕ) → Known c m b (uses v) → b ≤ t → home t (small t m v) ≤ t
+home_low (Var n) c m b t a le = let x = a n (eq-eqb n n refl) in omega (arith, x.1)
+home_low (Num i) c m b t a le = omega arith
+home_low (Lab l) c m b t a le = omega arith
+home_low (Data l) c m b t a le = omega arith
+home_low (Apply v ts) c m b t a le =
+    let r = home_low v c m b t a le in
     ⊎_elim (λ e. omega (arith, e, r)) (λ e. omega (arith, e)) (home_applied t (small t m v) (tys ts))
-home_low (Pack p v s) ρ m env b t w a x le = omega arith
+home_low (Pack p v s) c m b t a le = omega arith
 
 -- a value in the register that is its new name's, where the variables that u tells stay
-pub record Names (B : List ESeq) (h : EHeap) (log : List ℕ) (ρ : ERegs) (is rest : TSeq) (m : List ℕ) (u : ℕ → Bool) (r : ℕ) (w : EWord) : Type 0 where
-  pub regs : ERegs
-  pub leads : Leads B (at h ρ is log) (at h regs rest log)
-  pub here : regs r ≡ Some w
-  pub stays : Stays ρ regs m u
+pub record Named (c : Held) (is rest : TSeq) (m : List ℕ) (u : ℕ → Bool) (r : ℕ) (v : AVal) (n : ℕ) : Type 0 where
+  pub moves : List Move
+  pub same : is ≡ before moves rest
+  pub held : Held
+  pub brings : Brings c moves held
+  pub here : Reads held v (reg r)
+  pub stays : (n : ℕ) → u n ≡ true → held (place m n) ≡ c (place m n)
+  pub few : length moves ≤ n
 
 -- to put a variable into its own register changes none
-owner_kept : (v : AVal) (w : AWord) (ρ σ : ERegs) (m : List ℕ) (env : List AWord) (b : ℕ) (u : ℕ → Bool) (e : ATm) → Agree ρ m env b (uses v) → value env v ≡ Some w → σ (owner m v u e) ≡ Some (word w) → ((q : ℕ) → q ≢ owner m v u e → σ q ≡ ρ q) → Stays ρ σ m u
-owner_kept (Var n) w ρ σ m env b u e a x here o =
-    cond_both (used e (suc n) && used e 0) (free m u e) (place m n) (λ r. σ r ≡ Some (word w) → ((q : ℕ) → q ≢ r → σ q ≡ ρ q) → Stays ρ σ m u)
-    (λ c at_r o2 i y. o2 (place m i) (λ z. absurd (free_apart m u e i y z)))
-    (λ c at_r o2 i y.
-    let own = a n w (eq-eqb n n refl) x in
-    ⊎_elim (λ z. ap σ z ∙ at_r ∙ sym own.0 ∙ ap ρ (sym z)) (λ ne. o2 (place m i) ne) (cases_eq (place m i) (place m n))) here o
-owner_kept (Num i) w ρ σ m env b u e a x here o = λ i y. o (place m i) (λ z. absurd (free_apart m u e i y z))
-owner_kept (Lab l) w ρ σ m env b u e a x here o = λ i y. o (place m i) (λ z. absurd (free_apart m u e i y z))
-owner_kept (Data l) w ρ σ m env b u e a x here o = λ i y. o (place m i) (λ z. absurd (free_apart m u e i y z))
-owner_kept (Apply v ts) w ρ σ m env b u e a x here o = λ i y. o (place m i) (λ z. absurd (free_apart m u e i y z))
-owner_kept (Pack p v s) w ρ σ m env b u e a x here o = λ i y. o (place m i) (λ z. absurd (free_apart m u e i y z))
+owner_kept : (v : AVal) (c d : Held) (m : List ℕ) (b : ℕ) (u : ℕ → Bool) (e : ATm) → Known c m b (uses v) →
+    Reads d v (reg (owner m v u e)) → ((q : ℕ) → q ≢ owner m v u e → d q ≡ c q) →
+    (i : ℕ) → u i ≡ true → d (place m i) ≡ c (place m i)
+owner_kept (Var n) c d m b u e a here o =
+    cond_both (used e (suc n) && used e 0) (free m u e) (place m n)
+    (λ r. Reads d (Var n) (reg r) → ((q : ℕ) → q ≢ r → d q ≡ c q) → (i : ℕ) → u i ≡ true → d (place m i) ≡ c (place m i))
+    (λ z at_r o2 i y. o2 (place m i) (λ q. absurd (free_apart m u e i y q)))
+    (λ z at_r o2 i y.
+    let own = a n (eq-eqb n n refl) in
+    let there = ap d (same_reg at_r.1) ∙ at_r.2 in
+    ⊎_elim (λ q. ap d q ∙ there ∙ sym own.0 ∙ ap c (sym q)) (λ ne. o2 (place m i) ne) (cases_eq (place m i) (place m n)))
+    here o
+owner_kept (Num i) c d m b u e a x o = λ i y. o (place m i) (λ z. absurd (free_apart m u e i y z))
+owner_kept (Lab l) c d m b u e a x o = λ i y. o (place m i) (λ z. absurd (free_apart m u e i y z))
+owner_kept (Data l) c d m b u e a x o = λ i y. o (place m i) (λ z. absurd (free_apart m u e i y z))
+owner_kept (Apply v ts) c d m b u e a x o = λ i y. o (place m i) (λ z. absurd (free_apart m u e i y z))
+owner_kept (Pack p v s) c d m b u e a x o = λ i y. o (place m i) (λ z. absurd (free_apart m u e i y z))
 
-pub named_runs : (B : List ESeq) (h : EHeap) (log : List ℕ) (v : AVal) (ρ : ERegs) (m : List ℕ) (env : List AWord) (b t : ℕ) (u : ℕ → Bool) (e : ATm) (w : AWord) (rest : TSeq) → b ≤ t → ((n : ℕ) → u n ≡ true → place m n < b) → Agree ρ m env b (uses v) → value env v ≡ Some w → Names B h log ρ (unnest t m v (move (owner m v u e) (small t m v) rest)) rest m u (owner m v u e) (word w)
-named_runs B h log v ρ m env b t u e w rest le far a x =
+pub named_is : (v : AVal) (c : Held) (m : List ℕ) (b t : ℕ) (u : ℕ → Bool) (e : ATm) (rest : TSeq) → b ≤ t →
+    ((n : ℕ) → u n ≡ true → place m n < b) → Known c m b (uses v) →
+    Named c (unnest t m v (move (owner m v u e) (small t m v) rest)) rest m u (owner m v u e) v (suc (packages v))
+named_is v c m b t u e rest le far a =
     let r = owner m v u e in
-    let c = unnest_runs B h log v ρ m env b t w (move r (small t m v) rest) a x in
-    let d = move_runs B h log c.regs r (small t m v) (word w) rest c.here in
-    let same : (q : ℕ) → q < b → c.regs q ≡ ρ q = λ q l. c.others q (λ z. absurd (omega arith)) in
-    let k = owner_kept v w c.regs d.regs m env b u e (agree_kept ρ c.regs m env b (uses v) same a) x d.here d.others in
-    record { regs = d.regs; leads = leads_on B _ _ _ c.leads d.leads; here = d.here; stays = λ n y. k n y ∙ same (place m n) (far n y) }
+    let x = small t m v in
+    let p = unnest_is v c m b t (move r x rest) a in
+    let q = (move_is r x v p.held rest p.here).0 in
+    let same : (i : ℕ) → i < b → p.held i ≡ c i = λ i l. p.others i (λ z. absurd (omega (arith, z, l, le))) in
+    let k = owner_kept v p.held q.held m b u e (known_kept c p.held m b (uses v) same a) q.here q.others in
+    record {
+      moves = p.moves ++ q.moves;
+      same = p.same ∙ ap (before p.moves) q.same ∙ sym (before_on p.moves q.moves rest);
+      held = q.held;
+      brings = brings_on p.moves q.moves c p.held q.held p.brings q.brings;
+      here = q.here;
+      stays = λ n y. k n y ∙ same (place m n) (far n y);
+      few = (let z = length-append p.moves q.moves in omega (arith, z, p.few, q.few));
+    }
 
--- the value of a register that is read
-reads_word : (v : AVal) (r b : ℕ) (ρ : ERegs) (m : List ℕ) (env : List AWord) (w : AWord) → Agree ρ m env b (uses v) → value env v ≡ Some w → reads r m v ≡ true → ρ r ≡ Some (word w)
-reads_word (Var n) r b ρ m env w a x e = ap ρ (sym (eqb-true (place m n) r e)) ∙ (a n w (eq-eqb n n refl) x).0
-reads_word (Num i) r b ρ m env w a x e = cc
-reads_word (Lab l) r b ρ m env w a x e = cc
-reads_word (Data l) r b ρ m env w a x e = cc
-reads_word (Apply v ts) r b ρ m env w a x e = reads_word v r b ρ m env w a x e
-reads_word (Pack p v s) r b ρ m env w a x e = reads_word v r b ρ m env w a x e
+-- the variable in a register that is read
+reads_holds : (v : AVal) (r : ℕ) (c : Held) (m : List ℕ) (b : ℕ) → Known c m b (uses v) → reads r m v ≡ true →
+    (n : ℕ) × (c r ≡ Some (Var n))
+reads_holds (Var n) r c m b a e = (n, ap c (sym (eqb-true (place m n) r e)) ∙ (a n (eq-eqb n n refl)).0)
+reads_holds (Num i) r c m b a e = cc
+reads_holds (Lab l) r c m b a e = cc
+reads_holds (Data l) r c m b a e = cc
+reads_holds (Apply v ts) r c m b a e = reads_holds v r c m b a e
+reads_holds (Pack p v s) r c m b a e = reads_holds v r c m b a e
 
 -- the variables of the code, and of the arguments
 abbrev pub wants : AVal → List AVal → ℕ → Bool
@@ -179,14 +305,13 @@ pub of_rest : (c v : AVal) (vs : List AVal) (n : ℕ) → wants c vs n ≡ true 
 of_rest c v vs n e =
     ⊎_elim (λ x. or_left (uses c n) (uses_any (v ∷ vs) n) x) (λ x. or_right (uses c n) (uses_any (v ∷ vs) n) (or_right (uses v n) (uses_any vs n) x)) (or_cases (uses c n) (uses_any vs n) e)
 
-later_word : (vs : List AVal) (c : AVal) (r b : ℕ) (ρ : ERegs) (m : List ℕ) (env : List AWord) (ws : List AWord) (w : AWord) → Agree ρ m env b (wants c vs) → values env vs ≡ Some ws → value env c ≡ Some w → later r m vs c ≡ true → (u : AWord) × (ρ r ≡ Some (word u))
-later_word [] c r b ρ m env ws w a x y e = (w, reads_word c r b ρ m env w (agree_fewer ρ m env b (wants c []) (uses c) (of_code c []) a) y e)
-later_word (v ∷ vs) c r b ρ m env ws w a x y e =
-    let s = split_values (value env v) (values env vs) ws x in
-    ⊎_elim
-    (λ z. (s.0, reads_word v r b ρ m env s.0 (agree_fewer ρ m env b (wants c (v ∷ vs)) (uses v) (of_first c v vs) a) s.2 z))
-    (λ z. later_word vs c r b ρ m env s.1 w (agree_fewer ρ m env b (wants c (v ∷ vs)) (wants c vs) (of_rest c v vs) a) s.3 y z)
-    (or_cases (reads r m v) (later r m vs c) e)
+later_holds : (vs : List AVal) (f : AVal) (r : ℕ) (c : Held) (m : List ℕ) (b : ℕ) → Known c m b (wants f vs) →
+    later r m vs f ≡ true → (n : ℕ) × (c r ≡ Some (Var n))
+later_holds [] f r c m b a e = reads_holds f r c m b (known_fewer c m b (wants f []) (uses f) (of_code f []) a) e
+later_holds (v ∷ vs) f r c m b a e = ⊎_elim
+    (λ z. reads_holds v r c m b (known_fewer c m b (wants f (v ∷ vs)) (uses v) (of_first f v vs) a) z)
+    (λ z. later_holds vs f r c m b (known_fewer c m b (wants f (v ∷ vs)) (wants f vs) (of_rest f v vs) a) z)
+    (or_cases (reads r m v) (later r m vs f) e)
 
 -- what is not read is another register
 reads_none : (v : AVal) (r : ℕ) (m : List ℕ) (n : ℕ) → reads r m v ≡ false → uses v n ≡ true → place m n ≡ r → ⊥
@@ -235,113 +360,145 @@ instead_not b j q lj lq =
     clash : true ≡ false → ⊥
     clash y = cc
 
--- what a call comes to: the registers before its jump, and the code
-pub record Calls (B : List ESeq) (h : EHeap) (log : List ℕ) (ρ : ERegs) (is : TSeq) (j : ℕ) (ws : List AWord) (w : AWord) : Type 0 where
-  pub regs : ERegs
+-- what a call comes to: the moves before its jump, and the code
+pub record Calls (c : Held) (is : TSeq) (j : ℕ) (vs : List AVal) (f : AVal) (ts : ATys) (n : ℕ) : Type 0 where
+  pub moves : List Move
   pub code : TValue
-  pub leads : Leads B (at h ρ is log) (at h regs (Ends (T.Jmp code)) log)
-  pub goes : base_word regs (erase_value code) ≡ Some (word w)
-  pub holds : Holds regs j ws
-  pub below : (q : ℕ) → q < j → regs q ≡ ρ q
+  pub same : is ≡ before moves (Ends (T.Jmp code))
+  pub held : Held
+  pub brings : Brings c moves held
+  pub goes : Reads held (Apply f ts) code
+  pub order : InOrder held j vs
+  pub below : (q : ℕ) → q < j → held q ≡ c q
+  pub few : length moves ≤ n
 
-module _ (B : List ESeq) (h : EHeap) (log : List ℕ) (env : List AWord) (c : AVal) (ts : List Ty) (w : AWord) (code_is : value env c ≡ Some w) where
+module _ (f : AVal) (ts : ATys) where
   -- the variables that are still wanted, after an argument was put into register j
-  still : (v : AVal) (vs : List AVal) (ρ σ : ERegs) (m : List ℕ) (b j : ℕ) → Agree ρ m env b (wants c vs) → ((q : ℕ) → q < b → q ≢ j → σ q ≡ ρ q) → ((n : ℕ) (x : AWord) → wants c vs n ≡ true → slice_get env n ≡ Some x → place m n ≡ j → σ j ≡ ρ j) → Agree σ m env b (wants c vs)
-  still v vs ρ σ m b j a o k = λ n x y z.
-      let s = a n x y z in
-      (⊎_elim (λ e. ap σ e ∙ k n x y z e ∙ ap ρ (sym e) ∙ s.0) (λ ne. o (place m n) s.1 ne ∙ s.0) (cases_eq (place m n) j), s.1)
+  still : (vs : List AVal) (c d : Held) (m : List ℕ) (b j : ℕ) → Known c m b (wants f vs) →
+      ((q : ℕ) → q < b → q ≢ j → d q ≡ c q) →
+      ((n : ℕ) → wants f vs n ≡ true → place m n ≡ j → d j ≡ c j) → Known d m b (wants f vs)
+  still vs c d m b j a o k = λ n y.
+      let s = a n y in
+      (⊎_elim (λ e. ap d e ∙ k n y e ∙ ap c (sym e) ∙ s.0) (λ ne. o (place m n) s.1 ne ∙ s.0) (cases_eq (place m n) j), s.1)
 
   -- what a call comes to, where its arguments after this one, and its code, are still to come
-  abbrev Rest-runs : List AVal → ℕ → List AWord → Type 0
-  Rest-runs vs j us = (b : ℕ) (m : List ℕ) (ρ : ERegs) → j + length vs ≤ b → Agree ρ m env b (wants c vs) → Calls B h log ρ (call_code j b m vs c ts) j us w
+  abbrev Rest-comes : List AVal → ℕ → Type 0
+  Rest-comes vs j =
+      (b : ℕ) (m : List ℕ) (c : Held) → j + length vs ≤ b → Known c m b (wants f vs) →
+      Calls c (call_code j b m vs f (tys ts)) j vs f ts (most_all vs + packages f)
 
-  module _ (v : AVal) (vs : List AVal) (j : ℕ) (ws : List AWord) (u : AWord) (us : List AWord) (first_is : value env v ≡ Some u) (rest_are : values env vs ≡ Some us) (same : ws ≡ u ∷ us) (rec : Rest-runs vs (suc j) us) where
-    argument_runs : (b : ℕ) (m : List ℕ) (ρ : ERegs) → j + length (v ∷ vs) ≤ b → Agree ρ m env b (wants c (v ∷ vs)) → ((n : ℕ) (x : AWord) → wants c vs n ≡ true → slice_get env n ≡ Some x → place m n ≡ j → stands j (small b m v) ≡ true) → Calls B h log ρ (unnest b m v (move j (small b m v) (call_code (suc j) b m vs c ts))) j ws w
-    argument_runs b m ρ le k read =
-        let rest = call_code (suc j) b m vs c ts in
-        let d = unnest_runs B h log v ρ m env b b u (move j (small b m v) rest) (agree_fewer ρ m env b (wants c (v ∷ vs)) (uses v) (of_first c v vs) k) first_is in
-        let e = move_runs B h log d.regs j (small b m v) (word u) rest d.here in
-        let kept = agree_kept ρ d.regs m env b (wants c vs) (λ q lt. d.others q (λ z. absurd (omega arith))) (agree_fewer ρ m env b (wants c (v ∷ vs)) (wants c vs) (of_rest c v vs) k) in
-        let k2 = still v vs d.regs e.regs m b j kept (λ q lt ne. e.others q ne) (λ n i q t p. e.here ∙ sym d.here ∙ ap (base_word d.regs) (stands_base j (small b m v) (read n i q t p))) in
-        let f = rec b m e.regs (omega arith) k2 in
+  module _ (v : AVal) (vs : List AVal) (j : ℕ) (rec : Rest-comes vs (suc j)) where
+    argument_comes : (b : ℕ) (m : List ℕ) (c : Held) → j + length (v ∷ vs) ≤ b → Known c m b (wants f (v ∷ vs)) →
+        ((n : ℕ) → wants f vs n ≡ true → place m n ≡ j → stands j (small b m v) ≡ true) →
+        Calls c (unnest b m v (move j (small b m v) (call_code (suc j) b m vs f (tys ts)))) j (v ∷ vs) f ts
+        (suc (packages v) + (most_all vs + packages f))
+    argument_comes b m c le k read =
+        let rest = call_code (suc j) b m vs f (tys ts) in
+        let x = small b m v in
+        let d = unnest_is v c m b b (move j x rest) (known_fewer c m b (wants f (v ∷ vs)) (uses v) (of_first f v vs) k) in
+        let both = move_is j x v d.held rest d.here in
+        let e = both.0 in
+        let few = known_fewer c m b (wants f (v ∷ vs)) (wants f vs) (of_rest f v vs) k in
+        let kept = known_kept c d.held m b (wants f vs) (λ q lt. d.others q (λ z. absurd (omega (arith, z, lt)))) few in
+        let k2 = still vs d.held e.held m b j kept (λ q lt ne. e.others q ne) (λ n q p. both.1 (read n q p)) in
+        let g = rec b m e.held (omega (arith, le)) k2 in
+        let ms = e.moves ++ g.moves in
+        let here = reads_same e.held g.held v (reg j) (λ q z. g.below q (let y = base_reg z in omega (arith, y))) e.here in
         record {
-          regs = f.regs;
-          code = f.code;
-          leads = leads_on B _ _ _ d.leads (leads_on B _ _ _ e.leads f.leads);
-          goes = f.goes;
-          holds = subst (λ i. Holds f.regs j i) (sym same) (f.below j (omega arith) ∙ e.here, f.holds);
-          below = λ q lt. f.below q (omega arith) ∙ e.others q (λ z. absurd (omega arith)) ∙ d.others q (λ z. absurd (omega arith));
+          moves = d.moves ++ ms;
+          code = g.code;
+          same = d.same ∙ ap (before d.moves) (e.same ∙ ap (before e.moves) g.same
+              ∙ sym (before_on e.moves g.moves (Ends (T.Jmp g.code)))) ∙ sym (before_on d.moves ms (Ends (T.Jmp g.code)));
+          held = g.held;
+          brings = brings_on d.moves ms c d.held g.held d.brings
+              (brings_on e.moves g.moves d.held e.held g.held e.brings g.brings);
+          goes = g.goes;
+          order = (here, g.order);
+          below = λ q lt.
+              (g.below q (omega (arith, lt))
+              ∙ e.others q (λ z. absurd (omega (arith, lt, z)))
+              ∙ d.others q (λ z. absurd (omega (arith, lt, le, z))));
+          few = (let l1 = length-append d.moves ms in
+              let l2 = length-append e.moves g.moves in
+              omega (arith, l1, l2, d.few, e.few, g.few));
         }
 
-    saved_runs : (b : ℕ) (m : List ℕ) (ρ : ERegs) → 1 ≤ j → j + length (v ∷ vs) ≤ b → Agree ρ m env b (wants c (v ∷ vs)) → (lost : Bool) → (not (owns j m v) && later j m vs c) ≡ lost → Calls B h log ρ (saved lost b j (unnest (above_saved lost b) (places_saved lost b j m) v (move j (small (above_saved lost b) (places_saved lost b j m) v) (call_code (suc j) (above_saved lost b) (places_saved lost b j m) vs c ts)))) j ws w
-    saved_runs b m ρ l le a false e =
-        argument_runs b m ρ le a
-        (λ n i q t p. ⊎_elim (λ no. stood no) (λ no. absurd (later_none vs c j m n no q p)) (and_cases (not (owns j m v)) (later j m vs c) e))
+    saved_comes : (b : ℕ) (m : List ℕ) (c : Held) → 1 ≤ j → j + length (v ∷ vs) ≤ b → Known c m b (wants f (v ∷ vs)) →
+        (lost : Bool) → (not (owns j m v) && later j m vs f) ≡ lost →
+        Calls c (saved lost b j (unnest (above_saved lost b) (places_saved lost b j m) v
+        (move j (small (above_saved lost b) (places_saved lost b j m) v)
+        (call_code (suc j) (above_saved lost b) (places_saved lost b j m) vs f (tys ts))))) j (v ∷ vs) f ts
+        (most_all (v ∷ vs) + packages f)
+    saved_comes b m c l le a false e = more_moves (argument_comes b m c le a
+        (λ n q p. ⊎_elim (λ z. stood z) (λ z. absurd (later_none vs f j m n z q p))
+        (and_cases (not (owns j m v)) (later j m vs f) e)))
       where
         stood : not (owns j m v) ≡ false → stands j (small b m v) ≡ true
         stood e = owns_stands v j b m (true_from_not (owns j m v) e)
-    saved_runs b m ρ l le a true e =
-        let p = and_parts (not (owns j m v)) (later j m vs c) e in
-        let k = later_word vs c j b ρ m env us w (agree_fewer ρ m env b (wants c (v ∷ vs)) (wants c vs) (of_rest c v vs) a) rest_are code_is p.1 in
+
+        more_moves : Calls c (unnest b m v (move j (small b m v) (call_code (suc j) b m vs f (tys ts)))) j (v ∷ vs) f ts
+            (suc (packages v) + (most_all vs + packages f)) →
+            Calls c (unnest b m v (move j (small b m v) (call_code (suc j) b m vs f (tys ts)))) j (v ∷ vs) f ts
+            (most_all (v ∷ vs) + packages f)
+        more_moves g = record {
+          moves = g.moves;
+          code = g.code;
+          same = g.same;
+          held = g.held;
+          brings = g.brings;
+          goes = g.goes;
+          order = g.order;
+          below = g.below;
+          few = omega (arith, g.few);
+        }
+    saved_comes b m c l le a true e =
+        let p = and_parts (not (owns j m v)) (later j m vs f) e in
+        let few = known_fewer c m b (wants f (v ∷ vs)) (wants f vs) (of_rest f v vs) a in
+        let k = later_holds vs f j c m b few p.1 in
         let l2 = map (instead b j) m in
-        let rest = unnest (suc b) l2 v (move j (small (suc b) l2 v) (call_code (suc j) (suc b) l2 vs c ts)) in
-        let d = mov B h log ρ b (reg j) (word k.0) rest k.1 in
-        let agree : Agree d.regs l2 env (suc b) (wants c (v ∷ vs)) = λ n i r t.
-        (let own = a n i r t in
+        let rest = unnest (suc b) l2 v (move j (small (suc b) l2 v) (call_code (suc j) (suc b) l2 vs f (tys ts))) in
+        let d = mov c b (Var k.0) (reg j) rest (in_register c j (Var k.0) k.1) in
+        let at_b : d.held b ≡ Some (Var k.0) = get_same c b (Var k.0) in
+        let known : Known d.held l2 (suc b) (wants f (v ∷ vs)) = λ n r.
+        (let own = a n r in
         let pl = place_instead m b j n l in
-        let no = instead_not b j (place m n) (omega arith) own.1 in
-        let held : d.regs (instead b j (place m n)) ≡ ρ (place m n) = cond_both (place m n == j) b (place m n) (λ x. d.regs x ≡ ρ (place m n)) (λ q. d.here ∙ sym k.1 ∙ ap ρ (sym (eqb-true (place m n) j q))) (λ q. d.others (place m n) (λ z. absurd (omega (arith, own.1)))) in
-        (ap d.regs pl ∙ held ∙ own.0, omega (arith, pl, no.1))) in
-        let f = argument_runs (suc b) l2 d.regs (omega arith) agree (λ n i q t r.
-        let own = a n i (of_rest c v vs n q) t in
-        absurd ((instead_not b j (place m n) (omega arith) own.1).0 (sym (place_instead m b j n l) ∙ r))) in
+        let apart = instead_not b j (place m n) (omega (arith, le)) own.1 in
+        let held : d.held (instead b j (place m n)) ≡ c (place m n) =
+        cond_both (place m n == j) b (place m n) (λ x. d.held x ≡ c (place m n))
+        (λ q. at_b ∙ sym k.1 ∙ ap c (sym (eqb-true (place m n) j q)))
+        (λ q. d.others (place m n) (λ z. absurd (omega (arith, own.1, z)))) in
+        (ap d.held pl ∙ held ∙ own.0, omega (arith, pl, apart.1))) in
+        let g = argument_comes (suc b) l2 d.held (omega (arith, le)) known (λ n q r.
+        let own = a n (of_rest f v vs n q) in
+        absurd ((instead_not b j (place m n) (omega (arith, le)) own.1).0 (sym (place_instead m b j n l) ∙ r))) in
         record {
-          regs = f.regs;
-          code = f.code;
-          leads = leads_on B _ _ _ d.leads f.leads;
-          goes = f.goes;
-          holds = f.holds;
-          below = λ q lt. f.below q lt ∙ d.others q (λ z. absurd (omega arith));
+          moves = d.moves ++ g.moves;
+          code = g.code;
+          same = ap (before d.moves) g.same;
+          held = g.held;
+          brings = brings_on d.moves g.moves c d.held g.held d.brings g.brings;
+          goes = g.goes;
+          order = g.order;
+          below = λ q lt. g.below q lt ∙ d.others q (λ z. absurd (omega (arith, lt, le, z)));
+          few = (let z = length-append d.moves g.moves in omega (arith, z, g.few));
         }
 
-  pub call_runs : (vs : List AVal) (ws : List AWord) (j b : ℕ) (m : List ℕ) (ρ : ERegs) → 1 ≤ j → j + length vs ≤ b → Agree ρ m env b (wants c vs) → values env vs ≡ Some ws → Calls B h log ρ (call_code j b m vs c ts) j ws w
-  call_runs [] ws j b m ρ l le a x =
-      let n : [] ≡ ws = cc in
-      let d = unnest_runs B h log c ρ m env b b w (Ends (T.Jmp (applied_to (small b m c) ts))) (agree_fewer ρ m env b (wants c []) (uses c) (of_code c []) a) code_is in
+  pub call_comes : (vs : List AVal) (j b : ℕ) (m : List ℕ) (c : Held) → 1 ≤ j → j + length vs ≤ b →
+      Known c m b (wants f vs) → Calls c (call_code j b m vs f (tys ts)) j vs f ts (most_all vs + packages f)
+  call_comes [] j b m c l le a =
+      let x = applied_to (small b m f) (tys ts) in
+      let d = unnest_is f c m b b (Ends (T.Jmp x)) (known_fewer c m b (wants f []) (uses f) (of_code f []) a) in
       record {
-        regs = d.regs;
-        code = applied_to (small b m c) ts;
-        leads = d.leads;
-        goes = ap (base_word d.regs) (applied_base (small b m c) ts) ∙ d.here;
-        holds = subst (λ us. Holds d.regs j us) n tt;
-        below = λ q lt. d.others q (λ z. absurd (omega arith));
+        moves = d.moves;
+        code = x;
+        same = d.same;
+        held = d.held;
+        brings = d.brings;
+        goes = inr (small b m f, d.here, refl);
+        order = tt;
+        below = λ q lt. d.others q (λ z. absurd (omega (arith, lt, le, z)));
+        few = omega (arith, d.few);
       }
-  call_runs (v ∷ vs) ws j b m ρ l le a x =
-      let s = split_values (value env v) (values env vs) ws x in
-      saved_runs v vs j ws s.0 s.1 s.2 s.3 s.4 (λ b2 m2 ρ2 le2 a2. call_runs vs s.1 (suc j) b2 m2 ρ2 (omega arith) le2 a2 s.3) b m ρ l le a (not (owns j m v) && later j m vs c) refl
-
--- arguments in the registers from 1 on are the environment of the block
-abbrev Push : ERegs → List AWord → Type 0
-Push ρ env = Agree ρ (rows (length env)) env (suc (length env)) (λ n. true)
-
-push_more : (ρ : ERegs) (ws env : List AWord) → Push ρ env → Holds ρ (suc (length env)) ws → Push ρ (push_all ws env)
-push_more ρ [] env a b = a
-push_more ρ (w ∷ ws) env a b = push_more ρ ws (w ∷ env) go b.1
-  where
-    go : (n : ℕ) (x : AWord) → true ≡ true → slice_get (w ∷ env) n ≡ Some x → (ρ (place (rows (suc (length env))) n) ≡ Some (word x)) × (place (rows (suc (length env))) n < suc (suc (length env)))
-    go zero x y e = (b.0 ∙ ap (option_map word) e, omega arith)
-    go (suc n) x y e = let c = a n x y e in (c.0, omega (arith, c.1))
-
-pub agree_push : (ρ : ERegs) (ws : List AWord) → Holds ρ 1 ws → Push ρ (push_all ws [])
-agree_push ρ ws h = push_more ρ ws [] (λ n w y x. absurd (none_at n w x)) h
-  where
-    none_at : (n : ℕ) (w : AWord) → slice_get [] n ≡ Some w → ⊥
-    none_at n w x = cc
-
-pub length_push_all : (ws env : List AWord) → length (push_all ws env) ≡ length ws + length env
-length_push_all [] env = omega arith
-length_push_all (w ∷ ws) env = length_push_all ws (w ∷ env) ∙ omega arith
-
-pub length_rows : (n : ℕ) → length (rows n) ≡ n
-length_rows zero = refl
-length_rows (suc n) = ap suc (length_rows n)
+  call_comes (v ∷ vs) j b m c l le a =
+      saved_comes v vs j (λ b2 m2 c2 le2 a2. call_comes vs (suc j) b2 m2 c2 (omega arith) le2 a2) b m c l le a
+      (not (owns j m v) && later j m vs f) refl

@@ -15,7 +15,7 @@ use Rattle.t_terms.specs.Tree.{TValue, TSeq, Then, Ends, TBlock}
 use Rattle.t_terms.specs.Whole.{HasNoRegister, WellFormedValue, WellFormedSeq, WellFormedBlocks, WellFormedData, WellFormedHeap, Whole}
 use Rattle.gen_law.specs.Gen.{ty, ty_args, ty_fields, tys, place, inside, small, boxed, unnest, stands, move, home, settle, uses, used, top, over, arguments, free, owner, target, spare, decl_code, later, owns, saved, above_saved, instead, places_saved, call_code, above, tvars, code, insert, header, extras, rows, firsts, seconds, generated_blocks, applied_to, constant, data_of, generated_heap, generated}
 use Rattle.a_terms.specs.Bound.{thirds}
-use Rattle.gen_law.proofs.Loads.{length_rows}
+use Rattle.gen_law.proofs.Runs.{length_rows}
 use Rattle.gen_law.proofs.Free.{free_within, spare_apart}
 use Rattle.gen_law.proofs.Places.{length_firsts}
 use Rattle.gen_law.specs.GenLaws.{length_extras}

@@ -1,13 +1,15 @@
--- The words of the allocated calculus and those of the machine; registers that hold an environment.
-use Rattle.std.proofs.Common.{◌≡◌, ℕ, zero, suc, ◌<◌, ◌≤◌, List, ◌∷◌, length, map, Option, Some, None, refl, ap, ◌∙◌, arith, cond, slice_get}
-use Rattle.std.proofs.lemmas.Bool.{eq-eqb, ne_eqb}
-use Rattle.std.specs.Prelude.{◌≢◌, option_map, replicate, Bool, true}
-use Rattle.a_terms.specs.Tree.{ATys, NoATys, MoreATys}
-use Rattle.a_terms.specs.Meaning.{AWord, ZInt, ZTuple, ZLabel, AHeap, empties}
+-- The words of the allocated calculus and those of the machine; registers that hold values.
+use Rattle.std.proofs.Common.{◌≡◌, ℕ, zero, suc, ◌+◌, ◌<◌, List, [], ◌∷◌, length, map, Option, Some, None, refl}
+use Rattle.std.proofs.Common.{sym, ap, ◌∙◌, arith, cond, slice_get}
+use Rattle.std.proofs.lemmas.Bool.{eq-eqb, ne_eqb, eqb-true, cond_both, and_parts}
+use Rattle.std.proofs.lemmas.Option.{slice_get_within}
+use Rattle.std.specs.Prelude.{◌≢◌, ◌==◌, ◌&&◌, option_map, replicate, Bool, true}
+use Rattle.a_terms.specs.Tree.{ATys, NoATys, MoreATys, AVal, Var}
+use Rattle.a_terms.specs.Meaning.{AWord, ZInt, ZTuple, ZLabel, AHeap, empties, value}
 use Rattle.t_rules.specs.Registers.{with_reg}
 use Rattle.t_rules.specs.Erase.{EWord, EInt, EAddress, ELabel, EEmpty, EHeap, ERegs}
-use Rattle.gen_law.specs.Gen.{tys, place, over}
-use Rattle.gen_law.proofs.Free.{top_place}
+use Rattle.gen_law.specs.Gen.{tys, place}
+use Rattle.gen_law.specs.Rules.{Held, holding, Stay}
 
 abbrev pub word : AWord → EWord
 word (ZInt i) = EInt i
@@ -28,44 +30,78 @@ pub tuple_empties : (ts : ATys) → tuple (empties ts) ≡ replicate (length (ty
 tuple_empties NoATys = refl
 tuple_empties (MoreATys t ts) = ap (λ l. EEmpty ∷ l) (tuple_empties ts)
 
-pub get_same : (ρ : ERegs) (r : ℕ) (w : EWord) → with_reg ρ r w r ≡ Some w
-get_same ρ r w = ap (λ b. cond b (Some w) (ρ r)) (eq-eqb r r refl)
+-- a register that is written, and another one
+pub get_same : {A : Type 0} (c : ℕ → Option A) (r : ℕ) (x : A) → with_reg c r x r ≡ Some x
+get_same c r x = ap (λ b. cond b (Some x) (c r)) (eq-eqb r r refl)
 
-pub get_other : (ρ : ERegs) (r q : ℕ) (w : EWord) → q ≢ r → with_reg ρ r w q ≡ ρ q
-get_other ρ r q w ne = ap (λ b. cond b (Some w) (ρ q)) (ne_eqb r q (λ e. absurd (ne (omega arith))))
+pub get_other : {A : Type 0} (c : ℕ → Option A) (r q : ℕ) (x : A) → q ≢ r → with_reg c r x q ≡ c q
+get_other c r q x ne = ap (λ b. cond b (Some x) (c q)) (ne_eqb r q (λ e. absurd (ne (omega arith))))
 
--- the values of the variables that are used, each in its register, which is below b
-abbrev pub Agree : ERegs → List ℕ → List AWord → ℕ → (ℕ → Bool) → Type 0
-Agree ρ m env b u =
-    (n : ℕ) (w : AWord) → u n ≡ true → slice_get env n ≡ Some w → (ρ (place m n) ≡ Some (word w)) × (place m n < b)
-
--- registers that keep those below b keep what they hold of an environment
-pub agree_kept : (ρ σ : ERegs) (m : List ℕ) (env : List AWord) (b : ℕ) (u : ℕ → Bool) → ((q : ℕ) → q < b → σ q ≡ ρ q) → Agree ρ m env b u → Agree σ m env b u
-agree_kept ρ σ m env b u k a = λ n w y x. let c = a n w y x in (k (place m n) c.1 ∙ c.0, c.1)
+-- the values of the variables that are used, each in its register
+abbrev pub Agree : ERegs → List ℕ → List AWord → (ℕ → Bool) → Type 0
+Agree ρ m env u = (n : ℕ) (w : AWord) → u n ≡ true → slice_get env n ≡ Some w → ρ (place m n) ≡ Some (word w)
 
 -- fewer variables
-pub agree_fewer : (ρ : ERegs) (m : List ℕ) (env : List AWord) (b : ℕ) (u v : ℕ → Bool) → ((n : ℕ) → v n ≡ true → u n ≡ true) → Agree ρ m env b u → Agree ρ m env b v
-agree_fewer ρ m env b u v k a = λ n w y x. a n w (k n y) x
+pub agree_fewer : (ρ : ERegs) (m : List ℕ) (env : List AWord) (u v : ℕ → Bool) →
+    ((n : ℕ) → v n ≡ true → u n ≡ true) → Agree ρ m env u → Agree ρ m env v
+agree_fewer ρ m env u v k a = λ n w y x. a n w (k n y) x
 
--- a greater bound
-pub agree_above : (ρ : ERegs) (m : List ℕ) (env : List AWord) (b c : ℕ) (u : ℕ → Bool) → b ≤ c → Agree ρ m env b u → Agree ρ m env c u
-agree_above ρ m env b c u le a = λ n w y x. let k = a n w y x in (k.0, omega (arith, k.1))
+-- each register that holds a value has its word
+abbrev pub Fits : ERegs → Held → List AWord → Type 0
+Fits ρ c env = (r : ℕ) (v : AVal) → c r ≡ Some v → (w : AWord) × (value env v ≡ Some w) × (ρ r ≡ Some (word w))
 
--- the registers of the variables that are used hold what they held
-abbrev pub Stays : ERegs → ERegs → List ℕ → (ℕ → Bool) → Type 0
-Stays ρ σ m u = (n : ℕ) → u n ≡ true → σ (place m n) ≡ ρ (place m n)
+there : {A : Type 0} (xs : List A) (n : ℕ) → n < length xs → (x : A) × (slice_get xs n ≡ Some x)
+there [] n l = absurd (omega arith)
+there (x ∷ xs) zero l = (x, refl)
+there (x ∷ xs) (suc n) l = there xs n (omega arith)
 
-pub agree_stays : (ρ σ : ERegs) (m : List ℕ) (env : List AWord) (b : ℕ) (u : ℕ → Bool) → Stays ρ σ m u → Agree ρ m env b u → Agree σ m env b u
-agree_stays ρ σ m env b u k a = λ n w y x. let c = a n w y x in (k n y ∙ c.0, c.1)
+none_some : {A : Type 0} (x : A) → None ≡ Some x → ⊥
+none_some x e = cc
 
--- the least bound
-pub agree_over : (ρ : ERegs) (m : List ℕ) (env : List AWord) (b : ℕ) (u : ℕ → Bool) → Agree ρ m env b u → Agree ρ m env (over m u) u
-agree_over ρ m env b u a = λ n w y x. let c = a n w y x in let t = top_place 0 m u n y in (c.0, omega (arith, t))
+-- what holds a variable is its register
+held_var : (m : List ℕ) (i : ℕ) (u : ℕ → Bool) (r : ℕ) (v : AVal) → holding i m u r ≡ Some v →
+    (n : ℕ) × (u n ≡ true) × (n < length m) × (place m n ≡ r) × (v ≡ Var (i + n))
+held_var [] i u r v e = absurd (none_some v e)
+held_var (q ∷ m) i u r v h = cond_both (u 0 && q == r) (Some (Var i)) (holding (suc i) m (λ n. u (suc n)) r)
+    (λ o. o ≡ Some v → (n : ℕ) × (u n ≡ true) × (n < suc (length m)) × (place (q ∷ m) n ≡ r) × (v ≡ Var (i + n)))
+    (λ c e.
+    let p = and_parts (u 0) (q == r) c in
+    let same : Var i ≡ v = cc in
+    let z : i ≡ i + 0 = omega arith in
+    (0, p.0, omega arith, eqb-true q r p.1, sym same ∙ ap Var z))
+    (λ c e.
+    let x = held_var m (suc i) (λ n. u (suc n)) r v e in
+    let z : suc i + x.0 ≡ i + suc x.0 = omega arith in
+    (suc x.0, x.1, omega (arith, x.2), x.3, x.4 ∙ ap Var z)) h
+
+pub fits_start : (ρ : ERegs) (m : List ℕ) (env : List AWord) (u : ℕ → Bool) → length m ≡ length env →
+    Agree ρ m env u → Fits ρ (holding 0 m u) env
+fits_start ρ m env u long a r v e =
+    let x = held_var m 0 u r v e in
+    let w = there env x.0 (omega (arith, x.2, long)) in
+    let z : 0 + x.0 ≡ x.0 = omega arith in
+    let is : value env v ≡ Some w.0 = ap (value env) (x.4 ∙ ap Var z) ∙ w.1 in
+    (w.0, is, ap ρ (sym x.3) ∙ a x.0 w.0 x.1 w.1)
 
 -- one more variable, in register r
-pub agree_next : (ρ σ : ERegs) (m : List ℕ) (env : List AWord) (b : ℕ) (u v : ℕ → Bool) (r : ℕ) (w : AWord) → Agree ρ m env b u → ((n : ℕ) → v (suc n) ≡ true → u n ≡ true) → σ r ≡ Some (word w) → Stays ρ σ m (λ n. v (suc n)) → Agree σ (r ∷ m) (w ∷ env) (over (r ∷ m) v) v
-agree_next ρ σ m env b u v r w a k here kept = go
+pub agree_next : (ρ σ : ERegs) (c : Held) (m : List ℕ) (env : List AWord) (v : ℕ → Bool) (r : ℕ) (w : AWord) →
+    length m ≡ length env → Fits ρ c env → Stay m (λ n. v (suc n)) c → σ r ≡ Some (word w) →
+    ((n : ℕ) → v (suc n) ≡ true → n < length m → σ (place m n) ≡ ρ (place m n)) → Agree σ (r ∷ m) (w ∷ env) v
+agree_next ρ σ c m env v r w long fits stay here kept = go
   where
-    go : (n : ℕ) (x : AWord) → v n ≡ true → slice_get (w ∷ env) n ≡ Some x → (σ (place (r ∷ m) n) ≡ Some (word x)) × (place (r ∷ m) n < over (r ∷ m) v)
-    go zero x y e = let t = top_place 0 (r ∷ m) v 0 y in (here ∙ ap (option_map word) e, omega (arith, t))
-    go (suc n) x y e = let c = a n x (k n y) e in let t = top_place 0 (r ∷ m) v (suc n) y in (kept n y ∙ c.0, omega (arith, t))
+    go : (n : ℕ) (x : AWord) → v n ≡ true → slice_get (w ∷ env) n ≡ Some x →
+        σ (place (r ∷ m) n) ≡ Some (word x)
+    go zero x y e = here ∙ ap (option_map word) e
+    go (suc n) x y e =
+        let lt = slice_get_within env n x e in
+        let inside : n < length m = omega (arith, lt, long) in
+        let f = fits (place m n) (Var n) (stay n y inside) in
+        kept n y inside ∙ f.2 ∙ ap (option_map word) (sym f.1 ∙ e)
+
+-- the variables that stay have their words
+pub agree_stay : (ρ : ERegs) (c : Held) (m : List ℕ) (env : List AWord) (u : ℕ → Bool) → length m ≡ length env →
+    Fits ρ c env → Stay m u c → Agree ρ m env u
+agree_stay ρ c m env u long fits stay n x y e =
+    let lt = slice_get_within env n x e in
+    let f = fits (place m n) (Var n) (stay n y (omega (arith, lt, long))) in
+    f.2 ∙ ap (option_map word) (sym f.1 ∙ e)

@@ -6,5 +6,6 @@ pub mod Laws
 pub mod Layout
 pub mod Packs
 pub mod Registers
+pub mod Rules
 pub mod TypesEach
 pub mod Worked

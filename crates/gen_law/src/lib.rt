@@ -3,6 +3,7 @@
 
 ghost use Rattle.gen_law.specs.Layout.{LaidOut};
 ghost use Rattle.gen_law.specs.Laws.{TypesKept, PacksFlat, InvariantKept, MeaningKept};
+ghost use Rattle.gen_law.specs.Rules.{GeneratedIsByRules, RulesMeanTheSame};
 ghost use Rattle.gen_law.specs.TypesEach.{TypesWithin};
 
 /// Block 0 holds the main term; each block has its own, and each `if0` one more for its third part. Each data tuple has
@@ -31,16 +32,29 @@ pub fn invariant_is_kept()
     ensures { InvariantKept }
 {}
 
-/// What is generated for a typed program within the bound means the same, both ways, and its machine enters no block
-/// more often than the calls of the program do.
-pub fn meaning_is_kept()
-    ensures { MeaningKept }
+/// What is generated for a typed program is so by the rules.
+pub fn generated_programs_are_by_rules()
+    ensures { GeneratedIsByRules }
+{}
+
+/// Whatever is so by the rules, keeps the invariant of programs and is accepted means the same as the typed program,
+/// both ways, and its machine enters no block more often than the calls of that do.
+pub fn rules_mean_the_same()
+    ensures { RulesMeanTheSame }
 {
     a_terms::laws::typed_programs_are_never_wrong();
     t_rules::erased_runs_are_runs();
     t_rules::erased_runs_halt_alike();
     t_rules::erased_runs_join();
     t_rules::places_run_within_entries();
+}
+
+/// So does what is generated for a typed program within the bound.
+pub fn meaning_is_kept()
+    ensures { MeaningKept }
+{
+    generated_programs_are_by_rules();
+    rules_mean_the_same();
     types_are_kept();
     invariant_is_kept();
 }

@@ -1,7 +1,7 @@
-use Rattle.gen_law.proofs.Correct.{keeps}
+use Rattle.gen_law.specs.Gen.{generated}
 use Rattle.gen_law.proofs.meaning_is_kept.Goals as goal
 
 pub returns : goal.returns
 returns c = λ p main q f.
-    keeps c.erased_runs_are_runs.ensures.erase c.erased_runs_halt_alike.ensures c.erased_runs_join.ensures.first c.places_run_within_entries.ensures p main
-    (c.typed_programs_are_never_wrong.ensures p main q) (c.invariant_is_kept.ensures p main q f) (c.types_are_kept.ensures p main q)
+    c.rules_mean_the_same.ensures p main (generated p main) q (c.generated_programs_are_by_rules.ensures p main q)
+    (c.invariant_is_kept.ensures p main q f) (c.types_are_kept.ensures p main q)

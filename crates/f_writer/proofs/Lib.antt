@@ -1,0 +1,9 @@
+mod Items
+mod Lexemes
+mod Placed
+mod Reading
+mod Rows
+mod Scopes
+mod Standing
+mod WroteTerms
+mod WroteTypes

@@ -5,5 +5,7 @@ mod Reading
 mod Rows
 mod Scopes
 mod Standing
+mod Todos
+mod TypeTexts
 mod WroteTerms
 mod WroteTypes

@@ -45,9 +45,9 @@ let_in_let : term_text (MLet (MLet one (MVar 0)) (MVar 0)) ≡ codes "let x0 = l
 unfolding digits
 let_in_let = refl
 
-package : term_text (MOpen (MPack TInt three (TSome (TVar 0))) two) ≡ codes "open [t0, x0] = pack[int, 3] as some t0. t0 in\n2\n"
+packed : term_text (MOpen (MPack TInt three (TSome (TVar 0))) two) ≡ codes "open [t0, x0] = pack[int, 3] as some t0. t0 in\n2\n"
 unfolding digits
-package = refl
+packed = refl
 
 opened : written 1 2 (MOpen (MVar 0) (MInst (MVar 0) (TArrow (TVar 0) (TVar 1)))) ≡ codes "open [t1, x2] = x1 in\nx2[t1 -> t0]"
 unfolding digits

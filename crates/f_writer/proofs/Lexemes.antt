@@ -9,7 +9,7 @@ use Rattle.f_terms.specs.Text.{name_text, is_grouped, separator, text_at, texts_
 use Rattle.f_terms.specs.Tm.{Term, MVar, MNum, MFix, MApp, MGen, MInst, MTuple, MProj, MArith, MIf0, MLet, MPack, MOpen, MRef, MDeref, MAssign, Terms, NoTerms, MoreTerms}
 use Rattle.f_lexer.specs.declared.kind.Kind.{Kind}
 use Rattle.f_lexer.specs.declared.kind.Kind.TheVariants as k
-use Rattle.f_writer.specs.declared.line.Line.TheVariants.{Sum, Call, Part}
+use Rattle.f_writer.specs.declared.line.Line.TheVariants.{Sum, Call, Primary}
 use Rattle.f_writer.specs.Lines.{is_loose, op_line, right_line, line_of}
 use Rattle.f_writer.specs.Notation.{value_text, integer_text, op_text, wrapped, written, fields_written, more_written}
 
@@ -88,11 +88,11 @@ abbrev mutual
   lexed n m (MFix arg res e) =
       Reserved (codes "fix") k.Fix ∷ (space ∷ (ValueName m ∷ (open_paren ∷ (ValueName (m + 1) ∷ (Spaced 58 k.Colon ∷
       (type_lexed n arg ++ (close_paren ∷ (Spaced 58 k.Colon ∷ (type_lexed n res ++ (Spaced 46 k.Dot ∷ lexed n (m + 2) e))))))))))
-  lexed n m (MApp f x) = inside (is_loose (line_of f) Call) (lexed n m f) ++ (space ∷ inside (is_loose (line_of x) Part) (lexed n m x))
+  lexed n m (MApp f x) = inside (is_loose (line_of f) Call) (lexed n m f) ++ (space ∷ inside (is_loose (line_of x) Primary) (lexed n m x))
   lexed n m (MGen e) = Reserved (codes "gen") k.Gen ∷ (space ∷ (TypeName n ∷ (Spaced 46 k.Dot ∷ lexed (n + 1) m e)))
   lexed n m (MInst e t) = inside (is_loose (line_of e) Call) (lexed n m e) ++ (Sign 91 k.LeftBracket ∷ (type_lexed n t ++ Sign 93 k.RightBracket ∷ []))
   lexed n m (MTuple es) = Sign 60 k.LeftAngle ∷ (fields_lexed n m es ++ Sign 62 k.RightAngle ∷ [])
-  lexed n m (MProj i e) = Sign 35 k.Hash ∷ (Number (pos i) ∷ (space ∷ inside (is_loose (line_of e) Part) (lexed n m e)))
+  lexed n m (MProj i e) = Sign 35 k.Hash ∷ (Number (pos i) ∷ (space ∷ inside (is_loose (line_of e) Primary) (lexed n m e)))
   lexed n m (MArith op a b) = inside (is_loose (line_of a) (op_line op)) (lexed n m a) ++ (space ∷ (op_lexeme op ∷ inside (is_loose (line_of b) (right_line op)) (lexed n m b)))
   lexed n m (MIf0 c a b) =
       Reserved (codes "if0") k.If0 ∷ (open_paren ∷ (lexed n m c ++ (comma ∷ (lexed n m a ++ (comma ∷ (lexed n m b ++ close_paren ∷ []))))))
@@ -105,8 +105,8 @@ abbrev mutual
   lexed n m (MOpen a b) =
       Reserved (codes "open") k.Open ∷ (space ∷ (Sign 91 k.LeftBracket ∷ (TypeName n ∷ (comma ∷ (ValueName m ∷ (Sign 93 k.RightBracket ∷ (space ∷ (Spaced 61 k.Equals ∷
       (lexed n m a ++ (space ∷ (Reserved (codes "in") k.In ∷ (Blank 10 ∷ lexed (n + 1) (m + 1) b))))))))))))
-  lexed n m (MRef e) = Reserved (codes "ref") k.Ref ∷ (space ∷ inside (is_loose (line_of e) Part) (lexed n m e))
-  lexed n m (MDeref e) = Sign 33 k.Bang ∷ inside (is_loose (line_of e) Part) (lexed n m e)
+  lexed n m (MRef e) = Reserved (codes "ref") k.Ref ∷ (space ∷ inside (is_loose (line_of e) Primary) (lexed n m e))
+  lexed n m (MDeref e) = Sign 33 k.Bang ∷ inside (is_loose (line_of e) Primary) (lexed n m e)
   lexed n m (MAssign a b) =
       inside (is_loose (line_of a) Sum) (lexed n m a) ++ (space ∷ (Pair 58 61 k.Assign ∷ (space ∷ inside (is_loose (line_of b) Sum) (lexed n m b))))
 
@@ -191,16 +191,16 @@ mutual
       simp (render_append, type_rendered n arg, type_rendered n res, term_rendered n (m + 2) e)
       (join_ten (codes "fix ") (value_text m) (codes "(") (value_text (m + 1)) (codes ": ") (text_at n arg) (codes "): ") (text_at n res) (codes ". ") (written n (m + 2) e))
   term_rendered n m (MApp f x) =
-      simp (render_append, render_inside (is_loose (line_of f) Call) (lexed n m f) (written n m f) (term_rendered n m f), render_inside (is_loose (line_of x) Part) (lexed n m x) (written n m x) (term_rendered n m x))
-      (join_three (wrapped (is_loose (line_of f) Call) (written n m f)) (codes " ") (wrapped (is_loose (line_of x) Part) (written n m x)))
+      simp (render_append, render_inside (is_loose (line_of f) Call) (lexed n m f) (written n m f) (term_rendered n m f), render_inside (is_loose (line_of x) Primary) (lexed n m x) (written n m x) (term_rendered n m x))
+      (join_three (wrapped (is_loose (line_of f) Call) (written n m f)) (codes " ") (wrapped (is_loose (line_of x) Primary) (written n m x)))
   term_rendered n m (MGen e) = simp (term_rendered (n + 1) m e) (join_four (codes "gen ") (name_text n) (codes ". ") (written (n + 1) m e))
   term_rendered n m (MInst e t) =
       simp (render_append, render_inside (is_loose (line_of e) Call) (lexed n m e) (written n m e) (term_rendered n m e), type_rendered n t)
       (join_four (wrapped (is_loose (line_of e) Call) (written n m e)) (codes "[") (text_at n t) (codes "]"))
   term_rendered n m (MTuple es) = simp (render_append, fields_rendered n m es) (join_three (codes "<") (fields_written n m es) (codes ">"))
   term_rendered n m (MProj i e) =
-      simp (render_inside (is_loose (line_of e) Part) (lexed n m e) (written n m e) (term_rendered n m e))
-      (join_four (codes "#") (decimal i) (codes " ") (wrapped (is_loose (line_of e) Part) (written n m e)))
+      simp (render_inside (is_loose (line_of e) Primary) (lexed n m e) (written n m e) (term_rendered n m e))
+      (join_four (codes "#") (decimal i) (codes " ") (wrapped (is_loose (line_of e) Primary) (written n m e)))
   term_rendered n m (MArith Add a b) =
       simp (render_append, render_inside (is_loose (line_of a) (op_line Add)) (lexed n m a) (written n m a) (term_rendered n m a), render_inside (is_loose (line_of b) (right_line Add)) (lexed n m b) (written n m b) (term_rendered n m b))
       (join_three (wrapped (is_loose (line_of a) (op_line Add)) (written n m a)) (op_text Add) (wrapped (is_loose (line_of b) (right_line Add)) (written n m b)))
@@ -222,8 +222,8 @@ mutual
   term_rendered n m (MOpen a b) =
       simp (render_append, term_rendered n m a, term_rendered (n + 1) (m + 1) b)
       (join_eight (codes "open [") (name_text n) (codes ", ") (value_text m) (codes "] = ") (written n m a) (codes " in\n") (written (n + 1) (m + 1) b))
-  term_rendered n m (MRef e) = ap (λ (s : List ℕ). codes "ref " ++ s) (render_inside (is_loose (line_of e) Part) (lexed n m e) (written n m e) (term_rendered n m e))
-  term_rendered n m (MDeref e) = ap (λ (s : List ℕ). codes "!" ++ s) (render_inside (is_loose (line_of e) Part) (lexed n m e) (written n m e) (term_rendered n m e))
+  term_rendered n m (MRef e) = ap (λ (s : List ℕ). codes "ref " ++ s) (render_inside (is_loose (line_of e) Primary) (lexed n m e) (written n m e) (term_rendered n m e))
+  term_rendered n m (MDeref e) = ap (λ (s : List ℕ). codes "!" ++ s) (render_inside (is_loose (line_of e) Primary) (lexed n m e) (written n m e) (term_rendered n m e))
   term_rendered n m (MAssign a b) =
       simp (render_append, render_inside (is_loose (line_of a) Sum) (lexed n m a) (written n m a) (term_rendered n m a), render_inside (is_loose (line_of b) Sum) (lexed n m b) (written n m b) (term_rendered n m b))
       (join_three (wrapped (is_loose (line_of a) Sum) (written n m a)) (codes " := ") (wrapped (is_loose (line_of b) Sum) (written n m b)))

@@ -13,7 +13,7 @@ use Rattle.f_terms.specs.declared.node.FShape.{FShape}
 use Rattle.f_terms.specs.declared.node.FShape.TheVariants as shape
 use Rattle.f_terms.specs.declared.types.FType.{FType}
 use Rattle.f_writer.specs.declared.line.Line.{Line}
-use Rattle.f_writer.specs.declared.line.Line.TheVariants.{Expression, Sum, Product, Call, Part as PartLine}
+use Rattle.f_writer.specs.declared.line.Line.TheVariants.{Expression, Sum, Product, Call, Primary}
 use Rattle.f_writer.specs.declared.part.Part.{Part}
 use Rattle.f_writer.specs.declared.task.Task.{Task}
 use Rattle.f_writer.specs.Lines.{is_loose, op_line, right_line, line_of, shape_line}
@@ -58,13 +58,13 @@ line_is at s (shape.Assign a b) = refl
 pub line_of_part : (p : Part) (n : FNode) → node_at p.term.now p.at ≡ node_tree (node_at p.term.now) n → line_of (part_term p) ≡ shape_line n.shape
 line_of_part p n t = ap line_of (form_is p n n.shape t refl) ∙ line_is (node_at p.term.now) (place n.span) n.shape
 
--- any form may stand at a place that asks for an expression
+-- no form takes parentheses where an expression is asked for
 whole_bare : (l : Line) → is_loose l Expression ≡ false
 whole_bare Expression = refl
 whole_bare Sum = refl
 whole_bare Product = refl
 whole_bare Call = refl
-whole_bare PartLine = refl
+whole_bare Primary = refl
 
 pub whole_written : (n m : ℕ) (e : Term) → written_at Expression n m e ≡ written n m e
 whole_written n m e = ap (λ b. wrapped b (written n m e)) (whole_bare (line_of e))
@@ -83,10 +83,10 @@ module _ (n m : ℕ) (before after : List ℕ) (old new : List Todo) (e : Term) 
         less = omega arith;
       }
 
-  -- one part, at a place, after some bytes
-  pub begun_one : (s : List ℕ) (place : Line) (i j : ℕ) (f x : Term) → e ≡ f → written n m f ≡ s ++ written_at place i j x → weight f ≡ 2 + weight x →
-      new ≡ Write place i j x ∷ old → after ≡ before ++ s → Begun before n m e old after new
-  begun_one s place i j f x is text w next t =
+  -- one part after some bytes
+  pub begun_one : (s : List ℕ) (asked : Line) (i j : ℕ) (f x : Term) → e ≡ f → written n m f ≡ s ++ written_at asked i j x → weight f ≡ 2 + weight x →
+      new ≡ Write asked i j x ∷ old → after ≡ before ++ s → Begun before n m e old after new
+  begun_one s asked i j f x is text w next t =
       let we : weight e ≡ 2 + weight x = ap weight is ∙ w in
       let so : steps new ≡ weight x + steps old = ap steps next in
       record {
@@ -110,9 +110,6 @@ three_parts s a b c = simp append_assoc
 
 pub after_three : (t0 t1 t2 t3 a b c : List ℕ) → t1 ≡ t0 ++ a → t2 ≡ t1 ++ b → t3 ≡ t2 ++ c → t3 ≡ t0 ++ (a ++ b ++ c)
 after_three t0 t1 t2 t3 a b c e f g = rw (g, f, e) (simp append_assoc)
-
-pub after_five : (t0 t1 t2 t3 t4 t5 a b c d e : List ℕ) → t1 ≡ t0 ++ a → t2 ≡ t1 ++ b → t3 ≡ t2 ++ c → t4 ≡ t3 ++ d → t5 ≡ t4 ++ e → t5 ≡ t0 ++ (a ++ b ++ c ++ d ++ e)
-after_five t0 t1 t2 t3 t4 t5 a b c d e p q r s t = rw (t, s, r, q, p) (simp append_assoc)
 
 no_more : (i n : ℕ) → i ≡ n + 0 → i ≡ n
 no_more i n e = omega arith

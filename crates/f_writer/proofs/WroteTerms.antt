@@ -16,8 +16,7 @@ use Rattle.f_grammar.specs.Raw.{RawTm, raw_tms, Piece, within, var, number, func
 use Rattle.f_grammar.specs.Grammar.{tok, E, e_fix, e_gen, e_let, e_pack, e_open, e_assign, e_sum, S, s_plus, s_minus, s_product, M, m_star, m_call, A, a_call, a_inst, a_part, P, p_name, p_plain, p_negative, p_paren, p_unit, p_tuple, p_proj, p_if0, p_ref, p_deref, Es, es_one, es_more}
 use Rattle.f_parser.specs.Scope.{spelled, TermOf, of_var, of_num, of_fix, of_gen, of_app, of_inst, of_fields, of_proj, of_arith, of_if0, of_let, of_pack, of_open, of_cell, of_deref, of_assign, TermsOf, of_no_terms, of_more_terms}
 use Rattle.f_writer.specs.declared.line.Line.{Line}
-use Rattle.f_writer.specs.declared.line.Line.TheVariants as line
-use Rattle.f_writer.specs.declared.line.Line.TheVariants.{Expression, Sum, Product, Call, Part}
+use Rattle.f_writer.specs.declared.line.Line.TheVariants.{Expression, Sum, Product, Call, Primary}
 use Rattle.f_writer.specs.Lines.{is_loose, op_line, right_line, line_of}
 use Rattle.f_writer.specs.Fits.{Fits, AllFit}
 use Rattle.f_writer.proofs.Lexemes.{Lexeme, Reserved, ValueName, TypeName, Number, Sign, Pair, Spaced, Blank, bytes, space, comma, open_paren, close_paren, inside, type_lexed, op_lexeme, lexed, fields_lexed, more_lexed}
@@ -32,7 +31,7 @@ Of Expression w e = E w e
 Of Sum w e = S w e
 Of Product w e = M w e
 Of Call w e = A w e
-Of Part w e = P w e
+Of Primary w e = P w e
 
 -- what binds closer may stand where less is asked for
 lift : (l q : Line) (w : List Token) (e : Piece) → is_loose l q ≡ false → Of l w e → Of q w e
@@ -40,41 +39,41 @@ lift Expression Expression w e h x = x
 lift Expression Sum w e h x = absurd (cc)
 lift Expression Product w e h x = absurd (cc)
 lift Expression Call w e h x = absurd (cc)
-lift Expression Part w e h x = absurd (cc)
+lift Expression Primary w e h x = absurd (cc)
 lift Sum Expression w e h x = e_sum x
 lift Sum Sum w e h x = x
 lift Sum Product w e h x = absurd (cc)
 lift Sum Call w e h x = absurd (cc)
-lift Sum Part w e h x = absurd (cc)
+lift Sum Primary w e h x = absurd (cc)
 lift Product Expression w e h x = e_sum (s_product x)
 lift Product Sum w e h x = s_product x
 lift Product Product w e h x = x
 lift Product Call w e h x = absurd (cc)
-lift Product Part w e h x = absurd (cc)
+lift Product Primary w e h x = absurd (cc)
 lift Call Expression w e h x = e_sum (s_product (m_call x))
 lift Call Sum w e h x = s_product (m_call x)
 lift Call Product w e h x = m_call x
 lift Call Call w e h x = x
-lift Call Part w e h x = absurd (cc)
-lift Part Expression w e h x = e_sum (s_product (m_call (a_part x)))
-lift Part Sum w e h x = s_product (m_call (a_part x))
-lift Part Product w e h x = m_call (a_part x)
-lift Part Call w e h x = a_part x
-lift Part Part w e h x = x
+lift Call Primary w e h x = absurd (cc)
+lift Primary Expression w e h x = e_sum (s_product (m_call (a_part x)))
+lift Primary Sum w e h x = s_product (m_call (a_part x))
+lift Primary Product w e h x = m_call (a_part x)
+lift Primary Call w e h x = a_part x
+lift Primary Primary w e h x = x
 
 pub whole_term : (l : Line) (w : List Token) (e : Piece) → Of l w e → E w e
 whole_term Expression w e x = x
 whole_term Sum w e x = e_sum x
 whole_term Product w e x = e_sum (s_product x)
 whole_term Call w e x = e_sum (s_product (m_call x))
-whole_term Part w e x = e_sum (s_product (m_call (a_part x)))
+whole_term Primary w e x = e_sum (s_product (m_call (a_part x)))
 
 from_part : (q : Line) (w : List Token) (e : Piece) → P w e → Of q w e
 from_part Expression w e x = e_sum (s_product (m_call (a_part x)))
 from_part Sum w e x = s_product (m_call (a_part x))
 from_part Product w e x = m_call (a_part x)
 from_part Call w e x = a_part x
-from_part Part w e x = x
+from_part Primary w e x = x
 
 stops_more : (n m : ℕ) (es : Terms) → stops (more_lexed n m es) true ≡ true
 stops_more n m NoTerms = refl
@@ -148,11 +147,11 @@ module _ (text : List ℕ) where
       subst (λ (v : List Name). TermOf text v (type_names n) r t) q h
 
   -- what a recursive call gives of a part
-  abbrev Part' : ℕ → ℕ → Term → Type 0
-  Part' n m e = (j : ℕ) → Written text j (lexed n m e) → WroteTerm j n m e
+  abbrev Made : ℕ → ℕ → Term → Type 0
+  Made n m e = (j : ℕ) → Written text j (lexed n m e) → WroteTerm j n m e
 
   -- an operation, with its sign
-  module _ (i n m : ℕ) (a b : Term) (f : Part' n m a) (g : Part' n m b) where
+  module _ (i n m : ℕ) (a b : Term) (f : Made n m a) (g : Made n m b) where
     sum : Written text i (lexed n m (MArith Add a b)) → WroteTerm i n m (MArith Add a b)
     sum w =
         let ls = inside (is_loose (line_of a) Sum) (lexed n m a) in
@@ -220,10 +219,10 @@ module _ (text : List ℕ) where
     application : Written text i (lexed n m (MApp a b)) → WroteTerm i n m (MApp a b)
     application w =
         let ls = inside (is_loose (line_of a) Call) (lexed n m a) in
-        let rest = space ∷ inside (is_loose (line_of b) line.Part) (lexed n m b) in
+        let rest = space ∷ inside (is_loose (line_of b) Primary) (lexed n m b) in
         let x = written_append text i ls rest w in
         let l = at_line Call (is_loose (line_of a) Call) i n m a refl f x.0 in
-        let r = at_line line.Part (is_loose (line_of b) line.Part) (i + size ls + 1) n m b refl g x.1.1 in
+        let r = at_line Primary (is_loose (line_of b) Primary) (i + size ls + 1) n m b refl g x.1.1 in
         record {
           piece = call l.piece r.piece;
           whole = rw (placed_append i ls rest) (a_call l.whole r.whole);
@@ -363,10 +362,10 @@ module _ (text : List ℕ) where
           is = ap₂ (λ (y : Term) (ys : Terms). MTuple (MoreTerms y ys)) a.is r.is;
         }
     wrote_term i n m (MProj v e) hn hm h w =
-        let b = is_loose (line_of e) line.Part in
+        let b = is_loose (line_of e) Primary in
         let s = placing.place_of (i + 1) (Number (pos v)) in
         let j = i + 1 + length (bytes (Number (pos v))) + 1 in
-        let r = at_line line.Part b j n m e refl (λ j w. wrote_term j n m e hn hm h.1 w) w.1.1.1 in
+        let r = at_line Primary b j n m e refl (λ j w. wrote_term j n m e hn hm h.1 w) w.1.1.1 in
         let start = placing.place_of i (Sign 35 k.Hash) in
         record {
           piece = proj start v r.piece;
@@ -498,7 +497,7 @@ module _ (text : List ℕ) where
           is = ap₂ (λ (u v : Term). MOpen u v) ra.is rb.is;
         }
     wrote_term i n m (MRef e) hn hm h w =
-        let r = at_line line.Part (is_loose (line_of e) line.Part) (i + 3 + 1) n m e refl (λ j v. wrote_term j n m e hn hm h v) w.1.1 in
+        let r = at_line Primary (is_loose (line_of e) Primary) (i + 3 + 1) n m e refl (λ j v. wrote_term j n m e hn hm h v) w.1.1 in
         let start = placing.place_of i (Reserved (codes "ref") k.Ref) in
         record {
           piece = cell start r.piece;
@@ -509,7 +508,7 @@ module _ (text : List ℕ) where
           is = ap (λ (v : Term). MRef v) r.is;
         }
     wrote_term i n m (MDeref e) hn hm h w =
-        let r = at_line line.Part (is_loose (line_of e) line.Part) (i + 1) n m e refl (λ j v. wrote_term j n m e hn hm h v) w.1 in
+        let r = at_line Primary (is_loose (line_of e) Primary) (i + 1) n m e refl (λ j v. wrote_term j n m e hn hm h v) w.1 in
         let start = placing.place_of i (Sign 33 k.Bang) in
         record {
           piece = deref start r.piece;

@@ -7,7 +7,7 @@ use Rattle.f_terms.specs.Tm.{MRef, MDeref, MAssign}
 use Rattle.f_terms.specs.declared.node.FShape.{FShape}
 use Rattle.f_terms.specs.declared.node.FShape.TheVariants as shape
 use Rattle.f_writer.specs.declared.line.Line.{Line}
-use Rattle.f_writer.specs.declared.line.Line.TheVariants.{Expression, Sum, Product, Call, Part}
+use Rattle.f_writer.specs.declared.line.Line.TheVariants.{Expression, Sum, Product, Call, Primary}
 
 -- how close the forms of a line bind
 abbrev pub strength : Line → ℕ
@@ -15,11 +15,11 @@ strength Expression = 0
 strength Sum = 1
 strength Product = 2
 strength Call = 3
-strength Part = 4
+strength Primary = 4
 
--- a form of a line takes parentheses at a place where it binds less close than the place asks
+-- a form of a line takes parentheses where a line is asked for whose forms bind closer
 abbrev pub is_loose : Line → Line → Bool
-is_loose line place = nat_lt (strength line) (strength place)
+is_loose line asked = nat_lt (strength line) (strength asked)
 
 -- the line of an operation, which its left operand is of too, and that of its right operand: they group to the left
 abbrev pub op_line : Op → Line
@@ -34,38 +34,38 @@ right_line Mul = Call
 
 -- the line of a term, by its outermost form
 abbrev pub line_of : Term → Line
-line_of (MVar i) = Part
-line_of (MNum z) = Part
+line_of (MVar i) = Primary
+line_of (MNum z) = Primary
 line_of (MFix arg res e) = Expression
 line_of (MApp f x) = Call
 line_of (MGen e) = Expression
 line_of (MInst e t) = Call
-line_of (MTuple es) = Part
-line_of (MProj i e) = Part
+line_of (MTuple es) = Primary
+line_of (MProj i e) = Primary
 line_of (MArith op a b) = op_line op
-line_of (MIf0 c a b) = Part
+line_of (MIf0 c a b) = Primary
 line_of (MLet a b) = Expression
 line_of (MPack h e t) = Expression
 line_of (MOpen a b) = Expression
-line_of (MRef e) = Part
-line_of (MDeref e) = Part
+line_of (MRef e) = Primary
+line_of (MDeref e) = Primary
 line_of (MAssign a b) = Expression
 
 -- the same by the form of a node
 abbrev pub shape_line : FShape → Line
-shape_line (shape.Var i) = Part
-shape_line (shape.Int z) = Part
+shape_line (shape.Var i) = Primary
+shape_line (shape.Int z) = Primary
 shape_line (shape.Fix a r e) = Expression
 shape_line (shape.App f x) = Call
 shape_line (shape.Gen e) = Expression
 shape_line (shape.Inst e t) = Call
-shape_line (shape.Tuple es) = Part
-shape_line (shape.Proj i e) = Part
+shape_line (shape.Tuple es) = Primary
+shape_line (shape.Proj i e) = Primary
 shape_line (shape.Arith op a b) = op_line op
-shape_line (shape.If0 c a b) = Part
+shape_line (shape.If0 c a b) = Primary
 shape_line (shape.Let a b) = Expression
 shape_line (shape.Pack h e t) = Expression
 shape_line (shape.Open a b) = Expression
-shape_line (shape.Ref e) = Part
-shape_line (shape.Deref e) = Part
+shape_line (shape.Ref e) = Primary
+shape_line (shape.Deref e) = Primary
 shape_line (shape.Assign a b) = Expression

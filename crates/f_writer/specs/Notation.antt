@@ -8,7 +8,7 @@ use Rattle.f_terms.specs.Text.{name_text, text_at}
 use Rattle.f_terms.specs.Tm.{Term, MVar, MNum, MFix, MApp, MGen, MInst, MTuple, MProj, MArith, MIf0, MLet, MPack, MOpen}
 use Rattle.f_terms.specs.Tm.{MRef, MDeref, MAssign, Terms, NoTerms, MoreTerms}
 use Rattle.f_writer.specs.declared.line.Line.{Line}
-use Rattle.f_writer.specs.declared.line.Line.TheVariants.{Sum, Call, Part}
+use Rattle.f_writer.specs.declared.line.Line.TheVariants.{Sum, Call, Primary}
 use Rattle.f_writer.specs.Lines.{is_loose, op_line, right_line, line_of}
 
 -- the name of the value that is bound inside m value names. That of a type inside n type names is `name_text n`
@@ -41,13 +41,13 @@ abbrev mutual
       ++ text_at n res ++ codes ". " ++ written n (m + 2) e
   written n m (MApp f x) =
       wrapped (is_loose (line_of f) Call) (written n m f) ++ codes " "
-      ++ wrapped (is_loose (line_of x) Part) (written n m x)
+      ++ wrapped (is_loose (line_of x) Primary) (written n m x)
   written n m (MGen e) = codes "gen " ++ name_text n ++ codes ". " ++ written (n + 1) m e
   written n m (MInst e t) =
       wrapped (is_loose (line_of e) Call) (written n m e) ++ codes "[" ++ text_at n t ++ codes "]"
   written n m (MTuple es) = codes "<" ++ fields_written n m es ++ codes ">"
   written n m (MProj i e) =
-      codes "#" ++ decimal i ++ codes " " ++ wrapped (is_loose (line_of e) Part) (written n m e)
+      codes "#" ++ decimal i ++ codes " " ++ wrapped (is_loose (line_of e) Primary) (written n m e)
   written n m (MArith op a b) =
       wrapped (is_loose (line_of a) (op_line op)) (written n m a) ++ op_text op
       ++ wrapped (is_loose (line_of b) (right_line op)) (written n m b)
@@ -60,8 +60,8 @@ abbrev mutual
   written n m (MOpen a b) =
       codes "open [" ++ name_text n ++ codes ", " ++ value_text m ++ codes "] = " ++ written n m a ++ codes " in\n"
       ++ written (n + 1) (m + 1) b
-  written n m (MRef e) = codes "ref " ++ wrapped (is_loose (line_of e) Part) (written n m e)
-  written n m (MDeref e) = codes "!" ++ wrapped (is_loose (line_of e) Part) (written n m e)
+  written n m (MRef e) = codes "ref " ++ wrapped (is_loose (line_of e) Primary) (written n m e)
+  written n m (MDeref e) = codes "!" ++ wrapped (is_loose (line_of e) Primary) (written n m e)
   written n m (MAssign a b) =
       wrapped (is_loose (line_of a) Sum) (written n m a) ++ codes " := "
       ++ wrapped (is_loose (line_of b) Sum) (written n m b)
@@ -76,9 +76,9 @@ abbrev mutual
   more_written n m NoTerms = []
   more_written n m (MoreTerms e es) = codes ", " ++ written n m e ++ more_written n m es
 
--- a term at a place that asks for a line
+-- a term where a line is asked for
 abbrev pub written_at : Line → ℕ → ℕ → Term → List ℕ
-written_at place n m e = wrapped (is_loose (line_of e) place) (written n m e)
+written_at asked n m e = wrapped (is_loose (line_of e) asked) (written n m e)
 
 -- the text of a term with no names around it
 abbrev pub term_text : Term → List ℕ

@@ -8,22 +8,23 @@ use Rattle.f_terms.specs.Text.{text_at}
 use Rattle.f_writer.specs.Notation.{written, fields_written, more_written, written_at}
 use Rattle.f_writer.specs.Parts.{part_term, part_terms}
 use Rattle.f_writer.specs.declared.line.Line.{Line}
-use Rattle.f_writer.specs.declared.task.Placed.{Placed}
+use Rattle.f_writer.specs.declared.task.Position.{Position}
 use Rattle.f_writer.specs.declared.task.Task.{Task}
 use Rattle.f_writer.specs.declared.task.Task.TheVariants as task
 
--- a term at a place, inside n type names and m value names; fields after others; bytes; a type inside n type names
+-- a term where a line is asked for, inside n type names and m value names; fields after others; bytes; a type inside n
+-- type names
 pub data Todo : Type 0 where
   Write : Line → ℕ → ℕ → Term → Todo
   WriteAll : ℕ → ℕ → Terms → Todo
   Put : List ℕ → Todo
   WriteType : ℕ → Ty → Todo
 
-abbrev pub placed_todo : Placed → Todo
-placed_todo p = Write p.line p.names.types p.names.values (part_term p.part)
+abbrev pub position_todo : Position → Todo
+position_todo p = Write p.line p.names.types p.names.values (part_term p.part)
 
 abbrev pub todo : Task → Todo
-todo (task.Term p) = placed_todo p
+todo (task.Term p) = position_todo p
 todo (task.Fields ps names) = WriteAll names.types names.values (part_terms ps)
 todo (task.Bytes s) = Put s.now
 todo (task.Type t depth) = WriteType depth (tree t.now)
@@ -38,7 +39,7 @@ todos ts = todos_before [] ts
 
 -- the bytes that a task writes, and that all do
 abbrev pub done : Todo → List ℕ
-done (Write place n m e) = written_at place n m e
+done (Write asked n m e) = written_at asked n m e
 done (WriteAll n m es) = more_written n m es
 done (Put s) = s
 done (WriteType n t) = text_at n t
@@ -73,7 +74,7 @@ abbrev mutual
 
 abbrev pub steps : List Todo → ℕ
 steps [] = 0
-steps (Write place n m e ∷ tds) = weight e + steps tds
+steps (Write asked n m e ∷ tds) = weight e + steps tds
 steps (WriteAll n m es ∷ tds) = weight_all es + steps tds
 steps (Put s ∷ tds) = 1 + steps tds
 steps (WriteType n t ∷ tds) = 1 + steps tds
@@ -94,18 +95,21 @@ pub record Steps (before : List ℕ) (old : List Todo) (after : List ℕ) (new :
   pub same : after ++ all_done new ≡ before ++ all_done old
   pub less : steps new < steps old
 
--- forms that bind names or end with a type; forms of parts that stand between bytes
+-- forms that bind names; that have a type behind their part; that have parts with bytes between them
 abbrev pub IsBinder : Term → Type 0
 IsBinder (MFix arg res e) = Unit {0}
 IsBinder (MGen e) = Unit {0}
 IsBinder (MLet a b) = Unit {0}
 IsBinder (MOpen a b) = Unit {0}
-IsBinder (MPack h e t) = Unit {0}
 IsBinder _ = ⊥
+
+abbrev pub IsTyped : Term → Type 0
+IsTyped (MInst e t) = Unit {0}
+IsTyped (MPack h e t) = Unit {0}
+IsTyped _ = ⊥
 
 abbrev pub IsJoined : Term → Type 0
 IsJoined (MApp f x) = Unit {0}
-IsJoined (MInst e t) = Unit {0}
 IsJoined (MArith op a b) = Unit {0}
 IsJoined (MIf0 c a b) = Unit {0}
 IsJoined (MAssign a b) = Unit {0}

@@ -2,18 +2,19 @@
 #![tactic(auto)]
 
 mod begin;
+mod binders;
+mod joined;
 mod laws;
 mod line;
 mod names;
+mod number;
 mod part;
 mod parts;
 mod task;
 mod types;
-mod words;
 mod writer;
 
 pub use laws::{
     read_terms_can_be_written, texts_stand_for_their_terms, written_twice_is_written_once,
 };
-pub use line::Line;
 pub use writer::write_term;

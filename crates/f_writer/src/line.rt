@@ -8,7 +8,7 @@ use idx_core::Op;
 /// The lines of the grammar of terms, from the one that takes every form to the one of forms that never need
 /// parentheses: E, S, M, A and P of the grammar. A form is of one line, and a place for a part asks for one.
 #[derive(Clone, Copy, Drop)]
-pub enum Line {
+pub(crate) enum Line {
     /// Any form: a `fix`, `gen`, `let`, `pack`, `open` or assignment stands bare nowhere else.
     Expression,
     /// Sums and differences.
@@ -18,7 +18,7 @@ pub enum Line {
     /// Calls, and uses at a type.
     Call,
     /// What stands for itself, or ends with a closing sign, or binds closer than a call.
-    Part,
+    Primary,
 }
 
 // How close the forms of a line bind.
@@ -30,15 +30,15 @@ fn strength(line: Line) -> u64
         Line::Sum => 1,
         Line::Product => 2,
         Line::Call => 3,
-        Line::Part => 4,
+        Line::Primary => 4,
     }
 }
 
 // Whether a form of a line takes parentheses at a place.
-pub(crate) fn is_loose(line: Line, place: Line) -> bool
-    ensures { result ≡ is_loose line place }
+pub(crate) fn is_loose(line: Line, asked: Line) -> bool
+    ensures { result ≡ is_loose line asked }
 {
-    strength(line) < strength(place)
+    strength(line) < strength(asked)
 }
 
 // The line of an operation, which its left operand is of too.
@@ -73,8 +73,8 @@ pub(crate) fn line_of(shape: &FShape) -> Line
         FShape::Pack { .. } | FShape::Assign(_, _) => Line::Expression,
         FShape::Arith(op, _, _) => op_line(*op),
         FShape::App(_, _) | FShape::Inst(_, _) => Line::Call,
-        FShape::Var(_) | FShape::Int(_) | FShape::Tuple(_) => Line::Part,
-        FShape::Proj(_, _) | FShape::If0(_, _, _) => Line::Part,
-        FShape::Ref(_) | FShape::Deref(_) => Line::Part,
+        FShape::Var(_) | FShape::Int(_) | FShape::Tuple(_) => Line::Primary,
+        FShape::Proj(_, _) | FShape::If0(_, _, _) => Line::Primary,
+        FShape::Ref(_) | FShape::Deref(_) => Line::Primary,
     }
 }

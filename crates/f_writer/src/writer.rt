@@ -10,7 +10,7 @@ use crate::line::Line;
 use crate::names::Names;
 use crate::part::Parts;
 use crate::parts::{split, whole};
-use crate::task::{Placed, Task, pop, push};
+use crate::task::{Position, Task, pop, push};
 use crate::types::write_type;
 use f_terms::FTerm;
 use idx_core::OutOfMemory;
@@ -29,12 +29,11 @@ fn next_field<'a>(
 {
     match split(fields) {
         None => Ok(()),
-        Some((first, rest)) => {
+        Some((part, rest)) => {
             text.extend_from_slice(b", ")?;
             push(tasks, Task::Fields(rest, names))?;
-            let part = first;
             let line = Line::Expression;
-            push(tasks, Task::Term(Placed { part, line, names }))
+            push(tasks, Task::Term(Position { part, line, names }))
         }
     }
 }
@@ -75,7 +74,7 @@ pub fn write_term(alloc: Global, term: &FTerm) -> Result<Vec<u8>, OutOfMemory>
     };
     let line = Line::Expression;
     let part = whole(term);
-    push(&mut tasks, Task::Term(Placed { part, line, names }))?;
+    push(&mut tasks, Task::Term(Position { part, line, names }))?;
     while let Some(task) = pop(&mut tasks) {
         do_task(&mut text, &mut tasks, task)?;
     }

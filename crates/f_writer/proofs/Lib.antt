@@ -1,0 +1,11 @@
+mod Items
+mod Lexemes
+mod Placed
+mod Reading
+mod Rows
+mod Scopes
+mod Standing
+mod Todos
+mod TypeTexts
+mod WroteTerms
+mod WroteTypes

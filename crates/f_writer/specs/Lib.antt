@@ -1,0 +1,6 @@
+pub mod Fits
+pub mod Laws
+pub mod Lines
+pub mod Notation
+pub mod Parts
+pub mod Tasks

@@ -3,7 +3,11 @@
 For each shape and each pass: processor seconds of all up to the pass at a size and at twice the size, what the pass
 adds, peak memory at both, and the ratio of the times (wanted: at most 2.2), where both are 0.05 seconds or more. A row
 that misses it says so. Memory does not depend on what else the machine does, and its ratio tells as much.
+
+After the last pass of a shape: how many instructions the generated program has for a declaration of the allocated one,
+at both sizes. The ends of blocks are not counted.
 """
+import re
 import sys
 from measure import ROOT, best, ratio
 
@@ -21,7 +25,16 @@ MOST_TIMES = 2.2
 
 
 def run(shape, count, name):
-    return best([str(PROGRAM), shape, str(count), name], times=5, wanted=(0, ""))
+    return best([str(PROGRAM), shape, str(count), name], times=5, wanted=None if name == PASSES[-1] else (0, ""))
+
+
+def of_code(done):
+    """What a run through all passes says of the code that it made."""
+    counts = re.fullmatch(r"(\d+) declarations, (\d+) instructions\n", done.text)
+    if not counts:
+        sys.exit(f"{PROGRAM} printed {done.text[:200]!r}")
+    declarations, instructions = map(int, counts.groups())
+    return f"{instructions / declarations:.3f} ({instructions} for {declarations})"
 
 
 def main():
@@ -41,6 +54,7 @@ def main():
                 f"and {large.peak / 1e6:.0f} MB, {large.peak / small.peak:.2f} times; times the half: {times}"
             )
             before = [small.seconds, large.seconds]
+        print(f"  instructions a declaration: {of_code(small)} and {of_code(large)}")
     print(f"rows that miss {MOST_TIMES} times: {missed}")
 
 

@@ -1,13 +1,16 @@
 //! The program `pass_sizes SHAPE N PASS`: makes a source term of this shape with about N parts, larger than any text
-//! may be, and takes it through the passes up to PASS. It prints nothing: it serves the measuring of the passes one by
-//! one. It ends with 0 where PASS is done, with 1 where memory is wanted, with 2 for other words, and with 3 where the
-//! forms of SHAPE are no term of type `int`.
+//! may be, and takes it through the passes up to PASS: it serves the measuring of the passes one by one. After the last
+//! pass, `generate`, it prints how many declarations the allocated program has and how many instructions the generated
+//! one; else it prints nothing. It ends with 0 where PASS is done, with 1 where memory is wanted or printing fails, with
+//! 2 for other words, and with 3 where the forms of SHAPE are no term of type `int`.
 #![tactic(auto)]
 
+mod counts;
 mod passes;
 mod shapes;
 mod stop;
 
+use counts::Sizes;
 use passes::{Pass, pass_named, through};
 use shapes::{Shape, shape_named, term};
 use std::alloc::Global;
@@ -42,9 +45,20 @@ fn request(words: &[String]) -> Option<Asked> {
     Some(Asked { shape, count, last })
 }
 
-fn done(alloc: Global, asked: Asked) -> Result<(), Stop> {
+fn done(alloc: Global, asked: Asked) -> Result<Option<Sizes>, Stop> {
     let term = term(alloc, asked.shape, asked.count)?;
     through(alloc, term, asked.last)
+}
+
+fn show(rt: &HostRuntime, sizes: Sizes) -> ExitCode {
+    let Sizes {
+        declarations,
+        instructions,
+    } = sizes;
+    match println!(rt; "{declarations} declarations, {instructions} instructions") {
+        Ok(()) => ExitCode::from(0),
+        Err(_) => ExitCode::from(1),
+    }
 }
 
 fn main(rt: HostRuntime) -> ExitCode {
@@ -56,7 +70,8 @@ fn main(rt: HostRuntime) -> ExitCode {
         return ExitCode::from(2);
     };
     match done(alloc, asked) {
-        Ok(()) => ExitCode::from(0),
+        Ok(Some(sizes)) => show(&rt, sizes),
+        Ok(None) => ExitCode::from(0),
         Err(Stop::Memory) => ExitCode::from(1),
         Err(Stop::NoProgram) => ExitCode::from(3),
     }

@@ -1,4 +1,5 @@
 // A term through the passes, up to one of them.
+use crate::counts::{Sizes, sizes_of};
 use crate::stop::Stop;
 use a_pass::allocate;
 use c_pass::close;
@@ -53,32 +54,33 @@ fn checked(alloc: Global, term: FTerm) -> Result<Program, Stop> {
     typed.program().map_err(not_int)
 }
 
-fn converted(alloc: Global, program: &Program, last: Pass) -> Result<(), OutOfMemory> {
+// The sizes, where all passes are done.
+fn converted(alloc: Global, program: &Program, last: Pass) -> Result<Option<Sizes>, OutOfMemory> {
     if last == Pass::Check {
-        return Ok(());
+        return Ok(None);
     }
     let converted = cps(alloc, program)?;
     if last == Pass::Cps {
-        return Ok(());
+        return Ok(None);
     }
     let closed = close(alloc, &converted)?;
     if last == Pass::Close {
-        return Ok(());
+        return Ok(None);
     }
     let hoisted = hoist(alloc, &closed)?;
     if last == Pass::Hoist {
-        return Ok(());
+        return Ok(None);
     }
     let allocated = allocate(alloc, &hoisted)?;
     if last == Pass::Allocate {
-        return Ok(());
+        return Ok(None);
     }
-    generate(alloc, &allocated)?;
-    Ok(())
+    let generated = generate(alloc, &allocated)?;
+    Ok(Some(sizes_of(&allocated, &generated)))
 }
 
-/// Takes the term through the passes.
-pub fn through(alloc: Global, term: FTerm, last: Pass) -> Result<(), Stop> {
+/// Takes the term through the passes. After the last one come the sizes of what it was given and of what it made.
+pub fn through(alloc: Global, term: FTerm, last: Pass) -> Result<Option<Sizes>, Stop> {
     let program = checked(alloc, term)?;
     Ok(converted(alloc, &program, last)?)
 }

@@ -1,5 +1,2 @@
-use Rattle.spill_law.proofs.Wholes.{few_registers}
+use Rattle.spill_law.proofs.Erased.{inst_highs}
 use Rattle.spill_law.proofs.registers_are_few.Goals as goal
-
-pub returns : goal.returns
-returns c = few_registers

@@ -1,5 +1,0 @@
-use Rattle.spill_law.proofs.Wholes.{whole}
-use Rattle.spill_law.proofs.programs_are_whole.Goals as goal
-
-pub returns : goal.returns
-returns c = whole

@@ -307,7 +307,7 @@ defines_over f d (Mov rd v) = refl
 defines_over f d (St rd i rs) = refl
 defines_over f d (Unpack rd v) = refl
 
-left_over : (f : At Ty) (m : ℕ) (c : TSeq) (used d : ℕ) → slots_left m used (over_seq f d c) ≡ slots_left m used c
+pub left_over : (f : At Ty) (m : ℕ) (c : TSeq) (used d : ℕ) → slots_left m used (over_seq f d c) ≡ slots_left m used c
 left_over f m (Ends e) used d = refl
 left_over f m (Then i c) used d =
     ap (λ w. count_by w (slots_left m (used_by w used) (over_seq f (names_after i d) c))) (way_over f d m used i)

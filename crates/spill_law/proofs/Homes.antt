@@ -6,7 +6,8 @@ use Rattle.std.proofs.lemmas.Bool.{eq-eqb, ne_eqb, cases_lt, cases_eq, lt-ltb, l
 use Rattle.t_types.specs.Tree.{TFile}
 use Rattle.t_terms.specs.Tree.{TInstr, Arith, Bnz, Ld, Malloc, Mov, St, Unpack}
 use Rattle.spill_law.specs.Spill.{Home, Held, InFrame, InSlot, Layout, homed, position, gathered, layout, at_home, into, first_reg}
-use Rattle.spill_law.specs.Spill.{Way, Stays, Fills, Gathers, most_slots, way_of, way, after_way, after, defines}
+use Rattle.spill_law.specs.Spill.{Way, Stays, Fills, Gathers, most_slots, way_of, way, after_way, after, used_by}
+use Rattle.spill_law.specs.Spill.{defines}
 
 -- the home of r is its own register, up to m, or in a tuple, in a slot that is used
 abbrev pub Sound : ℕ → ℕ → ℕ → Home → Type 0
@@ -76,6 +77,18 @@ into_other m rd r le ne z = ⊎_elim
     (λ (k : (rd ≤ m) × (into m rd ≡ rd)). let e = k.1 in ne (z ∙ e))
     (into_case m rd)
 
+-- the register of a tuple that is stored into
+pub stored_at : (m : ℕ) (L : Layout) (rd : ℕ) → Regular m L → at_home (first_reg m) (L.homes rd) ≡ into m rd
+stored_at m L rd reg = ⊎_elim
+    (λ (lt : m < rd). far lt (L.homes rd) (reg rd) ∙ sym (into_high m rd lt))
+    (λ (le : rd ≤ m). ap (at_home (first_reg m)) (sound_held m L.used rd (L.homes rd) le (reg rd)) ∙ sym (into_low m rd le))
+    (cases_lt m rd)
+  where
+    far : m < rd → (x : Home) → Sound m L.used rd x → at_home (first_reg m) x ≡ first_reg m
+    far lt (Held q) s = let le = s.1 in absurd (omega (arith, le, lt))
+    far lt (InFrame i) s = refl
+    far lt (InSlot i) s = refl
+
 -- a home that is set
 pub homed_same : (homes : ℕ → Home) (r : ℕ) (x : Home) → homed homes r x r ≡ x
 homed_same homes r x = ap (λ b. cond b x (homes r)) (eq-eqb r r refl)
@@ -139,3 +152,9 @@ way_sound m L (Malloc rd ts) to h = after_regular m L rd to (way_of m L.used rd)
 way_sound m L (Mov rd v) to h = after_regular m L rd to (way_of m L.used rd) (way_fits m L.used rd) h
 way_sound m L (St rd i rs) to h = after_regular m L rd to (way_of m L.used rd) (way_fits m L.used rd) h
 way_sound m L (Unpack rd v) to h = gathered_regular m _
+
+-- how many slots are used
+pub used_is : (m : ℕ) (L : Layout) (rd : ℕ) (to : TFile) (w : Way) → (after_way m L rd to w).used ≡ used_by w L.used
+used_is m L rd to Stays = refl
+used_is m L rd to Fills = refl
+used_is m L rd to Gathers = refl

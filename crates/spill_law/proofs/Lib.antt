@@ -1,12 +1,16 @@
 pub mod Computed
 pub mod Erased
 pub mod Files
+pub mod Frames
+pub mod Heaps
 pub mod Homes
 pub mod Kept
 pub mod Live
 pub mod Lows
 pub mod Probe
 pub mod Scopes
+pub mod Sim
 pub mod Standing
 pub mod TypeLaws
 pub mod Typed
+pub mod Walks

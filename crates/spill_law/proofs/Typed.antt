@@ -36,7 +36,7 @@ use Rattle.spill_law.proofs.Scopes.{below_regs as below_file, scoped_ascends, sc
 use Rattle.spill_law.proofs.Scopes.{data_scoped}
 use Rattle.spill_law.proofs.Homes.{Sound, Regular, UpTo, sound_up, sound_held, at_case, at_far, into_high, into_low, into_most}
 use Rattle.spill_law.proofs.Homes.{into_far, into_other, homed_same, homed_other, homed_both, homed_up, WayFits, way_fits}
-use Rattle.spill_law.proofs.Homes.{gathered_regular, way_sound}
+use Rattle.spill_law.proofs.Homes.{gathered_regular, way_sound, stored_at, used_is}
 
 -- each block of P is one further on in Q, spilled
 abbrev pub Labels : ℕ → TProg → TProg → Type 0
@@ -561,18 +561,6 @@ module _ (m : ℕ) where
                 (λ x le. o x (λ z. absurd (omega arith))) lf.0 lf.1 small room below fr go,
           ))
 
-      -- the register of a tuple that is stored into
-      stored_at : (rd : ℕ) → at_home (first_reg m) (L.homes rd) ≡ into m rd
-      stored_at rd = ⊎_elim
-          (λ (lt : m < rd). far lt (L.homes rd) (reg rd) ∙ sym (into_high m rd lt))
-          (λ (le : rd ≤ m). ap (at_home (first_reg m)) (sound_held m L.used rd (L.homes rd) le (reg rd)) ∙ sym (into_low m rd le))
-          (cases_lt m rd)
-        where
-          far : m < rd → (x : Home) → Sound m L.used rd x → at_home (first_reg m) x ≡ first_reg m
-          far lt (Held q) s = let le = s.1 in absurd (omega (arith, le, lt))
-          far lt (InFrame i) s = refl
-          far lt (InSlot i) s = refl
-
       st_ok : (rd i rs : ℕ) → Step (St rd i rs)
       st_ok rd i rs h to ts rest lf small a room below go =
           let same : filled_type (or_int (lookup file rd)) i ≡ TupleTy (filled a.0 i) = ap (λ o. filled_type (or_int o) i) a.4 in
@@ -586,7 +574,7 @@ module _ (m : ℕ) where
               sp m a.1,
               a.2,
               sp m a.3,
-              ap g2 (sym (stored_at rd)) ∙ o2 (at_home (first_reg m) (L.homes rd)) (at_far (first_reg m) m (second_reg m) (L.homes rd) (up_m rd) (λ z. absurd (omega arith)) (omega arith)) ∙ e1,
+              ap g2 (sym (stored_at m L rd reg)) ∙ o2 (at_home (first_reg m) (L.homes rd)) (at_far (first_reg m) m (second_reg m) (L.homes rd) (up_m rd) (λ z. absurd (omega arith)) (omega arith)) ∙ e1,
               field_sp m a.0 i a.1 a.2 a.5,
               e2,
               fits_sp m a.3 a.1 a.7,
@@ -689,11 +677,6 @@ module _ (m : ℕ) where
     left : (i : TInstr) (file : TFile) (c : TSeq) → Ascends file → Left i file (kept P file i c)
     left i file c asc = (kept_fits P i (lookup (next P file i)) file c (fits_self (next P file i) (ascends_next P file i asc)), λ r t e. kept_sub P i file c r t e)
 
-    used_is : (L : Layout) (rd : ℕ) (to : TFile) (w : Way) → (after_way m L rd to w).used ≡ used_by w L.used
-    used_is L rd to Stays = refl
-    used_is L rd to Fills = refl
-    used_is L rd to Gathers = refl
-
     module _ (one : 1 ≤ m) (p q : ℕ) (files : LabelsScoped P) (fields : DataScoped P) where
       abbrev Rest : TInstr → TSeq → TFile → Type 0
       Rest i c to = (L2 : Layout) (n2 : ℕ) (g2 : RegTypes) → Regular m L2 → ScopedRegs 0 n2 to → WellFormedSeq p q n2 c → SeqAccepted P n2 (lookup to) c →
@@ -707,7 +690,7 @@ module _ (m : ℕ) where
           let to = kept P file i c in
           let acc = subst (λ z. SeqAccepted P (names_after i n) z c) (next_is P n file i k.0 k.1) k.2 in
           let after2 = scoped_kept P p q files fields i (names_after i n) file c (scoped_next P p q files fields i n file k.0 h w.0 k.1) in
-          let same = used_is L (defines i) (kept P file i c) (way m L.used i) in
+          let same = used_is m L (defines i) (kept P file i c) (way m L.used i) in
           st k.0 (kept P file i c) (slots m P (used_by (way m L.used i) L.used) (kept P file i c) c) _ (left i file c (scoped_ascends n file h)) (below_file 0 (names_after i n) (kept P file i c) after2) k.1 room
           (slots_below p q files fields (Then i c) file L.used n h w k)
           (λ g2 x r f. go (after m L i (kept P file i c)) (names_after i n) g2 (way_sound m L i (kept P file i c) reg) after2 w.2 (kept_accepted P i (names_after i n) file c acc) x

@@ -7,10 +7,12 @@ pub mod Homes
 pub mod Kept
 pub mod Live
 pub mod Lows
+pub mod Meaning
 pub mod Probe
 pub mod Scopes
 pub mod Sim
 pub mod Standing
 pub mod TypeLaws
 pub mod Typed
+pub mod Visits
 pub mod Walks

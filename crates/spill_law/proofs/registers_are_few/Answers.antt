@@ -1,2 +1,3 @@
-use Rattle.spill_law.proofs.Sim.{follows}
+use Rattle.spill_law.proofs.Visits.{counts_kept}
+use Rattle.spill_law.proofs.Meaning.{back}
 use Rattle.spill_law.proofs.registers_are_few.Goals as goal

@@ -173,7 +173,7 @@ map_at f (x ∷ xs) (suc i) y e = map_at f xs i y e
 
 -- what stands in data, spilled
 module _ (top : ℕ) (P : TProg) where
-  value_image : (p n : ℕ) (v : TValue) → WellFormedValue p (length P.heap) n v → image (row 0 P.heap) (data_word v) ≡ Some (held (base_word no_ewords (sp_base (λ r. r) (erase_value v))))
+  value_image : (p n : ℕ) (v : TValue) → WellFormedValue p (length P.heap) n v → image (row 0 P.heap) (data_word v) ≡ Some (held (base_word no_ewords (sp_base (λ r. 1) (erase_value v))))
   value_image p n (Plain (Reg r) ts) h = refl
   value_image p n (Plain (Int i) ts) h = refl
   value_image p n (Plain (Label l) ts) h = refl
@@ -184,7 +184,7 @@ module _ (top : ℕ) (P : TProg) where
   data_images : (p : ℕ) (xs : TData) → WellFormedData p (length P.heap) xs → Images (row 0 P.heap) (map (λ x. data_word x.value) xs) (map erase_datum (sp_data top xs))
   data_images p [] h = tt
   data_images p (x ∷ xs) h =
-      (value_image p 0 x.value h.0.0 ∙ ap (λ b. Some (held (base_word no_ewords b))) (sym (erase_sp top (λ r. r) x.value)), data_images p xs h.1)
+      (value_image p 0 x.value h.0.0 ∙ ap (λ b. Some (held (base_word no_ewords b))) (sym (erase_sp top (λ r. 1) x.value)), data_images p xs h.1)
 
   heap_datum : (p q : ℕ) (hs : List TData) → WellFormedHeap p q hs → (d : ℕ) (x : TData) → slice_get hs d ≡ Some x → WellFormedData p q x
   heap_datum p q [] w d x e = cc

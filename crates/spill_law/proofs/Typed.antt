@@ -741,7 +741,7 @@ module _ (m : ℕ) where
     data_ok : (xs : TData) → DataAccepted P xs → DataAccepted Q (sp_data m xs)
     data_ok [] h = tt
     data_ok (x ∷ xs) h =
-        let v = value_sp 0 NoRegs no_types (λ r. r) x.value h.0.0 (no_file x.value no_types (λ r. r)) (subst (λ g. Has P 0 g x.value h.0.0) (sym none_known) h.0.1) in
+        let v = value_sp 0 NoRegs no_types (λ r. 1) x.value h.0.0 (no_file x.value no_types (λ r. 1)) (subst (λ g. Has P 0 g x.value h.0.0) (sym none_known) h.0.1) in
         ((sp m h.0.0, v, fits_sp m h.0.0 x.ty h.0.2, below_sp m 0 x.ty h.0.3), data_ok xs h.1)
 
     pub heap_ok : (hs : List TData) → HeapAccepted P hs → HeapAccepted Q (map (sp_data m) hs)

@@ -433,9 +433,9 @@ sp_block m P b = record { owes = b.owes; file = sp_file m b.file; code = code m 
 abbrev pub sp_blocks : ℕ → TProg → List TBlock → List TBlock
 sp_blocks m P bs = map (sp_block m P) bs
 
--- data: labels are one further on, and types are spilled
+-- data: labels are one further on, and types are spilled; no value of a whole program's data names a register
 abbrev pub sp_datum : ℕ → TDatum → TDatum
-sp_datum m x = record { value = sp_value m (λ r. r) x.value; ty = sp m x.ty }
+sp_datum m x = record { value = sp_value m (λ r. 1) x.value; ty = sp m x.ty }
 
 abbrev pub sp_data : ℕ → TData → TData
 sp_data m x = map (sp_datum m) x

@@ -16,3 +16,4 @@ pub mod TypeLaws
 pub mod Typed
 pub mod Visits
 pub mod Walks
+pub mod Wholes

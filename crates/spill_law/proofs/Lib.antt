@@ -1,5 +1,6 @@
 pub mod Computed
 pub mod Erased
+pub mod Few
 pub mod Files
 pub mod Frames
 pub mod Heaps
@@ -9,8 +10,10 @@ pub mod Live
 pub mod Lows
 pub mod Meaning
 pub mod Probe
+pub mod Reached
 pub mod Scopes
 pub mod Sim
+pub mod Small
 pub mod Standing
 pub mod TypeLaws
 pub mod Typed

@@ -29,6 +29,7 @@ module _ (k : ℕ) (e : Term) (P Q : TProg) (from : Place → Place) (within : R
   bounded = record {
     translated = P;
     translation = made.translation;
+    made = made.made;
     whole = spills.whole;
     accepted = spills.accepted;
     meaning = means;

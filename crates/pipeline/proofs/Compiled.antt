@@ -1,12 +1,14 @@
 -- What the passes say of their results, put together.
-use Rattle.std.proofs.Common.{◌≡◌, ◌↔◌, ℕ, ℤ, suc, ◌+◌, [], length, ap, arith}
+use Rattle.std.proofs.Common.{◌≡◌, ◌↔◌, ℕ, ℤ, suc, ◌+◌, [], length, ap, ap₂, ◌∙◌, arith}
 use Rattle.f_terms.specs.Tm.{Term}
 use Rattle.term_core.specs.Ends.{Halted}
 use Rattle.k_terms.specs.K.{KTm}
 use Rattle.k_terms.specs.Meaning.{krun}
+use Rattle.k_laws.specs.Annotate.{cps_term}
 use Rattle.k_pass.specs.Converted.{Converted}
 use Rattle.c_terms.specs.C.{CTm}
 use Rattle.c_terms.specs.Meaning.{crun}
+use Rattle.c_law.specs.Close.{close_of}
 use Rattle.c_law.specs.Row as closing
 use Rattle.h_terms.specs.H.{HBlks, HTm}
 use Rattle.h_terms.specs.Meaning.{hrun}
@@ -26,17 +28,36 @@ use Rattle.t_rules.specs.LawsTimes.{RunsWithinTimes}
 use Rattle.gen_law.specs.Gen.{generated}
 use Rattle.gen_law.specs.Correct.{Keeps}
 use Rattle.gen_law.specs.Layout.{LaidOut}
+use Rattle.gen_law.specs.Rules.{Generates}
+use Rattle.pipeline.specs.Made.{IsMade, assembled, hoisted_and_assembled}
 use Rattle.pipeline.specs.Meaning.{SameMeaning, RunsSeldom, EntersSeldom}
 use Rattle.pipeline.specs.Compilation.{IsCompilation}
 use Rattle.pipeline.proofs.Chain.{same_meaning, seldom, entered, soon}
 
-module _ (e : Term) (k : KTm) (c : CTm) (ks : HBlks) (t : HTm) (p : AProg) (main : ATm) (P : TProg) (stands : StandsAt) (within : RunsWithinTimes) (laid : LaidOut) (converted : Converted e k) (closed : closing.IsTranslation k c) (halts : (n : ℕ) (i : ℤ) → (crun n c).end ≡ Halted i ↔ (krun n k).end ≡ Halted i) (codes : (n : ℕ) → (crun n c).entered ≡ (krun n k).entered) (hoisted : IsHoisted ks t c) (are_blocks : ks ≡ blocks_of c) (is_main : t ≡ main_of c) (runs : (n : ℕ) → hrun n ks t ≡ crun n c) (allocated : Stands p main ks t) (is_allocated : p ≡ alloc_prog ks t) (is_start : main ≡ alloc_main ks t) (means : (n : ℕ) → A.meaning p main n ≡ ends [] (hrun n ks t)) (made : P ≡ generated p main) (accepted : Accepted P) (keeps : Keeps p main P) (whole : Whole P) where
+-- the passes' equations in turn
+pub is_made : (e : Term) (k : KTm) (c : CTm) (ks : HBlks) (t : HTm) (p : AProg) (main : ATm) (P : TProg) →
+    k ≡ cps_term e → c ≡ close_of k → ks ≡ blocks_of c → t ≡ main_of c → p ≡ alloc_prog ks t →
+    main ≡ alloc_main ks t → P ≡ generated p main → IsMade e P
+is_made e k c ks t p main P converted closed blocks is_main allocated start made = record {
+  is = made ∙ ap₂ generated allocated start ∙ ap₂ assembled blocks is_main
+      ∙ ap hoisted_and_assembled (closed ∙ ap close_of converted);
+}
+
+module _ (e : Term) (k : KTm) (c : CTm) (ks : HBlks) (t : HTm) (p : AProg) (main : ATm) (P : TProg)
+    (stands : StandsAt) (within : RunsWithinTimes) (laid : LaidOut) (converted : Converted e k)
+    (closed : closing.IsTranslation k c)
+    (halts : (n : ℕ) (i : ℤ) → (crun n c).end ≡ Halted i ↔ (krun n k).end ≡ Halted i)
+    (codes : (n : ℕ) → (crun n c).entered ≡ (krun n k).entered) (hoisted : IsHoisted ks t c)
+    (runs : (n : ℕ) → hrun n ks t ≡ crun n c) (allocated : Stands p main ks t)
+    (means : (n : ℕ) → A.meaning p main n ≡ ends [] (hrun n ks t)) (is_generated : P ≡ generated p main)
+    (by_rules : Generates p main P) (made : IsMade e P) (accepted : Accepted P) (keeps : Keeps p main P)
+    (whole : Whole P) where
   means_same : SameMeaning e P
   means_same = same_meaning e k c ks t p main P converted.meaning halts codes runs means keeps
 
   long : length P.blocks ≡ suc (length p.blocks) + thirds main + all_thirds p.blocks
   long =
-      let same = ap (λ (x : TProg). length x.blocks) made in
+      let same = ap (λ (x : TProg). length x.blocks) is_generated in
       let count = (laid p main).count in
       omega (arith, same, count)
 
@@ -62,13 +83,10 @@ module _ (e : Term) (k : KTm) (c : CTm) (ks : HBlks) (t : HTm) (p : AProg) (main
       is_converted = converted.tree;
       to_closed = closed;
       to_hoisted = hoisted;
-      are_blocks = are_blocks;
-      is_main = is_main;
       to_allocated = allocated;
-      is_allocated = is_allocated;
-      is_start = is_start;
-      to_assembly = made;
+      to_assembly = by_rules;
     };
+    made = made;
     seldom = runs_seldom;
     soon = soon e P within means_same runs_seldom;
   }

@@ -8,23 +8,22 @@ use Rattle.c_terms.specs.C.{CTm}
 use Rattle.c_law.specs.Row as closing
 use Rattle.h_terms.specs.H.{HBlks, HTm}
 use Rattle.h_pass.specs.Back.{IsHoisted}
-use Rattle.h_pass.specs.Hoist.{blocks_of, main_of}
 use Rattle.a_terms.specs.Tree.{ATm, AProg}
-use Rattle.a_law.specs.Allocate.{alloc_prog, alloc_main}
 use Rattle.a_law.specs.Stands.{Stands}
 use Rattle.t_terms.specs.Tree.{TProg}
 use Rattle.t_terms.specs.Whole.{Whole}
 use Rattle.t_rules.specs.Rules.{Accepted}
-use Rattle.gen_law.specs.Gen.{generated}
+use Rattle.gen_law.specs.Rules.{Generates}
 use Rattle.spill_law.specs.Bound.{RegistersUpTo}
 use Rattle.spill_law.specs.Spill.{spilled}
+use Rattle.pipeline.specs.Made.{IsMade}
 use Rattle.pipeline.specs.Meaning.{SameMeaning, RunsSeldom, HaltsSoon}
 
 -- the program is a translation of the term by the rules of the passes in turn: conversion to continuation-passing
 -- style, closure conversion, hoisting, allocation, code generation. The hoisted program gives the closed term when
--- codes are put back for labels, and the allocated program stands for the hoisted one. The converted term, the hoisted
--- program and the allocated one are those that the definitions of these passes give, and the rules of closure
--- conversion give one term: nothing else is added or left out, and there is one such program
+-- codes are put back for labels, and the allocated program stands for the hoisted one. The rules of the conversion may
+-- name a value more, so the converted term is the one with no such name; the rules of closure conversion give one term.
+-- Which registers there are, and which of equal data is named where, is left open
 pub record IsTranslation (e : Term) (P : TProg) : Type 0 where
   pub converted : KTm
   pub closed : CTm
@@ -36,28 +35,27 @@ pub record IsTranslation (e : Term) (P : TProg) : Type 0 where
   pub is_converted : converted ≡ cps_term e
   pub to_closed : closing.IsTranslation converted closed
   pub to_hoisted : IsHoisted blocks main closed
-  pub are_blocks : blocks ≡ blocks_of closed
-  pub is_main : main ≡ main_of closed
   pub to_allocated : Stands allocated start blocks main
-  pub is_allocated : allocated ≡ alloc_prog blocks main
-  pub is_start : start ≡ alloc_main blocks main
-  pub to_assembly : P ≡ generated allocated start
+  pub to_assembly : Generates allocated start P
 
 -- the program is well formed, and the typing rules accept it; it means the same as the term; it is a translation of it,
--- no place of it is executed more often than once more than the term takes turns, and so it halts soon
+-- and the one that the passes make; no place of it is executed more often than once more than the term takes turns, and
+-- so it halts soon
 pub record IsCompilation (e : Term) (P : TProg) : Type 0 where
   pub whole : Whole P
   pub accepted : Accepted P
   pub meaning : SameMeaning e P
   pub translation : IsTranslation e P
+  pub made : IsMade e P
   pub seldom : RunsSeldom e P
   pub soon : HaltsSoon e P
 
--- The same of a program that has no register above k: it is a translation of the term where that has none, and else
--- comes from one by keeping registers in tuples of the heap.
+-- The same of a program that has no register above k: it is that translation of the term where that has none, and else
+-- comes from it by keeping registers in tuples of the heap.
 pub record IsCompilationWithin (k : ℕ) (e : Term) (P : TProg) : Type 0 where
   pub translated : TProg
   pub translation : IsTranslation e translated
+  pub made : IsMade e translated
   pub whole : Whole P
   pub accepted : Accepted P
   pub meaning : SameMeaning e P

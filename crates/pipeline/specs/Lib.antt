@@ -1,4 +1,5 @@
 pub mod Compilation
+pub mod Made
 pub mod Meaning
 pub mod OneProgram
 pub mod Weights

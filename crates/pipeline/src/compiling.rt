@@ -8,6 +8,7 @@ ghost use Rattle.t_terms.specs.Text.{most_open};
 ghost use Rattle.t_check.specs.Checked.{checked_program};
 ghost use Rattle.gen_law.specs.Packs.{FlatProgram};
 ghost use Rattle.gen_law.specs.TypesEach.{TypesEach, TWithin};
+ghost use Rattle.pipeline.specs.Made.{IsMade};
 ghost use Rattle.pipeline.specs.Meaning.{EntersSeldom};
 ghost use Rattle.pipeline.specs.Compilation.{IsCompilation, IsCompilationWithin};
 ghost use Rattle.pipeline.specs.Work.{HasBlocks, SameWeights, WorkWithin};
@@ -28,6 +29,7 @@ use t_terms::TProgram;
 fn assemble(alloc: Global, program: &Program) -> Result<TProgram, OutOfMemory>
     ensures compiled { IfOk result (λ p.
         ∥ IsCompilation (term_of (program_term program.now)) (program_tree p) ∥₁) }
+    ensures made { IfOk result (λ p. IsMade (term_of (program_term program.now)) (program_tree p)) }
     ensures work { IfOk result (λ p. HasBlocks (term_of (program_term program.now)) (program_tree p)) }
     ensures weights { IfOk result (λ p. SameWeights (term_of (program_term program.now)) (program_tree p)) }
     ensures entered { IfOk result (λ p. ∥ EntersSeldom (term_of (program_term program.now)) (program_tree p) ∥₁) }
@@ -38,6 +40,7 @@ fn assemble(alloc: Global, program: &Program) -> Result<TProgram, OutOfMemory>
     t_rules::erased_code_stands_at_its_place();
     t_rules::runs_stay_within_times();
     gen_law::programs_are_laid_out();
+    gen_law::generated_programs_are_by_rules();
     let converted = cps(alloc, program)?;
     let closed = close(alloc, &converted)?;
     drop(converted);
@@ -55,11 +58,13 @@ fn assemble(alloc: Global, program: &Program) -> Result<TProgram, OutOfMemory>
 /// once more than these turns. It has one block for the whole, one for each `fix` and `gen`, for each application,
 /// type application and `if0` outside tail place, and for the third part of each `if0`; one `add`, `sub` or `mul` for
 /// each of the source's, one `bnz` for each `if0`, one `unpack` for each `open` and each call, one `jmp` for each call,
-/// and one `halt` (own choice, as what the paper's passes make). Its nesting is within the limit on open constructs.
+/// and one `halt` (own choice, as what the paper's passes make). It is a translation of the source by the passes' rules,
+/// and the one program that the passes make. Its nesting is within the limit on open constructs.
 /// Answers want of memory alone.
 pub fn compile(alloc: Global, program: &Program) -> Result<Checked, OutOfMemory>
     ensures compiled { IfOk result (λ p.
         ∥ IsCompilation (term_of (program_term program.now)) (program_tree (checked_program p)) ∥₁) }
+    ensures made { IfOk result (λ p. IsMade (term_of (program_term program.now)) (program_tree (checked_program p))) }
     ensures work { IfOk result (λ p.
         HasBlocks (term_of (program_term program.now)) (program_tree (checked_program p))) }
     ensures weights { IfOk result (λ p.

@@ -42,6 +42,7 @@ module _ (source target : List ℕ) (term : Tm) (p : TProgram) (checked : IsChec
       checked = checked;
       written = written;
       translation = ∥∥₁_map made (λ c. c.translation);
+      made = ∥∥₁_map made (λ c. c.made);
     };
     blocks = blocks;
     weights = weights;
@@ -63,6 +64,7 @@ module _ (source target : List ℕ) (term : Tm) (p : TProgram) (checked : IsChec
       translation = ∥∥₁_map made (λ c. record {
         translated = c.translated;
         translation = c.translation;
+        made = c.made;
         stays = c.stays;
         framed = c.framed;
       });

@@ -6,23 +6,26 @@ use Rattle.t_terms.specs.Tree.{TProg}
 use Rattle.spill_law.specs.Bound.{RegistersUpTo}
 use Rattle.spill_law.specs.Spill.{spilled}
 use Rattle.pipeline.specs.Compilation.{IsTranslation}
+use Rattle.pipeline.specs.Made.{IsMade}
 use Rattle.talc_core.specs.FirstFault.{IsChecked}
 use Rattle.talc_core.specs.Written.{IsWritten}
 
 -- The source text is a text of a program, and the target text the one that is written of a translation of it by the
--- passes in turn.
+-- rules of the passes in turn: the one that the passes make. Who wants to know that it is a translation reads the
+-- rules alone, and `IsMade` tells no more than that one source gives one program.
 pub record IsTranslated (source target : List ℕ) : Type 0 where
   pub term : Tm
   pub program : TProg
   pub checked : IsChecked source term TInt
   pub written : IsWritten program target
   pub translation : ∥ IsTranslation (plain term) program ∥₁
+  pub made : ∥ IsMade (plain term) program ∥₁
 
--- The program is a translation of the term where that names no register above k, and else what such a one is spilled
--- to.
+-- The program is that translation of the term where that names no register above k, and else what it is spilled to.
 pub record IsTranslationWithin (k : ℕ) (e : Term) (P : TProg) : Type 0 where
   pub translated : TProg
   pub translation : IsTranslation e translated
+  pub made : IsMade e translated
   pub stays : RegistersUpTo k translated → P ≡ translated
   pub framed : (RegistersUpTo k translated → ⊥) → P ≡ spilled translated
 

@@ -8,6 +8,7 @@ use Rattle.t_terms.specs.ReadProgram.{program}
 use Rattle.t_terms.specs.Text.{most_open}
 use Rattle.t_terms.specs.declared.program.TProgram.{TProgram}
 use Rattle.pipeline.specs.Compilation.{IsCompilation}
+use Rattle.pipeline.specs.Made.{IsMade}
 use Rattle.pipeline.specs.Work.{HasBlocks, SameWeights}
 use Rattle.pipeline.proofs.Shallow.{shallow}
 use Rattle.pipeline.proofs.compiling.compile.Goals as goal
@@ -36,3 +37,8 @@ pub returns-clause-weights : goal.returns-clause-weights
 returns-clause-weights c =
     let e = source.term_of (program_term c.args.program.now) in
     subst (λ (x : TProgram). SameWeights e (program x)) (sym c.seal.ensures) c.in_ok-made.ensures.weights
+
+pub returns-clause-made : goal.returns-clause-made
+returns-clause-made c =
+    let e = source.term_of (program_term c.args.program.now) in
+    subst (λ (x : TProgram). IsMade e (program x)) (sym c.seal.ensures) c.in_ok-made.ensures.made

@@ -14,7 +14,7 @@ use Rattle.pipeline.proofs.Chain.{soon}
 
 module _ (k : ℕ) (e : Term) (P Q : TProg) (from : Place → Place) (within : RunsWithinTimes) (seldom : SpilledRunSeldom)
     (made : IsCompilation e P) (entered : EntersSeldom e P) (spills : Spills k P Q from)
-    (stays : RegistersUpTo k P → Q ≡ P) (framed : (RegistersUpTo k P → ⊥) → Q ≡ spilled P) where
+    (stays : RegistersUpTo k P → Q ≡ P) (framed : (RegistersUpTo k P → ⊥) → Q ≡ spilled k P) where
   means : SameMeaning e Q
   means = record {
     forth = λ n i ev. spills.alike.forth i (made.meaning.forth n i ev);

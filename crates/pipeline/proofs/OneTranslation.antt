@@ -24,5 +24,5 @@ one_program_within k e P Q a b =
     ⊎_elim
     (λ (few : RegistersUpTo k T). a.stays few ∙ same ∙ sym (b.stays (subst (RegistersUpTo k) same few)))
     (λ (many : RegistersUpTo k T → ⊥).
-    a.framed many ∙ ap spilled same ∙ sym (b.framed (λ few. many (subst (RegistersUpTo k) (sym same) few))))
+    a.framed many ∙ ap (spilled k) same ∙ sym (b.framed (λ few. many (subst (RegistersUpTo k) (sym same) few))))
     (few_or_not k T)

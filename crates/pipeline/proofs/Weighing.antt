@@ -93,15 +93,15 @@ module _ (e : Term) (k : KTm) (c : CTm) (ks : HBlks) (t : HTm) (p : AProg) (main
 pub stays : (e : Term) (P : TProg) → HasBlocks e P → SameWeights e P → WorkWithin e P
 stays e P work weights = inl (work, weights)
 
-pub framed : (e : Term) (P Q : TProg) → Q ≡ spilled P → HasBlocks e P → SameWeights e P → WorkWithin e Q
-framed e P Q is work weights =
+pub framed : (k : ℕ) (e : Term) (P Q : TProg) → Q ≡ spilled k P → HasBlocks e P → SameWeights e P → WorkWithin e Q
+framed k e P Q is work weights =
     let same = ap (λ (x : TProg). length x.blocks) is in
-    let more = one_more P in
+    let more = one_more k P in
     inr (record {
       blocks = omega (arith, same, more, work);
       weights = λ w.
           let a = ap (λ (x : TProg). blocks_weight w x.blocks) is in
-          let b = spilled_weight w P in
+          let b = spilled_weight w k P in
           let d = weights w in
           omega (arith, a, b, d);
     })

@@ -63,4 +63,4 @@ pub record IsCompilationWithin (k : ℕ) (e : Term) (P : TProg) : Type 0 where
   pub soon : HaltsSoon e P
   pub few : RegistersUpTo k P
   pub stays : RegistersUpTo k translated → P ≡ translated
-  pub framed : (RegistersUpTo k translated → ⊥) → P ≡ spilled translated
+  pub framed : (RegistersUpTo k translated → ⊥) → P ≡ spilled k translated

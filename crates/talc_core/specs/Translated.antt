@@ -27,7 +27,7 @@ pub record IsTranslationWithin (k : ℕ) (e : Term) (P : TProg) : Type 0 where
   pub translation : IsTranslation e translated
   pub made : IsMade e translated
   pub stays : RegistersUpTo k translated → P ≡ translated
-  pub framed : (RegistersUpTo k translated → ⊥) → P ≡ spilled translated
+  pub framed : (RegistersUpTo k translated → ⊥) → P ≡ spilled k translated
 
 -- The same of a target text within registers 1 to k.
 pub record IsTranslatedWithin (k : ℕ) (source target : List ℕ) : Type 0 where

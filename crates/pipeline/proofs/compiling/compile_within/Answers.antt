@@ -73,7 +73,7 @@ returns-clause-compiled c =
     subst (λ (x : TProgram). ∥ IsCompilationWithin k e (program x) ∥₁) (sym c.seal-2.ensures)
     (∥∥₁_elim c.in_ok-framed.ensures.spills ∥∥₁_prop (λ spills.
     ∥∥₁_map₂ c.in_ok-made.ensures.compiled c.in_ok-made.ensures.entered (λ made entered.
-    bounded k e P Q (origin P) times seldom made entered spills (λ h. absurd (above h)) (λ h. is))))
+    bounded k e P Q (origin k P) times seldom made entered spills (λ h. absurd (above h)) (λ h. is))))
 
 pub returns-clause-shallow : goal.returns-clause-shallow
 returns-clause-shallow c =
@@ -93,4 +93,4 @@ returns-clause-work c =
     let Q = program c.in_ok-framed.framed in
     let made = c.in_ok-made.ensures in
     subst (λ (x : TProgram). WorkWithin e (program x)) (sym c.seal-2.ensures)
-    (framed e P Q c.in_ok-framed.ensures.is made.work made.weights)
+    (framed c.args.k e P Q c.in_ok-framed.ensures.is made.work made.weights)

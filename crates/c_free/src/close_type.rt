@@ -37,8 +37,8 @@ pub fn close_type(alloc: Global, t: &KType, names: &Renaming) -> Result<CType, O
             Ok(CType::Var(at))
         }
         KType::Tuple(ts) => {
-            let made = Vec::with_capacity(alloc, ts.len())?;
-            let made = close_types(alloc, ts, names, made)?;
+            let room = Vec::with_capacity(alloc, ts.len())?;
+            let made = close_types(alloc, ts, names, room)?;
             Ok(CType::Tuple(made))
         }
         KType::Code { owes, args } => {
@@ -46,9 +46,9 @@ pub fn close_type(alloc: Global, t: &KType, names: &Renaming) -> Result<CType, O
                 owes: *owes,
                 around: &*names,
             };
-            let mut made = Vec::with_capacity(alloc, args.len().saturating_add(1))?;
-            made.push(CType::Var(*owes))?;
-            let made = close_types(alloc, args, &inner, made)?;
+            let mut own = Vec::with_capacity(alloc, args.len().saturating_add(1))?;
+            own.push(CType::Var(*owes))?;
+            let made = close_types(alloc, args, &inner, own)?;
             let t = closure_type(alloc, *owes, made)?;
             Ok(t)
         }

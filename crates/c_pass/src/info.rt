@@ -66,9 +66,9 @@ fn arguments(alloc: Global, env: CType, args: &[KType], g: &Side) -> Result<Vec<
     ensures { IfOk result (λ r. ctys r.items ≡ MoreCTys (ctree env)
         (L.ctypes (W.side_var (side g.now)) (ktys args.now))) }
 {
-    let mut made = Vec::with_capacity(alloc, args.len().saturating_add(1))?;
-    made.push(env)?;
-    let made = close_types(alloc, args, &Renaming::Here { side: g, raise: 0 }, made)?;
+    let mut own = Vec::with_capacity(alloc, args.len().saturating_add(1))?;
+    own.push(env)?;
+    let made = close_types(alloc, args, &Renaming::Here { side: g, raise: 0 }, own)?;
     Ok(made)
 }
 

@@ -9,7 +9,7 @@ use Rattle.a_pass.proofs.Every.{fields_next}
 use Rattle.a_pass.proofs.constants.tuple_type.Goals as goal
 
 pub loop-field-init : goal.loop-field-init
-loop-field-init c = ap afields c.new-made.ensures.items
+loop-field-init c = ap afields c.in_ok-made.ensures.items
 
 pub loop-field-preserved : goal.loop-field-preserved
 loop-field-preserved c = fields_next c.args.fields.now c.loop-field.made.items _ c.loop-field.field-index c.field-item.result c.in_ok-one.one c.loop-field-test.true c.field-item.is c.in_ok-push.ensures.items c.in_ok-one.ensures c.loop-field.invariant

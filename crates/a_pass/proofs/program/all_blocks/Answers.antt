@@ -3,7 +3,7 @@ use Rattle.a_pass.proofs.Blocks.{made_none, made_next, made_all, row_at}
 use Rattle.a_pass.proofs.program.all_blocks.Goals as goal
 
 pub loop-one-init : goal.loop-one-init
-loop-one-init c = made_none _ _ _ c.new-made.ensures.items c.requires.first
+loop-one-init c = made_none _ _ _ c.in_ok-made.ensures.items c.requires.first
 
 pub block-requires : goal.block-requires
 block-requires c = row_at c.args.blocks.now c.loop-one.one-index c.one-item.result c.loop-one-test.true c.one-item.is c.requires.rows

@@ -20,7 +20,7 @@ a_type-returns-in_ok-parts-in-Code t c =
 pub a_type-returns-in_ok-push-in-Ref : goal.a_type-returns-in_ok-push-in-Ref
 a_type-returns-in_ok-push-in-Ref t c =
     a_tuple c.push.new.self
-    ∙ ap (λ (xs : List (AType × Bool)). a.ATuple (afields xs)) (c.in_ok-push-in-Ref.ensures.items ∙ ap (λ (ys : List (AType × Bool)). ys ++ (c.in_ok-inside-in-Ref.inside, true) ∷ []) c.new-field.ensures.items)
+    ∙ ap (λ (xs : List (AType × Bool)). a.ATuple (afields xs)) (c.in_ok-push-in-Ref.ensures.items ∙ ap (λ (ys : List (AType × Bool)). ys ++ (c.in_ok-inside-in-Ref.inside, true) ∷ []) c.in_ok-field-in-Ref.ensures.items)
     ∙ ap (λ x. a.ATuple (a.MoreAFields x true a.NoAFields)) c.in_ok-inside-in-Ref.ensures ∙ ap (λ x. atype (TCRef (ctree x))) c.deref-in-Ref.ensures ∙ ap (λ x. atype (ctree x)) (sym c.in-Ref.is)
 
 pub a_types-loop-t-preserved : goal.a_types-loop-t-preserved

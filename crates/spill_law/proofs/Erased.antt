@@ -1,10 +1,10 @@
 -- What is spilled of a sequence, erased: it depends on the registers of files alone, and so stays the same where
 -- types are put for type variables.
 use Rattle.std.proofs.Common.{◌≡◌, ℕ, zero, suc, ◌+◌, ◌-◌, ◌≤◌, nat_eq, nat_lt, cond, Bool, true, false, List, [], ◌∷◌}
-use Rattle.std.proofs.Common.{◌++◌, length, map, Option, Some, None, refl, sym, ap, ap₂, ◌∙◌, subst, arith}
+use Rattle.std.proofs.Common.{◌++◌, length, map, Some, refl, sym, ap, ap₂, ◌∙◌, subst, arith}
 use Rattle.std.specs.Prelude.{option_map}
 use Rattle.std.proofs.Math.Path.{fun_ext}
-use Rattle.idx_core.specs.Over.{At, shifted, putted}
+use Rattle.idx_core.specs.Over.{At, putted}
 use Rattle.t_types.specs.Tree.{Ty, IntTy, VarTy, CodeTy, ExistsTy, TupleTy, TFile, NoRegs, MoreRegs, over, over_file, shift}
 use Rattle.t_types.specs.Tree.{shift_file, put_from, put_file_from, put_file, Below, BelowTypes}
 use Rattle.t_types.specs.TreeLaws.{file_over}
@@ -13,19 +13,19 @@ use Rattle.t_types.specs.Fields.{filled, empty_fields}
 use Rattle.t_types.specs.Fits.{RegTypes, lookup}
 use Rattle.t_types.proofs.FitsLaws.{field_over, filled_over, empty_over}
 use Rattle.t_terms.specs.Tree.{TBase, Reg, Int, Label, Data, TValue, Plain, Pack, TInstr, Arith, Bnz, Ld, Malloc, Mov}
-use Rattle.t_terms.specs.Tree.{St, Unpack, TEnd, Jmp, Halt, TSeq, Then, Ends, TBlock, TProg, names_after, over_value}
+use Rattle.t_terms.specs.Tree.{St, Unpack, TEnd, Jmp, Halt, TSeq, Then, Ends, TProg, names_after, over_value}
 use Rattle.t_terms.specs.Tree.{over_instr, over_end, over_seq, put_seq}
 use Rattle.t_rules.specs.Registers.{with_reg, inst_file, inst_seq}
 use Rattle.t_rules.specs.Rules.{Has, Enters, Typed, EndTyped, SeqAccepted}
-use Rattle.t_rules.specs.Erase.{EInstr, EArith, EBnz, ELd, EMalloc, EMov, ESt, ESeq, EThen, EJmp, EHalt, erase_value}
-use Rattle.t_rules.specs.Erase.{erase_instr, erase_seq}
+use Rattle.t_rules.specs.Erase.{EArith, EBnz, ELd, EMalloc, EMov, ESt, ESeq, EThen, EJmp, EHalt, erase_value}
+use Rattle.t_rules.specs.Erase.{erase_seq}
 use Rattle.t_rules.proofs.Puts.{ClosedLabels, ClosedData, put_known, at_reg, names_more, typed_put, seq_put, below_any}
 use Rattle.t_rules.proofs.Puts.{over_length}
-use Rattle.spill_law.specs.Spill.{frame_reg, slot_reg, first_reg, second_reg, made_reg, saved_reg, with_if, high_part}
+use Rattle.spill_law.specs.Spill.{frame_reg, slot_reg, first_reg, second_reg, made_reg, saved_reg, high_part}
 use Rattle.spill_law.specs.Spill.{cells, sp, sp_regs, sp_base, sp_value, ins, or_int, type_of, type_in, field_type}
 use Rattle.spill_law.specs.Spill.{filled_type, hidden_type, target_file, next, reg, numbers, target, end_target, value_reads}
 use Rattle.spill_law.specs.Spill.{reads, end_reads, live, keep, kept, Home, Held, InFrame, InSlot, Layout, homed, gathered}
-use Rattle.spill_law.specs.Spill.{layout, at_home, load, load_base, load_value, second_at, fill, build, gather, defines, into}
+use Rattle.spill_law.specs.Spill.{at_home, load, load_value, second_at, fill, build, defines, into}
 use Rattle.spill_law.specs.Spill.{Way, Stays, Fills, Gathers, way_of, way, after_way, after, slots_by, used_by, slots}
 use Rattle.spill_law.specs.Spill.{fill_slot, finish, step, code, thens, step_size, sizes}
 use Rattle.spill_law.proofs.TypeLaws.{high_over}

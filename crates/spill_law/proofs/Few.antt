@@ -1,19 +1,19 @@
 -- No register of what is spilled is above the bound.
 use Rattle.std.proofs.Common.{◌≡◌, ℕ, zero, suc, ◌+◌, ◌<◌, ◌≤◌, nat_lt, Bool, true, false, List, [], ◌∷◌, map, refl, sym}
-use Rattle.std.proofs.Common.{◌∙◌, subst, arith, inl, inr, ◌⊎◌, ⊎_elim}
+use Rattle.std.proofs.Common.{◌∙◌, arith, inl, inr, ◌⊎◌}
 use Rattle.std.proofs.lemmas.Bool.{cases_lt, lt-ltb}
 use Rattle.t_types.specs.Tree.{Ty, IntTy, VarTy, CodeTy, ExistsTy, TupleTy, TFile, NoRegs, MoreRegs, TFields, NoFields}
 use Rattle.t_types.specs.Tree.{MoreFields}
 use Rattle.t_types.specs.Fits.{lookup}
 use Rattle.t_terms.specs.Tree.{Reg, Int, Label, Data, TValue, Plain, Pack, TInstr, Arith, Bnz, Ld, Malloc, Mov, St, Unpack}
 use Rattle.t_terms.specs.Tree.{Jmp, Halt, TSeq, Then, Ends, TBlock, TData, TProg}
-use Rattle.spill_law.specs.Spill.{frame_reg, slot_reg, first_reg, second_reg, made_reg, saved_reg, with_if, without_if}
+use Rattle.spill_law.specs.Spill.{frame_reg, first_reg, second_reg, with_if, without_if}
 use Rattle.spill_law.specs.Spill.{high_part, low_part, frame, cells, split, sp, sp_regs, sp_fields, sp_value, type_of}
 use Rattle.spill_law.specs.Spill.{target_file, next, numbers, kept, or_int, Home, Held, InFrame, InSlot, Layout, homed, layout}
 use Rattle.spill_law.specs.Spill.{at_home, load, load_value, second_at, fill, build, defines, into, Way, Stays, Fills}
 use Rattle.spill_law.specs.Spill.{Gathers, way_of, way, after, slots_by, used_by, slots, fill_slot, finish, step, code}
 use Rattle.spill_law.specs.Spill.{sp_blocks, sp_data, spilled_above}
-use Rattle.spill_law.specs.Bound.{InType, InFile, InFields, InTypes, InValue, InInstr, InSeq, InBlocks, InData, InHeap}
+use Rattle.spill_law.specs.Bound.{InType, InFile, InFields, InTypes, InValue, InSeq, InBlocks, InData, InHeap}
 use Rattle.spill_law.specs.Bound.{RegistersUpTo}
 use Rattle.spill_law.proofs.Homes.{Regular, UpTo, sound_up, homed_up, into_most, gathered_regular, way_sound}
 use Rattle.spill_law.proofs.Erased.{highs}

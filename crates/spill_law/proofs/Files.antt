@@ -8,9 +8,8 @@ use Rattle.t_types.specs.Tree.{Ty, TupleTy, TFile, NoRegs, MoreRegs, TFields, Mo
 use Rattle.t_types.specs.Fields.{AField, field, filled}
 use Rattle.t_types.specs.Fits.{FitsFile, RegTypes, lookup}
 use Rattle.t_rules.specs.Registers.{with_reg, raised}
-use Rattle.t_types.specs.Fits.{Fits}
-use Rattle.spill_law.specs.Spill.{sp, sp_regs, frame, cells, with_if, without_if, high_part, low_part, split, frame_reg, numbers, position, ins}
-use Rattle.spill_law.proofs.TypeLaws.{fits_sp, high_over}
+use Rattle.spill_law.specs.Spill.{sp, sp_regs, frame, with_if, without_if, high_part, low_part, split, frame_reg, numbers, position, ins}
+use Rattle.spill_law.proofs.TypeLaws.{fits_sp}
 
 pub look_same : {A : Type 0} (g : ℕ → Option A) (r : ℕ) (t : A) → with_reg g r t r ≡ Some t
 look_same g r t = ap (λ b. cond b (Some t) (g r)) (eq-eqb r r refl)

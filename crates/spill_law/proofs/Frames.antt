@@ -1,26 +1,26 @@
 -- Frames and slots of the second machine, and what they hold of the first one's registers.
-use Rattle.std.proofs.Common.{◌≡◌, ℕ, zero, suc, ◌+◌, ◌<◌, ◌≤◌, nat_eq, nat_lt, cond, Bool, true, false, List, [], ◌∷◌}
-use Rattle.std.proofs.Common.{◌++◌, length, Option, Some, None, refl, sym, ap, ◌∙◌, subst, arith, slice_get, slice_set, inl, inr}
+use Rattle.std.proofs.Common.{◌≡◌, ℕ, zero, suc, ◌+◌, ◌<◌, ◌≤◌, cond, List, [], ◌∷◌}
+use Rattle.std.proofs.Common.{◌++◌, length, Some, refl, sym, ap, ◌∙◌, subst, arith, slice_get, slice_set, inl, inr}
 use Rattle.std.proofs.Common.{◌⊎◌, ⊎_elim}
-use Rattle.std.specs.Prelude.{◌≢◌, option_map, replicate}
+use Rattle.std.specs.Prelude.{◌≢◌, replicate}
 use Rattle.std.proofs.lemmas.Bool.{cases_lt, cases_eq, lt-ltb, le-ltb}
 use Rattle.std.proofs.lemmas.Option.{slice_get_within}
 use Rattle.t_types.specs.Tree.{Ty, TFile, NoRegs, MoreRegs}
 use Rattle.t_types.specs.Fits.{FitsFile, RegTypes, lookup}
 use Rattle.t_terms.specs.Tree.{Reg}
 use Rattle.t_rules.specs.Registers.{with_reg}
-use Rattle.t_rules.specs.Machine.{Word, AddressWord, Heap, RegWords, Next}
-use Rattle.t_rules.specs.Erase.{EWord, EInt, EAddress, ELabel, EEmpty, ESeq, EThen, EMalloc, EMov, ESt, EHeap, ERegs, EState, EAt}
-use Rattle.t_rules.specs.Erase.{EGoes, estep}
-use Rattle.spill_law.specs.Spill.{frame_reg, slot_reg, first_reg, second_reg, made_reg, high_part, numbers, position, Home}
+use Rattle.t_rules.specs.Machine.{Word, Heap, RegWords, Next}
+use Rattle.t_rules.specs.Erase.{EWord, EAddress, EEmpty, ESeq, EThen, EMov, ESt, EHeap, ERegs, EState, EAt}
+use Rattle.t_rules.specs.Erase.{EGoes}
+use Rattle.spill_law.specs.Spill.{frame_reg, slot_reg, first_reg, made_reg, high_part, numbers, position, Home}
 use Rattle.spill_law.specs.Spill.{Held, InFrame, InSlot, Layout, homed, layout, into, Way, Stays, Fills, Gathers, after_way}
 use Rattle.spill_law.proofs.Files.{look_same, look_other, high_look, fits_high}
-use Rattle.spill_law.proofs.Homes.{Sound, Regular, UpTo, sound_up, sound_held, into_high, into_low, into_most, into_far}
-use Rattle.spill_law.proofs.Homes.{into_other, homed_both, homed_same, homed_up, WayFits, gathered_regular, after_regular}
-use Rattle.spill_law.proofs.Erased.{ebuild, egather, eslot, efinish, count_by, highs}
-use Rattle.spill_law.proofs.Walks.{Walks, walks_on, walks_none, walks_step, Moves, moves_walk, moves_walks, Full, get_front}
+use Rattle.spill_law.proofs.Homes.{Sound, Regular, UpTo, sound_up, sound_held, into_high, into_low, into_far}
+use Rattle.spill_law.proofs.Homes.{into_other, homed_both, homed_up, WayFits, gathered_regular, after_regular}
+use Rattle.spill_law.proofs.Erased.{egather, eslot, efinish, count_by, highs}
+use Rattle.spill_law.proofs.Walks.{Walks, walks_on, walks_none, walks_step, moves_walk, moves_walks, Full, get_front}
 use Rattle.spill_law.proofs.Walks.{get_end, set_end, st_step, mov_step, HomeAt, home_regs, home_heap, Sources, builds}
-use Rattle.spill_law.proofs.Heaps.{image, image_more, Heaps, heaps_frame, heaps_tuple, heaps_set, place_below, set_same}
+use Rattle.spill_law.proofs.Heaps.{image, image_more, Heaps, heaps_frame, place_below, set_same}
 use Rattle.spill_law.proofs.Heaps.{set_other, set_length, get_there, get_cases, FrameHas, word_in}
 
 pub fits_at : (g : RegTypes) (y : TFile) (q : ℕ) (t : Ty) → FitsFile g y → lookup y q ≡ Some t → (u : Ty) × (g q ≡ Some u)

@@ -5,7 +5,7 @@ use Rattle.std.proofs.lemmas.Bool.{cases_eq, eqb-true}
 use Rattle.std.proofs.lemmas.Option.{slice_get_within}
 use Rattle.std.proofs.lemmas.List.{length-append}
 use Rattle.t_types.specs.Tree.{Ty, TFile, NoRegs, MoreRegs}
-use Rattle.t_types.specs.Fits.{FitsFile, lookup}
+use Rattle.t_types.specs.Fits.{lookup}
 use Rattle.t_terms.specs.Tree.{TProg}
 use Rattle.t_rules.specs.Machine.{Word, IntWord, AddressWord, LabelWord, EmptyWord, PackWord, Heap, RegWords}
 use Rattle.t_rules.specs.HeapTypes.{HeapTypes, WordHas}

@@ -1,13 +1,12 @@
 -- Where words stand: homes of a layout, the way of a definition, and the registers that instructions use.
-use Rattle.std.proofs.Common.{◌≡◌, ℕ, zero, suc, ◌+◌, ◌<◌, ◌≤◌, nat_eq, nat_lt, cond, Bool, true, false, List, refl, sym, ap, ◌∙◌}
+use Rattle.std.proofs.Common.{◌≡◌, ℕ, suc, ◌+◌, ◌<◌, ◌≤◌, nat_lt, cond, Bool, true, false, List, refl, sym, ap, ◌∙◌}
 use Rattle.std.proofs.Common.{subst, arith, inl, inr, ◌⊎◌, ⊎_elim}
 use Rattle.std.specs.Prelude.{◌≢◌}
 use Rattle.std.proofs.lemmas.Bool.{eq-eqb, ne_eqb, cases_lt, cases_eq, lt-ltb, le-ltb}
 use Rattle.t_types.specs.Tree.{TFile}
 use Rattle.t_terms.specs.Tree.{TInstr, Arith, Bnz, Ld, Malloc, Mov, St, Unpack}
-use Rattle.spill_law.specs.Spill.{Home, Held, InFrame, InSlot, Layout, homed, position, gathered, layout, at_home, into, first_reg}
-use Rattle.spill_law.specs.Spill.{Way, Stays, Fills, Gathers, most_slots, way_of, way, after_way, after, used_by}
-use Rattle.spill_law.specs.Spill.{defines}
+use Rattle.spill_law.specs.Spill.{Home, Held, InFrame, InSlot, Layout, homed, position, gathered, at_home, into, first_reg}
+use Rattle.spill_law.specs.Spill.{Way, Stays, Fills, Gathers, most_slots, way_of, after_way, after, used_by}
 
 -- the home of r is its own register, up to m, or in a tuple, in a slot that is used
 abbrev pub Sound : ℕ → ℕ → ℕ → Home → Type 0

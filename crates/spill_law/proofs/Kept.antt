@@ -1,11 +1,11 @@
 -- What is asked of the types of a program holds of those that stay known.
-use Rattle.std.proofs.Common.{◌≡◌, ℕ, ◌<◌, ◌≤◌, nat_eq, cond, Bool, true, false, List, [], ◌∷◌, ◌++◌, Option, Some, None, refl, sym, ap, ◌∙◌, subst, arith}
-use Rattle.std.specs.Prelude.{◌≢◌, max}
+use Rattle.std.proofs.Common.{◌≡◌, ℕ, ◌<◌, ◌≤◌, nat_eq, cond, Bool, true, false, [], ◌++◌, Option, Some, refl, sym, ap, ◌∙◌, subst, arith}
+use Rattle.std.specs.Prelude.{max}
 use Rattle.std.proofs.lemmas.Bool.{ne_eqb, eqb-true}
 use Rattle.t_types.specs.Tree.{Ty, IntTy, CodeTy, ExistsTy, TFile, NoRegs, MoreRegs}
 use Rattle.t_types.specs.Fits.{lookup}
 use Rattle.t_terms.specs.Tree.{TValue, TInstr, Arith, Bnz, Ld, Malloc, Mov, St, Unpack, Jmp, Halt, TSeq, Then, Ends, TProg, names_after}
-use Rattle.t_rules.specs.Rules.{Has, Typed, SeqAccepted}
+use Rattle.t_rules.specs.Rules.{Has, SeqAccepted}
 use Rattle.spill_law.specs.Spill.{type_of, next, numbers, target, value_reads, reads, live, among, kept, FewNames, FewNamesFile, values_of, ValuesFew, SeqFew}
 use Rattle.spill_law.specs.Reach.{type_reach, regs_reach, value_reach, instr_reach, seq_reach}
 use Rattle.spill_law.proofs.Files.{look_same, RisesFrom, Ascends, rises_ascends}

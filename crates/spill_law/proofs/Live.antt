@@ -1,7 +1,7 @@
 -- Registers that a sequence wants: what is known of the others may be forgotten.
-use Rattle.std.proofs.Common.{◌≡◌, ℕ, ◌<◌, ◌≤◌, nat_eq, cond, Bool, true, false, List, [], ◌∷◌, ◌++◌, Option, Some, None, refl, sym, ap, ap₂, ◌∙◌, subst, arith, inl, inr, ◌⊎◌, ⊎_elim}
-use Rattle.std.specs.Prelude.{◌≢◌, option_map, max}
-use Rattle.std.proofs.lemmas.Bool.{cases_eq, eqb-true, eq-eqb}
+use Rattle.std.proofs.Common.{◌≡◌, ℕ, ◌<◌, nat_eq, cond, Bool, true, false, List, [], ◌∷◌, ◌++◌, Option, Some, None, refl, sym, ap, ap₂, ◌∙◌, subst, arith, inl, inr, ◌⊎◌, ⊎_elim}
+use Rattle.std.specs.Prelude.{option_map}
+use Rattle.std.proofs.lemmas.Bool.{eqb-true, eq-eqb}
 use Rattle.idx_core.specs.Over.{At}
 use Rattle.t_types.specs.Tree.{Ty, IntTy, CodeTy, ExistsTy, TupleTy, TFile, NoRegs, MoreRegs, over, over_file, shift, shift_file}
 use Rattle.t_types.specs.Fields.{empty_fields, filled}
@@ -10,7 +10,7 @@ use Rattle.t_terms.specs.Tree.{TBase, Reg, Int, Label, Data, TValue, Plain, Pack
 use Rattle.t_rules.specs.Registers.{with_reg, raised}
 use Rattle.t_rules.specs.Rules.{BaseHas, Has, Enters, Typed, EndTyped, SeqAccepted}
 use Rattle.spill_law.specs.Spill.{ins, or_int, base_type, applied_type, type_of, field_type, filled_type, hidden_type, target_file, next, numbers, target, end_target, base_reads, value_reads, reads, end_reads, live, among, keep, kept}
-use Rattle.spill_law.proofs.Files.{lookup_ins, raised_lookup, look_same, look_other, RisesFrom, Ascends, rises_ascends}
+use Rattle.spill_law.proofs.Files.{lookup_ins, raised_lookup, RisesFrom, Ascends, rises_ascends}
 use Rattle.spill_law.proofs.Computed.{value_is, next_is, ascends_next}
 
 -- lists

@@ -5,20 +5,20 @@ use Rattle.std.proofs.lemmas.Option.{slice_get-map}
 use Rattle.std.proofs.lemmas.List.{length-map}
 use Rattle.t_types.specs.Tree.{NoRegs}
 use Rattle.t_types.specs.Fits.{lookup}
-use Rattle.t_terms.specs.Tree.{Reg, Int, Label, Data, TValue, Plain, Pack, Then, Ends, Jmp, Halt, TBlock, TData, TProg}
+use Rattle.t_terms.specs.Tree.{Reg, Int, Label, Data, TValue, Plain, Pack, TBlock, TData, TProg}
 use Rattle.t_terms.specs.Whole.{WellFormedValue, WellFormedData, WellFormedHeap, Whole}
 use Rattle.t_rules.specs.Rules.{SeqAccepted, FirstTakesNothing, Accepted}
 use Rattle.t_rules.specs.Machine.{State, At, Where, Next, Into, Step, HaltedWith, Place, Spot, moved, After, HaltsWithin, Halts, no_words, data_word, start_heap}
 use Rattle.t_rules.specs.Times.{places}
 use Rattle.t_rules.specs.LawsSound.{heap_of, regs_of, code_of}
 use Rattle.t_rules.specs.HeapTypes.{HeapHas, start_types}
-use Rattle.t_rules.specs.Erase.{EInt, EAddress, ESeq, EThen, EJmp, EHalt, EHeap, ERegs, EState, EAt, EStep, EGoes, estep, erase, erase_word, erase_seq, erase_block, erase_blocks, erase_heap, erase_datum, erase_value, held, base_word, no_ewords, EHaltedWith, Erased}
+use Rattle.t_rules.specs.Erase.{EInt, EAddress, ESeq, EHalt, EHeap, ERegs, EState, EAt, EStep, EGoes, estep, erase, erase_seq, erase_block, erase_blocks, erase_heap, erase_datum, erase_value, held, base_word, no_ewords, EHaltedWith, Erased}
 use Rattle.t_rules.proofs.Lock.{lockstep, erased_starts, erased_next, erased_halts_alike, halted_erased, halted_none}
 use Rattle.t_rules.proofs.Erasing.{heap_erased}
 use Rattle.t_rules.proofs.Words.{rises_same}
 use Rattle.t_rules.proofs.OneStep.{step_one, halted_no_step, halted_one}
 use Rattle.t_rules.proofs.Runs.{closed_labels, closed_data, blocks_typed, states_typed, runs_on, one_answer}
-use Rattle.spill_law.specs.Spill.{frame_reg, code, sizes, layout, numbers, sp_base, sp_blocks, sp_data, sp_file, entry, spilled_above}
+use Rattle.spill_law.specs.Spill.{frame_reg, code, sizes, layout, sp_base, sp_blocks, sp_data, entry, spilled_above}
 use Rattle.spill_law.proofs.Files.{Ascends, look_same}
 use Rattle.spill_law.proofs.Typed.{at_map, labels_of, blocks_ascend, kept_types}
 use Rattle.spill_law.proofs.Walks.{walk, on_next, enter_step, get_front, get_end}

@@ -1,10 +1,10 @@
 -- Small rows, by computation.
-use Rattle.std.proofs.Common.{◌≡◌, ℕ, refl, List, [], ◌∷◌}
-use Rattle.t_types.specs.Tree.{Ty, IntTy, CodeTy, TupleTy, NoRegs, MoreRegs, NoFields, MoreFields}
-use Rattle.t_terms.specs.Tree.{Plain, Int, Reg, Label, Mov, Arith, Then, Ends, Jmp, Halt, TProg, Malloc, St, Ld, Data}
+use Rattle.std.proofs.Common.{◌≡◌, refl, [], ◌∷◌}
+use Rattle.t_types.specs.Tree.{IntTy, CodeTy, TupleTy, NoRegs, MoreRegs, NoFields, MoreFields}
+use Rattle.t_terms.specs.Tree.{Plain, Int, Reg, Mov, Arith, Then, Ends, Halt, TProg, Malloc, St, Ld}
 use Rattle.idx_core.specs.declared.arith.Op.{Op}
-use Rattle.std.specs.Prelude.{ℤ, pos, true}
-use Rattle.spill_law.specs.Spill.{lows, sp, code, layout, spilled}
+use Rattle.std.specs.Prelude.{pos, true}
+use Rattle.spill_law.specs.Spill.{lows, sp, code, layout}
 
 pub lows_eight : lows 8 ≡ 2
 lows_eight = refl

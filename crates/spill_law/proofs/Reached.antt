@@ -1,20 +1,20 @@
 -- The text of what is spilled has at most two constructs more open than the program's types reach.
 use Rattle.std.proofs.Common.{ℕ, zero, suc, ◌+◌, ◌≤◌, nat_eq, nat_lt, cond, Bool, true, false, List, [], ◌∷◌, length, map}
-use Rattle.std.proofs.Common.{Option, Some, None, arith}
+use Rattle.std.proofs.Common.{Some, arith}
 use Rattle.std.specs.Prelude.{max}
 use Rattle.t_types.specs.Tree.{Ty, IntTy, VarTy, CodeTy, ExistsTy, TupleTy, TFile, NoRegs, MoreRegs, TFields, NoFields}
 use Rattle.t_types.specs.Tree.{MoreFields}
 use Rattle.t_types.specs.Fits.{lookup}
 use Rattle.t_terms.specs.Tree.{TBase, Reg, Int, Label, Data, TValue, Plain, Pack, TInstr, Arith, Bnz, Ld, Malloc, Mov}
 use Rattle.t_terms.specs.Tree.{St, Unpack, Jmp, Halt, TSeq, Then, Ends, TBlock, TData, TProg}
-use Rattle.t_terms.specs.Nesting.{type_nesting, regs_nesting, fields_nesting, types_nesting, value_nesting, instr_nesting}
+use Rattle.t_terms.specs.Nesting.{type_nesting, regs_nesting, fields_nesting, types_nesting, value_nesting}
 use Rattle.t_terms.specs.Nesting.{seq_nesting, blocks_nesting, data_nesting, heap_nesting, nesting}
 use Rattle.t_terms.specs.Whole.{WellFormedBlocks, Whole}
 use Rattle.t_rules.specs.Rules.{BlocksAccepted, Accepted}
-use Rattle.spill_law.specs.Spill.{frame_reg, slot_reg, first_reg, second_reg, made_reg, saved_reg, with_if, without_if}
+use Rattle.spill_law.specs.Spill.{frame_reg, first_reg, second_reg, with_if, without_if}
 use Rattle.spill_law.specs.Spill.{high_part, low_part, frame, cells, split, sp, sp_regs, sp_fields, sp_value, type_of}
-use Rattle.spill_law.specs.Spill.{target_file, next, reg, numbers, kept, or_int, Home, Held, InFrame, InSlot, Layout, homed}
-use Rattle.spill_law.specs.Spill.{layout, at_home, load, load_value, second_at, fill, build, defines, into, Way, Stays}
+use Rattle.spill_law.specs.Spill.{target_file, next, numbers, kept, or_int, Home, Held, InFrame, InSlot, Layout, homed}
+use Rattle.spill_law.specs.Spill.{layout, load, load_value, second_at, fill, build, defines, into, Way, Stays}
 use Rattle.spill_law.specs.Spill.{Fills, Gathers, way_of, way, after, slots_by, used_by, slots, fill_slot, finish, step}
 use Rattle.spill_law.specs.Spill.{code, sp_blocks, sp_data, spilled_above}
 use Rattle.spill_law.specs.Reach.{type_reach, regs_reach, fields_reach, types_reach, value_reach, instr_reach, seq_reach}

@@ -3,7 +3,7 @@ use Rattle.std.proofs.Common.{◌≡◌, ℕ, zero, suc, ◌+◌, ◌-◌, ◌<�
 use Rattle.std.proofs.lemmas.Bool.{cases_lt, cases_order}
 use Rattle.idx_core.specs.Over.{At, shifted, putted}
 use Rattle.idx_core.specs.Laws.{shifted_lt, shifted_ge, putted_lt, putted_eq, putted_gt}
-use Rattle.t_types.specs.Tree.{Ty, IntTy, VarTy, CodeTy, ExistsTy, TupleTy, TFile, NoRegs, MoreRegs, TFields, NoFields, MoreFields, over, over_file, over_fields, shift, Below, BelowFile, BelowFields, BelowTypes, shift_file, put_file, each_fields}
+use Rattle.t_types.specs.Tree.{Ty, IntTy, VarTy, CodeTy, ExistsTy, TupleTy, TFile, NoRegs, MoreRegs, TFields, NoFields, MoreFields, over, over_file, over_fields, shift, Below, BelowFile, BelowFields, shift_file, put_file, each_fields}
 use Rattle.t_types.specs.TreeLaws.{file_over, fields_over as fields_walk}
 use Rattle.t_types.specs.WellFormed.{max_number, max_names, WellFormed, WellFormedFields, WellFormedTypes, RegsAbove}
 use Rattle.t_types.specs.Fields.{AField, field, filled, empty_fields}
@@ -11,7 +11,7 @@ use Rattle.t_types.specs.Fits.{RegTypes, lookup}
 use Rattle.t_terms.specs.Tree.{TBase, Reg, Int, Label, Data, TValue, Plain, Pack, TInstr, Arith, Bnz, Ld, Malloc, Mov, St, Unpack, TSeq, TBlock, TData, TProg, names_after}
 use Rattle.t_terms.specs.Whole.{WellFormedValue, WellFormedInstr, WellFormedBlocks, WellFormedData, WellFormedHeap, Whole}
 use Rattle.t_rules.specs.Registers.{inst_file}
-use Rattle.t_rules.specs.Rules.{data_fields, BaseHas, Has, Enters, Typed, SeqAccepted}
+use Rattle.t_rules.specs.Rules.{data_fields, BaseHas, Has, Enters, Typed}
 use Rattle.spill_law.specs.Spill.{ins, or_int, type_of, field_type, filled_type, hidden_type, next, FewNames, FewNamesFile, type_in, live, among, keep, kept}
 use Rattle.spill_law.proofs.Files.{RisesFrom, Ascends, rises_ascends, CaseOf, case_of, ins_less, ins_same, ins_more}
 use Rattle.spill_law.proofs.Computed.{value_is}

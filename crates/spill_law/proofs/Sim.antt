@@ -1,6 +1,6 @@
 -- Each step of an accepted program, and what its spilled program's erased machine makes of it.
-use Rattle.std.proofs.Common.{◌≡◌, ℕ, zero, suc, ◌+◌, ◌-◌, ◌<◌, ◌≤◌, true, false, List, [], ◌∷◌, ◌++◌, length, map, Option}
-use Rattle.std.proofs.Common.{Some, None, refl, sym, ap, ap₂, ◌∙◌, subst, arith, slice_get, slice_set, inl, inr, ◌⊎◌, ⊎_elim}
+use Rattle.std.proofs.Common.{◌≡◌, ℕ, suc, ◌+◌, ◌-◌, ◌<◌, ◌≤◌, true, false, List, [], ◌∷◌, ◌++◌, length, map}
+use Rattle.std.proofs.Common.{Some, refl, sym, ap, ap₂, ◌∙◌, subst, arith, slice_get, slice_set, inl, inr, ◌⊎◌, ⊎_elim}
 use Rattle.std.specs.Prelude.{◌≢◌, option_map, replicate, ℤ}
 use Rattle.std.proofs.lemmas.Bool.{cases_eq}
 use Rattle.std.proofs.lemmas.Option.{slice_get_within}
@@ -29,23 +29,23 @@ use Rattle.t_rules.proofs.Puts.{ClosedLabels, ClosedData, seq_put, seq_inst, fil
 use Rattle.t_rules.proofs.Words.{word_fits, tuples_rise, regs_rise, tuple_at, tuples_filled, tuples_pushed, pushed_at}
 use Rattle.t_rules.proofs.Words.{empty_tuple, word_of_field, field_written, regs_with, regs_retyped, regs_fit, is_int}
 use Rattle.t_rules.proofs.Words.{is_address, is_pack, value_has, rises_filled, at_filled, rises_pushed, rises_next}
-use Rattle.spill_law.specs.Spill.{frame_reg, slot_reg, first_reg, second_reg, made_reg, saved_reg, high_part, sp_base, ins}
-use Rattle.spill_law.specs.Spill.{type_of, hidden_type, target_file, next, numbers, target, end_target, live, keep, kept}
-use Rattle.spill_law.specs.Spill.{Home, Held, InFrame, InSlot, Layout, gathered, layout, at_home, second_at, defines, into}
-use Rattle.spill_law.specs.Spill.{Way, Gathers, way_of, way, after_way, after, used_by, code, sizes}
+use Rattle.spill_law.specs.Spill.{frame_reg, first_reg, second_reg, made_reg, saved_reg, high_part, sp_base, ins}
+use Rattle.spill_law.specs.Spill.{type_of, hidden_type, target_file, next, target, end_target, live, keep, kept}
+use Rattle.spill_law.specs.Spill.{Home, Layout, gathered, layout, at_home, second_at, defines, into}
+use Rattle.spill_law.specs.Spill.{Gathers, way_of, way, after, used_by, code, sizes}
 use Rattle.spill_law.proofs.Files.{look_same, look_other, Ascends, ascends_ins, ascends_over, lookup_ins, fits_self}
 use Rattle.spill_law.proofs.Files.{fits_high}
 use Rattle.spill_law.proofs.Computed.{value_is, next_is, ascends_next}
 use Rattle.spill_law.proofs.Live.{keep_over, ascends_keep, fits_keep, kept_fits, kept_accepted, kept_ascends}
-use Rattle.spill_law.proofs.Homes.{Regular, UpTo, sound_held, at_case, at_far, into_case, way_fits, stored_at, used_is}
-use Rattle.spill_law.proofs.Erased.{numbers_over, highs, highs_over, ebuild, eload, ebase, efinish, ecode, eend, erase_then}
+use Rattle.spill_law.proofs.Homes.{UpTo, sound_held, at_case, at_far, way_fits, stored_at, used_is}
+use Rattle.spill_law.proofs.Erased.{highs, highs_over, ebuild, eload, ebase, efinish, ecode, eend, erase_then}
 use Rattle.spill_law.proofs.Erased.{erase_end_code, erased_put, erased_inst, ins_over, known, esize, sizes_put, sizes_inst}
-use Rattle.spill_law.proofs.Erased.{slots_left, count_by, left_over, inst_highs}
+use Rattle.spill_law.proofs.Erased.{slots_left, count_by, inst_highs}
 use Rattle.spill_law.proofs.Walks.{Walks, walks_on, walks_none, walks_step, Moves, moves_step, moves_walk, walk_moves}
 use Rattle.spill_law.proofs.Walks.{moves_walks, Full, ld_step, mov_step, st_step, arith_step, enter_step, stay_step, leave_step}
 use Rattle.spill_law.proofs.Walks.{get_front, get_end, HomeAt, home_regs, home_heap, BaseAt, base_regs, base_heap, loads}
 use Rattle.spill_law.proofs.Walks.{fetches, Sources, builds}
-use Rattle.spill_law.proofs.Heaps.{image, image_address, full_image, images_at, images_empty, images_length, Heaps}
+use Rattle.spill_law.proofs.Heaps.{image, image_address, full_image, images_at, images_empty, images_length}
 use Rattle.spill_law.proofs.Heaps.{heaps_frame, heaps_tuple, heaps_set, place_below, either, FrameHas}
 use Rattle.spill_law.proofs.Frames.{fits_at, WordAt, Alike, regular_up, alike_regs, alike_frame, alike_tuple, alike_written}
 use Rattle.spill_law.proofs.Frames.{Mid, mid_of, mid_here, framed, frame_words, Finished, finish_at}

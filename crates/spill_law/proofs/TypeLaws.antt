@@ -1,6 +1,6 @@
 -- Types: what is spilled of a type keeps shift, put and fits.
 use Rattle.std.proofs.Common.{◌≡◌, ℕ, zero, suc, ◌+◌, ◌-◌, ◌==◌, inl, inr, List, [], ◌∷◌, map, Some, refl, ap, ap₂, ◌∙◌}
-use Rattle.std.proofs.Common.{sym, subst}
+use Rattle.std.proofs.Common.{sym}
 use Rattle.std.specs.Prelude.{Bool, true, false, nat_lt, if◌then◌else◌}
 use Rattle.idx_core.specs.Over.{At, deep, shifted, putted}
 use Rattle.idx_core.specs.Steps.{over_same}

@@ -1,9 +1,9 @@
 -- What is spilled of an accepted program is accepted.
 use Rattle.std.proofs.Common.{◌≡◌, ℕ, zero, suc, ◌+◌, ◌-◌, ◌<◌, ◌≤◌, cond, Bool, true, false, List, [], ◌∷◌, ◌++◌, length}
 use Rattle.std.proofs.Common.{map, Option, Some, None, refl, sym, ap, ap₂, ◌∙◌, subst, arith, inl, inr, ◌⊎◌, ⊎_elim, slice_get}
-use Rattle.std.specs.Prelude.{◌≢◌, option_map, nat_eq, nat_lt}
+use Rattle.std.specs.Prelude.{◌≢◌, option_map}
 use Rattle.std.proofs.Math.Path.{fun_ext}
-use Rattle.std.proofs.lemmas.Bool.{cases_lt, cases_eq, eqb-true, lt-ltb, le-ltb}
+use Rattle.std.proofs.lemmas.Bool.{cases_lt, cases_eq, lt-ltb, le-ltb}
 use Rattle.std.proofs.lemmas.List.{length-map, length-append}
 use Rattle.idx_core.specs.Over.{shifted}
 use Rattle.t_types.specs.Tree.{Ty, IntTy, VarTy, CodeTy, ExistsTy, TupleTy, TFile, NoRegs, MoreRegs, TFields, NoFields}
@@ -13,11 +13,11 @@ use Rattle.t_types.specs.Fits.{Fits, FitsFile, RegTypes, lookup}
 use Rattle.t_types.proofs.FitsLaws.{filled_field, field_over}
 use Rattle.t_terms.specs.Tree.{TBase, Reg, Int, Label, Data, TValue, Plain, Pack, TInstr, Arith, Bnz, Ld, Malloc, Mov}
 use Rattle.t_terms.specs.Tree.{St, Unpack, Jmp, Halt, TSeq, Then, Ends, TBlock, TData, TProg, names_after}
-use Rattle.t_terms.specs.Whole.{WellFormedValue, WellFormedInstr, WellFormedSeq, WellFormedBlocks, Whole}
+use Rattle.t_terms.specs.Whole.{WellFormedValue, WellFormedSeq, WellFormedBlocks, Whole}
 use Rattle.t_rules.specs.Registers.{with_reg, raised, no_types}
 use Rattle.t_rules.specs.Rules.{BaseHas, Has, Enters, Typed, SeqAccepted, BlocksAccepted, DataAccepted, HeapAccepted}
 use Rattle.t_rules.specs.Rules.{FirstTakesNothing, Accepted}
-use Rattle.spill_law.specs.Spill.{high_part, frame, cells, split, frame_reg, slot_reg, first_reg, second_reg, made_reg}
+use Rattle.spill_law.specs.Spill.{high_part, frame, cells, frame_reg, slot_reg, first_reg, second_reg, made_reg}
 use Rattle.spill_law.specs.Spill.{saved_reg, sp, sp_regs, sp_fields, sp_file, sp_base, sp_value, ins, or_int, type_of}
 use Rattle.spill_law.specs.Spill.{type_in, field_type, filled_type, hidden_type, target_file, next, reg, numbers, kept}
 use Rattle.spill_law.specs.Spill.{Home, Held, InFrame, InSlot, Layout, homed, position, layout, at_home, load, load_value}
@@ -34,8 +34,8 @@ use Rattle.spill_law.proofs.Live.{kept_fits, kept_accepted, kept_sub}
 use Rattle.spill_law.proofs.Scopes.{ScopedRegs, scoped_regs, scoped_at, below_scoped, LabelsScoped, DataScoped, scoped_next}
 use Rattle.spill_law.proofs.Scopes.{below_regs as below_file, scoped_ascends, scoped_kept, scoped_target, labels_scoped}
 use Rattle.spill_law.proofs.Scopes.{data_scoped}
-use Rattle.spill_law.proofs.Homes.{Sound, Regular, UpTo, sound_up, sound_held, at_case, at_far, into_high, into_low, into_most}
-use Rattle.spill_law.proofs.Homes.{into_far, into_other, homed_same, homed_other, homed_both, homed_up, WayFits, way_fits}
+use Rattle.spill_law.proofs.Homes.{Sound, Regular, UpTo, sound_up, sound_held, at_case, at_far, into_high, into_low}
+use Rattle.spill_law.proofs.Homes.{into_far, into_other, homed_both, homed_up, WayFits, way_fits}
 use Rattle.spill_law.proofs.Homes.{gathered_regular, way_sound, stored_at, used_is}
 
 -- each block of P is one further on in Q, spilled

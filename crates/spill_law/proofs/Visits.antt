@@ -6,7 +6,7 @@ use Rattle.std.proofs.lemmas.Bool.{cases_lt, cases_eq, lt-ltb, le-ltb}
 use Rattle.std.proofs.lemmas.Bool.Decides.{nat_tests}
 use Rattle.std.proofs.lemmas.Option.{slice_get-map}
 use Rattle.t_types.specs.Tree.{TFile}
-use Rattle.t_terms.specs.Tree.{TBase, Label, Data, TSeq, Then, Ends, Jmp, Halt, TBlock, TProg}
+use Rattle.t_terms.specs.Tree.{TBase, Label, TSeq, Then, Ends, Jmp, Halt, TBlock, TProg}
 use Rattle.t_terms.specs.Whole.{Whole}
 use Rattle.t_rules.specs.Rules.{FirstTakesNothing, Accepted}
 use Rattle.t_rules.specs.Machine.{State, At, Where, Next, Into, Step, HaltedWith, Place, Spot, moved, After}
@@ -21,7 +21,7 @@ use Rattle.t_rules.proofs.Runs.{runs_on}
 use Rattle.spill_law.specs.Spill.{Layout, layout, after as laid, kept, step_size, sizes, thens, code, entry, spilled_above, sp_block}
 use Rattle.spill_law.specs.Correct.{origin_in, sizes_of, origin_above, IsPlace, times_in, CountsKept}
 use Rattle.spill_law.proofs.Typed.{kept_types}
-use Rattle.spill_law.proofs.Erased.{esize, step_then, erase_then, slots_left, highs}
+use Rattle.spill_law.proofs.Erased.{esize, step_then, erase_then, slots_left}
 use Rattle.spill_law.proofs.Walks.{walk, on_next, enter_step}
 use Rattle.spill_law.proofs.Sim.{Matches, Seg, Sized, Ending, tail_sizes, tail_left}
 use Rattle.spill_law.proofs.Meaning.{plus, plus_is, PState, On, went, so, after, after_on, ahead, trace, walk_runs, halts_last, start_of, run_logged, follow, entered, entered_regs, starts, start_file, start_lay, elabels}

@@ -1,5 +1,5 @@
 -- The erased machine of what is spilled: steps that lead to the next instruction, one after the other.
-use Rattle.std.proofs.Common.{◌≡◌, ℕ, zero, suc, ◌+◌, ◌<◌, ◌≤◌, nat_lt, cond, true, false, List, [], ◌∷◌, ◌++◌, length, Option, Some, None, refl, sym, ap, ◌∙◌, subst, arith, slice_get, slice_set, inl, inr, ◌⊎◌}
+use Rattle.std.proofs.Common.{◌≡◌, ℕ, zero, suc, ◌+◌, ◌<◌, ◌≤◌, nat_lt, cond, true, false, List, [], ◌∷◌, ◌++◌, length, Option, Some, None, refl, sym, ap, ◌∙◌, subst, arith, slice_get, slice_set}
 use Rattle.std.specs.Prelude.{◌≢◌, option_map, option_and_then, replicate, ℤ}
 use Rattle.std.proofs.lemmas.Bool.{lt-ltb}
 use Rattle.std.proofs.lemmas.List.{length-append}
@@ -8,7 +8,7 @@ use Rattle.t_terms.specs.Tree.{TBase, Reg, Int, Label, Data}
 use Rattle.t_rules.specs.Registers.{with_reg}
 use Rattle.t_rules.specs.Machine.{Next, Into}
 use Rattle.t_rules.specs.Erase.{EWord, EInt, EAddress, ELabel, EEmpty, EArith, EBnz, ELd, EMov, ESt, ESeq, EThen, EHeap, ERegs, EState, EAt, EStep, EGoes, estep, enter, base_word, on_int, on_address, on_label, on_full}
-use Rattle.spill_law.specs.Spill.{frame_reg, slot_reg, first_reg, second_reg, made_reg, sp_base, Home, Held, InFrame, InSlot}
+use Rattle.spill_law.specs.Spill.{frame_reg, slot_reg, second_reg, made_reg, sp_base, Home, Held, InFrame, InSlot}
 use Rattle.spill_law.specs.Spill.{at_home, second_at}
 use Rattle.spill_law.proofs.Files.{look_same, look_other}
 use Rattle.spill_law.proofs.Homes.{UpTo}

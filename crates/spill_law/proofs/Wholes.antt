@@ -1,8 +1,7 @@
 -- What is spilled of a whole program is whole, and has no register above the bound.
 use Rattle.std.proofs.Common.{◌≡◌, ℕ, zero, suc, ◌+◌, ◌<◌, ◌≤◌, nat_eq, nat_lt, cond, Bool, true, false, List, [], ◌∷◌}
-use Rattle.std.proofs.Common.{length, map, Option, Some, None, refl, sym, ap, ◌∙◌, subst, arith, inl, inr, ◌⊎◌, ⊎_elim}
-use Rattle.std.specs.Prelude.{◌≢◌}
-use Rattle.std.proofs.lemmas.Bool.{cases_lt, lt-ltb, le-ltb}
+use Rattle.std.proofs.Common.{length, map, Some, refl, sym, ◌∙◌, subst, arith, inl, inr, ◌⊎◌, ⊎_elim}
+use Rattle.std.proofs.lemmas.Bool.{cases_lt, lt-ltb}
 use Rattle.std.proofs.lemmas.List.{length-map}
 use Rattle.t_types.specs.Tree.{Ty, IntTy, VarTy, CodeTy, ExistsTy, TupleTy, TFile, NoRegs, MoreRegs, TFields, NoFields}
 use Rattle.t_types.specs.Tree.{MoreFields}
@@ -14,17 +13,17 @@ use Rattle.t_terms.specs.Tree.{Jmp, Halt, TSeq, Then, Ends, TBlock, TData, TProg
 use Rattle.t_terms.specs.Whole.{WellFormedValue, WellFormedInstr, WellFormedSeq, WellFormedBlock, WellFormedBlocks}
 use Rattle.t_terms.specs.Whole.{HasNoRegister, WellFormedData, WellFormedHeap, Whole}
 use Rattle.t_rules.specs.Rules.{Enters, Typed, SeqAccepted, BlocksAccepted, Accepted}
-use Rattle.spill_law.specs.Spill.{frame_reg, slot_reg, first_reg, second_reg, made_reg, saved_reg, with_if, without_if}
+use Rattle.spill_law.specs.Spill.{frame_reg, first_reg, second_reg, made_reg, saved_reg, with_if, without_if}
 use Rattle.spill_law.specs.Spill.{high_part, low_part, frame, cells, split, sp, sp_regs, sp_fields, sp_value, type_of}
 use Rattle.spill_law.specs.Spill.{target_file, or_int, next, numbers, kept, Home, Held, InFrame, InSlot, Layout, homed}
-use Rattle.spill_law.specs.Spill.{position, gathered, layout, at_home, load, load_value, second_at, fill, build, gather}
+use Rattle.spill_law.specs.Spill.{position, gathered, layout, at_home, load, load_value, second_at, fill, build}
 use Rattle.spill_law.specs.Spill.{defines, into, Way, Stays, Fills, Gathers, most_slots, way_of, way, after_way, after}
 use Rattle.spill_law.specs.Spill.{slots_by, used_by, slots, fill_slot, finish, step, code, sp_block, sp_blocks, sp_data}
 use Rattle.spill_law.specs.Spill.{entry, spilled_above, FewNames, values_of, ValuesFew, BlocksFew, TypesFew}
 use Rattle.spill_law.proofs.Computed.{value_is, next_is}
 use Rattle.spill_law.proofs.Live.{kept_accepted}
 use Rattle.spill_law.proofs.Kept.{KeptFew, kept_few, knows_first}
-use Rattle.spill_law.proofs.Scopes.{Scoped, ScopedRegs, scoped_regs, well_formed, regs_above, LabelsScoped, DataScoped}
+use Rattle.spill_law.proofs.Scopes.{Scoped, scoped_regs, well_formed, regs_above, LabelsScoped, DataScoped}
 use Rattle.spill_law.proofs.Scopes.{scoped_ascends, scoped_value, scoped_next, scoped_kept, labels_scoped, data_scoped}
 use Rattle.spill_law.proofs.Homes.{Sound, Regular, into_case, homed_both, WayFits, way_fits, gathered_regular, way_sound}
 use Rattle.spill_law.proofs.Erased.{highs}

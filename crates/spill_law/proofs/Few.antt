@@ -151,9 +151,13 @@ module _ (k m : ℕ) (most : m + 6 ≤ k) where
         in_load (first_reg m) (L.homes rs) _ (omega arith) (in_load_value L.homes v _
         ((here rd, first rs, in_value (second_at m L.homes) v second), in_finish L rd ts to (way_of m L.used rd) rest reg ht h))
     in_step (Bnz r v) x ts to rest ht h =
-        in_build L.homes (target_file (type_of P x v)) _ up (in_load (first_reg m) (L.homes r) _ (omega arith) (in_load_value L.homes v _
-        ((omega (arith, most), (omega (arith, most), tt)), ((omega (arith, most), (omega (arith, most), tt)),
-        ((first r, in_value (second_at m L.homes) v second), ((omega (arith, most), (omega (arith, most), tt)), h))))))
+        in_build L.homes (target_file (type_of P x v)) _ up (in_load (first_reg m) (L.homes r) _ (omega arith) (in_load_value L.homes v _ (
+          (omega (arith, most), (omega (arith, most), tt)),
+          (
+            (omega (arith, most), (omega (arith, most), tt)),
+            ((first r, in_value (second_at m L.homes) v second), ((omega (arith, most), (omega (arith, most), tt)), h)),
+          ),
+        )))
     in_step (Ld rd rs i) x ts to rest ht h =
         in_load (first_reg m) (L.homes rs) _ (omega arith) ((here rd, first rs), in_finish L rd ts to (way_of m L.used rd) rest reg ht h)
     in_step (Malloc rd us) x ts to rest ht h = ((here rd, in_types us), in_finish L rd ts to (way_of m L.used rd) rest reg ht h)

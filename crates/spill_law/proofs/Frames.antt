@@ -355,9 +355,13 @@ module _ (m : ℕ) where
     home_next p K ρ f j g q gw v e (InSlot i) one two at far so h =
         let same : h.0 ≡ g = same_address (sym h.2 ∙ two) in
         let words : h.1 ≡ gw = same_words (sym h.3 ∙ ap (slice_get K) same ∙ at) in
-        let lt = so.1 in
-        (g, slice_set gw (suc j) v, two, set_same K g gw (slice_set gw (suc j) v) at,
-        set_other gw (suc j) i v (λ z. absurd (omega (arith, z, lt))) ∙ ap (λ y. slice_get y i) (sym words) ∙ h.4)
+        let lt = so.1 in (
+          g,
+          slice_set gw (suc j) v,
+          two,
+          set_same K g gw (slice_set gw (suc j) v) at,
+          set_other gw (suc j) i v (λ z. absurd (omega (arith, z, lt))) ∙ ap (λ y. slice_get y i) (sym words) ∙ h.4,
+        )
 
     next_slot : (p : List ℕ) (x to : TFile) (homes : ℕ → Home) (j n : ℕ) (h : Heap) (r : RegWords) (K : EHeap) (ρ : ERegs) (rd : ℕ) (u : Ty) (k : ESeq) → (m < rd) × (suc j < 1000) →
         Mid p x (record { homes = homes; used = suc j }) (suc n) h r K ρ rd → FitsFile (with_reg (lookup x) rd u) to →

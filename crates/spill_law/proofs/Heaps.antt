@@ -213,4 +213,3 @@ pub word_in : (p : List ℕ) (r : RegWords) (x : TFile) (es : List EWord) (q : �
 word_in p r NoRegs es q t h k = cc
 word_in p r (MoreRegs u s x) [] q t h k = absurd h
 word_in p r (MoreRegs u s x) (e ∷ es) q t h k = word_case p r e es (position (numbers x) q) q u x t s (nat_eq u q) refl h.0 (λ z. word_in p r x es q t h.1 z) k
-

@@ -1,13 +1,17 @@
+pub mod Arriving
 pub mod Computed
 pub mod Erased
 pub mod Few
 pub mod Files
 pub mod Frames
+pub mod Framing
 pub mod Heaps
 pub mod Homes
 pub mod Kept
 pub mod Live
+pub mod Located
 pub mod Lows
+pub mod Matching
 pub mod Meaning
 pub mod Probe
 pub mod Reached

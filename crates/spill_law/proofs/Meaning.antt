@@ -27,7 +27,8 @@ use Rattle.t_rules.specs.Registers.{with_reg}
 use Rattle.spill_law.proofs.Heaps.{image, Images, Heaps, get_there, FrameHas}
 use Rattle.spill_law.proofs.Frames.{Alike, framed}
 use Rattle.spill_law.proofs.Erased.{highs, slots_left}
-use Rattle.spill_law.proofs.Sim.{ELabels, Matches, Seg, Sized, Ending, Follows, follows, tail_sizes, tail_left}
+use Rattle.spill_law.proofs.Matching.{ELabels, Matches, Seg, Sized, Ending, Follows, tail_sizes, tail_left}
+use Rattle.spill_law.proofs.Sim.{follows}
 
 -- sums that compute
 abbrev pub plus : ℕ → ℕ → ℕ

@@ -49,169 +49,10 @@ use Rattle.spill_law.proofs.Heaps.{image, image_address, full_image, images_at, 
 use Rattle.spill_law.proofs.Heaps.{heaps_frame, heaps_tuple, heaps_set, place_below, either, FrameHas}
 use Rattle.spill_law.proofs.Frames.{fits_at, WordAt, Alike, regular_up, alike_regs, alike_frame, alike_tuple, alike_written}
 use Rattle.spill_law.proofs.Frames.{Mid, mid_of, mid_here, framed, frame_words, Finished, finish_at}
-
--- each block of the spilled program, erased, is one further on
-abbrev pub ELabels : ℕ → TProg → List ESeq → Type 0
-ELabels m P B = (l : ℕ) (b : TBlock) → slice_get P.blocks l ≡ Some b →
-    slice_get B (suc l) ≡ Some (erase_seq (code m P (layout m b.file) b.file b.code))
-
--- data tuples are where they were
-abbrev pub Still : TProg → List ℕ → Type 0
-Still P p = (d : ℕ) (x : TData) → slice_get P.heap d ≡ Some x → slice_get p d ≡ Some d
-
-abbrev pub BlocksAscend : TProg → Type 0
-BlocksAscend P = (l : ℕ) (b : TBlock) → slice_get P.blocks l ≡ Some b → Ascends b.file
-
--- the state is typed by the file, and the erased state stands for it
-pub record Matches (m : ℕ) (P : TProg) (s : State) (e : EState) : Type 0 where
-  pub types : HeapTypes
-  pub places : List ℕ
-  pub file : TFile
-  pub lay : Layout
-  pub eheap : EHeap
-  pub eregs : ERegs
-  pub heap : HeapHas P types (heap_of s)
-  pub regs : RegsHave P types (lookup file) (regs_of s)
-  pub acc : SeqAccepted P 0 (lookup file) (code_of s)
-  pub asc : Ascends file
-  pub up : Rises (start_types P) types
-  pub still : Still P places
-  pub alike : Alike m places file lay (slots_left m lay.used (code_of s)) (heap_of s) (regs_of s) eheap eregs
-  pub is : e ≡ EAt eheap eregs (erase_seq (code m P lay file (code_of s)))
-
--- A step to the next instruction is some steps, one at least; a step into a block is some, and then one into its block.
--- `low` is one more than what is left of the code behind the instruction.
-abbrev pub Seg : List ESeq → ℕ → EState → Where → EState → Type 0
-Seg B low e Next f = Moves B e f × (low ≡ suc (esize (seq_of f)))
-Seg B low e (Into l) f =
-    (g : EState) × Walks B e g × (estep B g ≡ Some (EGoes (Into (suc l)) f)) × (low ≤ esize (seq_of g))
-
--- the sizes of the code after a step
-abbrev pub Sized : ℕ → TProg → List ℕ → Where → List ℕ → Type 0
-Sized m P tail Next now = now ≡ tail
-Sized m P tail (Into l) now =
-    (b : TBlock) × (slice_get P.blocks l ≡ Some b) × (now ≡ sizes m P (layout m b.file) b.file b.code)
-
--- the state comes to the end, and halts
-pub record Ending (B : List ESeq) (e : EState) (i : ℤ) : Type 0 where
-  pub eheap : EHeap
-  pub eregs : ERegs
-  pub walks : Walks B e (EAt eheap eregs EHalt)
-  pub answer : eregs 1 ≡ Some (EInt i)
-
-abbrev pub Follows : ℕ → TProg → List ESeq → List ℕ → ℕ → State → EState → Type 0
-Follows m P B tail low s e =
-    ((i : ℤ) × HaltedWith s i × Ending B e i)
-    ⊎ ((k : Where) × (t : State) × (f : EState) × Step P s k t × Seg B low e k f × (a : Matches m P t f) × Sized m P tail k (sizes m P a.lay a.file (code_of t)))
-
-abbrev pub tail_sizes : ℕ → TProg → Layout → TFile → TSeq → List ℕ
-tail_sizes m P L x (Then i c) = sizes m P (after m L i (kept P x i c)) (kept P x i c) c
-tail_sizes m P L x (Ends e) = []
-
-abbrev pub tail_left : ℕ → TProg → Layout → TFile → TSeq → ℕ
-tail_left m P L x (Then i c) = suc (esize (erase_seq (code m P (after m L i (kept P x i c)) (kept P x i c) c)))
-tail_left m P L x (Ends e) = 0
-
-image_applied : (p : List ℕ) (x w : Word) (ts : List Ty) → applied x ts ≡ Some w → image p w ≡ image p x
-image_applied p x w [] e = let s : x ≡ w = cc in ap (image p) (sym s)
-image_applied p (LabelWord l us) w (t ∷ ts) e = let s : LabelWord l (us ++ (t ∷ ts)) ≡ w = cc in ap (image p) (sym s)
-image_applied p (IntWord i) w (t ∷ ts) e = cc
-image_applied p (AddressWord a) w (t ∷ ts) e = cc
-image_applied p (EmptyWord u) w (t ∷ ts) e = cc
-image_applied p (PackWord u x s) w (t ∷ ts) e = cc
-
-ascends_inst : (ts : List Ty) (n : ℕ) (x : TFile) → Ascends x → Ascends (inst_file ts n x)
-ascends_inst [] n x h = h
-ascends_inst (t ∷ ts) n x h = ascends_inst ts (n - 1) (put_file (n - 1) (shift (n - 1) 0 t) x) (ascends_over (putted VarTy over (n - 1) (shift (n - 1) 0 t)) (n - 1) x h)
+use Rattle.spill_law.proofs.Matching.{ELabels, Still, BlocksAscend, Matches, Seg, Sized, Ending, Follows, tail_sizes, tail_left}
+use Rattle.spill_law.proofs.Arriving.{value_in, base_kept, far_from, Arrives, arrives}
 
 module _ (m : ℕ) (some : 1 ≤ m) (P : TProg) (closed : ClosedLabels P) (tuples : ClosedData P) (blocks : (l : ℕ) (b : TBlock) → slice_get P.blocks l ≡ Some b → BlockAccepted P b) (B : List ESeq) (labels : ELabels m P B) (ascend : BlocksAscend P) where
-  -- a value's word, spilled
-  value_in : (p : List ℕ) (r : RegWords) (K : EHeap) (ρ : ERegs) (homes : ℕ → Home) (x : TFile) → Still P p → ((q : ℕ) (t : Ty) → lookup x q ≡ Some t → WordAt m p r K ρ q (homes q)) →
-      (v : TValue) (t : Ty) (w : Word) → Has P 0 (lookup x) v t → Means r v w → (e : EWord) × BaseAt m K ρ homes (erase_value v) e × (image p w ≡ Some e)
-  value_in p r K ρ homes x still has (Plain (Reg q) []) t w h a =
-      let y = has q t h in
-      let z : Some a.0 ≡ Some y.word = sym a.1 ∙ y.known in
-      let same : a.0 ≡ y.word = cc in
-      (y.eword, (y.full, y.home), image_applied p a.0 w [] a.2 ∙ ap (image p) same ∙ y.stands)
-  value_in p r K ρ homes x still has (Plain (Reg q) (u ∷ us)) t w h a =
-      let y = has q (CodeTy h.0 h.1) h.2 in
-      let z : Some a.0 ≡ Some y.word = sym a.1 ∙ y.known in
-      let same : a.0 ≡ y.word = cc in
-      (y.eword, (y.full, y.home), image_applied p a.0 w (u ∷ us) a.2 ∙ ap (image p) same ∙ y.stands)
-  value_in p r K ρ homes x still has (Plain (Int i) ts) t w h a = (EInt i, refl, image_applied p (IntWord i) w ts a)
-  value_in p r K ρ homes x still has (Plain (Label l) ts) t w h a = (ELabel (suc l), refl, ap (image p) a)
-  value_in p r K ρ homes x still has (Plain (Data d) []) t w h a =
-      (EAddress d, refl, image_applied p (AddressWord d) w [] a ∙ ap (option_map EAddress) (still d h.0 h.1))
-  value_in p r K ρ homes x still has (Plain (Data d) (u ∷ us)) t w h a = let e = h.2.2 in cc
-  value_in p r K ρ homes x still has (Pack u v s) t w h a =
-      let y = value_in p r K ρ homes x still has v h.1 a.0 h.2 a.1 in
-      (y.0, y.1, ap (image p) a.2 ∙ y.2)
-
-  base_kept : (σ τ : ERegs) (homes : ℕ → Home) (b : TBase) (w : EWord) → ((q : ℕ) → UpTo m (homes q)) → ((q : ℕ) → (q ≡ second_reg m) ⊎ (q ≤ m) → τ q ≡ σ q) →
-      base_word σ (sp_base (second_at m homes) b) ≡ Some w → base_word τ (sp_base (second_at m homes) b) ≡ Some w
-  base_kept σ τ homes (Reg r) w up s h = s (second_at m homes r) (at_case (second_reg m) m (homes r) (up r)) ∙ h
-  base_kept σ τ homes (Int i) w up s h = h
-  base_kept σ τ homes (Label l) w up s h = h
-  base_kept σ τ homes (Data d) w up s h = h
-
-  far_from : (y x : ℕ) → m < y → y ≢ second_reg m → (x ≡ second_reg m) ⊎ (x ≤ m) → x ≢ y
-  far_from y x lt ne (inl e) z = ne (sym z ∙ e)
-  far_from y x lt ne (inr le) z = absurd (omega (arith, le, lt, z))
-
-  -- where a jump leads
-  record Arrives (p : List ℕ) (h : Heap) (r : RegWords) (K : EHeap) (σ : ERegs) (w : Word) : Type 0 where
-    l : ℕ
-    c : TSeq
-    ec : ESeq
-    entry : Entry P w l c
-    label : image p w ≡ Some (ELabel (suc l))
-    block : slice_get B (suc l) ≡ Some ec
-    there : Matches m P (At h r c) (EAt K σ ec)
-    sized : (b : TBlock) × (slice_get P.blocks l ≡ Some b) × (sizes m P there.lay there.file c ≡ sizes m P (layout m b.file) b.file b.code)
-
-  arrives : (q : HeapTypes) (p : List ℕ) (x file : TFile) (h : Heap) (r : RegWords) (K : EHeap) (σ : ERegs) (w : Word) → HeapHas P q h → RegsHave P q (lookup x) r → Rises (start_types P) q → Still P p →
-      FitsFile (lookup x) file → WordHas P q w (CodeTy 0 file) → ((n : ℕ) → Alike m p file (layout m file) n h r K σ) → Arrives p h r K σ w
-  arrives q p x file h r K σ (IntWord i) heap regs up still fits hw sim = cc
-  arrives q p x file h r K σ (AddressWord a) heap regs up still fits hw sim = let e = hw.3 in cc
-  arrives q p x file h r K σ (EmptyWord u) heap regs up still fits hw sim = absurd hw
-  arrives q p x file h r K σ (PackWord u w s) heap regs up still fits hw sim = let e = hw.2 in let e2 = hw.3 in cc
-  arrives q p x file h r K σ (LabelWord l ts) heap regs up still fits hw sim =
-      let e = hw.3 in
-      let le = hw.2 in
-      let z : 0 ≡ hw.0.owes - length ts = cc in
-      let same : file ≡ inst_file ts hw.0.owes hw.0.file = cc in
-      let all : length ts ≡ hw.0.owes = omega (arith, z, le) in
-      let c = inst_seq ts hw.0.owes hw.0.code in
-      let L = layout m hw.0.file in
-      let n = slots_left m 0 (inst_seq ts hw.0.owes hw.0.code) in
-      let e2 = erased_inst P closed tuples m (layout m hw.0.file) ts hw.0.owes hw.0.file hw.0.code all hw.4 (blocks l hw.0 hw.1).1 in
-      let lays : layout m file ≡ layout m hw.0.file = ap (gathered m) (ap (highs m) same ∙ inst_highs m ts hw.0.owes hw.0.file) in
-      record {
-        l = l;
-        c = c;
-        ec = erase_seq (code m P (layout m hw.0.file) hw.0.file hw.0.code);
-        entry = (ts, hw.0, refl, hw.1, all, refl);
-        label = refl;
-        block = labels l hw.0 hw.1;
-        there = record {
-          types = q;
-          places = p;
-          file = inst_file ts hw.0.owes hw.0.file;
-          lay = layout m hw.0.file;
-          eheap = K;
-          eregs = σ;
-          heap = heap;
-          regs = subst (λ y. RegsHave P q (lookup y) r) same (regs_fit P q (lookup x) file r regs fits);
-          acc = subst (λ g. SeqAccepted P 0 g (inst_seq ts hw.0.owes hw.0.code)) (file_inst ts hw.0.owes hw.0.file) (seq_inst P closed tuples ts hw.0.owes (lookup hw.0.file) hw.0.code all hw.4 (blocks l hw.0 hw.1).1);
-          up = up;
-          still = still;
-          asc = ascends_inst ts hw.0.owes hw.0.file (ascend l hw.0 hw.1);
-          alike = subst (λ y. Alike m p y (layout m hw.0.file) n h r K σ) same (subst (λ k. Alike m p file k n h r K σ) lays (sim n));
-          is = ap (EAt K σ) (sym e2);
-        };
-        sized = (hw.0, hw.1, sizes_inst P closed tuples m (layout m hw.0.file) ts hw.0.owes hw.0.file hw.0.code all hw.4 (blocks l hw.0 hw.1).1);
-      }
-
   module _ (q : HeapTypes) (p : List ℕ) (x : TFile) (L : Layout) (n : ℕ) (h : Heap) (r : RegWords) (K : EHeap) (ρ : ERegs) (heap : HeapHas P q h) (regs : RegsHave P q (lookup x) r) (asc : Ascends x) (begun : Rises (start_types P) q) (still : Still P p) (sim : Alike m p x L n h r K ρ) where
     -- a register's word, at home
     reg_word : (s : ℕ) (t : Ty) → lookup x s ≡ Some t → (w : Word) × (e : EWord) × (r s ≡ Some w) × WordHas P q w t × (image p w ≡ Some e) × Full e × HomeAt m K ρ (L.homes s) e
@@ -243,7 +84,7 @@ module _ (m : ℕ) (some : 1 ≤ m) (P : TProg) (closed : ClosedLabels P) (tuple
         let y = value_has P q (lookup x) r begun regs v IntTy k in
         let i = is_int P q y.0 y.2 in
         let a : Means r v (IntWord i.0) = subst (Means r v) i.1 y.1 in
-        let z = value_in p r K ρ L.homes x still sim.has v IntTy (IntWord i.0) k a in
+        let z = value_in m some P closed tuples blocks B labels ascend p r K ρ L.homes x still sim.has v IntTy (IntWord i.0) k a in
         let e2 = z.2 in
         let e : z.0 ≡ EInt i.0 = cc in
         (i.0, a, subst (BaseAt m K ρ L.homes (erase_value v)) e z.1)
@@ -370,7 +211,7 @@ module _ (m : ℕ) (some : 1 ≤ m) (P : TProg) (closed : ClosedLabels P) (tuple
     mov_case rd v c en k =
         let a = k.1 in
         let y = value_has P q (lookup x) r begun regs v a.0 a.1 in
-        let e = value_in p r K ρ L.homes x still sim.has v a.0 y.0 a.1 y.1 in
+        let e = value_in m some P closed tuples blocks B labels ascend p r K ρ L.homes x still sim.has v a.0 y.0 a.1 y.1 in
         let b = erase_value v in
         let to = kept P x (Mov rd v) c in
         let rest = erase_seq (code m P (after m L (Mov rd v) (kept P x (Mov rd v) c)) (kept P x (Mov rd v) c) c) in
@@ -473,7 +314,7 @@ module _ (m : ℕ) (some : 1 ≤ m) (P : TProg) (closed : ClosedLabels P) (tuple
         let a = k.1 in
         let y = value_has P q (lookup x) r begun regs v (ExistsTy a.0) a.1 in
         let d = is_pack P q y.0 a.0 y.2 in
-        let ev = value_in p r K ρ L.homes x still sim.has v (ExistsTy a.0) y.0 a.1 y.1 in
+        let ev = value_in m some P closed tuples blocks B labels ascend p r K ρ L.homes x still sim.has v (ExistsTy a.0) y.0 a.1 y.1 in
         let im : image p d.1 ≡ Some ev.0 = sym (ap (image p) d.3) ∙ ev.2 in
         let b = erase_value v in
         let left = kept P x (Unpack rd v) c in
@@ -559,7 +400,7 @@ module _ (m : ℕ) (some : 1 ≤ m) (P : TProg) (closed : ClosedLabels P) (tuple
         let xi = reg_int s a.0 in
         let to = a.1.0 in
         let y = value_has P q (lookup x) r begun regs v (CodeTy 0 a.1.0) a.1.1 in
-        let ev = value_in p r K ρ L.homes x still sim.has v (CodeTy 0 a.1.0) y.0 a.1.1 y.1 in
+        let ev = value_in m some P closed tuples blocks B labels ascend p r K ρ L.homes x still sim.has v (CodeTy 0 a.1.0) y.0 a.1.1 y.1 in
         let b = erase_value v in
         let bv = sp_base (second_at m L.homes) b in
         let at1 = at_home (first_reg m) (L.homes s) in
@@ -592,13 +433,13 @@ module _ (m : ℕ) (some : 1 ≤ m) (P : TProg) (closed : ClosedLabels P) (tuple
         far (at_home (first_reg m) (L.homes s)) (at_far (first_reg m) m (frame_reg m) (L.homes s) (up_m s) (λ w. absurd (omega arith)) (omega arith)) (at_far (first_reg m) m (saved_reg m) (L.homes s) (up_m s) (λ w. absurd (omega arith)) (omega arith))
         ∙ F.others (at_home (first_reg m) (L.homes s)) (at_far (first_reg m) m (second_reg m) (L.homes s) (up_m s) (λ w. absurd (omega arith)) (omega arith)) ∙ l.here in
         let here : base_word σ2 (sp_base (second_at m L.homes) b) ≡ Some ev.0 =
-        base_kept F.regs σ2 L.homes b ev.0 up_m (λ z w. far z (far_from (frame_reg m) z (omega arith) (λ g. absurd (omega arith)) w) (far_from (saved_reg m) z (omega arith) (λ g. absurd (omega arith)) w)) F.here in
+        base_kept m some P closed tuples blocks B labels ascend F.regs σ2 L.homes b ev.0 up_m (λ z w. far z (far_from m some P closed tuples blocks B labels ascend (frame_reg m) z (omega arith) (λ g. absurd (omega arith)) w) (far_from m some P closed tuples blocks B labels ascend (saved_reg m) z (omega arith) (λ g. absurd (omega arith)) w)) F.here in
         let low : (z : ℕ) → z ≤ m → σ2 z ≡ ρ z = λ z le. far z (λ w. absurd (omega arith)) (λ w. absurd (omega arith)) ∙ o3 z (omega arith) in
         let one2 : σ2 (frame_reg m) ≡ Some (EAddress (length K)) = look_same σ1 (frame_reg m) new in
         let six : σ2 (saved_reg m) ≡ Some (EAddress sim.f) = look_other σ1 (frame_reg m) (saved_reg m) new (λ w. absurd (omega arith)) ∙ look_same F.regs (saved_reg m) old in
         let runs : Moves B (EAt K ρ (ebuild m L.homes (highs m a.1.0) tail5)) (EAt (K ++ (ws.0 ∷ [])) σ2 tail1) =
         moves_walk B _ _ _ b1.moves (walks_on B _ _ _ l.walks (walks_on B _ _ _ F.walks (walks_on B _ _ _ (walks_step B _ _ s1) (walks_step B _ _ s2)))) in
-        let T = arrives q p x a.1.0 h r (K ++ (ws.0 ∷ [])) σ2 y.0 heap regs begun still a.1.2 y.2 (target_alike a.1.0 ws.0 σ2 a.1.2 ws.2 low one2) in
+        let T = arrives m some P closed tuples blocks B labels ascend q p x a.1.0 h r (K ++ (ws.0 ∷ [])) σ2 y.0 heap regs begun still a.1.2 y.2 (target_alike a.1.0 ws.0 σ2 a.1.2 ws.2 low one2) in
         let result : Follows m P B (sizes m P L x c) (suc (esize (erase_seq (code m P L x c)))) (At h r (Then (Bnz s v) c)) (EAt K ρ (ebuild m L.homes (highs m a.1.0) tail5)) =
         ⊎_elim
         (λ (e : is_zero xi.0 ≡ true).
@@ -652,7 +493,7 @@ module _ (m : ℕ) (some : 1 ≤ m) (P : TProg) (closed : ClosedLabels P) (tuple
     jmp_case : (v : TValue) → SeqAccepted P 0 (lookup x) (Ends (Jmp v)) → Follows m P B [] 0 (At h r (Ends (Jmp v))) (EAt K ρ (eend m L (highs m (end_target P x (Jmp v))) (Jmp v)))
     jmp_case v a =
         let y = value_has P q (lookup x) r begun regs v (CodeTy 0 a.0) a.1 in
-        let ev = value_in p r K ρ L.homes x still sim.has v (CodeTy 0 a.0) y.0 a.1 y.1 in
+        let ev = value_in m some P closed tuples blocks B labels ascend p r K ρ L.homes x still sim.has v (CodeTy 0 a.0) y.0 a.1 y.1 in
         let b = erase_value v in
         let bv = sp_base (second_at m L.homes) b in
         let tail1 = EJmp bv in
@@ -669,10 +510,10 @@ module _ (m : ℕ) (some : 1 ≤ m) (P : TProg) (closed : ClosedLabels P) (tuple
         let σ2 : ERegs = with_reg F.regs (frame_reg m) (EAddress (length K)) in
         let far : (z : ℕ) → z ≢ frame_reg m → σ2 z ≡ F.regs z = λ z g. look_other F.regs (frame_reg m) z new g in
         let here : base_word σ2 (sp_base (second_at m L.homes) b) ≡ Some ev.0 =
-        base_kept F.regs σ2 L.homes b ev.0 up_m (λ z w. far z (far_from (frame_reg m) z (omega arith) (λ g. absurd (omega arith)) w)) F.here in
+        base_kept m some P closed tuples blocks B labels ascend F.regs σ2 L.homes b ev.0 up_m (λ z w. far z (far_from m some P closed tuples blocks B labels ascend (frame_reg m) z (omega arith) (λ g. absurd (omega arith)) w)) F.here in
         let low : (z : ℕ) → z ≤ m → σ2 z ≡ ρ z = λ z le. far z (λ w. absurd (omega arith)) ∙ F.others z (λ w. absurd (omega arith)) ∙ o1 z (omega arith) in
         let one2 : σ2 (frame_reg m) ≡ Some (EAddress (length K)) = look_same F.regs (frame_reg m) new in
-        let T = arrives q p x a.0 h r (K ++ (ws.0 ∷ [])) σ2 y.0 heap regs begun still a.2 y.2 (target_alike a.0 ws.0 σ2 a.2 ws.2 low one2) in
+        let T = arrives m some P closed tuples blocks B labels ascend q p x a.0 h r (K ++ (ws.0 ∷ [])) σ2 y.0 heap regs begun still a.2 y.2 (target_alike a.0 ws.0 σ2 a.2 ws.2 low one2) in
         let e1 = ev.2 in let e2 = T.label in
         let z : Some ev.0 ≡ Some (ELabel (suc T.l)) = sym e1 ∙ e2 in
         let s3 = enter_step B K1 σ2 bv (suc T.l) T.ec (here ∙ z) T.block in

@@ -23,7 +23,7 @@ use Rattle.spill_law.specs.Correct.{origin_in, sizes_of, origin_above, IsPlace, 
 use Rattle.spill_law.proofs.Typed.{kept_types}
 use Rattle.spill_law.proofs.Erased.{esize, step_then, erase_then, slots_left}
 use Rattle.spill_law.proofs.Walks.{walk, on_next, enter_step}
-use Rattle.spill_law.proofs.Sim.{Matches, Seg, Sized, Ending, tail_sizes, tail_left}
+use Rattle.spill_law.proofs.Matching.{Matches, Seg, Sized, Ending, tail_sizes, tail_left}
 use Rattle.spill_law.proofs.Meaning.{plus, plus_is, PState, On, went, so, after, after_on, ahead, trace, walk_runs, halts_last, start_of, run_logged, follow, entered, entered_regs, starts, start_file, start_lay, elabels}
 
 -- how often a place is in a list

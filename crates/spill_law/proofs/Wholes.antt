@@ -215,9 +215,11 @@ module _ (m : ℕ) (fit : m + 6 ≤ max_number) where
       build_well : (homes : ℕ → Home) (to : TFile) (rest : TSeq) → ((r : ℕ) → Near (homes r)) → ((r : ℕ) → IsRegister r → IsRegister (second_at m homes r)) →
           RegsAbove 0 n to → WellFormedSeq p2 q n rest → WellFormedSeq p2 q n (build m homes to rest)
       build_well homes to rest l ok h k =
-          let a = highs_few m n to h in
-          ((own 5 (omega arith) (omega arith), cells_well 0 n (high_part m (sp_regs m to)) (high_above m 0 n (sp_regs m to) (regs_well 0 n to h))), few,
-          fill_well homes 0 (high_part m to) 0 rest l ok (high_above m 0 n to h) (omega (arith, a)) k)
+          let a = highs_few m n to h in (
+            (own 5 (omega arith) (omega arith), cells_well 0 n (high_part m (sp_regs m to)) (high_above m 0 n (sp_regs m to) (regs_well 0 n to h))),
+            few,
+            fill_well homes 0 (high_part m to) 0 rest l ok (high_above m 0 n to h) (omega (arith, a)) k,
+          )
 
       slot_well : (used : ℕ) (ts : List Ty) (rest : TSeq) → used ≤ most_slots → WellFormedTypes n ts → WellFormedSeq p2 q n rest → WellFormedSeq p2 q n (fill_slot m used ts rest)
       slot_well zero ts rest le h k =
@@ -250,9 +252,11 @@ module _ (m : ℕ) (fit : m + 6 ≤ max_number) where
       step_well : (i : TInstr) (n : ℕ) (x : TFile) (ts : List Ty) (to : TFile) (rest : TSeq) → n ≤ max_names → names_after i n ≤ max_names → RegsAbove 0 (names_after i n) to → WellFormedTypes (names_after i n) ts → TargetAbove P n x i →
           WellFormedInstr p q n i → WellFormedSeq p2 q (names_after i n) rest → WellFormedSeq p2 q n (step m P L x i ts to rest)
       step_well (Arith op rd rs v) n x ts to rest few f2 nx ht tg w k =
-          load_well n few (first_reg m) (L.homes rs) _ (own 3 (omega arith) (omega arith)) (near.0 rs) (load_value_well n few L.homes v _ near.0
-          ((into_own rd w.0, first_own rs w.1, value_well n (second_at m L.homes) v (λ r h. second_own L r reg h) w.2), few,
-          finish_well n few L rd ts to (way_of m L.used rd) rest reg near w.0 nx ht k))
+          load_well n few (first_reg m) (L.homes rs) _ (own 3 (omega arith) (omega arith)) (near.0 rs) (load_value_well n few L.homes v _ near.0 (
+            (into_own rd w.0, first_own rs w.1, value_well n (second_at m L.homes) v (λ r h. second_own L r reg h) w.2),
+            few,
+            finish_well n few L rd ts to (way_of m L.used rd) rest reg near w.0 nx ht k,
+          ))
       step_well (Bnz r v) n x ts to rest few f2 nx ht tg w k =
           let c4 = Then (Mov (frame_reg m) (Plain (Reg (saved_reg m)) [])) rest in
           let c3 = Then (Bnz (at_home (first_reg m) (L.homes r)) (sp_value m (second_at m L.homes) v)) c4 in
@@ -347,10 +351,14 @@ module _ (m : ℕ) (fit : m + 6 ≤ max_number) where
       blocks_well : (bs : List TBlock) → WellFormedBlocks p q bs → BlocksAccepted P bs → BlocksFew P bs → WellFormedBlocks p2 q (sp_blocks m P bs)
       blocks_well [] w k f = tt
       blocks_well (b ∷ bs) w k f =
-          let knows = knows_first P b.owes b.file b.code (scoped_ascends b.owes b.file (scoped_regs 0 b.owes b.file w.0.1)) k.0.1 in
-          ((w.0.0, split_well b.owes (sp_regs m b.file) (regs_well 0 b.owes b.file w.0.1),
-          code_well b.code (layout m b.file) b.owes b.file (gathered_regular m (highs m b.file)) (near_gathered m (highs m b.file) (highs_few m b.owes b.file w.0.1)) w.0.0 w.0.1 w.0.2 k.0.1 (kept_few P b.code b.owes b.file b.file knows f.0)),
-          blocks_well bs w.1 k.1 f.1)
+          let knows = knows_first P b.owes b.file b.code (scoped_ascends b.owes b.file (scoped_regs 0 b.owes b.file w.0.1)) k.0.1 in (
+            (
+              w.0.0,
+              split_well b.owes (sp_regs m b.file) (regs_well 0 b.owes b.file w.0.1),
+              code_well b.code (layout m b.file) b.owes b.file (gathered_regular m (highs m b.file)) (near_gathered m (highs m b.file) (highs_few m b.owes b.file w.0.1)) w.0.0 w.0.1 w.0.2 k.0.1 (kept_few P b.code b.owes b.file b.file knows f.0),
+            ),
+            blocks_well bs w.1 k.1 f.1,
+          )
 
     -- data
     no_register : (at : ℕ → ℕ) (v : TValue) → HasNoRegister v → HasNoRegister (sp_value m at v)

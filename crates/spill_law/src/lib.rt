@@ -35,9 +35,7 @@ pub fn meaning_is_kept()
 
 /// Each place comes from a place, and is executed no more often than that is the place of a state.
 pub fn counts_are_kept()
-    ensures {
-        (k : ℕ) (P : TProg) → 8 ≤ k → Whole P → Accepted P → TypesFew P → CountsKept P (spilled k P) (origin k P)
-    }
+    ensures { (k : ℕ) (P : TProg) → 8 ≤ k → Whole P → Accepted P → TypesFew P → CountsKept P (spilled k P) (origin k P) }
 {}
 
 /// Where no pack stands inside a pack, its text has hardly more constructs open than the program's types reach.
@@ -47,9 +45,7 @@ pub fn reach_is_kept()
 
 /// The whole theorem.
 pub fn registers_are_bounded()
-    ensures {
-        (k : ℕ) (P : TProg) → 8 ≤ k → Whole P → Accepted P → TypesFew P → Spills k P (spilled k P) (origin k P)
-    }
+    ensures { (k : ℕ) (P : TProg) → 8 ≤ k → Whole P → Accepted P → TypesFew P → Spills k P (spilled k P) (origin k P) }
 {}
 
 /// A program that has no register above k may stay as it is.

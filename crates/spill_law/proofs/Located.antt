@@ -1,42 +1,26 @@
 -- What typing knows of words at their homes, of slots that are left, and of what an instruction leaves.
-use Rattle.std.proofs.Common.{◌≡◌, ℕ, zero, suc, ◌+◌, ◌-◌, ◌<◌, ◌≤◌, cond, Bool, true, false, List, [], ◌∷◌, ◌++◌, length}
-use Rattle.std.proofs.Common.{map, Option, Some, None, refl, sym, ap, ap₂, ◌∙◌, subst, arith, inl, inr, ◌⊎◌, ⊎_elim, slice_get}
+use Rattle.std.proofs.Common.{◌≡◌, ℕ, zero, suc, ◌+◌, ◌<◌, ◌≤◌, cond, Bool, true, false, List, [], ◌∷◌}
+use Rattle.std.proofs.Common.{Option, Some, None, refl, sym, ap, ◌∙◌, subst, arith, ◌⊎◌, ⊎_elim}
 use Rattle.std.specs.Prelude.{◌≢◌, option_map}
-use Rattle.std.proofs.Math.Path.{fun_ext}
-use Rattle.std.proofs.lemmas.Bool.{cases_lt, cases_eq, lt-ltb, le-ltb}
-use Rattle.std.proofs.lemmas.List.{length-map, length-append}
+use Rattle.std.proofs.lemmas.Bool.{cases_lt, lt-ltb, le-ltb}
 use Rattle.idx_core.specs.Over.{shifted}
-use Rattle.t_types.specs.Tree.{Ty, IntTy, VarTy, CodeTy, ExistsTy, TupleTy, TFile, NoRegs, MoreRegs, TFields, NoFields}
-use Rattle.t_types.specs.Tree.{MoreFields, shift, shift_file, put, Below, BelowFile, BelowTypes}
+use Rattle.t_types.specs.Tree.{Ty, VarTy, TupleTy, TFile, TFields, NoFields}
+use Rattle.t_types.specs.Tree.{MoreFields, shift}
 use Rattle.t_types.specs.Fields.{AField, field, filled, empty_fields}
-use Rattle.t_types.specs.Fits.{Fits, FitsFile, RegTypes, lookup}
-use Rattle.t_types.proofs.FitsLaws.{filled_field, field_over}
-use Rattle.t_terms.specs.Tree.{TBase, Reg, Int, Label, Data, TValue, Plain, Pack, TInstr, Arith, Bnz, Ld, Malloc, Mov}
-use Rattle.t_terms.specs.Tree.{St, Unpack, Jmp, Halt, TSeq, Then, Ends, TBlock, TData, TProg, names_after}
-use Rattle.t_terms.specs.Whole.{WellFormedValue, WellFormedSeq, WellFormedBlocks, Whole}
-use Rattle.t_rules.specs.Registers.{with_reg, raised, no_types}
-use Rattle.t_rules.specs.Rules.{BaseHas, Has, Enters, Typed, SeqAccepted, BlocksAccepted, DataAccepted, HeapAccepted}
-use Rattle.t_rules.specs.Rules.{FirstTakesNothing, Accepted}
-use Rattle.spill_law.specs.Spill.{high_part, frame, cells, frame_reg, slot_reg, first_reg, second_reg, made_reg}
-use Rattle.spill_law.specs.Spill.{saved_reg, sp, sp_regs, sp_fields, sp_file, sp_base, sp_value, ins, or_int, type_of}
-use Rattle.spill_law.specs.Spill.{type_in, field_type, filled_type, hidden_type, target_file, next, reg, numbers, kept}
-use Rattle.spill_law.specs.Spill.{Home, Held, InFrame, InSlot, Layout, homed, position, layout, at_home, load, load_value}
-use Rattle.spill_law.specs.Spill.{second_at, fill, build, gather, defines, into, Way, Stays, Fills, Gathers, way_of, way}
-use Rattle.spill_law.specs.Spill.{after_way, after, slots_by, used_by, slots, fill_slot, finish, step, code, sp_block}
-use Rattle.spill_law.specs.Spill.{sp_blocks, sp_data, entry, spilled_above}
-use Rattle.spill_law.proofs.TypeLaws.{sp_shift, sp_put, sp_inst, fits_sp, field_sp, filled_sp, empty_sp, below_high}
-use Rattle.spill_law.proofs.TypeLaws.{below_cells, below_sp, below_regs, below_types, below_split, data_sp}
-use Rattle.spill_law.proofs.Files.{look_same, look_other, Ascends, lookup_ins, raised_lookup, fits_self, frame_at, high_look, look_sp}
-use Rattle.spill_law.proofs.Files.{high_regs, numbers_regs, fits_high, fits_split, split_low, split_frame, prefix, prefix_more, field_prefix}
-use Rattle.spill_law.proofs.Files.{filled_prefix}
-use Rattle.spill_law.proofs.Computed.{value_is, next_is, ascends_next}
-use Rattle.spill_law.proofs.Live.{kept_fits, kept_accepted, kept_sub}
-use Rattle.spill_law.proofs.Scopes.{ScopedRegs, scoped_regs, scoped_at, below_scoped, LabelsScoped, DataScoped, scoped_next}
-use Rattle.spill_law.proofs.Scopes.{below_regs as below_file, scoped_ascends, scoped_kept, scoped_target, labels_scoped}
-use Rattle.spill_law.proofs.Scopes.{data_scoped}
-use Rattle.spill_law.proofs.Homes.{Sound, Regular, UpTo, sound_up, sound_held, at_case, at_far, into_high, into_low}
-use Rattle.spill_law.proofs.Homes.{into_far, into_other, homed_both, homed_up, WayFits, way_fits}
-use Rattle.spill_law.proofs.Homes.{gathered_regular, way_sound, stored_at, used_is}
+use Rattle.t_types.specs.Fits.{RegTypes, lookup}
+use Rattle.t_types.proofs.FitsLaws.{field_over}
+use Rattle.t_terms.specs.Tree.{Reg, Int, Label, Data, TValue, Plain, Pack}
+use Rattle.t_rules.specs.Registers.{with_reg, raised}
+use Rattle.spill_law.specs.Spill.{high_part, frame, frame_reg, slot_reg, second_reg}
+use Rattle.spill_law.specs.Spill.{sp, sp_regs}
+use Rattle.spill_law.specs.Spill.{reg, numbers}
+use Rattle.spill_law.specs.Spill.{Home, Held, InFrame, InSlot, Layout, homed, position, layout}
+use Rattle.spill_law.specs.Spill.{second_at, into}
+use Rattle.spill_law.proofs.TypeLaws.{sp_shift}
+use Rattle.spill_law.proofs.Files.{look_same, look_other, frame_at, high_look, look_sp}
+use Rattle.spill_law.proofs.Files.{high_regs, numbers_regs}
+use Rattle.spill_law.proofs.Homes.{Sound, Regular, UpTo, sound_up, sound_held, at_case}
+use Rattle.spill_law.proofs.Homes.{into_far, into_other, homed_both}
 
 module _ (m : ℕ) where
   -- a word of the type is at home
@@ -73,13 +57,15 @@ module _ (m : ℕ) where
       go None z y = cc
       go (Some u) z y =
           let s : shift 1 0 u ≡ t = cc in
-          subst (HomeHas (raised g) (homes r)) (sym (sp_shift m 1 0 u) ∙ ap (sp m) s) (home_raised g (homes r) (sp m u) (l r u z))
+          subst (HomeHas (raised g) (homes r)) (sym (sp_shift m 1 0 u)
+          ∙ ap (sp m) s) (home_raised g (homes r) (sp m u) (l r u z))
 
   pub regular_up : (b : ℕ) (L : Layout) → m ≤ b → Regular m L → (r : ℕ) → UpTo b (L.homes r)
   regular_up b L le reg r = sound_up m L.used r b (L.homes r) le (reg r)
 
   -- one up to m is in its place
-  pub low_known : (L : Layout) (k g : RegTypes) → Regular m L → Located L.homes k g → (r : ℕ) (t : Ty) → r ≤ m → k r ≡ Some t →
+  pub low_known : (L : Layout) (k g : RegTypes) → Regular m L → Located L.homes k g → (r : ℕ) (t : Ty) → r ≤ m →
+      k r ≡ Some t →
       g r ≡ Some (sp m t)
   low_known L k g reg l r t le e =
       subst (λ x. HomeHas g x (sp m t)) (sound_held m L.used r (L.homes r) le (reg r)) (l r t e)
@@ -89,17 +75,23 @@ module _ (m : ℕ) where
       ((r : ℕ) (t : Ty) → r ≤ m → k r ≡ Some t → g r ≡ Some (sp m t)) →
       g (frame_reg m) ≡ Some (TupleTy (frame (high_part m (sp_regs m to)))) → Located (layout m to).homes (lookup to) g
   entered_at to k g sub low e r t z = ⊎_elim
-      (λ (h : m < r). subst (λ x. HomeHas g x (sp m t)) (sym (ap (λ b. cond b (InFrame (position (numbers (high_part m to)) r)) (Held r)) (lt-ltb m r h)))
+      (λ (h : m < r). subst (λ x. HomeHas g x (sp m t))
+      (sym (ap (λ b. cond b (InFrame (position (numbers (high_part m to)) r)) (Held r)) (lt-ltb m r h)))
       (frame (high_part m (sp_regs m to)), e, at h))
-      (λ (h : r ≤ m). subst (λ x. HomeHas g x (sp m t)) (sym (ap (λ b. cond b (InFrame (position (numbers (high_part m to)) r)) (Held r)) (le-ltb m r h)))
+      (λ (h : r ≤ m). subst (λ x. HomeHas g x (sp m t))
+      (sym (ap (λ b. cond b (InFrame (position (numbers (high_part m to)) r)) (Held r)) (le-ltb m r h)))
       (low r t h (sub r t z)))
       (cases_lt m r)
     where
-      at : m < r → field (frame (high_part m (sp_regs m to))) (position (numbers (high_part m to)) r) ≡ Some (AField (sp m t) true)
+      at : m < r → field (frame (high_part m (sp_regs m to))) (position (numbers (high_part m to)) r)
+          ≡ Some (AField (sp m t) true)
       at h =
-          let look : lookup (high_part m (sp_regs m to)) r ≡ Some (sp m t) = high_look m (sp_regs m to) r h ∙ look_sp m to r t z in
-          let same : numbers (high_part m (sp_regs m to)) ≡ numbers (high_part m to) = ap numbers (high_regs m m to) ∙ numbers_regs m (high_part m to) in
-          subst (λ (qs : List ℕ). field (frame (high_part m (sp_regs m to))) (position qs r) ≡ Some (AField (sp m t) true)) same
+          let look : lookup (high_part m (sp_regs m to)) r ≡ Some (sp m t) = high_look m (sp_regs m to) r h
+          ∙ look_sp m to r t z in
+          let same : numbers (high_part m (sp_regs m to)) ≡ numbers (high_part m to) = ap numbers (high_regs m m to)
+          ∙ numbers_regs m (high_part m to) in
+          subst (λ (qs : List ℕ). field (frame (high_part m (sp_regs m to))) (position qs r)
+          ≡ Some (AField (sp m t) true)) same
           (frame_at (high_part m (sp_regs m to)) r (sp m t) look)
 
   -- slots that are left
@@ -111,15 +103,18 @@ module _ (m : ℕ) where
   Room zero g ts = Unit {0}
   Room (suc j) g ts = (fs : TFields) × (g (slot_reg m) ≡ Some (TupleTy fs)) × Open fs (suc j) ts
 
-  pub room_same : (used : ℕ) (g h : RegTypes) (ts : List Ty) → h (slot_reg m) ≡ g (slot_reg m) → Room used g ts → Room used h ts
+  pub room_same : (used : ℕ) (g h : RegTypes) (ts : List Ty) → h (slot_reg m) ≡ g (slot_reg m) → Room used g ts →
+      Room used h ts
   room_same zero g h ts e r = tt
   room_same (suc j) g h ts e r = (r.0, e ∙ r.1, r.2)
 
-  pub room_raised : (used : ℕ) (g h : RegTypes) → h (slot_reg m) ≡ g (slot_reg m) → Room used g [] → Room used (raised h) []
+  pub room_raised : (used : ℕ) (g h : RegTypes) → h (slot_reg m) ≡ g (slot_reg m) → Room used g [] →
+      Room used (raised h) []
   room_raised zero g h e r = tt
   room_raised (suc j) g h e r = (_, ap (option_map (shift 1 0)) (e ∙ r.1), tt)
 
-  pub open_more : (u : Ty) (b : Bool) (fs : TFields) (j : ℕ) (ts : List Ty) → Open fs j ts → Open (MoreFields u b fs) (suc j) ts
+  pub open_more : (u : Ty) (b : Bool) (fs : TFields) (j : ℕ) (ts : List Ty) → Open fs j ts →
+      Open (MoreFields u b fs) (suc j) ts
   open_more u b fs j [] h = tt
   open_more u b fs j (t ∷ ts) h = (h.0, open_more u b fs (suc j) ts h.1)
 
@@ -130,17 +125,20 @@ module _ (m : ℕ) where
   pub field_kept : (fs : TFields) (i j : ℕ) (t : Ty) (flag : Bool) → field fs i ≡ Some (AField t flag) →
       (b : Bool) × (field (filled fs j) i ≡ Some (AField t b)) × (flag ≡ true → b ≡ true)
   field_kept NoFields i j t flag e = cc
-  field_kept (MoreFields u x fs) zero zero t flag e = let s : u ≡ t = cc in (true, ap (λ y. Some (AField y true)) s, λ z. refl)
+  field_kept (MoreFields u x fs) zero zero t flag e = let s : u ≡ t = cc in
+      (true, ap (λ y. Some (AField y true)) s, λ z. refl)
   field_kept (MoreFields u x fs) zero (suc j) t flag e = (flag, e, λ z. z)
   field_kept (MoreFields u x fs) (suc i) zero t flag e = (flag, e, λ z. z)
   field_kept (MoreFields u x fs) (suc i) (suc j) t flag e = field_kept fs i j t flag e
 
-  pub field_true : (fs : TFields) (i j : ℕ) (t : Ty) → field fs i ≡ Some (AField t true) → field (filled fs j) i ≡ Some (AField t true)
+  pub field_true : (fs : TFields) (i j : ℕ) (t : Ty) → field fs i ≡ Some (AField t true) →
+      field (filled fs j) i ≡ Some (AField t true)
   field_true fs i j t e = let k = field_kept fs i j t true e in k.1 ∙ ap (λ b. Some (AField t b)) (k.2 refl)
 
   pub open_filled : (fs : TFields) (i j : ℕ) (ts : List Ty) → Open fs j ts → Open (filled fs i) j ts
   open_filled fs i j [] h = tt
-  open_filled fs i j (t ∷ ts) h = let k = field_kept fs j i t h.0.0 h.0.1 in ((k.0, k.1), open_filled fs i (suc j) ts h.1)
+  open_filled fs i j (t ∷ ts) h = let k = field_kept fs j i t h.0.0 h.0.1 in
+      ((k.0, k.1), open_filled fs i (suc j) ts h.1)
 
   -- a register's word is at hand for a value's base
   abbrev pub Loaded : TFile → RegTypes → (ℕ → ℕ) → TValue → Type 0
@@ -153,7 +151,8 @@ module _ (m : ℕ) where
   pub loaded_same : (file : TFile) (g h : RegTypes) (homes : ℕ → Home) (v : TValue) → ((r : ℕ) → UpTo m (homes r)) →
       ((q : ℕ) → (q ≡ second_reg m) ⊎ (q ≤ m) → h q ≡ g q) →
       Loaded file g (second_at m homes) v → Loaded file h (second_at m homes) v
-  loaded_same file g h homes (Plain (Reg r) ts) up s k = λ t x. s (second_at m homes r) (at_case (second_reg m) m (homes r) (up r)) ∙ k t x
+  loaded_same file g h homes (Plain (Reg r) ts) up s k =
+      λ t x. s (second_at m homes r) (at_case (second_reg m) m (homes r) (up r)) ∙ k t x
   loaded_same file g h homes (Plain (Int i) ts) up s k = tt
   loaded_same file g h homes (Plain (Label l) ts) up s k = tt
   loaded_same file g h homes (Plain (Data d) ts) up s k = tt
@@ -164,24 +163,36 @@ module _ (m : ℕ) where
   Defined L rd u k g =
       (g (into m rd) ≡ Some (sp m u)) × ((r : ℕ) (t : Ty) → r ≢ rd → k r ≡ Some t → HomeHas g (L.homes r) (sp m t))
 
-  pub home_set : (used rd r : ℕ) (g : RegTypes) (w : Ty) (x : Home) (t : Ty) → r ≢ rd → Sound m used r x → HomeHas g x t →
+  pub home_set : (used rd r : ℕ) (g : RegTypes) (w : Ty) (x : Home) (t : Ty) → r ≢ rd → Sound m used r x →
+      HomeHas g x t →
       HomeHas (with_reg g (into m rd) w) x t
   home_set used rd r g w (Held q) t ne s e =
       let same = s.0 in
       look_other g (into m rd) q w (λ z. into_other m rd r s.1 ne (sym same ∙ z)) ∙ e
-  home_set used rd r g w (InFrame i) t ne s e =
-      (e.0, look_other g (into m rd) (frame_reg m) w (into_far m rd (frame_reg m) (omega arith) (omega arith)) ∙ e.1, e.2)
-  home_set used rd r g w (InSlot i) t ne s e =
-      (e.0, look_other g (into m rd) (slot_reg m) w (into_far m rd (slot_reg m) (omega arith) (omega arith)) ∙ e.1, e.2)
+  home_set used rd r g w (InFrame i) t ne s e = (
+    e.0,
+    look_other g (into m rd) (frame_reg m) w (into_far m rd (frame_reg m) (omega arith) (omega arith))
+        ∙ e.1,
+    e.2,
+  )
+  home_set used rd r g w (InSlot i) t ne s e = (
+    e.0,
+    look_other g (into m rd) (slot_reg m) w (into_far m rd (slot_reg m) (omega arith) (omega arith))
+        ∙ e.1,
+    e.2,
+  )
 
   pub defined : (L : Layout) (rd : ℕ) (u : Ty) (k g : RegTypes) → Regular m L → Located L.homes k g →
       Defined L rd u k (with_reg g (into m rd) (sp m u))
-  defined L rd u k g reg l =
-      (look_same g (into m rd) (sp m u), λ r t ne e. home_set L.used rd r g (sp m u) (L.homes r) (sp m t) ne (reg r) (l r t e))
+  defined L rd u k g reg l = (
+    look_same g (into m rd) (sp m u),
+    λ r t ne e. home_set L.used rd r g (sp m u) (L.homes r) (sp m t) ne (reg r) (l r t e),
+  )
 
   -- so with the register's home set
   pub defined_at : (L : Layout) (rd : ℕ) (u : Ty) (k k2 g : RegTypes) (x : Home) → HomeHas g x (sp m u) →
-      ((r : ℕ) (t : Ty) → r ≢ rd → k r ≡ Some t → HomeHas g (L.homes r) (sp m t)) → k2 ≡ with_reg k rd u → Located (homed L.homes rd x) k2 g
+      ((r : ℕ) (t : Ty) → r ≢ rd → k r ≡ Some t → HomeHas g (L.homes r) (sp m t)) → k2 ≡ with_reg k rd u →
+      Located (homed L.homes rd x) k2 g
   defined_at L rd u k k2 g x here old same r t e =
       homed_both L.homes rd r x (λ y. HomeHas g y (sp m t))
       (λ q.

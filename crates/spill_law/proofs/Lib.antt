@@ -13,8 +13,8 @@ pub mod Located
 pub mod Lows
 pub mod Matching
 pub mod Meaning
-pub mod Probe
 pub mod Reached
+pub mod Rows
 pub mod Scopes
 pub mod Sim
 pub mod Small

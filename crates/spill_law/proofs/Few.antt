@@ -1,19 +1,22 @@
 -- No register of what is spilled is above the bound.
-use Rattle.std.proofs.Common.{◌≡◌, ℕ, zero, suc, ◌+◌, ◌<◌, ◌≤◌, nat_lt, Bool, true, false, List, [], ◌∷◌, map, refl, sym}
-use Rattle.std.proofs.Common.{◌∙◌, subst, arith, inl, inr, ◌⊎◌, ⊎_elim}
+use Rattle.std.proofs.Common.{◌≡◌, ℕ, zero, suc, ◌+◌, ◌<◌, ◌≤◌, nat_lt, Bool, true, false, List, [], ◌∷◌, map, refl}
+use Rattle.std.proofs.Common.{sym}
+use Rattle.std.proofs.Common.{◌∙◌, arith, inl, inr, ◌⊎◌}
 use Rattle.std.proofs.lemmas.Bool.{cases_lt, lt-ltb}
 use Rattle.t_types.specs.Tree.{Ty, IntTy, VarTy, CodeTy, ExistsTy, TupleTy, TFile, NoRegs, MoreRegs, TFields, NoFields}
 use Rattle.t_types.specs.Tree.{MoreFields}
 use Rattle.t_types.specs.Fits.{lookup}
-use Rattle.t_terms.specs.Tree.{Reg, Int, Label, Data, TValue, Plain, Pack, TInstr, Arith, Bnz, Ld, Malloc, Mov, St, Unpack}
+use Rattle.t_terms.specs.Tree.{Reg, Int, Label, Data, TValue, Plain, Pack, TInstr, Arith, Bnz, Ld, Malloc, Mov, St}
+use Rattle.t_terms.specs.Tree.{Unpack}
 use Rattle.t_terms.specs.Tree.{Jmp, Halt, TSeq, Then, Ends, TBlock, TData, TProg}
-use Rattle.spill_law.specs.Spill.{frame_reg, slot_reg, first_reg, second_reg, made_reg, saved_reg, with_if, without_if}
+use Rattle.spill_law.specs.Spill.{frame_reg, first_reg, second_reg, with_if, without_if}
 use Rattle.spill_law.specs.Spill.{high_part, low_part, frame, cells, split, sp, sp_regs, sp_fields, sp_value, type_of}
-use Rattle.spill_law.specs.Spill.{target_file, next, numbers, kept, or_int, Home, Held, InFrame, InSlot, Layout, homed, layout}
+use Rattle.spill_law.specs.Spill.{target_file, next, numbers, kept, or_int, Home, Held, InFrame, InSlot, Layout, homed}
+use Rattle.spill_law.specs.Spill.{layout}
 use Rattle.spill_law.specs.Spill.{at_home, load, load_value, second_at, fill, build, defines, into, Way, Stays, Fills}
 use Rattle.spill_law.specs.Spill.{Gathers, way_of, way, after, slots_by, used_by, slots, fill_slot, finish, step, code}
 use Rattle.spill_law.specs.Spill.{sp_blocks, sp_data, spilled_above}
-use Rattle.spill_law.specs.Bound.{InType, InFile, InFields, InTypes, InValue, InInstr, InSeq, InBlocks, InData, InHeap}
+use Rattle.spill_law.specs.Bound.{InType, InFile, InFields, InTypes, InValue, InSeq, InBlocks, InData, InHeap}
 use Rattle.spill_law.specs.Bound.{RegistersUpTo}
 use Rattle.spill_law.proofs.Homes.{Regular, UpTo, sound_up, homed_up, into_most, gathered_regular, way_sound}
 use Rattle.spill_law.proofs.Erased.{highs}
@@ -102,21 +105,28 @@ module _ (k m : ℕ) (most : m + 6 ≤ k) where
   in_load_value homes (Plain (Data d) ts) rest h = h
   in_load_value homes (Pack t v s) rest h = in_load_value homes v rest h
 
-  in_fill : (homes : ℕ → Home) (qs : List ℕ) (j : ℕ) (rest : TSeq) → ((r : ℕ) → UpTo (m + 3) (homes r)) → InSeq k rest → InSeq k (fill m homes qs j rest)
+  in_fill : (homes : ℕ → Home) (qs : List ℕ) (j : ℕ) (rest : TSeq) → ((r : ℕ) → UpTo (m + 3) (homes r)) →
+      InSeq k rest → InSeq k (fill m homes qs j rest)
   in_fill homes [] j rest up h = h
   in_fill homes (q ∷ qs) j rest up h =
-      in_load (second_reg m) (homes q) _ (omega arith)
-      ((omega (arith, most), at_most (second_reg m) (homes q) (omega arith) (up q)), in_fill homes qs (suc j) rest up h)
+      in_load (second_reg m) (homes q) _ (omega arith) (
+        (omega (arith, most), at_most (second_reg m) (homes q) (omega arith) (up q)),
+        in_fill homes qs (suc j) rest up h,
+      )
 
-  in_build : (homes : ℕ → Home) (to : TFile) (rest : TSeq) → ((r : ℕ) → UpTo (m + 3) (homes r)) → InSeq k rest → InSeq k (build m homes to rest)
-  in_build homes to rest up h =
-      ((omega (arith, most), in_cells (high_part m (sp_regs m to)) (each_high (sp_regs m to) (in_regs to))), in_fill homes (numbers (high_part m to)) 0 rest up h)
+  in_build : (homes : ℕ → Home) (to : TFile) (rest : TSeq) → ((r : ℕ) → UpTo (m + 3) (homes r)) → InSeq k rest →
+      InSeq k (build m homes to rest)
+  in_build homes to rest up h = (
+    (omega (arith, most), in_cells (high_part m (sp_regs m to)) (each_high (sp_regs m to) (in_regs to))),
+    in_fill homes (numbers (high_part m to)) 0 rest up h,
+  )
 
   in_slot : (used : ℕ) (ts : List Ty) (rest : TSeq) → InTypes k ts → InSeq k rest → InSeq k (fill_slot m used ts rest)
   in_slot zero ts rest ht h = ((omega (arith, most), ht), ((omega (arith, most), omega (arith, most)), h))
   in_slot (suc j) ts rest ht h = ((omega (arith, most), omega (arith, most)), h)
 
-  in_finish : (L : Layout) (rd : ℕ) (ts : List Ty) (to : TFile) (w : Way) (rest : TSeq) → Regular m L → InTypes k ts → InSeq k rest → InSeq k (finish m L rd ts to w rest)
+  in_finish : (L : Layout) (rd : ℕ) (ts : List Ty) (to : TFile) (w : Way) (rest : TSeq) → Regular m L → InTypes k ts →
+      InSeq k rest → InSeq k (finish m L rd ts to w rest)
   in_finish L rd ts to Stays rest reg ht h = h
   in_finish L rd ts to Fills rest reg ht h = in_slot L.used ts rest ht h
   in_finish L rd ts to Gathers rest reg ht h =
@@ -130,7 +140,8 @@ module _ (k m : ℕ) (most : m + 6 ≤ k) where
 
   in_slots : (P : TProg) (c : TSeq) (used : ℕ) (x : TFile) → InTypes k (slots m P used x c)
   in_slots P (Then i c) used x =
-      by_in (way m used i) _ _ (in_type (or_int (lookup (next P x i) (defines i)))) (in_slots P c (used_by (way m used i) used) (kept P x i c))
+      by_in (way m used i) _ _ (in_type (or_int (lookup (next P x i) (defines i))))
+      (in_slots P c (used_by (way m used i) used) (kept P x i c))
   in_slots P (Ends e) used x = tt
 
   module _ (P : TProg) (L : Layout) (reg : Regular m L) where
@@ -146,24 +157,43 @@ module _ (k m : ℕ) (most : m + 6 ≤ k) where
     here : (rd : ℕ) → into m rd ≤ k
     here rd = let a = into_most m rd in omega (arith, a, most)
 
-    in_step : (i : TInstr) (x : TFile) (ts : List Ty) (to : TFile) (rest : TSeq) → InTypes k ts → InSeq k rest → InSeq k (step m P L x i ts to rest)
+    in_step : (i : TInstr) (x : TFile) (ts : List Ty) (to : TFile) (rest : TSeq) → InTypes k ts → InSeq k rest →
+        InSeq k (step m P L x i ts to rest)
     in_step (Arith op rd rs v) x ts to rest ht h =
-        in_load (first_reg m) (L.homes rs) _ (omega arith) (in_load_value L.homes v _
-        ((here rd, first rs, in_value (second_at m L.homes) v second), in_finish L rd ts to (way_of m L.used rd) rest reg ht h))
+        in_load (first_reg m) (L.homes rs) _ (omega arith) (in_load_value L.homes v _ (
+          (here rd, first rs, in_value (second_at m L.homes) v second),
+          in_finish L rd ts to (way_of m L.used rd) rest reg ht h,
+        ))
     in_step (Bnz r v) x ts to rest ht h =
-        in_build L.homes (target_file (type_of P x v)) _ up (in_load (first_reg m) (L.homes r) _ (omega arith) (in_load_value L.homes v _
-        ((omega (arith, most), (omega (arith, most), tt)), ((omega (arith, most), (omega (arith, most), tt)),
-        ((first r, in_value (second_at m L.homes) v second), ((omega (arith, most), (omega (arith, most), tt)), h))))))
+        in_build L.homes (target_file (type_of P x v)) _ up
+        (in_load (first_reg m) (L.homes r) _ (omega arith) (in_load_value L.homes v _ (
+          (omega (arith, most), (omega (arith, most), tt)),
+          (
+            (omega (arith, most), (omega (arith, most), tt)),
+            (
+              (first r, in_value (second_at m L.homes) v second),
+              ((omega (arith, most), (omega (arith, most), tt)), h),
+            ),
+          ),
+        )))
     in_step (Ld rd rs i) x ts to rest ht h =
-        in_load (first_reg m) (L.homes rs) _ (omega arith) ((here rd, first rs), in_finish L rd ts to (way_of m L.used rd) rest reg ht h)
-    in_step (Malloc rd us) x ts to rest ht h = ((here rd, in_types us), in_finish L rd ts to (way_of m L.used rd) rest reg ht h)
+        in_load (first_reg m) (L.homes rs) _ (omega arith)
+        ((here rd, first rs), in_finish L rd ts to (way_of m L.used rd) rest reg ht h)
+    in_step (Malloc rd us) x ts to rest ht h =
+        ((here rd, in_types us), in_finish L rd ts to (way_of m L.used rd) rest reg ht h)
     in_step (Mov rd v) x ts to rest ht h =
-        in_load_value L.homes v _ ((here rd, in_value (second_at m L.homes) v second), in_finish L rd ts to (way_of m L.used rd) rest reg ht h)
+        in_load_value L.homes v _ (
+          (here rd, in_value (second_at m L.homes) v second),
+          in_finish L rd ts to (way_of m L.used rd) rest reg ht h,
+        )
     in_step (St rd i rs) x ts to rest ht h =
         in_load (first_reg m) (L.homes rd) _ (omega arith) (in_load (second_reg m) (L.homes rs) _ (omega arith)
         ((here rd, second rs), in_finish L rd ts to (way_of m L.used rd) rest reg ht h))
     in_step (Unpack rd v) x ts to rest ht h =
-        in_load_value L.homes v _ ((here rd, in_value (second_at m L.homes) v second), in_finish L rd ts to Gathers rest reg ht h)
+        in_load_value L.homes v _ (
+          (here rd, in_value (second_at m L.homes) v second),
+          in_finish L rd ts to Gathers rest reg ht h,
+        )
 
   in_code : (P : TProg) (c : TSeq) (L : Layout) (x : TFile) → Regular m L → InSeq k (code m P L x c)
   in_code P (Then i c) L x reg =
@@ -176,8 +206,11 @@ module _ (k m : ℕ) (most : m + 6 ≤ k) where
 
   in_blocks : (P : TProg) (bs : List TBlock) → InBlocks k (sp_blocks m P bs)
   in_blocks P [] = tt
-  in_blocks P (b ∷ bs) =
-      (in_split (sp_regs m b.file) (in_regs b.file), in_code P b.code (layout m b.file) b.file (gathered_regular m (highs m b.file)), in_blocks P bs)
+  in_blocks P (b ∷ bs) = (
+    in_split (sp_regs m b.file) (in_regs b.file),
+    in_code P b.code (layout m b.file) b.file (gathered_regular m (highs m b.file)),
+    in_blocks P bs,
+  )
 
   in_data : (xs : TData) → InData k (sp_data m xs)
   in_data [] = tt

@@ -1,5 +1,6 @@
 -- Files: registers in ascending order, a type put in, and frames.
-use Rattle.std.proofs.Common.{◌≡◌, ℕ, suc, ◌<◌, ◌≤◌, nat_eq, nat_lt, cond, Bool, true, false, List, [], ◌∷◌, ◌++◌, length, Option, Some, None, refl, sym, ap, ap₂, ◌∙◌, subst, arith, inl, inr, ◌⊎◌}
+use Rattle.std.proofs.Common.{◌≡◌, ℕ, suc, ◌<◌, ◌≤◌, nat_eq, nat_lt, cond, Bool, true, false, List, [], ◌∷◌, ◌++◌}
+use Rattle.std.proofs.Common.{length, Option, Some, None, refl, sym, ap, ap₂, ◌∙◌, subst, arith, inl, inr, ◌⊎◌}
 use Rattle.std.specs.Prelude.{◌≢◌, option_map}
 use Rattle.std.proofs.Math.Path.{fun_ext}
 use Rattle.std.proofs.lemmas.Bool.{eq-eqb, eqb-true, ne_eqb, cases_lt, cases_eq, lt-ltb, le-ltb}
@@ -8,9 +9,9 @@ use Rattle.t_types.specs.Tree.{Ty, TupleTy, TFile, NoRegs, MoreRegs, TFields, Mo
 use Rattle.t_types.specs.Fields.{AField, field, filled}
 use Rattle.t_types.specs.Fits.{FitsFile, RegTypes, lookup}
 use Rattle.t_rules.specs.Registers.{with_reg, raised}
-use Rattle.t_types.specs.Fits.{Fits}
-use Rattle.spill_law.specs.Spill.{sp, sp_regs, frame, cells, with_if, without_if, high_part, low_part, split, frame_reg, numbers, position, ins}
-use Rattle.spill_law.proofs.TypeLaws.{fits_sp, high_over}
+use Rattle.spill_law.specs.Spill.{sp, sp_regs, frame, with_if, without_if, high_part, low_part, split, frame_reg}
+use Rattle.spill_law.specs.Spill.{numbers, position, ins}
+use Rattle.spill_law.proofs.TypeLaws.{fits_sp}
 
 pub look_same : {A : Type 0} (g : ℕ → Option A) (r : ℕ) (t : A) → with_reg g r t r ≡ Some t
 look_same g r t = ap (λ b. cond b (Some t) (g r)) (eq-eqb r r refl)
@@ -44,17 +45,21 @@ case_of r q = go (cases_lt r q) (cases_lt q r)
     go (inr a) (inr b) = let e : r ≡ q = omega arith in inr (inl e)
 
 pub ins_less : (r q : ℕ) (t u : Ty) (x : TFile) → r < q → ins r t (MoreRegs q u x) ≡ MoreRegs r t (MoreRegs q u x)
-ins_less r q t u x h = ap (λ b. cond b (MoreRegs r t (MoreRegs q u x)) (cond (nat_eq r q) (MoreRegs r t x) (MoreRegs q u (ins r t x)))) (lt-ltb r q h)
+ins_less r q t u x h =
+    ap (λ b. cond b (MoreRegs r t (MoreRegs q u x)) (cond (nat_eq r q) (MoreRegs r t x) (MoreRegs q u (ins r t x))))
+    (lt-ltb r q h)
 
 pub ins_same : (r q : ℕ) (t u : Ty) (x : TFile) → r ≡ q → ins r t (MoreRegs q u x) ≡ MoreRegs r t x
 ins_same r q t u x h =
     let no : q ≤ r = omega arith in
-    ap₂ (λ b c. cond b (MoreRegs r t (MoreRegs q u x)) (cond c (MoreRegs r t x) (MoreRegs q u (ins r t x)))) (le-ltb r q no) (eq-eqb r q h)
+    ap₂ (λ b c. cond b (MoreRegs r t (MoreRegs q u x)) (cond c (MoreRegs r t x) (MoreRegs q u (ins r t x))))
+    (le-ltb r q no) (eq-eqb r q h)
 
 pub ins_more : (r q : ℕ) (t u : Ty) (x : TFile) → q < r → ins r t (MoreRegs q u x) ≡ MoreRegs q u (ins r t x)
 ins_more r q t u x h =
     let no : q ≤ r = omega arith in
-    ap₂ (λ b c. cond b (MoreRegs r t (MoreRegs q u x)) (cond c (MoreRegs r t x) (MoreRegs q u (ins r t x)))) (le-ltb r q no) (ne_eqb r q (λ e. absurd (omega arith)))
+    ap₂ (λ b c. cond b (MoreRegs r t (MoreRegs q u x)) (cond c (MoreRegs r t x) (MoreRegs q u (ins r t x))))
+    (le-ltb r q no) (ne_eqb r q (λ e. absurd (omega arith)))
 
 pub rises_ins : (low r : ℕ) (t : Ty) (x : TFile) → low < r → RisesFrom low x → RisesFrom low (ins r t x)
 rises_ins low r t NoRegs lt h = (lt, tt)
@@ -62,7 +67,8 @@ rises_ins low r t (MoreRegs q u x) lt h = go (λ a. rises_ins q r t x a h.1) (ca
   where
     go : (q < r → RisesFrom q (ins r t x)) → CaseOf r q → RisesFrom low (ins r t (MoreRegs q u x))
     go f (inl a) = subst (RisesFrom low) (sym (ins_less r q t u x a)) (lt, (a, h.1))
-    go f (inr (inl a)) = subst (RisesFrom low) (sym (ins_same r q t u x a)) (lt, subst (λ z. RisesFrom z x) (sym a) h.1)
+    go f (inr (inl a)) =
+        subst (RisesFrom low) (sym (ins_same r q t u x a)) (lt, subst (λ z. RisesFrom z x) (sym a) h.1)
     go f (inr (inr a)) = subst (RisesFrom low) (sym (ins_more r q t u x a)) (h.0, f a)
 
 pub ascends_ins : (r : ℕ) (t : Ty) (x : TFile) → Ascends x → Ascends (ins r t x)
@@ -104,7 +110,8 @@ ins_at r t (MoreRegs q u x) p = go (ins_at r t x p) (case_of r q)
         no (inl x) (inr y) = let f : false ≡ true = sym (ne_eqb r p y) ∙ b in cc
         no (inr x) y = let f : false ≡ true = sym (ne_eqb q p x) ∙ a in cc
 
-    go : lookup (ins r t x) p ≡ with_reg (lookup x) r t p → CaseOf r q → lookup (ins r t (MoreRegs q u x)) p ≡ with_reg (lookup (MoreRegs q u x)) r t p
+    go : lookup (ins r t x) p ≡ with_reg (lookup x) r t p → CaseOf r q →
+        lookup (ins r t (MoreRegs q u x)) p ≡ with_reg (lookup (MoreRegs q u x)) r t p
     go f (inl a) = ap (λ y. lookup y p) (ins_less r q t u x a)
     go f (inr (inl a)) =
         ap (λ y. lookup y p) (ins_same r q t u x a)
@@ -122,7 +129,8 @@ raised_at : (x : TFile) (q : ℕ) → raised (lookup x) q ≡ lookup (shift_file
 raised_at NoRegs q = refl
 raised_at (MoreRegs r t x) q = both (nat_eq r q) (lookup x q) (raised_at x q)
   where
-    both : (b : Bool) (o : Option Ty) → option_map (shift 1 0) o ≡ lookup (shift_file 1 0 x) q → option_map (shift 1 0) (cond b (Some t) o) ≡ cond b (Some (shift 1 0 t)) (lookup (shift_file 1 0 x) q)
+    both : (b : Bool) (o : Option Ty) → option_map (shift 1 0) o ≡ lookup (shift_file 1 0 x) q →
+        option_map (shift 1 0) (cond b (Some t) o) ≡ cond b (Some (shift 1 0 t)) (lookup (shift_file 1 0 x) q)
     both true o e = refl
     both false o e = e
 
@@ -130,7 +138,8 @@ pub raised_lookup : (x : TFile) → raised (lookup x) ≡ lookup (shift_file 1 0
 raised_lookup x = fun_ext (λ q. raised_at x q)
 
 -- a file fits itself
-fits_more : (g : RegTypes) (r : ℕ) (t : Ty) (low : ℕ) (x : TFile) → r ≤ low → RisesFrom low x → FitsFile g x → FitsFile (with_reg g r t) x
+fits_more : (g : RegTypes) (r : ℕ) (t : Ty) (low : ℕ) (x : TFile) → r ≤ low → RisesFrom low x → FitsFile g x →
+    FitsFile (with_reg g r t) x
 fits_more g r t low NoRegs le h k = tt
 fits_more g r t low (MoreRegs q u x) le h k =
     let lt = h.0 in
@@ -139,8 +148,10 @@ fits_more g r t low (MoreRegs q u x) le h k =
 
 pub fits_self : (x : TFile) → Ascends x → FitsFile (lookup x) x
 fits_self NoRegs h = tt
-fits_self (MoreRegs r t x) h =
-    ((t, look_same (lookup x) r t, inl refl), fits_more (lookup x) r t r x (omega arith) h (fits_self x (rises_ascends r x h)))
+fits_self (MoreRegs r t x) h = (
+  (t, look_same (lookup x) r t, inl refl),
+  fits_more (lookup x) r t r x (omega arith) h (fits_self x (rises_ascends r x h)),
+)
 
 -- a register's field in a frame
 frame_case : (q : ℕ) (u : Ty) (x : TFile) (r : ℕ) (t : Ty) (b : Bool) →
@@ -156,7 +167,8 @@ frame_at NoRegs r t e = cc
 frame_at (MoreRegs q u x) r t e = frame_case q u x r t (nat_eq q r) (λ k. frame_at x r t k) e
 
 -- the parts of a file
-with_look : (b : Bool) (q : ℕ) (u : Ty) (x y : TFile) (r : ℕ) → lookup x r ≡ lookup y r → (nat_eq q r ≡ true → b ≡ true) →
+with_look : (b : Bool) (q : ℕ) (u : Ty) (x y : TFile) (r : ℕ) → lookup x r ≡ lookup y r →
+    (nat_eq q r ≡ true → b ≡ true) →
     lookup (with_if b q u x) r ≡ cond (nat_eq q r) (Some u) (lookup y r)
 with_look true q u x y r e k = ap (cond (nat_eq q r) (Some u)) e
 with_look false q u x y r e k = go (nat_eq q r) k
@@ -171,7 +183,8 @@ high_look m (MoreRegs q u x) r lt =
     with_look (nat_lt m q) q u (high_part m x) x r (high_look m x r lt)
     (λ e. let s = eqb-true q r e in lt-ltb m q (omega (arith, s, lt)))
 
-without_look : (b : Bool) (q : ℕ) (u : Ty) (x y : TFile) (r : ℕ) → lookup x r ≡ lookup y r → (nat_eq q r ≡ true → b ≡ false) →
+without_look : (b : Bool) (q : ℕ) (u : Ty) (x y : TFile) (r : ℕ) → lookup x r ≡ lookup y r →
+    (nat_eq q r ≡ true → b ≡ false) →
     lookup (without_if b q u x) r ≡ cond (nat_eq q r) (Some u) (lookup y r)
 without_look false q u x y r e k = ap (cond (nat_eq q r) (Some u)) e
 without_look true q u x y r e k = go (nat_eq q r) k
@@ -196,7 +209,8 @@ low_past : (m : ℕ) (x y : TFile) (r : ℕ) → m < r → lookup (low_part m x 
 low_past m NoRegs y r lt = refl
 low_past m (MoreRegs q u x) y r lt = go (nat_lt m q) refl (low_past m x y r lt)
   where
-    go : (b : Bool) → nat_lt m q ≡ b → lookup (low_part m x y) r ≡ lookup y r → lookup (without_if b q u (low_part m x y)) r ≡ lookup y r
+    go : (b : Bool) → nat_lt m q ≡ b → lookup (low_part m x y) r ≡ lookup y r →
+        lookup (without_if b q u (low_part m x y)) r ≡ lookup y r
     go true k e = e
     go false k e = ap (λ c. cond c (Some u) (lookup (low_part m x y) r)) (ne_eqb q r (λ s. apart s (cases_lt m q))) ∙ e
       where
@@ -222,7 +236,8 @@ regs_look m (MoreRegs q u x) r = go (nat_eq q r) (regs_look m x r)
 pub look_sp : (m : ℕ) (x : TFile) (r : ℕ) (t : Ty) → lookup x r ≡ Some t → lookup (sp_regs m x) r ≡ Some (sp m t)
 look_sp m x r t e = regs_look m x r ∙ ap (option_map (sp m)) e
 
-with_regs : (m : ℕ) (b : Bool) (r : ℕ) (t : Ty) (x : TFile) → sp_regs m (with_if b r t x) ≡ with_if b r (sp m t) (sp_regs m x)
+with_regs : (m : ℕ) (b : Bool) (r : ℕ) (t : Ty) (x : TFile) →
+    sp_regs m (with_if b r t x) ≡ with_if b r (sp m t) (sp_regs m x)
 with_regs m true r t x = refl
 with_regs m false r t x = refl
 
@@ -244,12 +259,14 @@ fits_high g m (MoreRegs r t x) h = go (nat_lt m r) (fits_high g m x h.1)
     go true k = (h.0, k)
     go false k = k
 
-fits_low : (m : ℕ) (k g : RegTypes) (x y : TFile) → ((r : ℕ) (t : Ty) → r ≤ m → k r ≡ Some t → g r ≡ Some (sp m t)) → FitsFile k x →
+fits_low : (m : ℕ) (k g : RegTypes) (x y : TFile) → ((r : ℕ) (t : Ty) → r ≤ m → k r ≡ Some t → g r ≡ Some (sp m t)) →
+    FitsFile k x →
     FitsFile g y → FitsFile g (low_part m (sp_regs m x) y)
 fits_low m k g NoRegs y low h f = f
 fits_low m k g (MoreRegs r t x) y low h f = go (nat_lt m r) refl (fits_low m k g x y low h.1 f)
   where
-    go : (b : Bool) → nat_lt m r ≡ b → FitsFile g (low_part m (sp_regs m x) y) → FitsFile g (without_if b r (sp m t) (low_part m (sp_regs m x) y))
+    go : (b : Bool) → nat_lt m r ≡ b → FitsFile g (low_part m (sp_regs m x) y) →
+        FitsFile g (without_if b r (sp m t) (low_part m (sp_regs m x) y))
     go true e z = z
     go false e z = ((sp m h.0.0, low r h.0.0 (below (cases_lt m r)) h.0.1, fits_sp m h.0.0 t h.0.2), z)
       where
@@ -258,7 +275,8 @@ fits_low m k g (MoreRegs r t x) y low h f = go (nat_lt m r) refl (fits_low m k g
         below (inr a) = a
 
 -- what is known of the registers up to m and of the frame
-pub fits_split : (m : ℕ) (k g : RegTypes) (x : TFile) → ((r : ℕ) (t : Ty) → r ≤ m → k r ≡ Some t → g r ≡ Some (sp m t)) → FitsFile k x →
+pub fits_split : (m : ℕ) (k g : RegTypes) (x : TFile) →
+    ((r : ℕ) (t : Ty) → r ≤ m → k r ≡ Some t → g r ≡ Some (sp m t)) → FitsFile k x →
     g (frame_reg m) ≡ Some (TupleTy (frame (high_part m (sp_regs m x)))) → FitsFile g (split m (sp_regs m x))
 fits_split m k g x low h e =
     fits_low m k g x (MoreRegs (frame_reg m) (TupleTy (frame (high_part m (sp_regs m x)))) NoRegs) low h
@@ -269,14 +287,17 @@ abbrev pub prefix : List Ty → TFields → TFields
 prefix [] fs = fs
 prefix (t ∷ ts) fs = MoreFields t true (prefix ts fs)
 
-pub prefix_more : (ts : List Ty) (t : Ty) (fs : TFields) → prefix (ts ++ (t ∷ [])) fs ≡ prefix ts (MoreFields t true fs)
+pub prefix_more : (ts : List Ty) (t : Ty) (fs : TFields) →
+    prefix (ts ++ (t ∷ [])) fs ≡ prefix ts (MoreFields t true fs)
 prefix_more [] t fs = refl
 prefix_more (u ∷ ts) t fs = ap (MoreFields u true) (prefix_more ts t fs)
 
-pub field_prefix : (ts : List Ty) (t : Ty) (b : Bool) (fs : TFields) → field (prefix ts (MoreFields t b fs)) (length ts) ≡ Some (AField t b)
+pub field_prefix : (ts : List Ty) (t : Ty) (b : Bool) (fs : TFields) →
+    field (prefix ts (MoreFields t b fs)) (length ts) ≡ Some (AField t b)
 field_prefix [] t b fs = refl
 field_prefix (u ∷ ts) t b fs = field_prefix ts t b fs
 
-pub filled_prefix : (ts : List Ty) (t : Ty) (b : Bool) (fs : TFields) → filled (prefix ts (MoreFields t b fs)) (length ts) ≡ prefix ts (MoreFields t true fs)
+pub filled_prefix : (ts : List Ty) (t : Ty) (b : Bool) (fs : TFields) →
+    filled (prefix ts (MoreFields t b fs)) (length ts) ≡ prefix ts (MoreFields t true fs)
 filled_prefix [] t b fs = refl
 filled_prefix (u ∷ ts) t b fs = ap (MoreFields u true) (filled_prefix ts t b fs)

@@ -1,13 +1,13 @@
 -- Where words stand: homes of a layout, the way of a definition, and the registers that instructions use.
-use Rattle.std.proofs.Common.{◌≡◌, ℕ, zero, suc, ◌+◌, ◌<◌, ◌≤◌, nat_eq, nat_lt, cond, Bool, true, false, List, refl, sym, ap, ◌∙◌}
+use Rattle.std.proofs.Common.{◌≡◌, ℕ, suc, ◌+◌, ◌<◌, ◌≤◌, nat_lt, cond, Bool, true, false, List, refl, sym, ap, ◌∙◌}
 use Rattle.std.proofs.Common.{subst, arith, inl, inr, ◌⊎◌, ⊎_elim}
 use Rattle.std.specs.Prelude.{◌≢◌}
 use Rattle.std.proofs.lemmas.Bool.{eq-eqb, ne_eqb, cases_lt, cases_eq, lt-ltb, le-ltb}
 use Rattle.t_types.specs.Tree.{TFile}
 use Rattle.t_terms.specs.Tree.{TInstr, Arith, Bnz, Ld, Malloc, Mov, St, Unpack}
-use Rattle.spill_law.specs.Spill.{Home, Held, InFrame, InSlot, Layout, homed, position, gathered, layout, at_home, into, first_reg}
-use Rattle.spill_law.specs.Spill.{Way, Stays, Fills, Gathers, most_slots, way_of, way, after_way, after, used_by}
-use Rattle.spill_law.specs.Spill.{defines}
+use Rattle.spill_law.specs.Spill.{Home, Held, InFrame, InSlot, Layout, homed, position, gathered, at_home, into}
+use Rattle.spill_law.specs.Spill.{first_reg}
+use Rattle.spill_law.specs.Spill.{Way, Stays, Fills, Gathers, most_slots, way_of, after_way, after, used_by}
 
 -- the home of r is its own register, up to m, or in a tuple, in a slot that is used
 abbrev pub Sound : ℕ → ℕ → ℕ → Home → Type 0
@@ -55,7 +55,8 @@ pub into_low : (m rd : ℕ) → rd ≤ m → into m rd ≡ rd
 into_low m rd le = ap (λ b. cond b (first_reg m) rd) (le-ltb m rd le)
 
 pub into_case : (m rd : ℕ) → ((m < rd) × (into m rd ≡ m + 3)) ⊎ ((rd ≤ m) × (into m rd ≡ rd))
-into_case m rd = ⊎_elim (λ (lt : m < rd). inl (lt, into_high m rd lt)) (λ (le : rd ≤ m). inr (le, into_low m rd le)) (cases_lt m rd)
+into_case m rd = ⊎_elim (λ (lt : m < rd). inl (lt, into_high m rd lt)) (λ (le : rd ≤ m). inr (le, into_low m rd le))
+    (cases_lt m rd)
 
 pub into_most : (m rd : ℕ) → into m rd ≤ m + 3
 into_most m rd = ⊎_elim
@@ -81,7 +82,8 @@ into_other m rd r le ne z = ⊎_elim
 pub stored_at : (m : ℕ) (L : Layout) (rd : ℕ) → Regular m L → at_home (first_reg m) (L.homes rd) ≡ into m rd
 stored_at m L rd reg = ⊎_elim
     (λ (lt : m < rd). far lt (L.homes rd) (reg rd) ∙ sym (into_high m rd lt))
-    (λ (le : rd ≤ m). ap (at_home (first_reg m)) (sound_held m L.used rd (L.homes rd) le (reg rd)) ∙ sym (into_low m rd le))
+    (λ (le : rd ≤ m). ap (at_home (first_reg m)) (sound_held m L.used rd (L.homes rd) le (reg rd))
+    ∙ sym (into_low m rd le))
     (cases_lt m rd)
   where
     far : m < rd → (x : Home) → Sound m L.used rd x → at_home (first_reg m) x ≡ first_reg m
@@ -96,7 +98,8 @@ homed_same homes r x = ap (λ b. cond b x (homes r)) (eq-eqb r r refl)
 pub homed_other : (homes : ℕ → Home) (r q : ℕ) (x : Home) → q ≢ r → homed homes r x q ≡ homes q
 homed_other homes r q x ne = ap (λ b. cond b x (homes q)) (ne_eqb r q (λ e. ne (sym e)))
 
-pub homed_both : (homes : ℕ → Home) (r q : ℕ) (x : Home) (G : Home → Type 0) → (q ≡ r → G x) → (q ≢ r → G (homes q)) → G (homed homes r x q)
+pub homed_both : (homes : ℕ → Home) (r q : ℕ) (x : Home) (G : Home → Type 0) → (q ≡ r → G x) → (q ≢ r → G (homes q)) →
+    G (homed homes r x q)
 homed_both homes r q x G a b = ⊎_elim
     (λ (e : q ≡ r). subst G (sym (ap (homed homes r x) e ∙ homed_same homes r x)) (a e))
     (λ (ne : q ≢ r). subst G (sym (homed_other homes r q x ne)) (b ne))
@@ -104,7 +107,8 @@ homed_both homes r q x G a b = ⊎_elim
 
 pub homed_up : (m : ℕ) (L : Layout) (rd r : ℕ) → Regular m L → UpTo (m + 3) (homed L.homes rd (Held (into m rd)) r)
 homed_up m L rd r reg =
-    homed_both L.homes rd r (Held (into m rd)) (UpTo (m + 3)) (λ e. into_most m rd) (λ ne. sound_up m L.used r (m + 3) (L.homes r) (omega arith) (reg r))
+    homed_both L.homes rd r (Held (into m rd)) (UpTo (m + 3)) (λ e. into_most m rd)
+    (λ ne. sound_up m L.used r (m + 3) (L.homes r) (omega arith) (reg r))
 
 -- ways
 abbrev pub WayFits : ℕ → ℕ → ℕ → Way → Type 0
@@ -115,19 +119,23 @@ WayFits m used rd Gathers = Unit {0}
 pub way_fits : (m used rd : ℕ) → WayFits m used rd (way_of m used rd)
 way_fits m used rd = go (nat_lt m rd) (nat_lt used most_slots) refl refl
   where
-    go : (a b : Bool) → nat_lt m rd ≡ a → nat_lt used most_slots ≡ b → WayFits m used rd (cond a (cond b Fills Gathers) Stays)
+    go : (a b : Bool) → nat_lt m rd ≡ a → nat_lt used most_slots ≡ b →
+        WayFits m used rd (cond a (cond b Fills Gathers) Stays)
     go true true e f = (less m rd e, less used most_slots f)
       where
         less : (x y : ℕ) → nat_lt x y ≡ true → x < y
-        less x y k = ⊎_elim (λ (h : x < y). h) (λ (h : y ≤ x). let z : false ≡ true = sym (le-ltb x y h) ∙ k in cc) (cases_lt x y)
+        less x y k = ⊎_elim (λ (h : x < y). h) (λ (h : y ≤ x). let z : false ≡ true = sym (le-ltb x y h) ∙ k in
+            cc) (cases_lt x y)
     go true false e f = tt
-    go false b e f = ⊎_elim (λ (h : m < rd). let z : true ≡ false = sym (lt-ltb m rd h) ∙ e in cc) (λ (h : rd ≤ m). h) (cases_lt m rd)
+    go false b e f = ⊎_elim (λ (h : m < rd). let z : true ≡ false = sym (lt-ltb m rd h) ∙ e in
+        cc) (λ (h : rd ≤ m). h) (cases_lt m rd)
 
 -- layouts are regular
 pub gathered_regular : (m : ℕ) (qs : List ℕ) → Regular m (gathered m qs)
 gathered_regular m qs r = ⊎_elim
     (λ (h : m < r). subst (Sound m 0 r) (sym (ap (λ b. cond b (InFrame (position qs r)) (Held r)) (lt-ltb m r h))) h)
-    (λ (h : r ≤ m). subst (Sound m 0 r) (sym (ap (λ b. cond b (InFrame (position qs r)) (Held r)) (le-ltb m r h))) (refl, h))
+    (λ (h : r ≤ m). subst (Sound m 0 r) (sym (ap (λ b. cond b (InFrame (position qs r)) (Held r)) (le-ltb m r h)))
+    (refl, h))
     (cases_lt m r)
 
 pub sound_more : (m used r : ℕ) (x : Home) → Sound m used r x → Sound m (suc used) r x
@@ -135,7 +143,8 @@ sound_more m used r (Held q) h = h
 sound_more m used r (InFrame i) h = h
 sound_more m used r (InSlot i) h = let lt = h.1 in (h.0, omega (arith, lt))
 
-pub after_regular : (m : ℕ) (L : Layout) (rd : ℕ) (to : TFile) (w : Way) → WayFits m L.used rd w → Regular m L → Regular m (after_way m L rd to w)
+pub after_regular : (m : ℕ) (L : Layout) (rd : ℕ) (to : TFile) (w : Way) → WayFits m L.used rd w → Regular m L →
+    Regular m (after_way m L rd to w)
 after_regular m L rd to Stays k h r = h r
 after_regular m L rd to Fills k h r =
     homed_both L.homes rd r (InSlot L.used) (Sound m (suc L.used) r)

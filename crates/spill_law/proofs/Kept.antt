@@ -1,23 +1,28 @@
 -- What is asked of the types of a program holds of those that stay known.
-use Rattle.std.proofs.Common.{◌≡◌, ℕ, ◌<◌, ◌≤◌, nat_eq, cond, Bool, true, false, List, [], ◌∷◌, ◌++◌, Option, Some, None, refl, sym, ap, ◌∙◌, subst, arith}
-use Rattle.std.specs.Prelude.{◌≢◌, max}
+use Rattle.std.proofs.Common.{◌≡◌, ℕ, ◌<◌, ◌≤◌, nat_eq, cond, Bool, true, false, [], ◌++◌, Option, Some, refl, sym, ap}
+use Rattle.std.proofs.Common.{◌∙◌, subst, arith}
+use Rattle.std.specs.Prelude.{max}
 use Rattle.std.proofs.lemmas.Bool.{ne_eqb, eqb-true}
 use Rattle.t_types.specs.Tree.{Ty, IntTy, CodeTy, ExistsTy, TFile, NoRegs, MoreRegs}
 use Rattle.t_types.specs.Fits.{lookup}
-use Rattle.t_terms.specs.Tree.{TValue, TInstr, Arith, Bnz, Ld, Malloc, Mov, St, Unpack, Jmp, Halt, TSeq, Then, Ends, TProg, names_after}
-use Rattle.t_rules.specs.Rules.{Has, Typed, SeqAccepted}
-use Rattle.spill_law.specs.Spill.{type_of, next, numbers, target, value_reads, reads, live, among, kept, FewNames, FewNamesFile, values_of, ValuesFew, SeqFew}
+use Rattle.t_terms.specs.Tree.{TValue, TInstr, Arith, Bnz, Ld, Malloc, Mov, St, Unpack, Jmp, Halt, TSeq, Then, Ends}
+use Rattle.t_terms.specs.Tree.{TProg, names_after}
+use Rattle.t_rules.specs.Rules.{Has, SeqAccepted}
+use Rattle.spill_law.specs.Spill.{type_of, next, numbers, target, value_reads, reads, live, among, kept, FewNames}
+use Rattle.spill_law.specs.Spill.{FewNamesFile, values_of, ValuesFew, SeqFew}
 use Rattle.spill_law.specs.Reach.{type_reach, regs_reach, value_reach, instr_reach, seq_reach}
 use Rattle.spill_law.proofs.Files.{look_same, RisesFrom, Ascends, rises_ascends}
 use Rattle.spill_law.proofs.Computed.{value_is, next_is, ascends_next}
-use Rattle.spill_law.proofs.Live.{among_left, among_right, among_next, Sub, Agree, instr_agrees, value_agrees, next_agrees, next_sub, seq_agrees, kept_agrees, kept_sub, kept_ascends}
+use Rattle.spill_law.proofs.Live.{among_left, among_right, among_next, Sub, Agree, instr_agrees, value_agrees}
+use Rattle.spill_law.proofs.Live.{next_agrees, next_sub, seq_agrees, kept_agrees, kept_sub, kept_ascends}
 
 -- each type of a file
 abbrev pub AllIn : (Ty → Type 0) → TFile → Type 0
 AllIn Q NoRegs = Unit {0}
 AllIn Q (MoreRegs r t x) = Q t × AllIn Q x
 
-all_case : (Q : Ty → Type 0) (b : Bool) (u t : Ty) (o : Option Ty) → Q u → (o ≡ Some t → Q t) → cond b (Some u) o ≡ Some t → Q t
+all_case : (Q : Ty → Type 0) (b : Bool) (u t : Ty) (o : Option Ty) → Q u → (o ≡ Some t → Q t) →
+    cond b (Some u) o ≡ Some t → Q t
 all_case Q true u t o h k e = let s : u ≡ t = cc in subst Q s h
 all_case Q false u t o h k e = k e
 
@@ -84,7 +89,8 @@ module _ (P : TProg) where
     pub asc : Ascends x
     pub acc : SeqAccepted P n (lookup y) c
 
-  abbrev front : (n : ℕ) (y x : TFile) (i : TInstr) (c : TSeq) → Knows n y x (Then i c) → Agree (reads i ++ numbers (target P y i)) y x
+  abbrev front : (n : ℕ) (y x : TFile) (i : TInstr) (c : TSeq) → Knows n y x (Then i c) →
+      Agree (reads i ++ numbers (target P y i)) y x
   front n y x i c k r e = k.agree r (among_left r (reads i ++ numbers (target P y i)) (live P (next P y i) c) e)
 
   -- what is known after an instruction, before it is kept
@@ -93,11 +99,13 @@ module _ (P : TProg) where
       let a = k.acc in next_sub P n y x i a.0 a.1 (instr_agrees P n y x i a.0 (front n y x i c k) a.1) k.sub
 
   -- and after an instruction
-  pub knows_next : (n : ℕ) (y x : TFile) (i : TInstr) (c : TSeq) → Knows n y x (Then i c) → Knows (names_after i n) (next P y i) (kept P x i c) c
+  pub knows_next : (n : ℕ) (y x : TFile) (i : TInstr) (c : TSeq) → Knows n y x (Then i c) →
+      Knows (names_after i n) (next P y i) (kept P x i c) c
   knows_next n y x i c k =
       let a = k.acc in
       let g = instr_agrees P n y x i a.0 (front n y x i c k) a.1 in
-      let rest : Agree (live P (next P y i) c) y x = λ r e. k.agree r (among_right r (reads i ++ numbers (target P y i)) (live P (next P y i) c) e) in
+      let rest : Agree (live P (next P y i) c) y x =
+      λ r e. k.agree r (among_right r (reads i ++ numbers (target P y i)) (live P (next P y i) c) e) in
       let acc = subst (λ f. SeqAccepted P (names_after i n) f c) (next_is P n y i a.0 a.1) a.2 in
       let after = next_agrees P n y x i a.0 (live P (next P y i) c) a.1 g rest in
       let same = (seq_agrees P c (names_after i n) (next P y i) (next P x i) after acc).1 in
@@ -110,64 +118,100 @@ module _ (P : TProg) where
       }
 
   -- types of values are the same
-  type_same : (n : ℕ) (y x : TFile) (v : TValue) (t : Ty) → Agree (value_reads v) y x → Has P n (lookup y) v t → type_of P y v ≡ type_of P x v
+  type_same : (n : ℕ) (y x : TFile) (v : TValue) (t : Ty) → Agree (value_reads v) y x → Has P n (lookup y) v t →
+      type_of P y v ≡ type_of P x v
   type_same n y x v t ag h = value_is P n y v t h ∙ sym (value_is P n x v t (value_agrees P n y x v t ag h))
 
   -- that of an instruction, for each property of types
-  value_kept : (Q : Ty → Type 0) (n : ℕ) (y x : TFile) (v : TValue) (t : Ty) → Agree (value_reads v) y x → Has P n (lookup y) v t → Q (type_of P y v) → Q (type_of P x v)
+  value_kept : (Q : Ty → Type 0) (n : ℕ) (y x : TFile) (v : TValue) (t : Ty) → Agree (value_reads v) y x →
+      Has P n (lookup y) v t → Q (type_of P y v) → Q (type_of P x v)
   value_kept Q n y x v t ag h q = subst Q (type_same n y x v t ag h) q
 
-  values_few : (n : ℕ) (y x : TFile) (i : TInstr) (c : TSeq) (k : Knows n y x (Then i c)) → ValuesFew P n y (values_of i) → ValuesFew P n x (values_of i)
-  values_few n y x (Arith op rd rs v) c k f =
-      (value_kept (FewNames n) n y x v IntTy (λ r e. front n y x (Arith op rd rs v) c k r (among_next r rs (value_reads v ++ []) (among_left r (value_reads v) [] e))) k.acc.1.1 f.0, tt)
+  values_few : (n : ℕ) (y x : TFile) (i : TInstr) (c : TSeq) (k : Knows n y x (Then i c)) →
+      ValuesFew P n y (values_of i) → ValuesFew P n x (values_of i)
+  values_few n y x (Arith op rd rs v) c k f = (
+    value_kept (FewNames n) n y x v IntTy
+        (λ r e. front n y x (Arith op rd rs v) c k r
+        (among_next r rs (value_reads v ++ []) (among_left r (value_reads v) [] e))) k.acc.1.1 f.0,
+    tt,
+  )
   values_few n y x (Bnz s v) c k f =
-      let a = k.acc.1.1 in
-      (value_kept (FewNames n) n y x v (CodeTy 0 a.0) (λ r e. front n y x (Bnz s v) c k r (among_next r s _ (among_left r (value_reads v) _ e))) a.1 f.0, tt)
+      let a = k.acc.1.1 in (
+        value_kept (FewNames n) n y x v (CodeTy 0 a.0)
+            (λ r e. front n y x (Bnz s v) c k r (among_next r s _ (among_left r (value_reads v) _ e))) a.1 f.0,
+        tt,
+      )
   values_few n y x (Ld rd rs i) c k f = tt
   values_few n y x (Malloc rd ts) c k f = tt
-  values_few n y x (Mov rd v) c k f =
-      (value_kept (FewNames n) n y x v k.acc.1.0 (λ r e. front n y x (Mov rd v) c k r (among_left r (value_reads v) [] e)) k.acc.1.1 f.0, tt)
+  values_few n y x (Mov rd v) c k f = (
+    value_kept (FewNames n) n y x v k.acc.1.0
+        (λ r e. front n y x (Mov rd v) c k r (among_left r (value_reads v) [] e)) k.acc.1.1 f.0,
+    tt,
+  )
   values_few n y x (St rd i rs) c k f = tt
-  values_few n y x (Unpack rd v) c k f =
-      (value_kept (FewNames n) n y x v (ExistsTy k.acc.1.0) (λ r e. front n y x (Unpack rd v) c k r (among_left r (value_reads v) [] e)) k.acc.1.1 f.0, tt)
+  values_few n y x (Unpack rd v) c k f = (
+    value_kept (FewNames n) n y x v (ExistsTy k.acc.1.0)
+        (λ r e. front n y x (Unpack rd v) c k r (among_left r (value_reads v) [] e)) k.acc.1.1 f.0,
+    tt,
+  )
 
   pub kept_few : (c : TSeq) (n : ℕ) (y x : TFile) → Knows n y x c → SeqFew P n y c → KeptFew P n x c
   kept_few (Then i c) n y x k f =
       let next = knows_next n y x i c k in (
         values_few n y x i c k f.0,
-        all_few (names_after i n) (kept P x i c) (all_file (FewNames (names_after i n)) (kept P x i c) next.asc (λ r t e. all_at (FewNames (names_after i n)) _ r t (few_all (names_after i n) _ f.1) (next.sub r t e))),
-        all_few (names_after i n) _ (all_file (FewNames (names_after i n)) _ (ascends_next P x i k.asc) (λ r t e. all_at (FewNames (names_after i n)) _ r t (few_all (names_after i n) _ f.1) (knows_sub n y x i c k r t e))),
+        all_few (names_after i n) (kept P x i c)
+            (all_file (FewNames (names_after i n)) (kept P x i c) next.asc
+            (λ r t e. all_at (FewNames (names_after i n)) _ r t (few_all (names_after i n) _ f.1) (next.sub r t e))),
+        all_few (names_after i n) _
+            (all_file (FewNames (names_after i n)) _ (ascends_next P x i k.asc)
+            (λ r t e. all_at (FewNames (names_after i n)) _ r t (few_all (names_after i n) _ f.1)
+            (knows_sub n y x i c k r t e))),
         kept_few c (names_after i n) _ (kept P x i c) next f.2,
       )
   kept_few (Ends (Jmp v)) n y x k f =
-      let a = k.acc in value_kept (FewNames n) n y x v (CodeTy 0 a.0) (λ r e. k.agree r (among_left r (value_reads v) _ e)) a.1 f
+      let a = k.acc in value_kept (FewNames n) n y x v (CodeTy 0 a.0)
+      (λ r e. k.agree r (among_left r (value_reads v) _ e)) a.1 f
   kept_few (Ends Halt) n y x k f = tt
 
-  reach_same : (m n : ℕ) (y x : TFile) (i : TInstr) (c : TSeq) (k : Knows n y x (Then i c)) → instr_reach P y i ≤ m → instr_reach P x i ≤ m
+  reach_same : (m n : ℕ) (y x : TFile) (i : TInstr) (c : TSeq) (k : Knows n y x (Then i c)) → instr_reach P y i ≤ m →
+      instr_reach P x i ≤ m
   reach_same m n y x (Arith op rd rs v) c k f =
-      let h = value_kept (Within m) n y x v IntTy (λ r e. front n y x (Arith op rd rs v) c k r (among_next r rs (value_reads v ++ []) (among_left r (value_reads v) [] e))) k.acc.1.1 (omega (arith, f)) in omega (arith, f, h)
+      let h = value_kept (Within m) n y x v IntTy
+      (λ r e. front n y x (Arith op rd rs v) c k r
+      (among_next r rs (value_reads v ++ []) (among_left r (value_reads v) [] e))) k.acc.1.1 (omega (arith, f)) in
+      omega (arith, f, h)
   reach_same m n y x (Bnz s v) c k f =
       let a = k.acc.1.1 in
-      let h = value_kept (Within m) n y x v (CodeTy 0 a.0) (λ r e. front n y x (Bnz s v) c k r (among_next r s _ (among_left r (value_reads v) _ e))) a.1 (omega (arith, f)) in omega (arith, f, h)
+      let h = value_kept (Within m) n y x v (CodeTy 0 a.0)
+      (λ r e. front n y x (Bnz s v) c k r (among_next r s _ (among_left r (value_reads v) _ e))) a.1
+      (omega (arith, f)) in omega (arith, f, h)
   reach_same m n y x (Ld rd rs i) c k f = f
   reach_same m n y x (Malloc rd ts) c k f = f
   reach_same m n y x (Mov rd v) c k f =
-      let h = value_kept (Within m) n y x v k.acc.1.0 (λ r e. front n y x (Mov rd v) c k r (among_left r (value_reads v) [] e)) k.acc.1.1 (omega (arith, f)) in omega (arith, f, h)
+      let h = value_kept (Within m) n y x v k.acc.1.0
+      (λ r e. front n y x (Mov rd v) c k r (among_left r (value_reads v) [] e)) k.acc.1.1 (omega (arith, f)) in
+      omega (arith, f, h)
   reach_same m n y x (St rd i rs) c k f = f
   reach_same m n y x (Unpack rd v) c k f =
-      let h = value_kept (Within m) n y x v (ExistsTy k.acc.1.0) (λ r e. front n y x (Unpack rd v) c k r (among_left r (value_reads v) [] e)) k.acc.1.1 (omega (arith, f)) in omega (arith, f, h)
+      let h = value_kept (Within m) n y x v (ExistsTy k.acc.1.0)
+      (λ r e. front n y x (Unpack rd v) c k r (among_left r (value_reads v) [] e)) k.acc.1.1 (omega (arith, f)) in
+      omega (arith, f, h)
 
   pub kept_reach : (m : ℕ) (c : TSeq) (n : ℕ) (y x : TFile) → Knows n y x c → seq_reach P y c ≤ m → KeptReach P m x c
   kept_reach m (Then i c) n y x k f =
       let next = knows_next n y x i c k in (
         reach_same m n y x i c k (omega (arith, f)),
-        all_reach m (kept P x i c) (all_file (Within m) (kept P x i c) next.asc (λ r t e. all_at (Within m) _ r t (reach_all m _ (omega (arith, f))) (next.sub r t e))),
-        all_reach m _ (all_file (Within m) _ (ascends_next P x i k.asc) (λ r t e. all_at (Within m) _ r t (reach_all m _ (omega (arith, f))) (knows_sub n y x i c k r t e))),
+        all_reach m (kept P x i c)
+            (all_file (Within m) (kept P x i c) next.asc
+            (λ r t e. all_at (Within m) _ r t (reach_all m _ (omega (arith, f))) (next.sub r t e))),
+        all_reach m _ (all_file (Within m) _ (ascends_next P x i k.asc)
+            (λ r t e. all_at (Within m) _ r t (reach_all m _ (omega (arith, f))) (knows_sub n y x i c k r t e))),
         kept_reach m c (names_after i n) _ (kept P x i c) next (omega (arith, f)),
       )
   kept_reach m (Ends (Jmp v)) n y x k f =
       let a = k.acc in
-      let h = value_kept (Within m) n y x v (CodeTy 0 a.0) (λ r e. k.agree r (among_left r (value_reads v) _ e)) a.1 (omega (arith, f)) in
+      let h = value_kept (Within m) n y x v (CodeTy 0 a.0) (λ r e. k.agree r (among_left r (value_reads v) _ e)) a.1
+      (omega (arith, f)) in
       omega (arith, f, h)
   kept_reach m (Ends Halt) n y x k f = tt
 

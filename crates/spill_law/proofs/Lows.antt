@@ -1,5 +1,5 @@
 -- How many registers stay.
-use Rattle.std.proofs.Common.{ℕ, ◌+◌, ◌-◌, ◌≤◌, arith}
+use Rattle.std.proofs.Common.{ℕ, ◌+◌, ◌≤◌, arith}
 use Rattle.t_types.specs.WellFormed.{max_number}
 use Rattle.spill_law.specs.Spill.{lows}
 

@@ -1,18 +1,24 @@
 -- Types that the typing of a whole program gives: each index is in scope, and registers ascend.
-use Rattle.std.proofs.Common.{◌≡◌, ℕ, zero, suc, ◌+◌, ◌-◌, ◌<◌, ◌≤◌, nat_eq, cond, Bool, true, false, List, [], ◌∷◌, length, Option, Some, refl, sym, ap, ◌∙◌, subst, arith, slice_get, inl, inr, ◌⊎◌}
+use Rattle.std.proofs.Common.{◌≡◌, ℕ, zero, suc, ◌+◌, ◌-◌, ◌<◌, ◌≤◌, nat_eq, cond, Bool, true, false, List, [], ◌∷◌}
+use Rattle.std.proofs.Common.{length, Option, Some, refl, sym, ap, ◌∙◌, subst, arith, slice_get, inl, inr, ◌⊎◌}
 use Rattle.std.proofs.lemmas.Bool.{cases_lt, cases_order}
 use Rattle.idx_core.specs.Over.{At, shifted, putted}
 use Rattle.idx_core.specs.Laws.{shifted_lt, shifted_ge, putted_lt, putted_eq, putted_gt}
-use Rattle.t_types.specs.Tree.{Ty, IntTy, VarTy, CodeTy, ExistsTy, TupleTy, TFile, NoRegs, MoreRegs, TFields, NoFields, MoreFields, over, over_file, over_fields, shift, Below, BelowFile, BelowFields, BelowTypes, shift_file, put_file, each_fields}
+use Rattle.t_types.specs.Tree.{Ty, IntTy, VarTy, CodeTy, ExistsTy, TupleTy, TFile, NoRegs, MoreRegs, TFields, NoFields}
+use Rattle.t_types.specs.Tree.{MoreFields, over, over_file, over_fields, shift, Below, BelowFile, BelowFields}
+use Rattle.t_types.specs.Tree.{shift_file, put_file, each_fields}
 use Rattle.t_types.specs.TreeLaws.{file_over, fields_over as fields_walk}
 use Rattle.t_types.specs.WellFormed.{max_number, max_names, WellFormed, WellFormedFields, WellFormedTypes, RegsAbove}
 use Rattle.t_types.specs.Fields.{AField, field, filled, empty_fields}
 use Rattle.t_types.specs.Fits.{RegTypes, lookup}
-use Rattle.t_terms.specs.Tree.{TBase, Reg, Int, Label, Data, TValue, Plain, Pack, TInstr, Arith, Bnz, Ld, Malloc, Mov, St, Unpack, TSeq, TBlock, TData, TProg, names_after}
-use Rattle.t_terms.specs.Whole.{WellFormedValue, WellFormedInstr, WellFormedBlocks, WellFormedData, WellFormedHeap, Whole}
+use Rattle.t_terms.specs.Tree.{TBase, Reg, Int, Label, Data, TValue, Plain, Pack, TInstr, Arith, Bnz, Ld, Malloc, Mov}
+use Rattle.t_terms.specs.Tree.{St, Unpack, TSeq, TBlock, TData, TProg, names_after}
+use Rattle.t_terms.specs.Whole.{WellFormedValue, WellFormedInstr, WellFormedBlocks, WellFormedData, WellFormedHeap}
+use Rattle.t_terms.specs.Whole.{Whole}
 use Rattle.t_rules.specs.Registers.{inst_file}
-use Rattle.t_rules.specs.Rules.{data_fields, BaseHas, Has, Enters, Typed, SeqAccepted}
-use Rattle.spill_law.specs.Spill.{ins, or_int, type_of, field_type, filled_type, hidden_type, next, FewNames, FewNamesFile, type_in, live, among, keep, kept}
+use Rattle.t_rules.specs.Rules.{data_fields, BaseHas, Has, Enters, Typed}
+use Rattle.spill_law.specs.Spill.{ins, or_int, type_of, field_type, filled_type, hidden_type, next, FewNames}
+use Rattle.spill_law.specs.Spill.{FewNamesFile, type_in, live, among, keep, kept}
 use Rattle.spill_law.proofs.Files.{RisesFrom, Ascends, rises_ascends, CaseOf, case_of, ins_less, ins_same, ins_more}
 use Rattle.spill_law.proofs.Computed.{value_is}
 use Rattle.spill_law.proofs.Live.{by_cases}
@@ -95,15 +101,18 @@ mutual
       let x : a + 0 ≡ a = omega arith in
       let y : m + 0 ≡ m = omega arith in
       subst (λ z. Scoped z (f a i)) y (subst (λ z. Scoped (m + 0) (f z i)) x (k 0 i (omega arith)))
-  scoped_over f a n m (CodeTy owes file) k h = regs_over f (a + owes) (n + owes) (m + owes) 0 file (moves_more f a n m owes k) h
+  scoped_over f a n m (CodeTy owes file) k h =
+      regs_over f (a + owes) (n + owes) (m + owes) 0 file (moves_more f a n m owes k) h
   scoped_over f a n m (ExistsTy t) k h = scoped_over f (a + 1) (n + 1) (m + 1) t (moves_more f a n m 1 k) h
   scoped_over f a n m (TupleTy fields) k h = fields_over f a n m fields k h
 
-  pub regs_over : (f : At Ty) (a n m low : ℕ) (x : TFile) → Moves f a n m → ScopedRegs low n x → ScopedRegs low m (over_file f a x)
+  pub regs_over : (f : At Ty) (a n m low : ℕ) (x : TFile) → Moves f a n m → ScopedRegs low n x →
+      ScopedRegs low m (over_file f a x)
   regs_over f a n m low NoRegs k h = tt
   regs_over f a n m low (MoreRegs r t x) k h = (h.0, h.1, scoped_over f a n m t k h.2, regs_over f a n m r x k h.3)
 
-  fields_over : (f : At Ty) (a n m : ℕ) (x : TFields) → Moves f a n m → ScopedFields n x → ScopedFields m (over_fields f a x)
+  fields_over : (f : At Ty) (a n m : ℕ) (x : TFields) → Moves f a n m → ScopedFields n x →
+      ScopedFields m (over_fields f a x)
   fields_over f a n m NoFields k h = tt
   fields_over f a n m (MoreFields t flag x) k h = (scoped_over f a n m t k h.0, fields_over f a n m x k h.1)
 
@@ -126,7 +135,8 @@ put_moves c n s le hs e i lt = go (cases_order i (c + e))
     go : (i ≡ c + e) ⊎ ((i < c + e) ⊎ (c + e < i)) → Scoped (n + e) (putted VarTy over c s (c + e) i)
     go (inl h) =
         let far : c + e - c ≡ e = omega arith in
-        subst (Scoped (n + e)) (sym (putted_eq VarTy over c s (c + e) i h ∙ ap (λ k. shift k 0 s) far)) (scoped_shift e n s hs)
+        subst (Scoped (n + e)) (sym (putted_eq VarTy over c s (c + e) i h ∙ ap (λ k. shift k 0 s) far))
+        (scoped_shift e n s hs)
     go (inr (inl h)) = subst (Scoped (n + e)) (sym (putted_lt VarTy over c s (c + e) i h)) (omega arith)
     go (inr (inr h)) = subst (Scoped (n + e)) (sym (putted_gt VarTy over c s (c + e) i h)) (omega arith)
 
@@ -134,10 +144,14 @@ pub scoped_put : (n : ℕ) (s t : Ty) → Scoped n s → Scoped (n + 1) t → Sc
 scoped_put n s t hs h = scoped_over (putted VarTy over 0 s) 0 (n + 1) n t (put_moves 0 n s (omega arith) hs) h
 
 pub scoped_more : (n m : ℕ) (low : ℕ) (x : TFile) → n ≤ m → ScopedRegs low n x → ScopedRegs low m x
-scoped_more n m low x le h = subst (ScopedRegs low m) (file_over.keeps (λ d i. VarTy i) 0 (λ e i. refl) x) (regs_over (λ d i. VarTy i) 0 n m low x (λ e i lt. omega arith) h)
+scoped_more n m low x le h =
+    subst (ScopedRegs low m) (file_over.keeps (λ d i. VarTy i) 0 (λ e i. refl) x)
+    (regs_over (λ d i. VarTy i) 0 n m low x (λ e i lt. omega arith) h)
 
 fields_more : (n m : ℕ) (x : TFields) → n ≤ m → ScopedFields n x → ScopedFields m x
-fields_more n m x le h = subst (ScopedFields m) (fields_walk.keeps (λ d i. VarTy i) 0 (λ e i. refl) x) (fields_over (λ d i. VarTy i) 0 n m x (λ e i lt. omega arith) h)
+fields_more n m x le h =
+    subst (ScopedFields m) (fields_walk.keeps (λ d i. VarTy i) 0 (λ e i. refl) x)
+    (fields_over (λ d i. VarTy i) 0 n m x (λ e i lt. omega arith) h)
 
 -- what is in scope is below
 mutual
@@ -165,25 +179,32 @@ pub scoped_ascends : (n : ℕ) (x : TFile) → ScopedRegs 0 n x → Ascends x
 scoped_ascends n x h = rises_ascends 0 x (scoped_rises 0 n x h)
 
 -- types for the first ones that code owes
-pub scoped_inst : (ts : List Ty) (n owes : ℕ) (x : TFile) → length ts ≤ owes → ScopedTypes n ts → ScopedRegs 0 (n + owes) x → ScopedRegs 0 (n + (owes - length ts)) (inst_file ts owes x)
+pub scoped_inst : (ts : List Ty) (n owes : ℕ) (x : TFile) → length ts ≤ owes → ScopedTypes n ts →
+    ScopedRegs 0 (n + owes) x → ScopedRegs 0 (n + (owes - length ts)) (inst_file ts owes x)
 scoped_inst [] n owes x le hs h = let e : n + owes ≡ n + (owes - 0) = omega arith in subst (λ m. ScopedRegs 0 m x) e h
 scoped_inst (t ∷ ts) n owes x le hs h =
     let one : n + owes ≡ n + (owes - 1) + 1 = omega arith in
     let s : Ty = shift (owes - 1) 0 t in
-    let part = regs_over (putted VarTy over (owes - 1) s) (owes - 1) (n + (owes - 1) + 1) (n + (owes - 1)) 0 x (put_moves (owes - 1) (n + (owes - 1)) s (omega arith) (scoped_shift (owes - 1) n t hs.0)) (subst (λ m. ScopedRegs 0 m x) one h) in
+    let part = regs_over (putted VarTy over (owes - 1) s) (owes - 1) (n + (owes - 1) + 1) (n + (owes - 1)) 0 x
+    (put_moves (owes - 1) (n + (owes - 1)) s (omega arith) (scoped_shift (owes - 1) n t hs.0))
+    (subst (λ m. ScopedRegs 0 m x) one h) in
     let e : n + (owes - 1 - length ts) ≡ n + (owes - suc (length ts)) = omega arith in
-    subst (λ m. ScopedRegs 0 m (inst_file ts (owes - 1) (put_file (owes - 1) (shift (owes - 1) 0 t) x))) e (scoped_inst ts n (owes - 1) (put_file (owes - 1) (shift (owes - 1) 0 t) x) (omega arith) hs.1 part)
+    subst (λ m. ScopedRegs 0 m (inst_file ts (owes - 1) (put_file (owes - 1) (shift (owes - 1) 0 t) x))) e
+    (scoped_inst ts n (owes - 1) (put_file (owes - 1) (shift (owes - 1) 0 t) x) (omega arith) hs.1 part)
 
 -- registers and fields
-scoped_case : (n : ℕ) (b : Bool) (u t : Ty) (o : Option Ty) → Scoped n u → (o ≡ Some t → Scoped n t) → cond b (Some u) o ≡ Some t → Scoped n t
+scoped_case : (n : ℕ) (b : Bool) (u t : Ty) (o : Option Ty) → Scoped n u → (o ≡ Some t → Scoped n t) →
+    cond b (Some u) o ≡ Some t → Scoped n t
 scoped_case n true u t o h k e = let s : u ≡ t = cc in subst (Scoped n) s h
 scoped_case n false u t o h k e = k e
 
 pub scoped_at : (n low : ℕ) (x : TFile) (r : ℕ) (t : Ty) → ScopedRegs low n x → lookup x r ≡ Some t → Scoped n t
 scoped_at n low NoRegs r t h e = cc
-scoped_at n low (MoreRegs q u x) r t h e = scoped_case n (nat_eq q r) u t (lookup x r) h.2 (λ k. scoped_at n q x r t h.3 k) e
+scoped_at n low (MoreRegs q u x) r t h e =
+    scoped_case n (nat_eq q r) u t (lookup x r) h.2 (λ k. scoped_at n q x r t h.3 k) e
 
-scoped_field : (n : ℕ) (fs : TFields) (i : ℕ) (t : Ty) (flag : Bool) → ScopedFields n fs → field fs i ≡ Some (AField t flag) → Scoped n t
+scoped_field : (n : ℕ) (fs : TFields) (i : ℕ) (t : Ty) (flag : Bool) → ScopedFields n fs →
+    field fs i ≡ Some (AField t flag) → Scoped n t
 scoped_field n NoFields i t flag h e = cc
 scoped_field n (MoreFields u x fs) zero t flag h e = let s : u ≡ t = cc in subst (Scoped n) s h.0
 scoped_field n (MoreFields u x fs) (suc i) t flag h e = scoped_field n fs i t flag h.1 e
@@ -197,13 +218,15 @@ scoped_empty : (n : ℕ) (ts : List Ty) → ScopedTypes n ts → ScopedFields n 
 scoped_empty n [] h = tt
 scoped_empty n (t ∷ ts) h = (h.0, scoped_empty n ts h.1)
 
-pub scoped_ins : (low n r : ℕ) (t : Ty) (x : TFile) → low < r → r ≤ max_number → Scoped n t → ScopedRegs low n x → ScopedRegs low n (ins r t x)
+pub scoped_ins : (low n r : ℕ) (t : Ty) (x : TFile) → low < r → r ≤ max_number → Scoped n t → ScopedRegs low n x →
+    ScopedRegs low n (ins r t x)
 scoped_ins low n r t NoRegs lt le ht h = (lt, le, ht, tt)
 scoped_ins low n r t (MoreRegs q u x) lt le ht h = go (λ a. scoped_ins q n r t x a le ht h.3) (case_of r q)
   where
     go : (q < r → ScopedRegs q n (ins r t x)) → CaseOf r q → ScopedRegs low n (ins r t (MoreRegs q u x))
     go f (inl a) = subst (ScopedRegs low n) (sym (ins_less r q t u x a)) (lt, le, ht, (a, h.1, h.2, h.3))
-    go f (inr (inl a)) = subst (ScopedRegs low n) (sym (ins_same r q t u x a)) (lt, le, ht, subst (λ z. ScopedRegs z n x) (sym a) h.3)
+    go f (inr (inl a)) =
+        subst (ScopedRegs low n) (sym (ins_same r q t u x a)) (lt, le, ht, subst (λ z. ScopedRegs z n x) (sym a) h.3)
     go f (inr (inr a)) = subst (ScopedRegs low n) (sym (ins_more r q t u x a)) (h.0, h.1, h.2, f a)
 
 lower : (low r n : ℕ) (x : TFile) → low < r → ScopedRegs r n x → ScopedRegs low n x
@@ -229,42 +252,58 @@ module _ (P : TProg) (p q : ℕ) (labels : LabelsScoped P) (tuples : DataScoped 
   scoped_base : (n : ℕ) (x : TFile) (b : TBase) (t : Ty) → ScopedRegs 0 n x → BaseHas P (lookup x) b t → Scoped n t
   scoped_base n x (Reg r) t h k = scoped_at n 0 x r t h k
   scoped_base n x (Int i) t h k = subst (Scoped n) (sym k) tt
-  scoped_base n x (Label l) t h k = subst (Scoped n) (sym k.2) (scoped_more k.0.owes (n + k.0.owes) 0 k.0.file (omega arith) (labels l k.0 k.1))
-  scoped_base n x (Data d) t h k = subst (Scoped n) (sym k.2) (fields_more 0 n (data_fields k.0) (omega arith) (tuples d k.0 k.1))
+  scoped_base n x (Label l) t h k =
+      subst (Scoped n) (sym k.2) (scoped_more k.0.owes (n + k.0.owes) 0 k.0.file (omega arith) (labels l k.0 k.1))
+  scoped_base n x (Data d) t h k =
+      subst (Scoped n) (sym k.2) (fields_more 0 n (data_fields k.0) (omega arith) (tuples d k.0 k.1))
 
-  pub scoped_value : (n : ℕ) (x : TFile) (v : TValue) (t : Ty) → ScopedRegs 0 n x → WellFormedValue p q n v → Has P n (lookup x) v t → Scoped n t
+  pub scoped_value : (n : ℕ) (x : TFile) (v : TValue) (t : Ty) → ScopedRegs 0 n x → WellFormedValue p q n v →
+      Has P n (lookup x) v t → Scoped n t
   scoped_value n x (Plain b []) t h w k = scoped_base n x b t h k
   scoped_value n x (Plain b (u ∷ us)) t h w k =
-      subst (Scoped n) (sym k.4) (scoped_inst (u ∷ us) n k.0 k.1 k.3 (scoped_types n (u ∷ us) w.1) (scoped_base n x b (CodeTy k.0 k.1) h k.2))
+      subst (Scoped n) (sym k.4)
+      (scoped_inst (u ∷ us) n k.0 k.1 k.3 (scoped_types n (u ∷ us) w.1) (scoped_base n x b (CodeTy k.0 k.1) h k.2))
   scoped_value n x (Pack hid v shape) t h w k = subst (Scoped n) (sym k.5) (scoped n shape w.2)
 
-  pub scoped_next : (i : TInstr) (n : ℕ) (x : TFile) (g : RegTypes) → ScopedRegs 0 n x → WellFormedInstr p q n i → Typed P n (lookup x) i g → ScopedRegs 0 (names_after i n) (next P x i)
+  pub scoped_next : (i : TInstr) (n : ℕ) (x : TFile) (g : RegTypes) → ScopedRegs 0 n x → WellFormedInstr p q n i →
+      Typed P n (lookup x) i g → ScopedRegs 0 (names_after i n) (next P x i)
   scoped_next (Arith op rd rs v) n x g h w k = scoped_ins 0 n rd IntTy x (omega (arith, w.0.0)) w.0.1 tt h
   scoped_next (Bnz r v) n x g h w k = h
   scoped_next (Ld rd rs i) n x g h w k =
       let e : field_type (or_int (lookup x rs)) i ≡ k.1 = ap (λ o. field_type (or_int o) i) k.2 ∙ ap type_in k.3 in
-      scoped_ins 0 n rd _ x (omega (arith, w.0.0)) w.0.1 (subst (Scoped n) (sym e) (scoped_field n k.0 i k.1 true (scoped_at n 0 x rs (TupleTy k.0) h k.2) k.3)) h
-  scoped_next (Malloc rd ts) n x g h w k = scoped_ins 0 n rd (TupleTy (empty_fields ts)) x (omega (arith, w.0.0)) w.0.1 (scoped_empty n ts (scoped_types n ts w.1)) h
-  scoped_next (Mov rd v) n x g h w k = scoped_ins 0 n rd _ x (omega (arith, w.0.0)) w.0.1 (subst (Scoped n) (sym (value_is P n x v k.0 k.1)) (scoped_value n x v k.0 h w.1 k.1)) h
+      scoped_ins 0 n rd _ x (omega (arith, w.0.0)) w.0.1
+      (subst (Scoped n) (sym e) (scoped_field n k.0 i k.1 true (scoped_at n 0 x rs (TupleTy k.0) h k.2) k.3)) h
+  scoped_next (Malloc rd ts) n x g h w k =
+      scoped_ins 0 n rd (TupleTy (empty_fields ts)) x (omega (arith, w.0.0)) w.0.1
+      (scoped_empty n ts (scoped_types n ts w.1)) h
+  scoped_next (Mov rd v) n x g h w k =
+      scoped_ins 0 n rd _ x (omega (arith, w.0.0)) w.0.1
+      (subst (Scoped n) (sym (value_is P n x v k.0 k.1)) (scoped_value n x v k.0 h w.1 k.1)) h
   scoped_next (St rd i rs) n x g h w k =
       let e : filled_type (or_int (lookup x rd)) i ≡ TupleTy (filled k.0 i) = ap (λ o. filled_type (or_int o) i) k.4 in
-      scoped_ins 0 n rd _ x (omega (arith, w.0.0)) w.0.1 (subst (Scoped n) (sym e) (scoped_filled n k.0 i (scoped_at n 0 x rd (TupleTy k.0) h k.4))) h
+      scoped_ins 0 n rd _ x (omega (arith, w.0.0)) w.0.1
+      (subst (Scoped n) (sym e) (scoped_filled n k.0 i (scoped_at n 0 x rd (TupleTy k.0) h k.4))) h
   scoped_next (Unpack rd v) n x g h w k =
       let e : hidden_type (type_of P x v) ≡ k.0 = ap hidden_type (value_is P n x v (ExistsTy k.0) k.1) in
-      scoped_ins 0 (n + 1) rd _ (shift_file 1 0 x) (omega (arith, w.0.0)) w.0.1 (subst (Scoped (n + 1)) (sym e) (scoped_value n x v (ExistsTy k.0) h w.1 k.1)) (regs_shift 1 n 0 x h)
+      scoped_ins 0 (n + 1) rd _ (shift_file 1 0 x) (omega (arith, w.0.0)) w.0.1
+      (subst (Scoped (n + 1)) (sym e) (scoped_value n x v (ExistsTy k.0) h w.1 k.1)) (regs_shift 1 n 0 x h)
 
-  pub scoped_kept : (i : TInstr) (n : ℕ) (x : TFile) (c : TSeq) → ScopedRegs 0 n (next P x i) → ScopedRegs 0 n (kept P x i c)
+  pub scoped_kept : (i : TInstr) (n : ℕ) (x : TFile) (c : TSeq) → ScopedRegs 0 n (next P x i) →
+      ScopedRegs 0 n (kept P x i c)
   scoped_kept i n x c h = by_cases P i x c (ScopedRegs 0 n) (scoped_keep 0 n (live P (next P x i) c) (next P x i) h) h
 
-  pub scoped_target : (n : ℕ) (x : TFile) (v : TValue) → ScopedRegs 0 n x → WellFormedValue p q n v → (k : Enters P n (lookup x) v) → ScopedRegs 0 n k.0
+  pub scoped_target : (n : ℕ) (x : TFile) (v : TValue) → ScopedRegs 0 n x → WellFormedValue p q n v →
+      (k : Enters P n (lookup x) v) → ScopedRegs 0 n k.0
   scoped_target n x v h w k =
       let e : n + 0 ≡ n = omega arith in
       subst (λ m. ScopedRegs 0 m k.0) e (scoped_value n x v (CodeTy 0 k.0) h w k.1)
 
 -- of a whole program
-scoped_blocks : (p q : ℕ) (bs : List TBlock) → WellFormedBlocks p q bs → (l : ℕ) (b : TBlock) → slice_get bs l ≡ Some b → ScopedRegs 0 b.owes b.file
+scoped_blocks : (p q : ℕ) (bs : List TBlock) → WellFormedBlocks p q bs → (l : ℕ) (b : TBlock) →
+    slice_get bs l ≡ Some b → ScopedRegs 0 b.owes b.file
 scoped_blocks p q [] w l b e = cc
-scoped_blocks p q (x ∷ bs) w zero b e = let s : x ≡ b = cc in subst (λ y. ScopedRegs 0 y.owes y.file) s (scoped_regs 0 x.owes x.file w.0.1)
+scoped_blocks p q (x ∷ bs) w zero b e = let s : x ≡ b = cc in
+    subst (λ y. ScopedRegs 0 y.owes y.file) s (scoped_regs 0 x.owes x.file w.0.1)
 scoped_blocks p q (x ∷ bs) w (suc l) b e = scoped_blocks p q bs w.1 l b e
 
 pub labels_scoped : (P : TProg) → Whole P → LabelsScoped P
@@ -274,9 +313,11 @@ scoped_datum : (p q : ℕ) (xs : TData) → WellFormedData p q xs → ScopedFiel
 scoped_datum p q [] w = tt
 scoped_datum p q (x ∷ xs) w = (scoped 0 x.ty w.0.2, scoped_datum p q xs w.1)
 
-scoped_heap : (p q : ℕ) (hs : List TData) → WellFormedHeap p q hs → (d : ℕ) (x : TData) → slice_get hs d ≡ Some x → ScopedFields 0 (data_fields x)
+scoped_heap : (p q : ℕ) (hs : List TData) → WellFormedHeap p q hs → (d : ℕ) (x : TData) → slice_get hs d ≡ Some x →
+    ScopedFields 0 (data_fields x)
 scoped_heap p q [] w d x e = cc
-scoped_heap p q (y ∷ hs) w zero x e = let s : y ≡ x = cc in subst (λ z. ScopedFields 0 (data_fields z)) s (scoped_datum p q y w.0)
+scoped_heap p q (y ∷ hs) w zero x e = let s : y ≡ x = cc in
+    subst (λ z. ScopedFields 0 (data_fields z)) s (scoped_datum p q y w.0)
 scoped_heap p q (y ∷ hs) w (suc d) x e = scoped_heap p q hs w.1 d x e
 
 pub data_scoped : (P : TProg) → Whole P → DataScoped P

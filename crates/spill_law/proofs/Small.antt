@@ -1,20 +1,22 @@
 -- Programs with few registers, as they are; and the whole theorem.
-use Rattle.std.proofs.Common.{◌≡◌, ℕ, ◌+◌, ◌≤◌, cond, true, false, List, [], ◌∷◌, sym, subst, arith, ⊎_elim}
-use Rattle.std.specs.Prelude.{nat_le}
-use Rattle.std.proofs.lemmas.Bool.Decides.{nat_tests}
-use Rattle.t_types.specs.Tree.{Ty, IntTy, VarTy, CodeTy, ExistsTy, TupleTy, TFile, NoRegs, MoreRegs, TFields, NoFields, MoreFields}
-use Rattle.t_terms.specs.Tree.{TBase, Reg, Int, Label, Data, TValue, Plain, Pack, TInstr, Arith, Bnz, Ld, Malloc, Mov, St, Unpack, Jmp, Halt, TSeq, Then, Ends, TBlock, TData, TProg}
+use Rattle.std.proofs.Common.{ℕ, ◌+◌, ◌≤◌, List, [], ◌∷◌, arith}
+use Rattle.t_types.specs.Tree.{Ty, IntTy, VarTy, CodeTy, ExistsTy, TupleTy, TFile, NoRegs, MoreRegs, TFields, NoFields}
+use Rattle.t_types.specs.Tree.{MoreFields}
+use Rattle.t_terms.specs.Tree.{TBase, TValue, Plain, Pack, TInstr, Arith, Bnz, Ld, Malloc, Mov, St, Unpack, Jmp, Halt}
+use Rattle.t_terms.specs.Tree.{TSeq, Then, Ends, TBlock, TData, TProg}
 use Rattle.t_terms.specs.Whole.{Whole}
 use Rattle.t_rules.specs.Rules.{Accepted}
 use Rattle.t_rules.specs.Machine.{State, Place, Spot, After}
 use Rattle.t_rules.specs.Times.{places, Times, Entries}
-use Rattle.t_terms.specs.Nesting.{type_nesting, regs_nesting, fields_nesting, types_nesting, value_nesting, instr_nesting, seq_nesting, blocks_nesting, data_nesting, heap_nesting, nesting}
+use Rattle.t_terms.specs.Nesting.{type_nesting, regs_nesting, fields_nesting, types_nesting, value_nesting}
+use Rattle.t_terms.specs.Nesting.{instr_nesting, seq_nesting, blocks_nesting, data_nesting, heap_nesting, nesting}
 use Rattle.spill_law.specs.Spill.{next, lows, spilled, TypesFew}
 use Rattle.spill_law.specs.Bound.{RegistersUpTo}
 use Rattle.spill_law.specs.Bounded.{Spills}
 use Rattle.spill_law.specs.Correct.{times_in, CountsKept, origin}
-use Rattle.spill_law.specs.Reach.{type_reach, regs_reach, fields_reach, types_reach, value_reach, instr_reach, seq_reach, blocks_reach, data_reach, heap_reach, reach, FlatValue, FlatInstr, FlatSeq, FlatBlocks, FlatData, FlatHeap, Flat}
-use Rattle.spill_law.proofs.Heaps.{either}
+use Rattle.spill_law.specs.Reach.{type_reach, regs_reach, fields_reach, types_reach, value_reach, instr_reach}
+use Rattle.spill_law.specs.Reach.{seq_reach, blocks_reach, data_reach, heap_reach, reach, FlatValue, FlatInstr}
+use Rattle.spill_law.specs.Reach.{FlatSeq, FlatBlocks, FlatData, FlatHeap, Flat}
 use Rattle.spill_law.proofs.Standing.{standing_within_entries}
 use Rattle.spill_law.proofs.Typed.{kept_types}
 use Rattle.spill_law.proofs.Lows.{one_low, six_more, six_fit}
@@ -51,7 +53,8 @@ plain_most b (t ∷ ts) = let a = types_most (t ∷ ts) in omega (arith, a)
 
 value_most : (v : TValue) → FlatValue v → value_nesting v ≤ value_reach v + 2
 value_most (Plain b ts) h = let a = plain_most b ts in omega (arith, a)
-value_most (Pack t (Plain b ts) s) h = let a = type_most t in let c = plain_most b ts in let d = type_most s in omega (arith, a, c, d)
+value_most (Pack t (Plain b ts) s) h = let a = type_most t in let c = plain_most b ts in let d = type_most s in
+    omega (arith, a, c, d)
 value_most (Pack t (Pack u v w) s) h = absurd h
 
 instr_most : (P : TProg) (x : TFile) (i : TInstr) → FlatInstr i → instr_nesting i ≤ instr_reach P x i + 2
@@ -64,14 +67,16 @@ instr_most P x (St rd i rs) f = omega arith
 instr_most P x (Unpack rd v) f = let a = value_most v f in omega (arith, a)
 
 seq_most : (P : TProg) (c : TSeq) (x : TFile) → FlatSeq c → seq_nesting c ≤ seq_reach P x c + 2
-seq_most P (Then i c) x f = let a = instr_most P x i f.0 in let b = seq_most P c (next P x i) f.1 in omega (arith, a, b)
+seq_most P (Then i c) x f = let a = instr_most P x i f.0 in let b = seq_most P c (next P x i) f.1 in
+    omega (arith, a, b)
 seq_most P (Ends (Jmp v)) x f = let a = value_most v f in omega (arith, a)
 seq_most P (Ends Halt) x f = omega arith
 
 blocks_most : (P : TProg) (bs : List TBlock) → FlatBlocks bs → blocks_nesting bs ≤ blocks_reach P bs + 2
 blocks_most P [] f = omega arith
 blocks_most P (b ∷ bs) f =
-    let a = regs_most b.file in let c = seq_most P b.code b.file f.0 in let d = blocks_most P bs f.1 in omega (arith, a, c, d)
+    let a = regs_most b.file in let c = seq_most P b.code b.file f.0 in let d = blocks_most P bs f.1 in
+    omega (arith, a, c, d)
 
 data_most : (P : TProg) (xs : TData) → FlatData xs → data_nesting xs ≤ data_reach P xs + 2
 data_most P [] f = omega arith
@@ -89,7 +94,14 @@ whole_most P f = let a = blocks_most P P.blocks f.0 in let b = heap_most P P.hea
 same_counts : (P : TProg) → CountsKept P P (λ p. p)
 same_counts P = record {
   from_place = λ p h. h;
-  counts = λ m s p run. (m, s, p, run, λ b i. let x = cnt_is b i (places P m s p run) in let y = cnt_is b i (p ∷ places P m s p run) in omega (arith, x, y));
+  counts = λ m s p run. (
+    m,
+    s,
+    p,
+    run,
+    λ b i. let x = cnt_is b i (places P m s p run) in
+        let y = cnt_is b i (p ∷ places P m s p run) in omega (arith, x, y),
+  );
 }
 
 pub same : (k : ℕ) (P : TProg) → Whole P → Accepted P → RegistersUpTo k P → Spills k P P (λ p. p)
@@ -117,7 +129,8 @@ framed k P most w a f =
     }
 
 -- where no block of the program is entered more than n times, no place is executed more than n times
-pub within_entries : (P Q : TProg) (from : Place → Place) → CountsKept P Q from → (n : ℕ) → ((m : ℕ) (s : State) (p : Place) (run : After P m s p) (b : ℕ) → Entries P m s p run b ≤ n) →
+pub within_entries : (P Q : TProg) (from : Place → Place) → CountsKept P Q from → (n : ℕ) →
+    ((m : ℕ) (s : State) (p : Place) (run : After P m s p) (b : ℕ) → Entries P m s p run b ≤ n) →
     (m2 : ℕ) (s2 : State) (p2 : Place) (run2 : After Q m2 s2 p2) (b i : ℕ) → Times Q m2 s2 p2 run2 b i ≤ n
 within_entries P Q from k n h m2 s2 p2 run2 b i =
     let c = k.counts m2 s2 p2 run2 in
@@ -126,4 +139,5 @@ within_entries P Q from k n h m2 s2 p2 run2 b i =
     omega (arith, x, y)
   where
     at : (q : Place) (m : ℕ) (s : State) (p : Place) (run : After P m s p) → times_in q (p ∷ places P m s p run) ≤ n
-    at (Spot c j) m s p run = let x = standing_within_entries P m s p run c j in let y = h m s p run c in omega (arith, x, y)
+    at (Spot c j) m s p run = let x = standing_within_entries P m s p run c j in let y = h m s p run c in
+        omega (arith, x, y)

@@ -1,5 +1,5 @@
 -- A place is the place of a state at most as often as its block is entered, the last state of a run included.
-use Rattle.std.proofs.Common.{◌≡◌, ℕ, zero, suc, ◌+◌, ◌≤◌, ◌==◌, cond, Bool, List, [], ◌∷◌, ap, arith}
+use Rattle.std.proofs.Common.{◌≡◌, ℕ, zero, suc, ◌+◌, ◌≤◌, ◌==◌, cond, Bool, List, ◌∷◌, ap, arith}
 use Rattle.std.specs.Prelude.{nat_le, ◌&&◌, count_by}
 use Rattle.std.proofs.lemmas.List.Sums.{sum_by-cons}
 use Rattle.std.proofs.lemmas.Bool.Decides.{nat_tests}
@@ -14,7 +14,8 @@ ahead (Spot b i) block index = cond ((b == block) && nat_le i index) 1 0
 abbrev here : Place → ℕ → ℕ → ℕ
 here p block index = cond (is_spot block index p) 1 0
 
-here_next : (b i block index : ℕ) → here (Spot b i) block index + ahead (Spot b (i + 1)) block index ≤ ahead (Spot b i) block index
+here_next : (b i block index : ℕ) →
+    here (Spot b i) block index + ahead (Spot b (i + 1)) block index ≤ ahead (Spot b i) block index
 here_next b i block index = grind (arith, nat_tests)
 
 here_ahead : (p : Place) (block index : ℕ) → here p block index ≤ ahead p block index
@@ -27,11 +28,15 @@ count_more : {A : Type 0} (f : A → Bool) (x : A) (xs : List A) → count_by f 
 count_more f x xs = sum_by-cons (λ y. cond (f y) 1 0) x xs
 
 -- one step more
-step_counts : (q : Place) (k : Where) (log : List ℕ) (block index : ℕ) → here q block index + ahead (moved q k) block index + count_by (λ l. l == block) log ≤ ahead q block index + count_by (λ l. l == block) (entered_by k log)
+step_counts : (q : Place) (k : Where) (log : List ℕ) (block index : ℕ) →
+    here q block index + ahead (moved q k) block index + count_by (λ l. l == block) log ≤ ahead q block index +
+    count_by (λ l. l == block) (entered_by k log)
 step_counts (Spot b i) Next log block index = let x = here_next b i block index in omega (arith, x)
-step_counts (Spot b i) (Into l) log block index = let x = ahead_into l block index in let y = here_ahead (Spot b i) block index in let z = count_more (λ k. k == block) l log in omega (arith, x, y, z)
+step_counts (Spot b i) (Into l) log block index = let x = ahead_into l block index in
+    let y = here_ahead (Spot b i) block index in let z = count_more (λ k. k == block) l log in omega (arith, x, y, z)
 
-times_and_ahead : (P : TProg) (m : ℕ) (s : State) (p : Place) (run : After P m s p) (block index : ℕ) → Times P m s p run block index + ahead p block index ≤ Entries P m s p run block
+times_and_ahead : (P : TProg) (m : ℕ) (s : State) (p : Place) (run : After P m s p) (block index : ℕ) →
+    Times P m s p run block index + ahead p block index ≤ Entries P m s p run block
 times_and_ahead P zero s p run block index =
     let e = ap (λ q. ahead q block index) run.1 in
     let x = ahead_into 0 block index in

@@ -1,11 +1,13 @@
 -- Types: what is spilled of a type keeps shift, put and fits.
-use Rattle.std.proofs.Common.{◌≡◌, ℕ, zero, suc, ◌+◌, ◌-◌, ◌==◌, inl, inr, List, [], ◌∷◌, map, Some, refl, ap, ap₂, ◌∙◌}
-use Rattle.std.proofs.Common.{sym, subst}
+use Rattle.std.proofs.Common.{◌≡◌, ℕ, zero, suc, ◌+◌, ◌-◌, ◌==◌, inl, inr, List, [], ◌∷◌, map, Some, refl, ap, ap₂}
+use Rattle.std.proofs.Common.{◌∙◌}
+use Rattle.std.proofs.Common.{sym}
 use Rattle.std.specs.Prelude.{Bool, true, false, nat_lt, if◌then◌else◌}
 use Rattle.idx_core.specs.Over.{At, deep, shifted, putted}
 use Rattle.idx_core.specs.Steps.{over_same}
 use Rattle.t_types.specs.Tree.{Ty, IntTy, VarTy, CodeTy, ExistsTy, TupleTy, TFile, NoRegs, MoreRegs, TFields, NoFields}
-use Rattle.t_types.specs.Tree.{MoreFields, over, over_file, over_fields, shift, shift_file, put, put_file, Below, BelowFile}
+use Rattle.t_types.specs.Tree.{MoreFields, over, over_file, over_fields, shift, shift_file, put, put_file, Below}
+use Rattle.t_types.specs.Tree.{BelowFile}
 use Rattle.t_types.specs.Tree.{BelowFields, BelowTypes}
 use Rattle.t_types.specs.TreeLaws.{types_part, types_over, file_over}
 use Rattle.t_types.specs.Fields.{AField, field, filled, empty_fields}
@@ -13,7 +15,8 @@ use Rattle.t_types.specs.Fits.{FieldsFit, Fits}
 use Rattle.t_rules.specs.Registers.{inst_file}
 use Rattle.t_terms.specs.Tree.{TData}
 use Rattle.t_rules.specs.Rules.{data_fields}
-use Rattle.spill_law.specs.Spill.{with_if, without_if, high_part, low_part, frame, cells, split, frame_reg, sp, sp_regs}
+use Rattle.spill_law.specs.Spill.{with_if, without_if, high_part, low_part, frame, cells, split, frame_reg, sp}
+use Rattle.spill_law.specs.Spill.{sp_regs}
 use Rattle.spill_law.specs.Spill.{sp_fields, sp_file, sp_data}
 
 -- the parts of a file go with walks
@@ -68,7 +71,8 @@ mutual
   sp_over m f d (ExistsTy t) = ap ExistsTy (sp_over m f (d + 1) t)
   sp_over m f d (TupleTy fs) = ap TupleTy (sp_over_fields m f d fs)
 
-  pub regs_over : (m : ℕ) (f : At Ty) (d : ℕ) (x : TFile) → sp_regs m (over_file f d x) ≡ over_file (spd m f) d (sp_regs m x)
+  pub regs_over : (m : ℕ) (f : At Ty) (d : ℕ) (x : TFile) →
+      sp_regs m (over_file f d x) ≡ over_file (spd m f) d (sp_regs m x)
   regs_over m f d NoRegs = refl
   regs_over m f d (MoreRegs r t x) = ap₂ (λ u y. MoreRegs r u y) (sp_over m f d t) (regs_over m f d x)
 
@@ -87,32 +91,38 @@ shifted_sp m k d i = sp_if m (nat_lt i d) (VarTy i) (VarTy (i + k))
 pub sp_shift : (m k c : ℕ) (t : Ty) → sp m (shift k c t) ≡ shift k c (sp m t)
 sp_shift m k c t =
     sp_over m (shifted VarTy k) c t
-    ∙ over_same types_part types_over (spd m (shifted VarTy k)) (shifted VarTy k) c c (λ e i. shifted_sp m k (deep c e) i) (sp m t)
+    ∙ over_same types_part types_over (spd m (shifted VarTy k)) (shifted VarTy k) c c
+    (λ e i. shifted_sp m k (deep c e) i) (sp m t)
 
 pub regs_shift : (m k c : ℕ) (x : TFile) → sp_regs m (shift_file k c x) ≡ shift_file k c (sp_regs m x)
 regs_shift m k c x =
     regs_over m (shifted VarTy k) c x
-    ∙ over_same types_part file_over (spd m (shifted VarTy k)) (shifted VarTy k) c c (λ e i. shifted_sp m k (deep c e) i) (sp_regs m x)
+    ∙ over_same types_part file_over (spd m (shifted VarTy k)) (shifted VarTy k) c c
+    (λ e i. shifted_sp m k (deep c e) i) (sp_regs m x)
 
 putted_sp : (m c : ℕ) (s : Ty) (d i : ℕ) → sp m (putted VarTy over c s d i) ≡ putted VarTy over c (sp m s) d i
 putted_sp m c s d i =
     sp_if m (nat_lt i d) (VarTy i) (if i == d then shift (d - c) 0 s else VarTy (i - 1))
     ∙ ap (λ x. if nat_lt i d then VarTy i else x)
-    (sp_if m (i == d) (shift (d - c) 0 s) (VarTy (i - 1)) ∙ ap (λ x. if i == d then x else VarTy (i - 1)) (sp_shift m (d - c) 0 s))
+    (sp_if m (i == d) (shift (d - c) 0 s) (VarTy (i - 1))
+    ∙ ap (λ x. if i == d then x else VarTy (i - 1)) (sp_shift m (d - c) 0 s))
 
 pub sp_put : (m c : ℕ) (s t : Ty) → sp m (put c s t) ≡ put c (sp m s) (sp m t)
 sp_put m c s t =
     sp_over m (putted VarTy over c s) c t
-    ∙ over_same types_part types_over (spd m (putted VarTy over c s)) (putted VarTy over c (sp m s)) c c (λ e i. putted_sp m c s (deep c e) i) (sp m t)
+    ∙ over_same types_part types_over (spd m (putted VarTy over c s)) (putted VarTy over c (sp m s)) c c
+    (λ e i. putted_sp m c s (deep c e) i) (sp m t)
 
 sp_put_file : (m c : ℕ) (s : Ty) (x : TFile) → sp_file m (put_file c s x) ≡ put_file c (sp m s) (sp_file m x)
 sp_put_file m c s x =
     ap (split m)
     (regs_over m (putted VarTy over c s) c x
-    ∙ over_same types_part file_over (spd m (putted VarTy over c s)) (putted VarTy over c (sp m s)) c c (λ e i. putted_sp m c s (deep c e) i) (sp_regs m x))
+    ∙ over_same types_part file_over (spd m (putted VarTy over c s)) (putted VarTy over c (sp m s)) c c
+    (λ e i. putted_sp m c s (deep c e) i) (sp_regs m x))
     ∙ split_over (putted VarTy over c (sp m s)) c m (sp_regs m x)
 
-pub sp_inst : (m : ℕ) (ts : List Ty) (n : ℕ) (x : TFile) → sp_file m (inst_file ts n x) ≡ inst_file (map (sp m) ts) n (sp_file m x)
+pub sp_inst : (m : ℕ) (ts : List Ty) (n : ℕ) (x : TFile) →
+    sp_file m (inst_file ts n x) ≡ inst_file (map (sp m) ts) n (sp_file m x)
 sp_inst m [] n x = refl
 sp_inst m (t ∷ ts) n x =
     sp_inst m ts (n - 1) (put_file (n - 1) (shift (n - 1) 0 t) x)
@@ -148,11 +158,13 @@ empty_sp m [] = refl
 empty_sp m (t ∷ ts) = ap (MoreFields (sp m t) false) (empty_sp m ts)
 
 -- closed types stay closed
-below_with : (n : ℕ) (b : Bool) (r : ℕ) (t : Ty) (x : TFile) → Below n t → BelowFile n x → BelowFile n (with_if b r t x)
+below_with : (n : ℕ) (b : Bool) (r : ℕ) (t : Ty) (x : TFile) → Below n t → BelowFile n x →
+    BelowFile n (with_if b r t x)
 below_with n true r t x h k = (h, k)
 below_with n false r t x h k = k
 
-below_without : (n : ℕ) (b : Bool) (r : ℕ) (t : Ty) (x : TFile) → Below n t → BelowFile n x → BelowFile n (without_if b r t x)
+below_without : (n : ℕ) (b : Bool) (r : ℕ) (t : Ty) (x : TFile) → Below n t → BelowFile n x →
+    BelowFile n (without_if b r t x)
 below_without n true r t x h k = k
 below_without n false r t x h k = (h, k)
 
@@ -181,7 +193,8 @@ mutual
   pub below_sp : (m n : ℕ) (t : Ty) → Below n t → Below n (sp m t)
   below_sp m n IntTy h = tt
   below_sp m n (VarTy i) h = h
-  below_sp m n (CodeTy owes file) h = (h.0, below_split (n + owes) m (sp_regs m file) (below_regs m (n + owes) file h.1))
+  below_sp m n (CodeTy owes file) h =
+      (h.0, below_split (n + owes) m (sp_regs m file) (below_regs m (n + owes) file h.1))
   below_sp m n (ExistsTy t) h = (h.0, below_sp m (n + 1) t h.1)
   below_sp m n (TupleTy fs) h = below_sp_fields m n fs h
 

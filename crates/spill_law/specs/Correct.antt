@@ -1,5 +1,6 @@
 -- What holds of what is spilled.
-use Rattle.std.specs.Prelude.{◌≡◌, ℕ, ℤ, zero, suc, ◌-◌, ◌≤◌, nat_lt, cond, List, [], ◌∷◌, Option, Some, None, slice_get, count_by}
+use Rattle.std.specs.Prelude.{◌≡◌, ℕ, ℤ, zero, suc, ◌-◌, ◌≤◌, nat_lt, cond, List, [], ◌∷◌, Option, Some, None}
+use Rattle.std.specs.Prelude.{slice_get, count_by}
 use Rattle.t_terms.specs.Tree.{TBlock, TProg}
 use Rattle.t_rules.specs.Machine.{State, Place, Spot, After, HaltsWithin, Halts}
 use Rattle.t_rules.specs.Times.{places, is_spot, Times}
@@ -40,4 +41,5 @@ times_in (Spot b i) ps = count_by (is_spot b i) ps
 pub record CountsKept (P Q : TProg) (from : Place → Place) : Type 0 where
   pub from_place : (p : Place) → IsPlace Q p → IsPlace P (from p)
   pub counts : (m2 : ℕ) (s2 : State) (p2 : Place) (run2 : After Q m2 s2 p2) →
-      (m : ℕ) × (s : State) × (p : Place) × (run : After P m s p) × ((b i : ℕ) → Times Q m2 s2 p2 run2 b i ≤ times_in (from (Spot b i)) (p ∷ places P m s p run))
+      (m : ℕ) × (s : State) × (p : Place) × (run : After P m s p)
+      × ((b i : ℕ) → Times Q m2 s2 p2 run2 b i ≤ times_in (from (Spot b i)) (p ∷ places P m s p run))

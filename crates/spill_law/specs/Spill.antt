@@ -10,7 +10,8 @@ use Rattle.t_types.specs.Fields.{TField, AField, field, filled, empty_fields}
 use Rattle.t_types.specs.Fits.{lookup}
 use Rattle.t_types.specs.WellFormed.{max_number, max_names}
 use Rattle.t_terms.specs.Tree.{TBase, Reg, Int, Label, Data, TValue, Plain, Pack, TInstr, Arith, Bnz, Ld, Malloc, Mov}
-use Rattle.t_terms.specs.Tree.{St, Unpack, TEnd, Jmp, Halt, TSeq, Then, Ends, TBlock, TDatum, TData, TProg, names_after}
+use Rattle.t_terms.specs.Tree.{St, Unpack, TEnd, Jmp, Halt, TSeq, Then, Ends, TBlock, TDatum, TData, TProg}
+use Rattle.t_terms.specs.Tree.{names_after}
 use Rattle.t_rules.specs.Registers.{inst_file}
 use Rattle.t_rules.specs.Rules.{label_type, data_type}
 
@@ -104,7 +105,9 @@ sp_value m at (Pack t v s) = Pack (sp m t) (sp_value m at v) (sp m s)
 -- the file with a type for a register, in ascending order
 abbrev pub ins : ℕ → Ty → TFile → TFile
 ins r t NoRegs = MoreRegs r t NoRegs
-ins r t (MoreRegs q u file) = cond (nat_lt r q) (MoreRegs r t (MoreRegs q u file)) (cond (nat_eq r q) (MoreRegs r t file) (MoreRegs q u (ins r t file)))
+ins r t (MoreRegs q u file) =
+    cond (nat_lt r q) (MoreRegs r t (MoreRegs q u file))
+    (cond (nat_eq r q) (MoreRegs r t file) (MoreRegs q u (ins r t file)))
 
 -- the types of values; IntTy where there is none
 abbrev pub or_int : Option Ty → Ty
@@ -234,7 +237,8 @@ keep qs (MoreRegs r t x) = cond (among r qs) (MoreRegs r t (keep qs x)) (keep qs
 -- what stays known after an instruction: the registers that the rest wants; a branch leaves the frame as it is
 abbrev pub kept : TProg → TFile → TInstr → TSeq → TFile
 kept P file (Bnz r v) rest = file
-kept P file (Arith op rd rs v) rest = keep (live P (next P file (Arith op rd rs v)) rest) (next P file (Arith op rd rs v))
+kept P file (Arith op rd rs v) rest =
+    keep (live P (next P file (Arith op rd rs v)) rest) (next P file (Arith op rd rs v))
 kept P file (Ld rd rs i) rest = keep (live P (next P file (Ld rd rs i)) rest) (next P file (Ld rd rs i))
 kept P file (Malloc rd ts) rest = keep (live P (next P file (Malloc rd ts)) rest) (next P file (Malloc rd ts))
 kept P file (Mov rd v) rest = keep (live P (next P file (Mov rd v)) rest) (next P file (Mov rd v))
@@ -322,7 +326,8 @@ abbrev pub into : ℕ → ℕ → ℕ
 into m rd = cond (nat_lt m rd) (first_reg m) rd
 
 -- What becomes of it: it stays there, or it goes into the next slot, or into a new frame of all that the rest wants. A
--- new frame is made after each unpack, since the types of fields cannot name the type variable that it binds, and where
+-- new frame is made after each unpack, since the types of fields cannot name the type variable that it binds, and
+-- where
 -- the slots have come to their greatest number.
 pub data Way : Type 0 where
   Stays : Way
@@ -478,7 +483,8 @@ ValuesFew P n file (v ∷ vs) = FewNames n (type_of P file v) × ValuesFew P n f
 
 -- the same of each type that the typing of a sequence gives to a register or a value
 abbrev pub SeqFew : TProg → ℕ → TFile → TSeq → Type 0
-SeqFew P n file (Then i rest) = ValuesFew P n file (values_of i) × FewNamesFile (names_after i n) (next P file i) × SeqFew P (names_after i n) (next P file i) rest
+SeqFew P n file (Then i rest) = ValuesFew P n file (values_of i) × FewNamesFile (names_after i n) (next P file i)
+    × SeqFew P (names_after i n) (next P file i) rest
 SeqFew P n file (Ends (Jmp v)) = FewNames n (type_of P file v)
 SeqFew P n file (Ends Halt) = Unit {0}
 

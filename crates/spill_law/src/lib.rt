@@ -30,26 +30,26 @@ pub fn registers_are_few()
 
 /// It halts with the same integers, and never in fewer instructions.
 pub fn meaning_is_kept()
-    ensures { (k : ℕ) (P : TProg) → 8 ≤ k → Whole P → Accepted P → TypesFew P → HaltsAlike P (spilled k P) }
+    ensures { (k : ℕ) (P : TProg) → 8 ≤ k → Whole P → Accepted P → TypesFew P →
+        HaltsAlike P (spilled k P) }
 {}
 
 /// Each place comes from a place, and is executed no more often than that is the place of a state.
 pub fn counts_are_kept()
-    ensures {
-        (k : ℕ) (P : TProg) → 8 ≤ k → Whole P → Accepted P → TypesFew P → CountsKept P (spilled k P) (origin k P)
-    }
+    ensures { (k : ℕ) (P : TProg) → 8 ≤ k → Whole P → Accepted P → TypesFew P →
+        CountsKept P (spilled k P) (origin k P) }
 {}
 
 /// Where no pack stands inside a pack, its text has hardly more constructs open than the program's types reach.
 pub fn reach_is_kept()
-    ensures { (k : ℕ) (P : TProg) → 8 ≤ k → Whole P → Accepted P → Flat P → nesting (spilled k P) ≤ reach P + 20 }
+    ensures { (k : ℕ) (P : TProg) → 8 ≤ k → Whole P → Accepted P → Flat P →
+        nesting (spilled k P) ≤ reach P + 20 }
 {}
 
 /// The whole theorem.
 pub fn registers_are_bounded()
-    ensures {
-        (k : ℕ) (P : TProg) → 8 ≤ k → Whole P → Accepted P → TypesFew P → Spills k P (spilled k P) (origin k P)
-    }
+    ensures { (k : ℕ) (P : TProg) → 8 ≤ k → Whole P → Accepted P → TypesFew P →
+        Spills k P (spilled k P) (origin k P) }
 {}
 
 /// A program that has no register above k may stay as it is.
@@ -57,7 +57,7 @@ pub fn few_registers_may_stay()
     ensures { (k : ℕ) (P : TProg) → Whole P → Accepted P → RegistersUpTo k P → Spills k P P (λ p. p) }
 {}
 
-/// Where the counts are kept and no block of the program is entered more than n times, no place is executed more often.
+/// Where counts are kept and no block of the program is entered more than n times, no place is executed more often.
 pub fn places_run_seldom()
     ensures { SpilledRunSeldom }
 {}

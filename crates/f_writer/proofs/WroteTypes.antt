@@ -1,5 +1,6 @@
 -- A type that is written stands for itself, where the names around it are those of its depth.
-use Rattle.std.proofs.Common.{◌≡◌, ◌<◌, ℕ, ◌+◌, ◌-◌, List, [], ◌∷◌, ◌++◌, length, codes, Bool, true, false, refl, sym, ap, ◌∙◌, arith, append_assoc, subst}
+use Rattle.std.proofs.Common.{◌≡◌, ℕ, ◌+◌, ◌-◌, List, [], ◌∷◌, ◌++◌, length, codes, Bool, true, false, refl, sym}
+use Rattle.std.proofs.Common.{ap, ◌∙◌, arith, append_assoc, subst}
 use Rattle.std.proofs.lemmas.List.{append-nil}
 use Rattle.idx_core.specs.declared.span.Span.{Span}
 use Rattle.idx_core.specs.Names.{Name, IsPlace}
@@ -9,11 +10,15 @@ use Rattle.f_terms.specs.Text.{is_grouped}
 use Rattle.f_lexer.specs.declared.kind.Kind.TheVariants as k
 use Rattle.f_lexer.specs.declared.token.Token.{Token}
 use Rattle.f_grammar.specs.declared.types.Quantifier.TheVariants.{All, Exists}
-use Rattle.f_grammar.specs.Raw.{RawTy, RawTys, raw_tys, TyPiece, int_ty, name_ty, tuple_ty, arrow_ty, bound_ty, ref_ty, paren_ty}
-use Rattle.f_grammar.specs.Grammar.{tok, T, t_all, t_some, t_arrow, t_part, U, u_int, u_name, u_unit, u_tuple, u_paren, u_ref, Ts, ts_one, ts_more}
-use Rattle.f_parser.specs.Scope.{spelled, TypeOf, of_int, of_name, of_tuple, of_arrow, of_all, of_some, of_ref, TypesOf, of_no_types, of_more_types}
+use Rattle.f_grammar.specs.Raw.{RawTy, raw_tys, TyPiece, int_ty, name_ty, tuple_ty, arrow_ty, bound_ty}
+use Rattle.f_grammar.specs.Raw.{ref_ty, paren_ty}
+use Rattle.f_grammar.specs.Grammar.{tok, T, t_all, t_some, t_arrow, t_part, U, u_int, u_name, u_unit, u_tuple}
+use Rattle.f_grammar.specs.Grammar.{u_paren, u_ref, Ts, ts_one, ts_more}
+use Rattle.f_parser.specs.Scope.{spelled, TypeOf, of_int, of_name, of_tuple, of_arrow, of_all, of_some, of_ref}
+use Rattle.f_parser.specs.Scope.{TypesOf, of_no_types, of_more_types}
 use Rattle.f_writer.specs.Fits.{TypeFits}
-use Rattle.f_writer.proofs.Lexemes.{Lexeme, Reserved, TypeName, Sign, Pair, Spaced, Blank, bytes, space, comma, open_paren, close_paren, inside, type_lexed, types_lexed, more_types_lexed}
+use Rattle.f_writer.proofs.Lexemes.{Reserved, TypeName, Sign, Pair, Spaced, bytes, space, comma}
+use Rattle.f_writer.proofs.Lexemes.{open_paren, close_paren, inside, type_lexed, more_types_lexed}
 use Rattle.f_writer.proofs.Placed as placing
 use Rattle.f_writer.proofs.Placed.{size, placed, placed_append, stops, Fine, fine_append, Written, written_append}
 use Rattle.f_writer.proofs.Scopes.{type_names, names_next, in_scope}
@@ -46,7 +51,9 @@ module _ (text : List ℕ) where
     fine : Fine (inside b (type_lexed d t)) true
     bound : TypeOf text (type_names d) piece.ty t
 
-  unit : (b : Bool) (i d : ℕ) (t : Ty) → is_grouped t ≡ b → ((j : ℕ) → Written text j (type_lexed d t) → WroteType j d t) → Written text i (inside b (type_lexed d t)) → WroteUnit b i d t
+  unit : (b : Bool) (i d : ℕ) (t : Ty) → is_grouped t ≡ b →
+      ((j : ℕ) → Written text j (type_lexed d t) → WroteType j d t) → Written text i (inside b (type_lexed d t)) →
+      WroteUnit b i d t
   unit true i d t e f w =
       let ls = type_lexed d t in
       let last = close_paren ∷ [] in
@@ -54,13 +61,20 @@ module _ (text : List ℕ) where
       let c = placing.place_of (i + 1 + size ls) close_paren in
       record {
         piece = paren_ty r.piece c;
-        whole = rw (placed_append (i + 1) ls last) (u_paren (placing.place_of i open_paren) c (to_type (is_grouped t) _ _ r.whole));
+        whole = rw (placed_append (i + 1) ls last) (u_paren (placing.place_of i open_paren) c
+            (to_type (is_grouped t) _ _ r.whole));
         fine = ((refl, refl, tt), tt, fine_append ls last true r.fine ((refl, refl, tt), tt, tt));
         bound = r.bound;
       }
   unit false i d t e f w =
       let r = f i w in
-      record { piece = r.piece; whole = subst (λ b. OfType b (placed i (type_lexed d t)) r.piece) e r.whole; fine = r.fine; bound = r.bound }
+      record {
+        piece = r.piece;
+        whole = subst (λ b. OfType b (placed i (type_lexed d t)) r.piece) e r.whole;
+        fine =
+            r.fine;
+        bound = r.bound;
+      }
 
   -- types after the first of a tuple
   record MoreTypes (i d : ℕ) (ts : Tys) : Type 0 where
@@ -70,9 +84,11 @@ module _ (text : List ℕ) where
     bound : TypesOf text (type_names d) (raw_tys raw) ts
 
   -- under a binder
-  under : (s : Span) (d : ℕ) (r : RawTy) (t : Ty) → spelled text s ≡ bytes (TypeName d) → TypeOf text (type_names (d + 1)) r t → TypeOf text (spelled text s ∷ type_names d) r t
+  under : (s : Span) (d : ℕ) (r : RawTy) (t : Ty) → spelled text s ≡ bytes (TypeName d) →
+      TypeOf text (type_names (d + 1)) r t → TypeOf text (spelled text s ∷ type_names d) r t
   under s d r t e h =
-      let q : type_names (d + 1) ≡ spelled text s ∷ type_names d = names_next 116 d ∙ ap (λ (x : Name). x ∷ type_names d) (sym e) in
+      let q : type_names (d + 1) ≡ spelled text s ∷ type_names d = names_next 116 d ∙ ap
+      (λ (x : Name). x ∷ type_names d) (sym e) in
       subst (λ (a : List Name). TypeOf text a r t) q h
 
   mutual
@@ -99,7 +115,8 @@ module _ (text : List ℕ) where
         let r = wrote_type (i + size ls + 1 + 2 + 1) d b n h.1 x.1.1.1.1 in
         record {
           piece = arrow_ty l.piece r.piece;
-          whole = rw (placed_append i ls rest) (t_arrow (placing.place_of (i + size ls + 1) (Pair 45 62 k.Arrow)) l.whole (to_type (is_grouped b) _ _ r.whole));
+          whole = rw (placed_append i ls rest) (t_arrow (placing.place_of (i + size ls + 1) (Pair 45 62 k.Arrow))
+              l.whole (to_type (is_grouped b) _ _ r.whole));
           fine = fine_append ls rest true l.fine (refl, tt, ((refl, (λ s. refl), tt), tt, (refl, tt, r.fine)));
           bound = of_arrow l.bound r.bound;
         }
@@ -109,7 +126,8 @@ module _ (text : List ℕ) where
         let r = wrote_type (c + 2) (d + 1) t h.0 h.1 w.1.1.1.1 in
         record {
           piece = bound_ty All s r.piece;
-          whole = t_all (placing.place_of i (Reserved (codes "all") k.All)) s (placing.place_of c (Spaced 46 k.Dot)) (to_type (is_grouped t) _ _ r.whole);
+          whole = t_all (placing.place_of i (Reserved (codes "all") k.All)) s (placing.place_of c (Spaced 46 k.Dot))
+              (to_type (is_grouped t) _ _ r.whole);
           fine = ((refl, refl, tt), refl, (refl, tt, (n, refl, ((refl, (λ s. refl), tt), tt, r.fine))));
           bound = of_all s (under s d r.piece.ty t w.1.1.0 r.bound);
         }
@@ -132,8 +150,14 @@ module _ (text : List ℕ) where
         record {
           piece = tuple_ty (a.piece.ty ∷ r.raw) c;
           whole = rw (placed_append (i + 1) ls last, placed_append (i + 1) first more)
-              (u_tuple (placing.place_of i (Sign 60 k.LeftAngle)) c (r.extend (placed (i + 1) first) (a.piece.ty ∷ []) (ts_one (to_type (is_grouped t) _ _ a.whole))));
-          fine = ((refl, refl, tt), tt, fine_append ls last true (fine_append first more true (rw (stops_more d ts) a.fine) r.fine) ((refl, refl, tt), tt, tt));
+              (u_tuple (placing.place_of i (Sign 60 k.LeftAngle)) c
+              (r.extend (placed (i + 1) first) (a.piece.ty ∷ []) (ts_one (to_type (is_grouped t) _ _ a.whole))));
+          fine = (
+            (refl, refl, tt),
+            tt,
+            fine_append ls last true
+                (fine_append first more true (rw (stops_more d ts) a.fine) r.fine) ((refl, refl, tt), tt, tt),
+          );
           bound = of_tuple (of_more_types a.bound r.bound);
         }
     wrote_type i d (TSome t) n h w =
@@ -142,7 +166,8 @@ module _ (text : List ℕ) where
         let r = wrote_type (c + 2) (d + 1) t h.0 h.1 w.1.1.1.1 in
         record {
           piece = bound_ty Exists s r.piece;
-          whole = t_some (placing.place_of i (Reserved (codes "some") k.Some)) s (placing.place_of c (Spaced 46 k.Dot)) (to_type (is_grouped t) _ _ r.whole);
+          whole = t_some (placing.place_of i (Reserved (codes "some") k.Some)) s
+              (placing.place_of c (Spaced 46 k.Dot)) (to_type (is_grouped t) _ _ r.whole);
           fine = ((refl, refl, tt), refl, (refl, tt, (n, refl, ((refl, (λ s. refl), tt), tt, r.fine))));
           bound = of_some s (under s d r.piece.ty t w.1.1.0 r.bound);
         }
@@ -155,7 +180,8 @@ module _ (text : List ℕ) where
           bound = of_ref r.bound;
         }
 
-    more_types : (i d : ℕ) (ts : Tys) → IsWord d → each_all BelowAt IsWord d ts → Written text i (more_types_lexed d ts) → MoreTypes i d ts
+    more_types : (i d : ℕ) (ts : Tys) → IsWord d → each_all BelowAt IsWord d ts →
+        Written text i (more_types_lexed d ts) → MoreTypes i d ts
     more_types i d NoTys n h w = record {
       raw = [];
       extend = λ u rs x. rw (append-nil, append-nil) x;
@@ -171,7 +197,8 @@ module _ (text : List ℕ) where
         record {
           raw = a.piece.ty ∷ r.raw;
           extend = λ u rs y. rw (placed_append (i + 2) first more)
-              (simp append_assoc at (r.extend (u ++ tok k.Comma (placing.place_of i comma) ∷ placed (i + 2) first) (rs ++ a.piece.ty ∷ []) (ts_more (placing.place_of i comma) y (to_type (is_grouped t) _ _ a.whole))));
+              (simp append_assoc at (r.extend (u ++ tok k.Comma (placing.place_of i comma) ∷ placed (i + 2) first)
+              (rs ++ a.piece.ty ∷ []) (ts_more (placing.place_of i comma) y (to_type (is_grouped t) _ _ a.whole))));
           fine = ((refl, (λ s. refl), tt), tt, fine_append first more true (rw (stops_more d ts) a.fine) r.fine);
           bound = of_more_types a.bound r.bound;
         }

@@ -13,7 +13,7 @@ pub fn read_terms_can_be_written()
     ensures { ReadTermsCanBeWritten }
 {}
 
-/// A text that is read, written and read again gives the same term, places aside, and that is written as the same bytes.
+/// A text that is read, written and read again gives the same term, places aside, which is written as the same bytes.
 pub fn written_twice_is_written_once()
     ensures { WrittenTwiceIsWrittenOnce }
 {

@@ -1,5 +1,6 @@
 // What the canonical text of a term stands for, as functions that callers cite.
 ghost use Rattle.f_writer.specs.Laws.{StandsForItself, ReadTermsCanBeWritten, WrittenTwiceIsWrittenOnce};
+ghost use Rattle.f_writer.specs.Laws.{WrittenTextsAreWithin};
 
 use f_parser::one_term;
 
@@ -19,3 +20,9 @@ pub fn written_twice_is_written_once()
 {
     one_term();
 }
+
+/// A text that stands for a term within the limits is written as one that does, where that has no more bytes than a
+/// source may have.
+pub fn written_texts_are_within()
+    ensures { WrittenTextsAreWithin }
+{}

@@ -1,5 +1,7 @@
 -- What stands at the start of written bytes: each lexeme is one item, where what follows it ends it.
-use Rattle.std.proofs.Common.{◌≡◌, ◌≤◌, ◌<◌, ◌^◌, ◌≤ℤ◌, ℕ, ℤ, suc, ◌+◌, List, [], ◌∷◌, ◌++◌, length, take, drop, Bool, true, false, ◌&&◌, ◌||◌, not, ◌==◌, refl, ap, ◌∙◌, arith, pos, negsuc, neg_ℤ, decimal, Option, Some, None}
+use Rattle.std.proofs.Common.{◌≡◌, ◌≤◌, ◌<◌, ◌^◌, ◌≤ℤ◌, ℕ, ℤ, suc, ◌+◌, List, [], ◌∷◌, ◌++◌, length, take, drop, Bool}
+use Rattle.std.proofs.Common.{true, false, ◌&&◌, ◌||◌, not, ◌==◌, refl, ap, ◌∙◌, arith, pos, negsuc, neg_ℤ, decimal}
+use Rattle.std.proofs.Common.{Option, Some, None}
 use Rattle.std.specs.List.{prefix_len, list_all}
 use Rattle.std.proofs.lemmas.Bool.{and_parts}
 use Rattle.std.proofs.lemmas.Bool.Decides.{nat_tests}
@@ -9,7 +11,8 @@ use Rattle.std.proofs.lemmas.Fmt.{digits_decimal, digits_value-decimal, decimal_
 use Rattle.std.proofs.Math.Seq.{take-append_seam}
 use Rattle.text_core.specs.Byte.{space, digit, letter, of_word, value, value_from}
 use Rattle.text_core.specs.Tokens.{Item, Gap, Spelling, look}
-use Rattle.text_core.specs.Lexeme.{Piece, PWord, PPlain, PNegative, POther, at_dashes, at_negative, piece, of_piece, of_sign, of_pair, sign_item, item}
+use Rattle.text_core.specs.Lexeme.{Piece, PWord, PPlain, PNegative, POther, at_dashes, at_negative, piece, of_piece}
+use Rattle.text_core.specs.Lexeme.{of_sign, of_pair, sign_item, item}
 use Rattle.f_lexer.specs.declared.kind.Kind.{Kind}
 use Rattle.f_lexer.specs.declared.kind.Kind.TheVariants as k
 use Rattle.f_lexer.specs.Source.{source, Keeps, words, word_in, signs, pair}
@@ -55,12 +58,14 @@ no_digit b e = grind (arith, nat_tests)
 run_digits : (ds r : List ℕ) → AreDigits ds → Stops r → prefix_len digit (ds ++ r) ≡ length ds
 run_digits [] [] h s = refl
 run_digits [] (b ∷ r) h s = rw (no_digit b s) refl
-run_digits (d ∷ ds) r h s = let p = and_parts (digit d) (list_all digit ds) h in rw p.0 (ap (λ n. 1 + n) (run_digits ds r p.1 s) ∙ omega arith)
+run_digits (d ∷ ds) r h s = let p = and_parts (digit d) (list_all digit ds) h in rw p.0
+    (ap (λ n. 1 + n) (run_digits ds r p.1 s) ∙ omega arith)
 
 run_word : (u r : List ℕ) → list_all of_word u ≡ true → Stops r → prefix_len of_word (u ++ r) ≡ length u
 run_word [] [] h s = refl
 run_word [] (b ∷ r) h s = rw s refl
-run_word (c ∷ u) r h s = let p = and_parts (of_word c) (list_all of_word u) h in rw p.0 (ap (λ n. 1 + n) (run_word u r p.1 s) ∙ omega arith)
+run_word (c ∷ u) r h s = let p = and_parts (of_word c) (list_all of_word u) h in rw p.0
+    (ap (λ n. 1 + n) (run_word u r p.1 s) ∙ omega arith)
 
 no_dashes : (b : ℕ) (s : List ℕ) → (b == 45) ≡ false → at_dashes (b ∷ s) ≡ false
 no_dashes b [] e = refl
@@ -93,25 +98,34 @@ digit_of_word b h = grind (arith, nat_tests)
 
 digits_of_word : (ds : List ℕ) → AreDigits ds → list_all of_word ds ≡ true
 digits_of_word [] h = refl
-digits_of_word (d ∷ ds) h = let p = and_parts (digit d) (list_all digit ds) h in rw (digit_of_word d p.0) (digits_of_word ds p.1)
+digits_of_word (d ∷ ds) h = let p = and_parts (digit d) (list_all digit ds) h in rw (digit_of_word d p.0)
+    (digits_of_word ds p.1)
 
 -- a word
-word_item : (b : ℕ) (u r : List ℕ) → letter b ≡ true → list_all of_word u ≡ true → Stops r → item source (b ∷ (u ++ r)) ≡ Spelling (word_in words (b ∷ u)) (length (b ∷ u))
+word_item : (b : ℕ) (u r : List ℕ) → letter b ≡ true → list_all of_word u ≡ true → Stops r →
+    item source (b ∷ (u ++ r)) ≡ Spelling (word_in words (b ∷ u)) (length (b ∷ u))
 word_item b u r l h s =
     let n : 1 + prefix_len of_word (u ++ r) ≡ length (b ∷ u) = ap (λ n. 1 + n) (run_word u r h s) ∙ omega arith in
-    let p : piece (b ∷ (u ++ r)) ≡ PWord (1 + prefix_len of_word (u ++ r)) = rw (letter_no_space b l, no_dashes b (u ++ r) (letter_no_dash b l), l) refl in
-    ap (λ (x : Piece). of_piece source (b ∷ (u ++ r)) x) (p ∙ ap PWord n) ∙ ap (λ v. Spelling (word_in words v) (length (b ∷ u))) (take-append_seam (b ∷ u) r)
+    let p : piece (b ∷ (u ++ r)) ≡ PWord (1 + prefix_len of_word (u ++ r)) = rw
+    (letter_no_space b l, no_dashes b (u ++ r) (letter_no_dash b l), l) refl in
+    ap (λ (x : Piece). of_piece source (b ∷ (u ++ r)) x) (p ∙ ap PWord n) ∙ ap
+    (λ v. Spelling (word_in words v) (length (b ∷ u))) (take-append_seam (b ∷ u) r)
 
 -- digits, and a tilde with digits
-plain_item : (ds r : List ℕ) → 0 < length ds → AreDigits ds → Stops r → item source (ds ++ r) ≡ Spelling (k.Plain (pos (value ds))) (length ds)
+plain_item : (ds r : List ℕ) → 0 < length ds → AreDigits ds → Stops r →
+    item source (ds ++ r) ≡ Spelling (k.Plain (pos (value ds))) (length ds)
 plain_item [] r some h s = absurd (omega arith)
 plain_item (d ∷ ds) r some h s =
     let q = and_parts (digit d) (list_all digit ds) h in
-    let n : 1 + prefix_len digit (ds ++ r) ≡ length (d ∷ ds) = ap (λ n. 1 + n) (run_digits ds r q.1 s) ∙ omega arith in
-    let p : piece (d ∷ (ds ++ r)) ≡ PPlain (1 + prefix_len digit (ds ++ r)) = rw (digit_no_space d q.0, no_dashes d (ds ++ r) (digit_no_dash d q.0), digit_no_letter d q.0, q.0) refl in
-    ap (λ (x : Piece). of_piece source (d ∷ (ds ++ r)) x) (p ∙ ap PPlain n) ∙ ap (λ u. Spelling (k.Plain (pos (value u))) (length (d ∷ ds))) (take-append_seam (d ∷ ds) r)
+    let n : 1 + prefix_len digit (ds ++ r) ≡ length (d ∷ ds) = ap (λ n. 1 + n) (run_digits ds r q.1 s) ∙ omega
+    arith in
+    let p : piece (d ∷ (ds ++ r)) ≡ PPlain (1 + prefix_len digit (ds ++ r)) = rw
+    (digit_no_space d q.0, no_dashes d (ds ++ r) (digit_no_dash d q.0), digit_no_letter d q.0, q.0) refl in
+    ap (λ (x : Piece). of_piece source (d ∷ (ds ++ r)) x) (p ∙ ap PPlain n) ∙ ap
+    (λ u. Spelling (k.Plain (pos (value u))) (length (d ∷ ds))) (take-append_seam (d ∷ ds) r)
 
-negative_item : (ds r : List ℕ) → 0 < length ds → AreDigits ds → Stops r → item source (126 ∷ (ds ++ r)) ≡ Spelling (k.Negative (neg_ℤ (pos (value ds)))) (1 + length ds)
+negative_item : (ds r : List ℕ) → 0 < length ds → AreDigits ds → Stops r →
+    item source (126 ∷ (ds ++ r)) ≡ Spelling (k.Negative (neg_ℤ (pos (value ds)))) (1 + length ds)
 negative_item [] r some h s = absurd (omega arith)
 negative_item (d ∷ ds) r some h s =
     let q = and_parts (digit d) (list_all digit ds) h in
@@ -138,13 +152,15 @@ other_piece b s e =
     let t : (b == 126) ≡ false = grind (arith, nat_tests) in
     rw (p, no_dashes b s m, q, d, no_tilde b s t) refl
 
-sign_is : (b : ℕ) (s : List ℕ) (x : Kind) → (b == 45) ≡ false → (b == 58) ≡ false → look signs b ≡ Some x → sign_item source (b ∷ s) ≡ Spelling x 1
+sign_is : (b : ℕ) (s : List ℕ) (x : Kind) → (b == 45) ≡ false → (b == 58) ≡ false → look signs b ≡ Some x →
+    sign_item source (b ∷ s) ≡ Spelling x 1
 sign_is b [] x m c e = rw e refl
 sign_is b (d ∷ s) x m c e =
     let p : pair b d ≡ None = rw (m, c) refl in
     ap (λ (o : Option Kind). of_pair o (of_sign (look signs b))) p ∙ ap (λ (o : Option Kind). of_sign o) e
 
-sign_read : (b : ℕ) (s : List ℕ) (x : Kind) → plain_sign b ≡ true → look signs b ≡ Some x → item source (b ∷ s) ≡ Spelling x 1
+sign_read : (b : ℕ) (s : List ℕ) (x : Kind) → plain_sign b ≡ true → look signs b ≡ Some x →
+    item source (b ∷ s) ≡ Spelling x 1
 sign_read b s x p e =
     let m : (b == 45) ≡ false = grind (arith, nat_tests) in
     let c : (b == 58) ≡ false = grind (arith, nat_tests) in
@@ -164,7 +180,8 @@ abbrev pub is_word : List ℕ → Bool
 is_word [] = false
 is_word (b ∷ s) = letter b && list_all of_word s
 
-reserved_item : (u r : List ℕ) → is_word u ≡ true → Stops r → item source (u ++ r) ≡ Spelling (word_in words u) (length u)
+reserved_item : (u r : List ℕ) → is_word u ≡ true → Stops r →
+    item source (u ++ r) ≡ Spelling (word_in words u) (length u)
 reserved_item [] r h s = absurd (cc)
 reserved_item (b ∷ u) r h s = let p = and_parts (letter b) (list_all of_word u) h in word_item b u r p.0 p.1 s
 
@@ -175,8 +192,10 @@ Valid (ValueName n) = n < 2 ^ 64
 Valid (TypeName n) = n < 2 ^ 64
 Valid (Number z) = (negsuc 9223372036854775807 ≤ℤ z) × (z ≤ℤ pos 9223372036854775807)
 Valid (Sign b kind) = (plain_sign b ≡ true) × (look signs b ≡ Some kind) × Keeps kind
-Valid (Pair a b kind) = (of_word a ≡ false) × ((s : List ℕ) → item source (a ∷ (b ∷ s)) ≡ Spelling kind 2) × Keeps kind
-Valid (Spaced b kind) = (of_word b ≡ false) × ((s : List ℕ) → item source (b ∷ (32 ∷ s)) ≡ Spelling kind 1) × Keeps kind
+Valid (Pair a b kind) = (of_word a ≡ false) × ((s : List ℕ) → item source (a ∷ (b ∷ s)) ≡ Spelling kind 2) × Keeps
+    kind
+Valid (Spaced b kind) = (of_word b ≡ false) × ((s : List ℕ) → item source (b ∷ (32 ∷ s)) ≡ Spelling kind 1) × Keeps
+    kind
 Valid (Blank b) = space b ≡ true
 
 -- the kind of the token that a number is, and of a lexeme's token
@@ -213,15 +232,19 @@ item_of l = Spelling (kind_of l) (width l)
 
 pub lexeme_item : (l : Lexeme) (r : List ℕ) → Valid l → Ended l r → item source (bytes l ++ r) ≡ item_of l
 lexeme_item (Reserved u kind) r v s = reserved_item u r v.0 s ∙ ap (λ x. Spelling x (length u)) v.1
-lexeme_item (ValueName n) r v s = word_item 120 (decimal n) r refl (digits_of_word (decimal n) (are_digits n v)) s ∙ ap (λ x. Spelling x (length (120 ∷ decimal n))) (value_word (decimal n))
-lexeme_item (TypeName n) r v s = word_item 116 (decimal n) r refl (digits_of_word (decimal n) (are_digits n v)) s ∙ ap (λ x. Spelling x (length (116 ∷ decimal n))) (type_word (decimal n))
+lexeme_item (ValueName n) r v s = word_item 120 (decimal n) r refl (digits_of_word (decimal n) (are_digits n v)) s
+    ∙ ap (λ x. Spelling x (length (120 ∷ decimal n))) (value_word (decimal n))
+lexeme_item (TypeName n) r v s = word_item 116 (decimal n) r refl (digits_of_word (decimal n) (are_digits n v)) s ∙ ap
+    (λ x. Spelling x (length (116 ∷ decimal n))) (type_word (decimal n))
 lexeme_item (Number (pos n)) r v s =
     let h : n < 2 ^ 64 = omega (arith, ints, v.1) in
-    plain_item (decimal n) r (decimal_nonempty n h) (are_digits n h) s ∙ ap (λ m. Spelling (k.Plain (pos m)) (length (decimal n))) (value_is n h)
+    plain_item (decimal n) r (decimal_nonempty n h) (are_digits n h) s ∙ ap
+    (λ m. Spelling (k.Plain (pos m)) (length (decimal n))) (value_is n h)
 lexeme_item (Number (negsuc n)) r v s =
     let h : suc n < 2 ^ 64 = omega (arith, ints, v.0) in
     let long : 1 + length (decimal (suc n)) ≡ length (126 ∷ decimal (suc n)) = omega arith in
-    negative_item (decimal (suc n)) r (decimal_nonempty (suc n) h) (are_digits (suc n) h) s ∙ ap (λ m. Spelling (k.Negative (neg_ℤ (pos m))) (1 + length (decimal (suc n)))) (value_is (suc n) h)
+    negative_item (decimal (suc n)) r (decimal_nonempty (suc n) h) (are_digits (suc n) h) s ∙ ap
+    (λ m. Spelling (k.Negative (neg_ℤ (pos m))) (1 + length (decimal (suc n)))) (value_is (suc n) h)
     ∙ ap (λ m. Spelling (k.Negative (negsuc n)) m) long
 lexeme_item (Sign b kind) r v s = sign_read b r kind v.0 v.1
 lexeme_item (Pair a b kind) r v s = v.1 r

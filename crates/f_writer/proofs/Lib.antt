@@ -1,5 +1,7 @@
 mod Items
 mod Lexemes
+mod Nested
+mod Opens
 mod Placed
 mod Reading
 mod Rows

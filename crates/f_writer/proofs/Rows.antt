@@ -3,7 +3,8 @@ use Rattle.std.proofs.Common.{◌≡◌, pos, negsuc, codes, refl}
 use Rattle.std.specs.Fmt.{digits}
 use Rattle.idx_core.specs.declared.arith.Op.TheVariants.{Add, Sub, Mul}
 use Rattle.f_terms.specs.Ty.{TInt, TVar, TArrow, TAll, TTuple, TSome, TRef, NoTys, MoreTys}
-use Rattle.f_terms.specs.Tm.{Term, MVar, MNum, MFix, MApp, MGen, MInst, MTuple, MProj, MArith, MIf0, MLet, MPack, MOpen, MRef, MDeref, MAssign, NoTerms, MoreTerms}
+use Rattle.f_terms.specs.Tm.{Term, MVar, MNum, MFix, MApp, MGen, MInst, MTuple, MProj, MArith, MIf0, MLet, MPack}
+use Rattle.f_terms.specs.Tm.{MOpen, MRef, MDeref, MAssign, NoTerms, MoreTerms}
 use Rattle.f_writer.specs.Notation.{term_text, written}
 
 abbrev one : Term
@@ -22,22 +23,27 @@ unfolding digits
 negative = refl
 
 -- names: the function is bound before its argument, and a name is the number of those around its binder
-factorial : term_text (MApp (MFix TInt TInt (MIf0 (MVar 0) one (MArith Mul (MVar 0) (MApp (MVar 1) (MArith Sub (MVar 0) one))))) (MNum (pos 5))) ≡
+factorial : term_text
+    (MApp (MFix TInt TInt (MIf0 (MVar 0) one (MArith Mul (MVar 0) (MApp (MVar 1) (MArith Sub (MVar 0) one)))))
+    (MNum (pos 5))) ≡
     codes "(fix x0(x1: int): int. if0(x1, 1, x1 * x0 (x1 - 1))) 5\n"
 unfolding digits
 factorial = refl
 
-identity : term_text (MInst (MGen (MFix (TVar 0) (TVar 0) (MVar 0))) TInt) ≡ codes "(gen t0. fix x0(x1: t0): t0. x1)[int]\n"
+identity : term_text (MInst (MGen (MFix (TVar 0) (TVar 0) (MVar 0))) TInt) ≡ codes
+    "(gen t0. fix x0(x1: t0): t0. x1)[int]\n"
 unfolding digits
 identity = refl
 
 -- a type that is written inside type names counts on
-inner_type : term_text (MGen (MFix (TAll (TArrow (TVar 0) (TVar 1))) TInt one)) ≡ codes "gen t0. fix x0(x1: all t1. t1 -> t0): int. 1\n"
+inner_type : term_text (MGen (MFix (TAll (TArrow (TVar 0) (TVar 1))) TInt one)) ≡ codes
+    "gen t0. fix x0(x1: all t1. t1 -> t0): int. 1\n"
 unfolding digits
 inner_type = refl
 
 -- a line ends behind each `in`, and the value that is bound is not around its own part
-lets : term_text (MLet one (MLet (MArith Add (MVar 0) two) (MArith Add (MVar 1) (MVar 0)))) ≡ codes "let x0 = 1 in\nlet x1 = x0 + 2 in\nx0 + x1\n"
+lets : term_text (MLet one (MLet (MArith Add (MVar 0) two) (MArith Add (MVar 1) (MVar 0)))) ≡ codes
+    "let x0 = 1 in\nlet x1 = x0 + 2 in\nx0 + x1\n"
 unfolding digits
 lets = refl
 
@@ -45,23 +51,29 @@ let_in_let : term_text (MLet (MLet one (MVar 0)) (MVar 0)) ≡ codes "let x0 = l
 unfolding digits
 let_in_let = refl
 
-packed : term_text (MOpen (MPack TInt three (TSome (TVar 0))) two) ≡ codes "open [t0, x0] = pack[int, 3] as some t0. t0 in\n2\n"
+packed : term_text (MOpen (MPack TInt three (TSome (TVar 0))) two) ≡ codes
+    "open [t0, x0] = pack[int, 3] as some t0. t0 in\n2\n"
 unfolding digits
 packed = refl
 
-opened : written 1 2 (MOpen (MVar 0) (MInst (MVar 0) (TArrow (TVar 0) (TVar 1)))) ≡ codes "open [t1, x2] = x1 in\nx2[t1 -> t0]"
+opened : written 1 2 (MOpen (MVar 0) (MInst (MVar 0) (TArrow (TVar 0) (TVar 1)))) ≡ codes
+    "open [t1, x2] = x1 in\nx2[t1 -> t0]"
 unfolding digits
 opened = refl
 
-cells : term_text (MLet (MRef one) (MLet (MAssign (MVar 0) two) (MDeref (MVar 1)))) ≡ codes "let x0 = ref 1 in\nlet x1 = x0 := 2 in\n!x0\n"
+cells : term_text (MLet (MRef one) (MLet (MAssign (MVar 0) two) (MDeref (MVar 1)))) ≡ codes
+    "let x0 = ref 1 in\nlet x1 = x0 := 2 in\n!x0\n"
 unfolding digits
 cells = refl
 
-tuples : term_text (MProj 2 (MTuple (MoreTerms one (MoreTerms (MTuple NoTerms) (MoreTerms (MLet two (MVar 0)) NoTerms))))) ≡ codes "#2 <1, <>, let x0 = 2 in\nx0>\n"
+tuples : term_text (MProj 2
+    (MTuple (MoreTerms one (MoreTerms (MTuple NoTerms) (MoreTerms (MLet two (MVar 0)) NoTerms))))) ≡ codes
+    "#2 <1, <>, let x0 = 2 in\nx0>\n"
 unfolding digits
 tuples = refl
 
-reference : term_text (MFix (TRef (TArrow TInt TInt)) (TTuple (MoreTys TInt NoTys)) (MTuple (MoreTerms one NoTerms))) ≡ codes "fix x0(x1: ref (int -> int)): <int>. <1>\n"
+reference : term_text (MFix (TRef (TArrow TInt TInt)) (TTuple (MoreTys TInt NoTys))
+    (MTuple (MoreTerms one NoTerms))) ≡ codes "fix x0(x1: ref (int -> int)): <int>. <1>\n"
 unfolding digits
 reference = refl
 
@@ -147,7 +159,8 @@ let_in_sum : term_text (MArith Add one (MLet two (MVar 0))) ≡ codes "1 + (let 
 unfolding digits
 let_in_sum = refl
 
-sum_in_branch : term_text (MIf0 (MArith Sub one two) (MGen one) (MFix TInt TInt (MVar 0))) ≡ codes "if0(1 - 2, gen t0. 1, fix x0(x1: int): int. x1)\n"
+sum_in_branch : term_text (MIf0 (MArith Sub one two) (MGen one) (MFix TInt TInt (MVar 0))) ≡ codes
+    "if0(1 - 2, gen t0. 1, fix x0(x1: int): int. x1)\n"
 unfolding digits
 sum_in_branch = refl
 
@@ -155,7 +168,8 @@ abstraction_assigned : written 0 1 (MAssign (MVar 0) (MGen one)) ≡ codes "x0 :
 unfolding digits
 abstraction_assigned = refl
 
-packed_let : term_text (MPack TInt (MLet one (MVar 0)) (TSome (TArrow (TVar 0) TInt))) ≡ codes "pack[int, let x0 = 1 in\nx0] as some t0. t0 -> int\n"
+packed_let : term_text (MPack TInt (MLet one (MVar 0)) (TSome (TArrow (TVar 0) TInt))) ≡ codes
+    "pack[int, let x0 = 1 in\nx0] as some t0. t0 -> int\n"
 unfolding digits
 packed_let = refl
 

@@ -1,5 +1,6 @@
 -- The names that are written: each stands for the number that it is written for.
-use Rattle.std.proofs.Common.{◌≡◌, ◌≢◌, ◌≤◌, ◌<◌, ◌^◌, ℕ, zero, suc, ◌+◌, ◌-◌, List, [], ◌∷◌, refl, sym, ap, ◌∙◌, arith, subst, decimal, add-one}
+use Rattle.std.proofs.Common.{◌≡◌, ◌≢◌, ◌<◌, ◌^◌, ℕ, zero, suc, ◌+◌, ◌-◌, List, [], ◌∷◌, ap, ◌∙◌}
+use Rattle.std.proofs.Common.{arith, subst, decimal, add-one}
 use Rattle.std.proofs.lemmas.Fmt.{decimal_injective}
 use Rattle.idx_core.specs.Names.{Name, IsPlace}
 
@@ -31,8 +32,7 @@ in_scope b zero i lt h = absurd (omega arith)
 in_scope b (suc d) zero lt h = let e : suc d - 1 - 0 ≡ d = omega arith in ap (λ j. b ∷ decimal j) e
 in_scope b (suc d) (suc i) lt h =
     let e : d - 1 - i ≡ suc d - 1 - suc i = omega arith in
-    let ne : suc d - 1 - suc i ≢ d = λ q. omega arith in
-    (
+    let ne : suc d - 1 - suc i ≢ d = λ q. omega arith in (
       differ b (suc d - 1 - suc i) d (omega arith) (omega arith) ne,
       subst (λ j. IsPlace (b ∷ decimal j) (names b d) i) e (in_scope b d i (omega arith) (omega arith)),
     )

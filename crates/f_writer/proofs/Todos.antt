@@ -1,28 +1,30 @@
 -- What is to be written, task by task.
-use Rattle.std.proofs.Common.{◌≡◌, ◌≤◌, ◌<◌, ℕ, suc, ◌+◌, ◌-◌, ℤ, pos, List, [], ◌∷◌, ◌++◌, map, length, Bool, true, false, codes, decimal, refl, sym, ap, ap₂, ◌∙◌, subst, arith, append_assoc, All}
-use Rattle.std.proofs.lemmas.List.{append-nil}
-use Rattle.idx_core.specs.declared.arith.Op.{Op}
+use Rattle.std.proofs.Common.{◌≡◌, ◌<◌, ℕ, ◌+◌, List, [], ◌∷◌, ◌++◌, length}
+use Rattle.std.proofs.Common.{false, codes, refl, sym, ap, ap₂, ◌∙◌, subst, arith, append_assoc, All}
 use Rattle.f_terms.specs.Ty.{Ty}
-use Rattle.f_terms.specs.Tm.{Spn, Term, MVar, MNum, MFix, MApp, MGen, MInst, MTuple, MProj, MArith, MIf0, MLet, MPack, MOpen, MRef, MDeref, MAssign, Terms, NoTerms, MoreTerms, plain, plain_all, tms}
-use Rattle.f_terms.specs.Read.{tree, place}
+use Rattle.f_terms.specs.Tm.{Spn, Term, MFix, MLet}
+use Rattle.f_terms.specs.Tm.{MOpen, plain}
+use Rattle.f_terms.specs.Read.{place}
 use Rattle.f_terms.specs.ReadTerm.{count, node_at}
 use Rattle.f_terms.specs.Shape.{children, kids, shape_tree, node_tree}
 use Rattle.f_terms.specs.Text.{name_text, text_at}
 use Rattle.f_terms.specs.declared.node.FNode.{FNode}
 use Rattle.f_terms.specs.declared.node.FShape.{FShape}
 use Rattle.f_terms.specs.declared.node.FShape.TheVariants as shape
-use Rattle.f_terms.specs.declared.types.FType.{FType}
 use Rattle.f_writer.specs.declared.line.Line.{Line}
 use Rattle.f_writer.specs.declared.line.Line.TheVariants.{Expression, Sum, Product, Call, Primary}
 use Rattle.f_writer.specs.declared.part.Part.{Part}
 use Rattle.f_writer.specs.declared.task.Task.{Task}
-use Rattle.f_writer.specs.Lines.{is_loose, op_line, right_line, line_of, shape_line}
-use Rattle.f_writer.specs.Notation.{value_text, integer_text, op_text, wrapped, written, fields_written, more_written, written_at, term_text}
+use Rattle.f_writer.specs.Lines.{is_loose, line_of, shape_line}
+use Rattle.f_writer.specs.Notation.{value_text, wrapped, written}
+use Rattle.f_writer.specs.Notation.{written_at}
 use Rattle.f_writer.specs.Parts.{part_term}
-use Rattle.f_writer.specs.Tasks.{Todo, Write, WriteAll, Put, WriteType, todo, todos_before, todos, done, all_done, weight, weight_all, steps, Begun, Opened, Steps}
+use Rattle.f_writer.specs.Tasks.{Todo, Write, Put, WriteType, todo, todos_before, todos, all_done}
+use Rattle.f_writer.specs.Tasks.{weight, steps, Begun, Steps}
 
 -- a task more is the next one
-pub todos_push : (tds : List Todo) (ts : List Task) (t : Task) → todos_before tds (ts ++ t ∷ []) ≡ todo t ∷ todos_before tds ts
+pub todos_push : (tds : List Todo) (ts : List Task) (t : Task) →
+    todos_before tds (ts ++ t ∷ []) ≡ todo t ∷ todos_before tds ts
 todos_push tds [] t = refl
 todos_push tds (x ∷ ts) t = todos_push (todo x ∷ tds) ts t
 
@@ -31,10 +33,12 @@ nothing_left [] e = refl
 nothing_left (t ∷ ts) e = absurd (omega (arith, e))
 
 -- the form of a part, and its children
-pub form_is : (p : Part) (n : FNode) (s : FShape) → node_at p.term.now p.at ≡ node_tree (node_at p.term.now) n → n.shape ≡ s → part_term p ≡ plain (shape_tree (node_at p.term.now) (place n.span) s)
+pub form_is : (p : Part) (n : FNode) (s : FShape) → node_at p.term.now p.at ≡ node_tree (node_at p.term.now) n →
+    n.shape ≡ s → part_term p ≡ plain (shape_tree (node_at p.term.now) (place n.span) s)
 form_is p n s t e = ap plain (t ∙ ap (shape_tree (node_at p.term.now) (place n.span)) e)
 
-pub inside : (p : Part) (n : FNode) (s : FShape) → All (λ k. k < count p.term.now) (kids n) → n.shape ≡ s → All (λ k. k < count p.term.now) (children s)
+pub inside : (p : Part) (n : FNode) (s : FShape) → All (λ k. k < count p.term.now) (kids n) → n.shape ≡ s →
+    All (λ k. k < count p.term.now) (children s)
 inside p n s h e = subst (λ x. All (λ k. k < count p.term.now) (children x)) e h
 
 line_is : (at : ℕ → _) (s : Spn) (x : FShape) → line_of (plain (shape_tree at s x)) ≡ shape_line x
@@ -55,7 +59,8 @@ line_is at s (shape.Ref e) = refl
 line_is at s (shape.Deref e) = refl
 line_is at s (shape.Assign a b) = refl
 
-pub line_of_part : (p : Part) (n : FNode) → node_at p.term.now p.at ≡ node_tree (node_at p.term.now) n → line_of (part_term p) ≡ shape_line n.shape
+pub line_of_part : (p : Part) (n : FNode) → node_at p.term.now p.at ≡ node_tree (node_at p.term.now) n →
+    line_of (part_term p) ≡ shape_line n.shape
 line_of_part p n t = ap line_of (form_is p n n.shape t refl) ∙ line_is (node_at p.term.now) (place n.span) n.shape
 
 -- no form takes parentheses where an expression is asked for
@@ -74,7 +79,8 @@ join_three a b c = simp append_assoc
 
 -- a form that is begun, by its parts: what is before them is written, and they are the next tasks
 module _ (n m : ℕ) (before after : List ℕ) (old new : List Todo) (e : Term) where
-  pub begun_leaf : (s : List ℕ) (f : Term) → e ≡ f → written n m f ≡ s → weight f ≡ 2 → new ≡ old → after ≡ before ++ s → Begun before n m e old after new
+  pub begun_leaf : (s : List ℕ) (f : Term) → e ≡ f → written n m f ≡ s → weight f ≡ 2 → new ≡ old →
+      after ≡ before ++ s → Begun before n m e old after new
   begun_leaf s f is text w same t =
       let we : weight e ≡ 2 = ap weight is ∙ w in
       let so : steps new ≡ steps old = ap steps same in
@@ -84,7 +90,8 @@ module _ (n m : ℕ) (before after : List ℕ) (old new : List Todo) (e : Term) 
       }
 
   -- one part after some bytes
-  pub begun_one : (s : List ℕ) (asked : Line) (i j : ℕ) (f x : Term) → e ≡ f → written n m f ≡ s ++ written_at asked i j x → weight f ≡ 2 + weight x →
+  pub begun_one : (s : List ℕ) (asked : Line) (i j : ℕ) (f x : Term) → e ≡ f →
+      written n m f ≡ s ++ written_at asked i j x → weight f ≡ 2 + weight x →
       new ≡ Write asked i j x ∷ old → after ≡ before ++ s → Begun before n m e old after new
   begun_one s asked i j f x is text w next t =
       let we : weight e ≡ 2 + weight x = ap weight is ∙ w in
@@ -95,7 +102,8 @@ module _ (n m : ℕ) (before after : List ℕ) (old new : List Todo) (e : Term) 
       }
 
   -- two parts with bytes between them
-  pub begun_two : (s b : List ℕ) (p q : Line) (i j k l : ℕ) (f x y : Term) → e ≡ f → written n m f ≡ s ++ (written_at p i j x ++ (b ++ written_at q k l y)) → weight f ≡ 3 + weight x + weight y →
+  pub begun_two : (s b : List ℕ) (p q : Line) (i j k l : ℕ) (f x y : Term) → e ≡ f →
+      written n m f ≡ s ++ (written_at p i j x ++ (b ++ written_at q k l y)) → weight f ≡ 3 + weight x + weight y →
       new ≡ Write p i j x ∷ (Put b ∷ (Write q k l y ∷ old)) → after ≡ before ++ s → Begun before n m e old after new
   begun_two s b p q i j k l f x y is text w next t =
       let we : weight e ≡ 3 + weight x + weight y = ap weight is ∙ w in
@@ -116,31 +124,45 @@ no_more i n e = omega arith
 
 -- forms that bind names
 module _ (n m : ℕ) (before after : List ℕ) (old new : List Todo) (e : Term) (i j : ℕ) where
-  pub begun_fix : (a r : Ty) (x : Term) → e ≡ MFix a r x → i ≡ n + 0 → j ≡ m + 2 → new ≡ Write Expression i j x ∷ old →
-      after ≡ before ++ (codes "fix " ++ value_text m ++ codes "(" ++ value_text (m + 1) ++ codes ": " ++ text_at n a ++ codes "): " ++ text_at n r ++ codes ". ") → Begun before n m e old after new
+  pub begun_fix : (a r : Ty) (x : Term) → e ≡ MFix a r x → i ≡ n + 0 → j ≡ m + 2 →
+      new ≡ Write Expression i j x ∷ old →
+      after ≡ before ++ (codes "fix " ++ value_text m ++ codes "(" ++ value_text (m + 1) ++ codes ": " ++ text_at n
+      a ++ codes "): " ++ text_at n r ++ codes ". ") → Begun before n m e old after new
   begun_fix a r x is p q next t =
-      let s = codes "fix " ++ value_text m ++ codes "(" ++ value_text (m + 1) ++ codes ": " ++ text_at n a ++ codes "): " ++ text_at n r ++ codes ". " in
-      begun_one n m before after old new e s Expression n (m + 2) (MFix a r x) x is (ap (λ (w : List ℕ). s ++ w) (sym (whole_written n (m + 2) x))) refl
+      let s = codes "fix " ++ value_text m ++ codes "(" ++ value_text (m + 1) ++ codes ": " ++ text_at n a ++ codes
+      "): " ++ text_at n r ++ codes ". " in
+      begun_one n m before after old new e s Expression n (m + 2) (MFix a r x) x is
+      (ap (λ (w : List ℕ). s ++ w) (sym (whole_written n (m + 2) x))) refl
       (next ∙ ap₂ (λ (k l : ℕ). Write Expression k l x ∷ old) (no_more i n p) q) t
 
-  pub begun_let : (a b : Term) → e ≡ MLet a b → i ≡ n + 0 → j ≡ m + 1 → new ≡ Write Expression n m a ∷ (Put (codes " in\n") ∷ (Write Expression i j b ∷ old)) →
+  pub begun_let : (a b : Term) → e ≡ MLet a b → i ≡ n + 0 → j ≡ m + 1 →
+      new ≡ Write Expression n m a ∷ (Put (codes " in\n") ∷ (Write Expression i j b ∷ old)) →
       after ≡ before ++ (codes "let " ++ value_text m ++ codes " = ") → Begun before n m e old after new
   begun_let a b is p q next t =
       let s = codes "let " ++ value_text m ++ codes " = " in
       begun_two n m before after old new e s (codes " in\n") Expression Expression n m n (m + 1) (MLet a b) a b is
-      (rw (whole_written n m a, whole_written n (m + 1) b) (three_parts s (written n m a) (codes " in\n") (written n (m + 1) b))) refl
-      (next ∙ ap₂ (λ (k l : ℕ). Write Expression n m a ∷ (Put (codes " in\n") ∷ (Write Expression k l b ∷ old))) (no_more i n p) q) t
+      (rw (whole_written n m a, whole_written n (m + 1) b)
+      (three_parts s (written n m a) (codes " in\n") (written n (m + 1) b))) refl
+      (next ∙ ap₂ (λ (k l : ℕ). Write Expression n m a ∷ (Put (codes " in\n") ∷ (Write Expression k l b ∷ old)))
+      (no_more i n p) q) t
 
-  pub begun_open : (a b : Term) → e ≡ MOpen a b → i ≡ n + 1 → j ≡ m + 1 → new ≡ Write Expression n m a ∷ (Put (codes " in\n") ∷ (Write Expression i j b ∷ old)) →
-      after ≡ before ++ (codes "open [" ++ name_text n ++ codes ", " ++ value_text m ++ codes "] = ") → Begun before n m e old after new
+  pub begun_open : (a b : Term) → e ≡ MOpen a b → i ≡ n + 1 → j ≡ m + 1 →
+      new ≡ Write Expression n m a ∷ (Put (codes " in\n") ∷ (Write Expression i j b ∷ old)) →
+      after ≡ before ++ (codes "open [" ++ name_text n ++ codes ", " ++ value_text m ++ codes "] = ") →
+      Begun before n m e old after new
   begun_open a b is p q next t =
       let s = codes "open [" ++ name_text n ++ codes ", " ++ value_text m ++ codes "] = " in
-      begun_two n m before after old new e s (codes " in\n") Expression Expression n m (n + 1) (m + 1) (MOpen a b) a b is
-      (rw (whole_written n m a, whole_written (n + 1) (m + 1) b) (three_parts s (written n m a) (codes " in\n") (written (n + 1) (m + 1) b))) refl
-      (next ∙ ap₂ (λ (k l : ℕ). Write Expression n m a ∷ (Put (codes " in\n") ∷ (Write Expression k l b ∷ old))) p q) t
+      begun_two n m before after old new e s (codes " in\n") Expression Expression n m (n + 1) (m + 1) (MOpen a b) a b
+      is
+      (rw (whole_written n m a, whole_written (n + 1) (m + 1) b)
+      (three_parts s (written n m a) (codes " in\n") (written (n + 1) (m + 1) b))) refl
+      (next ∙ ap₂ (λ (k l : ℕ). Write Expression n m a ∷ (Put (codes " in\n") ∷ (Write Expression k l b ∷ old))) p q)
+      t
 
 -- a type that is written
-pub wrote_type_task : (before after : List ℕ) (old : List Todo) (x : Task) (n : ℕ) (t : Ty) → todo x ≡ WriteType n t → after ≡ before ++ text_at n t → Steps before (todo x ∷ old) after old
+pub wrote_type_task : (before after : List ℕ) (old : List Todo) (x : Task) (n : ℕ) (t : Ty) → todo x ≡ WriteType n t →
+    after ≡ before ++ text_at n t → Steps before (todo x ∷ old) after old
 wrote_type_task before after old x n t e q =
-    let goal : Steps before (WriteType n t ∷ old) after old = record { same = rw q (append_assoc before (text_at n t) (all_done old)); less = omega arith } in
+    let goal : Steps before (WriteType n t ∷ old) after old = record
+    { same = rw q (append_assoc before (text_at n t) (all_done old)); less = omega arith } in
     subst (λ (y : Todo). Steps before (y ∷ old) after old) (sym e) goal

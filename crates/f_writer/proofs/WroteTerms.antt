@@ -1,5 +1,6 @@
 -- A term that is written stands for itself, where the names around it are those of its depth.
-use Rattle.std.proofs.Common.{◌≡◌, ◌<◌, ℕ, ◌+◌, ◌-◌, pos, negsuc, List, [], ◌∷◌, ◌++◌, length, codes, Bool, true, false, refl, sym, ap, ap₂, ◌∙◌, arith, append_assoc, subst}
+use Rattle.std.proofs.Common.{max, ◌≤◌, ◌≡◌, ℕ, ◌+◌, ◌-◌, pos, negsuc, List, [], ◌∷◌, ◌++◌, length, codes, Bool, true}
+use Rattle.std.proofs.Common.{false, refl, sym, ap, ap₂, ◌∙◌, arith, append_assoc, subst}
 use Rattle.std.proofs.lemmas.Int.{ints}
 use Rattle.std.proofs.lemmas.List.{append-nil}
 use Rattle.idx_core.specs.declared.span.Span.{Span}
@@ -7,73 +8,36 @@ use Rattle.idx_core.specs.declared.arith.Op.TheVariants.{Add, Sub, Mul}
 use Rattle.idx_core.specs.Names.{Name, IsPlace}
 use Rattle.idx_core.specs.Over.{IsWord}
 use Rattle.f_terms.specs.Text.{is_grouped}
-use Rattle.f_terms.specs.Tm.{Term, MVar, MNum, MFix, MApp, MGen, MInst, MTuple, MProj, MArith, MIf0, MLet, MPack, MOpen, MRef, MDeref, MAssign, Terms, NoTerms, MoreTerms}
-use Rattle.f_terms.specs.Tm.{Tm, SVar, SNum, SFix, SApp, SGen, SInst, STuple, SProj, SArith, SIf0, SLet, SPack, SOpen, SRef, SDeref, SAssign, Tms, NoTms, MoreTms, plain, plain_all}
+use Rattle.f_terms.specs.Tm.{Term, MVar, MNum, MFix, MApp, MGen, MInst, MTuple, MProj, MArith, MIf0, MLet, MPack}
+use Rattle.f_terms.specs.Tm.{MOpen, MRef, MDeref, MAssign, Terms, NoTerms, MoreTerms}
+use Rattle.f_terms.specs.Tm.{Tm, SVar, SNum, SFix, SApp, SGen, SInst, STuple, SProj, SArith, SIf0, SLet, SPack, SOpen}
+use Rattle.f_terms.specs.Tm.{SRef, SDeref, SAssign, Tms, NoTms, MoreTms, plain, plain_all}
 use Rattle.f_terms.specs.Read.{place}
 use Rattle.f_lexer.specs.declared.kind.Kind.TheVariants as k
 use Rattle.f_lexer.specs.declared.token.Token.{Token}
-use Rattle.f_grammar.specs.Raw.{RawTm, raw_tms, Piece, within, var, number, func, gen, call, inst, tuple, proj, arith as operation, if0, let_in, pack, open_in, cell, deref, assign, place_of}
-use Rattle.f_grammar.specs.Grammar.{tok, E, e_fix, e_gen, e_let, e_pack, e_open, e_assign, e_sum, S, s_plus, s_minus, s_product, M, m_star, m_call, A, a_call, a_inst, a_part, P, p_name, p_plain, p_negative, p_paren, p_unit, p_tuple, p_proj, p_if0, p_ref, p_deref, Es, es_one, es_more}
-use Rattle.f_parser.specs.Scope.{spelled, TermOf, of_var, of_num, of_fix, of_gen, of_app, of_inst, of_fields, of_proj, of_arith, of_if0, of_let, of_pack, of_open, of_cell, of_deref, of_assign, TermsOf, of_no_terms, of_more_terms}
+use Rattle.f_grammar.specs.Raw.{RawTm, raw_tms, Piece, within, var, number, func, gen, call, inst, tuple, proj}
+use Rattle.f_grammar.specs.Raw.{arith as operation, if0, let_in, pack, open_in, cell, deref, assign}
+use Rattle.f_grammar.specs.Grammar.{tok}
+use Rattle.f_parser.specs.Scope.{spelled, TermOf, of_var, of_num, of_fix, of_gen, of_app, of_inst, of_fields, of_proj}
+use Rattle.f_parser.specs.Scope.{of_arith, of_if0, of_let, of_pack, of_open, of_cell, of_deref, of_assign, TermsOf}
+use Rattle.f_parser.specs.Scope.{of_no_terms, of_more_terms}
 use Rattle.f_writer.specs.declared.line.Line.{Line}
 use Rattle.f_writer.specs.declared.line.Line.TheVariants.{Expression, Sum, Product, Call, Primary}
-use Rattle.f_writer.specs.Lines.{is_loose, op_line, right_line, line_of}
+use Rattle.f_writer.specs.Lines.{is_loose, line_of}
 use Rattle.f_writer.specs.Fits.{Fits, AllFit}
-use Rattle.f_writer.proofs.Lexemes.{Lexeme, Reserved, ValueName, TypeName, Number, Sign, Pair, Spaced, Blank, bytes, space, comma, open_paren, close_paren, inside, type_lexed, op_lexeme, lexed, fields_lexed, more_lexed}
+use Rattle.f_writer.proofs.Lexemes.{Reserved, ValueName, TypeName, Number, Sign, Pair, Spaced, Blank, bytes}
+use Rattle.f_writer.proofs.Lexemes.{space, comma, open_paren, close_paren, inside, type_lexed, lexed}
+use Rattle.f_writer.proofs.Lexemes.{more_lexed}
+use Rattle.f_writer.specs.Nesting.{nest_if, nesting, all_nesting}
+use Rattle.f_writer.proofs.Opens.{to_type, Opens, OpensFields, lift, whole_term, from_part, opens_paren, opens_gen}
+use Rattle.f_writer.proofs.Opens.{opens_proj, opens_ref, opens_deref, opens_inst, opens_one, opens_fix, opens_pack}
+use Rattle.f_writer.proofs.Opens.{opens_app, opens_plus, opens_minus, opens_star, opens_assign, opens_let, opens_open}
+use Rattle.f_writer.proofs.Opens.{opens_if, opens_name, opens_plain, opens_negative, opens_unit, opens_tuple}
+use Rattle.f_writer.proofs.Opens.{opens_more}
 use Rattle.f_writer.proofs.Placed as placing
 use Rattle.f_writer.proofs.Placed.{size, placed, placed_append, stops, Fine, fine_append, Written, written_append}
 use Rattle.f_writer.proofs.Scopes.{value_names, type_names, names_next, names_two, in_scope}
-use Rattle.f_writer.proofs.WroteTypes.{to_type, WroteType, wrote_type}
-
--- what is of a line of the grammar
-abbrev pub Of : Line → List Token → Piece → Type 0
-Of Expression w e = E w e
-Of Sum w e = S w e
-Of Product w e = M w e
-Of Call w e = A w e
-Of Primary w e = P w e
-
--- what binds closer may stand where less is asked for
-lift : (l q : Line) (w : List Token) (e : Piece) → is_loose l q ≡ false → Of l w e → Of q w e
-lift Expression Expression w e h x = x
-lift Expression Sum w e h x = absurd (cc)
-lift Expression Product w e h x = absurd (cc)
-lift Expression Call w e h x = absurd (cc)
-lift Expression Primary w e h x = absurd (cc)
-lift Sum Expression w e h x = e_sum x
-lift Sum Sum w e h x = x
-lift Sum Product w e h x = absurd (cc)
-lift Sum Call w e h x = absurd (cc)
-lift Sum Primary w e h x = absurd (cc)
-lift Product Expression w e h x = e_sum (s_product x)
-lift Product Sum w e h x = s_product x
-lift Product Product w e h x = x
-lift Product Call w e h x = absurd (cc)
-lift Product Primary w e h x = absurd (cc)
-lift Call Expression w e h x = e_sum (s_product (m_call x))
-lift Call Sum w e h x = s_product (m_call x)
-lift Call Product w e h x = m_call x
-lift Call Call w e h x = x
-lift Call Primary w e h x = absurd (cc)
-lift Primary Expression w e h x = e_sum (s_product (m_call (a_part x)))
-lift Primary Sum w e h x = s_product (m_call (a_part x))
-lift Primary Product w e h x = m_call (a_part x)
-lift Primary Call w e h x = a_part x
-lift Primary Primary w e h x = x
-
-pub whole_term : (l : Line) (w : List Token) (e : Piece) → Of l w e → E w e
-whole_term Expression w e x = x
-whole_term Sum w e x = e_sum x
-whole_term Product w e x = e_sum (s_product x)
-whole_term Call w e x = e_sum (s_product (m_call x))
-whole_term Primary w e x = e_sum (s_product (m_call (a_part x)))
-
-from_part : (q : Line) (w : List Token) (e : Piece) → P w e → Of q w e
-from_part Expression w e x = e_sum (s_product (m_call (a_part x)))
-from_part Sum w e x = s_product (m_call (a_part x))
-from_part Product w e x = m_call (a_part x)
-from_part Call w e x = a_part x
-from_part Primary w e x = x
+use Rattle.f_writer.proofs.WroteTypes.{wrote_type}
 
 stops_more : (n m : ℕ) (es : Terms) → stops (more_lexed n m es) true ≡ true
 stops_more n m NoTerms = refl
@@ -84,7 +48,7 @@ stops_more n m (MoreTerms e es) = refl
 module _ (text : List ℕ) where
   pub record WroteTerm (i n m : ℕ) (e : Term) : Type 0 where
     pub piece : Piece
-    pub whole : Of (line_of e) (placed i (lexed n m e)) piece
+    pub whole : Opens (line_of e) (placed i (lexed n m e)) piece (nesting e)
     pub fine : Fine (lexed n m e) true
     pub tm : Tm
     pub bound : TermOf text (value_names m) (type_names n) piece.tree tm
@@ -93,13 +57,14 @@ module _ (text : List ℕ) where
   -- the same at a place that asks for a line, in parentheses where b holds
   record WroteAt (q : Line) (b : Bool) (i n m : ℕ) (e : Term) : Type 0 where
     piece : Piece
-    whole : Of q (placed i (inside b (lexed n m e))) piece
+    whole : Opens q (placed i (inside b (lexed n m e))) piece (nest_if b (nesting e))
     fine : Fine (inside b (lexed n m e)) true
     tm : Tm
     bound : TermOf text (value_names m) (type_names n) piece.tree tm
     is : plain tm ≡ e
 
-  at_line : (q : Line) (b : Bool) (i n m : ℕ) (e : Term) → is_loose (line_of e) q ≡ b → ((j : ℕ) → Written text j (lexed n m e) → WroteTerm j n m e) →
+  at_line : (q : Line) (b : Bool) (i n m : ℕ) (e : Term) → is_loose (line_of e) q ≡ b →
+      ((j : ℕ) → Written text j (lexed n m e) → WroteTerm j n m e) →
       Written text i (inside b (lexed n m e)) → WroteAt q b i n m e
   at_line q true i n m e h f w =
       let ls = lexed n m e in
@@ -109,41 +74,57 @@ module _ (text : List ℕ) where
       let c = placing.place_of (i + 1 + size ls) close_paren in
       record {
         piece = within o.start c.end r.piece;
-        whole = rw (placed_append (i + 1) ls last) (from_part q _ _ (p_paren o c (whole_term (line_of e) _ _ r.whole)));
+        whole = rw (placed_append (i + 1) ls last) (from_part _ _ _ q
+            (opens_paren _ _ _ o c (whole_term _ _ _ (line_of e) r.whole)));
         fine = ((refl, refl, tt), tt, fine_append ls last true r.fine ((refl, refl, tt), tt, tt));
         tm = r.tm;
         bound = r.bound;
         is = r.is;
       }
   at_line q false i n m e h f w =
-      let r = f i w in record { piece = r.piece; whole = lift (line_of e) q _ _ h r.whole; fine = r.fine; tm = r.tm; bound = r.bound; is = r.is }
+      let r = f i w in record {
+        piece = r.piece;
+        whole = lift _ _ _ (line_of e) q h r.whole;
+        fine = r.fine;
+        tm = r.tm;
+        bound = r.bound;
+        is = r.is;
+      }
 
   -- fields after the first of a tuple
   record MoreFields (i n m : ℕ) (es : Terms) : Type 0 where
     raw : List RawTm
-    extend : (u : List Token) (rs : List RawTm) → Es u rs → Es (u ++ placed i (more_lexed n m es)) (rs ++ raw)
+    extend : (u : List Token) (rs : List RawTm) (l : ℕ) → all_nesting es ≤ l → OpensFields u rs l →
+        OpensFields (u ++ placed i (more_lexed n m es)) (rs ++ raw) l
     fine : Fine (more_lexed n m es) true
     tms : Tms
     bound : TermsOf text (value_names m) (type_names n) (raw_tms raw) tms
     is : plain_all tms ≡ es
 
   -- under binders
-  under_value : (s : Span) (n m : ℕ) (r : RawTm) (t : Tm) → spelled text s ≡ bytes (ValueName m) → TermOf text (value_names (m + 1)) (type_names n) r t →
+  under_value : (s : Span) (n m : ℕ) (r : RawTm) (t : Tm) → spelled text s ≡ bytes (ValueName m) →
+      TermOf text (value_names (m + 1)) (type_names n) r t →
       TermOf text (spelled text s ∷ value_names m) (type_names n) r t
   under_value s n m r t e h =
-      let q : value_names (m + 1) ≡ spelled text s ∷ value_names m = names_next 120 m ∙ ap (λ (x : Name). x ∷ value_names m) (sym e) in
+      let q : value_names (m + 1) ≡ spelled text s ∷ value_names m = names_next 120 m ∙ ap
+      (λ (x : Name). x ∷ value_names m) (sym e) in
       subst (λ (v : List Name). TermOf text v (type_names n) r t) q h
 
-  under_type : (s : Span) (n : ℕ) (v : List Name) (r : RawTm) (t : Tm) → spelled text s ≡ bytes (TypeName n) → TermOf text v (type_names (n + 1)) r t →
+  under_type : (s : Span) (n : ℕ) (v : List Name) (r : RawTm) (t : Tm) → spelled text s ≡ bytes (TypeName n) →
+      TermOf text v (type_names (n + 1)) r t →
       TermOf text v (spelled text s ∷ type_names n) r t
   under_type s n v r t e h =
-      let q : type_names (n + 1) ≡ spelled text s ∷ type_names n = names_next 116 n ∙ ap (λ (x : Name). x ∷ type_names n) (sym e) in
+      let q : type_names (n + 1) ≡ spelled text s ∷ type_names n = names_next 116 n ∙ ap
+      (λ (x : Name). x ∷ type_names n) (sym e) in
       subst (λ (a : List Name). TermOf text v a r t) q h
 
-  under_function : (f x : Span) (n m : ℕ) (r : RawTm) (t : Tm) → spelled text f ≡ bytes (ValueName m) → spelled text x ≡ bytes (ValueName (m + 1)) →
-      TermOf text (value_names (m + 2)) (type_names n) r t → TermOf text (spelled text x ∷ (spelled text f ∷ value_names m)) (type_names n) r t
+  under_function : (f x : Span) (n m : ℕ) (r : RawTm) (t : Tm) → spelled text f ≡ bytes (ValueName m) →
+      spelled text x ≡ bytes (ValueName (m + 1)) →
+      TermOf text (value_names (m + 2)) (type_names n) r t →
+      TermOf text (spelled text x ∷ (spelled text f ∷ value_names m)) (type_names n) r t
   under_function f x n m r t e g h =
-      let q : value_names (m + 2) ≡ spelled text x ∷ (spelled text f ∷ value_names m) = names_two 120 m ∙ ap₂ (λ (y z : Name). y ∷ (z ∷ value_names m)) (sym g) (sym e) in
+      let q : value_names (m + 2) ≡ spelled text x ∷ (spelled text f ∷ value_names m) = names_two 120 m ∙ ap₂
+      (λ (y z : Name). y ∷ (z ∷ value_names m)) (sym g) (sym e) in
       subst (λ (v : List Name). TermOf text v (type_names n) r t) q h
 
   -- what a recursive call gives of a part
@@ -161,7 +142,9 @@ module _ (text : List ℕ) where
         let r = at_line Product (is_loose (line_of b) Product) (i + size ls + 1 + 2) n m b refl g x.1.1.1 in
         record {
           piece = operation Add l.piece r.piece;
-          whole = rw (placed_append i ls rest) (s_plus (placing.place_of (i + size ls + 1) (Spaced 43 k.Plus)) l.whole r.whole);
+          whole = rw (placed_append i ls rest) (opens_plus _ _ _ _ _ _
+              (placing.place_of (i + size ls + 1) (Spaced 43 k.Plus)) l.whole
+              r.whole);
           fine = fine_append ls rest true l.fine (refl, tt, ((refl, (λ s. refl), tt), tt, r.fine));
           tm = SArith (place (record { start = l.piece.start; end = r.piece.end })) Add l.tm r.tm;
           bound = of_arith _ Add l.bound r.bound;
@@ -177,7 +160,9 @@ module _ (text : List ℕ) where
         let r = at_line Product (is_loose (line_of b) Product) (i + size ls + 1 + 2) n m b refl g x.1.1.1 in
         record {
           piece = operation Sub l.piece r.piece;
-          whole = rw (placed_append i ls rest) (s_minus (placing.place_of (i + size ls + 1) (Spaced 45 k.Minus)) l.whole r.whole);
+          whole = rw (placed_append i ls rest) (opens_minus _ _ _ _ _ _
+              (placing.place_of (i + size ls + 1) (Spaced 45 k.Minus))
+              l.whole r.whole);
           fine = fine_append ls rest true l.fine (refl, tt, ((refl, (λ s. refl), tt), tt, r.fine));
           tm = SArith (place (record { start = l.piece.start; end = r.piece.end })) Sub l.tm r.tm;
           bound = of_arith _ Sub l.bound r.bound;
@@ -193,7 +178,9 @@ module _ (text : List ℕ) where
         let r = at_line Call (is_loose (line_of b) Call) (i + size ls + 1 + 2) n m b refl g x.1.1.1 in
         record {
           piece = operation Mul l.piece r.piece;
-          whole = rw (placed_append i ls rest) (m_star (placing.place_of (i + size ls + 1) (Spaced 42 k.Star)) l.whole r.whole);
+          whole = rw (placed_append i ls rest) (opens_star _ _ _ _ _ _
+              (placing.place_of (i + size ls + 1) (Spaced 42 k.Star)) l.whole
+              r.whole);
           fine = fine_append ls rest true l.fine (refl, tt, ((refl, (λ s. refl), tt), tt, r.fine));
           tm = SArith (place (record { start = l.piece.start; end = r.piece.end })) Mul l.tm r.tm;
           bound = of_arith _ Mul l.bound r.bound;
@@ -209,7 +196,9 @@ module _ (text : List ℕ) where
         let r = at_line Sum (is_loose (line_of b) Sum) (i + size ls + 1 + 2 + 1) n m b refl g x.1.1.1.1 in
         record {
           piece = assign l.piece r.piece;
-          whole = rw (placed_append i ls rest) (e_assign (placing.place_of (i + size ls + 1) (Pair 58 61 k.Assign)) l.whole r.whole);
+          whole = rw (placed_append i ls rest) (opens_assign _ _ _ _ _ _
+              (placing.place_of (i + size ls + 1) (Pair 58 61 k.Assign))
+              l.whole r.whole);
           fine = fine_append ls rest true l.fine (refl, tt, ((refl, (λ s. refl), tt), tt, (refl, tt, r.fine)));
           tm = SAssign (place (record { start = l.piece.start; end = r.piece.end })) l.tm r.tm;
           bound = of_assign _ l.bound r.bound;
@@ -225,7 +214,7 @@ module _ (text : List ℕ) where
         let r = at_line Primary (is_loose (line_of b) Primary) (i + size ls + 1) n m b refl g x.1.1 in
         record {
           piece = call l.piece r.piece;
-          whole = rw (placed_append i ls rest) (a_call l.whole r.whole);
+          whole = rw (placed_append i ls rest) (opens_app _ _ _ _ _ _ l.whole r.whole);
           fine = fine_append ls rest true l.fine (refl, tt, r.fine);
           tm = SApp (place (record { start = l.piece.start; end = r.piece.end })) l.tm r.tm;
           bound = of_app _ l.bound r.bound;
@@ -233,12 +222,13 @@ module _ (text : List ℕ) where
         }
 
   mutual
-    pub wrote_term : (i n m : ℕ) (e : Term) → IsWord n → IsWord m → Fits e n m → Written text i (lexed n m e) → WroteTerm i n m e
+    pub wrote_term : (i n m : ℕ) (e : Term) → IsWord n → IsWord m → Fits e n m → Written text i (lexed n m e) →
+        WroteTerm i n m e
     wrote_term i n m (MVar v) hn hm h w =
         let s = placing.place_of i (ValueName (m - 1 - v)) in
         record {
           piece = var s;
-          whole = p_name s;
+          whole = opens_name s;
           fine = (omega arith, refl, tt);
           tm = SVar (place s) v;
           bound = of_var s v (subst (λ (x : Name). IsPlace x (value_names m) v) (sym w.0) (in_scope 120 m v h hm));
@@ -246,10 +236,26 @@ module _ (text : List ℕ) where
         }
     wrote_term i n m (MNum (pos z)) hn hm h w =
         let s = placing.place_of i (Number (pos z)) in
-        record { piece = number (pos z) s; whole = p_plain (pos z) s; fine = (h, refl, tt); tm = SNum (place s) (pos z); bound = of_num s (pos z); is = refl }
+        record {
+          piece = number (pos z) s;
+          whole = opens_plain (pos z) s;
+          fine = (h, refl, tt);
+          tm = SNum (place s)
+              (pos z);
+          bound = of_num s (pos z);
+          is = refl;
+        }
     wrote_term i n m (MNum (negsuc z)) hn hm h w =
         let s = placing.place_of i (Number (negsuc z)) in
-        record { piece = number (negsuc z) s; whole = p_negative (negsuc z) s; fine = (h, refl, tt); tm = SNum (place s) (negsuc z); bound = of_num s (negsuc z); is = refl }
+        record {
+          piece = number (negsuc z) s;
+          whole = opens_negative (negsuc z) s;
+          fine = (h, refl, tt);
+          tm = SNum
+              (place s) (negsuc z);
+          bound = of_num s (negsuc z);
+          is = refl;
+        }
     wrote_term i n m (MFix arg res e) hn hm h w =
         let f = placing.place_of (i + 3 + 1) (ValueName m) in
         let o = i + 3 + 1 + length (bytes (ValueName m)) in
@@ -270,8 +276,12 @@ module _ (text : List ℕ) where
         record {
           piece = func start f x a.piece.ty b.piece.ty r.piece;
           whole = rw (placed_append (c + 2) t middle, placed_append (p + 1 + 2) u rest)
-              (e_fix start f (placing.place_of o open_paren) x (placing.place_of c (Spaced 58 k.Colon)) (placing.place_of p close_paren) (placing.place_of (p + 1) (Spaced 58 k.Colon)) (placing.place_of d (Spaced 46 k.Dot))
-              (to_type (is_grouped arg) _ _ a.whole) (to_type (is_grouped res) _ _ b.whole) (whole_term (line_of e) _ _ r.whole));
+              (opens_fix _ _ _ _ _ _ _ _ _ start f (placing.place_of o open_paren) x
+              (placing.place_of c (Spaced 58 k.Colon))
+              (placing.place_of p close_paren) (placing.place_of (p + 1) (Spaced 58 k.Colon))
+              (placing.place_of d (Spaced 46 k.Dot))
+              (to_type (is_grouped arg) _ _ _ a.whole) (to_type (is_grouped res) _ _ _ b.whole)
+              (whole_term _ _ _ (line_of e) r.whole));
           fine = (
             (refl, refl, tt),
             refl,
@@ -287,7 +297,20 @@ module _ (text : List ℕ) where
                   (
                     omega (arith, h.2),
                     refl,
-                    ((refl, (λ s. refl), tt), tt, fine_append t middle true a.fine ((refl, refl, tt), tt, ((refl, (λ s. refl), tt), tt, fine_append u rest true b.fine ((refl, (λ s. refl), tt), tt, r.fine)))),
+                    (
+                      (refl, (λ s. refl), tt),
+                      tt,
+                      fine_append t middle true a.fine (
+                        (refl, refl, tt),
+                        tt,
+                        (
+                          (refl, (λ s. refl), tt),
+                          tt,
+                          fine_append u rest true b.fine
+                              ((refl, (λ s. refl), tt), tt, r.fine),
+                        ),
+                      ),
+                    ),
                   ),
                 ),
               ),
@@ -297,7 +320,8 @@ module _ (text : List ℕ) where
           bound = of_fix _ f x a.bound b.bound (under_function f x n m r.piece.tree r.tm w.1.1.0 w.1.1.1.1.0 r.bound);
           is = ap (λ (v : Term). MFix arg res v) r.is;
         }
-    wrote_term i n m (MApp f x) hn hm h w = application i n m f x (λ j v. wrote_term j n m f hn hm h.0 v) (λ j v. wrote_term j n m x hn hm h.1 v) w
+    wrote_term i n m (MApp f x) hn hm h w = application i n m f x (λ j v. wrote_term j n m f hn hm h.0 v)
+        (λ j v. wrote_term j n m x hn hm h.1 v) w
     wrote_term i n m (MGen e) hn hm h w =
         let s = placing.place_of (i + 3 + 1) (TypeName n) in
         let c = i + 3 + 1 + length (bytes (TypeName n)) in
@@ -305,7 +329,8 @@ module _ (text : List ℕ) where
         let start = placing.place_of i (Reserved (codes "gen") k.Gen) in
         record {
           piece = gen start s r.piece;
-          whole = e_gen start s (placing.place_of c (Spaced 46 k.Dot)) (whole_term (line_of e) _ _ r.whole);
+          whole = opens_gen _ _ _ start s (placing.place_of c (Spaced 46 k.Dot))
+              (whole_term _ _ _ (line_of e) r.whole);
           fine = ((refl, refl, tt), refl, (refl, tt, (hn, refl, ((refl, (λ s. refl), tt), tt, r.fine))));
           tm = SGen (place (record { start = i; end = r.piece.end })) r.tm;
           bound = of_gen _ s (under_type s n (value_names m) r.piece.tree r.tm w.1.1.0 r.bound);
@@ -324,8 +349,15 @@ module _ (text : List ℕ) where
         let c = placing.place_of (o + 1 + size u) (Sign 93 k.RightBracket) in
         record {
           piece = inst l.piece a.piece.ty c;
-          whole = rw (placed_append i ls rest, placed_append (o + 1) u last) (a_inst (placing.place_of o (Sign 91 k.LeftBracket)) c l.whole (to_type (is_grouped t) _ _ a.whole));
-          fine = fine_append ls rest true l.fine ((refl, refl, tt), tt, fine_append u last true a.fine ((refl, refl, tt), tt, tt));
+          whole = rw (placed_append i ls rest, placed_append (o + 1) u last)
+              (opens_inst _ _ _ _ _ _ (placing.place_of o (Sign 91 k.LeftBracket)) c l.whole
+              (to_type (is_grouped t) _ _ _ a.whole));
+          fine = fine_append ls rest true l.fine (
+            (refl, refl, tt),
+            tt,
+            fine_append u last true a.fine
+                ((refl, refl, tt), tt, tt),
+          );
           tm = SInst (place (record { start = l.piece.start; end = c.end })) l.tm t;
           bound = of_inst _ l.bound a.bound;
           is = ap (λ (v : Term). MInst v t) l.is;
@@ -335,7 +367,7 @@ module _ (text : List ℕ) where
         let c = placing.place_of (i + 1) (Sign 62 k.RightAngle) in
         record {
           piece = tuple o [] c;
-          whole = p_unit o c;
+          whole = opens_unit o c;
           fine = ((refl, refl, tt), tt, ((refl, refl, tt), tt, tt));
           tm = STuple (place (record { start = i; end = i + 1 + 1 })) NoTms;
           bound = of_fields _ of_no_terms;
@@ -355,8 +387,16 @@ module _ (text : List ℕ) where
         record {
           piece = tuple o (a.piece.tree ∷ r.raw) c;
           whole = rw (placed_append (i + 1) ls last, placed_append (i + 1) first more)
-              (p_tuple o c (r.extend (placed (i + 1) first) (a.piece.tree ∷ []) (es_one (whole_term (line_of e) _ _ a.whole))));
-          fine = ((refl, refl, tt), tt, fine_append ls last true (fine_append first more true (rw (stops_more n m es) a.fine) r.fine) ((refl, refl, tt), tt, tt));
+              (opens_tuple _ _ _ o c (r.extend (placed (i + 1) first) (a.piece.tree ∷ [])
+              (max (nesting e) (all_nesting es)) (omega arith)
+              (opens_one _ _ _ (max (nesting e) (all_nesting es)) (omega arith)
+              (whole_term _ _ _ (line_of e) a.whole))));
+          fine = (
+            (refl, refl, tt),
+            tt,
+            fine_append ls last true
+                (fine_append first more true (rw (stops_more n m es) a.fine) r.fine) ((refl, refl, tt), tt, tt),
+          );
           tm = STuple (place (record { start = i; end = c.end })) (MoreTms a.tm r.tms);
           bound = of_fields _ (of_more_terms a.bound r.bound);
           is = ap₂ (λ (y : Term) (ys : Terms). MTuple (MoreTerms y ys)) a.is r.is;
@@ -369,15 +409,18 @@ module _ (text : List ℕ) where
         let start = placing.place_of i (Sign 35 k.Hash) in
         record {
           piece = proj start v r.piece;
-          whole = p_proj start (pos v) s r.whole;
+          whole = opens_proj _ _ _ start (pos v) s r.whole;
           fine = ((refl, refl, tt), tt, ((omega (arith, ints), omega (arith, ints, h.0)), refl, (refl, tt, r.fine)));
           tm = SProj (place (record { start = i; end = r.piece.end })) v r.tm;
           bound = of_proj _ v r.bound;
           is = ap (λ (x : Term). MProj v x) r.is;
         }
-    wrote_term i n m (MArith Add a b) hn hm h w = sum i n m a b (λ j v. wrote_term j n m a hn hm h.0 v) (λ j v. wrote_term j n m b hn hm h.1 v) w
-    wrote_term i n m (MArith Sub a b) hn hm h w = difference i n m a b (λ j v. wrote_term j n m a hn hm h.0 v) (λ j v. wrote_term j n m b hn hm h.1 v) w
-    wrote_term i n m (MArith Mul a b) hn hm h w = times i n m a b (λ j v. wrote_term j n m a hn hm h.0 v) (λ j v. wrote_term j n m b hn hm h.1 v) w
+    wrote_term i n m (MArith Add a b) hn hm h w = sum i n m a b (λ j v. wrote_term j n m a hn hm h.0 v)
+        (λ j v. wrote_term j n m b hn hm h.1 v) w
+    wrote_term i n m (MArith Sub a b) hn hm h w = difference i n m a b (λ j v. wrote_term j n m a hn hm h.0 v)
+        (λ j v. wrote_term j n m b hn hm h.1 v) w
+    wrote_term i n m (MArith Mul a b) hn hm h w = times i n m a b (λ j v. wrote_term j n m a hn hm h.0 v)
+        (λ j v. wrote_term j n m b hn hm h.1 v) w
     wrote_term i n m (MIf0 c a b) hn hm h w =
         let lc = lexed n m c in
         let la = lexed n m a in
@@ -400,15 +443,28 @@ module _ (text : List ℕ) where
         record {
           piece = if0 start rc.piece ra.piece rb.piece end;
           whole = rw (placed_append (o + 1) lc rest, placed_append (p + 2) la second, placed_append (q + 2) lb last)
-              (p_if0 start (placing.place_of o open_paren) (placing.place_of p comma) (placing.place_of q comma) end (whole_term (line_of c) _ _ rc.whole) (whole_term (line_of a) _ _ ra.whole) (whole_term (line_of b) _ _ rb.whole));
+              (opens_if _ _ _ _ _ _ _ _ _ start (placing.place_of o open_paren) (placing.place_of p comma)
+              (placing.place_of q comma) end
+              (whole_term _ _ _ (line_of c) rc.whole) (whole_term _ _ _ (line_of a) ra.whole)
+              (whole_term _ _ _ (line_of b) rb.whole));
           fine = (
             (refl, refl, tt),
             refl,
-            ((refl, refl, tt), tt, fine_append lc rest true rc.fine ((refl, (λ s. refl), tt), tt, fine_append la second true ra.fine ((refl, (λ s. refl), tt), tt, fine_append lb last true rb.fine ((refl, refl, tt), tt, tt)))),
+            (
+              (refl, refl, tt),
+              tt,
+              fine_append lc rest true rc.fine (
+                (refl, (λ s. refl), tt),
+                tt,
+                fine_append la second true ra.fine
+                    ((refl, (λ s. refl), tt), tt, fine_append lb last true rb.fine ((refl, refl, tt), tt, tt)),
+              ),
+            ),
           );
           tm = SIf0 (place (record { start = i; end = end.end })) rc.tm ra.tm rb.tm;
           bound = of_if0 _ rc.bound ra.bound rb.bound;
-          is = ap (λ (v : Term). MIf0 v (plain ra.tm) (plain rb.tm)) rc.is ∙ ap₂ (λ (u v : Term). MIf0 c u v) ra.is rb.is;
+          is = ap (λ (v : Term). MIf0 v (plain ra.tm) (plain rb.tm)) rc.is ∙ ap₂ (λ (u v : Term). MIf0 c u v) ra.is
+              rb.is;
         }
     wrote_term i n m (MLet a b) hn hm h w =
         let s = placing.place_of (i + 3 + 1) (ValueName m) in
@@ -423,8 +479,31 @@ module _ (text : List ℕ) where
         record {
           piece = let_in start s ra.piece rb.piece;
           whole = rw (placed_append (q + 2) la rest)
-              (e_let start s (placing.place_of q (Spaced 61 k.Equals)) (placing.place_of p (Reserved (codes "in") k.In)) (whole_term (line_of a) _ _ ra.whole) (whole_term (line_of b) _ _ rb.whole));
-          fine = ((refl, refl, tt), refl, (refl, tt, (hm, refl, (refl, tt, ((refl, (λ s. refl), tt), tt, fine_append la rest true ra.fine (refl, tt, ((refl, refl, tt), refl, (refl, tt, rb.fine))))))));
+              (opens_let _ _ _ _ _ _ start s (placing.place_of q (Spaced 61 k.Equals))
+              (placing.place_of p (Reserved (codes "in") k.In)) (whole_term _ _ _ (line_of a) ra.whole)
+              (whole_term _ _ _ (line_of b) rb.whole));
+          fine = (
+            (refl, refl, tt),
+            refl,
+            (
+              refl,
+              tt,
+              (
+                hm,
+                refl,
+                (
+                  refl,
+                  tt,
+                  (
+                    (refl, (λ s. refl), tt),
+                    tt,
+                    fine_append la rest true ra.fine
+                        (refl, tt, ((refl, refl, tt), refl, (refl, tt, rb.fine))),
+                  ),
+                ),
+              ),
+            ),
+          );
           tm = SLet (place (record { start = i; end = rb.piece.end })) ra.tm rb.tm;
           bound = of_let _ s ra.bound (under_value s n m rb.piece.tree rb.tm w.1.1.0 rb.bound);
           is = ap₂ (λ (u v : Term). MLet u v) ra.is rb.is;
@@ -446,9 +525,26 @@ module _ (text : List ℕ) where
         record {
           piece = pack start rt.piece re.piece ru.piece;
           whole = rw (placed_append (o + 1) lt rest, placed_append (c + 2) le last)
-              (e_pack start (placing.place_of o (Sign 91 k.LeftBracket)) (placing.place_of c comma) (placing.place_of q (Sign 93 k.RightBracket)) (placing.place_of (q + 1 + 1) (Reserved (codes "as") k.As))
-              (to_type (is_grouped t) _ _ rt.whole) (whole_term (line_of e) _ _ re.whole) (to_type (is_grouped u) _ _ ru.whole));
-          fine = ((refl, refl, tt), refl, ((refl, refl, tt), tt, fine_append lt rest true rt.fine ((refl, (λ s. refl), tt), tt, fine_append le last true re.fine ((refl, refl, tt), tt, (refl, tt, ((refl, refl, tt), refl, (refl, tt, ru.fine)))))));
+              (opens_pack _ _ _ _ _ _ _ _ _ start (placing.place_of o (Sign 91 k.LeftBracket))
+              (placing.place_of c comma)
+              (placing.place_of q (Sign 93 k.RightBracket))
+              (placing.place_of (q + 1 + 1) (Reserved (codes "as") k.As))
+              (to_type (is_grouped t) _ _ _ rt.whole) (whole_term _ _ _ (line_of e) re.whole)
+              (to_type (is_grouped u) _ _ _ ru.whole));
+          fine = (
+            (refl, refl, tt),
+            refl,
+            (
+              (refl, refl, tt),
+              tt,
+              fine_append lt rest true rt.fine (
+                (refl, (λ s. refl), tt),
+                tt,
+                fine_append le last true re.fine
+                    ((refl, refl, tt), tt, (refl, tt, ((refl, refl, tt), refl, (refl, tt, ru.fine)))),
+              ),
+            ),
+          );
           tm = SPack (place (record { start = i; end = ru.piece.end })) t re.tm u;
           bound = of_pack _ rt.bound re.bound ru.bound;
           is = ap (λ (v : Term). MPack t v u) re.is;
@@ -469,8 +565,11 @@ module _ (text : List ℕ) where
         record {
           piece = open_in start s x ra.piece rb.piece;
           whole = rw (placed_append (q + 2) la rest)
-              (e_open start (placing.place_of (i + 4 + 1) (Sign 91 k.LeftBracket)) s (placing.place_of c comma) x (placing.place_of d (Sign 93 k.RightBracket)) (placing.place_of q (Spaced 61 k.Equals)) (placing.place_of p (Reserved (codes "in") k.In))
-              (whole_term (line_of a) _ _ ra.whole) (whole_term (line_of b) _ _ rb.whole));
+              (opens_open _ _ _ _ _ _ start (placing.place_of (i + 4 + 1) (Sign 91 k.LeftBracket)) s
+              (placing.place_of c comma) x
+              (placing.place_of d (Sign 93 k.RightBracket)) (placing.place_of q (Spaced 61 k.Equals))
+              (placing.place_of p (Reserved (codes "in") k.In))
+              (whole_term _ _ _ (line_of a) ra.whole) (whole_term _ _ _ (line_of b) rb.whole));
           fine = (
             (refl, refl, tt),
             refl,
@@ -486,44 +585,66 @@ module _ (text : List ℕ) where
                   (
                     (refl, (λ s. refl), tt),
                     tt,
-                    (hm, refl, ((refl, refl, tt), tt, (refl, tt, ((refl, (λ s. refl), tt), tt, fine_append la rest true ra.fine (refl, tt, ((refl, refl, tt), refl, (refl, tt, rb.fine))))))),
+                    (
+                      hm,
+                      refl,
+                      (
+                        (refl, refl, tt),
+                        tt,
+                        (
+                          refl,
+                          tt,
+                          (
+                            (refl, (λ s. refl), tt),
+                            tt,
+                            fine_append la rest true ra.fine
+                                (refl, tt, ((refl, refl, tt), refl, (refl, tt, rb.fine))),
+                          ),
+                        ),
+                      ),
+                    ),
                   ),
                 ),
               ),
             ),
           );
           tm = SOpen (place (record { start = i; end = rb.piece.end })) ra.tm rb.tm;
-          bound = of_open _ s x ra.bound (under_type s n (spelled text x ∷ value_names m) rb.piece.tree rb.tm w.1.1.1.0 (under_value x (n + 1) m rb.piece.tree rb.tm w.1.1.1.1.1.0 rb.bound));
+          bound = of_open _ s x ra.bound (under_type s n (spelled text x ∷ value_names m) rb.piece.tree rb.tm
+              w.1.1.1.0 (under_value x (n + 1) m rb.piece.tree rb.tm w.1.1.1.1.1.0 rb.bound));
           is = ap₂ (λ (u v : Term). MOpen u v) ra.is rb.is;
         }
     wrote_term i n m (MRef e) hn hm h w =
-        let r = at_line Primary (is_loose (line_of e) Primary) (i + 3 + 1) n m e refl (λ j v. wrote_term j n m e hn hm h v) w.1.1 in
+        let r = at_line Primary (is_loose (line_of e) Primary) (i + 3 + 1) n m e refl
+        (λ j v. wrote_term j n m e hn hm h v) w.1.1 in
         let start = placing.place_of i (Reserved (codes "ref") k.Ref) in
         record {
           piece = cell start r.piece;
-          whole = p_ref start r.whole;
+          whole = opens_ref _ _ _ start r.whole;
           fine = ((refl, refl, tt), refl, (refl, tt, r.fine));
           tm = SRef (place (record { start = i; end = r.piece.end })) r.tm;
           bound = of_cell _ r.bound;
           is = ap (λ (v : Term). MRef v) r.is;
         }
     wrote_term i n m (MDeref e) hn hm h w =
-        let r = at_line Primary (is_loose (line_of e) Primary) (i + 1) n m e refl (λ j v. wrote_term j n m e hn hm h v) w.1 in
+        let r = at_line Primary (is_loose (line_of e) Primary) (i + 1) n m e refl
+        (λ j v. wrote_term j n m e hn hm h v) w.1 in
         let start = placing.place_of i (Sign 33 k.Bang) in
         record {
           piece = deref start r.piece;
-          whole = p_deref start r.whole;
+          whole = opens_deref _ _ _ start r.whole;
           fine = ((refl, refl, tt), tt, r.fine);
           tm = SDeref (place (record { start = i; end = r.piece.end })) r.tm;
           bound = of_deref _ r.bound;
           is = ap (λ (v : Term). MDeref v) r.is;
         }
-    wrote_term i n m (MAssign a b) hn hm h w = assignment i n m a b (λ j v. wrote_term j n m a hn hm h.0 v) (λ j v. wrote_term j n m b hn hm h.1 v) w
+    wrote_term i n m (MAssign a b) hn hm h w = assignment i n m a b (λ j v. wrote_term j n m a hn hm h.0 v)
+        (λ j v. wrote_term j n m b hn hm h.1 v) w
 
-    more_fields : (i n m : ℕ) (es : Terms) → IsWord n → IsWord m → AllFit es n m → Written text i (more_lexed n m es) → MoreFields i n m es
+    more_fields : (i n m : ℕ) (es : Terms) → IsWord n → IsWord m → AllFit es n m →
+        Written text i (more_lexed n m es) → MoreFields i n m es
     more_fields i n m NoTerms hn hm h w = record {
       raw = [];
-      extend = λ u rs x. rw (append-nil, append-nil) x;
+      extend = λ u rs l le x. rw (append-nil, append-nil) x;
       fine = tt;
       tms = NoTms;
       bound = of_no_terms;
@@ -537,8 +658,13 @@ module _ (text : List ℕ) where
         let r = more_fields (i + 2 + size first) n m es hn hm h.1 x.1 in
         record {
           raw = a.piece.tree ∷ r.raw;
-          extend = λ u rs y. rw (placed_append (i + 2) first more)
-              (simp append_assoc at (r.extend (u ++ tok k.Comma (placing.place_of i comma) ∷ placed (i + 2) first) (rs ++ a.piece.tree ∷ []) (es_more (placing.place_of i comma) y (whole_term (line_of e) _ _ a.whole))));
+          extend = λ u rs l le y.
+              let low : all_nesting es ≤ l = omega arith in
+              let high : nesting e ≤ l = omega arith in
+              rw (placed_append (i + 2) first more)
+              (simp append_assoc at (r.extend (u ++ tok k.Comma (placing.place_of i comma) ∷ placed (i + 2) first)
+              (rs ++ a.piece.tree ∷ []) l low
+              (opens_more _ _ _ _ _ _ (placing.place_of i comma) high y (whole_term _ _ _ (line_of e) a.whole))));
           fine = ((refl, (λ s. refl), tt), tt, fine_append first more true (rw (stops_more n m es) a.fine) r.fine);
           tms = MoreTms a.tm r.tms;
           bound = of_more_terms a.bound r.bound;

@@ -3,7 +3,8 @@
 use Rattle.std.specs.Prelude.{ℕ, ◌+◌, ◌<◌, ◌≤◌, ◌≤ℤ◌, pos, negsuc}
 use Rattle.idx_core.specs.Over.{BelowAt, IsWord}
 use Rattle.f_terms.specs.Ty.{Ty, each}
-use Rattle.f_terms.specs.Tm.{Term, MVar, MNum, MFix, MApp, MGen, MInst, MTuple, MProj, MArith, MIf0, MLet, MPack, MOpen}
+use Rattle.f_terms.specs.Tm.{Term, MVar, MNum, MFix, MApp, MGen, MInst, MTuple, MProj, MArith, MIf0, MLet, MPack}
+use Rattle.f_terms.specs.Tm.{MOpen}
 use Rattle.f_terms.specs.Tm.{MRef, MDeref, MAssign, Terms, NoTerms, MoreTerms}
 
 -- the variables of a type inside n type names are bound, and each depth of names in it is a number of 64 bits

@@ -2,7 +2,8 @@
 use Rattle.std.specs.Prelude.{ℕ, nat_lt, Bool}
 use Rattle.idx_core.specs.declared.arith.Op.{Op}
 use Rattle.idx_core.specs.declared.arith.Op.TheVariants.{Add, Sub, Mul}
-use Rattle.f_terms.specs.Tm.{Term, MVar, MNum, MFix, MApp, MGen, MInst, MTuple, MProj, MArith, MIf0, MLet, MPack, MOpen}
+use Rattle.f_terms.specs.Tm.{Term, MVar, MNum, MFix, MApp, MGen, MInst, MTuple, MProj, MArith, MIf0, MLet, MPack}
+use Rattle.f_terms.specs.Tm.{MOpen}
 use Rattle.f_terms.specs.Tm.{MRef, MDeref, MAssign}
 use Rattle.f_terms.specs.declared.node.FShape.{FShape}
 use Rattle.f_terms.specs.declared.node.FShape.TheVariants as shape

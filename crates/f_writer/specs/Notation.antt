@@ -1,11 +1,13 @@
--- The canonical text of a term. A value name is `x` and the number of value names around its binder, a type name `t` and
--- the number of type names; in `fix x0(x1: ..)` the function is bound first. Parentheses stand only where the grammar
--- asks for them, a line ends behind each `in`, and one space stands wherever else there is a gap.
-use Rattle.std.specs.Prelude.{ℕ, suc, ◌+◌, ◌-◌, ℤ, pos, negsuc, List, [], ◌∷◌, ◌++◌, Bool, true, false, codes, decimal}
+-- The canonical text of a term. A value name is `x` and the number of value names around its binder, a type name `t`
+-- and the number of type names; in `fix x0(x1: ..)` the function is bound first. Parentheses stand only where the
+-- grammar asks for them, a line ends behind each `in`, and wherever else there is a gap it is one space.
+use Rattle.std.specs.Prelude.{ℕ, suc, ◌+◌, ◌-◌, ℤ, pos, negsuc, List, [], ◌++◌, Bool, true, false, codes}
+use Rattle.std.specs.Prelude.{decimal}
 use Rattle.idx_core.specs.declared.arith.Op.{Op}
 use Rattle.idx_core.specs.declared.arith.Op.TheVariants.{Add, Sub, Mul}
 use Rattle.f_terms.specs.Text.{name_text, text_at}
-use Rattle.f_terms.specs.Tm.{Term, MVar, MNum, MFix, MApp, MGen, MInst, MTuple, MProj, MArith, MIf0, MLet, MPack, MOpen}
+use Rattle.f_terms.specs.Tm.{Term, MVar, MNum, MFix, MApp, MGen, MInst, MTuple, MProj, MArith, MIf0, MLet, MPack}
+use Rattle.f_terms.specs.Tm.{MOpen}
 use Rattle.f_terms.specs.Tm.{MRef, MDeref, MAssign, Terms, NoTerms, MoreTerms}
 use Rattle.f_writer.specs.declared.line.Line.{Line}
 use Rattle.f_writer.specs.declared.line.Line.TheVariants.{Sum, Call, Primary}

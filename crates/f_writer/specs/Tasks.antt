@@ -1,7 +1,8 @@
 -- What is still to be written, as a list of tasks.
 use Rattle.std.specs.Prelude.{◌≡◌, ℕ, ◌+◌, ◌<◌, ◌≤◌, List, [], ◌∷◌, ◌++◌, codes}
 use Rattle.f_terms.specs.Ty.{Ty}
-use Rattle.f_terms.specs.Tm.{Term, MVar, MNum, MFix, MApp, MGen, MInst, MTuple, MProj, MArith, MIf0, MLet, MPack, MOpen}
+use Rattle.f_terms.specs.Tm.{Term, MVar, MNum, MFix, MApp, MGen, MInst, MTuple, MProj, MArith, MIf0, MLet, MPack}
+use Rattle.f_terms.specs.Tm.{MOpen}
 use Rattle.f_terms.specs.Tm.{MRef, MDeref, MAssign, Terms, NoTerms, MoreTerms}
 use Rattle.f_terms.specs.Read.{tree}
 use Rattle.f_terms.specs.Text.{text_at}
@@ -81,9 +82,9 @@ steps (WriteType n t ∷ tds) = 1 + steps tds
 
 -- where a form is begun inside n type names and m value names: its own text, parentheses aside, comes before the rest
 pub record Begun (before : List ℕ) (n m : ℕ) (e : Term) (old : List Todo) (after : List ℕ) (new : List Todo) : Type 0
-    where
-  pub same : after ++ all_done new ≡ before ++ (written n m e ++ all_done old)
-  pub less : steps new + 2 ≤ weight e + steps old
+  where
+    pub same : after ++ all_done new ≡ before ++ (written n m e ++ all_done old)
+    pub less : steps new + 2 ≤ weight e + steps old
 
 -- fields of a tuple are to be written, and its closing bracket after them
 pub record Opened (n m : ℕ) (es : Terms) (old new : List Todo) : Type 0 where

@@ -44,7 +44,10 @@ fn begin_typed<'a>(
             text.extend_from_slice(b", ")?;
             push(tasks, Task::Type(shape, names.types))?;
             push(tasks, Task::Bytes(b"] as "))?;
-            push(tasks, Task::Term(child(part, *inner, Line::Expression, names)))
+            push(
+                tasks,
+                Task::Term(child(part, *inner, Line::Expression, names)),
+            )
         }
         _ => unreachable!(),
     }
@@ -110,11 +113,7 @@ fn begin_form<'a>(
 }
 
 // The opening parenthesis where one is needed, and the closing one after what is written next.
-fn wrap<'a>(
-    text: &mut Vec<u8>,
-    tasks: &mut Vec<Task<'a>>,
-    loose: bool,
-) -> Result<(), OutOfMemory>
+fn wrap<'a>(text: &mut Vec<u8>, tasks: &mut Vec<Task<'a>>, loose: bool) -> Result<(), OutOfMemory>
     ensures written { OnOk result ((s : List ℕ) → text.new.items ++ (s ++ all_done (todos tasks.new.items)) ≡
         text.old.items ++ (wrapped loose s ++ all_done (todos tasks.old.items))) }
     ensures few { OnOk result (steps (todos tasks.new.items) ≤ 1 + steps (todos tasks.old.items)) }

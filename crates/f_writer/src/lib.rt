@@ -15,6 +15,7 @@ mod types;
 mod writer;
 
 pub use laws::{
-    read_terms_can_be_written, texts_stand_for_their_terms, written_twice_is_written_once,
+    read_terms_can_be_written, texts_stand_for_their_terms, written_texts_are_within,
+    written_twice_is_written_once,
 };
 pub use writer::write_term;

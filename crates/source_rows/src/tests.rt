@@ -7,3 +7,4 @@ mod parts;
 mod reading;
 mod stacks;
 mod types;
+mod writing;

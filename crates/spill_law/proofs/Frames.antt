@@ -16,7 +16,8 @@ use Rattle.spill_law.specs.Spill.{frame_reg, slot_reg, first_reg, made_reg, high
 use Rattle.spill_law.specs.Spill.{Held, InFrame, InSlot, Layout, homed, layout, into, Way, Stays, Fills, Gathers}
 use Rattle.spill_law.specs.Spill.{after_way}
 use Rattle.spill_law.proofs.Files.{look_same, look_other, high_look, fits_high}
-use Rattle.spill_law.proofs.Homes.{Sound, Regular, UpTo, sound_up, sound_held, into_high, into_low, into_far}
+use Rattle.spill_law.proofs.Homes.{regular_up, Sound, Regular, UpTo, sound_held, into_high, into_low}
+use Rattle.spill_law.proofs.Homes.{into_far}
 use Rattle.spill_law.proofs.Homes.{into_other, homed_both, homed_up, WayFits, gathered_regular, after_regular}
 use Rattle.spill_law.proofs.Erased.{egather, eslot, efinish, count_by, highs}
 use Rattle.spill_law.proofs.Walks.{Walks, walks_on, walks_none, walks_step, moves_walk, moves_walks, Full, get_front}
@@ -110,9 +111,6 @@ module _ (m : ℕ) where
   slots_heap p K X ρ f zero n s = tt
   slots_heap p K X ρ f (suc j) n s = (s.0, s.1, s.2, get_front K X s.0 s.1 s.3, s.4, s.5, s.6)
 
-  pub regular_up : (b : ℕ) (L : Layout) → m ≤ b → Regular m L → (q : ℕ) → UpTo b (L.homes q)
-  regular_up b L le reg q = sound_up m L.used q b (L.homes q) le (reg q)
-
   -- with other registers above m + 2
   pub alike_regs : (p : List ℕ) (x : TFile) (L : Layout) (n : ℕ) (h : Heap) (r : RegWords) (K : EHeap) (ρ σ : ERegs) →
       ((q : ℕ) → q ≤ m + 2 → σ q ≡ ρ q) →
@@ -129,7 +127,7 @@ module _ (m : ℕ) where
     has = λ q t e. let w = a.has q t e in
         moved w refl (λ v y z. z)
         (home_regs m K ρ σ (m + 2) (L.homes q) w.eword (omega arith)
-        (regular_up (m + 2) L (omega arith) a.regular q) s w.home);
+        (regular_up m (m + 2) L (omega arith) a.regular q) s w.home);
   }
 
   -- with another frame

@@ -136,9 +136,6 @@ pub record Heaps (p : List ℕ) (h : Heap) (K : EHeap) : Type 0 where
   pub size : length p ≡ length h
   pub apart : (a b x : ℕ) → slice_get p a ≡ Some x → slice_get p b ≡ Some x → a ≡ b
 
-pub heaps_none : Heaps [] [] []
-heaps_none = record { same = λ a ws e. cc; size = refl; apart = λ a b x e k. cc }
-
 -- a place is below the other heap's length
 pub place_below : (p : List ℕ) (h : Heap) (K : EHeap) → Heaps p h K → (a x : ℕ) → slice_get p a ≡ Some x → x < length K
 place_below p h K s a x e =

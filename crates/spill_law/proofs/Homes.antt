@@ -29,6 +29,9 @@ sound_up m used r b (Held q) le h = let e = h.0 in omega (arith, e, h.1)
 sound_up m used r b (InFrame i) le h = tt
 sound_up m used r b (InSlot i) le h = tt
 
+pub regular_up : (m b : ℕ) (L : Layout) → m ≤ b → Regular m L → (r : ℕ) → UpTo b (L.homes r)
+regular_up m b L le reg r = sound_up m L.used r b (L.homes r) le (reg r)
+
 pub sound_held : (m used r : ℕ) (x : Home) → r ≤ m → Sound m used r x → x ≡ Held r
 sound_held m used r (Held q) le h = ap Held h.0
 sound_held m used r (InFrame i) le h = absurd (omega arith)

@@ -336,13 +336,6 @@ module _ (P : TProg) where
       (seq_agrees c n (next P x i) (keep (live P (next P x i) c) (next P x i))
       (agree_keep (live P (next P x i) c) (next P x i)) h).0 h
 
-  pub kept_live : (i : TInstr) (n : ℕ) (x : TFile) (c : TSeq) → SeqAccepted P n (lookup (next P x i)) c →
-      live P (kept P x i c) c ≡ live P (next P x i) c
-  kept_live i n x c h =
-      by_cases i x c (λ z. live P z c ≡ live P (next P x i) c)
-      (seq_agrees c n (next P x i) (keep (live P (next P x i) c) (next P x i))
-      (agree_keep (live P (next P x i) c) (next P x i)) h).1 refl
-
   pub kept_agrees : (i : TInstr) (x : TFile) (c : TSeq) → Agree (live P (next P x i) c) (next P x i) (kept P x i c)
   kept_agrees i x c = by_cases i x c (λ z. Agree (live P (next P x i) c) (next P x i) z)
       (agree_keep (live P (next P x i) c) (next P x i)) (λ r e. refl)

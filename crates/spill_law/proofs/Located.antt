@@ -19,7 +19,7 @@ use Rattle.spill_law.specs.Spill.{second_at, into}
 use Rattle.spill_law.proofs.TypeLaws.{sp_shift}
 use Rattle.spill_law.proofs.Files.{look_same, look_other, frame_at, high_look, look_sp}
 use Rattle.spill_law.proofs.Files.{high_regs, numbers_regs}
-use Rattle.spill_law.proofs.Homes.{Sound, Regular, UpTo, sound_up, sound_held, at_case}
+use Rattle.spill_law.proofs.Homes.{Sound, Regular, UpTo, sound_held, at_case}
 use Rattle.spill_law.proofs.Homes.{into_far, into_other, homed_both}
 
 module _ (m : ℕ) where
@@ -59,9 +59,6 @@ module _ (m : ℕ) where
           let s : shift 1 0 u ≡ t = cc in
           subst (HomeHas (raised g) (homes r)) (sym (sp_shift m 1 0 u)
           ∙ ap (sp m) s) (home_raised g (homes r) (sp m u) (l r u z))
-
-  pub regular_up : (b : ℕ) (L : Layout) → m ≤ b → Regular m L → (r : ℕ) → UpTo b (L.homes r)
-  regular_up b L le reg r = sound_up m L.used r b (L.homes r) le (reg r)
 
   -- one up to m is in its place
   pub low_known : (L : Layout) (k g : RegTypes) → Regular m L → Located L.homes k g → (r : ℕ) (t : Ty) → r ≤ m →

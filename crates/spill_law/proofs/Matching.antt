@@ -52,8 +52,7 @@ pub record Matches (m : ℕ) (P : TProg) (s : State) (e : EState) : Type 0 where
   pub is : e ≡ EAt eheap eregs (erase_seq (code m P lay file (code_of s)))
 
 -- A step to the next instruction is some steps, one at least; a step into a block is some, and then one into its
--- block.
--- `low` is one more than what is left of the code behind the instruction.
+-- block. `low` is one more than what is left of the code behind the instruction.
 abbrev pub Seg : List ESeq → ℕ → EState → Where → EState → Type 0
 Seg B low e Next f = Moves B e f × (low ≡ suc (esize (seq_of f)))
 Seg B low e (Into l) f =

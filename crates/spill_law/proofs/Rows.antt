@@ -3,7 +3,8 @@ use Rattle.std.proofs.Common.{◌≡◌, refl, [], ◌∷◌}
 use Rattle.std.specs.Prelude.{pos, true}
 use Rattle.idx_core.specs.declared.arith.Op.{Op}
 use Rattle.t_types.specs.Tree.{IntTy, VarTy, CodeTy, ExistsTy, TupleTy, TFile, NoRegs, MoreRegs, NoFields, MoreFields}
-use Rattle.t_terms.specs.Tree.{Plain, Int, Label, Mov, Arith, Malloc, St, Ld, Bnz, Unpack, Then, Ends, Jmp, Halt, TProg}
+use Rattle.t_terms.specs.Tree.{Plain, Int, Label, Mov, Arith, Malloc, St, Ld, Bnz, Unpack, Then, Ends, Jmp, Halt}
+use Rattle.t_terms.specs.Tree.{TProg}
 use Rattle.spill_law.specs.Spill.{lows, sp, reg, code, layout}
 
 pub within_eight : lows 8 ≡ 2

@@ -140,9 +140,6 @@ put_moves c n s le hs e i lt = go (cases_order i (c + e))
     go (inr (inl h)) = subst (Scoped (n + e)) (sym (putted_lt VarTy over c s (c + e) i h)) (omega arith)
     go (inr (inr h)) = subst (Scoped (n + e)) (sym (putted_gt VarTy over c s (c + e) i h)) (omega arith)
 
-pub scoped_put : (n : ℕ) (s t : Ty) → Scoped n s → Scoped (n + 1) t → Scoped n (over (putted VarTy over 0 s) 0 t)
-scoped_put n s t hs h = scoped_over (putted VarTy over 0 s) 0 (n + 1) n t (put_moves 0 n s (omega arith) hs) h
-
 pub scoped_more : (n m : ℕ) (low : ℕ) (x : TFile) → n ≤ m → ScopedRegs low n x → ScopedRegs low m x
 scoped_more n m low x le h =
     subst (ScopedRegs low m) (file_over.keeps (λ d i. VarTy i) 0 (λ e i. refl) x)

@@ -36,7 +36,7 @@ use Rattle.spill_law.proofs.Files.{look_same, look_other, Ascends, ascends_ins, 
 use Rattle.spill_law.proofs.Files.{fits_high}
 use Rattle.spill_law.proofs.Computed.{value_is, next_is, ascends_next}
 use Rattle.spill_law.proofs.Live.{keep_over, ascends_keep, fits_keep, kept_fits, kept_accepted, kept_ascends}
-use Rattle.spill_law.proofs.Homes.{UpTo, sound_held, at_far, way_fits, stored_at, used_is}
+use Rattle.spill_law.proofs.Homes.{regular_up, UpTo, sound_held, at_far, way_fits, stored_at, used_is}
 use Rattle.spill_law.proofs.Erased.{highs, highs_over, ebuild, eload, ebase, efinish, ecode, eend, erase_then}
 use Rattle.spill_law.proofs.Erased.{erase_end_code, erased_put, ins_over, known, esize, sizes_put}
 use Rattle.spill_law.proofs.Erased.{slots_left, count_by}
@@ -48,7 +48,7 @@ use Rattle.spill_law.proofs.Walks.{loads}
 use Rattle.spill_law.proofs.Walks.{fetches, Sources, builds}
 use Rattle.spill_law.proofs.Heaps.{image, image_address, full_image, images_at, images_empty, images_length}
 use Rattle.spill_law.proofs.Heaps.{heaps_frame, heaps_tuple, heaps_set, place_below, either, FrameHas}
-use Rattle.spill_law.proofs.Frames.{fits_at, WordAt, Alike, regular_up, alike_regs, alike_frame, alike_tuple}
+use Rattle.spill_law.proofs.Frames.{fits_at, WordAt, Alike, alike_regs, alike_frame, alike_tuple}
 use Rattle.spill_law.proofs.Frames.{alike_written}
 use Rattle.spill_law.proofs.Frames.{Mid, mid_of, mid_here, framed, frame_words, Finished, finish_at}
 use Rattle.spill_law.proofs.Matching.{ELabels, Still, BlocksAscend, Matches, Follows, tail_sizes, tail_left}

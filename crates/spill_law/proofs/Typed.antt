@@ -33,10 +33,10 @@ use Rattle.spill_law.proofs.Scopes.{scoped_next}
 use Rattle.spill_law.proofs.Scopes.{below_regs as below_file, scoped_ascends, scoped_kept, scoped_target}
 use Rattle.spill_law.proofs.Scopes.{labels_scoped}
 use Rattle.spill_law.proofs.Scopes.{data_scoped}
-use Rattle.spill_law.proofs.Homes.{Regular, UpTo, at_far}
+use Rattle.spill_law.proofs.Homes.{regular_up, Regular, UpTo, at_far}
 use Rattle.spill_law.proofs.Homes.{into_far, WayFits, way_fits}
 use Rattle.spill_law.proofs.Homes.{gathered_regular, way_sound, stored_at, used_is}
-use Rattle.spill_law.proofs.Located.{Located, located_same, located_raised, regular_up, low_known, entered_at, Room}
+use Rattle.spill_law.proofs.Located.{Located, located_same, located_raised, low_known, entered_at, Room}
 use Rattle.spill_law.proofs.Located.{room_same, room_raised, Loaded, loaded_same, defined}
 use Rattle.spill_law.proofs.Framing.{Labels, Tuples, value_sp, load_ok, load_value_ok, build_ok, finish_ok}
 

@@ -234,7 +234,7 @@ abbrev pub keep : List ℕ → TFile → TFile
 keep qs NoRegs = NoRegs
 keep qs (MoreRegs r t x) = cond (among r qs) (MoreRegs r t (keep qs x)) (keep qs x)
 
--- what stays known after an instruction: the registers that the rest wants; a branch leaves the frame as it is
+-- what stays known after an instruction: the registers that the rest wants; a branch leaves all as it was
 abbrev pub kept : TProg → TFile → TInstr → TSeq → TFile
 kept P file (Bnz r v) rest = file
 kept P file (Arith op rd rs v) rest =
@@ -251,7 +251,7 @@ pub data Home : Type 0 where
   InFrame : (i : ℕ) → Home
   InSlot : (i : ℕ) → Home
 
--- the home of each register, and how many slots are filled since the frame was made; the first one makes them all
+-- the home of each register, and how many slots are used since the frame was made; there are none before the first
 pub record Layout : Type 0 where
   pub homes : ℕ → Home
   pub used : ℕ
@@ -325,10 +325,9 @@ defines (Unpack rd v) = rd
 abbrev pub into : ℕ → ℕ → ℕ
 into m rd = cond (nat_lt m rd) (first_reg m) rd
 
--- What becomes of it: it stays there, or it goes into the next slot, or into a new frame of all that the rest wants. A
--- new frame is made after each unpack, since the types of fields cannot name the type variable that it binds, and
--- where
--- the slots have come to their greatest number.
+-- What becomes of it: it stays there, or it goes into the next slot, or into a new frame with all that the rest wants.
+-- A new frame is made after each unpack, since the types of older fields cannot name the type variable that it binds,
+-- and where the slots have come to their greatest number.
 pub data Way : Type 0 where
   Stays : Way
   Fills : Way
@@ -374,11 +373,12 @@ slots m P used file (Then i rest) = slots_by (way m used i) (sp m (or_int (looku
     (slots m P (used_by (way m used i) used) (kept P file i rest) rest)
 slots m P used file (Ends e) = []
 
--- the word in the first register goes into the next slot; the first slot makes all
+-- the word in the first register goes into the next slot; where none is used, all of them are made
 abbrev pub fill_slot : ℕ → ℕ → List Ty → TSeq → TSeq
 fill_slot m zero types rest = Then (Malloc (slot_reg m) types) (Then (St (slot_reg m) 0 (first_reg m)) rest)
 fill_slot m (suc j) types rest = Then (St (slot_reg m) (suc j) (first_reg m)) rest
 
+-- a word where it was computed, put where it goes
 abbrev pub finish : ℕ → Layout → ℕ → List Ty → TFile → Way → TSeq → TSeq
 finish m L rd types to Stays rest = rest
 finish m L rd types to Fills rest = fill_slot m L.used types rest

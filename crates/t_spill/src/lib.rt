@@ -5,14 +5,17 @@ mod ahead;
 mod applied;
 mod block;
 mod files;
-mod keeping;
+mod finish;
 mod known;
+mod picking;
 mod program;
 mod reads;
 mod shapes;
+mod stepping;
 mod subject;
 mod typing;
 mod wanting;
+mod way;
 mod within;
 
 pub use program::spill;

@@ -1,123 +1,222 @@
 -- What is spilled of a sequence, erased: it depends on the registers of files alone, and so stays the same where
 -- types are put for type variables.
-use Rattle.std.proofs.Common.{◌≡◌, ℕ, suc, ◌+◌, ◌-◌, ◌≤◌, nat_eq, nat_lt, cond, Bool, true, false, List, [], ◌∷◌, ◌++◌, length, map, Option, Some, None, refl, sym, ap, ap₂, ◌∙◌, subst, arith}
+use Rattle.std.proofs.Common.{◌≡◌, ℕ, zero, suc, ◌+◌, ◌-◌, ◌≤◌, nat_eq, nat_lt, cond, Bool, true, false, List, [], ◌∷◌}
+use Rattle.std.proofs.Common.{◌++◌, length, map, Option, Some, None, refl, sym, ap, ap₂, ◌∙◌, subst, arith}
 use Rattle.std.specs.Prelude.{option_map}
 use Rattle.std.proofs.Math.Path.{fun_ext}
 use Rattle.idx_core.specs.Over.{At, shifted, putted}
-use Rattle.t_types.specs.Tree.{Ty, IntTy, VarTy, CodeTy, ExistsTy, TupleTy, TFile, NoRegs, MoreRegs, over, over_file, shift, shift_file, put_from, put_file_from, put_file, Below, BelowTypes}
+use Rattle.t_types.specs.Tree.{Ty, IntTy, VarTy, CodeTy, ExistsTy, TupleTy, TFile, NoRegs, MoreRegs, over, over_file, shift}
+use Rattle.t_types.specs.Tree.{shift_file, put_from, put_file_from, put_file, Below, BelowTypes}
 use Rattle.t_types.specs.TreeLaws.{file_over}
 use Rattle.t_types.proofs.PutLaws.{put_shifted}
 use Rattle.t_types.specs.Fields.{filled, empty_fields}
 use Rattle.t_types.specs.Fits.{RegTypes, lookup}
 use Rattle.t_types.proofs.FitsLaws.{field_over, filled_over, empty_over}
-use Rattle.t_terms.specs.Tree.{TBase, Reg, Int, Label, Data, TValue, Plain, Pack, TInstr, Arith, Bnz, Ld, Malloc, Mov, St, Unpack, TEnd, Jmp, Halt, TSeq, Then, Ends, TBlock, TProg, names_after, over_value, over_instr, over_end, over_seq, put_seq}
+use Rattle.t_terms.specs.Tree.{TBase, Reg, Int, Label, Data, TValue, Plain, Pack, TInstr, Arith, Bnz, Ld, Malloc, Mov}
+use Rattle.t_terms.specs.Tree.{St, Unpack, TEnd, Jmp, Halt, TSeq, Then, Ends, TBlock, TProg, names_after, over_value}
+use Rattle.t_terms.specs.Tree.{over_instr, over_end, over_seq, put_seq}
 use Rattle.t_rules.specs.Registers.{with_reg, inst_file, inst_seq}
 use Rattle.t_rules.specs.Rules.{Has, Enters, Typed, EndTyped, SeqAccepted}
-use Rattle.t_rules.specs.Erase.{EInstr, EArith, EBnz, ELd, EMalloc, EMov, ESt, ESeq, EThen, EJmp, EHalt, erase_value, erase_instr, erase_seq}
-use Rattle.t_rules.proofs.Puts.{ClosedLabels, ClosedData, put_known, at_reg, names_more, typed_put, seq_put, below_any, over_length}
-use Rattle.spill_law.specs.Spill.{sp, cells, sp_base, sp_value, index, ins, or_int, type_of, type_in, field_type, filled_type, hidden_type, target_file, next, reg, fetch, is_new, fill, build, step, code, thens, step_size, sizes, numbers, target, end_target, value_reads, reads, end_reads, live, keep, kept}
+use Rattle.t_rules.specs.Erase.{EInstr, EArith, EBnz, ELd, EMalloc, EMov, ESt, ESeq, EThen, EJmp, EHalt, erase_value}
+use Rattle.t_rules.specs.Erase.{erase_instr, erase_seq}
+use Rattle.t_rules.proofs.Puts.{ClosedLabels, ClosedData, put_known, at_reg, names_more, typed_put, seq_put, below_any}
+use Rattle.t_rules.proofs.Puts.{over_length}
+use Rattle.spill_law.specs.Spill.{frame_reg, slot_reg, first_reg, second_reg, made_reg, saved_reg, with_if, high_part}
+use Rattle.spill_law.specs.Spill.{cells, sp, sp_regs, sp_base, sp_value, ins, or_int, type_of, type_in, field_type}
+use Rattle.spill_law.specs.Spill.{filled_type, hidden_type, target_file, next, reg, numbers, target, end_target, value_reads}
+use Rattle.spill_law.specs.Spill.{reads, end_reads, live, keep, kept, Home, Held, InFrame, InSlot, Layout, homed, gathered}
+use Rattle.spill_law.specs.Spill.{layout, at_home, load, load_base, load_value, second_at, fill, build, gather, defines, into}
+use Rattle.spill_law.specs.Spill.{Way, Stays, Fills, Gathers, way_of, way, after_way, after, slots_by, used_by, slots}
+use Rattle.spill_law.specs.Spill.{fill_slot, finish, step, code, thens, step_size, sizes}
+use Rattle.spill_law.proofs.TypeLaws.{high_over}
+use Rattle.spill_law.proofs.Files.{high_regs, numbers_regs}
 use Rattle.spill_law.proofs.Computed.{value_is, next_is}
 use Rattle.spill_law.proofs.Live.{keep_over, kept_accepted}
 
-abbrev pub efetch : (ℕ → ℕ) → TBase → ESeq → ESeq
-efetch ix (Reg r) k = EThen (ELd 3 1 (ix r)) k
-efetch ix (Int i) k = k
-efetch ix (Label l) k = k
-efetch ix (Data d) k = k
+-- loads, frames and slots
+abbrev pub eload : ℕ → ℕ → Home → ESeq → ESeq
+eload m t (Held q) k = k
+eload m t (InFrame i) k = EThen (ELd t (frame_reg m) i) k
+eload m t (InSlot i) k = EThen (ELd t (slot_reg m) i) k
 
-abbrev pub esource : (ℕ → ℕ) → Option ℕ → ℕ → EInstr
-esource ix new q = cond (is_new new q) (EMov 5 (Reg 3)) (ELd 5 1 (ix q))
+abbrev pub ebase : ℕ → (ℕ → Home) → TBase → ESeq → ESeq
+ebase m homes (Reg r) k = eload m (second_reg m) (homes r) k
+ebase m homes (Int i) k = k
+ebase m homes (Label l) k = k
+ebase m homes (Data d) k = k
 
-abbrev pub efill : (ℕ → ℕ) → Option ℕ → List ℕ → ℕ → ESeq → ESeq
-efill ix new [] j k = k
-efill ix new (q ∷ qs) j k = EThen (esource ix new q) (EThen (ESt 4 j 5) (efill ix new qs (suc j) k))
+abbrev pub efill : ℕ → (ℕ → Home) → List ℕ → ℕ → ESeq → ESeq
+efill m homes [] j k = k
+efill m homes (q ∷ qs) j k =
+    eload m (second_reg m) (homes q) (EThen (ESt (made_reg m) j (second_at m homes q)) (efill m homes qs (suc j) k))
 
-abbrev pub ebuild : (ℕ → ℕ) → Option ℕ → List ℕ → ESeq → ESeq
-ebuild ix new qs k = EThen (EMalloc 4 (length qs)) (efill ix new qs 0 (EThen (EMov 1 (Reg 4)) k))
+abbrev pub ebuild : ℕ → (ℕ → Home) → List ℕ → ESeq → ESeq
+ebuild m homes qs k = EThen (EMalloc (made_reg m) (length qs)) (efill m homes qs 0 k)
 
--- an instruction's code: by the old file's places, the registers of the new file, and those of the target
-abbrev pub ecode : (ℕ → ℕ) → List ℕ → List ℕ → TInstr → ESeq → ESeq
-ecode ix nx tg (Arith op rd rs v) k = EThen (ELd 2 1 (ix rs)) (efetch ix (erase_value v) (EThen (EArith op 3 2 (sp_base (erase_value v))) (ebuild ix (Some rd) nx k)))
-ecode ix nx tg (Bnz r v) k =
-    EThen (ELd 2 1 (ix r)) (efetch ix (erase_value v) (EThen (EMov 6 (Reg 1)) (ebuild ix None tg (EThen (EBnz 2 (sp_base (erase_value v))) (EThen (EMov 1 (Reg 6)) k)))))
-ecode ix nx tg (Ld rd rs i) k = EThen (ELd 2 1 (ix rs)) (EThen (ELd 3 2 i) (ebuild ix (Some rd) nx k))
-ecode ix nx tg (Malloc rd ts) k = EThen (EMalloc 3 (length ts)) (ebuild ix (Some rd) nx k)
-ecode ix nx tg (Mov rd v) k = efetch ix (erase_value v) (EThen (EMov 3 (sp_base (erase_value v))) (ebuild ix (Some rd) nx k))
-ecode ix nx tg (St rd i rs) k = EThen (ELd 3 1 (ix rd)) (EThen (ELd 2 1 (ix rs)) (EThen (ESt 3 i 2) (ebuild ix (Some rd) nx k)))
-ecode ix nx tg (Unpack rd v) k = efetch ix (erase_value v) (EThen (EMov 3 (sp_base (erase_value v))) (ebuild ix (Some rd) nx k))
+abbrev pub egather : ℕ → (ℕ → Home) → List ℕ → ESeq → ESeq
+egather m homes qs k = ebuild m homes qs (EThen (EMov (frame_reg m) (Reg (made_reg m))) k)
 
-abbrev pub eend : (ℕ → ℕ) → List ℕ → TEnd → ESeq
-eend ix tg (Jmp v) = efetch ix (erase_value v) (ebuild ix None tg (EJmp (sp_base (erase_value v))))
-eend ix tg Halt = EThen (ELd 1 1 (ix 1)) EHalt
+abbrev pub eslot : ℕ → ℕ → ℕ → ESeq → ESeq
+eslot m zero n k = EThen (EMalloc (slot_reg m) n) (EThen (ESt (slot_reg m) 0 (first_reg m)) k)
+eslot m (suc j) n k = EThen (ESt (slot_reg m) (suc j) (first_reg m)) k
 
-pub erase_sp : (v : TValue) → erase_value (sp_value v) ≡ sp_base (erase_value v)
-erase_sp (Plain b ts) = refl
-erase_sp (Pack t v s) = erase_sp v
+-- by the number of slots and the registers of the new frame
+abbrev pub efinish : ℕ → Layout → ℕ → ℕ → List ℕ → Way → ESeq → ESeq
+efinish m L rd n nx Stays k = k
+efinish m L rd n nx Fills k = eslot m L.used n k
+efinish m L rd n nx Gathers k = egather m (homed L.homes rd (Held (into m rd))) nx k
+
+-- an instruction's code in front of that, by the registers of its target
+abbrev pub ehead : ℕ → Layout → List ℕ → TInstr → ESeq → ESeq
+ehead m L tg (Arith op rd rs v) k =
+    eload m (first_reg m) (L.homes rs) (ebase m L.homes (erase_value v)
+    (EThen (EArith op (into m rd) (at_home (first_reg m) (L.homes rs)) (sp_base (second_at m L.homes) (erase_value v))) k))
+ehead m L tg (Bnz r v) k =
+    ebuild m L.homes tg (eload m (first_reg m) (L.homes r) (ebase m L.homes (erase_value v)
+    (EThen (EMov (saved_reg m) (Reg (frame_reg m))) (EThen (EMov (frame_reg m) (Reg (made_reg m)))
+    (EThen (EBnz (at_home (first_reg m) (L.homes r)) (sp_base (second_at m L.homes) (erase_value v)))
+    (EThen (EMov (frame_reg m) (Reg (saved_reg m))) k))))))
+ehead m L tg (Ld rd rs i) k =
+    eload m (first_reg m) (L.homes rs) (EThen (ELd (into m rd) (at_home (first_reg m) (L.homes rs)) i) k)
+ehead m L tg (Malloc rd ts) k = EThen (EMalloc (into m rd) (length ts)) k
+ehead m L tg (Mov rd v) k =
+    ebase m L.homes (erase_value v) (EThen (EMov (into m rd) (sp_base (second_at m L.homes) (erase_value v))) k)
+ehead m L tg (St rd i rs) k =
+    eload m (first_reg m) (L.homes rd) (eload m (second_reg m) (L.homes rs)
+    (EThen (ESt (into m rd) i (second_at m L.homes rs)) k))
+ehead m L tg (Unpack rd v) k =
+    ebase m L.homes (erase_value v) (EThen (EMov (into m rd) (sp_base (second_at m L.homes) (erase_value v))) k)
+
+abbrev pub ecode : ℕ → Layout → ℕ → List ℕ → List ℕ → TInstr → ESeq → ESeq
+ecode m L n nx tg i k = ehead m L tg i (efinish m L (defines i) n nx (way m L.used i) k)
+
+abbrev pub eend : ℕ → Layout → List ℕ → TEnd → ESeq
+eend m L tg (Jmp v) =
+    ebuild m L.homes tg (ebase m L.homes (erase_value v)
+    (EThen (EMov (frame_reg m) (Reg (made_reg m))) (EJmp (sp_base (second_at m L.homes) (erase_value v)))))
+eend m L tg Halt = EHalt
+
+-- the number of slots
+abbrev pub count_by : Way → ℕ → ℕ
+count_by Stays n = n
+count_by Fills n = suc n
+count_by Gathers n = 0
+
+abbrev pub slots_left : ℕ → ℕ → TSeq → ℕ
+slots_left m used (Then i c) = count_by (way m used i) (slots_left m (used_by (way m used i) used) c)
+slots_left m used (Ends e) = 0
+
+by_length : (w : Way) (t : Ty) (ts : List Ty) → length (slots_by w t ts) ≡ count_by w (length ts)
+by_length Stays t ts = refl
+by_length Fills t ts = refl
+by_length Gathers t ts = refl
+
+pub slots_length : (m : ℕ) (P : TProg) (c : TSeq) (used : ℕ) (x : TFile) → length (slots m P used x c) ≡ slots_left m used c
+slots_length m P (Ends e) used x = refl
+slots_length m P (Then i c) used x =
+    by_length (way m used i) _ (slots m P (used_by (way m used i) used) (kept P x i c) c)
+    ∙ ap (count_by (way m used i)) (slots_length m P c (used_by (way m used i) used) (kept P x i c))
+
+-- the registers of a frame
+abbrev pub highs : ℕ → TFile → List ℕ
+highs m x = numbers (high_part m x)
+
+pub erase_sp : (m : ℕ) (at : ℕ → ℕ) (v : TValue) → erase_value (sp_value m at v) ≡ sp_base at (erase_value v)
+erase_sp m at (Plain b ts) = refl
+erase_sp m at (Pack t v s) = erase_sp m at v
 
 cells_length : (x : TFile) → length (cells x) ≡ length (numbers x)
 cells_length NoRegs = refl
 cells_length (MoreRegs r t x) = ap suc (cells_length x)
 
-types_length : (ts : List Ty) → length (map sp ts) ≡ length ts
-types_length [] = refl
-types_length (t ∷ ts) = ap suc (types_length ts)
+types_length : (m : ℕ) (ts : List Ty) → length (map (sp m) ts) ≡ length ts
+types_length m [] = refl
+types_length m (t ∷ ts) = ap suc (types_length m ts)
 
-erase_fetch : (x : TFile) (v : TValue) (rest : TSeq) → erase_seq (fetch x v rest) ≡ efetch (index x) (erase_value v) (erase_seq rest)
-erase_fetch x (Plain (Reg r) ts) rest = refl
-erase_fetch x (Plain (Int i) ts) rest = refl
-erase_fetch x (Plain (Label l) ts) rest = refl
-erase_fetch x (Plain (Data d) ts) rest = refl
-erase_fetch x (Pack t v s) rest = erase_fetch x v rest
+erase_load : (m t : ℕ) (x : Home) (rest : TSeq) → erase_seq (load m t x rest) ≡ eload m t x (erase_seq rest)
+erase_load m t (Held q) rest = refl
+erase_load m t (InFrame i) rest = refl
+erase_load m t (InSlot i) rest = refl
 
-erase_source : (x : TFile) (q : ℕ) (b : Bool) → erase_instr (cond b (Mov 5 (reg 3)) (Ld 5 1 (index x q))) ≡ cond b (EMov 5 (Reg 3)) (ELd 5 1 (index x q))
-erase_source x q true = refl
-erase_source x q false = refl
+erase_load_value : (m : ℕ) (homes : ℕ → Home) (v : TValue) (rest : TSeq) →
+    erase_seq (load_value m homes v rest) ≡ ebase m homes (erase_value v) (erase_seq rest)
+erase_load_value m homes (Plain (Reg r) ts) rest = erase_load m (second_reg m) (homes r) rest
+erase_load_value m homes (Plain (Int i) ts) rest = refl
+erase_load_value m homes (Plain (Label l) ts) rest = refl
+erase_load_value m homes (Plain (Data d) ts) rest = refl
+erase_load_value m homes (Pack t v s) rest = erase_load_value m homes v rest
 
-erase_fill : (x : TFile) (new : Option ℕ) (to : TFile) (j : ℕ) (rest : TSeq) → erase_seq (fill x new to j rest) ≡ efill (index x) new (numbers to) j (erase_seq rest)
-erase_fill x new NoRegs j rest = refl
-erase_fill x new (MoreRegs q t to) j rest =
-    ap₂ (λ i k. EThen i (EThen (ESt 4 j 5) k)) (erase_source x q (is_new new q)) (erase_fill x new to (suc j) rest)
+erase_fill : (m : ℕ) (homes : ℕ → Home) (qs : List ℕ) (j : ℕ) (rest : TSeq) →
+    erase_seq (fill m homes qs j rest) ≡ efill m homes qs j (erase_seq rest)
+erase_fill m homes [] j rest = refl
+erase_fill m homes (q ∷ qs) j rest =
+    erase_load m (second_reg m) (homes q) _
+    ∙ ap (λ k. eload m (second_reg m) (homes q) (EThen (ESt (made_reg m) j (second_at m homes q)) k)) (erase_fill m homes qs (suc j) rest)
 
-erase_build : (x : TFile) (new : Option ℕ) (to : TFile) (rest : TSeq) → erase_seq (build x new to rest) ≡ ebuild (index x) new (numbers to) (erase_seq rest)
-erase_build x new to rest = ap₂ (λ n k. EThen (EMalloc 4 n) k) (cells_length to) (erase_fill x new to 0 (Then (Mov 1 (reg 4)) rest))
+cells_highs : (m : ℕ) (to : TFile) → length (cells (high_part m (sp_regs m to))) ≡ length (highs m to)
+cells_highs m to =
+    cells_length (high_part m (sp_regs m to)) ∙ ap (λ x. length (numbers x)) (high_regs m m to)
+    ∙ ap (λ (qs : List ℕ). length qs) (numbers_regs m (high_part m to))
 
-pub index_over : (f : At Ty) (d : ℕ) (x : TFile) (q : ℕ) → index (over_file f d x) q ≡ index x q
-index_over f d NoRegs q = refl
-index_over f d (MoreRegs r t x) q = ap (λ n. cond (nat_eq r q) 0 (suc n)) (index_over f d x q)
+erase_build : (m : ℕ) (homes : ℕ → Home) (to : TFile) (rest : TSeq) →
+    erase_seq (build m homes to rest) ≡ ebuild m homes (highs m to) (erase_seq rest)
+erase_build m homes to rest =
+    ap₂ (λ n k. EThen (EMalloc (made_reg m) n) k) (cells_highs m to) (erase_fill m homes (highs m to) 0 rest)
 
-pub index_same : (f : At Ty) (d : ℕ) (x : TFile) → index (over_file f d x) ≡ index x
-index_same f d x = fun_ext (λ q. index_over f d x q)
+erase_finish : (m : ℕ) (L : Layout) (rd : ℕ) (ts : List Ty) (to : TFile) (w : Way) (rest : TSeq) →
+    erase_seq (finish m L rd ts to w rest) ≡ efinish m L rd (length ts) (highs m to) w (erase_seq rest)
+erase_finish m L rd ts to Stays rest = refl
+erase_finish m L rd ts to Fills rest = go L.used
+  where
+    go : (j : ℕ) → erase_seq (fill_slot m j ts rest) ≡ eslot m j (length ts) (erase_seq rest)
+    go zero = refl
+    go (suc j) = refl
+erase_finish m L rd ts to Gathers rest = erase_build m (homed L.homes rd (Held (into m rd))) to (Then (Mov (frame_reg m) (reg (made_reg m))) rest)
 
-pub numbers_over : (f : At Ty) (d : ℕ) (x : TFile) → numbers (over_file f d x) ≡ numbers x
-numbers_over f d NoRegs = refl
-numbers_over f d (MoreRegs r t x) = ap (λ (qs : List ℕ). r ∷ qs) (numbers_over f d x)
+-- the parts put together
+pub erase_step : (m : ℕ) (P : TProg) (L : Layout) (x : TFile) (i : TInstr) (ts : List Ty) (to : TFile) (rest : TSeq) →
+    erase_seq (step m P L x i ts to rest) ≡ ecode m L (length ts) (highs m to) (highs m (target P x i)) i (erase_seq rest)
+erase_step m P L x (Arith op rd rs v) ts to rest =
+    erase_load m (first_reg m) (L.homes rs) _
+    ∙ ap (eload m (first_reg m) (L.homes rs)) (erase_load_value m L.homes v _
+    ∙ ap (ebase m L.homes (erase_value v))
+    (ap₂ (λ b k. EThen (EArith op (into m rd) (at_home (first_reg m) (L.homes rs)) b) k) (erase_sp m (second_at m L.homes) v) (erase_finish m L rd ts to (way_of m L.used rd) rest)))
+erase_step m P L x (Bnz r v) ts to rest =
+    erase_build m L.homes (target P x (Bnz r v)) _
+    ∙ ap (ebuild m L.homes (highs m (target P x (Bnz r v)))) (erase_load m (first_reg m) (L.homes r) _
+    ∙ ap (eload m (first_reg m) (L.homes r)) (erase_load_value m L.homes v _
+    ∙ ap (λ b. ebase m L.homes (erase_value v) (EThen (EMov (saved_reg m) (Reg (frame_reg m))) (EThen (EMov (frame_reg m) (Reg (made_reg m)))
+    (EThen (EBnz (at_home (first_reg m) (L.homes r)) b) (EThen (EMov (frame_reg m) (Reg (saved_reg m))) (erase_seq rest)))))) (erase_sp m (second_at m L.homes) v)))
+erase_step m P L x (Ld rd rs i) ts to rest =
+    erase_load m (first_reg m) (L.homes rs) _
+    ∙ ap (λ k. eload m (first_reg m) (L.homes rs) (EThen (ELd (into m rd) (at_home (first_reg m) (L.homes rs)) i) k)) (erase_finish m L rd ts to (way_of m L.used rd) rest)
+erase_step m P L x (Malloc rd us) ts to rest =
+    ap₂ (λ n k. EThen (EMalloc (into m rd) n) k) (types_length m us) (erase_finish m L rd ts to (way_of m L.used rd) rest)
+erase_step m P L x (Mov rd v) ts to rest =
+    erase_load_value m L.homes v _
+    ∙ ap (ebase m L.homes (erase_value v)) (ap₂ (λ b k. EThen (EMov (into m rd) b) k) (erase_sp m (second_at m L.homes) v) (erase_finish m L rd ts to (way_of m L.used rd) rest))
+erase_step m P L x (St rd i rs) ts to rest =
+    erase_load m (first_reg m) (L.homes rd) _
+    ∙ ap (eload m (first_reg m) (L.homes rd)) (erase_load m (second_reg m) (L.homes rs) _
+    ∙ ap (λ k. eload m (second_reg m) (L.homes rs) (EThen (ESt (into m rd) i (second_at m L.homes rs)) k)) (erase_finish m L rd ts to (way_of m L.used rd) rest))
+erase_step m P L x (Unpack rd v) ts to rest =
+    erase_load_value m L.homes v _
+    ∙ ap (ebase m L.homes (erase_value v)) (ap₂ (λ b k. EThen (EMov (into m rd) b) k) (erase_sp m (second_at m L.homes) v) (erase_finish m L rd ts to Gathers rest))
 
--- the parts put together: a load of a register, then a value's, then the rest
-pub erase_step : (P : TProg) (x : TFile) (i : TInstr) (to : TFile) (rest : TSeq) → erase_seq (step P x i to rest) ≡ ecode (index x) (numbers to) (numbers (target P x i)) i (erase_seq rest)
-erase_step P x (Arith op rd rs v) to rest =
-    ap (EThen (ELd 2 1 (index x rs)))
-    (erase_fetch x v _ ∙ ap (efetch (index x) (erase_value v)) (ap₂ (λ b k. EThen (EArith op 3 2 b) k) (erase_sp v) (erase_build x (Some rd) to rest)))
-erase_step P x (Bnz r v) to rest =
-    ap (EThen (ELd 2 1 (index x r)))
-    (erase_fetch x v _
-    ∙ ap (λ k. efetch (index x) (erase_value v) (EThen (EMov 6 (Reg 1)) k))
-    (erase_build x None (target P x (Bnz r v)) _ ∙ ap (λ b. ebuild (index x) None (numbers (target P x (Bnz r v))) (EThen (EBnz 2 b) (EThen (EMov 1 (Reg 6)) (erase_seq rest)))) (erase_sp v)))
-erase_step P x (Ld rd rs i) to rest = ap (λ k. EThen (ELd 2 1 (index x rs)) (EThen (ELd 3 2 i) k)) (erase_build x (Some rd) to rest)
-erase_step P x (Malloc rd ts) to rest = ap₂ (λ n k. EThen (EMalloc 3 n) k) (types_length ts) (erase_build x (Some rd) to rest)
-erase_step P x (Mov rd v) to rest =
-    erase_fetch x v _ ∙ ap (efetch (index x) (erase_value v)) (ap₂ (λ b k. EThen (EMov 3 b) k) (erase_sp v) (erase_build x (Some rd) to rest))
-erase_step P x (St rd i rs) to rest =
-    ap (λ k. EThen (ELd 3 1 (index x rd)) (EThen (ELd 2 1 (index x rs)) (EThen (ESt 3 i 2) k))) (erase_build x (Some rd) to rest)
-erase_step P x (Unpack rd v) to rest =
-    erase_fetch x v _
-    ∙ ap (efetch (index x) (erase_value v))
-    (ap₂ (λ b k. EThen (EMov 3 b) k) (erase_sp v)
-    (erase_build (shift_file 1 0 x) (Some rd) to rest ∙ ap (λ ix. ebuild ix (Some rd) (numbers to) (erase_seq rest)) (index_same (shifted VarTy 1) 0 x)))
+-- an instruction in front of its rest
+pub erase_then : (m : ℕ) (P : TProg) (L : Layout) (x : TFile) (i : TInstr) (c : TSeq) →
+    erase_seq (code m P L x (Then i c))
+    ≡ ecode m L (slots_left m L.used (Then i c)) (highs m (kept P x i c)) (highs m (target P x i)) i (erase_seq (code m P (after m L i (kept P x i c)) (kept P x i c) c))
+erase_then m P L x i c =
+    erase_step m P L x i (slots m P L.used x (Then i c)) (kept P x i c) (code m P (after m L i (kept P x i c)) (kept P x i c) c)
+    ∙ ap (λ n. ecode m L n (highs m (kept P x i c)) (highs m (target P x i)) i (erase_seq (code m P (after m L i (kept P x i c)) (kept P x i c) c))) (slots_length m P (Then i c) L.used x)
 
-pub erase_end_code : (P : TProg) (x : TFile) (e : TEnd) → erase_seq (code P x (Ends e)) ≡ eend (index x) (numbers (end_target P x e)) e
-erase_end_code P x (Jmp v) =
-    erase_fetch x v _ ∙ ap (efetch (index x) (erase_value v)) (erase_build x None (target_file (type_of P x v)) _ ∙ ap (λ b. ebuild (index x) None (numbers (target_file (type_of P x v))) (EJmp b)) (erase_sp v))
-erase_end_code P x Halt = refl
+pub erase_end_code : (m : ℕ) (P : TProg) (L : Layout) (x : TFile) (e : TEnd) → erase_seq (code m P L x (Ends e)) ≡ eend m L (highs m (end_target P x e)) e
+erase_end_code m P L x (Jmp v) =
+    erase_build m L.homes (target_file (type_of P x v)) _
+    ∙ ap (ebuild m L.homes (highs m (target_file (type_of P x v)))) (erase_load_value m L.homes v _
+    ∙ ap (λ b. ebase m L.homes (erase_value v) (EThen (EMov (frame_reg m) (Reg (made_reg m))) (EJmp b))) (erase_sp m (second_at m L.homes) v))
+erase_end_code m P L x Halt = refl
 
 -- numbers of instructions
 abbrev pub esize : ESeq → ℕ
@@ -130,47 +229,59 @@ thens_is (Then i c) = ap suc (thens_is c)
 thens_is (Ends (Jmp v)) = refl
 thens_is (Ends Halt) = refl
 
-pub step_size_is : (P : TProg) (x : TFile) (i : TInstr) (to : TFile) → step_size P x i to ≡ esize (ecode (index x) (numbers to) (numbers (target P x i)) i EHalt)
-step_size_is P x i to = thens_is (step P x i to (Ends Halt)) ∙ ap esize (erase_step P x i to (Ends Halt))
+pub step_size_is : (m : ℕ) (P : TProg) (L : Layout) (x : TFile) (i : TInstr) (to : TFile) →
+    step_size m P L x i to ≡ esize (ecode m L 0 (highs m to) (highs m (target P x i)) i EHalt)
+step_size_is m P L x i to = thens_is (step m P L x i [] to (Ends Halt)) ∙ ap esize (erase_step m P L x i [] to (Ends Halt))
 
-size_fill : (ix : ℕ → ℕ) (new : Option ℕ) (qs : List ℕ) (j : ℕ) (k l : ESeq) (a b : ℕ) → esize k + a ≡ esize l + b → esize (efill ix new qs j k) + a ≡ esize (efill ix new qs j l) + b
-size_fill ix new [] j k l a b e = e
-size_fill ix new (q ∷ qs) j k l a b e = let x = size_fill ix new qs (suc j) k l a b e in omega (arith, x)
+size_load : (m t : ℕ) (x : Home) (k l : ESeq) (a b : ℕ) → esize k + a ≡ esize l + b → esize (eload m t x k) + a ≡ esize (eload m t x l) + b
+size_load m t (Held q) k l a b e = e
+size_load m t (InFrame i) k l a b e = omega (arith, e)
+size_load m t (InSlot i) k l a b e = omega (arith, e)
 
-size_base : (ix : ℕ → ℕ) (v : TBase) (k l : ESeq) (a b : ℕ) → esize k + a ≡ esize l + b → esize (efetch ix v k) + a ≡ esize (efetch ix v l) + b
-size_base ix (Reg r) k l a b e = omega (arith, e)
-size_base ix (Int i) k l a b e = e
-size_base ix (Label i) k l a b e = e
-size_base ix (Data d) k l a b e = e
+size_base : (m : ℕ) (homes : ℕ → Home) (v : TBase) (k l : ESeq) (a b : ℕ) → esize k + a ≡ esize l + b → esize (ebase m homes v k) + a ≡ esize (ebase m homes v l) + b
+size_base m homes (Reg r) k l a b e = size_load m (second_reg m) (homes r) k l a b e
+size_base m homes (Int i) k l a b e = e
+size_base m homes (Label i) k l a b e = e
+size_base m homes (Data d) k l a b e = e
 
-size_build : (ix : ℕ → ℕ) (new : Option ℕ) (qs : List ℕ) (k l : ESeq) (a b : ℕ) → esize k + a ≡ esize l + b → esize (ebuild ix new qs k) + a ≡ esize (ebuild ix new qs l) + b
-size_build ix new qs k l a b e =
-    let x = size_fill ix new qs 0 (EThen (EMov 1 (Reg 4)) k) (EThen (EMov 1 (Reg 4)) l) a b (omega (arith, e)) in omega (arith, x)
+size_fill : (m : ℕ) (homes : ℕ → Home) (qs : List ℕ) (j : ℕ) (k l : ESeq) (a b : ℕ) → esize k + a ≡ esize l + b → esize (efill m homes qs j k) + a ≡ esize (efill m homes qs j l) + b
+size_fill m homes [] j k l a b e = e
+size_fill m homes (q ∷ qs) j k l a b e =
+    let x = size_fill m homes qs (suc j) k l a b e in
+    size_load m (second_reg m) (homes q) (EThen (ESt (made_reg m) j (second_at m homes q)) (efill m homes qs (suc j) k)) (EThen (ESt (made_reg m) j (second_at m homes q)) (efill m homes qs (suc j) l)) a b (omega (arith, x))
 
-size_code : (ix : ℕ → ℕ) (nx tg : List ℕ) (i : TInstr) (k l : ESeq) (a b : ℕ) → esize k + a ≡ esize l + b → esize (ecode ix nx tg i k) + a ≡ esize (ecode ix nx tg i l) + b
-size_code ix nx tg (Arith op rd rs v) k l a b e =
-    let y = size_build ix (Some rd) nx k l a b e in
-    let z = size_base ix (erase_value v) (EThen (EArith op 3 2 (sp_base (erase_value v))) (ebuild ix (Some rd) nx k)) (EThen (EArith op 3 2 (sp_base (erase_value v))) (ebuild ix (Some rd) nx l)) a b (omega (arith, y)) in
-    omega (arith, z)
-size_code ix nx tg (Bnz r v) k l a b e =
-    let y = size_build ix None tg (EThen (EBnz 2 (sp_base (erase_value v))) (EThen (EMov 1 (Reg 6)) k)) (EThen (EBnz 2 (sp_base (erase_value v))) (EThen (EMov 1 (Reg 6)) l)) a b (omega (arith, e)) in
-    let z = size_base ix (erase_value v) (EThen (EMov 6 (Reg 1)) (ebuild ix None tg (EThen (EBnz 2 (sp_base (erase_value v))) (EThen (EMov 1 (Reg 6)) k)))) (EThen (EMov 6 (Reg 1)) (ebuild ix None tg (EThen (EBnz 2 (sp_base (erase_value v))) (EThen (EMov 1 (Reg 6)) l)))) a b (omega (arith, y)) in
-    omega (arith, z)
-size_code ix nx tg (Ld rd rs i) k l a b e = let y = size_build ix (Some rd) nx k l a b e in omega (arith, y)
-size_code ix nx tg (Malloc rd ts) k l a b e = let y = size_build ix (Some rd) nx k l a b e in omega (arith, y)
-size_code ix nx tg (Mov rd v) k l a b e =
-    let y = size_build ix (Some rd) nx k l a b e in
-    size_base ix (erase_value v) (EThen (EMov 3 (sp_base (erase_value v))) (ebuild ix (Some rd) nx k)) (EThen (EMov 3 (sp_base (erase_value v))) (ebuild ix (Some rd) nx l)) a b (omega (arith, y))
-size_code ix nx tg (St rd i rs) k l a b e = let y = size_build ix (Some rd) nx k l a b e in omega (arith, y)
-size_code ix nx tg (Unpack rd v) k l a b e =
-    let y = size_build ix (Some rd) nx k l a b e in
-    size_base ix (erase_value v) (EThen (EMov 3 (sp_base (erase_value v))) (ebuild ix (Some rd) nx k)) (EThen (EMov 3 (sp_base (erase_value v))) (ebuild ix (Some rd) nx l)) a b (omega (arith, y))
+size_build : (m : ℕ) (homes : ℕ → Home) (qs : List ℕ) (k l : ESeq) (a b : ℕ) → esize k + a ≡ esize l + b → esize (ebuild m homes qs k) + a ≡ esize (ebuild m homes qs l) + b
+size_build m homes qs k l a b e = let x = size_fill m homes qs 0 k l a b e in omega (arith, x)
+
+size_slot : (m j n1 n2 : ℕ) (k l : ESeq) (a b : ℕ) → esize k + a ≡ esize l + b → esize (eslot m j n1 k) + a ≡ esize (eslot m j n2 l) + b
+size_slot m zero n1 n2 k l a b e = omega (arith, e)
+size_slot m (suc j) n1 n2 k l a b e = omega (arith, e)
+
+size_finish : (m : ℕ) (L : Layout) (rd n1 n2 : ℕ) (nx : List ℕ) (w : Way) (k l : ESeq) (a b : ℕ) → esize k + a ≡ esize l + b → esize (efinish m L rd n1 nx w k) + a ≡ esize (efinish m L rd n2 nx w l) + b
+size_finish m L rd n1 n2 nx Stays k l a b e = e
+size_finish m L rd n1 n2 nx Fills k l a b e = size_slot m L.used n1 n2 k l a b e
+size_finish m L rd n1 n2 nx Gathers k l a b e =
+    size_build m (homed L.homes rd (Held (into m rd))) nx (EThen (EMov (frame_reg m) (Reg (made_reg m))) k) (EThen (EMov (frame_reg m) (Reg (made_reg m))) l) a b (omega (arith, e))
+
+size_head : (m : ℕ) (L : Layout) (tg : List ℕ) (i : TInstr) (k l : ESeq) (a b : ℕ) → esize k + a ≡ esize l + b → esize (ehead m L tg i k) + a ≡ esize (ehead m L tg i l) + b
+size_head m L tg (Arith op rd rs v) k l a b e =
+    size_load m (first_reg m) (L.homes rs) _ _ a b (size_base m L.homes (erase_value v) _ _ a b (omega (arith, e)))
+size_head m L tg (Bnz r v) k l a b e =
+    size_build m L.homes tg _ _ a b (size_load m (first_reg m) (L.homes r) _ _ a b (size_base m L.homes (erase_value v) _ _ a b (omega (arith, e))))
+size_head m L tg (Ld rd rs i) k l a b e = size_load m (first_reg m) (L.homes rs) _ _ a b (omega (arith, e))
+size_head m L tg (Malloc rd ts) k l a b e = omega (arith, e)
+size_head m L tg (Mov rd v) k l a b e = size_base m L.homes (erase_value v) _ _ a b (omega (arith, e))
+size_head m L tg (St rd i rs) k l a b e =
+    size_load m (first_reg m) (L.homes rd) _ _ a b (size_load m (second_reg m) (L.homes rs) _ _ a b (omega (arith, e)))
+size_head m L tg (Unpack rd v) k l a b e = size_base m L.homes (erase_value v) _ _ a b (omega (arith, e))
 
 -- an instruction's code in front of a rest
-pub step_then : (P : TProg) (x : TFile) (i : TInstr) (to : TFile) (k : ESeq) → esize (ecode (index x) (numbers to) (numbers (target P x i)) i k) ≡ step_size P x i to + esize k
-step_then P x i to k =
-    let y = size_code (index x) (numbers to) (numbers (target P x i)) i k EHalt 0 (esize k) (omega arith) in
-    let z = step_size_is P x i to in
+pub step_then : (m : ℕ) (P : TProg) (L : Layout) (x : TFile) (i : TInstr) (to : TFile) (n : ℕ) (k : ESeq) →
+    esize (ecode m L n (highs m to) (highs m (target P x i)) i k) ≡ step_size m P L x i to + esize k
+step_then m P L x i to n k =
+    let f = size_finish m L (defines i) n 0 (highs m to) (way m L.used i) k EHalt 0 (esize k) (omega arith) in
+    let y = size_head m L (highs m (target P x i)) i (efinish m L (defines i) n (highs m to) (way m L.used i) k) (efinish m L (defines i) 0 (highs m to) (way m L.used i) EHalt) 0 (esize k) f in
+    let z = step_size_is m P L x i to in
     omega (arith, y, z)
 
 -- walks don't change what is erased
@@ -178,19 +289,68 @@ erase_over : (f : At Ty) (d : ℕ) (v : TValue) → erase_value (over_value f d 
 erase_over f d (Plain b ts) = refl
 erase_over f d (Pack t v s) = erase_over f d v
 
-ecode_over : (f : At Ty) (d : ℕ) (ix : ℕ → ℕ) (nx tg : List ℕ) (i : TInstr) (k : ESeq) → ecode ix nx tg (over_instr f d i) k ≡ ecode ix nx tg i k
-ecode_over f d ix nx tg (Arith op rd rs v) k = ap (λ b. EThen (ELd 2 1 (ix rs)) (efetch ix b (EThen (EArith op 3 2 (sp_base b)) (ebuild ix (Some rd) nx k)))) (erase_over f d v)
-ecode_over f d ix nx tg (Bnz r v) k =
-    ap (λ b. EThen (ELd 2 1 (ix r)) (efetch ix b (EThen (EMov 6 (Reg 1)) (ebuild ix None tg (EThen (EBnz 2 (sp_base b)) (EThen (EMov 1 (Reg 6)) k)))))) (erase_over f d v)
-ecode_over f d ix nx tg (Ld rd rs i) k = refl
-ecode_over f d ix nx tg (Malloc rd ts) k = ap (λ n. EThen (EMalloc 3 n) (ebuild ix (Some rd) nx k)) (over_length f d ts)
-ecode_over f d ix nx tg (Mov rd v) k = ap (λ b. efetch ix b (EThen (EMov 3 (sp_base b)) (ebuild ix (Some rd) nx k))) (erase_over f d v)
-ecode_over f d ix nx tg (St rd i rs) k = refl
-ecode_over f d ix nx tg (Unpack rd v) k = ap (λ b. efetch ix b (EThen (EMov 3 (sp_base b)) (ebuild ix (Some rd) nx k))) (erase_over f d v)
+way_over : (f : At Ty) (d m used : ℕ) (i : TInstr) → way m used (over_instr f d i) ≡ way m used i
+way_over f d m used (Arith op rd rs v) = refl
+way_over f d m used (Bnz r v) = refl
+way_over f d m used (Ld rd rs i) = refl
+way_over f d m used (Malloc rd ts) = refl
+way_over f d m used (Mov rd v) = refl
+way_over f d m used (St rd i rs) = refl
+way_over f d m used (Unpack rd v) = refl
 
-eend_over : (f : At Ty) (d : ℕ) (ix : ℕ → ℕ) (tg : List ℕ) (e : TEnd) → eend ix tg (over_end f d e) ≡ eend ix tg e
-eend_over f d ix tg (Jmp v) = ap (λ b. efetch ix b (ebuild ix None tg (EJmp (sp_base b)))) (erase_over f d v)
-eend_over f d ix tg Halt = refl
+defines_over : (f : At Ty) (d : ℕ) (i : TInstr) → defines (over_instr f d i) ≡ defines i
+defines_over f d (Arith op rd rs v) = refl
+defines_over f d (Bnz r v) = refl
+defines_over f d (Ld rd rs i) = refl
+defines_over f d (Malloc rd ts) = refl
+defines_over f d (Mov rd v) = refl
+defines_over f d (St rd i rs) = refl
+defines_over f d (Unpack rd v) = refl
+
+pub left_over : (f : At Ty) (m : ℕ) (c : TSeq) (used d : ℕ) → slots_left m used (over_seq f d c) ≡ slots_left m used c
+left_over f m (Ends e) used d = refl
+left_over f m (Then i c) used d =
+    ap (λ w. count_by w (slots_left m (used_by w used) (over_seq f (names_after i d) c))) (way_over f d m used i)
+    ∙ ap (count_by (way m used i)) (left_over f m c (used_by (way m used i) used) (names_after i d))
+
+ehead_over : (f : At Ty) (d m : ℕ) (L : Layout) (tg : List ℕ) (i : TInstr) (k : ESeq) → ehead m L tg (over_instr f d i) k ≡ ehead m L tg i k
+ehead_over f d m L tg (Arith op rd rs v) k =
+    ap (λ b. eload m (first_reg m) (L.homes rs) (ebase m L.homes b (EThen (EArith op (into m rd) (at_home (first_reg m) (L.homes rs)) (sp_base (second_at m L.homes) b)) k))) (erase_over f d v)
+ehead_over f d m L tg (Bnz r v) k =
+    ap (λ b. ebuild m L.homes tg (eload m (first_reg m) (L.homes r) (ebase m L.homes b (EThen (EMov (saved_reg m) (Reg (frame_reg m))) (EThen (EMov (frame_reg m) (Reg (made_reg m)))
+    (EThen (EBnz (at_home (first_reg m) (L.homes r)) (sp_base (second_at m L.homes) b)) (EThen (EMov (frame_reg m) (Reg (saved_reg m))) k))))))) (erase_over f d v)
+ehead_over f d m L tg (Ld rd rs i) k = refl
+ehead_over f d m L tg (Malloc rd ts) k = ap (λ n. EThen (EMalloc (into m rd) n) k) (over_length f d ts)
+ehead_over f d m L tg (Mov rd v) k = ap (λ b. ebase m L.homes b (EThen (EMov (into m rd) (sp_base (second_at m L.homes) b)) k)) (erase_over f d v)
+ehead_over f d m L tg (St rd i rs) k = refl
+ehead_over f d m L tg (Unpack rd v) k = ap (λ b. ebase m L.homes b (EThen (EMov (into m rd) (sp_base (second_at m L.homes) b)) k)) (erase_over f d v)
+
+pub ecode_over : (f : At Ty) (d m : ℕ) (L : Layout) (n : ℕ) (nx tg : List ℕ) (i : TInstr) (k : ESeq) → ecode m L n nx tg (over_instr f d i) k ≡ ecode m L n nx tg i k
+ecode_over f d m L n nx tg i k =
+    ap₂ (λ rd w. ehead m L tg (over_instr f d i) (efinish m L rd n nx w k)) (defines_over f d i) (way_over f d m L.used i)
+    ∙ ehead_over f d m L tg i (efinish m L (defines i) n nx (way m L.used i) k)
+
+eend_over : (f : At Ty) (d m : ℕ) (L : Layout) (tg : List ℕ) (e : TEnd) → eend m L tg (over_end f d e) ≡ eend m L tg e
+eend_over f d m L tg (Jmp v) =
+    ap (λ b. ebuild m L.homes tg (ebase m L.homes b (EThen (EMov (frame_reg m) (Reg (made_reg m))) (EJmp (sp_base (second_at m L.homes) b))))) (erase_over f d v)
+eend_over f d m L tg Halt = refl
+
+-- layouts depend on the registers of files alone
+way_numbers : (m : ℕ) (L : Layout) (rd : ℕ) (y x : TFile) (w : Way) → highs m y ≡ highs m x → after_way m L rd y w ≡ after_way m L rd x w
+way_numbers m L rd y x Stays e = refl
+way_numbers m L rd y x Fills e = refl
+way_numbers m L rd y x Gathers e = ap (gathered m) e
+
+pub after_over : (f : At Ty) (d m : ℕ) (L : Layout) (i : TInstr) (y x : TFile) → highs m y ≡ highs m x → after m L (over_instr f d i) y ≡ after m L i x
+after_over f d m L i y x e =
+    ap₂ (λ rd w. after_way m L rd y w) (defines_over f d i) (way_over f d m L.used i) ∙ way_numbers m L (defines i) y x (way m L.used i) e
+
+pub numbers_over : (f : At Ty) (d : ℕ) (x : TFile) → numbers (over_file f d x) ≡ numbers x
+numbers_over f d NoRegs = refl
+numbers_over f d (MoreRegs r t x) = ap (λ (qs : List ℕ). r ∷ qs) (numbers_over f d x)
+
+pub highs_over : (f : At Ty) (d m : ℕ) (x : TFile) → highs m (over_file f d x) ≡ highs m x
+highs_over f d m x = ap numbers (high_over f d m x) ∙ numbers_over f d (high_part m x)
 
 -- a type put in, through a walk
 pub ins_over : (f : At Ty) (d r : ℕ) (t : Ty) (x : TFile) → ins r (over f d t) (over_file f d x) ≡ over_file f d (ins r t x)
@@ -277,6 +437,27 @@ module _ (c : ℕ) (s : Ty) (P : TProg) (closed : ClosedLabels P) (tuples : Clos
       ap (λ t. numbers (target_file t)) (type_put d x v (CodeTy 0 k.0) le k.1) ∙ numbers_over (putted VarTy over c s) (d + 0) k.0
       ∙ sym (ap (λ t. numbers (target_file t)) (value_is P (d + 1) x v (CodeTy 0 k.0) k.1))
 
+  high_target : (m d : ℕ) (x : TFile) (v : TValue) → c ≤ d → Enters P (d + 1) (lookup x) v →
+      highs m (target_file (type_of P (put_file_from c s d x) (over_value (putted VarTy over c s) d v))) ≡ highs m (target_file (type_of P x v))
+  high_target m d x v le k =
+      ap (λ t. highs m (target_file t)) (type_put d x v (CodeTy 0 k.0) le k.1) ∙ highs_over (putted VarTy over c s) (d + 0) m k.0
+      ∙ sym (ap (λ t. highs m (target_file t)) (value_is P (d + 1) x v (CodeTy 0 k.0) k.1))
+
+  high_same : (i : TInstr) (m d : ℕ) (x : TFile) (h : RegTypes) → c ≤ d → Typed P (d + 1) (lookup x) i h →
+      highs m (target P (put_file_from c s d x) (over_instr (putted VarTy over c s) d i)) ≡ highs m (target P x i)
+  high_same (Bnz r v) m d x h le k = high_target m d x v le k.1
+  high_same (Arith op rd rs v) m d x h le k = refl
+  high_same (Ld rd rs i) m d x h le k = refl
+  high_same (Malloc rd ts) m d x h le k = refl
+  high_same (Mov rd v) m d x h le k = refl
+  high_same (St rd i rs) m d x h le k = refl
+  high_same (Unpack rd v) m d x h le k = refl
+
+  high_end : (e : TEnd) (m d : ℕ) (x : TFile) → c ≤ d → EndTyped P (d + 1) (lookup x) e →
+      highs m (end_target P (put_file_from c s d x) (over_end (putted VarTy over c s) d e)) ≡ highs m (end_target P x e)
+  high_end (Jmp v) m d x le k = high_target m d x v le k
+  high_end Halt m d x le k = refl
+
   target_same : (i : TInstr) (d : ℕ) (x : TFile) (h : RegTypes) → c ≤ d → Typed P (d + 1) (lookup x) i h →
       numbers (target P (put_file_from c s d x) (over_instr (putted VarTy over c s) d i)) ≡ numbers (target P x i)
   target_same (Bnz r v) d x h le k = target_put d x v le k.1
@@ -345,53 +526,54 @@ module _ (c : ℕ) (s : Ty) (P : TProg) (closed : ClosedLabels P) (tuples : Clos
   kept_rest i d x rest k = kept_accepted P i (names_after i d + 1) x rest (rest_accepted i d x rest k)
 
   -- what is spilled, erased, stays the same under a put
-  pub erased_put : (code0 : TSeq) (d : ℕ) (x : TFile) → c ≤ d → SeqAccepted P (d + 1) (lookup x) code0 →
-      erase_seq (code P (put_file_from c s d x) (over_seq (putted VarTy over c s) d code0)) ≡ erase_seq (code P x code0)
-  erased_put (Then i rest) d x le k =
+  pub erased_put : (m : ℕ) (code0 : TSeq) (L : Layout) (d : ℕ) (x : TFile) → c ≤ d → SeqAccepted P (d + 1) (lookup x) code0 →
+      erase_seq (code m P L (put_file_from c s d x) (over_seq (putted VarTy over c s) d code0)) ≡ erase_seq (code m P L x code0)
+  erased_put m (Then i rest) L d x le k =
       let f = putted VarTy over c s in
       let y = put_file_from c s d x in
       let j = over_instr (putted VarTy over c s) d i in
       let r2 = over_seq (putted VarTy over c s) (names_after i d) rest in
       let to = kept P x i rest in
       let nx = kept_put i d x rest le k in
-      let tail : erase_seq (code P (kept P y j r2) r2) ≡ erase_seq (code P to rest) =
-      ap (λ z. erase_seq (code P z r2)) nx
-      ∙ erased_put rest (names_after i d) to (larger i d le) (kept_rest i d x rest k) in
-      let same : numbers (kept P y j r2) ≡ numbers to = ap numbers nx ∙ numbers_over f (names_after i d) to in
-      erase_step P y j (kept P y j r2) (code P (kept P y j r2) r2)
-      ∙ ap (λ ix. ecode ix (numbers (kept P y j r2)) (numbers (target P y j)) j (erase_seq (code P (kept P y j r2) r2))) (index_same f d x)
-      ∙ ap₂ (λ nx tg. ecode (index x) nx tg j (erase_seq (code P (kept P y j r2) r2))) same (target_same i d x k.0 le k.1)
-      ∙ ap (ecode (index x) (numbers to) (numbers (target P x i)) j) tail
-      ∙ ecode_over f d (index x) (numbers to) (numbers (target P x i)) i (erase_seq (code P to rest))
-      ∙ sym (erase_step P x i to (code P to rest))
-  erased_put (Ends e) d x le k =
+      let same : highs m (kept P y j r2) ≡ highs m to = ap (highs m) nx ∙ highs_over f (names_after i d) m to in
+      let lay : after m L j (kept P y j r2) ≡ after m L i to = after_over f d m L i (kept P y j r2) to same in
+      let tail : erase_seq (code m P (after m L j (kept P y j r2)) (kept P y j r2) r2) ≡ erase_seq (code m P (after m L i to) to rest) =
+      ap₂ (λ z l. erase_seq (code m P l z r2)) nx lay
+      ∙ erased_put m rest (after m L i to) (names_after i d) to (larger i d le) (kept_rest i d x rest k) in
+      erase_then m P L y j r2
+      ∙ ap (λ n. ecode m L n (highs m (kept P y j r2)) (highs m (target P y j)) j (erase_seq (code m P (after m L j (kept P y j r2)) (kept P y j r2) r2))) (left_over f m (Then i rest) L.used d)
+      ∙ ap₂ (λ nx tg. ecode m L (slots_left m L.used (Then i rest)) nx tg j (erase_seq (code m P (after m L j (kept P y j r2)) (kept P y j r2) r2))) same (high_same i m d x k.0 le k.1)
+      ∙ ap (ecode m L (slots_left m L.used (Then i rest)) (highs m to) (highs m (target P x i)) j) tail
+      ∙ ecode_over f d m L (slots_left m L.used (Then i rest)) (highs m to) (highs m (target P x i)) i (erase_seq (code m P (after m L i to) to rest))
+      ∙ sym (erase_then m P L x i rest)
+  erased_put m (Ends e) L d x le k =
       let f = putted VarTy over c s in
       let y = put_file_from c s d x in
-      erase_end_code P y (over_end f d e)
-      ∙ ap₂ (λ ix tg. eend ix tg (over_end (putted VarTy over c s) d e)) (index_same f d x) (end_same e d x le k)
-      ∙ eend_over f d (index x) (numbers (end_target P x e)) e
-      ∙ sym (erase_end_code P x e)
+      erase_end_code m P L y (over_end f d e)
+      ∙ ap (λ tg. eend m L tg (over_end (putted VarTy over c s) d e)) (high_end e m d x le k)
+      ∙ eend_over f d m L (highs m (end_target P x e)) e
+      ∙ sym (erase_end_code m P L x e)
 
-  pub sizes_put : (code0 : TSeq) (d : ℕ) (x : TFile) → c ≤ d → SeqAccepted P (d + 1) (lookup x) code0 →
-      sizes P (put_file_from c s d x) (over_seq (putted VarTy over c s) d code0) ≡ sizes P x code0
-  sizes_put (Then i rest) d x le k =
+  pub sizes_put : (m : ℕ) (code0 : TSeq) (L : Layout) (d : ℕ) (x : TFile) → c ≤ d → SeqAccepted P (d + 1) (lookup x) code0 →
+      sizes m P L (put_file_from c s d x) (over_seq (putted VarTy over c s) d code0) ≡ sizes m P L x code0
+  sizes_put m (Then i rest) L d x le k =
       let f = putted VarTy over c s in
       let y = put_file_from c s d x in
       let j = over_instr (putted VarTy over c s) d i in
       let r2 = over_seq (putted VarTy over c s) (names_after i d) rest in
       let to = kept P x i rest in
       let nx = kept_put i d x rest le k in
-      let tail : sizes P (kept P y j r2) r2 ≡ sizes P to rest =
-      ap (λ z. sizes P z r2) nx ∙ sizes_put rest (names_after i d) to (larger i d le) (kept_rest i d x rest k) in
-      let same : numbers (kept P y j r2) ≡ numbers to = ap numbers nx ∙ numbers_over f (names_after i d) to in
-      let here : step_size P y j (kept P y j r2) ≡ step_size P x i to =
-      step_size_is P y j (kept P y j r2)
-      ∙ ap (λ ix. esize (ecode ix (numbers (kept P y j r2)) (numbers (target P y j)) j EHalt)) (index_same f d x)
-      ∙ ap₂ (λ nx tg. esize (ecode (index x) nx tg j EHalt)) same (target_same i d x k.0 le k.1)
-      ∙ ap esize (ecode_over f d (index x) (numbers to) (numbers (target P x i)) i EHalt)
-      ∙ sym (step_size_is P x i to) in
+      let same : highs m (kept P y j r2) ≡ highs m to = ap (highs m) nx ∙ highs_over f (names_after i d) m to in
+      let lay : after m L j (kept P y j r2) ≡ after m L i to = after_over f d m L i (kept P y j r2) to same in
+      let tail : sizes m P (after m L j (kept P y j r2)) (kept P y j r2) r2 ≡ sizes m P (after m L i to) to rest =
+      ap₂ (λ z l. sizes m P l z r2) nx lay ∙ sizes_put m rest (after m L i to) (names_after i d) to (larger i d le) (kept_rest i d x rest k) in
+      let here : step_size m P L y j (kept P y j r2) ≡ step_size m P L x i to =
+      step_size_is m P L y j (kept P y j r2)
+      ∙ ap₂ (λ nx tg. esize (ecode m L 0 nx tg j EHalt)) same (high_same i m d x k.0 le k.1)
+      ∙ ap esize (ecode_over f d m L 0 (highs m to) (highs m (target P x i)) i EHalt)
+      ∙ sym (step_size_is m P L x i to) in
       ap₂ (λ (n : ℕ) (ns : List ℕ). n ∷ ns) here tail
-  sizes_put (Ends e) d x le k = refl
+  sizes_put m (Ends e) L d x le k = refl
 
 -- and where a block is entered with its types
 module _ (P : TProg) (closed : ClosedLabels P) (tuples : ClosedData P) where
@@ -401,23 +583,25 @@ module _ (P : TProg) (closed : ClosedLabels P) (tuples : ClosedData P) where
       subst (λ g. SeqAccepted P n g (put_seq n (shift n 0 t) c)) (known n (shift n 0 t) P closed tuples (below_any n t b) n x)
       (seq_put n (shift n 0 t) P closed tuples (below_any n t b) c n (lookup x) (omega arith) h)
 
-  pub sizes_inst : (ts : List Ty) (n : ℕ) (x : TFile) (c : TSeq) → length ts ≡ n → BelowTypes 0 ts → SeqAccepted P n (lookup x) c → sizes P (inst_file ts n x) (inst_seq ts n c) ≡ sizes P x c
-  sizes_inst [] n x c len b h = refl
-  sizes_inst (t ∷ ts) n x c len b h =
+  pub sizes_inst : (m : ℕ) (L : Layout) (ts : List Ty) (n : ℕ) (x : TFile) (c : TSeq) → length ts ≡ n → BelowTypes 0 ts → SeqAccepted P n (lookup x) c →
+      sizes m P L (inst_file ts n x) (inst_seq ts n c) ≡ sizes m P L x c
+  sizes_inst m L [] n x c len b h = refl
+  sizes_inst m L (t ∷ ts) n x c len b h =
       let e : n ≡ n - 1 + 1 = omega (arith, len) in
-      let h2 = subst (λ m. SeqAccepted P m (lookup x) c) e h in
-      sizes_inst ts (n - 1) (put_file (n - 1) (shift (n - 1) 0 t) x) (put_seq (n - 1) (shift (n - 1) 0 t) c) (omega (arith, len)) b.1 (down (n - 1) t x c h2 b.0)
-      ∙ sizes_put (n - 1) (shift (n - 1) 0 t) P closed tuples (below_any (n - 1) t b.0) c (n - 1) x (omega arith) h2
+      let h2 = subst (λ i. SeqAccepted P i (lookup x) c) e h in
+      sizes_inst m L ts (n - 1) (put_file (n - 1) (shift (n - 1) 0 t) x) (put_seq (n - 1) (shift (n - 1) 0 t) c) (omega (arith, len)) b.1 (down (n - 1) t x c h2 b.0)
+      ∙ sizes_put (n - 1) (shift (n - 1) 0 t) P closed tuples (below_any (n - 1) t b.0) m c L (n - 1) x (omega arith) h2
 
-  pub erased_inst : (ts : List Ty) (n : ℕ) (x : TFile) (c : TSeq) → length ts ≡ n → BelowTypes 0 ts → SeqAccepted P n (lookup x) c →
-      erase_seq (code P (inst_file ts n x) (inst_seq ts n c)) ≡ erase_seq (code P x c)
-  erased_inst [] n x c len b h = refl
-  erased_inst (t ∷ ts) n x c len b h =
+  pub erased_inst : (m : ℕ) (L : Layout) (ts : List Ty) (n : ℕ) (x : TFile) (c : TSeq) → length ts ≡ n → BelowTypes 0 ts → SeqAccepted P n (lookup x) c →
+      erase_seq (code m P L (inst_file ts n x) (inst_seq ts n c)) ≡ erase_seq (code m P L x c)
+  erased_inst m L [] n x c len b h = refl
+  erased_inst m L (t ∷ ts) n x c len b h =
       let e : n ≡ n - 1 + 1 = omega (arith, len) in
-      let h2 = subst (λ m. SeqAccepted P m (lookup x) c) e h in
-      erased_inst ts (n - 1) (put_file (n - 1) (shift (n - 1) 0 t) x) (put_seq (n - 1) (shift (n - 1) 0 t) c) (omega (arith, len)) b.1 (down (n - 1) t x c h2 b.0)
-      ∙ erased_put (n - 1) (shift (n - 1) 0 t) P closed tuples (below_any (n - 1) t b.0) c (n - 1) x (omega arith) h2
+      let h2 = subst (λ i. SeqAccepted P i (lookup x) c) e h in
+      erased_inst m L ts (n - 1) (put_file (n - 1) (shift (n - 1) 0 t) x) (put_seq (n - 1) (shift (n - 1) 0 t) c) (omega (arith, len)) b.1 (down (n - 1) t x c h2 b.0)
+      ∙ erased_put (n - 1) (shift (n - 1) 0 t) P closed tuples (below_any (n - 1) t b.0) m c L (n - 1) x (omega arith) h2
 
-pub inst_numbers : (ts : List Ty) (n : ℕ) (x : TFile) → numbers (inst_file ts n x) ≡ numbers x
-inst_numbers [] n x = refl
-inst_numbers (t ∷ ts) n x = inst_numbers ts (n - 1) (put_file (n - 1) (shift (n - 1) 0 t) x) ∙ numbers_over (putted VarTy over (n - 1) (shift (n - 1) 0 t)) (n - 1) x
+pub inst_highs : (m : ℕ) (ts : List Ty) (n : ℕ) (x : TFile) → highs m (inst_file ts n x) ≡ highs m x
+inst_highs m [] n x = refl
+inst_highs m (t ∷ ts) n x =
+    inst_highs m ts (n - 1) (put_file (n - 1) (shift (n - 1) 0 t) x) ∙ highs_over (putted VarTy over (n - 1) (shift (n - 1) 0 t)) (n - 1) m x

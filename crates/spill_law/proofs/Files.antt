@@ -1,14 +1,16 @@
 -- Files: registers in ascending order, a type put in, and frames.
-use Rattle.std.proofs.Common.{◌≡◌, ℕ, suc, ◌<◌, ◌≤◌, nat_eq, cond, Bool, true, false, List, [], ◌∷◌, ◌++◌, length, Option, Some, refl, sym, ap, ap₂, ◌∙◌, subst, arith, inl, inr, ◌⊎◌}
+use Rattle.std.proofs.Common.{◌≡◌, ℕ, suc, ◌<◌, ◌≤◌, nat_eq, nat_lt, cond, Bool, true, false, List, [], ◌∷◌, ◌++◌, length, Option, Some, None, refl, sym, ap, ap₂, ◌∙◌, subst, arith, inl, inr, ◌⊎◌}
 use Rattle.std.specs.Prelude.{◌≢◌, option_map}
 use Rattle.std.proofs.Math.Path.{fun_ext}
-use Rattle.std.proofs.lemmas.Bool.{eq-eqb, ne_eqb, cases_lt, cases_eq, lt-ltb, le-ltb}
+use Rattle.std.proofs.lemmas.Bool.{eq-eqb, eqb-true, ne_eqb, cases_lt, cases_eq, lt-ltb, le-ltb}
 use Rattle.idx_core.specs.Over.{At}
-use Rattle.t_types.specs.Tree.{Ty, TFile, NoRegs, MoreRegs, TFields, MoreFields, over_file, shift, shift_file}
+use Rattle.t_types.specs.Tree.{Ty, TupleTy, TFile, NoRegs, MoreRegs, TFields, MoreFields, over_file, shift, shift_file}
 use Rattle.t_types.specs.Fields.{AField, field, filled}
 use Rattle.t_types.specs.Fits.{FitsFile, RegTypes, lookup}
 use Rattle.t_rules.specs.Registers.{with_reg, raised}
-use Rattle.spill_law.specs.Spill.{sp, frame, index, ins}
+use Rattle.t_types.specs.Fits.{Fits}
+use Rattle.spill_law.specs.Spill.{sp, sp_regs, frame, cells, with_if, without_if, high_part, low_part, split, frame_reg, numbers, position, ins}
+use Rattle.spill_law.proofs.TypeLaws.{fits_sp, high_over}
 
 pub look_same : {A : Type 0} (g : ℕ → Option A) (r : ℕ) (t : A) → with_reg g r t r ≡ Some t
 look_same g r t = ap (λ b. cond b (Some t) (g r)) (eq-eqb r r refl)
@@ -140,15 +142,127 @@ fits_self NoRegs h = tt
 fits_self (MoreRegs r t x) h =
     ((t, look_same (lookup x) r t, inl refl), fits_more (lookup x) r t r x (omega arith) h (fits_self x (rises_ascends r x h)))
 
--- a register's field in the frame
-frame_case : (q : ℕ) (u : Ty) (x : TFile) (r : ℕ) (t : Ty) (b : Bool) → (lookup x r ≡ Some t → field (frame x) (index x r) ≡ Some (AField (sp t) true)) → cond b (Some u) (lookup x r) ≡ Some t →
-    field (frame (MoreRegs q u x)) (cond b 0 (suc (index x r))) ≡ Some (AField (sp t) true)
-frame_case q u x r t true f e = let same : u ≡ t = cc in ap (λ y. Some (AField (sp y) true)) same
+-- a register's field in a frame
+frame_case : (q : ℕ) (u : Ty) (x : TFile) (r : ℕ) (t : Ty) (b : Bool) →
+    (lookup x r ≡ Some t → field (frame x) (position (numbers x) r) ≡ Some (AField t true)) →
+    cond b (Some u) (lookup x r) ≡ Some t →
+    field (frame (MoreRegs q u x)) (cond b 0 (suc (position (numbers x) r))) ≡ Some (AField t true)
+frame_case q u x r t true f e = let same : u ≡ t = cc in ap (λ y. Some (AField y true)) same
 frame_case q u x r t false f e = f e
 
-pub frame_at : (x : TFile) (r : ℕ) (t : Ty) → lookup x r ≡ Some t → field (frame x) (index x r) ≡ Some (AField (sp t) true)
+pub frame_at : (x : TFile) (r : ℕ) (t : Ty) → lookup x r ≡ Some t →
+    field (frame x) (position (numbers x) r) ≡ Some (AField t true)
 frame_at NoRegs r t e = cc
 frame_at (MoreRegs q u x) r t e = frame_case q u x r t (nat_eq q r) (λ k. frame_at x r t k) e
+
+-- the parts of a file
+with_look : (b : Bool) (q : ℕ) (u : Ty) (x y : TFile) (r : ℕ) → lookup x r ≡ lookup y r → (nat_eq q r ≡ true → b ≡ true) →
+    lookup (with_if b q u x) r ≡ cond (nat_eq q r) (Some u) (lookup y r)
+with_look true q u x y r e k = ap (cond (nat_eq q r) (Some u)) e
+with_look false q u x y r e k = go (nat_eq q r) k
+  where
+    go : (c : Bool) → (c ≡ true → false ≡ true) → lookup x r ≡ cond c (Some u) (lookup y r)
+    go true z = let w : false ≡ true = z refl in cc
+    go false z = e
+
+pub high_look : (m : ℕ) (x : TFile) (r : ℕ) → m < r → lookup (high_part m x) r ≡ lookup x r
+high_look m NoRegs r lt = refl
+high_look m (MoreRegs q u x) r lt =
+    with_look (nat_lt m q) q u (high_part m x) x r (high_look m x r lt)
+    (λ e. let s = eqb-true q r e in lt-ltb m q (omega (arith, s, lt)))
+
+without_look : (b : Bool) (q : ℕ) (u : Ty) (x y : TFile) (r : ℕ) → lookup x r ≡ lookup y r → (nat_eq q r ≡ true → b ≡ false) →
+    lookup (without_if b q u x) r ≡ cond (nat_eq q r) (Some u) (lookup y r)
+without_look false q u x y r e k = ap (cond (nat_eq q r) (Some u)) e
+without_look true q u x y r e k = go (nat_eq q r) k
+  where
+    go : (c : Bool) → (c ≡ true → true ≡ false) → lookup x r ≡ cond c (Some u) (lookup y r)
+    go true z = let w : true ≡ false = z refl in cc
+    go false z = e
+
+low_look : (m : ℕ) (x y : TFile) (r : ℕ) → r ≤ m → lookup y r ≡ None → lookup (low_part m x y) r ≡ lookup x r
+low_look m NoRegs y r le e = e
+low_look m (MoreRegs q u x) y r le e =
+    without_look (nat_lt m q) q u (low_part m x y) x r (low_look m x y r le e)
+    (λ k. let s = eqb-true q r k in le-ltb m q (omega (arith, s, le)))
+
+-- a register up to m stays
+pub split_low : (m : ℕ) (x : TFile) (r : ℕ) → r ≤ m → lookup (split m x) r ≡ lookup x r
+split_low m x r le =
+    low_look m x (MoreRegs (frame_reg m) (TupleTy (frame (high_part m x))) NoRegs) r le
+    (ap (λ b. cond b (Some (TupleTy (frame (high_part m x)))) None) (ne_eqb (suc m) r (λ e. absurd (omega arith))))
+
+low_past : (m : ℕ) (x y : TFile) (r : ℕ) → m < r → lookup (low_part m x y) r ≡ lookup y r
+low_past m NoRegs y r lt = refl
+low_past m (MoreRegs q u x) y r lt = go (nat_lt m q) refl (low_past m x y r lt)
+  where
+    go : (b : Bool) → nat_lt m q ≡ b → lookup (low_part m x y) r ≡ lookup y r → lookup (without_if b q u (low_part m x y)) r ≡ lookup y r
+    go true k e = e
+    go false k e = ap (λ c. cond c (Some u) (lookup (low_part m x y) r)) (ne_eqb q r (λ s. apart s (cases_lt m q))) ∙ e
+      where
+        apart : q ≡ r → (m < q) ⊎ (q ≤ m) → ⊥
+        apart s (inl a) = let z : false ≡ true = sym k ∙ lt-ltb m q a in cc
+        apart s (inr a) = absurd (omega arith)
+
+pub split_frame : (m : ℕ) (x : TFile) → lookup (split m x) (frame_reg m) ≡ Some (TupleTy (frame (high_part m x)))
+split_frame m x =
+    low_past m x (MoreRegs (frame_reg m) (TupleTy (frame (high_part m x))) NoRegs) (frame_reg m) (omega arith)
+    ∙ look_same (lookup NoRegs) (frame_reg m) (TupleTy (frame (high_part m x)))
+
+-- types spilled
+pub regs_look : (m : ℕ) (x : TFile) (r : ℕ) → lookup (sp_regs m x) r ≡ option_map (sp m) (lookup x r)
+regs_look m NoRegs r = refl
+regs_look m (MoreRegs q u x) r = go (nat_eq q r) (regs_look m x r)
+  where
+    go : (b : Bool) → lookup (sp_regs m x) r ≡ option_map (sp m) (lookup x r) →
+        cond b (Some (sp m u)) (lookup (sp_regs m x) r) ≡ option_map (sp m) (cond b (Some u) (lookup x r))
+    go true e = refl
+    go false e = e
+
+pub look_sp : (m : ℕ) (x : TFile) (r : ℕ) (t : Ty) → lookup x r ≡ Some t → lookup (sp_regs m x) r ≡ Some (sp m t)
+look_sp m x r t e = regs_look m x r ∙ ap (option_map (sp m)) e
+
+with_regs : (m : ℕ) (b : Bool) (r : ℕ) (t : Ty) (x : TFile) → sp_regs m (with_if b r t x) ≡ with_if b r (sp m t) (sp_regs m x)
+with_regs m true r t x = refl
+with_regs m false r t x = refl
+
+pub high_regs : (m n : ℕ) (x : TFile) → high_part n (sp_regs m x) ≡ sp_regs m (high_part n x)
+high_regs m n NoRegs = refl
+high_regs m n (MoreRegs r t x) =
+    ap (with_if (nat_lt n r) r (sp m t)) (high_regs m n x) ∙ sym (with_regs m (nat_lt n r) r t (high_part n x))
+
+pub numbers_regs : (m : ℕ) (x : TFile) → numbers (sp_regs m x) ≡ numbers x
+numbers_regs m NoRegs = refl
+numbers_regs m (MoreRegs r t x) = ap (λ (qs : List ℕ). r ∷ qs) (numbers_regs m x)
+
+-- a file's parts fit where it does
+pub fits_high : (g : RegTypes) (m : ℕ) (x : TFile) → FitsFile g x → FitsFile g (high_part m x)
+fits_high g m NoRegs h = tt
+fits_high g m (MoreRegs r t x) h = go (nat_lt m r) (fits_high g m x h.1)
+  where
+    go : (b : Bool) → FitsFile g (high_part m x) → FitsFile g (with_if b r t (high_part m x))
+    go true k = (h.0, k)
+    go false k = k
+
+fits_low : (m : ℕ) (k g : RegTypes) (x y : TFile) → ((r : ℕ) (t : Ty) → r ≤ m → k r ≡ Some t → g r ≡ Some (sp m t)) → FitsFile k x →
+    FitsFile g y → FitsFile g (low_part m (sp_regs m x) y)
+fits_low m k g NoRegs y low h f = f
+fits_low m k g (MoreRegs r t x) y low h f = go (nat_lt m r) refl (fits_low m k g x y low h.1 f)
+  where
+    go : (b : Bool) → nat_lt m r ≡ b → FitsFile g (low_part m (sp_regs m x) y) → FitsFile g (without_if b r (sp m t) (low_part m (sp_regs m x) y))
+    go true e z = z
+    go false e z = ((sp m h.0.0, low r h.0.0 (below (cases_lt m r)) h.0.1, fits_sp m h.0.0 t h.0.2), z)
+      where
+        below : (m < r) ⊎ (r ≤ m) → r ≤ m
+        below (inl a) = let w : false ≡ true = sym e ∙ lt-ltb m r a in cc
+        below (inr a) = a
+
+-- what is known of the registers up to m and of the frame
+pub fits_split : (m : ℕ) (k g : RegTypes) (x : TFile) → ((r : ℕ) (t : Ty) → r ≤ m → k r ≡ Some t → g r ≡ Some (sp m t)) → FitsFile k x →
+    g (frame_reg m) ≡ Some (TupleTy (frame (high_part m (sp_regs m x)))) → FitsFile g (split m (sp_regs m x))
+fits_split m k g x low h e =
+    fits_low m k g x (MoreRegs (frame_reg m) (TupleTy (frame (high_part m (sp_regs m x)))) NoRegs) low h
+    ((TupleTy (frame (high_part m (sp_regs m x))), e, inl refl), tt)
 
 -- fields that are filled, in front of others
 abbrev pub prefix : List Ty → TFields → TFields

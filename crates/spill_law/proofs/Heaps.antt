@@ -10,9 +10,8 @@ use Rattle.t_terms.specs.Tree.{TProg}
 use Rattle.t_rules.specs.Machine.{Word, IntWord, AddressWord, LabelWord, EmptyWord, PackWord, Heap, RegWords}
 use Rattle.t_rules.specs.HeapTypes.{HeapTypes, WordHas}
 use Rattle.t_rules.specs.Erase.{EWord, EInt, EAddress, ELabel, EEmpty, EHeap}
-use Rattle.spill_law.specs.Spill.{is_new, index, numbers}
-use Rattle.spill_law.proofs.Typed.{from}
-use Rattle.spill_law.proofs.Walks.{Full, get_front, get_end, Sources}
+use Rattle.spill_law.specs.Spill.{numbers, position}
+use Rattle.spill_law.proofs.Walks.{Full, get_front, get_end}
 
 -- a word of the program, spilled; p has the places of its tuples
 abbrev pub image : List ℕ → Word → Option EWord
@@ -210,24 +209,8 @@ word_case : (p : List ℕ) (r : RegWords) (e : EWord) (es : List EWord) (n q u :
 word_case p r e es n q u x t s true eq h f k = let same : u ≡ q = eqb-true u q eq in (h.0, e, ap r (sym same) ∙ h.1, h.2, refl, h.3)
 word_case p r e es n q u x t s false eq h f k = f k
 
-pub word_in : (p : List ℕ) (r : RegWords) (x : TFile) (es : List EWord) (q : ℕ) (t : Ty) → FrameHas p r (numbers x) es → lookup x q ≡ Some t → WordIn p r es (index x q) q
+pub word_in : (p : List ℕ) (r : RegWords) (x : TFile) (es : List EWord) (q : ℕ) (t : Ty) → FrameHas p r (numbers x) es → lookup x q ≡ Some t → WordIn p r es (position (numbers x) q) q
 word_in p r NoRegs es q t h k = cc
 word_in p r (MoreRegs u s x) [] q t h k = absurd h
-word_in p r (MoreRegs u s x) (e ∷ es) q t h k = word_case p r e es (index x q) q u x t s (nat_eq u q) refl h.0 (λ z. word_in p r x es q t h.1 z) k
+word_in p r (MoreRegs u s x) (e ∷ es) q t h k = word_case p r e es (position (numbers x) q) q u x t s (nat_eq u q) refl h.0 (λ z. word_in p r x es q t h.1 z) k
 
-module _ (B : List _) (K : EHeap) (f : ℕ) (fw : List EWord) (at : slice_get K f ≡ Some fw) (p : List ℕ) (r r2 : RegWords) (x : TFile) (new : Option ℕ) (three : Option EWord) (t : Ty)
-    (has : FrameHas p r (numbers x) fw)
-    (fresh : (q : ℕ) → is_new new q ≡ true → (w : Word) × (e : EWord) × (three ≡ Some e) × (r2 q ≡ Some w) × (image p w ≡ Some e) × Full e)
-    (old : (q : ℕ) → is_new new q ≡ false → r2 q ≡ r q) where
-  -- the words that a new frame is filled with
-  pub new_frame : (to : TFile) → FitsFile (from x new t) to → (ws : List EWord) × Sources B (index x) K f fw at new three (numbers to) ws × FrameHas p r2 (numbers to) ws
-  new_frame NoRegs h = ([], tt, tt)
-  new_frame (MoreRegs q u to) h =
-      let rest = new_frame to h.1 in
-      ⊎_elim
-      (λ (e : is_new new q ≡ true). let y = fresh q e in (y.1 ∷ rest.0, (inl (e, y.2), rest.1), ((y.0, y.3, y.4, y.5), rest.2)))
-      (λ (e : is_new new q ≡ false).
-      let k : lookup x q ≡ Some h.0.0 = sym (ap (λ z. cond z (Some t) (lookup x q)) e) ∙ h.0.1 in
-      let y = word_in p r x fw q h.0.0 has k in
-      (y.1 ∷ rest.0, (inr (e, y.4, y.5), rest.1), ((y.0, old q e ∙ y.2, y.3, y.5), rest.2)))
-      (either (is_new new q))

@@ -9,7 +9,7 @@ use Rattle.t_rules.specs.Rules.{Has, Typed, SeqAccepted}
 use Rattle.spill_law.specs.Spill.{type_of, next, numbers, target, value_reads, reads, live, among, kept, FewNames, FewNamesFile, values_of, ValuesFew, SeqFew}
 use Rattle.spill_law.specs.Reach.{type_reach, regs_reach, value_reach, instr_reach, seq_reach}
 use Rattle.spill_law.proofs.Files.{look_same, RisesFrom, Ascends, rises_ascends}
-use Rattle.spill_law.proofs.Computed.{value_is, next_is}
+use Rattle.spill_law.proofs.Computed.{value_is, next_is, ascends_next}
 use Rattle.spill_law.proofs.Live.{among_left, among_right, among_next, Sub, Agree, instr_agrees, value_agrees, next_agrees, next_sub, seq_agrees, kept_agrees, kept_sub, kept_ascends}
 
 -- each type of a file
@@ -63,12 +63,16 @@ all_reach k (MoreRegs r t x) h = let a = all_reach k x h.1 in omega (arith, a, h
 
 -- the same of what stays known along a sequence
 abbrev pub KeptFew : TProg → ℕ → TFile → TSeq → Type 0
-KeptFew P n x (Then i c) = ValuesFew P n x (values_of i) × FewNamesFile (names_after i n) (kept P x i c) × KeptFew P (names_after i n) (kept P x i c) c
+KeptFew P n x (Then i c) =
+    ValuesFew P n x (values_of i) × FewNamesFile (names_after i n) (kept P x i c)
+    × FewNamesFile (names_after i n) (next P x i) × KeptFew P (names_after i n) (kept P x i c) c
 KeptFew P n x (Ends (Jmp v)) = FewNames n (type_of P x v)
 KeptFew P n x (Ends Halt) = Unit {0}
 
 abbrev pub KeptReach : TProg → ℕ → TFile → TSeq → Type 0
-KeptReach P k x (Then i c) = (instr_reach P x i ≤ k) × (regs_reach (kept P x i c) ≤ k) × KeptReach P k (kept P x i c) c
+KeptReach P k x (Then i c) =
+    (instr_reach P x i ≤ k) × (regs_reach (kept P x i c) ≤ k) × (regs_reach (next P x i) ≤ k)
+    × KeptReach P k (kept P x i c) c
 KeptReach P k x (Ends (Jmp v)) = max (value_reach v) (type_reach (type_of P x v)) ≤ k
 KeptReach P k x (Ends Halt) = Unit {0}
 
@@ -82,6 +86,11 @@ module _ (P : TProg) where
 
   abbrev front : (n : ℕ) (y x : TFile) (i : TInstr) (c : TSeq) → Knows n y x (Then i c) → Agree (reads i ++ numbers (target P y i)) y x
   front n y x i c k r e = k.agree r (among_left r (reads i ++ numbers (target P y i)) (live P (next P y i) c) e)
+
+  -- what is known after an instruction, before it is kept
+  knows_sub : (n : ℕ) (y x : TFile) (i : TInstr) (c : TSeq) → Knows n y x (Then i c) → Sub (next P y i) (next P x i)
+  knows_sub n y x i c k =
+      let a = k.acc in next_sub P n y x i a.0 a.1 (instr_agrees P n y x i a.0 (front n y x i c k) a.1) k.sub
 
   -- and after an instruction
   pub knows_next : (n : ℕ) (y x : TFile) (i : TInstr) (c : TSeq) → Knows n y x (Then i c) → Knows (names_after i n) (next P y i) (kept P x i c) c
@@ -127,6 +136,7 @@ module _ (P : TProg) where
       let next = knows_next n y x i c k in (
         values_few n y x i c k f.0,
         all_few (names_after i n) (kept P x i c) (all_file (FewNames (names_after i n)) (kept P x i c) next.asc (λ r t e. all_at (FewNames (names_after i n)) _ r t (few_all (names_after i n) _ f.1) (next.sub r t e))),
+        all_few (names_after i n) _ (all_file (FewNames (names_after i n)) _ (ascends_next P x i k.asc) (λ r t e. all_at (FewNames (names_after i n)) _ r t (few_all (names_after i n) _ f.1) (knows_sub n y x i c k r t e))),
         kept_few c (names_after i n) _ (kept P x i c) next f.2,
       )
   kept_few (Ends (Jmp v)) n y x k f =
@@ -152,6 +162,7 @@ module _ (P : TProg) where
       let next = knows_next n y x i c k in (
         reach_same m n y x i c k (omega (arith, f)),
         all_reach m (kept P x i c) (all_file (Within m) (kept P x i c) next.asc (λ r t e. all_at (Within m) _ r t (reach_all m _ (omega (arith, f))) (next.sub r t e))),
+        all_reach m _ (all_file (Within m) _ (ascends_next P x i k.asc) (λ r t e. all_at (Within m) _ r t (reach_all m _ (omega (arith, f))) (knows_sub n y x i c k r t e))),
         kept_reach m c (names_after i n) _ (kept P x i c) next (omega (arith, f)),
       )
   kept_reach m (Ends (Jmp v)) n y x k f =

@@ -1,10 +1,15 @@
 pub mod Computed
 pub mod Erased
+pub mod Few
 pub mod Files
+pub mod Frames
 pub mod Heaps
+pub mod Homes
 pub mod Kept
 pub mod Live
+pub mod Lows
 pub mod Meaning
+pub mod Probe
 pub mod Reached
 pub mod Scopes
 pub mod Sim

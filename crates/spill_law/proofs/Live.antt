@@ -294,7 +294,7 @@ module _ (P : TProg) where
   base_same y z (Label l) ag = refl
   base_same y z (Data d) ag = refl
 
-  value_same : (y z : TFile) (v : TValue) → Agree (value_reads v) y z → type_of P z v ≡ type_of P y v
+  pub value_same : (y z : TFile) (v : TValue) → Agree (value_reads v) y z → type_of P z v ≡ type_of P y v
   value_same y z (Plain b []) ag = base_same y z b ag
   value_same y z (Plain b (u ∷ us)) ag = ap (λ t. applied_type t (u ∷ us)) (base_same y z b ag)
   value_same y z (Pack t v s) ag = refl
@@ -306,7 +306,7 @@ module _ (P : TProg) where
   shifted_alike : (y z : TFile) (r : ℕ) → lookup z r ≡ lookup y r → lookup (shift_file 1 0 z) r ≡ lookup (shift_file 1 0 y) r
   shifted_alike y z r a = sym (ap (λ g. g r) (raised_lookup z)) ∙ ap (option_map (shift 1 0)) a ∙ ap (λ g. g r) (raised_lookup y)
 
-  next_alike : (y z : TFile) (i : TInstr) → Agree (reads i) y z → (r : ℕ) → lookup z r ≡ lookup y r → lookup (next P z i) r ≡ lookup (next P y i) r
+  pub next_alike : (y z : TFile) (i : TInstr) → Agree (reads i) y z → (r : ℕ) → lookup z r ≡ lookup y r → lookup (next P z i) r ≡ lookup (next P y i) r
   next_alike y z (Arith op rd rs v) ag r a = ins_alike y z rd IntTy IntTy r refl a
   next_alike y z (Bnz q v) ag r a = a
   next_alike y z (Ld rd rs i) ag r a = ins_alike y z rd _ _ r (ap (λ o. field_type (or_int o) i) (ag rs (among_first rs []))) a
@@ -316,7 +316,7 @@ module _ (P : TProg) where
   next_alike y z (Unpack rd v) ag r a =
       ins_alike (shift_file 1 0 y) (shift_file 1 0 z) rd _ _ r (ap hidden_type (value_same y z v ag)) (shifted_alike y z r a)
 
-  target_alike : (y z : TFile) (i : TInstr) → Agree (reads i) y z → target P z i ≡ target P y i
+  pub target_alike : (y z : TFile) (i : TInstr) → Agree (reads i) y z → target P z i ≡ target P y i
   target_alike y z (Bnz r v) ag = ap target_file (value_same y z v (λ q e. ag q (among_next q r (value_reads v) e)))
   target_alike y z (Arith op rd rs v) ag = refl
   target_alike y z (Ld rd rs i) ag = refl
@@ -325,7 +325,7 @@ module _ (P : TProg) where
   target_alike y z (St rd i rs) ag = refl
   target_alike y z (Unpack rd v) ag = refl
 
-  end_alike : (y z : TFile) (e : TEnd) → Agree (end_reads e) y z → end_target P z e ≡ end_target P y e
+  pub end_alike : (y z : TFile) (e : TEnd) → Agree (end_reads e) y z → end_target P z e ≡ end_target P y e
   end_alike y z (Jmp v) ag = ap target_file (value_same y z v ag)
   end_alike y z Halt ag = refl
 

@@ -18,14 +18,16 @@ use Rattle.t_rules.proofs.Erasing.{heap_erased}
 use Rattle.t_rules.proofs.Words.{rises_same}
 use Rattle.t_rules.proofs.OneStep.{step_one, halted_no_step, halted_one}
 use Rattle.t_rules.proofs.Runs.{closed_labels, closed_data, blocks_typed, states_typed, runs_on, one_answer}
-use Rattle.spill_law.specs.Spill.{code, sizes, numbers, sp_base, sp_blocks, sp_data, entry, spilled}
-use Rattle.spill_law.proofs.Files.{Ascends}
+use Rattle.spill_law.specs.Spill.{frame_reg, code, sizes, layout, numbers, sp_base, sp_blocks, sp_data, sp_file, entry, spilled_above}
+use Rattle.spill_law.proofs.Files.{Ascends, look_same}
 use Rattle.spill_law.proofs.Typed.{at_map, labels_of, blocks_ascend, kept_types}
 use Rattle.spill_law.proofs.Walks.{walk, on_next, enter_step, get_front, get_end}
 use Rattle.spill_law.proofs.Erased.{erase_sp}
 use Rattle.t_rules.specs.Registers.{with_reg}
 use Rattle.spill_law.proofs.Heaps.{image, Images, Heaps, get_there, FrameHas}
-use Rattle.spill_law.proofs.Sim.{Alike, ELabels, Matches, Seg, Sized, Ending, Follows, follows, tail_sizes, tail_left}
+use Rattle.spill_law.proofs.Frames.{Alike, framed}
+use Rattle.spill_law.proofs.Erased.{highs, slots_left}
+use Rattle.spill_law.proofs.Sim.{ELabels, Matches, Seg, Sized, Ending, Follows, follows, tail_sizes, tail_left}
 
 -- sums that compute
 abbrev pub plus : ℕ → ℕ → ℕ
@@ -170,8 +172,8 @@ map_at f (x ∷ xs) zero y e = let z : f x ≡ y = cc in (x, refl, sym z)
 map_at f (x ∷ xs) (suc i) y e = map_at f xs i y e
 
 -- what stands in data, spilled
-module _ (P : TProg) where
-  value_image : (p n : ℕ) (v : TValue) → WellFormedValue p (length P.heap) n v → image (row 0 P.heap) (data_word v) ≡ Some (held (base_word no_ewords (sp_base (erase_value v))))
+module _ (top : ℕ) (P : TProg) where
+  value_image : (p n : ℕ) (v : TValue) → WellFormedValue p (length P.heap) n v → image (row 0 P.heap) (data_word v) ≡ Some (held (base_word no_ewords (sp_base (λ r. 1) (erase_value v))))
   value_image p n (Plain (Reg r) ts) h = refl
   value_image p n (Plain (Int i) ts) h = refl
   value_image p n (Plain (Label l) ts) h = refl
@@ -179,57 +181,57 @@ module _ (P : TProg) where
       let x = get_there P.heap d h.0 in ap (option_map EAddress) (row_here P.heap d x.0 x.1)
   value_image p n (Pack t v s) h = value_image p n v h.1
 
-  data_images : (p : ℕ) (xs : TData) → WellFormedData p (length P.heap) xs → Images (row 0 P.heap) (map (λ x. data_word x.value) xs) (map erase_datum (sp_data xs))
+  data_images : (p : ℕ) (xs : TData) → WellFormedData p (length P.heap) xs → Images (row 0 P.heap) (map (λ x. data_word x.value) xs) (map erase_datum (sp_data top xs))
   data_images p [] h = tt
   data_images p (x ∷ xs) h =
-      (value_image p 0 x.value h.0.0 ∙ ap (λ b. Some (held (base_word no_ewords b))) (sym (erase_sp x.value)), data_images p xs h.1)
+      (value_image p 0 x.value h.0.0 ∙ ap (λ b. Some (held (base_word no_ewords b))) (sym (erase_sp top (λ r. 1) x.value)), data_images p xs h.1)
 
   heap_datum : (p q : ℕ) (hs : List TData) → WellFormedHeap p q hs → (d : ℕ) (x : TData) → slice_get hs d ≡ Some x → WellFormedData p q x
   heap_datum p q [] w d x e = cc
   heap_datum p q (y ∷ hs) w zero x e = let s : y ≡ x = cc in subst (WellFormedData p q) s w.0
   heap_datum p q (y ∷ hs) w (suc d) x e = heap_datum p q hs w.1 d x e
 
-  data_length : length (erase_heap (spilled P)) ≡ length P.heap
-  data_length = length-map (map sp_data P.heap) (map erase_datum) ∙ length-map P.heap sp_data
+  data_length : length (erase_heap (spilled_above top P)) ≡ length P.heap
+  data_length = length-map (map (sp_data top) P.heap) (map erase_datum) ∙ length-map P.heap (sp_data top)
 
   -- the heap of data, and an empty frame
   abbrev pub entered : EHeap
-  entered = erase_heap (spilled P) ++ ([] ∷ [])
+  entered = erase_heap (spilled_above top P) ++ ([] ∷ [])
 
   abbrev pub entered_regs : ERegs
-  entered_regs = with_reg no_ewords 1 (EAddress (length (erase_heap (spilled P))))
+  entered_regs = with_reg no_ewords (frame_reg top) (EAddress (length (erase_heap (spilled_above top P))))
 
-  data_heaps : Whole P → Heaps (row 0 P.heap) (start_heap P) (erase_heap (spilled P) ++ ([] ∷ []))
+  data_heaps : Whole P → Heaps (row 0 P.heap) (start_heap P) (erase_heap (spilled_above top P) ++ ([] ∷ []))
   data_heaps w = record {
     same = λ a ws e.
         let x = map_at (map (λ x. data_word x.value)) P.heap a ws e in
-        let there : slice_get (erase_heap (spilled P)) a ≡ Some (map erase_datum (sp_data x.0)) = at_map (map erase_datum) (map sp_data P.heap) a (sp_data x.0) (at_map sp_data P.heap a x.0 x.1) in (
+        let there : slice_get (erase_heap (spilled_above top P)) a ≡ Some (map erase_datum (sp_data top x.0)) = at_map (map erase_datum) (map (sp_data top) P.heap) a (sp_data top x.0) (at_map (sp_data top) P.heap a x.0 x.1) in (
           a,
-          map erase_datum (sp_data x.0),
+          map erase_datum (sp_data top x.0),
           row_here P.heap a x.0 x.1,
-          get_front (erase_heap (spilled P)) ([] ∷ []) a (map erase_datum (sp_data x.0)) there,
-          subst (λ z. Images (row 0 P.heap) z (map erase_datum (sp_data x.0))) (sym x.2) (data_images (length P.blocks) x.0 (heap_datum (length P.blocks) (length P.heap) P.heap w.2 a x.0 x.1)),
+          get_front (erase_heap (spilled_above top P)) ([] ∷ []) a (map erase_datum (sp_data top x.0)) there,
+          subst (λ z. Images (row 0 P.heap) z (map erase_datum (sp_data top x.0))) (sym x.2) (data_images (length P.blocks) x.0 (heap_datum (length P.blocks) (length P.heap) P.heap w.2 a x.0 x.1)),
         );
     size = row_length 0 P.heap ∙ sym (length-map P.heap (map (λ x. data_word x.value)));
     apart = λ a b x e k. let i = row_only 0 P.heap a x e in let j = row_only 0 P.heap b x k in omega (arith, i.0, j.0);
   }
 
-pub elabels : (P : TProg) → ELabels P (erase_blocks (spilled P))
-elabels P l b e = slice_get-map erase_block (sp_blocks P P.blocks) l ∙ ap (option_map erase_block) (labels_of P l b e)
+pub elabels : (top : ℕ) (P : TProg) → ELabels top P (erase_blocks (spilled_above top P))
+elabels top P l b e = slice_get-map erase_block (sp_blocks top P P.blocks) l ∙ ap (option_map erase_block) (labels_of top P l b e)
 
-module _ (P : TProg) (whole : Whole P) (acc : Accepted P) where
+module _ (top : ℕ) (some : 1 ≤ top) (P : TProg) (whole : Whole P) (acc : Accepted P) where
   abbrev B : List ESeq
-  B = erase_blocks (spilled P)
+  B = erase_blocks (spilled_above top P)
 
-  pub follow : (s : State) (e : EState) (m : Matches P s e) → Follows P (erase_blocks (spilled P)) (tail_sizes P m.file (code_of s)) (tail_left P m.file (code_of s)) s e
-  follow s e m = follows P (closed_labels P whole) (closed_data P whole) (blocks_typed P acc) (erase_blocks (spilled P)) (elabels P) (blocks_ascend P whole) s e m
+  pub follow : (s : State) (e : EState) (m : Matches top P s e) → Follows top P (erase_blocks (spilled_above top P)) (tail_sizes top P m.lay m.file (code_of s)) (tail_left top P m.lay m.file (code_of s)) s e
+  follow s e m = follows top some P (closed_labels P whole) (closed_data P whole) (blocks_typed P acc) (erase_blocks (spilled_above top P)) (elabels top P) (blocks_ascend P whole) s e m
 
   -- the start
   first_block : (bs : List TBlock) → FirstTakesNothing bs → (b : TBlock) → slice_get bs 0 ≡ Some b → (b.owes ≡ 0) × (b.file ≡ NoRegs)
   first_block [] a b e = cc
   first_block (x ∷ bs) a b e = let s : x ≡ b = cc in subst (λ y. (y.owes ≡ 0) × (y.file ≡ NoRegs)) s a
 
-  pub starts : (s : State) (b : TBlock) → slice_get P.blocks 0 ≡ Some b → s ≡ At (start_heap P) no_words b.code → Matches P s (EAt (entered P) (entered_regs P) (erase_seq (code P b.file b.code)))
+  pub starts : (s : State) (b : TBlock) → slice_get P.blocks 0 ≡ Some b → s ≡ At (start_heap P) no_words b.code → Matches top P s (EAt (entered top P) (entered_regs top P) (erase_seq (code top P (layout top b.file) b.file b.code)))
   starts s b e same =
       let f = first_block P.blocks acc.0 b e in
       let none = f.1 in
@@ -238,30 +240,33 @@ module _ (P : TProg) (whole : Whole P) (acc : Accepted P) where
         types = start_types P;
         places = row 0 P.heap;
         file = b.file;
-        eheap = entered P;
-        eregs = entered_regs P;
+        eheap = entered top P;
+        eregs = entered_regs top P;
         heap = subst (λ z. HeapHas P (start_types P) (heap_of z)) (sym same) typed.0;
         regs = λ q t k. let y : None ≡ Some t = sym (ap (λ x. lookup x q) none) ∙ k in cc;
         acc = subst (λ z. SeqAccepted P 0 (lookup b.file) (code_of z)) (sym same) (subst (λ n. SeqAccepted P n (lookup b.file) b.code) f.0 (blocks_typed P acc 0 b e).1);
         asc = subst Ascends (sym none) tt;
         up = rises_same (start_types P);
         still = λ d x k. row_here P.heap d x k;
-        alike = subst (λ z. Alike (row 0 P.heap) b.file (heap_of z) (regs_of z) (entered P) (entered_regs P)) (sym same) (record {
-          heaps = data_heaps P whole;
-          f = length (erase_heap (spilled P));
-          fw = [];
-          one = refl;
-          at = get_end (erase_heap (spilled P)) [] [];
-          out = λ a k. let r = row_only 0 P.heap a (length (erase_heap (spilled P))) k in let l = data_length P in absurd (omega (arith, r.0, r.1, l));
-          has = subst (λ x. FrameHas (row 0 P.heap) no_words (numbers x) []) (sym none) tt;
-        });
-        is = ap (λ z. EAt (entered P) (entered_regs P) (erase_seq (code P b.file (code_of z)))) (sym same);
+        lay = layout top b.file;
+        alike = subst (λ z. Alike top (row 0 P.heap) b.file (layout top b.file) (slots_left top 0 (code_of z)) (heap_of z) (regs_of z) (entered top P) (entered_regs top P)) (sym same)
+            (framed top (row 0 P.heap) b.file (slots_left top 0 b.code) (start_heap P) no_words (entered top P) (entered_regs top P) (length (erase_heap (spilled_above top P))) [] (data_heaps top P whole)
+            (look_same no_ewords (frame_reg top) (EAddress (length (erase_heap (spilled_above top P))))) (get_end (erase_heap (spilled_above top P)) [] [])
+            (λ a k. let r = row_only 0 P.heap a (length (erase_heap (spilled_above top P))) k in let l = data_length top P in absurd (omega (arith, r.0, r.1, l)))
+            (subst (λ x. FrameHas (row 0 P.heap) no_words (highs top x) []) (sym none) tt)
+            (λ q t le k. let y : None ≡ Some t = sym (ap (λ x. lookup x q) none) ∙ k in cc));
+        is = ap (λ z. EAt (entered top P) (entered_regs top P) (erase_seq (code top P (layout top b.file) b.file (code_of z)))) (sym same);
       }
 
   -- its file is the first block's
   pub start_file : (s : State) (b : TBlock) (e : slice_get P.blocks 0 ≡ Some b) (same : s ≡ At (start_heap P) no_words b.code) → (starts s b e same).file ≡ b.file
   unfolding starts
   start_file s b e same = refl
+
+  -- and its layout
+  pub start_lay : (s : State) (b : TBlock) (e : slice_get P.blocks 0 ≡ Some b) (same : s ≡ At (start_heap P) no_words b.code) → (starts s b e same).lay ≡ layout top b.file
+  unfolding starts
+  start_lay s b e same = refl
 
   -- the state after m steps has a state, after as many steps at least, that stands for it
   pub record Met (m : ℕ) (s : State) : Type 0 where
@@ -270,40 +275,40 @@ module _ (P : TProg) (whole : Whole P) (acc : Accepted P) where
     pub e : EState
     pub p : Place
     pub log : List Place
-    pub there : after (erase_blocks (spilled P)) j (start_of (spilled P) entry) ≡ Some (On e p log)
-    pub matches : Matches P s e
+    pub there : after (erase_blocks (spilled_above top P)) j (start_of (spilled_above top P) (entry top)) ≡ Some (On e p log)
+    pub matches : Matches top P s e
 
-  seg_runs : (low : ℕ) (k : Where) (e f : EState) (p : Place) (log : List Place) → Seg (erase_blocks (spilled P)) low e k f → (j : ℕ) × (q : Place) × (log2 : List Place) × (1 ≤ j) × (after (erase_blocks (spilled P)) j (On e p log) ≡ Some (On f q log2))
+  seg_runs : (low : ℕ) (k : Where) (e f : EState) (p : Place) (log : List Place) → Seg (erase_blocks (spilled_above top P)) low e k f → (j : ℕ) × (q : Place) × (log2 : List Place) × (1 ≤ j) × (after (erase_blocks (spilled_above top P)) j (On e p log) ≡ Some (On f q log2))
   seg_runs low Next e f p log s =
       let x = s.0.by 0 in
-      (x.0, ahead p x.0, trace p x.0 log, omega (arith, x.1), walk_runs (erase_blocks (spilled P)) x.0 e f p log x.2)
+      (x.0, ahead p x.0, trace p x.0 log, omega (arith, x.1), walk_runs (erase_blocks (spilled_above top P)) x.0 e f p log x.2)
   seg_runs low (Into l) e f p log s =
       let w = s.1 in
       let x = w.by 0 in
-      let a = walk_runs (erase_blocks (spilled P)) x.0 e s.0 p log x.2 in
+      let a = walk_runs (erase_blocks (spilled_above top P)) x.0 e s.0 p log x.2 in
       let pl = plus_is x.0 1 in
-      (plus x.0 1, moved (ahead p x.0) (Into (suc l)), ahead p x.0 ∷ trace p x.0 log, omega (arith, pl), after_on (erase_blocks (spilled P)) x.0 1 (On e p log) (On s.0 (ahead p x.0) (trace p x.0 log)) a ∙ ap (λ o. so (option_map (went (ahead p x.0) (trace p x.0 log)) o) (after (erase_blocks (spilled P)) 0)) s.2)
+      (plus x.0 1, moved (ahead p x.0) (Into (suc l)), ahead p x.0 ∷ trace p x.0 log, omega (arith, pl), after_on (erase_blocks (spilled_above top P)) x.0 1 (On e p log) (On s.0 (ahead p x.0) (trace p x.0 log)) a ∙ ap (λ o. so (option_map (went (ahead p x.0) (trace p x.0 log)) o) (after (erase_blocks (spilled_above top P)) 0)) s.2)
 
   pub meets : (m : ℕ) (s : State) (p : Place) → After P m s p → Met m s
   meets zero s p run =
       let k = run.0 in
-      let st = enter_step (erase_blocks (spilled P)) (entered P) (entered_regs P) (Label 1) 1 (erase_seq (code P k.0.file k.0.code)) refl (elabels P 0 k.0 k.1) in
+      let st = enter_step (erase_blocks (spilled_above top P)) (entered top P) (entered_regs top P) (Label 1) 1 (erase_seq (code top P (layout top k.0.file) k.0.file k.0.code)) refl (elabels top P 0 k.0 k.1) in
       record {
         j = 2;
         more = omega arith;
-        e = EAt (entered P) (entered_regs P) (erase_seq (code P k.0.file k.0.code));
+        e = EAt (entered top P) (entered_regs top P) (erase_seq (code top P (layout top k.0.file) k.0.file k.0.code));
         p = Spot 1 0;
         log = Spot 0 1 ∷ Spot 0 0 ∷ [];
-        there = ap (λ o. so (option_map (went (Spot 0 1) (Spot 0 0 ∷ [])) o) (after (erase_blocks (spilled P)) 0)) st;
+        there = ap (λ o. so (option_map (went (Spot 0 1) (Spot 0 0 ∷ [])) o) (after (erase_blocks (spilled_above top P)) 0)) st;
         matches = starts s k.0 k.1 k.2;
       }
   meets (suc m) s p run =
       let x = meets m run.0 run.1 run.3 in
       ⊎_elim
-      (λ (y : (i : ℤ) × HaltedWith run.0 i × Ending (erase_blocks (spilled P)) x.e i). absurd (halted_no_step P run.0 y.0 y.1 run.2 s run.4))
-      (λ (y : (k : Where) × (t : State) × (f : EState) × Step P run.0 k t × Seg (erase_blocks (spilled P)) (tail_left P x.matches.file (code_of run.0)) x.e k f × (m : Matches P t f) × Sized P (tail_sizes P x.matches.file (code_of run.0)) k (sizes P m.file (code_of t))).
+      (λ (y : (i : ℤ) × HaltedWith run.0 i × Ending (erase_blocks (spilled_above top P)) x.e i). absurd (halted_no_step P run.0 y.0 y.1 run.2 s run.4))
+      (λ (y : (k : Where) × (t : State) × (f : EState) × Step P run.0 k t × Seg (erase_blocks (spilled_above top P)) (tail_left top P x.matches.lay x.matches.file (code_of run.0)) x.e k f × (m : Matches top P t f) × Sized top P (tail_sizes top P x.matches.lay x.matches.file (code_of run.0)) k (sizes top P m.lay m.file (code_of t))).
       let one = step_one P run.0 y.1 s y.0 run.2 y.3 run.4 in
-      let z = seg_runs (tail_left P x.matches.file (code_of run.0)) y.0 x.e y.2 x.p x.log y.4 in
+      let z = seg_runs (tail_left top P x.matches.lay x.matches.file (code_of run.0)) y.0 x.e y.2 x.p x.log y.4 in
       let pl = plus_is x.j z.0 in
       record {
         j = plus x.j z.0;
@@ -311,56 +316,56 @@ module _ (P : TProg) (whole : Whole P) (acc : Accepted P) where
         e = y.2;
         p = z.1;
         log = z.2;
-        there = after_on (erase_blocks (spilled P)) x.j z.0 (start_of (spilled P) entry) (On x.e x.p x.log) x.there ∙ z.4;
-        matches = subst (λ t. Matches P t y.2) one.1 y.5;
+        there = after_on (erase_blocks (spilled_above top P)) x.j z.0 (start_of (spilled_above top P) (entry top)) (On x.e x.p x.log) x.there ∙ z.4;
+        matches = subst (λ t. Matches top P t y.2) one.1 y.5;
       })
       (follow run.0 x.e x.matches)
 
   -- forth: at the end of P's run
-  ends : (m : ℕ) (s : State) (p : Place) → After P m s p → (i : ℤ) → HaltedWith s i → (j : ℕ) × (h : EHeap) × (r : ERegs) × (q : Place) × (log : List Place) × (after (erase_blocks (spilled P)) j (start_of (spilled P) entry) ≡ Some (On (EAt h r EHalt) q log)) × (r 1 ≡ Some (EInt i))
+  ends : (m : ℕ) (s : State) (p : Place) → After P m s p → (i : ℤ) → HaltedWith s i → (j : ℕ) × (h : EHeap) × (r : ERegs) × (q : Place) × (log : List Place) × (after (erase_blocks (spilled_above top P)) j (start_of (spilled_above top P) (entry top)) ≡ Some (On (EAt h r EHalt) q log)) × (r 1 ≡ Some (EInt i))
   ends m s p run i halted =
       let x = meets m s p run in
       ⊎_elim
-      (λ (y : (i : ℤ) × HaltedWith s i × Ending (erase_blocks (spilled P)) x.e i).
+      (λ (y : (i : ℤ) × HaltedWith s i × Ending (erase_blocks (spilled_above top P)) x.e i).
       let same = halted_one s y.0 i y.1 halted in
       let en = y.2 in
-      let w = en.moves.by 0 in (
+      let w = en.walks.by 0 in (
         plus x.j w.0,
         en.eheap,
         en.eregs,
         ahead x.p w.0,
         trace x.p w.0 x.log,
-        after_on (erase_blocks (spilled P)) x.j w.0 (start_of (spilled P) entry) (On x.e x.p x.log) x.there ∙ walk_runs (erase_blocks (spilled P)) w.0 x.e _ x.p x.log w.2,
+        after_on (erase_blocks (spilled_above top P)) x.j w.0 (start_of (spilled_above top P) (entry top)) (On x.e x.p x.log) x.there ∙ walk_runs (erase_blocks (spilled_above top P)) w.0 x.e _ x.p x.log w.2,
         en.answer ∙ ap (λ z. Some (EInt z)) same,
       ))
-      (λ (y : (k : Where) × (t : State) × (f : EState) × Step P s k t × Seg (erase_blocks (spilled P)) (tail_left P x.matches.file (code_of s)) x.e k f × (m : Matches P t f) × Sized P (tail_sizes P x.matches.file (code_of s)) k (sizes P m.file (code_of t))). absurd (halted_no_step P s i halted y.0 y.1 y.3))
+      (λ (y : (k : Where) × (t : State) × (f : EState) × Step P s k t × Seg (erase_blocks (spilled_above top P)) (tail_left top P x.matches.lay x.matches.file (code_of s)) x.e k f × (m : Matches top P t f) × Sized top P (tail_sizes top P x.matches.lay x.matches.file (code_of s)) k (sizes top P m.lay m.file (code_of t))). absurd (halted_no_step P s i halted y.0 y.1 y.3))
       (follow s x.e x.matches)
 
-  module _ (whole2 : Whole (spilled P)) where
-    pub forth : (i : ℤ) → Halts P i → Halts (spilled P) i
+  module _ (whole2 : Whole (spilled_above top P)) where
+    pub forth : (i : ℤ) → Halts P i → Halts (spilled_above top P) i
     forth i h =
         let x = h.1 in
         let y = ends x.0 x.2.0 x.2.1 x.2.2 i x.2.3 in
-        (y.0, halts_typed (spilled P) whole2 (kept_types P whole acc) entry refl y.0 (EAt y.1 y.2 EHalt) y.3 y.4 i y.5 y.6)
+        (y.0, halts_typed (spilled_above top P) whole2 (kept_types top P some whole acc) (entry top) refl y.0 (EAt y.1 y.2 EHalt) y.3 y.4 i y.5 y.6)
 
-    pub back : (n : ℕ) (i : ℤ) → HaltsWithin (spilled P) n i → HaltsWithin P n i
+    pub back : (n : ℕ) (i : ℤ) → HaltsWithin (spilled_above top P) n i → HaltsWithin P n i
     back n i h =
         let m = h.0 in
         let le = h.1 in
-        let r = run_logged (spilled P) whole2 (kept_types P whole acc) entry refl h.0 h.2.0 h.2.1 h.2.2 in
+        let r = run_logged (spilled_above top P) whole2 (kept_types top P some whole acc) (entry top) refl h.0 h.2.0 h.2.1 h.2.2 in
         ⊎_elim
         (λ (x : (s : State) × (p : Place) × After P (suc h.0) s p).
         let y = meets (suc h.0) x.0 x.1 x.2 in
         let d : ℕ = y.j - suc h.0 in
         let pl = plus_is h.0 (suc (y.j - suc h.0)) in
         let e : plus h.0 (suc (y.j - suc h.0)) ≡ y.j = omega (arith, pl, y.more) in
-        let none = halts_last (erase_blocks (spilled P)) h.0 (y.j - suc h.0) (start_of (spilled P) entry) (erase h.2.0) h.2.1 (places (spilled P) h.0 h.2.0 h.2.1 h.2.2) i r (halted_erased h.2.0 i h.2.3) in
-        let z : None ≡ Some (On y.e y.p y.log) = sym none ∙ ap (λ k. after (erase_blocks (spilled P)) k (start_of (spilled P) entry)) e ∙ y.there in
+        let none = halts_last (erase_blocks (spilled_above top P)) h.0 (y.j - suc h.0) (start_of (spilled_above top P) (entry top)) (erase h.2.0) h.2.1 (places (spilled_above top P) h.0 h.2.0 h.2.1 h.2.2) i r (halted_erased h.2.0 i h.2.3) in
+        let z : None ≡ Some (On y.e y.p y.log) = sym none ∙ ap (λ k. after (erase_blocks (spilled_above top P)) k (start_of (spilled_above top P) (entry top))) e ∙ y.there in
         absurd (differ z))
         (λ (x : (k : ℕ) × (s : State) × (p : Place) × (j : ℤ) × (k < suc h.0) × After P k s p × HaltedWith s j).
         let lt = x.4 in
         let f = forth x.3 (x.0, (x.0, omega arith, (x.1, x.2, x.5, x.6))) in
-        let same : x.3 ≡ i = one_answer (spilled P) f.0 n x.3 i f.1 h in
+        let same : x.3 ≡ i = one_answer (spilled_above top P) f.0 n x.3 i f.1 h in
         (x.0, omega (arith, lt, le), (x.1, x.2, x.5, subst (HaltedWith x.1) same x.6)))
         (runs_on P whole acc (suc h.0))
       where

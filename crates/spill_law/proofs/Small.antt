@@ -9,7 +9,7 @@ use Rattle.t_rules.specs.Rules.{Accepted}
 use Rattle.t_rules.specs.Machine.{State, Place, Spot, After}
 use Rattle.t_rules.specs.Times.{places, Times, Entries}
 use Rattle.t_terms.specs.Nesting.{type_nesting, regs_nesting, fields_nesting, types_nesting, value_nesting, instr_nesting, seq_nesting, blocks_nesting, data_nesting, heap_nesting, nesting}
-use Rattle.spill_law.specs.Spill.{next, spilled, TypesFew}
+use Rattle.spill_law.specs.Spill.{next, lows, spilled, TypesFew}
 use Rattle.spill_law.specs.Bound.{RegistersUpTo}
 use Rattle.spill_law.specs.Bounded.{Spills}
 use Rattle.spill_law.specs.Correct.{times_in, CountsKept, origin}
@@ -17,7 +17,9 @@ use Rattle.spill_law.specs.Reach.{type_reach, regs_reach, fields_reach, types_re
 use Rattle.spill_law.proofs.Heaps.{either}
 use Rattle.spill_law.proofs.Standing.{standing_within_entries}
 use Rattle.spill_law.proofs.Typed.{kept_types}
-use Rattle.spill_law.proofs.Wholes.{whole, few_registers}
+use Rattle.spill_law.proofs.Lows.{one_low, six_more, six_fit}
+use Rattle.spill_law.proofs.Wholes.{whole}
+use Rattle.spill_law.proofs.Few.{few_registers}
 use Rattle.spill_law.proofs.Meaning.{forth, back}
 use Rattle.spill_law.proofs.Visits.{cnt_is, counts_kept}
 use Rattle.spill_law.proofs.Reached.{within_twenty}
@@ -100,15 +102,19 @@ same k P w a few = record {
   shallow = λ f. let x = whole_most P f in omega (arith, x);
 }
 
-pub framed : (k : ℕ) (P : TProg) → 8 ≤ k → Whole P → Accepted P → TypesFew P → Spills k P (spilled P) (origin P)
-framed k P most w a f = record {
-  accepted = kept_types P w a;
-  whole = whole P w a f;
-  few = few_registers k most P;
-  alike = record { forth = forth P w a (whole P w a f); back = back P w a (whole P w a f) };
-  counts = counts_kept P w a (whole P w a f);
-  shallow = within_twenty P w a;
-}
+pub framed : (k : ℕ) (P : TProg) → 8 ≤ k → Whole P → Accepted P → TypesFew P → Spills k P (spilled k P) (origin k P)
+framed k P most w a f =
+    record {
+      accepted = kept_types (lows k) P (one_low k most) w a;
+      whole = whole (lows k) P (six_fit k most) w a f;
+      few = few_registers k (lows k) (six_more k most) P;
+      alike = record {
+        forth = forth (lows k) (one_low k most) P w a (whole (lows k) P (six_fit k most) w a f);
+        back = back (lows k) (one_low k most) P w a (whole (lows k) P (six_fit k most) w a f);
+      };
+      counts = counts_kept (lows k) (one_low k most) P w a (whole (lows k) P (six_fit k most) w a f);
+      shallow = within_twenty (lows k) P w a;
+    }
 
 -- where no block of the program is entered more than n times, no place is executed more than n times
 pub within_entries : (P Q : TProg) (from : Place → Place) → CountsKept P Q from → (n : ℕ) → ((m : ℕ) (s : State) (p : Place) (run : After P m s p) (b : ℕ) → Entries P m s p run b ≤ n) →

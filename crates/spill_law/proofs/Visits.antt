@@ -18,13 +18,13 @@ use Rattle.idx_core.specs.Arith.{is_zero}
 use Rattle.t_rules.specs.Registers.{with_reg}
 use Rattle.t_rules.proofs.OneStep.{step_one, halted_no_step}
 use Rattle.t_rules.proofs.Runs.{runs_on}
-use Rattle.spill_law.specs.Spill.{kept, step_size, sizes, thens, code, entry, spilled, sp_block}
-use Rattle.spill_law.specs.Correct.{origin_in, sizes_of, origin, IsPlace, times_in, CountsKept}
+use Rattle.spill_law.specs.Spill.{Layout, layout, after as laid, kept, step_size, sizes, thens, code, entry, spilled_above, sp_block}
+use Rattle.spill_law.specs.Correct.{origin_in, sizes_of, origin_above, IsPlace, times_in, CountsKept}
 use Rattle.spill_law.proofs.Typed.{kept_types}
-use Rattle.spill_law.proofs.Erased.{esize, step_then, erase_step}
+use Rattle.spill_law.proofs.Erased.{esize, step_then, erase_then, slots_left, highs}
 use Rattle.spill_law.proofs.Walks.{walk, on_next, enter_step}
 use Rattle.spill_law.proofs.Sim.{Matches, Seg, Sized, Ending, tail_sizes, tail_left}
-use Rattle.spill_law.proofs.Meaning.{plus, plus_is, PState, On, went, so, after, after_on, ahead, trace, walk_runs, halts_last, start_of, run_logged, follow, entered, entered_regs, starts, start_file, elabels}
+use Rattle.spill_law.proofs.Meaning.{plus, plus_is, PState, On, went, so, after, after_on, ahead, trace, walk_runs, halts_last, start_of, run_logged, follow, entered, entered_regs, starts, start_file, start_lay, elabels}
 
 -- how often a place is in a list
 abbrev pub here : ℕ → ℕ → Place → ℕ
@@ -102,9 +102,9 @@ origin_most (n ∷ ns) k = go (nat_lt k n) (origin_most ns (k - n))
     go true h = omega arith
     go false h = omega arith
 
-sizes_length : (P : TProg) (c : TSeq) (x : TFile) → length (sizes P x c) ≡ thens c
-sizes_length P (Then i c) x = ap suc (sizes_length P c (kept P x i c))
-sizes_length P (Ends e) x = refl
+sizes_length : (top : ℕ) (P : TProg) (c : TSeq) (L : Layout) (x : TFile) → length (sizes top P L x c) ≡ thens c
+sizes_length top P (Then i c) L x = ap suc (sizes_length top P c (laid top L i (kept P x i c)) (kept P x i c))
+sizes_length top P (Ends e) L x = refl
 
 -- a step to the next instruction leaves one instruction less
 int_some : {A : Type 0} {x : A} (o : Option EWord) (go : ℤ → Option A) → on_int o go ≡ Some x → (i : ℤ) × (go i ≡ Some x)
@@ -214,27 +214,31 @@ walk_part B (suc j) (suc x) e g le h = go (estep B e) h (λ s k. walk_part B j x
     go (Some (EGoes Next s)) k f = f s k
 
 -- the size of the code in front of what is left behind an instruction
-head_size : (P : TProg) (x : TFile) (c : TSeq) (z : ℕ) → tail_left P x c ≡ suc z → (n : ℕ) × (sizes P x c ≡ n ∷ tail_sizes P x c) × (esize (erase_seq (code P x c)) ≡ n + z)
-head_size P x (Then i c) z e =
-    let a = ap esize (erase_step P x i (kept P x i c) (code P (kept P x i c) c)) in
-    let b = step_then P x i (kept P x i c) (erase_seq (code P (kept P x i c) c)) in
-    (step_size P x i (kept P x i c), refl, omega (arith, a, b, e))
-head_size P x (Ends t) z e = cc
+head_size : (top : ℕ) (P : TProg) (L : Layout) (x : TFile) (c : TSeq) (z : ℕ) → tail_left top P L x c ≡ suc z →
+    (n : ℕ) × (sizes top P L x c ≡ n ∷ tail_sizes top P L x c) × (esize (erase_seq (code top P L x c)) ≡ n + z)
+head_size top P L x (Then i c) z e =
+    let to = kept P x i c in
+    let a = ap esize (erase_then top P L x i c) in
+    let b = step_then top P L x i to (slots_left top L.used (Then i c)) (erase_seq (code top P (laid top L i to) to c)) in
+    (step_size top P L x i (kept P x i c), refl, omega (arith, a, b, e))
+head_size top P L x (Ends t) z e = cc
 
 -- with j steps, of which the last may lead away, an instruction's code isn't left behind
-within : (P : TProg) (x : TFile) (c : TSeq) (j left k : ℕ) → esize (erase_seq (code P x c)) ≡ j + left → tail_left P x c ≤ left → k ≤ j → origin_in (sizes P x c) k ≡ 0
-within P x (Then i c) j left k e low le =
-    let a = ap esize (erase_step P x i (kept P x i c) (code P (kept P x i c) c)) in
-    let b = step_then P x i (kept P x i c) (erase_seq (code P (kept P x i c) c)) in
-    origin_first (step_size P x i (kept P x i c)) (sizes P (kept P x i c) c) k (omega (arith, a, b, e, low, le))
-within P x (Ends t) j left k e low le = refl
+within : (top : ℕ) (P : TProg) (L : Layout) (x : TFile) (c : TSeq) (j left k : ℕ) → esize (erase_seq (code top P L x c)) ≡ j + left →
+    tail_left top P L x c ≤ left → k ≤ j → origin_in (sizes top P L x c) k ≡ 0
+within top P L x (Then i c) j left k e low le =
+    let to = kept P x i c in
+    let a = ap esize (erase_then top P L x i c) in
+    let b = step_then top P L x i to (slots_left top L.used (Then i c)) (erase_seq (code top P (laid top L i to) to c)) in
+    origin_first (step_size top P L x i to) (sizes top P (laid top L i to) to c) k (omega (arith, a, b, e, low, le))
+within top P L x (Ends t) j left k e low le = refl
 
-module _ (P : TProg) (whole : Whole P) (acc : Accepted P) where
+module _ (top : ℕ) (some : 1 ≤ top) (P : TProg) (whole : Whole P) (acc : Accepted P) where
   B : List ESeq
-  B = erase_blocks (spilled P)
+  B = erase_blocks (spilled_above top P)
 
   abbrev from : ℕ → ℕ → ℕ
-  from d k = origin_in (sizes_of P (slice_get P.blocks d)) k
+  from d k = origin_in (sizes_of top P (slice_get P.blocks d)) k
 
   -- the places so far are covered
   record Covered (log : List Place) : Type 0 where
@@ -242,7 +246,7 @@ module _ (P : TProg) (whole : Whole P) (acc : Accepted P) where
     s : State
     p : Place
     run : After P m s p
-    counts : (d k : ℕ) → cnt (suc d) k log ≤ cnt d (origin_in (sizes_of P (slice_get P.blocks d)) k) (p ∷ places P m s p run)
+    counts : (d k : ℕ) → cnt (suc d) k log ≤ cnt d (origin_in (sizes_of top P (slice_get P.blocks d)) k) (p ∷ places P m s p run)
     first : (k : ℕ) → cnt 0 k log ≤ 1
 
   -- the second machine stands at the beginning of an instruction's code
@@ -254,23 +258,23 @@ module _ (P : TProg) (whole : Whole P) (acc : Accepted P) where
     i : ℕ
     o : ℕ
     log : List Place
-    there : after (erase_blocks (spilled P)) j (start_of (spilled P) entry) ≡ Some (On e (Spot (suc b) o) log)
-    matches : Matches P s e
+    there : after (erase_blocks (spilled_above top P)) j (start_of (spilled_above top P) (entry top)) ≡ Some (On e (Spot (suc b) o) log)
+    matches : Matches top P s e
     at : p ≡ Spot b i
-    rel : (k : ℕ) → origin_in (sizes_of P (slice_get P.blocks b)) (o + k) ≡ i + origin_in (sizes P matches.file (code_of s)) k
-    counts : (d k : ℕ) → cnt (suc d) k log ≤ cnt d (origin_in (sizes_of P (slice_get P.blocks d)) k) (places P m s p run)
+    rel : (k : ℕ) → origin_in (sizes_of top P (slice_get P.blocks b)) (o + k) ≡ i + origin_in (sizes top P matches.lay matches.file (code_of s)) k
+    counts : (d k : ℕ) → cnt (suc d) k log ≤ cnt d (origin_in (sizes_of top P (slice_get P.blocks d)) k) (places P m s p run)
     first : (k : ℕ) → cnt 0 k log ≤ 1
-    earlier : (m2 : ℕ) → m2 < j → (e2 : EState) (p2 : Place) (log2 : List Place) → after (erase_blocks (spilled P)) m2 (start_of (spilled P) entry) ≡ Some (On e2 p2 log2) → Covered log2
+    earlier : (m2 : ℕ) → m2 < j → (e2 : EState) (p2 : Place) (log2 : List Place) → after (erase_blocks (spilled_above top P)) m2 (start_of (spilled_above top P) (entry top)) ≡ Some (On e2 p2 log2) → Covered log2
 
   -- j steps within the code of the instruction at the place
-  seg_counts : (b i o j : ℕ) (left : List ℕ) (log : List Place) → ((k : ℕ) → origin_in (sizes_of P (slice_get P.blocks b)) (o + k) ≡ i + origin_in left k) → ((k : ℕ) → k < j → origin_in left k ≡ 0) →
-      (d k : ℕ) → cnt (suc d) k (trace (Spot (suc b) o) j log) ≤ cnt (suc d) k log + here d (origin_in (sizes_of P (slice_get P.blocks d)) k) (Spot b i)
+  seg_counts : (b i o j : ℕ) (left : List ℕ) (log : List Place) → ((k : ℕ) → origin_in (sizes_of top P (slice_get P.blocks b)) (o + k) ≡ i + origin_in left k) → ((k : ℕ) → k < j → origin_in left k ≡ 0) →
+      (d k : ℕ) → cnt (suc d) k (trace (Spot (suc b) o) j log) ≤ cnt (suc d) k log + here d (origin_in (sizes_of top P (slice_get P.blocks d)) k) (Spot b i)
   seg_counts b i o j left log rel zeros d k = ⊎_elim
-      (λ (same : d ≡ b). subst (λ z. cnt (suc z) k (trace (Spot (suc b) o) j log) ≤ cnt (suc z) k log + here z (origin_in (sizes_of P (slice_get P.blocks z)) k) (Spot b i)) (sym same) own)
+      (λ (same : d ≡ b). subst (λ z. cnt (suc z) k (trace (Spot (suc b) o) j log) ≤ cnt (suc z) k log + here z (origin_in (sizes_of top P (slice_get P.blocks z)) k) (Spot b i)) (sym same) own)
       (λ (ne : d ≢ b). let x = off_block (suc d) k (suc b) o j log (λ y. absurd (ne (omega arith))) in omega (arith, x))
       (cases_eq d b)
     where
-      own : cnt (suc b) k (trace (Spot (suc b) o) j log) ≤ cnt (suc b) k log + here b (origin_in (sizes_of P (slice_get P.blocks b)) k) (Spot b i)
+      own : cnt (suc b) k (trace (Spot (suc b) o) j log) ≤ cnt (suc b) k log + here b (origin_in (sizes_of top P (slice_get P.blocks b)) k) (Spot b i)
       own = ⊎_elim
           (λ (lt : k < o). let x = behind (suc b) k (suc b) o j log lt in omega (arith, x))
           (λ (ge : o ≤ k). ⊎_elim
@@ -278,20 +282,20 @@ module _ (P : TProg) (whole : Whole P) (acc : Accepted P) where
           let e : o + (k - o) ≡ k = omega arith in
           let z = zeros (k - o) (omega arith) in
           let r = rel (k - o) in
-          let is : origin_in (sizes_of P (slice_get P.blocks b)) k ≡ i = ap (origin_in (sizes_of P (slice_get P.blocks b))) (sym e) ∙ r ∙ omega (arith, z) in
-          let one : here b (origin_in (sizes_of P (slice_get P.blocks b)) k) (Spot b i) ≡ 1 = ap (λ q. here b q (Spot b i)) is ∙ here_same b i in
+          let is : origin_in (sizes_of top P (slice_get P.blocks b)) k ≡ i = ap (origin_in (sizes_of top P (slice_get P.blocks b))) (sym e) ∙ r ∙ omega (arith, z) in
+          let one : here b (origin_in (sizes_of top P (slice_get P.blocks b)) k) (Spot b i) ≡ 1 = ap (λ q. here b q (Spot b i)) is ∙ here_same b i in
           let x = once (suc b) k (suc b) o j log in omega (arith, x, one))
           (λ (past : o + j ≤ k). let x = beyond (suc b) k (suc b) o j log past in omega (arith, x))
           (cases_lt k (o + j)))
           (cases_lt k o)
 
   -- a part of the steps
-  part : (m : ℕ) (s : State) (p : Place) (run : After P m s p) (x : Bound m s p run) (j x2 : ℕ) (g : EState) → walk (erase_blocks (spilled P)) j x.e ≡ Some g → x2 ≤ j → ((k : ℕ) → k < x2 → origin_in (sizes P x.matches.file (code_of s)) k ≡ 0) →
-      (e2 : EState) (p2 : Place) (log2 : List Place) → after (erase_blocks (spilled P)) (plus x.j x2) (start_of (spilled P) entry) ≡ Some (On e2 p2 log2) → Covered log2
+  part : (m : ℕ) (s : State) (p : Place) (run : After P m s p) (x : Bound m s p run) (j x2 : ℕ) (g : EState) → walk (erase_blocks (spilled_above top P)) j x.e ≡ Some g → x2 ≤ j → ((k : ℕ) → k < x2 → origin_in (sizes top P x.matches.lay x.matches.file (code_of s)) k ≡ 0) →
+      (e2 : EState) (p2 : Place) (log2 : List Place) → after (erase_blocks (spilled_above top P)) (plus x.j x2) (start_of (spilled_above top P) (entry top)) ≡ Some (On e2 p2 log2) → Covered log2
   part m s p run x j x2 g w le zeros e2 p2 log2 h =
-      let f = walk_part (erase_blocks (spilled P)) j x2 x.e g le w in
-      let a = walk_runs (erase_blocks (spilled P)) x2 x.e f.0 (Spot (suc x.b) x.o) x.log f.1 in
-      let c : Some (On e2 p2 log2) ≡ Some (On f.0 (ahead (Spot (suc x.b) x.o) x2) (trace (Spot (suc x.b) x.o) x2 x.log)) = sym h ∙ after_on (erase_blocks (spilled P)) x.j x2 (start_of (spilled P) entry) (On x.e (Spot (suc x.b) x.o) x.log) x.there ∙ a in
+      let f = walk_part (erase_blocks (spilled_above top P)) j x2 x.e g le w in
+      let a = walk_runs (erase_blocks (spilled_above top P)) x2 x.e f.0 (Spot (suc x.b) x.o) x.log f.1 in
+      let c : Some (On e2 p2 log2) ≡ Some (On f.0 (ahead (Spot (suc x.b) x.o) x2) (trace (Spot (suc x.b) x.o) x2 x.log)) = sym h ∙ after_on (erase_blocks (spilled_above top P)) x.j x2 (start_of (spilled_above top P) (entry top)) (On x.e (Spot (suc x.b) x.o) x.log) x.there ∙ a in
       let same : log2 ≡ trace (Spot (suc x.b) x.o) x2 x.log = cc in
       subst Covered (sym same) (record {
         m = m;
@@ -299,19 +303,19 @@ module _ (P : TProg) (whole : Whole P) (acc : Accepted P) where
         p = p;
         run = run;
         counts = λ d k.
-            let y = seg_counts x.b x.i x.o x2 (sizes P x.matches.file (code_of s)) x.log x.rel zeros d k in
+            let y = seg_counts x.b x.i x.o x2 (sizes top P x.matches.lay x.matches.file (code_of s)) x.log x.rel zeros d k in
             let z = x.counts d k in
-            let at = ap (here d (origin_in (sizes_of P (slice_get P.blocks d)) k)) x.at in
+            let at = ap (here d (origin_in (sizes_of top P (slice_get P.blocks d)) k)) x.at in
             omega (arith, y, z, at);
         first = λ k. let y = off_block 0 k (suc x.b) x.o x2 x.log (λ z. absurd (omega arith)) in let z = x.first k in omega (arith, y, z);
       })
 
   -- the next instruction's beginning
-  onward : (m : ℕ) (s : State) (p : Place) (run : After P (suc m) s p) (x : Bound m run.0 run.1 run.3) (tot : ℕ) (f : EState) (b2 i2 o2 : ℕ) (m2 : Matches P s f) → 1 ≤ tot →
-      after (erase_blocks (spilled P)) tot (On x.e (Spot (suc x.b) x.o) x.log) ≡ Some (On f (Spot (suc b2) o2) (trace (Spot (suc x.b) x.o) tot x.log)) → p ≡ Spot b2 i2 →
-      ((k : ℕ) → k < tot → origin_in (sizes P x.matches.file (code_of run.0)) k ≡ 0) →
-      ((k : ℕ) → origin_in (sizes_of P (slice_get P.blocks b2)) (o2 + k) ≡ i2 + origin_in (sizes P m2.file (code_of s)) k) →
-      ((x2 : ℕ) → x2 < tot → (e2 : EState) (p2 : Place) (log2 : List Place) → after (erase_blocks (spilled P)) (plus x.j x2) (start_of (spilled P) entry) ≡ Some (On e2 p2 log2) → Covered log2) → Bound (suc m) s p run
+  onward : (m : ℕ) (s : State) (p : Place) (run : After P (suc m) s p) (x : Bound m run.0 run.1 run.3) (tot : ℕ) (f : EState) (b2 i2 o2 : ℕ) (m2 : Matches top P s f) → 1 ≤ tot →
+      after (erase_blocks (spilled_above top P)) tot (On x.e (Spot (suc x.b) x.o) x.log) ≡ Some (On f (Spot (suc b2) o2) (trace (Spot (suc x.b) x.o) tot x.log)) → p ≡ Spot b2 i2 →
+      ((k : ℕ) → k < tot → origin_in (sizes top P x.matches.lay x.matches.file (code_of run.0)) k ≡ 0) →
+      ((k : ℕ) → origin_in (sizes_of top P (slice_get P.blocks b2)) (o2 + k) ≡ i2 + origin_in (sizes top P m2.lay m2.file (code_of s)) k) →
+      ((x2 : ℕ) → x2 < tot → (e2 : EState) (p2 : Place) (log2 : List Place) → after (erase_blocks (spilled_above top P)) (plus x.j x2) (start_of (spilled_above top P) (entry top)) ≡ Some (On e2 p2 log2) → Covered log2) → Bound (suc m) s p run
   onward m s p run x tot f b2 i2 o2 m2 some runs at zeros rel parts =
       let pl = plus_is x.j tot in
       record {
@@ -322,14 +326,14 @@ module _ (P : TProg) (whole : Whole P) (acc : Accepted P) where
         i = i2;
         o = o2;
         log = trace (Spot (suc x.b) x.o) tot x.log;
-        there = after_on (erase_blocks (spilled P)) x.j tot (start_of (spilled P) entry) (On x.e (Spot (suc x.b) x.o) x.log) x.there ∙ runs;
+        there = after_on (erase_blocks (spilled_above top P)) x.j tot (start_of (spilled_above top P) (entry top)) (On x.e (Spot (suc x.b) x.o) x.log) x.there ∙ runs;
         matches = m2;
         at = at;
         rel = rel;
         counts = λ d k.
-            let y = seg_counts x.b x.i x.o tot (sizes P x.matches.file (code_of run.0)) x.log x.rel zeros d k in
+            let y = seg_counts x.b x.i x.o tot (sizes top P x.matches.lay x.matches.file (code_of run.0)) x.log x.rel zeros d k in
             let z = x.counts d k in
-            let at = ap (here d (origin_in (sizes_of P (slice_get P.blocks d)) k)) x.at in
+            let at = ap (here d (origin_in (sizes_of top P (slice_get P.blocks d)) k)) x.at in
             omega (arith, y, z, at);
         first = λ k. let y = off_block 0 k (suc x.b) x.o tot x.log (λ z. absurd (omega arith)) in let z = x.first k in omega (arith, y, z);
         earlier = λ m3 lt e2 p2 log2 h. ⊎_elim
@@ -337,60 +341,60 @@ module _ (P : TProg) (whole : Whole P) (acc : Accepted P) where
             (λ (later : x.j ≤ m3).
             let pl3 = plus_is x.j (m3 - x.j) in
             let same : m3 ≡ plus x.j (m3 - x.j) = omega (arith, pl3) in
-            parts (m3 - x.j) (omega (arith, pl)) e2 p2 log2 (ap (λ n. after (erase_blocks (spilled P)) n (start_of (spilled P) entry)) (sym same) ∙ h))
+            parts (m3 - x.j) (omega (arith, pl)) e2 p2 log2 (ap (λ n. after (erase_blocks (spilled_above top P)) n (start_of (spilled_above top P) (entry top))) (sym same) ∙ h))
             (cases_lt m3 x.j);
       }
 
   bound_next : (m : ℕ) (s : State) (p : Place) (run : After P (suc m) s p) (x : Bound m run.0 run.1 run.3) (k : Where) (f : EState) → p ≡ moved run.1 k →
-      Seg (erase_blocks (spilled P)) (tail_left P x.matches.file (code_of run.0)) x.e k f → (m2 : Matches P s f) → Sized P (tail_sizes P x.matches.file (code_of run.0)) k (sizes P m2.file (code_of s)) → Bound (suc m) s p run
+      Seg (erase_blocks (spilled_above top P)) (tail_left top P x.matches.lay x.matches.file (code_of run.0)) x.e k f → (m2 : Matches top P s f) → Sized top P (tail_sizes top P x.matches.lay x.matches.file (code_of run.0)) k (sizes top P m2.lay m2.file (code_of s)) → Bound (suc m) s p run
   bound_next m s p run x Next f at seg m2 sized =
       let w = seg.0.by 0 in
       let n = w.0 in
-      let hd = head_size P x.matches.file (code_of run.0) (esize (seq_of f)) seg.1 in
-      let size = walk_size (erase_blocks (spilled P)) w.0 x.e f w.2 in
+      let hd = head_size top P x.matches.lay x.matches.file (code_of run.0) (esize (seq_of f)) seg.1 in
+      let size = walk_size (erase_blocks (spilled_above top P)) w.0 x.e f w.2 in
       let code_is = ap (λ z. esize (seq_of z)) x.matches.is in
       let same : hd.0 ≡ w.0 = omega (arith, size, code_is, hd.2) in
-      let zeros : (k : ℕ) → k < w.0 → origin_in (sizes P x.matches.file (code_of run.0)) k ≡ 0 =
-      λ k lt. ap (λ z. origin_in z k) hd.1 ∙ origin_first hd.0 (tail_sizes P x.matches.file (code_of run.0)) k (omega (arith, same, lt)) in
+      let zeros : (k : ℕ) → k < w.0 → origin_in (sizes top P x.matches.lay x.matches.file (code_of run.0)) k ≡ 0 =
+      λ k lt. ap (λ z. origin_in z k) hd.1 ∙ origin_first hd.0 (tail_sizes top P x.matches.lay x.matches.file (code_of run.0)) k (omega (arith, same, lt)) in
       onward m s p run x w.0 f x.b (x.i + 1) (x.o + w.0) m2 (omega (arith, w.1))
-      (walk_runs (erase_blocks (spilled P)) w.0 x.e f (Spot (suc x.b) x.o) x.log w.2 ∙ ap (λ z. Some (On f z (trace (Spot (suc x.b) x.o) w.0 x.log))) (ahead_is (suc x.b) x.o w.0))
+      (walk_runs (erase_blocks (spilled_above top P)) w.0 x.e f (Spot (suc x.b) x.o) x.log w.2 ∙ ap (λ z. Some (On f z (trace (Spot (suc x.b) x.o) w.0 x.log))) (ahead_is (suc x.b) x.o w.0))
       (at ∙ ap (λ z. moved z Next) x.at) zeros
       (λ k.
       let e1 : x.o + w.0 + k ≡ x.o + (w.0 + k) = omega arith in
       let r = x.rel (w.0 + k) in
-      let q : origin_in (sizes P x.matches.file (code_of run.0)) (w.0 + k) ≡ suc (origin_in (sizes P m2.file (code_of s)) k) =
-      ap (λ z. origin_in z (w.0 + k)) hd.1 ∙ ap (λ z. origin_in (z ∷ tail_sizes P x.matches.file (code_of run.0)) (w.0 + k)) same ∙ origin_next w.0 (tail_sizes P x.matches.file (code_of run.0)) k ∙ ap (λ z. suc (origin_in z k)) (sym sized) in
-      ap (origin_in (sizes_of P (slice_get P.blocks x.b))) e1 ∙ r ∙ omega (arith, q))
+      let q : origin_in (sizes top P x.matches.lay x.matches.file (code_of run.0)) (w.0 + k) ≡ suc (origin_in (sizes top P m2.lay m2.file (code_of s)) k) =
+      ap (λ z. origin_in z (w.0 + k)) hd.1 ∙ ap (λ z. origin_in (z ∷ tail_sizes top P x.matches.lay x.matches.file (code_of run.0)) (w.0 + k)) same ∙ origin_next w.0 (tail_sizes top P x.matches.lay x.matches.file (code_of run.0)) k ∙ ap (λ z. suc (origin_in z k)) (sym sized) in
+      ap (origin_in (sizes_of top P (slice_get P.blocks x.b))) e1 ∙ r ∙ omega (arith, q))
       (λ x2 lt e2 p2 log2 h. part m run.0 run.1 run.3 x w.0 x2 f w.2 (omega (arith, lt)) (λ k l. zeros k (omega (arith, l, lt))) e2 p2 log2 h)
   bound_next m s p run x (Into l) f at seg m2 sized =
       let g = seg.0 in
       let w = seg.1.by 0 in
-      let size = walk_size (erase_blocks (spilled P)) w.0 x.e seg.0 w.2 in
+      let size = walk_size (erase_blocks (spilled_above top P)) w.0 x.e seg.0 w.2 in
       let code_is = ap (λ z. esize (seq_of z)) x.matches.is in
-      let zeros : (k : ℕ) → k < suc w.0 → origin_in (sizes P x.matches.file (code_of run.0)) k ≡ 0 =
-      λ k lt. within P x.matches.file (code_of run.0) w.0 (esize (seq_of seg.0)) k (omega (arith, size, code_is)) seg.3 (omega (arith, lt)) in
-      let a = walk_runs (erase_blocks (spilled P)) w.0 x.e seg.0 (Spot (suc x.b) x.o) x.log w.2 in
+      let zeros : (k : ℕ) → k < suc w.0 → origin_in (sizes top P x.matches.lay x.matches.file (code_of run.0)) k ≡ 0 =
+      λ k lt. within top P x.matches.lay x.matches.file (code_of run.0) w.0 (esize (seq_of seg.0)) k (omega (arith, size, code_is)) seg.3 (omega (arith, lt)) in
+      let a = walk_runs (erase_blocks (spilled_above top P)) w.0 x.e seg.0 (Spot (suc x.b) x.o) x.log w.2 in
       let pl = plus_is w.0 1 in
       let n1 : plus w.0 1 ≡ suc w.0 = omega (arith, pl) in
       let q : Place = ahead (Spot (suc x.b) x.o) w.0 in
-      let runs : after (erase_blocks (spilled P)) (suc w.0) (On x.e (Spot (suc x.b) x.o) x.log) ≡ Some (On f (Spot (suc l) 0) (trace (Spot (suc x.b) x.o) (suc w.0) x.log)) =
-      ap (λ n. after (erase_blocks (spilled P)) n (On x.e (Spot (suc x.b) x.o) x.log)) (sym n1)
-      ∙ after_on (erase_blocks (spilled P)) w.0 1 (On x.e (Spot (suc x.b) x.o) x.log) (On seg.0 q (trace (Spot (suc x.b) x.o) w.0 x.log)) a
-      ∙ ap (λ o. so (option_map (went q (trace (Spot (suc x.b) x.o) w.0 x.log)) o) (after (erase_blocks (spilled P)) 0)) seg.2
+      let runs : after (erase_blocks (spilled_above top P)) (suc w.0) (On x.e (Spot (suc x.b) x.o) x.log) ≡ Some (On f (Spot (suc l) 0) (trace (Spot (suc x.b) x.o) (suc w.0) x.log)) =
+      ap (λ n. after (erase_blocks (spilled_above top P)) n (On x.e (Spot (suc x.b) x.o) x.log)) (sym n1)
+      ∙ after_on (erase_blocks (spilled_above top P)) w.0 1 (On x.e (Spot (suc x.b) x.o) x.log) (On seg.0 q (trace (Spot (suc x.b) x.o) w.0 x.log)) a
+      ∙ ap (λ o. so (option_map (went q (trace (Spot (suc x.b) x.o) w.0 x.log)) o) (after (erase_blocks (spilled_above top P)) 0)) seg.2
       ∙ ap₂ (λ y z. Some (On f y z)) (into_is q (suc l)) (sym (trace_snoc (Spot (suc x.b) x.o) w.0 x.log)) in
       onward m s p run x (suc w.0) f l 0 0 m2 (omega arith) runs (at ∙ into_is run.1 l) zeros
       (λ k.
       let e1 : 0 + k ≡ k = omega arith in
-      let blk : sizes_of P (slice_get P.blocks l) ≡ sizes P sized.0.file sized.0.code = ap (sizes_of P) sized.1 in
-      let now : origin_in (sizes_of P (slice_get P.blocks l)) k ≡ origin_in (sizes P m2.file (code_of s)) k = ap (λ z. origin_in z k) (blk ∙ sym sized.2) in
-      ap (origin_in (sizes_of P (slice_get P.blocks l))) e1 ∙ now ∙ omega arith)
+      let blk : sizes_of top P (slice_get P.blocks l) ≡ sizes top P (layout top sized.0.file) sized.0.file sized.0.code = ap (sizes_of top P) sized.1 in
+      let now : origin_in (sizes_of top P (slice_get P.blocks l)) k ≡ origin_in (sizes top P m2.lay m2.file (code_of s)) k = ap (λ z. origin_in z k) (blk ∙ sym sized.2) in
+      ap (origin_in (sizes_of top P (slice_get P.blocks l))) e1 ∙ now ∙ omega arith)
       (λ x2 lt e2 p2 log2 h. part m run.0 run.1 run.3 x w.0 x2 seg.0 w.2 (omega (arith, lt)) (λ k y. zeros k (omega (arith, y, lt))) e2 p2 log2 h)
     where
       into_is : (q : Place) (l : ℕ) → moved q (Into l) ≡ Spot l 0
       into_is (Spot b i) l = refl
 
   -- before the first block is entered
-  early : (m2 : ℕ) → m2 < 2 → (s : State) (p : Place) (run : After P 0 s p) → (e2 : EState) (p2 : Place) (log2 : List Place) → after (erase_blocks (spilled P)) m2 (start_of (spilled P) entry) ≡ Some (On e2 p2 log2) → Covered log2
+  early : (m2 : ℕ) → m2 < 2 → (s : State) (p : Place) (run : After P 0 s p) → (e2 : EState) (p2 : Place) (log2 : List Place) → after (erase_blocks (spilled_above top P)) m2 (start_of (spilled_above top P) (entry top)) ≡ Some (On e2 p2 log2) → Covered log2
   early zero lt s p run e2 p2 log2 h =
       let same : [] ≡ log2 = cc in
       subst Covered same (record { m = 0; s = s; p = p; run = run; counts = λ d k. omega arith; first = λ k. omega arith })
@@ -416,24 +420,26 @@ module _ (P : TProg) (whole : Whole P) (acc : Accepted P) where
   bounds : (m : ℕ) (s : State) (p : Place) (run : After P m s p) → Bound m s p run
   bounds zero s p run =
       let k = run.0 in
-      let st = enter_step (erase_blocks (spilled P)) (entered P) (entered_regs P) (Label 1) 1 (erase_seq (code P k.0.file k.0.code)) refl (elabels P 0 k.0 k.1) in
+      let st = enter_step (erase_blocks (spilled_above top P)) (entered top P) (entered_regs top P) (Label 1) 1 (erase_seq (code top P (layout top k.0.file) k.0.file k.0.code)) refl (elabels top P 0 k.0 k.1) in
       record {
         j = 2;
         more = omega arith;
-        e = EAt (entered P) (entered_regs P) (erase_seq (code P k.0.file k.0.code));
+        e = EAt (entered top P) (entered_regs top P) (erase_seq (code top P (layout top k.0.file) k.0.file k.0.code));
         b = 0;
         i = 0;
         o = 0;
         log = Spot 0 1 ∷ Spot 0 0 ∷ [];
-        there = ap (λ o. so (option_map (went (Spot 0 1) (Spot 0 0 ∷ [])) o) (after (erase_blocks (spilled P)) 0)) st;
-        matches = starts P whole acc s k.0 k.1 k.2;
+        there = ap (λ o. so (option_map (went (Spot 0 1) (Spot 0 0 ∷ [])) o) (after (erase_blocks (spilled_above top P)) 0)) st;
+        matches = starts top some P whole acc s k.0 k.1 k.2;
         at = run.1;
         rel = λ n.
             let e1 : 0 + n ≡ n = omega arith in
-            let now = start_file P whole acc s k.0 k.1 k.2 in
-            ap (origin_in (sizes_of P (slice_get P.blocks 0))) e1
-            ∙ ap (λ z. origin_in (sizes_of P z) n) k.1
-            ∙ ap₂ (λ x c. origin_in (sizes P x c) n) (sym now) (sym (ap code_of k.2))
+            let now = start_file top some P whole acc s k.0 k.1 k.2 in
+            let lays = start_lay top some P whole acc s k.0 k.1 k.2 in
+            ap (origin_in (sizes_of top P (slice_get P.blocks 0))) e1
+            ∙ ap (λ z. origin_in (sizes_of top P z) n) k.1
+            ∙ ap (λ l. origin_in (sizes top P l k.0.file k.0.code) n) (sym lays)
+            ∙ ap₂ (λ x c. origin_in (sizes top P (starts top some P whole acc s k.0 k.1 k.2).lay x c) n) (sym now) (sym (ap code_of k.2))
             ∙ omega arith;
         counts = λ d n. let x = here_block (suc d) n 0 0 (λ z. absurd (omega arith)) in let y = here_block (suc d) n 0 1 (λ z. absurd (omega arith)) in omega (arith, x, y);
         first = two_once;
@@ -442,81 +448,81 @@ module _ (P : TProg) (whole : Whole P) (acc : Accepted P) where
   bounds (suc m) s p run =
       let x = bounds m run.0 run.1 run.3 in
       ⊎_elim
-      (λ (y : (i : ℤ) × HaltedWith run.0 i × Ending (erase_blocks (spilled P)) x.e i). absurd (halted_no_step P run.0 y.0 y.1 run.2 s run.4))
-      (λ (y : (k : Where) × (t : State) × (f : EState) × Step P run.0 k t × Seg (erase_blocks (spilled P)) (tail_left P x.matches.file (code_of run.0)) x.e k f × (m : Matches P t f) × Sized P (tail_sizes P x.matches.file (code_of run.0)) k (sizes P m.file (code_of t))).
+      (λ (y : (i : ℤ) × HaltedWith run.0 i × Ending (erase_blocks (spilled_above top P)) x.e i). absurd (halted_no_step P run.0 y.0 y.1 run.2 s run.4))
+      (λ (y : (k : Where) × (t : State) × (f : EState) × Step P run.0 k t × Seg (erase_blocks (spilled_above top P)) (tail_left top P x.matches.lay x.matches.file (code_of run.0)) x.e k f × (m : Matches top P t f) × Sized top P (tail_sizes top P x.matches.lay x.matches.file (code_of run.0)) k (sizes top P m.lay m.file (code_of t))).
       let one = step_one P run.0 y.1 s y.0 run.2 y.3 run.4 in
       stepped m s p run x y.0 y.1 y.2 (run.5 ∙ ap (moved run.1) (sym one.0)) y.4 y.5 y.6 one.1)
-      (follow P whole acc run.0 x.e x.matches)
+      (follow top some P whole acc run.0 x.e x.matches)
     where
       stepped : (m : ℕ) (s : State) (p : Place) (run : After P (suc m) s p) (x : Bound m run.0 run.1 run.3) (k : Where) (t : State) (f : EState) → p ≡ moved run.1 k →
-          Seg (erase_blocks (spilled P)) (tail_left P x.matches.file (code_of run.0)) x.e k f → (m2 : Matches P t f) → Sized P (tail_sizes P x.matches.file (code_of run.0)) k (sizes P m2.file (code_of t)) → t ≡ s → Bound (suc m) s p run
+          Seg (erase_blocks (spilled_above top P)) (tail_left top P x.matches.lay x.matches.file (code_of run.0)) x.e k f → (m2 : Matches top P t f) → Sized top P (tail_sizes top P x.matches.lay x.matches.file (code_of run.0)) k (sizes top P m2.lay m2.file (code_of t)) → t ≡ s → Bound (suc m) s p run
       stepped m s p run x k t f at seg m2 sized same =
-          subst (λ z. (m2 : Matches P z f) → Sized P (tail_sizes P x.matches.file (code_of run.0)) k (sizes P m2.file (code_of z)) → Bound (suc m) s p run) (sym same) (λ m3 sized3. bound_next m s p run x k f at seg m3 sized3) m2 sized
+          subst (λ z. (m2 : Matches top P z f) → Sized top P (tail_sizes top P x.matches.lay x.matches.file (code_of run.0)) k (sizes top P m2.lay m2.file (code_of z)) → Bound (suc m) s p run) (sym same) (λ m3 sized3. bound_next m s p run x k f at seg m3 sized3) m2 sized
 
   -- the first place is among those of each run
   first_there : (m : ℕ) (s : State) (p : Place) (run : After P m s p) → 1 ≤ cnt 0 0 (p ∷ places P m s p run)
   first_there zero s p run = let x = ap (here 0 0) run.1 in let y = here_same 0 0 in omega (arith, x, y)
   first_there (suc m) s p run = let x = first_there m run.0 run.1 run.3 in omega (arith, x)
 
-  halted_ends : (x : TFile) (s : State) (i : ℤ) → HaltedWith s i → (k : ℕ) → origin_in (sizes P x (code_of s)) k ≡ 0
-  halted_ends x (At h r (Ends Halt)) i a k = refl
-  halted_ends x (At h r (Ends (Jmp v))) i a k = absurd a
-  halted_ends x (At h r (Then j c)) i a k = absurd a
+  halted_ends : (L : Layout) (x : TFile) (s : State) (i : ℤ) → HaltedWith s i → (k : ℕ) → origin_in (sizes top P L x (code_of s)) k ≡ 0
+  halted_ends L x (At h r (Ends Halt)) i a k = refl
+  halted_ends L x (At h r (Ends (Jmp v))) i a k = absurd a
+  halted_ends L x (At h r (Then j c)) i a k = absurd a
 
-  module _ (whole2 : Whole (spilled P)) where
-    covered : (m2 : ℕ) (s2 : State) (p2 : Place) (run2 : After (spilled P) m2 s2 p2) → Covered (places (spilled P) m2 s2 p2 run2)
+  module _ (whole2 : Whole (spilled_above top P)) where
+    covered : (m2 : ℕ) (s2 : State) (p2 : Place) (run2 : After (spilled_above top P) m2 s2 p2) → Covered (places (spilled_above top P) m2 s2 p2 run2)
     covered m2 s2 p2 run2 =
-        let r = run_logged (spilled P) whole2 (kept_types P whole acc) entry refl m2 s2 p2 run2 in
+        let r = run_logged (spilled_above top P) whole2 (kept_types top P some whole acc) (entry top) refl m2 s2 p2 run2 in
         ⊎_elim
         (λ (x : (s : State) × (p : Place) × After P (suc m2) s p).
         let y = bounds (suc m2) x.0 x.1 x.2 in
-        y.earlier m2 (omega (arith, y.more)) (erase s2) p2 (places (spilled P) m2 s2 p2 run2) r)
+        y.earlier m2 (omega (arith, y.more)) (erase s2) p2 (places (spilled_above top P) m2 s2 p2 run2) r)
         (λ (x : (k : ℕ) × (s : State) × (p : Place) × (j : ℤ) × (k < suc m2) × After P k s p × HaltedWith s j).
         let y = bounds x.0 x.1 x.2 x.5 in
         ⊎_elim
-        (λ (before : m2 < y.j). y.earlier m2 before (erase s2) p2 (places (spilled P) m2 s2 p2 run2) r)
+        (λ (before : m2 < y.j). y.earlier m2 before (erase s2) p2 (places (spilled_above top P) m2 s2 p2 run2) r)
         (λ (later : y.j ≤ m2).
         ⊎_elim
-        (λ (z : (i : ℤ) × HaltedWith x.1 i × Ending (erase_blocks (spilled P)) y.e i).
+        (λ (z : (i : ℤ) × HaltedWith x.1 i × Ending (erase_blocks (spilled_above top P)) y.e i).
         let en = z.2 in
-        let w = en.moves.by 0 in
-        let a = walk_runs (erase_blocks (spilled P)) w.0 y.e _ (Spot (suc y.b) y.o) y.log w.2 in
-        let last = after_on (erase_blocks (spilled P)) y.j w.0 (start_of (spilled P) entry) (On y.e (Spot (suc y.b) y.o) y.log) y.there ∙ a in
+        let w = en.walks.by 0 in
+        let a = walk_runs (erase_blocks (spilled_above top P)) w.0 y.e _ (Spot (suc y.b) y.o) y.log w.2 in
+        let last = after_on (erase_blocks (spilled_above top P)) y.j w.0 (start_of (spilled_above top P) (entry top)) (On y.e (Spot (suc y.b) y.o) y.log) y.there ∙ a in
         ⊎_elim
         (λ (past : plus y.j w.0 < m2).
         let d : ℕ = m2 - suc (plus y.j w.0) in
         let pl = plus_is (plus y.j w.0) (suc (m2 - suc (plus y.j w.0))) in
         let same : plus (plus y.j w.0) (suc (m2 - suc (plus y.j w.0))) ≡ m2 = omega (arith, pl, past) in
-        let none = halts_last (erase_blocks (spilled P)) (plus y.j w.0) (m2 - suc (plus y.j w.0)) (start_of (spilled P) entry) (EAt en.eheap en.eregs EHalt) _ _ z.0 last en.answer in
-        let no : None ≡ Some (On (erase s2) p2 (places (spilled P) m2 s2 p2 run2)) = sym none ∙ ap (λ k. after (erase_blocks (spilled P)) k (start_of (spilled P) entry)) same ∙ r in
+        let none = halts_last (erase_blocks (spilled_above top P)) (plus y.j w.0) (m2 - suc (plus y.j w.0)) (start_of (spilled_above top P) (entry top)) (EAt en.eheap en.eregs EHalt) _ _ z.0 last en.answer in
+        let no : None ≡ Some (On (erase s2) p2 (places (spilled_above top P) m2 s2 p2 run2)) = sym none ∙ ap (λ k. after (erase_blocks (spilled_above top P)) k (start_of (spilled_above top P) (entry top))) same ∙ r in
         absurd (differ no))
         (λ (le : m2 ≤ plus y.j w.0).
         let pl = plus_is y.j w.0 in
         let pl2 = plus_is y.j (m2 - y.j) in
         let same : m2 ≡ plus y.j (m2 - y.j) = omega (arith, pl2, later) in
-        part x.0 x.1 x.2 x.5 y w.0 (m2 - y.j) _ w.2 (omega (arith, pl, le, later)) (λ k l. halted_ends y.matches.file x.1 x.3 x.6 k) (erase s2) p2 (places (spilled P) m2 s2 p2 run2)
-        (ap (λ n. after (erase_blocks (spilled P)) n (start_of (spilled P) entry)) (sym same) ∙ r))
+        part x.0 x.1 x.2 x.5 y w.0 (m2 - y.j) _ w.2 (omega (arith, pl, le, later)) (λ k l. halted_ends y.matches.lay y.matches.file x.1 x.3 x.6 k) (erase s2) p2 (places (spilled_above top P) m2 s2 p2 run2)
+        (ap (λ n. after (erase_blocks (spilled_above top P)) n (start_of (spilled_above top P) (entry top))) (sym same) ∙ r))
         (cases_lt (plus y.j w.0) m2))
-        (λ (z : (k : Where) × (t : State) × (f : EState) × Step P x.1 k t × Seg (erase_blocks (spilled P)) (tail_left P y.matches.file (code_of x.1)) y.e k f × (m : Matches P t f) × Sized P (tail_sizes P y.matches.file (code_of x.1)) k (sizes P m.file (code_of t))). absurd (halted_no_step P x.1 x.3 x.6 z.0 z.1 z.3))
-        (follow P whole acc x.1 y.e y.matches))
+        (λ (z : (k : Where) × (t : State) × (f : EState) × Step P x.1 k t × Seg (erase_blocks (spilled_above top P)) (tail_left top P y.matches.lay y.matches.file (code_of x.1)) y.e k f × (m : Matches top P t f) × Sized top P (tail_sizes top P y.matches.lay y.matches.file (code_of x.1)) k (sizes top P m.lay m.file (code_of t))). absurd (halted_no_step P x.1 x.3 x.6 z.0 z.1 z.3))
+        (follow top some P whole acc x.1 y.e y.matches))
         (cases_lt m2 y.j))
         (runs_on P whole acc (suc m2))
       where
         differ : {y : PState} → None ≡ Some y → ⊥
         differ z = cc
 
-    counts_at : (m2 : ℕ) (s2 : State) (p2 : Place) (run2 : After (spilled P) m2 s2 p2) →
-        (m : ℕ) × (s : State) × (p : Place) × (run : After P m s p) × ((b i : ℕ) → Times (spilled P) m2 s2 p2 run2 b i ≤ times_in (origin P (Spot b i)) (p ∷ places P m s p run))
+    counts_at : (m2 : ℕ) (s2 : State) (p2 : Place) (run2 : After (spilled_above top P) m2 s2 p2) →
+        (m : ℕ) × (s : State) × (p : Place) × (run : After P m s p) × ((b i : ℕ) → Times (spilled_above top P) m2 s2 p2 run2 b i ≤ times_in (origin_above top P (Spot b i)) (p ∷ places P m s p run))
     counts_at m2 s2 p2 run2 =
         let c = covered m2 s2 p2 run2 in
-        (c.m, c.s, c.p, c.run, λ b i. each_place c.p (places P c.m c.s c.p c.run) (places (spilled P) m2 s2 p2 run2) c.counts c.first (first_there c.m c.s c.p c.run) b i)
+        (c.m, c.s, c.p, c.run, λ b i. each_place c.p (places P c.m c.s c.p c.run) (places (spilled_above top P) m2 s2 p2 run2) c.counts c.first (first_there c.m c.s c.p c.run) b i)
       where
-        each_place : (p : Place) (ps log : List Place) → ((d k : ℕ) → cnt (suc d) k log ≤ cnt d (origin_in (sizes_of P (slice_get P.blocks d)) k) (p ∷ ps)) → ((k : ℕ) → cnt 0 k log ≤ 1) → 1 ≤ cnt 0 0 (p ∷ ps) → (b i : ℕ) → count_by (is_spot b i) log ≤ times_in (origin P (Spot b i)) (p ∷ ps)
+        each_place : (p : Place) (ps log : List Place) → ((d k : ℕ) → cnt (suc d) k log ≤ cnt d (origin_in (sizes_of top P (slice_get P.blocks d)) k) (p ∷ ps)) → ((k : ℕ) → cnt 0 k log ≤ 1) → 1 ≤ cnt 0 0 (p ∷ ps) → (b i : ℕ) → count_by (is_spot b i) log ≤ times_in (origin_above top P (Spot b i)) (p ∷ ps)
         each_place p ps log h f one zero i = let x = cnt_is 0 i log in let y = cnt_is 0 0 (p ∷ ps) in let z = f i in omega (arith, x, y, z, one)
         each_place p ps log h f one (suc d) i =
-            let x = cnt_is (suc d) i log in let y = cnt_is d (origin_in (sizes_of P (slice_get P.blocks d)) i) (p ∷ ps) in let z = h d i in omega (arith, x, y, z)
+            let x = cnt_is (suc d) i log in let y = cnt_is d (origin_in (sizes_of top P (slice_get P.blocks d)) i) (p ∷ ps) in let z = h d i in omega (arith, x, y, z)
 
-    from_places : (p : Place) → IsPlace (spilled P) p → IsPlace P (origin P p)
+    from_places : (p : Place) → IsPlace (spilled_above top P) p → IsPlace P (origin_above top P p)
     from_places (Spot zero i) h = first_at P.blocks acc.0
       where
         first_at : (bs : List TBlock) → FirstTakesNothing bs → (x : TBlock) × (slice_get bs 0 ≡ Some x) × (0 ≤ thens x.code)
@@ -525,16 +531,16 @@ module _ (P : TProg) (whole : Whole P) (acc : Accepted P) where
     from_places (Spot (suc b) i) h = go (slice_get P.blocks b) refl
       where
         found : Option TBlock → Option TBlock → Type 0
-        found o q = q ≡ option_map (sp_block P) o
+        found o q = q ≡ option_map (sp_block top P) o
 
-        go : (o : Option TBlock) → slice_get P.blocks b ≡ o → (x : TBlock) × (slice_get P.blocks b ≡ Some x) × (origin_in (sizes_of P (slice_get P.blocks b)) i ≤ thens x.code)
+        go : (o : Option TBlock) → slice_get P.blocks b ≡ o → (x : TBlock) × (slice_get P.blocks b ≡ Some x) × (origin_in (sizes_of top P (slice_get P.blocks b)) i ≤ thens x.code)
         go (Some x) e =
-            let a = origin_most (sizes P x.file x.code) i in
-            let n = sizes_length P x.code x.file in
-            let same = ap (λ o. origin_in (sizes_of P o) i) e in
+            let a = origin_most (sizes top P (layout top x.file) x.file x.code) i in
+            let n = sizes_length top P x.code (layout top x.file) x.file in
+            let same = ap (λ o. origin_in (sizes_of top P o) i) e in
             (x, e, omega (arith, a, n, same))
         go None e =
-            let y : Some h.0 ≡ None = sym h.1 ∙ slice_get-map (sp_block P) P.blocks b ∙ ap (option_map (sp_block P)) e in cc
+            let y : Some h.0 ≡ None = sym h.1 ∙ slice_get-map (sp_block top P) P.blocks b ∙ ap (option_map (sp_block top P)) e in cc
 
-    pub counts_kept : CountsKept P (spilled P) (origin P)
+    pub counts_kept : CountsKept P (spilled_above top P) (origin_above top P)
     counts_kept = record { from_place = from_places; counts = counts_at }

@@ -1,5 +1,5 @@
 -- The erased machine of what is spilled: steps that lead to the next instruction, one after the other.
-use Rattle.std.proofs.Common.{◌≡◌, ℕ, zero, suc, ◌<◌, ◌≤◌, nat_lt, cond, true, false, List, [], ◌∷◌, ◌++◌, length, Option, Some, None, refl, sym, ap, ◌∙◌, subst, arith, slice_get, slice_set, inl, inr, ◌⊎◌}
+use Rattle.std.proofs.Common.{◌≡◌, ℕ, zero, suc, ◌+◌, ◌<◌, ◌≤◌, nat_lt, cond, true, false, List, [], ◌∷◌, ◌++◌, length, Option, Some, None, refl, sym, ap, ◌∙◌, subst, arith, slice_get, slice_set, inl, inr, ◌⊎◌}
 use Rattle.std.specs.Prelude.{◌≢◌, option_map, option_and_then, replicate, ℤ}
 use Rattle.std.proofs.lemmas.Bool.{lt-ltb}
 use Rattle.std.proofs.lemmas.List.{length-append}
@@ -8,9 +8,11 @@ use Rattle.t_terms.specs.Tree.{TBase, Reg, Int, Label, Data}
 use Rattle.t_rules.specs.Registers.{with_reg}
 use Rattle.t_rules.specs.Machine.{Next, Into}
 use Rattle.t_rules.specs.Erase.{EWord, EInt, EAddress, ELabel, EEmpty, EArith, EBnz, ELd, EMov, ESt, ESeq, EThen, EHeap, ERegs, EState, EAt, EStep, EGoes, estep, enter, base_word, on_int, on_address, on_label, on_full}
-use Rattle.spill_law.specs.Spill.{is_new, sp_base}
+use Rattle.spill_law.specs.Spill.{frame_reg, slot_reg, first_reg, second_reg, made_reg, sp_base, Home, Held, InFrame, InSlot}
+use Rattle.spill_law.specs.Spill.{at_home, second_at}
 use Rattle.spill_law.proofs.Files.{look_same, look_other}
-use Rattle.spill_law.proofs.Erased.{efetch, esource, efill, ebuild}
+use Rattle.spill_law.proofs.Homes.{UpTo}
+use Rattle.spill_law.proofs.Erased.{eload, ebase, efill, ebuild}
 
 -- a step to the next instruction goes on
 abbrev pub on_next : Option EStep → (EState → Option EState) → Option EState
@@ -87,6 +89,47 @@ append_none : {A : Type 0} (xs : List A) → xs ++ [] ≡ xs
 append_none [] = refl
 append_none (x ∷ xs) = ap (λ (zs : List _). x ∷ zs) (append_none xs)
 
+module _ (m : ℕ) where
+  -- the word at home
+  abbrev pub HomeAt : EHeap → ERegs → Home → EWord → Type 0
+  HomeAt K ρ (Held q) e = ρ q ≡ Some e
+  HomeAt K ρ (InFrame i) e =
+      (f : ℕ) × (fw : List EWord) × (ρ (frame_reg m) ≡ Some (EAddress f)) × (slice_get K f ≡ Some fw) × (slice_get fw i ≡ Some e)
+  HomeAt K ρ (InSlot i) e =
+      (f : ℕ) × (fw : List EWord) × (ρ (slot_reg m) ≡ Some (EAddress f)) × (slice_get K f ≡ Some fw) × (slice_get fw i ≡ Some e)
+
+  pub home_regs : (K : EHeap) (ρ σ : ERegs) (b : ℕ) (x : Home) (e : EWord) → m + 2 ≤ b → UpTo b x → ((q : ℕ) → q ≤ b → σ q ≡ ρ q) →
+      HomeAt K ρ x e → HomeAt K σ x e
+  home_regs K ρ σ b (Held q) e le up s h = s q up ∙ h
+  home_regs K ρ σ b (InFrame i) e le up s h = (h.0, h.1, s (frame_reg m) (omega (arith, le)) ∙ h.2, h.3, h.4)
+  home_regs K ρ σ b (InSlot i) e le up s h = (h.0, h.1, s (slot_reg m) (omega (arith, le)) ∙ h.2, h.3, h.4)
+
+  -- in a larger heap
+  pub home_heap : (K X : EHeap) (ρ : ERegs) (x : Home) (e : EWord) → HomeAt K ρ x e → HomeAt (K ++ X) ρ x e
+  home_heap K X ρ (Held q) e h = h
+  home_heap K X ρ (InFrame i) e h = (h.0, h.1, h.2, get_front K X h.0 h.1 h.3, h.4)
+  home_heap K X ρ (InSlot i) e h = (h.0, h.1, h.2, get_front K X h.0 h.1 h.3, h.4)
+
+  -- what a value's base is
+  abbrev pub BaseAt : EHeap → ERegs → (ℕ → Home) → TBase → EWord → Type 0
+  BaseAt K ρ homes (Reg r) e = Full e × HomeAt K ρ (homes r) e
+  BaseAt K ρ homes (Int i) e = e ≡ EInt i
+  BaseAt K ρ homes (Label l) e = e ≡ ELabel (suc l)
+  BaseAt K ρ homes (Data d) e = e ≡ EAddress d
+
+  pub base_regs : (K : EHeap) (ρ σ : ERegs) (homes : ℕ → Home) (b : TBase) (e : EWord) → ((r : ℕ) → UpTo (m + 2) (homes r)) →
+      ((q : ℕ) → q ≤ m + 2 → σ q ≡ ρ q) → BaseAt K ρ homes b e → BaseAt K σ homes b e
+  base_regs K ρ σ homes (Reg r) e up s h = (h.0, home_regs K ρ σ (m + 2) (homes r) e (omega arith) (up r) s h.1)
+  base_regs K ρ σ homes (Int i) e up s h = h
+  base_regs K ρ σ homes (Label l) e up s h = h
+  base_regs K ρ σ homes (Data d) e up s h = h
+
+  pub base_heap : (K X : EHeap) (ρ : ERegs) (homes : ℕ → Home) (b : TBase) (e : EWord) → BaseAt K ρ homes b e → BaseAt (K ++ X) ρ homes b e
+  base_heap K X ρ homes (Reg r) e h = (h.0, home_heap K X ρ (homes r) e h.1)
+  base_heap K X ρ homes (Int i) e h = h
+  base_heap K X ρ homes (Label l) e h = h
+  base_heap K X ρ homes (Data d) e h = h
+
 module _ (B : List ESeq) where
   -- steps
   pub ld_step : (h : EHeap) (r : ERegs) (rd rs i : ℕ) (c : ESeq) (a : ℕ) (ws : List EWord) (w : EWord) → r rs ≡ Some (EAddress a) → slice_get h a ≡ Some ws → slice_get ws i ≡ Some w → Full w →
@@ -129,104 +172,102 @@ module _ (B : List ESeq) where
       ap (λ o. on_int o (λ i. cond (is_zero i) (Some (EGoes Next (EAt h r c))) (enter B h r b))) e1
       ∙ ap (λ z. cond z (Some (EGoes Next (EAt h r c))) (enter B h r b)) e2
 
-  module _ (ix : ℕ → ℕ) (K : EHeap) (f : ℕ) (fw : List EWord) (at : slice_get K f ≡ Some fw) where
-    -- what a value's base is in the frame
-    abbrev pub Fetches : TBase → EWord → Type 0
-    Fetches (Reg r) w = (slice_get fw (ix r) ≡ Some w) × Full w
-    Fetches (Int i) w = w ≡ EInt i
-    Fetches (Label l) w = w ≡ ELabel (suc l)
-    Fetches (Data d) w = w ≡ EAddress d
-
-    pub record Fetched (ρ : ERegs) (b : TBase) (k : ESeq) (w : EWord) : Type 0 where
+  module _ (m : ℕ) where
+    pub record Loads (K : EHeap) (ρ : ERegs) (t : ℕ) (x : Home) (k : ESeq) (e : EWord) : Type 0 where
       pub regs : ERegs
-      pub walks : Walks B (EAt K ρ (efetch ix b k)) (EAt K regs k)
-      pub here : base_word regs (sp_base b) ≡ Some w
-      pub others : (q : ℕ) → q ≢ 3 → regs q ≡ ρ q
+      pub walks : Walks B (EAt K ρ (eload m t x k)) (EAt K regs k)
+      pub here : regs (at_home t x) ≡ Some e
+      pub others : (q : ℕ) → q ≢ t → regs q ≡ ρ q
 
-    pub fetches : (ρ : ERegs) (b : TBase) (k : ESeq) (w : EWord) → ρ 1 ≡ Some (EAddress f) → Fetches b w → Fetched ρ b k w
-    fetches ρ (Reg r) k w e h = record {
-      regs = with_reg ρ 3 w;
-      walks = walks_step B _ _ (ld_step K ρ 3 1 (ix r) k f fw w e at h.0 h.1);
-      here = look_same ρ 3 w;
-      others = λ q ne. look_other ρ 3 q w ne;
+    -- an operand is read
+    pub loads : (K : EHeap) (ρ : ERegs) (t : ℕ) (x : Home) (k : ESeq) (e : EWord) → HomeAt m K ρ x e → Full e → Loads K ρ t x k e
+    loads K ρ t (Held q) k e h full = record { regs = ρ; walks = walks_none B _; here = h; others = λ p ne. refl }
+    loads K ρ t (InFrame i) k e h full = record {
+      regs = with_reg ρ t e;
+      walks = walks_step B _ _ (ld_step K ρ t (frame_reg m) i k h.0 h.1 e h.2 h.3 h.4 full);
+      here = look_same ρ t e;
+      others = λ q ne. look_other ρ t q e ne;
     }
-    fetches ρ (Int i) k w e h = record { regs = ρ; walks = walks_none B _; here = ap Some (sym h); others = λ q ne. refl }
-    fetches ρ (Label l) k w e h = record { regs = ρ; walks = walks_none B _; here = ap Some (sym h); others = λ q ne. refl }
-    fetches ρ (Data d) k w e h = record { regs = ρ; walks = walks_none B _; here = ap Some (sym h); others = λ q ne. refl }
+    loads K ρ t (InSlot i) k e h full = record {
+      regs = with_reg ρ t e;
+      walks = walks_step B _ _ (ld_step K ρ t (slot_reg m) i k h.0 h.1 e h.2 h.3 h.4 full);
+      here = look_same ρ t e;
+      others = λ q ne. look_other ρ t q e ne;
+    }
 
-    module _ (new : Option ℕ) (three : Option EWord) where
-      -- what a field of the new frame is filled with
-      abbrev pub Source : ℕ → EWord → Type 0
-      Source q w = ((is_new new q ≡ true) × (three ≡ Some w)) ⊎ ((is_new new q ≡ false) × (slice_get fw (ix q) ≡ Some w) × Full w)
+    pub record Fetched (K : EHeap) (ρ : ERegs) (homes : ℕ → Home) (b : TBase) (k : ESeq) (e : EWord) : Type 0 where
+      pub regs : ERegs
+      pub walks : Walks B (EAt K ρ (ebase m homes b k)) (EAt K regs k)
+      pub here : base_word regs (sp_base (second_at m homes) b) ≡ Some e
+      pub others : (q : ℕ) → q ≢ second_reg m → regs q ≡ ρ q
 
+    pub fetches : (K : EHeap) (ρ : ERegs) (homes : ℕ → Home) (b : TBase) (k : ESeq) (e : EWord) → BaseAt m K ρ homes b e → Fetched K ρ homes b k e
+    fetches K ρ homes (Reg r) k e h =
+        let l = loads K ρ (second_reg m) (homes r) k e h.1 h.0 in
+        record { regs = l.regs; walks = l.walks; here = l.here; others = l.others }
+    fetches K ρ homes (Int i) k e h = record { regs = ρ; walks = walks_none B _; here = ap Some (sym h); others = λ q ne. refl }
+    fetches K ρ homes (Label l) k e h = record { regs = ρ; walks = walks_none B _; here = ap Some (sym h); others = λ q ne. refl }
+    fetches K ρ homes (Data d) k e h = record { regs = ρ; walks = walks_none B _; here = ap Some (sym h); others = λ q ne. refl }
+
+    module _ (K : EHeap) (ρ0 : ERegs) (homes : ℕ → Home) (up : (r : ℕ) → UpTo (m + 3) (homes r)) where
+      -- what the fields of a new frame are filled with
       abbrev pub Sources : List ℕ → List EWord → Type 0
       Sources [] [] = Unit {0}
-      Sources (q ∷ qs) (w ∷ ws) = Source q w × Sources qs ws
+      Sources (q ∷ qs) (w ∷ ws) = (Full w × HomeAt m K ρ0 (homes q) w) × Sources qs ws
       Sources [] (w ∷ ws) = ⊥
       Sources (q ∷ qs) [] = ⊥
-
-      source_step : (X : List EWord) (ρ : ERegs) (q : ℕ) (k : ESeq) (w : EWord) → ρ 1 ≡ Some (EAddress f) → ρ 3 ≡ three → Source q w →
-          estep B (EAt (K ++ (X ∷ [])) ρ (EThen (esource ix new q) k)) ≡ Some (EGoes Next (EAt (K ++ (X ∷ [])) (with_reg ρ 5 w) k))
-      source_step X ρ q k w e1 e3 (inl s) =
-          ap (λ b. estep B (EAt (K ++ (X ∷ [])) ρ (EThen (cond b (EMov 5 (Reg 3)) (ELd 5 1 (ix q))) k))) s.0
-          ∙ mov_step (K ++ (X ∷ [])) ρ 5 (Reg 3) k w (e3 ∙ s.1)
-      source_step X ρ q k w e1 e3 (inr s) =
-          ap (λ b. estep B (EAt (K ++ (X ∷ [])) ρ (EThen (cond b (EMov 5 (Reg 3)) (ELd 5 1 (ix q))) k))) s.0
-          ∙ ld_step (K ++ (X ∷ [])) ρ 5 1 (ix q) k f fw w e1 (get_front K (X ∷ []) f fw at) s.1 s.2
 
       record Filled (ρ : ERegs) (e : EState) (ws : List EWord) (k : ESeq) : Type 0 where
         regs : ERegs
         walks : Walks B e (EAt (K ++ (ws ∷ [])) regs k)
-        others : (q : ℕ) → q ≢ 5 → regs q ≡ ρ q
+        others : (q : ℕ) → q ≢ second_reg m → regs q ≡ ρ q
 
-      fills : (qs : List ℕ) (ws done : List EWord) (j : ℕ) (ρ : ERegs) (k : ESeq) → j ≡ length done → ρ 1 ≡ Some (EAddress f) → ρ 3 ≡ three → ρ 4 ≡ Some (EAddress (length K)) → Sources qs ws →
-          Filled ρ (EAt (K ++ ((done ++ replicate (length qs) EEmpty) ∷ [])) ρ (efill ix new qs j k)) (done ++ ws) k
-      fills [] [] done j ρ k len e1 e3 e4 s = record { regs = ρ; walks = walks_none B _; others = λ q ne. refl }
-      fills [] (w ∷ ws) done j ρ k len e1 e3 e4 s = absurd s
-      fills (q ∷ qs) [] done j ρ k len e1 e3 e4 s = absurd s
-      fills (q ∷ qs) (w ∷ ws) done j ρ k len e1 e3 e4 s =
+      fills : (qs : List ℕ) (ws done : List EWord) (j : ℕ) (ρ : ERegs) (k : ESeq) → j ≡ length done → ((q : ℕ) → q ≤ m + 3 → ρ q ≡ ρ0 q) →
+          ρ (made_reg m) ≡ Some (EAddress (length K)) → Sources qs ws →
+          Filled ρ (EAt (K ++ ((done ++ replicate (length qs) EEmpty) ∷ [])) ρ (efill m homes qs j k)) (done ++ ws) k
+      fills [] [] done j ρ k len s0 e4 s = record { regs = ρ; walks = walks_none B _; others = λ q ne. refl }
+      fills [] (w ∷ ws) done j ρ k len s0 e4 s = absurd s
+      fills (q ∷ qs) [] done j ρ k len s0 e4 s = absurd s
+      fills (q ∷ qs) (w ∷ ws) done j ρ k len s0 e4 s =
           let R : List EWord = replicate (length qs) EEmpty in
           let X : List EWord = done ++ (EEmpty ∷ R) in
-          let ρ1 : ERegs = with_reg ρ 5 w in
-          let o : (p : ℕ) → p ≢ 5 → ρ1 p ≡ ρ p = λ p ne. look_other ρ 5 p w ne in
-          let rest = efill ix new qs (suc j) k in
-          let a = source_step X ρ q (EThen (ESt 4 j 5) rest) w e1 e3 s.0 in
-          let four : ρ1 4 ≡ Some (EAddress (length K)) = o 4 (λ x. absurd (omega arith)) ∙ e4 in
+          let rest = efill m homes qs (suc j) k in
+          let home = home_heap m K (X ∷ []) ρ (homes q) w (home_regs m K ρ0 ρ (m + 3) (homes q) w (omega arith) (up q) s0 s.0.1) in
+          let l = loads (K ++ (X ∷ [])) ρ (second_reg m) (homes q) (EThen (ESt (made_reg m) j (second_at m homes q)) rest) w home s.0.0 in
+          let four : l.regs (made_reg m) ≡ Some (EAddress (length K)) = l.others (made_reg m) (λ x. absurd (omega arith)) ∙ e4 in
           let lt : j < length (done ++ (EEmpty ∷ R)) = omega (arith, len, length-append done (EEmpty ∷ R)) in
-          let b = st_step (K ++ (X ∷ [])) ρ1 4 j 5 rest (length K) X w four (get_end K X []) (look_same ρ 5 w) lt in
+          let b = st_step (K ++ (X ∷ [])) l.regs (made_reg m) j (second_at m homes q) rest (length K) X w four (get_end K X []) l.here lt in
           let inner : slice_set X j w ≡ (done ++ (w ∷ [])) ++ R =
           ap (λ n. slice_set (done ++ (EEmpty ∷ R)) n w) len ∙ set_end done EEmpty w R ∙ sym (append_assoc done w R) in
           let heap : slice_set (K ++ (X ∷ [])) (length K) (slice_set X j w) ≡ K ++ (((done ++ (w ∷ [])) ++ R) ∷ []) =
           set_end K X (slice_set X j w) [] ∙ ap (λ y. K ++ (y ∷ [])) inner in
           let len2 : suc j ≡ length (done ++ (w ∷ [])) = omega (arith, len, length-append done (w ∷ [])) in
-          let c = fills qs ws (done ++ (w ∷ [])) (suc j) ρ1 k len2 (o 1 (λ x. absurd (omega arith)) ∙ e1) (o 3 (λ x. absurd (omega arith)) ∙ e3) four s.1 in
-          let one = walks_step B (EAt (K ++ (X ∷ [])) ρ (EThen (esource ix new q) (EThen (ESt 4 j 5) rest))) _ a in
-          let two = walks_step B (EAt (K ++ (X ∷ [])) ρ1 (EThen (ESt 4 j 5) rest)) (EAt (K ++ (((done ++ (w ∷ [])) ++ R) ∷ [])) ρ1 rest) (b ∙ ap (λ y. Some (EGoes Next (EAt y ρ1 rest))) heap) in
+          let c = fills qs ws (done ++ (w ∷ [])) (suc j) l.regs k len2 (λ p le. l.others p (λ x. absurd (omega arith)) ∙ s0 p le) four s.1 in
+          let two = walks_step B (EAt (K ++ (X ∷ [])) l.regs (EThen (ESt (made_reg m) j (second_at m homes q)) rest)) (EAt (K ++ (((done ++ (w ∷ [])) ++ R) ∷ [])) l.regs rest) (b ∙ ap (λ y. Some (EGoes Next (EAt y l.regs rest))) heap) in
           record {
             regs = c.regs;
-            walks = subst (λ z. Walks B (EAt (K ++ (X ∷ [])) ρ (EThen (esource ix new q) (EThen (ESt 4 j 5) rest))) (EAt (K ++ (z ∷ [])) c.regs k)) (append_assoc done w ws)
-                (walks_on B _ _ _ one (walks_on B _ _ _ two c.walks));
-            others = λ p ne. c.others p ne ∙ o p ne;
+            walks = subst (λ z. Walks B (EAt (K ++ (X ∷ [])) ρ (efill m homes (q ∷ qs) j k)) (EAt (K ++ (z ∷ [])) c.regs k)) (append_assoc done w ws)
+                (walks_on B _ _ _ l.walks (walks_on B _ _ _ two c.walks));
+            others = λ p ne. c.others p ne ∙ l.others p ne;
           }
 
       pub record Built (ρ : ERegs) (e : EState) (ws : List EWord) (k : ESeq) : Type 0 where
         pub regs : ERegs
         pub moves : Moves B e (EAt (K ++ (ws ∷ [])) regs k)
-        pub one : regs 1 ≡ Some (EAddress (length K))
-        pub others : (q : ℕ) → q ≢ 1 → q ≢ 4 → q ≢ 5 → regs q ≡ ρ q
+        pub made : regs (made_reg m) ≡ Some (EAddress (length K))
+        pub others : (q : ℕ) → q ≢ second_reg m → q ≢ made_reg m → regs q ≡ ρ q
 
-      pub builds : (qs : List ℕ) (ws : List EWord) (ρ : ERegs) (k : ESeq) → ρ 1 ≡ Some (EAddress f) → ρ 3 ≡ three → Sources qs ws → Built ρ (EAt K ρ (ebuild ix new qs k)) ws k
-      builds qs ws ρ k e1 e3 s =
+      -- a frame is made
+      pub builds : (qs : List ℕ) (ws : List EWord) (k : ESeq) → Sources qs ws → Built ρ0 (EAt K ρ0 (ebuild m homes qs k)) ws k
+      builds qs ws k s =
           let n : EWord = EAddress (length K) in
-          let ρ1 : ERegs = with_reg ρ 4 n in
-          let o : (p : ℕ) → p ≢ 4 → ρ1 p ≡ ρ p = λ p ne. look_other ρ 4 p n ne in
-          let k1 = EThen (EMov 1 (Reg 4)) k in
-          let a = moves_step B (EAt K ρ (ebuild ix new qs k)) (EAt (K ++ (replicate (length qs) EEmpty ∷ [])) ρ1 (efill ix new qs 0 k1)) refl in
-          let c = fills qs ws [] 0 ρ1 k1 refl (o 1 (λ x. absurd (omega arith)) ∙ e1) (o 3 (λ x. absurd (omega arith)) ∙ e3) (look_same ρ 4 n) s in
-          let d = walks_step B (EAt (K ++ (ws ∷ [])) c.regs k1) (EAt (K ++ (ws ∷ [])) (with_reg c.regs 1 n) k) (mov_step (K ++ (ws ∷ [])) c.regs 1 (Reg 4) k n (c.others 4 (λ x. absurd (omega arith)) ∙ look_same ρ 4 n)) in
+          let ρ1 : ERegs = with_reg ρ0 (made_reg m) (EAddress (length K)) in
+          let o : (p : ℕ) → p ≢ made_reg m → ρ1 p ≡ ρ0 p = λ p ne. look_other ρ0 (made_reg m) p n ne in
+          let a = moves_step B (EAt K ρ0 (ebuild m homes qs k)) (EAt (K ++ (replicate (length qs) EEmpty ∷ [])) ρ1 (efill m homes qs 0 k)) refl in
+          let c = fills qs ws [] 0 ρ1 k refl (λ p le. o p (λ x. absurd (omega arith))) (look_same ρ0 (made_reg m) n) s in
           record {
-            regs = with_reg c.regs 1 n;
-            moves = moves_walk B _ _ _ a (walks_on B _ _ _ c.walks d);
-            one = look_same c.regs 1 n;
-            others = λ q x y z. look_other c.regs 1 q n x ∙ c.others q z ∙ o q y;
+            regs = c.regs;
+            moves = moves_walk B _ _ _ a c.walks;
+            made = c.others (made_reg m) (λ x. absurd (omega arith)) ∙ look_same ρ0 (made_reg m) n;
+            others = λ q x y. c.others q x ∙ o q y;
           }

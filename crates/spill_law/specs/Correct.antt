@@ -3,7 +3,7 @@ use Rattle.std.specs.Prelude.{◌≡◌, ℕ, ℤ, zero, suc, ◌-◌, ◌≤◌
 use Rattle.t_terms.specs.Tree.{TBlock, TProg}
 use Rattle.t_rules.specs.Machine.{State, Place, Spot, After, HaltsWithin, Halts}
 use Rattle.t_rules.specs.Times.{places, is_spot, Times}
-use Rattle.spill_law.specs.Spill.{thens, sizes}
+use Rattle.spill_law.specs.Spill.{lows, layout, thens, sizes}
 
 -- the two programs halt alike, the second never in fewer instructions
 pub record HaltsAlike (P Q : TProg) : Type 0 where
@@ -15,13 +15,17 @@ abbrev pub origin_in : List ℕ → ℕ → ℕ
 origin_in [] k = 0
 origin_in (n ∷ ns) k = cond (nat_lt k n) 0 (suc (origin_in ns (k - n)))
 
-abbrev pub sizes_of : TProg → Option TBlock → List ℕ
-sizes_of P None = []
-sizes_of P (Some b) = sizes P b.file b.code
+abbrev pub sizes_of : ℕ → TProg → Option TBlock → List ℕ
+sizes_of m P None = []
+sizes_of m P (Some b) = sizes m P (layout m b.file) b.file b.code
 
-abbrev pub origin : TProg → Place → Place
-origin P (Spot zero i) = Spot 0 0
-origin P (Spot (suc b) i) = Spot b (origin_in (sizes_of P (slice_get P.blocks b)) i)
+abbrev pub origin_above : ℕ → TProg → Place → Place
+origin_above m P (Spot zero i) = Spot 0 0
+origin_above m P (Spot (suc b) i) = Spot b (origin_in (sizes_of m P (slice_get P.blocks b)) i)
+
+-- where no register of the spilled program is above k
+abbrev pub origin : ℕ → TProg → Place → Place
+origin k P = origin_above (lows k) P
 
 -- a place of a program
 abbrev pub IsPlace : TProg → Place → Type 0

@@ -1,56 +1,105 @@
--- The bound on registers. Register 1 holds a frame: a tuple with the words of the registers that are known, in the
--- order of the file. Each instruction loads what it reads, computes, and makes the frame anew, with the registers that
--- the rest wants. Labels are one further on, in data too.
-use Rattle.std.specs.Prelude.{ℕ, suc, ◌-◌, ◌≤◌, nat_eq, nat_lt, cond, Bool, true, false, List, [], ◌∷◌, length, map, ◌++◌, Option, Some, None, slice_get, option_map}
-use Rattle.t_types.specs.Tree.{Ty, IntTy, VarTy, CodeTy, ExistsTy, TupleTy, TFile, NoRegs, MoreRegs, TFields, NoFields, MoreFields, shift_file, each, each_file}
+-- The bound on registers. Registers up to m stay as they are, and six more, m + 1 to m + 6, are the spilled program's
+-- own. The words of the higher ones stand in two tuples: a frame, which holds those that were known where it was made,
+-- in the order of the file, and slots, one for each definition of a higher register since then. Labels are one further
+-- on, in data too.
+use Rattle.std.specs.Prelude.{ℕ, zero, suc, ◌+◌, ◌-◌, ◌≤◌, min, nat_eq, nat_lt, cond, Bool, true, false, List, [], ◌∷◌}
+use Rattle.std.specs.Prelude.{length, map, ◌++◌, Option, Some, None, slice_get, option_map}
+use Rattle.t_types.specs.Tree.{Ty, IntTy, VarTy, CodeTy, ExistsTy, TupleTy, TFile, NoRegs, MoreRegs, TFields, NoFields}
+use Rattle.t_types.specs.Tree.{MoreFields, shift_file, each, each_file}
 use Rattle.t_types.specs.Fields.{TField, AField, field, filled, empty_fields}
 use Rattle.t_types.specs.Fits.{lookup}
-use Rattle.t_terms.specs.Tree.{TBase, Reg, Int, Label, Data, TValue, Plain, Pack, TInstr, Arith, Bnz, Ld, Malloc, Mov, St, Unpack, TEnd, Jmp, Halt, TSeq, Then, Ends, TBlock, TDatum, TData, TProg, names_after}
-use Rattle.t_types.specs.WellFormed.{max_names}
+use Rattle.t_types.specs.WellFormed.{max_number, max_names}
+use Rattle.t_terms.specs.Tree.{TBase, Reg, Int, Label, Data, TValue, Plain, Pack, TInstr, Arith, Bnz, Ld, Malloc, Mov}
+use Rattle.t_terms.specs.Tree.{St, Unpack, TEnd, Jmp, Halt, TSeq, Then, Ends, TBlock, TDatum, TData, TProg, names_after}
 use Rattle.t_rules.specs.Registers.{inst_file}
 use Rattle.t_rules.specs.Rules.{label_type, data_type}
 
--- types: code takes its frame in register 1
-abbrev mutual
-  pub sp : Ty → Ty
-  sp IntTy = IntTy
-  sp (VarTy i) = VarTy i
-  sp (CodeTy owes file) = CodeTy owes (MoreRegs 1 (TupleTy (frame file)) NoRegs)
-  sp (ExistsTy t) = ExistsTy (sp t)
-  sp (TupleTy fields) = TupleTy (sp_fields fields)
+-- the number of registers that stay, where no register is above k: six less, and none of the six too great for a text
+abbrev pub lows : ℕ → ℕ
+lows k = min k max_number - 6
 
-  -- the frame of a file: each register's type, initialised
-  pub frame : TFile → TFields
-  frame NoRegs = NoFields
-  frame (MoreRegs r t file) = MoreFields (sp t) true (frame file)
+-- the spilled program's own registers: the frame, the slots, two for operands and results, a frame that is being made,
+-- and the frame while a branch has another
+abbrev pub frame_reg : ℕ → ℕ
+frame_reg m = suc m
 
-  pub sp_fields : TFields → TFields
-  sp_fields NoFields = NoFields
-  sp_fields (MoreFields t flag fields) = MoreFields (sp t) flag (sp_fields fields)
+abbrev pub slot_reg : ℕ → ℕ
+slot_reg m = m + 2
 
-abbrev pub sp_file : TFile → TFile
-sp_file file = MoreRegs 1 (TupleTy (frame file)) NoRegs
+abbrev pub first_reg : ℕ → ℕ
+first_reg m = m + 3
 
--- the types of a frame
+abbrev pub second_reg : ℕ → ℕ
+second_reg m = m + 4
+
+abbrev pub made_reg : ℕ → ℕ
+made_reg m = m + 5
+
+abbrev pub saved_reg : ℕ → ℕ
+saved_reg m = m + 6
+
+-- a register in front of a file, where it is wanted
+abbrev pub with_if : Bool → ℕ → Ty → TFile → TFile
+with_if true r t x = MoreRegs r t x
+with_if false r t x = x
+
+abbrev pub without_if : Bool → ℕ → Ty → TFile → TFile
+without_if true r t x = x
+without_if false r t x = MoreRegs r t x
+
+-- the registers of a file above m, and those up to m, with others behind them
+abbrev pub high_part : ℕ → TFile → TFile
+high_part m NoRegs = NoRegs
+high_part m (MoreRegs r t x) = with_if (nat_lt m r) r t (high_part m x)
+
+abbrev pub low_part : ℕ → TFile → TFile → TFile
+low_part m NoRegs last = last
+low_part m (MoreRegs r t x) last = without_if (nat_lt m r) r t (low_part m x last)
+
+-- the fields of a frame: each register's type, initialised; and the types alone
+abbrev pub frame : TFile → TFields
+frame NoRegs = NoFields
+frame (MoreRegs r t x) = MoreFields t true (frame x)
+
 abbrev pub cells : TFile → List Ty
 cells NoRegs = []
-cells (MoreRegs r t file) = sp t ∷ cells file
+cells (MoreRegs r t x) = t ∷ cells x
 
--- values: what was in a register is in register 3; a block is one further on
-abbrev pub sp_base : TBase → TBase
-sp_base (Reg r) = Reg 3
-sp_base (Int i) = Int i
-sp_base (Label l) = Label (suc l)
-sp_base (Data d) = Data d
+-- the registers above m in a frame
+abbrev pub split : ℕ → TFile → TFile
+split m x = low_part m x (MoreRegs (frame_reg m) (TupleTy (frame (high_part m x))) NoRegs)
 
-abbrev pub sp_value : TValue → TValue
-sp_value (Plain b ts) = Plain (sp_base b) (map sp ts)
-sp_value (Pack t v s) = Pack (sp t) (sp_value v) (sp s)
+-- types: code takes its higher registers in a frame
+abbrev mutual
+  pub sp : ℕ → Ty → Ty
+  sp m IntTy = IntTy
+  sp m (VarTy i) = VarTy i
+  sp m (CodeTy owes file) = CodeTy owes (split m (sp_regs m file))
+  sp m (ExistsTy t) = ExistsTy (sp m t)
+  sp m (TupleTy fields) = TupleTy (sp_fields m fields)
 
--- the place of a register in a file
-abbrev pub index : TFile → ℕ → ℕ
-index NoRegs r = 0
-index (MoreRegs q t file) r = cond (nat_eq q r) 0 (suc (index file r))
+  -- the same registers, each type spilled
+  pub sp_regs : ℕ → TFile → TFile
+  sp_regs m NoRegs = NoRegs
+  sp_regs m (MoreRegs r t file) = MoreRegs r (sp m t) (sp_regs m file)
+
+  pub sp_fields : ℕ → TFields → TFields
+  sp_fields m NoFields = NoFields
+  sp_fields m (MoreFields t flag fields) = MoreFields (sp m t) flag (sp_fields m fields)
+
+abbrev pub sp_file : ℕ → TFile → TFile
+sp_file m file = split m (sp_regs m file)
+
+-- values: a register's word may stand in another one; a block is one further on
+abbrev pub sp_base : (ℕ → ℕ) → TBase → TBase
+sp_base at (Reg r) = Reg (at r)
+sp_base at (Int i) = Int i
+sp_base at (Label l) = Label (suc l)
+sp_base at (Data d) = Data d
+
+abbrev pub sp_value : ℕ → (ℕ → ℕ) → TValue → TValue
+sp_value m at (Plain b ts) = Plain (sp_base at b) (map (sp m) ts)
+sp_value m at (Pack t v s) = Pack (sp m t) (sp_value m at v) (sp m s)
 
 -- the file with a type for a register, in ascending order
 abbrev pub ins : ℕ → Ty → TFile → TFile
@@ -112,16 +161,6 @@ target_file (VarTy n) = NoRegs
 target_file (ExistsTy t) = NoRegs
 target_file (TupleTy fs) = NoRegs
 
--- the file of the old registers where the new frame is made: an unpack has one more type variable
-abbrev pub mid : TInstr → TFile → TFile
-mid (Unpack rd v) file = shift_file 1 0 file
-mid (Arith op rd rs v) file = file
-mid (Bnz r v) file = file
-mid (Ld rd rs i) file = file
-mid (Malloc rd ts) file = file
-mid (Mov rd v) file = file
-mid (St rd i rs) file = file
-
 -- the register that an instruction gives a type, if any, and the type
 abbrev pub next : TProg → TFile → TInstr → TFile
 next P file (Arith op rd rs v) = ins rd IntTy file
@@ -134,34 +173,6 @@ next P file (Unpack rd v) = ins rd (hidden_type (type_of P file v)) (shift_file 
 
 abbrev pub reg : ℕ → TValue
 reg r = Plain (Reg r) []
-
--- a value's register is loaded into register 3
-abbrev pub fetch_base : TFile → TBase → TSeq → TSeq
-fetch_base file (Reg r) rest = Then (Ld 3 1 (index file r)) rest
-fetch_base file (Int i) rest = rest
-fetch_base file (Label l) rest = rest
-fetch_base file (Data d) rest = rest
-
-abbrev pub fetch : TFile → TValue → TSeq → TSeq
-fetch file (Plain b ts) rest = fetch_base file b rest
-fetch file (Pack t v s) rest = fetch file v rest
-
--- one word of a new frame, into register 5: the new word from register 3, any other from the old frame
-abbrev pub is_new : Option ℕ → ℕ → Bool
-is_new None q = false
-is_new (Some r) q = nat_eq r q
-
-abbrev pub source : TFile → Option ℕ → ℕ → TInstr
-source file new q = cond (is_new new q) (Mov 5 (reg 3)) (Ld 5 1 (index file q))
-
--- the new frame in register 4 is filled from field j on
-abbrev pub fill : TFile → Option ℕ → TFile → ℕ → TSeq → TSeq
-fill file new NoRegs j rest = rest
-fill file new (MoreRegs q t to) j rest = Then (source file new q) (Then (St 4 j 5) (fill file new to (suc j) rest))
-
--- a new frame in register 1, for the file `to`
-abbrev pub build : TFile → Option ℕ → TFile → TSeq → TSeq
-build file new to rest = Then (Malloc 4 (cells to)) (fill file new to 0 (Then (Mov 1 (reg 4)) rest))
 
 -- the file of the target of a branch or a jump
 abbrev pub target : TProg → TFile → TInstr → TFile
@@ -230,57 +241,219 @@ kept P file (Mov rd v) rest = keep (live P (next P file (Mov rd v)) rest) (next 
 kept P file (St rd i rs) rest = keep (live P (next P file (St rd i rs)) rest) (next P file (St rd i rs))
 kept P file (Unpack rd v) rest = keep (live P (next P file (Unpack rd v)) rest) (next P file (Unpack rd v))
 
--- the code of an instruction, which leaves a frame of the file `to`
-abbrev pub step : TProg → TFile → TInstr → TFile → TSeq → TSeq
-step P file (Arith op rd rs v) to rest =
-    Then (Ld 2 1 (index file rs)) (fetch file v (Then (Arith op 3 2 (sp_value v)) (build file (Some rd) to rest)))
-step P file (Bnz r v) to rest =
-    Then (Ld 2 1 (index file r)) (fetch file v (Then (Mov 6 (reg 1)) (build file None (target_file (type_of P file v)) (Then (Bnz 2 (sp_value v)) (Then (Mov 1 (reg 6)) rest)))))
-step P file (Ld rd rs i) to rest = Then (Ld 2 1 (index file rs)) (Then (Ld 3 2 i) (build file (Some rd) to rest))
-step P file (Malloc rd ts) to rest = Then (Malloc 3 (map sp ts)) (build file (Some rd) to rest)
-step P file (Mov rd v) to rest = fetch file v (Then (Mov 3 (sp_value v)) (build file (Some rd) to rest))
-step P file (St rd i rs) to rest =
-    Then (Ld 3 1 (index file rd)) (Then (Ld 2 1 (index file rs)) (Then (St 3 i 2) (build file (Some rd) to rest)))
-step P file (Unpack rd v) to rest =
-    fetch file v (Then (Unpack 3 (sp_value v)) (build (shift_file 1 0 file) (Some rd) to rest))
+-- where the word of a register stands: in a register, in a field of the frame, or in a slot
+pub data Home : Type 0 where
+  Held : (q : ℕ) → Home
+  InFrame : (i : ℕ) → Home
+  InSlot : (i : ℕ) → Home
 
-abbrev pub code : TProg → TFile → TSeq → TSeq
-code P file (Then i rest) = step P file i (kept P file i rest) (code P (kept P file i rest) rest)
-code P file (Ends (Jmp v)) = fetch file v (build file None (target_file (type_of P file v)) (Ends (Jmp (sp_value v))))
-code P file (Ends Halt) = Then (Ld 1 1 (index file 1)) (Ends Halt)
+-- the home of each register, and how many slots are filled since the frame was made; the first one makes them all
+pub record Layout : Type 0 where
+  pub homes : ℕ → Home
+  pub used : ℕ
+
+abbrev pub homed : (ℕ → Home) → ℕ → Home → ℕ → Home
+homed homes r h q = cond (nat_eq r q) h (homes q)
+
+abbrev pub position : List ℕ → ℕ → ℕ
+position [] r = 0
+position (q ∷ qs) r = cond (nat_eq q r) 0 (suc (position qs r))
+
+-- with a frame of these registers: one up to m is in its place
+abbrev pub gathered : ℕ → List ℕ → Layout
+gathered m qs = record { homes = λ r. cond (nat_lt m r) (InFrame (position qs r)) (Held r); used = 0 }
+
+-- at the beginning of code that takes the file
+abbrev pub layout : ℕ → TFile → Layout
+layout m file = gathered m (numbers (high_part m file))
+
+-- a register's word for an instruction: in the register t, where it is not in one
+abbrev pub at_home : ℕ → Home → ℕ
+at_home t (Held q) = q
+at_home t (InFrame i) = t
+at_home t (InSlot i) = t
+
+abbrev pub load : ℕ → ℕ → Home → TSeq → TSeq
+load m t (Held q) rest = rest
+load m t (InFrame i) rest = Then (Ld t (frame_reg m) i) rest
+load m t (InSlot i) rest = Then (Ld t (slot_reg m) i) rest
+
+-- a value's register is loaded into the second one
+abbrev pub load_base : ℕ → (ℕ → Home) → TBase → TSeq → TSeq
+load_base m homes (Reg r) rest = load m (second_reg m) (homes r) rest
+load_base m homes (Int i) rest = rest
+load_base m homes (Label l) rest = rest
+load_base m homes (Data d) rest = rest
+
+abbrev pub load_value : ℕ → (ℕ → Home) → TValue → TSeq → TSeq
+load_value m homes (Plain b ts) rest = load_base m homes b rest
+load_value m homes (Pack t v s) rest = load_value m homes v rest
+
+abbrev pub second_at : ℕ → (ℕ → Home) → ℕ → ℕ
+second_at m homes r = at_home (second_reg m) (homes r)
+
+-- a frame that is being made is filled from field j on
+abbrev pub fill : ℕ → (ℕ → Home) → List ℕ → ℕ → TSeq → TSeq
+fill m homes [] j rest = rest
+fill m homes (q ∷ qs) j rest =
+    load m (second_reg m) (homes q) (Then (St (made_reg m) j (second_at m homes q)) (fill m homes qs (suc j) rest))
+
+-- a frame of the file's registers above m, made beside the old one
+abbrev pub build : ℕ → (ℕ → Home) → TFile → TSeq → TSeq
+build m homes to rest =
+    Then (Malloc (made_reg m) (cells (high_part m (sp_regs m to)))) (fill m homes (numbers (high_part m to)) 0 rest)
+
+-- and in the place of the old one
+abbrev pub gather : ℕ → (ℕ → Home) → TFile → TSeq → TSeq
+gather m homes to rest = build m homes to (Then (Mov (frame_reg m) (reg (made_reg m))) rest)
+
+-- the register that an instruction gives a word, if any
+abbrev pub defines : TInstr → ℕ
+defines (Arith op rd rs v) = rd
+defines (Bnz r v) = 0
+defines (Ld rd rs i) = rd
+defines (Malloc rd ts) = rd
+defines (Mov rd v) = rd
+defines (St rd i rs) = rd
+defines (Unpack rd v) = rd
+
+-- where an instruction computes it
+abbrev pub into : ℕ → ℕ → ℕ
+into m rd = cond (nat_lt m rd) (first_reg m) rd
+
+-- What becomes of it: it stays there, or it goes into the next slot, or into a new frame of all that the rest wants. A
+-- new frame is made after each unpack, since the types of fields cannot name the type variable that it binds, and where
+-- the slots have come to their greatest number.
+pub data Way : Type 0 where
+  Stays : Way
+  Fills : Way
+  Gathers : Way
+
+abbrev pub most_slots : ℕ
+most_slots = 1000
+
+abbrev pub way_of : ℕ → ℕ → ℕ → Way
+way_of m used rd = cond (nat_lt m rd) (cond (nat_lt used most_slots) Fills Gathers) Stays
+
+abbrev pub way : ℕ → ℕ → TInstr → Way
+way m used (Arith op rd rs v) = way_of m used rd
+way m used (Bnz r v) = Stays
+way m used (Ld rd rs i) = way_of m used rd
+way m used (Malloc rd ts) = way_of m used rd
+way m used (Mov rd v) = way_of m used rd
+way m used (St rd i rs) = way_of m used rd
+way m used (Unpack rd v) = Gathers
+
+-- the layout after it, where the file `to` is known then
+abbrev pub after_way : ℕ → Layout → ℕ → TFile → Way → Layout
+after_way m L rd to Stays = L
+after_way m L rd to Fills = record { homes = homed L.homes rd (InSlot L.used); used = suc L.used }
+after_way m L rd to Gathers = layout m to
+
+abbrev pub after : ℕ → Layout → TInstr → TFile → Layout
+after m L i to = after_way m L (defines i) to (way m L.used i)
+
+-- the types of the slots that a sequence fills before the next frame is made, where some are used already
+abbrev pub slots_by : Way → Ty → List Ty → List Ty
+slots_by Stays t ts = ts
+slots_by Fills t ts = t ∷ ts
+slots_by Gathers t ts = []
+
+abbrev pub used_by : Way → ℕ → ℕ
+used_by Stays used = used
+used_by Fills used = suc used
+used_by Gathers used = 0
+
+abbrev pub slots : ℕ → TProg → ℕ → TFile → TSeq → List Ty
+slots m P used file (Then i rest) = slots_by (way m used i) (sp m (or_int (lookup (next P file i) (defines i))))
+    (slots m P (used_by (way m used i) used) (kept P file i rest) rest)
+slots m P used file (Ends e) = []
+
+-- the word in the first register goes into the next slot; the first slot makes all
+abbrev pub fill_slot : ℕ → ℕ → List Ty → TSeq → TSeq
+fill_slot m zero types rest = Then (Malloc (slot_reg m) types) (Then (St (slot_reg m) 0 (first_reg m)) rest)
+fill_slot m (suc j) types rest = Then (St (slot_reg m) (suc j) (first_reg m)) rest
+
+abbrev pub finish : ℕ → Layout → ℕ → List Ty → TFile → Way → TSeq → TSeq
+finish m L rd types to Stays rest = rest
+finish m L rd types to Fills rest = fill_slot m L.used types rest
+finish m L rd types to Gathers rest = gather m (homed L.homes rd (Held (into m rd))) to rest
+
+-- the code of an instruction that leaves the file `to`, where `types` are those of the slots from here on
+abbrev pub step : ℕ → TProg → Layout → TFile → TInstr → List Ty → TFile → TSeq → TSeq
+step m P L file (Arith op rd rs v) types to rest =
+    load m (first_reg m) (L.homes rs) (load_value m L.homes v
+    (Then (Arith op (into m rd) (at_home (first_reg m) (L.homes rs)) (sp_value m (second_at m L.homes) v))
+    (finish m L rd types to (way_of m L.used rd) rest)))
+step m P L file (Bnz r v) types to rest =
+    build m L.homes (target_file (type_of P file v)) (load m (first_reg m) (L.homes r) (load_value m L.homes v
+    (Then (Mov (saved_reg m) (reg (frame_reg m))) (Then (Mov (frame_reg m) (reg (made_reg m)))
+    (Then (Bnz (at_home (first_reg m) (L.homes r)) (sp_value m (second_at m L.homes) v))
+    (Then (Mov (frame_reg m) (reg (saved_reg m))) rest))))))
+step m P L file (Ld rd rs i) types to rest =
+    load m (first_reg m) (L.homes rs) (Then (Ld (into m rd) (at_home (first_reg m) (L.homes rs)) i)
+    (finish m L rd types to (way_of m L.used rd) rest))
+step m P L file (Malloc rd ts) types to rest =
+    Then (Malloc (into m rd) (map (sp m) ts)) (finish m L rd types to (way_of m L.used rd) rest)
+step m P L file (Mov rd v) types to rest =
+    load_value m L.homes v (Then (Mov (into m rd) (sp_value m (second_at m L.homes) v))
+    (finish m L rd types to (way_of m L.used rd) rest))
+step m P L file (St rd i rs) types to rest =
+    load m (first_reg m) (L.homes rd) (load m (second_reg m) (L.homes rs)
+    (Then (St (into m rd) i (second_at m L.homes rs)) (finish m L rd types to (way_of m L.used rd) rest)))
+step m P L file (Unpack rd v) types to rest =
+    load_value m L.homes v (Then (Unpack (into m rd) (sp_value m (second_at m L.homes) v))
+    (finish m L rd types to Gathers rest))
+
+abbrev pub code : ℕ → TProg → Layout → TFile → TSeq → TSeq
+code m P L file (Then i rest) = step m P L file i (slots m P L.used file (Then i rest)) (kept P file i rest)
+    (code m P (after m L i (kept P file i rest)) (kept P file i rest) rest)
+code m P L file (Ends (Jmp v)) =
+    build m L.homes (target_file (type_of P file v)) (load_value m L.homes v
+    (Then (Mov (frame_reg m) (reg (made_reg m))) (Ends (Jmp (sp_value m (second_at m L.homes) v)))))
+code m P L file (Ends Halt) = Ends Halt
 
 -- the number of instructions of a sequence, its end aside, and of the code of an instruction
 abbrev pub thens : TSeq → ℕ
 thens (Then i rest) = suc (thens rest)
 thens (Ends e) = 0
 
-abbrev pub step_size : TProg → TFile → TInstr → TFile → ℕ
-step_size P file i to = thens (step P file i to (Ends Halt))
+abbrev pub step_size : ℕ → TProg → Layout → TFile → TInstr → TFile → ℕ
+step_size m P L file i to = thens (step m P L file i [] to (Ends Halt))
 
 -- of each instruction of a sequence
-abbrev pub sizes : TProg → TFile → TSeq → List ℕ
-sizes P file (Then i rest) = step_size P file i (kept P file i rest) ∷ sizes P (kept P file i rest) rest
-sizes P file (Ends e) = []
+abbrev pub sizes : ℕ → TProg → Layout → TFile → TSeq → List ℕ
+sizes m P L file (Then i rest) = step_size m P L file i (kept P file i rest)
+    ∷ sizes m P (after m L i (kept P file i rest)) (kept P file i rest) rest
+sizes m P L file (Ends e) = []
 
-abbrev pub sp_block : TProg → TBlock → TBlock
-sp_block P b = record { owes = b.owes; file = sp_file b.file; code = code P b.file b.code }
+abbrev pub sp_block : ℕ → TProg → TBlock → TBlock
+sp_block m P b = record { owes = b.owes; file = sp_file m b.file; code = code m P (layout m b.file) b.file b.code }
 
-abbrev pub sp_blocks : TProg → List TBlock → List TBlock
-sp_blocks P bs = map (sp_block P) bs
+abbrev pub sp_blocks : ℕ → TProg → List TBlock → List TBlock
+sp_blocks m P bs = map (sp_block m P) bs
 
--- data: labels are one further on, and types are spilled
-abbrev pub sp_datum : TDatum → TDatum
-sp_datum x = record { value = sp_value x.value; ty = sp x.ty }
+-- data: labels are one further on, and types are spilled; no value of a whole program's data names a register
+abbrev pub sp_datum : ℕ → TDatum → TDatum
+sp_datum m x = record { value = sp_value m (λ r. 1) x.value; ty = sp m x.ty }
 
-abbrev pub sp_data : TData → TData
-sp_data x = map sp_datum x
+abbrev pub sp_data : ℕ → TData → TData
+sp_data m x = map (sp_datum m) x
 
 -- the first block makes an empty frame and enters the old first block
-abbrev pub entry : TBlock
-entry = record { owes = 0; file = NoRegs; code = Then (Malloc 1 []) (Ends (Jmp (Plain (Label 1) []))) }
+abbrev pub entry : ℕ → TBlock
+entry m = record {
+  owes = 0;
+  file = NoRegs;
+  code = Then (Malloc (frame_reg m) []) (Ends (Jmp (Plain (Label 1) [])));
+}
 
-abbrev pub spilled : TProg → TProg
-spilled P = record { blocks = entry ∷ sp_blocks P P.blocks; heap = map sp_data P.heap }
+abbrev pub spilled_above : ℕ → TProg → TProg
+spilled_above m P = record { blocks = entry m ∷ sp_blocks m P P.blocks; heap = map (sp_data m) P.heap }
+
+-- no register above k
+abbrev pub spilled : ℕ → TProg → TProg
+spilled k P = spilled_above (lows k) P
 
 -- not too many type names are bound around a place of the type, under n type names
 abbrev pub FewNames : ℕ → Ty → Type 0

@@ -15,37 +15,41 @@ ghost use Rattle.spill_law.specs.Correct.{HaltsAlike, CountsKept, origin};
 
 /// What is spilled of an accepted program is accepted.
 pub fn types_are_kept()
-    ensures { (P : TProg) → Whole P → Accepted P → Accepted (spilled P) }
+    ensures { (k : ℕ) (P : TProg) → 8 ≤ k → Whole P → Accepted P → Accepted (spilled k P) }
 {}
 
 /// It is a whole program, where the types of the program have not too many names.
 pub fn programs_are_whole()
-    ensures { (P : TProg) → Whole P → Accepted P → TypesFew P → Whole (spilled P) }
+    ensures { (k : ℕ) (P : TProg) → 8 ≤ k → Whole P → Accepted P → TypesFew P → Whole (spilled k P) }
 {}
 
 /// It has no register above k.
 pub fn registers_are_few()
-    ensures { (k : ℕ) → 8 ≤ k → (P : TProg) → RegistersUpTo k (spilled P) }
+    ensures { (k : ℕ) → 8 ≤ k → (P : TProg) → RegistersUpTo k (spilled k P) }
 {}
 
 /// It halts with the same integers, and never in fewer instructions.
 pub fn meaning_is_kept()
-    ensures { (P : TProg) → Whole P → Accepted P → TypesFew P → HaltsAlike P (spilled P) }
+    ensures { (k : ℕ) (P : TProg) → 8 ≤ k → Whole P → Accepted P → TypesFew P → HaltsAlike P (spilled k P) }
 {}
 
 /// Each place comes from a place, and is executed no more often than that is the place of a state.
 pub fn counts_are_kept()
-    ensures { (P : TProg) → Whole P → Accepted P → TypesFew P → CountsKept P (spilled P) (origin P) }
+    ensures {
+        (k : ℕ) (P : TProg) → 8 ≤ k → Whole P → Accepted P → TypesFew P → CountsKept P (spilled k P) (origin k P)
+    }
 {}
 
 /// Where no pack stands inside a pack, its text has hardly more constructs open than the program's types reach.
 pub fn reach_is_kept()
-    ensures { (P : TProg) → Whole P → Accepted P → Flat P → nesting (spilled P) ≤ reach P + 20 }
+    ensures { (k : ℕ) (P : TProg) → 8 ≤ k → Whole P → Accepted P → Flat P → nesting (spilled k P) ≤ reach P + 20 }
 {}
 
 /// The whole theorem.
 pub fn registers_are_bounded()
-    ensures { (k : ℕ) (P : TProg) → 8 ≤ k → Whole P → Accepted P → TypesFew P → Spills k P (spilled P) (origin P) }
+    ensures {
+        (k : ℕ) (P : TProg) → 8 ≤ k → Whole P → Accepted P → TypesFew P → Spills k P (spilled k P) (origin k P)
+    }
 {}
 
 /// A program that has no register above k may stay as it is.

@@ -1,5 +1,6 @@
+use Rattle.spill_law.specs.Spill.{lows}
 use Rattle.spill_law.proofs.Reached.{within_twenty}
 use Rattle.spill_law.proofs.reach_is_kept.Goals as goal
 
 pub returns : goal.returns
-returns c = within_twenty
+returns c = λ k P h. within_twenty (lows k) P

@@ -1,24 +1,15 @@
 -- The code of an instruction in two parts: up to where its word is computed, and what becomes of the word.
-use Rattle.std.proofs.Common.{◌≡◌, ℕ, Bool, true, false, List, refl, sym, ap, ◌∙◌, nat_lt}
-use Rattle.t_types.specs.Tree.{Ty, TFile, NoRegs, MoreRegs}
+use Rattle.std.proofs.Common.{◌≡◌, ℕ, List, refl, ap}
+use Rattle.t_types.specs.Tree.{Ty, TFile}
 use Rattle.t_terms.specs.Tree.{TInstr, Arith, Bnz, Ld, Malloc, Mov, St, Unpack, TEnd, Jmp, Halt, TSeq, Then, Ends, TProg}
-use Rattle.spill_law.specs.Spill.{Home, Layout, sp, sp_regs, high_part, with_if, cells, numbers, fill, build, gather, reg}
+use Rattle.spill_law.specs.Spill.{Home, Layout, high_part, cells, numbers, fill, build, gather, reg}
 use Rattle.spill_law.specs.Spill.{frame_reg, made_reg, target, end_target, target_file, type_of, defines, way, finish, step, code}
+use Rattle.spill_law.proofs.Files.{high_regs}
 use Rattle.t_frames.specs.Onto.{built, gathers, branched, computed, ended}
-
--- a register above m is spilled as any other
-with_sp : (m : ℕ) (b : Bool) (r : ℕ) (t : Ty) (x z : TFile) → z ≡ sp_regs m x →
-    with_if b r (sp m t) z ≡ sp_regs m (with_if b r t x)
-with_sp m true r t x z e = ap (MoreRegs r (sp m t)) e
-with_sp m false r t x z e = e
-
-high_sp : (m : ℕ) (x : TFile) → high_part m (sp_regs m x) ≡ sp_regs m (high_part m x)
-high_sp m NoRegs = refl
-high_sp m (MoreRegs r t x) = with_sp m (nat_lt m r) r t (high_part m x) (high_part m (sp_regs m x)) (high_sp m x)
 
 pub build_is : (m : ℕ) (h : ℕ → Home) (to : TFile) (rest : TSeq) → build m h to rest ≡ built m h (high_part m to) rest
 build_is m h to rest =
-    ap (λ x. Then (Malloc (made_reg m) (cells x)) (fill m h (numbers (high_part m to)) 0 rest)) (high_sp m to)
+    ap (λ x. Then (Malloc (made_reg m) (cells x)) (fill m h (numbers (high_part m to)) 0 rest)) (high_regs m m to)
 
 pub gather_is : (m : ℕ) (h : ℕ → Home) (to : TFile) (rest : TSeq) → gather m h to rest ≡ gathers m h (high_part m to) rest
 gather_is m h to rest = build_is m h to (Then (Mov (frame_reg m) (reg (made_reg m))) rest)

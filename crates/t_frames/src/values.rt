@@ -23,13 +23,13 @@ pub fn base_of(v: &Value) -> Base
     }
 }
 
-/// A base where registers stay: a block is one further on.
+/// A base of data, in which no register is named: a block is one further on.
 pub fn moved_base(b: Base) -> Base
     requires { BaseFits (base_tree b) }
-    ensures { base_tree result ≡ sp_base (λ r. r) (base_tree b) }
+    ensures { base_tree result ≡ sp_base (λ r. 1) (base_tree b) }
 {
     match b {
-        Base::Reg(r) => Base::Reg(r),
+        Base::Reg(_) => Base::Reg(1),
         Base::Int(i) => Base::Int(i),
         Base::Label(l) => Base::Label(l + 1),
         Base::Data(d) => Base::Data(d),

@@ -49,19 +49,17 @@ pub frame_made : (old new : Code) (held : Homes) (rd : ℕ) (ws : List ℕ) (y x
     new.homes.split.low ≡ old.homes.split.low →
     ((r : ℕ) → home_in new.homes r ≡ (gathered old.homes.split.low (numbers (file to))).homes r) →
     ((r : ℕ) → has_in new.homes r ≡ among r (numbers (file to))) → Gathered old new rd ws x
-frame_made old new held rd ws y x to qs tail sets lists picks frames code none closed low homes has = (
-  low,
-  none,
-  λ r. homes r ∙ ap (λ z. (gathered m (numbers z)).homes r) high,
-  λ r. has r ∙ ap (λ z. among r (numbers z)) high,
-  λ more rest. closed more rest
-      ∙ ap (λ s. onto old.body.done.items (with_slots m (types old.body.slots.items) [] s))
-      (code rest ∙ ap (onto old.body.tail.items) (same rest)),
-)
+frame_made old new held rd ws y x to qs tail sets lists picks frames code none closed low homes has =
+    let m = old.homes.split.low in (
+      low,
+      none,
+      λ r. homes r ∙ ap (λ z. (gathered m (numbers z)).homes r) high,
+      λ r. has r ∙ ap (λ z. among r (numbers z)) high,
+      λ more rest. closed more rest
+          ∙ ap (λ s. onto old.body.done.items (with_slots m (types old.body.slots.items) [] s))
+          (code rest ∙ ap (onto old.body.tail.items) (same rest)),
+    )
   where
-    m : ℕ
-    m = old.homes.split.low
-
     holds : (r : ℕ) (t : Ty) → old.homes.split.low < r → among r ws ≡ true → lookup x r ≡ Some t → has_in held r ≡ true
     holds r t lt is e = sets.2 r lt ∙ frames.2 r t lt is e
 

@@ -134,14 +134,14 @@ homed_next P m x i c hs h r t lt is e = go (nat_eq (defines i) r) refl
 -- the code of an instruction, up to where its word is computed
 module _ (P : TProg) (x : TFile) (i : TInstr) (c : TSeq) where
   -- what follows it, and that behind the code so far
-  follows : Homes → List TType → TSeq
+  abbrev follows : Homes → List TType → TSeq
   follows hs ts =
       let L : Layout = record { homes = home_in hs; used = length ts } in
       finish hs.split.low L (defines i) (slots hs.split.low P (length ts) x (Then i c)) (kept P x i c)
       (way hs.split.low (length ts) i)
       (code hs.split.low P (after hs.split.low L i (kept P x i c)) (kept P x i c) c)
 
-  behind : Homes → List TType → List (Instr × Span) → TSeq → TSeq
+  abbrev behind : Homes → List TType → List (Instr × Span) → TSeq → TSeq
   behind hs ts done s =
       onto done (with_slots hs.split.low (types ts) (slots hs.split.low P (length ts) x (Then i c)) s)
 

@@ -27,7 +27,7 @@ use Rattle.t_spill.specs.declared.stepping.Walk.{Walk}
 use Rattle.t_spill.proofs.Picked.{high_listed}
 
 -- what becomes of a word
-kind : Way → ℕ
+abbrev kind : Way → ℕ
 kind Stays = 0
 kind Fills = 1
 kind Gathers = 2
@@ -99,7 +99,7 @@ gathers_kept P x m u (Unpack rd v) c e = refl
 
 -- what is left of the code, by what becomes of the word
 module _ (P : TProg) (x : TFile) (w : Walk) (i : TInstr) (c : TSeq) where
-  by_way : Way → TSeq
+  abbrev by_way : Way → TSeq
   by_way v =
       let ts = slots_by v (sp (low w) (or_int (lookup (next P x i) (defines i))))
       (slots (low w) P (used_by v (used w.code)) (kept P x i c) c) in
@@ -155,35 +155,31 @@ settle_stays P n y x w i c b e = (
 pub settle_fills : (P : TProg) (n : ℕ) (y x : TFile) (old new : Walk) (i : TInstr) (c : TSeq) (t : Ty) →
     Between P n y x old i c → way (low old) (used old.code) i ≡ Fills → new.known ≡ old.known → new.ahead ≡ old.ahead →
     t ≡ sp (low old) (given P x i) → Filled old.code new.code (defines i) t → Settles P n y x old new i c
-settle_fills P n y x old new i c t b e k a same f = (
-  f.0.0,
-  before_next P n y x old new i c b k a
-      (λ r u lt is z.
-      let lt2 : low old < r = subst (λ m. m < r) f.0.0 lt in
-      f.0.2 r lt2 ∙ b.homed r u lt2 (still_wanted P x i c r u is) (was_known P x i c r u z)),
-  ap (λ q. text q new.code.body (slots q P (used new.code) (kept P x i c) c)
-      (code q P (layout_of new.code.homes new.code.body) (kept P x i c) c)) f.0.0
-      ∙ f.2 (slots m P (used new.code) (kept P x i c) c) (code m P (layout_of new.code.homes new.code.body) (kept P x i c) c)
-      ∙ ap (λ z. text m old.code.body (z ∷ slots m P (used new.code) (kept P x i c) c)
-      (fill_slot m (used old.code) (z ∷ slots m P (used new.code) (kept P x i c) c)
-      (code m P (layout_of new.code.homes new.code.body) (kept P x i c) c)))
-      (same ∙ ap (sp m) (sym (fills_type P x m (used old.code) i e)))
-      ∙ ap (λ z. text m old.code.body (T ∷ slots m P z (kept P x i c) c)
-      (fill_slot m (used old.code) (T ∷ slots m P z (kept P x i c) c)
-      (code m P (layout_of new.code.homes new.code.body) (kept P x i c) c))) f.1
-      ∙ ap (λ L. text m old.code.body (T ∷ slots m P (suc (used old.code)) (kept P x i c) c)
-      (fill_slot m (used old.code) (T ∷ slots m P (suc (used old.code)) (kept P x i c) c)
-      (code m P L (kept P x i c) c)))
-      (same_layout (layout_of new.code.homes new.code.body)
-      (after_way m (layout_of old.code.homes old.code.body) (defines i) (kept P x i c) Fills) f.0.1 f.1)
-      ∙ sym (finished_is P x old i c Fills e),
-)
-  where
-    m : ℕ
-    m = low old
-
-    T : Ty
-    T = sp (low old) (or_int (lookup (next P x i) (defines i)))
+settle_fills P n y x old new i c t b e k a same f =
+    let m = low old in
+    let T = sp (low old) (or_int (lookup (next P x i) (defines i))) in (
+      f.0.0,
+      before_next P n y x old new i c b k a
+          (λ r u lt is z.
+          let lt2 : low old < r = subst (λ m. m < r) f.0.0 lt in
+          f.0.2 r lt2 ∙ b.homed r u lt2 (still_wanted P x i c r u is) (was_known P x i c r u z)),
+      ap (λ q. text q new.code.body (slots q P (used new.code) (kept P x i c) c)
+          (code q P (layout_of new.code.homes new.code.body) (kept P x i c) c)) f.0.0
+          ∙ f.2 (slots m P (used new.code) (kept P x i c) c) (code m P (layout_of new.code.homes new.code.body) (kept P x i c) c)
+          ∙ ap (λ z. text m old.code.body (z ∷ slots m P (used new.code) (kept P x i c) c)
+          (fill_slot m (used old.code) (z ∷ slots m P (used new.code) (kept P x i c) c)
+          (code m P (layout_of new.code.homes new.code.body) (kept P x i c) c)))
+          (same ∙ ap (sp m) (sym (fills_type P x m (used old.code) i e)))
+          ∙ ap (λ z. text m old.code.body (T ∷ slots m P z (kept P x i c) c)
+          (fill_slot m (used old.code) (T ∷ slots m P z (kept P x i c) c)
+          (code m P (layout_of new.code.homes new.code.body) (kept P x i c) c))) f.1
+          ∙ ap (λ L. text m old.code.body (T ∷ slots m P (suc (used old.code)) (kept P x i c) c)
+          (fill_slot m (used old.code) (T ∷ slots m P (suc (used old.code)) (kept P x i c) c)
+          (code m P L (kept P x i c) c)))
+          (same_layout (layout_of new.code.homes new.code.body)
+          (after_way m (layout_of old.code.homes old.code.body) (defines i) (kept P x i c) Fills) f.0.1 f.1)
+          ∙ sym (finished_is P x old i c Fills e),
+    )
 
 -- it is put into a new frame
 pub frames : (P : TProg) (n : ℕ) (y x : TFile) (w : Walk) (i : TInstr) (c : TSeq) → Between P n y x w i c →
@@ -193,26 +189,22 @@ frames P n y x w i c b = (ascends_next P x i b.rises, b.agrees, b.homed)
 pub settle_gathers : (P : TProg) (n : ℕ) (y x : TFile) (old new : Walk) (i : TInstr) (c : TSeq) →
     Between P n y x old i c → way (low old) (used old.code) i ≡ Gathers → new.known ≡ old.known → new.ahead ≡ old.ahead →
     Gathered old.code new.code (defines i) (live P (next P x i) c) (next P x i) → Settles P n y x old new i c
-settle_gathers P n y x old new i c b e k a g = (
-  g.0,
-  before_next P n y x old new i c b k a
-      (λ r u lt is z.
-      let lt2 : low old < r = subst (λ q. q < r) g.0 lt in
-      g.3 r ∙ ap (λ f. among r (numbers (high_part m f))) (sym to) ∙ high_listed m (kept P x i c) r u lt2 z),
-  ap (λ q. text q new.code.body (slots q P (used new.code) (kept P x i c) c)
-      (code q P (layout_of new.code.homes new.code.body) (kept P x i c) c)) g.0
-      ∙ g.4 (slots m P (used new.code) (kept P x i c) c) (code m P (layout_of new.code.homes new.code.body) (kept P x i c) c)
-      ∙ ap (λ f. text m old.code.body [] (gather m (homed (home_in old.code.homes) (defines i) (Held (into m (defines i)))) f
-      (code m P (layout_of new.code.homes new.code.body) (kept P x i c) c))) (sym to)
-      ∙ ap (λ L. text m old.code.body [] (gather m (homed (home_in old.code.homes) (defines i) (Held (into m (defines i))))
-      (kept P x i c) (code m P L (kept P x i c) c)))
-      (same_layout (layout_of new.code.homes new.code.body) (layout m (kept P x i c))
-      (λ r. g.2 r ∙ ap (λ f. (layout m f).homes r) (sym to)) g.1)
-      ∙ sym (finished_is P x old i c Gathers e),
-)
-  where
-    m : ℕ
-    m = low old
-
-    to : kept P x i c ≡ keep (live P (next P x i) c) (next P x i)
-    to = gathers_kept P x (low old) (used old.code) i c e
+settle_gathers P n y x old new i c b e k a g =
+    let m = low old in
+    let to : kept P x i c ≡ keep (live P (next P x i) c) (next P x i) = gathers_kept P x (low old) (used old.code) i c e in (
+      g.0,
+      before_next P n y x old new i c b k a
+          (λ r u lt is z.
+          let lt2 : low old < r = subst (λ q. q < r) g.0 lt in
+          g.3 r ∙ ap (λ f. among r (numbers (high_part m f))) (sym to) ∙ high_listed m (kept P x i c) r u lt2 z),
+      ap (λ q. text q new.code.body (slots q P (used new.code) (kept P x i c) c)
+          (code q P (layout_of new.code.homes new.code.body) (kept P x i c) c)) g.0
+          ∙ g.4 (slots m P (used new.code) (kept P x i c) c) (code m P (layout_of new.code.homes new.code.body) (kept P x i c) c)
+          ∙ ap (λ f. text m old.code.body [] (gather m (homed (home_in old.code.homes) (defines i) (Held (into m (defines i)))) f
+          (code m P (layout_of new.code.homes new.code.body) (kept P x i c) c))) (sym to)
+          ∙ ap (λ L. text m old.code.body [] (gather m (homed (home_in old.code.homes) (defines i) (Held (into m (defines i))))
+          (kept P x i c) (code m P L (kept P x i c) c)))
+          (same_layout (layout_of new.code.homes new.code.body) (layout m (kept P x i c))
+          (λ r. g.2 r ∙ ap (λ f. (layout m f).homes r) (sym to)) g.1)
+          ∙ sym (finished_is P x old i c Gathers e),
+    )

@@ -1,4 +1,4 @@
-//! The bound on registers: a program whose registers are kept in frames, tuples of the heap.
+//! The bound on registers: a program whose greater registers are kept in tuples of the heap, frames and slots.
 #![tactic(auto)]
 
 mod ahead;

@@ -1,33 +1,26 @@
 -- Facts that hold along a block: where a walk stands behind an instruction, and at the start.
-use Rattle.std.proofs.Common.{◌≡◌, ℕ, ◌+◌, ◌≤◌, ◌<◌, List, [], ◌++◌, refl, sym, ap, ap₂, ◌∙◌, subst, drop, length, true, Some, arith}
+use Rattle.std.proofs.Common.{◌≡◌, ℕ, ◌≤◌, ◌<◌, List, ◌++◌, refl, sym, ap, ap₂, ◌∙◌, subst, drop, length, true, arith}
 use Rattle.std.proofs.Common.{cond, nat_eq}
 use Rattle.std.proofs.Math.Path.{fun_ext}
-use Rattle.idx_core.specs.declared.span.Span.{Span}
-use Rattle.t_types.specs.Tree.{Ty, TFile}
-use Rattle.t_types.specs.Fits.{lookup}
+use Rattle.t_types.specs.Tree.{TFile}
 use Rattle.t_types.specs.Read.{file}
 use Rattle.t_types.specs.declared.types.TType.{TType}
 use Rattle.t_types.specs.WellFormed.{max_names, RegsAbove, WellFormedFile}
 use Rattle.t_types.specs.Tree.{NoRegs, MoreRegs}
 use Rattle.t_terms.specs.Tree.{TInstr, TEnd, Jmp, Halt, TSeq, Then, Ends, TProg, names_after}
-use Rattle.t_terms.specs.Read.{instr, end_of}
-use Rattle.t_terms.specs.declared.instr.Instr.{Instr}
-use Rattle.t_terms.specs.declared.instr.End.{End}
-use Rattle.spill_law.specs.Spill.{Layout, live, next, among, numbers, high_part, layout, slots, code, target, end_target, end_reads, defines}
+use Rattle.spill_law.specs.Spill.{Layout, live, next, numbers, layout, slots, code, target, end_target, end_reads, defines}
 use Rattle.spill_law.proofs.Files.{RisesFrom, Ascends}
 use Rattle.spill_law.proofs.Live.{Agree, among_left, end_alike}
-use Rattle.t_frames.specs.Homes.{home_in, has_in, layout_of, text}
+use Rattle.t_frames.specs.Homes.{has_in, layout_of, text}
 use Rattle.t_spill.specs.Finishing.{used}
 use Rattle.t_spill.specs.Known.{Knows, alone, subject}
 use Rattle.t_spill.specs.Moving.{Before, Between, Moves, Reaches, Starts, low, whole}
-use Rattle.t_spill.specs.Ready.{ReadyEnd, Ready}
-use Rattle.t_spill.specs.Tails.{tail_of}
+use Rattle.t_spill.specs.Ready.{Ready}
 use Rattle.t_spill.specs.Wants.{Tells}
 use Rattle.t_spill.specs.declared.stepping.Walk.{Walk}
 use Rattle.t_spill.proofs.Knowing.{target_alone}
 use Rattle.t_spill.proofs.Onward.{drop_front, grouped, length_front, reads_agree, next_agrees, given_alike, homed_next}
 use Rattle.t_spill.proofs.Picked.{high_listed}
-use Rattle.t_spill.proofs.Walk.{tail_one, tail_end}
 
 -- registers that are passed
 pub passed_front : (rs ns ws : List ℕ) (n : ℕ) → n ≡ length rs → drop n (rs ++ ns ++ ws) ≡ ns ++ ws

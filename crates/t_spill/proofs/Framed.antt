@@ -1,11 +1,11 @@
 -- A new frame of all that is wanted, picked register by register.
-use Rattle.std.proofs.Common.{◌≡◌, ℕ, ◌+◌, ◌<◌, ◌≤◌, cond, Bool, true, List, [], ◌∷◌, refl, sym, ap, ap₂, ◌∙◌, subst, drop, length}
-use Rattle.std.proofs.Common.{get_or, Some, arith, nat_eq}
+use Rattle.std.proofs.Common.{◌≡◌, ℕ, ◌+◌, ◌<◌, ◌≤◌, cond, Bool, true, List, [], ◌∷◌, sym, ap, ◌∙◌, drop, length}
+use Rattle.std.proofs.Common.{get_or, Some}
 use Rattle.std.proofs.Math.Path.{fun_ext}
 use Rattle.std.proofs.lemmas.List.{drop_more, drop_all}
 use Rattle.idx_core.specs.declared.span.Span.{Span}
 use Rattle.t_types.specs.declared.types.TType.{TType}
-use Rattle.t_types.specs.Tree.{Ty, TFile, NoRegs}
+use Rattle.t_types.specs.Tree.{Ty, TFile}
 use Rattle.t_types.specs.Fits.{lookup}
 use Rattle.t_types.specs.Read.{file, types}
 use Rattle.t_terms.specs.Tree.{TSeq}
@@ -22,15 +22,15 @@ use Rattle.t_spill.specs.declared.finish.Code.{Code}
 use Rattle.t_spill.proofs.Picked.{picked_is}
 
 -- one register more, and all of them
-pub picked_next : (m : ℕ) (ws : List ℕ) (x : TFile) (qs : List ℕ) (i r : ℕ) (old new : List (ℕ × TType)) (b : Bool)
-    (all : TFile) → i < length qs → r ≡ get_or qs i r → b ≡ wanted m ws r →
+pub picked_next : (m : ℕ) (ws : List ℕ) (x : TFile) (qs : List ℕ) (i r d : ℕ) (old new : List (ℕ × TType)) (b : Bool)
+    (all : TFile) → i < length qs → r ≡ get_or qs i d → b ≡ wanted m ws r →
     ((rest : TFile) → front new rest ≡ front old (cond b (picked_one r (lookup x r) rest) rest)) →
     front old (picked m ws x (drop i qs)) ≡ all → front new (picked m ws x (drop (i + 1) qs)) ≡ all
-picked_next m ws x qs i r old new b all lt is same put h =
+picked_next m ws x qs i r d old new b all lt is same put h =
     let rest = picked m ws x (drop (i + 1) qs) in
     put rest ∙ ap (λ c. front old (cond c (picked_one r (lookup x r) rest) rest)) same
     ∙ ap (λ (ks : List ℕ). front old (picked m ws x ks))
-    (sym (drop_more qs i r lt ∙ ap (λ q. q ∷ drop (i + 1) qs) (sym is)))
+    (sym (drop_more qs i d lt ∙ ap (λ q. q ∷ drop (i + 1) qs) (sym is)))
     ∙ h
 
 pub picked_all : (m : ℕ) (ws : List ℕ) (x : TFile) (qs : List ℕ) (i : ℕ) (made : List (ℕ × TType)) (all : TFile) →

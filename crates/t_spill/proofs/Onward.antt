@@ -1,20 +1,20 @@
 -- The word of an instruction is computed.
-use Rattle.std.proofs.Common.{◌≡◌, ℕ, zero, suc, ◌+◌, ◌<◌, ◌≤◌, ◌^◌, List, [], ◌∷◌, ◌++◌, refl, sym, ap, ap₂, ◌∙◌, drop}
-use Rattle.std.proofs.Common.{length, arith, subst, cond, Bool, true, false, nat_eq, Option, Some, None}
+use Rattle.std.proofs.Common.{◌≡◌, ℕ, zero, suc, ◌<◌, ◌≤◌, ◌^◌, List, [], ◌∷◌, ◌++◌, refl, sym, ap, ◌∙◌, drop}
+use Rattle.std.proofs.Common.{length, arith, cond, Bool, true, false, nat_eq, Option, Some, None}
 use Rattle.std.specs.Prelude.{option_map}
 use Rattle.idx_core.specs.declared.span.Span.{Span}
 use Rattle.t_types.specs.declared.types.TType.{TType}
 use Rattle.t_types.specs.Tree.{Ty, TFile, shift, shift_file}
 use Rattle.t_types.specs.Fits.{lookup}
 use Rattle.t_types.specs.Read.{file, types}
-use Rattle.t_terms.specs.Tree.{Reg, Int, Label, Data, TBase, TValue, Plain, Pack, TInstr, Arith, Bnz, Ld, Malloc, Mov, St}
+use Rattle.t_terms.specs.Tree.{Reg, Int, Label, Data, TValue, Plain, Pack, TInstr, Arith, Bnz, Ld, Malloc, Mov, St}
 use Rattle.t_terms.specs.Tree.{Unpack, TEnd, Jmp, Halt, TSeq, Then, TProg}
 use Rattle.t_terms.specs.Whole.{WellFormedValue, WellFormedInstr}
 use Rattle.t_terms.specs.declared.instr.Instr.{Instr}
-use Rattle.spill_law.specs.Spill.{or_int, field_type, filled_type, hidden_type, ins, live, numbers, target, reads, value_reads}
+use Rattle.spill_law.specs.Spill.{or_int, field_type, filled_type, hidden_type, ins, live, numbers, target, reads}
 use Rattle.spill_law.specs.Spill.{next, kept, among, slots, finish, after, way, defines, step, code, high_part, Layout}
-use Rattle.spill_law.proofs.Files.{lookup_ins, raised_lookup, look_other}
-use Rattle.spill_law.proofs.Live.{Agree, among_left, among_right, among_first, among_next, value_same, next_alike, target_alike}
+use Rattle.spill_law.proofs.Files.{lookup_ins, raised_lookup}
+use Rattle.spill_law.proofs.Live.{Agree, among_left, among_right, among_first, value_same, next_alike, target_alike}
 use Rattle.t_frames.specs.Onto.{onto, computed, ValueFits, InstrFits, EndFits}
 use Rattle.t_frames.specs.Homes.{home_in, has_in, with_slots}
 use Rattle.t_frames.specs.declared.homes.Homes.{Homes}

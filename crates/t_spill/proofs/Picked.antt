@@ -1,6 +1,6 @@
 -- The registers of a new frame are those above m that are known and wanted, in the order of the file.
-use Rattle.std.proofs.Common.{◌≡◌, ℕ, ◌<◌, ◌≤◌, cond, Bool, true, false, List, [], ◌∷◌, ◌++◌, refl, sym, ap, ap₂, ◌∙◌, subst}
-use Rattle.std.proofs.Common.{arith, nat_eq, nat_lt, Option, Some, None, inl, inr, ◌⊎◌, length}
+use Rattle.std.proofs.Common.{◌≡◌, ℕ, ◌<◌, ◌≤◌, cond, Bool, true, false, List, [], ◌∷◌, ◌++◌, refl, sym, ap, ap₂, ◌∙◌}
+use Rattle.std.proofs.Common.{arith, nat_eq, nat_lt, Option, Some, None, inl, inr}
 use Rattle.std.proofs.Math.Logic.{⊎_elim}
 use Rattle.std.proofs.lemmas.Bool.{cases_eq, cases_lt, eq-eqb, ne_eqb, lt-ltb, le-ltb}
 use Rattle.t_types.specs.Tree.{Ty, TFile, NoRegs, MoreRegs}
@@ -10,7 +10,7 @@ use Rattle.t_types.specs.declared.types.TType.{TType}
 use Rattle.spill_law.specs.Spill.{among, keep, numbers, high_part, with_if}
 use Rattle.spill_law.proofs.Files.{RisesFrom, Ascends, rises_ascends, CaseOf, case_of}
 use Rattle.spill_law.proofs.Live.{Agree, keep_at, ascends_keep}
-use Rattle.t_frames.specs.Homes.{has_in, Lists, Above, Ascending}
+use Rattle.t_frames.specs.Homes.{Lists, Above, Ascending}
 use Rattle.t_frames.specs.Onto.{front}
 use Rattle.t_frames.specs.declared.homes.Homes.{Homes}
 use Rattle.t_spill.specs.Known.{one}
@@ -81,12 +81,12 @@ if_above b q t x r o c h same =
     there true ne = look_past q r t x ne
     there false ne = refl
 
-no_type : (b : Bool) → None {A = Ty} ≡ cond b None None
-no_type true = refl
-no_type false = refl
+no_type : (b : Bool) (o : Option Ty) → o ≡ None → None ≡ cond b o None
+no_type true o e = sym e
+no_type false o e = refl
 
 pub look_high : (m : ℕ) (x : TFile) (r : ℕ) → lookup (high_part m x) r ≡ cond (nat_lt m r) (lookup x r) None
-look_high m NoRegs r = no_type (nat_lt m r)
+look_high m NoRegs r = no_type (nat_lt m r) None refl
 look_high m (MoreRegs q t x) r =
     if_above (nat_lt m q) q t (high_part m x) r (lookup x r) (nat_lt m r) (look_high m x r) (λ e. ap (nat_lt m) e)
 

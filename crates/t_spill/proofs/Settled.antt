@@ -1,28 +1,24 @@
 -- The word that was computed stays, is put into a slot, or into a new frame.
-use Rattle.std.proofs.Common.{◌≡◌, ℕ, zero, suc, ◌<◌, ◌≤◌, cond, Bool, true, false, List, [], ◌∷◌, refl, sym, ap, ap₂, ◌∙◌}
-use Rattle.std.proofs.Common.{subst, arith, nat_eq, nat_lt, length, Option, Some}
+use Rattle.std.proofs.Common.{◌≡◌, ℕ, suc, ◌<◌, ◌≤◌, cond, Bool, true, false, [], ◌∷◌, refl, sym, ap, ap₂, ◌∙◌}
+use Rattle.std.proofs.Common.{subst, arith, nat_lt, Some}
 use Rattle.std.proofs.Math.Path.{fun_ext}
 use Rattle.std.proofs.Math.Logic.{⊎_elim}
 use Rattle.std.proofs.lemmas.Bool.{cases_lt, lt-ltb, le-ltb, ne_eqb}
 use Rattle.t_types.specs.Tree.{Ty, TFile, shift_file}
 use Rattle.t_types.specs.Fits.{lookup}
-use Rattle.t_types.specs.Read.{file}
-use Rattle.t_types.specs.declared.types.TType.{TType}
-use Rattle.t_terms.specs.Tree.{TInstr, Arith, Bnz, Ld, Malloc, Mov, St, Unpack, TSeq, Then, TProg, names_after}
-use Rattle.spill_law.specs.Spill.{Home, InSlot, Held, Layout, Way, Stays, Fills, Gathers, homed, into, sp, or_int, ins, next, kept}
-use Rattle.spill_law.specs.Spill.{keep, live, among, numbers, high_part, layout, gather, defines, way, way_of, after, after_way}
+use Rattle.t_terms.specs.Tree.{TInstr, Arith, Bnz, Ld, Malloc, Mov, St, Unpack, TSeq, TProg, names_after}
+use Rattle.spill_law.specs.Spill.{Held, Layout, Way, Stays, Fills, Gathers, homed, into, sp, or_int, ins, next, kept}
+use Rattle.spill_law.specs.Spill.{keep, live, among, numbers, high_part, layout, gather, defines, way, way_of, after_way}
 use Rattle.spill_law.specs.Spill.{slots_by, used_by, slots, finish, fill_slot, code, most_slots}
 use Rattle.spill_law.proofs.Files.{lookup_ins, look_same}
-use Rattle.spill_law.proofs.Live.{Agree, kept_wants, kept_agrees, kept_sub, kept_ascends}
+use Rattle.spill_law.proofs.Live.{kept_wants, kept_agrees, kept_sub, kept_ascends}
 use Rattle.spill_law.proofs.Computed.{ascends_next}
-use Rattle.t_frames.specs.Homes.{home_in, has_in, layout_of, text, Sets}
-use Rattle.t_frames.specs.declared.homes.Homes.{Homes}
+use Rattle.t_frames.specs.Homes.{home_in, has_in, layout_of, text}
 use Rattle.t_spill.specs.Finishing.{used, Filled, Frames, Gathered}
 use Rattle.t_spill.specs.Known.{Knows, given}
-use Rattle.t_spill.specs.Moving.{Before, Between, Settles, low, whole, finished}
+use Rattle.t_spill.specs.Moving.{Before, Between, Settles, low, finished}
 use Rattle.t_spill.specs.Picking.{Homed}
 use Rattle.t_spill.specs.Wants.{Tells}
-use Rattle.t_spill.specs.declared.finish.Code.{Code}
 use Rattle.t_spill.specs.declared.stepping.Walk.{Walk}
 use Rattle.t_spill.proofs.Picked.{high_listed}
 

@@ -8,7 +8,6 @@ use Rattle.spill_law.proofs.Files.{Ascends}
 use Rattle.spill_law.proofs.Live.{Agree}
 use Rattle.t_frames.specs.Homes.{home_in, has_in, Sets, text}
 use Rattle.t_frames.specs.declared.homes.Homes.{Homes}
-use Rattle.t_spill.specs.Picking.{Homed}
 use Rattle.t_spill.specs.declared.finish.Code.{Code}
 
 abbrev pub used : Code → ℕ

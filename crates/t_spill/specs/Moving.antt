@@ -1,5 +1,5 @@
 -- Along a block: where a walk stands, and what an instruction makes of it.
-use Rattle.std.specs.Prelude.{◌≡◌, ℕ, ◌<◌, true, cond, nat_eq, List, Some, length}
+use Rattle.std.specs.Prelude.{◌≡◌, ℕ, ◌<◌, true, cond, nat_eq, List, Some}
 use Rattle.t_types.specs.Tree.{Ty, TFile}
 use Rattle.t_types.specs.Fits.{lookup}
 use Rattle.t_terms.specs.Tree.{TInstr, TSeq, Then, TProg, names_after}
@@ -13,7 +13,6 @@ use Rattle.t_spill.specs.Known.{Knows, given}
 use Rattle.t_spill.specs.Picking.{Homed}
 use Rattle.t_spill.specs.Ready.{Ready}
 use Rattle.t_spill.specs.Wants.{Tells}
-use Rattle.t_spill.specs.declared.finish.Code.{Code}
 use Rattle.t_spill.specs.declared.stepping.Walk.{Walk}
 
 abbrev pub low : Walk → ℕ

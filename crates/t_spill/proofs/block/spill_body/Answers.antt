@@ -1,6 +1,5 @@
-use Rattle.std.proofs.Common.{refl, sym, subst}
-use Rattle.t_terms.specs.Tree.{Ends}
-use Rattle.t_terms.specs.Read.{instr, end_of}
+use Rattle.std.proofs.Common.{refl, subst}
+use Rattle.t_terms.specs.Read.{instr}
 use Rattle.t_terms.specs.ReadProgram.{program}
 use Rattle.t_spill.specs.Moving.{Before, Reaches}
 use Rattle.t_spill.specs.Tails.{tail_of}

@@ -1,6 +1,6 @@
 use Rattle.std.proofs.Common.{ℕ, List, [], sym, ap, subst, ◌∙◌}
 use Rattle.t_types.specs.declared.types.TType.{TType}
-use Rattle.t_types.specs.Read.{file, file_tree, types}
+use Rattle.t_types.specs.Read.{file, types}
 use Rattle.t_terms.specs.Tree.{Ends}
 use Rattle.t_terms.specs.Read.{end_of}
 use Rattle.t_terms.specs.ReadProgram.{program}
@@ -8,7 +8,7 @@ use Rattle.spill_law.specs.Spill.{end_target, high_part}
 use Rattle.t_frames.specs.Homes.{home_in, layout_of, with_slots}
 use Rattle.t_frames.specs.Onto.{onto, ended}
 use Rattle.t_frames.proofs.Steps.{end_is}
-use Rattle.t_spill.specs.Known.{MayShow, alone, end_subject}
+use Rattle.t_spill.specs.Known.{MayShow, alone}
 use Rattle.t_spill.specs.Ready.{ReadyEnd}
 use Rattle.t_spill.proofs.Beside.{ends_agree}
 use Rattle.t_spill.proofs.Knowing.{end_may_show, end_ready_alone, end_target_alone}

@@ -14,8 +14,8 @@ returns c =
       known,
       c.in_ok-ahead.ensures,
       g.0,
-      c.new.ensures.none,
+      c.new-body.ensures.none,
       λ r. g.1 r ∙ ap (λ z. (gathered m (numbers z)).homes r) high,
       λ r. g.2 r ∙ ap (λ z. among r (numbers z)) high,
-      c.new.ensures.text m,
+      c.new-body.ensures.text m,
     )

@@ -40,8 +40,8 @@ pub invariant_of-result : goal.invariant_of-result
 invariant_of-result c =
     let P = program c.args.program.now in
     let k = c.args.k in
-    let m = c.within.result.low in
-    let same = made m k P c.in_ok-blocks.blocks.items c.in_ok-heap.heap.items c.within.ensures
+    let m = c.within-split.result.low in
+    let same = made m k P c.in_ok-blocks.blocks.items c.in_ok-heap.heap.items c.within-split.ensures
     (c.in_ok-blocks.ensures ∙ ap (λ (bs : List Block). entry m ∷ sp_blocks m P (blocks_of bs)) c.deref.ensures.value)
     (c.in_ok-heap.ensures ∙ ap (λ (xs : List Data). map (sp_data m) (data_of xs)) c.deref-2.ensures.value) in
     let goal_prop = whole_prop (spilled k P) in
@@ -52,7 +52,7 @@ invariant_of-result c =
 pub returns : goal.returns
 returns c =
     let P = program c.args.program.now in
-    let m = c.within.result.low in
-    made m c.args.k P c.in_ok-blocks.blocks.items c.in_ok-heap.heap.items c.within.ensures
+    let m = c.within-split.result.low in
+    made m c.args.k P c.in_ok-blocks.blocks.items c.in_ok-heap.heap.items c.within-split.ensures
     (c.in_ok-blocks.ensures ∙ ap (λ (bs : List Block). entry m ∷ sp_blocks m P (blocks_of bs)) c.deref.ensures.value)
     (c.in_ok-heap.ensures ∙ ap (λ (xs : List Data). map (sp_data m) (data_of xs)) c.deref-2.ensures.value)

@@ -1,13 +1,10 @@
-use Rattle.std.proofs.Common.{◌≡◌, ◌≤◌, List, ℕ, refl, sym, ap, ◌∙◌, subst, ◌++◌}
+use Rattle.std.proofs.Common.{List, ℕ, refl, sym, ap, ◌∙◌, subst, ◌++◌}
 use Rattle.std.proofs.lemmas.Result.{on_ok_weaker}
 use Rattle.t_types.specs.declared.types.TType.{TType}
 use Rattle.t_types.specs.Read.{file, file_tree}
-use Rattle.t_types.specs.WellFormed.{max_names}
-use Rattle.t_terms.specs.Tree.{names_after}
 use Rattle.t_terms.specs.Read.{instr}
 use Rattle.t_terms.specs.ReadProgram.{program}
-use Rattle.spill_law.specs.Spill.{live, next, reads, numbers, target, high_part}
-use Rattle.t_spill.specs.Known.{alone, subject}
+use Rattle.spill_law.specs.Spill.{live, next, reads, numbers, high_part}
 use Rattle.t_spill.specs.Ready.{InstrTypable}
 use Rattle.t_spill.specs.Wants.{Tells}
 use Rattle.t_spill.proofs.Beside.{between, entered_is}

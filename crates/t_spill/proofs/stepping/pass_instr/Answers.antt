@@ -1,4 +1,4 @@
-use Rattle.std.proofs.Common.{◌≡◌, length, rules, subst, ◌∙◌, ◌++◌, drop, arith, refl}
+use Rattle.std.proofs.Common.{length, subst, ◌++◌, arith}
 use Rattle.t_types.specs.Read.{file}
 use Rattle.t_terms.specs.Read.{instr}
 use Rattle.spill_law.specs.Spill.{reads, numbers}

@@ -1,9 +1,8 @@
-use Rattle.std.proofs.Common.{◌≡◌, sym, ap, ◌∙◌, subst}
+use Rattle.std.proofs.Common.{sym, ap, ◌∙◌, subst}
 use Rattle.std.proofs.lemmas.Result.{on_ok_weaker}
-use Rattle.t_types.specs.Read.{file_tree}
 use Rattle.t_terms.specs.Read.{instr}
 use Rattle.t_terms.specs.ReadProgram.{program}
-use Rattle.t_spill.specs.Known.{MayShow, alone, subject}
+use Rattle.t_spill.specs.Known.{MayShow, alone}
 use Rattle.t_spill.proofs.Knowing.{may_show}
 use Rattle.t_spill.proofs.Onward.{fits_here}
 use Rattle.t_spill.proofs.stepping.spill_instr.Goals as goal

@@ -1,6 +1,6 @@
 -- The homes of registers: where a frame was made, and a home put in.
-use Rattle.std.proofs.Common.{add-zero, ◌≡◌, ℕ, zero, suc, ◌+◌, ◌-◌, ◌<◌, ◌≤◌, cond, Bool, true, false, List, [], ◌∷◌}
-use Rattle.std.proofs.Common.{refl, sym, ap, ap₂, ◌∙◌, subst, drop, length, get_or, Some, None, Option, arith, nat_lt, nat_eq}
+use Rattle.std.proofs.Common.{add-zero, ◌≡◌, ℕ, zero, suc, ◌+◌, ◌<◌, ◌≤◌, cond, Bool, true, false, List, [], ◌∷◌}
+use Rattle.std.proofs.Common.{refl, sym, ap, ap₂, ◌∙◌, drop, length, get_or, Some, None, Option, arith, nat_lt, nat_eq}
 use Rattle.std.specs.Prelude.{is_some}
 use Rattle.std.specs.BTreeMap.{BTreeMap, get, is_at, IsEmpty, Updates}
 use Rattle.std.specs.Map.{lookup}
@@ -9,10 +9,10 @@ use Rattle.std.specs.Cmp.{nat_cmp_is}
 use Rattle.std.specs.declared.cmp.Ordering.TheVariants.{Less, Equal, Greater}
 use Rattle.std.proofs.Math.Logic.{⊎_elim}
 use Rattle.std.proofs.lemmas.List.{drop_more}
-use Rattle.std.proofs.lemmas.Bool.{cases_eq, cases_lt, cases_order, eq-eqb, ne_eqb, lt-ltb, le-ltb}
+use Rattle.std.proofs.lemmas.Bool.{cases_eq, cases_order, eq-eqb, ne_eqb, lt-ltb, le-ltb}
 use Rattle.t_types.specs.declared.types.TType.{TType}
 use Rattle.t_types.specs.Read.{file}
-use Rattle.spill_law.specs.Spill.{Held, InFrame, Home as Place, homed, gathered, position, numbers, among, into, first_reg}
+use Rattle.spill_law.specs.Spill.{Held, InFrame, homed, gathered, position, numbers, among, into, first_reg}
 use Rattle.t_frames.specs.Homes.{home, home_or, home_in, has_in, Sets}
 use Rattle.t_frames.specs.declared.homes.Home.{Home}
 use Rattle.t_frames.specs.declared.homes.Home.TheVariants.{Frame}

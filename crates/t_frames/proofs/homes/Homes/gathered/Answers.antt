@@ -1,4 +1,4 @@
-use Rattle.std.proofs.Common.{◌≡◌, refl, arith, rules, subst, length}
+use Rattle.std.proofs.Common.{◌≡◌, refl, arith, rules, subst}
 use Rattle.t_frames.proofs.Gathered.{Placed, gathered_homes, gathered_has}
 use Rattle.t_frames.proofs.homes.Homes.gathered.Goals as goal
 

@@ -1,12 +1,14 @@
-// Instructions that work on frames.
-ghost use Rattle.std.specs.Prelude.{◌≡◌, ◌<◌, ◌^◌, ℕ, OnOk, Option, length};
+// Instructions that work on frames and slots.
+ghost use Rattle.std.specs.Prelude.{◌≡◌, ◌<◌, ◌^◌, ℕ, OnOk, length};
 ghost use Rattle.t_types.specs.Read.{file};
-ghost use Rattle.t_types.specs.Tree.{shift_file};
-ghost use Rattle.t_terms.specs.Tree.{TSeq, Then};
+ghost use Rattle.t_terms.specs.Tree.{Mov, TSeq, Then};
 ghost use Rattle.t_terms.specs.Read.{instr as instr_tree, value as value_tree};
-ghost use Rattle.spill_law.specs.Spill.{index, reg, is_new as is_the_new, source as source_of, fill as filled, build as built, fetch};
-ghost use Rattle.t_frames.specs.Onto.{onto};
+ghost use Rattle.spill_law.specs.Spill.{reg, numbers, load as loads, load_value as loads_value, fill as fills, first_reg, second_reg};
+ghost use Rattle.t_frames.specs.Onto.{onto, built, gathers};
+ghost use Rattle.t_frames.specs.Homes.{home as the_home, home_in};
 
+use crate::homes::{Home, Homes};
+use crate::split::Split;
 use crate::types::cell_types;
 use idx_core::{OutOfMemory, Span};
 use std::alloc::Global;
@@ -24,20 +26,8 @@ pub fn put(code: &mut Vec<(Instr, Span)>, i: Instr) -> Result<(), OutOfMemory>
     Ok(())
 }
 
-/// The place of a register in a file.
-pub fn place(regs: &[(u64, TType)], r: u64) -> u64
-    ensures { result ≡ index (file regs.now) r }
-{
-    for i in 0..regs.len() {
-        if regs[i].0 == r {
-            return i as u64;
-        }
-    }
-    regs.len() as u64
-}
-
 // A register without types.
-pub(crate) fn plain(alloc: Global, r: u64) -> Value
+fn plain(alloc: Global, r: u64) -> Value
     ensures { value_tree result ≡ reg r }
 {
     Value::Plain {
@@ -46,116 +36,131 @@ pub(crate) fn plain(alloc: Global, r: u64) -> Value
     }
 }
 
-// Whether a register's word is in register 3.
-fn is_new(new: Option<u64>, q: u64) -> bool
-    ensures { result ≡ is_the_new new q }
-{
-    match new {
-        Some(r) => r == q,
-        None => false,
-    }
-}
-
-// One word of a new frame, into register 5.
-fn source(alloc: Global, from: &[(u64, TType)], new: Option<u64>, q: u64) -> Instr
-    ensures { instr_tree result ≡ source_of (file from.now) new q }
-{
-    if is_new(new, q) {
-        let v = plain(alloc, 3);
-        Instr::Mov { rd: 5, v }
-    } else {
-        let field = place(from, q);
-        Instr::Ld {
-            rd: 5,
-            rs: 1,
-            field,
-        }
-    }
-}
-
-/// The new frame in register 4 is filled.
-pub fn fill(
+/// The word of one register of the program's own goes into another.
+pub fn put_move(
     alloc: Global,
     code: &mut Vec<(Instr, Span)>,
-    from: &[(u64, TType)],
-    new: Option<u64>,
-    to: &[(u64, TType)],
+    rd: u64,
+    r: u64,
 ) -> Result<(), OutOfMemory>
-    ensures { OnOk result ((rest : TSeq) → onto code.new.items rest ≡ onto code.old.items (filled (file from.now) new (file to.now) 0 rest)) }
+    ensures { OnOk result ((rest : TSeq) → onto code.new.items rest
+        ≡ onto code.old.items (Then (Mov rd (reg r)) rest)) }
 {
-    for j in 0..to.len() {
-        let i = source(alloc, from, new, to[j].0);
-        put(code, i)?;
-        let field = j as u64;
-        put(
-            code,
-            Instr::St {
-                rd: 4,
-                field,
-                rs: 5,
-            },
-        )?;
-    }
-    Ok(())
+    let v = plain(alloc, r);
+    put(code, Instr::Mov { rd, v })
 }
 
-/// A new frame in register 1.
-pub fn build(
-    alloc: Global,
-    code: &mut Vec<(Instr, Span)>,
-    from: &[(u64, TType)],
-    new: Option<u64>,
-    to: &[(u64, TType)],
-) -> Result<(), OutOfMemory>
-    ensures { OnOk result ((rest : TSeq) → onto code.new.items rest ≡ onto code.old.items (built (file from.now) new (file to.now) rest)) }
-{
-    let types = cell_types(alloc, to)?;
-    put(code, Instr::Malloc { rd: 4, types })?;
-    fill(alloc, code, from, new, to)?;
-    let v = plain(alloc, 4);
-    put(code, Instr::Mov { rd: 1, v })
-}
-
-/// The same where one more type name is in scope than when the old frame was made.
-pub fn build_under(
-    alloc: Global,
-    code: &mut Vec<(Instr, Span)>,
-    from: &[(u64, TType)],
-    new: Option<u64>,
-    to: &[(u64, TType)],
-) -> Result<(), OutOfMemory>
+// A word with this home is loaded into register t, where it stands in no register.
+fn load(code: &mut Vec<(Instr, Span)>, split: Split, t: u64, home: Home) -> Result<(), OutOfMemory>
     ensures { OnOk result ((rest : TSeq) →
-        onto code.new.items rest ≡ onto code.old.items (built (shift_file 1 0 (file from.now)) new (file to.now) rest)) }
+        onto code.new.items rest ≡ onto code.old.items (loads split.low t (the_home home) rest)) }
 {
-    build(alloc, code, from, new, to)
+    match home {
+        Home::Register(_) => Ok(()),
+        Home::Frame(field) => put(
+            code,
+            Instr::Ld {
+                rd: t,
+                rs: split.frame(),
+                field,
+            },
+        ),
+        Home::Slot(field) => put(
+            code,
+            Instr::Ld {
+                rd: t,
+                rs: split.slots(),
+                field,
+            },
+        ),
+    }
 }
 
-/// A value's register is loaded into register 3.
+/// A first operand is loaded.
+pub fn load_first(code: &mut Vec<(Instr, Span)>, homes: &Homes, r: u64) -> Result<(), OutOfMemory>
+    ensures { OnOk result ((rest : TSeq) → onto code.new.items rest ≡ onto code.old.items
+        (loads homes.now.split.low (first_reg homes.now.split.low) (home_in homes.now r) rest)) }
+{
+    load(code, homes.split, homes.split.first(), homes.of(r))
+}
+
+/// A second operand is loaded.
+pub fn load_second(code: &mut Vec<(Instr, Span)>, homes: &Homes, r: u64) -> Result<(), OutOfMemory>
+    ensures { OnOk result ((rest : TSeq) → onto code.new.items rest ≡ onto code.old.items
+        (loads homes.now.split.low (second_reg homes.now.split.low) (home_in homes.now r) rest)) }
+{
+    load(code, homes.split, homes.split.second(), homes.of(r))
+}
+
+/// A value's register is loaded, as a second operand.
 #[cycle(loads)]
 pub fn load_value(
     code: &mut Vec<(Instr, Span)>,
-    from: &[(u64, TType)],
+    homes: &Homes,
     v: &Value,
 ) -> Result<(), OutOfMemory>
-    ensures { OnOk result ((rest : TSeq) → onto code.new.items rest ≡ onto code.old.items (fetch (file from.now) (value_tree v.now) rest)) }
+    ensures { OnOk result ((rest : TSeq) → onto code.new.items rest ≡ onto code.old.items
+        (loads_value homes.now.split.low (home_in homes.now) (value_tree v.now) rest)) }
 {
     match v {
         Value::Plain { base, .. } => match base {
-            Base::Reg(r) => {
-                let field = place(from, *r);
-                put(
-                    code,
-                    Instr::Ld {
-                        rd: 3,
-                        rs: 1,
-                        field,
-                    },
-                )
-            }
+            Base::Reg(r) => load_second(code, homes, *r),
             Base::Int(_) => Ok(()),
             Base::Label(_) => Ok(()),
             Base::Data(_) => Ok(()),
         },
-        Value::Pack { inner, .. } => load_value(code, from, inner),
+        Value::Pack { inner, .. } => load_value(code, homes, inner),
     }
+}
+
+// A new frame of these registers is filled.
+fn fill(
+    code: &mut Vec<(Instr, Span)>,
+    homes: &Homes,
+    to: &[(u64, TType)],
+) -> Result<(), OutOfMemory>
+    ensures { OnOk result ((rest : TSeq) → onto code.new.items rest ≡ onto code.old.items
+        (fills homes.now.split.low (home_in homes.now) (numbers (file to.now)) 0 rest)) }
+{
+    for j in 0..to.len() {
+        let r = to[j].0;
+        load_second(code, homes, r)?;
+        let stored = Instr::St {
+            rd: homes.split.made(),
+            field: j as u64,
+            rs: homes.second(r),
+        };
+        put(code, stored)?;
+    }
+    Ok(())
+}
+
+/// A new frame of these registers, beside the old one.
+pub fn build(
+    alloc: Global,
+    code: &mut Vec<(Instr, Span)>,
+    homes: &Homes,
+    to: &[(u64, TType)],
+) -> Result<(), OutOfMemory>
+    ensures { OnOk result ((rest : TSeq) → onto code.new.items rest ≡ onto code.old.items
+        (built homes.now.split.low (home_in homes.now) (file to.now) rest)) }
+{
+    let types = cell_types(alloc, homes.split, to)?;
+    let made = homes.split.made();
+    put(code, Instr::Malloc { rd: made, types })?;
+    fill(code, homes, to)
+}
+
+/// And in the place of the old one.
+pub fn gather(
+    alloc: Global,
+    code: &mut Vec<(Instr, Span)>,
+    homes: &Homes,
+    to: &[(u64, TType)],
+) -> Result<(), OutOfMemory>
+    ensures { OnOk result ((rest : TSeq) → onto code.new.items rest ≡ onto code.old.items
+        (gathers homes.now.split.low (home_in homes.now) (file to.now) rest)) }
+{
+    build(alloc, code, homes, to)?;
+    put_move(alloc, code, homes.split.frame(), homes.split.made())
 }

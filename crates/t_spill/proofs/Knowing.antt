@@ -23,12 +23,12 @@ use Rattle.t_terms.specs.Tree.{St, Unpack, TEnd, Jmp, Halt, TProg, names_after}
 use Rattle.spill_law.specs.Spill.{or_int, ins, base_type, applied_type, type_of, field_type, filled_type, hidden_type}
 use Rattle.spill_law.specs.Spill.{target_file, target, end_target, next}
 use Rattle.spill_law.proofs.Files.{lookup_ins, raised_lookup, look_same, look_other}
+use Rattle.t_frames.proofs.Gathered.{other_at}
 use Rattle.t_spill.specs.Known.{seen, Knows, FitsNow, MayShow, one, alone, base_subject, value_subject, subject}
 use Rattle.t_spill.specs.Known.{end_subject, given}
 use Rattle.t_spill.specs.Ready.{Enough, Applies, InstrApplies, ReadyInstr, ReadyEnd, InstrTypable}
 use Rattle.t_spill.specs.declared.known.Entry.{Entry}
 use Rattle.t_spill.specs.declared.known.Known.{Known}
-use Rattle.t_spill.proofs.Lasts.{other_at}
 
 -- a type that is given now
 seen_now : (e : Entry) → seen e.names e ≡ tree e.ty
@@ -253,7 +253,7 @@ module _ (P : TProg) (x : TFile) where
 
   pub end_ready_alone : (n : ℕ) (e : TEnd) → ReadyEnd P n x e → ReadyEnd P n (alone (end_subject e) x) e
   end_ready_alone n (Jmp v) h = (h.0, alone_formed n (value_subject v) x h.1, h.2, applies_alone v h.3)
-  end_ready_alone n Halt h = tt
+  end_ready_alone n Halt h = (h.0, tt)
 
 -- an instruction that gives a register a type, under as many names as before, and under one more
 abbrev pub Sets : TProg → TInstr → ℕ → Type 0

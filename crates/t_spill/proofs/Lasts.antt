@@ -4,13 +4,12 @@ use Rattle.std.proofs.Common.{sym, ap, ◌∙◌, subst, take, drop, length, get
 use Rattle.std.specs.Prelude.{nat_lt, nat_eq, unwrap_or}
 use Rattle.std.specs.BTreeMap.{BTreeMap, is_at, IsEmpty, Updates}
 use Rattle.std.specs.Map.{lookup}
-use Rattle.std.specs.Ordering.{nat_cmp, is_eq}
-use Rattle.std.specs.Cmp.{nat_cmp_is}
-use Rattle.std.specs.declared.cmp.Ordering.TheVariants.{Less, Greater}
+use Rattle.std.specs.Ordering.{nat_cmp}
 use Rattle.std.proofs.Math.Logic.{⊎_elim}
 use Rattle.std.proofs.lemmas.List.{take_more, drop_all, drop-append-le, length-take, length-append}
-use Rattle.std.proofs.lemmas.Bool.{cases_lt, cases_eq, cases_order, eq-eqb, ne_eqb, lt-ltb, le-ltb}
+use Rattle.std.proofs.lemmas.Bool.{cases_lt, cases_eq, eq-eqb, ne_eqb, lt-ltb, le-ltb}
 use Rattle.spill_law.specs.Spill.{among}
+use Rattle.t_frames.proofs.Gathered.{other_at}
 use Rattle.t_spill.specs.Wants.{last_of, Tells}
 use Rattle.t_spill.specs.declared.ahead.Ahead.{Ahead}
 
@@ -26,13 +25,6 @@ among_last (y ∷ ys) q r e = ap (cond (nat_eq y r) true) (among_last ys q r e) 
 among_others : (ys : List ℕ) (q r : ℕ) → (q ≡ r → ⊥) → among r (ys ++ q ∷ []) ≡ among r ys
 among_others [] q r ne = ap (λ b. cond b true false) (ne_eqb q r ne)
 among_others (y ∷ ys) q r ne = ap (cond (nat_eq y r) true) (among_others ys q r ne)
-
-pub other_at : (q r : ℕ) → (q ≡ r → ⊥) → is_at (nat_cmp q) r ≡ false
-other_at q r ne =
-    ⊎_elim (λ e. absurd (ne e))
-    (⊎_elim (λ (lt : q < r). ap is_eq (sym (nat_cmp_is q r Less lt))) (λ (gt : r < q). ap is_eq (sym
-    (nat_cmp_is q r Greater gt))))
-    (cases_order q r)
 
 -- the places of the first i registers
 abbrev pub Places : List ℕ → ℕ → BTreeMap ℕ ℕ → Type 0

@@ -1,66 +1,46 @@
--- Along a block, with what stays known.
-use Rattle.std.proofs.Common.{◌≡◌, ℕ, zero, suc, ◌+◌, ◌<◌, ◌≤◌, ◌^◌, List, [], ◌∷◌, ◌++◌, refl, sym, ap, ◌∙◌, drop, length, get_or, arith, subst}
+-- The word of an instruction is computed.
+use Rattle.std.proofs.Common.{◌≡◌, ℕ, zero, suc, ◌<◌, ◌≤◌, ◌^◌, List, [], ◌∷◌, ◌++◌, refl, sym, ap, ◌∙◌, drop}
+use Rattle.std.proofs.Common.{length, arith, cond, Bool, true, false, nat_eq, Option, Some, None}
+use Rattle.std.specs.Prelude.{option_map}
 use Rattle.idx_core.specs.declared.span.Span.{Span}
 use Rattle.t_types.specs.declared.types.TType.{TType}
-use Rattle.t_types.specs.Tree.{TFile}
-use Rattle.t_types.specs.Read.{file}
-use Rattle.t_terms.specs.Tree.{Reg, Int, Label, Data, TValue, Plain, Pack, TInstr, Arith, Bnz, Ld, Malloc, Mov, St, Unpack, TEnd, Jmp, Halt, TSeq, Then, Ends, TProg, names_after}
+use Rattle.t_types.specs.Tree.{Ty, TFile, shift, shift_file}
+use Rattle.t_types.specs.Fits.{lookup}
+use Rattle.t_types.specs.Read.{file, types}
+use Rattle.t_terms.specs.Tree.{Reg, Int, Label, Data, TValue, Plain, Pack, TInstr, Arith, Bnz, Ld, Malloc, Mov, St}
+use Rattle.t_terms.specs.Tree.{Unpack, TEnd, Jmp, Halt, TSeq, Then, TProg}
 use Rattle.t_terms.specs.Whole.{WellFormedValue, WellFormedInstr}
-use Rattle.t_terms.specs.Spanned.{seq_of}
-use Rattle.t_terms.specs.Read.{instr, body}
 use Rattle.t_terms.specs.declared.instr.Instr.{Instr}
-use Rattle.t_terms.specs.declared.instr.End.{End}
-use Rattle.spill_law.specs.Spill.{live, numbers, target, reads, next, kept, step, code}
-use Rattle.spill_law.proofs.Live.{kept_wants}
-use Rattle.t_frames.specs.Onto.{onto, ValueFits, InstrFits, EndFits}
-use Rattle.t_spill.specs.Tails.{tail_of, InstrMoves}
-use Rattle.t_spill.specs.Wants.{Tells}
-use Rattle.t_spill.specs.declared.ahead.Ahead.{Ahead}
-use Rattle.t_spill.specs.Ready.{ReadyInstr, ReadyEnd, ReadyKept}
-use Rattle.t_spill.proofs.Walk.{tail_one}
+use Rattle.spill_law.specs.Spill.{or_int, field_type, filled_type, hidden_type, ins, live, numbers, target, reads}
+use Rattle.spill_law.specs.Spill.{next, kept, among, slots, finish, after, way, defines, step, code, high_part, Layout}
+use Rattle.spill_law.proofs.Files.{lookup_ins, raised_lookup}
+use Rattle.spill_law.proofs.Live.{Agree, among_left, among_right, among_first, value_same, next_alike, target_alike}
+use Rattle.t_frames.specs.Onto.{onto, computed, ValueFits, InstrFits, EndFits}
+use Rattle.t_frames.specs.Homes.{home_in, has_in, with_slots}
+use Rattle.t_frames.specs.declared.homes.Homes.{Homes}
+use Rattle.t_frames.proofs.Steps.{step_is}
+use Rattle.t_spill.specs.Known.{given}
+use Rattle.t_spill.specs.Picking.{Homed}
+use Rattle.t_spill.specs.Ready.{ReadyInstr, ReadyEnd}
 
-drop_front : (xs ys : List ℕ) (n : ℕ) → n ≡ length xs → drop n (xs ++ ys) ≡ ys
+-- registers that are passed
+pub drop_front : (xs ys : List ℕ) (n : ℕ) → n ≡ length xs → drop n (xs ++ ys) ≡ ys
 drop_front [] ys zero e = refl
 drop_front [] ys (suc n) e = absurd (omega (arith, e))
 drop_front (x ∷ xs) ys zero e = absurd (omega (arith, e))
 drop_front (x ∷ xs) ys (suc n) e = drop_front xs ys n (omega (arith, e))
 
-grouped : (xs ys zs : List ℕ) → xs ++ ys ++ zs ≡ xs ++ (ys ++ zs)
+pub grouped : (xs ys zs : List ℕ) → xs ++ ys ++ zs ≡ xs ++ (ys ++ zs)
 grouped [] ys zs = refl
 grouped (x ∷ xs) ys zs = ap (λ (ws : List ℕ). x ∷ ws) (grouped xs ys zs)
 
-count_numbers : (xs : List (ℕ × TType)) → length (numbers (file xs)) ≡ length xs
-count_numbers [] = refl
-count_numbers (x ∷ xs) = ap suc (count_numbers xs)
-
--- what is wanted behind the registers that an instruction reads, and behind those of its target
-pub behind_reads : (P : TProg) (x : TFile) (i : TInstr) (c : TSeq) (ws us : List ℕ) (n : ℕ) (entered : List (ℕ × TType)) → ws ≡ live P x (Then i c) → n ≡ length (reads i) → us ≡ drop n ws → file entered ≡ target P x i →
-    us ≡ numbers (file entered) ++ live P (next P x i) c
-behind_reads P x i c ws us n entered e len is t =
-    is ∙ ap (drop n) (e ∙ grouped (reads i) (numbers (target P x i)) (live P (next P x i) c)) ∙ drop_front (reads i) (numbers (target P x i) ++ live P (next P x i) c) n len
-    ∙ ap (λ y. numbers y ++ live P (next P x i) c) (sym t)
-
-length_front : (xs ys : List ℕ) → length xs ≤ length (xs ++ ys)
+pub length_front : (xs ys : List ℕ) → length xs ≤ length (xs ++ ys)
 length_front [] ys = omega arith
 length_front (x ∷ xs) ys = let a = length_front xs ys in omega (arith, a)
 
-pub reads_within : (P : TProg) (x : TFile) (i : TInstr) (c s : TSeq) (n : ℕ) → n ≡ length (reads i) → s ≡ Then i c → n ≤ length (live P x s)
-reads_within P x i c s n e is =
-    let a = length_front (reads i) (numbers (target P x i) ++ live P (next P x i) c) in
-    let g = ap (λ (zs : List ℕ). length zs) (ap (live P x) is ∙ grouped (reads i) (numbers (target P x i)) (live P (next P x i) c)) in
-    omega (arith, a, g, e)
-
-pub target_within : (us rest : List ℕ) (entered : List (ℕ × TType)) (m : ℕ) → m ≡ length entered → us ≡ numbers (file entered) ++ rest → m ≤ length us
-target_within us rest entered m e is =
-    let a = length_front (numbers (file entered)) rest in
-    let b = count_numbers entered in
-    let l = ap (λ (zs : List ℕ). length zs) is in
-    omega (arith, a, b, l, e)
-
-pub behind_target : (us vs rest : List ℕ) (entered : List (ℕ × TType)) (m : ℕ) → m ≡ length entered → vs ≡ drop m us → us ≡ numbers (file entered) ++ rest → vs ≡ rest
-behind_target us vs rest entered m e v is =
-    let b = count_numbers entered in
-    v ∙ ap (drop m) is ∙ drop_front (numbers (file entered)) rest m (omega (arith, b, e))
+pub count_numbers : (xs : List (ℕ × TType)) → length (numbers (file xs)) ≡ length xs
+count_numbers [] = refl
+count_numbers (x ∷ xs) = ap suc (count_numbers xs)
 
 -- labels have a next
 value_fits : (p q n : ℕ) (v : TValue) → p < 2 ^ 64 → WellFormedValue p q n v → ValueFits v
@@ -82,39 +62,112 @@ instr_fits p q n (Mov rd v) few h = value_fits p q n v few h.1
 instr_fits p q n (St rd i rs) few h = tt
 instr_fits p q n (Unpack rd v) few h = value_fits p q n v few h.1
 
-pub kept_here : (P : TProg) (x : TFile) (xs : List (Instr × Span)) (e : End) (i : ℕ) (y : Instr × Span) → i < length xs → y ≡ get_or xs i y → ((n : ℕ) × ReadyKept P n x (tail_of xs e i)) →
-    (n : ℕ) × (ReadyInstr P n x (instr y.0) × ReadyKept P (names_after (instr y.0) n) (kept P x (instr y.0) (tail_of xs e (i + 1))) (tail_of xs e (i + 1)))
-kept_here P x xs e i y lt is h = (h.0, subst (ReadyKept P h.0 x) (tail_one xs e i y lt is) h.1)
-
-pub fits_here : (P : TProg) (x : TFile) (xs : List (Instr × Span)) (e : End) (i : ℕ) (y : Instr × Span) → i < length xs → y ≡ get_or xs i y → length P.blocks < 2 ^ 64 → ((n : ℕ) × ReadyKept P n x (tail_of xs e i)) → InstrFits (instr y.0)
-fits_here P x xs e i y lt is few h = let k = kept_here P x xs e i y lt is h in instr_fits (length P.blocks) (length P.heap) k.0 (instr y.0) few k.1.0.3
+pub fits_here : (P : TProg) (n : ℕ) (y : TFile) (i : TInstr) → length P.blocks < 2 ^ 64 → ReadyInstr P n y i → InstrFits i
+fits_here P n y i few h = instr_fits (length P.blocks) (length P.heap) n i few h.3
 
 pub end_fits : (P : TProg) (n : ℕ) (x : TFile) (e : TEnd) → length P.blocks < 2 ^ 64 → ReadyEnd P n x e → EndFits e
 end_fits P n x (Jmp v) few h = value_fits (length P.blocks) (length P.heap) n v few h.2
 end_fits P n x Halt few h = tt
 
--- the next instruction is spilled
-pub record Onward (P : TProg) (x z : TFile) (xs : List (Instr × Span)) (e : End) (i : ℕ) (a : Ahead) (old new : List (Instr × Span)) (all : TSeq) : Type 0 where
-  pub ready : (n : ℕ) × ReadyKept P n z (tail_of xs e (i + 1))
-  pub wants : Tells a (live P z (tail_of xs e (i + 1)))
-  pub code : onto new (code P z (tail_of xs e (i + 1))) ≡ all
+-- what an instruction reads and enters is wanted in front of it
+module _ (P : TProg) (x y : TFile) (i : TInstr) (c : TSeq) (agrees : Agree (live P x (Then i c)) x y) where
+  pub reads_agree : Agree (reads i) x y
+  reads_agree r e =
+      agrees r (among_left r (reads i ++ numbers (target P x i)) (live P (next P x i) c) (among_left r (reads i) (numbers (target P x i)) e))
 
-pub onward : (P : TProg) (x z : TFile) (xs : List (Instr × Span)) (e : End) (i : ℕ) (y : Instr × Span) (a : Ahead) (old new : List (Instr × Span)) (all : TSeq) → i < length xs → y ≡ get_or xs i y →
-    ((n : ℕ) × ReadyKept P n x (tail_of xs e i)) → Tells a (live P (next P x (instr y.0)) (tail_of xs e (i + 1))) → InstrMoves P x (instr y.0) a z old new → onto old (code P x (tail_of xs e i)) ≡ all → Onward P x z xs e i a old new all
-onward P x z xs e i y a old new all lt is h w m c =
-    let j = instr y.0 in
-    let rest = tail_of xs e (i + 1) in
-    let same : z ≡ kept P x (instr y.0) (tail_of xs e (i + 1)) = m.0 rest w in
-    let k = kept_here P x xs e i y lt is h in
-    record {
-      ready = (names_after (instr y.0) k.0, subst (λ t. ReadyKept P (names_after (instr y.0) k.0) t (tail_of xs e (i + 1))) (sym same) k.1.1);
-      wants = subst (Tells a) (sym (kept_wants P (instr y.0) x (tail_of xs e (i + 1))) ∙ ap (λ t. live P t (tail_of xs e (i + 1))) (sym same)) w;
-      code =
-          m.1 (code P z rest) ∙ ap (λ t. onto old (step P x (instr y.0) t (code P t (tail_of xs e (i + 1))))) same
-          ∙ ap (λ s. onto old (code P x s)) (sym (tail_one xs e i y lt is)) ∙ c;
-    }
+  pub targets_agree : target P y i ≡ target P x i
+  targets_agree = target_alike P x y i reads_agree
 
--- instructions in front of an end are a body with it
-pub onto_body : (xs : List (Instr × Span)) (e : TEnd) → onto xs (Ends e) ≡ seq_of (body xs) e
-onto_body [] e = refl
-onto_body (x ∷ xs) e = ap (Then (instr x.0)) (onto_body xs e)
+  pub next_agrees : Agree (live P (next P x i) c) (next P x i) (next P y i)
+  next_agrees r e =
+      next_alike P x y i reads_agree r (agrees r (among_right r (reads i ++ numbers (target P x i)) (live P (next P x i) c) e))
+
+-- the type that an instruction gives
+pub given_alike : (P : TProg) (x y : TFile) (i : TInstr) → Agree (reads i) x y → given P y i ≡ given P x i
+given_alike P x y (Arith op rd rs v) ag = refl
+given_alike P x y (Bnz r v) ag = refl
+given_alike P x y (Ld rd rs i) ag = ap (λ o. field_type (or_int o) i) (ag rs (among_first rs []))
+given_alike P x y (Malloc rd ts) ag = refl
+given_alike P x y (Mov rd v) ag = value_same P x y v ag
+given_alike P x y (St rd i rs) ag = ap (λ o. filled_type (or_int o) i) (ag rd (among_first rd (rs ∷ [])))
+given_alike P x y (Unpack rd v) ag = ap hidden_type (value_same P x y v ag)
+
+-- a register that is known behind an instruction was known before, unless the instruction gives it a word
+abbrev KnownTo : TFile → ℕ → Type 0
+KnownTo x r = (u : Ty) × (lookup x r ≡ Some u)
+
+ins_known : (x : TFile) (rd r : ℕ) (t u : Ty) → nat_eq rd r ≡ false → lookup (ins rd u x) r ≡ Some t → KnownTo x r
+ins_known x rd r t u ne e =
+    (t, sym (ap (λ g. g r) (lookup_ins rd u x) ∙ ap (λ b. cond b (Some u) (lookup x r)) ne) ∙ e)
+
+raised_known : (x : TFile) (r : ℕ) (t : Ty) → lookup (shift_file 1 0 x) r ≡ Some t → KnownTo x r
+raised_known x r t e = go (lookup x r) refl
+  where
+    go : (o : Option Ty) → lookup x r ≡ o → KnownTo x r
+    go None is =
+        let no : None ≡ Some t =
+        sym (ap (option_map (shift 1 0)) is) ∙ ap (λ g. g r) (raised_lookup x) ∙ e in cc
+    go (Some u) is = (u, is)
+
+known_before : (P : TProg) (x : TFile) (i : TInstr) (r : ℕ) (t : Ty) → nat_eq (defines i) r ≡ false →
+    lookup (next P x i) r ≡ Some t → KnownTo x r
+known_before P x (Arith op rd rs v) r t ne e = ins_known x rd r t _ ne e
+known_before P x (Bnz q v) r t ne e = (t, e)
+known_before P x (Ld rd rs i) r t ne e = ins_known x rd r t _ ne e
+known_before P x (Malloc rd ts) r t ne e = ins_known x rd r t _ ne e
+known_before P x (Mov rd v) r t ne e = ins_known x rd r t _ ne e
+known_before P x (St rd i rs) r t ne e = ins_known x rd r t _ ne e
+known_before P x (Unpack rd v) r t ne e =
+    let k = ins_known (shift_file 1 0 x) rd r t _ ne e in raised_known x r k.0 k.1
+
+pub homed_next : (P : TProg) (m : ℕ) (x : TFile) (i : TInstr) (c : TSeq) (hs : Homes) →
+    Homed m (live P x (Then i c)) x hs → (r : ℕ) (t : Ty) → m < r → among r (live P (next P x i) c) ≡ true →
+    lookup (next P x i) r ≡ Some t → cond (nat_eq (defines i) r) true (has_in hs r) ≡ true
+homed_next P m x i c hs h r t lt is e = go (nat_eq (defines i) r) refl
+  where
+    go : (b : Bool) → nat_eq (defines i) r ≡ b → cond b true (has_in hs r) ≡ true
+    go true k = refl
+    go false k =
+        let old = known_before P x i r t k e in
+        h r old.0 lt (among_right r (reads i ++ numbers (target P x i)) (live P (next P x i) c) is) old.1
+
+-- the code of an instruction, up to where its word is computed
+module _ (P : TProg) (x : TFile) (i : TInstr) (c : TSeq) where
+  -- what follows it, and that behind the code so far
+  abbrev follows : Homes → List TType → TSeq
+  follows hs ts =
+      let L : Layout = record { homes = home_in hs; used = length ts } in
+      finish hs.split.low L (defines i) (slots hs.split.low P (length ts) x (Then i c)) (kept P x i c)
+      (way hs.split.low (length ts) i)
+      (code hs.split.low P (after hs.split.low L i (kept P x i c)) (kept P x i c) c)
+
+  abbrev behind : Homes → List TType → List (Instr × Span) → TSeq → TSeq
+  behind hs ts done s =
+      onto done (with_slots hs.split.low (types ts) (slots hs.split.low P (length ts) x (Then i c)) s)
+
+  pub text_computed : (hs hs2 : Homes) (ts ts2 : List TType) (done done2 tail tail2 : List (Instr × Span)) (high : TFile) →
+      hs2 ≡ hs → ts2 ≡ ts → done2 ≡ done → high ≡ high_part hs.split.low (target P x i) →
+      ((rest : TSeq) → onto tail2 rest ≡ onto tail (computed hs.split.low (home_in hs) high i rest)) →
+      behind hs2 ts2 done2 (onto tail2 (follows hs2 ts2))
+      ≡ behind hs ts done (onto tail (step hs.split.low P (record { homes = home_in hs; used = length ts }) x i
+      (slots hs.split.low P (length ts) x (Then i c)) (kept P x i c)
+      (code hs.split.low P (after hs.split.low (record { homes = home_in hs; used = length ts }) i (kept P x i c))
+      (kept P x i c) c)))
+  text_computed hs hs2 ts ts2 done done2 tail tail2 high eh et ed is h =
+      ap (behind hs2 ts2 done2) (h (follows hs2 ts2))
+      ∙ ap (λ (k : Homes). behind k ts2 done2 (onto tail (computed hs.split.low (home_in hs) high i (follows k ts2)))) eh
+      ∙ ap (λ (us : List TType). behind hs us done2 (onto tail (computed hs.split.low (home_in hs) high i (follows hs us)))) et
+      ∙ ap (λ (xs : List (Instr × Span)). behind hs ts xs (onto tail (computed hs.split.low (home_in hs) high i (follows hs ts)))) ed
+      ∙ ap (λ z. behind hs ts done (onto tail (computed hs.split.low (home_in hs) z i (follows hs ts)))) is
+      ∙ ap (λ s. behind hs ts done (onto tail s))
+      (sym (step_is hs.split.low P (record { homes = home_in hs; used = length ts }) x i
+      (slots hs.split.low P (length ts) x (Then i c)) (kept P x i c)
+      (code hs.split.low P (after hs.split.low (record { homes = home_in hs; used = length ts }) i (kept P x i c))
+      (kept P x i c) c)))
+
+-- what an instruction reads and enters, in front of what the rest wants
+pub wants_here : (P : TProg) (x y : TFile) (i : TInstr) (c : TSeq) (entered : List (ℕ × TType)) →
+    Agree (live P x (Then i c)) x y → file entered ≡ target P y i →
+    live P x (Then i c) ≡ reads i ++ numbers (file entered) ++ live P (next P x i) c
+wants_here P x y i c entered ag e =
+    ap (λ z. reads i ++ numbers z ++ live P (next P x i) c) (sym (e ∙ targets_agree P x y i c ag))

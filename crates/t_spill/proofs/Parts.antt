@@ -18,10 +18,10 @@ pub blocks_more : (bs : List Block) (b : Block) → blocks_of (bs ++ b ∷ []) �
 blocks_more [] b = refl
 blocks_more (x ∷ bs) b = ap (λ (ys : List TBlock). block x ∷ ys) (blocks_more bs b)
 
-blocks_suc : (P : TProg) (bs : List Block) (i : ℕ) (b : Block) → i < length bs → b ≡ get_or bs i b → sp_blocks P (blocks_of (drop i bs)) ≡ sp_block P (block b) ∷ sp_blocks P (blocks_of (drop (suc i) bs))
-blocks_suc P [] i b lt is = absurd (omega arith)
-blocks_suc P (x ∷ bs) zero b lt is = ap (λ (y : Block). sp_block P (block y) ∷ sp_blocks P (blocks_of bs)) (sym is)
-blocks_suc P (x ∷ bs) (suc i) b lt is = blocks_suc P bs i b (omega arith) is
+blocks_suc : (m : ℕ) (P : TProg) (bs : List Block) (i : ℕ) (b : Block) → i < length bs → b ≡ get_or bs i b → sp_blocks m P (blocks_of (drop i bs)) ≡ sp_block m P (block b) ∷ sp_blocks m P (blocks_of (drop (suc i) bs))
+blocks_suc m P [] i b lt is = absurd (omega arith)
+blocks_suc m P (x ∷ bs) zero b lt is = ap (λ (y : Block). sp_block m P (block y) ∷ sp_blocks m P (blocks_of bs)) (sym is)
+blocks_suc m P (x ∷ bs) (suc i) b lt is = blocks_suc m P bs i b (omega arith) is
 
 block_there : (P : TProg) (bs : List Block) (i : ℕ) (b : Block) → i < length bs → b ≡ get_or bs i b → BlocksReady P (blocks_of bs) → BlockReady P (block b)
 block_there P [] i b lt is h = absurd (omega arith)
@@ -35,35 +35,35 @@ longer : (xs : List TBlock) (y : TBlock) (ys : List TBlock) → (xs ++ y ∷ [])
 longer [] y ys = refl
 longer (x ∷ xs) y ys = ap (λ (zs : List TBlock). x ∷ zs) (longer xs y ys)
 
-pub one_block : (P : TProg) (bs : List Block) (i : ℕ) (b : Block) (old new : List Block) (made : Block) (all : List TBlock) → i < length bs → b ≡ get_or bs i b → new ≡ old ++ made ∷ [] → block made ≡ sp_block P (block b) →
-    blocks_of old ++ sp_blocks P (blocks_of (drop i bs)) ≡ all → blocks_of new ++ sp_blocks P (blocks_of (drop (i + 1) bs)) ≡ all
-one_block P bs i b old new made all lt is put same h =
+pub one_block : (m : ℕ) (P : TProg) (bs : List Block) (i : ℕ) (b : Block) (old new : List Block) (made : Block) (all : List TBlock) → i < length bs → b ≡ get_or bs i b → new ≡ old ++ made ∷ [] → block made ≡ sp_block m P (block b) →
+    blocks_of old ++ sp_blocks m P (blocks_of (drop i bs)) ≡ all → blocks_of new ++ sp_blocks m P (blocks_of (drop (i + 1) bs)) ≡ all
+one_block m P bs i b old new made all lt is put same h =
     let one : suc i ≡ i + 1 = omega arith in
-    ap (λ (xs : List Block). blocks_of xs ++ sp_blocks P (blocks_of (drop (i + 1) bs))) put
-    ∙ ap (λ (ys : List TBlock). ys ++ sp_blocks P (blocks_of (drop (i + 1) bs))) (blocks_more old made ∙ ap (λ y. blocks_of old ++ y ∷ []) same)
-    ∙ longer (blocks_of old) (sp_block P (block b)) (sp_blocks P (blocks_of (drop (i + 1) bs)))
-    ∙ ap (λ n. blocks_of old ++ (sp_block P (block b) ∷ sp_blocks P (blocks_of (drop n bs)))) (sym one)
-    ∙ ap (λ ys. blocks_of old ++ ys) (sym (blocks_suc P bs i b lt is)) ∙ h
+    ap (λ (xs : List Block). blocks_of xs ++ sp_blocks m P (blocks_of (drop (i + 1) bs))) put
+    ∙ ap (λ (ys : List TBlock). ys ++ sp_blocks m P (blocks_of (drop (i + 1) bs))) (blocks_more old made ∙ ap (λ y. blocks_of old ++ y ∷ []) same)
+    ∙ longer (blocks_of old) (sp_block m P (block b)) (sp_blocks m P (blocks_of (drop (i + 1) bs)))
+    ∙ ap (λ n. blocks_of old ++ (sp_block m P (block b) ∷ sp_blocks m P (blocks_of (drop n bs)))) (sym one)
+    ∙ ap (λ ys. blocks_of old ++ ys) (sym (blocks_suc m P bs i b lt is)) ∙ h
 
-none_after : (P : TProg) (bs : List Block) (i : ℕ) → length bs ≤ i → sp_blocks P (blocks_of (drop i bs)) ≡ []
-none_after P [] zero le = refl
-none_after P [] (suc i) le = refl
-none_after P (x ∷ bs) zero le = absurd (omega arith)
-none_after P (x ∷ bs) (suc i) le = none_after P bs i (omega arith)
+none_after : (m : ℕ) (P : TProg) (bs : List Block) (i : ℕ) → length bs ≤ i → sp_blocks m P (blocks_of (drop i bs)) ≡ []
+none_after m P [] zero le = refl
+none_after m P [] (suc i) le = refl
+none_after m P (x ∷ bs) zero le = absurd (omega arith)
+none_after m P (x ∷ bs) (suc i) le = none_after m P bs i (omega arith)
 
 no_more : (xs : List TBlock) → xs ++ [] ≡ xs
 no_more [] = refl
 no_more (x ∷ xs) = ap (λ (zs : List TBlock). x ∷ zs) (no_more xs)
 
-pub all_blocks : (P : TProg) (bs made : List Block) (i : ℕ) (all : List TBlock) → length bs ≤ i → blocks_of made ++ sp_blocks P (blocks_of (drop i bs)) ≡ all → blocks_of made ≡ all
-all_blocks P bs made i all le h = sym (no_more (blocks_of made)) ∙ ap (λ ys. blocks_of made ++ ys) (sym (none_after P bs i le)) ∙ h
+pub all_blocks : (m : ℕ) (P : TProg) (bs made : List Block) (i : ℕ) (all : List TBlock) → length bs ≤ i → blocks_of made ++ sp_blocks m P (blocks_of (drop i bs)) ≡ all → blocks_of made ≡ all
+all_blocks m P bs made i all le h = sym (no_more (blocks_of made)) ∙ ap (λ ys. blocks_of made ++ ys) (sym (none_after m P bs i le)) ∙ h
 
-pub first_block : (xs : List Block) (b : Block) (ys : List TBlock) → xs ≡ b ∷ [] → block b ≡ entry → blocks_of xs ++ ys ≡ entry ∷ ys
-first_block xs b ys e same = ap (λ (zs : List Block). blocks_of zs ++ ys) e ∙ ap (λ y. y ∷ ys) same
+pub first_block : (m : ℕ) (xs : List Block) (b : Block) (ys : List TBlock) → xs ≡ b ∷ [] → block b ≡ entry m → blocks_of xs ++ ys ≡ entry m ∷ ys
+first_block m xs b ys e same = ap (λ (zs : List Block). blocks_of zs ++ ys) e ∙ ap (λ y. y ∷ ys) same
 
 -- fields of data
-abbrev pub spilled_field : Value × TType × Span → TDatum
-spilled_field x = sp_datum (record { value = value x.0; ty = tree x.1 })
+abbrev pub spilled_field : ℕ → Value × TType × Span → TDatum
+spilled_field m x = sp_datum m (record { value = value x.0; ty = tree x.1 })
 
 abbrev pub plain_field : Value × TType × Span → TDatum
 plain_field x = record { value = value x.0; ty = tree x.1 }
@@ -72,9 +72,9 @@ plain_are : (xs : List (Value × TType × Span)) → plain_fields (data_items xs
 plain_are [] = refl
 plain_are (x ∷ xs) = ap (λ (ys : TData). plain_field x ∷ ys) (plain_are xs)
 
-spilled_are : (xs : List (Value × TType × Span)) → sp_data (plain_fields (data_items xs)) ≡ map spilled_field xs
-spilled_are [] = refl
-spilled_are (x ∷ xs) = ap (λ (ys : TData). spilled_field x ∷ ys) (spilled_are xs)
+spilled_are : (m : ℕ) (xs : List (Value × TType × Span)) → sp_data m (plain_fields (data_items xs)) ≡ map (spilled_field m) xs
+spilled_are m [] = refl
+spilled_are m (x ∷ xs) = ap (λ (ys : TData). spilled_field m x ∷ ys) (spilled_are m xs)
 
 take_more : (xs : List (Value × TType × Span)) (n : ℕ) → length xs ≤ n → take n xs ≡ xs
 take_more [] zero le = refl
@@ -82,8 +82,8 @@ take_more [] (suc n) le = refl
 take_more (x ∷ xs) zero le = absurd (omega arith)
 take_more (x ∷ xs) (suc n) le = ap (λ (ys : List (Value × TType × Span)). x ∷ ys) (take_more xs n (omega arith))
 
-pub all_fields : (ys xs : List (Value × TType × Span)) (n : ℕ) → map plain_field ys ≡ map spilled_field (take n xs) → length xs ≤ n → plain_fields (data_items ys) ≡ sp_data (plain_fields (data_items xs))
-all_fields ys xs n done le = plain_are ys ∙ done ∙ ap (λ (zs : List (Value × TType × Span)). map spilled_field zs) (take_more xs n le) ∙ sym (spilled_are xs)
+pub all_fields : (m : ℕ) (ys xs : List (Value × TType × Span)) (n : ℕ) → map plain_field ys ≡ map (spilled_field m) (take n xs) → length xs ≤ n → plain_fields (data_items ys) ≡ sp_data m (plain_fields (data_items xs))
+all_fields m ys xs n done le = plain_are ys ∙ done ∙ ap (λ (zs : List (Value × TType × Span)). map (spilled_field m) zs) (take_more xs n le) ∙ sym (spilled_are m xs)
 
 pub field_ready : (xs : List (Value × TType × Span)) (i : ℕ) (x : Value × TType × Span) → i < length xs → x ≡ get_or xs i x → DataReady (plain_fields (data_items xs)) → ValueFits (value x.0)
 field_ready [] i x lt is h = absurd (omega arith)
@@ -94,16 +94,16 @@ field_ready (y ∷ xs) (suc i) x lt is h = field_ready xs i x (omega arith) is h
 abbrev pub plain_tuple : Data → TData
 plain_tuple x = plain_fields (data_items x.fields.items)
 
-abbrev pub spilled_tuple : Data → TData
-spilled_tuple x = sp_data (plain_tuple x)
+abbrev pub spilled_tuple : ℕ → Data → TData
+spilled_tuple m x = sp_data m (plain_tuple x)
 
 tuples_are : (xs : List Data) → data_of xs ≡ map plain_tuple xs
 tuples_are [] = refl
 tuples_are (x ∷ xs) = ap (λ (ys : List TData). plain_tuple x ∷ ys) (tuples_are xs)
 
-spilled_tuples_are : (xs : List Data) → map sp_data (data_of xs) ≡ map spilled_tuple xs
-spilled_tuples_are [] = refl
-spilled_tuples_are (x ∷ xs) = ap (λ (ys : List TData). spilled_tuple x ∷ ys) (spilled_tuples_are xs)
+spilled_tuples_are : (m : ℕ) (xs : List Data) → map (sp_data m) (data_of xs) ≡ map (spilled_tuple m) xs
+spilled_tuples_are m [] = refl
+spilled_tuples_are m (x ∷ xs) = ap (λ (ys : List TData). spilled_tuple m x ∷ ys) (spilled_tuples_are m xs)
 
 take_tuples : (xs : List Data) (n : ℕ) → length xs ≤ n → take n xs ≡ xs
 take_tuples [] zero le = refl
@@ -111,8 +111,8 @@ take_tuples [] (suc n) le = refl
 take_tuples (x ∷ xs) zero le = absurd (omega arith)
 take_tuples (x ∷ xs) (suc n) le = ap (λ (ys : List Data). x ∷ ys) (take_tuples xs n (omega arith))
 
-pub all_tuples : (ys xs : List Data) (n : ℕ) → map plain_tuple ys ≡ map spilled_tuple (take n xs) → length xs ≤ n → data_of ys ≡ map sp_data (data_of xs)
-all_tuples ys xs n done le = tuples_are ys ∙ done ∙ ap (λ (zs : List Data). map spilled_tuple zs) (take_tuples xs n le) ∙ sym (spilled_tuples_are xs)
+pub all_tuples : (m : ℕ) (ys xs : List Data) (n : ℕ) → map plain_tuple ys ≡ map (spilled_tuple m) (take n xs) → length xs ≤ n → data_of ys ≡ map (sp_data m) (data_of xs)
+all_tuples m ys xs n done le = tuples_are ys ∙ done ∙ ap (λ (zs : List Data). map (spilled_tuple m) zs) (take_tuples xs n le) ∙ sym (spilled_tuples_are m xs)
 
 pub tuple_ready : (xs : List Data) (i : ℕ) (x : Data) → i < length xs → x ≡ get_or xs i x → HeapReady (data_of xs) → DataReady (plain_tuple x)
 tuple_ready [] i x lt is h = absurd (omega arith)

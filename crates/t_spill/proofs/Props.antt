@@ -5,8 +5,8 @@ use Rattle.t_types.specs.Tree.{Ty, IntTy, VarTy, CodeTy, ExistsTy, TupleTy, TFil
 use Rattle.t_types.specs.WellFormed.{well_formed_prop, regs_above_prop, types_prop}
 use Rattle.t_terms.specs.Tree.{TBase, Reg, Int, Label, Data, TValue, Plain, Pack, TInstr, Arith, Bnz, Ld, Malloc, Mov, St, Unpack, TEnd, Jmp, Halt, TSeq, Then, Ends, TBlock, TProg, names_after}
 use Rattle.t_terms.specs.Whole.{WellFormedBase, WellFormedValue, WellFormedInstr}
-use Rattle.spill_law.specs.Spill.{base_type, next, kept}
-use Rattle.t_spill.specs.Ready.{Enough, Applies, InstrApplies, ReadyInstr, ReadyEnd, Ready, ReadyKept, BlocksReady}
+use Rattle.spill_law.specs.Spill.{base_type, next}
+use Rattle.t_spill.specs.Ready.{Enough, Applies, InstrApplies, ReadyInstr, ReadyEnd, Ready, BlocksReady}
 
 base_prop : (p q : ℕ) (b : TBase) → IsProp (WellFormedBase p q b)
 base_prop p q (Reg r) = hlevel le_prop
@@ -55,17 +55,13 @@ ready_instr_prop P n x i =
 ready_end_prop : (P : TProg) (n : ℕ) (x : TFile) (e : TEnd) → IsProp (ReadyEnd P n x e)
 ready_end_prop P n x (Jmp v) =
     let a = regs_above_prop 0 n x in let b = value_prop (length P.blocks) (length P.heap) n v in let c = applies_prop P x v in hlevel (le_prop, a, b, c)
-ready_end_prop P n x Halt = Unit-prop
+ready_end_prop P n x Halt = let a = regs_above_prop 0 n x in hlevel (le_prop, a)
 
 ready_prop : (P : TProg) (c : TSeq) (n : ℕ) (x : TFile) → IsProp (Ready P n x c)
 ready_prop P (Then i c) n x = let a = ready_instr_prop P n x i in let b = ready_prop P c (names_after i n) (next P x i) in hlevel (a, b)
 ready_prop P (Ends e) n x = ready_end_prop P n x e
 
-kept_prop : (P : TProg) (c : TSeq) (n : ℕ) (x : TFile) → IsProp (ReadyKept P n x c)
-kept_prop P (Then i c) n x = let a = ready_instr_prop P n x i in let b = kept_prop P c (names_after i n) (kept P x i c) in hlevel (a, b)
-kept_prop P (Ends e) n x = ready_end_prop P n x e
-
 pub blocks_prop : (P : TProg) (bs : List TBlock) → IsProp (BlocksReady P bs)
 blocks_prop P [] = Unit-prop
 blocks_prop P (b ∷ bs) =
-    let a = ready_prop P b.code b.owes b.file in let c = kept_prop P b.code b.owes b.file in let d = blocks_prop P bs in hlevel (a, c, d)
+    let a = ready_prop P b.code b.owes b.file in let d = blocks_prop P bs in hlevel (a, d)

@@ -1,4 +1,4 @@
--- The places of an accepted program are ready, with all that is known and with what stays known.
+-- The places of an accepted program are ready.
 use Rattle.std.proofs.Common.{ℕ, ◌<◌, ◌≤◌, ◌^◌, List, [], ◌∷◌, length, subst, sym}
 use Rattle.t_types.specs.Tree.{Ty, CodeTy, TFile}
 use Rattle.t_types.specs.Fits.{RegTypes, lookup}
@@ -6,12 +6,10 @@ use Rattle.t_types.specs.WellFormed.{max_names, WellFormedFile}
 use Rattle.t_terms.specs.Tree.{TValue, Plain, Pack, TInstr, Arith, Bnz, Ld, Malloc, Mov, St, Unpack, TEnd, Jmp, Halt, TSeq, Then, Ends, TBlock, TData, TProg, names_after}
 use Rattle.t_terms.specs.Whole.{WellFormedEnd, WellFormedSeq, WellFormedBlocks, WellFormedData, WellFormedHeap, Whole}
 use Rattle.t_rules.specs.Rules.{Has, Typed, EndTyped, SeqAccepted, BlocksAccepted, Accepted}
-use Rattle.spill_law.specs.Spill.{next, kept, SeqFew, BlocksFew, TypesFew}
+use Rattle.spill_law.specs.Spill.{next, SeqFew, BlocksFew, TypesFew}
 use Rattle.spill_law.proofs.Computed.{base_is, next_is}
-use Rattle.spill_law.proofs.Live.{kept_accepted}
-use Rattle.spill_law.proofs.Kept.{KeptFew, kept_few, knows_first}
-use Rattle.spill_law.proofs.Scopes.{scoped_regs, regs_above, scoped_ascends, LabelsScoped, DataScoped, scoped_next, scoped_kept, labels_scoped, data_scoped}
-use Rattle.t_spill.specs.Ready.{Enough, Applies, InstrApplies, ReadyEnd, Ready, ReadyKept, BlocksReady, DataReady, HeapReady}
+use Rattle.spill_law.proofs.Scopes.{scoped_regs, regs_above, LabelsScoped, DataScoped, scoped_next, labels_scoped, data_scoped}
+use Rattle.t_spill.specs.Ready.{Enough, Applies, InstrApplies, ReadyEnd, Ready, BlocksReady, DataReady, HeapReady}
 use Rattle.t_spill.proofs.Onward.{some_value_fits}
 
 value_applies : (P : TProg) (n : ℕ) (x : TFile) (v : TValue) (t : Ty) → Has P n (lookup x) v t → Applies P x v
@@ -34,7 +32,7 @@ module _ (P : TProg) (labels : LabelsScoped P) (tuples : DataScoped P) where
 
   end_ready : (n : ℕ) (x : TFile) (e : TEnd) → n ≤ max_names → WellFormedFile n x → WellFormedEnd (length P.blocks) (length P.heap) n e → EndTyped P n (lookup x) e → ReadyEnd P n x e
   end_ready n x (Jmp v) few h w k = (few, h, w, value_applies P n x v (CodeTy 0 k.0) k.1)
-  end_ready n x Halt few h w k = tt
+  end_ready n x Halt few h w k = (few, h)
 
   ready : (c : TSeq) (n : ℕ) (x : TFile) → n ≤ max_names → WellFormedFile n x → WellFormedSeq (length P.blocks) (length P.heap) n c → SeqAccepted P n (lookup x) c → SeqFew P n x c → Ready P n x c
   ready (Then i c) n x few h w k f =
@@ -42,22 +40,11 @@ module _ (P : TProg) (labels : LabelsScoped P) (tuples : DataScoped P) where
       let nx = regs_above 0 (names_after i n) (next P x i) (scoped_next P (length P.blocks) (length P.heap) labels tuples i n x k.0 (scoped_regs 0 n x h) w.0 k.1) f.1 in
       ((few, w.1, h, w.0, instr_applies P n x i k.0 k.1), ready c (names_after i n) (next P x i) w.1 nx w.2 (subst (λ g. SeqAccepted P (names_after i n) g c) (next_is P n x i k.0 k.1) k.2) f.2)
   ready (Ends (Jmp v)) n x few h w k f = end_ready n x (Jmp v) few h w k
-  ready (Ends Halt) n x few h w k f = tt
-
-  ready_kept : (c : TSeq) (n : ℕ) (x : TFile) → n ≤ max_names → WellFormedFile n x → WellFormedSeq (length P.blocks) (length P.heap) n c → SeqAccepted P n (lookup x) c → KeptFew P n x c → ReadyKept P n x c
-  ready_kept (Then i c) n x few h w k f =
-      let acc = subst (λ g. SeqAccepted P (names_after i n) g c) (next_is P n x i k.0 k.1) k.2 in
-      let after = scoped_kept P (length P.blocks) (length P.heap) labels tuples i (names_after i n) x c (scoped_next P (length P.blocks) (length P.heap) labels tuples i n x k.0 (scoped_regs 0 n x h) w.0 k.1) in
-      let nx = regs_above 0 (names_after i n) (kept P x i c) after f.1 in
-      ((few, w.1, h, w.0, instr_applies P n x i k.0 k.1), ready_kept c (names_after i n) (kept P x i c) w.1 nx w.2 (kept_accepted P i (names_after i n) x c acc) f.2)
-  ready_kept (Ends (Jmp v)) n x few h w k f = end_ready n x (Jmp v) few h w k
-  ready_kept (Ends Halt) n x few h w k f = tt
+  ready (Ends Halt) n x few h w k f = end_ready n x Halt few h w k
 
   ready_blocks : (bs : List TBlock) → WellFormedBlocks (length P.blocks) (length P.heap) bs → BlocksAccepted P bs → BlocksFew P bs → BlocksReady P bs
   ready_blocks [] w k f = tt
-  ready_blocks (b ∷ bs) w k f =
-      let knows = knows_first P b.owes b.file b.code (scoped_ascends b.owes b.file (scoped_regs 0 b.owes b.file w.0.1)) k.0.1 in
-      ((ready b.code b.owes b.file w.0.0 w.0.1 w.0.2 k.0.1 f.0, ready_kept b.code b.owes b.file w.0.0 w.0.1 w.0.2 k.0.1 (kept_few P b.code b.owes b.file b.file knows f.0)), ready_blocks bs w.1 k.1 f.1)
+  ready_blocks (b ∷ bs) w k f = (ready b.code b.owes b.file w.0.0 w.0.1 w.0.2 k.0.1 f.0, ready_blocks bs w.1 k.1 f.1)
 
 pub blocks_ready : (P : TProg) → Whole P → Accepted P → TypesFew P → BlocksReady P P.blocks
 blocks_ready P w k f = ready_blocks P (labels_scoped P w) (data_scoped P w) P.blocks w.1 k.2 f

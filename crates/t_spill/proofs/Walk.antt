@@ -3,10 +3,12 @@ use Rattle.std.proofs.Common.{◌≡◌, ℕ, zero, suc, ◌+◌, ◌<◌, ◌�
 use Rattle.idx_core.specs.declared.span.Span.{Span}
 use Rattle.t_types.specs.Tree.{TFile}
 use Rattle.t_terms.specs.Tree.{TInstr, TEnd, TSeq, Then, Ends, TProg, names_after}
-use Rattle.t_terms.specs.Read.{instr, end_of}
+use Rattle.t_terms.specs.Spanned.{seq_of}
+use Rattle.t_terms.specs.Read.{instr, body, end_of}
 use Rattle.t_terms.specs.declared.instr.Instr.{Instr}
 use Rattle.t_terms.specs.declared.instr.End.{End}
 use Rattle.spill_law.specs.Spill.{live, numbers, target, end_target, reads, end_reads, next}
+use Rattle.t_frames.specs.Onto.{onto}
 use Rattle.t_spill.specs.Tails.{tail_of}
 use Rattle.t_spill.specs.Wants.{join}
 use Rattle.t_spill.specs.Ready.{ReadyInstr, ReadyEnd, Ready}
@@ -72,3 +74,8 @@ pub wants_all : (P : TProg) (x : TFile) (xs : List (Instr × Span)) (e : End) (i
 wants_all P x xs e i f old mid new all le same first second h =
     join_none new ∙ second [] ∙ first (join (numbers f) []) ∙ ap (λ g. join old (join (end_reads (end_of e)) (join (numbers g) []))) same
     ∙ ap (join old) (sym (live_end P x (end_of e))) ∙ ap (λ c. join old (live P x c)) (sym (tail_end xs e i le)) ∙ h
+
+-- instructions in front of an end are a body with it
+pub onto_body : (xs : List (Instr × Span)) (e : TEnd) → onto xs (Ends e) ≡ seq_of (body xs) e
+onto_body [] e = refl
+onto_body (x ∷ xs) e = ap (Then (instr x.0)) (onto_body xs e)

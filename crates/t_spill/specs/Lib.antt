@@ -1,8 +1,11 @@
 pub mod Applying
 pub mod Bounds
-pub mod Files
+pub mod Finishing
 pub mod Known
+pub mod Moving
+pub mod Picking
 pub mod Ready
 pub mod Tails
 pub mod Wants
+pub mod Ways
 pub mod Within

@@ -5,7 +5,7 @@ use Rattle.t_types.specs.WellFormed.{max_names, WellFormedFile}
 use Rattle.t_terms.specs.Tree.{TValue, Plain, Pack, TInstr, Arith, Bnz, Ld, Malloc, Mov, St, Unpack, TEnd, Jmp, Halt}
 use Rattle.t_terms.specs.Tree.{TSeq, Then, Ends, TBlock, TData, TProg, names_after}
 use Rattle.t_terms.specs.Whole.{WellFormedValue, WellFormedInstr}
-use Rattle.spill_law.specs.Spill.{base_type, next, kept}
+use Rattle.spill_law.specs.Spill.{base_type, next}
 use Rattle.t_frames.specs.Onto.{ValueFits}
 
 -- code owes as many types as go to it, at least
@@ -43,17 +43,12 @@ ReadyInstr P n x i =
 
 abbrev pub ReadyEnd : TProg → ℕ → TFile → TEnd → Type 0
 ReadyEnd P n x (Jmp v) = ReadyValue P n x v
-ReadyEnd P n x Halt = Unit {0}
+ReadyEnd P n x Halt = (n ≤ max_names) × WellFormedFile n x
 
--- along a sequence, with all that is known
+-- along a sequence
 abbrev pub Ready : TProg → ℕ → TFile → TSeq → Type 0
 Ready P n x (Then i rest) = ReadyInstr P n x i × Ready P (names_after i n) (next P x i) rest
 Ready P n x (Ends e) = ReadyEnd P n x e
-
--- and with what stays known
-abbrev pub ReadyKept : TProg → ℕ → TFile → TSeq → Type 0
-ReadyKept P n x (Then i rest) = ReadyInstr P n x i × ReadyKept P (names_after i n) (kept P x i rest) rest
-ReadyKept P n x (Ends e) = ReadyEnd P n x e
 
 -- the value may be typed
 abbrev pub Typable : TProg → TFile → TValue → Type 0
@@ -64,7 +59,7 @@ InstrTypable P x i = (n : ℕ) × ReadyInstr P n x i
 
 -- a block, and each block
 abbrev pub BlockReady : TProg → TBlock → Type 0
-BlockReady P b = Ready P b.owes b.file b.code × ReadyKept P b.owes b.file b.code
+BlockReady P b = Ready P b.owes b.file b.code
 
 abbrev pub BlocksReady : TProg → List TBlock → Type 0
 BlocksReady P [] = Unit {0}

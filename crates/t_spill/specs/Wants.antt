@@ -1,31 +1,14 @@
--- Registers in front of others, and entries in front of a file. What is wanted, told by last places.
-use Rattle.std.specs.Prelude.{◌≡◌, ℕ, ◌+◌, ◌<◌, ◌^◌, Bool, true, false, nat_lt, List, [], ◌∷◌, drop, length}
+-- Registers in front of others. What is wanted, told by last places.
+use Rattle.std.specs.Prelude.{◌≡◌, ℕ, ◌+◌, ◌<◌, ◌^◌, nat_lt, List, [], ◌∷◌, drop, length}
 use Rattle.std.specs.BTreeMap.{BTreeMap, get}
 use Rattle.std.specs.Option.{unwrap_or}
 use Rattle.std.specs.Ordering.{nat_cmp}
-use Rattle.t_types.specs.Tree.{TFile, MoreRegs}
-use Rattle.t_types.specs.Read.{tree}
-use Rattle.t_terms.specs.Tree.{TInstr, Arith, Bnz, Ld, Malloc, Mov, St, Unpack}
-use Rattle.t_types.specs.declared.types.TType.{TType}
 use Rattle.spill_law.specs.Spill.{among}
 use Rattle.t_spill.specs.declared.ahead.Ahead.{Ahead}
 
 abbrev pub join : List ℕ → List ℕ → List ℕ
 join [] rest = rest
 join (q ∷ qs) rest = q ∷ join qs rest
-
-abbrev pub front : List (ℕ × TType) → TFile → TFile
-front [] rest = rest
-front (y ∷ ys) rest = MoreRegs y.0 (tree y.1) (front ys rest)
-
-abbrev pub branches : TInstr → Bool
-branches (Bnz r v) = true
-branches (Arith op rd rs v) = false
-branches (Ld rd rs i) = false
-branches (Malloc rd ts) = false
-branches (Mov rd v) = false
-branches (St rd i rs) = false
-branches (Unpack rd v) = false
 
 -- one more than the last place of a register; 0 where it has none
 abbrev pub last_of : BTreeMap ℕ ℕ → ℕ → ℕ

@@ -1,109 +1,135 @@
 // The code of a block.
-ghost use Rattle.std.specs.Prelude.{◌≡◌, ℕ, ◌<◌, ◌+◌, ◌^◌, IfOk, length};
-ghost use Rattle.t_types.specs.Read.{file, file_tree};
+ghost use Rattle.std.specs.Prelude.{◌≡◌, ℕ, ◌<◌, ◌^◌, OnOk, IfOk, length};
+ghost use Rattle.t_types.specs.Tree.{TFile};
+ghost use Rattle.t_types.specs.Read.{file_tree};
 ghost use Rattle.t_terms.specs.Tree.{Ends};
-ghost use Rattle.t_terms.specs.Read.{instr as instr_tree, end_of as end_tree, block as block_tree};
+ghost use Rattle.t_terms.specs.Read.{end_of as end_tree, block as block_tree};
 ghost use Rattle.t_terms.specs.ReadProgram.{program as program_tree};
-ghost use Rattle.spill_law.specs.Spill.{target as instr_target, live, next as next_file, kept, step, code as code_of, sp_block};
-ghost use Rattle.t_frames.specs.Onto.{onto, InstrFits, EndFits};
-ghost use Rattle.t_spill.specs.Ready.{InstrTypable, Ready, ReadyKept, ReadyEnd, BlockReady};
-ghost use Rattle.t_spill.specs.Tails.{tail_of, InstrMoves};
-ghost use Rattle.t_spill.specs.Wants.{Tells};
+ghost use Rattle.spill_law.specs.Spill.{sp_block};
+ghost use Rattle.t_frames.specs.Onto.{onto};
+ghost use Rattle.t_spill.specs.Moving.{Before, Starts, Reaches, whole};
+ghost use Rattle.t_spill.specs.Ready.{BlockReady};
+ghost use Rattle.t_spill.specs.Tails.{tail_of};
 
 use crate::ahead::Ahead;
-use crate::files::after;
-use crate::keeping::kept_after;
-use crate::reads::count_instr;
-use crate::typing::{target, target_of_end};
+use crate::finish::Code;
+use crate::known::Known;
+use crate::stepping::{Walk, spill_instr};
+use crate::subject::subject_of_end;
+use crate::typing::target_of_end;
 use crate::wanting::wants_of;
 use idx_core::{OutOfMemory, Span};
 use std::alloc::Global;
-use t_frames::{NOWHERE, emit_end, emit_step, spilled_file};
+use t_frames::{Body, Homes, NOWHERE, Split, emit_end, high_part, spilled_file};
 use t_terms::{Block, End, Instr, TProgram};
-use t_types::{RegFile, TType, copy_file};
+use t_types::{RegFile, copy_file};
 
-// The code of an instruction, and what stays known after it, where this is wanted ahead.
-fn spill_instr(
+// At the start of a block, which wants these registers in their order.
+fn start_of(
     alloc: Global,
-    program: &TProgram,
-    code: &mut Vec<(Instr, Span)>,
-    regs: &RegFile,
-    i: &Instr,
-    entered: &[(u64, TType)],
-    ahead: &Ahead,
-) -> Result<RegFile, OutOfMemory>
-    requires typable { InstrTypable (program_tree program.now) (file_tree regs.now) (instr_tree i.now) }
-    requires fits { InstrFits (instr_tree i.now) }
-    requires entered { file entered.now ≡ instr_target (program_tree program.now) (file_tree regs.now) (instr_tree i.now) }
-    ensures { IfOk result (λ to. InstrMoves (program_tree program.now) (file_tree regs.now) (instr_tree i.now) ahead.now
-        (file_tree to) code.old.items code.new.items) }
+    split: Split,
+    start: &RegFile,
+    wants: &[u64],
+) -> Result<Walk, OutOfMemory>
+    ensures { IfOk result (λ w. Starts split.low (file_tree start.now) wants.now w) }
 {
-    let next = after(alloc, program, regs, i)?;
-    let to = kept_after(alloc, i, next, ahead)?;
-    emit_step(alloc, code, &regs.regs, i, &to.regs, entered)?;
-    Ok(to)
+    let known = Known::of(alloc, &start.regs)?;
+    let ahead = Ahead::of(alloc, wants)?;
+    let copied = copy_file(alloc, start)?;
+    let high = high_part(alloc, split, copied.regs)?;
+    let homes = Homes::gathered(alloc, split, &high)?;
+    let body = Body::new(alloc);
+    let code = Code { homes, body };
+    Ok(Walk { known, ahead, code })
 }
 
-// The code of a body, where this is wanted by it; and what is known at its end.
+// The code of a body.
 fn spill_body(
     alloc: Global,
     program: &TProgram,
-    code: &mut Vec<(Instr, Span)>,
-    start: &RegFile,
+    walk: &mut Walk,
     body: &[(Instr, Span)],
     end: &End,
-    wanted: Ahead,
-) -> Result<RegFile, OutOfMemory>
-    requires ready { (n : ℕ) × ReadyKept (program_tree program.now) n (file_tree start.now) (tail_of body.now end.now 0) }
+) -> Result<(), OutOfMemory>
     requires few { length (program_tree program.now).blocks < 2 ^ 64 }
-    requires wants { Tells wanted (live (program_tree program.now) (file_tree start.now) (tail_of body.now end.now 0)) }
-    ensures ready { IfOk result (λ x. (n : ℕ) × ReadyEnd (program_tree program.now) n (file_tree x) (end_tree end.now)) }
-    ensures code { IfOk result (λ x.
-        onto code.new.items (code_of (program_tree program.now) (file_tree x) (tail_of body.now end.now (length body.now)))
-        ≡ onto code.old.items (code_of (program_tree program.now) (file_tree start.now) (tail_of body.now end.now 0))) }
+    requires stands { (n : ℕ) × (y : TFile) × (x : TFile)
+        × Before (program_tree program.now) n y x walk.old (tail_of body.now end.now 0) }
+    ensures { OnOk result (Reaches (program_tree program.now) walk.old (tail_of body.now end.now 0) walk.new
+        (Ends (end_tree end.now))) }
 {
-    let mut regs = copy_file(alloc, start)?;
-    let mut ahead = wanted;
     for entry in body {
-        let entered = target(alloc, program, &regs.regs, &entry.0)?;
-        ahead.pass(count_instr(&entry.0));
-        ahead.pass(entered.len());
-        regs = spill_instr(alloc, program, code, &regs, &entry.0, &entered, &ahead)?;
+        spill_instr(alloc, program, walk, &entry.0)?;
     }
-    Ok(regs)
+    Ok(())
+}
+
+// The end of a block, behind its body.
+fn spill_end(
+    alloc: Global,
+    program: &TProgram,
+    walk: &mut Walk,
+    end: &End,
+) -> Result<End, OutOfMemory>
+    requires few { length (program_tree program.now).blocks < 2 ^ 64 }
+    requires stands { (n : ℕ) × (y : TFile) × (x : TFile)
+        × Before (program_tree program.now) n y x walk.old (Ends (end_tree end.now)) }
+    ensures { IfOk result (λ last. (n : ℕ) (y : TFile) (x : TFile) →
+        Before (program_tree program.now) n y x walk.old (Ends (end_tree end.now)) →
+        onto walk.new.code.body.done.items (Ends (end_tree last))
+        ≡ whole (program_tree program.now) x walk.old (Ends (end_tree end.now))) }
+{
+    let split = walk.code.homes.split;
+    let read = walk.known.part(alloc, subject_of_end(end))?;
+    let entered = target_of_end(alloc, program, &read.regs, end)?;
+    let high = high_part(alloc, split, entered)?;
+    let last = emit_end(
+        alloc,
+        &mut walk.code.body.tail,
+        &walk.code.homes,
+        end,
+        &high,
+    )?;
+    walk.code.body.close(alloc, split)?;
+    Ok(last)
 }
 
 // The code of a body with its end.
 fn spilled_code(
     alloc: Global,
     program: &TProgram,
-    start: &RegFile,
-    body: &[(Instr, Span)],
-    end: &End,
+    split: Split,
+    block: &Block,
 ) -> Result<(Vec<(Instr, Span)>, End), OutOfMemory>
-    requires ready { (n : ℕ) × Ready (program_tree program.now) n (file_tree start.now) (tail_of body.now end.now 0) }
-    requires kept { (n : ℕ) × ReadyKept (program_tree program.now) n (file_tree start.now) (tail_of body.now end.now 0) }
+    requires ready { BlockReady (program_tree program.now) (block_tree block.now) }
     requires few { length (program_tree program.now).blocks < 2 ^ 64 }
     ensures { IfOk result (λ r. onto r.0.items (Ends (end_tree r.1))
-        ≡ code_of (program_tree program.now) (file_tree start.now) (tail_of body.now end.now 0)) }
+        ≡ (sp_block split.low (program_tree program.now) (block_tree block.now)).code) }
 {
-    let wants = wants_of(alloc, program, start, body, end)?;
-    let ahead = Ahead::of(alloc, &wants)?;
-    let mut code = Vec::new(alloc);
-    let last = spill_body(alloc, program, &mut code, start, body, end, ahead)?;
-    let entered = target_of_end(alloc, program, &last.regs, end)?;
-    let end = emit_end(alloc, &mut code, &last.regs, end, &entered)?;
-    Ok((code, end))
+    let body = block.body.as_slice();
+    let wants = wants_of(alloc, program, &block.regs, body, &block.end)?;
+    let mut walk = start_of(alloc, split, &block.regs, &wants)?;
+    spill_body(alloc, program, &mut walk, body, &block.end)?;
+    let end = spill_end(alloc, program, &mut walk, &block.end)?;
+    let Walk { code, .. } = walk;
+    let Code { body, .. } = code;
+    let Body { done, .. } = body;
+    Ok((done, end))
 }
 
 /// A block.
-pub fn spilled_block(alloc: Global, program: &TProgram, block: &Block) -> Result<Block, OutOfMemory>
+pub fn spilled_block(
+    alloc: Global,
+    program: &TProgram,
+    split: Split,
+    block: &Block,
+) -> Result<Block, OutOfMemory>
     requires ready { BlockReady (program_tree program.now) (block_tree block.now) }
     requires few { length (program_tree program.now).blocks < 2 ^ 64 }
-    ensures { IfOk result (λ r. block_tree r ≡ sp_block (program_tree program.now) (block_tree block.now)) }
+    ensures { IfOk result (λ r.
+        block_tree r ≡ sp_block split.low (program_tree program.now) (block_tree block.now)) }
 {
-    let (body, end) = spilled_code(alloc, program, &block.regs, &block.body, &block.end)?;
-    let regs = spilled_file(alloc, &block.regs.regs)?;
+    let (body, end) = spilled_code(alloc, program, split, block)?;
+    let regs = spilled_file(alloc, split, &block.regs.regs)?;
     Ok(Block {
         name: NOWHERE,
         owes: block.owes,

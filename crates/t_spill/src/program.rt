@@ -12,17 +12,17 @@ ghost use Rattle.t_spill.specs.Ready.{BlocksReady, DataReady, HeapReady};
 use crate::block::spilled_block;
 use idx_core::{OutOfMemory, Span};
 use std::alloc::Global;
-use t_frames::{NOWHERE, spilled_type, spilled_value};
+use t_frames::{NOWHERE, Split, base_of, moved_base, spilled_type, spilled_value};
 use t_terms::{Base, Block, Data, End, Instr, TProgram, Value};
 use t_types::{RegFile, TType};
 
 // The first block makes an empty frame, and enters the old first block.
-fn entry_block(alloc: Global) -> Result<Block, OutOfMemory>
-    ensures { IfOk result (λ b. block_tree b ≡ entry) }
+fn entry_block(alloc: Global, split: Split) -> Result<Block, OutOfMemory>
+    ensures { IfOk result (λ b. block_tree b ≡ entry split.low) }
 {
     let mut body = Vec::new(alloc);
     let frame = Instr::Malloc {
-        rd: 1,
+        rd: split.frame(),
         types: Vec::new(alloc),
     };
     body.push((frame, NOWHERE))?;
@@ -45,18 +45,19 @@ fn entry_block(alloc: Global) -> Result<Block, OutOfMemory>
 fn spilled_blocks(
     alloc: Global,
     program: &TProgram,
+    split: Split,
     blocks: &[Block],
 ) -> Result<Vec<Block>, OutOfMemory>
     requires ready { BlocksReady (program_tree program.now) (blocks_of blocks.now) }
     requires few { length (program_tree program.now).blocks < 2 ^ 64 }
     ensures { IfOk result (λ r.
-        blocks_of r.items ≡ entry ∷ sp_blocks (program_tree program.now) (blocks_of blocks.now)) }
+        blocks_of r.items ≡ entry split.low ∷ sp_blocks split.low (program_tree program.now) (blocks_of blocks.now)) }
 {
     let mut made = Vec::new(alloc);
-    let entry = entry_block(alloc)?;
+    let entry = entry_block(alloc, split)?;
     made.push(entry)?;
     for block in blocks {
-        let block = spilled_block(alloc, program, block)?;
+        let block = spilled_block(alloc, program, split, block)?;
         made.push(block)?;
     }
     Ok(made)
@@ -64,54 +65,58 @@ fn spilled_blocks(
 
 fn spilled_fields(
     alloc: Global,
+    split: Split,
     fields: &[(Value, TType, Span)],
 ) -> Result<Vec<(Value, TType, Span)>, OutOfMemory>
     requires { DataReady (plain_fields (data_items fields.now)) }
     ensures { IfOk result (λ r.
-        plain_fields (data_items r.items) ≡ sp_data (plain_fields (data_items fields.now))) }
+        plain_fields (data_items r.items) ≡ sp_data split.low (plain_fields (data_items fields.now))) }
 {
     let mut made = Vec::new(alloc);
     for field in fields {
-        let value = spilled_value(alloc, &field.0)?;
-        let ty = spilled_type(alloc, &field.1)?;
+        let base = moved_base(base_of(&field.0));
+        let value = spilled_value(alloc, split, &field.0, base)?;
+        let ty = spilled_type(alloc, split, &field.1)?;
         made.push((value, ty, NOWHERE))?;
     }
     Ok(made)
 }
 
-fn spilled_tuple(alloc: Global, tuple: &Data) -> Result<Data, OutOfMemory>
+fn spilled_tuple(alloc: Global, split: Split, tuple: &Data) -> Result<Data, OutOfMemory>
     requires { DataReady (plain_fields (data_items tuple.now.fields.items)) }
     ensures { IfOk result (λ r.
-        plain_fields (data_items r.fields.items) ≡ sp_data (plain_fields (data_items tuple.now.fields.items))) }
+        plain_fields (data_items r.fields.items) ≡ sp_data split.low (plain_fields (data_items tuple.now.fields.items))) }
 {
-    let fields = spilled_fields(alloc, &tuple.fields)?;
+    let fields = spilled_fields(alloc, split, &tuple.fields)?;
     Ok(Data {
         name: NOWHERE,
         fields,
     })
 }
 
-fn spilled_heap(alloc: Global, heap: &[Data]) -> Result<Vec<Data>, OutOfMemory>
+fn spilled_heap(alloc: Global, split: Split, heap: &[Data]) -> Result<Vec<Data>, OutOfMemory>
     requires { HeapReady (data_of heap.now) }
-    ensures { IfOk result (λ r. data_of r.items ≡ map sp_data (data_of heap.now)) }
+    ensures { IfOk result (λ r. data_of r.items ≡ map (sp_data split.low) (data_of heap.now)) }
 {
     let mut made = Vec::new(alloc);
     for tuple in heap {
-        let tuple = spilled_tuple(alloc, tuple)?;
+        let tuple = spilled_tuple(alloc, split, tuple)?;
         made.push(tuple)?;
     }
     Ok(made)
 }
 
-// The program with frames.
-fn spilled_program(alloc: Global, program: &TProgram) -> Result<TProgram, OutOfMemory>
+// The program with frames and slots.
+fn spilled_program(alloc: Global, program: &TProgram, k: u64) -> Result<TProgram, OutOfMemory>
+    requires least { 8 ≤ k }
     requires accepted { ∥ Accepted (program_tree program.now) ∥₁ }
     requires names { ∥ TypesFew (program_tree program.now) ∥₁ }
-    ensures { IfOk result (λ q. program_tree q ≡ spilled (program_tree program.now)) }
+    ensures { IfOk result (λ q. program_tree q ≡ spilled k (program_tree program.now)) }
 {
     spill_law::programs_are_whole();
-    let blocks = spilled_blocks(alloc, program, &program.blocks)?;
-    let heap = spilled_heap(alloc, &program.heap)?;
+    let split = Split::within(k);
+    let blocks = spilled_blocks(alloc, program, split, &program.blocks)?;
+    let heap = spilled_heap(alloc, split, &program.heap)?;
     Ok(TProgram { blocks, heap })
 }
 
@@ -123,11 +128,11 @@ pub fn spill(alloc: Global, program: &TProgram, k: u64) -> Result<TProgram, OutO
     requires least { 8 ≤ k }
     requires accepted { ∥ Accepted (program_tree program.now) ∥₁ }
     requires names { ∥ TypesFew (program_tree program.now) ∥₁ }
-    ensures is { IfOk result (λ q. program_tree q ≡ spilled (program_tree program.now)) }
+    ensures is { IfOk result (λ q. program_tree q ≡ spilled k (program_tree program.now)) }
     ensures spills { IfOk result (λ q.
-        ∥ Spills k (program_tree program.now) (program_tree q) (origin (program_tree program.now)) ∥₁) }
+        ∥ Spills k (program_tree program.now) (program_tree q) (origin k (program_tree program.now)) ∥₁) }
 {
     spill_law::registers_are_bounded();
-    let made = spilled_program(alloc, program)?;
+    let made = spilled_program(alloc, program, k)?;
     Ok(made)
 }

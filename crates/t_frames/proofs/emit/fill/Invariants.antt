@@ -1,9 +1,12 @@
 use Rattle.std.proofs.Common.{◌≡◌, drop}
 use Rattle.t_types.specs.Read.{file}
 use Rattle.t_terms.specs.Tree.{TSeq}
-use Rattle.spill_law.specs.Spill.{fill}
+use Rattle.spill_law.specs.Spill.{fill, numbers}
 use Rattle.t_frames.specs.Onto.{onto}
+use Rattle.t_frames.specs.Homes.{home_in}
 use Rattle.t_frames.proofs.emit.fill.Given as goal
 
 abbrev pub invariant-loop-j : goal.invariant-loop-j
-invariant-loop-j l = (rest : TSeq) → onto l.code.items (fill (file l.from) l.new (file (drop l.j l.to)) l.j rest) ≡ onto l.initial.code.items (fill (file l.from) l.new (file l.to) 0 rest)
+invariant-loop-j l = (rest : TSeq) →
+    onto l.code.items (fill l.homes.split.low (home_in l.homes) (numbers (file (drop l.j l.to))) l.j rest)
+    ≡ onto l.initial.code.items (fill l.homes.split.low (home_in l.homes) (numbers (file l.to)) 0 rest)

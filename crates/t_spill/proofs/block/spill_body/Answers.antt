@@ -1,106 +1,36 @@
-use Rattle.std.proofs.Common.{◌≡◌, ℕ, ◌+◌, List, drop, length, refl, ap, ◌∙◌, subst, rules}
-use Rattle.t_types.specs.declared.types.TType.{TType}
-use Rattle.t_types.specs.Read.{file, file_tree}
+use Rattle.std.proofs.Common.{refl, subst}
 use Rattle.t_terms.specs.Read.{instr}
 use Rattle.t_terms.specs.ReadProgram.{program}
-use Rattle.spill_law.specs.Spill.{live, target, next}
+use Rattle.t_spill.specs.Moving.{Before, Reaches}
 use Rattle.t_spill.specs.Tails.{tail_of}
-use Rattle.t_spill.specs.Wants.{Tells}
-use Rattle.t_spill.proofs.Walk.{tail_one}
-use Rattle.t_spill.proofs.Onward.{behind_reads, reads_within, target_within, behind_target, kept_here, fits_here}
-use Rattle.t_spill.proofs.Onward.{onward}
+use Rattle.t_spill.proofs.Beside.{reach_more}
+use Rattle.t_spill.proofs.Walk.{tail_one, tail_end}
 use Rattle.t_spill.proofs.block.spill_body.Goals as goal
 
-pub pass-requires : goal.pass-requires
-pass-requires c =
-    let P = program c.args.program.now in
-    let x = file_tree c.loop-entry.regs in
-    let y = c.entry-item.result in
-    let i = instr y.0 in
-    let xs = c.args.body.now in
-    let e = c.args.«end».now in
-    let at = c.loop-entry.entry-index in
-    let rest = tail_of xs e (at + 1) in
-    let here = tail_one xs e at y c.loop-entry-test.true c.entry-item.is in
-    let n = c.count_instr.result in
-    let within = reads_within P x i rest _ n c.count_instr.ensures here in
-    (_, c.loop-entry.invariant.wants, within)
+pub loop-entry-init : goal.loop-entry-init
+loop-entry-init c = λ n y x b. (n, y, x, b, refl, refl)
 
-pub pass-requires-in-loop-entry : goal.pass-requires-in-loop-entry
-pass-requires-in-loop-entry c =
+pub spill_instr-requires-clause-stands : goal.spill_instr-requires-clause-stands
+spill_instr-requires-clause-stands c =
     let P = program c.args.program.now in
-    let x = file_tree c.loop-entry.regs in
-    let y = c.entry-item.result in
-    let i = instr y.0 in
-    let xs = c.args.body.now in
-    let e = c.args.«end».now in
+    let h = c.requires.stands in
     let at = c.loop-entry.entry-index in
-    let rest = tail_of xs e (at + 1) in
-    let all = live P x (tail_of xs e at) in
-    let here = tail_one xs e at y c.loop-entry-test.true c.entry-item.is in
-    let n = c.count_instr.result in
-    let within = reads_within P x i rest _ n c.count_instr.ensures here in
-    let entered = c.in_ok-entered.entered.items in
-    let some = drop n all in
-    let left = live P (next P x i) rest in
-    let t : file entered ≡ target P x i =
-    c.in_ok-entered.ensures ∙ ap (λ (zs : List (ℕ × TType)). target P (file zs) i) c.deref.ensures.value in
-    let us = behind_reads P x i rest all some n entered (ap (live P x) here) c.count_instr.ensures refl t in
-    let m : c.len.result ≡ length entered = search rules in
-    let fits = target_within some left entered c.len.result m us in
-    (some, c.pass.ensures all within c.loop-entry.invariant.wants, fits)
-
-pub spill_instr-requires-clause-typable : goal.spill_instr-requires-clause-typable
-spill_instr-requires-clause-typable c =
-    let P = program c.args.program.now in
-    let x = file_tree c.loop-entry.regs in
-    let y = c.entry-item.result in
-    let e = c.args.«end».now in
-    let at = c.loop-entry.entry-index in
-    let ready = c.loop-entry.invariant.ready in
-    let k = kept_here P x c.args.body.now e at y c.loop-entry-test.true c.entry-item.is ready in (k.0, k.1.0)
-
-pub spill_instr-requires-clause-fits : goal.spill_instr-requires-clause-fits
-spill_instr-requires-clause-fits c =
-    let P = program c.args.program.now in
-    let x = file_tree c.loop-entry.regs in
-    let y = c.entry-item.result in
-    let e = c.args.«end».now in
-    let at = c.loop-entry.entry-index in
-    let ready = c.loop-entry.invariant.ready in
-    fits_here P x c.args.body.now e at y c.loop-entry-test.true c.entry-item.is c.requires.few ready
+    let k = c.loop-entry.invariant h.0 h.1 h.2 h.3 in
+    let here = tail_one c.args.body.now c.args.«end».now at c.entry-item.result c.loop-entry-test.true c.entry-item.is in
+    (k.0, k.1, k.2, _, subst (Before P k.0 k.1 k.2 c.loop-entry.walk) here k.3)
 
 pub loop-entry-preserved : goal.loop-entry-preserved
 loop-entry-preserved c =
     let P = program c.args.program.now in
-    let x = file_tree c.loop-entry.regs in
-    let y = c.entry-item.result in
-    let i = instr y.0 in
+    let at = c.loop-entry.entry-index in
+    let here = tail_one c.args.body.now c.args.«end».now at c.entry-item.result c.loop-entry-test.true c.entry-item.is in
+    reach_more P c.args.walk.now c.loop-entry.walk c.spill_instr.new.walk _ _ (instr c.entry-item.result.0) _ here c.loop-entry.invariant
+    (λ n y x b. c.in_ok-spill_instr.ensures n y x _ b)
+
+pub returns : goal.returns
+returns c =
+    let P = program c.args.program.now in
     let xs = c.args.body.now in
     let e = c.args.«end».now in
-    let at = c.loop-entry.entry-index in
-    let rest = tail_of xs e (at + 1) in
-    let all = live P x (tail_of xs e at) in
-    let here = tail_one xs e at y c.loop-entry-test.true c.entry-item.is in
-    let n = c.count_instr.result in
-    let within = reads_within P x i rest _ n c.count_instr.ensures here in
-    let entered = c.in_ok-entered.entered.items in
-    let some = drop n all in
-    let left = live P (next P x i) rest in
-    let t : file entered ≡ target P x i =
-    c.in_ok-entered.ensures ∙ ap (λ (zs : List (ℕ × TType)). target P (file zs) i) c.deref.ensures.value in
-    let us = behind_reads P x i rest all some n entered (ap (live P x) here) c.count_instr.ensures refl t in
-    let m : c.len.result ≡ length entered = search rules in
-    let fits = target_within some left entered c.len.result m us in
-    let vs = behind_target some (drop c.len.result some) left entered c.len.result m refl us in
-    let ahead = c.pass-in-loop-entry.new.self in
-    let passed = c.pass.ensures all within c.loop-entry.invariant.wants in
-    let told = subst (Tells ahead) vs (c.pass-in-loop-entry.ensures some fits passed) in
-    let old = c.loop-entry.code.items in
-    let new = c.spill_instr.new.code.items in
-    let v = c.loop-entry.invariant in
-    let made = c.in_ok-regs-2.ensures in
-    let lt = c.loop-entry-test.true in
-    let to = file_tree c.in_ok-regs-2.regs in
-    let o = onward P x to xs e at y ahead old new _ lt c.entry-item.is v.ready told made v.code in
-    record { ready = o.ready; wants = o.wants; code = o.code }
+    subst (Reaches P c.args.walk.now (tail_of xs e 0) c.loop-entry.walk) (tail_end xs e c.loop-entry.entry-index c.loop-entry-test.false)
+    c.loop-entry.invariant

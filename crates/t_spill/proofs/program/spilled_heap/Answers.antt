@@ -5,4 +5,5 @@ pub spilled_tuple-requires : goal.spilled_tuple-requires
 spilled_tuple-requires c = tuple_ready c.args.heap.now c.loop-tuple.tuple-index c.tuple-item.result c.loop-tuple-test.true c.tuple-item.is c.requires
 
 pub returns : goal.returns
-returns c = all_tuples c.loop-tuple.made.items c.args.heap.now c.loop-tuple.tuple-index c.loop-tuple.invariant c.loop-tuple-test.false
+returns c =
+    all_tuples c.args.split.low c.loop-tuple.made.items c.args.heap.now c.loop-tuple.tuple-index c.loop-tuple.invariant c.loop-tuple-test.false

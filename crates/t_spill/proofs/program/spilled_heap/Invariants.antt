@@ -3,4 +3,4 @@ use Rattle.t_spill.proofs.Parts.{plain_tuple, spilled_tuple}
 use Rattle.t_spill.proofs.program.spilled_heap.Given as goal
 
 abbrev pub invariant-loop-tuple : goal.invariant-loop-tuple
-invariant-loop-tuple l = map plain_tuple l.made.items ≡ map spilled_tuple (take l.tuple-index l.heap)
+invariant-loop-tuple l = map plain_tuple l.made.items ≡ map (spilled_tuple l.split.low) (take l.tuple-index l.heap)

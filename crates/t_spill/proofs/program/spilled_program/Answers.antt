@@ -1,4 +1,4 @@
-use Rattle.std.proofs.Common.{◌≡◌, ◌<◌, ◌^◌, List, ◌∷◌, map, length, sym, ap, ap₂, subst, ◌∙◌, rules, arith}
+use Rattle.std.proofs.Common.{◌≡◌, ◌<◌, ◌^◌, ℕ, List, ◌∷◌, map, length, sym, ap, ap₂, subst, ◌∙◌, rules, arith}
 use Rattle.std.proofs.Math.Logic.{∥∥₁_elim}
 use Rattle.t_terms.specs.Tree.{TBlock, TData, TProg}
 use Rattle.t_terms.specs.Whole.{Whole, whole_prop}
@@ -7,7 +7,7 @@ use Rattle.t_terms.specs.ReadProgram.{program}
 use Rattle.t_terms.specs.declared.block.Block.{Block}
 use Rattle.t_terms.specs.declared.data.Data.{Data}
 use Rattle.t_terms.proofs.Blocks.{blocks_count}
-use Rattle.spill_law.specs.Spill.{sp_blocks, sp_data, entry, spilled}
+use Rattle.spill_law.specs.Spill.{lows, sp_blocks, sp_data, entry, spilled, spilled_above}
 use Rattle.t_spill.specs.Ready.{BlocksReady, HeapReady}
 use Rattle.t_spill.proofs.Readying.{blocks_ready, heap_ready}
 use Rattle.t_spill.proofs.Props.{blocks_prop}
@@ -30,22 +30,29 @@ spilled_heap-requires c =
     subst (λ (xs : List Data). HeapReady (data_of xs)) (sym c.deref-2.ensures.value)
     (heap_ready (program c.args.program.now) (omega (arith, n, blocks_count c.args.program.now.blocks.items)) c.args.program.now.whole)
 
-made : (P : TProg) (bs : List Block) (ds : List Data) → blocks_of bs ≡ entry ∷ sp_blocks P P.blocks → data_of ds ≡ map sp_data P.heap → parts bs ds ≡ spilled P
-made P bs ds b d = ap₂ (λ (x : List TBlock) (y : List TData). (let q : TProg = record { blocks = x; heap = y } in q)) b d
+made : (m k : ℕ) (P : TProg) (bs : List Block) (ds : List Data) → m ≡ lows k →
+    blocks_of bs ≡ entry m ∷ sp_blocks m P P.blocks → data_of ds ≡ map (sp_data m) P.heap → parts bs ds ≡ spilled k P
+made m k P bs ds e b d =
+    ap₂ (λ (x : List TBlock) (y : List TData). (let q : TProg = record { blocks = x; heap = y } in q)) b d
+    ∙ ap (λ z. spilled_above z P) e
 
 pub invariant_of-result : goal.invariant_of-result
 invariant_of-result c =
     let P = program c.args.program.now in
-    let same = made P c.in_ok-blocks.blocks.items c.in_ok-heap.heap.items
-    (c.in_ok-blocks.ensures ∙ ap (λ (bs : List Block). entry ∷ sp_blocks P (blocks_of bs)) c.deref.ensures.value)
-    (c.in_ok-heap.ensures ∙ ap (λ (xs : List Data). map sp_data (data_of xs)) c.deref-2.ensures.value) in
-    let goal_prop = whole_prop (spilled P) in
-    let whole : Whole (spilled P) = ∥∥₁_elim c.requires.accepted goal_prop (λ a. ∥∥₁_elim c.requires.names goal_prop (λ f. c.programs_are_whole.ensures P c.args.program.now.whole a f)) in
+    let k = c.args.k in
+    let m = c.within-split.result.low in
+    let same = made m k P c.in_ok-blocks.blocks.items c.in_ok-heap.heap.items c.within-split.ensures
+    (c.in_ok-blocks.ensures ∙ ap (λ (bs : List Block). entry m ∷ sp_blocks m P (blocks_of bs)) c.deref.ensures.value)
+    (c.in_ok-heap.ensures ∙ ap (λ (xs : List Data). map (sp_data m) (data_of xs)) c.deref-2.ensures.value) in
+    let goal_prop = whole_prop (spilled k P) in
+    let whole : Whole (spilled k P) = ∥∥₁_elim c.requires.accepted goal_prop
+    (λ a. ∥∥₁_elim c.requires.names goal_prop (λ f. c.programs_are_whole.ensures k P c.requires.least c.args.program.now.whole a f)) in
     record { whole = subst Whole (sym same) whole }
 
 pub returns : goal.returns
 returns c =
     let P = program c.args.program.now in
-    made P c.in_ok-blocks.blocks.items c.in_ok-heap.heap.items
-    (c.in_ok-blocks.ensures ∙ ap (λ (bs : List Block). entry ∷ sp_blocks P (blocks_of bs)) c.deref.ensures.value)
-    (c.in_ok-heap.ensures ∙ ap (λ (xs : List Data). map sp_data (data_of xs)) c.deref-2.ensures.value)
+    let m = c.within-split.result.low in
+    made m c.args.k P c.in_ok-blocks.blocks.items c.in_ok-heap.heap.items c.within-split.ensures
+    (c.in_ok-blocks.ensures ∙ ap (λ (bs : List Block). entry m ∷ sp_blocks m P (blocks_of bs)) c.deref.ensures.value)
+    (c.in_ok-heap.ensures ∙ ap (λ (xs : List Data). map (sp_data m) (data_of xs)) c.deref-2.ensures.value)

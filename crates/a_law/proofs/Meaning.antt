@@ -19,11 +19,14 @@ use Rattle.a_terms.specs.Tree.{ATys, NoATys, MoreATys, AVal, Var, ADecl, Value, 
 use Rattle.a_terms.specs.Tree.{Let, Call, If0, Halt, ABlk, AConsts, AProg, arity}
 use Rattle.a_law.specs.Allocate.{alloc_main, alloc_prog, atypes}
 use Rattle.a_law.specs.Constants.{Constants, constant, constant_at, of_args, tuples_in}
-use Rattle.a_law.specs.Stands.{Thing, Is, Gone, listed, made_at, takes, Stands_v, Stands_vs, Shows, Any, Filling, Content}
+use Rattle.a_law.specs.Stands.{Thing, Is, Gone, listed, made_at, takes, Stands_v, Stands_vs, Shows, Any, Filling}
+use Rattle.a_law.specs.Stands.{Content}
 use Rattle.a_law.specs.Stands.{Unit_named, Stands_t, Stands_all, arg_things}
 use Rattle.a_law.specs.Statements.{AllocKept, StandingMeansTheSame, ends}
-use Rattle.a_law.proofs.Cells.{cell_holds, held_at, moves_cell, moves_set, stores_cell, stores_grow, stores_set, valid_of}
-use Rattle.a_law.proofs.Rel.{Grows, Moves, Rel, Rels, Stores, fresh, moves_grow, nth_more, nth_seam, put_seam, rels_grow}
+use Rattle.a_law.proofs.Cells.{cell_holds, held_at, moves_cell, moves_set, stores_cell, stores_grow, stores_set}
+use Rattle.a_law.proofs.Cells.{valid_of}
+use Rattle.a_law.proofs.Rel.{Grows, Moves, Rel, Rels, Stores, fresh, moves_grow, nth_more, nth_seam, put_seam}
+use Rattle.a_law.proofs.Rel.{rels_grow}
 use Rattle.a_law.proofs.Shown.{Agree, Known, Reads, agree_moves, agree_more, constant_is, known_more, value_reads}
 use Rattle.a_law.proofs.Shown.{values_read}
 use Rattle.a_law.proofs.Standing.{alloc_stands}
@@ -84,11 +87,14 @@ get_rel D m h st (YCell p) w s r = go (hheld p st) refl
     go None e = tt
     go (Some z) e = let q = held_at D m h st p r.0 z s r.2 e in rw (r.1, q.1) (q.0, refl, q.2)
 
-init_step : (h : A.AHeap) (a i : ℕ) (env : List A.AWord) (start es : List (Option A.AWord)) (v : AVal) (w : A.AWord) → a ≡ length h → i ≡ length start → A.value (A.ZTuple a ∷ env) v ≡ Some w →
-    A.decl (Init (Var 0) (suc i) v) (A.ZTuple a ∷ env) (h ++ (start ++ None ∷ es) ∷ []) ≡ A.Gives (A.ZTuple a) (h ++ (start ++ Some w ∷ es) ∷ [])
+init_step : (h : A.AHeap) (a i : ℕ) (env : List A.AWord) (start es : List (Option A.AWord)) (v : AVal) (w : A.AWord) →
+    a ≡ length h → i ≡ length start → A.value (A.ZTuple a ∷ env) v ≡ Some w →
+    A.decl (Init (Var 0) (suc i) v) (A.ZTuple a ∷ env) (h ++ (start ++ None ∷ es) ∷ []) ≡ A.Gives (A.ZTuple a)
+    (h ++ (start ++ Some w ∷ es) ∷ [])
 init_step h a i env start es v w e f r =
     rw (r, nth_seam h [] (start ++ None ∷ es) a e, nth_seam start es None i f)
-    (ap (λ t. A.Gives (A.ZTuple a) (slice_set (h ++ (start ++ None ∷ es) ∷ []) a t)) (put_seam start es None (Some w) i f)
+    (ap (λ t. A.Gives (A.ZTuple a) (slice_set (h ++ (start ++ None ∷ es) ∷ []) a t))
+    (put_seam start es None (Some w) i f)
     ∙ ap (A.Gives (A.ZTuple a)) (put_seam h [] (start ++ None ∷ es) (start ++ Some w ∷ es) a e))
 
 -- n fields that are not filled
@@ -243,7 +249,8 @@ module _ (D : List AConsts) (ds : List HVal) (shown : Shows ds D ds) (ks : HBlks
       term_rel (Let (Value v) e) t os made env k ys m h st vars log (w, u, is, sv, tk, se) g =
           let r = read_v m h st os env k ys vars g v w sv in
           let y = hv_value w ys in
-          let new = next_at m h st os env k ys vars g (constant os w) y r.0 (λ c f. constant_is os ys g.known w c f) r.2 in
+          let new = next_at m h st os env k ys vars g (constant os w) y r.0 (λ c f. constant_is os ys g.known w c f)
+          r.2 in
           subst (λ z. Same (Let (Value v) e) vars h log z ys st) (sym is) (λ ok.
           ap (λ o. A.made (A.given o (λ x. A.Gives x h)) log (λ x h2. A.term next e (x ∷ vars) h2 log)) r.1
           ∙ term_rel e u (constant os w ∷ os) [] (Is k ∷ env) (suc k) (MoreHWords y ys) m h st (r.0 ∷ vars) log se new
@@ -520,7 +527,8 @@ module _ (D : List AConsts) (ds : List HVal) (shown : Shows ds D ds) (ks : HBlks
       ∙ ap (λ q. A.pick (q == n) z (A.Wrong log)) (ap arity (sym b.args) ∙ arity_is x.args)
       ∙ ap (λ q. A.pick (ccount x.args == q) z (A.Wrong log)) e
       ∙ ap (λ c. A.pick c z (A.Wrong log)) (eq_swap (ccount x.args) (hsize ys))
-      ∙ pick_step (nat_eq (hsize ys) (ccount x.args)) log z (on x) (λ c. f x b (eqb-true (hsize ys) (ccount x.args) c)) ok
+      ∙ pick_step (nat_eq (hsize ys) (ccount x.args)) log z (on x)
+      (λ c. f x b (eqb-true (hsize ys) (ccount x.args) c)) ok
 
   module _ (bs : List ABlk) (all : Stands_all ds bs ks) where
     follows_n : (n : ℕ) → Follows (henter ks n) (A.calls bs n)

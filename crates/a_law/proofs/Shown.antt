@@ -1,5 +1,6 @@
 -- The words of values that stand for hoisted ones, and of the constants in the data.
-use Rattle.std.proofs.Common.{◌≡◌, ◌<◌, ℕ, zero, suc, ◌-◌, List, [], ◌∷◌, Option, Some, None, refl, sym, ap, ap₂, ◌∙◌, subst}
+use Rattle.std.proofs.Common.{◌≡◌, ◌<◌, ℕ, zero, suc, ◌-◌, List, [], ◌∷◌, Option, Some, None, refl, sym, ap, ap₂, ◌∙◌}
+use Rattle.std.proofs.Common.{subst}
 use Rattle.std.proofs.Common.{arith}
 use Rattle.std.specs.Prelude.{map, option_map, slice_get, Bool, true, false, ◌&&◌, not}
 use Rattle.c_terms.specs.C.{CTy, CTys}
@@ -9,7 +10,8 @@ use Rattle.a_terms.specs.Meaning.{AHeap, AWord, ZInt, ZLabel, ZTuple, datum, pic
 use Rattle.a_terms.specs.Tree.{AConsts, AVal, Var, Num, Lab, Data, Apply, Pack}
 use Rattle.a_law.specs.Allocate.{all_closed, atype, atypes, closed, is_label}
 use Rattle.a_law.specs.Constants.{Constants, constant, constant_at, constants, is_package, packed, two}
-use Rattle.a_law.specs.Stands.{Thing, Is, Made, Gone, thing_at, Means, Stands_v, Stands_vs, Shows, Shows_fields, Shows_v}
+use Rattle.a_law.specs.Stands.{Thing, Is, Made, Gone, thing_at, Means, Stands_v, Stands_vs, Shows, Shows_fields}
+use Rattle.a_law.specs.Stands.{Shows_v}
 use Rattle.a_law.specs.Stands.{listed}
 use Rattle.a_law.proofs.Consts.{both_true}
 use Rattle.a_law.proofs.OneValue.{form}

@@ -2,12 +2,14 @@
 use Rattle.std.proofs.Common.{◌≡◌, ◌<◌, ◌≤◌, ℕ, zero, suc, ◌+◌, ◌-◌, List, [], ◌∷◌, ◌++◌, length, Option, Some, None}
 use Rattle.std.proofs.Common.{refl, sym, ap, ◌∙◌, subst, arith, ⊎_elim, inr, slice_get, length-append}
 use Rattle.std.specs.Prelude.{◌==◌, Bool, true, ◌&&◌, ◌||◌}
-use Rattle.std.proofs.lemmas.Bool.{eq-eqb, eqb-true, cond_both, cond-true, or_cases, or_left, or_right, and_from, and_parts}
+use Rattle.std.proofs.lemmas.Bool.{eq-eqb, eqb-true, cond_both, cond-true, or_cases, or_left, or_right, and_from}
+use Rattle.std.proofs.lemmas.Bool.{and_parts}
 use Rattle.std.proofs.lemmas.Option.{slice_get_within}
 use Rattle.a_terms.specs.Tree.{ATy, AInt, ATuple, AExists, ATys, NoATys, MoreATys, AVal, Var, Num, Lab, Data, Apply}
 use Rattle.a_terms.specs.Tree.{Pack, ADecl, Value, Proj, Arith, Unpack, Malloc, Init, ATm, Let, Call, If0, Halt, ABlk}
 use Rattle.a_terms.specs.Tree.{AConsts, AProg, arity, aput}
-use Rattle.a_terms.specs.Typing.{type_of, applied, Has, Decl-ok, All-have, Term-ok, Blocks-ok, declared, more_vars, types_of}
+use Rattle.a_terms.specs.Typing.{type_of, applied, Has, Decl-ok, All-have, Term-ok, Blocks-ok, declared, more_vars}
+use Rattle.a_terms.specs.Typing.{types_of}
 use Rattle.a_terms.specs.Typing.{Unpacked, Flat, Data-ok, Tuples-ok}
 use Rattle.a_terms.specs.TypeLaws.{length_declared}
 use Rattle.a_terms.specs.Bound.{thirds}
@@ -15,7 +17,8 @@ use Rattle.t_types.specs.Tree.{Ty, NoRegs}
 use Rattle.t_terms.specs.Tree as T
 use Rattle.t_terms.specs.Tree.{TValue, TSeq, Then, Ends, TBlock}
 use Rattle.gen_law.specs.Gen.{ty, ty_args, tys, reg, place, applied_to, small, unnest, settle, home, uses, uses_any}
-use Rattle.gen_law.specs.Gen.{uses_decl, used, top, over, above, free, owner, target, spare, decl_code, tvars, code, header}
+use Rattle.gen_law.specs.Gen.{uses_decl, used, top, over, above, free, owner, target, spare, decl_code, tvars, code}
+use Rattle.gen_law.specs.Gen.{header}
 use Rattle.gen_law.specs.Gen.{block, extras, rows, constant, datum_of, data_of, generated, generated_blocks}
 use Rattle.gen_law.specs.Gen.{generated_heap}
 use Rattle.gen_law.specs.GenLaws.{length_extras}
@@ -25,7 +28,8 @@ use Rattle.gen_law.specs.Rules.{Declares, Covers, Code, IsBlock, Fields, Tuples,
 use Rattle.gen_law.proofs.Free.{top_place, top_least, top_fewer, free_apart, spare_apart}
 use Rattle.gen_law.proofs.Covers.{Apart, apart_fewer, apart_args, look_header, header_only, in_scope}
 use Rattle.gen_law.proofs.Laying.{laid_out}
-use Rattle.gen_law.proofs.Loads.{Known, known_kept, known_fewer, known_above, brings_on, before_on, base_reg, reads_same}
+use Rattle.gen_law.proofs.Loads.{Known, known_kept, known_fewer, known_above, brings_on, before_on, base_reg}
+use Rattle.gen_law.proofs.Loads.{reads_same}
 use Rattle.gen_law.proofs.Loads.{unnest_is, move_is, settled_is, named_is, home_low, call_comes}
 use Rattle.gen_law.proofs.Places.{HasAt, has_all, has_front, has_back, length_firsts, main_block, extras_at}
 use Rattle.gen_law.proofs.Typed.{apart_next}
@@ -173,13 +177,16 @@ module _ (m : List ℕ) (e : ATm) (rest : TSeq) where
       let q = home d (small d m v) in
       let y = small (suc d) m w in
       let last = Then (T.Arith o r q y) rest in
-      let few = known_fewer c m d u (uses v) (λ n z. or_left (uses v n || uses w n) (after n) (or_left (uses v n) (uses w n) z)) a in
-      let few2 = known_fewer c m d u (uses w) (λ n z. or_left (uses v n || uses w n) (after n) (or_right (uses v n) (uses w n) z)) a in
+      let few = known_fewer c m d u (uses v) (λ n z. or_left (uses v n || uses w n) (after n)
+      (or_left (uses v n) (uses w n) z)) a in
+      let few2 = known_fewer c m d u (uses w) (λ n z. or_left (uses v n || uses w n) (after n)
+      (or_right (uses v n) (uses w n) z)) a in
       let g = settled_is v c m d d (unnest (suc d) m w last) few in
       let low = home_low v c m d d few (omega arith) in
       let kept = known_kept c g.held m d (uses w) (λ j lt. g.others j (λ z. absurd (omega (arith, z, lt)))) few2 in
       let k = unnest_is w g.held m d (suc d) last kept in
-      let first = reads_same g.held k.held v (reg q) (λ j z. (let s = base_reg z in k.others j (λ t. absurd (omega (arith, s, t, low))))) g.here in
+      let first = reads_same g.held k.held v (reg q) (λ j z.
+      (let s = base_reg z in k.others j (λ t. absurd (omega (arith, s, t, low))))) g.here in
       record {
         held = k.held;
         next = last;
@@ -230,12 +237,16 @@ module _ (m : List ℕ) (e : ATm) (rest : TSeq) where
       let own = spare_apart r d in
       let q = home s (small s m w) in
       let last = Then (T.St r (i - 1) q) rest in
-      let few = known_fewer c m d all (uses v) (λ n z. or_left (uses v n || uses w n) (after n) (or_left (uses v n) (uses w n) z)) a in
-      let few2 = known_fewer c m d all (uses w) (λ n z. or_left (uses v n || uses w n) (after n) (or_right (uses v n) (uses w n) z)) a in
+      let few = known_fewer c m d all (uses v) (λ n z. or_left (uses v n || uses w n) (after n)
+      (or_left (uses v n) (uses w n) z)) a in
+      let few2 = known_fewer c m d all (uses w) (λ n z. or_left (uses v n || uses w n) (after n)
+      (or_right (uses v n) (uses w n) z)) a in
       let g = named_is v c m d s u e (unnest s m w (settle s (small s m w) last)) own.0 far few in
-      let kept : Known g.held m d (uses w) = λ n y. (let x = few2 n y in (g.stays n (or_left (uses w n) (after n) y) ∙ x.0, x.1)) in
+      let kept : Known g.held m d (uses w) = λ n y.
+      (let x = few2 n y in (g.stays n (or_left (uses w n) (after n) y) ∙ x.0, x.1)) in
       let k = settled_is w g.held m d s last kept in
-      let tuple = reads_same g.held k.held v (reg r) (λ j z. (let t = base_reg z in k.others j (λ y. absurd (own.2 (t ∙ y))))) g.here in
+      let tuple = reads_same g.held k.held v (reg r) (λ j z.
+      (let t = base_reg z in k.others j (λ y. absurd (own.2 (t ∙ y))))) g.here in
       record {
         held = k.held;
         next = last;

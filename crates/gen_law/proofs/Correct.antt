@@ -296,25 +296,35 @@ module _ (runs : RunsErase) (halts : HaltsErased) (steps : StepsFirst) (times : 
   n = suc (length p.blocks)
 
   -- the entries of a run, by the credit of the calls
-  most : (m : ℕ) (s : State) (z : Place) (run : After P m s z) (k : ℕ) → count k (entries P m s z run) ≤ limit p main P by_rules k (log_of (meaning p main m))
+  most : (m : ℕ) (s : State) (z : Place) (run : After P m s z) (k : ℕ) →
+      count k (entries P m s z run) ≤ limit p main P by_rules k (log_of (meaning p main m))
   most m s z run k =
-      counts_from p main P by_rules k m _ (run_logged runs halts steps P whole acc first_block at_first m s z run) (meaning p main m) (never m) (follows p main P by_rules k m)
+      counts_from p main P by_rules k m _ (run_logged runs halts steps P whole acc first_block at_first m s z run)
+      (meaning p main m) (never m) (follows p main P by_rules k m)
 
   forth : (c : ℕ) (i : ℤ) (log : List ℕ) → meaning p main c ≡ Halted i log → M.Halts P i
-  forth c i log e = go (subst (Follows (erase_blocks P) 0 (limit p main P by_rules 0) (begins p main P by_rules 0) c) e (follows p main P by_rules 0 c))
+  forth c i log e = go (subst (Follows (erase_blocks P) 0 (limit p main P by_rules 0) (begins p main P by_rules 0) c)
+      e (follows p main P by_rules 0 c))
     where
-      go : Follows (erase_blocks P) 0 (limit p main P by_rules 0) (begins p main P by_rules 0) c (Halted i log) → M.Halts P i
+      go : Follows (erase_blocks P) 0 (limit p main P by_rules 0) (begins p main P by_rules 0) c (Halted i log) →
+          M.Halts P i
       go f = typed f.state f.runs f.answers
         where
-          typed : (t : LState) → after (erase_blocks P) f.steps (begins p main P by_rules 0) ≡ Some t → HaltsAt t i → M.Halts P i
-          typed (On x tlog) r a = (f.steps, halts_typed runs halts steps P whole acc first_block at_first f.steps x tlog i r a)
+          typed : (t : LState) → after (erase_blocks P) f.steps (begins p main P by_rules 0) ≡ Some t → HaltsAt t i →
+              M.Halts P i
+          typed (On x tlog) r a = (
+            f.steps,
+            halts_typed runs halts steps P whole acc first_block at_first f.steps x
+                tlog i r a,
+          )
 
   back : (m : ℕ) (i : ℤ) → HaltsWithin P m i → (log : List ℕ) × (meaning p main m ≡ Halted i log)
   back m i h =
       let x = typed_halts runs halts steps P whole acc first_block at_first m i h in
       back_from p main P by_rules 0 m x.0 i x.1 x.2 x.3 x.4 (meaning p main m) (never m) (follows p main P by_rules 0 m)
 
-  entries_most : (m : ℕ) (s : State) (z : Place) (run : After P m s z) (k l : ℕ) (b : ABlk) → MadeOf p.blocks (n + thirds main) k l b → Entries P m s z run k ≤ count l (log_of (meaning p main m))
+  entries_most : (m : ℕ) (s : State) (z : Place) (run : After P m s z) (k l : ℕ) (b : ABlk) →
+      MadeOf p.blocks (n + thirds main) k l b → Entries P m s z run k ≤ count l (log_of (meaning p main m))
   entries_most m s z run k l b o =
       let x = most m s z run k in
       let past : length p.blocks < (n + thirds main) = omega arith in
@@ -322,14 +332,17 @@ module _ (runs : RunsErase) (halts : HaltsErased) (steps : StepsFirst) (times : 
       let far = own_far p.blocks (n + thirds main) k l b past o n (thirds main) refl refl in
       let no : k ≡ 0 → ⊥ = λ e. ⊎_elim (λ y. absurd (omega arith)) (λ y. absurd (omega (arith, g))) o.own in
       let first = ap one (ne_eqb k 0 no) in
-      let y = credit_most p.blocks (n + thirds main) k l b past o (budget p main P by_rules k) (omega (arith, far, first)) (log_of (meaning p main m)) in
+      let y = credit_most p.blocks (n + thirds main) k l b past o (budget p main P by_rules k)
+      (omega (arith, far, first)) (log_of (meaning p main m)) in
       omega (arith, x, y, count_same k (entries P m s z run))
 
-  main_most : (m : ℕ) (s : State) (z : Place) (run : After P m s z) (k : ℕ) → FromMain p main k → Entries P m s z run k ≤ 1
+  main_most : (m : ℕ) (s : State) (z : Place) (run : After P m s z) (k : ℕ) → FromMain p main k →
+      Entries P m s z run k ≤ 1
   main_most m s z run k o = ⊎_elim
       (λ (e : k ≡ 0).
       let x = most m s z run 0 in
-      let y = credit_zero p.blocks (n + thirds main) (budget p main P by_rules 0) (log_of (meaning p main m)) (omega arith) in
+      let y = credit_zero p.blocks (n + thirds main) (budget p main P by_rules 0) (log_of (meaning p main m))
+      (omega arith) in
       let r = spare_out 0 n (thirds main) (inl (omega arith)) in
       let c = count_same 0 (entries P m s z run) in
       let one0 : one (0 == 0) ≡ 1 = refl in
@@ -337,7 +350,8 @@ module _ (runs : RunsErase) (halts : HaltsErased) (steps : StepsFirst) (times : 
       omega (arith, x, y, r, c, same, one0))
       (λ (gt : length p.blocks < k).
       let x = most m s z run k in
-      let y = credit_main p.blocks (n + thirds main) k gt o.0 (budget p main P by_rules k) (log_of (meaning p main m)) in
+      let y = credit_main p.blocks (n + thirds main) k gt o.0 (budget p main P by_rules k)
+      (log_of (meaning p main m)) in
       let first = ap one (ne_eqb k 0 (λ z. absurd (omega arith))) in
       omega (arith, x, y, first, spare_one k n (thirds main), count_same k (entries P m s z run)))
       o.1

@@ -91,7 +91,8 @@ fits_header f (r ∷ m) (t ∷ g) b u a =
     (λ c. let own = a 0 t c refl in fits_insert f r (ty t) own.0 (header (λ n. u (suc n)) m g) own.1 own.2 rest)
     (λ c. rest)
 
-pub look_insert : (r : ℕ) (t : Ty) (x : TFile) → (lookup (insert r t x) r ≡ Some t) × ((q : ℕ) → q ≢ r → lookup (insert r t x) q ≡ lookup x q)
+pub look_insert : (r : ℕ) (t : Ty) (x : TFile) → (lookup (insert r t x) r ≡ Some t)
+    × ((q : ℕ) → q ≢ r → lookup (insert r t x) q ≡ lookup x q)
 look_insert r t NoRegs = (look_same (lookup NoRegs) r t, λ q ne. look_other (lookup NoRegs) r q t ne)
 look_insert r t (MoreRegs p u x) =
     cond_both (r == p) (MoreRegs r t x) (cond (nat_lt r p) (MoreRegs r t (MoreRegs p u x)) (MoreRegs p u (insert r t x))) (λ z. (lookup z r ≡ Some t) × ((q : ℕ) → q ≢ r → lookup z q ≡ lookup (MoreRegs p u x) q))
@@ -118,7 +119,9 @@ pub apart_fewer : (m : List ℕ) (g : List ATy) (u v : ℕ → Bool) → ((n : �
 apart_fewer m g u v k a = record { same = a.same; own = λ i j x y. a.own i j (k i x) (k j y) }
 
 -- the header gives each its type
-pub look_header : (m : List ℕ) (g : List ATy) (u : ℕ → Bool) (n : ℕ) (t : ATy) → ((i j : ℕ) → u i ≡ true → u j ≡ true → i < length m → j < length m → place m i ≡ place m j → i ≡ j) → u n ≡ true → n < length m → slice_get g n ≡ Some t → lookup (header u m g) (place m n) ≡ Some (ty t)
+pub look_header : (m : List ℕ) (g : List ATy) (u : ℕ → Bool) (n : ℕ) (t : ATy) →
+    ((i j : ℕ) → u i ≡ true → u j ≡ true → i < length m → j < length m → place m i ≡ place m j → i ≡ j) → u n ≡ true →
+    n < length m → slice_get g n ≡ Some t → lookup (header u m g) (place m n) ≡ Some (ty t)
 look_header m [] u n t own y lt e = cc
 look_header [] (x ∷ g) u n t own y lt e = absurd (omega arith)
 look_header (r ∷ m) (x ∷ g) u zero t own y lt e =

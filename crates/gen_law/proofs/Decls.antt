@@ -82,7 +82,8 @@ pub record Moved (B : List ESeq) (h : EHeap) (log : List ℕ) (env : List AWord)
   pub leads : Leads B (at h ρ is log) (at h regs next log)
   pub fits : Fits regs d env
 
-pub moves_run : (B : List ESeq) (h : EHeap) (log : List ℕ) (env : List AWord) (next : TSeq) (ms : List Move) (c d : Held)
+pub moves_run : (B : List ESeq) (h : EHeap) (log : List ℕ) (env : List AWord) (next : TSeq) (ms : List Move)
+    (c d : Held)
     (ρ : ERegs) → Fits ρ c env → Brings c ms d → Moved B h log env ρ d (before ms next) next
 moves_run B h log env next [] c d ρ fits e =
     record { regs = ρ; leads = leads_none B _; fits = subst (λ z. Fits ρ z env) e fits }
@@ -90,7 +91,8 @@ moves_run B h log env next (x ∷ ms) c d ρ fits (v, s, more) =
     let r = reads_word ρ c env fits v x.value s in
     let σ = with_reg ρ x.to (word r.0) in
     let step : lstep B (at h ρ (Then (T.Mov x.to x.value) (before ms next)) log) ≡ Some (at h σ (before ms next) log) =
-    ap (λ o. option_map (logged log) (option_map (λ w. EGoes Next (EAt h (with_reg ρ x.to w) (erase_seq (before ms next)))) o))
+    ap (λ o. option_map (logged log) (option_map (λ w. EGoes Next
+    (EAt h (with_reg ρ x.to w) (erase_seq (before ms next)))) o))
     r.2 in
     let rest = moves_run B h log env next ms (with_reg c x.to v) d σ (fits_write ρ c env x.to v r.0 fits r.1) more in
     record { regs = rest.regs; leads = leads_on B _ _ _ (leads_step B _ _ step) rest.leads; fits = rest.fits }
@@ -127,23 +129,27 @@ module _ (B : List ESeq) (log : List ℕ) where
   unpack_step h ρ rest rd v w x = rw x refl
 
   module _ (m : List ℕ) (r : ℕ) (e : ATm) (ρ : ERegs) (env : List AWord) (h : AHeap) (is rest : TSeq) where
-    ok_given : {A : Type 0} (o : Option A) (f : A → Made) → ((x : A) → o ≡ Some x → OK B log m r e ρ h env is rest (f x)) → OK B log m r e ρ h env is rest (given o f)
+    ok_given : {A : Type 0} (o : Option A) (f : A → Made) → ((x : A) → o ≡ Some x →
+        OK B log m r e ρ h env is rest (f x)) → OK B log m r e ρ h env is rest (given o f)
     ok_given None f k = tt
     ok_given (Some x) f k = k x refl
 
-    ok_number : (o : Option AWord) (f : ℤ → Made) → ((x : ℤ) → o ≡ Some (ZInt x) → OK B log m r e ρ h env is rest (f x)) → OK B log m r e ρ h env is rest (number o f)
+    ok_number : (o : Option AWord) (f : ℤ → Made) → ((x : ℤ) → o ≡ Some (ZInt x) →
+        OK B log m r e ρ h env is rest (f x)) → OK B log m r e ρ h env is rest (number o f)
     ok_number None f k = tt
     ok_number (Some (ZInt i)) f k = k i refl
     ok_number (Some (ZTuple a)) f k = tt
     ok_number (Some (ZLabel l)) f k = tt
 
-    ok_address : (o : Option AWord) (f : ℕ → Made) → ((x : ℕ) → o ≡ Some (ZTuple x) → OK B log m r e ρ h env is rest (f x)) → OK B log m r e ρ h env is rest (address o f)
+    ok_address : (o : Option AWord) (f : ℕ → Made) → ((x : ℕ) → o ≡ Some (ZTuple x) →
+        OK B log m r e ρ h env is rest (f x)) → OK B log m r e ρ h env is rest (address o f)
     ok_address None f k = tt
     ok_address (Some (ZInt i)) f k = tt
     ok_address (Some (ZTuple a)) f k = k a refl
     ok_address (Some (ZLabel l)) f k = tt
 
-    ok_field : (i : ℕ) (f : ℕ → Made) → ((j : ℕ) → i ≡ suc j → OK B log m r e ρ h env is rest (f j)) → OK B log m r e ρ h env is rest (at_field i f)
+    ok_field : (i : ℕ) (f : ℕ → Made) → ((j : ℕ) → i ≡ suc j → OK B log m r e ρ h env is rest (f j)) →
+        OK B log m r e ρ h env is rest (at_field i f)
     ok_field zero f k = tt
     ok_field (suc i) f k = k i refl
 
@@ -180,13 +186,15 @@ module _ (B : List ESeq) (log : List ℕ) where
     })
     decl_runs (Proj i v) (q, is_it, here, spare) =
         ok_address m r e ρ env h is rest (value env v) _ (λ a x. ok_field m r e ρ env h is rest i _ (λ j z.
-        ok_given m r e ρ env h is rest (slice_get h a) _ (λ t y. ok_given m r e ρ env h is rest (slice_get t j) _ (λ f o.
+        ok_given m r e ρ env h is rest (slice_get h a) _ (λ t y. ok_given m r e ρ env h is rest (slice_get t j) _
+        (λ f o.
         ok_given m r e ρ env h is rest f _ (λ w p.
         let s = field_at h a j t f y o in
         let n : j ≡ i - 1 = omega (arith, z) in
         let there = subst (λ k. slice_get (tuple t) k ≡ Some (word w)) n (s.1 ∙ ap (λ o. Some (slot o)) p) in
         let tuple_here = reads_this ρ c env fits v (reg q) (ZTuple a) here x in
-        writes (T.Ld r q (i - 1)) w h is_it spare (ld_step (heap h) ρ rest r q (i - 1) a (tuple t) w tuple_here s.0 there))))))
+        writes (T.Ld r q (i - 1)) w h is_it spare (ld_step (heap h) ρ rest r q (i - 1) a (tuple t) w tuple_here s.0
+        there))))))
     decl_runs (Arith o v v2) (q, y2, is_it, here, here2, spare) =
         ok_number m r e ρ env h is rest (value env v) _ (λ a x. ok_number m r e ρ env h is rest (value env v2) _ (λ b y.
         let first = reads_this ρ c env fits v (reg q) (ZInt a) here x in
@@ -202,7 +210,8 @@ module _ (B : List ESeq) (log : List ℕ) where
         let grown : heap h ++ replicate (length (tys ts)) EEmpty ∷ [] ≡ heap h2 =
         ap (λ t. heap h ++ t ∷ []) (sym (tuple_empties ts)) ∙ sym (map-append tuple h (empties ts ∷ [])) in
         let place : EAddress (length (heap h)) ≡ EAddress (length h) = ap EAddress (length-map h tuple) in
-        let s : lstep B (at (heap h) ρ (Then (T.Malloc r (tys ts)) rest) log) ≡ Some (at (heap h2) (with_reg ρ r (EAddress (length h))) rest log) =
+        let s : lstep B (at (heap h) ρ (Then (T.Malloc r (tys ts)) rest) log) ≡ Some
+        (at (heap h2) (with_reg ρ r (EAddress (length h))) rest log) =
         ap (λ x. Some (at x (with_reg ρ r (EAddress (length (heap h)))) rest log)) grown
         ∙ ap (λ x. Some (at (heap h2) (with_reg ρ r x) rest log)) place in
         writes (T.Malloc r (tys ts)) (ZTuple (length h)) h2 is_it spare s
@@ -224,6 +233,7 @@ module _ (B : List ESeq) (log : List ℕ) where
         let h2 = slice_set h a (slice_set t j (Some w)) in
         record {
           regs = ρ;
-          leads = subst (λ z. Leads B (at (heap h) ρ z log) (at (heap h2) ρ rest log)) (sym is_it) (leads_step B _ _ st);
+          leads = subst (λ z. Leads B (at (heap h) ρ z log) (at (heap h2) ρ rest log)) (sym is_it)
+              (leads_step B _ _ st);
           agree = agree_next ρ ρ c m env (used e) r (ZTuple a) long fits stay there (λ n y lt. refl);
         })))))

@@ -90,7 +90,8 @@ pub record Readies (c : Held) (is rest : TSeq) (t : ℕ) (v : AVal) (x : TValue)
   pub others : (q : ℕ) → q ≢ t → held q ≡ c q
   pub few : length moves ≤ n
 
-abbrev none : (c : Held) (t : ℕ) (v : AVal) (x : TValue) (rest : TSeq) (n : ℕ) → Reads c v x → Readies c rest rest t v x n
+abbrev none : (c : Held) (t : ℕ) (v : AVal) (x : TValue) (rest : TSeq) (n : ℕ) → Reads c v x →
+    Readies c rest rest t v x n
 none c t v x rest n s =
     record { moves = []; same = refl; held = c; brings = refl; here = s; others = λ q ne. refl; few = omega arith }
 
@@ -151,7 +152,8 @@ unnest_is (Pack h v s) c m b t rest a =
     let x = small t m v in
     let r = unnest_is v c m b t (boxed t x rest) a in
     let d = box_is x r.held t v rest r.here in
-    let both = then_ready c (unnest t m v (boxed t x rest)) (boxed t x rest) rest t v v x (inside t x) (packages v) 1 r d in
+    let both = then_ready c (unnest t m v (boxed t x rest)) (boxed t x rest) rest t v v x (inside t x) (packages v) 1
+    r d in
     record {
       moves = both.moves;
       same = both.same;
@@ -248,12 +250,14 @@ owner_kept : (v : AVal) (c d : Held) (m : List ℕ) (b : ℕ) (u : ℕ → Bool)
     (i : ℕ) → u i ≡ true → d (place m i) ≡ c (place m i)
 owner_kept (Var n) c d m b u e a here o =
     cond_both (used e (suc n) && used e 0) (free m u e) (place m n)
-    (λ r. Reads d (Var n) (reg r) → ((q : ℕ) → q ≢ r → d q ≡ c q) → (i : ℕ) → u i ≡ true → d (place m i) ≡ c (place m i))
+    (λ r. Reads d (Var n) (reg r) → ((q : ℕ) → q ≢ r → d q ≡ c q) → (i : ℕ) → u i ≡ true →
+    d (place m i) ≡ c (place m i))
     (λ z at_r o2 i y. o2 (place m i) (λ q. absurd (free_apart m u e i y q)))
     (λ z at_r o2 i y.
     let own = a n (eq-eqb n n refl) in
     let there = ap d (same_reg at_r.1) ∙ at_r.2 in
-    ⊎_elim (λ q. ap d q ∙ there ∙ sym own.0 ∙ ap c (sym q)) (λ ne. o2 (place m i) ne) (cases_eq (place m i) (place m n)))
+    ⊎_elim (λ q. ap d q ∙ there ∙ sym own.0 ∙ ap c (sym q)) (λ ne. o2 (place m i) ne)
+    (cases_eq (place m i) (place m n)))
     here o
 owner_kept (Num i) c d m b u e a x o = λ i y. o (place m i) (λ z. absurd (free_apart m u e i y z))
 owner_kept (Lab l) c d m b u e a x o = λ i y. o (place m i) (λ z. absurd (free_apart m u e i y z))
@@ -378,8 +382,11 @@ module _ (f : AVal) (ts : ATys) where
       ((q : ℕ) → q < b → q ≢ j → d q ≡ c q) →
       ((n : ℕ) → wants f vs n ≡ true → place m n ≡ j → d j ≡ c j) → Known d m b (wants f vs)
   still vs c d m b j a o k = λ n y.
-      let s = a n y in
-      (⊎_elim (λ e. ap d e ∙ k n y e ∙ ap c (sym e) ∙ s.0) (λ ne. o (place m n) s.1 ne ∙ s.0) (cases_eq (place m n) j), s.1)
+      let s = a n y in (
+        ⊎_elim (λ e. ap d e ∙ k n y e ∙ ap c (sym e) ∙ s.0) (λ ne. o (place m n) s.1 ne ∙ s.0)
+            (cases_eq (place m n) j),
+        s.1,
+      )
 
   -- what a call comes to, where its arguments after this one, and its code, are still to come
   abbrev Rest-comes : List AVal → ℕ → Type 0
@@ -395,7 +402,8 @@ module _ (f : AVal) (ts : ATys) where
     argument_comes b m c le k read =
         let rest = call_code (suc j) b m vs f (tys ts) in
         let x = small b m v in
-        let d = unnest_is v c m b b (move j x rest) (known_fewer c m b (wants f (v ∷ vs)) (uses v) (of_first f v vs) k) in
+        let d = unnest_is v c m b b (move j x rest) (known_fewer c m b (wants f (v ∷ vs)) (uses v) (of_first f v vs)
+        k) in
         let both = move_is j x v d.held rest d.here in
         let e = both.0 in
         let few = known_fewer c m b (wants f (v ∷ vs)) (wants f vs) (of_rest f v vs) k in
@@ -403,12 +411,14 @@ module _ (f : AVal) (ts : ATys) where
         let k2 = still vs d.held e.held m b j kept (λ q lt ne. e.others q ne) (λ n q p. both.1 (read n q p)) in
         let g = rec b m e.held (omega (arith, le)) k2 in
         let ms = e.moves ++ g.moves in
-        let here = reads_same e.held g.held v (reg j) (λ q z. g.below q (let y = base_reg z in omega (arith, y))) e.here in
+        let here = reads_same e.held g.held v (reg j) (λ q z. g.below q (let y = base_reg z in omega (arith, y)))
+        e.here in
         record {
           moves = d.moves ++ ms;
           code = g.code;
           same = d.same ∙ ap (before d.moves) (e.same ∙ ap (before e.moves) g.same
-              ∙ sym (before_on e.moves g.moves (Ends (T.Jmp g.code)))) ∙ sym (before_on d.moves ms (Ends (T.Jmp g.code)));
+              ∙ sym (before_on e.moves g.moves (Ends (T.Jmp g.code))))
+              ∙ sym (before_on d.moves ms (Ends (T.Jmp g.code)));
           held = g.held;
           brings = brings_on d.moves ms c d.held g.held d.brings
               (brings_on e.moves g.moves d.held e.held g.held e.brings g.brings);

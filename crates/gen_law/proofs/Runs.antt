@@ -7,7 +7,8 @@ use Rattle.std.proofs.lemmas.Option.{slice_get-map}
 use Rattle.idx_core.specs.Arith.{is_zero}
 use Rattle.a_terms.specs.Tree.{ATy, AVal, Apply, ATm, Let, Call, If0, Halt, ABlk, AProg, arity}
 use Rattle.a_terms.specs.Meaning.{AWord, ZInt, ZTuple, ZLabel, AHeap, Result, Halted, Spent, Wrong, Made, Gives, Fails}
-use Rattle.a_terms.specs.Meaning.{value, values, with_first, decl, made, halt_with, pick, branch, call_with, call_of, term}
+use Rattle.a_terms.specs.Meaning.{value, values, with_first, decl, made, halt_with, pick, branch, call_with, call_of}
+use Rattle.a_terms.specs.Meaning.{term}
 use Rattle.a_terms.specs.Meaning.{push_all, enter, calls}
 use Rattle.a_terms.specs.Typing.{declared, more_vars, types_of}
 use Rattle.a_terms.specs.Bound.{thirds}
@@ -134,7 +135,10 @@ module _ (B : List ESeq) (k : ℕ) (limit : List ℕ → ℕ) where
       record { steps = a.0; many = omega (arith, a.1, f.many); state = f.state; runs = a.2 ∙ f.runs; calls_next = f.calls_next; counted = f.counted }
   follows_move s t c (Wrong log) l f = tt
 
-  on_made : (s : LState) (c : ℕ) (log : List ℕ) (tlog : List ℕ) (l : List ℕ) (r : ℕ) (e : ATm) (ρ : ERegs) (env : List AWord) (h : AHeap) (is rest : TSeq) (m : Made) (go : AWord → AHeap → Result) → OK B tlog l r e ρ h env is rest m → ((w : AWord) (h2 : AHeap) → Does B tlog l r e ρ h env is rest w h2 → Follows B k limit s c (go w h2)) → Follows B k limit s c (made m log go)
+  on_made : (s : LState) (c : ℕ) (log : List ℕ) (tlog : List ℕ) (l : List ℕ) (r : ℕ) (e : ATm) (ρ : ERegs)
+      (env : List AWord) (h : AHeap) (is rest : TSeq) (m : Made) (go : AWord → AHeap → Result) →
+      OK B tlog l r e ρ h env is rest m → ((w : AWord) (h2 : AHeap) → Does B tlog l r e ρ h env is rest w h2 →
+      Follows B k limit s c (go w h2)) → Follows B k limit s c (made m log go)
   on_made s c log tlog l r e ρ env h is rest (Gives w h2) go ok f = f w h2 ok
   on_made s c log tlog l r e ρ env h is rest Fails go ok f = tt
 
@@ -176,7 +180,8 @@ erased_at P n b e = slice_get-map erase_block P n ∙ ap (option_map erase_block
 -- what is known of a program by the rules
 pub record Laid (p : AProg) (P : List TBlock) (at0 : ℕ) : Type 0 where
   pub blocks : (l : ℕ) (b : ABlk) → slice_get p.blocks l ≡ Some b → (x : TBlock) × (slice_get P (suc l) ≡ Some x)
-      × IsBlock P p b.owes (ty_args b.args 1) (rows (arity b.args)) (types_of b.args []) (first_of p.blocks at0 l) b.body x
+      × IsBlock P p b.owes (ty_args b.args 1) (rows (arity b.args)) (types_of b.args []) (first_of p.blocks at0 l)
+      b.body x
 
 module _ (p : AProg) (P : List TBlock) (at0 k main : ℕ) (laid : Laid p P at0) where
   abbrev B : List ESeq
@@ -240,14 +245,17 @@ module _ (p : AProg) (P : List TBlock) (at0 k main : ℕ) (laid : Laid p P at0) 
         (λ z.
         let st : lstep B (at (heap h) t.regs (Then jumps second) tlog) ≡ Some (at (heap h) t.regs second tlog) =
         rw (here, z) refl in
-        let kept_a = agree_fewer t.regs m env (λ j. used a j || used b j) (used a) (λ j y. or_left (used a j) (used b j) y)
+        let kept_a = agree_fewer t.regs m env (λ j. used a j || used b j) (used a)
+        (λ j y. or_left (used a j) (used b j) y)
         kept in
         follows_on B k limit s (at (heap h) t.regs second tlog) c _ (leads_on B _ _ _ t.leads (leads_step B _ _ st))
         (term_runs a second env tv (suc n) m g h log t.regs tlog code_a long kept_a (omega (arith, sum, le))))
         (λ z.
-        let st : lstep B (at (heap h) t.regs (Then jumps second) tlog) ≡ Some (at (heap h) t.regs third.code (n ∷ tlog)) =
+        let st : lstep B (at (heap h) t.regs (Then jumps second) tlog) ≡ Some
+        (at (heap h) t.regs third.code (n ∷ tlog)) =
         rw (here, z, erased) refl in
-        let kept_b = agree_fewer t.regs m env (λ j. used a j || used b j) (used b) (λ j y. or_right (used a j) (used b j) y)
+        let kept_b = agree_fewer t.regs m env (λ j. used a j || used b j) (used b)
+        (λ j y. or_right (used a j) (used b j) y)
         kept in
         let one_is : count k (n ∷ tlog) + spare k (suc n + thirds a) (thirds b) ≤ limit log = omega (arith, sum, le) in
         follows_on B k limit s (at (heap h) t.regs third.code (n ∷ tlog)) c _
@@ -268,7 +276,15 @@ module _ (p : AProg) (P : List TBlock) (at0 k main : ℕ) (laid : Laid p P at0) 
 
   pub calls_run : (c : ℕ) → Next-runs c
   calls_run zero l ws h log ρ x tlog lab holds le =
-      on_enter B k limit (at (heap h) ρ (Ends (T.Jmp x)) tlog) zero log (length ws) (slice_get p.blocks l) _ (λ b there n. record { steps = 0; many = omega arith; state = at (heap h) ρ (Ends (T.Jmp x)) tlog; runs = refl; calls_next = tt; counted = le })
+      on_enter B k limit (at (heap h) ρ (Ends (T.Jmp x)) tlog) zero log (length ws) (slice_get p.blocks l) _
+      (λ b there n. record {
+        steps = 0;
+        many = omega arith;
+        state = at (heap h) ρ (Ends (T.Jmp x)) tlog;
+        runs = refl;
+        calls_next = tt;
+        counted = le;
+      })
   calls_run (suc c) l ws h log ρ x tlog lab holds le =
       let s = at (heap h) ρ (Ends (T.Jmp x)) tlog in
       on_enter B k limit s (suc c) log (length ws) (slice_get p.blocks l) _ (λ b there n.
@@ -284,6 +300,7 @@ module _ (p : AProg) (P : List TBlock) (at0 k main : ℕ) (laid : Laid p P at0) 
       let sp : share p.blocks at0 k l ≡ one (k == suc l) + spare k first (thirds b.body) =
       ap (share_of k l first) there in
       let long = length_rows (arity b.args) ∙ sym len in
-      let body = term_runs c (calls_run c) b.body block.code env b.owes first (rows (arity b.args)) (types_of b.args []) h
+      let body = term_runs c (calls_run c) b.body block.code env b.owes first (rows (arity b.args))
+      (types_of b.args []) h
       (l ∷ log) ρ (suc l ∷ tlog) is.2.code long agree (omega (arith, sp, le)) in
       follows_move B k limit s (at (heap h) ρ block.code (suc l ∷ tlog)) c _ (moves_step B s _ stepped) body)

@@ -67,7 +67,8 @@ owner_apart p g (Pack h v s) t m w e u a k l kw x = λ j y z lt q. free_apart m 
 fresh_apart : (m : List ℕ) (e : ATm) (j : ℕ) → used e (suc j) ≡ true → free m (λ n. used e (suc n)) e ≡ place m j → ⊥
 fresh_apart m e j y q = free_apart m (λ n. used e (suc n)) e j y (sym q)
 
-pub apart_next : (p : AProg) (k : ℕ) (g : List ATy) (m : List ℕ) (x : ADecl) (e : ATm) → Apart m g (used (Let x e)) → Decl-ok p k g x → Apart (target m x e ∷ m) (declared p g x) (used e)
+pub apart_next : (p : AProg) (k : ℕ) (g : List ATy) (m : List ℕ) (x : ADecl) (e : ATm) → Apart m g (used (Let x e)) →
+    Decl-ok p k g x → Apart (target m x e ∷ m) (declared p g x) (used e)
 apart_next p k g m (Value v) e a d =
     apart_push m g (declared p g (Value v)) (used (Let (Value v) e)) (used e) (owner m v (λ n. used e (suc n)) e) a (λ n y. or_right (uses v n) (used e (suc n)) y) (length_declared p g (Value v))
     (owner_apart p g v d.0 m (λ n. used e (suc n)) e (used (Let (Value v) e)) a (λ n y. or_right (uses v n) (used e (suc n)) y) (λ n y. or_left (uses v n) (used e (suc n)) y) (λ n y. y) d.1.is)

@@ -1,8 +1,9 @@
--- Code generation by rules. Each variable that is still used has a register, and no two of them have one: any registers
--- will do. A declaration becomes its instruction, a call its jump, with moves before it where an operand is not at hand.
--- Moves are run on names: what value each register holds. A third part is a block of its own, which takes the variables
--- that it uses.
-use Rattle.std.specs.Prelude.{◌≡◌, ◌⊎◌, ◌<◌, ◌≤◌, ℕ, suc, ◌+◌, ◌-◌, ◌==◌, List, [], ◌∷◌, length, slice_get, Option, Some}
+-- Code generation by rules. Each variable that is still used has a register of its own, and any registers will do. A
+-- declaration becomes its instruction, a call its jump, with moves before it where an operand is not at hand. Moves are
+-- run on names: what value each register holds. A third part is a block of its own, which takes the variables that it
+-- uses.
+use Rattle.std.specs.Prelude.{◌≡◌, ◌⊎◌, ◌<◌, ◌≤◌, ℕ, suc, ◌+◌, ◌-◌, ◌==◌, List, [], ◌∷◌, length, slice_get, Option}
+use Rattle.std.specs.Prelude.{Some}
 use Rattle.std.specs.Prelude.{None, Bool, true, cond, ◌&&◌, ◌||◌}
 use Rattle.t_types.specs.Tree.{Ty, TFile, NoRegs}
 use Rattle.t_types.specs.Fits.{lookup}
@@ -164,8 +165,8 @@ Tuples [] (d ∷ ds) = ⊥
 Tuples (x ∷ xs) [] = ⊥
 Tuples (x ∷ xs) (d ∷ ds) = Fields x d × Tuples xs ds
 
--- block 0 is the main term, block l + 1 block l, whose arguments are in the registers from 1 on, and then come the third
--- parts of all of them in order; each data tuple has its own
+-- block 0 is the main term, block l + 1 block l, whose arguments are in the registers from 1 on, and then come the
+-- third parts of all of them in order; each data tuple has its own
 pub record Generates (p : AProg) (main : ATm) (P : TProg) : Type 0 where
   pub main_block : (x : TBlock) × (slice_get P.blocks 0 ≡ Some x)
       × IsBlock P.blocks p 0 NoRegs [] [] (suc (length p.blocks)) main x

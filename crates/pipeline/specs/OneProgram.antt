@@ -1,8 +1,14 @@
 -- One source gives one program.
 use Rattle.std.specs.Prelude.{◌≡◌, ℕ}
 use Rattle.f_terms.specs.Tm.{Term}
+use Rattle.f_terms.specs.Typing.{IsProgram}
+use Rattle.c_law.specs.Close.{close_of}
+use Rattle.h_pass.specs.Hoist.{blocks_of, main_of}
+use Rattle.a_law.specs.Allocate.{alloc_prog, alloc_main}
 use Rattle.t_terms.specs.Tree.{TProg}
+use Rattle.gen_law.specs.Gen.{generated}
 use Rattle.pipeline.specs.Compilation.{IsTranslation, IsCompilation, IsCompilationWithin}
+use Rattle.pipeline.specs.Made.{IsMade}
 
 -- what a term is compiled to is one program: no name, no place, no order is left to choose
 abbrev pub OneProgram : Type 0
@@ -17,3 +23,12 @@ abbrev pub OneClosedTerm : Type 0
 OneClosedTerm =
     (e : Term) (P Q : TProg) (a : IsTranslation e P) (b : IsTranslation e Q) →
     (a.converted ≡ b.converted) × (a.closed ≡ b.closed)
+
+-- the program that the passes make of a program of the source is a translation of it, and its forms on the way are
+-- those that the functions of the passes give
+abbrev pub MadeIsTranslated : Type 0
+MadeIsTranslated =
+    (e : Term) (P : TProg) → IsProgram e → IsMade e P →
+    (t : IsTranslation e P) × (t.closed ≡ close_of t.converted) × (t.blocks ≡ blocks_of t.closed)
+    × (t.main ≡ main_of t.closed) × (t.allocated ≡ alloc_prog t.blocks t.main)
+    × (t.start ≡ alloc_main t.blocks t.main) × (P ≡ generated t.allocated t.start)

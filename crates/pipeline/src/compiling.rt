@@ -58,13 +58,14 @@ fn assemble(alloc: Global, program: &Program) -> Result<TProgram, OutOfMemory>
 /// once more than these turns. It has one block for the whole, one for each `fix` and `gen`, for each application,
 /// type application and `if0` outside tail place, and for the third part of each `if0`; one `add`, `sub` or `mul` for
 /// each of the source's, one `bnz` for each `if0`, one `unpack` for each `open` and each call, one `jmp` for each call,
-/// and one `halt` (own choice, as what the paper's passes make). It is a translation of the source by the passes' rules,
-/// and the one program that the passes make. Its nesting is within the limit on open constructs.
-/// Answers want of memory alone.
+/// and one `halt` (own choice, as what the paper's passes make). It is a translation of the source by the passes'
+/// rules, and the one program that the passes make. Its nesting is within the limit on open constructs. Answers want of
+/// memory alone.
 pub fn compile(alloc: Global, program: &Program) -> Result<Checked, OutOfMemory>
     ensures compiled { IfOk result (λ p.
         ∥ IsCompilation (term_of (program_term program.now)) (program_tree (checked_program p)) ∥₁) }
-    ensures made { IfOk result (λ p. IsMade (term_of (program_term program.now)) (program_tree (checked_program p))) }
+    ensures made { IfOk result (λ p.
+        IsMade (term_of (program_term program.now)) (program_tree (checked_program p))) }
     ensures work { IfOk result (λ p.
         HasBlocks (term_of (program_term program.now)) (program_tree (checked_program p))) }
     ensures weights { IfOk result (λ p.

@@ -1,5 +1,5 @@
 // Laws about what is compiled.
-ghost use Rattle.pipeline.specs.OneProgram.{OneClosedTerm, OneProgram, OneProgramWithin};
+ghost use Rattle.pipeline.specs.OneProgram.{MadeIsTranslated, OneClosedTerm, OneProgram, OneProgramWithin};
 
 /// A term is compiled to one program: whatever it is compiled to is the same.
 pub fn one_source_gives_one_program()
@@ -15,3 +15,20 @@ pub fn one_source_gives_one_program_within()
 pub fn one_source_gives_one_closed_term()
     ensures { OneClosedTerm }
 {}
+
+/// The program that the passes make of a program of the source is a translation of it by the rules, and its forms on
+/// the way are those that the functions of the passes give.
+pub fn made_programs_are_translations()
+    ensures { MadeIsTranslated }
+{
+    k_laws::conversion_is_a_translation();
+    k_laws::conversion_keeps_types();
+    c_law::laws::scope_law();
+    c_law::laws::translation_law();
+    c_law::laws::types_law();
+    h_pass::laws::hoist_is_back_law();
+    h_pass::laws::hoist_types_law();
+    a_law::allocation_stands_for_its_program();
+    a_law::types_are_kept();
+    gen_law::generated_programs_are_by_rules();
+}

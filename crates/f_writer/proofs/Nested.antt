@@ -1,16 +1,15 @@
 -- A text that stands for a term has no fewer constructs open than the canonical text of the term.
-use Rattle.std.proofs.Common.{◌≡◌, ◌≤◌, ◌<◌, ℕ, zero, suc, ◌+◌, max, List, [], ◌∷◌, ◌++◌, length, Bool, true, false}
+use Rattle.std.proofs.Common.{◌≡◌, ◌≤◌, ℕ, zero, suc, ◌+◌, max, List, [], ◌∷◌, ◌++◌, length, Bool, true, false}
 use Rattle.std.proofs.Common.{refl}
 use Rattle.std.proofs.Common.{sym, ap, ap₂, ◌∙◌, arith, subst, append_assoc, slice_index}
 use Rattle.std.specs.Prelude.{nat_lt}
 use Rattle.std.proofs.lemmas.Bool.Decides.{nat_tests}
 use Rattle.idx_core.specs.Names.{Name}
-use Rattle.text_core.specs.Table.{Done, seen, Verdict, Unexpected, Passed, bounded, whole}
+use Rattle.text_core.specs.Table.{Done, seen, Verdict, Unexpected, Passed, bounded}
 use Rattle.text_core.specs.Verdicts.{Says}
 use Rattle.f_terms.specs.Ty.{Ty, Tys}
 use Rattle.f_terms.specs.Text.{is_grouped}
 use Rattle.f_terms.specs.Tm.{Tm, Tms, plain, plain_all}
-use Rattle.f_lexer.specs.declared.kind.Kind.TheVariants as k
 use Rattle.f_lexer.specs.declared.token.Token.{Token}
 use Rattle.f_grammar.specs.Raw.{RawTy, RInt, RName, RTuple, RArrow, RAll, RSome, RRef, RawTys, NoRawTys, MoreRawTys}
 use Rattle.f_grammar.specs.Raw.{raw_tys, TyPiece, RawTm, RVar, RNum, RFix, RGen, RApp, RInst, RFields, RProj, RArith}

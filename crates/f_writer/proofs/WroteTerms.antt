@@ -22,7 +22,7 @@ use Rattle.f_parser.specs.Scope.{spelled, TermOf, of_var, of_num, of_fix, of_gen
 use Rattle.f_parser.specs.Scope.{of_arith, of_if0, of_let, of_pack, of_open, of_cell, of_deref, of_assign, TermsOf}
 use Rattle.f_parser.specs.Scope.{of_no_terms, of_more_terms}
 use Rattle.f_writer.specs.declared.line.Line.{Line}
-use Rattle.f_writer.specs.declared.line.Line.TheVariants.{Expression, Sum, Product, Call, Primary}
+use Rattle.f_writer.specs.declared.line.Line.TheVariants.{Sum, Product, Call, Primary}
 use Rattle.f_writer.specs.Lines.{is_loose, line_of}
 use Rattle.f_writer.specs.Fits.{Fits, AllFit}
 use Rattle.f_writer.proofs.Lexemes.{Reserved, ValueName, TypeName, Number, Sign, Pair, Spaced, Blank, bytes}

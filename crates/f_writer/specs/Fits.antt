@@ -1,5 +1,5 @@
 -- Terms that can be written: closed, with integers of 64 bits, field numbers that a text can have, and so few names
--- around each place that 64 bits hold their number.
+-- around each form that 64 bits hold their number.
 use Rattle.std.specs.Prelude.{ℕ, ◌+◌, ◌<◌, ◌≤◌, ◌≤ℤ◌, pos, negsuc}
 use Rattle.idx_core.specs.Over.{BelowAt, IsWord}
 use Rattle.f_terms.specs.Ty.{Ty, each}

@@ -20,8 +20,8 @@ WrittenTwiceIsWrittenOnce = (text : List ℕ) (a : Tm) → FewBytes text → Sou
     ((b : Tm) × Source (term_text (plain a)) b)
     × ((b : Tm) → Source (term_text (plain a)) b → (plain b ≡ plain a) × (term_text (plain b) ≡ term_text (plain a)))
 
--- a text that stands for a term within the limits is written as one that does, where that is not too long: the canonical
--- text has no more constructs open than any text of the term
+-- a text that stands for a term within the limits is written as one that does, where that is not too long: the
+-- canonical text has no more constructs open than any text of the term
 abbrev pub WrittenTextsAreWithin : Type 0
 WrittenTextsAreWithin = (text : List ℕ) (a : Tm) → SourceWithin text a → FewBytes (term_text (plain a)) →
     (b : Tm) × SourceWithin (term_text (plain a)) b × (plain b ≡ plain a)

@@ -22,11 +22,11 @@ pub data Todo : Type 0 where
   WriteType : ℕ → Ty → Todo
 
 abbrev pub position_todo : Position → Todo
-position_todo p = Write p.line p.names.types p.names.values (part_term p.part)
+position_todo p = Write p.line p.depths.types p.depths.values (part_term p.part)
 
 abbrev pub todo : Task → Todo
 todo (task.Term p) = position_todo p
-todo (task.Fields ps names) = WriteAll names.types names.values (part_terms ps)
+todo (task.Fields ps depths) = WriteAll depths.types depths.values (part_terms ps)
 todo (task.Bytes s) = Put s.now
 todo (task.Type t depth) = WriteType depth (tree t.now)
 

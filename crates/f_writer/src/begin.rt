@@ -5,9 +5,10 @@ ghost use Rattle.f_writer.specs.Parts.{part_term, part_terms};
 ghost use Rattle.f_writer.specs.Tasks.{todos, all_done, steps, Begun, IsTyped, Opened, Steps, position_todo};
 
 use crate::binders::begin_binder;
+use crate::depths::Depths;
 use crate::joined::begin_joined;
 use crate::line::{Line, is_loose, line_of};
-use crate::names::{Names, write_value_name};
+use crate::names::write_value_name;
 use crate::number::{write_integer, write_natural};
 use crate::part::{Part, Parts};
 use crate::parts::{children, node, split};
@@ -21,18 +22,18 @@ fn begin_typed<'a>(
     text: &mut Vec<u8>,
     tasks: &mut Vec<Task<'a>>,
     part: Part<'a>,
-    names: Names,
+    depths: Depths,
 ) -> Result<(), OutOfMemory>
     requires { IsTyped (part_term part) }
-    ensures { OnOk result (Begun text.old.items names.types names.values (part_term part.entry)
+    ensures { OnOk result (Begun text.old.items depths.types depths.values (part_term part.entry)
         (todos tasks.old.items) text.new.items (todos tasks.new.items)) }
 {
     match &node(part).shape {
         FShape::Inst(e, ty) => {
             push(tasks, Task::Bytes(b"]"))?;
-            push(tasks, Task::Type(ty, names.types))?;
+            push(tasks, Task::Type(ty, depths.types))?;
             push(tasks, Task::Bytes(b"["))?;
-            push(tasks, Task::Term(child(part, *e, Line::Call, names)))
+            push(tasks, Task::Term(child(part, *e, Line::Call, depths)))
         }
         FShape::Pack {
             hidden,
@@ -40,13 +41,13 @@ fn begin_typed<'a>(
             shape,
         } => {
             text.extend_from_slice(b"pack[")?;
-            write_type(text, hidden, names.types)?;
+            write_type(text, hidden, depths.types)?;
             text.extend_from_slice(b", ")?;
-            push(tasks, Task::Type(shape, names.types))?;
+            push(tasks, Task::Type(shape, depths.types))?;
             push(tasks, Task::Bytes(b"] as "))?;
             push(
                 tasks,
-                Task::Term(child(part, *inner, Line::Expression, names)),
+                Task::Term(child(part, *inner, Line::Expression, depths)),
             )
         }
         _ => unreachable!(),
@@ -57,18 +58,18 @@ fn begin_typed<'a>(
 fn begin_tuple<'a>(
     tasks: &mut Vec<Task<'a>>,
     fields: Parts<'a>,
-    names: Names,
+    depths: Depths,
 ) -> Result<(), OutOfMemory>
-    ensures { OnOk result (Opened names.types names.values (part_terms fields.entry)
+    ensures { OnOk result (Opened depths.types depths.values (part_terms fields.entry)
         (todos tasks.old.items) (todos tasks.new.items)) }
 {
     push(tasks, Task::Bytes(b">"))?;
     match split(fields) {
         None => Ok(()),
         Some((part, rest)) => {
-            push(tasks, Task::Fields(rest, names))?;
+            push(tasks, Task::Fields(rest, depths))?;
             let line = Line::Expression;
-            push(tasks, Task::Term(Position { part, line, names }))
+            push(tasks, Task::Term(Position { part, line, depths }))
         }
     }
 }
@@ -78,37 +79,40 @@ fn begin_form<'a>(
     text: &mut Vec<u8>,
     tasks: &mut Vec<Task<'a>>,
     part: Part<'a>,
-    names: Names,
+    depths: Depths,
 ) -> Result<(), OutOfMemory>
-    ensures { OnOk result (Begun text.old.items names.types names.values (part_term part.entry)
+    ensures { OnOk result (Begun text.old.items depths.types depths.values (part_term part.entry)
         (todos tasks.old.items) text.new.items (todos tasks.new.items)) }
 {
     match &node(part).shape {
-        FShape::Var(i) => write_value_name(text, names.values.saturating_sub(1).saturating_sub(*i)),
+        FShape::Var(i) => {
+            let level = depths.values.saturating_sub(1).saturating_sub(*i);
+            write_value_name(text, level)
+        }
         FShape::Int(value) => write_integer(text, *value),
         FShape::Tuple(fields) => {
             text.extend_from_slice(b"<")?;
-            begin_tuple(tasks, children(part, fields), names)
+            begin_tuple(tasks, children(part, fields), depths)
         }
         FShape::Proj(i, e) => {
             text.extend_from_slice(b"#")?;
             write_natural(text, *i)?;
             text.extend_from_slice(b" ")?;
-            push(tasks, Task::Term(child(part, *e, Line::Primary, names)))
+            push(tasks, Task::Term(child(part, *e, Line::Primary, depths)))
         }
         FShape::Ref(e) => {
             text.extend_from_slice(b"ref ")?;
-            push(tasks, Task::Term(child(part, *e, Line::Primary, names)))
+            push(tasks, Task::Term(child(part, *e, Line::Primary, depths)))
         }
         FShape::Deref(e) => {
             text.extend_from_slice(b"!")?;
-            push(tasks, Task::Term(child(part, *e, Line::Primary, names)))
+            push(tasks, Task::Term(child(part, *e, Line::Primary, depths)))
         }
-        FShape::Inst(..) | FShape::Pack { .. } => begin_typed(text, tasks, part, names),
+        FShape::Inst(..) | FShape::Pack { .. } => begin_typed(text, tasks, part, depths),
         FShape::Fix { .. } | FShape::Gen(..) | FShape::Let(..) | FShape::Open(..) => {
-            begin_binder(text, tasks, part, names)
+            begin_binder(text, tasks, part, depths)
         }
-        _ => begin_joined(text, tasks, part, names),
+        _ => begin_joined(text, tasks, part, depths),
     }
 }
 
@@ -136,5 +140,5 @@ pub(crate) fn begin<'a>(
 {
     let loose = is_loose(line_of(&node(term.part).shape), term.line);
     wrap(text, tasks, loose)?;
-    begin_form(text, tasks, term.part, term.names)
+    begin_form(text, tasks, term.part, term.depths)
 }

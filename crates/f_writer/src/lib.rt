@@ -3,6 +3,7 @@
 
 mod begin;
 mod binders;
+mod depths;
 mod joined;
 mod laws;
 mod line;

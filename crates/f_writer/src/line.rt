@@ -6,7 +6,7 @@ use f_terms::FShape;
 use idx_core::Op;
 
 /// The lines of the grammar of terms, from the one that takes every form to the one of forms that never need
-/// parentheses: E, S, M, A and P of the grammar. A form is of one line, and a place for a part asks for one.
+/// parentheses: E, S, M, A and P of the grammar. A form is of one line, and where it stands as a part one is asked for.
 #[derive(Clone, Copy, Drop)]
 pub(crate) enum Line {
     /// Any form: a `fix`, `gen`, `let`, `pack`, `open` or assignment stands bare nowhere else.
@@ -34,7 +34,7 @@ fn strength(line: Line) -> u64
     }
 }
 
-// Whether a form of a line takes parentheses at a place.
+// Whether a form of a line takes parentheses where a line is asked for.
 pub(crate) fn is_loose(line: Line, asked: Line) -> bool
     ensures { result ≡ is_loose line asked }
 {

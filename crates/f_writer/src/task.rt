@@ -4,33 +4,33 @@ ghost use Rattle.f_terms.specs.Tm.{plain};
 ghost use Rattle.f_terms.specs.ReadTerm.{count, node_at};
 ghost use Rattle.f_writer.specs.Tasks.{Write, Put, position_todo, todo, todos};
 
+use crate::depths::Depths;
 use crate::line::Line;
-use crate::names::Names;
 use crate::part::{Part, Parts};
 use f_terms::FType;
 use idx_core::OutOfMemory;
 
-/// A part of a term at a place that asks for a line, inside so many names.
+/// A part of a term where a line is asked for, and the names around it.
 #[derive(Clone, Copy)]
 pub(crate) struct Position<'a> {
     pub(crate) part: Part<'a>,
     pub(crate) line: Line,
-    pub(crate) names: Names,
+    pub(crate) depths: Depths,
 }
 
-/// A term at a place, fields after others, bytes, or a type inside so many type names.
+/// A term, fields after others, bytes, or a type inside so many type names.
 #[derive(Drop)]
 pub(crate) enum Task<'a> {
     Term(Position<'a>),
-    Fields(Parts<'a>, Names),
+    Fields(Parts<'a>, Depths),
     Bytes(&'a [u8]),
     Type(&'a FType, u64),
 }
 
-// The child k of a part at a place.
-pub(crate) fn child<'a>(part: Part<'a>, k: u64, line: Line, names: Names) -> Position<'a>
+// The child k of a part, where a line is asked for.
+pub(crate) fn child<'a>(part: Part<'a>, k: u64, line: Line, depths: Depths) -> Position<'a>
     requires { k < count part.term.now }
-    ensures { position_todo result ≡ Write line names.types names.values (plain (node_at part.entry.term.now k)) }
+    ensures { position_todo result ≡ Write line depths.types depths.values (plain (node_at part.entry.term.now k)) }
 {
     let child = Part {
         term: part.term,
@@ -39,7 +39,7 @@ pub(crate) fn child<'a>(part: Part<'a>, k: u64, line: Line, names: Names) -> Pos
     Position {
         part: child,
         line,
-        names,
+        depths,
     }
 }
 

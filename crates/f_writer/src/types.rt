@@ -3,7 +3,8 @@ ghost use Rattle.std.specs.Prelude.{◌≡◌, ◌++◌, [], ◌+◌, codes, OnO
 ghost use Rattle.f_terms.specs.Text.{name_text, is_grouped, separator, text_at};
 ghost use Rattle.f_terms.specs.Read.{tree};
 
-use crate::names::{deeper, write_type_name};
+use crate::depths::deeper;
+use crate::names::write_type_name;
 use f_terms::FType;
 use idx_core::OutOfMemory;
 

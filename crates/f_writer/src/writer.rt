@@ -6,8 +6,8 @@ ghost use Rattle.f_writer.specs.Parts.{part_terms};
 ghost use Rattle.f_writer.specs.Tasks.{todo, todos, Steps, WriteAll};
 
 use crate::begin::begin;
+use crate::depths::Depths;
 use crate::line::Line;
-use crate::names::Names;
 use crate::part::Parts;
 use crate::parts::{split, whole};
 use crate::task::{Position, Task, pop, push};
@@ -21,19 +21,19 @@ fn next_field<'a>(
     text: &mut Vec<u8>,
     tasks: &mut Vec<Task<'a>>,
     fields: Parts<'a>,
-    names: Names,
+    depths: Depths,
 ) -> Result<(), OutOfMemory>
     ensures { OnOk result (Steps text.old.items
-        (WriteAll names.types names.values (part_terms fields.entry) ∷ todos tasks.old.items)
+        (WriteAll depths.types depths.values (part_terms fields.entry) ∷ todos tasks.old.items)
         text.new.items (todos tasks.new.items)) }
 {
     match split(fields) {
         None => Ok(()),
         Some((part, rest)) => {
             text.extend_from_slice(b", ")?;
-            push(tasks, Task::Fields(rest, names))?;
+            push(tasks, Task::Fields(rest, depths))?;
             let line = Line::Expression;
-            push(tasks, Task::Term(Position { part, line, names }))
+            push(tasks, Task::Term(Position { part, line, depths }))
         }
     }
 }
@@ -49,7 +49,7 @@ fn do_task<'a>(
 {
     match task {
         Task::Term(term) => begin(text, tasks, term),
-        Task::Fields(fields, names) => next_field(text, tasks, fields, names),
+        Task::Fields(fields, depths) => next_field(text, tasks, fields, depths),
         Task::Bytes(bytes) => {
             text.extend_from_slice(bytes)?;
             Ok(())
@@ -59,7 +59,7 @@ fn do_task<'a>(
 }
 
 /// The canonical text of a term (own choice): one for each term, places aside. Where the term is closed, its integers
-/// and field numbers are such as a source has, and 64 bits hold the number of the names around each place, the text
+/// and field numbers are such as a source has, and 64 bits hold the number of the names around each form, the text
 /// stands for the term (law `texts_stand_for_their_terms`). It takes time by its length, however deep the term nests.
 /// Errors: want of memory.
 pub fn write_term(alloc: Global, term: &FTerm) -> Result<Vec<u8>, OutOfMemory>
@@ -68,13 +68,13 @@ pub fn write_term(alloc: Global, term: &FTerm) -> Result<Vec<u8>, OutOfMemory>
     let mut text = Vec::new(alloc);
     let mut tasks = Vec::new(alloc);
     push(&mut tasks, Task::Bytes(b"\n"))?;
-    let names = Names {
+    let depths = Depths {
         types: 0,
         values: 0,
     };
     let line = Line::Expression;
     let part = whole(term);
-    push(&mut tasks, Task::Term(Position { part, line, names }))?;
+    push(&mut tasks, Task::Term(Position { part, line, depths }))?;
     while let Some(task) = pop(&mut tasks) {
         do_task(&mut text, &mut tasks, task)?;
     }

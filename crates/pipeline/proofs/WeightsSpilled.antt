@@ -66,8 +66,8 @@ module _ (w : Weights) (m : ℕ) where
   of_step (Bnz r v) P L file ts to rest =
       let other = target_file (type_of P file v) in
       let saved : TSeq = Then (Mov (saved_reg m) (reg (frame_reg m))) (Then (Mov (frame_reg m) (reg (made_reg m)))
-          (Then (Bnz (at_home (first_reg m) (L.homes r)) (sp_value m (second_at m L.homes) v))
-          (Then (Mov (frame_reg m) (reg (saved_reg m))) rest))) in
+      (Then (Bnz (at_home (first_reg m) (L.homes r)) (sp_value m (second_at m L.homes) v))
+      (Then (Mov (frame_reg m) (reg (saved_reg m))) rest))) in
       let x = of_build other L.homes (load m (first_reg m) (L.homes r) (load_value m L.homes v saved)) in
       let y = of_load (L.homes r) (first_reg m) (load_value m L.homes v saved) in
       let z = of_value v L.homes saved in

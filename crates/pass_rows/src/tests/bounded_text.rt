@@ -43,51 +43,39 @@ add r1, r1, r2
 halt[int]
 ";
 
-// Within eight registers: the first block, and the first two products.
+// Within eight registers: the first blocks, and the first four products.
 const BEGINNING: &str = "\
 tal 2
 L0: code[]{}.
-malloc r1[]
+malloc r3[]
 jmp L1
-L1: code[]{r1:<>}.
-mov r3, 1
-malloc r4[int]
-mov r5, r3
+L1: code[]{r3:<>}.
+mov r1, 1
+mul r1, r1, 2
+mov r2, 3
+mul r2, r2, 4
+mov r5, 5
+malloc r4[int, int, int, int, int, int, int, int, int, int, int, int, int, int, int, int, int, int, int, int]
 st r4[0], r5
-mov r1, r4
-ld r2, r1[0]
-mul r3, r2, 2
-malloc r4[int]
-mov r5, r3
-st r4[0], r5
-mov r1, r4
-mov r3, 3
-malloc r4[int, int]
-ld r5, r1[0]
-st r4[0], r5
-mov r5, r3
+ld r5, r4[0]
+mul r5, r5, 6
 st r4[1], r5
-mov r1, r4
-ld r2, r1[1]
-mul r3, r2, 4
-malloc r4[int, int]
-ld r5, r1[0]
-st r4[0], r5
-mov r5, r3
-st r4[1], r5
-mov r1, r4
+mov r5, 7
+st r4[2], r5
+ld r5, r4[2]
+mul r5, r5, 8
+st r4[3], r5
 ";
 
-// The last addition.
+// The last three additions.
 const END: &str = "\
-ld r2, r1[0]
-ld r3, r1[1]
-add r3, r2, r3
-malloc r4[int]
-mov r5, r3
-st r4[0], r5
-mov r1, r4
-ld r1, r1[0]
+ld r5, r4[1]
+ld r6, r4[18]
+add r5, r5, r6
+st r4[19], r5
+ld r6, r4[19]
+add r2, r2, r6
+add r1, r1, r2
 halt[int]
 ";
 
@@ -123,50 +111,47 @@ jmp r5
 
 // Within eight registers: its `if0`.
 const BRANCH: &str = "\
-ld r2, r1[1]
-mov r6, r1
-malloc r4[int, some T0. <all[]{r1:<T0^1, int^1>}^1, T0^1>, some T0. <all[]{r1:<T0^1, int^1, some T1. <all[]{r1:<T1^1, \
-    int^1>}^1, T1^1>^1>}^1, T0^1>]
-ld r5, r1[1]
-st r4[0], r5
-ld r5, r1[2]
-st r4[1], r5
-ld r5, r1[3]
-st r4[2], r5
-mov r1, r4
+malloc r7[some T0. <all[]{r1:T0, r2:int, r3:<>}^1, T0^1>, some T0. <all[]{r1:T0, r2:int, r3:<some T1. <all[]{r1:T1, \
+    r2:int, r3:<>}^1, T1^1>^1>}^1, T0^1>]
+ld r6, r3[0]
+st r7[0], r6
+ld r6, r4[4]
+st r7[1], r6
+mov r8, r3
+mov r3, r7
 bnz r2, L4
-mov r1, r6
+mov r3, r8
 ";
 
-// The third part up to its subtraction.
+// The third part up to the frame behind its `unpack`.
 const SUBTRACTION: &str = "\
-L4: code[]{r1:<int^1, some T0. <all[]{r1:<T0^1, int^1>}^1, T0^1>^1, some T0. <all[]{r1:<T0^1, int^1, some T1. \
-    <all[]{r1:<T1^1, int^1>}^1, T1^1>^1>}^1, T0^1>^1>}.
-ld r2, r1[0]
-sub r3, r2, 1
-malloc r4[int, some T0. <all[]{r1:<T0^1, int^1>}^1, T0^1>, some T0. <all[]{r1:<T0^1, int^1, some T1. <all[]{r1:<T1^1, \
-    int^1>}^1, T1^1>^1>}^1, T0^1>]
-mov r5, r3
-st r4[0], r5
-ld r5, r1[1]
-st r4[1], r5
-ld r5, r1[2]
-st r4[2], r5
-mov r1, r4
+L4: code[]{r2:int, r3:<some T0. <all[]{r1:T0, r2:int, r3:<>}^1, T0^1>^1, some T0. <all[]{r1:T0, r2:int, r3:<some \
+    T1. <all[]{r1:T1, r2:int, r3:<>}^1, T1^1>^1>}^1, T0^1>^1>}.
+sub r2, r2, 1
+ld r6, r3[1]
+unpack[T0, r5], r6
+malloc r7[some T1. <all[]{r1:T1, r2:int, r3:<>}^1, T1^1>, <all[]{r1:T0, r2:int, r3:<some T1. <all[]{r1:T1, r2:int, \
+    r3:<>}^1, T1^1>^1>}^1, T0^1>]
+ld r6, r3[0]
+st r7[0], r6
+st r7[1], r5
+mov r3, r7
 ";
 
 // Its jump.
 const JUMP: &str = "\
-ld r3, r1[3]
-malloc r4[T0, int, some T1. <all[]{r1:<T1^1, int^1>}^1, T1^1>]
-ld r5, r1[0]
+ld r5, r3[1]
+ld r5, r5[0]
+malloc r4[all[]{r1:T0, r2:int, r3:<some T1. <all[]{r1:T1, r2:int, r3:<>}^1, T1^1>^1>}]
 st r4[0], r5
-ld r5, r1[1]
-st r4[1], r5
-ld r5, r1[2]
-st r4[2], r5
-mov r1, r4
-jmp r3
+ld r5, r3[1]
+ld r1, r5[1]
+malloc r7[some T1. <all[]{r1:T1, r2:int, r3:<>}^1, T1^1>]
+ld r6, r3[0]
+st r7[0], r6
+ld r6, r4[0]
+mov r3, r7
+jmp r6
 ";
 
 fn assembly(alloc: Global, source: &str) -> Result<Vec<u8>, Fail> {

@@ -25,7 +25,8 @@ at_is k q =
     (λ (e : k ≡ q). ap is_eq (sym (nat_cmp_is k q Equal e)) ∙ sym (eq-eqb k q e))
     (⊎_elim
     (λ (lt : k < q). ap is_eq (sym (nat_cmp_is k q Less lt)) ∙ sym (ne_eqb k q (λ e. absurd (omega (arith, e, lt)))))
-    (λ (gt : q < k). ap is_eq (sym (nat_cmp_is k q Greater gt)) ∙ sym (ne_eqb k q (λ e. absurd (omega (arith, e, gt))))))
+    (λ (gt : q < k). ap is_eq (sym (nat_cmp_is k q Greater gt))
+    ∙ sym (ne_eqb k q (λ e. absurd (omega (arith, e, gt))))))
     (cases_order k q)
 
 pub other_at : (q r : ℕ) → (q ≡ r → ⊥) → is_at (nat_cmp q) r ≡ false
@@ -39,7 +40,8 @@ placed_from i (q ∷ qs) r = cond (nat_eq q r) (Some (Frame i)) (placed_from (su
 abbrev pub Placed : BTreeMap ℕ Home → ℕ → List (ℕ × TType) → Type 0
 Placed m i high = (r : ℕ) → get nat_cmp m r ≡ placed_from i (numbers (file (drop i high))) r
 
-pub none_placed : (m : BTreeMap ℕ Home) (i : ℕ) (high : List (ℕ × TType)) → IsEmpty m → length high ≤ i → Placed m i high
+pub none_placed : (m : BTreeMap ℕ Home) (i : ℕ) (high : List (ℕ × TType)) → IsEmpty m → length high ≤ i →
+    Placed m i high
 none_placed m i high e le r = ap (lookup (is_at (nat_cmp r))) e ∙ go high i i le
   where
     go : (xs : List (ℕ × TType)) (j n : ℕ) → length xs ≤ n → None ≡ placed_from j (numbers (file (drop n xs))) r
@@ -55,7 +57,8 @@ one_placed m n i j high y lt one is u h r =
     let front : drop i high ≡ y ∷ drop j high =
     drop_more high i y lt ∙ ap₂ (λ (z : ℕ × TType) k. z ∷ drop k high) (sym is) one in
     u.0 r ∙ ap (λ b. cond b (Some (Frame i)) (get nat_cmp m r)) (at_is y.0 r)
-    ∙ ap (cond (nat_eq y.0 r) (Some (Frame i))) (h r ∙ ap (λ k. placed_from k (numbers (file (drop j high))) r) (sym next))
+    ∙ ap (cond (nat_eq y.0 r) (Some (Frame i))) (h r ∙ ap (λ k. placed_from k (numbers (file (drop j high))) r)
+    (sym next))
     ∙ ap (λ (xs : List (ℕ × TType)). placed_from i (numbers (file xs)) r) (sym front)
 
 frame_at : (i : ℕ) (qs : List ℕ) (r : ℕ) → home_or (i + length qs) (placed_from i qs r) ≡ InFrame (i + position qs r)
@@ -70,7 +73,8 @@ frame_at i (q ∷ qs) r = go (frame_at (suc i) qs r) (nat_eq q r)
         ap (λ n. home_or n (placed_from (suc i) qs r)) a ∙ h ∙ ap InFrame b
 
     go : home_or (suc i + length qs) (placed_from (suc i) qs r) ≡ InFrame (suc i + position qs r) → (b : Bool) →
-        home_or (i + suc (length qs)) (cond b (Some (Frame i)) (placed_from (suc i) qs r)) ≡ InFrame (i + cond b 0 (suc (position qs r)))
+        home_or (i + suc (length qs)) (cond b (Some (Frame i)) (placed_from (suc i) qs r))
+        ≡ InFrame (i + cond b 0 (suc (position qs r)))
     go h true = ap InFrame (sym (add-zero i))
     go h false = more h
 
@@ -120,11 +124,14 @@ module _ (m n : BTreeMap ℕ Home) (r : ℕ) (h : Home) (u : Updates nat_cmp m n
       ∙ ⊎_elim
       (λ (e : r ≡ q).
       let high : low < q = omega (arith, lt, e) in
-      ap₂ (λ a b. cond a (home_or count (cond b (Some h) (get nat_cmp m q))) (Held q)) (lt-ltb low q high) (eq-eqb r q e)
-      ∙ ap (λ b. cond b (home h) (cond (nat_lt low q) (home_or count (get nat_cmp m q)) (Held q))) (sym (eq-eqb r q e)))
+      ap₂ (λ a b. cond a (home_or count (cond b (Some h) (get nat_cmp m q))) (Held q)) (lt-ltb low q high)
+      (eq-eqb r q e)
+      ∙ ap (λ b. cond b (home h) (cond (nat_lt low q) (home_or count (get nat_cmp m q)) (Held q)))
+      (sym (eq-eqb r q e)))
       (λ (ne : r ≡ q → ⊥).
       ap (λ b. cond (nat_lt low q) (home_or count (cond b (Some h) (get nat_cmp m q))) (Held q)) (ne_eqb r q ne)
-      ∙ ap (λ b. cond b (home h) (cond (nat_lt low q) (home_or count (get nat_cmp m q)) (Held q))) (sym (ne_eqb r q ne)))
+      ∙ ap (λ b. cond b (home h) (cond (nat_lt low q) (home_or count (get nat_cmp m q)) (Held q)))
+      (sym (ne_eqb r q ne)))
       (cases_eq r q)
 
 -- a register up to the split is its own home already

@@ -1,5 +1,6 @@
 -- The keys of a map are the registers that it has, in order.
-use Rattle.std.proofs.Common.{◌≡◌, ℕ, ◌<◌, cond, Bool, true, false, List, [], ◌∷◌, ◌++◌, refl, sym, ap, ◌∙◌, arith, nat_eq, length}
+use Rattle.std.proofs.Common.{◌≡◌, ℕ, ◌<◌, cond, Bool, true, false, List, [], ◌∷◌, ◌++◌, refl, sym, ap, ◌∙◌, arith}
+use Rattle.std.proofs.Common.{nat_eq, length}
 use Rattle.std.specs.Prelude.{◌||◌}
 use Rattle.std.specs.Ordering.{nat_cmp, is_eq, eq_by_cmp}
 use Rattle.std.specs.Cmp.{nat_cmp_is}
@@ -24,7 +25,8 @@ unfolding IsStrictlySortedBy
 ascending [] h = tt
 ascending (x ∷ xs) h = above x xs h.0 h.1
   where
-    above : (x : ℕ) (xs : List ℕ) → AllByRecursion (λ y. nat_cmp x y ≡ Less) xs → IsStrictlySortedBy nat_cmp xs → Above x xs
+    above : (x : ℕ) (xs : List ℕ) → AllByRecursion (λ y. nat_cmp x y ≡ Less) xs → IsStrictlySortedBy nat_cmp xs →
+        Above x xs
     above x [] a s = tt
     above x (y ∷ ys) a s = (before x y a.0, above y ys s.0 s.1)
 
@@ -34,7 +36,8 @@ same_key q k =
     (λ (e : q ≡ k). ap is_eq (sym (nat_cmp_is q k Equal e)) ∙ sym (eq-eqb k q (sym e)))
     (⊎_elim
     (λ (lt : q < k). ap is_eq (sym (nat_cmp_is q k Less lt)) ∙ sym (ne_eqb k q (λ e. absurd (omega (arith, e, lt)))))
-    (λ (gt : k < q). ap is_eq (sym (nat_cmp_is q k Greater gt)) ∙ sym (ne_eqb k q (λ e. absurd (omega (arith, e, gt))))))
+    (λ (gt : k < q). ap is_eq (sym (nat_cmp_is q k Greater gt))
+    ∙ sym (ne_eqb k q (λ e. absurd (omega (arith, e, gt))))))
     (cases_order q k)
 
 pub member_is : (xs : List ℕ) (q : ℕ) → is_member (eq_by_cmp nat_cmp) xs q ≡ among q xs

@@ -35,7 +35,8 @@ types_is m (t ∷ ts) = ap (λ (us : List Ty). sp m (tree t) ∷ us) (types_is m
 pub made_fields : (m : ℕ) (ys xs : List (TType × Bool)) (n : ℕ) → map flag ys ≡ map (spilled_flag m) (take n xs) →
     length xs ≤ n → fields ys ≡ sp_fields m (fields xs)
 made_fields m ys xs n done all =
-    ap flagged (done ∙ ap (λ (zs : List (TType × Bool)). map (spilled_flag m) zs) (take_all n xs all)) ∙ sym (fields_is m xs)
+    ap flagged (done ∙ ap (λ (zs : List (TType × Bool)). map (spilled_flag m) zs) (take_all n xs all))
+    ∙ sym (fields_is m xs)
 
 pub made_cells : (m : ℕ) (ys : List TType) (xs : List (ℕ × TType)) (n : ℕ) →
     map tree ys ≡ map (celled m) (take n xs) → length xs ≤ n → types ys ≡ cells (sp_regs m (file xs))
@@ -86,11 +87,13 @@ frame_if false r t x = refl
 -- what holds of what is divided so far, where the registers from number i on follow
 abbrev pub Divides : ℕ → List (ℕ × TType) → List (ℕ × TType) → List (TType × Bool) → ℕ → Type 0
 Divides m regs lows fs i =
-    ((last : TFile) → front lows (low_part m (sp_regs m (file (drop i regs))) last) ≡ low_part m (sp_regs m (file regs)) last)
+    ((last : TFile) → front lows (low_part m (sp_regs m (file (drop i regs))) last)
+    ≡ low_part m (sp_regs m (file regs)) last)
     × (fields_onto fs (framed m (file (drop i regs))) ≡ framed m (file regs))
 
 -- one register more
-divided_suc : (m : ℕ) (xs lows lows2 : List (ℕ × TType)) (fs fs2 : List (TType × Bool)) (i : ℕ) (y : ℕ × TType) (t : Ty)
+divided_suc : (m : ℕ) (xs lows lows2 : List (ℕ × TType)) (fs fs2 : List (TType × Bool)) (i : ℕ) (y : ℕ × TType)
+    (t : Ty)
     (x : TFile) (f : TFields) → i < length xs → y ≡ get_or xs i y → t ≡ sp m (tree y.1) →
     ((last : TFile) → front lows2 last ≡ front lows (low_part m (MoreRegs y.0 t NoRegs) last)) →
     ((rest : TFields) → fields_onto fs2 rest ≡ fields_onto fs (field_if (nat_lt m y.0) t rest)) →
@@ -102,12 +105,15 @@ divided_suc m [] lows lows2 fs fs2 i y t x f lt is same l k h g = absurd (omega 
 divided_suc m (z ∷ xs) lows lows2 fs fs2 zero y t x f lt is same l k h g =
     let e : t ≡ sp m (tree z.1) = same ∙ ap (λ (w : ℕ × TType). sp m (tree w.1)) is in (
       λ last. l (low_part m (sp_regs m (file xs)) last)
-          ∙ ap (λ (w : ℕ × TType). front lows (low_part m (MoreRegs w.0 t NoRegs) (low_part m (sp_regs m (file xs)) last))) is
-          ∙ ap (λ u. front lows (low_part m (MoreRegs z.0 u NoRegs) (low_part m (sp_regs m (file xs)) last))) e ∙ h last,
+          ∙ ap (λ (w : ℕ × TType). front lows (low_part m (MoreRegs w.0 t NoRegs)
+          (low_part m (sp_regs m (file xs)) last))) is
+          ∙ ap (λ u. front lows (low_part m (MoreRegs z.0 u NoRegs) (low_part m (sp_regs m (file xs)) last))) e
+          ∙ h last,
       k (framed m (file xs))
           ∙ ap (λ (w : ℕ × TType). fields_onto fs (field_if (nat_lt m w.0) t (framed m (file xs)))) is
           ∙ ap (λ u. fields_onto fs (field_if (nat_lt m z.0) u (framed m (file xs)))) e
-          ∙ ap (fields_onto fs) (sym (frame_if (nat_lt m z.0) z.0 (sp m (tree z.1)) (high_part m (sp_regs m (file xs))))) ∙ g,
+          ∙ ap (fields_onto fs) (sym (frame_if (nat_lt m z.0) z.0 (sp m (tree z.1))
+          (high_part m (sp_regs m (file xs))))) ∙ g,
     )
 divided_suc m (z ∷ xs) lows lows2 fs fs2 (suc i) y t x f lt is same l k h g =
     divided_suc m xs lows lows2 fs fs2 i y t x f (omega arith) is same l k h g
@@ -119,7 +125,8 @@ pub divided_more : (m : ℕ) (xs lows lows2 : List (ℕ × TType)) (fs fs2 : Lis
     Divides m xs lows fs i → Divides m xs lows2 fs2 (i + 1)
 divided_more m xs lows lows2 fs fs2 i y t lt is same l k h =
     let one : suc i ≡ i + 1 = omega arith in
-    let more = divided_suc m xs lows lows2 fs fs2 i y t (sp_regs m (file xs)) (framed m (file xs)) lt is same l k h.0 h.1 in (
+    let more = divided_suc m xs lows lows2 fs fs2 i y t (sp_regs m (file xs))
+    (framed m (file xs)) lt is same l k h.0 h.1 in (
       λ last. ap (λ n. front lows2 (low_part m (sp_regs m (file (drop n xs))) last)) (sym one) ∙ more.0 last,
       ap (λ n. fields_onto fs2 (framed m (file (drop n xs)))) (sym one) ∙ more.1,
     )

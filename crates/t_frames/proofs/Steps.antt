@@ -1,9 +1,11 @@
 -- The code of an instruction in two parts: up to where its word is computed, and what becomes of the word.
 use Rattle.std.proofs.Common.{◌≡◌, ℕ, List, refl, ap}
 use Rattle.t_types.specs.Tree.{Ty, TFile}
-use Rattle.t_terms.specs.Tree.{TInstr, Arith, Bnz, Ld, Malloc, Mov, St, Unpack, TEnd, Jmp, Halt, TSeq, Then, Ends, TProg}
+use Rattle.t_terms.specs.Tree.{TInstr, Arith, Bnz, Ld, Malloc, Mov, St, Unpack, TEnd, Jmp, Halt, TSeq, Then, Ends}
+use Rattle.t_terms.specs.Tree.{TProg}
 use Rattle.spill_law.specs.Spill.{Home, Layout, high_part, cells, numbers, fill, build, gather, reg}
-use Rattle.spill_law.specs.Spill.{frame_reg, made_reg, target, end_target, target_file, type_of, defines, way, finish, step, code}
+use Rattle.spill_law.specs.Spill.{frame_reg, made_reg, target, end_target, target_file, type_of, defines, way}
+use Rattle.spill_law.specs.Spill.{finish, step, code}
 use Rattle.spill_law.proofs.Files.{high_regs}
 use Rattle.t_frames.specs.Onto.{built, gathers, branched, computed, ended}
 
@@ -11,7 +13,8 @@ pub build_is : (m : ℕ) (h : ℕ → Home) (to : TFile) (rest : TSeq) → build
 build_is m h to rest =
     ap (λ x. Then (Malloc (made_reg m) (cells x)) (fill m h (numbers (high_part m to)) 0 rest)) (high_regs m m to)
 
-pub gather_is : (m : ℕ) (h : ℕ → Home) (to : TFile) (rest : TSeq) → gather m h to rest ≡ gathers m h (high_part m to) rest
+pub gather_is : (m : ℕ) (h : ℕ → Home) (to : TFile) (rest : TSeq) → gather m h to rest
+    ≡ gathers m h (high_part m to) rest
 gather_is m h to rest = build_is m h to (Then (Mov (frame_reg m) (reg (made_reg m))) rest)
 
 pub step_is : (m : ℕ) (P : TProg) (L : Layout) (x : TFile) (i : TInstr) (types : List Ty) (to : TFile) (rest : TSeq) →

@@ -11,7 +11,8 @@ use Rattle.t_frames.specs.Onto.{onto}
 use Rattle.t_frames.specs.Homes.{with_slots}
 use Rattle.t_frames.proofs.Made.{onto_both}
 
-types_snoc : (ts : List TType) (t : TType) (more : List Ty) → types (ts ++ t ∷ []) ++ more ≡ types ts ++ (tree t ∷ more)
+types_snoc : (ts : List TType) (t : TType) (more : List Ty) → types (ts ++ t ∷ []) ++ more
+    ≡ types ts ++ (tree t ∷ more)
 types_snoc [] t more = refl
 types_snoc (u ∷ ts) t more = ap (λ (us : List Ty). tree u ∷ us) (types_snoc ts t more)
 
@@ -65,15 +66,21 @@ pub slots_made : (m : ℕ) (done tail made : List (Instr × Span)) (ts : List TT
 slots_made m done tail made [] some h rest = absurd (some refl)
 slots_made m done tail made (u ∷ ts) some h rest =
     h (onto tail rest)
-    ∙ ap (λ (us : List Ty). onto done (Then (Malloc (slot_reg m) (tree u ∷ us)) (onto tail rest))) (sym (no_more (types ts)))
+    ∙ ap (λ (us : List Ty). onto done (Then (Malloc (slot_reg m) (tree u ∷ us)) (onto tail rest)))
+    (sym (no_more (types ts)))
 
 -- all that is done, and nothing behind it
 pub closed : (m : ℕ) (done tail done2 tail2 : List (Instr × Span)) (ts2 : List TType) (all : TSeq → TSeq) →
-    length ts2 ≡ 0 → length tail2 ≡ 0 → done2 ≡ done ++ tail → ((rest : TSeq) → onto done (onto tail rest) ≡ all rest) →
+    length ts2 ≡ 0 → length tail2 ≡ 0 → done2 ≡ done ++ tail →
+    ((rest : TSeq) → onto done (onto tail rest) ≡ all rest) →
     ((rest : TSeq) → onto done2 rest ≡ all rest)
     × ((more : List Ty) (rest : TSeq) → whole m done2 ts2 tail2 more rest ≡ all rest)
 closed m done tail done2 (x ∷ tail2) ts2 all z n d h = absurd (omega (arith, n))
-closed m done tail done2 [] ts2 all z n d h = (here, λ more rest. sym (none_filled m done2 [] ts2 more rest z) ∙ here rest)
+closed m done tail done2 [] ts2 all z n d h = (
+  here,
+  λ more rest. sym (none_filled m done2 [] ts2 more rest z)
+      ∙ here rest,
+)
   where
     here : (rest : TSeq) → onto done2 rest ≡ all rest
     here rest = ap (λ (xs : List (Instr × Span)). onto xs rest) d ∙ onto_both done tail rest ∙ h rest

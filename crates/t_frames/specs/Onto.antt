@@ -4,11 +4,13 @@ use Rattle.idx_core.specs.declared.span.Span.{Span}
 use Rattle.t_types.specs.Tree.{Ty, TFile, MoreRegs, TFields, MoreFields}
 use Rattle.t_types.specs.Read.{tree}
 use Rattle.t_types.specs.declared.types.TType.{TType}
-use Rattle.t_terms.specs.Tree.{TBase, Reg, Int, Label, Data, TValue, Plain, Pack, TInstr, Arith, Bnz, Ld, Malloc, Mov, St}
+use Rattle.t_terms.specs.Tree.{TBase, Reg, Int, Label, Data, TValue, Plain, Pack, TInstr, Arith, Bnz, Ld, Malloc}
+use Rattle.t_terms.specs.Tree.{Mov, St}
 use Rattle.t_terms.specs.Tree.{Unpack, TEnd, Jmp, Halt, TSeq, Then, Ends}
 use Rattle.t_terms.specs.declared.instr.Instr.{Instr}
 use Rattle.t_terms.specs.Read.{instr}
-use Rattle.spill_law.specs.Spill.{Home, reg, numbers, cells, sp, sp_regs, sp_value, load, load_value, at_home, second_at}
+use Rattle.spill_law.specs.Spill.{Home, reg, numbers, cells, sp, sp_regs, sp_value, load, load_value, at_home}
+use Rattle.spill_law.specs.Spill.{second_at}
 use Rattle.spill_law.specs.Spill.{fill, into, frame_reg, first_reg, second_reg, made_reg, saved_reg}
 
 abbrev pub onto : List (Instr × Span) → TSeq → TSeq

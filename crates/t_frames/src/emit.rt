@@ -3,7 +3,8 @@ ghost use Rattle.std.specs.Prelude.{◌≡◌, ◌<◌, ◌^◌, ℕ, OnOk, leng
 ghost use Rattle.t_types.specs.Read.{file};
 ghost use Rattle.t_terms.specs.Tree.{Mov, TSeq, Then};
 ghost use Rattle.t_terms.specs.Read.{instr as instr_tree, value as value_tree};
-ghost use Rattle.spill_law.specs.Spill.{reg, numbers, load as loads, load_value as loads_value, fill as fills, first_reg, second_reg};
+ghost use Rattle.spill_law.specs.Spill.{reg, numbers, load as loads, load_value as loads_value, fill as fills};
+ghost use Rattle.spill_law.specs.Spill.{first_reg, second_reg};
 ghost use Rattle.t_frames.specs.Onto.{onto, built, gathers};
 ghost use Rattle.t_frames.specs.Homes.{home as the_home, home_in};
 

@@ -1,6 +1,7 @@
 // Which registers stay, and the six of the spilled program's own.
 ghost use Rattle.std.specs.Prelude.{◌≡◌, ◌+◌, ◌<◌, ◌≤◌, ◌^◌};
-ghost use Rattle.spill_law.specs.Spill.{lows, frame_reg, slot_reg, first_reg, second_reg, made_reg, saved_reg, into as into_reg};
+ghost use Rattle.spill_law.specs.Spill.{lows, frame_reg, slot_reg, first_reg, second_reg, made_reg, saved_reg};
+ghost use Rattle.spill_law.specs.Spill.{into as into_reg};
 
 // No register of a text is greater.
 const MOST: u64 = 9223372036854775807;

@@ -8,7 +8,8 @@ use Rattle.t_types.specs.declared.types.TType.{TType}
 use Rattle.t_types.specs.WellFormed.{max_names, RegsAbove, WellFormedFile}
 use Rattle.t_types.specs.Tree.{NoRegs, MoreRegs}
 use Rattle.t_terms.specs.Tree.{TInstr, TEnd, Jmp, Halt, TSeq, Then, Ends, TProg, names_after}
-use Rattle.spill_law.specs.Spill.{Layout, live, next, numbers, layout, slots, code, target, end_target, end_reads, defines}
+use Rattle.spill_law.specs.Spill.{Layout, live, next, numbers, layout, slots, code, target, end_target, end_reads}
+use Rattle.spill_law.specs.Spill.{defines}
 use Rattle.spill_law.proofs.Files.{RisesFrom, Ascends}
 use Rattle.spill_law.proofs.Live.{Agree, among_left, end_alike}
 use Rattle.t_frames.specs.Homes.{has_in, layout_of, text}
@@ -53,7 +54,8 @@ entered_is P y regs read i entered e same is =
     e ∙ ap (λ (xs : List (ℕ × TType)). target P (file xs) i) same ∙ ap (λ z. target P z i) is ∙ target_alone P y i
 
 -- behind an instruction whose word was computed
-pub between : (P : TProg) (n : ℕ) (y x : TFile) (old new : Walk) (i : TInstr) (c : TSeq) → Before P n y x old (Then i c) →
+pub between : (P : TProg) (n : ℕ) (y x : TFile) (old new : Walk) (i : TInstr) (c : TSeq) →
+    Before P n y x old (Then i c) →
     Knows (names_after i n) new.known (next P y i) → Tells new.ahead (live P (next P x i) c) →
     new.code.homes ≡ old.code.homes → Between P n y x new i c
 between P n y x old new i c b knows told same =
@@ -107,6 +109,7 @@ reach_more P old mid new s t i c is h f n y x b =
     )
 
 -- what an end enters
-pub ends_agree : (P : TProg) (x y : TFile) (e : TEnd) → Agree (live P x (Ends e)) x y → end_target P y e ≡ end_target P x e
+pub ends_agree : (P : TProg) (x y : TFile) (e : TEnd) → Agree (live P x (Ends e)) x y → end_target P y e
+    ≡ end_target P x e
 ends_agree P x y e ag =
     end_alike P x y e (λ r h. ag r (among_left r (end_reads e) (numbers (end_target P x e)) h))

@@ -39,10 +39,12 @@ picked_all m ws x qs i made all le h =
     sym (front_none made) ∙ ap (λ (ks : List ℕ). front made (picked m ws x ks)) (sym (drop_all i qs le)) ∙ h
 
 -- the code of a new frame
-pub frame_made : (old new : Code) (held : Homes) (rd : ℕ) (ws : List ℕ) (y x : TFile) (to : List (ℕ × TType)) (qs : List ℕ)
+pub frame_made : (old new : Code) (held : Homes) (rd : ℕ) (ws : List ℕ) (y x : TFile) (to : List (ℕ × TType))
+    (qs : List ℕ)
     (tail : List (Instr × Span)) → Sets old.homes held rd (Held (into old.homes.split.low rd)) → Lists held qs →
     file to ≡ picked held.split.low ws y qs → Frames old.homes rd ws y x →
-    ((rest : TSeq) → onto tail rest ≡ onto old.body.tail.items (gathers held.split.low (home_in held) (file to) rest)) →
+    ((rest : TSeq) → onto tail rest ≡ onto old.body.tail.items (gathers held.split.low (home_in held)
+    (file to) rest)) →
     length new.body.slots.items ≡ 0 →
     ((more : List Ty) (rest : TSeq) → text old.homes.split.low new.body more rest
     ≡ onto old.body.done.items (with_slots old.homes.split.low (types old.body.slots.items) [] (onto tail rest))) →
@@ -69,9 +71,12 @@ frame_made old new held rd ws y x to qs tail sets lists picks frames code none c
         ∙ picked_is old.homes.split.low ws y x qs held frames.0 frames.1 holds lists
 
     same : (rest : TSeq) → gathers held.split.low (home_in held) (file to) rest
-        ≡ gather old.homes.split.low (homed (home_in old.homes) rd (Held (into old.homes.split.low rd))) (keep ws x) rest
+        ≡ gather old.homes.split.low (homed (home_in old.homes) rd (Held (into old.homes.split.low rd)))
+        (keep ws x) rest
     same rest =
         ap (λ q. gathers q (home_in held) (file to) rest) sets.0
         ∙ ap (λ h. gathers old.homes.split.low h (file to) rest) (fun_ext sets.1)
-        ∙ ap (λ z. gathers old.homes.split.low (homed (home_in old.homes) rd (Held (into old.homes.split.low rd))) z rest) high
-        ∙ sym (gather_is old.homes.split.low (homed (home_in old.homes) rd (Held (into old.homes.split.low rd))) (keep ws x) rest)
+        ∙ ap (λ z. gathers old.homes.split.low
+        (homed (home_in old.homes) rd (Held (into old.homes.split.low rd))) z rest) high
+        ∙ sym (gather_is old.homes.split.low (homed (home_in old.homes) rd (Held (into old.homes.split.low rd)))
+        (keep ws x) rest)

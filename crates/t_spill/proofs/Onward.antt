@@ -62,7 +62,8 @@ instr_fits p q n (Mov rd v) few h = value_fits p q n v few h.1
 instr_fits p q n (St rd i rs) few h = tt
 instr_fits p q n (Unpack rd v) few h = value_fits p q n v few h.1
 
-pub fits_here : (P : TProg) (n : ℕ) (y : TFile) (i : TInstr) → length P.blocks < 2 ^ 64 → ReadyInstr P n y i → InstrFits i
+pub fits_here : (P : TProg) (n : ℕ) (y : TFile) (i : TInstr) → length P.blocks < 2 ^ 64 → ReadyInstr P n y i →
+    InstrFits i
 fits_here P n y i few h = instr_fits (length P.blocks) (length P.heap) n i few h.3
 
 pub end_fits : (P : TProg) (n : ℕ) (x : TFile) (e : TEnd) → length P.blocks < 2 ^ 64 → ReadyEnd P n x e → EndFits e
@@ -73,14 +74,16 @@ end_fits P n x Halt few h = tt
 module _ (P : TProg) (x y : TFile) (i : TInstr) (c : TSeq) (agrees : Agree (live P x (Then i c)) x y) where
   pub reads_agree : Agree (reads i) x y
   reads_agree r e =
-      agrees r (among_left r (reads i ++ numbers (target P x i)) (live P (next P x i) c) (among_left r (reads i) (numbers (target P x i)) e))
+      agrees r (among_left r (reads i ++ numbers (target P x i)) (live P (next P x i) c)
+      (among_left r (reads i) (numbers (target P x i)) e))
 
   pub targets_agree : target P y i ≡ target P x i
   targets_agree = target_alike P x y i reads_agree
 
   pub next_agrees : Agree (live P (next P x i) c) (next P x i) (next P y i)
   next_agrees r e =
-      next_alike P x y i reads_agree r (agrees r (among_right r (reads i ++ numbers (target P x i)) (live P (next P x i) c) e))
+      next_alike P x y i reads_agree r
+      (agrees r (among_right r (reads i ++ numbers (target P x i)) (live P (next P x i) c) e))
 
 -- the type that an instruction gives
 pub given_alike : (P : TProg) (x y : TFile) (i : TInstr) → Agree (reads i) x y → given P y i ≡ given P x i
@@ -145,7 +148,8 @@ module _ (P : TProg) (x : TFile) (i : TInstr) (c : TSeq) where
   behind hs ts done s =
       onto done (with_slots hs.split.low (types ts) (slots hs.split.low P (length ts) x (Then i c)) s)
 
-  pub text_computed : (hs hs2 : Homes) (ts ts2 : List TType) (done done2 tail tail2 : List (Instr × Span)) (high : TFile) →
+  pub text_computed : (hs hs2 : Homes) (ts ts2 : List TType) (done done2 tail tail2 : List (Instr × Span))
+      (high : TFile) →
       hs2 ≡ hs → ts2 ≡ ts → done2 ≡ done → high ≡ high_part hs.split.low (target P x i) →
       ((rest : TSeq) → onto tail2 rest ≡ onto tail (computed hs.split.low (home_in hs) high i rest)) →
       behind hs2 ts2 done2 (onto tail2 (follows hs2 ts2))
@@ -155,9 +159,12 @@ module _ (P : TProg) (x : TFile) (i : TInstr) (c : TSeq) where
       (kept P x i c) c)))
   text_computed hs hs2 ts ts2 done done2 tail tail2 high eh et ed is h =
       ap (behind hs2 ts2 done2) (h (follows hs2 ts2))
-      ∙ ap (λ (k : Homes). behind k ts2 done2 (onto tail (computed hs.split.low (home_in hs) high i (follows k ts2)))) eh
-      ∙ ap (λ (us : List TType). behind hs us done2 (onto tail (computed hs.split.low (home_in hs) high i (follows hs us)))) et
-      ∙ ap (λ (xs : List (Instr × Span)). behind hs ts xs (onto tail (computed hs.split.low (home_in hs) high i (follows hs ts)))) ed
+      ∙ ap (λ (k : Homes). behind k ts2 done2
+      (onto tail (computed hs.split.low (home_in hs) high i (follows k ts2)))) eh
+      ∙ ap (λ (us : List TType). behind hs us done2
+      (onto tail (computed hs.split.low (home_in hs) high i (follows hs us)))) et
+      ∙ ap (λ (xs : List (Instr × Span)). behind hs ts xs
+      (onto tail (computed hs.split.low (home_in hs) high i (follows hs ts)))) ed
       ∙ ap (λ z. behind hs ts done (onto tail (computed hs.split.low (home_in hs) z i (follows hs ts)))) is
       ∙ ap (λ s. behind hs ts done (onto tail s))
       (sym (step_is hs.split.low P (record { homes = home_in hs; used = length ts }) x i

@@ -57,10 +57,12 @@ same_file (MoreRegs r t x) (MoreRegs q u z) a b e =
         let no : Some t ≡ None = sym (look_first r t x) ∙ e r
         ∙ none_below r (MoreRegs q u z) r (lt, b) (omega arith) in cc
     go f (inr (inl is)) =
-        let same : t ≡ u = some_same t u (sym (look_first r t x) ∙ e r ∙ ap (lookup (MoreRegs q u z)) is ∙ look_first q u z) in
+        let same : t ≡ u = some_same t u (sym (look_first r t x) ∙ e r ∙ ap (lookup (MoreRegs q u z)) is
+        ∙ look_first q u z) in
         ap₂ (λ p v. MoreRegs p v x) is same ∙ ap (MoreRegs q u) (f is)
     go f (inr (inr gt)) =
-        let no : None ≡ Some u = sym (none_below q (MoreRegs r t x) q (gt, a) (omega arith)) ∙ e q ∙ look_first q u z in cc
+        let no : None ≡ Some u = sym (none_below q (MoreRegs r t x) q (gt, a) (omega arith)) ∙ e q
+        ∙ look_first q u z in cc
 
 -- what is above m
 if_above : (b : Bool) (q : ℕ) (t : Ty) (x : TFile) (r : ℕ) (o : Option Ty) (c : Bool) → lookup x r ≡ cond c o None →
@@ -146,12 +148,14 @@ module _ (m : ℕ) (ws : List ℕ) (x : TFile) where
       (λ (ne : q ≡ r → ⊥). other_picked q r (picked m ws x qs) (wanted m ws q) ne ∙ rest)
       (cases_eq q r)
 
-  all_picked : (qs : List ℕ) (r : ℕ) → wanted m ws r ≡ true → among r qs ≡ true → lookup (picked m ws x qs) r ≡ lookup x r
+  all_picked : (qs : List ℕ) (r : ℕ) → wanted m ws r ≡ true → among r qs ≡ true → lookup (picked m ws x qs) r
+      ≡ lookup x r
   all_picked [] r w h = cc
   all_picked (q ∷ qs) r w h =
       ⊎_elim
       (λ (is : q ≡ r).
-      ap (λ b. lookup (cond b (picked_one q (lookup x q) (picked m ws x qs)) (picked m ws x qs)) r) (ap (wanted m ws) is ∙ w)
+      ap (λ b. lookup (cond b (picked_one q (lookup x q) (picked m ws x qs)) (picked m ws x qs)) r)
+      (ap (wanted m ws) is ∙ w)
       ∙ look_same q (lookup x q) (picked m ws x qs) r is
       (λ none. unknown_picked qs r (sym (ap (lookup x) is) ∙ none)) ∙ ap (lookup x) is)
       (λ (ne : q ≡ r → ⊥). other_picked q r (picked m ws x qs) (wanted m ws q) ne
@@ -166,7 +170,8 @@ module _ (m : ℕ) (ws : List ℕ) (x : TFile) where
   rises_picked low [] h = tt
   rises_picked low (q ∷ qs) h = go (wanted m ws q) (rises_picked q qs h.1)
     where
-      go : (b : Bool) → RisesFrom q (picked m ws x qs) → RisesFrom low (cond b (picked_one q (lookup x q) (picked m ws x qs)) (picked m ws x qs))
+      go : (b : Bool) → RisesFrom q (picked m ws x qs) →
+          RisesFrom low (cond b (picked_one q (lookup x q) (picked m ws x qs)) (picked m ws x qs))
       go true k = rises_one low q (lookup x q) (picked m ws x qs) h.0 k
       go false k = less low q (picked m ws x qs) h.0 k
 
@@ -178,7 +183,8 @@ module _ (m : ℕ) (ws : List ℕ) (x : TFile) where
   ascends_picked [] h = tt
   ascends_picked (q ∷ qs) h = go (wanted m ws q) (rises_picked q qs h)
     where
-      go : (b : Bool) → RisesFrom q (picked m ws x qs) → Ascends (cond b (picked_one q (lookup x q) (picked m ws x qs)) (picked m ws x qs))
+      go : (b : Bool) → RisesFrom q (picked m ws x qs) →
+          Ascends (cond b (picked_one q (lookup x q) (picked m ws x qs)) (picked m ws x qs))
       go true k = ascends_one q (lookup x q) (picked m ws x qs) k
       go false k = rises_ascends q (picked m ws x qs) k
 
@@ -250,4 +256,5 @@ front_one (y ∷ (z ∷ ys)) r (Some t) rest e = cc
 pub put_shown : (old new shown : List (ℕ × TType)) (r : ℕ) (o : Option Ty) (rest : TFile) → new ≡ old ++ shown →
     file shown ≡ one r o → front new rest ≡ front old (picked_one r o rest)
 put_shown old new shown r o rest e is =
-    ap (λ (xs : List (ℕ × TType)). front xs rest) e ∙ front_both old shown rest ∙ ap (front old) (front_one shown r o rest is)
+    ap (λ (xs : List (ℕ × TType)). front xs rest) e ∙ front_both old shown rest ∙ ap (front old)
+    (front_one shown r o rest is)

@@ -3,7 +3,8 @@ use Rattle.std.specs.Prelude.{ℕ, List, [], ◌∷◌, length}
 use Rattle.std.specs.Coded.{le_prop, Unit-prop}
 use Rattle.t_types.specs.Tree.{Ty, IntTy, VarTy, CodeTy, ExistsTy, TupleTy, TFile}
 use Rattle.t_types.specs.WellFormed.{well_formed_prop, regs_above_prop, types_prop}
-use Rattle.t_terms.specs.Tree.{TBase, Reg, Int, Label, Data, TValue, Plain, Pack, TInstr, Arith, Bnz, Ld, Malloc, Mov, St, Unpack, TEnd, Jmp, Halt, TSeq, Then, Ends, TBlock, TProg, names_after}
+use Rattle.t_terms.specs.Tree.{TBase, Reg, Int, Label, Data, TValue, Plain, Pack, TInstr, Arith, Bnz, Ld, Malloc}
+use Rattle.t_terms.specs.Tree.{Mov, St, Unpack, TEnd, Jmp, Halt, TSeq, Then, Ends, TBlock, TProg, names_after}
 use Rattle.t_terms.specs.Whole.{WellFormedBase, WellFormedValue, WellFormedInstr}
 use Rattle.spill_law.specs.Spill.{base_type, next}
 use Rattle.t_spill.specs.Ready.{Enough, Applies, InstrApplies, ReadyInstr, ReadyEnd, Ready, BlocksReady}
@@ -16,7 +17,8 @@ base_prop p q (Data d) = le_prop
 
 value_prop : (p q n : ℕ) (v : TValue) → IsProp (WellFormedValue p q n v)
 value_prop p q n (Plain b ts) = let x = base_prop p q b in let y = types_prop n ts in hlevel (x, y)
-value_prop p q n (Pack t v s) = let x = well_formed_prop n t in let y = value_prop p q n v in let z = well_formed_prop n s in hlevel (x, y, z)
+value_prop p q n (Pack t v s) = let x = well_formed_prop n t in let y = value_prop p q n v in let z =
+    well_formed_prop n s in hlevel (x, y, z)
 
 instr_prop : (p q n : ℕ) (i : TInstr) → IsProp (WellFormedInstr p q n i)
 instr_prop p q n (Arith op rd rs v) = let x = value_prop p q n v in hlevel (le_prop, x)
@@ -50,15 +52,18 @@ instr_applies_prop P x (Unpack rd v) = applies_prop P x v
 
 ready_instr_prop : (P : TProg) (n : ℕ) (x : TFile) (i : TInstr) → IsProp (ReadyInstr P n x i)
 ready_instr_prop P n x i =
-    let a = regs_above_prop 0 n x in let b = instr_prop (length P.blocks) (length P.heap) n i in let c = instr_applies_prop P x i in hlevel (le_prop, a, b, c)
+    let a = regs_above_prop 0 n x in let b = instr_prop (length P.blocks)
+    (length P.heap) n i in let c = instr_applies_prop P x i in hlevel (le_prop, a, b, c)
 
 ready_end_prop : (P : TProg) (n : ℕ) (x : TFile) (e : TEnd) → IsProp (ReadyEnd P n x e)
 ready_end_prop P n x (Jmp v) =
-    let a = regs_above_prop 0 n x in let b = value_prop (length P.blocks) (length P.heap) n v in let c = applies_prop P x v in hlevel (le_prop, a, b, c)
+    let a = regs_above_prop 0 n x in let b = value_prop (length P.blocks)
+    (length P.heap) n v in let c = applies_prop P x v in hlevel (le_prop, a, b, c)
 ready_end_prop P n x Halt = let a = regs_above_prop 0 n x in hlevel (le_prop, a)
 
 ready_prop : (P : TProg) (c : TSeq) (n : ℕ) (x : TFile) → IsProp (Ready P n x c)
-ready_prop P (Then i c) n x = let a = ready_instr_prop P n x i in let b = ready_prop P c (names_after i n) (next P x i) in hlevel (a, b)
+ready_prop P (Then i c) n x = let a = ready_instr_prop P n x i in let b = ready_prop P c (names_after i n)
+    (next P x i) in hlevel (a, b)
 ready_prop P (Ends e) n x = ready_end_prop P n x e
 
 pub blocks_prop : (P : TProg) (bs : List TBlock) → IsProp (BlocksReady P bs)

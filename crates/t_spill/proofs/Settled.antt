@@ -8,7 +8,8 @@ use Rattle.t_types.specs.Tree.{Ty, TFile, shift_file}
 use Rattle.t_types.specs.Fits.{lookup}
 use Rattle.t_terms.specs.Tree.{TInstr, Arith, Bnz, Ld, Malloc, Mov, St, Unpack, TSeq, TProg, names_after}
 use Rattle.spill_law.specs.Spill.{Held, Layout, Way, Stays, Fills, Gathers, homed, into, sp, or_int, ins, next, kept}
-use Rattle.spill_law.specs.Spill.{keep, live, among, numbers, high_part, layout, gather, defines, way, way_of, after_way}
+use Rattle.spill_law.specs.Spill.{keep, live, among, numbers, high_part, layout, gather, defines, way, way_of}
+use Rattle.spill_law.specs.Spill.{after_way}
 use Rattle.spill_law.specs.Spill.{slots_by, used_by, slots, finish, fill_slot, code, most_slots}
 use Rattle.spill_law.proofs.Files.{lookup_ins, look_same}
 use Rattle.spill_law.proofs.Live.{kept_wants, kept_agrees, kept_sub, kept_ascends}
@@ -32,7 +33,8 @@ stays_low : (m u rd : ℕ) → way_of m u rd ≡ Stays → rd ≤ m
 stays_low m u rd e =
     ⊎_elim
     (λ (lt : m < rd).
-    let one = sym (ap (λ b. kind (cond b (cond (nat_lt u most_slots) Fills Gathers) Stays)) (lt-ltb m rd lt)) ∙ ap kind e in
+    let one = sym (ap (λ b. kind (cond b (cond (nat_lt u most_slots) Fills Gathers) Stays)) (lt-ltb m rd lt))
+    ∙ ap kind e in
     absurd (go (nat_lt u most_slots) one))
     (λ (le : rd ≤ m). le)
     (cases_lt m rd)
@@ -55,7 +57,8 @@ fills_high m u rd e =
     ⊎_elim
     (λ (lt : m < rd). lt)
     (λ (le : rd ≤ m).
-    let no = sym (ap (λ b. kind (cond b (cond (nat_lt u most_slots) Fills Gathers) Stays)) (le-ltb m rd le)) ∙ ap kind e in
+    let no = sym (ap (λ b. kind (cond b (cond (nat_lt u most_slots) Fills Gathers) Stays)) (le-ltb m rd le))
+    ∙ ap kind e in
     absurd (omega (arith, no)))
     (cases_lt m rd)
 
@@ -101,14 +104,16 @@ module _ (P : TProg) (x : TFile) (w : Walk) (i : TInstr) (c : TSeq) where
       (slots (low w) P (used_by v (used w.code)) (kept P x i c) c) in
       text (low w) w.code.body ts
       (finish (low w) (layout_of w.code.homes w.code.body) (defines i) ts (kept P x i c) v
-      (code (low w) P (after_way (low w) (layout_of w.code.homes w.code.body) (defines i) (kept P x i c) v) (kept P x i c) c))
+      (code (low w) P (after_way (low w) (layout_of w.code.homes w.code.body) (defines i) (kept P x i c) v)
+      (kept P x i c) c))
 
   finished_is : (v : Way) → way (low w) (used w.code) i ≡ v → finished P x w i c ≡ by_way v
   finished_is v e = ap by_way e
 
 -- the walk behind the instruction, but for the homes of its registers
 before_next : (P : TProg) (n : ℕ) (y x : TFile) (old new : Walk) (i : TInstr) (c : TSeq) → Between P n y x old i c →
-    new.known ≡ old.known → new.ahead ≡ old.ahead → Homed (low new) (live P (kept P x i c) c) (kept P x i c) new.code.homes →
+    new.known ≡ old.known → new.ahead ≡ old.ahead → Homed (low new) (live P (kept P x i c) c)
+    (kept P x i c) new.code.homes →
     Before P (names_after i n) (next P y i) (kept P x i c) new c
 before_next P n y x old new i c b k a h =
     let wants = kept_wants P i x c in
@@ -143,7 +148,8 @@ settle_stays P n y x w i c b e = (
       (λ r t lt is k.
       let old = b.homed r t lt (still_wanted P x i c r t is) (was_known P x i c r t k) in
       let le = stays_defines (low w) (used w.code) i e in
-      sym (ap (λ d. cond d true (has_in w.code.homes r)) (ne_eqb (defines i) r (λ z. absurd (omega (arith, z, lt, le))))) ∙ old),
+      sym (ap (λ d. cond d true (has_in w.code.homes r))
+      (ne_eqb (defines i) r (λ z. absurd (omega (arith, z, lt, le))))) ∙ old),
   sym (finished_is P x w i c Stays e),
 )
 
@@ -161,7 +167,8 @@ settle_fills P n y x old new i c t b e k a same f =
           f.0.2 r lt2 ∙ b.homed r u lt2 (still_wanted P x i c r u is) (was_known P x i c r u z)),
       ap (λ q. text q new.code.body (slots q P (used new.code) (kept P x i c) c)
           (code q P (layout_of new.code.homes new.code.body) (kept P x i c) c)) f.0.0
-          ∙ f.2 (slots m P (used new.code) (kept P x i c) c) (code m P (layout_of new.code.homes new.code.body) (kept P x i c) c)
+          ∙ f.2 (slots m P (used new.code) (kept P x i c) c)
+          (code m P (layout_of new.code.homes new.code.body) (kept P x i c) c)
           ∙ ap (λ z. text m old.code.body (z ∷ slots m P (used new.code) (kept P x i c) c)
           (fill_slot m (used old.code) (z ∷ slots m P (used new.code) (kept P x i c) c)
           (code m P (layout_of new.code.homes new.code.body) (kept P x i c) c)))
@@ -183,11 +190,13 @@ pub frames : (P : TProg) (n : ℕ) (y x : TFile) (w : Walk) (i : TInstr) (c : TS
 frames P n y x w i c b = (ascends_next P x i b.rises, b.agrees, b.homed)
 
 pub settle_gathers : (P : TProg) (n : ℕ) (y x : TFile) (old new : Walk) (i : TInstr) (c : TSeq) →
-    Between P n y x old i c → way (low old) (used old.code) i ≡ Gathers → new.known ≡ old.known → new.ahead ≡ old.ahead →
+    Between P n y x old i c → way (low old) (used old.code) i ≡ Gathers → new.known ≡ old.known → new.ahead
+    ≡ old.ahead →
     Gathered old.code new.code (defines i) (live P (next P x i) c) (next P x i) → Settles P n y x old new i c
 settle_gathers P n y x old new i c b e k a g =
     let m = low old in
-    let to : kept P x i c ≡ keep (live P (next P x i) c) (next P x i) = gathers_kept P x (low old) (used old.code) i c e in (
+    let to : kept P x i c ≡ keep (live P (next P x i) c) (next P x i) = gathers_kept P x (low old)
+    (used old.code) i c e in (
       g.0,
       before_next P n y x old new i c b k a
           (λ r u lt is z.
@@ -195,10 +204,13 @@ settle_gathers P n y x old new i c b e k a g =
           g.3 r ∙ ap (λ f. among r (numbers (high_part m f))) (sym to) ∙ high_listed m (kept P x i c) r u lt2 z),
       ap (λ q. text q new.code.body (slots q P (used new.code) (kept P x i c) c)
           (code q P (layout_of new.code.homes new.code.body) (kept P x i c) c)) g.0
-          ∙ g.4 (slots m P (used new.code) (kept P x i c) c) (code m P (layout_of new.code.homes new.code.body) (kept P x i c) c)
-          ∙ ap (λ f. text m old.code.body [] (gather m (homed (home_in old.code.homes) (defines i) (Held (into m (defines i)))) f
+          ∙ g.4 (slots m P (used new.code) (kept P x i c) c)
+          (code m P (layout_of new.code.homes new.code.body) (kept P x i c) c)
+          ∙ ap (λ f. text m old.code.body []
+          (gather m (homed (home_in old.code.homes) (defines i) (Held (into m (defines i)))) f
           (code m P (layout_of new.code.homes new.code.body) (kept P x i c) c))) (sym to)
-          ∙ ap (λ L. text m old.code.body [] (gather m (homed (home_in old.code.homes) (defines i) (Held (into m (defines i))))
+          ∙ ap (λ L. text m old.code.body []
+          (gather m (homed (home_in old.code.homes) (defines i) (Held (into m (defines i))))
           (kept P x i c) (code m P L (kept P x i c) c)))
           (same_layout (layout_of new.code.homes new.code.body) (layout m (kept P x i c))
           (λ r. g.2 r ∙ ap (λ f. (layout m f).homes r) (sym to)) g.1)

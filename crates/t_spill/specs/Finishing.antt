@@ -3,7 +3,8 @@ use Rattle.std.specs.Prelude.{◌≡◌, ℕ, suc, ◌<◌, true, cond, nat_eq, 
 use Rattle.t_types.specs.Tree.{Ty, TFile}
 use Rattle.t_types.specs.Fits.{lookup}
 use Rattle.t_terms.specs.Tree.{TSeq}
-use Rattle.spill_law.specs.Spill.{Held, InSlot, homed, into, keep, layout, gather, fill_slot, among, numbers, high_part}
+use Rattle.spill_law.specs.Spill.{Held, InSlot, homed, into, keep, layout, gather, fill_slot, among, numbers}
+use Rattle.spill_law.specs.Spill.{high_part}
 use Rattle.spill_law.proofs.Files.{Ascends}
 use Rattle.spill_law.proofs.Live.{Agree}
 use Rattle.t_frames.specs.Homes.{home_in, has_in, Sets, text}

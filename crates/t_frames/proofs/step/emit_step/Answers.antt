@@ -12,7 +12,8 @@ returns-in-Arith c =
     let hs = c.args.homes.now in
     let high = file c.args.target.now in
     on_ok_weaker c.emit_arith.result
-    (λ h rest. h high rest ∙ ap (λ (i : Instr). onto c.args.code.now.items (computed hs.split.low (home_in hs) high (instr i) rest)) (sym c.in-Arith.is))
+    (λ h rest. h high rest ∙ ap (λ (i : Instr). onto c.args.code.now.items
+    (computed hs.split.low (home_in hs) high (instr i) rest)) (sym c.in-Arith.is))
     c.emit_arith.ensures
 
 pub returns-in-Ld : goal.returns-in-Ld
@@ -20,7 +21,8 @@ returns-in-Ld c =
     let hs = c.args.homes.now in
     let high = file c.args.target.now in
     on_ok_weaker c.emit_load.result
-    (λ h rest. h high rest ∙ ap (λ (i : Instr). onto c.args.code.now.items (computed hs.split.low (home_in hs) high (instr i) rest)) (sym c.in-Ld.is))
+    (λ h rest. h high rest ∙ ap (λ (i : Instr). onto c.args.code.now.items
+    (computed hs.split.low (home_in hs) high (instr i) rest)) (sym c.in-Ld.is))
     c.emit_load.ensures
 
 pub returns-in-St : goal.returns-in-St
@@ -28,5 +30,6 @@ returns-in-St c =
     let hs = c.args.homes.now in
     let high = file c.args.target.now in
     on_ok_weaker c.emit_store.result
-    (λ h rest. h high rest ∙ ap (λ (i : Instr). onto c.args.code.now.items (computed hs.split.low (home_in hs) high (instr i) rest)) (sym c.in-St.is))
+    (λ h rest. h high rest ∙ ap (λ (i : Instr). onto c.args.code.now.items
+    (computed hs.split.low (home_in hs) high (instr i) rest)) (sym c.in-St.is))
     c.emit_store.ensures

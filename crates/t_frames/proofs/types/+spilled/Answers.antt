@@ -22,7 +22,8 @@ spilled_file-returns t c =
     sym (front_none c.push.new.self.items) ∙ ap (λ (xs : List (ℕ × TType)). front xs NoRegs) c.in_ok-push.ensures.items
     ∙ front_snoc lows (c.frame.result, Tuple frame) NoRegs
     ∙ ap (λ q. front lows (MoreRegs q (tree (Tuple frame)) NoRegs)) c.frame.ensures
-    ∙ divided_all m c.args.regs.now lows frame.items c.loop-reg.reg-index (tree (Tuple frame)) c.loop-reg-test.false (tree_Tuple frame) c.loop-reg.invariant
+    ∙ divided_all m c.args.regs.now lows frame.items c.loop-reg.reg-index
+    (tree (Tuple frame)) c.loop-reg-test.false (tree_Tuple frame) c.loop-reg.invariant
 
 pub spilled_type-returns-in_ok-fs-in-Tuple : goal.spilled_type-returns-in_ok-fs-in-Tuple
 spilled_type-returns-in_ok-fs-in-Tuple t c =

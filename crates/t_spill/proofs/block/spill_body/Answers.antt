@@ -24,7 +24,8 @@ loop-entry-preserved c =
     let P = program c.args.program.now in
     let at = c.loop-entry.entry-index in
     let here = tail_one c.args.body.now c.args.«end».now at c.entry-item.result c.loop-entry-test.true c.entry-item.is in
-    reach_more P c.args.walk.now c.loop-entry.walk c.spill_instr.new.walk _ _ (instr c.entry-item.result.0) _ here c.loop-entry.invariant
+    reach_more P c.args.walk.now c.loop-entry.walk c.spill_instr.new.walk _ _
+    (instr c.entry-item.result.0) _ here c.loop-entry.invariant
     (λ n y x b. c.in_ok-spill_instr.ensures n y x _ b)
 
 pub returns : goal.returns
@@ -32,5 +33,6 @@ returns c =
     let P = program c.args.program.now in
     let xs = c.args.body.now in
     let e = c.args.«end».now in
-    subst (Reaches P c.args.walk.now (tail_of xs e 0) c.loop-entry.walk) (tail_end xs e c.loop-entry.entry-index c.loop-entry-test.false)
+    subst (Reaches P c.args.walk.now (tail_of xs e 0) c.loop-entry.walk)
+    (tail_end xs e c.loop-entry.entry-index c.loop-entry-test.false)
     c.loop-entry.invariant

@@ -20,8 +20,13 @@ part-requires c =
     let h = c.requires.stands in
     let P = program c.args.program.now in
     let e = end_of c.args.«end».now in
-    let b = h.3 in
-    (h.0, h.1, b.knows, subst (λ o. MayShow h.0 o h.1) (sym c.subject_of_end.ensures) (end_may_show P h.0 h.1 e b.ready))
+    let b = h.3 in (
+      h.0,
+      h.1,
+      b.knows,
+      subst (λ o. MayShow h.0 o h.1) (sym c.subject_of_end.ensures)
+          (end_may_show P h.0 h.1 e b.ready),
+    )
 
 pub target_of_end-requires : goal.target_of_end-requires
 target_of_end-requires c =

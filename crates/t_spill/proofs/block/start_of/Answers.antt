@@ -8,7 +8,8 @@ use Rattle.t_spill.proofs.block.start_of.Goals as goal
 pub returns : goal.returns
 returns c =
     let m = c.args.split.low in
-    let known = λ (n : ℕ). subst (λ (xs : List (ℕ × TType)). Knows n c.in_ok-known.known (file xs)) c.deref.ensures.value (c.in_ok-known.ensures n) in
+    let known = λ (n : ℕ). subst (λ (xs : List (ℕ × TType)). Knows n c.in_ok-known.known
+    (file xs)) c.deref.ensures.value (c.in_ok-known.ensures n) in
     let g = c.in_ok-homes.ensures in
     let high = ap file c.deref-2.ensures.value ∙ c.in_ok-high.ensures ∙ ap (high_part m) c.in_ok-copied.ensures in (
       known,

@@ -10,5 +10,6 @@ returns-then-is_wanted c =
     on_ok_weaker c.put_known.result
     (λ h n x rest k.
     h n x rest k
-    ∙ ap (λ b. front c.args.made.now.items (cond b (picked_one c.args.r (lookup x c.args.r) rest) rest)) (sym c.if-is_wanted.true))
+    ∙ ap (λ b. front c.args.made.now.items (cond b (picked_one c.args.r (lookup x c.args.r) rest) rest))
+    (sym c.if-is_wanted.true))
     c.put_known.ensures

@@ -8,4 +8,5 @@ use Rattle.t_spill.proofs.picking.picked.Given as goal
 
 abbrev pub invariant-loop-r : goal.invariant-loop-r
 invariant-loop-r l = (n : ℕ) (x : TFile) (ws : List ℕ) → Knows n l.known x → Tells l.ahead ws →
-    front l.made.items (picked l.homes.split.low ws x (drop l.r-index l.r-items)) ≡ picked l.homes.split.low ws x l.r-items
+    front l.made.items (picked l.homes.split.low ws x (drop l.r-index l.r-items))
+    ≡ picked l.homes.split.low ws x l.r-items

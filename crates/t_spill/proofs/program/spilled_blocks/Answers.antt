@@ -11,4 +11,5 @@ loop-block-preserved c =
     one_block c.args.split.low (program c.args.program.now) c.args.blocks.now c.loop-block.block-index c.block-item.result c.loop-block.made.items _ c.in_ok-block.block _ c.loop-block-test.true c.block-item.is c.in_ok-push-2.ensures.items c.in_ok-block.ensures c.loop-block.invariant
 
 pub returns : goal.returns
-returns c = all_blocks c.args.split.low (program c.args.program.now) c.args.blocks.now c.loop-block.made.items c.loop-block.block-index _ c.loop-block-test.false c.loop-block.invariant
+returns c = all_blocks c.args.split.low
+    (program c.args.program.now) c.args.blocks.now c.loop-block.made.items c.loop-block.block-index _ c.loop-block-test.false c.loop-block.invariant

@@ -17,7 +17,8 @@ pub spilled_blocks-requires-clause-ready : goal.spilled_blocks-requires-clause-r
 spilled_blocks-requires-clause-ready c =
     let P = program c.args.program.now in
     subst (λ (bs : List Block). BlocksReady P (blocks_of bs)) (sym c.deref.ensures.value)
-    (∥∥₁_elim c.requires.accepted (blocks_prop P P.blocks) (λ a. ∥∥₁_elim c.requires.names (blocks_prop P P.blocks) (λ f. blocks_ready P c.args.program.now.whole a f)))
+    (∥∥₁_elim c.requires.accepted (blocks_prop P P.blocks)
+    (λ a. ∥∥₁_elim c.requires.names (blocks_prop P P.blocks) (λ f. blocks_ready P c.args.program.now.whole a f)))
 
 pub spilled_blocks-requires-clause-few : goal.spilled_blocks-requires-clause-few
 spilled_blocks-requires-clause-few c =
@@ -28,7 +29,8 @@ pub spilled_heap-requires : goal.spilled_heap-requires
 spilled_heap-requires c =
     let n : length c.args.program.now.blocks.items < 2 ^ 64 = search rules in
     subst (λ (xs : List Data). HeapReady (data_of xs)) (sym c.deref-2.ensures.value)
-    (heap_ready (program c.args.program.now) (omega (arith, n, blocks_count c.args.program.now.blocks.items)) c.args.program.now.whole)
+    (heap_ready (program c.args.program.now)
+    (omega (arith, n, blocks_count c.args.program.now.blocks.items)) c.args.program.now.whole)
 
 made : (m k : ℕ) (P : TProg) (bs : List Block) (ds : List Data) → m ≡ lows k →
     blocks_of bs ≡ entry m ∷ sp_blocks m P P.blocks → data_of ds ≡ map (sp_data m) P.heap → parts bs ds ≡ spilled k P
@@ -46,7 +48,8 @@ invariant_of-result c =
     (c.in_ok-heap.ensures ∙ ap (λ (xs : List Data). map (sp_data m) (data_of xs)) c.deref-2.ensures.value) in
     let goal_prop = whole_prop (spilled k P) in
     let whole : Whole (spilled k P) = ∥∥₁_elim c.requires.accepted goal_prop
-    (λ a. ∥∥₁_elim c.requires.names goal_prop (λ f. c.programs_are_whole.ensures k P c.requires.least c.args.program.now.whole a f)) in
+    (λ a. ∥∥₁_elim c.requires.names goal_prop
+    (λ f. c.programs_are_whole.ensures k P c.requires.least c.args.program.now.whole a f)) in
     record { whole = subst Whole (sym same) whole }
 
 pub returns : goal.returns

@@ -58,7 +58,8 @@ returns c =
     let ws = live P (next P x i) s in
     let entered = entered_is P y c.args.read.now.regs.items c.deref.result.now i c.in_ok-entered.entered.items c.in_ok-entered.ensures c.deref.ensures.value e in
     let told = c.pass_instr.ensures ws
-    (subst (λ (xs : List (ℕ × TType)). Tells w.ahead (reads i ++ numbers (file xs) ++ ws)) (sym c.deref-2.ensures.value)
+    (subst (λ (xs : List (ℕ × TType)). Tells w.ahead (reads i ++ numbers (file xs) ++ ws))
+    (sym c.deref-2.ensures.value)
     (subst (Tells w.ahead) (wants_here P x y i s c.in_ok-entered.entered.items b.agrees entered) b.told)) in
     let high = ap file c.deref-3.ensures.value ∙ c.in_ok-high.ensures
     ∙ ap (high_part m) (entered ∙ targets_agree P x y i s b.agrees) in
@@ -70,7 +71,8 @@ returns c =
       refl,
       between P n y x w new i s b (h n y b.knows e) told refl,
       text_computed P x i s w.code.homes w.code.homes w.code.body.slots.items w.code.body.slots.items
-          w.code.body.done.items w.code.body.done.items w.code.body.tail.items c.emit_step.new.code.items (file c.deref-3.result.now)
+          w.code.body.done.items w.code.body.done.items w.code.body.tail.items c.emit_step.new.code.items
+          (file c.deref-3.result.now)
           refl refl refl high c.in_ok-emit_step.ensures,
     ))
     c.advance.ensures

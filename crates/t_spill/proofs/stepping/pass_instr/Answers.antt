@@ -21,7 +21,8 @@ pass-requires-2 c =
     let ns = numbers (file c.args.entered.now) in
     let n = c.count_instr.result in
     let within = front_within rs ns h.0 n c.count_instr.ensures in
-    let passed = subst (Tells c.pass.new.self) (passed_front rs ns h.0 n c.count_instr.ensures) (c.pass.ensures _ within h.1) in
+    let passed = subst (Tells c.pass.new.self) (passed_front rs ns h.0 n c.count_instr.ensures)
+    (c.pass.ensures _ within h.1) in
     let a = length_front ns h.0 in
     let b = count_numbers c.args.entered.now in
     (ns ++ h.0, passed, omega (arith, a, b))
@@ -32,7 +33,8 @@ returns c = λ ws told.
     let ns = numbers (file c.args.entered.now) in
     let n = c.count_instr.result in
     let within = front_within rs ns ws n c.count_instr.ensures in
-    let passed = subst (Tells c.pass.new.self) (passed_front rs ns ws n c.count_instr.ensures) (c.pass.ensures _ within told) in
+    let passed = subst (Tells c.pass.new.self) (passed_front rs ns ws n c.count_instr.ensures)
+    (c.pass.ensures _ within told) in
     let a = length_front ns ws in
     let b = count_numbers c.args.entered.now in
     subst (Tells c.pass-2.new.self) (drop_front ns ws (length c.args.entered.now) (omega (arith, b)))

@@ -32,7 +32,8 @@ fill-requires c =
     let i = instr c.args.i.now in
     let count : used w.code ≡ c.len-used.result = search rules in
     let way_is = ap (λ u. way w.code.homes.split.low u i) count ∙ sym c.decide.ensures ∙ ap way_tree c.in-Fills.is in
-    subst (λ r. w.code.homes.split.low < r) (sym c.defined.ensures) (fills_defines w.code.homes.split.low (used w.code) i way_is)
+    subst (λ r. w.code.homes.split.low < r) (sym c.defined.ensures)
+    (fills_defines w.code.homes.split.low (used w.code) i way_is)
 
 pub returns-in_ok-ty-in-Fills : goal.returns-in_ok-ty-in-Fills
 returns-in_ok-ty-in-Fills c =
@@ -44,7 +45,8 @@ returns-in_ok-ty-in-Fills c =
     let i = instr c.args.i.now in
     let new = record w { code = c.fill.new.code } in
     let t = tree c.in_ok-ty-in-Fills.ty in
-    let gives = c.in_ok-ty-in-Fills.ensures ∙ ap (sp w.code.homes.split.low) (ap (λ z. given P z i) e ∙ given_alone P y i ∙ b.typed) in
+    let gives = c.in_ok-ty-in-Fills.ensures ∙ ap (sp w.code.homes.split.low)
+    (ap (λ z. given P z i) e ∙ given_alone P y i ∙ b.typed) in
     settle_fills P n y x w new i s t b
     (ap (λ u. way w.code.homes.split.low u i) count ∙ sym c.decide.ensures ∙ ap way_tree c.in-Fills.is) refl refl gives
     (subst (λ r. Filled w.code new.code r t) c.defined.ensures f))
@@ -70,7 +72,8 @@ returns-in-Gathers c =
     let new = record w { code = c.make_frame.new.code } in
     let ws = live P (next P x i) s in
     let at = c.defined-in-Gathers in
-    let framed = subst (λ r. Frames w.code.homes r ws (next P y i) (next P x i)) (sym at.ensures) (frames P n y x w i s b) in
+    let framed = subst (λ r. Frames w.code.homes r ws (next P y i) (next P x i)) (sym at.ensures)
+    (frames P n y x w i s b) in
     settle_gathers P n y x w new i s b
     (ap (λ u. way w.code.homes.split.low u i) count ∙ sym c.decide.ensures ∙ ap way_tree c.in-Gathers.is) refl refl
     (subst (λ r. Gathered w.code new.code r ws (next P x i)) at.ensures

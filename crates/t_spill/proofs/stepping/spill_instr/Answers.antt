@@ -11,8 +11,13 @@ pub part-requires : goal.part-requires
 part-requires c =
     let h = c.requires.stands in
     let P = program c.args.program.now in
-    let b = h.4 in
-    (h.0, h.1, b.knows, subst (λ o. MayShow h.0 o h.1) (sym c.subject_of.ensures) (may_show P h.0 h.1 (instr c.args.i.now) b.ready.0))
+    let b = h.4 in (
+      h.0,
+      h.1,
+      b.knows,
+      subst (λ o. MayShow h.0 o h.1) (sym c.subject_of.ensures)
+          (may_show P h.0 h.1 (instr c.args.i.now) b.ready.0),
+    )
 
 pub compute-requires-clause-fits : goal.compute-requires-clause-fits
 compute-requires-clause-fits c =

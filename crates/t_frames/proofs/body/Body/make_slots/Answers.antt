@@ -11,12 +11,15 @@ pub returns : goal.returns
 returns c =
     let b = c.args.self.now in
     let none : length c.replace-types.new.dest.items ≡ 0 =
-    ap (λ (v : Vec TType Global). length v.items) c.replace-types.ensures.after ∙ ap (λ (xs : List TType). length xs) c.new.ensures.items in
+    ap (λ (v : Vec TType Global). length v.items) c.replace-types.ensures.after
+    ∙ ap (λ (xs : List TType). length xs) c.new.ensures.items in
     let count : c.len.result ≡ length b.slots.items = search rules in
     on_ok_weaker c.put.result
     (λ h. (
       refl,
       none,
-      slots_made c.args.split.low b.done.items b.tail.items c.put.new.code.items b.slots.items (λ z. c.if-len-eq0.false (count ∙ z))
-          (λ rest. h rest ∙ ap₂ (λ r (v : Vec TType Global). onto b.done.items (Then (Malloc r (types v.items)) rest)) c.slots.ensures c.replace-types.ensures.value),
+      slots_made c.args.split.low b.done.items b.tail.items c.put.new.code.items b.slots.items
+          (λ z. c.if-len-eq0.false (count ∙ z))
+          (λ rest. h rest ∙ ap₂ (λ r (v : Vec TType Global). onto b.done.items
+          (Then (Malloc r (types v.items)) rest)) c.slots.ensures c.replace-types.ensures.value),
     )) c.put.ensures

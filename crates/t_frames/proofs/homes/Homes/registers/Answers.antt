@@ -14,5 +14,6 @@ returns c =
     let none : length c.loop-r.r-iterator ≡ 0 = search rules in
     let same = all_listed made c.loop-r.r-iterator ks none c.loop-r.invariant in (
       subst Ascending (sym same) (ascending ks c.keys-r-items.ensures.ordered),
-      λ r. ap (among r) same ∙ sym (c.keys-r-items.ensures.has r ∙ ap (λ (qs : List ℕ). is_member (eq_by_cmp nat_cmp) qs r) c.keys-r-items.ensures.rest ∙ member_is ks r),
+      λ r. ap (among r) same ∙ sym (c.keys-r-items.ensures.has r
+          ∙ ap (λ (qs : List ℕ). is_member (eq_by_cmp nat_cmp) qs r) c.keys-r-items.ensures.rest ∙ member_is ks r),
     )

@@ -1,5 +1,5 @@
 -- A compiled program weighs what the term weighs, and has as many blocks as the term says.
-use Rattle.std.proofs.Common.{◌≡◌, ◌+◌, false, [], length, ap, inl, inr, arith}
+use Rattle.std.proofs.Common.{ℕ, ◌≡◌, ◌+◌, false, [], length, ap, inl, inr, arith}
 use Rattle.f_terms.specs.Tm.{Term}
 use Rattle.k_terms.specs.K.{KTm}
 use Rattle.k_terms.specs.Size.{codes_t}

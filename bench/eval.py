@@ -2,11 +2,11 @@
 
 The first calls 100000 deep, twenty times, as deep as Lua goes; the second makes 10000000 turns in a loop. For each:
 turns a second, the memory for each turn beyond that of the text `7`, and the time as a multiple of Lua's (wanted: at
-most 3). A row that misses says so.
+most 1). A row that misses says so.
 """
 from measure import Spent, available, best, folder, program, ratio
 
-MOST_TIMES = 3
+MOST_TIMES = 1
 DEEP = " + ".join(["f(100000)"] * 20)
 
 CASES = [

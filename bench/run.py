@@ -1,11 +1,11 @@
 """The machine: `talc run` beside wabt's wasm-interp on the same loops, as ratios in one run.
 
-One loop makes 100000000 steps, the other allocates 10000000 small tuples. What is wanted: at most a fifth of
-wasm-interp's time. A row that misses says so.
+One loop makes 100000000 steps, the other allocates 10000000 small tuples. What is wanted: at most a twentieth of
+wasm-interp's time in the first, and a tenth in the second. A row that misses says so.
 """
 from measure import available, best, folder, program, ratio
 
-MOST_TIMES = 0.2
+MOST_OF_LOOP, MOST_OF_TUPLES = 0.05, 0.1
 
 LOOP = """tal 1
 L0: code[]{}.
@@ -59,7 +59,7 @@ local.get 0))
 def main():
     talc, to_wasm, interp = program(), available("wat2wasm"), available("wasm-interp")
     with folder() as place:
-        def compared(name, text, wat, steps):
+        def compared(name, text, wat, steps, most):
             with open(f"{place}/p.tal", "w") as file:
                 file.write(text)
             with open(f"{place}/p.wat", "w") as file:
@@ -69,11 +69,11 @@ def main():
             theirs = best([interp, f"{place}/p.wasm", "--run-all-exports"])
             print(
                 f"{name}: {ours.seconds:.2f} s, {steps / ours.seconds:.2e} instructions a second, "
-                f"{ours.peak / 1e6:.0f} MB, times wasm-interp's time: {ratio(ours, theirs, MOST_TIMES)}"
+                f"{ours.peak / 1e6:.0f} MB, times wasm-interp's time: {ratio(ours, theirs, most)}"
             )
 
-        compared("a loop of 100000000 steps", LOOP, LOOP_WAT, 100000002)
-        compared("10000000 tuples", TUPLES, TUPLES_WAT, 50000002)
+        compared("a loop of 100000000 steps", LOOP, LOOP_WAT, 100000002, MOST_OF_LOOP)
+        compared("10000000 tuples", TUPLES, TUPLES_WAT, 50000002, MOST_OF_TUPLES)
 
 
 main()

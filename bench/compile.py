@@ -19,7 +19,7 @@ import re
 import shutil
 import sys
 from pathlib import Path
-from measure import ROOT, Run, Spent, best, folder, program, ratio, says_something
+from measure import ROOT, Run, Spent, best, examples, folder, program, ratio, says_something
 
 
 def ones(n):
@@ -274,7 +274,7 @@ def main():
         def moved():
             """Prints a row for each example, and one for all."""
             instructions = moves = 0
-            for path in sorted((ROOT / "examples").glob("*.f")):
+            for path in examples():
                 timed(path.read_text(encoding="ascii"))
                 text = Text(target)
                 instructions += text.instructions

@@ -10,6 +10,9 @@ from pathlib import Path
 ROOT = Path(__file__).resolve().parent.parent
 TALC = ROOT / "crates" / "talc" / "out" / "talc"
 
+# Examples of what is refused.
+REFUSED = ("escape.f", "turn.f")
+
 # A difference of times that is smaller tells nothing.
 LEAST_SECONDS = 0.05
 
@@ -19,6 +22,11 @@ def program():
     if not TALC.exists():
         sys.exit(f"{TALC} is missing: run ./talc once, which builds it")
     return str(TALC)
+
+
+def examples():
+    """The files of the examples that are programs of the source."""
+    return [path for path in sorted((ROOT / "examples").glob("*.f")) if path.name not in REFUSED]
 
 
 def folder():

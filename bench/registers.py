@@ -9,7 +9,7 @@ sum: the time as a multiple of that of the half (wanted: at most 2.2). A row tha
 """
 import re
 import sys
-from measure import ROOT, Run, Spent, best, folder, program, ratio
+from measure import Run, Spent, best, examples, folder, program, ratio
 
 BOUNDS = [8, 16]
 MOST_STEPS, MOST_TIMES = {8: 5, 16: 3}, 2.2
@@ -27,9 +27,8 @@ def lets(value):
 
 def sources():
     """The examples that are programs, by name, and the rows of thirty `let`s."""
-    for path in sorted((ROOT / "examples").glob("*.f")):
-        if path.name not in ("escape.f", "turn.f"):
-            yield path.name, path.read_text(encoding="ascii")
+    for path in examples():
+        yield path.name, path.read_text(encoding="ascii")
     yield "30 lets of numbers", lets(str)
     yield "30 lets of computed values", lets(lambda i: f"#1 <{i}>")
 

@@ -1,0 +1,115 @@
+// The line of a place, with the place marked under it.
+ghost use Rattle.std.specs.Prelude.{◌≡◌, ◌++◌, ◌-◌, codes, decimal, length, map, replicate, OnOk, IfOk};
+ghost use Rattle.fault_page.specs.Page.{first_shown, shown_byte, dots, under_dots, shown_line, marks};
+ghost use Rattle.fault_page.specs.Page.{excerpt_at, excerpt_of};
+
+use crate::spot::Spot;
+use idx_core::OutOfMemory;
+use itoa::Buffer;
+
+// How many bytes of a line are shown at most.
+const WIDTH: usize = 100;
+// How many of them stand before the place, where there is room behind it.
+const BEFORE: usize = 50;
+
+// Puts a number in decimal at the end of a page, and answers how many digits it has.
+pub(crate) fn write_number(page: &mut Vec<u8>, n: u64) -> Result<usize, OutOfMemory>
+    ensures written { OnOk result (page.new.items ≡ page.old.items ++ decimal n) }
+    ensures digits { IfOk result (λ count. count ≡ length (decimal n)) }
+{
+    let mut buffer = Buffer::new();
+    let digits = buffer.format(n).as_bytes();
+    page.extend_from_slice(digits)?;
+    Ok(digits.len())
+}
+
+fn write_times(page: &mut Vec<u8>, byte: u8, count: usize) -> Result<(), OutOfMemory>
+    ensures { OnOk result (page.new.items ≡ page.old.items ++ replicate count byte) }
+{
+    for _i in 0..count {
+        page.push(byte)?;
+    }
+    Ok(())
+}
+
+// A printable sign of ASCII as it is, a tab as a space, and any other byte as a question mark.
+fn shown_byte(byte: u8) -> u8
+    ensures { result ≡ shown_byte byte }
+{
+    match byte {
+        b'\t' => b' ',
+        b' '..=b'~' => byte,
+        _ => b'?',
+    }
+}
+
+fn write_shown(page: &mut Vec<u8>, bytes: &[u8]) -> Result<(), OutOfMemory>
+    ensures { OnOk result (page.new.items ≡ page.old.items ++ map shown_byte bytes.now) }
+{
+    for byte in bytes {
+        page.push(shown_byte(*byte))?;
+    }
+    Ok(())
+}
+
+// Dots, where bytes are left out.
+fn write_dots(page: &mut Vec<u8>, cut: bool) -> Result<(), OutOfMemory>
+    ensures { OnOk result (page.new.items ≡ page.old.items ++ dots cut) }
+{
+    if cut {
+        page.extend_from_slice(b"..")?;
+    }
+    Ok(())
+}
+
+// A line from one of its bytes on.
+fn write_line(page: &mut Vec<u8>, line: &[u8], first: usize) -> Result<(), OutOfMemory>
+    requires { first ≤ length line.now }
+    ensures { OnOk result (page.new.items ≡ page.old.items ++ shown_line line.now first) }
+{
+    let rest = &line[first..];
+    write_dots(page, first > 0)?;
+    write_shown(page, &rest[..rest.len().min(WIDTH)])?;
+    write_dots(page, rest.len() > WIDTH)
+}
+
+// How many marks stand under a place of so many bytes, before which so many stand on its line.
+fn marks(line: &[u8], first: usize, before: usize, size: u64) -> usize
+    requires { first ≤ length line.now }
+    ensures { result ≡ marks line.now first before size }
+{
+    let shown = line.len().min(first + WIDTH).saturating_sub(before);
+    shown.min(size as usize).max(1)
+}
+
+// Spaces as far as the place.
+fn write_indent(page: &mut Vec<u8>, first: usize, before: usize) -> Result<(), OutOfMemory>
+    ensures { OnOk result (page.new.items
+        ≡ page.old.items ++ (under_dots (nat_lt 0 first) ++ replicate (before - first) 32)) }
+{
+    if first > 0 {
+        page.extend_from_slice(b"  ")?;
+    }
+    write_times(page, b' ', before.saturating_sub(first))
+}
+
+// Puts the line of a place of so many bytes at the end of a page, and marks under the place.
+pub(crate) fn write_excerpt(page: &mut Vec<u8>, spot: &Spot, size: u64) -> Result<(), OutOfMemory>
+    ensures { OnOk result (page.new.items
+        ≡ page.old.items ++ excerpt_of spot.now.number spot.now.line.now spot.now.before size) }
+{
+    let first = spot
+        .before
+        .saturating_sub(BEFORE)
+        .min(spot.line.len().saturating_sub(WIDTH));
+    let digits = write_number(page, spot.number)?;
+    page.extend_from_slice(b" | ")?;
+    write_line(page, spot.line, first)?;
+    page.extend_from_slice(b"\n")?;
+    write_times(page, b' ', digits)?;
+    page.extend_from_slice(b" | ")?;
+    write_indent(page, first, spot.before)?;
+    write_times(page, b'^', marks(spot.line, first, spot.before, size))?;
+    page.extend_from_slice(b"\n")?;
+    Ok(())
+}

@@ -1,0 +1,1 @@
+// Pages of lines that are cut, and of odd places.

@@ -7,7 +7,7 @@ ends_line byte = byte == 10
 
 -- how many lines these bytes stand on, where a line end stands behind the last of them
 abbrev pub lines : List ℕ → ℕ
-lines bytes = 1 + count_by ends_line bytes
+lines bytes = count_by ends_line bytes + 1
 
 -- where the last line of these bytes begins: behind the last line end; i stand before them, and the line of the first
 -- of them begins at `begin`
@@ -37,7 +37,7 @@ offset text n = min n (length text) - line_begin text n
 
 -- the column of byte n, from 1 on: columns count bytes
 abbrev pub column : List ℕ → ℕ → ℕ
-column text n = 1 + offset text n
+column text n = offset text n + 1
 
 -- how many lines the bytes from start up to end stand on; no byte stands on one
 abbrev pub lines_over : List ℕ → (start end : ℕ) → ℕ

@@ -1,5 +1,5 @@
 // The line of a place, with the place marked under it.
-ghost use Rattle.std.specs.Prelude.{◌≡◌, ◌++◌, ◌-◌, codes, decimal, length, map, replicate, OnOk, IfOk};
+ghost use Rattle.std.specs.Prelude.{◌≡◌, ◌++◌, ◌-◌, ◌≤◌, nat_lt, decimal, length, map, replicate, OnOk, IfOk};
 ghost use Rattle.fault_page.specs.Page.{first_shown, shown_byte, dots, under_dots, shown_line, marks};
 ghost use Rattle.fault_page.specs.Page.{excerpt_at, excerpt_of};
 

@@ -1,5 +1,6 @@
 // The page.
 ghost use Rattle.std.specs.Prelude.{◌≡◌, ◌++◌, ◌-◌, ◌+◌, IfOk, OnOk};
+ghost use Rattle.fault_page.specs.Spot.{line_number, offset};
 ghost use Rattle.fault_page.specs.Page.{over_text, heading, page};
 
 use crate::excerpt::{write_excerpt, write_number};

@@ -1,16 +1,18 @@
 -- What `clap` takes by the description is a command.
 use Rattle.std.proofs.Common.{◌≡◌, ◌≤◌, ◌||◌, ℕ, Bool, true, false, not, cond, List, [], ◌∷◌, drop, Option, Some, None, IsSome, IfSome, MatchOption, is_some, option_map, refl, sym, subst, inl, inr, codes}
 use Rattle.std.specs.Option.{option_map_or}
+use Rattle.std.proofs.lemmas.Slice.Eq.{bytes_eq-Decides}
 use Rattle.clap.specs.Walk.{Row, Rule, Text, Held, answers_to, finished, rows_after, settled, walk, walk_from, nothing_held}
 use Rattle.clap.specs.Simple.{App, Shape, built, entered, names_of, rows_at, subcommand_of}
 use Rattle.clap.specs.Takes.{is_given}
-use Rattle.clap.specs.Words.{one_of}
+use Rattle.clap.specs.Words.{first_of, one_of}
 use Rattle.clap.specs.Faults as f
 use Rattle.clap.specs.Faults.{fault_of, entered_fault, settle_fault, walk_fault}
 use Rattle.clap.specs.Kinds.{Kinds}
 use Rattle.clap.specs.declared.error.kind.ErrorKind.TheVariants.{MissingRequiredArgument}
 use Rattle.words.specs.Description.{talc_app}
-use Rattle.words.specs.Command.{Asked, CompilesWithin, EnoughRegisters, Evaluates, Generates, Runs, asked_between, asked_in, asked_of, asked_with, asked_within, command_of, number_in, number_of, where_none}
+use Rattle.words.specs.declared.form.Form.{Form}
+use Rattle.words.specs.Command.{Asked, CompilesWithin, EnoughRegisters, Evaluates, Generates, NamesForm, Runs, Shows, asked_between, asked_in, asked_of, asked_with, asked_within, command_of, form_in, number_in, number_of, where_none}
 use Rattle.words.specs.Laws.{CommandWhereTaken, RegistersAreEnough}
 use Rattle.words.proofs.Taken.{IsAmong, IsPlain, ArePlain, AreRows, Each, IsNumberIf, IsRegistersIf, each, enough_given, none_first, none_next, level_rows, level_given, first_given, number_given}
 
@@ -43,6 +45,12 @@ upgrade_leaf = leaf (drop 6 (built talc_app).subs)
 abbrev trace_leaf : Shape
 trace_leaf = leaf (drop 7 (built talc_app).subs)
 
+abbrev show_leaf : Shape
+show_leaf = leaf (drop 8 (built talc_app).subs)
+
+abbrev explain_leaf : Shape
+explain_leaf = leaf (drop 9 (built talc_app).subs)
+
 -- the argument takes a value at each use or asks for help, and has no default
 abbrev IsOrdinary : Rule → Type 0
 IsOrdinary a = IsPlain a × (a.defaults ≡ [])
@@ -70,6 +78,12 @@ upgrade_ordinary = ((inl (refl, refl), refl), ((inl (refl, refl), refl), ((inr r
 
 trace_ordinary : Each IsOrdinary trace_leaf.rules
 trace_ordinary = ((inl (refl, refl), refl), ((inl (refl, refl), refl), ((inl (refl, refl), refl), ((inr refl, refl), tt))))
+
+show_ordinary : Each IsOrdinary show_leaf.rules
+show_ordinary = ((inl (refl, refl), refl), ((inl (refl, refl), refl), ((inr refl, refl), tt)))
+
+explain_ordinary : Each IsOrdinary explain_leaf.rules
+explain_ordinary = ((inl (refl, refl), refl), ((inr refl, refl), tt))
 
 compile_numbers : Each (IsRegistersIf (codes "registers")) compile_leaf.rules
 compile_numbers = (λ named. cc, (λ named. cc, (λ named. (refl, refl), (λ named. cc, tt))))
@@ -181,35 +195,58 @@ trace_asks rows held none =
     let last = number_given trace_leaf.rules (codes "to") rows (each (IsNumberIf (codes "to")) trace_leaf.rules last_numbers) held given.2 in
     rw input.1 (between input.0 (number_in (codes "from") rows) (number_in (codes "to") rows) first last)
 
--- a level of the parse of a subcommand, and no error in it
-level_asks : (s : Shape) → Each IsOrdinary s.rules → ((rows : List Row) → AreRows s.rules rows → f.check_fault s rows false ≡ [] → Asks (asked_in s.name rows))
-    → (words : List Text) → f.level_fault s [] nothing_held words false [] ≡ [] → Asks (asked_of (Some (rows_at s words)))
-level_asks s ordinary asks words none =
+shows_form : (input : Text) (form : Option Form) → IsSome form → Asks (asked_with Shows (Some input) form)
+shows_form input None some = cc
+shows_form input (Some form) some = tt
+
+show_asks : (rows : List Row) → AreRows show_leaf.rules rows → f.check_fault show_leaf rows false ≡ [] → IsSome (form_in rows) → Asks (asked_in (codes "show") rows)
+show_asks rows held none form =
+    let given = both_given (is_given (codes "IN") rows) (is_given (codes "form") rows) none in
+    let input = first_given show_leaf.rules (codes "IN") rows held given.0 in
+    rw input.1 (shows_form input.0 (form_in rows) form)
+
+explain_asks : (rows : List Row) → AreRows explain_leaf.rules rows → f.check_fault explain_leaf rows false ≡ [] → Asks (asked_in (codes "explain") rows)
+explain_asks rows held none =
+    let input = first_given explain_leaf.rules (codes "IN") rows held (one_given (is_given (codes "IN") rows) none) in
+    rw input.1 tt
+
+-- a level of the parse of a subcommand, no error in it, and a form that has its name
+level_asks : (s : Shape) → Each IsOrdinary s.rules → ((rows : List Row) → AreRows s.rules rows → f.check_fault s rows false ≡ [] → NamesForm (Some (s.name, rows)) → Asks (asked_in s.name rows))
+    → (words : List Text) → f.level_fault s [] nothing_held words false [] ≡ [] → NamesForm (Some (rows_at s words)) → Asks (asked_of (Some (rows_at s words)))
+level_asks s ordinary asks words none form =
     let plain : ArePlain s.rules = λ a among. (each IsOrdinary s.rules ordinary a among).0 in
     let defaults : (a : Rule) → IsAmong a s.rules → a.defaults ≡ [] = λ a among. (each IsOrdinary s.rules ordinary a among).1 in
-    asks (rows_after s.rules [] words) (level_rows s plain defaults words none) (level_given s plain words none)
+    asks (rows_after s.rules [] words) (level_rows s plain defaults words none) (level_given s plain words none) form
+
+-- a level without a form
+formless_asks : (s : Shape) → Each IsOrdinary s.rules → ((rows : List Row) → AreRows s.rules rows → f.check_fault s rows false ≡ [] → Asks (asked_in s.name rows))
+    → (words : List Text) → f.level_fault s [] nothing_held words false [] ≡ [] → NamesForm (Some (rows_at s words)) → Asks (asked_of (Some (rows_at s words)))
+formless_asks s ordinary asks = level_asks s ordinary (λ rows held none form. asks rows held none)
 
 -- the first subcommand for which its test holds
-abbrev chosen : (compiles checks runs types evaluates generates upgrades traces : Bool) → Option Shape
-chosen compiles checks runs types evaluates generates upgrades traces =
-    cond compiles (Some compile_leaf) (cond checks (Some check_leaf) (cond runs (Some run_leaf) (cond types (Some typeof_leaf) (cond evaluates (Some eval_leaf) (cond generates (Some gen_leaf) (cond upgrades (Some upgrade_leaf) (cond traces (Some trace_leaf) None)))))))
+abbrev chosen : (compiles checks runs types evaluates generates upgrades traces shows explains : Bool) → Option Shape
+chosen compiles checks runs types evaluates generates upgrades traces shows explains =
+    cond compiles (Some compile_leaf) (cond checks (Some check_leaf) (cond runs (Some run_leaf) (cond types (Some typeof_leaf) (cond evaluates (Some eval_leaf) (cond generates (Some gen_leaf) (cond upgrades (Some upgrade_leaf) (cond traces (Some trace_leaf) (cond shows (Some show_leaf) (cond explains (Some explain_leaf) None)))))))))
 
-entered_asks : (compiles checks runs types evaluates generates upgrades traces : Bool) (words : List Text) → option_map_or (λ s. f.level_fault s [] nothing_held words false []) (chosen compiles checks runs types evaluates generates upgrades traces) [] ≡ []
-    → (is_some (option_map (λ s. rows_at s words) (chosen compiles checks runs types evaluates generates upgrades traces)) ≡ true) → Asks (asked_of (option_map (λ s. rows_at s words) (chosen compiles checks runs types evaluates generates upgrades traces)))
-entered_asks true b1 b2 b3 b4 b5 b6 b7 words none entered = level_asks compile_leaf compile_ordinary compile_asks words none
-entered_asks false true b2 b3 b4 b5 b6 b7 words none entered = level_asks check_leaf check_ordinary check_asks words none
-entered_asks false false true b3 b4 b5 b6 b7 words none entered = level_asks run_leaf run_ordinary run_asks words none
-entered_asks false false false true b4 b5 b6 b7 words none entered = level_asks typeof_leaf typeof_ordinary typeof_asks words none
-entered_asks false false false false true b5 b6 b7 words none entered = level_asks eval_leaf eval_ordinary eval_asks words none
-entered_asks false false false false false true b6 b7 words none entered = level_asks gen_leaf gen_ordinary gen_asks words none
-entered_asks false false false false false false true b7 words none entered = level_asks upgrade_leaf upgrade_ordinary upgrade_asks words none
-entered_asks false false false false false false false true words none entered = level_asks trace_leaf trace_ordinary trace_asks words none
-entered_asks false false false false false false false false words none entered = cc
+entered_asks : (compiles checks runs types evaluates generates upgrades traces shows explains : Bool) (words : List Text) → option_map_or (λ s. f.level_fault s [] nothing_held words false []) (chosen compiles checks runs types evaluates generates upgrades traces shows explains) [] ≡ []
+    → NamesForm (option_map (λ s. rows_at s words) (chosen compiles checks runs types evaluates generates upgrades traces shows explains))
+    → (is_some (option_map (λ s. rows_at s words) (chosen compiles checks runs types evaluates generates upgrades traces shows explains)) ≡ true) → Asks (asked_of (option_map (λ s. rows_at s words) (chosen compiles checks runs types evaluates generates upgrades traces shows explains)))
+entered_asks true b1 b2 b3 b4 b5 b6 b7 b8 b9 words none form entered = formless_asks compile_leaf compile_ordinary compile_asks words none form
+entered_asks false true b2 b3 b4 b5 b6 b7 b8 b9 words none form entered = formless_asks check_leaf check_ordinary check_asks words none form
+entered_asks false false true b3 b4 b5 b6 b7 b8 b9 words none form entered = formless_asks run_leaf run_ordinary run_asks words none form
+entered_asks false false false true b4 b5 b6 b7 b8 b9 words none form entered = formless_asks typeof_leaf typeof_ordinary typeof_asks words none form
+entered_asks false false false false true b5 b6 b7 b8 b9 words none form entered = formless_asks eval_leaf eval_ordinary eval_asks words none form
+entered_asks false false false false false true b6 b7 b8 b9 words none form entered = formless_asks gen_leaf gen_ordinary gen_asks words none form
+entered_asks false false false false false false true b7 b8 b9 words none form entered = formless_asks upgrade_leaf upgrade_ordinary upgrade_asks words none form
+entered_asks false false false false false false false true b8 b9 words none form entered = formless_asks trace_leaf trace_ordinary trace_asks words none form
+entered_asks false false false false false false false false true b9 words none form entered = level_asks show_leaf show_ordinary (λ rows held given named. show_asks rows held given (named refl)) words none form
+entered_asks false false false false false false false false false true words none form entered = formless_asks explain_leaf explain_ordinary explain_asks words none form
+entered_asks false false false false false false false false false false words none form entered = cc
 
-stopped_asks : (stop : Option (Text × List Text)) → entered_fault (built talc_app) stop ≡ [] → is_some (entered (built talc_app) stop) ≡ true → Asks (asked_of (entered (built talc_app) stop))
-stopped_asks None none entered = cc
-stopped_asks (Some p) none entered =
-    entered_asks (answers_to p.0 (codes "compile", [])) (answers_to p.0 (codes "check", [])) (answers_to p.0 (codes "run", [])) (answers_to p.0 (codes "typeof", [])) (answers_to p.0 (codes "eval", [])) (answers_to p.0 (codes "gen", [])) (answers_to p.0 (codes "upgrade", [])) (answers_to p.0 (codes "trace", [])) p.1 none entered
+stopped_asks : (stop : Option (Text × List Text)) → entered_fault (built talc_app) stop ≡ [] → NamesForm (entered (built talc_app) stop) → is_some (entered (built talc_app) stop) ≡ true → Asks (asked_of (entered (built talc_app) stop))
+stopped_asks None none form entered = cc
+stopped_asks (Some p) none form entered =
+    entered_asks (answers_to p.0 (codes "compile", [])) (answers_to p.0 (codes "check", [])) (answers_to p.0 (codes "run", [])) (answers_to p.0 (codes "typeof", [])) (answers_to p.0 (codes "eval", [])) (answers_to p.0 (codes "gen", [])) (answers_to p.0 (codes "upgrade", [])) (answers_to p.0 (codes "trace", [])) (answers_to p.0 (codes "show", [])) (answers_to p.0 (codes "explain", [])) p.1 none form entered
 
 -- a subcommand is required
 met : (rows : List Row) (has : Bool) → f.check_fault (built talc_app).top rows has ≡ [] → has ≡ true
@@ -220,9 +257,9 @@ where_taken : (kinds : Kinds) (o : Option Asked) → kinds ≡ [] → Asks o →
 where_taken [] o none asks = asks
 where_taken (k ∷ ks) o none asks = cc
 
-taken_asks : (words : List Text) → fault_of talc_app words ≡ [] → Asks (command_of words)
+taken_asks : (words : List Text) → fault_of talc_app words ≡ [] → NamesForm (subcommand_of talc_app words) → Asks (command_of words)
 unfolding command_of
-taken_asks words none =
+taken_asks words none form =
     let app : App = built talc_app in
     let after : List Text = drop 1 words in
     let end : Held = (walk app.top.rules (names_of app) nothing_held after).held in
@@ -230,7 +267,7 @@ taken_asks words none =
     let walked_on = none_next (walk_fault app.top (names_of app) (walk_from nothing_held) after) _ none in
     let below : entered_fault app stop ≡ [] = none_first (entered_fault app stop) _ walked_on in
     let checked = none_next (f.defaults_fault (settled app.top.rules end).rows app.top.rules) _ (none_next (settle_fault app.top.rules app.top.args_override_self end) _ (none_next (entered_fault app stop) _ walked_on)) in
-    where_taken (fault_of talc_app words) (asked_of (entered app stop)) none (stopped_asks stop below (met (finished app.top.rules end) (is_some (entered app stop)) checked))
+    where_taken (fault_of talc_app words) (asked_of (entered app stop)) none (stopped_asks stop below form (met (finished app.top.rules end) (is_some (entered app stop)) checked))
 
 there : (o : Option Asked) → Asks o → IsSome o
 there None asks = absurd asks
@@ -244,10 +281,34 @@ command_taken : (words : List Text) → IsSome (command_of words) → fault_of t
 unfolding command_of
 command_taken words asks = none_where (fault_of talc_app words) (asked_of (subcommand_of talc_app words)) asks
 
+some_where : (kinds : Kinds) (o : Option Asked) → IsSome (where_none kinds o) → IsSome o
+some_where [] o asks = asks
+some_where (k ∷ ks) o asks = cc
+
+with_some : (input : Option Text) (form : Option Form) → IsSome (asked_with Shows input form) → IsSome form
+with_some (Some input) (Some form) some = refl
+with_some (Some input) None some = cc
+with_some None form some = cc
+
+show_form : (name : Text) (rows : List Row) → IsSome (asked_in name rows) → name ≡ codes "show" → IsSome (form_in rows)
+show_form name rows some is =
+    let named : IsSome (asked_in (codes "show") rows) = subst (λ (t : Text). IsSome (asked_in t rows)) is some in
+    with_some (first_of (codes "IN") rows) (form_in rows) named
+
+asked_form : (entered : Option (Text × List Row)) → IsSome (asked_of entered) → NamesForm entered
+asked_form None some = tt
+asked_form (Some p) some = λ named. show_form p.0 p.1 some ((bytes_eq-Decides p.0 (codes "show")).0 named)
+
+command_form : (words : List Text) → IsSome (command_of words) → NamesForm (subcommand_of talc_app words)
+unfolding command_of
+command_form words asks =
+    asked_form (subcommand_of talc_app words) (some_where (fault_of talc_app words) (asked_of (subcommand_of talc_app words)) asks)
+
 pub command_where_taken : CommandWhereTaken
-command_where_taken words = (command_taken words, λ none. there (command_of words) (taken_asks words none))
+command_where_taken words =
+    (λ asks. (command_taken words asks, command_form words asks), λ taken. there (command_of words) (taken_asks words taken.0 taken.1))
 
 pub registers_are_enough : RegistersAreEnough
 registers_are_enough words asked is =
     let some : IsSome (command_of words) = subst (λ (o : Option Asked). IsSome o) (sym is) refl in
-    subst Asks is (taken_asks words (command_taken words some))
+    subst Asks is (taken_asks words (command_taken words some) (command_form words some))

@@ -2,7 +2,8 @@
 use Rattle.std.proofs.Common.{◌≡◌, [], ◌∷◌, Some, None, refl}
 use Rattle.std.specs.Prelude.{codes}
 use Rattle.clap.proofs.OnLiterals.{clap_on_literals}
-use Rattle.words.specs.Command.{Checks, Compiles, CompilesWithin, Evaluates, Generates, Runs, Traces, Types, Upgrades, command_of}
+use Rattle.words.specs.Command.{Checks, Compiles, CompilesWithin, Evaluates, Explains, Generates, Runs, Shows, Traces, Types, Upgrades, command_of}
+use Rattle.words.specs.declared.form.Form.TheVariants as form
 
 -- talc compile x.f x.tal
 compile_words : command_of (codes "talc" ∷ codes "compile" ∷ codes "x.f" ∷ codes "x.tal" ∷ []) ≡ Some (Compiles (codes "x.f") (codes "x.tal"))
@@ -214,6 +215,78 @@ trace_no_number = refl
 trace_twice : command_of (codes "talc" ∷ codes "trace" ∷ codes "x.tal" ∷ codes "--from" ∷ codes "3" ∷ codes "--to" ∷ codes "4" ∷ codes "--to" ∷ codes "4" ∷ []) ≡ None
 unfolding command_of clap_on_literals
 trace_twice = refl
+
+-- talc show x.f --form F, for each of the six forms
+show_source : command_of (codes "talc" ∷ codes "show" ∷ codes "x.f" ∷ codes "--form" ∷ codes "source" ∷ []) ≡ Some (Shows (codes "x.f") form.Source)
+unfolding command_of clap_on_literals
+show_source = refl
+
+show_cps : command_of (codes "talc" ∷ codes "show" ∷ codes "x.f" ∷ codes "--form" ∷ codes "cps" ∷ []) ≡ Some (Shows (codes "x.f") form.Cps)
+unfolding command_of clap_on_literals
+show_cps = refl
+
+show_closed : command_of (codes "talc" ∷ codes "show" ∷ codes "x.f" ∷ codes "--form" ∷ codes "closed" ∷ []) ≡ Some (Shows (codes "x.f") form.Closed)
+unfolding command_of clap_on_literals
+show_closed = refl
+
+show_hoisted : command_of (codes "talc" ∷ codes "show" ∷ codes "x.f" ∷ codes "--form" ∷ codes "hoisted" ∷ []) ≡ Some (Shows (codes "x.f") form.Hoisted)
+unfolding command_of clap_on_literals
+show_hoisted = refl
+
+show_allocated : command_of (codes "talc" ∷ codes "show" ∷ codes "x.f" ∷ codes "--form" ∷ codes "allocated" ∷ []) ≡ Some (Shows (codes "x.f") form.Allocated)
+unfolding command_of clap_on_literals
+show_allocated = refl
+
+show_assembly : command_of (codes "talc" ∷ codes "show" ∷ codes "x.f" ∷ codes "--form" ∷ codes "assembly" ∷ []) ≡ Some (Shows (codes "x.f") form.Assembly)
+unfolding command_of clap_on_literals
+show_assembly = refl
+
+-- the same with the option first and in one word
+show_first : command_of (codes "talc" ∷ codes "show" ∷ codes "--form=cps" ∷ codes "x.f" ∷ []) ≡ Some (Shows (codes "x.f") form.Cps)
+unfolding command_of clap_on_literals
+show_first = refl
+
+-- no form, its beginning, another case, none, and two
+show_other : command_of (codes "talc" ∷ codes "show" ∷ codes "x.f" ∷ codes "--form" ∷ codes "tal" ∷ []) ≡ None
+unfolding command_of clap_on_literals
+show_other = refl
+
+show_beginning : command_of (codes "talc" ∷ codes "show" ∷ codes "x.f" ∷ codes "--form" ∷ codes "cp" ∷ []) ≡ None
+unfolding command_of clap_on_literals
+show_beginning = refl
+
+show_case : command_of (codes "talc" ∷ codes "show" ∷ codes "x.f" ∷ codes "--form" ∷ codes "CPS" ∷ []) ≡ None
+unfolding command_of clap_on_literals
+show_case = refl
+
+show_none : command_of (codes "talc" ∷ codes "show" ∷ codes "x.f" ∷ []) ≡ None
+unfolding command_of clap_on_literals
+show_none = refl
+
+show_empty : command_of (codes "talc" ∷ codes "show" ∷ codes "x.f" ∷ codes "--form=" ∷ []) ≡ None
+unfolding command_of clap_on_literals
+show_empty = refl
+
+show_twice : command_of (codes "talc" ∷ codes "show" ∷ codes "x.f" ∷ codes "--form" ∷ codes "cps" ∷ codes "--form" ∷ codes "cps" ∷ []) ≡ None
+unfolding command_of clap_on_literals
+show_twice = refl
+
+show_missing_file : command_of (codes "talc" ∷ codes "show" ∷ codes "--form" ∷ codes "cps" ∷ []) ≡ None
+unfolding command_of clap_on_literals
+show_missing_file = refl
+
+-- talc explain x.f, without the file, and with an option of another command
+explain_words : command_of (codes "talc" ∷ codes "explain" ∷ codes "x.f" ∷ []) ≡ Some (Explains (codes "x.f"))
+unfolding command_of clap_on_literals
+explain_words = refl
+
+explain_missing_file : command_of (codes "talc" ∷ codes "explain" ∷ []) ≡ None
+unfolding command_of clap_on_literals
+explain_missing_file = refl
+
+explain_form : command_of (codes "talc" ∷ codes "explain" ∷ codes "x.f" ∷ codes "--form" ∷ codes "cps" ∷ []) ≡ None
+unfolding command_of clap_on_literals
+explain_form = refl
 
 -- no command
 other_words : command_of (codes "talc" ∷ codes "link" ∷ codes "x.tal" ∷ codes "y.tal" ∷ []) ≡ None

@@ -1,5 +1,5 @@
 -- What a parse by the description says of the command.
-use Rattle.std.proofs.Common.{◌≡◌, ◌∙◌, List, [], ◌∷◌, option_map, Option, Some, None, refl, true, ap, ap₂, sym, subst, ◌⊎◌, inl, inr, Err, IsSome}
+use Rattle.std.proofs.Common.{◌≡◌, ◌∙◌, List, [], ◌∷◌, option_map, Option, Some, None, refl, true, ap, ap₂, sym, subst, ◌⊎◌, inl, inr, Err}
 use Rattle.clap.specs.Words.{App, Text, Row, Kinds, IsAmong, fault_of, is_simple, is_simple_and_free, subcommand_of}
 use Rattle.clap.proofs.OnLiterals.{clap_on_literals}
 use Rattle.clap.specs.declared.error.kind.ErrorKind.{ErrorKind}
@@ -8,7 +8,6 @@ use Rattle.clap.specs.declared.error.kind.ErrorKind.TheVariants.{OutOfMemory}
 use Rattle.words.specs.declared.command.NoCommand.{NoCommand}
 use Rattle.words.specs.declared.command.NoCommand.TheVariants.{Usage, Memory}
 use Rattle.words.specs.Reads.{Reads}
-use Rattle.words.proofs.Commands.{command_where_taken}
 use Rattle.words.specs.Command.{Asked, asked_of, command_of, where_none}
 
 pub talc_is_simple : is_simple talc_app ≡ true
@@ -27,17 +26,6 @@ command_taken app ws words rows asked app_is words_are none rows_are is =
     let same : rows ≡ subcommand_of talc_app words = rows_are ∙ ap₂ subcommand_of app_is words_are in
     rw taken (ap asked_of (sym same) ∙ sym is)
 
-none_is_not_some : (o : Option Asked) → IsSome o → o ≡ None → ⊥
-none_is_not_some None some none = cc
-none_is_not_some (Some a) some none = cc
-
--- and they ask for something
-pub nothing_asked : (app : App) (ws words : List Text) (rows : Option (Text × List Row)) (asked : Option Asked) → app ≡ talc_app → ws ≡ words → fault_of app ws ≡ [] → rows ≡ subcommand_of app ws → asked ≡ asked_of rows → asked ≡ None → ⊥
-nothing_asked app ws words rows asked app_is words_are none rows_are is nothing =
-    let some : IsSome (command_of words) = (command_where_taken words).1 (sym (ap₂ fault_of app_is words_are) ∙ none) in
-    let command : command_of words ≡ None = command_taken app ws words rows asked app_is words_are none rows_are is ∙ nothing in
-    none_is_not_some (command_of words) some command
-
 refused_none : (k : ErrorKind) (kinds : Kinds) (o : Option Asked) → IsAmong k kinds → where_none kinds o ≡ None
 refused_none k [] o among = absurd among
 refused_none k (x ∷ xs) o among = refl
@@ -47,6 +35,11 @@ pub command_refused : (app : App) (ws words : List Text) (k : ErrorKind) → app
 unfolding command_of
 command_refused app ws words k app_is words_are among =
     refused_none k (fault_of talc_app words) (asked_of (subcommand_of talc_app words)) (subst (λ ks. IsAmong k ks) (ap₂ fault_of app_is words_are) among)
+
+-- words that are no command are answered so, whatever the text
+pub none_reads : (words : List Text) (n : NoCommand) → command_of words ≡ None → Reads words (Err n)
+none_reads words (Usage text) none = none
+none_reads words Memory none = tt
 
 -- an error of `clap`'s that is not want of memory comes only where the words are no command
 pub refusal_reads : (app : App) (ws words : List Text) (k : ErrorKind) (n : NoCommand) → app ≡ talc_app → ws ≡ words → (k ≡ OutOfMemory) ⊎ IsAmong k (fault_of app ws) → (k ≡ OutOfMemory → n ≡ Memory) → Reads words (Err n)

@@ -39,6 +39,17 @@ registers_rule =
       parser = Some register_number;
     }
 
+-- the required option of a form, called `form`, with F for its value in the help; which texts are forms is said by
+-- `form_named` of Command
+abbrev pub form_rule : Rule
+form_rule =
+    record (new_rule (codes "form")) {
+      long = Some (codes "form");
+      value_names = 1;
+      required = true;
+      action = Some Set;
+    }
+
 -- compile IN OUT, perhaps with --registers K
 abbrev pub compile_app : App
 compile_app =
@@ -75,6 +86,14 @@ trace_app =
     with_rule (with_rule (with_rule (new_app (codes "trace")) (file_rule (codes "IN"))) (number_rule (codes "from")))
     (number_rule (codes "to"))
 
+-- show IN --form F
+abbrev pub show_app : App
+show_app = with_rule (with_rule (new_app (codes "show")) (file_rule (codes "IN"))) form_rule
+
+-- explain IN
+abbrev pub explain_app : App
+explain_app = with_rule (new_app (codes "explain")) (file_rule (codes "IN"))
+
 -- the command line without its subcommands: one must be given, and there is no `help` among them
 abbrev pub bare_app : App
 bare_app =
@@ -85,4 +104,4 @@ abbrev pub talc_app : App
 talc_app =
     fold with_subcommand bare_app
     (compile_app.top ∷ check_app.top ∷ run_app.top ∷ typeof_app.top ∷ eval_app.top ∷ gen_app.top ∷ upgrade_app.top
-    ∷ trace_app.top ∷ [])
+    ∷ trace_app.top ∷ show_app.top ∷ explain_app.top ∷ [])

@@ -1,12 +1,14 @@
 -- What the definition of a command says in all.
 use Rattle.std.specs.Prelude.{◌≡◌, ◌↔◌, List, [], Some, IsSome}
-use Rattle.clap.specs.Words.{Text, fault_of}
+use Rattle.clap.specs.Words.{Text, fault_of, subcommand_of}
 use Rattle.words.specs.Description.{talc_app}
-use Rattle.words.specs.Command.{Asked, EnoughRegisters, command_of}
+use Rattle.words.specs.Command.{Asked, EnoughRegisters, NamesForm, command_of}
 
--- the words are a command exactly where `clap`'s rules find no error in them by the description
+-- the words are a command exactly where `clap`'s rules find no error in them by the description and, where they are those
+-- of `show`, the form has one of the six names
 abbrev pub CommandWhereTaken : Type 0
-CommandWhereTaken = (words : List Text) → IsSome (command_of words) ↔ (fault_of talc_app words ≡ [])
+CommandWhereTaken = (words : List Text) → IsSome (command_of words)
+    ↔ ((fault_of talc_app words ≡ []) × NamesForm (subcommand_of talc_app words))
 
 -- a number of registers that the words ask for is 8 at least
 abbrev pub RegistersAreEnough : Type 0

@@ -3,11 +3,11 @@ use Rattle.std.specs.Prelude.{◌≡◌, List, Some, None, Result, Ok, Err}
 use Rattle.clap.specs.Words.{Text}
 use Rattle.words.specs.declared.command.Command.{Command}
 use Rattle.words.specs.declared.command.Command.TheVariants.{Compile, CompileWithin, Check, Run, Typeof, Eval, Gen}
-use Rattle.words.specs.declared.command.Command.TheVariants.{Upgrade, Trace}
+use Rattle.words.specs.declared.command.Command.TheVariants.{Upgrade, Trace, Show, Explain}
 use Rattle.words.specs.declared.command.NoCommand.{NoCommand}
 use Rattle.words.specs.declared.command.NoCommand.TheVariants.{Usage, Memory}
 use Rattle.words.specs.Command.{Asked, Compiles, CompilesWithin, Checks, Runs, Types, Evaluates, Generates}
-use Rattle.words.specs.Command.{Upgrades, Traces, command_of}
+use Rattle.words.specs.Command.{Upgrades, Traces, Shows, Explains, command_of}
 
 -- what a command as the code has it asks for
 abbrev pub asked_by : Command → Asked
@@ -20,6 +20,8 @@ asked_by (Eval input turns) = Evaluates input.now turns
 asked_by (Gen seed output) = Generates seed output.now
 asked_by (Upgrade input output) = Upgrades input.now output.now
 asked_by (Trace input from to) = Traces input.now from to
+asked_by (Show input form) = Shows input.now form
+asked_by (Explain input) = Explains input.now
 
 -- a command only where the words are this one, and a text only where they are none
 abbrev pub Reads : List Text → Result Command NoCommand → Type 0

@@ -1,5 +1,6 @@
 // What the words of a command line come to.
 
+use crate::form::Form;
 use std::error::Error;
 use std::fmt;
 
@@ -52,6 +53,15 @@ pub enum Command<'a> {
         input: &'a str,
         from: u64,
         to: u64,
+    },
+    /// `show IN --form F`: shows a form of the program of the source text of a file.
+    Show {
+        input: &'a str,
+        form: Form,
+    },
+    /// `explain IN`: shows what is wrong with the source or assembly text of a file.
+    Explain {
+        input: &'a str,
     },
 }
 

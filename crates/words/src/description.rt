@@ -4,6 +4,7 @@ ghost use Rattle.std.specs.Result.{IsOkAnd};
 ghost use Rattle.clap.specs.Words.{app_of, rule_of, with_subcommand};
 ghost use Rattle.words.specs.Description.{file_rule, number_rule, registers_rule, compile_app, check_app, run_app};
 ghost use Rattle.words.specs.Description.{typeof_app, eval_app, gen_app, upgrade_app, trace_app};
+ghost use Rattle.words.specs.Description.{explain_app, form_rule, show_app};
 ghost use Rattle.words.specs.Description.{bare_app, talc_app};
 
 use clap::builder::ValueParser;
@@ -43,6 +44,20 @@ fn registers<'a>(alloc: Global) -> Arg<'a>
         .value_name("K")
         .action(ArgAction::Set)
         .value_parser(ValueParser::unsigned(8, u64::MAX))
+}
+
+// The required option of a form.
+fn form<'a>(alloc: Global) -> Arg<'a>
+    ensures rule { rule_of result ≡ form_rule }
+    ensures local { result.global ≡ false }
+{
+    let arg = Arg::new(alloc, "form").help(
+        "The form: source, cps, closed, hoisted, allocated or assembly",
+    );
+    arg.long("form")
+        .value_name("F")
+        .required(true)
+        .action(ArgAction::Set)
 }
 
 fn compile_words<'a>(alloc: Global) -> Result<Command<'a>, AllocError>
@@ -123,6 +138,23 @@ fn trace_words<'a>(alloc: Global) -> Result<Command<'a>, AllocError>
         .arg(number(alloc, "to", "The most instructions to make"))
 }
 
+pub(crate) fn show_words<'a>(alloc: Global) -> Result<Command<'a>, AllocError>
+    ensures { IfOk result (λ c. app_of c ≡ show_app) }
+{
+    Command::new(alloc, "show")
+        .about("Shows a form of the program of the source text IN")
+        .arg(file(alloc, "IN", "The file to read"))?
+        .arg(form(alloc))
+}
+
+fn explain_words<'a>(alloc: Global) -> Result<Command<'a>, AllocError>
+    ensures { IfOk result (λ c. app_of c ≡ explain_app) }
+{
+    Command::new(alloc, "explain")
+        .about("Shows what is wrong with the source text or TAL text IN")
+        .arg(file(alloc, "IN", "The file to read"))
+}
+
 // The command line without its subcommands: one must be given, and there is no `help` among them.
 fn bare_words<'a>(alloc: Global) -> Command<'a>
     ensures { app_of result ≡ bare_app }
@@ -156,6 +188,8 @@ pub(crate) fn talc_words<'a>(alloc: Global) -> Result<Command<'a>, AllocError>
     let eval = with_words(type_of, eval_words(alloc))?;
     let generate = with_words(eval, gen_words(alloc))?;
     let upgrade = with_words(generate, upgrade_words(alloc))?;
-    let all = with_words(upgrade, trace_words(alloc))?;
+    let trace = with_words(upgrade, trace_words(alloc))?;
+    let show = with_words(trace, show_words(alloc))?;
+    let all = with_words(show, explain_words(alloc))?;
     Ok(all)
 }

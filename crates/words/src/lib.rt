@@ -3,9 +3,11 @@
 
 mod command;
 mod description;
+mod form;
 mod laws;
 mod reading;
 
 pub use command::{Command, NoCommand};
+pub use form::Form;
 pub use laws::{command_where_taken, registers_are_enough};
 pub use reading::read;

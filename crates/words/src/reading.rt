@@ -3,14 +3,15 @@ ghost use Rattle.std.specs.Prelude.{◌≡◌, Some, codes, is_some, map, string
 ghost use Rattle.std.specs.Option.{option_map};
 ghost use Rattle.clap.specs.Words.{first_of, found_of, kind_of, one_of, rows_of, subcommand_rows_of};
 ghost use Rattle.clap.specs.declared.error.kind.ErrorKind.TheVariants.{OutOfMemory};
-ghost use Rattle.words.specs.Command.{asked_in, asked_of, asked_within, number_in};
+ghost use Rattle.words.specs.Command.{asked_in, asked_of, asked_within, form_in, number_in};
 ghost use Rattle.words.specs.Reads.{asked_by, Reads};
 
 use crate::command::{Command, NoCommand};
-use crate::description::talc_words;
+use crate::description::{show_words, talc_words};
+use crate::form::{Form, form_named};
 use clap::error::ErrorKind;
 use clap::{ArgMatches, Error};
-use std::alloc::Global;
+use std::alloc::{AllocError, Global};
 
 // The value of an argument.
 fn value<'a>(matches: &ArgMatches<'a>, name: &str) -> Option<&'a str>
@@ -24,6 +25,13 @@ fn number(matches: &ArgMatches, name: &str) -> Option<u64>
     ensures { result ≡ number_in name.now (rows_of (found_of matches.now)) }
 {
     matches.get_one::<u64>(name)
+}
+
+// The form that the option has.
+fn form(matches: &ArgMatches) -> Option<Form>
+    ensures { result ≡ form_in (rows_of (found_of matches.now)) }
+{
+    form_named(value(matches, "form")?)
 }
 
 // Whether an argument has a value.
@@ -88,6 +96,14 @@ fn entered<'a>(name: &str, matches: &ArgMatches<'a>) -> Option<Command<'a>>
         let to = number(matches, "to")?;
         return Some(Command::Trace { input, from, to });
     }
+    if name == "show" {
+        let (input, form) = (value(matches, "IN")?, form(matches)?);
+        return Some(Command::Show { input, form });
+    }
+    if name == "explain" {
+        let input = value(matches, "IN")?;
+        return Some(Command::Explain { input });
+    }
     None
 }
 
@@ -114,8 +130,28 @@ fn not_taken(alloc: Global, error: &Error) -> NoCommand
     }
 }
 
+// `clap`'s error on a value of `form` that names no form.
+fn no_form(alloc: Global, name: &str) -> Result<Error, AllocError> {
+    let text = format!(in alloc; "invalid value '{name}' for '--form <F>'
+  [possible values: source, cps, closed, hoisted, allocated, assembly]")?;
+    let mut show = show_words(alloc)?.bin_name("talc show")?;
+    show.error(ErrorKind::InvalidValue, text.as_str())
+}
+
+// The text on words that `clap` takes, and that ask for nothing.
+fn not_asked(alloc: Global, matches: &ArgMatches) -> NoCommand {
+    let name = match matches.subcommand() {
+        Some((_, found)) => value(found, "form"),
+        None => None,
+    };
+    match no_form(alloc, name.unwrap_or("")) {
+        Ok(error) => not_taken(alloc, &error),
+        Err(_) => NoCommand::Memory,
+    }
+}
+
 /// What the words ask for, where they are a command by the description of the command line; the program's own name is
-/// the first of them. Words that are none come back as `clap`'s text for the user.
+/// the first of them, and a form has one of the six names. Words that are none come back as `clap`'s text for the user.
 pub fn read<'a>(alloc: Global, words: &'a Vec<String>) -> Result<Command<'a>, NoCommand>
     ensures { Reads (map string_bytes words.entry.now.items) result }
 {
@@ -125,7 +161,7 @@ pub fn read<'a>(alloc: Global, words: &'a Vec<String>) -> Result<Command<'a>, No
     match description.try_get_matches_from(words.as_slice()) {
         Ok(matches) => match asked(&matches) {
             Some(command) => Ok(command),
-            None => unreachable!(),
+            None => Err(not_asked(alloc, &matches)),
         },
         Err(error) => Err(not_taken(alloc, &error)),
     }

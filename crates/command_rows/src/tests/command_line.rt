@@ -2,7 +2,7 @@
 use std::alloc::{AllocError, Global};
 use std::process::Abort;
 use std::test::Fail;
-use words::{Command, NoCommand, read};
+use words::{Command, Form, NoCommand, read};
 
 // The words of a command line.
 fn words(alloc: Global, line: &str) -> Result<Vec<String>, AllocError> {
@@ -90,6 +90,37 @@ fn trace_has_its_values(rt: HostRuntime) -> Result<(), Fail> {
     asks(&rt, rt.alloc(), line, Command::Trace { input, from, to })
 }
 
+// Each name with its form.
+fn each_shows(rt: &impl Abort, alloc: Global, rows: &[(&str, Form)]) -> Result<(), Fail> {
+    for (line, form) in rows {
+        let (input, form) = ("x.f", *form);
+        asks(rt, alloc, line, Command::Show { input, form })?;
+    }
+    Ok(())
+}
+
+#[test]
+fn show_has_its_values(rt: HostRuntime) -> Result<(), Fail> {
+    each_shows(
+        &rt,
+        rt.alloc(),
+        &[
+            ("talc show x.f --form source", Form::Source),
+            ("talc show --form cps x.f", Form::Cps),
+            ("talc show --form=closed x.f", Form::Closed),
+            ("talc show x.f --form hoisted", Form::Hoisted),
+            ("talc show x.f --form allocated", Form::Allocated),
+            ("talc show x.f --form assembly", Form::Assembly),
+        ],
+    )
+}
+
+#[test]
+fn explain_has_its_value(rt: HostRuntime) -> Result<(), Fail> {
+    let input = "x.tal";
+    asks(&rt, rt.alloc(), "talc explain x.tal", Command::Explain { input })
+}
+
 fn is_text(read: Result<Command, NoCommand>, wanted: &str) -> bool {
     match read {
         Err(NoCommand::Usage(text)) => text.as_str() == wanted,
@@ -115,7 +146,7 @@ fn other_words_get_a_text(rt: HostRuntime) -> Result<(), Fail> {
             (
                 "talc",
                 "error: 'talc' requires a subcommand but one was not provided
-  [subcommands: compile, check, run, typeof, eval, gen, upgrade, trace]
+  [subcommands: compile, check, run, typeof, eval, gen, upgrade, trace, show, explain]
 
 Usage: talc <COMMAND>
 
@@ -189,6 +220,26 @@ For more information, try '--help'.
 ",
             ),
             (
+                "talc show x.f --form tal",
+                "error: invalid value 'tal' for '--form <F>'
+  [possible values: source, cps, closed, hoisted, allocated, assembly]
+
+Usage: talc show --form <F> <IN>
+
+For more information, try '--help'.
+",
+            ),
+            (
+                "talc show x.f",
+                "error: the following required arguments were not provided:
+  --form <F>
+
+Usage: talc show --form <F> <IN>
+
+For more information, try '--help'.
+",
+            ),
+            (
                 "talc run x.tal",
                 "error: the following required arguments were not provided:
   --fuel <N>
@@ -221,6 +272,8 @@ Commands:
   gen      Writes the source of the seed N to OUT, compiled, evaluated, checked and run
   upgrade  Writes the program of the TAL text IN to OUT in the newest version of the language
   trace    Runs the TAL text IN for at most --to instructions, and shows each state from --from on
+  show     Shows a form of the program of the source text IN
+  explain  Shows what is wrong with the source text or TAL text IN
 
 Options:
   -h, --help  Print help
@@ -268,6 +321,33 @@ Options:
       --from <N>  The number of instructions before the first state that is shown
       --to <N>    The most instructions to make
   -h, --help      Print help
+",
+            ),
+            (
+                "talc show --help",
+                "Shows a form of the program of the source text IN
+
+Usage: talc show --form <F> <IN>
+
+Arguments:
+  <IN>  The file to read
+
+Options:
+      --form <F>  The form: source, cps, closed, hoisted, allocated or assembly
+  -h, --help      Print help
+",
+            ),
+            (
+                "talc explain --help",
+                "Shows what is wrong with the source text or TAL text IN
+
+Usage: talc explain <IN>
+
+Arguments:
+  <IN>  The file to read
+
+Options:
+  -h, --help  Print help
 ",
             ),
             (

@@ -19,4 +19,6 @@ returns c =
     let eval = added _ _ _ _ _ c.in_ok-eval.ensures type_of c.eval_words.ensures refl in
     let generate = added _ _ _ _ _ c.in_ok-generate.ensures eval c.gen_words.ensures refl in
     let upgrade = added _ _ _ _ _ c.in_ok-upgrade.ensures generate c.upgrade_words.ensures refl in
-    added _ _ _ _ _ c.in_ok-all.ensures upgrade c.trace_words.ensures refl
+    let trace = added _ _ _ _ _ c.in_ok-trace.ensures upgrade c.trace_words.ensures refl in
+    let show = added _ _ _ _ _ c.in_ok-show.ensures trace c.show_words.ensures refl in
+    added _ _ _ _ _ c.in_ok-all.ensures show c.explain_words.ensures refl

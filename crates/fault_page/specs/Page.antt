@@ -9,13 +9,19 @@ use Rattle.fault_page.specs.Spot.{line_number, line_at, offset, column, lines_ov
 abbrev pub over_text : ℕ → List ℕ
 over_text count = if count == 1 then [] else codes ", over " ++ (decimal count ++ codes " lines")
 
--- the code, the words, the line and the column of the place, over how many lines it goes, and its bytes
+abbrev pub bytes_text : (start end : ℕ) → List ℕ
+bytes_text start end = codes " (bytes " ++ decimal start ++ codes ".." ++ decimal end ++ codes ")"
+
+-- a place by its line, its column, how many lines it stands on, and its bytes
+abbrev pub place_text : (line column count start end : ℕ) → List ℕ
+place_text line column count start end =
+    codes "line " ++ decimal line ++ codes ", column " ++ decimal column ++ over_text count ++ bytes_text start end
+
+-- the code, the words and the place
 abbrev pub heading : (text code words : List ℕ) (start end : ℕ) → List ℕ
 heading text code words start end =
-    code ++ codes " " ++ words
-    ++ codes ": line " ++ decimal (line_number text start) ++ codes ", column " ++ decimal (column text start)
-    ++ over_text (lines_over text start end)
-    ++ codes " (bytes " ++ decimal start ++ codes ".." ++ decimal end ++ codes ")\n"
+    code ++ codes " " ++ words ++ codes ": "
+    ++ place_text (line_number text start) (column text start) (lines_over text start end) start end ++ codes "\n"
 
 -- ---- the line of the place
 
@@ -43,24 +49,35 @@ dots cut = if cut then codes ".." else []
 abbrev pub under_dots : Bool → List ℕ
 under_dots cut = if cut then codes "  " else []
 
+-- what is left of a line, as far as it is shown
+abbrev pub shown_rest : List ℕ → List ℕ
+shown_rest rest = map shown_byte (take shown_width rest) ++ dots (nat_lt shown_width (length rest))
+
 -- the line from this byte on
 abbrev pub shown_line : List ℕ → ℕ → List ℕ
-shown_line line first =
-    dots (nat_lt 0 first) ++ map shown_byte (take shown_width (drop first line))
-    ++ dots (nat_lt (first + shown_width) (length line))
+shown_line line first = dots (nat_lt 0 first) ++ shown_rest (drop first line)
 
--- so many marks are under a place of so many bytes, where so many stand before it: one for each byte of it that is
--- shown on the line, one at least
+-- spaces as far as the place, before which so many bytes stand on the line
+abbrev pub indent : (first before : ℕ) → List ℕ
+indent first before = under_dots (nat_lt 0 first) ++ replicate (before - first) 32
+
+-- so many marks are under a place of so many bytes: one for each byte of it that is shown on the line, one at least
 abbrev pub marks : (line : List ℕ) (first before size : ℕ) → ℕ
 marks line first before size = max 1 (min size (min (first + shown_width) (length line) - before))
 
--- two lines: the number of the line and the line; under them the marks
+-- the number of the line and the line
+abbrev pub line_row : (number : ℕ) (line : List ℕ) (first : ℕ) → List ℕ
+line_row number line first = decimal number ++ codes " | " ++ shown_line line first ++ codes "\n"
+
+-- spaces under the number, of so many digits, and the marks under the place
+abbrev pub mark_row : (digits : ℕ) (line : List ℕ) (first before size : ℕ) → List ℕ
+mark_row digits line first before size =
+    replicate digits 32 ++ codes " | " ++ indent first before ++ replicate (marks line first before size) 94
+    ++ codes "\n"
+
 abbrev pub excerpt_at : (number : ℕ) (line : List ℕ) (first before size : ℕ) → List ℕ
 excerpt_at number line first before size =
-    decimal number ++ codes " | " ++ shown_line line first ++ codes "\n"
-    ++ replicate (length (decimal number)) 32 ++ codes " | "
-    ++ under_dots (nat_lt 0 first) ++ replicate (before - first) 32
-    ++ replicate (marks line first before size) 94 ++ codes "\n"
+    line_row number line first ++ mark_row (length (decimal number)) line first before size
 
 abbrev pub excerpt_of : (number : ℕ) (line : List ℕ) (before size : ℕ) → List ℕ
 excerpt_of number line before size = excerpt_at number line (first_shown before (length line)) before size

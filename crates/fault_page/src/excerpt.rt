@@ -1,7 +1,7 @@
 // The line of a place, with the place marked under it.
-ghost use Rattle.std.specs.Prelude.{◌≡◌, ◌++◌, ◌-◌, ◌≤◌, nat_lt, decimal, length, map, replicate, OnOk, IfOk};
-ghost use Rattle.fault_page.specs.Page.{first_shown, shown_byte, dots, under_dots, shown_line, marks};
-ghost use Rattle.fault_page.specs.Page.{excerpt_at, excerpt_of};
+ghost use Rattle.std.specs.Prelude.{◌≡◌, ◌++◌, ◌≤◌, decimal, length, map, replicate, OnOk, IfOk};
+ghost use Rattle.fault_page.specs.Page.{first_shown, shown_byte, dots, indent, shown_rest, shown_line, marks};
+ghost use Rattle.fault_page.specs.Page.{line_row, mark_row, excerpt_of};
 
 use crate::spot::Spot;
 use idx_core::OutOfMemory;
@@ -62,15 +62,43 @@ fn write_dots(page: &mut Vec<u8>, cut: bool) -> Result<(), OutOfMemory>
     Ok(())
 }
 
+// What is left of a line, as far as it is shown.
+fn write_rest(page: &mut Vec<u8>, rest: &[u8]) -> Result<(), OutOfMemory>
+    ensures { OnOk result (page.new.items ≡ page.old.items ++ shown_rest rest.now) }
+{
+    let count = WIDTH.min(rest.len());
+    write_shown(page, &rest[..count])?;
+    write_dots(page, rest.len() > WIDTH)?;
+    Ok(())
+}
+
 // A line from one of its bytes on.
 fn write_line(page: &mut Vec<u8>, line: &[u8], first: usize) -> Result<(), OutOfMemory>
     requires { first ≤ length line.now }
     ensures { OnOk result (page.new.items ≡ page.old.items ++ shown_line line.now first) }
 {
-    let rest = &line[first..];
     write_dots(page, first > 0)?;
-    write_shown(page, &rest[..rest.len().min(WIDTH)])?;
-    write_dots(page, rest.len() > WIDTH)
+    write_rest(page, &line[first..])?;
+    Ok(())
+}
+
+// Spaces as far as the place.
+fn write_indent(page: &mut Vec<u8>, first: usize, before: usize) -> Result<(), OutOfMemory>
+    ensures { OnOk result (page.new.items ≡ page.old.items ++ indent first before) }
+{
+    if first > 0 {
+        page.extend_from_slice(b"  ")?;
+    }
+    write_times(page, b' ', before.saturating_sub(first))
+}
+
+// The first byte that is shown of a line of so many bytes, where so many stand before the place.
+fn first_shown(before: usize, count: usize) -> usize
+    ensures { result ≡ first_shown before count }
+{
+    before
+        .saturating_sub(BEFORE)
+        .min(count.saturating_sub(WIDTH))
 }
 
 // How many marks stand under a place of so many bytes, before which so many stand on its line.
@@ -82,15 +110,38 @@ fn marks(line: &[u8], first: usize, before: usize, size: u64) -> usize
     shown.min(size as usize).max(1)
 }
 
-// Spaces as far as the place.
-fn write_indent(page: &mut Vec<u8>, first: usize, before: usize) -> Result<(), OutOfMemory>
-    ensures { OnOk result (page.new.items
-        ≡ page.old.items ++ (under_dots (nat_lt 0 first) ++ replicate (before - first) 32)) }
+// The number of a line and the line. Answers how many digits the number has.
+fn write_line_row(page: &mut Vec<u8>, spot: &Spot, first: usize) -> Result<usize, OutOfMemory>
+    requires { first ≤ length spot.now.line.now }
+    ensures written { OnOk result (page.new.items
+        ≡ page.old.items ++ line_row spot.now.number spot.now.line.now first) }
+    ensures digits { IfOk result (λ count. count ≡ length (decimal spot.now.number)) }
 {
-    if first > 0 {
-        page.extend_from_slice(b"  ")?;
-    }
-    write_times(page, b' ', before.saturating_sub(first))
+    let digits = write_number(page, spot.number)?;
+    page.extend_from_slice(b" | ")?;
+    write_line(page, spot.line, first)?;
+    page.extend_from_slice(b"\n")?;
+    Ok(digits)
+}
+
+// Marks under a place of so many bytes, behind spaces under a number of so many digits.
+fn write_mark_row(
+    page: &mut Vec<u8>,
+    digits: usize,
+    spot: &Spot,
+    first: usize,
+    size: u64,
+) -> Result<(), OutOfMemory>
+    requires { first ≤ length spot.now.line.now }
+    ensures { OnOk result (page.new.items
+        ≡ page.old.items ++ mark_row digits spot.now.line.now first spot.now.before size) }
+{
+    write_times(page, b' ', digits)?;
+    page.extend_from_slice(b" | ")?;
+    write_indent(page, first, spot.before)?;
+    write_times(page, b'^', marks(spot.line, first, spot.before, size))?;
+    page.extend_from_slice(b"\n")?;
+    Ok(())
 }
 
 // Puts the line of a place of so many bytes at the end of a page, and marks under the place.
@@ -98,18 +149,8 @@ pub(crate) fn write_excerpt(page: &mut Vec<u8>, spot: &Spot, size: u64) -> Resul
     ensures { OnOk result (page.new.items
         ≡ page.old.items ++ excerpt_of spot.now.number spot.now.line.now spot.now.before size) }
 {
-    let first = spot
-        .before
-        .saturating_sub(BEFORE)
-        .min(spot.line.len().saturating_sub(WIDTH));
-    let digits = write_number(page, spot.number)?;
-    page.extend_from_slice(b" | ")?;
-    write_line(page, spot.line, first)?;
-    page.extend_from_slice(b"\n")?;
-    write_times(page, b' ', digits)?;
-    page.extend_from_slice(b" | ")?;
-    write_indent(page, first, spot.before)?;
-    write_times(page, b'^', marks(spot.line, first, spot.before, size))?;
-    page.extend_from_slice(b"\n")?;
+    let first = first_shown(spot.before, spot.line.len());
+    let digits = write_line_row(page, spot, first)?;
+    write_mark_row(page, digits, spot, first, size)?;
     Ok(())
 }

@@ -1,7 +1,7 @@
 // The page.
 ghost use Rattle.std.specs.Prelude.{◌≡◌, ◌++◌, ◌-◌, ◌+◌, IfOk, OnOk};
 ghost use Rattle.fault_page.specs.Spot.{line_number, offset};
-ghost use Rattle.fault_page.specs.Page.{over_text, heading, page};
+ghost use Rattle.fault_page.specs.Page.{over_text, bytes_text, place_text, heading, page};
 
 use crate::excerpt::{write_excerpt, write_number};
 use crate::spot::{Spot, lines_over, spot_at};
@@ -33,6 +33,36 @@ fn write_over(page: &mut Vec<u8>, lines: u64) -> Result<(), OutOfMemory>
     Ok(())
 }
 
+fn write_bytes(page: &mut Vec<u8>, place: Span) -> Result<(), OutOfMemory>
+    ensures { OnOk result (page.new.items ≡ page.old.items ++ bytes_text place.start place.end) }
+{
+    page.extend_from_slice(b" (bytes ")?;
+    write_number(page, place.start)?;
+    page.extend_from_slice(b"..")?;
+    write_number(page, place.end)?;
+    page.extend_from_slice(b")")?;
+    Ok(())
+}
+
+// A place by its line, its column, how many lines it stands on, and its bytes.
+fn write_place(
+    page: &mut Vec<u8>,
+    line: u64,
+    column: u64,
+    lines: u64,
+    place: Span,
+) -> Result<(), OutOfMemory>
+    ensures { OnOk result (page.new.items
+        ≡ page.old.items ++ place_text line column lines place.start place.end) }
+{
+    page.extend_from_slice(b"line ")?;
+    write_number(page, line)?;
+    page.extend_from_slice(b", column ")?;
+    write_number(page, column)?;
+    write_over(page, lines)?;
+    write_bytes(page, place)
+}
+
 // What is wrong, and where.
 fn write_heading(
     page: &mut Vec<u8>,
@@ -48,16 +78,11 @@ fn write_heading(
     page.extend_from_slice(note.code.as_bytes())?;
     page.extend_from_slice(b" ")?;
     page.extend_from_slice(note.words.as_bytes())?;
-    page.extend_from_slice(b": line ")?;
-    write_number(page, spot.number)?;
-    page.extend_from_slice(b", column ")?;
-    write_number(page, spot.before as u64 + 1)?;
-    write_over(page, lines_over(text, note.place))?;
-    page.extend_from_slice(b" (bytes ")?;
-    write_number(page, note.place.start)?;
-    page.extend_from_slice(b"..")?;
-    write_number(page, note.place.end)?;
-    page.extend_from_slice(b")\n")?;
+    page.extend_from_slice(b": ")?;
+    let column = spot.before as u64 + 1;
+    let lines = lines_over(text, note.place);
+    write_place(page, spot.number, column, lines, note.place)?;
+    page.extend_from_slice(b"\n")?;
     Ok(())
 }
 

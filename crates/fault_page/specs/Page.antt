@@ -1,5 +1,5 @@
 -- The page that explains a fault of a text. All of it is our own choice.
-use Rattle.std.specs.Prelude.{ℕ, ◌+◌, ◌-◌, ◌==◌, nat_lt, min, max, Bool, ◌&&◌, List, [], ◌∷◌, ◌++◌}
+use Rattle.std.specs.Prelude.{ℕ, ◌+◌, ◌-◌, ◌==◌, nat_lt, min, max, Bool, ◌&&◌, List, [], ◌++◌}
 use Rattle.std.specs.Prelude.{take, drop, length, map, replicate, if◌then◌else◌, codes, decimal}
 use Rattle.fault_page.specs.Spot.{line_number, line_at, offset, column, lines_over}
 

@@ -11,6 +11,7 @@ ghost use Rattle.talc_core.specs.Composition.{UpgradedIsTaken, UpgradedIsTheSame
 ghost use Rattle.talc_core.specs.Composition.{UpgradedTracesTheSame, UpgradedNeverSticks, UpgradedIsKept};
 ghost use Rattle.talc_core.specs.Composition.{OneUpgrade, OneWrittenText};
 ghost use Rattle.talc_core.specs.Exact.{HeadlineIsExact};
+ghost use Rattle.talc_core.specs.Explained.{OneExplanation};
 ghost use Rattle.talc_core.specs.TextLaws.{TextLaws};
 ghost use Rattle.talc_core.specs.Traced.{LinesShowKinds, OneLine};
 ghost use Rattle.talc_core.specs.TraceLaws.{OneTrace, TraceEndsAsRun};
@@ -269,6 +270,13 @@ pub fn one_trace()
 pub fn trace_ends_as_run()
     ensures { TraceEndsAsRun }
 {}
+
+/// What `explain` shows of a text is told by the text.
+pub fn one_explanation()
+    ensures { OneExplanation }
+{
+    texts_keep_laws();
+}
 
 // What a call does by its status tells when each status comes.
 pub(crate) fn headline_is_exact()

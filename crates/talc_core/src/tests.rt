@@ -10,6 +10,7 @@ use t_terms::TCode;
 mod assembly_rows;
 mod compile_rows;
 mod cut_rows;
+mod explain_rows;
 mod memory;
 mod outside_rows;
 mod seed_rows;

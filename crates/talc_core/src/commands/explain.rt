@@ -1,9 +1,9 @@
 // The command `explain`.
-ghost use Rattle.std.specs.Prelude.{◌≡◌, IfOk, IsTrue, IsFalse, OnOk};
+ghost use Rattle.std.specs.Prelude.{◌≡◌, IfOk};
 ghost use Rattle.talc_core.specs.FirstFault.{AnyText, AProgram, AnAssembly};
-ghost use Rattle.talc_core.specs.Explained.{ShowsExplained, explained, is_assembly, looked_for};
+ghost use Rattle.talc_core.specs.Explained.{ExplainShown, ShowsExplained, explained, is_assembly, looked_for};
 ghost use Rattle.talc_core.specs.OnTexts.{ShowsText};
-ghost use Rattle.talc_core.specs.Steps.{FindsFault, ShowsFile};
+ghost use Rattle.talc_core.specs.Steps.{FindsFault, OrMemory, ShowsFile};
 
 use crate::assembly::check_assembly;
 use crate::commands::put_reply;
@@ -75,17 +75,30 @@ fn explain_fault(alloc: Global, text: &[u8], fault: Fault) -> Result<Vec<u8>, Ou
     page_of(alloc, text, &note)
 }
 
+// What is shown of a text.
+fn explanation(alloc: Global, text: &[u8]) -> Result<Vec<u8>, Refusal>
+    ensures { OrMemory (λ shown. ExplainShown text.now shown.items) result }
+{
+    match find_fault(alloc, text) {
+        Ok(()) => {
+            let line = Vec::from_slice(alloc, b"no fault\n")?;
+            Ok(line)
+        }
+        Err(Refusal::Fault(fault)) => {
+            let page = explain_fault(alloc, text, fault)?;
+            Ok(page)
+        }
+        Err(Refusal::Memory) => Err(Refusal::Memory),
+    }
+}
+
 /// What `explain` shows of a text (own choice): a page for people on its first fault, as that of a program of the
 /// source, or, where it begins with `tal` and a space, of an assembly program; or that it has none. Only want of memory
 /// is an error.
 pub fn explain_text(alloc: Global, text: &[u8]) -> Result<Reply, Refusal>
     ensures { ShowsText ShowsExplained AnyText text.now result }
 {
-    let line = match find_fault(alloc, text) {
-        Ok(()) => Vec::from_slice(alloc, b"no fault\n")?,
-        Err(Refusal::Fault(fault)) => explain_fault(alloc, text, fault)?,
-        Err(Refusal::Memory) => return Err(Refusal::Memory),
-    };
+    let line = explanation(alloc, text)?;
     Ok(Reply {
         ending: Ending::Ends,
         line,

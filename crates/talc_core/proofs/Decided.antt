@@ -15,7 +15,7 @@ use Rattle.t_rules.specs.Rules.{Accepted}
 use Rattle.t_rules.specs.Faults as checking
 use Rattle.talc_core.specs.declared.fault.Fault.{Fault}
 use Rattle.talc_core.specs.declared.fault.Fault.TheVariants.{Source, Tal}
-use Rattle.talc_core.specs.FirstFault.{AnyTerm, AProgram, CellFree, AnAssembly, IsParsed, IsChecked, IsAssembly, TermFault}
+use Rattle.talc_core.specs.FirstFault.{AnyText, AnyTerm, AProgram, CellFree, AnAssembly, IsParsed, IsChecked, IsAssembly, TermFault}
 use Rattle.talc_core.specs.FirstFault.{IsTaken, FirstFault, KeepsBounds, TakenOrFault}
 use Rattle.talc_core.specs.TextLaws.{TextLaws}
 
@@ -95,6 +95,7 @@ module _ (laws : TextLaws) where
   an_assembly text keeps (inr (c, s, fault)) = inr (Tal c s, inl fault)
 
   pub taken_or_fault : TakenOrFault
+  taken_or_fault AnyText text keeps = inl tt
   taken_or_fault AnyTerm text keeps = any_term text (by_reading text (laws.term_or_fault text))
   taken_or_fault AProgram text keeps = a_program text (by_reading text (laws.term_or_fault text))
   taken_or_fault CellFree text keeps = cell_free text (a_program text (by_reading text (laws.term_or_fault text)))

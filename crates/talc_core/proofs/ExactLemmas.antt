@@ -9,11 +9,12 @@ use Rattle.f_terms.specs.Tm.{plain}
 use Rattle.f_terms.specs.Eval.{Gives, Spent, EvaluatesLeaving, IsSpent}
 use Rattle.t_terms.specs.Spanned.{plain_program}
 use Rattle.t_rules.specs.Machine.{GoesOnAfter}
-use Rattle.talc_core.specs.FirstFault.{Need, AnyTerm, AProgram, CellFree, AnAssembly, IsTaken}
-use Rattle.talc_core.specs.Command.{Asked, Compiles, CompilesWithin, Types, Evaluates, Checks, Runs, Generates, Upgrades, Traces, command_of, need_of}
+use Rattle.talc_core.specs.FirstFault.{Need, AnyText, AnyTerm, AProgram, CellFree, AnAssembly, IsTaken}
+use Rattle.talc_core.specs.Command.{Asked, Compiles, CompilesWithin, Types, Evaluates, Checks, Runs, Generates, Upgrades, Traces, Explains, command_of, need_of}
 use Rattle.talc_core.specs.CompiledText.{CompiledText, CompiledTextWithin}
 use Rattle.talc_core.specs.Upgraded.{IsUpgraded}
 use Rattle.talc_core.specs.Shown.{Showing, ShowsType, ShowsValue, ValueShown, ShowsAccepted, ShowsRun, ShowsTrace, HaltedShown}
+use Rattle.talc_core.specs.Explained.{ShowsExplained}
 use Rattle.talc_core.specs.OnTexts.{Making}
 use Rattle.talc_core.specs.Headline.{Outside, Headline, TextRefused, TextAnswer, LineAnswer, SeedAnswer, UsageAnswer, Does}
 use Rattle.talc_core.specs.Exact.{IsSettled, Tells, WorksOn, IsMissing, CannotRead, LeadsTo, CannotWrite, HasBudget, GoesOn, NoFaults, Works, HeadlineIsExact}
@@ -75,6 +76,7 @@ goes_on_taken (Evaluates input turns) source more = (more.0, more.1, more.2)
 goes_on_taken (Checks input) source more = absurd more
 goes_on_taken (Runs input fuel) source more = (more.0, more.1)
 goes_on_taken (Traces input from to) source more = (more.0, more.1)
+goes_on_taken (Explains input) source more = absurd more
 goes_on_taken (Generates seed output) source more = absurd more
 goes_on_taken (Upgrades input output) source more = absurd more
 
@@ -178,6 +180,12 @@ trace_sound laws input from to = record {
   over = λ text lines shown. ((shown.0, shown.1), (shown.0, shown.1, shown.2.goes_on), tt);
 }
 
+explain_sound : (input : List ℕ) → IsSound (Explains input) ShowsExplained
+explain_sound input = record {
+  done = λ text shown says. (tt, λ more. more);
+  over = λ text shown says. absurd says;
+}
+
 -- a text is made of one that is what is needed, and no command that makes one has a budget
 pub record Makers (asked : Asked) (Makes : Making) : Type 0 where
   pub made : (source target : List ℕ) → Makes source target → IsTaken (need_of asked) source
@@ -236,6 +244,7 @@ module _ (laws : TextLaws) (old new : Outside) where
   judged (Checks input) source status answer tells settled = line_judged (Checks input) input ShowsAccepted (accepted_sound input) source status answer tells settled
   judged (Runs input fuel) source status answer tells settled = line_judged (Runs input fuel) input (ShowsRun fuel) (run_sound laws input fuel) source status answer tells settled
   judged (Traces input from to) source status answer tells settled = line_judged (Traces input from to) input (ShowsTrace from to) (trace_sound laws input from to) source status answer tells settled
+  judged (Explains input) source status answer tells settled = line_judged (Explains input) input ShowsExplained (explain_sound input) source status answer tells settled
   judged (Compiles input output) source status answer tells settled = text_judged (Compiles input output) input output CompiledText (compiled_sound input output) source status answer tells settled
   judged (CompilesWithin input output k) source status answer tells settled = text_judged (CompilesWithin input output k) input output (CompiledTextWithin k) (bounded_sound input output k) source status answer tells settled
   judged (Upgrades input output) source status answer tells settled = text_judged (Upgrades input output) input output IsUpgraded (upgraded_sound input output) source status answer tells settled
@@ -277,6 +286,7 @@ module _ (laws : TextLaws) (old new : Outside) where
   absent_at (Checks input) status answer absent = line_absent ShowsAccepted AnAssembly input status answer absent
   absent_at (Runs input fuel) status answer absent = line_absent (ShowsRun fuel) AnAssembly input status answer absent
   absent_at (Traces input from to) status answer absent = line_absent (ShowsTrace from to) AnAssembly input status answer absent
+  absent_at (Explains input) status answer absent = line_absent ShowsExplained AnyText input status answer absent
   absent_at (Compiles input output) status answer absent = text_absent CompiledText AProgram input output status answer absent
   absent_at (CompilesWithin input output k) status answer absent = text_absent (CompiledTextWithin k) AProgram input output status answer absent
   absent_at (Upgrades input output) status answer absent = text_absent IsUpgraded AnAssembly input output status answer absent
@@ -290,6 +300,7 @@ module _ (laws : TextLaws) (old new : Outside) where
   read_fault_at (Checks input) answer = answer.cause
   read_fault_at (Runs input fuel) answer = answer.cause
   read_fault_at (Traces input from to) answer = answer.cause
+  read_fault_at (Explains input) answer = answer.cause
   read_fault_at (Generates seed output) answer = answer
   read_fault_at (Upgrades input output) answer = answer.cause
 
@@ -302,6 +313,7 @@ module _ (laws : TextLaws) (old new : Outside) where
   write_fault_at (Checks input) answer = answer.cause
   write_fault_at (Runs input fuel) answer = answer.cause
   write_fault_at (Traces input from to) answer = answer.cause
+  write_fault_at (Explains input) answer = answer.cause
   write_fault_at (Generates seed output) (inl unwritten) = inl unwritten.cause
   write_fault_at (Generates seed output) (inr unshown) = inr unshown.cause
 
@@ -314,6 +326,7 @@ module _ (laws : TextLaws) (old new : Outside) where
   cannot (Checks input) none rose = none.puts rose
   cannot (Runs input fuel) none rose = none.puts rose
   cannot (Traces input from to) none rose = none.puts rose
+  cannot (Explains input) none rose = none.puts rose
   cannot (Generates seed output) none (inl rose) = none.writes rose
   cannot (Generates seed output) none (inr rose) = none.puts rose
 
@@ -331,6 +344,7 @@ module _ (laws : TextLaws) (old new : Outside) where
   cannot_read (Checks input) source none tells why = told_is_read input source none tells why
   cannot_read (Runs input fuel) source none tells why = told_is_read input source none tells why
   cannot_read (Traces input from to) source none tells why = told_is_read input source none tells why
+  cannot_read (Explains input) source none tells why = told_is_read input source none tells why
   cannot_read (Generates seed output) source none is why = why
 
   no_usage : (asked : Asked) → Does old new Usage asked → ⊥
@@ -342,6 +356,7 @@ module _ (laws : TextLaws) (old new : Outside) where
   no_usage (Checks input) answer = answer
   no_usage (Runs input fuel) answer = answer
   no_usage (Traces input from to) answer = answer
+  no_usage (Explains input) answer = answer
   no_usage (Generates seed output) answer = answer
 
   budget_has : (asked : Asked) → Does old new Budget asked → HasBudget asked
@@ -353,6 +368,7 @@ module _ (laws : TextLaws) (old new : Outside) where
   budget_has (Checks input) answer = answer.says
   budget_has (Runs input fuel) answer = tt
   budget_has (Traces input from to) answer = tt
+  budget_has (Explains input) answer = answer.says
   budget_has (Generates seed output) answer = answer
 
   generates_at : (seed : ℕ) (output : List ℕ) (status : Status) → SeedAnswer seed output old new status → (status ≡ Done) ⊎ ((status ≡ WriteFault) ⊎ (status ≡ Memory))
@@ -364,6 +380,16 @@ module _ (laws : TextLaws) (old new : Outside) where
   generates_at seed output Usage answer = absurd answer
   generates_at seed output Budget answer = absurd answer
   generates_at seed output ReadFault answer = absurd answer
+
+  explains_at : (input : List ℕ) (status : Status) → LineAnswer ShowsExplained AnyText input old new status → (status ≡ Done) ⊎ ((status ≡ ReadFault) ⊎ ((status ≡ WriteFault) ⊎ (status ≡ Memory)))
+  explains_at input Done answer = inl refl
+  explains_at input ReadFault answer = inr (inl refl)
+  explains_at input WriteFault answer = inr (inr (inl refl))
+  explains_at input Memory answer = inr (inr (inr refl))
+  explains_at input Refused answer = absurd answer.first
+  explains_at input Limit answer = absurd answer.first
+  explains_at input Budget answer = absurd answer.says
+  explains_at input Usage answer = absurd answer
 
   -- a settled status is that of the text, any other has its cause
   complete_at : (asked : Asked) (source : List ℕ) (status : Status) → Does old new status asked → WorksOn asked old source → IsTaken (need_of asked) source → NoFaults old new → Works asked status ⊎ (status ≡ Memory)
@@ -412,5 +438,6 @@ exactly laws words old new status headline = record {
   absent = λ asked asks absent. absent_at laws old new asked status (at_some _ _ _ _ headline asks) absent;
   write_fault = λ asked asks e. write_fault_at laws old new asked (subst (λ s. Does old new s asked) e (at_some _ _ _ _ headline asks));
   generates = λ seed output asks. generates_at laws old new seed output status (at_some _ _ _ _ headline asks);
+  explains = λ input asks. explains_at laws old new input status (at_some _ _ _ _ headline asks);
   complete = λ asked source asks taken none. complete_at laws old new asked source status (at_some _ _ _ _ headline asks.0) asks.1 taken none;
 }

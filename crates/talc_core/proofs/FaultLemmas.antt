@@ -13,7 +13,7 @@ use Rattle.talc_core.specs.declared.fault.Fault.TheVariants.{Source, Tal}
 use Rattle.t_terms.specs.declared.fault.TCode.{TCode}
 use Rattle.t_terms.specs.Spanned.{SProg}
 use Rattle.t_rules.specs.Faults as checking
-use Rattle.talc_core.specs.FirstFault.{AnyTerm, AProgram, CellFree, AnAssembly, IsParsed, IsChecked, IsAssembly, IsAcceptedText, TermFault, ProgramFault, CellFault, AssemblyFault, OneFault, NoFaultWhereTaken}
+use Rattle.talc_core.specs.FirstFault.{AnyText, AnyTerm, AProgram, CellFree, AnAssembly, IsParsed, IsChecked, IsAssembly, IsAcceptedText, TermFault, ProgramFault, CellFault, AssemblyFault, OneFault, NoFaultWhereTaken}
 use Rattle.talc_core.specs.TextLaws.{TextLaws}
 
 -- code and place of two faults agree
@@ -72,6 +72,7 @@ module _ (laws : TextLaws) where
       laws.no_fault_where_accepted program c s accepted.1 (subst (λ P. checking.ProgramFault P c s) same found.fault)
 
   pub no_fault_where_taken : NoFaultWhereTaken
+  no_fault_where_taken AnyText text fault taken found = absurd found
   no_fault_where_taken AnyTerm text (Source c s) taken fault = no_term_fault text c s taken.0 taken.1 taken.2 fault
   no_fault_where_taken AProgram text (Source c s) taken fault = no_program_fault text c s taken.0 taken.1 fault
   no_fault_where_taken CellFree text (Source c s) taken fault = no_cell_fault text c s taken.0 taken.1 taken.2 fault
@@ -116,6 +117,7 @@ module _ (laws : TextLaws) where
       laws.one_accepting_fault y.program c d s t (subst (λ P. checking.ProgramFault P c s) same x.fault) y.fault
 
   pub one_fault : OneFault
+  one_fault AnyText text a b x y = absurd x
   one_fault AnyTerm text (Source c s) (Source d t) x y = same_source c d s t (one_term_fault text c d s t x y)
   one_fault AProgram text (Source c s) (Source d t) x y = same_source c d s t (one_program_fault text c d s t x y)
   one_fault CellFree text (Source c s) (Source d t) x y = same_source c d s t (one_cell_fault text c d s t x y)

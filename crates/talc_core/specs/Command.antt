@@ -1,8 +1,8 @@
 -- What the words of the command line ask for: see the crate of the words, where it is a definition over `clap`'s rules.
 use Rattle.std.specs.Prelude.{List, ℕ, Option, Some, None}
-use Rattle.talc_core.specs.FirstFault.{Need, AnyTerm, AProgram, CellFree, AnAssembly}
+use Rattle.talc_core.specs.FirstFault.{Need, AnyText, AnyTerm, AProgram, CellFree, AnAssembly}
 pub use Rattle.words.specs.Command.{Asked, Compiles, CompilesWithin, Types, Evaluates, Checks, Runs, Generates}
-pub use Rattle.words.specs.Command.{Upgrades, Traces}
+pub use Rattle.words.specs.Command.{Upgrades, Traces, Explains}
 pub use Rattle.words.specs.Command.{command_of}
 
 -- what the command needs of the text that it works on: of the one that it reads, or of the source that it makes
@@ -16,6 +16,7 @@ need_of (Runs input fuel) = AnAssembly
 need_of (Generates seed output) = AProgram
 need_of (Upgrades input output) = AnAssembly
 need_of (Traces input from to) = AnAssembly
+need_of (Explains input) = AnyText
 
 -- the name of the file that it reads, if it reads one
 abbrev pub input_of : Asked → Option (List ℕ)
@@ -28,3 +29,4 @@ input_of (Runs input fuel) = Some input
 input_of (Generates seed output) = None
 input_of (Upgrades input output) = Some input
 input_of (Traces input from to) = Some input
+input_of (Explains input) = Some input

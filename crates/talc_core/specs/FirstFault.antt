@@ -19,9 +19,10 @@ use Rattle.t_rules.specs.Faults as checking
 use Rattle.talc_core.specs.declared.fault.Fault.{Fault}
 use Rattle.talc_core.specs.declared.fault.Fault.TheVariants.{Source, Tal}
 
--- what a command needs of a text: a term of any type, a program, a program without cells, or an assembly program that
--- the typing rules accept
+-- what a command needs of a text: nothing, a term of any type, a program, a program without cells, or an assembly
+-- program that the typing rules accept
 pub data Need : Type 0 where
+  AnyText : Need
   AnyTerm : Need
   AProgram : Need
   CellFree : Need
@@ -94,6 +95,7 @@ AssemblyFault text code span = assembly.FirstFault text code span ⊎ AcceptingF
 
 -- the first fault of a text of which this is needed
 abbrev pub FirstFault : Need → List ℕ → Fault → Type 0
+FirstFault AnyText text fault = ⊥
 FirstFault AnyTerm text (Source code span) = TermFault text code span
 FirstFault AProgram text (Source code span) = ProgramFault text code span
 FirstFault CellFree text (Source code span) = CellFault text code span
@@ -105,6 +107,7 @@ FirstFault AnAssembly text (Source code span) = ⊥
 
 -- the text is one of which this is needed
 abbrev pub IsTaken : Need → List ℕ → Type 0
+IsTaken AnyText text = Unit {0}
 IsTaken AnyTerm text = (term : Tm) × (type : Ty) × IsChecked text term type
 IsTaken AProgram text = (term : Tm) × IsChecked text term TInt
 IsTaken CellFree text = (term : Tm) × IsChecked text term TInt × (has_cells (plain term) ≡ false)

@@ -10,6 +10,8 @@ pub mod Translated
 pub mod CompiledText
 pub mod Upgraded
 pub mod Shown
+pub mod Hints
+pub mod Explained
 pub mod OnTexts
 pub mod Headline
 pub mod Steps

@@ -29,14 +29,15 @@ use Rattle.talc_core.specs.declared.reply.Ending.TheVariants.{Ends, GoesOn}
 use Rattle.talc_core.specs.declared.reply.Reply.{Reply}
 use Rattle.talc_core.specs.Fault.{status_of}
 use Rattle.talc_core.specs.Command.{Asked, Compiles, CompilesWithin, Types, Evaluates, Checks, Runs, Generates}
-use Rattle.talc_core.specs.Command.{Upgrades, Traces}
-use Rattle.talc_core.specs.FirstFault.{Need, AnyTerm, AProgram, CellFree, AnAssembly}
-use Rattle.talc_core.specs.FirstFault.{IsChecked, IsAcceptedText, FirstFault}
+use Rattle.talc_core.specs.Command.{Upgrades, Traces, Explains}
+use Rattle.talc_core.specs.FirstFault.{Need, AnyText, AnyTerm, AProgram, CellFree, AnAssembly}
+use Rattle.talc_core.specs.FirstFault.{IsChecked, IsAcceptedText, IsTaken, FirstFault}
 use Rattle.talc_core.specs.CompiledText.{CompiledText, CompiledTextWithin}
 use Rattle.talc_core.specs.Upgraded.{IsUpgraded}
 use Rattle.seeds.specs.Source.{source as source_of}
 use Rattle.talc_core.specs.Shown.{Showing, ShowsType, ShowsValue, ShowsAccepted, ShowsRun, ShowsTrace}
 use Rattle.talc_core.specs.Shown.{SeedShown, seed_turns}
+use Rattle.talc_core.specs.Explained.{ShowsExplained}
 use Rattle.talc_core.specs.OnTexts.{Making, RefusedBy, status_at}
 use Rattle.talc_core.specs.Headline.{Shows, ShowsOrNot, Unwritten, Unread}
 use Rattle.talc_core.specs.Lines.{fault_line, read_line, write_line, memory_line}
@@ -63,6 +64,11 @@ ReadsCellFree source (Err why) = RefusedBy CellFree source why
 abbrev pub ChecksAssembly : List ℕ → Result Checked Refusal → Type 0
 ChecksAssembly text (Ok checked) = IsAcceptedText text (spanned_program (checked_program checked))
 ChecksAssembly text (Err why) = RefusedBy AnAssembly text why
+
+-- the text is what is needed, or its first fault
+abbrev pub FindsFault : Need → List ℕ → Result (Unit {0}) Refusal → Type 0
+FindsFault need text (Ok done) = IsTaken need text
+FindsFault need text (Err why) = RefusedBy need text why
 
 -- ---- the calls of the outside
 
@@ -188,6 +194,7 @@ Performs (Upgrades input output) old new out out' result =
     MakesFile IsUpgraded AnAssembly input output old new result × (out' ≡ out)
 Performs (Traces input from to) old new out out' result =
     ShowsFile (ShowsTrace from to) AnAssembly input old new out out' result
+Performs (Explains input) old new out out' result = ShowsFile ShowsExplained AnyText input old new out out' result
 
 -- ---- the lines for the user
 

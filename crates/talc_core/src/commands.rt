@@ -6,6 +6,7 @@ ghost use Rattle.words.specs.Reads.{asked_by};
 use crate::commands::check::show_acceptance;
 use crate::commands::compile::{compile_file, compile_file_within};
 use crate::commands::eval::show_value;
+use crate::commands::explain::show_explanation;
 use crate::commands::run::show_run;
 use crate::commands::seed::show_seed;
 use crate::commands::trace::{Window, show_trace};
@@ -21,6 +22,7 @@ use words::Command;
 mod check;
 mod compile;
 mod eval;
+mod explain;
 mod run;
 mod seed;
 pub(crate) mod trace;
@@ -30,6 +32,7 @@ mod upgrade;
 pub use check::check_text;
 pub use compile::{compile_text, compile_text_within};
 pub use eval::eval_text;
+pub use explain::explain_text;
 pub use run::run_text;
 pub use trace::trace_text;
 pub use type_of::type_of_text;
@@ -66,6 +69,7 @@ pub(crate) fn perform<F: Files, O: Sink>(
         Command::Typeof { input } => show_type(alloc, files, out, input),
         Command::Eval { input, turns } => show_value(alloc, files, out, input, turns),
         Command::Gen { seed, output } => show_seed(alloc, files, out, seed, output),
+        Command::Explain { input } => show_explanation(alloc, files, out, input),
         Command::Upgrade { input, output } => upgrade_file(alloc, files, input, output),
         Command::Trace { input, from, to } => {
             show_trace(alloc, files, out, input, Window { from, to })

@@ -10,6 +10,7 @@ use std::fmt;
 use t_terms::TCode;
 
 pub(crate) mod codes;
+pub(crate) mod hints;
 
 /// The first fault of a text: the rule or limit that it breaks, and the place.
 #[derive(Clone, Copy, Debug, PartialEq, Eq, Drop)]

@@ -17,7 +17,7 @@ mod tests;
 mod top;
 
 pub use commands::{
-    check_text, compile_text, compile_text_within, eval_text, run_text, trace_text, type_of_text,
+    check_text, compile_text, compile_text_within, eval_text, explain_text, run_text, trace_text, type_of_text,
     upgrade_text,
 };
 pub use fault::Fault;

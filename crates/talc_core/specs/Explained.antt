@@ -1,0 +1,51 @@
+-- What `explain` shows of a text.
+use Rattle.std.specs.Prelude.{◌≡◌, ◌⊎◌, ◌==◌, ℕ, List, Bool, if◌then◌else◌, codes}
+use Rattle.std.specs.List.{starts_with}
+use Rattle.idx_core.specs.declared.span.Span.{Span}
+use Rattle.fault_page.specs.Page.{page}
+use Rattle.talc_core.specs.declared.fault.Fault.{Fault}
+use Rattle.talc_core.specs.declared.fault.Fault.TheVariants.{Source, Tal}
+use Rattle.talc_core.specs.declared.status.Status.{Status}
+use Rattle.talc_core.specs.declared.status.Status.TheVariants.{Done}
+use Rattle.talc_core.specs.Lines.{source_code, source_words, tal_code, tal_words}
+use Rattle.talc_core.specs.Hints.{source_hint, tal_hint}
+use Rattle.talc_core.specs.FirstFault.{Need, AProgram, AnAssembly, FirstFault, IsTaken}
+use Rattle.talc_core.specs.Shown.{Showing}
+
+-- the page of a fault: the text is shown at the place
+abbrev pub fault_page : (text code words : List ℕ) → Span → (hint : List ℕ) → List ℕ
+fault_page text code words span hint = page text code words span.start span.end hint
+
+abbrev pub explained : List ℕ → Fault → List ℕ
+explained text (Source code span) = fault_page text (source_code code) (source_words code) span (source_hint code)
+explained text (Tal code span) = fault_page text (tal_code code) (tal_words code) span (tal_hint code)
+
+abbrev pub no_fault : List ℕ
+no_fault = codes "no fault\n"
+
+-- a text that begins with `tal` and a space is taken for an assembly text, and any other for a source text
+abbrev pub is_assembly : List ℕ → Bool
+is_assembly text = starts_with (λ a b. a == b) text (codes "tal ")
+
+-- what is looked for in a text: an assembly program that the typing rules accept, as by `check`, or a program of the
+-- source, as by `compile`
+abbrev pub looked_for : List ℕ → Need
+looked_for text = if is_assembly text then AnAssembly else AProgram
+
+-- the text has this first fault, and the page of the fault is shown
+pub record FaultExplained (text shown : List ℕ) : Type 0 where
+  pub fault : Fault
+  pub first : FirstFault (looked_for text) text fault
+  pub is : shown ≡ explained text fault
+
+-- the text is what is looked for
+pub record NoFaultFound (text shown : List ℕ) : Type 0 where
+  pub taken : IsTaken (looked_for text) text
+  pub is : shown ≡ no_fault
+
+abbrev pub ExplainShown : List ℕ → List ℕ → Type 0
+ExplainShown text shown = FaultExplained text shown ⊎ NoFaultFound text shown
+
+abbrev pub ShowsExplained : Showing
+ShowsExplained Done text shown = ExplainShown text shown
+ShowsExplained other text shown = ⊥

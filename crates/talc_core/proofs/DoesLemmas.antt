@@ -7,11 +7,12 @@ use Rattle.talc_core.specs.declared.report.Failure.{Failure}
 use Rattle.talc_core.specs.declared.report.Failure.TheVariants as failed
 use Rattle.talc_core.specs.declared.status.Status.{Status}
 use Rattle.talc_core.specs.declared.status.Status.TheVariants.{Done, Refused, Usage, Limit, Budget, ReadFault, WriteFault, Memory}
-use Rattle.talc_core.specs.Command.{Asked, Compiles, CompilesWithin, Types, Evaluates, Checks, Runs, Generates, Upgrades, Traces, Explains}
+use Rattle.talc_core.specs.Command.{Asked, Compiles, CompilesWithin, Types, Evaluates, Checks, Runs, Generates, Upgrades, Traces, Shows, Explains}
 use Rattle.talc_core.specs.FirstFault.{Need, AnyText, AnyTerm, AProgram, CellFree, AnAssembly}
 use Rattle.talc_core.specs.CompiledText.{CompiledText, CompiledTextWithin}
 use Rattle.talc_core.specs.Upgraded.{IsUpgraded}
 use Rattle.talc_core.specs.Shown.{Showing, ShowsType, ShowsValue, ShowsAccepted, ShowsRun, ShowsTrace, SeedShown}
+use Rattle.talc_core.specs.FormShown.{ShowsForm}
 use Rattle.talc_core.specs.Explained.{ShowsExplained}
 use Rattle.talc_core.specs.Headline.{Outside, Unwritten, SeedWrittenAlone, TextAnswer, LineAnswer, SeedAnswer, Does}
 use Rattle.seeds.specs.Source.{source as source_of}
@@ -142,6 +143,7 @@ module _ (f f' : FilesState) (o o' e e' : SinkState) where
   does_failed (Checks input) failure status done told = line_failed ShowsAccepted AnAssembly input failure status done told
   does_failed (Runs input fuel) failure status done told = line_failed (ShowsRun fuel) AnAssembly input failure status done told
   does_failed (Traces input from to) failure status done told = line_failed (ShowsTrace from to) AnAssembly input failure status done told
+  does_failed (Shows input form) failure status done told = line_failed (ShowsForm form) AProgram input failure status done told
   does_failed (Explains input) failure status done told = line_failed ShowsExplained AnyText input failure status done told
   does_failed (Generates seed output) failure status done told = seed_failed seed output failure status done told
   does_failed (Upgrades input output) failure status done told = text_failed IsUpgraded AnAssembly input output done.1 failure status done.0 told

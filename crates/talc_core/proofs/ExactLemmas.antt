@@ -10,10 +10,12 @@ use Rattle.f_terms.specs.Eval.{Gives, Spent, EvaluatesLeaving, IsSpent}
 use Rattle.t_terms.specs.Spanned.{plain_program}
 use Rattle.t_rules.specs.Machine.{GoesOnAfter}
 use Rattle.talc_core.specs.FirstFault.{Need, AnyText, AnyTerm, AProgram, CellFree, AnAssembly, IsTaken}
-use Rattle.talc_core.specs.Command.{Asked, Compiles, CompilesWithin, Types, Evaluates, Checks, Runs, Generates, Upgrades, Traces, Explains, command_of, need_of}
+use Rattle.talc_core.specs.Command.{Asked, Compiles, CompilesWithin, Types, Evaluates, Checks, Runs, Generates, Upgrades, Traces, Shows, Explains, command_of, need_of}
 use Rattle.talc_core.specs.CompiledText.{CompiledText, CompiledTextWithin}
 use Rattle.talc_core.specs.Upgraded.{IsUpgraded}
 use Rattle.talc_core.specs.Shown.{Showing, ShowsType, ShowsValue, ValueShown, ShowsAccepted, ShowsRun, ShowsTrace, HaltedShown}
+use Rattle.words.specs.declared.form.Form.{Form}
+use Rattle.talc_core.specs.FormShown.{ShowsForm}
 use Rattle.talc_core.specs.Explained.{ShowsExplained}
 use Rattle.talc_core.specs.OnTexts.{Making}
 use Rattle.talc_core.specs.Headline.{Outside, Headline, TextRefused, TextAnswer, LineAnswer, SeedAnswer, UsageAnswer, Does}
@@ -76,6 +78,7 @@ goes_on_taken (Evaluates input turns) source more = (more.0, more.1, more.2)
 goes_on_taken (Checks input) source more = absurd more
 goes_on_taken (Runs input fuel) source more = (more.0, more.1)
 goes_on_taken (Traces input from to) source more = (more.0, more.1)
+goes_on_taken (Shows input form) source more = absurd more
 goes_on_taken (Explains input) source more = absurd more
 goes_on_taken (Generates seed output) source more = absurd more
 goes_on_taken (Upgrades input output) source more = absurd more
@@ -180,6 +183,12 @@ trace_sound laws input from to = record {
   over = λ text lines shown. ((shown.0, shown.1), (shown.0, shown.1, shown.2.goes_on), tt);
 }
 
+form_sound : (input : List ℕ) (form : Form) → IsSound (Shows input form) (ShowsForm form)
+form_sound input form = record {
+  done = λ source text shown. ((shown.term, shown.checked), λ more. more);
+  over = λ source text shown. absurd shown;
+}
+
 explain_sound : (input : List ℕ) → IsSound (Explains input) ShowsExplained
 explain_sound input = record {
   done = λ text shown says. (tt, λ more. more);
@@ -244,6 +253,7 @@ module _ (laws : TextLaws) (old new : Outside) where
   judged (Checks input) source status answer tells settled = line_judged (Checks input) input ShowsAccepted (accepted_sound input) source status answer tells settled
   judged (Runs input fuel) source status answer tells settled = line_judged (Runs input fuel) input (ShowsRun fuel) (run_sound laws input fuel) source status answer tells settled
   judged (Traces input from to) source status answer tells settled = line_judged (Traces input from to) input (ShowsTrace from to) (trace_sound laws input from to) source status answer tells settled
+  judged (Shows input form) source status answer tells settled = line_judged (Shows input form) input (ShowsForm form) (form_sound input form) source status answer tells settled
   judged (Explains input) source status answer tells settled = line_judged (Explains input) input ShowsExplained (explain_sound input) source status answer tells settled
   judged (Compiles input output) source status answer tells settled = text_judged (Compiles input output) input output CompiledText (compiled_sound input output) source status answer tells settled
   judged (CompilesWithin input output k) source status answer tells settled = text_judged (CompilesWithin input output k) input output (CompiledTextWithin k) (bounded_sound input output k) source status answer tells settled
@@ -286,6 +296,7 @@ module _ (laws : TextLaws) (old new : Outside) where
   absent_at (Checks input) status answer absent = line_absent ShowsAccepted AnAssembly input status answer absent
   absent_at (Runs input fuel) status answer absent = line_absent (ShowsRun fuel) AnAssembly input status answer absent
   absent_at (Traces input from to) status answer absent = line_absent (ShowsTrace from to) AnAssembly input status answer absent
+  absent_at (Shows input form) status answer absent = line_absent (ShowsForm form) AProgram input status answer absent
   absent_at (Explains input) status answer absent = line_absent ShowsExplained AnyText input status answer absent
   absent_at (Compiles input output) status answer absent = text_absent CompiledText AProgram input output status answer absent
   absent_at (CompilesWithin input output k) status answer absent = text_absent (CompiledTextWithin k) AProgram input output status answer absent
@@ -300,6 +311,7 @@ module _ (laws : TextLaws) (old new : Outside) where
   read_fault_at (Checks input) answer = answer.cause
   read_fault_at (Runs input fuel) answer = answer.cause
   read_fault_at (Traces input from to) answer = answer.cause
+  read_fault_at (Shows input form) answer = answer.cause
   read_fault_at (Explains input) answer = answer.cause
   read_fault_at (Generates seed output) answer = answer
   read_fault_at (Upgrades input output) answer = answer.cause
@@ -313,6 +325,7 @@ module _ (laws : TextLaws) (old new : Outside) where
   write_fault_at (Checks input) answer = answer.cause
   write_fault_at (Runs input fuel) answer = answer.cause
   write_fault_at (Traces input from to) answer = answer.cause
+  write_fault_at (Shows input form) answer = answer.cause
   write_fault_at (Explains input) answer = answer.cause
   write_fault_at (Generates seed output) (inl unwritten) = inl unwritten.cause
   write_fault_at (Generates seed output) (inr unshown) = inr unshown.cause
@@ -326,6 +339,7 @@ module _ (laws : TextLaws) (old new : Outside) where
   cannot (Checks input) none rose = none.puts rose
   cannot (Runs input fuel) none rose = none.puts rose
   cannot (Traces input from to) none rose = none.puts rose
+  cannot (Shows input form) none rose = none.puts rose
   cannot (Explains input) none rose = none.puts rose
   cannot (Generates seed output) none (inl rose) = none.writes rose
   cannot (Generates seed output) none (inr rose) = none.puts rose
@@ -344,6 +358,7 @@ module _ (laws : TextLaws) (old new : Outside) where
   cannot_read (Checks input) source none tells why = told_is_read input source none tells why
   cannot_read (Runs input fuel) source none tells why = told_is_read input source none tells why
   cannot_read (Traces input from to) source none tells why = told_is_read input source none tells why
+  cannot_read (Shows input form) source none tells why = told_is_read input source none tells why
   cannot_read (Explains input) source none tells why = told_is_read input source none tells why
   cannot_read (Generates seed output) source none is why = why
 
@@ -356,6 +371,7 @@ module _ (laws : TextLaws) (old new : Outside) where
   no_usage (Checks input) answer = answer
   no_usage (Runs input fuel) answer = answer
   no_usage (Traces input from to) answer = answer
+  no_usage (Shows input form) answer = answer
   no_usage (Explains input) answer = answer
   no_usage (Generates seed output) answer = answer
 
@@ -368,6 +384,7 @@ module _ (laws : TextLaws) (old new : Outside) where
   budget_has (Checks input) answer = answer.says
   budget_has (Runs input fuel) answer = tt
   budget_has (Traces input from to) answer = tt
+  budget_has (Shows input form) answer = answer.says
   budget_has (Explains input) answer = answer.says
   budget_has (Generates seed output) answer = answer
 

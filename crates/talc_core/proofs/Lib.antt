@@ -6,6 +6,7 @@ mod Decided
 mod DoesLemmas
 pub mod ExactLemmas
 mod FaultLemmas
+mod FormLemmas
 mod Rows
 mod RunLemmas
 mod SeedLemmas

@@ -2,7 +2,7 @@
 use Rattle.std.specs.Prelude.{List, ℕ, Option, Some, None}
 use Rattle.talc_core.specs.FirstFault.{Need, AnyText, AnyTerm, AProgram, CellFree, AnAssembly}
 pub use Rattle.words.specs.Command.{Asked, Compiles, CompilesWithin, Types, Evaluates, Checks, Runs, Generates}
-pub use Rattle.words.specs.Command.{Upgrades, Traces, Explains}
+pub use Rattle.words.specs.Command.{Upgrades, Traces, Shows, Explains}
 pub use Rattle.words.specs.Command.{command_of}
 
 -- what the command needs of the text that it works on: of the one that it reads, or of the source that it makes
@@ -16,6 +16,7 @@ need_of (Runs input fuel) = AnAssembly
 need_of (Generates seed output) = AProgram
 need_of (Upgrades input output) = AnAssembly
 need_of (Traces input from to) = AnAssembly
+need_of (Shows input form) = AProgram
 need_of (Explains input) = AnyText
 
 -- the name of the file that it reads, if it reads one
@@ -29,4 +30,5 @@ input_of (Runs input fuel) = Some input
 input_of (Generates seed output) = None
 input_of (Upgrades input output) = Some input
 input_of (Traces input from to) = Some input
+input_of (Shows input form) = Some input
 input_of (Explains input) = Some input

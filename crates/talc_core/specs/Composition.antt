@@ -1,4 +1,4 @@
--- What the commands do with a text that `compile` or `upgrade` wrote.
+-- What the commands do with a text that `compile` or `upgrade` wrote, or that `show` shows as the source.
 use Rattle.std.specs.Prelude.{◌≡◌, ◌↔◌, ◌+◌, ◌*◌, ◌≤◌, ℕ, ℤ, List, false}
 use Rattle.talc_core.specs.declared.status.Status.{Status}
 use Rattle.f_terms.specs.Ty.{TInt}
@@ -13,12 +13,17 @@ use Rattle.t_machine.specs.Room.{Covers}
 use Rattle.t_machine.specs.Seldom.{mallocs, malloc_fields}
 use Rattle.spill_law.specs.Bound.{RegistersUpTo}
 use Rattle.pipeline.specs.Meaning.{SameMeaning}
-use Rattle.talc_core.specs.FirstFault.{AnAssembly, IsChecked, IsAssembly, IsAcceptedText, IsTaken}
+use Rattle.f_parser.specs.Text.{Source as StandsFor, FewBytes}
+use Rattle.words.specs.declared.form.Form.{Form}
+use Rattle.words.specs.declared.form.Form.TheVariants.{Source, Assembly}
+use Rattle.talc_core.specs.FirstFault.{AProgram, AnAssembly, IsChecked, IsAssembly, IsAcceptedText, IsTaken}
 use Rattle.talc_core.specs.Written.{IsWritten}
 use Rattle.talc_core.specs.Compiled.{IsCompiled, IsCompiledWithin}
+use Rattle.talc_core.specs.Translated.{IsTranslated}
 use Rattle.talc_core.specs.Upgraded.{IsUpgraded}
 use Rattle.talc_core.specs.Lines.{integer_line}
 use Rattle.talc_core.specs.Shown.{ValueShown, HaltedShown, ShowsRun, ShowsTrace}
+use Rattle.talc_core.specs.FormShown.{FormShown}
 
 -- `check` takes it: it stands for a program that the typing rules accept
 abbrev pub CompiledIsTaken : Type 0
@@ -160,3 +165,34 @@ UpgradedIsKept = (source target again : List ℕ) → IsUpgraded source target �
 -- and so is what `compile` wrote
 abbrev pub CompiledIsKept : Type 0
 CompiledIsKept = (source target again : List ℕ) → IsCompiled source target → IsUpgraded target again → again ≡ target
+
+-- what `show` shows of a text in a form is one text
+abbrev pub OneForm : Type 0
+OneForm = (form : Form) (source a b : List ℕ) → FormShown form source a → FormShown form source b → a ≡ b
+
+-- what it shows as `assembly` is what `compile` writes
+abbrev pub ShownAssemblyIsCompiled : Type 0
+ShownAssemblyIsCompiled =
+    (source target text : List ℕ) → IsTranslated source target → FormShown Assembly source text → text ≡ target
+
+-- what it shows as `source` stands for the term of the source text, places aside, and for no other
+abbrev pub ShownSourceIsTheSame : Type 0
+ShownSourceIsTheSame =
+    (source text : List ℕ) → (shown : FormShown Source source text) →
+    ((again : Tm) × StandsFor text again)
+    × ((again : Tm) → StandsFor text again → plain again ≡ plain shown.term)
+
+-- it is a text of a program, where it has no more bytes than a source may have
+abbrev pub ShownSourceIsTaken : Type 0
+ShownSourceIsTaken = (source text : List ℕ) → FormShown Source source text → FewBytes text → IsTaken AProgram text
+
+-- each form that is shown of it is the one that is shown of the source text
+abbrev pub ShownSourceShowsTheSame : Type 0
+ShownSourceShowsTheSame =
+    (form : Form) (source text a b : List ℕ) → FormShown Source source text → FormShown form source a →
+    FormShown form text b → a ≡ b
+
+-- so it is shown again as the same bytes
+abbrev pub ShownSourceIsKept : Type 0
+ShownSourceIsKept =
+    (source text again : List ℕ) → FormShown Source source text → FormShown Source text again → again ≡ text

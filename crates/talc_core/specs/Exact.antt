@@ -16,7 +16,7 @@ use Rattle.t_rules.specs.Machine.{GoesOnAfter}
 use Rattle.seeds.specs.Source.{source}
 use Rattle.talc_core.specs.FirstFault.{Need, FirstFault, IsChecked, IsAcceptedText, IsTaken}
 use Rattle.talc_core.specs.Command.{Asked, Compiles, CompilesWithin, Types, Evaluates, Checks, Runs, Generates}
-use Rattle.talc_core.specs.Command.{Upgrades, Traces, Explains}
+use Rattle.talc_core.specs.Command.{Upgrades, Traces, Shows, Explains}
 use Rattle.talc_core.specs.Command.{command_of, need_of, input_of}
 use Rattle.talc_core.specs.Headline.{Outside, Headline}
 
@@ -43,6 +43,7 @@ WorksOn (Runs input fuel) old text = Tells old.files.told input text
 WorksOn (Generates seed output) old text = text ≡ source seed
 WorksOn (Upgrades input output) old text = Tells old.files.told input text
 WorksOn (Traces input from to) old text = Tells old.files.told input text
+WorksOn (Shows input form) old text = Tells old.files.told input text
 WorksOn (Explains input) old text = Tells old.files.told input text
 
 -- the words ask for this to be done with this text
@@ -74,6 +75,7 @@ CannotWrite (Generates seed output) old new =
     Faulted old.files.writes new.files.writes ⊎ Faulted old.out.faults new.out.faults
 CannotWrite (Upgrades input output) old new = Faulted old.files.writes new.files.writes
 CannotWrite (Traces input from to) old new = Faulted old.out.faults new.out.faults
+CannotWrite (Shows input form) old new = Faulted old.out.faults new.out.faults
 CannotWrite (Explains input) old new = Faulted old.out.faults new.out.faults
 
 -- the command has a budget
@@ -87,6 +89,7 @@ HasBudget (Runs input fuel) = Unit {0}
 HasBudget (Generates seed output) = ⊥
 HasBudget (Upgrades input output) = ⊥
 HasBudget (Traces input from to) = Unit {0}
+HasBudget (Shows input form) = ⊥
 HasBudget (Explains input) = ⊥
 
 -- the text is what the command needs, and the end isn't reached within the budget
@@ -103,6 +106,7 @@ GoesOn (Generates seed output) source = ⊥
 GoesOn (Upgrades input output) source = ⊥
 GoesOn (Traces input from to) source =
     (program : SProg) × IsAcceptedText source program × GoesOnAfter (plain_program program) to
+GoesOn (Shows input form) source = ⊥
 GoesOn (Explains input) source = ⊥
 
 -- no count of faults of the files or of the output rises in the call or stands at its last value

@@ -12,10 +12,12 @@ use Rattle.talc_core.specs.CompiledText.{CompiledText, CompiledTextWithin}
 use Rattle.talc_core.specs.Upgraded.{IsUpgraded}
 use Rattle.seeds.specs.Source.{source}
 use Rattle.talc_core.specs.Shown.{Showing, ShowsType, ShowsValue, ShowsAccepted, ShowsRun, ShowsTrace, SeedShown}
+use Rattle.talc_core.specs.FormShown.{ShowsForm}
 use Rattle.talc_core.specs.Explained.{ShowsExplained}
 use Rattle.talc_core.specs.OnTexts.{Making}
 use Rattle.talc_core.specs.Command.{Asked, Compiles, CompilesWithin, Types, Evaluates, Checks, Runs, Generates}
 use Rattle.talc_core.specs.Command.{Upgrades, Traces, Explains}
+use Rattle.talc_core.specs.Command as command
 use Rattle.talc_core.specs.Command.{command_of}
 use Rattle.talc_core.specs.Lines.{fault_line, read_line, write_line, memory_line}
 
@@ -225,6 +227,7 @@ Does old new status (Runs input fuel) = LineAnswer (ShowsRun fuel) AnAssembly in
 Does old new status (Generates seed output) = SeedAnswer seed output old new status
 Does old new status (Upgrades input output) = TextAnswer IsUpgraded AnAssembly input output old new status
 Does old new status (Traces input from to) = LineAnswer (ShowsTrace from to) AnAssembly input old new status
+Does old new status (command.Shows input form) = LineAnswer (ShowsForm form) AProgram input old new status
 Does old new status (Explains input) = LineAnswer ShowsExplained AnyText input old new status
 
 -- The whole of it: what the words ask for is done, or the user is told that they are no command.

@@ -10,6 +10,7 @@ pub mod Translated
 pub mod CompiledText
 pub mod Upgraded
 pub mod Shown
+pub mod FormShown
 pub mod Hints
 pub mod Explained
 pub mod OnTexts

@@ -30,6 +30,7 @@ use Rattle.talc_core.specs.declared.reply.Reply.{Reply}
 use Rattle.talc_core.specs.Fault.{status_of}
 use Rattle.talc_core.specs.Command.{Asked, Compiles, CompilesWithin, Types, Evaluates, Checks, Runs, Generates}
 use Rattle.talc_core.specs.Command.{Upgrades, Traces, Explains}
+use Rattle.talc_core.specs.Command as command
 use Rattle.talc_core.specs.FirstFault.{Need, AnyText, AnyTerm, AProgram, CellFree, AnAssembly}
 use Rattle.talc_core.specs.FirstFault.{IsChecked, IsAcceptedText, IsTaken, FirstFault}
 use Rattle.talc_core.specs.CompiledText.{CompiledText, CompiledTextWithin}
@@ -37,6 +38,7 @@ use Rattle.talc_core.specs.Upgraded.{IsUpgraded}
 use Rattle.seeds.specs.Source.{source as source_of}
 use Rattle.talc_core.specs.Shown.{Showing, ShowsType, ShowsValue, ShowsAccepted, ShowsRun, ShowsTrace}
 use Rattle.talc_core.specs.Shown.{SeedShown, seed_turns}
+use Rattle.talc_core.specs.FormShown.{ShowsForm}
 use Rattle.talc_core.specs.Explained.{ShowsExplained}
 use Rattle.talc_core.specs.OnTexts.{Making, RefusedBy, status_at}
 use Rattle.talc_core.specs.Headline.{Shows, ShowsOrNot, Unwritten, Unread}
@@ -194,6 +196,8 @@ Performs (Upgrades input output) old new out out' result =
     MakesFile IsUpgraded AnAssembly input output old new result × (out' ≡ out)
 Performs (Traces input from to) old new out out' result =
     ShowsFile (ShowsTrace from to) AnAssembly input old new out out' result
+Performs (command.Shows input form) old new out out' result =
+    ShowsFile (ShowsForm form) AProgram input old new out out' result
 Performs (Explains input) old new out out' result = ShowsFile ShowsExplained AnyText input old new out out' result
 
 -- ---- the lines for the user

@@ -9,6 +9,7 @@ use crate::commands::eval::show_value;
 use crate::commands::explain::show_explanation;
 use crate::commands::run::show_run;
 use crate::commands::seed::show_seed;
+use crate::commands::show::show_form;
 use crate::commands::trace::{Window, show_trace};
 use crate::commands::type_of::show_type;
 use crate::commands::upgrade::upgrade_file;
@@ -25,6 +26,7 @@ mod eval;
 mod explain;
 mod run;
 mod seed;
+mod show;
 pub(crate) mod trace;
 mod type_of;
 mod upgrade;
@@ -34,6 +36,7 @@ pub use compile::{compile_text, compile_text_within};
 pub use eval::eval_text;
 pub use explain::explain_text;
 pub use run::run_text;
+pub use show::form_of_text;
 pub use trace::trace_text;
 pub use type_of::type_of_text;
 pub use upgrade::upgrade_text;
@@ -69,6 +72,7 @@ pub(crate) fn perform<F: Files, O: Sink>(
         Command::Typeof { input } => show_type(alloc, files, out, input),
         Command::Eval { input, turns } => show_value(alloc, files, out, input, turns),
         Command::Gen { seed, output } => show_seed(alloc, files, out, seed, output),
+        Command::Show { input, form } => show_form(alloc, files, out, input, form),
         Command::Explain { input } => show_explanation(alloc, files, out, input),
         Command::Upgrade { input, output } => upgrade_file(alloc, files, input, output),
         Command::Trace { input, from, to } => {

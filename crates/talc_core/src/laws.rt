@@ -10,6 +10,8 @@ ghost use Rattle.talc_core.specs.Composition.{BoundedHasFewRegisters};
 ghost use Rattle.talc_core.specs.Composition.{UpgradedIsTaken, UpgradedIsTheSame, UpgradedRunsTheSame};
 ghost use Rattle.talc_core.specs.Composition.{UpgradedTracesTheSame, UpgradedNeverSticks, UpgradedIsKept};
 ghost use Rattle.talc_core.specs.Composition.{OneUpgrade, OneWrittenText};
+ghost use Rattle.talc_core.specs.Composition.{OneForm, ShownAssemblyIsCompiled, ShownSourceIsTheSame};
+ghost use Rattle.talc_core.specs.Composition.{ShownSourceIsTaken, ShownSourceShowsTheSame, ShownSourceIsKept};
 ghost use Rattle.talc_core.specs.Exact.{HeadlineIsExact};
 ghost use Rattle.talc_core.specs.Explained.{OneExplanation};
 ghost use Rattle.talc_core.specs.TextLaws.{TextLaws};
@@ -276,6 +278,50 @@ pub fn one_explanation()
     ensures { OneExplanation }
 {
     texts_keep_laws();
+}
+
+/// What `show` shows of a text in a form is one text.
+pub fn one_form()
+    ensures { OneForm }
+{
+    texts_keep_laws();
+}
+
+/// What `show` shows as `assembly` is what `compile` writes.
+pub fn shown_assembly_is_compiled()
+    ensures { ShownAssemblyIsCompiled }
+{
+    texts_keep_laws();
+}
+
+/// What `show` shows as `source` stands for the term of the source text, places aside, and for no other.
+pub fn shown_source_is_the_same()
+    ensures { ShownSourceIsTheSame }
+{
+    f_writer::written_twice_is_written_once();
+}
+
+/// It is a text of a program, where it has no more bytes than a source may have.
+pub fn shown_source_is_taken()
+    ensures { ShownSourceIsTaken }
+{
+    f_writer::written_texts_are_within();
+}
+
+/// Each form that `show` shows of it is the one that it shows of the source text.
+pub fn shown_source_shows_the_same()
+    ensures { ShownSourceShowsTheSame }
+{
+    texts_keep_laws();
+    f_writer::written_twice_is_written_once();
+}
+
+/// So `show` shows it again as the same bytes.
+pub fn shown_source_is_kept()
+    ensures { ShownSourceIsKept }
+{
+    texts_keep_laws();
+    f_writer::written_twice_is_written_once();
 }
 
 // What a call does by its status tells when each status comes.

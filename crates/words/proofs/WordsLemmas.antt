@@ -1,5 +1,5 @@
 -- What a parse by the description says of the command.
-use Rattle.std.proofs.Common.{◌≡◌, ◌∙◌, List, [], ◌∷◌, option_map, Option, Some, None, refl, true, ap, ap₂, sym, subst, ◌⊎◌, inl, inr, Err}
+use Rattle.std.proofs.Common.{◌≡◌, ◌∙◌, List, [], ◌∷◌, option_map, Option, Some, None, refl, true, ap, ap₂, sym, subst, ◌⊎◌, inl, inr, Result, Ok, Err}
 use Rattle.clap.specs.Words.{App, Text, Row, Kinds, IsAmong, fault_of, is_simple, is_simple_and_free, subcommand_of}
 use Rattle.clap.proofs.OnLiterals.{clap_on_literals}
 use Rattle.clap.specs.declared.error.kind.ErrorKind.{ErrorKind}
@@ -7,7 +7,8 @@ use Rattle.words.specs.Description.{talc_app}
 use Rattle.clap.specs.declared.error.kind.ErrorKind.TheVariants.{OutOfMemory}
 use Rattle.words.specs.declared.command.NoCommand.{NoCommand}
 use Rattle.words.specs.declared.command.NoCommand.TheVariants.{Usage, Memory}
-use Rattle.words.specs.Reads.{Reads}
+use Rattle.words.specs.declared.command.Command.{Command}
+use Rattle.words.specs.Reads.{AsksFor, Reads}
 use Rattle.words.specs.Command.{Asked, asked_of, command_of, where_none}
 
 pub talc_is_simple : is_simple talc_app ≡ true
@@ -36,10 +37,11 @@ unfolding command_of
 command_refused app ws words k app_is words_are among =
     refused_none k (fault_of talc_app words) (asked_of (subcommand_of talc_app words)) (subst (λ ks. IsAmong k ks) (ap₂ fault_of app_is words_are) among)
 
--- words that are no command are answered so, whatever the text
-pub none_reads : (words : List Text) (n : NoCommand) → command_of words ≡ None → Reads words (Err n)
-none_reads words (Usage text) none = none
-none_reads words Memory none = tt
+-- what is asked for is the command, and where nothing is, there is none
+pub asked_reads : (words : List Text) (asked : Option Asked) (r : Result Command NoCommand) → command_of words ≡ asked → AsksFor asked r → Reads words r
+asked_reads words asked (Ok command) is asks = is ∙ asks
+asked_reads words asked (Err (Usage text)) is none = is ∙ none
+asked_reads words asked (Err Memory) is none = tt
 
 -- an error of `clap`'s that is not want of memory comes only where the words are no command
 pub refusal_reads : (app : App) (ws words : List Text) (k : ErrorKind) (n : NoCommand) → app ≡ talc_app → ws ≡ words → (k ≡ OutOfMemory) ⊎ IsAmong k (fault_of app ws) → (k ≡ OutOfMemory → n ≡ Memory) → Reads words (Err n)

@@ -1,5 +1,5 @@
 -- What a reading of words answers.
-use Rattle.std.specs.Prelude.{◌≡◌, List, Some, None, Result, Ok, Err}
+use Rattle.std.specs.Prelude.{◌≡◌, List, Option, Some, None, Result, Ok, Err}
 use Rattle.clap.specs.Words.{Text}
 use Rattle.words.specs.declared.command.Command.{Command}
 use Rattle.words.specs.declared.command.Command.TheVariants.{Compile, CompileWithin, Check, Run, Typeof, Eval, Gen}
@@ -22,6 +22,11 @@ asked_by (Upgrade input output) = Upgrades input.now output.now
 asked_by (Trace input from to) = Traces input.now from to
 asked_by (Show input form) = Shows input.now form
 asked_by (Explain input) = Explains input.now
+
+-- a command where this is asked for, and a text where nothing is
+abbrev pub AsksFor : Option Asked → Result Command NoCommand → Type 0
+AsksFor asked (Ok command) = asked ≡ Some (asked_by command)
+AsksFor asked (Err why) = asked ≡ None
 
 -- a command only where the words are this one, and a text only where they are none
 abbrev pub Reads : List Text → Result Command NoCommand → Type 0

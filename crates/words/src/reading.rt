@@ -4,7 +4,7 @@ ghost use Rattle.std.specs.Option.{option_map};
 ghost use Rattle.clap.specs.Words.{first_of, found_of, kind_of, one_of, rows_of, subcommand_rows_of};
 ghost use Rattle.clap.specs.declared.error.kind.ErrorKind.TheVariants.{OutOfMemory};
 ghost use Rattle.words.specs.Command.{asked_in, asked_of, asked_within, form_in, number_in};
-ghost use Rattle.words.specs.Reads.{asked_by, Reads};
+ghost use Rattle.words.specs.Reads.{asked_by, AsksFor, Reads};
 
 use crate::command::{Command, NoCommand};
 use crate::description::{show_words, talc_words};
@@ -132,8 +132,10 @@ fn not_taken(alloc: Global, error: &Error) -> NoCommand
 
 // `clap`'s error on a value of `form` that names no form.
 fn no_form(alloc: Global, name: &str) -> Result<Error, AllocError> {
-    let text = format!(in alloc; "invalid value '{name}' for '--form <F>'
-  [possible values: source, cps, closed, hoisted, allocated, assembly]")?;
+    let text = format!(in alloc;
+        "invalid value '{name}' for '--form <F>'
+  [possible values: source, cps, closed, hoisted, allocated, assembly]"
+    )?;
     let mut show = show_words(alloc)?.bin_name("talc show")?;
     show.error(ErrorKind::InvalidValue, text.as_str())
 }
@@ -150,6 +152,16 @@ fn not_asked(alloc: Global, matches: &ArgMatches) -> NoCommand {
     }
 }
 
+// What the words of a parse ask for, or the text where they ask for nothing.
+fn asked_or_not<'a>(alloc: Global, matches: &ArgMatches<'a>) -> Result<Command<'a>, NoCommand>
+    ensures { AsksFor (asked_of (subcommand_rows_of matches.now)) result }
+{
+    match asked(matches) {
+        Some(command) => Ok(command),
+        None => Err(not_asked(alloc, matches)),
+    }
+}
+
 /// What the words ask for, where they are a command by the description of the command line; the program's own name is
 /// the first of them, and a form has one of the six names. Words that are none come back as `clap`'s text for the user.
 pub fn read<'a>(alloc: Global, words: &'a Vec<String>) -> Result<Command<'a>, NoCommand>
@@ -159,10 +171,7 @@ pub fn read<'a>(alloc: Global, words: &'a Vec<String>) -> Result<Command<'a>, No
         return Err(NoCommand::Memory);
     };
     match description.try_get_matches_from(words.as_slice()) {
-        Ok(matches) => match asked(&matches) {
-            Some(command) => Ok(command),
-            None => Err(not_asked(alloc, &matches)),
-        },
+        Ok(matches) => asked_or_not(alloc, &matches),
         Err(error) => Err(not_taken(alloc, &error)),
     }
 }

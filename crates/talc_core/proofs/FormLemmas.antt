@@ -1,0 +1,87 @@
+-- What `show` shows: one text of each form, for `assembly` the one that `compile` writes, and for `source` a text of the
+-- same term.
+use Rattle.std.proofs.Common.{◌≡◌, ◌∙◌, ℕ, Bool, true, false, List, refl, sym, ap, subst, true≢false}
+use Rattle.std.proofs.Math.Logic.{∥∥₁_elim}
+use Rattle.std.proofs.lemmas.Slice.Eq.{bytes_eq-Decides}
+use Rattle.std.specs.Str.{bytes_eq}
+use Rattle.f_terms.specs.Ty.{TInt}
+use Rattle.f_terms.specs.Tm.{Term, Tm, plain}
+use Rattle.f_terms.specs.Accepted.{IsAccepted}
+use Rattle.f_parser.specs.Text.{Source as StandsFor, FewBytes}
+use Rattle.f_writer.specs.Laws.{WrittenTwiceIsWrittenOnce, WrittenTextsAreWithin}
+use Rattle.f_writer.specs.Notation.{term_text}
+use Rattle.words.specs.declared.form.Form.{Form}
+use Rattle.words.specs.declared.form.Form.TheVariants.{Source, Assembly}
+use Rattle.t_terms.specs.Tree.{TProg}
+use Rattle.pipeline.specs.Made.{IsMade}
+use Rattle.forms.specs.Forms.{assembly_text, form_text}
+use Rattle.forms.specs.Translated.{FormsAreOfTranslations, IsFormOf}
+use Rattle.talc_core.specs.FirstFault.{AProgram, IsChecked, IsTaken}
+use Rattle.talc_core.specs.FormShown.{FormShown}
+use Rattle.talc_core.specs.Translated.{IsTranslated}
+use Rattle.talc_core.specs.Composition.{OneForm, ShownAssemblyIsCompiled, ShownSourceIsTheSame, ShownSourceIsTaken}
+use Rattle.talc_core.specs.Composition.{ShownSourceShowsTheSame, ShownSourceIsKept}
+use Rattle.talc_core.specs.TextLaws.{TextLaws}
+use Rattle.talc_core.proofs.FaultLemmas.{same_term}
+
+-- what is shown of a text, from the text of its program's form
+pub form_shown : FormsAreOfTranslations → (form : Form) (source text : List ℕ) (term : Tm) → IsChecked source term TInt →
+    text ≡ form_text form (plain term) → FormShown form source text
+form_shown laws form source text term checked is = record {
+  term = term;
+  checked = checked;
+  is = is;
+  by_rules = subst (IsFormOf form (plain term)) (sym is) (laws form (plain term) checked.1.0);
+}
+
+-- equal bytes, by a fact of which there is not known which proof it has
+equal_bytes : {P : Type 0} (a b : List ℕ) → (P → a ≡ b) → ∥ P ∥₁ → a ≡ b
+equal_bytes a b equal fact = go (bytes_eq a b) refl
+  where
+    go : (r : Bool) → bytes_eq a b ≡ r → a ≡ b
+    go true e = (bytes_eq-Decides a b).0 e
+    go false e =
+        absurd (∥∥₁_elim fact (λ x y. absurd x) (λ p. true≢false (sym ((bytes_eq-Decides a b).1 (equal p)) ∙ e)))
+
+module _ (laws : TextLaws) where
+  -- one term for all that is shown of a text
+  one_term : (f g : Form) (source a b : List ℕ) (x : FormShown f source a) (y : FormShown g source b) → x.term ≡ y.term
+  one_term f g source a b x y = same_term laws source x.term y.term x.checked.0 y.checked.0
+
+  pub one_form : OneForm
+  one_form form source a b x y =
+      x.is ∙ (ap (λ t. form_text form (plain t)) (one_term form form source a b x y) ∙ sym y.is)
+
+  pub assembly_is_compiled : ShownAssemblyIsCompiled
+  assembly_is_compiled source target text made shown =
+      equal_bytes text target
+      (λ (m : IsMade (plain made.term) made.program).
+      let same : shown.term ≡ made.term = same_term laws source shown.term made.term shown.checked.0 made.checked.0 in
+      let is : text ≡ form_text Assembly (plain made.term) =
+      shown.is ∙ ap (λ t. form_text Assembly (plain t)) same in
+      is ∙ (ap assembly_text (sym m.is) ∙ sym made.written.is))
+      made.made
+
+pub source_is_the_same : WrittenTwiceIsWrittenOnce → ShownSourceIsTheSame
+source_is_the_same once source text shown =
+    let written = once source shown.term shown.checked.0.few_bytes shown.checked.0.source in (
+      (written.0.0, subst (λ t. StandsFor t written.0.0) (sym shown.is) written.0.1),
+      λ again stands. (written.1 again (subst (λ t. StandsFor t again) shown.is stands)).0,
+    )
+
+pub source_is_taken : WrittenTextsAreWithin → ShownSourceIsTaken
+source_is_taken within source text shown few =
+    let found = within source shown.term shown.checked.0 (subst FewBytes shown.is few) in
+    subst (IsTaken AProgram) (sym shown.is)
+    (found.0, (found.1, subst (λ e. IsAccepted e TInt) (sym found.2) shown.checked.1))
+
+pub source_shows_the_same : TextLaws → WrittenTwiceIsWrittenOnce → ShownSourceShowsTheSame
+source_shows_the_same laws once form source text a b shown x y =
+    let again : plain y.term ≡ plain shown.term =
+    (source_is_the_same once source text shown).1 y.term y.checked.0.source in
+    let same : x.term ≡ shown.term = one_term laws form Source source a text x shown in
+    x.is ∙ (ap (λ t. form_text form (plain t)) same ∙ (ap (form_text form) (sym again) ∙ sym y.is))
+
+pub source_is_kept : TextLaws → WrittenTwiceIsWrittenOnce → ShownSourceIsKept
+source_is_kept laws once source text again shown once_more =
+    sym (source_shows_the_same laws once Source source text text again shown shown once_more)

@@ -5,7 +5,7 @@ use Rattle.fault_page.specs.Spot.{line_number, line_at, offset, column, lines_ov
 
 -- ---- what is wrong, and where
 
--- nothing of a place on one line
+-- over how many lines a place goes, where it is more than one
 abbrev pub over_text : ℕ → List ℕ
 over_text count = if count == 1 then [] else codes ", over " ++ (decimal count ++ codes " lines")
 

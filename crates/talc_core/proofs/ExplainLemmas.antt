@@ -1,18 +1,16 @@
 -- What `explain` shows.
-use Rattle.std.proofs.Common.{◌≡◌, ◌∙◌, ℕ, List, Vec, sym, ap, inl, inr, true, false, subst}
+use Rattle.std.proofs.Common.{◌≡◌, ◌∙◌, ℕ, List, Bool, sym, ap, subst, inl, inr}
+use Rattle.std.specs.Prelude.{Result, if◌then◌else◌}
 use Rattle.talc_core.specs.declared.refusal.Refusal.{Refusal}
-use Rattle.talc_core.specs.declared.refusal.Refusal.TheVariants as refusal
-use Rattle.talc_core.specs.FirstFault.{AnyText}
-use Rattle.talc_core.specs.Explained.{looked_for, explained, ExplainShown, OneExplanation}
-use Rattle.talc_core.specs.OnTexts.{RefusedBy}
-use Rattle.talc_core.specs.Steps.{WantsMemory}
+use Rattle.talc_core.specs.FirstFault.{AProgram, AnAssembly}
+use Rattle.talc_core.specs.Explained.{is_assembly, looked_for, explained, OneExplanation}
+use Rattle.talc_core.specs.Steps.{FindsFault}
 use Rattle.talc_core.specs.TextLaws.{TextLaws}
 use Rattle.talc_core.proofs.FaultLemmas.{one_fault, no_fault_where_taken}
 
--- want of memory is no fault of a text
-pub memory_alone : (text : List ℕ) (why : Refusal) → WantsMemory why → RefusedBy AnyText text why
-memory_alone text (refusal.Fault fault) wanted = absurd wanted
-memory_alone text refusal.Memory wanted = tt
+-- what is looked for goes by how the text begins
+pub looks : (text : List ℕ) (found : Result (Unit {0}) Refusal) (b : Bool) → is_assembly text ≡ b → FindsFault (if b then AnAssembly else AProgram) text found → FindsFault (looked_for text) text found
+looks text found b is finds = subst (λ (c : Bool). FindsFault (if c then AnAssembly else AProgram) text found) (sym is) finds
 
 pub one_explanation : TextLaws → OneExplanation
 one_explanation laws text a b (inl x) (inl y) = x.is ∙ ap (explained text) (one_fault laws (looked_for text) text x.fault y.fault x.first y.first) ∙ sym y.is

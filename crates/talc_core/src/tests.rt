@@ -14,6 +14,7 @@ mod explain_rows;
 mod memory;
 mod outside_rows;
 mod seed_rows;
+mod show_rows;
 mod source_rows;
 mod text_rows;
 mod trace_rows;

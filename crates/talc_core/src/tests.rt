@@ -13,6 +13,7 @@ mod cut_rows;
 mod memory;
 mod outside_rows;
 mod seed_rows;
+mod show_rows;
 mod source_rows;
 mod text_rows;
 mod trace_rows;
@@ -97,6 +98,8 @@ fn other_words_are_no_command(rt: HostRuntime) -> Result<(), Fail> {
             "talc gen g.f",
             "talc upgrade x.tal",
             "talc trace x.tal --from 0",
+            "talc show x.f",
+            "talc show x.f --form tal",
             "talc link x.tal y.tal",
             "talc help",
             "talc --help",

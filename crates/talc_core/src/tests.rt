@@ -99,6 +99,8 @@ fn other_words_are_no_command(rt: HostRuntime) -> Result<(), Fail> {
             "talc gen g.f",
             "talc upgrade x.tal",
             "talc trace x.tal --from 0",
+            "talc show x.f",
+            "talc show x.f --form tal",
             "talc link x.tal y.tal",
             "talc help",
             "talc --help",

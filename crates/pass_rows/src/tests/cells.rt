@@ -7,13 +7,18 @@ ghost use Rattle.k_terms.specs.Stream as S;
 ghost use Rattle.k_terms.specs.Stream.{klin_v};
 ghost use Rattle.pass_rows.specs.Cells.{Adds, held, inner, pair, sets, two_types};
 
-use super::shown::{a_text, c_text, h_text, is_text, k_text};
+use super::shown::is_form;
 use a_pass::allocate;
+use a_writer::write_allocated;
 use c_pass::close;
+use c_writer::write_closed;
 use h_pass::hoist;
+use h_writer::write_hoisted;
 use idx_core::OutOfMemory;
 use k_terms::{KNode, KProgram, KType};
+use k_writer::write_cps;
 use std::alloc::Global;
+use std::test::Fail;
 
 const GIVEN: &str = "\
 let x0 = <5, <7>>
@@ -398,15 +403,14 @@ fn program(alloc: Global) -> Result<KProgram, OutOfMemory> {
 }
 
 #[test]
-fn cells_and_packages_pass(rt: HostRuntime) -> Result<(), OutOfMemory> {
+fn cells_and_packages_pass(rt: HostRuntime) -> Result<(), Fail> {
     let alloc = rt.alloc();
     let given = program(alloc)?;
-    is_text(&rt, &k_text(alloc, &given)?, GIVEN);
+    is_form(&rt, &write_cps(alloc, &given)?, GIVEN)?;
     let closed = close(alloc, &given)?;
-    is_text(&rt, &c_text(alloc, &closed)?, CLOSED);
+    is_form(&rt, &write_closed(alloc, &closed)?, CLOSED)?;
     let hoisted = hoist(alloc, &closed)?;
-    is_text(&rt, &h_text(alloc, &hoisted)?, HOISTED);
+    is_form(&rt, &write_hoisted(alloc, &hoisted)?, HOISTED)?;
     let allocated = allocate(alloc, &hoisted)?;
-    is_text(&rt, &a_text(alloc, &allocated)?, ALLOCATED);
-    Ok(())
+    is_form(&rt, &write_allocated(alloc, &allocated)?, ALLOCATED)
 }

@@ -1,6 +1,7 @@
 // The closures of a function that calls itself, and of one that keeps variables of the functions around it.
 use super::passes::{closed, program};
-use super::shown::{c_text, is_text};
+use super::shown::is_form;
+use c_writer::write_closed;
 use std::alloc::Global;
 use std::process::Abort;
 use std::test::Fail;
@@ -8,8 +9,7 @@ use std::test::Fail;
 fn closes(rt: &impl Abort, alloc: Global, source: &str, wanted: &str) -> Result<(), Fail> {
     let program = program(alloc, source)?;
     let closed = closed(alloc, &program)?;
-    is_text(rt, &c_text(alloc, &closed)?, wanted);
-    Ok(())
+    is_form(rt, &write_closed(alloc, &closed)?, wanted)
 }
 
 // Inside, its closure is made again of its code and its environment.

@@ -1,12 +1,12 @@
 // One program in each of its six forms. docs/PASSES.md begins with these texts.
-use super::passes::{allocated, closed, hoisted, program};
-use super::shown::{a_text, c_text, h_text, is_text, k_text};
+use super::passes::program;
+use super::shown::is_form;
 use f_check::Program;
-use k_pass::cps;
-use pipeline::compile;
+use forms::form_of;
 use std::alloc::Global;
+use std::process::Abort;
 use std::test::Fail;
-use t_writer::write2;
+use words::Form;
 
 const SOURCE: &str = "(gen a. fix f(x:a):a. (fix g(y:int):a. x) 0)[int] 8 + 1";
 
@@ -222,68 +222,48 @@ add r1, r2, 1
 halt[int]
 ";
 
-fn k_form(alloc: Global, program: &Program) -> Result<String, Fail> {
-    let converted = cps(alloc, program)?;
-    Ok(k_text(alloc, &converted)?)
-}
-
-fn c_form(alloc: Global, program: &Program) -> Result<String, Fail> {
-    let closed = closed(alloc, program)?;
-    Ok(c_text(alloc, &closed)?)
-}
-
-fn h_form(alloc: Global, program: &Program) -> Result<String, Fail> {
-    let hoisted = hoisted(alloc, program)?;
-    Ok(h_text(alloc, &hoisted)?)
-}
-
-fn a_form(alloc: Global, program: &Program) -> Result<String, Fail> {
-    let allocated = allocated(alloc, program)?;
-    Ok(a_text(alloc, &allocated)?)
-}
-
-fn assembly(alloc: Global, program: &Program) -> Result<Vec<u8>, Fail> {
-    let compiled = compile(alloc, program)?;
-    Ok(write2(alloc, compiled.program())?)
+fn has_form(
+    rt: &impl Abort,
+    alloc: Global,
+    program: &Program,
+    form: Form,
+    wanted: &str,
+) -> Result<(), Fail> {
+    let text = form_of(alloc, program, form)?;
+    is_form(rt, &text, wanted)
 }
 
 #[test]
 fn the_source_in_continuation_passing_style(rt: HostRuntime) -> Result<(), Fail> {
     let alloc = rt.alloc();
     let program = program(alloc, SOURCE)?;
-    is_text(&rt, &k_form(alloc, &program)?, CONVERTED);
-    Ok(())
+    has_form(&rt, alloc, &program, Form::Cps, CONVERTED)
 }
 
 #[test]
 fn the_closed_form(rt: HostRuntime) -> Result<(), Fail> {
     let alloc = rt.alloc();
     let program = program(alloc, SOURCE)?;
-    is_text(&rt, &c_form(alloc, &program)?, CLOSED);
-    Ok(())
+    has_form(&rt, alloc, &program, Form::Closed, CLOSED)
 }
 
 #[test]
 fn the_hoisted_form(rt: HostRuntime) -> Result<(), Fail> {
     let alloc = rt.alloc();
     let program = program(alloc, SOURCE)?;
-    is_text(&rt, &h_form(alloc, &program)?, HOISTED);
-    Ok(())
+    has_form(&rt, alloc, &program, Form::Hoisted, HOISTED)
 }
 
 #[test]
 fn the_allocated_form(rt: HostRuntime) -> Result<(), Fail> {
     let alloc = rt.alloc();
     let program = program(alloc, SOURCE)?;
-    is_text(&rt, &a_form(alloc, &program)?, ALLOCATED);
-    Ok(())
+    has_form(&rt, alloc, &program, Form::Allocated, ALLOCATED)
 }
 
 #[test]
 fn the_assembly_text(rt: HostRuntime) -> Result<(), Fail> {
     let alloc = rt.alloc();
     let program = program(alloc, SOURCE)?;
-    let text = assembly(alloc, &program)?;
-    is_text(&rt, str::from_utf8(&text)?, ASSEMBLY);
-    Ok(())
+    has_form(&rt, alloc, &program, Form::Assembly, ASSEMBLY)
 }

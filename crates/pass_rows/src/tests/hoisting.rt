@@ -7,12 +7,15 @@ ghost use Rattle.c_terms.specs.C.{MoreCVals};
 ghost use Rattle.c_terms.specs.Stream.{clin_v, clin_t};
 ghost use Rattle.h_pass.specs.Example.{Adds, hidden_pair, done, count_down, call_it};
 
-use super::shown::{a_text, h_text, is_text};
+use super::shown::is_form;
 use a_pass::allocate;
+use a_writer::write_allocated;
 use c_terms::{CNode, CProgram, CType};
 use h_pass::hoist;
+use h_writer::write_hoisted;
 use idx_core::{Op, OutOfMemory};
 use std::alloc::Global;
+use std::test::Fail;
 
 const HOISTED: &str = "\
 L0: code[](x0: int).
@@ -217,11 +220,10 @@ fn program(alloc: Global) -> Result<CProgram, OutOfMemory> {
 }
 
 #[test]
-fn a_program_is_hoisted_and_allocated(rt: HostRuntime) -> Result<(), OutOfMemory> {
+fn a_program_is_hoisted_and_allocated(rt: HostRuntime) -> Result<(), Fail> {
     let alloc = rt.alloc();
     let hoisted = hoist(alloc, &program(alloc)?)?;
-    is_text(&rt, &h_text(alloc, &hoisted)?, HOISTED);
+    is_form(&rt, &write_hoisted(alloc, &hoisted)?, HOISTED)?;
     let allocated = allocate(alloc, &hoisted)?;
-    is_text(&rt, &a_text(alloc, &allocated)?, ALLOCATED);
-    Ok(())
+    is_form(&rt, &write_allocated(alloc, &allocated)?, ALLOCATED)
 }

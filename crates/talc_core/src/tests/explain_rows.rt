@@ -617,7 +617,7 @@ fn other_texts_are_sources(rt: HostRuntime) -> Result<(), Fail> {
                 ],
             ),
             (
-                "tal	1",
+                "tal\t1",
                 [
                     "E05 unbound name: line 1, column 1 (bytes 0..3)",
                     "1 | tal 1",

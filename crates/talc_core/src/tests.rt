@@ -101,6 +101,8 @@ fn other_words_are_no_command(rt: HostRuntime) -> Result<(), Fail> {
             "talc trace x.tal --from 0",
             "talc show x.f",
             "talc show x.f --form tal",
+            "talc explain",
+            "talc explain x.f y.f",
             "talc link x.tal y.tal",
             "talc help",
             "talc --help",

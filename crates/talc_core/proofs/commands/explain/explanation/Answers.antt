@@ -5,4 +5,4 @@ pub returns-in_ok-line : goal.returns-in_ok-line
 returns-in_ok-line c = inr (record { taken = c.in-Ok.ensures; is = c.in_ok-line.ensures.items })
 
 pub returns-in_ok-page : goal.returns-in_ok-page
-returns-in_ok-page c = inl (record { fault = _; first = c.in-Err-Fault.ensures; is = c.in_ok-page.ensures })
+returns-in_ok-page c = inl (record { fault = c.in-Err-Fault.fault; first = rw c.in-Err-Fault.field-0-is at c.in-Err-Fault.ensures; is = c.in_ok-page.ensures })

@@ -1,7 +1,7 @@
 -- Worked pages, proved by computing.
-use Rattle.std.proofs.Common.{◌≡◌, ℕ, List, [], ◌∷◌, ◌++◌, refl, codes, replicate}
+use Rattle.std.proofs.Common.{◌≡◌, ◌≤◌, ◌+◌, ℕ, List, [], ◌∷◌, ◌++◌, refl, codes, replicate, arith}
 use Rattle.std.specs.Fmt.{digits}
-use Rattle.fault_page.specs.Page.{page}
+use Rattle.fault_page.specs.Page.{page, first_shown, shown_width}
 
 -- the page of a place, with no words
 abbrev bare : List ℕ → ℕ → ℕ → List ℕ
@@ -51,3 +51,7 @@ line_twelve = refl
 behind : bare (codes "1") 7 9 ≡ codes "C w: line 1, column 2 (bytes 7..9)\n1 | 1\n  |  ^\nh\n"
 unfolding digits
 behind = refl
+
+-- where a line is cut, its place is among the bytes that are shown, or just behind them
+place_is_shown : (before count : ℕ) → before ≤ count → (first_shown before count ≤ before) × (before ≤ first_shown before count + shown_width)
+place_is_shown before count within = (omega arith, omega arith)

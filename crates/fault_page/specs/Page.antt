@@ -1,11 +1,11 @@
 -- The page that explains a fault of a text. All of it is our own choice.
-use Rattle.std.specs.Prelude.{ℕ, ◌+◌, ◌-◌, ◌==◌, nat_lt, min, max, Bool, ◌&&◌, List, [], ◌∷◌, ◌++◌}
+use Rattle.std.specs.Prelude.{ℕ, ◌+◌, ◌-◌, ◌==◌, nat_lt, min, max, Bool, ◌&&◌, List, [], ◌++◌}
 use Rattle.std.specs.Prelude.{take, drop, length, map, replicate, if◌then◌else◌, codes, decimal}
 use Rattle.fault_page.specs.Spot.{line_number, line_at, offset, column, lines_over}
 
 -- ---- what is wrong, and where
 
--- nothing of a place on one line
+-- over how many lines a place goes, where it is more than one
 abbrev pub over_text : ℕ → List ℕ
 over_text count = if count == 1 then [] else codes ", over " ++ (decimal count ++ codes " lines")
 

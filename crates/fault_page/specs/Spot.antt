@@ -39,6 +39,6 @@ offset text n = min n (length text) - line_begin text n
 abbrev pub column : List ℕ → ℕ → ℕ
 column text n = offset text n + 1
 
--- how many lines the bytes from start up to end stand on; no byte stands on one
+-- how many lines the bytes from start up to end stand on: one where there are none
 abbrev pub lines_over : List ℕ → (start end : ℕ) → ℕ
 lines_over text start end = lines (take (end - start - 1) (drop start text))

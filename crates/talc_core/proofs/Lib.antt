@@ -5,7 +5,9 @@ pub mod CompositionLemmas
 mod Decided
 mod DoesLemmas
 pub mod ExactLemmas
+mod ExplainLemmas
 mod FaultLemmas
+mod HintRows
 mod FormLemmas
 mod Rows
 mod RunLemmas

@@ -49,3 +49,7 @@ ExplainShown text shown = FaultExplained text shown ⊎ NoFaultFound text shown
 abbrev pub ShowsExplained : Showing
 ShowsExplained Done text shown = ExplainShown text shown
 ShowsExplained other text shown = ⊥
+
+-- The law: one text is shown of a text.
+abbrev pub OneExplanation : Type 0
+OneExplanation = (text a b : List ℕ) → ExplainShown text a → ExplainShown text b → a ≡ b

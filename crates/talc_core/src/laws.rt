@@ -13,6 +13,7 @@ ghost use Rattle.talc_core.specs.Composition.{OneUpgrade, OneWrittenText};
 ghost use Rattle.talc_core.specs.Composition.{OneForm, ShownAssemblyIsCompiled, ShownSourceIsTheSame};
 ghost use Rattle.talc_core.specs.Composition.{ShownSourceIsTaken, ShownSourceShowsTheSame, ShownSourceIsKept};
 ghost use Rattle.talc_core.specs.Exact.{HeadlineIsExact};
+ghost use Rattle.talc_core.specs.Explained.{OneExplanation};
 ghost use Rattle.talc_core.specs.TextLaws.{TextLaws};
 ghost use Rattle.talc_core.specs.Traced.{LinesShowKinds, OneLine};
 ghost use Rattle.talc_core.specs.TraceLaws.{OneTrace, TraceEndsAsRun};
@@ -271,6 +272,13 @@ pub fn one_trace()
 pub fn trace_ends_as_run()
     ensures { TraceEndsAsRun }
 {}
+
+/// What `explain` shows of a text is told by the text.
+pub fn one_explanation()
+    ensures { OneExplanation }
+{
+    texts_keep_laws();
+}
 
 /// What `show` shows of a text in a form is one text.
 pub fn one_form()

@@ -10,6 +10,7 @@ use t_terms::TCode;
 mod assembly_rows;
 mod compile_rows;
 mod cut_rows;
+mod explain_rows;
 mod memory;
 mod outside_rows;
 mod seed_rows;
@@ -100,6 +101,8 @@ fn other_words_are_no_command(rt: HostRuntime) -> Result<(), Fail> {
             "talc trace x.tal --from 0",
             "talc show x.f",
             "talc show x.f --form tal",
+            "talc explain",
+            "talc explain x.f y.f",
             "talc link x.tal y.tal",
             "talc help",
             "talc --help",

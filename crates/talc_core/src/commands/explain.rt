@@ -1,7 +1,9 @@
 // The command `explain`.
-ghost use Rattle.std.specs.Prelude.{◌≡◌, IfOk, IsTrue, IsFalse, OnOk};
+ghost use Rattle.std.specs.Prelude.{◌≡◌, IfOk};
 ghost use Rattle.talc_core.specs.FirstFault.{AnyText, AProgram, AnAssembly};
-ghost use Rattle.talc_core.specs.Explained.{ShowsExplained, explained, is_assembly, looked_for};
+ghost use Rattle.talc_core.specs.Lines.{source_code, source_words, tal_code, tal_words};
+ghost use Rattle.talc_core.specs.Hints.{source_hint, tal_hint};
+ghost use Rattle.talc_core.specs.Explained.{ExplainShown, ShowsExplained, explained, is_assembly, looked_for};
 ghost use Rattle.talc_core.specs.OnTexts.{ShowsText};
 ghost use Rattle.talc_core.specs.Steps.{FindsFault, ShowsFile};
 
@@ -15,10 +17,12 @@ use crate::refusal::Refusal;
 use crate::reply::{Ending, Reply};
 use crate::report::Failure;
 use crate::source::read_program;
+use f_terms::Code;
 use fault_page::{Note, page_of};
-use idx_core::OutOfMemory;
+use idx_core::{OutOfMemory, Span};
 use io_core::{Files, Sink};
 use std::alloc::Global;
+use t_terms::TCode;
 
 // Whether a text is taken for an assembly text.
 fn is_assembly(text: &[u8]) -> bool
@@ -31,7 +35,7 @@ fn is_assembly(text: &[u8]) -> bool
 fn try_assembly(alloc: Global, text: &[u8]) -> Result<(), Refusal>
     ensures { FindsFault AnAssembly text.now result }
 {
-    check_assembly(alloc, text)?;
+    let _checked = check_assembly(alloc, text)?;
     Ok(())
 }
 
@@ -39,7 +43,7 @@ fn try_assembly(alloc: Global, text: &[u8]) -> Result<(), Refusal>
 fn try_source(alloc: Global, text: &[u8]) -> Result<(), Refusal>
     ensures { FindsFault AProgram text.now result }
 {
-    read_program(alloc, text)?;
+    let _program = read_program(alloc, text)?;
     Ok(())
 }
 
@@ -54,25 +58,61 @@ fn find_fault(alloc: Global, text: &[u8]) -> Result<(), Refusal>
     }
 }
 
+// What is told of a fault of a source.
+fn source_note(code: Code, place: Span) -> Note<'static>
+    ensures code { result.code.now ≡ source_code code }
+    ensures words { result.words.now ≡ source_words code }
+    ensures place { result.place ≡ place }
+    ensures hint { result.hint.now ≡ source_hint code }
+{
+    Note {
+        code: source_code(code),
+        words: source_words(code),
+        place,
+        hint: source_hint(code),
+    }
+}
+
+// The same of an assembly text.
+fn tal_note(code: TCode, place: Span) -> Note<'static>
+    ensures code { result.code.now ≡ tal_code code }
+    ensures words { result.words.now ≡ tal_words code }
+    ensures place { result.place ≡ place }
+    ensures hint { result.hint.now ≡ tal_hint code }
+{
+    Note {
+        code: tal_code(code),
+        words: tal_words(code),
+        place,
+        hint: tal_hint(code),
+    }
+}
+
 // The page of a fault of a text.
 fn explain_fault(alloc: Global, text: &[u8], fault: Fault) -> Result<Vec<u8>, OutOfMemory>
     ensures { IfOk result (λ page. page.items ≡ explained text.now fault) }
 {
-    let note = match fault {
-        Fault::Source(code, place) => Note {
-            code: source_code(code),
-            words: source_words(code),
-            place,
-            hint: source_hint(code),
-        },
-        Fault::Tal(code, place) => Note {
-            code: tal_code(code),
-            words: tal_words(code),
-            place,
-            hint: tal_hint(code),
-        },
-    };
-    page_of(alloc, text, &note)
+    match fault {
+        Fault::Source(code, place) => page_of(alloc, text, &source_note(code, place)),
+        Fault::Tal(code, place) => page_of(alloc, text, &tal_note(code, place)),
+    }
+}
+
+// What is shown of a text.
+fn explanation(alloc: Global, text: &[u8]) -> Result<Vec<u8>, OutOfMemory>
+    ensures { IfOk result (λ shown. ExplainShown text.now shown.items) }
+{
+    match find_fault(alloc, text) {
+        Ok(()) => {
+            let line = Vec::from_slice(alloc, b"no fault\n")?;
+            Ok(line)
+        }
+        Err(Refusal::Fault(fault)) => {
+            let page = explain_fault(alloc, text, fault)?;
+            Ok(page)
+        }
+        Err(Refusal::Memory) => Err(OutOfMemory),
+    }
 }
 
 /// What `explain` shows of a text (own choice): a page for people on its first fault, as that of a program of the
@@ -81,11 +121,7 @@ fn explain_fault(alloc: Global, text: &[u8], fault: Fault) -> Result<Vec<u8>, Ou
 pub fn explain_text(alloc: Global, text: &[u8]) -> Result<Reply, Refusal>
     ensures { ShowsText ShowsExplained AnyText text.now result }
 {
-    let line = match find_fault(alloc, text) {
-        Ok(()) => Vec::from_slice(alloc, b"no fault\n")?,
-        Err(Refusal::Fault(fault)) => explain_fault(alloc, text, fault)?,
-        Err(Refusal::Memory) => return Err(Refusal::Memory),
-    };
+    let line = explanation(alloc, text)?;
     Ok(Reply {
         ending: Ending::Ends,
         line,

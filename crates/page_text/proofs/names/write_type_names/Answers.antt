@@ -18,4 +18,6 @@ name_more text mid next i n k whole lt h e f =
 pub loop-i-preserved : goal.loop-i-preserved
 loop-i-preserved c =
     name_more _ _ _ c.loop-i.i c.args.first c.args.count _ c.loop-i-test.true c.loop-i.invariant
-    c.in_ok-write_separator.ensures (c.in_ok-write_type_name.ensures ∙ ap (λ n. c.write_separator.new.text.items ++ type_name n) c.in_ok-around.ensures)
+    c.in_ok-write_separator.ensures
+    (c.in_ok-write_type_name.ensures
+    ∙ ap (λ n. c.write_separator.new.text.items ++ type_name n) c.in_ok-around.ensures)

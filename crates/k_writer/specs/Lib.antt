@@ -1,4 +1,3 @@
 pub mod Fine
-pub mod Lines
 pub mod Notation
 pub mod State

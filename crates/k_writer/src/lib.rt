@@ -3,10 +3,7 @@
 
 mod depth;
 mod join;
-mod lines;
 mod page;
 mod types;
 mod values;
-mod writer;
 
-pub use writer::write_cps;

@@ -12,7 +12,7 @@ use Rattle.k_writer.specs.declared.page.Stage.{Stage}
 use Rattle.k_writer.specs.declared.page.Stage.TheVariants as S
 use Rattle.k_writer.specs.declared.page.Page.{Page}
 use Rattle.k_writer.specs.Notation.{types_text, term_text}
-use Rattle.k_writer.specs.State.{value_in, values_in, let_in, term_in, branch, stack, stack_onto, ValuesAre, SoFar, PageIs, Turns, Takes, TestIs}
+use Rattle.k_writer.specs.State.{value_in, values_in, let_in, term_in, branch, more_scope, stack, stack_onto, ValuesAre, SoFar, PageIs, Turns, Takes, TestIs}
 
 pub stack_push : {T : Type 0} (ys xs : List T) (x : T) → stack_onto ys (xs ++ x ∷ []) ≡ x ∷ stack_onto ys xs
 stack_push ys [] x = refl
@@ -117,9 +117,6 @@ two_wait (v ∷ w ∷ x ∷ ws) e = absurd (omega (arith, e))
 none_are : (p q : Pieces) (s t : Scope) (xs : List ℕ) → ValuesAre p s xs [] → ValuesAre q t xs []
 none_are p q s t [] h = tt
 none_are p q s t (x ∷ xs) h = h
-
-abbrev pub more_scope : Scope → ℕ → Scope
-more_scope s opened = record { types = s.types + opened; names = s.names + 1; indent = s.indent }
 
 -- one more line, which is a declaration
 bound : (t : Pieces) (a : Page) (start scope : Scope) (values : Vec ℕ Global) (text opened : ℕ) (line : List ℕ)
@@ -259,3 +256,9 @@ halted p q r t a tv values value line text B A none k take l join m joined eb ea
       };
   stage = refl;
 }
+
+pub plus_none : (n : ℕ) → n ≡ n + 0
+plus_none n = omega arith
+
+pub plus_one : (n : ℕ) → suc n ≡ n + 1
+plus_one n = omega arith

@@ -40,6 +40,10 @@ inside s owes args = record {
   indent = s.indent + 1;
 }
 
+-- the scope behind a declaration that binds so many type names
+abbrev pub more_scope : Scope → ℕ → Scope
+more_scope s opened = record { types = s.types + opened; names = s.names + 1; indent = s.indent }
+
 abbrev pub outermost : Scope
 outermost = record { types = 0; names = 0; indent = 0 }
 

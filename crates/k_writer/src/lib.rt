@@ -3,6 +3,7 @@
 
 mod depth;
 mod join;
+mod lines;
 mod page;
 mod types;
 mod values;

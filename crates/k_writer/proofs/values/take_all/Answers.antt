@@ -1,7 +1,7 @@
-use Rattle.std.proofs.Common.{◌≡◌, ◌++◌, ◌∷◌, [], List, ℕ, ap, ◌∙◌, sym, arith, rules}
+use Rattle.std.proofs.Common.{◌≡◌, ◌++◌, ◌∷◌, [], List, ℕ, ap, ◌∙◌, sym, subst, rules}
 use Rattle.k_writer.specs.State.{stack}
 use Rattle.k_writer.proofs.Turning.{stack_push}
-use Rattle.k_writer.proofs.Gathering.{gathered_first, gathered_more, gathered_all, gathered_none}
+use Rattle.k_writer.proofs.Gathering.{gathered_first, gathered_more, gathered_all, gathered_none, Gathered}
 use Rattle.k_writer.proofs.values.take_all.Goals as goal
 
 pub loop-done-init : goal.loop-done-init
@@ -14,12 +14,12 @@ loop-done-init c = record {
 
 pub loop-done-preserved : goal.loop-done-preserved
 loop-done-preserved c = record {
-  keeps = λ i s h. c.in_ok-before.ensures.keeps i s (c.loop-done.invariant.keeps i s h);
+  keeps = λ i s h. c.in_ok-text-2.ensures.keeps i s (c.loop-done.invariant.keeps i s h);
   is = λ s vs h.
-      gathered_more c.loop-done.pieces c.before.new.pieces s c.loop-done.text c.in-Some.value _ c.loop-done.done
-      c.args.count (stack c.loop-done.values.items) (stack c.pop.new.self.items) vs c.in_ok-before.ensures.keeps
+      gathered_more c.loop-done.pieces _ s c.loop-done.text c.in-Some.value _ c.loop-done.done
+      c.args.count (stack c.loop-done.values.items) (stack c.pop.new.self.items) vs c.in_ok-text-2.ensures.keeps
       c.loop-done-test.true (ap stack c.in-Some.ensures.items ∙ stack_push [] c.pop.new.self.items c.in-Some.value)
-      c.in_ok-before.ensures.stands (c.loop-done.invariant.is s vs h);
+      c.in_ok-text-2.ensures.stands (c.loop-done.invariant.is s vs h);
 }
 
 pub returns : goal.returns
@@ -37,5 +37,8 @@ returns-in_default c =
     let is = ap stack (new ∙ old) in
     record {
       keeps = c.loop-done.invariant.keeps;
-      is = λ s vs h. ?;
+      is = λ s vs h.
+          gathered_none c.loop-done.pieces s c.loop-done.text c.loop-done.done c.args.count (stack c.pop.new.self.items)
+          vs is (subst (λ (xs : List ℕ). Gathered c.loop-done.pieces s c.loop-done.text (stack xs) c.loop-done.done
+          c.args.count vs) (sym new) (c.loop-done.invariant.is s vs h));
     }

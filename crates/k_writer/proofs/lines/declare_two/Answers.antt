@@ -8,8 +8,8 @@ pub returns : goal.returns
 returns c = λ x is after.
     let p = c.args.page.now in
     let m = c.args.middle.items in
-    declared_two c.args.pieces.now c.take.new.pieces c.take-first.new.pieces c.with_bytes.new.pieces c.joined-text.new.self
-    p c.in_ok-scope.scope c.take.new.values.items c.take-first.new.values c.in_ok-second.second c.in_ok-first.first
+    declared_two c.args.pieces.now c.take.new.pieces c.take-2.new.pieces c.with_bytes.new.pieces c.joined-2.new.self
+    p c.in_ok-scope.scope c.take.new.values.items c.take-2.new.values c.in_ok-second.second c.in_ok-first.first
     c.in_ok-declared.declared c.in_ok-text.text (let_sign p.scope.names p.scope.indent) m (codes "\n")
     c.in_ok-scope.ensures c.in_ok-second.ensures.keeps c.in_ok-second.ensures.is c.in_ok-first.ensures.keeps
     c.in_ok-first.ensures.is

@@ -1,3 +1,7 @@
+mod Ending
+mod FineTerms
 mod Gathering
+mod Moving
+mod Nesting
 mod Turning
 mod TypeTexts

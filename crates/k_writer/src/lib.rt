@@ -7,4 +7,6 @@ mod lines;
 mod page;
 mod types;
 mod values;
+mod writer;
 
+pub use writer::write_cps;

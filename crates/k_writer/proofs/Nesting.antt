@@ -4,8 +4,10 @@ use Rattle.std.proofs.lemmas.List.{append_assoc}
 use Rattle.term_core.specs.Ends.{lift}
 use Rattle.k_terms.specs.K.{KVal, KTm, KTys, KCode, KIf, kcount}
 use Rattle.k_terms.specs.Stream.{KNd, NCode, NEnd, NIf, NElse}
+use Rattle.k_terms.specs.Read.{ktys}
+use Rattle.k_terms.specs.declared.types.KType.{KType}
 use Rattle.k_terms.specs.Decode.{Body, Open, InCode, InThen, run, fresh, top, push, other}
-use Rattle.pieces.specs.Pieces.{Stands, Keeps}
+use Rattle.pieces.specs.Pieces.{Stands, Keeps, text_at}
 use Rattle.pieces.specs.declared.pieces.Pieces.{Pieces}
 use Rattle.page_text.specs.Names.{margin}
 use Rattle.k_writer.specs.declared.page.Scope.{Scope}
@@ -18,7 +20,7 @@ use Rattle.k_writer.specs.declared.page.Outer.{Outer}
 use Rattle.k_writer.specs.declared.writer.Writer.{Writer}
 use Rattle.k_writer.specs.Fine.{Fine, Mark, CodeMark, ThenMark}
 use Rattle.k_writer.specs.Moves.{Moves, Enters, Begun}
-use Rattle.k_writer.specs.Notation.{code_line}
+use Rattle.k_writer.specs.Notation.{code_line, k_text}
 use Rattle.k_writer.specs.State.{value_in, term_in, branch, inside, outermost, is_ended, stack, stack_onto, ValuesAre, SoFar, PageIs, TestIs, OuterIs, OutersAre, StateIs}
 use Rattle.k_writer.proofs.Turning.{stack_push, page_kept, open_is, one_waits, value_pushed}
 use Rattle.k_writer.proofs.Moving.{outers_kept, open_stage}
@@ -103,7 +105,7 @@ pub test_begins : (a b c : Writer) (start : Scope) (text : ℕ) (q r : Pieces) (
     start ≡ branch a.page.scope → Enters b c start P.Then → Moves a c NIf
 test_begins a b c start text q r value tested left B A k take l join m joined eb ea bt bs around is en ns whole h =
     let x = h.body in
-    let given = (open_stage a.page.stage h.fine.0, h.fine.1) in
+    let given : (a.page.stage ≡ S.Open) × (length x.waiting ≡ 1) = (open_stage a.page.stage h.fine.0, h.fine.1) in
     let one = one_waits x.waiting given.1 in
     let v = top x.waiting in
     let pg = h.is_page in
@@ -261,14 +263,17 @@ none_around_other p [] [] ns start depth d w e h fine = fine
 none_around_other p [] (m ∷ ms) ns start depth d w e h fine = h
 none_around_other p (o ∷ os) ms ns start depth d w e h fine = h
 
-pub no_end : (a b : Writer) → a.around.items ≡ [] → Moves a b NEnd
-no_end a b none ns whole h =
-    absurd (none_around a.pieces h.opens h.marks ns h.start h.body.depth (length h.body.waiting) (is_ended a.page.stage)
+abbrev Never : Writer → KNd → Type 0
+Never a nd = (ns : List KNd) (whole : KTm) → StateIs a.pieces a.page a.around.items (nd ∷ ns) whole → ⊥
+
+pub no_end : (a : Writer) → a.around.items ≡ [] → Never a NEnd
+no_end a none ns whole h =
+    (none_around a.pieces h.opens h.marks ns h.start h.body.depth (length h.body.waiting) (is_ended a.page.stage)
     (subst (λ (fs : List Outer). OutersAre a.pieces (stack fs) h.opens h.marks h.start) none h.are_outers) h.fine)
 
-pub no_other : (a b : Writer) (depth : ℕ) → a.around.items ≡ [] → Moves a b (NElse depth)
-no_other a b depth none ns whole h =
-    absurd (none_around_other a.pieces h.opens h.marks ns h.start depth h.body.depth (length h.body.waiting)
+pub no_other : (a : Writer) (depth : ℕ) → a.around.items ≡ [] → Never a (NElse depth)
+no_other a depth none ns whole h =
+    (none_around_other a.pieces h.opens h.marks ns h.start depth h.body.depth (length h.body.waiting)
     (is_ended a.page.stage)
     (subst (λ (fs : List Outer). OutersAre a.pieces (stack fs) h.opens h.marks h.start) none h.are_outers) h.fine)
 
@@ -277,10 +282,10 @@ popped : (p : Pieces) (old new : List Outer) (f : Outer) (os : List Open) (ms : 
 popped p old new f os ms start e h =
     subst (λ (fs : List Outer). OutersAre p fs os ms start) (ap stack e ∙ stack_push [] new f) h
 
-pub end_not_then : (a b : Writer) (f : Outer) (new : List Outer) → a.around.items ≡ new ++ f ∷ [] → f.part ≡ P.Then →
-    Moves a b NEnd
-end_not_then a b f new items is ns whole h =
-    absurd (end_out_of_place a.pieces f (stack new) h.opens h.marks ns h.start h.body.depth (length h.body.waiting)
+pub end_not_then : (a : Writer) (f : Outer) (new : List Outer) → a.around.items ≡ new ++ f ∷ [] → f.part ≡ P.Then →
+    Never a NEnd
+end_not_then a f new items is ns whole h =
+    (end_out_of_place a.pieces f (stack new) h.opens h.marks ns h.start h.body.depth (length h.body.waiting)
     (is_ended a.page.stage) is (popped a.pieces a.around.items new f h.opens h.marks h.start items h.are_outers) h.fine)
 
 -- a code ends
@@ -333,8 +338,7 @@ pub branch_begins : (a : Writer) (q r t : Pieces) (f : Outer) (around : Vec Oute
     scope ≡ branch f.page.scope → values.items ≡ [] → Keeps a.pieces q →
     ((start : Scope) (b : Body) → is_ended a.page.stage ≡ true → PageIs a.pieces start a.page b →
     Stands q first (term_in start (b.ending b.waiting))) →
-    middle ≡ margin f.page.scope.indent ++ codes "else
-" →
+    middle ≡ margin f.page.scope.indent ++ codes "else\n" →
     Keeps q r → ((s u : List ℕ) → Stands q f.page.text s → Stands q first u → Stands r opened (s ++ u)) →
     Keeps r t → ((s : List ℕ) → Stands r opened s → Stands t text (s ++ middle)) →
     Moves a (record {
@@ -354,8 +358,7 @@ branch_begins a q r t f around values scope depth first opened text middle items
     let keeps = λ (i : ℕ) (w : List ℕ) (g : Stands a.pieces i w). m i w (l i w (k i w g)) in
     let inner = finished h.start x c.ended h.is_page in
     let stands = closed _ (join test.text _ (k f.page.text test.text test.stands) inner) in
-    let so_far = test.text ++ term_in (branch s) u ++ (margin s.indent ++ codes "else
-") in
+    let so_far = test.text ++ term_in (branch s) u ++ (margin s.indent ++ codes "else\n") in
     let stands' : Stands t text so_far =
         subst (λ (w : List ℕ). Stands t text w)
         (ap₂ (λ (y : Scope) (z : List ℕ). test.text ++ term_in y u ++ z) c.start_is em) stands in
@@ -375,3 +378,47 @@ branch_begins a q r t f around values scope depth first opened text middle items
       fine = c.fine;
       is_whole = subst (λ (os : List Open). run (NElse depth ∷ ns) x os ≡ whole) c.opens_are h.is_whole;
     }
+
+pub kcount_length : (xs : List KType) → kcount (ktys xs) ≡ length xs
+kcount_length [] = refl
+kcount_length (x ∷ xs) = ap suc (kcount_length xs)
+
+pub scope_is : (s t : Scope) → s.types ≡ t.types → s.names ≡ t.names → s.indent ≡ t.indent → s ≡ t
+scope_is s t e f g =
+    let make : ℕ → ℕ → ℕ → Scope = λ x y z. record { types = x; names = y; indent = z } in
+    ap₂ (λ x y. make x y s.indent) e f ∙ ap (λ z. make t.types t.names z) g
+
+-- where nothing is read, nothing is around the beginning
+pub begun : (w : Writer) (ns : List KNd) → Begun w → Fine ns 0 0 false [] →
+    StateIs w.pieces w.page w.around.items ns (run ns (fresh 0) [])
+begun w ns b fine = record {
+  body = fresh 0;
+  opens = [];
+  marks = [];
+  start = outermost;
+  is_page = blank w.pieces w.page outermost 0 b.scope b.stage b.text b.values refl;
+  are_outers = subst (λ (fs : List Outer). OutersAre w.pieces (stack fs) [] [] outermost) (sym b.around) refl;
+  fine = subst (λ e. Fine ns 0 0 e []) (sym (open_ended w.page.stage b.stage)) fine;
+  is_whole = refl;
+}
+
+outermost_is : (p : Pieces) (fs : List Outer) (os : List Open) (ms : List Mark) (start : Scope) →
+    OutersAre p fs os ms start → ms ≡ [] → start ≡ outermost
+outermost_is p [] [] [] start h e = h
+outermost_is p [] [] (m ∷ ms) start h e = absurd h
+outermost_is p [] (o ∷ os) ms start h e = absurd h
+outermost_is p (f ∷ fs) [] ms start h e = absurd h
+outermost_is p (f ∷ fs) (o ∷ os) [] start h e = absurd h
+outermost_is p (f ∷ fs) (o ∷ os) (m ∷ ms) start h e = absurd (cc)
+
+-- the text where all nodes are read
+pub all_read : (p q : Pieces) (page : Page) (outers : List Outer) (ns : List KNd) (whole : KTm) (piece : ℕ) →
+    ns ≡ [] → ((start : Scope) (b : Body) → is_ended page.stage ≡ true → PageIs p start page b →
+    Stands q piece (term_in start (b.ending b.waiting))) →
+    StateIs p page outers ns whole → text_at q piece ≡ k_text whole
+all_read p q page outers ns whole piece none finished h =
+    let fine = subst (λ (n : List KNd). Fine n h.body.depth (length h.body.waiting) (is_ended page.stage) h.marks) none h.fine in
+    let is_whole = subst (λ (n : List KNd). run n h.body h.opens ≡ whole) none h.is_whole in
+    let start = outermost_is p (stack outers) h.opens h.marks h.start h.are_outers fine.1 in
+    (finished h.start h.body fine.0 h.is_page).is
+    ∙ ap₂ (λ (s : Scope) (t : KTm). term_in s t) start is_whole

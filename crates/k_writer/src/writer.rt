@@ -1,7 +1,6 @@
 // The walk over the nodes of a program.
-ghost use Rattle.std.specs.Prelude.{◌≡◌, ◌++◌, ◌∷◌, [], OnOk, IfOk, true};
+ghost use Rattle.std.specs.Prelude.{◌≡◌, ℕ, OnOk, IfOk, true};
 ghost use Rattle.k_terms.specs.Decode.{Body};
-ghost use Rattle.k_terms.specs.K.{KTy};
 ghost use Rattle.k_terms.specs.Read.{knode, ktys};
 ghost use Rattle.k_terms.specs.Stream.{NCode, NElse, NEnd, NIf};
 ghost use Rattle.k_terms.specs.Whole.{term_of};

@@ -1,6 +1,5 @@
 -- The text of a term that has come to its end.
-use Rattle.std.proofs.Common.{◌≡◌, ℕ, zero, suc, ◌+◌, Bool, true, false, List, [], ◌∷◌, ◌++◌, length, codes, refl, ap, ◌∙◌, sym, subst, arith}
-use Rattle.std.proofs.lemmas.List.{append_assoc}
+use Rattle.std.proofs.Common.{◌≡◌, ℕ, zero, suc, ◌+◌, true, List, [], ◌∷◌, ◌++◌, length, codes, refl, ap, ◌∙◌, sym, subst, arith}
 use Rattle.k_terms.specs.K.{KVal, KVals, NoKVals, MoreKVals}
 use Rattle.k_terms.specs.Decode.{Body, taken, past, all}
 use Rattle.pieces.specs.Pieces.{Stands, Keeps}
@@ -50,9 +49,9 @@ pub ended_call : (p q r t : Pieces) (page : Page) (start : Scope) (b : Body) (co
     PageIs p start page b → Stands t text (term_in start (b.ending b.waiting))
 ended_call p q r t page start b count args closed text closing left stage n k take l join ec joined h =
     let width : count ≡ length b.waiting =
-        let x = values_length p page.scope (stack page.values.items) b.waiting h.values in
-        let y = stack_length [] page.values.items in
-        omega (arith, n, x, y) in
+    let x = values_length p page.scope (stack page.values.items) b.waiting h.values in
+    let y = stack_length [] page.values.items in
+    omega (arith, n, x, y) in
     let got = join _ (take page.scope b.waiting h.values).0 in
     subst (λ (w : List ℕ). Stands t text w)
     (ap (λ vs. h.text ++ (values_in page.scope vs ++ closing)) (taken_all b.waiting count NoKVals width)

@@ -1,5 +1,5 @@
 -- In the nodes of a term nothing is out of place.
-use Rattle.std.proofs.Common.{◌≡◌, ℕ, zero, suc, ◌+◌, Bool, true, false, List, [], ◌∷◌, refl, ap, ◌∙◌, sym, subst, arith}
+use Rattle.std.proofs.Common.{ℕ, suc, ◌+◌, Bool, true, false, List, [], ◌∷◌, refl, subst, arith}
 use Rattle.term_core.specs.Ends.{lift, after_one}
 use Rattle.k_terms.specs.K.{KTy, KVal, KVar, KInt, KTuple, KCode, KVals, NoKVals, MoreKVals, KDecl, KName, KProj, KArith}
 use Rattle.k_terms.specs.K.{KPack, KUnpack, KCell, KGet, KSet, KTm, KLet, KCall, KIf, KHalt, kcount, kbody_scope, opens, scope_more}
@@ -50,8 +50,11 @@ mutual
       fine_v d td g f (NCall d td ts (kwidth vs) ∷ klin_vs d td g vs rest) 0 false ms
       (refl, refl, fine_vs d td g vs rest 0 true ms (h d (kwidth vs + 0)))
   fine_t d td g (KIf v t u) rest ms h =
-      fine_v d td g v _ 0 false ms (refl, refl,
-      fine_t d td g t _ (ThenMark d ∷ ms) (λ c w. (refl, fine_t d td g u rest ms h)))
+      fine_v d td g v _ 0 false ms (
+        refl,
+        refl,
+        fine_t d td g t _ (ThenMark d ∷ ms) (λ c w. (refl, fine_t d td g u rest ms h)),
+      )
   fine_t d td g (KHalt v) rest ms h = fine_v d td g v _ 0 false ms (refl, refl, h d 0)
 
 -- the nodes of a whole term

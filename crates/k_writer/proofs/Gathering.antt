@@ -1,5 +1,5 @@
 -- The last values, one by one from the last on.
-use Rattle.std.proofs.Common.{◌≡◌, ◌<◌, ◌≤◌, ℕ, zero, suc, ◌+◌, List, [], ◌∷◌, ◌++◌, refl, ap, ◌∙◌, sym, subst, arith}
+use Rattle.std.proofs.Common.{◌≡◌, ◌<◌, ◌≤◌, ℕ, zero, suc, ◌+◌, List, [], ◌∷◌, ◌++◌, refl, sym, subst, arith}
 use Rattle.k_terms.specs.K.{KVal, KVals, NoKVals, MoreKVals}
 use Rattle.k_terms.specs.Stream.{kwidth}
 use Rattle.k_terms.specs.Decode.{taken, past}

@@ -1,9 +1,9 @@
 -- A node that changes the innermost term alone.
-use Rattle.std.proofs.Common.{◌≡◌, ℕ, zero, suc, ◌+◌, Bool, true, false, List, [], ◌∷◌, length, refl, ap, ◌∙◌, sym, subst, arith}
-use Rattle.k_terms.specs.K.{KVal, KTm}
+use Rattle.std.proofs.Common.{◌≡◌, ℕ, zero, suc, ◌+◌, Bool, true, false, List, [], ◌∷◌, length, refl, ◌∙◌, sym, subst, arith}
+use Rattle.k_terms.specs.K.{KVal}
 use Rattle.k_terms.specs.Stream.{KNd}
 use Rattle.k_terms.specs.Decode.{Body, Open, InCode, InThen, run, rest, past}
-use Rattle.pieces.specs.Pieces.{Stands, Keeps}
+use Rattle.pieces.specs.Pieces.{Keeps}
 use Rattle.pieces.specs.declared.pieces.Pieces.{Pieces}
 use Rattle.k_writer.specs.declared.page.Scope.{Scope}
 use Rattle.k_writer.specs.declared.page.Stage.{Stage}
@@ -15,7 +15,7 @@ use Rattle.k_writer.specs.declared.page.Outer.{Outer}
 use Rattle.k_writer.specs.declared.writer.Writer.{Writer}
 use Rattle.k_writer.specs.Fine.{Fine, Mark, CodeMark, ThenMark}
 use Rattle.k_writer.specs.Moves.{Moves}
-use Rattle.k_writer.specs.State.{is_ended, stack, PageIs, TestIs, OuterIs, OutersAre, Turns}
+use Rattle.k_writer.specs.State.{is_ended, stack, OuterIs, OutersAre, Turns}
 use Rattle.k_writer.proofs.Turning.{page_kept}
 
 outer_kept : (p q : Pieces) → Keeps p q → (part : Part) (page : Page) (o : Open) (m : Mark) (outer start : Scope) →
@@ -49,7 +49,7 @@ pub turned : (a : Writer) (q : Pieces) (page : Page) (node nd : KNd) (Given : Bo
     Moves a (record { alloc = a.alloc; pieces = q; page = page; around = a.around }) node
 turned a q page node nd Given f to is t fine steps ns whole h =
     let g = fine ns h.body h.marks
-        (subst (λ n. Fine (n ∷ ns) h.body.depth (length h.body.waiting) (is_ended a.page.stage) h.marks) is h.fine) in
+    (subst (λ n. Fine (n ∷ ns) h.body.depth (length h.body.waiting) (is_ended a.page.stage) h.marks) is h.fine) in
     record {
       body = f h.body;
       opens = h.opens;

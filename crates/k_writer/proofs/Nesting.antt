@@ -21,7 +21,7 @@ use Rattle.k_writer.specs.declared.writer.Writer.{Writer}
 use Rattle.k_writer.specs.Fine.{Fine, Mark, CodeMark, ThenMark}
 use Rattle.k_writer.specs.Moves.{Moves, Enters, Begun}
 use Rattle.k_writer.specs.Notation.{code_line, k_text}
-use Rattle.k_writer.specs.State.{value_in, term_in, branch, inside, outermost, is_ended, stack, stack_onto, ValuesAre, SoFar, PageIs, TestIs, OuterIs, OutersAre, StateIs}
+use Rattle.k_writer.specs.State.{value_in, term_in, branch, inside, outermost, is_ended, stack, ValuesAre, SoFar, PageIs, TestIs, OuterIs, OutersAre, StateIs}
 use Rattle.k_writer.proofs.Turning.{stack_push, page_kept, open_is, one_waits, value_pushed}
 use Rattle.k_writer.proofs.Moving.{outers_kept, open_stage}
 
@@ -59,18 +59,22 @@ code_begins a b c start level depth owes first args k page around line is en ns 
     let d = lift (kcount args) (suc level) in
     let lv = h.fine.0 in
     let names : d ≡ start.names =
-        let n = h.is_page.depth in
-        let m = ap (λ (s : Scope). s.names) is in
-        let l = lift_is (kcount args) (suc level) in
-        omega (arith, lv, n, m, l) in
+    let n = h.is_page.depth in
+    let m = ap (λ (s : Scope). s.names) is in
+    let l = lift_is (kcount args) (suc level) in
+    omega (arith, lv, n, m, l) in
     let keeps = λ (i : ℕ) (s : List ℕ) (g : Stands a.pieces i s). en.keeps i s (k i s g) in
     let line' = subst (λ (p : Page). Stands c.pieces first (code_line p.scope.types p.scope.names owes args)) page
-        (en.keeps first _ line) in
+    (en.keeps first _ line) in
     let outer : OuterIs c.pieces (P.Code first) b.page (InCode x owes args)
-        (CodeMark x.depth (length x.waiting) (is_ended a.page.stage)) h.start start =
-        (subst (λ (p : Page). PageIs c.pieces h.start p x) page (page_kept a.pieces c.pieces keeps h.start a.page x h.is_page),
-        line', is ∙ ap (λ (p : Page). inside p.scope owes args) page, refl, refl,
-        ap (λ (p : Page). is_ended p.stage) page) in
+    (CodeMark x.depth (length x.waiting) (is_ended a.page.stage)) h.start start = (
+      subst (λ (p : Page). PageIs c.pieces h.start p x) page (page_kept a.pieces c.pieces keeps h.start a.page x h.is_page),
+      line',
+      is ∙ ap (λ (p : Page). inside p.scope owes args) page,
+      refl,
+      refl,
+      ap (λ (p : Page). is_ended p.stage) page,
+    ) in
     record {
       body = fresh d;
       opens = InCode x owes args ∷ h.opens;
@@ -79,9 +83,12 @@ code_begins a b c start level depth owes first args k page around line is en ns 
       is_page = blank c.pieces c.page start d en.scope_is en.stage en.text en.values names;
       are_outers = subst (λ (fs : List Outer). OutersAre c.pieces fs (InCode x owes args ∷ h.opens)
           (CodeMark x.depth (length x.waiting) (is_ended a.page.stage) ∷ h.marks) start)
-          (sym (ap stack en.around ∙ stack_push [] b.around.items (record { page = b.page; part = P.Code first })))
-          (h.start, outer, subst (λ (r : Vec Outer Global). OutersAre c.pieces (stack r.items) h.opens h.marks h.start) around
-          (outers_kept a.pieces c.pieces keeps (stack a.around.items) h.opens h.marks h.start h.are_outers));
+          (sym (ap stack en.around ∙ stack_push [] b.around.items (record { page = b.page; part = P.Code first }))) (
+            h.start,
+            outer,
+            subst (λ (r : Vec Outer Global). OutersAre c.pieces (stack r.items) h.opens h.marks h.start) around
+                (outers_kept a.pieces c.pieces keeps (stack a.around.items) h.opens h.marks h.start h.are_outers),
+          );
       fine = subst (λ l. Fine ns (lift (kcount args) (suc l)) 0 (is_ended c.page.stage)
           (CodeMark x.depth (length x.waiting) (is_ended a.page.stage) ∷ h.marks)) (sym lv)
           (subst (λ e. Fine ns (lift (kcount args) (suc x.depth)) 0 e
@@ -110,25 +117,25 @@ test_begins a b c start text q r value tested left B A k take l join m joined eb
     let v = top x.waiting in
     let pg = h.is_page in
     let g = take a.page.scope v []
-        (subst (λ (vs : List KVal). ValuesAre a.pieces a.page.scope (stack a.page.values.items) vs) one pg.values) in
+    (subst (λ (vs : List KVal). ValuesAre a.pieces a.page.scope (stack a.page.values.items) vs) one pg.values) in
     let line = B ++ value_in a.page.scope v ++ A in
     let stands = joined pg.text line (l a.page.text pg.text (k a.page.text pg.text pg.stands)) (join _ g.0) in
     let keeps = λ (i : ℕ) (s : List ℕ) (u : Stands a.pieces i s). en.keeps i s (m i s (l i s (k i s u))) in
     let tested_is : TestIs c.pieces h.start b.page x v = record {
-          text = pg.text ++ line;
-          stands = en.keeps b.page.text (pg.text ++ line)
-              (subst (λ i. Stands b.pieces i (pg.text ++ line)) (sym bt) stands);
-          so_far = λ t u.
-              subst (λ (s : Scope). term_in h.start (x.around (KIf v t u)) ≡
-              pg.text ++ line ++ term_in (branch s) t ++ (margin s.indent ++ codes "else\n") ++ term_in (branch s) u)
-              (sym bs)
-              (open_is a.page.stage h.start a.page.scope x pg.text given.0 pg.so_far (KIf v t u)
-              ∙ ap₂ (λ (y z : List ℕ). pg.text ++ (y ++ value_in a.page.scope v ++ z ++ term_in (branch a.page.scope) t
-              ++ margin a.page.scope.indent ++ codes "else\n" ++ term_in (branch a.page.scope) u)) (sym eb) (sym ea)
-              ∙ if_text pg.text line (term_in (branch a.page.scope) t) (margin a.page.scope.indent) (codes "else\n")
-              (term_in (branch a.page.scope) u));
-          depth = pg.depth ∙ ap (λ (s : Scope). s.names) (sym bs);
-        } in
+      text = pg.text ++ line;
+      stands = en.keeps b.page.text (pg.text ++ line)
+          (subst (λ i. Stands b.pieces i (pg.text ++ line)) (sym bt) stands);
+      so_far = λ t u.
+          subst (λ (s : Scope). term_in h.start (x.around (KIf v t u)) ≡
+          pg.text ++ line ++ term_in (branch s) t ++ (margin s.indent ++ codes "else\n") ++ term_in (branch s) u)
+          (sym bs)
+          (open_is a.page.stage h.start a.page.scope x pg.text given.0 pg.so_far (KIf v t u)
+          ∙ ap₂ (λ (y z : List ℕ). pg.text ++ (y ++ value_in a.page.scope v ++ z ++ term_in (branch a.page.scope) t
+          ++ margin a.page.scope.indent ++ codes "else\n" ++ term_in (branch a.page.scope) u)) (sym eb) (sym ea)
+          ∙ if_text pg.text line (term_in (branch a.page.scope) t) (margin a.page.scope.indent) (codes "else\n")
+          (term_in (branch a.page.scope) u));
+      depth = pg.depth ∙ ap (λ (s : Scope). s.names) (sym bs);
+    } in
     record {
       body = fresh x.depth;
       opens = InThen x v ∷ h.opens;
@@ -137,10 +144,12 @@ test_begins a b c start text q r value tested left B A k take l join m joined eb
       is_page = blank c.pieces c.page start x.depth en.scope_is en.stage en.text en.values
           (pg.depth ∙ ap (λ (s : Scope). s.names) (sym is));
       are_outers = subst (λ (fs : List Outer). OutersAre c.pieces fs (InThen x v ∷ h.opens) (ThenMark x.depth ∷ h.marks) start)
-          (sym (ap stack en.around ∙ stack_push [] b.around.items (record { page = b.page; part = P.Then })))
-          (h.start, (tested_is, is ∙ ap branch (sym bs), refl),
-          subst (λ (w : Vec Outer Global). OutersAre c.pieces (stack w.items) h.opens h.marks h.start) around
-          (outers_kept a.pieces c.pieces keeps (stack a.around.items) h.opens h.marks h.start h.are_outers));
+          (sym (ap stack en.around ∙ stack_push [] b.around.items (record { page = b.page; part = P.Then }))) (
+            h.start,
+            (tested_is, is ∙ ap branch (sym bs), refl),
+            subst (λ (w : Vec Outer Global). OutersAre c.pieces (stack w.items) h.opens h.marks h.start) around
+                (outers_kept a.pieces c.pieces keeps (stack a.around.items) h.opens h.marks h.start h.are_outers),
+          );
       fine = subst (λ e. Fine ns x.depth 0 e (ThenMark x.depth ∷ h.marks)) (sym (open_ended c.page.stage en.stage)) h.fine.2;
       is_whole = h.is_whole;
     }
@@ -306,8 +315,8 @@ pub code_ends : (a : Writer) (q r t : Pieces) (f : Outer) (around : Vec Outer Gl
     }) NEnd
 code_ends a q r t f around values body opened code line last items is k finished el l join m closed pushed ns whole h =
     let c = in_code a.pieces f (stack around.items) h.opens h.marks ns h.start h.body.depth (length h.body.waiting)
-        (is_ended a.page.stage) line is
-        (popped a.pieces a.around.items around.items f h.opens h.marks h.start items h.are_outers) h.fine in
+    (is_ended a.page.stage) line is
+    (popped a.pieces a.around.items around.items f h.opens h.marks h.start items h.are_outers) h.fine in
     let x = h.body in
     let s = f.page.scope in
     let keeps = λ (i : ℕ) (u : List ℕ) (g : Stands a.pieces i u). m i u (l i u (k i u g)) in
@@ -316,10 +325,10 @@ code_ends a q r t f around values body opened code line last items is k finished
     let v = KCode c.owes c.args (x.ending x.waiting) in
     let stands = closed _ (join head _ (k line head c.stands) inner) in
     let value : Stands t code (value_in s v) =
-        subst (λ (w : List ℕ). Stands t code w)
-        (ap₂ (λ (y : Scope) (z : List ℕ). head ++ term_in y (x.ending x.waiting) ++ z) c.start_is el
-        ∙ sym (append_assoc (head ++ term_in (inside s c.owes c.args) (x.ending x.waiting)) (margin s.indent) (codes "}")))
-        stands in
+    subst (λ (w : List ℕ). Stands t code w)
+    (ap₂ (λ (y : Scope) (z : List ℕ). head ++ term_in y (x.ending x.waiting) ++ z) c.start_is el
+    ∙ sym (append_assoc (head ++ term_in (inside s c.owes c.args) (x.ending x.waiting)) (margin s.indent) (codes "}")))
+    stands in
     let turn = value_pushed a.pieces t f.page values (λ b. v) code (value_in s v) keeps value pushed (λ b e. refl) in
     record {
       body = push c.body v;
@@ -349,8 +358,8 @@ pub branch_begins : (a : Writer) (q r t : Pieces) (f : Outer) (around : Vec Oute
     }) (NElse depth)
 branch_begins a q r t f around values scope depth first opened text middle items sc none k finished em l join m closed ns whole h =
     let c = in_branch a.pieces f (stack around.items) h.opens h.marks ns h.start depth h.body.depth
-        (length h.body.waiting) (is_ended a.page.stage)
-        (popped a.pieces a.around.items around.items f h.opens h.marks h.start items h.are_outers) h.fine in
+    (length h.body.waiting) (is_ended a.page.stage)
+    (popped a.pieces a.around.items around.items f h.opens h.marks h.start items h.are_outers) h.fine in
     let x = h.body in
     let s = f.page.scope in
     let u = x.ending x.waiting in
@@ -360,8 +369,8 @@ branch_begins a q r t f around values scope depth first opened text middle items
     let stands = closed _ (join test.text _ (k f.page.text test.text test.stands) inner) in
     let so_far = test.text ++ term_in (branch s) u ++ (margin s.indent ++ codes "else\n") in
     let stands' : Stands t text so_far =
-        subst (λ (w : List ℕ). Stands t text w)
-        (ap₂ (λ (y : Scope) (z : List ℕ). test.text ++ term_in y u ++ z) c.start_is em) stands in
+    subst (λ (w : List ℕ). Stands t text w)
+    (ap₂ (λ (y : Scope) (z : List ℕ). test.text ++ term_in y u ++ z) c.start_is em) stands in
     record {
       body = other c.body c.value u;
       opens = c.opens;

@@ -1,7 +1,7 @@
 -- What a page stands for after one more value, or one more line.
 use Rattle.std.proofs.Common.{◌≡◌, ℕ, suc, ◌+◌, List, [], ◌∷◌, ◌++◌, length, Vec, Global, codes, refl, ap, ap₂, ◌∙◌, sym, subst, arith}
 use Rattle.std.proofs.lemmas.List.{append_assoc}
-use Rattle.k_terms.specs.K.{KVal, KVals, NoKVals, KTm, KDecl, KTys, KLet, KCall, KHalt, KTuple, KIf, opens}
+use Rattle.k_terms.specs.K.{KVal, NoKVals, KTm, KDecl, KTys, KLet, KCall, KHalt, KTuple, opens}
 use Rattle.k_terms.specs.Decode.{Body, push, grouped, top, rest, taken, past, all, bind_one, bind_two, calls, halts}
 use Rattle.term_core.specs.Ends.{after_one}
 use Rattle.pieces.specs.Pieces.{Stands, Keeps}
@@ -12,7 +12,7 @@ use Rattle.k_writer.specs.declared.page.Stage.{Stage}
 use Rattle.k_writer.specs.declared.page.Stage.TheVariants as S
 use Rattle.k_writer.specs.declared.page.Page.{Page}
 use Rattle.k_writer.specs.Notation.{types_text, term_text}
-use Rattle.k_writer.specs.State.{value_in, values_in, let_in, term_in, branch, more_scope, stack, stack_onto, ValuesAre, SoFar, PageIs, Turns, Takes, TestIs}
+use Rattle.k_writer.specs.State.{value_in, values_in, let_in, term_in, more_scope, stack, stack_onto, ValuesAre, SoFar, PageIs, Turns, Takes}
 
 pub stack_push : {T : Type 0} (ys xs : List T) (x : T) → stack_onto ys (xs ++ x ∷ []) ≡ x ∷ stack_onto ys xs
 stack_push ys [] x = refl
@@ -59,9 +59,10 @@ value_pushed p q a values f n s keeps stands items is = record {
     so_far = so_far_waits a.stage start a.scope b (f b ∷ b.waiting) h.text h.so_far;
     depth = h.depth;
     values = subst (λ (xs : List ℕ). ValuesAre q a.scope xs (f b ∷ b.waiting))
-        (sym (ap stack items ∙ stack_push [] a.values.items n))
-        (subst (λ (w : List ℕ). Stands q n w) (sym (is b h.depth)) stands,
-        values_kept p q keeps a.scope (stack a.values.items) b.waiting h.values);
+        (sym (ap stack items ∙ stack_push [] a.values.items n)) (
+          subst (λ (w : List ℕ). Stands q n w) (sym (is b h.depth)) stands,
+          values_kept p q keeps a.scope (stack a.values.items) b.waiting h.values,
+        );
   };
   stage = refl;
 }
@@ -156,7 +157,7 @@ declared_one p q r t a scope values value line text opened B A es k take l join 
       let one = one_waits b.waiting given.1 in
       let v = top b.waiting in
       let g = take a.scope v []
-          (subst (λ (vs : List KVal). ValuesAre p a.scope (stack a.values.items) vs) one h.values) in
+      (subst (λ (vs : List KVal). ValuesAre p a.scope (stack a.values.items) vs) one h.values) in
       bound t a start scope values text opened (B ++ value_in a.scope v ++ A) b (x v) (rest b.waiting) h.text es
       given.0 h.so_far h.depth (ap rest one) (none_are q t a.scope scope (stack values.items) g.1)
       (joined h.text (B ++ value_in a.scope v ++ A) (l a.text h.text (k a.text h.text h.stands)) (join _ g.0))
@@ -178,24 +179,24 @@ pub declared_two : (p q r t u : Pieces) (a : Page) (scope : Scope) (middle : Lis
     Turns p a u (record { scope = scope; text = text; stage = a.stage; values = values }) (Takes a 2)
     (λ b. bind_two b x) a.stage
 declared_two p q r t u a scope middle values second first line text B M A es k take_w l take_v m join n joined x is after =
-  record {
-    keeps = λ i s h. n i s (m i s (l i s (k i s h)));
-    is = λ start b given h.
-        let two = two_wait b.waiting given.1 in
-        let w = top b.waiting in
-        let v = top (rest b.waiting) in
-        let gw = take_w a.scope w (v ∷ [])
-            (subst (λ (vs : List KVal). ValuesAre p a.scope (stack a.values.items) vs) two h.values) in
-        let gv = take_v a.scope v [] gw.1 in
-        bound u a start scope values text 0 (B ++ value_in a.scope v ++ M ++ value_in a.scope w ++ A) b (x v w)
-        (rest (rest b.waiting)) h.text es given.0 h.so_far h.depth (ap (λ vs. rest (rest vs)) two)
-        (none_are r u a.scope scope (stack values.items) gv.1)
-        (joined h.text (B ++ value_in a.scope v ++ M ++ value_in a.scope w ++ A)
-        (m a.text h.text (l a.text h.text (k a.text h.text h.stands)))
-        (join _ _ gv.0 (l second _ gw.0)))
-        (is v w) (after v w);
-    stage = refl;
-  }
+    record {
+      keeps = λ i s h. n i s (m i s (l i s (k i s h)));
+      is = λ start b given h.
+          let two = two_wait b.waiting given.1 in
+          let w = top b.waiting in
+          let v = top (rest b.waiting) in
+          let gw = take_w a.scope w (v ∷ [])
+          (subst (λ (vs : List KVal). ValuesAre p a.scope (stack a.values.items) vs) two h.values) in
+          let gv = take_v a.scope v [] gw.1 in
+          bound u a start scope values text 0 (B ++ value_in a.scope v ++ M ++ value_in a.scope w ++ A) b (x v w)
+          (rest (rest b.waiting)) h.text es given.0 h.so_far h.depth (ap (λ vs. rest (rest vs)) two)
+          (none_are r u a.scope scope (stack values.items) gv.1)
+          (joined h.text (B ++ value_in a.scope v ++ M ++ value_in a.scope w ++ A)
+          (m a.text h.text (l a.text h.text (k a.text h.text h.stands)))
+          (join _ _ gv.0 (l second _ gw.0)))
+          (is v w) (after v w);
+      stage = refl;
+    }
 
 -- the last line of a term: a call, whose arguments are still to come
 pub called : (p q r t : Pieces) (a : Page) (taken_values values : Vec ℕ Global) (value line text : ℕ) (ts : KTys)
@@ -213,7 +214,7 @@ called p q r t a tv values value line text ts B A none k take l join m joined eb
       let one = one_waits b.waiting given.1 in
       let v = top b.waiting in
       let g = take a.scope v []
-          (subst (λ (vs : List KVal). ValuesAre p a.scope (stack a.values.items) vs) one h.values) in
+      (subst (λ (vs : List KVal). ValuesAre p a.scope (stack a.values.items) vs) one h.values) in
       let whole = B ++ value_in a.scope v ++ A in
       record {
         text = h.text ++ whole;
@@ -243,7 +244,7 @@ halted p q r t a tv values value line text B A none k take l join m joined eb ea
       let one = one_waits b.waiting given.1 in
       let v = top b.waiting in
       let g = take a.scope v []
-          (subst (λ (vs : List KVal). ValuesAre p a.scope (stack a.values.items) vs) one h.values) in
+      (subst (λ (vs : List KVal). ValuesAre p a.scope (stack a.values.items) vs) one h.values) in
       let whole = B ++ value_in a.scope v ++ A in
       record {
         text = h.text ++ whole;

@@ -1,5 +1,5 @@
 -- Types, item by item.
-use Rattle.std.proofs.Common.{◌≡◌, ℕ, suc, ◌+◌, ◌<◌, ◌≤◌, List, [], ◌∷◌, ◌++◌, drop, length, get_or, codes, refl, sym, ap, ◌∙◌, arith}
+use Rattle.std.proofs.Common.{◌≡◌, ℕ, suc, ◌+◌, ◌<◌, ◌≤◌, List, ◌∷◌, ◌++◌, drop, length, get_or, codes, sym, ap, ◌∙◌, arith}
 use Rattle.std.proofs.lemmas.List.{append_assoc, append-nil}
 use Rattle.std.proofs.Math.Seq.{drop-cons}
 use Rattle.std.proofs.Math.ListN.{drop_of_length-le}
@@ -44,9 +44,9 @@ argument_more n m i xs x before separated named signed after whole at is lt e b 
     let rest = arguments_text n m (i + 1) (ktys (drop (i + 1) xs)) in
     let item = separator i ++ value_name (m + i) ++ codes ": " ++ type_text n (ktree x) in
     let made : after ≡ before ++ item =
-        a ∙ ap (λ (w : List ℕ). w ++ type_text n (ktree x)) (g ∙ ap (λ (w : List ℕ). w ++ codes ": ")
-        (v ∙ ap (λ (w : List ℕ). w ++ value_name at) s ∙ ap (λ k. before ++ separator i ++ value_name k) e))
-        ∙ four before (separator i) (value_name (m + i)) (codes ": ") (type_text n (ktree x)) in
+    a ∙ ap (λ (w : List ℕ). w ++ type_text n (ktree x)) (g ∙ ap (λ (w : List ℕ). w ++ codes ": ")
+    (v ∙ ap (λ (w : List ℕ). w ++ value_name at) s ∙ ap (λ k. before ++ separator i ++ value_name k) e))
+    ∙ four before (separator i) (value_name (m + i)) (codes ": ") (type_text n (ktree x)) in
     ap (λ (w : List ℕ). w ++ rest) made ∙ append_assoc before item rest
     ∙ ap (λ (ys : List KType). before ++ arguments_text n m i (ktys ys)) (sym (dropped xs i x is lt)) ∙ b
 

@@ -1,12 +1,11 @@
 -- What a node does to what is being written.
-use Rattle.std.specs.Prelude.{◌≡◌, ℕ, List, [], ◌∷◌, ◌++◌}
+use Rattle.std.specs.Prelude.{◌≡◌, List, [], ◌∷◌, ◌++◌}
 use Rattle.k_terms.specs.K.{KTm}
 use Rattle.k_terms.specs.Stream.{KNd}
 use Rattle.pieces.specs.Pieces.{Stands, Keeps}
 use Rattle.k_writer.specs.declared.page.Scope.{Scope}
 use Rattle.k_writer.specs.declared.page.Stage.TheVariants as S
 use Rattle.k_writer.specs.declared.page.Part.{Part}
-use Rattle.k_writer.specs.declared.page.Outer.{Outer}
 use Rattle.k_writer.specs.declared.writer.Writer.{Writer}
 use Rattle.k_writer.specs.State.{StateIs, outermost}
 

@@ -6,7 +6,11 @@ use idx_core::OutOfMemory;
 use pieces::Pieces;
 
 // A piece with bytes behind it.
-pub(crate) fn with_bytes(pieces: &mut Pieces, first: u64, bytes: Vec<u8>) -> Result<u64, OutOfMemory>
+pub(crate) fn with_bytes(
+    pieces: &mut Pieces,
+    first: u64,
+    bytes: Vec<u8>,
+) -> Result<u64, OutOfMemory>
     ensures keeps { OnOk result (Keeps pieces.old pieces.new) }
     ensures stands { IfOk result (λ piece. (s : List ℕ) → Stands pieces.old first s →
         Stands pieces.new piece (s ++ bytes.items)) }

@@ -217,11 +217,7 @@ pub(crate) fn pack(
 }
 
 /// What a package holds, and its hidden type.
-pub(crate) fn unpack(
-    alloc: Global,
-    pieces: &mut Pieces,
-    page: &mut Page,
-) -> Result<(), OutOfMemory>
+pub(crate) fn unpack(alloc: Global, pieces: &mut Pieces, page: &mut Page) -> Result<(), OutOfMemory>
     ensures { OnOk result (Turns pieces.old page.old pieces.new page.new (Takes page.old 1)
         (λ b. bind_one b KUnpack) page.old.stage) }
 {

@@ -1,4 +1,4 @@
-use Rattle.std.proofs.Common.{◌≡◌, ◌++◌, List, ℕ, codes, ap₂, ◌∙◌, subst, sym}
+use Rattle.std.proofs.Common.{◌++◌, List, ℕ, codes, ap₂, subst}
 use Rattle.pieces.specs.Pieces.{Stands}
 use Rattle.k_writer.specs.Notation.{let_sign}
 use Rattle.k_writer.proofs.Turning.{declared_two}

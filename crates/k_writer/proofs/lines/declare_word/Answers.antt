@@ -1,4 +1,4 @@
-use Rattle.std.proofs.Common.{◌≡◌, ◌++◌, List, ℕ, codes, ap, ap₂, ◌∙◌, sym}
+use Rattle.std.proofs.Common.{◌++◌, List, ℕ, ap, ap₂, ◌∙◌, sym}
 use Rattle.std.proofs.lemmas.Result.{on_ok_weaker}
 use Rattle.k_writer.specs.State.{value_in}
 use Rattle.k_writer.proofs.lines.declare_word.Goals as goal

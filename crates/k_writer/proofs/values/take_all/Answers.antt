@@ -1,4 +1,4 @@
-use Rattle.std.proofs.Common.{◌≡◌, ◌++◌, ◌∷◌, [], List, ℕ, ap, ◌∙◌, sym, subst, rules}
+use Rattle.std.proofs.Common.{◌≡◌, [], List, ℕ, ap, ◌∙◌, sym, subst, rules}
 use Rattle.k_writer.specs.State.{stack}
 use Rattle.k_writer.proofs.Turning.{stack_push}
 use Rattle.k_writer.proofs.Gathering.{gathered_first, gathered_more, gathered_all, gathered_none, Gathered}

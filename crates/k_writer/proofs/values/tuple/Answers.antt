@@ -1,4 +1,4 @@
-use Rattle.std.proofs.Common.{◌≡◌, ◌++◌, List, ℕ, codes, ap, ap₂, ◌∙◌, subst}
+use Rattle.std.proofs.Common.{◌++◌, List, ℕ, codes, ap, ap₂, ◌∙◌, subst}
 use Rattle.pieces.specs.Pieces.{Stands}
 use Rattle.k_writer.proofs.Turning.{tuple_pushed}
 use Rattle.k_writer.proofs.values.tuple.Goals as goal

@@ -1,4 +1,4 @@
-use Rattle.std.proofs.Common.{◌≡◌, arith}
+use Rattle.std.proofs.Common.{arith}
 use Rattle.k_terms.specs.Read.{ktys}
 use Rattle.k_writer.specs.State.{inside}
 use Rattle.k_writer.proofs.Nesting.{scope_is, kcount_length}

@@ -24,16 +24,16 @@ pub loop-node-init : goal.loop-node-init
 loop-node-init c =
     let p = c.args.program.now in
     let w = c.in_ok-writer.writer in
-    let xs = c.nodes.result.now in
+    let xs = c.nodes-node-items.result.now in
     subst (λ (t : KTm). StateIs w.pieces w.page w.around.items (map knode xs) t)
-    (ap decode (c.nodes.ensures ∙ p.whole))
+    (ap decode (c.nodes-node-items.ensures ∙ p.whole))
     (begun w (map knode xs) c.in_ok-writer.ensures
-    (subst (λ (ns : List KNd). Fine ns 0 0 false []) (sym c.nodes.ensures) (fine_nodes (term_of p))))
+    (subst (λ (ns : List KNd). Fine ns 0 0 false []) (sym c.nodes-node-items.ensures) (fine_nodes (term_of p))))
 
 pub loop-node-preserved : goal.loop-node-preserved
 loop-node-preserved c =
     let w = c.loop-node.writer in
-    let xs = c.nodes.result.now in
+    let xs = c.nodes-node-items.result.now in
     let i = c.loop-node.node-index in
     c.in_ok-node.ensures (map knode (drop (i + 1) xs)) (term_of c.args.program.now)
     (subst (λ (ns : List KNd). StateIs w.pieces w.page w.around.items ns (term_of c.args.program.now))
@@ -42,7 +42,7 @@ loop-node-preserved c =
 pub returns : goal.returns
 returns c =
     let w = c.loop-node.writer in
-    let xs = c.nodes.result.now in
+    let xs = c.nodes-node-items.result.now in
     c.in_ok-text.ensures
     ∙ all_read w.pieces c.finish.new.pieces w.page w.around.items (map knode (drop c.loop-node.node-index xs))
     (term_of c.args.program.now) c.in_ok-piece.piece

@@ -1,4 +1,4 @@
-use Rattle.std.proofs.Common.{◌≡◌, List, ℕ, refl, subst}
+use Rattle.std.proofs.Common.{List, ℕ, refl, subst}
 use Rattle.k_terms.specs.Read.{ktys}
 use Rattle.pieces.specs.Pieces.{Stands}
 use Rattle.k_writer.specs.declared.writer.Writer.{Writer}

@@ -1,5 +1,6 @@
 -- The text of a term that has come to its end.
-use Rattle.std.proofs.Common.{◌≡◌, ℕ, zero, suc, ◌+◌, true, List, [], ◌∷◌, ◌++◌, length, codes, refl, ap, ◌∙◌, sym, subst, arith}
+use Rattle.std.proofs.Common.{◌≡◌, ℕ, zero, suc, ◌+◌, true, List, [], ◌∷◌, ◌++◌, length, codes, refl, ap, ◌∙◌, sym}
+use Rattle.std.proofs.Common.{subst, arith}
 use Rattle.k_terms.specs.K.{KVal, KVals, NoKVals, MoreKVals}
 use Rattle.k_terms.specs.Decode.{Body, taken, past, all}
 use Rattle.pieces.specs.Pieces.{Stands, Keeps}

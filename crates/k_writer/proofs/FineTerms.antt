@@ -1,8 +1,10 @@
 -- In the nodes of a term nothing is out of place.
 use Rattle.std.proofs.Common.{ℕ, suc, ◌+◌, Bool, true, false, List, [], ◌∷◌, refl, subst, arith}
 use Rattle.term_core.specs.Ends.{lift, after_one}
-use Rattle.k_terms.specs.K.{KTy, KVal, KVar, KInt, KTuple, KCode, KVals, NoKVals, MoreKVals, KDecl, KName, KProj, KArith}
-use Rattle.k_terms.specs.K.{KPack, KUnpack, KCell, KGet, KSet, KTm, KLet, KCall, KIf, KHalt, kcount, kbody_scope, opens, scope_more}
+use Rattle.k_terms.specs.K.{KTy, KVal, KVar, KInt, KTuple, KCode, KVals, NoKVals, MoreKVals, KDecl, KName, KProj}
+use Rattle.k_terms.specs.K.{KArith}
+use Rattle.k_terms.specs.K.{KPack, KUnpack, KCell, KGet, KSet, KTm, KLet, KCall, KIf, KHalt, kcount, kbody_scope}
+use Rattle.k_terms.specs.K.{opens, scope_more}
 use Rattle.k_terms.specs.Stream.{KNd, klin_v, klin_vs, klin_d, klin_t, kwidth, NTuple, NCall, NEnd}
 use Rattle.k_terms.specs.Types.{kd_type}
 use Rattle.k_writer.specs.Fine.{Fine, Mark, CodeMark, ThenMark}
@@ -16,7 +18,8 @@ mutual
       fine_vs d td g vs (NTuple (kwidth vs) ∷ rest) w e ms (w, omega arith, h)
   fine_v d td g (KCode owes args body) rest w e ms h = (
     refl,
-    fine_t (lift (kcount args) (suc d)) (lift owes td) (kbody_scope owes args g) body (NEnd ∷ rest) (CodeMark d w e ∷ ms)
+    fine_t (lift (kcount args) (suc d)) (lift owes td) (kbody_scope owes args g) body (NEnd ∷ rest) (CodeMark d w e ∷
+        ms)
         (λ c v. (refl, h)),
   )
 

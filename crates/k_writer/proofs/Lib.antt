@@ -3,5 +3,6 @@ mod FineTerms
 mod Gathering
 mod Moving
 mod Nesting
+mod Rows
 mod Turning
 mod TypeTexts

@@ -1,5 +1,6 @@
 -- A node that changes the innermost term alone.
-use Rattle.std.proofs.Common.{◌≡◌, ℕ, zero, suc, ◌+◌, Bool, true, false, List, [], ◌∷◌, length, refl, ◌∙◌, sym, subst, arith}
+use Rattle.std.proofs.Common.{◌≡◌, ℕ, zero, suc, ◌+◌, Bool, true, false, List, [], ◌∷◌, length, refl, ◌∙◌, sym, subst}
+use Rattle.std.proofs.Common.{arith}
 use Rattle.k_terms.specs.K.{KVal}
 use Rattle.k_terms.specs.Stream.{KNd}
 use Rattle.k_terms.specs.Decode.{Body, Open, InCode, InThen, run, rest, past}

@@ -1,5 +1,6 @@
 -- Codes and branches: terms begin and end.
-use Rattle.std.proofs.Common.{◌≡◌, ℕ, zero, suc, ◌+◌, Bool, true, false, List, [], ◌∷◌, ◌++◌, length, Vec, Global, codes, refl, ap, ap₂, ◌∙◌, sym, subst, arith}
+use Rattle.std.proofs.Common.{◌≡◌, ℕ, zero, suc, ◌+◌, Bool, true, false, List, [], ◌∷◌, ◌++◌, length, Vec, Global}
+use Rattle.std.proofs.Common.{codes, refl, ap, ap₂, ◌∙◌, sym, subst, arith}
 use Rattle.std.proofs.lemmas.List.{append_assoc}
 use Rattle.term_core.specs.Ends.{lift}
 use Rattle.k_terms.specs.K.{KVal, KTm, KTys, KCode, KIf, kcount}
@@ -21,7 +22,8 @@ use Rattle.k_writer.specs.declared.writer.Writer.{Writer}
 use Rattle.k_writer.specs.Fine.{Fine, Mark, CodeMark, ThenMark}
 use Rattle.k_writer.specs.Moves.{Moves, Enters, Begun}
 use Rattle.k_writer.specs.Notation.{code_line, k_text}
-use Rattle.k_writer.specs.State.{value_in, term_in, branch, inside, outermost, is_ended, stack, ValuesAre, SoFar, PageIs, TestIs, OuterIs, OutersAre, StateIs}
+use Rattle.k_writer.specs.State.{value_in, term_in, branch, inside, outermost, is_ended, stack, ValuesAre, SoFar}
+use Rattle.k_writer.specs.State.{PageIs, TestIs, OuterIs, OutersAre, StateIs}
 use Rattle.k_writer.proofs.Turning.{stack_push, page_kept, open_is, one_waits, value_pushed}
 use Rattle.k_writer.proofs.Moving.{outers_kept, open_stage}
 
@@ -50,7 +52,8 @@ open_ended : (stage : Stage) → stage ≡ S.Open → is_ended stage ≡ false
 open_ended stage e = ap is_ended e
 
 -- a code begins
-pub code_begins : (a b c : Writer) (start : Scope) (level depth owes first : ℕ) (args : KTys) → Keeps a.pieces b.pieces →
+pub code_begins : (a b c : Writer) (start : Scope) (level depth owes first : ℕ) (args : KTys) →
+    Keeps a.pieces b.pieces →
     a.page ≡ b.page → a.around ≡ b.around →
     Stands b.pieces first (code_line a.page.scope.types a.page.scope.names owes args) →
     start ≡ inside a.page.scope owes args → Enters b c start (P.Code first) → Moves a c (NCode level depth owes args)
@@ -68,7 +71,8 @@ code_begins a b c start level depth owes first args k page around line is en ns 
     (en.keeps first _ line) in
     let outer : OuterIs c.pieces (P.Code first) b.page (InCode x owes args)
     (CodeMark x.depth (length x.waiting) (is_ended a.page.stage)) h.start start = (
-      subst (λ (p : Page). PageIs c.pieces h.start p x) page (page_kept a.pieces c.pieces keeps h.start a.page x h.is_page),
+      subst (λ (p : Page). PageIs c.pieces h.start p x) page (page_kept a.pieces c.pieces keeps h.start a.page x
+          h.is_page),
       line',
       is ∙ ap (λ (p : Page). inside p.scope owes args) page,
       refl,
@@ -92,7 +96,8 @@ code_begins a b c start level depth owes first args k page around line is en ns 
       fine = subst (λ l. Fine ns (lift (kcount args) (suc l)) 0 (is_ended c.page.stage)
           (CodeMark x.depth (length x.waiting) (is_ended a.page.stage) ∷ h.marks)) (sym lv)
           (subst (λ e. Fine ns (lift (kcount args) (suc x.depth)) 0 e
-          (CodeMark x.depth (length x.waiting) (is_ended a.page.stage) ∷ h.marks)) (sym (open_ended c.page.stage en.stage))
+          (CodeMark x.depth (length x.waiting) (is_ended a.page.stage) ∷ h.marks)) (sym (open_ended c.page.stage
+          en.stage))
           h.fine.1);
       is_whole = h.is_whole;
     }
@@ -143,20 +148,22 @@ test_begins a b c start text q r value tested left B A k take l join m joined eb
       start = start;
       is_page = blank c.pieces c.page start x.depth en.scope_is en.stage en.text en.values
           (pg.depth ∙ ap (λ (s : Scope). s.names) (sym is));
-      are_outers = subst (λ (fs : List Outer). OutersAre c.pieces fs (InThen x v ∷ h.opens) (ThenMark x.depth ∷ h.marks) start)
+      are_outers = subst (λ (fs : List Outer). OutersAre c.pieces fs (InThen x v ∷ h.opens) (ThenMark x.depth ∷
+          h.marks) start)
           (sym (ap stack en.around ∙ stack_push [] b.around.items (record { page = b.page; part = P.Then }))) (
             h.start,
             (tested_is, is ∙ ap branch (sym bs), refl),
             subst (λ (w : Vec Outer Global). OutersAre c.pieces (stack w.items) h.opens h.marks h.start) around
                 (outers_kept a.pieces c.pieces keeps (stack a.around.items) h.opens h.marks h.start h.are_outers),
           );
-      fine = subst (λ e. Fine ns x.depth 0 e (ThenMark x.depth ∷ h.marks)) (sym (open_ended c.page.stage en.stage)) h.fine.2;
+      fine = subst (λ e. Fine ns x.depth 0 e (ThenMark x.depth ∷ h.marks)) (sym (open_ended c.page.stage en.stage))
+          h.fine.2;
       is_whole = h.is_whole;
     }
 
 -- what is around a term where a code ends
-pub record InACode (p : Pieces) (f : Outer) (fs : List Outer) (os : List Open) (ns : List KNd) (start : Scope) (e : Bool)
-    (line : ℕ) : Type 0 where
+pub record InACode (p : Pieces) (f : Outer) (fs : List Outer) (os : List Open) (ns : List KNd) (start : Scope)
+    (e : Bool) (line : ℕ) : Type 0 where
   pub body : Body
   pub owes : ℕ
   pub args : KTys
@@ -191,7 +198,8 @@ code_case p f fs (InCode b owes args) os (CodeMark c v g) ms ns start d w e line
   start_is = h.2;
   rest = r;
   fine = subst (λ n. Fine ns n (suc (length b.waiting)) (is_ended f.page.stage) ms) h.3
-      (subst (λ n. Fine ns c (suc n) (is_ended f.page.stage) ms) h.4 (subst (λ x. Fine ns c (suc v) x ms) h.5 fine.1));
+      (subst (λ n. Fine ns c (suc n) (is_ended f.page.stage) ms) h.4 (subst (λ x. Fine ns c (suc v) x ms) h.5
+      fine.1));
 }
 
 pub in_code : (p : Pieces) (f : Outer) (fs : List Outer) (os : List Open) (ms : List Mark) (ns : List KNd)
@@ -277,14 +285,14 @@ Never a nd = (ns : List KNd) (whole : KTm) → StateIs a.pieces a.page a.around.
 
 pub no_end : (a : Writer) → a.around.items ≡ [] → Never a NEnd
 no_end a none ns whole h =
-    (none_around a.pieces h.opens h.marks ns h.start h.body.depth (length h.body.waiting) (is_ended a.page.stage)
-    (subst (λ (fs : List Outer). OutersAre a.pieces (stack fs) h.opens h.marks h.start) none h.are_outers) h.fine)
+    none_around a.pieces h.opens h.marks ns h.start h.body.depth (length h.body.waiting) (is_ended a.page.stage)
+    (subst (λ (fs : List Outer). OutersAre a.pieces (stack fs) h.opens h.marks h.start) none h.are_outers) h.fine
 
 pub no_other : (a : Writer) (depth : ℕ) → a.around.items ≡ [] → Never a (NElse depth)
 no_other a depth none ns whole h =
-    (none_around_other a.pieces h.opens h.marks ns h.start depth h.body.depth (length h.body.waiting)
+    none_around_other a.pieces h.opens h.marks ns h.start depth h.body.depth (length h.body.waiting)
     (is_ended a.page.stage)
-    (subst (λ (fs : List Outer). OutersAre a.pieces (stack fs) h.opens h.marks h.start) none h.are_outers) h.fine)
+    (subst (λ (fs : List Outer). OutersAre a.pieces (stack fs) h.opens h.marks h.start) none h.are_outers) h.fine
 
 popped : (p : Pieces) (old new : List Outer) (f : Outer) (os : List Open) (ms : List Mark) (start : Scope) →
     old ≡ new ++ f ∷ [] → OutersAre p (stack old) os ms start → OutersAre p (f ∷ stack new) os ms start
@@ -294,8 +302,9 @@ popped p old new f os ms start e h =
 pub end_not_then : (a : Writer) (f : Outer) (new : List Outer) → a.around.items ≡ new ++ f ∷ [] → f.part ≡ P.Then →
     Never a NEnd
 end_not_then a f new items is ns whole h =
-    (end_out_of_place a.pieces f (stack new) h.opens h.marks ns h.start h.body.depth (length h.body.waiting)
-    (is_ended a.page.stage) is (popped a.pieces a.around.items new f h.opens h.marks h.start items h.are_outers) h.fine)
+    end_out_of_place a.pieces f (stack new) h.opens h.marks ns h.start h.body.depth (length h.body.waiting)
+    (is_ended a.page.stage) is (popped a.pieces a.around.items new f h.opens h.marks h.start items h.are_outers)
+    h.fine
 
 -- a code ends
 pub code_ends : (a : Writer) (q r t : Pieces) (f : Outer) (around : Vec Outer Global) (values : Vec ℕ Global)
@@ -313,7 +322,8 @@ pub code_ends : (a : Writer) (q r t : Pieces) (f : Outer) (around : Vec Outer Gl
       page = record { scope = f.page.scope; text = f.page.text; stage = f.page.stage; values = values };
       around = around;
     }) NEnd
-code_ends a q r t f around values body opened code line last items is k finished el l join m closed pushed ns whole h =
+code_ends a q r t f around values body opened code line last items is k finished el l join m closed pushed ns
+    whole h =
     let c = in_code a.pieces f (stack around.items) h.opens h.marks ns h.start h.body.depth (length h.body.waiting)
     (is_ended a.page.stage) line is
     (popped a.pieces a.around.items around.items f h.opens h.marks h.start items h.are_outers) h.fine in
@@ -356,7 +366,8 @@ pub branch_begins : (a : Writer) (q r t : Pieces) (f : Outer) (around : Vec Oute
       page = record { scope = scope; text = text; stage = S.Open; values = values };
       around = around;
     }) (NElse depth)
-branch_begins a q r t f around values scope depth first opened text middle items sc none k finished em l join m closed ns whole h =
+branch_begins a q r t f around values scope depth first opened text middle items sc none k finished em l join m
+    closed ns whole h =
     let c = in_branch a.pieces f (stack around.items) h.opens h.marks ns h.start depth h.body.depth
     (length h.body.waiting) (is_ended a.page.stage)
     (popped a.pieces a.around.items around.items f h.opens h.marks h.start items h.are_outers) h.fine in
@@ -426,7 +437,8 @@ pub all_read : (p q : Pieces) (page : Page) (outers : List Outer) (ns : List KNd
     Stands q piece (term_in start (b.ending b.waiting))) →
     StateIs p page outers ns whole → text_at q piece ≡ k_text whole
 all_read p q page outers ns whole piece none finished h =
-    let fine = subst (λ (n : List KNd). Fine n h.body.depth (length h.body.waiting) (is_ended page.stage) h.marks) none h.fine in
+    let fine = subst (λ (n : List KNd). Fine n h.body.depth (length h.body.waiting) (is_ended page.stage) h.marks)
+    none h.fine in
     let is_whole = subst (λ (n : List KNd). run n h.body h.opens ≡ whole) none h.is_whole in
     let start = outermost_is p (stack outers) h.opens h.marks h.start h.are_outers fine.1 in
     (finished h.start h.body fine.0 h.is_page).is

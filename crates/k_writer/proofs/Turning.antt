@@ -1,5 +1,6 @@
 -- What a page stands for after one more value, or one more line.
-use Rattle.std.proofs.Common.{◌≡◌, ℕ, suc, ◌+◌, List, [], ◌∷◌, ◌++◌, length, Vec, Global, codes, refl, ap, ap₂, ◌∙◌, sym, subst, arith}
+use Rattle.std.proofs.Common.{◌≡◌, ℕ, suc, ◌+◌, List, [], ◌∷◌, ◌++◌, length, Vec, Global, codes, refl, ap, ap₂, ◌∙◌}
+use Rattle.std.proofs.Common.{sym, subst, arith}
 use Rattle.std.proofs.lemmas.List.{append_assoc}
 use Rattle.k_terms.specs.K.{KVal, NoKVals, KTm, KDecl, KTys, KLet, KCall, KHalt, KTuple, opens}
 use Rattle.k_terms.specs.Decode.{Body, push, grouped, top, rest, taken, past, all, bind_one, bind_two, calls, halts}
@@ -12,7 +13,8 @@ use Rattle.k_writer.specs.declared.page.Stage.{Stage}
 use Rattle.k_writer.specs.declared.page.Stage.TheVariants as S
 use Rattle.k_writer.specs.declared.page.Page.{Page}
 use Rattle.k_writer.specs.Notation.{types_text, term_text}
-use Rattle.k_writer.specs.State.{value_in, values_in, let_in, term_in, more_scope, stack, stack_onto, ValuesAre, SoFar, PageIs, Turns, Takes}
+use Rattle.k_writer.specs.State.{value_in, values_in, let_in, term_in, more_scope, stack, stack_onto, ValuesAre}
+use Rattle.k_writer.specs.State.{SoFar, PageIs, Turns, Takes}
 
 pub stack_push : {T : Type 0} (ys xs : List T) (x : T) → stack_onto ys (xs ++ x ∷ []) ≡ x ∷ stack_onto ys xs
 stack_push ys [] x = refl
@@ -178,7 +180,8 @@ pub declared_two : (p q r t u : Pieces) (a : Page) (scope : Scope) (middle : Lis
     ((v w : KVal) → after_one (opens (x v w)) a.scope.types ≡ a.scope.types + 0) →
     Turns p a u (record { scope = scope; text = text; stage = a.stage; values = values }) (Takes a 2)
     (λ b. bind_two b x) a.stage
-declared_two p q r t u a scope middle values second first line text B M A es k take_w l take_v m join n joined x is after =
+declared_two p q r t u a scope middle values second first line text B M A es k take_w l take_v m join n joined x is
+    after =
     record {
       keeps = λ i s h. n i s (m i s (l i s (k i s h)));
       is = λ start b given h.

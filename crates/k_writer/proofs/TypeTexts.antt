@@ -1,5 +1,6 @@
 -- Types, item by item.
-use Rattle.std.proofs.Common.{◌≡◌, ℕ, suc, ◌+◌, ◌<◌, ◌≤◌, List, ◌∷◌, ◌++◌, drop, length, get_or, codes, sym, ap, ◌∙◌, arith}
+use Rattle.std.proofs.Common.{◌≡◌, ℕ, suc, ◌+◌, ◌<◌, ◌≤◌, List, ◌∷◌, ◌++◌, drop, length, get_or, codes, sym, ap, ◌∙◌}
+use Rattle.std.proofs.Common.{arith}
 use Rattle.std.proofs.lemmas.List.{append_assoc, append-nil}
 use Rattle.std.proofs.Math.Seq.{drop-cons}
 use Rattle.std.proofs.Math.ListN.{drop_of_length-le}
@@ -54,12 +55,14 @@ argument_more n m i xs x before separated named signed after whole at is lt e b 
 pub types_done : (n i : ℕ) (xs : List KType) (made whole : List ℕ) → length xs ≤ i →
     made ++ types_text n i (ktys (drop i xs)) ≡ whole → made ≡ whole
 types_done n i xs made whole le h =
-    sym (append-nil made) ∙ ap (λ (ys : List KType). made ++ types_text n i (ktys ys)) (sym (drop_of_length-le xs le)) ∙ h
+    sym (append-nil made) ∙ ap (λ (ys : List KType). made ++ types_text n i (ktys ys)) (sym (drop_of_length-le xs
+    le)) ∙ h
 
 pub arguments_done : (n m i : ℕ) (xs : List KType) (made whole : List ℕ) → length xs ≤ i →
     made ++ arguments_text n m i (ktys (drop i xs)) ≡ whole → made ≡ whole
 arguments_done n m i xs made whole le h =
-    sym (append-nil made) ∙ ap (λ (ys : List KType). made ++ arguments_text n m i (ktys ys)) (sym (drop_of_length-le xs le))
+    sym (append-nil made) ∙ ap (λ (ys : List KType). made ++ arguments_text n m i (ktys ys)) (sym (drop_of_length-le
+    xs le))
     ∙ h
 
 -- a tuple, by its opening sign, its fields and its closing sign

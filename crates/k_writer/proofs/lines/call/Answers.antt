@@ -13,7 +13,8 @@ returns c =
     let after =
     c.in_ok-extend_from_slice.ensures.items ∙ ap (λ (w : List ℕ). w ++ codes "](") (c.in_ok-write_types.ensures
     ∙ ap (λ (w : List ℕ). w ++ types_text s.types 0 (ktys c.args.types.now)) c.in_ok-after.ensures) in
-    called c.args.pieces.now c.take.new.pieces c.between.new.pieces c.joined.new.self c.args.page.now c.take.new.values
+    called c.args.pieces.now c.take.new.pieces c.between.new.pieces c.joined.new.self c.args.page.now
+    c.take.new.values
     _ c.in_ok-value.value c.in_ok-called.called c.in_ok-text.text (ktys c.args.types.now) _ _ c.new.ensures.items
     c.in_ok-value.ensures.keeps c.in_ok-value.ensures.is c.in_ok-called.ensures.keeps c.in_ok-called.ensures.stands
     c.in_ok-text.ensures.keeps c.in_ok-text.ensures.stands before after

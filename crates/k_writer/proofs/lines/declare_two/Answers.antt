@@ -13,9 +13,11 @@ returns c = λ x is after.
     c.in_ok-declared.declared c.in_ok-text.text (let_sign p.scope.names p.scope.indent) m (codes "\n")
     c.in_ok-scope.ensures c.in_ok-second.ensures.keeps c.in_ok-second.ensures.is c.in_ok-first.ensures.keeps
     c.in_ok-first.ensures.is
-    (λ i s h. c.in_ok-declared.ensures.keeps i s (c.in_ok-both.ensures.keeps i s (c.in_ok-opened.ensures.keeps i s h)))
+    (λ i s h. c.in_ok-declared.ensures.keeps i s (c.in_ok-both.ensures.keeps i s (c.in_ok-opened.ensures.keeps i s
+    h)))
     (λ s w f g.
-    let both = c.in_ok-both.ensures.stands _ _ (c.in_ok-opened.ensures.stands s f) (c.in_ok-opened.ensures.keeps _ w g) in
+    let both = c.in_ok-both.ensures.stands _ _ (c.in_ok-opened.ensures.stands s f) (c.in_ok-opened.ensures.keeps _ w
+    g) in
     subst (λ (u : List ℕ). Stands c.with_bytes.new.pieces c.in_ok-declared.declared u)
     (ap₂ (λ (b a : List ℕ). b ++ s ++ m ++ w ++ a) c.in_ok-before.ensures c.in_ok-after.ensures)
     (c.in_ok-declared.ensures.stands _ both))

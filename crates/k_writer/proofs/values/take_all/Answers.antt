@@ -26,7 +26,8 @@ pub returns : goal.returns
 returns c = record {
   keeps = c.loop-done.invariant.keeps;
   is = λ s vs h.
-      gathered_all c.loop-done.pieces s c.loop-done.text c.loop-done.done c.args.count (stack c.loop-done.values.items)
+      gathered_all c.loop-done.pieces s c.loop-done.text c.loop-done.done c.args.count (stack
+      c.loop-done.values.items)
       vs c.loop-done-test.false (c.loop-done.invariant.is s vs h);
 }
 
@@ -38,7 +39,8 @@ returns-in_default c =
     record {
       keeps = c.loop-done.invariant.keeps;
       is = λ s vs h.
-          gathered_none c.loop-done.pieces s c.loop-done.text c.loop-done.done c.args.count (stack c.pop.new.self.items)
+          gathered_none c.loop-done.pieces s c.loop-done.text c.loop-done.done c.args.count (stack
+          c.pop.new.self.items)
           vs is (subst (λ (xs : List ℕ). Gathered c.loop-done.pieces s c.loop-done.text (stack xs) c.loop-done.done
           c.args.count vs) (sym new) (c.loop-done.invariant.is s vs h));
     }

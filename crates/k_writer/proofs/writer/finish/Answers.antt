@@ -11,7 +11,8 @@ pub returns-in_ok-text-in-Called-clause-is : goal.returns-in_ok-text-in-Called-c
 returns-in_ok-text-in-Called-clause-is c = λ start b ended h.
     ended_call c.args.pieces.now c.take_all.new.pieces c.with_bytes.new.pieces _ c.args.page.now start b
     c.len-count.result c.in_ok-args-in-Called.args c.in_ok-closed-in-Called.closed _ _ _ c.in-Called.is
-    (omega (arith, c.args.page.now.values.ok.0)) c.in_ok-args-in-Called.ensures.keeps c.in_ok-args-in-Called.ensures.is
+    (omega (arith, c.args.page.now.values.ok.0)) c.in_ok-args-in-Called.ensures.keeps
+    c.in_ok-args-in-Called.ensures.is
     c.in_ok-closed-in-Called.ensures.keeps c.in_ok-closed-in-Called.ensures.stands c.in_ok-closing-in-Called.ensures
     c.in_ok-text-in-Called.ensures.stands h
 

@@ -1,7 +1,8 @@
 use Rattle.std.proofs.Common.{◌≡◌, List, ap, ◌∙◌, sym, subst, refl, rules, to_z, of_z, w64}
 use Rattle.std.proofs.lemmas.Result.{on_ok_weaker}
 use Rattle.k_terms.specs.Read.{knode, ktree, ktys}
-use Rattle.k_terms.specs.Stream.{NVar, NInt, NTuple, NCode, NEnd, NName, NProj, NArith, NPack, NUnpack, NCell, NGet, NSet}
+use Rattle.k_terms.specs.Stream.{NVar, NInt, NTuple, NCode, NEnd, NName, NProj, NArith, NPack, NUnpack, NCell, NGet}
+use Rattle.k_terms.specs.Stream.{NSet}
 use Rattle.k_terms.specs.Stream.{NCall, NIf, NElse, NHalt}
 use Rattle.k_terms.specs.Decode.{calls}
 use Rattle.k_terms.specs.declared.types.KType.{KType}
@@ -38,7 +39,8 @@ returns-in-Name c =
 pub returns-in-Proj : goal.returns-in-Proj
 returns-in-Proj c =
     on_ok_weaker c.field.result (λ t.
-    turned c.args.self.now c.field.new.pieces c.field.new.page _ (NProj c.in-Proj.level c.in-Proj.i (ktree c.in-Proj.ty)) _ _ _
+    turned c.args.self.now c.field.new.pieces c.field.new.page _ (NProj c.in-Proj.level c.in-Proj.i (ktree
+    c.in-Proj.ty)) _ _ _
     (ap knode c.in-Proj.is) t (λ ns x ms h. one_fine c.args.self.now.page.stage ns x.depth x.waiting ms h)
     (λ ns x os. refl))
     c.field.ensures
@@ -54,7 +56,8 @@ returns-in-Arith c =
 pub returns-in-Pack : goal.returns-in-Pack
 returns-in-Pack c =
     on_ok_weaker c.pack.result (λ t.
-    turned c.args.self.now c.pack.new.pieces c.pack.new.page _ (NPack c.in-Pack.level c.in-Pack.depth (ktree c.in-Pack.hidden) (ktree c.in-Pack.shape)) _ _ _
+    turned c.args.self.now c.pack.new.pieces c.pack.new.page _ (NPack c.in-Pack.level c.in-Pack.depth (ktree
+    c.in-Pack.hidden) (ktree c.in-Pack.shape)) _ _ _
     (ap knode c.in-Pack.is) t (λ ns x ms h. one_fine c.args.self.now.page.stage ns x.depth x.waiting ms h)
     (λ ns x os. refl))
     c.pack.ensures
@@ -62,7 +65,8 @@ returns-in-Pack c =
 pub returns-in-Unpack : goal.returns-in-Unpack
 returns-in-Unpack c =
     on_ok_weaker c.unpack.result (λ t.
-    turned c.args.self.now c.unpack.new.pieces c.unpack.new.page _ (NUnpack c.in-Unpack.level c.in-Unpack.depth (ktree c.in-Unpack.ty)) _ _ _
+    turned c.args.self.now c.unpack.new.pieces c.unpack.new.page _ (NUnpack c.in-Unpack.level c.in-Unpack.depth
+    (ktree c.in-Unpack.ty)) _ _ _
     (ap knode c.in-Unpack.is) t (λ ns x ms h. one_fine c.args.self.now.page.stage ns x.depth x.waiting ms h)
     (λ ns x os. refl))
     c.unpack.ensures
@@ -129,11 +133,13 @@ returns-in-Code c =
 
 pub returns-in-End : goal.returns-in-End
 returns-in-End c =
-    on_ok_weaker c.end.result (λ m. moved c.args.self.now c.end.new.self _ NEnd (ap knode c.in-End.is) m) c.end.ensures
+    on_ok_weaker c.end.result (λ m. moved c.args.self.now c.end.new.self _ NEnd (ap knode c.in-End.is) m)
+    c.end.ensures
 
 pub returns-in-If0 : goal.returns-in-If0
 returns-in-If0 c =
-    on_ok_weaker c.test.result (λ m. moved c.args.self.now c.test.new.self _ NIf (ap knode c.in-If0.is) m) c.test.ensures
+    on_ok_weaker c.test.result (λ m. moved c.args.self.now c.test.new.self _ NIf (ap knode c.in-If0.is) m)
+    c.test.ensures
 
 pub returns-in-Else : goal.returns-in-Else
 returns-in-Else c =

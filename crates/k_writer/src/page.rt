@@ -16,7 +16,7 @@ pub(crate) enum Stage {
     Whole,
 }
 
-/// A term, as far as it is written, and the values that wait, the last first taken.
+/// A term: the piece of what is written of it, and those of the values that wait to be taken, from the last on.
 #[derive(Drop)]
 pub(crate) struct Page {
     pub(crate) scope: Scope,

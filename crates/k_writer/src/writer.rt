@@ -80,7 +80,8 @@ fn branch(scope: Scope) -> Result<Scope, OutOfMemory>
     })
 }
 
-// The text of a term that has come to its end.
+// The text of a term that has come to its end: its lines, and where the last is a call, the values that wait, which are
+// its arguments. No program ends a term that is still open.
 fn finish(alloc: Global, pieces: &mut Pieces, page: &mut Page) -> Result<u64, OutOfMemory>
     ensures keeps { OnOk result (Keeps pieces.old pieces.new) }
     ensures is { IfOk result (λ piece. (start : Scope) (b : Body) → is_ended page.old.stage ≡ true →
@@ -129,7 +130,7 @@ impl Writer {
         Ok(())
     }
 
-    // A code ends.
+    // A code ends. No program has this mark anywhere but in a code.
     fn end(&mut self) -> Result<(), OutOfMemory>
         ensures { OnOk result (Moves self.old self.new NEnd) }
     {
@@ -165,7 +166,7 @@ impl Writer {
         Ok(())
     }
 
-    // The other branch begins.
+    // The other branch begins. No program has this mark anywhere but behind a first one.
     fn other(&mut self) -> Result<(), OutOfMemory>
         ensures { OnOk result ((depth : ℕ) → Moves self.old self.new (NElse depth)) }
     {

@@ -1,1 +1,4 @@
+pub mod Fine
+pub mod Moves
 pub mod Notation
+pub mod State

@@ -2,7 +2,8 @@
 use Rattle.std.proofs.Common.{◌≡◌, ◌≤◌, ◌<◌, ℕ, suc, ◌+◌, ◌-◌, Bool, true, false, List, [], ◌∷◌, ◌++◌, length, drop, get_or, refl, sym, ◌∙◌, ap, subst, arith, append_assoc, add-one, drop-cons, codes, ◌&&◌, ◌||◌}
 use Rattle.std.proofs.lemmas.List.{append-nil}
 use Rattle.std.proofs.Math.ListN.{drop_of_length-le}
-use Rattle.page_text.specs.Names.{separator, type_names}
+use Rattle.page_text.specs.Names.{separator, type_names, value_name}
+use Rattle.c_writer.specs.Notation.{arguments_after}
 use Rattle.c_terms.specs.C.{CTy, CTys, TCTuple, TCCode}
 use Rattle.c_terms.specs.Read.{ctree, ctys}
 use Rattle.c_terms.specs.declared.types.CType.{CType}
@@ -23,6 +24,9 @@ none_left v ts i le = ap (λ xs. one_names_variable v (ctys xs)) (drop_of_length
 
 regroup : (a b c d : List ℕ) → ((a ++ b) ++ c) ++ d ≡ a ++ (b ++ c ++ d)
 regroup a b c d = simp append_assoc
+
+regroup₅ : (a b c d e f : List ℕ) → ((((a ++ b) ++ c) ++ d) ++ e) ++ f ≡ a ++ (b ++ c ++ d ++ e ++ f)
+regroup₅ a b c d e f = simp append_assoc
 
 -- one type more is written, and all are
 pub type_more : (n : ℕ) (ts : List CType) (from i : ℕ) (t : CType) (t0 t1 t2 whole : List ℕ) → t ≡ get_or ts i t → i < length ts → from ≤ i →
@@ -71,3 +75,23 @@ no_closure [] h = refl
 no_closure (t ∷ []) h = and_false (takes_hidden (ctree t))
 no_closure (t ∷ u ∷ []) h = absurd (h refl)
 no_closure (t ∷ u ∷ v ∷ ts) h = and_false (takes_hidden (ctree t))
+
+-- one argument more is written, and all are
+pub argument_more : (n : ℕ) (ts : List CType) (i : ℕ) (t : CType) (t0 t1 t2 t3 t4 whole : List ℕ) → t ≡ get_or ts i t →
+    i < length ts → t0 ++ arguments_after i n (ctys (drop i ts)) ≡ whole → t1 ≡ t0 ++ separator i →
+    t2 ≡ t1 ++ value_name (i + 1) → t3 ≡ t2 ++ codes ": " → t4 ≡ t3 ++ type_text n (ctree t) →
+    t4 ++ arguments_after (i + 1) n (ctys (drop (i + 1) ts)) ≡ whole
+argument_more n ts i t t0 t1 t2 t3 t4 whole is lt h e f g k =
+    let w : t0 ++ arguments_after i n (ctys (t ∷ drop (i + 1) ts)) ≡ whole =
+        subst (λ xs. t0 ++ arguments_after i n (ctys xs) ≡ whole) (item_next ts i t is lt) h in
+    let m : i + 1 ≡ suc i = omega arith in
+    rw (k, g, f, e) (regroup₅ t0 (separator i) (value_name (i + 1)) (codes ": ") (type_text n (ctree t))
+    (arguments_after (i + 1) n (ctys (drop (i + 1) ts)))
+    ∙ ap (λ j. t0 ++ (separator i ++ value_name j ++ codes ": " ++ type_text n (ctree t)
+    ++ arguments_after j n (ctys (drop (i + 1) ts)))) m ∙ w)
+
+pub arguments_done : (n : ℕ) (ts : List CType) (i : ℕ) (text whole : List ℕ) → length ts ≤ i →
+    text ++ arguments_after i n (ctys (drop i ts)) ≡ whole → text ≡ whole
+arguments_done n ts i text whole le h =
+    sym (append-nil text)
+    ∙ subst (λ xs. text ++ arguments_after i n (ctys xs) ≡ whole) (drop_of_length-le ts le) h

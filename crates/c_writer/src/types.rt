@@ -6,19 +6,10 @@ ghost use Rattle.c_writer.specs.Types.{type_text, types_text, types_after, closu
 ghost use Rattle.c_writer.specs.Types.{closure_code};
 
 use crate::closures::is_closure;
+use crate::depths::deeper;
 use c_terms::CType;
 use idx_core::OutOfMemory;
 use page_text::{write_separator, write_type_name, write_type_names};
-
-// So many binders deeper. More than a word counts no memory holds.
-fn deeper(depth: u64, by: u64) -> Result<u64, OutOfMemory>
-    ensures { IfOk result (λ inner. inner ≡ depth + by) }
-{
-    match depth.checked_add(by) {
-        Some(inner) => Ok(inner),
-        None => Err(OutOfMemory),
-    }
-}
 
 // What a code or a closure begins with, up to its arguments, and how many type names are around these.
 fn write_owed(text: &mut Vec<u8>, word: &[u8], depth: u64, owes: u64) -> Result<u64, OutOfMemory>

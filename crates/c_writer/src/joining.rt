@@ -1,0 +1,42 @@
+// Pieces put together.
+ghost use Rattle.std.specs.Prelude.{◌++◌, ℕ, List, IfOk, OnOk};
+ghost use Rattle.pieces.specs.Pieces.{Keeps, Stands};
+
+use idx_core::OutOfMemory;
+use pieces::Pieces;
+use std::alloc::Global;
+
+// A piece of these bytes.
+pub(crate) fn piece_of(alloc: Global, pieces: &mut Pieces, text: &[u8]) -> Result<u64, OutOfMemory>
+    ensures keeps { OnOk result (Keeps pieces.old pieces.new) }
+    ensures stands { IfOk result (λ piece. Stands pieces.new piece text.now) }
+{
+    let bytes = Vec::from_slice(alloc, text)?;
+    let piece = pieces.bytes(bytes)?;
+    Ok(piece)
+}
+
+// Two pieces with bytes between them.
+pub(crate) fn joined(pieces: &mut Pieces, first: u64, bytes: Vec<u8>, second: u64) -> Result<u64, OutOfMemory>
+    ensures keeps { OnOk result (Keeps pieces.old pieces.new) }
+    ensures stands { IfOk result (λ piece. (s t : List ℕ) → Stands pieces.old first s → Stands pieces.old second t →
+        Stands pieces.new piece (s ++ (bytes.items ++ t))) }
+{
+    let middle = pieces.bytes(bytes)?;
+    let behind = pieces.joined(middle, second)?;
+    let whole = pieces.joined(first, behind)?;
+    Ok(whole)
+}
+
+// A piece with bytes in front of it and behind it.
+pub(crate) fn wrapped(pieces: &mut Pieces, front: Vec<u8>, inner: u64, behind: Vec<u8>) -> Result<u64, OutOfMemory>
+    ensures keeps { OnOk result (Keeps pieces.old pieces.new) }
+    ensures stands { IfOk result (λ piece. (s : List ℕ) → Stands pieces.old inner s →
+        Stands pieces.new piece (front.items ++ (s ++ behind.items))) }
+{
+    let end = pieces.bytes(behind)?;
+    let ended = pieces.joined(inner, end)?;
+    let begin = pieces.bytes(front)?;
+    let whole = pieces.joined(begin, ended)?;
+    Ok(whole)
+}

@@ -1,8 +1,10 @@
 // Pieces put together.
 ghost use Rattle.std.specs.Prelude.{◌++◌, ℕ, List, IfOk, OnOk};
+ghost use Rattle.page_text.specs.Names.{separator};
 ghost use Rattle.pieces.specs.Pieces.{Keeps, Stands};
 
 use idx_core::OutOfMemory;
+use page_text::write_separator;
 use pieces::Pieces;
 use std::alloc::Global;
 
@@ -26,6 +28,24 @@ pub(crate) fn joined(pieces: &mut Pieces, first: u64, bytes: Vec<u8>, second: u6
     let behind = pieces.joined(middle, second)?;
     let whole = pieces.joined(first, behind)?;
     Ok(whole)
+}
+
+// A value in front of a piece, with a comma between them where values stand in the piece already.
+pub(crate) fn listed(
+    alloc: Global,
+    pieces: &mut Pieces,
+    value: u64,
+    already: u64,
+    behind: u64,
+) -> Result<u64, OutOfMemory>
+    ensures keeps { OnOk result (Keeps pieces.old pieces.new) }
+    ensures stands { IfOk result (λ piece. (s t : List ℕ) → Stands pieces.old value s → Stands pieces.old behind t →
+        Stands pieces.new piece (s ++ (separator already ++ t))) }
+{
+    let mut between = Vec::new(alloc);
+    write_separator(&mut between, already)?;
+    let piece = joined(pieces, value, between, behind)?;
+    Ok(piece)
 }
 
 // A piece with bytes in front of it and behind it.

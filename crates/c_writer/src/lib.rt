@@ -6,8 +6,12 @@ mod closures;
 mod depths;
 mod joining;
 mod lines;
+mod operands;
 mod page;
+mod program;
 mod types;
 mod values;
+mod walk;
 
+pub use program::write_closed;
 pub use types::{write_type, write_types};

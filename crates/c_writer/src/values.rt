@@ -4,10 +4,9 @@ ghost use Rattle.pieces.specs.Pieces.{Keeps, Stands};
 ghost use Rattle.c_writer.specs.Standing.{IsPage, Taken};
 ghost use Rattle.c_writer.specs.Walk.{Sheet, last, gathered, past, with_values, push, popped, tuple, wrap, pair};
 
-use crate::joining::{joined, piece_of, wrapped};
+use crate::joining::{joined, listed, piece_of, wrapped};
 use crate::page::Page;
 use idx_core::OutOfMemory;
-use page_text::write_separator;
 
 impl Page {
     // One more value.
@@ -49,12 +48,11 @@ impl Page {
     {
         let mut whole = end;
         for i in 0..count {
-            let Some(value) = self.take() else {
-                return Ok(whole);
+            let value = match self.take() {
+                None => return Ok(whole),
+                Some(value) => value,
             };
-            let mut between = Vec::new(self.alloc);
-            write_separator(&mut between, i)?;
-            whole = joined(&mut self.pieces, value, between, whole)?;
+            whole = listed(self.alloc, &mut self.pieces, value, i, whole)?;
         }
         Ok(whole)
     }

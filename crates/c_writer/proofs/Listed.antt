@@ -1,31 +1,28 @@
 -- Types that a loop goes over, and what is written of them.
 use Rattle.std.proofs.Common.{◌≡◌, ◌≤◌, ◌<◌, ℕ, suc, ◌+◌, ◌-◌, Bool, true, false, List, [], ◌∷◌, ◌++◌, length, drop}
-use Rattle.std.proofs.Common.{get_or, refl, sym, ◌∙◌, ap, subst, arith, append_assoc, add-one, drop-cons, codes, ◌&&◌}
+use Rattle.std.proofs.Common.{get_or, refl, sym, ◌∙◌, ap, subst, arith, append_assoc, codes, ◌&&◌}
 use Rattle.std.proofs.Common.{◌||◌}
 use Rattle.std.proofs.lemmas.List.{append-nil}
 use Rattle.std.proofs.Math.ListN.{drop_of_length-le}
+use Rattle.page_text.proofs.Listed.{next_item}
 use Rattle.page_text.specs.Names.{separator, type_names, value_name}
 use Rattle.c_writer.specs.Notation.{arguments_after, applied_text}
-use Rattle.c_terms.specs.C.{CTy, CTys, TCTuple, TCCode}
+use Rattle.c_terms.specs.C.{CTys, TCTuple, TCCode}
 use Rattle.c_terms.specs.Read.{ctree, ctys}
 use Rattle.c_terms.specs.declared.types.CType.{CType}
 use Rattle.c_writer.specs.Types.{names_variable, one_names_variable, type_text, types_text, types_after, closure_code}
 use Rattle.c_writer.specs.Types.{others_text, takes_hidden, are_closure}
 
-pub item_next : {A : Type 0} (xs : List A) (i : ℕ) (x : A) → x ≡ get_or xs i x → i < length xs → drop i xs
-    ≡ x ∷ drop (i + 1) xs
-item_next {A} xs i x is lt = rw add-one (drop-cons xs i x lt ∙ ap (λ (y : A). y ∷ drop (suc i) xs) (sym is))
-
 -- the variable is named by the next type, or is not
 pub named : (v : ℕ) (ts : List CType) (i : ℕ) (t : CType) → t ≡ get_or ts i t → i < length ts →
     names_variable v (ctree t) ≡ true → one_names_variable v (ctys (drop i ts)) ≡ true
-named v ts i t is lt e = ap (λ xs. one_names_variable v (ctys xs)) (item_next ts i t is lt)
+named v ts i t is lt e = ap (λ xs. one_names_variable v (ctys xs)) (next_item ts i t is lt)
     ∙ ap (λ (b : Bool). b || one_names_variable v (ctys (drop (i + 1) ts))) e
 
 pub passed : (v : ℕ) (ts : List CType) (i : ℕ) (t : CType) → t ≡ get_or ts i t → i < length ts →
     names_variable v (ctree t) ≡ false → one_names_variable v (ctys (drop (i + 1) ts))
     ≡ one_names_variable v (ctys (drop i ts))
-passed v ts i t is lt e = sym (ap (λ xs. one_names_variable v (ctys xs)) (item_next ts i t is lt)
+passed v ts i t is lt e = sym (ap (λ xs. one_names_variable v (ctys xs)) (next_item ts i t is lt)
     ∙ ap (λ (b : Bool). b || one_names_variable v (ctys (drop (i + 1) ts))) e)
 
 pub none_left : (v : ℕ) (ts : List CType) (i : ℕ) → length ts ≤ i → one_names_variable v (ctys (drop i ts)) ≡ false
@@ -41,14 +38,14 @@ regroup₅ a b c d e f = simp append_assoc
 pub type_more : (n : ℕ) (ts : List CType) (from i : ℕ) (t : CType) (t0 t1 t2 whole : List ℕ) → t ≡ get_or ts i t →
     i < length ts → from ≤ i →
     t0 ++ types_after (i - from) n (ctys (drop i ts)) ≡ whole → t1 ≡ t0 ++ separator (i - from) → t2 ≡ t1
-        ++ type_text n (ctree t) →
+    ++ type_text n (ctree t) →
     t2 ++ types_after (i + 1 - from) n (ctys (drop (i + 1) ts)) ≡ whole
 type_more n ts from i t t0 t1 t2 whole is lt le h e f =
     let m : i + 1 - from ≡ suc (i - from) = omega arith in
     let w : t0 ++ types_after (i - from) n (ctys (t ∷ drop (i + 1) ts)) ≡ whole = subst (λ xs. t0
-        ++ types_after (i - from) n (ctys xs) ≡ whole) (item_next ts i t is lt) h in
+    ++ types_after (i - from) n (ctys xs) ≡ whole) (next_item ts i t is lt) h in
     rw (m, f, e) (regroup t0 (separator (i - from)) (type_text n (ctree t)) (types_after (suc (i - from)) n (ctys (drop
-        (i + 1) ts))) ∙ w)
+    (i + 1) ts))) ∙ w)
 
 pub types_done : (n : ℕ) (ts : List CType) (from i : ℕ) (text whole : List ℕ) → length ts ≤ i → text
     ++ types_after (i - from) n (ctys (drop i ts)) ≡ whole → text ≡ whole
@@ -77,16 +74,16 @@ pub code_done : (n owes inner : ℕ) (ts : CTys) (old first filled new : List �
     new ≡ old ++ type_text n (TCCode owes ts)
 code_done n owes inner ts old first filled new i e f g =
     owed_done (codes "code") (type_names n owes) (types_after 0 (n + owes) ts) (codes ")") old first filled new e (subst
-        (λ d. filled ≡ first ++ types_after 0 d ts) i f) g
+    (λ d. filled ≡ first ++ types_after 0 d ts) i f) g
 
 pub closure_done : (n owes inner : ℕ) (ts : List CType) (old first filled new : List ℕ) → inner ≡ n + owes → first ≡ old
     ++ (codes "closure" ++ type_names n owes ++ codes "(") → filled ≡ first ++ types_after 0 inner (ctys (drop 1 ts)) →
     new ≡ filled ++ codes ")" → new ≡ old ++ closure_code n (TCCode owes (ctys ts))
 closure_done n owes inner ts old first filled new i e f g =
     owed_done (codes "closure") (type_names n owes) (others_text (n + owes) (ctys ts)) (codes ")") old first filled new
-        e
+    e
     (subst (λ d. filled ≡ first ++ others_text d (ctys ts)) i (f ∙ ap (λ (s : List ℕ). first
-        ++ s) (others_are inner ts))) g
+    ++ s) (others_are inner ts))) g
 
 and_false : (b : Bool) → false ≡ b && false
 and_false true = refl
@@ -106,7 +103,7 @@ pub argument_more : (n : ℕ) (ts : List CType) (i : ℕ) (t : CType) (t0 t1 t2 
     t4 ++ arguments_after (i + 1) n (ctys (drop (i + 1) ts)) ≡ whole
 argument_more n ts i t t0 t1 t2 t3 t4 whole is lt h e f g k =
     let w : t0 ++ arguments_after i n (ctys (t ∷ drop (i + 1) ts)) ≡ whole =
-        subst (λ xs. t0 ++ arguments_after i n (ctys xs) ≡ whole) (item_next ts i t is lt) h in
+    subst (λ xs. t0 ++ arguments_after i n (ctys xs) ≡ whole) (next_item ts i t is lt) h in
     let m : i + 1 ≡ suc i = omega arith in
     rw (k, g, f, e) (regroup₅ t0 (separator i) (value_name (i + 1)) (codes ": ") (type_text n (ctree t))
     (arguments_after (i + 1) n (ctys (drop (i + 1) ts)))

@@ -84,7 +84,7 @@ module _ (g h : Page) (whole count i : ℕ) (p : Sheet) (all : List ℕ) (rest :
 
   pub gather_more : (q : Pieces) (value new : ℕ) → ((r : Sheet) → IsPage g r → Taken h r (Some value)) →
       Keeps h.pieces q → ((s t : List ℕ) → Stands h.pieces value s → Stands h.pieces whole t → Stands q new (s
-          ++ (separator i ++ t))) →
+      ++ (separator i ++ t))) →
       Gathering (record h { pieces = q }) new (count - (i + 1)) (i + 1) p all rest
   gather_more q value new taken keeps joins =
       let t = taken (with_values p w.values) w.page in

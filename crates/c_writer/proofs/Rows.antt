@@ -1,5 +1,5 @@
 -- Worked types and a worked program.
-use Rattle.std.proofs.Common.{◌≡◌, pos, negsuc, codes, refl}
+use Rattle.std.proofs.Common.{◌≡◌, ◌++◌, pos, negsuc, codes, refl}
 use Rattle.std.specs.Fmt.{digits}
 use Rattle.idx_core.specs.declared.arith.Op.TheVariants.{Mul}
 use Rattle.c_terms.specs.C.{CTy, CTys, TCInt, TCVar, TCTuple, TCCode, TCSome, TCRef, NoCTys, MoreCTys, CVar, CInt}
@@ -66,13 +66,15 @@ branch =
 abbrev forms : CTm
 forms =
     CLet (CName (CInt (pos 5))) (CLet (CCell (CVar 0)) (CLet (CGet (CVar 0)) (CLet (CArith Mul (CVar 0) (CInt (negsuc
-        2)))
+    2)))
     (CLet (CSet (CVar 2) (CVar 0)) (CLet (CName (CTuple (pair (CVar 4) (CVar 3)))) (CLet (CProj 2 (CVar 0))
     (CLet (CName (CPack TCInt (CTuple (MoreCVals (CVar 6) NoCVals)) (TCSome (TCTuple (one (TCVar 0))))))
     (CLet (CUnpack (CVar 0)) (CIf (CVar 8) branch (CHalt (CVar 5)))))))))))
 
 forms_text : c_text forms ≡
-    codes "let x0 = 5\nlet x1 = ref x0\nlet x2 = !x1\nlet x3 = x2 * -3\nlet x4 = x1 := x3\nlet x5 = <x0, x1>\nlet x6 = #2 x5\nlet x7 = pack [int, <x0>] as some a. <a>\nlet [a, x8] = unpack x7\nif0 x0 then\n  code x0[a, b](x1: a, x2: b) {\n    halt x2\n  }[a][int](x8, 7)\nelse\n  halt x3\n"
+    codes "let x0 = 5\nlet x1 = ref x0\nlet x2 = !x1\nlet x3 = x2 * -3\nlet x4 = x1 := x3\nlet x5 = <x0, x1>\n"
+    ++ codes "let x6 = #2 x5\nlet x7 = pack [int, <x0>] as some a. <a>\nlet [a, x8] = unpack x7\nif0 x0 then\n"
+    ++ codes "  code x0[a, b](x1: a, x2: b) {\n    halt x2\n  }[a][int](x8, 7)\nelse\n  halt x3\n"
 unfolding digits
 forms_text = refl
 

@@ -20,19 +20,21 @@ enter_page g k inner outer q owes args p keeps same items new h = record {
   empty = keeps g.empty [] h.empty;
   body = new;
   around =
-      subst (λ bs. AreBodies q bs (p.body ∷ p.around)) (sym (items ∙ ap (λ (b : Body). b ∷ g.around.items) same))
-      (keeps_body g.pieces q keeps g.body p.body h.body, keeps_bodies g.pieces q keeps g.around.items p.around
-          h.around);
+      subst (λ bs. AreBodies q bs (p.body ∷ p.around)) (sym (items ∙ ap (λ (b : Body). b ∷ g.around.items) same)) (
+        keeps_body g.pieces q keeps g.body p.body h.body,
+        keeps_bodies g.pieces q keeps g.around.items p.around
+            h.around,
+      );
 }
 
 module _ (g k s new : Page) (outer : Body) (q r : Pieces) (text end code : ℕ) (line : List ℕ) (p : Sheet)
     (items : g.around.items ≡ outer ∷ k.around.items)
     (shuts : (o : Sheet) → IsPage (record g { around = k.around }) o →
-        IsShut s o text) (first : Keeps g.pieces s.pieces)
+    IsShut s o text) (first : Keeps g.pieces s.pieces)
     (is : line ≡ margin outer.scope.indent ++ codes "}") (second : Keeps s.pieces q) (stands : Stands q end line)
     (third : Keeps q r) (joins : (a b : List ℕ) → Stands q text a → Stands q end b → Stands r code (a ++ b))
     (pushes : (o : Sheet) (v : List ℕ) → IsPage (record s { pieces = r; body = outer }) o → Stands r code v →
-      IsPage new (push o v))
+    IsPage new (push o v))
     (h : IsPage g p) where
   later : Keeps s.pieces r
   later i t st = third i t (second i t st)
@@ -43,7 +45,7 @@ module _ (g k s new : Page) (outer : Body) (q r : Pieces) (text end code : ℕ) 
       let o : Sheet = record { body = p.body; around = bs } in
       let shut_page = shuts o (record { empty = h.empty; body = h.body; around = are.1 }) in
       let margin_is : line ≡ margin b.scope.indent ++ codes "}" =
-          is ∙ ap (λ (x : Scope). margin x.indent ++ codes "}") are.0.scope in
+      is ∙ ap (λ (x : Scope). margin x.indent ++ codes "}") are.0.scope in
       pushes (record { body = b; around = bs }) (shut p.body ++ (margin b.scope.indent ++ codes "}"))
       (record {
         empty = later s.empty [] shut_page.page.empty;

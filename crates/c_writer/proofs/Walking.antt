@@ -1,11 +1,11 @@
 -- The nodes of a term make its text.
-use Rattle.std.proofs.Common.{◌≡◌, ℕ, zero, suc, ◌+◌, ◌-◌, Bool, true, false, List, [], ◌∷◌, ◌++◌, length, refl, sym}
-use Rattle.std.proofs.Common.{ap, ap₂, ◌∙◌, arith, append_assoc, zero-add, codes, decimal}
+use Rattle.std.proofs.Common.{◌≡◌, ℕ, zero, suc, ◌+◌, ◌-◌, List, [], ◌∷◌, ◌++◌, length, refl, sym}
+use Rattle.std.proofs.Common.{ap, ap₂, ◌∙◌, arith, append_assoc, codes, decimal}
 use Rattle.std.proofs.lemmas.List.{append-nil}
 use Rattle.term_core.specs.Ends.{lift}
 use Rattle.term_core.specs.Levels.{level_of}
 use Rattle.page_text.specs.Names.{margin, op_sign, separator, type_name, value_name}
-use Rattle.c_terms.specs.C.{CTys, CVal, CVar, CInt, CTuple, CCode, CApply, CPack, CVals, NoCVals, MoreCVals, CDecl}
+use Rattle.c_terms.specs.C.{CVal, CVar, CInt, CTuple, CCode, CApply, CPack, CVals, NoCVals, MoreCVals, CDecl}
 use Rattle.c_terms.specs.C.{CName, CProj, CArith, CUnpack, CCell, CGet, CSet, CTm, CLet, CCall, CIf, CHalt, ccount}
 use Rattle.c_terms.specs.Stream.{CNd, MTuple, MEnd, MApply, MPack, MName, MProj, MArith, MUnpack, MCell, MGet, MSet}
 use Rattle.c_terms.specs.Stream.{MCall, MIf, MElse, MHalt, cwidth, clin_v, clin_vs, clin_d, clin_t}
@@ -63,7 +63,7 @@ gather_some (s ∷ ss) n i c vs text e =
     let a : c ≡ suc n + length ss = omega (arith, e) in
     let b : i + suc (length ss) ≡ suc (i + length ss) = omega arith in
     gather_some ss (suc n) i c (s ∷ vs) text a ∙ ap (λ j. gathered n j vs (s ++ (separator (i + length ss)
-        ++ before i ss text))) (sym b)
+    ++ before i ss text))) (sym b)
 
 past_some : (ss : List (List ℕ)) (n c : ℕ) (vs : List (List ℕ)) → c ≡ n + length ss → past c (stack ss vs) ≡ past n vs
 past_some [] n c vs e = let a : c ≡ n = omega (arith, e) in ap (λ j. past j vs) a
@@ -147,7 +147,7 @@ turn_is : (q : Sheet) (s : Scope) (ss : List Scope) (text : List ℕ) → q.body
     step MElse q ≡ sheet (text ++ (margin s.indent ++ codes "else\n")) s.types (s.indent + 1) ss q.around
 turn_is q s ss text e f =
     ap (λ bs. turn q bs) e ∙ ap (λ (t : List ℕ). sheet (t ++ (margin s.indent
-        ++ codes "else\n")) s.types (s.indent + 1) ss q.around) f
+    ++ codes "else\n")) s.types (s.indent + 1) ss q.around) f
 
 mutual
   of_value : (v : CVal) (m : ℕ) (rest : List CNd) (p : Sheet) → walk (clin_v m v rest) p
@@ -161,7 +161,7 @@ mutual
       of_values vs m (MTuple (cwidth vs) ∷ rest) p
       ∙ ap₂ (λ (t : List ℕ) us. walk rest (with_values p ((codes "<" ++ t) ∷ us)))
       (gather_all (cwidth vs) ss p.body.values (codes ">") (width_is n m k vs) ∙ ap (λ (t : List ℕ). t
-          ++ codes ">") (joined_is 0 n m k vs))
+      ++ codes ">") (joined_is 0 n m k vs))
       (past_some ss 0 (cwidth vs) p.body.values (let h = width_is n m k vs in omega (arith, h)))
       ∙ ap (λ t. walk rest (push p t)) (tuple_text (codes "<") (values_after 0 n m k vs) (codes ">"))
   of_value (CCode owes args body) m rest p =
@@ -171,56 +171,56 @@ mutual
       ∙ ap (λ (t : List ℕ). walk rest (push p (t ++ (margin k ++ codes "}"))))
       (h.ends ∙ ap (λ j. head_text owes args ++ term_text owes j (k + 1) body) (lift_one (ccount args)))
       ∙ ap (λ t. walk rest (push p t)) (tuple_text (head_text owes args
-          ++ term_text owes (suc (ccount args)) (k + 1) body) (margin k) (codes "}"))
+      ++ term_text owes (suc (ccount args)) (k + 1) body) (margin k) (codes "}"))
   of_value (CApply v ts) m rest p = of_value v m (MApply ts ∷ rest) p
   of_value (CPack h v s) m rest p =
       let n = p.body.scope.types in
       of_value v m (MPack h s ∷ rest) p
       ∙ ap (λ t. walk rest (push p t)) (pack_text (codes "pack [") (type_text n h) (codes ", ") (value_text n m
-          p.body.scope.indent v) (codes "] as ") (type_text n s))
+      p.body.scope.indent v) (codes "] as ") (type_text n s))
 
   of_values : (vs : CVals) (m : ℕ) (rest : List CNd) (p : Sheet) →
       walk (clin_vs m vs rest) p ≡ walk rest (with_values p (stack (texts p.body.scope.types m p.body.scope.indent vs)
-          p.body.values))
+      p.body.values))
   of_values NoCVals m rest p = refl
   of_values (MoreCVals v vs) m rest p =
       of_value v m (clin_vs m vs rest) p ∙ of_values vs m rest (push p (value_text p.body.scope.types m
-          p.body.scope.indent v))
+      p.body.scope.indent v))
 
   of_decl : (d : CDecl) (m n k : ℕ) (text : List ℕ) (bs : List Scope) (ls : List Lines) (rest : List CNd) →
       walk (clin_d m d rest) (sheet text n k bs ls)
       ≡ walk rest (sheet (text ++ (margin k ++ codes "let " ++ bound_text n m d ++ codes " = " ++ declared_text n m k d
-          ++ codes "\n")) (types_behind n d) k bs ls)
+      ++ codes "\n")) (types_behind n d) k bs ls)
   of_decl (CName v) m n k text bs ls rest =
       of_value v m (MName m ∷ rest) (sheet text n k bs ls)
       ∙ ap (λ t. walk rest (sheet t n k bs ls)) (line_text text (margin k) (codes "let ") (value_name m) (codes " = ")
-          [] (value_text n m k v) (codes "\n"))
+      [] (value_text n m k v) (codes "\n"))
   of_decl (CProj i v) m n k text bs ls rest =
       of_value v m (MProj m i ∷ rest) (sheet text n k bs ls)
       ∙ ap (λ t. walk rest (sheet t n k bs ls)) (proj_text text (margin k) (codes "let ") (value_name m) (codes " = ")
-          (codes "#") (decimal i) (codes " ") (value_text n m k v) (codes "\n"))
+      (codes "#") (decimal i) (codes " ") (value_text n m k v) (codes "\n"))
   of_decl (CArith op v w) m n k text bs ls rest =
       of_value v m (clin_v m w (MArith m op ∷ rest)) (sheet text n k bs ls)
       ∙ of_value w m (MArith m op ∷ rest) (push (sheet text n k bs ls) (value_text n m k v))
       ∙ ap (λ t. walk rest (sheet t n k bs ls)) (pair_text text (margin k) (codes "let ") (value_name m) (codes " = ")
-          (value_text n m k v) (op_sign op) (value_text n m k w) (codes "\n"))
+      (value_text n m k v) (op_sign op) (value_text n m k w) (codes "\n"))
   of_decl (CUnpack v) m n k text bs ls rest =
       of_value v m (MUnpack m ∷ rest) (sheet text n k bs ls)
       ∙ ap (λ t. walk rest (sheet t (n + 1) k bs ls)) (unpack_line text (margin k) (codes "let ") (codes "[") (type_name
-          n) (codes ", ") (value_name m) (codes "]") (codes " = ") (codes "unpack ") (value_text n m k v) (codes "\n"))
+      n) (codes ", ") (value_name m) (codes "]") (codes " = ") (codes "unpack ") (value_text n m k v) (codes "\n"))
   of_decl (CCell v) m n k text bs ls rest =
       of_value v m (MCell m ∷ rest) (sheet text n k bs ls)
       ∙ ap (λ t. walk rest (sheet t n k bs ls)) (line_text text (margin k) (codes "let ") (value_name m) (codes " = ")
-          (codes "ref ") (value_text n m k v) (codes "\n"))
+      (codes "ref ") (value_text n m k v) (codes "\n"))
   of_decl (CGet v) m n k text bs ls rest =
       of_value v m (MGet m ∷ rest) (sheet text n k bs ls)
       ∙ ap (λ t. walk rest (sheet t n k bs ls)) (line_text text (margin k) (codes "let ") (value_name m) (codes " = ")
-          (codes "!") (value_text n m k v) (codes "\n"))
+      (codes "!") (value_text n m k v) (codes "\n"))
   of_decl (CSet v w) m n k text bs ls rest =
       of_value v m (clin_v m w (MSet m ∷ rest)) (sheet text n k bs ls)
       ∙ of_value w m (MSet m ∷ rest) (push (sheet text n k bs ls) (value_text n m k v))
       ∙ ap (λ t. walk rest (sheet t n k bs ls)) (pair_text text (margin k) (codes "let ") (value_name m) (codes " = ")
-          (value_text n m k v) (codes " := ") (value_text n m k w) (codes "\n"))
+      (value_text n m k v) (codes " := ") (value_text n m k w) (codes "\n"))
 
   of_term : (t : CTm) (m n k : ℕ) (text : List ℕ) (bs : List Scope) (ls : List Lines) →
       Makes (clin_t m t) (sheet text n k bs ls) (text ++ term_text n m k t)
@@ -244,9 +244,9 @@ mutual
         ends =
             ap (λ (t : List ℕ). called.body.text ++ t)
             (gather_all (length (stack ss [])) ss [] (codes ")\n") (let h = stack_length ss [] in omega (arith, h))
-                ∙ ap (λ (t : List ℕ). t ++ codes ")\n") (joined_is 0 n m k vs))
+            ∙ ap (λ (t : List ℕ). t ++ codes ")\n") (joined_is 0 n m k vs))
             ∙ call_text text (margin k) (value_text n m k f) (codes "[") (types_text n ts) (codes "](") (values_after 0
-                n m k vs) (codes ")\n");
+            n m k vs) (codes ")\n");
         branches = refl;
       }
   of_term (CIf v t u) m n k text bs ls =
@@ -260,7 +260,7 @@ mutual
             of_value v m (MIf ∷ clin_t m t (MElse ∷ clin_t m u rest)) (sheet text n k bs ls)
             ∙ h.goes (MElse ∷ clin_t m u rest)
             ∙ ap (walk (clin_t m u rest)) (turn_is (record { body = h.body; around = ls }) (scope_of n k) bs (first
-                ++ term_text n m (k + 1) t) h.branches h.ends)
+            ++ term_text n m (k + 1) t) h.branches h.ends)
             ∙ g.goes rest;
         ends = g.ends ∙ if_text text (margin k) (codes "if0 ") (value_text n m k v) (codes " then\n") (term_text n m (k
             + 1) t) (codes "else\n") (term_text n m (k + 1) u);

@@ -57,7 +57,8 @@ abbrev mutual
   -- values with commas between them, with so many before them
   pub values_after : ℕ → ℕ → ℕ → ℕ → CVals → List ℕ
   values_after before n m k NoCVals = []
-  values_after before n m k (MoreCVals v vs) = separator before ++ value_text n m k v ++ values_after (suc before) n m k vs
+  values_after before n m k (MoreCVals v vs) =
+      separator before ++ value_text n m k v ++ values_after (suc before) n m k vs
 
   pub declared_text : ℕ → ℕ → ℕ → CDecl → List ℕ
   declared_text n m k (CName v) = value_text n m k v

@@ -19,7 +19,12 @@ pub(crate) fn piece_of(alloc: Global, pieces: &mut Pieces, text: &[u8]) -> Resul
 }
 
 // Two pieces with bytes between them.
-pub(crate) fn joined(pieces: &mut Pieces, first: u64, bytes: Vec<u8>, second: u64) -> Result<u64, OutOfMemory>
+pub(crate) fn joined(
+    pieces: &mut Pieces,
+    first: u64,
+    bytes: Vec<u8>,
+    second: u64,
+) -> Result<u64, OutOfMemory>
     ensures keeps { OnOk result (Keeps pieces.old pieces.new) }
     ensures stands { IfOk result (λ piece. (s t : List ℕ) → Stands pieces.old first s → Stands pieces.old second t →
         Stands pieces.new piece (s ++ (bytes.items ++ t))) }
@@ -49,7 +54,12 @@ pub(crate) fn listed(
 }
 
 // A piece with bytes in front of it and behind it.
-pub(crate) fn wrapped(pieces: &mut Pieces, front: Vec<u8>, inner: u64, behind: Vec<u8>) -> Result<u64, OutOfMemory>
+pub(crate) fn wrapped(
+    pieces: &mut Pieces,
+    front: Vec<u8>,
+    inner: u64,
+    behind: Vec<u8>,
+) -> Result<u64, OutOfMemory>
     ensures keeps { OnOk result (Keeps pieces.old pieces.new) }
     ensures stands { IfOk result (λ piece. (s : List ℕ) → Stands pieces.old inner s →
         Stands pieces.new piece (front.items ++ (s ++ behind.items))) }

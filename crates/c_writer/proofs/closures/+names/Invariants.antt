@@ -7,4 +7,4 @@ use Rattle.c_writer.proofs.closures.+names.Given as goal
 abbrev pub invariant-one_names_variable-loop-i : goal.invariant-one_names_variable-loop-i
 invariant-one_names_variable-loop-i l =
     (v : ℕ) → IsVariable l.variable v → one_names_variable v (ctys (drop l.i l.ts))
-        ≡ one_names_variable v (ctys (drop l.from l.ts))
+    ≡ one_names_variable v (ctys (drop l.from l.ts))

@@ -22,5 +22,5 @@ returns c =
     let w = c.loop-node.invariant in
     c.in_ok-text.ensures ∙ (c.in_ok-whole.ensures.shut w.0 w.1).text.is
     ∙ walk_done c.nodes-nodes.result.now c.loop-node.node-index w.0 (term_of c.args.program.now) c.loop-node-test.false
-        w.2
+    w.2
     c.nodes-nodes.ensures.read

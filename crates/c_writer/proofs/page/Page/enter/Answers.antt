@@ -15,7 +15,7 @@ returns c = λ p h.
     let q = c.bytes.new.self in
     enter_page c.args.self.now (record c.args.self.now { around = c.push_front.new.self }) c.replace-outer.new.dest
     c.replace-outer.result q c.args.owes (ctys c.args.args.now) p c.in_ok-text.ensures.keeps
-        c.replace-outer.ensures.value
+    c.replace-outer.ensures.value
     c.in_ok-push_front.ensures.items
     (subst (λ (b : Body). IsBody q b (lines head (scope_of c.args.owes (p.body.scope.indent + 1)) []))
     (sym c.replace-outer.ensures.after)
@@ -23,7 +23,7 @@ returns c = λ p h.
       text =
           subst (Stands q c.in_ok-text.text)
           (c.in_ok-write_head.ensures ∙ ap (λ (x : List ℕ). x
-              ++ head) c.new-head.ensures.items) c.in_ok-text.ensures.stands;
+          ++ head) c.new-head.ensures.items) c.in_ok-text.ensures.stands;
       values = subst (λ is. Stand q is []) (sym c.new.ensures.items) tt;
       called = refl;
       scope =

@@ -11,7 +11,7 @@ returns c =
     on_ok_weaker c.push.result
     (λ f p h.
     leave_page c.args.self.now (record c.args.self.now { around = c.pop_front.new.self }) c.shut.new.self
-        c.push.new.self
+    c.push.new.self
     c.in-Some.outer c.bytes.new.self c.joined.new.self c.in_ok-text.text c.in_ok-end.end c.in_ok-code.code _ p
     out c.in_ok-text.ensures.shut c.in_ok-text.ensures.keeps c.in_ok-line.ensures c.in_ok-end.ensures.keeps
     c.in_ok-end.ensures.stands c.in_ok-code.ensures.keeps c.in_ok-code.ensures.stands

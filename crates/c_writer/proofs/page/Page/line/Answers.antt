@@ -12,8 +12,8 @@ returns c = λ p h.
     (λ i s k. c.in_ok-self.ensures.keeps i s (c.in_ok-whole.ensures.keeps i s k))
     (subst
     (λ (e : List ℕ). Stands c.joined.new.self c.in_ok-self.field-0 (p.body.text ++ (c.args.front.items
-        ++ (last p.body.values ++ e))))
+    ++ (last p.body.values ++ e))))
     c.in_ok-end.ensures.items
     (c.in_ok-self.ensures.stands _ _ (c.in_ok-whole.ensures.keeps _ _ after.0.body.text) (c.in_ok-whole.ensures.stands _
-        after.1)))
+    after.1)))
     after.0

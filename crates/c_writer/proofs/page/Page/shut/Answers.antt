@@ -17,8 +17,11 @@ returns-clause-shut c = λ p h.
     record {
       text =
           subst (Stands c.joined.new.self c.in_ok-text.text)
-          (shut_called p.body count (sym h.body.called ∙ c.if-not-self.false) (omega (arith, c.len-count.ensures,
-              long)))
+          (shut_called p.body count (sym h.body.called ∙ c.if-not-self.false) (omega (
+            arith,
+            c.len-count.ensures,
+            long,
+          )))
           (c.in_ok-text.ensures.stands _ _ both.0.body.text both.1);
       values = past count p.body.values;
       page = keeps_page c.gather.new.self c.joined.new.self (with_values p (past count p.body.values))

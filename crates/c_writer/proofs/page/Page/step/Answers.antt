@@ -67,7 +67,7 @@ pub returns-in-Call : goal.returns-in-Call
 returns-in-Call c =
     as_step c.call.result _ _ c.args.self.now c.call.new.self
     (ap cnode c.in-Call.is ∙ ap (λ ts. MCall (ctys ts) c.in-Call.count) (sym c.deref-in-Call.ensures.value))
-        c.call.ensures
+    c.call.ensures
 
 pub returns-in-If0 : goal.returns-in-If0
 returns-in-If0 c = as_step c.choose.result _ _ c.args.self.now c.choose.new.self (ap cnode c.in-If0.is) c.choose.ensures

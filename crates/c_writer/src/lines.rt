@@ -46,7 +46,8 @@ impl Page {
 
     // A line that begins with a word.
     pub(crate) fn value_line(&mut self, word: &[u8]) -> Result<(), OutOfMemory>
-        ensures { OnOk result ((p : Sheet) → IsPage self.old p → IsPage self.new (line p (begun p word.now) (codes "\n"))) }
+        ensures { OnOk result ((p : Sheet) → IsPage self.old p →
+            IsPage self.new (line p (begun p word.now) (codes "\n"))) }
     {
         let front = self.begin(word)?;
         self.line(front, b"\n")

@@ -34,8 +34,8 @@ fn write_some(text: &mut Vec<u8>, depth: u64) -> Result<(), OutOfMemory>
 }
 
 /// Puts a type inside `depth` type names at the end of a text. `some b. <code[as](b, ts), b>`, where `ts` don't name
-/// `b`, is written `closure[as](ts)`. An error is want of memory; more type names around a place than a word counts are
-/// more than memory holds.
+/// `b`, is written `closure[as](ts)` (own choice). It takes time by the size of the type and by how deep packages nest
+/// in it. An error is want of memory; more type names around a place than a word counts are more than memory holds.
 #[cycle(types)]
 pub fn write_type(text: &mut Vec<u8>, t: &CType, depth: u64) -> Result<(), OutOfMemory>
     ensures { OnOk result (text.new.items ≡ text.old.items ++ type_text depth (ctree t.now)) }

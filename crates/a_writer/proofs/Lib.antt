@@ -1,0 +1,4 @@
+pub mod TypeTexts
+pub mod ValueTexts
+pub mod ScopeTexts
+pub mod ProgramTexts

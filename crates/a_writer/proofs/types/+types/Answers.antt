@@ -1,4 +1,4 @@
-use Rattle.std.proofs.Common.{◌≡◌, ◌+◌, ◌++◌, List, ℕ, OnOk, drop, codes, sym, ap, subst, ◌∙◌, append_assoc}
+use Rattle.std.proofs.Common.{◌≡◌, ◌+◌, ◌++◌, List, ℕ, OnOk, codes, sym, ap, subst, ◌∙◌, append_assoc}
 use Rattle.a_terms.specs.Read.{afields, atrees}
 use Rattle.a_terms.specs.ReadLaws.{is_code, is_tuple}
 use Rattle.page_text.specs.Names.{type_names}

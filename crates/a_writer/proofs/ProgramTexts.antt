@@ -2,7 +2,7 @@
 use Rattle.std.proofs.Common.{◌≡◌, ◌≤◌, ◌<◌, ℕ, suc, ◌+◌, List, [], ◌∷◌, ◌++◌, length, drop, get_or, refl, sym, subst}
 use Rattle.std.proofs.Common.{◌∙◌, ap, append_assoc, codes, arith}
 use Rattle.page_text.specs.Names.{separator, value_name}
-use Rattle.page_text.proofs.Listed.{Left, left_none, listed, next_item}
+use Rattle.page_text.proofs.Listed.{Left, left_none, listed}
 use Rattle.a_terms.specs.Arity.{ARow, ARows}
 use Rattle.a_terms.specs.NodeTrees.{a_block, a_blocks, a_consts, a_data, a_tree}
 use Rattle.a_terms.specs.Read.{atree, atrees}
@@ -68,11 +68,6 @@ pub tuples_done : (xs : List AData) (old new : List ℕ) (i : ℕ) →
     Left tuple_item new i i xs (old ++ listed tuple_item 0 xs) → length xs ≤ i → new ≡ old ++ tuples_text 0 (a_data xs)
 tuples_done xs old new i h le =
     left_none tuple_item new i i xs _ h le ∙ ap (λ (s : List ℕ). old ++ s) (sym (tuples_listed 0 xs))
-
--- the rows of the blocks that are left
-pub next_rows : (xs : List ABlock) (i : ℕ) (x : ABlock) → x ≡ get_or xs i x → i < length xs → ARows (drop i xs) →
-    ARow x.body.items 1 × ARows (drop (i + 1) xs)
-next_rows xs i x is lt rows = subst ARows (next_item xs i x is lt) rows
 
 pub data_is : (xs : List AData) → 0 < length xs → tuples_text 0 (a_data xs) ++ codes "\n" ≡ data_text (a_data xs)
 data_is [] lt = absurd (omega (arith, lt))

@@ -18,8 +18,8 @@ closure_is : type_text 1 closure ≡ codes "closure[c](a, c)"
 closure_is = refl
 
 -- the hidden type is named once more
-again : type_text 0
-    (AExists (ATuple (MoreAFields (ACode 0 (MoreATys (AVar 0) (MoreATys (AVar 0) NoATys))) true (MoreAFields (AVar 0) true NoAFields))))
+again : type_text 0 (AExists (ATuple (MoreAFields (ACode 0 (MoreATys (AVar 0) (MoreATys (AVar 0) NoATys))) true
+    (MoreAFields (AVar 0) true NoAFields))))
     ≡ codes "some a. <code[](a, a), a>"
 again = refl
 
@@ -45,6 +45,9 @@ program = record {
 }
 
 program_is : a_text program main ≡
-    codes "L0: code[a](x0: int, x1: some b. b).\n  let x2 = malloc[int]\n  let x3 = x2[1] <- -5\n  if0 x0 then\n    let [b, x4] = unpack x1\n    let x5 = #2 x4\n    halt x5\n  else\n    L0[int][](x0, pack [int, D0] as some b. b)\n\nD0: <7, L0>\nD1: <>\n\nmain:\n  let x0 = D0\n  let x1 = 2 * 3\n  halt x1\n"
+    codes "L0: code[a](x0: int, x1: some b. b).\n  let x2 = malloc[int]\n  let x3 = x2[1] <- -5\n  if0 x0 then\n"
+    ++ (codes "    let [b, x4] = unpack x1\n    let x5 = #2 x4\n    halt x5\n  else\n"
+    ++ (codes "    L0[int][](x0, pack [int, D0] as some b. b)\n\nD0: <7, L0>\nD1: <>\n\n"
+    ++ codes "main:\n  let x0 = D0\n  let x1 = 2 * 3\n  halt x1\n"))
 unfolding digits
 program_is = refl

@@ -1,13 +1,13 @@
 -- Programs by their parts, and what loops write item by item.
-use Rattle.std.proofs.Common.{◌≡◌, ◌≤◌, ◌<◌, ℕ, suc, ◌+◌, List, [], ◌∷◌, ◌++◌, length, drop, get_or, refl, sym, subst}
-use Rattle.std.proofs.Common.{◌∙◌, ap, append_assoc, codes, arith}
+use Rattle.std.proofs.Common.{◌≡◌, ◌≤◌, ℕ, suc, List, [], ◌∷◌, ◌++◌, length, refl, sym}
+use Rattle.std.proofs.Common.{◌∙◌, ap, append_assoc, codes}
 use Rattle.page_text.specs.Names.{separator, value_name}
 use Rattle.page_text.proofs.Listed.{Left, left_none, listed}
 use Rattle.c_terms.specs.C.{ccount}
 use Rattle.c_terms.specs.Read.{ctree, ctys}
 use Rattle.c_terms.specs.declared.types.CType.{CType}
 use Rattle.c_writer.specs.Types.{type_text}
-use Rattle.h_terms.specs.Nodes.{h_block, h_blocks, h_tree, HRow, HRows}
+use Rattle.h_terms.specs.Nodes.{h_block, h_blocks, h_tree}
 use Rattle.h_terms.specs.declared.node.HBlock.{HBlock}
 use Rattle.h_terms.specs.declared.node.HNode.{HNode}
 use Rattle.h_writer.specs.Text.{args_text, block_text, blocks_text, head_text, term_text}

@@ -33,11 +33,7 @@ fn join_field(
 }
 
 // The piece of a tuple of these fields.
-fn join_fields(
-    alloc: Global,
-    pieces: &mut Pieces,
-    fields: &[u64],
-) -> Result<u64, OutOfMemory>
+fn join_fields(alloc: Global, pieces: &mut Pieces, fields: &[u64]) -> Result<u64, OutOfMemory>
     ensures keeps { OnOk result (Keeps pieces.old pieces.new) }
     ensures stands { IfOk result (λ whole. (n m : ℕ) (vs : List HVal) → Stand pieces.old n m fields.now vs →
         Stands pieces.new whole (value_text n m (HTuple (tied vs)))) }

@@ -12,9 +12,7 @@ use c_terms::CType;
 use c_writer::write_types;
 use h_terms::HForm;
 use idx_core::{Op, OutOfMemory};
-use page_text::{
-    write_natural, write_op, write_separator, write_type_name, write_value_name,
-};
+use page_text::{write_natural, write_op, write_separator, write_type_name, write_value_name};
 
 // The first of some texts.
 fn write_first(text: &mut Vec<u8>, values: &[Vec<u8>]) -> Result<(), OutOfMemory>

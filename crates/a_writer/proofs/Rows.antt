@@ -1,10 +1,10 @@
 -- Worked texts of types and programs.
-use Rattle.std.proofs.Common.{◌≡◌, [], ◌∷◌, pos, negsuc, codes, refl}
+use Rattle.std.proofs.Common.{◌≡◌, [], ◌∷◌, ◌++◌, pos, negsuc, codes, refl}
 use Rattle.std.specs.Prelude.{true, false}
 use Rattle.std.specs.Fmt.{digits}
 use Rattle.idx_core.specs.declared.arith.Op.TheVariants.{Mul}
-use Rattle.a_terms.specs.Tree.{ATy, AInt, AVar, ATuple, ACode, AExists, NoATys, MoreATys, NoAFields, MoreAFields, Var, Num}
-use Rattle.a_terms.specs.Tree.{Lab, Data, Apply, Pack, Value, Proj, Arith, Unpack, Malloc, Init, ATm, Let, Call, If0}
+use Rattle.a_terms.specs.Tree.{ATy, AInt, AVar, ATuple, ACode, AExists, NoATys, MoreATys, NoAFields, MoreAFields, Var}
+use Rattle.a_terms.specs.Tree.{Num, Lab, Data, Apply, Pack, Value, Proj, Arith, Unpack, Malloc, Init, ATm, Let, Call, If0}
 use Rattle.a_terms.specs.Tree.{Halt, AProg}
 use Rattle.a_writer.specs.Types.{type_text}
 use Rattle.a_writer.specs.Text.{a_text}
@@ -12,7 +12,8 @@ use Rattle.a_writer.specs.Text.{a_text}
 -- some b. <code[c](b, a, c), b>, inside a: the type of a closure
 abbrev closure : ATy
 closure = AExists (ATuple (MoreAFields
-    (ACode 1 (MoreATys (AVar 1) (MoreATys (AVar 2) (MoreATys (AVar 0) NoATys)))) true (MoreAFields (AVar 0) true NoAFields)))
+    (ACode 1 (MoreATys (AVar 1) (MoreATys (AVar 2) (MoreATys (AVar 0) NoATys)))) true
+    (MoreAFields (AVar 0) true NoAFields)))
 
 closure_is : type_text 1 closure ≡ codes "closure[c](a, c)"
 closure_is = refl

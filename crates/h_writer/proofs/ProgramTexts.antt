@@ -20,7 +20,8 @@ args_listed i n [] = refl
 args_listed i n (x ∷ xs) = rw (args_listed (suc i) n xs) (simp append_assoc)
 
 pub args_done : (n : ℕ) (xs : List CType) (old new : List ℕ) (i : ℕ) →
-    Left (arg_item n) new i i xs (old ++ listed (arg_item n) 0 xs) → length xs ≤ i → new ≡ old ++ args_text 0 n (ctys xs)
+    Left (arg_item n) new i i xs (old ++ listed (arg_item n) 0 xs) → length xs ≤ i →
+    new ≡ old ++ args_text 0 n (ctys xs)
 args_done n xs old new i h le =
     left_none (arg_item n) new i i xs _ h le ∙ ap (λ (s : List ℕ). old ++ s) (sym (args_listed 0 n xs))
 
@@ -50,6 +51,7 @@ blocks_listed l [] = refl
 blocks_listed l (x ∷ xs) = ap (λ (s : List ℕ). block_item l x ++ s) (blocks_listed (suc l) xs)
 
 pub blocks_done : (xs : List HBlock) (old new : List ℕ) (i : ℕ) →
-    Left block_item new i i xs (old ++ listed block_item 0 xs) → length xs ≤ i → new ≡ old ++ blocks_text 0 (h_blocks xs)
+    Left block_item new i i xs (old ++ listed block_item 0 xs) → length xs ≤ i →
+    new ≡ old ++ blocks_text 0 (h_blocks xs)
 blocks_done xs old new i h le =
     left_none block_item new i i xs _ h le ∙ ap (λ (s : List ℕ). old ++ s) (sym (blocks_listed 0 xs))

@@ -1,5 +1,5 @@
 -- A worked program, with each form once.
-use Rattle.std.proofs.Common.{◌≡◌, [], ◌∷◌, pos, negsuc, codes, refl}
+use Rattle.std.proofs.Common.{◌≡◌, [], ◌∷◌, ◌++◌, pos, negsuc, codes, refl}
 use Rattle.std.specs.Fmt.{digits}
 use Rattle.idx_core.specs.declared.arith.Op.TheVariants.{Sub}
 use Rattle.c_terms.specs.C.{CTy, MoreCTys, NoCTys, TCCode, TCInt, TCRef, TCSome, TCTuple, TCVar}

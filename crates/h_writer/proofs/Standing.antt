@@ -1,6 +1,7 @@
 -- Pieces that stand for values.
-use Rattle.std.proofs.Common.{◌≡◌, ◌≤◌, ◌<◌, ℕ, zero, suc, ◌+◌, ◌-◌, List, [], ◌∷◌, ◌++◌, length, drop, take, get_or, map}
-use Rattle.std.proofs.Common.{Vec, Global, refl, sym, ◌∙◌, ap, ap₂, append_assoc, codes, arith, subst, add-one, Bool, true≢false}
+use Rattle.std.proofs.Common.{◌≡◌, ◌≤◌, ◌<◌, ℕ, zero, suc, ◌+◌, ◌-◌, List, [], ◌∷◌, ◌++◌, length, drop, take, get_or}
+use Rattle.std.proofs.Common.{map, Vec, Global, refl, sym, ◌∙◌, ap, ap₂, append_assoc, codes, arith, subst}
+use Rattle.std.proofs.Common.{add-one, Bool, true≢false}
 use Rattle.std.specs.Prelude.{◌==◌, true, false}
 use Rattle.std.proofs.lemmas.List.{append-nil, take_more}
 use Rattle.std.proofs.Math.ListN.{drop_of_length-le}
@@ -108,14 +109,16 @@ wrap_done p q n m xs ys zs inner whole vs f before behind e k st more is h =
     let last = subst (λ t. Stands q whole t) (sym (is r.1)) (st (value_text n m r.1) r.4) in
     let all = stand_snoc q n m ys r.0 whole (f r.1) (stand_keeps p q n m ys r.0 k r.3) last in
     let same : at_last f vs ≡ r.0 ++ f r.1 ∷ [] = ap (at_last f) r.2 ∙ at_last_snoc f r.0 r.1 in
-    subst (λ us. Stand q n m us (at_last f vs)) (sym more) (subst (λ us. Stand q n m (ys ++ whole ∷ []) us) (sym same) all)
+    subst (λ us. Stand q n m us (at_last f vs)) (sym more)
+    (subst (λ us. Stand q n m (ys ++ whole ∷ []) us) (sym same) all)
 
 pub apply_text : (n m : ℕ) (v : HVal) (us ts : List CType) (before behind : List ℕ) → before ≡ [] →
     behind ≡ applied_text n (ctys us) → us ≡ ts →
     value_text n m (HApply v (ctys ts)) ≡ before ++ (value_text n m v ++ behind)
 apply_text n m v us ts before behind e f g =
     ap (λ (xs : List CType). value_text n m v ++ applied_text n (ctys xs)) (sym g)
-    ∙ ap (λ (s : List ℕ). value_text n m v ++ s) (sym f) ∙ ap (λ (s : List ℕ). s ++ (value_text n m v ++ behind)) (sym e)
+    ∙ ap (λ (s : List ℕ). value_text n m v ++ s) (sym f)
+    ∙ ap (λ (s : List ℕ). s ++ (value_text n m v ++ behind)) (sym e)
 
 regrouped : (a b c v d : List ℕ) → a ++ (b ++ (c ++ (v ++ d))) ≡ (a ++ (b ++ c)) ++ (v ++ d)
 regrouped a b c v d = simp append_assoc

@@ -2,3 +2,4 @@ pub mod TypeTexts
 pub mod ValueTexts
 pub mod ScopeTexts
 pub mod ProgramTexts
+mod Rows

@@ -1,6 +1,6 @@
 -- The texts of terms that are still to be written, node by node.
-use Rattle.std.proofs.Common.{◌≡◌, ◌≤◌, ◌<◌, ℕ, zero, suc, ◌+◌, ◌-◌, List, [], ◌∷◌, ◌++◌, length, drop, get_or, refl, sym}
-use Rattle.std.proofs.Common.{◌∙◌, ap, append_assoc, codes, arith, subst, reverse, Bool}
+use Rattle.std.proofs.Common.{◌≡◌, ◌≤◌, ◌<◌, ℕ, zero, suc, ◌+◌, ◌-◌, List, [], ◌∷◌, ◌++◌, length, drop, get_or, refl}
+use Rattle.std.proofs.Common.{sym, ◌∙◌, ap, append_assoc, codes, arith, subst, reverse}
 use Rattle.std.specs.Prelude.{true, false}
 use Rattle.std.proofs.lemmas.List.{append-nil, reverse-append, length-reverse, length-append}
 use Rattle.std.proofs.Math.ListN.{drop_of_length-le}
@@ -8,7 +8,6 @@ use Rattle.term_core.specs.Ends.{lift}
 use Rattle.page_text.proofs.Listed.{next_item}
 use Rattle.a_terms.specs.Arity.{AArity, ARow, a_kids}
 use Rattle.a_terms.specs.NodeTrees.{a_build, a_decl, a_let, a_onto, a_tree, a_values, no_term, no_value}
-use Rattle.a_terms.specs.Read.{atrees}
 use Rattle.a_terms.specs.Row.{IsOne, IsSome, IsTwo, others, top}
 use Rattle.a_terms.specs.Tree.{ADecl, ATm, AVal}
 use Rattle.a_terms.specs.declared.nodes.AForm.{AForm}
@@ -16,7 +15,7 @@ use Rattle.a_terms.specs.declared.nodes.AForm.TheVariants.{Value, Proj, Arith, U
 use Rattle.a_terms.specs.declared.nodes.ANode.{ANode}
 use Rattle.a_terms.specs.declared.nodes.AValue.{AValue}
 use Rattle.a_writer.specs.declared.scope.Scope.{Scope}
-use Rattle.a_writer.specs.Text.{call_text, decl_text, if_text, line, term_text, types_after, value_text}
+use Rattle.a_writer.specs.Text.{decl_text, if_text, line, term_text, types_after}
 use Rattle.a_writer.specs.Scopes.{behind, below, branch, form_text, least, node_text, opening, terms_text}
 
 -- a declaration, and what follows it
@@ -149,14 +148,18 @@ pub record Writing (nodes : List ANode) (i : ℕ) (scopes : List Scope) (text wh
   pub row : ARow (drop i nodes) (length scopes)
   pub written : text ++ terms_text (reverse scopes) (a_onto (drop i nodes) []) ≡ whole
 
-pub writing_start : (nodes : List ANode) (types names : ℕ) (scopes : List Scope) (text : List ℕ) → ARow nodes 1 →
-    scopes ≡ record { types = types; names = names; level = 1; second = false } ∷ [] →
+pub writing_start : (nodes : List ANode) (types names : ℕ) (none scopes : List Scope) (text : List ℕ) →
+    ARow nodes 1 → none ≡ [] →
+    scopes ≡ none ++ record { types = types; names = names; level = 1; second = false } ∷ [] →
     Writing nodes 0 scopes text (text ++ term_text types names 1 (a_tree nodes))
-writing_start nodes types names scopes text row is = record {
+writing_start nodes types names none scopes text row empty more = record {
   row = subst (λ (ss : List Scope). ARow nodes (length ss)) (sym is) row;
   written = ap (λ (ss : List Scope). text ++ terms_text (reverse ss) (a_onto nodes [])) is
       ∙ ap (λ (s : List ℕ). text ++ s) (append-nil (term_text types names 1 (a_tree nodes)));
 }
+  where
+    is : scopes ≡ record { types = types; names = names; level = 1; second = false } ∷ []
+    is = rw empty at more
 
 module _ (nodes : List ANode) (i : ℕ) (scopes : List Scope) (text whole : List ℕ)
     (h : Writing nodes i scopes text whole) where

@@ -1,9 +1,9 @@
 -- Types that a loop writes one by one.
-use Rattle.std.proofs.Common.{Bool, ◌≡◌, ◌≤◌, ◌<◌, ℕ, suc, ◌+◌, List, [], ◌∷◌, ◌++◌, length, drop, get_or, refl, sym}
+use Rattle.std.proofs.Common.{Bool, ◌≡◌, ◌≤◌, ◌<◌, ℕ, suc, List, [], ◌∷◌, ◌++◌, length, drop, refl, sym}
 use Rattle.std.proofs.Common.{◌∙◌, ap, append_assoc, codes, arith, zero}
 use Rattle.std.specs.Prelude.{◌==◌, true, false}
 use Rattle.page_text.specs.Names.{separator}
-use Rattle.page_text.proofs.Listed.{Left, left_more, left_none, listed}
+use Rattle.page_text.proofs.Listed.{Left, left_none, listed}
 use Rattle.a_terms.specs.declared.types.AType.{AType}
 use Rattle.a_terms.specs.Tree.{AFields, ATuple, ATy}
 use Rattle.a_terms.specs.Read.{afields, atree, atrees}

@@ -1,16 +1,16 @@
 -- Values by their parts, and values that a loop writes one by one.
-use Rattle.std.proofs.Common.{◌≡◌, ◌≤◌, ◌<◌, ℕ, suc, ◌+◌, List, [], ◌∷◌, ◌++◌, length, drop, get_or, refl, sym, subst}
-use Rattle.std.proofs.Common.{◌∙◌, ap, append_assoc, codes, arith, take}
+use Rattle.std.proofs.Common.{◌≡◌, ◌≤◌, ◌<◌, ℕ, suc, ◌+◌, List, [], ◌∷◌, ◌++◌, length, drop, get_or, refl, sym}
+use Rattle.std.proofs.Common.{◌∙◌, ap, append_assoc, arith, take, ◌-◌}
 use Rattle.std.proofs.lemmas.List.{append-nil}
 use Rattle.page_text.specs.Names.{separator}
 use Rattle.page_text.proofs.Listed.{Left, left_none, listed}
 use Rattle.a_terms.specs.declared.types.AType.{AType}
-use Rattle.a_terms.specs.declared.nodes.ABase.{ABase}
 use Rattle.a_terms.specs.declared.nodes.AWrap.{AWrap}
 use Rattle.a_terms.specs.declared.nodes.AWrap.TheVariants.{Apply, Pack}
 use Rattle.a_terms.specs.declared.nodes.AValue.{AValue}
 use Rattle.a_terms.specs.Tree.{AVal}
 use Rattle.a_terms.specs.NodeTrees.{a_consts, a_value, a_values, base, no_value, wrap, wrapped}
+use Rattle.a_terms.specs.ReadLaws.{took}
 use Rattle.a_terms.specs.Row.{others, top}
 use Rattle.a_writer.specs.Text.{consts_text, value_text, values_text}
 use Rattle.a_writer.specs.Wraps.{after_text, before_text, closing, opening}
@@ -28,16 +28,28 @@ wrapped_text n m v (w ∷ ws) =
     wrapped_text n m (wrap w v) ws
     ∙ ap (λ (s : List ℕ). before_text n ws ++ (s ++ after_text n ws)) (wrap_text n m v w) ∙ simp append_assoc
 
-pub value_done : (n m : ℕ) (v : AValue) (t0 t1 t2 t3 : List ℕ) → t1 ≡ t0 ++ before_text n v.wraps.items →
-    t2 ≡ t1 ++ value_text n m (base v.base) → t3 ≡ t2 ++ after_text n v.wraps.items →
-    t3 ≡ t0 ++ value_text n m (a_value v)
-value_done n m v t0 t1 t2 t3 e1 e2 e3 =
-    rw (e3, e2, e1, wrapped_text n m (base v.base) v.wraps.items) (simp append_assoc)
+pub value_done : (n m : ℕ) (v : AValue) (us ws : List AWrap) (t0 t1 t2 t3 : List ℕ) → us ≡ v.wraps.items →
+    ws ≡ v.wraps.items → t1 ≡ t0 ++ before_text n us → t2 ≡ t1 ++ value_text n m (base v.base) →
+    t3 ≡ t2 ++ after_text n ws → t3 ≡ t0 ++ value_text n m (a_value v)
+value_done n m v us ws t0 t1 t2 t3 same also e1 e2 e3 =
+    rw (e3, e2, e1, same, also, wrapped_text n m (base v.base) v.wraps.items) (simp append_assoc)
 
 -- one wrap more before others
 pub before_more : (n : ℕ) (ws : List AWrap) (w : AWrap) → before_text n (ws ++ w ∷ []) ≡ opening n w ++ before_text n ws
 before_more n [] w = sym (append-nil (opening n w))
 before_more n (x ∷ ws) w = rw (before_more n ws w) (append_assoc (opening n w) (before_text n ws) (opening n x))
+
+pub before_step : (n : ℕ) (ws : List AWrap) (left : ℕ) (w : AWrap) (text next whole : List ℕ) → 0 < left →
+    left ≤ length ws → w ≡ get_or ws (left - 1) w → text ++ before_text n (take left ws) ≡ whole →
+    next ≡ text ++ opening n w → next ++ before_text n (take (left - 1) ws) ≡ whole
+before_step n ws left w text next whole some within is h e =
+    let one : left ≡ left - 1 + 1 = omega arith in
+    let in_list : left - 1 < length ws = omega arith in
+    let last = ap (λ k. take k ws) one ∙ took ws (left - 1) w in_list is in
+    let rest = before_text n (take (left - 1) ws) in
+    ap (λ (s : List ℕ). s ++ rest) e ∙ append_assoc text (opening n w) rest
+    ∙ ap (λ (s : List ℕ). text ++ s) (sym (before_more n (take (left - 1) ws) w))
+    ∙ ap (λ (xs : List AWrap). text ++ before_text n xs) (sym last) ∙ h
 
 abbrev pub value_item : ℕ → ℕ → ℕ → AValue → List ℕ
 value_item n m i v = separator i ++ value_text n m (a_value v)
@@ -54,7 +66,8 @@ consts_listed i [] = refl
 consts_listed i (x ∷ xs) = rw (consts_listed (suc i) xs) (simp append_assoc)
 
 pub consts_done : (xs : List (AValue × AType)) (old new : List ℕ) (i k : ℕ) →
-    Left const_item new i k xs (old ++ listed const_item 0 xs) → length xs ≤ k → new ≡ old ++ consts_text 0 (a_consts xs)
+    Left const_item new i k xs (old ++ listed const_item 0 xs) → length xs ≤ k →
+    new ≡ old ++ consts_text 0 (a_consts xs)
 consts_done xs old new i k h le =
     left_none const_item new i k xs _ h le ∙ ap (λ (s : List ℕ). old ++ s) (sym (consts_listed 0 xs))
 

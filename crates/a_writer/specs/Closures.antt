@@ -1,5 +1,5 @@
 -- Which types are those of closures, `some b. <code[as](b, ts), b>` where ts don't name b.
-use Rattle.std.specs.Prelude.{ℕ, zero, ◌+◌, nat_eq, Bool, true, false, not, ◌&&◌, ◌||◌}
+use Rattle.std.specs.Prelude.{ℕ, ◌+◌, nat_eq, Bool, false, not, ◌&&◌, ◌||◌}
 use Rattle.a_terms.specs.Tree.{ATy, AInt, AVar, ATuple, ACode, AExists, ATys, NoATys, MoreATys, AFields, NoAFields}
 use Rattle.a_terms.specs.Tree.{MoreAFields}
 

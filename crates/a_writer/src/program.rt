@@ -53,7 +53,13 @@ fn write_block(
     ensures { OnOk result (text.new.items ≡ text.old.items ++ block_text label (a_block block.now)) }
 {
     write_head(text, label, block.owes, &block.args)?;
-    write_term(alloc, text, &block.body, block.owes, block.args.len() as u64)?;
+    write_term(
+        alloc,
+        text,
+        &block.body,
+        block.owes,
+        block.args.len() as u64,
+    )?;
     text.extend_from_slice(b"\n")?;
     Ok(())
 }

@@ -85,11 +85,7 @@ pub(crate) fn write_types(
 }
 
 #[cycle(types)]
-fn write_fields(
-    text: &mut Vec<u8>,
-    fields: &[(AType, bool)],
-    depth: u64,
-) -> Result<(), OutOfMemory>
+fn write_fields(text: &mut Vec<u8>, fields: &[(AType, bool)], depth: u64) -> Result<(), OutOfMemory>
     ensures { OnOk result (text.new.items ≡ text.old.items ++ fields_text 0 depth (afields fields.now)) }
 {
     for (i, field) in fields.iter().enumerate() {
@@ -128,11 +124,7 @@ fn write_closure(text: &mut Vec<u8>, body: &AType, depth: u64) -> Result<(), Out
 }
 
 #[cycle(types)]
-fn write_first(
-    text: &mut Vec<u8>,
-    fields: &[(AType, bool)],
-    depth: u64,
-) -> Result<(), OutOfMemory>
+fn write_first(text: &mut Vec<u8>, fields: &[(AType, bool)], depth: u64) -> Result<(), OutOfMemory>
     ensures { OnOk result (text.new.items ≡ text.old.items ++ first_text depth (afields fields.now)) }
 {
     if fields.is_empty() {
@@ -152,11 +144,7 @@ fn write_closed_code(text: &mut Vec<u8>, code: &AType, depth: u64) -> Result<(),
 }
 
 /// The types that a value is applied to, in brackets where there are any. An error is want of memory.
-pub(crate) fn write_applied(
-    text: &mut Vec<u8>,
-    ts: &[AType],
-    depth: u64,
-) -> Result<(), OutOfMemory>
+pub(crate) fn write_applied(text: &mut Vec<u8>, ts: &[AType], depth: u64) -> Result<(), OutOfMemory>
     ensures { OnOk result (text.new.items ≡ text.old.items ++ applied_text depth (atrees ts.now)) }
 {
     if ts.is_empty() {

@@ -104,7 +104,8 @@ pub(crate) fn write_value(
 {
     write_before(text, &value.wraps, types)?;
     write_base(text, &value.base, names)?;
-    write_after(text, &value.wraps, types)
+    write_after(text, &value.wraps, types)?;
+    Ok(())
 }
 
 /// The first of some values. An error is want of memory.
@@ -153,7 +154,10 @@ pub(crate) fn write_others(
 }
 
 /// The values of a data tuple, with commas between them. An error is want of memory.
-pub(crate) fn write_consts(text: &mut Vec<u8>, fields: &[(AValue, AType)]) -> Result<(), OutOfMemory>
+pub(crate) fn write_consts(
+    text: &mut Vec<u8>,
+    fields: &[(AValue, AType)],
+) -> Result<(), OutOfMemory>
     ensures { OnOk result (text.new.items ≡ text.old.items ++ consts_text 0 (a_consts fields.now)) }
 {
     for (i, field) in fields.iter().enumerate() {

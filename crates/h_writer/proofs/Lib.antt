@@ -1,0 +1,5 @@
+pub mod Standing
+pub mod FormTexts
+pub mod ScopeTexts
+pub mod ProgramTexts
+mod Rows

@@ -1,1 +1,3 @@
-pub mod Notation
+pub mod Text
+pub mod Values
+pub mod Scopes

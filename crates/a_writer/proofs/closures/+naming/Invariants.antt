@@ -1,4 +1,4 @@
-use Rattle.std.proofs.Common.{◌≡◌, ◌≤◌, drop}
+use Rattle.std.proofs.Common.{◌≡◌, drop}
 use Rattle.a_terms.specs.Read.{afields, atrees}
 use Rattle.a_writer.specs.Closures.{names_fields, names_types}
 use Rattle.a_writer.proofs.closures.+naming.Given as goal

@@ -1,4 +1,4 @@
-use Rattle.std.proofs.Common.{◌≡◌, ◌+◌, ◌++◌, List, ℕ, OnOk, drop, codes, sym, ap, subst, ◌∙◌, append_assoc}
+use Rattle.std.proofs.Common.{◌≡◌, ◌+◌, ◌++◌, List, ℕ, OnOk, codes, sym, ap, subst, ◌∙◌, append_assoc}
 use Rattle.a_terms.specs.Read.{afields, atrees}
 use Rattle.a_terms.specs.ReadLaws.{is_code, is_tuple}
 use Rattle.page_text.specs.Names.{type_names}
@@ -40,4 +40,5 @@ write_type-returns-in_ok-extend_from_slice-in-Code t c =
 
 pub write_types-returns : goal.write_types-returns
 write_types-returns t c =
-    types_done c.args.depth c.args.ts.now _ _ c.args.from _ c.loop-at.at c.loop-at.invariant.written c.loop-at-test.false
+    types_done c.args.depth c.args.ts.now _ _ c.args.from _ c.loop-at.at c.loop-at.invariant.written
+    c.loop-at-test.false

@@ -1,4 +1,4 @@
-use Rattle.std.proofs.Common.{◌≡◌, ◌<◌, ◌++◌, List, ℕ, Bool, zero, suc, codes, length, sym, ap, ◌∙◌, append_assoc, arith}
+use Rattle.std.proofs.Common.{◌≡◌, ◌++◌, List, ℕ, codes, append_assoc}
 use Rattle.a_terms.specs.Tree.{ATys}
 use Rattle.a_terms.specs.Read.{atrees}
 use Rattle.a_writer.specs.Types.{applied_text, types_text}

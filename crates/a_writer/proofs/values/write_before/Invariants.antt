@@ -8,3 +8,6 @@ invariant-loop-left l = record {
   written : l.text.items ++ before_text l.types (take l.left l.wraps)
       ≡ l.initial.text.items ++ before_text l.types l.wraps;
 }
+
+abbrev pub decreases-loop-left : goal.decreases-loop-left
+decreases-loop-left l = l.left

@@ -11,8 +11,8 @@ use Rattle.a_terms.specs.declared.nodes.ABlock.{ABlock}
 use Rattle.a_terms.specs.declared.nodes.AData.{AData}
 use Rattle.a_terms.specs.declared.nodes.ANode.{ANode}
 use Rattle.a_writer.specs.Types.{type_text}
-use Rattle.a_writer.specs.Text.{a_text, args_text, block_text, blocks_text, data_text, head_text, term_text, tuple_text}
-use Rattle.a_writer.specs.Text.{tuples_text}
+use Rattle.a_writer.specs.Notation.{a_text, args_text, block_text, blocks_text, data_text, head_text, term_text, tuple_text}
+use Rattle.a_writer.specs.Notation.{tuples_text}
 
 abbrev pub arg_item : ℕ → ℕ → AType → List ℕ
 arg_item n i t = separator i ++ (value_name i ++ (codes ": " ++ type_text n (atree t)))

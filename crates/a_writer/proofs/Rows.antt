@@ -7,7 +7,7 @@ use Rattle.a_terms.specs.Tree.{ATy, AInt, AVar, ATuple, ACode, AExists, NoATys, 
 use Rattle.a_terms.specs.Tree.{Num, Lab, Data, Apply, Pack, Value, Proj, Arith, Unpack, Malloc, Init, ATm, Let, Call, If0}
 use Rattle.a_terms.specs.Tree.{Halt, AProg}
 use Rattle.a_writer.specs.Types.{type_text}
-use Rattle.a_writer.specs.Text.{a_text}
+use Rattle.a_writer.specs.Notation.{a_text}
 
 -- some b. <code[c](b, a, c), b>, inside a: the type of a closure
 abbrev closure : ATy

@@ -15,7 +15,7 @@ use Rattle.a_terms.specs.declared.nodes.AForm.TheVariants.{Value, Proj, Arith, U
 use Rattle.a_terms.specs.declared.nodes.ANode.{ANode}
 use Rattle.a_terms.specs.declared.nodes.AValue.{AValue}
 use Rattle.a_writer.specs.declared.scope.Scope.{Scope}
-use Rattle.a_writer.specs.Text.{decl_text, if_text, line, term_text, types_after}
+use Rattle.a_writer.specs.Notation.{decl_text, if_text, line, term_text, types_after}
 use Rattle.a_writer.specs.Scopes.{behind, below, branch, form_text, least, node_text, opening, terms_text}
 
 -- a declaration, and what follows it

@@ -1,5 +1,5 @@
 pub mod Closures
 pub mod Types
-pub mod Text
+pub mod Notation
 pub mod Wraps
 pub mod Scopes

@@ -6,7 +6,7 @@ use Rattle.a_terms.specs.Row.{others, top}
 use Rattle.a_terms.specs.NodeTrees.{a_decl, no_term, no_value}
 use Rattle.a_terms.specs.declared.nodes.AForm.{AForm}
 use Rattle.a_terms.specs.declared.nodes.AForm.TheVariants.{Value, Proj, Arith, Unpack, Malloc, Init, Call, If0, Halt}
-use Rattle.a_writer.specs.Text.{call_text, decl_text, if_text, line, term_text, value_text}
+use Rattle.a_writer.specs.Notation.{call_text, decl_text, if_text, line, term_text, value_text}
 use Rattle.a_writer.specs.declared.scope.Scope.{Scope}
 
 -- the line before the second branch of an `if0`, whose level is k

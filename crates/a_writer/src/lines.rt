@@ -4,7 +4,7 @@ ghost use Rattle.a_terms.specs.NodeTrees.{a_values, no_value};
 ghost use Rattle.a_terms.specs.Read.{atrees};
 ghost use Rattle.a_terms.specs.Row.{others, top};
 ghost use Rattle.a_terms.specs.declared.nodes.AForm.TheVariants.{Arith, Init, Proj, Unpack};
-ghost use Rattle.a_writer.specs.Text.{call_text, let_text, malloc_text};
+ghost use Rattle.a_writer.specs.Notation.{call_text, let_text, malloc_text};
 ghost use Rattle.a_writer.specs.Scopes.{form_text, least};
 
 use crate::scope::Scope;

@@ -4,8 +4,8 @@ ghost use Rattle.a_terms.specs.Arity.{ARow, ARows};
 ghost use Rattle.a_terms.specs.NodeTrees.{a_block, a_blocks, a_consts, a_data};
 ghost use Rattle.a_terms.specs.Program.{main_in, program_in};
 ghost use Rattle.a_terms.specs.Read.{atrees};
-ghost use Rattle.a_writer.specs.Text.{a_text, args_text, block_text, blocks_text, data_text, head_text, tuple_text};
-ghost use Rattle.a_writer.specs.Text.{tuples_text};
+ghost use Rattle.a_writer.specs.Notation.{a_text, args_text, block_text, blocks_text, data_text, head_text, tuple_text};
+ghost use Rattle.a_writer.specs.Notation.{tuples_text};
 
 use crate::terms::write_term;
 use crate::types::write_type;

@@ -4,7 +4,7 @@ ghost use Rattle.std.specs.Prelude.{reverse, true, false};
 ghost use Rattle.a_terms.specs.Arity.{AArity, ARow, a_kids};
 ghost use Rattle.a_terms.specs.NodeTrees.{a_build, a_tree, a_values};
 ghost use Rattle.a_terms.specs.Tree.{ATm};
-ghost use Rattle.a_writer.specs.Text.{term_text};
+ghost use Rattle.a_writer.specs.Notation.{term_text};
 ghost use Rattle.a_writer.specs.Scopes.{behind, below, branch, node_text, opening, terms_text};
 
 use crate::lines::write_form;

@@ -3,7 +3,7 @@ ghost use Rattle.std.specs.Prelude.{◌≡◌, ◌∷◌, ◌++◌, ◌<◌, ℕ
 ghost use Rattle.a_terms.specs.NodeTrees.{a_consts, a_value, a_values, no_value};
 ghost use Rattle.a_terms.specs.NodeTrees.{base as base_of};
 ghost use Rattle.a_terms.specs.Row.{others, top};
-ghost use Rattle.a_writer.specs.Text.{consts_text, value_text, values_text};
+ghost use Rattle.a_writer.specs.Notation.{consts_text, value_text, values_text};
 ghost use Rattle.a_writer.specs.Wraps.{after_text, before_text, closing, opening};
 
 use crate::types::{write_applied, write_type};

@@ -9,7 +9,7 @@ use Rattle.h_terms.specs.declared.node.HForm.TheVariants as H
 use Rattle.page_text.specs.Names.{margin, separator}
 use Rattle.page_text.proofs.Listed.{Left, left_none, listed}
 use Rattle.h_writer.specs.declared.scope.Scope.{Scope}
-use Rattle.h_writer.specs.Text.{value_text, values_text}
+use Rattle.h_writer.specs.Notation.{value_text, values_text}
 use Rattle.h_writer.specs.Values.{form_line, joined_text, texts_of}
 use Rattle.h_writer.specs.Scopes.{form_text, least, node_text, opening}
 

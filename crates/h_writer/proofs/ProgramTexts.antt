@@ -10,7 +10,7 @@ use Rattle.c_writer.specs.Types.{type_text}
 use Rattle.h_terms.specs.Nodes.{h_block, h_blocks, h_tree}
 use Rattle.h_terms.specs.declared.node.HBlock.{HBlock}
 use Rattle.h_terms.specs.declared.node.HNode.{HNode}
-use Rattle.h_writer.specs.Text.{args_text, block_text, blocks_text, head_text, term_text}
+use Rattle.h_writer.specs.Notation.{args_text, block_text, blocks_text, head_text, term_text}
 
 abbrev pub arg_item : ℕ → ℕ → CType → List ℕ
 arg_item n i t = separator i ++ (value_name i ++ (codes ": " ++ type_text n (ctree t)))

@@ -5,7 +5,7 @@ use Rattle.idx_core.specs.declared.arith.Op.TheVariants.{Sub}
 use Rattle.c_terms.specs.C.{CTy, MoreCTys, NoCTys, TCCode, TCInt, TCRef, TCSome, TCTuple, TCVar}
 use Rattle.h_terms.specs.H.{HApply, HArith, HBlks, HCall, HCell, HGet, HHalt, HIf, HInt, HLabel, HLet, HName, HPack}
 use Rattle.h_terms.specs.H.{HProj, HSet, HTm, HTuple, HUnpack, HVar, MoreHVals, NoHVals}
-use Rattle.h_writer.specs.Text.{h_text}
+use Rattle.h_writer.specs.Notation.{h_text}
 
 -- some b. <code[](b, a), b>, inside a
 abbrev closure : CTy

@@ -13,7 +13,7 @@ use Rattle.h_terms.specs.declared.node.HForm.{HForm}
 use Rattle.h_terms.specs.declared.node.HForm.TheVariants as H
 use Rattle.h_terms.specs.declared.node.HNode.{HNode}
 use Rattle.h_writer.specs.declared.scope.Scope.{Scope}
-use Rattle.h_writer.specs.Text.{decl_text, if_text, line, term_text, types_after}
+use Rattle.h_writer.specs.Notation.{decl_text, if_text, line, term_text, types_after}
 use Rattle.h_writer.specs.Scopes.{behind, below, branch, form_text, least, node_text, opening, terms_text}
 
 -- a declaration, and what follows it

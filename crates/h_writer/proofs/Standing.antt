@@ -16,7 +16,7 @@ use Rattle.h_terms.specs.Nodes.{at_last, more, reads, tied, tupled}
 use Rattle.h_terms.specs.declared.node.HPart.{HPart}
 use Rattle.page_text.specs.Names.{separator}
 use Rattle.page_text.proofs.Listed.{listed}
-use Rattle.h_writer.specs.Text.{applied_text, value_text, values_text}
+use Rattle.h_writer.specs.Notation.{applied_text, value_text, values_text}
 use Rattle.h_writer.specs.Values.{Stand, texts_of}
 
 pub stand_keeps : (p q : Pieces) (n m : ℕ) (xs : List ℕ) (vs : List HVal) → Keeps p q → Stand p n m xs vs →

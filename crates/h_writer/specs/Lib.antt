@@ -1,3 +1,3 @@
-pub mod Text
+pub mod Notation
 pub mod Values
 pub mod Scopes

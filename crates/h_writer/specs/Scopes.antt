@@ -6,7 +6,7 @@ use Rattle.h_terms.specs.Nodes.{no_term, no_value, tied}
 use Rattle.h_terms.specs.Row.{others, top}
 use Rattle.h_terms.specs.declared.node.HForm.{HForm}
 use Rattle.h_terms.specs.declared.node.HForm.TheVariants as H
-use Rattle.h_writer.specs.Text.{call_text, decl_text, if_text, line, term_text, value_text}
+use Rattle.h_writer.specs.Notation.{call_text, decl_text, if_text, line, term_text, value_text}
 use Rattle.h_writer.specs.declared.scope.Scope.{Scope}
 
 -- the line before the second branch of an `if0`, whose level is k

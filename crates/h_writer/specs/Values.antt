@@ -11,7 +11,7 @@ use Rattle.h_terms.specs.Row.{others, top}
 use Rattle.h_terms.specs.declared.node.HForm.{HForm}
 use Rattle.h_terms.specs.declared.node.HForm.TheVariants as H
 use Rattle.page_text.specs.Names.{op_sign, separator, type_name, value_name}
-use Rattle.h_writer.specs.Text.{let_text, value_text}
+use Rattle.h_writer.specs.Notation.{let_text, value_text}
 
 -- pieces that have the texts of these values inside n type names and m value names
 abbrev pub Stand : Pieces → ℕ → ℕ → List ℕ → List HVal → Type 0

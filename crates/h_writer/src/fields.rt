@@ -4,7 +4,7 @@ ghost use Rattle.h_terms.specs.H.{HTuple, HVal};
 ghost use Rattle.h_terms.specs.Nodes.{tied, tupled};
 ghost use Rattle.page_text.specs.Names.{separator};
 ghost use Rattle.pieces.specs.Pieces.{Keeps, Stands};
-ghost use Rattle.h_writer.specs.Text.{value_text};
+ghost use Rattle.h_writer.specs.Notation.{value_text};
 ghost use Rattle.h_writer.specs.Values.{Stand};
 
 use idx_core::OutOfMemory;

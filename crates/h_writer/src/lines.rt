@@ -2,7 +2,7 @@
 ghost use Rattle.std.specs.Prelude.{◌≡◌, ◌≤◌, ◌<◌, [], ◌++◌, length, OnOk};
 ghost use Rattle.h_terms.specs.Row.{others, top};
 ghost use Rattle.h_terms.specs.declared.node.HForm.TheVariants.{Arith, Proj, Set, Unpack};
-ghost use Rattle.h_writer.specs.Text.{let_text};
+ghost use Rattle.h_writer.specs.Notation.{let_text};
 ghost use Rattle.h_writer.specs.Values.{call_line, form_line, joined_text, texts_of};
 ghost use Rattle.h_writer.specs.Scopes.{least};
 ghost use Rattle.c_terms.specs.Read.{ctys};

@@ -6,7 +6,7 @@ ghost use Rattle.h_terms.specs.H.{HVal};
 ghost use Rattle.h_terms.specs.Nodes.{at_last, more, reads};
 ghost use Rattle.page_text.specs.Names.{number, value_name};
 ghost use Rattle.pieces.specs.Pieces.{text_at, Keeps, Stands};
-ghost use Rattle.h_writer.specs.Text.{applied_text, value_text};
+ghost use Rattle.h_writer.specs.Notation.{applied_text, value_text};
 ghost use Rattle.h_writer.specs.Values.{Stand, texts_of};
 
 use crate::fields::put_tuple;

@@ -3,7 +3,7 @@ ghost use Rattle.std.specs.Prelude.{◌≡◌, ◌++◌, IfOk, OnOk};
 ghost use Rattle.c_terms.specs.Read.{ctys};
 ghost use Rattle.h_terms.specs.Nodes.{h_block, h_blocks, HRow, HRows};
 ghost use Rattle.h_terms.specs.Program.{blocks_in, main_in};
-ghost use Rattle.h_writer.specs.Text.{args_text, block_text, blocks_text, h_text, head_text};
+ghost use Rattle.h_writer.specs.Notation.{args_text, block_text, blocks_text, h_text, head_text};
 
 use crate::terms::write_term;
 use c_terms::CType;

@@ -3,7 +3,7 @@ ghost use Rattle.std.specs.Prelude.{◌≡◌, ◌+◌, ◌<◌, ◌∷◌, ◌+
 ghost use Rattle.std.specs.Prelude.{reverse, true, false};
 ghost use Rattle.h_terms.specs.Nodes.{h_build, h_kids, h_tree, values, HArity, HRow};
 ghost use Rattle.h_terms.specs.H.{HTm};
-ghost use Rattle.h_writer.specs.Text.{term_text};
+ghost use Rattle.h_writer.specs.Notation.{term_text};
 ghost use Rattle.h_writer.specs.Scopes.{behind, below, branch, node_text, opening, terms_text};
 
 use crate::lines::write_form;

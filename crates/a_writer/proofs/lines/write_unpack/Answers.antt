@@ -2,7 +2,7 @@ use Rattle.std.proofs.Common.{◌≡◌, ℕ, List, ◌++◌, codes, append_asso
 use Rattle.page_text.specs.Names.{type_name, value_name}
 use Rattle.a_terms.specs.NodeTrees.{a_values, no_value}
 use Rattle.a_terms.specs.Row.{top}
-use Rattle.a_writer.specs.Text.{value_text}
+use Rattle.a_writer.specs.Notation.{value_text}
 use Rattle.a_writer.proofs.lines.write_unpack.Goals as goal
 
 six_parts : (a b c d e f t0 t1 t2 t3 t4 t5 t6 : List ℕ) → t1 ≡ t0 ++ a → t2 ≡ t1 ++ b → t3 ≡ t2 ++ c → t4 ≡ t3 ++ d →

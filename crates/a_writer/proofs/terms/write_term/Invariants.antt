@@ -1,6 +1,6 @@
 use Rattle.std.proofs.Common.{◌++◌}
 use Rattle.a_terms.specs.NodeTrees.{a_tree}
-use Rattle.a_writer.specs.Text.{term_text}
+use Rattle.a_writer.specs.Notation.{term_text}
 use Rattle.a_writer.proofs.ScopeTexts.{Writing}
 use Rattle.a_writer.proofs.terms.write_term.Given as goal
 

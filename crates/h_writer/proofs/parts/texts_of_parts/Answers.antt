@@ -2,7 +2,7 @@ use Rattle.std.proofs.Common.{[], map, take, ap, ◌∙◌, subst}
 use Rattle.std.proofs.lemmas.List.{take_all}
 use Rattle.pieces.specs.Pieces.{text_at}
 use Rattle.h_terms.specs.Nodes.{reads}
-use Rattle.h_writer.specs.Text.{value_text}
+use Rattle.h_writer.specs.Notation.{value_text}
 use Rattle.h_writer.specs.Values.{Stand}
 use Rattle.h_writer.proofs.Standing.{reads_more, stand_texts}
 use Rattle.h_writer.proofs.parts.texts_of_parts.Goals as goal

@@ -1,6 +1,6 @@
 use Rattle.std.proofs.Common.{[], map, ap, ◌∙◌, arith}
 use Rattle.h_terms.specs.Nodes.{reads, values}
-use Rattle.h_writer.specs.Text.{value_text}
+use Rattle.h_writer.specs.Notation.{value_text}
 use Rattle.h_writer.specs.Values.{texts_of}
 use Rattle.h_writer.proofs.FormTexts.{node_done, texts_count}
 use Rattle.h_writer.proofs.ScopeTexts.{least_there}

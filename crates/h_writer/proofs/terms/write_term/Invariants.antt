@@ -1,6 +1,6 @@
 use Rattle.std.proofs.Common.{◌++◌}
 use Rattle.h_terms.specs.Nodes.{h_tree}
-use Rattle.h_writer.specs.Text.{term_text}
+use Rattle.h_writer.specs.Notation.{term_text}
 use Rattle.h_writer.proofs.ScopeTexts.{Writing}
 use Rattle.h_writer.proofs.terms.write_term.Given as goal
 

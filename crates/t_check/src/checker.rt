@@ -14,6 +14,8 @@ use crate::checked::Checked;
 use crate::labels::Labels;
 use crate::program::check_program;
 use crate::registers::Registers;
+use crate::salt::salt_of;
+use idx_core::Salt;
 use std::alloc::Global;
 use t_rules::{at_most_one_fault, no_fault_where_accepted};
 use t_terms::{TFault, TProgram};
@@ -29,8 +31,25 @@ pub(crate) struct Checker<'a> {
 }
 
 /// The program, where the typing rules accept it; else its first fault in checking order, with the program handed back:
-/// T20, then those of the data (T17, T15, T13), then those of the blocks (T08 to T19).
+/// T20, then those of the data (T17, T15, T13), then those of the blocks (T08 to T19). The hashers of its types read the
+/// program first, so that no types whose hashes collide can be searched out for it.
 pub fn check(alloc: Global, program: TProgram) -> Result<Checked, (TProgram, TFault)>
+    ensures right { IsVerdict program result }
+    ensures accepted { Accepted (program_of program) → AcceptsOrWants result }
+    ensures refused { (code : codes.TCode) (span : places.Span) → ProgramFault (spanned_program program) code span →
+        RefusesOrWants code span result }
+{
+    let salt = salt_of(&program);
+    check_salted(alloc, program, salt)
+}
+
+/// The same, where the caller has what these hashers are to read first: what hangs on all of a text that the program
+/// was read from does as well, and is read in less time.
+pub fn check_salted(
+    alloc: Global,
+    program: TProgram,
+    salt: Salt,
+) -> Result<Checked, (TProgram, TFault)>
     ensures right { IsVerdict program result }
     ensures accepted { Accepted (program_of program) → AcceptsOrWants result }
     ensures refused { (code : codes.TCode) (span : places.Span) → ProgramFault (spanned_program program) code span →
@@ -38,7 +57,7 @@ pub fn check(alloc: Global, program: TProgram) -> Result<Checked, (TProgram, TFa
 {
     no_fault_where_accepted();
     at_most_one_fault();
-    match check_program(alloc, &program) {
+    match check_program(alloc, &program, salt) {
         Ok(()) => Ok(Checked { program }),
         Err(e) => Err((program, e)),
     }

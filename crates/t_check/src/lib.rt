@@ -17,5 +17,5 @@ mod values;
 mod walk;
 
 pub use checked::Checked;
-pub use checker::{check, seal};
+pub use checker::{check, check_salted, seal};
 pub use walk::{Walk, types_at};

@@ -15,22 +15,21 @@ use crate::checker::Checker;
 use crate::labels::Labels;
 use crate::parts::{code_parts, refused};
 use crate::registers::Registers;
-use crate::salt::salt_of;
-use idx_core::{OutOfMemory, Span};
+use idx_core::{OutOfMemory, Salt, Span};
 use std::alloc::Global;
 use t_intern::Types;
 use t_terms::{Block, Data, TCode, TFault, TProgram, Value};
 use t_types::TType;
 
 // The first block takes nothing, and then each data tuple and each block.
-pub(crate) fn check_program(alloc: Global, program: &TProgram) -> Result<(), TFault>
+pub(crate) fn check_program(alloc: Global, program: &TProgram, salt: Salt) -> Result<(), TFault>
     ensures { IsProgram (spanned_program program.now) result }
 {
     let first = &program.blocks[0];
     if !takes_nothing(first) {
         return refused(TCode::T20, first.name);
     }
-    let mut types = Types::salted(alloc, salt_of(program));
+    let mut types = Types::salted(alloc, salt);
     let labels = Labels::of_program(alloc, &mut types, program)?;
     check_heap(alloc, &mut types, program, &labels, &program.heap)?;
     check_blocks(alloc, &mut types, program, &labels, &program.blocks)

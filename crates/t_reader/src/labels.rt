@@ -44,9 +44,9 @@ impl<'a> Labels<'a> {
     }
 }
 
-// The whole text, for the hashers of its labels and names. They begin with one word that hangs on all of it, so that a
-// key is then read word by word.
-fn salt_of(text: &[u8]) -> Salt {
+/// The whole text, for the hashers of its labels and names, and of what else is made of it. They begin with one word
+/// that hangs on all of it, so that a key is then read word by word (own choice).
+pub fn salt_of(text: &[u8]) -> Salt {
     let mut whole = DefaultHasher::new();
     whole.write(text);
     let mut read = DefaultHasher::new();

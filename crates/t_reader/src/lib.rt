@@ -9,4 +9,5 @@ mod scope;
 mod target;
 mod types;
 
+pub use labels::salt_of;
 pub use reader::read;

@@ -1,7 +1,7 @@
 use Rattle.std.proofs.Common.{refl}
 use Rattle.t_terms.specs.ReadProgram.{spanned_program}
 use Rattle.t_check.proofs.Exact.{no_fault, same_fault}
-use Rattle.t_check.proofs.checker.check.Goals as goal
+use Rattle.t_check.proofs.checker.check_salted.Goals as goal
 
 pub invariant_of-result : goal.invariant_of-result
 invariant_of-result c = record { accepted = ∣ c.in-Ok.ensures ∣₁ }

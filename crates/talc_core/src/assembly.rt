@@ -3,14 +3,14 @@ ghost use Rattle.talc_core.specs.Steps.{ChecksAssembly};
 
 use crate::refusal::Refusal;
 use std::alloc::Global;
-use t_check::{Checked, check};
-use t_reader::read;
+use t_check::{Checked, check_salted};
+use t_reader::{read, salt_of};
 
 // The program of the text, accepted.
 pub(crate) fn check_assembly(alloc: Global, text: &[u8]) -> Result<Checked, Refusal>
     ensures { ChecksAssembly text.now result }
 {
     let program = read(alloc, text)?;
-    let checked = check(alloc, program)?;
+    let checked = check_salted(alloc, program, salt_of(text))?;
     Ok(checked)
 }

@@ -1,5 +1,5 @@
 // Tuples, of the pieces of their fields.
-ghost use Rattle.std.specs.Prelude.{◌≡◌, ◌++◌, ℕ, List, IfOk, OnOk};
+ghost use Rattle.std.specs.Prelude.{◌++◌, ℕ, List, IfOk, OnOk};
 ghost use Rattle.h_terms.specs.H.{HTuple, HVal};
 ghost use Rattle.h_terms.specs.Nodes.{tied, tupled};
 ghost use Rattle.page_text.specs.Names.{separator};

@@ -1,0 +1,4 @@
+pub mod Standing
+pub mod FormTexts
+pub mod ScopeTexts
+pub mod ProgramTexts

@@ -1,1 +1,6 @@
 pub mod Listed
+pub mod Pages
+mod Rows
+pub mod Stepping
+pub mod Turns
+pub mod Walking

@@ -1,1 +1,4 @@
+pub mod Notation
+pub mod Standing
 pub mod Types
+pub mod Walk

@@ -1,11 +1,11 @@
 -- The notation of the types of closed programs, as bytes. A type inside n type names names its variable i as the type
 -- name with n - 1 - i others around it.
 use Rattle.std.specs.Prelude.{◌≡◌, ◌≤◌, ◌^◌, ℕ, suc, ◌+◌, ◌-◌, ◌==◌, ◌&&◌, ◌||◌, not, List, [], ◌++◌, Option}
-use Rattle.std.specs.Prelude.{Some, None, Bool, true, false, if◌then◌else◌, codes}
+use Rattle.std.specs.Prelude.{Some, None, Bool, false, if◌then◌else◌, codes}
 use Rattle.page_text.specs.Names.{separator, type_name, type_names}
 use Rattle.c_terms.specs.C.{CTy, TCInt, TCVar, TCTuple, TCCode, TCSome, TCRef, CTys, NoCTys, MoreCTys}
 
--- a variable by its number, which no word holds where there is none
+-- the variable of a number, or, with none, any whose number no word holds
 abbrev pub IsVariable : Option ℕ → ℕ → Type 0
 IsVariable None v = 2 ^ 64 ≤ v
 IsVariable (Some d) v = v ≡ d
@@ -37,7 +37,8 @@ abbrev pub only_first : ℕ → CTys → Bool
 only_first v NoCTys = false
 only_first v (MoreCTys t ts) = is_variable v t && not (one_names_variable v ts)
 
--- whether a type is that of a code whose first argument is of the type variable 0 outside, which no other one names
+-- whether a type is that of a code whose first argument is the variable that is 0 outside of it, and no other argument
+-- names that
 abbrev pub takes_hidden : CTy → Bool
 takes_hidden TCInt = false
 takes_hidden (TCVar i) = false
@@ -82,7 +83,7 @@ abbrev mutual
   types_after before n NoCTys = []
   types_after before n (MoreCTys t ts) = separator before ++ type_text n t ++ types_after (suc before) n ts
 
-  -- of what `some` stands before in the type of a closure, inside the name of what is hidden too
+  -- the text of a closure, of what stands behind `some`, inside the name of what is hidden too
   pub closure_text : ℕ → CTy → List ℕ
   closure_text n TCInt = []
   closure_text n (TCVar i) = []
@@ -104,6 +105,7 @@ abbrev mutual
   closure_code n (TCSome t) = []
   closure_code n (TCRef t) = []
 
+  -- all but the first
   pub others_text : ℕ → CTys → List ℕ
   others_text n NoCTys = []
   others_text n (MoreCTys t ts) = types_after 0 n ts

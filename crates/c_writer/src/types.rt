@@ -6,19 +6,10 @@ ghost use Rattle.c_writer.specs.Types.{type_text, types_text, types_after, closu
 ghost use Rattle.c_writer.specs.Types.{closure_code};
 
 use crate::closures::is_closure;
+use crate::depths::deeper;
 use c_terms::CType;
 use idx_core::OutOfMemory;
 use page_text::{write_separator, write_type_name, write_type_names};
-
-// So many binders deeper. More than a word counts no memory holds.
-fn deeper(depth: u64, by: u64) -> Result<u64, OutOfMemory>
-    ensures { IfOk result (λ inner. inner ≡ depth + by) }
-{
-    match depth.checked_add(by) {
-        Some(inner) => Ok(inner),
-        None => Err(OutOfMemory),
-    }
-}
 
 // What a code or a closure begins with, up to its arguments, and how many type names are around these.
 fn write_owed(text: &mut Vec<u8>, word: &[u8], depth: u64, owes: u64) -> Result<u64, OutOfMemory>
@@ -43,8 +34,8 @@ fn write_some(text: &mut Vec<u8>, depth: u64) -> Result<(), OutOfMemory>
 }
 
 /// Puts a type inside `depth` type names at the end of a text. `some b. <code[as](b, ts), b>`, where `ts` don't name
-/// `b`, is written `closure[as](ts)`. An error is want of memory; more type names around a place than a word counts are
-/// more than memory holds.
+/// `b`, is written `closure[as](ts)` (own choice). It takes time by the size of the type and by how deep packages nest
+/// in it. An error is want of memory; more type names around a place than a word counts are more than memory holds.
 #[cycle(types)]
 pub fn write_type(text: &mut Vec<u8>, t: &CType, depth: u64) -> Result<(), OutOfMemory>
     ensures { OnOk result (text.new.items ≡ text.old.items ++ type_text depth (ctree t.now)) }

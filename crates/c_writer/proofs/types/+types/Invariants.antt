@@ -6,4 +6,5 @@ use Rattle.c_writer.proofs.types.+types.Given as goal
 -- the text so far, with what is left, is the whole
 abbrev pub invariant-write_from-loop-i : goal.invariant-write_from-loop-i
 invariant-write_from-loop-i l =
-    l.text.items ++ types_after (l.i - l.from) l.depth (ctys (drop l.i l.ts)) ≡ l.initial.text.items ++ types_after 0 l.depth (ctys (drop l.from l.ts))
+    l.text.items ++ types_after (l.i - l.from) l.depth (ctys (drop l.i l.ts)) ≡ l.initial.text.items
+    ++ types_after 0 l.depth (ctys (drop l.from l.ts))

@@ -1,0 +1,4 @@
+pub mod Fine
+pub mod Lines
+pub mod Notation
+pub mod State

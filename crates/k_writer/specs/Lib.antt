@@ -1,4 +1,4 @@
 pub mod Fine
-pub mod Lines
+pub mod Moves
 pub mod Notation
 pub mod State

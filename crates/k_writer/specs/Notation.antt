@@ -1,7 +1,7 @@
--- The notation of converted programs (own choice), as bytes. What stands inside n type names and m value names names
--- the type variable i after the n - 1 - i around its binder, and the value variable i likewise; k is how far lines are
--- indented.
-use Rattle.std.specs.Prelude.{ℕ, suc, ◌+◌, ◌-◌, List, [], ◌++◌, Bool, true, false, codes, decimal}
+-- The notation of converted programs (own choice), as bytes. Inside n type names and m value names the type variable i
+-- is the one whose binder has n - 1 - i type names around it, and the value variable i that whose binder has m - 1 - i
+-- value names around it; k is how far lines are indented.
+use Rattle.std.specs.Prelude.{ℕ, ◌+◌, ◌-◌, List, [], ◌++◌, codes, decimal}
 use Rattle.term_core.specs.Ends.{after_one}
 use Rattle.k_terms.specs.K.{KTy, KTys, TKInt, TKVar, TKTuple, TKCode, TKSome, TKRef, NoKTys, MoreKTys, KVal, KVar, KInt}
 use Rattle.k_terms.specs.K.{KTuple, KCode, KVals, NoKVals, MoreKVals, KDecl, KName, KProj, KArith, KPack, KUnpack}

@@ -1,5 +1,6 @@
 -- Texts by those before them.
-use Rattle.std.proofs.Common.{◌≡◌, ◌<◌, ℕ, zero, suc, ◌+◌, List, [], ◌∷◌, ◌++◌, length, get_or, take, refl, ap, ◌∙◌, sym, arith}
+use Rattle.std.proofs.Common.{◌≡◌, ◌<◌, ℕ, zero, suc, ◌+◌, List, [], ◌∷◌, ◌++◌, length, get_or, take, refl, ap, ◌∙◌}
+use Rattle.std.proofs.Common.{sym, arith}
 use Rattle.std.proofs.lemmas.List.{append_assoc, length-append, append-nil}
 use Rattle.std.proofs.Math.Seq.{get_or-append_seam, take-append_seam}
 use Rattle.pieces.specs.Texts.{grown}
@@ -30,7 +31,8 @@ seam : {T : Type 0} (make : List T → Piece → T) (made : List T) (q : Piece) 
 seam make made q d n all more e a =
     let at : get_or (made ++ (make made q ∷ more)) (length made) d ≡ make made q =
     get_or-append_seam made (make made q) more d in
-    let front : take (length made) (made ++ (make made q ∷ more)) ≡ made = take-append_seam made (make made q ∷ more) in
+    let front : take (length made) (made ++ (make made q ∷ more)) ≡ made = take-append_seam made (make made q ∷ more)
+    in
     rw (e, a) (at ∙ ap (λ m. make m q) (sym front))
 
 -- what is made of a piece, by what was made of those before it

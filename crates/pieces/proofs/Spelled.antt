@@ -1,5 +1,6 @@
 -- Walks over pieces.
-use Rattle.std.proofs.Common.{◌≡◌, ◌<◌, ◌≤◌, ℕ, ◌+◌, List, [], ◌∷◌, ◌++◌, length, get_or, take, ap, ap₂, ◌∙◌, sym, arith, inl, inr, ◌⊎◌}
+use Rattle.std.proofs.Common.{◌≡◌, ◌<◌, ◌≤◌, ℕ, ◌+◌, List, [], ◌∷◌, ◌++◌, length, get_or, take, ap, ap₂, ◌∙◌, sym}
+use Rattle.std.proofs.Common.{arith, inl, inr, ◌⊎◌}
 use Rattle.std.proofs.lemmas.Bool.{cases_lt}
 use Rattle.std.proofs.lemmas.Bool.Decides.{nat_tests}
 use Rattle.std.proofs.lemmas.List.{append_assoc, append-nil, get_or-take, get_or_past, length-take}
@@ -59,7 +60,8 @@ pair_spelled ps d p number first second old some new lt at is s n =
     ∙ spelled_append ts some (part_before first number)
     ∙ ap (λ (w : List ℕ). spelled ts (part_before first number) ++ w)
     (ap (spelled ts) s ∙ spelled_append ts old (part_before second number))
-    ∙ ap₂ (λ (v w : List ℕ). v ++ (w ++ spelled ts old)) (part_spelled ts first number) (part_spelled ts second number)
+    ∙ ap₂ (λ (v w : List ℕ). v ++ (w ++ spelled ts old)) (part_spelled ts first number) (part_spelled ts second
+    number)
     ∙ sym (append_assoc (get_or (take number ts) first []) (get_or (take number ts) second []) (spelled ts old))
     ∙ ap (λ (w : List ℕ). w ++ spelled ts old) (sym whole)
 

@@ -16,7 +16,12 @@ pub kept : (p q : Pieces) (x : Piece) → q.pieces.items ≡ p.pieces.items ++ x
 kept p q x e i s h =
     let m = more p.pieces.items q.pieces.items x e in
     record {
-      inside = let a = h.inside in omega (arith, a, ap length m, length-append (texts_of p) (text_in (texts_of p) x ∷ []));
+      inside = let a = h.inside in omega (
+        arith,
+        a,
+        ap length m,
+        length-append (texts_of p) (text_in (texts_of p) x ∷ []),
+      );
       is = ap (λ (ts : List (List ℕ)). get_or ts i []) m
           ∙ get_or_append_left (texts_of p) (text_in (texts_of p) x ∷ []) [] i h.inside ∙ h.is;
     }

@@ -1,0 +1,13 @@
+use Rattle.std.proofs.Common.{arith}
+use Rattle.k_terms.specs.Read.{ktys}
+use Rattle.k_writer.specs.State.{inside}
+use Rattle.k_writer.proofs.Nesting.{scope_is, kcount_length}
+use Rattle.k_writer.proofs.writer.inside.Goals as goal
+
+pub returns : goal.returns
+returns c =
+    let own = c.in_ok-own.ensures in
+    let names = c.in_ok-names.ensures in
+    let count = kcount_length c.args.args.now in
+    scope_is _ (inside c.args.scope c.args.owes (ktys c.args.args.now)) c.in_ok-types.ensures
+    (omega (arith, own, names, count)) c.in_ok-indent.ensures

@@ -9,8 +9,8 @@ use Rattle.h_pass.specs.Hoist.{blocks_of, main_of}
 use Rattle.a_law.specs.Allocate.{alloc_prog, alloc_main}
 use Rattle.k_writer.specs.Notation.{k_text}
 use Rattle.c_writer.specs.Notation.{c_text}
-use Rattle.h_writer.specs.Notation.{h_text}
-use Rattle.a_writer.specs.Notation.{a_text}
+use Rattle.h_writer.specs.Text.{h_text}
+use Rattle.a_writer.specs.Text.{a_text}
 use Rattle.t_terms.specs.Tree.{TProg}
 use Rattle.pipeline.specs.Compilation.{IsTranslation}
 use Rattle.pipeline.specs.Made.{IsMade, compiled_program}

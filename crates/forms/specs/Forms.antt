@@ -10,10 +10,10 @@ use Rattle.c_terms.specs.C.{CTm}
 use Rattle.c_law.specs.Close.{close_of}
 use Rattle.c_writer.specs.Notation.{c_text}
 use Rattle.h_pass.specs.Hoist.{blocks_of, main_of}
-use Rattle.h_writer.specs.Notation.{h_text}
+use Rattle.h_writer.specs.Text.{h_text}
 use Rattle.a_terms.specs.Tree.{AProg, ATm}
 use Rattle.a_law.specs.Allocate.{alloc_prog, alloc_main}
-use Rattle.a_writer.specs.Notation.{a_text}
+use Rattle.a_writer.specs.Text.{a_text}
 use Rattle.t_terms.specs.Tree.{TProg}
 use Rattle.t_writer.specs.Lexeme.{render}
 use Rattle.t_writer.specs.Written.{second_written}

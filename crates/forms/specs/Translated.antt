@@ -7,8 +7,8 @@ use Rattle.f_terms.specs.Typing.{IsProgram}
 use Rattle.f_writer.specs.Notation.{term_text}
 use Rattle.k_writer.specs.Notation.{k_text}
 use Rattle.c_writer.specs.Notation.{c_text}
-use Rattle.h_writer.specs.Notation.{h_text}
-use Rattle.a_writer.specs.Notation.{a_text}
+use Rattle.h_writer.specs.Text.{h_text}
+use Rattle.a_writer.specs.Text.{a_text}
 use Rattle.t_terms.specs.Tree.{TProg}
 use Rattle.pipeline.specs.Compilation.{IsTranslation}
 use Rattle.pipeline.specs.Made.{IsMade}

@@ -1,9 +1,8 @@
 -- Programs by their parts, and what loops write item by item.
-use Rattle.std.proofs.Common.{◌≡◌, ◌≤◌, ◌<◌, ℕ, suc, ◌+◌, List, [], ◌∷◌, ◌++◌, length, drop, get_or, refl, sym, subst}
+use Rattle.std.proofs.Common.{◌≡◌, ◌≤◌, ◌<◌, ℕ, suc, List, [], ◌∷◌, ◌++◌, length, refl, sym}
 use Rattle.std.proofs.Common.{◌∙◌, ap, append_assoc, codes, arith}
 use Rattle.page_text.specs.Names.{separator, value_name}
 use Rattle.page_text.proofs.Listed.{Left, left_none, listed}
-use Rattle.a_terms.specs.Arity.{ARow, ARows}
 use Rattle.a_terms.specs.NodeTrees.{a_block, a_blocks, a_consts, a_data, a_tree}
 use Rattle.a_terms.specs.Read.{atree, atrees}
 use Rattle.a_terms.specs.Tree.{ABlk, AConsts, ATm, arity}
@@ -23,7 +22,8 @@ args_listed i n [] = refl
 args_listed i n (x ∷ xs) = rw (args_listed (suc i) n xs) (simp append_assoc)
 
 pub args_done : (n : ℕ) (xs : List AType) (old new : List ℕ) (i : ℕ) →
-    Left (arg_item n) new i i xs (old ++ listed (arg_item n) 0 xs) → length xs ≤ i → new ≡ old ++ args_text 0 n (atrees xs)
+    Left (arg_item n) new i i xs (old ++ listed (arg_item n) 0 xs) → length xs ≤ i →
+    new ≡ old ++ args_text 0 n (atrees xs)
 args_done n xs old new i h le =
     left_none (arg_item n) new i i xs _ h le ∙ ap (λ (s : List ℕ). old ++ s) (sym (args_listed 0 n xs))
 
@@ -60,7 +60,8 @@ tuples_listed d [] = refl
 tuples_listed d (x ∷ xs) = ap (λ (s : List ℕ). tuple_item d x ++ s) (tuples_listed (suc d) xs)
 
 pub blocks_done : (xs : List ABlock) (old new : List ℕ) (i : ℕ) →
-    Left block_item new i i xs (old ++ listed block_item 0 xs) → length xs ≤ i → new ≡ old ++ blocks_text 0 (a_blocks xs)
+    Left block_item new i i xs (old ++ listed block_item 0 xs) → length xs ≤ i →
+    new ≡ old ++ blocks_text 0 (a_blocks xs)
 blocks_done xs old new i h le =
     left_none block_item new i i xs _ h le ∙ ap (λ (s : List ℕ). old ++ s) (sym (blocks_listed 0 xs))
 

@@ -1,10 +1,10 @@
 -- Worked texts of types and programs.
-use Rattle.std.proofs.Common.{◌≡◌, [], ◌∷◌, pos, negsuc, codes, refl}
+use Rattle.std.proofs.Common.{◌≡◌, [], ◌∷◌, ◌++◌, pos, negsuc, codes, refl}
 use Rattle.std.specs.Prelude.{true, false}
 use Rattle.std.specs.Fmt.{digits}
 use Rattle.idx_core.specs.declared.arith.Op.TheVariants.{Mul}
-use Rattle.a_terms.specs.Tree.{ATy, AInt, AVar, ATuple, ACode, AExists, NoATys, MoreATys, NoAFields, MoreAFields, Var, Num}
-use Rattle.a_terms.specs.Tree.{Lab, Data, Apply, Pack, Value, Proj, Arith, Unpack, Malloc, Init, ATm, Let, Call, If0}
+use Rattle.a_terms.specs.Tree.{ATy, AInt, AVar, ATuple, ACode, AExists, NoATys, MoreATys, NoAFields, MoreAFields, Var}
+use Rattle.a_terms.specs.Tree.{Num, Lab, Data, Apply, Pack, Value, Proj, Arith, Unpack, Malloc, Init, ATm, Let, Call, If0}
 use Rattle.a_terms.specs.Tree.{Halt, AProg}
 use Rattle.a_writer.specs.Types.{type_text}
 use Rattle.a_writer.specs.Text.{a_text}
@@ -12,14 +12,15 @@ use Rattle.a_writer.specs.Text.{a_text}
 -- some b. <code[c](b, a, c), b>, inside a: the type of a closure
 abbrev closure : ATy
 closure = AExists (ATuple (MoreAFields
-    (ACode 1 (MoreATys (AVar 1) (MoreATys (AVar 2) (MoreATys (AVar 0) NoATys)))) true (MoreAFields (AVar 0) true NoAFields)))
+    (ACode 1 (MoreATys (AVar 1) (MoreATys (AVar 2) (MoreATys (AVar 0) NoATys)))) true
+    (MoreAFields (AVar 0) true NoAFields)))
 
 closure_is : type_text 1 closure ≡ codes "closure[c](a, c)"
 closure_is = refl
 
 -- the hidden type is named once more
-again : type_text 0
-    (AExists (ATuple (MoreAFields (ACode 0 (MoreATys (AVar 0) (MoreATys (AVar 0) NoATys))) true (MoreAFields (AVar 0) true NoAFields))))
+again : type_text 0 (AExists (ATuple (MoreAFields (ACode 0 (MoreATys (AVar 0) (MoreATys (AVar 0) NoATys))) true
+    (MoreAFields (AVar 0) true NoAFields))))
     ≡ codes "some a. <code[](a, a), a>"
 again = refl
 
@@ -45,6 +46,9 @@ program = record {
 }
 
 program_is : a_text program main ≡
-    codes "L0: code[a](x0: int, x1: some b. b).\n  let x2 = malloc[int]\n  let x3 = x2[1] <- -5\n  if0 x0 then\n    let [b, x4] = unpack x1\n    let x5 = #2 x4\n    halt x5\n  else\n    L0[int][](x0, pack [int, D0] as some b. b)\n\nD0: <7, L0>\nD1: <>\n\nmain:\n  let x0 = D0\n  let x1 = 2 * 3\n  halt x1\n"
+    codes "L0: code[a](x0: int, x1: some b. b).\n  let x2 = malloc[int]\n  let x3 = x2[1] <- -5\n  if0 x0 then\n"
+    ++ (codes "    let [b, x4] = unpack x1\n    let x5 = #2 x4\n    halt x5\n  else\n"
+    ++ (codes "    L0[int][](x0, pack [int, D0] as some b. b)\n\nD0: <7, L0>\nD1: <>\n\n"
+    ++ codes "main:\n  let x0 = D0\n  let x1 = 2 * 3\n  halt x1\n"))
 unfolding digits
 program_is = refl

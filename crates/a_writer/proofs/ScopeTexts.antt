@@ -1,6 +1,6 @@
 -- The texts of terms that are still to be written, node by node.
-use Rattle.std.proofs.Common.{◌≡◌, ◌≤◌, ◌<◌, ℕ, zero, suc, ◌+◌, ◌-◌, List, [], ◌∷◌, ◌++◌, length, drop, get_or, refl, sym}
-use Rattle.std.proofs.Common.{◌∙◌, ap, append_assoc, codes, arith, subst, reverse}
+use Rattle.std.proofs.Common.{◌≡◌, ◌≤◌, ◌<◌, ℕ, zero, suc, ◌+◌, ◌-◌, List, [], ◌∷◌, ◌++◌, length, drop, get_or, refl}
+use Rattle.std.proofs.Common.{sym, ◌∙◌, ap, append_assoc, codes, arith, subst, reverse}
 use Rattle.std.specs.Prelude.{true, false}
 use Rattle.std.proofs.lemmas.List.{append-nil, reverse-append, length-reverse, length-append}
 use Rattle.std.proofs.Math.ListN.{drop_of_length-le}
@@ -152,12 +152,14 @@ pub writing_start : (nodes : List ANode) (types names : ℕ) (none scopes : List
     ARow nodes 1 → none ≡ [] →
     scopes ≡ none ++ record { types = types; names = names; level = 1; second = false } ∷ [] →
     Writing nodes 0 scopes text (text ++ term_text types names 1 (a_tree nodes))
-writing_start nodes types names none scopes text row empty more =
-    let is : scopes ≡ record { types = types; names = names; level = 1; second = false } ∷ [] = rw empty at more in record {
-      row = subst (λ (ss : List Scope). ARow nodes (length ss)) (sym is) row;
-      written = ap (λ (ss : List Scope). text ++ terms_text (reverse ss) (a_onto nodes [])) is
-          ∙ ap (λ (s : List ℕ). text ++ s) (append-nil (term_text types names 1 (a_tree nodes)));
-    }
+writing_start nodes types names none scopes text row empty more = record {
+  row = subst (λ (ss : List Scope). ARow nodes (length ss)) (sym is) row;
+  written = ap (λ (ss : List Scope). text ++ terms_text (reverse ss) (a_onto nodes [])) is
+      ∙ ap (λ (s : List ℕ). text ++ s) (append-nil (term_text types names 1 (a_tree nodes)));
+}
+  where
+    is : scopes ≡ record { types = types; names = names; level = 1; second = false } ∷ []
+    is = rw empty at more
 
 module _ (nodes : List ANode) (i : ℕ) (scopes : List Scope) (text whole : List ℕ)
     (h : Writing nodes i scopes text whole) where

@@ -66,7 +66,8 @@ consts_listed i [] = refl
 consts_listed i (x ∷ xs) = rw (consts_listed (suc i) xs) (simp append_assoc)
 
 pub consts_done : (xs : List (AValue × AType)) (old new : List ℕ) (i k : ℕ) →
-    Left const_item new i k xs (old ++ listed const_item 0 xs) → length xs ≤ k → new ≡ old ++ consts_text 0 (a_consts xs)
+    Left const_item new i k xs (old ++ listed const_item 0 xs) → length xs ≤ k →
+    new ≡ old ++ consts_text 0 (a_consts xs)
 consts_done xs old new i k h le =
     left_none const_item new i k xs _ h le ∙ ap (λ (s : List ℕ). old ++ s) (sym (consts_listed 0 xs))
 

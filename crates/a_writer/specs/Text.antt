@@ -1,5 +1,6 @@
--- The notation of allocated programs. Inside m value names the next one is `x` and m, and the variable i is the one that
--- has i others between. A block is `L` and its label, a data tuple `D` and its number; both count from 0, fields from 1.
+-- The notation of allocated programs. Inside m value names the next one is `x` and m, and the variable i is the one
+-- that has i others between. A block is `L` and its label, a data tuple `D` and its number; both count from 0, fields
+-- from 1.
 use Rattle.std.specs.Prelude.{ℕ, suc, ◌+◌, ◌-◌, List, [], ◌∷◌, ◌++◌, codes, decimal}
 use Rattle.a_terms.specs.Tree.{AVal, Var, Num, Lab, Data, Apply, Pack, ADecl, Value, Proj, Arith, Unpack, Malloc}
 use Rattle.a_terms.specs.Tree.{Init, ATm, Let, Call, If0, Halt, ABlk, AConsts, AProg, ATys, NoATys, MoreATys}

@@ -1,7 +1,7 @@
 // Which types are those of closures.
-ghost use Rattle.std.specs.Prelude.{◌≡◌, ◌<◌, length, drop, IfOk};
+ghost use Rattle.std.specs.Prelude.{◌≡◌, drop, IfOk};
 ghost use Rattle.a_terms.specs.Read.{afields, atree, atrees};
-ghost use Rattle.a_writer.specs.Closures.{are_of_closure, is_first, is_hidden, is_of_closure, is_variable};
+ghost use Rattle.a_writer.specs.Closures.{are_of_closure, is_first, is_of_closure, is_variable};
 ghost use Rattle.a_writer.specs.Closures.{names_fields, names_type, names_types, takes_hidden};
 
 use a_terms::AType;

@@ -1,5 +1,5 @@
 -- The lines of nodes by the texts of their values.
-use Rattle.std.proofs.Common.{◌≡◌, ◌≤◌, ◌<◌, ℕ, suc, ◌+◌, List, [], ◌∷◌, ◌++◌, length, drop, get_or, map, refl, sym}
+use Rattle.std.proofs.Common.{◌≡◌, ◌≤◌, ◌<◌, ℕ, suc, List, [], ◌∷◌, ◌++◌, length, drop, get_or, map, refl, sym}
 use Rattle.std.proofs.Common.{Vec, Global, ◌∙◌, ap, append_assoc, codes, arith}
 use Rattle.h_terms.specs.H.{HVal}
 use Rattle.h_terms.specs.Nodes.{tied}

@@ -1,13 +1,13 @@
 -- Programs by their parts, and what loops write item by item.
-use Rattle.std.proofs.Common.{◌≡◌, ◌≤◌, ◌<◌, ℕ, suc, ◌+◌, List, [], ◌∷◌, ◌++◌, length, drop, get_or, refl, sym, subst}
-use Rattle.std.proofs.Common.{◌∙◌, ap, append_assoc, codes, arith}
+use Rattle.std.proofs.Common.{◌≡◌, ◌≤◌, ℕ, suc, List, [], ◌∷◌, ◌++◌, length, refl, sym}
+use Rattle.std.proofs.Common.{◌∙◌, ap, append_assoc, codes}
 use Rattle.page_text.specs.Names.{separator, value_name}
 use Rattle.page_text.proofs.Listed.{Left, left_none, listed}
 use Rattle.c_terms.specs.C.{ccount}
 use Rattle.c_terms.specs.Read.{ctree, ctys}
 use Rattle.c_terms.specs.declared.types.CType.{CType}
 use Rattle.c_writer.specs.Types.{type_text}
-use Rattle.h_terms.specs.Nodes.{h_block, h_blocks, h_tree, HRow, HRows}
+use Rattle.h_terms.specs.Nodes.{h_block, h_blocks, h_tree}
 use Rattle.h_terms.specs.declared.node.HBlock.{HBlock}
 use Rattle.h_terms.specs.declared.node.HNode.{HNode}
 use Rattle.h_writer.specs.Text.{args_text, block_text, blocks_text, head_text, term_text}
@@ -20,7 +20,8 @@ args_listed i n [] = refl
 args_listed i n (x ∷ xs) = rw (args_listed (suc i) n xs) (simp append_assoc)
 
 pub args_done : (n : ℕ) (xs : List CType) (old new : List ℕ) (i : ℕ) →
-    Left (arg_item n) new i i xs (old ++ listed (arg_item n) 0 xs) → length xs ≤ i → new ≡ old ++ args_text 0 n (ctys xs)
+    Left (arg_item n) new i i xs (old ++ listed (arg_item n) 0 xs) → length xs ≤ i →
+    new ≡ old ++ args_text 0 n (ctys xs)
 args_done n xs old new i h le =
     left_none (arg_item n) new i i xs _ h le ∙ ap (λ (s : List ℕ). old ++ s) (sym (args_listed 0 n xs))
 
@@ -50,6 +51,7 @@ blocks_listed l [] = refl
 blocks_listed l (x ∷ xs) = ap (λ (s : List ℕ). block_item l x ++ s) (blocks_listed (suc l) xs)
 
 pub blocks_done : (xs : List HBlock) (old new : List ℕ) (i : ℕ) →
-    Left block_item new i i xs (old ++ listed block_item 0 xs) → length xs ≤ i → new ≡ old ++ blocks_text 0 (h_blocks xs)
+    Left block_item new i i xs (old ++ listed block_item 0 xs) → length xs ≤ i →
+    new ≡ old ++ blocks_text 0 (h_blocks xs)
 blocks_done xs old new i h le =
     left_none block_item new i i xs _ h le ∙ ap (λ (s : List ℕ). old ++ s) (sym (blocks_listed 0 xs))

@@ -1,6 +1,8 @@
 -- Pieces that stand for values.
-use Rattle.std.proofs.Common.{◌≡◌, ◌≤◌, ◌<◌, ℕ, zero, suc, ◌+◌, ◌-◌, List, [], ◌∷◌, ◌++◌, length, drop, take, get_or, map}
-use Rattle.std.proofs.Common.{Vec, Global, refl, sym, ◌∙◌, ap, ap₂, append_assoc, codes, arith, subst, add-one}
+use Rattle.std.proofs.Common.{◌≡◌, ◌≤◌, ◌<◌, ℕ, zero, suc, ◌+◌, ◌-◌, List, [], ◌∷◌, ◌++◌, length, drop, take, get_or}
+use Rattle.std.proofs.Common.{map, Vec, Global, refl, sym, ◌∙◌, ap, ap₂, append_assoc, codes, arith, subst}
+use Rattle.std.proofs.Common.{add-one, Bool, true≢false}
+use Rattle.std.specs.Prelude.{◌==◌, true, false}
 use Rattle.std.proofs.lemmas.List.{append-nil, take_more}
 use Rattle.std.proofs.Math.ListN.{drop_of_length-le}
 use Rattle.pieces.specs.Pieces.{text_at, Keeps, Stands}
@@ -8,8 +10,8 @@ use Rattle.pieces.specs.declared.pieces.Pieces.{Pieces}
 use Rattle.c_terms.specs.C.{CTy}
 use Rattle.c_terms.specs.Read.{ctys}
 use Rattle.c_terms.specs.declared.types.CType.{CType}
-use Rattle.c_writer.specs.Types.{type_text}
-use Rattle.h_terms.specs.H.{HApply, HPack, HTuple, HVal, HVals}
+use Rattle.c_writer.specs.Types.{type_text, types_text}
+use Rattle.h_terms.specs.H.{HApply, HPack, HTuple, HVal}
 use Rattle.h_terms.specs.Nodes.{at_last, more, reads, tied, tupled}
 use Rattle.h_terms.specs.declared.node.HPart.{HPart}
 use Rattle.page_text.specs.Names.{separator}
@@ -107,14 +109,16 @@ wrap_done p q n m xs ys zs inner whole vs f before behind e k st more is h =
     let last = subst (λ t. Stands q whole t) (sym (is r.1)) (st (value_text n m r.1) r.4) in
     let all = stand_snoc q n m ys r.0 whole (f r.1) (stand_keeps p q n m ys r.0 k r.3) last in
     let same : at_last f vs ≡ r.0 ++ f r.1 ∷ [] = ap (at_last f) r.2 ∙ at_last_snoc f r.0 r.1 in
-    subst (λ us. Stand q n m us (at_last f vs)) (sym more) (subst (λ us. Stand q n m (ys ++ whole ∷ []) us) (sym same) all)
+    subst (λ us. Stand q n m us (at_last f vs)) (sym more)
+    (subst (λ us. Stand q n m (ys ++ whole ∷ []) us) (sym same) all)
 
 pub apply_text : (n m : ℕ) (v : HVal) (us ts : List CType) (before behind : List ℕ) → before ≡ [] →
     behind ≡ applied_text n (ctys us) → us ≡ ts →
     value_text n m (HApply v (ctys ts)) ≡ before ++ (value_text n m v ++ behind)
 apply_text n m v us ts before behind e f g =
     ap (λ (xs : List CType). value_text n m v ++ applied_text n (ctys xs)) (sym g)
-    ∙ ap (λ (s : List ℕ). value_text n m v ++ s) (sym f) ∙ ap (λ (s : List ℕ). s ++ (value_text n m v ++ behind)) (sym e)
+    ∙ ap (λ (s : List ℕ). value_text n m v ++ s) (sym f)
+    ∙ ap (λ (s : List ℕ). s ++ (value_text n m v ++ behind)) (sym e)
 
 regrouped : (a b c v d : List ℕ) → a ++ (b ++ (c ++ (v ++ d))) ≡ (a ++ (b ++ c)) ++ (v ++ d)
 regrouped a b c v d = simp append_assoc
@@ -176,8 +180,8 @@ joining_more p q r fields i piece x next is lt h k st = record {
       let item = separator i ++ value_text n m at.0 in
       let rest = listed (value_item n m) (suc i) (drop (suc i) vs) in
       let e : (l.0 ++ item) ++ rest ≡ codes "<" ++ listed (value_item n m) 0 vs =
-          append_assoc l.0 item rest
-          ∙ ap (λ (us : List HVal). l.0 ++ listed (value_item n m) i us) (sym at.1) ∙ l.2 in (
+      append_assoc l.0 item rest
+      ∙ ap (λ (us : List HVal). l.0 ++ listed (value_item n m) i us) (sym at.1) ∙ l.2 in (
         l.0 ++ item,
         st l.0 (value_text n m at.0) l.1 (h.keeps x (value_text n m at.0) at.2),
         subst (λ j. (l.0 ++ item) ++ listed (value_item n m) j (drop j vs) ≡ codes "<" ++ listed (value_item n m) 0 vs)
@@ -194,10 +198,10 @@ joining_end p q r s fields i piece close whole t le h is k last st n m vs all =
     let many = stand_length p n m fields vs all in
     let none = drop_of_length-le vs (subst (λ j. j ≤ i) many le) in
     let e : l.0 ≡ codes "<" ++ values_text 0 n m (tied vs) =
-        sym (append-nil l.0) ∙ ap (λ (us : List HVal). l.0 ++ listed (value_item n m) i us) (sym none) ∙ l.2
-        ∙ ap (λ (u : List ℕ). codes "<" ++ u) (sym (values_listed 0 n m vs)) in
+    sym (append-nil l.0) ∙ ap (λ (us : List HVal). l.0 ++ listed (value_item n m) i us) (sym none) ∙ l.2
+    ∙ ap (λ (u : List ℕ). codes "<" ++ u) (sym (values_listed 0 n m vs)) in
     let same : l.0 ++ t ≡ codes "<" ++ (values_text 0 n m (tied vs) ++ codes ">") =
-        ap₂ (λ (u w : List ℕ). u ++ w) e is ∙ append_assoc (codes "<") (values_text 0 n m (tied vs)) (codes ">") in
+    ap₂ (λ (u w : List ℕ). u ++ w) e is ∙ append_assoc (codes "<") (values_text 0 n m (tied vs)) (codes ">") in
     subst (λ u. Stands s whole u) same (st l.0 t (k piece l.0 l.1) last)
 
 -- one part more
@@ -228,3 +232,16 @@ pub spelled_more : (f : ℕ → List ℕ) (ts us : List (Vec ℕ Global)) (t : V
 spelled_more f ts us t xs i x is lt h e same =
     texts_snoc ts us t e ∙ ap₂ (λ ys s. ys ++ s ∷ []) h same ∙ sym (mapped f (take i xs) x)
     ∙ sym (ap (map f) (take_more xs i x lt ∙ ap (λ y. take i xs ++ y ∷ []) (sym is)))
+
+-- an item that is there, whatever stands for one that is not
+pub item : (xs : List ℕ) (i : ℕ) → i < length xs → get_or xs i 0 ≡ get_or xs i (get_or xs i 0)
+item [] i lt = absurd (omega (arith, lt))
+item (x ∷ xs) zero lt = refl
+item (x ∷ xs) (suc i) lt = item xs i (omega (arith, lt))
+
+pub applied_done : (n : ℕ) (us : List CType) (b : Bool) (t1 t2 t3 : List ℕ) → b ≡ (length us == 0) → b ≡ false →
+    t1 ≡ codes "[" → t2 ≡ t1 ++ types_text n (ctys us) → t3 ≡ t2 ++ codes "]" → t3 ≡ applied_text n (ctys us)
+applied_done n [] b t1 t2 t3 e f e1 e2 e3 = let clash : true ≡ false = sym e ∙ f in absurd (true≢false clash)
+applied_done n (u ∷ us) b t1 t2 t3 e f e1 e2 e3 =
+    e3 ∙ ap (λ (s : List ℕ). s ++ codes "]") (e2 ∙ ap (λ (s : List ℕ). s ++ types_text n (ctys (u ∷ us))) e1)
+    ∙ append_assoc (codes "[") (types_text n (ctys (u ∷ us))) (codes "]")

@@ -1,5 +1,5 @@
 // Tuples, of the pieces of their fields.
-ghost use Rattle.std.specs.Prelude.{◌≡◌, ◌++◌, ℕ, List, IfOk, OnOk};
+ghost use Rattle.std.specs.Prelude.{◌++◌, ℕ, List, IfOk, OnOk};
 ghost use Rattle.h_terms.specs.H.{HTuple, HVal};
 ghost use Rattle.h_terms.specs.Nodes.{tied, tupled};
 ghost use Rattle.page_text.specs.Names.{separator};
@@ -33,11 +33,7 @@ fn join_field(
 }
 
 // The piece of a tuple of these fields.
-fn join_fields(
-    alloc: Global,
-    pieces: &mut Pieces,
-    fields: &[u64],
-) -> Result<u64, OutOfMemory>
+fn join_fields(alloc: Global, pieces: &mut Pieces, fields: &[u64]) -> Result<u64, OutOfMemory>
     ensures keeps { OnOk result (Keeps pieces.old pieces.new) }
     ensures stands { IfOk result (λ whole. (n m : ℕ) (vs : List HVal) → Stand pieces.old n m fields.now vs →
         Stands pieces.new whole (value_text n m (HTuple (tied vs)))) }

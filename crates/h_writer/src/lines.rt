@@ -1,7 +1,7 @@
 // What a node says on its line, by the texts of its values.
 ghost use Rattle.std.specs.Prelude.{◌≡◌, ◌≤◌, ◌<◌, [], ◌++◌, length, OnOk};
 ghost use Rattle.h_terms.specs.Row.{others, top};
-ghost use Rattle.h_terms.specs.declared.node.HForm.TheVariants.{Arith, Call, Proj, Set, Unpack};
+ghost use Rattle.h_terms.specs.declared.node.HForm.TheVariants.{Arith, Proj, Set, Unpack};
 ghost use Rattle.h_writer.specs.Text.{let_text};
 ghost use Rattle.h_writer.specs.Values.{call_line, form_line, joined_text, texts_of};
 ghost use Rattle.h_writer.specs.Scopes.{least};
@@ -12,9 +12,7 @@ use c_terms::CType;
 use c_writer::write_types;
 use h_terms::HForm;
 use idx_core::{Op, OutOfMemory};
-use page_text::{
-    write_natural, write_op, write_separator, write_type_name, write_value_name,
-};
+use page_text::{write_natural, write_op, write_separator, write_type_name, write_value_name};
 
 // The first of some texts.
 fn write_first(text: &mut Vec<u8>, values: &[Vec<u8>]) -> Result<(), OutOfMemory>

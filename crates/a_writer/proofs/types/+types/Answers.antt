@@ -40,4 +40,5 @@ write_type-returns-in_ok-extend_from_slice-in-Code t c =
 
 pub write_types-returns : goal.write_types-returns
 write_types-returns t c =
-    types_done c.args.depth c.args.ts.now _ _ c.args.from _ c.loop-at.at c.loop-at.invariant.written c.loop-at-test.false
+    types_done c.args.depth c.args.ts.now _ _ c.args.from _ c.loop-at.at c.loop-at.invariant.written
+    c.loop-at-test.false

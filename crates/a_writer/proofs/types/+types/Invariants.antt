@@ -12,4 +12,5 @@ invariant-write_types-loop-at l = record {
 
 abbrev pub invariant-write_fields-loop-i : goal.invariant-write_fields-loop-i
 invariant-write_fields-loop-i l =
-    Left (field_item l.depth) l.text.items l.i l.i l.fields (l.initial.text.items ++ listed (field_item l.depth) 0 l.fields)
+    Left (field_item l.depth) l.text.items l.i l.i l.fields
+    (l.initial.text.items ++ listed (field_item l.depth) 0 l.fields)

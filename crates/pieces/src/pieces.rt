@@ -1,6 +1,6 @@
 // An arena of pieces, which only grows.
-ghost use Rattle.std.specs.Prelude.{◌≡◌, [], List, ℕ, slice_index_or, IfOk, OnOk, ◌++◌};
-ghost use Rattle.pieces.specs.Pieces.{text_at, Keeps, Stands};
+ghost use Rattle.std.specs.Prelude.{◌≡◌, [], List, ℕ, IfOk, OnOk, ◌++◌};
+ghost use Rattle.pieces.specs.Pieces.{text_at, texts_of, Keeps, Stands};
 
 use crate::piece::Piece;
 use crate::spelling::spell;
@@ -16,7 +16,9 @@ pub struct Pieces {
 
 impl Pieces {
     /// No pieces.
-    pub fn new(alloc: Global) -> Pieces {
+    pub fn new(alloc: Global) -> Pieces
+        ensures { texts_of result ≡ [] }
+    {
         Pieces {
             alloc,
             pieces: Vec::new(alloc),

@@ -1,0 +1,48 @@
+"""Showing: `talc show` on sources of up to 100000 nodes, the limit, in each of the six forms.
+
+For each shape and form: processor seconds less those of the text `7`, bytes of the text shown a node of the source, the
+time as a multiple of that of the half (wanted: at most 2.2), and as a multiple of that of `compile` (wanted: at most 1
+for the forms on the way to the assembly text). A text is shown as often as it takes to come to 0.05 seconds. A row that
+misses says so.
+"""
+from measure import Spent, best, folder, program, ratio
+from shapes import branches, called_lets, calls, cells, functions, lets, ones, opens
+
+SHAPES = [
+    ("a sum", ones),
+    ("nested calls of one function", calls),
+    ("choices in a row", branches),
+    ("functions in a row", functions),
+    ("lets in a row", lets),
+    ("calls in a row, each named", called_lets),
+    ("packages opened in a row", opens),
+    ("assignments in a row", cells),
+]
+FORMS = ["source", "cps", "closed", "hoisted", "allocated", "assembly"]
+NODES, MOST_TIMES, MOST_OF_COMPILING = 99000, 2.2, 1
+
+
+def main():
+    talc = program()
+    with folder() as place:
+        def written(name, text):
+            with open(f"{place}/{name}", "w") as file:
+                file.write(text)
+            return f"{place}/{name}"
+
+        seven = written("seven.f", "7")
+        for shape, source in SHAPES:
+            whole, half = written("whole.f", source(NODES)), written("half.f", source(NODES // 2))
+            base = best([talc, "compile", seven, f"{place}/7.tal"], times=20)
+            compiling = Spent([talc, "compile", whole, f"{place}/whole.tal"], base)
+            for form in FORMS:
+                base = best([talc, "show", seven, "--form", form], times=20)
+                runs = [Spent([talc, "show", name, "--form", form], base) for name in (whole, half)]
+                size = len(runs[0].run.text)
+                print(
+                    f"{shape}, {form}: {runs[0].seconds:.3f} s, {size / NODES:.1f} bytes a node, times the half: "
+                    f"{ratio(*runs, MOST_TIMES)}, times compiling: {ratio(runs[0], compiling, MOST_OF_COMPILING)}"
+                )
+
+
+main()

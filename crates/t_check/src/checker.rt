@@ -32,7 +32,7 @@ pub(crate) struct Checker<'a> {
 
 /// The program, where the typing rules accept it; else its first fault in checking order, with the program handed back:
 /// T20, then those of the data (T17, T15, T13), then those of the blocks (T08 to T19). The hashers of its types read the
-/// program first, so that no types whose hashes collide can be searched out for it.
+/// program first, so no types whose hashes collide can be searched out for it.
 pub fn check(alloc: Global, program: TProgram) -> Result<Checked, (TProgram, TFault)>
     ensures right { IsVerdict program result }
     ensures accepted { Accepted (program_of program) → AcceptsOrWants result }

@@ -15,8 +15,9 @@ use io_core::{Files, Sink};
 use std::alloc::Global;
 use words::Form;
 
-/// What `show` shows of a source text: its program in a form on the way to the assembly program (the passes of the paper
-/// of 1999 in turn), in that form's notation (own choice). Refuses a text by its first fault, or for want of memory.
+/// What `show` shows of a source text: its program in a form on the way to the assembly program (the passes of the
+/// paper of 1999 in turn), in that form's notation (own choice). Refuses a text by its first fault, or for want of
+/// memory.
 pub fn form_of_text(alloc: Global, source: &[u8], form: Form) -> Result<Reply, Refusal>
     ensures { ShowsText (ShowsForm form) AProgram source.now result }
 {

@@ -1,5 +1,5 @@
 -- What a command does where its work fails, from what the work does then and what is told.
-use Rattle.std.proofs.Common.{◌≡◌, ◌⊎◌, ℕ, List, Ok, Err, refl, inl, inr}
+use Rattle.std.proofs.Common.{◌≡◌, ◌⊎◌, ℕ, List, Ok, Err, refl, sym, subst, inl, inr}
 use Rattle.io_core.specs.Outside.{FilesState, SinkState}
 use Rattle.talc_core.specs.declared.reply.Ending.{Ending}
 use Rattle.talc_core.specs.declared.reply.Ending.TheVariants.{Ends, GoesOn}
@@ -99,7 +99,7 @@ module _ (f f' : FilesState) (o o' e e' : SinkState) where
 
   -- ---- the command `gen`
 
-  pub seed_ended : (seed : ℕ) (output : List ℕ) (ending : Ending) → ShowsSeed seed output f f' o o' (Ok ending) → SeedAnswer seed output (outside f o e) (outside f' o' e) (status_at ending)
+  seed_ended : (seed : ℕ) (output : List ℕ) (ending : Ending) → ShowsSeed seed output f f' o o' (Ok ending) → SeedAnswer seed output (outside f o e) (outside f' o' e) (status_at ending)
   seed_ended seed output Ends shown = record { lines = shown.0; says = shown.1; written = shown.2; out = shown.3; err = refl; unread = shown.4 }
   seed_ended seed output GoesOn shown = absurd shown
 
@@ -133,6 +133,16 @@ module _ (f f' : FilesState) (o o' e e' : SinkState) where
   seed_failed seed output failed.Memory WriteFault shown told = absurd told
   seed_failed seed output failed.Memory Memory shown told = record { line = told; out = shown.0; unread = shown.1; files = seed_files seed output shown.2 }
 
+  -- ---- where the work is done
+
+  line_ended : (Says : Showing) (need : Need) (input : List ℕ) (ending : Ending) → ShowsFile Says need input f f' o o' (Ok ending) → LineAnswer Says need input (outside f o e) (outside f' o' e) (status_at ending)
+  line_ended Says need input Ends shown = record { source = shown.0; line = shown.1; read = shown.2; says = shown.3; out = shown.4; err = refl; files = shown.5 }
+  line_ended Says need input GoesOn shown = record { source = shown.0; line = shown.1; read = shown.2; says = shown.3; out = shown.4; err = refl; files = shown.5 }
+
+  text_ended : (Makes : Making) (need : Need) (input output : List ℕ) → o' ≡ o → (ending : Ending) → MakesFile Makes need input output f f' (Ok ending) → TextAnswer Makes need input output (outside f o e) (outside f' o' e) (status_at ending)
+  text_ended Makes need input output same Ends shown = record { source = shown.0; target = shown.1; read = shown.2; made = shown.3; written = shown.4; out = same; err = refl }
+  text_ended Makes need input output same GoesOn shown = absurd shown
+
   -- ---- by the command
 
   pub does_failed : (asked : Asked) (failure : Failure) (status : Status) → Performs asked f f' o o' (Err failure) → Reports failure e e' status → Does (outside f o e) (outside f' o' e') status asked
@@ -147,3 +157,19 @@ module _ (f f' : FilesState) (o o' e e' : SinkState) where
   does_failed (Explains input) failure status done told = line_failed ShowsExplained AnyText input failure status done told
   does_failed (Generates seed output) failure status done told = seed_failed seed output failure status done told
   does_failed (Upgrades input output) failure status done told = text_failed IsUpgraded AnAssembly input output done.1 failure status done.0 told
+
+  does_at_end : (asked : Asked) (ending : Ending) → Performs asked f f' o o' (Ok ending) → Does (outside f o e) (outside f' o' e) (status_at ending) asked
+  does_at_end (Compiles input output) ending done = text_ended CompiledText AProgram input output done.1 ending done.0
+  does_at_end (CompilesWithin input output k) ending done = text_ended (CompiledTextWithin k) AProgram input output done.1 ending done.0
+  does_at_end (Types input) ending done = line_ended ShowsType AnyTerm input ending done
+  does_at_end (Evaluates input turns) ending done = line_ended (ShowsValue turns) CellFree input ending done
+  does_at_end (Checks input) ending done = line_ended ShowsAccepted AnAssembly input ending done
+  does_at_end (Runs input fuel) ending done = line_ended (ShowsRun fuel) AnAssembly input ending done
+  does_at_end (Traces input from to) ending done = line_ended (ShowsTrace from to) AnAssembly input ending done
+  does_at_end (Shows input form) ending done = line_ended (ShowsForm form) AProgram input ending done
+  does_at_end (Explains input) ending done = line_ended ShowsExplained AnyText input ending done
+  does_at_end (Generates seed output) ending done = seed_ended seed output ending done
+  does_at_end (Upgrades input output) ending done = text_ended IsUpgraded AnAssembly input output done.1 ending done.0
+
+  pub does_ended : (asked : Asked) (ending : Ending) (status : Status) → status ≡ status_at ending → Performs asked f f' o o' (Ok ending) → Does (outside f o e) (outside f' o' e) status asked
+  does_ended asked ending status is done = subst (λ (s : Status). Does (outside f o e) (outside f' o' e) s asked) (sym is) (does_at_end asked ending done)

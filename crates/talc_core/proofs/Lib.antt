@@ -7,7 +7,7 @@ mod DoesLemmas
 pub mod ExactLemmas
 mod ExplainLemmas
 mod FaultLemmas
-mod HintRows
+mod ExplainRows
 mod FormLemmas
 mod Rows
 mod RunLemmas

@@ -60,15 +60,7 @@ fn page(alloc: Global, lines: Lines) -> Result<String, AllocError> {
 
 fn is_explained(rt: &impl Abort, alloc: Global, text: &[u8], lines: Lines) -> Result<(), Fail> {
     let page = page(alloc, lines)?;
-    shows(
-        rt,
-        alloc,
-        EXPLAIN,
-        text,
-        Status::Done,
-        page.as_bytes(),
-        b"",
-    )
+    shows(rt, alloc, EXPLAIN, text, Status::Done, page.as_bytes(), b"")
 }
 
 fn each_explained(rt: &impl Abort, alloc: Global, rows: &[(&str, Lines)]) -> Result<(), Fail> {
@@ -594,8 +586,14 @@ fn limits(rt: HostRuntime) -> Result<(), Fail> {
             (&[("(", 201)], OPEN_CONSTRUCTS),
             (&[("1 + ", 50_000), ("1", 1)], NODES),
             (&[("<", 200), ("1", 1), (">", 200)], DEPTH),
-            (&[("fix f(x:<int", 1), (",int", 9_997), (">):int. 1", 1)], SIZE),
-            (&[("tal 1\nL0: code[]{}. malloc r1[", 1), ("<", 2_000)], OPEN_BRACKETS),
+            (
+                &[("fix f(x:<int", 1), (",int", 9_997), (">):int. 1", 1)],
+                SIZE,
+            ),
+            (
+                &[("tal 1\nL0: code[]{}. malloc r1[", 1), ("<", 2_000)],
+                OPEN_BRACKETS,
+            ),
         ],
     )
 }

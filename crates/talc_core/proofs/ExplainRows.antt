@@ -1,6 +1,7 @@
--- No hint is longer than 100 bytes.
-use Rattle.std.proofs.Common.{◌≡◌, length, refl, true}
-use Rattle.std.specs.Prelude.{nat_le}
+-- Worked explanations, and that no hint is longer than 100 bytes.
+use Rattle.std.proofs.Common.{◌≡◌, length, refl, true, false}
+use Rattle.std.specs.Prelude.{nat_le, codes}
+use Rattle.std.specs.Fmt.{digits}
 use Rattle.f_terms.specs.declared.fault.Code.{Code}
 use Rattle.f_terms.specs.declared.fault.Code.TheVariants.{E01, E02, E03, E04, E05, E06, E07, E08, E09, E10}
 use Rattle.f_terms.specs.declared.fault.Code.TheVariants.{E11, E12, E13, E14, E15, E16, E17, E18}
@@ -8,7 +9,31 @@ use Rattle.f_terms.specs.declared.fault.Code.TheVariants.{E19, E21, E22, L1, L2,
 use Rattle.t_terms.specs.declared.fault.TCode.{TCode}
 use Rattle.t_terms.specs.declared.fault.TCode.TheVariants.{T01, T02, T03, T04, T05, T06, T07, T08, T09, T10}
 use Rattle.t_terms.specs.declared.fault.TCode.TheVariants.{T11, T12, T13, T14, T15, T16, T17, T18, T19, T20, M1}
+use Rattle.talc_core.specs.declared.fault.Fault.TheVariants.{Source, Tal}
 use Rattle.talc_core.specs.Hints.{source_hint, tal_hint}
+use Rattle.talc_core.specs.Explained.{explained, is_assembly}
+
+-- a name without a binder, from the byte 19 up to the byte 20
+unbound : explained (codes "(fix f(x:int):int. g x) 3") (Source E05 (record { start = 19; end = 20 }))
+    ≡ codes "E05 unbound name: line 1, column 20 (bytes 19..20)\n1 | (fix f(x:int):int. g x) 3\n  |                    ^\nno `fix`, `let` or `open` around it binds this name\n"
+unfolding digits
+unbound = refl
+
+-- a version that is none
+version : explained (codes "tal 3\nL0: code[]{}. halt[int]") (Tal T03 (record { start = 4; end = 5 }))
+    ≡ codes "T03 unexpected token or end: line 1, column 5 (bytes 4..5)\n1 | tal 3\n  |     ^\nno program goes on so here: a token is missing or too much, or the version has it not\n"
+unfolding digits
+version = refl
+
+-- which texts are taken for assembly
+an_assembly : is_assembly (codes "tal 1") ≡ true
+an_assembly = refl
+
+a_source : is_assembly (codes "tall 1") ≡ false
+a_source = refl
+
+three_bytes : is_assembly (codes "tal") ≡ false
+three_bytes = refl
 
 source_hint_is_short : (code : Code) → nat_le (length (source_hint code)) 100 ≡ true
 source_hint_is_short E01 = refl

@@ -704,6 +704,6 @@ fn file_that_is_absent(rt: HostRuntime) -> Result<(), Fail> {
 #[test]
 fn texts_are_explained_without_files(rt: HostRuntime) -> Result<(), Fail> {
     let reply = explain_text(rt.alloc(), SEVEN)?;
-    assert!(rt; reply.ending == Ending::Ends && reply.line.as_slice() == b"no fault\n");
+    assert!(rt; reply.ending == Ending::Ends && reply.line.as_slice() == b"no fault\n".as_slice());
     Ok(())
 }

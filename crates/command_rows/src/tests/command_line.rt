@@ -118,7 +118,12 @@ fn show_has_its_values(rt: HostRuntime) -> Result<(), Fail> {
 #[test]
 fn explain_has_its_value(rt: HostRuntime) -> Result<(), Fail> {
     let input = "x.tal";
-    asks(&rt, rt.alloc(), "talc explain x.tal", Command::Explain { input })
+    asks(
+        &rt,
+        rt.alloc(),
+        "talc explain x.tal",
+        Command::Explain { input },
+    )
 }
 
 fn is_text(read: Result<Command, NoCommand>, wanted: &str) -> bool {

@@ -31,8 +31,8 @@ pub(crate) struct Checker<'a> {
 }
 
 /// The program, where the typing rules accept it; else its first fault in checking order, with the program handed back:
-/// T20, then those of the data (T17, T15, T13), then those of the blocks (T08 to T19). The hashers of its types read the
-/// program first, so no types whose hashes collide can be searched out for it.
+/// T20, then those of the data (T17, T15, T13), then those of the blocks (T08 to T19). The hashers of its types read
+/// the program first, so no types whose hashes collide can be searched out for it.
 pub fn check(alloc: Global, program: TProgram) -> Result<Checked, (TProgram, TFault)>
     ensures right { IsVerdict program result }
     ensures accepted { Accepted (program_of program) → AcceptsOrWants result }
@@ -44,7 +44,7 @@ pub fn check(alloc: Global, program: TProgram) -> Result<Checked, (TProgram, TFa
 }
 
 /// The same, where the caller has what these hashers are to read first: what hangs on all of a text that the program
-/// was read from does as well, and is read in less time.
+/// was read from does as well, and is read in less time. It makes no difference to the answer.
 pub fn check_salted(
     alloc: Global,
     program: TProgram,

@@ -45,7 +45,8 @@ impl<'a> Labels<'a> {
 }
 
 /// The whole text, for the hashers of its labels and names, and of what else is made of it. They begin with one word
-/// that hangs on all of it, so that a key is then read word by word (own choice).
+/// that hangs on all of it, so that a key is then read word by word (own choice). What it is makes no difference but in
+/// time, so nothing is said of it.
 pub fn salt_of(text: &[u8]) -> Salt {
     let mut whole = DefaultHasher::new();
     whole.write(text);

@@ -64,8 +64,8 @@ fn constant_wrap(alloc: Global, v: Value, w: &AWrap) -> Result<Value, OutOfMemor
             Ok(made)
         }
         AWrap::Pack { hidden, shape } => {
-            let hidden = written(alloc, hidden)?;
-            let shape = written(alloc, shape)?;
+            let hidden = Box::new(alloc, written(alloc, hidden)?)?;
+            let shape = Box::new(alloc, written(alloc, shape)?)?;
             let inner = Box::new(alloc, v)?;
             Ok(Value::Pack {
                 hidden,

@@ -111,8 +111,8 @@ fn small_wrap(
             Ok(made)
         }
         AWrap::Pack { hidden, shape } => {
-            let hidden = written(alloc, hidden)?;
-            let shape = written(alloc, shape)?;
+            let hidden = Box::new(alloc, written(alloc, hidden)?)?;
+            let shape = Box::new(alloc, written(alloc, shape)?)?;
             let held = boxed(alloc, code, spare, v)?;
             let inner = Box::new(alloc, held)?;
             Ok(Value::Pack {

@@ -73,11 +73,10 @@ pub fn spilled_value(
             let hidden = spilled_type(alloc, split, hidden)?;
             let shape = spilled_type(alloc, split, shape)?;
             let inner = spilled_value(alloc, split, inner, base)?;
-            let inner = Box::new(alloc, inner)?;
             Ok(Value::Pack {
-                hidden,
-                inner,
-                shape,
+                hidden: Box::new(alloc, hidden)?,
+                inner: Box::new(alloc, inner)?,
+                shape: Box::new(alloc, shape)?,
             })
         }
     }

@@ -56,9 +56,9 @@ fn package(alloc: Global, hidden: TType, inner: Value, shape: TType) -> Result<V
         (λ e. e ≡ fault.Memory) }
 {
     Ok(Value::Pack {
-        hidden,
+        hidden: Box::new(alloc, hidden)?,
         inner: Box::new(alloc, inner)?,
-        shape,
+        shape: Box::new(alloc, shape)?,
     })
 }
 

@@ -21,8 +21,8 @@ pub enum Value {
         types: Vec<TType>,
     },
     Pack {
-        hidden: TType,
+        hidden: Box<TType>,
         inner: Box<Value>,
-        shape: TType,
+        shape: Box<TType>,
     },
 }

@@ -31,9 +31,9 @@ pub(crate) fn shift_value(alloc: Global, v: &Value, by: u64, cut: u64) -> Result
             let inner = shift_value(alloc, inner, by, cut)?;
             let shape = shape.shift(alloc, by, cut)?;
             Ok(Value::Pack {
-                hidden,
+                hidden: Box::new(alloc, hidden)?,
                 inner: Box::new(alloc, inner)?,
-                shape,
+                shape: Box::new(alloc, shape)?,
             })
         }
     }
@@ -113,9 +113,9 @@ pub(crate) fn put_value(
             let inner = put_value(alloc, inner, at, depth, what)?;
             let shape = put_type(alloc, shape, at, depth, what)?;
             Ok(Value::Pack {
-                hidden,
+                hidden: Box::new(alloc, hidden)?,
                 inner: Box::new(alloc, inner)?,
-                shape,
+                shape: Box::new(alloc, shape)?,
             })
         }
     }

@@ -77,8 +77,16 @@ fn packs_three(v: &Value, t: &TType) -> bool {
         Value::Pack {
             hidden,
             inner,
-            shape: TType::Exists(shape),
-        } => eq(hidden, t) && is_three(inner) && eq(shape, &TType::Var(0)),
+            shape,
+        } => eq(hidden, t) && is_three(inner) && hides_itself(shape),
+        _ => false,
+    }
+}
+
+// Whether the type is `some a. a`.
+fn hides_itself(shape: &TType) -> bool {
+    match shape {
+        TType::Exists(body) => eq(body, &TType::Var(0)),
         _ => false,
     }
 }
@@ -100,9 +108,9 @@ fn values(rt: HostRuntime) -> Result<(), OutOfMemory> {
         types: Vec::new(alloc),
     };
     let v = Value::Pack {
-        hidden: TType::Var(0),
+        hidden: Box::new(alloc, TType::Var(0))?,
         inner: Box::new(alloc, inner)?,
-        shape: TType::Exists(Box::new(alloc, TType::Var(0))?),
+        shape: Box::new(alloc, TType::Exists(Box::new(alloc, TType::Var(0))?))?,
     };
     assert!(rt; v.below(1) && !v.below(0));
     let shifted = v.shift(alloc, 2, 0)?;

@@ -1,9 +1,8 @@
-use Rattle.std.proofs.Common.{ap, sym, subst, ◌∙◌}
+use Rattle.std.proofs.Common.{◌≡◌, ap, sym, subst, ◌∙◌}
 use Rattle.t_types.specs.Read.{tree}
 use Rattle.t_terms.specs.Tree.{Pack, TValue}
 use Rattle.t_terms.specs.Read.{value}
 use Rattle.t_terms.specs.ReadProgram.{program}
-use Rattle.t_terms.specs.declared.value.Value.{Value}
 use Rattle.t_intern.specs.Nodes.{at}
 use Rattle.t_intern.proofs.Growing.{grown_next}
 use Rattle.t_check.specs.Known.{known}
@@ -20,7 +19,15 @@ returns-in_ok-found-in-Pack-clause-typed t c =
     let k = c.args.self.now.registers in
     let g = known c.args.types.now k in
     let found = c.in_ok-found-in-Pack.ensures.typed in
-    let is = ap value c.in-Pack.is ∙ ap (λ (v : Value). Pack (tree c.in-Pack.hidden) (value v) (tree c.in-Pack.shape)) (sym c.deref-in-Pack.ensures) in
+    let hidden = tree c.deref-in-Pack-2.result.now in
+    let inner = value c.deref-in-Pack.result.now in
+    let shape = tree c.deref-in-Pack-3.result.now in
+    let kept = Pack (tree c.in-Pack.hidden.value) (value c.in-Pack.inner.value) (tree c.in-Pack.shape.value) in
+    let same : kept ≡ Pack hidden inner shape =
+        cc (c.deref-in-Pack.ensures, c.deref-in-Pack-2.ensures, c.deref-in-Pack-3.ensures) in
+    let is = ap value c.in-Pack.is ∙ same in
     let formed = subst (λ (v : TValue). FormedValue c.args.self.now.program.now k.names v) is c.requires.value in
     subst (λ (v : TValue). IsTypeOf P c.type_of_package.new.types k.names g c.args.span v c.type_of_package.result) (sym is)
-    (pack_is P k.names g c.args.span c.type_of_package.new.types (tree c.in-Pack.hidden) (tree c.in-Pack.shape) (at c.type_of_value.new.types c.in_ok-found-in-Pack.found) (value c.deref-in-Pack.result.now) found.1 formed.0 formed.2 c.type_of_package.result c.type_of_package.ensures.packed)
+    (pack_is P k.names g c.args.span c.type_of_package.new.types hidden shape
+    (at c.type_of_value.new.types c.in_ok-found-in-Pack.found) inner found.1 formed.0 formed.2 c.type_of_package.result
+    c.type_of_package.ensures.packed)

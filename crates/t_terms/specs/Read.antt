@@ -25,7 +25,7 @@ base (B.Data d) = Data d
 
 abbrev pub value : Value → TValue
 value (V.Plain b ts) = Plain (base b) (types ts.items)
-value (V.Pack' p hidden q inner r shape) = Pack (tree hidden) (value inner) (tree shape)
+value (V.Pack' hidden p inner shape) = Pack (tree hidden.value) (value inner) (tree shape.value)
 
 abbrev pub instr : Instr → TInstr
 instr (I.Arith op rd rs v) = Arith op rd rs (value v)

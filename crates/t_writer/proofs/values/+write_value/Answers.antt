@@ -19,4 +19,5 @@ returns-in_ok-write_type-in-Pack-2-clause-written t c =
     c.in_ok-write_type-in-Pack.ensures c.in_ok-extend_from_slice-in-Pack-2.ensures.items
     c.in_ok-write_value-in-Pack.ensures.written c.in_ok-extend_from_slice-in-Pack-3.ensures.items
     c.in_ok-write_type-in-Pack-2.ensures
-    ∙ ap (λ (v : TValue). c.args.text.now.items ++ render (value_written c.args.depth v)) (same ∙ ap value (sym c.in-Pack.is))
+    ∙ ap (λ (v : TValue). c.args.text.now.items ++ render (value_written c.args.depth v))
+    (same ∙ ap value (sym c.in-Pack.is))

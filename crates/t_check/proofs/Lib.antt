@@ -1,5 +1,6 @@
 mod Depth
 mod Rising
+mod FilePlaces
 mod Fitted
 mod Noting
 mod Tuples

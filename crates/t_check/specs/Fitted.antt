@@ -1,5 +1,5 @@
 -- When what is known of the registers fits a file, by the registers alone; and when it does but for those set since.
-use Rattle.std.specs.Prelude.{◌≡◌, ℕ, ◌+◌, ◌<◌, ◌≤◌, ◌⊎◌, List, length, Some, slice_index_or}
+use Rattle.std.specs.Prelude.{◌≡◌, ℕ, zero, suc, ◌+◌, ◌<◌, ◌≤◌, ◌⊎◌, List, length, Option, Some, None, slice_index_or}
 use Rattle.t_types.specs.Tree.{Ty, TFile, NoRegs, MoreRegs}
 use Rattle.t_types.specs.Fits.{Fits, RegTypes, lookup}
 
@@ -15,7 +15,17 @@ Rises file = RisesFrom 0 file
 abbrev pub KnownFits : RegTypes → ℕ → Ty → Type 0
 KnownFits g r t = (u : Ty) × (g r ≡ Some u) × Fits u t
 
--- the same, if the file names the register
+-- the register at a place of a file, with its type
+abbrev pub reg_in : TFile → ℕ → Option (ℕ × Ty)
+reg_in NoRegs i = None
+reg_in (MoreRegs r t file) zero = Some (r, t)
+reg_in (MoreRegs r t file) (suc i) = reg_in file i
+
+-- that one is known, by a type that fits, if there is one
+abbrev pub FitsPlace : RegTypes → TFile → ℕ → Type 0
+FitsPlace g file i = (r : ℕ) (t : Ty) → reg_in file i ≡ Some (r, t) → KnownFits g r t
+
+-- a register is known so, if the file names it
 abbrev pub AgreesAt : RegTypes → TFile → ℕ → Type 0
 AgreesAt g file r = (t : Ty) → lookup file r ≡ Some t → KnownFits g r t
 

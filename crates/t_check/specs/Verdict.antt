@@ -26,7 +26,7 @@ use Rattle.t_rules.specs.Faults.{EnterFault, InstrFault, EndFault, BlockFault, B
 use Rattle.t_rules.specs.Faults.{HeapFault, ProgramFault}
 use Rattle.t_check.specs.Bounds.{Bounded, OwedFile}
 use Rattle.t_check.specs.Checked.{checked_program}
-use Rattle.t_check.specs.Fitted.{KnownFits, AgreesAt, SinceAgree}
+use Rattle.t_check.specs.Fitted.{KnownFits, FitsPlace, AgreesAt, SinceAgree}
 use Rattle.t_intern.specs.Grown.{AreRegs, IsNumber}
 use Rattle.t_intern.specs.Nodes.{at, regs_at, RegsBelow}
 use Rattle.t_check.specs.Known.{known, IsSound}
@@ -70,6 +70,10 @@ IsCode ts n None = (owes : ℕ) (f : TFile) → at ts n ≢ CodeTy owes f
 
 abbrev pub IsRegsOf : List Ty → ℕ → List (ℕ × ℕ) → Type 0
 IsRegsOf ts n regs = ((owes : ℕ) × (at ts n ≡ CodeTy owes (regs_at ts regs))) × RegsBelow (length ts) regs
+
+-- a register with the number of its type, as one with its type
+abbrev pub with_type : List Ty → ℕ × ℕ → ℕ × Ty
+with_type ts x = (x.0, at ts x.1)
 
 abbrev pub IsExists : List Ty → ℕ → Option ℕ → Type 0
 IsExists ts n (Some body) = (at ts n ≡ ExistsTy (at ts body)) × (body < length ts)
@@ -128,7 +132,11 @@ IsStored g rd i rs s (Err f) =
 abbrev pub TellsFile : RegTypes → TFile → Result Bool OutOfMemory → Type 0
 TellsFile g f r = IfOk r (λ b. IsTrue b ↔ FitsFile g f)
 
--- the same of one register and a type, of a register that the file may name, and of those set from a place on
+-- the same of the register at a place of the file, of one register and a type, of a register that the file may name,
+-- and of those set from a place on
+abbrev pub TellsPlace : RegTypes → TFile → ℕ → Result Bool OutOfMemory → Type 0
+TellsPlace g f i a = IfOk a (λ b. IsTrue b ↔ FitsPlace g f i)
+
 abbrev pub TellsReg : RegTypes → ℕ → Ty → Result Bool OutOfMemory → Type 0
 TellsReg g r t a = IfOk a (λ b. IsTrue b ↔ KnownFits g r t)
 

@@ -1,15 +1,16 @@
 // Whether what is known of the registers fits the file of a jump's target. A file that was seen to fit fits still, but
 // for the registers that were set since, so only these are looked at.
-ghost use Rattle.std.specs.Prelude.{◌≡◌, ◌↔◌, ◌<◌, ◌⊎◌, ℕ, List, length, IsTrue, IfSome, OnOk, option_map};
+ghost use Rattle.std.specs.Prelude.{◌≡◌, ◌↔◌, ◌<◌, ◌≤◌, ◌⊎◌, ℕ, List, length, None, slice_get, IsTrue, IfSome, OnOk};
+ghost use Rattle.std.specs.Prelude.{option_map};
 ghost use Rattle.t_types.specs.Fits.{lookup};
 ghost use Rattle.t_types.specs.Tree.{Ty, TFile, CodeTy, Below};
 ghost use Rattle.t_intern.specs.Grown.{Grown};
 ghost use Rattle.t_intern.specs.Nodes.{at, regs_at, RegsBelow};
-ghost use Rattle.t_check.specs.Fitted.{Rises};
+ghost use Rattle.t_check.specs.Fitted.{Rises, reg_in};
 ghost use Rattle.t_check.specs.Known.{known, IsSound, IsSame, IsRemembered, IsFittedBut};
-ghost use Rattle.t_check.specs.Verdict.{TellsFile, TellsReg, TellsAt, TellsSince};
+ghost use Rattle.t_check.specs.Verdict.{TellsFile, TellsPlace, TellsReg, TellsAt, TellsSince, with_type};
 
-use crate::parts::{code_parts, regs_of};
+use crate::parts::regs_of;
 use crate::registers::{Moment, Registers};
 use idx_core::OutOfMemory;
 use t_intern::Types;
@@ -28,10 +29,7 @@ impl Registers {
         if let Some(from) = self.fitted_but(types, code) {
             return self.fit_since(types, code, from);
         }
-        match code_parts(types, code)? {
-            Some(parts) => self.fit_whole(types, code, &parts.regs),
-            None => unreachable!(),
-        }
+        self.fit_whole(types, code)
     }
 
     // The place in what was set at which the code's file was seen to fit, where fewer were set since than it names.
@@ -85,25 +83,18 @@ impl Registers {
 
     // By the registers of the file. It is remembered where they rise, as those of a program do: the table of types does
     // not say so.
-    fn fit_whole(
-        &mut self,
-        types: &mut Types,
-        code: u64,
-        regs: &[(u64, u64)],
-    ) -> Result<bool, OutOfMemory>
+    fn fit_whole(&mut self, types: &mut Types, code: u64) -> Result<bool, OutOfMemory>
         requires sound { IsSound types.old self.old }
         requires there { code < length types.old }
-        requires code { at types.old code ≡ CodeTy 0 (regs_at types.old regs.now) }
-        requires regs { RegsBelow (length types.old) regs.now }
         ensures grown { Grown types.old types.new }
-        ensures fit { TellsFile (known types.old self.old) (regs_at types.old regs.now) result }
+        ensures fit { (f : TFile) → at types.old code ≡ CodeTy 0 f → TellsFile (known types.old self.old) f result }
         ensures same { IsSame self.old self.new }
         ensures sound { OnOk result (IsSound types.new self.new) }
     {
-        if !self.fit_regs(types, regs)? {
+        if !self.fit_regs(types, code)? {
             return Ok(false);
         }
-        if !rise(regs) {
+        if !regs_rise(types, code) {
             return Ok(true);
         }
         self.remember(code)?;
@@ -121,19 +112,35 @@ impl Registers {
         Ok(())
     }
 
-    // Whether each register is known, by a type that fits.
-    fn fit_regs(&self, types: &mut Types, regs: &[(u64, u64)]) -> Result<bool, OutOfMemory>
+    // Whether each register of the code's file is known, by a type that fits. Each is looked up anew, since the table of
+    // types may grow at each.
+    fn fit_regs(&self, types: &mut Types, code: u64) -> Result<bool, OutOfMemory>
         requires sound { IsSound types.old self.now }
-        requires regs { RegsBelow (length types.old) regs.now }
+        requires there { code < length types.old }
         ensures grown { Grown types.old types.new }
-        ensures fit { TellsFile (known types.old self.now) (regs_at types.old regs.now) result }
+        ensures fit { (f : TFile) → at types.old code ≡ CodeTy 0 f → TellsFile (known types.old self.now) f result }
     {
-        for reg in regs {
-            if !self.fits_reg(types, reg.0, reg.1)? {
+        let count = width(types, code);
+        for i in 0..count {
+            if !self.fits_place(types, code, i)? {
                 return Ok(false);
             }
         }
         Ok(true)
+    }
+
+    // Whether the register at a place of the code's file is known, by a type that fits.
+    fn fits_place(&self, types: &mut Types, code: u64, i: usize) -> Result<bool, OutOfMemory>
+        requires sound { IsSound types.old self.now }
+        requires there { code < length types.old }
+        ensures grown { Grown types.old types.new }
+        ensures fit { (f : TFile) → at types.old code ≡ CodeTy 0 f →
+            TellsPlace (known types.old self.now) f i result }
+    {
+        match reg_at(types, code, i) {
+            Some(reg) => self.fits_reg(types, reg.0, reg.1),
+            None => Ok(true),
+        }
     }
 
     // The same of those that were set since a place, where the file names them.
@@ -181,6 +188,25 @@ impl Registers {
     }
 }
 
+// The register at a place of the code's file, with the number of its type.
+fn reg_at(types: &Types, code: u64, i: usize) -> Option<(u64, u64)>
+    requires { code < length types.now }
+    ensures there { IfSome result (λ x. x.1 < length types.now) }
+    ensures reg { (f : TFile) → at types.now code ≡ CodeTy 0 f →
+        option_map (with_type types.now) result ≡ reg_in f i }
+{
+    match regs_of(types, code) {
+        Some(regs) => nth(regs, i),
+        None => None,
+    }
+}
+
+fn nth(regs: &[(u64, u64)], i: usize) -> Option<(u64, u64)>
+    ensures { result ≡ slice_get regs.now i }
+{
+    regs.get(i).copied()
+}
+
 // The type that the code's file names for a register, where the file rises.
 fn wanted_of(types: &Types, code: u64, r: u64) -> Option<u64>
     requires { code < length types.now }
@@ -208,10 +234,22 @@ fn type_in(regs: &[(u64, u64)], r: u64) -> Option<u64>
 // How many registers the code's file names.
 fn width(types: &Types, code: u64) -> usize
     requires { code < length types.now }
+    ensures { (f : TFile) → at types.now code ≡ CodeTy 0 f → (i : ℕ) → result ≤ i → reg_in f i ≡ None }
 {
     match regs_of(types, code) {
         Some(regs) => regs.len(),
         None => 0,
+    }
+}
+
+// Whether the registers of the code's file rise, each once.
+fn regs_rise(types: &Types, code: u64) -> bool
+    requires { code < length types.now }
+    ensures { (f : TFile) → at types.now code ≡ CodeTy 0 f → IsTrue result ↔ Rises f }
+{
+    match regs_of(types, code) {
+        Some(regs) => rise(regs),
+        None => false,
     }
 }
 

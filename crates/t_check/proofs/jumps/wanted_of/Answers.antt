@@ -1,9 +1,10 @@
-use Rattle.std.proofs.Common.{◌≡◌, sym, subst, ◌∙◌, length}
+use Rattle.std.proofs.Common.{◌≡◌, sym, subst, length}
 use Rattle.std.specs.Prelude.{option_map}
-use Rattle.t_types.specs.Tree.{TFile, CodeTy}
+use Rattle.t_types.specs.Tree.{TFile}
 use Rattle.t_types.specs.Fits.{lookup}
-use Rattle.t_intern.specs.Nodes.{at, regs_at}
+use Rattle.t_intern.specs.Nodes.{at}
 use Rattle.t_check.specs.Fitted.{Rises}
+use Rattle.t_check.proofs.FilePlaces.{file_is}
 use Rattle.t_check.proofs.jumps.wanted_of.Goals as goal
 
 pub returns-in-Some-clause-there : goal.returns-in-Some-clause-there
@@ -12,11 +13,9 @@ returns-in-Some-clause-there c = c.type_in.ensures.below (length c.args.types.no
 pub returns-in-Some-clause-wanted : goal.returns-in-Some-clause-wanted
 returns-in-Some-clause-wanted c = λ f e rises.
     let ts = c.args.types.now in
-    let file = regs_at ts c.in-Some.regs.now in
-    let code = c.in-Some.ensures.0 in
-    let both : CodeTy code.0 file ≡ CodeTy 0 f = sym code.1 ∙ e in
-    let same : file ≡ f = cc in
-    subst (λ (x : TFile). option_map (at ts) c.type_in.result ≡ lookup x c.args.r) same (c.type_in.ensures.found ts (subst Rises (sym same) rises))
+    let same = file_is ts c.args.code c.in-Some.regs.now f c.in-Some.ensures e in
+    subst (λ (x : TFile). option_map (at ts) c.type_in.result ≡ lookup x c.args.r) same
+    (c.type_in.ensures.found ts (subst Rises (sym same) rises))
 
 pub returns-in-None-clause-wanted : goal.returns-in-None-clause-wanted
 returns-in-None-clause-wanted c = λ f e rises. absurd (c.in-None.ensures 0 f e)

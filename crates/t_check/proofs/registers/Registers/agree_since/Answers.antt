@@ -1,10 +1,12 @@
 use Rattle.std.proofs.Common.{◌<◌, length, refl, sym, ◌∙◌, arith, subst}
 use Rattle.std.proofs.lemmas.Grind.{get_or_default_zero}
+use Rattle.t_types.specs.Tree.{TFile}
+use Rattle.t_types.specs.Fits.{RegTypes}
 use Rattle.t_intern.proofs.Growing.{grown_next, grown_length, grown_at}
 use Rattle.t_check.specs.Fitted.{AgreesAt}
 use Rattle.t_check.specs.Known.{known}
 use Rattle.t_check.proofs.Noting.{sound_grown}
-use Rattle.t_check.proofs.Places.{agrees_grown}
+use Rattle.t_check.proofs.Places.{file_told}
 use Rattle.t_check.proofs.Rising.{agree_more}
 use Rattle.t_check.proofs.registers.Registers.agree_since.Goals as goal
 
@@ -32,7 +34,9 @@ returns-then-not-branch-clause-fit c = λ f e.
     let lt : l.i < length rs = omega (arith, c.loop-i-test.true) in
     let r = c.index.result.now in
     let read = c.index.ensures ∙ get_or_default_zero rs l.i r lt in
-    let told = agrees_grown ts l.types l.invariant.grown k c.requires.sound f c.args.code r c.in_ok-agrees.field-0 c.requires.there e c.in_ok-agrees.ensures.fit in
+    let told =
+        file_told (λ (g : RegTypes) (x : TFile). AgreesAt g x r) ts l.types l.invariant.grown k c.requires.sound f c.args.code
+        c.in_ok-agrees.field-0 c.requires.there e c.in_ok-agrees.ensures.fit in
     ((λ h. cc), λ h. sym c.if-not-branch.true ∙ told.1 (subst (AgreesAt (known ts k) f) (sym read) (h l.i c.loop-i.auto.i lt)))
 
 pub loop-i-preserved : goal.loop-i-preserved
@@ -48,7 +52,9 @@ loop-i-preserved c =
     record {
       grown = grown_next _ _ _ l.invariant.grown c.in_ok-agrees.ensures.grown;
       fit = λ f e.
-          let told = agrees_grown ts l.types l.invariant.grown k c.requires.sound f c.args.code r c.in_ok-agrees.field-0 c.requires.there e c.in_ok-agrees.ensures.fit in
+          let told =
+              file_told (λ (h : RegTypes) (x : TFile). AgreesAt h x r) ts l.types l.invariant.grown k c.requires.sound f
+              c.args.code c.in_ok-agrees.field-0 c.requires.there e c.in_ok-agrees.ensures.fit in
           agree_more g f rs c.args.from l.i (subst (AgreesAt g f) read (told.0 c.if-not-branch.false)) (l.invariant.fit f e);
     }
 

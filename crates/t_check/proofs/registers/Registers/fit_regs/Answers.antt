@@ -1,58 +1,56 @@
-use Rattle.std.proofs.Common.{length, get_or, refl, sym, ◌∙◌, arith}
-use Rattle.t_types.proofs.Trees.{item_has, items_more}
+use Rattle.std.proofs.Common.{refl, sym, ◌∙◌, arith}
+use Rattle.t_types.specs.Tree.{TFile}
+use Rattle.t_types.specs.Fits.{RegTypes}
 use Rattle.t_intern.proofs.Growing.{grown_next, grown_length}
-use Rattle.t_intern.proofs.Walked.{item, reg_below}
+use Rattle.t_check.specs.Fitted.{FitsPlace}
 use Rattle.t_check.specs.Known.{known}
+use Rattle.t_check.proofs.FilePlaces.{fits_places, all_fit, place_more}
 use Rattle.t_check.proofs.Noting.{sound_grown}
-use Rattle.t_check.proofs.Places.{RegFits, regs_fit, file_fits_all, told_grown}
+use Rattle.t_check.proofs.Places.{file_told}
 use Rattle.t_check.proofs.registers.Registers.fit_regs.Goals as goal
 
-pub fits_reg-requires-clause-sound : goal.fits_reg-requires-clause-sound
-fits_reg-requires-clause-sound c = sound_grown c.args.types.now c.loop-reg.types c.loop-reg.invariant.grown c.args.self.now c.requires.sound
+pub fits_place-requires-clause-sound : goal.fits_place-requires-clause-sound
+fits_place-requires-clause-sound c =
+    sound_grown c.args.types.now c.loop-i.types c.loop-i.invariant.grown c.args.self.now c.requires.sound
 
-pub fits_reg-requires-clause-wanted : goal.fits_reg-requires-clause-wanted
-fits_reg-requires-clause-wanted c =
-    let l = c.loop-reg in
-    let xs = c.args.regs.now in
-    let lt = c.loop-reg-test.true in
-    let below = reg_below (length c.args.types.now) xs l.reg-index (get_or xs l.reg-index (0, 0)) lt (item xs l.reg-index (0, 0) lt) c.requires.regs in
-    omega (arith, below, grown_length c.args.types.now l.types l.invariant.grown)
+pub fits_place-requires-clause-there : goal.fits_place-requires-clause-there
+fits_place-requires-clause-there c =
+    omega (arith, c.requires.there, grown_length c.args.types.now c.loop-i.types c.loop-i.invariant.grown)
 
-pub returns-in_err-fits_reg-clause-grown : goal.returns-in_err-fits_reg-clause-grown
-returns-in_err-fits_reg-clause-grown c = grown_next _ _ _ c.loop-reg.invariant.grown c.in_err-fits_reg.ensures.grown
+pub returns-in_err-fits_place-clause-grown : goal.returns-in_err-fits_place-clause-grown
+returns-in_err-fits_place-clause-grown c =
+    grown_next _ _ _ c.loop-i.invariant.grown c.in_err-fits_place.ensures.grown
 
 pub returns-then-not-branch-clause-grown : goal.returns-then-not-branch-clause-grown
-returns-then-not-branch-clause-grown c = grown_next _ _ _ c.loop-reg.invariant.grown c.in_ok-fits_reg.ensures.grown
+returns-then-not-branch-clause-grown c = grown_next _ _ _ c.loop-i.invariant.grown c.in_ok-fits_place.ensures.grown
 
 pub returns-then-not-branch-clause-fit : goal.returns-then-not-branch-clause-fit
-returns-then-not-branch-clause-fit c =
-    let l = c.loop-reg in
+returns-then-not-branch-clause-fit c = λ f e.
+    let l = c.loop-i in
     let ts = c.args.types.now in
     let k = c.args.self.now in
-    let g = known ts k in
-    let xs = c.args.regs.now in
-    let lt = c.loop-reg-test.true in
-    let x = get_or xs l.reg-index (0, 0) in
-    let is = item xs l.reg-index (0, 0) lt in
-    let below = reg_below (length ts) xs l.reg-index x lt is c.requires.regs in
-    let told = told_grown ts l.types l.invariant.grown k c.requires.sound x.0 x.1 c.in_ok-fits_reg.field-0 below c.in_ok-fits_reg.ensures.fit in
-    ((λ h. cc), λ h. sym c.if-not-branch.true ∙ told.1 (item_has (RegFits g ts) _ _ _ is lt (regs_fit g ts xs h)))
+    let told =
+        file_told (λ (g : RegTypes) (x : TFile). FitsPlace g x l.i) ts l.types l.invariant.grown k c.requires.sound f
+        c.args.code c.in_ok-fits_place.field-0 c.requires.there e c.in_ok-fits_place.ensures.fit in
+    ((λ h. cc), λ h. sym c.if-not-branch.true ∙ told.1 (fits_places (known ts k) f h l.i))
 
-pub loop-reg-preserved : goal.loop-reg-preserved
-loop-reg-preserved c =
-    let l = c.loop-reg in
+pub loop-i-preserved : goal.loop-i-preserved
+loop-i-preserved c =
+    let l = c.loop-i in
     let ts = c.args.types.now in
     let k = c.args.self.now in
-    let g = known ts k in
-    let xs = c.args.regs.now in
-    let lt = c.loop-reg-test.true in
-    let x = get_or xs l.reg-index (0, 0) in
-    let is = item xs l.reg-index (0, 0) lt in
-    let below = reg_below (length ts) xs l.reg-index x lt is c.requires.regs in
-    let told = told_grown ts l.types l.invariant.grown k c.requires.sound x.0 x.1 c.in_ok-fits_reg.field-0 below c.in_ok-fits_reg.ensures.fit in
-    record { grown = grown_next _ _ _ l.invariant.grown c.in_ok-fits_reg.ensures.grown; fit = items_more (RegFits g ts) _ _ _ is lt l.invariant.fit (told.0 c.if-not-branch.false) }
+    record {
+      grown = grown_next _ _ _ l.invariant.grown c.in_ok-fits_place.ensures.grown;
+      fit = λ f e.
+          let told =
+              file_told (λ (g : RegTypes) (x : TFile). FitsPlace g x l.i) ts l.types l.invariant.grown k
+              c.requires.sound f c.args.code c.in_ok-fits_place.field-0 c.requires.there e
+              c.in_ok-fits_place.ensures.fit in
+          place_more (known ts k) f l.i (told.0 c.if-not-branch.false) (l.invariant.fit f e);
+    }
 
 pub returns-clause-fit : goal.returns-clause-fit
-returns-clause-fit c =
-    let ts = c.args.types.now in
-    (λ h. file_fits_all (known ts c.args.self.now) ts c.args.regs.now c.loop-reg.reg-index c.loop-reg.invariant.fit c.loop-reg-test.false, λ h. refl)
+returns-clause-fit c = λ f e.
+    let l = c.loop-i in
+    let g = known c.args.types.now c.args.self.now in
+    ((λ h. all_fit g f c.width.result l.i (l.invariant.fit f e) (omega arith) (c.width.ensures f e)), λ h. refl)

@@ -99,7 +99,10 @@ fn explanation(alloc: Global, text: &[u8]) -> Result<Vec<u8>, OutOfMemory>
             let line = Vec::from_slice(alloc, b"no fault\n")?;
             Ok(line)
         }
-        Finding::Fault(fault, types) => explain_fault(alloc, text, fault, &types),
+        Finding::Fault(fault, types) => {
+            let page = explain_fault(alloc, text, fault, &types)?;
+            Ok(page)
+        }
     }
 }
 

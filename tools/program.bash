@@ -1,4 +1,5 @@
-# For `source`, with $top the folder of the repository: where the program stands, and its building at need.
+# For `source`, with $top the folder of the repository: where the program stands, its building at need, and how it is
+# started.
 
 program=$top/crates/talc/out/talc
 
@@ -14,4 +15,10 @@ build_at_need() {
         rm -f "$program"
         "$top/tools/build"
     fi
+}
+
+# Lets the program take memory in large pages, where the system has them: a page fault costs more than an instruction of
+# a loop that allocates. What the caller has set for the C library stays.
+use_large_pages() {
+    export GLIBC_TUNABLES=${GLIBC_TUNABLES-glibc.malloc.hugetlb=1}
 }

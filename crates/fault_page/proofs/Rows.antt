@@ -3,14 +3,20 @@ use Rattle.std.proofs.Common.{◌≡◌, ◌≤◌, ◌+◌, ℕ, List, [], ◌�
 use Rattle.std.specs.Fmt.{digits}
 use Rattle.fault_page.specs.Page.{page, first_shown, shown_width}
 
--- the page of a place, with no words
+-- the page of a place, with no words and no types
 abbrev bare : List ℕ → ℕ → ℕ → List ℕ
-bare text start end = page text (codes "C") (codes "w") start end (codes "h")
+bare text start end = page text (codes "C") (codes "w") start end [] (codes "h")
 
-unbound : page (codes "(fix f(x:int):int. g x) 3") (codes "E05") (codes "unbound name") 19 20 (codes "no `fix`, `let` or `open` around it binds this name")
+unbound : page (codes "(fix f(x:int):int. g x) 3") (codes "E05") (codes "unbound name") 19 20 [] (codes "no `fix`, `let` or `open` around it binds this name")
     ≡ codes "E05 unbound name: line 1, column 20 (bytes 19..20)\n1 | (fix f(x:int):int. g x) 3\n  |                    ^\nno `fix`, `let` or `open` around it binds this name\n"
 unfolding digits
 unbound = refl
+
+-- types that are at odds stand on a line before the hint
+types_at_odds : page (codes "1 + <>") (codes "C") (codes "w") 4 6 (codes "wanted int, found <>") (codes "h")
+    ≡ codes "C w: line 1, column 5 (bytes 4..6)\n1 | 1 + <>\n  |     ^^\nwanted int, found <>\nh\n"
+unfolding digits
+types_at_odds = refl
 
 -- a tab is shown as a space, and each byte above 127 as a sign, so that the mark stands under the sixth byte
 odd_bytes : bare (codes "x" ++ 9 ∷ 195 ∷ 164 ∷ codes " $") 5 6 ≡ codes "C w: line 1, column 6 (bytes 5..6)\n1 | x ?? $\n  |      ^\nh\n"

@@ -1,5 +1,5 @@
 -- The page that explains a fault of a text. All of it is our own choice.
-use Rattle.std.specs.Prelude.{ℕ, ◌+◌, ◌-◌, ◌==◌, nat_lt, min, max, Bool, ◌&&◌, List, [], ◌++◌}
+use Rattle.std.specs.Prelude.{ℕ, ◌+◌, ◌-◌, ◌==◌, nat_lt, min, max, Bool, ◌&&◌, List, [], ◌∷◌, ◌++◌}
 use Rattle.std.specs.Prelude.{take, drop, length, map, replicate, if◌then◌else◌, codes, decimal}
 use Rattle.fault_page.specs.Spot.{line_number, line_at, offset, column, lines_over}
 
@@ -88,8 +88,12 @@ excerpt text start end =
 
 -- ---- the whole
 
--- What is wrong and where, the line of the place with the place marked, and the hint. Further lines, as the types that
--- are at odds, would stand before the hint.
-abbrev pub page : (text code words : List ℕ) (start end : ℕ) (hint : List ℕ) → List ℕ
-page text code words start end hint =
-    heading text code words start end ++ excerpt text start end ++ hint ++ codes "\n"
+-- the line on the types that are at odds, where there are any
+abbrev pub types_row : List ℕ → List ℕ
+types_row [] = []
+types_row (byte ∷ bytes) = byte ∷ bytes ++ codes "\n"
+
+-- What is wrong and where, the line of the place with the place marked, the types that are at odds, and the hint.
+abbrev pub page : (text code words : List ℕ) (start end : ℕ) (types hint : List ℕ) → List ℕ
+page text code words start end types hint =
+    heading text code words start end ++ excerpt text start end ++ types_row types ++ hint ++ codes "\n"

@@ -1,7 +1,7 @@
 // The page.
 ghost use Rattle.std.specs.Prelude.{◌≡◌, ◌++◌, ◌-◌, ◌+◌, IfOk, OnOk};
 ghost use Rattle.fault_page.specs.Spot.{line_number, offset};
-ghost use Rattle.fault_page.specs.Page.{over_text, bytes_text, place_text, heading, page};
+ghost use Rattle.fault_page.specs.Page.{over_text, bytes_text, place_text, heading, types_row, page};
 
 use crate::excerpt::{write_excerpt, write_number};
 use crate::spot::{Spot, lines_over, spot_at};
@@ -17,6 +17,8 @@ pub struct Note<'a> {
     pub words: &'a str,
     /// The place, in bytes of the text from 0.
     pub place: Span,
+    /// The types that are at odds, in one line without its end; nothing where the fault is none of types.
+    pub types: &'a [u8],
     /// What is to be done, in a sentence.
     pub hint: &'a str,
 }
@@ -86,18 +88,31 @@ fn write_heading(
     Ok(())
 }
 
+// The line on the types that are at odds, where there are any.
+fn write_types(page: &mut Vec<u8>, types: &[u8]) -> Result<(), OutOfMemory>
+    ensures { OnOk result (page.new.items ≡ page.old.items ++ types_row types.now) }
+{
+    if types.is_empty() {
+        return Ok(());
+    }
+    page.extend_from_slice(types)?;
+    page.extend_from_slice(b"\n")?;
+    Ok(())
+}
+
 /// The page that explains a fault of a text (own choice): a line with the code, the words, and the line and column of
 /// the place, both from 1, with its bytes from 0; the line of the text, at most 100 bytes of it; marks under the place;
-/// the hint. Columns count bytes. An error is want of memory.
+/// the types that are at odds, if any are; the hint. Columns count bytes. An error is want of memory.
 pub fn page_of(alloc: Global, text: &[u8], note: &Note) -> Result<Vec<u8>, OutOfMemory>
     ensures { IfOk result (λ made. made.items ≡ page text.now note.now.code.now note.now.words.now
-        note.now.place.start note.now.place.end note.now.hint.now) }
+        note.now.place.start note.now.place.end note.now.types.now note.now.hint.now) }
 {
     let mut page = Vec::new(alloc);
     let spot = spot_at(text, note.place.start);
     let size = note.place.end.saturating_sub(note.place.start);
     write_heading(&mut page, text, note, &spot)?;
     write_excerpt(&mut page, &spot, size)?;
+    write_types(&mut page, note.types)?;
     page.extend_from_slice(note.hint.as_bytes())?;
     page.extend_from_slice(b"\n")?;
     Ok(page)

@@ -22,6 +22,7 @@ fn is_shown(rt: &impl Abort, alloc: Global, place: Span, lines: [&str; 3]) -> Re
         code: "C",
         words: "w",
         place,
+        types: b"",
         hint: "h",
     };
     let text = long_text(alloc)?;

@@ -40,7 +40,7 @@ module _ (laws : TextLaws) where
 
   -- ---- no fault beside a text that is what is needed
 
-  no_term_fault : (text : List ℕ) (c : Code) (s : Span) (term : Tm) (type : Ty) → IsChecked text term type → TermFault text c s → ⊥
+  pub no_term_fault : (text : List ℕ) (c : Code) (s : Span) (term : Tm) (type : Ty) → IsChecked text term type → TermFault text c s → ⊥
   no_term_fault text c s term type checked (inl reading) = laws.no_fault_of_a_term text term c s checked.0 reading
   no_term_fault text c s term type checked (inr checking) =
       let same : checking.term ≡ term = same_term text checking.term term checking.read checked.0 in

@@ -10,15 +10,17 @@ use Rattle.talc_core.specs.declared.status.Status.TheVariants.{Done}
 use Rattle.talc_core.specs.Lines.{source_code, source_words, tal_code, tal_words}
 use Rattle.talc_core.specs.Hints.{source_hint, tal_hint}
 use Rattle.talc_core.specs.FirstFault.{Need, AProgram, AnAssembly, FirstFault, IsTaken}
+use Rattle.talc_core.specs.AtOdds.{AtOdds}
 use Rattle.talc_core.specs.Shown.{Showing}
 
 -- the page of a fault: the text is shown at the place
-abbrev pub fault_page : (text code words : List ℕ) → Span → (hint : List ℕ) → List ℕ
-fault_page text code words span hint = page text code words span.start span.end hint
+abbrev pub fault_page : (text code words : List ℕ) → Span → (types hint : List ℕ) → List ℕ
+fault_page text code words span types hint = page text code words span.start span.end types hint
 
-abbrev pub explained : List ℕ → Fault → List ℕ
-explained text (Source code span) = fault_page text (source_code code) (source_words code) span (source_hint code)
-explained text (Tal code span) = fault_page text (tal_code code) (tal_words code) span (tal_hint code)
+abbrev pub explained : List ℕ → Fault → (types : List ℕ) → List ℕ
+explained text (Source code span) types =
+    fault_page text (source_code code) (source_words code) span types (source_hint code)
+explained text (Tal code span) types = fault_page text (tal_code code) (tal_words code) span types (tal_hint code)
 
 abbrev pub no_fault : List ℕ
 no_fault = codes "no fault\n"
@@ -32,11 +34,13 @@ is_assembly text = starts_with (λ a b. a == b) text (codes "tal ")
 abbrev pub looked_for : List ℕ → Need
 looked_for text = if is_assembly text then AnAssembly else AProgram
 
--- the text has this first fault, and the page of the fault is shown
+-- the text has this first fault, and the page of the fault is shown, with the types that are at odds
 pub record FaultExplained (text shown : List ℕ) : Type 0 where
   pub fault : Fault
   pub first : FirstFault (looked_for text) text fault
-  pub is : shown ≡ explained text fault
+  pub types : List ℕ
+  pub at_odds : AtOdds text fault types
+  pub is : shown ≡ explained text fault types
 
 -- the text is what is looked for
 pub record NoFaultFound (text shown : List ℕ) : Type 0 where

@@ -12,6 +12,7 @@ pub mod Upgraded
 pub mod Shown
 pub mod FormShown
 pub mod Hints
+pub mod AtOdds
 pub mod Explained
 pub mod OnTexts
 pub mod Headline

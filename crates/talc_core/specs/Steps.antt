@@ -1,5 +1,5 @@
 -- What the steps of a call do: the contracts of private functions. Nothing that is promised rests on this file.
-use Rattle.std.specs.Prelude.{◌≡◌, ◌≤◌, ◌⊎◌, ◌+◌, ◌*◌, ℕ, ℤ, List, Result, Ok, Err, Vec, false}
+use Rattle.std.specs.Prelude.{◌≡◌, ◌≤◌, ◌⊎◌, ◌+◌, ◌*◌, ℕ, ℤ, List, [], Result, Ok, Err, Vec, false}
 use Rattle.std.specs.declared.alloc.Global.{Global}
 use Rattle.io_core.specs.Outside.{FilesState, SinkState, Faulted, IsAbsent, Holds, SameBut}
 use Rattle.io_core.specs.Outside.{with_file, gained, GainedPart}
@@ -24,6 +24,9 @@ use Rattle.talc_core.specs.declared.report.Failure.{Failure}
 use Rattle.talc_core.specs.declared.report.Failure.TheVariants.{Refused, Read, Write, Memory}
 use Rattle.talc_core.specs.declared.refusal.Refusal.{Refusal}
 use Rattle.talc_core.specs.declared.refusal.Refusal.TheVariants as refusal
+use Rattle.talc_core.specs.declared.finding.Finding.{Finding}
+use Rattle.talc_core.specs.declared.finding.Finding.TheVariants as finding
+use Rattle.talc_core.specs.declared.finding.Finding.TheVariants.{NoFault}
 use Rattle.talc_core.specs.declared.reply.Ending.{Ending}
 use Rattle.talc_core.specs.declared.reply.Ending.TheVariants.{Ends, GoesOn}
 use Rattle.talc_core.specs.declared.reply.Reply.{Reply}
@@ -39,6 +42,7 @@ use Rattle.seeds.specs.Source.{source as source_of}
 use Rattle.talc_core.specs.Shown.{Showing, ShowsType, ShowsValue, ShowsAccepted, ShowsRun, ShowsTrace}
 use Rattle.talc_core.specs.Shown.{SeedShown, seed_turns}
 use Rattle.talc_core.specs.FormShown.{ShowsForm}
+use Rattle.talc_core.specs.AtOdds.{AtOdds}
 use Rattle.talc_core.specs.Explained.{ShowsExplained}
 use Rattle.talc_core.specs.OnTexts.{Making, RefusedBy, status_at}
 use Rattle.talc_core.specs.Headline.{Shows, ShowsOrNot, Unwritten, Unread}
@@ -67,10 +71,16 @@ abbrev pub ChecksAssembly : List ℕ → Result Checked Refusal → Type 0
 ChecksAssembly text (Ok checked) = IsAcceptedText text (spanned_program (checked_program checked))
 ChecksAssembly text (Err why) = RefusedBy AnAssembly text why
 
--- the text is what is needed, or its first fault
-abbrev pub FindsFault : Need → List ℕ → Result (Unit {0}) Refusal → Type 0
-FindsFault need text (Ok done) = IsTaken need text
-FindsFault need text (Err why) = RefusedBy need text why
+-- the text is what is needed, or its first fault, with the line of the types that are at odds
+abbrev pub IsFinding : Need → List ℕ → Finding → Type 0
+IsFinding need text NoFault = IsTaken need text
+IsFinding need text (finding.Fault fault types) = FirstFault need text fault × AtOdds text fault types.items
+
+-- the fault of a text that is not read, with no such line
+abbrev pub IsBare : Refusal → Finding → Type 0
+IsBare (refusal.Fault why) NoFault = ⊥
+IsBare (refusal.Fault why) (finding.Fault fault types) = (fault ≡ why) × (types.items ≡ [])
+IsBare refusal.Memory found = ⊥
 
 -- ---- the calls of the outside
 

@@ -3,6 +3,8 @@ use Rattle.f_parser.specs.Text as reading
 use Rattle.f_terms.specs.Laws as typing
 use Rattle.t_terms.specs.Text as assembly
 use Rattle.t_rules.specs.LawsFaults as checking
+use Rattle.f_check.specs.Laws as source_at_odds
+use Rattle.t_check.specs.Mismatch as assembly_at_odds
 use Rattle.t_rules.specs.LawsSound.{OneRun, HaltingIsLast, HaltedOrOneStep, RunsOn, NothingSticks}
 
 pub record TextLaws : Type 0 where
@@ -35,3 +37,10 @@ pub record TextLaws : Type 0 where
   pub halted_or_one_step : HaltedOrOneStep
   pub runs_on : RunsOn
   pub nothing_sticks : NothingSticks
+
+-- and on the types that are at odds in faults
+pub record MismatchLaws : Type 0 where
+  pub of_a_source_fault : source_at_odds.IsOfTheFault
+  pub one_of_a_source : source_at_odds.OneMismatch
+  pub of_an_assembly_fault : assembly_at_odds.MismatchIsOfTheFault
+  pub one_of_an_assembly : assembly_at_odds.AtMostOneMismatch

@@ -14,7 +14,7 @@ ghost use Rattle.talc_core.specs.Composition.{OneForm, ShownAssemblyIsCompiled, 
 ghost use Rattle.talc_core.specs.Composition.{ShownSourceIsTaken, ShownSourceShowsTheSame, ShownSourceIsKept};
 ghost use Rattle.talc_core.specs.Exact.{HeadlineIsExact};
 ghost use Rattle.talc_core.specs.Explained.{OneExplanation};
-ghost use Rattle.talc_core.specs.TextLaws.{TextLaws};
+ghost use Rattle.talc_core.specs.TextLaws.{MismatchLaws, TextLaws};
 ghost use Rattle.talc_core.specs.Traced.{LinesShowKinds, OneLine};
 ghost use Rattle.talc_core.specs.TraceLaws.{OneTrace, TraceEndsAsRun};
 
@@ -57,6 +57,16 @@ pub(crate) fn texts_keep_laws()
     runs_are_unique();
     accepted_programs_go_on();
     accepted_programs_are_never_stuck();
+}
+
+// And what laws of the types that are at odds in faults stand on.
+fn mismatches_keep_laws()
+    ensures { MismatchLaws }
+{
+    f_check::mismatches_are_of_the_fault();
+    f_check::faults_have_one_mismatch();
+    t_check::mismatch_is_of_the_fault();
+    t_check::at_most_one_mismatch();
 }
 
 /// Two first faults of one text are equal, where the same is needed of it.
@@ -278,6 +288,7 @@ pub fn one_explanation()
     ensures { OneExplanation }
 {
     texts_keep_laws();
+    mismatches_keep_laws();
 }
 
 /// What `show` shows of a text in a form is one text.

@@ -4,6 +4,7 @@
 mod assembly;
 mod commands;
 mod fault;
+mod finding;
 mod laws;
 mod lines;
 mod outside;

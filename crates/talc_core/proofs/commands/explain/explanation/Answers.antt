@@ -1,9 +1,19 @@
-use Rattle.std.proofs.Common.{inl, inr}
+use Rattle.std.proofs.Common.{◌∙◌, ap, inl, inr}
+use Rattle.talc_core.specs.Explained.{explained}
 use Rattle.talc_core.proofs.commands.explain.explanation.Goals as goal
 
-pub returns-in_ok-line-in-Ok : goal.returns-in_ok-line-in-Ok
-returns-in_ok-line-in-Ok c = inr (record { taken = c.in-Ok.ensures; is = c.in_ok-line-in-Ok.ensures.items })
+pub returns-in_ok-line-in-NoFault : goal.returns-in_ok-line-in-NoFault
+returns-in_ok-line-in-NoFault c =
+    let taken = rw c.in-NoFault.is at c.in_ok-find_fault.ensures in
+    inr (record { taken = taken; is = c.in_ok-line-in-NoFault.ensures.items })
 
-pub returns-in_ok-page-in-Err-Fault : goal.returns-in_ok-page-in-Err-Fault
-returns-in_ok-page-in-Err-Fault c =
-    inl (record { fault = c.in-Err-Fault.fault; first = rw c.in-Err-Fault.field-0-is at c.in-Err-Fault.ensures; is = c.in_ok-page-in-Err-Fault.ensures })
+pub returns-in_ok-page-in-Fault : goal.returns-in_ok-page-in-Fault
+returns-in_ok-page-in-Fault c =
+    let found = rw c.in-Fault.is at c.in_ok-find_fault.ensures in
+    inl (record {
+      fault = c.in-Fault.fault;
+      first = found.0;
+      types = c.in-Fault.types.items;
+      at_odds = found.1;
+      is = c.in_ok-page-in-Fault.ensures ∙ ap (explained c.args.text.now c.in-Fault.fault) c.deref.ensures.value;
+    })

@@ -1,0 +1,125 @@
+// What is found of a text: its first fault, with the types that are at odds in it.
+ghost use Rattle.std.specs.Prelude.{◌≡◌, ◌≤◌, ℕ, List, IfOk};
+ghost use Rattle.f_terms.specs.Limits.{nodes};
+ghost use Rattle.f_terms.specs.ReadTerm.{spanned, term_of};
+ghost use Rattle.f_terms.specs.Faults as typing;
+ghost use Rattle.f_terms.specs.Scope.{IsClosed};
+ghost use Rattle.f_terms.specs.Ty.{NoTys};
+ghost use Rattle.f_check.specs.Typed.{typed_term, typed_type};
+ghost use Rattle.f_check.specs.Verdict as source;
+ghost use Rattle.f_terms.specs.Read.{tree};
+ghost use Rattle.t_terms.specs.ReadProgram.{spanned_program};
+ghost use Rattle.t_rules.specs.Faults as checking;
+ghost use Rattle.t_check.specs.Verdict as assembly;
+ghost use Rattle.talc_core.specs.FirstFault.{AProgram, AnAssembly, IsParsed, IsChecked, IsAssembly};
+ghost use Rattle.talc_core.specs.Steps.{IsBare, IsFinding};
+
+use crate::fault::Fault;
+use crate::refusal::Refusal;
+use f_check::{Typed, check, each_fault_says_what_is_at_odds, mismatch_of};
+use f_parser::{closed_terms, parse};
+use f_terms::{Code, FFault, FTerm};
+use idx_core::OutOfMemory;
+use mismatch_text::{assembly_line, not_int_line, source_line};
+use std::alloc::Global;
+use t_check::check_salted;
+use t_reader::{read, salt_of};
+use t_terms::{TFault, TProgram};
+
+/// What is found of a text that is looked at for its first fault.
+#[derive(Drop)]
+pub(crate) enum Finding {
+    /// It is what is looked for.
+    NoFault,
+    /// It has this first fault, with a line on the types that are at odds, if any are.
+    Fault(Fault, Vec<u8>),
+}
+
+// Of a text that is not read no types are at odds.
+fn bare(alloc: Global, refusal: Refusal) -> Result<Finding, OutOfMemory>
+    ensures { IfOk result (IsBare refusal) }
+{
+    match refusal {
+        Refusal::Fault(fault) => Ok(Finding::Fault(fault, Vec::new(alloc))),
+        Refusal::Memory => Err(OutOfMemory),
+    }
+}
+
+// The fault of a term that is refused.
+fn find_in_refused(alloc: Global, term: &FTerm, fault: FFault) -> Result<Finding, OutOfMemory>
+    requires closed { IsClosed (term_of term.now) }
+    requires nodes { nodes (term_of term.now) ≤ 4294967295 }
+    requires fault { source.Says fault (typing.Fault (spanned term.now) 0 NoTys) }
+    ensures { (text : List ℕ) → IsParsed text (spanned term.now) → IfOk result (IsFinding AProgram text) }
+{
+    each_fault_says_what_is_at_odds();
+    match fault {
+        FFault::Refused { code, span } => {
+            let mismatch = mismatch_of(alloc, term)?;
+            let types = source_line(alloc, &mismatch)?;
+            Ok(Finding::Fault(Fault::Source(code, span), types))
+        }
+        FFault::Memory => Err(OutOfMemory),
+    }
+}
+
+// The fault of a term that has a type, if that is not `int`.
+fn find_in_typed(alloc: Global, typed: Typed) -> Result<Finding, OutOfMemory>
+    ensures { (text : List ℕ) → IsChecked text (spanned (typed_term typed)) (tree (typed_type typed)) →
+        IfOk result (IsFinding AProgram text) }
+{
+    match typed.program() {
+        Ok(_) => Ok(Finding::NoFault),
+        Err((typed, span)) => {
+            let types = not_int_line(alloc, typed.ty())?;
+            Ok(Finding::Fault(Fault::Source(Code::E15, span), types))
+        }
+    }
+}
+
+/// What is found of a source text, where a program is looked for.
+pub(crate) fn find_in_source(alloc: Global, text: &[u8]) -> Result<Finding, OutOfMemory>
+    ensures { IfOk result (IsFinding AProgram text.now) }
+{
+    closed_terms();
+    match parse(alloc, text) {
+        Ok(term) => match check(alloc, term) {
+            Ok(typed) => find_in_typed(alloc, typed),
+            Err((term, fault)) => find_in_refused(alloc, &term, fault),
+        },
+        Err(fault) => bare(alloc, Refusal::from(fault)),
+    }
+}
+
+// The fault of an assembly program that is refused.
+fn find_in_program(
+    alloc: Global,
+    program: &TProgram,
+    fault: TFault,
+) -> Result<Finding, OutOfMemory>
+    requires fault { assembly.Says fault (checking.ProgramFault (spanned_program program.now)) }
+    ensures { (text : List ℕ) → IsAssembly text (spanned_program program.now) →
+        IfOk result (IsFinding AnAssembly text) }
+{
+    match fault {
+        TFault::Refused { code, span } => {
+            let mismatch = t_check::mismatch_of(alloc, program)?;
+            let types = assembly_line(alloc, &mismatch)?;
+            Ok(Finding::Fault(Fault::Tal(code, span), types))
+        }
+        TFault::Memory => Err(OutOfMemory),
+    }
+}
+
+/// What is found of an assembly text, where a program is looked for that the typing rules accept.
+pub(crate) fn find_in_assembly(alloc: Global, text: &[u8]) -> Result<Finding, OutOfMemory>
+    ensures { IfOk result (IsFinding AnAssembly text.now) }
+{
+    match read(alloc, text) {
+        Ok(program) => match check_salted(alloc, program, salt_of(text)) {
+            Ok(_) => Ok(Finding::NoFault),
+            Err((program, fault)) => find_in_program(alloc, &program, fault),
+        },
+        Err(fault) => bare(alloc, Refusal::from(fault)),
+    }
+}

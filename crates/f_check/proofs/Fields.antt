@@ -75,5 +75,9 @@ module _ (n : ℕ) (g : Tys) (s : Spn) where
       FaultBy (odds n WField t) (SProj s i f) n g E11 s
   proj_field i f t ts pf et ef =
       let m = odds n WField t in
-      inr (TTuple ts, subst (Passes f n g) et pf, subst (λ o. if_none o (refuse_with m (odds n WField (TTuple ts)) E11 s) E11 s)
-      (sym ef) (refl, refl, ap (odds n WField) et))
+      inr (
+        TTuple ts,
+        subst (Passes f n g) et pf,
+        subst (λ o. if_none o (refuse_with m (odds n WField (TTuple ts)) E11 s) E11 s)
+            (sym ef) (refl, refl, ap (odds n WField) et),
+      )

@@ -1,8 +1,8 @@
 -- The verdict on each form, from those on its parts.
-use Rattle.std.proofs.Common.{◌≡◌, ◌≢◌, ◌∙◌, ◌+◌, ◌-◌, ◌≤◌, ℕ, Result, Ok, Err, min, ap, ap₂, sym, refl, subst, arith, inl, inr, Option, None}
+use Rattle.std.proofs.Common.{◌≡◌, ◌≢◌, ◌∙◌, ◌+◌, ◌≤◌, ℕ, Result, Ok, Err, min, ap, sym, refl, subst, arith, inl, inr, Option, None}
 use Rattle.f_terms.specs.TyLaws.{put_bound, unshift}
 use Rattle.f_terms.specs.Ty.{Ty, TInt, TVar, TArrow, TAll, TTuple, TSome, TRef, Tys, shift, put, Below, size, depth}
-use Rattle.f_terms.specs.Tm.{Spn, Tm, SFix, SApp, SGen, SInst, SArith, SIf0, SLet, SPack, SOpen, SRef, SDeref, SAssign}
+use Rattle.f_terms.specs.Tm.{Spn, Tm, SFix, SApp, SGen, SInst, SIf0, SPack, SOpen, SRef, SDeref, SAssign}
 use Rattle.f_terms.specs.Tm.{span_of}
 use Rattle.f_terms.specs.Limits.{Within}
 use Rattle.f_terms.specs.Typing.{raised, in_fix, in_open}
@@ -11,7 +11,7 @@ use Rattle.f_terms.specs.Faults.{Passes, Refusal, check, part, nothing, if_arrow
 use Rattle.f_terms.specs.Read.{tree, place}
 use Rattle.f_terms.specs.declared.types.FType.{FType}
 use Rattle.f_terms.specs.declared.fault.Code.{Code}
-use Rattle.f_terms.specs.declared.fault.Code.TheVariants.{E07, E08, E09, E12, E13, E14, E16, E17, E18, E21, E22, L4, L5}
+use Rattle.f_terms.specs.declared.fault.Code.TheVariants.{E07, E08, E09, E13, E14, E16, E17, E18, E21, E22}
 use Rattle.f_terms.proofs.Limited.{unshift_within, ref_within}
 use Rattle.f_check.specs.Verdict.{IsTypeOf}
 use Rattle.f_check.specs.Mismatch.{Mismatch, WType, WFunction, WPolymorphic, WPackage, WReference, WOutside}
@@ -197,8 +197,16 @@ module _ (n : ℕ) (g : Tys) (s : Spn) where
 
   pub open_escapes : (a b : Tm) (u v : Ty) (q : Spn) → Passes a n g (TSome u) → Passes b (n + 1) (in_open u g) v →
       v ≢ shift 1 0 (outside v) → span_of b ≡ q → FaultBy (odds (n + 1) WOutside v) (SOpen s a b) n g E18 q
-  open_escapes a b u v q ok ok' ne at = inr (TSome u, ok, inr (v, ok', inl
-      ((λ x. ne (x.1.0 ∙ ap (shift 1 0) (sym (ap (put 0 TInt) x.1.0 ∙ unshift x.0)))), (refl, sym at, refl))))
+  open_escapes a b u v q ok ok' ne at = inr (
+    TSome u,
+    ok,
+    inr (
+      v,
+      ok',
+      inl
+          ((λ x. ne (x.1.0 ∙ ap (shift 1 0) (sym (ap (put 0 TInt) x.1.0 ∙ unshift x.0)))), (refl, sym at, refl)),
+    ),
+  )
 
   pub open_ok : (a b : Tm) (u v t : Ty) → Passes a n g (TSome u) → IsTypeOf b (n + 1) (in_open u g) v → v ≡ shift 1 0 t → t ≡ outside v → IsTypeOf (SOpen s a b) n g t
   open_ok a b u v t ok h e o =

@@ -1,9 +1,9 @@
 -- Worked rows on what is at odds in a fault. The comment above each row is its text.
-use Rattle.std.proofs.Common.{◌≡◌, ℕ, zero, suc, ◌+◌, ◌-◌, ◌≤◌, pos, refl, sym, ◌∙◌, ap, arith, inl, inr, lit<, lit≤, None}
+use Rattle.std.proofs.Common.{◌≡◌, ℕ, zero, suc, ◌+◌, pos, refl, sym, ◌∙◌, ap, arith, inl, inr, lit<, lit≤, None}
 use Rattle.idx_core.specs.declared.arith.Op.TheVariants.{Add}
 use Rattle.f_terms.specs.declared.fault.Code.TheVariants.{E07, E08, E11, E12, E17, E18}
-use Rattle.f_terms.specs.Ty.{Ty, TInt, TVar, TArrow, TTuple, TSome, TRef, NoTys, MoreTys, shift, put, size, sizes, depth, depths}
-use Rattle.f_terms.specs.TyLaws.{unshift}
+use Rattle.f_terms.specs.Ty.{Ty, TInt, TVar, TArrow, TTuple, TSome, TRef, NoTys, MoreTys, shift, put, size, depth}
+use Rattle.f_terms.specs.TyLaws.{shift_none, unshift}
 use Rattle.f_terms.specs.Tm.{Spn, Tm, SVar, SNum, SFix, SApp, SGen, STuple, SProj, SArith, SPack, SOpen, NoTms, MoreTms}
 use Rattle.f_terms.specs.Limits.{Within}
 use Rattle.f_terms.specs.Faults.{Passes}
@@ -54,11 +54,23 @@ pack_does_not_fit :
     (odds 0 (WType TInt) (TTuple NoTys))
 pack_does_not_fit =
     let fits : Within TInt = (lit≤ tt, lit≤ tt) in
-    inr (lit≤ tt, inr (lit≤ tt, inr (lit≤ tt, inr (lit≤ tt, inr (
-      TTuple NoTys,
-      unit_passes (10, 12) 0,
-      inl (λ e. cc, inr (fits, (refl, refl, refl))),
-    )))))
+    inr (
+      lit≤ tt,
+      inr (
+        lit≤ tt,
+        inr (
+          lit≤ tt,
+          inr (
+            lit≤ tt,
+            inr (
+              TTuple NoTys,
+              unit_passes (10, 12) 0,
+              inl (λ e. cc, inr (fits, (refl, refl, refl))),
+            ),
+          ),
+        ),
+      ),
+    )
 
 -- open [a,x] = pack[int,3] as some a. a in x: the type of x, under its name
 hidden_is_inside : (t : Ty) → TVar 0 ≡ shift 1 0 t → ⊥
@@ -82,30 +94,46 @@ refs zero t = t
 refs (suc n) t = TRef (refs n t)
 
 refs_depth : (n : ℕ) (t : Ty) → depth (refs n t) ≡ n + depth t
-refs_depth zero t = refl
+unfolding refs
+refs_depth zero t = omega arith
 refs_depth (suc n) t = omega (arith, refs_depth n t)
 
 refs_size : (n : ℕ) (t : Ty) → size (refs n t) ≡ n + size t
-refs_size zero t = refl
+unfolding refs
+refs_size zero t = omega arith
 refs_size (suc n) t = omega (arith, refs_size n t)
 
 refs_put : (n : ℕ) (u t : Ty) → put 0 u (refs n t) ≡ refs n (put 0 u t)
+unfolding refs
 refs_put zero u t = refl
 refs_put (suc n) u t = ap (λ x. TRef x) (refs_put n u t)
 
 no_int : (n : ℕ) (t : Ty) → TInt ≡ refs (suc n) t → ⊥
-no_int n t e = cc
+unfolding refs
+no_int n t e = let same : TInt ≡ TRef (refs n t) = e in cc
 
 -- pack[ref .. int, 1] as some a. ref .. a, with 150 `ref`s each: what was wanted passes a limit on types
 wanted_is_too_deep :
     FaultWith (SPack (0, 9) (refs 150 TInt) (one (7, 8)) (TSome (refs 150 (TVar 0)))) 0 NoTys E17 (7, 8) None
 wanted_is_too_deep =
     let hidden = refs 150 TInt in
-    let is : put 0 hidden (refs 150 (TVar 0)) ≡ refs 150 hidden = refs_put 150 hidden (TVar 0) in
+    let is : put 0 hidden (refs 150 (TVar 0)) ≡ refs 150 hidden =
+    refs_put 150 hidden (TVar 0) ∙ ap (refs 150) (shift_none hidden) in
     let deep = ap depth is ∙ refs_depth 150 hidden in
-    inr (omega (arith, refs_depth 150 TInt), inr (omega (arith, refs_size 150 TInt),
-    inr (omega (arith, refs_depth 150 (TVar 0)), inr (omega (arith, refs_size 150 (TVar 0)), inr (
-      TInt,
-      refl,
-      inl (λ e. no_int 149 hidden (e ∙ is), inl (λ h. omega (arith, h.0, deep, refs_depth 150 TInt), (refl, refl, refl))),
-    )))))
+    inr (
+      omega (arith, refs_depth 150 TInt),
+      inr (
+        omega (arith, refs_size 150 TInt),
+        inr (
+          omega (arith, refs_depth 150 (TVar 0)),
+          inr (
+            omega (arith, refs_size 150 (TVar 0)),
+            inr (
+              TInt,
+              refl,
+              inl (λ e. no_int 149 hidden (e ∙ is), inl (λ h. omega (arith, h.0, deep, refs_depth 150 TInt), (refl, refl, refl))),
+            ),
+          ),
+        ),
+      ),
+    )

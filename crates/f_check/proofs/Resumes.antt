@@ -1,5 +1,5 @@
 -- What comes after the type of a part.
-use Rattle.std.proofs.Common.{◌≡◌, ◌≢◌, ℕ, ◌+◌, ◌-◌, ◌*◌, ◌<◌, ◌≤◌, ◌∙◌, refl, ap, ap₂, sym, subst, arith, List, [], ◌∷◌, ◌++◌, map, length, take, Vec, Global, Bor, Result, Ok, Err, Option, Some, None, inl, inr}
+use Rattle.std.proofs.Common.{◌≡◌, ◌≢◌, ℕ, ◌+◌, ◌-◌, ◌<◌, ◌≤◌, ◌∙◌, refl, ap, ap₂, sym, subst, arith, List, [], ◌∷◌, ◌++◌, map, length, take, Vec, Global, Bor, Result, Ok, Err, Option, Some, None, inl, inr}
 use Rattle.std.proofs.lemmas.List.Elements.{All-head, All-tail, All-same}
 use Rattle.idx_core.specs.declared.span.Span.{Span}
 use Rattle.f_terms.specs.Ty.{Ty, Tys, TInt, TArrow, TAll, TTuple, TSome, TRef, NoTys, shift, put, ShiftFits, tys, Below}

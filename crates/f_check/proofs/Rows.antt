@@ -1,7 +1,7 @@
 -- The parts of a tuple.
 use Rattle.std.proofs.Common.{◌≡◌, ◌≤◌, ◌++◌, ℕ, List, [], ◌∷◌, map, refl, ap, ◌∙◌, sym, subst, arith, inl, inr, Option}
 use Rattle.idx_core.specs.Over.{BelowAt, AnyDepth}
-use Rattle.f_terms.specs.Ty.{Ty, TTuple, TSome, TRef, Tys, tys, Below, each_all}
+use Rattle.f_terms.specs.Ty.{Ty, TTuple, Tys, tys, Below, each_all}
 use Rattle.f_terms.specs.Tm.{Spn, Tm, STuple, tms, plain, plain_all}
 use Rattle.f_terms.specs.Limits.{Within, nodes, nodes_all}
 use Rattle.f_terms.specs.Scope.{InScope, AllInScope}

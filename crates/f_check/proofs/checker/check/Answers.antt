@@ -28,9 +28,11 @@ returns-in-Ok-clause-refused c = λ code span h.
     c.no_fault_beside_a_pass.ensures (spanned c.args.term) 0 NoTys (tree c.in-Ok.ty) code (place span) c.in-Ok.ensures.0.0 h
 
 pub returns-in-Err-clause-right : goal.returns-in-Err-clause-right
-returns-in-Err-clause-right c =
-    (refl, subst (λ f. Says f (Fault (spanned c.args.term) 0 NoTys)) (sym c.fault_alone.ensures)
-    (alone c.mismatches_are_of_the_fault.ensures (spanned c.args.term) c.in-Err.e c.in-Err.ensures))
+returns-in-Err-clause-right c = (
+  refl,
+  subst (λ f. Says f (Fault (spanned c.args.term) 0 NoTys)) (sym c.fault_alone.ensures)
+      (alone c.mismatches_are_of_the_fault.ensures (spanned c.args.term) c.in-Err.e c.in-Err.ensures),
+)
 
 pub returns-in-Err-clause-typed : goal.returns-in-Err-clause-typed
 returns-in-Err-clause-typed c = λ t h.

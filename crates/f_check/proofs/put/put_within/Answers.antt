@@ -1,15 +1,14 @@
 use Rattle.std.specs.Prelude.{Result}
-use Rattle.std.proofs.Common.{◌≡◌, ◌≤◌, ◌∙◌, ℕ, ap, sym, subst, arith, min, inr, Err}
+use Rattle.std.proofs.Common.{◌≡◌, ◌∙◌, ap, sym, subst, inr, Err}
 use Rattle.std.proofs.lemmas.Result.{err_from_is_err_and}
 use Rattle.f_terms.specs.Tm.{Spn}
 use Rattle.f_terms.specs.declared.types.FType.{FType}
 use Rattle.f_check.specs.declared.failure.Failure.{Failure}
 use Rattle.f_check.specs.Told.{IsPut}
-use Rattle.f_terms.specs.Ty.{Ty, put, size, depth}
+use Rattle.f_terms.specs.Ty.{Ty, put}
 use Rattle.f_terms.specs.Faults.{nothing}
 use Rattle.f_check.specs.Mismatch.{limits_with}
 use Rattle.f_terms.specs.Read.{tree, place}
-use Rattle.f_check.specs.Counts.{put_size, put_depth}
 use Rattle.f_check.proofs.Puts.{depth_made, size_made}
 use Rattle.f_check.proofs.Forms.{within, limits_of, limits_then, tells_map}
 use Rattle.f_check.proofs.put.put_within.Goals as goal
@@ -24,7 +23,7 @@ returns-in_err-limit c =
     let s = tree c.args.what.now in
     let t = tree c.args.body.now in
     let p = place c.args.span in
-        let e = c.in_err-limit.field-0.0 in
+    let e = c.in_err-limit.field-0.0 in
     passed s t p c.from_residual.result r.0 e r.1 r.2
     (tells_map e _ (λ m. limits_with m s p (limits_with m (put 0 s t) p nothing))
     (λ m d q h. limits_then s p (limits_with m (put 0 s t) p nothing) m d q

@@ -2,7 +2,7 @@ use Rattle.std.proofs.Common.{◌∙◌, ap}
 use Rattle.std.proofs.lemmas.Result.{err_from_is_err_and}
 use Rattle.f_check.proofs.Resumes.{field_enters, field_given, field_faulty}
 use Rattle.f_check.proofs.Forms.{tells_map, limits_of, within}
-use Rattle.f_terms.specs.Ty.{TTuple, TSome, TRef, tys}
+use Rattle.f_terms.specs.Ty.{TTuple, tys}
 use Rattle.f_terms.specs.Read.{tree, place}
 use Rattle.f_terms.specs.Faults.{nothing}
 use Rattle.f_check.specs.Mismatch.{limits_with}

@@ -16,9 +16,12 @@ returns-in-None-clause-goes c =
 pub returns-then-not-eq-clause-goes : goal.returns-then-not-eq-clause-goes
 returns-then-not-eq-clause-goes c =
     let made = subst (IsPutOrNone (tree c.args.packing.hidden.now) (tree c.args.packing.body.now)) c.in-Some.is c.in_ok-wanted.ensures in
-    pack_refused c.args.term.now c.args.state.now c.args.part.ty c.args.part.span c.args.packing c.requires _ _
-    (c.odds-mismatch.result, c.refused-then-not-eq.ensures, c.odds-mismatch.ensures
-    ∙ ap (λ t. odds c.args.state.now.around (WType t) (tree c.args.part.ty)) made.0)
+    pack_refused c.args.term.now c.args.state.now c.args.part.ty c.args.part.span c.args.packing c.requires _ _ (
+      c.odds-mismatch.result,
+      c.refused-then-not-eq.ensures,
+      c.odds-mismatch.ensures
+          ∙ ap (λ t. odds c.args.state.now.around (WType t) (tree c.args.part.ty)) made.0,
+    )
     (λ e. absurd (true≢false (sym (c.if-not-eq.ensures.1 (e ∙ sym made.0))))) made.1
 
 pub returns-clause-goes : goal.returns-clause-goes

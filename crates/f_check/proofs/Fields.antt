@@ -7,9 +7,10 @@ use Rattle.f_terms.specs.declared.types.FType.{FType}
 use Rattle.f_terms.specs.Tm.{Spn, Tm, SProj, span_of}
 use Rattle.f_terms.specs.Typing.{ty_at, field_ty}
 use Rattle.f_terms.specs.Limits.{Within}
-use Rattle.f_terms.specs.Faults.{Passes, Fault, refuse, if_tuple, if_none}
+use Rattle.f_terms.specs.Faults.{Passes, Refusal, if_tuple, if_none}
 use Rattle.f_terms.specs.declared.fault.Code.TheVariants.{E10, E11}
 use Rattle.f_check.specs.Verdict.{IsTypeOf}
+use Rattle.f_check.specs.Mismatch.{WTuple, WField, odds, refuse_with, FaultBy}
 
 some_is : {a b : Ty} → Some a ≡ Some b → a ≡ b
 some_is e = cc
@@ -57,18 +58,26 @@ module _ (n : ℕ) (g : Tys) (s : Spn) where
       let r = field_ok n ts i u ef h.1 h.2 in
       ((ts, ef, h.0), r.0, r.1)
 
-  pub proj_tuple : (i : ℕ) (f : Tm) (t : Ty) (q : Spn) → Passes f n g t → ((ts : Tys) → t ≢ TTuple ts) → span_of f ≡ q → Fault (SProj s i f) n g E10 q
-  proj_tuple i f t q pf ne at = inr (t, pf, pick t ne)
+  pub proj_tuple : (i : ℕ) (f : Tm) (t : Ty) (q : Spn) → Passes f n g t → ((ts : Tys) → t ≢ TTuple ts) → span_of f ≡ q →
+      FaultBy (odds n WTuple t) (SProj s i f) n g E10 q
+  proj_tuple i f t q pf ne at = inr (t, pf, pick _ _ t ne (refl, sym at, refl))
     where
-      pick : (t : Ty) → ((ts : Tys) → t ≢ TTuple ts) → if_tuple t (refuse E10 (span_of f)) (λ ts. if_none (field_ty ts i) (refuse E11 s)) E10 q
-      pick TInt h = (refl, sym at)
-      pick (TVar j) h = (refl, sym at)
-      pick (TArrow a b) h = (refl, sym at)
-      pick (TAll t) h = (refl, sym at)
-      pick (TTuple ts) h = absurd (h ts refl)
-      pick (TSome t) h = (refl, sym at)
-      pick (TRef t) h = (refl, sym at)
+      pick : (o : Refusal) (go : Tys → Refusal) (t : Ty) → ((ts : Tys) → t ≢ TTuple ts) → o E10 q → if_tuple t o go E10 q
+      pick o go TInt h k = k
+      pick o go (TVar j) h k = k
+      pick o go (TArrow a b) h k = k
+      pick o go (TAll t) h k = k
+      pick o go (TTuple ts) h k = absurd (h ts refl)
+      pick o go (TSome t) h k = k
+      pick o go (TRef t) h k = k
 
-  pub proj_field : (i : ℕ) (f : Tm) (t : Ty) (ts : Tys) → Passes f n g t → t ≡ TTuple ts → field_ty ts i ≡ None → Fault (SProj s i f) n g E11 s
+  pub proj_field : (i : ℕ) (f : Tm) (t : Ty) (ts : Tys) → Passes f n g t → t ≡ TTuple ts → field_ty ts i ≡ None →
+      FaultBy (odds n WField t) (SProj s i f) n g E11 s
   proj_field i f t ts pf et ef =
-      inr (TTuple ts, subst (Passes f n g) et pf, subst (λ o. if_none o (refuse E11 s) E11 s) (sym ef) (refl, refl))
+      let m = odds n WField t in
+      inr (
+        TTuple ts,
+        subst (Passes f n g) et pf,
+        subst (λ o. if_none o (refuse_with m (odds n WField (TTuple ts)) E11 s) E11 s)
+            (sym ef) (refl, refl, ap (odds n WField) et),
+      )

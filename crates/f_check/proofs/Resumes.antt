@@ -1,5 +1,5 @@
 -- What comes after the type of a part.
-use Rattle.std.proofs.Common.{◌≡◌, ◌≢◌, ℕ, ◌+◌, ◌-◌, ◌*◌, ◌<◌, ◌≤◌, ◌∙◌, refl, ap, ap₂, sym, subst, arith, List, [], ◌∷◌, ◌++◌, map, length, take, Vec, Global, Bor, Result, Ok, Err, Some, None, inl, inr}
+use Rattle.std.proofs.Common.{◌≡◌, ◌≢◌, ℕ, ◌+◌, ◌-◌, ◌<◌, ◌≤◌, ◌∙◌, refl, ap, ap₂, sym, subst, arith, List, [], ◌∷◌, ◌++◌, map, length, take, Vec, Global, Bor, Result, Ok, Err, Option, Some, None, inl, inr}
 use Rattle.std.proofs.lemmas.List.Elements.{All-head, All-tail, All-same}
 use Rattle.idx_core.specs.declared.span.Span.{Span}
 use Rattle.f_terms.specs.Ty.{Ty, Tys, TInt, TArrow, TAll, TTuple, TSome, TRef, NoTys, shift, put, ShiftFits, tys, Below}
@@ -9,19 +9,23 @@ use Rattle.f_terms.specs.Tm.{SAssign, plain, span_of, tms}
 use Rattle.f_terms.specs.Limits.{nodes, Within, Shallow}
 use Rattle.f_terms.specs.Scope.{InScope}
 use Rattle.f_terms.specs.Typing.{field_ty, in_fix, in_open, raised}
-use Rattle.f_terms.specs.Faults.{Passes, Fault, limits, nothing}
+use Rattle.f_terms.specs.Faults.{Passes, nothing}
 use Rattle.f_terms.specs.Read.{tree, place}
 use Rattle.f_terms.specs.declared.types.FType.{FType}
 use Rattle.f_terms.specs.declared.types.FType.TheVariants as T
 use Rattle.f_terms.specs.declared.fault.Code.{Code}
 use Rattle.f_terms.specs.declared.fault.Code.TheVariants.{E07, E08, E09, E10, E11, E12, E13, E14, E16, E17, E18, E21, E22}
-use Rattle.f_terms.specs.declared.fault.FFault.{FFault}
-use Rattle.f_terms.specs.declared.fault.FFault.TheVariants.{Refused}
 use Rattle.f_terms.proofs.Trees.{tree_Tuple}
 use Rattle.f_terms.specs.ReadTerm.{count, node_at}
 use Rattle.f_terms.specs.declared.node.FTerm.{FTerm}
 use Rattle.f_check.specs.Scopes.{Bound, bound, IsScope}
-use Rattle.f_check.specs.Verdict.{Says, IsTypeOf, IsPut, IsVerdict}
+use Rattle.f_check.specs.Verdict.{IsTypeOf}
+use Rattle.f_check.specs.Mismatch.{Mismatch, Wanted, WType, WFunction, WPolymorphic, WTuple, WField, WPackage, WReference}
+use Rattle.f_check.specs.Mismatch.{WOutside, odds, limits_with, FaultBy}
+use Rattle.f_check.specs.Told.{read, Tells, IsPut, IsFound}
+use Rattle.f_check.specs.declared.mismatch.Mismatch as M
+use Rattle.f_check.specs.declared.failure.Failure.{Failure}
+use Rattle.f_check.specs.declared.failure.Failure.TheVariants.{Refused}
 use Rattle.f_check.specs.Walk.{Task, context, TypeIs, FaultOf, fix_names, IsReady, AllPass, Same, Part, top, now, Holds, Offered, Enters, frame_work, left, offer_work, Goes}
 use Rattle.arena.specs.Stack.{Chain, stack_sum}
 use Rattle.f_check.specs.declared.scope.Binder.{Binder}
@@ -48,14 +52,22 @@ use Rattle.f_check.proofs.Steps.{moved, in_body, in_gen, in_let, in_opened, fail
 task_is : (w : Task) (n : ℕ) (bs : List Bound) → n ≡ w.around → bs ≡ w.scope → record { e = w.e; around = n; scope = bs } ≡ w
 task_is w n bs en es = ap₂ (λ (n : ℕ) (bs : List Bound). let t : Task = record { e = w.e; around = n; scope = bs } in t) en es
 
-module _ (f : FTerm) (st : State) (w : Task) (hold : Holds f st w) where
-  -- a form is refused
-  pub refused : (e : Tm) (st' : State) (c : Code) (s : Span) (r : Result Control FFault) (m : ℕ) → r ≡ Err (Refused c s) → w.e ≡ e → Fault e w.around (context w) c (place s) → Goes f st' r m
-  refused e st' c s r m er is k =
-      subst (λ z. Goes f st' z m) (sym er) (fails f st w hold (Refused c s) (subst (λ z. Fault z w.around (context w) c (place s)) (sym is) k))
+-- the walk stops at this fault: such a type was wanted under the type names of the state, and t is there
+abbrev pub Stops : State → Code → Span → Wanted → Ty → Result Control Failure → Type 0
+Stops st c s w t z = (x : Option M.Mismatch) × (z ≡ Err (Refused c s x)) × (read x ≡ odds st.around w t)
 
-  pub faulty : (e : Tm) (x : FFault) → w.e ≡ e → Says x (Fault e w.around (context w)) → Says x (FaultOf (top f))
-  faulty e x is k = fails f st w hold x (subst (λ z. Says x (Fault z w.around (context w))) (sym is) k)
+module _ (f : FTerm) (st : State) (w : Task) (hold : Holds f st w) where
+  -- a form is refused, where x is what the code says of it
+  pub refused : (e : Tm) (st' : State) (c : Code) (s : Span) (x : Option M.Mismatch) (o : Option Mismatch)
+      (r : Result Control Failure) (m : ℕ) → r ≡ Err (Refused c s x) → read x ≡ o → w.e ≡ e →
+      FaultBy o e w.around (context w) c (place s) → Goes f st' r m
+  refused e st' c s x o r m er ex is k =
+      subst (λ z. Goes f st' z m) (sym er) (fails f st w hold (Refused c s x)
+      (subst (λ z. FaultBy (read x) z w.around (context w) c (place s)) (sym is)
+      (subst (λ z. FaultBy z e w.around (context w) c (place s)) (sym ex) k)))
+
+  pub faulty : (e : Tm) (x : Failure) → w.e ≡ e → Tells x (λ m. FaultBy m e w.around (context w)) → Tells x (FaultOf (top f))
+  faulty e x is k = fails f st w hold x (subst (λ z. Tells x (λ m. FaultBy m z w.around (context w))) (sym is) k)
 
   -- a form has its type
   pub given : (o : FType) (st' : State) (e : Tm) (t : FType) (s : Span) (m : ℕ) → st'.frames.items ≡ st.frames.items → now st' w.e ≡ w → w.e ≡ e → IsTypeOf e w.around (context w) (tree t) → span_of e ≡ place s → 1 + left f st < m →
@@ -79,12 +91,16 @@ module _ (f : FTerm) (st : State) (w : Task) (hold : Holds f st w) where
 -- the forms, where the type of a part is there
 module _ (f : FTerm) (st : State) (ty : FType) (q : Span) where
   -- a function
-  pub fix_refused : (x : Head) → Offered f st (C.Fix x) ty q → (st' : State) (z : Result Control FFault) (m : ℕ) → z ≡ Err (Refused E14 q) → tree ty ≢ tree x.res.now → Goes f st' z m
-  fix_refused x h st' z m ez ne =
+  pub fix_refused : (x : Head) → Offered f st (C.Fix x) ty q → (st' : State) (z : Result Control Failure) (m : ℕ) →
+      Stops st E14 q (WType (tree x.res.now)) (tree ty) z → tree ty ≢ tree x.res.now → Goes f st' z m
+  fix_refused x h st' z m k ne =
       let w = h.1 in
-      refused f st w h.5 (SFix (place x.span) (tree x.arg.now) (tree x.res.now) h.0) st' E14 q z m ez h.4.0
-      (forms.fix_res w.around (context w) (place x.span) (tree x.arg.now) (tree x.res.now) (tree ty) h.0 (in_fix (tree x.arg.now) (tree x.res.now) (context w)) (place q) refl h.4.4
-      (in_body (now st h.0) w (tree x.arg.now) (tree x.res.now) h.4.2 h.4.3 (λ n g. Passes h.0 n g (tree ty)) h.2.0) ne h.3)
+      let a = tree x.arg.now in
+      let r = tree x.res.now in
+      refused f st w h.5 (SFix (place x.span) a r h.0) st' E14 q k.0 (odds w.around (WType r) (tree ty)) z m k.1
+      (k.2 ∙ ap (λ n. odds n (WType r) (tree ty)) h.4.2) h.4.0
+      (forms.fix_res w.around (context w) (place x.span) a r (tree ty) h.0 (in_fix a r (context w)) (place q) refl h.4.4
+      (in_body (now st h.0) w a r h.4.2 h.4.3 (λ n g. Passes h.0 n g (tree ty)) h.2.0) ne h.3)
 
   pub fix_given : (x : Head) → Offered f st (C.Fix x) ty q → (sc : Vec Binder Global) (t : FType) → sc.items ≡ take (length st.scope.items - 2) st.scope.items → tree ty ≡ tree x.res.now → tree t ≡ TArrow (tree x.arg.now) (tree x.res.now) →
       Goes f (record st { scope = sc }) (Ok (Give t x.span T.Int)) (offer_work f st [])
@@ -101,17 +117,23 @@ module _ (f : FTerm) (st : State) (ty : FType) (q : Span) where
   same_type fr h s = moved (now st h.0) h.1 s (λ n g. IsTypeOf h.0 n g (tree ty)) h.2
 
   -- an application
-  pub fun_refused : (s : Span) (x : ℕ) → Offered f st (C.Function s x) ty q → (z : Result Control FFault) (m : ℕ) → z ≡ Err (Refused E07 q) → ((a b : Ty) → tree ty ≢ TArrow a b) → Goes f st z m
-  fun_refused s x h z m ez ne =
+  pub fun_refused : (s : Span) (x : ℕ) → Offered f st (C.Function s x) ty q → (z : Result Control Failure) (m : ℕ) →
+      Stops st E07 q WFunction (tree ty) z → ((a b : Ty) → tree ty ≢ TArrow a b) → Goes f st z m
+  fun_refused s x h z m k ne =
       let w = h.1 in
-      refused f st w h.5 (SApp (place s) h.0 (node_at f x)) st E07 q z m ez h.4.0
-      (forms.app_fun w.around (context w) (place s) h.0 (node_at f x) (tree ty) (place q) (same_type (C.Function s x) h h.4.2).0 ne h.3)
+      refused f st w h.5 (SApp (place s) h.0 (node_at f x)) st E07 q k.0 (odds w.around WFunction (tree ty)) z m k.1
+      (k.2 ∙ ap (λ n. odds n WFunction (tree ty)) h.4.2.0) h.4.0
+      (forms.app_fun w.around (context w) (place s) h.0 (node_at f x) (tree ty) (place q)
+      (same_type (C.Function s x) h h.4.2).0 ne h.3)
 
-  pub arg_refused : (s : Span) (a r : FType) → Offered f st (C.Argument s a r) ty q → (z : Result Control FFault) (m : ℕ) → z ≡ Err (Refused E08 q) → tree ty ≢ tree a → Goes f st z m
-  arg_refused s a r h z m ez ne =
+  pub arg_refused : (s : Span) (a r : FType) → Offered f st (C.Argument s a r) ty q → (z : Result Control Failure) (m : ℕ) →
+      Stops st E08 q (WType (tree a)) (tree ty) z → tree ty ≢ tree a → Goes f st z m
+  arg_refused s a r h z m k ne =
       let w = h.1 in
-      refused f st w h.5 (SApp (place s) h.4.0 h.0) st E08 q z m ez h.4.1
-      (forms.app_arg w.around (context w) (place s) h.4.0 h.0 (TArrow (tree a) (tree r)) (tree a) (tree r) (tree ty) (place q) h.4.4.0 refl (same_type (C.Argument s a r) h h.4.3).0 ne h.3)
+      refused f st w h.5 (SApp (place s) h.4.0 h.0) st E08 q k.0 (odds w.around (WType (tree a)) (tree ty)) z m k.1
+      (k.2 ∙ ap (λ n. odds n (WType (tree a)) (tree ty)) h.4.3.0) h.4.1
+      (forms.app_arg w.around (context w) (place s) h.4.0 h.0 (TArrow (tree a) (tree r)) (tree a) (tree r) (tree ty)
+      (place q) h.4.4.0 refl (same_type (C.Argument s a r) h h.4.3).0 ne h.3)
 
   pub arg_given : (s : Span) (a r : FType) → Offered f st (C.Argument s a r) ty q → tree ty ≡ tree a → Goes f st (Ok (Give r s T.Int)) (offer_work f st [])
   arg_given s a r h et =
@@ -123,11 +145,11 @@ module _ (f : FTerm) (st : State) (ty : FType) (q : Span) where
   gen_type : (s : Span) (h : Offered f st (C.Gen s) ty q) → IsTypeOf h.0 (h.1.around + 1) (raised (context h.1)) (tree ty)
   gen_type s h = in_gen (now st h.0) h.1 h.4.1 h.4.2 h.4.3 (λ n g. IsTypeOf h.0 n g (tree ty)) h.2
 
-  pub gen_refused : (s : Span) → Offered f st (C.Gen s) ty q → (x : FFault) → Says x (limits (TAll (tree ty)) (place s) nothing) → Says x (FaultOf (top f))
+  pub gen_refused : (s : Span) → Offered f st (C.Gen s) ty q → (x : Failure) → Tells x (λ m. limits_with m (TAll (tree ty)) (place s) nothing) → Tells x (FaultOf (top f))
   gen_refused s h x k =
       let w = h.1 in
       faulty f st w h.5 (SGen (place s) h.0) x h.4.0
-      (forms.says_map x _ (Fault (SGen (place s) h.0) w.around (context w)) (forms.gen_limit w.around (context w) (place s) h.0 (raised (context w)) (tree ty) refl (gen_type s h).0) k)
+      (forms.tells_map x _ (λ m. FaultBy m (SGen (place s) h.0) w.around (context w)) (forms.gen_limit w.around (context w) (place s) h.0 (raised (context w)) (tree ty) refl (gen_type s h).0) k)
 
   pub gen_given : (s : Span) → Offered f st (C.Gen s) ty q → (t : FType) → tree t ≡ TAll (tree ty) → Within (TAll (tree ty)) → Goes f (record st { around = st.around - 1 }) (Ok (Give t s T.Int)) (offer_work f st [])
   gen_given s h t et wi =
@@ -137,11 +159,14 @@ module _ (f : FTerm) (st : State) (ty : FType) (q : Span) where
       (forms.gen_ok w.around (context w) (place s) h.0 (raised (context w)) (tree ty) (tree t) refl (gen_type s h) wi et) refl (omega arith)
 
   -- a type application
-  pub inst_refused : (s : Span) (a : Bor FType) → Offered f st (C.Inst s a) ty q → (z : Result Control FFault) (m : ℕ) → z ≡ Err (Refused E09 q) → ((b : Ty) → tree ty ≢ TAll b) → Goes f st z m
-  inst_refused s a h z m ez ne =
+  pub inst_refused : (s : Span) (a : Bor FType) → Offered f st (C.Inst s a) ty q → (z : Result Control Failure) (m : ℕ) →
+      Stops st E09 q WPolymorphic (tree ty) z → ((b : Ty) → tree ty ≢ TAll b) → Goes f st z m
+  inst_refused s a h z m k ne =
       let w = h.1 in
-      refused f st w h.5 (SInst (place s) h.0 (tree a.now)) st E09 q z m ez h.4.0
-      (forms.inst_all w.around (context w) (place s) h.0 (tree a.now) (tree ty) (place q) (same_type (C.Inst s a) h h.4.2).0 ne h.3)
+      refused f st w h.5 (SInst (place s) h.0 (tree a.now)) st E09 q k.0 (odds w.around WPolymorphic (tree ty)) z m k.1
+      (k.2 ∙ ap (λ n. odds n WPolymorphic (tree ty)) h.4.2.0) h.4.0
+      (forms.inst_all w.around (context w) (place s) h.0 (tree a.now) (tree ty) (place q)
+      (same_type (C.Inst s a) h h.4.2).0 ne h.3)
 
   inst_below : (s : Span) (a : Bor FType) (h : Offered f st (C.Inst s a) ty q) → Below h.1.around (tree a.now)
   inst_below s a h = (subst (λ z. InScope (plain z) h.1.around (length h.1.scope)) h.4.0 h.4.1.1).1
@@ -152,8 +177,8 @@ module _ (f : FTerm) (st : State) (ty : FType) (q : Span) where
       let room = h.4.1.2 in
       put_fits h.1.around (tree a.now) (tree b) (omega (arith, room)) (inst_below s a h) small (omega (arith, wi.0))
 
-  inst_put : (s : Span) (a : Bor FType) (h : Offered f st (C.Inst s a) ty q) (b : FType) → tree ty ≡ TAll (tree b) → (r : Result FType FFault) → IsPut (tree a.now) (tree b) (place s) r →
-      IsVerdict (SInst (place s) h.0 (tree a.now)) h.1.around (context h.1) r
+  inst_put : (s : Span) (a : Bor FType) (h : Offered f st (C.Inst s a) ty q) (b : FType) → tree ty ≡ TAll (tree b) → (r : Result FType Failure) → IsPut (tree a.now) (tree b) (place s) r →
+      IsFound (SInst (place s) h.0 (tree a.now)) h.1.around (context h.1) r
   inst_put s a h b eb r put =
       forms.inst_put h.1.around (context h.1) (place s) h.0 (tree a.now) (tree ty) (tree b) (same_type (C.Inst s a) h h.4.2) eb (inst_below s a h) r put
 
@@ -162,20 +187,25 @@ module _ (f : FTerm) (st : State) (ty : FType) (q : Span) where
       let w = h.1 in
       given f st w h.5 T.Int st (SInst (place s) h.0 (tree a.now)) t s (offer_work f st []) refl (task_is w st.around (map bound st.scope.items) h.4.2.0 h.4.2.1) h.4.0 (inst_put s a h b eb (Ok t) put) refl (omega arith)
 
-  pub inst_faulty : (s : Span) (a : Bor FType) → Offered f st (C.Inst s a) ty q → (b : FType) (x : FFault) → tree ty ≡ TAll (tree b) → IsPut (tree a.now) (tree b) (place s) (Err x) → Says x (FaultOf (top f))
+  pub inst_faulty : (s : Span) (a : Bor FType) → Offered f st (C.Inst s a) ty q → (b : FType) (x : Failure) → tree ty ≡ TAll (tree b) → IsPut (tree a.now) (tree b) (place s) (Err x) → Tells x (FaultOf (top f))
   inst_faulty s a h b x eb put = faulty f st h.1 h.5 (SInst (place s) h.0 (tree a.now)) x h.4.0 (inst_put s a h b eb (Err x) put)
 
   -- a projection
-  pub proj_refused : (s : Span) (i : ℕ) → Offered f st (C.Proj s i) ty q → (z : Result Control FFault) (m : ℕ) → z ≡ Err (Refused E10 q) → ((ts : Tys) → tree ty ≢ TTuple ts) → Goes f st z m
-  proj_refused s i h z m ez ne =
+  pub proj_refused : (s : Span) (i : ℕ) → Offered f st (C.Proj s i) ty q → (z : Result Control Failure) (m : ℕ) →
+      Stops st E10 q WTuple (tree ty) z → ((ts : Tys) → tree ty ≢ TTuple ts) → Goes f st z m
+  proj_refused s i h z m k ne =
       let w = h.1 in
-      refused f st w h.5 (SProj (place s) i h.0) st E10 q z m ez h.4.0
-      (fields.proj_tuple w.around (context w) (place s) i h.0 (tree ty) (place q) (same_type (C.Proj s i) h h.4.2).0 ne h.3)
+      refused f st w h.5 (SProj (place s) i h.0) st E10 q k.0 (odds w.around WTuple (tree ty)) z m k.1
+      (k.2 ∙ ap (λ n. odds n WTuple (tree ty)) h.4.2.0) h.4.0
+      (fields.proj_tuple w.around (context w) (place s) i h.0 (tree ty) (place q)
+      (same_type (C.Proj s i) h h.4.2).0 ne h.3)
 
-  pub proj_missing : (s : Span) (i : ℕ) → Offered f st (C.Proj s i) ty q → (ts : Tys) (z : Result Control FFault) (m : ℕ) → z ≡ Err (Refused E11 s) → tree ty ≡ TTuple ts → field_ty ts i ≡ None → Goes f st z m
-  proj_missing s i h ts z m ez et none =
+  pub proj_missing : (s : Span) (i : ℕ) → Offered f st (C.Proj s i) ty q → (ts : Tys) (z : Result Control Failure) (m : ℕ) →
+      Stops st E11 s WField (tree ty) z → tree ty ≡ TTuple ts → field_ty ts i ≡ None → Goes f st z m
+  proj_missing s i h ts z m k et none =
       let w = h.1 in
-      refused f st w h.5 (SProj (place s) i h.0) st E11 s z m ez h.4.0
+      refused f st w h.5 (SProj (place s) i h.0) st E11 s k.0 (odds w.around WField (tree ty)) z m k.1
+      (k.2 ∙ ap (λ n. odds n WField (tree ty)) h.4.2.0) h.4.0
       (fields.proj_field w.around (context w) (place s) i h.0 (tree ty) ts (same_type (C.Proj s i) h h.4.2).0 et none)
 
   pub proj_given : (s : Span) (i : ℕ) → Offered f st (C.Proj s i) ty q → (ts : Tys) (t : FType) → tree ty ≡ TTuple ts → field_ty ts i ≡ Some (tree t) → Goes f st (Ok (Give t s T.Int)) (offer_work f st [])
@@ -185,15 +215,21 @@ module _ (f : FTerm) (st : State) (ty : FType) (q : Span) where
       (fields.proj_ok w.around (context w) (place s) i h.0 (tree ty) (tree t) ts (same_type (C.Proj s i) h h.4.2) et at) refl (omega arith)
 
   -- operands
-  pub left_refused : (s : Span) (b : ℕ) → Offered f st (C.Left s b) ty q → (z : Result Control FFault) (m : ℕ) → z ≡ Err (Refused E12 q) → tree ty ≢ TInt → Goes f st z m
-  left_refused s b h z m ez ne =
-      refused f st h.1 h.5 (SArith (place s) h.4.0 h.0 (node_at f b)) st E12 q z m ez h.4.1
-      (inr (tree ty, (same_type (C.Left s b) h h.4.3).0, inl (ne, (refl, sym h.3))))
+  pub left_refused : (s : Span) (b : ℕ) → Offered f st (C.Left s b) ty q → (z : Result Control Failure) (m : ℕ) →
+      Stops st E12 q (WType TInt) (tree ty) z → tree ty ≢ TInt → Goes f st z m
+  left_refused s b h z m k ne =
+      let w = h.1 in
+      refused f st w h.5 (SArith (place s) h.4.0 h.0 (node_at f b)) st E12 q k.0 (odds w.around (WType TInt) (tree ty)) z m
+      k.1 (k.2 ∙ ap (λ n. odds n (WType TInt) (tree ty)) h.4.3.0) h.4.1
+      (inr (tree ty, (same_type (C.Left s b) h h.4.3).0, inl (ne, (refl, sym h.3, refl))))
 
-  pub right_refused : (s : Span) → Offered f st (C.Right s) ty q → (z : Result Control FFault) (m : ℕ) → z ≡ Err (Refused E12 q) → tree ty ≢ TInt → Goes f st z m
-  right_refused s h z m ez ne =
-      refused f st h.1 h.5 (SArith (place s) h.4.0 h.4.1 h.0) st E12 q z m ez h.4.2
-      (inr (TInt, h.4.5, inr (refl, inr (tree ty, (same_type (C.Right s) h h.4.4).0, inl (ne, (refl, sym h.3))))))
+  pub right_refused : (s : Span) → Offered f st (C.Right s) ty q → (z : Result Control Failure) (m : ℕ) →
+      Stops st E12 q (WType TInt) (tree ty) z → tree ty ≢ TInt → Goes f st z m
+  right_refused s h z m k ne =
+      let w = h.1 in
+      refused f st w h.5 (SArith (place s) h.4.0 h.4.1 h.0) st E12 q k.0 (odds w.around (WType TInt) (tree ty)) z m
+      k.1 (k.2 ∙ ap (λ n. odds n (WType TInt) (tree ty)) h.4.4.0) h.4.2
+      (inr (TInt, h.4.5, inr (refl, inr (tree ty, (same_type (C.Right s) h h.4.4).0, inl (ne, (refl, sym h.3, refl))))))
 
   pub right_given : (s : Span) → Offered f st (C.Right s) ty q → tree ty ≡ TInt → Goes f st (Ok (Give T.Int s T.Int)) (offer_work f st [])
   right_given s h et =
@@ -202,15 +238,22 @@ module _ (f : FTerm) (st : State) (ty : FType) (q : Span) where
       ((refl, h.4.5, subst (Passes h.0 w.around (context w)) et (same_type (C.Right s) h h.4.4).0), tt, (omega arith, omega arith)) refl (omega arith)
 
   -- an if0
-  pub test_refused : (s : Span) (a b : ℕ) → Offered f st (C.Test s a b) ty q → (z : Result Control FFault) (m : ℕ) → z ≡ Err (Refused E12 q) → tree ty ≢ TInt → Goes f st z m
-  test_refused s a b h z m ez ne =
-      refused f st h.1 h.5 (SIf0 (place s) h.0 (node_at f a) (node_at f b)) st E12 q z m ez h.4.0
-      (inr (tree ty, (same_type (C.Test s a b) h h.4.2).0, inl (ne, (refl, sym h.3))))
+  pub test_refused : (s : Span) (a b : ℕ) → Offered f st (C.Test s a b) ty q → (z : Result Control Failure) (m : ℕ) →
+      Stops st E12 q (WType TInt) (tree ty) z → tree ty ≢ TInt → Goes f st z m
+  test_refused s a b h z m k ne =
+      let w = h.1 in
+      refused f st w h.5 (SIf0 (place s) h.0 (node_at f a) (node_at f b)) st E12 q k.0
+      (odds w.around (WType TInt) (tree ty)) z m k.1 (k.2 ∙ ap (λ n. odds n (WType TInt) (tree ty)) h.4.2.0) h.4.0
+      (inr (tree ty, (same_type (C.Test s a b) h h.4.2).0, inl (ne, (refl, sym h.3, refl))))
 
-  pub other_refused : (s : Span) (zero : FType) → Offered f st (C.Other s zero) ty q → (z : Result Control FFault) (m : ℕ) → z ≡ Err (Refused E13 q) → tree ty ≢ tree zero → Goes f st z m
-  other_refused s zero h z m ez ne =
-      refused f st h.1 h.5 (SIf0 (place s) h.4.0 h.4.1 h.0) st E13 q z m ez h.4.2
-      (forms.if_branches h.1.around (context h.1) (place s) h.4.0 h.4.1 h.0 (tree zero) (tree ty) (place q) h.4.5 h.4.6.0 (same_type (C.Other s zero) h h.4.4).0 ne h.3)
+  pub other_refused : (s : Span) (zero : FType) → Offered f st (C.Other s zero) ty q → (z : Result Control Failure) (m : ℕ) →
+      Stops st E13 q (WType (tree zero)) (tree ty) z → tree ty ≢ tree zero → Goes f st z m
+  other_refused s zero h z m k ne =
+      let w = h.1 in
+      refused f st w h.5 (SIf0 (place s) h.4.0 h.4.1 h.0) st E13 q k.0 (odds w.around (WType (tree zero)) (tree ty)) z m k.1
+      (k.2 ∙ ap (λ n. odds n (WType (tree zero)) (tree ty)) h.4.4.0) h.4.2
+      (forms.if_branches w.around (context w) (place s) h.4.0 h.4.1 h.0 (tree zero) (tree ty) (place q) h.4.5 h.4.6.0
+      (same_type (C.Other s zero) h h.4.4).0 ne h.3)
 
   pub other_given : (s : Span) (zero : FType) → Offered f st (C.Other s zero) ty q → tree ty ≡ tree zero → Goes f st (Ok (Give zero s T.Int)) (offer_work f st [])
   other_given s zero h et =
@@ -254,11 +297,11 @@ module _ (f : FTerm) (st : State) (ty : FType) (q : Span) where
       (tuple_ok w.around (context w) (place s) (h.4.0 ++ h.0 ∷ []) (map tree us.items) (tree (T.Tuple us)) (field_passes s ts us rest h eu) (tree_Tuple us) wi) refl (omega arith)
 
   pub field_faulty : (s : Span) (ts us : Vec FType Global) (rest : Bor (List ℕ)) → Offered f st (C.Fields s ts rest) ty q → map tree us.items ≡ map tree ts.items ++ tree ty ∷ [] → length rest.now ≡ 0 →
-      (x : FFault) → Says x (limits (TTuple (tys (map tree us.items))) (place s) nothing) → Says x (FaultOf (top f))
+      (x : Failure) → Tells x (λ m. limits_with m (TTuple (tys (map tree us.items))) (place s) nothing) → Tells x (FaultOf (top f))
   field_faulty s ts us rest h eu z x k =
       let w = h.1 in
       faulty f st w h.5 (STuple (place s) (tms (h.4.0 ++ h.0 ∷ []))) x (no_rest s ts rest h z)
-      (forms.says_map x _ (Fault (STuple (place s) (tms (h.4.0 ++ h.0 ∷ []))) w.around (context w))
+      (forms.tells_map x _ (λ m. FaultBy m (STuple (place s) (tms (h.4.0 ++ h.0 ∷ []))) w.around (context w))
       (tuple_limit w.around (context w) (place s) (h.4.0 ++ h.0 ∷ []) (map tree us.items) (field_passes s ts us rest h eu)) k)
 
   -- a let
@@ -307,14 +350,26 @@ module _ (f : FTerm) (st : State) (ty : FType) (q : Span) where
       ((u, h.4.6, p.0), p.1, p.2) refl (omega arith)
 
   -- a package
-  pub pack_refused : (p : Packing) → Offered f st (C.Pack p) ty q → (z : Result Control FFault) (m : ℕ) → z ≡ Err (Refused E17 q) → tree ty ≢ put 0 (tree p.hidden.now) (tree p.body.now) → Goes f st z m
-  pack_refused p h z m ez ne =
+  pub pack_refused : (p : Packing) → Offered f st (C.Pack p) ty q → (z : Result Control Failure) (m : ℕ) →
+      Stops st E17 q (WType (put 0 (tree p.hidden.now) (tree p.body.now))) (tree ty) z →
+      tree ty ≢ put 0 (tree p.hidden.now) (tree p.body.now) → Within (put 0 (tree p.hidden.now) (tree p.body.now)) →
+      Goes f st z m
+  pack_refused p h z m k ne wi =
       let w = h.1 in
-      refused f st w h.5 (SPack (place p.span) (tree p.hidden.now) h.0 (tree p.shape.now)) st E17 q z m ez h.4.0
-      (forms.pack_other w.around (context w) (place p.span) (tree p.hidden.now) (tree p.shape.now) (tree p.body.now) (tree ty) h.0 (place q) h.4.3 h.4.4 h.4.5 (same_type (C.Pack p) h h.4.2).0 ne h.3)
+      let made = put 0 (tree p.hidden.now) (tree p.body.now) in
+      refused f st w h.5 (SPack (place p.span) (tree p.hidden.now) h.0 (tree p.shape.now)) st E17 q k.0
+      (odds w.around (WType made) (tree ty)) z m k.1 (k.2 ∙ ap (λ n. odds n (WType made) (tree ty)) h.4.2.0) h.4.0
+      (forms.pack_other w.around (context w) (place p.span) (tree p.hidden.now) (tree p.shape.now) (tree p.body.now) (tree ty)
+      h.0 (place q) h.4.3 h.4.4 h.4.5 (same_type (C.Pack p) h h.4.2).0 ne wi h.3)
 
-  pub pack_large : (p : Packing) → Offered f st (C.Pack p) ty q → (z : Result Control FFault) (m : ℕ) → z ≡ Err (Refused E17 q) → (Within (put 0 (tree p.hidden.now) (tree p.body.now)) → ⊥) → Goes f st z m
-  pack_large p h z m ez large = pack_refused p h z m ez (λ e. large (subst Within e h.2.2))
+  pub pack_large : (p : Packing) → Offered f st (C.Pack p) ty q → (z : Result Control Failure) (m : ℕ) → z ≡ Err (Refused E17 q None) →
+      (Within (put 0 (tree p.hidden.now) (tree p.body.now)) → ⊥) → Goes f st z m
+  pack_large p h z m ez large =
+      let w = h.1 in
+      refused f st w h.5 (SPack (place p.span) (tree p.hidden.now) h.0 (tree p.shape.now)) st E17 q None None z m ez refl
+      h.4.0
+      (forms.pack_large w.around (context w) (place p.span) (tree p.hidden.now) (tree p.shape.now) (tree p.body.now) (tree ty)
+      h.0 (place q) h.4.3 h.4.4 h.4.5 (same_type (C.Pack p) h h.4.2).0 (λ e. large (subst Within e h.2.2)) large h.3)
 
   pub pack_small : (p : Packing) → Offered f st (C.Pack p) ty q → Within (tree p.body.now)
   pack_small p h = some_within (tree p.body.now) (subst Within h.4.3 h.4.5)
@@ -335,11 +390,14 @@ module _ (f : FTerm) (st : State) (ty : FType) (q : Span) where
       (forms.pack_ok w.around (context w) (place p.span) (tree p.hidden.now) (tree p.shape.now) (tree p.body.now) (tree ty) (tree t) h.0 h.4.3 h.4.4 h.4.5 sc.0 sc.1 (same_type (C.Pack p) h h.4.2).0 et eu) refl (omega arith)
 
   -- an open
-  pub open_refused : (s : Span) (b : ℕ) → Offered f st (C.Open s b) ty q → (z : Result Control FFault) (m : ℕ) → z ≡ Err (Refused E16 q) → ((u : Ty) → tree ty ≢ TSome u) → Goes f st z m
-  open_refused s b h z m ez ne =
+  pub open_refused : (s : Span) (b : ℕ) → Offered f st (C.Open s b) ty q → (z : Result Control Failure) (m : ℕ) →
+      Stops st E16 q WPackage (tree ty) z → ((u : Ty) → tree ty ≢ TSome u) → Goes f st z m
+  open_refused s b h z m k ne =
       let w = h.1 in
-      refused f st w h.5 (SOpen (place s) h.0 (node_at f b)) st E16 q z m ez h.4.0
-      (forms.open_first w.around (context w) (place s) h.0 (node_at f b) (tree ty) (place q) (same_type (C.Open s b) h h.4.2).0 ne h.3)
+      refused f st w h.5 (SOpen (place s) h.0 (node_at f b)) st E16 q k.0 (odds w.around WPackage (tree ty)) z m k.1
+      (k.2 ∙ ap (λ n. odds n WPackage (tree ty)) h.4.2.0) h.4.0
+      (forms.open_first w.around (context w) (place s) h.0 (node_at f b) (tree ty) (place q)
+      (same_type (C.Open s b) h h.4.2).0 ne h.3)
 
   pub open_enters : (s : Span) (b : ℕ) → Offered f st (C.Open s b) ty q → (sc : Vec Binder Global) (x : FType) →
       tree ty ≡ TSome (tree x) →
@@ -394,11 +452,12 @@ module _ (f : FTerm) (st : State) (ty : FType) (q : Span) where
       let p = opened_type s h in
       shift_fits 1 w.around (outside (tree ty)) (omega (arith, room)) (put_bound w.around TInt (tree ty) tt p.1) (outside_depth (tree ty) p.2.0)
 
-  pub opened_refused : (s : Span) → Offered f st (C.Opened s) ty q → (st' : State) (z : Result Control FFault) (m : ℕ) →
-      z ≡ Err (Refused E18 q) → tree ty ≢ shift 1 0 (outside (tree ty)) → Goes f st' z m
-  opened_refused s h st' z m ez ne =
+  pub opened_refused : (s : Span) → Offered f st (C.Opened s) ty q → (st' : State) (z : Result Control Failure) (m : ℕ) →
+      Stops st E18 q WOutside (tree ty) z → tree ty ≢ shift 1 0 (outside (tree ty)) → Goes f st' z m
+  opened_refused s h st' z m k ne =
       let w = h.1 in
-      refused f st w h.5 (SOpen (place s) h.4.0 h.0) st' E18 q z m ez h.4.1
+      refused f st w h.5 (SOpen (place s) h.4.0 h.0) st' E18 q k.0 (odds (w.around + 1) WOutside (tree ty)) z m k.1
+      (k.2 ∙ ap (λ n. odds n WOutside (tree ty)) h.4.3) h.4.1
       (forms.open_escapes w.around (context w) (place s) h.4.0 h.0 h.4.4 (tree ty) (place q) h.4.6 (opened_type s h).0 ne h.3)
 
   pub opened_given : (s : Span) → Offered f st (C.Opened s) ty q → (sc : Vec Binder Global) (t o : FType) (n : ℕ) →
@@ -416,11 +475,11 @@ module _ (f : FTerm) (st : State) (ty : FType) (q : Span) where
       refl (omega arith)
 
   -- references
-  pub ref_refused : (s : Span) → Offered f st (C.Ref s) ty q → (x : FFault) → Says x (limits (TRef (tree ty)) (place s) nothing) → Says x (FaultOf (top f))
+  pub ref_refused : (s : Span) → Offered f st (C.Ref s) ty q → (x : Failure) → Tells x (λ m. limits_with m (TRef (tree ty)) (place s) nothing) → Tells x (FaultOf (top f))
   ref_refused s h x k =
       let w = h.1 in
       faulty f st w h.5 (SRef (place s) h.0) x h.4.0
-      (forms.says_map x _ (Fault (SRef (place s) h.0) w.around (context w)) (forms.ref_limit w.around (context w) (place s) h.0 (tree ty) (same_type (C.Ref s) h h.4.2).0) k)
+      (forms.tells_map x _ (λ m. FaultBy m (SRef (place s) h.0) w.around (context w)) (forms.ref_limit w.around (context w) (place s) h.0 (tree ty) (same_type (C.Ref s) h h.4.2).0) k)
 
   pub ref_given : (s : Span) → Offered f st (C.Ref s) ty q → (t : FType) → tree t ≡ TRef (tree ty) → Within (TRef (tree ty)) → Goes f st (Ok (Give t s T.Int)) (offer_work f st [])
   ref_given s h t et wi =
@@ -428,10 +487,12 @@ module _ (f : FTerm) (st : State) (ty : FType) (q : Span) where
       given f st w h.5 T.Int st (SRef (place s) h.0) t s (offer_work f st []) refl (task_is w st.around (map bound st.scope.items) h.4.2.0 h.4.2.1) h.4.0
       (forms.ref_ok w.around (context w) (place s) h.0 (tree ty) (tree t) (same_type (C.Ref s) h h.4.2) wi et) refl (omega arith)
 
-  pub deref_refused : (s : Span) → Offered f st (C.Deref s) ty q → (z : Result Control FFault) (m : ℕ) → z ≡ Err (Refused E21 q) → ((u : Ty) → tree ty ≢ TRef u) → Goes f st z m
-  deref_refused s h z m ez ne =
+  pub deref_refused : (s : Span) → Offered f st (C.Deref s) ty q → (z : Result Control Failure) (m : ℕ) →
+      Stops st E21 q WReference (tree ty) z → ((u : Ty) → tree ty ≢ TRef u) → Goes f st z m
+  deref_refused s h z m k ne =
       let w = h.1 in
-      refused f st w h.5 (SDeref (place s) h.0) st E21 q z m ez h.4.0
+      refused f st w h.5 (SDeref (place s) h.0) st E21 q k.0 (odds w.around WReference (tree ty)) z m k.1
+      (k.2 ∙ ap (λ n. odds n WReference (tree ty)) h.4.2.0) h.4.0
       (forms.deref_other w.around (context w) (place s) h.0 (tree ty) (place q) (same_type (C.Deref s) h h.4.2).0 ne h.3)
 
   pub deref_given : (s : Span) → Offered f st (C.Deref s) ty q → (t : FType) → tree ty ≡ TRef (tree t) → Goes f st (Ok (Give t s T.Int)) (offer_work f st [])
@@ -440,11 +501,14 @@ module _ (f : FTerm) (st : State) (ty : FType) (q : Span) where
       given f st w h.5 T.Int st (SDeref (place s) h.0) t s (offer_work f st []) refl (task_is w st.around (map bound st.scope.items) h.4.2.0 h.4.2.1) h.4.0
       (forms.deref_ok w.around (context w) (place s) h.0 (tree ty) (tree t) (same_type (C.Deref s) h h.4.2) et) refl (omega arith)
 
-  pub target_refused : (s : Span) (b : ℕ) → Offered f st (C.Target s b) ty q → (z : Result Control FFault) (m : ℕ) → z ≡ Err (Refused E21 q) → ((u : Ty) → tree ty ≢ TRef u) → Goes f st z m
-  target_refused s b h z m ez ne =
+  pub target_refused : (s : Span) (b : ℕ) → Offered f st (C.Target s b) ty q → (z : Result Control Failure) (m : ℕ) →
+      Stops st E21 q WReference (tree ty) z → ((u : Ty) → tree ty ≢ TRef u) → Goes f st z m
+  target_refused s b h z m k ne =
       let w = h.1 in
-      refused f st w h.5 (SAssign (place s) h.0 (node_at f b)) st E21 q z m ez h.4.0
-      (forms.assign_first w.around (context w) (place s) h.0 (node_at f b) (tree ty) (place q) (same_type (C.Target s b) h h.4.2).0 ne h.3)
+      refused f st w h.5 (SAssign (place s) h.0 (node_at f b)) st E21 q k.0 (odds w.around WReference (tree ty)) z m k.1
+      (k.2 ∙ ap (λ n. odds n WReference (tree ty)) h.4.2.0) h.4.0
+      (forms.assign_first w.around (context w) (place s) h.0 (node_at f b) (tree ty) (place q)
+      (same_type (C.Target s b) h h.4.2).0 ne h.3)
 
   pub target_enters : (s : Span) (b : ℕ) → Offered f st (C.Target s b) ty q → (u : FType) → tree ty ≡ TRef (tree u) → Enters f st (C.Assigned s u) b
   target_enters s b h u et =
@@ -452,11 +516,14 @@ module _ (f : FTerm) (st : State) (ty : FType) (q : Span) where
       next f st w h.5 (C.Assigned s u) b (SAssign (place s) h.0 (node_at f b)) h.4.2.0 h.4.2.1 h.4.0 h.4.1 h.4.3 (λ n m k. k.1) (omega arith)
       (h.0, h.4.0, h.4.1, h.4.2, subst (Passes h.0 w.around (context w)) et (same_type (C.Target s b) h h.4.2).0)
 
-  pub assigned_refused : (s : Span) (u : FType) → Offered f st (C.Assigned s u) ty q → (z : Result Control FFault) (m : ℕ) → z ≡ Err (Refused E22 q) → tree ty ≢ tree u → Goes f st z m
-  assigned_refused s u h z m ez ne =
+  pub assigned_refused : (s : Span) (u : FType) → Offered f st (C.Assigned s u) ty q → (z : Result Control Failure) (m : ℕ) →
+      Stops st E22 q (WType (tree u)) (tree ty) z → tree ty ≢ tree u → Goes f st z m
+  assigned_refused s u h z m k ne =
       let w = h.1 in
-      refused f st w h.5 (SAssign (place s) h.4.0 h.0) st E22 q z m ez h.4.1
-      (forms.assign_other w.around (context w) (place s) h.4.0 h.0 (tree u) (tree ty) (place q) h.4.4 (same_type (C.Assigned s u) h h.4.3).0 ne h.3)
+      refused f st w h.5 (SAssign (place s) h.4.0 h.0) st E22 q k.0 (odds w.around (WType (tree u)) (tree ty)) z m k.1
+      (k.2 ∙ ap (λ n. odds n (WType (tree u)) (tree ty)) h.4.3.0) h.4.1
+      (forms.assign_other w.around (context w) (place s) h.4.0 h.0 (tree u) (tree ty) (place q) h.4.4
+      (same_type (C.Assigned s u) h h.4.3).0 ne h.3)
 
   pub assigned_given : (s : Span) (u : FType) → Offered f st (C.Assigned s u) ty q → (t : FType) → tree t ≡ TTuple NoTys → tree ty ≡ tree u → Goes f st (Ok (Give t s T.Int)) (offer_work f st [])
   assigned_given s u h t eu et =

@@ -1,27 +1,27 @@
 -- The steps of a checker.
-use Rattle.std.proofs.Common.{◌≡◌, ℕ, ◌+◌, ◌*◌, ◌<◌, [], ◌∷◌, ◌++◌, map, refl, ap, ◌∙◌, sym, subst, arith, inl, inr, Ok, Vec, Global}
+use Rattle.std.proofs.Common.{◌≡◌, ℕ, ◌+◌, ◌*◌, ◌<◌, [], ◌∷◌, ◌++◌, map, refl, ap, ◌∙◌, sym, subst, arith, inl, inr, Ok, Option, Vec, Global}
 use Rattle.arena.specs.Stack.{Chain, stack_sum}
 use Rattle.arena.proofs.Stacks.{chain_push, chain_pop, chain_up, sum_push}
 use Rattle.f_terms.specs.Ty.{Ty, Tys, NoTys, MoreTys, TInt, TArrow, TRef}
 use Rattle.f_terms.specs.Tm.{Tm, Spn, plain}
 use Rattle.f_terms.specs.Limits.{nodes}
 use Rattle.f_terms.specs.Typing.{raised, in_fix, in_open}
-use Rattle.f_terms.specs.Faults.{Fault}
 use Rattle.f_terms.specs.Read.{tree, place}
 use Rattle.idx_core.specs.declared.span.Span.{Span}
 use Rattle.f_terms.specs.declared.types.FType.{FType}
-use Rattle.f_terms.specs.declared.fault.FFault.{FFault}
 use Rattle.f_terms.specs.declared.fault.Code.{Code}
 use Rattle.f_terms.specs.ReadTerm.{node_at}
 use Rattle.f_terms.specs.declared.node.FTerm.{FTerm}
 use Rattle.f_check.specs.Scopes.{names}
-use Rattle.f_check.specs.Verdict.{Says}
+use Rattle.f_check.specs.Mismatch.{Mismatch, FaultBy}
+use Rattle.f_check.specs.Told.{Tells}
+use Rattle.f_check.specs.declared.failure.Failure.{Failure}
 use Rattle.f_check.specs.Walk.{Task, context, FaultOf, fix_names, IsReady, Same, Part, top, now, Holds, Leads, Offered, Enters, rest_of, frame_work, left, offer_work, work, Goes}
 use Rattle.f_check.specs.declared.frame.Frame.{Frame}
 use Rattle.f_check.specs.declared.frame.Frame.TheVariants as C
 use Rattle.f_check.specs.declared.frame.Control.TheVariants.{Run, Give}
 use Rattle.f_check.specs.declared.frame.State.{State}
-use Rattle.f_check.proofs.Forms.{says_map}
+use Rattle.f_check.proofs.Forms.{tells_map}
 use Rattle.f_check.proofs.Forms as forms
 use Rattle.f_check.proofs.Rows.{fault_part}
 use Rattle.f_check.proofs.Scoping.{push_now, push_both, raised_names}
@@ -66,23 +66,23 @@ in_gen t w ok en es P k =
     subst (P (w.around + 1)) (ap (names (w.around + 1) NoTys) es ∙ sym (raised_names w.around NoTys w.scope ok.0)) (subst (λ n. P n (names n NoTys t.scope)) en k)
 
 -- a fault of the part is one of the whole form
-module _ (f : FTerm) (c : Code) (p : Spn) where
-  up : (fr : Frame) (t w : Task) → Part f fr t w → FaultOf t c p → FaultOf w c p
+module _ (f : FTerm) (m : Option Mismatch) (c : Code) (p : Spn) where
+  up : (fr : Frame) (t w : Task) → Part f fr t w → FaultOf t m c p → FaultOf w m c p
   up fr t w h k = go fr h
     where
-      same : Same t w → Fault t.e w.around (context w) c p
-      same s = moved t w s (λ n g. Fault t.e n g c p) k
+      same : Same t w → FaultBy m t.e w.around (context w) c p
+      same s = moved t w s (λ n g. FaultBy m t.e n g c p) k
 
-      back : (e : Tm) → w.e ≡ e → Fault e w.around (context w) c p → FaultOf w c p
-      back e is x = subst (λ z. Fault z w.around (context w) c p) (sym is) x
+      back : (e : Tm) → w.e ≡ e → FaultBy m e w.around (context w) c p → FaultOf w m c p
+      back e is x = subst (λ z. FaultBy m z w.around (context w) c p) (sym is) x
 
-      go : (fr : Frame) → Part f fr t w → FaultOf w c p
-      go (C.Fix x) h = back _ h.0 (inr (h.4.0, inr (h.4.1, inl (in_body t w (tree x.arg.now) (tree x.res.now) h.2 h.3 (λ n g. Fault t.e n g c p) k))))
+      go : (fr : Frame) → Part f fr t w → FaultOf w m c p
+      go (C.Fix x) h = back _ h.0 (inr (h.4.0, inr (h.4.1, inl (in_body t w (tree x.arg.now) (tree x.res.now) h.2 h.3 (λ n g. FaultBy m t.e n g c p) k))))
       go (C.Function s x) h = back _ h.0 (inl (same h.2))
       go (C.Argument s a r) h = back _ h.1 (inr (TArrow (tree a) (tree r), h.4.0, inl (same h.3)))
-      go (C.Gen s) h = back _ h.0 (inl (in_gen t w h.1 h.2 h.3 (λ n g. Fault t.e n g c p) k))
+      go (C.Gen s) h = back _ h.0 (inl (in_gen t w h.1 h.2 h.3 (λ n g. FaultBy m t.e n g c p) k))
       go (C.Inst s a) h = back _ h.0 (inl (same h.2))
-      go (C.Fields s ts rest) h = back _ h.1 (inl (fault_part w.around (context w) h.0 (map tree ts.items) t.e (map (node_at f) rest.now) h.4 c p (same h.3)))
+      go (C.Fields s ts rest) h = back _ h.1 (inl (fault_part w.around (context w) h.0 (map tree ts.items) t.e (map (node_at f) rest.now) h.4 m c p (same h.3)))
       go (C.Proj s i) h = back _ h.0 (inl (same h.2))
       go (C.Left s b) h = back _ h.1 (inl (same h.3))
       go (C.Right s) h = back _ h.2 (inr (TInt, h.5, inr (refl, inl (same h.4))))
@@ -90,22 +90,24 @@ module _ (f : FTerm) (c : Code) (p : Spn) where
       go (C.Zero s b) h = back _ h.1 (inr (TInt, h.4, inr (refl, inl (same h.3))))
       go (C.Other s z) h = back _ h.2 (inr (TInt, h.5, inr (refl, inr (tree z, h.6.0, inl (same h.4)))))
       go (C.Let s b) h = back _ h.0 (inl (same h.2))
-      go (C.Body s) h = back _ h.1 (inr (h.4, h.6, in_let t w h.4 h.3 h.5 (λ n g. Fault t.e n g c p) k))
+      go (C.Body s) h = back _ h.1 (inr (h.4, h.6, in_let t w h.4 h.3 h.5 (λ n g. FaultBy m t.e n g c p) k))
       go (C.Pack x) h =
           back _ h.0 (forms.pack_part w.around (context w) (place x.span) (tree x.hidden.now) (tree x.shape.now) (tree x.body.now)
-          t.e h.3 h.4 h.5 c p (same h.2))
+          t.e h.3 h.4 h.5 m c p (same h.2))
       go (C.Open s b) h = back _ h.0 (inl (same h.2))
       go (C.Opened s) h =
-          back _ h.1 (forms.open_second w.around (context w) (place s) h.0 t.e h.4 h.6 c p
-          (in_opened t w h.4 h.2 h.3 h.5 (λ n g. Fault t.e n g c p) k))
+          back _ h.1 (forms.open_second w.around (context w) (place s) h.0 t.e h.4 h.6 m c p
+          (in_opened t w h.4 h.2 h.3 h.5 (λ n g. FaultBy m t.e n g c p) k))
       go (C.Ref s) h = back _ h.0 (inl (same h.2))
       go (C.Deref s) h = back _ h.0 (inl (same h.2))
       go (C.Target s b) h = back _ h.0 (inl (same h.2))
       go (C.Assigned s u) h = back _ h.1 (inr (TRef (tree u), h.4, inl (same h.3)))
 
 -- a fault of a task is the fault of the whole
-pub fails : (f : FTerm) (st : State) (w : Task) → Holds f st w → (e : FFault) → Says e (FaultOf w) → Says e (FaultOf (top f))
-fails f st w h e k = says_map e (FaultOf w) (FaultOf (top f)) (λ c p x. chain_up (Part f) (λ t. FaultOf t c p) (up f c p) st.frames.items w (top f) h x) k
+pub fails : (f : FTerm) (st : State) (w : Task) → Holds f st w → (e : Failure) → Tells e (FaultOf w) →
+    Tells e (FaultOf (top f))
+fails f st w h e k = tells_map e (FaultOf w) (FaultOf (top f))
+    (λ m c p x. chain_up (Part f) (λ t. FaultOf t m c p) (up f m c p) st.frames.items w (top f) h x) k
 
 -- the last frame is taken
 pub offered : (f : FTerm) (st : State) (fs : Vec Frame Global) (fr : Frame) (ty o : FType) (q : Span) → st.frames.items ≡ fs.items ++ fr ∷ [] → Leads f st (Give ty q o) →

@@ -1,5 +1,5 @@
 -- A checker by a stack: what its state stands for.
-use Rattle.std.specs.Prelude.{◌≡◌, ℕ, ◌+◌, ◌*◌, ◌<◌, ◌≤◌, List, [], ◌∷◌, ◌++◌, length, map, Result, Ok, Err}
+use Rattle.std.specs.Prelude.{◌≡◌, ℕ, ◌+◌, ◌*◌, ◌<◌, ◌≤◌, List, [], ◌∷◌, ◌++◌, length, map, Option, Result, Ok, Err}
 use Rattle.std.specs.List.{All}
 use Rattle.arena.specs.Stack.{Chain, stack_sum}
 use Rattle.idx_core.specs.declared.arith.Op.{Op}
@@ -9,14 +9,16 @@ use Rattle.f_terms.specs.Tm.{Tm, SFix, SApp, SGen, SInst, STuple, SProj, SArith,
 use Rattle.f_terms.specs.Tm.{SAssign, plain, span_of, tms}
 use Rattle.f_terms.specs.Limits.{Within, nodes}
 use Rattle.f_terms.specs.Scope.{InScope}
-use Rattle.f_terms.specs.Faults.{Passes, Refusal, Fault}
+use Rattle.f_terms.specs.Faults.{Passes, Refusal}
 use Rattle.f_terms.specs.Read.{tree, place}
 use Rattle.f_terms.specs.declared.types.FType.{FType}
-use Rattle.f_terms.specs.declared.fault.FFault.{FFault}
 use Rattle.f_terms.specs.ReadTerm.{count, node_at, spanned}
 use Rattle.f_terms.specs.declared.node.FTerm.{FTerm}
 use Rattle.f_check.specs.Scopes.{Bound, bound, names, IsScope}
-use Rattle.f_check.specs.Verdict.{Says, IsTypeOf}
+use Rattle.f_check.specs.Verdict.{IsTypeOf}
+use Rattle.f_check.specs.Mismatch.{Mismatch, FaultBy}
+use Rattle.f_check.specs.Told.{Tells}
+use Rattle.f_check.specs.declared.failure.Failure.{Failure}
 use Rattle.f_check.specs.declared.frame.Frame.{Frame}
 use Rattle.f_check.specs.declared.frame.Frame.TheVariants as C
 use Rattle.f_check.specs.declared.frame.Control.{Control}
@@ -32,12 +34,12 @@ pub record Task : Type 0 where
 abbrev pub context : Task → Tys
 context t = names t.around NoTys t.scope
 
--- a term of this type, and a fault of the term
+-- a term of this type, and a fault of the term, where m is what is at odds
 abbrev pub TypeIs : Task → Ty → Type 0
 TypeIs t ty = IsTypeOf t.e t.around (context t) ty
 
-abbrev pub FaultOf : Task → Refusal
-FaultOf t = Fault t.e t.around (context t)
+abbrev pub FaultOf : Task → Option Mismatch → Refusal
+FaultOf t m = FaultBy m t.e t.around (context t)
 
 -- the names are bound, and there is room for numbers
 abbrev pub IsReady : Task → Type 0
@@ -177,6 +179,6 @@ work f st (Run i) = open_work f st (node_at f i)
 work f st (Give ty s o) = 1 + left f st
 
 -- a step: the state leads to the whole, and less work is left; or the fault is the first of the whole
-abbrev pub Goes : FTerm → State → Result Control FFault → ℕ → Type 0
+abbrev pub Goes : FTerm → State → Result Control Failure → ℕ → Type 0
 Goes f st (Ok c) m = Leads f st c × (work f st c < m)
-Goes f st (Err e) m = Says e (FaultOf (top f))
+Goes f st (Err e) m = Tells e (FaultOf (top f))

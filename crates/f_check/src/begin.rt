@@ -12,12 +12,14 @@ ghost use Rattle.f_check.specs.Notes.{Begun};
 ghost use Rattle.f_check.specs.declared.frame.Control.TheVariants as control;
 
 use crate::count::limit;
-use crate::frame::{Control, Frame, Head, Packing, State};
+use crate::failure::Failure;
+use crate::frame::{Control, Frame, Head, Packing, State, Written};
+use crate::mismatch::{Wanted, odds};
 use crate::parts::shape_body;
 use crate::resume::refused;
 use crate::scope::{Binder, bind, copy_arrow, find};
 use crate::walk::enter;
-use f_terms::{Code, FFault, FShape, FTerm, FType, copy, depth, size};
+use f_terms::{Code, FShape, FTerm, FType, copy, depth, size};
 use idx_core::{OutOfMemory, Span};
 use std::alloc::Global;
 
@@ -27,7 +29,7 @@ pub(crate) fn begin<'a>(
     term: &'a FTerm,
     state: &mut State<'a>,
     i: u64,
-) -> Result<Control, FFault>
+) -> Result<Control, Failure>
     requires { Leads term.now state.old (control.Run i) }
     ensures goes { Goes term.now state.new result (work term.now state.old (control.Run i)) }
     ensures frames { IfOk result (λ c. Begun (shape_at term.now i) state.old.frames.items state.new.frames.items c) }
@@ -57,7 +59,14 @@ pub(crate) fn begin<'a>(
             hidden,
             inner,
             shape,
-        } => begin_pack(term, state, span, hidden, *inner, shape),
+        } => {
+            let written = Written {
+                span,
+                hidden,
+                shape,
+            };
+            begin_pack(alloc, term, state, written, *inner)
+        }
         FShape::Open(a, b) => enter(term, state, Frame::Open { span, b: *b }, *a),
         FShape::Ref(e) => enter(term, state, Frame::Ref { span }, *e),
         FShape::Deref(e) => enter(term, state, Frame::Deref { span }, *e),
@@ -71,7 +80,7 @@ fn begin_var(
     state: &State,
     span: Span,
     name: u64,
-) -> Result<Control, FFault>
+) -> Result<Control, Failure>
     requires { Opens term.now state.now (SVar (place span) name) }
     ensures goes { Goes term.now state.now result (open_work term.now state.now (SVar (place span) name)) }
     ensures frames { IfOk result (λ c. Begun (shapes.Var name) state.now.frames.items state.now.frames.items c) }
@@ -107,7 +116,7 @@ fn begin_fix<'a>(
     state: &mut State<'a>,
     head: Head<'a>,
     body: u64,
-) -> Result<Control, FFault>
+) -> Result<Control, Failure>
     requires opens { Opens term.now state.old
         (SFix (place head.span) (tree head.arg.now) (tree head.res.now) (node_at term.now body)) }
     requires inside { body < count term.now }
@@ -125,7 +134,7 @@ fn begin_fix<'a>(
     enter(term, state, Frame::Fix(head), body)
 }
 
-fn begin_gen(term: &FTerm, state: &mut State, span: Span, body: u64) -> Result<Control, FFault>
+fn begin_gen(term: &FTerm, state: &mut State, span: Span, body: u64) -> Result<Control, Failure>
     requires opens { Opens term.now state.old (SGen (place span) (node_at term.now body)) }
     requires inside { body < count term.now }
     ensures goes { Goes term.now state.new result
@@ -137,24 +146,32 @@ fn begin_gen(term: &FTerm, state: &mut State, span: Span, body: u64) -> Result<C
 }
 
 fn begin_pack<'a>(
+    alloc: Global,
     term: &FTerm,
     state: &mut State<'a>,
-    span: Span,
-    hidden: &'a FType,
+    written: Written<'a>,
     inner: u64,
-    shape: &'a FType,
-) -> Result<Control, FFault>
+) -> Result<Control, Failure>
     requires opens { Opens term.now state.old
-        (SPack (place span) (tree hidden.now) (node_at term.now inner) (tree shape.now)) }
+        (SPack (place written.span) (tree written.hidden.now) (node_at term.now inner) (tree written.shape.now)) }
     requires inside { inner < count term.now }
     ensures goes { Goes term.now state.new result (open_work term.now state.old
-        (SPack (place span) (tree hidden.now) (node_at term.now inner) (tree shape.now))) }
-    ensures frames { IfOk result (λ c. Begun
-        (shapes.Pack hidden.now inner shape.now) state.old.frames.items state.new.frames.items c) }
+        (SPack (place written.entry.span) (tree written.entry.hidden.now) (node_at term.now inner)
+        (tree written.entry.shape.now))) }
+    ensures frames { IfOk result (λ c. Begun (shapes.Pack written.entry.hidden.now inner written.entry.shape.now)
+        state.old.frames.items state.new.frames.items c) }
 {
+    let Written {
+        span,
+        hidden,
+        shape,
+    } = written;
     let body = match shape_body(shape) {
         Some(body) => body,
-        None => return refused(Code::E16, span),
+        None => {
+            let found = copy(alloc, shape)?;
+            return refused(Code::E16, span, odds(Wanted::Package, found, state.around));
+        }
     };
     limit(depth(hidden), size(hidden), span)?;
     limit(depth(shape), size(shape), span)?;
@@ -173,7 +190,7 @@ fn begin_tuple<'a>(
     state: &mut State<'a>,
     span: Span,
     es: &'a [u64],
-) -> Result<Control, FFault>
+) -> Result<Control, Failure>
     requires opens { Opens term.now state.old (STuple (place span) (tms (map (node_at term.now) es.now))) }
     requires inside { All (λ k. k < count term.now) es.now }
     ensures goes { Goes term.now state.new result

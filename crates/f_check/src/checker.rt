@@ -1,5 +1,5 @@
 // The type of a closed term, or its first fault.
-ghost use Rattle.std.specs.Prelude.{◌≡◌, ◌≢◌, ◌≤◌, length, MatchResult, IsErrAnd};
+ghost use Rattle.std.specs.Prelude.{◌≡◌, ◌≢◌, ◌≤◌, length, Option, IfOk, MatchResult, IsErrAnd};
 ghost use Rattle.idx_core.specs.declared.span.Span as places;
 ghost use Rattle.f_terms.specs.Ty.{Ty, NoTys};
 ghost use Rattle.f_terms.specs.Limits.{nodes};
@@ -14,25 +14,33 @@ ghost use Rattle.f_terms.specs.NotedTerm.{noted_of};
 ghost use Rattle.f_terms.specs.ReadTerm.{count, term_of, spanned};
 ghost use Rattle.f_check.specs.Typed.{typed_term, typed_type};
 ghost use Rattle.f_check.specs.Verdict.{Says, IsTypeOf};
+ghost use Rattle.f_check.specs.Mismatch as plain;
+ghost use Rattle.f_check.specs.Mismatch.{FaultBy, FaultWith};
+ghost use Rattle.f_check.specs.Told.{Tells, read};
+ghost use Rattle.f_terms.specs.Tm.{Spn};
 
 use crate::begin::begin;
+use crate::failure::{Failure, fault_alone, mismatch_alone};
 use crate::frame::{Control, Passed, State};
+use crate::laws::{faults_have_one_mismatch, mismatches_are_of_the_fault};
+use crate::mismatch::Mismatch;
 use crate::notes::{blank, close, follow, note};
 use crate::resume::resume;
 use crate::typed::Typed;
 use f_terms::{
     FFault, FTerm, FType, no_fault_beside_a_pass, one_fault, one_type, passes_where_typed,
 };
+use idx_core::OutOfMemory;
 use std::alloc::Global;
 
 // The type of a closed term and, by the numbers of its nodes, the types that it doesn't write; or its first fault: by a
 // loop, in two steps for each node.
-fn type_of(alloc: Global, term: &FTerm) -> Result<(FType, Vec<FType>), FFault>
+fn type_of(alloc: Global, term: &FTerm) -> Result<(FType, Vec<FType>), Failure>
     requires closed { IsClosed (term_of term.now) }
     requires nodes { nodes (term_of term.now) ≤ 4294967295 }
     ensures { MatchResult result (λ r. IsTypeOf (spanned term.now) 0 NoTys (tree r.0)
         × (count term.now ≤ length r.1.items) × Beside (noted_of term.now r.1.items) NoTys)
-        (λ e. Says e (Fault (spanned term.now) 0 NoTys)) }
+        (λ e. Tells e (λ m. FaultBy m (spanned term.now) 0 NoTys)) }
 {
     let mut state = State {
         frames: Vec::new(alloc),
@@ -83,8 +91,27 @@ pub fn check(alloc: Global, term: FTerm) -> Result<Typed, (FTerm, FFault)>
     no_fault_beside_a_pass();
     one_fault();
     one_type();
+    mismatches_are_of_the_fault();
     match type_of(alloc, &term) {
         Ok((ty, types)) => Ok(Typed { term, ty, types }),
-        Err(e) => Err((term, e)),
+        Err(e) => Err((term, fault_alone(e))),
+    }
+}
+
+/// What is at odds in the first fault of a closed term, E07 to E14, E16 to E18, E21 or E22: what a type had to be, and
+/// the type that is there (own choice). None where the fault is L4 or L5, or an E17 where the wanted type passes a limit
+/// on types. Errors: want of memory.
+pub fn mismatch_of(alloc: Global, term: &FTerm) -> Result<Option<Mismatch>, OutOfMemory>
+    requires closed { IsClosed (term_of term.now) }
+    requires nodes { nodes (term_of term.now) ≤ 4294967295 }
+    ensures { (code : codes.Code) (p : Spn) (m : Option plain.Mismatch) →
+        FaultWith (spanned term.now) 0 NoTys code p m → IfOk result (λ r. read r ≡ m) }
+{
+    no_fault_beside_a_pass();
+    mismatches_are_of_the_fault();
+    faults_have_one_mismatch();
+    match type_of(alloc, term) {
+        Ok(_) => Ok(None),
+        Err(e) => mismatch_alone(e),
     }
 }

@@ -1,13 +1,12 @@
 // The depth and the size of a type, counted before the type is made.
 ghost use Rattle.std.specs.Prelude.{◌≡◌, ◌+◌, ◌≤◌, ◌⊎◌, OnOk, IfErr, min};
 ghost use Rattle.f_terms.specs.Ty.{depth};
-ghost use Rattle.f_terms.specs.Faults.{check, refuse, nothing};
 ghost use Rattle.f_terms.specs.Read.{tree, place};
-ghost use Rattle.f_terms.specs.declared.fault.Code.TheVariants as codes;
 ghost use Rattle.f_check.specs.Counts.{put_size, put_depth};
-ghost use Rattle.f_check.specs.Verdict.{Says};
+ghost use Rattle.f_check.specs.Told.{Tells, counted};
 
-use f_terms::{Code, FFault, FType};
+use crate::failure::Failure;
+use f_terms::{Code, FType};
 use idx_core::Span;
 
 // How deep a type may be.
@@ -17,22 +16,22 @@ pub(crate) const DEPTH: u64 = 200;
 pub(crate) const SIZE: u64 = 10000;
 
 // The limits of a type that has this depth and size.
-pub(crate) fn limit(deep: u64, wide: u64, span: Span) -> Result<(), FFault>
+pub(crate) fn limit(deep: u64, wide: u64, span: Span) -> Result<(), Failure>
     ensures ok { OnOk result ((deep ≤ 200) × (wide ≤ 10000)) }
-    ensures fault { IfErr result (λ f. Says f
-        (check (deep ≤ 200) (refuse codes.L4 (place span))
-        (check (wide ≤ 10000) (refuse codes.L5 (place span)) nothing))) }
+    ensures fault { IfErr result (λ f. Tells f (counted deep wide (place span))) }
 {
     if deep > DEPTH {
-        return Err(FFault::Refused {
+        return Err(Failure::Refused {
             code: Code::L4,
             span,
+            mismatch: None,
         });
     }
     if wide > SIZE {
-        return Err(FFault::Refused {
+        return Err(Failure::Refused {
             code: Code::L5,
             span,
+            mismatch: None,
         });
     }
     Ok(())

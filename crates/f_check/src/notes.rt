@@ -2,11 +2,12 @@
 ghost use Rattle.std.specs.Prelude.{◌≡◌, ℕ, ◌<◌, List, [], ◌∷◌, ◌++◌, IfOk, IfErr, OnOk, length};
 ghost use Rattle.f_terms.specs.Read.{tree};
 ghost use Rattle.f_terms.specs.ReadTerm.{count};
-ghost use Rattle.f_terms.specs.declared.fault.FFault.TheVariants as fault;
+ghost use Rattle.f_check.specs.declared.failure.Failure.TheVariants as failure;
 ghost use Rattle.f_check.specs.Notes.{Keeps, Noting, opened};
 
+use crate::failure::Failure;
 use crate::frame::Control;
-use f_terms::{FFault, FShape, FTerm, FType, copy};
+use f_terms::{FShape, FTerm, FType, copy};
 use idx_core::OutOfMemory;
 use std::alloc::Global;
 
@@ -21,9 +22,9 @@ fn table(alloc: Global, count: u64) -> Result<Vec<FType>, OutOfMemory>
 }
 
 // A table of so many types.
-pub(crate) fn blank(alloc: Global, count: u64) -> Result<Vec<FType>, FFault>
+pub(crate) fn blank(alloc: Global, count: u64) -> Result<Vec<FType>, Failure>
     ensures right { IfOk result (λ r. length r.items ≡ count) }
-    ensures memory { IfErr result (λ e. e ≡ fault.Memory) }
+    ensures memory { IfErr result (λ e. e ≡ failure.Memory) }
 {
     Ok(table(alloc, count)?)
 }
@@ -36,9 +37,9 @@ fn push(path: &mut Vec<u64>, node: u64) -> Result<(), OutOfMemory>
 }
 
 // The node that is begun is open too.
-pub(crate) fn follow(path: &mut Vec<u64>, control: &Control) -> Result<(), FFault>
+pub(crate) fn follow(path: &mut Vec<u64>, control: &Control) -> Result<(), Failure>
     ensures right { OnOk result (path.new.items ≡ opened path.old.items control.now) }
-    ensures memory { IfErr result (λ e. e ≡ fault.Memory) }
+    ensures memory { IfErr result (λ e. e ≡ failure.Memory) }
 {
     match control {
         Control::Run(node) => Ok(push(path, *node)?),
@@ -83,11 +84,11 @@ pub(crate) fn note(
     node: u64,
     ty: &FType,
     bound: FType,
-) -> Result<(), FFault>
+) -> Result<(), Failure>
     requires inside { node < count term.now }
     requires table { node < length types.old.items }
     ensures right { OnOk result (Noting term.now types.old.items types.new.items node (tree ty.now) (tree bound)) }
-    ensures memory { IfErr result (λ e. e ≡ fault.Memory) }
+    ensures memory { IfErr result (λ e. e ≡ failure.Memory) }
 {
     types[node as usize] = kept(alloc, &term.node(node).shape, ty, bound)?;
     Ok(())

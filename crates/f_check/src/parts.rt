@@ -18,54 +18,59 @@ pub(crate) fn is_int(t: &FType) -> bool
     }
 }
 
-pub(crate) fn arrow_parts(t: FType) -> Option<(FType, FType)>
+// The parts of a function's type, or the type itself.
+pub(crate) fn arrow_parts(t: FType) -> Result<(FType, FType), FType>
     ensures { IsArrow (tree t) result }
 {
     match t {
-        FType::Arrow(arg, res) => Some((Box::into_inner(arg), Box::into_inner(res))),
-        FType::Int | FType::Var(_) | FType::All(_) | FType::Tuple(_) => None,
-        FType::Exists(_) | FType::Ref(_) => None,
+        FType::Arrow(arg, res) => Ok((Box::into_inner(arg), Box::into_inner(res))),
+        FType::Int | FType::Var(_) | FType::All(_) | FType::Tuple(_) => Err(t),
+        FType::Exists(_) | FType::Ref(_) => Err(t),
     }
 }
 
-pub(crate) fn all_body(t: FType) -> Option<FType>
+// The body of a polymorphic type, or the type itself.
+pub(crate) fn all_body(t: FType) -> Result<FType, FType>
     ensures { IsAll (tree t) result }
 {
     match t {
-        FType::All(body) => Some(Box::into_inner(body)),
-        FType::Int | FType::Var(_) | FType::Arrow(_, _) | FType::Tuple(_) => None,
-        FType::Exists(_) | FType::Ref(_) => None,
+        FType::All(body) => Ok(Box::into_inner(body)),
+        FType::Int | FType::Var(_) | FType::Arrow(_, _) | FType::Tuple(_) => Err(t),
+        FType::Exists(_) | FType::Ref(_) => Err(t),
     }
 }
 
+// The types of a tuple's fields, or the type itself.
 #[tactic(auto, using(f_terms::proofs::Trees::tree_Tuple))]
-pub(crate) fn tuple_parts(t: FType) -> Option<Vec<FType>>
+pub(crate) fn tuple_parts(t: FType) -> Result<Vec<FType>, FType>
     ensures { IsTuple (tree t) result }
 {
     match t {
-        FType::Tuple(parts) => Some(parts),
-        FType::Int | FType::Var(_) | FType::Arrow(_, _) | FType::All(_) => None,
-        FType::Exists(_) | FType::Ref(_) => None,
+        FType::Tuple(parts) => Ok(parts),
+        FType::Int | FType::Var(_) | FType::Arrow(_, _) | FType::All(_) => Err(t),
+        FType::Exists(_) | FType::Ref(_) => Err(t),
     }
 }
 
-pub(crate) fn some_body(t: FType) -> Option<FType>
+// The body of an existential type, or the type itself.
+pub(crate) fn some_body(t: FType) -> Result<FType, FType>
     ensures { IsSome (tree t) result }
 {
     match t {
-        FType::Exists(body) => Some(Box::into_inner(body)),
-        FType::Int | FType::Var(_) | FType::Arrow(_, _) | FType::All(_) => None,
-        FType::Tuple(_) | FType::Ref(_) => None,
+        FType::Exists(body) => Ok(Box::into_inner(body)),
+        FType::Int | FType::Var(_) | FType::Arrow(_, _) | FType::All(_) => Err(t),
+        FType::Tuple(_) | FType::Ref(_) => Err(t),
     }
 }
 
-pub(crate) fn held_part(t: FType) -> Option<FType>
+// The type of what a cell holds, or the type itself.
+pub(crate) fn held_part(t: FType) -> Result<FType, FType>
     ensures { IsRef (tree t) result }
 {
     match t {
-        FType::Ref(held) => Some(Box::into_inner(held)),
-        FType::Int | FType::Var(_) | FType::Arrow(_, _) | FType::All(_) => None,
-        FType::Tuple(_) | FType::Exists(_) => None,
+        FType::Ref(held) => Ok(Box::into_inner(held)),
+        FType::Int | FType::Var(_) | FType::Arrow(_, _) | FType::All(_) => Err(t),
+        FType::Tuple(_) | FType::Exists(_) => Err(t),
     }
 }
 
@@ -81,31 +86,31 @@ pub(crate) fn shape_body(t: &FType) -> Option<&FType>
 }
 
 // The type from outside of the innermost type name, where that is not in it.
-pub(crate) fn outer(alloc: Global, t: FType) -> Result<Option<FType>, OutOfMemory>
-    requires puts { PutFits 0 TInt 0 (tree t) }
-    requires shifts { ShiftFits 1 0 (outside (tree t)) }
-    ensures { IfOk result (λ r. IsOuter (tree t) r) }
+pub(crate) fn outer(alloc: Global, t: &FType) -> Result<Option<FType>, OutOfMemory>
+    requires puts { PutFits 0 TInt 0 (tree t.now) }
+    requires shifts { ShiftFits 1 0 (outside (tree t.now)) }
+    ensures { IfOk result (λ r. IsOuter (tree t.now) r) }
 {
     let lowered = t.put(alloc, 0, &FType::Int)?;
     let back = lowered.shift(alloc, 1, 0)?;
-    if eq(&t, &back) {
+    if eq(t, &back) {
         Ok(Some(lowered))
     } else {
         Ok(None)
     }
 }
 
-// A field, counted from 1.
+// A field, counted from 1, or all of them.
 #[tactic(auto, using(crate::proofs::Fields::field_facts))]
-pub(crate) fn take_field(parts: Vec<FType>, i: u64) -> Option<FType>
+pub(crate) fn take_field(parts: Vec<FType>, i: u64) -> Result<FType, Vec<FType>>
     ensures { IsField (tys (map tree parts.items)) i result }
 {
     let mut parts = parts;
     if i == 0 {
-        return None;
+        return Err(parts);
     }
     if i > parts.len() as u64 {
-        return None;
+        return Err(parts);
     }
-    Some(parts.swap_remove((i - 1) as usize))
+    Ok(parts.swap_remove((i - 1) as usize))
 }

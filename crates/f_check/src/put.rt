@@ -3,10 +3,11 @@ ghost use Rattle.f_terms.specs.Ty.{PutFits};
 ghost use Rattle.f_terms.specs.Limits.{Shallow, Within};
 ghost use Rattle.f_terms.specs.Read.{tree, place};
 ghost use Rattle.std.specs.Prelude.{IfOk};
-ghost use Rattle.f_check.specs.Verdict.{IsPut, IsPutOrNone};
+ghost use Rattle.f_check.specs.Told.{IsPut, IsPutOrNone};
 
 use crate::count::{DEPTH, SIZE, limit, put_depth, put_size};
-use f_terms::{FFault, FType, depth, size};
+use crate::failure::Failure;
+use f_terms::{FType, depth, size};
 use idx_core::{OutOfMemory, Scoped, Span};
 use std::alloc::Global;
 
@@ -37,7 +38,7 @@ pub(crate) fn put_within(
     span: Span,
     body: &FType,
     what: &FType,
-) -> Result<FType, FFault>
+) -> Result<FType, Failure>
     requires small { Within (tree body.now) }
     requires fits { Shallow (tree what.now) → PutFits 0 (tree what.now) 0 (tree body.now) }
     ensures { IsPut (tree what.now) (tree body.now) (place span) result }

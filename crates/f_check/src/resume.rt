@@ -5,24 +5,35 @@ ghost use Rattle.f_check.specs.Scopes.{bound};
 ghost use Rattle.f_check.specs.Walk.{Offered, Goes, offer_work, rest_of};
 ghost use Rattle.f_check.specs.Notes.{Resumed};
 ghost use Rattle.f_check.specs.declared.frame.Frame.TheVariants as frames;
-ghost use Rattle.f_terms.specs.declared.fault.FFault.TheVariants as fault;
+ghost use Rattle.f_check.specs.declared.failure.Failure.TheVariants as failure;
 
 use crate::count::limit;
+use crate::failure::Failure;
 use crate::frame::{Control, Frame, Head, Packing, Passed, State};
+use crate::mismatch::{Mismatch, Wanted, odds};
 use crate::parts::{
     all_body, arrow_parts, held_part, is_int, outer, some_body, take_field, tuple_parts,
 };
 use crate::put::{put_or_none, put_within};
 use crate::scope::{bind, copy_arrow, leave, leave_last};
 use crate::walk::enter;
-use f_terms::{Code, FFault, FTerm, FType, copy, depth, eq, size};
+use f_terms::{Code, FTerm, FType, copy, depth, eq, size};
 use idx_core::{OutOfMemory, Span};
 use std::alloc::Global;
 
-pub(crate) fn refused(code: Code, span: Span) -> Result<Control, FFault>
-    ensures { result ≡ Err (fault.Refused code span) }
+// The walk stops at a fault, with what is at odds in it.
+pub(crate) fn refused(
+    code: Code,
+    span: Span,
+    mismatch: Option<Mismatch>,
+) -> Result<Control, Failure>
+    ensures { result ≡ Err (failure.Refused code span mismatch) }
 {
-    Err(FFault::Refused { code, span })
+    Err(Failure::Refused {
+        code,
+        span,
+        mismatch,
+    })
 }
 
 fn after_fix(
@@ -31,7 +42,7 @@ fn after_fix(
     state: &mut State,
     head: Head,
     part: Passed,
-) -> Result<Control, FFault>
+) -> Result<Control, Failure>
     requires { Offered term.now state.old (frames.Fix head) part.ty part.span }
     ensures goes { Goes term.now state.new result (offer_work term.now state.old []) }
     ensures frames { IfOk result (λ c. Resumed (frames.Fix head.entry)
@@ -39,7 +50,9 @@ fn after_fix(
 {
     leave(&mut state.scope, 2);
     if !eq(&part.ty, head.res) {
-        return refused(Code::E14, part.span);
+        let wanted = copy(alloc, head.res)?;
+        let mismatch = odds(Wanted::Exactly(wanted), part.ty, state.around);
+        return refused(Code::E14, part.span, mismatch);
     }
     let ty = copy_arrow(alloc, head.arg, head.res)?;
     Ok(Control::Give {
@@ -55,15 +68,18 @@ fn after_function(
     span: Span,
     x: u64,
     part: Passed,
-) -> Result<Control, FFault>
+) -> Result<Control, Failure>
     requires { Offered term.now state.old (frames.Function span x) part.ty part.span }
     ensures goes { Goes term.now state.new result (offer_work term.now state.old (x ∷ [])) }
     ensures frames { IfOk result (λ c. Resumed (frames.Function span x)
         (map bound state.old.scope.items) state.old.frames.items state.new.frames.items c) }
 {
     match arrow_parts(part.ty) {
-        Some((arg, res)) => enter(term, state, Frame::Argument { span, arg, res }, x),
-        None => refused(Code::E07, part.span),
+        Ok((arg, res)) => enter(term, state, Frame::Argument { span, arg, res }, x),
+        Err(found) => {
+            let mismatch = odds(Wanted::Function, found, state.around);
+            refused(Code::E07, part.span, mismatch)
+        }
     }
 }
 
@@ -74,14 +90,15 @@ fn after_argument(
     arg: FType,
     res: FType,
     part: Passed,
-) -> Result<Control, FFault>
+) -> Result<Control, Failure>
     requires { Offered term.now state.now (frames.Argument span arg res) part.ty part.span }
     ensures goes { Goes term.now state.now result (offer_work term.now state.now []) }
     ensures frames { IfOk result (λ c. Resumed (frames.Argument span arg res)
         (map bound state.now.scope.items) state.now.frames.items state.now.frames.items c) }
 {
     if !eq(&part.ty, &arg) {
-        return refused(Code::E08, part.span);
+        let mismatch = odds(Wanted::Exactly(arg), part.ty, state.around);
+        return refused(Code::E08, part.span, mismatch);
     }
     Ok(Control::Give {
         ty: res,
@@ -96,7 +113,7 @@ fn after_gen(
     state: &mut State,
     span: Span,
     part: Passed,
-) -> Result<Control, FFault>
+) -> Result<Control, Failure>
     requires { Offered term.now state.old (frames.Gen span) part.ty part.span }
     ensures goes { Goes term.now state.new result (offer_work term.now state.old []) }
     ensures frames { IfOk result (λ c. Resumed (frames.Gen span)
@@ -121,15 +138,18 @@ fn after_inst(
     span: Span,
     arg: &FType,
     part: Passed,
-) -> Result<Control, FFault>
+) -> Result<Control, Failure>
     requires { Offered term.now state.now (frames.Inst span arg) part.ty part.span }
     ensures goes { Goes term.now state.now result (offer_work term.now state.now []) }
     ensures frames { IfOk result (λ c. Resumed (frames.Inst span arg.entry)
         (map bound state.now.scope.items) state.now.frames.items state.now.frames.items c) }
 {
     let body = match all_body(part.ty) {
-        Some(body) => body,
-        None => return refused(Code::E09, part.span),
+        Ok(body) => body,
+        Err(found) => {
+            let mismatch = odds(Wanted::Polymorphic, found, state.around);
+            return refused(Code::E09, part.span, mismatch);
+        }
     };
     let ty = put_within(alloc, span, &body, arg)?;
     Ok(Control::Give {
@@ -153,7 +173,7 @@ fn after_field<'a>(
     types: Vec<FType>,
     rest: &'a [u64],
     part: Passed,
-) -> Result<Control, FFault>
+) -> Result<Control, Failure>
     requires { Offered term.now state.old (frames.Fields span types rest) part.ty part.span }
     ensures goes { Goes term.now state.new result (offer_work term.now state.old rest.now) }
     ensures frames { IfOk result (λ c. Resumed (frames.Fields span types rest.entry)
@@ -181,23 +201,29 @@ fn after_proj(
     span: Span,
     i: u64,
     part: Passed,
-) -> Result<Control, FFault>
+) -> Result<Control, Failure>
     requires { Offered term.now state.now (frames.Proj span i) part.ty part.span }
     ensures goes { Goes term.now state.now result (offer_work term.now state.now []) }
     ensures frames { IfOk result (λ c. Resumed (frames.Proj span i)
         (map bound state.now.scope.items) state.now.frames.items state.now.frames.items c) }
 {
     let parts = match tuple_parts(part.ty) {
-        Some(parts) => parts,
-        None => return refused(Code::E10, part.span),
+        Ok(parts) => parts,
+        Err(found) => {
+            let mismatch = odds(Wanted::Tuple, found, state.around);
+            return refused(Code::E10, part.span, mismatch);
+        }
     };
     match take_field(parts, i) {
-        Some(ty) => Ok(Control::Give {
+        Ok(ty) => Ok(Control::Give {
             ty,
             span,
             bound: FType::Int,
         }),
-        None => refused(Code::E11, span),
+        Err(parts) => {
+            let mismatch = odds(Wanted::Field, FType::Tuple(parts), state.around);
+            refused(Code::E11, span, mismatch)
+        }
     }
 }
 
@@ -207,26 +233,28 @@ fn after_left(
     span: Span,
     b: u64,
     part: Passed,
-) -> Result<Control, FFault>
+) -> Result<Control, Failure>
     requires { Offered term.now state.old (frames.Left span b) part.ty part.span }
     ensures goes { Goes term.now state.new result (offer_work term.now state.old (b ∷ [])) }
     ensures frames { IfOk result (λ c. Resumed (frames.Left span b)
         (map bound state.old.scope.items) state.old.frames.items state.new.frames.items c) }
 {
     if !is_int(&part.ty) {
-        return refused(Code::E12, part.span);
+        let mismatch = odds(Wanted::Exactly(FType::Int), part.ty, state.around);
+        return refused(Code::E12, part.span, mismatch);
     }
     enter(term, state, Frame::Right { span }, b)
 }
 
-fn after_right(term: &FTerm, state: &State, span: Span, part: Passed) -> Result<Control, FFault>
+fn after_right(term: &FTerm, state: &State, span: Span, part: Passed) -> Result<Control, Failure>
     requires { Offered term.now state.now (frames.Right span) part.ty part.span }
     ensures goes { Goes term.now state.now result (offer_work term.now state.now []) }
     ensures frames { IfOk result (λ c. Resumed (frames.Right span)
         (map bound state.now.scope.items) state.now.frames.items state.now.frames.items c) }
 {
     if !is_int(&part.ty) {
-        return refused(Code::E12, part.span);
+        let mismatch = odds(Wanted::Exactly(FType::Int), part.ty, state.around);
+        return refused(Code::E12, part.span, mismatch);
     }
     Ok(Control::Give {
         ty: FType::Int,
@@ -242,14 +270,15 @@ fn after_test(
     a: u64,
     b: u64,
     part: Passed,
-) -> Result<Control, FFault>
+) -> Result<Control, Failure>
     requires { Offered term.now state.old (frames.Test span a b) part.ty part.span }
     ensures goes { Goes term.now state.new result (offer_work term.now state.old (a ∷ b ∷ [])) }
     ensures frames { IfOk result (λ c. Resumed (frames.Test span a b)
         (map bound state.old.scope.items) state.old.frames.items state.new.frames.items c) }
 {
     if !is_int(&part.ty) {
-        return refused(Code::E12, part.span);
+        let mismatch = odds(Wanted::Exactly(FType::Int), part.ty, state.around);
+        return refused(Code::E12, part.span, mismatch);
     }
     enter(term, state, Frame::Zero { span, b }, a)
 }
@@ -260,7 +289,7 @@ fn after_zero(
     span: Span,
     b: u64,
     part: Passed,
-) -> Result<Control, FFault>
+) -> Result<Control, Failure>
     requires { Offered term.now state.old (frames.Zero span b) part.ty part.span }
     ensures goes { Goes term.now state.new result (offer_work term.now state.old (b ∷ [])) }
     ensures frames { IfOk result (λ c. Resumed (frames.Zero span b)
@@ -283,14 +312,15 @@ fn after_other(
     span: Span,
     zero: FType,
     part: Passed,
-) -> Result<Control, FFault>
+) -> Result<Control, Failure>
     requires { Offered term.now state.now (frames.Other span zero) part.ty part.span }
     ensures goes { Goes term.now state.now result (offer_work term.now state.now []) }
     ensures frames { IfOk result (λ c. Resumed (frames.Other span zero)
         (map bound state.now.scope.items) state.now.frames.items state.now.frames.items c) }
 {
     if !eq(&part.ty, &zero) {
-        return refused(Code::E13, part.span);
+        let mismatch = odds(Wanted::Exactly(zero), part.ty, state.around);
+        return refused(Code::E13, part.span, mismatch);
     }
     Ok(Control::Give {
         ty: zero,
@@ -305,7 +335,7 @@ fn after_let<'a>(
     span: Span,
     b: u64,
     part: Passed,
-) -> Result<Control, FFault>
+) -> Result<Control, Failure>
     requires { Offered term.now state.old (frames.Let span b) part.ty part.span }
     ensures goes { Goes term.now state.new result (offer_work term.now state.old (b ∷ [])) }
     ensures frames { IfOk result (λ c. Resumed (frames.Let span b)
@@ -315,7 +345,7 @@ fn after_let<'a>(
     enter(term, state, Frame::Body { span }, b)
 }
 
-fn after_body(term: &FTerm, state: &mut State, span: Span, part: Passed) -> Result<Control, FFault>
+fn after_body(term: &FTerm, state: &mut State, span: Span, part: Passed) -> Result<Control, Failure>
     requires { Offered term.now state.old (frames.Body span) part.ty part.span }
     ensures goes { Goes term.now state.new result (offer_work term.now state.old []) }
     ensures frames { IfOk result (λ c. Resumed (frames.Body span)
@@ -335,7 +365,7 @@ fn after_pack(
     state: &State,
     packing: Packing,
     part: Passed,
-) -> Result<Control, FFault>
+) -> Result<Control, Failure>
     requires { Offered term.now state.now (frames.Pack packing) part.ty part.span }
     ensures goes { Goes term.now state.now result (offer_work term.now state.now []) }
     ensures frames { IfOk result (λ c. Resumed (frames.Pack packing.entry)
@@ -343,10 +373,11 @@ fn after_pack(
 {
     let wanted = match put_or_none(alloc, packing.body, packing.hidden)? {
         Some(wanted) => wanted,
-        None => return refused(Code::E17, part.span),
+        None => return refused(Code::E17, part.span, None),
     };
     if !eq(&part.ty, &wanted) {
-        return refused(Code::E17, part.span);
+        let mismatch = odds(Wanted::Exactly(wanted), part.ty, state.around);
+        return refused(Code::E17, part.span, mismatch);
     }
     let ty = copy(alloc, packing.shape)?;
     Ok(Control::Give {
@@ -362,15 +393,18 @@ fn after_open<'a>(
     span: Span,
     b: u64,
     part: Passed,
-) -> Result<Control, FFault>
+) -> Result<Control, Failure>
     requires { Offered term.now state.old (frames.Open span b) part.ty part.span }
     ensures goes { Goes term.now state.new result (offer_work term.now state.old (b ∷ [])) }
     ensures frames { IfOk result (λ c. Resumed (frames.Open span b)
         (map bound state.old.scope.items) state.old.frames.items state.new.frames.items c) }
 {
     let body = match some_body(part.ty) {
-        Some(body) => body,
-        None => return refused(Code::E16, part.span),
+        Ok(body) => body,
+        Err(found) => {
+            let mismatch = odds(Wanted::Package, found, state.around);
+            return refused(Code::E16, part.span, mismatch);
+        }
     };
     state.around += 1;
     bind(&mut state.scope, body, state.around)?;
@@ -383,18 +417,22 @@ fn after_opened(
     state: &mut State,
     span: Span,
     part: Passed,
-) -> Result<Control, FFault>
+) -> Result<Control, Failure>
     requires { Offered term.now state.old (frames.Opened span) part.ty part.span }
     ensures goes { Goes term.now state.new result (offer_work term.now state.old []) }
     ensures frames { IfOk result (λ c. Resumed (frames.Opened span)
         (map bound state.old.scope.items) state.old.frames.items state.new.frames.items c) }
 {
     let bound = leave_last(&mut state.scope);
+    let names = state.around;
     state.around -= 1;
-    let outside = outer(alloc, part.ty)?;
+    let outside = outer(alloc, &part.ty)?;
     match outside {
         Some(ty) => Ok(Control::Give { ty, span, bound }),
-        None => refused(Code::E18, part.span),
+        None => {
+            let mismatch = odds(Wanted::Outside, part.ty, names);
+            refused(Code::E18, part.span, mismatch)
+        }
     }
 }
 
@@ -404,7 +442,7 @@ fn after_ref(
     state: &State,
     span: Span,
     part: Passed,
-) -> Result<Control, FFault>
+) -> Result<Control, Failure>
     requires { Offered term.now state.now (frames.Ref span) part.ty part.span }
     ensures goes { Goes term.now state.now result (offer_work term.now state.now []) }
     ensures frames { IfOk result (λ c. Resumed (frames.Ref span)
@@ -421,19 +459,22 @@ fn after_ref(
     })
 }
 
-fn after_deref(term: &FTerm, state: &State, span: Span, part: Passed) -> Result<Control, FFault>
+fn after_deref(term: &FTerm, state: &State, span: Span, part: Passed) -> Result<Control, Failure>
     requires { Offered term.now state.now (frames.Deref span) part.ty part.span }
     ensures goes { Goes term.now state.now result (offer_work term.now state.now []) }
     ensures frames { IfOk result (λ c. Resumed (frames.Deref span)
         (map bound state.now.scope.items) state.now.frames.items state.now.frames.items c) }
 {
     match held_part(part.ty) {
-        Some(ty) => Ok(Control::Give {
+        Ok(ty) => Ok(Control::Give {
             ty,
             span,
             bound: FType::Int,
         }),
-        None => refused(Code::E21, part.span),
+        Err(found) => {
+            let mismatch = odds(Wanted::Reference, found, state.around);
+            refused(Code::E21, part.span, mismatch)
+        }
     }
 }
 
@@ -443,15 +484,18 @@ fn after_target(
     span: Span,
     b: u64,
     part: Passed,
-) -> Result<Control, FFault>
+) -> Result<Control, Failure>
     requires { Offered term.now state.old (frames.Target span b) part.ty part.span }
     ensures goes { Goes term.now state.new result (offer_work term.now state.old (b ∷ [])) }
     ensures frames { IfOk result (λ c. Resumed (frames.Target span b)
         (map bound state.old.scope.items) state.old.frames.items state.new.frames.items c) }
 {
     match held_part(part.ty) {
-        Some(held) => enter(term, state, Frame::Assigned { span, held }, b),
-        None => refused(Code::E21, part.span),
+        Ok(held) => enter(term, state, Frame::Assigned { span, held }, b),
+        Err(found) => {
+            let mismatch = odds(Wanted::Reference, found, state.around);
+            refused(Code::E21, part.span, mismatch)
+        }
     }
 }
 
@@ -462,14 +506,15 @@ fn after_assigned(
     span: Span,
     held: FType,
     part: Passed,
-) -> Result<Control, FFault>
+) -> Result<Control, Failure>
     requires { Offered term.now state.now (frames.Assigned span held) part.ty part.span }
     ensures goes { Goes term.now state.now result (offer_work term.now state.now []) }
     ensures frames { IfOk result (λ c. Resumed (frames.Assigned span held)
         (map bound state.now.scope.items) state.now.frames.items state.now.frames.items c) }
 {
     if !eq(&part.ty, &held) {
-        return refused(Code::E22, part.span);
+        let mismatch = odds(Wanted::Exactly(held), part.ty, state.around);
+        return refused(Code::E22, part.span, mismatch);
     }
     Ok(Control::Give {
         ty: FType::Tuple(Vec::new(alloc)),
@@ -485,7 +530,7 @@ pub(crate) fn resume<'a>(
     state: &mut State<'a>,
     frame: Frame<'a>,
     part: Passed,
-) -> Result<Control, FFault>
+) -> Result<Control, Failure>
     requires { Offered term.now state.old frame part.ty part.span }
     ensures goes { Goes term.now state.new result (offer_work term.now state.old (rest_of frame.entry)) }
     ensures frames { IfOk result (λ c. Resumed frame.entry

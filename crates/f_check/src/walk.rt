@@ -6,8 +6,9 @@ ghost use Rattle.f_terms.specs.ReadTerm.{node_at};
 ghost use Rattle.f_check.specs.Walk.{Enters, Goes, left, frame_work};
 ghost use Rattle.f_check.specs.declared.frame.Control.TheVariants as control;
 
+use crate::failure::Failure;
 use crate::frame::{Control, Frame, State};
-use f_terms::{FFault, FTerm};
+use f_terms::FTerm;
 use idx_core::OutOfMemory;
 
 fn push<'a>(frames: &mut Vec<Frame<'a>>, frame: Frame<'a>) -> Result<(), OutOfMemory>
@@ -23,7 +24,7 @@ pub(crate) fn enter<'a>(
     state: &mut State<'a>,
     frame: Frame<'a>,
     j: u64,
-) -> Result<Control, FFault>
+) -> Result<Control, Failure>
     requires { Enters term.now state.old frame j }
     ensures goes { (m : ℕ) → 2 * nodes
         (plain (node_at term.now j)) + frame_work term.now frame.entry + left term.now state.old < m →

@@ -19,4 +19,5 @@ pub use laws::{
     read_terms_can_be_written, texts_stand_for_their_terms, written_texts_are_within,
     written_twice_is_written_once,
 };
+pub use types::type_at;
 pub use writer::write_term;

@@ -7,6 +7,7 @@ use crate::depths::deeper;
 use crate::names::write_type_name;
 use f_terms::FType;
 use idx_core::OutOfMemory;
+use std::alloc::Global;
 
 // A binder inside `depth` type names, and how many there are in what follows it.
 fn write_binder(text: &mut Vec<u8>, word: &[u8], depth: u64) -> Result<u64, OutOfMemory>
@@ -99,4 +100,14 @@ pub(crate) fn write_type(text: &mut Vec<u8>, t: &FType, depth: u64) -> Result<()
             write_if(text, grouped, b")")
         }
     }
+}
+
+/// The text of a type inside so many type names (own choice): as in the text of a term, the names are numbered from the
+/// outermost. Errors: want of memory.
+pub fn type_at(alloc: Global, t: &FType, names: u64) -> Result<Vec<u8>, OutOfMemory>
+    ensures { IfOk result (λ text. text.items ≡ text_at names (tree t.now)) }
+{
+    let mut text = Vec::new(alloc);
+    write_type(&mut text, t, names)?;
+    Ok(text)
 }

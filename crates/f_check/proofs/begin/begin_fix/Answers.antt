@@ -5,7 +5,7 @@ use Rattle.f_terms.specs.Tm.{SFix}
 use Rattle.f_terms.specs.Read.{tree, place}
 use Rattle.f_terms.specs.ReadTerm.{node_at}
 use Rattle.f_check.specs.Walk.{now, context, FaultOf}
-use Rattle.f_check.proofs.Forms.{says_map, limits_of, within, fix_limit}
+use Rattle.f_check.proofs.Forms.{tells_map, limits_of, within, fix_limit}
 use Rattle.f_check.proofs.Steps.{fails}
 use Rattle.f_check.proofs.Begins.{fix_enters}
 use Rattle.std.proofs.Common.{refl}
@@ -23,9 +23,9 @@ returns-in_err-limit-clause-goes c =
     let r = tree c.args.head.res.now in
     let w = now c.args.state.now (SFix (place c.args.head.span) a r (node_at f c.args.body)) in
     rw (q.1, q.2) (fails f c.args.state.now w c.requires.opens.1 e
-    (says_map e _ (FaultOf w)
-    (λ d p h. fix_limit w.around (context w) (place c.args.head.span) a r (node_at f c.args.body) d p
-    (limits_of (TArrow a r) _ _ (place c.args.head.span) (omega (arith, c.saturating_add-deep.ensures, c.max.ensures, c.depth.ensures, c.depth-2.ensures)) (omega (arith, c.saturating_add-wide.ensures, c.saturating_add.ensures, c.size.ensures, c.size-2.ensures)) d p h))
+    (tells_map e _ (FaultOf w)
+    (λ m d p h. fix_limit w.around (context w) (place c.args.head.span) a r (node_at f c.args.body) m d p
+    (limits_of (TArrow a r) _ _ (place c.args.head.span) (omega (arith, c.saturating_add-deep.ensures, c.max.ensures, c.depth.ensures, c.depth-2.ensures)) (omega (arith, c.saturating_add-wide.ensures, c.saturating_add.ensures, c.size.ensures, c.size-2.ensures)) m d p h))
     c.in_err-limit.ensures.fault))
 
 pub enter-requires : goal.enter-requires

@@ -1,20 +1,20 @@
 use Rattle.std.specs.Prelude.{Result}
-use Rattle.std.proofs.Common.{◌≡◌, ◌≤◌, ◌∙◌, ℕ, ap, sym, subst, arith, min, inr, Err}
+use Rattle.std.proofs.Common.{◌≡◌, ◌∙◌, ap, sym, subst, inr, Err}
 use Rattle.std.proofs.lemmas.Result.{err_from_is_err_and}
 use Rattle.f_terms.specs.Tm.{Spn}
 use Rattle.f_terms.specs.declared.types.FType.{FType}
-use Rattle.f_terms.specs.declared.fault.FFault.{FFault}
-use Rattle.f_check.specs.Verdict.{IsPut}
-use Rattle.f_terms.specs.Ty.{Ty, put, size, depth}
-use Rattle.f_terms.specs.Faults.{limits, nothing}
+use Rattle.f_check.specs.declared.failure.Failure.{Failure}
+use Rattle.f_check.specs.Told.{IsPut}
+use Rattle.f_terms.specs.Ty.{Ty, put}
+use Rattle.f_terms.specs.Faults.{nothing}
+use Rattle.f_check.specs.Mismatch.{limits_with}
 use Rattle.f_terms.specs.Read.{tree, place}
-use Rattle.f_check.specs.Counts.{put_size, put_depth}
 use Rattle.f_check.proofs.Puts.{depth_made, size_made}
-use Rattle.f_check.proofs.Forms.{within, limits_of, limits_then, says_map}
+use Rattle.f_check.proofs.Forms.{within, limits_of, limits_then, tells_map}
 use Rattle.f_check.proofs.put.put_within.Goals as goal
 
 -- a fault that is passed on
-passed : (s t : Ty) (p : Spn) (r : Result FType FFault) (e f : FFault) → r ≡ Err e → e ≡ f → IsPut s t p (Err f) → IsPut s t p r
+passed : (s t : Ty) (p : Spn) (r : Result FType Failure) (e f : Failure) → r ≡ Err e → e ≡ f → IsPut s t p (Err f) → IsPut s t p r
 passed s t p r e f q k h = subst (IsPut s t p) (sym (q ∙ ap (λ x. Err x) k)) h
 
 pub returns-in_err-limit : goal.returns-in_err-limit
@@ -23,10 +23,11 @@ returns-in_err-limit c =
     let s = tree c.args.what.now in
     let t = tree c.args.body.now in
     let p = place c.args.span in
-    let rest = limits (put 0 s t) p nothing in
     let e = c.in_err-limit.field-0.0 in
     passed s t p c.from_residual.result r.0 e r.1 r.2
-    (says_map e _ (limits s p rest) (λ d q h. limits_then s p rest d q (limits_of s _ _ p c.depth-deep.ensures c.size-wide.ensures d q h)) c.in_err-limit.ensures.fault)
+    (tells_map e _ (λ m. limits_with m s p (limits_with m (put 0 s t) p nothing))
+    (λ m d q h. limits_then s p (limits_with m (put 0 s t) p nothing) m d q
+    (limits_of s _ _ p c.depth-deep.ensures c.size-wide.ensures m d q h)) c.in_err-limit.ensures.fault)
 
 pub returns-in_err-limit-2 : goal.returns-in_err-limit-2
 returns-in_err-limit-2 c =
@@ -37,14 +38,14 @@ returns-in_err-limit-2 c =
     let w = within s c.depth-deep.result c.size-wide.result c.depth-deep.ensures c.size-wide.ensures c.in_ok-limit.ensures.ok in
     let e = c.in_err-limit-2.field-0.0 in
     passed s t p c.from_residual-in_err-limit-2.result r.0 e r.1 r.2
-    (says_map e _ (limits s p (limits (put 0 s t) p nothing))
-    (λ d q h. inr (
+    (tells_map e _ (λ m. limits_with m s p (limits_with m (put 0 s t) p nothing))
+    (λ m d q h. inr (
       w.0,
       inr (
         w.1,
         limits_of (put 0 s t) _ _ p
             (depth_made s t c.depth-deep.result _ c.depth-deep.ensures c.in_ok-limit.ensures.ok.0 c.put_depth-made_deep.ensures)
-            (size_made s t c.size-wide.result _ c.size-wide.ensures c.in_ok-limit.ensures.ok.1 c.put_size-made_wide.ensures) d q h,
+            (size_made s t c.size-wide.result _ c.size-wide.ensures c.in_ok-limit.ensures.ok.1 c.put_size-made_wide.ensures) m d q h,
       ),
     ))
     c.in_err-limit-2.ensures.fault)

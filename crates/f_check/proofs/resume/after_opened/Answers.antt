@@ -36,5 +36,6 @@ pub returns-in-None-clause-goes : goal.returns-in-None-clause-goes
 returns-in-None-clause-goes c =
     let a = c.args in
     let st = record a.state.now { scope = c.leave_last-bound.new.scope; around = a.state.now.around - 1 } in
-    opened_refused a.term.now a.state.now a.part.ty a.part.span a.span c.requires st _ _ c.refused.ensures
+    opened_refused a.term.now a.state.now a.part.ty a.part.span a.span c.requires st _ _
+    (c.odds-mismatch.result, c.refused.ensures, c.odds-mismatch.ensures)
     (subst (IsOuter (tree a.part.ty)) c.in-None.is c.in_ok-outside.ensures)

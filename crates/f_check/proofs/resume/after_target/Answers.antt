@@ -1,5 +1,9 @@
+use Rattle.std.proofs.Common.{◌∙◌, ap}
 use Rattle.f_check.proofs.Resumes.{target_refused}
+use Rattle.f_check.specs.Mismatch.{WReference, odds}
 use Rattle.f_check.proofs.resume.after_target.Goals as goal
 
-pub returns-in-None-clause-goes : goal.returns-in-None-clause-goes
-returns-in-None-clause-goes c = target_refused c.args.term.now c.args.state.now c.args.part.ty c.args.part.span c.args.span c.args.b c.requires _ _ c.refused.ensures c.in-None.ensures
+pub returns-in-Err-clause-goes : goal.returns-in-Err-clause-goes
+returns-in-Err-clause-goes c = target_refused c.args.term.now c.args.state.now c.args.part.ty c.args.part.span c.args.span c.args.b c.requires _ _
+    (c.odds-mismatch.result, c.refused.ensures, c.odds-mismatch.ensures ∙ ap (odds c.args.state.now.around WReference) c.in-Err.ensures.0)
+    c.in-Err.ensures.1

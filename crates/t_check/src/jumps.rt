@@ -112,8 +112,8 @@ impl Registers {
         Ok(())
     }
 
-    // Whether each register of the code's file is known, by a type that fits. Each is looked up anew, since the table of
-    // types may grow at each.
+    // Whether each register of the code's file is known, by a type that fits. Each is looked up anew, since the table
+    // may have grown.
     fn fit_regs(&self, types: &mut Types, code: u64) -> Result<bool, OutOfMemory>
         requires sound { IsSound types.old self.now }
         requires there { code < length types.old }

@@ -14,7 +14,7 @@ returns-in_ok-write_type-in-Pack-2-clause-written t c =
     let shape = tree c.deref-in-Pack-3.result.now in
     let kept = Pack (tree c.in-Pack.hidden.value) (value c.in-Pack.inner.value) (tree c.in-Pack.shape.value) in
     let same : Pack hidden inner shape ≡ kept =
-        cc (c.deref-in-Pack.ensures, c.deref-in-Pack-2.ensures, c.deref-in-Pack-3.ensures) in
+    cc (c.deref-in-Pack.ensures, c.deref-in-Pack-2.ensures, c.deref-in-Pack-3.ensures) in
     pack_done c.args.depth hidden shape inner _ _ _ _ _ _ _ c.in_ok-extend_from_slice-in-Pack.ensures.items
     c.in_ok-write_type-in-Pack.ensures c.in_ok-extend_from_slice-in-Pack-2.ensures.items
     c.in_ok-write_value-in-Pack.ensures.written c.in_ok-extend_from_slice-in-Pack-3.ensures.items

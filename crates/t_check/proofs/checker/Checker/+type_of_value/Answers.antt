@@ -24,7 +24,7 @@ returns-in_ok-found-in-Pack-clause-typed t c =
     let shape = tree c.deref-in-Pack-3.result.now in
     let kept = Pack (tree c.in-Pack.hidden.value) (value c.in-Pack.inner.value) (tree c.in-Pack.shape.value) in
     let same : kept ≡ Pack hidden inner shape =
-        cc (c.deref-in-Pack.ensures, c.deref-in-Pack-2.ensures, c.deref-in-Pack-3.ensures) in
+    cc (c.deref-in-Pack.ensures, c.deref-in-Pack-2.ensures, c.deref-in-Pack-3.ensures) in
     let is = ap value c.in-Pack.is ∙ same in
     let formed = subst (λ (v : TValue). FormedValue c.args.self.now.program.now k.names v) is c.requires.value in
     subst (λ (v : TValue). IsTypeOf P c.type_of_package.new.types k.names g c.args.span v c.type_of_package.result) (sym is)

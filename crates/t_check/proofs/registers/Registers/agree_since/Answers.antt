@@ -35,8 +35,8 @@ returns-then-not-branch-clause-fit c = λ f e.
     let r = c.index.result.now in
     let read = c.index.ensures ∙ get_or_default_zero rs l.i r lt in
     let told =
-        file_told (λ (g : RegTypes) (x : TFile). AgreesAt g x r) ts l.types l.invariant.grown k c.requires.sound f c.args.code
-        c.in_ok-agrees.field-0 c.requires.there e c.in_ok-agrees.ensures.fit in
+    file_told (λ (g : RegTypes) (x : TFile). AgreesAt g x r) ts l.types l.invariant.grown k c.requires.sound f c.args.code
+    c.in_ok-agrees.field-0 c.requires.there e c.in_ok-agrees.ensures.fit in
     ((λ h. cc), λ h. sym c.if-not-branch.true ∙ told.1 (subst (AgreesAt (known ts k) f) (sym read) (h l.i c.loop-i.auto.i lt)))
 
 pub loop-i-preserved : goal.loop-i-preserved
@@ -53,8 +53,8 @@ loop-i-preserved c =
       grown = grown_next _ _ _ l.invariant.grown c.in_ok-agrees.ensures.grown;
       fit = λ f e.
           let told =
-              file_told (λ (h : RegTypes) (x : TFile). AgreesAt h x r) ts l.types l.invariant.grown k c.requires.sound f
-              c.args.code c.in_ok-agrees.field-0 c.requires.there e c.in_ok-agrees.ensures.fit in
+          file_told (λ (h : RegTypes) (x : TFile). AgreesAt h x r) ts l.types l.invariant.grown k c.requires.sound f
+          c.args.code c.in_ok-agrees.field-0 c.requires.there e c.in_ok-agrees.ensures.fit in
           agree_more g f rs c.args.from l.i (subst (AgreesAt g f) read (told.0 c.if-not-branch.false)) (l.invariant.fit f e);
     }
 

@@ -30,8 +30,8 @@ returns-then-not-branch-clause-fit c = λ f e.
     let ts = c.args.types.now in
     let k = c.args.self.now in
     let told =
-        file_told (λ (g : RegTypes) (x : TFile). FitsPlace g x l.i) ts l.types l.invariant.grown k c.requires.sound f
-        c.args.code c.in_ok-fits_place.field-0 c.requires.there e c.in_ok-fits_place.ensures.fit in
+    file_told (λ (g : RegTypes) (x : TFile). FitsPlace g x l.i) ts l.types l.invariant.grown k c.requires.sound f
+    c.args.code c.in_ok-fits_place.field-0 c.requires.there e c.in_ok-fits_place.ensures.fit in
     ((λ h. cc), λ h. sym c.if-not-branch.true ∙ told.1 (fits_places (known ts k) f h l.i))
 
 pub loop-i-preserved : goal.loop-i-preserved
@@ -43,14 +43,16 @@ loop-i-preserved c =
       grown = grown_next _ _ _ l.invariant.grown c.in_ok-fits_place.ensures.grown;
       fit = λ f e.
           let told =
-              file_told (λ (g : RegTypes) (x : TFile). FitsPlace g x l.i) ts l.types l.invariant.grown k
-              c.requires.sound f c.args.code c.in_ok-fits_place.field-0 c.requires.there e
-              c.in_ok-fits_place.ensures.fit in
+          file_told (λ (g : RegTypes) (x : TFile). FitsPlace g x l.i) ts l.types l.invariant.grown k
+          c.requires.sound f c.args.code c.in_ok-fits_place.field-0 c.requires.there e
+          c.in_ok-fits_place.ensures.fit in
           place_more (known ts k) f l.i (told.0 c.if-not-branch.false) (l.invariant.fit f e);
     }
 
 pub returns-clause-fit : goal.returns-clause-fit
 returns-clause-fit c = λ f e.
     let l = c.loop-i in
-    let g = known c.args.types.now c.args.self.now in
-    ((λ h. all_fit g f c.width.result l.i (l.invariant.fit f e) (omega arith) (c.width.ensures f e)), λ h. refl)
+    let g = known c.args.types.now c.args.self.now in (
+      (λ h. all_fit g f c.width-count.result l.i (l.invariant.fit f e) (omega arith) (c.width-count.ensures f e)),
+      λ h. refl,
+    )

@@ -40,6 +40,7 @@ returns-clause-sound c =
     c.in_ok-remember.ensures.remembered
     (λ f e.
     let before : at ts c.args.code ≡ CodeTy 0 f = sym same ∙ e in
-    let fits = (c.in_ok-fit_regs.ensures.fit f before).0 c.if-not-branch.false in
-    ((c.regs_rise.ensures f e).0 c.if-not-regs_rise.false,
-        subst (λ (g : RegTypes). FitsFile g f) (sym known_same) fits))
+    let fits = (c.in_ok-fit_regs.ensures.fit f before).0 c.if-not-branch.false in (
+      (c.regs_rise.ensures f e).0 c.if-not-regs_rise.false,
+      subst (λ (g : RegTypes). FitsFile g f) (sym known_same) fits,
+    ))

@@ -10,6 +10,10 @@ from pathlib import Path
 ROOT = Path(__file__).resolve().parent.parent
 TALC = ROOT / "crates" / "talc" / "out" / "talc"
 
+# All that is measured, the other packages' commands too, takes memory in large pages where the system has them, as
+# `./talc` starts the program; with GLIBC_TUNABLES set to nothing, none does.
+os.environ.setdefault("GLIBC_TUNABLES", "glibc.malloc.hugetlb=1")
+
 # Examples of what is refused.
 REFUSED = ("escape.f", "turn.f")
 

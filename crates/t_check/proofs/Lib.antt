@@ -15,3 +15,6 @@ mod Bodies
 mod Exact
 mod Applying
 mod Walking
+mod Decided
+mod Beside
+mod FirstWith

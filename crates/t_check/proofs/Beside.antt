@@ -9,24 +9,21 @@ use Rattle.t_types.specs.Fields.{TField, AField}
 use Rattle.t_terms.specs.declared.fault.TCode.{TCode}
 use Rattle.t_rules.specs.Faults as plain
 use Rattle.t_rules.specs.Faults.{Fault}
-use Rattle.t_check.specs.Mismatch.{Mismatch, FaultWith, if_code, if_exists, if_tuple, if_field}
+use Rattle.t_check.specs.Mismatch.{Mismatch, Note, FaultWith, if_code, if_exists, if_tuple, if_field}
 
 pub record Beside (f : Fault) (r : FaultWith) : Type 0 where
   pub forget : (c : TCode) (m : Option Mismatch) (s : Span) → r (c, m) s → f c s
   pub says : (c : TCode) (s : Span) → f c s → (m : Option Mismatch) × r (c, m) s
   pub one : (c d : TCode) (m k : Option Mismatch) (p q : Span) → r (c, m) p → r (d, k) q → m ≡ k
 
-abbrev Noted : Type 0
-Noted = TCode × Option Mismatch
-
 pub beside_nothing : Beside nothing nothing
 beside_nothing = record { forget = λ c m s h. h; says = λ c s h. absurd h; one = λ c d m k p q h x. absurd h }
 
 pub beside_refuse : {code : TCode} {note : Option Mismatch} {at : Span} → Beside (refuse code at) (refuse (code, note) at)
 beside_refuse {note = note} = record {
-  forget = λ c m s h. (ap (λ (x : Noted). x.0) h.0, h.1);
+  forget = λ c m s h. (ap (λ (x : Note). x.0) h.0, h.1);
   says = λ c s h. (note, (ap (λ (x : TCode). (x, note)) h.0, h.1));
-  one = λ c d m k p q h x. ap (λ (y : Noted). y.1) h.0 ∙ sym (ap (λ (y : Noted). y.1) x.0);
+  one = λ c d m k p q h x. ap (λ (y : Note). y.1) h.0 ∙ sym (ap (λ (y : Note). y.1) x.0);
 }
 
 pub beside_check : {P : Type 0} {f g : Fault} {r q : FaultWith} → Beside f r → Beside g q →

@@ -16,7 +16,7 @@ use Rattle.t_rules.specs.Faults.{BaseFault, ValueFault, EnterFault, InstrFault, 
 use Rattle.t_rules.proofs.OneType.{base_one, has_one, typed_one}
 use Rattle.t_rules.proofs.Faulty.{no_fault_typed}
 use Rattle.t_check.specs.Fitted.{KnownFits}
-use Rattle.t_check.specs.Mismatch.{Mismatch, Register, BaseFaultWith, ValueFaultWith, FileFaultWith, EnterFaultWith, InstrFaultWith, EndFaultWith, BodyFaultWith, BlocksFaultWith, DatumFaultWith, DataFaultWith, HeapFaultWith, FirstBlockFaultWith, ProgramNoted, MismatchIsOfTheFault, EachFaultSays, AtMostOneMismatch}
+use Rattle.t_check.specs.Mismatch.{Mismatch, Note, Register, BaseFaultWith, ValueFaultWith, FileFaultWith, EnterFaultWith, InstrFaultWith, EndFaultWith, BodyFaultWith, BlocksFaultWith, DatumFaultWith, DataFaultWith, HeapFaultWith, FirstBlockFaultWith, ProgramNoted, MismatchIsOfTheFault, EachFaultSays, AtMostOneMismatch}
 use Rattle.t_check.proofs.Decided.{Decided, known_fits}
 use Rattle.t_check.proofs.Beside.{Beside, beside_nothing, beside_refuse, beside_check, beside_part, beside_known, beside_code, beside_exists, beside_tuple, beside_field}
 
@@ -27,7 +27,7 @@ module _ (n : ℕ) (g : RegTypes) (s : Span) where
 
   file_forget : (file : TFile) (c : TCode) (m : Option Mismatch) (p : Span) → FileFaultWith n g s file (c, m) p → Unfit file c p
   file_forget NoRegs c m p h = absurd h
-  file_forget (MoreRegs r t file) c m p (inl h) = inl ((λ k. h.0 k.0), (ap (λ (x : TCode × Option Mismatch). x.0) h.1.0, h.1.1))
+  file_forget (MoreRegs r t file) c m p (inl h) = inl ((λ k. h.0 k.0), (ap (λ (x : Note). x.0) h.1.0, h.1.1))
   file_forget (MoreRegs r t file) c m p (inr h) = more (file_forget file c m p h.1)
     where
       more : Unfit file c p → Unfit (MoreRegs r t file) c p
@@ -52,7 +52,7 @@ module _ (n : ℕ) (g : RegTypes) (s : Span) where
   file_one : (file : TFile) (c d : TCode) (m k : Option Mismatch) (p q : Span) → FileFaultWith n g s file (c, m) p → FileFaultWith n g s file (d, k) q → m ≡ k
   file_one NoRegs c d m k p q h x = absurd h
   file_one (MoreRegs r t file) c d m k p q (inl h) (inl x) =
-      ap (λ (y : TCode × Option Mismatch). y.1) h.1.0 ∙ sym (ap (λ (y : TCode × Option Mismatch). y.1) x.1.0)
+      ap (λ (y : Note). y.1) h.1.0 ∙ sym (ap (λ (y : Note). y.1) x.1.0)
   file_one (MoreRegs r t file) c d m k p q (inl h) (inr x) = absurd (h.0 x.0)
   file_one (MoreRegs r t file) c d m k p q (inr h) (inl x) = absurd (x.0 h.0)
   file_one (MoreRegs r t file) c d m k p q (inr h) (inr x) = file_one file c d m k p q h.1 x.1

@@ -26,9 +26,13 @@ pub data Mismatch : Type 0 where
   NoPackage : (found : Ty) (n : ℕ) → Mismatch
   Register : (r : ℕ) (wanted : Ty) (found : Option Ty) (n : ℕ) → Mismatch
 
+-- a code, with what is at odds
+abbrev pub Note : Type 0
+Note = TCode × Option Mismatch
+
 -- which fault is the first, with what is at odds, and at which place
 abbrev pub FaultWith : Type 1
-FaultWith = Refusal (TCode × Option Mismatch) Span
+FaultWith = Refusal Note Span
 
 -- a fault that says no more than its code, and one that says what is at odds
 abbrev pub bare : TCode → Span → FaultWith

@@ -23,7 +23,8 @@ fault_of (AtOdds odds) = fault.Refused odds.value.code odds.value.span
 
 -- what is at odds in it, unless memory was wanted
 abbrev pub IsMismatchOf : Refusal → Result (Option Mismatch) OutOfMemory → Type 0
-IsMismatchOf Memory r = Unit {0}
+IsMismatchOf Memory (Ok m) = ⊥
+IsMismatchOf Memory (Err e) = Unit {0}
 IsMismatchOf (Refused code span) (Ok m) = m ≡ None
 IsMismatchOf (AtOdds odds) (Ok m) = m ≡ Some odds.value.mismatch
 IsMismatchOf (Refused code span) (Err e) = ⊥

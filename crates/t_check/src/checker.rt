@@ -15,6 +15,7 @@ ghost use Rattle.t_check.specs.Verdict.{IsVerdict, AcceptsOrWants, RefusesOrWant
 
 use crate::checked::Checked;
 use crate::labels::Labels;
+use crate::laws::{at_most_one_mismatch, mismatch_is_of_the_fault};
 use crate::mismatch::Mismatch;
 use crate::program::check_program;
 use crate::registers::Registers;
@@ -61,9 +62,13 @@ pub fn check_salted(
 {
     no_fault_where_accepted();
     at_most_one_fault();
+    mismatch_is_of_the_fault();
     match check_program(alloc, &program, salt) {
         Ok(()) => Ok(Checked { program }),
-        Err(e) => Err((program, e)),
+        Err(refusal) => {
+            let fault = refusal.fault();
+            Err((program, fault))
+        }
     }
 }
 
@@ -77,7 +82,14 @@ pub fn mismatch_of(alloc: Global, program: &TProgram) -> Result<Option<Mismatch>
         ProgramFaultWith (spanned_program program.now) code span m →
         IfOk result (λ r. mismatch_or_none r ≡ m) }
 {
-    Err(OutOfMemory)
+    no_fault_where_accepted();
+    at_most_one_fault();
+    mismatch_is_of_the_fault();
+    at_most_one_mismatch();
+    match check_program(alloc, program, salt_of(program)) {
+        Ok(()) => Ok(None),
+        Err(refusal) => refusal.mismatch(),
+    }
 }
 
 /// A program that the typing rules accept, as the caller knows, with no check.

@@ -1,6 +1,7 @@
 // Why a program is not accepted, with what is at odds.
-ghost use Rattle.std.specs.Prelude.{◌≡◌, ◌<◌, IfOk, length};
-ghost use Rattle.t_terms.specs.declared.fault.TCode.TheVariants.{T15};
+ghost use Rattle.std.specs.Prelude.{◌≡◌, ◌<◌, IfOk, IfSome, length, option_map};
+ghost use Rattle.t_terms.specs.declared.fault.TCode.TheVariants.{T15, T18};
+ghost use Rattle.t_types.specs.Read.{tree};
 ghost use Rattle.t_intern.specs.Nodes.{at};
 ghost use Rattle.t_check.specs.Mismatch as odds;
 ghost use Rattle.t_check.specs.Mismatch.{at_odds};
@@ -13,6 +14,7 @@ use idx_core::{OutOfMemory, Span};
 use std::alloc::Global;
 use t_intern::Types;
 use t_terms::{TCode, TFault};
+use t_types::TType;
 
 /// A fault of types: its code, its place, and what is at odds.
 #[derive(Drop)]
@@ -145,5 +147,57 @@ pub(crate) fn no_package(types: &Types, span: Span, found: u64, names: u64) -> R
             Mismatch::NoPackage { found, names },
         ),
         Err(_) => Refusal::Memory,
+    }
+}
+
+/// A register with the numbers of the type that is wanted of it and of the one that it has, if any, and how many type
+/// names are in scope.
+#[derive(Clone, Copy)]
+pub(crate) struct Reg {
+    pub(crate) register: u64,
+    pub(crate) wanted: u64,
+    pub(crate) found: Option<u64>,
+    pub(crate) names: u64,
+}
+
+/// The refusal of a register that has no type, or one that does not fit.
+pub(crate) fn register_at_odds(types: &Types, span: Span, reg: Reg) -> Refusal
+    requires wanted { reg.wanted < length types.now }
+    requires found { IfSome reg.found (λ n. n < length types.now) }
+    ensures { SaysWith result (at_odds T18 (odds.Register reg.register (at types.now reg.wanted)
+        (option_map (at types.now) reg.found) reg.names) span) }
+{
+    match register_types(types, reg) {
+        Ok(mismatch) => noted(types.alloc(), TCode::T18, span, mismatch),
+        Err(_) => Refusal::Memory,
+    }
+}
+
+fn register_types(types: &Types, reg: Reg) -> Result<Mismatch, OutOfMemory>
+    requires wanted { reg.wanted < length types.now }
+    requires found { IfSome reg.found (λ n. n < length types.now) }
+    ensures { IfOk result (λ m. mismatch_tree m ≡ odds.Register reg.register (at types.now reg.wanted)
+        (option_map (at types.now) reg.found) reg.names) }
+{
+    let wanted = types.tree(reg.wanted)?;
+    let found = found_type(types, reg.found)?;
+    Ok(Mismatch::Register {
+        register: reg.register,
+        wanted,
+        found,
+        names: reg.names,
+    })
+}
+
+fn found_type(types: &Types, found: Option<u64>) -> Result<Option<TType>, OutOfMemory>
+    requires { IfSome found (λ n. n < length types.now) }
+    ensures { IfOk result (λ t. option_map tree t ≡ option_map (at types.now) found) }
+{
+    match found {
+        Some(n) => {
+            let t = types.tree(n)?;
+            Ok(Some(t))
+        }
+        None => Ok(None),
     }
 }

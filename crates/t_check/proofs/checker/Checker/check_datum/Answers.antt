@@ -5,7 +5,7 @@ use Rattle.t_types.specs.Fits.{Fits}
 use Rattle.t_types.specs.Read.{tree}
 use Rattle.t_terms.specs.Read.{datum}
 use Rattle.t_terms.specs.ReadProgram.{program}
-use Rattle.t_terms.specs.declared.fault.TFault.{TFault}
+use Rattle.t_check.specs.declared.refusal.Refusal.{Refusal}
 use Rattle.t_intern.specs.Nodes.{at}
 use Rattle.t_intern.proofs.Growing.{grown_at}
 use Rattle.t_check.specs.Known.{known}
@@ -37,7 +37,7 @@ returns-else-fits_once-clause-word c =
     let k = c.args.self.now.registers in
     let typed = c.in_ok-found.ensures.typed in
     let found = grown_at us vs c.in_ok-wanted.ensures.grown c.in_ok-found.found typed.0 in
-    subst (λ (r : Result (Unit {0}) TFault). IsDatum (program c.args.self.now.program.now) (datum c.args.field.now) r) (sym c.refused.ensures)
+    subst (λ (r : Result (Unit {0}) Refusal). IsDatum (program c.args.self.now.program.now) (datum c.args.field.now) r) (sym c.refused.ensures)
     (datum_unfit (program c.args.self.now.program.now) k.names (known ts k) c.requires.names (empty_known ts k c.requires.empty) (datum c.args.field.now) (at us c.in_ok-found.found) typed.1
     (λ h. true≢false (sym (c.if-fits_once.ensures.fit.1 (subst (λ (t : Ty). Fits t (at vs c.in_ok-wanted.wanted)) (sym found) (subst (Fits (at us c.in_ok-found.found)) (sym c.in_ok-wanted.ensures.number.1) h))))))
 

@@ -3,8 +3,8 @@ use Rattle.text_core.specs.Refusals.{nothing, refuse, check}
 use Rattle.t_types.specs.Tree.{Ty}
 use Rattle.t_types.specs.Fits.{Fits}
 use Rattle.t_terms.specs.declared.fault.TCode.TheVariants.{T13}
-use Rattle.t_terms.specs.declared.fault.TFault.{TFault}
-use Rattle.t_rules.specs.Faults.{register}
+use Rattle.t_check.specs.declared.refusal.Refusal.{Refusal}
+use Rattle.t_check.specs.Mismatch.{register}
 use Rattle.t_intern.specs.Nodes.{at}
 use Rattle.t_check.specs.Known.{known, seen}
 use Rattle.t_check.specs.Verdict.{IsStored}
@@ -36,7 +36,7 @@ returns-then-not-branch-clause-stored c =
     let wanted = at us c.in_ok-wanted.wanted in
     let found = c.in-Some.ensures.found ts c.requires in
     let same = seen_grown ts us c.in_ok-wanted.ensures.grown k.names e found.1 in
-    subst (λ (r : Result Bool TFault). IsStored g c.args.rd c.args.field c.args.rs s r) (sym c.refused-then-not-branch.ensures)
+    subst (λ (r : Result Bool Refusal). IsStored g c.args.rd c.args.field c.args.rs s r) (sym c.refused-then-not-branch.ensures)
     (field_follows g c.args.rd c.args.field s (λ fs u flag. register g c.args.rs s (λ w. check (Fits w u) (refuse T13 s) nothing)) h.0 h.1 wanted c.in_ok-wanted.is_initialised T13 s h.2
     (unfit g c.args.rs s (seen ts k.names e) wanted found.0
     (λ f. true≢false (sym (c.in_ok-fits_entry.ensures.fit.1 (subst (λ (t : Ty). Fits t wanted) (sym same) f)) ∙ c.if-not-branch.true))))

@@ -3,7 +3,7 @@ use Rattle.t_types.specs.Tree.{CodeTy, TFile}
 use Rattle.t_types.specs.Fits.{FitsFile, RegTypes}
 use Rattle.t_terms.specs.Read.{value}
 use Rattle.t_terms.specs.ReadProgram.{program}
-use Rattle.t_terms.specs.declared.fault.TFault.{TFault}
+use Rattle.t_check.specs.declared.refusal.Refusal.{Refusal}
 use Rattle.t_intern.specs.Nodes.{at}
 use Rattle.t_check.specs.Known.{known}
 use Rattle.t_check.specs.Verdict.{IsEntered}
@@ -19,7 +19,7 @@ returns-then-not-owes_nothing-clause-entered c =
     let g = known c.args.types.now k in
     let us = c.type_of_value.new.types in
     let v = value c.args.v.now in
-    subst (λ (r : Result (Unit {0}) TFault). IsEntered P k.names g c.args.span v r) (sym c.refused.ensures)
+    subst (λ (r : Result (Unit {0}) Refusal). IsEntered P k.names g c.args.span v r) (sym c.refused.ensures)
     (enter_none P k.names g c.args.span v (at us c.in_ok-found.found) c.in_ok-found.ensures.typed.1 (λ f e. true≢false (sym (c.owes_nothing.ensures.1 (f, e)) ∙ c.if-not-owes_nothing.true)))
 
 pub fit-requires-clause-sound : goal.fit-requires-clause-sound
@@ -38,7 +38,7 @@ returns-then-not-branch-clause-entered c =
     let v = value c.args.v.now in
     let same = known_grown ts us c.in_ok-found.ensures.grown k c.requires.place.sound in
     let f : (f : TFile) × (at us c.in_ok-found.found ≡ CodeTy 0 f) = c.owes_nothing.ensures.0 c.if-not-owes_nothing.false in
-    subst (λ (r : Result (Unit {0}) TFault). IsEntered P k.names g c.args.span v r) (sym c.refused-then-not-branch.ensures)
+    subst (λ (r : Result (Unit {0}) Refusal). IsEntered P k.names g c.args.span v r) (sym c.refused-then-not-branch.ensures)
     (enter_regs P k.names g c.args.span v (at us c.in_ok-found.found) c.in_ok-found.ensures.typed.1 f.0 f.1
     (λ h. true≢false (sym ((c.in_ok-fit.ensures.fit f.0 f.1).1 (subst (λ (x : RegTypes). FitsFile x f.0) (sym same) h)) ∙ c.if-not-branch.true)))
 

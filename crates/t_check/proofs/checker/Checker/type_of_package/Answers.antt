@@ -2,7 +2,7 @@ use Rattle.std.proofs.Common.{sym, subst, ◌∙◌, ap₂, Result, ℕ, List, t
 use Rattle.t_types.specs.Read.{tree}
 use Rattle.t_types.specs.Fits.{Fits}
 use Rattle.t_types.specs.Tree.{Ty, put, PutFits}
-use Rattle.t_terms.specs.declared.fault.TFault.{TFault}
+use Rattle.t_check.specs.declared.refusal.Refusal.{Refusal}
 use Rattle.t_terms.specs.ReadProgram.{program}
 use Rattle.t_intern.specs.Grown.{IsNumber}
 use Rattle.t_intern.specs.Nodes.{at}
@@ -57,6 +57,6 @@ returns-then-not-fits_once-clause-packed c =
     let t = at ts c.args.found in
     let body = at us c.in-Some.body in
     let own = grown_at ts vs all c.args.found c.requires.found in
-    subst (λ (r : Result ℕ TFault). IsPacked c.fits_once.new.self hidden t shape c.args.span r) (sym c.refused-then-not-fits_once.ensures)
+    subst (λ (r : Result ℕ Refusal). IsPacked c.fits_once.new.self hidden t shape c.args.span r) (sym c.refused-then-not-fits_once.ensures)
     (pack_unfit (program c.args.self.now.program.now) c.args.self.now.registers.names (known ts c.args.self.now.registers) c.args.span hidden shape t body is
     (λ h. true≢false (sym (c.fits_once.ensures.fit.1 (subst (λ (u : Ty). Fits u (at vs c.in_ok-wanted.wanted)) (sym own) (subst (Fits t) (sym wanted) h))) ∙ c.if-not-fits_once.true)))

@@ -18,3 +18,4 @@ mod Walking
 mod Decided
 mod Beside
 mod FirstWith
+mod Missing

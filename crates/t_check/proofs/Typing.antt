@@ -9,6 +9,7 @@ use Rattle.t_types.specs.Fits.{Fits, FitsFile, RegTypes}
 use Rattle.t_types.specs.WellFormed.{WellFormed}
 use Rattle.t_terms.specs.Tree.{TBase, TValue, Plain, Pack, Reg, Arith, Bnz, Mov, Unpack, TProg}
 use Rattle.t_terms.specs.Spanned.{SDatum, plain_datum}
+use Rattle.t_terms.specs.declared.fault.TCode.{TCode}
 use Rattle.t_terms.specs.declared.fault.TCode.TheVariants.{T09, T13, T14, T15, T16}
 use Rattle.t_check.specs.declared.refusal.Refusal.{Refusal}
 use Rattle.t_check.specs.declared.refusal.Refusal.TheVariants.{Memory, Refused, AtOdds}
@@ -35,6 +36,16 @@ says_map (AtOdds odds) F G go h = go (odds.value.code, Some (mismatch odds.value
 pub says_noted : (f : Refusal) (note : Note) (s : Span) (F : FaultWith) → SaysWith f (refuse note s) → F note s → SaysWith f F
 says_noted f note s F h k =
     says_map f (refuse note s) F (λ c p e. subst (λ q. F c q) (sym e.1) (subst (λ d. F d s) (sym e.0) k)) h
+
+-- the same of types that are at odds, which are those by number
+pub says_types : (f : Refusal) (code : TCode) (n : ℕ) (s : Span) (F : FaultWith) (w u t v : Ty) → w ≡ t → u ≡ v → SaysWith f (at_odds code (Types w u n) s) → F (code, Some (Types t v n)) s → SaysWith f F
+says_types f code n s F w u t v e1 e2 h k =
+    says_noted f (code, Some (Types w u n)) s F h (subst (λ m. F (code, Some m) s) (sym (ap₂ (λ a b. Types a b n) e1 e2)) k)
+
+-- what holds in any case
+pub on_any : {G : Type 0} (r : Result (Unit {0}) Refusal) → G → OnOk r G
+on_any (Ok u) h = h
+on_any (Err f) h = tt
 
 -- a type of another form
 pub other_than_exists : (t : Ty) (other : FaultWith) (go : Ty → FaultWith) (c : Note) (p : Span) → ((body : Ty) → t ≢ ExistsTy body) → other c p → if_exists t other go c p

@@ -65,8 +65,8 @@ impl Registers {
         ensures fit { IsRegFit self.now.names (known types.old self.now) span register (at types.old wanted) result }
     {
         let names = self.names;
-        let found = match self.find(register) {
-            Some(entry) => self.shown(types, entry)?,
+        let entry = match self.find(register) {
+            Some(entry) => entry,
             None => {
                 let missing = Reg {
                     register,
@@ -77,6 +77,7 @@ impl Registers {
                 return Err(register_at_odds(types, span, missing));
             }
         };
+        let found = self.shown(types, entry)?;
         if types.fits_once(found, wanted) {
             return Ok(());
         }

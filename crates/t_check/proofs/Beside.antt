@@ -19,7 +19,8 @@ pub record Beside (f : Fault) (r : FaultWith) : Type 0 where
 pub beside_nothing : Beside nothing nothing
 beside_nothing = record { forget = λ c m s h. h; says = λ c s h. absurd h; one = λ c d m k p q h x. absurd h }
 
-pub beside_refuse : {code : TCode} {note : Option Mismatch} {at : Span} → Beside (refuse code at) (refuse (code, note) at)
+pub beside_refuse : {code : TCode} {note : Option Mismatch} {at : Span} →
+    Beside (refuse code at) (refuse (code, note) at)
 beside_refuse {note = note} = record {
   forget = λ c m s h. (ap (λ (x : Note). x.0) h.0, h.1);
   says = λ c s h. (note, (ap (λ (x : TCode). (x, note)) h.0, h.1));
@@ -97,6 +98,7 @@ beside_tuple (CodeTy owes file) x y = x
 beside_tuple (ExistsTy t) x y = x
 
 pub beside_field : {f : Fault} {r : FaultWith} {g : Ty → Bool → Fault} {q : Ty → Bool → FaultWith} (o : Option TField) →
-    Beside f r → ((t : Ty) (flag : Bool) → Beside (g t flag) (q t flag)) → Beside (plain.if_field o f g) (if_field o r q)
+    Beside f r → ((t : Ty) (flag : Bool) → Beside (g t flag) (q t flag)) →
+    Beside (plain.if_field o f g) (if_field o r q)
 beside_field None x y = x
 beside_field (Some (AField t flag)) x y = y t flag

@@ -1,7 +1,9 @@
 -- Whether a type fits another can be decided.
-use Rattle.std.proofs.Common.{◌≡◌, ℕ, ◌<◌, Bool, true, false, IsTrue, Option, Some, None, refl, ap, ap₂, ◌∙◌, subst, arith, ◌⊎◌, inl, inr}
+use Rattle.std.proofs.Common.{◌≡◌, ℕ, ◌<◌, Bool, true, false, IsTrue, Option, Some, None, refl, ap, ap₂, ◌∙◌, subst}
+use Rattle.std.proofs.Common.{arith, ◌⊎◌, inl, inr}
 use Rattle.std.proofs.lemmas.Bool.{cases_order}
-use Rattle.t_types.specs.Tree.{Ty, IntTy, VarTy, CodeTy, ExistsTy, TupleTy, TFile, NoRegs, MoreRegs, TFields, NoFields, MoreFields}
+use Rattle.t_types.specs.Tree.{Ty, IntTy, VarTy, CodeTy, ExistsTy, TupleTy, TFile, NoRegs, MoreRegs, TFields, NoFields}
+use Rattle.t_types.specs.Tree.{MoreFields}
 use Rattle.t_types.specs.Fits.{FieldsFit, Fits, RegTypes}
 use Rattle.t_check.specs.Fitted.{KnownFits}
 
@@ -47,7 +49,8 @@ mutual
   file_same NoRegs (MoreRegs r u g) = inr (λ e. cc)
   file_same (MoreRegs q t f) NoRegs = inr (λ e. cc)
   file_same (MoreRegs q t f) (MoreRegs r u g) =
-      let rest : Decided ((t ≡ u) × (f ≡ g)) = both (ty_same t u) (file_same f g) (λ x y. (x, y)) (λ differ h. differ h.0) (λ differ h. differ h.1) in
+      let rest : Decided ((t ≡ u) × (f ≡ g)) = both (ty_same t u) (file_same f g) (λ x y. (x, y))
+      (λ differ h. differ h.0) (λ differ h. differ h.1) in
       both (number_same q r) rest (λ x y. ap₂ (λ (n : ℕ) (v : Ty). MoreRegs n v f) x y.0 ∙ ap (MoreRegs r u) y.1)
       (λ differ e. differ (cc)) (λ differ e. differ (let a : t ≡ u = cc in let b : f ≡ g = cc in (a, b)))
 
@@ -56,7 +59,8 @@ mutual
   fields_same NoFields (MoreFields u y gs) = inr (λ e. cc)
   fields_same (MoreFields t x fs) NoFields = inr (λ e. cc)
   fields_same (MoreFields t x fs) (MoreFields u y gs) =
-      let rest : Decided ((t ≡ u) × (fs ≡ gs)) = both (ty_same t u) (fields_same fs gs) (λ a b. (a, b)) (λ differ h. differ h.0) (λ differ h. differ h.1) in
+      let rest : Decided ((t ≡ u) × (fs ≡ gs)) = both (ty_same t u) (fields_same fs gs) (λ a b. (a, b))
+      (λ differ h. differ h.0) (λ differ h. differ h.1) in
       both (flag_same x y) rest (λ a b. ap₂ (λ (c : Bool) (v : Ty). MoreFields v c fs) a b.0 ∙ ap (MoreFields u y) b.1)
       (λ differ e. differ (cc)) (λ differ e. differ (let a : t ≡ u = cc in let b : fs ≡ gs = cc in (a, b)))
 
@@ -71,7 +75,9 @@ fields_fit NoFields NoFields = inl tt
 fields_fit NoFields (MoreFields u flag gs) = inr (λ h. h)
 fields_fit (MoreFields t own fs) NoFields = inr (λ h. h)
 fields_fit (MoreFields t own fs) (MoreFields u flag gs) =
-    let rest : Decided ((IsTrue flag → IsTrue own) × FieldsFit fs gs) = both (flag_fits own flag) (fields_fit fs gs) (λ x y. (x, y)) (λ differ h. differ h.0) (λ differ h. differ h.1) in
+    let rest : Decided ((IsTrue flag → IsTrue own) × FieldsFit fs gs) =
+    both (flag_fits own flag) (fields_fit fs gs) (λ x y. (x, y)) (λ differ h. differ h.0)
+    (λ differ h. differ h.1) in
     both (ty_same t u) rest (λ x y. (x, y.0, y.1)) (λ differ h. differ h.0) (λ differ h. differ (h.1, h.2))
 
 abbrev FitAsTuples : Ty → Ty → Type 0
@@ -80,7 +86,8 @@ FitAsTuples t u = (fs : TFields) × (gs : TFields) × (t ≡ TupleTy fs) × (u �
 as_tuples : (t u : Ty) → Decided (FitAsTuples t u)
 as_tuples (TupleTy fs) (TupleTy gs) =
     by_equal (fields_fit fs gs) (λ h. (fs, gs, refl, refl, h))
-    (λ differ h. let e1 = h.2 in let e2 = h.3 in let a : h.0 ≡ fs = cc in let b : h.1 ≡ gs = cc in differ (subst (FieldsFit fs) b (subst (λ z. FieldsFit z h.1) a h.4)))
+    (λ differ h. let e1 = h.2 in let e2 = h.3 in let a : h.0 ≡ fs = cc in let b : h.1 ≡ gs = cc in
+    differ (subst (FieldsFit fs) b (subst (λ z. FieldsFit z h.1) a h.4)))
 as_tuples t u = inr (λ h. let e1 = h.2 in let e2 = h.3 in cc)
 
 fits : (t u : Ty) → Decided (Fits t u)
@@ -97,4 +104,5 @@ known_fits g r t = known (g r)
   where
     known : (o : Option Ty) → Decided ((u : Ty) × (o ≡ Some u) × Fits u t)
     known None = inr (λ h. let e = h.1 in cc)
-    known (Some u) = by_equal (fits u t) (λ h. (u, refl, h)) (λ differ h. let e1 = h.1 in let e : h.0 ≡ u = cc in differ (subst (λ z. Fits z t) e h.2))
+    known (Some u) = by_equal (fits u t) (λ h. (u, refl, h))
+        (λ differ h. let e1 = h.1 in let e : h.0 ≡ u = cc in differ (subst (λ z. Fits z t) e h.2))

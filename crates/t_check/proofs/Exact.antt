@@ -25,11 +25,13 @@ module _ (P : SProg) where
   said same (Refused c s) k = same P c s None k
   said same (AtOdds odds) k = same P odds.value.code odds.value.span (Some (mismatch odds.value.mismatch)) k
 
-  pub no_fault : NoFaultWhereAccepted → Accepted (plain_program P) → (f : TFault) → Says f (ProgramFault P) → f ≡ fault.Memory
+  pub no_fault : NoFaultWhereAccepted → Accepted (plain_program P) → (f : TFault) → Says f (ProgramFault P) →
+      f ≡ fault.Memory
   no_fault clear h fault.Memory k = refl
   no_fault clear h (fault.Refused c s) k = absurd (clear P c s h k)
 
-  pub same_fault : AtMostOneFault → (c : TCode) (s : Span) → ProgramFault P c s → (f : TFault) → Says f (ProgramFault P) → f ≢ fault.Memory → f ≡ fault.Refused c s
+  pub same_fault : AtMostOneFault → (c : TCode) (s : Span) → ProgramFault P c s → (f : TFault) →
+      Says f (ProgramFault P) → f ≢ fault.Memory → f ≡ fault.Refused c s
   same_fault one c s h fault.Memory k ne = absurd (ne refl)
   same_fault one c s h (fault.Refused d p) k ne = let r = one P d c p s k h in ap₂ fault.Refused r.0 r.1
 
@@ -40,15 +42,18 @@ module _ (P : SProg) where
         let r = one P d c p s (same P d p m k) h in
         subst (λ q. ProgramFaultWith P c q m) r.1 (subst (λ e. ProgramFaultWith P e p m) r.0 k)
 
-    pub told : (f : Refusal) → SaysWith f (ProgramNoted P) → (r : Result (Option Mismatch) OutOfMemory) → IsMismatchOf f r → IfOk r (λ m. ProgramFaultWith P c s (mismatch_or_none m))
+    pub told : (f : Refusal) → SaysWith f (ProgramNoted P) → (r : Result (Option Mismatch) OutOfMemory) →
+        IsMismatchOf f r → IfOk r (λ m. ProgramFaultWith P c s (mismatch_or_none m))
     told Memory k (Ok m) is = absurd is
-    told (Refused d p) k (Ok m) is = subst (λ (o : Option Mismatch). ProgramFaultWith P c s (mismatch_or_none o)) (sym is) (at_it d p None k)
+    told (Refused d p) k (Ok m) is = subst (λ (o : Option Mismatch). ProgramFaultWith P c s (mismatch_or_none o))
+        (sym is) (at_it d p None k)
     told (AtOdds odds) k (Ok m) is =
         subst (λ (o : Option Mismatch). ProgramFaultWith P c s (mismatch_or_none o)) (sym is)
         (at_it odds.value.code odds.value.span (Some (mismatch odds.value.mismatch)) k)
     told f k (Err e) is = tt
 
-  pub one_told : AtMostOneMismatch → (c : TCode) (s : Span) (m : Option plain.Mismatch) → ProgramFaultWith P c s m → (r : Result (Option Mismatch) OutOfMemory) →
+  pub one_told : AtMostOneMismatch → (c : TCode) (s : Span) (m : Option plain.Mismatch) → ProgramFaultWith P c s m →
+      (r : Result (Option Mismatch) OutOfMemory) →
       IfOk r (λ o. ProgramFaultWith P c s (mismatch_or_none o)) → IfOk r (λ o. mismatch_or_none o ≡ m)
   one_told only c s m h (Ok o) k = only P c c s s (mismatch_or_none o) m k h
   one_told only c s m h (Err e) k = tt

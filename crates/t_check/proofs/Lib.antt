@@ -19,3 +19,4 @@ mod Decided
 mod Beside
 mod FirstWith
 mod Missing
+mod RowsMismatch

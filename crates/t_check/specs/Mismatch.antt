@@ -1,5 +1,5 @@
--- The first fault of typing with what is at odds in it: the recursion of `ProgramFault`, with its premises. T13, T15 and
--- T18 say besides which type was wanted and which was found, and every other fault says no more than its code.
+-- The first fault of typing with what is at odds in it: the recursion of `ProgramFault`, with its premises. T13, T15
+-- and T18 say besides which type was wanted and which was found, and every other fault says no more than its code.
 use Rattle.std.specs.Prelude.{◌≡◌, ℕ, ◌≤◌, Bool, true, List, [], ◌∷◌, length, Option, Some, None}
 use Rattle.idx_core.specs.declared.span.Span.{Span}
 use Rattle.text_core.specs.Refusals.{Refusal, nothing, refuse, check, part, if_known}
@@ -19,8 +19,8 @@ use Rattle.t_rules.specs.Rules.{BaseHas, Has, Typed, BlockAccepted, DatumAccepte
 use Rattle.t_rules.specs.Rules.{FirstTakesNothing}
 use Rattle.t_check.specs.Fitted.{KnownFits}
 
--- What is at odds, where n type names are in scope: a type was wanted, and a value of another found; a package was given
--- a type that is no package type; or a register was wanted with a type, and found with another or with none.
+-- What is at odds, where n type names are in scope: a type was wanted, and a value of another found; a package was
+-- given a type that is no package type; or a register was wanted with a type, and found with another or with none.
 pub data Mismatch : Type 0 where
   Types : (wanted found : Ty) (n : ℕ) → Mismatch
   NoPackage : (found : Ty) (n : ℕ) → Mismatch
@@ -203,7 +203,8 @@ MismatchIsOfTheFault = (P : SProg) (c : TCode) (s : Span) (m : Option Mismatch) 
 
 -- something, or nothing, is at odds in each first fault
 abbrev pub EachFaultSays : Type 0
-EachFaultSays = (P : SProg) (c : TCode) (s : Span) → ProgramFault P c s → (m : Option Mismatch) × ProgramFaultWith P c s m
+EachFaultSays = (P : SProg) (c : TCode) (s : Span) → ProgramFault P c s →
+    (m : Option Mismatch) × ProgramFaultWith P c s m
 
 -- and it is one
 abbrev pub AtMostOneMismatch : Type 0

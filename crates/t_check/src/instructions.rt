@@ -172,7 +172,13 @@ impl Checker<'_> {
         Ok(())
     }
 
-    fn check_mov(&mut self, types: &mut Types, rd: u64, v: &Value, span: Span) -> Result<(), Refusal>
+    fn check_mov(
+        &mut self,
+        types: &mut Types,
+        rd: u64,
+        v: &Value,
+        span: Span,
+    ) -> Result<(), Refusal>
         requires place { IsPlace types.old self.old }
         requires rd { IsRegister rd }
         requires value { FormedAt self.old (value v.now) }
@@ -239,7 +245,8 @@ impl Checker<'_> {
     ) -> Result<bool, Refusal>
         requires { IsSound types.old self.now.registers }
         ensures grown { Grown types.old types.new }
-        ensures stored { IsStored self.now.registers.names (known types.old self.now.registers) rd field rs span result }
+        ensures stored { IsStored self.now.registers.names (known types.old self.now.registers) rd field rs span
+            result }
     {
         let (wanted, is_initialised) = self.field_of(types, rd, field, span)?;
         let source = match self.registers.find(rs) {

@@ -11,7 +11,10 @@ pub enum Mismatch {
         names: u64,
     },
     /// A package is given a type that is no package type: T15.
-    NoPackage { found: TType, names: u64 },
+    NoPackage {
+        found: TType,
+        names: u64,
+    },
     /// The first register of the target's file, in its order, that has no type or one that does not fit: T18.
     Register {
         register: u64,

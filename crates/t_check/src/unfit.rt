@@ -1,5 +1,5 @@
-// Why what is known of the registers does not fit the file of a jump's target: T18, with the first register of the file,
-// in its order, that has no type or one that does not fit.
+// Why what is known of the registers does not fit the file of a jump's target: T18, with the first register of the
+// file, in its order, that has no type or one that does not fit.
 ghost use Rattle.std.specs.Prelude.{◌≡◌, ◌<◌, length};
 ghost use Rattle.t_types.specs.Tree.{TFile, CodeTy};
 ghost use Rattle.t_intern.specs.Grown.{Grown};
@@ -8,19 +8,14 @@ ghost use Rattle.t_check.specs.Known.{known, IsSound};
 ghost use Rattle.t_check.specs.Verdict.{IsRegFit, IsFileFit};
 
 use crate::parts::code_parts;
-use crate::refusal::{Reg, Refusal, register_at_odds};
+use crate::refusal::{Refusal, Reg, register_at_odds};
 use crate::registers::Registers;
 use idx_core::Span;
 use t_intern::Types;
 
 impl Registers {
     // Whether each register of the code's file is known, by a type that fits.
-    pub(crate) fn check_code(
-        &self,
-        types: &mut Types,
-        code: u64,
-        span: Span,
-    ) -> Result<(), Refusal>
+    pub(crate) fn check_code(&self, types: &mut Types, code: u64, span: Span) -> Result<(), Refusal>
         requires sound { IsSound types.old self.now }
         requires there { code < length types.old }
         requires code { (f : TFile) × (at types.old code ≡ CodeTy 0 f) }
@@ -34,12 +29,7 @@ impl Registers {
         }
     }
 
-    fn check_file(
-        &self,
-        types: &mut Types,
-        regs: &[(u64, u64)],
-        span: Span,
-    ) -> Result<(), Refusal>
+    fn check_file(&self, types: &mut Types, regs: &[(u64, u64)], span: Span) -> Result<(), Refusal>
         requires sound { IsSound types.old self.now }
         requires regs { RegsBelow (length types.old) regs.now }
         ensures grown { Grown types.old types.new }

@@ -191,7 +191,8 @@ impl Checker<'_> {
         requires hidden { WellFormed self.now.registers.names (tree hidden.now) }
         requires shape { WellFormed self.now.registers.names (tree shape.now) }
         ensures grown { Grown types.old types.new }
-        ensures packed { IsPacked types.new self.now.registers.names (tree hidden.now) (at types.old found) (tree shape.now) span result }
+        ensures packed { IsPacked types.new self.now.registers.names (tree hidden.now) (at types.old found)
+            (tree shape.now) span result }
     {
         let names = self.registers.names;
         let shape = types.number(shape)?;

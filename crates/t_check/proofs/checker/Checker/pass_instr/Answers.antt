@@ -23,8 +23,8 @@ unreachable-requires c =
     let fault = subst (λ (f : Refusal). SaysWith f (InstrFaultWith P n g s i)) c.in-Err-Refused.field-0-is c.in-Err-Refused.ensures.step in
     ∥∥₁_elim c.requires.typed none (λ t. c.no_fault_where_typed.ensures P n g i t.0 s code span t.1 ((instr_beside P n g s i).forget code None span fault))
 
-pub unreachable-requires-2 : goal.unreachable-requires-2
-unreachable-requires-2 c =
+pub unreachable-requires-in-Err-AtOdds : goal.unreachable-requires-in-Err-AtOdds
+unreachable-requires-in-Err-AtOdds c =
     let k = c.args.self.now in
     let P = program_in k in
     let n = k.registers.names in

@@ -17,8 +17,8 @@ check_file-requires-clause-regs c =
     let code = subst (λ (o : Option CodeParts). IsCode ts c.args.code o) c.in-Some.is c.in_ok-parts.ensures in
     subst (λ (xs : List (ℕ × ℕ)). RegsBelow (length ts) xs) (sym c.deref.ensures.value) code.1
 
-pub returns-in-Some-clause-fit : goal.returns-in-Some-clause-fit
-returns-in-Some-clause-fit c = λ f e.
+pub returns-clause-fit : goal.returns-clause-fit
+returns-clause-fit c = λ f e.
     let ts = c.args.types.now in
     let k = c.args.self.now in
     let p = c.in-Some.parts in

@@ -21,8 +21,7 @@ returns-then-fits_once-clause-fit c =
     let w = c.args.wanted in
     let e = c.in-Some.entry in
     let found = c.in-Some.ensures.found ts c.requires.sound in
-    let fits = c.if-fits_once.ensures.fit.0 refl in
-    (
+    let fits = c.if-fits_once.ensures.fit.0 refl in (
       seen ts k.names e,
       found.0,
       subst (λ (t : Ty). Fits t (at ts w)) c.in_ok-found.ensures.number.1 (subst (Fits (at us c.in_ok-found.found)) (grown_at ts us c.in_ok-found.ensures.grown w c.requires.wanted) fits),

@@ -16,3 +16,8 @@ mod Bodies
 mod Exact
 mod Applying
 mod Walking
+mod Decided
+mod Beside
+mod FirstWith
+mod Missing
+mod RowsMismatch

@@ -2,15 +2,15 @@
 use Rattle.std.proofs.Common.{◌≡◌, ℕ, zero, suc, ◌+◌, ◌-◌, ◌<◌, ◌≤◌, List, length, Bool, Some, None, refl, sym, ap, ap₂, ◌∙◌, ◌||◌, get_or, arith, subst, inl}
 use Rattle.idx_core.specs.declared.span.Span.{Span}
 use Rattle.idx_core.specs.Over.{At, shifted}
-use Rattle.text_core.specs.Refusals.{refuse, check, nothing}
+use Rattle.text_core.specs.Refusals.{check, nothing}
 use Rattle.t_types.specs.Tree.{Ty, IntTy, VarTy, TupleTy, TFields, NoFields, MoreFields, over_fields, shift, ShiftFits}
 use Rattle.t_types.specs.Fields.{AField, field}
 use Rattle.t_types.specs.Fits.{Fits, RegTypes}
 use Rattle.t_types.proofs.FitsLaws.{field_over}
 use Rattle.t_types.specs.WellFormed.{max_names}
 use Rattle.t_terms.specs.declared.fault.TCode.{TCode}
-use Rattle.t_terms.specs.declared.fault.TCode.TheVariants.{T09, T11, T13, T19}
-use Rattle.t_rules.specs.Faults.{Fault, register, integer, tuple, field_at}
+use Rattle.t_terms.specs.declared.fault.TCode.TheVariants.{T09, T11, T19}
+use Rattle.t_check.specs.Mismatch.{Note, Types, FaultWith, bare, fitting, register, integer, tuple, field_at}
 use Rattle.t_intern.specs.Marks.{marked_fields}
 use Rattle.t_intern.specs.Nodes.{at, fields_at}
 use Rattle.t_check.specs.Bounds.{Bounded}
@@ -69,23 +69,24 @@ module _ (ts : List Ty) (n : ℕ) (e : Entry) (xs : List (ℕ × Bool)) (is : at
         subst (Bounded n) (sym same) (subst (λ m. Bounded m (shift (n - e.names) 0 (at ts x.0))) sum (bounded_shift e.names (n - e.names) (at ts x.0) own_bounded))
 
 -- T09 where it is no integer
-pub no_int : (g : RegTypes) (r k : ℕ) (s : Span) (t : Ty) → g r ≡ Some (shift k 0 t) → (t ≡ IntTy → ⊥) → register g r s (λ u. integer u s nothing) T09 s
+pub no_int : (g : RegTypes) (r k : ℕ) (s : Span) (t : Ty) → g r ≡ Some (shift k 0 t) → (t ≡ IntTy → ⊥) → register g r s (λ u. integer u s nothing) (T09, None) s
 no_int g r k s t known none = rw known (inl (λ q. none (tuples.unshifted_int k t q), (refl, refl)))
 
-pub no_halt : (g : RegTypes) (k : ℕ) (s : Span) (t : Ty) → g 1 ≡ Some (shift k 0 t) → (t ≡ IntTy → ⊥) → check (g 1 ≡ Some IntTy) (refuse T19 s) nothing T19 s
+pub no_halt : (g : RegTypes) (k : ℕ) (s : Span) (t : Ty) → g 1 ≡ Some (shift k 0 t) → (t ≡ IntTy → ⊥) → check (g 1 ≡ Some IntTy) (bare T19 s) nothing (T19, None) s
 no_halt g k s t known none = inl ((λ q. none (tuples.unshifted_int k t (let same : Some (shift k 0 t) ≡ Some IntTy = sym known ∙ q in cc))), (refl, refl))
 
--- T13 where a register does not fit
-pub unfit : (g : RegTypes) (r : ℕ) (s : Span) (w u : Ty) → g r ≡ Some w → (Fits w u → ⊥) → register g r s (λ x. check (Fits x u) (refuse T13 s) nothing) T13 s
-unfit g r s w u known other = rw known (inl (other, (refl, refl)))
+-- a register that does not fit
+pub unfit : (code : TCode) (n : ℕ) (g : RegTypes) (r : ℕ) (s : Span) (w u : Ty) → g r ≡ Some w → (Fits w u → ⊥) →
+    register g r s (fitting code n s u) (code, Some (Types u w n)) s
+unfit code n g r s w u known other = rw known (inl (other, (refl, refl)))
 
 -- T11 where there is no such field, and what follows where there is
-module _ (g : RegTypes) (r i : ℕ) (s : Span) (rest : TFields → Ty → Bool → Fault) (fs : TFields) (known : g r ≡ Some (TupleTy fs)) where
-  abbrev pub Checked : Fault
+module _ (g : RegTypes) (r i : ℕ) (s : Span) (rest : TFields → Ty → Bool → FaultWith) (fs : TFields) (known : g r ≡ Some (TupleTy fs)) where
+  abbrev pub Checked : FaultWith
   Checked = register g r s (λ t. tuple t s (λ hs. field_at hs i s (rest hs)))
 
-  pub field_absent : field fs i ≡ None → Checked T11 s
+  pub field_absent : field fs i ≡ None → Checked (T11, None) s
   field_absent e = rw known (rw e (refl, refl))
 
-  pub field_follows : (t : Ty) (flag : Bool) (c : TCode) (p : Span) → field fs i ≡ Some (AField t flag) → rest fs t flag c p → Checked c p
+  pub field_follows : (t : Ty) (flag : Bool) (c : Note) (p : Span) → field fs i ≡ Some (AField t flag) → rest fs t flag c p → Checked c p
   field_follows t flag c p e h = rw known (rw e h)

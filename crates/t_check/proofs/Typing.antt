@@ -1,5 +1,5 @@
 -- What the checker answers on a value, from what it answers on its parts.
-use Rattle.std.proofs.Common.{◌≡◌, ◌≢◌, ℕ, ◌+◌, ◌-◌, ◌<◌, ◌≤◌, List, [], ◌∷◌, length, Some, Result, Ok, Err, inl, inr, OnOk, refl, sym, ap, ap₂, ◌∙◌, arith, subst}
+use Rattle.std.proofs.Common.{◌≡◌, ◌≢◌, ℕ, ◌+◌, ◌-◌, ◌<◌, ◌≤◌, List, [], ◌∷◌, length, Some, None, Result, Ok, Err, inl, inr, OnOk, refl, sym, ap, ap₂, ◌∙◌, arith, subst}
 use Rattle.idx_core.specs.declared.arith.Op.{Op}
 use Rattle.idx_core.specs.declared.span.Span.{Span}
 use Rattle.text_core.specs.Refusals.{refuse, check, nothing}
@@ -10,27 +10,45 @@ use Rattle.t_types.specs.WellFormed.{WellFormed}
 use Rattle.t_terms.specs.Tree.{TBase, TValue, Plain, Pack, Reg, Arith, Bnz, Mov, Unpack, TProg}
 use Rattle.t_terms.specs.Spanned.{SDatum, plain_datum}
 use Rattle.t_terms.specs.declared.fault.TCode.{TCode}
-use Rattle.t_terms.specs.declared.fault.TCode.TheVariants.{T09, T13, T14, T15, T16, T18}
-use Rattle.t_terms.specs.declared.fault.TFault.{TFault}
-use Rattle.t_terms.specs.declared.fault.TFault.TheVariants.{Memory, Refused}
+use Rattle.t_terms.specs.declared.fault.TCode.TheVariants.{T09, T13, T14, T15, T16}
+use Rattle.t_check.specs.declared.refusal.Refusal.{Refusal}
+use Rattle.t_check.specs.declared.refusal.Refusal.TheVariants.{Memory, Refused, AtOdds}
 use Rattle.t_rules.specs.Registers.{no_types, inst_file, with_reg}
 use Rattle.t_rules.specs.Rules.{BaseHas, Has, Enters, DatumAccepted}
-use Rattle.t_rules.specs.Faults.{Fault, if_code, if_exists, ValueFault, EnterFault, InstrFault, DatumFault}
+use Rattle.t_check.specs.Mismatch.{Note, Types, NoPackage, FaultWith, bare, at_odds, fitting, if_code, if_exists, PackFaultWith, ValueFaultWith, FileFaultWith, EnterFaultWith, InstrFaultWith, DatumFaultWith}
+use Rattle.t_check.specs.ReadMismatch.{mismatch}
 use Rattle.t_check.specs.Bounds.{Bounded, OwedFile}
 use Rattle.t_intern.specs.Grown.{IsNumber}
 use Rattle.t_check.specs.Known.{own, seen, known, IsEntry, IsSound}
-use Rattle.t_check.specs.Verdict.{Says, IsTypeOf, IsPacked, IsEntered, IsStep}
+use Rattle.t_check.specs.Refusals.{SaysWith}
+use Rattle.t_check.specs.Verdict.{IsTypeOf, IsPacked, IsFileFit, IsEntered, IsStep}
 use Rattle.t_check.specs.declared.registers.Entry.{Entry}
 use Rattle.t_check.specs.declared.registers.Registers.{Registers}
 use Rattle.t_check.proofs.Depth.{shallow, bounded, bounded_shift}
 
 -- a fault of a part is one of the whole
-pub says_map : (f : TFault) (F G : Fault) → ((c : TCode) (p : Span) → F c p → G c p) → Says f F → Says f G
+pub says_map : (f : Refusal) (F G : FaultWith) → ((c : Note) (p : Span) → F c p → G c p) → SaysWith f F → SaysWith f G
 says_map Memory F G go h = tt
-says_map (Refused c s) F G go h = go c s h
+says_map (Refused c s) F G go h = go (c, None) s h
+says_map (AtOdds odds) F G go h = go (odds.value.code, Some (mismatch odds.value.mismatch)) odds.value.span h
+
+-- a refusal with this note and place says what has it
+pub says_noted : (f : Refusal) (note : Note) (s : Span) (F : FaultWith) → SaysWith f (refuse note s) → F note s → SaysWith f F
+says_noted f note s F h k =
+    says_map f (refuse note s) F (λ c p e. subst (λ q. F c q) (sym e.1) (subst (λ d. F d s) (sym e.0) k)) h
+
+-- the same of types that are at odds, which are those by number
+pub says_types : (f : Refusal) (code : TCode) (n : ℕ) (s : Span) (F : FaultWith) (w u t v : Ty) → w ≡ t → u ≡ v → SaysWith f (at_odds code (Types w u n) s) → F (code, Some (Types t v n)) s → SaysWith f F
+says_types f code n s F w u t v e1 e2 h k =
+    says_noted f (code, Some (Types w u n)) s F h (subst (λ m. F (code, Some m) s) (sym (ap₂ (λ a b. Types a b n) e1 e2)) k)
+
+-- what holds in any case
+pub on_any : {G : Type 0} (r : Result (Unit {0}) Refusal) → G → OnOk r G
+on_any (Ok u) h = h
+on_any (Err f) h = tt
 
 -- a type of another form
-pub other_than_exists : (t : Ty) (other : Fault) (go : Ty → Fault) (c : TCode) (p : Span) → ((body : Ty) → t ≢ ExistsTy body) → other c p → if_exists t other go c p
+pub other_than_exists : (t : Ty) (other : FaultWith) (go : Ty → FaultWith) (c : Note) (p : Span) → ((body : Ty) → t ≢ ExistsTy body) → other c p → if_exists t other go c p
 other_than_exists IntTy other go c p none h = h
 other_than_exists (VarTy i) other go c p none h = h
 other_than_exists (CodeTy owes file) other go c p none h = h
@@ -43,6 +61,15 @@ entry_bounded ts n e t h is =
     let le = h.1 in
     let sum : e.names + (n - e.names) ≡ n = omega arith in
     subst (Bounded n) (sym is) (subst (λ m. Bounded m (seen ts n e)) sum (bounded_shift e.names (n - e.names) (own ts e) h.2))
+
+-- the shape of a package
+module _ (n : ℕ) (s : Span) (hidden t shape : Ty) where
+  pub pack_unfit : (body : Ty) → shape ≡ ExistsTy body → (Fits t (put 0 hidden body) → ⊥) → PackFaultWith n s hidden t shape (T15, Some (Types (put 0 hidden body) t n)) s
+  pack_unfit body e unfit =
+      subst (λ u. PackFaultWith n s hidden t u (T15, Some (Types (put 0 hidden body) t n)) s) (sym e) (inl (unfit, (refl, refl)))
+
+  pub pack_none : ((body : Ty) → shape ≢ ExistsTy body) → PackFaultWith n s hidden t shape (T15, Some (NoPackage shape n)) s
+  pack_none none = other_than_exists shape (at_odds T15 (NoPackage shape n) s) (λ body. fitting T15 n s (put 0 hidden body) t) (T15, Some (NoPackage shape n)) s none (refl, refl)
 
 module _ (P : TProg) (n : ℕ) (g : RegTypes) (s : Span) where
   -- a base that is applied to types
@@ -59,17 +86,14 @@ module _ (P : TProg) (n : ℕ) (g : RegTypes) (s : Span) where
         )
 
   -- a package
-  pub pack_is : (us : List Ty) (hidden shape t : Ty) (v : TValue) → Has P n g v t → WellFormed n hidden → WellFormed n shape → (r : Result ℕ TFault) → IsPacked us hidden t shape s r → IsTypeOf P us n g s (Pack hidden v shape) r
+  pub pack_is : (us : List Ty) (hidden shape t : Ty) (v : TValue) → Has P n g v t → WellFormed n hidden → WellFormed n shape → (r : Result ℕ Refusal) → IsPacked us n hidden t shape s r → IsTypeOf P us n g s (Pack hidden v shape) r
   pack_is us hidden shape t v h small formed (Ok m) d =
       let is = d.3.1 in
       (d.3.0, (d.0, t, h, d.1, d.2, is, well_formed_below n hidden small, well_formed_below n shape formed), subst (Bounded n) (sym is) (bounded n shape (shallow n shape formed)))
-  pack_is us hidden shape t v h small formed (Err f) d = says_map f _ (ValueFault P n g s (Pack hidden v shape)) (λ c p x. inr (t, h, x)) d
-
-  pub pack_unfit : (hidden shape t body : Ty) → shape ≡ ExistsTy body → (Fits t (put 0 hidden body) → ⊥) → if_exists shape (refuse T15 s) (λ u. check (Fits t (put 0 hidden u)) (refuse T15 s) nothing) T15 s
-  pack_unfit hidden shape t body e unfit = subst (λ u. if_exists u (refuse T15 s) (λ w. check (Fits t (put 0 hidden w)) (refuse T15 s) nothing) T15 s) (sym e) (inl (unfit, (refl, refl)))
+  pack_is us hidden shape t v h small formed (Err f) d = says_map f _ (ValueFaultWith P n g s (Pack hidden v shape)) (λ c p x. inr (t, h, x)) d
 
   -- the target of a jump
-  no_target : (t : Ty) → ((file : TFile) → t ≢ CodeTy 0 file) → if_code t (refuse T16 s) (λ owes file. check (owes ≡ 0) (refuse T16 s) (check (FitsFile g file) (refuse T18 s) nothing)) T16 s
+  no_target : (t : Ty) → ((file : TFile) → t ≢ CodeTy 0 file) → if_code t (bare T16 s) (λ owes file. check (owes ≡ 0) (bare T16 s) (FileFaultWith n g s file)) (T16, None) s
   no_target IntTy none = (refl, refl)
   no_target (VarTy i) none = (refl, refl)
   no_target (CodeTy owes file) none = inl ((λ e. none file (ap (λ n. CodeTy n file) e)), (refl, refl))
@@ -77,35 +101,36 @@ module _ (P : TProg) (n : ℕ) (g : RegTypes) (s : Span) where
   no_target (TupleTy fs) none = (refl, refl)
 
   module _ (v : TValue) (t : Ty) (h : Has P n g v t) where
-    pub enter_none : ((file : TFile) → t ≢ CodeTy 0 file) → EnterFault P n g s v T16 s
+    pub enter_none : ((file : TFile) → t ≢ CodeTy 0 file) → EnterFaultWith P n g s v (T16, None) s
     enter_none none = inr (t, h, no_target t none)
 
     module _ (file : TFile) (is : t ≡ CodeTy 0 file) where
       code : Has P n g v (CodeTy 0 file)
       code = subst (Has P n g v) is h
 
-      pub enter_regs : (FitsFile g file → ⊥) → EnterFault P n g s v T18 s
-      enter_regs other = inr (CodeTy 0 file, code, inr (refl, inl (other, (refl, refl))))
-
       pub enter_ok : FitsFile g file → Enters P n g v
       enter_ok fits = (file, code, fits)
 
+      pub enter_is : (r : Result (Unit {0}) Refusal) → IsFileFit n g s file r → IsEntered P n g s v r
+      enter_is (Ok u) fits = enter_ok fits
+      enter_is (Err f) d = says_map f (FileFaultWith n g s file) (EnterFaultWith P n g s v) (λ c p x. inr (CodeTy 0 file, code, inr (refl, x))) d
+
   -- a branch
-  pub bnz_is : (us : List Ty) (k : Registers) (r : ℕ) (v : TValue) → g r ≡ Some IntTy → known us k ≡ g → k.names ≡ n → (a : Result (Unit {0}) TFault) → OnOk a (IsSound us k) → IsEntered P n g s v a → IsStep P us n g k s (Bnz r v) a
+  pub bnz_is : (us : List Ty) (k : Registers) (r : ℕ) (v : TValue) → g r ≡ Some IntTy → known us k ≡ g → k.names ≡ n → (a : Result (Unit {0}) Refusal) → OnOk a (IsSound us k) → IsEntered P n g s v a → IsStep P us n g k s (Bnz r v) a
   bnz_is us k r v int same names (Ok u) sound h = ((int, h, same), sound, names)
-  bnz_is us k r v int same names (Err f) sound h = says_map f (EnterFault P n g s v) (InstrFault P n g s (Bnz r v)) (λ c p x. rw int (inr (refl, x))) h
+  bnz_is us k r v int same names (Err f) sound h = says_map f (EnterFaultWith P n g s v) (InstrFaultWith P n g s (Bnz r v)) (λ c p x. rw int (inr (refl, x))) h
 
   -- a register that is moved
   pub copy_is : (us : List Ty) (h : Registers) (rd r : ℕ) (t : Ty) → g r ≡ Some t → known us h ≡ with_reg g rd t → IsSound us h → h.names ≡ n → IsStep P us n g h s (Mov rd (Plain (Reg r) [])) (Ok tt)
   copy_is us h rd r t found same sound names = ((t, found, same), sound, names)
 
   -- an operand that is no integer
-  pub operand : (op : Op) (rd rs : ℕ) (v : TValue) (u : Ty) → g rs ≡ Some IntTy → Has P n g v u → u ≢ IntTy → InstrFault P n g s (Arith op rd rs v) T09 s
+  pub operand : (op : Op) (rd rs : ℕ) (v : TValue) (u : Ty) → g rs ≡ Some IntTy → Has P n g v u → u ≢ IntTy → InstrFaultWith P n g s (Arith op rd rs v) (T09, None) s
   operand op rd rs v u e h other = rw e (inr (refl, inr (u, h, inl (other, (refl, refl)))))
 
   -- what is unpacked
-  pub unpack_other : (rd : ℕ) (v : TValue) (t : Ty) → Has P n g v t → ((body : Ty) → t ≢ ExistsTy body) → InstrFault P n g s (Unpack rd v) T14 s
-  unpack_other rd v t h none = inr (t, h, other_than_exists t (refuse T14 s) _ T14 s none (refl, refl))
+  pub unpack_other : (rd : ℕ) (v : TValue) (t : Ty) → Has P n g v t → ((body : Ty) → t ≢ ExistsTy body) → InstrFaultWith P n g s (Unpack rd v) (T14, None) s
+  unpack_other rd v t h none = inr (t, h, other_than_exists t (bare T14 s) _ (T14, None) s none (refl, refl))
 
 -- a word of data, where nothing is known of the registers
 module _ (P : TProg) (n : ℕ) (g : RegTypes) (names : n ≡ 0) (empty : g ≡ no_types) (x : SDatum) where
@@ -115,10 +140,10 @@ module _ (P : TProg) (n : ℕ) (g : RegTypes) (names : n ≡ 0) (empty : g ≡ n
   pub datum_ok : (t : Ty) → Has P n g x.value t → Fits t x.ty → WellFormed 0 x.ty → DatumAccepted P (plain_datum x)
   datum_ok t h f w = (t, closed t h, f, well_formed_below 0 x.ty w)
 
-  pub datum_unfit : (t : Ty) → Has P n g x.value t → (Fits t x.ty → ⊥) → DatumFault P x T13 x.span
+  pub datum_unfit : (t : Ty) → Has P n g x.value t → (Fits t x.ty → ⊥) → DatumFaultWith P x (T13, Some (Types x.ty t 0)) x.span
   datum_unfit t h f = inr (t, closed t h, inl (f, (refl, refl)))
 
-  pub datum_fault : (f : TFault) → Says f (ValueFault P n g x.span x.value) → Says f (DatumFault P x)
+  pub datum_fault : (f : Refusal) → SaysWith f (ValueFaultWith P n g x.span x.value) → SaysWith f (DatumFaultWith P x)
   datum_fault f h =
-      says_map f (ValueFault P n g x.span x.value) (DatumFault P x)
-      (λ c p v. inl (subst (λ m. ValueFault P m no_types x.span x.value c p) names (subst (λ k. ValueFault P n k x.span x.value c p) empty v))) h
+      says_map f (ValueFaultWith P n g x.span x.value) (DatumFaultWith P x)
+      (λ c p v. inl (subst (λ m. ValueFaultWith P m no_types x.span x.value c p) names (subst (λ k. ValueFaultWith P n k x.span x.value c p) empty v))) h

@@ -3,7 +3,7 @@ use Rattle.std.specs.Prelude.{◌≡◌, ◌≢◌, ℕ, ◌-◌, ◌<◌, List,
 use Rattle.std.specs.Prelude.{Err, IfOk}
 use Rattle.idx_core.specs.declared.memory.OutOfMemory.{OutOfMemory}
 use Rattle.idx_core.specs.declared.span.Span.{Span}
-use Rattle.text_core.specs.Refusals.{nothing, refuse, check}
+use Rattle.text_core.specs.Refusals.{nothing, check}
 use Rattle.t_types.specs.Tree.{Ty, IntTy, CodeTy, ExistsTy, TupleTy, TFile, TFields, put}
 use Rattle.t_types.specs.Fields.{AField, field}
 use Rattle.t_types.specs.Fits.{Fits, FitsFile, RegTypes}
@@ -15,24 +15,28 @@ use Rattle.t_terms.specs.Whole.{WellFormedBase, WellFormedValue, WellFormedInstr
 use Rattle.t_terms.specs.Whole.{WellFormedDatum, WellFormedData}
 use Rattle.t_terms.specs.declared.program.TProgram.{TProgram}
 use Rattle.t_terms.specs.declared.fault.TCode.{TCode}
-use Rattle.t_terms.specs.declared.fault.TCode.TheVariants.{T13, T15}
+use Rattle.t_terms.specs.declared.fault.TCode.TheVariants.{T18}
 use Rattle.t_terms.specs.declared.fault.TFault.{TFault}
 use Rattle.t_terms.specs.declared.fault.TFault.TheVariants.{Memory, Refused}
 use Rattle.t_rules.specs.Registers.{inst_file}
 use Rattle.t_rules.specs.Rules.{BaseHas, Has, Enters, Typed, EndTyped, BlockAccepted, BlocksAccepted, DatumAccepted}
 use Rattle.t_rules.specs.Rules.{DataAccepted, HeapAccepted, Accepted}
-use Rattle.t_rules.specs.Faults.{Fault, if_exists, register, integer, tuple, field_at, BaseFault, ValueFault}
-use Rattle.t_rules.specs.Faults.{EnterFault, InstrFault, EndFault, BlockFault, BlocksFault, DatumFault, DataFault}
-use Rattle.t_rules.specs.Faults.{HeapFault, ProgramFault}
+use Rattle.t_rules.specs.Faults.{Fault, ProgramFault}
 use Rattle.t_check.specs.Bounds.{Bounded, OwedFile}
 use Rattle.t_check.specs.Checked.{checked_program}
 use Rattle.t_check.specs.Fitted.{KnownFits, FitsPlace, AgreesAt, SinceAgree}
+use Rattle.t_check.specs.Mismatch.{Register, at_odds, register, integer, tuple, field_at, BaseFaultWith, PackFaultWith}
+use Rattle.t_check.specs.Mismatch.{ValueFaultWith, FileFaultWith, EnterFaultWith, StoreFaultWith, InstrFaultWith}
+use Rattle.t_check.specs.Mismatch.{EndFaultWith, BlockFaultWith, BlocksFaultWith, DatumFaultWith, DataFaultWith}
+use Rattle.t_check.specs.Mismatch.{HeapFaultWith, ProgramNoted}
+use Rattle.t_check.specs.Refusals.{SaysWith}
 use Rattle.t_intern.specs.Grown.{AreRegs, IsNumber}
 use Rattle.t_intern.specs.Nodes.{at, regs_at, RegsBelow}
 use Rattle.t_check.specs.Known.{known, IsSound}
 use Rattle.t_check.specs.Labels.{AreLabels}
 use Rattle.t_check.specs.declared.checked.Checked.{Checked}
 use Rattle.t_check.specs.declared.parts.CodeParts.{CodeParts}
+use Rattle.t_check.specs.declared.refusal.Refusal.{Refusal}
 use Rattle.t_check.specs.declared.registers.Registers.{Registers}
 use Rattle.t_check.specs.declared.checker.Checker.{Checker}
 
@@ -86,14 +90,14 @@ IsOwing ts n None = (owes : ℕ) (f : TFile) → at ts n ≢ CodeTy owes f
 
 -- Under n type names, where g is known of the registers, the number of the type of a base, or its first fault. The
 -- types us are those after the call.
-abbrev pub IsTypeOfBase : TProg → List Ty → ℕ → RegTypes → Span → TBase → Result ℕ TFault → Type 0
+abbrev pub IsTypeOfBase : TProg → List Ty → ℕ → RegTypes → Span → TBase → Result ℕ Refusal → Type 0
 IsTypeOfBase P us n g s b (Ok m) = (m < length us) × BaseHas P g b (at us m) × Bounded n (at us m)
-IsTypeOfBase P us n g s b (Err f) = Says f (BaseFault g s b)
+IsTypeOfBase P us n g s b (Err f) = SaysWith f (BaseFaultWith g s b)
 
 -- the number of the type of a value, or its first fault
-abbrev pub IsTypeOf : TProg → List Ty → ℕ → RegTypes → Span → TValue → Result ℕ TFault → Type 0
+abbrev pub IsTypeOf : TProg → List Ty → ℕ → RegTypes → Span → TValue → Result ℕ Refusal → Type 0
 IsTypeOf P us n g s v (Ok m) = (m < length us) × Has P n g v (at us m) × Bounded n (at us m)
-IsTypeOf P us n g s v (Err f) = Says f (ValueFault P n g s v)
+IsTypeOf P us n g s v (Err f) = SaysWith f (ValueFaultWith P n g s v)
 
 -- the types are put in order for the first ones that are owed, and what is made is bounded
 abbrev pub IsInstantiated : List Ty → ℕ → List Ty → ℕ → TFile → List (ℕ × ℕ) → Type 0
@@ -101,32 +105,30 @@ IsInstantiated us n ts owes f made =
     AreRegs us (inst_file ts owes f) made × OwedFile n (owes - length ts) (inst_file ts owes f)
 
 -- the number of the type of a package of this shape around a value of the type t, or its fault
-abbrev pub IsPacked : List Ty → Ty → Ty → Ty → Span → Result ℕ TFault → Type 0
-IsPacked us hidden t shape s (Ok m) =
+abbrev pub IsPacked : List Ty → ℕ → Ty → Ty → Ty → Span → Result ℕ Refusal → Type 0
+IsPacked us n hidden t shape s (Ok m) =
     (body : Ty) × (shape ≡ ExistsTy body) × Fits t (put 0 hidden body) × IsNumber us shape m
-IsPacked us hidden t shape s (Err f) =
-    Says f (if_exists shape (refuse T15 s) (λ body. check (Fits t (put 0 hidden body)) (refuse T15 s) nothing))
+IsPacked us n hidden t shape s (Err f) = SaysWith f (PackFaultWith n s hidden t shape)
 
 -- the register is an integer, or the fault of it
-abbrev pub IsInteger : RegTypes → ℕ → Span → Result (Unit {0}) TFault → Type 0
+abbrev pub IsInteger : RegTypes → ℕ → Span → Result (Unit {0}) Refusal → Type 0
 IsInteger g r s (Ok u) = g r ≡ Some IntTy
-IsInteger g r s (Err f) = Says f (register g r s (λ t. integer t s nothing))
+IsInteger g r s (Err f) = SaysWith f (register g r s (λ t. integer t s nothing))
 
 -- the number of the type and the flag of a field of the tuple in a register, or the first fault
-abbrev pub IsFieldOf : List Ty → ℕ → RegTypes → ℕ → ℕ → Span → Result (ℕ × Bool) TFault → Type 0
+abbrev pub IsFieldOf : List Ty → ℕ → RegTypes → ℕ → ℕ → Span → Result (ℕ × Bool) Refusal → Type 0
 IsFieldOf us n g r i s (Ok x) =
     (fs : TFields) × (g r ≡ Some (TupleTy fs)) × (field fs i ≡ Some (AField (at us x.0) x.1))
     × Bounded n (at us x.0) × (x.0 < length us)
-IsFieldOf us n g r i s (Err f) = Says f (register g r s (λ t. tuple t s (λ fs. field_at fs i s (λ u flag. nothing))))
+IsFieldOf us n g r i s (Err f) =
+    SaysWith f (register g r s (λ t. tuple t s (λ fs. field_at fs i s (λ u flag. nothing))))
 
--- a register fits a field, with this flag, of the tuple in another one, or the first fault
-abbrev pub IsStored : RegTypes → ℕ → ℕ → ℕ → Span → Result Bool TFault → Type 0
-IsStored g rd i rs s (Ok flag) =
+-- under n type names, a register fits a field, with this flag, of the tuple in another one, or the first fault
+abbrev pub IsStored : ℕ → RegTypes → ℕ → ℕ → ℕ → Span → Result Bool Refusal → Type 0
+IsStored n g rd i rs s (Ok flag) =
     (fs : TFields) × (t : Ty) × (w : Ty) × (g rd ≡ Some (TupleTy fs))
     × (field fs i ≡ Some (AField t flag)) × (g rs ≡ Some w) × Fits w t
-IsStored g rd i rs s (Err f) =
-    Says f (register g rd s (λ t. tuple t s (λ fs. field_at fs i s (λ u flag. register g rs s (λ w. check (Fits w u)
-    (refuse T13 s) nothing)))))
+IsStored n g rd i rs s (Err f) = SaysWith f (StoreFaultWith n g s rd i rs)
 
 -- the answer, if there is one, tells whether what is known of the registers fits the file
 abbrev pub TellsFile : RegTypes → TFile → Result Bool OutOfMemory → Type 0
@@ -150,20 +152,29 @@ TellsSince g f rs i a = IfOk a (λ b. IsTrue b ↔ SinceAgree g f rs i)
 abbrev pub TellsFit : Ty → Ty → Result Bool OutOfMemory → Type 0
 TellsFit t u r = IfOk r (λ b. IsTrue b ↔ Fits t u)
 
+-- under n type names, the register is known by a type that fits t, or T18; and each register of the file, or the first
+abbrev pub IsRegFit : ℕ → RegTypes → Span → ℕ → Ty → Result (Unit {0}) Refusal → Type 0
+IsRegFit n g s r t (Ok u) = KnownFits g r t
+IsRegFit n g s r t (Err f) = SaysWith f (check (KnownFits g r t) (at_odds T18 (Register r t (g r) n) s) nothing)
+
+abbrev pub IsFileFit : ℕ → RegTypes → Span → TFile → Result (Unit {0}) Refusal → Type 0
+IsFileFit n g s file (Ok u) = FitsFile g file
+IsFileFit n g s file (Err f) = SaysWith f (FileFaultWith n g s file)
+
 -- the value may be entered, or the first fault of it
-abbrev pub IsEntered : TProg → ℕ → RegTypes → Span → TValue → Result (Unit {0}) TFault → Type 0
+abbrev pub IsEntered : TProg → ℕ → RegTypes → Span → TValue → Result (Unit {0}) Refusal → Type 0
 IsEntered P n g s v (Ok u) = Enters P n g v
-IsEntered P n g s v (Err f) = Says f (EnterFault P n g s v)
+IsEntered P n g s v (Err f) = SaysWith f (EnterFaultWith P n g s v)
 
 -- the instruction is typed and leaves the registers known so, or its first fault
-abbrev pub IsStep : TProg → List Ty → ℕ → RegTypes → Registers → Span → TInstr → Result (Unit {0}) TFault → Type 0
+abbrev pub IsStep : TProg → List Ty → ℕ → RegTypes → Registers → Span → TInstr → Result (Unit {0}) Refusal → Type 0
 IsStep P us n g h s i (Ok u) = Typed P n g i (known us h) × IsSound us h × (h.names ≡ names_after i n)
-IsStep P us n g h s i (Err f) = Says f (InstrFault P n g s i)
+IsStep P us n g h s i (Err f) = SaysWith f (InstrFaultWith P n g s i)
 
 -- the end is typed, or its first fault
-abbrev pub IsEnd : TProg → ℕ → RegTypes → Span → TEnd → Result (Unit {0}) TFault → Type 0
+abbrev pub IsEnd : TProg → ℕ → RegTypes → Span → TEnd → Result (Unit {0}) Refusal → Type 0
 IsEnd P n g s e (Ok u) = EndTyped P n g e
-IsEnd P n g s e (Err f) = Says f (EndFault P n g s e)
+IsEnd P n g s e (Err f) = SaysWith f (EndFaultWith P n g s e)
 
 -- The same of a checker at its place, where the types are ts before the call, and us after it.
 
@@ -181,57 +192,57 @@ known_at ts c = known ts c.registers
 abbrev pub FormedAt : Checker → TValue → Type 0
 FormedAt c v = FormedValue c.program.now c.registers.names v
 
-abbrev pub BaseTypedAt : List Ty → List Ty → Checker → Span → TBase → Result ℕ TFault → Type 0
+abbrev pub BaseTypedAt : List Ty → List Ty → Checker → Span → TBase → Result ℕ Refusal → Type 0
 BaseTypedAt ts us c s b r = IsTypeOfBase (program_in c) us c.registers.names (known_at ts c) s b r
 
-abbrev pub TypedAt : List Ty → List Ty → Checker → Span → TValue → Result ℕ TFault → Type 0
+abbrev pub TypedAt : List Ty → List Ty → Checker → Span → TValue → Result ℕ Refusal → Type 0
 TypedAt ts us c s v r = IsTypeOf (program_in c) us c.registers.names (known_at ts c) s v r
 
 -- a base whose type has the number `found` is applied to types
-abbrev pub AppliedAt : List Ty → List Ty → Checker → Span → ℕ → List Ty → Result ℕ TFault → Type 0
+abbrev pub AppliedAt : List Ty → List Ty → Checker → Span → ℕ → List Ty → Result ℕ Refusal → Type 0
 AppliedAt ts us c s found args r =
     (g : RegTypes) (b : TBase) → BaseHas (program_in c) g b (at ts found) →
     IsTypeOf (program_in c) us c.registers.names g s (Plain b args) r
 
-abbrev pub EnteredAt : List Ty → Checker → Span → TValue → Result (Unit {0}) TFault → Type 0
+abbrev pub EnteredAt : List Ty → Checker → Span → TValue → Result (Unit {0}) Refusal → Type 0
 EnteredAt ts c s v r = IsEntered (program_in c) c.registers.names (known_at ts c) s v r
 
-abbrev pub EndedAt : List Ty → Checker → Span → TEnd → Result (Unit {0}) TFault → Type 0
+abbrev pub EndedAt : List Ty → Checker → Span → TEnd → Result (Unit {0}) Refusal → Type 0
 EndedAt ts c s e r = IsEnd (program_in c) c.registers.names (known_at ts c) s e r
 
 -- the instruction leads the checker c to d
-abbrev pub StepsTo : List Ty → List Ty → Checker → Checker → Span → TInstr → Result (Unit {0}) TFault → Type 0
+abbrev pub StepsTo : List Ty → List Ty → Checker → Checker → Span → TInstr → Result (Unit {0}) Refusal → Type 0
 StepsTo ts us c d s i r = IsStep (program_in c) us c.registers.names (known_at ts c) d.registers s i r
 
 -- the block is accepted, or its first fault
-abbrev pub IsBlock : TProg → SBlock → Result (Unit {0}) TFault → Type 0
+abbrev pub IsBlock : TProg → SBlock → Result (Unit {0}) Refusal → Type 0
 IsBlock P b (Ok u) = BlockAccepted P (plain b)
-IsBlock P b (Err f) = Says f (BlockFault P b)
+IsBlock P b (Err f) = SaysWith f (BlockFaultWith P b)
 
 -- the blocks are accepted, or their first fault
-abbrev pub AreBlocks : TProg → List SBlock → Result (Unit {0}) TFault → Type 0
+abbrev pub AreBlocks : TProg → List SBlock → Result (Unit {0}) Refusal → Type 0
 AreBlocks P bs (Ok u) = BlocksAccepted P (plain_blocks bs)
-AreBlocks P bs (Err f) = Says f (BlocksFault P bs)
+AreBlocks P bs (Err f) = SaysWith f (BlocksFaultWith P bs)
 
 -- the word of data is accepted, or its first fault
-abbrev pub IsDatum : TProg → SDatum → Result (Unit {0}) TFault → Type 0
+abbrev pub IsDatum : TProg → SDatum → Result (Unit {0}) Refusal → Type 0
 IsDatum P x (Ok u) = DatumAccepted P (plain_datum x)
-IsDatum P x (Err f) = Says f (DatumFault P x)
+IsDatum P x (Err f) = SaysWith f (DatumFaultWith P x)
 
 -- the words of a data tuple are accepted, or their first fault
-abbrev pub IsData : TProg → List SDatum → Result (Unit {0}) TFault → Type 0
+abbrev pub IsData : TProg → List SDatum → Result (Unit {0}) Refusal → Type 0
 IsData P xs (Ok u) = DataAccepted P (plain_fields xs)
-IsData P xs (Err f) = Says f (DataFault P xs)
+IsData P xs (Err f) = SaysWith f (DataFaultWith P xs)
 
 -- the data are accepted, or their first fault
-abbrev pub IsHeap : TProg → List SData → Result (Unit {0}) TFault → Type 0
+abbrev pub IsHeap : TProg → List SData → Result (Unit {0}) Refusal → Type 0
 IsHeap P xs (Ok u) = HeapAccepted P (plain_heap xs)
-IsHeap P xs (Err f) = Says f (HeapFault P xs)
+IsHeap P xs (Err f) = SaysWith f (HeapFaultWith P xs)
 
 -- the program is accepted, or its first fault
-abbrev pub IsProgram : SProg → Result (Unit {0}) TFault → Type 0
+abbrev pub IsProgram : SProg → Result (Unit {0}) Refusal → Type 0
 IsProgram P (Ok u) = Accepted (plain_program P)
-IsProgram P (Err f) = Says f (ProgramFault P)
+IsProgram P (Err f) = SaysWith f (ProgramNoted P)
 
 -- the program that was checked is the one that was put in, and is accepted; or it is handed back with its first fault
 abbrev pub IsVerdict : TProgram → Result Checked (TProgram × TFault) → Type 0

@@ -1,5 +1,5 @@
 // The checker: of a whole program, and at a place of it.
-ghost use Rattle.std.specs.Prelude.{◌≡◌, IfOk};
+ghost use Rattle.std.specs.Prelude.{◌≡◌, Option, IfOk};
 ghost use Rattle.idx_core.specs.declared.span.Span as places;
 ghost use Rattle.t_types.specs.WellFormed.{max_names, WellFormedFile};
 ghost use Rattle.t_types.specs.Read.{file};
@@ -8,14 +8,19 @@ ghost use Rattle.t_terms.specs.declared.fault.TCode as codes;
 ghost use Rattle.t_rules.specs.Rules.{Accepted};
 ghost use Rattle.t_rules.specs.Faults.{ProgramFault};
 ghost use Rattle.t_check.specs.Checked.{checked_program};
+ghost use Rattle.t_check.specs.Mismatch as odds;
+ghost use Rattle.t_check.specs.Mismatch.{ProgramFaultWith};
+ghost use Rattle.t_check.specs.ReadMismatch.{mismatch_or_none};
 ghost use Rattle.t_check.specs.Verdict.{IsVerdict, AcceptsOrWants, RefusesOrWants};
 
 use crate::checked::Checked;
 use crate::labels::Labels;
+use crate::laws::{at_most_one_mismatch, mismatch_is_of_the_fault};
+use crate::mismatch::Mismatch;
 use crate::program::check_program;
 use crate::registers::Registers;
 use crate::salt::salt_of;
-use idx_core::Salt;
+use idx_core::{OutOfMemory, Salt};
 use std::alloc::Global;
 use t_rules::{at_most_one_fault, no_fault_where_accepted};
 use t_terms::{TFault, TProgram};
@@ -57,9 +62,33 @@ pub fn check_salted(
 {
     no_fault_where_accepted();
     at_most_one_fault();
+    mismatch_is_of_the_fault();
     match check_program(alloc, &program, salt) {
         Ok(()) => Ok(Checked { program }),
-        Err(e) => Err((program, e)),
+        Err(refusal) => {
+            let fault = refusal.fault();
+            Err((program, fault))
+        }
+    }
+}
+
+/// What is at odds in the first fault of a program, where it is T13, T15 or T18: the types, as they are where the fault
+/// is; nothing is at odds in any other fault, nor in a program that is accepted. The program is checked once more. An
+/// error is want of memory.
+pub fn mismatch_of(alloc: Global, program: &TProgram) -> Result<Option<Mismatch>, OutOfMemory>
+    ensures told { (code : codes.TCode) (span : places.Span) → ProgramFault (spanned_program program.now) code span →
+        IfOk result (λ m. ProgramFaultWith (spanned_program program.now) code span (mismatch_or_none m)) }
+    ensures one { (code : codes.TCode) (span : places.Span) (m : Option odds.Mismatch) →
+        ProgramFaultWith (spanned_program program.now) code span m →
+        IfOk result (λ r. mismatch_or_none r ≡ m) }
+{
+    no_fault_where_accepted();
+    at_most_one_fault();
+    mismatch_is_of_the_fault();
+    at_most_one_mismatch();
+    match check_program(alloc, program, salt_of(program)) {
+        Ok(()) => Ok(None),
+        Err(refusal) => refusal.mismatch(),
     }
 }
 

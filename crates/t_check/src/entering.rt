@@ -8,9 +8,10 @@ ghost use Rattle.t_check.specs.Verdict.{FormedAt, IsPlace, EnteredAt};
 
 use crate::checker::Checker;
 use crate::parts::{owes_nothing, refused};
+use crate::refusal::Refusal;
 use idx_core::Span;
 use t_intern::Types;
-use t_terms::{TCode, TFault, Value};
+use t_terms::{TCode, Value};
 
 impl Checker<'_> {
     // Whether the value may be entered. What is known of the registers stays.
@@ -19,7 +20,7 @@ impl Checker<'_> {
         types: &mut Types,
         v: &Value,
         span: Span,
-    ) -> Result<(), TFault>
+    ) -> Result<(), Refusal>
         requires place { IsPlace types.old self.old }
         requires value { FormedAt self.old (value v.now) }
         ensures grown { Grown types.old types.new }
@@ -34,9 +35,9 @@ impl Checker<'_> {
         if !owes_nothing(types, found) {
             return refused(TCode::T16, span);
         }
-        if !self.registers.fit(types, found)? {
-            return refused(TCode::T18, span);
+        if self.registers.fit(types, found)? {
+            return Ok(());
         }
-        Ok(())
+        self.registers.check_code(types, found, span)
     }
 }

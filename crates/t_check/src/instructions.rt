@@ -16,9 +16,10 @@ use crate::checker::Checker;
 use crate::labels::tuple_of;
 use crate::marking::flag_of;
 use crate::parts::{exists_body, is_int, refused};
+use crate::refusal::{Pair, Refusal, types_at_odds};
 use idx_core::Span;
 use t_intern::Types;
-use t_terms::{Base, End, Instr, TCode, TFault, Value};
+use t_terms::{Base, End, Instr, TCode, Value};
 use t_types::TType;
 
 impl Checker<'_> {
@@ -27,7 +28,7 @@ impl Checker<'_> {
         types: &mut Types,
         i: &Instr,
         span: Span,
-    ) -> Result<(), TFault>
+    ) -> Result<(), Refusal>
         requires place { IsPlace types.old self.old }
         requires instr { FormedInstr self.old.program.now self.old.registers.names (instr i.now) }
         requires few { names_after (instr i.now) self.old.registers.names ≤ max_names }
@@ -54,7 +55,7 @@ impl Checker<'_> {
         rs: u64,
         v: &Value,
         span: Span,
-    ) -> Result<(), TFault>
+    ) -> Result<(), Refusal>
         requires place { IsPlace types.old self.old }
         requires rd { IsRegister rd }
         requires value { FormedAt self.old (value v.now) }
@@ -74,7 +75,7 @@ impl Checker<'_> {
     }
 
     // Whether the register is an integer.
-    fn check_int(&self, types: &Types, r: u64, span: Span) -> Result<(), TFault>
+    fn check_int(&self, types: &Types, r: u64, span: Span) -> Result<(), Refusal>
         requires { IsSound types.now self.now.registers }
         ensures { IsInteger (known types.now self.now.registers) r span result }
     {
@@ -90,7 +91,7 @@ impl Checker<'_> {
         }
     }
 
-    fn check_bnz(&mut self, types: &mut Types, r: u64, v: &Value, span: Span) -> Result<(), TFault>
+    fn check_bnz(&mut self, types: &mut Types, r: u64, v: &Value, span: Span) -> Result<(), Refusal>
         requires place { IsPlace types.old self.old }
         requires value { FormedAt self.old (value v.now) }
         ensures grown { Grown types.old types.new }
@@ -109,7 +110,7 @@ impl Checker<'_> {
         rs: u64,
         field: u64,
         span: Span,
-    ) -> Result<(), TFault>
+    ) -> Result<(), Refusal>
         requires place { IsPlace types.old self.old }
         requires rd { IsRegister rd }
         ensures grown { Grown types.old types.new }
@@ -132,7 +133,7 @@ impl Checker<'_> {
         r: u64,
         field: u64,
         span: Span,
-    ) -> Result<(u64, bool), TFault>
+    ) -> Result<(u64, bool), Refusal>
         requires { IsSound types.old self.now.registers }
         ensures grown { Grown types.old types.new }
         ensures field { IsFieldOf types.new self.now.registers.names (known types.old self.now.registers) r field span
@@ -155,7 +156,7 @@ impl Checker<'_> {
         Ok((n, flag))
     }
 
-    fn check_malloc(&mut self, types: &mut Types, rd: u64, fields: &[TType]) -> Result<(), TFault>
+    fn check_malloc(&mut self, types: &mut Types, rd: u64, fields: &[TType]) -> Result<(), Refusal>
         requires place { IsPlace types.old self.old }
         requires rd { IsRegister rd }
         requires fields { WellFormedTypes self.old.registers.names (type_trees fields.now) }
@@ -171,7 +172,13 @@ impl Checker<'_> {
         Ok(())
     }
 
-    fn check_mov(&mut self, types: &mut Types, rd: u64, v: &Value, span: Span) -> Result<(), TFault>
+    fn check_mov(
+        &mut self,
+        types: &mut Types,
+        rd: u64,
+        v: &Value,
+        span: Span,
+    ) -> Result<(), Refusal>
         requires place { IsPlace types.old self.old }
         requires rd { IsRegister rd }
         requires value { FormedAt self.old (value v.now) }
@@ -189,7 +196,7 @@ impl Checker<'_> {
     }
 
     // A move of a register: what is kept of its type is copied as it is.
-    fn check_copy(&mut self, rd: u64, r: u64, span: Span) -> Result<(), TFault>
+    fn check_copy(&mut self, rd: u64, r: u64, span: Span) -> Result<(), Refusal>
         ensures step { (ts : List Ty) → IsSound ts self.old.registers →
             StepsTo ts ts self.old self.new span (Mov rd (Plain (Reg r) [])) result }
         ensures program { self.new.program ≡ self.old.program }
@@ -211,7 +218,7 @@ impl Checker<'_> {
         field: u64,
         rs: u64,
         span: Span,
-    ) -> Result<(), TFault>
+    ) -> Result<(), Refusal>
         requires place { IsPlace types.old self.old }
         requires field { field ≤ max_number }
         ensures grown { Grown types.old types.new }
@@ -235,18 +242,26 @@ impl Checker<'_> {
         field: u64,
         rs: u64,
         span: Span,
-    ) -> Result<bool, TFault>
+    ) -> Result<bool, Refusal>
         requires { IsSound types.old self.now.registers }
         ensures grown { Grown types.old types.new }
-        ensures stored { IsStored (known types.old self.now.registers) rd field rs span result }
+        ensures stored { IsStored self.now.registers.names (known types.old self.now.registers) rd field rs span
+            result }
     {
         let (wanted, is_initialised) = self.field_of(types, rd, field, span)?;
         let source = match self.registers.find(rs) {
             Some(entry) => entry,
             None => return refused(TCode::T08, span),
         };
-        if !self.registers.fits_entry(types, source, wanted)? {
-            return refused(TCode::T13, span);
+        let found = self.registers.shown(types, source)?;
+        if !types.fits_once(found, wanted) {
+            let names = self.registers.names;
+            let pair = Pair {
+                wanted,
+                found,
+                names,
+            };
+            return Err(types_at_odds(types, TCode::T13, span, pair));
         }
         Ok(is_initialised)
     }
@@ -257,7 +272,7 @@ impl Checker<'_> {
         rd: u64,
         v: &Value,
         span: Span,
-    ) -> Result<(), TFault>
+    ) -> Result<(), Refusal>
         requires place { IsPlace types.old self.old }
         requires rd { IsRegister rd }
         requires value { FormedAt self.old (value v.now) }
@@ -282,7 +297,7 @@ impl Checker<'_> {
         types: &mut Types,
         end: &End,
         span: Span,
-    ) -> Result<(), TFault>
+    ) -> Result<(), Refusal>
         requires place { IsPlace types.old self.old }
         requires end { FormedEnd self.old.program.now self.old.registers.names (end_of end.now) }
         ensures grown { Grown types.old types.new }
@@ -295,7 +310,7 @@ impl Checker<'_> {
     }
 
     // Whether register 1 is an integer.
-    fn check_halt(&self, types: &Types, span: Span) -> Result<(), TFault>
+    fn check_halt(&self, types: &Types, span: Span) -> Result<(), Refusal>
         requires { IsSound types.now self.now.registers }
         ensures { EndedAt types.now self.now span Halt result }
     {

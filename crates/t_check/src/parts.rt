@@ -1,20 +1,21 @@
 // The parts of a type, its number by them, and a refusal.
 ghost use Rattle.std.specs.Prelude.{◌≡◌, ◌≢◌, ◌↔◌, ◌<◌, ℕ, IsTrue, IfOk, MatchOption, length};
 ghost use Rattle.t_types.specs.Tree.{IntTy, CodeTy, TFile};
-ghost use Rattle.t_terms.specs.declared.fault.TFault.TheVariants as fault;
 ghost use Rattle.t_intern.specs.Grown.{Grown, IsNumber};
 ghost use Rattle.t_intern.specs.Nodes.{at, type_at, PartsBelow};
 ghost use Rattle.t_intern.specs.Read.{node};
 ghost use Rattle.t_check.specs.Verdict.{IsCode, IsOwing, IsRegsOf, IsExists};
+ghost use Rattle.t_check.specs.declared.refusal.Refusal.TheVariants as refusal;
 
+use crate::refusal::Refusal;
 use idx_core::{OutOfMemory, Span};
 use t_intern::{Shape, Types};
-use t_terms::{TCode, TFault};
+use t_terms::TCode;
 
-pub(crate) fn refused<T>(code: TCode, span: Span) -> Result<T, TFault>
-    ensures { result ≡ Err (fault.Refused code span) }
+pub(crate) fn refused<T>(code: TCode, span: Span) -> Result<T, Refusal>
+    ensures { result ≡ Err (refusal.Refused code span) }
 {
-    Err(TFault::Refused { code, span })
+    Err(Refusal::Refused { code, span })
 }
 
 fn out_of_memory(refused: (Shape, OutOfMemory)) -> OutOfMemory {

@@ -14,15 +14,16 @@ ghost use Rattle.t_check.specs.Verdict.{IsDatum, IsData, IsHeap, IsProgram};
 use crate::checker::Checker;
 use crate::labels::Labels;
 use crate::parts::{code_parts, refused};
+use crate::refusal::{Pair, Refusal, types_at_odds};
 use crate::registers::Registers;
 use idx_core::{OutOfMemory, Salt, Span};
 use std::alloc::Global;
 use t_intern::Types;
-use t_terms::{Block, Data, TCode, TFault, TProgram, Value};
+use t_terms::{Block, Data, TCode, TProgram, Value};
 use t_types::TType;
 
 // The first block takes nothing, and then each data tuple and each block.
-pub(crate) fn check_program(alloc: Global, program: &TProgram, salt: Salt) -> Result<(), TFault>
+pub(crate) fn check_program(alloc: Global, program: &TProgram, salt: Salt) -> Result<(), Refusal>
     ensures { IsProgram (spanned_program program.now) result }
 {
     let first = &program.blocks[0];
@@ -48,7 +49,7 @@ fn check_heap(
     program: &TProgram,
     labels: &Labels,
     heap: &[Data],
-) -> Result<(), TFault>
+) -> Result<(), Refusal>
     requires heap { heap.now ≡ program.now.heap.items }
     requires labels { AreLabels types.old program.now labels.now }
     ensures grown { Grown types.old types.new }
@@ -73,7 +74,7 @@ fn check_blocks(
     program: &TProgram,
     labels: &Labels,
     blocks: &[Block],
-) -> Result<(), TFault>
+) -> Result<(), Refusal>
     requires blocks { blocks.now ≡ program.now.blocks.items }
     requires labels { AreLabels types.old program.now labels.now }
     ensures { AreBlocks (program_of program.now) (spanned_blocks blocks.now) result }
@@ -92,7 +93,7 @@ fn check_block(
     labels: &Labels,
     block: &Block,
     code: u64,
-) -> Result<(), TFault>
+) -> Result<(), Refusal>
     requires formed { FormedBlock program.now (block_tree block.now) }
     requires labels { AreLabels types.old program.now labels.now }
     requires code { IsNumber types.old (CodeTy block.now.owes (file block.now.regs.regs.items)) code }
@@ -132,7 +133,7 @@ pub(crate) fn header(
 
 impl Checker<'_> {
     // The words of a data tuple in order, where nothing is known of the registers.
-    fn check_data(&self, types: &mut Types, fields: &[(Value, TType, Span)]) -> Result<(), TFault>
+    fn check_data(&self, types: &mut Types, fields: &[(Value, TType, Span)]) -> Result<(), Refusal>
         requires place { IsPlace types.old self.now }
         requires empty { IsEmpty self.now.registers }
         requires names { self.now.registers.names ≡ 0 }
@@ -147,7 +148,7 @@ impl Checker<'_> {
     }
 
     // A word of data.
-    fn check_datum(&self, types: &mut Types, field: &(Value, TType, Span)) -> Result<(), TFault>
+    fn check_datum(&self, types: &mut Types, field: &(Value, TType, Span)) -> Result<(), Refusal>
         requires place { IsPlace types.old self.now }
         requires empty { IsEmpty self.now.registers }
         requires names { self.now.registers.names ≡ 0 }
@@ -158,9 +159,14 @@ impl Checker<'_> {
         let found = self.type_of_value(types, &field.0, field.2)?;
         let wanted = types.number(&field.1)?;
         if types.fits_once(found, wanted) {
-            Ok(())
-        } else {
-            refused(TCode::T13, field.2)
+            return Ok(());
         }
+        let names = 0;
+        let pair = Pair {
+            wanted,
+            found,
+            names,
+        };
+        Err(types_at_odds(types, TCode::T13, field.2, pair))
     }
 }

@@ -14,9 +14,10 @@ ghost use Rattle.t_check.specs.Verdict.{IsPacked};
 
 use crate::checker::Checker;
 use crate::parts::{code_parts, exists_body, intern, owed, refused};
+use crate::refusal::{Pair, Refusal, no_package, types_at_odds};
 use idx_core::{OutOfMemory, Span};
 use t_intern::{Shape, Types};
-use t_terms::{Base, TCode, TFault, Value};
+use t_terms::{Base, TCode, Value};
 use t_types::TType;
 
 impl Checker<'_> {
@@ -26,7 +27,7 @@ impl Checker<'_> {
         types: &mut Types,
         v: &Value,
         span: Span,
-    ) -> Result<u64, TFault>
+    ) -> Result<u64, Refusal>
         requires place { IsPlace types.old self.now }
         requires value { FormedAt self.now (value v.now) }
         ensures grown { Grown types.old types.new }
@@ -52,7 +53,7 @@ impl Checker<'_> {
         base: Base,
         args: &[TType],
         span: Span,
-    ) -> Result<u64, TFault>
+    ) -> Result<u64, Refusal>
         requires place { IsPlace types.old self.now }
         requires base { FormedBase self.now.program.now (base_tree base) }
         requires args { WellFormedTypes self.now.registers.names (type_trees args.now) }
@@ -67,7 +68,7 @@ impl Checker<'_> {
         self.apply(types, found, args, span)
     }
 
-    fn type_of_base(&self, types: &mut Types, base: Base, span: Span) -> Result<u64, TFault>
+    fn type_of_base(&self, types: &mut Types, base: Base, span: Span) -> Result<u64, Refusal>
         requires place { IsPlace types.old self.now }
         requires base { FormedBase self.now.program.now (base_tree base) }
         ensures grown { Grown types.old types.new }
@@ -94,7 +95,7 @@ impl Checker<'_> {
         found: u64,
         args: &[TType],
         span: Span,
-    ) -> Result<u64, TFault>
+    ) -> Result<u64, Refusal>
         requires place { IsPlace types.old self.now }
         requires found { found < length types.old }
         requires bounded { Bounded self.now.registers.names (at types.old found) }
@@ -184,23 +185,30 @@ impl Checker<'_> {
         found: u64,
         shape: &TType,
         span: Span,
-    ) -> Result<u64, TFault>
+    ) -> Result<u64, Refusal>
         requires few { self.now.registers.names ≤ max_names }
         requires found { found < length types.old }
         requires hidden { WellFormed self.now.registers.names (tree hidden.now) }
         requires shape { WellFormed self.now.registers.names (tree shape.now) }
         ensures grown { Grown types.old types.new }
-        ensures packed { IsPacked types.new (tree hidden.now) (at types.old found) (tree shape.now) span result }
+        ensures packed { IsPacked types.new self.now.registers.names (tree hidden.now) (at types.old found)
+            (tree shape.now) span result }
     {
+        let names = self.registers.names;
         let shape = types.number(shape)?;
         let body = match exists_body(types, shape) {
             Some(body) => body,
-            None => return refused(TCode::T15, span),
+            None => return Err(no_package(types, span, shape, names)),
         };
         let hidden = types.number(hidden)?;
         let wanted = types.put(body, 0, hidden)?;
         if !types.fits_once(found, wanted) {
-            return refused(TCode::T15, span);
+            let pair = Pair {
+                wanted,
+                found,
+                names,
+            };
+            return Err(types_at_odds(types, TCode::T15, span, pair));
         }
         Ok(shape)
     }

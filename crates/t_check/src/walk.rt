@@ -19,13 +19,14 @@ use crate::checked::Checked;
 use crate::checker::Checker;
 use crate::labels::Labels;
 use crate::program::header;
+use crate::refusal::Refusal;
 use crate::registers::Registers;
 use crate::salt::salt_of;
 use idx_core::{OutOfMemory, Span};
 use std::alloc::Global;
 use t_intern::Types;
 use t_rules::{no_fault_where_typed, places_go_on};
-use t_terms::{Instr, TFault, TProgram};
+use t_terms::{Instr, TProgram};
 use t_types::RegFile;
 
 /// A place of a program, with what is known of the registers there.
@@ -63,8 +64,9 @@ impl Checker<'_> {
         no_fault_where_typed();
         match self.check_instr(types, i, span) {
             Ok(()) => Ok(()),
-            Err(TFault::Memory) => Err(OutOfMemory),
-            Err(TFault::Refused { .. }) => unreachable!(),
+            Err(Refusal::Memory) => Err(OutOfMemory),
+            Err(Refusal::Refused { .. }) => unreachable!(),
+            Err(Refusal::AtOdds(_)) => unreachable!(),
         }
     }
 }

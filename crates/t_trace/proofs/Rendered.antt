@@ -1,11 +1,9 @@
 -- Lists that a loop writes item by item, and the texts of types by their parts.
 use Rattle.std.proofs.Common.{Bool, ◌≡◌, ◌≤◌, ◌<◌, ℕ, zero, suc, ◌+◌, ◌-◌, List, [], ◌∷◌, ◌++◌, length, drop, get_or, refl, sym, ◌∙◌, ap, subst, arith, append_assoc, add-one, drop-cons, codes, decimal}
-use Rattle.std.specs.Prelude.{All}
 use Rattle.std.proofs.lemmas.List.{append-nil, length-append}
-use Rattle.std.proofs.lemmas.List.Elements.{All-nil, All-cons}
 use Rattle.std.proofs.Math.ListN.{drop_of_length-le}
 use Rattle.t_types.specs.declared.types.TType.{TType}
-use Rattle.t_types.specs.Tree.{Ty, CodeTy, TupleTy, TFile, TFields, Below, BelowFile, BelowFields}
+use Rattle.t_types.specs.Tree.{Ty, CodeTy, TupleTy, TFile, TFields}
 use Rattle.t_types.specs.Read.{tree, file, fields}
 use Rattle.t_terms.specs.declared.shown.Shown.{Shown}
 use Rattle.t_trace.specs.Line.{separator, names_text, flag_text, text_at, regs_text, fields_text, word_text, words_text, line_text, AreWordsOf}
@@ -62,15 +60,6 @@ names_more text mid next i d n whole lt h e f =
 
 pub names_none : (text : List ℕ) (i d n : ℕ) (whole : List ℕ) → n ≤ i → text ++ names_text i (d + i) (n - i) ≡ whole → text ≡ whole
 names_none text i d n whole le h = let m : n - i ≡ 0 = omega arith in sym (append-nil text) ∙ subst (λ c. text ++ names_text i (d + i) c ≡ whole) m h
-
--- the parts of what is in scope
-pub regs_fit : (n : ℕ) (xs : List (ℕ × TType)) → BelowFile n (file xs) → All (λ (x : ℕ × TType). Below n (tree x.1)) xs
-regs_fit n [] h = All-nil _
-regs_fit n (x ∷ xs) h = All-cons (λ (x : ℕ × TType). Below n (tree x.1)) x xs h.0 (regs_fit n xs h.1)
-
-pub fields_fit : (n : ℕ) (xs : List (TType × Bool)) → BelowFields n (fields xs) → All (λ (x : TType × Bool). Below n (tree x.0)) xs
-fields_fit n [] h = All-nil _
-fields_fit n (x ∷ xs) h = All-cons (λ (x : TType × Bool). Below n (tree x.0)) x xs h.0 (fields_fit n xs h.1)
 
 -- one item more, and the end of a list, in the words of the loops
 pub reg_more : (n d : ℕ) (t0 t1 t2 t3 t4 : List ℕ) (i : ℕ) (xs : List (ℕ × TType)) (x : ℕ × TType) (whole : List ℕ) → x ≡ get_or xs i x → i < length xs → Left (reg_item n d) t0 i xs whole →

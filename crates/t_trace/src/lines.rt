@@ -34,8 +34,7 @@ fn write_words(
     regs: &[(u64, TType)],
     words: &[(u64, Shown)],
 ) -> Result<(), OutOfMemory>
-    requires scope { BelowFile vars (file regs.now) }
-    requires words { AreWordsOf words.now (file regs.now) }
+    requires { AreWordsOf words.now (file regs.now) }
     ensures { OnOk result (text.new.items ≡ text.old.items ++ words_text vars 0 words.now (file regs.now)) }
 {
     for (i, reg) in regs.iter().enumerate() {

@@ -1,11 +1,11 @@
 // The texts of types.
-ghost use Rattle.std.specs.Prelude.{◌≡◌, ◌+◌, ◌++◌, ◌<◌, ◌≤◌, codes, decimal, length, OnOk};
+ghost use Rattle.std.specs.Prelude.{◌≡◌, ◌+◌, ◌++◌, ◌≤◌, codes, decimal, length, IfOk, OnOk};
 ghost use Rattle.t_types.specs.Read.{tree, file};
 ghost use Rattle.t_types.specs.Read.{fields as fields_of};
-ghost use Rattle.t_types.specs.Tree.{Below, BelowFile, BelowFields};
 ghost use Rattle.t_trace.specs.Line.{variable_text, separator, names_text, flag_text, text_at, regs_text, fields_text};
 
 use idx_core::OutOfMemory;
+use std::alloc::Global;
 use t_types::TType;
 use t_writer::write_natural;
 
@@ -31,13 +31,12 @@ fn write_name(text: &mut Vec<u8>, letter: &[u8], number: u64) -> Result<(), OutO
 // A variable, by its number from the outermost name on: of those in scope at the place, or of those that the type
 // binds.
 fn write_variable(text: &mut Vec<u8>, i: u64, vars: u64, depth: u64) -> Result<(), OutOfMemory>
-    requires { i < vars + depth }
     ensures { OnOk result (text.new.items ≡ text.old.items ++ variable_text vars depth i) }
 {
     if i < depth {
         write_name(text, b"t", depth - 1 - i)
     } else {
-        write_name(text, b"a", vars - 1 - (i - depth))
+        write_name(text, b"a", vars.saturating_sub(1).saturating_sub(i - depth))
     }
 }
 
@@ -77,6 +76,15 @@ fn write_some(text: &mut Vec<u8>, depth: u64) -> Result<(), OutOfMemory>
     Ok(())
 }
 
+/// The text of a type as lines show it, where so many type names are in scope. An error is want of memory.
+pub fn type_at(alloc: Global, t: &TType, names: u64) -> Result<Vec<u8>, OutOfMemory>
+    ensures { IfOk result (λ text. text.items ≡ text_at names 0 (tree t.now)) }
+{
+    let mut text = Vec::new(alloc);
+    write_type(&mut text, t, names, 0)?;
+    Ok(text)
+}
+
 // A type under `vars` names of the place and `depth` names of its own. Each of the latter has taken some bytes.
 #[cycle(types)]
 pub(crate) fn write_type(
@@ -85,7 +93,6 @@ pub(crate) fn write_type(
     vars: u64,
     depth: u64,
 ) -> Result<(), OutOfMemory>
-    requires bound { Below (vars + depth) (tree t.now) }
     requires room { depth ≤ length text.old.items }
     ensures { OnOk result (text.new.items ≡ text.old.items ++ text_at vars depth (tree t.now)) }
 {
@@ -128,7 +135,6 @@ fn write_regs(
     vars: u64,
     depth: u64,
 ) -> Result<(), OutOfMemory>
-    requires bound { BelowFile (vars + depth) (file regs.now) }
     requires room { depth ≤ length text.old.items }
     ensures { OnOk result (text.new.items ≡ text.old.items ++ regs_text vars depth 0 (file regs.now)) }
 {
@@ -149,7 +155,6 @@ fn write_fields(
     vars: u64,
     depth: u64,
 ) -> Result<(), OutOfMemory>
-    requires bound { BelowFields (vars + depth) (fields_of fields.now) }
     requires room { depth ≤ length text.old.items }
     ensures { OnOk result (text.new.items ≡ text.old.items ++ fields_text vars depth 0 (fields_of fields.now)) }
 {

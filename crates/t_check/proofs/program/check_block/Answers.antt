@@ -10,12 +10,13 @@ use Rattle.t_terms.specs.ReadProgram.{program}
 use Rattle.t_terms.specs.Whole.{WellFormedSeq}
 use Rattle.t_terms.specs.declared.instr.Instr.{Instr}
 use Rattle.t_terms.specs.declared.program.TProgram.{TProgram}
-use Rattle.t_rules.specs.Faults.{InstrFault, BlockFault}
+use Rattle.t_check.specs.Mismatch.{InstrFaultWith, BlockFaultWith}
 use Rattle.t_intern.proofs.Growing.{grown_next, grown_same}
 use Rattle.t_check.specs.declared.labels.Labels.{Labels}
 use Rattle.t_check.specs.Known.{known}
 use Rattle.t_check.specs.Labels.{AreLabels}
-use Rattle.t_check.specs.Verdict.{Says, FormedInstr, FormedEnd, IsEnd}
+use Rattle.t_check.specs.Refusals.{SaysWith}
+use Rattle.t_check.specs.Verdict.{FormedInstr, FormedEnd, IsEnd}
 use Rattle.t_rules.specs.Rules.{Typed}
 use Rattle.t_check.proofs.Numbering.{labels_grown}
 use Rattle.t_check.proofs.Typing.{says_map}
@@ -76,10 +77,10 @@ returns-in_err-check_instr-clause-block c =
     let q = err_from_is_err_and c.from_residual-in_err-check_instr.result c.from_residual-in_err-check_instr.ensures.1 in
     let items = subst (λ (ys : List (Instr × Span)). IsLeft P (end_of b.«end») b.end_span b.owes k.names (lookup (file b.regs.regs.items)) h ys (drop l.step-index ys)) c.deref-step-items.ensures.value l.invariant.left in
     let lt : l.step-index < length b.body.items = subst (λ (ys : List (Instr × Span)). l.step-index < length ys) c.deref-step-items.ensures.value c.loop-step-test.true in
-    rw (q.1, q.2) (says_map e _ (BlockFault P (spanned b))
+    rw (q.1, q.2) (says_map e _ (BlockFaultWith P (spanned b))
     (left_fault P (end_of b.«end») b.end_span b.owes k.names (lookup (file b.regs.regs.items)) h b.body.items l.step-index x lt
     (subst (λ (ys : List (Instr × Span)). x ≡ get_or ys l.step-index x) c.deref-step-items.ensures.value c.step-item.is) items)
-    (subst (λ (p : TProgram). Says e (InstrFault (program p) k.names h x.1 (instr x.0))) l.invariant.same c.in_err-check_instr.ensures.step))
+    (subst (λ (p : TProgram). SaysWith e (InstrFaultWith (program p) k.names h x.1 (instr x.0))) l.invariant.same c.in_err-check_instr.ensures.step))
 
 pub loop-step-preserved : goal.loop-step-preserved
 loop-step-preserved c =

@@ -3,7 +3,7 @@ use Rattle.std.proofs.lemmas.Result.{err_from_is_err_and}
 use Rattle.t_terms.specs.declared.block.Block.{Block}
 use Rattle.t_terms.specs.Read.{spanned, spanned_blocks}
 use Rattle.t_terms.specs.ReadProgram.{program}
-use Rattle.t_rules.specs.Faults.{BlockFault, BlocksFault}
+use Rattle.t_check.specs.Mismatch.{BlockFaultWith, BlocksFaultWith}
 use Rattle.t_intern.proofs.Growing.{grown_next}
 use Rattle.t_check.specs.Labels.{code_type}
 use Rattle.t_check.proofs.Blocks.{formed_at}
@@ -38,7 +38,7 @@ returns-in_err-check_block c =
     let p = err_from_is_err_and c.from_residual.result c.from_residual.ensures.1 in
     let P = program c.args.program.now in
     let x = c.index-blocks-i.result in
-    rw (p.1, p.2) (says_map c.in_err-check_block.field-0.0 (BlockFault P (spanned x)) (BlocksFault P (spanned_blocks c.args.blocks.now))
+    rw (p.1, p.2) (says_map c.in_err-check_block.field-0.0 (BlockFaultWith P (spanned x)) (BlocksFaultWith P (spanned_blocks c.args.blocks.now))
     (block_fault P c.args.blocks.now c.loop-i.i x c.loop-i-test.true c.index-blocks-i.is c.loop-i.invariant.left) c.in_err-check_block.ensures.block)
 
 pub loop-i-preserved : goal.loop-i-preserved

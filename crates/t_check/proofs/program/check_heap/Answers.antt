@@ -5,9 +5,10 @@ use Rattle.t_terms.specs.Read.{data_fields, spanned_data, spanned_heap}
 use Rattle.t_terms.specs.Spanned.{plain_fields}
 use Rattle.t_terms.specs.ReadProgram.{program}
 use Rattle.t_rules.specs.Rules.{DataAccepted}
-use Rattle.t_rules.specs.Faults.{DataFault, HeapFault}
+use Rattle.t_check.specs.Mismatch.{DataFaultWith, HeapFaultWith}
 use Rattle.t_intern.proofs.Growing.{grown_next}
-use Rattle.t_check.specs.Verdict.{Says, FormedData}
+use Rattle.t_check.specs.Refusals.{SaysWith}
+use Rattle.t_check.specs.Verdict.{FormedData}
 use Rattle.t_check.proofs.Numbering.{labels_grown}
 use Rattle.t_check.proofs.Typing.{says_map}
 use Rattle.t_check.proofs.Blocks.{formed_data_at}
@@ -31,9 +32,9 @@ returns-in_err-check_data-clause-heap c =
     let p = err_from_is_err_and c.from_residual.result c.from_residual.ensures.1 in
     let P = program c.args.program.now in
     let x = c.tuple-item.result in
-    rw (p.1, p.2) (says_map c.in_err-check_data.field-0.0 (DataFault P (spanned_data x).fields) (HeapFault P (spanned_heap c.args.heap.now))
+    rw (p.1, p.2) (says_map c.in_err-check_data.field-0.0 (DataFaultWith P (spanned_data x).fields) (HeapFaultWith P (spanned_heap c.args.heap.now))
     (data_fault P c.args.heap.now c.loop-tuple.tuple-index x c.loop-tuple-test.true c.tuple-item.is c.loop-tuple.invariant.left)
-    (subst (λ (xs : List Field). Says c.in_err-check_data.field-0.0 (DataFault P (data_fields xs))) c.deref.ensures.value c.in_err-check_data.ensures.words))
+    (subst (λ (xs : List Field). SaysWith c.in_err-check_data.field-0.0 (DataFaultWith P (data_fields xs))) c.deref.ensures.value c.in_err-check_data.ensures.words))
 
 pub returns-in_err-check_data-clause-grown : goal.returns-in_err-check_data-clause-grown
 returns-in_err-check_data-clause-grown c = grown_next _ _ _ c.loop-tuple.invariant.grown c.in_err-check_data.ensures.grown

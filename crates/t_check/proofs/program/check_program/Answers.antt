@@ -2,13 +2,14 @@ use Rattle.std.proofs.Common.{List, ◌<◌, length, arith, refl, sym, subst, Re
 use Rattle.std.proofs.lemmas.Result.{err_from_is_err_and}
 use Rattle.t_terms.specs.declared.block.Block.{Block}
 use Rattle.t_terms.specs.declared.data.Data.{Data}
-use Rattle.t_terms.specs.declared.fault.TFault.{TFault}
+use Rattle.t_check.specs.declared.refusal.Refusal.{Refusal}
 use Rattle.t_terms.specs.Read.{spanned_blocks, spanned_heap, data_of}
 use Rattle.t_terms.specs.ReadProgram.{program, spanned_program}
 use Rattle.t_terms.proofs.Blocks.{blocks_count}
 use Rattle.t_rules.specs.Rules.{HeapAccepted}
-use Rattle.t_rules.specs.Faults.{HeapFault}
-use Rattle.t_check.specs.Verdict.{Says, AreBlocks, IsProgram}
+use Rattle.t_check.specs.Mismatch.{HeapFaultWith}
+use Rattle.t_check.specs.Refusals.{SaysWith}
+use Rattle.t_check.specs.Verdict.{AreBlocks, IsProgram}
 use Rattle.t_check.proofs.Bodies.{first_takes, first_fault, heap_fault, program_is}
 use Rattle.t_check.proofs.Numbering.{labels_grown}
 use Rattle.t_check.proofs.program.check_program.Goals as goal
@@ -21,7 +22,7 @@ returns-then-not-takes_nothing c =
     let p = c.args.program.now in
     let some = p.whole.0 in
     let lt : 0 < length p.blocks.items = omega (arith, blocks_count p.blocks.items) in
-    subst (λ (r : Result (Unit {0}) TFault). IsProgram (spanned_program p) r) (sym c.refused.ensures)
+    subst (λ (r : Result (Unit {0}) Refusal). IsProgram (spanned_program p) r) (sym c.refused.ensures)
     (first_fault p c.index-first.result.now lt c.index-first.ensures (λ h. true≢false (sym (c.if-not-takes_nothing.ensures.1 h))))
 
 pub returns : goal.returns
@@ -41,4 +42,4 @@ returns-in_err-check_heap c =
     let first = first_takes p.blocks.items c.index-first.result.now lt c.index-first.ensures (c.if-not-takes_nothing.ensures.0 refl) in
     let q = err_from_is_err_and c.from_residual-in_err-check_heap.result c.from_residual-in_err-check_heap.ensures.1 in
     let e = c.in_err-check_heap.field-0.0 in
-    rw (q.1, q.2) (heap_fault p first e (subst (λ (xs : List Data). Says e (HeapFault (program p) (spanned_heap xs))) c.deref.ensures.value c.in_err-check_heap.ensures.heap))
+    rw (q.1, q.2) (heap_fault p first e (subst (λ (xs : List Data). SaysWith e (HeapFaultWith (program p) (spanned_heap xs))) c.deref.ensures.value c.in_err-check_heap.ensures.heap))

@@ -1,11 +1,11 @@
 use Rattle.std.proofs.Common.{◌≡◌, ◌<◌, length, refl, subst, sym}
 use Rattle.std.specs.Prelude.{pos}
 use Rattle.t_terms.specs.declared.shown.Shown.TheVariants.{Int}
-use Rattle.t_trace.proofs.Rendered.{regs_fit, as_many, item, word_more, words_none}
+use Rattle.t_trace.proofs.Rendered.{as_many, item, word_more, words_none}
 use Rattle.t_trace.proofs.lines.write_words.Goals as goal
 
 pub loop-i-init : goal.loop-i-init
-loop-i-init c = record { fits = regs_fit _ c.args.regs.now c.requires.scope; many = as_many c.args.regs.now c.args.words.now c.requires.words; written = refl }
+loop-i-init c = record { many = as_many c.args.regs.now c.args.words.now c.requires; written = refl }
 
 pub bounds-words-i : goal.bounds-words-i
 bounds-words-i c = subst (λ n. c.loop-i.i < n) (sym c.loop-i.invariant.many) c.loop-i-test.true
@@ -14,7 +14,6 @@ pub loop-i-preserved : goal.loop-i-preserved
 loop-i-preserved c =
     let less = subst (λ n. c.loop-i.i < n) (sym c.loop-i.invariant.many) c.loop-i-test.true in
     record {
-      fits = c.loop-i.invariant.fits;
       many = c.loop-i.invariant.many;
       written = word_more c.args.vars _ _ _ _ _ _ _ _ c.loop-i.i c.args.regs.now c.args.words.now _ _ _ c.index-regs-i.is c.loop-i-test.true (item c.args.words.now c.loop-i.i (0, Int (pos 0)) less) less c.loop-i.invariant.written
           c.in_ok-write_separator.ensures c.in_ok-extend_from_slice.ensures.items c.in_ok-write_natural.ensures.written c.in_ok-extend_from_slice-2.ensures.items c.in_ok-write_word.ensures

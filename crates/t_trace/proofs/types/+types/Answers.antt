@@ -4,15 +4,14 @@ use Rattle.t_types.specs.Read.{file, fields}
 use Rattle.t_types.specs.Tree.{Ty, Below, BelowFile}
 use Rattle.t_types.proofs.Trees.{tree_is_tuple, tree_is_code}
 use Rattle.t_trace.specs.Line.{text_at}
-use Rattle.t_trace.proofs.Rendered.{regs_fit, fields_fit, grown, reg_more, field_more, regs_done, fields_done, code_done, tuple_done}
+use Rattle.t_trace.proofs.Rendered.{grown, reg_more, field_more, regs_done, fields_done, code_done, tuple_done}
 use Rattle.t_trace.proofs.types.+types.Goals as goal
 
 pub write_fields-loop-i-init : goal.write_fields-loop-i-init
-write_fields-loop-i-init t c = record { fits = fields_fit _ c.args.fields.now c.requires.bound; room = c.requires.room; written = refl }
+write_fields-loop-i-init t c = record { room = c.requires.room; written = refl }
 
 pub write_fields-loop-i-preserved : goal.write_fields-loop-i-preserved
 write_fields-loop-i-preserved t c = record {
-  fits = c.loop-i.invariant.fits;
   room = grown _ _ _ _ (grown _ _ _ _ (grown _ _ _ _ c.loop-i.invariant.room c.in_ok-write_separator.ensures) c.in_ok-write_type.ensures) c.in_ok-write_flag.ensures;
   written = field_more c.args.vars c.args.depth _ _ _ _ c.loop-i.i c.args.fields.now _ _ c.index-fields-i.is c.loop-i-test.true c.loop-i.invariant.written
       c.in_ok-write_separator.ensures c.in_ok-write_type.ensures c.in_ok-write_flag.ensures;
@@ -22,11 +21,10 @@ pub write_fields-returns : goal.write_fields-returns
 write_fields-returns t c = fields_done c.args.vars c.args.depth c.args.fields.now _ _ c.loop-i.i c.loop-i.invariant.written c.loop-i-test.false
 
 pub write_regs-loop-i-init : goal.write_regs-loop-i-init
-write_regs-loop-i-init t c = record { fits = regs_fit _ c.args.regs.now c.requires.bound; room = c.requires.room; written = refl }
+write_regs-loop-i-init t c = record { room = c.requires.room; written = refl }
 
 pub write_regs-loop-i-preserved : goal.write_regs-loop-i-preserved
 write_regs-loop-i-preserved t c = record {
-  fits = c.loop-i.invariant.fits;
   room = grown _ _ _ _ (grown _ _ _ _ (grown _ _ _ _ (grown _ _ _ _ c.loop-i.invariant.room c.in_ok-write_separator.ensures) c.in_ok-write_name.ensures) c.in_ok-extend_from_slice.ensures.items) c.in_ok-write_type.ensures;
   written = reg_more c.args.vars c.args.depth _ _ _ _ _ c.loop-i.i c.args.regs.now _ _ c.index-regs-i.is c.loop-i-test.true c.loop-i.invariant.written
       c.in_ok-write_separator.ensures c.in_ok-write_name.ensures c.in_ok-extend_from_slice.ensures.items c.in_ok-write_type.ensures;
@@ -36,23 +34,15 @@ pub write_regs-returns : goal.write_regs-returns
 write_regs-returns t c = regs_done c.args.vars c.args.depth c.args.regs.now _ _ c.loop-i.i c.loop-i.invariant.written c.loop-i-test.false
 
 pub write_type-write_regs-requires : goal.write_type-write_regs-requires
-write_type-write_regs-requires t c =
-    let whole = subst (Below (c.args.vars + c.args.depth)) (tree_is_code _ _ _ _ c.in-Code.is c.deref.ensures.value) c.requires.bound in
-    let assoc : c.args.vars + c.args.depth + c.in-Code.owes ≡ c.args.vars + (c.args.depth + c.in-Code.owes) = omega arith in (
-      search (rules, the_lemmas),
-      (
-        subst (λ m. BelowFile m (file c.deref.result.now)) assoc whole.1,
-        grown _ _ _ _ c.in_ok-write_names-in-Code.ensures.room c.in_ok-extend_from_slice-in-Code-2.ensures.items,
-      ),
-    )
+write_type-write_regs-requires t c = (
+  search (rules, the_lemmas),
+  grown _ _ _ _ c.in_ok-write_names-in-Code.ensures.room c.in_ok-extend_from_slice-in-Code-2.ensures.items,
+)
 
 pub write_type-write_fields-requires : goal.write_type-write_fields-requires
 write_type-write_fields-requires t c = (
   search (rules, the_lemmas),
-  (
-    subst (Below (c.args.vars + c.args.depth)) (tree_is_tuple _ _ _ c.in-Tuple.is c.deref-in-Tuple.ensures.value) c.requires.bound,
-    grown _ _ _ _ c.requires.room c.in_ok-extend_from_slice-in-Tuple.ensures.items,
-  ),
+  grown _ _ _ _ c.requires.room c.in_ok-extend_from_slice-in-Tuple.ensures.items,
 )
 
 pub write_type-returns-in_ok-extend_from_slice-in-Code-3 : goal.write_type-returns-in_ok-extend_from_slice-in-Code-3

@@ -2,7 +2,7 @@ use Rattle.std.proofs.Common.{◌∙◌, ap, sym, subst, refl, Result, true≢fa
 use Rattle.t_types.specs.Tree.{Ty}
 use Rattle.t_terms.specs.Read.{value}
 use Rattle.t_terms.specs.ReadProgram.{program}
-use Rattle.t_terms.specs.declared.fault.TFault.{TFault}
+use Rattle.t_check.specs.declared.refusal.Refusal.{Refusal}
 use Rattle.t_terms.specs.Tree.{Arith}
 use Rattle.t_rules.specs.Registers.{with_reg}
 use Rattle.t_rules.specs.Rules.{Has}
@@ -20,7 +20,7 @@ returns-then-not-is_int-clause-step c = λ op.
     let g = known c.args.types.now k in
     let us = c.type_of_value.new.types in
     let v = value c.args.v.now in
-    subst (λ (r : Result (Unit {0}) TFault). IsStep P us k.names g k c.args.span (Arith op c.args.rd c.args.rs v) r) (sym c.refused.ensures)
+    subst (λ (r : Result (Unit {0}) Refusal). IsStep P us k.names g k c.args.span (Arith op c.args.rd c.args.rs v) r) (sym c.refused.ensures)
     (operand P k.names g c.args.span op c.args.rd c.args.rs v (at us c.in_ok-found.found) c.in_ok-check_int.ensures c.in_ok-found.ensures.typed.1 (λ e. absurd (true≢false (sym (c.if-not-is_int.ensures.1 e)))))
 
 pub returns-clause-step : goal.returns-clause-step

@@ -2,7 +2,7 @@ use Rattle.std.proofs.Common.{length}
 use Rattle.std.proofs.lemmas.Result.{err_from_is_err_and}
 use Rattle.t_terms.specs.ReadProgram.{program}
 use Rattle.t_terms.specs.Read.{datum, data_fields}
-use Rattle.t_rules.specs.Faults.{DatumFault, DataFault}
+use Rattle.t_check.specs.Mismatch.{DatumFaultWith, DataFaultWith}
 use Rattle.t_intern.proofs.Growing.{grown_next}
 use Rattle.t_check.proofs.Places.{place_grown}
 use Rattle.t_check.proofs.Typing.{says_map}
@@ -20,7 +20,7 @@ pub returns-in_err-check_datum-clause-words : goal.returns-in_err-check_datum-cl
 returns-in_err-check_datum-clause-words c =
     let P = program c.args.self.now.program.now in
     let p = err_from_is_err_and c.from_residual.result c.from_residual.ensures.1 in
-    rw (p.1, p.2) (says_map c.in_err-check_datum.field-0.0 (DatumFault P (datum c.field-item.result)) (DataFault P (data_fields c.args.fields.now))
+    rw (p.1, p.2) (says_map c.in_err-check_datum.field-0.0 (DatumFaultWith P (datum c.field-item.result)) (DataFaultWith P (data_fields c.args.fields.now))
     (word_fault P c.args.fields.now c.loop-field.field-index c.field-item.result c.loop-field-test.true c.field-item.is c.loop-field.invariant.left) c.in_err-check_datum.ensures.word)
 
 pub returns-in_err-check_datum-clause-grown : goal.returns-in_err-check_datum-clause-grown

@@ -1,17 +1,18 @@
-use Rattle.std.proofs.Common.{sym, subst, refl, Result, true≢false}
+use Rattle.std.proofs.Common.{ap, sym, subst, refl, ◌∙◌, List, true≢false}
 use Rattle.std.proofs.lemmas.Result.{err_from_is_err_and}
 use Rattle.t_types.specs.Tree.{Ty}
 use Rattle.t_types.specs.Fits.{Fits}
 use Rattle.t_types.specs.Read.{tree}
 use Rattle.t_terms.specs.Read.{datum}
 use Rattle.t_terms.specs.ReadProgram.{program}
-use Rattle.t_terms.specs.declared.fault.TFault.{TFault}
+use Rattle.t_terms.specs.declared.fault.TCode.TheVariants.{T13}
 use Rattle.t_intern.specs.Nodes.{at}
 use Rattle.t_intern.proofs.Growing.{grown_at}
 use Rattle.t_check.specs.Known.{known}
-use Rattle.t_check.specs.Verdict.{FormedValue, IsDatum}
+use Rattle.t_check.specs.Mismatch.{DatumFaultWith}
+use Rattle.t_check.specs.Verdict.{FormedValue}
 use Rattle.t_check.proofs.Noting.{empty_known}
-use Rattle.t_check.proofs.Typing.{datum_ok, datum_unfit, datum_fault}
+use Rattle.t_check.proofs.Typing.{says_types, datum_ok, datum_unfit, datum_fault}
 use Rattle.t_check.proofs.checker.Checker.check_datum.Goals as goal
 
 pub type_of_value-requires-clause-value : goal.type_of_value-requires-clause-value
@@ -29,17 +30,25 @@ returns-then-fits_once-clause-word c =
     let fits = subst (λ (t : Ty). Fits t (tree c.args.field.now.1)) found (subst (Fits (at vs c.in_ok-found.found)) c.in_ok-wanted.ensures.number.1 (c.if-fits_once.ensures.fit.0 refl)) in
     datum_ok (program c.args.self.now.program.now) k.names (known ts k) c.requires.names (empty_known ts k c.requires.empty) (datum c.args.field.now) (at us c.in_ok-found.found) typed.1 fits c.requires.formed.2
 
-pub returns-else-fits_once-clause-word : goal.returns-else-fits_once-clause-word
-returns-else-fits_once-clause-word c =
+pub returns-clause-word : goal.returns-clause-word
+returns-clause-word c =
+    let P = program c.args.self.now.program.now in
     let ts = c.args.types.now in
     let us = c.type_of_value.new.types in
     let vs = c.number.new.self in
+    let ws = c.fits_once.new.self in
     let k = c.args.self.now.registers in
+    let x = datum c.args.field.now in
+    let n = c.in_ok-found.found in
+    let m = c.in_ok-wanted.wanted in
     let typed = c.in_ok-found.ensures.typed in
-    let found = grown_at us vs c.in_ok-wanted.ensures.grown c.in_ok-found.found typed.0 in
-    subst (λ (r : Result (Unit {0}) TFault). IsDatum (program c.args.self.now.program.now) (datum c.args.field.now) r) (sym c.refused.ensures)
-    (datum_unfit (program c.args.self.now.program.now) k.names (known ts k) c.requires.names (empty_known ts k c.requires.empty) (datum c.args.field.now) (at us c.in_ok-found.found) typed.1
-    (λ h. true≢false (sym (c.if-fits_once.ensures.fit.1 (subst (λ (t : Ty). Fits t (at vs c.in_ok-wanted.wanted)) (sym found) (subst (Fits (at us c.in_ok-found.found)) (sym c.in_ok-wanted.ensures.number.1) h))))))
+    let same = c.if-fits_once.ensures.same in
+    let own = grown_at us vs c.in_ok-wanted.ensures.grown n typed.0 in
+    let wanted = c.in_ok-wanted.ensures.number.1 in
+    says_types c.types_at_odds.result T13 0 x.span (DatumFaultWith P x) (at ws m) (at ws n) x.ty (at us n)
+    (ap (λ (xs : List Ty). at xs m) same ∙ wanted) (ap (λ (xs : List Ty). at xs n) same ∙ own) c.types_at_odds.ensures
+    (datum_unfit P k.names (known ts k) c.requires.names (empty_known ts k c.requires.empty) x (at us n) typed.1
+    (λ h. true≢false (sym (c.if-fits_once.ensures.fit.1 (subst (λ (t : Ty). Fits t (at vs m)) (sym own) (subst (Fits (at us n)) (sym wanted) h))))))
 
 pub returns-in_err-found-clause-word : goal.returns-in_err-found-clause-word
 returns-in_err-found-clause-word c =

@@ -2,7 +2,7 @@ use Rattle.std.proofs.Common.{◌∙◌, ap, sym, subst, refl, Some, Result, tru
 use Rattle.t_types.specs.Tree.{Ty, shift}
 use Rattle.t_terms.specs.Tree.{Halt}
 use Rattle.t_terms.specs.ReadProgram.{program}
-use Rattle.t_terms.specs.declared.fault.TFault.{TFault}
+use Rattle.t_check.specs.declared.refusal.Refusal.{Refusal}
 use Rattle.t_intern.specs.Nodes.{at}
 use Rattle.t_check.specs.Known.{known, own}
 use Rattle.t_check.specs.Verdict.{IsEnd}
@@ -21,5 +21,5 @@ returns-else-is_int c =
     let k = c.args.self.now.registers in
     let e = c.in-Some.entry in
     let found = c.in-Some.ensures.found ts c.requires in
-    subst (λ (r : Result (Unit {0}) TFault). IsEnd (program c.args.self.now.program.now) k.names (known ts k) c.args.span Halt r) (sym c.refused.ensures)
+    subst (λ (r : Result (Unit {0}) Refusal). IsEnd (program c.args.self.now.program.now) k.names (known ts k) c.args.span Halt r) (sym c.refused.ensures)
     (no_halt (known ts k) (k.names - e.names) c.args.span (own ts e) found.0 (λ h. true≢false (sym (c.if-is_int.ensures.1 (unmarked_int ts e.marks (at ts e.ty) h)))))

@@ -1,46 +1,59 @@
-use Rattle.std.proofs.Common.{◌∙◌, sym, subst, Bool, Result, true≢false}
-use Rattle.text_core.specs.Refusals.{nothing, refuse, check}
+use Rattle.std.proofs.Common.{◌∙◌, ap, sym, subst, arith, List, true≢false}
 use Rattle.t_types.specs.Tree.{Ty}
 use Rattle.t_types.specs.Fits.{Fits}
 use Rattle.t_terms.specs.declared.fault.TCode.TheVariants.{T13}
-use Rattle.t_terms.specs.declared.fault.TFault.{TFault}
-use Rattle.t_rules.specs.Faults.{register}
 use Rattle.t_intern.specs.Nodes.{at}
+use Rattle.t_intern.proofs.Growing.{grown_at, grown_length, grown_next}
 use Rattle.t_check.specs.Known.{known, seen}
-use Rattle.t_check.specs.Verdict.{IsStored}
+use Rattle.t_check.specs.Mismatch.{StoreFaultWith, register, fitting}
 use Rattle.t_check.proofs.Loads.{field_follows, unfit}
 use Rattle.t_check.proofs.Noting.{seen_grown, entry_grown}
+use Rattle.t_check.proofs.Typing.{says_types}
 use Rattle.t_check.proofs.checker.Checker.check_stored.Goals as goal
+
+pub shown-requires-clause-entry : goal.shown-requires-clause-entry
+shown-requires-clause-entry c =
+    entry_grown c.args.types.now c.field_of.new.types c.in_ok-wanted.ensures.grown c.args.self.now.registers.names c.in-Some.entry (c.in-Some.ensures.found c.args.types.now c.requires).1
+
+pub fits_once-requires-clause-right : goal.fits_once-requires-clause-right
+fits_once-requires-clause-right c = omega (arith, c.in_ok-wanted.ensures.field.4, grown_length c.field_of.new.types c.shown.new.types c.in_ok-found.ensures.grown)
 
 pub returns-clause-stored : goal.returns-clause-stored
 returns-clause-stored c =
     let ts = c.args.types.now in
     let us = c.field_of.new.types in
+    let vs = c.shown.new.types in
     let k = c.args.self.now.registers in
     let e = c.in-Some.entry in
+    let w = c.in_ok-wanted.wanted in
     let h = c.in_ok-wanted.ensures.field in
     let found = c.in-Some.ensures.found ts c.requires in
-    let same = seen_grown ts us c.in_ok-wanted.ensures.grown k.names e found.1 in
-    let fits = c.in_ok-fits_entry.ensures.fit.0 c.if-not-branch.false in
-    (h.0, at us c.in_ok-wanted.wanted, seen ts k.names e, h.1, h.2, found.0, subst (λ (t : Ty). Fits t (at us c.in_ok-wanted.wanted)) same fits)
+    let own = c.in_ok-found.ensures.number.1 ∙ seen_grown ts us c.in_ok-wanted.ensures.grown k.names e found.1 in
+    let kept = grown_at us vs c.in_ok-found.ensures.grown w h.4 in
+    let fits = c.fits_once.ensures.fit.0 c.if-not-fits_once.false in
+    (h.0, at us w, seen ts k.names e, h.1, h.2, found.0, subst (λ (t : Ty). Fits t (at us w)) own (subst (Fits (at vs c.in_ok-found.found)) kept fits))
 
-pub returns-then-not-branch-clause-stored : goal.returns-then-not-branch-clause-stored
-returns-then-not-branch-clause-stored c =
+pub returns-then-not-fits_once-clause-stored : goal.returns-then-not-fits_once-clause-stored
+returns-then-not-fits_once-clause-stored c =
     let ts = c.args.types.now in
     let us = c.field_of.new.types in
+    let vs = c.shown.new.types in
+    let ws = c.fits_once.new.self in
     let k = c.args.self.now.registers in
     let g = known ts k in
+    let n = k.names in
     let e = c.in-Some.entry in
     let s = c.args.span in
+    let w = c.in_ok-wanted.wanted in
+    let m = c.in_ok-found.found in
     let h = c.in_ok-wanted.ensures.field in
-    let wanted = at us c.in_ok-wanted.wanted in
+    let t = seen ts n e in
     let found = c.in-Some.ensures.found ts c.requires in
-    let same = seen_grown ts us c.in_ok-wanted.ensures.grown k.names e found.1 in
-    subst (λ (r : Result Bool TFault). IsStored g c.args.rd c.args.field c.args.rs s r) (sym c.refused-then-not-branch.ensures)
-    (field_follows g c.args.rd c.args.field s (λ fs u flag. register g c.args.rs s (λ w. check (Fits w u) (refuse T13 s) nothing)) h.0 h.1 wanted c.in_ok-wanted.is_initialised T13 s h.2
-    (unfit g c.args.rs s (seen ts k.names e) wanted found.0
-    (λ f. true≢false (sym (c.in_ok-fits_entry.ensures.fit.1 (subst (λ (t : Ty). Fits t wanted) (sym same) f)) ∙ c.if-not-branch.true))))
-
-pub fits_entry-requires-clause-entry : goal.fits_entry-requires-clause-entry
-fits_entry-requires-clause-entry c =
-    entry_grown c.args.types.now c.field_of.new.types c.in_ok-wanted.ensures.grown c.args.self.now.registers.names c.in-Some.entry (c.in-Some.ensures.found c.args.types.now c.requires).1
+    let own = c.in_ok-found.ensures.number.1 ∙ seen_grown ts us c.in_ok-wanted.ensures.grown n e found.1 in
+    let kept = grown_at us vs c.in_ok-found.ensures.grown w h.4 in
+    let same = c.fits_once.ensures.same in
+    says_types c.types_at_odds.result T13 n s (StoreFaultWith n g s c.args.rd c.args.field c.args.rs) (at ws w) (at ws m) (at us w) t
+    (ap (λ (xs : List Ty). at xs w) same ∙ kept) (ap (λ (xs : List Ty). at xs m) same ∙ own) c.types_at_odds.ensures
+    (field_follows g c.args.rd c.args.field s (λ fs u flag. register g c.args.rs s (λ x. fitting T13 n s u x)) h.0 h.1 (at us w) c.in_ok-wanted.is_initialised _ s h.2
+    (unfit T13 n g c.args.rs s t (at us w) found.0
+    (λ f. true≢false (sym (c.fits_once.ensures.fit.1 (subst (λ (u : Ty). Fits u (at vs w)) (sym own) (subst (Fits t) (sym kept) f))) ∙ c.if-not-fits_once.true))))

@@ -2,7 +2,7 @@ use Rattle.std.proofs.Common.{◌∙◌, sym, subst, ap, Result, ℕ}
 use Rattle.t_types.specs.Fits.{RegTypes}
 use Rattle.t_terms.specs.Read.{value}
 use Rattle.t_terms.specs.ReadProgram.{program}
-use Rattle.t_terms.specs.declared.fault.TFault.{TFault}
+use Rattle.t_check.specs.declared.refusal.Refusal.{Refusal}
 use Rattle.t_terms.specs.Tree.{Unpack}
 use Rattle.t_rules.specs.Registers.{with_reg, raised}
 use Rattle.t_rules.specs.Rules.{Has}
@@ -22,7 +22,7 @@ returns-in-None-clause-step c =
     let g = known c.args.types.now k in
     let us = c.type_of_value.new.types in
     let v = value c.args.v.now in
-    subst (λ (r : Result (Unit {0}) TFault). IsStep P us k.names g k c.args.span (Unpack c.args.rd v) r) (sym c.refused.ensures)
+    subst (λ (r : Result (Unit {0}) Refusal). IsStep P us k.names g k c.args.span (Unpack c.args.rd v) r) (sym c.refused.ensures)
     (unpack_other P k.names g c.args.span c.args.rd v (at us c.in_ok-found.found) c.in_ok-found.ensures.typed.1 c.in-None.ensures)
 
 pub returns-clause-step : goal.returns-clause-step

@@ -1,6 +1,6 @@
 use Rattle.std.proofs.Common.{◌<◌, ◌≤◌, ◌∙◌, ap, sym, subst, length, get_or, arith, Result, Some, Bool, false, ℕ}
 use Rattle.text_core.specs.Refusals.{nothing}
-use Rattle.t_terms.specs.declared.fault.TFault.{TFault}
+use Rattle.t_check.specs.declared.refusal.Refusal.{Refusal}
 use Rattle.t_intern.specs.Nodes.{at}
 use Rattle.t_intern.proofs.Walked.{item, field_below}
 use Rattle.t_check.specs.Known.{known}
@@ -19,7 +19,7 @@ returns-then-field-fields-clause-field c =
     let found = c.in-Some.ensures.found ts c.requires in
     let test = c.if-field-fields.true in
     let past : length xs ≤ i = omega arith in
-    subst (λ (r : Result (ℕ × Bool) TFault). IsFieldOf ts k.names (known ts k) c.args.r i c.args.span r) (sym c.refused-then-field-fields.ensures)
+    subst (λ (r : Result (ℕ × Bool) Refusal). IsFieldOf ts k.names (known ts k) c.args.r i c.args.span r) (sym c.refused-then-field-fields.ensures)
     (field_absent (known ts k) c.args.r i c.args.span (λ fs u flag. nothing) (shown_fields ts k.names e xs is found.1 i) (found.0 ∙ ap Some (shown_tuple ts k.names e xs is found.1 i)) (shown_none ts k.names e xs is found.1 i past))
 
 pub shift-requires-clause-there : goal.shift-requires-clause-there

@@ -1,16 +1,37 @@
-use Rattle.std.proofs.Common.{subst}
+use Rattle.std.proofs.Common.{subst, None, Some}
 use Rattle.std.proofs.Math.Logic.{∥∥₁_elim}
 use Rattle.t_terms.specs.Read.{instr}
-use Rattle.t_terms.specs.declared.fault.TFault.{TFault}
-use Rattle.t_rules.specs.Faults.{InstrFault}
-use Rattle.t_check.specs.Verdict.{Says, program_in, known_at}
+use Rattle.t_check.specs.Mismatch.{InstrFaultWith}
+use Rattle.t_check.specs.ReadMismatch.{mismatch}
+use Rattle.t_check.specs.Refusals.{SaysWith}
+use Rattle.t_check.specs.Verdict.{program_in, known_at}
+use Rattle.t_check.specs.declared.refusal.Refusal.{Refusal}
+use Rattle.t_check.proofs.FirstWith.{instr_beside}
 use Rattle.t_check.proofs.checker.Checker.pass_instr.Goals as goal
 
 pub unreachable-requires : goal.unreachable-requires
 unreachable-requires c =
     let k = c.args.self.now in
-    let ts = c.args.types.now in
+    let P = program_in k in
+    let n = k.registers.names in
+    let g = known_at c.args.types.now k in
+    let i = instr c.args.i.now in
+    let s = c.args.span in
     let none : IsProp ⊥ = hlevel in
-    let fault = subst (λ (f : TFault). Says f (InstrFault (program_in k) k.registers.names (known_at ts k) c.args.span (instr c.args.i.now))) c.in-Err-Refused.field-0-is c.in-Err-Refused.ensures.step in
-    ∥∥₁_elim c.requires.typed none (λ t.
-    c.no_fault_where_typed.ensures (program_in k) k.registers.names (known_at ts k) (instr c.args.i.now) t.0 c.args.span c.in-Err-Refused.field-0-0 c.in-Err-Refused.field-0-1 t.1 fault)
+    let code = c.in-Err-Refused.field-0-0 in
+    let span = c.in-Err-Refused.field-0-1 in
+    let fault = subst (λ (f : Refusal). SaysWith f (InstrFaultWith P n g s i)) c.in-Err-Refused.field-0-is c.in-Err-Refused.ensures.step in
+    ∥∥₁_elim c.requires.typed none (λ t. c.no_fault_where_typed.ensures P n g i t.0 s code span t.1 ((instr_beside P n g s i).forget code None span fault))
+
+pub unreachable-requires-in-Err-AtOdds : goal.unreachable-requires-in-Err-AtOdds
+unreachable-requires-in-Err-AtOdds c =
+    let k = c.args.self.now in
+    let P = program_in k in
+    let n = k.registers.names in
+    let g = known_at c.args.types.now k in
+    let i = instr c.args.i.now in
+    let s = c.args.span in
+    let none : IsProp ⊥ = hlevel in
+    let odds = c.in-Err-AtOdds.field-0-0.value in
+    let fault = subst (λ (f : Refusal). SaysWith f (InstrFaultWith P n g s i)) c.in-Err-AtOdds.field-0-is c.in-Err-AtOdds.ensures.step in
+    ∥∥₁_elim c.requires.typed none (λ t. c.no_fault_where_typed.ensures P n g i t.0 s odds.code odds.span t.1 ((instr_beside P n g s i).forget odds.code (Some (mismatch odds.mismatch)) odds.span fault))

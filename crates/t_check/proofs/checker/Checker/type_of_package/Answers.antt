@@ -1,17 +1,15 @@
-use Rattle.std.proofs.Common.{sym, subst, ◌∙◌, ap₂, Result, ℕ, List, true≢false}
+use Rattle.std.proofs.Common.{sym, subst, ◌∙◌, ap, ap₂, Some, List, true≢false}
 use Rattle.t_types.specs.Read.{tree}
 use Rattle.t_types.specs.Fits.{Fits}
 use Rattle.t_types.specs.Tree.{Ty, put, PutFits}
-use Rattle.t_terms.specs.declared.fault.TFault.{TFault}
-use Rattle.t_terms.specs.ReadProgram.{program}
+use Rattle.t_terms.specs.declared.fault.TCode.TheVariants.{T15}
 use Rattle.t_intern.specs.Grown.{IsNumber}
 use Rattle.t_intern.specs.Nodes.{at}
 use Rattle.t_intern.proofs.Growing.{grown_at, grown_next, grown_number}
 use Rattle.t_check.specs.Bounds.{Shallow}
-use Rattle.t_check.specs.Known.{known}
-use Rattle.t_check.specs.Verdict.{IsPacked}
+use Rattle.t_check.specs.Mismatch.{NoPackage, PackFaultWith}
 use Rattle.t_check.proofs.Depth.{shallow, pack_put_fits}
-use Rattle.t_check.proofs.Typing.{pack_unfit}
+use Rattle.t_check.proofs.Typing.{says_noted, says_types, pack_unfit, pack_none}
 use Rattle.t_check.proofs.checker.Checker.type_of_package.Goals as goal
 
 pub put-requires-clause-fits : goal.put-requires-clause-fits
@@ -42,21 +40,41 @@ returns-clause-packed c =
       subst (λ (ts : List Ty). IsNumber ts (tree c.args.shape.now) c.in_ok-shape.shape) (sym c.fits_once.ensures.same) (grown_number us vs later (tree c.args.shape.now) c.in_ok-shape.shape c.in_ok-shape.ensures.number),
     )
 
+pub returns-in-None-clause-packed : goal.returns-in-None-clause-packed
+returns-in-None-clause-packed c =
+    let n = c.args.self.now.registers.names in
+    let ts = c.args.types.now in
+    let us = c.number.new.self in
+    let s = c.args.span in
+    let hidden = tree c.args.hidden.now in
+    let shape = tree c.args.shape.now in
+    let t = at ts c.args.found in
+    let is = c.in_ok-shape.ensures.number.1 in
+    says_noted c.no_package.result (T15, Some (NoPackage (at us c.in_ok-shape.shape) n)) s (PackFaultWith n s hidden t shape) c.no_package.ensures
+    (subst (λ (u : Ty). PackFaultWith n s hidden t shape (T15, Some (NoPackage u n)) s) (sym is) (pack_none n s hidden t shape (λ body e. c.in-None.ensures body (is ∙ e))))
+
 pub returns-then-not-fits_once-clause-packed : goal.returns-then-not-fits_once-clause-packed
 returns-then-not-fits_once-clause-packed c =
+    let n = c.args.self.now.registers.names in
     let ts = c.args.types.now in
     let us = c.number.new.self in
     let ws = c.number-2.new.self in
     let vs = c.put.new.self in
+    let xs = c.fits_once.new.self in
+    let s = c.args.span in
     let later = grown_next us ws vs c.in_ok-hidden.ensures.grown c.in_ok-wanted.ensures.grown in
     let all = grown_next ts us vs c.in_ok-shape.ensures.grown later in
     let is = sym c.in_ok-shape.ensures.number.1 ∙ c.in-Some.ensures.0 in
     let wanted = c.in_ok-wanted.ensures.number.1 ∙ ap₂ (put 0) c.in_ok-hidden.ensures.number.1 (grown_at us ws c.in_ok-hidden.ensures.grown c.in-Some.body c.in-Some.ensures.1) in
     let hidden = tree c.args.hidden.now in
     let shape = tree c.args.shape.now in
-    let t = at ts c.args.found in
+    let m = c.args.found in
+    let w = c.in_ok-wanted.wanted in
+    let t = at ts m in
     let body = at us c.in-Some.body in
-    let own = grown_at ts vs all c.args.found c.requires.found in
-    subst (λ (r : Result ℕ TFault). IsPacked c.fits_once.new.self hidden t shape c.args.span r) (sym c.refused-then-not-fits_once.ensures)
-    (pack_unfit (program c.args.self.now.program.now) c.args.self.now.registers.names (known ts c.args.self.now.registers) c.args.span hidden shape t body is
-    (λ h. true≢false (sym (c.fits_once.ensures.fit.1 (subst (λ (u : Ty). Fits u (at vs c.in_ok-wanted.wanted)) (sym own) (subst (Fits t) (sym wanted) h))) ∙ c.if-not-fits_once.true)))
+    let own = grown_at ts vs all m c.requires.found in
+    let same = c.fits_once.ensures.same in
+    says_types c.types_at_odds.result T15 n s (PackFaultWith n s hidden t shape) (at xs w) (at xs m) (put 0 hidden body) t
+    (ap (λ (ys : List Ty). at ys w) same ∙ wanted) (ap (λ (ys : List Ty). at ys m) same ∙ own) c.types_at_odds.ensures
+    (pack_unfit n s hidden t shape body is
+    (λ h. true≢false (sym (c.fits_once.ensures.fit.1 (subst (λ (u : Ty). Fits u (at vs w)) (sym own) (subst (Fits t) (sym wanted) h))) ∙ c.if-not-fits_once.true)))

@@ -16,7 +16,7 @@ use Rattle.t_check.specs.Refusals.{SaysWith, IsMismatchOf, fault_of}
 use Rattle.t_check.specs.Verdict.{Says}
 use Rattle.t_check.specs.declared.mismatch.Mismatch.{Mismatch}
 use Rattle.t_check.specs.declared.refusal.Refusal.{Refusal}
-use Rattle.t_check.specs.declared.refusal.Refusal.TheVariants.{Memory, Refused, AtOdds}
+use Rattle.t_check.specs.declared.refusal.Refusal.TheVariants.{Memory, Refused, AtOdds, Untold}
 
 module _ (P : SProg) where
   -- what callers see of a refusal
@@ -24,6 +24,7 @@ module _ (P : SProg) where
   said same Memory k = tt
   said same (Refused c s) k = same P c s None k
   said same (AtOdds odds) k = same P odds.value.code odds.value.span (Some (mismatch odds.value.mismatch)) k
+  said same (Untold c s) k = same P c s k.0 k.1
 
   pub no_fault : NoFaultWhereAccepted → Accepted (plain_program P) → (f : TFault) → Says f (ProgramFault P) →
       f ≡ fault.Memory
@@ -50,6 +51,7 @@ module _ (P : SProg) where
     told (AtOdds odds) k (Ok m) is =
         subst (λ (o : Option Mismatch). ProgramFaultWith P c s (mismatch_or_none o)) (sym is)
         (at_it odds.value.code odds.value.span (Some (mismatch odds.value.mismatch)) k)
+    told (Untold d p) k (Ok m) is = absurd is
     told f k (Err e) is = tt
 
   pub one_told : AtMostOneMismatch → (c : TCode) (s : Span) (m : Option plain.Mismatch) → ProgramFaultWith P c s m →

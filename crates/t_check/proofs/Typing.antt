@@ -12,7 +12,7 @@ use Rattle.t_terms.specs.Spanned.{SDatum, plain_datum}
 use Rattle.t_terms.specs.declared.fault.TCode.{TCode}
 use Rattle.t_terms.specs.declared.fault.TCode.TheVariants.{T09, T13, T14, T15, T16}
 use Rattle.t_check.specs.declared.refusal.Refusal.{Refusal}
-use Rattle.t_check.specs.declared.refusal.Refusal.TheVariants.{Memory, Refused, AtOdds}
+use Rattle.t_check.specs.declared.refusal.Refusal.TheVariants.{Memory, Refused, AtOdds, Untold}
 use Rattle.t_rules.specs.Registers.{no_types, inst_file, with_reg}
 use Rattle.t_rules.specs.Rules.{BaseHas, Has, Enters, DatumAccepted}
 use Rattle.t_check.specs.Mismatch.{Note, Types, NoPackage, FaultWith, bare, at_odds, fitting, if_code, if_exists, PackFaultWith, ValueFaultWith, FileFaultWith, EnterFaultWith, InstrFaultWith, DatumFaultWith}
@@ -31,6 +31,7 @@ pub says_map : (f : Refusal) (F G : FaultWith) → ((c : Note) (p : Span) → F 
 says_map Memory F G go h = tt
 says_map (Refused c s) F G go h = go (c, None) s h
 says_map (AtOdds odds) F G go h = go (odds.value.code, Some (mismatch odds.value.mismatch)) odds.value.span h
+says_map (Untold c s) F G go h = (h.0, go (c, h.0) s h.1)
 
 -- a refusal with this note and place says what has it
 pub says_noted : (f : Refusal) (note : Note) (s : Span) (F : FaultWith) → SaysWith f (refuse note s) → F note s → SaysWith f F

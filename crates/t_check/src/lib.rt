@@ -16,6 +16,7 @@ mod program;
 mod refusal;
 mod registers;
 mod salt;
+mod small;
 mod unfit;
 mod values;
 mod walk;

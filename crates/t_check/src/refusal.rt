@@ -10,6 +10,7 @@ ghost use Rattle.t_check.specs.Refusals.{SaysWith, IsMismatchOf, fault_of};
 ghost use Rattle.t_check.specs.declared.refusal.Refusal.TheVariants as refusal;
 
 use crate::mismatch::Mismatch;
+use crate::small::is_small;
 use idx_core::{OutOfMemory, Span};
 use std::alloc::Global;
 use t_intern::Types;
@@ -33,6 +34,8 @@ pub(crate) enum Refusal {
     Refused { code: TCode, span: Span },
     /// The same, with what is at odds.
     AtOdds(Box<AtOdds>),
+    /// The same, where a type that is at odds is too large to be written out.
+    Untold { code: TCode, span: Span },
 }
 
 impl From<OutOfMemory> for Refusal {
@@ -55,10 +58,11 @@ impl Refusal {
                 code: odds.code,
                 span: odds.span,
             },
+            Refusal::Untold { code, span } => TFault::Refused { code, span },
         }
     }
 
-    /// What is at odds. An error is want of memory.
+    /// What is at odds. An error is want of memory, as for a type that is too large.
     pub(crate) fn mismatch(self) -> Result<Option<Mismatch>, OutOfMemory>
         ensures { IsMismatchOf self result }
     {
@@ -69,6 +73,7 @@ impl Refusal {
                 let AtOdds { mismatch, .. } = Box::into_inner(odds);
                 Ok(Some(mismatch))
             }
+            Refusal::Untold { .. } => Err(OutOfMemory),
         }
     }
 }
@@ -112,6 +117,9 @@ pub(crate) fn types_at_odds(types: &Types, code: TCode, span: Span, pair: Pair) 
     ensures { SaysWith result
         (at_odds code (odds.Types (at types.now pair.wanted) (at types.now pair.found) pair.names) span) }
 {
+    if !is_small(types, pair.wanted) || !is_small(types, pair.found) {
+        return Refusal::Untold { code, span };
+    }
     match both_types(types, pair) {
         Ok(mismatch) => noted(types.alloc(), code, span, mismatch),
         Err(_) => Refusal::Memory,
@@ -139,10 +147,14 @@ pub(crate) fn no_package(types: &Types, span: Span, found: u64, names: u64) -> R
     requires { found < length types.now }
     ensures { SaysWith result (at_odds T15 (odds.NoPackage (at types.now found) names) span) }
 {
+    let code = TCode::T15;
+    if !is_small(types, found) {
+        return Refusal::Untold { code, span };
+    }
     match types.tree(found) {
         Ok(found) => noted(
             types.alloc(),
-            TCode::T15,
+            code,
             span,
             Mismatch::NoPackage { found, names },
         ),
@@ -167,8 +179,12 @@ pub(crate) fn register_at_odds(types: &Types, span: Span, reg: Reg) -> Refusal
     ensures { SaysWith result (at_odds T18 (odds.Register reg.register (at types.now reg.wanted)
         (option_map (at types.now) reg.found) reg.names) span) }
 {
+    let code = TCode::T18;
+    if !is_small(types, reg.wanted) || !is_small(types, reg.found.unwrap_or(reg.wanted)) {
+        return Refusal::Untold { code, span };
+    }
     match register_types(types, reg) {
-        Ok(mismatch) => noted(types.alloc(), TCode::T18, span, mismatch),
+        Ok(mismatch) => noted(types.alloc(), code, span, mismatch),
         Err(_) => Refusal::Memory,
     }
 }

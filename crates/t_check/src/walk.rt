@@ -67,6 +67,7 @@ impl Checker<'_> {
             Err(Refusal::Memory) => Err(OutOfMemory),
             Err(Refusal::Refused { .. }) => unreachable!(),
             Err(Refusal::AtOdds(_)) => unreachable!(),
+            Err(Refusal::Untold { .. }) => unreachable!(),
         }
     }
 }

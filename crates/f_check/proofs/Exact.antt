@@ -35,7 +35,8 @@ module _ (typed : PassesWhereTyped) (clear : NoFaultBesideAPass) (one : OneFault
       let r = one e 0 NoTys d c (place p) (place s) k h in ap₂ Refused r.0 (span_is p s r.1)
 
 -- the fault of a failure, without what is at odds in it
-pub alone : IsOfTheFault → (e : Tm) (x : Failure) → Tells x (λ m. FaultBy m e 0 NoTys) → Says (fault_of x) (Fault e 0 NoTys)
+pub alone : IsOfTheFault → (e : Tm) (x : Failure) → Tells x (λ m. FaultBy m e 0 NoTys) →
+    Says (fault_of x) (Fault e 0 NoTys)
 alone law e F.Memory h = tt
 alone law e (F.Refused c s m) h = law e 0 NoTys c (place s) (read m) h
 

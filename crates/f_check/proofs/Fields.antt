@@ -62,7 +62,8 @@ module _ (n : ℕ) (g : Tys) (s : Spn) where
       FaultBy (odds n WTuple t) (SProj s i f) n g E10 q
   proj_tuple i f t q pf ne at = inr (t, pf, pick _ _ t ne (refl, sym at, refl))
     where
-      pick : (o : Refusal) (go : Tys → Refusal) (t : Ty) → ((ts : Tys) → t ≢ TTuple ts) → o E10 q → if_tuple t o go E10 q
+      pick : (o : Refusal) (go : Tys → Refusal) (t : Ty) → ((ts : Tys) → t ≢ TTuple ts) → o E10 q →
+          if_tuple t o go E10 q
       pick o go TInt h k = k
       pick o go (TVar j) h k = k
       pick o go (TArrow a b) h k = k

@@ -23,12 +23,14 @@ none (x ∷ xs) e = absurd (omega (arith, e))
 abbrev pub Enters : ℕ → Frame → List Frame → List Frame → Control → Type 0
 Enters j fr old new c = (c ≡ Run j) × (new ≡ old ++ fr ∷ [])
 
-pub begun : (r : Result Control Failure) (n : FShape) (old new : List Frame) (fr : Frame) (j : ℕ) → IfOk r (Enters j fr old new) → IsOf n fr → children n ≡ j ∷ rest_of fr →
+pub begun : (r : Result Control Failure) (n : FShape) (old new : List Frame) (fr : Frame) (j : ℕ) →
+    IfOk r (Enters j fr old new) → IsOf n fr → children n ≡ j ∷ rest_of fr →
     IfOk r (Begun n old new)
 begun r n old new fr j h is parts =
     IfOk-weaker r (Enters j fr old new) (Begun n old new) (λ c e. subst (Begun n old new) (sym e.0) (fr, e.1, is, parts)) h
 
-pub same_form : (r : Result Control Failure) (n m : FShape) (old new : List Frame) → n ≡ m → IfOk r (Begun m old new) → IfOk r (Begun n old new)
+pub same_form : (r : Result Control Failure) (n m : FShape) (old new : List Frame) → n ≡ m → IfOk r (Begun m old new) →
+    IfOk r (Begun n old new)
 same_form r n m old new e h = subst (λ x. IfOk r (Begun x old new)) (sym e) h
 
 pub resumed : (r : Result Control Failure) (fr more : Frame) (bs : List Bound) (old new : List Frame) (j : ℕ) →

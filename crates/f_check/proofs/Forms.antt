@@ -1,5 +1,6 @@
 -- The verdict on each form, from those on its parts.
-use Rattle.std.proofs.Common.{◌≡◌, ◌≢◌, ◌∙◌, ◌+◌, ◌≤◌, ℕ, Result, Ok, Err, min, ap, sym, refl, subst, arith, inl, inr, Option, None}
+use Rattle.std.proofs.Common.{◌≡◌, ◌≢◌, ◌∙◌, ◌+◌, ◌≤◌, ℕ, Result, Ok, Err, min, ap, sym, refl, subst, arith, inl, inr}
+use Rattle.std.proofs.Common.{Option, None}
 use Rattle.f_terms.specs.TyLaws.{put_bound, unshift}
 use Rattle.f_terms.specs.Ty.{Ty, TInt, TVar, TArrow, TAll, TTuple, TSome, TRef, Tys, shift, put, Below, size, depth}
 use Rattle.f_terms.specs.Tm.{Spn, Tm, SFix, SApp, SGen, SInst, SIf0, SPack, SOpen, SRef, SDeref, SAssign}
@@ -33,7 +34,8 @@ within t d w ed ew h = (omega (arith, ed, h.0), omega (arith, ew, h.1))
 pub limits_of : (t : Ty) (d w : ℕ) (s : Spn) → d ≡ min (depth t) 18446744073709551615 → w ≡ min (size t) 18446744073709551615 →
     (m : Option Mismatch) (c : Code) (p : Spn) → counted d w s m c p → limits_with m t s nothing c p
 limits_of t d w s ed ew m c p (inl h) = inl ((λ x. h.0 (omega (arith, ed, x))), h.1)
-limits_of t d w s ed ew m c p (inr (e, inl k)) = inr (omega (arith, ed, e), inl ((λ x. k.0 (omega (arith, ew, x))), k.1))
+limits_of t d w s ed ew m c p (inr (e, inl k)) =
+    inr (omega (arith, ed, e), inl ((λ x. k.0 (omega (arith, ew, x))), k.1))
 limits_of t d w s ed ew m c p (inr (e, inr k)) = absurd k.1
 
 -- a limit that is passed, whatever is checked after it
@@ -82,7 +84,8 @@ module _ (n : ℕ) (g : Tys) (s : Spn) where
       let h = subst (IsTypeOf f n g) et hf in
       ((a, h.0, subst (Passes x n g) eu px), h.1.1, (omega (arith, h.2.0), omega (arith, h.2.1)))
 
-  pub gen_limit : (b : Tm) (h : Tys) (t : Ty) → raised g ≡ h → Passes b (n + 1) h t → (m : Option Mismatch) (c : Code) (p : Spn) → limits_with m (TAll t) s nothing c p → FaultBy m (SGen s b) n g c p
+  pub gen_limit : (b : Tm) (h : Tys) (t : Ty) → raised g ≡ h → Passes b (n + 1) h t →
+      (m : Option Mismatch) (c : Code) (p : Spn) → limits_with m (TAll t) s nothing c p → FaultBy m (SGen s b) n g c p
   gen_limit b h t up ok m c p k = inr (t, subst (λ y. Passes b (n + 1) y t) (sym up) ok, k)
 
   pub gen_ok : (b : Tm) (h : Tys) (t u : Ty) → raised g ≡ h → IsTypeOf b (n + 1) h t → Within (TAll t) → u ≡ TAll t → IsTypeOf (SGen s b) n g u
@@ -102,7 +105,8 @@ module _ (n : ℕ) (g : Tys) (s : Spn) where
       pick o go (TSome t) h k = k
       pick o go (TRef t) h k = k
 
-  pub inst_limit : (f : Tm) (a t b : Ty) → Passes f n g t → t ≡ TAll b → (m : Option Mismatch) (c : Code) (p : Spn) → limits_with m a s (limits_with m (put 0 a b) s nothing) c p → FaultBy m (SInst s f a) n g c p
+  pub inst_limit : (f : Tm) (a t b : Ty) → Passes f n g t → t ≡ TAll b → (m : Option Mismatch) (c : Code) (p : Spn) →
+      limits_with m a s (limits_with m (put 0 a b) s nothing) c p → FaultBy m (SInst s f a) n g c p
   inst_limit f a t b pf et m c p k = inr (TAll b, subst (Passes f n g) et pf, k)
 
   pub inst_ok : (f : Tm) (a t b u : Ty) → IsTypeOf f n g t → t ≡ TAll b → Below n a → (u ≡ put 0 a b) × Within a × Within (put 0 a b) → IsTypeOf (SInst s f a) n g u
@@ -169,12 +173,14 @@ module _ (n : ℕ) (g : Tys) (s : Spn) where
   pack_limit h r b e is w m c p k =
       pack_is h r b e is m c p (inr (w.0, inr (w.1, limits_then r s (pack_rest m h b e) m c p k)))
 
-  pub pack_part : (h r b : Ty) (e : Tm) → r ≡ TSome b → Within h → Within r → (m : Option Mismatch) (c : Code) (p : Spn) →
+  pub pack_part : (h r b : Ty) (e : Tm) → r ≡ TSome b → Within h → Within r →
+      (m : Option Mismatch) (c : Code) (p : Spn) →
       FaultBy m e n g c p → FaultBy m (SPack s h e r) n g c p
   pack_part h r b e is w v m c p k = pack_is h r b e is m c p (inr (w.0, inr (w.1, inr (v.0, inr (v.1, inl k)))))
 
   pub pack_other : (h r b t : Ty) (e : Tm) (q : Spn) → r ≡ TSome b → Within h → Within r → Passes e n g t →
-      t ≢ put 0 h b → Within (put 0 h b) → span_of e ≡ q → FaultBy (odds n (WType (put 0 h b)) t) (SPack s h e r) n g E17 q
+      t ≢ put 0 h b → Within (put 0 h b) → span_of e ≡ q → FaultBy (odds n (WType (put 0 h b)) t) (SPack s h e r) n g
+      E17 q
   pack_other h r b t e q is w v ok ne wi at = pack_is h r b e is (odds n (WType (put 0 h b)) t) E17 q
       (inr (w.0, inr (w.1, inr (v.0, inr (v.1, inr (t, ok, inl (ne, inr (wi, (refl, sym at, refl)))))))))
 
@@ -192,7 +198,8 @@ module _ (n : ℕ) (g : Tys) (s : Spn) where
       FaultBy (odds n WPackage t) (SOpen s a b) n g E16 q
   open_first a b t q ok ne at = inr (t, ok, by_some _ t q _ ne (refl, sym at, refl))
 
-  pub open_second : (a b : Tm) (u : Ty) → Passes a n g (TSome u) → (m : Option Mismatch) (c : Code) (p : Spn) → FaultBy m b (n + 1) (in_open u g) c p → FaultBy m (SOpen s a b) n g c p
+  pub open_second : (a b : Tm) (u : Ty) → Passes a n g (TSome u) → (m : Option Mismatch) (c : Code) (p : Spn) →
+      FaultBy m b (n + 1) (in_open u g) c p → FaultBy m (SOpen s a b) n g c p
   open_second a b u ok m c p k = inr (TSome u, ok, inl k)
 
   pub open_escapes : (a b : Tm) (u v : Ty) (q : Spn) → Passes a n g (TSome u) → Passes b (n + 1) (in_open u g) v →
@@ -214,7 +221,8 @@ module _ (n : ℕ) (g : Tys) (s : Spn) where
       ((u, low, ok, subst (Passes b (n + 1) (in_open u g)) e h.0), low, unshift_within 1 t (subst Within e h.2))
 
   -- references
-  pub ref_limit : (e : Tm) (t : Ty) → Passes e n g t → (m : Option Mismatch) (c : Code) (p : Spn) → limits_with m (TRef t) s nothing c p → FaultBy m (SRef s e) n g c p
+  pub ref_limit : (e : Tm) (t : Ty) → Passes e n g t → (m : Option Mismatch) (c : Code) (p : Spn) →
+      limits_with m (TRef t) s nothing c p → FaultBy m (SRef s e) n g c p
   ref_limit e t ok m c p k = inr (t, ok, k)
 
   pub ref_ok : (e : Tm) (t u : Ty) → IsTypeOf e n g t → Within (TRef t) → u ≡ TRef t → IsTypeOf (SRef s e) n g u

@@ -131,7 +131,11 @@ wanted_is_too_deep =
             inr (
               TInt,
               refl,
-              inl (λ e. no_int 149 hidden (e ∙ is), inl (λ h. omega (arith, h.0, deep, refs_depth 150 TInt), (refl, refl, refl))),
+              inl (
+                λ e. no_int 149 hidden (e ∙ is),
+                inl
+                    (λ h. omega (arith, h.0, deep, refs_depth 150 TInt), (refl, refl, refl)),
+              ),
             ),
           ),
         ),

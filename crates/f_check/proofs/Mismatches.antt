@@ -45,7 +45,8 @@ said_check {P = P} {f = f} {r = r} {fw = fw} {rw = rw} x y = record { said = sai
     back m c p (inl h) = inl (h.0, x.back m c p h.1)
     back m c p (inr h) = inr (h.0, y.back m c p h.1)
 
-    once : (m k : Option Mismatch) (c d : Code) (p q : Spn) → check P (fw m) (rw m) c p → check P (fw k) (rw k) d q → m ≡ k
+    once : (m k : Option Mismatch) (c d : Code) (p q : Spn) → check P (fw m) (rw m) c p → check P (fw k) (rw k) d q →
+        m ≡ k
     once m k c d p q (inl h) (inl i) = x.once m k c d p q h.1 i.1
     once m k c d p q (inl h) (inr i) = absurd (h.0 i.0)
     once m k c d p q (inr h) (inl i) = absurd (i.0 h.0)
@@ -55,7 +56,8 @@ said_part : {A : Type 0} {f : Refusal} {Ok : A → Type 0} {r : A → Refusal} {
     {rw : A → Option Mismatch → Refusal} → Said f fw → ((t : A) (c : Code) (p : Spn) → Ok t → f c p → ⊥) →
     ((t u : A) → Ok t → Ok u → t ≡ u) → ((t : A) → Said (r t) (rw t)) →
     Said (part f Ok r) (λ m. part (fw m) Ok (λ t. rw t m))
-said_part {A = A} {f = f} {Ok = Ok} {r = r} {fw = fw} {rw = rw} x clear same y = record { said = said; back = back; once = once }
+said_part {A = A} {f = f} {Ok = Ok} {r = r} {fw = fw} {rw = rw} x clear same y =
+    record { said = said; back = back; once = once }
   where
     said : (c : Code) (p : Spn) → part f Ok r c p → (m : Option Mismatch) × part (fw m) Ok (λ t. rw t m) c p
     said c p (inl h) = let z = x.said c p h in (z.0, inl z.1)

@@ -1,5 +1,6 @@
 -- What comes after the type of a part.
-use Rattle.std.proofs.Common.{◌≡◌, ◌≢◌, ℕ, ◌+◌, ◌-◌, ◌<◌, ◌≤◌, ◌∙◌, refl, ap, ap₂, sym, subst, arith, List, [], ◌∷◌, ◌++◌, map, length, take, Vec, Global, Bor, Result, Ok, Err, Option, Some, None, inl, inr}
+use Rattle.std.proofs.Common.{◌≡◌, ◌≢◌, ℕ, ◌+◌, ◌-◌, ◌<◌, ◌≤◌, ◌∙◌, refl, ap, ap₂, sym, subst, arith, List, [], ◌∷◌}
+use Rattle.std.proofs.Common.{◌++◌, map, length, take, Vec, Global, Bor, Result, Ok, Err, Option, Some, None, inl, inr}
 use Rattle.std.proofs.lemmas.List.Elements.{All-head, All-tail, All-same}
 use Rattle.idx_core.specs.declared.span.Span.{Span}
 use Rattle.f_terms.specs.Ty.{Ty, Tys, TInt, TArrow, TAll, TTuple, TSome, TRef, NoTys, shift, put, ShiftFits, tys, Below}
@@ -20,8 +21,8 @@ use Rattle.f_terms.specs.ReadTerm.{count, node_at}
 use Rattle.f_terms.specs.declared.node.FTerm.{FTerm}
 use Rattle.f_check.specs.Scopes.{Bound, bound, IsScope}
 use Rattle.f_check.specs.Verdict.{IsTypeOf}
-use Rattle.f_check.specs.Mismatch.{Mismatch, Wanted, WType, WFunction, WPolymorphic, WTuple, WField, WPackage, WReference}
-use Rattle.f_check.specs.Mismatch.{WOutside, odds, limits_with, FaultBy}
+use Rattle.f_check.specs.Mismatch.{Mismatch, Wanted, WType, WFunction, WPolymorphic, WTuple, WField, WPackage}
+use Rattle.f_check.specs.Mismatch.{WReference, WOutside, odds, limits_with, FaultBy}
 use Rattle.f_check.specs.Told.{read, Tells, IsPut, IsFound}
 use Rattle.f_check.specs.declared.mismatch.Mismatch as M
 use Rattle.f_check.specs.declared.failure.Failure.{Failure}
@@ -66,7 +67,8 @@ module _ (f : FTerm) (st : State) (w : Task) (hold : Holds f st w) where
       (subst (λ z. FaultBy (read x) z w.around (context w) c (place s)) (sym is)
       (subst (λ z. FaultBy z e w.around (context w) c (place s)) (sym ex) k)))
 
-  pub faulty : (e : Tm) (x : Failure) → w.e ≡ e → Tells x (λ m. FaultBy m e w.around (context w)) → Tells x (FaultOf (top f))
+  pub faulty : (e : Tm) (x : Failure) → w.e ≡ e → Tells x (λ m. FaultBy m e w.around (context w)) →
+      Tells x (FaultOf (top f))
   faulty e x is k = fails f st w hold x (subst (λ z. Tells x (λ m. FaultBy m z w.around (context w))) (sym is) k)
 
   -- a form has its type
@@ -126,7 +128,8 @@ module _ (f : FTerm) (st : State) (ty : FType) (q : Span) where
       (forms.app_fun w.around (context w) (place s) h.0 (node_at f x) (tree ty) (place q)
       (same_type (C.Function s x) h h.4.2).0 ne h.3)
 
-  pub arg_refused : (s : Span) (a r : FType) → Offered f st (C.Argument s a r) ty q → (z : Result Control Failure) (m : ℕ) →
+  pub arg_refused : (s : Span) (a r : FType) → Offered f st (C.Argument s a r) ty q →
+      (z : Result Control Failure) (m : ℕ) →
       Stops st E08 q (WType (tree a)) (tree ty) z → tree ty ≢ tree a → Goes f st z m
   arg_refused s a r h z m k ne =
       let w = h.1 in
@@ -145,11 +148,13 @@ module _ (f : FTerm) (st : State) (ty : FType) (q : Span) where
   gen_type : (s : Span) (h : Offered f st (C.Gen s) ty q) → IsTypeOf h.0 (h.1.around + 1) (raised (context h.1)) (tree ty)
   gen_type s h = in_gen (now st h.0) h.1 h.4.1 h.4.2 h.4.3 (λ n g. IsTypeOf h.0 n g (tree ty)) h.2
 
-  pub gen_refused : (s : Span) → Offered f st (C.Gen s) ty q → (x : Failure) → Tells x (λ m. limits_with m (TAll (tree ty)) (place s) nothing) → Tells x (FaultOf (top f))
+  pub gen_refused : (s : Span) → Offered f st (C.Gen s) ty q → (x : Failure) →
+      Tells x (λ m. limits_with m (TAll (tree ty)) (place s) nothing) → Tells x (FaultOf (top f))
   gen_refused s h x k =
       let w = h.1 in
       faulty f st w h.5 (SGen (place s) h.0) x h.4.0
-      (forms.tells_map x _ (λ m. FaultBy m (SGen (place s) h.0) w.around (context w)) (forms.gen_limit w.around (context w) (place s) h.0 (raised (context w)) (tree ty) refl (gen_type s h).0) k)
+      (forms.tells_map x _ (λ m. FaultBy m (SGen (place s) h.0) w.around (context w))
+      (forms.gen_limit w.around (context w) (place s) h.0 (raised (context w)) (tree ty) refl (gen_type s h).0) k)
 
   pub gen_given : (s : Span) → Offered f st (C.Gen s) ty q → (t : FType) → tree t ≡ TAll (tree ty) → Within (TAll (tree ty)) → Goes f (record st { around = st.around - 1 }) (Ok (Give t s T.Int)) (offer_work f st [])
   gen_given s h t et wi =
@@ -159,7 +164,8 @@ module _ (f : FTerm) (st : State) (ty : FType) (q : Span) where
       (forms.gen_ok w.around (context w) (place s) h.0 (raised (context w)) (tree ty) (tree t) refl (gen_type s h) wi et) refl (omega arith)
 
   -- a type application
-  pub inst_refused : (s : Span) (a : Bor FType) → Offered f st (C.Inst s a) ty q → (z : Result Control Failure) (m : ℕ) →
+  pub inst_refused : (s : Span) (a : Bor FType) → Offered f st (C.Inst s a) ty q →
+      (z : Result Control Failure) (m : ℕ) →
       Stops st E09 q WPolymorphic (tree ty) z → ((b : Ty) → tree ty ≢ TAll b) → Goes f st z m
   inst_refused s a h z m k ne =
       let w = h.1 in
@@ -177,7 +183,8 @@ module _ (f : FTerm) (st : State) (ty : FType) (q : Span) where
       let room = h.4.1.2 in
       put_fits h.1.around (tree a.now) (tree b) (omega (arith, room)) (inst_below s a h) small (omega (arith, wi.0))
 
-  inst_put : (s : Span) (a : Bor FType) (h : Offered f st (C.Inst s a) ty q) (b : FType) → tree ty ≡ TAll (tree b) → (r : Result FType Failure) → IsPut (tree a.now) (tree b) (place s) r →
+  inst_put : (s : Span) (a : Bor FType) (h : Offered f st (C.Inst s a) ty q) (b : FType) → tree ty ≡ TAll (tree b) →
+      (r : Result FType Failure) → IsPut (tree a.now) (tree b) (place s) r →
       IsFound (SInst (place s) h.0 (tree a.now)) h.1.around (context h.1) r
   inst_put s a h b eb r put =
       forms.inst_put h.1.around (context h.1) (place s) h.0 (tree a.now) (tree ty) (tree b) (same_type (C.Inst s a) h h.4.2) eb (inst_below s a h) r put
@@ -187,7 +194,8 @@ module _ (f : FTerm) (st : State) (ty : FType) (q : Span) where
       let w = h.1 in
       given f st w h.5 T.Int st (SInst (place s) h.0 (tree a.now)) t s (offer_work f st []) refl (task_is w st.around (map bound st.scope.items) h.4.2.0 h.4.2.1) h.4.0 (inst_put s a h b eb (Ok t) put) refl (omega arith)
 
-  pub inst_faulty : (s : Span) (a : Bor FType) → Offered f st (C.Inst s a) ty q → (b : FType) (x : Failure) → tree ty ≡ TAll (tree b) → IsPut (tree a.now) (tree b) (place s) (Err x) → Tells x (FaultOf (top f))
+  pub inst_faulty : (s : Span) (a : Bor FType) → Offered f st (C.Inst s a) ty q → (b : FType) (x : Failure) →
+      tree ty ≡ TAll (tree b) → IsPut (tree a.now) (tree b) (place s) (Err x) → Tells x (FaultOf (top f))
   inst_faulty s a h b x eb put = faulty f st h.1 h.5 (SInst (place s) h.0 (tree a.now)) x h.4.0 (inst_put s a h b eb (Err x) put)
 
   -- a projection
@@ -200,7 +208,8 @@ module _ (f : FTerm) (st : State) (ty : FType) (q : Span) where
       (fields.proj_tuple w.around (context w) (place s) i h.0 (tree ty) (place q)
       (same_type (C.Proj s i) h h.4.2).0 ne h.3)
 
-  pub proj_missing : (s : Span) (i : ℕ) → Offered f st (C.Proj s i) ty q → (ts : Tys) (z : Result Control Failure) (m : ℕ) →
+  pub proj_missing : (s : Span) (i : ℕ) → Offered f st (C.Proj s i) ty q →
+      (ts : Tys) (z : Result Control Failure) (m : ℕ) →
       Stops st E11 s WField (tree ty) z → tree ty ≡ TTuple ts → field_ty ts i ≡ None → Goes f st z m
   proj_missing s i h ts z m k et none =
       let w = h.1 in
@@ -219,7 +228,8 @@ module _ (f : FTerm) (st : State) (ty : FType) (q : Span) where
       Stops st E12 q (WType TInt) (tree ty) z → tree ty ≢ TInt → Goes f st z m
   left_refused s b h z m k ne =
       let w = h.1 in
-      refused f st w h.5 (SArith (place s) h.4.0 h.0 (node_at f b)) st E12 q k.0 (odds w.around (WType TInt) (tree ty)) z m
+      refused f st w h.5 (SArith (place s) h.4.0 h.0 (node_at f b)) st E12 q k.0 (odds w.around (WType TInt) (tree ty))
+      z m
       k.1 (k.2 ∙ ap (λ n. odds n (WType TInt) (tree ty)) h.4.3.0) h.4.1
       (inr (tree ty, (same_type (C.Left s b) h h.4.3).0, inl (ne, (refl, sym h.3, refl))))
 
@@ -246,11 +256,13 @@ module _ (f : FTerm) (st : State) (ty : FType) (q : Span) where
       (odds w.around (WType TInt) (tree ty)) z m k.1 (k.2 ∙ ap (λ n. odds n (WType TInt) (tree ty)) h.4.2.0) h.4.0
       (inr (tree ty, (same_type (C.Test s a b) h h.4.2).0, inl (ne, (refl, sym h.3, refl))))
 
-  pub other_refused : (s : Span) (zero : FType) → Offered f st (C.Other s zero) ty q → (z : Result Control Failure) (m : ℕ) →
+  pub other_refused : (s : Span) (zero : FType) → Offered f st (C.Other s zero) ty q →
+      (z : Result Control Failure) (m : ℕ) →
       Stops st E13 q (WType (tree zero)) (tree ty) z → tree ty ≢ tree zero → Goes f st z m
   other_refused s zero h z m k ne =
       let w = h.1 in
-      refused f st w h.5 (SIf0 (place s) h.4.0 h.4.1 h.0) st E13 q k.0 (odds w.around (WType (tree zero)) (tree ty)) z m k.1
+      refused f st w h.5 (SIf0 (place s) h.4.0 h.4.1 h.0) st E13 q k.0 (odds w.around (WType (tree zero)) (tree ty))
+      z m k.1
       (k.2 ∙ ap (λ n. odds n (WType (tree zero)) (tree ty)) h.4.4.0) h.4.2
       (forms.if_branches w.around (context w) (place s) h.4.0 h.4.1 h.0 (tree zero) (tree ty) (place q) h.4.5 h.4.6.0
       (same_type (C.Other s zero) h h.4.4).0 ne h.3)
@@ -297,7 +309,8 @@ module _ (f : FTerm) (st : State) (ty : FType) (q : Span) where
       (tuple_ok w.around (context w) (place s) (h.4.0 ++ h.0 ∷ []) (map tree us.items) (tree (T.Tuple us)) (field_passes s ts us rest h eu) (tree_Tuple us) wi) refl (omega arith)
 
   pub field_faulty : (s : Span) (ts us : Vec FType Global) (rest : Bor (List ℕ)) → Offered f st (C.Fields s ts rest) ty q → map tree us.items ≡ map tree ts.items ++ tree ty ∷ [] → length rest.now ≡ 0 →
-      (x : Failure) → Tells x (λ m. limits_with m (TTuple (tys (map tree us.items))) (place s) nothing) → Tells x (FaultOf (top f))
+      (x : Failure) → Tells x (λ m. limits_with m (TTuple (tys (map tree us.items))) (place s) nothing) →
+      Tells x (FaultOf (top f))
   field_faulty s ts us rest h eu z x k =
       let w = h.1 in
       faulty f st w h.5 (STuple (place s) (tms (h.4.0 ++ h.0 ∷ []))) x (no_rest s ts rest h z)
@@ -359,16 +372,20 @@ module _ (f : FTerm) (st : State) (ty : FType) (q : Span) where
       let made = put 0 (tree p.hidden.now) (tree p.body.now) in
       refused f st w h.5 (SPack (place p.span) (tree p.hidden.now) h.0 (tree p.shape.now)) st E17 q k.0
       (odds w.around (WType made) (tree ty)) z m k.1 (k.2 ∙ ap (λ n. odds n (WType made) (tree ty)) h.4.2.0) h.4.0
-      (forms.pack_other w.around (context w) (place p.span) (tree p.hidden.now) (tree p.shape.now) (tree p.body.now) (tree ty)
+      (forms.pack_other w.around (context w) (place p.span) (tree p.hidden.now) (tree p.shape.now) (tree p.body.now)
+      (tree ty)
       h.0 (place q) h.4.3 h.4.4 h.4.5 (same_type (C.Pack p) h h.4.2).0 ne wi h.3)
 
-  pub pack_large : (p : Packing) → Offered f st (C.Pack p) ty q → (z : Result Control Failure) (m : ℕ) → z ≡ Err (Refused E17 q None) →
+  pub pack_large : (p : Packing) → Offered f st (C.Pack p) ty q → (z : Result Control Failure) (m : ℕ) →
+      z ≡ Err (Refused E17 q None) →
       (Within (put 0 (tree p.hidden.now) (tree p.body.now)) → ⊥) → Goes f st z m
   pack_large p h z m ez large =
       let w = h.1 in
-      refused f st w h.5 (SPack (place p.span) (tree p.hidden.now) h.0 (tree p.shape.now)) st E17 q None None z m ez refl
+      refused f st w h.5 (SPack (place p.span) (tree p.hidden.now) h.0 (tree p.shape.now)) st E17 q None None z m ez
+      refl
       h.4.0
-      (forms.pack_large w.around (context w) (place p.span) (tree p.hidden.now) (tree p.shape.now) (tree p.body.now) (tree ty)
+      (forms.pack_large w.around (context w) (place p.span) (tree p.hidden.now) (tree p.shape.now) (tree p.body.now)
+      (tree ty)
       h.0 (place q) h.4.3 h.4.4 h.4.5 (same_type (C.Pack p) h h.4.2).0 (λ e. large (subst Within e h.2.2)) large h.3)
 
   pub pack_small : (p : Packing) → Offered f st (C.Pack p) ty q → Within (tree p.body.now)
@@ -452,7 +469,8 @@ module _ (f : FTerm) (st : State) (ty : FType) (q : Span) where
       let p = opened_type s h in
       shift_fits 1 w.around (outside (tree ty)) (omega (arith, room)) (put_bound w.around TInt (tree ty) tt p.1) (outside_depth (tree ty) p.2.0)
 
-  pub opened_refused : (s : Span) → Offered f st (C.Opened s) ty q → (st' : State) (z : Result Control Failure) (m : ℕ) →
+  pub opened_refused : (s : Span) → Offered f st (C.Opened s) ty q →
+      (st' : State) (z : Result Control Failure) (m : ℕ) →
       Stops st E18 q WOutside (tree ty) z → tree ty ≢ shift 1 0 (outside (tree ty)) → Goes f st' z m
   opened_refused s h st' z m k ne =
       let w = h.1 in
@@ -475,11 +493,13 @@ module _ (f : FTerm) (st : State) (ty : FType) (q : Span) where
       refl (omega arith)
 
   -- references
-  pub ref_refused : (s : Span) → Offered f st (C.Ref s) ty q → (x : Failure) → Tells x (λ m. limits_with m (TRef (tree ty)) (place s) nothing) → Tells x (FaultOf (top f))
+  pub ref_refused : (s : Span) → Offered f st (C.Ref s) ty q → (x : Failure) →
+      Tells x (λ m. limits_with m (TRef (tree ty)) (place s) nothing) → Tells x (FaultOf (top f))
   ref_refused s h x k =
       let w = h.1 in
       faulty f st w h.5 (SRef (place s) h.0) x h.4.0
-      (forms.tells_map x _ (λ m. FaultBy m (SRef (place s) h.0) w.around (context w)) (forms.ref_limit w.around (context w) (place s) h.0 (tree ty) (same_type (C.Ref s) h h.4.2).0) k)
+      (forms.tells_map x _ (λ m. FaultBy m (SRef (place s) h.0) w.around (context w))
+      (forms.ref_limit w.around (context w) (place s) h.0 (tree ty) (same_type (C.Ref s) h h.4.2).0) k)
 
   pub ref_given : (s : Span) → Offered f st (C.Ref s) ty q → (t : FType) → tree t ≡ TRef (tree ty) → Within (TRef (tree ty)) → Goes f st (Ok (Give t s T.Int)) (offer_work f st [])
   ref_given s h t et wi =
@@ -516,7 +536,8 @@ module _ (f : FTerm) (st : State) (ty : FType) (q : Span) where
       next f st w h.5 (C.Assigned s u) b (SAssign (place s) h.0 (node_at f b)) h.4.2.0 h.4.2.1 h.4.0 h.4.1 h.4.3 (λ n m k. k.1) (omega arith)
       (h.0, h.4.0, h.4.1, h.4.2, subst (Passes h.0 w.around (context w)) et (same_type (C.Target s b) h h.4.2).0)
 
-  pub assigned_refused : (s : Span) (u : FType) → Offered f st (C.Assigned s u) ty q → (z : Result Control Failure) (m : ℕ) →
+  pub assigned_refused : (s : Span) (u : FType) → Offered f st (C.Assigned s u) ty q →
+      (z : Result Control Failure) (m : ℕ) →
       Stops st E22 q (WType (tree u)) (tree ty) z → tree ty ≢ tree u → Goes f st z m
   assigned_refused s u h z m k ne =
       let w = h.1 in

@@ -1,5 +1,6 @@
 -- The steps of a checker.
-use Rattle.std.proofs.Common.{◌≡◌, ℕ, ◌+◌, ◌*◌, ◌<◌, [], ◌∷◌, ◌++◌, map, refl, ap, ◌∙◌, sym, subst, arith, inl, inr, Ok, Option, Vec, Global}
+use Rattle.std.proofs.Common.{◌≡◌, ℕ, ◌+◌, ◌*◌, ◌<◌, [], ◌∷◌, ◌++◌, map, refl, ap, ◌∙◌, sym, subst, arith, inl, inr}
+use Rattle.std.proofs.Common.{Ok, Option, Vec, Global}
 use Rattle.arena.specs.Stack.{Chain, stack_sum}
 use Rattle.arena.proofs.Stacks.{chain_push, chain_pop, chain_up, sum_push}
 use Rattle.f_terms.specs.Ty.{Ty, Tys, NoTys, MoreTys, TInt, TArrow, TRef}
@@ -77,12 +78,16 @@ module _ (f : FTerm) (m : Option Mismatch) (c : Code) (p : Spn) where
       back e is x = subst (λ z. FaultBy m z w.around (context w) c p) (sym is) x
 
       go : (fr : Frame) → Part f fr t w → FaultOf w m c p
-      go (C.Fix x) h = back _ h.0 (inr (h.4.0, inr (h.4.1, inl (in_body t w (tree x.arg.now) (tree x.res.now) h.2 h.3 (λ n g. FaultBy m t.e n g c p) k))))
+      go (C.Fix x) h =
+          let body = in_body t w (tree x.arg.now) (tree x.res.now) h.2 h.3 (λ n g. FaultBy m t.e n g c p) k in
+          back _ h.0 (inr (h.4.0, inr (h.4.1, inl body)))
       go (C.Function s x) h = back _ h.0 (inl (same h.2))
       go (C.Argument s a r) h = back _ h.1 (inr (TArrow (tree a) (tree r), h.4.0, inl (same h.3)))
       go (C.Gen s) h = back _ h.0 (inl (in_gen t w h.1 h.2 h.3 (λ n g. FaultBy m t.e n g c p) k))
       go (C.Inst s a) h = back _ h.0 (inl (same h.2))
-      go (C.Fields s ts rest) h = back _ h.1 (inl (fault_part w.around (context w) h.0 (map tree ts.items) t.e (map (node_at f) rest.now) h.4 m c p (same h.3)))
+      go (C.Fields s ts rest) h =
+          let more = map (node_at f) rest.now in
+          back _ h.1 (inl (fault_part w.around (context w) h.0 (map tree ts.items) t.e more h.4 m c p (same h.3)))
       go (C.Proj s i) h = back _ h.0 (inl (same h.2))
       go (C.Left s b) h = back _ h.1 (inl (same h.3))
       go (C.Right s) h = back _ h.2 (inr (TInt, h.5, inr (refl, inl (same h.4))))

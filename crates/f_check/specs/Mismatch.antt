@@ -1,5 +1,5 @@
--- What is at odds in the first fault of typing: what a type had to be, and the type that is there. The same recursion as
--- that of the first fault, whose refusals say this besides.
+-- What is at odds in the first fault of typing: what a type had to be, and the type that is there. The recursion is
+-- that of the first fault, and the refusals say this besides.
 use Rattle.std.specs.Prelude.{◌≡◌, ℕ, ◌+◌, Option, Some, None}
 use Rattle.f_terms.specs.Ty.{Ty, TInt, TArrow, TAll, TTuple, TRef, Tys, MoreTys, put}
 use Rattle.f_terms.specs.Tm.{Spn, Tm, SVar, SNum, SFix, SApp, SGen, SInst, STuple, SProj, SArith, SIf0, SLet, SPack}

@@ -9,7 +9,8 @@ use Rattle.f_terms.specs.declared.types.FType.{FType}
 use Rattle.f_terms.specs.declared.fault.Code.TheVariants.{L4, L5}
 use Rattle.f_terms.specs.declared.fault.FFault.{FFault}
 use Rattle.f_terms.specs.declared.fault.FFault.TheVariants as R
-use Rattle.f_check.specs.Mismatch.{Wanted, WType, WFunction, WPolymorphic, WTuple, WField, WPackage, WReference, WOutside}
+use Rattle.f_check.specs.Mismatch.{Wanted, WType, WFunction, WPolymorphic, WTuple, WField, WPackage, WReference}
+use Rattle.f_check.specs.Mismatch.{WOutside}
 use Rattle.f_check.specs.Mismatch.{Mismatch, FaultBy, refuse_with, limits_with}
 use Rattle.f_check.specs.Verdict.{IsTypeOf}
 use Rattle.f_check.specs.declared.mismatch.Wanted as W

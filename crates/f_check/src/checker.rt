@@ -99,8 +99,8 @@ pub fn check(alloc: Global, term: FTerm) -> Result<Typed, (FTerm, FFault)>
 }
 
 /// What is at odds in the first fault of a closed term, E07 to E14, E16 to E18, E21 or E22: what a type had to be, and
-/// the type that is there (own choice). None where the fault is L4 or L5, or an E17 where the wanted type passes a limit
-/// on types. Errors: want of memory.
+/// the type that is there (own choice). None where the fault is L4 or L5, or an E17 where the wanted type passes a
+/// limit on types. Errors: want of memory.
 pub fn mismatch_of(alloc: Global, term: &FTerm) -> Result<Option<Mismatch>, OutOfMemory>
     requires closed { IsClosed (term_of term.now) }
     requires nodes { nodes (term_of term.now) ≤ 4294967295 }

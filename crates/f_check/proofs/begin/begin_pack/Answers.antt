@@ -17,21 +17,26 @@ use Rattle.f_check.proofs.begin.begin_pack.Goals as goal
 
 pub returns-in-None-clause-goes : goal.returns-in-None-clause-goes
 returns-in-None-clause-goes c =
-    let e = (SPack (place c.args.written.span) (tree c.args.written.hidden.now) (node_at c.args.term.now c.args.inner) (tree c.args.written.shape.now)) in
+    let e = (SPack (place c.args.written.span) (tree c.args.written.hidden.now) (node_at c.args.term.now c.args.inner)
+    (tree c.args.written.shape.now)) in
     let w = now c.args.state.now e in
-    refused c.args.term.now c.args.state.now w c.requires.opens.1 e c.args.state.now E16 c.args.written.span c.odds.result (odds w.around WPackage (tree c.args.written.shape.now)) _ _
+    refused c.args.term.now c.args.state.now w c.requires.opens.1 e c.args.state.now E16 c.args.written.span
+    c.odds.result (odds w.around WPackage (tree c.args.written.shape.now)) _ _
     c.refused.ensures (c.odds.ensures ∙ ap (odds w.around WPackage) c.in_ok-found-in-None.ensures) refl
-    (pack_shape w.around (context w) (place c.args.written.span) (tree c.args.written.hidden.now) (tree c.args.written.shape.now) (node_at c.args.term.now c.args.inner) c.in-None.ensures)
+    (pack_shape w.around (context w) (place c.args.written.span) (tree c.args.written.hidden.now)
+    (tree c.args.written.shape.now) (node_at c.args.term.now c.args.inner) c.in-None.ensures)
 
 pub returns-in_err-limit-clause-goes : goal.returns-in_err-limit-clause-goes
 returns-in_err-limit-clause-goes c =
     let q = err_from_is_err_and c.from_residual-in_err-limit.result c.from_residual-in_err-limit.ensures.1 in
     let x = c.in_err-limit.field-0.0 in
     let h = tree c.args.written.hidden.now in
-    let w = now c.args.state.now (SPack (place c.args.written.span) (tree c.args.written.hidden.now) (node_at c.args.term.now c.args.inner) (tree c.args.written.shape.now)) in
+    let w = now c.args.state.now (SPack (place c.args.written.span) (tree c.args.written.hidden.now)
+    (node_at c.args.term.now c.args.inner) (tree c.args.written.shape.now)) in
     rw (q.1, q.2) (fails c.args.term.now c.args.state.now w c.requires.opens.1 x
     (tells_map x _ (FaultOf w)
-    (λ m d p k. pack_hidden w.around (context w) (place c.args.written.span) h (tree c.args.written.shape.now) (tree c.in-Some.body.now) (node_at c.args.term.now c.args.inner) c.in-Some.ensures m d p
+    (λ m d p k. pack_hidden w.around (context w) (place c.args.written.span) h (tree c.args.written.shape.now)
+    (tree c.in-Some.body.now) (node_at c.args.term.now c.args.inner) c.in-Some.ensures m d p
     (limits_of h _ _ (place c.args.written.span) c.depth.ensures c.size.ensures m d p k))
     c.in_err-limit.ensures.fault))
 
@@ -41,10 +46,12 @@ returns-in_err-limit-2-clause-goes c =
     let x = c.in_err-limit-2.field-0.0 in
     let h = tree c.args.written.hidden.now in
     let r = tree c.args.written.shape.now in
-    let w = now c.args.state.now (SPack (place c.args.written.span) (tree c.args.written.hidden.now) (node_at c.args.term.now c.args.inner) (tree c.args.written.shape.now)) in
+    let w = now c.args.state.now (SPack (place c.args.written.span) (tree c.args.written.hidden.now)
+    (node_at c.args.term.now c.args.inner) (tree c.args.written.shape.now)) in
     rw (q.1, q.2) (fails c.args.term.now c.args.state.now w c.requires.opens.1 x
     (tells_map x _ (FaultOf w)
-    (λ m d p k. pack_limit w.around (context w) (place c.args.written.span) h r (tree c.in-Some.body.now) (node_at c.args.term.now c.args.inner) c.in-Some.ensures
+    (λ m d p k. pack_limit w.around (context w) (place c.args.written.span) h r (tree c.in-Some.body.now)
+    (node_at c.args.term.now c.args.inner) c.in-Some.ensures
     (within h _ _ c.depth.ensures c.size.ensures c.in_ok-limit.ensures.ok) m d p
     (limits_of r _ _ (place c.args.written.span) c.depth-2.ensures c.size-2.ensures m d p k))
     c.in_err-limit-2.ensures.fault))
@@ -52,7 +59,12 @@ returns-in_err-limit-2-clause-goes c =
 pub enter-requires : goal.enter-requires
 enter-requires c =
     pack_enters c.args.term.now c.args.state.now
-    (record { span = c.args.written.span; hidden = c.args.written.hidden; body = c.in-Some.body; shape = c.args.written.shape })
+    (record {
+      span = c.args.written.span;
+      hidden = c.args.written.hidden;
+      body = c.in-Some.body;
+      shape = c.args.written.shape;
+    })
     c.args.inner c.requires.opens c.requires.inside c.in-Some.ensures
     (within (tree c.args.written.hidden.now) _ _ c.depth.ensures c.size.ensures c.in_ok-limit.ensures.ok)
     (within (tree c.args.written.shape.now) _ _ c.depth-2.ensures c.size-2.ensures c.in_ok-limit-2.ensures.ok)
@@ -60,4 +72,10 @@ enter-requires c =
 pub returns-clause-frames : goal.returns-clause-frames
 returns-clause-frames c =
     begun _ (S.Pack c.args.written.hidden.now c.args.inner c.args.written.shape.now) _ _
-    (C.Pack (record { span = c.args.written.span; hidden = c.args.written.hidden; body = c.in-Some.body; shape = c.args.written.shape })) c.args.inner c.enter.ensures.frames (c.args.inner, c.args.written.hidden.now, c.args.written.shape.now, refl) refl
+    (C.Pack (record {
+      span = c.args.written.span;
+      hidden = c.args.written.hidden;
+      body = c.in-Some.body;
+      shape = c.args.written.shape;
+    })) c.args.inner c.enter.ensures.frames
+    (c.args.inner, c.args.written.hidden.now, c.args.written.shape.now, refl) refl

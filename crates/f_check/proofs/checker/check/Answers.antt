@@ -38,7 +38,8 @@ pub returns-in-Err-clause-typed : goal.returns-in-Err-clause-typed
 returns-in-Err-clause-typed c = λ t h.
     let e = spanned c.args.term in
     c.fault_alone.ensures
-    ∙ no_fault c.passes_where_typed.ensures c.no_fault_beside_a_pass.ensures c.one_fault.ensures e t h (fault_of c.in-Err.e)
+    ∙ no_fault c.passes_where_typed.ensures c.no_fault_beside_a_pass.ensures c.one_fault.ensures e t h
+    (fault_of c.in-Err.e)
     (alone c.mismatches_are_of_the_fault.ensures e c.in-Err.e c.in-Err.ensures)
 
 pub returns-in-Err-clause-refused : goal.returns-in-Err-clause-refused

@@ -15,6 +15,10 @@ returns-then-put_size-gt-SIZE c = λ h.
 
 pub returns : goal.returns
 returns c =
-    let d = depth_made (tree c.args.what.now) (tree c.args.body.now) c.depth.result c.put_depth.result c.depth.ensures (omega (arith, c.depth.ensures, c.requires.kept.0)) c.put_depth.ensures in
-    let w = size_made (tree c.args.what.now) (tree c.args.body.now) c.size.result c.put_size.result c.size.ensures (omega (arith, c.size.ensures, c.requires.kept.1)) c.put_size.ensures in
-    (c.in_ok-made.ensures, (omega (arith, d, c.if-put_depth-gt-DEPTH.false), omega (arith, w, c.if-put_size-gt-SIZE.false)))
+    let d = depth_made (tree c.args.what.now) (tree c.args.body.now) c.depth.result c.put_depth.result c.depth.ensures
+    (omega (arith, c.depth.ensures, c.requires.kept.0)) c.put_depth.ensures in
+    let w = size_made (tree c.args.what.now) (tree c.args.body.now) c.size.result c.put_size.result c.size.ensures
+    (omega (arith, c.size.ensures, c.requires.kept.1)) c.put_size.ensures in (
+      c.in_ok-made.ensures,
+      (omega (arith, d, c.if-put_depth-gt-DEPTH.false), omega (arith, w, c.if-put_size-gt-SIZE.false)),
+    )

@@ -14,7 +14,8 @@ use Rattle.f_check.proofs.Forms.{within, limits_of, limits_then, tells_map}
 use Rattle.f_check.proofs.put.put_within.Goals as goal
 
 -- a fault that is passed on
-passed : (s t : Ty) (p : Spn) (r : Result FType Failure) (e f : Failure) → r ≡ Err e → e ≡ f → IsPut s t p (Err f) → IsPut s t p r
+passed : (s t : Ty) (p : Spn) (r : Result FType Failure) (e f : Failure) → r ≡ Err e → e ≡ f → IsPut s t p (Err f) →
+    IsPut s t p r
 passed s t p r e f q k h = subst (IsPut s t p) (sym (q ∙ ap (λ x. Err x) k)) h
 
 pub returns-in_err-limit : goal.returns-in_err-limit
@@ -45,7 +46,8 @@ returns-in_err-limit-2 c =
         w.1,
         limits_of (put 0 s t) _ _ p
             (depth_made s t c.depth-deep.result _ c.depth-deep.ensures c.in_ok-limit.ensures.ok.0 c.put_depth-made_deep.ensures)
-            (size_made s t c.size-wide.result _ c.size-wide.ensures c.in_ok-limit.ensures.ok.1 c.put_size-made_wide.ensures) m d q h,
+            (size_made s t c.size-wide.result _ c.size-wide.ensures c.in_ok-limit.ensures.ok.1
+            c.put_size-made_wide.ensures) m d q h,
       ),
     ))
     c.in_err-limit-2.ensures.fault)

@@ -6,12 +6,14 @@ use Rattle.f_check.specs.Mismatch.{WType, odds}
 use Rattle.f_check.proofs.resume.after_fix.Goals as goal
 
 pub returns-then-not-eq-clause-goes : goal.returns-then-not-eq-clause-goes
-returns-then-not-eq-clause-goes c = fix_refused c.args.term.now c.args.state.now c.args.part.ty c.args.part.span c.args.head c.requires (record c.args.state.now { scope = c.leave.new.scope }) _ _ (
-  c.odds-mismatch.result,
-  c.refused.ensures,
-  c.odds-mismatch.ensures
-      ∙ ap (λ t. odds c.args.state.now.around (WType t) (tree c.args.part.ty)) c.in_ok-wanted.ensures,
-)
+returns-then-not-eq-clause-goes c =
+    fix_refused c.args.term.now c.args.state.now c.args.part.ty c.args.part.span c.args.head c.requires
+    (record c.args.state.now { scope = c.leave.new.scope }) _ _ (
+      c.odds-mismatch.result,
+      c.refused.ensures,
+      c.odds-mismatch.ensures
+          ∙ ap (λ t. odds c.args.state.now.around (WType t) (tree c.args.part.ty)) c.in_ok-wanted.ensures,
+    )
     (λ e. absurd (true≢false (sym (c.if-not-eq.ensures.1 e))))
 
 pub returns-clause-goes : goal.returns-clause-goes

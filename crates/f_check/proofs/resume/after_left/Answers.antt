@@ -7,7 +7,8 @@ use Rattle.f_check.specs.declared.frame.Frame.TheVariants as C
 use Rattle.f_check.proofs.resume.after_left.Goals as goal
 
 pub returns-then-not-is_int-clause-goes : goal.returns-then-not-is_int-clause-goes
-returns-then-not-is_int-clause-goes c = left_refused c.args.term.now c.args.state.now c.args.part.ty c.args.part.span c.args.span c.args.b c.requires _ _
+returns-then-not-is_int-clause-goes c =
+    left_refused c.args.term.now c.args.state.now c.args.part.ty c.args.part.span c.args.span c.args.b c.requires _ _
     (c.odds-mismatch.result, c.refused.ensures, c.odds-mismatch.ensures)
     (λ e. absurd (true≢false (sym (c.if-not-is_int.ensures.1 e))))
 

@@ -9,8 +9,12 @@ use Rattle.f_check.proofs.resume.after_open.Goals as goal
 pub returns-in-Err-clause-goes : goal.returns-in-Err-clause-goes
 returns-in-Err-clause-goes c =
     let a = c.args in
-    open_refused a.term.now a.state.now a.part.ty a.part.span a.span a.b c.requires _ _
-    (c.odds-mismatch.result, c.refused.ensures, c.odds-mismatch.ensures ∙ ap (odds c.args.state.now.around WPackage) c.in-Err.ensures.0)
+    open_refused a.term.now a.state.now a.part.ty a.part.span a.span a.b c.requires _ _ (
+      c.odds-mismatch.result,
+      c.refused.ensures,
+      c.odds-mismatch.ensures ∙ ap (odds c.args.state.now.around WPackage)
+          c.in-Err.ensures.0,
+    )
     c.in-Err.ensures.1
 
 pub enter-requires : goal.enter-requires

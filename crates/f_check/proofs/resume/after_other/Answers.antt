@@ -4,7 +4,9 @@ use Rattle.f_check.proofs.Follows.{gone}
 use Rattle.f_check.proofs.resume.after_other.Goals as goal
 
 pub returns-then-not-eq-clause-goes : goal.returns-then-not-eq-clause-goes
-returns-then-not-eq-clause-goes c = other_refused c.args.term.now c.args.state.now c.args.part.ty c.args.part.span c.args.span c.args.zero c.requires _ _
+returns-then-not-eq-clause-goes c =
+    other_refused c.args.term.now c.args.state.now c.args.part.ty c.args.part.span c.args.span c.args.zero
+    c.requires _ _
     (c.odds-mismatch.result, c.refused.ensures, c.odds-mismatch.ensures)
     (λ e. absurd (true≢false (sym (c.if-not-eq.ensures.1 e))))
 

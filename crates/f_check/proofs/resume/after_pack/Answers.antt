@@ -27,4 +27,5 @@ returns-then-not-eq-clause-goes c =
 pub returns-clause-goes : goal.returns-clause-goes
 returns-clause-goes c =
     let made = subst (IsPutOrNone (tree c.args.packing.hidden.now) (tree c.args.packing.body.now)) c.in-Some.is c.in_ok-wanted.ensures in
-    pack_given c.args.term.now c.args.state.now c.args.part.ty c.args.part.span c.args.packing c.requires c.in_ok-ty.ty (c.if-not-eq.ensures.0 refl ∙ made.0) c.in_ok-ty.ensures
+    pack_given c.args.term.now c.args.state.now c.args.part.ty c.args.part.span c.args.packing c.requires c.in_ok-ty.ty
+    (c.if-not-eq.ensures.0 refl ∙ made.0) c.in_ok-ty.ensures

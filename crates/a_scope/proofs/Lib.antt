@@ -1,3 +1,4 @@
 pub mod Filling
+pub mod Parts
 pub mod Scopes
 pub mod Tuples

@@ -15,7 +15,7 @@ use Rattle.a_terms.specs.declared.nodes.AWrap.TheVariants.{Apply, Pack}
 use Rattle.a_terms.specs.declared.nodes.ABlock.{ABlock}
 use Rattle.a_terms.specs.TypeLaws.{field_shift, body_shift}
 use Rattle.a_scope.proofs.Filling.{filled_shift, field_filled_to, body_filled_to}
-use Rattle.a_scope.specs.Scope.{filled_to, noted, shown, scope, homes, Under, Stands, Held, wrap_type, decl_ty}
+use Rattle.a_scope.specs.Scope.{filled_to, noted, noted_type, shown, scope, homes, Under, Stands, Held, wrap_type, decl_ty}
 use Rattle.a_scope.specs.declared.scope.Entry.{Entry}
 
 -- places in lists
@@ -173,27 +173,56 @@ same_stands p k es v e f h u t n =
 
 pub filled_stands : (p : a.AProg) (k : ℕ) (es : List Entry) (v : a.AVal) (e f : Entry) (i m : ℕ) →
     Held p k es v e → Under k es → ((t : a.ATy) → filled_to m t ≡ filled_of i (Some (filled_to e.filled t))) →
-    noted f ≡ filled_to m (atree e.ty.value) → f.names ≡ e.names → Stands k (filled_of i (type_of p (scope k es) v)) f
+    noted f ≡ filled_to m (noted_type e.ty) → f.names ≡ e.names → Stands k (filled_of i (type_of p (scope k es) v)) f
 filled_stands p k es v e f i m h u step t n = (
-  same_names k e f (filled_to m (atree e.ty.value)) t n ∙ ap (ashift (k - e.names) 0) (step (atree e.ty.value))
+  same_names k e f (filled_to m (noted_type e.ty)) t n ∙ ap (ashift (k - e.names) 0) (step (noted_type e.ty))
       ∙ sym (filled_shift (k - e.names) i (noted e)) ∙ ap (filled_of i) h.0,
   subst (λ m. m ≤ k) (sym n) (h.1 u),
 )
 
 -- parts of a variable's type
 pub entry_field : (k i : ℕ) (e : Entry) →
-    ashift (k - e.names) 0 (field_of i (Some (atree e.ty.value))) ≡ field_of i (Some (shown k e))
-entry_field k i e = ap (ashift (k - e.names) 0) (sym (field_filled_to i e.filled (atree e.ty.value)))
+    ashift (k - e.names) 0 (field_of i (Some (noted_type e.ty))) ≡ field_of i (Some (shown k e))
+entry_field k i e = ap (ashift (k - e.names) 0) (sym (field_filled_to i e.filled (noted_type e.ty)))
     ∙ sym (field_shift (k - e.names) i (noted e))
 
 pub entry_body : (k : ℕ) (e : Entry) → e.filled ≡ 0 →
-    ashift (k - e.names) 1 (body_of (Some (atree e.ty.value))) ≡ body_of (Some (shown k e))
-entry_body k e none = ap (λ n. ashift (k - e.names) 1 (body_of (Some (filled_to n (atree e.ty.value))))) (sym none)
+    ashift (k - e.names) 1 (body_of (Some (noted_type e.ty))) ≡ body_of (Some (shown k e))
+entry_body k e none = ap (λ n. ashift (k - e.names) 1 (body_of (Some (filled_to n (noted_type e.ty))))) (sym none)
     ∙ sym (body_shift (k - e.names) (noted e))
 
 pub entry_hides : (k : ℕ) (e : Entry) → 1 ≤ e.filled → a.AInt ≡ body_of (Some (shown k e))
-entry_hides k e some = ap (ashift (k - e.names) 1) (sym (body_filled_to e.filled (atree e.ty.value) some))
+entry_hides k e some = ap (ashift (k - e.names) 1) (sym (body_filled_to e.filled (noted_type e.ty) some))
     ∙ sym (body_shift (k - e.names) (noted e))
+
+-- variables for the parts of a variable's type: those of a type that is lent, and those that are made
+pub field_stands : (k i : ℕ) (e f : Entry) → noted f ≡ field_of i (Some (noted_type e.ty)) → f.names ≡ e.names →
+    e.names ≤ k → Stands k (field_of i (Some (shown k e))) f
+field_stands k i e f t n le = (
+  same_names k e f (field_of i (Some (noted_type e.ty))) t n ∙ entry_field k i e,
+  subst (λ m. m ≤ k) (sym n) le,
+)
+
+pub field_made : (k i b : ℕ) (e f : Entry) (t : a.ATy) → b ≡ k - e.names → t ≡ noted_type e.ty →
+    Stands k (ashift b 0 (field_of i (Some t))) f → Stands k (field_of i (Some (shown k e))) f
+field_made k i b e f t is same h =
+    (h.0 ∙ ap₂ (λ n u. ashift n 0 (field_of i (Some u))) is same ∙ entry_field k i e, h.1)
+
+pub body_made : (k m b : ℕ) (e f : Entry) (t : a.ATy) → b ≡ k - e.names → t ≡ noted_type e.ty → e.filled ≡ 0 →
+    Stands m (ashift b 1 (body_of (Some t))) f → Stands m (body_of (Some (shown k e))) f
+body_made k m b e f t is same none h =
+    (h.0 ∙ ap₂ (λ n u. ashift n 1 (body_of (Some u))) is same ∙ entry_body k e none, h.1)
+
+pub body_none : (b : ℕ) (t : a.ATy) → b ≡ 0 → body_of (Some t) ≡ ashift b 1 (body_of (Some t))
+body_none b t none = sym (ap (λ n. ashift n 1 (body_of (Some t))) none ∙ shift_zero_law a_over 1 (body_of (Some t)))
+
+pub body_int : (k m : ℕ) (e f : Entry) → a.AInt ≡ body_of (Some (shown k e)) → noted f ≡ a.AInt → f.names ≡ m →
+    Stands m (body_of (Some (shown k e))) f
+body_int k m e f is t n = (shown_own m f n ∙ t ∙ is, omega (arith, n))
+
+-- a variable whose type was noted where as many names are in scope
+pub own_stands : (k : ℕ) (e : Entry) (t : a.ATy) → noted e ≡ t → e.names ≡ k → Stands k t e
+own_stands k e t is n = (shown_own k e n ∙ is, omega (arith, n))
 
 -- a package, from the last that is put round it
 packed_last : (p : a.AProg) (g : List a.ATy) (v : a.AVal) (ws : List AWrap) (i : ℕ) (x : AWrap) (h s : AType) →

@@ -7,15 +7,24 @@ use Rattle.a_terms.specs.Read.{atree, atrees}
 use Rattle.a_terms.specs.declared.nodes.AWrap.{AWrap}
 use Rattle.a_terms.specs.declared.nodes.AWrap.TheVariants.{Apply, Pack}
 use Rattle.a_scope.specs.declared.scope.Entry.{Entry}
+use Rattle.a_scope.specs.declared.noted.Noted.{Noted}
+use Rattle.a_scope.specs.declared.noted.Noted.TheVariants as N
 
 -- the type with its first n fields initialised besides
 abbrev pub filled_to : ℕ → a.ATy → a.ATy
 filled_to zero t = t
 filled_to (suc n) t = filled_of (suc n) (Some (filled_to n t))
 
+-- a type that was noted
+abbrev pub noted_type : Noted → a.ATy
+noted_type N.Int = a.AInt
+noted_type (N.Lent t) = atree t.now
+noted_type (N.Room ts) = a.ATuple (aunset (atrees ts.now))
+noted_type (N.Made t) = atree t.value
+
 -- a variable's type where it was noted
 abbrev pub noted : Entry → a.ATy
-noted e = filled_to e.filled (atree e.ty.value)
+noted e = filled_to e.filled (noted_type e.ty)
 
 -- a variable's type where k type names are in scope
 abbrev pub shown : ℕ → Entry → a.ATy

@@ -1,60 +1,130 @@
 // Declarations.
 ghost use Rattle.std.specs.Prelude.{◌≡◌, ◌≤◌, ◌++◌, [], ◌∷◌, true, IfOk, OnOk};
-ghost use Rattle.a_terms.specs.Typing.{declared, more_vars};
-ghost use Rattle.a_terms.specs.Read.{atree};
-ghost use Rattle.a_terms.specs.NodeTrees.{a_values, is_decl, a_decl};
+ghost use Rattle.a_terms.specs.Tree.{AProg};
+ghost use Rattle.a_terms.specs.Typing.{type_of, or_int, filled_of as the_filled_of, declared, more_vars};
+ghost use Rattle.a_terms.specs.NodeTrees.{a_value, a_values, is_decl, a_decl};
 ghost use Rattle.a_terms.specs.Arity.{AArity};
 ghost use Rattle.a_terms.specs.Program.{program_in};
-ghost use Rattle.a_scope.specs.Scope.{scope, Under, Stands, decl_ty};
+ghost use Rattle.a_scope.specs.Scope.{scope, Under, Stands, MayStand, decl_ty};
 ghost use Rattle.a_scope.specs.declared.scope.Entry.{Entry as TheEntry};
 
-use crate::field::{body_of_value, field_of_value};
-use crate::scope::{Entry, noted_now, placed};
-use crate::sharing::shared;
-use crate::value::{first, type_of_value};
-use a_terms::parts::{filled_of, known, unset_tuple};
+use crate::field::{body_entry, field_entry};
+use crate::noted::Noted;
+use crate::scope::{Entry, noted_as, noted_lent, noted_now, placed, sharing};
+use crate::sharing::{entry_of, filled_then};
+use crate::value::{first, packed, type_of_value};
+use a_terms::parts::{filled_of, known};
 use a_terms::walks::sum;
-use a_terms::{AForm, AProgram, AType, AValue};
+use a_terms::{AForm, AProgram, AValue};
 use idx_core::OutOfMemory;
 use std::alloc::Global;
 
-// The type of the variable that is declared.
-fn declared_type(
+// A variable for a value that is none: the shape of a package is lent.
+fn other_entry<'a>(
     alloc: Global,
     program: &AProgram,
     vars: &[Entry],
     names: u64,
-    form: &AForm,
-    values: &[AValue],
-) -> Result<AType, OutOfMemory>
-    requires form { is_decl form.now ≡ true }
-    requires arity { AArity form.now (a_values values.now) }
-    ensures { IfOk result (λ r. atree r ≡ decl_ty (program_in program.now) (scope names vars.now)
-        (a_decl form.now (a_values values.now))) }
+    v: &'a AValue,
+) -> Result<Entry<'a>, OutOfMemory>
+    ensures { IfOk result (Stands names
+        (or_int (type_of (program_in program.now) (scope names vars.now) (a_value v.now)))) }
 {
-    match form {
-        AForm::Value => {
-            let ty = type_of_value(alloc, program, vars, names, first(values))?;
-            Ok(known(ty))
-        }
-        AForm::Proj(i) => {
-            let made = field_of_value(alloc, program, vars, names, first(values), *i)?;
+    match packed(v) {
+        Some(shape) => Ok(noted_lent(shape, names)),
+        None => {
+            let ty = type_of_value(alloc, program, vars, names, v)?;
+            let made = noted_now(alloc, known(ty), names)?;
             Ok(made)
         }
-        AForm::Arith(_) => Ok(AType::Int),
-        AForm::Unpack => {
-            let made = body_of_value(alloc, program, vars, names, first(values))?;
+    }
+}
+
+// A variable for a value.
+fn value_entry<'a>(
+    alloc: Global,
+    program: &AProgram,
+    vars: &[Entry<'a>],
+    names: u64,
+    v: &'a AValue,
+) -> Result<Entry<'a>, OutOfMemory>
+    requires { Under names vars.now }
+    ensures { IfOk result (Stands names
+        (or_int (type_of (program_in program.now) (scope names vars.now) (a_value v.now)))) }
+{
+    match entry_of(vars, v) {
+        Some(entry) => {
+            let made = sharing(entry, entry.filled)?;
             Ok(made)
         }
-        AForm::Malloc(types) => {
-            let made = unset_tuple(alloc, types)?;
+        None => {
+            let made = other_entry(alloc, program, vars, names, v)?;
             Ok(made)
         }
-        AForm::Init(i) => {
-            let ty = type_of_value(alloc, program, vars, names, first(values))?;
-            Ok(filled_of(ty, *i))
+    }
+}
+
+// A variable for a tuple whose field i is initialised. Its type is made.
+fn filled_made<'a>(
+    alloc: Global,
+    program: &AProgram,
+    vars: &[Entry],
+    names: u64,
+    v: &AValue,
+    i: u64,
+) -> Result<Entry<'a>, OutOfMemory>
+    ensures { IfOk result (Stands names
+        (the_filled_of i (type_of (program_in program.now) (scope names vars.now) (a_value v.now)))) }
+{
+    let ty = type_of_value(alloc, program, vars, names, v)?;
+    let made = noted_now(alloc, filled_of(ty, i), names)?;
+    Ok(made)
+}
+
+// A variable for a tuple that is one, where the fields up to i are initialised.
+fn shared_filled<'a>(
+    vars: &[Entry<'a>],
+    names: u64,
+    v: &AValue,
+    i: u64,
+) -> Result<Option<Entry<'a>>, OutOfMemory>
+    requires { Under names vars.now }
+    ensures { IfOk result (λ o. (p : AProg)
+        → MayStand names (the_filled_of i (type_of p (scope names vars.now) (a_value v.now))) o) }
+{
+    match entry_of(vars, v) {
+        Some(entry) => {
+            match filled_then(entry.filled, i) {
+                Some(count) => {
+                    let made = sharing(entry, count)?;
+                    Ok(Some(made))
+                }
+                None => Ok(None),
+            }
         }
-        _ => unreachable!(),
+        None => Ok(None),
+    }
+}
+
+// A variable for a tuple whose field i is initialised, which shares the type of the tuple where that is a variable.
+fn filled_entry<'a>(
+    alloc: Global,
+    program: &AProgram,
+    vars: &[Entry<'a>],
+    names: u64,
+    v: &AValue,
+    i: u64,
+) -> Result<Entry<'a>, OutOfMemory>
+    requires { Under names vars.now }
+    ensures { IfOk result (Stands names
+        (the_filled_of i (type_of (program_in program.now) (scope names vars.now) (a_value v.now)))) }
+{
+    match shared_filled(vars, names, v, i)? {
+        Some(entry) => Ok(entry),
+        None => {
+            let made = filled_made(alloc, program, vars, names, v, i)?;
+            Ok(made)
+        }
     }
 }
 
@@ -72,41 +142,52 @@ fn names_after(form: &AForm, values: &[AValue], names: u64) -> Result<u64, OutOf
 }
 
 // The variable that is declared.
-fn declared_entry(
+fn declared_entry<'a>(
     alloc: Global,
     program: &AProgram,
-    vars: &[Entry],
+    vars: &[Entry<'a>],
     names: u64,
-    after: u64,
-    form: &AForm,
-    values: &[AValue],
-) -> Result<Entry, OutOfMemory>
+    form: &'a AForm,
+    values: &'a [AValue],
+) -> Result<Entry<'a>, OutOfMemory>
     requires form { is_decl form.now ≡ true }
     requires arity { AArity form.now (a_values values.now) }
     requires under { Under names vars.now }
-    requires after { after ≡ more_vars (a_decl form.now (a_values values.now)) names }
-    ensures { IfOk result (Stands after (decl_ty (program_in program.now) (scope names vars.now)
-        (a_decl form.now (a_values values.now)))) }
+    ensures { IfOk result (Stands (more_vars (a_decl form.now (a_values values.now)) names)
+        (decl_ty (program_in program.now) (scope names vars.now) (a_decl form.now (a_values values.now)))) }
 {
-    match shared(vars, names, form, values)? {
-        Some(entry) => Ok(entry),
-        None => {
-            let ty = declared_type(alloc, program, vars, names, form, values)?;
-            let made = noted_now(alloc, ty, after)?;
+    match form {
+        AForm::Value => {
+            let made = value_entry(alloc, program, vars, names, first(values))?;
             Ok(made)
         }
+        AForm::Proj(i) => {
+            let made = field_entry(alloc, program, vars, names, first(values), *i)?;
+            Ok(made)
+        }
+        AForm::Arith(_) => Ok(noted_as(Noted::Int, names)),
+        AForm::Unpack => {
+            let made = body_entry(alloc, program, vars, names, first(values))?;
+            Ok(made)
+        }
+        AForm::Malloc(types) => Ok(noted_as(Noted::Room(types), names)),
+        AForm::Init(i) => {
+            let made = filled_entry(alloc, program, vars, names, first(values), *i)?;
+            Ok(made)
+        }
+        _ => unreachable!(),
     }
 }
 
 /// One more variable, in this register: the type names in scope then. An error is want of memory.
-pub fn declare(
+pub fn declare<'a>(
     alloc: Global,
     program: &AProgram,
-    vars: &mut Vec<Entry>,
+    vars: &mut Vec<Entry<'a>>,
     names: u64,
     register: u64,
-    form: &AForm,
-    values: &[AValue],
+    form: &'a AForm,
+    values: &'a [AValue],
 ) -> Result<u64, OutOfMemory>
     requires form { is_decl form.now ≡ true }
     requires arity { AArity form.now (a_values values.now) }
@@ -118,7 +199,7 @@ pub fn declare(
         × (e.register ≡ register) × (vars.new.items ≡ vars.old.items ++ e ∷ [])) }
 {
     let after = names_after(form, values, names)?;
-    let made = declared_entry(alloc, program, vars, names, after, form, values)?;
+    let made = declared_entry(alloc, program, vars, names, form, values)?;
     let entry = placed(made, register);
     vars.push(entry)?;
     Ok(after)

@@ -1,26 +1,58 @@
-// The types of fields, and of what a package hides. Of a variable's type only what is asked for is copied, so many
-// projections of one tuple cost no more than their fields.
-ghost use Rattle.std.specs.Prelude.{◌≡◌, Some, IfOk};
+// The variables for fields, and for what a package hides. Of a type that stands in the program the part is lent; of
+// another type only what is asked for is copied, so many projections of one tuple cost no more than their fields.
+ghost use Rattle.std.specs.Prelude.{◌≡◌, ◌≤◌, Some, suc, IfOk};
+ghost use Rattle.a_terms.specs.Tree.{ashift};
 ghost use Rattle.a_terms.specs.Typing.{type_of, field_of as the_field_of, body_of as the_body_of};
 ghost use Rattle.a_terms.specs.Read.{atree, maybe};
 ghost use Rattle.a_terms.specs.NodeTrees.{a_value};
 ghost use Rattle.a_terms.specs.Program.{program_in};
-ghost use Rattle.a_scope.specs.Scope.{scope, shown};
+ghost use Rattle.a_scope.specs.Scope.{scope, shown, Stands, Under};
 
-use crate::scope::Entry;
+use crate::noted::{Noted, lent_body, lent_field, room_field};
+use crate::scope::{Entry, noted_as, noted_now};
 use crate::sharing::entry_of;
 use crate::value::type_of_value;
 use a_terms::parts::{body_of, field_of};
+use a_terms::walks::sum;
 use a_terms::{AProgram, AType, AValue};
 use idx_core::OutOfMemory;
 use std::alloc::Global;
 
-fn field_of_entry(alloc: Global, entry: &Entry, names: u64, i: u64) -> Result<AType, OutOfMemory>
-    ensures { IfOk result (λ r. atree r ≡ the_field_of i (Some (shown names entry.now))) }
+// A variable for field i of a type that was made, under `by` more names.
+fn made_field<'a>(
+    alloc: Global,
+    t: &AType,
+    i: u64,
+    by: u64,
+    names: u64,
+) -> Result<Entry<'a>, OutOfMemory>
+    ensures { IfOk result (Stands names (ashift by 0 (the_field_of i (Some (atree t.now))))) }
 {
-    let by = names.saturating_sub(entry.names);
-    let made = field_of(alloc, &entry.ty, i, by)?;
-    Ok(made)
+    let made = field_of(alloc, t, i, by)?;
+    let noted = noted_now(alloc, made, names)?;
+    Ok(noted)
+}
+
+// A variable for field i of a variable.
+fn field_of_entry<'a>(
+    alloc: Global,
+    entry: &Entry<'a>,
+    names: u64,
+    i: u64,
+) -> Result<Entry<'a>, OutOfMemory>
+    requires { entry.now.names ≤ names }
+    ensures { IfOk result (Stands names (the_field_of i (Some (shown names entry.now)))) }
+{
+    match &entry.ty {
+        Noted::Int => Ok(noted_as(Noted::Int, names)),
+        Noted::Lent(t) => Ok(noted_as(lent_field(t, i), entry.names)),
+        Noted::Room(types) => Ok(noted_as(room_field(types, i), entry.names)),
+        Noted::Made(t) => {
+            let by = names.saturating_sub(entry.names);
+            let made = made_field(alloc, t, i, by, names)?;
+            Ok(made)
+        }
+    }
 }
 
 fn field_of_type(alloc: Global, t: AType, i: u64) -> Result<AType, OutOfMemory>
@@ -42,17 +74,36 @@ fn field_of_known(alloc: Global, ty: Option<AType>, i: u64) -> Result<AType, Out
     }
 }
 
-/// The type of field i of a value, from 1 on. An error is want of memory.
-pub fn field_of_value(
+// A variable for field i of a value that is none.
+fn field_of_other<'a>(
     alloc: Global,
     program: &AProgram,
     vars: &[Entry],
     names: u64,
     v: &AValue,
     i: u64,
-) -> Result<AType, OutOfMemory>
-    ensures { IfOk result (λ r. atree r ≡ the_field_of i
-        (type_of (program_in program.now) (scope names vars.now) (a_value v.now))) }
+) -> Result<Entry<'a>, OutOfMemory>
+    ensures { IfOk result (Stands names (the_field_of i
+        (type_of (program_in program.now) (scope names vars.now) (a_value v.now)))) }
+{
+    let ty = type_of_value(alloc, program, vars, names, v)?;
+    let made = field_of_known(alloc, ty, i)?;
+    let noted = noted_now(alloc, made, names)?;
+    Ok(noted)
+}
+
+/// A variable for field i of a value, from 1 on. An error is want of memory.
+pub fn field_entry<'a>(
+    alloc: Global,
+    program: &AProgram,
+    vars: &[Entry<'a>],
+    names: u64,
+    v: &AValue,
+    i: u64,
+) -> Result<Entry<'a>, OutOfMemory>
+    requires { Under names vars.now }
+    ensures { IfOk result (Stands names (the_field_of i
+        (type_of (program_in program.now) (scope names vars.now) (a_value v.now)))) }
 {
     match entry_of(vars, v) {
         Some(entry) => {
@@ -60,23 +111,62 @@ pub fn field_of_value(
             Ok(made)
         }
         None => {
-            let ty = type_of_value(alloc, program, vars, names, v)?;
-            let made = field_of_known(alloc, ty, i)?;
+            let made = field_of_other(alloc, program, vars, names, v, i)?;
             Ok(made)
         }
     }
 }
 
-// A tuple some of whose fields are initialised hides nothing.
-fn body_of_entry(alloc: Global, entry: &Entry, names: u64) -> Result<AType, OutOfMemory>
-    ensures { IfOk result (λ r. atree r ≡ the_body_of (Some (shown names entry.now))) }
+// A variable for what a package of this type hides, under `by` more names around it, of which there are `after` then.
+fn made_body<'a>(alloc: Global, t: &AType, by: u64, after: u64) -> Result<Entry<'a>, OutOfMemory>
+    ensures { IfOk result (Stands after (ashift by 1 (the_body_of (Some (atree t.now))))) }
+{
+    let made = body_of(alloc, t, by)?;
+    let noted = noted_now(alloc, made, after)?;
+    Ok(noted)
+}
+
+// The same of a type that stands in the program, which is lent where it is not shifted.
+fn lent_or_made<'a>(
+    alloc: Global,
+    t: &'a AType,
+    by: u64,
+    after: u64,
+) -> Result<Entry<'a>, OutOfMemory>
+    ensures { IfOk result (Stands after (ashift by 1 (the_body_of (Some (atree t.now))))) }
+{
+    if by == 0 {
+        return Ok(noted_as(lent_body(t), after));
+    }
+    let made = made_body(alloc, t, by, after)?;
+    Ok(made)
+}
+
+// A variable for what a variable hides. A tuple some of whose fields are initialised hides nothing.
+fn body_of_entry<'a>(
+    alloc: Global,
+    entry: &Entry<'a>,
+    names: u64,
+    after: u64,
+) -> Result<Entry<'a>, OutOfMemory>
+    ensures { IfOk result (Stands after (the_body_of (Some (shown names entry.now)))) }
 {
     if entry.filled > 0 {
-        return Ok(AType::Int);
+        return Ok(noted_as(Noted::Int, after));
     }
     let by = names.saturating_sub(entry.names);
-    let made = body_of(alloc, &entry.ty, by)?;
-    Ok(made)
+    match &entry.ty {
+        Noted::Int => Ok(noted_as(Noted::Int, after)),
+        Noted::Lent(t) => {
+            let made = lent_or_made(alloc, t, by, after)?;
+            Ok(made)
+        }
+        Noted::Room(_) => Ok(noted_as(Noted::Int, after)),
+        Noted::Made(t) => {
+            let made = made_body(alloc, t, by, after)?;
+            Ok(made)
+        }
+    }
 }
 
 fn opened(t: AType) -> AType
@@ -97,25 +187,43 @@ fn body_of_known(ty: Option<AType>) -> AType
     }
 }
 
-/// What a package hides, one name further in. An error is want of memory.
-pub fn body_of_value(
+// A variable for what a value that is none hides.
+fn body_of_other<'a>(
     alloc: Global,
     program: &AProgram,
     vars: &[Entry],
     names: u64,
     v: &AValue,
-) -> Result<AType, OutOfMemory>
-    ensures { IfOk result (λ r. atree r ≡ the_body_of
-        (type_of (program_in program.now) (scope names vars.now) (a_value v.now))) }
+    after: u64,
+) -> Result<Entry<'a>, OutOfMemory>
+    ensures { IfOk result (Stands after (the_body_of
+        (type_of (program_in program.now) (scope names vars.now) (a_value v.now)))) }
 {
+    let ty = type_of_value(alloc, program, vars, names, v)?;
+    let made = noted_now(alloc, body_of_known(ty), after)?;
+    Ok(made)
+}
+
+/// A variable for what a package hides, where one type name more is in scope. An error is want of memory.
+pub fn body_entry<'a>(
+    alloc: Global,
+    program: &AProgram,
+    vars: &[Entry<'a>],
+    names: u64,
+    v: &AValue,
+) -> Result<Entry<'a>, OutOfMemory>
+    ensures { IfOk result (Stands (suc names) (the_body_of
+        (type_of (program_in program.now) (scope names vars.now) (a_value v.now)))) }
+{
+    let after = sum(names, 1)?;
     match entry_of(vars, v) {
         Some(entry) => {
-            let made = body_of_entry(alloc, entry, names)?;
+            let made = body_of_entry(alloc, entry, names, after)?;
             Ok(made)
         }
         None => {
-            let ty = type_of_value(alloc, program, vars, names, v)?;
-            Ok(body_of_known(ty))
+            let made = body_of_other(alloc, program, vars, names, v, after)?;
+            Ok(made)
         }
     }
 }

@@ -3,10 +3,12 @@
 
 mod declaring;
 mod field;
+mod noted;
 mod scope;
 mod sharing;
 mod value;
 
 pub use declaring::declare;
-pub use scope::{Entry, noted_now, placed, show};
+pub use noted::Noted;
+pub use scope::{Entry, noted_lent, noted_now, placed, show};
 pub use value::{first, second, type_of_value};

@@ -1,11 +1,11 @@
 // The variables in scope.
 ghost use Rattle.std.specs.Prelude.{◌≡◌, ℕ, IfOk};
 ghost use Rattle.a_terms.specs.Read.{atree};
-ghost use Rattle.a_scope.specs.Scope.{shown, noted, filled_to};
+ghost use Rattle.a_scope.specs.Scope.{shown, noted, noted_type, filled_to};
 
+use crate::noted::{Noted, again, shown_type};
 use a_terms::AType;
 use a_terms::parts::filled_of;
-use a_terms::walks::shift_type;
 use idx_core::OutOfMemory;
 use std::alloc::Global;
 use std::rc::Rc;
@@ -14,32 +14,48 @@ use std::rc::Rc;
 /// initialised besides. It is shifted, and its fields are marked, where it is read. So the variables that stand for one
 /// tuple, one after each field that is initialised, share its type (own choice). `register` is where it lives.
 #[derive(Drop)]
-pub struct Entry {
-    pub ty: Rc<AType>,
+pub struct Entry<'a> {
+    pub ty: Noted<'a>,
     pub filled: u64,
     pub names: u64,
     pub register: u64,
 }
 
-/// A variable of this type, where `names` type names are in scope. An error is want of memory.
-pub fn noted_now(alloc: Global, ty: AType, names: u64) -> Result<Entry, OutOfMemory>
-    ensures ty { IfOk result (λ e. noted e ≡ atree ty) }
-    ensures names { IfOk result (λ e. e.names ≡ names) }
+// A variable of this type, where `names` type names are in scope.
+pub(crate) fn noted_as<'a>(ty: Noted<'a>, names: u64) -> Entry<'a>
+    ensures ty { noted result ≡ noted_type ty.entry }
+    ensures names { result.names ≡ names }
 {
-    let ty = Rc::new(alloc, ty)?;
-    Ok(Entry {
+    Entry {
         ty,
         filled: 0,
         names,
         register: 0,
-    })
+    }
+}
+
+/// A variable of this type, which stands in the program, where `names` type names are in scope.
+pub fn noted_lent<'a>(ty: &'a AType, names: u64) -> Entry<'a>
+    ensures ty { noted result ≡ atree ty.now }
+    ensures names { result.names ≡ names }
+{
+    noted_as(Noted::Lent(ty), names)
+}
+
+/// A variable of this type, where `names` type names are in scope. An error is want of memory.
+pub fn noted_now<'a>(alloc: Global, ty: AType, names: u64) -> Result<Entry<'a>, OutOfMemory>
+    ensures ty { IfOk result (λ e. noted e ≡ atree ty) }
+    ensures names { IfOk result (λ e. e.names ≡ names) }
+{
+    let ty = Rc::new(alloc, ty)?;
+    Ok(noted_as(Noted::Made(ty), names))
 }
 
 /// The variable, living in this register.
-pub fn placed(entry: Entry, register: u64) -> Entry
+pub fn placed<'a>(entry: Entry<'a>, register: u64) -> Entry<'a>
     ensures register { result.register ≡ register }
-    ensures names { result.names ≡ entry.names }
-    ensures shown { (k : ℕ) → shown k result ≡ shown k entry }
+    ensures names { result.names ≡ entry.entry.names }
+    ensures shown { (k : ℕ) → shown k result ≡ shown k entry.entry }
 {
     let mut made = entry;
     made.register = register;
@@ -47,11 +63,11 @@ pub fn placed(entry: Entry, register: u64) -> Entry
 }
 
 /// One more variable of the same type, with this many fields initialised besides. An error is want of memory.
-pub fn sharing(entry: &Entry, filled: u64) -> Result<Entry, OutOfMemory>
-    ensures ty { IfOk result (λ e. noted e ≡ filled_to filled (atree entry.now.ty.value)) }
+pub fn sharing<'a>(entry: &Entry<'a>, filled: u64) -> Result<Entry<'a>, OutOfMemory>
+    ensures ty { IfOk result (λ e. noted e ≡ filled_to filled (noted_type entry.now.ty)) }
     ensures names { IfOk result (λ e. e.names ≡ entry.now.names) }
 {
-    let ty = entry.ty.clone()?;
+    let ty = again(&entry.ty)?;
     Ok(Entry {
         ty,
         filled,
@@ -76,6 +92,6 @@ pub fn show(alloc: Global, entry: &Entry, names: u64) -> Result<AType, OutOfMemo
     ensures { IfOk result (λ t. atree t ≡ shown names entry.now) }
 {
     let by = names.saturating_sub(entry.names);
-    let made = shift_type(alloc, &entry.ty, by, 0)?;
+    let made = shown_type(alloc, &entry.ty, by)?;
     Ok(filled_up(made, entry.filled))
 }

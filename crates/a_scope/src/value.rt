@@ -108,7 +108,7 @@ fn type_of_wrap(alloc: Global, ty: Option<AType>, w: &AWrap) -> Result<Option<AT
 }
 
 // The shape of a value that is a package.
-fn packed(v: &AValue) -> Option<&AType>
+pub(crate) fn packed(v: &AValue) -> Option<&AType>
     ensures { MatchOption result (Unit {0}) (λ s. (p : AProg) (g : List ATy)
         → Some (atree s.now) ≡ type_of p g (a_value v.now)) }
 {

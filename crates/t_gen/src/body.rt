@@ -14,8 +14,7 @@ ghost use Rattle.t_gen.specs.Pending.{body_job};
 use crate::choosing::registers_of;
 use crate::state::{Place, Walk};
 use crate::step::step;
-use a_scope::{Entry, noted_now, placed};
-use a_terms::walks::copy;
+use a_scope::{Entry, noted_lent, placed};
 use a_terms::{ANode, AProgram, AType};
 use a_uses::{Aheads, look_ahead};
 use idx_core::OutOfMemory;
@@ -23,14 +22,14 @@ use std::alloc::Global;
 use t_terms::Block;
 
 /// The blocks of one body: its own, which is reserved, and those of its third parts at the end.
-pub fn emit_body(
+pub fn emit_body<'a>(
     alloc: Global,
     program: &AProgram,
     out: &mut Vec<Block>,
     block: usize,
     names: u64,
-    vars: Vec<Entry>,
-    nodes: &[ANode],
+    vars: Vec<Entry<'a>>,
+    nodes: &'a [ANode],
 ) -> Result<(), OutOfMemory>
     requires one { ARow nodes.now 1 }
     requires under { Under names vars.items }
@@ -38,7 +37,7 @@ pub fn emit_body(
     requires block { block < length out.old.items }
     ensures { OnOk result (blocks_of out.new.items ≡ finish (program_in program.now)
         (length (blocks_of out.old.items)) (blocks_of out.old.items)
-        (body_job block names (homes vars.items) (scope names vars.items) nodes.now ∷ [])) }
+        (body_job block names (homes vars.entry.items) (scope names vars.entry.items) nodes.now ∷ [])) }
 {
     let count = vars.len();
     let Aheads {
@@ -70,16 +69,19 @@ pub fn emit_body(
     Ok(())
 }
 
-/// The variables of a block's arguments.
-pub fn arguments(alloc: Global, owes: u64, args: &[AType]) -> Result<Vec<Entry>, OutOfMemory>
+/// The variables of a block's arguments, whose types are lent.
+pub fn arguments<'a>(
+    alloc: Global,
+    owes: u64,
+    args: &'a [AType],
+) -> Result<Vec<Entry<'a>>, OutOfMemory>
     ensures scope { IfOk result (λ r. scope owes r.items ≡ types_of (atrees args.now) []) }
     ensures under { IfOk result (λ r. Under owes r.items) }
     ensures homes { IfOk result (λ r. homes r.items ≡ rows (arity (atrees args.now))) }
 {
     let mut vars = Vec::new(alloc);
     for t in args {
-        let ty = copy(alloc, t)?;
-        let noted = noted_now(alloc, ty, owes)?;
+        let noted = noted_lent(t, owes);
         let register = vars.len() as u64 + 1;
         vars.push(placed(noted, register))?;
     }

@@ -28,9 +28,9 @@ pub struct Place {
 /// A walk over the nodes of a body: the code so far of the block that is open, the variables that are in scope, and
 /// where the terms that are still to come stand, the next one last.
 #[derive(Drop)]
-pub struct Walk {
+pub struct Walk<'a> {
     pub code: Vec<(Instr, Span)>,
-    pub vars: Vec<Entry>,
+    pub vars: Vec<Entry<'a>>,
     pub places: Vec<Place>,
 }
 

@@ -25,13 +25,13 @@ use t_emit::values::emit_into;
 use t_terms::{Block, End};
 
 // A declaration.
-fn step_let(
+fn step_let<'a>(
     alloc: Global,
     program: &AProgram,
-    walk: &mut Walk,
+    walk: &mut Walk<'a>,
     place: Place,
-    form: &AForm,
-    values: &[AValue],
+    form: &'a AForm,
+    values: &'a [AValue],
     ahead: &Ahead,
 ) -> Result<(), OutOfMemory>
     requires form { is_decl form.now ≡ true }
@@ -177,13 +177,13 @@ fn step_if(
 }
 
 /// One node, at a place.
-pub fn step(
+pub fn step<'a>(
     alloc: Global,
     program: &AProgram,
     out: &mut Vec<Block>,
-    walk: &mut Walk,
+    walk: &mut Walk<'a>,
     place: Place,
-    node: &ANode,
+    node: &'a ANode,
     ahead: &Ahead,
 ) -> Result<(), OutOfMemory>
     requires arity { AArity node.now.form (a_values node.now.values.items) }

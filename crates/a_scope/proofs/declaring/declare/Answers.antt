@@ -1,7 +1,8 @@
-use Rattle.std.proofs.Common.{◌≡◌, ◌∙◌, ap, subst, arith}
+use Rattle.std.proofs.Common.{◌∙◌, ap, arith}
+use Rattle.a_terms.specs.Typing.{more_vars}
 use Rattle.a_terms.specs.NodeTrees.{a_values, a_decl}
 use Rattle.a_terms.specs.Program.{program_in}
-use Rattle.a_scope.specs.Scope.{shown, scope, decl_ty}
+use Rattle.a_scope.specs.Scope.{scope, decl_ty}
 use Rattle.a_scope.proofs.Scopes.{declared_is}
 use Rattle.a_scope.proofs.declaring.declare.Goals as goal
 
@@ -11,11 +12,9 @@ returns-clause-scope c =
     let p = program_in c.args.program.now in
     let es = c.args.vars.now.items in
     let e = c.placed-entry.result in
-    let made = c.in_ok-made.made in
     declared_is p x c.args.names es _ e c.in_ok-push.ensures.items c.requires.under (
-    subst (λ k. shown k e ≡ decl_ty p (scope c.args.names es) x) c.in_ok-after.ensures (
-    c.placed-entry.ensures.shown c.in_ok-after.after ∙ c.in_ok-made.ensures.0 ∙ ap (λ us. decl_ty p (scope c.args.names us) x) c.deref.ensures.value
-    )
+    c.placed-entry.ensures.shown (more_vars x c.args.names) ∙ c.in_ok-made.ensures.0
+    ∙ ap (λ us. decl_ty p (scope c.args.names us) x) c.deref.ensures.value
     )
 
 pub returns-clause-more : goal.returns-clause-more

@@ -1,8 +1,6 @@
-use Rattle.std.proofs.Common.{◌∙◌, ◌-◌, ap, ap₂}
+use Rattle.std.proofs.Common.{◌∙◌, ◌-◌, ap}
 use Rattle.a_terms.specs.Tree.{ashift}
-use Rattle.a_terms.specs.Read.{atree}
-use Rattle.a_terms.specs.declared.types.AType.{AType}
-use Rattle.a_scope.specs.Scope.{filled_to}
+use Rattle.a_scope.specs.Scope.{noted_type, filled_to}
 use Rattle.a_scope.proofs.Filling.{filled_to_shift}
 use Rattle.a_scope.proofs.scope.show.Goals as goal
 
@@ -10,5 +8,5 @@ pub returns : goal.returns
 returns c =
     let e = c.args.entry.now in
     c.filled_up.ensures ∙ ap (filled_to e.filled) (c.in_ok-made.ensures
-    ∙ ap₂ (λ b (t : AType). ashift b 0 (atree t)) c.saturating_sub-by.ensures c.deref.ensures)
-    ∙ filled_to_shift (c.args.names - e.names) e.filled (atree e.ty.value)
+    ∙ ap (λ b. ashift b 0 (noted_type e.ty)) c.saturating_sub-by.ensures)
+    ∙ filled_to_shift (c.args.names - e.names) e.filled (noted_type e.ty)

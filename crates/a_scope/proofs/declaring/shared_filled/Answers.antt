@@ -1,6 +1,6 @@
 use Rattle.a_terms.specs.NodeTrees.{a_value}
 use Rattle.a_scope.proofs.Scopes.{filled_stands}
-use Rattle.a_scope.proofs.sharing.filled.Goals as goal
+use Rattle.a_scope.proofs.declaring.shared_filled.Goals as goal
 
 pub returns-in_ok-made-in-Some-filled_then : goal.returns-in_ok-made-in-Some-filled_then
 returns-in_ok-made-in-Some-filled_then c = λ p.

@@ -22,15 +22,27 @@ abbrev pub register_found : Digits → Found Kind
 register_found d =
     if d.fits && nat_le 1 d.value && nat_le d.value max_number then Read (k.Register d.value) d.end else Large d.end
 
--- the reserved words with one first byte, where there are three
+-- the reserved words by their first bytes
 abbrev pub words_of_a : List (List ℕ × Kind)
 words_of_a = (codes "all", k.All) ∷ ((codes "as", k.As) ∷ ((codes "add", k.Add) ∷ []))
+
+abbrev pub words_of_bcd : List (List ℕ × Kind)
+words_of_bcd = (codes "bnz", k.Bnz) ∷ ((codes "code", k.Code) ∷ ((codes "data", k.Data) ∷ []))
+
+abbrev pub words_of_hij : List (List ℕ × Kind)
+words_of_hij = (codes "halt", k.Halt) ∷ ((codes "int", k.Int) ∷ ((codes "jmp", k.Jmp) ∷ []))
+
+abbrev pub words_of_lp : List (List ℕ × Kind)
+words_of_lp = (codes "ld", k.Ld) ∷ ((codes "pack", k.Pack) ∷ [])
 
 abbrev pub words_of_m : List (List ℕ × Kind)
 words_of_m = (codes "mul", k.Mul) ∷ ((codes "mov", k.Mov) ∷ ((codes "malloc", k.Malloc) ∷ []))
 
 abbrev pub words_of_s : List (List ℕ × Kind)
 words_of_s = (codes "some", k.Some) ∷ ((codes "sub", k.Sub) ∷ ((codes "st", k.St) ∷ []))
+
+abbrev pub words_of_tu : List (List ℕ × Kind)
+words_of_tu = (codes "tal", k.Tal) ∷ ((codes "unpack", k.Unpack) ∷ [])
 
 -- the first byte, with the letters, digits and underscores after it
 abbrev pub word_at : List ℕ → List ℕ

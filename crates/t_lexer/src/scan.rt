@@ -5,23 +5,64 @@ ghost use Rattle.text_core.specs.Tokens.{look};
 ghost use Rattle.text_core.specs.Lexeme.{IsFound};
 ghost use Rattle.t_terms.specs.Tokens.{assembly, words, word_in, signs, is_register};
 ghost use Rattle.t_lexer.specs.Scan.{plain_found, negative_found, register_found, word_at, IsRegisterAt};
-ghost use Rattle.t_lexer.specs.Scan.{goes_on, words_of_a, words_of_m, words_of_s};
+ghost use Rattle.t_lexer.specs.Scan.{goes_on, words_of_a, words_of_bcd, words_of_hij, words_of_lp};
+ghost use Rattle.t_lexer.specs.Scan.{words_of_m, words_of_s, words_of_tu};
 
+use crate::digits::digits_at;
 use t_terms::Kind;
-use text_core::{Digits, Found, Lexeme, next_lexeme, read_digits};
+use text_core::{Digits, Found, Lexeme, next_lexeme};
+
+// this reserved word, or a name
+fn word_or_name(bytes: &[u8], reserved: &[u8], kind: Kind) -> Kind
+    ensures { result ≡ word_in ((reserved.now, kind) ∷ []) bytes.now }
+{
+    if bytes == reserved { kind } else { Kind::Name }
+}
 
 // a reserved word that begins with `a`, or a name
 fn word_of_a(bytes: &[u8]) -> Kind
     ensures { result ≡ word_in words_of_a bytes.now }
 {
-    if bytes == b"all".as_slice() {
-        Kind::All
-    } else if bytes == b"as".as_slice() {
-        Kind::As
-    } else if bytes == b"add".as_slice() {
-        Kind::Add
-    } else {
-        Kind::Name
+    match bytes {
+        b"all" => Kind::All,
+        b"as" => Kind::As,
+        b"add" => Kind::Add,
+        _ => Kind::Name,
+    }
+}
+
+// the same with `b`, `c` or `d`
+fn word_of_bcd(bytes: &[u8]) -> Kind
+    ensures { result ≡ word_in words_of_bcd bytes.now }
+{
+    match bytes {
+        b"bnz" => Kind::Bnz,
+        b"code" => Kind::Code,
+        b"data" => Kind::Data,
+        _ => Kind::Name,
+    }
+}
+
+// the same with `h`, `i` or `j`
+fn word_of_hij(bytes: &[u8]) -> Kind
+    ensures { result ≡ word_in words_of_hij bytes.now }
+{
+    match bytes {
+        b"halt" => Kind::Halt,
+        b"int" => Kind::Int,
+        b"jmp" => Kind::Jmp,
+        _ => Kind::Name,
+    }
+}
+
+// the same with `l` or `p`
+fn word_of_lp(bytes: &[u8]) -> Kind
+    ensures { result ≡ word_in words_of_lp bytes.now }
+{
+    match bytes {
+        b"ld" => Kind::Ld,
+        b"pack" => Kind::Pack,
+        _ => Kind::Name,
     }
 }
 
@@ -29,14 +70,10 @@ fn word_of_a(bytes: &[u8]) -> Kind
 fn word_of_m(bytes: &[u8]) -> Kind
     ensures { result ≡ word_in words_of_m bytes.now }
 {
-    if bytes == b"mul".as_slice() {
-        Kind::Mul
-    } else if bytes == b"mov".as_slice() {
-        Kind::Mov
-    } else if bytes == b"malloc".as_slice() {
-        Kind::Malloc
-    } else {
-        Kind::Name
+    match bytes {
+        b"mul" => Kind::Mul,
+        b"mov" => Kind::Mov,
+        _ => word_or_name(bytes, b"malloc".as_slice(), Kind::Malloc),
     }
 }
 
@@ -44,22 +81,22 @@ fn word_of_m(bytes: &[u8]) -> Kind
 fn word_of_s(bytes: &[u8]) -> Kind
     ensures { result ≡ word_in words_of_s bytes.now }
 {
-    if bytes == b"some".as_slice() {
-        Kind::Some
-    } else if bytes == b"sub".as_slice() {
-        Kind::Sub
-    } else if bytes == b"st".as_slice() {
-        Kind::St
-    } else {
-        Kind::Name
+    match bytes {
+        b"some" => Kind::Some,
+        b"sub" => Kind::Sub,
+        b"st" => Kind::St,
+        _ => Kind::Name,
     }
 }
 
-// this reserved word, or a name
-fn word_or_name(bytes: &[u8], reserved: &[u8], kind: Kind) -> Kind
-    ensures { result ≡ word_in ((reserved.now, kind) ∷ []) bytes.now }
+// the same with `t` or `u`
+fn word_of_tu(bytes: &[u8]) -> Kind
+    ensures { result ≡ word_in words_of_tu bytes.now }
 {
-    if bytes == reserved { kind } else { Kind::Name }
+    match bytes {
+        b"tal" => Kind::Tal,
+        _ => word_or_name(bytes, b"unpack".as_slice(), Kind::Unpack),
+    }
 }
 
 // A word that is no register token: the first byte leaves three reserved words at most.
@@ -71,18 +108,12 @@ fn word(bytes: &[u8]) -> Kind
     }
     match bytes[0] {
         b'a' => word_of_a(bytes),
+        b'b'..=b'd' => word_of_bcd(bytes),
+        b'h'..=b'j' => word_of_hij(bytes),
+        b'l' | b'p' => word_of_lp(bytes),
         b'm' => word_of_m(bytes),
         b's' => word_of_s(bytes),
-        b'b' => word_or_name(bytes, b"bnz".as_slice(), Kind::Bnz),
-        b'c' => word_or_name(bytes, b"code".as_slice(), Kind::Code),
-        b'd' => word_or_name(bytes, b"data".as_slice(), Kind::Data),
-        b'h' => word_or_name(bytes, b"halt".as_slice(), Kind::Halt),
-        b'i' => word_or_name(bytes, b"int".as_slice(), Kind::Int),
-        b'j' => word_or_name(bytes, b"jmp".as_slice(), Kind::Jmp),
-        b'l' => word_or_name(bytes, b"ld".as_slice(), Kind::Ld),
-        b'p' => word_or_name(bytes, b"pack".as_slice(), Kind::Pack),
-        b't' => word_or_name(bytes, b"tal".as_slice(), Kind::Tal),
-        b'u' => word_or_name(bytes, b"unpack".as_slice(), Kind::Unpack),
+        b't' | b'u' => word_of_tu(bytes),
         _ => Kind::Name,
     }
 }
@@ -160,7 +191,7 @@ fn register(text: &[u8], at: usize) -> Option<Digits>
     if text[at] != b'r' {
         return None;
     }
-    let digits = read_digits(text, at + 1);
+    let digits = digits_at(text, at + 1);
     if goes_on(text, digits.end) {
         return None;
     }

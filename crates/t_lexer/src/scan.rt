@@ -1,5 +1,6 @@
 // What stands at a place of an assembly text.
-ghost use Rattle.std.specs.Prelude.{◌≡◌, ◌≤◌, ◌<◌, ◌^◌, ℕ, pos, neg_ℤ, [], ◌∷◌, length, drop, get_or, true, false, None};
+ghost use Rattle.std.specs.Prelude.{◌≡◌, ◌≤◌, ◌<◌, ◌^◌, ℕ, pos, neg_ℤ, true, false, None};
+ghost use Rattle.std.specs.Prelude.{[], ◌∷◌, length, drop, get_or};
 ghost use Rattle.text_core.specs.Byte.{of_word};
 ghost use Rattle.text_core.specs.Tokens.{look};
 ghost use Rattle.text_core.specs.Lexeme.{IsFound};

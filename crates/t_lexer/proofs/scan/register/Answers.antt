@@ -10,4 +10,5 @@ returns-then-goes_on c =
 pub returns : goal.returns
 returns c =
     let d = c.digits_at-digits in
-    register_stands c.args.text.now c.args.at c.requires d.result d.ensures.end c.if-text-at-ne114.false (sym c.goes_on.ensures ∙ c.if-goes_on.false) c.if-digits-at.false d.ensures.is_value
+    register_stands c.args.text.now c.args.at c.requires d.result d.ensures.end c.if-text-at-ne114.false
+    (sym c.goes_on.ensures ∙ c.if-goes_on.false) c.if-digits-at.false d.ensures.is_value

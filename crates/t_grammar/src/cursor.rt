@@ -44,6 +44,7 @@ impl From<AllocError> for Stopped {
 }
 
 /// The token at a place, or none at the end.
+#[inline(always)]
 pub fn peek(tokens: &[Stored], at: usize) -> Option<Token>
     ensures { result ≡ slice_get tokens.now at }
 {
@@ -72,6 +73,7 @@ fn is_flag(kind: Kind) -> bool
     }
 }
 
+#[inline(always)]
 fn fits_kind(wanted: Wanted, kind: Kind) -> bool
     ensures { result ≡ fits wanted kind }
 {
@@ -97,6 +99,7 @@ fn fits_kind(wanted: Wanted, kind: Kind) -> bool
 }
 
 /// The token at a place, where it is one that is wanted.
+#[inline(always)]
 pub fn take(tokens: &[Stored], at: usize, wanted: Wanted) -> Option<Token>
     ensures { result ≡ next_of table wanted (slice_get tokens.now at) }
 {
@@ -109,6 +112,7 @@ pub fn take(tokens: &[Stored], at: usize, wanted: Wanted) -> Option<Token>
 }
 
 /// The token at a place, which must be one that is wanted.
+#[inline(always)]
 pub fn expect(tokens: &[Stored], at: usize, wanted: Wanted) -> Result<Token, Stopped>
     ensures { IsExpected tokens.now at wanted result }
 {

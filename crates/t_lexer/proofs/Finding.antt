@@ -1,21 +1,25 @@
 -- What the code finds at a place of an assembly text.
-use Rattle.std.proofs.Common.{◌≡◌, ◌≢◌, ◌≤◌, ◌&&◌, ℕ, pos, ◌+◌, ◌-◌, List, [], ◌∷◌, length, take, drop, Bool, true, false, if◌then◌else◌, refl, ◌∙◌, ap, arith, neg_ℤ, get_or, Some}
+use Rattle.std.proofs.Common.{◌≡◌, ◌≢◌, ◌≤◌, ◌<◌, ◌==◌, ◌&&◌, ◌||◌, ℕ, pos, suc, ◌+◌, ◌-◌, neg_ℤ, Bool, true, false}
+use Rattle.std.proofs.Common.{if◌then◌else◌, List, [], ◌∷◌, length, take, drop, get_or, Option, Some, None, refl, sym}
+use Rattle.std.proofs.Common.{◌∙◌, ap, arith}
 use Rattle.std.specs.Prelude.{nat_le, bytes_eq}
 use Rattle.std.specs.List.{list_all, prefix_len}
-use Rattle.std.proofs.lemmas.Bool.{leb-true, leb-false}
+use Rattle.std.proofs.lemmas.Bool.{leb-true, leb-false, eqb-true}
 use Rattle.std.proofs.lemmas.Int.{ints}
-use Rattle.std.proofs.Math.Seq.{take-length}
-use Rattle.text_core.specs.Byte.{value, digit}
-use Rattle.text_core.specs.Tokens.{Spelling}
-use Rattle.text_core.specs.Lexeme.{Piece, PWord, PPlain, PNegative, piece, of_piece, item, Within, IsValue, IsFound}
+use Rattle.std.proofs.lemmas.List.{drop-drop, length-drop}
+use Rattle.std.proofs.lemmas.List.Sums.{prefix_len-le-length}
+use Rattle.text_core.specs.Byte.{value, space, digit, letter, of_word, of_line}
+use Rattle.text_core.specs.Tokens.{Spelling, look}
+use Rattle.text_core.specs.Lexeme.{Piece, PGap, PWord, PPlain, PNegative, POther, piece, at_dashes, at_negative}
+use Rattle.text_core.specs.Lexeme.{of_sign, of_piece, item, Within, IsValue, IsFound}
 use Rattle.text_core.specs.declared.lexeme.Digits.{Digits}
-use Rattle.text_core.specs.declared.lexeme.Found.{Found}
-use Rattle.text_core.specs.declared.lexeme.Found.TheVariants.{Read, Large, Skip, Bad}
+use Rattle.text_core.specs.declared.lexeme.Found.TheVariants.{Read, Large}
+use Rattle.text_core.proofs.Runs.{here, run_all}
 use Rattle.t_types.specs.WellFormed.{max_number}
 use Rattle.t_terms.specs.declared.token.Kind.{Kind}
 use Rattle.t_terms.specs.declared.token.Kind.TheVariants as k
-use Rattle.t_terms.specs.Tokens.{assembly, words, word, word_in, is_register, after_first, Keeps}
-use Rattle.t_lexer.specs.Scan.{plain_found, negative_found, IsRegisterOf, IsWordFound}
+use Rattle.t_terms.specs.Tokens.{assembly, words, word_in, signs, is_register, after_first, Keeps}
+use Rattle.t_lexer.specs.Scan.{plain_found, negative_found, register_found, word_at, goes_on, IsRegisterAt}
 
 -- a word keeps its bounds where each word of the table does
 all_keep : List (List ℕ × Kind) → Type 0
@@ -35,65 +39,212 @@ words_keep : all_keep words
 unfolding all_keep
 words_keep = search
 
--- a run is the whole list where all of it pass
-full : (p : ℕ → Bool) (s : List ℕ) → prefix_len p s ≡ length s → list_all p s ≡ true
-full p [] e = refl
-full p (b ∷ s) e = go (p b) (full p s) e
-  where
-    go : (x : Bool) → (prefix_len p s ≡ length s → list_all p s ≡ true) → (if x then 1 + prefix_len p s else 0) ≡ length (b ∷ s) → (x && list_all p s) ≡ true
-    go true h q = h (omega arith)
-    go false h q = absurd (omega arith)
+-- a sign keeps its bounds, and begins neither a gap nor a word nor a number
+Lone : ℕ → Kind → Type 0
+Lone b k =
+    (space b ≡ false) × ((b == 45) ≡ false) × (letter b ≡ false) × (digit b ≡ false) × ((b == 126) ≡ false)
+    × Keeps k
 
-not_full : (p : ℕ → Bool) (s : List ℕ) → list_all p s ≡ true → prefix_len p s ≡ length s
-not_full p [] e = refl
-not_full p (b ∷ s) e = go (p b) (not_full p s) e
-  where
-    go : (x : Bool) → (list_all p s ≡ true → prefix_len p s ≡ length s) → (x && list_all p s) ≡ true → (if x then 1 + prefix_len p s else 0) ≡ length (b ∷ s)
-    go true h q = let l = h q in omega arith
-    go false h q = absurd (cc)
+all_lone : List (ℕ × Kind) → Type 0
+all_lone [] = Unit {0}
+all_lone (e ∷ t) = Lone e.0 e.1 × all_lone t
 
--- a word of `r` and more, whose digits end here
-pub digits_to_end : (u : List ℕ) (d : Digits) → 2 ≤ length u → get_or u 0 0 ≡ 114 → d.end ≡ 1 + prefix_len digit (drop 1 u) → d.end ≡ length u →
-    IsValue d.value d.fits (take (prefix_len digit (drop 1 u)) (drop 1 u)) → IsRegisterOf u (Some d)
-digits_to_end [] d l r e f v = absurd (omega arith)
-digits_to_end (b ∷ []) d l r e f v = absurd (omega arith)
-digits_to_end (b ∷ (c ∷ s)) d l r e f v =
-    let q : prefix_len digit (c ∷ s) ≡ length (c ∷ s) = omega (arith, e, f) in
-    (rw (r, full digit (c ∷ s) q) refl, rw (q, take-length (c ∷ s)) at v)
-
-pub digits_end_before : (u : List ℕ) (end : ℕ) → 2 ≤ length u → get_or u 0 0 ≡ 114 → end ≡ 1 + prefix_len digit (drop 1 u) → end ≢ length u → is_register u ≡ false
-digits_end_before [] end l r e f = absurd (omega arith)
-digits_end_before (b ∷ []) end l r e f = absurd (omega arith)
-digits_end_before (b ∷ (c ∷ s)) end l r e f = go (list_all digit (c ∷ s)) refl
+look_lone : (t : List (ℕ × Kind)) → all_lone t → (b : ℕ) (k : Kind) → look t b ≡ Some k → Lone b k
+unfolding all_lone
+look_lone [] h b k e = absurd (cc)
+look_lone (x ∷ t) h b k e = go (b == x.0) refl h.0 (look_lone t h.1 b k) e
   where
-    go : (x : Bool) → list_all digit (c ∷ s) ≡ x → is_register (b ∷ (c ∷ s)) ≡ false
-    go true q = let n = not_full digit (c ∷ s) q in absurd (f (omega (arith, e, n)))
-    go false q = rw (r, q) refl
+    go : (y : Bool) → (b == x.0) ≡ y → Lone x.0 x.1 → (look t b ≡ Some k → Lone b k) →
+        (if y then Some x.1 else look t b) ≡ Some k → Lone b k
+    go true p m f q = let r : x.1 ≡ k = cc in rw (eqb-true b x.0 p, ← r) m
+    go false p m f q = f q
+
+signs_lone : all_lone signs
+unfolding all_lone Lone
+signs_lone = search
+
+lone_item : (b : ℕ) (s : List ℕ) (k : Kind) → Lone b k → look signs b ≡ Some k → item assembly (b ∷ s) ≡ Spelling k 1
+unfolding Lone
+lone_item b [] k h e =
+    let p : piece (b ∷ []) ≡ POther = rw (h.0, h.2, h.3) refl in
+    ap (λ (x : Piece). of_piece assembly (b ∷ []) x) p ∙ ap (λ (x : Option Kind). of_sign x) e
+lone_item b (c ∷ s) k h e =
+    let p : piece (b ∷ (c ∷ s)) ≡ POther = rw (h.0, h.1, h.2, h.3, h.4) refl in
+    ap (λ (x : Piece). of_piece assembly (b ∷ (c ∷ s)) x) p ∙ ap (λ (x : Option Kind). of_sign x) e
+
+lone_keeps : (b : ℕ) (k : Kind) → Lone b k → Keeps k
+unfolding Lone
+lone_keeps b k h = h.5
+
+pub sign_is_found : (t : List ℕ) (at : ℕ) (k : Kind) → at < length t → look signs (get_or t at 0) ≡ Some k →
+    IsFound assembly t at (Read k (at + 1))
+sign_is_found t at k l e =
+    let h = look_lone signs signs_lone (get_or t at 0) k e in
+    let one : at + 1 - at ≡ 1 = omega arith in (
+      record { forward = omega arith; in_range = omega arith },
+      rw (one, here t at l) (lone_item (get_or t at 0) (drop (at + 1) t) k h e),
+      lone_keeps (get_or t at 0) k h,
+    )
+
+-- registers
+
+digit_of_word : (b : ℕ) → digit b ≡ true → of_word b ≡ true
+digit_of_word b e = go (letter b)
+  where
+    go : (x : Bool) → (x || digit b || b == 95) ≡ true
+    go true = refl
+    go false = rw e refl
+
+-- the word ends where its digits do
+ends_with_digits : (s : List ℕ) → goes_on (drop (prefix_len digit s) s) ≡ false →
+    prefix_len of_word s ≡ prefix_len digit s
+ends_with_digits [] h = refl
+ends_with_digits (b ∷ s) h = go (digit b) refl (ends_with_digits s) h
+  where
+    go : (x : Bool) → digit b ≡ x →
+        (goes_on (drop (prefix_len digit s) s) ≡ false → prefix_len of_word s ≡ prefix_len digit s) →
+        goes_on (drop (if x then 1 + prefix_len digit s else 0) (b ∷ s)) ≡ false →
+        prefix_len of_word (b ∷ s) ≡ (if x then 1 + prefix_len digit s else 0)
+    go true e f h =
+        let z : 1 + prefix_len digit s ≡ suc (prefix_len digit s) = omega arith in
+        rw (digit_of_word b e, f (rw z at h)) refl
+    go false e f h = rw h refl
+
+-- the word goes on after its digits
+goes_past_digits : (s : List ℕ) → goes_on (drop (prefix_len digit s) s) ≡ true →
+    list_all digit (take (prefix_len of_word s) s) ≡ false
+goes_past_digits [] h = absurd (cc)
+goes_past_digits (b ∷ s) h = go (digit b) refl (goes_past_digits s) h
+  where
+    z : 1 + prefix_len of_word s ≡ suc (prefix_len of_word s)
+    z = omega arith
+
+    go : (x : Bool) → digit b ≡ x →
+        (goes_on (drop (prefix_len digit s) s) ≡ true → list_all digit (take (prefix_len of_word s) s) ≡ false) →
+        goes_on (drop (if x then 1 + prefix_len digit s else 0) (b ∷ s)) ≡ true →
+        list_all digit (take (prefix_len of_word (b ∷ s)) (b ∷ s)) ≡ false
+    go true e f h =
+        let y : 1 + prefix_len digit s ≡ suc (prefix_len digit s) = omega arith in
+        rw (digit_of_word b e, z, e) (f (rw y at h))
+    go false e f h = rw (h, z, e) refl
+
+not_digits : (b : ℕ) (w : List ℕ) → list_all digit w ≡ false → is_register (b ∷ w) ≡ false
+not_digits b [] e = absurd (cc)
+not_digits b (c ∷ w) e = rw e (go (b == 114))
+  where
+    go : (x : Bool) → (x && false) ≡ false
+    go true = refl
+    go false = refl
+
+all_digits : (s : List ℕ) → prefix_len digit s ≢ 0 → is_register (114 ∷ take (prefix_len digit s) s) ≡ true
+all_digits [] n = absurd (n refl)
+all_digits (c ∷ s) n = go (digit c) refl n
+  where
+    go : (x : Bool) → digit c ≡ x → (if x then 1 + prefix_len digit s else 0) ≢ 0 →
+        is_register (114 ∷ take (if x then 1 + prefix_len digit s else 0) (c ∷ s)) ≡ true
+    go true e m =
+        let z : 1 + prefix_len digit s ≡ suc (prefix_len digit s) = omega arith in rw (z, e, run_all digit s) refl
+    go false e m = absurd (m refl)
+
+piece_of_r : (s : List ℕ) → piece (114 ∷ s) ≡ PWord (1 + prefix_len of_word s)
+piece_of_r [] = refl
+piece_of_r (c ∷ s) = refl
+
+-- the length of a word
+word_length : (b : ℕ) (s : List ℕ) (n : ℕ) → piece (b ∷ s) ≡ PWord n → n ≡ 1 + prefix_len of_word s
+word_length b s n e = go (space b) (at_dashes (b ∷ s)) (letter b) (digit b) (at_negative (b ∷ s)) e
+  where
+    go : (x y z u v : Bool) →
+        (if x then PGap 1
+        else if y then PGap (2 + prefix_len of_line (drop 1 s))
+        else if z then PWord (1 + prefix_len of_word s)
+        else if u then PPlain (1 + prefix_len digit s)
+        else if v then PNegative (1 + prefix_len digit s)
+        else POther) ≡ PWord n → n ≡ 1 + prefix_len of_word s
+    go true y z u v q = absurd (cc)
+    go false true z u v q = absurd (cc)
+    go false false true u v q = cc
+    go false false false true v q = absurd (cc)
+    go false false false false true q = absurd (cc)
+    go false false false false false q = absurd (cc)
+
+module _ (t : List ℕ) (at : ℕ) (l : at < length t) where
+  -- the digits after the first byte
+  module _ (d : Digits) (e : d.end ≡ at + 1 + prefix_len digit (drop (at + 1) t)) where
+    rest : drop d.end t ≡ drop (prefix_len digit (drop (at + 1) t)) (drop (at + 1) t)
+    rest = rw e (sym (drop-drop (prefix_len digit (drop (at + 1) t)) (at + 1) t))
+
+    pub word_goes_on : goes_on (drop d.end t) ≡ true → IsRegisterAt t at None
+    word_goes_on g =
+        let s = drop (at + 1) t in
+        let h = goes_past_digits s (ap (λ (x : List ℕ). goes_on x) (sym rest) ∙ g) in
+        rw (here t at l) (not_digits (get_or t at 0) (take (prefix_len of_word s) s) h)
+
+    same_length : goes_on (drop d.end t) ≡ false →
+        prefix_len of_word (drop (at + 1) t) ≡ prefix_len digit (drop (at + 1) t)
+    same_length g = ends_with_digits (drop (at + 1) t) (ap (λ (s : List ℕ). goes_on s) (sym rest) ∙ g)
+
+    pub register_stands : get_or t at 0 ≡ 114 → goes_on (drop d.end t) ≡ false → d.end ≢ at + 1 →
+        IsValue d.value d.fits (take (prefix_len digit (drop (at + 1) t)) (drop (at + 1) t)) →
+        IsRegisterAt t at (Some d)
+    register_stands r g n v =
+        let m = same_length g in
+        let z : d.end - at ≡ suc (prefix_len digit (drop (at + 1) t)) = omega arith in
+        let some : prefix_len digit (drop (at + 1) t) ≢ 0 = λ x. n (omega (arith, e, x)) in
+        let a = prefix_len-le-length digit (drop (at + 1) t) in
+        let b = length-drop (at + 1) t in (
+          record { forward = omega arith; in_range = omega arith },
+          rw (here t at l, r) (piece_of_r (drop (at + 1) t) ∙ ap (λ (n : ℕ). PWord n) (omega (arith, m, z))),
+          rw (z, here t at l, r) (all_digits (drop (at + 1) t) some),
+          rw (z, here t at l) v,
+        )
+
+pub register_is_found : (t : List ℕ) (at : ℕ) (d : Digits) → IsRegisterAt t at (Some d) →
+    IsFound assembly t at (register_found d)
+register_is_found t at d (w, p, r, v) = go d.fits refl (nat_le 1 d.value) refl (nat_le d.value max_number) refl
+  where
+    u : List ℕ
+    u = take (d.end - at) (drop at t)
+
+    is : item assembly (drop at t) ≡ Spelling (k.Register (value (after_first u))) (d.end - at)
+    is = ap (λ (x : Piece). of_piece assembly (drop at t) x) p ∙ rw r refl
+
+    by_fit : (d.fits ≡ true → ¬ ((1 ≤ d.value) × (d.value ≤ max_number))) → (f : Bool) → d.fits ≡ f →
+        ¬ Keeps (k.Register (value (after_first u)))
+    by_fit x true q = let s = (v.small q).0 in rw (← s) (x q)
+    by_fit x false q = let s = v.large q in λ y. omega (arith, y.1)
+
+    large : (d.fits ≡ true → ¬ ((1 ≤ d.value) × (d.value ≤ max_number))) → IsFound assembly t at (Large d.end)
+    large x = (w, (k.Register (value (after_first u)), is, by_fit x d.fits refl))
+
+    go : (f : Bool) → d.fits ≡ f → (a : Bool) → nat_le 1 d.value ≡ a → (b : Bool) → nat_le d.value max_number ≡ b →
+        IsFound assembly t at (register_found d)
+    go true e true p true q =
+        let s = (v.small e).0 in
+        rw (e, p, q) (w, rw s is, (leb-true 1 d.value p, leb-true d.value max_number q))
+    go true e true p false q =
+        let m = leb-false d.value max_number q in rw (e, p, q) (large (λ x y. omega (arith, y.1)))
+    go true e false p b q = let m = leb-false 1 d.value p in rw (e, p) (large (λ x y. omega (arith, y.0)))
+    go false e a p b q = rw e (large (λ x y. absurd (cc)))
 
 -- a word that is no register
-pub name_found : (u : List ℕ) (end : ℕ) → is_register u ≡ false → IsWordFound u end (Read (word_in words u) end)
-name_found u end e = (refl, rw e refl, keeps_in words words_keep u)
+pub word_is_found : (t : List ℕ) (at end : ℕ) (x : Kind) → at < length t → is_register (word_at (drop at t)) ≡ false →
+    Within t at end → piece (drop at t) ≡ PWord (end - at) →
+    x ≡ word_in words (take (end - at) (drop at t)) → IsFound assembly t at (Read x end)
+word_is_found t at end x l r w p e =
+    let s = drop (at + 1) t in
+    let n : end - at ≡ suc (prefix_len of_word s) =
+    omega (arith, word_length (get_or t at 0) s (end - at) (ap (λ (y : List ℕ). piece y) (sym (here t at l)) ∙ p)) in
+    let same : take (end - at) (drop at t) ≡ word_at (drop at t) = rw (n, here t at l) refl in
+    let f : is_register (take (end - at) (drop at t)) ≡ false = ap (λ (y : List ℕ). is_register y) same ∙ r in
+    rw e (
+      w,
+      ap (λ (y : Piece). of_piece assembly (drop at t) y) p ∙ rw f refl,
+      keeps_in words words_keep (take (end - at) (drop at t)),
+    )
 
--- a register, within its bounds and out of them
-pub register_is_found : (u : List ℕ) (end : ℕ) (d : Digits) → is_register u ≡ true → IsValue d.value d.fits (after_first u) → d.fits ≡ true → 1 ≤ d.value → d.value ≤ max_number →
-    IsWordFound u end (Read (k.Register d.value) end)
-register_is_found u end d e v f l m = let s = (v.small f).0 in (refl, rw (e, s) refl, (l, m))
-
-pub register_is_large : (u : List ℕ) (end : ℕ) (d : Digits) → is_register u ≡ true → IsValue d.value d.fits (after_first u) → (d.fits ≡ true → ¬ ((1 ≤ d.value) × (d.value ≤ max_number))) →
-    IsWordFound u end (Large end)
-register_is_large u end d e v n = (refl, by_fit d.fits refl)
-  where
-    by_fit : (b : Bool) → d.fits ≡ b → ¬ Keeps (word u)
-    by_fit true q = let s = (v.small q).0 in rw e (λ x. n q (omega (arith, x.0), omega (arith, x.1)))
-    by_fit false q = let s = v.large q in rw e (λ x. omega (arith, x.1))
-
-pub word_is_found : (t : List ℕ) (at end : ℕ) (f : Found Kind) → Within t at end → piece (drop at t) ≡ PWord (end - at) → IsWordFound (take (end - at) (drop at t)) end f → IsFound assembly t at f
-word_is_found t at end (Read x e) w p (a, b, c) = rw a (w, ap (λ (y : Piece). of_piece assembly (drop at t) y) p ∙ rw b refl, c)
-word_is_found t at end (Large e) w p (a, b) = rw a (w, (word (take (end - at) (drop at t)), ap (λ (y : Piece). of_piece assembly (drop at t) y) p, b))
-word_is_found t at end (Skip e) w p h = absurd h
-word_is_found t at end Bad w p h = absurd h
-
-pub plain_is_found : (t : List ℕ) (at : ℕ) (d : Digits) → Within t at d.end → piece (drop at t) ≡ PPlain (d.end - at) → IsValue d.value d.fits (take (d.end - at) (drop at t)) →
+pub plain_is_found : (t : List ℕ) (at : ℕ) (d : Digits) → Within t at d.end → piece (drop at t) ≡ PPlain (d.end - at) →
+    IsValue d.value d.fits (take (d.end - at) (drop at t)) →
     IsFound assembly t at (plain_found d)
 plain_is_found t at d w p v = go d.fits refl (nat_le d.value max_number) refl
   where
@@ -104,11 +255,17 @@ plain_is_found t at d w p v = go d.fits refl (nat_le d.value max_number) refl
     is = ap (λ (x : Piece). of_piece assembly (drop at t) x) p
 
     go : (f : Bool) → d.fits ≡ f → (l : Bool) → nat_le d.value max_number ≡ l → IsFound assembly t at (plain_found d)
-    go true e true q = let s = (v.small e).0 in let m = leb-true d.value max_number q in rw (e, q) (w, rw s is, omega (arith, ints))
-    go true e false q = let s = (v.small e).0 in let m = leb-false d.value max_number q in rw (e, q) (w, (k.Plain (pos (value u)), is, λ x. omega (arith, ints)))
+    go true e true q =
+        let s = (v.small e).0 in
+        let m = leb-true d.value max_number q in rw (e, q) (w, rw s is, omega (arith, ints))
+    go true e false q =
+        let s = (v.small e).0 in
+        let m = leb-false d.value max_number q in
+        rw (e, q) (w, (k.Plain (pos (value u)), is, λ x. omega (arith, ints)))
     go false e l q = let s = v.large e in rw e (w, (k.Plain (pos (value u)), is, λ x. omega (arith, ints)))
 
-pub negative_is_found : (t : List ℕ) (at : ℕ) (d : Digits) → Within t at d.end → piece (drop at t) ≡ PNegative (d.end - at) → IsValue d.value d.fits (drop 1 (take (d.end - at) (drop at t))) →
+pub negative_is_found : (t : List ℕ) (at : ℕ) (d : Digits) → Within t at d.end →
+    piece (drop at t) ≡ PNegative (d.end - at) → IsValue d.value d.fits (drop 1 (take (d.end - at) (drop at t))) →
     IsFound assembly t at (negative_found d)
 negative_is_found t at d w p v = go d.fits refl
   where

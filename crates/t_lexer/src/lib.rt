@@ -2,6 +2,7 @@
 #![tactic(auto)]
 
 mod cut;
+mod digits;
 mod laws;
 mod scan;
 mod stored;

@@ -118,6 +118,7 @@ fn tag_of(kind: Kind) -> Tag
 }
 
 // the kind of a tag and its number
+#[inline(always)]
 fn kind_of(tag: Tag, value: u32) -> Kind
     ensures { result ≡ kind_of tag value }
 {
@@ -233,6 +234,7 @@ impl Stored {
     }
 
     /// The token that is kept.
+    #[inline(always)]
     pub fn token(&self) -> Token
         ensures { result ≡ self.now }
     {

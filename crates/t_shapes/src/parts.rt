@@ -30,6 +30,7 @@ pub struct FoundTarget {
 }
 
 /// [ n ]
+#[inline(always)]
 pub fn index(tokens: &[Stored], at: usize) -> Result<FoundIndex, Stopped>
     requires { at ≤ length tokens.now }
     ensures { IsIndex tokens.now at result }
@@ -44,6 +45,7 @@ pub fn index(tokens: &[Stored], at: usize) -> Result<FoundIndex, Stopped>
 }
 
 /// reg [ n ]
+#[inline(always)]
 pub fn place(tokens: &[Stored], at: usize) -> Result<FoundPlace, Stopped>
     requires { at ≤ length tokens.now }
     ensures { IsPlace tokens.now at result }
@@ -83,6 +85,7 @@ pub fn int(tokens: &[Stored], at: usize) -> Result<u64, Stopped>
 }
 
 /// reg , of which the number of the register is left.
+#[inline(always)]
 pub fn operand(tokens: &[Stored], at: usize) -> Result<u64, Stopped>
     requires { at ≤ length tokens.now }
     ensures { IsOperand tokens.now at result }

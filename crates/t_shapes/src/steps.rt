@@ -32,6 +32,7 @@ pub fn up_to(word: Token, end: u64) -> Span
 }
 
 // reg , reg , V
+#[inline(always)]
 fn arith(
     alloc: Global,
     tokens: &[Stored],

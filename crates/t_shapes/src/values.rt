@@ -32,6 +32,7 @@ pub struct FoundPacked {
 }
 
 // N ::= reg | number | label
+#[inline(always)]
 fn base(token: Token) -> Option<RawBase>
     ensures { MatchOption result (is_base token.kind ≡ false)
         (λ b. (is_base token.kind ≡ true) × (raw_base b ≡ base_of token.kind token.span)) }
@@ -67,6 +68,7 @@ pub fn package(
 }
 
 // N | N [ T , .. , T ], where the base is the token at a place
+#[inline(always)]
 fn plain(
     alloc: Global,
     tokens: &[Stored],

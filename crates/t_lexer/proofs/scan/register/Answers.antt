@@ -1,12 +1,14 @@
-use Rattle.t_lexer.proofs.Finding.{digits_to_end, digits_end_before}
+use Rattle.std.proofs.Common.{sym, ◌∙◌}
+use Rattle.t_lexer.proofs.Finding.{word_goes_on, register_stands}
 use Rattle.t_lexer.proofs.scan.register.Goals as goal
 
-pub returns-then-digits-bytes : goal.returns-then-digits-bytes
-returns-then-digits-bytes c =
-    let d = c.read_digits-digits in
-    digits_to_end c.args.bytes.now d.result c.if-bytes-lt2.false c.if-bytes-ne114.false d.ensures.end c.if-digits-bytes.true d.ensures.is_value
+pub returns-then-goes_on : goal.returns-then-goes_on
+returns-then-goes_on c =
+    let d = c.digits_at-digits in
+    word_goes_on c.args.text.now c.args.at c.requires d.result d.ensures.end (sym c.goes_on.ensures ∙ c.if-goes_on.true)
 
-pub returns-else-digits-bytes : goal.returns-else-digits-bytes
-returns-else-digits-bytes c =
-    let d = c.read_digits-digits in
-    digits_end_before c.args.bytes.now d.result.end c.if-bytes-lt2.false c.if-bytes-ne114.false d.ensures.end c.if-digits-bytes.false
+pub returns : goal.returns
+returns c =
+    let d = c.digits_at-digits in
+    register_stands c.args.text.now c.args.at c.requires d.result d.ensures.end c.if-text-at-ne114.false
+    (sym c.goes_on.ensures ∙ c.if-goes_on.false) c.if-digits-at.false d.ensures.is_value

@@ -1,6 +1,6 @@
 -- A first fault with what is at odds in it, beside the first fault alone: it is that fault, each says something, and it
 -- says one thing.
-use Rattle.std.proofs.Common.{◌≡◌, ℕ, Bool, Option, Some, None, refl, sym, ap, ◌∙◌, subst, inl, inr}
+use Rattle.std.proofs.Common.{◌≡◌, ℕ, Bool, Option, Some, None, sym, ap, ◌∙◌, subst, inl, inr}
 use Rattle.idx_core.specs.declared.span.Span.{Span}
 use Rattle.text_core.specs.Refusals.{nothing, refuse, check, part, if_known}
 use Rattle.text_core.proofs.Refusals.{Clear}

@@ -1,6 +1,6 @@
 -- Whether a file fits, register by register: what is left to show, from the registers that are left to check.
 use Rattle.std.proofs.Common.{◌≡◌, ℕ, ◌+◌, ◌<◌, ◌≤◌, List, ◌∷◌, length, drop, get_or, Option, Some, None, refl, sym, ap}
-use Rattle.std.proofs.Common.{◌∙◌, subst, inl, inr, Result, Ok, Err}
+use Rattle.std.proofs.Common.{◌∙◌, subst, inl, inr, Result}
 use Rattle.std.proofs.lemmas.List.{drop_more, drop_all}
 use Rattle.idx_core.specs.declared.span.Span.{Span}
 use Rattle.text_core.specs.Refusals.{check, nothing}

@@ -138,7 +138,11 @@ hidden_type_escapes_says = inr (
       inl (inr (
         _,
         (_, refl, refl),
-        inr (_, refl, inr (refl, inl ((λ f. unfit _ _ _ refl (no_fit _ _ (λ e. cc) (λ fs gs e k. cc)) f), (refl, refl)))),
+        inr (
+          _,
+          refl,
+          inr (refl, inl ((λ f. unfit _ _ _ refl (no_fit _ _ (λ e. cc) (λ fs gs e k. cc)) f), (refl, refl))),
+        ),
       )),
     ),
   ),

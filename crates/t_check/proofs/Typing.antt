@@ -2,7 +2,7 @@
 use Rattle.std.proofs.Common.{◌≡◌, ◌≢◌, ℕ, ◌+◌, ◌-◌, ◌<◌, ◌≤◌, List, [], ◌∷◌, length, Some, None, Result, Ok, Err, inl, inr, OnOk, refl, sym, ap, ap₂, ◌∙◌, arith, subst}
 use Rattle.idx_core.specs.declared.arith.Op.{Op}
 use Rattle.idx_core.specs.declared.span.Span.{Span}
-use Rattle.text_core.specs.Refusals.{refuse, check, nothing}
+use Rattle.text_core.specs.Refusals.{refuse, check}
 use Rattle.t_types.proofs.Scope.{well_formed_below}
 use Rattle.t_types.specs.Tree.{Ty, IntTy, VarTy, CodeTy, ExistsTy, TupleTy, TFile, BelowTypes, put}
 use Rattle.t_types.specs.Fits.{Fits, FitsFile, RegTypes}

@@ -5,7 +5,7 @@ use Rattle.t_terms.specs.declared.fault.TFault.{TFault}
 use Rattle.t_terms.specs.declared.fault.TFault.TheVariants as fault
 use Rattle.t_check.specs.Mismatch as plain
 use Rattle.t_check.specs.Mismatch.{FaultWith}
-use Rattle.t_check.specs.ReadMismatch.{mismatch, mismatch_or_none}
+use Rattle.t_check.specs.ReadMismatch.{mismatch}
 use Rattle.t_check.specs.declared.mismatch.Mismatch.{Mismatch}
 use Rattle.t_check.specs.declared.refusal.Refusal.{Refusal}
 use Rattle.t_check.specs.declared.refusal.Refusal.TheVariants.{Memory, Refused, AtOdds, Untold}

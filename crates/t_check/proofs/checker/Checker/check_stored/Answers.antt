@@ -3,7 +3,7 @@ use Rattle.t_types.specs.Tree.{Ty}
 use Rattle.t_types.specs.Fits.{Fits}
 use Rattle.t_terms.specs.declared.fault.TCode.TheVariants.{T13}
 use Rattle.t_intern.specs.Nodes.{at}
-use Rattle.t_intern.proofs.Growing.{grown_at, grown_length, grown_next}
+use Rattle.t_intern.proofs.Growing.{grown_at, grown_length}
 use Rattle.t_check.specs.Known.{known, seen}
 use Rattle.t_check.specs.Mismatch.{StoreFaultWith, register, fitting}
 use Rattle.t_check.proofs.Loads.{field_follows, unfit}

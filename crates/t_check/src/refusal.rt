@@ -25,7 +25,7 @@ pub(crate) struct AtOdds {
     pub(crate) mismatch: Mismatch,
 }
 
-/// Why the checker does not accept a program. It is no larger than the fault that callers see.
+/// Why the checker does not accept a program. What is at odds stands in a box, so that a refusal stays small.
 #[derive(Drop)]
 pub(crate) enum Refusal {
     /// Memory was wanted and not had.

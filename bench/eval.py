@@ -1,8 +1,8 @@
-"""Evaluation: `talc eval` beside lua5.4 on the same two programs, as ratios in one run.
+"""Evaluation: `talc eval` beside lua5.4 on the same three programs, as ratios in one run.
 
-The first calls 100000 deep, twenty times, as deep as Lua goes; the second makes 10000000 turns in a loop. For each:
-turns a second, the memory for each turn beyond that of the text `7`, and the time as a multiple of Lua's (wanted: at
-most 1). A row that misses says so.
+The first calls 100000 deep, twenty times, as deep as Lua goes; the second makes 10000000 turns in a loop; the third is
+the 32nd Fibonacci number by two calls in each. For each: turns a second, the memory for each turn beyond that of the
+text `7`, and the time as a multiple of Lua's (wanted: at most 1). A row that misses says so.
 """
 from measure import Spent, available, best, folder, program, ratio
 
@@ -23,6 +23,14 @@ CASES = [
         10000000,
         "int 0 after 10000000 turns\n",
         "local function f(n) if n == 0 then return 0 else return f(n - 1) end end print(f(9999999))",
+    ),
+    (
+        "the 32nd Fibonacci number",
+        "(fix f(n:int):int. if0(n, 0, if0(n - 1, 1, f(n - 1) + f(n - 2)))) 32",
+        7049155,
+        "int 2178309 after 7049155 turns\n",
+        "local function f(n) if n == 0 then return 0 elseif n - 1 == 0 then return 1 "
+        "else return f(n - 1) + f(n - 2) end end print(f(32))",
     ),
 ]
 

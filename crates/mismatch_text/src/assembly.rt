@@ -13,12 +13,7 @@ use t_trace::type_at;
 use t_types::TType;
 
 // A type where so many type names are in scope, at the end of a line.
-fn write_type(
-    alloc: Global,
-    line: &mut Vec<u8>,
-    ty: &TType,
-    names: u64,
-) -> Result<(), OutOfMemory>
+fn write_type(alloc: Global, line: &mut Vec<u8>, ty: &TType, names: u64) -> Result<(), OutOfMemory>
     ensures { OnOk result (line.new.items ≡ line.old.items ++ text_at names 0 (tree ty.now)) }
 {
     let text = type_at(alloc, ty, names)?;
@@ -109,25 +104,26 @@ fn register_line(
 
 /// The line on the types that are at odds in a fault of an assembly text (own choice), without its end; nothing where
 /// no types are. An error is want of memory.
-pub fn assembly_line(
-    alloc: Global,
-    mismatch: &Option<Mismatch>,
-) -> Result<Vec<u8>, OutOfMemory>
+pub fn assembly_line(alloc: Global, mismatch: &Option<Mismatch>) -> Result<Vec<u8>, OutOfMemory>
     ensures { IfOk result (λ made. made.items ≡ assembly_line (mismatch_or_none mismatch.now)) }
 {
     match mismatch {
         None => Ok(Vec::new(alloc)),
-        Some(Mismatch::Types {
-            wanted,
-            found,
-            names,
-        }) => types_line(alloc, wanted, found, *names),
+        Some(
+            Mismatch::Types {
+                wanted,
+                found,
+                names,
+            },
+        ) => types_line(alloc, wanted, found, *names),
         Some(Mismatch::NoPackage { found, names }) => package_line(alloc, found, *names),
-        Some(Mismatch::Register {
-            register,
-            wanted,
-            found,
-            names,
-        }) => register_line(alloc, *register, wanted, found, *names),
+        Some(
+            Mismatch::Register {
+                register,
+                wanted,
+                found,
+                names,
+            },
+        ) => register_line(alloc, *register, wanted, found, *names),
     }
 }

@@ -13,12 +13,7 @@ use idx_core::OutOfMemory;
 use std::alloc::Global;
 
 // A type inside so many type names, at the end of a line.
-fn write_type(
-    alloc: Global,
-    line: &mut Vec<u8>,
-    ty: &FType,
-    names: u64,
-) -> Result<(), OutOfMemory>
+fn write_type(alloc: Global, line: &mut Vec<u8>, ty: &FType, names: u64) -> Result<(), OutOfMemory>
     ensures { OnOk result (line.new.items ≡ line.old.items ++ text_at names (tree ty.now)) }
 {
     let text = type_at(alloc, ty, names)?;

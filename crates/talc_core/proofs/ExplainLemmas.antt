@@ -54,9 +54,9 @@ pub refused_program : (text : List ℕ) (P : SProg) (code : TCode) (span : Span)
     (types : List ℕ) → IsAssembly text P → ProgramFault P code span → ProgramFaultWith P code span found →
     types ≡ assembly_line found → FirstFault AnAssembly text (Tal code span) × AtOdds text (Tal code span) types
 refused_program text P code span found types read fault told is = (
-      inr (record { program = P; read = read; fault = fault }),
-      inr (record { program = P; read = read; mismatch = found; fault = told; is = is }),
-    )
+  inr (record { program = P; read = read; fault = fault }),
+  inr (record { program = P; read = read; mismatch = found; fault = told; is = is }),
+)
 
 module _ (laws : TextLaws) (odds : MismatchLaws) where
   one_of_source : (text : List ℕ) (c : Code) (s : Span) (a b : List ℕ) → AtOdds text (Source c s) a →

@@ -92,11 +92,7 @@ pub(crate) fn find_in_source(alloc: Global, text: &[u8]) -> Result<Finding, OutO
 }
 
 // The fault of an assembly program that is refused.
-fn find_in_program(
-    alloc: Global,
-    program: &TProgram,
-    fault: TFault,
-) -> Result<Finding, OutOfMemory>
+fn find_in_program(alloc: Global, program: &TProgram, fault: TFault) -> Result<Finding, OutOfMemory>
     requires fault { assembly.Says fault (checking.ProgramFault (spanned_program program.now)) }
     ensures { (text : List ℕ) → IsAssembly text (spanned_program program.now) →
         IfOk result (IsFinding AnAssembly text) }

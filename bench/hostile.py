@@ -5,7 +5,13 @@ wanted: each text is accepted, at most 13 times the time for ten times the text,
 of text. A row that misses one of these says so. The two texts are run in turn, and the time of a text is the least of
 its runs, less that of a text of one jump. A run is ended after 60 seconds of processor time or at 8 GB. The names of
 texts may be given, for these alone; without any, all are run.
+
+Of a text that misses the time alone, at a quarter of both sizes, the instructions are counted too, where valgrind is
+installed: at most 13 times as many are no slow text, but one whose tables no longer fit in the cache. The row says so.
 """
+import re
+import shutil
+import subprocess
 import sys
 from measure import LEAST_SECONDS, Run, folder, program
 
@@ -254,32 +260,76 @@ def put(path, text):
         return file.write(text)
 
 
-def report(name, small, large, few, many, bases, why):
+class Pair:
+    """A text at two sizes, the second ten times the first: its bytes, and the files that hold it."""
+
+    def __init__(self, make, n, paths):
+        self.name, self.paths = make.__name__, paths
+        self.small, self.large = put(paths[0], make(n)), put(paths[1], make(10 * n))
+
+    def most_times(self):
+        return MOST_TIMES * self.large / self.small / 10
+
+    def runs(self, talc):
+        """Of each command: its run on the small text and on the large one."""
+        runs = least(commands_of(talc, self.paths[0]) + commands_of(talc, self.paths[1]))
+        return list(zip(runs[:2], runs[2:]))
+
+    def instructions(self, talc):
+        """Of each command: how many times the instructions of the small text the large one takes."""
+        few, many = ([instructions(words) for words, _ in commands_of(talc, path)] for path in self.paths)
+        return [b / a for a, b in zip(few, many)]
+
+
+def instructions(words):
+    """The instructions of one run, as valgrind counts them."""
+    words = ["valgrind", "--tool=cachegrind", "--cache-sim=no", "--cachegrind-out-file=/dev/null", *words]
+    run = subprocess.run(words, stdout=subprocess.DEVNULL, stderr=subprocess.PIPE, text=True)
+    return int(re.search(r"I\s+refs:\s+([\d,]+)", run.stderr)[1].replace(",", ""))
+
+
+def by_cache(talc, make, n, paths):
+    """What a row says of a text that takes too many times the time, but not the instructions; None where these too are
+    too many, or cannot be counted."""
+    if not shutil.which("valgrind"):
+        return None
+    pair = Pair(make, n // 4, paths)
+    grown = pair.instructions(talc)
+    if max(grown) > pair.most_times():
+        return None
+    return f" (by the cache: {max(grown):.1f} times the instructions at {pair.large / pair.small:.2f} times the text)"
+
+
+def report(talc, make, n, paths, bases, why):
     """One line of figures of a text at two sizes, with what it misses, and why where that is known."""
-    pairs = list(zip(few, many, bases))
-    times = [(b[0] - base[0]) / max(a[0] - base[0], 1e-6) for a, b, base in pairs]
-    memory = max(max(0, b[1] - base[1]) / large for _, b, base in pairs)
+    pair = Pair(make, n, paths)
+    runs = [(a, b, base) for (a, b), base in zip(pair.runs(talc), bases)]
+    times = [(b[0] - base[0]) / max(a[0] - base[0], 1e-6) for a, b, base in runs]
+    memory = max(max(0, b[1] - base[1]) / pair.large for _, b, base in runs)
+    cache = by_cache(talc, make, n, paths) if max(times) > pair.most_times() else ""
     misses = [
-        ("not accepted", any(a[2] or b[2] for a, b, _ in pairs)),
-        ("slow", max(times) > MOST_TIMES * large / small / 10), ("large", memory > MOST_BYTES),
-        ("too short to say", min(a[0] - base[0] for a, _, base in pairs) < LEAST_SECONDS),
+        ("not accepted", any(a[2] or b[2] for a, b, _ in runs)),
+        ("slow", cache is None),
+        ("large", memory > MOST_BYTES),
+        ("too short to say", min(a[0] - base[0] for a, _, base in runs) < LEAST_SECONDS),
     ]
     wrong = [word for word, is_so in misses if is_so]
     print(
-        f"{name}: {small} bytes in {few[0][0]:.3f} s, {large} in {many[0][0]:.3f} s; {large / small:.2f} times the "
-        f"text, {times[0]:.1f} times the time to check, {times[1]:.1f} to load, {memory:.0f} bytes of memory a byte"
+        f"{pair.name}: {pair.small} bytes in {runs[0][0][0]:.3f} s, {pair.large} in {runs[0][1][0]:.3f} s; "
+        f"{pair.large / pair.small:.2f} times the text, {times[0]:.1f} times the time to check, {times[1]:.1f} to load"
+        f"{cache or ''}, {memory:.0f} bytes of memory a byte"
         f"{': ' + ', '.join(wrong) if wrong else ''}{f' ({why})' if wrong and why else ''}", flush=True,
     )
 
 
 def enough(talc, path, make, n, bases):
-    """A size, this or ten or a hundred times it, at which both commands take long enough, and ten times it is no larger
+    """A size, this or a power of two times it, at which both commands take long enough, and ten times it is no larger
     than texts may be."""
-    while 100 * put(path, make(n)) < MOST_TEXT:
+    while 20 * put(path, make(n)) < MOST_TEXT:
         runs = least(commands_of(talc, path), times=2)
-        if min(run[0] - base[0] for run, base in zip(runs, bases)) >= LEAST_SECONDS:
+        if min(run[0] - base[0] for run, base in zip(runs, bases)) >= 1.5 * LEAST_SECONDS:
             break
-        n *= 10
+        n *= 2
     return n
 
 
@@ -293,9 +343,7 @@ def main():
         for make, n, why in [(*text, "") for text in TEXTS] + LARGER:
             if not chosen or make.__name__ in chosen:
                 n = enough(talc, paths[0], make, n, bases)
-                small, large = put(paths[0], make(n)), put(paths[1], make(10 * n))
-                runs = least(commands_of(talc, paths[0]) + commands_of(talc, paths[1]))
-                report(make.__name__, small, large, runs[:2], runs[2:], bases, why)
+                report(talc, make, n, paths, bases, why)
 
 
 main()

@@ -2,6 +2,7 @@
 commands. Runs are started by bench/launcher.c, which wants a C compiler."""
 import functools
 import os
+import re
 import subprocess
 import sys
 import tempfile
@@ -10,9 +11,10 @@ from pathlib import Path
 ROOT = Path(__file__).resolve().parent.parent
 TALC = ROOT / "crates" / "talc" / "out" / "talc"
 
-# All that is measured, the other packages' commands too, takes memory in large pages where the system has them, as
-# `./talc` starts the program; with GLIBC_TUNABLES set to nothing, none does.
-os.environ.setdefault("GLIBC_TUNABLES", "glibc.malloc.hugetlb=1")
+# All that is measured, the other packages' commands too, has memory handed out as `./talc` has it, by what
+# tools/program.bash sets; with GLIBC_TUNABLES set to nothing, as the C library does it by itself.
+TUNABLES = re.search(r"GLIBC_TUNABLES-([^}]+)}", (ROOT / "tools" / "program.bash").read_text(encoding="utf-8"))[1]
+os.environ.setdefault("GLIBC_TUNABLES", TUNABLES)
 
 # Examples of what is refused.
 REFUSED = ("escape.f", "turn.f")

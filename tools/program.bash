@@ -17,8 +17,9 @@ build_at_need() {
     fi
 }
 
-# Lets the program take memory in large pages, where the system has them: a page fault costs more than an instruction of
-# a loop that allocates. What the caller has set for the C library stays.
-use_large_pages() {
-    export GLIBC_TUNABLES=${GLIBC_TUNABLES-glibc.malloc.hugetlb=1}
+# Tells the C library how to hand out memory, where the caller has told it nothing: in large pages, where the system has
+# them; from the system 64 MiB at a time; and no lists of small freed pieces beside those of each size, which would be
+# emptied again and again. A page fault costs more than an instruction of a loop that allocates.
+tune_memory() {
+    export GLIBC_TUNABLES=${GLIBC_TUNABLES-glibc.malloc.hugetlb=1:glibc.malloc.top_pad=67108864:glibc.malloc.mxfast=0}
 }

@@ -6,10 +6,11 @@ ghost use Rattle.t_terms.specs.Text.{most_open};
 ghost use Rattle.t_grammar.specs.Cursor.{IsExpected, AreExpected, IsHeld, IsOpened};
 ghost use Rattle.t_grammar.specs.declared.cursor.Stopped.TheVariants as stopped;
 ghost use Rattle.t_terms.specs.declared.wanted.Wanted.TheVariants as want;
+ghost use Rattle.t_lexer.specs.Kept.{tokens_of};
 
 use idx_core::Span;
 use std::alloc::{AllocError, AllocFailed};
-use t_lexer::Stored;
+use t_lexer::Tokens;
 use t_terms::{Kind, Token, Wanted};
 
 /// How many constructs may be open at a token.
@@ -45,11 +46,10 @@ impl From<AllocError> for Stopped {
 
 /// The token at a place, or none at the end.
 #[inline(always)]
-pub fn peek(tokens: &[Stored], at: usize) -> Option<Token>
-    ensures { result ≡ slice_get tokens.now at }
+pub fn peek(tokens: &Tokens, at: usize) -> Option<Token>
+    ensures { result ≡ slice_get (tokens_of tokens.now) at }
 {
-    let stored = tokens.get(at)?;
-    Some(stored.token())
+    tokens.get(at)
 }
 
 // the flag that a number is
@@ -100,8 +100,8 @@ fn fits_kind(wanted: Wanted, kind: Kind) -> bool
 
 /// The token at a place, where it is one that is wanted.
 #[inline(always)]
-pub fn take(tokens: &[Stored], at: usize, wanted: Wanted) -> Option<Token>
-    ensures { result ≡ next_of table wanted (slice_get tokens.now at) }
+pub fn take(tokens: &Tokens, at: usize, wanted: Wanted) -> Option<Token>
+    ensures { result ≡ next_of table wanted (slice_get (tokens_of tokens.now) at) }
 {
     let token = peek(tokens, at)?;
     if fits_kind(wanted, token.kind) {
@@ -113,8 +113,8 @@ pub fn take(tokens: &[Stored], at: usize, wanted: Wanted) -> Option<Token>
 
 /// The token at a place, which must be one that is wanted.
 #[inline(always)]
-pub fn expect(tokens: &[Stored], at: usize, wanted: Wanted) -> Result<Token, Stopped>
-    ensures { IsExpected tokens.now at wanted result }
+pub fn expect(tokens: &Tokens, at: usize, wanted: Wanted) -> Result<Token, Stopped>
+    ensures { IsExpected (tokens_of tokens.now) at wanted result }
 {
     match take(tokens, at, wanted) {
         Some(token) => Ok(token),
@@ -124,12 +124,12 @@ pub fn expect(tokens: &[Stored], at: usize, wanted: Wanted) -> Result<Token, Sto
 
 /// The tokens at a place and after it, which must be of these classes.
 pub fn expect_two(
-    tokens: &[Stored],
+    tokens: &Tokens,
     at: usize,
     first: Wanted,
     second: Wanted,
 ) -> Result<(Token, Token), Stopped>
-    ensures { AreExpected tokens.now at first second result }
+    ensures { AreExpected (tokens_of tokens.now) at first second result }
 {
     let one = expect(tokens, at, first)?;
     let two = expect(tokens, at + 1, second)?;
@@ -137,8 +137,8 @@ pub fn expect_two(
 }
 
 /// The number of the register at a place, where one must stand, with its place in the text.
-pub fn expect_register(tokens: &[Stored], at: usize) -> Result<(u64, Span), Stopped>
-    ensures { IsHeld (λ c. (register_of c.kind, c.span)) tokens.now at want.Register result }
+pub fn expect_register(tokens: &Tokens, at: usize) -> Result<(u64, Span), Stopped>
+    ensures { IsHeld (λ c. (register_of c.kind, c.span)) (tokens_of tokens.now) at want.Register result }
 {
     let token = expect(tokens, at, Wanted::Register)?;
     match token.kind {
@@ -148,8 +148,8 @@ pub fn expect_register(tokens: &[Stored], at: usize) -> Result<(u64, Span), Stop
 }
 
 /// The field number at a place, where one must stand.
-pub fn expect_index(tokens: &[Stored], at: usize) -> Result<u64, Stopped>
-    ensures { IsHeld (λ c. nat_abs (value_of c.kind)) tokens.now at want.Number result }
+pub fn expect_index(tokens: &Tokens, at: usize) -> Result<u64, Stopped>
+    ensures { IsHeld (λ c. nat_abs (value_of c.kind)) (tokens_of tokens.now) at want.Number result }
 {
     let token = expect(tokens, at, Wanted::Number)?;
     match token.kind {
@@ -159,8 +159,8 @@ pub fn expect_index(tokens: &[Stored], at: usize) -> Result<u64, Stopped>
 }
 
 /// Whether the flag at a place, where one must stand, is that of an initialised field.
-pub(crate) fn expect_flag(tokens: &[Stored], at: usize) -> Result<bool, Stopped>
-    ensures { IsHeld (λ c. flag_of c.kind) tokens.now at want.Flag result }
+pub(crate) fn expect_flag(tokens: &Tokens, at: usize) -> Result<bool, Stopped>
+    ensures { IsHeld (λ c. flag_of c.kind) (tokens_of tokens.now) at want.Flag result }
 {
     let token = expect(tokens, at, Wanted::Flag)?;
     Ok(flag_in(token.kind))

@@ -2,11 +2,12 @@
 ghost use Rattle.std.specs.Prelude.{◌≤◌, length};
 ghost use Rattle.t_terms.specs.Text.{most_open};
 ghost use Rattle.t_grammar.specs.Reads.{IsBinds, IsNames};
+ghost use Rattle.t_lexer.specs.Kept.{tokens_of};
 
 use crate::cursor::{Stopped, expect, opened, take};
 use idx_core::Span;
 use std::alloc::Global;
-use t_lexer::Stored;
+use t_lexer::Tokens;
 use t_terms::Wanted;
 
 /// Names in brackets that were read, each by its place, and the number of the token after them.
@@ -17,10 +18,10 @@ pub struct FoundNames {
 }
 
 /// [ names ], where names ::= nothing | name , .. , name
-pub fn binds(alloc: Global, tokens: &[Stored], at: usize, depth: u64) -> Result<FoundNames, Stopped>
+pub fn binds(alloc: Global, tokens: &Tokens, at: usize, depth: u64) -> Result<FoundNames, Stopped>
     requires depth { depth ≤ most_open }
-    requires at { at ≤ length tokens.now }
-    ensures { IsBinds tokens.now depth at result }
+    requires at { at ≤ length (tokens_of tokens.now) }
+    ensures { IsBinds (tokens_of tokens.now) depth at result }
 {
     expect(tokens, at, Wanted::LeftBracket)?;
     let inner = opened(at, depth)?;
@@ -29,10 +30,10 @@ pub fn binds(alloc: Global, tokens: &[Stored], at: usize, depth: u64) -> Result<
 }
 
 // names and the closing bracket, or the bracket alone
-fn names(alloc: Global, tokens: &[Stored], at: usize, depth: u64) -> Result<FoundNames, Stopped>
+fn names(alloc: Global, tokens: &Tokens, at: usize, depth: u64) -> Result<FoundNames, Stopped>
     requires depth { depth ≤ most_open }
-    requires at { at ≤ length tokens.now }
-    ensures { IsNames tokens.now depth at result }
+    requires at { at ≤ length (tokens_of tokens.now) }
+    ensures { IsNames (tokens_of tokens.now) depth at result }
 {
     let mut names = Vec::new(alloc);
     if let Some(_) = take(tokens, at, Wanted::RightBracket) {

@@ -6,6 +6,7 @@ ghost use Rattle.t_terms.specs.declared.token.Kind.TheVariants as kinds;
 ghost use Rattle.t_grammar.specs.Raw.{raw};
 ghost use Rattle.t_grammar.specs.Reads.{IsType, IsTypeFrom, IsFile, IsRegs, IsEntry, IsFields, IsField};
 ghost use Rattle.t_grammar.specs.declared.cursor.Stopped.TheVariants as stopped;
+ghost use Rattle.t_lexer.specs.Kept.{tokens_of};
 
 use crate::cursor::{
     Stopped, expect, expect_flag, expect_register, expect_two, opened, peek, take,
@@ -14,7 +15,7 @@ use crate::names::binds;
 use crate::raw::{RawFile, RawType};
 use idx_core::Span;
 use std::alloc::Global;
-use t_lexer::Stored;
+use t_lexer::Tokens;
 use t_terms::{Kind, Wanted};
 
 /// A type that was read, the end of its last token, and the number of the token after it.
@@ -57,13 +58,13 @@ fn exists(alloc: Global, name: Span, body: RawType) -> Result<RawType, Stopped>
 #[cycle(types)]
 pub fn whole_type(
     alloc: Global,
-    tokens: &[Stored],
+    tokens: &Tokens,
     at: usize,
     depth: u64,
 ) -> Result<FoundType, Stopped>
     requires depth { depth ≤ most_open }
-    requires at { at ≤ length tokens.now }
-    ensures { IsType tokens.now depth at result }
+    requires at { at ≤ length (tokens_of tokens.now) }
+    ensures { IsType (tokens_of tokens.now) depth at result }
 {
     let token = match peek(tokens, at) {
         Some(token) => token,
@@ -93,10 +94,10 @@ pub fn whole_type(
 
 // all [ names ] File
 #[cycle(types)]
-fn code_type(alloc: Global, tokens: &[Stored], at: usize, depth: u64) -> Result<FoundType, Stopped>
+fn code_type(alloc: Global, tokens: &Tokens, at: usize, depth: u64) -> Result<FoundType, Stopped>
     requires depth { depth ≤ most_open }
-    requires at { at < length tokens.now }
-    ensures { IsTypeFrom kinds.All tokens.now depth at result }
+    requires at { at < length (tokens_of tokens.now) }
+    ensures { IsTypeFrom kinds.All (tokens_of tokens.now) depth at result }
 {
     let names = binds(alloc, tokens, at + 1, depth)?;
     let found = file(alloc, tokens, names.next, depth)?;
@@ -109,10 +110,10 @@ fn code_type(alloc: Global, tokens: &[Stored], at: usize, depth: u64) -> Result<
 
 // some name . T
 #[cycle(types)]
-fn some_type(alloc: Global, tokens: &[Stored], at: usize, depth: u64) -> Result<FoundType, Stopped>
+fn some_type(alloc: Global, tokens: &Tokens, at: usize, depth: u64) -> Result<FoundType, Stopped>
     requires depth { depth ≤ most_open }
-    requires at { at < length tokens.now }
-    ensures { IsTypeFrom kinds.Some tokens.now depth at result }
+    requires at { at < length (tokens_of tokens.now) }
+    ensures { IsTypeFrom kinds.Some (tokens_of tokens.now) depth at result }
 {
     let inner = opened(at, depth)?;
     let (name, _) = expect_two(tokens, at + 1, Wanted::Name, Wanted::Dot)?;
@@ -127,10 +128,10 @@ fn some_type(alloc: Global, tokens: &[Stored], at: usize, depth: u64) -> Result<
 
 /// File ::= { } | { reg : T , .. , reg : T }
 #[cycle(types)]
-pub fn file(alloc: Global, tokens: &[Stored], at: usize, depth: u64) -> Result<FoundFile, Stopped>
+pub fn file(alloc: Global, tokens: &Tokens, at: usize, depth: u64) -> Result<FoundFile, Stopped>
     requires depth { depth ≤ most_open }
-    requires at { at ≤ length tokens.now }
-    ensures { IsFile tokens.now depth at result }
+    requires at { at ≤ length (tokens_of tokens.now) }
+    ensures { IsFile (tokens_of tokens.now) depth at result }
 {
     expect(tokens, at, Wanted::LeftBrace)?;
     let inner = opened(at, depth)?;
@@ -140,10 +141,10 @@ pub fn file(alloc: Global, tokens: &[Stored], at: usize, depth: u64) -> Result<F
 
 // reg : T , .. , reg : T and the closing brace, or the brace alone
 #[cycle(types)]
-fn regs(alloc: Global, tokens: &[Stored], at: usize, depth: u64) -> Result<FoundFile, Stopped>
+fn regs(alloc: Global, tokens: &Tokens, at: usize, depth: u64) -> Result<FoundFile, Stopped>
     requires depth { depth ≤ most_open }
-    requires at { at ≤ length tokens.now }
-    ensures { IsRegs tokens.now depth at result }
+    requires at { at ≤ length (tokens_of tokens.now) }
+    ensures { IsRegs (tokens_of tokens.now) depth at result }
 {
     let mut regs = Vec::new(alloc);
     if let Some(close) = take(tokens, at, Wanted::RightBrace) {
@@ -171,10 +172,10 @@ fn regs(alloc: Global, tokens: &[Stored], at: usize, depth: u64) -> Result<Found
 
 // reg : T
 #[cycle(types)]
-fn entry(alloc: Global, tokens: &[Stored], at: usize, depth: u64) -> Result<FoundEntry, Stopped>
+fn entry(alloc: Global, tokens: &Tokens, at: usize, depth: u64) -> Result<FoundEntry, Stopped>
     requires depth { depth ≤ most_open }
-    requires at { at ≤ length tokens.now }
-    ensures { IsEntry tokens.now depth at result }
+    requires at { at ≤ length (tokens_of tokens.now) }
+    ensures { IsEntry (tokens_of tokens.now) depth at result }
 {
     let (reg, span) = expect_register(tokens, at)?;
     expect(tokens, at + 1, Wanted::Colon)?;
@@ -187,10 +188,10 @@ fn entry(alloc: Global, tokens: &[Stored], at: usize, depth: u64) -> Result<Foun
 
 // F , .. , F and the closing bracket, or the bracket alone
 #[cycle(types)]
-fn fields(alloc: Global, tokens: &[Stored], at: usize, depth: u64) -> Result<FoundType, Stopped>
+fn fields(alloc: Global, tokens: &Tokens, at: usize, depth: u64) -> Result<FoundType, Stopped>
     requires depth { depth ≤ most_open }
-    requires at { at ≤ length tokens.now }
-    ensures { IsFields tokens.now depth at result }
+    requires at { at ≤ length (tokens_of tokens.now) }
+    ensures { IsFields (tokens_of tokens.now) depth at result }
 {
     let mut fields = Vec::new(alloc);
     if let Some(close) = take(tokens, at, Wanted::RightAngle) {
@@ -218,10 +219,10 @@ fn fields(alloc: Global, tokens: &[Stored], at: usize, depth: u64) -> Result<Fou
 
 // F ::= T ^ 0 | T ^ 1
 #[cycle(types)]
-fn field(alloc: Global, tokens: &[Stored], at: usize, depth: u64) -> Result<FoundField, Stopped>
+fn field(alloc: Global, tokens: &Tokens, at: usize, depth: u64) -> Result<FoundField, Stopped>
     requires depth { depth ≤ most_open }
-    requires at { at ≤ length tokens.now }
-    ensures { IsField tokens.now depth at result }
+    requires at { at ≤ length (tokens_of tokens.now) }
+    ensures { IsField (tokens_of tokens.now) depth at result }
 {
     let found = whole_type(alloc, tokens, at, depth)?;
     expect(tokens, found.next, Wanted::Caret)?;

@@ -2,9 +2,9 @@
 use Rattle.std.proofs.Common.{◌≡◌, ◌≢◌, ◌≤◌, ◌<◌, ◌==◌, ◌&&◌, ◌||◌, ℕ, pos, suc, ◌+◌, ◌-◌, neg_ℤ, Bool, true, false}
 use Rattle.std.proofs.Common.{if◌then◌else◌, List, [], ◌∷◌, length, take, drop, get_or, Option, Some, None, refl, sym}
 use Rattle.std.proofs.Common.{◌∙◌, ap, arith}
-use Rattle.std.specs.Prelude.{nat_le, bytes_eq}
+use Rattle.std.specs.Prelude.{nat_le, nat_lt, bytes_eq}
 use Rattle.std.specs.List.{list_all, prefix_len}
-use Rattle.std.proofs.lemmas.Bool.{leb-true, leb-false, eqb-true}
+use Rattle.std.proofs.lemmas.Bool.{leb-true, leb-false, ltb-true, eqb-true, and_parts}
 use Rattle.std.proofs.lemmas.Int.{ints}
 use Rattle.std.proofs.lemmas.List.{drop-drop, length-drop}
 use Rattle.std.proofs.lemmas.List.Sums.{prefix_len-le-length}
@@ -13,7 +13,8 @@ use Rattle.text_core.specs.Tokens.{Spelling, look}
 use Rattle.text_core.specs.Lexeme.{Piece, PGap, PWord, PPlain, PNegative, POther, piece, at_dashes, at_negative}
 use Rattle.text_core.specs.Lexeme.{of_sign, of_piece, item, Within, IsValue, IsFound}
 use Rattle.text_core.specs.declared.lexeme.Digits.{Digits}
-use Rattle.text_core.specs.declared.lexeme.Found.TheVariants.{Read, Large}
+use Rattle.text_core.specs.declared.lexeme.Found.TheVariants.{Skip, Read, Large}
+use Rattle.text_core.proofs.Pieces.{word_found}
 use Rattle.text_core.proofs.Runs.{here, run_all}
 use Rattle.t_types.specs.WellFormed.{max_number}
 use Rattle.t_terms.specs.declared.token.Kind.{Kind}
@@ -85,6 +86,73 @@ sign_is_found t at k l e =
       rw (one, here t at l) (lone_item (get_or t at 0) (drop (at + 1) t) k h e),
       lone_keeps (get_or t at 0) k h,
     )
+
+-- white space, a word and a number, by their first bytes
+
+apart : (p : ℕ → Bool) (b n : ℕ) → p b ≡ true → p n ≡ false → (b == n) ≡ false
+apart p b n e f = go (b == n) refl
+  where
+    go : (x : Bool) → (b == n) ≡ x → x ≡ false
+    go true q = let r : b ≡ n = eqb-true b n q in absurd (cc)
+    go false q = refl
+
+no_space : (p : ℕ → Bool) (b : ℕ) → p b ≡ true → p 32 ≡ false → p 9 ≡ false → p 10 ≡ false → p 13 ≡ false →
+    space b ≡ false
+no_space p b e f g h i = rw (apart p b 32 e f, apart p b 9 e g, apart p b 10 e h, apart p b 13 e i) refl
+
+no_dashes : (b : ℕ) (s : List ℕ) → (b == 45) ≡ false → at_dashes (b ∷ s) ≡ false
+no_dashes b [] e = refl
+no_dashes b (c ∷ s) e = rw e refl
+
+not_above : (n b : ℕ) → b ≤ n → nat_lt n b ≡ false
+not_above n b h = go (nat_lt n b) refl
+  where
+    go : (x : Bool) → nat_lt n b ≡ x → x ≡ false
+    go true q = let r = ltb-true n b q in absurd (omega (arith, r, h))
+    go false q = refl
+
+digit_no_letter : (b : ℕ) → digit b ≡ true → letter b ≡ false
+digit_no_letter b e =
+    let s = ltb-true b 58 (and_parts (nat_lt 47 b) (nat_lt b 58) e).1 in
+    rw (not_above 64 b (omega (arith, s)), not_above 96 b (omega (arith, s))) refl
+
+module _ (t : List ℕ) (at : ℕ) (l : at < length t) where
+  pub space_is_found : space (get_or t at 0) ≡ true → IsFound assembly t at (Skip (at + 1))
+  space_is_found e =
+      let s = drop (at + 1) t in
+      let one : at + 1 - at ≡ 1 = omega arith in
+      let p : piece (get_or t at 0 ∷ s) ≡ PGap 1 = rw e refl in (
+        record { forward = omega arith; in_range = omega arith },
+        rw (one, here t at l) (ap (λ (x : Piece). of_piece assembly (get_or t at 0 ∷ s) x) p),
+      )
+
+  pub letter_found : letter (get_or t at 0) ≡ true → (end : ℕ) →
+      end ≡ at + 1 + prefix_len of_word (drop (at + 1) t) → Within t at end × (piece (drop at t) ≡ PWord (end - at))
+  letter_found r end e =
+      let b = get_or t at 0 in
+      let d = no_dashes b (drop (at + 1) t) (apart letter b 45 r refl) in
+      word_found t at l end e (no_space letter b r refl refl refl refl)
+      (ap (λ (s : List ℕ). at_dashes s) (here t at l) ∙ d) r
+
+  pub digit_found : digit (get_or t at 0) ≡ true → (d : Digits) → d.end ≡ at + prefix_len digit (drop at t) →
+      IsValue d.value d.fits (take (prefix_len digit (drop at t)) (drop at t)) →
+      Within t at d.end × (piece (drop at t) ≡ PPlain (d.end - at))
+      × IsValue d.value d.fits (take (d.end - at) (drop at t))
+  digit_found r d e v =
+      let b = get_or t at 0 in
+      let s = drop (at + 1) t in
+      let z : d.end - at ≡ prefix_len digit (drop at t) = omega (arith, e) in
+      let a = prefix_len-le-length digit (drop at t) in
+      let m = length-drop at t in
+      let q : prefix_len digit (b ∷ s) ≡ 1 + prefix_len digit s = rw r refl in
+      let n : prefix_len digit (drop at t) ≡ 1 + prefix_len digit s = rw (here t at l) q in
+      let p : piece (b ∷ s) ≡ PPlain (1 + prefix_len digit s) =
+      rw (no_space digit b r refl refl refl refl, no_dashes b s (apart digit b 45 r refl), digit_no_letter b r, r)
+      refl in (
+        record { forward = omega (arith, e, n); in_range = omega (arith, e, a, m) },
+        rw (z, n, here t at l) p,
+        rw z v,
+      )
 
 -- registers
 

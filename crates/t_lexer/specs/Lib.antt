@@ -1,3 +1,3 @@
 pub mod Cut
+pub mod Kept
 pub mod Scan
-pub mod Stored

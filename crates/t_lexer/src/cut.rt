@@ -3,15 +3,16 @@ ghost use Rattle.std.specs.Prelude.{◌≡◌, ◌≢◌, ◌≤◌, ◌<◌, �
 ghost use Rattle.idx_core.specs.declared.span.Span as place;
 ghost use Rattle.t_terms.specs.declared.fault.TCode as codes;
 ghost use Rattle.t_terms.specs.declared.fault.TFault.TheVariants as fault;
-ghost use Rattle.t_terms.specs.declared.token.Token as tokens_of;
+ghost use Rattle.t_terms.specs.declared.token.Token as token;
 ghost use Rattle.t_terms.specs.Tokens.{IsCut};
+ghost use Rattle.t_lexer.specs.Kept.{tokens_of};
 ghost use Rattle.t_lexer.specs.Cut.{IsTokenFault, FirstTokenFault};
 
+use crate::kept::Tokens;
 use crate::scan::find;
-use crate::stored::Stored;
 use idx_core::Span;
 use std::alloc::Global;
-use t_terms::{TCode, TFault, Token};
+use t_terms::{TCode, TFault};
 use text_core::Found;
 
 fn refused(code: TCode, start: usize, end: usize) -> TFault
@@ -28,14 +29,14 @@ fn refused(code: TCode, start: usize, end: usize) -> TFault
 
 /// The tokens of an assembly text, in order (own choice). Refused by T01 at a byte that begins no token, and by T02
 /// at a number out of range, whichever comes first.
-pub fn tokens(alloc: Global, text: &[u8]) -> Result<Vec<Stored>, TFault>
-    ensures right { MatchResult result (λ w. IsCut text.now w.items) (λ f. IsTokenFault text.now f) }
-    ensures cut { (w : List tokens_of.Token) → IsCut text.now w →
-        MatchResult result (λ v. v.items ≡ w) (λ f. f ≡ fault.Memory) }
+pub fn tokens(alloc: Global, text: &[u8]) -> Result<Tokens, TFault>
+    ensures right { MatchResult result (λ w. IsCut text.now (tokens_of w)) (λ f. IsTokenFault text.now f) }
+    ensures cut { (w : List token.Token) → IsCut text.now w →
+        MatchResult result (λ v. tokens_of v ≡ w) (λ f. f ≡ fault.Memory) }
     ensures refused { (code : codes.TCode) (span : place.Span) → FirstTokenFault text.now code span →
         IsErrAnd result (λ f. f ≢ fault.Memory → f ≡ fault.Refused code span) }
 {
-    let mut out = Vec::new(alloc);
+    let mut out = Tokens::new(alloc);
     let mut at = 0usize;
     while at < text.len() {
         match find(text, at) {
@@ -43,12 +44,7 @@ pub fn tokens(alloc: Global, text: &[u8]) -> Result<Vec<Stored>, TFault>
                 at = end;
             }
             Found::Read(kind, end) => {
-                let span = Span {
-                    start: at as u64,
-                    end: end as u64,
-                };
-                let token = Stored::new(alloc, Token { kind, span })?;
-                out.push(token)?;
+                out.push(kind, at, end)?;
                 at = end;
             }
             Found::Large(end) => return Err(refused(TCode::T02, at, end)),

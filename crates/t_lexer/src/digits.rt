@@ -4,16 +4,11 @@ ghost use Rattle.std.specs.List.{prefix_len};
 ghost use Rattle.text_core.specs.Byte as byte;
 ghost use Rattle.text_core.specs.Lexeme.{IsValue};
 
+use crate::bytes::is_digit;
 use text_core::{Digits, read_digits};
 
 // The least value to which no digit is added without a look at its bound: a tenth of 2 to the power of 63.
 const TENTH: u64 = 922337203685477580;
-
-fn is_digit(b: u8) -> bool
-    ensures { result ≡ byte.digit b }
-{
-    b > 47 && b < 58
-}
 
 /// The digits that stand from `at` on, as `read_digits` gives them. Nearly all are few, and need no division.
 pub fn digits_at(text: &[u8], at: usize) -> Digits

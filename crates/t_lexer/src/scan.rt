@@ -1,111 +1,112 @@
 // What stands at a place of an assembly text.
-ghost use Rattle.std.specs.Prelude.{◌≡◌, ◌≤◌, ◌<◌, ◌^◌, ℕ, pos, neg_ℤ, true, false, None};
+ghost use Rattle.std.specs.Prelude.{◌≡◌, ◌≤◌, ◌<◌, ◌^◌, true, false, None};
 ghost use Rattle.std.specs.Prelude.{[], ◌∷◌, length, drop, get_or};
-ghost use Rattle.text_core.specs.Byte.{of_word};
 ghost use Rattle.text_core.specs.Tokens.{look};
 ghost use Rattle.text_core.specs.Lexeme.{IsFound};
 ghost use Rattle.t_terms.specs.Tokens.{assembly, words, word_in, signs, is_register};
+ghost use Rattle.t_lexer.specs.Kept.{kind_of, of_tag};
 ghost use Rattle.t_lexer.specs.Scan.{plain_found, negative_found, register_found, word_at, IsRegisterAt};
 ghost use Rattle.t_lexer.specs.Scan.{goes_on, words_of_a, words_of_bcd, words_of_hij, words_of_lp};
 ghost use Rattle.t_lexer.specs.Scan.{words_of_m, words_of_s, words_of_tu};
 
+use crate::bytes::{is_digit, is_letter, is_of_word, is_space, word_end};
 use crate::digits::digits_at;
-use t_terms::Kind;
+use crate::tagged::{Tag, Tagged};
 use text_core::{Digits, Found, Lexeme, next_lexeme};
 
 // this reserved word, or a name
-fn word_or_name(bytes: &[u8], reserved: &[u8], kind: Kind) -> Kind
-    ensures { result ≡ word_in ((reserved.now, kind) ∷ []) bytes.now }
+fn word_or_name(bytes: &[u8], reserved: &[u8], tag: Tag) -> Tag
+    ensures { kind_of result 0 ≡ word_in ((reserved.now, kind_of tag 0) ∷ []) bytes.now }
 {
-    if bytes == reserved { kind } else { Kind::Name }
+    if bytes == reserved { tag } else { Tag::Name }
 }
 
 // a reserved word that begins with `a`, or a name
-fn word_of_a(bytes: &[u8]) -> Kind
-    ensures { result ≡ word_in words_of_a bytes.now }
+fn word_of_a(bytes: &[u8]) -> Tag
+    ensures { kind_of result 0 ≡ word_in words_of_a bytes.now }
 {
     match bytes {
-        b"all" => Kind::All,
-        b"as" => Kind::As,
-        b"add" => Kind::Add,
-        _ => Kind::Name,
+        b"all" => Tag::All,
+        b"as" => Tag::As,
+        b"add" => Tag::Add,
+        _ => Tag::Name,
     }
 }
 
 // the same with `b`, `c` or `d`
-fn word_of_bcd(bytes: &[u8]) -> Kind
-    ensures { result ≡ word_in words_of_bcd bytes.now }
+fn word_of_bcd(bytes: &[u8]) -> Tag
+    ensures { kind_of result 0 ≡ word_in words_of_bcd bytes.now }
 {
     match bytes {
-        b"bnz" => Kind::Bnz,
-        b"code" => Kind::Code,
-        b"data" => Kind::Data,
-        _ => Kind::Name,
+        b"bnz" => Tag::Bnz,
+        b"code" => Tag::Code,
+        b"data" => Tag::Data,
+        _ => Tag::Name,
     }
 }
 
 // the same with `h`, `i` or `j`
-fn word_of_hij(bytes: &[u8]) -> Kind
-    ensures { result ≡ word_in words_of_hij bytes.now }
+fn word_of_hij(bytes: &[u8]) -> Tag
+    ensures { kind_of result 0 ≡ word_in words_of_hij bytes.now }
 {
     match bytes {
-        b"halt" => Kind::Halt,
-        b"int" => Kind::Int,
-        b"jmp" => Kind::Jmp,
-        _ => Kind::Name,
+        b"halt" => Tag::Halt,
+        b"int" => Tag::Int,
+        b"jmp" => Tag::Jmp,
+        _ => Tag::Name,
     }
 }
 
 // the same with `l` or `p`
-fn word_of_lp(bytes: &[u8]) -> Kind
-    ensures { result ≡ word_in words_of_lp bytes.now }
+fn word_of_lp(bytes: &[u8]) -> Tag
+    ensures { kind_of result 0 ≡ word_in words_of_lp bytes.now }
 {
     match bytes {
-        b"ld" => Kind::Ld,
-        b"pack" => Kind::Pack,
-        _ => Kind::Name,
+        b"ld" => Tag::Ld,
+        b"pack" => Tag::Pack,
+        _ => Tag::Name,
     }
 }
 
 // the same with `m`
-fn word_of_m(bytes: &[u8]) -> Kind
-    ensures { result ≡ word_in words_of_m bytes.now }
+fn word_of_m(bytes: &[u8]) -> Tag
+    ensures { kind_of result 0 ≡ word_in words_of_m bytes.now }
 {
     match bytes {
-        b"mul" => Kind::Mul,
-        b"mov" => Kind::Mov,
-        _ => word_or_name(bytes, b"malloc".as_slice(), Kind::Malloc),
+        b"mul" => Tag::Mul,
+        b"mov" => Tag::Mov,
+        _ => word_or_name(bytes, b"malloc".as_slice(), Tag::Malloc),
     }
 }
 
 // the same with `s`
-fn word_of_s(bytes: &[u8]) -> Kind
-    ensures { result ≡ word_in words_of_s bytes.now }
+fn word_of_s(bytes: &[u8]) -> Tag
+    ensures { kind_of result 0 ≡ word_in words_of_s bytes.now }
 {
     match bytes {
-        b"some" => Kind::Some,
-        b"sub" => Kind::Sub,
-        b"st" => Kind::St,
-        _ => Kind::Name,
+        b"some" => Tag::Some,
+        b"sub" => Tag::Sub,
+        b"st" => Tag::St,
+        _ => Tag::Name,
     }
 }
 
 // the same with `t` or `u`
-fn word_of_tu(bytes: &[u8]) -> Kind
-    ensures { result ≡ word_in words_of_tu bytes.now }
+fn word_of_tu(bytes: &[u8]) -> Tag
+    ensures { kind_of result 0 ≡ word_in words_of_tu bytes.now }
 {
     match bytes {
-        b"tal" => Kind::Tal,
-        _ => word_or_name(bytes, b"unpack".as_slice(), Kind::Unpack),
+        b"tal" => Tag::Tal,
+        _ => word_or_name(bytes, b"unpack".as_slice(), Tag::Unpack),
     }
 }
 
 // A word that is no register token: the first byte leaves three reserved words at most.
-fn word(bytes: &[u8]) -> Kind
-    ensures { result ≡ word_in words bytes.now }
+fn word(bytes: &[u8]) -> Tag
+    ensures { kind_of result 0 ≡ word_in words bytes.now }
 {
     if bytes.is_empty() {
-        return Kind::Name;
+        return Tag::Name;
     }
     match bytes[0] {
         b'a' => word_of_a(bytes),
@@ -115,65 +116,47 @@ fn word(bytes: &[u8]) -> Kind
         b'm' => word_of_m(bytes),
         b's' => word_of_s(bytes),
         b't' | b'u' => word_of_tu(bytes),
-        _ => Kind::Name,
+        _ => Tag::Name,
     }
 }
 
-fn sign(b: u8) -> Option<Kind>
-    ensures { result ≡ look signs b }
+fn sign(b: u8) -> Option<Tag>
+    ensures { of_tag result ≡ look signs b }
 {
     match b {
-        b'[' => Some(Kind::LeftBracket),
-        b']' => Some(Kind::RightBracket),
-        b'{' => Some(Kind::LeftBrace),
-        b'}' => Some(Kind::RightBrace),
-        b'<' => Some(Kind::LeftAngle),
-        b'>' => Some(Kind::RightAngle),
-        b',' => Some(Kind::Comma),
-        b'.' => Some(Kind::Dot),
-        b':' => Some(Kind::Colon),
-        b'^' => Some(Kind::Caret),
+        b'[' => Some(Tag::LeftBracket),
+        b']' => Some(Tag::RightBracket),
+        b'{' => Some(Tag::LeftBrace),
+        b'}' => Some(Tag::RightBrace),
+        b'<' => Some(Tag::LeftAngle),
+        b'>' => Some(Tag::RightAngle),
+        b',' => Some(Tag::Comma),
+        b'.' => Some(Tag::Dot),
+        b':' => Some(Tag::Colon),
+        b'^' => Some(Tag::Caret),
         _ => None,
     }
 }
 
-// minus a value of at most 2 to the power of 63
-fn negated(value: u64) -> i64
-    requires { value ≤ 2 ^ 63 }
-    ensures { result ≡ neg_ℤ (pos value) }
-{
-    if value <= i64::MAX as u64 {
-        -(value as i64)
-    } else {
-        i64::MIN
-    }
-}
-
-fn plain(digits: Digits) -> Found<Kind>
+fn plain(digits: Digits) -> Found<Tagged>
     ensures { result ≡ plain_found digits }
 {
     if digits.fits && digits.value <= i64::MAX as u64 {
-        Found::Read(Kind::Plain(digits.value as i64), digits.end)
+        Found::Read(Tagged::new(Tag::Plain, digits.value), digits.end)
     } else {
         Found::Large(digits.end)
     }
 }
 
-fn negative(digits: Digits) -> Found<Kind>
+fn negative(digits: Digits) -> Found<Tagged>
     requires { digits.fits ≡ true → digits.value ≤ 2 ^ 63 }
     ensures { result ≡ negative_found digits }
 {
     if digits.fits {
-        Found::Read(Kind::Negative(negated(digits.value)), digits.end)
+        Found::Read(Tagged::new(Tag::Negative, digits.value), digits.end)
     } else {
         Found::Large(digits.end)
     }
-}
-
-fn is_of_word(b: u8) -> bool
-    ensures { result ≡ of_word b }
-{
-    b > 96 && b < 123 || b > 47 && b < 58 || b > 64 && b < 91 || b == b'_'
 }
 
 // whether a letter, a digit or an underscore stands at a place
@@ -202,19 +185,19 @@ fn register(text: &[u8], at: usize) -> Option<Digits>
     Some(digits)
 }
 
-fn numbered(digits: Digits) -> Found<Kind>
+fn numbered(digits: Digits) -> Found<Tagged>
     ensures { result ≡ register_found digits }
 {
     if digits.fits && digits.value >= 1 && digits.value <= i64::MAX as u64 {
-        Found::Read(Kind::Register(digits.value), digits.end)
+        Found::Read(Tagged::new(Tag::Register, digits.value), digits.end)
     } else {
         Found::Large(digits.end)
     }
 }
 
-// what stands at a place where neither a sign nor a register token does
-#[inline(always)]
-fn find_other(text: &[u8], at: usize) -> Found<Kind>
+// what stands at a place where neither white space nor a sign nor a register token does, if it is rare
+#[inline(never)]
+fn find_rare(text: &[u8], at: usize) -> Found<Tagged>
     requires at { at < length text.now }
     requires sign { look signs (get_or text.now at 0) ≡ None }
     requires register { is_register (word_at (drop at text.now)) ≡ false }
@@ -222,21 +205,42 @@ fn find_other(text: &[u8], at: usize) -> Found<Kind>
 {
     match next_lexeme(text, at) {
         Lexeme::Blank(end) => Found::Skip(end),
-        Lexeme::Word(end) => Found::Read(word(&text[at..end]), end),
+        Lexeme::Word(end) => Found::Read(Tagged::bare(word(&text[at..end])), end),
         Lexeme::Plain(digits) => plain(digits),
         Lexeme::Negative(digits) => negative(digits),
         Lexeme::Other => Found::Bad,
     }
 }
 
+// what stands at a place where neither a sign nor a register token does
+#[inline(always)]
+fn find_other(text: &[u8], at: usize) -> Found<Tagged>
+    requires at { at < length text.now }
+    requires sign { look signs (get_or text.now at 0) ≡ None }
+    requires register { is_register (word_at (drop at text.now)) ≡ false }
+    ensures { IsFound assembly text.now at result }
+{
+    if is_letter(text[at]) {
+        let end = word_end(text, at + 1);
+        return Found::Read(Tagged::bare(word(&text[at..end])), end);
+    }
+    if is_digit(text[at]) {
+        return plain(digits_at(text, at));
+    }
+    find_rare(text, at)
+}
+
 /// What stands at a place before the end of an assembly text.
 #[inline(always)]
-pub fn find(text: &[u8], at: usize) -> Found<Kind>
+pub fn find(text: &[u8], at: usize) -> Found<Tagged>
     requires { at < length text.now }
     ensures { IsFound assembly text.now at result }
 {
+    if is_space(text[at]) {
+        return Found::Skip(at + 1);
+    }
     match sign(text[at]) {
-        Some(kind) => Found::Read(kind, at + 1),
+        Some(tag) => Found::Read(Tagged::bare(tag), at + 1),
         None => match register(text, at) {
             Some(digits) => numbered(digits),
             None => find_other(text, at),

@@ -14,18 +14,14 @@ use Rattle.t_terms.specs.ReadProgram.{spanned_program}
 use Rattle.t_terms.specs.Raw.{RawItem}
 use Rattle.t_terms.specs.Names.{program_of}
 use Rattle.t_terms.specs.NameFaults.{program_faults}
-use Rattle.t_terms.specs.Text.{ReadsAs, FirstFault, in_names, IsFirstFault, AtMostOneProgram, AtMostOneFault, NoFaultWhereRead}
-use Rattle.t_reader.specs.Resolve.{IsShape, StopsAt}
+use Rattle.t_terms.specs.Text.{ReadsAs, FirstFault, IsFirstFault, AtMostOneProgram, AtMostOneFault, NoFaultWhereRead}
+use Rattle.t_reader.specs.Resolve.{IsShape}
 
 pub reads : (text : List ℕ) (raw : List RawItem) (bs : List Block) (xs : List Data) → IsShape text raw → program_faults text raw ≡ [] → spanned_parts bs xs ≡ program_of text raw → ReadsAs text (spanned_parts bs xs)
 reads text raw bs xs h f e = record {
   stands = record { tokens = h.tokens; cut = h.cut; raw = raw; shape = h.shape; named = f; is = e };
   within = (h.tokens, h.cut, h.within);
 }
-
-pub name_fault : (text : List ℕ) (raw : List RawItem) (f : TFault) → IsShape text raw → StopsAt (program_faults text raw) f → IsFirstFault text f
-name_fault text raw Memory h s = tt
-name_fault text raw (Refused code span) h s = in_names h.cut h.shape h.within s.1
 
 abbrev pub Right : List ℕ → Result TProgram TFault → Type 0
 Right text r = MatchResult r (λ p. ReadsAs text (spanned_program p)) (λ f. IsFirstFault text f)

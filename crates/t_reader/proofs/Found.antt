@@ -14,6 +14,10 @@ use Rattle.t_terms.specs.declared.fault.TFault.TheVariants.{Memory, Refused}
 pub here_at : {A : Type 0} (xs : List A) (k : ℕ) (x : A) → k < length xs → x ≡ get_or xs k x → drop k xs ≡ x ∷ drop (k + 1) xs
 here_at xs k x l e = rw (drop-cons xs k x l, ← e, ← add-one k) refl
 
+pub here_is : {A : Type 0} (xs : List A) (k : ℕ) (d x : A) → k < length xs → get_or xs k d ≡ x →
+    drop k xs ≡ x ∷ drop (k + 1) xs
+here_is xs k d x l e = rw (drop-cons xs k d l, e, ← add-one k) refl
+
 -- names that are bound, and taken away
 pub drop_bind : (text : List ℕ) (ns : List Span) (a : List Name) → drop (length ns) (bind text ns a) ≡ a
 drop_bind text [] a = refl

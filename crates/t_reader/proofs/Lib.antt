@@ -11,5 +11,6 @@ pub mod Leveled
 pub mod Naming
 pub mod Numbering
 pub mod Shaped
+pub mod Turning
 pub mod Valuing
 pub mod Well

@@ -15,6 +15,8 @@ use Rattle.t_terms.specs.declared.data.Data as heap_of
 use Rattle.t_terms.specs.Tree.{TBase, Reg, Int, Label, Data}
 use Rattle.t_terms.specs.Spanned.{SBlock, SData}
 use Rattle.t_terms.specs.Read.{spanned, spanned_blocks, spanned_data, spanned_heap, spanned_parts}
+use Rattle.idx_core.specs.declared.span.Span.{Span}
+use Rattle.t_terms.specs.Raw as tree
 use Rattle.t_terms.specs.Raw.{item_name, blocks_in, data_in}
 use Rattle.t_terms.specs.Names.{Labels, spelled, is_among, named_by, item_labels, labels_of, block_of, data_of, program_of}
 use Rattle.t_terms.specs.NameFaults.{only_if, item_faults, items_faults, program_faults}
@@ -25,45 +27,71 @@ use Rattle.t_shapes.specs.declared.raw.RawItem.{RawItem}
 use Rattle.t_shapes.specs.declared.raw.RawItem.TheVariants as It
 use Rattle.t_shapes.specs.Raw.{raw_block, raw_data, raw_item, raw_items}
 use Rattle.t_reader.specs.declared.target.Target.{Target}
+use Rattle.t_reader.specs.declared.heads.Head.{Head}
+use Rattle.t_reader.specs.declared.heads.Head.TheVariants as H
+use Rattle.t_reader.specs.Heads.{heads_of, labels_from, head_labels}
 use Rattle.t_reader.specs.Labelled.{NameTheSame, HasFirsts, is_target}
 use Rattle.t_reader.specs.Resolve.{StopsAt, stands_before, numbered_faults, block_numbered_faults, data_numbered_faults}
 use Rattle.t_reader.proofs.Agreeing.{block_same, data_same, numbered_same}
-use Rattle.t_reader.proofs.Found.{here_at, stop_left}
+use Rattle.t_reader.proofs.Found.{here_is, stop_left}
 use Rattle.t_reader.proofs.Labelled.{named_append}
 use Rattle.t_reader.proofs.Filing.{differs}
 
--- labels in a map, where the items from k on are left, b blocks and d data tuples before them
-pub record LabelsLeft {S : Type 0} (text : List ℕ) (xs : List RawItem) (k b d : ℕ) (targets : IndexMap (Bor (List ℕ)) Target S) : Type 0 where
+-- labels in a map, where the heads from k on are left, b blocks and d data tuples before them
+pub record LabelsLeft {S : Type 0} (text : List ℕ) (hs : List Head) (k b d : ℕ)
+    (targets : IndexMap (Bor (List ℕ)) Target S) : Type 0 where
   pub seen : Labels
   pub count : b + d ≡ k
-  pub labels : labels_of text (raw_items xs) ≡ seen ++ item_labels text b d (raw_items (drop k xs))
+  pub labels : head_labels text hs ≡ seen ++ labels_from text b d (drop k hs)
   pub firsts : HasFirsts targets seen
 
-pub labels_start : {S : Type 0} (text : List ℕ) (xs : List RawItem) (targets : IndexMap (Bor (List ℕ)) Target S) → IsEmpty targets → LabelsLeft text xs 0 0 0 targets
-labels_start text xs targets e = record { seen = []; count = omega arith; labels = refl; firsts = λ x. rw e refl }
+pub labels_start : {S : Type 0} (text : List ℕ) (hs : List Head) (targets : IndexMap (Bor (List ℕ)) Target S) →
+    IsEmpty targets → LabelsLeft text hs 0 0 0 targets
+labels_start text hs targets e = record { seen = []; count = omega arith; labels = refl; firsts = λ x. rw e refl }
 
-module _ {S : Type 0} (text : List ℕ) (xs : List RawItem) (k b d : ℕ) (old : IndexMap (Bor (List ℕ)) Target S) (x : RawItem) (l : k < length xs) (i : x ≡ get_or xs k x) (h : LabelsLeft text xs k b d old) (more : IndexMap (Bor (List ℕ)) Target S) where
-  pub next_block : (y : RawBlock) → x ≡ It.Block y → HasFirsts more (h.seen ++ (spelled text y.name, Label b) ∷ []) → LabelsLeft text xs (k + 1) (b + 1) d more
+module _ {S : Type 0} (text : List ℕ) (hs : List Head) (k b d : ℕ)
+    (old : IndexMap (Bor (List ℕ)) Target S) (x : Head) (l : k < length hs) (h : LabelsLeft text hs k b d old)
+    (more : IndexMap (Bor (List ℕ)) Target S) where
+  pub next_block : (y : Span) → get_or hs k x ≡ H.Block y →
+      HasFirsts more (h.seen ++ (spelled text y, Label b) ∷ []) → LabelsLeft text hs (k + 1) (b + 1) d more
   next_block y e f = record {
-    seen = h.seen ++ (spelled text y.name, Label b) ∷ [];
+    seen = h.seen ++ (spelled text y, Label b) ∷ [];
     count = omega (arith, h.count);
-    labels = h.labels ∙ rw (here_at xs k x l i, e, add-one b) (sym (append_assoc h.seen ((spelled text y.name, Label b) ∷ []) (item_labels text (suc b) d (raw_items (drop (k + 1) xs)))));
+    labels = h.labels ∙ rw (here_is hs k x _ l e, add-one b)
+        (sym (append_assoc h.seen ((spelled text y, Label b) ∷ []) (labels_from text (suc b) d (drop (k + 1) hs))));
     firsts = f;
   }
 
-  pub next_data : (y : RawData) → x ≡ It.Data y → HasFirsts more (h.seen ++ (spelled text y.name, Data d) ∷ []) → LabelsLeft text xs (k + 1) b (d + 1) more
+  pub next_data : (y : Span) → get_or hs k x ≡ H.Data y →
+      HasFirsts more (h.seen ++ (spelled text y, Data d) ∷ []) → LabelsLeft text hs (k + 1) b (d + 1) more
   next_data y e f = record {
-    seen = h.seen ++ (spelled text y.name, Data d) ∷ [];
+    seen = h.seen ++ (spelled text y, Data d) ∷ [];
     count = omega (arith, h.count);
-    labels = h.labels ∙ rw (here_at xs k x l i, e, add-one d) (sym (append_assoc h.seen ((spelled text y.name, Data d) ∷ []) (item_labels text b (suc d) (raw_items (drop (k + 1) xs)))));
+    labels = h.labels ∙ rw (here_is hs k x _ l e, add-one d)
+        (sym (append_assoc h.seen ((spelled text y, Data d) ∷ []) (labels_from text b (suc d) (drop (k + 1) hs))));
     firsts = f;
   }
 
-pub all_labels : {S : Type 0} (text : List ℕ) (xs : List RawItem) (k b d : ℕ) (targets : IndexMap (Bor (List ℕ)) Target S) → length xs ≤ k → LabelsLeft text xs k b d targets → HasFirsts targets (labels_of text (raw_items xs))
-all_labels text xs k b d targets l h =
-    let n : drop k xs ≡ [] = drop_of_length-le xs l in
-    let e : labels_of text (raw_items xs) ≡ h.seen = h.labels ∙ (rw n (append-nil h.seen)) in
+pub all_labels : {S : Type 0} (text : List ℕ) (hs : List Head) (k b d : ℕ)
+    (targets : IndexMap (Bor (List ℕ)) Target S) → length hs ≤ k →
+    LabelsLeft text hs k b d targets → HasFirsts targets (head_labels text hs)
+all_labels text hs k b d targets l h =
+    let n : drop k hs ≡ [] = drop_of_length-le hs l in
+    let e : head_labels text hs ≡ h.seen = h.labels ∙ (rw n (append-nil h.seen)) in
     rw e h.firsts
+
+-- the labels of items are those of their heads
+labels_by_heads : (text : List ℕ) (k d : ℕ) (xs : List tree.RawItem) →
+    item_labels text k d xs ≡ labels_from text k d (heads_of xs)
+labels_by_heads text k d [] = refl
+labels_by_heads text k d (tree.BlockItem b ∷ xs) =
+    ap (λ (ls : Labels). (spelled text b.name, Label k) ∷ ls) (labels_by_heads text (suc k) d xs)
+labels_by_heads text k d (tree.DataItem x ∷ xs) =
+    ap (λ (ls : Labels). (spelled text x.name, Data d) ∷ ls) (labels_by_heads text k (suc d) xs)
+
+pub same_labels : (text : List ℕ) (ls : Labels) (xs : List tree.RawItem) (hs : List Head) →
+    hs ≡ heads_of xs → NameTheSame ls (head_labels text hs) → NameTheSame ls (labels_of text xs)
+same_labels text ls xs hs e h = rw (labels_by_heads text 0 0 xs, ← e) h
 
 -- an item more among the labels and names that stand before
 more_targets : (p q r s : ℕ) (t : TBase) (b : Bool) (o : Option TBase) → p ≤ r → q ≤ s → IsTarget r s (Some t) → IsTarget p q o → IsTarget r s (option_or o (if b then Some t else None))

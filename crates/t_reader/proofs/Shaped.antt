@@ -13,10 +13,12 @@ use Rattle.t_terms.specs.Tokens.{IsCut}
 use Rattle.t_terms.specs.Raw.{RawItem}
 use Rattle.t_terms.specs.Grammar.{Program}
 use Rattle.t_terms.specs.GrammarTable.{table, OfItems}
-use Rattle.t_terms.specs.Text.{most_open, FirstFault, in_tokens, unexpected, cut_short, too_deep, IsFirstFault}
+use Rattle.t_terms.specs.Text.{most_open, FirstFault, in_tokens, in_names, unexpected, cut_short, too_deep}
+use Rattle.t_terms.specs.Text.{IsFirstFault}
 use Rattle.t_terms.proofs.Instance.{assembly_exact}
 use Rattle.t_lexer.specs.Cut.{IsTokenFault}
-use Rattle.t_reader.specs.Resolve.{IsShape, place_at}
+use Rattle.t_terms.specs.NameFaults.{program_faults}
+use Rattle.t_reader.specs.Resolve.{StopsAt, IsShape, place_at}
 
 pub token_fault : (text : List ℕ) (f : TFault) → IsTokenFault text f → IsFirstFault text f
 token_fault text Memory h = tt
@@ -51,3 +53,13 @@ deep_fault text w j c e = by_next (slice_get w j) refl
     by_next (Some k) q =
         let f : bounded table most_open w (whole table w) ≡ Passed (k ∷ drop (j + 1) w) = e ∙ ap (λ (x : List Token). Passed x) (next_is w j k q) in
         let s = says w (Passed (k ∷ drop (j + 1) w)) f in rw q (too_deep c s.1)
+
+-- the first fault of names
+pub named_fault : (text : List ℕ) (w : List Token) (raw : List RawItem) (f : TFault) → IsCut text w →
+    bounded table most_open w (whole table w) ≡ Fine (OfItems raw ∷ []) →
+    StopsAt (program_faults text raw) f → IsFirstFault text f
+named_fault text w raw Memory c e s = tt
+named_fault text w raw (Refused code span) c e s =
+    let h = says w (Fine (OfItems raw ∷ [])) e in
+    let q : h.value ≡ raw = let z = h.is in cc in
+    in_names c (subst (λ (x : List RawItem). Program w x) q h.shape) h.within s.1

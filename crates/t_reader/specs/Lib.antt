@@ -1,3 +1,4 @@
 pub mod Resolve
 pub mod Levels
 pub mod Labelled
+pub mod Heads

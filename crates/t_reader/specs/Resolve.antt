@@ -18,7 +18,7 @@ use Rattle.t_terms.specs.Raw.{RawBlock, RawData, RawItem, BlockItem, DataItem, i
 use Rattle.t_terms.specs.Grammar.{Program, assembly_grammar}
 use Rattle.t_terms.specs.Names.{Labels, spelled, is_among, place_of, named_by}
 use Rattle.t_terms.specs.NameFaults.{only_if, item_faults}
-use Rattle.t_terms.specs.Text.{most_open, IsFirstFault}
+use Rattle.t_terms.specs.Text.{most_open}
 use Rattle.t_reader.specs.Labelled.{is_target}
 
 -- the first of the faults in the order of the text, or want of memory
@@ -67,7 +67,3 @@ pub record IsShape (text : List ℕ) (raw : List RawItem) : Type 0 where
   pub within : NonePasses assembly_grammar most_open tokens
   -- no memory holds more
   pub short : length tokens ≤ max_number
-
--- the text has a first fault before its names are looked at
-abbrev pub IsShapeFault : List ℕ → TFault → Type 0
-IsShapeFault text f = IsFirstFault text f

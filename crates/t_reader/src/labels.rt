@@ -3,8 +3,10 @@ ghost use Rattle.std.specs.Prelude.{◌≡◌, [], ◌∷◌, ◌++◌, MatchRes
 ghost use Rattle.t_terms.specs.Names.{Labels as LabelList, labels_of};
 ghost use Rattle.t_terms.specs.declared.fault.TFault.TheVariants as fault;
 ghost use Rattle.t_shapes.specs.Raw.{raw_items};
+ghost use Rattle.t_reader.specs.Heads.{head_labels};
 ghost use Rattle.t_reader.specs.Labelled.{target_base, IsTargetOf, NameTheSame, HasFirsts};
 
+use crate::heads::{Head, heads_of};
 use crate::scope::{BySpelling, by_spelling, spelling};
 use crate::target::Target;
 use idx_core::Salt;
@@ -73,29 +75,40 @@ fn keep_first<'a>(
     Ok(())
 }
 
-/// The labels of items, each of which names the first item that has it. The blocks count from 0 in text order, and so
-/// do the data.
-pub fn labels_in<'a>(alloc: Global, text: &'a [u8], items: &[RawItem]) -> Result<Labels<'a>, TFault>
+/// The labels of items with these heads, each of which names the first item that has it. The blocks count from 0 in
+/// text order, and so do the data.
+pub fn labels_from<'a>(alloc: Global, text: &'a [u8], heads: &[Head]) -> Result<Labels<'a>, TFault>
     ensures { MatchResult result
-        (λ l. NameTheSame l (labels_of text.now (raw_items items.now)))
+        (λ l. NameTheSame l (head_labels text.now heads.now))
         (λ e. e ≡ fault.Memory) }
 {
     let mut targets = by_spelling(alloc, salt_of(text));
     let mut blocks = 0u64;
     let mut tuples = 0u64;
-    for item in items {
-        match item {
-            RawItem::Block(block) => {
+    for head in heads {
+        match head {
+            Head::Block(name) => {
                 let target = Target::Block(blocks);
                 blocks += 1;
-                keep_first(&mut targets, spelling(text, block.name), target)?;
+                keep_first(&mut targets, spelling(text, *name), target)?;
             }
-            RawItem::Data(tuple) => {
+            Head::Data(name) => {
                 let target = Target::Data(tuples);
                 tuples += 1;
-                keep_first(&mut targets, spelling(text, tuple.name), target)?;
+                keep_first(&mut targets, spelling(text, *name), target)?;
             }
         }
     }
     Ok(Labels { targets })
+}
+
+/// The labels of items, each of which names the first item that has it.
+pub fn labels_in<'a>(alloc: Global, text: &'a [u8], items: &[RawItem]) -> Result<Labels<'a>, TFault>
+    ensures { MatchResult result
+        (λ l. NameTheSame l (labels_of text.now (raw_items items.now)))
+        (λ e. e ≡ fault.Memory) }
+{
+    let heads = heads_of(alloc, items)?;
+    let labels = labels_from(alloc, text, &heads)?;
+    Ok(labels)
 }

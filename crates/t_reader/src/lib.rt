@@ -2,6 +2,7 @@
 #![tactic(auto)]
 
 mod faults;
+mod heads;
 mod labels;
 mod reader;
 mod resolve;

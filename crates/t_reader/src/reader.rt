@@ -1,5 +1,5 @@
 // From the bytes of a text to its program.
-ghost use Rattle.std.specs.Prelude.{◌≡◌, ◌≢◌, List, [], MatchResult, IsErrAnd};
+ghost use Rattle.std.specs.Prelude.{◌≡◌, ◌≢◌, List, [], ◌∷◌, ◌++◌, MatchResult, IsErrAnd, IfOk};
 ghost use Rattle.idx_core.specs.declared.span.Span as place;
 ghost use Rattle.t_terms.specs.declared.fault.TCode as codes;
 ghost use Rattle.t_terms.specs.declared.fault.TFault.TheVariants as fault;
@@ -9,21 +9,27 @@ ghost use Rattle.t_terms.specs.ReadProgram.{spanned_program};
 ghost use Rattle.t_terms.specs.Text.{ReadsAs, FirstFault, IsFirstFault};
 ghost use Rattle.t_terms.specs.Names.{program_of, block_of, data_of};
 ghost use Rattle.t_terms.specs.NameFaults.{program_faults};
-ghost use Rattle.t_shapes.specs.Raw.{raw_block, raw_data, raw_items};
-ghost use Rattle.t_reader.specs.Labelled.{target_base, same_base};
-ghost use Rattle.t_reader.specs.Resolve.{StopsAt, IsShape, IsShapeFault, place_at, stands_before};
+ghost use Rattle.t_lexer.specs.Kept.{tokens_of};
+ghost use Rattle.t_shapes.specs.Raw.{raw_block, raw_data, raw_item, raw_items};
+ghost use Rattle.t_shapes.specs.Reads.{AreProgram, HasRead};
+ghost use Rattle.t_terms.specs.Raw as tree;
+ghost use Rattle.t_terms.specs.Tokens.{IsCut};
+ghost use Rattle.t_reader.specs.Heads.{head_labels, AreParts};
+ghost use Rattle.t_reader.specs.Labelled.{target_base, same_base, NameTheSame};
+ghost use Rattle.t_reader.specs.Resolve.{StopsAt, place_at, stands_before};
 ghost use Rattle.t_reader.specs.Resolve.{block_numbered_faults, data_numbered_faults};
 
 use crate::faults::refused;
-use crate::labels::{Labels, labels_in};
+use crate::heads::{Head, head_of, heads_in, same_head};
+use crate::labels::{Labels, labels_from, labels_in};
 use crate::resolve::{block_in, data_in};
 use crate::scope::spelling;
 use crate::target::Target;
 use idx_core::Span;
 use std::alloc::Global;
 use t_grammar::{Stopped, peek};
-use t_lexer::{Stored, tokens};
-use t_shapes::{RawBlock, RawData, RawItem, program};
+use t_lexer::{Tokens, tokens};
+use t_shapes::{RawBlock, RawData, RawItem, SoFar, Turn, begin, is_all, next_item, program};
 use t_terms::{
     Block, Data, TCode, TFault, TProgram, at_most_one_fault, at_most_one_program,
     no_fault_where_read,
@@ -37,8 +43,8 @@ struct Parts {
 }
 
 // the place of a token, or the end of the text
-fn place(text: &[u8], tokens: &[Stored], at: usize) -> Span
-    ensures { result ≡ place_at text.now tokens.now at }
+fn place(text: &[u8], tokens: &Tokens, at: usize) -> Span
+    ensures { result ≡ place_at text.now (tokens_of tokens.now) at }
 {
     match peek(tokens, at) {
         Some(token) => token.span,
@@ -49,16 +55,17 @@ fn place(text: &[u8], tokens: &[Stored], at: usize) -> Span
     }
 }
 
-// the items of a text before names are resolved
-fn shape(alloc: Global, text: &[u8]) -> Result<Vec<RawItem>, TFault>
-    ensures { MatchResult result (λ xs. IsShape text.now (raw_items xs.items)) (λ f. IsShapeFault text.now f) }
+// the items of a text that is these tokens, before names are resolved
+fn shape(alloc: Global, text: &[u8], tokens: &Tokens) -> Result<Vec<RawItem>, TFault>
+    requires { IsCut text.now (tokens_of tokens.now) }
+    ensures { MatchResult result (λ xs. AreProgram (tokens_of tokens.now) (raw_items xs.items))
+        (λ f. IsFirstFault text.now f) }
 {
-    let tokens = tokens(alloc, text)?;
-    match program(alloc, &tokens) {
+    match program(alloc, tokens) {
         Ok(items) => Ok(items),
         Err(Stopped::Memory) => Err(TFault::Memory),
-        Err(Stopped::Unexpected(at)) => Err(refused(TCode::T03, place(text, &tokens, at))),
-        Err(Stopped::TooDeep(at)) => Err(refused(TCode::M1, place(text, &tokens, at))),
+        Err(Stopped::Unexpected(at)) => Err(refused(TCode::T03, place(text, tokens, at))),
+        Err(Stopped::TooDeep(at)) => Err(refused(TCode::M1, place(text, tokens, at))),
     }
 }
 
@@ -182,12 +189,108 @@ fn parts_in(alloc: Global, text: &[u8], raw: Vec<RawItem>) -> Result<Parts, TFau
     Ok(Parts { blocks, heap })
 }
 
+// a fault, where it does not matter which
+fn some_fault() -> TFault {
+    refused(TCode::T03, Span { start: 0, end: 0 })
+}
+
+// the next item, or some fault
+fn turn(alloc: Global, tokens: &Tokens, so_far: SoFar) -> Result<Turn, TFault>
+    ensures { IfOk result (λ t. (xs : List tree.RawItem) → HasRead (tokens_of tokens.now) so_far xs →
+        HasRead (tokens_of tokens.now) t.so_far (xs ++ raw_item t.item ∷ [])) }
+{
+    match next_item(alloc, tokens, so_far) {
+        Ok(found) => Ok(found),
+        Err(Stopped::Memory) => Err(TFault::Memory),
+        Err(_) => Err(some_fault()),
+    }
+}
+
+// The blocks and the data of a text, where its items have these heads, or some fault. Each item is read, made and
+// dropped before the next is read, so that there is one raw tree at a time.
+fn parts_by_heads(
+    alloc: Global,
+    text: &[u8],
+    tokens: &Tokens,
+    labels: &Labels<'_>,
+    heads: &[Head],
+) -> Result<Parts, TFault>
+    ensures { IfOk result (λ p. NameTheSame labels.now (head_labels text.now heads.now) →
+        AreParts text.now (tokens_of tokens.now) p.blocks.items p.heap.items) }
+{
+    let mut so_far = match begin(tokens) {
+        Some(so_far) => so_far,
+        None => return Err(some_fault()),
+    };
+    let mut blocks = Vec::new(alloc);
+    let mut heap = Vec::new(alloc);
+    for head in heads {
+        let Turn { item, so_far: next } = turn(alloc, tokens, so_far)?;
+        if !same_head(*head, head_of(&item)) {
+            return Err(some_fault());
+        }
+        so_far = next;
+        match item {
+            RawItem::Block(block) => {
+                let made = taken_block(alloc, text, labels, blocks.len(), block)?;
+                blocks.push(made)?;
+            }
+            RawItem::Data(tuple) => {
+                let number = heap.len();
+                let made = taken_data(alloc, text, labels, number, tuple)?;
+                heap.push(made)?;
+            }
+        }
+    }
+    if !is_all(tokens, so_far) {
+        return Err(some_fault());
+    }
+    Ok(Parts { blocks, heap })
+}
+
+// The same by the heads that stand among the tokens. A text without fault has no others.
+fn parts_in_turn(alloc: Global, text: &[u8], tokens: &Tokens) -> Result<Parts, TFault>
+    ensures { IfOk result (λ p. AreParts text.now (tokens_of tokens.now) p.blocks.items p.heap.items) }
+{
+    let heads = heads_in(alloc, tokens)?;
+    let labels = labels_from(alloc, text, &heads)?;
+    let parts = parts_by_heads(alloc, text, tokens, &labels, &heads)?;
+    Ok(parts)
+}
+
+// the blocks and the data of a text, of which all raw trees are read first, or its first fault
+fn parts_at_once(alloc: Global, text: &[u8], tokens: &Tokens) -> Result<Parts, TFault>
+    requires { IsCut text.now (tokens_of tokens.now) }
+    ensures { MatchResult result
+        (λ p. AreParts text.now (tokens_of tokens.now) p.blocks.items p.heap.items)
+        (λ f. IsFirstFault text.now f) }
+{
+    let raw = shape(alloc, text, tokens)?;
+    let parts = parts_in(alloc, text, raw)?;
+    Ok(parts)
+}
+
+// The blocks and the data of a text, or its first fault. A fault of the grammar comes before any of names, so a text
+// with a fault is read once more.
+fn parts_of(alloc: Global, text: &[u8], tokens: &Tokens) -> Result<Parts, TFault>
+    requires { IsCut text.now (tokens_of tokens.now) }
+    ensures { MatchResult result
+        (λ p. AreParts text.now (tokens_of tokens.now) p.blocks.items p.heap.items)
+        (λ f. IsFirstFault text.now f) }
+{
+    match parts_in_turn(alloc, text, tokens) {
+        Ok(parts) => Ok(parts),
+        Err(TFault::Memory) => Err(TFault::Memory),
+        Err(_) => parts_at_once(alloc, text, tokens),
+    }
+}
+
 // the program or the first fault of a text
 fn reading(alloc: Global, text: &[u8]) -> Result<TProgram, TFault>
     ensures { MatchResult result (λ p. ReadsAs text.now (spanned_program p)) (λ f. IsFirstFault text.now f) }
 {
-    let raw = shape(alloc, text)?;
-    let parts = parts_in(alloc, text, raw)?;
+    let tokens = tokens(alloc, text)?;
+    let parts = parts_of(alloc, text, &tokens)?;
     Ok(TProgram {
         blocks: parts.blocks,
         heap: parts.heap,

@@ -241,7 +241,7 @@ pub fn data_in(
         × (read.spanned_data x ≡ data_of text.now labels.now (raw_data tuple.now)))
         (λ e. StopsAt (data_faults text.now labels.now (raw_data tuple.now).fields) e) }
 {
-    let mut fields = Vec::new(alloc);
+    let mut fields = Vec::with_capacity(alloc, tuple.fields.len())?;
     for datum in &tuple.fields {
         let field = datum_in(alloc, text, labels, datum)?;
         fields.push(field)?;

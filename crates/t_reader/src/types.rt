@@ -45,7 +45,7 @@ fn has_reg(file: &BTreeMap<u64, TType>, reg: u64) -> bool
 fn in_order(alloc: Global, file: BTreeMap<u64, TType>) -> Result<Vec<(u64, TType)>, TFault>
     ensures { MatchResult result (λ regs. regs.items ≡ file.entries) (λ e. e ≡ fault.Memory) }
 {
-    let mut regs = Vec::new(alloc);
+    let mut regs = Vec::with_capacity(alloc, file.len())?;
     for entry in file {
         regs.push(entry)?;
     }
@@ -89,7 +89,7 @@ pub fn type_in<'a>(
             Ok(whole)
         }
         RawType::Tuple(fields) => {
-            let mut made = Vec::new(alloc);
+            let mut made = Vec::with_capacity(alloc, fields.len())?;
             for field in fields {
                 let part = type_in(alloc, text, &field.0, scope)?;
                 made.push((part, field.1))?;
@@ -138,7 +138,7 @@ pub fn types_in<'a>(
         × (types ts.items ≡ types_of text.now scope.old (map raw list.now)))
         (λ e. StopsAt (types_faults text.now scope.old (map raw list.now)) e) }
 {
-    let mut made = Vec::new(alloc);
+    let mut made = Vec::with_capacity(alloc, list.len())?;
     for ty in list {
         let ty = type_in(alloc, text, ty, scope)?;
         made.push(ty)?;

@@ -62,7 +62,8 @@ pub no_more_blocks : {ts : List Token} {i j : ℕ} {owed : Stack} {vs us : List 
 no_more_blocks {ts} {i} {j} {owed} {vs} {us} h e = by_none LMoreBlocks [] us h refl (step.lacks_all table ts j want.Name LMoreBlocks (λ c q. no_block c.kind q) e)
 
 -- the blocks as items
-items_append : (bs : List tree.RawBlock) (b : tree.RawBlock) → block_items (bs ++ b ∷ []) ≡ block_items bs ++ BlockItem b ∷ []
+pub items_append : (bs : List tree.RawBlock) (b : tree.RawBlock) →
+    block_items (bs ++ b ∷ []) ≡ block_items bs ++ BlockItem b ∷ []
 items_append [] b = refl
 items_append (x ∷ bs) b = ap (λ (xs : List tree.RawItem). BlockItem x ∷ xs) (items_append bs b)
 

@@ -5,7 +5,7 @@ use Rattle.idx_core.specs.declared.arith.Op.{Op}
 use Rattle.idx_core.specs.declared.span.Span.{Span}
 use Rattle.text_core.specs.Table.{Nt, Tm, Do, Fine, bounded, whole}
 use Rattle.text_core.specs.Table as table_of
-use Rattle.text_core.specs.Going.{Goes}
+use Rattle.text_core.specs.Going.{Goes, next_of}
 use Rattle.text_core.specs.Going as going
 use Rattle.t_terms.specs.declared.token.Token.{Token}
 use Rattle.t_terms.specs.declared.wanted.Wanted.TheVariants as want
@@ -15,7 +15,8 @@ use Rattle.t_terms.specs.Text.{most_open}
 use Rattle.t_terms.specs.GrammarTable.{table, fits, Line, Stack, LTo, LV, LPacked, LAt, LIndex, LTypes, LTypeList}
 use Rattle.t_terms.specs.GrammarTable.{LSomeTypes, LTarget, LInt, LI, LEnd, LBlock, LBinds, LFile, LT, LHeader}
 use Rattle.t_terms.specs.GrammarTable.{LMoreSteps, LMoreBlocks, LW, LWordPacked, LTuple, LDatums, LItem, LSomeItems}
-use Rattle.t_terms.specs.GrammarTable.{LMoreItems, MakeBnz, MakeLd, MakeMalloc, MakeMov, MakeSt, MakeUnpack}
+use Rattle.t_terms.specs.GrammarTable.{LMoreItems, header_after, MakeBnz, MakeLd, MakeMalloc, MakeMov, MakeSt}
+use Rattle.t_terms.specs.GrammarTable.{MakeUnpack}
 use Rattle.t_terms.specs.GrammarTable.{MakeNoSteps, MakeFirstBlock, MakeNoItems, arith_owed, blocks_owed, items_owed}
 use Rattle.t_terms.specs.GrammarTable.{instr_after, OfToken, OfType, OfStep, OfSteps, OfFile, OfNames, OfBlocks, OfList}
 use Rattle.t_terms.specs.GrammarTable.{OfIndex, OfAt, OfTarget, OfPlace, OfReg, OfValue, OfPacked, OfEnd, OfBlock}
@@ -44,6 +45,7 @@ use Rattle.t_shapes.specs.declared.items.FoundItem.{FoundItem}
 use Rattle.t_shapes.specs.declared.items.FoundItems.{FoundItems}
 use Rattle.t_shapes.specs.declared.whole.Version.{Version}
 use Rattle.t_shapes.specs.declared.whole.Version.TheVariants.{Blocks, Items}
+use Rattle.t_shapes.specs.declared.turns.SoFar.{SoFar}
 
 -- what is owed of an instruction after its word
 abbrev pub arith_left : Op → Stack
@@ -173,6 +175,31 @@ abbrev pub version_owed : Option Version → Option Stack
 version_owed None = None
 version_owed (Some Blocks) = Some blocks_owed
 version_owed (Some Items) = Some items_owed
+
+-- the first two tokens are a header of what is owed
+pub record Headed (ts : List Token) (owed : Stack) : Type 0 where
+  pub tal : Token
+  pub number : Token
+  pub first : next_of table want.Tal (slice_get ts 0) ≡ Some tal
+  pub second : slice_get ts 1 ≡ Some number
+  pub heads : header_after number.kind ≡ Some owed
+
+-- blocks behind a header were read up to the token j, or none yet
+abbrev pub HasBlocks : List Token → Bool → ℕ → List tree.RawItem → Type 0
+HasBlocks ts false j xs = (j ≡ 2) × (xs ≡ [])
+HasBlocks ts true j xs = ReadsSomeBlocks ts 2 j xs
+
+-- these are the items of a program that were read so far
+abbrev pub HasReadAs : Version → List Token → Bool → ℕ → List tree.RawItem → Type 0
+HasReadAs Blocks ts b j xs = Headed ts blocks_owed × HasBlocks ts b j xs
+HasReadAs Items ts b j xs = Headed ts items_owed × ReadsSomeItems ts 2 j b xs
+
+abbrev pub HasRead : List Token → SoFar → List tree.RawItem → Type 0
+HasRead ts s xs = HasReadAs s.version ts s.has_block s.next xs
+
+-- all the tokens are a program with these items
+abbrev pub AreProgram : List Token → List tree.RawItem → Type 0
+AreProgram ts xs = bounded table most_open ts (whole table ts) ≡ Fine (OfItems xs ∷ [])
 
 -- all the tokens are a program, with these items; or the reading of them stops
 abbrev pub IsProgram : List Token → List RawItem → Type 0

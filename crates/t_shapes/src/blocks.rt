@@ -1,6 +1,7 @@
 // The reading of blocks.
 ghost use Rattle.std.specs.Prelude.{◌≤◌, length};
 ghost use Rattle.t_shapes.specs.Reads.{AreSteps, IsBlock, IsCode};
+ghost use Rattle.t_lexer.specs.Kept.{tokens_of};
 
 use crate::ends::end;
 use crate::heads::head;
@@ -9,7 +10,7 @@ use crate::steps::{begins_step, step};
 use idx_core::Span;
 use std::alloc::Global;
 use t_grammar::{Stopped, expect, expect_two};
-use t_lexer::Stored;
+use t_lexer::Tokens;
 use t_terms::Wanted;
 
 /// Instructions that were read, and the number of the token after them.
@@ -27,9 +28,9 @@ pub struct FoundBlock {
 }
 
 // I .. I, any number of them
-fn steps(alloc: Global, tokens: &[Stored], at: usize) -> Result<FoundSteps, Stopped>
-    requires { at ≤ length tokens.now }
-    ensures { AreSteps tokens.now at result }
+fn steps(alloc: Global, tokens: &Tokens, at: usize) -> Result<FoundSteps, Stopped>
+    requires { at ≤ length (tokens_of tokens.now) }
+    ensures { AreSteps (tokens_of tokens.now) at result }
 {
     let mut steps = Vec::new(alloc);
     let mut next = at;
@@ -42,9 +43,9 @@ fn steps(alloc: Global, tokens: &[Stored], at: usize) -> Result<FoundSteps, Stop
 }
 
 /// [ names ] File . I .. I End: what follows on `code` of a block with this label.
-pub fn code(alloc: Global, tokens: &[Stored], at: usize, name: Span) -> Result<FoundBlock, Stopped>
-    requires { at ≤ length tokens.now }
-    ensures { IsCode tokens.now at name result }
+pub fn code(alloc: Global, tokens: &Tokens, at: usize, name: Span) -> Result<FoundBlock, Stopped>
+    requires { at ≤ length (tokens_of tokens.now) }
+    ensures { IsCode (tokens_of tokens.now) at name result }
 {
     let head = head(alloc, tokens, at)?;
     let body = steps(alloc, tokens, head.next)?;
@@ -62,9 +63,9 @@ pub fn code(alloc: Global, tokens: &[Stored], at: usize, name: Span) -> Result<F
 }
 
 /// Block ::= label : code [ names ] File . I .. I End
-pub fn block(alloc: Global, tokens: &[Stored], at: usize) -> Result<FoundBlock, Stopped>
-    requires { at ≤ length tokens.now }
-    ensures { IsBlock tokens.now at result }
+pub fn block(alloc: Global, tokens: &Tokens, at: usize) -> Result<FoundBlock, Stopped>
+    requires { at ≤ length (tokens_of tokens.now) }
+    ensures { IsBlock (tokens_of tokens.now) at result }
 {
     let label = expect(tokens, at, Wanted::Name)?;
     expect_two(tokens, at + 1, Wanted::Colon, Wanted::Code)?;

@@ -1,12 +1,13 @@
 // The reading of data tuples. Around them no construct is open.
 ghost use Rattle.std.specs.Prelude.{◌≤◌, length};
 ghost use Rattle.t_shapes.specs.Reads.{IsTuple, AreDatums, IsDatum};
+ghost use Rattle.t_lexer.specs.Kept.{tokens_of};
 
 use crate::raw::RawDatum;
 use crate::words::word;
 use std::alloc::Global;
 use t_grammar::{Stopped, expect, peek, take, whole_type};
-use t_lexer::Stored;
+use t_lexer::Tokens;
 use t_terms::{Kind, Wanted};
 
 /// The fields of a data tuple that were read, and the number of the token after them.
@@ -24,9 +25,9 @@ struct FoundDatum {
 }
 
 /// < > or < W : T , .. , W : T >
-pub fn tuple(alloc: Global, tokens: &[Stored], at: usize) -> Result<FoundTuple, Stopped>
-    requires { at ≤ length tokens.now }
-    ensures { IsTuple tokens.now at result }
+pub fn tuple(alloc: Global, tokens: &Tokens, at: usize) -> Result<FoundTuple, Stopped>
+    requires { at ≤ length (tokens_of tokens.now) }
+    ensures { IsTuple (tokens_of tokens.now) at result }
 {
     let bracket = match peek(tokens, at) {
         Some(token) => token,
@@ -39,9 +40,9 @@ pub fn tuple(alloc: Global, tokens: &[Stored], at: usize) -> Result<FoundTuple, 
 }
 
 // W : T , .. , W : T and the closing bracket, or the bracket alone
-fn datums(alloc: Global, tokens: &[Stored], at: usize) -> Result<FoundTuple, Stopped>
-    requires { at ≤ length tokens.now }
-    ensures { AreDatums tokens.now at result }
+fn datums(alloc: Global, tokens: &Tokens, at: usize) -> Result<FoundTuple, Stopped>
+    requires { at ≤ length (tokens_of tokens.now) }
+    ensures { AreDatums (tokens_of tokens.now) at result }
 {
     let mut fields = Vec::new(alloc);
     if let Some(_) = take(tokens, at, Wanted::RightAngle) {
@@ -66,9 +67,9 @@ fn datums(alloc: Global, tokens: &[Stored], at: usize) -> Result<FoundTuple, Sto
 }
 
 // W : T, in the bracket of a tuple
-fn datum(alloc: Global, tokens: &[Stored], at: usize) -> Result<FoundDatum, Stopped>
-    requires { at ≤ length tokens.now }
-    ensures { IsDatum tokens.now at result }
+fn datum(alloc: Global, tokens: &Tokens, at: usize) -> Result<FoundDatum, Stopped>
+    requires { at ≤ length (tokens_of tokens.now) }
+    ensures { IsDatum (tokens_of tokens.now) at result }
 {
     let word = word(alloc, tokens, at, 1)?;
     expect(tokens, word.next, Wanted::Colon)?;

@@ -1,6 +1,7 @@
 // The reading of the ends of blocks.
 ghost use Rattle.std.specs.Prelude.{◌≤◌, length};
 ghost use Rattle.t_shapes.specs.Reads.{IsEnd};
+ghost use Rattle.t_lexer.specs.Kept.{tokens_of};
 
 use crate::parts::int;
 use crate::raw::RawEnd;
@@ -9,7 +10,7 @@ use crate::values::value;
 use idx_core::Span;
 use std::alloc::Global;
 use t_grammar::{Stopped, peek};
-use t_lexer::Stored;
+use t_lexer::Tokens;
 use t_terms::Kind;
 
 /// The end of a block that was read, with its place, and the number of the token after it.
@@ -20,9 +21,9 @@ pub struct FoundEnd {
 }
 
 /// End ::= jmp V | halt [ int ]
-pub fn end(alloc: Global, tokens: &[Stored], at: usize) -> Result<FoundEnd, Stopped>
-    requires { at ≤ length tokens.now }
-    ensures { IsEnd tokens.now at result }
+pub fn end(alloc: Global, tokens: &Tokens, at: usize) -> Result<FoundEnd, Stopped>
+    requires { at ≤ length (tokens_of tokens.now) }
+    ensures { IsEnd (tokens_of tokens.now) at result }
 {
     let word = match peek(tokens, at) {
         Some(word) => word,

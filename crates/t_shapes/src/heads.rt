@@ -1,11 +1,12 @@
 // The reading of the heads of blocks.
 ghost use Rattle.std.specs.Prelude.{◌≤◌, length};
 ghost use Rattle.t_shapes.specs.Reads.{IsHead};
+ghost use Rattle.t_lexer.specs.Kept.{tokens_of};
 
 use idx_core::Span;
 use std::alloc::Global;
 use t_grammar::{RawFile, Stopped, binds, expect, file};
-use t_lexer::Stored;
+use t_lexer::Tokens;
 use t_terms::Wanted;
 
 /// What was read of a block before its instructions: its names and its file, and the number of the token after them.
@@ -17,9 +18,9 @@ pub struct FoundHead {
 }
 
 /// [ names ] File .
-pub fn head(alloc: Global, tokens: &[Stored], at: usize) -> Result<FoundHead, Stopped>
-    requires { at ≤ length tokens.now }
-    ensures { IsHead tokens.now at result }
+pub fn head(alloc: Global, tokens: &Tokens, at: usize) -> Result<FoundHead, Stopped>
+    requires { at ≤ length (tokens_of tokens.now) }
+    ensures { IsHead (tokens_of tokens.now) at result }
 {
     let names = binds(alloc, tokens, at, 0)?;
     let found = file(alloc, tokens, names.next, 0)?;

@@ -5,13 +5,14 @@ ghost use Rattle.t_terms.specs.GrammarTable.{table};
 ghost use Rattle.t_terms.specs.declared.wanted.Wanted.TheVariants as want;
 ghost use Rattle.t_shapes.specs.Raw.{raw_item, is_block};
 ghost use Rattle.t_shapes.specs.Reads.{IsItem, AreItems};
+ghost use Rattle.t_lexer.specs.Kept.{tokens_of};
 
 use crate::blocks::code;
 use crate::data::tuple;
 use crate::raw::{RawData, RawItem};
 use std::alloc::Global;
 use t_grammar::{Stopped, expect, peek, take};
-use t_lexer::Stored;
+use t_lexer::Tokens;
 use t_terms::{Kind, Wanted};
 
 /// An item that was read, and the number of the token after it.
@@ -28,17 +29,17 @@ pub struct FoundItems {
     pub next: usize,
 }
 
-// whether a block stands among items and one more
-fn with_block(has_block: bool, item: &RawItem) -> bool
+/// Whether a block stands among items and one more.
+pub fn with_block(has_block: bool, item: &RawItem) -> bool
     ensures { result ≡ (has_block || is_block (raw_item item.now)) }
 {
     has_block || matches!(item, RawItem::Block(_))
 }
 
-// Item ::= Block | label : data < > | label : data < W : T , .. , W : T >
-fn item(alloc: Global, tokens: &[Stored], at: usize) -> Result<FoundItem, Stopped>
-    requires { at ≤ length tokens.now }
-    ensures { IsItem tokens.now at result }
+/// Item ::= Block | label : data < > | label : data < W : T , .. , W : T >
+pub fn item(alloc: Global, tokens: &Tokens, at: usize) -> Result<FoundItem, Stopped>
+    requires { at ≤ length (tokens_of tokens.now) }
+    ensures { IsItem (tokens_of tokens.now) at result }
 {
     let label = expect(tokens, at, Wanted::Name)?;
     expect(tokens, at + 1, Wanted::Colon)?;
@@ -68,17 +69,17 @@ fn item(alloc: Global, tokens: &[Stored], at: usize) -> Result<FoundItem, Stoppe
     }
 }
 
-// whether an item is owed at a place, or one may follow there
-fn wants_item(tokens: &[Stored], at: usize, has_block: bool) -> bool
-    ensures { result ≡ (not has_block || is_some (next_of table want.Name (slice_get tokens.now at))) }
+/// Whether an item is owed at a place, or one may follow there.
+pub fn wants_item(tokens: &Tokens, at: usize, has_block: bool) -> bool
+    ensures { result ≡ (not has_block || is_some (next_of table want.Name (slice_get (tokens_of tokens.now) at))) }
 {
     !has_block || take(tokens, at, Wanted::Name).is_some()
 }
 
 /// Item .. Item, of which one at least is a block
-pub fn items(alloc: Global, tokens: &[Stored], at: usize) -> Result<FoundItems, Stopped>
-    requires { at ≤ length tokens.now }
-    ensures { AreItems tokens.now at result }
+pub fn items(alloc: Global, tokens: &Tokens, at: usize) -> Result<FoundItems, Stopped>
+    requires { at ≤ length (tokens_of tokens.now) }
+    ensures { AreItems (tokens_of tokens.now) at result }
 {
     let mut items = Vec::new(alloc);
     let mut next = at;

@@ -11,9 +11,11 @@ mod lists;
 mod parts;
 mod raw;
 mod steps;
+mod turns;
 mod values;
 mod whole;
 mod words;
 
 pub use raw::{RawBase, RawBlock, RawData, RawDatum, RawEnd, RawInstr, RawItem, RawPack, RawValue};
+pub use turns::{SoFar, Turn, begin, is_all, next_item};
 pub use whole::program;

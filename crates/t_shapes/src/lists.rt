@@ -2,10 +2,11 @@
 ghost use Rattle.std.specs.Prelude.{◌≤◌, length};
 ghost use Rattle.t_terms.specs.Text.{most_open};
 ghost use Rattle.t_shapes.specs.Reads.{IsTypes, IsTypeList, IsSomeTypes};
+ghost use Rattle.t_lexer.specs.Kept.{tokens_of};
 
 use std::alloc::Global;
 use t_grammar::{RawType, Stopped, expect, opened, take, whole_type};
-use t_lexer::Stored;
+use t_lexer::Tokens;
 use t_terms::Wanted;
 
 /// Types in brackets that were read, the end of the closing bracket, and the number of the token after it.
@@ -17,10 +18,10 @@ pub struct FoundTypes {
 }
 
 /// [ ] or [ T , .. , T ]
-pub fn types(alloc: Global, tokens: &[Stored], at: usize, depth: u64) -> Result<FoundTypes, Stopped>
+pub fn types(alloc: Global, tokens: &Tokens, at: usize, depth: u64) -> Result<FoundTypes, Stopped>
     requires depth { depth ≤ most_open }
-    requires at { at ≤ length tokens.now }
-    ensures { IsTypes tokens.now depth at result }
+    requires at { at ≤ length (tokens_of tokens.now) }
+    ensures { IsTypes (tokens_of tokens.now) depth at result }
 {
     expect(tokens, at, Wanted::LeftBracket)?;
     let inner = opened(at, depth)?;
@@ -29,10 +30,10 @@ pub fn types(alloc: Global, tokens: &[Stored], at: usize, depth: u64) -> Result<
 }
 
 // types and the closing bracket, or the bracket alone
-fn type_list(alloc: Global, tokens: &[Stored], at: usize, depth: u64) -> Result<FoundTypes, Stopped>
+fn type_list(alloc: Global, tokens: &Tokens, at: usize, depth: u64) -> Result<FoundTypes, Stopped>
     requires depth { depth ≤ most_open }
-    requires at { at ≤ length tokens.now }
-    ensures { IsTypeList tokens.now depth at result }
+    requires at { at ≤ length (tokens_of tokens.now) }
+    ensures { IsTypeList (tokens_of tokens.now) depth at result }
 {
     if let Some(close) = take(tokens, at, Wanted::RightBracket) {
         return Ok(FoundTypes {
@@ -48,13 +49,13 @@ fn type_list(alloc: Global, tokens: &[Stored], at: usize, depth: u64) -> Result<
 /// T , .. , T ]
 pub fn some_types(
     alloc: Global,
-    tokens: &[Stored],
+    tokens: &Tokens,
     at: usize,
     depth: u64,
 ) -> Result<FoundTypes, Stopped>
     requires depth { depth ≤ most_open }
-    requires at { at ≤ length tokens.now }
-    ensures { IsSomeTypes tokens.now depth at result }
+    requires at { at ≤ length (tokens_of tokens.now) }
+    ensures { IsSomeTypes (tokens_of tokens.now) depth at result }
 {
     let mut types = Vec::new(alloc);
     let first = whole_type(alloc, tokens, at, depth)?;

@@ -1,10 +1,11 @@
 // The reading of what stands in brackets of instructions. There no construct is open around.
 ghost use Rattle.std.specs.Prelude.{◌≤◌, length};
 ghost use Rattle.t_shapes.specs.Reads.{IsIndex, IsPlace, IsTarget, IsInt, IsOperand};
+ghost use Rattle.t_lexer.specs.Kept.{tokens_of};
 
 use idx_core::Span;
 use t_grammar::{Stopped, expect, expect_index, expect_register, expect_two};
-use t_lexer::Stored;
+use t_lexer::Tokens;
 use t_terms::Wanted;
 
 /// A number in brackets, and the end of the closing bracket.
@@ -31,9 +32,9 @@ pub struct FoundTarget {
 
 /// [ n ]
 #[inline(always)]
-pub fn index(tokens: &[Stored], at: usize) -> Result<FoundIndex, Stopped>
-    requires { at ≤ length tokens.now }
-    ensures { IsIndex tokens.now at result }
+pub fn index(tokens: &Tokens, at: usize) -> Result<FoundIndex, Stopped>
+    requires { at ≤ length (tokens_of tokens.now) }
+    ensures { IsIndex (tokens_of tokens.now) at result }
 {
     expect(tokens, at, Wanted::LeftBracket)?;
     let field = expect_index(tokens, at + 1)?;
@@ -46,9 +47,9 @@ pub fn index(tokens: &[Stored], at: usize) -> Result<FoundIndex, Stopped>
 
 /// reg [ n ]
 #[inline(always)]
-pub fn place(tokens: &[Stored], at: usize) -> Result<FoundPlace, Stopped>
-    requires { at ≤ length tokens.now }
-    ensures { IsPlace tokens.now at result }
+pub fn place(tokens: &Tokens, at: usize) -> Result<FoundPlace, Stopped>
+    requires { at ≤ length (tokens_of tokens.now) }
+    ensures { IsPlace (tokens_of tokens.now) at result }
 {
     let (reg, _) = expect_register(tokens, at)?;
     let found = index(tokens, at + 1)?;
@@ -60,9 +61,9 @@ pub fn place(tokens: &[Stored], at: usize) -> Result<FoundPlace, Stopped>
 }
 
 /// [ name , reg ]
-pub fn target(tokens: &[Stored], at: usize) -> Result<FoundTarget, Stopped>
-    requires { at ≤ length tokens.now }
-    ensures { IsTarget tokens.now at result }
+pub fn target(tokens: &Tokens, at: usize) -> Result<FoundTarget, Stopped>
+    requires { at ≤ length (tokens_of tokens.now) }
+    ensures { IsTarget (tokens_of tokens.now) at result }
 {
     expect(tokens, at, Wanted::LeftBracket)?;
     let (name, _) = expect_two(tokens, at + 1, Wanted::Name, Wanted::Comma)?;
@@ -75,9 +76,9 @@ pub fn target(tokens: &[Stored], at: usize) -> Result<FoundTarget, Stopped>
 }
 
 /// [ int ], of which the end of the closing bracket is left.
-pub fn int(tokens: &[Stored], at: usize) -> Result<u64, Stopped>
-    requires { at ≤ length tokens.now }
-    ensures { IsInt tokens.now at result }
+pub fn int(tokens: &Tokens, at: usize) -> Result<u64, Stopped>
+    requires { at ≤ length (tokens_of tokens.now) }
+    ensures { IsInt (tokens_of tokens.now) at result }
 {
     expect(tokens, at, Wanted::LeftBracket)?;
     let (_, close) = expect_two(tokens, at + 1, Wanted::Int, Wanted::RightBracket)?;
@@ -86,9 +87,9 @@ pub fn int(tokens: &[Stored], at: usize) -> Result<u64, Stopped>
 
 /// reg , of which the number of the register is left.
 #[inline(always)]
-pub fn operand(tokens: &[Stored], at: usize) -> Result<u64, Stopped>
-    requires { at ≤ length tokens.now }
-    ensures { IsOperand tokens.now at result }
+pub fn operand(tokens: &Tokens, at: usize) -> Result<u64, Stopped>
+    requires { at ≤ length (tokens_of tokens.now) }
+    ensures { IsOperand (tokens_of tokens.now) at result }
 {
     let (reg, _) = expect_register(tokens, at)?;
     expect(tokens, at + 1, Wanted::Comma)?;

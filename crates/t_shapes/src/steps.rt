@@ -3,6 +3,7 @@ ghost use Rattle.std.specs.Prelude.{◌≡◌, ◌≤◌, ◌<◌, length, slice
 ghost use Rattle.t_terms.specs.GrammarTable.{instr_after};
 ghost use Rattle.t_shapes.specs.Reads.{IsRest, IsStep, step_next, arith_left, bnz_left, ld_left, malloc_left, mov_left};
 ghost use Rattle.t_shapes.specs.Reads.{st_left, unpack_left};
+ghost use Rattle.t_lexer.specs.Kept.{tokens_of};
 
 use crate::lists::types;
 use crate::parts::{operand, place, target};
@@ -11,7 +12,7 @@ use crate::values::value;
 use idx_core::{Op, Span};
 use std::alloc::Global;
 use t_grammar::{Stopped, expect, expect_register, peek};
-use t_lexer::Stored;
+use t_lexer::Tokens;
 use t_terms::{Kind, Token, Wanted};
 
 /// An instruction that was read, with its place, and the number of the token after it.
@@ -35,13 +36,13 @@ pub fn up_to(word: Token, end: u64) -> Span
 #[inline(always)]
 fn arith(
     alloc: Global,
-    tokens: &[Stored],
+    tokens: &Tokens,
     at: usize,
     word: Token,
     op: Op,
 ) -> Result<FoundStep, Stopped>
-    requires { at ≤ length tokens.now }
-    ensures { IsRest (arith_left op) tokens.now at word result }
+    requires { at ≤ length (tokens_of tokens.now) }
+    ensures { IsRest (arith_left op) (tokens_of tokens.now) at word result }
 {
     let rd = operand(tokens, at)?;
     let rs = operand(tokens, at + 2)?;
@@ -56,9 +57,9 @@ fn arith(
 }
 
 // reg , V
-fn bnz(alloc: Global, tokens: &[Stored], at: usize, word: Token) -> Result<FoundStep, Stopped>
-    requires { at ≤ length tokens.now }
-    ensures { IsRest bnz_left tokens.now at word result }
+fn bnz(alloc: Global, tokens: &Tokens, at: usize, word: Token) -> Result<FoundStep, Stopped>
+    requires { at ≤ length (tokens_of tokens.now) }
+    ensures { IsRest bnz_left (tokens_of tokens.now) at word result }
 {
     let reg = operand(tokens, at)?;
     let found = value(alloc, tokens, at + 2, 0)?;
@@ -69,9 +70,9 @@ fn bnz(alloc: Global, tokens: &[Stored], at: usize, word: Token) -> Result<Found
 }
 
 // reg , V
-fn mov(alloc: Global, tokens: &[Stored], at: usize, word: Token) -> Result<FoundStep, Stopped>
-    requires { at ≤ length tokens.now }
-    ensures { IsRest mov_left tokens.now at word result }
+fn mov(alloc: Global, tokens: &Tokens, at: usize, word: Token) -> Result<FoundStep, Stopped>
+    requires { at ≤ length (tokens_of tokens.now) }
+    ensures { IsRest mov_left (tokens_of tokens.now) at word result }
 {
     let reg = operand(tokens, at)?;
     let found = value(alloc, tokens, at + 2, 0)?;
@@ -82,9 +83,9 @@ fn mov(alloc: Global, tokens: &[Stored], at: usize, word: Token) -> Result<Found
 }
 
 // reg , reg [ n ]
-fn ld(tokens: &[Stored], at: usize, word: Token) -> Result<FoundStep, Stopped>
-    requires { at ≤ length tokens.now }
-    ensures { IsRest ld_left tokens.now at word result }
+fn ld(tokens: &Tokens, at: usize, word: Token) -> Result<FoundStep, Stopped>
+    requires { at ≤ length (tokens_of tokens.now) }
+    ensures { IsRest ld_left (tokens_of tokens.now) at word result }
 {
     let reg = operand(tokens, at)?;
     let found = place(tokens, at + 2)?;
@@ -98,9 +99,9 @@ fn ld(tokens: &[Stored], at: usize, word: Token) -> Result<FoundStep, Stopped>
 }
 
 // reg [ T , .. , T ]
-fn malloc(alloc: Global, tokens: &[Stored], at: usize, word: Token) -> Result<FoundStep, Stopped>
-    requires { at ≤ length tokens.now }
-    ensures { IsRest malloc_left tokens.now at word result }
+fn malloc(alloc: Global, tokens: &Tokens, at: usize, word: Token) -> Result<FoundStep, Stopped>
+    requires { at ≤ length (tokens_of tokens.now) }
+    ensures { IsRest malloc_left (tokens_of tokens.now) at word result }
 {
     let (reg, _) = expect_register(tokens, at)?;
     let found = types(alloc, tokens, at + 1, 0)?;
@@ -111,9 +112,9 @@ fn malloc(alloc: Global, tokens: &[Stored], at: usize, word: Token) -> Result<Fo
 }
 
 // reg [ n ] , reg
-fn st(tokens: &[Stored], at: usize, word: Token) -> Result<FoundStep, Stopped>
-    requires { at ≤ length tokens.now }
-    ensures { IsRest st_left tokens.now at word result }
+fn st(tokens: &Tokens, at: usize, word: Token) -> Result<FoundStep, Stopped>
+    requires { at ≤ length (tokens_of tokens.now) }
+    ensures { IsRest st_left (tokens_of tokens.now) at word result }
 {
     let found = place(tokens, at)?;
     expect(tokens, at + 4, Wanted::Comma)?;
@@ -128,9 +129,9 @@ fn st(tokens: &[Stored], at: usize, word: Token) -> Result<FoundStep, Stopped>
 }
 
 // [ name , reg ] , V
-fn unpack(alloc: Global, tokens: &[Stored], at: usize, word: Token) -> Result<FoundStep, Stopped>
-    requires { at ≤ length tokens.now }
-    ensures { IsRest unpack_left tokens.now at word result }
+fn unpack(alloc: Global, tokens: &Tokens, at: usize, word: Token) -> Result<FoundStep, Stopped>
+    requires { at ≤ length (tokens_of tokens.now) }
+    ensures { IsRest unpack_left (tokens_of tokens.now) at word result }
 {
     let to = target(tokens, at)?;
     expect(tokens, at + 5, Wanted::Comma)?;
@@ -145,8 +146,8 @@ fn unpack(alloc: Global, tokens: &[Stored], at: usize, word: Token) -> Result<Fo
 }
 
 /// Whether the token at a place begins an instruction.
-pub fn begins_step(tokens: &[Stored], at: usize) -> bool
-    ensures { result ≡ step_next (slice_get tokens.now at) }
+pub fn begins_step(tokens: &Tokens, at: usize) -> bool
+    ensures { result ≡ step_next (slice_get (tokens_of tokens.now) at) }
 {
     match peek(tokens, at) {
         Some(token) => is_instruction(token.kind),
@@ -173,9 +174,9 @@ fn is_instruction(kind: Kind) -> bool
 
 /// I ::= add reg , reg , V | sub reg , reg , V | mul reg , reg , V | bnz reg , V | ld reg , reg [ n ]
 /// | malloc reg [ T , .. , T ] | mov reg , V | st reg [ n ] , reg | unpack [ name , reg ] , V
-pub fn step(alloc: Global, tokens: &[Stored], at: usize) -> Result<FoundStep, Stopped>
-    requires { at ≤ length tokens.now }
-    ensures { IsStep tokens.now at result }
+pub fn step(alloc: Global, tokens: &Tokens, at: usize) -> Result<FoundStep, Stopped>
+    requires { at ≤ length (tokens_of tokens.now) }
+    ensures { IsStep (tokens_of tokens.now) at result }
 {
     let word = match peek(tokens, at) {
         Some(word) => word,

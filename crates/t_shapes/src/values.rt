@@ -7,12 +7,13 @@ ghost use Rattle.t_grammar.specs.Raw.{raw};
 ghost use Rattle.t_grammar.specs.declared.cursor.Stopped.TheVariants as stopped;
 ghost use Rattle.t_shapes.specs.Raw.{raw_base, raw_value, is_base};
 ghost use Rattle.t_shapes.specs.Reads.{IsValue, IsPacked};
+ghost use Rattle.t_lexer.specs.Kept.{tokens_of};
 
 use crate::lists::some_types;
 use crate::raw::{RawBase, RawPack, RawValue};
 use std::alloc::Global;
 use t_grammar::{RawType, Stopped, expect, opened, peek, take, whole_type};
-use t_lexer::Stored;
+use t_lexer::Tokens;
 use t_terms::{Kind, Token, Wanted};
 
 /// A value that was read, the end of its last token, and the number of the token after it.
@@ -71,17 +72,17 @@ pub fn package(
 #[inline(always)]
 fn plain(
     alloc: Global,
-    tokens: &[Stored],
+    tokens: &Tokens,
     at: usize,
     depth: u64,
     token: Token,
     base: RawBase,
 ) -> Result<FoundValue, Stopped>
     requires depth { depth ≤ most_open }
-    requires token { slice_get tokens.now at ≡ Some token }
+    requires token { slice_get (tokens_of tokens.now) at ≡ Some token }
     requires kind { is_base token.kind ≡ true }
     requires base { raw_base base ≡ base_of token.kind token.span }
-    ensures { IsValue tokens.now depth at result }
+    ensures { IsValue (tokens_of tokens.now) depth at result }
 {
     let next = at + 1;
     match take(tokens, next, Wanted::LeftBracket) {
@@ -104,10 +105,10 @@ fn plain(
 
 /// V ::= N | N [ T , .. , T ] | pack [ T , V ] as T
 #[cycle(values)]
-pub fn value(alloc: Global, tokens: &[Stored], at: usize, depth: u64) -> Result<FoundValue, Stopped>
+pub fn value(alloc: Global, tokens: &Tokens, at: usize, depth: u64) -> Result<FoundValue, Stopped>
     requires depth { depth ≤ most_open }
-    requires at { at ≤ length tokens.now }
-    ensures { IsValue tokens.now depth at result }
+    requires at { at ≤ length (tokens_of tokens.now) }
+    ensures { IsValue (tokens_of tokens.now) depth at result }
 {
     let token = match peek(tokens, at) {
         Some(token) => token,
@@ -135,10 +136,10 @@ pub fn value(alloc: Global, tokens: &[Stored], at: usize, depth: u64) -> Result<
 
 // [ T , V ]
 #[cycle(values)]
-fn packed(alloc: Global, tokens: &[Stored], at: usize, depth: u64) -> Result<FoundPacked, Stopped>
+fn packed(alloc: Global, tokens: &Tokens, at: usize, depth: u64) -> Result<FoundPacked, Stopped>
     requires depth { depth ≤ most_open }
-    requires at { at ≤ length tokens.now }
-    ensures { IsPacked tokens.now depth at result }
+    requires at { at ≤ length (tokens_of tokens.now) }
+    ensures { IsPacked (tokens_of tokens.now) depth at result }
 {
     expect(tokens, at, Wanted::LeftBracket)?;
     let inner = opened(at, depth)?;

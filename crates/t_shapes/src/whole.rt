@@ -2,19 +2,20 @@
 ghost use Rattle.std.specs.Prelude.{◌≡◌, ◌≤◌, length, MatchResult};
 ghost use Rattle.t_terms.specs.GrammarTable.{header_after};
 ghost use Rattle.t_shapes.specs.Reads.{AreBlocks, version_owed, IsHeaded, IsProgram, IsStop};
+ghost use Rattle.t_lexer.specs.Kept.{tokens_of};
 
 use crate::blocks::block;
 use crate::items::{FoundItems, items};
 use crate::raw::RawItem;
 use std::alloc::Global;
 use t_grammar::{Stopped, expect, peek, take};
-use t_lexer::Stored;
+use t_lexer::Tokens;
 use t_terms::{Kind, Wanted};
 
 // Block .. Block, one or more
-fn blocks(alloc: Global, tokens: &[Stored], at: usize) -> Result<FoundItems, Stopped>
-    requires { at ≤ length tokens.now }
-    ensures { AreBlocks tokens.now at result }
+fn blocks(alloc: Global, tokens: &Tokens, at: usize) -> Result<FoundItems, Stopped>
+    requires { at ≤ length (tokens_of tokens.now) }
+    ensures { AreBlocks (tokens_of tokens.now) at result }
 {
     let first = block(alloc, tokens, at)?;
     let mut next = first.next;
@@ -28,14 +29,15 @@ fn blocks(alloc: Global, tokens: &[Stored], at: usize) -> Result<FoundItems, Sto
     Ok(FoundItems { items, next })
 }
 
-// what a header's number heads
+/// What a header's number heads.
 #[derive(Clone, Copy)]
-enum Version {
+pub enum Version {
     Blocks,
     Items,
 }
 
-fn version_of(kind: Kind) -> Option<Version>
+/// What a header with this number heads.
+pub fn version_of(kind: Kind) -> Option<Version>
     ensures { version_owed result ≡ header_after kind }
 {
     match kind {
@@ -53,9 +55,9 @@ fn version_of(kind: Kind) -> Option<Version>
 }
 
 // 1 Block .. Block | 2 Item .. Item
-fn headed(alloc: Global, tokens: &[Stored], at: usize) -> Result<FoundItems, Stopped>
-    requires { at ≤ length tokens.now }
-    ensures { IsHeaded tokens.now at result }
+fn headed(alloc: Global, tokens: &Tokens, at: usize) -> Result<FoundItems, Stopped>
+    requires { at ≤ length (tokens_of tokens.now) }
+    ensures { IsHeaded (tokens_of tokens.now) at result }
 {
     let number = match peek(tokens, at) {
         Some(number) => number,
@@ -72,8 +74,9 @@ fn headed(alloc: Global, tokens: &[Stored], at: usize) -> Result<FoundItems, Sto
 ///
 /// The items of the program that all the tokens are, or the number of the first token, or of the end, that no
 /// program can have there, or at which more than 2000 constructs are open.
-pub fn program(alloc: Global, tokens: &[Stored]) -> Result<Vec<RawItem>, Stopped>
-    ensures { MatchResult result (λ xs. IsProgram tokens.now xs.items) (λ e. IsStop tokens.now e) }
+pub fn program(alloc: Global, tokens: &Tokens) -> Result<Vec<RawItem>, Stopped>
+    ensures { MatchResult result (λ xs. IsProgram (tokens_of tokens.now) xs.items)
+        (λ e. IsStop (tokens_of tokens.now) e) }
 {
     expect(tokens, 0, Wanted::Tal)?;
     let found = headed(alloc, tokens, 1)?;

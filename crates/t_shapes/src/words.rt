@@ -4,6 +4,7 @@ ghost use Rattle.t_terms.specs.GrammarTable.{base_of};
 ghost use Rattle.t_terms.specs.Text.{most_open};
 ghost use Rattle.t_shapes.specs.Raw.{raw_base, is_word_base};
 ghost use Rattle.t_shapes.specs.Reads.{IsWord, IsWordPacked};
+ghost use Rattle.t_lexer.specs.Kept.{tokens_of};
 
 use crate::lists::some_types;
 use crate::raw::{RawBase, RawValue};
@@ -12,7 +13,7 @@ use crate::values::{FoundPacked, package};
 use idx_core::Span;
 use std::alloc::Global;
 use t_grammar::{Stopped, expect, opened, peek, take, whole_type};
-use t_lexer::Stored;
+use t_lexer::Tokens;
 use t_terms::{Kind, Token, Wanted};
 
 /// The value of a data field that was read, with its place, and the number of the token after it.
@@ -39,17 +40,17 @@ fn word_base(token: Token) -> Option<RawBase>
 // Q | Q [ T , .. , T ], where the base is the token at a place
 fn plain_word(
     alloc: Global,
-    tokens: &[Stored],
+    tokens: &Tokens,
     at: usize,
     depth: u64,
     token: Token,
     base: RawBase,
 ) -> Result<FoundWord, Stopped>
     requires depth { depth ≤ most_open }
-    requires token { slice_get tokens.now at ≡ Some token }
+    requires token { slice_get (tokens_of tokens.now) at ≡ Some token }
     requires kind { is_word_base token.kind ≡ true }
     requires base { raw_base base ≡ base_of token.kind token.span }
-    ensures { IsWord tokens.now depth at result }
+    ensures { IsWord (tokens_of tokens.now) depth at result }
 {
     let next = at + 1;
     match take(tokens, next, Wanted::LeftBracket) {
@@ -72,10 +73,10 @@ fn plain_word(
 
 /// W ::= Q | Q [ T , .. , T ] | pack [ T , W ] as T, where Q ::= number | label
 #[cycle(words)]
-pub fn word(alloc: Global, tokens: &[Stored], at: usize, depth: u64) -> Result<FoundWord, Stopped>
+pub fn word(alloc: Global, tokens: &Tokens, at: usize, depth: u64) -> Result<FoundWord, Stopped>
     requires depth { depth ≤ most_open }
-    requires at { at ≤ length tokens.now }
-    ensures { IsWord tokens.now depth at result }
+    requires at { at ≤ length (tokens_of tokens.now) }
+    ensures { IsWord (tokens_of tokens.now) depth at result }
 {
     let token = match peek(tokens, at) {
         Some(token) => token,
@@ -105,13 +106,13 @@ pub fn word(alloc: Global, tokens: &[Stored], at: usize, depth: u64) -> Result<F
 #[cycle(words)]
 fn packed_word(
     alloc: Global,
-    tokens: &[Stored],
+    tokens: &Tokens,
     at: usize,
     depth: u64,
 ) -> Result<FoundPacked, Stopped>
     requires depth { depth ≤ most_open }
-    requires at { at ≤ length tokens.now }
-    ensures { IsWordPacked tokens.now depth at result }
+    requires at { at ≤ length (tokens_of tokens.now) }
+    ensures { IsWordPacked (tokens_of tokens.now) depth at result }
 {
     expect(tokens, at, Wanted::LeftBracket)?;
     let inner = opened(at, depth)?;

@@ -4,7 +4,7 @@ use idx_core::Span;
 use std::alloc::Global;
 use std::test::Fail;
 use t_grammar::{RawType, Stopped, expect_index, expect_register, whole_type};
-use t_lexer::Stored;
+use t_lexer::Tokens;
 use t_terms::{Kind, Token};
 
 fn token(kind: Kind, start: u64) -> Token {
@@ -15,11 +15,10 @@ fn token(kind: Kind, start: u64) -> Token {
 }
 
 // the tokens as they are kept
-fn stored(alloc: Global, tokens: &[Token]) -> Result<Vec<Stored>, Fail> {
-    let mut all = Vec::new(alloc);
+fn kept(alloc: Global, tokens: &[Token]) -> Result<Tokens, Fail> {
+    let mut all = Tokens::new(alloc);
     for token in tokens {
-        let kept = Stored::new(alloc, *token)?;
-        all.push(kept)?;
+        all.add(*token)?;
     }
     Ok(all)
 }
@@ -34,7 +33,7 @@ fn flag_of(ty: &RawType) -> Option<bool> {
 
 #[test]
 fn reads_a_tuple_type(rt: HostRuntime) -> Result<(), Fail> {
-    let tokens = stored(
+    let tokens = kept(
         rt.alloc(),
         &[
             token(Kind::LeftAngle, 3),
@@ -59,7 +58,7 @@ fn reads_a_tuple_type(rt: HostRuntime) -> Result<(), Fail> {
 
 #[test]
 fn tells_what_a_token_holds(rt: HostRuntime) -> Result<(), Fail> {
-    let tokens = stored(
+    let tokens = kept(
         rt.alloc(),
         &[token(Kind::Register(7), 3), token(Kind::Plain(5), 6)],
     )?;

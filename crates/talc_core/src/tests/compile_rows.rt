@@ -146,10 +146,12 @@ fn compiled_packages_in_packages(rt: HostRuntime) -> Result<(), Fail> {
 fn top_register(alloc: Global, text: &[u8]) -> Result<u64, Fail> {
     let mut top: u64 = 0;
     let tokens = tokens(alloc, text)?;
-    for stored in &tokens {
-        if let Kind::Register(r) = stored.token().kind {
-            if r > top {
-                top = r;
+    for i in 0..tokens.len() {
+        if let Some(token) = tokens.get(i) {
+            if let Kind::Register(r) = token.kind {
+                if r > top {
+                    top = r;
+                }
             }
         }
     }

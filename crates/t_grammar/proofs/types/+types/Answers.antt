@@ -12,11 +12,12 @@ use Rattle.t_grammar.proofs.Stepping.{within, start, begins, by_token, by_two, b
 use Rattle.t_grammar.proofs.Lines.{opens_file, list_regs, list_fields, no_type}
 use Rattle.t_grammar.proofs.Empty.{regs_empty, fields_empty}
 use Rattle.t_grammar.proofs.Raws.{raw_Tuple, raw_Code, regs_more, fields_more, reg_is, field_is}
+use Rattle.t_lexer.specs.Kept.{tokens_of}
 use Rattle.t_grammar.proofs.types.+types.Goals as goal
 
 pub entry-returns-in_err-reg : goal.entry-returns-in_err-reg
 entry-returns-in_err-reg t c =
-    let ts = c.args.tokens.now in
+    let ts = tokens_of c.args.tokens.now in
     let d = c.args.depth in
     let i = c.args.at in
     let p = err_from_is_err_and c.from_residual.result c.from_residual.ensures.1 in
@@ -24,7 +25,7 @@ entry-returns-in_err-reg t c =
 
 pub entry-returns-in_err-expect : goal.entry-returns-in_err-expect
 entry-returns-in_err-expect t c =
-    let ts = c.args.tokens.now in
+    let ts = tokens_of c.args.tokens.now in
     let d = c.args.depth in
     let i = c.args.at in
     let g = c.in_ok-reg.ensures in
@@ -34,14 +35,14 @@ entry-returns-in_err-expect t c =
 
 pub entry-whole_type-requires : goal.entry-whole_type-requires
 entry-whole_type-requires t c =
-    let ts = c.args.tokens.now in
+    let ts = tokens_of c.args.tokens.now in
     let i = c.args.at in
     let l = within ts (i + 1) want.Colon _ c.in_ok-expect.ensures in
     (omega (arith, l), (c.requires.depth, omega (arith, l)))
 
 pub entry-returns-in_err-found : goal.entry-returns-in_err-found
 entry-returns-in_err-found t c =
-    let ts = c.args.tokens.now in
+    let ts = tokens_of c.args.tokens.now in
     let d = c.args.depth in
     let i = c.args.at in
     let g = c.in_ok-reg.ensures in
@@ -51,7 +52,7 @@ entry-returns-in_err-found t c =
 
 pub entry-returns : goal.entry-returns
 entry-returns t c =
-    let ts = c.args.tokens.now in
+    let ts = tokens_of c.args.tokens.now in
     let d = c.args.depth in
     let i = c.args.at in
     let g = c.in_ok-reg.ensures in
@@ -68,7 +69,7 @@ entry-returns t c =
 
 pub field-returns-in_err-expect : goal.field-returns-in_err-expect
 field-returns-in_err-expect t c =
-    let ts = c.args.tokens.now in
+    let ts = tokens_of c.args.tokens.now in
     let d = c.args.depth in
     let i = c.args.at in
     let m = by_call d (Tm want.Caret ∷ (Tm want.Flag ∷ [])) [] (start ts d i field_owed) (omega arith) c.in_ok-found.ensures.same in
@@ -77,7 +78,7 @@ field-returns-in_err-expect t c =
 
 pub field-returns-in_err-flag : goal.field-returns-in_err-flag
 field-returns-in_err-flag t c =
-    let ts = c.args.tokens.now in
+    let ts = tokens_of c.args.tokens.now in
     let d = c.args.depth in
     let i = c.args.at in
     let m = by_call d (Tm want.Caret ∷ (Tm want.Flag ∷ [])) [] (start ts d i field_owed) (omega arith) c.in_ok-found.ensures.same in
@@ -87,7 +88,7 @@ field-returns-in_err-flag t c =
 
 pub field-returns : goal.field-returns
 field-returns t c =
-    let ts = c.args.tokens.now in
+    let ts = tokens_of c.args.tokens.now in
     let d = c.args.depth in
     let i = c.args.at in
     let m = by_call d (Tm want.Caret ∷ (Tm want.Flag ∷ [])) [] (start ts d i field_owed) (omega arith) c.in_ok-found.ensures.same in
@@ -105,14 +106,14 @@ field-returns t c =
 
 pub regs-returns-in-Some : goal.regs-returns-in-Some
 regs-returns-in-Some t c =
-    let ts = c.args.tokens.now in
+    let ts = tokens_of c.args.tokens.now in
     let d = c.args.depth in
     let i = c.args.at in
     rw c.new-regs.ensures.items (regs_empty ts d i _ c.requires.depth (sym c.take.ensures ∙ c.in-Some.is))
 
 pub regs-returns-in_err-first : goal.regs-returns-in_err-first
 regs-returns-in_err-first t c =
-    let ts = c.args.tokens.now in
+    let ts = tokens_of c.args.tokens.now in
     let d = c.args.depth in
     let i = c.args.at in
     let p = err_from_is_err_and c.from_residual.result c.from_residual.ensures.1 in
@@ -120,7 +121,7 @@ regs-returns-in_err-first t c =
 
 pub regs-loop-regs-init : goal.regs-loop-regs-init
 regs-loop-regs-init t c =
-    let ts = c.args.tokens.now in
+    let ts = tokens_of c.args.tokens.now in
     let d = c.args.depth in
     let i = c.args.at in
     let f = c.in_ok-first.first in
@@ -130,7 +131,7 @@ regs-loop-regs-init t c =
 
 pub regs-entry-requires-in-Some-take : goal.regs-entry-requires-in-Some-take
 regs-entry-requires-in-Some-take t c =
-    let ts = c.args.tokens.now in
+    let ts = tokens_of c.args.tokens.now in
     let d = c.args.depth in
     let i = c.args.at in
     let j = c.loop-regs.next in
@@ -140,7 +141,7 @@ regs-entry-requires-in-Some-take t c =
 
 pub regs-returns-in_err-found : goal.regs-returns-in_err-found
 regs-returns-in_err-found t c =
-    let ts = c.args.tokens.now in
+    let ts = tokens_of c.args.tokens.now in
     let d = c.args.depth in
     let i = c.args.at in
     let p = err_from_is_err_and c.from_residual-in_err-found.result c.from_residual-in_err-found.ensures.1 in
@@ -148,7 +149,7 @@ regs-returns-in_err-found t c =
 
 pub regs-loop-regs-preserved : goal.regs-loop-regs-preserved
 regs-loop-regs-preserved t c =
-    let ts = c.args.tokens.now in
+    let ts = tokens_of c.args.tokens.now in
     let d = c.args.depth in
     let i = c.args.at in
     let f = c.in_ok-found.found in
@@ -158,7 +159,7 @@ regs-loop-regs-preserved t c =
 
 pub regs-returns-in_err-close : goal.regs-returns-in_err-close
 regs-returns-in_err-close t c =
-    let ts = c.args.tokens.now in
+    let ts = tokens_of c.args.tokens.now in
     let d = c.args.depth in
     let i = c.args.at in
     let p = err_from_is_err_and c.from_residual-in_err-close.result c.from_residual-in_err-close.ensures.1 in
@@ -166,21 +167,21 @@ regs-returns-in_err-close t c =
 
 pub regs-returns : goal.regs-returns
 regs-returns t c =
-    let ts = c.args.tokens.now in
+    let ts = tokens_of c.args.tokens.now in
     let d = c.args.depth in
     let i = c.args.at in
     (list_whole LRegs LMoreRegs want.RightBrace entry_owed MakeFirstReg MakeNextReg MakeClosedRegs list_regs ts d i c.loop-regs.next _ _ _ c.requires.depth c.loop-regs.invariant (sym c.take-in-loop-regs.ensures ∙ c.in_default-take.is) c.in_ok-close.ensures (λ below. refl))
 
 pub fields-returns-in-Some : goal.fields-returns-in-Some
 fields-returns-in-Some t c =
-    let ts = c.args.tokens.now in
+    let ts = tokens_of c.args.tokens.now in
     let d = c.args.depth in
     let i = c.args.at in
     rw (raw_Tuple c.new-fields.result, c.new-fields.ensures.items) (fields_empty ts d i _ c.requires.depth (sym c.take.ensures ∙ c.in-Some.is))
 
 pub fields-returns-in_err-first : goal.fields-returns-in_err-first
 fields-returns-in_err-first t c =
-    let ts = c.args.tokens.now in
+    let ts = tokens_of c.args.tokens.now in
     let d = c.args.depth in
     let i = c.args.at in
     let p = err_from_is_err_and c.from_residual.result c.from_residual.ensures.1 in
@@ -188,7 +189,7 @@ fields-returns-in_err-first t c =
 
 pub fields-loop-fields-init : goal.fields-loop-fields-init
 fields-loop-fields-init t c =
-    let ts = c.args.tokens.now in
+    let ts = tokens_of c.args.tokens.now in
     let d = c.args.depth in
     let i = c.args.at in
     let f = c.in_ok-first.first in
@@ -198,7 +199,7 @@ fields-loop-fields-init t c =
 
 pub fields-field-requires-in-Some-take : goal.fields-field-requires-in-Some-take
 fields-field-requires-in-Some-take t c =
-    let ts = c.args.tokens.now in
+    let ts = tokens_of c.args.tokens.now in
     let d = c.args.depth in
     let i = c.args.at in
     let j = c.loop-fields.next in
@@ -208,7 +209,7 @@ fields-field-requires-in-Some-take t c =
 
 pub fields-returns-in_err-found : goal.fields-returns-in_err-found
 fields-returns-in_err-found t c =
-    let ts = c.args.tokens.now in
+    let ts = tokens_of c.args.tokens.now in
     let d = c.args.depth in
     let i = c.args.at in
     let p = err_from_is_err_and c.from_residual-in_err-found.result c.from_residual-in_err-found.ensures.1 in
@@ -216,7 +217,7 @@ fields-returns-in_err-found t c =
 
 pub fields-loop-fields-preserved : goal.fields-loop-fields-preserved
 fields-loop-fields-preserved t c =
-    let ts = c.args.tokens.now in
+    let ts = tokens_of c.args.tokens.now in
     let d = c.args.depth in
     let i = c.args.at in
     let f = c.in_ok-found.found in
@@ -226,7 +227,7 @@ fields-loop-fields-preserved t c =
 
 pub fields-returns-in_err-close : goal.fields-returns-in_err-close
 fields-returns-in_err-close t c =
-    let ts = c.args.tokens.now in
+    let ts = tokens_of c.args.tokens.now in
     let d = c.args.depth in
     let i = c.args.at in
     let p = err_from_is_err_and c.from_residual-in_err-close.result c.from_residual-in_err-close.ensures.1 in
@@ -234,14 +235,14 @@ fields-returns-in_err-close t c =
 
 pub fields-returns : goal.fields-returns
 fields-returns t c =
-    let ts = c.args.tokens.now in
+    let ts = tokens_of c.args.tokens.now in
     let d = c.args.depth in
     let i = c.args.at in
     rw (raw_Tuple c.loop-fields.fields) (list_whole LFields LMoreFields want.RightAngle field_owed MakeFirstField MakeNextField MakeClosedFields list_fields ts d i c.loop-fields.next _ _ _ c.requires.depth c.loop-fields.invariant (sym c.take-in-loop-fields.ensures ∙ c.in_default-take.is) c.in_ok-close.ensures (λ below. refl))
 
 pub file-returns-in_err-expect : goal.file-returns-in_err-expect
 file-returns-in_err-expect t c =
-    let ts = c.args.tokens.now in
+    let ts = tokens_of c.args.tokens.now in
     let d = c.args.depth in
     let i = c.args.at in
     let p = err_from_is_err_and c.from_residual.result c.from_residual.ensures.1 in
@@ -249,7 +250,7 @@ file-returns-in_err-expect t c =
 
 pub file-returns-in_err-inner : goal.file-returns-in_err-inner
 file-returns-in_err-inner t c =
-    let ts = c.args.tokens.now in
+    let ts = tokens_of c.args.tokens.now in
     let d = c.args.depth in
     let i = c.args.at in
     let p = err_from_is_err_and c.from_residual-in_err-inner.result c.from_residual-in_err-inner.ensures.1 in
@@ -257,7 +258,7 @@ file-returns-in_err-inner t c =
 
 pub file-regs-requires : goal.file-regs-requires
 file-regs-requires t c =
-    let ts = c.args.tokens.now in
+    let ts = tokens_of c.args.tokens.now in
     let d = c.args.depth in
     let i = c.args.at in
     let q = c.in_ok-inner.ensures in
@@ -266,7 +267,7 @@ file-regs-requires t c =
 
 pub file-returns-in_err-found : goal.file-returns-in_err-found
 file-returns-in_err-found t c =
-    let ts = c.args.tokens.now in
+    let ts = tokens_of c.args.tokens.now in
     let d = c.args.depth in
     let i = c.args.at in
     let p = err_from_is_err_and c.from_residual-in_err-found.result c.from_residual-in_err-found.ensures.1 in
@@ -274,21 +275,21 @@ file-returns-in_err-found t c =
 
 pub file-returns : goal.file-returns
 file-returns t c =
-    let ts = c.args.tokens.now in
+    let ts = tokens_of c.args.tokens.now in
     let d = c.args.depth in
     let i = c.args.at in
     bracketed ts d i _ LFile LRegs want.LeftBrace MakeFile opens_file c.in_ok-expect.ensures _ c.in_ok-inner.ensures.1 c.in_ok-inner.ensures.0 c.in_ok-found.found.next _ _ c.in_ok-found.ensures (λ below. refl)
 
 pub whole_type-returns-in-None : goal.whole_type-returns-in-None
 whole_type-returns-in-None t c =
-    let ts = c.args.tokens.now in
+    let ts = tokens_of c.args.tokens.now in
     let d = c.args.depth in
     let i = c.args.at in
     stop_lacks _ LT [] [] (start ts d i (Nt LT ∷ [])) refl (at_the_end (sym c.peek.ensures ∙ c.in-None.is)) refl
 
 pub whole_type-code_type-requires : goal.whole_type-code_type-requires
 whole_type-code_type-requires t c =
-    let ts = c.args.tokens.now in
+    let ts = tokens_of c.args.tokens.now in
     let i = c.args.at in
     let e : slice_get ts i ≡ Some c.in-Some.token = sym c.peek.ensures ∙ c.in-Some.is in
     let l = slice_get_within ts i c.in-Some.token e in
@@ -300,7 +301,7 @@ whole_type-returns-in-All t c =
 
 pub whole_type-some_type-requires : goal.whole_type-some_type-requires
 whole_type-some_type-requires t c =
-    let ts = c.args.tokens.now in
+    let ts = tokens_of c.args.tokens.now in
     let i = c.args.at in
     let e : slice_get ts i ≡ Some c.in-Some.token = sym c.peek.ensures ∙ c.in-Some.is in
     let l = slice_get_within ts i c.in-Some.token e in
@@ -312,7 +313,7 @@ whole_type-returns-in-Some-kind t c =
 
 pub code_type-returns-in_err-names : goal.code_type-returns-in_err-names
 code_type-returns-in_err-names t c = λ w e k.
-    let ts = c.args.tokens.now in
+    let ts = tokens_of c.args.tokens.now in
     let d = c.args.depth in
     let i = c.args.at in
     let a : type_after w.kind ≡ Some (Nt LBinds ∷ (Nt LFile ∷ (Do MakeTypeCode ∷ []))) = rw k refl in
@@ -327,7 +328,7 @@ code_type-file-requires t c =
 
 pub code_type-returns-in_err-found : goal.code_type-returns-in_err-found
 code_type-returns-in_err-found t c = λ w e k.
-    let ts = c.args.tokens.now in
+    let ts = tokens_of c.args.tokens.now in
     let d = c.args.depth in
     let i = c.args.at in
     let a : type_after w.kind ≡ Some (Nt LBinds ∷ (Nt LFile ∷ (Do MakeTypeCode ∷ []))) = rw k refl in
@@ -338,7 +339,7 @@ code_type-returns-in_err-found t c = λ w e k.
 
 pub code_type-returns : goal.code_type-returns
 code_type-returns t c = λ w e k.
-    let ts = c.args.tokens.now in
+    let ts = tokens_of c.args.tokens.now in
     let d = c.args.depth in
     let i = c.args.at in
     let a : type_after w.kind ≡ Some (Nt LBinds ∷ (Nt LFile ∷ (Do MakeTypeCode ∷ []))) = rw k refl in
@@ -354,7 +355,7 @@ code_type-returns t c = λ w e k.
 
 pub some_type-returns-in_err-inner : goal.some_type-returns-in_err-inner
 some_type-returns-in_err-inner t c = λ w e k.
-    let ts = c.args.tokens.now in
+    let ts = tokens_of c.args.tokens.now in
     let d = c.args.depth in
     let i = c.args.at in
     let a : type_after w.kind ≡ Some (Tm want.Name ∷ (Tm want.Dot ∷ (Nt LT ∷ (Mark ∷ (Do MakeTypeSome ∷ []))))) = rw k refl in
@@ -363,7 +364,7 @@ some_type-returns-in_err-inner t c = λ w e k.
 
 pub some_type-returns-in_err-name : goal.some_type-returns-in_err-name
 some_type-returns-in_err-name t c = λ w e k.
-    let ts = c.args.tokens.now in
+    let ts = tokens_of c.args.tokens.now in
     let d = c.args.depth in
     let i = c.args.at in
     let a : type_after w.kind ≡ Some (Tm want.Name ∷ (Tm want.Dot ∷ (Nt LT ∷ (Mark ∷ (Do MakeTypeSome ∷ []))))) = rw k refl in
@@ -374,7 +375,7 @@ some_type-returns-in_err-name t c = λ w e k.
 
 pub some_type-whole_type-requires : goal.some_type-whole_type-requires
 some_type-whole_type-requires t c =
-    let ts = c.args.tokens.now in
+    let ts = tokens_of c.args.tokens.now in
     let i = c.args.at in
     let q = c.in_ok-inner.ensures in
     let l = within ts (i + 1 + 1) want.Dot _ c.in_ok-name.ensures.1 in
@@ -382,7 +383,7 @@ some_type-whole_type-requires t c =
 
 pub some_type-returns-in_err-body : goal.some_type-returns-in_err-body
 some_type-returns-in_err-body t c = λ w e k.
-    let ts = c.args.tokens.now in
+    let ts = tokens_of c.args.tokens.now in
     let d = c.args.depth in
     let i = c.args.at in
     let a : type_after w.kind ≡ Some (Tm want.Name ∷ (Tm want.Dot ∷ (Nt LT ∷ (Mark ∷ (Do MakeTypeSome ∷ []))))) = rw k refl in
@@ -395,7 +396,7 @@ some_type-returns-in_err-body t c = λ w e k.
 
 pub some_type-returns : goal.some_type-returns
 some_type-returns t c = λ w e k.
-    let ts = c.args.tokens.now in
+    let ts = tokens_of c.args.tokens.now in
     let d = c.args.depth in
     let i = c.args.at in
     let a : type_after w.kind ≡ Some (Tm want.Name ∷ (Tm want.Dot ∷ (Nt LT ∷ (Mark ∷ (Do MakeTypeSome ∷ []))))) = rw k refl in
@@ -412,7 +413,7 @@ some_type-returns t c = λ w e k.
 
 pub whole_type-returns-in_err-inner-in-LeftAngle : goal.whole_type-returns-in_err-inner-in-LeftAngle
 whole_type-returns-in_err-inner-in-LeftAngle t c =
-    let ts = c.args.tokens.now in
+    let ts = tokens_of c.args.tokens.now in
     let d = c.args.depth in
     let i = c.args.at in
     let e : slice_get ts i ≡ Some c.in-Some.token = sym c.peek.ensures ∙ c.in-Some.is in
@@ -422,7 +423,7 @@ whole_type-returns-in_err-inner-in-LeftAngle t c =
 
 pub whole_type-fields-requires : goal.whole_type-fields-requires
 whole_type-fields-requires t c =
-    let ts = c.args.tokens.now in
+    let ts = tokens_of c.args.tokens.now in
     let d = c.args.depth in
     let i = c.args.at in
     let e : slice_get ts i ≡ Some c.in-Some.token = sym c.peek.ensures ∙ c.in-Some.is in
@@ -432,7 +433,7 @@ whole_type-fields-requires t c =
 
 pub whole_type-returns-in_err-found-in-LeftAngle : goal.whole_type-returns-in_err-found-in-LeftAngle
 whole_type-returns-in_err-found-in-LeftAngle t c =
-    let ts = c.args.tokens.now in
+    let ts = tokens_of c.args.tokens.now in
     let d = c.args.depth in
     let i = c.args.at in
     let e : slice_get ts i ≡ Some c.in-Some.token = sym c.peek.ensures ∙ c.in-Some.is in
@@ -444,7 +445,7 @@ whole_type-returns-in_err-found-in-LeftAngle t c =
 
 pub whole_type-returns-in_ok-found-in-LeftAngle : goal.whole_type-returns-in_ok-found-in-LeftAngle
 whole_type-returns-in_ok-found-in-LeftAngle t c =
-    let ts = c.args.tokens.now in
+    let ts = tokens_of c.args.tokens.now in
     let d = c.args.depth in
     let i = c.args.at in
     let e : slice_get ts i ≡ Some c.in-Some.token = sym c.peek.ensures ∙ c.in-Some.is in
@@ -460,7 +461,7 @@ whole_type-returns-in_ok-found-in-LeftAngle t c =
 
 pub whole_type-returns-in-Int : goal.whole_type-returns-in-Int
 whole_type-returns-in-Int t c =
-    let ts = c.args.tokens.now in
+    let ts = tokens_of c.args.tokens.now in
     let d = c.args.depth in
     let i = c.args.at in
     let e : slice_get ts i ≡ Some c.in-Some.token = sym c.peek.ensures ∙ c.in-Some.is in
@@ -474,7 +475,7 @@ whole_type-returns-in-Int t c =
 
 pub whole_type-returns-in-Name : goal.whole_type-returns-in-Name
 whole_type-returns-in-Name t c =
-    let ts = c.args.tokens.now in
+    let ts = tokens_of c.args.tokens.now in
     let d = c.args.depth in
     let i = c.args.at in
     let e : slice_get ts i ≡ Some c.in-Some.token = sym c.peek.ensures ∙ c.in-Some.is in
@@ -488,7 +489,7 @@ whole_type-returns-in-Name t c =
 
 pub whole_type-returns-in_default : goal.whole_type-returns-in_default
 whole_type-returns-in_default t c =
-    let ts = c.args.tokens.now in
+    let ts = tokens_of c.args.tokens.now in
     let d = c.args.depth in
     let i = c.args.at in
     let e : slice_get ts i ≡ Some c.in-Some.token = sym c.peek.ensures ∙ c.in-Some.is in

@@ -4,7 +4,7 @@ use Rattle.t_reader.proofs.resolve.data_in.Goals as goal
 
 pub loop-datum-init : goal.loop-datum-init
 loop-datum-init c =
-    rw c.new-fields.ensures.items (data_start c.args.text.now c.args.labels.now c.deref-datum-items.result.now)
+    rw c.in_ok-fields.ensures.items (data_start c.args.text.now c.args.labels.now c.deref-datum-items.result.now)
 
 pub loop-datum-preserved : goal.loop-datum-preserved
 loop-datum-preserved c =
@@ -14,7 +14,7 @@ loop-datum-preserved c =
 pub returns-in_err-field : goal.returns-in_err-field
 returns-in_err-field c =
     let l = c.loop-datum in
-    let p = err_from_is_err_and c.from_residual.result c.from_residual.ensures.1 in
+    let p = err_from_is_err_and c.from_residual-in_err-field.result c.from_residual-in_err-field.ensures.1 in
     rw (p.1, p.2) (data_stop_whole c.args.text.now c.args.labels.now c.args.tuple.now c.deref-datum-items.result.now c.deref-datum-items.ensures.value _ (data_stop c.args.text.now c.args.labels.now c.deref-datum-items.result.now l.datum-index l.fields.items c.datum-item.result c.loop-datum-test.true c.datum-item.is l.invariant _ c.in_err-field.ensures))
 
 pub returns : goal.returns

@@ -61,7 +61,7 @@ type_in-loop-field-init t c =
     let text = c.args.text.now in
     let a = c.args.scope.now in
     let ty = c.args.ty.now in
-    rw c.new-made.ensures.items (fields_start text a c.deref-field-items.result.now)
+    rw c.in_ok-made-in-Tuple.ensures.items (fields_start text a c.deref-field-items.result.now)
 
 pub type_in-loop-field-preserved : goal.type_in-loop-field-preserved
 type_in-loop-field-preserved t c =

@@ -4,7 +4,7 @@ use Rattle.t_reader.proofs.types.types_in.Goals as goal
 
 pub loop-ty-init : goal.loop-ty-init
 loop-ty-init c =
-    rw c.new-made.ensures.items (types_start c.args.text.now c.args.scope.now c.args.list.now)
+    rw c.in_ok-made.ensures.items (types_start c.args.text.now c.args.scope.now c.args.list.now)
 
 pub loop-ty-preserved : goal.loop-ty-preserved
 loop-ty-preserved c =
@@ -13,7 +13,7 @@ loop-ty-preserved c =
 
 pub returns-in_err-ty : goal.returns-in_err-ty
 returns-in_err-ty c =
-    let p = err_from_is_err_and c.from_residual.result c.from_residual.ensures.1 in
+    let p = err_from_is_err_and c.from_residual-in_err-ty.result c.from_residual-in_err-ty.ensures.1 in
     rw (p.1, p.2) (types_stop c.args.text.now c.args.scope.now c.args.list.now c.loop-ty.ty-index _ c.loop-ty.made.items c.ty-item.result c.loop-ty-test.true c.ty-item.is c.loop-ty.invariant _ c.in_err-ty.ensures)
 
 pub returns : goal.returns

@@ -6,18 +6,19 @@ use Rattle.t_terms.specs.GrammarTable.{MakeBlock, block_owed, code_owed}
 use Rattle.t_grammar.proofs.Stepping.{within, by_token, by_two, by_call, by_do, by_same, stop_token, stop_two, stop_call}
 use Rattle.t_shapes.specs.Reads.{code_parts}
 use Rattle.t_shapes.proofs.Blocked.{block_goes}
+use Rattle.t_lexer.specs.Kept.{tokens_of}
 use Rattle.t_shapes.proofs.blocks.block.Goals as goal
 
 pub returns-in_err-label : goal.returns-in_err-label
 returns-in_err-label c =
-    let ts = c.args.tokens.now in
+    let ts = tokens_of c.args.tokens.now in
     let i = c.args.at in
     let p = err_from_is_err_and c.from_residual.result c.from_residual.ensures.1 in
     rw (p.1, p.2) (stop_token _ want.Name block_owed [] (block_goes ts i) c.in_err-label.ensures)
 
 pub returns-in_err-expect_two : goal.returns-in_err-expect_two
 returns-in_err-expect_two c =
-    let ts = c.args.tokens.now in
+    let ts = tokens_of c.args.tokens.now in
     let i = c.args.at in
     let m1 = by_token want.Name _ block_owed [] (block_goes ts i) c.in_ok-label.ensures (omega arith) in
     let p = err_from_is_err_and c.from_residual-in_err-expect_two.result c.from_residual-in_err-expect_two.ensures.1 in
@@ -25,13 +26,13 @@ returns-in_err-expect_two c =
 
 pub code-requires : goal.code-requires
 code-requires c =
-    let ts = c.args.tokens.now in
+    let ts = tokens_of c.args.tokens.now in
     let i = c.args.at in
     let l = within ts (i + 1 + 1) want.Code _ c.in_ok-expect_two.ensures.1 in omega (arith, l)
 
 pub returns-in_err-found : goal.returns-in_err-found
 returns-in_err-found c =
-    let ts = c.args.tokens.now in
+    let ts = tokens_of c.args.tokens.now in
     let i = c.args.at in
     let m1 = by_token want.Name _ block_owed [] (block_goes ts i) c.in_ok-label.ensures (omega arith) in
     let m2 = by_same {k = i + 3} (omega arith) (by_two want.Colon want.Code _ _ code_owed _ m1 c.in_ok-expect_two.ensures (omega arith)) in
@@ -40,7 +41,7 @@ returns-in_err-found c =
 
 pub returns : goal.returns
 returns c =
-    let ts = c.args.tokens.now in
+    let ts = tokens_of c.args.tokens.now in
     let i = c.args.at in
     let m1 = by_token want.Name _ block_owed [] (block_goes ts i) c.in_ok-label.ensures (omega arith) in
     let m2 = by_same {k = i + 3} (omega arith) (by_two want.Colon want.Code _ _ code_owed _ m1 c.in_ok-expect_two.ensures (omega arith)) in

@@ -4,11 +4,12 @@ use Rattle.text_core.specs.Table.{Nt, Do}
 use Rattle.t_terms.specs.GrammarTable.{LEnd, LMoreSteps, MakeNoSteps}
 use Rattle.t_grammar.proofs.Stepping.{start, by_call, stop_call}
 use Rattle.t_shapes.specs.Reads.{head_owed, steps_owed, code_parts}
+use Rattle.t_lexer.specs.Kept.{tokens_of}
 use Rattle.t_shapes.proofs.blocks.code.Goals as goal
 
 pub returns-in_err-head : goal.returns-in_err-head
 returns-in_err-head c =
-    let ts = c.args.tokens.now in
+    let ts = tokens_of c.args.tokens.now in
     let i = c.args.at in
     let s = start ts 0 i code_parts in
     let p = err_from_is_err_and c.from_residual.result c.from_residual.ensures.1 in
@@ -20,7 +21,7 @@ steps-requires c =
 
 pub returns-in_err-body : goal.returns-in_err-body
 returns-in_err-body c =
-    let ts = c.args.tokens.now in
+    let ts = tokens_of c.args.tokens.now in
     let i = c.args.at in
     let s = start ts 0 i code_parts in
     let m1 = by_call 0 (Do MakeNoSteps ∷ (Nt LMoreSteps ∷ (Nt LEnd ∷ []))) [] s (omega arith) c.in_ok-head.ensures.reads.same in
@@ -33,7 +34,7 @@ end-requires c =
 
 pub returns-in_err-end : goal.returns-in_err-end
 returns-in_err-end c =
-    let ts = c.args.tokens.now in
+    let ts = tokens_of c.args.tokens.now in
     let i = c.args.at in
     let s = start ts 0 i code_parts in
     let m1 = by_call 0 (Do MakeNoSteps ∷ (Nt LMoreSteps ∷ (Nt LEnd ∷ []))) [] s (omega arith) c.in_ok-head.ensures.reads.same in
@@ -43,7 +44,7 @@ returns-in_err-end c =
 
 pub returns : goal.returns
 returns c =
-    let ts = c.args.tokens.now in
+    let ts = tokens_of c.args.tokens.now in
     let i = c.args.at in
     let s = start ts 0 i code_parts in
     let m1 = by_call 0 (Do MakeNoSteps ∷ (Nt LMoreSteps ∷ (Nt LEnd ∷ []))) [] s (omega arith) c.in_ok-head.ensures.reads.same in

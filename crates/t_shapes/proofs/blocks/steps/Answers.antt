@@ -5,17 +5,18 @@ use Rattle.t_terms.specs.GrammarTable.{LI, LMoreSteps, MakeNoSteps, MakeNextStep
 use Rattle.t_grammar.proofs.Stepping.{start, by_call, by_do, stop_call}
 use Rattle.t_shapes.specs.Reads.{steps_owed}
 use Rattle.t_shapes.proofs.Blocked.{as_instr, no_instr, steps_more}
+use Rattle.t_lexer.specs.Kept.{tokens_of}
 use Rattle.t_shapes.proofs.blocks.steps.Goals as goal
 
 pub loop-alloc-init : goal.loop-alloc-init
 loop-alloc-init c =
-    let ts = c.args.tokens.now in
+    let ts = tokens_of c.args.tokens.now in
     let i = c.args.at in
     rw c.new-steps.ensures.items (record { forward = omega arith; in_range = c.requires; same = by_do MakeNoSteps (Nt LMoreSteps ∷ []) [] (OfSteps [] ∷ []) (start ts 0 i steps_owed) (λ below. refl) })
 
 pub returns-in_err-found : goal.returns-in_err-found
 returns-in_err-found c =
-    let ts = c.args.tokens.now in
+    let ts = tokens_of c.args.tokens.now in
     let i = c.args.at in
     let s = c.loop-alloc.invariant in
     let j = c.loop-alloc.next in
@@ -25,7 +26,7 @@ returns-in_err-found c =
 
 pub loop-alloc-smaller : goal.loop-alloc-smaller
 loop-alloc-smaller c =
-    let ts = c.args.tokens.now in
+    let ts = tokens_of c.args.tokens.now in
     let i = c.args.at in
     let s = c.loop-alloc.invariant in
     let j = c.loop-alloc.next in
@@ -33,7 +34,7 @@ loop-alloc-smaller c =
 
 pub loop-alloc-preserved : goal.loop-alloc-preserved
 loop-alloc-preserved c =
-    let ts = c.args.tokens.now in
+    let ts = tokens_of c.args.tokens.now in
     let i = c.args.at in
     let s = c.loop-alloc.invariant in
     let j = c.loop-alloc.next in
@@ -47,7 +48,7 @@ loop-alloc-preserved c =
 
 pub returns : goal.returns
 returns c =
-    let ts = c.args.tokens.now in
+    let ts = tokens_of c.args.tokens.now in
     let i = c.args.at in
     let s = c.loop-alloc.invariant in
     let j = c.loop-alloc.next in

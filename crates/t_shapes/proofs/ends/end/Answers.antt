@@ -6,24 +6,25 @@ use Rattle.text_core.specs.Going.{at_the_end, other}
 use Rattle.t_terms.specs.GrammarTable.{LV, LInt, LEnd, MakeJmp, MakeHalt, end_after}
 use Rattle.t_grammar.proofs.Stepping.{start, begins, by_call, by_do, by_same, stop_call, stop_lacks}
 use Rattle.t_shapes.proofs.Lines.{no_end}
+use Rattle.t_lexer.specs.Kept.{tokens_of}
 use Rattle.t_shapes.proofs.ends.end.Goals as goal
 
 pub returns-in-None : goal.returns-in-None
 returns-in-None c =
-    let ts = c.args.tokens.now in
+    let ts = tokens_of c.args.tokens.now in
     let i = c.args.at in
     stop_lacks _ LEnd [] [] (start ts 0 i (Nt LEnd ∷ [])) refl (at_the_end (sym c.peek.ensures ∙ c.in-None.is)) refl
 
 pub value-requires-clause-at : goal.value-requires-clause-at
 value-requires-clause-at c =
-    let ts = c.args.tokens.now in
+    let ts = tokens_of c.args.tokens.now in
     let i = c.args.at in
     let e : slice_get ts i ≡ Some c.in-Some.word = sym c.peek.ensures ∙ c.in-Some.is in
     let l = slice_get_within ts i c.in-Some.word e in omega (arith, l)
 
 pub returns-in_err-target-in-Jmp : goal.returns-in_err-target-in-Jmp
 returns-in_err-target-in-Jmp c =
-    let ts = c.args.tokens.now in
+    let ts = tokens_of c.args.tokens.now in
     let i = c.args.at in
     let e : slice_get ts i ≡ Some c.in-Some.word = sym c.peek.ensures ∙ c.in-Some.is in
     let a : end_after c.in-Some.word.kind ≡ Some (Nt LV ∷ (Do MakeJmp ∷ [])) = rw c.in-Jmp.is refl in
@@ -33,7 +34,7 @@ returns-in_err-target-in-Jmp c =
 
 pub returns-in_ok-target-in-Jmp : goal.returns-in_ok-target-in-Jmp
 returns-in_ok-target-in-Jmp c =
-    let ts = c.args.tokens.now in
+    let ts = tokens_of c.args.tokens.now in
     let i = c.args.at in
     let e : slice_get ts i ≡ Some c.in-Some.word = sym c.peek.ensures ∙ c.in-Some.is in
     let a : end_after c.in-Some.word.kind ≡ Some (Nt LV ∷ (Do MakeJmp ∷ [])) = rw c.in-Jmp.is refl in
@@ -47,14 +48,14 @@ returns-in_ok-target-in-Jmp c =
 
 pub int-requires : goal.int-requires
 int-requires c =
-    let ts = c.args.tokens.now in
+    let ts = tokens_of c.args.tokens.now in
     let i = c.args.at in
     let e : slice_get ts i ≡ Some c.in-Some.word = sym c.peek.ensures ∙ c.in-Some.is in
     let l = slice_get_within ts i c.in-Some.word e in omega (arith, l)
 
 pub returns-in_err-close-in-Halt : goal.returns-in_err-close-in-Halt
 returns-in_err-close-in-Halt c =
-    let ts = c.args.tokens.now in
+    let ts = tokens_of c.args.tokens.now in
     let i = c.args.at in
     let e : slice_get ts i ≡ Some c.in-Some.word = sym c.peek.ensures ∙ c.in-Some.is in
     let a : end_after c.in-Some.word.kind ≡ Some (Nt LInt ∷ (Do MakeHalt ∷ [])) = rw c.in-Halt.is refl in
@@ -64,7 +65,7 @@ returns-in_err-close-in-Halt c =
 
 pub returns-in_ok-close-in-Halt : goal.returns-in_ok-close-in-Halt
 returns-in_ok-close-in-Halt c =
-    let ts = c.args.tokens.now in
+    let ts = tokens_of c.args.tokens.now in
     let i = c.args.at in
     let e : slice_get ts i ≡ Some c.in-Some.word = sym c.peek.ensures ∙ c.in-Some.is in
     let a : end_after c.in-Some.word.kind ≡ Some (Nt LInt ∷ (Do MakeHalt ∷ [])) = rw c.in-Halt.is refl in
@@ -78,7 +79,7 @@ returns-in_ok-close-in-Halt c =
 
 pub returns-in_default : goal.returns-in_default
 returns-in_default c =
-    let ts = c.args.tokens.now in
+    let ts = tokens_of c.args.tokens.now in
     let i = c.args.at in
     let e : slice_get ts i ≡ Some c.in-Some.word = sym c.peek.ensures ∙ c.in-Some.is in
     stop_lacks _ LEnd [] [] (start ts 0 i (Nt LEnd ∷ [])) refl (other c.in-Some.word e (no_end c.in-Some.word.kind c.in_default.not-Jmp c.in_default.not-Halt)) refl

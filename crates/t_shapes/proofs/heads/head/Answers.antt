@@ -5,11 +5,12 @@ use Rattle.t_terms.specs.declared.wanted.Wanted.TheVariants as want
 use Rattle.t_terms.specs.GrammarTable.{LBinds, LFile}
 use Rattle.t_grammar.proofs.Stepping.{within, start, by_token, by_call, stop_token, stop_call}
 use Rattle.t_shapes.specs.Reads.{head_owed}
+use Rattle.t_lexer.specs.Kept.{tokens_of}
 use Rattle.t_shapes.proofs.heads.head.Goals as goal
 
 pub returns-in_err-names : goal.returns-in_err-names
 returns-in_err-names c =
-    let ts = c.args.tokens.now in
+    let ts = tokens_of c.args.tokens.now in
     let i = c.args.at in
     let s = start ts 0 i head_owed in
     let p = err_from_is_err_and c.from_residual.result c.from_residual.ensures.1 in
@@ -17,7 +18,7 @@ returns-in_err-names c =
 
 pub returns-in_err-found : goal.returns-in_err-found
 returns-in_err-found c =
-    let ts = c.args.tokens.now in
+    let ts = tokens_of c.args.tokens.now in
     let i = c.args.at in
     let s = start ts 0 i head_owed in
     let m1 = by_call 0 (Nt LFile ∷ (Tm want.Dot ∷ [])) _ s (omega arith) c.in_ok-names.ensures.same in
@@ -26,7 +27,7 @@ returns-in_err-found c =
 
 pub returns-in_err-expect : goal.returns-in_err-expect
 returns-in_err-expect c =
-    let ts = c.args.tokens.now in
+    let ts = tokens_of c.args.tokens.now in
     let i = c.args.at in
     let s = start ts 0 i head_owed in
     let m1 = by_call 0 (Nt LFile ∷ (Tm want.Dot ∷ [])) _ s (omega arith) c.in_ok-names.ensures.same in
@@ -36,7 +37,7 @@ returns-in_err-expect c =
 
 pub returns : goal.returns
 returns c =
-    let ts = c.args.tokens.now in
+    let ts = tokens_of c.args.tokens.now in
     let i = c.args.at in
     let s = start ts 0 i head_owed in
     let m1 = by_call 0 (Nt LFile ∷ (Tm want.Dot ∷ [])) _ s (omega arith) c.in_ok-names.ensures.same in

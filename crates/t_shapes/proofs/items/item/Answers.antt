@@ -9,18 +9,19 @@ use Rattle.t_grammar.proofs.Stepping.{start, by_token, by_row, by_call, by_do, b
 use Rattle.t_shapes.specs.Reads.{item_owed, code_parts}
 use Rattle.t_shapes.proofs.Lines.{no_item}
 use Rattle.t_shapes.proofs.Itemed.{block_item}
+use Rattle.t_lexer.specs.Kept.{tokens_of}
 use Rattle.t_shapes.proofs.items.item.Goals as goal
 
 pub returns-in_err-label : goal.returns-in_err-label
 returns-in_err-label c =
-    let ts = c.args.tokens.now in
+    let ts = tokens_of c.args.tokens.now in
     let i = c.args.at in
     let p = err_from_is_err_and c.from_residual.result c.from_residual.ensures.1 in
     rw (p.1, p.2) (stop_token _ want.Name (Tm want.Colon ∷ (Nt LItem ∷ [])) [] (start ts 0 i item_owed) c.in_err-label.ensures)
 
 pub returns-in_err-expect : goal.returns-in_err-expect
 returns-in_err-expect c =
-    let ts = c.args.tokens.now in
+    let ts = tokens_of c.args.tokens.now in
     let i = c.args.at in
     let m1 = by_token want.Name _ (Tm want.Colon ∷ (Nt LItem ∷ [])) [] (start ts 0 i item_owed) c.in_ok-label.ensures (omega arith) in
     let p = err_from_is_err_and c.from_residual-in_err-expect.result c.from_residual-in_err-expect.ensures.1 in
@@ -28,7 +29,7 @@ returns-in_err-expect c =
 
 pub returns-in-None : goal.returns-in-None
 returns-in-None c =
-    let ts = c.args.tokens.now in
+    let ts = tokens_of c.args.tokens.now in
     let i = c.args.at in
     let m1 = by_token want.Name _ (Tm want.Colon ∷ (Nt LItem ∷ [])) [] (start ts 0 i item_owed) c.in_ok-label.ensures (omega arith) in
     let m2 = by_same {k = i + 2} (omega arith) (by_token want.Colon _ (Nt LItem ∷ []) _ m1 c.in_ok-expect.ensures (omega arith)) in
@@ -36,14 +37,14 @@ returns-in-None c =
 
 pub code-requires : goal.code-requires
 code-requires c =
-    let ts = c.args.tokens.now in
+    let ts = tokens_of c.args.tokens.now in
     let i = c.args.at in
     let e : slice_get ts (i + 2) ≡ Some c.in-Some.word = sym c.peek.ensures ∙ c.in-Some.is in
     let l = slice_get_within ts (i + 2) c.in-Some.word e in omega (arith, l)
 
 pub returns-in_err-found-in-Code : goal.returns-in_err-found-in-Code
 returns-in_err-found-in-Code c =
-    let ts = c.args.tokens.now in
+    let ts = tokens_of c.args.tokens.now in
     let i = c.args.at in
     let e : slice_get ts (i + 2) ≡ Some c.in-Some.word = sym c.peek.ensures ∙ c.in-Some.is in
     let m1 = by_token want.Name _ (Tm want.Colon ∷ (Nt LItem ∷ [])) [] (start ts 0 i item_owed) c.in_ok-label.ensures (omega arith) in
@@ -55,7 +56,7 @@ returns-in_err-found-in-Code c =
 
 pub returns-in_ok-found-in-Code : goal.returns-in_ok-found-in-Code
 returns-in_ok-found-in-Code c =
-    let ts = c.args.tokens.now in
+    let ts = tokens_of c.args.tokens.now in
     let i = c.args.at in
     let e : slice_get ts (i + 2) ≡ Some c.in-Some.word = sym c.peek.ensures ∙ c.in-Some.is in
     let m1 = by_token want.Name _ (Tm want.Colon ∷ (Nt LItem ∷ [])) [] (start ts 0 i item_owed) c.in_ok-label.ensures (omega arith) in
@@ -74,14 +75,14 @@ returns-in_ok-found-in-Code c =
 
 pub tuple-requires : goal.tuple-requires
 tuple-requires c =
-    let ts = c.args.tokens.now in
+    let ts = tokens_of c.args.tokens.now in
     let i = c.args.at in
     let e : slice_get ts (i + 2) ≡ Some c.in-Some.word = sym c.peek.ensures ∙ c.in-Some.is in
     let l = slice_get_within ts (i + 2) c.in-Some.word e in omega (arith, l)
 
 pub returns-in_err-found-in-Data : goal.returns-in_err-found-in-Data
 returns-in_err-found-in-Data c =
-    let ts = c.args.tokens.now in
+    let ts = tokens_of c.args.tokens.now in
     let i = c.args.at in
     let e : slice_get ts (i + 2) ≡ Some c.in-Some.word = sym c.peek.ensures ∙ c.in-Some.is in
     let m1 = by_token want.Name _ (Tm want.Colon ∷ (Nt LItem ∷ [])) [] (start ts 0 i item_owed) c.in_ok-label.ensures (omega arith) in
@@ -93,7 +94,7 @@ returns-in_err-found-in-Data c =
 
 pub returns-in_ok-found-in-Data : goal.returns-in_ok-found-in-Data
 returns-in_ok-found-in-Data c =
-    let ts = c.args.tokens.now in
+    let ts = tokens_of c.args.tokens.now in
     let i = c.args.at in
     let e : slice_get ts (i + 2) ≡ Some c.in-Some.word = sym c.peek.ensures ∙ c.in-Some.is in
     let m1 = by_token want.Name _ (Tm want.Colon ∷ (Nt LItem ∷ [])) [] (start ts 0 i item_owed) c.in_ok-label.ensures (omega arith) in
@@ -112,7 +113,7 @@ returns-in_ok-found-in-Data c =
 
 pub returns-in_default : goal.returns-in_default
 returns-in_default c =
-    let ts = c.args.tokens.now in
+    let ts = tokens_of c.args.tokens.now in
     let i = c.args.at in
     let e : slice_get ts (i + 2) ≡ Some c.in-Some.word = sym c.peek.ensures ∙ c.in-Some.is in
     let m1 = by_token want.Name _ (Tm want.Colon ∷ (Nt LItem ∷ [])) [] (start ts 0 i item_owed) c.in_ok-label.ensures (omega arith) in

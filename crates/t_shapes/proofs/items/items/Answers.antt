@@ -7,11 +7,12 @@ use Rattle.text_core.proofs.Going as step
 use Rattle.t_grammar.proofs.Stepping.{start, by_call, by_do, stop_call}
 use Rattle.t_shapes.specs.Reads.{item_owed, some_owed}
 use Rattle.t_shapes.proofs.Itemed.{as_item, item_left, items_done, items_more, no_more}
+use Rattle.t_lexer.specs.Kept.{tokens_of}
 use Rattle.t_shapes.proofs.items.items.Goals as goal
 
 pub loop-alloc-init : goal.loop-alloc-init
 loop-alloc-init c =
-    let ts = c.args.tokens.now in
+    let ts = tokens_of c.args.tokens.now in
     let i = c.args.at in
     rw c.new-items.ensures.items (record {
       forward = omega arith;
@@ -26,7 +27,7 @@ item-requires c =
 
 pub returns-in_err-found : goal.returns-in_err-found
 returns-in_err-found c =
-    let ts = c.args.tokens.now in
+    let ts = tokens_of c.args.tokens.now in
     let l = c.loop-alloc in
     let m = step.then_goes table most_open ts 0 l.invariant.same (as_item ts l.next l.has_block _ (sym c.wants_item.ensures ∙ c.loop-alloc-test.true)) in
     let p = err_from_is_err_and c.from_residual.result c.from_residual.ensures.1 in
@@ -38,7 +39,7 @@ loop-alloc-smaller c =
 
 pub loop-alloc-preserved : goal.loop-alloc-preserved
 loop-alloc-preserved c =
-    let ts = c.args.tokens.now in
+    let ts = tokens_of c.args.tokens.now in
     let l = c.loop-alloc in
     let m = step.then_goes table most_open ts 0 l.invariant.same (as_item ts l.next l.has_block _ (sym c.wants_item.ensures ∙ c.loop-alloc-test.true)) in
     let f = c.in_ok-found.ensures in
@@ -51,7 +52,7 @@ loop-alloc-preserved c =
 
 pub returns : goal.returns
 returns c =
-    let ts = c.args.tokens.now in
+    let ts = tokens_of c.args.tokens.now in
     let l = c.loop-alloc in
     let d = items_done ts l.next l.has_block (sym c.wants_item.ensures ∙ c.loop-alloc-test.false) in
     record {

@@ -7,11 +7,12 @@ use Rattle.t_grammar.specs.declared.raw.RawType.{RawType}
 use Rattle.t_grammar.proofs.Stepping.{within, stop_call, list_first_from, list_next, list_next_stops, list_whole, list_close_stops}
 use Rattle.t_shapes.proofs.Lines.{some_begin, list_types}
 use Rattle.t_shapes.proofs.Based.{types_more}
+use Rattle.t_lexer.specs.Kept.{tokens_of}
 use Rattle.t_shapes.proofs.lists.some_types.Goals as goal
 
 pub returns-in_err-first : goal.returns-in_err-first
 returns-in_err-first c =
-    let ts = c.args.tokens.now in
+    let ts = tokens_of c.args.tokens.now in
     let d = c.args.depth in
     let i = c.args.at in
     let p = err_from_is_err_and c.from_residual.result c.from_residual.ensures.1 in
@@ -19,7 +20,7 @@ returns-in_err-first c =
 
 pub loop-types-init : goal.loop-types-init
 loop-types-init c =
-    let ts = c.args.tokens.now in
+    let ts = tokens_of c.args.tokens.now in
     let d = c.args.depth in
     let i = c.args.at in
     let f = c.in_ok-first.first in
@@ -28,14 +29,14 @@ loop-types-init c =
 
 pub whole_type-requires-in-Some-clause-at : goal.whole_type-requires-in-Some-clause-at
 whole_type-requires-in-Some-clause-at c =
-    let ts = c.args.tokens.now in
+    let ts = tokens_of c.args.tokens.now in
     let d = c.args.depth in
     let i = c.args.at in
     let l = within ts c.loop-types.next want.Comma _ (sym c.take.ensures ∙ c.in-Some.is) in omega (arith, l)
 
 pub returns-in_err-found : goal.returns-in_err-found
 returns-in_err-found c =
-    let ts = c.args.tokens.now in
+    let ts = tokens_of c.args.tokens.now in
     let d = c.args.depth in
     let i = c.args.at in
     let p = err_from_is_err_and c.from_residual-in_err-found.result c.from_residual-in_err-found.ensures.1 in
@@ -43,7 +44,7 @@ returns-in_err-found c =
 
 pub loop-types-preserved : goal.loop-types-preserved
 loop-types-preserved c =
-    let ts = c.args.tokens.now in
+    let ts = tokens_of c.args.tokens.now in
     let d = c.args.depth in
     let i = c.args.at in
     let f = c.in_ok-found.found in
@@ -52,7 +53,7 @@ loop-types-preserved c =
 
 pub returns-in_err-close : goal.returns-in_err-close
 returns-in_err-close c =
-    let ts = c.args.tokens.now in
+    let ts = tokens_of c.args.tokens.now in
     let d = c.args.depth in
     let i = c.args.at in
     let p = err_from_is_err_and c.from_residual-in_err-close.result c.from_residual-in_err-close.ensures.1 in
@@ -60,7 +61,7 @@ returns-in_err-close c =
 
 pub returns : goal.returns
 returns c =
-    let ts = c.args.tokens.now in
+    let ts = tokens_of c.args.tokens.now in
     let d = c.args.depth in
     let i = c.args.at in
     list_whole LSomeTypes LMoreTypes want.RightBracket (Nt LT ∷ []) MakeFirstType MakeNextType MakeClosedTypes list_types ts d i c.loop-types.next _ _ _ c.requires.depth c.loop-types.invariant (sym c.take.ensures ∙ c.in_default.is) c.in_ok-close.ensures (λ below. refl)

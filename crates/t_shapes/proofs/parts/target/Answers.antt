@@ -6,18 +6,19 @@ use Rattle.t_terms.specs.declared.wanted.Wanted.TheVariants as want
 use Rattle.t_terms.specs.GrammarTable.{LTarget, MakeTarget}
 use Rattle.t_grammar.proofs.Stepping.{within, by_token, by_two, by_do, by_mark, by_same, stop_token, stop_two, opening, not_opening}
 use Rattle.t_shapes.proofs.Lines.{opens_target}
+use Rattle.t_lexer.specs.Kept.{tokens_of}
 use Rattle.t_shapes.proofs.parts.target.Goals as goal
 
 pub returns-in_err-expect : goal.returns-in_err-expect
 returns-in_err-expect c =
-    let ts = c.args.tokens.now in
+    let ts = tokens_of c.args.tokens.now in
     let i = c.args.at in
     let p = err_from_is_err_and c.from_residual.result c.from_residual.ensures.1 in
     rw (p.1, p.2) (not_opening ts 0 i _ LTarget want.LeftBracket _ opens_target refl c.in_err-expect.ensures)
 
 pub returns-in_err-name : goal.returns-in_err-name
 returns-in_err-name c =
-    let ts = c.args.tokens.now in
+    let ts = tokens_of c.args.tokens.now in
     let i = c.args.at in
     let m = opening ts 0 i _ LTarget want.LeftBracket (Tm want.Name ∷ (Tm want.Comma ∷ (Tm want.Register ∷ (Tm want.RightBracket ∷ (Mark ∷ (Do MakeTarget ∷ [])))))) opens_target c.in_ok-expect.ensures (omega arith) in
     let p = err_from_is_err_and c.from_residual-in_err-name.result c.from_residual-in_err-name.ensures.1 in
@@ -25,7 +26,7 @@ returns-in_err-name c =
 
 pub returns-in_err-reg : goal.returns-in_err-reg
 returns-in_err-reg c =
-    let ts = c.args.tokens.now in
+    let ts = tokens_of c.args.tokens.now in
     let i = c.args.at in
     let m = opening ts 0 i _ LTarget want.LeftBracket (Tm want.Name ∷ (Tm want.Comma ∷ (Tm want.Register ∷ (Tm want.RightBracket ∷ (Mark ∷ (Do MakeTarget ∷ [])))))) opens_target c.in_ok-expect.ensures (omega arith) in
     let n = by_same {k = i + 3} (omega arith) (by_two want.Name want.Comma _ _ (Tm want.Register ∷ (Tm want.RightBracket ∷ (Mark ∷ (Do MakeTarget ∷ [])))) _ m c.in_ok-name.ensures (omega arith)) in
@@ -34,7 +35,7 @@ returns-in_err-reg c =
 
 pub returns-in_err-expect-2 : goal.returns-in_err-expect-2
 returns-in_err-expect-2 c =
-    let ts = c.args.tokens.now in
+    let ts = tokens_of c.args.tokens.now in
     let i = c.args.at in
     let g = c.in_ok-reg.ensures in
     let m = opening ts 0 i _ LTarget want.LeftBracket (Tm want.Name ∷ (Tm want.Comma ∷ (Tm want.Register ∷ (Tm want.RightBracket ∷ (Mark ∷ (Do MakeTarget ∷ [])))))) opens_target c.in_ok-expect.ensures (omega arith) in
@@ -45,7 +46,7 @@ returns-in_err-expect-2 c =
 
 pub returns : goal.returns
 returns c =
-    let ts = c.args.tokens.now in
+    let ts = tokens_of c.args.tokens.now in
     let i = c.args.at in
     let g = c.in_ok-reg.ensures in
     let m = opening ts 0 i _ LTarget want.LeftBracket (Tm want.Name ∷ (Tm want.Comma ∷ (Tm want.Register ∷ (Tm want.RightBracket ∷ (Mark ∷ (Do MakeTarget ∷ [])))))) opens_target c.in_ok-expect.ensures (omega arith) in

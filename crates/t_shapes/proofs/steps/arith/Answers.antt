@@ -5,11 +5,12 @@ use Rattle.t_terms.specs.GrammarTable.{LV, LTo, MakeArith, OfToken}
 use Rattle.t_grammar.proofs.Stepping.{by_call, by_do, by_same, stop_call}
 use Rattle.t_shapes.proofs.Bracketed.{starting}
 use Rattle.t_shapes.specs.Reads.{arith_left}
+use Rattle.t_lexer.specs.Kept.{tokens_of}
 use Rattle.t_shapes.proofs.steps.arith.Goals as goal
 
 pub returns-in_err-rd : goal.returns-in_err-rd
 returns-in_err-rd c =
-    let ts = c.args.tokens.now in
+    let ts = tokens_of c.args.tokens.now in
     let i = c.args.at in
     let w = c.args.word in
     let s = starting ts 0 i (arith_left c.args.op) (OfToken w ∷ []) in
@@ -18,7 +19,7 @@ returns-in_err-rd c =
 
 pub returns-in_err-rs : goal.returns-in_err-rs
 returns-in_err-rs c =
-    let ts = c.args.tokens.now in
+    let ts = tokens_of c.args.tokens.now in
     let i = c.args.at in
     let w = c.args.word in
     let s = starting ts 0 i (arith_left c.args.op) (OfToken w ∷ []) in
@@ -28,13 +29,13 @@ returns-in_err-rs c =
 
 pub value-requires-clause-at : goal.value-requires-clause-at
 value-requires-clause-at c =
-    let ts = c.args.tokens.now in
+    let ts = tokens_of c.args.tokens.now in
     let i = c.args.at in
     let l = c.in_ok-rs.ensures.in_range in omega (arith, l)
 
 pub returns-in_err-found : goal.returns-in_err-found
 returns-in_err-found c =
-    let ts = c.args.tokens.now in
+    let ts = tokens_of c.args.tokens.now in
     let i = c.args.at in
     let w = c.args.word in
     let s = starting ts 0 i (arith_left c.args.op) (OfToken w ∷ []) in
@@ -45,7 +46,7 @@ returns-in_err-found c =
 
 pub returns : goal.returns
 returns c =
-    let ts = c.args.tokens.now in
+    let ts = tokens_of c.args.tokens.now in
     let i = c.args.at in
     let w = c.args.word in
     let s = starting ts 0 i (arith_left c.args.op) (OfToken w ∷ []) in

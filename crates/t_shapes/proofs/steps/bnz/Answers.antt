@@ -5,11 +5,12 @@ use Rattle.t_terms.specs.GrammarTable.{LV, LTo, MakeBnz, OfToken}
 use Rattle.t_grammar.proofs.Stepping.{by_call, by_do, stop_call}
 use Rattle.t_shapes.proofs.Bracketed.{starting}
 use Rattle.t_shapes.specs.Reads.{bnz_left}
+use Rattle.t_lexer.specs.Kept.{tokens_of}
 use Rattle.t_shapes.proofs.steps.bnz.Goals as goal
 
 pub returns-in_err-reg : goal.returns-in_err-reg
 returns-in_err-reg c =
-    let ts = c.args.tokens.now in
+    let ts = tokens_of c.args.tokens.now in
     let i = c.args.at in
     let w = c.args.word in
     let s = starting ts 0 i (bnz_left) (OfToken w ∷ []) in
@@ -18,13 +19,13 @@ returns-in_err-reg c =
 
 pub value-requires-clause-at : goal.value-requires-clause-at
 value-requires-clause-at c =
-    let ts = c.args.tokens.now in
+    let ts = tokens_of c.args.tokens.now in
     let i = c.args.at in
     let l = c.in_ok-reg.ensures.in_range in omega (arith, l)
 
 pub returns-in_err-found : goal.returns-in_err-found
 returns-in_err-found c =
-    let ts = c.args.tokens.now in
+    let ts = tokens_of c.args.tokens.now in
     let i = c.args.at in
     let w = c.args.word in
     let s = starting ts 0 i (bnz_left) (OfToken w ∷ []) in
@@ -34,7 +35,7 @@ returns-in_err-found c =
 
 pub returns : goal.returns
 returns c =
-    let ts = c.args.tokens.now in
+    let ts = tokens_of c.args.tokens.now in
     let i = c.args.at in
     let w = c.args.word in
     let s = starting ts 0 i (bnz_left) (OfToken w ∷ []) in

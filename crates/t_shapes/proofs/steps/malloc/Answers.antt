@@ -7,11 +7,12 @@ use Rattle.t_terms.specs.GrammarTable.{LTypes, MakeMalloc, OfToken}
 use Rattle.t_grammar.proofs.Stepping.{within, by_token, by_call, by_do, stop_token, stop_call}
 use Rattle.t_shapes.proofs.Bracketed.{starting}
 use Rattle.t_shapes.specs.Reads.{malloc_left}
+use Rattle.t_lexer.specs.Kept.{tokens_of}
 use Rattle.t_shapes.proofs.steps.malloc.Goals as goal
 
 pub returns-in_err-reg : goal.returns-in_err-reg
 returns-in_err-reg c =
-    let ts = c.args.tokens.now in
+    let ts = tokens_of c.args.tokens.now in
     let i = c.args.at in
     let w = c.args.word in
     let s = starting ts 0 i (malloc_left) (OfToken w ∷ []) in
@@ -20,13 +21,13 @@ returns-in_err-reg c =
 
 pub types-requires-clause-at : goal.types-requires-clause-at
 types-requires-clause-at c =
-    let ts = c.args.tokens.now in
+    let ts = tokens_of c.args.tokens.now in
     let i = c.args.at in
     let l = within ts i want.Register _ c.in_ok-reg.ensures.1 in omega (arith, l)
 
 pub returns-in_err-found : goal.returns-in_err-found
 returns-in_err-found c =
-    let ts = c.args.tokens.now in
+    let ts = tokens_of c.args.tokens.now in
     let i = c.args.at in
     let w = c.args.word in
     let s = starting ts 0 i (malloc_left) (OfToken w ∷ []) in
@@ -36,7 +37,7 @@ returns-in_err-found c =
 
 pub returns : goal.returns
 returns c =
-    let ts = c.args.tokens.now in
+    let ts = tokens_of c.args.tokens.now in
     let i = c.args.at in
     let w = c.args.word in
     let s = starting ts 0 i (malloc_left) (OfToken w ∷ []) in

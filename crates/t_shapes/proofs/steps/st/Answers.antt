@@ -7,11 +7,12 @@ use Rattle.t_terms.specs.GrammarTable.{LAt, MakeSt, OfToken}
 use Rattle.t_grammar.proofs.Stepping.{within, by_token, by_call, by_do, by_same, stop_token, stop_call}
 use Rattle.t_shapes.proofs.Bracketed.{starting}
 use Rattle.t_shapes.specs.Reads.{st_left}
+use Rattle.t_lexer.specs.Kept.{tokens_of}
 use Rattle.t_shapes.proofs.steps.st.Goals as goal
 
 pub returns-in_err-found : goal.returns-in_err-found
 returns-in_err-found c =
-    let ts = c.args.tokens.now in
+    let ts = tokens_of c.args.tokens.now in
     let i = c.args.at in
     let w = c.args.word in
     let s = starting ts 0 i (st_left) (OfToken w ∷ []) in
@@ -20,7 +21,7 @@ returns-in_err-found c =
 
 pub returns-in_err-expect : goal.returns-in_err-expect
 returns-in_err-expect c =
-    let ts = c.args.tokens.now in
+    let ts = tokens_of c.args.tokens.now in
     let i = c.args.at in
     let w = c.args.word in
     let s = starting ts 0 i (st_left) (OfToken w ∷ []) in
@@ -30,7 +31,7 @@ returns-in_err-expect c =
 
 pub returns-in_err-reg : goal.returns-in_err-reg
 returns-in_err-reg c =
-    let ts = c.args.tokens.now in
+    let ts = tokens_of c.args.tokens.now in
     let i = c.args.at in
     let w = c.args.word in
     let s = starting ts 0 i (st_left) (OfToken w ∷ []) in
@@ -41,7 +42,7 @@ returns-in_err-reg c =
 
 pub returns : goal.returns
 returns c =
-    let ts = c.args.tokens.now in
+    let ts = tokens_of c.args.tokens.now in
     let i = c.args.at in
     let w = c.args.word in
     let g = c.in_ok-reg.ensures in

@@ -6,11 +6,12 @@ use Rattle.t_terms.specs.GrammarTable.{LV, LTarget, MakeUnpack, OfToken}
 use Rattle.t_grammar.proofs.Stepping.{within, by_token, by_call, by_do, by_same, stop_token, stop_call}
 use Rattle.t_shapes.proofs.Bracketed.{starting}
 use Rattle.t_shapes.specs.Reads.{unpack_left}
+use Rattle.t_lexer.specs.Kept.{tokens_of}
 use Rattle.t_shapes.proofs.steps.unpack.Goals as goal
 
 pub returns-in_err-to : goal.returns-in_err-to
 returns-in_err-to c =
-    let ts = c.args.tokens.now in
+    let ts = tokens_of c.args.tokens.now in
     let i = c.args.at in
     let w = c.args.word in
     let s = starting ts 0 i (unpack_left) (OfToken w ∷ []) in
@@ -19,7 +20,7 @@ returns-in_err-to c =
 
 pub returns-in_err-expect : goal.returns-in_err-expect
 returns-in_err-expect c =
-    let ts = c.args.tokens.now in
+    let ts = tokens_of c.args.tokens.now in
     let i = c.args.at in
     let w = c.args.word in
     let s = starting ts 0 i (unpack_left) (OfToken w ∷ []) in
@@ -29,13 +30,13 @@ returns-in_err-expect c =
 
 pub value-requires-clause-at : goal.value-requires-clause-at
 value-requires-clause-at c =
-    let ts = c.args.tokens.now in
+    let ts = tokens_of c.args.tokens.now in
     let i = c.args.at in
     let l = within ts (i + 5) want.Comma _ c.in_ok-expect.ensures in omega (arith, l)
 
 pub returns-in_err-found : goal.returns-in_err-found
 returns-in_err-found c =
-    let ts = c.args.tokens.now in
+    let ts = tokens_of c.args.tokens.now in
     let i = c.args.at in
     let w = c.args.word in
     let s = starting ts 0 i (unpack_left) (OfToken w ∷ []) in
@@ -46,7 +47,7 @@ returns-in_err-found c =
 
 pub returns : goal.returns
 returns c =
-    let ts = c.args.tokens.now in
+    let ts = tokens_of c.args.tokens.now in
     let i = c.args.at in
     let w = c.args.word in
     let s = starting ts 0 i (unpack_left) (OfToken w ∷ []) in

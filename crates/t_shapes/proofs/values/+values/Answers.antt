@@ -7,11 +7,12 @@ use Rattle.t_terms.specs.declared.wanted.Wanted.TheVariants as want
 use Rattle.t_terms.specs.GrammarTable.{LT, LV, LPacked, MakePacked, MakePack, value_after}
 use Rattle.t_grammar.proofs.Stepping.{within, start, begins, by_token, by_call, by_do, by_mark, stop_token, stop_call, stop_lacks, opening, not_opening, too_deep}
 use Rattle.t_shapes.proofs.Lines.{opens_packed, no_value}
+use Rattle.t_lexer.specs.Kept.{tokens_of}
 use Rattle.t_shapes.proofs.values.+values.Goals as goal
 
 pub packed-returns-in_err-expect : goal.packed-returns-in_err-expect
 packed-returns-in_err-expect t c =
-    let ts = c.args.tokens.now in
+    let ts = tokens_of c.args.tokens.now in
     let d = c.args.depth in
     let i = c.args.at in
     let p = err_from_is_err_and c.from_residual.result c.from_residual.ensures.1 in
@@ -19,7 +20,7 @@ packed-returns-in_err-expect t c =
 
 pub packed-returns-in_err-inner : goal.packed-returns-in_err-inner
 packed-returns-in_err-inner t c =
-    let ts = c.args.tokens.now in
+    let ts = tokens_of c.args.tokens.now in
     let d = c.args.depth in
     let i = c.args.at in
     let p = err_from_is_err_and c.from_residual-in_err-inner.result c.from_residual-in_err-inner.ensures.1 in
@@ -27,14 +28,14 @@ packed-returns-in_err-inner t c =
 
 pub packed-whole_type-requires-clause-at : goal.packed-whole_type-requires-clause-at
 packed-whole_type-requires-clause-at t c =
-    let ts = c.args.tokens.now in
+    let ts = tokens_of c.args.tokens.now in
     let d = c.args.depth in
     let i = c.args.at in
     let l = within ts i want.LeftBracket _ c.in_ok-expect.ensures in omega (arith, l)
 
 pub packed-returns-in_err-hidden : goal.packed-returns-in_err-hidden
 packed-returns-in_err-hidden t c =
-    let ts = c.args.tokens.now in
+    let ts = tokens_of c.args.tokens.now in
     let d = c.args.depth in
     let i = c.args.at in
     let q = c.in_ok-inner.ensures in
@@ -44,7 +45,7 @@ packed-returns-in_err-hidden t c =
 
 pub packed-returns-in_err-expect-2 : goal.packed-returns-in_err-expect-2
 packed-returns-in_err-expect-2 t c =
-    let ts = c.args.tokens.now in
+    let ts = tokens_of c.args.tokens.now in
     let d = c.args.depth in
     let i = c.args.at in
     let q = c.in_ok-inner.ensures in
@@ -55,7 +56,7 @@ packed-returns-in_err-expect-2 t c =
 
 pub packed-value-requires : goal.packed-value-requires
 packed-value-requires t c =
-    let ts = c.args.tokens.now in
+    let ts = tokens_of c.args.tokens.now in
     let d = c.args.depth in
     let i = c.args.at in
     let q = c.in_ok-inner.ensures in
@@ -66,7 +67,7 @@ packed-value-requires t c =
 
 pub packed-returns-in_err-found : goal.packed-returns-in_err-found
 packed-returns-in_err-found t c =
-    let ts = c.args.tokens.now in
+    let ts = tokens_of c.args.tokens.now in
     let d = c.args.depth in
     let i = c.args.at in
     let q = c.in_ok-inner.ensures in
@@ -78,7 +79,7 @@ packed-returns-in_err-found t c =
 
 pub packed-returns-in_err-expect-3 : goal.packed-returns-in_err-expect-3
 packed-returns-in_err-expect-3 t c =
-    let ts = c.args.tokens.now in
+    let ts = tokens_of c.args.tokens.now in
     let d = c.args.depth in
     let i = c.args.at in
     let q = c.in_ok-inner.ensures in
@@ -91,7 +92,7 @@ packed-returns-in_err-expect-3 t c =
 
 pub packed-returns : goal.packed-returns
 packed-returns t c =
-    let ts = c.args.tokens.now in
+    let ts = tokens_of c.args.tokens.now in
     let d = c.args.depth in
     let i = c.args.at in
     let q = c.in_ok-inner.ensures in
@@ -109,14 +110,14 @@ packed-returns t c =
 
 pub value-returns-in-None : goal.value-returns-in-None
 value-returns-in-None t c =
-    let ts = c.args.tokens.now in
+    let ts = tokens_of c.args.tokens.now in
     let d = c.args.depth in
     let i = c.args.at in
     stop_lacks _ LV [] [] (start ts d i (Nt LV ∷ [])) refl (at_the_end (sym c.peek.ensures ∙ c.in-None.is)) refl
 
 pub value-packed-requires : goal.value-packed-requires
 value-packed-requires t c =
-    let ts = c.args.tokens.now in
+    let ts = tokens_of c.args.tokens.now in
     let d = c.args.depth in
     let i = c.args.at in
     let e : slice_get ts i ≡ Some c.in-Some.token = sym c.peek.ensures ∙ c.in-Some.is in
@@ -125,7 +126,7 @@ value-packed-requires t c =
 
 pub value-returns-in_err-packed-in-Pack : goal.value-returns-in_err-packed-in-Pack
 value-returns-in_err-packed-in-Pack t c =
-    let ts = c.args.tokens.now in
+    let ts = tokens_of c.args.tokens.now in
     let d = c.args.depth in
     let i = c.args.at in
     let e : slice_get ts i ≡ Some c.in-Some.token = sym c.peek.ensures ∙ c.in-Some.is in
@@ -136,7 +137,7 @@ value-returns-in_err-packed-in-Pack t c =
 
 pub value-returns-in_err-expect-in-Pack : goal.value-returns-in_err-expect-in-Pack
 value-returns-in_err-expect-in-Pack t c =
-    let ts = c.args.tokens.now in
+    let ts = tokens_of c.args.tokens.now in
     let d = c.args.depth in
     let i = c.args.at in
     let e : slice_get ts i ≡ Some c.in-Some.token = sym c.peek.ensures ∙ c.in-Some.is in
@@ -148,14 +149,14 @@ value-returns-in_err-expect-in-Pack t c =
 
 pub value-whole_type-requires-clause-at : goal.value-whole_type-requires-clause-at
 value-whole_type-requires-clause-at t c =
-    let ts = c.args.tokens.now in
+    let ts = tokens_of c.args.tokens.now in
     let d = c.args.depth in
     let i = c.args.at in
     let l = within ts c.in_ok-packed-in-Pack.packed.next want.As _ c.in_ok-expect-in-Pack.ensures in omega (arith, l)
 
 pub value-returns-in_err-shape-in-Pack : goal.value-returns-in_err-shape-in-Pack
 value-returns-in_err-shape-in-Pack t c =
-    let ts = c.args.tokens.now in
+    let ts = tokens_of c.args.tokens.now in
     let d = c.args.depth in
     let i = c.args.at in
     let e : slice_get ts i ≡ Some c.in-Some.token = sym c.peek.ensures ∙ c.in-Some.is in
@@ -168,7 +169,7 @@ value-returns-in_err-shape-in-Pack t c =
 
 pub value-returns-in_ok-value-in-Pack : goal.value-returns-in_ok-value-in-Pack
 value-returns-in_ok-value-in-Pack t c =
-    let ts = c.args.tokens.now in
+    let ts = tokens_of c.args.tokens.now in
     let d = c.args.depth in
     let i = c.args.at in
     let e : slice_get ts i ≡ Some c.in-Some.token = sym c.peek.ensures ∙ c.in-Some.is in
@@ -185,7 +186,7 @@ value-returns-in_ok-value-in-Pack t c =
 
 pub value-returns-in_default-kind : goal.value-returns-in_default-kind
 value-returns-in_default-kind t c =
-    let ts = c.args.tokens.now in
+    let ts = tokens_of c.args.tokens.now in
     let d = c.args.depth in
     let i = c.args.at in
     let e : slice_get ts i ≡ Some c.in-Some.token = sym c.peek.ensures ∙ c.in-Some.is in

@@ -7,18 +7,19 @@ use Rattle.t_shapes.specs.Reads.{all_blocks}
 use Rattle.t_shapes.specs.declared.raw.RawItem.{RawItem}
 use Rattle.t_shapes.specs.declared.raw.RawItem.TheVariants as It
 use Rattle.t_shapes.proofs.Blocked.{as_block, blocks_more, no_more_blocks}
+use Rattle.t_lexer.specs.Kept.{tokens_of}
 use Rattle.t_shapes.proofs.whole.blocks.Goals as goal
 
 pub returns-in_err-first : goal.returns-in_err-first
 returns-in_err-first c =
-    let ts = c.args.tokens.now in
+    let ts = tokens_of c.args.tokens.now in
     let i = c.args.at in
     let p = err_from_is_err_and c.from_residual.result c.from_residual.ensures.1 in
     rw (p.1, p.2) (stop_call _ (Nt LBlock ∷ []) 0 (Do MakeFirstBlock ∷ (Nt LMoreBlocks ∷ [])) [] (start ts 0 i all_blocks) (omega arith) c.in_err-first.ensures)
 
 pub loop-items-init : goal.loop-items-init
 loop-items-init c =
-    let ts = c.args.tokens.now in
+    let ts = tokens_of c.args.tokens.now in
     let i = c.args.at in
     let f = c.in_ok-first.first in
     let r = c.in_ok-first.ensures in

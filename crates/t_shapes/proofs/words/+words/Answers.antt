@@ -7,11 +7,12 @@ use Rattle.t_terms.specs.declared.wanted.Wanted.TheVariants as want
 use Rattle.t_terms.specs.GrammarTable.{LT, LW, LWordPacked, MakeWordPacked, MakeWordPack, word_after}
 use Rattle.t_grammar.proofs.Stepping.{within, start, begins, by_token, by_call, by_do, by_mark, stop_token, stop_call, stop_lacks, opening, not_opening, too_deep}
 use Rattle.t_shapes.proofs.Lines.{opens_word_packed, no_word}
+use Rattle.t_lexer.specs.Kept.{tokens_of}
 use Rattle.t_shapes.proofs.words.+words.Goals as goal
 
 pub packed_word-returns-in_err-expect : goal.packed_word-returns-in_err-expect
 packed_word-returns-in_err-expect t c =
-    let ts = c.args.tokens.now in
+    let ts = tokens_of c.args.tokens.now in
     let d = c.args.depth in
     let i = c.args.at in
     let p = err_from_is_err_and c.from_residual.result c.from_residual.ensures.1 in
@@ -19,7 +20,7 @@ packed_word-returns-in_err-expect t c =
 
 pub packed_word-returns-in_err-inner : goal.packed_word-returns-in_err-inner
 packed_word-returns-in_err-inner t c =
-    let ts = c.args.tokens.now in
+    let ts = tokens_of c.args.tokens.now in
     let d = c.args.depth in
     let i = c.args.at in
     let p = err_from_is_err_and c.from_residual-in_err-inner.result c.from_residual-in_err-inner.ensures.1 in
@@ -27,14 +28,14 @@ packed_word-returns-in_err-inner t c =
 
 pub packed_word-whole_type-requires-clause-at : goal.packed_word-whole_type-requires-clause-at
 packed_word-whole_type-requires-clause-at t c =
-    let ts = c.args.tokens.now in
+    let ts = tokens_of c.args.tokens.now in
     let d = c.args.depth in
     let i = c.args.at in
     let l = within ts i want.LeftBracket _ c.in_ok-expect.ensures in omega (arith, l)
 
 pub packed_word-returns-in_err-hidden : goal.packed_word-returns-in_err-hidden
 packed_word-returns-in_err-hidden t c =
-    let ts = c.args.tokens.now in
+    let ts = tokens_of c.args.tokens.now in
     let d = c.args.depth in
     let i = c.args.at in
     let q = c.in_ok-inner.ensures in
@@ -44,7 +45,7 @@ packed_word-returns-in_err-hidden t c =
 
 pub packed_word-returns-in_err-expect-2 : goal.packed_word-returns-in_err-expect-2
 packed_word-returns-in_err-expect-2 t c =
-    let ts = c.args.tokens.now in
+    let ts = tokens_of c.args.tokens.now in
     let d = c.args.depth in
     let i = c.args.at in
     let q = c.in_ok-inner.ensures in
@@ -55,7 +56,7 @@ packed_word-returns-in_err-expect-2 t c =
 
 pub packed_word-word-requires : goal.packed_word-word-requires
 packed_word-word-requires t c =
-    let ts = c.args.tokens.now in
+    let ts = tokens_of c.args.tokens.now in
     let d = c.args.depth in
     let i = c.args.at in
     let q = c.in_ok-inner.ensures in
@@ -66,7 +67,7 @@ packed_word-word-requires t c =
 
 pub packed_word-returns-in_err-found : goal.packed_word-returns-in_err-found
 packed_word-returns-in_err-found t c =
-    let ts = c.args.tokens.now in
+    let ts = tokens_of c.args.tokens.now in
     let d = c.args.depth in
     let i = c.args.at in
     let q = c.in_ok-inner.ensures in
@@ -78,7 +79,7 @@ packed_word-returns-in_err-found t c =
 
 pub packed_word-returns-in_err-expect-3 : goal.packed_word-returns-in_err-expect-3
 packed_word-returns-in_err-expect-3 t c =
-    let ts = c.args.tokens.now in
+    let ts = tokens_of c.args.tokens.now in
     let d = c.args.depth in
     let i = c.args.at in
     let q = c.in_ok-inner.ensures in
@@ -91,7 +92,7 @@ packed_word-returns-in_err-expect-3 t c =
 
 pub packed_word-returns : goal.packed_word-returns
 packed_word-returns t c =
-    let ts = c.args.tokens.now in
+    let ts = tokens_of c.args.tokens.now in
     let d = c.args.depth in
     let i = c.args.at in
     let q = c.in_ok-inner.ensures in
@@ -109,14 +110,14 @@ packed_word-returns t c =
 
 pub word-returns-in-None : goal.word-returns-in-None
 word-returns-in-None t c =
-    let ts = c.args.tokens.now in
+    let ts = tokens_of c.args.tokens.now in
     let d = c.args.depth in
     let i = c.args.at in
     stop_lacks _ LW [] [] (start ts d i (Nt LW ∷ [])) refl (at_the_end (sym c.peek.ensures ∙ c.in-None.is)) refl
 
 pub word-packed_word-requires : goal.word-packed_word-requires
 word-packed_word-requires t c =
-    let ts = c.args.tokens.now in
+    let ts = tokens_of c.args.tokens.now in
     let d = c.args.depth in
     let i = c.args.at in
     let e : slice_get ts i ≡ Some c.in-Some.token = sym c.peek.ensures ∙ c.in-Some.is in
@@ -125,7 +126,7 @@ word-packed_word-requires t c =
 
 pub word-returns-in_err-packed-in-Pack : goal.word-returns-in_err-packed-in-Pack
 word-returns-in_err-packed-in-Pack t c =
-    let ts = c.args.tokens.now in
+    let ts = tokens_of c.args.tokens.now in
     let d = c.args.depth in
     let i = c.args.at in
     let e : slice_get ts i ≡ Some c.in-Some.token = sym c.peek.ensures ∙ c.in-Some.is in
@@ -136,7 +137,7 @@ word-returns-in_err-packed-in-Pack t c =
 
 pub word-returns-in_err-expect-in-Pack : goal.word-returns-in_err-expect-in-Pack
 word-returns-in_err-expect-in-Pack t c =
-    let ts = c.args.tokens.now in
+    let ts = tokens_of c.args.tokens.now in
     let d = c.args.depth in
     let i = c.args.at in
     let e : slice_get ts i ≡ Some c.in-Some.token = sym c.peek.ensures ∙ c.in-Some.is in
@@ -148,14 +149,14 @@ word-returns-in_err-expect-in-Pack t c =
 
 pub word-whole_type-requires-clause-at : goal.word-whole_type-requires-clause-at
 word-whole_type-requires-clause-at t c =
-    let ts = c.args.tokens.now in
+    let ts = tokens_of c.args.tokens.now in
     let d = c.args.depth in
     let i = c.args.at in
     let l = within ts c.in_ok-packed-in-Pack.packed.next want.As _ c.in_ok-expect-in-Pack.ensures in omega (arith, l)
 
 pub word-returns-in_err-shape-in-Pack : goal.word-returns-in_err-shape-in-Pack
 word-returns-in_err-shape-in-Pack t c =
-    let ts = c.args.tokens.now in
+    let ts = tokens_of c.args.tokens.now in
     let d = c.args.depth in
     let i = c.args.at in
     let e : slice_get ts i ≡ Some c.in-Some.token = sym c.peek.ensures ∙ c.in-Some.is in
@@ -168,7 +169,7 @@ word-returns-in_err-shape-in-Pack t c =
 
 pub word-returns-in_ok-value-in-Pack : goal.word-returns-in_ok-value-in-Pack
 word-returns-in_ok-value-in-Pack t c =
-    let ts = c.args.tokens.now in
+    let ts = tokens_of c.args.tokens.now in
     let d = c.args.depth in
     let i = c.args.at in
     let e : slice_get ts i ≡ Some c.in-Some.token = sym c.peek.ensures ∙ c.in-Some.is in
@@ -185,7 +186,7 @@ word-returns-in_ok-value-in-Pack t c =
 
 pub word-returns-in_default-kind : goal.word-returns-in_default-kind
 word-returns-in_default-kind t c =
-    let ts = c.args.tokens.now in
+    let ts = tokens_of c.args.tokens.now in
     let d = c.args.depth in
     let i = c.args.at in
     let e : slice_get ts i ≡ Some c.in-Some.token = sym c.peek.ensures ∙ c.in-Some.is in

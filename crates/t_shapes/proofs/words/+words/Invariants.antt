@@ -1,8 +1,9 @@
 use Rattle.std.proofs.Common.{length, ◌-◌}
+use Rattle.t_lexer.specs.Kept.{tokens_of}
 use Rattle.t_shapes.proofs.words.+words.Given as goal
 
 abbrev pub decreases-word : goal.decreases-word
-decreases-word l = length l.tokens.now - l.at
+decreases-word l = length (tokens_of l.tokens.now) - l.at
 
 abbrev pub decreases-packed_word : goal.decreases-packed_word
-decreases-packed_word l = length l.tokens.now - l.at
+decreases-packed_word l = length (tokens_of l.tokens.now) - l.at

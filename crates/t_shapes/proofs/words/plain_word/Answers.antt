@@ -3,11 +3,12 @@ use Rattle.std.proofs.lemmas.Result.{err_from_is_err_and}
 use Rattle.t_terms.specs.declared.wanted.Wanted.TheVariants as want
 use Rattle.t_grammar.proofs.Stepping.{within}
 use Rattle.t_shapes.proofs.Worded.{word_alone, args_too_deep, args_stop, word_applied_read}
+use Rattle.t_lexer.specs.Kept.{tokens_of}
 use Rattle.t_shapes.proofs.words.plain_word.Goals as goal
 
 pub returns-in_err-inner-in-Some : goal.returns-in_err-inner-in-Some
 returns-in_err-inner-in-Some c =
-    let ts = c.args.tokens.now in
+    let ts = tokens_of c.args.tokens.now in
     let d = c.args.depth in
     let i = c.args.at in
     let p = err_from_is_err_and c.from_residual.result c.from_residual.ensures.1 in
@@ -15,14 +16,14 @@ returns-in_err-inner-in-Some c =
 
 pub some_types-requires-clause-at : goal.some_types-requires-clause-at
 some_types-requires-clause-at c =
-    let ts = c.args.tokens.now in
+    let ts = tokens_of c.args.tokens.now in
     let d = c.args.depth in
     let i = c.args.at in
     let l = within ts (i + 1) want.LeftBracket _ (sym c.take.ensures ∙ c.in-Some.is) in omega (arith, l)
 
 pub returns-in_err-found-in-Some : goal.returns-in_err-found-in-Some
 returns-in_err-found-in-Some c =
-    let ts = c.args.tokens.now in
+    let ts = tokens_of c.args.tokens.now in
     let d = c.args.depth in
     let i = c.args.at in
     let p = err_from_is_err_and c.from_residual-in_err-found-in-Some.result c.from_residual-in_err-found-in-Some.ensures.1 in
@@ -30,14 +31,14 @@ returns-in_err-found-in-Some c =
 
 pub returns-in-None : goal.returns-in-None
 returns-in-None c =
-    let ts = c.args.tokens.now in
+    let ts = tokens_of c.args.tokens.now in
     let d = c.args.depth in
     let i = c.args.at in
     rw (c.requires.base, c.new.ensures.items) (word_alone ts d i _ c.requires.token c.requires.kind c.requires.depth (sym c.take.ensures ∙ c.in-None.is))
 
 pub returns-in_ok-found-in-Some : goal.returns-in_ok-found-in-Some
 returns-in_ok-found-in-Some c =
-    let ts = c.args.tokens.now in
+    let ts = tokens_of c.args.tokens.now in
     let d = c.args.depth in
     let i = c.args.at in
     rw (c.requires.base, c.up_to.ensures) (word_applied_read ts d i _ c.requires.token c.requires.kind c.requires.depth _ (sym c.take.ensures ∙ c.in-Some.is) c.in_ok-inner-in-Some.ensures.1 _ c.in_ok-inner-in-Some.ensures.0 _ _ _ c.in_ok-found-in-Some.ensures)

@@ -1,12 +1,14 @@
 -- The trees of types that hold a vector, by the vector's items, and types that are made one by one.
 use Rattle.std.proofs.Common.{◌≡◌, ℕ, List, [], ◌∷◌, Vec, Global, refl, ap, ap₂, ◌∙◌, sym, Bool, true, ◌++◌, ◌<◌, length, take, get_or, ◌+◌}
 use mathlib.Core.Former.{Count}
-use Rattle.std.proofs.lemmas.List.{take_more}
 use Rattle.c_terms.specs.declared.types.CType.{CType, Row_of-CType, end_of-CType, more_of-CType, items-the_row-CType, items_hidden-the_row-CType-0}
 use Rattle.c_terms.specs.declared.types.CType.TheVariants as C
 use Rattle.c_terms.specs.C as c
 use Rattle.c_terms.specs.Read.{ctree, ctrees, ctys}
+use Rattle.idx_core.specs.Over.{At}
+use Rattle.a_terms.specs.ReadLaws.{took, asnoc, fsnoc, atrees_snoc, afields_snoc}
 use Rattle.a_terms.specs.Tree as a
+use Rattle.a_terms.specs.Tree.{over, over_types, over_fields}
 use Rattle.a_terms.specs.Read.{atree, atrees, afields}
 use Rattle.a_terms.specs.declared.types.AType.{AType}
 use Rattle.a_law.specs.Allocate.{atype, atypes, afull}
@@ -36,23 +38,30 @@ is_tuple self v xs is same = ap ctree is ∙ type_tuple v ∙ ap (λ ys. c.TCTup
 pub is_code : (self : CType) (owes : ℕ) (v : Vec CType Global) (xs : List CType) → self ≡ C.Code owes v → xs ≡ v.items → ctree self ≡ c.TCCode owes (ctys xs)
 is_code self owes v xs is same = ap ctree is ∙ type_code owes v ∙ ap (λ ys. c.TCCode owes (ctys ys)) (sym same)
 
-pub atrees_push : (xs : List AType) (x : AType) (ts : List CType) (i : ℕ) (t : CType) (new : List AType) → i < length ts → t ≡ get_or ts i t → new ≡ xs ++ x ∷ [] → atree x ≡ atype (ctree t) → atrees xs ≡ atypes (ctys (take i ts)) → atrees new ≡ atypes (ctys (take (i + 1) ts))
-atrees_push xs x ts i t new lt is n same h = ap atrees n ∙ go xs (take i ts) h ∙ sym (ap (λ ys. atypes (ctys ys)) (take_more ts i t lt ∙ ap (λ y. take i ts ++ y ∷ []) (sym is)))
-  where
-    go : (ys : List AType) (zs : List CType) → atrees ys ≡ atypes (ctys zs) → atrees (ys ++ x ∷ []) ≡ atypes (ctys (zs ++ t ∷ []))
-    go [] [] e = ap (λ u. a.MoreATys u a.NoATys) same
-    go [] (z ∷ zs) e = absurd (cc e)
-    go (y ∷ ys) [] e = absurd (cc e)
-    go (y ∷ ys) (z ∷ zs) e = ap₂ a.MoreATys (cc e) (go ys zs (cc e))
+types_snoc : (f : At a.ATy) (d : ℕ) (ts : List CType) (t : CType) →
+    over_types f d (atypes (ctys (ts ++ t ∷ [])))
+    ≡ asnoc (over_types f d (atypes (ctys ts))) (over f d (atype (ctree t)))
+types_snoc f d [] t = refl
+types_snoc f d (u ∷ ts) t = ap (a.MoreATys (over f d (atype (ctree u)))) (types_snoc f d ts t)
 
-pub afields_push : (xs : List (AType × Bool)) (x : AType) (ts : List CType) (i : ℕ) (t : CType) (new : List (AType × Bool)) → i < length ts → t ≡ get_or ts i t → new ≡ xs ++ (x, true) ∷ [] → atree x ≡ atype (ctree t) → afields xs ≡ afull (ctys (take i ts)) → afields new ≡ afull (ctys (take (i + 1) ts))
-afields_push xs x ts i t new lt is n same h = ap afields n ∙ go xs (take i ts) h ∙ sym (ap (λ ys. afull (ctys ys)) (take_more ts i t lt ∙ ap (λ y. take i ts ++ y ∷ []) (sym is)))
-  where
-    go : (ys : List (AType × Bool)) (zs : List CType) → afields ys ≡ afull (ctys zs) → afields (ys ++ (x, true) ∷ []) ≡ afull (ctys (zs ++ t ∷ []))
-    go [] [] e = ap (λ u. a.MoreAFields u true a.NoAFields) same
-    go [] (z ∷ zs) e = absurd (cc e)
-    go (y ∷ ys) [] e = absurd (cc e)
-    go (y ∷ ys) (z ∷ zs) e = ap₃ (cc e) (cc e) (go ys zs (cc e))
-      where
-        ap₃ : {p q : a.ATy} {b d : Bool} {r s : a.AFields} → p ≡ q → b ≡ d → r ≡ s → a.MoreAFields p b r ≡ a.MoreAFields q d s
-        ap₃ {q = q} {b = b} {s = s} f g k = ap₂ (λ u w. a.MoreAFields u b w) f k ∙ ap (λ v. a.MoreAFields q v s) g
+fields_snoc : (f : At a.ATy) (d : ℕ) (ts : List CType) (t : CType) →
+    over_fields f d (afull (ctys (ts ++ t ∷ [])))
+    ≡ fsnoc (over_fields f d (afull (ctys ts))) (over f d (atype (ctree t))) true
+fields_snoc f d [] t = refl
+fields_snoc f d (u ∷ ts) t = ap (a.MoreAFields (over f d (atype (ctree u))) true) (fields_snoc f d ts t)
+
+pub atrees_push : (f : At a.ATy) (d : ℕ) (xs : List AType) (x : AType) (ts : List CType) (i : ℕ) (t : CType)
+    (new : List AType) → i < length ts → t ≡ get_or ts i t → new ≡ xs ++ x ∷ [] →
+    atree x ≡ over f d (atype (ctree t)) → atrees xs ≡ over_types f d (atypes (ctys (take i ts))) →
+    atrees new ≡ over_types f d (atypes (ctys (take (i + 1) ts)))
+atrees_push f d xs x ts i t new lt is n same h =
+    ap atrees n ∙ atrees_snoc xs x ∙ ap₂ asnoc h same
+    ∙ sym (ap (λ ys. over_types f d (atypes (ctys ys))) (took ts i t lt is) ∙ types_snoc f d (take i ts) t)
+
+pub afields_push : (f : At a.ATy) (d : ℕ) (xs : List (AType × Bool)) (x : AType) (ts : List CType) (i : ℕ) (t : CType)
+    (new : List (AType × Bool)) → i < length ts → t ≡ get_or ts i t → new ≡ xs ++ (x, true) ∷ [] →
+    atree x ≡ over f d (atype (ctree t)) → afields xs ≡ over_fields f d (afull (ctys (take i ts))) →
+    afields new ≡ over_fields f d (afull (ctys (take (i + 1) ts)))
+afields_push f d xs x ts i t new lt is n same h =
+    ap afields n ∙ afields_snoc xs (x, true) ∙ ap₂ (λ us u. fsnoc us u true) h same
+    ∙ sym (ap (λ ys. over_fields f d (afull (ctys ys))) (took ts i t lt is) ∙ fields_snoc f d (take i ts) t)

@@ -1,8 +1,8 @@
 -- Lists of which every item passes a test, and the constants and types that are tested so.
-use Rattle.std.proofs.Common.{◌≡◌, ◌<◌, ◌≤◌, ℕ, zero, suc, ◌+◌, List, [], ◌∷◌, ◌++◌, Bool, true, false, refl, sym, ap, ap₂, ◌∙◌, subst, length, take, get_or, arith}
+use Rattle.std.proofs.Common.{◌≡◌, ◌<◌, ◌≤◌, ℕ, zero, suc, ◌+◌, List, [], ◌∷◌, ◌++◌, Bool, true, false, refl, sym, ap, ap₂, ◌∙◌, length, take, get_or, arith}
 use Rattle.std.specs.Prelude.{◌&&◌, map}
 use Rattle.std.proofs.lemmas.Bool.{ltb-true, lt-ltb}
-use Rattle.std.proofs.lemmas.List.{take_all, append-nil}
+use Rattle.std.proofs.lemmas.List.{take_all}
 use Rattle.a_terms.specs.ReadLaws.{took}
 use Rattle.a_terms.specs.Tree.{ABelow, ABelow-fields, ABelow-types, ACode, AConsts, AExists, AFields, AInt, ATuple, ATy, ATys, AVal, AVar, MoreAFields, MoreATys, NoAFields, NoATys}
 use Rattle.a_terms.specs.Tree as a
@@ -17,7 +17,7 @@ use Rattle.a_terms.specs.declared.nodes.AWrap.TheVariants as W
 use Rattle.a_terms.specs.declared.types.AType.{AType}
 use Rattle.a_law.specs.Allocate.{Known, all_closed, closed, fields_closed, is_pack, is_some}
 use Rattle.a_pass.specs.declared.state.Seen.{Seen}
-use Rattle.a_pass.specs.Scope.{all_constants, base_at, constant_in, is_bare, type_in, types_in, value_at}
+use Rattle.a_pass.specs.Scope.{all_constants, constant_in, is_bare}
 use Rattle.a_pass.proofs.Steps.{wrapped_push}
 
 abbrev pub every : {T : Type 0} → (T → Bool) → List T → Bool
@@ -143,13 +143,7 @@ not_bare [] v lt = absurd (omega (arith, lt))
 not_bare (W.Apply ts ∷ ws) v lt = stays_wrapped ws (wrap (W.Apply ts) v) refl
 not_bare (W.Pack h s ∷ ws) v lt = stays_wrapped ws (wrap (W.Pack h s) v) refl
 
--- types of fields
-pub types_same : (g : List ATy) (ts : List AType) (ss : List Seen) → map atree ts ≡ map (type_in g) ss → atrees ts ≡ types_in g ss
-types_same g [] [] h = refl
-types_same g [] (s ∷ ss) h = absurd (omega (arith, ap length h))
-types_same g (t ∷ ts) [] h = absurd (omega (arith, ap length h))
-types_same g (t ∷ ts) (s ∷ ss) h = ap₂ MoreATys (cc h) (types_same g ts ss (cc h))
-
+-- fields of data tuples
 abbrev pub a_const : AValue × AType → a.AConst
 a_const c = record { value = a_value c.0; kind = atree c.1 }
 

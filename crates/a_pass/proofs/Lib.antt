@@ -10,3 +10,5 @@ mod Terms
 mod Walking
 mod Kept
 mod Every
+mod TypeLists
+mod Keeping

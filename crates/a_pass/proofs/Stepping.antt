@@ -1,19 +1,19 @@
 -- What one node of a term does.
-use Rattle.std.proofs.Common.{◌≡◌, ◌<◌, ◌≤◌, ℕ, zero, suc, ◌+◌, ◌-◌, List, [], ◌∷◌, ◌++◌, refl, sym, ap, ap₂, ◌∙◌, subst, append_assoc, length, map, take, arith, Vec, Global, Option, Some, None, true, option_map}
+use Rattle.std.proofs.Common.{◌≡◌, ◌≤◌, ℕ, suc, List, [], ◌∷◌, ◌++◌, refl, sym, ap, ap₂, ◌∙◌, subst, length, map, take, arith, Vec, Global, Option, Some, None, true}
 use Rattle.std.proofs.lemmas.List.{take_all, length-append, append-nil}
 use Rattle.term_core.specs.Ends.{lift}
-use Rattle.h_terms.specs.H.{HVal, HDecl, HName, HProj, HArith, HUnpack, HCell, HGet, HSet, HTm, HLet, HIf, HCall, HHalt, HBlks}
+use Rattle.h_terms.specs.H.{HVal, HDecl, HName, HProj, HArith, HUnpack, HCell, HGet, HSet, HTm, HLet, HCall, HHalt, HBlks}
 use Rattle.a_terms.specs.Tree as a
-use Rattle.a_law.specs.Allocate.{Known, alloc_t, data_d, data_t, data_v, data_vs, pre_d, pre_v, pre_vs, dcl, d_const, d_types, d_next, n_d, n_t, n_v, n_vs, val, vals as the_vals, v_next, vs_next, v_type, atypes}
+use Rattle.a_law.specs.Allocate.{Known, alloc_t, data_d, data_t, data_v, pre_d, pre_v, pre_vs, dcl, d_const, d_types, d_next, n_d, n_t, n_v, val, vals as the_vals, v_next, vs_next, v_type, atypes}
 use Rattle.c_terms.specs.declared.types.CType.{CType}
 use Rattle.a_terms.specs.declared.types.AType.{AType}
-use Rattle.c_terms.specs.Read.{ctree, ctys}
-use Rattle.a_terms.specs.Read.{atree, atrees}
+use Rattle.c_terms.specs.Read.{ctys}
+use Rattle.a_terms.specs.Read.{atrees}
 use Rattle.a_terms.specs.Tree.{ashift}
 use Rattle.a_terms.specs.Typing.{field_of, body_of}
 use Rattle.a_terms.specs.Row as r
 use Rattle.idx_core.specs.declared.arith.Op.{Op}
-use Rattle.h_terms.specs.Row.{top, others, IsOne, IsTwo, IsSome}
+use Rattle.h_terms.specs.Row.{top, others}
 use Rattle.h_terms.specs.Nodes.{no_term, tied, h_build, h_kids, reads}
 use Rattle.h_terms.specs.declared.node.HPart.{HPart}
 use Rattle.a_terms.specs.NodeTrees.{a_build, a_data, a_value, a_values, a_onto, a_let}
@@ -28,21 +28,21 @@ use Rattle.a_terms.specs.declared.nodes.ANode.{ANode}
 use Rattle.a_pass.specs.declared.state.Name.{Name}
 use Rattle.a_pass.specs.declared.state.Place.{Place}
 use Rattle.a_pass.specs.declared.state.Seen.{Seen}
-use Rattle.a_pass.specs.Scope.{onto, known_name, knowns, typed, type_in, constant, constant_in, value_at, scope, Under, pending, pending_data, Fit}
+use Rattle.a_pass.specs.Scope.{knowns, typed, type_in, constant_in, value_at, scope, Under, pending, pending_data, Fit}
 use Rattle.a_pass.specs.Emits.{Emits, Made, Declares, Ends, Stepped, Steps, tops}
 use Rattle.a_pass.proofs.Emitting.{emits_same, emits_then}
 use Rattle.a_pass.proofs.Places.{onto_push}
-use Rattle.a_pass.proofs.Terms.{step_let, step_end, step_if, keep_let, keep_end, keep_if, row_step, fit_more, under_push, scope_open, typed_now}
+use Rattle.a_pass.proofs.Terms.{step_let, step_end, step_if, keep_let, keep_end, keep_if, row_step, fit_more, under_push, scope_open}
 
 module _ (ks : HBlks) (us : List HVal) (ns ms : List Name) (place : Place) (ps qs : List Place) (old new : List ANode) (kept tuples : List AData)
     (len : length ns ≡ place.names) (bound : Under place.binders ns) where
-  let_stepped : (mid : List ANode) (vs : List AValue) (m : ℕ) (e : HDecl) (form : HForm) (af : AForm) (ty : AType) (stands : Option a.AVal) (binders : ℕ) →
+  let_stepped : (mid : List ANode) (vs : List AValue) (m : ℕ) (e : HDecl) (form : HForm) (af : AForm) (ty : a.ATy) (stands : Option a.AVal) (binders : ℕ) →
       Emits old mid (pre_d ks (scope place.binders ns) (knowns ns) (length kept) place.depth e) → m ≡ d_next (knowns ns) place.depth e →
       length tuples ≡ n_d (knowns ns) (length kept) e → a_data tuples ≡ a_data kept ++ data_d ks (scope place.binders ns) (knowns ns) (length kept) e → stands ≡ d_const (knowns ns) (length kept) e →
       Declares af vs ty stands m (length ns) binders ns ms ps qs mid new →
       ((hs : List HTm) → h_build form us hs ≡ HLet e (top no_term hs) ∷ others hs) → h_kids form ≡ 1 →
       ((xs : List a.ATm) → a_build af (map a_value vs) xs ≡ a_let (dcl (knowns ns) (length kept) place.depth e) xs) → AArity af (map a_value vs) → a_kids af ≡ 1 → place.binders ≤ binders →
-      ((n : Name) → n.under ≡ binders → atree n.ty ≡ atree ty → scope binders (ns ++ n ∷ []) ≡ d_types ks (scope place.binders ns) e) →
+      ((n : Name) → n.under ≤ binders → typed binders n ≡ ty → scope binders (ns ++ n ∷ []) ≡ d_types ks (scope place.binders ns) e) →
       Stepped ks place form us ns ms ps qs old new kept tuples
   let_stepped mid vs m e form af ty stands binders emits is_next number keeps const dec build kids abuild fine akids le types =
       let g = scope place.binders ns in
@@ -155,14 +155,14 @@ module _ (ns ms : List Name) (place : Place) (ps qs : List Place) (mid new : Lis
   abbrev ls : List Known
   ls = knowns ns
 
-  abbrev OneType : AType → (a.ATy → a.ATy) → Type 0
-  OneType ty f = (t : a.ATy) → map (type_in g) ts ≡ t ∷ [] → atree ty ≡ f t
+  abbrev OneType : a.ATy → (a.ATy → a.ATy) → Type 0
+  OneType ty f = (t : a.ATy) → map (type_in g) ts ≡ t ∷ [] → ty ≡ f t
 
-  same_scope : (n : Name) (t : a.ATy) → n.under ≡ place.binders → atree n.ty ≡ t → scope place.binders (ns ++ n ∷ []) ≡ t ∷ g
-  same_scope n t u is = onto_push (typed place.binders) [] ns n ∙ ap (λ x. x ∷ g) (typed_now n place.binders t u is)
+  same_scope : (n : Name) (t : a.ATy) → n.under ≤ place.binders → typed place.binders n ≡ t → scope place.binders (ns ++ n ∷ []) ≡ t ∷ g
+  same_scope n t u is = onto_push (typed place.binders) [] ns n ∙ ap (λ x. x ∷ g) is
 
   module _ (same : map a_value vs ≡ map (value_at m) lv) where
-    pub name_stepped : (ty : AType) (stands : Option a.AVal) → Declares A.Value vs ty stands m (length ns) place.binders ns ms ps qs mid new → OneType ty (λ t. t) → ((o : Option a.AVal) → map (constant_in ls) ts ≡ o ∷ [] → stands ≡ o) → Steps place H.Name lv ts m ns ms ps qs mid new
+    pub name_stepped : (ty : a.ATy) (stands : Option a.AVal) → Declares A.Value vs ty stands m (length ns) place.binders ns ms ps qs mid new → OneType ty (λ t. t) → ((o : Option a.AVal) → map (constant_in ls) ts ≡ o ∷ [] → stands ≡ o) → Steps place H.Name lv ts m ns ms ps qs mid new
     name_stepped ty stands dec has const ks [] old kept tuples made one = absurd one
     name_stepped ty stands dec has const ks (v ∷ w ∷ us) old kept tuples made one = absurd one
     name_stepped ty stands dec has const ks (v ∷ []) old kept tuples made one =
@@ -171,7 +171,7 @@ module _ (ns ms : List Name) (place : Place) (ps qs : List Place) (mid new : Lis
         (λ xs. ap (λ ws. a_build A.Value ws xs) vals ∙ ap (λ k. a_let (a.Value (val ls (length kept) place.depth k v)) xs) made.depth) (subst r.IsOne (sym vals) tt) refl (omega arith)
         (λ n u is. same_scope n (v_type ks g v) u (is ∙ has (v_type ks g v) made.types))
 
-    pub proj_stepped : (i : ℕ) (ty : AType) → Declares (A.Proj i) vs ty None m (length ns) place.binders ns ms ps qs mid new → OneType ty (λ t. field_of i (Some t)) → Steps place (H.Proj i) lv ts m ns ms ps qs mid new
+    pub proj_stepped : (i : ℕ) (ty : a.ATy) → Declares (A.Proj i) vs ty None m (length ns) place.binders ns ms ps qs mid new → OneType ty (λ t. field_of i (Some t)) → Steps place (H.Proj i) lv ts m ns ms ps qs mid new
     proj_stepped i ty dec has ks [] old kept tuples made one = absurd one
     proj_stepped i ty dec has ks (v ∷ w ∷ us) old kept tuples made one = absurd one
     proj_stepped i ty dec has ks (v ∷ []) old kept tuples made one =
@@ -180,7 +180,7 @@ module _ (ns ms : List Name) (place : Place) (ps qs : List Place) (mid new : Lis
         (λ xs. ap (λ ws. a_build (A.Proj i) ws xs) vals ∙ ap (λ k. a_let (a.Proj i (val ls (length kept) place.depth k v)) xs) made.depth) (subst r.IsOne (sym vals) tt) refl (omega arith)
         (λ n u is. same_scope n (field_of i (Some (v_type ks g v))) u (is ∙ has (v_type ks g v) made.types))
 
-    pub get_stepped : (i : ℕ) (ty : AType) → i ≡ 1 → Declares (A.Proj i) vs ty None m (length ns) place.binders ns ms ps qs mid new → OneType ty (λ t. field_of i (Some t)) → Steps place H.Get lv ts m ns ms ps qs mid new
+    pub get_stepped : (i : ℕ) (ty : a.ATy) → i ≡ 1 → Declares (A.Proj i) vs ty None m (length ns) place.binders ns ms ps qs mid new → OneType ty (λ t. field_of i (Some t)) → Steps place H.Get lv ts m ns ms ps qs mid new
     get_stepped i ty e dec has ks [] old kept tuples made one = absurd one
     get_stepped i ty e dec has ks (v ∷ w ∷ us) old kept tuples made one = absurd one
     get_stepped i ty e dec has ks (v ∷ []) old kept tuples made one =
@@ -189,7 +189,7 @@ module _ (ns ms : List Name) (place : Place) (ps qs : List Place) (mid new : Lis
         (λ xs. ap (λ ws. a_build (A.Proj i) ws xs) vals ∙ ap₂ (λ k j. a_let (a.Proj j (val ls (length kept) place.depth k v)) xs) made.depth e) (subst r.IsOne (sym vals) tt) refl (omega arith)
         (λ n u is. same_scope n (field_of 1 (Some (v_type ks g v))) u (is ∙ has (v_type ks g v) made.types ∙ ap (λ j. field_of j (Some (v_type ks g v))) e))
 
-    pub arith_stepped : (o : Op) (ty : AType) → Declares (A.Arith o) vs ty None m (length ns) place.binders ns ms ps qs mid new → atree ty ≡ a.AInt → Steps place (H.Arith o) lv ts m ns ms ps qs mid new
+    pub arith_stepped : (o : Op) (ty : a.ATy) → Declares (A.Arith o) vs ty None m (length ns) place.binders ns ms ps qs mid new → ty ≡ a.AInt → Steps place (H.Arith o) lv ts m ns ms ps qs mid new
     arith_stepped o ty dec has ks [] old kept tuples made two = absurd two
     arith_stepped o ty dec has ks (v ∷ []) old kept tuples made two = absurd two
     arith_stepped o ty dec has ks (v ∷ w ∷ x ∷ us) old kept tuples made two = absurd two
@@ -199,7 +199,7 @@ module _ (ns ms : List Name) (place : Place) (ps qs : List Place) (mid new : Lis
         (λ xs. ap (λ ws. a_build (A.Arith o) ws xs) vals ∙ ap (λ k. a_let (a.Arith o (val ls (length kept) place.depth k v) (val ls (n_v ls (length kept) v) (v_next ls place.depth v) k w)) xs) made.depth) (subst r.IsTwo (sym vals) tt) refl (omega arith)
         (λ n u is. same_scope n a.AInt u (is ∙ has))
 
-    pub unpack_stepped : (ty : AType) (binders : ℕ) → binders ≡ suc place.binders → Declares A.Unpack vs ty None m (length ns) binders ns ms ps qs mid new → OneType ty (λ t. body_of (Some t)) → Steps place H.Unpack lv ts m ns ms ps qs mid new
+    pub unpack_stepped : (ty : a.ATy) (binders : ℕ) → binders ≡ suc place.binders → Declares A.Unpack vs ty None m (length ns) binders ns ms ps qs mid new → OneType ty (λ t. body_of (Some t)) → Steps place H.Unpack lv ts m ns ms ps qs mid new
     unpack_stepped ty binders b dec has ks [] old kept tuples made one = absurd one
     unpack_stepped ty binders b dec has ks (v ∷ w ∷ us) old kept tuples made one = absurd one
     unpack_stepped ty binders b dec has ks (v ∷ []) old kept tuples made one =
@@ -208,8 +208,8 @@ module _ (ns ms : List Name) (place : Place) (ps qs : List Place) (mid new : Lis
         (λ xs. ap (λ ws. a_build A.Unpack ws xs) vals ∙ ap (λ k. a_let (a.Unpack (val ls (length kept) place.depth k v)) xs) made.depth) (subst r.IsOne (sym vals) tt) refl (omega (arith, b))
         (λ n u is. opened ks v n u (is ∙ has (v_type ks g v) made.types))
       where
-        opened : (ks : HBlks) (v : HVal) (n : Name) → n.under ≡ binders → atree n.ty ≡ body_of (Some (v_type ks g v)) → scope binders (ns ++ n ∷ []) ≡ body_of (Some (v_type ks g v)) ∷ map (ashift 1 0) g
-        opened ks v n u is = onto_push (typed binders) [] ns n ∙ ap₂ (λ x xs. x ∷ xs) (typed_now n binders (body_of (Some (v_type ks g v))) u is) (ap (λ k. scope k ns) b ∙ scope_open place.binders ns bound)
+        opened : (ks : HBlks) (v : HVal) (n : Name) → n.under ≤ binders → typed binders n ≡ body_of (Some (v_type ks g v)) → scope binders (ns ++ n ∷ []) ≡ body_of (Some (v_type ks g v)) ∷ map (ashift 1 0) g
+        opened ks v n u is = onto_push (typed binders) [] ns n ∙ ap₂ (λ x xs. x ∷ xs) is (ap (λ k. scope k ns) b ∙ scope_open place.binders ns bound)
 
     pub halt_stepped : ms ≡ ns → qs ≡ ps → Ends A.Halt vs mid new → Steps place H.Halt lv ts m ns ms ps qs mid new
     halt_stepped ms_is qs_is end ks [] old kept tuples made one = absurd one
@@ -236,14 +236,14 @@ module _ (ns ms : List Name) (place : Place) (ps qs : List Place) (mid new : Lis
         if_stepped ks (v ∷ []) ns ms place ps qs old new kept tuples len bound mid vs m v H.If0 p (emits_same old mid _ _ (λ r. refl) made.emits) made.depth made.number (keep_one _ (a_data kept) (data_v ks g ls (length kept) v) made.keeps) (same ∙ made.values m) ms_is qs_is end depth count binders refl refl
 
   -- a new cell: its malloc comes first, and its name is the initialisation's
-  pub cell_stepped : (mid2 : List ANode) (k : ℕ) (ty whole : AType) (x : AValue) → k ≡ suc m → OneType ty (λ t. t) → atree whole ≡ a.ATuple (a.MoreAFields (atree ty) true a.NoAFields) →
-      Emits mid mid2 (λ r. a.Let (a.Malloc (a.MoreATys (atree ty) a.NoATys)) r) → ((d : ℕ) (v : a.AVal) → map (value_at d) lv ≡ v ∷ [] → value_at d x ≡ v) → map a_value vs ≡ a.Var 0 ∷ value_at k x ∷ [] →
+  pub cell_stepped : (mid2 : List ANode) (k : ℕ) (ty whole : a.ATy) (x : AValue) → k ≡ suc m → OneType ty (λ t. t) → whole ≡ a.ATuple (a.MoreAFields (ty) true a.NoAFields) →
+      Emits mid mid2 (λ r. a.Let (a.Malloc (a.MoreATys (ty) a.NoATys)) r) → ((d : ℕ) (v : a.AVal) → map (value_at d) lv ≡ v ∷ [] → value_at d x ≡ v) → map a_value vs ≡ a.Var 0 ∷ value_at k x ∷ [] →
       Declares (A.Init 1) vs whole None k (length ns) place.binders ns ms ps qs mid2 new → Steps place H.Cell lv ts m ns ms ps qs mid new
   cell_stepped mid2 k ty whole x k_is has whole_is malloc only vals dec ks [] old kept tuples made one = absurd one
   cell_stepped mid2 k ty whole x k_is has whole_is malloc only vals dec ks (v ∷ w ∷ us) old kept tuples made one = absurd one
   cell_stepped mid2 k ty whole x k_is has whole_is malloc only vals dec ks (v ∷ []) old kept tuples made one =
       let t = v_type ks g v in
-      let ty_is : atree ty ≡ t = has t made.types in
+      let ty_is : ty ≡ t = has t made.types in
       let k_now : k ≡ suc (v_next ls place.depth v) = k_is ∙ ap suc made.depth in
       let content : value_at k x ≡ val ls (length kept) place.depth (suc (v_next ls place.depth v)) v = only k (val ls (length kept) place.depth k v) (made.values k) ∙ ap (λ n. val ls (length kept) place.depth n v) k_now in
       let vals2 : map a_value vs ≡ a.Var 0 ∷ val ls (length kept) place.depth (suc (v_next ls place.depth v)) v ∷ [] = vals ∙ ap (λ y. a.Var 0 ∷ y ∷ []) content in
@@ -253,7 +253,7 @@ module _ (ns ms : List Name) (place : Place) (ps qs : List Place) (mid new : Lis
       (λ n u is. same_scope n (a.ATuple (a.MoreAFields t true a.NoAFields)) u (is ∙ whole_is ∙ ap (λ y. a.ATuple (a.MoreAFields y true a.NoAFields)) ty_is))
 
   -- an assignment: its initialisation comes first, and its name is the empty tuple's
-  pub set_stepped : (mid2 : List ANode) (k : ℕ) (room : Vec AType Global) (ty : AType) → k ≡ suc m → atrees room.items ≡ a.NoATys → atree ty ≡ a.ATuple a.NoAFields →
+  pub set_stepped : (mid2 : List ANode) (k : ℕ) (room : Vec AType Global) (ty : a.ATy) → k ≡ suc m → atrees room.items ≡ a.NoATys → ty ≡ a.ATuple a.NoAFields →
       ((v w : a.AVal) → map (value_at m) lv ≡ v ∷ w ∷ [] → Emits mid mid2 (λ r. a.Let (a.Init v 1 w) r)) → map a_value vs ≡ [] →
       Declares (A.Malloc room) vs ty None k (length ns) place.binders ns ms ps qs mid2 new → Steps place H.Set lv ts m ns ms ps qs mid new
   set_stepped mid2 k room ty k_is room_is ty_is init vals dec ks [] old kept tuples made two = absurd two

@@ -1,22 +1,20 @@
 -- One more node of a term, on the side of the trees.
-use Rattle.std.proofs.Common.{◌≡◌, ◌<◌, ◌≤◌, ℕ, zero, suc, ◌+◌, ◌-◌, List, [], ◌∷◌, ◌++◌, refl, sym, ap, ap₂, ◌∙◌, subst, append_assoc, length, map, take, get_or, arith, option_map, Option}
-use Rattle.std.proofs.lemmas.List.{take_more, take_all, take-take, take-append-le, length-append, append-nil}
+use Rattle.std.proofs.Common.{◌≡◌, ◌≤◌, ℕ, suc, ◌+◌, ◌-◌, List, [], ◌∷◌, ◌++◌, refl, sym, ap, ap₂, ◌∙◌, subst, append_assoc, length, map, take, arith, option_map}
+use Rattle.std.proofs.lemmas.List.{take_all, take-take, take-append-le, length-append}
 use Rattle.term_core.specs.Ends.{lift}
 use Rattle.a_terms.specs.Tree.{ashift}
 use Rattle.a_terms.specs.TypeLaws.{shift_more, shift_none}
-use Rattle.a_terms.specs.Read.{atree}
 use Rattle.h_terms.specs.H.{HVal, HDecl, HTm, HLet, HIf, HBlks}
 use Rattle.a_terms.specs.Tree as a
 use Rattle.a_law.specs.Allocate.{Known, alloc_t, data_d, data_t, data_v, known_of, n_d, n_t, n_v, pre_d, pre_v, dcl, d_const, d_types, d_next, val, v_next}
 use Rattle.h_terms.specs.Row.{top, others}
 use Rattle.h_terms.specs.Nodes.{no_term}
-use Rattle.a_terms.specs.NodeTrees.{a_build, a_data, a_value, a_values, a_onto, a_let}
+use Rattle.a_terms.specs.NodeTrees.{a_build, a_value, a_values, a_onto, a_let}
 use Rattle.a_terms.specs.Arity.{a_kids, AArity, ARow}
-use Rattle.a_terms.specs.declared.nodes.AData.{AData}
 use Rattle.a_terms.specs.declared.nodes.ANode.{ANode}
 use Rattle.a_pass.specs.declared.state.Name.{Name}
 use Rattle.a_pass.specs.declared.state.Place.{Place}
-use Rattle.a_pass.specs.Scope.{onto, known_name, knowns, typed, scope, Under, pending, pending_data, Fit}
+use Rattle.a_pass.specs.Scope.{onto, kept, known_name, knowns, typed, scope, Under, pending, pending_data, Fit}
 use Rattle.a_pass.specs.Emits.{Emits}
 use Rattle.a_pass.proofs.Emitting.{onto_append}
 use Rattle.a_pass.proofs.Places.{onto_push}
@@ -59,16 +57,22 @@ fit_take ns m (p ∷ ps) k le fit =
     (fit.0, subst (Under p.binders) (sym (take-take p.names k ns (omega (arith, fit.0)))) fit.1, fit_take ns p.names ps k (omega (arith, fit.0)) fit.2)
 
 -- types under more names
-pub typed_now : (n : Name) (b : ℕ) (t : a.ATy) → n.under ≡ b → atree n.ty ≡ t → typed b n ≡ t
+pub typed_now : (n : Name) (b : ℕ) (t : a.ATy) → n.under ≡ b → kept n.ty ≡ t → typed b n ≡ t
 typed_now n b t u is =
     let none : b - n.under ≡ 0 = omega (arith, u) in
-    ap (λ k. ashift k 0 (atree n.ty)) none ∙ shift_none (atree n.ty) ∙ is
+    ap (λ k. ashift k 0 (kept n.ty)) none ∙ shift_none (kept n.ty) ∙ is
+
+-- a type that is read where it was made
+pub shown_now : (b : ℕ) (t : a.ATy) → ashift (b - b) 0 t ≡ t
+shown_now b t =
+    let none : b - b ≡ 0 = omega arith in
+    ap (λ k. ashift k 0 t) none ∙ shift_none t
 
 scope_open_on : (b : ℕ) (g : List a.ATy) (ns : List Name) → Under b ns → onto (typed (suc b)) (map (ashift 1 0) g) ns ≡ map (ashift 1 0) (onto (typed b) g ns)
 scope_open_on b g [] u = refl
 scope_open_on b g (n ∷ ns) u =
     let more : suc b - n.under ≡ b - n.under + 1 = omega (arith, u.0) in
-    let one : typed (suc b) n ≡ ashift 1 0 (typed b n) = ap (λ k. ashift k 0 (atree n.ty)) more ∙ sym (shift_more (b - n.under) 1 (atree n.ty)) in
+    let one : typed (suc b) n ≡ ashift 1 0 (typed b n) = ap (λ k. ashift k 0 (kept n.ty)) more ∙ sym (shift_more (b - n.under) 1 (kept n.ty)) in
     ap (λ t. onto (typed (suc b)) (t ∷ map (ashift 1 0) g) ns) one ∙ scope_open_on b (typed b n ∷ g) ns u.1
 
 pub scope_open : (b : ℕ) (ns : List Name) → Under b ns → scope (suc b) ns ≡ map (ashift 1 0) (scope b ns)

@@ -1,17 +1,16 @@
 -- The walk over all nodes.
-use Rattle.std.proofs.Common.{◌≡◌, ◌<◌, ◌≤◌, ℕ, zero, suc, ◌+◌, List, [], ◌∷◌, ◌++◌, refl, sym, ap, ap₂, ◌∙◌, subst, length, take, drop, arith, map, get_or, add-one, Option, None, option_map}
+use Rattle.std.proofs.Common.{◌≡◌, ◌<◌, ◌≤◌, ℕ, suc, ◌+◌, List, [], ◌∷◌, ◌++◌, refl, sym, ap, ap₂, ◌∙◌, subst, length, take, drop, arith, get_or, add-one, None, option_map}
 use Rattle.std.proofs.lemmas.List.{append-nil, length-append, length-take-le, take_more, take_all}
 use Rattle.std.proofs.Math.Seq.{drop-cons}
 use Rattle.term_core.specs.Ends.{lift}
 use Rattle.a_terms.specs.Typing.{types_of}
-use Rattle.a_terms.specs.Read.{atree}
 use Rattle.h_terms.specs.H.{HBlks, HTm}
 use Rattle.a_terms.specs.Tree as a
-use Rattle.a_law.specs.Allocate.{Known, alloc_t, arg_levels, arg_depth, atype, atypes, data_t, n_t, plain}
+use Rattle.a_law.specs.Allocate.{Known, alloc_t, arg_levels, arg_depth, atype, atypes, data_t, plain}
 use Rattle.c_terms.specs.declared.types.CType.{CType}
 use Rattle.c_terms.specs.Read.{ctree, ctys}
-use Rattle.h_terms.specs.Row.{top, others}
-use Rattle.h_terms.specs.Nodes.{HRow, HArity, h_terms, h_tree, h_build, h_kids, values, no_term}
+use Rattle.h_terms.specs.Row.{top}
+use Rattle.h_terms.specs.Nodes.{HRow, HArity, h_terms, h_tree, h_build, h_kids, values}
 use Rattle.a_terms.specs.NodeTrees.{a_data, a_onto, a_tree, a_value}
 use Rattle.a_terms.specs.Arity.{ARow}
 use Rattle.a_terms.specs.NodeTrees as out
@@ -20,7 +19,7 @@ use Rattle.a_terms.specs.declared.nodes.AData.{AData}
 use Rattle.a_terms.specs.declared.nodes.ANode.{ANode}
 use Rattle.a_pass.specs.declared.state.Name.{Name}
 use Rattle.a_pass.specs.declared.state.Place.{Place}
-use Rattle.a_pass.specs.Scope.{onto, known_name, knowns, typed, scope, Under, pending, pending_data, Fit}
+use Rattle.a_pass.specs.Scope.{kept, known_name, knowns, typed, scope, Under, pending, pending_data, Fit}
 use Rattle.a_pass.specs.Emits.{Stepped, tops}
 use Rattle.a_pass.proofs.Emitting.{nothing}
 use Rattle.a_pass.proofs.Places.{onto_push}
@@ -135,7 +134,7 @@ pub record Named (args : List CType) (ns : List Name) : Type 0 where
 pub named_none : (ns : List Name) → ns ≡ [] → Named [] ns
 named_none ns e = record { knowns = ap knowns e; scope = ap (scope 0) e; depth = ap length e; bound = subst (Under 0) (sym e) tt }
 
-pub named_next : (args : List CType) (i : ℕ) (x : CType) (ns ms : List Name) (n : Name) → i < length args → x ≡ get_or args i x → ms ≡ ns ++ n ∷ [] → n.level ≡ i → option_map a_value n.constant ≡ None → atree n.ty ≡ atype (ctree x) → n.under ≡ 0 → Named (take i args) ns → Named (take (i + 1) args) ms
+pub named_next : (args : List CType) (i : ℕ) (x : CType) (ns ms : List Name) (n : Name) → i < length args → x ≡ get_or args i x → ms ≡ ns ++ n ∷ [] → n.level ≡ i → option_map a_value n.constant ≡ None → kept n.ty ≡ atype (ctree x) → n.under ≡ 0 → Named (take i args) ns → Named (take (i + 1) args) ms
 named_next args i x ns ms n lt x_is ms_is level constant ty under named =
     let more : take (i + 1) args ≡ take i args ++ x ∷ [] = take_more args i x lt ∙ ap (λ y. take i args ++ y ∷ []) (sym x_is) in
     let long : length (take i args) ≡ i = length-take-le i args (omega arith) in

@@ -1,14 +1,12 @@
 -- What a walk adds to the nodes.
-use Rattle.std.specs.Prelude.{◌≡◌, ℕ, suc, List, [], ◌∷◌, ◌++◌, map, option_map, length, Option}
+use Rattle.std.specs.Prelude.{◌≡◌, ◌≤◌, ℕ, suc, List, [], ◌∷◌, ◌++◌, map, option_map, length, Option}
 use Rattle.term_core.specs.Ends.{lift}
 use Rattle.h_terms.specs.H.{HBlks, HVal, HTm}
 use Rattle.h_terms.specs.Nodes.{tied, h_build, h_kids, HArity}
 use Rattle.h_terms.specs.declared.node.HForm.{HForm}
 use Rattle.a_terms.specs.Tree as a
-use Rattle.a_terms.specs.Read.{atree}
 use Rattle.a_terms.specs.NodeTrees.{a_consts, a_data, a_onto, a_value}
 use Rattle.a_terms.specs.Arity.{ARow}
-use Rattle.a_terms.specs.declared.types.AType.{AType}
 use Rattle.a_terms.specs.declared.nodes.AForm.{AForm}
 use Rattle.a_terms.specs.declared.nodes.AValue.{AValue}
 use Rattle.a_terms.specs.declared.nodes.AData.{AData}
@@ -18,7 +16,7 @@ use Rattle.a_pass.specs.declared.state.Name.{Name}
 use Rattle.a_pass.specs.declared.state.Place.{Place}
 use Rattle.a_pass.specs.declared.state.Seen.{Seen}
 use Rattle.a_pass.specs.Scope.{value_at, type_in, constant_in, constants, field_at, onto, knowns, scope, pending}
-use Rattle.a_pass.specs.Scope.{pending_data, Fit}
+use Rattle.a_pass.specs.Scope.{pending_data, typed, Fit}
 
 -- declarations that stand for what `pre` puts before a term
 pub record Emits (old new : List ANode) (pre : a.ATm → a.ATm) : Type 0 where
@@ -62,7 +60,7 @@ abbrev pub tops : List Place → List Place
 tops ps = onto (λ p. p) [] ps
 
 -- one more node, which names something
-pub record Declares (form : AForm) (vs : List AValue) (ty : AType) (value : Option a.AVal) (depth count binders : ℕ)
+pub record Declares (form : AForm) (vs : List AValue) (ty : a.ATy) (value : Option a.AVal) (depth count binders : ℕ)
     (ns ms : List Name) (ps qs : List Place) (old new : List ANode) : Type 0 where
   pub name : Name
   pub place : Place
@@ -71,8 +69,8 @@ pub record Declares (form : AForm) (vs : List AValue) (ty : AType) (value : Opti
   pub places : qs ≡ ps ++ place ∷ []
   pub nodes : new ≡ old ++ node ∷ []
   pub level : name.level ≡ depth
-  pub type : atree name.ty ≡ atree ty
-  pub under : name.under ≡ binders
+  pub type : typed binders name ≡ ty
+  pub under : name.under ≤ binders
   pub constant : option_map a_value name.constant ≡ value
   pub deep : place.depth ≡ suc depth
   pub many : place.names ≡ suc count

@@ -1,9 +1,10 @@
 -- What the walk's state stands for.
-use Rattle.std.specs.Prelude.{◌≡◌, ℕ, zero, suc, ◌-◌, ◌≤◌, List, [], ◌∷◌, slice_get, take, length, map, option_map}
+use Rattle.std.specs.Prelude.{◌≡◌, ℕ, suc, ◌-◌, ◌≤◌, List, [], ◌∷◌, slice_get, take, option_map}
 use Rattle.std.specs.Prelude.{Option, Some, None, Bool, true, false, not, ◌&&◌, ◌++◌}
 use Rattle.h_terms.specs.H.{HTm, HBlks, HVal}
 use Rattle.h_terms.specs.Row.{top, others}
-use Rattle.h_terms.specs.Nodes.{no_term}
+use Rattle.h_terms.specs.Nodes.{h_block, no_term}
+use Rattle.c_terms.specs.Read.{ctree}
 use Rattle.a_terms.specs.Tree as a
 use Rattle.a_terms.specs.Tree.{ashift}
 use Rattle.a_terms.specs.Typing.{or_int}
@@ -12,11 +13,15 @@ use Rattle.a_terms.specs.NodeTrees.{a_value, wrapped}
 use Rattle.a_terms.specs.declared.nodes.ABase.{ABase}
 use Rattle.a_terms.specs.declared.nodes.ABase.TheVariants.{Var, Int, Label, Data}
 use Rattle.a_terms.specs.declared.nodes.AValue.{AValue}
-use Rattle.a_law.specs.Allocate.{Known, all_closed, alloc_t, closed, const_of, is_pack, data_t, is_const, is_some, n_t}
+use Rattle.a_law.specs.Allocate.{Known, all_closed, alloc_t, atype, closed, const_of, h_code, is_pack, data_t, is_const}
+use Rattle.a_law.specs.Allocate.{is_some, n_t}
 use Rattle.a_law.specs.Allocate.{n_v, named, or_zero}
+use Rattle.a_pass.specs.declared.state.Kept.{Kept}
+use Rattle.a_pass.specs.declared.state.Kept.TheVariants as K
 use Rattle.a_pass.specs.declared.state.Name.{Name}
+use Rattle.a_pass.specs.declared.state.Noted.{Noted}
 use Rattle.a_pass.specs.declared.state.Place.{Place}
-use Rattle.a_pass.specs.declared.state.TypeOf.{TypeOf}
+use Rattle.a_pass.specs.declared.state.TypeOf.{TypeOf, Row_of-TypeOf, end_of-TypeOf, more_of-TypeOf}
 use Rattle.a_pass.specs.declared.state.TypeOf.TheVariants as T
 use Rattle.a_pass.specs.declared.state.ConstantOf.{ConstantOf}
 use Rattle.a_pass.specs.declared.state.ConstantOf.TheVariants as C
@@ -45,18 +50,45 @@ known_name n = record { level = n.level; constant = option_map a_value n.constan
 abbrev pub knowns : List Name → List Known
 knowns ns = onto known_name [] ns
 
+-- the type of a name where it was read
+abbrev pub kept : Kept → a.ATy
+kept (K.Made t) = atree t
+kept (K.Lent t) = atype (ctree t.now)
+
 -- a name's type under b type names
 abbrev pub typed : ℕ → Name → a.ATy
-typed b n = ashift (b - n.under) 0 (atree n.ty)
+typed b n = ashift (b - n.under) 0 (kept n.ty)
+
+-- a type that was noted is this one, under b type names
+abbrev pub Stands : ℕ → a.ATy → Noted → Type 0
+Stands b t n = (ashift (b - n.under) 0 (kept n.ty) ≡ t) × (n.under ≤ b)
 
 -- the types of the names, innermost first
 abbrev pub scope : ℕ → List Name → List a.ATy
 scope b ns = onto (typed b) [] ns
 
 -- the type of a value, where g are those of the names
-abbrev pub type_of : List a.ATy → TypeOf → a.ATy
-type_of g (T.Own t) = atree t
-type_of g (T.Name i) = or_int (slice_get g i)
+abbrev mutual
+  pub type_of : List a.ATy → TypeOf → a.ATy
+  type_of g (T.Own t) = atree t
+  type_of g (T.Name i) = or_int (slice_get g i)
+  type_of g (T.Lent t) = atype (ctree t.now)
+  type_of g (T.Code k) = h_code (Some (h_block k.now))
+  type_of g (T.Tuple' n row) = a.ATuple (full_row g row)
+
+  pub full_row : {n : _} → List a.ATy → Row_of-TypeOf n → a.AFields
+  full_row g end_of-TypeOf = a.NoAFields
+  full_row g (more_of-TypeOf t rest) = a.MoreAFields (type_of g t) true (full_row g rest)
+
+-- types of values
+abbrev pub all_of : List a.ATy → List TypeOf → a.ATys
+all_of g [] = a.NoATys
+all_of g (t ∷ ts) = a.MoreATys (type_of g t) (all_of g ts)
+
+-- and as those of fields that are all initialised
+abbrev pub full_of : List a.ATy → List TypeOf → a.AFields
+full_of g [] = a.NoAFields
+full_of g (t ∷ ts) = a.MoreAFields (type_of g t) true (full_of g ts)
 
 abbrev pub type_in : List a.ATy → Seen → a.ATy
 type_in g s = type_of g s.ty

@@ -232,6 +232,22 @@ fn packed(inner: AValue, hidden: AType, shape: AType) -> Result<ConstantOf, OutO
     Ok(ConstantOf::Own(made))
 }
 
+// The same, where the types are still to be made.
+fn packed_types(
+    alloc: Global,
+    inner: AValue,
+    hidden: &CType,
+    shape: &CType,
+) -> Result<ConstantOf, OutOfMemory>
+    ensures { IfOk result (λ r. (ls : List Known) →
+        constant_of ls r ≡ of_pack (atype (ctree hidden.now)) (atype (ctree shape.now)) (Some (a_value inner))) }
+{
+    let hidden = a_type(alloc, hidden)?;
+    let shape = a_type(alloc, shape)?;
+    let made = packed(inner, hidden, shape)?;
+    Ok(made)
+}
+
 // The constant that a value is once it is packed.
 pub(crate) fn packed_constant(
     alloc: Global,
@@ -243,12 +259,10 @@ pub(crate) fn packed_constant(
     ensures { IfOk result (λ r. constant_of (knowns names.now) r ≡
         of_pack (atype (ctree hidden.now)) (atype (ctree shape.now)) (constant_of (knowns names.now) constant)) }
 {
-    let hidden = a_type(alloc, hidden)?;
-    let shape = a_type(alloc, shape)?;
     let value = constant_value(alloc, names, constant)?;
     match value {
         Some(inner) => {
-            let made = packed(inner, hidden, shape)?;
+            let made = packed_types(alloc, inner, hidden, shape)?;
             Ok(made)
         }
         None => Ok(ConstantOf::Open),
@@ -270,11 +284,11 @@ fn constant_field(
     binders: u64,
     field: Seen,
 ) -> Result<(AValue, AType), OutOfMemory>
-    ensures value { IfOk result (λ r. a_value r.0 ≡ or_zero (constant_in (knowns names.now) field)) }
-    ensures kind { IfOk result (λ r. atree r.1 ≡ type_in (scope binders names.now) field) }
+    ensures value { IfOk result (λ r. a_value r.0 ≡ or_zero (constant_in (knowns names.now) field.entry)) }
+    ensures kind { IfOk result (λ r. atree r.1 ≡ type_in (scope binders names.now) field.entry) }
 {
     let Seen { ty, constant } = field;
-    let kind = own(alloc, names, binders, ty)?;
+    let kind = own(alloc, names, binders, &ty)?;
     let value = constant_value(alloc, names, constant)?;
     let value = or_number(alloc, value);
     Ok((value, kind))
@@ -287,7 +301,7 @@ fn constant_fields(
     fields: Vec<Seen>,
 ) -> Result<Vec<(AValue, AType)>, OutOfMemory>
     ensures { IfOk result (λ r. a_consts r.items ≡
-        map (field_at (scope binders names.now) (knowns names.now)) fields.items) }
+        map (field_at (scope binders names.now) (knowns names.now)) fields.entry.items) }
 {
     let mut made = Vec::with_capacity(alloc, fields.len())?;
     for field in fields {
@@ -310,20 +324,20 @@ fn tuple_type(alloc: Global, fields: &[(AValue, AType)]) -> Result<AType, OutOfM
 }
 
 // A data tuple of constants, and the value that names it.
-pub(crate) fn constant_tuple(
+pub(crate) fn constant_tuple<'a>(
     alloc: Global,
     names: &[Name],
     binders: u64,
     fields: Vec<Seen>,
     tuples: &mut Vec<AData>,
-) -> Result<Leaf, OutOfMemory>
+) -> Result<Leaf<'a>, OutOfMemory>
     ensures keeps { OnOk result (Keeps (scope binders names.now)
-        (knowns names.now) fields.items tuples.old.items tuples.new.items) }
+        (knowns names.now) fields.entry.items tuples.old.items tuples.new.items) }
     ensures value { IfOk result (λ r. (d : ℕ) → value_at d r.value ≡ a.Data (length tuples.old.items)) }
     ensures constant { IfOk result (λ r. (ls : List Known) →
         constant_in ls r.seen ≡ Some (a.Data (length tuples.old.items))) }
     ensures ty { IfOk result (λ r. (g : List a.ATy) → type_in g r.seen ≡
-        a.ATuple (data_fields (map (field_at (scope binders names.now) (knowns names.now)) fields.items))) }
+        a.ATuple (data_fields (map (field_at (scope binders names.now) (knowns names.now)) fields.entry.items))) }
 {
     let number = tuples.len() as u64;
     let fields = constant_fields(alloc, names, binders, fields)?;

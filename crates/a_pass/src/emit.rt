@@ -53,7 +53,7 @@ pub(crate) fn after(n: u64) -> Result<u64, OutOfMemory>
 pub(crate) fn content(alloc: Global, value: AValue, depth: u64) -> Result<Vec<AValue>, OutOfMemory>
     ensures { IfOk result (λ r. map a_value r.items ≡ a.Var 0 ∷ value_at depth value ∷ []) }
 {
-    let mut values = Vec::with_capacity(alloc, 1)?;
+    let mut values = Vec::with_capacity(alloc, 2)?;
     values.push(AValue {
         base: ABase::Var(0),
         wraps: Vec::new(alloc),

@@ -5,6 +5,7 @@
 mod constants;
 mod emit;
 mod nodes;
+mod noting;
 mod parts;
 mod program;
 mod run;

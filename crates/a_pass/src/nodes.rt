@@ -1,21 +1,22 @@
 // The nodes of a term, one by one.
 ghost use Rattle.std.specs.Prelude.{◌≡◌, ℕ, suc, List, [], ◌∷◌, true, IfOk, OnOk, Option, None, map, option_map};
-ghost use Rattle.std.specs.Prelude.{length};
+ghost use Rattle.std.specs.Prelude.{◌≤◌, length};
 ghost use Rattle.h_terms.specs.Nodes.{h_blocks, HArity};
 ghost use Rattle.h_terms.specs.Nodes as h;
 ghost use Rattle.h_terms.specs.declared.node.HForm.TheVariants as H;
 ghost use Rattle.a_terms.specs.Tree as a;
 ghost use Rattle.a_terms.specs.Read.{atree};
 ghost use Rattle.a_terms.specs.NodeTrees.{a_value};
-ghost use Rattle.a_pass.specs.Scope.{Under, constant_in, knowns, type_in, value_at};
+ghost use Rattle.a_pass.specs.Scope.{Under, constant_in, knowns, type_in, typed, value_at};
 ghost use Rattle.a_law.specs.Allocate.{Known};
 ghost use Rattle.a_pass.specs.Emits.{Emits, Declares, Ends, Stepped, Steps};
 
 use crate::constants::constant_value;
 use crate::emit::{after, content, malloc, under_all};
+use crate::noting::{body_noted, field_noted, value_noted};
 use crate::run::read;
-use crate::scope::{body_in, field_in, own};
-use crate::state::{Around, ConstantOf, Name, Place, Progress, Run, Seen, TypeOf};
+use crate::scope::own;
+use crate::state::{Around, ConstantOf, Kept, Name, Noted, Place, Progress, Run, Seen, TypeOf};
 use crate::types::a_types;
 use a_terms::parts::set_tuple;
 use a_terms::{ABase, AData, AForm, ANode, AType, AValue};
@@ -25,9 +26,9 @@ use idx_core::{Op, OutOfMemory};
 use std::alloc::Global;
 
 // What is known of the one value of a list.
-fn only(types: Vec<Seen>) -> Seen
-    ensures ty { (g : List a.ATy) (t : a.ATy) → map (type_in g) types.items ≡ t ∷ [] → type_in g result ≡ t }
-    ensures constant { (ls : List Known) (o : Option a.AVal) → map (constant_in ls) types.items ≡ o ∷ [] →
+fn only<'a>(types: Vec<Seen<'a>>) -> Seen<'a>
+    ensures ty { (g : List a.ATy) (t : a.ATy) → map (type_in g) types.entry.items ≡ t ∷ [] → type_in g result ≡ t }
+    ensures constant { (ls : List Known) (o : Option a.AVal) → map (constant_in ls) types.entry.items ≡ o ∷ [] →
         constant_in ls result ≡ o }
 {
     let mut types = types;
@@ -54,21 +55,22 @@ fn only_value(alloc: Global, values: Vec<AValue>) -> AValue
     }
 }
 
-// One more node, which names a value, and the place after it.
-fn declare(
-    form: AForm,
-    values: Vec<AValue>,
-    name: Name,
-    progress: &mut Progress,
+// One more node, which names a value, and the place after it, where there are so many type names.
+fn declare<'a>(
+    node: ANode,
+    name: Name<'a>,
+    binders: u64,
+    progress: &mut Progress<'a>,
     out: &mut Vec<ANode>,
 ) -> Result<(), OutOfMemory>
-    ensures { OnOk result (Declares form values.items name.ty (option_map a_value name.constant) name.level
-        (length progress.old.names.items) name.under progress.old.names.items progress.new.names.items
+    requires { name.under ≤ binders }
+    ensures { OnOk result (Declares node.form node.values.items (typed binders name.entry)
+        (option_map a_value name.entry.constant) name.entry.level
+        (length progress.old.names.items) binders progress.old.names.items progress.new.names.items
         progress.old.places.items progress.new.places.items out.old.items out.new.items) }
 {
     let next = after(name.level)?;
-    let binders = name.under;
-    out.push(ANode { form, values })?;
+    out.push(node)?;
     progress.names.push(name)?;
     let names = progress.names.len();
     progress.places.push(Place {
@@ -86,16 +88,17 @@ fn end(form: AForm, values: Vec<AValue>, out: &mut Vec<ANode>) -> Result<(), Out
     Ok(())
 }
 
-fn name(
+fn name<'a>(
     alloc: Global,
-    run: Run,
+    run: Run<'a>,
     place: Place,
-    progress: &mut Progress,
+    progress: &mut Progress<'a>,
     out: &mut Vec<ANode>,
 ) -> Result<(), OutOfMemory>
     requires names { length progress.old.names.items ≡ place.names }
     requires bound { Under place.binders progress.old.names.items }
-    ensures { OnOk result (Steps place H.Name run.values.items run.types.items run.depth progress.old.names.items
+    ensures { OnOk result (Steps place H.Name run.entry.values.items run.entry.types.items run.entry.depth
+        progress.old.names.items
         progress.new.names.items progress.old.places.items progress.new.places.items out.old.items out.new.items) }
 {
     let Run {
@@ -103,40 +106,41 @@ fn name(
         types,
         depth,
     } = run;
-    let Seen { ty, constant } = only(types);
-    let ty = own(alloc, &progress.names, place.binders, ty)?;
+    let Seen { ty: kind, constant } = only(types);
+    let Noted { ty, under } = value_noted(alloc, &progress.names, place.binders, &kind)?;
     let constant = constant_value(alloc, &progress.names, constant)?;
     let values = under_all(alloc, values, depth)?;
-    declare(
-        AForm::Value,
+    let node = ANode {
+        form: AForm::Value,
         values,
-        Name {
-            level: depth,
-            ty,
-            under: place.binders,
-            constant,
-        },
-        progress,
-        out,
-    )?;
+    };
+    let name = Name {
+        level: depth,
+        ty,
+        under,
+        constant,
+    };
+    declare(node, name, place.binders, progress, out)?;
     Ok(())
 }
 
-fn project(
+fn project<'a>(
     alloc: Global,
     i: u64,
-    run: Run,
+    run: Run<'a>,
     place: Place,
-    progress: &mut Progress,
+    progress: &mut Progress<'a>,
     out: &mut Vec<ANode>,
 ) -> Result<(), OutOfMemory>
     requires names { length progress.old.names.items ≡ place.names }
     requires bound { Under place.binders progress.old.names.items }
     ensures field { OnOk result (Steps place
-        (H.Proj i) run.values.items run.types.items run.depth progress.old.names.items progress.new.names.items
+        (H.Proj i) run.entry.values.items run.entry.types.items run.entry.depth progress.old.names.items
+        progress.new.names.items
         progress.old.places.items progress.new.places.items out.old.items out.new.items) }
     ensures cell { OnOk result (i ≡ 1 →
-        Steps place H.Get run.values.items run.types.items run.depth progress.old.names.items progress.new.names.items
+        Steps place H.Get run.entry.values.items run.entry.types.items run.entry.depth progress.old.names.items
+        progress.new.names.items
         progress.old.places.items progress.new.places.items out.old.items out.new.items) }
 {
     let Run {
@@ -144,35 +148,36 @@ fn project(
         types,
         depth,
     } = run;
-    let ty = field_in(alloc, &progress.names, place.binders, only(types).ty, i)?;
+    let whole = only(types).ty;
+    let Noted { ty, under } = field_noted(alloc, &progress.names, place.binders, &whole, i)?;
     let values = under_all(alloc, values, depth)?;
-    declare(
-        AForm::Proj(i),
+    let node = ANode {
+        form: AForm::Proj(i),
         values,
-        Name {
-            level: depth,
-            ty,
-            under: place.binders,
-            constant: None,
-        },
-        progress,
-        out,
-    )?;
+    };
+    let name = Name {
+        level: depth,
+        ty,
+        under,
+        constant: None,
+    };
+    declare(node, name, place.binders, progress, out)?;
     Ok(())
 }
 
-fn operate(
+fn operate<'a>(
     alloc: Global,
     op: Op,
-    run: Run,
+    run: Run<'a>,
     place: Place,
-    progress: &mut Progress,
+    progress: &mut Progress<'a>,
     out: &mut Vec<ANode>,
 ) -> Result<(), OutOfMemory>
     requires names { length progress.old.names.items ≡ place.names }
     requires bound { Under place.binders progress.old.names.items }
     ensures { OnOk result (Steps place
-        (H.Arith op) run.values.items run.types.items run.depth progress.old.names.items progress.new.names.items
+        (H.Arith op) run.entry.values.items run.entry.types.items run.entry.depth progress.old.names.items
+        progress.new.names.items
         progress.old.places.items progress.new.places.items out.old.items out.new.items) }
 {
     let Run {
@@ -181,31 +186,31 @@ fn operate(
         depth,
     } = run;
     let values = under_all(alloc, values, depth)?;
-    declare(
-        AForm::Arith(op),
+    let node = ANode {
+        form: AForm::Arith(op),
         values,
-        Name {
-            level: depth,
-            ty: AType::Int,
-            under: place.binders,
-            constant: None,
-        },
-        progress,
-        out,
-    )?;
+    };
+    let name = Name {
+        level: depth,
+        ty: Kept::Made(AType::Int),
+        under: place.binders,
+        constant: None,
+    };
+    declare(node, name, place.binders, progress, out)?;
     Ok(())
 }
 
-fn unpack(
+fn unpack<'a>(
     alloc: Global,
-    run: Run,
+    run: Run<'a>,
     place: Place,
-    progress: &mut Progress,
+    progress: &mut Progress<'a>,
     out: &mut Vec<ANode>,
 ) -> Result<(), OutOfMemory>
     requires names { length progress.old.names.items ≡ place.names }
     requires bound { Under place.binders progress.old.names.items }
-    ensures { OnOk result (Steps place H.Unpack run.values.items run.types.items run.depth progress.old.names.items
+    ensures { OnOk result (Steps place H.Unpack run.entry.values.items run.entry.types.items run.entry.depth
+        progress.old.names.items
         progress.new.names.items progress.old.places.items progress.new.places.items out.old.items out.new.items) }
 {
     let Run {
@@ -214,20 +219,20 @@ fn unpack(
         depth,
     } = run;
     let inner = after(place.binders)?;
-    let ty = body_in(alloc, &progress.names, place.binders, only(types).ty)?;
+    let whole = only(types).ty;
+    let Noted { ty, under } = body_noted(alloc, &progress.names, place.binders, &whole, inner)?;
     let values = under_all(alloc, values, depth)?;
-    declare(
-        AForm::Unpack,
+    let node = ANode {
+        form: AForm::Unpack,
         values,
-        Name {
-            level: depth,
-            ty,
-            under: inner,
-            constant: None,
-        },
-        progress,
-        out,
-    )?;
+    };
+    let name = Name {
+        level: depth,
+        ty,
+        under,
+        constant: None,
+    };
+    declare(node, name, inner, progress, out)?;
     Ok(())
 }
 
@@ -244,16 +249,17 @@ fn one_field(alloc: Global, ty: AType, out: &mut Vec<ANode>) -> Result<AType, Ou
     Ok(cell)
 }
 
-fn cell(
+fn cell<'a>(
     alloc: Global,
-    run: Run,
+    run: Run<'a>,
     place: Place,
-    progress: &mut Progress,
+    progress: &mut Progress<'a>,
     out: &mut Vec<ANode>,
 ) -> Result<(), OutOfMemory>
     requires names { length progress.old.names.items ≡ place.names }
     requires bound { Under place.binders progress.old.names.items }
-    ensures { OnOk result (Steps place H.Cell run.values.items run.types.items run.depth progress.old.names.items
+    ensures { OnOk result (Steps place H.Cell run.entry.values.items run.entry.types.items run.entry.depth
+        progress.old.names.items
         progress.new.names.items progress.old.places.items progress.new.places.items out.old.items out.new.items) }
 {
     let Run {
@@ -261,22 +267,22 @@ fn cell(
         types,
         depth,
     } = run;
-    let ty = own(alloc, &progress.names, place.binders, only(types).ty)?;
+    let kind = only(types).ty;
+    let ty = own(alloc, &progress.names, place.binders, &kind)?;
     let whole = one_field(alloc, ty, out)?;
     let newest = after(depth)?;
     let values = content(alloc, only_value(alloc, values), newest)?;
-    declare(
-        AForm::Init(1),
+    let node = ANode {
+        form: AForm::Init(1),
         values,
-        Name {
-            level: newest,
-            ty: whole,
-            under: place.binders,
-            constant: None,
-        },
-        progress,
-        out,
-    )?;
+    };
+    let name = Name {
+        level: newest,
+        ty: Kept::Made(whole),
+        under: place.binders,
+        constant: None,
+    };
+    declare(node, name, place.binders, progress, out)?;
     Ok(())
 }
 
@@ -300,16 +306,17 @@ fn assign(
     Ok(next)
 }
 
-fn set(
+fn set<'a>(
     alloc: Global,
-    run: Run,
+    run: Run<'a>,
     place: Place,
-    progress: &mut Progress,
+    progress: &mut Progress<'a>,
     out: &mut Vec<ANode>,
 ) -> Result<(), OutOfMemory>
     requires names { length progress.old.names.items ≡ place.names }
     requires bound { Under place.binders progress.old.names.items }
-    ensures { OnOk result (Steps place H.Set run.values.items run.types.items run.depth progress.old.names.items
+    ensures { OnOk result (Steps place H.Set run.entry.values.items run.entry.types.items run.entry.depth
+        progress.old.names.items
         progress.new.names.items progress.old.places.items progress.new.places.items out.old.items out.new.items) }
 {
     let Run {
@@ -321,18 +328,17 @@ fn set(
     let room = Vec::new(alloc);
     let none = set_tuple(alloc, &room)?;
     let empty = Vec::new(alloc);
-    declare(
-        AForm::Malloc(room),
-        empty,
-        Name {
-            level: next,
-            ty: none,
-            under: place.binders,
-            constant: None,
-        },
-        progress,
-        out,
-    )?;
+    let node = ANode {
+        form: AForm::Malloc(room),
+        values: empty,
+    };
+    let name = Name {
+        level: next,
+        ty: Kept::Made(none),
+        under: place.binders,
+        constant: None,
+    };
+    declare(node, name, place.binders, progress, out)?;
     Ok(())
 }
 
@@ -347,33 +353,45 @@ fn call(
     requires names { length progress.now.names.items ≡ place.names }
     requires bound { Under place.binders progress.now.names.items }
     ensures { OnOk result (Steps place
-        (H.Call types.now) run.values.items run.types.items run.depth progress.now.names.items progress.now.names.items
+        (H.Call types.now) run.entry.values.items run.entry.types.items run.entry.depth progress.now.names.items
+        progress.now.names.items
         progress.now.places.items progress.now.places.items out.old.items out.new.items) }
 {
+    let Run {
+        values,
+        types: _,
+        depth,
+    } = run;
     let types = a_types(alloc, types)?;
-    let values = under_all(alloc, run.values, run.depth)?;
+    let values = under_all(alloc, values, depth)?;
     end(AForm::Call(types), values, out)?;
     Ok(())
 }
 
-fn choose(
+fn choose<'a>(
     alloc: Global,
-    run: Run,
+    run: Run<'a>,
     place: Place,
-    progress: &mut Progress,
+    progress: &mut Progress<'a>,
     out: &mut Vec<ANode>,
 ) -> Result<(), OutOfMemory>
     requires names { length progress.old.names.items ≡ place.names }
     requires bound { Under place.binders progress.old.names.items }
-    ensures { OnOk result (Steps place H.If0 run.values.items run.types.items run.depth progress.old.names.items
+    ensures { OnOk result (Steps place H.If0 run.entry.values.items run.entry.types.items run.entry.depth
+        progress.old.names.items
         progress.new.names.items progress.old.places.items progress.new.places.items out.old.items out.new.items) }
 {
+    let Run {
+        values,
+        types: _,
+        depth,
+    } = run;
     let branch = Place {
-        depth: run.depth,
+        depth,
         names: place.names,
         binders: place.binders,
     };
-    let values = under_all(alloc, run.values, run.depth)?;
+    let values = under_all(alloc, values, depth)?;
     end(AForm::If0, values, out)?;
     progress.places.push(branch)?;
     progress.places.push(branch)?;
@@ -389,26 +407,33 @@ fn halt(
 ) -> Result<(), OutOfMemory>
     requires names { length progress.now.names.items ≡ place.names }
     requires bound { Under place.binders progress.now.names.items }
-    ensures { OnOk result (Steps place H.Halt run.values.items run.types.items run.depth progress.now.names.items
+    ensures { OnOk result (Steps place H.Halt run.entry.values.items run.entry.types.items run.entry.depth
+        progress.now.names.items
         progress.now.names.items progress.now.places.items progress.now.places.items out.old.items out.new.items) }
 {
-    let values = under_all(alloc, run.values, run.depth)?;
+    let Run {
+        values,
+        types: _,
+        depth,
+    } = run;
+    let values = under_all(alloc, values, depth)?;
     end(AForm::Halt, values, out)?;
     Ok(())
 }
 
 // What a node of this form does, once its values are read.
-fn form(
+fn form<'a>(
     alloc: Global,
     form: &HForm,
-    run: Run,
+    run: Run<'a>,
     place: Place,
-    progress: &mut Progress,
+    progress: &mut Progress<'a>,
     out: &mut Vec<ANode>,
 ) -> Result<(), OutOfMemory>
     requires names { length progress.old.names.items ≡ place.names }
     requires bound { Under place.binders progress.old.names.items }
-    ensures { OnOk result (Steps place form.now run.values.items run.types.items run.depth progress.old.names.items
+    ensures { OnOk result (Steps place form.now run.entry.values.items run.entry.types.items run.entry.depth
+        progress.old.names.items
         progress.new.names.items progress.old.places.items progress.new.places.items out.old.items out.new.items) }
 {
     match form {
@@ -425,12 +450,12 @@ fn form(
     }
 }
 
-pub(crate) fn step(
+pub(crate) fn step<'a>(
     alloc: Global,
-    blocks: &[HBlock],
-    node: &HNode,
+    blocks: &'a [HBlock],
+    node: &'a HNode,
     place: Place,
-    progress: &mut Progress,
+    progress: &mut Progress<'a>,
     tuples: &mut Vec<AData>,
     out: &mut Vec<ANode>,
 ) -> Result<(), OutOfMemory>

@@ -10,25 +10,26 @@ ghost use Rattle.a_terms.specs.NodeTrees as tree;
 ghost use Rattle.a_law.specs.Allocate.{Known, atype, atypes};
 ghost use Rattle.a_terms.specs.declared.nodes.AData.{AData};
 ghost use Rattle.a_terms.specs.declared.nodes.ANode.{ANode};
-ghost use Rattle.a_pass.specs.Scope.{value_at, constant_in, knowns, of_apply, of_pack, scope, type_in, types_in};
+ghost use Rattle.a_pass.specs.Scope.{value_at, constant_in, knowns, of_apply, of_pack, scope, type_in, type_of};
+ghost use Rattle.a_pass.specs.Scope.{types_in};
 ghost use Rattle.a_pass.specs.Emits.{Emits, Reads, inits};
 
 use crate::constants::{all_constants, applied_constant, constant_tuple, packed_constant};
 use crate::emit::{after, fill, malloc};
-use crate::scope::{int_leaf, label, own, own_all, plain, variable_leaf};
+use crate::scope::{int_leaf, kinds_of, label, own, own_all, plain, variable_leaf};
 use crate::state::{Around, ConstantOf, Leaf, Name, Run, Seen, TypeOf};
 use crate::types::{a_type, a_types};
-use a_terms::parts::{apply_all, known, set_tuple};
+use a_terms::parts::{apply_all, known};
 use a_terms::{ABase, AData, ANode, AType, AValue, AWrap};
 use c_terms::CType;
 use h_terms::HPart;
 use idx_core::OutOfMemory;
 use std::alloc::Global;
 
-fn push_leaf(run: Run, leaf: Leaf) -> Result<Run, OutOfMemory>
-    ensures values { IfOk result (λ r. r.values.items ≡ run.values.items ++ leaf.value ∷ []) }
-    ensures types { IfOk result (λ r. r.types.items ≡ run.types.items ++ leaf.seen ∷ []) }
-    ensures depth { IfOk result (λ r. r.depth ≡ run.depth) }
+fn push_leaf<'a>(run: Run<'a>, leaf: Leaf<'a>) -> Result<Run<'a>, OutOfMemory>
+    ensures values { IfOk result (λ r. r.values.items ≡ run.entry.values.items ++ leaf.entry.value ∷ []) }
+    ensures types { IfOk result (λ r. r.types.items ≡ run.entry.types.items ++ leaf.entry.seen ∷ []) }
+    ensures depth { IfOk result (λ r. r.depth ≡ run.entry.depth) }
 {
     let mut run = run;
     run.values.push(leaf.value)?;
@@ -36,7 +37,7 @@ fn push_leaf(run: Run, leaf: Leaf) -> Result<Run, OutOfMemory>
     Ok(run)
 }
 
-fn pop_leaf(run: &mut Run) -> Option<Leaf>
+fn pop_leaf<'a>(run: &mut Run<'a>) -> Option<Leaf<'a>>
     ensures values { MatchOption result ((run.old.values.items ≡ []) × (run.new.values.items ≡ []))
         (λ l. run.old.values.items ≡ run.new.values.items ++ l.value ∷ []) }
     ensures types { MatchOption result ((run.old.types.items ≡ []) × (run.new.types.items ≡ []))
@@ -70,33 +71,59 @@ fn applied(alloc: Global, code: AType, ts: &[AType]) -> Result<AType, OutOfMemor
     Ok(known(made))
 }
 
-fn apply_leaf(alloc: Global, around: &Around, ts: &[CType], leaf: Leaf) -> Result<Leaf, OutOfMemory>
+// The type of what has this one and is applied to types. Where there are none it is the same.
+fn applied_kind<'a>(
+    alloc: Global,
+    around: &Around,
+    ty: TypeOf<'a>,
+    ts: &[AType],
+) -> Result<TypeOf<'a>, OutOfMemory>
+    ensures { IfOk result (λ r.
+        let g = scope around.now.binders around.now.names.now in
+        type_of g r ≡ or_int (aapply (type_of g ty.entry) (atrees ts.now))) }
+{
+    if ts.len() == 0 {
+        return Ok(ty);
+    }
+    let code = own(alloc, around.names, around.binders, &ty)?;
+    let made = applied(alloc, code, ts)?;
+    Ok(TypeOf::Own(made))
+}
+
+fn apply_leaf<'a>(
+    alloc: Global,
+    around: &Around,
+    ts: &[CType],
+    leaf: Leaf<'a>,
+) -> Result<Leaf<'a>, OutOfMemory>
     ensures value { IfOk result (λ r. (d : ℕ) →
-        value_at d r.value ≡ a.Apply (value_at d leaf.value) (atypes (ctys ts.now))) }
-    ensures ty { IfOk result (λ r. (g : List a.ATy) →
-        let code = type_in (scope around.now.binders around.now.names.now) leaf.seen in
-        type_in g r.seen ≡ or_int (aapply code (atypes (ctys ts.now)))) }
+        value_at d r.value ≡ a.Apply (value_at d leaf.entry.value) (atypes (ctys ts.now))) }
+    ensures ty { IfOk result (λ r.
+        let g = scope around.now.binders around.now.names.now in
+        type_in g r.seen ≡ or_int (aapply (type_in g leaf.entry.seen) (atypes (ctys ts.now)))) }
     ensures constant { IfOk result (λ r. (ls : List Known) →
-        constant_in ls r.seen ≡ of_apply (atypes (ctys ts.now)) (value_at 0 leaf.value)) }
+        constant_in ls r.seen ≡ of_apply (atypes (ctys ts.now)) (value_at 0 leaf.entry.value)) }
 {
     let Leaf { value, seen } = leaf;
     let args = a_types(alloc, ts)?;
-    let code = own(alloc, around.names, around.binders, seen.ty)?;
-    let ty = applied(alloc, code, &args)?;
+    let ty = applied_kind(alloc, around, seen.ty, &args)?;
     let constant = applied_constant(alloc, &value, &args)?;
     let value = wrap(value, AWrap::Apply(args))?;
-    let seen = Seen {
-        ty: TypeOf::Own(ty),
-        constant,
-    };
+    let seen = Seen { ty, constant };
     Ok(Leaf { value, seen })
 }
 
 // The newest value is applied to types.
-fn apply(alloc: Global, around: &Around, ts: &[CType], run: Run) -> Result<Run, OutOfMemory>
+fn apply<'a>(
+    alloc: Global,
+    around: &Around,
+    ts: &[CType],
+    run: Run<'a>,
+) -> Result<Run<'a>, OutOfMemory>
     ensures { IfOk result (λ r. (ks : HBlks) (ls : List Known) (out : List ANode) (tuples : List AData) →
         Reads ks (scope around.now.binders around.now.names.now) ls (at_last (λ v. HApply v (ctys ts.now)))
-        run.values.items run.types.items run.depth out tuples r.values.items r.types.items r.depth out tuples) }
+        run.entry.values.items run.entry.types.items run.entry.depth out tuples r.values.items r.types.items r.depth
+        out tuples) }
 {
     let mut run = run;
     let Some(leaf) = pop_leaf(&mut run) else {
@@ -107,43 +134,42 @@ fn apply(alloc: Global, around: &Around, ts: &[CType], run: Run) -> Result<Run, 
     Ok(made)
 }
 
-fn pack_leaf(
+fn pack_leaf<'a>(
     alloc: Global,
     names: &[Name],
     hidden: &CType,
-    shape: &CType,
-    leaf: Leaf,
-) -> Result<Leaf, OutOfMemory>
+    shape: &'a CType,
+    leaf: Leaf<'a>,
+) -> Result<Leaf<'a>, OutOfMemory>
     ensures value { IfOk result (λ r. (d : ℕ) → value_at d r.value ≡
-        a.Pack (atype (ctree hidden.now)) (value_at d leaf.value) (atype (ctree shape.now))) }
+        a.Pack (atype (ctree hidden.now)) (value_at d leaf.entry.value) (atype (ctree shape.now))) }
     ensures ty { IfOk result (λ r. (g : List a.ATy) → type_in g r.seen ≡ atype (ctree shape.now)) }
     ensures constant { IfOk result (λ r. constant_in (knowns names.now) r.seen ≡
-        of_pack (atype (ctree hidden.now)) (atype (ctree shape.now)) (constant_in (knowns names.now) leaf.seen)) }
+        of_pack (atype (ctree hidden.now)) (atype (ctree shape.now)) (constant_in (knowns names.now)
+        leaf.entry.seen)) }
 {
     let Leaf { value, seen } = leaf;
-    let ty = a_type(alloc, shape)?;
     let constant = packed_constant(alloc, names, seen.constant, hidden, shape)?;
+    let ty = TypeOf::Lent(shape);
     let hidden = a_type(alloc, hidden)?;
     let shape = a_type(alloc, shape)?;
     let value = wrap(value, AWrap::Pack { hidden, shape })?;
-    let seen = Seen {
-        ty: TypeOf::Own(ty),
-        constant,
-    };
+    let seen = Seen { ty, constant };
     Ok(Leaf { value, seen })
 }
 
 // The newest value is packed.
-fn pack(
+fn pack<'a>(
     alloc: Global,
     names: &[Name],
     hidden: &CType,
-    shape: &CType,
-    run: Run,
-) -> Result<Run, OutOfMemory>
+    shape: &'a CType,
+    run: Run<'a>,
+) -> Result<Run<'a>, OutOfMemory>
     ensures { IfOk result (λ r. (ks : HBlks) (g : List a.ATy) (out : List ANode) (tuples : List AData) →
         Reads ks g (knowns names.now) (at_last (λ v. HPack (ctree hidden.now) v (ctree shape.now)))
-        run.values.items run.types.items run.depth out tuples r.values.items r.types.items r.depth out tuples) }
+        run.entry.values.items run.entry.types.items run.entry.depth out tuples r.values.items r.types.items r.depth
+        out tuples) }
 {
     let mut run = run;
     let Some(leaf) = pop_leaf(&mut run) else {
@@ -155,47 +181,49 @@ fn pack(
 }
 
 // A tuple of this level that is made and filled, and what is known of it.
-fn made_tuple(
+fn made_tuple<'a>(
     alloc: Global,
     around: &Around,
     fields: Vec<AValue>,
-    seen: Vec<Seen>,
+    seen: Vec<Seen<'a>>,
     depth: u64,
     out: &mut Vec<ANode>,
-) -> Result<(Leaf, u64), OutOfMemory>
+) -> Result<(Leaf<'a>, u64), OutOfMemory>
     ensures emits { OnOk result ((room : a.ATys) →
-        types_in (scope around.now.binders around.now.names.now) seen.items ≡ room → Emits out.old.items out.new.items
+        types_in (scope around.now.binders around.now.names.now) seen.entry.items ≡ room → Emits out.old.items
+        out.new.items
         (λ r. a.Let (a.Malloc room) (inits depth 1 fields.items r))) }
     ensures level { IfOk result (λ r. r.1 ≡ depth + length fields.items) }
     ensures value { IfOk result (λ r. (e : ℕ) → value_at e r.0.value ≡ a.Var (e - suc r.1)) }
-    ensures ty { IfOk result (λ r. (g : List a.ATy) →
-        type_in g r.0.seen ≡ a.ATuple (aset (types_in (scope around.now.binders around.now.names.now) seen.items))) }
+    ensures ty { IfOk result (λ r. (g : List a.ATy) → type_in g r.0.seen ≡ a.ATuple (aset (types_in g
+        seen.entry.items))) }
     ensures constant { IfOk result (λ r. (ls : List Known) → constant_in ls r.0.seen ≡ None) }
 {
-    let room = own_all(alloc, around.names, around.binders, seen)?;
-    let ty = set_tuple(alloc, &room)?;
+    let kinds = kinds_of(alloc, seen)?;
+    let room = own_all(alloc, around.names, around.binders, &kinds)?;
     malloc(alloc, room, out)?;
     let level = fill(alloc, fields, depth, out)?;
     let value = plain(alloc, ABase::Var(level));
     let seen = Seen {
-        ty: TypeOf::Own(ty),
+        ty: TypeOf::Tuple(kinds),
         constant: ConstantOf::Open,
     };
     Ok((Leaf { value, seen }, level))
 }
 
 // The newest n values become a tuple: a data tuple where all are constants.
-fn tuple(
+fn tuple<'a>(
     alloc: Global,
     around: &Around,
     n: u64,
-    run: Run,
+    run: Run<'a>,
     tuples: &mut Vec<AData>,
     out: &mut Vec<ANode>,
-) -> Result<Run, OutOfMemory>
+) -> Result<Run<'a>, OutOfMemory>
     ensures { IfOk result (λ r. (ks : HBlks) →
         Reads ks (scope around.now.binders around.now.names.now) (knowns around.now.names.now) (tupled n)
-        run.values.items run.types.items run.depth out.old.items tuples.old.items r.values.items r.types.items
+        run.entry.values.items run.entry.types.items run.entry.depth out.old.items tuples.old.items r.values.items
+        r.types.items
         r.depth out.new.items tuples.new.items) }
 {
     let mut run = run;
@@ -215,17 +243,18 @@ fn tuple(
 }
 
 // One more part.
-pub(crate) fn part(
+pub(crate) fn part<'a>(
     alloc: Global,
-    around: &Around,
-    part: &HPart,
-    run: Run,
+    around: &Around<'_, 'a>,
+    part: &'a HPart,
+    run: Run<'a>,
     tuples: &mut Vec<AData>,
     out: &mut Vec<ANode>,
-) -> Result<Run, OutOfMemory>
+) -> Result<Run<'a>, OutOfMemory>
     ensures { IfOk result (λ r. Reads (h_blocks around.now.blocks.now)
         (scope around.now.binders around.now.names.now) (knowns around.now.names.now) (more part.now)
-        run.values.items run.types.items run.depth out.old.items tuples.old.items r.values.items r.types.items
+        run.entry.values.items run.entry.types.items run.entry.depth out.old.items tuples.old.items r.values.items
+        r.types.items
         r.depth out.new.items tuples.new.items) }
 {
     match part {
@@ -238,8 +267,7 @@ pub(crate) fn part(
             Ok(made)
         }
         HPart::Label(l) => {
-            let leaf = label(alloc, around.blocks, *l)?;
-            let made = push_leaf(run, leaf)?;
+            let made = push_leaf(run, label(alloc, around.blocks, *l))?;
             Ok(made)
         }
         HPart::Tuple(n) => tuple(alloc, around, *n, run, tuples, out),

@@ -12,7 +12,7 @@ use idx_core::OutOfMemory;
 use std::alloc::Global;
 
 // No values yet, where there are so many variables.
-fn none_read(alloc: Global, depth: u64) -> Run
+fn none_read<'a>(alloc: Global, depth: u64) -> Run<'a>
     ensures values { result.values.items ≡ [] }
     ensures types { result.types.items ≡ [] }
     ensures depth { result.depth ≡ depth }
@@ -25,14 +25,14 @@ fn none_read(alloc: Global, depth: u64) -> Run
 }
 
 // The values of a node, where there are so many variables before; what makes their tuples is written before.
-pub(crate) fn read(
+pub(crate) fn read<'a>(
     alloc: Global,
-    around: &Around,
-    parts: &[HPart],
+    around: &Around<'_, 'a>,
+    parts: &'a [HPart],
     depth: u64,
     tuples: &mut Vec<AData>,
     out: &mut Vec<ANode>,
-) -> Result<Run, OutOfMemory>
+) -> Result<Run<'a>, OutOfMemory>
     ensures { IfOk result (λ r. Made (h_blocks around.now.blocks.now)
         (scope around.now.binders around.now.names.now) (knowns around.now.names.now) (length tuples.old.items) depth
         (reads [] parts.now) out.old.items tuples.old.items r.values.items r.types.items r.depth out.new.items

@@ -1,20 +1,20 @@
 // What stands for a variable and a label, and the types of values.
-ghost use Rattle.std.specs.Prelude.{◌≡◌, ℕ, List, IfOk, MatchOption, Some, None, map, slice_get};
+ghost use Rattle.std.specs.Prelude.{◌≡◌, ◌≤◌, ℕ, List, IfOk, MatchOption, Some, None, map, slice_get};
 ghost use Rattle.h_terms.specs.H.{block_at};
-ghost use Rattle.h_terms.specs.Nodes.{h_blocks};
+ghost use Rattle.h_terms.specs.Nodes.{h_block, h_blocks};
 ghost use Rattle.a_terms.specs.Tree as a;
-ghost use Rattle.a_terms.specs.Read.{atree};
+ghost use Rattle.a_terms.specs.Read.{atree, atrees, afields};
 ghost use Rattle.a_terms.specs.NodeTrees as tree;
 ghost use Rattle.a_terms.specs.NodeTrees.{a_value};
-ghost use Rattle.a_terms.specs.Typing.{or_int, field_of as the_field_of, body_of as the_body_of};
+ghost use Rattle.a_terms.specs.Typing.{or_int};
+ghost use Rattle.a_terms.specs.Tree.{ashift};
 ghost use Rattle.a_law.specs.Allocate.{Known, var_of, h_code, level_of, named};
 ghost use Rattle.a_pass.specs.Scope.{value_at, base_at, constant_in, knowns, known_name, scope, type_in, type_of};
-ghost use Rattle.a_pass.specs.Scope.{typed};
+ghost use Rattle.a_pass.specs.Scope.{all_of, full_of, kept, typed, Under};
 
-use crate::state::{ConstantOf, Leaf, Name, Seen, TypeOf};
-use crate::types::a_types;
-use a_terms::parts::{body_of, field_of};
-use a_terms::walks::shift_type;
+use crate::state::{ConstantOf, Kept, Leaf, Name, Seen, TypeOf};
+use crate::types::{a_type, a_type_under, a_types};
+use a_terms::walks::{copy, shift_type};
 use a_terms::{ABase, AType, AValue};
 use h_terms::HBlock;
 use idx_core::OutOfMemory;
@@ -31,11 +31,12 @@ pub(crate) fn plain(alloc: Global, base: ABase) -> AValue
 }
 
 // Name i, 0 the innermost.
-pub(crate) fn name_at(names: &[Name], i: u64) -> Option<&Name>
+pub(crate) fn name_at<'b, 'a>(names: &'b [Name<'a>], i: u64) -> Option<&'b Name<'a>>
     ensures known { MatchOption result (slice_get (knowns names.now) i ≡ None)
         (λ n. slice_get (knowns names.now) i ≡ Some (known_name n.now)) }
     ensures ty { MatchOption result ((b : ℕ) → slice_get (scope b names.now) i ≡ None)
         (λ n. (b : ℕ) → slice_get (scope b names.now) i ≡ Some (typed b n.now)) }
+    ensures under { MatchOption result (Unit {0}) (λ n. (b : ℕ) → Under b names.now → n.now.under ≤ b) }
 {
     let count = names.len();
     if i < count as u64 {
@@ -56,7 +57,7 @@ fn variable(alloc: Global, names: &[Name], i: u64) -> AValue
 }
 
 // Name i as a value.
-pub(crate) fn variable_leaf(alloc: Global, names: &[Name], i: u64) -> Leaf
+pub(crate) fn variable_leaf<'a>(alloc: Global, names: &[Name], i: u64) -> Leaf<'a>
     ensures value { (d : ℕ) → value_at d result.value ≡ var_of d (level_of (slice_get (knowns names.now) i)) }
     ensures ty { (g : List a.ATy) → type_in g result.seen ≡ or_int (slice_get g i) }
     ensures constant { (ls : List Known) → constant_in ls result.seen ≡ named (slice_get ls i) }
@@ -70,7 +71,7 @@ pub(crate) fn variable_leaf(alloc: Global, names: &[Name], i: u64) -> Leaf
 }
 
 // An integer as a value.
-pub(crate) fn int_leaf(alloc: Global, n: i64) -> Leaf
+pub(crate) fn int_leaf<'a>(alloc: Global, n: i64) -> Leaf<'a>
     ensures value { (d : ℕ) → value_at d result.value ≡ a.Num n }
     ensures ty { (g : List a.ATy) → type_in g result.seen ≡ a.AInt }
     ensures constant { (ls : List Known) → constant_in ls result.seen ≡ Some (a.Num n) }
@@ -83,33 +84,53 @@ pub(crate) fn int_leaf(alloc: Global, n: i64) -> Leaf
     Leaf { value, seen }
 }
 
-pub(crate) fn label(alloc: Global, blocks: &[HBlock], l: u64) -> Result<Leaf, OutOfMemory>
-    ensures value { IfOk result (λ r. (d : ℕ) → value_at d r.value ≡ a.Lab l) }
-    ensures ty { IfOk result (λ r. (g : List a.ATy) → type_in g r.seen ≡ h_code (block_at (h_blocks blocks.now) l)) }
-    ensures constant { IfOk result (λ r. (ls : List Known) → constant_in ls r.seen ≡ Some (a.Lab l)) }
+pub(crate) fn label<'a>(alloc: Global, blocks: &'a [HBlock], l: u64) -> Leaf<'a>
+    ensures value { (d : ℕ) → value_at d result.value ≡ a.Lab l }
+    ensures ty { (g : List a.ATy) → type_in g result.seen ≡ h_code (block_at (h_blocks blocks.now) l) }
+    ensures constant { (ls : List Known) → constant_in ls result.seen ≡ Some (a.Lab l) }
 {
     let value = plain(alloc, ABase::Label(l));
-    let ty = code_type(alloc, blocks, l)?;
-    let seen = Seen {
-        ty: TypeOf::Own(ty),
-        constant: ConstantOf::Own(plain(alloc, ABase::Label(l))),
-    };
-    Ok(Leaf { value, seen })
+    let ty = type_at(blocks, l);
+    let constant = ConstantOf::Own(plain(alloc, ABase::Label(l)));
+    let seen = Seen { ty, constant };
+    Leaf { value, seen }
 }
 
 // The type of the code at a label.
-fn code_type(alloc: Global, blocks: &[HBlock], l: u64) -> Result<AType, OutOfMemory>
-    ensures { IfOk result (λ r. atree r ≡ h_code (block_at (h_blocks blocks.now) l)) }
+fn type_at<'a>(blocks: &'a [HBlock], l: u64) -> TypeOf<'a>
+    ensures { (g : List a.ATy) → type_of g result ≡ h_code (block_at (h_blocks blocks.now) l) }
 {
     if l < blocks.len() as u64 {
-        let block = &blocks[l as usize];
-        let args = a_types(alloc, &block.args)?;
-        Ok(AType::Code {
-            owes: block.owes,
-            args,
-        })
+        TypeOf::Code(&blocks[l as usize])
     } else {
-        Ok(AType::Int)
+        TypeOf::Own(AType::Int)
+    }
+}
+
+// The type of a block's code.
+fn code_type(alloc: Global, block: &HBlock) -> Result<AType, OutOfMemory>
+    ensures { IfOk result (λ r. atree r ≡ h_code (Some (h_block block.now))) }
+{
+    let args = a_types(alloc, &block.args)?;
+    Ok(AType::Code {
+        owes: block.owes,
+        args,
+    })
+}
+
+// The type of a name, under `by` more names.
+fn shown_kept(alloc: Global, ty: &Kept, by: u64) -> Result<AType, OutOfMemory>
+    ensures { IfOk result (λ r. atree r ≡ ashift by 0 (kept ty.now)) }
+{
+    match ty {
+        Kept::Made(t) => {
+            let made = shift_type(alloc, t, by, 0)?;
+            Ok(made)
+        }
+        Kept::Lent(t) => {
+            let made = a_type_under(alloc, t, by, 0)?;
+            Ok(made)
+        }
     }
 }
 
@@ -120,39 +141,7 @@ fn shown(alloc: Global, names: &[Name], binders: u64, i: u64) -> Result<AType, O
     match name_at(names, i) {
         Some(name) => {
             let by = binders.saturating_sub(name.under);
-            let made = shift_type(alloc, &name.ty, by, 0)?;
-            Ok(made)
-        }
-        None => Ok(AType::Int),
-    }
-}
-
-fn shown_field(
-    alloc: Global,
-    names: &[Name],
-    binders: u64,
-    i: u64,
-    field: u64,
-) -> Result<AType, OutOfMemory>
-    ensures { IfOk result (λ r. atree r ≡ the_field_of field (Some (or_int (slice_get (scope binders names.now) i)))) }
-{
-    match name_at(names, i) {
-        Some(name) => {
-            let by = binders.saturating_sub(name.under);
-            let made = field_of(alloc, &name.ty, field, by)?;
-            Ok(made)
-        }
-        None => Ok(AType::Int),
-    }
-}
-
-fn shown_body(alloc: Global, names: &[Name], binders: u64, i: u64) -> Result<AType, OutOfMemory>
-    ensures { IfOk result (λ r. atree r ≡ the_body_of (Some (or_int (slice_get (scope binders names.now) i)))) }
-{
-    match name_at(names, i) {
-        Some(name) => {
-            let by = binders.saturating_sub(name.under);
-            let made = body_of(alloc, &name.ty, by)?;
+            let made = shown_kept(alloc, &name.ty, by)?;
             Ok(made)
         }
         None => Ok(AType::Int),
@@ -160,27 +149,54 @@ fn shown_body(alloc: Global, names: &[Name], binders: u64, i: u64) -> Result<ATy
 }
 
 // The type itself.
+#[cycle(owning)]
 pub(crate) fn own(
     alloc: Global,
     names: &[Name],
     binders: u64,
-    ty: TypeOf,
+    ty: &TypeOf,
 ) -> Result<AType, OutOfMemory>
-    ensures { IfOk result (λ r. atree r ≡ type_of (scope binders names.now) ty) }
+    ensures { IfOk result (λ r. atree r ≡ type_of (scope binders names.now) ty.now) }
 {
     match ty {
-        TypeOf::Own(t) => Ok(t),
-        TypeOf::Name(i) => {
-            let made = shown(alloc, names, binders, i)?;
+        TypeOf::Own(t) => {
+            let made = copy(alloc, t)?;
             Ok(made)
+        }
+        TypeOf::Name(i) => {
+            let made = shown(alloc, names, binders, *i)?;
+            Ok(made)
+        }
+        TypeOf::Lent(t) => {
+            let made = a_type(alloc, t)?;
+            Ok(made)
+        }
+        TypeOf::Code(block) => {
+            let made = code_type(alloc, block)?;
+            Ok(made)
+        }
+        TypeOf::Tuple(kinds) => {
+            let fields = own_fields(alloc, names, binders, kinds)?;
+            Ok(AType::Tuple(fields))
         }
     }
 }
 
-fn own_type(alloc: Global, names: &[Name], binders: u64, seen: Seen) -> Result<AType, OutOfMemory>
-    ensures { IfOk result (λ r. atree r ≡ type_in (scope binders names.now) seen) }
+// The fields of a tuple of these types, all initialised.
+#[cycle(owning)]
+fn own_fields(
+    alloc: Global,
+    names: &[Name],
+    binders: u64,
+    kinds: &[TypeOf],
+) -> Result<Vec<(AType, bool)>, OutOfMemory>
+    ensures { IfOk result (λ r. afields r.items ≡ full_of (scope binders names.now) kinds.now) }
 {
-    let made = own(alloc, names, binders, seen.ty)?;
+    let mut made = Vec::with_capacity(alloc, kinds.len())?;
+    for kind in kinds {
+        let one = own(alloc, names, binders, kind)?;
+        made.push((one, true))?;
+    }
     Ok(made)
 }
 
@@ -189,57 +205,35 @@ pub(crate) fn own_all(
     alloc: Global,
     names: &[Name],
     binders: u64,
-    types: Vec<Seen>,
+    kinds: &[TypeOf],
 ) -> Result<Vec<AType>, OutOfMemory>
-    ensures { IfOk result (λ r. map atree r.items ≡ map (type_in (scope binders names.now)) types.items) }
+    ensures { IfOk result (λ r. atrees r.items ≡ all_of (scope binders names.now) kinds.now) }
 {
-    let mut made = Vec::with_capacity(alloc, types.len())?;
-    for ty in types {
-        let one = own_type(alloc, names, binders, ty)?;
+    let mut made = Vec::with_capacity(alloc, kinds.len())?;
+    for kind in kinds {
+        let one = own(alloc, names, binders, kind)?;
         made.push(one)?;
     }
     Ok(made)
 }
 
-// Field `field` of a tuple's type, from 1 on.
-pub(crate) fn field_in(
-    alloc: Global,
-    names: &[Name],
-    binders: u64,
-    ty: TypeOf,
-    field: u64,
-) -> Result<AType, OutOfMemory>
-    ensures { IfOk result (λ r. atree r ≡ the_field_of field (Some (type_of (scope binders names.now) ty))) }
+fn kind_of(seen: Seen) -> TypeOf
+    ensures { (g : List a.ATy) → type_of g result ≡ type_in g seen.entry }
 {
-    match ty {
-        TypeOf::Own(t) => {
-            let made = field_of(alloc, &t, field, 0)?;
-            Ok(made)
-        }
-        TypeOf::Name(i) => {
-            let made = shown_field(alloc, names, binders, i, field)?;
-            Ok(made)
-        }
-    }
+    let Seen { ty, .. } = seen;
+    ty
 }
 
-// What a package's type hides.
-pub(crate) fn body_in(
+// The types of what is known.
+pub(crate) fn kinds_of<'a>(
     alloc: Global,
-    names: &[Name],
-    binders: u64,
-    ty: TypeOf,
-) -> Result<AType, OutOfMemory>
-    ensures { IfOk result (λ r. atree r ≡ the_body_of (Some (type_of (scope binders names.now) ty))) }
+    types: Vec<Seen<'a>>,
+) -> Result<Vec<TypeOf<'a>>, OutOfMemory>
+    ensures { IfOk result (λ r. (g : List a.ATy) → map (type_of g) r.items ≡ map (type_in g) types.entry.items) }
 {
-    match ty {
-        TypeOf::Own(t) => {
-            let made = body_of(alloc, &t, 0)?;
-            Ok(made)
-        }
-        TypeOf::Name(i) => {
-            let made = shown_body(alloc, names, binders, i)?;
-            Ok(made)
-        }
+    let mut made = Vec::with_capacity(alloc, types.len())?;
+    for ty in types {
+        made.push(kind_of(ty))?;
     }
+    Ok(made)
 }

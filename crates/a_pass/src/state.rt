@@ -2,15 +2,30 @@
 ghost use Rattle.std.specs.Prelude.{◌≡◌, length};
 
 use a_terms::{AType, AValue};
+use c_terms::CType;
 use h_terms::HBlock;
+
+/// The type of a name: one that was made, or as allocation leaves a type that stands in the hoisted program.
+#[derive(Drop)]
+pub enum Kept<'a> {
+    Made(AType),
+    Lent(&'a CType),
+}
+
+/// A type, and how many type names there were when it was read.
+#[derive(Drop)]
+pub struct Noted<'a> {
+    pub ty: Kept<'a>,
+    pub under: u64,
+}
 
 /// A name of the hoisted term: the level of its variable in the allocated one, its type as allocation leaves it, how
 /// many type names there were when that type was read, and the value of the constant that it names, if it names one.
 /// The type is shifted where it is needed; the value of a constant has no free type names.
 #[derive(Drop)]
-pub struct Name {
+pub struct Name<'a> {
     pub level: u64,
-    pub ty: AType,
+    pub ty: Kept<'a>,
     pub under: u64,
     pub constant: Option<AValue>,
 }
@@ -26,17 +41,20 @@ pub struct Place {
 
 /// How far the walk over a term has come: the names so far, and the places that are still to come, the next one last.
 #[derive(Drop)]
-pub struct Progress {
-    pub names: Vec<Name>,
+pub struct Progress<'a> {
+    pub names: Vec<Name<'a>>,
     pub places: Vec<Place>,
 }
 
-/// The type of a value: its own, or that of a name, 0 the innermost. A name's type is copied only where it is needed,
-/// and a projection copies one field of it.
+/// The type of a value: its own, or that of a name, 0 the innermost, or as allocation leaves a type of the hoisted
+/// program or that of a block's code, or a tuple of types, all initialised. It is made only where it is needed.
 #[derive(Drop)]
-pub enum TypeOf {
+pub enum TypeOf<'a> {
     Own(AType),
     Name(u64),
+    Lent(&'a CType),
+    Code(&'a HBlock),
+    Tuple(Vec<TypeOf<'a>>),
 }
 
 /// The constant that a value is: none, its own, or that of a name, 0 the innermost, if that one names a constant.
@@ -49,23 +67,23 @@ pub enum ConstantOf {
 
 /// What is known of a value: its type, and the constant that it is.
 #[derive(Drop)]
-pub struct Seen {
-    pub ty: TypeOf,
+pub struct Seen<'a> {
+    pub ty: TypeOf<'a>,
     pub constant: ConstantOf,
 }
 
 /// A value, its variable by its level, and what is known of it.
 #[derive(Drop)]
-pub struct Leaf {
+pub struct Leaf<'a> {
     pub value: AValue,
-    pub seen: Seen,
+    pub seen: Seen<'a>,
 }
 
 /// Values that were read, their variables by level, what is known of each, and how many variables there are then.
 #[derive(Drop)]
-pub struct Run {
+pub struct Run<'a> {
     pub values: Vec<AValue>,
-    pub types: Vec<Seen>,
+    pub types: Vec<Seen<'a>>,
     pub depth: u64,
     ghost even: { length types.items ≡ length values.items },
 }
@@ -73,8 +91,8 @@ pub struct Run {
 /// What is around a value that is read: the blocks that its labels name, the names of its term, and how many type
 /// names there are.
 #[derive(Clone, Copy, Drop)]
-pub struct Around<'a> {
+pub struct Around<'b, 'a> {
     pub blocks: &'a [HBlock],
-    pub names: &'a [Name],
+    pub names: &'b [Name<'a>],
     pub binders: u64,
 }

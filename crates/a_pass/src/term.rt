@@ -9,29 +9,28 @@ ghost use Rattle.a_law.specs.Allocate.{alloc_t, arg_levels, arg_depth, atypes, d
 ghost use Rattle.a_pass.specs.Scope.{knowns, scope, Under};
 
 use crate::nodes::step;
-use crate::state::{Name, Place, Progress};
-use crate::types::a_type;
+use crate::state::{Kept, Name, Place, Progress};
 use a_terms::{AData, ANode};
 use c_terms::CType;
 use h_terms::{HBlock, HNode};
 use idx_core::OutOfMemory;
 use std::alloc::Global;
 
-fn walk(
+fn walk<'a>(
     alloc: Global,
-    blocks: &[HBlock],
-    nodes: &[HNode],
-    names: Vec<Name>,
+    blocks: &'a [HBlock],
+    nodes: &'a [HNode],
+    names: Vec<Name<'a>>,
     depth: u64,
     tuples: &mut Vec<AData>,
 ) -> Result<Vec<ANode>, OutOfMemory>
     requires one { HRow nodes.now 1 }
     requires bound { Under 0 names.items }
-    ensures tree { IfOk result (λ r. a_tree r.items ≡ alloc_t (h_blocks blocks.now) (scope 0 names.items)
-        (knowns names.items) (length tuples.old.items) depth (h_tree nodes.now)) }
+    ensures tree { IfOk result (λ r. a_tree r.items ≡ alloc_t (h_blocks blocks.now) (scope 0 names.entry.items)
+        (knowns names.entry.items) (length tuples.old.items) depth (h_tree nodes.now)) }
     ensures keeps { OnOk result (a_data tuples.new.items ≡ a_data tuples.old.items ++
-        data_t (h_blocks blocks.now) (scope 0 names.items)
-        (knowns names.items) (length tuples.old.items) depth (h_tree nodes.now)) }
+        data_t (h_blocks blocks.now) (scope 0 names.entry.items)
+        (knowns names.entry.items) (length tuples.old.items) depth (h_tree nodes.now)) }
     ensures one { IfOk result (λ r. ARow r.items 1) }
 {
     let mut out = Vec::new(alloc);
@@ -53,7 +52,7 @@ fn walk(
 }
 
 // The names of the arguments, which have the first knowns.
-fn arguments(alloc: Global, args: &[CType]) -> Result<Vec<Name>, OutOfMemory>
+fn arguments<'a>(alloc: Global, args: &'a [CType]) -> Result<Vec<Name<'a>>, OutOfMemory>
     ensures knowns { IfOk result (λ r. knowns r.items ≡ arg_levels 0 [] (ctys args.now)) }
     ensures scope { IfOk result (λ r. scope 0 r.items ≡ types_of (atypes (ctys args.now)) []) }
     ensures depth { IfOk result (λ r. length r.items ≡ arg_depth 0 (ctys args.now)) }
@@ -61,10 +60,9 @@ fn arguments(alloc: Global, args: &[CType]) -> Result<Vec<Name>, OutOfMemory>
 {
     let mut names = Vec::new(alloc);
     for (level, arg) in args.iter().enumerate() {
-        let ty = a_type(alloc, arg)?;
         names.push(Name {
             level: level as u64,
-            ty,
+            ty: Kept::Lent(arg),
             under: 0,
             constant: None,
         })?;
@@ -73,11 +71,11 @@ fn arguments(alloc: Global, args: &[CType]) -> Result<Vec<Name>, OutOfMemory>
 }
 
 // The body of a block with these arguments.
-pub(crate) fn body(
+pub(crate) fn body<'a>(
     alloc: Global,
-    blocks: &[HBlock],
-    args: &[CType],
-    nodes: &[HNode],
+    blocks: &'a [HBlock],
+    args: &'a [CType],
+    nodes: &'a [HNode],
     tuples: &mut Vec<AData>,
 ) -> Result<Vec<ANode>, OutOfMemory>
     requires one { HRow nodes.now 1 }

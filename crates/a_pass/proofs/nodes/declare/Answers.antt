@@ -1,17 +1,17 @@
-use Rattle.std.proofs.Common.{◌≡◌, refl, rules, suc}
+use Rattle.std.proofs.Common.{refl, rules}
 use Rattle.a_pass.proofs.nodes.declare.Goals as goal
 
 pub returns : goal.returns
 returns c = record {
   name = c.args.name;
-  place = record { depth = c.in_ok-next.next; names = c.len-names.result; binders = c.args.name.under };
-  node = record { form = c.args.form; values = c.args.values };
+  place = record { depth = c.in_ok-next.next; names = c.len-names.result; binders = c.args.binders };
+  node = c.args.node;
   names = c.in_ok-push-2.ensures.items;
   places = c.in_ok-push-3.ensures.items;
   nodes = c.in_ok-push.ensures.items;
   level = refl;
   type = refl;
-  under = refl;
+  under = c.requires;
   constant = refl;
   deep = c.in_ok-next.ensures;
   many = search rules;

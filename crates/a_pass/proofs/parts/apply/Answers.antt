@@ -5,7 +5,7 @@ use Rattle.a_terms.specs.Tree as a
 use Rattle.a_terms.specs.Typing.{aapply, or_int}
 use Rattle.a_law.specs.Allocate.{atypes}
 use Rattle.a_pass.specs.Scope.{of_apply, scope}
-use Rattle.a_pass.proofs.Steps.{apply_const, reads_deep, reads_wrap, reads_no_wrap}
+use Rattle.a_pass.proofs.Steps.{apply_const, reads_deep, reads_wrap}
 use Rattle.a_pass.proofs.parts.apply.Goals as goal
 
 pub returns : goal.returns
@@ -17,4 +17,4 @@ returns c = λ ks ls out tuples.
     (λ d v. refl) (λ b v. refl) (λ b v. refl) (λ b d v r. refl) (λ b d e v. refl) (λ v. refl) (λ b d v. apply_const ls us b d v)
     _ _ _ _ _ _ c.args.run.depth out tuples c.in-Some.leaf.value c.in_ok-leaf.leaf.value c.in-Some.leaf.seen c.in_ok-leaf.leaf.seen
     c.in-Some.ensures.values c.in_ok-made.ensures.values c.in-Some.ensures.types c.in_ok-made.ensures.types
-    c.in_ok-leaf.ensures.value (c.in_ok-leaf.ensures.ty _) (c.in_ok-leaf.ensures.constant ls))
+    c.in_ok-leaf.ensures.value c.in_ok-leaf.ensures.ty (c.in_ok-leaf.ensures.constant ls))

@@ -1,16 +1,19 @@
-use Rattle.std.proofs.Common.{◌≡◌, length, rules}
-use Rattle.std.specs.Vec.Iter.{into_iter_items}
-use Rattle.a_terms.specs.Read.{atree}
-use Rattle.a_pass.specs.Scope.{scope, type_in}
-use Rattle.a_pass.proofs.Emitting.{nothing}
-use Rattle.a_pass.proofs.Runs.{mapped_step, mapped_end}
+use Rattle.std.proofs.Common.{ap, ◌∙◌}
+use Rattle.std.proofs.lemmas.List.{take_all}
+use Rattle.a_terms.specs.Read.{atrees}
+use Rattle.a_pass.specs.Scope.{all_of, scope}
+use Rattle.a_pass.proofs.TypeLists.{all_push}
 use Rattle.a_pass.proofs.scope.own_all.Goals as goal
 
-pub loop-ty-preserved : goal.loop-ty-preserved
-loop-ty-preserved c =
-    mapped_step atree (type_in (scope c.args.binders c.args.names.now)) c.loop-ty.made.items _ c.in_ok-one.one _ _ c.in-Some.ty _ c.in-Some.ensures.steps.0 c.in_ok-push.ensures.items c.in_ok-one.ensures c.loop-ty.invariant
+pub loop-kind-init : goal.loop-kind-init
+loop-kind-init c = ap atrees c.in_ok-made.ensures.items
+
+pub loop-kind-preserved : goal.loop-kind-preserved
+loop-kind-preserved c =
+    all_push (scope c.args.binders c.args.names.now) _ _ c.args.kinds.now c.loop-kind.kind-index c.kind-item.result _
+    c.loop-kind-test.true c.kind-item.is c.in_ok-push.ensures.items c.in_ok-one.ensures c.loop-kind.invariant
 
 pub returns : goal.returns
 returns c =
-    let zero : length (into_iter_items c.loop-ty.ty-iterator) ≡ 0 = search rules in
-    mapped_end atree (type_in (scope c.args.binders c.args.names.now)) c.loop-ty.made.items _ _ (nothing _ zero) c.loop-ty.invariant
+    c.loop-kind.invariant ∙ ap (all_of (scope c.args.binders c.args.names.now)) (take_all c.loop-kind.kind-index
+    c.args.kinds.now c.loop-kind-test.false)

@@ -1,8 +1,7 @@
-use Rattle.std.proofs.Common.{◌≡◌, ◌++◌, map}
-use Rattle.std.specs.Vec.Iter.{into_iter_items}
-use Rattle.a_terms.specs.Read.{atree}
-use Rattle.a_pass.specs.Scope.{scope, type_in}
+use Rattle.std.proofs.Common.{◌≡◌, take}
+use Rattle.a_terms.specs.Read.{atrees}
+use Rattle.a_pass.specs.Scope.{all_of, scope}
 use Rattle.a_pass.proofs.scope.own_all.Given as goal
 
-abbrev pub invariant-loop-ty : goal.invariant-loop-ty
-invariant-loop-ty l = map atree l.made.items ++ map (type_in (scope l.binders l.names)) (into_iter_items l.ty-iterator) ≡ map (type_in (scope l.binders l.names)) l.fn.types.items
+abbrev pub invariant-loop-kind : goal.invariant-loop-kind
+invariant-loop-kind l = atrees l.made.items ≡ all_of (scope l.binders l.names) (take l.kind-index l.kinds)

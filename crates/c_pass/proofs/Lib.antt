@@ -2,3 +2,4 @@ pub mod Lists
 pub mod Bounding
 pub mod Joins
 pub mod Meant
+pub mod Telling

@@ -1,14 +1,14 @@
 // What is to be known of a code.
-ghost use Rattle.std.specs.Prelude.{◌≡◌, IfOk};
+ghost use Rattle.std.specs.Prelude.{◌≡◌, cond, IfOk};
 ghost use Rattle.k_terms.specs.K.{TKCode};
 ghost use Rattle.k_terms.specs.Read.{ktree, ktys};
-ghost use Rattle.c_terms.specs.C.{TCTuple, MoreCTys};
+ghost use Rattle.c_terms.specs.C.{TCInt, TCTuple, NoCTys, MoreCTys};
 ghost use Rattle.c_terms.specs.Read.{ctree, ctys};
 ghost use Rattle.c_law.specs.Close as L;
 ghost use Rattle.c_walk.specs.Know as W;
 ghost use Rattle.c_emit.specs.Read.{info};
 ghost use Rattle.c_free.specs.Names.{side};
-ghost use Rattle.c_pass.specs.Read.{bounds, var_of, info_parts, side_from};
+ghost use Rattle.c_pass.specs.Read.{bounds, var_of, info_parts, side_from, told};
 
 use crate::bounds::bound_levels;
 use crate::state::{Bound, Header};
@@ -72,7 +72,53 @@ fn arguments(alloc: Global, env: CType, args: &[KType], g: &Side) -> Result<Vec<
     Ok(made)
 }
 
-/// What is to be known of a code whose type variables stand in it where `g` says, in what is around it where `f` says.
+// The types of a code's closure, inside it.
+#[derive(Drop)]
+struct Inside {
+    apply: Vec<CType>,
+    hidden: CType,
+    shape: CType,
+}
+
+// The types of a code's closure inside it, where its own name is used; where it is not, nobody looks at them.
+fn closure_inside(
+    alloc: Global,
+    header: &Header,
+    found: &Found,
+    xs: &[Bound],
+    g: &Side,
+) -> Result<Inside, OutOfMemory>
+    requires { ktree header.now.own_type.now ≡ TKCode header.now.owes (ktys header.now.args.now) }
+    ensures apply { IfOk result (λ r. ctys r.apply.items ≡
+        cond found.now.own (W.variables (W.outer_var (side g.now)) header.now.depth (side g.now).kept) NoCTys) }
+    ensures hidden { IfOk result (λ r. ctree r.hidden ≡
+        cond found.now.own (TCTuple (W.bound_types (W.outer_var (side g.now)) header.now.depth (bounds xs.now)
+        found.now.kept.list.items)) TCInt) }
+    ensures shape { IfOk result (λ r. ctree r.shape ≡
+        cond found.now.own (L.ctype (W.outer_var (side g.now)) (TKCode header.now.owes (ktys header.now.args.now)))
+        TCInt) }
+{
+    if found.own {
+        let depth = header.depth;
+        let hidden = env(alloc, xs, &found.kept.list, depth, g, true)?;
+        let shape = closed(alloc, header.own_type, g, true, 0)?;
+        let apply = variables(alloc, &g.kept.list, depth, g, true)?;
+        Ok(Inside {
+            apply,
+            hidden,
+            shape,
+        })
+    } else {
+        Ok(Inside {
+            apply: Vec::new(alloc),
+            hidden: CType::Int,
+            shape: CType::Int,
+        })
+    }
+}
+
+/// What the last walk is told of a code whose type variables stand in it where `g` says, in what is around it where `f`
+/// says.
 pub fn info_from(
     alloc: Global,
     header: &Header,
@@ -83,20 +129,23 @@ pub fn info_from(
 ) -> Result<Info, OutOfMemory>
     requires { ktree header.now.own_type.now ≡ TKCode header.now.owes (ktys header.now.args.now) }
     ensures { IfOk result
-        (λ r. info r ≡ info_parts header.now.depth header.now.owes (ktys header.now.args.now) found.kept.list.items
-        found.own (bounds xs.now) (side f.now) (side g.now)) }
+        (λ r. info r ≡ told (info_parts header.now.depth header.now.owes (ktys header.now.args.now)
+        found.kept.list.items found.own (bounds xs.now) (side f.now) (side g.now))) }
 {
+    let inner = closure_inside(alloc, header, &found, xs, g)?;
     let Found { kept, own } = found;
     let depth = header.depth;
     let hidden = env(alloc, xs, &kept.list, depth, f, false)?;
     let shape = closed(alloc, header.own_type, f, false, 0)?;
     let apply = variables(alloc, &g.kept.list, depth, f, false)?;
-    let hidden_in = env(alloc, xs, &kept.list, depth, g, true)?;
-    let shape_in = closed(alloc, header.own_type, g, true, 0)?;
-    let apply_in = variables(alloc, &g.kept.list, depth, g, true)?;
     let first = env(alloc, xs, &kept.list, depth, g, true)?;
     let args = arguments(alloc, first, header.args, g)?;
     let owes = sum(header.owes, g.kept.list.len() as u64)?;
+    let Inside {
+        apply: apply_in,
+        hidden: hidden_in,
+        shape: shape_in,
+    } = inner;
     Ok(Info {
         kept,
         own,

@@ -8,7 +8,8 @@ ghost use Rattle.c_law.specs.Close as L;
 ghost use Rattle.c_walk.specs.Know as W;
 ghost use Rattle.c_walk.specs.Walks.{top_side};
 ghost use Rattle.c_free.specs.Names.{side, joined};
-ghost use Rattle.c_pass.specs.Read.{Binds, bounds, clue, clues_of, total, opened_total, called_total};
+ghost use Rattle.c_pass.specs.Read.{Binds, bounds, clue, clues_of, told_known};
+ghost use Rattle.c_pass.specs.Read.{total, opened_total, called_total};
 
 use crate::bounds::{bind, bind_all};
 use crate::info::{info_from, side_of};
@@ -206,9 +207,10 @@ impl Knowledge {
     }
 }
 
-/// What is to be known of the codes, and of the calls and packages, in the order of the nodes.
+/// What the last walk is told of the codes, and of the calls and packages, in the order of the nodes.
 pub fn know(alloc: Global, nodes: &[KNode], clues: VecDeque<Clue>) -> Result<Knowledge, OutOfMemory>
-    ensures { IfOk result (λ r. total r [] ≡ W.know (map knode nodes.now) [] top_side [] (clues_of clues.items)) }
+    ensures { IfOk result
+        (λ r. total r [] ≡ told_known (W.know (map knode nodes.now) [] top_side [] (clues_of clues.items))) }
 {
     let side = Side {
         depth: 0,

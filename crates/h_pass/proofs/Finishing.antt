@@ -1,7 +1,7 @@
 -- The walk along a whole program.
-use Rattle.std.proofs.Common.{◌≡◌, ◌<◌, ◌≤◌, ◌+◌, ℕ, List, [], ◌∷◌, None, sym, ap, ◌∙◌, subst, subst₂, length, drop, get_or}
+use Rattle.std.proofs.Common.{◌≡◌, List, [], ◌∷◌, None, sym, ap, ◌∙◌, subst, subst₂, length, refl, arith}
 use Rattle.std.proofs.Math.Logic.{∥∥₁_map}
-use Rattle.std.proofs.lemmas.List.{append-nil, drop_more, drop_all}
+use Rattle.std.proofs.lemmas.List.{append-nil}
 use Rattle.c_terms.specs.Stream as S
 use Rattle.c_terms.specs.declared.node.CNode.{CNode}
 use Rattle.h_terms.specs.declared.node.HBlock.{HBlock}
@@ -24,24 +24,28 @@ use Rattle.h_pass.specs.Walk.{Ends, Goes, Steps, Walked, program_of}
 pub fine_of : (t : CTm) (ns : List CNode) → hoisted (clin_t 0 t []) ≡ whole t → written ns [] ≡ clin_t 0 t [] → IsFine (written ns [])
 fine_of t ns kept read = ap (λ (r : Found). r.fine) (ap hoisted read ∙ kept)
 
+ended : (ns : List CNode) → length ns ≡ 0 → ns ≡ []
+ended [] h = refl
+ended (n ∷ ns) h = absurd (omega (arith, h))
+
 program_is : (t : CTm) (ns : List CNode) → hoisted (clin_t 0 t []) ≡ whole t → written ns [] ≡ clin_t 0 t [] → program_of (written ns []) ≡ (blocks_of t, main_of t)
 program_is t ns kept read =
     ap (λ (r : Found). (r.blocks, top no_term r.terms)) (ap hoisted read ∙ kept) ∙ ap (λ (ks : HBlks). (ks, main_of t)) (append-nil (blocks_of t))
 
 -- one node more
-pub goes_on : (ns : List CNode) (i : ℕ) (n : CNode) (w v : Walk) (p : HBlks × HTm) → i < length ns → n ≡ get_or ns i n → Steps w (cnode n) v →
-    Walked w (written (drop i ns) []) p → Walked v (written (drop (i + 1) ns) []) p
-goes_on ns i n w v p lt is step st =
-    let left : drop i ns ≡ n ∷ drop (i + 1) ns = drop_more ns i n lt ∙ ap (λ m. m ∷ drop (i + 1) ns) (sym is) in
-    step (written (drop (i + 1) ns) []) p (subst (λ xs. Walked w (written xs []) p) left st)
+pub goes_on : (ms ns : List CNode) (n : CNode) (w v : Walk) (p : HBlks × HTm) → ms ≡ n ∷ ns → Steps w (cnode n) v →
+    Walked w (written ms []) p → Walked v (written ns []) p
+goes_on ms ns n w v p left step st = step (written ns []) p (subst (λ xs. Walked w (written xs []) p) left st)
 
 -- no node is left
-pub hoisted_whole : (t : CTm) (ns : List CNode) (i : ℕ) (w v : Walk) → hoisted (clin_t 0 t []) ≡ whole t → written ns [] ≡ clin_t 0 t [] → length ns ≤ i →
-    Walked w (written (drop i ns) []) (program_of (written ns [])) → v.current.call ≡ None → ((rest : List S.CNd) → Ends rest → Goes w rest v rest) →
+pub hoisted_whole : (t : CTm) (ns rest : List CNode) (w v : Walk) → hoisted (clin_t 0 t []) ≡ whole t →
+    written ns [] ≡ clin_t 0 t [] → length rest ≡ 0 →
+    Walked w (written rest []) (program_of (written ns [])) → v.current.call ≡ None →
+    ((rest : List S.CNd) → Ends rest → Goes w rest v rest) →
     Whole v.blocks.items v.current.nodes.items (blocks_of t, main_of t)
-hoisted_whole t ns i w v kept read past st none goes =
-    let left : drop i ns ≡ [] = drop_all i ns past in
-    at_end w v (drop i ns) (blocks_of t, main_of t) left (subst (Walked w (written (drop i ns) [])) (program_is t ns kept read) st) none goes
+hoisted_whole t ns rest w v kept read past st none goes =
+    at_end w v rest (blocks_of t, main_of t) (ended rest past)
+    (subst (Walked w (written rest [])) (program_is t ns kept read) st) none goes
 
 pub bound_of : (t : CTm) (bs : List HBlock) (ns : List HNode) → Whole bs ns (blocks_of t, main_of t) → (CBound t → HBound (blocks_of t) (main_of t)) → ∥ CBound t ∥₁ → ∥ HBound (h_blocks bs) (h_tree ns) ∥₁
 bound_of t bs ns all fits b = subst₂ (λ ks m. ∥ HBound ks m ∥₁) (sym all.blocks) (sym all.main) (∥∥₁_map b fits)

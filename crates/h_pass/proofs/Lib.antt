@@ -1,3 +1,4 @@
+pub mod Copying
 pub mod Spots
 pub mod Hoisting
 pub mod Types

@@ -1,13 +1,12 @@
 // The walk along the nodes of a closed term.
 ghost use Rattle.std.specs.Prelude.{◌≡◌, ℕ, List, [], ◌∷◌, None, IfOk, OnOk};
 ghost use Rattle.c_terms.specs.Stream as S;
-ghost use Rattle.c_terms.specs.Read.{ctree, ctys, cnode};
+ghost use Rattle.c_terms.specs.Read.{ctys, cnode};
 ghost use Rattle.h_pass.specs.Walk.{Goes, Steps, Declares, IsPart, Ends};
 
 use crate::parts::{deepen, depth, hole, name, put, put_body, shorten};
 use crate::state::{Open, Walk};
 use c_terms::{CNode, CType};
-use h_terms::copying::{copy_type, copy_types};
 use h_terms::{HBlock, HForm, HPart};
 use idx_core::OutOfMemory;
 use std::alloc::Global;
@@ -16,25 +15,28 @@ use std::mem;
 
 impl Walk {
     // One more node.
-    pub(crate) fn step(&mut self, alloc: Global, node: &CNode) -> Result<(), OutOfMemory>
-        ensures { OnOk result (Steps self.old (cnode node.now) self.new) }
+    pub(crate) fn step(&mut self, alloc: Global, node: CNode) -> Result<(), OutOfMemory>
+        ensures { OnOk result (Steps self.old (cnode node) self.new) }
     {
         match node {
-            CNode::Var(level) => self.variable(*level),
-            CNode::Int(n) => self.part(HPart::Int(*n)),
-            CNode::Tuple(count) => self.part(HPart::Tuple(*count)),
-            CNode::Code { owes, args } => self.begin(alloc, *owes, args),
+            CNode::Var(level) => self.variable(level),
+            CNode::Int(n) => self.part(HPart::Int(n)),
+            CNode::Tuple(count) => self.part(HPart::Tuple(count)),
+            CNode::Code { owes, args } => self.begin(alloc, owes, args),
             CNode::End => self.end(alloc),
-            CNode::Apply(types) => self.apply(alloc, types),
-            CNode::Pack { hidden, shape } => self.pack(alloc, hidden, shape),
+            CNode::Apply(types) => self.part(HPart::Apply(types)),
+            CNode::Pack { hidden, shape } => self.part(HPart::Pack { hidden, shape }),
             CNode::Name(_) => self.declare(alloc, HForm::Name),
-            CNode::Proj { level: _, field } => self.declare(alloc, HForm::Proj(*field)),
-            CNode::Arith { level: _, op } => self.declare(alloc, HForm::Arith(*op)),
+            CNode::Proj { level: _, field } => self.declare(alloc, HForm::Proj(field)),
+            CNode::Arith { level: _, op } => self.declare(alloc, HForm::Arith(op)),
             CNode::Unpack(_) => self.declare(alloc, HForm::Unpack),
             CNode::Cell(_) => self.declare(alloc, HForm::Cell),
             CNode::Get(_) => self.declare(alloc, HForm::Get),
             CNode::Set(_) => self.declare(alloc, HForm::Set),
-            CNode::Call { types, count: _ } => self.call(alloc, types),
+            CNode::Call { types, count: _ } => {
+                self.call(types);
+                Ok(())
+            }
             CNode::If0 => self.choose(alloc),
             CNode::Else => self.turn(alloc),
             CNode::Halt => self.halt(alloc),
@@ -59,38 +61,14 @@ impl Walk {
         Ok(())
     }
 
-    // The value before it, applied to types.
-    fn apply(&mut self, alloc: Global, types: &[CType]) -> Result<(), OutOfMemory>
-        ensures { OnOk result (Steps self.old (S.MApply (ctys types.now)) self.new) }
-    {
-        let types = copy_types(alloc, types)?;
-        self.part(HPart::Apply(types))?;
-        Ok(())
-    }
-
-    // The value before it, as a package.
-    fn pack(&mut self, alloc: Global, hidden: &CType, shape: &CType) -> Result<(), OutOfMemory>
-        ensures { OnOk result (Steps self.old (S.MPack (ctree hidden.now) (ctree shape.now)) self.new) }
-    {
-        let hidden = copy_type(alloc, hidden)?;
-        let shape = copy_type(alloc, shape)?;
-        self.part(HPart::Pack { hidden, shape })?;
-        Ok(())
-    }
-
     // A code begins: its label is the next number, and stands where the code stood.
-    fn begin(&mut self, alloc: Global, owes: u64, args: &[CType]) -> Result<(), OutOfMemory>
-        ensures { OnOk result (Steps self.old (S.MCode owes (ctys args.now)) self.new) }
+    fn begin(&mut self, alloc: Global, owes: u64, args: Vec<CType>) -> Result<(), OutOfMemory>
+        ensures { OnOk result (Steps self.old (S.MCode owes (ctys args.items)) self.new) }
     {
         let label = self.blocks.len() as u64;
-        let params = copy_types(alloc, args)?;
-        let count = params.len() as u64 + 1;
+        let count = args.len() as u64 + 1;
         let body = hole(alloc)?;
-        self.blocks.push(HBlock {
-            owes,
-            args: params,
-            body,
-        })?;
+        self.blocks.push(HBlock { owes, args, body })?;
         put(&mut self.current.parts, HPart::Label(label))?;
         let mut depths = VecDeque::new(alloc);
         depths.push_front(count)?;
@@ -136,12 +114,10 @@ impl Walk {
     }
 
     // A call, whose arguments follow.
-    fn call(&mut self, alloc: Global, types: &[CType]) -> Result<(), OutOfMemory>
-        ensures { OnOk result ((count : ℕ) → Steps self.old (S.MCall (ctys types.now) count) self.new) }
+    fn call(&mut self, types: Vec<CType>)
+        ensures { (count : ℕ) → Steps self.old (S.MCall (ctys types.items) count) self.new }
     {
-        let types = copy_types(alloc, types)?;
         self.current.call = Some(types);
-        Ok(())
     }
 
     // The call that waits has its arguments.

@@ -6,7 +6,7 @@ use Rattle.c_pass.proofs.Bounding.{lift_add}
 use Rattle.k_terms.specs.Read.{ktys}
 use Rattle.c_terms.specs.Read.{ctree, ctys}
 use Rattle.c_free.specs.Names.{side}
-use Rattle.c_pass.specs.Read.{bounds, info_parts}
+use Rattle.c_pass.specs.Read.{bounds, info_parts, told}
 use Rattle.c_pass.proofs.Bounding.{packed_same}
 use Rattle.c_pass.proofs.info.info_from.Goals as goal
 
@@ -16,16 +16,20 @@ returns c =
     let xs = bounds c.args.xs.now in
     let f = side c.args.f.now in
     let g = side c.args.g.now in
-    let j = info_parts h.depth h.owes (ktys h.args.now) c.args.found.kept.list.items c.args.found.own xs f g in
+    let j = told (info_parts h.depth h.owes (ktys h.args.now) c.args.found.kept.list.items c.args.found.own xs f g) in
     let n : c.len.result ≡ length c.args.g.now.kept.list.items = search rules in
     packed_same c.args.found.kept.list.items c.args.found.own
-    (ctree c.in_ok-hidden.hidden) (ctree c.in_ok-shape.shape) (ctys c.in_ok-apply.apply.items) (ctree c.in_ok-hidden_in.hidden_in) (ctree c.in_ok-shape_in.shape_in) (ctys c.in_ok-apply_in.apply_in.items) c.in_ok-owes.owes (ctys c.in_ok-args.args.items)
+    (ctree c.in_ok-hidden.hidden) (ctree c.in_ok-shape.shape) (ctys c.in_ok-apply.apply.items)
+    (ctree c.in_ok-inner.inner.hidden) (ctree c.in_ok-inner.inner.shape) (ctys c.in_ok-inner.inner.apply.items)
+    c.in_ok-owes.owes (ctys c.in_ok-args.args.items)
     j.hidden j.shape j.apply j.hidden_in j.shape_in j.apply_in j.owes j.args
     (c.in_ok-hidden.ensures ∙ ap (λ (ls : List ℕ). C.TCTuple (W.bound_types (W.side_var f) h.depth xs ls)) c.deref.ensures.value)
     (c.in_ok-shape.ensures ∙ ap (L.ctype (W.side_var f)) c.requires)
     (c.in_ok-apply.ensures ∙ ap (λ (ls : List ℕ). W.variables (W.side_var f) h.depth ls) c.deref-2.ensures.value)
-    (c.in_ok-hidden_in.ensures ∙ ap (λ (ls : List ℕ). C.TCTuple (W.bound_types (W.outer_var g) h.depth xs ls)) c.deref-3.ensures.value)
-    (c.in_ok-shape_in.ensures ∙ ap (L.ctype (W.outer_var g)) c.requires)
-    (c.in_ok-apply_in.ensures ∙ ap (λ (ls : List ℕ). W.variables (W.outer_var g) h.depth ls) c.deref-4.ensures.value)
+    c.in_ok-inner.ensures.hidden
+    c.in_ok-inner.ensures.shape
+    c.in_ok-inner.ensures.apply
     (c.in_ok-owes.ensures ∙ ap (λ x. h.owes + x) n ∙ sym (lift_add h.owes (length c.args.g.now.kept.list.items)))
-    (c.in_ok-args.ensures ∙ ap (λ x. C.MoreCTys x (L.ctypes (W.side_var g) (ktys h.args.now))) (c.in_ok-first.ensures ∙ ap (λ (ls : List ℕ). C.TCTuple (W.bound_types (W.outer_var g) h.depth xs ls)) c.deref-5.ensures.value))
+    (c.in_ok-args.ensures ∙ ap (λ x. C.MoreCTys x (L.ctypes (W.side_var g) (ktys h.args.now)))
+    (c.in_ok-first.ensures ∙ ap (λ (ls : List ℕ). C.TCTuple (W.bound_types (W.outer_var g) h.depth xs ls))
+    c.deref-3.ensures.value))

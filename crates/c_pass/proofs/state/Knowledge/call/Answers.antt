@@ -4,7 +4,7 @@ use Rattle.c_walk.specs.Know as W
 use Rattle.c_emit.specs.declared.parts.Note.{Note}
 use Rattle.c_emit.specs.declared.parts.Note.TheVariants.{Calls}
 use Rattle.c_free.specs.Names.{side}
-use Rattle.c_pass.specs.Read.{bounds, clues_of, sides, infos_onto, notes_onto}
+use Rattle.c_pass.specs.Read.{bounds, clues_of, sides, infos_with, notes_onto}
 use Rattle.c_pass.proofs.Bounding.{notes_push}
 use Rattle.c_pass.proofs.state.Knowledge.call.Goals as goal
 
@@ -16,7 +16,7 @@ returns c = λ rest.
     let w = c.args.self.now in
     let f = W.side_with w.side.owes true (side w.side) in
     let k = W.know rest (bounds w.bounds.items) f (sides w.outer.items) (clues_of w.clues.items) in
-    let is = infos_onto w.infos.items k.infos in
+    let is = infos_with w.infos.items k.infos in
     ap (λ (vs : List Note). known is (notes_onto vs k.notes)) c.in_ok-push_back.ensures.items
     ∙ ap (known is) (notes_push w.notes.items (Calls c.in_ok-made.made) k.notes)
     ∙ ap (λ x. known is (notes_onto w.notes.items (E.Calls x ∷ k.notes))) c.in_ok-made.ensures

@@ -11,7 +11,7 @@ use Rattle.c_emit.specs.Read.{info}
 use Rattle.c_free.specs.Names.{side}
 use Rattle.c_pass.proofs.Lists.{k_code}
 use Rattle.c_pass.specs.declared.state.Bound.{Bound}
-use Rattle.c_pass.specs.Read.{bounds, clue, clues_of, sides, infos_onto, notes_onto, side_from, info_parts}
+use Rattle.c_pass.specs.Read.{all_told, bounds, clue, clues_of, sides, infos_onto, infos_with, notes_onto, side_from, info_parts, told}
 use Rattle.c_pass.proofs.Bounding.{infos_push}
 use Rattle.c_pass.proofs.state.Knowledge.open.Goals as goal
 
@@ -21,13 +21,14 @@ info_from-requires c = k_code c.args.owes c.in_ok-all_copied.field-0 ∙ ap (K.T
 abbrev known : List E.Info → List E.Note → W.Known
 known is cs = record { infos = is; notes = cs }
 
-opened_is : (old new : List Info) (i : Info) (j : E.Info) (notes : List E.Note → List E.Note) (k0 k1 : W.Known) → new ≡ old ++ i ∷ [] → info i ≡ j → k0 ≡ k1 →
-    known (infos_onto new k0.infos) (notes k0.notes) ≡ known (infos_onto old (j ∷ k1.infos)) (notes k1.notes)
+opened_is : (old new : List Info) (i : Info) (j : E.Info) (notes : List E.Note → List E.Note) (k0 k1 : W.Known) →
+    new ≡ old ++ i ∷ [] → info i ≡ told j → k0 ≡ k1 →
+    known (infos_with new k0.infos) (notes k0.notes) ≡ known (infos_with old (j ∷ k1.infos)) (notes k1.notes)
 opened_is old new i j notes k0 k1 e1 e2 e3 =
-    ap (λ (is : List Info). known (infos_onto is k0.infos) (notes k0.notes)) e1
-    ∙ ap (λ (is : List E.Info). known is (notes k0.notes)) (infos_push old i k0.infos)
-    ∙ ap (λ x. known (infos_onto old (x ∷ k0.infos)) (notes k0.notes)) e2
-    ∙ ap (λ k. known (infos_onto old (j ∷ k.infos)) (notes k.notes)) e3
+    ap (λ (is : List Info). known (infos_with is k0.infos) (notes k0.notes)) e1
+    ∙ ap (λ (is : List E.Info). known is (notes k0.notes)) (infos_push old i (all_told k0.infos))
+    ∙ ap (λ x. known (infos_onto old (x ∷ all_told k0.infos)) (notes k0.notes)) e2
+    ∙ ap (λ k. known (infos_with old (j ∷ k.infos)) (notes k.notes)) e3
 
 pub returns : goal.returns
 returns c = λ rest.
@@ -41,10 +42,11 @@ returns c = λ rest.
     let g = W.side_of td owes cl xs in
     let cs = clues_of w.clues.items in
     let ge : side c.in_ok-g.g ≡ g = c.in_ok-g.ensures ∙ ap₂ (λ (ks : List ℕ) (ys : List Bound). side_from td owes c.args.c.types.list.items ks (bounds ys)) c.deref-2.ensures.value c.deref.ensures.value in
-    let ie : info c.in_ok-known.known ≡ W.info_from td owes args cl xs f g =
+    let ie : info c.in_ok-known.known ≡ told (W.info_from td owes args cl xs f g) =
     c.in_ok-known.ensures
-    ∙ ap (λ (ys : List Bound). info_parts td owes args c.args.c.kept.list.items c.args.c.own (bounds ys) f (side c.in_ok-g.g)) c.deref-3.ensures.value
-    ∙ ap (info_parts td owes args c.args.c.kept.list.items c.args.c.own xs f) ge in
+    ∙ ap (λ (ys : List Bound). told (info_parts td owes args c.args.c.kept.list.items c.args.c.own (bounds ys) f
+    (side c.in_ok-g.g))) c.deref-3.ensures.value
+    ∙ ap (λ s. told (info_parts td owes args c.args.c.kept.list.items c.args.c.own xs f s)) ge in
     let own = k_code owes c.in_ok-all_copied.field-0 ∙ ap (K.TKCode owes) c.in_ok-all_copied.ensures in
     let n1 : c.in_ok-first.first ≡ suc c.args.level = omega (arith, c.in_ok-first.ensures) in
     let n2 : c.in_ok-inside.inside ≡ lift owes td = omega (arith, c.in_ok-inside.ensures, lift_add owes td) in

@@ -1,26 +1,28 @@
-use Rattle.std.proofs.Common.{◌≡◌, refl, ap, sym, ◌∙◌, rules, to_z, of_z, w64}
-use Rattle.std.proofs.lemmas.Result.{on_ok_weaker}
+use Rattle.std.proofs.Common.{◌≡◌, ◌∷◌, refl, ap, sym, subst, ◌∙◌, rules, to_z, of_z, w64}
 use Rattle.h_terms.specs.declared.node.HForm.TheVariants as F
 use Rattle.h_terms.specs.declared.node.HPart.TheVariants as P
 use Rattle.c_terms.specs.Stream as S
 use Rattle.h_pass.proofs.state.Walk.step.Goals as goal
-use Rattle.c_terms.specs.Read.{cnode, ctys}
+use Rattle.c_terms.specs.Read.{cnode}
 use Rattle.h_pass.proofs.Stepping.{as_step, decl_step, part_step}
+use Rattle.h_pass.specs.Walk.{Walked}
 
 pub returns-in-Var : goal.returns-in-Var
 returns-in-Var c = as_step c.variable.result _ _ c.args.self.now c.variable.new.self (ap cnode c.in-Var.is) c.variable.ensures
 
 pub returns-in-Code : goal.returns-in-Code
-returns-in-Code c = as_step c.begin.result _ _ c.args.self.now c.begin.new.self (ap cnode c.in-Code.is ∙ ap (λ ts. S.MCode c.in-Code.owes (ctys ts)) (sym c.deref.ensures.value)) c.begin.ensures
+returns-in-Code c = as_step c.begin.result _ _ c.args.self.now c.begin.new.self (ap cnode c.in-Code.is) c.begin.ensures
 
 pub returns-in-End : goal.returns-in-End
 returns-in-End c = as_step c.end.result _ _ c.args.self.now c.end.new.self (ap cnode c.in-End.is) c.end.ensures
 
 pub returns-in-Apply : goal.returns-in-Apply
-returns-in-Apply c = as_step c.apply.result _ _ c.args.self.now c.apply.new.self (ap cnode c.in-Apply.is ∙ ap (λ ts. S.MApply (ctys ts)) (sym c.deref-in-Apply.ensures.value)) c.apply.ensures
+returns-in-Apply c = part_step c.part-in-Apply.result (P.Apply c.in-Apply.types) _ _ c.args.self.now
+    c.part-in-Apply.new.self (ap cnode c.in-Apply.is) (λ ns b own ds vs w fs. refl) c.part-in-Apply.ensures
 
 pub returns-in-Pack : goal.returns-in-Pack
-returns-in-Pack c = as_step c.pack.result _ _ c.args.self.now c.pack.new.self (ap cnode c.in-Pack.is) c.pack.ensures
+returns-in-Pack c = part_step c.part-in-Pack.result (P.Pack c.in-Pack.hidden c.in-Pack.shape) _ _ c.args.self.now
+    c.part-in-Pack.new.self (ap cnode c.in-Pack.is) (λ ns b own ds vs w fs. refl) c.part-in-Pack.ensures
 
 pub returns-in-If0 : goal.returns-in-If0
 returns-in-If0 c = as_step c.choose.result _ _ c.args.self.now c.choose.new.self (ap cnode c.in-If0.is) c.choose.ensures
@@ -32,7 +34,8 @@ pub returns-in-Halt : goal.returns-in-Halt
 returns-in-Halt c = as_step c.halt.result _ _ c.args.self.now c.halt.new.self (ap cnode c.in-Halt.is) c.halt.ensures
 
 pub returns-in-Call : goal.returns-in-Call
-returns-in-Call c = as_step c.call.result _ _ c.args.self.now c.call.new.self (ap cnode c.in-Call.is ∙ ap (λ ts. S.MCall (ctys ts) c.in-Call.count) (sym c.deref-in-Call.ensures.value)) (on_ok_weaker c.call.result (λ f. f c.in-Call.count) c.call.ensures)
+returns-in-Call c = λ rest p st. c.call.ensures c.in-Call.count rest p
+    (subst (λ n. Walked c.args.self.now (n ∷ rest) p) (ap cnode c.in-Call.is) st)
 
 pub returns-in-Int : goal.returns-in-Int
 returns-in-Int c =

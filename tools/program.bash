@@ -18,8 +18,8 @@ build_at_need() {
 }
 
 # Tells the C library how to hand out memory, where the caller has told it nothing: in large pages, where the system has
-# them; from the system 64 MiB at a time; and no lists of small freed pieces beside those of each size, which would be
+# them; from the system 16 MiB at a time; and no lists of small freed pieces beside those of each size, which would be
 # emptied again and again. A page fault costs more than an instruction of a loop that allocates.
 tune_memory() {
-    export GLIBC_TUNABLES=${GLIBC_TUNABLES-glibc.malloc.hugetlb=1:glibc.malloc.top_pad=67108864:glibc.malloc.mxfast=0}
+    export GLIBC_TUNABLES=${GLIBC_TUNABLES-glibc.malloc.hugetlb=1:glibc.malloc.top_pad=16777216:glibc.malloc.mxfast=0}
 }

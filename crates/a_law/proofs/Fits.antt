@@ -1,4 +1,5 @@
--- Allocation adds nothing to the reach of types, nor names to them, and keeps within three times the bounds of the hoisted program.
+-- Allocation adds nothing to the reach of types, nor names to them, and keeps within three times the bounds of the
+-- hoisted program.
 use Rattle.std.proofs.Common.{◌≡◌, suc, ◌+◌, [], refl, ap, ap₂, arith}
 use Rattle.std.specs.Prelude.{max}
 use Rattle.a_law.proofs.CLaws.{CLaws}
@@ -68,10 +69,15 @@ binds_mixed (MoreCTys t ts) us = ap₂ max (binds_atype t) (binds_mixed ts us)
 pub alloc_fits : CLaws → AllocFits
 alloc_fits law N M R le ks t h =
     let typed = program_typed (AWithin M R M) (CWithin N R N) law
-    (λ n u q. (let x = reach_atype u in let y = binds_atype u in (omega (arith, q.0), omega (arith, x, q.1), omega (arith, y, q.2))))
-    (λ n us vs q. (let x = reach_mixed us vs in let y = binds_mixed us vs in (omega (arith, q.0), omega (arith, x, q.1), omega (arith, y, q.2))))
-    (λ n u q. (let x = reach_atype u in let y = binds_atype u in (omega (arith, q.0), omega (arith, x, q.1), omega (arith, y, q.2))))
-    (λ n u q. (let x = reach_atype u in let y = binds_atype u in (omega arith, omega (arith, x, q.1), omega (arith, y, q.2)))) ks t h.0 in
+    (λ n u q. (let x = reach_atype u in let y = binds_atype u in
+    (omega (arith, q.0), omega (arith, x, q.1), omega (arith, y, q.2))))
+    (λ n us vs q.
+    (let x = reach_mixed us vs in let y = binds_mixed us vs in
+    (omega (arith, q.0), omega (arith, x, q.1), omega (arith, y, q.2))))
+    (λ n u q. (let x = reach_atype u in let y = binds_atype u in
+    (omega (arith, q.0), omega (arith, x, q.1), omega (arith, y, q.2))))
+    (λ n u q. (let x = reach_atype u in let y = binds_atype u in
+    (omega arith, omega (arith, x, q.1), omega (arith, y, q.2)))) ks t h.0 in
     let small = alloc_small N M le ks t h.1 in
     let many = length_all ks ks 0 in
     let one = thirds_t t ks [] [] (n_all 0 ks) 0 in
@@ -81,4 +87,5 @@ alloc_fits law N M R le ks t h =
 -- typing alone
 pub alloc_types : CLaws → HTypedIsAny → AllocTypesKept
 alloc_types law any ks t h =
-    (program_typed (λ n u. Unit {0}) (λ n u. Unit {0}) law (λ n u q. tt) (λ n us vs q. tt) (λ n u q. tt) (λ n u q. tt) ks t ((any ks t).0 h)).0
+    (program_typed (λ n u. Unit {0}) (λ n u. Unit {0}) law (λ n u q. tt) (λ n us vs q. tt) (λ n u q. tt)
+    (λ n u q. tt) ks t ((any ks t).0 h)).0

@@ -16,7 +16,7 @@ use Rattle.h_terms.specs.Meaning.{hoperate, hproject, hrun, hset, hsize, hterm, 
 use Rattle.h_terms.specs.Meaning.{with_block}
 use Rattle.a_terms.specs.Meaning as A
 use Rattle.a_terms.specs.Tree.{ATys, NoATys, MoreATys, AVal, Var, ADecl, Value, Proj, Arith, Unpack, Malloc, Init, ATm}
-use Rattle.a_terms.specs.Tree.{Let, Call, If0, Halt, ABlk, AConsts, AProg, arity}
+use Rattle.a_terms.specs.Tree.{Let, Call, If0, Halt, ABlk, AConsts, arity}
 use Rattle.a_law.specs.Allocate.{alloc_main, alloc_prog, atypes}
 use Rattle.a_law.specs.Constants.{Constants, constant, constant_at, of_args, tuples_in}
 use Rattle.a_law.specs.Stands.{Thing, Is, Gone, listed, made_at, takes, Stands_v, Stands_vs, Shows, Any, Filling}
@@ -42,21 +42,29 @@ abbrev OptRel : List ℕ → A.AHeap → Option HWord → A.Made → Type 0
 OptRel m h None r = Unit {0}
 OptRel m h (Some y) r = (w : A.AWord) × (r ≡ A.Gives w h) × Rel m h y w
 
-field_rel : (m : List ℕ) (h : A.AHeap) (i : ℕ) (ys : HWords) (ws : List A.AWord) → Rels m h ys ws → OptRel m h (hfield i ys) (A.at_field i (λ j. A.given (slice_get (map Some ws) j) (λ f. A.given f (λ w. A.Gives w h))))
+field_rel : (m : List ℕ) (h : A.AHeap) (i : ℕ) (ys : HWords) (ws : List A.AWord) → Rels m h ys ws →
+    OptRel m h (hfield i ys)
+    (A.at_field i (λ j. A.given (slice_get (map Some ws) j) (λ f. A.given f (λ w. A.Gives w h))))
 field_rel m h zero NoHWords ws r = tt
 field_rel m h (suc i) NoHWords ws r = tt
 field_rel m h zero (MoreHWords y ys) ws r = tt
 field_rel m h (suc zero) (MoreHWords y ys) ws r = rw r.2 (r.0, refl, r.3)
 field_rel m h (suc (suc i)) (MoreHWords y ys) ws r = rw r.2 (field_rel m h (suc i) ys r.1 r.4)
 
-project_rel : (m : List ℕ) (h : A.AHeap) (i : ℕ) (y : HWord) (w : A.AWord) → Rel m h y w → OptRel m h (hproject i y) (A.address (Some w) (λ a. A.at_field i (λ j. A.given (slice_get h a) (λ t. A.given (slice_get t j) (λ f. A.given f (λ x. A.Gives x h))))))
+project_rel : (m : List ℕ) (h : A.AHeap) (i : ℕ) (y : HWord) (w : A.AWord) → Rel m h y w →
+    OptRel m h (hproject i y)
+    (A.address (Some w)
+    (λ a. A.at_field i
+    (λ j. A.given (slice_get h a) (λ t. A.given (slice_get t j) (λ f. A.given f (λ x. A.Gives x h))))))
 project_rel m h i (YInt n) w r = tt
 project_rel m h zero (YTuple ys) w r = rw r.2 (field_rel m h 0 ys r.1 r.5)
 project_rel m h (suc i) (YTuple ys) w r = rw (r.2, r.3) (field_rel m h (suc i) ys r.1 r.5)
 project_rel m h i (YLabel l) w r = tt
 project_rel m h i (YCell p) w r = tt
 
-compute_rel : (m : List ℕ) (h : A.AHeap) (op : Op) (y z : HWord) (v w : A.AWord) → Rel m h y v → Rel m h z w → OptRel m h (hoperate op y z) (A.decl (Arith op (Rattle.a_terms.specs.Tree.Var 0) (Rattle.a_terms.specs.Tree.Var 1)) (v ∷ w ∷ []) h)
+compute_rel : (m : List ℕ) (h : A.AHeap) (op : Op) (y z : HWord) (v w : A.AWord) → Rel m h y v → Rel m h z w →
+    OptRel m h (hoperate op y z)
+    (A.decl (Arith op (Rattle.a_terms.specs.Tree.Var 0) (Rattle.a_terms.specs.Tree.Var 1)) (v ∷ w ∷ []) h)
 compute_rel m h op (YInt x) (YInt u) v w r q = rw (r, q) (_, refl, refl)
 compute_rel m h op (YInt x) (YTuple ws) v w r q = tt
 compute_rel m h op (YInt x) (YLabel l) v w r q = tt
@@ -77,13 +85,20 @@ got_is (YTuple ys) st = refl
 got_is (YLabel l) st = refl
 got_is (YCell p) st = refl
 
-get_rel : (D : List AConsts) (m : List ℕ) (h : A.AHeap) (st : HWords) (y : HWord) (w : A.AWord) → Stores D m h st → Rel m h y w → OptRel m h (hgot y st) (A.address (Some w) (λ a. A.given (slice_get h a) (λ t. A.given (slice_get t 0) (λ f. A.given f (λ x. A.Gives x h)))))
+get_rel : (D : List AConsts) (m : List ℕ) (h : A.AHeap) (st : HWords) (y : HWord) (w : A.AWord) → Stores D m h st →
+    Rel m h y w →
+    OptRel m h (hgot y st)
+    (A.address (Some w)
+    (λ a. A.given (slice_get h a) (λ t. A.given (slice_get t 0) (λ f. A.given f (λ x. A.Gives x h)))))
 get_rel D m h st (YInt n) w s r = tt
 get_rel D m h st (YTuple ys) w s r = tt
 get_rel D m h st (YLabel l) w s r = tt
 get_rel D m h st (YCell p) w s r = go (hheld p st) refl
   where
-    go : (o : Option HWord) → hheld p st ≡ o → OptRel m h o (A.address (Some w) (λ a. A.given (slice_get h a) (λ t. A.given (slice_get t 0) (λ f. A.given f (λ x. A.Gives x h)))))
+    go : (o : Option HWord) → hheld p st ≡ o →
+        OptRel m h o
+        (A.address (Some w)
+        (λ a. A.given (slice_get h a) (λ t. A.given (slice_get t 0) (λ f. A.given f (λ x. A.Gives x h)))))
     go None e = tt
     go (Some z) e = let q = held_at D m h st p r.0 z s r.2 e in rw (r.1, q.1) (q.0, refl, q.2)
 
@@ -178,7 +193,9 @@ module _ (D : List AConsts) (ds : List HVal) (shown : Shows ds D ds) (ks : HBlks
       clash : None ≡ Some c → ⊥
       clash x = cc
 
-  branch_step : (m : List ℕ) (h : A.AHeap) (log : List ℕ) (y : HWord) (w : A.AWord) (a b : A.Result) (r s : Result) → Rel m h y w → (Unstuck r.end → a ≡ ends log r) → (Unstuck s.end → b ≡ ends log s) → Unstuck (hat_zero y r s).end → A.branch (Some w) log a b ≡ ends log (hat_zero y r s)
+  branch_step : (m : List ℕ) (h : A.AHeap) (log : List ℕ) (y : HWord) (w : A.AWord) (a b : A.Result) (r s : Result) →
+      Rel m h y w → (Unstuck r.end → a ≡ ends log r) → (Unstuck s.end → b ≡ ends log s) →
+      Unstuck (hat_zero y r s).end → A.branch (Some w) log a b ≡ ends log (hat_zero y r s)
   branch_step m h log (YInt n) w a b r s q e f ok = rw q (picked (is_zero n) ok)
     where
       picked : (z : Bool) → Unstuck (pick z r s).end → A.pick z a b ≡ ends log (pick z r s)
@@ -188,7 +205,8 @@ module _ (D : List AConsts) (ds : List HVal) (shown : Shows ds D ds) (ks : HBlks
   branch_step m h log (YLabel l) w a b r s q e f ok = absurd ok
   branch_step m h log (YCell p) w a b r s q e f ok = absurd ok
 
-  halt_step : (m : List ℕ) (h : A.AHeap) (log : List ℕ) (y : HWord) (w : A.AWord) → Rel m h y w → A.halt_with (Some w) log ≡ ends log (hhalt_with y)
+  halt_step : (m : List ℕ) (h : A.AHeap) (log : List ℕ) (y : HWord) (w : A.AWord) → Rel m h y w →
+      A.halt_with (Some w) log ≡ ends log (hhalt_with y)
   halt_step m h log (YInt n) w q = rw q refl
   halt_step m h log (YTuple ys) w q = rw q.2 refl
   halt_step m h log (YLabel l) w q = rw q refl
@@ -196,9 +214,14 @@ module _ (D : List AConsts) (ds : List HVal) (shown : Shows ds D ds) (ks : HBlks
 
   -- a call of the allocated program ends as one of the hoisted program
   abbrev Follows : HEnter → A.Next → Type 0
-  Follows he next = (l : ℕ) (ys : HWords) (ws : List A.AWord) (m : List ℕ) (h : A.AHeap) (st : HWords) (log : List ℕ) → Rels m h ys ws → Stores D m h st → Unstuck (hopen ks he (YLabel l) ys st).end → next l ws h log ≡ ends log (hopen ks he (YLabel l) ys st)
+  Follows he next = (l : ℕ) (ys : HWords) (ws : List A.AWord) (m : List ℕ) (h : A.AHeap) (st : HWords) (log : List ℕ) →
+      Rels m h ys ws → Stores D m h st → Unstuck (hopen ks he (YLabel l) ys st).end →
+      next l ws h log ≡ ends log (hopen ks he (YLabel l) ys st)
 
-  call_step : (he : HEnter) (next : A.Next) → Follows he next → (m : List ℕ) (h : A.AHeap) (st : HWords) (log : List ℕ) (y : HWord) (w : A.AWord) (ys : HWords) (ws : List A.AWord) → Rel m h y w → Rels m h ys ws → Stores D m h st → Unstuck (hopen ks he y ys st).end → A.call_of (Some w) log (λ l. next l ws h log) ≡ ends log (hopen ks he y ys st)
+  call_step : (he : HEnter) (next : A.Next) → Follows he next →
+      (m : List ℕ) (h : A.AHeap) (st : HWords) (log : List ℕ) (y : HWord) (w : A.AWord) (ys : HWords)
+      (ws : List A.AWord) → Rel m h y w → Rels m h ys ws → Stores D m h st → Unstuck (hopen ks he y ys st).end →
+      A.call_of (Some w) log (λ l. next l ws h log) ≡ ends log (hopen ks he y ys st)
   call_step he next f m h st log (YInt n) w ys ws r q s ok = absurd ok
   call_step he next f m h st log (YTuple zs) w ys ws r q s ok = absurd ok
   call_step he next f m h st log (YCell p) w ys ws r q s ok = absurd ok
@@ -509,9 +532,12 @@ module _ (D : List AConsts) (ds : List HVal) (shown : Shows ds D ds) (ks : HBlks
       clash c x = cc
 
   eq_swap : (m n : ℕ) → nat_eq m n ≡ nat_eq n m
-  eq_swap m n = ⊎_elim (λ e. eq-eqb m n e ∙ sym (eq-eqb n m (sym e))) (λ ne. ne_eqb m n ne ∙ sym (ne_eqb n m (λ e. ne (sym e)))) (cases_eq m n)
+  eq_swap m n =
+      ⊎_elim (λ e. eq-eqb m n e ∙ sym (eq-eqb n m (sym e))) (λ ne. ne_eqb m n ne ∙ sym (ne_eqb n m (λ e. ne (sym e))))
+      (cases_eq m n)
 
-  pick_step : (b : Bool) (log : List ℕ) (x : A.Result) (r : Result) → (b ≡ true → Unstuck r.end → x ≡ ends log r) → Unstuck (if_fits b r).end → A.pick b x (A.Wrong log) ≡ ends log (if_fits b r)
+  pick_step : (b : Bool) (log : List ℕ) (x : A.Result) (r : Result) → (b ≡ true → Unstuck r.end → x ≡ ends log r) →
+      Unstuck (if_fits b r).end → A.pick b x (A.Wrong log) ≡ ends log (if_fits b r)
   pick_step true log x r f ok = f refl ok
   pick_step false log x r f ok = refl
 
@@ -555,7 +581,8 @@ module _ (D : List AConsts) (ds : List HVal) (shown : Shows ds D ds) (ks : HBlks
         }
 
   -- at the start
-  datum_first : (xs : List AConsts) (n : ℕ) (x : AConsts) → slice_get xs n ≡ Some x → slice_get (A.start_heap xs) n ≡ Some (A.datum x)
+  datum_first : (xs : List AConsts) (n : ℕ) (x : AConsts) → slice_get xs n ≡ Some x →
+      slice_get (A.start_heap xs) n ≡ Some (A.datum x)
   datum_first [] n x e = absurd (impossible e)
     where
       impossible : None ≡ Some x → ⊥
@@ -564,7 +591,12 @@ module _ (D : List AConsts) (ds : List HVal) (shown : Shows ds D ds) (ks : HBlks
   datum_first (y ∷ xs) (suc n) x e = datum_first xs n x e
 
   no_cells : Stores D [] (A.start_heap D) NoHWords
-  no_cells = record { long = refl; holds = λ p y e. absurd (none p y e); kept = λ n x e. (datum_first D n x e, λ p q. gone p n q); once = λ p q a e f. absurd (gone p a e) }
+  no_cells = record {
+    long = refl;
+    holds = λ p y e. absurd (none p y e);
+    kept = λ n x e. (datum_first D n x e, λ p q. gone p n q);
+    once = λ p q a e f. absurd (gone p a e);
+  }
     where
       none : (p : ℕ) (y : HWord) → None ≡ Some y → ⊥
       none p y e = cc

@@ -1,14 +1,23 @@
 -- Putting the tuples and the data back gives the hoisted program, its tuples of constants written out.
-use Rattle.std.proofs.Common.{◌≡◌, ◌≤◌, ◌+◌, inl, inr, ℕ, zero, suc, List, [], ◌∷◌, ◌++◌, Option, Some, None, refl, sym, ap, ap₂, ◌∙◌, subst, arith}
+use Rattle.std.proofs.Common.{◌≡◌, ◌≤◌, ◌+◌, inl, inr, ℕ, zero, suc, List, [], ◌∷◌, ◌++◌, Option, Some, None, refl}
+use Rattle.std.proofs.Common.{sym, ap, ap₂, ◌∙◌, subst, arith}
 use Rattle.std.specs.Prelude.{Bool, true, false, ◌&&◌, not, option_map, slice_get}
 use Rattle.a_law.specs.Allocate.{afull, all_closed, atype, atypes, closed, is_label}
-use Rattle.a_law.specs.Back.{NoCell_t, NoCell_v, NoCell_vs, NoCells, NoRef, NoRefs, PutsBack, add_field, add_last, arg_count, arg_names, back_all, back_data, back_fields, back_t, back_v, back_vs, drop, drop_fields, drops, held_by, shown_at}
-use Rattle.a_law.specs.Constants.{Constants, constant, constant_at, constants, is_package, of_args, one_if, or_else, packed, settle_all, settle_t, settle_v, settle_vs, tuples_all, tuples_in, tuples_t, tuples_v, tuples_vs, two}
-use Rattle.a_law.specs.Stands.{Any, Content, Filling, Gone, Is, Made, Means, Shown, Shows, Shows_fields, Shows_v, Stands_all, Stands_t, Stands_v, Stands_vs, Thing, arg_things, listed, made_at, named, takes, thing_at}
+use Rattle.a_law.specs.Back.{NoCell_t, NoCell_v, NoCell_vs, NoCells, NoRef, NoRefs, PutsBack, add_field, add_last}
+use Rattle.a_law.specs.Back.{arg_count, arg_names, back_all, back_data, back_fields, back_t, back_v, back_vs, drop}
+use Rattle.a_law.specs.Back.{drop_fields, drops, held_by, shown_at}
+use Rattle.a_law.specs.Constants.{Constants, constant, constant_at, constants, is_package, of_args, one_if, or_else}
+use Rattle.a_law.specs.Constants.{packed, settle_all, settle_t, settle_v, settle_vs, tuples_all, tuples_in, tuples_t}
+use Rattle.a_law.specs.Constants.{tuples_v, tuples_vs, two}
+use Rattle.a_law.specs.Stands.{Any, Content, Filling, Gone, Is, Made, Means, Shown, Shows, Shows_fields, Shows_v}
+use Rattle.a_law.specs.Stands.{Stands_all, Stands_t, Stands_v, Stands_vs, Thing, arg_things, listed, made_at, named}
+use Rattle.a_law.specs.Stands.{takes, thing_at}
 use Rattle.a_terms.specs.Meaning.{pick}
-use Rattle.a_terms.specs.Tree.{ABlk, AConsts, ATm, ATys, AVal, Apply, Arith, Call, Data, Halt, If0, Init, Lab, Let, Malloc, MoreATys, NoATys, Num, Pack, Proj, Unpack, Value, Var, arity}
+use Rattle.a_terms.specs.Tree.{ABlk, AConsts, ATm, ATys, AVal, Apply, Arith, Call, Data, Halt, If0, Init, Lab, Let}
+use Rattle.a_terms.specs.Tree.{Malloc, MoreATys, NoATys, Num, Pack, Proj, Unpack, Value, Var, arity}
 use Rattle.c_terms.specs.C.{CTy, CTys, MoreCTys, NoCTys, TCCode, TCInt, TCRef, TCSome, TCTuple, TCVar}
-use Rattle.h_terms.specs.H.{HApply, HArith, HBlks, HCall, HCell, HGet, HHalt, HIf, HInt, HLabel, HLet, HName, HPack, HProj, HSet, HTm, HTuple, HUnpack, HVal, HVals, HVar, MoreHVals, NoHVals}
+use Rattle.h_terms.specs.H.{HApply, HArith, HBlks, HCall, HCell, HGet, HHalt, HIf, HInt, HLabel, HLet, HName, HPack}
+use Rattle.h_terms.specs.H.{HProj, HSet, HTm, HTuple, HUnpack, HVal, HVals, HVar, MoreHVals, NoHVals}
 
 mutual
   drop_is : (t : CTy) → NoRef t → drop (atype t) ≡ t
@@ -82,7 +91,8 @@ mutual
 
   consts_no : (vs : HVals) (os : Constants) → NoOs os → NoCell_vs vs → NoOpts (constants os vs)
   consts_no NoHVals os a c = tt
-  consts_no (MoreHVals v vs) os a c = two_no (constant os v) (constants os vs) (const_no v os a c.0) (consts_no vs os a c.1)
+  consts_no (MoreHVals v vs) os a c =
+      two_no (constant os v) (constants os vs) (const_no v os a c.0) (consts_no vs os a c.1)
 
 one_no : (o : Option HVal) → NoOpt o → AllNo (one_if o)
 one_no None a = tt
@@ -101,21 +111,29 @@ mutual
 
   tuples_vs_no : (vs : HVals) (os : Constants) → NoOs os → NoCell_vs vs → AllNo (tuples_vs os vs)
   tuples_vs_no NoHVals os a c = tt
-  tuples_vs_no (MoreHVals v vs) os a c = all_no (tuples_v os v) (tuples_vs os vs) (tuples_v_no v os a c.0) (tuples_vs_no vs os a c.1)
+  tuples_vs_no (MoreHVals v vs) os a c =
+      all_no (tuples_v os v) (tuples_vs os vs) (tuples_v_no v os a c.0) (tuples_vs_no vs os a c.1)
 
 tuples_t_no : (t : HTm) (os : Constants) → NoOs os → NoCell_t t → AllNo (tuples_t os t)
 tuples_t_no (HLet (HName v) t) os a c =
-    all_no (tuples_v os v) (tuples_t (constant os v ∷ os) t) (tuples_v_no v os a c.0) (tuples_t_no t (constant os v ∷ os) (const_no v os a c.0, a) c.1)
-tuples_t_no (HLet (HProj i v) t) os a c = all_no (tuples_v os v) (tuples_t (None ∷ os) t) (tuples_v_no v os a c.0) (tuples_t_no t (None ∷ os) (tt, a) c.1)
+    all_no (tuples_v os v) (tuples_t (constant os v ∷ os) t) (tuples_v_no v os a c.0)
+    (tuples_t_no t (constant os v ∷ os) (const_no v os a c.0, a) c.1)
+tuples_t_no (HLet (HProj i v) t) os a c =
+    all_no (tuples_v os v) (tuples_t (None ∷ os) t) (tuples_v_no v os a c.0) (tuples_t_no t (None ∷ os) (tt, a) c.1)
 tuples_t_no (HLet (HArith op v w) t) os a c =
-    all_no (tuples_v os v ++ tuples_v os w) (tuples_t (None ∷ os) t) (all_no (tuples_v os v) (tuples_v os w) (tuples_v_no v os a c.0.0) (tuples_v_no w os a c.0.1)) (tuples_t_no t (None ∷ os) (tt, a) c.1)
-tuples_t_no (HLet (HUnpack v) t) os a c = all_no (tuples_v os v) (tuples_t (None ∷ os) t) (tuples_v_no v os a c.0) (tuples_t_no t (None ∷ os) (tt, a) c.1)
+    all_no (tuples_v os v ++ tuples_v os w) (tuples_t (None ∷ os) t)
+    (all_no (tuples_v os v) (tuples_v os w) (tuples_v_no v os a c.0.0) (tuples_v_no w os a c.0.1))
+    (tuples_t_no t (None ∷ os) (tt, a) c.1)
+tuples_t_no (HLet (HUnpack v) t) os a c =
+    all_no (tuples_v os v) (tuples_t (None ∷ os) t) (tuples_v_no v os a c.0) (tuples_t_no t (None ∷ os) (tt, a) c.1)
 tuples_t_no (HLet (HCell v) t) os a c = absurd c.0
 tuples_t_no (HLet (HGet v) t) os a c = absurd c.0
 tuples_t_no (HLet (HSet v w) t) os a c = absurd c.0
-tuples_t_no (HCall f ts vs) os a c = all_no (tuples_v os f) (tuples_vs os vs) (tuples_v_no f os a c.0) (tuples_vs_no vs os a c.2)
+tuples_t_no (HCall f ts vs) os a c =
+    all_no (tuples_v os f) (tuples_vs os vs) (tuples_v_no f os a c.0) (tuples_vs_no vs os a c.2)
 tuples_t_no (HIf v t u) os a c =
-    all_no (tuples_v os v) (tuples_t os t ++ tuples_t os u) (tuples_v_no v os a c.0) (all_no (tuples_t os t) (tuples_t os u) (tuples_t_no t os a c.1) (tuples_t_no u os a c.2))
+    all_no (tuples_v os v) (tuples_t os t ++ tuples_t os u) (tuples_v_no v os a c.0)
+    (all_no (tuples_t os t) (tuples_t os u) (tuples_t_no t os a c.1) (tuples_t_no u os a c.2))
 tuples_t_no (HHalt v) os a c = tuples_v_no v os a c
 
 args_no : (args : CTys) (os : Constants) → NoOs os → NoOs (of_args args os)
@@ -125,7 +143,8 @@ args_no (MoreCTys t ts) os a = args_no ts (None ∷ os) (tt, a)
 tuples_all_no : (ks : HBlks) → NoCells ks → AllNo (tuples_all ks)
 tuples_all_no [] c = tt
 tuples_all_no (k ∷ ks) c =
-    all_no (tuples_t (of_args k.args []) k.body) (tuples_all ks) (tuples_t_no k.body (of_args k.args []) (args_no k.args [] tt) c.0.1) (tuples_all_no ks c.1)
+    all_no (tuples_t (of_args k.args []) k.body) (tuples_all ks)
+    (tuples_t_no k.body (of_args k.args []) (args_no k.args [] tt) c.0.1) (tuples_all_no ks c.1)
 
 module _ (ds : List HVal) where
   held_is : (ws : List HVal) (n : ℕ) (w : HVal) → slice_get ws n ≡ Some w → held_by ws n ≡ w
@@ -171,28 +190,34 @@ module _ (ds : List HVal) where
   abbrev EnvOk : Constants → ℕ → List Thing → List Shown → Type 0
   EnvOk os k env benv = (i : ℕ) → Puts os k (thing_at env i) (shown_at benv i)
 
-  puts_on : (os : Constants) (o : Option HVal) (k : ℕ) (x : Thing) (s : Shown) → Puts os k x s → Puts (o ∷ os) (suc k) x s
+  puts_on : (os : Constants) (o : Option HVal) (k : ℕ) (x : Thing) (s : Shown) → Puts os k x s →
+      Puts (o ∷ os) (suc k) x s
   puts_on os o k (Is l) s p = p
   puts_on os o k (Made l j fs) s p = (omega (arith, p.0), λ c e. absurd (omega (arith, p.0, e)))
   puts_on os o k Gone s p = tt
 
-  env_on : (os : Constants) (o : Option HVal) (k : ℕ) (env : List Thing) (benv : List Shown) → EnvOk os k env benv → EnvOk (o ∷ os) (suc k) (Is k ∷ env) (named k ∷ benv)
+  env_on : (os : Constants) (o : Option HVal) (k : ℕ) (env : List Thing) (benv : List Shown) → EnvOk os k env benv →
+      EnvOk (o ∷ os) (suc k) (Is k ∷ env) (named k ∷ benv)
   env_on os o k env benv ok zero = λ m. refl
   env_on os o k env benv ok (suc i) = puts_on os o k (thing_at env i) (shown_at benv i) (ok i)
 
-  env_more : (os : Constants) (k : ℕ) (env : List Thing) (benv : List Shown) (x : Thing) (s : Shown) → Puts os k x s → EnvOk os k env benv → EnvOk os k (x ∷ env) (s ∷ benv)
+  env_more : (os : Constants) (k : ℕ) (env : List Thing) (benv : List Shown) (x : Thing) (s : Shown) → Puts os k x s →
+      EnvOk os k env benv → EnvOk os k (x ∷ env) (s ∷ benv)
   env_more os k env benv x s p ok zero = p
   env_more os k env benv x s p ok (suc i) = ok i
 
-  var_back : (os : Constants) (k : ℕ) (x : Thing) (s : Shown) (w : HVal) → Means os x k w → NoCell_v w → Puts os k x s → s k ≡ settle_v os w
+  var_back : (os : Constants) (k : ℕ) (x : Thing) (s : Shown) (w : HVal) → Means os x k w → NoCell_v w →
+      Puts os k x s → s k ≡ settle_v os w
   var_back os k (Is l) s w m c p = p k ∙ sym (ap (settle_v os) m)
   var_back os k (Made l j fs) s w m c p =
       let n = subst NoCell_v m.1 c in
       p.1 n m.0
-      ∙ sym (ap (settle_v os) m.1 ∙ ap (λ o. or_else o (HTuple (settle_vs os (listed fs)))) (ap (constant os) (sym m.1) ∙ m.2))
+      ∙ sym (ap (settle_v os) m.1
+      ∙ ap (λ o. or_else o (HTuple (settle_vs os (listed fs)))) (ap (constant os) (sym m.1) ∙ m.2))
   var_back os k Gone s w m c p = absurd m
 
-  value_back : (v : AVal) (w : HVal) (os : Constants) (k : ℕ) (env : List Thing) (benv : List Shown) → Stands_v ds os env k v w → NoCell_v w → EnvOk os k env benv → back_v ds benv k v ≡ settle_v os w
+  value_back : (v : AVal) (w : HVal) (os : Constants) (k : ℕ) (env : List Thing) (benv : List Shown) →
+      Stands_v ds os env k v w → NoCell_v w → EnvOk os k env benv → back_v ds benv k v ≡ settle_v os w
   value_back (Var i) w os k env benv s c ok = var_back os k (thing_at env i) (shown_at benv i) w s c (ok i)
   value_back (Num n) w os k env benv s c ok = sym (ap (settle_v os) s)
   value_back (Lab l) w os k env benv s c ok = sym (ap (settle_v os) s)
@@ -209,14 +234,16 @@ module _ (ds : List HVal) where
       ∙ ap₂ (HPack s.0) (value_back v s.1 os k env benv s.6 n.1 ok) (ap drop (sym s.5) ∙ drop_is s.2 n.2)
       ∙ sym (ap (settle_v os) s.3)
 
-  values_back : (vs : List AVal) (ws : HVals) (os : Constants) (k : ℕ) (env : List Thing) (benv : List Shown) → Stands_vs ds os env k vs ws → NoCell_vs ws → EnvOk os k env benv → back_vs ds benv k vs ≡ settle_vs os ws
+  values_back : (vs : List AVal) (ws : HVals) (os : Constants) (k : ℕ) (env : List Thing) (benv : List Shown) →
+      Stands_vs ds os env k vs ws → NoCell_vs ws → EnvOk os k env benv → back_vs ds benv k vs ≡ settle_vs os ws
   values_back [] ws os k env benv s c ok = sym (ap (settle_vs os) s)
   values_back (v ∷ vs) ws os k env benv s c ok =
       let n = subst NoCell_vs s.2 c in
       ap₂ MoreHVals (value_back v s.0 os k env benv s.3 n.0 ok) (values_back vs s.1 os k env benv s.4 n.1 ok)
       ∙ sym (ap (settle_vs os) s.2)
 
-  content_no : (a : ATm) (h : HTm) (os : Constants) (made : List Thing) (env : List Thing) (k : ℕ) → Stands_t ds os Content made env k a h → NoCell_t h → ⊥
+  content_no : (a : ATm) (h : HTm) (os : Constants) (made : List Thing) (env : List Thing) (k : ℕ) →
+      Stands_t ds os Content made env k a h → NoCell_t h → ⊥
   content_no (Let (Init v i w) e) h os made env k s c = (subst NoCell_t s.4 c).0
   content_no (Let (Value v) e) h os made env k s c = s
   content_no (Let (Proj i v) e) h os made env k s c = s
@@ -227,7 +254,8 @@ module _ (ds : List HVal) where
   content_no (If0 v a b) h os made env k s c = s
   content_no (Halt v) h os made env k s c = s
 
-  more_fields : (fs : List HVal) (y : HVal) (os : Constants) → add_last (settle_vs os (listed fs)) (settle_v os y) ≡ settle_vs os (listed (fs ++ y ∷ []))
+  more_fields : (fs : List HVal) (y : HVal) (os : Constants) → add_last (settle_vs os (listed fs)) (settle_v os y)
+      ≡ settle_vs os (listed (fs ++ y ∷ []))
   more_fields [] y os = refl
   more_fields (x ∷ fs) y os = ap (MoreHVals (settle_v os x)) (more_fields fs y os)
 
@@ -248,55 +276,72 @@ module _ (ds : List HVal) where
       ∙ ap HTuple (more_fields fs y os)
 
   mutual
-    term_back : (a : ATm) (h : HTm) (os : Constants) (made : List Thing) (k : ℕ) (env : List Thing) (benv : List Shown) → Stands_t ds os Any made env k a h → NoCell_t h → EnvOk os k env benv → back_t ds benv k a ≡ settle_t os h
+    term_back : (a : ATm) (h : HTm) (os : Constants) (made : List Thing) (k : ℕ) (env : List Thing)
+        (benv : List Shown) → Stands_t ds os Any made env k a h → NoCell_t h → EnvOk os k env benv →
+        back_t ds benv k a ≡ settle_t os h
     term_back (Let (Value v) e) h os made k env benv (w, t, is, sv, at, st) c ok =
         let n = subst NoCell_t is c in
-        ap₂ (λ x y. HLet (HName x) y) (value_back v w os k env benv sv n.0 ok) (term_back e t (constant os w ∷ os) [] (suc k) (Is k ∷ env) (named k ∷ benv) st n.1 (env_on os (constant os w) k env benv ok))
+        ap₂ (λ x y. HLet (HName x) y) (value_back v w os k env benv sv n.0 ok)
+        (term_back e t (constant os w ∷ os) [] (suc k) (Is k ∷ env) (named k ∷ benv) st n.1
+        (env_on os (constant os w) k env benv ok))
         ∙ sym (ap (settle_t os) is)
     term_back (Let (Proj i v) e) h os made k env benv (w, t, inl is, sv, at, st) c ok =
         let n = subst NoCell_t is c in
-        ap₂ (λ x y. HLet (HProj i x) y) (value_back v w os k env benv sv n.0 ok) (term_back e t (None ∷ os) [] (suc k) (Is k ∷ env) (named k ∷ benv) st n.1 (env_on os None k env benv ok))
+        ap₂ (λ x y. HLet (HProj i x) y) (value_back v w os k env benv sv n.0 ok)
+        (term_back e t (None ∷ os) [] (suc k) (Is k ∷ env) (named k ∷ benv) st n.1 (env_on os None k env benv ok))
         ∙ sym (ap (settle_t os) is)
-    term_back (Let (Proj i v) e) h os made k env benv (w, t, inr get, sv, at, st) c ok = absurd (subst NoCell_t get.1 c).0
+    term_back (Let (Proj i v) e) h os made k env benv (w, t, inr get, sv, at, st) c ok =
+        absurd (subst NoCell_t get.1 c).0
     term_back (Let (Arith op v w) e) h os made k env benv (x, y, t, is, sv, sw, at, st) c ok =
         let n = subst NoCell_t is c in
-        ap₂ (λ p q. HLet (HArith op p q) (back_t ds (named k ∷ benv) (suc k) e)) (value_back v x os k env benv sv n.0.0 ok) (value_back w y os k env benv sw n.0.1 ok)
-        ∙ ap (HLet (HArith op (settle_v os x) (settle_v os y))) (term_back e t (None ∷ os) [] (suc k) (Is k ∷ env) (named k ∷ benv) st n.1 (env_on os None k env benv ok))
+        ap₂ (λ p q. HLet (HArith op p q) (back_t ds (named k ∷ benv) (suc k) e))
+        (value_back v x os k env benv sv n.0.0 ok) (value_back w y os k env benv sw n.0.1 ok)
+        ∙ ap (HLet (HArith op (settle_v os x) (settle_v os y)))
+        (term_back e t (None ∷ os) [] (suc k) (Is k ∷ env) (named k ∷ benv) st n.1 (env_on os None k env benv ok))
         ∙ sym (ap (settle_t os) is)
     term_back (Let (Unpack v) e) h os made k env benv (w, t, is, sv, at, st) c ok =
         let n = subst NoCell_t is c in
-        ap₂ (λ x y. HLet (HUnpack x) y) (value_back v w os k env benv sv n.0 ok) (term_back e t (None ∷ os) [] (suc k) (Is k ∷ env) (named k ∷ benv) st n.1 (env_on os None k env benv ok))
+        ap₂ (λ x y. HLet (HUnpack x) y) (value_back v w os k env benv sv n.0 ok)
+        (term_back e t (None ∷ os) [] (suc k) (Is k ∷ env) (named k ∷ benv) st n.1 (env_on os None k env benv ok))
         ∙ sym (ap (settle_t os) is)
     term_back (Let (Malloc ts) e) h os made k env benv (inl (n, many, st)) c ok =
         let s : Shown = λ m. HTuple NoHVals in
         fill_back e h os [] n [] made k (Gone ∷ env) (s ∷ benv) st c (env_more os k env benv Gone s tt ok) (λ q. refl)
-    term_back (Let (Malloc ts) e) h os made k env benv (inr (one, st)) c ok = absurd (content_no e h os made (Gone ∷ env) k st c)
-    term_back (Let (Init v i w) e) h os made k env benv (x, y, t, one, is, sv, sw, at, st) c ok = absurd (subst NoCell_t is c).0
+    term_back (Let (Malloc ts) e) h os made k env benv (inr (one, st)) c ok =
+        absurd (content_no e h os made (Gone ∷ env) k st c)
+    term_back (Let (Init v i w) e) h os made k env benv (x, y, t, one, is, sv, sw, at, st) c ok =
+        absurd (subst NoCell_t is c).0
     term_back (Call v ts vs) h os made k env benv (x, us, xs, is, types, sv, svs, at) c ok =
         let n = subst NoCell_t is c in
-        ap₂ (λ p q. HCall p q (back_vs ds benv k vs)) (value_back v x os k env benv sv n.0 ok) (ap drops (sym types) ∙ drops_are us n.1)
+        ap₂ (λ p q. HCall p q (back_vs ds benv k vs)) (value_back v x os k env benv sv n.0 ok)
+        (ap drops (sym types) ∙ drops_are us n.1)
         ∙ ap (HCall (settle_v os x) us) (values_back vs xs os k env benv svs n.2 ok)
         ∙ sym (ap (settle_t os) is)
     term_back (If0 v a b) h os made k env benv (x, t, u, is, sv, at, st, su) c ok =
         let n = subst NoCell_t is c in
-        ap₂ (λ p q. HIf p q (back_t ds benv k b)) (value_back v x os k env benv sv n.0 ok) (term_back a t os [] k env benv st n.1 ok)
+        ap₂ (λ p q. HIf p q (back_t ds benv k b)) (value_back v x os k env benv sv n.0 ok)
+        (term_back a t os [] k env benv st n.1 ok)
         ∙ ap (HIf (settle_v os x) (settle_t os t)) (term_back b u os [] k env benv su n.2 ok)
         ∙ sym (ap (settle_t os) is)
     term_back (Halt v) h os made k env benv (x, is, sv, at) c ok =
         let n = subst NoCell_t is c in
         ap HHalt (value_back v x os k env benv sv n ok) ∙ sym (ap (settle_t os) is)
 
-    fill_back : (a : ATm) (h : HTm) (os : Constants) (fs : List HVal) (n : ℕ) (taken made : List Thing) (k : ℕ) (env : List Thing) (benv : List Shown) → Stands_t ds os (Filling fs n taken) made env k a h → NoCell_t h → EnvOk os k env benv →
+    fill_back : (a : ATm) (h : HTm) (os : Constants) (fs : List HVal) (n : ℕ) (taken made : List Thing) (k : ℕ)
+        (env : List Thing) (benv : List Shown) → Stands_t ds os (Filling fs n taken) made env k a h → NoCell_t h →
+        EnvOk os k env benv →
         Partly os k fs (shown_at benv 0) → back_t ds benv k a ≡ settle_t os h
     fill_back (Let (Init v i w) e) h os fs zero taken made k env benv (y, left, ev, ei, sw, at, st) c ok old =
         let s : Shown = λ m. add_field (back_v ds benv m v) (back_v ds benv m w) in
         let new = made_at env k (fs ++ y ∷ []) in
         let part = init_back v w os k env benv fs y ev sw ok old in
-        term_back e h os (left ++ new ∷ []) k (new ∷ env) (s ∷ benv) st c (env_more os k env benv new s (omega arith, λ q z. part q) ok)
+        term_back e h os (left ++ new ∷ []) k (new ∷ env) (s ∷ benv) st c
+        (env_more os k env benv new s (omega arith, λ q z. part q) ok)
     fill_back (Let (Init v i w) e) h os fs (suc n) taken made k env benv (y, ev, ei, sw, st) c ok old =
         let s : Shown = λ m. add_field (back_v ds benv m v) (back_v ds benv m w) in
         let part = init_back v w os k env benv fs y ev sw ok old in
-        fill_back e h os (fs ++ y ∷ []) n (taken ++ takes env w) made k (Gone ∷ env) (s ∷ benv) st c (env_more os k env benv Gone s tt ok) part
+        fill_back e h os (fs ++ y ∷ []) n (taken ++ takes env w) made k (Gone ∷ env) (s ∷ benv) st c
+        (env_more os k env benv Gone s tt ok) part
     fill_back (Let (Value v) e) h os fs n taken made k env benv s c ok old = absurd s
     fill_back (Let (Proj i v) e) h os fs n taken made k env benv s c ok old = absurd s
     fill_back (Let (Arith op v w) e) h os fs n taken made k env benv s c ok old = absurd s
@@ -306,10 +351,13 @@ module _ (ds : List HVal) where
     fill_back (If0 v a b) h os fs n taken made k env benv s c ok old = absurd s
     fill_back (Halt v) h os fs n taken made k env benv s c ok old = absurd s
 
-  args_ok : (ts : ATys) (k : ℕ) (env : List Thing) (benv : List Shown) → ((os : Constants) (m : ℕ) → EnvOk os m env benv) → (os : Constants) (m : ℕ) → EnvOk os m (arg_things k env ts) (arg_names k benv ts)
+  args_ok : (ts : ATys) (k : ℕ) (env : List Thing) (benv : List Shown) →
+      ((os : Constants) (m : ℕ) → EnvOk os m env benv) → (os : Constants) (m : ℕ) →
+      EnvOk os m (arg_things k env ts) (arg_names k benv ts)
   args_ok NoATys k env benv ok os m = ok os m
   args_ok (MoreATys t ts) k env benv ok os m =
-      args_ok ts (suc k) (Is k ∷ env) (named k ∷ benv) (λ os m. env_more os m env benv (Is k) (named k) (λ z. refl) (ok os m)) os m
+      args_ok ts (suc k) (Is k ∷ env) (named k ∷ benv)
+      (λ os m. env_more os m env benv (Is k) (named k) (λ z. refl) (ok os m)) os m
 
   count_is : (ts : ATys) (k : ℕ) → arg_count k ts ≡ k + arity ts
   count_is NoATys k = omega arith
@@ -324,7 +372,8 @@ module _ (ds : List HVal) where
       let k = arg_count 0 b.args in
       let z : arity b.args ≡ k = sym (count_is b.args 0 ∙ omega arith) in
       let st = subst (λ m. Stands_t ds os Any [] (arg_things 0 [] b.args) m b.body x.body) z s.0.2 in
-      let body = term_back b.body x.body os [] k (arg_things 0 [] b.args) (arg_names 0 [] b.args) st c.0.1 (args_ok b.args 0 [] [] (λ os m i. tt) os k) in
+      let body = term_back b.body x.body os [] k (arg_things 0 [] b.args) (arg_names 0 [] b.args) st c.0.1
+      (args_ok b.args 0 [] [] (λ os m i. tt) os k) in
       let args = ap drops (sym s.0.1) ∙ drops_are x.args c.0.0 in
       ap₂ (λ p q. p ∷ q)
       (ap (λ o. record { owes = o; args = drops b.args; body = back_t ds (arg_names 0 [] b.args) k b.body }) s.0.0
@@ -334,5 +383,8 @@ module _ (ds : List HVal) where
 pub put_back : PutsBack
 put_back p main ks t s c d =
     let ds = tuples_in ks t in
-    let no = all_no (tuples_all ks) (tuples_t [] t) (tuples_all_no ks c) (tuples_t_no t [] tt d) in
-    (data_back ds p.tuples ds s.0 no, blocks_back ds p.blocks ks s.1 c, term_back ds main t [] [] 0 [] [] s.2 d (λ i. tt))
+    let no = all_no (tuples_all ks) (tuples_t [] t) (tuples_all_no ks c) (tuples_t_no t [] tt d) in (
+      data_back ds p.tuples ds s.0 no,
+      blocks_back ds p.blocks ks s.1 c,
+      term_back ds main t [] [] 0 [] [] s.2 d (λ i. tt),
+    )

@@ -13,7 +13,8 @@ Apart m a = (p : ℕ) → slice_get m p ≡ Some a → ⊥
 abbrev mutual
   pub Rel : List ℕ → AHeap → HWord → AWord → Type 0
   Rel m h (YInt n) w = w ≡ ZInt n
-  Rel m h (YTuple ys) w = (a : ℕ) × (ws : List AWord) × (w ≡ ZTuple a) × (slice_get h a ≡ Some (map Some ws)) × Apart m a × Rels m h ys ws
+  Rel m h (YTuple ys) w =
+      (a : ℕ) × (ws : List AWord) × (w ≡ ZTuple a) × (slice_get h a ≡ Some (map Some ws)) × Apart m a × Rels m h ys ws
   Rel m h (YLabel l) w = w ≡ ZLabel l
   Rel m h (YCell p) w = (a : ℕ) × (w ≡ ZTuple a) × (slice_get m p ≡ Some a)
 
@@ -34,14 +35,22 @@ pub record Moves (m : List ℕ) (h : AHeap) (m2 : List ℕ) (h2 : AHeap) : Type 
 mutual
   pub rel_moves : (y : HWord) (w : AWord) (m m2 : List ℕ) (h h2 : AHeap) → Moves m h m2 h2 → Rel m h y w → Rel m2 h2 y w
   rel_moves (YInt n) w m m2 h h2 g r = r
-  rel_moves (YTuple ys) w m m2 h h2 g r =
-      (r.0, r.1, r.2, g.tuples r.0 (map Some r.1) r.3 r.4, g.apart r.0 (map Some r.1) r.3 r.4, rels_move ys r.1 m m2 h h2 g r.5)
+  rel_moves (YTuple ys) w m m2 h h2 g r = (
+    r.0,
+    r.1,
+    r.2,
+    g.tuples r.0 (map Some r.1) r.3 r.4,
+    g.apart r.0 (map Some r.1) r.3 r.4,
+    rels_move ys r.1 m m2 h h2 g r.5,
+  )
   rel_moves (YLabel l) w m m2 h h2 g r = r
   rel_moves (YCell p) w m m2 h h2 g r = (r.0, r.1, g.cells p r.0 r.2)
 
-  pub rels_move : (ys : HWords) (ws : List AWord) (m m2 : List ℕ) (h h2 : AHeap) → Moves m h m2 h2 → Rels m h ys ws → Rels m2 h2 ys ws
+  pub rels_move : (ys : HWords) (ws : List AWord) (m m2 : List ℕ) (h h2 : AHeap) → Moves m h m2 h2 → Rels m h ys ws →
+      Rels m2 h2 ys ws
   rels_move NoHWords ws m m2 h h2 g r = r
-  rels_move (MoreHWords y ys) ws m m2 h h2 g r = (r.0, r.1, r.2, rel_moves y r.0 m m2 h h2 g r.3, rels_move ys r.1 m m2 h h2 g r.4)
+  rels_move (MoreHWords y ys) ws m m2 h h2 g r =
+      (r.0, r.1, r.2, rel_moves y r.0 m m2 h h2 g r.3, rels_move ys r.1 m m2 h h2 g r.4)
 
 pub moves_grow : (m : List ℕ) (h h2 : AHeap) → Grows h h2 → Moves m h m h2
 moves_grow m h h2 g = record { cells = λ p a e. e; tuples = λ a fs e k. g a fs e; apart = λ a fs e k. k }
@@ -56,7 +65,8 @@ moves_on m m2 m3 h h2 h3 x y = record {
 pub rel_grows : (y : HWord) (w : AWord) (m : List ℕ) (h h2 : AHeap) → Grows h h2 → Rel m h y w → Rel m h2 y w
 rel_grows y w m h h2 g r = rel_moves y w m m h h2 (moves_grow m h h2 g) r
 
-pub rels_grow : (ys : HWords) (ws : List AWord) (m : List ℕ) (h h2 : AHeap) → Grows h h2 → Rels m h ys ws → Rels m h2 ys ws
+pub rels_grow : (ys : HWords) (ws : List AWord) (m : List ℕ) (h h2 : AHeap) → Grows h h2 → Rels m h ys ws →
+    Rels m h2 ys ws
 rels_grow ys ws m h h2 g r = rels_move ys ws m m h h2 (moves_grow m h h2 g) r
 
 -- the data are the heap's first tuples, and no cell is one of them
@@ -71,9 +81,6 @@ pub record Valid (D : List AConsts) (m : List ℕ) (h : AHeap) : Type 0 where
   pub cells : (p a : ℕ) → slice_get m p ≡ Some a → (fs : List (Option AWord)) × (slice_get h a ≡ Some fs)
   pub kept : Holds D m h
 
-pub valid_grows : (D : List AConsts) (m : List ℕ) (h h2 : AHeap) → Grows h h2 → Valid D m h → Valid D m h2
-valid_grows D m h h2 g k = record { cells = λ p a e. (let r = k.cells p a e in (r.0, g a r.0 r.1)); kept = holds_moves D m m h h2 (moves_grow m h h2 g) k.kept }
-
 pub nth_end : {A : Type 0} (xs : List A) (x : A) → slice_get xs (length xs) ≡ Some x → ⊥
 nth_end [] x e = cc
 nth_end (y ∷ xs) x e = nth_end xs x e
@@ -85,7 +92,8 @@ fresh D m h k p e = let r = k.cells p (length h) e in nth_end h r.0 r.1
 -- the store: cell p holds what stands for place p's value
 pub record Stores (D : List AConsts) (m : List ℕ) (h : AHeap) (st : HWords) : Type 0 where
   pub long : length m ≡ hsize st
-  pub holds : (p : ℕ) (y : HWord) → hheld p st ≡ Some y → (a : ℕ) × (w : AWord) × (slice_get m p ≡ Some a) × (slice_get h a ≡ Some (Some w ∷ [])) × Rel m h y w
+  pub holds : (p : ℕ) (y : HWord) → hheld p st ≡ Some y → (a : ℕ) × (w : AWord) × (slice_get m p ≡ Some a)
+      × (slice_get h a ≡ Some (Some w ∷ [])) × Rel m h y w
   pub kept : Holds D m h
   pub once : (p q a : ℕ) → slice_get m p ≡ Some a → slice_get m q ≡ Some a → p ≡ q
 
@@ -117,7 +125,8 @@ nth_seam [] ys y (suc i) e = absurd (omega arith)
 nth_seam (x ∷ xs) ys y zero e = absurd (omega arith)
 nth_seam (x ∷ xs) ys y (suc i) e = nth_seam xs ys y i (omega arith)
 
-pub put_seam : {A : Type 0} (xs ys : List A) (y z : A) (i : ℕ) → i ≡ length xs → slice_set (xs ++ y ∷ ys) i z ≡ xs ++ z ∷ ys
+pub put_seam : {A : Type 0} (xs ys : List A) (y z : A) (i : ℕ) → i ≡ length xs →
+    slice_set (xs ++ y ∷ ys) i z ≡ xs ++ z ∷ ys
 put_seam [] ys y z zero e = refl
 put_seam [] ys y z (suc i) e = absurd (omega arith)
 put_seam (x ∷ xs) ys y z zero e = absurd (omega arith)

@@ -4,9 +4,11 @@ use Rattle.std.proofs.Common.{pos, ◌≡◌, ℕ, zero, suc, List, [], ◌∷�
 use Rattle.std.specs.Prelude.{true}
 use Rattle.idx_core.specs.declared.arith.Op.TheVariants.{Add}
 use Rattle.a_terms.specs.Meaning.{Halted, meaning}
-use Rattle.a_terms.specs.Tree.{AInt, AVar, ATuple, AExists, ATy, NoATys, MoreATys, MoreAFields, NoAFields, Var, Num, Lab, Data, Apply, Pack, Value, Proj, Arith, Malloc, Init, ATm, Let, Halt}
+use Rattle.a_terms.specs.Tree.{AInt, AVar, ATuple, AExists, ATy, NoATys, MoreATys, MoreAFields, NoAFields, Var, Num}
+use Rattle.a_terms.specs.Tree.{Lab, Data, Apply, Pack, Value, Proj, Arith, Malloc, Init, ATm, Let, Halt}
 use Rattle.c_terms.specs.C.{CTy, TCInt, TCRef, TCVar, TCSome, NoCTys, MoreCTys}
-use Rattle.h_terms.specs.H.{HVar, HInt, HLabel, HTuple, HApply, HPack, HVal, NoHVals, MoreHVals, HName, HProj, HCell, HGet, HSet, HTm, HLet, HHalt, HBlk}
+use Rattle.h_terms.specs.H.{HVar, HInt, HLabel, HTuple, HApply, HPack, HVal, NoHVals, MoreHVals, HName, HProj, HCell}
+use Rattle.h_terms.specs.H.{HGet, HSet, HTm, HLet, HHalt, HBlk}
 use Rattle.a_law.specs.Allocate.{alloc_data, alloc_main, alloc_prog, atype}
 use Rattle.a_law.specs.Back.{back_data, back_t}
 use Rattle.a_law.specs.Constants.{settle_t, tuples_in}
@@ -189,7 +191,29 @@ cell_is_made = refl
 
 cell_stands : Stands_t [] [] Any [] [] 0 cell_made cell
 cell_stands =
-    inr (refl, (_, _, refl, refl, refl, refl, refl, (_, _, _, refl, refl, refl, refl, refl, (refl, (_, _, inr (refl, refl), refl, refl, (_, refl, refl, refl))))))
+    inr (
+      refl,
+      (
+        _,
+        _,
+        refl,
+        refl,
+        refl,
+        refl,
+        refl,
+        (
+          _,
+          _,
+          _,
+          refl,
+          refl,
+          refl,
+          refl,
+          refl,
+          (refl, (_, _, inr (refl, refl), refl, refl, (_, refl, refl, refl))),
+        ),
+      ),
+    )
 
 reference : atype (TCRef TCInt) ≡ ATuple (MoreAFields AInt true NoAFields)
 reference = refl
@@ -220,8 +244,10 @@ more_than_two : (n : ℕ) → 2 ≡ suc (suc (suc n)) → ⊥
 more_than_two n e = omega (arith, e)
 
 not_idle : (ds : List HVal) (h : HTm) → Stands_t ds [] Any [] [] 0 idle h → ⊥
-not_idle ds h (inl (zero, many, (y, left, var, field, means, at, (x, z, t, set, is, vx, vz, takes, rest)))) = not_first 2 refl set
-not_idle ds h (inl (suc zero, many, (y, var, field, means, (z, left, var2, field2, means2, at, (x, is, value, takes))))) =
+not_idle ds h (inl (zero, many, (y, left, var, field, means, at, (x, z, t, set, is, vx, vz, takes, rest)))) =
+    not_first 2 refl set
+not_idle ds h
+    (inl (suc zero, many, (y, var, field, means, (z, left, var2, field2, means2, at, (x, is, value, takes))))) =
     none_left left _ takes
 not_idle ds h (inl (suc (suc n), many, rest)) = more_than_two n many
 not_idle ds h (inr (one, rest)) = not_first 2 refl one
@@ -249,9 +275,31 @@ shared_halts : meaning (record { blocks = []; tuples = [] }) shared 0 ≡ Halted
 shared_halts = refl
 
 not_shared : (ds : List HVal) (h : HTm) → Stands_t ds [] Any [] [] 0 shared h → ⊥
-not_shared ds h (x, y, t, is, vx, vy, takes, inl (zero, many, (z, left, var, field, means, at, (a, b, c, set, set_is, va, vb, set_takes, rest)))) =
+not_shared ds h (
+  x,
+  y,
+  t,
+  is,
+  vx,
+  vy,
+  takes,
+  inl (zero, many, (z, left, var, field, means, at, (a, b, c, set, set_is, va, vb, set_takes, rest))),
+) =
     not_first 2 refl set
-not_shared ds h (x, y, t, is, vx, vy, takes, inl (suc zero, many, (z, var, field, means, (w, left, var2, field2, means2, at, (a, b, c, set, set_is, va, vb, set_takes, rest))))) =
+not_shared ds h (
+  x,
+  y,
+  t,
+  is,
+  vx,
+  vy,
+  takes,
+  inl (
+    suc zero,
+    many,
+    (z, var, field, means, (w, left, var2, field2, means2, at, (a, b, c, set, set_is, va, vb, set_takes, rest))),
+  ),
+) =
     not_first 2 refl set
 not_shared ds h (x, y, t, is, vx, vy, takes, inl (suc (suc n), many, rest)) = more_than_two n many
 not_shared ds h (x, y, t, is, vx, vy, takes, inr (one, rest)) = not_first 2 refl one

@@ -4,7 +4,8 @@ use Rattle.a_law.specs.Allocate.{atypes}
 use Rattle.a_law.specs.Back.{arg_count}
 use Rattle.c_terms.specs.C.{CTy, CTys, MoreCTys, NoCTys, TCInt, TCRef, TCSome, TCTuple}
 use Rattle.c_terms.specs.Typing.{CAt, cargs_onto, crens_scope}
-use Rattle.h_terms.specs.H.{HApply, HArith, HBlks, HCall, HCell, HDecl, HGet, HHalt, HIf, HInt, HLabel, HLet, HName, HPack, HProj, HSet, HTm, HTuple, HUnpack, HVal, HVals, HVar, MoreHVals, NoHVals}
+use Rattle.h_terms.specs.H.{HApply, HArith, HBlks, HCall, HCell, HDecl, HGet, HHalt, HIf, HInt, HLabel, HLet, HName}
+use Rattle.h_terms.specs.H.{HPack, HProj, HSet, HTm, HTuple, HUnpack, HVal, HVals, HVar, MoreHVals, NoHVals}
 use Rattle.h_terms.specs.Typing.{HGood, HHas, HHave}
 
 abbrev mutual
@@ -50,7 +51,8 @@ mutual
   in_v ks n g k e (HApply v ts) t h = in_v ks n g k e v _ h.3
   in_v ks n g k e (HPack hid v s) t h = in_v ks n g k e v _ h.5
 
-  in_vs : (ks : HBlks) (n : ℕ) (g : List CTy) (k : ℕ) → length g ≡ k → (vs : HVals) (ts : CTys) → HHave ks n g vs ts → InVs k vs
+  in_vs : (ks : HBlks) (n : ℕ) (g : List CTy) (k : ℕ) → length g ≡ k → (vs : HVals) (ts : CTys) → HHave ks n g vs ts →
+      InVs k vs
   in_vs ks n g k e NoHVals ts h = tt
   in_vs ks n g k e (MoreHVals v vs) ts h = (in_v ks n g k e v h.0 h.3, in_vs ks n g k e vs h.1 h.4)
 
@@ -60,16 +62,25 @@ scope_length r (t ∷ g) = ap suc (scope_length r g)
 
 pub in_t : (ks : HBlks) (n : ℕ) (g : List CTy) (k : ℕ) → length g ≡ k → (t : HTm) → HGood ks n g t → InT k t
 in_t ks n g k e (HLet (HName v) t) h = (in_v ks n g k e v h.0 h.1, in_t ks n (h.0 ∷ g) (suc k) (ap suc e) t h.2)
-in_t ks n g k e (HLet (HProj i v) t) h = (in_v ks n g k e v (TCTuple h.0) h.2, in_t ks n (h.1 ∷ g) (suc k) (ap suc e) t h.4)
-in_t ks n g k e (HLet (HArith op v w) t) h = ((in_v ks n g k e v TCInt h.0, in_v ks n g k e w TCInt h.1), in_t ks n (TCInt ∷ g) (suc k) (ap suc e) t h.2)
-in_t ks n g k e (HLet (HUnpack v) t) h = (in_v ks n g k e v (TCSome h.0) h.1, in_t ks (suc n) (h.0 ∷ crens_scope suc g) (suc k) (ap suc (scope_length suc g ∙ e)) t h.2)
+in_t ks n g k e (HLet (HProj i v) t) h =
+    (in_v ks n g k e v (TCTuple h.0) h.2, in_t ks n (h.1 ∷ g) (suc k) (ap suc e) t h.4)
+in_t ks n g k e (HLet (HArith op v w) t) h =
+    ((in_v ks n g k e v TCInt h.0, in_v ks n g k e w TCInt h.1), in_t ks n (TCInt ∷ g) (suc k) (ap suc e) t h.2)
+in_t ks n g k e (HLet (HUnpack v) t) h = (
+  in_v ks n g k e v (TCSome h.0) h.1,
+  in_t ks (suc n) (h.0 ∷ crens_scope suc g) (suc k) (ap suc (scope_length suc g ∙ e)) t h.2,
+)
 in_t ks n g k e (HLet (HCell v) t) h = (in_v ks n g k e v h.0 h.1, in_t ks n (TCRef h.0 ∷ g) (suc k) (ap suc e) t h.2)
 in_t ks n g k e (HLet (HGet v) t) h = (in_v ks n g k e v (TCRef h.0) h.1, in_t ks n (h.0 ∷ g) (suc k) (ap suc e) t h.2)
-in_t ks n g k e (HLet (HSet v w) t) h = ((in_v ks n g k e v (TCRef h.0) h.1, in_v ks n g k e w h.0 h.2), in_t ks n (TCTuple NoCTys ∷ g) (suc k) (ap suc e) t h.3)
+in_t ks n g k e (HLet (HSet v w) t) h = (
+  (in_v ks n g k e v (TCRef h.0) h.1, in_v ks n g k e w h.0 h.2),
+  in_t ks n (TCTuple NoCTys ∷ g) (suc k) (ap suc e) t h.3,
+)
 in_t ks n g k e (HCall f ts vs) h = (in_v ks n g k e f _ h.1, in_vs ks n g k e vs _ h.3)
 in_t ks n g k e (HIf v t u) h = (in_v ks n g k e v TCInt h.0, in_t ks n g k e t h.1, in_t ks n g k e u h.2)
 in_t ks n g k e (HHalt v) h = in_v ks n g k e v TCInt h
 
-pub args_length : (args : CTys) (g : List CTy) (k : ℕ) → length g ≡ k → length (cargs_onto args g) ≡ arg_count k (atypes args)
+pub args_length : (args : CTys) (g : List CTy) (k : ℕ) → length g ≡ k →
+    length (cargs_onto args g) ≡ arg_count k (atypes args)
 args_length NoCTys g k e = e
 args_length (MoreCTys t ts) g k e = args_length ts (t ∷ g) (suc k) (ap suc e)

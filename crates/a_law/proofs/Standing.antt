@@ -1,20 +1,28 @@
 -- The allocation of a typed program stands for it.
-use Rattle.std.proofs.Common.{◌≡◌, ◌<◌, inl, inr, ℕ, zero, suc, ◌+◌, ◌-◌, List, [], ◌∷◌, ◌++◌, length, Some, None, refl, sym, ap, ◌∙◌, subst, arith, slice_get, length-append, append-nil, append_assoc, ap₂, true≢false}
+use Rattle.std.proofs.Common.{◌≡◌, ◌<◌, inl, inr, ℕ, zero, suc, ◌+◌, ◌-◌, List, [], ◌∷◌, ◌++◌, length, Some, None}
+use Rattle.std.proofs.Common.{refl, sym, ap, ◌∙◌, subst, arith, slice_get, length-append, append-nil, append_assoc}
+use Rattle.std.proofs.Common.{ap₂, true≢false}
 use Rattle.std.specs.Prelude.{Bool}
 use Rattle.a_law.proofs.Consts.{Within, back, front, whole}
 use Rattle.a_law.proofs.Known.{AgreeK, Told, all_shows, agree_args, fact, fact_all, fact_block, fact_d, fact_t}
 use Rattle.a_law.proofs.Rel.{At, Later, at_more, at_new}
 use Rattle.a_law.proofs.Scopes.{InT, InV, InVs, args_length, in_t}
-use Rattle.a_law.specs.Allocate.{Known, alloc_all, alloc_t, are_const, arg_depth, arg_levels, atypes, d_types, data_all, data_t, dcl, fill, final, known_of, level_of, n_all, n_block, n_d, n_t, n_v, n_vs, plain, pre_v, pre_vs, v_next, v_type, v_types, val, vals, var_of, vs_next}
+use Rattle.a_law.specs.Allocate.{Known, alloc_all, alloc_t, are_const, arg_depth, arg_levels, atypes, d_types}
+use Rattle.a_law.specs.Allocate.{data_all, data_t, dcl, fill, final, known_of, level_of, n_all, n_block, n_d, n_t, n_v}
+use Rattle.a_law.specs.Allocate.{n_vs, plain, pre_v, pre_vs, v_next, v_type, v_types, val, vals, var_of, vs_next}
 use Rattle.a_law.specs.Back.{arg_count}
-use Rattle.a_law.specs.Constants.{Constants, constant, named_by, of_args, one_if, tuples_all, tuples_d, tuples_in, tuples_t, tuples_v, tuples_vs}
-use Rattle.a_law.specs.Stands.{AllocStands, Any, Filling, Gone, Is, Made, Means, Stands_all, Stands_t, Stands_v, Stands_vs, Thing, all_take, arg_things, listed, takes, thing_at, tuple_of}
+use Rattle.a_law.specs.Constants.{Constants, constant, named_by, of_args, one_if, tuples_all, tuples_d, tuples_in}
+use Rattle.a_law.specs.Constants.{tuples_t, tuples_v, tuples_vs}
+use Rattle.a_law.specs.Stands.{AllocStands, Any, Filling, Gone, Is, Made, Means, Stands_all, Stands_t, Stands_v}
+use Rattle.a_law.specs.Stands.{Stands_vs, Thing, all_take, arg_things, listed, takes, thing_at, tuple_of}
 use Rattle.a_terms.specs.Meaning.{pick}
-use Rattle.a_terms.specs.Tree.{AVal, ATm, ATy, ATys, Call, Data, Halt, If0, Init, Let, Malloc, MoreATys, NoATys, Var, arity}
+use Rattle.a_terms.specs.Tree.{AVal, ATm, ATy, ATys, Call, Data, Halt, If0, Init, Let, Malloc, MoreATys, NoATys, Var}
+use Rattle.a_terms.specs.Tree.{arity}
 use Rattle.a_terms.specs.Typing.{types_of}
 use Rattle.c_terms.specs.C.{CTys, MoreCTys, NoCTys}
 use Rattle.c_terms.specs.Typing.{cargs_onto}
-use Rattle.h_terms.specs.H.{HApply, HArith, HBlks, HCall, HCell, HDecl, HGet, HHalt, HIf, HInt, HLabel, HLet, HName, HPack, HProj, HSet, HTm, HTuple, HUnpack, HVal, HVals, HVar, MoreHVals, NoHVals}
+use Rattle.h_terms.specs.H.{HApply, HArith, HBlks, HCall, HCell, HDecl, HGet, HHalt, HIf, HInt, HLabel, HLet, HName}
+use Rattle.h_terms.specs.H.{HPack, HProj, HSet, HTm, HTuple, HUnpack, HVal, HVals, HVar, MoreHVals, NoHVals}
 use Rattle.h_terms.specs.Typing.{AllGood}
 
 thing_nth : (env : List Thing) (i : ℕ) (x : Thing) → slice_get env i ≡ Some x → thing_at env i ≡ x
@@ -41,7 +49,8 @@ Agree d [] (suc k) env = ⊥
 Agree d (l ∷ ls) zero env = ⊥
 Agree d (l ∷ ls) (suc k) env = At d env l.level (Is k) × Agree d ls k env
 
-agree_later : (ls : List Known) (k d d2 : ℕ) (env env2 : List Thing) → Later d env d2 env2 → Agree d ls k env → Agree d2 ls k env2
+agree_later : (ls : List Known) (k d d2 : ℕ) (env env2 : List Thing) → Later d env d2 env2 → Agree d ls k env →
+    Agree d2 ls k env2
 agree_later [] zero d d2 env env2 q a = tt
 agree_later [] (suc k) d d2 env env2 q a = absurd a
 agree_later (l ∷ ls) zero d d2 env env2 q a = absurd a
@@ -95,7 +104,8 @@ module _ (ds : List HVal) where
         subst (λ n. Stays env3 (var_of d3 (level_of (slice_get ms i))) n) z
         (var_read ms k (suc j) i d env (omega (arith, e)) (omega arith) a.1 d3 env3 q)
 
-    record Comes (d : ℕ) (env : List Thing) (pre : ATm → ATm) (d2 : ℕ) (Q : List Thing → List Thing → Type 0) : Type 0 where
+    record Comes (d : ℕ) (env : List Thing) (pre : ATm → ATm) (d2 : ℕ) (Q : List Thing → List Thing → Type 0) :
+        Type 0 where
       vars : List Thing
       taken : List Thing
       shows : (made next : List Thing) → next ≡ made ++ taken → (rest : ATm) (h : HTm) →
@@ -121,7 +131,8 @@ module _ (ds : List HVal) where
     onto_none NoHVals = refl
     onto_none (MoreHVals v vs) = ap (MoreHVals v) (onto_none vs)
 
-    at_last : (fs : List HVal) (f : HVal) (ws : HVals) → onto_all (listed (fs ++ f ∷ [])) ws ≡ onto_all (listed fs) (MoreHVals f ws)
+    at_last : (fs : List HVal) (f : HVal) (ws : HVals) →
+        onto_all (listed (fs ++ f ∷ [])) ws ≡ onto_all (listed fs) (MoreHVals f ws)
     at_last [] f ws = refl
     at_last (x ∷ fs) f ws = ap (MoreHVals x) (at_last fs f ws)
 
@@ -188,12 +199,17 @@ module _ (ds : List HVal) where
     -- a tuple, where it is a tuple of constants or not
     abbrev TupleComes : HVals → ℕ → ℕ → List Thing → Bool → Type 0
     TupleComes vs b d env c =
-        Comes d env (λ rest. pick c rest (pre_vs ks g ls b d vs (Let (Malloc (v_types ks g vs)) (fill ls b d (vs_next ls d vs) 1 vs rest)))) (pick c d (suc (final (vs_next ls d vs) vs)))
+        Comes d env (λ rest.
+        pick c rest (pre_vs ks g ls b d vs
+        (Let (Malloc (v_types ks g vs)) (fill ls b d (vs_next ls d vs) 1 vs rest))))
+        (pick c d (suc (final (vs_next ls d vs) vs)))
         (λ taken env2. (d3 : ℕ) (env3 : List Thing) → Later (pick c d (suc (final (vs_next ls d vs) vs))) env2 d3 env3 →
         Stands_v ds os env3 k0 (pick c (Data (n_vs ls b vs)) (Var (d3 - suc (final (vs_next ls d vs) vs)))) (HTuple vs)
         × (takes env3 (pick c (Data (n_vs ls b vs)) (Var (d3 - suc (final (vs_next ls d vs) vs)))) ≡ taken))
 
-    tuple_comes : (vs : HVals) (b d : ℕ) (env : List Thing) → Comes d env (pre_vs ks g ls b d vs) (vs_next ls d vs) (Reads b d vs (vs_next ls d vs)) → Told ds ks g ls os known b (HTuple vs) → TupleComes vs b d env (are_const ls vs)
+    tuple_comes : (vs : HVals) (b d : ℕ) (env : List Thing) →
+        Comes d env (pre_vs ks g ls b d vs) (vs_next ls d vs) (Reads b d vs (vs_next ls d vs)) →
+        Told ds ks g ls os known b (HTuple vs) → TupleComes vs b d env (are_const ls vs)
     tuple_comes vs b d env f (inl c) = subst (TupleComes vs b d env) (sym c.yes) (record {
       vars = env;
       taken = [];
@@ -217,20 +233,23 @@ module _ (ds : List HVal) where
               (inl (many us, many_types ks g vs, z.shows (made ++ f.taken) made next refl e rest h x));
           later = λ p x q. z.later p x (on p x (f.later p x q));
           good = λ d3 env3 q.
-              let there = thing_nth env3 (d3 - suc (final l vs)) full (q (final l vs) full (at_new (final l vs) z.vars full)).1 in
+              let there = thing_nth env3 (d3 - suc (final l vs)) full
+              (q (final l vs) full (at_new (final l vs) z.vars full)).1 in
               subst (λ x. Means os x k0 (HTuple vs) × (tuple_of x ≡ full ∷ [])) (sym there)
               ((refl, ap HTuple (sym (then_is vs [])), n.1), refl);
         })
 
     mutual
-      comes_v : (v : HVal) (b d : ℕ) (env : List Thing) → Within ds b (tuples_v os v) → InV k0 v → Agree d ls k0 env → Comes d env (pre_v ks g ls b d v) (v_next ls d v) (Read b d v (v_next ls d v))
+      comes_v : (v : HVal) (b d : ℕ) (env : List Thing) → Within ds b (tuples_v os v) → InV k0 v → Agree d ls k0 env →
+          Comes d env (pre_v ks g ls b d v) (v_next ls d v) (Read b d v (v_next ls d v))
       comes_v (HVar i) b d env wi s a = record {
         vars = env;
         taken = [];
         shows = λ made next e rest h x. as_is made next e env rest h x;
         later = λ p x q. q;
         good = λ d3 env3 q. (let z : k0 ≡ k0 + 0 = omega arith in let y : 0 + i ≡ i = omega arith in
-            subst (λ n. Stays env3 (var_of d3 (level_of (slice_get ls i))) n) y (var_read ls k0 0 i d env z s a d3 env3 q));
+            subst (λ n. Stays env3 (var_of d3 (level_of (slice_get ls i))) n) y
+            (var_read ls k0 0 i d env z s a d3 env3 q));
       }
       comes_v (HInt n) b d env wi s a = record {
         vars = env;
@@ -247,7 +266,9 @@ module _ (ds : List HVal) where
         good = λ d3 env3 q. (refl, refl);
       }
       comes_v (HTuple vs) b d env wi s a =
-          tuple_comes vs b d env (comes_vs vs b d env (front ds b (tuples_vs os vs) (one_if (constant os (HTuple vs))) wi) s a) (fact ds ks g ls os known (HTuple vs) b wi).told
+          tuple_comes vs b d env
+          (comes_vs vs b d env (front ds b (tuples_vs os vs) (one_if (constant os (HTuple vs))) wi) s a)
+          (fact ds ks g ls os known (HTuple vs) b wi).told
       comes_v (HApply v ts) b d env wi s a =
           let r = comes_v v b d env wi s a in
           record {
@@ -267,7 +288,8 @@ module _ (ds : List HVal) where
             good = λ d3 env3 q. (let x = r.good d3 env3 q in ((h, v, u, refl, refl, refl, x.0), x.1));
           }
 
-      comes_vs : (vs : HVals) (b d : ℕ) (env : List Thing) → Within ds b (tuples_vs os vs) → InVs k0 vs → Agree d ls k0 env → Comes d env (pre_vs ks g ls b d vs) (vs_next ls d vs) (Reads b d vs (vs_next ls d vs))
+      comes_vs : (vs : HVals) (b d : ℕ) (env : List Thing) → Within ds b (tuples_vs os vs) → InVs k0 vs →
+          Agree d ls k0 env → Comes d env (pre_vs ks g ls b d vs) (vs_next ls d vs) (Reads b d vs (vs_next ls d vs))
       comes_vs NoHVals b d env wi s a = record {
         vars = env;
         taken = [];
@@ -282,7 +304,8 @@ module _ (ds : List HVal) where
           let w0 = front ds b us ws wi in
           let x = comes_v v b d env w0 s.0 a in
           let d1 = v_next ls d v in
-          let y = comes_vs vs b1 d1 x.vars (back ds b b1 us ws (fact ds ks g ls os known v b w0).long wi) s.1 (agree_later ls k0 d d1 env x.vars x.later a) in
+          let y = comes_vs vs b1 d1 x.vars (back ds b b1 us ws (fact ds ks g ls os known v b w0).long wi) s.1
+          (agree_later ls k0 d d1 env x.vars x.later a) in
           record {
             vars = y.vars;
             taken = x.taken ++ y.taken;
@@ -296,9 +319,11 @@ module _ (ds : List HVal) where
     -- two values, one after the other
     record Pair (v w : HVal) (b d : ℕ) (env : List Thing) : Type 0 where
       one : Comes d env (pre_v ks g ls b d v) (v_next ls d v) (Read b d v (v_next ls d v))
-      two : Comes (v_next ls d v) one.vars (pre_v ks g ls (n_v ls b v) (v_next ls d v) w) (v_next ls (v_next ls d v) w) (Read (n_v ls b v) (v_next ls d v) w (v_next ls (v_next ls d v) w))
+      two : Comes (v_next ls d v) one.vars (pre_v ks g ls (n_v ls b v) (v_next ls d v) w) (v_next ls (v_next ls d v) w)
+          (Read (n_v ls b v) (v_next ls d v) w (v_next ls (v_next ls d v) w))
 
-    comes_two : (v w : HVal) (b d : ℕ) (env : List Thing) → Within ds b (tuples_v os v ++ tuples_v os w) → InV k0 v × InV k0 w → Agree d ls k0 env → Pair v w b d env
+    comes_two : (v w : HVal) (b d : ℕ) (env : List Thing) → Within ds b (tuples_v os v ++ tuples_v os w) →
+        InV k0 v × InV k0 w → Agree d ls k0 env → Pair v w b d env
     comes_two v w b d env wi s a =
         let us = tuples_v os v in
         let ws = tuples_v os w in
@@ -306,17 +331,25 @@ module _ (ds : List HVal) where
         let x = comes_v v b d env w0 s.0 a in
         let b1 = n_v ls b v in
         let d1 = v_next ls d v in
-        record { one = x; two = comes_v w b1 d1 x.vars (back ds b b1 us ws (fact ds ks g ls os known v b w0).long wi) s.1 (agree_later ls k0 d d1 env x.vars x.later a) }
+        record {
+          one = x;
+          two = comes_v w b1 d1 x.vars (back ds b b1 us ws (fact ds ks g ls os known v b w0).long wi) s.1
+              (agree_later ls k0 d d1 env x.vars x.later a);
+        }
 
-  further : (ls : List Known) (l : Known) (k d d2 : ℕ) (env vars : List Thing) → l.level ≡ d2 → Later d env d2 vars → Agree d ls k env → Agree (suc d2) (l ∷ ls) (suc k) (Is k ∷ vars)
-  further ls l k d d2 env vars e q a =
-      (subst (λ m. At (suc d2) (Is k ∷ vars) m (Is k)) (sym e) (at_new d2 vars (Is k)), agree_later ls k d (suc d2) env (Is k ∷ vars) (λ p u b. at_more d2 vars p u (Is k) (q p u b)) a)
+  further : (ls : List Known) (l : Known) (k d d2 : ℕ) (env vars : List Thing) → l.level ≡ d2 → Later d env d2 vars →
+      Agree d ls k env → Agree (suc d2) (l ∷ ls) (suc k) (Is k ∷ vars)
+  further ls l k d d2 env vars e q a = (
+    subst (λ m. At (suc d2) (Is k ∷ vars) m (Is k)) (sym e) (at_new d2 vars (Is k)),
+    agree_later ls k d (suc d2) env (Is k ∷ vars) (λ p u b. at_more d2 vars p u (Is k) (q p u b)) a,
+  )
 
   module _ (ks : HBlks) where
     abbrev Standing : HTm → List ATy → List Known → Constants → ℕ → ℕ → ℕ → List Thing → Type 0
     Standing t g ls os k b d env = Stands_t ds os Any [] env k (alloc_t ks g ls b d t) t
 
-    stands_is : (t : HTm) (g : List ATy) (ls : List Known) (os : Constants) (k b d : ℕ) (env : List Thing) → Within ds b (tuples_t os t) → AgreeK ds ls os → InT k t → Agree d ls k env → Standing t g ls os k b d env
+    stands_is : (t : HTm) (g : List ATy) (ls : List Known) (os : Constants) (k b d : ℕ) (env : List Thing) →
+        Within ds b (tuples_t os t) → AgreeK ds ls os → InT k t → Agree d ls k env → Standing t g ls os k b d env
     stands_is (HLet (HName v) t) g ls os k b d env wi kn s a =
         let e : HDecl = HName v in
         let w0 = front ds b (tuples_d os e) (tuples_t (named_by os e ∷ os) t) wi in
@@ -326,7 +359,15 @@ module _ (ds : List HVal) where
         let x = comes_v k ks g ls os kn v b d env w0 s.0 a in
         let d2 = v_next ls d v in
         let r = x.good d2 x.vars (λ p u q. q) in
-        x.shows [] x.taken refl _ _ (v, t, refl, r.0, r.1, stands_is t (d_types ks g e) (l ∷ ls) (constant os v ∷ os) (suc k) (n_d ls b e) (suc d2) (Is k ∷ x.vars) w1 (f.same, kn) s.1 (further ls l k d d2 env x.vars refl x.later a))
+        x.shows [] x.taken refl _ _ (
+          v,
+          t,
+          refl,
+          r.0,
+          r.1,
+          stands_is t (d_types ks g e) (l ∷ ls) (constant os v ∷ os) (suc k) (n_d ls b e)
+              (suc d2) (Is k ∷ x.vars) w1 (f.same, kn) s.1 (further ls l k d d2 env x.vars refl x.later a),
+        )
     stands_is (HLet (HProj i v) t) g ls os k b d env wi kn s a =
         let e : HDecl = HProj i v in
         let w0 = front ds b (tuples_d os e) (tuples_t (named_by os e ∷ os) t) wi in
@@ -336,7 +377,15 @@ module _ (ds : List HVal) where
         let x = comes_v k ks g ls os kn v b d env w0 s.0 a in
         let d2 = v_next ls d v in
         let r = x.good d2 x.vars (λ p u q. q) in
-        x.shows [] x.taken refl _ _ (v, t, inl refl, r.0, r.1, stands_is t (d_types ks g e) (l ∷ ls) (None ∷ os) (suc k) (n_d ls b e) (suc d2) (Is k ∷ x.vars) w1 (tt, kn) s.1 (further ls l k d d2 env x.vars refl x.later a))
+        x.shows [] x.taken refl _ _ (
+          v,
+          t,
+          inl refl,
+          r.0,
+          r.1,
+          stands_is t (d_types ks g e) (l ∷ ls) (None ∷ os) (suc k) (n_d ls b e) (suc d2)
+              (Is k ∷ x.vars) w1 (tt, kn) s.1 (further ls l k d d2 env x.vars refl x.later a),
+        )
     stands_is (HLet (HArith op v w) t) g ls os k b d env wi kn s a =
         let e : HDecl = HArith op v w in
         let w0 = front ds b (tuples_d os e) (tuples_t (named_by os e ∷ os) t) wi in
@@ -352,7 +401,8 @@ module _ (ds : List HVal) where
         let end = Let (dcl ls b d e) rest in
         let r = x.good d2 y.vars y.later in
         let s2 = y.good d2 y.vars (λ p u q. q) in
-        x.shows [] x.taken refl (pre_v ks g ls (n_v ls b v) d1 w end) _ (y.shows x.taken (x.taken ++ y.taken) refl end _ (
+        x.shows [] x.taken refl (pre_v ks g ls (n_v ls b v) d1 w end) _
+        (y.shows x.taken (x.taken ++ y.taken) refl end _ (
           v,
           w,
           t,
@@ -360,7 +410,8 @@ module _ (ds : List HVal) where
           r.0,
           s2.0,
           ap₂ ◌++◌ r.1 s2.1,
-          stands_is t (d_types ks g e) (l ∷ ls) (None ∷ os) (suc k) (n_d ls b e) (suc d2) (Is k ∷ y.vars) w1 (tt, kn) s.1 (further ls l k d d2 env y.vars refl (λ p u q. y.later p u (x.later p u q)) a),
+          stands_is t (d_types ks g e) (l ∷ ls) (None ∷ os) (suc k) (n_d ls b e) (suc d2) (Is k ∷ y.vars) w1
+              (tt, kn) s.1 (further ls l k d d2 env y.vars refl (λ p u q. y.later p u (x.later p u q)) a),
         ))
     stands_is (HLet (HUnpack v) t) g ls os k b d env wi kn s a =
         let e : HDecl = HUnpack v in
@@ -371,7 +422,15 @@ module _ (ds : List HVal) where
         let x = comes_v k ks g ls os kn v b d env w0 s.0 a in
         let d2 = v_next ls d v in
         let r = x.good d2 x.vars (λ p u q. q) in
-        x.shows [] x.taken refl _ _ (v, t, refl, r.0, r.1, stands_is t (d_types ks g e) (l ∷ ls) (None ∷ os) (suc k) (n_d ls b e) (suc d2) (Is k ∷ x.vars) w1 (tt, kn) s.1 (further ls l k d d2 env x.vars refl x.later a))
+        x.shows [] x.taken refl _ _ (
+          v,
+          t,
+          refl,
+          r.0,
+          r.1,
+          stands_is t (d_types ks g e) (l ∷ ls) (None ∷ os) (suc k) (n_d ls b e) (suc d2)
+              (Is k ∷ x.vars) w1 (tt, kn) s.1 (further ls l k d d2 env x.vars refl x.later a),
+        )
     stands_is (HLet (HCell v) t) g ls os k b d env wi kn s a =
         let e : HDecl = HCell v in
         let w0 = front ds b (tuples_d os e) (tuples_t (named_by os e ∷ os) t) wi in
@@ -393,7 +452,9 @@ module _ (ds : List HVal) where
             refl,
             r.0,
             r.1,
-            stands_is t (d_types ks g e) (l ∷ ls) (None ∷ os) (suc k) (n_d ls b e) (suc (suc d1)) (Is k ∷ Gone ∷ x.vars) w1 (tt, kn) s.1 (further ls l k d (suc d1) env (Gone ∷ x.vars) refl (λ p u q. on p u (x.later p u q)) a),
+            stands_is t (d_types ks g e) (l ∷ ls) (None ∷ os) (suc k) (n_d ls b e) (suc (suc d1))
+                (Is k ∷ Gone ∷ x.vars) w1 (tt, kn) s.1
+                (further ls l k d (suc d1) env (Gone ∷ x.vars) refl (λ p u q. on p u (x.later p u q)) a),
           ),
         ))
     stands_is (HLet (HGet v) t) g ls os k b d env wi kn s a =
@@ -405,7 +466,15 @@ module _ (ds : List HVal) where
         let x = comes_v k ks g ls os kn v b d env w0 s.0 a in
         let d2 = v_next ls d v in
         let r = x.good d2 x.vars (λ p u q. q) in
-        x.shows [] x.taken refl _ _ (v, t, inr (refl, refl), r.0, r.1, stands_is t (d_types ks g e) (l ∷ ls) (None ∷ os) (suc k) (n_d ls b e) (suc d2) (Is k ∷ x.vars) w1 (tt, kn) s.1 (further ls l k d d2 env x.vars refl x.later a))
+        x.shows [] x.taken refl _ _ (
+          v,
+          t,
+          inr (refl, refl),
+          r.0,
+          r.1,
+          stands_is t (d_types ks g e) (l ∷ ls) (None ∷ os) (suc k) (n_d ls b e)
+              (suc d2) (Is k ∷ x.vars) w1 (tt, kn) s.1 (further ls l k d d2 env x.vars refl x.later a),
+        )
     stands_is (HLet (HSet v w) t) g ls os k b d env wi kn s a =
         let e : HDecl = HSet v w in
         let w0 = front ds b (tuples_d os e) (tuples_t (named_by os e ∷ os) t) wi in
@@ -422,7 +491,8 @@ module _ (ds : List HVal) where
         let end = Let (Init (val ls b d d2 v) 1 (val ls (n_v ls b v) d1 d2 w)) (Let (Malloc NoATys) rest) in
         let r = x.good d2 y.vars y.later in
         let s2 = y.good d2 y.vars (λ p u q. q) in
-        x.shows [] x.taken refl (pre_v ks g ls (n_v ls b v) d1 w end) _ (y.shows x.taken (x.taken ++ y.taken) refl end _ (
+        x.shows [] x.taken refl (pre_v ks g ls (n_v ls b v) d1 w end) _
+        (y.shows x.taken (x.taken ++ y.taken) refl end _ (
           v,
           w,
           t,
@@ -431,7 +501,12 @@ module _ (ds : List HVal) where
           r.0,
           s2.0,
           ap₂ ◌++◌ r.1 s2.1,
-          (refl, stands_is t (d_types ks g e) (l ∷ ls) (None ∷ os) (suc k) (n_d ls b e) (suc (suc d2)) (Is k ∷ Gone ∷ y.vars) w1 (tt, kn) s.1 (further ls l k d (suc d2) env (Gone ∷ y.vars) refl (λ p u q. on p u (y.later p u (x.later p u q))) a)),
+          (
+            refl,
+            stands_is t (d_types ks g e) (l ∷ ls) (None ∷ os) (suc k) (n_d ls b e) (suc (suc d2))
+                (Is k ∷ Gone ∷ y.vars) w1 (tt, kn) s.1
+                (further ls l k d (suc d2) env (Gone ∷ y.vars) refl (λ p u q. on p u (y.later p u (x.later p u q))) a),
+          ),
         ))
     stands_is (HCall f ts vs) g ls os k b d env wi kn s a =
         let us = tuples_v os f in
@@ -440,7 +515,8 @@ module _ (ds : List HVal) where
         let x = comes_v k ks g ls os kn f b d env w0 s.0 a in
         let b1 = n_v ls b f in
         let d1 = v_next ls d f in
-        let y = comes_vs k ks g ls os kn vs b1 d1 x.vars (back ds b b1 us ws (fact ds ks g ls os kn f b w0).long wi) s.1 (agree_later ls k d d1 env x.vars x.later a) in
+        let y = comes_vs k ks g ls os kn vs b1 d1 x.vars (back ds b b1 us ws (fact ds ks g ls os kn f b w0).long wi)
+        s.1 (agree_later ls k d d1 env x.vars x.later a) in
         let d2 = vs_next ls d1 vs in
         let end = Call (val ls b d d2 f) (atypes ts) (vals ls b1 d1 d2 vs) in
         let r = x.good d2 y.vars y.later in
@@ -461,23 +537,35 @@ module _ (ds : List HVal) where
         let x = comes_v k ks g ls os kn v b d env w0 s.0 a in
         let a2 = agree_later ls k d d1 env x.vars x.later a in
         let r = x.good d1 x.vars (λ p z q. q) in
-        x.shows [] x.taken refl (If0 (val ls b d d1 v) (alloc_t ks g ls b1 d1 t) (alloc_t ks g ls b2 d1 u)) _
-        (v, t, u, refl, r.0, r.1, stands_is t g ls os k b1 d1 x.vars w2 kn s.1 a2, stands_is u g ls os k b2 d1 x.vars w3 kn s.2 a2)
+        x.shows [] x.taken refl (If0 (val ls b d d1 v) (alloc_t ks g ls b1 d1 t) (alloc_t ks g ls b2 d1 u)) _ (
+          v,
+          t,
+          u,
+          refl,
+          r.0,
+          r.1,
+          stands_is t g ls os k b1 d1 x.vars w2 kn s.1 a2,
+          stands_is u g ls os k b2 d1 x.vars w3 kn s.2 a2,
+        )
     stands_is (HHalt v) g ls os k b d env wi kn s a =
         let x = comes_v k ks g ls os kn v b d env wi s a in
         let d1 = v_next ls d v in
         let r = x.good d1 x.vars (λ p z q. q) in
         x.shows [] x.taken refl (Halt (val ls b d d1 v)) _ (v, refl, r.0, r.1)
 
-    args_agree : (args : CTys) (ls : List Known) (k d : ℕ) (env : List Thing) → Agree d ls k env → Agree (arg_depth d args) (arg_levels d ls args) (arg_count k (atypes args)) (arg_things k env (atypes args))
+    args_agree : (args : CTys) (ls : List Known) (k d : ℕ) (env : List Thing) → Agree d ls k env →
+        Agree (arg_depth d args) (arg_levels d ls args) (arg_count k (atypes args)) (arg_things k env (atypes args))
     args_agree NoCTys ls k d env a = a
-    args_agree (MoreCTys t ts) ls k d env a = args_agree ts (plain d ∷ ls) (suc k) (suc d) (Is k ∷ env) (further ls (plain d) k d d env env refl (λ p u q. q) a)
+    args_agree (MoreCTys t ts) ls k d env a =
+        args_agree ts (plain d ∷ ls) (suc k) (suc d) (Is k ∷ env)
+        (further ls (plain d) k d d env env refl (λ p u q. q) a)
 
     count_is : (ts : ATys) (k : ℕ) → arg_count k ts ≡ k + arity ts
     count_is NoATys k = omega arith
     count_is (MoreATys t ts) k = count_is ts (suc k) ∙ omega arith
 
-    all_stand : (xs : HBlks) (b : ℕ) → Within ds b (tuples_all xs) → AllGood ks xs → Stands_all ds (alloc_all ks b xs) xs
+    all_stand : (xs : HBlks) (b : ℕ) → Within ds b (tuples_all xs) → AllGood ks xs →
+        Stands_all ds (alloc_all ks b xs) xs
     all_stand [] b wi h = tt
     all_stand (x ∷ xs) b wi h =
         let os = of_args x.args [] in
@@ -486,10 +574,21 @@ module _ (ds : List HVal) where
         let w0 = front ds b us ws wi in
         let b1 = n_block b x in
         let w1 = back ds b b1 us ws (fact_block ds ks x b w0).0 wi in
-        let s = in_t ks x.owes (cargs_onto x.args []) (arg_count 0 (atypes x.args)) (args_length x.args [] 0 refl) x.body h.0.1 in
-        let z = stands_is x.body (types_of (atypes x.args) []) (arg_levels 0 [] x.args) os (arg_count 0 (atypes x.args)) b (arg_depth 0 x.args) (arg_things 0 [] (atypes x.args)) w0 (agree_args ds x.args 0 [] [] tt) s (args_agree x.args [] 0 0 [] tt) in
-        let n : arg_count 0 (atypes x.args) ≡ arity (atypes x.args) = count_is (atypes x.args) 0 ∙ omega arith in
-        ((refl, refl, subst (λ k. Stands_t ds os Any [] (arg_things 0 [] (atypes x.args)) k (alloc_t ks (types_of (atypes x.args) []) (arg_levels 0 [] x.args) b (arg_depth 0 x.args) x.body) x.body) n z), all_stand xs b1 w1 h.1)
+        let s = in_t ks x.owes (cargs_onto x.args []) (arg_count 0 (atypes x.args)) (args_length x.args [] 0 refl)
+        x.body h.0.1 in
+        let z = stands_is x.body (types_of (atypes x.args) []) (arg_levels 0 [] x.args) os
+        (arg_count 0 (atypes x.args)) b (arg_depth 0 x.args) (arg_things 0 [] (atypes x.args)) w0
+        (agree_args ds x.args 0 [] [] tt) s (args_agree x.args [] 0 0 [] tt) in
+        let n : arg_count 0 (atypes x.args) ≡ arity (atypes x.args) = count_is (atypes x.args) 0 ∙ omega arith in (
+          (
+            refl,
+            refl,
+            subst (λ k. Stands_t ds os Any [] (arg_things 0 [] (atypes x.args)) k
+                (alloc_t ks (types_of (atypes x.args) []) (arg_levels 0 [] x.args) b (arg_depth 0 x.args) x.body)
+                x.body) n z,
+          ),
+          all_stand xs b1 w1 h.1,
+        )
 
 pub alloc_stands : AllocStands
 alloc_stands ks t h =
@@ -500,5 +599,8 @@ alloc_stands ks t h =
     let w0 = front ds 0 us ws (whole ds) in
     let f = fact_all ds ks ks 0 w0 in
     let w1 = back ds 0 b us ws f.0 (whole ds) in
-    let m = fact_t ds ks t [] [] [] b 0 tt w1 in
-    (all_shows ds (data_all ks 0 ks) (data_t ks [] [] b 0 t) us ws f.1 m.1, all_stand ds ks ks 0 w0 h.0, stands_is ds ks t [] [] [] 0 b 0 [] w1 tt (in_t ks 0 [] 0 refl t h.1) tt)
+    let m = fact_t ds ks t [] [] [] b 0 tt w1 in (
+      all_shows ds (data_all ks 0 ks) (data_t ks [] [] b 0 t) us ws f.1 m.1,
+      all_stand ds ks ks 0 w0 h.0,
+      stands_is ds ks t [] [] [] 0 b 0 [] w1 tt (in_t ks 0 [] 0 refl t h.1) tt,
+    )

@@ -1,11 +1,14 @@
 -- Allocation keeps the number of choices.
 use Rattle.std.proofs.Common.{◌≡◌, ℕ, Bool, true, false, suc, List, [], ◌∷◌, length, refl, ap, ◌∙◌, arith}
-use Rattle.a_law.specs.Allocate.{Known, alloc_all, alloc_t, arg_depth, arg_levels, atypes, are_const, d_next, d_types, dcl, fill, known_of, n_block, n_d, n_t, n_v, pre_d, pre_v, pre_vs, v_next, v_type, v_types, val, vs_next}
+use Rattle.a_law.specs.Allocate.{Known, alloc_all, alloc_t, arg_depth, arg_levels, atypes, are_const, d_next, d_types}
+use Rattle.a_law.specs.Allocate.{dcl, fill, known_of, n_block, n_d, n_t, n_v, pre_d, pre_v, pre_vs, v_next, v_type}
+use Rattle.a_law.specs.Allocate.{v_types, val, vs_next}
 use Rattle.a_terms.specs.Bound.{all_thirds, thirds}
 use Rattle.a_terms.specs.Meaning.{pick}
 use Rattle.a_terms.specs.Tree.{ATm, ATy, If0, Init, Let, Malloc, MoreATys, NoATys}
 use Rattle.a_terms.specs.Typing.{types_of}
-use Rattle.h_terms.specs.H.{HApply, HArith, HBlks, HCall, HCell, HDecl, HGet, HHalt, HIf, HInt, HLabel, HLet, HName, HPack, HProj, HSet, HTm, HTuple, HUnpack, HVal, HVals, HVar, MoreHVals, NoHVals}
+use Rattle.h_terms.specs.H.{HApply, HArith, HBlks, HCall, HCell, HDecl, HGet, HHalt, HIf, HInt, HLabel, HLet, HName}
+use Rattle.h_terms.specs.H.{HPack, HProj, HSet, HTm, HTuple, HUnpack, HVal, HVals, HVar, MoreHVals, NoHVals}
 use Rattle.h_terms.specs.Size.{all_hifs, hifs_t}
 
 fill_thirds : (vs : HVals) (ls : List Known) (b e l i : ℕ) (rest : ATm) → thirds (fill ls b e l i vs rest) ≡ thirds rest
@@ -49,10 +52,12 @@ module _ (ks : HBlks) (g : List ATy) (ls : List Known) where
       let set = Let (Init (val ls b d d2 v) 1 (val ls (n_v ls b v) d1 d2 w)) rest in
       thirds_v v b d (pre_v ks g ls (n_v ls b v) d1 w set) ∙ thirds_v w (n_v ls b v) d1 set
 
-pub thirds_t : (t : HTm) (ks : HBlks) (g : List ATy) (ls : List Known) (b d : ℕ) → thirds (alloc_t ks g ls b d t) ≡ hifs_t t
+pub thirds_t : (t : HTm) (ks : HBlks) (g : List ATy) (ls : List Known) (b d : ℕ) →
+    thirds (alloc_t ks g ls b d t) ≡ hifs_t t
 thirds_t (HLet e t) ks g ls b d =
     let kn = known_of ls b d e in
-    thirds_d ks g ls e b d (Let (dcl ls b d e) (alloc_t ks (d_types ks g e) (kn ∷ ls) (n_d ls b e) (suc (d_next ls d e)) t))
+    thirds_d ks g ls e b d
+    (Let (dcl ls b d e) (alloc_t ks (d_types ks g e) (kn ∷ ls) (n_d ls b e) (suc (d_next ls d e)) t))
     ∙ thirds_t t ks (d_types ks g e) (kn ∷ ls) (n_d ls b e) (suc (d_next ls d e))
 thirds_t (HCall f ts vs) ks g ls b d = thirds_v ks g ls f b d _ ∙ thirds_vs ks g ls vs (n_v ls b f) (v_next ls d f) _
 thirds_t (HIf v t u) ks g ls b d =

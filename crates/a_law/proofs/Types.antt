@@ -8,7 +8,8 @@ use Rattle.c_terms.specs.C.{CTy, CTys, TCInt, TCVar, TCTuple, TCCode, TCSome, TC
 use Rattle.c_terms.specs.Typing.{cren, CIn, CIns, scons, csub, csubs, cup, names}
 use Rattle.c_terms.specs.Puts.{cputs, capply}
 use Rattle.c_terms.specs.Walks as c
-use Rattle.a_terms.specs.Tree.{ATy, AInt, AVar, ATuple, ACode, AExists, ATys, MoreATys, NoAFields, MoreAFields, over, over_types, over_fields, ashift, aput, aput_types, ABelow, ABelow-types}
+use Rattle.a_terms.specs.Tree.{ATy, AVar, ATuple, ACode, AExists, MoreATys, NoAFields, MoreAFields, over}
+use Rattle.a_terms.specs.Tree.{over_types, over_fields, ashift, aput, aput_types, ABelow, ABelow-types}
 use Rattle.a_terms.specs.Tree as a
 use Rattle.a_terms.specs.TreeLaws.{a_part, a_over, a_types_over}
 use Rattle.a_terms.specs.Typing.{aapply}
@@ -44,20 +45,29 @@ shifted_allocated : (k d i : ℕ) → atype (shifted TCVar k d i) ≡ shifted AV
 shifted_allocated k d i = atype_if (nat_lt i d) (TCVar i) (TCVar (i + k))
 
 atype_shift : (t : CTy) (k d : ℕ) → atype (c.shift k d t) ≡ ashift k d (atype t)
-atype_shift t k d = atype_over (shifted TCVar k) d t ∙ over_same a_part a_over (allocated (shifted TCVar k)) (shifted AVar k) d d (λ e i. shifted_allocated k (deep d e) i) (atype t)
+atype_shift t k d = atype_over (shifted TCVar k) d t
+    ∙ over_same a_part a_over (allocated (shifted TCVar k)) (shifted AVar k) d d
+    (λ e i. shifted_allocated k (deep d e) i) (atype t)
 
 putted_allocated : (n : ℕ) (s : CTy) (d i : ℕ) → atype (putted TCVar c.over n s d i) ≡ putted AVar over n (atype s) d i
 putted_allocated n s d i =
     atype_if (nat_lt i d) (TCVar i) (if i == d then c.shift (d - n) 0 s else TCVar (i - 1))
-    ∙ ap (λ x. if nat_lt i d then AVar i else x) (atype_if (i == d) (c.shift (d - n) 0 s) (TCVar (i - 1)) ∙ ap (λ x. if i == d then x else AVar (i - 1)) (atype_shift s (d - n) 0))
+    ∙ ap (λ x. if nat_lt i d then AVar i else x)
+    (atype_if (i == d) (c.shift (d - n) 0 s) (TCVar (i - 1))
+    ∙ ap (λ x. if i == d then x else AVar (i - 1)) (atype_shift s (d - n) 0))
 
 atype_put : (t : CTy) (n : ℕ) (s : CTy) → atype (c.put n s t) ≡ aput n (atype s) (atype t)
 atype_put t n s =
-    atype_over (putted TCVar c.over n s) n t ∙ over_same a_part a_over (allocated (putted TCVar c.over n s)) (putted AVar over n (atype s)) n n (λ e i. putted_allocated n s (deep n e) i) (atype t)
+    atype_over (putted TCVar c.over n s) n t
+    ∙ over_same a_part a_over (allocated (putted TCVar c.over n s)) (putted AVar over n (atype s)) n n
+    (λ e i. putted_allocated n s (deep n e) i) (atype t)
 
-atypes_put : (ts : CTys) (n : ℕ) (s : CTy) → atypes (c.over_all (putted TCVar c.over n s) n ts) ≡ aput_types n (atype s) (atypes ts)
+atypes_put : (ts : CTys) (n : ℕ) (s : CTy) → atypes (c.over_all (putted TCVar c.over n s) n ts)
+    ≡ aput_types n (atype s) (atypes ts)
 atypes_put ts n s =
-    atypes_over (putted TCVar c.over n s) n ts ∙ over_same a_part a_types_over (allocated (putted TCVar c.over n s)) (putted AVar over n (atype s)) n n (λ e i. putted_allocated n s (deep n e) i) (atypes ts)
+    atypes_over (putted TCVar c.over n s) n ts
+    ∙ over_same a_part a_types_over (allocated (putted TCVar c.over n s)) (putted AVar over n (atype s)) n n
+    (λ e i. putted_allocated n s (deep n e) i) (atypes ts)
 
 -- scope
 mutual
@@ -106,11 +116,15 @@ module _ (law : CLaws) where
   atype_apply (MoreCTys u us) (TCCode zero args) = refl
   atype_apply (MoreCTys u us) (TCCode (suc n) args) =
       ap (λ x. aapply (ACode n (aput_types n x (atypes args))) (atypes us)) (sym (atype_lift u n))
-      ∙ ap (λ x. aapply (ACode n x) (atypes us)) (sym (ap atypes (puts_are n (cren (lift n) u) args) ∙ atypes_put args n (cren (lift n) u)))
+      ∙ ap (λ x. aapply (ACode n x) (atypes us))
+      (sym (ap atypes (puts_are n (cren (lift n) u) args) ∙ atypes_put args n (cren (lift n) u)))
       ∙ atype_apply us (TCCode n (cputs n (cren (lift n) u) args))
 
-  pub apply_is : (ts : CTys) (owes : ℕ) (args : CTys) → aapply (ACode (lift owes (ccount ts)) (atypes args)) (atypes ts) ≡ Some (ACode owes (atypes (csubs (cup owes (names ts TCVar)) args)))
-  apply_is ts owes args = atype_apply ts (TCCode (lift owes (ccount ts)) args) ∙ ap (option_map atype) (law.by_one ts owes args)
+  pub apply_is : (ts : CTys) (owes : ℕ) (args : CTys) →
+      aapply (ACode (lift owes (ccount ts)) (atypes args)) (atypes ts)
+      ≡ Some (ACode owes (atypes (csubs (cup owes (names ts TCVar)) args)))
+  apply_is ts owes args =
+      atype_apply ts (TCCode (lift owes (ccount ts)) args) ∙ ap (option_map atype) (law.by_one ts owes args)
 
   pub below_is : (t : CTy) (n : ℕ) → CIn n t → ABelow n (atype t)
   below_is t n h = in_scope t n ((law.scopes n t).0 h)

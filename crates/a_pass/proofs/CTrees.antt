@@ -1,7 +1,9 @@
 -- The trees of types that hold a vector, by the vector's items, and types that are made one by one.
-use Rattle.std.proofs.Common.{◌≡◌, ℕ, List, [], ◌∷◌, Vec, Global, refl, ap, ap₂, ◌∙◌, sym, Bool, true, ◌++◌, ◌<◌, length, take, get_or, ◌+◌}
+use Rattle.std.proofs.Common.{◌≡◌, ℕ, List, [], ◌∷◌, Vec, Global, refl, ap, ap₂, ◌∙◌, sym, Bool, true, ◌++◌, ◌<◌}
+use Rattle.std.proofs.Common.{length, take, get_or, ◌+◌}
 use mathlib.Core.Former.{Count}
-use Rattle.c_terms.specs.declared.types.CType.{CType, Row_of-CType, end_of-CType, more_of-CType, items-the_row-CType, items_hidden-the_row-CType-0}
+use Rattle.c_terms.specs.declared.types.CType.{CType, Row_of-CType, end_of-CType, more_of-CType, items-the_row-CType}
+use Rattle.c_terms.specs.declared.types.CType.{items_hidden-the_row-CType-0}
 use Rattle.c_terms.specs.declared.types.CType.TheVariants as C
 use Rattle.c_terms.specs.C as c
 use Rattle.c_terms.specs.Read.{ctree, ctrees, ctys}
@@ -32,10 +34,12 @@ type_code owes ts =
     let row = type_row (C.Code owes ts) in
     ap (c.TCCode owes) (types_items row.0 row.1 ∙ ap ctys (items_hidden-the_row-CType-0 ts))
 
-pub is_tuple : (self : CType) (v : Vec CType Global) (xs : List CType) → self ≡ C.Tuple v → xs ≡ v.items → ctree self ≡ c.TCTuple (ctys xs)
+pub is_tuple : (self : CType) (v : Vec CType Global) (xs : List CType) → self ≡ C.Tuple v → xs ≡ v.items →
+    ctree self ≡ c.TCTuple (ctys xs)
 is_tuple self v xs is same = ap ctree is ∙ type_tuple v ∙ ap (λ ys. c.TCTuple (ctys ys)) (sym same)
 
-pub is_code : (self : CType) (owes : ℕ) (v : Vec CType Global) (xs : List CType) → self ≡ C.Code owes v → xs ≡ v.items → ctree self ≡ c.TCCode owes (ctys xs)
+pub is_code : (self : CType) (owes : ℕ) (v : Vec CType Global) (xs : List CType) → self ≡ C.Code owes v →
+    xs ≡ v.items → ctree self ≡ c.TCCode owes (ctys xs)
 is_code self owes v xs is same = ap ctree is ∙ type_code owes v ∙ ap (λ ys. c.TCCode owes (ctys ys)) (sym same)
 
 types_snoc : (f : At a.ATy) (d : ℕ) (ts : List CType) (t : CType) →

@@ -1,10 +1,12 @@
 -- Lists of which every item passes a test, and the constants and types that are tested so.
-use Rattle.std.proofs.Common.{◌≡◌, ◌<◌, ◌≤◌, ℕ, zero, suc, ◌+◌, List, [], ◌∷◌, ◌++◌, Bool, true, false, refl, sym, ap, ap₂, ◌∙◌, length, take, get_or, arith}
+use Rattle.std.proofs.Common.{◌≡◌, ◌<◌, ◌≤◌, ℕ, zero, suc, ◌+◌, List, [], ◌∷◌, ◌++◌, Bool, true, false, refl, sym, ap}
+use Rattle.std.proofs.Common.{ap₂, ◌∙◌, length, take, get_or, arith}
 use Rattle.std.specs.Prelude.{◌&&◌, map}
 use Rattle.std.proofs.lemmas.Bool.{ltb-true, lt-ltb}
 use Rattle.std.proofs.lemmas.List.{take_all}
 use Rattle.a_terms.specs.ReadLaws.{took}
-use Rattle.a_terms.specs.Tree.{ABelow, ABelow-fields, ABelow-types, ACode, AConsts, AExists, AFields, AInt, ATuple, ATy, ATys, AVal, AVar, MoreAFields, MoreATys, NoAFields, NoATys}
+use Rattle.a_terms.specs.Tree.{ABelow, ABelow-fields, ABelow-types, ACode, AExists, AFields, AInt, ATuple}
+use Rattle.a_terms.specs.Tree.{ATy, ATys, AVal, AVar, MoreAFields, MoreATys, NoAFields, NoATys}
 use Rattle.a_terms.specs.Tree as a
 use Rattle.a_terms.specs.Typing.{data_fields}
 use Rattle.a_terms.specs.NodeTrees.{a_consts, a_value, base, wrap, wrapped}
@@ -31,32 +33,38 @@ and_true false q e = absurd (clash e)
     clash : false ≡ true → ⊥
     clash x = cc
 
-every_push : {T : Type 0} (f : T → Bool) (xs : List T) (x : T) → every f xs ≡ true → f x ≡ true → every f (xs ++ x ∷ []) ≡ true
+every_push : {T : Type 0} (f : T → Bool) (xs : List T) (x : T) → every f xs ≡ true → f x ≡ true →
+    every f (xs ++ x ∷ []) ≡ true
 every_push f [] x h e = ap (λ b. b && true) e
 every_push f (y ∷ xs) x h e =
     let r = and_true (f y) (every f xs) h in
     ap (λ b. b && every f (xs ++ x ∷ [])) r.0 ∙ every_push f xs x r.1 e
 
-pub every_next : {T : Type 0} (f : T → Bool) (xs : List T) (i : ℕ) (x : T) → i < length xs → x ≡ get_or xs i x → every f (take i xs) ≡ true → true ≡ f x → every f (take (i + 1) xs) ≡ true
+pub every_next : {T : Type 0} (f : T → Bool) (xs : List T) (i : ℕ) (x : T) → i < length xs → x ≡ get_or xs i x →
+    every f (take i xs) ≡ true → true ≡ f x → every f (take (i + 1) xs) ≡ true
 every_next f xs i x lt is h e = ap (every f) (took xs i x lt is) ∙ every_push f (take i xs) x h (sym e)
 
-pub every_all : {T : Type 0} (f : T → Bool) (xs : List T) (i : ℕ) → length xs ≤ i → every f (take i xs) ≡ true → true ≡ every f xs
+pub every_all : {T : Type 0} (f : T → Bool) (xs : List T) (i : ℕ) → length xs ≤ i → every f (take i xs) ≡ true →
+    true ≡ every f xs
 every_all f xs i le h = sym (sym (ap (every f) (take_all i xs le)) ∙ h)
 
 and_false : (p : Bool) → p && false ≡ false
 and_false true = refl
 and_false false = refl
 
-pub every_not : {T : Type 0} (f : T → Bool) (xs : List T) (i : ℕ) (x : T) → i < length xs → x ≡ get_or xs i x → false ≡ f x → false ≡ every f xs
+pub every_not : {T : Type 0} (f : T → Bool) (xs : List T) (i : ℕ) (x : T) → i < length xs → x ≡ get_or xs i x →
+    false ≡ f x → false ≡ every f xs
 every_not f [] i x lt is e = absurd (omega (arith, lt))
 every_not f (y ∷ xs) zero x lt is e = ap (λ b. b && every f xs) (e ∙ ap f is)
-every_not f (y ∷ xs) (suc i) x lt is e = sym (ap (λ b. f y && b) (sym (every_not f xs i x (omega (arith, lt)) is e)) ∙ and_false (f y))
+every_not f (y ∷ xs) (suc i) x lt is e =
+    sym (ap (λ b. f y && b) (sym (every_not f xs i x (omega (arith, lt)) is e)) ∙ and_false (f y))
 
 pub closed_every : (ts : List AType) → every (λ t. closed 0 (atree t)) ts ≡ all_closed 0 (atrees ts)
 closed_every [] = refl
 closed_every (t ∷ ts) = ap (λ b. closed 0 (atree t) && b) (closed_every ts)
 
-pub constants_every : (ls : List Known) (ss : List Seen) → every (λ s. is_some (constant_in ls s)) ss ≡ all_constants ls ss
+pub constants_every : (ls : List Known) (ss : List Seen) →
+    every (λ s. is_some (constant_in ls s)) ss ≡ all_constants ls ss
 constants_every ls [] = refl
 constants_every ls (s ∷ ss) = ap (λ b. is_some (constant_in ls s) && b) (constants_every ls ss)
 
@@ -78,7 +86,8 @@ mutual
 
   fields_in : (fs : AFields) (n : ℕ) → fields_closed n fs ≡ true → ABelow-fields n fs
   fields_in NoAFields n e = tt
-  fields_in (MoreAFields t f fs) n e = let r = and_true (closed n t) (fields_closed n fs) e in (closed_in t n r.0, fields_in fs n r.1)
+  fields_in (MoreAFields t f fs) n e =
+      let r = and_true (closed n t) (fields_closed n fs) e in (closed_in t n r.0, fields_in fs n r.1)
 
 mutual
   in_closed : (t : ATy) (n : ℕ) → ABelow n t → closed n t ≡ true
@@ -94,7 +103,8 @@ mutual
 
   in_fields : (fs : AFields) (n : ℕ) → ABelow-fields n fs → fields_closed n fs ≡ true
   in_fields NoAFields n h = refl
-  in_fields (MoreAFields t f fs) n h = true_both (closed n t) (fields_closed n fs) (in_closed t n h.0) (in_fields fs n h.1)
+  in_fields (MoreAFields t f fs) n h =
+      true_both (closed n t) (fields_closed n fs) (in_closed t n h.0) (in_fields fs n h.1)
 
 pub closed_is : (b : Bool) (t : ATy) → (b ≡ true → ABelow 0 t) → (ABelow 0 t → b ≡ true) → b ≡ closed 0 t
 closed_is true t f g = sym (in_closed t 0 (f refl))
@@ -108,24 +118,31 @@ closed_is false t f g = go (closed 0 t) refl
     go false e = sym e
 
 -- what is put round values
-pub wraps_next : (ws made new : List AWrap) (i : ℕ) (w one : AWrap) → i < length ws → w ≡ get_or ws i w → new ≡ made ++ one ∷ [] → ((v : AVal) → wrap one v ≡ wrap w v) → ((v : AVal) → wrapped v made ≡ wrapped v (take i ws)) → (v : AVal) → wrapped v new ≡ wrapped v (take (i + 1) ws)
+pub wraps_next : (ws made new : List AWrap) (i : ℕ) (w one : AWrap) → i < length ws → w ≡ get_or ws i w →
+    new ≡ made ++ one ∷ [] → ((v : AVal) → wrap one v ≡ wrap w v) →
+    ((v : AVal) → wrapped v made ≡ wrapped v (take i ws)) → (v : AVal) → wrapped v new ≡ wrapped v (take (i + 1) ws)
 wraps_next ws made new i w one lt is n same h v =
-    ap (wrapped v) n ∙ wrapped_push v made one ∙ same (wrapped v made) ∙ ap (wrap w) (h v) ∙ sym (ap (wrapped v) (took ws i w lt is) ∙ wrapped_push v (take i ws) w)
+    ap (wrapped v) n ∙ wrapped_push v made one ∙ same (wrapped v made) ∙ ap (wrap w) (h v)
+    ∙ sym (ap (wrapped v) (took ws i w lt is) ∙ wrapped_push v (take i ws) w)
 
 packs_stay : (ws : List AWrap) (v : AVal) → is_pack v ≡ true → is_pack (wrapped v ws) ≡ true
 packs_stay [] v e = e
 packs_stay (W.Apply ts ∷ ws) v e = packs_stay ws (wrap (W.Apply ts) v) e
 packs_stay (W.Pack h s ∷ ws) v e = packs_stay ws (wrap (W.Pack h s) v) refl
 
-pub packs_at : (ws : List AWrap) (i : ℕ) (w : AWrap) → i < length ws → w ≡ get_or ws i w → ((v : AVal) → is_pack (wrap w v) ≡ true) → (v : AVal) → is_pack (wrapped v ws) ≡ true
+pub packs_at : (ws : List AWrap) (i : ℕ) (w : AWrap) → i < length ws → w ≡ get_or ws i w →
+    ((v : AVal) → is_pack (wrap w v) ≡ true) → (v : AVal) → is_pack (wrapped v ws) ≡ true
 packs_at [] i w lt is f v = absurd (omega (arith, lt))
 packs_at (x ∷ ws) zero w lt is f v = packs_stay ws (wrap x v) (ap (λ y. is_pack (wrap y v)) (sym is) ∙ f v)
 packs_at (x ∷ ws) (suc i) w lt is f v = packs_at ws i w (omega (arith, lt)) is f (wrap x v)
 
-pub packs_next : (ws : List AWrap) (i : ℕ) (w : AWrap) → i < length ws → w ≡ get_or ws i w → ((v : AVal) → is_pack (wrap w v) ≡ is_pack v) → ((v : AVal) → is_pack v ≡ false → is_pack (wrapped v (take i ws)) ≡ false) →
+pub packs_next : (ws : List AWrap) (i : ℕ) (w : AWrap) → i < length ws → w ≡ get_or ws i w →
+    ((v : AVal) → is_pack (wrap w v) ≡ is_pack v) →
+    ((v : AVal) → is_pack v ≡ false → is_pack (wrapped v (take i ws)) ≡ false) →
     (v : AVal) → is_pack v ≡ false → is_pack (wrapped v (take (i + 1) ws)) ≡ false
 packs_next ws i w lt is f h v e =
-    ap (λ xs. is_pack (wrapped v xs)) (took ws i w lt is) ∙ ap is_pack (wrapped_push v (take i ws) w) ∙ f (wrapped v (take i ws)) ∙ h v e
+    ap (λ xs. is_pack (wrapped v xs)) (took ws i w lt is) ∙ ap is_pack (wrapped_push v (take i ws) w)
+    ∙ f (wrapped v (take i ws)) ∙ h v e
 
 pub no_pack : (b : ABase) → is_pack (base b) ≡ false
 no_pack (B.Var i) = refl
@@ -155,15 +172,19 @@ abbrev data_after : AFields → ATy → AFields
 data_after NoAFields t = MoreAFields t true NoAFields
 data_after (MoreAFields u f fs) t = MoreAFields u f (data_after fs t)
 
-afields_push : (xs : List (AType × Bool)) (t : AType) → afields (xs ++ (t, true) ∷ []) ≡ data_after (afields xs) (atree t)
+afields_push : (xs : List (AType × Bool)) (t : AType) →
+    afields (xs ++ (t, true) ∷ []) ≡ data_after (afields xs) (atree t)
 afields_push [] t = refl
 afields_push (x ∷ xs) t = ap (MoreAFields (atree x.0) x.1) (afields_push xs t)
 
-data_push : (cs : List (AValue × AType)) (c : AValue × AType) → data_fields (a_consts (cs ++ c ∷ [])) ≡ data_after (data_fields (a_consts cs)) (atree c.1)
+data_push : (cs : List (AValue × AType)) (c : AValue × AType) →
+    data_fields (a_consts (cs ++ c ∷ [])) ≡ data_after (data_fields (a_consts cs)) (atree c.1)
 data_push [] c = refl
 data_push (x ∷ cs) c = ap (MoreAFields (atree x.1) true) (data_push cs c)
 
-pub fields_next : (cs : List (AValue × AType)) (made new : List (AType × Bool)) (i : ℕ) (c : AValue × AType) (t : AType) → i < length cs → c ≡ get_or cs i c → new ≡ made ++ (t, true) ∷ [] → atree t ≡ atree c.1 →
+pub fields_next : (cs : List (AValue × AType)) (made new : List (AType × Bool)) (i : ℕ) (c : AValue × AType)
+    (t : AType) → i < length cs → c ≡ get_or cs i c → new ≡ made ++ (t, true) ∷ [] → atree t ≡ atree c.1 →
     afields made ≡ data_fields (a_consts (take i cs)) → afields new ≡ data_fields (a_consts (take (i + 1) cs))
 fields_next cs made new i c t lt is n same h =
-    ap afields n ∙ afields_push made t ∙ ap₂ data_after h same ∙ sym (ap (λ xs. data_fields (a_consts xs)) (took cs i c lt is) ∙ data_push (take i cs) c)
+    ap afields n ∙ afields_push made t ∙ ap₂ data_after h same
+    ∙ sym (ap (λ xs. data_fields (a_consts xs)) (took cs i c lt is) ∙ data_push (take i cs) c)

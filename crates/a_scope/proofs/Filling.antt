@@ -3,7 +3,7 @@ use Rattle.std.proofs.Common.{◌≡◌, ℕ, zero, suc, ◌≤◌, ◌⊎◌, i
 use Rattle.idx_core.specs.Laws.{shifted_ge}
 use Rattle.a_terms.specs.Tree as a
 use Rattle.a_terms.specs.Tree.{ashift, ashift_fields}
-use Rattle.a_terms.specs.Typing.{or_int, field_of, body_of, filled_of, afilled, afield_type}
+use Rattle.a_terms.specs.Typing.{or_int, field_of, filled_of, afilled, afield_type}
 use Rattle.a_scope.specs.Scope.{filled_to}
 
 -- under more names
@@ -44,18 +44,6 @@ field_filled i j (a.AExists t) = refl
 pub field_filled_to : (i n : ℕ) (t : a.ATy) → field_of i (Some (filled_to n t)) ≡ field_of i (Some t)
 field_filled_to i zero t = refl
 field_filled_to i (suc n) t = field_filled i n (filled_to n t) ∙ field_filled_to i n t
-
--- nothing is hidden
-body_filled : (j : ℕ) (t : a.ATy) → body_of (Some (filled_of (suc j) (Some t))) ≡ a.AInt
-body_filled j a.AInt = refl
-body_filled j (a.AVar n) = refl
-body_filled j (a.ATuple fs) = refl
-body_filled j (a.ACode n ts) = refl
-body_filled j (a.AExists t) = refl
-
-pub body_filled_to : (n : ℕ) (t : a.ATy) → 1 ≤ n → body_of (Some (filled_to n t)) ≡ a.AInt
-body_filled_to zero t le = absurd (omega arith)
-body_filled_to (suc n) t le = body_filled n (filled_to n t)
 
 -- the order of two fields does not matter, and each may be initialised again
 swapped : (i j : ℕ) (t : a.ATy) →
@@ -104,6 +92,3 @@ again i (suc n) t le =
 pub filled_again : (i n : ℕ) (t : a.ATy) → 1 ≤ i → i ≤ n → filled_to n t ≡ filled_of i (Some (filled_to n t))
 filled_again zero n t some le = absurd (omega arith)
 filled_again (suc i) n t some le = again i n t le
-
-pub filled_next : (i n : ℕ) (t : a.ATy) → i ≡ suc n → filled_to i t ≡ filled_of i (Some (filled_to n t))
-filled_next i n t e = ap (λ j. filled_to j t) e ∙ ap (λ j. filled_of j (Some (filled_to n t))) (sym e)

@@ -1,5 +1,6 @@
 -- The fields of tuples that stand in the program, and of tuples of types that do.
-use Rattle.std.proofs.Common.{◌≡◌, ℕ, zero, suc, ◌<◌, ◌≤◌, List, [], ◌∷◌, length, get_or, Bool, Some, refl, sym, ap, ◌∙◌, arith}
+use Rattle.std.proofs.Common.{◌≡◌, ℕ, zero, suc, ◌<◌, ◌≤◌, List, [], ◌∷◌, length, get_or, Bool, Some, refl, sym, ap}
+use Rattle.std.proofs.Common.{◌∙◌, arith}
 use Rattle.a_terms.specs.Tree as a
 use Rattle.a_terms.specs.Typing.{aunset, field_of}
 use Rattle.a_terms.specs.Read.{atree, atrees, afields}

@@ -1,11 +1,13 @@
 -- Variables in scope, and types of values.
-use Rattle.std.proofs.Common.{◌≡◌, ℕ, zero, suc, ◌+◌, ◌-◌, ◌<◌, ◌≤◌, ◌++◌, List, [], ◌∷◌, length, map, take, get_or, slice_get, Option, Some, None, refl, sym, ap, ap₂, ◌∙◌, subst, arith, length-append}
+use Rattle.std.proofs.Common.{◌≡◌, ℕ, zero, suc, ◌+◌, ◌-◌, ◌<◌, ◌≤◌, ◌++◌, List, [], ◌∷◌, length, map, take, get_or}
+use Rattle.std.proofs.Common.{slice_get, Option, Some, None, refl, sym, ap, ap₂, ◌∙◌, subst, arith, length-append}
 use Rattle.std.proofs.lemmas.List.{take_more, take_all}
 use Rattle.idx_core.specs.Laws.{shift_zero_law, shift_add_law}
 use Rattle.a_terms.specs.Tree as a
-use Rattle.a_terms.specs.Tree.{ashift, ashift_fields, aput_types}
+use Rattle.a_terms.specs.Tree.{ashift}
 use Rattle.a_terms.specs.TreeLaws.{a_part, a_over}
-use Rattle.a_terms.specs.Typing.{type_of, code_type, data_fields, data_type, or_int, field_of, body_of, filled_of, declared, more_vars}
+use Rattle.a_terms.specs.Typing.{type_of, code_type, data_fields, data_type, or_int, field_of, body_of, filled_of}
+use Rattle.a_terms.specs.Typing.{declared, more_vars}
 use Rattle.a_terms.specs.Read.{atree, atrees}
 use Rattle.a_terms.specs.NodeTrees.{wrap, wrapped, a_blocks, a_consts, a_data}
 use Rattle.a_terms.specs.declared.types.AType.{AType}
@@ -13,9 +15,10 @@ use Rattle.a_terms.specs.declared.nodes.AWrap.{AWrap}
 use Rattle.a_terms.specs.declared.nodes.AData.{AData}
 use Rattle.a_terms.specs.declared.nodes.AWrap.TheVariants.{Apply, Pack}
 use Rattle.a_terms.specs.declared.nodes.ABlock.{ABlock}
-use Rattle.a_terms.specs.TypeLaws.{field_shift, body_shift}
-use Rattle.a_scope.proofs.Filling.{filled_shift, field_filled_to, body_filled_to}
-use Rattle.a_scope.specs.Scope.{filled_to, noted, noted_type, shown, scope, homes, Under, Stands, Held, wrap_type, decl_ty}
+use Rattle.a_terms.specs.TypeLaws.{field_shift}
+use Rattle.a_scope.proofs.Filling.{filled_shift, field_filled_to}
+use Rattle.a_scope.specs.Scope.{filled_to, noted, noted_type, shown, scope, homes, Under, Stands, Held, wrap_type}
+use Rattle.a_scope.specs.Scope.{decl_ty}
 use Rattle.a_scope.specs.declared.scope.Entry.{Entry}
 
 -- places in lists
@@ -186,15 +189,6 @@ pub entry_field : (k i : ℕ) (e : Entry) →
 entry_field k i e = ap (ashift (k - e.names) 0) (sym (field_filled_to i e.filled (noted_type e.ty)))
     ∙ sym (field_shift (k - e.names) i (noted e))
 
-pub entry_body : (k : ℕ) (e : Entry) → e.filled ≡ 0 →
-    ashift (k - e.names) 1 (body_of (Some (noted_type e.ty))) ≡ body_of (Some (shown k e))
-entry_body k e none = ap (λ n. ashift (k - e.names) 1 (body_of (Some (filled_to n (noted_type e.ty))))) (sym none)
-    ∙ sym (body_shift (k - e.names) (noted e))
-
-pub entry_hides : (k : ℕ) (e : Entry) → 1 ≤ e.filled → a.AInt ≡ body_of (Some (shown k e))
-entry_hides k e some = ap (ashift (k - e.names) 1) (sym (body_filled_to e.filled (noted_type e.ty) some))
-    ∙ sym (body_shift (k - e.names) (noted e))
-
 -- variables for the parts of a variable's type: those of a type that is lent, and those that are made
 pub field_stands : (k i : ℕ) (e f : Entry) → noted f ≡ field_of i (Some (noted_type e.ty)) → f.names ≡ e.names →
     e.names ≤ k → Stands k (field_of i (Some (shown k e))) f
@@ -208,17 +202,8 @@ pub field_made : (k i b : ℕ) (e f : Entry) (t : a.ATy) → b ≡ k - e.names �
 field_made k i b e f t is same h =
     (h.0 ∙ ap₂ (λ n u. ashift n 0 (field_of i (Some u))) is same ∙ entry_field k i e, h.1)
 
-pub body_made : (k m b : ℕ) (e f : Entry) (t : a.ATy) → b ≡ k - e.names → t ≡ noted_type e.ty → e.filled ≡ 0 →
-    Stands m (ashift b 1 (body_of (Some t))) f → Stands m (body_of (Some (shown k e))) f
-body_made k m b e f t is same none h =
-    (h.0 ∙ ap₂ (λ n u. ashift n 1 (body_of (Some u))) is same ∙ entry_body k e none, h.1)
-
 pub body_none : (b : ℕ) (t : a.ATy) → b ≡ 0 → body_of (Some t) ≡ ashift b 1 (body_of (Some t))
 body_none b t none = sym (ap (λ n. ashift n 1 (body_of (Some t))) none ∙ shift_zero_law a_over 1 (body_of (Some t)))
-
-pub body_int : (k m : ℕ) (e f : Entry) → a.AInt ≡ body_of (Some (shown k e)) → noted f ≡ a.AInt → f.names ≡ m →
-    Stands m (body_of (Some (shown k e))) f
-body_int k m e f is t n = (shown_own m f n ∙ t ∙ is, omega (arith, n))
 
 -- a variable whose type was noted where as many names are in scope
 pub own_stands : (k : ℕ) (e : Entry) (t : a.ATy) → noted e ≡ t → e.names ≡ k → Stands k t e

@@ -30,15 +30,20 @@ module _ (V : ℕ → ℕ → Type 0) (B : ℕ → Type 0) (d : ℕ) where
   tuple_has (x ∷ xs) h = (All-head FieldHas x xs h, tuple_has xs (All-tail FieldHas x xs h))
 
   -- the whole has it where every part that a loop went over has
-  pub types_have_all : (xs : List AType) (n : ℕ) → All TypeHas (take n xs) → length xs ≤ n → each_types V B d (atrees xs)
+  pub types_have_all : (xs : List AType) (n : ℕ) → All TypeHas (take n xs) → length xs ≤ n →
+      each_types V B d (atrees xs)
   types_have_all xs n h all = list_has xs (subst (λ (ys : List AType). All TypeHas ys) (take_all n xs all) h)
 
-  pub fields_have_all : (xs : List (AType × Bool)) (n : ℕ) → All FieldHas (take n xs) → length xs ≤ n → each_fields V B d (afields xs)
-  fields_have_all xs n h all = tuple_has xs (subst (λ (ys : List (AType × Bool)). All FieldHas ys) (take_all n xs all) h)
+  pub fields_have_all : (xs : List (AType × Bool)) (n : ℕ) → All FieldHas (take n xs) → length xs ≤ n →
+      each_fields V B d (afields xs)
+  fields_have_all xs n h all =
+      tuple_has xs (subst (λ (ys : List (AType × Bool)). All FieldHas ys) (take_all n xs all) h)
 
 -- an item that a loop reads, by its place
-pub item_has : {A : Type 0} (P : A → Type 0) (xs : List A) (i : ℕ) (x : A) → x ≡ get_or xs i x → i < length xs → All P xs → P x
+pub item_has : {A : Type 0} (P : A → Type 0) (xs : List A) (i : ℕ) (x : A) → x ≡ get_or xs i x → i < length xs →
+    All P xs → P x
 item_has P xs i x is lt all = subst P (sym is) (All-get_or P xs i x lt all)
 
-pub items_more : {A : Type 0} (P : A → Type 0) (xs : List A) (i : ℕ) (x : A) → x ≡ get_or xs i x → i < length xs → All P (take i xs) → P x → All P (take (i + 1) xs)
+pub items_more : {A : Type 0} (P : A → Type 0) (xs : List A) (i : ℕ) (x : A) → x ≡ get_or xs i x → i < length xs →
+    All P (take i xs) → P x → All P (take (i + 1) xs)
 items_more P xs i x is lt all h = All-more P xs i x lt all (subst P is h)

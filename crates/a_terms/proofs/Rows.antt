@@ -3,7 +3,8 @@ use Rattle.std.proofs.Common.{◌≡◌, ℕ, zero, suc, Bool, Some, pos, [], �
 use Rattle.std.specs.Prelude.{true, false}
 use Rattle.std.specs.Int.{int_wrap}
 use Rattle.idx_core.specs.declared.arith.Op.TheVariants.{Add}
-use Rattle.a_terms.specs.Tree.{ATy, AInt, AVar, ATuple, AExists, NoATys, MoreATys, NoAFields, MoreAFields, Var, Num, Lab, Data, Pack, Proj, Arith, Unpack, Malloc, Init, ATm, Let, Call, Halt, AProg}
+use Rattle.a_terms.specs.Tree.{ATy, AInt, AVar, ATuple, AExists, NoATys, MoreATys, NoAFields, MoreAFields, Var, Num}
+use Rattle.a_terms.specs.Tree.{Lab, Data, Pack, Proj, Arith, Unpack, Malloc, Init, ATm, Let, Call, Halt, AProg}
 use Rattle.a_terms.specs.Meaning.{Halted, Spent, Wrong, meaning}
 use Rattle.a_terms.specs.Typing.{Term-ok, declared, afield_flag}
 
@@ -13,7 +14,8 @@ alone = record { blocks = []; tuples = [] }
 
 -- p = malloc[int, int]; q = p[1] <- 3; r = q[2] <- 4; x = #2 r; halt x
 abbrev pair : ATm
-pair = Let (Malloc (MoreATys AInt (MoreATys AInt NoATys))) (Let (Init (Var 0) 1 (Num (pos 3))) (Let (Init (Var 0) 2 (Num (pos 4))) (Let (Proj 2 (Var 0)) (Halt (Var 0)))))
+pair = Let (Malloc (MoreATys AInt (MoreATys AInt NoATys)))
+    (Let (Init (Var 0) 1 (Num (pos 3))) (Let (Init (Var 0) 2 (Num (pos 4))) (Let (Proj 2 (Var 0)) (Halt (Var 0)))))
 
 pair_halts : meaning alone pair 0 ≡ Halted (pos 4) []
 pair_halts = refl
@@ -26,12 +28,15 @@ early_is_wrong : meaning alone early 0 ≡ Wrong []
 early_is_wrong = refl
 
 -- an initialisation names the same tuple with the flag of its field at 1; the name before keeps its type
-flags : declared alone (ATuple (MoreAFields AInt false (MoreAFields AInt false NoAFields)) ∷ []) (Init (Var 0) 2 (Num (pos 4))) ≡ ATuple (MoreAFields AInt false (MoreAFields AInt true NoAFields)) ∷ ATuple (MoreAFields AInt false (MoreAFields AInt false NoAFields)) ∷ []
+flags : declared alone (ATuple (MoreAFields AInt false (MoreAFields AInt false NoAFields)) ∷ [])
+    (Init (Var 0) 2 (Num (pos 4))) ≡ ATuple (MoreAFields AInt false (MoreAFields AInt true NoAFields))
+    ∷ ATuple (MoreAFields AInt false (MoreAFields AInt false NoAFields)) ∷ []
 flags = refl
 
 -- a cell: its one field is initialised twice, and both names see the last value
 abbrev cell : ATm
-cell = Let (Malloc (MoreATys AInt NoATys)) (Let (Init (Var 0) 1 (Num (pos 3))) (Let (Init (Var 0) 1 (Num (pos 9))) (Let (Proj 1 (Var 1)) (Halt (Var 0)))))
+cell = Let (Malloc (MoreATys AInt NoATys))
+    (Let (Init (Var 0) 1 (Num (pos 3))) (Let (Init (Var 0) 1 (Num (pos 9))) (Let (Proj 1 (Var 1)) (Halt (Var 0)))))
 
 cell_halts : meaning alone cell 0 ≡ Halted (pos 9) []
 cell_halts = refl
@@ -41,10 +46,29 @@ cell_is_typed : Term-ok alone 0 [] cell
 cell_is_typed = (
   (tt, tt),
   (
-    (MoreAFields AInt false NoAFields, 0, AInt, record { fine = tt; is = refl }, record { fine = tt; is = refl }, refl, refl),
     (
-      (MoreAFields AInt true NoAFields, 0, AInt, record { fine = tt; is = refl }, record { fine = tt; is = refl }, refl, refl),
-      ((MoreAFields AInt true NoAFields, 0, AInt, record { fine = tt; is = refl }, refl, refl, refl), record { fine = tt; is = refl }),
+      MoreAFields AInt false NoAFields,
+      0,
+      AInt,
+      record { fine = tt; is = refl },
+      record { fine = tt; is = refl },
+      refl,
+      refl,
+    ),
+    (
+      (
+        MoreAFields AInt true NoAFields,
+        0,
+        AInt,
+        record { fine = tt; is = refl },
+        record { fine = tt; is = refl },
+        refl,
+        refl,
+      ),
+      (
+        (MoreAFields AInt true NoAFields, 0, AInt, record { fine = tt; is = refl }, refl, refl, refl),
+        record { fine = tt; is = refl },
+      ),
     ),
   ),
 )
@@ -52,7 +76,11 @@ cell_is_typed = (
 -- a data tuple <7> and a block of one argument that adds it: main calls the block with 5
 abbrev sevens : AProg
 sevens = record {
-  blocks = record { owes = 0; args = MoreATys AInt NoATys; body = Let (Proj 1 (Data 0)) (Let (Arith Add (Var 0) (Var 1)) (Halt (Var 0))) } ∷ [];
+  blocks = record {
+    owes = 0;
+    args = MoreATys AInt NoATys;
+    body = Let (Proj 1 (Data 0)) (Let (Arith Add (Var 0) (Var 1)) (Halt (Var 0)));
+  } ∷ [];
   tuples = (record { value = Num (pos 7); kind = AInt } ∷ []) ∷ [];
 }
 

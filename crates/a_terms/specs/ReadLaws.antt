@@ -5,7 +5,7 @@ use mathlib.Core.Former.{Count}
 use Rattle.std.proofs.lemmas.List.{take_more}
 use Rattle.idx_core.specs.Over.{At}
 use Rattle.a_terms.specs.Tree as a
-use Rattle.a_terms.specs.Tree.{over, over_types, over_fields, arity}
+use Rattle.a_terms.specs.Tree.{over, over_types, over_fields}
 use Rattle.a_terms.specs.Read.{atree, atrees, afields, arow, afield_row}
 use Rattle.a_terms.specs.declared.types.AType.{AType, Row_of-AType-Tuple-0-2 as FieldRow}
 use Rattle.a_terms.specs.declared.types.AType.{end_of-AType-Tuple-0-2 as end_of_fields}

@@ -1,9 +1,10 @@
 -- The sets of the terms so far.
-use Rattle.std.proofs.Common.{◌≡◌, ℕ, zero, suc, ◌+◌, ◌<◌, ◌≤◌, ◌++◌, List, [], ◌∷◌, length, drop, get_or, refl, sym, ap, ap₂, ◌∙◌, subst, arith}
+use Rattle.std.proofs.Common.{◌≡◌, ℕ, zero, suc, ◌+◌, ◌<◌, ◌≤◌, ◌++◌, List, [], ◌∷◌, length, drop, get_or, refl, sym}
+use Rattle.std.proofs.Common.{ap, ap₂, ◌∙◌, subst, arith}
 use Rattle.std.specs.Prelude.{Bool, true, false, ◌||◌, ◌&&◌, not}
 use Rattle.std.proofs.lemmas.List.{drop_more}
 use Rattle.a_terms.specs.Tree as a
-use Rattle.a_terms.specs.NodeTrees.{a_values, a_decl, a_let, a_build, a_onto, is_decl, no_value, no_term, wrap, wrapped}
+use Rattle.a_terms.specs.NodeTrees.{a_values, a_decl, a_build, a_onto, is_decl, no_value, no_term, wrap, wrapped}
 use Rattle.a_terms.specs.Row.{top, others, IsOne, IsSome}
 use Rattle.a_terms.specs.Arity.{AArity, ARow, a_kids}
 use Rattle.term_core.specs.Ends.{lift}
@@ -13,7 +14,7 @@ use Rattle.a_terms.specs.declared.nodes.ANode.{ANode}
 use Rattle.a_terms.specs.declared.nodes.AWrap.{AWrap}
 use Rattle.a_terms.specs.declared.nodes.AWrap.TheVariants.{Apply, Pack}
 use Rattle.gen_law.specs.Gen.{uses, uses_any, uses_decl, used}
-use Rattle.a_uses.specs.Uses.{both_used, Ending, has, Holds, Leads, newest, back, AllHold, Tells, Told}
+use Rattle.a_uses.specs.Uses.{both_used, has, Holds, Leads, newest, back, AllHold, Tells, Told}
 use Rattle.a_uses.specs.declared.used.Used.{Used}
 use Rattle.a_uses.specs.declared.ahead.Ahead.{Ahead}
 use Rattle.a_uses.specs.declared.ahead.Rest.{Rest}
@@ -27,10 +28,14 @@ back_push : (ss : List Ahead) (s : Ahead) → back (ss ++ s ∷ []) ≡ s ∷ ba
 back_push [] s = refl
 back_push (x ∷ ss) s = ap (λ xs. xs ++ x ∷ []) (back_push ss s)
 
-pub popped : (old new : List Rest) (s : Rest) (ts : List a.ATm) → old ≡ new ++ s ∷ [] → AllHold (newest old) ts → Holds s.used (top no_term ts) × Leads s.wants (top no_term ts) × AllHold (newest new) (others ts)
-popped old new s ts e h = let k : AllHold (s ∷ newest new) ts = subst (λ xs. AllHold xs ts) (ap newest e ∙ newest_push new s) h in (k.0.0, k.0.1, k.1)
+pub popped : (old new : List Rest) (s : Rest) (ts : List a.ATm) → old ≡ new ++ s ∷ [] → AllHold (newest old) ts →
+    Holds s.used (top no_term ts) × Leads s.wants (top no_term ts) × AllHold (newest new) (others ts)
+popped old new s ts e h =
+    let k : AllHold (s ∷ newest new) ts = subst (λ xs. AllHold xs ts) (ap newest e ∙ newest_push new s) h in
+    (k.0.0, k.0.1, k.1)
 
-pub pushed : (old new : List Rest) (s : Rest) (t : a.ATm) (ts : List a.ATm) → new ≡ old ++ s ∷ [] → Holds s.used t → Leads s.wants t → AllHold (newest old) ts → AllHold (newest new) (t ∷ ts)
+pub pushed : (old new : List Rest) (s : Rest) (t : a.ATm) (ts : List a.ATm) → new ≡ old ++ s ∷ [] → Holds s.used t →
+    Leads s.wants t → AllHold (newest old) ts → AllHold (newest new) (t ∷ ts)
 pushed old new s t ts e h l k = subst (λ xs. AllHold xs (t ∷ ts)) (sym (ap newest e ∙ newest_push old s)) ((h, l), k)
 
 or_swap : (x y : Bool) → (x || y) ≡ (y || x)
@@ -44,11 +49,13 @@ one_uses [] n h = absurd h
 one_uses (v ∷ []) n h = sym (or_none (uses v n))
 one_uses (v ∷ w ∷ vs) n h = absurd h
 
-two_uses : (vs : List a.AVal) (n : ℕ) → AArity (Init 0) vs → uses_any vs n ≡ (uses (top no_value vs) n || uses (top no_value (others vs)) n)
+two_uses : (vs : List a.AVal) (n : ℕ) → AArity (Init 0) vs →
+    uses_any vs n ≡ (uses (top no_value vs) n || uses (top no_value (others vs)) n)
 two_uses [] n h = absurd h
 two_uses (v ∷ vs) n h = ap (λ b. uses v n || b) (one_uses vs n h)
 
-let_uses : (f : AForm) (vs : List a.AVal) (n : ℕ) → is_decl f ≡ true → AArity f vs → uses_any vs n ≡ uses_decl (a_decl f vs) n
+let_uses : (f : AForm) (vs : List a.AVal) (n : ℕ) → is_decl f ≡ true → AArity f vs →
+    uses_any vs n ≡ uses_decl (a_decl f vs) n
 let_uses Value vs n d h = one_uses vs n h
 let_uses (Proj i) vs n d h = one_uses vs n h
 let_uses (Arith o) vs n d h = two_uses vs n h
@@ -61,12 +68,18 @@ let_uses If0 vs n d h = cc
 let_uses Halt vs n d h = cc
 
 -- a declaration
-pub let_holds : (f : AForm) (vs : List a.AVal) (e : a.ATm) (rest new : Used) (mid : ℕ → Bool) → is_decl f ≡ true → AArity f vs → Holds rest e → ((i : ℕ) → mid i ≡ has rest (suc i)) → ((i : ℕ) → has new i ≡ (mid i || uses_any vs i)) → Holds new (a.Let (a_decl f vs) e)
+pub let_holds : (f : AForm) (vs : List a.AVal) (e : a.ATm) (rest new : Used) (mid : ℕ → Bool) → is_decl f ≡ true →
+    AArity f vs → Holds rest e → ((i : ℕ) → mid i ≡ has rest (suc i)) →
+    ((i : ℕ) → has new i ≡ (mid i || uses_any vs i)) → Holds new (a.Let (a_decl f vs) e)
 let_holds f vs e rest new mid d h k o n = λ i.
-    n i ∙ ap₂ (λ x y. x || y) (o i ∙ k (suc i)) (let_uses f vs i d h) ∙ or_swap (used e (suc i)) (uses_decl (a_decl f vs) i)
+    n i ∙ ap₂ (λ x y. x || y) (o i ∙ k (suc i)) (let_uses f vs i d h)
+    ∙ or_swap (used e (suc i)) (uses_decl (a_decl f vs) i)
 
 -- the variables that end at a declaration
-pub let_gone : (f : AForm) (vs : List a.AVal) (e : a.ATm) (rest mid : Used) (gone : ℕ → Bool) → is_decl f ≡ true → AArity f vs → Holds rest e → ((i : ℕ) → has mid i ≡ has rest (suc i)) → ((i : ℕ) → gone i ≡ (uses_any vs i && not (has mid i))) → (i : ℕ) → gone i ≡ (uses_decl (a_decl f vs) i && not (used e (suc i)))
+pub let_gone : (f : AForm) (vs : List a.AVal) (e : a.ATm) (rest mid : Used) (gone : ℕ → Bool) → is_decl f ≡ true →
+    AArity f vs → Holds rest e → ((i : ℕ) → has mid i ≡ has rest (suc i)) →
+    ((i : ℕ) → gone i ≡ (uses_any vs i && not (has mid i))) → (i : ℕ) →
+    gone i ≡ (uses_decl (a_decl f vs) i && not (used e (suc i)))
 let_gone f vs e rest mid gone d h k o g = λ i. g i ∙ ap₂ (λ x y. x && not y) (let_uses f vs i d h) (o i ∙ k (suc i))
 
 or_end : (x y z : Bool) → ((x && z) || (y && z)) ≡ ((x || y) && z)
@@ -77,36 +90,34 @@ or_end true false false = refl
 or_end false y z = refl
 
 -- and at a choice
-pub if_gone : (vs : List a.AVal) (x : a.ATm) (second : Used) (third first gone : ℕ → Bool) (listed : ℕ → Bool) → IsOne vs → Holds second x → ((i : ℕ) → listed i ≡ third i) → ((i : ℕ) → first i ≡ (uses_any vs i && not (has second i))) → ((i : ℕ) → gone i ≡ (first i || (listed i && not (has second i)))) → (i : ℕ) → gone i ≡ ((uses (top no_value vs) i || third i) && not (used x i))
+pub if_gone : (vs : List a.AVal) (x : a.ATm) (second : Used) (third first gone : ℕ → Bool) (listed : ℕ → Bool) →
+    IsOne vs → Holds second x → ((i : ℕ) → listed i ≡ third i) →
+    ((i : ℕ) → first i ≡ (uses_any vs i && not (has second i))) →
+    ((i : ℕ) → gone i ≡ (first i || (listed i && not (has second i)))) → (i : ℕ) →
+    gone i ≡ ((uses (top no_value vs) i || third i) && not (used x i))
 if_gone vs x second third first gone listed h k l f g = λ i.
-    g i ∙ ap₂ (λ p q. p || (q && not (has second i))) (f i) (l i) ∙ or_end (uses_any vs i) (third i) (not (has second i))
+    g i ∙ ap₂ (λ p q. p || (q && not (has second i))) (f i) (l i)
+    ∙ or_end (uses_any vs i) (third i) (not (has second i))
     ∙ ap₂ (λ p q. (p || third i) && not q) (one_uses vs i h) (k i)
 
 -- a call
-pub call_uses : (vs : List a.AVal) (n : ℕ) → IsSome vs → (uses (top no_value vs) n || uses_any (others vs) n) ≡ uses_any vs n
+pub call_uses : (vs : List a.AVal) (n : ℕ) → IsSome vs → (uses (top no_value vs) n || uses_any (others vs) n)
+    ≡ uses_any vs n
 call_uses [] n h = absurd h
 call_uses (v ∷ vs) n h = refl
 
 -- an end
-pub end_holds : (vs : List a.AVal) (e : a.ATm) (own new : Used) → ((i : ℕ) → has own i ≡ false) → ((i : ℕ) → has new i ≡ (has own i || uses_any vs i)) → ((i : ℕ) → used e i ≡ uses_any vs i) → Holds new e
+pub end_holds : (vs : List a.AVal) (e : a.ATm) (own new : Used) → ((i : ℕ) → has own i ≡ false) →
+    ((i : ℕ) → has new i ≡ (has own i || uses_any vs i)) → ((i : ℕ) → used e i ≡ uses_any vs i) → Holds new e
 end_holds vs e own new z n s = λ i. n i ∙ ap (λ b. b || uses_any vs i) (z i) ∙ sym (s i)
 
 -- a choice
-pub if_holds : (vs : List a.AVal) (x y : a.ATm) (second new : Used) (mid : ℕ → Bool) → IsOne vs → Holds second x → ((i : ℕ) → mid i ≡ (has second i || used y i)) → ((i : ℕ) → has new i ≡ (mid i || uses_any vs i)) → Holds new (a.If0 (top no_value vs) x y)
+pub if_holds : (vs : List a.AVal) (x y : a.ATm) (second new : Used) (mid : ℕ → Bool) → IsOne vs → Holds second x →
+    ((i : ℕ) → mid i ≡ (has second i || used y i)) → ((i : ℕ) → has new i ≡ (mid i || uses_any vs i)) →
+    Holds new (a.If0 (top no_value vs) x y)
 if_holds vs x y second new mid h k m n = λ i.
-    n i ∙ ap₂ (λ p q. p || q) (m i ∙ ap (λ b. b || used y i) (k i)) (one_uses vs i h) ∙ or_swap (used x i || used y i) (uses (top no_value vs) i)
-
--- forms
-pub told_decl : (f : AForm) (vs : List a.AVal) (ts : List a.ATm) (w : Ahead) (ss : List Rest) → is_decl f ≡ true → Ending (a_decl f vs) (top no_term ts) w → AllHold ss (a_let (a_decl f vs) ts) → Tells f vs ts w × AllHold ss (a_build f vs ts)
-told_decl Value vs ts w ss d b h = (b, h)
-told_decl (Proj i) vs ts w ss d b h = (b, h)
-told_decl (Arith o) vs ts w ss d b h = (b, h)
-told_decl Unpack vs ts w ss d b h = (b, h)
-told_decl (Malloc us) vs ts w ss d b h = (b, h)
-told_decl (Init i) vs ts w ss d b h = (b, h)
-told_decl (Call us) vs ts w ss d b h = cc
-told_decl If0 vs ts w ss d b h = cc
-told_decl Halt vs ts w ss d b h = cc
+    n i ∙ ap₂ (λ p q. p || q) (m i ∙ ap (λ b. b || used y i) (k i)) (one_uses vs i h)
+    ∙ or_swap (used x i || used y i) (uses (top no_value vs) i)
 
 -- both names, of a value that is no bare variable
 both_wrapped : (v : a.AVal) (w : AWrap) (ws : List AWrap) (e : a.ATm) → false ≡ both_used (wrapped v (w ∷ ws)) e
@@ -119,7 +130,12 @@ both_some_wraps v [] e lt = absurd (omega arith)
 both_some_wraps v (w ∷ ws) e lt = both_wrapped v w ws e
 
 -- one node more, before the others
-pub told_more : (ns : List ANode) (j left : ℕ) (x : ANode) (sets new : List Rest) (made more : List Ahead) (w : Ahead) → left ≡ suc j → j < length ns → x ≡ get_or ns j x → more ≡ made ++ w ∷ [] → ((ts : List a.ATm) → AllHold (newest sets) ts → Tells x.form (a_values x.values.items) ts w × AllHold (newest new) (a_build x.form (a_values x.values.items) ts)) → AllHold (newest sets) (a_onto (drop left ns) []) → Told (drop left ns) (back made) → AllHold (newest new) (a_onto (drop j ns) []) × Told (drop j ns) (back more)
+pub told_more : (ns : List ANode) (j left : ℕ) (x : ANode) (sets new : List Rest) (made more : List Ahead)
+    (w : Ahead) → left ≡ suc j → j < length ns → x ≡ get_or ns j x → more ≡ made ++ w ∷ [] →
+    ((ts : List a.ATm) → AllHold (newest sets) ts → Tells x.form (a_values x.values.items) ts w
+    × AllHold (newest new) (a_build x.form (a_values x.values.items) ts)) →
+    AllHold (newest sets) (a_onto (drop left ns) []) → Told (drop left ns) (back made) →
+    AllHold (newest new) (a_onto (drop j ns) []) × Told (drop j ns) (back more)
 told_more ns j left x sets new made more w l lt is e f h t =
     let rest = drop (j + 1) ns in
     let from : left ≡ j + 1 = omega arith in
@@ -127,28 +143,32 @@ told_more ns j left x sets new made more w l lt is e f h t =
     let t2 = subst (λ k. Told (drop k ns) (back made)) from t in
     let r = f (a_onto rest []) h2 in
     let here : drop j ns ≡ x ∷ rest = drop_more ns j x lt ∙ ap (λ y. y ∷ rest) (sym is) in
-    let told : Told (x ∷ rest) (w ∷ back made) = (r.0, t2) in
-    (subst (λ xs. AllHold (newest new) (a_onto xs [])) (sym here) r.1, subst (λ xs. Told xs (back more)) (sym here) (subst (Told (x ∷ rest)) (sym (ap back e ∙ back_push made w)) told))
+    let told : Told (x ∷ rest) (w ∷ back made) = (r.0, t2) in (
+      subst (λ xs. AllHold (newest new) (a_onto xs [])) (sym here) r.1,
+      subst (λ xs. Told xs (back more)) (sym here)
+          (subst (Told (x ∷ rest)) (sym (ap back e ∙ back_push made w)) told),
+    )
 
-pub told_none : (ns : List ANode) (left : ℕ) → length ns ≤ left → AllHold [] (a_onto (drop left ns) []) × Told (drop left ns) []
+pub told_none : (ns : List ANode) (left : ℕ) → length ns ≤ left → AllHold [] (a_onto (drop left ns) [])
+    × Told (drop left ns) []
 told_none [] zero le = (tt, tt)
 told_none [] (suc i) le = (tt, tt)
 told_none (n ∷ ns) zero le = absurd (omega arith)
 told_none (n ∷ ns) (suc i) le = told_none ns i (omega arith)
 
 -- each node of a row has its values
-pub row_at : (ns : List ANode) (k i : ℕ) (x : ANode) → i < length ns → x ≡ get_or ns i x → ARow ns k → AArity x.form (a_values x.values.items)
+pub row_at : (ns : List ANode) (k i : ℕ) (x : ANode) → i < length ns → x ≡ get_or ns i x → ARow ns k →
+    AArity x.form (a_values x.values.items)
 row_at [] k i x lt is h = absurd (omega arith)
 row_at (n ∷ ns) zero i x lt is h = absurd h
 row_at (n ∷ ns) (suc k) zero x lt is h = subst (λ (y : ANode). AArity y.form (a_values y.values.items)) (sym is) h.0
 row_at (n ∷ ns) (suc k) (suc i) x lt is h = row_at ns (lift (a_kids n.form) k) i x (omega arith) is h.1
 
 -- what is told of the next node
-pub next_told : (ns rest : List ANode) (made left : List Ahead) (i : ℕ) (x : ANode) (w : Ahead) → drop i ns ≡ x ∷ rest → made ≡ left ++ w ∷ [] → Told (drop i ns) (back made) → Tells x.form (a_values x.values.items) (a_onto rest []) w × Told rest (back left)
+pub next_told : (ns rest : List ANode) (made left : List Ahead) (i : ℕ) (x : ANode) (w : Ahead) →
+    drop i ns ≡ x ∷ rest → made ≡ left ++ w ∷ [] → Told (drop i ns) (back made) →
+    Tells x.form (a_values x.values.items) (a_onto rest []) w × Told rest (back left)
 next_told ns rest made left i x w is e h =
-    let t : Told (x ∷ rest) (w ∷ back left) = subst (λ ws. Told (x ∷ rest) ws) (ap back e ∙ back_push left w) (subst (λ xs. Told xs (back made)) is h) in
+    let t : Told (x ∷ rest) (w ∷ back left) =
+    subst (λ ws. Told (x ∷ rest) ws) (ap back e ∙ back_push left w) (subst (λ xs. Told xs (back made)) is h) in
     (t.0, t.1)
-
--- there is one for each node
-pub told_stuck : (ns rest : List ANode) (made : List Ahead) (i : ℕ) (x : ANode) → drop i ns ≡ x ∷ rest → made ≡ [] → Told (drop i ns) (back made) → ⊥
-told_stuck ns rest made i x is e h = subst (λ ws. Told (x ∷ rest) (back ws)) e (subst (λ xs. Told xs (back made)) is h)

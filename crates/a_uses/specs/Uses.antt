@@ -55,7 +55,8 @@ mem (x ∷ xs) i = (x == i) || mem xs i
 -- what is told of a declaration and the rest: whether both names are used, whether the new one is, which variables the
 -- declaration uses and the rest does not, and in which register the end wants the new one, with how many arguments
 abbrev pub Ending : a.ADecl → a.ATm → Ahead → Type 0
-Ending d e w = (w.both ≡ both_names d e) × (w.new ≡ used e 0) × ((i : ℕ) → mem w.gone.items i ≡ (uses_decl d i && not (used e (suc i))))
+Ending d e w = (w.both ≡ both_names d e) × (w.new ≡ used e 0)
+    × ((i : ℕ) → mem w.gone.items i ≡ (uses_decl d i && not (used e (suc i))))
     × (w.wanted ≡ wanted e 0) × (w.arguments ≡ arguments e)
 
 -- one for each term, the first term's last
@@ -75,7 +76,9 @@ Tells (Malloc us) vs ts w = Ending (a_decl (Malloc us) vs) (top no_term ts) w
 Tells (Init i) vs ts w = Ending (a_decl (Init i) vs) (top no_term ts) w
 Tells (Call us) vs ts w = Unit {0}
 Tells If0 vs ts w = Listed (used (top no_term (others ts))) 0 w.third.items
-    × ((i : ℕ) → mem w.gone.items i ≡ ((uses (top no_value vs) i || used (top no_term (others ts)) i) && not (used (top no_term ts) i)))
+    × ((i : ℕ) →
+    mem w.gone.items i
+    ≡ ((uses (top no_value vs) i || used (top no_term (others ts)) i) && not (used (top no_term ts) i)))
 Tells Halt vs ts w = Unit {0}
 
 -- so of each node

@@ -1,12 +1,14 @@
 // What code generation asks of the terms that are still to come.
 ghost use Rattle.std.specs.Prelude.{◌≡◌, ◌≤◌, [], ◌∷◌, ◌||◌, ◌&&◌, not, List, ℕ, true, length, IfOk, OnOk};
 ghost use Rattle.a_terms.specs.Tree.{ATm};
-ghost use Rattle.a_terms.specs.NodeTrees.{a_value, a_values, a_decl, a_let, a_build, a_onto, a_tree, is_decl, no_value, no_term};
+ghost use Rattle.a_terms.specs.NodeTrees.{a_value, a_values, a_decl, a_let, a_build, a_onto, a_tree, is_decl};
+ghost use Rattle.a_terms.specs.NodeTrees.{no_value, no_term};
 ghost use Rattle.a_terms.specs.Tree.{Call, If0, Halt};
 ghost use Rattle.a_terms.specs.Arity.{AArity, ARow};
 ghost use Rattle.a_terms.specs.Row.{IsOne, IsSome, top, others};
 ghost use Rattle.gen_law.specs.Gen.{used, uses, uses_any};
-ghost use Rattle.a_uses.specs.Uses.{has, mem, Ending, both_used, both_names, newest, AllHold, Holds, Leads, Listed, Tells};
+ghost use Rattle.a_uses.specs.Uses.{has, mem, Ending, both_used, both_names, newest, AllHold, Holds, Leads, Listed};
+ghost use Rattle.a_uses.specs.Uses.{Tells};
 ghost use Rattle.a_uses.specs.Uses.{Told, back};
 
 use crate::used::{Used, add_all, has_number, list, missing, missing_of, none, note_all, outside};
@@ -16,10 +18,10 @@ use a_terms::{ABase, AForm, ANode, AValue};
 use idx_core::OutOfMemory;
 use std::alloc::Global;
 
-/// Of a declaration: whether the rest uses a variable by both of its names, whether it uses the new name, which variables
-/// the declaration uses and the rest does not, the register in which the end of the rest wants the new one, or 0, and how
-/// many arguments that end has. Of a choice: which variables its value or its third part uses and its second part does
-/// not, and those that its third part uses, in ascending order.
+/// Of a declaration: whether the rest uses a variable by both of its names, whether it uses the new name, which
+/// variables the declaration uses and the rest does not, the register in which the end of the rest wants the new one,
+/// or 0, and how many arguments that end has. Of a choice: which variables its value or its third part uses and its
+/// second part does not, and those that its third part uses, in ascending order.
 #[derive(Drop)]
 pub struct Ahead {
     pub both: bool,
@@ -37,8 +39,8 @@ pub struct Rest {
     pub wants: Wants,
 }
 
-/// What code generation asks of a row of nodes: of what comes after each of them, the last one first, and which variables
-/// the row's first term uses, in ascending order.
+/// What code generation asks of a row of nodes: of what comes after each of them, the last one first, and which
+/// variables the row's first term uses, in ascending order.
 #[derive(Drop)]
 pub struct Aheads {
     pub each: Vec<Ahead>,

@@ -78,7 +78,8 @@ pub(crate) fn outside(used: &mut Used) -> Result<(), OutOfMemory>
 
 /// These variables are put among them too. An error is want of memory.
 pub(crate) fn add_all(used: &mut Used, numbers: &[u64]) -> Result<(), OutOfMemory>
-    ensures { OnOk result ((u : ℕ → Bool) → Listed u 0 numbers.now → (i : ℕ) → has used.new i ≡ (has used.old i || u i)) }
+    ensures { OnOk result ((u : ℕ → Bool) → Listed u 0 numbers.now → (i : ℕ) →
+        has used.new i ≡ (has used.old i || u i)) }
 {
     for i in 0..numbers.len() {
         add(used, numbers[i])?;

@@ -5,13 +5,14 @@ use Rattle.page_text.specs.Names.{separator, value_name}
 use Rattle.page_text.proofs.Listed.{Left, left_none, listed}
 use Rattle.a_terms.specs.NodeTrees.{a_block, a_blocks, a_consts, a_data, a_tree}
 use Rattle.a_terms.specs.Read.{atree, atrees}
-use Rattle.a_terms.specs.Tree.{ABlk, AConsts, ATm, arity}
+use Rattle.a_terms.specs.Tree.{arity}
 use Rattle.a_terms.specs.declared.types.AType.{AType}
 use Rattle.a_terms.specs.declared.nodes.ABlock.{ABlock}
 use Rattle.a_terms.specs.declared.nodes.AData.{AData}
 use Rattle.a_terms.specs.declared.nodes.ANode.{ANode}
 use Rattle.a_writer.specs.Types.{type_text}
-use Rattle.a_writer.specs.Notation.{a_text, args_text, block_text, blocks_text, data_text, head_text, term_text, tuple_text}
+use Rattle.a_writer.specs.Notation.{args_text, block_text, blocks_text, data_text, head_text, term_text}
+use Rattle.a_writer.specs.Notation.{tuple_text}
 use Rattle.a_writer.specs.Notation.{tuples_text}
 
 abbrev pub arg_item : ℕ → ℕ → AType → List ℕ
@@ -79,8 +80,3 @@ pub data_done : (xs : List AData) (t0 t1 t2 : List ℕ) → 0 < length xs → t1
 data_done xs t0 t1 t2 lt e1 e2 =
     e2 ∙ ap (λ (s : List ℕ). s ++ codes "\n") e1 ∙ append_assoc t0 (tuples_text 0 (a_data xs)) (codes "\n")
     ∙ ap (λ (s : List ℕ). t0 ++ s) (data_is xs lt)
-
-pub program_done : (bs : List ABlk) (ds : List AConsts) (t : ATm) (t0 t1 t2 t3 t4 : List ℕ) → t0 ≡ [] →
-    t1 ≡ t0 ++ blocks_text 0 bs → t2 ≡ t1 ++ data_text ds → t3 ≡ t2 ++ codes "main:\n" →
-    t4 ≡ t3 ++ term_text 0 0 1 t → t4 ≡ a_text (record { blocks = bs; tuples = ds }) t
-program_done bs ds t t0 t1 t2 t3 t4 e0 e1 e2 e3 e4 = rw (e4, e3, e2, e1, e0) (simp append_assoc)

@@ -3,7 +3,7 @@ use c_terms::CType;
 use c_walk::Levels;
 
 /// What is known of a code before it is met: its free variables, whether its own name is used, and the types of the
-/// closed code and of its closure, outside it and inside it.
+/// closed code and of its closure, outside it and, where its own name is used, inside it.
 #[derive(Drop)]
 pub struct Info {
     /// The levels of its free variables, ascending: the fields of its environment.
@@ -20,11 +20,11 @@ pub struct Info {
     pub hidden: CType,
     /// The type of its closure, outside it.
     pub shape: CType,
-    /// What `apply` is inside it.
+    /// What `apply` is inside it; nothing where its own name is not used.
     pub apply_in: Vec<CType>,
-    /// What `hidden` is inside it.
+    /// What `hidden` is inside it; `int` where its own name is not used.
     pub hidden_in: CType,
-    /// What `shape` is inside it.
+    /// What `shape` is inside it; `int` where its own name is not used.
     pub shape_in: CType,
 }
 

@@ -1,13 +1,17 @@
 -- The sizes of bodies after closure conversion.
-use Rattle.std.proofs.Common.{◌≡◌, ◌≤◌, ℕ, zero, suc, ◌+◌, ◌*◌, Bool, true, false, ◌||◌, nat_eq, [], ◌∷◌, Option, Some, None, refl, sym, ap, ◌∙◌, arith, ⊎_elim}
+use Rattle.std.proofs.Common.{◌≡◌, ◌≤◌, ℕ, zero, suc, ◌+◌, ◌*◌, Bool, true, false, ◌||◌, nat_eq, [], ◌∷◌, Option, Some}
+use Rattle.std.proofs.Common.{None, refl, sym, ap, ◌∙◌, arith, ⊎_elim}
 use Rattle.std.proofs.lemmas.Bool.{eq-eqb, ne_eqb, cases_eq}
 use Rattle.c_law.specs.Places.{Places, place, kept_count}
 use Rattle.term_core.specs.Ends.{lift, after_one}
-use Rattle.k_terms.specs.K.{KTys, KVal, KVar, KInt, KTuple, KCode, KVals, NoKVals, MoreKVals, KDecl, KName, KProj, KArith, KPack, KUnpack, KCell, KGet, KSet, KTm, KLet, KCall, KIf, KHalt, kcount}
+use Rattle.k_terms.specs.K.{KTys, KVal, KVar, KInt, KTuple, KCode, KVals, NoKVals, MoreKVals, KDecl, KName, KProj}
+use Rattle.k_terms.specs.K.{KArith, KPack, KUnpack, KCell, KGet, KSet, KTm, KLet, KCall, KIf, KHalt, kcount}
 use Rattle.c_law.specs.Free.{occurs_v, occurs_vs, occurs_d, occurs_t}
 use Rattle.k_terms.specs.Size.{ksize_v, ksize_vs, ksize_d, ksize_t}
 use Rattle.c_terms.specs.C.{CVal, CVals, NoCVals, CTm}
-use Rattle.c_law.specs.Close.{Scope, keeps, uses, var_value, pick_one, picked, projections, named, rebuilt, closed_body, inner, with_decl, in_call, no_scope, close_v, close_vs, close_d, close_t, close_of}
+use Rattle.c_law.specs.Close.{Scope, keeps, uses, var_value, pick_one, picked, projections, named, rebuilt}
+use Rattle.c_law.specs.Close.{closed_body, inner, with_decl, in_call, no_scope, close_v, close_vs, close_d, close_t}
+use Rattle.c_law.specs.Close.{close_of}
 use Rattle.c_terms.specs.Size.{cown_v, cown_vs, cown_d, cown_t, CSmall_v, CSmall_vs, CSmall_d, CSmall_t, CSmall}
 use Rattle.c_law.proofs.Ranges.{lift_back}
 use Rattle.c_law.proofs.Meaning.{ctypes_count}
@@ -29,7 +33,8 @@ kept_or f g (p ∷ ps) = after_or (f 0) (g 0) _ _ _ (kept_or (λ i. f (suc i)) (
 
 kept_none : (f : ℕ → Bool) (ps : Places) → ((i : ℕ) → f i ≡ false) → kept_count f ps ≡ 0
 kept_none f [] h = refl
-kept_none f (p ∷ ps) h = ap (λ k. after_one k (kept_count (λ i. f (suc i)) ps)) (h 0) ∙ kept_none (λ i. f (suc i)) ps (λ i. h (suc i))
+kept_none f (p ∷ ps) h =
+    ap (λ k. after_one k (kept_count (λ i. f (suc i)) ps)) (h 0) ∙ kept_none (λ i. f (suc i)) ps (λ i. h (suc i))
 
 abbrev Injective : (ℕ → ℕ) → Type 0
 Injective h = (i j : ℕ) → h i ≡ h j → i ≡ j
@@ -39,7 +44,8 @@ kept_one : (h : ℕ → ℕ) (j : ℕ) (ps : Places) → Injective h → kept_co
 kept_one h j [] inj = omega arith
 kept_one h j (p ∷ ps) inj = ⊎_elim
     (λ e.
-    let none = kept_none (λ i. nat_eq (h (suc i)) j) ps (λ i. ne_eqb (h (suc i)) j (λ q. absurd (no i (inj (suc i) 0 (q ∙ sym e))))) in
+    let none = kept_none (λ i. nat_eq (h (suc i)) j) ps
+    (λ i. ne_eqb (h (suc i)) j (λ q. absurd (no i (inj (suc i) 0 (q ∙ sym e))))) in
     let one = ap (λ k. after_one k (kept_count (λ i. nat_eq (h (suc i)) j) ps)) (eq-eqb (h 0) j e) in
     omega (arith, none, one))
     (λ e.
@@ -66,7 +72,8 @@ mutual
   kept_v (KVar j) h ps inj = kept_one h j ps inj
   kept_v (KInt n) h ps inj = let z = kept_none (λ i. false) ps (λ i. refl) in omega (arith, z)
   kept_v (KTuple vs) h ps inj = let r = kept_vs vs h ps inj in omega (arith, r)
-  kept_v (KCode owes args body) h ps inj = let r = kept_t body (λ i. lift (kcount args) (suc (h i))) ps (code_inj (kcount args) h inj) in omega (arith, r)
+  kept_v (KCode owes args body) h ps inj =
+      let r = kept_t body (λ i. lift (kcount args) (suc (h i))) ps (code_inj (kcount args) h inj) in omega (arith, r)
 
   kept_vs : (vs : KVals) (h : ℕ → ℕ) (ps : Places) → Injective h → kept_count (λ i. occurs_vs (h i) vs) ps ≤ ksize_vs vs
   kept_vs NoKVals h ps inj = let z = kept_none (λ i. false) ps (λ i. refl) in omega (arith, z)
@@ -117,10 +124,13 @@ after_move : (k : Bool) (a b : ℕ) → a + after_one k b ≡ after_one k a + b
 after_move true a b = omega arith
 after_move false a b = refl
 
-picked_size : (keep : ℕ → Bool) (ps : Places) (vs : CVals) → cown_vs (picked keep ps vs) ≡ kept_count keep ps + cown_vs vs
+picked_size : (keep : ℕ → Bool) (ps : Places) (vs : CVals) →
+    cown_vs (picked keep ps vs) ≡ kept_count keep ps + cown_vs vs
 picked_size keep [] vs = omega arith
 picked_size keep (p ∷ ps) vs =
-    picked_size (λ i. keep (suc i)) ps (pick_one (keep 0) p vs) ∙ ap (λ x. kept_count (λ i. keep (suc i)) ps + x) (pick_size (keep 0) p vs) ∙ after_move (keep 0) (kept_count (λ i. keep (suc i)) ps) (cown_vs vs)
+    picked_size (λ i. keep (suc i)) ps (pick_one (keep 0) p vs)
+    ∙ ap (λ x. kept_count (λ i. keep (suc i)) ps + x) (pick_size (keep 0) p vs)
+    ∙ after_move (keep 0) (kept_count (λ i. keep (suc i)) ps) (cown_vs vs)
 
 projections_size : (k i e : ℕ) (t : CTm) → cown_t (projections k i e t) ≡ 2 * k + cown_t t
 projections_size zero i e t = omega arith
@@ -130,7 +140,8 @@ named_size : (u : Bool) (v : CVal) (t : CTm) → cown_t (named u v t) ≤ 1 + co
 named_size true v t = omega arith
 named_size false v t = omega arith
 
-body_size : (s : Scope) (owes : ℕ) (args : KTys) (body : KTm) (t : CTm) → cown_t (closed_body s owes args body t) ≤ 2 * ksize_t body + 6 + cown_t t
+body_size : (s : Scope) (owes : ℕ) (args : KTys) (body : KTm) (t : CTm) →
+    cown_t (closed_body s owes args body t) ≤ 2 * ksize_t body + 6 + cown_t t
 body_size s owes args body t =
     let k = kept_count (keeps args body) s.vars in
     let x = projections_size k 1 (kcount args) (named (uses args body 0) (rebuilt s owes args body) t) in
@@ -204,8 +215,15 @@ module _ (M : ℕ) where
         let t = close_t i body in
         let x = body_size s owes args body t in
         let y = own_t body i in
-        let n = ctypes_count i.tvar args in
-        ((omega (arith, x, y, h, n), small_projections M (kept_count (keeps args body) s.vars) 1 (kcount args) _ (small_named M (uses args body 0) (rebuilt s owes args body) t (tt, (tt, tt)) (small_t body i (omega (arith, h))))), (small_picked M (keeps args body) s.vars NoCVals tt, tt))
+        let n = ctypes_count i.tvar args in (
+          (
+            omega (arith, x, y, h, n),
+            small_projections M (kept_count (keeps args body) s.vars) 1 (kcount args) _
+                (small_named M (uses args body 0) (rebuilt s owes args body) t (tt, (tt, tt))
+                (small_t body i (omega (arith, h)))),
+          ),
+          (small_picked M (keeps args body) s.vars NoCVals tt, tt),
+        )
 
     small_vs : (vs : KVals) (s : Scope) → 10 * ksize_vs vs ≤ M → CSmall_vs M (close_vs s vs)
     small_vs NoKVals s h = tt
@@ -223,8 +241,10 @@ module _ (M : ℕ) where
 
     small_t : (t : KTm) (s : Scope) → 10 * ksize_t t ≤ M → CSmall_t M (close_t s t)
     small_t (KLet d t) s h = (small_d d s (omega (arith, h)), small_t t (with_decl d s) (omega (arith, h)))
-    small_t (KCall f ts vs) s h = (small_v f s (omega (arith, h)), (tt, (tt, (tt, (tt, small_vs vs (in_call s) (omega (arith, h)))))))
-    small_t (KIf v t u) s h = (small_v v s (omega (arith, h)), small_t t s (omega (arith, h)), small_t u s (omega (arith, h)))
+    small_t (KCall f ts vs) s h =
+        (small_v f s (omega (arith, h)), (tt, (tt, (tt, (tt, small_vs vs (in_call s) (omega (arith, h)))))))
+    small_t (KIf v t u) s h =
+        (small_v v s (omega (arith, h)), small_t t s (omega (arith, h)), small_t u s (omega (arith, h)))
     small_t (KHalt v) s h = small_v v s (omega (arith, h))
 
 pub close_small : (t : KTm) → CSmall (10 * ksize_t t) (close_of t)

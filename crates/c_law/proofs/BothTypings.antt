@@ -41,7 +41,8 @@ types_kept t h =
     (kept_types_of (λ n. Unit {0}) (λ u. Unit {0}) (λ n. Unit {0}) (λ n u. Unit {0}) any_kept t
     (k_t Any (λ n u. Unit {0} × Unit {0}) (λ n u x. (tt, tt)) t 0 [] (any_t t 0 [] h)))
 
-pub reach_kept : (N R B : ℕ) (t : KTm) → KGoodP (KWithin N R B) 0 [] t → CGoodP (CWithin (N + 1) (R + 4) (N + B + 1)) 0 [] (close_of t)
+pub reach_kept : (N R B : ℕ) (t : KTm) → KGoodP (KWithin N R B) 0 [] t →
+    CGoodP (CWithin (N + 1) (R + 4) (N + B + 1)) 0 [] (close_of t)
 reach_kept N R B t h =
     kept_types_of (λ n. n ≤ N) (Small R B) (λ n. n ≤ N + 1) (CWithin (N + 1) (R + 4) (N + B + 1)) (within_kept N R B) t
     (k_t (KWithin N R B) (λ n u. (n ≤ N) × Small R B u) (λ n u x. (x.0, (x.1, x.2))) t 0 [] h)

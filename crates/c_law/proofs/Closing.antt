@@ -1,11 +1,16 @@
 -- What the conversion gives has its names in scope, whatever it is given.
-use Rattle.std.proofs.Common.{◌≡◌, ◌<◌, ◌≤◌, ℕ, zero, suc, ◌+◌, Bool, true, false, [], ◌∷◌, Option, Some, None, refl, sym, ap, subst, arith}
+use Rattle.std.proofs.Common.{◌≡◌, ◌<◌, ◌≤◌, ℕ, zero, suc, ◌+◌, Bool, true, false, [], ◌∷◌, Option, Some, None, refl}
+use Rattle.std.proofs.Common.{sym, ap, subst, arith}
 use Rattle.c_law.specs.Places.{Places, further, place, from_on, kept_places, kept_count, keep_one}
 use Rattle.term_core.specs.Ends.{after_one, lift}
-use Rattle.k_terms.specs.K.{KTy, KTys, NoKTys, MoreKTys, KVal, KVar, KInt, KTuple, KCode, KVals, NoKVals, MoreKVals, KDecl, KName, KProj, KArith, KPack, KUnpack, KCell, KGet, KSet, KTm, KLet, KCall, KIf, KHalt, kcount, opens}
+use Rattle.k_terms.specs.K.{KTy, KTys, NoKTys, MoreKTys, KVal, KVar, KInt, KTuple, KCode, KVals, NoKVals, MoreKVals}
+use Rattle.k_terms.specs.K.{KDecl, KName, KProj, KArith, KPack, KUnpack, KCell, KGet, KSet, KTm, KLet, KCall, KIf}
+use Rattle.k_terms.specs.K.{KHalt, kcount, opens}
 use Rattle.k_terms.specs.Types.{kd_type}
 use Rattle.c_terms.specs.C.{CVal, CVals, NoCVals, CTm, ccount}
-use Rattle.c_law.specs.Close.{Scope, uses, keeps, var_value, pick_one, picked, projections, named, rebuilt, closed_body, closed_args, inner, with_var, open_if, with_decl, in_call, ctypes, close_v, close_vs, close_d, close_t, close_of, no_scope}
+use Rattle.c_law.specs.Close.{Scope, uses, keeps, var_value, pick_one, picked, projections, named, rebuilt}
+use Rattle.c_law.specs.Close.{closed_body, closed_args, inner, with_var, open_if, with_decl, in_call, ctypes, close_v}
+use Rattle.c_law.specs.Close.{close_vs, close_d, close_t, close_of, no_scope}
 use Rattle.c_terms.specs.Scope.{CScoped_v, CScoped_vs, CScoped_d, CScoped}
 
 lift_add : (n i : ℕ) → lift n i ≡ n + i
@@ -44,24 +49,29 @@ after_sum : (b : Bool) (o n : ℕ) → after_one b o + n ≡ o + after_one b n
 after_sum true o n = omega arith
 after_sum false o n = refl
 
-kept_among : (o : ℕ) (keep : ℕ → Bool) (ps : Places) (i j : ℕ) → place (kept_places o keep ps) i ≡ Some j → j < o + kept_count keep ps
+kept_among : (o : ℕ) (keep : ℕ → Bool) (ps : Places) (i j : ℕ) → place (kept_places o keep ps) i ≡ Some j →
+    j < o + kept_count keep ps
 kept_among o keep [] i j q = absurd (none_is j q)
 kept_among o keep (p ∷ ps) zero j q = first_kept (keep 0) o j (kept_count (λ i. keep (suc i)) ps) q
 kept_among o keep (p ∷ ps) (suc i) j q =
-    let r = kept_among (after_one (keep 0) o) (λ i. keep (suc i)) ps i j q in omega (arith, r, after_sum (keep 0) o (kept_count (λ i. keep (suc i)) ps))
+    let r = kept_among (after_one (keep 0) o) (λ i. keep (suc i)) ps i j q in
+    omega (arith, r, after_sum (keep 0) o (kept_count (λ i. keep (suc i)) ps))
 
 value_of : (e : ℕ) (p : Option ℕ) → ((j : ℕ) → p ≡ Some j → j < e) → CScoped_v e (var_value p)
 value_of e None h = tt
 value_of e (Some j) h = h j refl
 
-one_in : (b : Bool) (e : ℕ) (p : Option ℕ) (vs : CVals) → CScoped_v e (var_value p) → CScoped_vs e vs → CScoped_vs e (pick_one b p vs)
+one_in : (b : Bool) (e : ℕ) (p : Option ℕ) (vs : CVals) → CScoped_v e (var_value p) → CScoped_vs e vs →
+    CScoped_vs e (pick_one b p vs)
 one_in true e p vs h k = (h, k)
 one_in false e p vs h k = k
 
-picked_in : (e : ℕ) (keep : ℕ → Bool) (ps : Places) (vs : CVals) → Among e ps → CScoped_vs e vs → CScoped_vs e (picked keep ps vs)
+picked_in : (e : ℕ) (keep : ℕ → Bool) (ps : Places) (vs : CVals) → Among e ps → CScoped_vs e vs →
+    CScoped_vs e (picked keep ps vs)
 picked_in e keep [] vs h k = k
 picked_in e keep (p ∷ ps) vs h k =
-    picked_in e (λ i. keep (suc i)) ps (pick_one (keep 0) p vs) (tail e p ps h) (one_in (keep 0) e p vs (value_of e p (λ j q. h zero j q)) k)
+    picked_in e (λ i. keep (suc i)) ps (pick_one (keep 0) p vs) (tail e p ps h)
+    (one_in (keep 0) e p vs (value_of e p (λ j q. h zero j q)) k)
 
 lift_suc : (n i : ℕ) → lift n (suc i) ≡ suc (lift n i)
 lift_suc zero i = refl
@@ -69,7 +79,11 @@ lift_suc (suc n) i = ap suc (lift_suc n i)
 
 projections_in : (k i e d : ℕ) (t : CTm) → e < d → CScoped (lift k d) t → CScoped d (projections k i e t)
 projections_in zero i e d t lt h = h
-projections_in (suc k) i e d t lt h = (lt, projections_in k (suc i) (suc e) (suc d) t (omega (arith, lt)) (subst (λ x. CScoped x t) (sym (lift_suc k d)) h))
+projections_in (suc k) i e d t lt h = (
+  lt,
+  projections_in k (suc i) (suc e) (suc d) t (omega (arith, lt))
+      (subst (λ x. CScoped x t) (sym (lift_suc k d)) h),
+)
 
 named_in : (b : Bool) (d : ℕ) (v : CVal) (t : CTm) → CScoped_v d v → CScoped (after_one b d) t → CScoped d (named b v t)
 named_in true d v t h k = (h, k)
@@ -84,10 +98,16 @@ abbrev start : Scope → ℕ → KTys → KTm → ℕ
 start s owes args body = lift (ccount (closed_args s owes args body)) 1
 
 start_is : (s : Scope) (owes : ℕ) (args : KTys) (body : KTm) → start s owes args body ≡ suc (suc (kcount args))
-start_is s owes args body = omega (arith, lift_add (ccount (ctypes (inner s owes args body).tvar args)) 1, count_types (inner s owes args body).tvar args)
+start_is s owes args body =
+    omega (
+      arith,
+      lift_add (ccount (ctypes (inner s owes args body).tvar args)) 1,
+      count_types (inner s owes args body).tvar args,
+    )
 
 code_in : (s : Scope) (owes : ℕ) (args : KTys) (body : KTm) (t : CTm) →
-    CScoped (after_one (uses args body 0) (lift (kept_count (keeps args body) s.vars) (start s owes args body))) t → CScoped (start s owes args body) (closed_body s owes args body t)
+    CScoped (after_one (uses args body 0) (lift (kept_count (keeps args body) s.vars) (start s owes args body))) t →
+    CScoped (start s owes args body) (closed_body s owes args body t)
 code_in s owes args body t h =
     let k = kept_count (keeps args body) s.vars in
     let n = kcount args in
@@ -106,15 +126,18 @@ after_up true x y h = omega (arith, h)
 after_up false x y h = h
 
 inner_among : (s : Scope) (owes : ℕ) (args : KTys) (body : KTm) →
-    Among (after_one (uses args body 0) (lift (kept_count (keeps args body) s.vars) (start s owes args body))) (inner s owes args body).vars
+    Among (after_one (uses args body 0) (lift (kept_count (keeps args body) s.vars) (start s owes args body)))
+    (inner s owes args body).vars
 inner_among s owes args body =
     let k = kept_count (keeps args body) s.vars in
     let n = kcount args in
     let own = uses args body 0 in
     let d = start s owes args body in
     let b = after_one own (lift k d) in
-    let up : after_one own (k + n) ≤ b = after_up own (k + n) (lift k d) (omega (arith, start_is s owes args body, lift_add k d)) in
-    from_among b (after_one own k) n (kept_places 0 (uses args body) (None ∷ s.vars)) (omega (arith, up, after_add own k n))
+    let up : after_one own (k + n) ≤ b =
+    after_up own (k + n) (lift k d) (omega (arith, start_is s owes args body, lift_add k d)) in
+    from_among b (after_one own k) n (kept_places 0 (uses args body) (None ∷ s.vars))
+    (omega (arith, up, after_add own k n))
     (λ i j q. let r = kept_among 0 (uses args body) (None ∷ s.vars) i j q in omega (arith, r, up, after_add own k n))
 
 next : (e : ℕ) (ps : Places) → Among e ps → Among (suc e) (Some 0 ∷ further ps)
@@ -131,7 +154,8 @@ mutual
   v_in (KInt n) s e h = tt
   v_in (KTuple vs) s e h = vs_in vs s e h
   v_in (KCode owes args body) s e h = (
-    code_in s owes args body (close_t (inner s owes args body) body) (t_in body (inner s owes args body) _ (inner_among s owes args body)),
+    code_in s owes args body (close_t (inner s owes args body) body)
+        (t_in body (inner s owes args body) _ (inner_among s owes args body)),
     (picked_in e (keeps args body) s.vars NoCVals h tt, tt),
   )
 
@@ -161,7 +185,9 @@ mutual
           omega arith,
           (
             omega arith,
-            vs_in vs (in_call s) (suc (suc (suc e))) (further_among (suc (suc e)) (further (further s.vars)) (further_among (suc e) (further s.vars) (further_among e s.vars h))),
+            vs_in vs (in_call s) (suc (suc (suc e)))
+                (further_among (suc (suc e)) (further (further s.vars))
+                (further_among (suc e) (further s.vars) (further_among e s.vars h))),
           ),
         ),
       ),

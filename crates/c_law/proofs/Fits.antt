@@ -17,10 +17,13 @@ fits_kept N R t h =
     let codes = t_next t no_scope 0 in
     let ifs = close_counts t in
     let all = few t in (
-      within_more (N + 1) (10 * N + 1) (R + 4) (R + 4) (N + N + 1) (10 * N + 1) (close_of t) (omega arith) (omega arith) (omega arith) (reach_kept N R N t h.0),
+      within_more (N + 1) (10 * N + 1) (R + 4) (R + 4) (N + N + 1) (10 * N + 1) (close_of t) (omega arith)
+          (omega arith) (omega arith) (reach_kept N R N t h.0),
       (omega (arith, small.0, h.1), small_t (10 * ksize_t t) (10 * N + 1) (omega (arith, h.1)) (close_of t) small.1),
       omega (arith, codes, ifs, all, h.1),
     )
 
 pub bound_kept : (t : KTm) → KBound t → CBound (close_of t)
-bound_kept t h = fits_more (10 * 1099511627776 + 1) 17592186044416 1604 1604 (close_of t) (omega arith) (omega arith) (fits_kept 1099511627776 1600 t h)
+bound_kept t h =
+    fits_more (10 * 1099511627776 + 1) 17592186044416 1604 1604 (close_of t) (omega arith) (omega arith)
+    (fits_kept 1099511627776 1600 t h)

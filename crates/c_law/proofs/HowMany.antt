@@ -1,10 +1,14 @@
 -- The numbers of codes and choices.
-use Rattle.std.proofs.Common.{◌≡◌, ◌≤◌, ℕ, zero, suc, ◌+◌, Bool, true, false, [], ◌∷◌, Option, Some, None, refl, ◌∙◌, arith}
+use Rattle.std.proofs.Common.{◌≡◌, ◌≤◌, ℕ, zero, suc, ◌+◌, Bool, true, false, [], ◌∷◌, Option, Some, None, refl, ◌∙◌}
+use Rattle.std.proofs.Common.{arith}
 use Rattle.c_law.specs.Places.{Places, place, kept_count}
-use Rattle.k_terms.specs.K.{KVal, KVar, KInt, KTuple, KCode, KVals, NoKVals, MoreKVals, KDecl, KName, KProj, KArith, KPack, KUnpack, KCell, KGet, KSet, KTm, KLet, KCall, KIf, KHalt, kcount, kv_next, kvs_next, kd_next, kt_next}
+use Rattle.k_terms.specs.K.{KVal, KVar, KInt, KTuple, KCode, KVals, NoKVals, MoreKVals, KDecl, KName, KProj, KArith}
+use Rattle.k_terms.specs.K.{KPack, KUnpack, KCell, KGet, KSet, KTm, KLet, KCall, KIf, KHalt, kcount, kv_next, kvs_next}
+use Rattle.k_terms.specs.K.{kd_next, kt_next}
 use Rattle.k_terms.specs.Size.{ksize_v, ksize_vs, ksize_d, ksize_t}
 use Rattle.c_terms.specs.C.{CVal, CVals, NoCVals, CTm}
-use Rattle.c_law.specs.Close.{Scope, keeps, uses, var_value, pick_one, picked, projections, named, rebuilt, inner, with_decl, in_call, no_scope, close_v, close_vs, close_d, close_t, close_of}
+use Rattle.c_law.specs.Close.{Scope, keeps, uses, var_value, pick_one, picked, projections, named, rebuilt, inner}
+use Rattle.c_law.specs.Close.{with_decl, in_call, no_scope, close_v, close_vs, close_d, close_t, close_of}
 use Rattle.c_terms.specs.Size.{cifs_v, cifs_vs, cifs_d, cifs_t}
 
 -- how many choices stand in a term
@@ -64,7 +68,8 @@ mutual
       let i = inner s owes args body in
       let t = close_t i body in
       let x = picked_ifs (keeps args body) s.vars NoCVals in
-      let y = projections_ifs (kept_count (keeps args body) s.vars) 1 (kcount args) (named (uses args body 0) (rebuilt s owes args body) t) in
+      let y = projections_ifs (kept_count (keeps args body) s.vars) 1 (kcount args)
+      (named (uses args body 0) (rebuilt s owes args body) t) in
       let z = named_ifs (uses args body 0) (rebuilt s owes args body) t refl in
       let w = ifs_t body i in
       omega (arith, x, y, z, w)
@@ -117,7 +122,9 @@ mutual
   few_t : (t : KTm) (b : ℕ) → kt_next b t + kifs_t t ≤ b + ksize_t t
   few_t (KLet d t) b = let x = few_d d b in let y = few_t t (kd_next b d) in omega (arith, x, y)
   few_t (KCall f ts vs) b = let x = few_v f b in let y = few_vs vs (kv_next b f) in omega (arith, x, y)
-  few_t (KIf v t u) b = let x = few_v v b in let y = few_t t (kv_next b v) in let z = few_t u (kt_next (kv_next b v) t) in omega (arith, x, y, z)
+  few_t (KIf v t u) b =
+      let x = few_v v b in
+      let y = few_t t (kv_next b v) in let z = few_t u (kt_next (kv_next b v) t) in omega (arith, x, y, z)
   few_t (KHalt v) b = let r = few_v v b in omega (arith, r)
 
 pub few : (t : KTm) → kt_next 0 t + kifs_t t ≤ ksize_t t

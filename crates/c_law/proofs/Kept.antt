@@ -23,22 +23,32 @@ pub record IsKept (L : ℕ → Type 0) (S : KTy → Type 0) (M : ℕ → Type 0)
   pub args : (n : ℕ) (ts : KTys) → S (TKCode n ts) → HaveAll S ts
   pub type : (n : ℕ) (t : KTy) (r : ℕ → ℕ) → M n → S t → Q n (ctype r t)
   pub var : (n i : ℕ) → M n → Q n (TCVar i)
-  pub env : (n : ℕ) (r : ℕ → ℕ) (args : KTys) (body : KTm) (g : List KTy) → M n → Have S g → Q n (env_type r args body g)
+  pub env : (n : ℕ) (r : ℕ → ℕ) (args : KTys) (body : KTm) (g : List KTy) → M n → Have S g →
+      Q n (env_type r args body g)
   -- a code's type whose parameters are the environment and the arguments, and its pair with an environment
-  pub code : (n m o : ℕ) (r q : ℕ → ℕ) (args : KTys) (body : KTm) (g : List KTy) → M n → L m → S (TKCode o args) → Have S g → Q n (TCCode m (MoreCTys (env_type r args body g) (ctypes q args)))
-  pub pair : (n m o : ℕ) (r r2 q : ℕ → ℕ) (args : KTys) (body : KTm) (g : List KTy) → M n → L m → S (TKCode o args) → Have S g → Q n (TCTuple (MoreCTys (TCCode m (MoreCTys (env_type r args body g) (ctypes q args))) (MoreCTys (env_type r2 args body g) NoCTys)))
+  pub code : (n m o : ℕ) (r q : ℕ → ℕ) (args : KTys) (body : KTm) (g : List KTy) → M n → L m → S (TKCode o args) →
+      Have S g → Q n (TCCode m (MoreCTys (env_type r args body g) (ctypes q args)))
+  pub pair : (n m o : ℕ) (r r2 q : ℕ → ℕ) (args : KTys) (body : KTm) (g : List KTy) → M n → L m → S (TKCode o args) →
+      Have S g → Q n
+      (TCTuple (MoreCTys (TCCode m (MoreCTys (env_type r args body g) (ctypes q args)))
+      (MoreCTys (env_type r2 args body g) NoCTys)))
   -- the same where a call has unpacked them
-  pub called : (n m i : ℕ) (q : ℕ → ℕ) (args : KTys) → M n → S (TKCode m args) → Q n (TCCode m (MoreCTys (TCVar i) (ctypes q args)))
-  pub called_pair : (n m i : ℕ) (q : ℕ → ℕ) (args : KTys) → M n → S (TKCode m args) → Q n (TCTuple (MoreCTys (TCCode m (MoreCTys (TCVar i) (ctypes q args))) (MoreCTys (TCVar 0) NoCTys)))
+  pub called : (n m i : ℕ) (q : ℕ → ℕ) (args : KTys) → M n → S (TKCode m args) →
+      Q n (TCCode m (MoreCTys (TCVar i) (ctypes q args)))
+  pub called_pair : (n m i : ℕ) (q : ℕ → ℕ) (args : KTys) → M n → S (TKCode m args) →
+      Q n (TCTuple (MoreCTys (TCCode m (MoreCTys (TCVar i) (ctypes q args))) (MoreCTys (TCVar 0) NoCTys)))
 
 -- lists of types
 pick_all : (P : CProp) (n : ℕ) (k : Bool) (t : CTy) (ts : CTys) → P n t → CAll P n ts → CAll P n (pick_type k t ts)
 pick_all P n true t ts h q = (h, q)
 pick_all P n false t ts h q = q
 
-pub picked_tvars_all : (P : CProp) (n : ℕ) → ((i : ℕ) → P n (TCVar i)) → (keep : ℕ → Bool) (r : ℕ → ℕ) (m : ℕ) (acc : CTys) → CAll P n acc → CAll P n (picked_tvars keep r m acc)
+pub picked_tvars_all : (P : CProp) (n : ℕ) → ((i : ℕ) → P n (TCVar i)) →
+    (keep : ℕ → Bool) (r : ℕ → ℕ) (m : ℕ) (acc : CTys) → CAll P n acc → CAll P n (picked_tvars keep r m acc)
 picked_tvars_all P n f keep r zero acc h = h
-picked_tvars_all P n f keep r (suc m) acc h = picked_tvars_all P n f (λ i. keep (suc i)) (λ i. r (suc i)) m _ (pick_all P n (keep 0) (TCVar (r 0)) acc (f (r 0)) h)
+picked_tvars_all P n f keep r (suc m) acc h =
+    picked_tvars_all P n f (λ i. keep (suc i)) (λ i. r (suc i)) m _
+    (pick_all P n (keep 0) (TCVar (r 0)) acc (f (r 0)) h)
 
 after_le : (k : Bool) (a b : ℕ) → a ≤ b → after_one k a ≤ suc b
 after_le true a b h = omega (arith, h)

@@ -72,17 +72,20 @@ pick_reach : (k : Bool) (t : CTy) (ts : CTys) (R : ℕ) → creach t ≤ R → c
 pick_reach true t ts R h q = omega (arith, h, q)
 pick_reach false t ts R h q = q
 
-pub picked_reach : (R B : ℕ) (keep : ℕ → Bool) (g : List KTy) (r : ℕ → ℕ) (acc : CTys) → Have (Small R B) g → creaches acc ≤ R → creaches (picked_types keep (ctype r) g acc) ≤ R
+pub picked_reach : (R B : ℕ) (keep : ℕ → Bool) (g : List KTy) (r : ℕ → ℕ) (acc : CTys) → Have (Small R B) g →
+    creaches acc ≤ R → creaches (picked_types keep (ctype r) g acc) ≤ R
 picked_reach R B keep [] r acc s h = h
 picked_reach R B keep (t ∷ g) r acc s h =
     let x = reach_ctype t r in
     picked_reach R B (λ i. keep (suc i)) g r _ s.1 (pick_reach (keep 0) (ctype r t) acc R (omega (arith, x, s.0.0)) h)
 
-pick_binds : (k : Bool) (t : CTy) (ts : CTys) (B : ℕ) → cbinds t ≤ B → cbinds_all ts ≤ B → cbinds_all (pick_type k t ts) ≤ B
+pick_binds : (k : Bool) (t : CTy) (ts : CTys) (B : ℕ) → cbinds t ≤ B → cbinds_all ts ≤ B →
+    cbinds_all (pick_type k t ts) ≤ B
 pick_binds true t ts R h q = omega (arith, h, q)
 pick_binds false t ts R h q = q
 
-pub picked_binds : (R B : ℕ) (keep : ℕ → Bool) (g : List KTy) (r : ℕ → ℕ) (acc : CTys) → Have (Small R B) g → cbinds_all acc ≤ B → cbinds_all (picked_types keep (ctype r) g acc) ≤ B
+pub picked_binds : (R B : ℕ) (keep : ℕ → Bool) (g : List KTy) (r : ℕ → ℕ) (acc : CTys) → Have (Small R B) g →
+    cbinds_all acc ≤ B → cbinds_all (picked_types keep (ctype r) g acc) ≤ B
 picked_binds R B keep [] r acc s h = h
 picked_binds R B keep (t ∷ g) r acc s h =
     let x = binds_ctype t r in
@@ -90,19 +93,23 @@ picked_binds R B keep (t ∷ g) r acc s h =
 
 small_args : (R B : ℕ) (ts : KTys) → kreaches ts ≤ R → kbinds_all ts ≤ B → HaveAll (Small R B) ts
 small_args R B NoKTys x y = tt
-small_args R B (MoreKTys t ts) x y = ((omega (arith, x), omega (arith, y)), small_args R B ts (omega (arith, x)) (omega (arith, y)))
+small_args R B (MoreKTys t ts) x y =
+    ((omega (arith, x), omega (arith, y)), small_args R B ts (omega (arith, x)) (omega (arith, y)))
 
 module _ (N R B : ℕ) where
   abbrev Q : CProp
   Q = CWithin (N + 1) (R + 4) (N + B + 1)
 
-  env_q : (n : ℕ) (r : ℕ → ℕ) (args : KTys) (body : KTm) (g : List KTy) → n ≤ N + 1 → Have (Small R B) g → Q n (env_type r args body g)
+  env_q : (n : ℕ) (r : ℕ → ℕ) (args : KTys) (body : KTm) (g : List KTy) → n ≤ N + 1 → Have (Small R B) g →
+      Q n (env_type r args body g)
   env_q n r args body g l s =
       let x = picked_reach R B (keeps args body) g r NoCTys s (omega arith) in
       let y = picked_binds R B (keeps args body) g r NoCTys s (omega arith) in
       (l, omega (arith, x), omega (arith, y))
 
-  code_q : (n m o : ℕ) (r q : ℕ → ℕ) (args : KTys) (body : KTm) (g : List KTy) → n ≤ N + 1 → m ≤ N → Small R B (TKCode o args) → Have (Small R B) g → Q n (TCCode m (MoreCTys (env_type r args body g) (ctypes q args)))
+  code_q : (n m o : ℕ) (r q : ℕ → ℕ) (args : KTys) (body : KTm) (g : List KTy) → n ≤ N + 1 → m ≤ N →
+      Small R B (TKCode o args) → Have (Small R B) g →
+      Q n (TCCode m (MoreCTys (env_type r args body g) (ctypes q args)))
   code_q n m o r q args body g l k z s =
       let a = picked_reach R B (keeps args body) g r NoCTys s (omega arith) in
       let b = picked_binds R B (keeps args body) g r NoCTys s (omega arith) in
@@ -110,7 +117,11 @@ module _ (N R B : ℕ) where
       let d = binds_ctypes args q in
       (l, omega (arith, a, c, z.0), omega (arith, b, d, z.1, k))
 
-  pair_q : (n m o : ℕ) (r r2 q : ℕ → ℕ) (args : KTys) (body : KTm) (g : List KTy) → n ≤ N + 1 → m ≤ N → Small R B (TKCode o args) → Have (Small R B) g → Q n (TCTuple (MoreCTys (TCCode m (MoreCTys (env_type r args body g) (ctypes q args))) (MoreCTys (env_type r2 args body g) NoCTys)))
+  pair_q : (n m o : ℕ) (r r2 q : ℕ → ℕ) (args : KTys) (body : KTm) (g : List KTy) → n ≤ N + 1 → m ≤ N →
+      Small R B (TKCode o args) → Have (Small R B) g →
+      Q n (TCTuple
+      (MoreCTys (TCCode m (MoreCTys (env_type r args body g) (ctypes q args)))
+      (MoreCTys (env_type r2 args body g) NoCTys)))
   pair_q n m o r r2 q args body g l k z s =
       let a = picked_reach R B (keeps args body) g r NoCTys s (omega arith) in
       let b = picked_binds R B (keeps args body) g r NoCTys s (omega arith) in
@@ -120,11 +131,15 @@ module _ (N R B : ℕ) where
       let d = binds_ctypes args q in
       (l, omega (arith, a, c, z.0, e), omega (arith, b, d, z.1, k, f))
 
-  called_q : (n m i : ℕ) (q : ℕ → ℕ) (args : KTys) → n ≤ N + 1 → Small R B (TKCode m args) → Q n (TCCode m (MoreCTys (TCVar i) (ctypes q args)))
-  called_q n m i q args l z = let c = reach_ctypes args q in let d = binds_ctypes args q in (l, omega (arith, c, z.0), omega (arith, d, z.1))
+  called_q : (n m i : ℕ) (q : ℕ → ℕ) (args : KTys) → n ≤ N + 1 → Small R B (TKCode m args) →
+      Q n (TCCode m (MoreCTys (TCVar i) (ctypes q args)))
+  called_q n m i q args l z =
+      let c = reach_ctypes args q in let d = binds_ctypes args q in (l, omega (arith, c, z.0), omega (arith, d, z.1))
 
-  called_pair_q : (n m i : ℕ) (q : ℕ → ℕ) (args : KTys) → n ≤ N + 1 → Small R B (TKCode m args) → Q n (TCTuple (MoreCTys (TCCode m (MoreCTys (TCVar i) (ctypes q args))) (MoreCTys (TCVar 0) NoCTys)))
-  called_pair_q n m i q args l z = let c = reach_ctypes args q in let d = binds_ctypes args q in (l, omega (arith, c, z.0), omega (arith, d, z.1))
+  called_pair_q : (n m i : ℕ) (q : ℕ → ℕ) (args : KTys) → n ≤ N + 1 → Small R B (TKCode m args) →
+      Q n (TCTuple (MoreCTys (TCCode m (MoreCTys (TCVar i) (ctypes q args))) (MoreCTys (TCVar 0) NoCTys)))
+  called_pair_q n m i q args l z =
+      let c = reach_ctypes args q in let d = binds_ctypes args q in (l, omega (arith, c, z.0), omega (arith, d, z.1))
 
   -- bounds are kept, four more in reach
   pub within_kept : IsKept (λ n. n ≤ N) (Small R B) (λ n. n ≤ N + 1) Q
@@ -133,7 +148,8 @@ module _ (N R B : ℕ) where
     more = λ m n le h. omega (arith, le, h);
     ren = λ t r h. let x = reach_kren t r in let y = binds_kren t r in (omega (arith, x, h.0), omega (arith, y, h.1));
     args = λ n ts h. small_args R B ts (omega (arith, h.0)) (omega (arith, h.1));
-    type = λ n t r l h. let x = reach_ctype t r in let y = binds_ctype t r in (l, omega (arith, x, h.0), omega (arith, y, h.1));
+    type = λ n t r l h. let x = reach_ctype t r in let y = binds_ctype t r in
+        (l, omega (arith, x, h.0), omega (arith, y, h.1));
     var = λ n i l. (l, omega arith, omega arith);
     env = env_q;
     code = code_q;

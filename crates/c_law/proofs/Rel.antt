@@ -22,7 +22,11 @@ abbrev mutual
   Rel (WTuple vs) c = (cs : CWords) × (c ≡ XTuple cs) × Rels vs cs
   Rel (WCell p) c = c ≡ XCell p
   Rel (WCode b owes args body env) c =
-      (s : Scope) × (xs : CWords) × (c ≡ (XTuple (MoreCWords (cv_value b (closed_code s owes args body (close_t (inner s owes args body) body)) NoCWords) (MoreCWords (XTuple (conto xs NoCWords)) NoCWords)))) × Spans s.vars env × RelKept env (keeps args body) xs
+      (s : Scope) × (xs : CWords)
+      × (c ≡ (XTuple
+      (MoreCWords (cv_value b (closed_code s owes args body (close_t (inner s owes args body) body)) NoCWords)
+      (MoreCWords (XTuple (conto xs NoCWords)) NoCWords)))) × Spans s.vars env
+      × RelKept env (keeps args body) xs
 
   pub Rels : KWords → CWords → Type 0
   Rels NoWords cs = cs ≡ NoCWords
@@ -42,4 +46,5 @@ abbrev pub Agree : (ℕ → Bool) → Places → KWords → CWords → Type 0
 Agree live [] NoWords cenv = Unit {0}
 Agree live [] (MoreWords v env) cenv = ⊥
 Agree live (p ∷ ps) NoWords cenv = ⊥
-Agree live (p ∷ ps) (MoreWords v env) cenv = (live 0 ≡ true → Rel v (at_place p cenv)) × Agree (λ i. live (suc i)) ps env cenv
+Agree live (p ∷ ps) (MoreWords v env) cenv =
+    (live 0 ≡ true → Rel v (at_place p cenv)) × Agree (λ i. live (suc i)) ps env cenv

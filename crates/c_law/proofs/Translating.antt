@@ -1,14 +1,23 @@
 -- The conversion gives a translation.
-use Rattle.std.proofs.Common.{◌≡◌, ◌<◌, ◌⊎◌, inl, inr, ℕ, zero, suc, ◌+◌, ◌-◌, Bool, true, false, ◌||◌, List, [], ◌∷◌, Option, Some, None, length, refl, sym, ap, ap₂, ◌∙◌, subst, arith, eq-eqb}
+use Rattle.std.proofs.Common.{◌≡◌, ◌<◌, ◌⊎◌, inl, inr, ℕ, zero, suc, ◌+◌, ◌-◌, Bool, true, false, ◌||◌, List, [], ◌∷◌}
+use Rattle.std.proofs.Common.{Option, Some, None, length, refl, sym, ap, ap₂, ◌∙◌, subst, arith, eq-eqb}
 use Rattle.term_core.specs.Ends.{lift, after_one}
-use Rattle.k_terms.specs.K.{KTy, KTys, TKCode, NoKTys, MoreKTys, KVal, KVar, KInt, KTuple, KCode, KVals, NoKVals, MoreKVals, KDecl, KName, KProj, KArith, KPack, KUnpack, KCell, KGet, KSet, KTm, KLet, KCall, KIf, KHalt, kcount, kren, krens_scope, kargs_onto, opens}
+use Rattle.k_terms.specs.K.{KTy, KTys, TKCode, NoKTys, MoreKTys, KVal, KVar, KInt, KTuple, KCode, KVals, NoKVals}
+use Rattle.k_terms.specs.K.{MoreKVals, KDecl, KName, KProj, KArith, KPack, KUnpack, KCell, KGet, KSet, KTm, KLet}
+use Rattle.k_terms.specs.K.{KCall, KIf, KHalt, kcount, kren, krens_scope, kargs_onto, opens}
 use Rattle.k_terms.specs.Types.{ktype_at, kd_type}
-use Rattle.c_terms.specs.C.{TCVar, TCTuple, MoreCTys, CVal, CVar, CTuple, CCode, CApply, CPack, CVals, NoCVals, MoreCVals, CTm}
+use Rattle.c_terms.specs.C.{TCVar, TCTuple, MoreCTys, CVal, CVar, CTuple, CCode, CApply, CPack, CVals, NoCVals}
+use Rattle.c_terms.specs.C.{MoreCVals, CTm}
 use Rattle.c_law.specs.Places.{Places, further, place, from_on, kept_places, kept_count, keep_one}
 use Rattle.c_law.specs.Free.{IsClosed, occurs_v, occurs_vs, occurs_d, occurs_t}
-use Rattle.c_law.specs.Close.{Scope, ctype, ctypes, uses, keeps, tkeeps, rank, var_value, pick_one, picked, pick_type, picked_types, picked_tvars, projections, named, closure, rebuilt, env_type, outside, inner, closed_code, with_var, open_if, with_decl, close_v, close_vs, close_d, close_t, close_of, no_scope}
+use Rattle.c_law.specs.Close.{Scope, ctype, ctypes, uses, keeps, tkeeps, rank, var_value, pick_one, picked, pick_type}
+use Rattle.c_law.specs.Close.{picked_types, picked_tvars, projections, named, closure, outside}
+use Rattle.c_law.specs.Close.{inner, closed_code, with_var, open_if, with_decl, close_v, close_vs, close_d, close_t}
+use Rattle.c_law.specs.Close.{close_of, no_scope}
 use Rattle.c_law.specs.Close as L
-use Rattle.c_law.specs.Row.{Where, pick_index, kept_indices, Stands, AllStand, types_of, tvars_of, packed, first_by, then_next, inside, closed_over, with_name, with_tvar, RowV, RowVs, RowD, RowT, IsTranslation}
+use Rattle.c_law.specs.Row.{Where, pick_index, kept_indices, Stands, AllStand, types_of, tvars_of, packed, first_by}
+use Rattle.c_law.specs.Row.{then_next, inside, closed_over, with_name, with_tvar, RowV, RowVs, RowD, RowT}
+use Rattle.c_law.specs.Row.{IsTranslation}
 use Rattle.c_law.proofs.Envs.{or_left, or_right}
 use Rattle.c_law.proofs.Ranges.{rank_lt}
 
@@ -24,19 +33,25 @@ lift_add zero i = omega arith
 lift_add (suc n) i = omega (arith, lift_add n i)
 
 -- lists of indices
-types_are : (keep : ℕ → Bool) (f : ℕ → ℕ) (g all : List KTy) (r : ℕ → ℕ) (is : List ℕ) → ((m : ℕ) → ktype_at all (f m) ≡ ktype_at g m) → picked_types keep (ctype r) g (types_of r all is) ≡ types_of r all (kept_indices keep f (length g) is)
+types_are : (keep : ℕ → Bool) (f : ℕ → ℕ) (g all : List KTy) (r : ℕ → ℕ) (is : List ℕ) →
+    ((m : ℕ) → ktype_at all (f m) ≡ ktype_at g m) → picked_types keep (ctype r) g (types_of r all is)
+    ≡ types_of r all (kept_indices keep f (length g) is)
 types_are keep f [] all r is h = refl
 types_are keep f (t ∷ g) all r is h =
-    ap (picked_types (λ i. keep (suc i)) (ctype r) g) (one (keep 0)) ∙ types_are (λ i. keep (suc i)) (λ i. f (suc i)) g all r (pick_index (keep 0) (f 0) is) (λ m. h (suc m))
+    ap (picked_types (λ i. keep (suc i)) (ctype r) g) (one (keep 0))
+    ∙ types_are (λ i. keep (suc i)) (λ i. f (suc i)) g all r (pick_index (keep 0) (f 0) is) (λ m. h (suc m))
   where
     one : (b : Bool) → pick_type b (ctype r t) (types_of r all is) ≡ types_of r all (pick_index b (f 0) is)
     one true = ap (λ x. MoreCTys (ctype r x) (types_of r all is)) (sym (h 0))
     one false = refl
 
-tvars_are : (keep : ℕ → Bool) (f : ℕ → ℕ) (n : ℕ) (r all : ℕ → ℕ) (is : List ℕ) → ((m : ℕ) → all (f m) ≡ r m) → picked_tvars keep r n (tvars_of all is) ≡ tvars_of all (kept_indices keep f n is)
+tvars_are : (keep : ℕ → Bool) (f : ℕ → ℕ) (n : ℕ) (r all : ℕ → ℕ) (is : List ℕ) → ((m : ℕ) → all (f m) ≡ r m) →
+    picked_tvars keep r n (tvars_of all is) ≡ tvars_of all (kept_indices keep f n is)
 tvars_are keep f zero r all is h = refl
 tvars_are keep f (suc n) r all is h =
-    ap (picked_tvars (λ i. keep (suc i)) (λ i. r (suc i)) n) (one (keep 0)) ∙ tvars_are (λ i. keep (suc i)) (λ i. f (suc i)) n (λ i. r (suc i)) all (pick_index (keep 0) (f 0) is) (λ m. h (suc m))
+    ap (picked_tvars (λ i. keep (suc i)) (λ i. r (suc i)) n) (one (keep 0))
+    ∙ tvars_are (λ i. keep (suc i)) (λ i. f (suc i)) n (λ i. r (suc i)) all (pick_index (keep 0) (f 0) is)
+    (λ m. h (suc m))
   where
     one : (b : Bool) → pick_type b (TCVar (r 0)) (tvars_of all is) ≡ tvars_of all (pick_index b (f 0) is)
     one true = ap (λ x. MoreCTys (TCVar x) (tvars_of all is)) (sym (h 0))
@@ -45,20 +60,26 @@ tvars_are keep f (suc n) r all is h =
 stands : (w : Where) (i j : ℕ) (p : Option ℕ) → p ≡ Some j → j + suc (w.level i) ≡ w.names → Stands w i (var_value p)
 stands w i j p e h = (j, ap var_value e, h)
 
-all_stand : (w : Where) (keep : ℕ → Bool) (f : ℕ → ℕ) (ps : Places) (is : List ℕ) (vs : CVals) → ((m : ℕ) → keep m ≡ true → (j : ℕ) × (place ps m ≡ Some j) × (j + suc (w.level (f m)) ≡ w.names)) → AllStand w is vs →
+all_stand : (w : Where) (keep : ℕ → Bool) (f : ℕ → ℕ) (ps : Places) (is : List ℕ) (vs : CVals) →
+    ((m : ℕ) → keep m ≡ true → (j : ℕ) × (place ps m ≡ Some j) × (j + suc (w.level (f m)) ≡ w.names)) →
+    AllStand w is vs →
     AllStand w (kept_indices keep f (length ps) is) (picked keep ps vs)
 all_stand w keep f [] is vs h k = k
 all_stand w keep f (p ∷ ps) is vs h k =
-    all_stand w (λ i. keep (suc i)) (λ i. f (suc i)) ps (pick_index (keep 0) (f 0) is) (pick_one (keep 0) p vs) (λ m e. h (suc m) e) (one (keep 0) (h 0))
+    all_stand w (λ i. keep (suc i)) (λ i. f (suc i)) ps (pick_index (keep 0) (f 0) is) (pick_one (keep 0) p vs)
+    (λ m e. h (suc m) e) (one (keep 0) (h 0))
   where
-    one : (b : Bool) → (b ≡ true → (j : ℕ) × (p ≡ Some j) × (j + suc (w.level (f 0)) ≡ w.names)) → AllStand w (pick_index b (f 0) is) (pick_one b p vs)
+    one : (b : Bool) → (b ≡ true → (j : ℕ) × (p ≡ Some j) × (j + suc (w.level (f 0)) ≡ w.names)) →
+        AllStand w (pick_index b (f 0) is) (pick_one b p vs)
     one true q = let r = q refl in (var_value p, vs, refl, stands w (f 0) r.0 p r.1 r.2, k)
     one false q = k
 
 -- a closure is the packed pair
-packed_is : (s : Scope) (e : ℕ) (lev : ℕ → ℕ) (owes : ℕ) (args : KTys) (body : KTm) (r : ℕ → ℕ) (code env : CVal) → closure s owes args body r code env ≡ packed r (where_of s e lev) owes args body code env
+packed_is : (s : Scope) (e : ℕ) (lev : ℕ → ℕ) (owes : ℕ) (args : KTys) (body : KTm) (r : ℕ → ℕ) (code env : CVal) →
+    closure s owes args body r code env ≡ packed r (where_of s e lev) owes args body code env
 packed_is s e lev owes args body r code env =
-    ap₂ (λ x y. CPack (TCTuple x) (CTuple (MoreCVals (CApply code y) (MoreCVals env NoCVals))) (ctype r (TKCode owes args)))
+    ap₂ (λ x y. CPack (TCTuple x) (CTuple (MoreCVals (CApply code y) (MoreCVals env NoCVals)))
+    (ctype r (TKCode owes args)))
     (types_are (keeps args body) (λ i. i) s.types s.types r [] (λ m. refl))
     (tvars_are (tkeeps s.types owes args body) (λ i. i) s.tcount r r [] (λ m. refl))
 
@@ -66,10 +87,12 @@ count_rank : (keep : ℕ → Bool) (ps : Places) → kept_count keep ps ≡ rank
 count_rank keep [] = refl
 count_rank keep (p ∷ ps) = ap (after_one (keep 0)) (count_rank (λ i. keep (suc i)) ps)
 
-kept_is : (keep : ℕ → Bool) (s : Scope) → length s.vars ≡ length s.types → kept_count keep s.vars ≡ rank keep (length s.types)
+kept_is : (keep : ℕ → Bool) (s : Scope) → length s.vars ≡ length s.types →
+    kept_count keep s.vars ≡ rank keep (length s.types)
 kept_is keep s e = count_rank keep s.vars ∙ ap (rank keep) e
 
-code_is : (s : Scope) (e : ℕ) (lev : ℕ → ℕ) (owes : ℕ) (args : KTys) (body : KTm) (t : CTm) → length s.vars ≡ length s.types → closed_code s owes args body t ≡ closed_over (where_of s e lev) owes args body t
+code_is : (s : Scope) (e : ℕ) (lev : ℕ → ℕ) (owes : ℕ) (args : KTys) (body : KTm) (t : CTm) →
+    length s.vars ≡ length s.types → closed_code s owes args body t ≡ closed_over (where_of s e lev) owes args body t
 code_is s e lev owes args body t same =
     let w = where_of s e lev in
     let n = kcount args in
@@ -77,8 +100,12 @@ code_is s e lev owes args body t same =
     let args_after = ctypes (inner s owes args body).tvar args in
     ap₂ (λ x y. CCode (lift owes (rank (tkeeps s.types owes args body) s.tcount)) (MoreCTys (TCTuple x) args_after) y)
     (types_are (keeps args body) (λ i. i) s.types s.types r [] (λ m. refl))
-    (ap (λ k. projections k 1 n (named (uses args body 0) (closure s owes args body r (CVar (lift k (suc n))) (CVar (lift k n))) t)) (kept_is (keeps args body) s same)
-    ∙ (let k = rank (keeps args body) (length s.types) in ap (λ v. projections k 1 n (named (uses args body 0) v t)) (packed_is s e lev owes args body r (CVar (lift k (suc n))) (CVar (lift k n)))))
+    (ap (λ k. projections k 1 n
+    (named (uses args body 0) (closure s owes args body r (CVar (lift k (suc n))) (CVar (lift k n))) t))
+    (kept_is (keeps args body) s same)
+    ∙ (let k = rank (keeps args body) (length s.types) in
+    ap (λ v. projections k 1 n (named (uses args body 0) v t))
+    (packed_is s e lev owes args body r (CVar (lift k (suc n))) (CVar (lift k n)))))
 
 -- scopes
 place_further : (ps : Places) (i j : ℕ) → place ps i ≡ Some j → place (further ps) i ≡ Some (suc j)
@@ -87,17 +114,21 @@ place_further (None ∷ ps) zero j e = absurd cc
 place_further (Some k ∷ ps) zero j e = cc
 place_further (p ∷ ps) (suc i) j e = place_further ps i j e
 
-near_further : (live : ℕ → Bool) (ps : Places) (e : ℕ) (lev : ℕ → ℕ) → Near live ps e lev → Near live (further ps) (suc e) lev
+near_further : (live : ℕ → Bool) (ps : Places) (e : ℕ) (lev : ℕ → ℕ) → Near live ps e lev →
+    Near live (further ps) (suc e) lev
 near_further live ps e lev h i q = let r = h i q in (suc r.0, place_further ps i r.0 r.1, omega (arith, r.2))
 
-near_name : (live : ℕ → Bool) (ps : Places) (e : ℕ) (lev : ℕ → ℕ) → Near (λ i. live (suc i)) ps e lev → Near live (Some 0 ∷ further ps) (suc e) (then_next e lev)
+near_name : (live : ℕ → Bool) (ps : Places) (e : ℕ) (lev : ℕ → ℕ) → Near (λ i. live (suc i)) ps e lev →
+    Near live (Some 0 ∷ further ps) (suc e) (then_next e lev)
 near_name live ps e lev h zero q = (0, refl, omega arith)
 near_name live ps e lev h (suc i) q = let r = h i q in (suc r.0, place_further ps i r.0 r.1, omega (arith, r.2))
 
-fewer : (live few : ℕ → Bool) (ps : Places) (e : ℕ) (lev : ℕ → ℕ) → ((i : ℕ) → few i ≡ true → live i ≡ true) → Near live ps e lev → Near few ps e lev
+fewer : (live few : ℕ → Bool) (ps : Places) (e : ℕ) (lev : ℕ → ℕ) → ((i : ℕ) → few i ≡ true → live i ≡ true) →
+    Near live ps e lev → Near few ps e lev
 fewer live few ps e lev f h i q = h i (f i q)
 
-near_decl : (b : Bool) (u : KTy) (live : ℕ → Bool) (s : Scope) (e : ℕ) (lev : ℕ → ℕ) → Near (λ i. live (suc i)) s.vars e lev → Near live (with_var u (open_if b s)).vars (suc e) (then_next e lev)
+near_decl : (b : Bool) (u : KTy) (live : ℕ → Bool) (s : Scope) (e : ℕ) (lev : ℕ → ℕ) →
+    Near (λ i. live (suc i)) s.vars e lev → Near live (with_var u (open_if b s)).vars (suc e) (then_next e lev)
 near_decl true u live s e lev h = near_name live s.vars e lev h
 near_decl false u live s e lev h = near_name live s.vars e lev h
 
@@ -117,11 +148,13 @@ length_args (MoreKTys t ts) g = length_args ts (t ∷ g) ∙ lift_suc (kcount ts
     lift_suc zero i = refl
     lift_suc (suc n) i = ap suc (lift_suc n i)
 
-same_decl : (b : Bool) (u : KTy) (s : Scope) → length s.vars ≡ length s.types → length (with_var u (open_if b s)).vars ≡ length (with_var u (open_if b s)).types
+same_decl : (b : Bool) (u : KTy) (s : Scope) → length s.vars ≡ length s.types →
+    length (with_var u (open_if b s)).vars ≡ length (with_var u (open_if b s)).types
 same_decl true u s h = ap suc (length_further s.vars ∙ h ∙ sym (length_krens suc s.types))
 same_decl false u s h = ap suc (length_further s.vars ∙ h)
 
-where_decl : (b : Bool) (u : KTy) (s : Scope) (e : ℕ) (lev : ℕ → ℕ) → where_of (with_var u (open_if b s)) (suc e) (then_next e lev) ≡ with_name u (with_tvar b (where_of s e lev))
+where_decl : (b : Bool) (u : KTy) (s : Scope) (e : ℕ) (lev : ℕ → ℕ) →
+    where_of (with_var u (open_if b s)) (suc e) (then_next e lev) ≡ with_name u (with_tvar b (where_of s e lev))
 where_decl true u s e lev = refl
 where_decl false u s e lev = refl
 
@@ -134,10 +167,13 @@ length_kept : (keep : ℕ → Bool) (o : ℕ) (ps : Places) → length (kept_pla
 length_kept keep o [] = refl
 length_kept keep o (p ∷ ps) = ap suc (length_kept (λ i. keep (suc i)) (after_one (keep 0) o) ps)
 
-same_inner : (s : Scope) (owes : ℕ) (args : KTys) (body : KTm) → length s.vars ≡ length s.types → length (inner s owes args body).vars ≡ length (inner s owes args body).types
+same_inner : (s : Scope) (owes : ℕ) (args : KTys) (body : KTm) → length s.vars ≡ length s.types →
+    length (inner s owes args body).vars ≡ length (inner s owes args body).types
 same_inner s owes args body h =
-    length_from (kept_count (uses args body) (None ∷ s.vars)) (kcount args) (kept_places 0 (uses args body) (None ∷ s.vars))
-    ∙ ap (lift (kcount args)) (length_kept (uses args body) 0 (None ∷ s.vars) ∙ ap suc (h ∙ sym (length_krens (lift owes) s.types)))
+    length_from (kept_count (uses args body) (None ∷ s.vars)) (kcount args)
+    (kept_places 0 (uses args body) (None ∷ s.vars))
+    ∙ ap (lift (kcount args))
+    (length_kept (uses args body) 0 (None ∷ s.vars) ∙ ap suc (h ∙ sym (length_krens (lift owes) s.types)))
     ∙ sym (length_args args (kren (lift owes) (TKCode owes args) ∷ krens_scope (lift owes) s.types))
 
 place_near : (o n : ℕ) (ps : Places) (i : ℕ) → i < n → place (from_on o n ps) i ≡ Some (o + i)
@@ -157,12 +193,14 @@ after_add_right : (b : Bool) (x y : ℕ) → x + after_one b y ≡ after_one b (
 after_add_right true x y = omega arith
 after_add_right false x y = refl
 
-place_kept : (keep : ℕ → Bool) (o : ℕ) (ps : Places) (i : ℕ) → i < length ps → keep i ≡ true → place (kept_places o keep ps) i ≡ Some (o + rank keep i)
+place_kept : (keep : ℕ → Bool) (o : ℕ) (ps : Places) (i : ℕ) → i < length ps → keep i ≡ true →
+    place (kept_places o keep ps) i ≡ Some (o + rank keep i)
 place_kept keep o [] i h e = absurd (omega arith)
 place_kept keep o (p ∷ ps) zero h e = ap (λ q. keep_one q o) e ∙ ap Some (omega arith)
 place_kept keep o (p ∷ ps) (suc i) h e =
     place_kept (λ j. keep (suc j)) (after_one (keep 0) o) ps i (omega arith) e
-    ∙ ap Some (after_add (keep 0) o (rank (λ j. keep (suc j)) i) ∙ sym (after_add_right (keep 0) o (rank (λ j. keep (suc j)) i)))
+    ∙ ap Some (after_add (keep 0) o (rank (λ j. keep (suc j)) i)
+    ∙ sym (after_add_right (keep 0) o (rank (λ j. keep (suc j)) i)))
 
 place_lt : (ps : Places) (i j : ℕ) → place ps i ≡ Some j → i < length ps
 place_lt [] i j e = absurd cc
@@ -187,8 +225,10 @@ after_sum : (b : Bool) (x : ℕ) → after_one b x ≡ x + after_one b 0
 after_sum true x = omega arith
 after_sum false x = omega arith
 
-near_inner : (s : Scope) (e : ℕ) (lev : ℕ → ℕ) (owes : ℕ) (args : KTys) (body : KTm) → length s.vars ≡ length s.types → Near (keeps args body) s.vars e lev →
-    Near (λ i. occurs_t i body) (inner s owes args body).vars (inside (where_of s e lev) owes args body).names (inside (where_of s e lev) owes args body).level
+near_inner : (s : Scope) (e : ℕ) (lev : ℕ → ℕ) (owes : ℕ) (args : KTys) (body : KTm) → length s.vars ≡ length s.types →
+    Near (keeps args body) s.vars e lev →
+    Near (λ i. occurs_t i body) (inner s owes args body).vars (inside (where_of s e lev) owes args body).names
+    (inside (where_of s e lev) owes args body).level
 near_inner s e lev owes args body same near i live = here (near_or_far n i)
   where
     n : ℕ
@@ -218,13 +258,16 @@ near_inner s e lev owes args body same near i live = here (near_or_far n i)
     kept : kept_count keep s.vars ≡ k
     kept = kept_is keep s same
 
-    far : (m : ℕ) → i ≡ lift n m → (j : ℕ) × (place (inner s owes args body).vars i ≡ Some j) × (j + suc (W.level i) ≡ W.names)
+    far : (m : ℕ) → i ≡ lift n m → (j : ℕ) × (place (inner s owes args body).vars i ≡ Some j)
+        × (j + suc (W.level i) ≡ W.names)
     far zero at =
         let is : own ≡ true = subst (λ x. occurs_t x body ≡ true) at live in
         let one = ap (λ b. after_one b 0) is in
-        let lv : W.level i ≡ suc (suc n) + k = ap (first_by n (λ i. suc n - i) past) at ∙ first_far n (λ i. suc n - i) past 0 in (
+        let lv : W.level i ≡ suc (suc n) + k =
+        ap (first_by n (λ i. suc n - i) past) at ∙ first_far n (λ i. suc n - i) past 0 in (
           0,
-          ap (place (inner s owes args body).vars) at ∙ place_far ko n (kept_places 0 (uses args body) (None ∷ s.vars)) 0 ∙ ap (λ b. keep_one b 0) is,
+          ap (place (inner s owes args body).vars) at
+              ∙ place_far ko n (kept_places 0 (uses args body) (None ∷ s.vars)) 0 ∙ ap (λ b. keep_one b 0) is,
           omega (arith, lv, many, one),
         )
     far (suc m) at =
@@ -232,24 +275,32 @@ near_inner s e lev owes args body same near i live = here (near_or_far n i)
         let r = near m is in
         let lt = place_lt s.vars m r.0 r.1 in
         let less = rank_lt keep m (length s.types) is (omega (arith, lt, same)) in
-        let lv : W.level i ≡ suc (suc n) + (k - suc (rank keep m)) = ap (first_by n (λ i. suc n - i) past) at ∙ first_far n (λ i. suc n - i) past (suc m) in
+        let lv : W.level i ≡ suc (suc n) + (k - suc (rank keep m)) =
+        ap (first_by n (λ i. suc n - i) past) at ∙ first_far n (λ i. suc n - i) past (suc m) in
         let sum = after_sum own (rank keep m) in (
           0 + after_one own (rank keep m),
-          ap (place (inner s owes args body).vars) at ∙ place_far ko n (kept_places 0 (uses args body) (None ∷ s.vars)) (suc m)
+          ap (place (inner s owes args body).vars) at
+              ∙ place_far ko n (kept_places 0 (uses args body) (None ∷ s.vars)) (suc m)
               ∙ place_kept (uses args body) 0 (None ∷ s.vars) (suc m) (omega (arith, lt)) is,
           omega (arith, lv, many, less, sum),
         )
 
-    here : (i < n) ⊎ ((m : ℕ) × (i ≡ lift n m)) → (j : ℕ) × (place (inner s owes args body).vars i ≡ Some j) × (j + suc (W.level i) ≡ W.names)
+    here : (i < n) ⊎ ((m : ℕ) × (i ≡ lift n m)) → (j : ℕ) × (place (inner s owes args body).vars i ≡ Some j)
+        × (j + suc (W.level i) ≡ W.names)
     here (inl near_one) =
         let lv : W.level i ≡ suc n - i = first_near n (λ i. suc n - i) past i near_one in
-        let sum = after_sum own (kept_count keep s.vars) in
-        (ko + i, place_near ko n (kept_places 0 (uses args body) (None ∷ s.vars)) i near_one, omega (arith, lv, many, sum, kept, near_one))
+        let sum = after_sum own (kept_count keep s.vars) in (
+          ko + i,
+          place_near ko n (kept_places 0 (uses args body) (None ∷ s.vars)) i near_one,
+          omega (arith, lv, many, sum, kept, near_one),
+        )
     here (inr r) = far r.0 r.1
 
 mutual
-  row_v : (v : KVal) (s : Scope) (e : ℕ) (lev : ℕ → ℕ) → length s.vars ≡ length s.types → Near (λ i. occurs_v i v) s.vars e lev → RowV (where_of s e lev) v (close_v s v)
-  row_v (KVar i) s e lev same h = let r = h i (eq-eqb i i refl) in stands (where_of s e lev) i r.0 (place s.vars i) r.1 r.2
+  row_v : (v : KVal) (s : Scope) (e : ℕ) (lev : ℕ → ℕ) → length s.vars ≡ length s.types →
+      Near (λ i. occurs_v i v) s.vars e lev → RowV (where_of s e lev) v (close_v s v)
+  row_v (KVar i) s e lev same h =
+      let r = h i (eq-eqb i i refl) in stands (where_of s e lev) i r.0 (place s.vars i) r.1 r.2
   row_v (KInt n) s e lev same h = refl
   row_v (KTuple vs) s e lev same h = (close_vs s vs, refl, row_vs vs s e lev same h)
   row_v (KCode owes args body) s e lev same h =
@@ -258,12 +309,16 @@ mutual
       let t = close_t (inner s owes args body) body in (
         ys,
         t,
-        packed_is s e lev owes args body s.tvar (closed_code s owes args body t) (CTuple ys) ∙ ap (λ c. packed s.tvar w owes args body c (CTuple ys)) (code_is s e lev owes args body t same),
-        subst (λ n. AllStand w (kept_indices (keeps args body) (λ i. i) n []) ys) same (all_stand w (keeps args body) (λ i. i) s.vars [] NoCVals h refl),
-        row_t body (inner s owes args body) (inside w owes args body).names (inside w owes args body).level (same_inner s owes args body same) (near_inner s e lev owes args body same h),
+        packed_is s e lev owes args body s.tvar (closed_code s owes args body t) (CTuple ys)
+            ∙ ap (λ c. packed s.tvar w owes args body c (CTuple ys)) (code_is s e lev owes args body t same),
+        subst (λ n. AllStand w (kept_indices (keeps args body) (λ i. i) n []) ys) same
+            (all_stand w (keeps args body) (λ i. i) s.vars [] NoCVals h refl),
+        row_t body (inner s owes args body) (inside w owes args body).names (inside w owes args body).level
+            (same_inner s owes args body same) (near_inner s e lev owes args body same h),
       )
 
-  row_vs : (vs : KVals) (s : Scope) (e : ℕ) (lev : ℕ → ℕ) → length s.vars ≡ length s.types → Near (λ i. occurs_vs i vs) s.vars e lev → RowVs (where_of s e lev) vs (close_vs s vs)
+  row_vs : (vs : KVals) (s : Scope) (e : ℕ) (lev : ℕ → ℕ) → length s.vars ≡ length s.types →
+      Near (λ i. occurs_vs i vs) s.vars e lev → RowVs (where_of s e lev) vs (close_vs s vs)
   row_vs NoKVals s e lev same h = refl
   row_vs (MoreKVals v vs) s e lev same h = (
     close_v s v,
@@ -273,7 +328,8 @@ mutual
     row_vs vs s e lev same (fewer _ _ s.vars e lev (λ i. or_right (occurs_v i v) (occurs_vs i vs)) h),
   )
 
-  row_d : (d : KDecl) (s : Scope) (e : ℕ) (lev : ℕ → ℕ) → length s.vars ≡ length s.types → Near (λ i. occurs_d i d) s.vars e lev → RowD (where_of s e lev) d (close_d s d)
+  row_d : (d : KDecl) (s : Scope) (e : ℕ) (lev : ℕ → ℕ) → length s.vars ≡ length s.types →
+      Near (λ i. occurs_d i d) s.vars e lev → RowD (where_of s e lev) d (close_d s d)
   row_d (KName v) s e lev same h = (close_v s v, refl, row_v v s e lev same h)
   row_d (KProj i v) s e lev same h = (close_v s v, refl, row_v v s e lev same h)
   row_d (KArith op v x) s e lev same h = (
@@ -295,7 +351,8 @@ mutual
     row_v x s e lev same (fewer _ _ s.vars e lev (λ i. or_right (occurs_v i v) (occurs_v i x)) h),
   )
 
-  row_t : (t : KTm) (s : Scope) (e : ℕ) (lev : ℕ → ℕ) → length s.vars ≡ length s.types → Near (λ i. occurs_t i t) s.vars e lev → RowT (where_of s e lev) t (close_t s t)
+  row_t : (t : KTm) (s : Scope) (e : ℕ) (lev : ℕ → ℕ) → length s.vars ≡ length s.types →
+      Near (λ i. occurs_t i t) s.vars e lev → RowT (where_of s e lev) t (close_t s t)
   row_t (KLet d t) s e lev same h =
       let u = kd_type s.types d in (
         close_d s d,
@@ -304,7 +361,8 @@ mutual
         row_d d s e lev same (fewer _ _ s.vars e lev (λ i. or_left (occurs_d i d) (occurs_t (suc i) t)) h),
         subst (λ w. RowT w t (close_t (with_decl d s) t)) (where_decl (opens d) u s e lev)
             (row_t t (with_decl d s) (suc e) (then_next e lev) (same_decl (opens d) u s same)
-            (near_decl (opens d) u (λ i. occurs_t i t) s e lev (fewer _ _ s.vars e lev (λ i. or_right (occurs_d i d) (occurs_t (suc i) t)) h))),
+            (near_decl (opens d) u (λ i. occurs_t i t) s e lev
+            (fewer _ _ s.vars e lev (λ i. or_right (occurs_d i d) (occurs_t (suc i) t)) h))),
       )
   row_t (KCall f ts vs) s e lev same h =
       let live : ℕ → Bool = λ i. occurs_vs i vs in
@@ -313,8 +371,11 @@ mutual
         close_vs (L.in_call s) vs,
         refl,
         row_v f s e lev same (fewer _ _ s.vars e lev (λ i. or_left (occurs_v i f) (occurs_vs i vs)) h),
-        row_vs vs (L.in_call s) (suc (suc (suc e))) lev (length_further (further (further s.vars)) ∙ length_further (further s.vars) ∙ length_further s.vars ∙ same)
-            (near_further live (further (further s.vars)) (suc (suc e)) lev (near_further live (further s.vars) (suc e) lev (near_further live s.vars e lev few))),
+        row_vs vs (L.in_call s) (suc (suc (suc e))) lev
+            (length_further (further (further s.vars)) ∙ length_further (further s.vars) ∙ length_further s.vars
+            ∙ same)
+            (near_further live (further (further s.vars)) (suc (suc e)) lev
+            (near_further live (further s.vars) (suc e) lev (near_further live s.vars e lev few))),
       )
   row_t (KIf v t u) s e lev same h = (
     close_v s v,
@@ -322,8 +383,12 @@ mutual
     close_t s u,
     refl,
     row_v v s e lev same (fewer _ _ s.vars e lev (λ i. or_left (occurs_v i v) (occurs_t i t || occurs_t i u)) h),
-    row_t t s e lev same (fewer _ _ s.vars e lev (λ i q. or_right (occurs_v i v) (occurs_t i t || occurs_t i u) (or_left (occurs_t i t) (occurs_t i u) q)) h),
-    row_t u s e lev same (fewer _ _ s.vars e lev (λ i q. or_right (occurs_v i v) (occurs_t i t || occurs_t i u) (or_right (occurs_t i t) (occurs_t i u) q)) h),
+    row_t t s e lev same
+        (fewer _ _ s.vars e lev
+        (λ i q. or_right (occurs_v i v) (occurs_t i t || occurs_t i u) (or_left (occurs_t i t) (occurs_t i u) q)) h),
+    row_t u s e lev same
+        (fewer _ _ s.vars e lev
+        (λ i q. or_right (occurs_v i v) (occurs_t i t || occurs_t i u) (or_right (occurs_t i t) (occurs_t i u) q)) h),
   )
   row_t (KHalt v) s e lev same h = (close_v s v, refl, row_v v s e lev same h)
 

@@ -8,7 +8,8 @@ use Rattle.c_emit.specs.Read.{info, note, infos_of, notes_of}
 use Rattle.c_pass.specs.declared.state.Clue.{Clue}
 use Rattle.c_pass.specs.Read.{clue, clues_of, clues_onto, infos_onto, notes_onto}
 
-pub clues_push : (xs : List Clue) (x : Clue) (rest : List W.Clue) → clues_onto (xs ++ x ∷ []) rest ≡ clues_onto xs (clue x ∷ rest)
+pub clues_push : (xs : List Clue) (x : Clue) (rest : List W.Clue) →
+    clues_onto (xs ++ x ∷ []) rest ≡ clues_onto xs (clue x ∷ rest)
 clues_push [] x rest = refl
 clues_push (y ∷ xs) x rest = ap (λ (ys : List W.Clue). clue y ∷ ys) (clues_push xs x rest)
 

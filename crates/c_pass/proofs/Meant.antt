@@ -26,7 +26,9 @@ result_set : IsSet Result
 result_set = hlevel (props, end_set)
 
 pub same_run : WithinIsTyped → MeaningKept → (t : KTm) → ∥ KBound t ∥₁ → (n : ℕ) → crun n (close_of t) ≡ krun n t
-same_run typed meant t b n = ∥∥₁_elim b (result_set (crun n (close_of t)) (krun n t)) (λ h. meant t (typed 1099511627776 1600 1099511627776 t h.0) n)
+same_run typed meant t b n =
+    ∥∥₁_elim b (result_set (crun n (close_of t)) (krun n t))
+    (λ h. meant t (typed 1099511627776 1600 1099511627776 t h.0) n)
 
 -- nodes that are those of a term in scope are of this term
 pub read_of : ReadsBack → (t : CTm) (ns : List CNode) → CScoped 0 t → written ns [] ≡ clin_t 0 t [] → closed_of ns ≡ t

@@ -1,5 +1,6 @@
 -- Renaming and substitution are shift and put, and scope is below.
-use Rattle.std.proofs.Common.{◌≡◌, ◌<◌, ◌≤◌, ◌⊎◌, inl, inr, ℕ, zero, suc, ◌+◌, ◌-◌, Some, None, refl, sym, ap, ap₂, ◌∙◌, subst, arith}
+use Rattle.std.proofs.Common.{◌≡◌, ◌<◌, ◌≤◌, ◌⊎◌, inl, inr, ℕ, zero, suc, ◌+◌, ◌-◌, Some, None, refl, sym, ap, ap₂}
+use Rattle.std.proofs.Common.{◌∙◌, subst, arith}
 use Rattle.std.proofs.lemmas.Bool.{cases_lt, cases_order}
 use Rattle.idx_core.specs.Over.{shifted, putted, BelowAt, AnyDepth}
 use Rattle.idx_core.specs.Laws.{shifted_lt, shifted_ge, putted_lt, putted_eq, putted_gt, shift_add_law, shift_zero_law}
@@ -23,10 +24,12 @@ under_one : (r : ℕ → ℕ) (k d : ℕ) → IsShift r k d → (i : ℕ) → TC
 under_one r k d f i = here (cases_lt i d)
   where
     here : (i < d) ⊎ (d ≤ i) → TCVar (suc (r i)) ≡ shifted TCVar k (d + 1) (suc i)
-    here (inl l) = ap (cren suc) (f i ∙ shifted_lt TCVar k d i l) ∙ sym (shifted_lt TCVar k (d + 1) (suc i) (omega (arith, l)))
+    here (inl l) =
+        ap (cren suc) (f i ∙ shifted_lt TCVar k d i l) ∙ sym (shifted_lt TCVar k (d + 1) (suc i) (omega (arith, l)))
     here (inr l) =
         let more : suc (i + k) ≡ suc i + k = omega arith in
-        ap (cren suc) (f i ∙ shifted_ge TCVar k d i l) ∙ ap TCVar more ∙ sym (shifted_ge TCVar k (d + 1) (suc i) (omega (arith, l)))
+        ap (cren suc) (f i ∙ shifted_ge TCVar k d i l) ∙ ap TCVar more
+        ∙ sym (shifted_ge TCVar k (d + 1) (suc i) (omega (arith, l)))
 
 under_more : (n : ℕ) (r : ℕ → ℕ) (k d : ℕ) → IsShift r k d → IsShift (under n r) k (d + n)
 under_more zero r k d f i = let e : d ≡ d + 0 = omega arith in f i ∙ ap (λ x. shifted TCVar k x i) e
@@ -62,7 +65,8 @@ ren_suc t = ren_is t suc 1 0 (λ i. lift_shifts 1 i)
 abbrev IsPut : (ℕ → CTy) → ℕ → CTy → ℕ → Type 0
 IsPut z c s d = (i : ℕ) → z i ≡ putted TCVar over c s d i
 
-up_one : (z : ℕ → CTy) (c : ℕ) (s : CTy) (d : ℕ) → c ≤ d → IsPut z c s d → (i : ℕ) → cren suc (z i) ≡ putted TCVar over c s (d + 1) (suc i)
+up_one : (z : ℕ → CTy) (c : ℕ) (s : CTy) (d : ℕ) → c ≤ d → IsPut z c s d → (i : ℕ) →
+    cren suc (z i) ≡ putted TCVar over c s (d + 1) (suc i)
 up_one z c s d le f i = ap (cren suc) (f i) ∙ here (cases_order i d)
   where
     here : (i ≡ d) ⊎ ((i < d) ⊎ (d < i)) → cren suc (putted TCVar over c s d i) ≡ putted TCVar over c s (d + 1) (suc i)
@@ -70,35 +74,44 @@ up_one z c s d le f i = ap (cren suc) (f i) ∙ here (cases_order i d)
         let sum : d - c + 1 ≡ d + 1 - c = omega (arith, le) in
         ap (cren suc) (putted_eq TCVar over c s d i e)
         ∙ ren_suc (shift (d - c) 0 s)
-        ∙ shift_add_law types_part types_over (d - c) 1 0 s ∙ ap (λ n. shift n 0 s) sum ∙ sym (putted_eq TCVar over c s (d + 1) (suc i) (omega (arith, e)))
-    here (inr (inl l)) = ap (cren suc) (putted_lt TCVar over c s d i l) ∙ sym (putted_lt TCVar over c s (d + 1) (suc i) (omega (arith, l)))
+        ∙ shift_add_law types_part types_over (d - c) 1 0 s ∙ ap (λ n. shift n 0 s) sum
+        ∙ sym (putted_eq TCVar over c s (d + 1) (suc i) (omega (arith, e)))
+    here (inr (inl l)) = ap (cren suc) (putted_lt TCVar over c s d i l)
+        ∙ sym (putted_lt TCVar over c s (d + 1) (suc i) (omega (arith, l)))
     here (inr (inr l)) =
         let less : suc (i - 1) ≡ suc i - 1 = omega (arith, l) in
-        ap (cren suc) (putted_gt TCVar over c s d i l) ∙ ap TCVar less ∙ sym (putted_gt TCVar over c s (d + 1) (suc i) (omega (arith, l)))
+        ap (cren suc) (putted_gt TCVar over c s d i l) ∙ ap TCVar less
+        ∙ sym (putted_gt TCVar over c s (d + 1) (suc i) (omega (arith, l)))
 
 up_more : (n : ℕ) (z : ℕ → CTy) (c : ℕ) (s : CTy) (d : ℕ) → c ≤ d → IsPut z c s d → IsPut (cup n z) c s (d + n)
 up_more zero z c s d le f i = let e : d ≡ d + 0 = omega arith in f i ∙ ap (λ x. putted TCVar over c s x i) e
 up_more (suc n) z c s d le f zero = sym (putted_lt TCVar over c s (d + suc n) 0 (omega arith))
 up_more (suc n) z c s d le f (suc i) =
     let e : d + n + 1 ≡ d + suc n = omega arith in
-    up_one (cup n z) c s (d + n) (omega (arith, le)) (up_more n z c s d le f) i ∙ ap (λ x. putted TCVar over c s x (suc i)) e
+    up_one (cup n z) c s (d + n) (omega (arith, le)) (up_more n z c s d le f) i
+    ∙ ap (λ x. putted TCVar over c s x (suc i)) e
 
 mutual
-  pub sub_is : (t : CTy) (z : ℕ → CTy) (c : ℕ) (s : CTy) (d : ℕ) → c ≤ d → IsPut z c s d → csub z t ≡ over (putted TCVar over c s) d t
+  pub sub_is : (t : CTy) (z : ℕ → CTy) (c : ℕ) (s : CTy) (d : ℕ) → c ≤ d → IsPut z c s d →
+      csub z t ≡ over (putted TCVar over c s) d t
   sub_is TCInt z c s d le f = refl
   sub_is (TCVar i) z c s d le f = f i
   sub_is (TCTuple ts) z c s d le f = ap TCTuple (subs_are ts z c s d le f)
-  sub_is (TCCode n ts) z c s d le f = ap (TCCode n) (subs_are ts (cup n z) c s (d + n) (omega (arith, le)) (up_more n z c s d le f))
-  sub_is (TCSome t) z c s d le f = ap TCSome (sub_is t (cup 1 z) c s (d + 1) (omega (arith, le)) (up_more 1 z c s d le f))
+  sub_is (TCCode n ts) z c s d le f =
+      ap (TCCode n) (subs_are ts (cup n z) c s (d + n) (omega (arith, le)) (up_more n z c s d le f))
+  sub_is (TCSome t) z c s d le f =
+      ap TCSome (sub_is t (cup 1 z) c s (d + 1) (omega (arith, le)) (up_more 1 z c s d le f))
   sub_is (TCRef t) z c s d le f = ap TCRef (sub_is t z c s d le f)
 
-  pub subs_are : (ts : CTys) (z : ℕ → CTy) (c : ℕ) (s : CTy) (d : ℕ) → c ≤ d → IsPut z c s d → csubs z ts ≡ over_all (putted TCVar over c s) d ts
+  pub subs_are : (ts : CTys) (z : ℕ → CTy) (c : ℕ) (s : CTy) (d : ℕ) → c ≤ d → IsPut z c s d →
+      csubs z ts ≡ over_all (putted TCVar over c s) d ts
   subs_are NoCTys z c s d le f = refl
   subs_are (MoreCTys t ts) z c s d le f = ap₂ MoreCTys (sub_is t z c s d le f) (subs_are ts z c s d le f)
 
 put_first : (s : CTy) → IsPut (scons s TCVar) 0 s 0
 put_first s zero = sym (putted_eq TCVar over 0 s 0 0 refl ∙ shift_zero_law types_over 0 s)
-put_first s (suc i) = let e : i ≡ suc i - 1 = omega arith in ap TCVar e ∙ sym (putted_gt TCVar over 0 s 0 (suc i) (omega arith))
+put_first s (suc i) =
+    let e : i ≡ suc i - 1 = omega arith in ap TCVar e ∙ sym (putted_gt TCVar over 0 s 0 (suc i) (omega arith))
 
 -- one type put for the last name
 pub sub_put : (s t : CTy) → csub (scons s TCVar) t ≡ put 0 s t
@@ -163,4 +176,5 @@ without_put n s i = here (cases_order i n)
     here (inr (inr l)) = ap (λ o. var_or o s) (without_more n i l) ∙ sym (putted_gt TCVar over n s n i l)
 
 pub cput_is : (n : ℕ) (s t : CTy) → cput n s t ≡ put n s t
-cput_is n s t = put_sub t n s (λ i. var_or (without n i) s) (λ i. refl) ∙ sub_is t (λ i. var_or (without n i) s) n s n (omega arith) (without_put n s)
+cput_is n s t = put_sub t n s (λ i. var_or (without n i) s) (λ i. refl)
+    ∙ sub_is t (λ i. var_or (without n i) s) n s n (omega arith) (without_put n s)

@@ -22,7 +22,9 @@ pub the_term : (ns : List CNode) (t : CTm) → CScoped 0 t → written ns [] ≡
 the_term ns t h e = ap cdecode e ∙ reads_back t h
 
 pub whole : (ns : List CNode) → IsC ns → CWhole ns
-whole ns some = ∥∥₁_elim some (nodes_set (clin_t 0 (closed_of ns) []) (written ns [])) (λ k. ap (λ u. clin_t 0 u []) (the_term ns k.0 (scoped k.0 k.1.1) k.1.0) ∙ sym k.1.0)
+whole ns some =
+    ∥∥₁_elim some (nodes_set (clin_t 0 (closed_of ns) []) (written ns []))
+    (λ k. ap (λ u. clin_t 0 u []) (the_term ns k.0 (scoped k.0 k.1.1) k.1.0) ∙ sym k.1.0)
 
 pub bound : (ns : List CNode) → IsC ns → ∥ CBound (closed_of ns) ∥₁
 bound ns some = ∥∥₁_map some (λ k. subst_bound ns k.0 k.1)

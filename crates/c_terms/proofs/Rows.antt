@@ -3,7 +3,9 @@ use Rattle.std.proofs.Common.{◌≡◌, pos, [], ◌∷◌, refl, arith}
 use Rattle.std.specs.Int.{int_wrap}
 use Rattle.idx_core.specs.declared.arith.Op.TheVariants.{Add}
 use Rattle.term_core.specs.Ends.{Halted, Spent, Stuck}
-use Rattle.c_terms.specs.C.{CTy, CTys, TCInt, TCVar, TCTuple, TCCode, TCSome, NoCTys, MoreCTys, CVal, CVar, CInt, CTuple, CCode, CApply, CPack, NoCVals, MoreCVals, CName, CProj, CArith, CUnpack, CCell, CGet, CSet, CTm, CLet, CCall, CHalt}
+use Rattle.c_terms.specs.C.{CTy, CTys, TCInt, TCVar, TCTuple, TCCode, TCSome, NoCTys, MoreCTys, CVal, CVar, CInt}
+use Rattle.c_terms.specs.C.{CTuple, CCode, CApply, CPack, NoCVals, MoreCVals, CName, CProj, CArith, CUnpack, CCell}
+use Rattle.c_terms.specs.C.{CGet, CSet, CTm, CLet, CCall, CHalt}
 use Rattle.c_terms.specs.Meaning.{crun}
 use Rattle.c_terms.specs.Typing.{CGood}
 use Rattle.c_terms.specs.Reach.{creach, cbinds}
@@ -34,7 +36,8 @@ of_four_typed = (_, (refl, (tt, tt), (refl, refl, refl)), tt, (_, _, refl, refl,
 
 -- in its body a code sees its arguments and itself, 0 being its last argument, and nothing around it
 sees_nothing_around : CGood 0 []
-    (CLet (CName (CInt (pos 1))) (CCall (CCode 0 one_integer (CHalt (CVar 2))) NoCTys (MoreCVals (CInt (pos 4)) NoCVals))) → ⊥
+    (CLet (CName (CInt (pos 1)))
+    (CCall (CCode 0 one_integer (CHalt (CVar 2))) NoCTys (MoreCVals (CInt (pos 4)) NoCVals))) → ⊥
 sees_nothing_around h = h.2.1.2
 
 -- a code's types have no free type variable
@@ -93,7 +96,8 @@ abbrev as_nodes : CTm
 as_nodes = CCall next NoCTys (MoreCVals (CTuple (MoreCVals (CInt (pos 4)) NoCVals)) NoCVals)
 
 nodes : clin_t 0 as_nodes []
-    ≡ MCode 0 one_integer ∷ MVar 1 ∷ MInt (pos 1) ∷ MArith 2 Add ∷ MVar 2 ∷ MHalt ∷ MEnd ∷ MCall NoCTys 1 ∷ MInt (pos 4) ∷ MTuple 1 ∷ []
+    ≡ MCode 0 one_integer ∷ MVar 1 ∷ MInt (pos 1) ∷ MArith 2 Add ∷ MVar 2 ∷ MHalt ∷ MEnd ∷ MCall NoCTys 1
+    ∷ MInt (pos 4) ∷ MTuple 1 ∷ []
 nodes = refl
 
 read_back : cdecode (clin_t 0 as_nodes []) ≡ as_nodes

@@ -1,10 +1,12 @@
 -- The trees of types that hold a vector, by the vector's items.
-use Rattle.std.proofs.Common.{◌≡◌, ◌<◌, ◌≤◌, ℕ, ◌+◌, List, [], ◌∷◌, map, take, length, Vec, Global, All, get_or, refl, ap, ◌∙◌, sym, subst}
+use Rattle.std.proofs.Common.{◌≡◌, ◌<◌, ◌≤◌, ℕ, ◌+◌, List, [], ◌∷◌, map, take, length, Vec, Global, All, get_or, refl}
+use Rattle.std.proofs.Common.{ap, ◌∙◌, sym, subst}
 use Rattle.std.proofs.lemmas.List.{take_all}
 use Rattle.std.proofs.lemmas.List.Elements.{All-nil, All-cons, All-head, All-tail, All-get_or, All-more}
 use mathlib.Core.Former.{Count}
 use Rattle.idx_core.specs.Over.{At}
-use Rattle.c_terms.specs.declared.types.CType.{CType, Row_of-CType, end_of-CType, more_of-CType, items-the_row-CType, items_hidden-the_row-CType-0}
+use Rattle.c_terms.specs.declared.types.CType.{CType, Row_of-CType, end_of-CType, more_of-CType, items-the_row-CType}
+use Rattle.c_terms.specs.declared.types.CType.{items_hidden-the_row-CType-0}
 use Rattle.c_terms.specs.declared.types.CType.TheVariants.{Tuple, Code, Tuple', Code'}
 use Rattle.c_terms.specs.C.{CTy, CTys, TCTuple, TCCode, NoCTys, MoreCTys}
 use Rattle.c_terms.specs.Walks.{over, over_all, each, each_all}
@@ -30,10 +32,12 @@ tree_Code owes ts =
     ap (TCCode owes) (trees_items row.0 row.1 ∙ ap ctys (items_hidden-the_row-CType-0 ts))
 
 -- the same, of a value that a match found to be one
-pub tree_is_tuple : (self : CType) (ts : Vec CType Global) (xs : List CType) → self ≡ Tuple ts → xs ≡ ts.items → ctree self ≡ TCTuple (ctys xs)
+pub tree_is_tuple : (self : CType) (ts : Vec CType Global) (xs : List CType) → self ≡ Tuple ts → xs ≡ ts.items →
+    ctree self ≡ TCTuple (ctys xs)
 tree_is_tuple self ts xs is same = ap ctree is ∙ tree_Tuple ts ∙ ap (λ (ys : List CType). TCTuple (ctys ys)) (sym same)
 
-pub tree_is_code : (self : CType) (owes : ℕ) (ts : Vec CType Global) (xs : List CType) → self ≡ Code owes ts → xs ≡ ts.items → ctree self ≡ TCCode owes (ctys xs)
+pub tree_is_code : (self : CType) (owes : ℕ) (ts : Vec CType Global) (xs : List CType) → self ≡ Code owes ts →
+    xs ≡ ts.items → ctree self ≡ TCCode owes (ctys xs)
 tree_is_code self owes ts xs is same =
     ap ctree is ∙ tree_Code owes ts ∙ ap (λ (ys : List CType). TCCode owes (ctys ys)) (sym same)
 
@@ -55,10 +59,12 @@ module _ (V : ℕ → ℕ → Type 0) (B : ℕ → Type 0) (d : ℕ) where
   have_all ts n h all = list_has ts (subst (λ (us : List CType). All Has us) (take_all n ts all) h)
 
 -- an item that a loop reads, by its place
-pub item_has : (P : CType → Type 0) (ts : List CType) (i : ℕ) (t : CType) → t ≡ get_or ts i t → i < length ts → All P ts → P t
+pub item_has : (P : CType → Type 0) (ts : List CType) (i : ℕ) (t : CType) → t ≡ get_or ts i t → i < length ts →
+    All P ts → P t
 item_has P ts i t is lt all = subst P (sym is) (All-get_or P ts i t lt all)
 
-pub items_more : (P : CType → Type 0) (ts : List CType) (i : ℕ) (t : CType) → t ≡ get_or ts i t → i < length ts → All P (take i ts) → P t → All P (take (i + 1) ts)
+pub items_more : (P : CType → Type 0) (ts : List CType) (i : ℕ) (t : CType) → t ≡ get_or ts i t → i < length ts →
+    All P (take i ts) → P t → All P (take (i + 1) ts)
 items_more P ts i t is lt all h = All-more P ts i t lt all (subst P is h)
 
 -- several types by their trees
@@ -75,7 +81,8 @@ over_tys f d [] = refl
 over_tys f d (t ∷ ts) = ap (MoreCTys (over f d (ctree t))) (over_tys f d ts)
 
 -- several types that were made one by one, by a walk
-pub made_all : (f : At CTy) (d : ℕ) (us ts : List CType) (n : ℕ) → map ctree us ≡ map (λ t. over f d (ctree t)) (take n ts) → length ts ≤ n → ctys us ≡ over_all f d (ctys ts)
+pub made_all : (f : At CTy) (d : ℕ) (us ts : List CType) (n : ℕ) →
+    map ctree us ≡ map (λ t. over f d (ctree t)) (take n ts) → length ts ≤ n → ctys us ≡ over_all f d (ctys ts)
 made_all f d us ts n done all =
     tys_map us
     ∙ ap of_trees (done ∙ ap (λ (xs : List CType). map (λ t. over f d (ctree t)) xs) (take_all n ts all))

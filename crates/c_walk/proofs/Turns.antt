@@ -18,5 +18,6 @@ pub walks_close : (t : KTm) → IsClosed t → walks (klin_t 0 0 [] t []) ≡ cl
 walks_close t h =
     let ns = klin_t 0 0 [] t [] in
     ap (λ (k : Known). emit ns top_frame [] k.infos k.notes)
-    (ap (λ (cs : List Clue). know ns [] top_side [] cs) (ap₂ zipped (sweep_finds t h.0) (tsweep_finds t h.1) ∙ zip_is t) ∙ know_is t h.1)
+    (ap (λ (cs : List Clue). know ns [] top_side [] cs)
+    (ap₂ zipped (sweep_finds t h.0) (tsweep_finds t h.1) ∙ zip_is t) ∙ know_is t h.1)
     ∙ emit_is_close t top_frame refl refl h.0

@@ -1,5 +1,6 @@
 -- Types under renamings.
-use Rattle.std.proofs.Common.{◌≡◌, ℕ, zero, suc, ◌+◌, ◌<◌, ◌≤◌, Bool, true, false, ◌||◌, inl, inr, List, refl, sym, ap, ap₂, ◌∙◌, subst, arith}
+use Rattle.std.proofs.Common.{◌≡◌, ℕ, zero, suc, ◌+◌, ◌<◌, ◌≤◌, Bool, true, false, ◌||◌, inl, inr, List, refl, sym, ap}
+use Rattle.std.proofs.Common.{ap₂, ◌∙◌, subst, arith}
 use Rattle.std.specs.Prelude.{nat_eq}
 use Rattle.std.proofs.lemmas.Bool.{cases_eq, eq-eqb, ne_eqb, lt-ltb, le-ltb}
 use Rattle.std.proofs.lemmas.List.Folds.{list_any-append}
@@ -33,7 +34,8 @@ mutual
   ctype_ren (TKRef t) r q p f = ap TCRef (ctype_ren t r q p f)
   ctype_ren (TKCode n ts) r q p f =
       ap (λ y. TCSome (TCTuple (MoreCTys (TCCode n (MoreCTys (TCVar (lift n 0)) y)) (MoreCTys (TCVar 0) NoCTys))))
-      (ctypes_ren ts (under n (λ i. suc (r i))) (under n q) (under n (λ i. suc (p i))) (under_ren n (λ i. suc (r i)) q (λ i. suc (p i)) (λ i. ap suc (f i))))
+      (ctypes_ren ts (under n (λ i. suc (r i))) (under n q) (under n (λ i. suc (p i)))
+      (under_ren n (λ i. suc (r i)) q (λ i. suc (p i)) (λ i. ap suc (f i))))
 
   pub ctypes_ren : (ts : KTys) (r q p : ℕ → ℕ) → ((i : ℕ) → r (q i) ≡ p i) → ctypes r (krens q ts) ≡ ctypes p ts
   ctypes_ren NoKTys r q p f = refl
@@ -46,18 +48,21 @@ mutual
   kren_ren (TKTuple ts) r q p f = ap TKTuple (krens_ren ts r q p f)
   kren_ren (TKSome t) r q p f = ap TKSome (kren_ren t (under 1 r) (under 1 q) (under 1 p) (under_ren 1 r q p f))
   kren_ren (TKRef t) r q p f = ap TKRef (kren_ren t r q p f)
-  kren_ren (TKCode n ts) r q p f = ap (TKCode n) (krens_ren ts (under n r) (under n q) (under n p) (under_ren n r q p f))
+  kren_ren (TKCode n ts) r q p f =
+      ap (TKCode n) (krens_ren ts (under n r) (under n q) (under n p) (under_ren n r q p f))
 
   pub krens_ren : (ts : KTys) (r q p : ℕ → ℕ) → ((i : ℕ) → r (q i) ≡ p i) → krens r (krens q ts) ≡ krens p ts
   krens_ren NoKTys r q p f = refl
   krens_ren (MoreKTys t ts) r q p f = ap₂ MoreKTys (kren_ren t r q p f) (krens_ren ts r q p f)
 
-under_same : (n : ℕ) (live : ℕ → Bool) (r q : ℕ → ℕ) → ((i : ℕ) → live (lift n i) ≡ true → r i ≡ q i) → (i : ℕ) → live i ≡ true → under n (λ j. suc (r j)) i ≡ under n (λ j. suc (q j)) i
+under_same : (n : ℕ) (live : ℕ → Bool) (r q : ℕ → ℕ) → ((i : ℕ) → live (lift n i) ≡ true → r i ≡ q i) → (i : ℕ) →
+    live i ≡ true → under n (λ j. suc (r j)) i ≡ under n (λ j. suc (q j)) i
 under_same zero live r q f i e = ap suc (f i e)
 under_same (suc n) live r q f zero e = refl
 under_same (suc n) live r q f (suc i) e = ap suc (under_same n (λ j. live (suc j)) r q f i e)
 
-some_same : (live : ℕ → Bool) (r q : ℕ → ℕ) → ((i : ℕ) → live (suc i) ≡ true → r i ≡ q i) → (i : ℕ) → live i ≡ true → under 1 r i ≡ under 1 q i
+some_same : (live : ℕ → Bool) (r q : ℕ → ℕ) → ((i : ℕ) → live (suc i) ≡ true → r i ≡ q i) → (i : ℕ) → live i ≡ true →
+    under 1 r i ≡ under 1 q i
 some_same live r q f zero e = refl
 some_same live r q f (suc i) e = ap suc (f i e)
 
@@ -74,7 +79,9 @@ mutual
 
   pub ctypes_same : (ts : KTys) (r q : ℕ → ℕ) → ((i : ℕ) → tfrees i ts ≡ true → r i ≡ q i) → ctypes r ts ≡ ctypes q ts
   ctypes_same NoKTys r q f = refl
-  ctypes_same (MoreKTys t ts) r q f = ap₂ MoreCTys (ctype_same t r q (λ i e. f i (or_left (tfree i t) (tfrees i ts) e))) (ctypes_same ts r q (λ i e. f i (or_right (tfree i t) (tfrees i ts) e)))
+  ctypes_same (MoreKTys t ts) r q f =
+      ap₂ MoreCTys (ctype_same t r q (λ i e. f i (or_left (tfree i t) (tfrees i ts) e)))
+      (ctypes_same ts r q (λ i e. f i (or_right (tfree i t) (tfrees i ts) e)))
 
 -- the levels of a type's free variables, and the type raised by m names
 abbrev Raises : ℕ → ℕ → (ℕ → ℕ) → Type 0
@@ -92,31 +99,46 @@ or_none false = refl
 lift_back : (b i j : ℕ) → lift b i ≡ lift b j → i ≡ j
 lift_back b i j e = omega (arith, e, lift_add b i, lift_add b j)
 
-level_has : (td at m j : ℕ) (b i : ℕ) → td ≡ m + at → j < td → i < lift b at → has (level_of td j) (level_list at b i) ≡ nat_eq (lift b j) (under b (lift m) i)
+level_has : (td at m j : ℕ) (b i : ℕ) → td ≡ m + at → j < td → i < lift b at →
+    has (level_of td j) (level_list at b i) ≡ nat_eq (lift b j) (under b (lift m) i)
 level_has td at m j zero i e h lt =
     or_none (nat_eq (level_of td j) (level_of at i)) ∙ elim (cases_eq j (lift m i)) [
-      | inl f ↦ eq-eqb (level_of td j) (level_of at i) (omega (arith, e, f, level_below td j h, level_below at i lt, lift_add m i)) ∙ sym (eq-eqb j (lift m i) f)
-      | inr f ↦ ne_eqb (level_of td j) (level_of at i) (λ g. f (omega (arith, e, g, level_below td j h, level_below at i lt, lift_add m i))) ∙ sym (ne_eqb j (lift m i) f)
+      | inl f ↦ eq-eqb (level_of td j) (level_of at i)
+          (omega (arith, e, f, level_below td j h, level_below at i lt, lift_add m i)) ∙ sym (eq-eqb j (lift m i) f)
+      | inr f ↦ ne_eqb (level_of td j) (level_of at i)
+          (λ g. f (omega (arith, e, g, level_below td j h, level_below at i lt, lift_add m i)))
+          ∙ sym (ne_eqb j (lift m i) f)
     ]
 level_has td at m j (suc b) zero e h lt = sym (ne_eqb (suc (lift b j)) 0 (λ g. omega (arith, g)))
-level_has td at m j (suc b) (suc i) e h lt = level_has td at m j b i e h (omega (arith, lt)) ∙ sym (eq_suc (lift b j) (under b (lift m) i))
+level_has td at m j (suc b) (suc i) e h lt =
+    level_has td at m j b i e h (omega (arith, lt)) ∙ sym (eq_suc (lift b j) (under b (lift m) i))
   where
     eq_suc : (x y : ℕ) → nat_eq (suc x) (suc y) ≡ nat_eq x y
-    eq_suc x y = elim (cases_eq x y) [ inl f ↦ eq-eqb (suc x) (suc y) (ap suc f) ∙ sym (eq-eqb x y f) | inr f ↦ ne_eqb (suc x) (suc y) (λ g. f (omega (arith, g))) ∙ sym (ne_eqb x y f) ]
+    eq_suc x y =
+        elim (cases_eq x y) [
+          | inl f ↦ eq-eqb (suc x) (suc y) (ap suc f) ∙ sym (eq-eqb x y f)
+          | inr f ↦ ne_eqb (suc x) (suc y) (λ g. f (omega (arith, g))) ∙ sym (ne_eqb x y f)
+        ]
 
 some_closed : (live : ℕ → Bool) (n : ℕ) → ((i : ℕ) → live (suc i) ≡ true → i < n) → (i : ℕ) → live i ≡ true → i < suc n
 some_closed live n c zero e = omega arith
 some_closed live n c (suc i) e = let r = c i e in omega (arith, r)
 
 mutual
-  pub has_type : (t : KTy) (td at m j b : ℕ) (q : ℕ → ℕ) → td ≡ m + at → j < td → Raises b m q → ((i : ℕ) → tfree i t ≡ true → i < lift b at) → has (level_of td j) (type_levels at b t) ≡ tfree (lift b j) (kren q t)
+  pub has_type : (t : KTy) (td at m j b : ℕ) (q : ℕ → ℕ) → td ≡ m + at → j < td → Raises b m q →
+      ((i : ℕ) → tfree i t ≡ true → i < lift b at) →
+      has (level_of td j) (type_levels at b t) ≡ tfree (lift b j) (kren q t)
   has_type TKInt td at m j b q e h r c = refl
-  has_type (TKVar i) td at m j b q e h r c = level_has td at m j b i e h (c i (eq-eqb i i refl)) ∙ ap (nat_eq (lift b j)) (sym (r i))
+  has_type (TKVar i) td at m j b q e h r c =
+      level_has td at m j b i e h (c i (eq-eqb i i refl)) ∙ ap (nat_eq (lift b j)) (sym (r i))
   has_type (TKTuple ts) td at m j b q e h r c = has_types ts td at m j b q e h r c
-  has_type (TKSome t) td at m j b q e h r c = has_type t td at m j (suc b) (under 1 q) e h (raise_under 1 b m q r) (some_closed (λ i. tfree i t) (lift b at) c)
+  has_type (TKSome t) td at m j b q e h r c =
+      has_type t td at m j (suc b) (under 1 q) e h (raise_under 1 b m q r) (some_closed (λ i. tfree i t) (lift b at) c)
   has_type (TKRef t) td at m j b q e h r c = has_type t td at m j b q e h r c
   has_type (TKCode n ts) td at m j b q e h r c =
-      has_types ts td at m j (lift n b) (under n q) e h (raise_under n b m q r) (inner_closed n (lift b at) (λ i. tfrees i ts) (λ x. x < lift (lift n b) at) (λ i f. far n i (c i f)) (λ i f. omega (arith, f, lift_add (lift n b) at, lift_add n b)))
+      has_types ts td at m j (lift n b) (under n q) e h (raise_under n b m q r)
+      (inner_closed n (lift b at) (λ i. tfrees i ts) (λ x. x < lift (lift n b) at) (λ i f. far n i (c i f))
+      (λ i f. omega (arith, f, lift_add (lift n b) at, lift_add n b)))
       ∙ ap (λ x. tfrees x (krens (under n q) ts)) (lift_lift n b j)
     where
       lift_lift : (n b j : ℕ) → lift (lift n b) j ≡ lift n (lift b j)
@@ -126,14 +148,20 @@ mutual
       far : (n i : ℕ) → i < lift b at → lift n i < lift (lift n b) at
       far n i h = omega (arith, h, lift_add (lift n b) at, lift_add n b, lift_add b at, lift_add n i)
 
-      inner_closed : (n d : ℕ) (live : ℕ → Bool) (P : ℕ → Type 0) → ((i : ℕ) → live (lift n i) ≡ true → P (lift n i)) → ((i : ℕ) → i < n → P i) → (i : ℕ) → live i ≡ true → P i
-      inner_closed n d live P f g i e = elim (near_or_far n i) [ inl h ↦ g i h | inr r ↦ subst P (sym r.1) (f r.0 (subst (λ x. live x ≡ true) r.1 e)) ]
+      inner_closed : (n d : ℕ) (live : ℕ → Bool) (P : ℕ → Type 0) → ((i : ℕ) → live (lift n i) ≡ true → P (lift n i)) →
+          ((i : ℕ) → i < n → P i) → (i : ℕ) → live i ≡ true → P i
+      inner_closed n d live P f g i e =
+          elim (near_or_far n i)
+          [ inl h ↦ g i h | inr r ↦ subst P (sym r.1) (f r.0 (subst (λ x. live x ≡ true) r.1 e)) ]
 
-  pub has_types : (ts : KTys) (td at m j b : ℕ) (q : ℕ → ℕ) → td ≡ m + at → j < td → Raises b m q → ((i : ℕ) → tfrees i ts ≡ true → i < lift b at) → has (level_of td j) (types_levels at b ts) ≡ tfrees (lift b j) (krens q ts)
+  pub has_types : (ts : KTys) (td at m j b : ℕ) (q : ℕ → ℕ) → td ≡ m + at → j < td → Raises b m q →
+      ((i : ℕ) → tfrees i ts ≡ true → i < lift b at) →
+      has (level_of td j) (types_levels at b ts) ≡ tfrees (lift b j) (krens q ts)
   has_types NoKTys td at m j b q e h r c = refl
   has_types (MoreKTys t ts) td at m j b q e h r c =
       list_any-append (λ x. nat_eq (level_of td j) x) (type_levels at b t) (types_levels at b ts)
-      ∙ ap₂ (λ x y. x || y) (has_type t td at m j b q e h r (λ i f. c i (or_left (tfree i t) (tfrees i ts) f))) (has_types ts td at m j b q e h r (λ i f. c i (or_right (tfree i t) (tfrees i ts) f)))
+      ∙ ap₂ (λ x y. x || y) (has_type t td at m j b q e h r (λ i f. c i (or_left (tfree i t) (tfrees i ts) f)))
+      (has_types ts td at m j b q e h r (λ i f. c i (or_right (tfree i t) (tfrees i ts) f)))
 
 -- where the kept type variables stand
 above_pick : (b : Bool) (l d : ℕ) (acc : List ℕ) → l ≡ d → above l (pick_level b d acc) ≡ above l acc
@@ -146,7 +174,8 @@ above_take false l d acc h = refl
 
 above_none : (keep : ℕ → Bool) (d l : ℕ) (acc : List ℕ) → d ≤ l → above l (levels keep d acc) ≡ above l acc
 above_none keep zero l acc h = refl
-above_none keep (suc d) l acc h = above_none (λ i. keep (suc i)) d l (pick_level (keep 0) d acc) (omega (arith, h)) ∙ skip (keep 0)
+above_none keep (suc d) l acc h =
+    above_none (λ i. keep (suc i)) d l (pick_level (keep 0) d acc) (omega (arith, h)) ∙ skip (keep 0)
   where
     skip : (b : Bool) → above l (pick_level b d acc) ≡ above l acc
     skip true = ap (λ x. after_one x (above l acc)) (le-ltb l d (omega (arith, h)))
@@ -156,10 +185,13 @@ after_swap : (b : Bool) (x y : ℕ) → x + after_one b y ≡ after_one b x + y
 after_swap true x y = omega arith
 after_swap false x y = refl
 
-pub above_rank : (keep : ℕ → Bool) (d i : ℕ) (acc : List ℕ) → i < d → above (level_of d i) (levels keep d acc) ≡ rank keep i + above (level_of d i) acc
+pub above_rank : (keep : ℕ → Bool) (d i : ℕ) (acc : List ℕ) → i < d →
+    above (level_of d i) (levels keep d acc) ≡ rank keep i + above (level_of d i) acc
 above_rank keep zero i acc h = absurd (omega arith)
-above_rank keep (suc d) zero acc h = above_none (λ i. keep (suc i)) d d (pick_level (keep 0) d acc) (omega arith) ∙ above_pick (keep 0) d d acc refl ∙ (let q : above d acc ≡ 0 + above d acc = omega arith in q)
+above_rank keep (suc d) zero acc h = above_none (λ i. keep (suc i)) d d (pick_level (keep 0) d acc) (omega arith)
+    ∙ above_pick (keep 0) d d acc refl ∙ (let q : above d acc ≡ 0 + above d acc = omega arith in q)
 above_rank keep (suc d) (suc i) acc h =
     above_rank (λ j. keep (suc j)) d i (pick_level (keep 0) d acc) (omega (arith, h))
-    ∙ ap (λ x. rank (λ j. keep (suc j)) i + x) (above_take (keep 0) (level_of d i) d acc (omega (arith, level_below d i (omega (arith, h)))))
+    ∙ ap (λ x. rank (λ j. keep (suc j)) i + x)
+    (above_take (keep 0) (level_of d i) d acc (omega (arith, level_below d i (omega (arith, h)))))
     ∙ after_swap (keep 0) (rank (λ j. keep (suc j)) i) (above (level_of d i) acc)

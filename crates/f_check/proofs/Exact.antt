@@ -29,7 +29,8 @@ module _ (typed : PassesWhereTyped) (clear : NoFaultBesideAPass) (one : OneFault
   no_fault t h Memory k = refl
   no_fault t h (Refused c s) k = absurd (clear e 0 NoTys t c (place s) ((typed e 0 NoTys t tt).1 h) k)
 
-  pub same_fault : (c : Code) (s : Span) → Fault e 0 NoTys c (place s) → (f : FFault) → Says f (Fault e 0 NoTys) → f ≢ Memory → f ≡ Refused c s
+  pub same_fault : (c : Code) (s : Span) → Fault e 0 NoTys c (place s) → (f : FFault) → Says f (Fault e 0 NoTys) →
+      f ≢ Memory → f ≡ Refused c s
   same_fault c s h Memory k ne = absurd (ne refl)
   same_fault c s h (Refused d p) k ne =
       let r = one e 0 NoTys d c (place p) (place s) k h in ap₂ Refused r.0 (span_is p s r.1)

@@ -27,7 +27,8 @@ pub begun : (r : Result Control Failure) (n : FShape) (old new : List Frame) (fr
     IfOk r (Enters j fr old new) → IsOf n fr → children n ≡ j ∷ rest_of fr →
     IfOk r (Begun n old new)
 begun r n old new fr j h is parts =
-    IfOk-weaker r (Enters j fr old new) (Begun n old new) (λ c e. subst (Begun n old new) (sym e.0) (fr, e.1, is, parts)) h
+    IfOk-weaker r (Enters j fr old new) (Begun n old new)
+    (λ c e. subst (Begun n old new) (sym e.0) (fr, e.1, is, parts)) h
 
 pub same_form : (r : Result Control Failure) (n m : FShape) (old new : List Frame) → n ≡ m → IfOk r (Begun m old new) →
     IfOk r (Begun n old new)

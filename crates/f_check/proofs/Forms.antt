@@ -28,10 +28,12 @@ tells_map Memory F G go h = tt
 tells_map (Refused c s m) F G go h = go (read m) c (place s) h
 
 -- limits that were checked on counts
-pub within : (t : Ty) (d w : ℕ) → d ≡ min (depth t) 18446744073709551615 → w ≡ min (size t) 18446744073709551615 → (d ≤ 200) × (w ≤ 10000) → Within t
+pub within : (t : Ty) (d w : ℕ) → d ≡ min (depth t) 18446744073709551615 → w ≡ min (size t) 18446744073709551615 →
+    (d ≤ 200) × (w ≤ 10000) → Within t
 within t d w ed ew h = (omega (arith, ed, h.0), omega (arith, ew, h.1))
 
-pub limits_of : (t : Ty) (d w : ℕ) (s : Spn) → d ≡ min (depth t) 18446744073709551615 → w ≡ min (size t) 18446744073709551615 →
+pub limits_of : (t : Ty) (d w : ℕ) (s : Spn) → d ≡ min (depth t) 18446744073709551615 →
+    w ≡ min (size t) 18446744073709551615 →
     (m : Option Mismatch) (c : Code) (p : Spn) → counted d w s m c p → limits_with m t s nothing c p
 limits_of t d w s ed ew m c p (inl h) = inl ((λ x. h.0 (omega (arith, ed, x))), h.1)
 limits_of t d w s ed ew m c p (inr (e, inl k)) =
@@ -56,9 +58,13 @@ module _ (n : ℕ) (g : Tys) (s : Spn) where
   fix_res a r t b h q e w ok ne at =
       inr (w.0, inr (w.1, inr (t, subst (λ y. Passes b n y t) e ok, inl (ne, (refl, sym at, refl)))))
 
-  pub fix_ok : (a r t f : Ty) (b : Tm) (h : Tys) → h ≡ in_fix a r g → Within (TArrow a r) → Below n a → Below n r → Passes b n h t → t ≡ r → f ≡ TArrow a r → IsTypeOf (SFix s a r b) n g f
-  fix_ok a r t f b h e w ba br ok et ef =
-      ((ef, ba, br, w, subst (Passes b n (in_fix a r g)) et (subst (λ y. Passes b n y t) e ok)), subst (Below n) (sym ef) (ba, br), subst Within (sym ef) w)
+  pub fix_ok : (a r t f : Ty) (b : Tm) (h : Tys) → h ≡ in_fix a r g → Within (TArrow a r) → Below n a → Below n r →
+      Passes b n h t → t ≡ r → f ≡ TArrow a r → IsTypeOf (SFix s a r b) n g f
+  fix_ok a r t f b h e w ba br ok et ef = (
+    (ef, ba, br, w, subst (Passes b n (in_fix a r g)) et (subst (λ y. Passes b n y t) e ok)),
+    subst (Below n) (sym ef) (ba, br),
+    subst Within (sym ef) w,
+  )
 
   pub app_fun : (f x : Tm) (t : Ty) (q : Spn) → Passes f n g t → ((a b : Ty) → t ≢ TArrow a b) → span_of f ≡ q →
       FaultBy (odds n WFunction t) (SApp s f x) n g E07 q
@@ -79,7 +85,8 @@ module _ (n : ℕ) (g : Tys) (s : Spn) where
   app_arg f x t a b u q pf et px ne at =
       inr (TArrow a b, subst (Passes f n g) et pf, inr (u, px, inl (ne, (refl, sym at, refl))))
 
-  pub app_ok : (f x : Tm) (t a b u : Ty) → IsTypeOf f n g t → t ≡ TArrow a b → Passes x n g u → u ≡ a → IsTypeOf (SApp s f x) n g b
+  pub app_ok : (f x : Tm) (t a b u : Ty) → IsTypeOf f n g t → t ≡ TArrow a b → Passes x n g u → u ≡ a →
+      IsTypeOf (SApp s f x) n g b
   app_ok f x t a b u hf et px eu =
       let h = subst (IsTypeOf f n g) et hf in
       ((a, h.0, subst (Passes x n g) eu px), h.1.1, (omega (arith, h.2.0), omega (arith, h.2.1)))
@@ -88,9 +95,13 @@ module _ (n : ℕ) (g : Tys) (s : Spn) where
       (m : Option Mismatch) (c : Code) (p : Spn) → limits_with m (TAll t) s nothing c p → FaultBy m (SGen s b) n g c p
   gen_limit b h t up ok m c p k = inr (t, subst (λ y. Passes b (n + 1) y t) (sym up) ok, k)
 
-  pub gen_ok : (b : Tm) (h : Tys) (t u : Ty) → raised g ≡ h → IsTypeOf b (n + 1) h t → Within (TAll t) → u ≡ TAll t → IsTypeOf (SGen s b) n g u
-  gen_ok b h t u up ok w eu =
-      ((t, eu, subst (λ y. Passes b (n + 1) y t) (sym up) ok.0, w), subst (Below n) (sym eu) (tt, ok.1), subst Within (sym eu) w)
+  pub gen_ok : (b : Tm) (h : Tys) (t u : Ty) → raised g ≡ h → IsTypeOf b (n + 1) h t → Within (TAll t) → u ≡ TAll t →
+      IsTypeOf (SGen s b) n g u
+  gen_ok b h t u up ok w eu = (
+    (t, eu, subst (λ y. Passes b (n + 1) y t) (sym up) ok.0, w),
+    subst (Below n) (sym eu) (tt, ok.1),
+    subst Within (sym eu) w,
+  )
 
   pub inst_all : (f : Tm) (a t : Ty) (q : Spn) → Passes f n g t → ((b : Ty) → t ≢ TAll b) → span_of f ≡ q →
       FaultBy (odds n WPolymorphic t) (SInst s f a) n g E09 q
@@ -109,10 +120,14 @@ module _ (n : ℕ) (g : Tys) (s : Spn) where
       limits_with m a s (limits_with m (put 0 a b) s nothing) c p → FaultBy m (SInst s f a) n g c p
   inst_limit f a t b pf et m c p k = inr (TAll b, subst (Passes f n g) et pf, k)
 
-  pub inst_ok : (f : Tm) (a t b u : Ty) → IsTypeOf f n g t → t ≡ TAll b → Below n a → (u ≡ put 0 a b) × Within a × Within (put 0 a b) → IsTypeOf (SInst s f a) n g u
+  pub inst_ok : (f : Tm) (a t b u : Ty) → IsTypeOf f n g t → t ≡ TAll b → Below n a → (u ≡ put 0 a b) × Within a
+      × Within (put 0 a b) → IsTypeOf (SInst s f a) n g u
   inst_ok f a t b u hf et ba hu =
-      let h = subst (IsTypeOf f n g) et hf in
-      ((b, hu.0, ba, h.0, hu.1, hu.2), subst (Below n) (sym hu.0) (put_bound n a b ba h.1.1), subst Within (sym hu.0) hu.2)
+      let h = subst (IsTypeOf f n g) et hf in (
+        (b, hu.0, ba, h.0, hu.1, hu.2),
+        subst (Below n) (sym hu.0) (put_bound n a b ba h.1.1),
+        subst Within (sym hu.0) hu.2,
+      )
 
   pub inst_put : (f : Tm) (a t b : Ty) → IsTypeOf f n g t → t ≡ TAll b → Below n a → (r : Result FType Failure) →
       IsPut a b s r → IsFound (SInst s f a) n g r
@@ -189,7 +204,8 @@ module _ (n : ℕ) (g : Tys) (s : Spn) where
   pack_large h r b t e q is w v ok ne large at = pack_is h r b e is None E17 q
       (inr (w.0, inr (w.1, inr (v.0, inr (v.1, inr (t, ok, inl (ne, inl (large, (refl, sym at, refl)))))))))
 
-  pub pack_ok : (h r b t u : Ty) (e : Tm) → r ≡ TSome b → Within h → Within r → Below n h → Below n r → Passes e n g t → t ≡ put 0 h b → u ≡ r → IsTypeOf (SPack s h e r) n g u
+  pub pack_ok : (h r b t u : Ty) (e : Tm) → r ≡ TSome b → Within h → Within r → Below n h → Below n r →
+      Passes e n g t → t ≡ put 0 h b → u ≡ r → IsTypeOf (SPack s h e r) n g u
   pack_ok h r b t u e is w v bh br ok et eu =
       ((b, is, eu, bh, br, subst (Passes e n g) et ok, w, v), subst (Below n) (sym eu) br, subst Within (sym eu) v)
 
@@ -215,7 +231,8 @@ module _ (n : ℕ) (g : Tys) (s : Spn) where
     ),
   )
 
-  pub open_ok : (a b : Tm) (u v t : Ty) → Passes a n g (TSome u) → IsTypeOf b (n + 1) (in_open u g) v → v ≡ shift 1 0 t → t ≡ outside v → IsTypeOf (SOpen s a b) n g t
+  pub open_ok : (a b : Tm) (u v t : Ty) → Passes a n g (TSome u) → IsTypeOf b (n + 1) (in_open u g) v →
+      v ≡ shift 1 0 t → t ≡ outside v → IsTypeOf (SOpen s a b) n g t
   open_ok a b u v t ok h e o =
       let low : Below n t = subst (Below n) (sym o) (put_bound n TInt v tt h.1) in
       ((u, low, ok, subst (Passes b (n + 1) (in_open u g)) e h.0), low, unshift_within 1 t (subst Within e h.2))

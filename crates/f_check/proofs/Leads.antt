@@ -1,5 +1,6 @@
 -- The nodes that the frames are of: where they lead, and what stays noted when one type more is put down.
-use Rattle.std.proofs.Common.{◌≡◌, ◌≤◌, ◌<◌, ℕ, suc, ◌+◌, List, [], ◌∷◌, ◌++◌, map, length, slice_set, refl, ap, ap₂, ◌∙◌, sym, subst, arith, All}
+use Rattle.std.proofs.Common.{◌≡◌, ◌≤◌, ◌<◌, ℕ, suc, ◌+◌, List, [], ◌∷◌, ◌++◌, map, length, slice_set, refl, ap, ap₂}
+use Rattle.std.proofs.Common.{◌∙◌, sym, subst, arith, All}
 use Rattle.std.proofs.lemmas.List.Elements.{All-nil, All-cons, All-head, All-tail, All-same}
 use Rattle.arena.specs.Stack.{Chain}
 use Rattle.arena.specs.Roots.{total}
@@ -39,11 +40,15 @@ second P x y h = All-head P y [] (All-tail P x (y ∷ []) h)
 
 all_before : {A : Type 0} (P : A → Type 0) (xs ys : List A) → All P (xs ++ ys) → All P xs
 all_before P [] ys h = All-nil P
-all_before P (x ∷ xs) ys h = All-cons P x xs (All-head P x (xs ++ ys) h) (all_before P xs ys (All-tail P x (xs ++ ys) h))
+all_before P (x ∷ xs) ys h =
+    All-cons P x xs (All-head P x (xs ++ ys) h) (all_before P xs ys (All-tail P x (xs ++ ys) h))
 
-all_both : {A : Type 0} (P Q R : A → Type 0) → ((x : A) → P x → Q x → R x) → (xs : List A) → All P xs → All Q xs → All R xs
+all_both : {A : Type 0} (P Q R : A → Type 0) → ((x : A) → P x → Q x → R x) → (xs : List A) → All P xs → All Q xs →
+    All R xs
 all_both P Q R f [] h k = All-nil R
-all_both P Q R f (x ∷ xs) h k = All-cons R x xs (f x (All-head P x xs h) (All-head Q x xs k)) (all_both P Q R f xs (All-tail P x xs h) (All-tail Q x xs k))
+all_both P Q R f (x ∷ xs) h k =
+    All-cons R x xs (f x (All-head P x xs h) (All-head Q x xs k))
+    (all_both P Q R f xs (All-tail P x xs h) (All-tail Q x xs k))
 
 total_mid : (f : ℕ → ℕ) (xs : List ℕ) (x : ℕ) (ys : List ℕ) → total f (xs ++ x ∷ ys) ≡ total f xs + (f x + total f ys)
 total_mid f [] x ys = omega arith
@@ -58,7 +63,8 @@ long : {A : Type 0} (xs : List A) (x : A) (ys : List A) → length (xs ++ x ∷ 
 long [] x ys = omega arith
 long (z ∷ xs) x ys = omega (arith, long xs x ys)
 
-pub same_end : {A : Type 0} (xs : List A) (a : A) (zs ys : List A) (b : A) (ws : List A) → xs ++ a ∷ zs ≡ ys ++ b ∷ ws → length zs ≡ length ws → a ≡ b
+pub same_end : {A : Type 0} (xs : List A) (a : A) (zs ys : List A) (b : A) (ws : List A) →
+    xs ++ a ∷ zs ≡ ys ++ b ∷ ws → length zs ≡ length ws → a ≡ b
 same_end [] a zs [] b ws e n = head_is e
 same_end [] a zs (y ∷ ys) b ws e n = absurd (omega (arith, ap length e, n, long ys b ws))
 same_end (x ∷ xs) a zs [] b ws e n = absurd (omega (arith, ap length e, n, long xs a zs))
@@ -123,21 +129,27 @@ if_is : {s s' : Spn} {c c' a a' b b' : Tm} → SIf0 s c a b ≡ SIf0 s' c' a' b'
 if_is e = (cc, cc, cc)
 
 -- the part that a frame waits for is the node that it waits for
-module _ (f : FTerm) (t w : Task) (k l : ℕ) (done : List ℕ) (s : Spn) (n : FShape) (whole : w.e ≡ shape_tree (node_at f) s n) where
+module _ (f : FTerm) (t w : Task) (k l : ℕ) (done : List ℕ) (s : Spn) (n : FShape)
+    (whole : w.e ≡ shape_tree (node_at f) s n) where
   form : (m : FShape) → n ≡ m → w.e ≡ shape_tree (node_at f) s m
   form m e = whole ∙ ap (shape_tree (node_at f) s) e
 
   link : (fr : Frame) → Part f fr t w → IsOf n fr → children n ≡ done ++ l ∷ rest_of fr → t.e ≡ node_at f l
   link (C.Fix x) h is parts =
-      fix_is (sym h.0 ∙ form _ is.3) ∙ ap (node_at f) (same_end [] is.0 [] done l [] (sym (ap children is.3) ∙ parts) refl)
+      fix_is (sym h.0 ∙ form _ is.3)
+      ∙ ap (node_at f) (same_end [] is.0 [] done l [] (sym (ap children is.3) ∙ parts) refl)
   link (C.Function q y) h is parts =
-      (app_is (sym h.0 ∙ form _ is.2)).0 ∙ ap (node_at f) (same_end [] is.0 (is.1 ∷ []) done l (y ∷ []) (sym (ap children is.2) ∙ parts) refl)
+      (app_is (sym h.0 ∙ form _ is.2)).0
+      ∙ ap (node_at f) (same_end [] is.0 (is.1 ∷ []) done l (y ∷ []) (sym (ap children is.2) ∙ parts) refl)
   link (C.Argument q a r) h is parts =
-      (app_is (sym h.1 ∙ form _ is.2)).1 ∙ ap (node_at f) (same_end (is.0 ∷ []) is.1 [] done l [] (sym (ap children is.2) ∙ parts) refl)
+      (app_is (sym h.1 ∙ form _ is.2)).1
+      ∙ ap (node_at f) (same_end (is.0 ∷ []) is.1 [] done l [] (sym (ap children is.2) ∙ parts) refl)
   link (C.Gen q) h is parts =
-      gen_is (sym h.0 ∙ form _ is.1) ∙ ap (node_at f) (same_end [] is.0 [] done l [] (sym (ap children is.1) ∙ parts) refl)
+      gen_is (sym h.0 ∙ form _ is.1)
+      ∙ ap (node_at f) (same_end [] is.0 [] done l [] (sym (ap children is.1) ∙ parts) refl)
   link (C.Inst q a) h is parts =
-      inst_is (sym h.0 ∙ form _ is.2) ∙ ap (node_at f) (same_end [] is.0 [] done l [] (sym (ap children is.2) ∙ parts) refl)
+      inst_is (sym h.0 ∙ form _ is.2)
+      ∙ ap (node_at f) (same_end [] is.0 [] done l [] (sym (ap children is.2) ∙ parts) refl)
   link (C.Fields q ts rest) h is parts =
       let es : List ℕ = (is.0).items in
       let e : h.0 ++ t.e ∷ map (node_at f) rest.now ≡ map (node_at f) done ++ node_at f l ∷ map (node_at f) rest.now =
@@ -146,35 +158,50 @@ module _ (f : FTerm) (t w : Task) (k l : ℕ) (done : List ℕ) (s : Spn) (n : F
       ∙ map_mid (node_at f) done l rest.now in
       same_end h.0 t.e (map (node_at f) rest.now) (map (node_at f) done) (node_at f l) (map (node_at f) rest.now) e refl
   link (C.Proj q i) h is parts =
-      proj_is (sym h.0 ∙ form _ is.2) ∙ ap (node_at f) (same_end [] is.1 [] done l [] (sym (ap children is.2) ∙ parts) refl)
+      proj_is (sym h.0 ∙ form _ is.2)
+      ∙ ap (node_at f) (same_end [] is.1 [] done l [] (sym (ap children is.2) ∙ parts) refl)
   link (C.Left q y) h is parts =
-      (arith_is (sym h.1 ∙ form _ is.3)).0 ∙ ap (node_at f) (same_end [] is.1 (is.2 ∷ []) done l (y ∷ []) (sym (ap children is.3) ∙ parts) refl)
+      (arith_is (sym h.1 ∙ form _ is.3)).0
+      ∙ ap (node_at f) (same_end [] is.1 (is.2 ∷ []) done l (y ∷ []) (sym (ap children is.3) ∙ parts) refl)
   link (C.Right q) h is parts =
-      (arith_is (sym h.2 ∙ form _ is.3)).1 ∙ ap (node_at f) (same_end (is.1 ∷ []) is.2 [] done l [] (sym (ap children is.3) ∙ parts) refl)
+      (arith_is (sym h.2 ∙ form _ is.3)).1
+      ∙ ap (node_at f) (same_end (is.1 ∷ []) is.2 [] done l [] (sym (ap children is.3) ∙ parts) refl)
   link (C.Test q x y) h is parts =
-      (if_is (sym h.0 ∙ form _ is.3)).0 ∙ ap (node_at f) (same_end [] is.0 (is.1 ∷ is.2 ∷ []) done l (x ∷ y ∷ []) (sym (ap children is.3) ∙ parts) refl)
+      (if_is (sym h.0 ∙ form _ is.3)).0
+      ∙ ap (node_at f) (same_end [] is.0 (is.1 ∷ is.2 ∷ []) done l (x ∷ y ∷ []) (sym (ap children is.3) ∙ parts) refl)
   link (C.Zero q y) h is parts =
-      (if_is (sym h.1 ∙ form _ is.3)).1 ∙ ap (node_at f) (same_end (is.0 ∷ []) is.1 (is.2 ∷ []) done l (y ∷ []) (sym (ap children is.3) ∙ parts) refl)
+      (if_is (sym h.1 ∙ form _ is.3)).1
+      ∙ ap (node_at f) (same_end (is.0 ∷ []) is.1 (is.2 ∷ []) done l (y ∷ []) (sym (ap children is.3) ∙ parts) refl)
   link (C.Other q z) h is parts =
-      (if_is (sym h.2 ∙ form _ is.3)).2 ∙ ap (node_at f) (same_end (is.0 ∷ is.1 ∷ []) is.2 [] done l [] (sym (ap children is.3) ∙ parts) refl)
+      (if_is (sym h.2 ∙ form _ is.3)).2
+      ∙ ap (node_at f) (same_end (is.0 ∷ is.1 ∷ []) is.2 [] done l [] (sym (ap children is.3) ∙ parts) refl)
   link (C.Let q y) h is parts =
-      (let_is (sym h.0 ∙ form _ is.2)).0 ∙ ap (node_at f) (same_end [] is.0 (is.1 ∷ []) done l (y ∷ []) (sym (ap children is.2) ∙ parts) refl)
+      (let_is (sym h.0 ∙ form _ is.2)).0
+      ∙ ap (node_at f) (same_end [] is.0 (is.1 ∷ []) done l (y ∷ []) (sym (ap children is.2) ∙ parts) refl)
   link (C.Body q) h is parts =
-      (let_is (sym h.1 ∙ form _ is.2)).1 ∙ ap (node_at f) (same_end (is.0 ∷ []) is.1 [] done l [] (sym (ap children is.2) ∙ parts) refl)
+      (let_is (sym h.1 ∙ form _ is.2)).1
+      ∙ ap (node_at f) (same_end (is.0 ∷ []) is.1 [] done l [] (sym (ap children is.2) ∙ parts) refl)
   link (C.Pack p) h is parts =
-      pack_is (sym h.0 ∙ form _ is.3) ∙ ap (node_at f) (same_end [] is.0 [] done l [] (sym (ap children is.3) ∙ parts) refl)
+      pack_is (sym h.0 ∙ form _ is.3)
+      ∙ ap (node_at f) (same_end [] is.0 [] done l [] (sym (ap children is.3) ∙ parts) refl)
   link (C.Open q y) h is parts =
-      (open_is (sym h.0 ∙ form _ is.2)).0 ∙ ap (node_at f) (same_end [] is.0 (is.1 ∷ []) done l (y ∷ []) (sym (ap children is.2) ∙ parts) refl)
+      (open_is (sym h.0 ∙ form _ is.2)).0
+      ∙ ap (node_at f) (same_end [] is.0 (is.1 ∷ []) done l (y ∷ []) (sym (ap children is.2) ∙ parts) refl)
   link (C.Opened q) h is parts =
-      (open_is (sym h.1 ∙ form _ is.2)).1 ∙ ap (node_at f) (same_end (is.0 ∷ []) is.1 [] done l [] (sym (ap children is.2) ∙ parts) refl)
+      (open_is (sym h.1 ∙ form _ is.2)).1
+      ∙ ap (node_at f) (same_end (is.0 ∷ []) is.1 [] done l [] (sym (ap children is.2) ∙ parts) refl)
   link (C.Ref q) h is parts =
-      ref_is (sym h.0 ∙ form _ is.1) ∙ ap (node_at f) (same_end [] is.0 [] done l [] (sym (ap children is.1) ∙ parts) refl)
+      ref_is (sym h.0 ∙ form _ is.1)
+      ∙ ap (node_at f) (same_end [] is.0 [] done l [] (sym (ap children is.1) ∙ parts) refl)
   link (C.Deref q) h is parts =
-      deref_is (sym h.0 ∙ form _ is.1) ∙ ap (node_at f) (same_end [] is.0 [] done l [] (sym (ap children is.1) ∙ parts) refl)
+      deref_is (sym h.0 ∙ form _ is.1)
+      ∙ ap (node_at f) (same_end [] is.0 [] done l [] (sym (ap children is.1) ∙ parts) refl)
   link (C.Target q y) h is parts =
-      (assign_is (sym h.0 ∙ form _ is.2)).0 ∙ ap (node_at f) (same_end [] is.0 (is.1 ∷ []) done l (y ∷ []) (sym (ap children is.2) ∙ parts) refl)
+      (assign_is (sym h.0 ∙ form _ is.2)).0
+      ∙ ap (node_at f) (same_end [] is.0 (is.1 ∷ []) done l (y ∷ []) (sym (ap children is.2) ∙ parts) refl)
   link (C.Assigned q u) h is parts =
-      (assign_is (sym h.1 ∙ form _ is.2)).1 ∙ ap (node_at f) (same_end (is.0 ∷ []) is.1 [] done l [] (sym (ap children is.2) ∙ parts) refl)
+      (assign_is (sym h.1 ∙ form _ is.2)).1
+      ∙ ap (node_at f) (same_end (is.0 ∷ []) is.1 [] done l [] (sym (ap children is.2) ∙ parts) refl)
 
 -- and its names have the types that the frame says
 same_names : (t w : Task) → Same t w → context t ≡ context w
@@ -230,11 +257,13 @@ module _ (f : FTerm) (ts : List FType) where
   -- the part that a frame waits for stands before the whole
   inside : (k l : ℕ) (g : Tys) (fr : Frame) → k < count f → Waits f ts g (shape_at f k) fr l → l < count f
   inside k l g fr lt w =
-      let b = all_mid (λ c. c < k) w.1.0 l (rest_of fr) (All-same (λ c. c < k) (w.1.0 ++ l ∷ rest_of fr) (children (shape_at f k)) (sym w.1.1) (low f k lt)) in
+      let b = all_mid (λ c. c < k) w.1.0 l (rest_of fr)
+      (All-same (λ c. c < k) (w.1.0 ++ l ∷ rest_of fr) (children (shape_at f k)) (sym w.1.1) (low f k lt)) in
       omega (arith, b, lt)
 
   -- the task that the frames lead to is at the node that they lead to
-  pub follow : (fs : List Frame) (ks : List ℕ) (i : ℕ) (g : Tys) (j : ℕ) (h : Tys) (t w : Task) → i < count f → Leading f ts fs ks i g j h → Chain (Part f) fs t w →
+  pub follow : (fs : List Frame) (ks : List ℕ) (i : ℕ) (g : Tys) (j : ℕ) (h : Tys) (t w : Task) → i < count f →
+      Leading f ts fs ks i g j h → Chain (Part f) fs t w →
       w.e ≡ node_at f i → context w ≡ g → (t.e ≡ node_at f j) × (context t ≡ h) × (j < count f)
   follow fs [] i g j h t w lt l c e n = absurd l
   follow [] (k ∷ ks) i g j h t w lt l c e n = (
@@ -252,7 +281,8 @@ module _ (f : FTerm) (ts : List FType) where
       (names_are f c.0 w _ (shape_at f k) whole fr c.2 p.0 ∙ ap (inner f (shape_at f k) fr) n)
 
   -- one frame more, and one less
-  pub lead_push : (fs : List Frame) (ks : List ℕ) (i : ℕ) (g : Tys) (j : ℕ) (h : Tys) (fr : Frame) (l : ℕ) → Leading f ts fs ks i g j h → Waits f ts h (shape_at f j) fr l →
+  pub lead_push : (fs : List Frame) (ks : List ℕ) (i : ℕ) (g : Tys) (j : ℕ) (h : Tys) (fr : Frame) (l : ℕ) →
+      Leading f ts fs ks i g j h → Waits f ts h (shape_at f j) fr l →
       Leading f ts (fs ++ fr ∷ []) (ks ++ l ∷ []) i g l (inner f (shape_at f j) fr h)
   lead_push fs [] i g j h fr l a w = absurd a
   lead_push [] (k ∷ ks) i g j h fr l a w =
@@ -264,7 +294,8 @@ module _ (f : FTerm) (ts : List FType) where
   lead_push (fr0 ∷ fs) (k ∷ ks) i g j h fr l a w =
       (a.0, a.1, a.2, lead_push fs ks a.1 (inner f (shape_at f k) fr0 g) j h fr l a.3 w)
 
-  pub lead_pop : (fs : List Frame) (fr : Frame) (ks : List ℕ) (i : ℕ) (g : Tys) (l : ℕ) (h : Tys) → Leading f ts (fs ++ fr ∷ []) ks i g l h →
+  pub lead_pop : (fs : List Frame) (fr : Frame) (ks : List ℕ) (i : ℕ) (g : Tys) (l : ℕ) (h : Tys) →
+      Leading f ts (fs ++ fr ∷ []) ks i g l h →
       (j : ℕ) × (m : Tys) × (ls : List ℕ) × (ks ≡ ls ++ l ∷ []) × Leading f ts fs ls i g j m
       × Waits f ts m (shape_at f j) fr l × (inner f (shape_at f j) fr m ≡ h)
   lead_pop fs fr [] i g l h a = absurd (no_nodes fs a)
@@ -287,19 +318,24 @@ module _ (f : FTerm) (ts : List FType) where
       let b = lead_pop fs fr ks a.1 (inner f (shape_at f k) x g) l h a.3 in
       (b.0, b.1, k ∷ b.2, ap (λ (xs : List ℕ). k ∷ xs) b.3, (a.0, a.1, a.2, b.4), b.5, b.6)
 
-  pub lead_last : (fs : List Frame) (ks : List ℕ) (i : ℕ) (g : Tys) (j : ℕ) (h : Tys) → Leading f ts fs ks i g j h → (ls : List ℕ) × (ks ≡ ls ++ j ∷ [])
+  pub lead_last : (fs : List Frame) (ks : List ℕ) (i : ℕ) (g : Tys) (j : ℕ) (h : Tys) → Leading f ts fs ks i g j h →
+      (ls : List ℕ) × (ks ≡ ls ++ j ∷ [])
   lead_last fs [] i g j h a = absurd a
   lead_last [] (k ∷ ks) i g j h a = ([], ap₂ (λ (x : ℕ) (xs : List ℕ). x ∷ xs) a.2 a.0)
-  lead_last (fr ∷ fs) (k ∷ ks) i g j h a = let b = lead_last fs ks a.1 (inner f (shape_at f k) fr g) j h a.3 in (k ∷ b.0, ap (λ (xs : List ℕ). k ∷ xs) b.1)
+  lead_last (fr ∷ fs) (k ∷ ks) i g j h a =
+      let b = lead_last fs ks a.1 (inner f (shape_at f k) fr g) j h a.3 in (k ∷ b.0, ap (λ (xs : List ℕ). k ∷ xs) b.1)
 
   -- a node occurs in what leads to it
   times_part : (m k l : ℕ) (g : Tys) (fr : Frame) → k < count f → (w : Waits f ts g (shape_at f k) fr l) →
       times f m k ≡ one m k + (total (times f m) w.1.0 + (times f m l + total (times f m) (rest_of fr)))
-  times_part m k l g fr lt w = omega (arith, times_of f m k lt, ap (total (times f m)) w.1.1, total_mid (times f m) w.1.0 l (rest_of fr))
+  times_part m k l g fr lt w =
+      omega (arith, times_of f m k lt, ap (total (times f m)) w.1.1, total_mid (times f m) w.1.0 l (rest_of fr))
 
-  pub times_up : (m : ℕ) (fs : List Frame) (ks : List ℕ) (i : ℕ) (g : Tys) (j : ℕ) (h : Tys) → i < count f → Leading f ts fs ks i g j h → times f m j ≤ times f m i
+  pub times_up : (m : ℕ) (fs : List Frame) (ks : List ℕ) (i : ℕ) (g : Tys) (j : ℕ) (h : Tys) → i < count f →
+      Leading f ts fs ks i g j h → times f m j ≤ times f m i
   times_up m fs [] i g j h lt a = absurd a
-  times_up m [] (k ∷ ks) i g j h lt a = let e : times f m i ≡ times f m j = ap (times f m) (a.1 ∙ a.2) in omega (arith, e)
+  times_up m [] (k ∷ ks) i g j h lt a =
+      let e : times f m i ≡ times f m j = ap (times f m) (a.1 ∙ a.2) in omega (arith, e)
   times_up m (fr ∷ fs) (k ∷ ks) i g j h lt a =
       let kt : k < count f = subst (λ x. x < count f) a.0 lt in
       let x = times_up m fs ks a.1 (inner f (shape_at f k) fr g) j h (inside k a.1 g fr kt a.2) a.3 in
@@ -313,16 +349,20 @@ module _ (f : FTerm) (ts : List FType) where
     stays : (g : Tys) (c : ℕ) → c < count f → times f m c ≡ 0 → IsNoted f ts g c → IsNoted f us g c
     stays g c lt none h = subst (λ e. Beside e g) (sym (noted_same f ts m x (suc c) c (omega arith) lt full none)) h
 
-    stay : (g : Tys) (ks : List ℕ) → All (λ k. k < count f) ks → All (λ k. times f m k ≡ 0) ks → All (IsNoted f ts g) ks → All (IsNoted f us g) ks
+    stay : (g : Tys) (ks : List ℕ) → All (λ k. k < count f) ks → All (λ k. times f m k ≡ 0) ks →
+        All (IsNoted f ts g) ks → All (IsNoted f us g) ks
     stay g [] a b h = All-nil (IsNoted f us g)
     stay g (k ∷ ks) a b h = All-cons (IsNoted f us g) k ks
-        (stays g k (All-head (λ k. k < count f) k ks a) (All-head (λ k. times f m k ≡ 0) k ks b) (All-head (IsNoted f ts g) k ks h))
-        (stay g ks (All-tail (λ k. k < count f) k ks a) (All-tail (λ k. times f m k ≡ 0) k ks b) (All-tail (IsNoted f ts g) k ks h))
+        (stays g k (All-head (λ k. k < count f) k ks a) (All-head (λ k. times f m k ≡ 0) k ks b)
+        (All-head (IsNoted f ts g) k ks h))
+        (stay g ks (All-tail (λ k. k < count f) k ks a) (All-tail (λ k. times f m k ≡ 0) k ks b)
+        (All-tail (IsNoted f ts g) k ks h))
 
     below : (k : ℕ) → k < count f → (ks : List ℕ) → All (λ c. c < k) ks → All (λ c. c < count f) ks
     below k lt ks h = λ i d l. let b = h i d l in omega (arith, b, lt)
 
-    pub lead_stays : (fs : List Frame) (ks : List ℕ) (i : ℕ) (g : Tys) (j : ℕ) (h : Tys) → i < count f → times f m i ≤ 1 → 1 ≤ times f m j → Leading f ts fs ks i g j h → Leading f us fs ks i g j h
+    pub lead_stays : (fs : List Frame) (ks : List ℕ) (i : ℕ) (g : Tys) (j : ℕ) (h : Tys) → i < count f →
+        times f m i ≤ 1 → 1 ≤ times f m j → Leading f ts fs ks i g j h → Leading f us fs ks i g j h
     lead_stays fs [] i g j h lt le one' a = absurd a
     lead_stays [] (k ∷ ks) i g j h lt le one' a = a
     lead_stays (fr ∷ fs) (k ∷ ks) i g j h lt le one' a =
@@ -332,11 +372,18 @@ module _ (f : FTerm) (ts : List FType) where
         let part = times_part m k a.1 g fr kt a.2 in
         let done = a.2.1.0 in
         let none = total_none (times f m) done (omega (arith, up, part, le, one', ap (times f m) a.0)) in
-        let under = all_before (λ c. c < k) done (a.1 ∷ rest_of fr) (All-same (λ c. c < k) (done ++ a.1 ∷ rest_of fr) (children (shape_at f k)) (sym a.2.1.1) (low f k kt)) in
-        (a.0, a.1, (a.2.0, (done, a.2.1.1, stay g done (below k kt done under) none a.2.1.2)), lead_stays fs ks a.1 (inner f (shape_at f k) fr g) j h lt' (omega (arith, part, le, ap (times f m) a.0)) one' a.3)
+        let under = all_before (λ c. c < k) done (a.1 ∷ rest_of fr)
+        (All-same (λ c. c < k) (done ++ a.1 ∷ rest_of fr) (children (shape_at f k)) (sym a.2.1.1) (low f k kt)) in (
+          a.0,
+          a.1,
+          (a.2.0, (done, a.2.1.1, stay g done (below k kt done under) none a.2.1.2)),
+          lead_stays fs ks a.1 (inner f (shape_at f k) fr g) j h lt' (omega (arith, part, le, ap (times f m) a.0))
+              one' a.3,
+        )
 
     -- the parts of node m are others
-    pub parts_stay : (g : Tys) → m < count f → times f m m ≤ 1 → Parts f ts g (shape_at f m) → Parts f us g (shape_at f m)
+    pub parts_stay : (g : Tys) → m < count f → times f m m ≤ 1 → Parts f ts g (shape_at f m) →
+        Parts f us g (shape_at f m)
     parts_stay g lt le h =
         let none = total_none (times f m) (children (shape_at f m)) (omega (arith, times_of f m m lt, times_one, le)) in
         go (shape_at f m) (below m lt (children (shape_at f m)) (low f m lt)) none h
@@ -344,12 +391,16 @@ module _ (f : FTerm) (ts : List FType) where
         times_one : one m m ≡ 1
         times_one = if_same {A = ℕ} m m 1 0 refl
 
-        go : (n : FShape) → All (λ k. k < count f) (children n) → All (λ k. times f m k ≡ 0) (children n) → Parts f ts g n → Parts f us g n
+        go : (n : FShape) → All (λ k. k < count f) (children n) → All (λ k. times f m k ≡ 0) (children n) →
+            Parts f ts g n → Parts f us g n
         go (S.Var i) a b h = All-nil (IsNoted f us g)
         go (S.Int n) a b h = All-nil (IsNoted f us g)
-        go (S.Fix t u k) a b h = stays (in_fix (tree t) (tree u) g) k (All-head (λ k. k < count f) k [] a) (All-head (λ k. times f m k ≡ 0) k [] b) h
+        go (S.Fix t u k) a b h =
+            stays (in_fix (tree t) (tree u) g) k (All-head (λ k. k < count f) k [] a)
+            (All-head (λ k. times f m k ≡ 0) k [] b) h
         go (S.App f' x') a b h = stay g (f' ∷ x' ∷ []) a b h
-        go (S.Gen k) a b h = stays (raised g) k (All-head (λ k. k < count f) k [] a) (All-head (λ k. times f m k ≡ 0) k [] b) h
+        go (S.Gen k) a b h =
+            stays (raised g) k (All-head (λ k. k < count f) k [] a) (All-head (λ k. times f m k ≡ 0) k [] b) h
         go (S.Inst e t) a b h = stay g (e ∷ []) a b h
         go (S.Tuple es) a b h = stay g es.items a b h
         go (S.Proj i e) a b h = stay g (e ∷ []) a b h
@@ -357,12 +408,14 @@ module _ (f : FTerm) (ts : List FType) where
         go (S.If0 c p q) a b h = stay g (c ∷ p ∷ q ∷ []) a b h
         go (S.Let p q) a b h = (
           stays g p (All-head (λ k. k < count f) p (q ∷ []) a) (All-head (λ k. times f m k ≡ 0) p (q ∷ []) b) h.0,
-          stays (MoreTys (type_of (plain (node_at f p)) g) g) q (second (λ k. k < count f) p q a) (second (λ k. times f m k ≡ 0) p q b) h.1,
+          stays (MoreTys (type_of (plain (node_at f p)) g) g) q (second (λ k. k < count f) p q a)
+              (second (λ k. times f m k ≡ 0) p q b) h.1,
         )
         go (S.Pack t e u) a b h = stay g (e ∷ []) a b h
         go (S.Open p q) a b h = (
           stays g p (All-head (λ k. k < count f) p (q ∷ []) a) (All-head (λ k. times f m k ≡ 0) p (q ∷ []) b) h.0,
-          stays (in_open (opened_of (type_of (plain (node_at f p)) g)) g) q (second (λ k. k < count f) p q a) (second (λ k. times f m k ≡ 0) p q b) h.1,
+          stays (in_open (opened_of (type_of (plain (node_at f p)) g)) g) q (second (λ k. k < count f) p q a)
+              (second (λ k. times f m k ≡ 0) p q b) h.1,
         )
         go (S.Ref e) a b h = stay g (e ∷ []) a b h
         go (S.Deref e) a b h = stay g (e ∷ []) a b h

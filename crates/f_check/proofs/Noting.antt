@@ -1,5 +1,6 @@
 -- The steps of the walk, with the types that are noted.
-use Rattle.std.proofs.Common.{◌+◌, ◌*◌, Vec, Global, ◌≡◌, ◌≤◌, ◌<◌, ℕ, suc, ◌-◌, List, [], ◌∷◌, ◌++◌, map, length, slice_set, refl, ap, ap₂, ◌∙◌, sym, subst, arith, All, append_assoc}
+use Rattle.std.proofs.Common.{◌+◌, Vec, Global, ◌≡◌, ◌≤◌, ◌<◌, ℕ, suc, ◌-◌, List, [], ◌∷◌, ◌++◌, map, length}
+use Rattle.std.proofs.Common.{slice_set, refl, ap, ap₂, ◌∙◌, sym, subst, arith, All, append_assoc}
 use Rattle.std.proofs.lemmas.List.{get_or-set_same, length-set}
 use Rattle.std.proofs.lemmas.List.Elements.{All-nil, All-head, All-tail, All-push, All-same}
 use Rattle.idx_core.specs.declared.span.Span.{Span}
@@ -26,14 +27,16 @@ use Rattle.f_check.specs.Scopes.{Bound, bound, IsScope}
 use Rattle.f_check.specs.declared.scope.Binder.{Binder}
 use Rattle.f_check.specs.Verdict.{IsTypeOf}
 use Rattle.f_check.specs.Walk.{Task, context, Part, top, now, Leads, rest_of}
-use Rattle.f_check.specs.Notes.{IsNoted, first_type, inner, IsOf, Waits, Leading, Parts, Begun, HandsOn, Resumed, Keeps, Noting, opened}
+use Rattle.f_check.specs.Notes.{IsNoted, first_type, inner, IsOf, Waits, Leading, Parts, Begun, HandsOn, Resumed}
+use Rattle.f_check.specs.Notes.{Keeps, Noting, opened}
 use Rattle.f_check.specs.declared.frame.Frame.{Frame}
 use Rattle.f_check.specs.declared.frame.Frame.TheVariants as C
 use Rattle.f_check.specs.declared.frame.Control.{Control}
 use Rattle.f_check.specs.declared.frame.Control.TheVariants.{Run, Give}
 use Rattle.f_check.specs.declared.frame.State.{State}
 use Rattle.f_check.proofs.Scoping.{push_is}
-use Rattle.f_check.proofs.Leads.{same_end, open_type, follow, lead_push, lead_pop, lead_last, times_up, lead_stays, parts_stay}
+use Rattle.f_check.proofs.Leads.{same_end, open_type, follow, lead_push, lead_pop, lead_last, times_up, lead_stays}
+use Rattle.f_check.proofs.Leads.{parts_stay}
 
 -- what is to be noted beside an `open`
 abbrev pub Suits : FTerm → Tys → FShape → Ty → Type 0
@@ -43,7 +46,8 @@ Suits f g n o = Unit {0}
 -- what is known of the nodes at a step
 abbrev pub Known : FTerm → List FType → List Frame → List ℕ → Control → Type 0
 Known f ts fs ks (Run i) = (h : Tys) × Leading f ts fs ks (count f - 1) NoTys i h
-Known f ts fs ks (Give ty s o) = (j : ℕ) × (h : Tys) × Leading f ts fs ks (count f - 1) NoTys j h × Parts f ts h (shape_at f j) × Suits f h (shape_at f j) (tree o)
+Known f ts fs ks (Give ty s o) = (j : ℕ) × (h : Tys) × Leading f ts fs ks (count f - 1) NoTys j h
+    × Parts f ts h (shape_at f j) × Suits f h (shape_at f j) (tree o)
 
 module _ (f : FTerm) (ts : List FType) (g : Tys) where
   -- a node with no part
@@ -85,16 +89,22 @@ module _ (f : FTerm) (ts : List FType) (g : Tys) where
 
   -- the last part of a node is noted
   module _ (n : FShape) (l : ℕ) where
-    all : (fr : Frame) → Waits f ts g n fr l → rest_of fr ≡ [] → IsNoted f ts g l → (m : FShape) → n ≡ m → All (IsNoted f ts g) (children m)
+    all : (fr : Frame) → Waits f ts g n fr l → rest_of fr ≡ [] → IsNoted f ts g l → (m : FShape) → n ≡ m →
+        All (IsNoted f ts g) (children m)
     all fr w e h m is =
-        All-same (IsNoted f ts g) (children m) (w.1.0 ++ l ∷ []) (sym (ap children is) ∙ w.1.1 ∙ ap (λ (r : List ℕ). w.1.0 ++ l ∷ r) e) (All-push (IsNoted f ts g) w.1.0 l w.1.2 h)
+        All-same (IsNoted f ts g) (children m) (w.1.0 ++ l ∷ [])
+        (sym (ap children is) ∙ w.1.1 ∙ ap (λ (r : List ℕ). w.1.0 ++ l ∷ r) e)
+        (All-push (IsNoted f ts g) w.1.0 l w.1.2 h)
 
-    only : (fr : Frame) → (w : Waits f ts g n fr l) → rest_of fr ≡ [] → (m : FShape) (b : ℕ) → n ≡ m → children m ≡ b ∷ [] → l ≡ b
+    only : (fr : Frame) → (w : Waits f ts g n fr l) → rest_of fr ≡ [] → (m : FShape) (b : ℕ) → n ≡ m →
+        children m ≡ b ∷ [] → l ≡ b
     only fr w e m b is one' =
-        sym (same_end [] b [] w.1.0 l [] (sym one' ∙ sym (ap children is) ∙ w.1.1 ∙ ap (λ (r : List ℕ). w.1.0 ++ l ∷ r) e) refl)
+        sym (same_end [] b [] w.1.0 l []
+        (sym one' ∙ sym (ap children is) ∙ w.1.1 ∙ ap (λ (r : List ℕ). w.1.0 ++ l ∷ r) e) refl)
 
     -- the last of two parts
-    both : (fr : Frame) → (w : Waits f ts g n fr l) → rest_of fr ≡ [] → (a b : ℕ) → children n ≡ a ∷ b ∷ [] → IsNoted f ts g a × (l ≡ b)
+    both : (fr : Frame) → (w : Waits f ts g n fr l) → rest_of fr ≡ [] → (a b : ℕ) → children n ≡ a ∷ b ∷ [] →
+        IsNoted f ts g a × (l ≡ b)
     both fr w e a b is =
         let p = push_is (a ∷ []) w.1.0 b l (sym is ∙ w.1.1 ∙ ap (λ (r : List ℕ). w.1.0 ++ l ∷ r) e) in
         (All-head (IsNoted f ts g) a [] (All-same (IsNoted f ts g) (a ∷ []) w.1.0 p.0 w.1.2), sym p.1)
@@ -104,12 +114,17 @@ module _ (f : FTerm) (ts : List FType) (g : Tys) where
         let is = w.0 in
         subst (Parts f ts g) (sym is.3)
         (subst (IsNoted f ts (in_fix (tree is.1) (tree is.2) g)) (only (C.Fix y) w e _ is.0 is.3 refl)
-        (subst (λ x. IsNoted f ts (in_fix x (tree is.2) g) l) is.4 (subst (λ x. IsNoted f ts (in_fix (tree y.arg.now) x g) l) is.5 h)))
+        (subst (λ x. IsNoted f ts (in_fix x (tree is.2) g) l) is.4
+        (subst (λ x. IsNoted f ts (in_fix (tree y.arg.now) x g) l) is.5 h)))
     last_part (C.Function s x) w e h = let y : x ∷ [] ≡ [] = e in cc
-    last_part (C.Argument s a r) w e h = let is = w.0 in subst (Parts f ts g) (sym is.2) (all (C.Argument s a r) w e h _ is.2)
-    last_part (C.Gen s) w e h = let is = w.0 in subst (Parts f ts g) (sym is.1) (subst (IsNoted f ts (raised g)) (only (C.Gen s) w e _ is.0 is.1 refl) h)
+    last_part (C.Argument s a r) w e h =
+        let is = w.0 in subst (Parts f ts g) (sym is.2) (all (C.Argument s a r) w e h _ is.2)
+    last_part (C.Gen s) w e h =
+        let is = w.0 in
+        subst (Parts f ts g) (sym is.1) (subst (IsNoted f ts (raised g)) (only (C.Gen s) w e _ is.0 is.1 refl) h)
     last_part (C.Inst s a) w e h = let is = w.0 in subst (Parts f ts g) (sym is.2) (all (C.Inst s a) w e h _ is.2)
-    last_part (C.Fields s us rest) w e h = let is = w.0 in subst (Parts f ts g) (sym is.1) (all (C.Fields s us rest) w e h _ is.1)
+    last_part (C.Fields s us rest) w e h =
+        let is = w.0 in subst (Parts f ts g) (sym is.1) (all (C.Fields s us rest) w e h _ is.1)
     last_part (C.Proj s i) w e h = let is = w.0 in subst (Parts f ts g) (sym is.2) (all (C.Proj s i) w e h _ is.2)
     last_part (C.Left s b) w e h = let y : b ∷ [] ≡ [] = e in cc
     last_part (C.Right s) w e h = let is = w.0 in subst (Parts f ts g) (sym is.3) (all (C.Right s) w e h _ is.3)
@@ -134,7 +149,8 @@ module _ (f : FTerm) (ts : List FType) (g : Tys) where
     last_part (C.Ref s) w e h = let is = w.0 in subst (Parts f ts g) (sym is.1) (all (C.Ref s) w e h _ is.1)
     last_part (C.Deref s) w e h = let is = w.0 in subst (Parts f ts g) (sym is.1) (all (C.Deref s) w e h _ is.1)
     last_part (C.Target s b) w e h = let y : b ∷ [] ≡ [] = e in absurd (cc)
-    last_part (C.Assigned s u) w e h = let is = w.0 in subst (Parts f ts g) (sym is.2) (all (C.Assigned s u) w e h _ is.2)
+    last_part (C.Assigned s u) w e h =
+        let is = w.0 in subst (Parts f ts g) (sym is.2) (all (C.Assigned s u) w e h _ is.2)
 
     -- and what is handed on suits it
     module _ (q : Spn) (t v : Task) (whole : v.e ≡ shape_tree (node_at f) q n) (names : context v ≡ g) where
@@ -182,7 +198,8 @@ module _ (f : FTerm) (ts : List FType) (g : Tys) where
     )
 
 -- a node whose parts are noted and whose type is put down
-module _ (f : FTerm) (ts : List FType) (m : ℕ) (x : FType) (t o : Ty) (g : Tys) (lt : m < count f) (full : count f ≤ length ts) where
+module _ (f : FTerm) (ts : List FType) (m : ℕ) (x : FType) (t o : Ty) (g : Tys) (lt : m < count f)
+    (full : count f ≤ length ts) where
   abbrev N : ℕ → Noted
   N = noted_at f (slice_set ts m x)
 
@@ -202,7 +219,8 @@ module _ (f : FTerm) (ts : List FType) (m : ℕ) (x : FType) (t o : Ty) (g : Tys
   bare_is : (k : ℕ) → k < count f → bare (N k) ≡ plain (node_at f k)
   bare_is k lk = bare_at f (slice_set ts m x) (suc k) k (omega arith) lk
 
-  build : (n : FShape) → All (λ k. k < count f) (children n) → Parts f (slice_set ts m x) g n → Keeps n (tree x) t o → Suits f g n o → type_of (bare (noted_shape N (tree x) n)) g ≡ t → Beside (noted_shape N (tree x) n) g
+  build : (n : FShape) → All (λ k. k < count f) (children n) → Parts f (slice_set ts m x) g n → Keeps n (tree x) t o →
+      Suits f g n o → type_of (bare (noted_shape N (tree x) n)) g ≡ t → Beside (noted_shape N (tree x) n) g
   build (S.Var i) low p k q e = tt
   build (S.Int i) low p k q e = tt
   build (S.Fix a r b) low p k q e = p
@@ -212,97 +230,134 @@ module _ (f : FTerm) (ts : List FType) (m : ℕ) (x : FType) (t o : Ty) (g : Tys
   build (S.Tuple es) low p k q e = (k ∙ sym e, all_beside es.items p)
   build (S.Proj i a) low p k q e = (k ∙ sym e, part_one a [] p)
   build (S.Arith op a b) low p k q e = (part_one a (b ∷ []) p, part_two a b [] p)
-  build (S.If0 c a b) low p k q e = (k ∙ sym e, part_one c (a ∷ b ∷ []) p, part_two c a (b ∷ []) p, part_three c a b [] p)
-  build (S.Let a b) low p k q e = (p.0, subst (λ z. Beside (N b) (MoreTys (type_of z g) g)) (sym (bare_is a (All-head (λ k. k < count f) a (b ∷ []) low))) p.1)
+  build (S.If0 c a b) low p k q e =
+      (k ∙ sym e, part_one c (a ∷ b ∷ []) p, part_two c a (b ∷ []) p, part_three c a b [] p)
+  build (S.Let a b) low p k q e = (
+    p.0,
+    subst (λ z. Beside (N b) (MoreTys (type_of z g) g))
+        (sym (bare_is a (All-head (λ k. k < count f) a (b ∷ []) low))) p.1,
+  )
   build (S.Pack h a s) low p k q e = part_one a [] p
   build (S.Open a b) low p k q e =
-      let is = k ∙ q in
-      (is ∙ ap (λ z. opened_of (type_of z g)) (sym (bare_is a (All-head (λ k. k < count f) a (b ∷ []) low))), p.0, subst (λ z. Beside (N b) (in_open z g)) (sym is) p.1)
+      let is = k ∙ q in (
+        is ∙ ap (λ z. opened_of (type_of z g)) (sym (bare_is a (All-head (λ k. k < count f) a (b ∷ []) low))),
+        p.0,
+        subst (λ z. Beside (N b) (in_open z g)) (sym is) p.1,
+      )
   build (S.Ref a) low p k q e = (k ∙ sym e, part_one a [] p)
   build (S.Deref a) low p k q e = (k ∙ sym e, part_one a [] p)
   build (S.Assign a b) low p k q e = (part_one a (b ∷ []) p, part_two a b [] p)
 
-  finish : Parts f (slice_set ts m x) g (shape_at f m) → Keeps (shape_at f m) (tree x) t o → Suits f g (shape_at f m) o → type_of (plain (node_at f m)) g ≡ t → IsNoted f (slice_set ts m x) g m
+  finish : Parts f (slice_set ts m x) g (shape_at f m) → Keeps (shape_at f m) (tree x) t o →
+      Suits f g (shape_at f m) o → type_of (plain (node_at f m)) g ≡ t → IsNoted f (slice_set ts m x) g m
   finish p k q e =
       let us = slice_set ts m x in
       let whole : noted_at f us m ≡ noted_shape N (tree x) (shape_at f m) =
       noted_here f us m lt (omega (arith, full, length-set ts m x))
-      ∙ ap (λ (u : FType). noted_shape N (tree u) (shape_at f m)) (get_or-set_same ts m x T.Int (omega (arith, lt, full))) in
+      ∙ ap (λ (u : FType). noted_shape N (tree u) (shape_at f m))
+      (get_or-set_same ts m x T.Int (omega (arith, lt, full))) in
       subst (λ z. Beside z g) (sym whole)
-      (build (shape_at f m) (λ j d l. let b = low f m lt j d l in omega (arith, b, lt)) p k q (ap (λ z. type_of (bare z) g) (sym whole) ∙ ap (λ z. type_of z g) (bare_at f us (suc m) m (omega arith) lt) ∙ e))
+      (build (shape_at f m) (λ j d l. let b = low f m lt j d l in omega (arith, b, lt)) p k q
+      (ap (λ z. type_of (bare z) g) (sym whole) ∙ ap (λ z. type_of z g) (bare_at f us (suc m) m (omega arith) lt)
+      ∙ e))
 
 module _ (f : FTerm) where
   root_in : count f - 1 < count f
   root_in = let some = f.some in omega (arith, some)
 
   -- the beginning
-  pub at_first : (ts : List FType) (fs : List Frame) (ks : List ℕ) (i : ℕ) → fs ≡ [] → ks ≡ i ∷ [] → i ≡ count f - 1 → Known f ts fs ks (Run i)
+  pub at_first : (ts : List FType) (fs : List Frame) (ks : List ℕ) (i : ℕ) → fs ≡ [] → ks ≡ i ∷ [] → i ≡ count f - 1 →
+      Known f ts fs ks (Run i)
   at_first ts fs ks i ef ek ei =
-      subst (λ (gs : List Frame). Known f ts gs ks (Run i)) (sym ef) (subst (λ (ls : List ℕ). Known f ts [] ls (Run i)) (sym ek) (NoTys, (refl, sym ei, refl, refl)))
+      subst (λ (gs : List Frame). Known f ts gs ks (Run i)) (sym ef)
+      (subst (λ (ls : List ℕ). Known f ts [] ls (Run i)) (sym ek) (NoTys, (refl, sym ei, refl, refl)))
 
-  pub starts : (fs : Vec Frame Global) (sc : Vec Binder Global) (i : ℕ) → fs.items ≡ [] → sc.items ≡ [] → IsClosed (term_of f) → nodes (term_of f) ≤ 4294967295 → i ≡ count f - 1 →
+  pub starts : (fs : Vec Frame Global) (sc : Vec Binder Global) (i : ℕ) → fs.items ≡ [] → sc.items ≡ [] →
+      IsClosed (term_of f) → nodes (term_of f) ≤ 4294967295 → i ≡ count f - 1 →
       Leads f (record { frames = fs; scope = sc; around = 0 }) (Run i)
   starts fs sc i ef es closed few ei =
       let st : State = record { frames = fs; scope = sc; around = 0 } in
       let eb : map bound sc.items ≡ [] = ap (map bound) es in
       let et : node_at f i ≡ spanned f = ap (node_at f) ei in
-      let ew : now st (node_at f i) ≡ top f = ap₂ (λ (e : Tm) (bs : List Bound). let t : Task = record { e = e; around = 0; scope = bs } in t) et eb in
+      let ew : now st (node_at f i) ≡ top f =
+      ap₂ (λ (e : Tm) (bs : List Bound). let t : Task = record { e = e; around = 0; scope = bs } in t) et eb in
       let few' : nodes (plain (node_at f i)) ≤ 4294967295 = subst (λ e. nodes (plain e) ≤ 4294967295) (sym et) few in (
         subst (λ x. x < count f) (sym ei) root_in,
         (
           (
             subst (IsScope 0) (sym eb) tt,
-            subst (λ (bs : List Bound). InScope (plain (node_at f i)) 0 (length bs)) (sym eb) (subst (λ e. InScope (plain e) 0 0) (sym et) closed),
+            subst (λ (bs : List Bound). InScope (plain (node_at f i)) 0 (length bs)) (sym eb)
+                (subst (λ e. InScope (plain e) 0 0) (sym et) closed),
             omega (arith, few'),
           ),
           subst (λ (gs : List Frame). Chain (Part f) gs (now st (node_at f i)) (top f)) (sym ef) ew,
         ),
       )
 
-  pub after_begin : (ts : List FType) (fs fs' : List Frame) (ks : List ℕ) (i : ℕ) (c : Control) → Known f ts fs ks (Run i) → Begun (shape_at f i) fs fs' c → Known f ts fs' (opened ks c) c
+  pub after_begin : (ts : List FType) (fs fs' : List Frame) (ks : List ℕ) (i : ℕ) (c : Control) →
+      Known f ts fs ks (Run i) → Begun (shape_at f i) fs fs' c → Known f ts fs' (opened ks c) c
   after_begin ts fs fs' ks i (Run j) k b = (
     inner f (shape_at f i) b.0 k.0,
     subst (λ (gs : List Frame). Leading f ts gs (ks ++ j ∷ []) (count f - 1) NoTys j (inner f (shape_at f i) b.0 k.0))
         (sym b.1)
         (lead_push f ts fs ks (count f - 1) NoTys i k.0 b.0 j k.1 (b.2, ([], b.3, All-nil (IsNoted f ts k.0)))),
   )
-  after_begin ts fs fs' ks i (Give ty s o) k b =
-      (i, k.0, subst (λ (gs : List Frame). Leading f ts gs ks (count f - 1) NoTys i k.0) (sym b.0) k.1, leaf f ts k.0 (shape_at f i) b.1, leaf_suits f ts k.0 (shape_at f i) (tree o) b.1)
+  after_begin ts fs fs' ks i (Give ty s o) k b = (
+    i,
+    k.0,
+    subst (λ (gs : List Frame). Leading f ts gs ks (count f - 1) NoTys i k.0) (sym b.0) k.1,
+    leaf f ts k.0 (shape_at f i) b.1,
+    leaf_suits f ts k.0 (shape_at f i) (tree o) b.1,
+  )
 
-  pub last_open : (ts : List FType) (fs : List Frame) (ks : List ℕ) (ty o : FType) (s : Span) → Known f ts fs ks (Give ty s o) → (ls : List ℕ) × (k : ℕ) × (ks ≡ ls ++ k ∷ [])
+  pub last_open : (ts : List FType) (fs : List Frame) (ks : List ℕ) (ty o : FType) (s : Span) →
+      Known f ts fs ks (Give ty s o) → (ls : List ℕ) × (k : ℕ) × (ks ≡ ls ++ k ∷ [])
   last_open ts fs ks ty o s k = let r = lead_last f ts fs ks (count f - 1) NoTys k.0 k.1 k.2 in (r.0, k.0, r.1)
 
   -- the node whose type is given is noted, and has that type
   abbrev pub HasNoted : List FType → List Frame → List ℕ → ℕ → Ty → Type 0
-  HasNoted ts fs ks at t = (h : Tys) × Leading f ts fs ks (count f - 1) NoTys at h × IsNoted f ts h at × (type_of (plain (node_at f at)) h ≡ t)
+  HasNoted ts fs ks at t = (h : Tys) × Leading f ts fs ks (count f - 1) NoTys at h × IsNoted f ts h at
+      × (type_of (plain (node_at f at)) h ≡ t)
 
-  pub given_at : (ts : List FType) (st : State) (ks ls : List ℕ) (at : ℕ) (ty o : FType) (s : Span) → Known f ts st.frames.items ks (Give ty s o) → Leads f st (Give ty s o) → ks ≡ ls ++ at ∷ [] → at < count f
+  pub given_at : (ts : List FType) (st : State) (ks ls : List ℕ) (at : ℕ) (ty o : FType) (s : Span) →
+      Known f ts st.frames.items ks (Give ty s o) → Leads f st (Give ty s o) → ks ≡ ls ++ at ∷ [] → at < count f
   given_at ts st ks ls at ty o s k h e =
-      let is = (push_is ls _ at k.0 (sym e ∙ (lead_last f ts st.frames.items ks (count f - 1) NoTys k.0 k.1 k.2).1)).1 in
-      subst (λ x. x < count f) (sym is) (follow f ts st.frames.items ks (count f - 1) NoTys k.0 k.1 (now st h.0) (top f) root_in k.2 h.1.2 refl refl).2
+      let is =
+      (push_is ls _ at k.0 (sym e ∙ (lead_last f ts st.frames.items ks (count f - 1) NoTys k.0 k.1 k.2).1)).1 in
+      subst (λ x. x < count f) (sym is)
+      (follow f ts st.frames.items ks (count f - 1) NoTys k.0 k.1 (now st h.0) (top f) root_in k.2 h.1.2 refl
+      refl).2
 
-  pub noted_now : (ts us : List FType) (st : State) (ks ls : List ℕ) (at : ℕ) (ty o : FType) (s : Span) → count f ≤ length ts → Known f ts st.frames.items ks (Give ty s o) → Leads f st (Give ty s o) →
+  pub noted_now : (ts us : List FType) (st : State) (ks ls : List ℕ) (at : ℕ) (ty o : FType) (s : Span) →
+      count f ≤ length ts → Known f ts st.frames.items ks (Give ty s o) → Leads f st (Give ty s o) →
       ks ≡ ls ++ at ∷ [] → Noting f ts us at (tree ty) (tree o) → HasNoted us st.frames.items ks at (tree ty)
   noted_now ts us st ks ls at ty o s full k h e put =
-      let is : at ≡ k.0 = (push_is ls _ at k.0 (sym e ∙ (lead_last f ts st.frames.items ks (count f - 1) NoTys k.0 k.1 k.2).1)).1 in
-      let p = follow f ts st.frames.items ks (count f - 1) NoTys k.0 k.1 (now st h.0) (top f) root_in k.2 h.1.2 refl refl in
-      let lead : Leading f ts st.frames.items ks (count f - 1) NoTys at k.1 = subst (λ x. Leading f ts st.frames.items ks (count f - 1) NoTys x k.1) (sym is) k.2 in
+      let is : at ≡ k.0 =
+      (push_is ls _ at k.0 (sym e ∙ (lead_last f ts st.frames.items ks (count f - 1) NoTys k.0 k.1 k.2).1)).1 in
+      let p = follow f ts st.frames.items ks (count f - 1) NoTys k.0 k.1 (now st h.0) (top f) root_in k.2 h.1.2 refl
+      refl in
+      let lead : Leading f ts st.frames.items ks (count f - 1) NoTys at k.1 =
+      subst (λ x. Leading f ts st.frames.items ks (count f - 1) NoTys x k.1) (sym is) k.2 in
       let parts : Parts f ts k.1 (shape_at f at) = subst (λ x. Parts f ts k.1 (shape_at f x)) (sym is) k.3 in
-      let suits : Suits f k.1 (shape_at f at) (tree o) = subst (λ x. Suits f k.1 (shape_at f x) (tree o)) (sym is) k.4 in
+      let suits : Suits f k.1 (shape_at f at) (tree o) =
+      subst (λ x. Suits f k.1 (shape_at f x) (tree o)) (sym is) k.4 in
       let lt : at < count f = subst (λ x. x < count f) (sym is) p.2 in
       let typed : type_of (plain (node_at f at)) k.1 ≡ tree ty =
-      ap (λ x. type_of (plain (node_at f x)) k.1) is ∙ ap (λ z. type_of (plain z) k.1) (sym p.0) ∙ ap (type_of (plain h.0)) (sym p.1) ∙ type_passed h.0 st.around (context (now st h.0)) (tree ty) h.1.0.0 in
+      ap (λ x. type_of (plain (node_at f x)) k.1) is ∙ ap (λ z. type_of (plain z) k.1) (sym p.0)
+      ∙ ap (type_of (plain h.0)) (sym p.1) ∙ type_passed h.0 st.around (context (now st h.0)) (tree ty) h.1.0.0 in
       let self = times_self f at lt in
       let root = times_root f at in
       let up = times_up f ts at st.frames.items ks (count f - 1) NoTys at k.1 root_in lead in
       subst (λ (vs : List FType). HasNoted vs st.frames.items ks at (tree ty)) (sym put.1) (
         k.1,
         lead_stays f ts at put.0 full st.frames.items ks (count f - 1) NoTys at k.1 root_in root self lead,
-        finish f ts at put.0 (tree ty) (tree o) k.1 lt full (parts_stay f ts at put.0 full k.1 lt (omega (arith, up, root)) parts) put.2 suits typed,
+        finish f ts at put.0 (tree ty) (tree o) k.1 lt full
+            (parts_stay f ts at put.0 full k.1 lt (omega (arith, up, root)) parts) put.2 suits typed,
         typed,
       )
 
-  pub all_noted : (ts : List FType) (fs : List Frame) (ks : List ℕ) (at : ℕ) (t : Ty) → fs ≡ [] → HasNoted ts fs ks at t → Beside (noted_of f ts) NoTys
+  pub all_noted : (ts : List FType) (fs : List Frame) (ks : List ℕ) (at : ℕ) (t : Ty) → fs ≡ [] →
+      HasNoted ts fs ks at t → Beside (noted_of f ts) NoTys
   all_noted ts fs ks at t e h = go ks (subst (λ (gs : List Frame). Leading f ts gs ks (count f - 1) NoTys at h.0) e h.1)
     where
       go : (ks : List ℕ) → Leading f ts [] ks (count f - 1) NoTys at h.0 → Beside (noted_of f ts) NoTys
@@ -317,7 +372,8 @@ module _ (f : FTerm) where
       let p = lead_pop f ts gs fr ks (count f - 1) NoTys at h.0
       (subst (λ (xs : List Frame). Leading f ts xs ks (count f - 1) NoTys at h.0) ef h.1) in
       let lead : Leading f ts gs ls (count f - 1) NoTys p.0 p.1 =
-      subst (λ (xs : List ℕ). Leading f ts gs xs (count f - 1) NoTys p.0 p.1) (push_is p.2 ls at at (sym p.3 ∙ ek)).0 p.4 in
+      subst (λ (xs : List ℕ). Leading f ts gs xs (count f - 1) NoTys p.0 p.1) (push_is p.2 ls at at (sym p.3 ∙ ek)).0
+      p.4 in
       let t = now st a.0 in
       let under = chain_pop (Part f) gs fr t (top f) (subst (λ xs. Chain (Part f) xs t (top f)) ef a.1.2) in
       let at_node = follow f ts gs ls (count f - 1) NoTys p.0 p.1 under.0 (top f) root_in lead under.2 refl refl in
@@ -331,7 +387,8 @@ module _ (f : FTerm) where
       go j m w x lead whole names part waits n (Run i) r =
           let n' = shape_at f j in (
             inner f n' r.0 m,
-            subst (λ (xs : List Frame). Leading f ts xs (ls ++ i ∷ []) (count f - 1) NoTys i (inner f n' r.0 m)) (sym r.1)
+            subst (λ (xs : List Frame). Leading f ts xs (ls ++ i ∷ []) (count f - 1) NoTys i (inner f n' r.0 m))
+                (sym r.1)
                 (lead_push f ts gs ls (count f - 1) NoTys j m r.0 i lead
                 (next_part f ts m n' at fr r.0 i waits n r.2 (r.3 n' waits.0) (r.4 f n' m))),
           )
@@ -344,7 +401,8 @@ module _ (f : FTerm) where
       )
 
   -- the type of the whole is there
-  pub ended : (st : State) (ty o : FType) (s : Span) → st.frames.items ≡ [] → Leads f st (Give ty s o) → IsTypeOf (spanned f) 0 NoTys (tree ty)
+  pub ended : (st : State) (ty o : FType) (s : Span) → st.frames.items ≡ [] → Leads f st (Give ty s o) →
+      IsTypeOf (spanned f) 0 NoTys (tree ty)
   ended st ty o s e h =
       let same : now st h.0 ≡ top f = subst (λ (gs : List Frame). Chain (Part f) gs (now st h.0) (top f)) e h.1.2 in
       subst (λ (t : Task). IsTypeOf t.e t.around (context t) (tree ty)) same h.1.0

@@ -15,7 +15,8 @@ use Rattle.f_terms.specs.Read.{tree, place}
 use Rattle.f_terms.specs.declared.types.FType.{FType}
 use Rattle.f_terms.specs.declared.types.FType.TheVariants as T
 use Rattle.f_terms.specs.declared.fault.Code.{Code}
-use Rattle.f_terms.specs.declared.fault.Code.TheVariants.{E07, E08, E09, E10, E11, E12, E13, E14, E16, E17, E18, E21, E22}
+use Rattle.f_terms.specs.declared.fault.Code.TheVariants.{E07, E08, E09, E10, E11, E12, E13, E14, E16, E17, E18, E21}
+use Rattle.f_terms.specs.declared.fault.Code.TheVariants.{E22}
 use Rattle.f_terms.proofs.Trees.{tree_Tuple}
 use Rattle.f_terms.specs.ReadTerm.{count, node_at}
 use Rattle.f_terms.specs.declared.node.FTerm.{FTerm}
@@ -27,7 +28,8 @@ use Rattle.f_check.specs.Told.{read, Tells, IsPut, IsFound}
 use Rattle.f_check.specs.declared.mismatch.Mismatch as M
 use Rattle.f_check.specs.declared.failure.Failure.{Failure}
 use Rattle.f_check.specs.declared.failure.Failure.TheVariants.{Refused}
-use Rattle.f_check.specs.Walk.{Task, context, TypeIs, FaultOf, fix_names, IsReady, AllPass, Same, Part, top, now, Holds, Offered, Enters, frame_work, left, offer_work, Goes}
+use Rattle.f_check.specs.Walk.{Task, context, TypeIs, FaultOf, fix_names, IsReady, AllPass, Same, Part, top, now}
+use Rattle.f_check.specs.Walk.{Holds, Offered, Enters, frame_work, left, offer_work, Goes}
 use Rattle.arena.specs.Stack.{Chain, stack_sum}
 use Rattle.f_check.specs.declared.scope.Binder.{Binder}
 use Rattle.f_check.specs.declared.frame.Head.{Head}
@@ -50,8 +52,10 @@ use Rattle.f_check.proofs.Scoping.{scope_more, scope_push, bounds_pop, push_is, 
 use Rattle.f_check.proofs.Steps.{moved, in_body, in_gen, in_let, in_opened, fails}
 
 -- where the state stands at the form around the part
-task_is : (w : Task) (n : ℕ) (bs : List Bound) → n ≡ w.around → bs ≡ w.scope → record { e = w.e; around = n; scope = bs } ≡ w
-task_is w n bs en es = ap₂ (λ (n : ℕ) (bs : List Bound). let t : Task = record { e = w.e; around = n; scope = bs } in t) en es
+task_is : (w : Task) (n : ℕ) (bs : List Bound) → n ≡ w.around → bs ≡ w.scope →
+    record { e = w.e; around = n; scope = bs } ≡ w
+task_is w n bs en es =
+    ap₂ (λ (n : ℕ) (bs : List Bound). let t : Task = record { e = w.e; around = n; scope = bs } in t) en es
 
 -- the walk stops at this fault: such a type was wanted under the type names of the state, and t is there
 abbrev pub Stops : State → Code → Span → Wanted → Ty → Result Control Failure → Type 0
@@ -72,7 +76,8 @@ module _ (f : FTerm) (st : State) (w : Task) (hold : Holds f st w) where
   faulty e x is k = fails f st w hold x (subst (λ z. Tells x (λ m. FaultBy m z w.around (context w))) (sym is) k)
 
   -- a form has its type
-  pub given : (o : FType) (st' : State) (e : Tm) (t : FType) (s : Span) (m : ℕ) → st'.frames.items ≡ st.frames.items → now st' w.e ≡ w → w.e ≡ e → IsTypeOf e w.around (context w) (tree t) → span_of e ≡ place s → 1 + left f st < m →
+  pub given : (o : FType) (st' : State) (e : Tm) (t : FType) (s : Span) (m : ℕ) → st'.frames.items ≡ st.frames.items →
+      now st' w.e ≡ w → w.e ≡ e → IsTypeOf e w.around (context w) (tree t) → span_of e ≡ place s → 1 + left f st < m →
       Goes f st' (Ok (Give t s o)) m
   given o st' e t s m ef en is h sp lt =
       let typed : TypeIs w (tree t) = subst (λ z. IsTypeOf z w.around (context w) (tree t)) (sym is) h in
@@ -82,8 +87,10 @@ module _ (f : FTerm) (st : State) (w : Task) (hold : Holds f st w) where
       )
 
   -- the next part
-  pub next : (fr : Frame) (j : ℕ) (e : Tm) → st.around ≡ w.around → map bound st.scope.items ≡ w.scope → w.e ≡ e → IsReady w → j < count f →
-      ((n m : ℕ) → InScope (plain e) n m → InScope (plain (node_at f j)) n m) → nodes (plain (node_at f j)) ≤ nodes (plain e) → Part f fr (now st (node_at f j)) w → Enters f st fr j
+  pub next : (fr : Frame) (j : ℕ) (e : Tm) → st.around ≡ w.around → map bound st.scope.items ≡ w.scope → w.e ≡ e →
+      IsReady w → j < count f →
+      ((n m : ℕ) → InScope (plain e) n m → InScope (plain (node_at f j)) n m) →
+      nodes (plain (node_at f j)) ≤ nodes (plain e) → Part f fr (now st (node_at f j)) w → Enters f st fr j
   next fr j e en es is ok lt in' few part =
       let o = subst IsReady (sym (task_is w st.around (map bound st.scope.items) en es)) ok in
       let o' = subst (λ z. IsReady (now st z)) is o in
@@ -104,18 +111,26 @@ module _ (f : FTerm) (st : State) (ty : FType) (q : Span) where
       (forms.fix_res w.around (context w) (place x.span) a r (tree ty) h.0 (in_fix a r (context w)) (place q) refl h.4.4
       (in_body (now st h.0) w a r h.4.2 h.4.3 (λ n g. Passes h.0 n g (tree ty)) h.2.0) ne h.3)
 
-  pub fix_given : (x : Head) → Offered f st (C.Fix x) ty q → (sc : Vec Binder Global) (t : FType) → sc.items ≡ take (length st.scope.items - 2) st.scope.items → tree ty ≡ tree x.res.now → tree t ≡ TArrow (tree x.arg.now) (tree x.res.now) →
+  pub fix_given : (x : Head) → Offered f st (C.Fix x) ty q → (sc : Vec Binder Global) (t : FType) →
+      sc.items ≡ take (length st.scope.items - 2) st.scope.items → tree ty ≡ tree x.res.now →
+      tree t ≡ TArrow (tree x.arg.now) (tree x.res.now) →
       Goes f (record st { scope = sc }) (Ok (Give t x.span T.Int)) (offer_work f st [])
   fix_given x h sc t ec et eq =
       let w = h.1 in
       let ok = subst (λ z. InScope (plain z) w.around (length w.scope)) h.4.0 h.4.1.1 in
-      given f st w h.5 T.Int (record st { scope = sc }) (SFix (place x.span) (tree x.arg.now) (tree x.res.now) h.0) t x.span (offer_work f st []) refl
-      (task_is w st.around (map bound sc.items) h.4.2 (bounds_pop st.scope.items sc.items w.scope (fix_names w.around (tree x.arg.now) (tree x.res.now)) h.4.3 ec)) h.4.0
-      (forms.fix_ok w.around (context w) (place x.span) (tree x.arg.now) (tree x.res.now) (tree ty) (tree t) h.0 (in_fix (tree x.arg.now) (tree x.res.now) (context w)) refl h.4.4 ok.0 ok.1
-      (in_body (now st h.0) w (tree x.arg.now) (tree x.res.now) h.4.2 h.4.3 (λ n g. Passes h.0 n g (tree ty)) h.2.0) et eq) refl (omega arith)
+      given f st w h.5 T.Int (record st { scope = sc }) (SFix (place x.span) (tree x.arg.now) (tree x.res.now) h.0) t
+      x.span (offer_work f st []) refl
+      (task_is w st.around (map bound sc.items) h.4.2
+      (bounds_pop st.scope.items sc.items w.scope (fix_names w.around (tree x.arg.now) (tree x.res.now)) h.4.3 ec))
+      h.4.0
+      (forms.fix_ok w.around (context w) (place x.span) (tree x.arg.now) (tree x.res.now) (tree ty) (tree t) h.0
+      (in_fix (tree x.arg.now) (tree x.res.now) (context w)) refl h.4.4 ok.0 ok.1
+      (in_body (now st h.0) w (tree x.arg.now) (tree x.res.now) h.4.2 h.4.3 (λ n g. Passes h.0 n g (tree ty)) h.2.0) et
+      eq) refl (omega arith)
 
   -- what holds of the part, under the same names
-  same_type : (fr : Frame) (h : Offered f st fr ty q) → Same (now st h.0) h.1 → IsTypeOf h.0 h.1.around (context h.1) (tree ty)
+  same_type : (fr : Frame) (h : Offered f st fr ty q) → Same (now st h.0) h.1 →
+      IsTypeOf h.0 h.1.around (context h.1) (tree ty)
   same_type fr h s = moved (now st h.0) h.1 s (λ n g. IsTypeOf h.0 n g (tree ty)) h.2
 
   -- an application
@@ -138,14 +153,18 @@ module _ (f : FTerm) (st : State) (ty : FType) (q : Span) where
       (forms.app_arg w.around (context w) (place s) h.4.0 h.0 (TArrow (tree a) (tree r)) (tree a) (tree r) (tree ty)
       (place q) h.4.4.0 refl (same_type (C.Argument s a r) h h.4.3).0 ne h.3)
 
-  pub arg_given : (s : Span) (a r : FType) → Offered f st (C.Argument s a r) ty q → tree ty ≡ tree a → Goes f st (Ok (Give r s T.Int)) (offer_work f st [])
+  pub arg_given : (s : Span) (a r : FType) → Offered f st (C.Argument s a r) ty q → tree ty ≡ tree a →
+      Goes f st (Ok (Give r s T.Int)) (offer_work f st [])
   arg_given s a r h et =
       let w = h.1 in
-      given f st w h.5 T.Int st (SApp (place s) h.4.0 h.0) r s (offer_work f st []) refl (task_is w st.around (map bound st.scope.items) h.4.3.0 h.4.3.1) h.4.1
-      (forms.app_ok w.around (context w) (place s) h.4.0 h.0 (TArrow (tree a) (tree r)) (tree a) (tree r) (tree ty) h.4.4 refl (same_type (C.Argument s a r) h h.4.3).0 et) refl (omega arith)
+      given f st w h.5 T.Int st (SApp (place s) h.4.0 h.0) r s (offer_work f st []) refl
+      (task_is w st.around (map bound st.scope.items) h.4.3.0 h.4.3.1) h.4.1
+      (forms.app_ok w.around (context w) (place s) h.4.0 h.0 (TArrow (tree a) (tree r)) (tree a) (tree r)
+      (tree ty) h.4.4 refl (same_type (C.Argument s a r) h h.4.3).0 et) refl (omega arith)
 
   -- a type abstraction
-  gen_type : (s : Span) (h : Offered f st (C.Gen s) ty q) → IsTypeOf h.0 (h.1.around + 1) (raised (context h.1)) (tree ty)
+  gen_type : (s : Span) (h : Offered f st (C.Gen s) ty q) →
+      IsTypeOf h.0 (h.1.around + 1) (raised (context h.1)) (tree ty)
   gen_type s h = in_gen (now st h.0) h.1 h.4.1 h.4.2 h.4.3 (λ n g. IsTypeOf h.0 n g (tree ty)) h.2
 
   pub gen_refused : (s : Span) → Offered f st (C.Gen s) ty q → (x : Failure) →
@@ -156,12 +175,16 @@ module _ (f : FTerm) (st : State) (ty : FType) (q : Span) where
       (forms.tells_map x _ (λ m. FaultBy m (SGen (place s) h.0) w.around (context w))
       (forms.gen_limit w.around (context w) (place s) h.0 (raised (context w)) (tree ty) refl (gen_type s h).0) k)
 
-  pub gen_given : (s : Span) → Offered f st (C.Gen s) ty q → (t : FType) → tree t ≡ TAll (tree ty) → Within (TAll (tree ty)) → Goes f (record st { around = st.around - 1 }) (Ok (Give t s T.Int)) (offer_work f st [])
+  pub gen_given : (s : Span) → Offered f st (C.Gen s) ty q → (t : FType) → tree t ≡ TAll (tree ty) →
+      Within (TAll (tree ty)) →
+      Goes f (record st { around = st.around - 1 }) (Ok (Give t s T.Int)) (offer_work f st [])
   gen_given s h t et wi =
       let w = h.1 in
       let en = h.4.2 in
-      given f st w h.5 T.Int (record st { around = st.around - 1 }) (SGen (place s) h.0) t s (offer_work f st []) refl (task_is w (st.around - 1) (map bound st.scope.items) (omega (arith, en)) h.4.3) h.4.0
-      (forms.gen_ok w.around (context w) (place s) h.0 (raised (context w)) (tree ty) (tree t) refl (gen_type s h) wi et) refl (omega arith)
+      given f st w h.5 T.Int (record st { around = st.around - 1 }) (SGen (place s) h.0) t s (offer_work f st []) refl
+      (task_is w (st.around - 1) (map bound st.scope.items) (omega (arith, en)) h.4.3) h.4.0
+      (forms.gen_ok w.around (context w) (place s) h.0 (raised (context w)) (tree ty) (tree t) refl
+      (gen_type s h) wi et) refl (omega arith)
 
   -- a type application
   pub inst_refused : (s : Span) (a : Bor FType) → Offered f st (C.Inst s a) ty q →
@@ -177,7 +200,8 @@ module _ (f : FTerm) (st : State) (ty : FType) (q : Span) where
   inst_below : (s : Span) (a : Bor FType) (h : Offered f st (C.Inst s a) ty q) → Below h.1.around (tree a.now)
   inst_below s a h = (subst (λ z. InScope (plain z) h.1.around (length h.1.scope)) h.4.0 h.4.1.1).1
 
-  pub inst_fits : (s : Span) (a : Bor FType) → Offered f st (C.Inst s a) ty q → (b : FType) → tree ty ≡ TAll (tree b) → Shallow (tree a.now) → PutFits 0 (tree a.now) 0 (tree b)
+  pub inst_fits : (s : Span) (a : Bor FType) → Offered f st (C.Inst s a) ty q → (b : FType) → tree ty ≡ TAll (tree b) →
+      Shallow (tree a.now) → PutFits 0 (tree a.now) 0 (tree b)
   inst_fits s a h b eb small =
       let wi = subst Within eb h.2.2 in
       let room = h.4.1.2 in
@@ -187,16 +211,22 @@ module _ (f : FTerm) (st : State) (ty : FType) (q : Span) where
       (r : Result FType Failure) → IsPut (tree a.now) (tree b) (place s) r →
       IsFound (SInst (place s) h.0 (tree a.now)) h.1.around (context h.1) r
   inst_put s a h b eb r put =
-      forms.inst_put h.1.around (context h.1) (place s) h.0 (tree a.now) (tree ty) (tree b) (same_type (C.Inst s a) h h.4.2) eb (inst_below s a h) r put
+      forms.inst_put h.1.around (context h.1) (place s) h.0 (tree a.now) (tree ty) (tree b)
+      (same_type (C.Inst s a) h h.4.2) eb (inst_below s a h) r put
 
-  pub inst_given : (s : Span) (a : Bor FType) → Offered f st (C.Inst s a) ty q → (b t : FType) → tree ty ≡ TAll (tree b) → IsPut (tree a.now) (tree b) (place s) (Ok t) → Goes f st (Ok (Give t s T.Int)) (offer_work f st [])
+  pub inst_given : (s : Span) (a : Bor FType) → Offered f st (C.Inst s a) ty q → (b t : FType) →
+      tree ty ≡ TAll (tree b) → IsPut (tree a.now) (tree b) (place s) (Ok t) →
+      Goes f st (Ok (Give t s T.Int)) (offer_work f st [])
   inst_given s a h b t eb put =
       let w = h.1 in
-      given f st w h.5 T.Int st (SInst (place s) h.0 (tree a.now)) t s (offer_work f st []) refl (task_is w st.around (map bound st.scope.items) h.4.2.0 h.4.2.1) h.4.0 (inst_put s a h b eb (Ok t) put) refl (omega arith)
+      given f st w h.5 T.Int st (SInst (place s) h.0 (tree a.now)) t s (offer_work f st []) refl
+      (task_is w st.around (map bound st.scope.items) h.4.2.0 h.4.2.1) h.4.0 (inst_put s a h b eb (Ok t) put) refl
+      (omega arith)
 
   pub inst_faulty : (s : Span) (a : Bor FType) → Offered f st (C.Inst s a) ty q → (b : FType) (x : Failure) →
       tree ty ≡ TAll (tree b) → IsPut (tree a.now) (tree b) (place s) (Err x) → Tells x (FaultOf (top f))
-  inst_faulty s a h b x eb put = faulty f st h.1 h.5 (SInst (place s) h.0 (tree a.now)) x h.4.0 (inst_put s a h b eb (Err x) put)
+  inst_faulty s a h b x eb put =
+      faulty f st h.1 h.5 (SInst (place s) h.0 (tree a.now)) x h.4.0 (inst_put s a h b eb (Err x) put)
 
   -- a projection
   pub proj_refused : (s : Span) (i : ℕ) → Offered f st (C.Proj s i) ty q → (z : Result Control Failure) (m : ℕ) →
@@ -217,11 +247,14 @@ module _ (f : FTerm) (st : State) (ty : FType) (q : Span) where
       (k.2 ∙ ap (λ n. odds n WField (tree ty)) h.4.2.0) h.4.0
       (fields.proj_field w.around (context w) (place s) i h.0 (tree ty) ts (same_type (C.Proj s i) h h.4.2).0 et none)
 
-  pub proj_given : (s : Span) (i : ℕ) → Offered f st (C.Proj s i) ty q → (ts : Tys) (t : FType) → tree ty ≡ TTuple ts → field_ty ts i ≡ Some (tree t) → Goes f st (Ok (Give t s T.Int)) (offer_work f st [])
+  pub proj_given : (s : Span) (i : ℕ) → Offered f st (C.Proj s i) ty q → (ts : Tys) (t : FType) → tree ty ≡ TTuple ts →
+      field_ty ts i ≡ Some (tree t) → Goes f st (Ok (Give t s T.Int)) (offer_work f st [])
   proj_given s i h ts t et at =
       let w = h.1 in
-      given f st w h.5 T.Int st (SProj (place s) i h.0) t s (offer_work f st []) refl (task_is w st.around (map bound st.scope.items) h.4.2.0 h.4.2.1) h.4.0
-      (fields.proj_ok w.around (context w) (place s) i h.0 (tree ty) (tree t) ts (same_type (C.Proj s i) h h.4.2) et at) refl (omega arith)
+      given f st w h.5 T.Int st (SProj (place s) i h.0) t s (offer_work f st []) refl
+      (task_is w st.around (map bound st.scope.items) h.4.2.0 h.4.2.1) h.4.0
+      (fields.proj_ok w.around (context w) (place s) i h.0 (tree ty) (tree t) ts (same_type (C.Proj s i) h h.4.2) et
+      at) refl (omega arith)
 
   -- operands
   pub left_refused : (s : Span) (b : ℕ) → Offered f st (C.Left s b) ty q → (z : Result Control Failure) (m : ℕ) →
@@ -241,11 +274,16 @@ module _ (f : FTerm) (st : State) (ty : FType) (q : Span) where
       k.1 (k.2 ∙ ap (λ n. odds n (WType TInt) (tree ty)) h.4.4.0) h.4.2
       (inr (TInt, h.4.5, inr (refl, inr (tree ty, (same_type (C.Right s) h h.4.4).0, inl (ne, (refl, sym h.3, refl))))))
 
-  pub right_given : (s : Span) → Offered f st (C.Right s) ty q → tree ty ≡ TInt → Goes f st (Ok (Give T.Int s T.Int)) (offer_work f st [])
+  pub right_given : (s : Span) → Offered f st (C.Right s) ty q → tree ty ≡ TInt →
+      Goes f st (Ok (Give T.Int s T.Int)) (offer_work f st [])
   right_given s h et =
       let w = h.1 in
-      given f st w h.5 T.Int st (SArith (place s) h.4.0 h.4.1 h.0) T.Int s (offer_work f st []) refl (task_is w st.around (map bound st.scope.items) h.4.4.0 h.4.4.1) h.4.2
-      ((refl, h.4.5, subst (Passes h.0 w.around (context w)) et (same_type (C.Right s) h h.4.4).0), tt, (omega arith, omega arith)) refl (omega arith)
+      given f st w h.5 T.Int st (SArith (place s) h.4.0 h.4.1 h.0) T.Int s (offer_work f st []) refl
+      (task_is w st.around (map bound st.scope.items) h.4.4.0 h.4.4.1) h.4.2 (
+        (refl, h.4.5, subst (Passes h.0 w.around (context w)) et (same_type (C.Right s) h h.4.4).0),
+        tt,
+        (omega arith, omega arith),
+      ) refl (omega arith)
 
   -- an if0
   pub test_refused : (s : Span) (a b : ℕ) → Offered f st (C.Test s a b) ty q → (z : Result Control Failure) (m : ℕ) →
@@ -267,55 +305,74 @@ module _ (f : FTerm) (st : State) (ty : FType) (q : Span) where
       (forms.if_branches w.around (context w) (place s) h.4.0 h.4.1 h.0 (tree zero) (tree ty) (place q) h.4.5 h.4.6.0
       (same_type (C.Other s zero) h h.4.4).0 ne h.3)
 
-  pub other_given : (s : Span) (zero : FType) → Offered f st (C.Other s zero) ty q → tree ty ≡ tree zero → Goes f st (Ok (Give zero s T.Int)) (offer_work f st [])
+  pub other_given : (s : Span) (zero : FType) → Offered f st (C.Other s zero) ty q → tree ty ≡ tree zero →
+      Goes f st (Ok (Give zero s T.Int)) (offer_work f st [])
   other_given s zero h et =
       let w = h.1 in
-      given f st w h.5 T.Int st (SIf0 (place s) h.4.0 h.4.1 h.0) zero s (offer_work f st []) refl (task_is w st.around (map bound st.scope.items) h.4.4.0 h.4.4.1) h.4.2
-      ((h.4.5, h.4.6.0, subst (Passes h.0 w.around (context w)) et (same_type (C.Other s zero) h h.4.4).0), h.4.6.1, h.4.6.2) refl (omega arith)
+      given f st w h.5 T.Int st (SIf0 (place s) h.4.0 h.4.1 h.0) zero s (offer_work f st []) refl
+      (task_is w st.around (map bound st.scope.items) h.4.4.0 h.4.4.1) h.4.2 (
+        (h.4.5, h.4.6.0, subst (Passes h.0 w.around (context w)) et (same_type (C.Other s zero) h h.4.4).0),
+        h.4.6.1,
+        h.4.6.2,
+      ) refl (omega arith)
 
   -- a tuple
-  pub field_passes : (s : Span) (ts us : Vec FType Global) (rest : Bor (List ℕ)) (h : Offered f st (C.Fields s ts rest) ty q) → map tree us.items ≡ map tree ts.items ++ tree ty ∷ [] →
+  pub field_passes : (s : Span) (ts us : Vec FType Global) (rest : Bor (List ℕ))
+      (h : Offered f st (C.Fields s ts rest) ty q) → map tree us.items ≡ map tree ts.items ++ tree ty ∷ [] →
       AllPass h.1.around (context h.1) (h.4.0 ++ h.0 ∷ []) (map tree us.items)
   field_passes s ts us rest h eu =
       let w = h.1 in
       let p = same_type (C.Fields s ts rest) h h.4.3 in
-      subst (AllPass w.around (context w) (h.4.0 ++ h.0 ∷ [])) (sym eu) (all_more w.around (context w) h.4.0 (map tree ts.items) h.0 (tree ty) h.4.4 p.0 p.1)
+      subst (AllPass w.around (context w) (h.4.0 ++ h.0 ∷ [])) (sym eu)
+      (all_more w.around (context w) h.4.0 (map tree ts.items) h.0 (tree ty) h.4.4 p.0 p.1)
 
-  pub field_enters : (s : Span) (ts us : Vec FType Global) (rest : Bor (List ℕ)) → Offered f st (C.Fields s ts rest) ty q → map tree us.items ≡ map tree ts.items ++ tree ty ∷ [] →
+  pub field_enters : (s : Span) (ts us : Vec FType Global) (rest : Bor (List ℕ)) →
+      Offered f st (C.Fields s ts rest) ty q → map tree us.items ≡ map tree ts.items ++ tree ty ∷ [] →
       (j : ℕ) (more : Bor (List ℕ)) → rest.now ≡ j ∷ more.now → Enters f st (C.Fields s us more) j
   field_enters s ts us rest h eu j more er =
       let w = h.1 in
       let es = h.4.0 ++ h.0 ∷ [] in
       let tail = map (node_at f) more.now in
       let is : w.e ≡ STuple (place s) (tms (es ++ node_at f j ∷ tail)) =
-      h.4.1 ∙ ap (λ (ks : List ℕ). STuple (place s) (tms (h.4.0 ++ h.0 ∷ map (node_at f) ks))) er ∙ ap (λ (xs : List Tm). STuple (place s) (tms xs)) (one_more h.4.0 h.0 (node_at f j) tail) in
+      h.4.1 ∙ ap (λ (ks : List ℕ). STuple (place s) (tms (h.4.0 ++ h.0 ∷ map (node_at f) ks))) er
+      ∙ ap (λ (xs : List Tm). STuple (place s) (tms xs)) (one_more h.4.0 h.0 (node_at f j) tail) in
       let low = All-same (λ k. k < count f) (j ∷ more.now) rest.now (sym er) h.4.5 in
-      next f st w h.5 (C.Fields s us more) j (STuple (place s) (tms (es ++ node_at f j ∷ tail))) h.4.3.0 h.4.3.1 is h.4.2 (All-head (λ k. k < count f) j more.now low)
+      next f st w h.5 (C.Fields s us more) j (STuple (place s) (tms (es ++ node_at f j ∷ tail))) h.4.3.0 h.4.3.1 is
+      h.4.2 (All-head (λ k. k < count f) j more.now low)
       (λ n m. part_known n m es (node_at f j) tail) (omega (arith, part_nodes es (node_at f j) tail))
       (es, is, h.4.2, h.4.3, field_passes s ts us rest h eu, All-tail (λ k. k < count f) j more.now low)
 
-  no_rest : (s : Span) (ts : Vec FType Global) (rest : Bor (List ℕ)) (h : Offered f st (C.Fields s ts rest) ty q) → length rest.now ≡ 0 → h.1.e ≡ STuple (place s) (tms (h.4.0 ++ h.0 ∷ []))
+  no_rest : (s : Span) (ts : Vec FType Global) (rest : Bor (List ℕ)) (h : Offered f st (C.Fields s ts rest) ty q) →
+      length rest.now ≡ 0 → h.1.e ≡ STuple (place s) (tms (h.4.0 ++ h.0 ∷ []))
   no_rest s ts rest h z = h.4.1 ∙ go rest.now z
     where
-      go : (ks : List ℕ) → length ks ≡ 0 → STuple (place s) (tms (h.4.0 ++ h.0 ∷ map (node_at f) ks)) ≡ STuple (place s) (tms (h.4.0 ++ h.0 ∷ []))
+      go : (ks : List ℕ) → length ks ≡ 0 → STuple (place s) (tms (h.4.0 ++ h.0 ∷ map (node_at f) ks))
+          ≡ STuple (place s) (tms (h.4.0 ++ h.0 ∷ []))
       go [] z = refl
       go (k ∷ ks) z = absurd (omega (arith, z))
 
-  pub field_given : (s : Span) (ts us : Vec FType Global) (rest : Bor (List ℕ)) → Offered f st (C.Fields s ts rest) ty q → map tree us.items ≡ map tree ts.items ++ tree ty ∷ [] → length rest.now ≡ 0 → Within (TTuple (tys (map tree us.items))) →
+  pub field_given : (s : Span) (ts us : Vec FType Global) (rest : Bor (List ℕ)) →
+      Offered f st (C.Fields s ts rest) ty q → map tree us.items ≡ map tree ts.items ++ tree ty ∷ [] →
+      length rest.now ≡ 0 → Within (TTuple (tys (map tree us.items))) →
       Goes f st (Ok (Give (T.Tuple us) s T.Int)) (offer_work f st rest.now)
   field_given s ts us rest h eu z wi =
       let w = h.1 in
-      given f st w h.5 T.Int st (STuple (place s) (tms (h.4.0 ++ h.0 ∷ []))) (T.Tuple us) s (offer_work f st rest.now) refl (task_is w st.around (map bound st.scope.items) h.4.3.0 h.4.3.1) (no_rest s ts rest h z)
-      (tuple_ok w.around (context w) (place s) (h.4.0 ++ h.0 ∷ []) (map tree us.items) (tree (T.Tuple us)) (field_passes s ts us rest h eu) (tree_Tuple us) wi) refl (omega arith)
+      given f st w h.5 T.Int st (STuple (place s) (tms (h.4.0 ++ h.0 ∷ []))) (T.Tuple us) s (offer_work f st rest.now)
+      refl (task_is w st.around (map bound st.scope.items) h.4.3.0 h.4.3.1) (no_rest s ts rest h z)
+      (tuple_ok w.around (context w) (place s) (h.4.0 ++ h.0 ∷ []) (map tree us.items) (tree (T.Tuple us))
+      (field_passes s ts us rest h eu) (tree_Tuple us) wi) refl (omega arith)
 
-  pub field_faulty : (s : Span) (ts us : Vec FType Global) (rest : Bor (List ℕ)) → Offered f st (C.Fields s ts rest) ty q → map tree us.items ≡ map tree ts.items ++ tree ty ∷ [] → length rest.now ≡ 0 →
+  pub field_faulty : (s : Span) (ts us : Vec FType Global) (rest : Bor (List ℕ)) →
+      Offered f st (C.Fields s ts rest) ty q → map tree us.items ≡ map tree ts.items ++ tree ty ∷ [] →
+      length rest.now ≡ 0 →
       (x : Failure) → Tells x (λ m. limits_with m (TTuple (tys (map tree us.items))) (place s) nothing) →
       Tells x (FaultOf (top f))
   field_faulty s ts us rest h eu z x k =
       let w = h.1 in
       faulty f st w h.5 (STuple (place s) (tms (h.4.0 ++ h.0 ∷ []))) x (no_rest s ts rest h z)
       (forms.tells_map x _ (λ m. FaultBy m (STuple (place s) (tms (h.4.0 ++ h.0 ∷ []))) w.around (context w))
-      (tuple_limit w.around (context w) (place s) (h.4.0 ++ h.0 ∷ []) (map tree us.items) (field_passes s ts us rest h eu)) k)
+      (tuple_limit w.around (context w) (place s) (h.4.0 ++ h.0 ∷ []) (map tree us.items)
+      (field_passes s ts us rest h eu)) k)
 
   -- a let
   pub let_enters : (s : Span) (b : ℕ) → Offered f st (C.Let s b) ty q → (sc : Vec Binder Global) →
@@ -391,20 +448,26 @@ module _ (f : FTerm) (st : State) (ty : FType) (q : Span) where
   pub pack_small : (p : Packing) → Offered f st (C.Pack p) ty q → Within (tree p.body.now)
   pack_small p h = some_within (tree p.body.now) (subst Within h.4.3 h.4.5)
 
-  pack_scope : (p : Packing) (h : Offered f st (C.Pack p) ty q) → InScope (plain (SPack (place p.span) (tree p.hidden.now) h.0 (tree p.shape.now))) h.1.around (length h.1.scope)
+  pack_scope : (p : Packing) (h : Offered f st (C.Pack p) ty q) →
+      InScope (plain (SPack (place p.span) (tree p.hidden.now) h.0 (tree p.shape.now))) h.1.around (length h.1.scope)
   pack_scope p h = subst (λ z. InScope (plain z) h.1.around (length h.1.scope)) h.4.0 h.4.1.1
 
   pub pack_fits : (p : Packing) → Offered f st (C.Pack p) ty q → PutFits 0 (tree p.hidden.now) 0 (tree p.body.now)
   pack_fits p h =
       let room = h.4.1.2 in
-      put_fits h.1.around (tree p.hidden.now) (tree p.body.now) (omega (arith, room)) (pack_scope p h).0 h.4.4.0 (pack_small p h).0
+      put_fits h.1.around (tree p.hidden.now) (tree p.body.now) (omega (arith, room)) (pack_scope p h).0 h.4.4.0
+      (pack_small p h).0
 
-  pub pack_given : (p : Packing) → Offered f st (C.Pack p) ty q → (t : FType) → tree ty ≡ put 0 (tree p.hidden.now) (tree p.body.now) → tree t ≡ tree p.shape.now → Goes f st (Ok (Give t p.span T.Int)) (offer_work f st [])
+  pub pack_given : (p : Packing) → Offered f st (C.Pack p) ty q → (t : FType) →
+      tree ty ≡ put 0 (tree p.hidden.now) (tree p.body.now) → tree t ≡ tree p.shape.now →
+      Goes f st (Ok (Give t p.span T.Int)) (offer_work f st [])
   pack_given p h t et eu =
       let w = h.1 in
       let sc = pack_scope p h in
-      given f st w h.5 T.Int st (SPack (place p.span) (tree p.hidden.now) h.0 (tree p.shape.now)) t p.span (offer_work f st []) refl (task_is w st.around (map bound st.scope.items) h.4.2.0 h.4.2.1) h.4.0
-      (forms.pack_ok w.around (context w) (place p.span) (tree p.hidden.now) (tree p.shape.now) (tree p.body.now) (tree ty) (tree t) h.0 h.4.3 h.4.4 h.4.5 sc.0 sc.1 (same_type (C.Pack p) h h.4.2).0 et eu) refl (omega arith)
+      given f st w h.5 T.Int st (SPack (place p.span) (tree p.hidden.now) h.0 (tree p.shape.now)) t p.span
+      (offer_work f st []) refl (task_is w st.around (map bound st.scope.items) h.4.2.0 h.4.2.1) h.4.0
+      (forms.pack_ok w.around (context w) (place p.span) (tree p.hidden.now) (tree p.shape.now) (tree p.body.now)
+      (tree ty) (tree t) h.0 h.4.3 h.4.4 h.4.5 sc.0 sc.1 (same_type (C.Pack p) h h.4.2).0 et eu) refl (omega arith)
 
   -- an open
   pub open_refused : (s : Span) (b : ℕ) → Offered f st (C.Open s b) ty q → (z : Result Control Failure) (m : ℕ) →
@@ -433,7 +496,8 @@ module _ (f : FTerm) (st : State) (ty : FType) (q : Span) where
         h.4.3,
         (
           subst (IsScope (n + 1)) (sym e)
-              (scope_push (n + 1) bs (record { ty = tree x; at = n + 1 }) (scope_more n bs o'.0) (omega arith, (subst (Below n) et h.2.1).1, some_within (tree x) (subst Within et h.2.2))),
+              (scope_push (n + 1) bs (record { ty = tree x; at = n + 1 }) (scope_more n bs o'.0)
+              (omega arith, (subst (Below n) et h.2.1).1, some_within (tree x) (subst Within et h.2.2))),
           subst (InScope (plain (node_at f b)) (n + 1)) long o'.1.1,
           omega (arith, room),
         ),
@@ -467,7 +531,8 @@ module _ (f : FTerm) (st : State) (ty : FType) (q : Span) where
       let w = h.1 in
       let room = h.4.2.2 in
       let p = opened_type s h in
-      shift_fits 1 w.around (outside (tree ty)) (omega (arith, room)) (put_bound w.around TInt (tree ty) tt p.1) (outside_depth (tree ty) p.2.0)
+      shift_fits 1 w.around (outside (tree ty)) (omega (arith, room)) (put_bound w.around TInt (tree ty) tt p.1)
+      (outside_depth (tree ty) p.2.0)
 
   pub opened_refused : (s : Span) → Offered f st (C.Opened s) ty q →
       (st' : State) (z : Result Control Failure) (m : ℕ) →
@@ -476,7 +541,8 @@ module _ (f : FTerm) (st : State) (ty : FType) (q : Span) where
       let w = h.1 in
       refused f st w h.5 (SOpen (place s) h.4.0 h.0) st' E18 q k.0 (odds (w.around + 1) WOutside (tree ty)) z m k.1
       (k.2 ∙ ap (λ n. odds n WOutside (tree ty)) h.4.3) h.4.1
-      (forms.open_escapes w.around (context w) (place s) h.4.0 h.0 h.4.4 (tree ty) (place q) h.4.6 (opened_type s h).0 ne h.3)
+      (forms.open_escapes w.around (context w) (place s) h.4.0 h.0 h.4.4 (tree ty) (place q) h.4.6
+      (opened_type s h).0 ne h.3)
 
   pub opened_given : (s : Span) → Offered f st (C.Opened s) ty q → (sc : Vec Binder Global) (t o : FType) (n : ℕ) →
       map bound st.scope.items ≡ map bound sc.items ++ record { ty = tree o; at = n } ∷ [] →
@@ -487,9 +553,11 @@ module _ (f : FTerm) (st : State) (ty : FType) (q : Span) where
       let en = h.4.3 in
       let kept = push_is (map bound sc.items) w.scope (record { ty = tree o; at = n })
       (record { ty = h.4.4; at = w.around + 1 }) (sym ec ∙ h.4.5) in
-      given f st w h.5 o (record st { scope = sc; around = st.around - 1 }) (SOpen (place s) h.4.0 h.0) t s (offer_work f st []) refl
+      given f st w h.5 o (record st { scope = sc; around = st.around - 1 }) (SOpen (place s) h.4.0 h.0) t s
+      (offer_work f st []) refl
       (task_is w (st.around - 1) (map bound sc.items) (omega (arith, en)) kept.0) h.4.1
-      (forms.open_ok w.around (context w) (place s) h.4.0 h.0 h.4.4 (tree ty) (tree t) h.4.6 (opened_type s h) out.0 out.1)
+      (forms.open_ok w.around (context w) (place s) h.4.0 h.0 h.4.4 (tree ty) (tree t) h.4.6
+      (opened_type s h) out.0 out.1)
       refl (omega arith)
 
   -- references
@@ -501,11 +569,14 @@ module _ (f : FTerm) (st : State) (ty : FType) (q : Span) where
       (forms.tells_map x _ (λ m. FaultBy m (SRef (place s) h.0) w.around (context w))
       (forms.ref_limit w.around (context w) (place s) h.0 (tree ty) (same_type (C.Ref s) h h.4.2).0) k)
 
-  pub ref_given : (s : Span) → Offered f st (C.Ref s) ty q → (t : FType) → tree t ≡ TRef (tree ty) → Within (TRef (tree ty)) → Goes f st (Ok (Give t s T.Int)) (offer_work f st [])
+  pub ref_given : (s : Span) → Offered f st (C.Ref s) ty q → (t : FType) → tree t ≡ TRef (tree ty) →
+      Within (TRef (tree ty)) → Goes f st (Ok (Give t s T.Int)) (offer_work f st [])
   ref_given s h t et wi =
       let w = h.1 in
-      given f st w h.5 T.Int st (SRef (place s) h.0) t s (offer_work f st []) refl (task_is w st.around (map bound st.scope.items) h.4.2.0 h.4.2.1) h.4.0
-      (forms.ref_ok w.around (context w) (place s) h.0 (tree ty) (tree t) (same_type (C.Ref s) h h.4.2) wi et) refl (omega arith)
+      given f st w h.5 T.Int st (SRef (place s) h.0) t s (offer_work f st []) refl
+      (task_is w st.around (map bound st.scope.items) h.4.2.0 h.4.2.1) h.4.0
+      (forms.ref_ok w.around (context w) (place s) h.0 (tree ty) (tree t) (same_type (C.Ref s) h h.4.2) wi et) refl
+      (omega arith)
 
   pub deref_refused : (s : Span) → Offered f st (C.Deref s) ty q → (z : Result Control Failure) (m : ℕ) →
       Stops st E21 q WReference (tree ty) z → ((u : Ty) → tree ty ≢ TRef u) → Goes f st z m
@@ -513,13 +584,17 @@ module _ (f : FTerm) (st : State) (ty : FType) (q : Span) where
       let w = h.1 in
       refused f st w h.5 (SDeref (place s) h.0) st E21 q k.0 (odds w.around WReference (tree ty)) z m k.1
       (k.2 ∙ ap (λ n. odds n WReference (tree ty)) h.4.2.0) h.4.0
-      (forms.deref_other w.around (context w) (place s) h.0 (tree ty) (place q) (same_type (C.Deref s) h h.4.2).0 ne h.3)
+      (forms.deref_other w.around (context w) (place s) h.0 (tree ty) (place q) (same_type (C.Deref s) h h.4.2).0 ne
+      h.3)
 
-  pub deref_given : (s : Span) → Offered f st (C.Deref s) ty q → (t : FType) → tree ty ≡ TRef (tree t) → Goes f st (Ok (Give t s T.Int)) (offer_work f st [])
+  pub deref_given : (s : Span) → Offered f st (C.Deref s) ty q → (t : FType) → tree ty ≡ TRef (tree t) →
+      Goes f st (Ok (Give t s T.Int)) (offer_work f st [])
   deref_given s h t et =
       let w = h.1 in
-      given f st w h.5 T.Int st (SDeref (place s) h.0) t s (offer_work f st []) refl (task_is w st.around (map bound st.scope.items) h.4.2.0 h.4.2.1) h.4.0
-      (forms.deref_ok w.around (context w) (place s) h.0 (tree ty) (tree t) (same_type (C.Deref s) h h.4.2) et) refl (omega arith)
+      given f st w h.5 T.Int st (SDeref (place s) h.0) t s (offer_work f st []) refl
+      (task_is w st.around (map bound st.scope.items) h.4.2.0 h.4.2.1) h.4.0
+      (forms.deref_ok w.around (context w) (place s) h.0 (tree ty) (tree t) (same_type (C.Deref s) h h.4.2) et) refl
+      (omega arith)
 
   pub target_refused : (s : Span) (b : ℕ) → Offered f st (C.Target s b) ty q → (z : Result Control Failure) (m : ℕ) →
       Stops st E21 q WReference (tree ty) z → ((u : Ty) → tree ty ≢ TRef u) → Goes f st z m
@@ -529,12 +604,6 @@ module _ (f : FTerm) (st : State) (ty : FType) (q : Span) where
       (k.2 ∙ ap (λ n. odds n WReference (tree ty)) h.4.2.0) h.4.0
       (forms.assign_first w.around (context w) (place s) h.0 (node_at f b) (tree ty) (place q)
       (same_type (C.Target s b) h h.4.2).0 ne h.3)
-
-  pub target_enters : (s : Span) (b : ℕ) → Offered f st (C.Target s b) ty q → (u : FType) → tree ty ≡ TRef (tree u) → Enters f st (C.Assigned s u) b
-  target_enters s b h u et =
-      let w = h.1 in
-      next f st w h.5 (C.Assigned s u) b (SAssign (place s) h.0 (node_at f b)) h.4.2.0 h.4.2.1 h.4.0 h.4.1 h.4.3 (λ n m k. k.1) (omega arith)
-      (h.0, h.4.0, h.4.1, h.4.2, subst (Passes h.0 w.around (context w)) et (same_type (C.Target s b) h h.4.2).0)
 
   pub assigned_refused : (s : Span) (u : FType) → Offered f st (C.Assigned s u) ty q →
       (z : Result Control Failure) (m : ℕ) →
@@ -546,9 +615,14 @@ module _ (f : FTerm) (st : State) (ty : FType) (q : Span) where
       (forms.assign_other w.around (context w) (place s) h.4.0 h.0 (tree u) (tree ty) (place q) h.4.4
       (same_type (C.Assigned s u) h h.4.3).0 ne h.3)
 
-  pub assigned_given : (s : Span) (u : FType) → Offered f st (C.Assigned s u) ty q → (t : FType) → tree t ≡ TTuple NoTys → tree ty ≡ tree u → Goes f st (Ok (Give t s T.Int)) (offer_work f st [])
+  pub assigned_given : (s : Span) (u : FType) → Offered f st (C.Assigned s u) ty q → (t : FType) →
+      tree t ≡ TTuple NoTys → tree ty ≡ tree u → Goes f st (Ok (Give t s T.Int)) (offer_work f st [])
   assigned_given s u h t eu et =
       let w = h.1 in
       let wi : Within (TTuple NoTys) = (omega arith, omega arith) in
-      given f st w h.5 T.Int st (SAssign (place s) h.4.0 h.0) t s (offer_work f st []) refl (task_is w st.around (map bound st.scope.items) h.4.3.0 h.4.3.1) h.4.1
-      ((tree u, eu, h.4.4, subst (Passes h.0 w.around (context w)) et (same_type (C.Assigned s u) h h.4.3).0), subst (Below w.around) (sym eu) tt, subst Within (sym eu) wi) refl (omega arith)
+      given f st w h.5 T.Int st (SAssign (place s) h.4.0 h.0) t s (offer_work f st []) refl
+      (task_is w st.around (map bound st.scope.items) h.4.3.0 h.4.3.1) h.4.1 (
+        (tree u, eu, h.4.4, subst (Passes h.0 w.around (context w)) et (same_type (C.Assigned s u) h h.4.3).0),
+        subst (Below w.around) (sym eu) tt,
+        subst Within (sym eu) wi,
+      ) refl (omega arith)

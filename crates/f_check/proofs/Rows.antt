@@ -14,11 +14,13 @@ use Rattle.f_check.specs.Mismatch.{Mismatch, limits_with, FaultBy, FaultAllBy}
 use Rattle.f_check.specs.Walk.{AllPass}
 
 -- one part
-pub part_known : (n m : ℕ) (es : List Tm) (e : Tm) (rest : List Tm) → AllInScope (plain_all (tms (es ++ e ∷ rest))) n m → InScope (plain e) n m
+pub part_known : (n m : ℕ) (es : List Tm) (e : Tm) (rest : List Tm) →
+    AllInScope (plain_all (tms (es ++ e ∷ rest))) n m → InScope (plain e) n m
 part_known n m [] e rest h = h.0
 part_known n m (x ∷ es) e rest h = part_known n m es e rest h.1
 
-pub part_nodes : (es : List Tm) (e : Tm) (rest : List Tm) → nodes (plain e) ≤ nodes_all (plain_all (tms (es ++ e ∷ rest)))
+pub part_nodes : (es : List Tm) (e : Tm) (rest : List Tm) →
+    nodes (plain e) ≤ nodes_all (plain_all (tms (es ++ e ∷ rest)))
 part_nodes [] e rest = omega arith
 part_nodes (x ∷ es) e rest = omega (arith, part_nodes es e rest)
 
@@ -27,7 +29,8 @@ one_more [] e f rest = refl
 one_more (x ∷ es) e f rest = ap (λ (ys : List Tm). x ∷ ys) (one_more es e f rest)
 
 module _ (n : ℕ) (g : Tys) where
-  pub all_more : (es : List Tm) (ts : List Ty) (e : Tm) (t : Ty) → AllPass n g es ts → Passes e n g t → Below n t → AllPass n g (es ++ e ∷ []) (ts ++ t ∷ [])
+  pub all_more : (es : List Tm) (ts : List Ty) (e : Tm) (t : Ty) → AllPass n g es ts → Passes e n g t → Below n t →
+      AllPass n g (es ++ e ∷ []) (ts ++ t ∷ [])
   all_more [] [] e t h p b = (p, b, tt)
   all_more [] (u ∷ ts) e t h p b = absurd h
   all_more (x ∷ es) [] e t h p b = absurd h
@@ -51,7 +54,8 @@ module _ (n : ℕ) (g : Tys) where
   fault_part (x ∷ es) [] e rest h m c p k = absurd h
   fault_part (x ∷ es) (t ∷ ts) e rest h m c p k = inr (t, h.0, fault_part es ts e rest h.2 m c p k)
 
-  pub tuple_ok : (s : Spn) (es : List Tm) (ts : List Ty) (u : Ty) → AllPass n g es ts → u ≡ TTuple (tys ts) → Within (TTuple (tys ts)) → IsTypeOf (STuple s (tms es)) n g u
+  pub tuple_ok : (s : Spn) (es : List Tm) (ts : List Ty) (u : Ty) → AllPass n g es ts → u ≡ TTuple (tys ts) →
+      Within (TTuple (tys ts)) → IsTypeOf (STuple s (tms es)) n g u
   tuple_ok s es ts u all eu w = (
     (tys ts, eu, pass_all es ts all, w),
     subst (Below n) (sym eu) (below_all es ts all),

@@ -1,9 +1,10 @@
 -- What is bound around a term.
-use Rattle.std.proofs.Common.{◌≡◌, ℕ, zero, suc, ◌+◌, ◌-◌, ◌<◌, List, [], ◌∷◌, ◌++◌, map, length, get_or, take, Some, refl, ap, ap₂, ◌∙◌, sym, arith, append_assoc}
+use Rattle.std.proofs.Common.{◌≡◌, ℕ, zero, suc, ◌+◌, ◌-◌, ◌<◌, List, [], ◌∷◌, ◌++◌, map, length, get_or, take, Some}
+use Rattle.std.proofs.Common.{refl, ap, ap₂, ◌∙◌, sym, arith, append_assoc}
 use Rattle.std.proofs.lemmas.List.{take-map, length-append}
 use Rattle.std.proofs.Math.Seq.{take-append_seam}
 use Rattle.idx_core.specs.Laws as laws
-use Rattle.f_terms.specs.Ty.{Ty, TArrow, Tys, MoreTys, shift}
+use Rattle.f_terms.specs.Ty.{Ty, Tys, MoreTys, shift}
 use Rattle.f_terms.specs.TyLaws.{types_part, types_over, shift_none}
 use Rattle.f_terms.specs.Typing.{ty_at, raised}
 use Rattle.f_check.specs.declared.scope.Binder.{Binder}
@@ -21,21 +22,26 @@ names_push n g (c ∷ bs) b = names_push n (more n c g) bs b
 pub same_now : (n : ℕ) (t : Ty) → shift (n - n) 0 t ≡ t
 same_now n t = let z : n - n ≡ 0 = omega arith in ap (λ m. shift m 0 t) z ∙ shift_none t
 
-pub push_now : (n : ℕ) (g : Tys) (bs : List Bound) (t : Ty) → names n g (bs ++ record { ty = t; at = n } ∷ []) ≡ MoreTys t (names n g bs)
+pub push_now : (n : ℕ) (g : Tys) (bs : List Bound) (t : Ty) →
+    names n g (bs ++ record { ty = t; at = n } ∷ []) ≡ MoreTys t (names n g bs)
 push_now n g bs t = names_push n g bs (record { ty = t; at = n }) ∙ ap (λ u. MoreTys u (names n g bs)) (same_now n t)
 
-pub push_both : (n : ℕ) (g : Tys) (bs : List Bound) (s t : Ty) → names n g (bs ++ record { ty = s; at = n } ∷ record { ty = t; at = n } ∷ []) ≡ MoreTys t (MoreTys s (names n g bs))
+pub push_both : (n : ℕ) (g : Tys) (bs : List Bound) (s t : Ty) →
+    names n g (bs ++ record { ty = s; at = n } ∷ record { ty = t; at = n } ∷ []) ≡ MoreTys t (MoreTys s (names n g bs))
 push_both n g bs s t =
     let a : Bound = record { ty = s; at = n } in
     let b : Bound = record { ty = t; at = n } in
-    ap (names n g) (sym (append_assoc bs (a ∷ []) (b ∷ []))) ∙ push_now n g (bs ++ a ∷ []) t ∙ ap (MoreTys t) (push_now n g bs s)
+    ap (names n g) (sym (append_assoc bs (a ∷ []) (b ∷ []))) ∙ push_now n g (bs ++ a ∷ []) t
+    ∙ ap (MoreTys t) (push_now n g bs s)
 
-pub raised_names : (n : ℕ) (g : Tys) (bs : List Bound) → IsScope n bs → raised (names n g bs) ≡ names (n + 1) (raised g) bs
+pub raised_names : (n : ℕ) (g : Tys) (bs : List Bound) → IsScope n bs →
+    raised (names n g bs) ≡ names (n + 1) (raised g) bs
 raised_names n g [] ok = refl
 raised_names n g (b ∷ bs) ok =
     let le = ok.0.0 in
     let e : (n - b.at) + 1 ≡ n + 1 - b.at = omega (arith, le) in
-    let up : shift 1 0 (shift (n - b.at) 0 b.ty) ≡ shift (n + 1 - b.at) 0 b.ty = laws.shift_add_law types_part types_over (n - b.at) 1 0 b.ty ∙ ap (λ m. shift m 0 b.ty) e in
+    let up : shift 1 0 (shift (n - b.at) 0 b.ty) ≡ shift (n + 1 - b.at) 0 b.ty =
+    laws.shift_add_law types_part types_over (n - b.at) 1 0 b.ty ∙ ap (λ m. shift m 0 b.ty) e in
     raised_names n (more n b g) bs ok.1 ∙ ap (λ t. names (n + 1) (MoreTys t (raised g)) bs) up
 
 pub scope_more : (n : ℕ) (bs : List Bound) → IsScope n bs → IsScope (n + 1) bs
@@ -46,7 +52,8 @@ pub scope_push : (n : ℕ) (bs : List Bound) (b : Bound) → IsScope n bs → Is
 scope_push n [] b ok h = (h, tt)
 scope_push n (c ∷ bs) b ok h = (ok.0, scope_push n bs b ok.1 h)
 
-pub scope_two : (n : ℕ) (bs : List Bound) (b c : Bound) → IsScope n bs → IsBound n b → IsBound n c → IsScope n (bs ++ b ∷ c ∷ [])
+pub scope_two : (n : ℕ) (bs : List Bound) (b c : Bound) → IsScope n bs → IsBound n b → IsBound n c →
+    IsScope n (bs ++ b ∷ c ∷ [])
 scope_two n [] b c ok h k = (h, (k, tt))
 scope_two n (d ∷ bs) b c ok h k = (ok.0, scope_two n bs b c ok.1 h k)
 
@@ -59,10 +66,13 @@ bounds_length [] = refl
 bounds_length (b ∷ bs) = omega (arith, bounds_length bs)
 
 -- all but the last
-pub bounds_pop : (bs cs : List Binder) (ws vs : List Bound) → map bound bs ≡ ws ++ vs → cs ≡ take (length bs - length vs) bs → map bound cs ≡ ws
+pub bounds_pop : (bs cs : List Binder) (ws vs : List Bound) → map bound bs ≡ ws ++ vs →
+    cs ≡ take (length bs - length vs) bs → map bound cs ≡ ws
 bounds_pop bs cs ws vs e ec =
-    let long : length bs - length vs ≡ length ws = omega (arith, sym (bounds_length bs), ap length e, length-append ws vs) in
-    ap (map bound) (ec ∙ ap (λ k. take k bs) long) ∙ sym (take-map bound (length ws) bs) ∙ ap (take (length ws)) e ∙ take-append_seam ws vs
+    let long : length bs - length vs ≡ length ws =
+    omega (arith, sym (bounds_length bs), ap length e, length-append ws vs) in
+    ap (map bound) (ec ∙ ap (λ k. take k bs) long) ∙ sym (take-map bound (length ws) bs) ∙ ap (take (length ws)) e
+    ∙ take-append_seam ws vs
 
 pub tail_is : {A : Type 0} {x y : A} {xs ys : List A} → x ∷ xs ≡ y ∷ ys → xs ≡ ys
 tail_is e = cc
@@ -100,10 +110,12 @@ pub name_at : (n : ℕ) (g : Tys) (bs : List Binder) (q k : ℕ) (d : Binder) �
     ty_at (names n g (map bound bs)) q ≡ Some (shift (n - (bound (get_or bs k d)).at) 0 (bound (get_or bs k d)).ty)
 name_at n g [] q k d e = absurd (omega (arith, e))
 name_at n g (b ∷ bs) q zero d e =
-    ap (ty_at (names n (more n (bound b) g) (map bound bs))) (omega (arith, e, bounds_length bs)) ∙ past n (more n (bound b) g) (map bound bs) 0
+    ap (ty_at (names n (more n (bound b) g) (map bound bs))) (omega (arith, e, bounds_length bs))
+    ∙ past n (more n (bound b) g) (map bound bs) 0
 name_at n g (b ∷ bs) q (suc k) d e = name_at n (more n (bound b) g) bs q k d (omega (arith, e))
 
-pub scope_at : (n : ℕ) (bs : List Binder) (k : ℕ) (d : Binder) → k < length bs → IsScope n (map bound bs) → IsBound n (bound (get_or bs k d))
+pub scope_at : (n : ℕ) (bs : List Binder) (k : ℕ) (d : Binder) → k < length bs → IsScope n (map bound bs) →
+    IsBound n (bound (get_or bs k d))
 scope_at n [] k d lt ok = absurd (omega (arith, lt))
 scope_at n (b ∷ bs) zero d lt ok = ok.0
 scope_at n (b ∷ bs) (suc k) d lt ok = scope_at n bs k d (omega (arith, lt)) ok.1

@@ -17,7 +17,8 @@ use Rattle.f_check.specs.Scopes.{names}
 use Rattle.f_check.specs.Mismatch.{Mismatch, FaultBy}
 use Rattle.f_check.specs.Told.{Tells}
 use Rattle.f_check.specs.declared.failure.Failure.{Failure}
-use Rattle.f_check.specs.Walk.{Task, context, FaultOf, fix_names, IsReady, Same, Part, top, now, Holds, Leads, Offered, Enters, rest_of, frame_work, left, offer_work, work, Goes}
+use Rattle.f_check.specs.Walk.{Task, context, FaultOf, fix_names, IsReady, Same, Part, top, now, Holds, Leads, Offered}
+use Rattle.f_check.specs.Walk.{Enters, rest_of, frame_work, left, offer_work, work, Goes}
 use Rattle.f_check.specs.declared.frame.Frame.{Frame}
 use Rattle.f_check.specs.declared.frame.Frame.TheVariants as C
 use Rattle.f_check.specs.declared.frame.Control.TheVariants.{Run, Give}
@@ -28,43 +29,59 @@ use Rattle.f_check.proofs.Rows.{fault_part}
 use Rattle.f_check.proofs.Scoping.{push_now, push_both, raised_names}
 
 -- one frame more
-pub entered : (f : FTerm) (st : State) (fs : Vec Frame Global) (fr : Frame) (j : ℕ) → fs.items ≡ st.frames.items ++ fr ∷ [] → Enters f st fr j →
-    (m : ℕ) → 2 * nodes (plain (node_at f j)) + frame_work f fr + left f st < m → Goes f (record st { frames = fs }) (Ok (Run j)) m
+pub entered : (f : FTerm) (st : State) (fs : Vec Frame Global) (fr : Frame) (j : ℕ) →
+    fs.items ≡ st.frames.items ++ fr ∷ [] → Enters f st fr j →
+    (m : ℕ) → 2 * nodes (plain (node_at f j)) + frame_work f fr + left f st < m →
+    Goes f (record st { frames = fs }) (Ok (Run j)) m
 entered f st fs fr j e h m lt = (
-  (h.1, (h.2, subst (λ gs. Chain (Part f) gs (now st (node_at f j)) (top f)) (sym e) (chain_push (Part f) st.frames.items fr (now st (node_at f j)) h.0 (top f) h.4 h.3))),
+  (
+    h.1,
+    (
+      h.2,
+      subst (λ gs. Chain (Part f) gs (now st (node_at f j)) (top f)) (sym e)
+          (chain_push (Part f) st.frames.items fr (now st (node_at f j)) h.0 (top f) h.4 h.3),
+    ),
+  ),
   omega (arith, lt, ap (stack_sum (frame_work f)) e, sum_push (frame_work f) st.frames.items fr),
 )
 
 -- what holds under the same names
 pub moved : (t w : Task) → Same t w → (P : ℕ → Tys → Type 0) → P t.around (context t) → P w.around (context w)
-moved t w h P k = subst (λ bs. P w.around (names w.around NoTys bs)) h.1 (subst (λ n. P n (names n NoTys t.scope)) h.0 k)
+moved t w h P k =
+    subst (λ bs. P w.around (names w.around NoTys bs)) h.1 (subst (λ n. P n (names n NoTys t.scope)) h.0 k)
 
 -- what holds in the body of a function
 pub in_body : (t w : Task) (a r : Ty) → t.around ≡ w.around → t.scope ≡ w.scope ++ fix_names w.around a r →
     (P : ℕ → Tys → Type 0) → P t.around (context t) → P w.around (in_fix a r (context w))
 in_body t w a r en es P k =
-    let e : names w.around NoTys t.scope ≡ in_fix a r (context w) = ap (names w.around NoTys) es ∙ push_both w.around NoTys w.scope (TArrow a r) a in
+    let e : names w.around NoTys t.scope ≡ in_fix a r (context w) =
+    ap (names w.around NoTys) es ∙ push_both w.around NoTys w.scope (TArrow a r) a in
     subst (P w.around) e (subst (λ n. P n (names n NoTys t.scope)) en k)
 
 -- what holds in the second part of a let
 pub in_let : (t w : Task) (u : Ty) → t.around ≡ w.around → t.scope ≡ w.scope ++ record { ty = u; at = w.around } ∷ [] →
     (P : ℕ → Tys → Type 0) → P t.around (context t) → P w.around (MoreTys u (context w))
 in_let t w u en es P k =
-    let e : names w.around NoTys t.scope ≡ MoreTys u (context w) = ap (names w.around NoTys) es ∙ push_now w.around NoTys w.scope u in
+    let e : names w.around NoTys t.scope ≡ MoreTys u (context w) =
+    ap (names w.around NoTys) es ∙ push_now w.around NoTys w.scope u in
     subst (P w.around) e (subst (λ n. P n (names n NoTys t.scope)) en k)
 
 -- what holds in the second part of an open
-pub in_opened : (t w : Task) (u : Ty) → IsReady w → t.around ≡ w.around + 1 → t.scope ≡ w.scope ++ record { ty = u; at = w.around + 1 } ∷ [] →
+pub in_opened : (t w : Task) (u : Ty) → IsReady w → t.around ≡ w.around + 1 →
+    t.scope ≡ w.scope ++ record { ty = u; at = w.around + 1 } ∷ [] →
     (P : ℕ → Tys → Type 0) → P t.around (context t) → P (w.around + 1) (in_open u (context w))
 in_opened t w u ok en es P k =
     let n = w.around + 1 in
-    let e : names n NoTys t.scope ≡ in_open u (context w) = ap (names n NoTys) es ∙ push_now n NoTys w.scope u ∙ ap (MoreTys u) (sym (raised_names w.around NoTys w.scope ok.0)) in
+    let e : names n NoTys t.scope ≡ in_open u (context w) = ap (names n NoTys) es ∙ push_now n NoTys w.scope u
+    ∙ ap (MoreTys u) (sym (raised_names w.around NoTys w.scope ok.0)) in
     subst (P n) e (subst (λ n. P n (names n NoTys t.scope)) en k)
 
 -- what holds in the body of a type abstraction
-pub in_gen : (t w : Task) → IsReady w → t.around ≡ w.around + 1 → t.scope ≡ w.scope → (P : ℕ → Tys → Type 0) → P t.around (context t) → P (w.around + 1) (raised (context w))
+pub in_gen : (t w : Task) → IsReady w → t.around ≡ w.around + 1 → t.scope ≡ w.scope → (P : ℕ → Tys → Type 0) →
+    P t.around (context t) → P (w.around + 1) (raised (context w))
 in_gen t w ok en es P k =
-    subst (P (w.around + 1)) (ap (names (w.around + 1) NoTys) es ∙ sym (raised_names w.around NoTys w.scope ok.0)) (subst (λ n. P n (names n NoTys t.scope)) en k)
+    subst (P (w.around + 1)) (ap (names (w.around + 1) NoTys) es ∙ sym (raised_names w.around NoTys w.scope ok.0))
+    (subst (λ n. P n (names n NoTys t.scope)) en k)
 
 -- a fault of the part is one of the whole form
 module _ (f : FTerm) (m : Option Mismatch) (c : Code) (p : Spn) where
@@ -97,7 +114,8 @@ module _ (f : FTerm) (m : Option Mismatch) (c : Code) (p : Spn) where
       go (C.Let s b) h = back _ h.0 (inl (same h.2))
       go (C.Body s) h = back _ h.1 (inr (h.4, h.6, in_let t w h.4 h.3 h.5 (λ n g. FaultBy m t.e n g c p) k))
       go (C.Pack x) h =
-          back _ h.0 (forms.pack_part w.around (context w) (place x.span) (tree x.hidden.now) (tree x.shape.now) (tree x.body.now)
+          back _ h.0 (forms.pack_part w.around (context w) (place x.span) (tree x.hidden.now) (tree x.shape.now)
+          (tree x.body.now)
           t.e h.3 h.4 h.5 m c p (same h.2))
       go (C.Open s b) h = back _ h.0 (inl (same h.2))
       go (C.Opened s) h =
@@ -115,10 +133,13 @@ fails f st w h e k = tells_map e (FaultOf w) (FaultOf (top f))
     (λ m c p x. chain_up (Part f) (λ t. FaultOf t m c p) (up f m c p) st.frames.items w (top f) h x) k
 
 -- the last frame is taken
-pub offered : (f : FTerm) (st : State) (fs : Vec Frame Global) (fr : Frame) (ty o : FType) (q : Span) → st.frames.items ≡ fs.items ++ fr ∷ [] → Leads f st (Give ty q o) →
-    Offered f (record st { frames = fs }) fr ty q × (offer_work f (record st { frames = fs }) (rest_of fr) ≡ work f st (Give ty q o))
+pub offered : (f : FTerm) (st : State) (fs : Vec Frame Global) (fr : Frame) (ty o : FType) (q : Span) →
+    st.frames.items ≡ fs.items ++ fr ∷ [] → Leads f st (Give ty q o) →
+    Offered f (record st { frames = fs }) fr ty q
+    × (offer_work f (record st { frames = fs }) (rest_of fr) ≡ work f st (Give ty q o))
 offered f st fs fr ty o q e h =
-    let p = chain_pop (Part f) fs.items fr (now st h.0) (top f) (subst (λ gs. Chain (Part f) gs (now st h.0) (top f)) e h.1.2) in (
+    let p = chain_pop (Part f) fs.items fr (now st h.0) (top f)
+    (subst (λ gs. Chain (Part f) gs (now st h.0) (top f)) e h.1.2) in (
       (h.0, p.0, h.1.0, h.1.1, p.1, p.2),
       omega (arith, ap (stack_sum (frame_work f)) e, sum_push (frame_work f) fs.items fr),
     )

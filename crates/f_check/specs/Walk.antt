@@ -63,7 +63,8 @@ fix_names n a r = record { ty = TArrow a r; at = n } ∷ record { ty = a; at = n
 
 -- t is the part of w that the frame waits for, and the parts before it have passed
 abbrev pub Part : FTerm → Frame → Task → Task → Type 0
-Part f (C.Fix x) t w = (w.e ≡ SFix (place x.span) (tree x.arg.now) (tree x.res.now) t.e) × IsReady w × (t.around ≡ w.around)
+Part f (C.Fix x) t w =
+    (w.e ≡ SFix (place x.span) (tree x.arg.now) (tree x.res.now) t.e) × IsReady w × (t.around ≡ w.around)
     × (t.scope ≡ w.scope ++ fix_names w.around (tree x.arg.now) (tree x.res.now))
     × Within (TArrow (tree x.arg.now) (tree x.res.now))
 Part f (C.Function s x) t w = (w.e ≡ SApp (place s) t.e (node_at f x)) × IsReady w × Same t w × (x < count f)

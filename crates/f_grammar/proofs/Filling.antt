@@ -11,7 +11,10 @@ use Rattle.text_core.specs.Table.{Nt}
 use Rattle.f_grammar.proofs.Complete.{do_now, mark_now, next}
 use Rattle.text_core.proofs.Rules as rules
 use Rattle.text_core.proofs.Rules.{Filling, good_row, quiet_row, AtLeast, Least}
-use Rattle.f_grammar.specs.Machine.{table, Class, Line, LE, LP, LParam, LBranches, LFields, LHidden, LNames, MoreParts, MoreFactors, MoreSums, MoreAssign, MoreFields, LT, LU, LTypes, MoreArrow, MoreTypes, MakeVar, MakeUnit, TypeInt, TypeUnit, Stack, Val, OfToken, OfTerm, OfType, fits, after, may_end, sum_tail, type_tail, marks, exec, act}
+use Rattle.f_grammar.specs.Machine.{table, Class, Line, LE, LP, LParam, LBranches, LFields, LHidden, LNames, MoreParts}
+use Rattle.f_grammar.specs.Machine.{MoreFactors, MoreSums, MoreAssign, MoreFields, LT, LU, LTypes, MoreArrow}
+use Rattle.f_grammar.specs.Machine.{MoreTypes, MakeVar, MakeUnit, TypeInt, TypeUnit, Stack, Val, OfToken, OfTerm}
+use Rattle.f_grammar.specs.Machine.{OfType, fits, after, may_end, sum_tail, type_tail, marks, exec, act}
 
 abbrev here : Span
 here = record { start = 0; end = 0 }
@@ -42,11 +45,18 @@ token want.Open = tok k.Open here
 abbrev pub least : Line → List Token
 least LE = tok k.Name here ∷ []
 least LP = tok k.Name here ∷ []
-least LParam = tok k.LeftParen here ∷ (tok k.Name here ∷ (tok k.Colon here ∷ (tok k.Int here ∷ (tok k.RightParen here ∷ []))))
-least LBranches = tok k.LeftParen here ∷ (tok k.Name here ∷ (tok k.Comma here ∷ (tok k.Name here ∷ (tok k.Comma here ∷ (tok k.Name here ∷ (tok k.RightParen here ∷ []))))))
+least LParam =
+    tok k.LeftParen here ∷ (tok k.Name here ∷ (tok k.Colon here ∷ (tok k.Int here ∷ (tok k.RightParen here ∷ []))))
+least LBranches =
+    tok k.LeftParen here
+    ∷ (tok k.Name here
+    ∷ (tok k.Comma here ∷ (tok k.Name here ∷ (tok k.Comma here ∷ (tok k.Name here ∷ (tok k.RightParen here ∷ []))))))
 least LFields = tok k.RightAngle here ∷ []
-least LHidden = tok k.LeftBracket here ∷ (tok k.Int here ∷ (tok k.Comma here ∷ (tok k.Name here ∷ (tok k.RightBracket here ∷ []))))
-least LNames = tok k.LeftBracket here ∷ (tok k.Name here ∷ (tok k.Comma here ∷ (tok k.Name here ∷ (tok k.RightBracket here ∷ []))))
+least LHidden =
+    tok k.LeftBracket here ∷ (tok k.Int here ∷ (tok k.Comma here ∷ (tok k.Name here ∷ (tok k.RightBracket here ∷ []))))
+least LNames =
+    tok k.LeftBracket here
+    ∷ (tok k.Name here ∷ (tok k.Comma here ∷ (tok k.Name here ∷ (tok k.RightBracket here ∷ []))))
 least LT = tok k.Int here ∷ []
 least LU = tok k.Int here ∷ []
 least LTypes = tok k.RightAngle here ∷ []
@@ -131,16 +141,23 @@ wanted MoreFields = omega arith
 wanted MoreTypes = omega arith
 wanted _ = omega arith
 
-silent : (n : Line) → may_end n ≡ true → (w : List Token) → AtLeast table filling (wants n) w → (s : Stack) (vs : List Val) → exec w (Nt n ∷ s) vs ≡ exec w s vs
+silent : (n : Line) → may_end n ≡ true → (w : List Token) → AtLeast table filling (wants n) w →
+    (s : Stack) (vs : List Val) → exec w (Nt n ∷ s) vs ≡ exec w s vs
 silent n e w h s vs = rules.silent table filling (λ m c. quiet m c.kind c.span) n e w h s vs
 
-pub reads : (n : Line) → may_end n ≡ false → (w : List Token) → AtLeast table filling (wants n) w → (s : Stack) (vs : List Val) → Least table n (least n) w s vs
+pub reads : (n : Line) → may_end n ≡ false → (w : List Token) → AtLeast table filling (wants n) w →
+    (s : Stack) (vs : List Val) → Least table n (least n) w s vs
 reads LE e w h s vs = record {
   made = OfTerm (var here) ∷ vs;
   counts = marks s ∷ [];
-  leads = next (marks s) (do_now w MakeVar (sum_tail ++ s) _ ∙ (silent MoreParts refl w h (Nt MoreFactors ∷ (Nt MoreSums ∷ (Nt MoreAssign ∷ s))) _ ∙ (silent MoreFactors refl w h (Nt MoreSums ∷ (Nt MoreAssign ∷ s)) _ ∙ (silent MoreSums refl w h (Nt MoreAssign ∷ s) _ ∙ silent MoreAssign refl w h s _))));
+  leads = next (marks s)
+      (do_now w MakeVar (sum_tail ++ s) _
+      ∙ (silent MoreParts refl w h (Nt MoreFactors ∷ (Nt MoreSums ∷ (Nt MoreAssign ∷ s))) _
+      ∙ (silent MoreFactors refl w h (Nt MoreSums ∷ (Nt MoreAssign ∷ s)) _
+      ∙ (silent MoreSums refl w h (Nt MoreAssign ∷ s) _ ∙ silent MoreAssign refl w h s _))));
 }
-reads LP e w h s vs = record { made = OfTerm (var here) ∷ vs; counts = marks s ∷ []; leads = next (marks s) (do_now w MakeVar s _) }
+reads LP e w h s vs =
+    record { made = OfTerm (var here) ∷ vs; counts = marks s ∷ []; leads = next (marks s) (do_now w MakeVar s _) }
 reads LParam e w h s vs = record {
   made = _;
   counts = suc (marks s) ∷ (suc (marks s) ∷ (suc (marks s) ∷ (suc (marks s) ∷ (suc (marks s) ∷ []))));
@@ -148,7 +165,8 @@ reads LParam e w h s vs = record {
 }
 reads LBranches e w h s vs = record {
   made = _;
-  counts = suc (marks s) ∷ (suc (marks s) ∷ (suc (marks s) ∷ (suc (marks s) ∷ (suc (marks s) ∷ (suc (marks s) ∷ (suc (marks s) ∷ []))))));
+  counts = suc (marks s)
+      ∷ (suc (marks s) ∷ (suc (marks s) ∷ (suc (marks s) ∷ (suc (marks s) ∷ (suc (marks s) ∷ (suc (marks s) ∷ []))))));
   leads = next _ (next _ (next _ (next _ (next _ (next _ (next _ (mark_now w s _)))))));
 }
 reads LHidden e w h s vs = record {
@@ -161,8 +179,24 @@ reads LNames e w h s vs = record {
   counts = suc (marks s) ∷ (suc (marks s) ∷ (suc (marks s) ∷ (suc (marks s) ∷ (suc (marks s) ∷ []))));
   leads = next _ (next _ (next _ (next _ (next _ (mark_now w s _)))));
 }
-reads LFields e w h s vs = record { made = act MakeUnit (OfToken (tok k.RightAngle here) ∷ vs); counts = marks s ∷ []; leads = next (marks s) (do_now w MakeUnit s _) }
-reads LT e w h s vs = record { made = OfType (int_ty here) ∷ vs; counts = marks s ∷ []; leads = next (marks s) (do_now w TypeInt (type_tail ++ s) _ ∙ silent MoreArrow refl w h s _) }
-reads LU e w h s vs = record { made = OfType (int_ty here) ∷ vs; counts = marks s ∷ []; leads = next (marks s) (do_now w TypeInt s _) }
-reads LTypes e w h s vs = record { made = act TypeUnit (OfToken (tok k.RightAngle here) ∷ vs); counts = marks s ∷ []; leads = next (marks s) (do_now w TypeUnit s _) }
+reads LFields e w h s vs =
+    record {
+      made = act MakeUnit (OfToken (tok k.RightAngle here) ∷ vs);
+      counts = marks s ∷ [];
+      leads = next (marks s) (do_now w MakeUnit s _);
+    }
+reads LT e w h s vs =
+    record {
+      made = OfType (int_ty here) ∷ vs;
+      counts = marks s ∷ [];
+      leads = next (marks s) (do_now w TypeInt (type_tail ++ s) _ ∙ silent MoreArrow refl w h s _);
+    }
+reads LU e w h s vs =
+    record { made = OfType (int_ty here) ∷ vs; counts = marks s ∷ []; leads = next (marks s) (do_now w TypeInt s _) }
+reads LTypes e w h s vs =
+    record {
+      made = act TypeUnit (OfToken (tok k.RightAngle here) ∷ vs);
+      counts = marks s ∷ [];
+      leads = next (marks s) (do_now w TypeUnit s _);
+    }
 reads _ e w h s vs = absurd (cc)

@@ -39,7 +39,8 @@ source_exact limit w = exact_by table rules limit w
 pub one_tree : {w : List Token} {t r : Piece} → E w t → E w r → t ≡ r
 one_tree x y = unique.one_tree table (claims_of table rules) x y
 
-pub one_verdict : (limit : ℕ) (w : List Token) (a b : Verdict table) → Says table limit w a → Says table limit w b → a ≡ b
+pub one_verdict : (limit : ℕ) (w : List Token) (a b : Verdict table) → Says table limit w a → Says table limit w b →
+    a ≡ b
 one_verdict limit w a b x y = unique.one_verdict table (claims_of table rules) limit w a b x y
 
 pub claims : Claims table

@@ -1,5 +1,6 @@
 -- What the code finds at a place of a source text.
-use Rattle.std.proofs.Common.{◌≡◌, ◌≤◌, ◌<◌, ◌==◌, ◌&&◌, ℕ, pos, ◌+◌, ◌-◌, List, [], ◌∷◌, length, take, drop, Bool, true, false, if◌then◌else◌, refl, ◌∙◌, ap, arith, Some, None, neg_ℤ}
+use Rattle.std.proofs.Common.{◌≡◌, ◌≤◌, ◌<◌, ◌==◌, ◌&&◌, ℕ, pos, ◌+◌, ◌-◌, List, [], ◌∷◌, length, take, drop, Bool}
+use Rattle.std.proofs.Common.{true, false, if◌then◌else◌, refl, ◌∙◌, ap, arith, Some, None, neg_ℤ}
 use Rattle.std.specs.Prelude.{nat_le}
 use Rattle.std.proofs.lemmas.Bool.{eqb-true, leb-true, leb-false}
 use Rattle.std.proofs.lemmas.Int.{ints}
@@ -56,7 +57,8 @@ pair_found a b x h y t at l p e =
     let z : at + 2 - at ≡ 2 = omega arith in
     (record { forward = omega arith; in_range = omega arith }, rw z (pair_item a b x h (drop at t) p e), y)
 
-pub plain_is_found : (t : List ℕ) (at : ℕ) (d : Digits) → Within t at d.end → piece (drop at t) ≡ PPlain (d.end - at) → IsValue d.value d.fits (take (d.end - at) (drop at t)) →
+pub plain_is_found : (t : List ℕ) (at : ℕ) (d : Digits) → Within t at d.end → piece (drop at t) ≡ PPlain (d.end - at) →
+    IsValue d.value d.fits (take (d.end - at) (drop at t)) →
     IsFound source t at (plain_found d)
 plain_is_found t at d w p v = go d.fits refl (nat_le d.value 9223372036854775807) refl
   where
@@ -66,12 +68,19 @@ plain_is_found t at d w p v = go d.fits refl (nat_le d.value 9223372036854775807
     is : item source (drop at t) ≡ Spelling (k.Plain (pos (value u))) (d.end - at)
     is = ap (λ (x : Piece). of_piece source (drop at t) x) p
 
-    go : (f : Bool) → d.fits ≡ f → (l : Bool) → nat_le d.value 9223372036854775807 ≡ l → IsFound source t at (plain_found d)
-    go true e true q = let s = (v.small e).0 in let m = leb-true d.value 9223372036854775807 q in rw (e, q) (w, rw s is, omega (arith, ints))
-    go true e false q = let s = (v.small e).0 in let m = leb-false d.value 9223372036854775807 q in rw (e, q) (w, (k.Plain (pos (value u)), is, λ x. omega (arith, ints)))
+    go : (f : Bool) → d.fits ≡ f → (l : Bool) → nat_le d.value 9223372036854775807 ≡ l →
+        IsFound source t at (plain_found d)
+    go true e true q =
+        let s = (v.small e).0 in
+        let m = leb-true d.value 9223372036854775807 q in rw (e, q) (w, rw s is, omega (arith, ints))
+    go true e false q =
+        let s = (v.small e).0 in
+        let m = leb-false d.value 9223372036854775807 q in
+        rw (e, q) (w, (k.Plain (pos (value u)), is, λ x. omega (arith, ints)))
     go false e l q = let s = v.large e in rw e (w, (k.Plain (pos (value u)), is, λ x. omega (arith, ints)))
 
-pub negative_is_found : (t : List ℕ) (at : ℕ) (d : Digits) → Within t at d.end → piece (drop at t) ≡ PNegative (d.end - at) → IsValue d.value d.fits (drop 1 (take (d.end - at) (drop at t))) →
+pub negative_is_found : (t : List ℕ) (at : ℕ) (d : Digits) → Within t at d.end →
+    piece (drop at t) ≡ PNegative (d.end - at) → IsValue d.value d.fits (drop 1 (take (d.end - at) (drop at t))) →
     IsFound source t at (negative_found d)
 negative_is_found t at d w p v = go d.fits refl
   where

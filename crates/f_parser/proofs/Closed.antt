@@ -7,7 +7,10 @@ use Rattle.f_terms.specs.Scope.{InScope, AllInScope}
 use Rattle.f_terms.specs.Limits as limits
 use Rattle.idx_core.specs.Over.{BelowAt, AnyDepth}
 use Rattle.f_grammar.specs.Raw.{RawTy, RawTys, RawTm, RawTms, nodes, nodes_all}
-use Rattle.f_parser.specs.Scope.{TypeOf, of_int, of_name, of_tuple, of_arrow, of_all, of_some, of_ref, TypesOf, of_no_types, of_more_types, TermOf, of_var, of_num, of_fix, of_gen, of_app, of_inst, of_fields, of_proj, of_arith, of_if0, of_let, of_pack, of_open, of_cell, of_deref, of_assign, TermsOf, of_no_terms, of_more_terms}
+use Rattle.f_parser.specs.Scope.{TypeOf, of_int, of_name, of_tuple, of_arrow, of_all, of_some, of_ref, TypesOf}
+use Rattle.f_parser.specs.Scope.{of_no_types, of_more_types, TermOf, of_var, of_num, of_fix, of_gen, of_app, of_inst}
+use Rattle.f_parser.specs.Scope.{of_fields, of_proj, of_arith, of_if0, of_let, of_pack, of_open, of_cell, of_deref}
+use Rattle.f_parser.specs.Scope.{of_assign, TermsOf, of_no_terms, of_more_terms}
 
 place_below : (x : Name) (ns : List Name) (i : ℕ) → IsPlace x ns i → i < length ns
 place_below x [] i p = absurd p
@@ -30,36 +33,50 @@ mutual
   type_below (of_some {a} {t} {u} n p) = (tt, subst (λ (k : ℕ). Below k u) (one_more (length a)) (type_below p))
   type_below (of_ref p) = type_below p
 
-  pub types_below : {text : List ℕ} {a : List Name} {ts : RawTys} {us : Tys} → TypesOf text a ts us → each_all BelowAt AnyDepth (length a) us
+  pub types_below : {text : List ℕ} {a : List Name} {ts : RawTys} {us : Tys} → TypesOf text a ts us →
+      each_all BelowAt AnyDepth (length a) us
   types_below of_no_types = tt
   types_below (of_more_types p q) = (type_below p, types_below q)
 
 mutual
-  pub term_in_scope : {text : List ℕ} {v a : List Name} {e : RawTm} {d : Tm} → TermOf text v a e d → InScope (plain d) (length a) (length v)
+  pub term_in_scope : {text : List ℕ} {v a : List Name} {e : RawTm} {d : Tm} → TermOf text v a e d →
+      InScope (plain d) (length a) (length v)
   term_in_scope (of_var s i p) = place_below _ _ i p
   term_in_scope (of_num s n) = tt
-  term_in_scope (of_fix {v} {a} {t} {r} {e} {t'} {r'} {e'} s f x p q i) = (type_below p, type_below q, subst (λ (k : ℕ). InScope (plain e') (length a) k) (two_more (length v)) (term_in_scope i))
-  term_in_scope (of_gen {v} {a} {e} {e'} s n p) = subst (λ (k : ℕ). InScope (plain e') k (length v)) (one_more (length a)) (term_in_scope p)
+  term_in_scope (of_fix {v} {a} {t} {r} {e} {t'} {r'} {e'} s f x p q i) = (
+    type_below p,
+    type_below q,
+    subst (λ (k : ℕ). InScope (plain e') (length a) k) (two_more (length v))
+        (term_in_scope i),
+  )
+  term_in_scope (of_gen {v} {a} {e} {e'} s n p) =
+      subst (λ (k : ℕ). InScope (plain e') k (length v)) (one_more (length a)) (term_in_scope p)
   term_in_scope (of_app s p q) = (term_in_scope p, term_in_scope q)
   term_in_scope (of_inst s p q) = (term_in_scope p, type_below q)
   term_in_scope (of_fields s p) = terms_in_scope p
   term_in_scope (of_proj s n p) = term_in_scope p
   term_in_scope (of_arith s op p q) = (term_in_scope p, term_in_scope q)
   term_in_scope (of_if0 s p q r) = (term_in_scope p, term_in_scope q, term_in_scope r)
-  term_in_scope (of_let {v} {a} {d} {e} {d'} {e'} s x p q) = (term_in_scope p, subst (λ (k : ℕ). InScope (plain e') (length a) k) (one_more (length v)) (term_in_scope q))
+  term_in_scope (of_let {v} {a} {d} {e} {d'} {e'} s x p q) =
+      (term_in_scope p, subst (λ (k : ℕ). InScope (plain e') (length a) k) (one_more (length v)) (term_in_scope q))
   term_in_scope (of_pack s p q r) = (type_below p, type_below r, term_in_scope q)
-  term_in_scope (of_open {v} {a} {d} {e} {d'} {e'} s n x p q) =
-      (term_in_scope p, subst (λ (k : ℕ). InScope (plain e') (length a + 1) k) (one_more (length v)) (subst (λ (k : ℕ). InScope (plain e') k (suc (length v))) (one_more (length a)) (term_in_scope q)))
+  term_in_scope (of_open {v} {a} {d} {e} {d'} {e'} s n x p q) = (
+    term_in_scope p,
+    subst (λ (k : ℕ). InScope (plain e') (length a + 1) k) (one_more (length v))
+        (subst (λ (k : ℕ). InScope (plain e') k (suc (length v))) (one_more (length a)) (term_in_scope q)),
+  )
   term_in_scope (of_cell s p) = term_in_scope p
   term_in_scope (of_deref s p) = term_in_scope p
   term_in_scope (of_assign s p q) = (term_in_scope p, term_in_scope q)
 
-  pub terms_in_scope : {text : List ℕ} {v a : List Name} {es : RawTms} {ds : Tms} → TermsOf text v a es ds → AllInScope (plain_all ds) (length a) (length v)
+  pub terms_in_scope : {text : List ℕ} {v a : List Name} {es : RawTms} {ds : Tms} → TermsOf text v a es ds →
+      AllInScope (plain_all ds) (length a) (length v)
   terms_in_scope of_no_terms = tt
   terms_in_scope (of_more_terms p q) = (term_in_scope p, terms_in_scope q)
 
 mutual
-  pub same_nodes : {text : List ℕ} {v a : List Name} {e : RawTm} {d : Tm} → TermOf text v a e d → limits.nodes (plain d) ≡ nodes e
+  pub same_nodes : {text : List ℕ} {v a : List Name} {e : RawTm} {d : Tm} → TermOf text v a e d →
+      limits.nodes (plain d) ≡ nodes e
   same_nodes (of_var s i p) = refl
   same_nodes (of_num s n) = refl
   same_nodes (of_fix s f x p q r) = ap (λ (n : ℕ). 1 + n) (same_nodes r)
@@ -77,6 +94,7 @@ mutual
   same_nodes (of_deref s p) = ap (λ (n : ℕ). 1 + n) (same_nodes p)
   same_nodes (of_assign s p q) = let h = same_nodes p in let g = same_nodes q in omega arith
 
-  pub same_nodes_all : {text : List ℕ} {v a : List Name} {es : RawTms} {ds : Tms} → TermsOf text v a es ds → limits.nodes_all (plain_all ds) ≡ nodes_all es
+  pub same_nodes_all : {text : List ℕ} {v a : List Name} {es : RawTms} {ds : Tms} → TermsOf text v a es ds →
+      limits.nodes_all (plain_all ds) ≡ nodes_all es
   same_nodes_all of_no_terms = refl
   same_nodes_all (of_more_terms p q) = let h = same_nodes p in let g = same_nodes_all q in omega arith

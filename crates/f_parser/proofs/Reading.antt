@@ -23,24 +23,28 @@ use Rattle.f_grammar.specs.declared.raw.RawTerm.{RawTerm}
 use Rattle.f_parser.specs.Scope.{TermOf, Use, uses, IsFirstUnbound, unbound_code}
 use Rattle.f_parser.specs.Resolve.{StopsAt}
 use Rattle.f_parser.specs.declared.resolve.Unresolved.TheVariants.{Value, «Type»}
-use Rattle.f_parser.specs.Text.{SourceWithin, end_of, IsFault, HasTokens, HasShape, FirstFault, unexpected, cut_short, too_deep, too_large, unbound}
+use Rattle.f_parser.specs.Text.{SourceWithin, end_of, IsFault, HasTokens, HasShape, FirstFault, unexpected, cut_short}
+use Rattle.f_parser.specs.Text.{too_deep, too_large, unbound}
 use Rattle.f_parser.specs.Reader.{HasTree}
 use Rattle.f_parser.proofs.Closed.{same_nodes}
 
 -- where the reading of the tokens stops
 module _ (text : List ℕ) (w : List Token) (h : HasTokens text w) (i : ℕ) where
-  pub stops_at_token : (t : Token) → Fails w 0 0 (Nt LE ∷ []) [] (stopped.Unexpected i) → slice_get w i ≡ Some t → FirstFault text code.E03 t.span
+  pub stops_at_token : (t : Token) → Fails w 0 0 (Nt LE ∷ []) [] (stopped.Unexpected i) → slice_get w i ≡ Some t →
+      FirstFault text code.E03 t.span
   stops_at_token t f e =
       let u = whole_unexpected table claims 200 w i t (drop (i + 1) w) f (next_is w i t e) in
       unexpected u.0 t (drop (i + 1) w) h u.1
 
-  pub stops_at_end : Fails w 0 0 (Nt LE ∷ []) [] (stopped.Unexpected i) → slice_get w i ≡ None → FirstFault text code.E04 (end_of text)
+  pub stops_at_end : Fails w 0 0 (Nt LE ∷ []) [] (stopped.Unexpected i) → slice_get w i ≡ None →
+      FirstFault text code.E04 (end_of text)
   stops_at_end f e = cut_short h (whole_cut table claims 200 w i f (no_next w i e))
 
   pub deep_at_end : Fails w 0 0 (Nt LE ∷ []) [] (stopped.TooDeep i) → slice_get w i ≡ None → ⊥
   deep_at_end f e = never_deep table claims 200 w i f (no_next w i e)
 
-  pub stops_at_opener : (t : Token) → Fails w 0 0 (Nt LE ∷ []) [] (stopped.TooDeep i) → slice_get w i ≡ Some t → FirstFault text code.L2 t.span
+  pub stops_at_opener : (t : Token) → Fails w 0 0 (Nt LE ∷ []) [] (stopped.TooDeep i) → slice_get w i ≡ Some t →
+      FirstFault text code.L2 t.span
   stops_at_opener t f e =
       let u = whole_deep table claims 200 w i t (drop (i + 1) w) f (next_is w i t e) in
       too_deep u.0 t (drop (i + 1) w) h u.1
@@ -49,7 +53,8 @@ module _ (text : List ℕ) (w : List Token) (h : HasTokens text w) (i : ℕ) whe
 module _ (text : List ℕ) (w : List Token) (h : HasTokens text w) (f : FoundTerm) (r : ReadsTerm w f) where
   pub goes_on : (t : Token) → slice_get w f.next ≡ Some t → FirstFault text code.E03 t.span
   goes_on t e =
-      let u = whole_more table claims 200 w f.next (OfTerm r.piece ∷ []) t (drop (f.next + 1) w) r.same (next_is w f.next t e) in
+      let u = whole_more table claims 200 w f.next (OfTerm r.piece ∷ []) t (drop (f.next + 1) w) r.same
+      (next_is w f.next t e) in
       unexpected u.0 t (drop (f.next + 1) w) h u.1
 
   has_shape : slice_get w f.next ≡ None → HasShape text r.piece
@@ -61,7 +66,9 @@ module _ (text : List ℕ) (w : List Token) (h : HasTokens text w) (f : FoundTer
 
   -- what is kept of the tree, and what comes of that
   pub whole_kept : slice_get w f.next ≡ None → (result : Result RawTerm FFault) →
-      ((t : RawTm) → Keeps f.kept t → MatchResult result (λ e. (tree_of e ≡ t) × (nodes t ≤ 100000)) (λ x. (x ≡ Refused code.L3 (place_of t)) × (100000 < nodes t))) →
+      ((t : RawTm) → Keeps f.kept t →
+      MatchResult result (λ e. (tree_of e ≡ t) × (nodes t ≤ 100000))
+      (λ x. (x ≡ Refused code.L3 (place_of t)) × (100000 < nodes t))) →
       MatchResult result (λ t. HasTree text (tree_of t)) (λ x. IsFault text x)
   whole_kept e (Ok t) k =
       let x = k r.piece.tree r.keeps in
@@ -87,7 +94,9 @@ module _ (text : List ℕ) (t : RawTm) (h : HasTree text t) where
   }
 
   is_unbound : (u : Use) → IsFirstUnbound text (uses text [] [] t) u → FirstFault text (unbound_code u.of_type) u.at
-  is_unbound u f = unbound h.shape u h.has_shape h.few_nodes (subst (λ (x : RawTm). IsFirstUnbound text (uses text [] [] x) u) h.is f)
+  is_unbound u f =
+      unbound h.shape u h.has_shape h.few_nodes
+      (subst (λ (x : RawTm). IsFirstUnbound text (uses text [] [] x) u) h.is f)
 
   pub value_unbound : (s : Span) → StopsAt text (uses text [] [] t) (Value s) → FirstFault text code.E05 s
   value_unbound s x = rw (x.3) (subst (λ y. FirstFault text (unbound_code y) x.0.at) x.2 (is_unbound x.0 x.1))

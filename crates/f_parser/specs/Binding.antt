@@ -8,7 +8,8 @@ use Rattle.f_terms.specs.Stacked.{arity, stacked}
 use Rattle.f_terms.specs.declared.types.FType.{FType}
 use Rattle.f_terms.specs.declared.stack.FStep.{FStep}
 use Rattle.f_terms.specs.declared.stack.FStep.TheVariants as form
-use Rattle.f_grammar.specs.Raw.{RawTy, RawTm, RVar, RNum, RFix, RGen, RLet, RPack, ROpen, RawTms, NoRawTms, MoreRawTms, nodes}
+use Rattle.f_grammar.specs.Raw.{RawTy, RawTm, RVar, RNum, RFix, RGen, RLet, RPack, ROpen, RawTms, NoRawTms, MoreRawTms}
+use Rattle.f_grammar.specs.Raw.{nodes}
 use Rattle.f_grammar.specs.Read.{type_of}
 use Rattle.f_parser.specs.Parts.{part_tree, part_trees}
 use Rattle.f_parser.specs.Scope.{spelled, TypeOf, TermOf, TermsOf, Use, type_uses, uses, all_uses}

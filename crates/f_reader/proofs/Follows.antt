@@ -1,5 +1,6 @@
 -- What a line owes after its first token.
-use Rattle.std.proofs.Common.{◌≡◌, ◌≢◌, ℕ, ℤ, ◌<◌, List, [], ◌∷◌, length, slice_get, refl, ap, Option, Some, None, true, false}
+use Rattle.std.proofs.Common.{◌≡◌, ◌≢◌, ℕ, ℤ, ◌<◌, List, [], ◌∷◌, length, slice_get, refl, ap, Option, Some, None}
+use Rattle.std.proofs.Common.{true, false}
 use Rattle.std.proofs.lemmas.Option.{slice_get_within}
 use Rattle.idx_core.specs.declared.arith.Op.{Op}
 use Rattle.idx_core.specs.declared.arith.Op.TheVariants.{Add, Sub, Mul}
@@ -9,7 +10,11 @@ use Rattle.f_lexer.specs.declared.kind.Kind.TheVariants as k
 use Rattle.text_core.specs.Table.{Tm, Nt, Do, Mark, then_more}
 use Rattle.text_core.specs.Going.{Lacks, at_the_end, other}
 use Rattle.f_grammar.specs.declared.cursor.Wanted.TheVariants as want
-use Rattle.f_grammar.specs.Machine.{table, LE, LP, LT, MoreParts, MoreFactors, MoreSums, MoreFields, Stack, MakeUnit, MakeInst, MakeArith, MakeNext, fits, part_after, parts_after, factors_after, sums_after, term_owed, fields_after, fields_tail, expr_after, sum_tail, commas_after, branches_after, LHidden, LNames, MakeLet, MakePack, MakeOpen, body_owed, hidden_after, names_after, assign_after, assign_owed}
+use Rattle.f_grammar.specs.Machine.{table, LE, LP, LT, MoreParts, MoreFactors, MoreSums, MoreFields, Stack, MakeUnit}
+use Rattle.f_grammar.specs.Machine.{MakeInst, MakeArith, MakeNext, fits, part_after, parts_after, factors_after}
+use Rattle.f_grammar.specs.Machine.{sums_after, term_owed, fields_after, fields_tail, expr_after, sum_tail}
+use Rattle.f_grammar.specs.Machine.{commas_after, branches_after, LHidden, LNames, MakeLet, MakePack, MakeOpen}
+use Rattle.f_grammar.specs.Machine.{body_owed, hidden_after, names_after, assign_after, assign_owed}
 use Rattle.f_reader.specs.declared.heads.Argument.{Argument}
 use Rattle.f_reader.specs.declared.heads.Argument.TheVariants.{Part, Bracket}
 use Rattle.f_reader.specs.Reads.{argument_of, argument_next, sign_of, sign_next}
@@ -20,10 +25,12 @@ pub record Next (ts : List Token) (i : ℕ) (P : Kind → Type 0) : Type 0 where
   pub is : slice_get ts i ≡ Some token
   pub has : P token.kind
 
-pub argument_is : (ts : List Token) (i : ℕ) (a : Argument) → argument_next (slice_get ts i) ≡ Some a → Next ts i (λ c. argument_of c ≡ Some a)
+pub argument_is : (ts : List Token) (i : ℕ) (a : Argument) → argument_next (slice_get ts i) ≡ Some a →
+    Next ts i (λ c. argument_of c ≡ Some a)
 argument_is ts i a e = by_token (slice_get ts i) refl e
   where
-    by_token : (o : Option Token) → slice_get ts i ≡ o → argument_next o ≡ Some a → Next ts i (λ c. argument_of c ≡ Some a)
+    by_token : (o : Option Token) → slice_get ts i ≡ o → argument_next o ≡ Some a →
+        Next ts i (λ c. argument_of c ≡ Some a)
     by_token None f e = absurd (cc)
     by_token (Some c) f e = record { token = c; is = f; has = e }
 
@@ -66,7 +73,8 @@ argument_lacks ts i e = by_token (slice_get ts i) refl e
     by_token None f e = at_the_end f
     by_token (Some c) f e = other c f (no_argument c.kind e)
 
-pub sign_is : (ts : List Token) (i : ℕ) (op : Op) → sign_next (slice_get ts i) ≡ Some op → Next ts i (λ c. sums_after c ≡ Some (term_owed op))
+pub sign_is : (ts : List Token) (i : ℕ) (op : Op) → sign_next (slice_get ts i) ≡ Some op →
+    Next ts i (λ c. sums_after c ≡ Some (term_owed op))
 sign_is ts i op e = by_token (slice_get ts i) refl e
   where
     by_kind : (c : Kind) → sign_of c ≡ Some op → sums_after c ≡ Some (term_owed op)
@@ -74,7 +82,8 @@ sign_is ts i op e = by_token (slice_get ts i) refl e
     by_kind k.Minus e = let q : Sub ≡ op = cc in ap (λ (o : Op). Some (term_owed o)) q
     by_kind _ e = absurd (cc)
 
-    by_token : (o : Option Token) → slice_get ts i ≡ o → sign_next o ≡ Some op → Next ts i (λ c. sums_after c ≡ Some (term_owed op))
+    by_token : (o : Option Token) → slice_get ts i ≡ o → sign_next o ≡ Some op →
+        Next ts i (λ c. sums_after c ≡ Some (term_owed op))
     by_token None f e = absurd (cc)
     by_token (Some c) f e = record { token = c; is = f; has = by_kind c.kind e }
 
@@ -109,7 +118,8 @@ pub not_more : (c : Kind) → fits want.RightAngle c ≡ false → fields_after 
 not_more k.RightAngle e = absurd (cc)
 not_more _ e = refl
 
-pub after_comma : (c : Kind) → fits want.Comma c ≡ true → commas_after c ≡ Some (Nt LE ∷ (Do MakeNext ∷ (Nt MoreFields ∷ [])))
+pub after_comma : (c : Kind) → fits want.Comma c ≡ true →
+    commas_after c ≡ Some (Nt LE ∷ (Do MakeNext ∷ (Nt MoreFields ∷ [])))
 after_comma k.Comma e = refl
 after_comma _ e = absurd (cc)
 
@@ -120,10 +130,8 @@ not_comma _ e = refl
 pub argument_within : (ts : List Token) (i : ℕ) (a : Argument) → argument_next (slice_get ts i) ≡ Some a → i < length ts
 argument_within ts i a e = let n = argument_is ts i a e in slice_get_within ts i n.token n.is
 
-pub sign_within : (ts : List Token) (i : ℕ) (op : Op) → sign_next (slice_get ts i) ≡ Some op → i < length ts
-sign_within ts i op e = let n = sign_is ts i op e in slice_get_within ts i n.token n.is
-
-pub none_of : (c : Kind) → c ≢ k.Name → ((z : ℤ) → c ≢ k.Plain z) → ((z : ℤ) → c ≢ k.Negative z) → c ≢ k.LeftParen → c ≢ k.LeftAngle → c ≢ k.Hash → c ≢ k.If0 → c ≢ k.Ref → c ≢ k.Bang → part_after c ≡ None
+pub none_of : (c : Kind) → c ≢ k.Name → ((z : ℤ) → c ≢ k.Plain z) → ((z : ℤ) → c ≢ k.Negative z) → c ≢ k.LeftParen →
+    c ≢ k.LeftAngle → c ≢ k.Hash → c ≢ k.If0 → c ≢ k.Ref → c ≢ k.Bang → part_after c ≡ None
 none_of k.Name a b d e f g h i j = absurd (a refl)
 none_of (k.Plain n) a b d e f g h i j = absurd (b n refl)
 none_of (k.Negative n) a b d e f g h i j = absurd (d n refl)
@@ -135,7 +143,8 @@ none_of k.Ref a b d e f g h i j = absurd (i refl)
 none_of k.Bang a b d e f g h i j = absurd (j refl)
 none_of _ a b d e f g h i j = refl
 
-pub as_sum : (c : Kind) → fits want.Fix c ≡ false → fits want.Gen c ≡ false → fits want.Let c ≡ false → fits want.Pack c ≡ false → fits want.Open c ≡ false → expr_after c ≡ then_more (part_after c) sum_tail
+pub as_sum : (c : Kind) → fits want.Fix c ≡ false → fits want.Gen c ≡ false → fits want.Let c ≡ false →
+    fits want.Pack c ≡ false → fits want.Open c ≡ false → expr_after c ≡ then_more (part_after c) sum_tail
 as_sum k.Gen a b d e f = absurd (cc)
 as_sum k.Fix a b d e f = absurd (cc)
 as_sum k.Let a b d e f = absurd (cc)

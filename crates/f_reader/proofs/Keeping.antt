@@ -1,7 +1,7 @@
 -- What one node more changes.
-use Rattle.std.proofs.Common.{◌≡◌, ◌<◌, ◌≤◌, ◌⊎◌, inl, inr, ℕ, ◌+◌, List, [], ◌∷◌, ◌++◌, length, Bool, true, false, refl, sym, ◌∙◌, ap, subst, arith, All}
+use Rattle.std.proofs.Common.{◌≡◌, ◌<◌, ◌≤◌, ◌⊎◌, inl, inr, ℕ, ◌+◌, List, [], ◌∷◌, ◌++◌, length, Bool, true, false}
+use Rattle.std.proofs.Common.{refl, sym, ◌∙◌, ap, subst, arith, All}
 use Rattle.std.proofs.lemmas.List.{length_push}
-use Rattle.std.proofs.lemmas.List.Elements.{All-nil}
 use Rattle.idx_core.specs.declared.span.Span.{Span}
 use Rattle.f_grammar.specs.Raw.{RawTm, Piece, place_of, nodes, nodes_all, raw_tms}
 use Rattle.f_grammar.specs.Machine.{Val}
@@ -21,19 +21,23 @@ module _ {old new : Forest} {shape : RawShape} {s : Span} {p : Part} (h : Puts o
   here : RawNode
   here = record { span = s; shape = shape }
 
-  kept : new.full ≡ false → (old.full ≡ false) × (new.nodes.items ≡ old.nodes.items ++ record { span = s; shape = shape } ∷ [])
+  kept : new.full ≡ false →
+      (old.full ≡ false) × (new.nodes.items ≡ old.nodes.items ++ record { span = s; shape = shape } ∷ [])
   kept e = subst (λ (b : Bool). AddsBy b old new (record { span = s; shape = shape })) e h.adds
 
   more : new.full ≡ true → (old.full ≡ true) ⊎ (100000 ≤ size old)
   more e = subst (λ (b : Bool). AddsBy b old new (record { span = s; shape = shape })) e h.adds
 
   size_more : new.full ≡ false → size new ≡ size old + 1
-  size_more e = ap (λ (ns : List RawNode). length ns) (kept e).1 ∙ length_push old.nodes.items (record { span = s; shape = shape })
+  size_more e = ap (λ (ns : List RawNode). length ns) (kept e).1
+      ∙ length_push old.nodes.items (record { span = s; shape = shape })
 
   old_tree : new.full ≡ false → (k : ℕ) → k < size old → tree_in new k ≡ tree_in old k
-  old_tree e k l = ap (λ (ns : List RawNode). tree_at ns k) (kept e).1 ∙ tree_old old.nodes.items (record { span = s; shape = shape }) k l
+  old_tree e k l = ap (λ (ns : List RawNode). tree_at ns k) (kept e).1
+      ∙ tree_old old.nodes.items (record { span = s; shape = shape }) k l
 
-  pub new_stands : (q : Piece) → place_of q.tree ≡ s → q.start ≡ s.start → q.end ≡ s.end → (old.full ≡ false → shape_tree (tree_in old) s shape ≡ q.tree) → Stands new p q
+  pub new_stands : (q : Piece) → place_of q.tree ≡ s → q.start ≡ s.start → q.end ≡ s.end →
+      (old.full ≡ false → shape_tree (tree_in old) s shape ≡ q.tree) → Stands new p q
   new_stands q is starts ends tree = record {
     node = λ e.
         let k = kept e in
@@ -50,20 +54,25 @@ module _ {old new : Forest} {shape : RawShape} {s : Span} {p : Part} (h : Puts o
 
   pub stands_on : (r : Part) (q : Piece) → Stands old r q → Stands new r q
   stands_on r q x = record {
-    node = λ e. let y = x.node (kept e).0 in let l = size_more e in (omega (arith, y.0, l), old_tree e r.node y.0 ∙ y.1);
+    node =
+        λ e. let y = x.node (kept e).0 in let l = size_more e in (omega (arith, y.0, l), old_tree e r.node y.0 ∙ y.1);
     place = x.place;
     starts = x.starts;
     ends = x.ends;
   }
 
-  all_trees : (ks : List ℕ) → new.full ≡ false → All (λ k. k < size old) ks → All (λ k. tree_in new k ≡ tree_in old k) ks
+  all_trees : (ks : List ℕ) → new.full ≡ false → All (λ k. k < size old) ks →
+      All (λ k. tree_in new k ≡ tree_in old k) ks
   all_trees ks e l i d lt = old_tree e _ (l i d lt)
 
   pub trees_on : (ks : List ℕ) (ts : List RawTm) → AreTrees old ks ts → AreTrees new ks ts
   trees_on ks ts x e =
       let y = x (kept e).0 in
-      let l = size_more e in
-      (λ i d lt. let z = y.0 i d lt in omega (arith, z, l), same_all (tree_in new) (tree_in old) ks (all_trees ks e y.0) ∙ y.1)
+      let l = size_more e in (
+        λ i d lt. let z = y.0 i d lt in
+            omega (arith, z, l),
+        same_all (tree_in new) (tree_in old) ks (all_trees ks e y.0) ∙ y.1,
+      )
 
   pub held_on : (f : Frame) (vs : List Val) → Held old f vs → Held new f vs
   held_on (frame.Paren l) vs x = x
@@ -103,10 +112,6 @@ module _ {old new : Forest} {shape : RawShape} {s : Span} {p : Part} (h : Puts o
       by_case : (old.full ≡ true) ⊎ (100000 ≤ size old) → 100000 < nodes_in us
       by_case (inl f) = let n = c.many f in omega (arith, n, e)
       by_case (inr l) = by_size old.full refl l
-
--- fields
-pub no_trees : (b : Forest) → AreTrees b [] []
-no_trees b e = (All-nil (λ k. k < size b), refl)
 
 pub nodes_more : (us : List RawTm) (t : RawTm) → nodes_all (raw_tms (us ++ t ∷ [])) ≡ nodes_all (raw_tms us) + nodes t
 nodes_more [] t = omega arith

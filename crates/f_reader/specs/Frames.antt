@@ -13,7 +13,8 @@ use Rattle.f_grammar.specs.Raw.{RawTm, Piece}
 use Rattle.f_grammar.specs.Read.{type_of}
 use Rattle.f_grammar.specs.Reads.{Fails}
 use Rattle.f_grammar.specs.Machine.{table, Act, Stack, Val, OfToken, OfTerm, OfTerms, OfType, LE, LP, MoreParts}
-use Rattle.f_grammar.specs.Machine.{MoreFactors, MoreSums, MoreFields, MakeParen, MakeTuple, MakeProj, MakeIf0, MakeFix, MakeGen}
+use Rattle.f_grammar.specs.Machine.{MoreFactors, MoreSums, MoreFields, MakeParen, MakeTuple, MakeProj, MakeIf0}
+use Rattle.f_grammar.specs.Machine.{MakeFix, MakeGen}
 use Rattle.f_grammar.specs.Machine.{MakeCall, MakeArith, MakeFirst, MakeNext, MakeLet, MakePack, MakeOpen, MakeRef}
 use Rattle.f_grammar.specs.Machine.{MakeDeref, MakeAssign, MoreAssign, LT, value_of, marks}
 use Rattle.f_grammar.specs.declared.cursor.Wanted.TheVariants as want

@@ -1,5 +1,6 @@
 -- One node is looked at, and its parts wait.
-use Rattle.std.proofs.Common.{◌≡◌, ℕ, ◌+◌, ◌*◌, ◌<◌, ◌≤◌, ◌↔◌, List, [], ◌∷◌, ◌++◌, map, refl, ap, ◌∙◌, sym, subst, arith, All}
+use Rattle.std.proofs.Common.{◌≡◌, ℕ, ◌+◌, ◌*◌, ◌<◌, ◌≤◌, ◌↔◌, List, [], ◌∷◌, ◌++◌, map, refl, ap, ◌∙◌, sym, subst}
+use Rattle.std.proofs.Common.{arith, All}
 use Rattle.std.proofs.lemmas.List.Elements.{All-nil, All-cons, All-head, All-tail}
 use Rattle.f_terms.specs.Tm.{Tm, Spn, plain, plain_all, tms}
 use Rattle.f_terms.specs.Limits.{nodes, nodes_all}
@@ -7,7 +8,8 @@ use Rattle.f_terms.specs.Scope.{InScope, AllInScope, IsClosed}
 use Rattle.f_terms.specs.Read.{place}
 use Rattle.f_terms.specs.ReadTerm.{count, node_at, term_of}
 use Rattle.f_terms.specs.Shape.{children, kids, shape_tree, node_tree}
-use Rattle.f_terms.specs.Waiting.{IsBound, waits, parts_wait, PartBound, AllBound, HasRoom, AllRoom, waiting_nodes, Holds}
+use Rattle.f_terms.specs.Waiting.{IsBound, waits, parts_wait, PartBound, AllBound, HasRoom, AllRoom, waiting_nodes}
+use Rattle.f_terms.specs.Waiting.{Holds}
 use Rattle.f_terms.specs.declared.node.FTerm.{FTerm}
 use Rattle.f_terms.specs.declared.node.FNode.{FNode}
 use Rattle.f_terms.specs.declared.node.FShape.{FShape}
@@ -64,7 +66,8 @@ module _ (at : ℕ → Tm) where
   form_bound s (Deref e) n m = (λ h. (tt, (h, tt)), λ h. h.1.0)
   form_bound s (Assign a b) n m = (λ h. (tt, (h.0, (h.1, tt))), λ h. (h.1.0, h.1.1.0))
 
-  form_waiting : (s : Spn) (shape : FShape) (n m : ℕ) → 1 + waiting_nodes at (parts_wait shape n m) ≡ nodes (plain (shape_tree at s shape))
+  form_waiting : (s : Spn) (shape : FShape) (n m : ℕ) →
+      1 + waiting_nodes at (parts_wait shape n m) ≡ nodes (plain (shape_tree at s shape))
   form_waiting s (Var i) n m = omega arith
   form_waiting s (Int i) n m = omega arith
   form_waiting s (Fix a r b) n m = omega arith
@@ -83,7 +86,8 @@ module _ (at : ℕ → Tm) where
   form_waiting s (Assign a b) n m = omega arith
 
   -- the parts have room where the form has
-  parts_room : (size : ℕ) (ks : List ℕ) (n m : ℕ) → All (λ k. k < size) ks → n + waiting_nodes at (waits ks n m) ≤ 4294967295 → m + 2 * waiting_nodes at (waits ks n m) ≤ 8589934590 →
+  parts_room : (size : ℕ) (ks : List ℕ) (n m : ℕ) → All (λ k. k < size) ks →
+      n + waiting_nodes at (waits ks n m) ≤ 4294967295 → m + 2 * waiting_nodes at (waits ks n m) ≤ 8589934590 →
       AllRoom size at (waits ks n m)
   parts_room size [] n m low a b = tt
   parts_room size (k ∷ ks) n m low a b = (
@@ -94,7 +98,9 @@ module _ (at : ℕ → Tm) where
   first : (size k j : ℕ) → All (λ i. i < size) (k ∷ j ∷ []) → All (λ i. i < size) (k ∷ [])
   first size k j low = All-cons (λ i. i < size) k [] (All-head (λ i. i < size) k (j ∷ []) low) (All-nil (λ i. i < size))
 
-  form_room : (size : ℕ) (shape : FShape) (n m : ℕ) → All (λ k. k < size) (children shape) → n + 1 + waiting_nodes at (parts_wait shape n m) ≤ 4294967295 → m + 2 + 2 * waiting_nodes at (parts_wait shape n m) ≤ 8589934590 →
+  form_room : (size : ℕ) (shape : FShape) (n m : ℕ) → All (λ k. k < size) (children shape) →
+      n + 1 + waiting_nodes at (parts_wait shape n m) ≤ 4294967295 →
+      m + 2 + 2 * waiting_nodes at (parts_wait shape n m) ≤ 8589934590 →
       AllRoom size at (parts_wait shape n m)
   form_room size (Var i) n m low a b = tt
   form_room size (Int i) n m low a b = tt
@@ -105,23 +111,28 @@ module _ (at : ℕ → Tm) where
   form_room size (Tuple es) n m low a b = parts_room size es.items n m low (omega (arith, a)) (omega (arith, b))
   form_room size (Proj i e) n m low a b = parts_room size (e ∷ []) n m low (omega (arith, a)) (omega (arith, b))
   form_room size (Arith op x y) n m low a b = parts_room size (x ∷ y ∷ []) n m low (omega (arith, a)) (omega (arith, b))
-  form_room size (If0 c x y) n m low a b = parts_room size (c ∷ x ∷ y ∷ []) n m low (omega (arith, a)) (omega (arith, b))
+  form_room size (If0 c x y) n m low a b =
+      parts_room size (c ∷ x ∷ y ∷ []) n m low (omega (arith, a)) (omega (arith, b))
   form_room size (Let x y) n m low a b =
       room_join size (waits (x ∷ []) n m) (waits (y ∷ []) n (m + 1))
       (parts_room size (x ∷ []) n m (first size x y low) (omega (arith, a)) (omega (arith, b)))
-      (parts_room size (y ∷ []) n (m + 1) (All-tail (λ i. i < size) x (y ∷ []) low) (omega (arith, a)) (omega (arith, b)))
+      (parts_room size (y ∷ []) n (m + 1) (All-tail (λ i. i < size) x (y ∷ []) low) (omega (arith, a))
+      (omega (arith, b)))
   form_room size (Pack x e t) n m low a b = parts_room size (e ∷ []) n m low (omega (arith, a)) (omega (arith, b))
   form_room size (Open x y) n m low a b =
       room_join size (waits (x ∷ []) n m) (waits (y ∷ []) (n + 1) (m + 1))
       (parts_room size (x ∷ []) n m (first size x y low) (omega (arith, a)) (omega (arith, b)))
-      (parts_room size (y ∷ []) (n + 1) (m + 1) (All-tail (λ i. i < size) x (y ∷ []) low) (omega (arith, a)) (omega (arith, b)))
+      (parts_room size (y ∷ []) (n + 1) (m + 1) (All-tail (λ i. i < size) x (y ∷ []) low) (omega (arith, a))
+      (omega (arith, b)))
   form_room size (Ref e) n m low a b = parts_room size (e ∷ []) n m low (omega (arith, a)) (omega (arith, b))
   form_room size (Deref e) n m low a b = parts_room size (e ∷ []) n m low (omega (arith, a)) (omega (arith, b))
   form_room size (Assign x y) n m low a b = parts_room size (x ∷ y ∷ []) n m low (omega (arith, a)) (omega (arith, b))
 
-module _ (f : FTerm) (ws : List Waiting) (w : Waiting) (n : FNode) (is : node_at f w.at ≡ node_tree (node_at f) n) (low : All (λ k. k < w.at) (kids n)) where
+module _ (f : FTerm) (ws : List Waiting) (w : Waiting) (n : FNode) (is : node_at f w.at ≡ node_tree (node_at f) n)
+    (low : All (λ k. k < w.at) (kids n)) where
   -- a part that waits is bound where its own names are and its parts that wait then
-  pub part_bound : PartBound (node_at f) w ↔ (IsBound n.shape w.types w.values × AllBound (node_at f) (parts_wait n.shape w.types w.values))
+  pub part_bound : PartBound (node_at f) w ↔
+      (IsBound n.shape w.types w.values × AllBound (node_at f) (parts_wait n.shape w.types w.values))
   part_bound =
       let r = form_bound (node_at f) (place n.span) n.shape w.types w.values in (
         λ h. r.0 (subst (λ t. InScope (plain t) w.types w.values) is h),
@@ -129,7 +140,8 @@ module _ (f : FTerm) (ws : List Waiting) (w : Waiting) (n : FNode) (is : node_at
       )
 
   -- the parts wait in its place
-  pub looked : Holds f (ws ++ w ∷ []) → IsBound n.shape w.types w.values → (vs : List Waiting) → vs ≡ ws ++ parts_wait n.shape w.types w.values →
+  pub looked : Holds f (ws ++ w ∷ []) → IsBound n.shape w.types w.values → (vs : List Waiting) →
+      vs ≡ ws ++ parts_wait n.shape w.types w.values →
       Holds f vs × (waiting_nodes (node_at f) vs < waiting_nodes (node_at f) (ws ++ w ∷ []))
   looked h own vs e =
       let at = node_at f in
@@ -141,11 +153,14 @@ module _ (f : FTerm) (ws : List Waiting) (w : Waiting) (n : FNode) (is : node_at
       let within : All (λ k. k < count f) (kids n) = λ i d lt. let b = low i d lt in omega (arith, b, inside) in (
         (
           (
-            λ k. (let b = bound_both at ws ps (subst (AllBound at) e k) in h.0.0 (bound_join at ws (w ∷ []) b.0 (part_bound.1 (own, b.1), tt))),
-            λ k. subst (AllBound at) (sym e) (let b = bound_both at ws (w ∷ []) (h.0.1 k) in bound_join at ws ps b.0 (part_bound.0 b.1.0).1),
+            λ k. (let b = bound_both at ws ps (subst (AllBound at) e k) in
+                h.0.0 (bound_join at ws (w ∷ []) b.0 (part_bound.1 (own, b.1), tt))),
+            λ k. subst (AllBound at) (sym e) (let b = bound_both at ws (w ∷ []) (h.0.1 k) in
+                bound_join at ws ps b.0 (part_bound.0 b.1.0).1),
           ),
           subst (AllRoom (count f) at) (sym e) (room_join at (count f) ws ps rooms.0
-              (form_room at (count f) n.shape w.types w.values within (omega (arith, most, room.1)) (omega (arith, most, room.2)))),
+              (form_room at (count f) n.shape w.types w.values within (omega (arith, most, room.1))
+              (omega (arith, most, room.2)))),
         ),
         omega (arith, ap (waiting_nodes at) e, waiting_both at ws ps, waiting_both at ws (w ∷ []), most),
       )

@@ -1,8 +1,10 @@
 -- Worked rows on the first fault of typing. The comment above each row is its text.
 use Rattle.std.proofs.Common.{◌≡◌, ℕ, zero, suc, ◌+◌, ◌-◌, ◌≤◌, pos, refl, sym, ◌∙◌, ap, arith, inl, inr, lit<, lit≤}
 use Rattle.idx_core.specs.declared.arith.Op.TheVariants.{Add}
-use Rattle.f_terms.specs.declared.fault.Code.TheVariants.{E07, E08, E09, E10, E11, E12, E13, E14, E16, E17, E18, E21, E22, L4, L5}
-use Rattle.f_terms.specs.Ty.{Ty, TInt, TVar, TArrow, TAll, TTuple, TSome, TRef, Tys, NoTys, MoreTys, shift, put, size, sizes, depth, depths, Below}
+use Rattle.f_terms.specs.declared.fault.Code.TheVariants.{E07, E08, E09, E10, E11, E12, E13, E14, E16, E17, E18, E21}
+use Rattle.f_terms.specs.declared.fault.Code.TheVariants.{E22, L4, L5}
+use Rattle.f_terms.specs.Ty.{Ty, TInt, TVar, TArrow, TAll, TTuple, TSome, TRef, Tys, NoTys, MoreTys, shift, put, size}
+use Rattle.f_terms.specs.Ty.{sizes, depth, depths, Below}
 use Rattle.f_terms.specs.TyLaws.{shift_none, unshift}
 use Rattle.f_terms.specs.Tm.{Spn, Tm, SVar, SNum, SFix, SApp, SGen, SInst, STuple, SProj, SArith, SIf0, SPack}
 use Rattle.f_terms.specs.Tm.{SOpen, SRef, SDeref, SAssign, NoTms, MoreTms}
@@ -23,9 +25,14 @@ not_a_function : Fault (SApp (0, 3) (one (0, 1)) (SNum (2, 3) (pos 2))) 0 NoTys 
 not_a_function = inr (TInt, refl, (refl, refl))
 
 -- (fix f(x:int):int. x) <>
-argument_of_another_type : Fault (SApp (0, 24) (SFix (1, 20) TInt TInt (SVar (19, 20) 0)) (STuple (22, 24) NoTms)) 0 NoTys E08 (22, 24)
+argument_of_another_type : Fault (SApp (0, 24) (SFix (1, 20) TInt TInt (SVar (19, 20) 0)) (STuple (22, 24) NoTms)) 0
+    NoTys E08 (22, 24)
 argument_of_another_type =
-    inr (TArrow TInt TInt, (refl, tt, tt, (lit≤ tt, lit≤ tt), refl), inr (TTuple NoTys, unit_passes (22, 24), inl (λ e. cc, (refl, refl))))
+    inr (
+      TArrow TInt TInt,
+      (refl, tt, tt, (lit≤ tt, lit≤ tt), refl),
+      inr (TTuple NoTys, unit_passes (22, 24), inl (λ e. cc, (refl, refl))),
+    )
 
 -- 1[int]
 not_polymorphic : Fault (SInst (0, 6) (one (0, 1)) TInt) 0 NoTys E09 (0, 1)
@@ -36,11 +43,17 @@ not_a_tuple : Fault (SProj (0, 4) 1 (SNum (3, 4) (pos 2))) 0 NoTys E10 (3, 4)
 not_a_tuple = inr (TInt, refl, (refl, refl))
 
 -- #3 <1,2>
-no_such_field : Fault (SProj (0, 8) 3 (STuple (3, 8) (MoreTms (one (4, 5)) (MoreTms (SNum (6, 7) (pos 2)) NoTms)))) 0 NoTys E11 (0, 8)
+no_such_field : Fault (SProj (0, 8) 3 (STuple (3, 8) (MoreTms (one (4, 5)) (MoreTms (SNum (6, 7) (pos 2)) NoTms)))) 0
+    NoTys E11 (0, 8)
 no_such_field =
     inr (
       TTuple (MoreTys TInt (MoreTys TInt NoTys)),
-      (MoreTys TInt (MoreTys TInt NoTys), refl, (TInt, MoreTys TInt NoTys, refl, refl, (TInt, NoTys, refl, refl, refl)), (lit≤ tt, lit≤ tt)),
+      (
+        MoreTys TInt (MoreTys TInt NoTys),
+        refl,
+        (TInt, MoreTys TInt NoTys, refl, refl, (TInt, NoTys, refl, refl, refl)),
+        (lit≤ tt, lit≤ tt),
+      ),
       (refl, refl),
     )
 
@@ -57,15 +70,31 @@ test_is_no_integer : Fault (SIf0 (0, 13) (STuple (4, 6) NoTms) (one (8, 9)) (one
 test_is_no_integer = inr (TTuple NoTys, unit_passes (4, 6), inl (λ e. cc, (refl, refl)))
 
 -- if0(0, 1, <>)
-branches_of_two_types : Fault (SIf0 (0, 13) (SNum (4, 5) (pos 0)) (one (7, 8)) (STuple (10, 12) NoTms)) 0 NoTys E13 (10, 12)
+branches_of_two_types : Fault (SIf0 (0, 13) (SNum (4, 5) (pos 0)) (one (7, 8)) (STuple (10, 12) NoTms)) 0 NoTys E13
+    (10, 12)
 branches_of_two_types =
-    inr (TInt, refl, inr (refl, inr (TInt, refl, inr (TTuple NoTys, unit_passes (10, 12), inl (λ e. cc, (refl, refl))))))
+    inr (
+      TInt,
+      refl,
+      inr (refl, inr (TInt, refl, inr (TTuple NoTys, unit_passes (10, 12), inl (λ e. cc, (refl, refl))))),
+    )
 
 -- (fix f(x:int):int. <x>) 1: the first fault is in the function
 body_not_as_declared :
-    Fault (SApp (0, 25) (SFix (1, 22) TInt TInt (STuple (19, 22) (MoreTms (SVar (20, 21) 0) NoTms))) (one (24, 25))) 0 NoTys E14 (19, 22)
+    Fault (SApp (0, 25) (SFix (1, 22) TInt TInt (STuple (19, 22) (MoreTms (SVar (20, 21) 0) NoTms))) (one (24, 25))) 0
+    NoTys E14 (19, 22)
 body_not_as_declared =
-    inl (inr (lit≤ tt, inr (lit≤ tt, inr (TTuple (MoreTys TInt NoTys), (MoreTys TInt NoTys, refl, (TInt, NoTys, refl, refl, refl), (lit≤ tt, lit≤ tt)), inl (λ e. cc, (refl, refl))))))
+    inl (inr (
+      lit≤ tt,
+      inr (
+        lit≤ tt,
+        inr (
+          TTuple (MoreTys TInt NoTys),
+          (MoreTys TInt NoTys, refl, (TInt, NoTys, refl, refl, refl), (lit≤ tt, lit≤ tt)),
+          inl (λ e. cc, (refl, refl)),
+        ),
+      ),
+    ))
 
 -- as many times `<` as k, 1, and as many times `>`, where the 1 stands at 200
 nested : ℕ → Tm
@@ -93,8 +122,12 @@ nested_within k le = (omega (arith, nested_depth k), omega (arith, nested_size k
 nested_passes : (n k : ℕ) → k ≤ 199 → Passes (nested k) n NoTys (nested_type k)
 unfolding nested nested_type
 nested_passes n zero le = refl
-nested_passes n (suc k) le =
-    (MoreTys (nested_type k) NoTys, refl, (nested_type k, NoTys, refl, nested_passes n k (omega arith), refl), nested_within (suc k) le)
+nested_passes n (suc k) le = (
+  MoreTys (nested_type k) NoTys,
+  refl,
+  (nested_type k, NoTys, refl, nested_passes n k (omega arith), refl),
+  nested_within (suc k) le,
+)
 
 too_deep : (k : ℕ) → 200 ≤ k → depth (nested_type k) ≤ 200 → ⊥
 too_deep k le h = omega (arith, nested_depth k)
@@ -103,7 +136,11 @@ too_deep k le h = omega (arith, nested_depth k)
 tuple_too_deep : Fault (nested 200) 0 NoTys L4 (0, 401)
 unfolding nested nested_type
 tuple_too_deep =
-    inr (MoreTys (nested_type 199) NoTys, (nested_type 199, NoTys, refl, nested_passes 0 199 (omega arith), refl), inl (too_deep 200 (omega arith), (refl, refl)))
+    inr (
+      MoreTys (nested_type 199) NoTys,
+      (nested_type 199, NoTys, refl, nested_passes 0 199 (omega arith), refl),
+      inl (too_deep 200 (omega arith), (refl, refl)),
+    )
 
 -- fix f(x:T):int. 1, with a T of depth 200
 function_too_deep : (s : Spn) (e : Tm) → Fault (SFix s (nested_type 199) TInt e) 0 NoTys L4 s
@@ -111,11 +148,17 @@ function_too_deep s e = inl (λ h. omega (arith, nested_depth 199, h), (refl, re
 
 -- gen a. and the 199 of each
 abstraction_too_deep : (s : Spn) → Fault (SGen s (nested 199)) 0 NoTys L4 s
-abstraction_too_deep s = inr (nested_type 199, nested_passes 1 199 (omega arith), inl (λ h. omega (arith, nested_depth 199, h), (refl, refl)))
+abstraction_too_deep s =
+    inr (
+      nested_type 199,
+      nested_passes 1 199 (omega arith),
+      inl (λ h. omega (arith, nested_depth 199, h), (refl, refl)),
+    )
 
 -- (gen a. 1)[T], with a T of depth 201
 put_type_too_deep : (s r : Spn) → Fault (SInst s (SGen r (one r)) (nested_type 200)) 0 NoTys L4 s
-put_type_too_deep s r = inr (TAll TInt, (TInt, refl, refl, (lit≤ tt, lit≤ tt)), inl (too_deep 200 (omega arith), (refl, refl)))
+put_type_too_deep s r =
+    inr (TAll TInt, (TInt, refl, refl, (lit≤ tt, lit≤ tt)), inl (too_deep 200 (omega arith), (refl, refl)))
 
 -- gen a. fix f(x:a):a. x
 abbrev identity : Spn → Tm
@@ -125,7 +168,8 @@ abbrev identity_type : Ty
 identity_type = TAll (TArrow (TVar 0) (TVar 0))
 
 identity_passes : (r : Spn) → Passes (identity r) 0 NoTys identity_type
-identity_passes r = (TArrow (TVar 0) (TVar 0), refl, (refl, lit< tt, lit< tt, (lit≤ tt, lit≤ tt), refl), (lit≤ tt, lit≤ tt))
+identity_passes r =
+    (TArrow (TVar 0) (TVar 0), refl, (refl, lit< tt, lit< tt, (lit≤ tt, lit≤ tt), refl), (lit≤ tt, lit≤ tt))
 
 at_type : (t : Ty) → put 0 t (TArrow (TVar 0) (TVar 0)) ≡ TArrow t t
 at_type t = ap (λ u. TArrow u u) (shift_none t)
@@ -134,7 +178,17 @@ at_type t = ap (λ u. TArrow u u) (shift_none t)
 result_too_deep : (s r : Spn) → Fault (SInst s (identity r) (nested_type 199)) 0 NoTys L4 s
 result_too_deep s r =
     let within = nested_within 199 (omega arith) in
-    inr (identity_type, identity_passes r, inr (within.0, inr (within.1, inl (λ h. omega (arith, ap depth (at_type (nested_type 199)), nested_depth 199, h), (refl, refl)))))
+    inr (
+      identity_type,
+      identity_passes r,
+      inr (
+        within.0,
+        inr (
+          within.1,
+          inl (λ h. omega (arith, ap depth (at_type (nested_type 199)), nested_depth 199, h), (refl, refl)),
+        ),
+      ),
+    )
 
 -- as many times int as k
 ints : ℕ → Tys
@@ -177,12 +231,20 @@ function_too_large s = inr (omega (arith, ints_depth 9998), inl (λ h. omega (ar
 -- gen a. and the function with 9997
 abstraction_too_large : (s r : Spn) → Fault (SGen s (wide 9997 r)) 0 NoTys L5 s
 abstraction_too_large s r =
-    inr (wide_type 9997, wide_passes 1 9997 r (omega arith), inr (omega (arith, ints_depth 9997), inl (λ h. omega (arith, ints_size 9997, h), (refl, refl))))
+    inr (
+      wide_type 9997,
+      wide_passes 1 9997 r (omega arith),
+      inr (omega (arith, ints_depth 9997), inl (λ h. omega (arith, ints_size 9997, h), (refl, refl))),
+    )
 
 -- (gen a. 1)[<int,..,int>] with 10000
 put_type_too_large : (s r : Spn) → Fault (SInst s (SGen r (one r)) (TTuple (ints 10000))) 0 NoTys L5 s
 put_type_too_large s r =
-    inr (TAll TInt, (TInt, refl, refl, (lit≤ tt, lit≤ tt)), inr (omega (arith, ints_depth 10000), inl (λ h. omega (arith, ints_size 10000, h), (refl, refl))))
+    inr (
+      TAll TInt,
+      (TInt, refl, refl, (lit≤ tt, lit≤ tt)),
+      inr (omega (arith, ints_depth 10000), inl (λ h. omega (arith, ints_size 10000, h), (refl, refl))),
+    )
 
 -- (gen a. fix f(x:a):a. x)[<int,..,int>] with 4999
 result_too_large : (s r : Spn) → Fault (SInst s (identity r) (TTuple (ints 4999))) 0 NoTys L5 s
@@ -195,7 +257,10 @@ result_too_large s r =
         omega (arith, ints_depth 4999),
         inr (
           omega (arith, ints_size 4999),
-          inr (omega (arith, ap depth (at_type (TTuple (ints 4999))), ints_depth 4999), inl (λ h. omega (arith, ap size (at_type (TTuple (ints 4999))), ints_size 4999, h), (refl, refl))),
+          inr (
+            omega (arith, ap depth (at_type (TTuple (ints 4999))), ints_depth 4999),
+            inl (λ h. omega (arith, ap size (at_type (TTuple (ints 4999))), ints_size 4999, h), (refl, refl)),
+          ),
         ),
       ),
     )
@@ -217,7 +282,13 @@ shape_is_no_existential = (refl, refl)
 -- pack[int, <>] as some a. a
 pack_does_not_fit : Fault (SPack (0, 26) TInt (STuple (10, 12) NoTms) (TSome (TVar 0))) 0 NoTys E17 (10, 12)
 pack_does_not_fit =
-    inr (lit≤ tt, inr (lit≤ tt, inr (lit≤ tt, inr (lit≤ tt, inr (TTuple NoTys, unit_passes (10, 12), inl (λ e. cc, (refl, refl)))))))
+    inr (
+      lit≤ tt,
+      inr (
+        lit≤ tt,
+        inr (lit≤ tt, inr (lit≤ tt, inr (TTuple NoTys, unit_passes (10, 12), inl (λ e. cc, (refl, refl))))),
+      ),
+    )
 
 -- open [a,x] = 1 in 2
 opened_is_no_existential : Fault (SOpen (0, 19) (one (13, 14)) (SNum (18, 19) (pos 2))) 0 NoTys E16 (13, 14)
@@ -229,7 +300,9 @@ hidden_is_inside t e =
     let same : TInt ≡ t = ap (λ (u : Ty). put 0 TInt u) e ∙ unshift t in
     let h : TVar 0 ≡ TInt = e ∙ ap (λ (u : Ty). shift 1 0 u) (sym same) in cc
 
-hidden_type_escapes : Fault (SOpen (0, 42) (SPack (13, 37) TInt (SNum (22, 23) (pos 3)) (TSome (TVar 0))) (SVar (41, 42) 0)) 0 NoTys E18 (41, 42)
+hidden_type_escapes :
+    Fault (SOpen (0, 42) (SPack (13, 37) TInt (SNum (22, 23) (pos 3)) (TSome (TVar 0))) (SVar (41, 42) 0)) 0 NoTys E18
+    (41, 42)
 hidden_type_escapes =
     inr (
       TSome (TVar 0),
@@ -246,6 +319,11 @@ assigned_is_no_reference : Fault (SAssign (0, 6) (one (0, 1)) (SNum (5, 6) (pos 
 assigned_is_no_reference = inr (TInt, refl, (refl, refl))
 
 -- (ref 1) := <>
-assigned_of_another_type : Fault (SAssign (0, 13) (SRef (1, 6) (one (5, 6))) (STuple (11, 13) NoTms)) 0 NoTys E22 (11, 13)
+assigned_of_another_type : Fault (SAssign (0, 13) (SRef (1, 6) (one (5, 6))) (STuple (11, 13) NoTms)) 0 NoTys E22
+    (11, 13)
 assigned_of_another_type =
-    inr (TRef TInt, (TInt, refl, refl, (lit≤ tt, lit≤ tt)), inr (TTuple NoTys, unit_passes (11, 13), inl (λ e. cc, (refl, refl))))
+    inr (
+      TRef TInt,
+      (TInt, refl, refl, (lit≤ tt, lit≤ tt)),
+      inr (TTuple NoTys, unit_passes (11, 13), inl (λ e. cc, (refl, refl))),
+    )

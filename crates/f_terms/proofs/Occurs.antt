@@ -1,12 +1,14 @@
 -- How often a node occurs in another, and what a change of a table of types leaves as it was.
-use Rattle.std.proofs.Common.{◌≡◌, ◌≢◌, ◌≤◌, ◌<◌, ℕ, zero, suc, ◌+◌, ◌-◌, List, [], ◌∷◌, map, length, get_or, slice_set, refl, ap, ap₂, ◌∙◌, sym, arith, All}
+use Rattle.std.proofs.Common.{◌≡◌, ◌≢◌, ◌≤◌, ◌<◌, ℕ, zero, suc, ◌+◌, ◌-◌, List, [], ◌∷◌, map, length, get_or}
+use Rattle.std.proofs.Common.{slice_set, refl, ap, ap₂, ◌∙◌, sym, arith, All}
 use Rattle.std.proofs.lemmas.List.{get_or-set_other, length-set}
 use Rattle.std.proofs.lemmas.List.Elements.{All-nil, All-cons, All-head, All-tail}
 use Rattle.arena.specs.Roots.{total}
 use Rattle.arena.proofs.Once as once
 use Rattle.arena.proofs.Roots.{if_same}
 use Rattle.f_terms.specs.Limits.{nodes}
-use Rattle.f_terms.specs.Tm.{Tm, Spn, plain, plain_all, tms, MFix, MApp, MGen, MInst, MTuple, MProj, MArith, MIf0, MLet, MPack, MOpen, MRef, MDeref, MAssign, MoreTerms}
+use Rattle.f_terms.specs.Tm.{Tm, Spn, plain, plain_all, tms, MFix, MApp, MGen, MInst, MTuple, MProj, MArith, MIf0}
+use Rattle.f_terms.specs.Tm.{MLet, MPack, MOpen, MRef, MDeref, MAssign, MoreTerms}
 use Rattle.f_terms.specs.Noted.{Noted, bare, bare_all, noteds}
 use Rattle.f_terms.specs.Ty.{Ty}
 use Rattle.f_terms.specs.Read.{tree, place}
@@ -48,12 +50,14 @@ same_get d (x ∷ xs) (suc i) = same_get d xs i
 abbrev pub at : FTerm → ℕ → FNode
 at f i = get_or f.nodes.items i no_node
 
-pub node_of : (f : FTerm) (i : ℕ) → i < count f → node_at f i ≡ shape_tree (node_at f) (place (at f i).span) (shape_at f i)
+pub node_of : (f : FTerm) (i : ℕ) → i < count f →
+    node_at f i ≡ shape_tree (node_at f) (place (at f i).span) (shape_at f i)
 node_of f i lt = node_is f i (at f i) lt (same_get no_node f.nodes.items i)
 
 total_eq : (f g : ℕ → ℕ) (ks : List ℕ) → All (λ k. f k ≡ g k) ks → total f ks ≡ total g ks
 total_eq f g [] h = refl
-total_eq f g (k ∷ ks) h = omega (arith, All-head (λ k. f k ≡ g k) k ks h, total_eq f g ks (All-tail (λ k. f k ≡ g k) k ks h))
+total_eq f g (k ∷ ks) h =
+    omega (arith, All-head (λ k. f k ≡ g k) k ks h, total_eq f g ks (All-tail (λ k. f k ≡ g k) k ks h))
 
 abbrev full : FTerm → ℕ → ℕ
 full f = once.weight kids (λ j. 1) f.nodes.items
@@ -63,7 +67,9 @@ full_is f zero i lb lt = absurd (omega (arith, lb))
 full_is f (suc b) i lb lt =
     let ks = children (shape_at f i) in
     let same : total (full f) ks ≡ total (λ k. nodes (plain (node_at f k))) ks =
-    total_eq (full f) (λ k. nodes (plain (node_at f k))) ks (λ j d l. let k = low f i lt j d l in full_is f b (get_or ks j d) (omega (arith, lb, k)) (omega (arith, lt, k))) in
+    total_eq (full f) (λ k. nodes (plain (node_at f k))) ks
+    (λ j d l. let k = low f i lt j d l in
+    full_is f b (get_or ks j d) (omega (arith, lb, k)) (omega (arith, lt, k))) in
     omega (
       arith,
       once.weight_is kids (λ j. 1) f.nodes.items i no_node lt f.ordered,
@@ -76,19 +82,23 @@ full_is f (suc b) i lb lt =
 pub times_root : (f : FTerm) (m : ℕ) → times f m (count f - 1) ≤ 1
 times_root f m =
     let some = f.some in
-    once.once kids f.nodes.items (count f - 1) m f.ordered f.one (full_is f (count f) (count f - 1) (omega (arith, some)) (omega (arith, some)) ∙ f.counted)
+    once.once kids f.nodes.items (count f - 1) m f.ordered f.one
+    (full_is f (count f) (count f - 1) (omega (arith, some)) (omega (arith, some)) ∙ f.counted)
 
 -- the tree of a node with its type beside it
-pub noted_here : (f : FTerm) (ts : List FType) (i : ℕ) → i < count f → count f ≤ length ts → noted_at f ts i ≡ noted_shape (noted_at f ts) (tree (get_or ts i T.Int)) (shape_at f i)
+pub noted_here : (f : FTerm) (ts : List FType) (i : ℕ) → i < count f → count f ≤ length ts →
+    noted_at f ts i ≡ noted_shape (noted_at f ts) (tree (get_or ts i T.Int)) (shape_at f i)
 noted_here f ts i lt long =
-    noted_is f ts i (at f i) (get_or ts i T.Int) lt (omega (arith, lt, long)) (same_get no_node f.nodes.items i) (same_get T.Int ts i)
+    noted_is f ts i (at f i) (get_or ts i T.Int) lt (omega (arith, lt, long)) (same_get no_node f.nodes.items i)
+    (same_get T.Int ts i)
 
 total_none : (f : ℕ → ℕ) (ks : List ℕ) → total f ks ≡ 0 → All (λ k. f k ≡ 0) ks
 total_none f [] h = All-nil (λ k. f k ≡ 0)
 total_none f (k ∷ ks) h = All-cons (λ k. f k ≡ 0) k ks (omega (arith, h)) (total_none f ks (omega (arith, h)))
 
 -- a type that is put down for a node which does not occur
-pub noted_same : (f : FTerm) (ts : List FType) (m : ℕ) (x : FType) (b i : ℕ) → i < b → i < count f → count f ≤ length ts → times f m i ≡ 0 →
+pub noted_same : (f : FTerm) (ts : List FType) (m : ℕ) (x : FType) (b i : ℕ) → i < b → i < count f →
+    count f ≤ length ts → times f m i ≡ 0 →
     noted_at f (slice_set ts m x) i ≡ noted_at f ts i
 noted_same f ts m x zero i lb lt long none = absurd (omega (arith, lb))
 noted_same f ts m x (suc b) i lb lt long none =
@@ -99,15 +109,20 @@ noted_same f ts m x (suc b) i lb lt long none =
     noted_here f us i lt (omega (arith, long, length-set ts m x))
     ∙ ap (λ (u : FType). noted_shape (noted_at f us) (tree u) (shape_at f i)) (get_or-set_other ts m i x T.Int apart)
     ∙ shape_local (noted_at f us) (noted_at f ts) (tree (get_or ts i T.Int)) (shape_at f i)
-    (λ j d l. let k = low f i lt j d l in noted_same f ts m x b (get_or ks j d) (omega (arith, lb, k)) (omega (arith, lt, k)) long (parts j d l))
+    (λ j d l. let k = low f i lt j d l in
+    noted_same f ts m x b (get_or ks j d) (omega (arith, lb, k)) (omega (arith, lt, k)) long (parts j d l))
     ∙ sym (noted_here f ts i lt long)
 
 -- with the types left aside
-same_bares : (g : ℕ → Noted) (h : ℕ → Tm) (ks : List ℕ) → All (λ k. bare (g k) ≡ plain (h k)) ks → bare_all (noteds (map g ks)) ≡ plain_all (tms (map h ks))
+same_bares : (g : ℕ → Noted) (h : ℕ → Tm) (ks : List ℕ) → All (λ k. bare (g k) ≡ plain (h k)) ks →
+    bare_all (noteds (map g ks)) ≡ plain_all (tms (map h ks))
 same_bares g h [] e = refl
-same_bares g h (k ∷ ks) e = ap₂ MoreTerms (All-head (λ k. bare (g k) ≡ plain (h k)) k ks e) (same_bares g h ks (All-tail (λ k. bare (g k) ≡ plain (h k)) k ks e))
+same_bares g h (k ∷ ks) e =
+    ap₂ MoreTerms (All-head (λ k. bare (g k) ≡ plain (h k)) k ks e)
+    (same_bares g h ks (All-tail (λ k. bare (g k) ≡ plain (h k)) k ks e))
 
-shape_bare : (g : ℕ → Noted) (h : ℕ → Tm) (t : Ty) (s : Spn) (n : FShape) → All (λ k. bare (g k) ≡ plain (h k)) (children n) → bare (noted_shape g t n) ≡ plain (shape_tree h s n)
+shape_bare : (g : ℕ → Noted) (h : ℕ → Tm) (t : Ty) (s : Spn) (n : FShape) →
+    All (λ k. bare (g k) ≡ plain (h k)) (children n) → bare (noted_shape g t n) ≡ plain (shape_tree h s n)
 shape_bare g h t s (Var i) e = refl
 shape_bare g h t s (Int n) e = refl
 shape_bare g h t s (Fix a r b) e = ap (MFix (tree a) (tree r)) (e 0 0 (omega arith))
@@ -118,7 +133,8 @@ shape_bare g h t s (Tuple es) e = ap MTuple (same_bares g h es.items e)
 shape_bare g h t s (Proj i a) e = ap (MProj i) (e 0 0 (omega arith))
 shape_bare g h t s (Arith op a b) e = ap₂ (MArith op) (e 0 0 (omega arith)) (e 1 0 (omega arith))
 shape_bare g h t s (If0 c a b) e =
-    ap (λ x. MIf0 x (bare (g a)) (bare (g b))) (e 0 0 (omega arith)) ∙ ap₂ (MIf0 (plain (h c))) (e 1 0 (omega arith)) (e 2 0 (omega arith))
+    ap (λ x. MIf0 x (bare (g a)) (bare (g b))) (e 0 0 (omega arith))
+    ∙ ap₂ (MIf0 (plain (h c))) (e 1 0 (omega arith)) (e 2 0 (omega arith))
 shape_bare g h t s (Let a b) e = ap₂ MLet (e 0 0 (omega arith)) (e 1 0 (omega arith))
 shape_bare g h t s (Pack x a u) e = ap (λ y. MPack (tree x) y (tree u)) (e 0 0 (omega arith))
 shape_bare g h t s (Open a b) e = ap₂ MOpen (e 0 0 (omega arith)) (e 1 0 (omega arith))
@@ -126,7 +142,8 @@ shape_bare g h t s (Ref a) e = ap MRef (e 0 0 (omega arith))
 shape_bare g h t s (Deref a) e = ap MDeref (e 0 0 (omega arith))
 shape_bare g h t s (Assign a b) e = ap₂ MAssign (e 0 0 (omega arith)) (e 1 0 (omega arith))
 
-pub bare_at : (f : FTerm) (ts : List FType) (b i : ℕ) → i < b → i < count f → bare (noted_at f ts i) ≡ plain (node_at f i)
+pub bare_at : (f : FTerm) (ts : List FType) (b i : ℕ) → i < b → i < count f →
+    bare (noted_at f ts i) ≡ plain (node_at f i)
 bare_at f ts zero i lb lt = absurd (omega (arith, lb))
 bare_at f ts (suc b) i lb lt =
     let ks = children (shape_at f i) in

@@ -3,7 +3,8 @@ use Rattle.std.proofs.Common.{◌≡◌, sym, ◌∙◌, subst, inl, inr, Option
 use Rattle.f_terms.specs.Ty.{Ty, TInt, TVar, TArrow, TAll, TTuple, TSome, TRef, Tys}
 use Rattle.f_terms.specs.Tm.{Spn}
 use Rattle.f_terms.specs.Limits.{Within}
-use Rattle.f_terms.specs.Faults.{Refusal, nothing, refuse, check, part, limits, if_arrow, if_all, if_tuple, if_some, if_ref, if_none}
+use Rattle.f_terms.specs.Faults.{Refusal, nothing, refuse, check, part, limits, if_arrow, if_all, if_tuple, if_some}
+use Rattle.f_terms.specs.Faults.{if_ref, if_none}
 use Rattle.f_terms.specs.declared.fault.Code.{Code}
 
 -- a refusal that doesn't come
@@ -20,7 +21,8 @@ clear_check {P = P} {f = f} {r = r} x k = record { clear = go }
     go c p (inl h) = h.0 x
     go c p (inr h) = k.clear c p h.1
 
-pub clear_part : {A : Type 0} {f : Refusal} {Ok : A → Type 0} {r : A → Refusal} (t : A) → Ok t → Clear f → ((u : A) → Ok u → t ≡ u) → Clear (r t) → Clear (part f Ok r)
+pub clear_part : {A : Type 0} {f : Refusal} {Ok : A → Type 0} {r : A → Refusal} (t : A) → Ok t → Clear f →
+    ((u : A) → Ok u → t ≡ u) → Clear (r t) → Clear (part f Ok r)
 clear_part {A = A} {f = f} {Ok = Ok} {r = r} t ok x one k = record { clear = go }
   where
     go : (c : Code) (p : Spn) → part f Ok r c p → ⊥
@@ -52,7 +54,8 @@ one_check {P = P} {f = f} {r = r} x y = record { one = go }
     go c d p q (inr h) (inl k) = absurd (k.0 h.0)
     go c d p q (inr h) (inr k) = y.one c d p q h.1 k.1
 
-pub one_part : {A : Type 0} {f : Refusal} {Ok : A → Type 0} {r : A → Refusal} → One f → ((t : A) → Ok t → Clear f) → ((t u : A) → Ok t → Ok u → t ≡ u) → ((t : A) → One (r t)) → One (part f Ok r)
+pub one_part : {A : Type 0} {f : Refusal} {Ok : A → Type 0} {r : A → Refusal} → One f → ((t : A) → Ok t → Clear f) →
+    ((t u : A) → Ok t → Ok u → t ≡ u) → ((t : A) → One (r t)) → One (part f Ok r)
 one_part {A = A} {f = f} {Ok = Ok} {r = r} x z same y = record { one = go }
   where
     go : (c d : Code) (p q : Spn) → part f Ok r c p → part f Ok r d q → (c ≡ d) × (p ≡ q)
@@ -64,7 +67,8 @@ one_part {A = A} {f = f} {Ok = Ok} {r = r} x z same y = record { one = go }
 pub one_limits : (t : Ty) (s : Spn) {r : Refusal} → One r → One (limits t s r)
 one_limits t s k = one_check one_refuse (one_check one_refuse k)
 
-pub one_arrow : {other : Refusal} {go : Ty → Ty → Refusal} (t : Ty) → One other → ((a b : Ty) → One (go a b)) → One (if_arrow t other go)
+pub one_arrow : {other : Refusal} {go : Ty → Ty → Refusal} (t : Ty) → One other → ((a b : Ty) → One (go a b)) →
+    One (if_arrow t other go)
 one_arrow (TArrow a b) x y = y a b
 one_arrow TInt x y = x
 one_arrow (TVar i) x y = x
@@ -73,7 +77,8 @@ one_arrow (TTuple ts) x y = x
 one_arrow (TSome t) x y = x
 one_arrow (TRef t) x y = x
 
-pub one_all : {other : Refusal} {go : Ty → Refusal} (t : Ty) → One other → ((b : Ty) → One (go b)) → One (if_all t other go)
+pub one_all : {other : Refusal} {go : Ty → Refusal} (t : Ty) → One other → ((b : Ty) → One (go b)) →
+    One (if_all t other go)
 one_all (TArrow a b) x y = x
 one_all TInt x y = x
 one_all (TVar i) x y = x
@@ -82,7 +87,8 @@ one_all (TTuple ts) x y = x
 one_all (TSome t) x y = x
 one_all (TRef t) x y = x
 
-pub one_tuple : {other : Refusal} {go : Tys → Refusal} (t : Ty) → One other → ((ts : Tys) → One (go ts)) → One (if_tuple t other go)
+pub one_tuple : {other : Refusal} {go : Tys → Refusal} (t : Ty) → One other → ((ts : Tys) → One (go ts)) →
+    One (if_tuple t other go)
 one_tuple (TArrow a b) x y = x
 one_tuple TInt x y = x
 one_tuple (TVar i) x y = x
@@ -91,7 +97,8 @@ one_tuple (TTuple ts) x y = y ts
 one_tuple (TSome t) x y = x
 one_tuple (TRef t) x y = x
 
-pub one_some : {other : Refusal} {go : Ty → Refusal} (t : Ty) → One other → ((b : Ty) → One (go b)) → One (if_some t other go)
+pub one_some : {other : Refusal} {go : Ty → Refusal} (t : Ty) → One other → ((b : Ty) → One (go b)) →
+    One (if_some t other go)
 one_some (TArrow a b) x y = x
 one_some TInt x y = x
 one_some (TVar i) x y = x
@@ -100,7 +107,8 @@ one_some (TTuple ts) x y = x
 one_some (TSome t) x y = y t
 one_some (TRef t) x y = x
 
-pub one_ref : {other : Refusal} {go : Ty → Refusal} (t : Ty) → One other → ((b : Ty) → One (go b)) → One (if_ref t other go)
+pub one_ref : {other : Refusal} {go : Ty → Refusal} (t : Ty) → One other → ((b : Ty) → One (go b)) →
+    One (if_ref t other go)
 one_ref (TArrow a b) x y = x
 one_ref TInt x y = x
 one_ref (TVar i) x y = x

@@ -12,9 +12,12 @@ use Rattle.f_terms.specs.declared.node.FShape.TheVariants.{Pack, Open, Ref, Dere
 
 same_all : (f g : ℕ → Tm) (ks : List ℕ) → All (λ k. f k ≡ g k) ks → map f ks ≡ map g ks
 same_all f g [] h = refl
-same_all f g (k ∷ ks) h = ap₂ (λ (t : Tm) (ts : List Tm). t ∷ ts) (All-head (λ k. f k ≡ g k) k ks h) (same_all f g ks (All-tail (λ k. f k ≡ g k) k ks h))
+same_all f g (k ∷ ks) h =
+    ap₂ (λ (t : Tm) (ts : List Tm). t ∷ ts) (All-head (λ k. f k ≡ g k) k ks h)
+    (same_all f g ks (All-tail (λ k. f k ≡ g k) k ks h))
 
-pub shape_local : (f g : ℕ → Tm) (s : Spn) (n : FShape) → All (λ k. f k ≡ g k) (children n) → shape_tree f s n ≡ shape_tree g s n
+pub shape_local : (f g : ℕ → Tm) (s : Spn) (n : FShape) → All (λ k. f k ≡ g k) (children n) →
+    shape_tree f s n ≡ shape_tree g s n
 shape_local f g s (Var i) h = refl
 shape_local f g s (Int n) h = refl
 shape_local f g s (Fix a r b) h = ap (SFix s (tree a) (tree r)) (h 0 0 (omega arith))
@@ -25,7 +28,8 @@ shape_local f g s (Tuple es) h = ap (λ (ts : List Tm). STuple s (tms ts)) (same
 shape_local f g s (Proj i e) h = ap (SProj s i) (h 0 0 (omega arith))
 shape_local f g s (Arith op a b) h = ap₂ (SArith s op) (h 0 0 (omega arith)) (h 1 0 (omega arith))
 shape_local f g s (If0 c a b) h =
-    ap (λ u. SIf0 s u (f a) (f b)) (h 0 0 (omega arith)) ∙ ap₂ (SIf0 s (g c)) (h 1 0 (omega arith)) (h 2 0 (omega arith))
+    ap (λ u. SIf0 s u (f a) (f b)) (h 0 0 (omega arith))
+    ∙ ap₂ (SIf0 s (g c)) (h 1 0 (omega arith)) (h 2 0 (omega arith))
 shape_local f g s (Let a b) h = ap₂ (SLet s) (h 0 0 (omega arith)) (h 1 0 (omega arith))
 shape_local f g s (Pack x e t) h = ap (λ u. SPack s (tree x) u (tree t)) (h 0 0 (omega arith))
 shape_local f g s (Open a b) h = ap₂ (SOpen s) (h 0 0 (omega arith)) (h 1 0 (omega arith))

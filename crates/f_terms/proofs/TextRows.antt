@@ -12,7 +12,8 @@ unfolding digits
 gen_text = refl
 
 -- the type of `gen b. (gen a. gen b. fix f(x:a):b -> a. fix g(y:b):a. x)[b]`
-two_names : type_text (TAll (TAll (TArrow (TVar 1) (TArrow (TVar 0) (TVar 1))))) ≡ codes "all t0. all t1. t0 -> t1 -> t0"
+two_names : type_text (TAll (TAll (TArrow (TVar 1) (TArrow (TVar 0) (TVar 1)))))
+    ≡ codes "all t0. all t1. t0 -> t1 -> t0"
 unfolding digits
 two_names = refl
 
@@ -28,7 +29,9 @@ tuple_on_the_left : type_text (TArrow (TTuple NoTys) (TTuple NoTys)) ≡ codes "
 tuple_on_the_left = refl
 
 -- fields are in no parentheses
-fields : type_text (TTuple (MoreTys (TAll (TVar 0)) (MoreTys (TArrow TInt TInt) (MoreTys (TTuple (MoreTys TInt NoTys)) NoTys)))) ≡ codes "<all t0. t0, int -> int, <int>>"
+fields : type_text
+    (TTuple (MoreTys (TAll (TVar 0)) (MoreTys (TArrow TInt TInt) (MoreTys (TTuple (MoreTys TInt NoTys)) NoTys))))
+    ≡ codes "<all t0. t0, int -> int, <int>>"
 unfolding digits
 fields = refl
 
@@ -46,7 +49,8 @@ ref_text : type_text (TRef (TArrow TInt TInt)) ≡ codes "ref (int -> int)"
 ref_text = refl
 
 -- parentheses after `ref` round an arrow, an `all` or a `some` alone
-refs_text : type_text (TArrow (TRef (TRef TInt)) (TRef (TSome (TRef (TVar 0))))) ≡ codes "ref ref int -> ref (some t0. ref t0)"
+refs_text : type_text (TArrow (TRef (TRef TInt)) (TRef (TSome (TRef (TVar 0)))))
+    ≡ codes "ref ref int -> ref (some t0. ref t0)"
 unfolding digits
 refs_text = refl
 

@@ -1,9 +1,14 @@
 -- How deep bodies are entered does not matter, more turns change no value, no cell is lost, and there is one answer.
-use Rattle.std.proofs.Common.{◌≡◌, ℕ, ℤ, zero, suc, ◌+◌, ◌≤◌, Option, Some, None, Bool, true, false, cond, refl, sym, ap, ◌∙◌, subst, arith}
+use Rattle.std.proofs.Common.{◌≡◌, ℕ, ℤ, zero, suc, ◌+◌, ◌≤◌, Option, Some, None, Bool, true, false, cond, refl, sym}
+use Rattle.std.proofs.Common.{ap, ◌∙◌, subst, arith}
 use Rattle.idx_core.specs.declared.arith.Op.{Op}
 use Rattle.idx_core.specs.Arith.{is_zero}
-use Rattle.f_terms.specs.Tm.{Term, MVar, MNum, MFix, MApp, MGen, MInst, MTuple, MProj, MArith, MIf0, MLet, MPack, MOpen, MRef, MDeref, MAssign, Terms, NoTerms, MoreTerms}
-use Rattle.f_terms.specs.Eval.{Val, VInt, VTup, VFun, VSus, VCell, Vals, Empty, And, Result, Gives, Spent, Stuck, Results, GiveAll, SpentAll, StuckAll, then_eval, then_all, all_then, as_tuple, value_at, given, project, cells, one_more, hold, fresh, fetch, assign, Enter, apply, inst, operate, choose, eval_by, eval_all, enter_by, eval, turn}
+use Rattle.f_terms.specs.Tm.{Term, MVar, MNum, MFix, MApp, MGen, MInst, MTuple, MProj, MArith, MIf0, MLet, MPack}
+use Rattle.f_terms.specs.Tm.{MOpen, MRef, MDeref, MAssign, Terms, NoTerms, MoreTerms}
+use Rattle.f_terms.specs.Eval.{Val, VInt, VTup, VFun, VSus, VCell, Vals, Empty, And, Result, Gives, Spent, Stuck}
+use Rattle.f_terms.specs.Eval.{Results, GiveAll, SpentAll, StuckAll, then_eval, then_all, all_then, as_tuple, value_at}
+use Rattle.f_terms.specs.Eval.{given, project, cells, one_more, hold, fresh, fetch, assign, Enter, apply, inst}
+use Rattle.f_terms.specs.Eval.{operate, choose, eval_by, eval_all, enter_by, eval, turn}
 use Rattle.f_terms.specs.Laws.{KeepsRules, MoreTurnsKeepTheValue, LeavesAtMost, StoreGrows, OneAnswer}
 
 -- the turns left are at most n, and the store has at least c cells
@@ -36,17 +41,26 @@ agree_all_less n m c d (GiveAll vs k st) r' le le' h = (h.0, (omega (arith, le, 
 agree_all_less n m c d SpentAll r' le le' h = (h.0, tt)
 agree_all_less n m c d StuckAll r' le le' h = (h.0, tt)
 
-agree_then : (n c : ℕ) (r r' : Result) (go go' : Val → ℕ → Vals → Result) → Agree n c r r' → ((v : Val) (m : ℕ) (st : Vals) → m ≤ n → c ≤ cells st → Agree m (cells st) (go v m st) (go' v m st)) → Agree n c (then_eval r go) (then_eval r' go')
-agree_then n c (Gives v m st) r' go go' h f = let g = f v m st h.1.0 h.1.1 in (g.0 ∙ ap (λ r. then_eval r go') h.0, looser n m c (cells st) (go v m st) h.1.0 h.1.1 g.1)
+agree_then : (n c : ℕ) (r r' : Result) (go go' : Val → ℕ → Vals → Result) → Agree n c r r' →
+    ((v : Val) (m : ℕ) (st : Vals) → m ≤ n → c ≤ cells st → Agree m (cells st) (go v m st) (go' v m st)) →
+    Agree n c (then_eval r go) (then_eval r' go')
+agree_then n c (Gives v m st) r' go go' h f =
+    let g = f v m st h.1.0 h.1.1 in
+    (g.0 ∙ ap (λ r. then_eval r go') h.0, looser n m c (cells st) (go v m st) h.1.0 h.1.1 g.1)
 agree_then n c Spent r' go go' h f = (ap (λ r. then_eval r go') h.0, tt)
 agree_then n c Stuck r' go go' h f = (ap (λ r. then_eval r go') h.0, tt)
 
-agree_then_all : (n c : ℕ) (r r' : Result) (go go' : Val → ℕ → Vals → Results) → Agree n c r r' → ((v : Val) (m : ℕ) (st : Vals) → m ≤ n → c ≤ cells st → AgreeAll m (cells st) (go v m st) (go' v m st)) → AgreeAll n c (then_all r go) (then_all r' go')
-agree_then_all n c (Gives v m st) r' go go' h f = let g = agree_all_less n m c (cells st) (go v m st) (go' v m st) h.1.0 h.1.1 (f v m st h.1.0 h.1.1) in (g.0 ∙ ap (λ r. then_all r go') h.0, g.1)
+agree_then_all : (n c : ℕ) (r r' : Result) (go go' : Val → ℕ → Vals → Results) → Agree n c r r' →
+    ((v : Val) (m : ℕ) (st : Vals) → m ≤ n → c ≤ cells st → AgreeAll m (cells st) (go v m st) (go' v m st)) →
+    AgreeAll n c (then_all r go) (then_all r' go')
+agree_then_all n c (Gives v m st) r' go go' h f =
+    let g = agree_all_less n m c (cells st) (go v m st) (go' v m st) h.1.0 h.1.1 (f v m st h.1.0 h.1.1) in
+    (g.0 ∙ ap (λ r. then_all r go') h.0, g.1)
 agree_then_all n c Spent r' go go' h f = (ap (λ r. then_all r go') h.0, tt)
 agree_then_all n c Stuck r' go go' h f = (ap (λ r. then_all r go') h.0, tt)
 
-agree_cons : (n c : ℕ) (v : Val) (r r' : Results) → AgreeAll n c r r' → AgreeAll n c (all_then r (λ vs m st. GiveAll (And v vs) m st)) (all_then r' (λ vs m st. GiveAll (And v vs) m st))
+agree_cons : (n c : ℕ) (v : Val) (r r' : Results) → AgreeAll n c r r' →
+    AgreeAll n c (all_then r (λ vs m st. GiveAll (And v vs) m st)) (all_then r' (λ vs m st. GiveAll (And v vs) m st))
 agree_cons n c v (GiveAll vs m st) r' h = (ap (λ r. all_then r (λ vs m st. GiveAll (And v vs) m st)) h.0, h.1)
 agree_cons n c v SpentAll r' h = (ap (λ r. all_then r (λ vs m st. GiveAll (And v vs) m st)) h.0, tt)
 agree_cons n c v StuckAll r' h = (ap (λ r. all_then r (λ vs m st. GiveAll (And v vs) m st)) h.0, tt)
@@ -119,10 +133,12 @@ assign_most (VSus env e) w n st = tt
 assign_most (VCell p) w n st = put_most (value_at st p) p w n st
 
 record Alike (n : ℕ) (enter enter' : Enter) : Type 0 where
-  alike : (env : Vals) (body : Term) (m : ℕ) (st : Vals) → m ≤ n → Agree m (cells st) (enter env body m st) (enter' env body m st)
+  alike : (env : Vals) (body : Term) (m : ℕ) (st : Vals) → m ≤ n →
+      Agree m (cells st) (enter env body m st) (enter' env body m st)
 
 module _ (top : ℕ) (enter enter' : Enter) (same : Alike top enter enter') where
-  agree_apply : (v w : Val) (n : ℕ) (st : Vals) → n ≤ top → Agree n (cells st) (apply enter v w n st) (apply enter' v w n st)
+  agree_apply : (v w : Val) (n : ℕ) (st : Vals) → n ≤ top →
+      Agree n (cells st) (apply enter v w n st) (apply enter' v w n st)
   agree_apply (VInt i) w n st le = (refl, tt)
   agree_apply (VTup vs) w n st le = (refl, tt)
   agree_apply (VFun env body) w n st le = same.alike _ body n st le
@@ -136,7 +152,8 @@ module _ (top : ℕ) (enter enter' : Enter) (same : Alike top enter enter') wher
   agree_inst (VSus env body) n st le = same.alike env body n st le
   agree_inst (VCell p) n st le = (refl, tt)
 
-  agree_choose : (n c : ℕ) (v : Val) (a a' b b' : Result) → Agree n c a a' → Agree n c b b' → Agree n c (choose v a b) (choose v a' b')
+  agree_choose : (n c : ℕ) (v : Val) (a a' b b' : Result) → Agree n c a a' → Agree n c b b' →
+      Agree n c (choose v a b) (choose v a' b')
   agree_choose n c (VInt i) a a' b b' h k = pick (is_zero i)
     where
       pick : (t : Bool) → Agree n c (cond t a b) (cond t a' b')
@@ -148,46 +165,80 @@ module _ (top : ℕ) (enter enter' : Enter) (same : Alike top enter enter') wher
   agree_choose n c (VCell p) a a' b b' h k = (refl, tt)
 
   mutual
-    agree : (e : Term) (env : Vals) (n : ℕ) (st : Vals) → n ≤ top → Agree n (cells st) (eval_by enter env e n st) (eval_by enter' env e n st)
+    agree : (e : Term) (env : Vals) (n : ℕ) (st : Vals) → n ≤ top →
+        Agree n (cells st) (eval_by enter env e n st) (eval_by enter' env e n st)
     agree (MVar i) env n st le = agree_self n _ _ (given_most (value_at env i) n st)
     agree (MNum i) env n st le = (refl, (omega arith, omega arith))
     agree (MFix arg res body) env n st le = (refl, (omega arith, omega arith))
-    agree (MApp f x) env n st le = agree_then n _ _ _ _ _ (agree f env n st le) (λ v m s1 h g. agree_then m _ _ _ _ _ (agree x env m s1 (omega (arith, le, h))) (λ w k s2 h' g'. agree_apply v w k s2 (omega (arith, le, h, h'))))
+    agree (MApp f x) env n st le =
+        agree_then n _ _ _ _ _ (agree f env n st le)
+        (λ v m s1 h g. agree_then m _ _ _ _ _ (agree x env m s1 (omega (arith, le, h)))
+        (λ w k s2 h' g'. agree_apply v w k s2 (omega (arith, le, h, h'))))
     agree (MGen body) env n st le = (refl, (omega arith, omega arith))
-    agree (MInst e t) env n st le = agree_then n _ _ _ _ _ (agree e env n st le) (λ v m s1 h g. agree_inst v m s1 (omega (arith, le, h)))
+    agree (MInst e t) env n st le =
+        agree_then n _ _ _ _ _ (agree e env n st le) (λ v m s1 h g. agree_inst v m s1 (omega (arith, le, h)))
     agree (MTuple es) env n st le = agree_tuple n _ _ _ (agree_all es env n st le)
-    agree (MProj i e) env n st le = agree_then n _ _ _ _ _ (agree e env n st le) (λ v m s1 h g. agree_self m _ _ (project_most i v m s1))
-    agree (MArith op a b) env n st le = agree_then n _ _ _ _ _ (agree a env n st le) (λ v m s1 h g. agree_then m _ _ _ _ _ (agree b env m s1 (omega (arith, le, h))) (λ w k s2 h' g'. agree_self k _ _ (operate_most op v w k s2)))
-    agree (MIf0 c a b) env n st le = agree_then n _ _ _ _ _ (agree c env n st le) (λ v m s1 h g. agree_choose m _ v _ _ _ _ (agree a env m s1 (omega (arith, le, h))) (agree b env m s1 (omega (arith, le, h))))
-    agree (MLet a b) env n st le = agree_then n _ _ _ _ _ (agree a env n st le) (λ v m s1 h g. agree b (And v env) m s1 (omega (arith, le, h)))
+    agree (MProj i e) env n st le =
+        agree_then n _ _ _ _ _ (agree e env n st le) (λ v m s1 h g. agree_self m _ _ (project_most i v m s1))
+    agree (MArith op a b) env n st le =
+        agree_then n _ _ _ _ _ (agree a env n st le)
+        (λ v m s1 h g. agree_then m _ _ _ _ _ (agree b env m s1 (omega (arith, le, h)))
+        (λ w k s2 h' g'. agree_self k _ _ (operate_most op v w k s2)))
+    agree (MIf0 c a b) env n st le =
+        agree_then n _ _ _ _ _ (agree c env n st le)
+        (λ v m s1 h g. agree_choose m _ v _ _ _ _ (agree a env m s1 (omega (arith, le, h)))
+        (agree b env m s1 (omega (arith, le, h))))
+    agree (MLet a b) env n st le =
+        agree_then n _ _ _ _ _ (agree a env n st le) (λ v m s1 h g. agree b (And v env) m s1 (omega (arith, le, h)))
     agree (MPack x e s) env n st le = agree e env n st le
-    agree (MOpen a b) env n st le = agree_then n _ _ _ _ _ (agree a env n st le) (λ v m s1 h g. agree b (And v env) m s1 (omega (arith, le, h)))
-    agree (MRef e) env n st le = agree_then n _ _ _ _ _ (agree e env n st le) (λ v m s1 h g. agree_self m _ _ (fresh_most v m s1))
-    agree (MDeref e) env n st le = agree_then n _ _ _ _ _ (agree e env n st le) (λ v m s1 h g. agree_self m _ _ (fetch_most v m s1))
-    agree (MAssign a b) env n st le = agree_then n _ _ _ _ _ (agree a env n st le) (λ v m s1 h g. agree_then m _ _ _ _ _ (agree b env m s1 (omega (arith, le, h))) (λ w k s2 h' g'. agree_self k _ _ (assign_most v w k s2)))
+    agree (MOpen a b) env n st le =
+        agree_then n _ _ _ _ _ (agree a env n st le) (λ v m s1 h g. agree b (And v env) m s1 (omega (arith, le, h)))
+    agree (MRef e) env n st le =
+        agree_then n _ _ _ _ _ (agree e env n st le) (λ v m s1 h g. agree_self m _ _ (fresh_most v m s1))
+    agree (MDeref e) env n st le =
+        agree_then n _ _ _ _ _ (agree e env n st le) (λ v m s1 h g. agree_self m _ _ (fetch_most v m s1))
+    agree (MAssign a b) env n st le =
+        agree_then n _ _ _ _ _ (agree a env n st le)
+        (λ v m s1 h g. agree_then m _ _ _ _ _ (agree b env m s1 (omega (arith, le, h)))
+        (λ w k s2 h' g'. agree_self k _ _ (assign_most v w k s2)))
 
-    agree_all : (es : Terms) (env : Vals) (n : ℕ) (st : Vals) → n ≤ top → AgreeAll n (cells st) (eval_all enter env es n st) (eval_all enter' env es n st)
+    agree_all : (es : Terms) (env : Vals) (n : ℕ) (st : Vals) → n ≤ top →
+        AgreeAll n (cells st) (eval_all enter env es n st) (eval_all enter' env es n st)
     agree_all NoTerms env n st le = (refl, (omega arith, omega arith))
-    agree_all (MoreTerms e es) env n st le = agree_then_all n _ _ _ _ _ (agree e env n st le) (λ v m s1 h g. agree_cons m _ v _ _ (agree_all es env m s1 (omega (arith, le, h))))
+    agree_all (MoreTerms e es) env n st le =
+        agree_then_all n _ _ _ _ _ (agree e env n st le)
+        (λ v m s1 h g. agree_cons m _ v _ _ (agree_all es env m s1 (omega (arith, le, h))))
 
 turn_more : (n c : ℕ) (r r' : Result) → Agree n c r r' → Agree (suc n) c r r'
 turn_more n c r r' h = agree_less (suc n) n c c r r' (omega arith) (omega arith) h
 
-alike_depth : (d d' : ℕ) (env : Vals) (body : Term) (m : ℕ) (st : Vals) → m ≤ d → m ≤ d' → Agree m (cells st) (enter_by d env body m st) (enter_by d' env body m st)
+alike_depth : (d d' : ℕ) (env : Vals) (body : Term) (m : ℕ) (st : Vals) → m ≤ d → m ≤ d' →
+    Agree m (cells st) (enter_by d env body m st) (enter_by d' env body m st)
 alike_depth d d' env body zero st le le' = (refl, tt)
 alike_depth zero d' env body (suc m) st le le' = absurd (omega (arith, le))
 alike_depth (suc d) zero env body (suc m) st le le' = absurd (omega (arith, le'))
 alike_depth (suc d) (suc d') env body (suc m) st le le' =
-    turn_more m _ _ _ (agree m (enter_by d) (enter_by d') (record { alike = λ env body k s h. alike_depth d d' env body k s (omega (arith, le, h)) (omega (arith, le', h)) }) body env m st (omega arith))
+    turn_more m _ _ _
+    (agree m (enter_by d) (enter_by d')
+    (record {
+      alike = λ env body k s h. alike_depth d d' env body k s (omega (arith, le, h))
+          (omega (arith, le', h));
+    }) body env m st (omega arith))
 
-alike_turn : (d : ℕ) (env : Vals) (body : Term) (m : ℕ) (st : Vals) → m ≤ d → Agree m (cells st) (enter_by d env body m st) (turn env body m st)
+alike_turn : (d : ℕ) (env : Vals) (body : Term) (m : ℕ) (st : Vals) → m ≤ d →
+    Agree m (cells st) (enter_by d env body m st) (turn env body m st)
 alike_turn d env body zero st le = (refl, tt)
 alike_turn zero env body (suc m) st le = absurd (omega (arith, le))
 alike_turn (suc d) env body (suc m) st le =
-    turn_more m _ _ _ (agree m (enter_by d) (enter_by m) (record { alike = λ env body k s h. alike_depth d m env body k s (omega (arith, le, h)) h }) body env m st (omega arith))
+    turn_more m _ _ _
+    (agree m (enter_by d) (enter_by m)
+    (record { alike = λ env body k s h. alike_depth d m env body k s (omega (arith, le, h)) h }) body env m st
+    (omega arith))
 
 pub rules_kept : KeepsRules
-rules_kept n st env e = (agree n (enter_by n) turn (record { alike = λ env body k s h. alike_turn n env body k s h }) e env n st (omega arith)).0
+rules_kept n st env e =
+    (agree n (enter_by n) turn (record { alike = λ env body k s h. alike_turn n env body k s h }) e env n st
+    (omega arith)).0
 
 -- the second has so many turns more
 abbrev More : ℕ → Result → Result → Type 0
@@ -200,17 +251,22 @@ MoreAll k (GiveAll v m st) r' = r' ≡ GiveAll v (m + k) st
 MoreAll k SpentAll r' = Unit {0}
 MoreAll k StuckAll r' = r' ≡ StuckAll
 
-more_then : (k : ℕ) (r r' : Result) (go go' : Val → ℕ → Vals → Result) → More k r r' → ((v : Val) (m : ℕ) (st : Vals) → More k (go v m st) (go' v (m + k) st)) → More k (then_eval r go) (then_eval r' go')
+more_then : (k : ℕ) (r r' : Result) (go go' : Val → ℕ → Vals → Result) → More k r r' →
+    ((v : Val) (m : ℕ) (st : Vals) → More k (go v m st) (go' v (m + k) st)) →
+    More k (then_eval r go) (then_eval r' go')
 more_then k (Gives v m st) r' go go' h f = subst (λ r. More k (go v m st) (then_eval r go')) (sym h) (f v m st)
 more_then k Spent r' go go' h f = tt
 more_then k Stuck r' go go' h f = ap (λ r. then_eval r go') h
 
-more_then_all : (k : ℕ) (r r' : Result) (go go' : Val → ℕ → Vals → Results) → More k r r' → ((v : Val) (m : ℕ) (st : Vals) → MoreAll k (go v m st) (go' v (m + k) st)) → MoreAll k (then_all r go) (then_all r' go')
+more_then_all : (k : ℕ) (r r' : Result) (go go' : Val → ℕ → Vals → Results) → More k r r' →
+    ((v : Val) (m : ℕ) (st : Vals) → MoreAll k (go v m st) (go' v (m + k) st)) →
+    MoreAll k (then_all r go) (then_all r' go')
 more_then_all k (Gives v m st) r' go go' h f = subst (λ r. MoreAll k (go v m st) (then_all r go')) (sym h) (f v m st)
 more_then_all k Spent r' go go' h f = tt
 more_then_all k Stuck r' go go' h f = ap (λ r. then_all r go') h
 
-more_cons : (k : ℕ) (v : Val) (r r' : Results) → MoreAll k r r' → MoreAll k (all_then r (λ vs m st. GiveAll (And v vs) m st)) (all_then r' (λ vs m st. GiveAll (And v vs) m st))
+more_cons : (k : ℕ) (v : Val) (r r' : Results) → MoreAll k r r' →
+    MoreAll k (all_then r (λ vs m st. GiveAll (And v vs) m st)) (all_then r' (λ vs m st. GiveAll (And v vs) m st))
 more_cons k v (GiveAll vs m st) r' h = ap (λ r. all_then r (λ vs m st. GiveAll (And v vs) m st)) h
 more_cons k v SpentAll r' h = tt
 more_cons k v StuckAll r' h = ap (λ r. all_then r (λ vs m st. GiveAll (And v vs) m st)) h
@@ -236,7 +292,8 @@ more_project k (suc i) (VSus env e) n st = refl
 more_project k zero (VCell p) n st = refl
 more_project k (suc i) (VCell p) n st = refl
 
-more_operate : (k : ℕ) (op : Op) (v w : Val) (n : ℕ) (st : Vals) → More k (operate op v w n st) (operate op v w (n + k) st)
+more_operate : (k : ℕ) (op : Op) (v w : Val) (n : ℕ) (st : Vals) →
+    More k (operate op v w n st) (operate op v w (n + k) st)
 more_operate k op (VInt i) (VInt j) n st = refl
 more_operate k op (VInt i) (VTup vs) n st = refl
 more_operate k op (VInt i) (VFun env e) n st = refl
@@ -297,50 +354,67 @@ module _ (k : ℕ) (enter enter' : Enter) (same : Further k enter enter') where
   more_choose (VCell p) a a' b b' h g = refl
 
   mutual
-    more : (e : Term) (env : Vals) (n : ℕ) (st : Vals) → More k (eval_by enter env e n st) (eval_by enter' env e (n + k) st)
+    more : (e : Term) (env : Vals) (n : ℕ) (st : Vals) →
+        More k (eval_by enter env e n st) (eval_by enter' env e (n + k) st)
     more (MVar i) env n st = more_given k (value_at env i) n st
     more (MNum i) env n st = refl
     more (MFix arg res body) env n st = refl
-    more (MApp f x) env n st = more_then k _ _ _ _ (more f env n st) (λ v m s1. more_then k _ _ _ _ (more x env m s1) (λ w l s2. more_apply v w l s2))
+    more (MApp f x) env n st =
+        more_then k _ _ _ _ (more f env n st)
+        (λ v m s1. more_then k _ _ _ _ (more x env m s1) (λ w l s2. more_apply v w l s2))
     more (MGen body) env n st = refl
     more (MInst e t) env n st = more_then k _ _ _ _ (more e env n st) (λ v m s1. more_inst v m s1)
     more (MTuple es) env n st = more_tuple k _ _ (more_all es env n st)
     more (MProj i e) env n st = more_then k _ _ _ _ (more e env n st) (λ v m s1. more_project k i v m s1)
-    more (MArith op a b) env n st = more_then k _ _ _ _ (more a env n st) (λ v m s1. more_then k _ _ _ _ (more b env m s1) (λ w l s2. more_operate k op v w l s2))
-    more (MIf0 c a b) env n st = more_then k _ _ _ _ (more c env n st) (λ v m s1. more_choose v _ _ _ _ (more a env m s1) (more b env m s1))
+    more (MArith op a b) env n st =
+        more_then k _ _ _ _ (more a env n st)
+        (λ v m s1. more_then k _ _ _ _ (more b env m s1) (λ w l s2. more_operate k op v w l s2))
+    more (MIf0 c a b) env n st =
+        more_then k _ _ _ _ (more c env n st) (λ v m s1. more_choose v _ _ _ _ (more a env m s1) (more b env m s1))
     more (MLet a b) env n st = more_then k _ _ _ _ (more a env n st) (λ v m s1. more b (And v env) m s1)
     more (MPack x e s) env n st = more e env n st
     more (MOpen a b) env n st = more_then k _ _ _ _ (more a env n st) (λ v m s1. more b (And v env) m s1)
     more (MRef e) env n st = more_then k _ _ _ _ (more e env n st) (λ v m s1. refl)
     more (MDeref e) env n st = more_then k _ _ _ _ (more e env n st) (λ v m s1. more_fetch k v m s1)
-    more (MAssign a b) env n st = more_then k _ _ _ _ (more a env n st) (λ v m s1. more_then k _ _ _ _ (more b env m s1) (λ w l s2. more_assign k v w l s2))
+    more (MAssign a b) env n st =
+        more_then k _ _ _ _ (more a env n st)
+        (λ v m s1. more_then k _ _ _ _ (more b env m s1) (λ w l s2. more_assign k v w l s2))
 
-    more_all : (es : Terms) (env : Vals) (n : ℕ) (st : Vals) → MoreAll k (eval_all enter env es n st) (eval_all enter' env es (n + k) st)
+    more_all : (es : Terms) (env : Vals) (n : ℕ) (st : Vals) →
+        MoreAll k (eval_all enter env es n st) (eval_all enter' env es (n + k) st)
     more_all NoTerms env n st = refl
-    more_all (MoreTerms e es) env n st = more_then_all k _ _ _ _ (more e env n st) (λ v m s1. more_cons k v _ _ (more_all es env m s1))
+    more_all (MoreTerms e es) env n st =
+        more_then_all k _ _ _ _ (more e env n st) (λ v m s1. more_cons k v _ _ (more_all es env m s1))
 
 further : (k d : ℕ) → Further k (enter_by d) (enter_by (d + k))
 further k zero = record { further = λ env body n st. start env body n st }
   where
-    start : (env : Vals) (body : Term) (n : ℕ) (st : Vals) → More k (enter_by 0 env body n st) (enter_by (0 + k) env body (n + k) st)
+    start : (env : Vals) (body : Term) (n : ℕ) (st : Vals) →
+        More k (enter_by 0 env body n st) (enter_by (0 + k) env body (n + k) st)
     start env body zero st = tt
     start env body (suc n) st = tt
 further k (suc d) = record { further = λ env body n st. step (further k d) env body n st }
   where
-    step : Further k (enter_by d) (enter_by (d + k)) → (env : Vals) (body : Term) (n : ℕ) (st : Vals) → More k (enter_by (suc d) env body n st) (enter_by (suc d + k) env body (n + k) st)
+    step : Further k (enter_by d) (enter_by (d + k)) → (env : Vals) (body : Term) (n : ℕ) (st : Vals) →
+        More k (enter_by (suc d) env body n st) (enter_by (suc d + k) env body (n + k) st)
     step ih env body zero st = tt
     step ih env body (suc n) st =
         let e : suc (d + k) ≡ suc d + k = omega arith in
         let e' : suc (n + k) ≡ suc n + k = omega arith in
         subst (λ x. More k (eval_by (enter_by d) env body n st) (enter_by x env body (suc n + k) st)) e
-        (subst (λ y. More k (eval_by (enter_by d) env body n st) (enter_by (suc (d + k)) env body y st)) e' (more k (enter_by d) (enter_by (d + k)) ih body env n st))
+        (subst (λ y. More k (eval_by (enter_by d) env body n st) (enter_by (suc (d + k)) env body y st)) e'
+        (more k (enter_by d) (enter_by (d + k)) ih body env n st))
 
 pub more_turns : MoreTurnsKeepTheValue
-more_turns n k left st env e v after h = subst (λ r. More k r (eval (n + k) st env e)) h (more k (enter_by n) (enter_by (n + k)) (further k n) e env n st)
+more_turns n k left st env e v after h =
+    subst (λ r. More k r (eval (n + k) st env e)) h (more k (enter_by n) (enter_by (n + k)) (further k n) e env n st)
 
-bounds : (n left : ℕ) (st env : Vals) (e : Term) (v : Val) (after : Vals) → eval n st env e ≡ Gives v left after → (left ≤ n) × (cells st ≤ cells after)
+bounds : (n left : ℕ) (st env : Vals) (e : Term) (v : Val) (after : Vals) → eval n st env e ≡ Gives v left after →
+    (left ≤ n) × (cells st ≤ cells after)
 bounds n left st env e v after h =
-    subst (λ r. Bounded n (cells st) r) h (agree n (enter_by n) (enter_by n) (record { alike = λ env body m s le. alike_depth n n env body m s le le }) e env n st (omega arith)).1
+    subst (λ r. Bounded n (cells st) r) h
+    (agree n (enter_by n) (enter_by n) (record { alike = λ env body m s le. alike_depth n n env body m s le le }) e
+    env n st (omega arith)).1
 
 pub leaves_at_most : LeavesAtMost
 leaves_at_most n left st env e v after h = (bounds n left st env e v after h).0
@@ -357,4 +431,6 @@ integer_is e = cc
 pub one_answer : OneAnswer
 one_answer e n m i j h k =
     let swap : m + n ≡ n + m = omega arith in
-    integer_is (value_is (sym (more_turns n m h.0 Empty Empty e (VInt i) h.1.0 h.1.1) ∙ ap (λ x. eval x Empty Empty e) (sym swap) ∙ more_turns m n k.0 Empty Empty e (VInt j) k.1.0 k.1.1))
+    integer_is (value_is
+    (sym (more_turns n m h.0 Empty Empty e (VInt i) h.1.0 h.1.1) ∙ ap (λ x. eval x Empty Empty e) (sym swap)
+    ∙ more_turns m n k.0 Empty Empty e (VInt j) k.1.0 k.1.1))

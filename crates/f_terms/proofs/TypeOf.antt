@@ -1,7 +1,8 @@
 -- The type that a term passes with is its type.
 use Rattle.std.proofs.Common.{◌≡◌, ℕ, ◌+◌, sym, ap, ap₂, ◌∙◌}
 use Rattle.f_terms.specs.Ty.{Ty, TArrow, TAll, TTuple, TSome, TRef, Tys, MoreTys, shift, put}
-use Rattle.f_terms.specs.Tm.{Tm, SVar, SNum, SFix, SApp, SGen, SInst, STuple, SProj, SArith, SIf0, SLet, SPack, SOpen, SRef, SDeref, SAssign, Tms, NoTms, MoreTms, plain, plain_all}
+use Rattle.f_terms.specs.Tm.{Tm, SVar, SNum, SFix, SApp, SGen, SInst, STuple, SProj, SArith, SIf0, SLet, SPack, SOpen}
+use Rattle.f_terms.specs.Tm.{SRef, SDeref, SAssign, Tms, NoTms, MoreTms, plain, plain_all}
 use Rattle.f_terms.specs.TyLaws.{unshift}
 use Rattle.f_terms.specs.Typing.{field_ty, raised, in_open}
 use Rattle.f_terms.specs.Faults.{Passes, PassAll}
@@ -16,7 +17,8 @@ mutual
   type_passed (SGen s e) n g t h = ap TAll (type_passed e (n + 1) (raised g) h.0 h.2) ∙ sym h.1
   type_passed (SInst s e a) n g t h = ap (λ u. put 0 a (body_of u)) (type_passed e n g (TAll h.0) h.3) ∙ sym h.1
   type_passed (STuple s es) n g t h = ap TTuple (types_passed es n g h.0 h.2) ∙ sym h.1
-  type_passed (SProj s i e) n g t h = ap (λ u. or_int (field_ty (fields_of u) i)) (type_passed e n g (TTuple h.0) h.2) ∙ ap or_int h.1
+  type_passed (SProj s i e) n g t h =
+      ap (λ u. or_int (field_ty (fields_of u) i)) (type_passed e n g (TTuple h.0) h.2) ∙ ap or_int h.1
   type_passed (SArith s op a b) n g t h = sym h.0
   type_passed (SIf0 s c a b) n g t h = type_passed a n g t h.1
   type_passed (SLet s a b) n g t h =

@@ -59,10 +59,6 @@ line_is at s (shape.Ref e) = refl
 line_is at s (shape.Deref e) = refl
 line_is at s (shape.Assign a b) = refl
 
-pub line_of_part : (p : Part) (n : FNode) → node_at p.term.now p.at ≡ node_tree (node_at p.term.now) n →
-    line_of (part_term p) ≡ shape_line n.shape
-line_of_part p n t = ap line_of (form_is p n n.shape t refl) ∙ line_is (node_at p.term.now) (place n.span) n.shape
-
 -- no form takes parentheses where an expression is asked for
 whole_bare : (l : Line) → is_loose l Expression ≡ false
 whole_bare Expression = refl
@@ -79,16 +75,6 @@ join_three a b c = simp append_assoc
 
 -- a form that is begun, by its parts: what is before them is written, and they are the next tasks
 module _ (n m : ℕ) (before after : List ℕ) (old new : List Todo) (e : Term) where
-  pub begun_leaf : (s : List ℕ) (f : Term) → e ≡ f → written n m f ≡ s → weight f ≡ 2 → new ≡ old →
-      after ≡ before ++ s → Begun before n m e old after new
-  begun_leaf s f is text w same t =
-      let we : weight e ≡ 2 = ap weight is ∙ w in
-      let so : steps new ≡ steps old = ap steps same in
-      record {
-        same = rw (same, t, is, text) (append_assoc before s (all_done old));
-        less = omega arith;
-      }
-
   -- one part after some bytes
   pub begun_one : (s : List ℕ) (asked : Line) (i j : ℕ) (f x : Term) → e ≡ f →
       written n m f ≡ s ++ written_at asked i j x → weight f ≡ 2 + weight x →

@@ -7,8 +7,10 @@ use Rattle.fault_page.specs.Page.{page, first_shown, shown_width}
 abbrev bare : List ℕ → ℕ → ℕ → List ℕ
 bare text start end = page text (codes "C") (codes "w") start end [] (codes "h")
 
-unbound : page (codes "(fix f(x:int):int. g x) 3") (codes "E05") (codes "unbound name") 19 20 [] (codes "no `fix`, `let` or `open` around it binds this name")
-    ≡ codes "E05 unbound name: line 1, column 20 (bytes 19..20)\n1 | (fix f(x:int):int. g x) 3\n  |                    ^\nno `fix`, `let` or `open` around it binds this name\n"
+unbound : page (codes "(fix f(x:int):int. g x) 3") (codes "E05") (codes "unbound name") 19 20 []
+    (codes "no `fix`, `let` or `open` around it binds this name")
+    ≡ codes
+    "E05 unbound name: line 1, column 20 (bytes 19..20)\n1 | (fix f(x:int):int. g x) 3\n  |                    ^\nno `fix`, `let` or `open` around it binds this name\n"
 unfolding digits
 unbound = refl
 
@@ -19,7 +21,8 @@ unfolding digits
 types_at_odds = refl
 
 -- a tab is shown as a space, and each byte above 127 as a sign, so that the mark stands under the sixth byte
-odd_bytes : bare (codes "x" ++ 9 ∷ 195 ∷ 164 ∷ codes " $") 5 6 ≡ codes "C w: line 1, column 6 (bytes 5..6)\n1 | x ?? $\n  |      ^\nh\n"
+odd_bytes : bare (codes "x" ++ 9 ∷ 195 ∷ 164 ∷ codes " $") 5 6
+    ≡ codes "C w: line 1, column 6 (bytes 5..6)\n1 | x ?? $\n  |      ^\nh\n"
 unfolding digits
 odd_bytes = refl
 
@@ -39,7 +42,8 @@ unfolding digits
 behind_a_line_end = refl
 
 -- a place over three lines is marked on the first
-over_lines : bare (codes "1 + if0(0,\n1,\n<>)") 4 17 ≡ codes "C w: line 1, column 5, over 3 lines (bytes 4..17)\n1 | 1 + if0(0,\n  |     ^^^^^^\nh\n"
+over_lines : bare (codes "1 + if0(0,\n1,\n<>)") 4 17
+    ≡ codes "C w: line 1, column 5, over 3 lines (bytes 4..17)\n1 | 1 + if0(0,\n  |     ^^^^^^\nh\n"
 unfolding digits
 over_lines = refl
 
@@ -49,7 +53,8 @@ unfolding digits
 a_line_end = refl
 
 -- spaces under a number of two digits
-line_twelve : bare (replicate 11 10 ++ codes "1 )\n2") 13 14 ≡ codes "C w: line 12, column 3 (bytes 13..14)\n12 | 1 )\n   |   ^\nh\n"
+line_twelve : bare (replicate 11 10 ++ codes "1 )\n2") 13 14
+    ≡ codes "C w: line 12, column 3 (bytes 13..14)\n12 | 1 )\n   |   ^\nh\n"
 unfolding digits
 line_twelve = refl
 
@@ -59,5 +64,6 @@ unfolding digits
 behind = refl
 
 -- where a line is cut, its place is among the bytes that are shown, or just behind them
-place_is_shown : (before count : ℕ) → before ≤ count → (first_shown before count ≤ before) × (before ≤ first_shown before count + shown_width)
+place_is_shown : (before count : ℕ) → before ≤ count → (first_shown before count ≤ before)
+    × (before ≤ first_shown before count + shown_width)
 place_is_shown before count within = (omega arith, omega arith)

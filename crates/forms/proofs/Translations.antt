@@ -3,7 +3,6 @@ use Rattle.std.proofs.Common.{◌≡◌, ◌∙◌, refl, sym, ap, ap₂}
 use Rattle.words.specs.declared.form.Form.{Form}
 use Rattle.words.specs.declared.form.Form.TheVariants.{Source, Cps, Closed, Hoisted, Allocated, Assembly}
 use Rattle.f_terms.specs.Tm.{Term}
-use Rattle.f_terms.specs.Typing.{IsProgram}
 use Rattle.c_law.specs.Close.{close_of}
 use Rattle.h_pass.specs.Hoist.{blocks_of, main_of}
 use Rattle.a_law.specs.Allocate.{alloc_prog, alloc_main}

@@ -1,8 +1,12 @@
 -- What is generated is accepted.
-use Rattle.std.proofs.Common.{◌≡◌, ℕ, zero, suc, ◌+◌, List, [], ◌∷◌, ◌++◌, length, Some, None, refl, sym, ap, ◌∙◌, arith, inl, slice_get}
+use Rattle.std.proofs.Common.{◌≡◌, ℕ, zero, suc, ◌+◌, List, [], ◌∷◌, ◌++◌, length, Some, None, refl, sym, ap, ◌∙◌}
+use Rattle.std.proofs.Common.{arith, inl, slice_get}
 use Rattle.std.specs.Prelude.{Bool, true}
-use Rattle.a_terms.specs.Tree.{ATy, AInt, ATys, NoATys, MoreATys, AVal, Var, Num, Lab, Data, Apply, Pack, ADecl, Value, Proj, Arith, Unpack, Malloc, Init, ATm, Let, Call, If0, Halt, ABlk, AConsts, AProg, aput}
-use Rattle.a_terms.specs.Typing.{data_fields, type_of, Fine, declared, more_vars, types_of, Data-ok, Tuples-ok, Program-ok}
+use Rattle.a_terms.specs.Tree.{ATy, AInt, ATys, NoATys, MoreATys, AVal, Var, Num, Lab, Data, Apply, Pack, ADecl, Value}
+use Rattle.a_terms.specs.Tree.{Proj, Arith, Unpack, Malloc, Init, ATm, Let, Call, If0, Halt, ABlk, AConsts, AProg}
+use Rattle.a_terms.specs.Tree.{aput}
+use Rattle.a_terms.specs.Typing.{data_fields, type_of, Fine, declared, more_vars, types_of, Data-ok, Tuples-ok}
+use Rattle.a_terms.specs.Typing.{Program-ok}
 use Rattle.a_terms.specs.TypeLaws.{split_code, split_data, split_applied, Args-below, args_below}
 use Rattle.a_terms.specs.Each.{AProp, AAll, VEach, VsEach, DEach, TEach, BsEach}
 use Rattle.a_terms.specs.Bound.{thirds}
@@ -12,7 +16,8 @@ use Rattle.t_terms.specs.Tree.{TSeq, Then, Ends, TBlock, TProg}
 use Rattle.t_rules.specs.Registers.{no_types}
 use Rattle.t_rules.specs.Rules as R
 use Rattle.t_rules.specs.Rules.{SeqAccepted, BlocksAccepted, DataAccepted, HeapAccepted, Accepted}
-use Rattle.gen_law.specs.Gen.{used, ty, ty_fields, extras, firsts, seconds, constant, data_of, generated_blocks, generated_heap, generated}
+use Rattle.gen_law.specs.Gen.{used, ty, ty_fields, extras, firsts, seconds, constant, data_of, generated_blocks}
+use Rattle.gen_law.specs.Gen.{generated_heap, generated}
 use Rattle.gen_law.specs.GenLaws.{length_extras}
 use Rattle.gen_law.specs.TypesEach.{TProp, SeqEach, BlocksEach}
 use Rattle.gen_law.proofs.TypeLaws.{ty_put}
@@ -23,25 +28,39 @@ use Rattle.gen_law.proofs.Typed.{term_each, Good, good_both, extras_good, firsts
 
 -- the data
 module _ (p : AProg) (P : TProg) (labels : Labels p P) where
-  pub constant_has : (v : AVal) (t : ATy) → Fine p 0 [] v → type_of p [] v ≡ Some t → R.Has P 0 no_types (constant v) (ty t)
+  pub constant_has : (v : AVal) (t : ATy) → Fine p 0 [] v → type_of p [] v ≡ Some t →
+      R.Has P 0 no_types (constant v) (ty t)
   constant_has (Var n) t f e = absurd (impossible e)
     where
       impossible : None ≡ Some t → ⊥
       impossible x = cc
   constant_has (Num i) t f e = let x : AInt ≡ t = cc in ap ty (sym x)
-  constant_has (Lab l) t f e = let s = split_code (slice_get p.blocks l) t e in let lab = labels.blocks l s.0 s.1 in (lab.0, lab.1, sym (ap ty s.2) ∙ lab.2)
-  constant_has (Data n) t f e = let s = split_data (slice_get p.tuples n) t e in let lab = labels.tuples n s.0 s.1 in (lab.0, lab.1, sym (ap ty s.2) ∙ lab.2)
+  constant_has (Lab l) t f e =
+      let s = split_code (slice_get p.blocks l) t e in
+      let lab = labels.blocks l s.0 s.1 in (lab.0, lab.1, sym (ap ty s.2) ∙ lab.2)
+  constant_has (Data n) t f e =
+      let s = split_data (slice_get p.tuples n) t e in
+      let lab = labels.tuples n s.0 s.1 in (lab.0, lab.1, sym (ap ty s.2) ∙ lab.2)
   constant_has (Apply v ts) t f e =
       let s = split_applied (type_of p [] v) ts t e in
       applied_has p P labels 0 no_types (constant v) ts s.0 t s.2 f.1 (constant_has v s.0 f.0 s.1)
   constant_has (Pack h v s) t f e =
       let u = f.0 in
-      let y : s ≡ t = cc in
-      (ty u, ty (aput 0 h u), constant_has v (aput 0 h u) f.1 f.5, ap ty f.4, inl (ty_put u 0 h), ap ty (sym y), below_ty h 0 f.2, below_ty s 0 f.3)
+      let y : s ≡ t = cc in (
+        ty u,
+        ty (aput 0 h u),
+        constant_has v (aput 0 h u) f.1 f.5,
+        ap ty f.4,
+        inl (ty_put u 0 h),
+        ap ty (sym y),
+        below_ty h 0 f.2,
+        below_ty s 0 f.3,
+      )
 
   data_ok : (x : AConsts) → Data-ok p x → DataAccepted P (data_of x)
   data_ok [] a = tt
-  data_ok (c ∷ cs) a = ((ty c.kind, constant_has c.value c.kind a.0.0.fine a.0.0.is, inl refl, below_ty c.kind 0 a.0.1), data_ok cs a.1)
+  data_ok (c ∷ cs) a =
+      ((ty c.kind, constant_has c.value c.kind a.0.0.fine a.0.0.is, inl refl, below_ty c.kind 0 a.0.1), data_ok cs a.1)
 
   pub tuples_ok : (xs : List AConsts) → Tuples-ok p xs → HeapAccepted P (generated_heap xs)
   tuples_ok [] a = tt
@@ -51,7 +70,8 @@ fields_are : (x : AConsts) → R.data_fields (data_of x) ≡ ty_fields (data_fie
 fields_are [] = refl
 fields_are (c ∷ cs) = ap (MoreFields (ty c.kind) true) (fields_are cs)
 
-tuple_there : (xs : List AConsts) (n : ℕ) (x : AConsts) → slice_get xs n ≡ Some x → slice_get (generated_heap xs) n ≡ Some (data_of x)
+tuple_there : (xs : List AConsts) (n : ℕ) (x : AConsts) → slice_get xs n ≡ Some x →
+    slice_get (generated_heap xs) n ≡ Some (data_of x)
 tuple_there [] n x e = cc
 tuple_there (y ∷ xs) zero x e = let z : y ≡ x = cc in ap (λ q. Some (data_of q)) z
 tuple_there (y ∷ xs) (suc n) x e = tuple_there xs n x e
@@ -60,7 +80,8 @@ tuple_there (y ∷ xs) (suc n) x e = tuple_there xs n x e
 pub record Stands (p : AProg) (main : ATm) : Type 0 where
   pub labels : Labels p (generated p main)
   pub of_main : HasAt (generated_blocks p main) (suc (length p.blocks)) (extras p 0 [] [] (suc (length p.blocks)) main)
-  pub of_blocks : HasAt (generated_blocks p main) (suc (length p.blocks) + thirds main) (seconds p p.blocks (suc (length p.blocks) + thirds main))
+  pub of_blocks : HasAt (generated_blocks p main) (suc (length p.blocks) + thirds main)
+      (seconds p p.blocks (suc (length p.blocks) + thirds main))
 
 pub stands : (p : AProg) (main : ATm) → Stands p main
 stands p main =
@@ -77,7 +98,9 @@ stands p main =
     let rest = has_back P 1 at fs (es ++ ss) (omega arith) all in
     record {
       labels = record {
-        blocks = λ l b e. (let z : 1 + l ≡ suc l = omega arith in (_, ap (slice_get P) (sym z) ∙ block_at P p.blocks 1 at0 l b blocks e, refl));
+        blocks = λ l b e.
+            (let z : 1 + l ≡ suc l = omega arith in
+            (_, ap (slice_get P) (sym z) ∙ block_at P p.blocks 1 at0 l b blocks e, refl));
         tuples = λ n x e. (data_of x, tuple_there p.tuples n x e, ap TupleTy (sym (fields_are x)));
       };
       of_main = has_front P at es ss rest;
@@ -108,7 +131,9 @@ module _ (A : AProp) (N : ℕ → Type 0) (S : ATy → Type 0) (Q : TProp) (C : 
     good_each [] h = tt
     good_each (b ∷ bs) h = ((h.0.1, h.0.2), good_each bs h.1)
 
-  pub all_good : (p : AProg) (main : ATm) (q : Program-ok p main) → BsEach A p p.blocks → TEach A p 0 [] main → Good A N S Q C p (generated p main) (stands p main).labels (args_below p q.blocks q.tuples) (generated_blocks p main)
+  pub all_good : (p : AProg) (main : ATm) (q : Program-ok p main) → BsEach A p p.blocks → TEach A p 0 [] main →
+      Good A N S Q C p (generated p main) (stands p main).labels (args_below p q.blocks q.tuples)
+      (generated_blocks p main)
   all_good p main q be te =
       let P = generated p main in
       let at = suc (length p.blocks) in
@@ -119,9 +144,17 @@ module _ (A : AProp) (N : ℕ → Type 0) (S : ATy → Type 0) (Q : TProp) (C : 
       let there = stands p main in
       let ok = args_below p q.blocks q.tuples in
       let both = firsts_good A N S Q C p P there.labels ok p.blocks at0 q.blocks be there.of_blocks in
-      let main_extras = extras_good A N S Q C p P there.labels ok main 0 [] [] at (none_apart (used main)) tt q.main_ok te tt there.of_main in (
-        (tt, tt, term_each A N S Q C p P there.labels ok main 0 [] [] at (lookup NoRegs) (none_apart (used main)) (no_variables (lookup NoRegs) (used main)) tt q.main_ok te tt there.of_main),
-        good_both A N S Q C p P there.labels ok fs (es ++ ss) both.0 (good_both A N S Q C p P there.labels ok es ss main_extras both.1),
+      let main_extras =
+      extras_good A N S Q C p P there.labels ok main 0 [] [] at (none_apart (used main)) tt q.main_ok te tt
+      there.of_main in (
+        (
+          tt,
+          tt,
+          term_each A N S Q C p P there.labels ok main 0 [] [] at (lookup NoRegs) (none_apart (used main))
+              (no_variables (lookup NoRegs) (used main)) tt q.main_ok te tt there.of_main,
+        ),
+        good_both A N S Q C p P there.labels ok fs (es ++ ss) both.0
+            (good_both A N S Q C p P there.labels ok es ss main_extras both.1),
       )
 
 -- the property that each type has
@@ -183,5 +216,8 @@ accepted p main q =
     let ok = args_below p q.blocks q.tuples in (
       (refl, refl),
       tuples_ok p P there.labels p.tuples q.tuples,
-      good_accepted Any (λ k. Unit {0}) (λ t. Unit {0}) (λ k t. Unit {0}) any p P there.labels ok (generated_blocks p main) (all_good Any (λ k. Unit {0}) (λ t. Unit {0}) (λ k t. Unit {0}) any p main q (any_blocks p p.blocks) (any_term p main 0 [])),
+      good_accepted Any (λ k. Unit {0}) (λ t. Unit {0}) (λ k t. Unit {0}) any p P there.labels ok
+          (generated_blocks p main)
+          (all_good Any (λ k. Unit {0}) (λ t. Unit {0}) (λ k t. Unit {0}) any p main q (any_blocks p p.blocks)
+          (any_term p main 0 [])),
     )

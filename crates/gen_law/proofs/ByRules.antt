@@ -16,15 +16,15 @@ use Rattle.a_terms.specs.Bound.{thirds}
 use Rattle.t_types.specs.Tree.{Ty, NoRegs}
 use Rattle.t_terms.specs.Tree as T
 use Rattle.t_terms.specs.Tree.{TValue, TSeq, Then, Ends, TBlock}
-use Rattle.gen_law.specs.Gen.{ty, ty_args, tys, reg, place, applied_to, small, unnest, settle, home, uses, uses_any}
-use Rattle.gen_law.specs.Gen.{uses_decl, used, top, over, above, free, owner, target, spare, decl_code, tvars, code}
+use Rattle.gen_law.specs.Gen.{tys, reg, place, applied_to, small, unnest, settle, home, uses, uses_any}
+use Rattle.gen_law.specs.Gen.{uses_decl, used, over, above, free, owner, target, spare, decl_code, tvars, code}
 use Rattle.gen_law.specs.Gen.{header}
-use Rattle.gen_law.specs.Gen.{block, extras, rows, constant, datum_of, data_of, generated, generated_blocks}
+use Rattle.gen_law.specs.Gen.{block, extras, rows, constant, data_of, generated_blocks}
 use Rattle.gen_law.specs.Gen.{generated_heap}
 use Rattle.gen_law.specs.GenLaws.{length_extras}
 use Rattle.gen_law.specs.Counting.{first_of}
-use Rattle.gen_law.specs.Rules.{Held, holding, nothing, IsPlain, Reads, Comes, packages, most, Stay, Spare, Distinct}
-use Rattle.gen_law.specs.Rules.{Declares, Covers, Code, IsBlock, Fields, Tuples, Generates, GeneratedIsByRules, before}
+use Rattle.gen_law.specs.Rules.{Held, holding, nothing, IsPlain, Reads, most, Spare, Distinct}
+use Rattle.gen_law.specs.Rules.{Declares, Covers, Code, Fields, Tuples, GeneratedIsByRules, before}
 use Rattle.gen_law.proofs.Free.{top_place, top_least, top_fewer, free_apart, spare_apart}
 use Rattle.gen_law.proofs.Covers.{Apart, apart_fewer, apart_args, look_header, header_only, in_scope}
 use Rattle.gen_law.proofs.Laying.{laid_out}

@@ -41,20 +41,26 @@ grown_step B k (On e log) = go (estep B e)
     go None = tt
     go (Some (EGoes w f)) = grown_by k w log
 
-grown_later : (B : List ESeq) (k m n : ℕ) (s t u : LState) → m ≤ n → after B m s ≡ Some t → after B n s ≡ Some u → count k (entered t) ≤ count k (entered u)
+grown_later : (B : List ESeq) (k m n : ℕ) (s t u : LState) → m ≤ n → after B m s ≡ Some t → after B n s ≡ Some u →
+    count k (entered t) ≤ count k (entered u)
 grown_later B k zero zero s t u le x y = let e : t ≡ u = cc in omega (arith, ap (λ v. count k (entered v)) e)
-grown_later B k zero (suc n) s t u le x y = go (lstep B s) (grown_step B k s) y (λ v q. grown_later B k zero n v v u (omega arith) refl q)
+grown_later B k zero (suc n) s t u le x y =
+    go (lstep B s) (grown_step B k s) y (λ v q. grown_later B k zero n v v u (omega arith) refl q)
   where
     same : s ≡ t
     same = cc
 
-    go : (o : Option LState) → Grown k (entered s) o → so o (after B n) ≡ Some u → ((v : LState) → after B n v ≡ Some u → count k (entered v) ≤ count k (entered u)) → count k (entered t) ≤ count k (entered u)
+    go : (o : Option LState) → Grown k (entered s) o → so o (after B n) ≡ Some u →
+        ((v : LState) → after B n v ≡ Some u → count k (entered v) ≤ count k (entered u)) →
+        count k (entered t) ≤ count k (entered u)
     go None g q f = cc
     go (Some v) g q f = omega (arith, g, f v q, ap (λ v. count k (entered v)) same)
 grown_later B k (suc m) zero s t u le x y = absurd (omega arith)
 grown_later B k (suc m) (suc n) s t u le x y = go (lstep B s) x y (λ v p q. grown_later B k m n v t u (omega arith) p q)
   where
-    go : (o : Option LState) → so o (after B m) ≡ Some t → so o (after B n) ≡ Some u → ((v : LState) → after B m v ≡ Some t → after B n v ≡ Some u → count k (entered t) ≤ count k (entered u)) → count k (entered t) ≤ count k (entered u)
+    go : (o : Option LState) → so o (after B m) ≡ Some t → so o (after B n) ≡ Some u →
+        ((v : LState) → after B m v ≡ Some t → after B n v ≡ Some u → count k (entered t) ≤ count k (entered u)) →
+        count k (entered t) ≤ count k (entered u)
     go None p q f = cc
     go (Some v) p q f = f v p q
 
@@ -76,7 +82,8 @@ module _ (B : List ESeq) where
   one_answer (On (EAt h ρ (EThen k c)) log) i j x y = absurd x
 
   -- nothing comes after a halted state
-  last : (m n : ℕ) (s t u : LState) (w : ℤ) → after B m s ≡ Some t → HaltsAt t w → after B n s ≡ Some u → (n ≤ m) × (m ≤ n → t ≡ u)
+  last : (m n : ℕ) (s t u : LState) (w : ℤ) → after B m s ≡ Some t → HaltsAt t w → after B n s ≡ Some u →
+      (n ≤ m) × (m ≤ n → t ≡ u)
   last zero zero s t u w x a y = (omega arith, λ l. cc)
   last zero (suc n) s t u w x a y =
       let same : s ≡ t = cc in
@@ -88,7 +95,9 @@ module _ (B : List ESeq) where
   last (suc m) zero s t u w x a y = (omega arith, λ l. absurd (omega arith))
   last (suc m) (suc n) s t u w x a y = go (lstep B s) x y (λ v p q. last m n v t u w p a q)
     where
-      go : (o : Option LState) → so o (after B m) ≡ Some t → so o (after B n) ≡ Some u → ((v : LState) → after B m v ≡ Some t → after B n v ≡ Some u → (n ≤ m) × (m ≤ n → t ≡ u)) → (suc n ≤ suc m) × (suc m ≤ suc n → t ≡ u)
+      go : (o : Option LState) → so o (after B m) ≡ Some t → so o (after B n) ≡ Some u →
+          ((v : LState) → after B m v ≡ Some t → after B n v ≡ Some u → (n ≤ m) × (m ≤ n → t ≡ u)) →
+          (suc n ≤ suc m) × (suc m ≤ suc n → t ≡ u)
       go None p q k = cc
       go (Some v) p q k = let r = k v p q in (omega (arith, r.0), λ l. r.1 (omega arith))
 
@@ -149,7 +158,8 @@ module _ (p : AProg) (main : ATm) (P : TProg) (by_rules : Generates p main P) (k
       (calls_run p P.blocks (at + thirds main) k budget laid c) main first.code [] 0 at [] [] (start_heap p.tuples) []
       no_ewords (0 ∷ []) by_rules.main_block.2.code refl (λ n w y x. absurd (no_variable n w x)) base)
 
-  back_from : (m n : ℕ) (i : ℤ) (t : LState) → n ≤ m → after B n begins ≡ Some t → HaltsAt t i → (r : Result) → ((log : List ℕ) → r ≡ Wrong log → ⊥) → Follows B k limit begins m r → (log : List ℕ) × (r ≡ Halted i log)
+  back_from : (m n : ℕ) (i : ℤ) (t : LState) → n ≤ m → after B n begins ≡ Some t → HaltsAt t i → (r : Result) →
+      ((log : List ℕ) → r ≡ Wrong log → ⊥) → Follows B k limit begins m r → (log : List ℕ) × (r ≡ Halted i log)
   back_from m n i t le a h (Halted j log) ne f =
       let x = last B n f.steps begins t f.state i a h f.runs in
       let y = last B f.steps n begins f.state t j f.runs f.answers a in
@@ -162,7 +172,8 @@ module _ (p : AProg) (main : ATm) (P : TProg) (by_rules : Generates p main P) (k
       absurd (calling_answer B f.state i f.calls_next (subst (λ q. HaltsAt q i) same h))
   back_from m n i t le a h (Wrong log) ne f = absurd (ne log refl)
 
-  counts_from : (m : ℕ) (s : LState) → after B m begins ≡ Some s → (r : Result) → ((log : List ℕ) → r ≡ Wrong log → ⊥) → Follows B k limit begins m r → count k (entered s) ≤ limit (log_of r)
+  counts_from : (m : ℕ) (s : LState) → after B m begins ≡ Some s → (r : Result) →
+      ((log : List ℕ) → r ≡ Wrong log → ⊥) → Follows B k limit begins m r → count k (entered s) ≤ limit (log_of r)
   counts_from m s e (Halted i log) ne f =
       let x = last B f.steps m begins f.state s i f.runs f.answers e in
       let g = grown_later B k m f.steps begins s f.state x.0 e f.runs in
@@ -184,7 +195,8 @@ spare_out k b (suc n) o =
 spare_one : (k b n : ℕ) → spare k b n ≤ 1
 spare_one k b zero = omega arith
 spare_one k b (suc n) = ⊎_elim
-    (λ e. let z : one (k == b) ≡ 1 = ap one (eq-eqb k b e) in let r = spare_out k (suc b) n (inl (omega arith)) in omega (arith, z, r))
+    (λ e. let z : one (k == b) ≡ 1 = ap one (eq-eqb k b e) in let r = spare_out k (suc b) n (inl (omega arith)) in
+    omega (arith, z, r))
     (λ ne. let z : one (k == b) ≡ 0 = ap one (ne_eqb k b ne) in let r = spare_one k (suc b) n in omega (arith, z, r))
     (cases_eq k b)
 
@@ -193,7 +205,8 @@ first_least [] at l = omega arith
 first_least (b ∷ bs) at zero = omega arith
 first_least (b ∷ bs) at (suc l) = let r = first_least bs (at + thirds b.body) l in omega (arith, r)
 
-first_apart : (bs : List ABlk) (at l j : ℕ) (b : ABlk) → slice_get bs l ≡ Some b → l < j → first_of bs at l + thirds b.body ≤ first_of bs at j
+first_apart : (bs : List ABlk) (at l j : ℕ) (b : ABlk) → slice_get bs l ≡ Some b → l < j →
+    first_of bs at l + thirds b.body ≤ first_of bs at j
 first_apart [] at l j b e x = absurd (impossible e)
   where
     impossible : None ≡ Some b → ⊥
@@ -214,12 +227,15 @@ within_blocks (c ∷ bs) (suc l) b e = let r = within_blocks bs l b e in omega (
 module _ (bs : List ABlk) (at k l : ℕ) (b : ABlk) (past : length bs < at) (m : MadeOf bs at k l b) where
   share_here : share bs at k l ≤ 1
   share_here =
-      let s : share bs at k l ≡ one (k == suc l) + spare k (first_of bs at l) (thirds b.body) = ap (share_of k l (first_of bs at l)) m.there in
+      let s : share bs at k l ≡ one (k == suc l) + spare k (first_of bs at l) (thirds b.body) =
+      ap (share_of k l (first_of bs at l)) m.there in
       let w = within_blocks bs l b m.there in
       let f = first_least bs at l in
       ⊎_elim
-      (λ e. let z : one (k == suc l) ≡ 1 = ap one (eq-eqb k (suc l) e) in let r = spare_out k (first_of bs at l) (thirds b.body) (inl (omega arith)) in omega (arith, s, z, r))
-      (λ ne. let z : one (k == suc l) ≡ 0 = ap one (ne_eqb k (suc l) ne) in let r = spare_one k (first_of bs at l) (thirds b.body) in omega (arith, s, z, r))
+      (λ e. let z : one (k == suc l) ≡ 1 = ap one (eq-eqb k (suc l) e) in
+      let r = spare_out k (first_of bs at l) (thirds b.body) (inl (omega arith)) in omega (arith, s, z, r))
+      (λ ne. let z : one (k == suc l) ≡ 0 = ap one (ne_eqb k (suc l) ne) in
+      let r = spare_one k (first_of bs at l) (thirds b.body) in omega (arith, s, z, r))
       (cases_eq k (suc l))
 
   share_none : (j : ℕ) (o : Option ABlk) → slice_get bs j ≡ o → (l ≡ j → ⊥) → share_of k j (first_of bs at j) o ≡ 0
@@ -234,14 +250,17 @@ module _ (bs : List ABlk) (at k l : ℕ) (b : ABlk) (past : length bs < at) (m :
       let out : (k < first_of bs at j) ⊎ (first_of bs at j + thirds c.body ≤ k) =
       ⊎_elim
       (λ y. inl (omega arith))
-      (λ y. ⊎_elim (λ q. absurd (ne q)) (λ q. ⊎_elim (λ lt. let r = first_apart bs at l j b m.there lt in inl (omega (arith, r))) (λ gt. let r = first_apart bs at j l c e gt in inr (omega (arith, r))) q) (cases_order l j))
+      (λ y. ⊎_elim (λ q. absurd (ne q))
+      (λ q. ⊎_elim (λ lt. let r = first_apart bs at l j b m.there lt in inl (omega (arith, r)))
+      (λ gt. let r = first_apart bs at j l c e gt in inr (omega (arith, r))) q) (cases_order l j))
       m.own in
       let r = spare_out k (first_of bs at j) (thirds c.body) out in
       omega (arith, z, r)
 
   share_most : (j : ℕ) → share bs at k j ≤ one (l == j)
   share_most j = ⊎_elim
-      (λ e. let z : one (l == j) ≡ 1 = ap one (eq-eqb l j e) in let y = ap (share bs at k) e in omega (arith, z, y, share_here))
+      (λ e. let z : one (l == j) ≡ 1 = ap one (eq-eqb l j e) in let y = ap (share bs at k) e in
+      omega (arith, z, y, share_here))
       (λ ne. omega (arith, share_none j (slice_get bs j) refl ne))
       (cases_eq l j)
 
@@ -268,7 +287,8 @@ module _ (bs : List ABlk) (at k : ℕ) (past : length bs < k) (before : k < at) 
 
   credit_main : (main : ℕ) (log : List ℕ) → credit bs at k main log ≡ main
   credit_main main [] = refl
-  credit_main main (j ∷ log) = let r = credit_main main log in let s = share_far j (slice_get bs j) refl in omega (arith, r, s)
+  credit_main main (j ∷ log) =
+      let r = credit_main main log in let s = share_far j (slice_get bs j) refl in omega (arith, r, s)
 
 -- nothing enters block 0
 share_zero : (bs : List ABlk) (at j : ℕ) (o : Option ABlk) → 0 < at → share_of 0 j (first_of bs at j) o ≡ 0
@@ -281,7 +301,8 @@ share_zero bs at j (Some c) l =
 
 credit_zero : (bs : List ABlk) (at main : ℕ) (log : List ℕ) → 0 < at → credit bs at 0 main log ≡ main
 credit_zero bs at main [] l = refl
-credit_zero bs at main (j ∷ log) l = let r = credit_zero bs at main log l in let s = share_zero bs at j (slice_get bs j) l in omega (arith, r, s)
+credit_zero bs at main (j ∷ log) l =
+    let r = credit_zero bs at main log l in let s = share_zero bs at j (slice_get bs j) l in omega (arith, r, s)
 
 module _ (runs : RunsErase) (halts : HaltsErased) (steps : StepsFirst) (times : TimesWithinEntries) (p : AProg)
     (main : ATm) (P : TProg) (by_rules : Generates p main P) (never : NeverWrong p main) (whole : Whole P)

@@ -12,7 +12,7 @@ use Rattle.a_terms.specs.Meaning.{AWord, ZInt, ZTuple, ZLabel, AHeap, Made, Give
 use Rattle.a_terms.specs.Meaning.{given, at_field, empties}
 use Rattle.t_types.specs.Tree.{Ty}
 use Rattle.t_terms.specs.Tree as T
-use Rattle.t_terms.specs.Tree.{TValue, TInstr, TSeq, Then, Ends}
+use Rattle.t_terms.specs.Tree.{TValue, TInstr, TSeq, Then}
 use Rattle.t_rules.specs.Registers.{with_reg}
 use Rattle.t_rules.specs.Machine.{Next}
 use Rattle.t_rules.specs.Erase.{EWord, EInt, EAddress, EEmpty, EHeap, ERegs, EAt, EStep, EGoes, ESeq, erase_seq}
@@ -115,17 +115,28 @@ full_word (ZTuple a) go = refl
 full_word (ZLabel l) go = refl
 
 module _ (B : List ESeq) (log : List ℕ) where
-  arith_step : (h : EHeap) (ρ : ERegs) (rest : TSeq) (o : Op) (rd rs : ℕ) (x2 : TValue) (a b : ℤ) → ρ rs ≡ Some (EInt a) → base_word ρ (erase_value x2) ≡ Some (EInt b) → lstep B (at h ρ (Then (T.Arith o rd rs x2) rest) log) ≡ Some (at h (with_reg ρ rd (EInt (compute o a b))) rest log)
+  arith_step : (h : EHeap) (ρ : ERegs) (rest : TSeq) (o : Op) (rd rs : ℕ) (x2 : TValue) (a b : ℤ) →
+      ρ rs ≡ Some (EInt a) → base_word ρ (erase_value x2) ≡ Some (EInt b) →
+      lstep B (at h ρ (Then (T.Arith o rd rs x2) rest) log)
+      ≡ Some (at h (with_reg ρ rd (EInt (compute o a b))) rest log)
   arith_step h ρ rest o rd rs x2 a b x y = rw (x, y) refl
 
-  ld_step : (h : EHeap) (ρ : ERegs) (rest : TSeq) (rd rs i a : ℕ) (t : List EWord) (w : AWord) → ρ rs ≡ Some (EAddress a) → slice_get h a ≡ Some t → slice_get t i ≡ Some (word w) → lstep B (at h ρ (Then (T.Ld rd rs i) rest) log) ≡ Some (at h (with_reg ρ rd (word w)) rest log)
+  ld_step : (h : EHeap) (ρ : ERegs) (rest : TSeq) (rd rs i a : ℕ) (t : List EWord) (w : AWord) →
+      ρ rs ≡ Some (EAddress a) → slice_get h a ≡ Some t → slice_get t i ≡ Some (word w) →
+      lstep B (at h ρ (Then (T.Ld rd rs i) rest) log) ≡ Some (at h (with_reg ρ rd (word w)) rest log)
   ld_step h ρ rest rd rs i a t w x y z =
-      rw (x, y, z) (ap (option_map (logged log)) (full_word w (λ v. Some (EGoes Next (EAt h (with_reg ρ rd v) (erase_seq rest))))))
+      rw (x, y, z)
+      (ap (option_map (logged log))
+      (full_word w (λ v. Some (EGoes Next (EAt h (with_reg ρ rd v) (erase_seq rest))))))
 
-  st_step : (h : EHeap) (ρ : ERegs) (rest : TSeq) (rd rs i a : ℕ) (t : List EWord) (w : EWord) → ρ rd ≡ Some (EAddress a) → ρ rs ≡ Some w → slice_get h a ≡ Some t → i < length t → lstep B (at h ρ (Then (T.St rd i rs) rest) log) ≡ Some (at (slice_set h a (slice_set t i w)) ρ rest log)
+  st_step : (h : EHeap) (ρ : ERegs) (rest : TSeq) (rd rs i a : ℕ) (t : List EWord) (w : EWord) →
+      ρ rd ≡ Some (EAddress a) → ρ rs ≡ Some w → slice_get h a ≡ Some t → i < length t →
+      lstep B (at h ρ (Then (T.St rd i rs) rest) log) ≡ Some (at (slice_set h a (slice_set t i w)) ρ rest log)
   st_step h ρ rest rd rs i a t w x y z lt = let b = lt-ltb i (length t) lt in rw (x, z, y, b) refl
 
-  unpack_step : (h : EHeap) (ρ : ERegs) (rest : TSeq) (rd : ℕ) (v : TValue) (w : EWord) → base_word ρ (erase_value v) ≡ Some w → lstep B (at h ρ (Then (T.Unpack rd v) rest) log) ≡ Some (at h (with_reg ρ rd w) rest log)
+  unpack_step : (h : EHeap) (ρ : ERegs) (rest : TSeq) (rd : ℕ) (v : TValue) (w : EWord) →
+      base_word ρ (erase_value v) ≡ Some w → lstep B (at h ρ (Then (T.Unpack rd v) rest) log)
+      ≡ Some (at h (with_reg ρ rd w) rest log)
   unpack_step h ρ rest rd v w x = rw x refl
 
   module _ (m : List ℕ) (r : ℕ) (e : ATm) (ρ : ERegs) (env : List AWord) (h : AHeap) (is rest : TSeq) where
@@ -222,7 +233,8 @@ module _ (B : List ESeq) (log : List ℕ) where
         let s = field_at h a j t f p o in
         let n : j ≡ i - 1 = omega (arith, z) in
         let within : i - 1 < length (tuple t) = omega (arith, slice_get_within t j f o, length-map t slot, n) in
-        let new : slice_set (heap h) a (slice_set (tuple t) (i - 1) (word w)) ≡ heap (slice_set h a (slice_set t j (Some w))) =
+        let new : slice_set (heap h) a (slice_set (tuple t) (i - 1) (word w))
+        ≡ heap (slice_set h a (slice_set t j (Some w))) =
         ap (λ k. slice_set (heap h) a (slice_set (tuple t) k (word w))) (sym n)
         ∙ ap (λ l. slice_set (heap h) a l) (sym (map-set slot t j (Some w)))
         ∙ sym (map-set tuple h a (slice_set t j (Some w))) in

@@ -5,10 +5,13 @@ use Rattle.std.proofs.lemmas.Bool.{cond_both}
 use Rattle.t_types.specs.Tree.{Ty}
 use Rattle.t_terms.specs.Tree as T
 use Rattle.t_terms.specs.Tree.{TValue, TSeq, Then, Ends, TBlock}
-use Rattle.a_terms.specs.Tree.{ATy, AVal, Var, Num, Lab, Data, Apply, Pack, ADecl, Value, Proj, Arith, Unpack, Malloc, Init, ATm, Let, Call, If0, Halt, ABlk, AConsts, AProg, arity}
+use Rattle.a_terms.specs.Tree.{ATy, AVal, Var, Num, Lab, Data, Apply, Pack, ADecl, Value, Proj, Arith, Unpack, Malloc}
+use Rattle.a_terms.specs.Tree.{Init, ATm, Let, Call, If0, Halt, ABlk, AConsts, AProg, arity}
 use Rattle.a_terms.specs.Typing.{declared, more_vars, types_of, Unpacked, Flat, Data-ok, Tuples-ok, Program-ok}
 use Rattle.a_terms.specs.Bound.{thirds}
-use Rattle.gen_law.specs.Gen.{tys, inside, small, boxed, unnest, stands, move, settle, target, decl_code, saved, call_code, above, code, extras, rows, firsts, seconds, applied_to, constant, data_of, generated_heap, generated}
+use Rattle.gen_law.specs.Gen.{tys, inside, small, boxed, unnest, stands, move, settle, target, decl_code, saved}
+use Rattle.gen_law.specs.Gen.{call_code, above, code, extras, rows, firsts, seconds, applied_to, constant, data_of}
+use Rattle.gen_law.specs.Gen.{generated_heap, generated}
 use Rattle.gen_law.specs.Packs.{NoPack, FlatValue, FlatSeq, FlatBlocks, FlatData, FlatHeap, FlatProgram}
 
 inside_none : (t : ℕ) (x : TValue) → NoPack (inside t x)
@@ -50,7 +53,8 @@ settle_flat t (T.Plain (T.Label l) us) rest f h = (f, h)
 settle_flat t (T.Plain (T.Data n) us) rest f h = (f, h)
 settle_flat t (T.Pack p v s) rest f h = (f, h)
 
-settled_flat : (t : ℕ) (m : List ℕ) (v : AVal) (rest : TSeq) → FlatSeq rest → FlatSeq (unnest t m v (settle t (small t m v) rest))
+settled_flat : (t : ℕ) (m : List ℕ) (v : AVal) (rest : TSeq) → FlatSeq rest →
+    FlatSeq (unnest t m v (settle t (small t m v) rest))
 settled_flat t m v rest h = unnest_flat t m v _ (settle_flat t (small t m v) rest (small_flat t m v) h)
 
 decl_flat : (t : ℕ) (m : List ℕ) (r : ℕ) (x : ADecl) (rest : TSeq) → FlatSeq rest → FlatSeq (decl_code t m r x rest)
@@ -59,7 +63,8 @@ decl_flat t m r (Proj i v) rest h = settled_flat r m v _ (tt, h)
 decl_flat t m r (Arith o v w) rest h = settled_flat t m v _ (unnest_flat (suc t) m w _ (small_flat (suc t) m w, h))
 decl_flat t m r (Unpack v) rest h = unnest_flat r m v _ (small_flat r m v, h)
 decl_flat t m r (Malloc ts) rest h = (tt, h)
-decl_flat t m r (Init v i w) rest h = unnest_flat _ m v _ (move_flat r _ _ (small_flat _ m v) (settled_flat _ m w _ (tt, h)))
+decl_flat t m r (Init v i w) rest h =
+    unnest_flat _ m v _ (move_flat r _ _ (small_flat _ m v) (settled_flat _ m w _ (tt, h)))
 
 saved_flat : (o : Bool) (b r : ℕ) (rest : TSeq) → FlatSeq rest → FlatSeq (saved o b r rest)
 saved_flat false b r rest h = h
@@ -83,8 +88,11 @@ both_flat (x ∷ xs) ys a b = (a.0, both_flat xs ys a.1 b)
 extras_flat : (p : AProg) (k : ℕ) (m : List ℕ) (g : List ATy) (at : ℕ) (e : ATm) → FlatBlocks (extras p k m g at e)
 extras_flat p k m g at (Let x e) = extras_flat p (more_vars x k) (target m x e ∷ m) (declared p g x) at e
 extras_flat p k m g at (Call v ts vs) = tt
-extras_flat p k m g at (If0 v a b) =
-    (code_flat k m (suc at + thirds a) b, both_flat (extras p k m g (suc at) a) (extras p k m g (suc at + thirds a) b) (extras_flat p k m g (suc at) a) (extras_flat p k m g (suc at + thirds a) b))
+extras_flat p k m g at (If0 v a b) = (
+  code_flat k m (suc at + thirds a) b,
+  both_flat (extras p k m g (suc at) a) (extras p k m g (suc at + thirds a) b)
+      (extras_flat p k m g (suc at) a) (extras_flat p k m g (suc at + thirds a) b),
+)
 extras_flat p k m g at (Halt v) = tt
 
 firsts_flat : (bs : List ABlk) (at : ℕ) → FlatBlocks (firsts bs at)
@@ -94,7 +102,9 @@ firsts_flat (b ∷ bs) at = (code_flat b.owes (rows (arity b.args)) at b.body, f
 seconds_flat : (p : AProg) (bs : List ABlk) (at : ℕ) → FlatBlocks (seconds p bs at)
 seconds_flat p [] at = tt
 seconds_flat p (b ∷ bs) at =
-    both_flat (extras p b.owes (rows (arity b.args)) (types_of b.args []) at b.body) (seconds p bs (at + thirds b.body)) (extras_flat p b.owes (rows (arity b.args)) (types_of b.args []) at b.body) (seconds_flat p bs (at + thirds b.body))
+    both_flat (extras p b.owes (rows (arity b.args)) (types_of b.args []) at b.body)
+    (seconds p bs (at + thirds b.body)) (extras_flat p b.owes (rows (arity b.args)) (types_of b.args []) at b.body)
+    (seconds_flat p bs (at + thirds b.body))
 
 -- the data
 applied_none : (v : TValue) (ts : List Ty) → NoPack v → NoPack (applied_to v ts)
@@ -131,6 +141,10 @@ flat p main q =
     let at0 = at + thirds main in
     let es = extras p 0 [] [] at main in
     let ss = seconds p p.blocks at0 in (
-      (code_flat 0 [] at main, both_flat (firsts p.blocks at0) (es ++ ss) (firsts_flat p.blocks at0) (both_flat es ss (extras_flat p 0 [] [] at main) (seconds_flat p p.blocks at0))),
+      (
+        code_flat 0 [] at main,
+        both_flat (firsts p.blocks at0) (es ++ ss) (firsts_flat p.blocks at0)
+            (both_flat es ss (extras_flat p 0 [] [] at main) (seconds_flat p p.blocks at0)),
+      ),
       heap_flat p p.tuples q.tuples,
     )

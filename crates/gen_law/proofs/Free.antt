@@ -1,7 +1,8 @@
 -- Registers above those that are used, and free ones.
 use Rattle.std.proofs.Common.{◌≡◌, ℕ, zero, suc, ◌+◌, ◌<◌, ◌≤◌, List, [], ◌∷◌, sym, ◌∙◌, arith, cond, ⊎_elim}
 use Rattle.std.specs.Prelude.{◌==◌, nat_lt, Bool, true, false, ◌&&◌, not, length}
-use Rattle.std.proofs.lemmas.Bool.{eq-eqb, eqb-true, ltb-true, ltb-false, cond_both, or_left, or_right, or_cases, and_from, and_parts, and_cases, not-true}
+use Rattle.std.proofs.lemmas.Bool.{eq-eqb, eqb-true, ltb-true, ltb-false, cond_both, or_left, or_right, or_cases}
+use Rattle.std.proofs.lemmas.Bool.{and_from, and_parts, and_cases, not-true}
 use Rattle.a_terms.specs.Tree.{AVal, ATm, Let, Call, If0, Halt}
 use Rattle.gen_law.specs.Gen.{place, top, busy, first_free, names, argument, wanted, arguments, picked, free, spare}
 
@@ -13,7 +14,11 @@ step : (b r : ℕ) (o : Bool) → (b ≤ cond (o && nat_lt b r) r b) × (o ≡ t
 step b r o =
     cond_both (o && nat_lt b r) r b (λ x. (b ≤ x) × (o ≡ true → r ≤ x))
     (λ e. let lt = ltb-true b r (and_parts o (nat_lt b r) e).1 in (omega (arith, lt), λ y. omega arith))
-    (λ e. (omega arith, λ y. ⊎_elim (λ z. absurd (clash (sym y ∙ z))) (λ z. (let ge = ltb-false b r z in omega (arith, ge))) (and_cases o (nat_lt b r) e)))
+    (λ e. (
+      omega arith,
+      λ y. ⊎_elim (λ z. absurd (clash (sym y ∙ z))) (λ z. (let ge = ltb-false b r z in omega (arith, ge)))
+          (and_cases o (nat_lt b r) e),
+    ))
 
 pub top_least : (b : ℕ) (m : List ℕ) (u : ℕ → Bool) → b ≤ top b m u
 top_least b [] u = omega arith
@@ -31,20 +36,25 @@ top_place b (r ∷ m) u zero y =
 top_place b (r ∷ m) u (suc n) y = top_place (cond (u 0 && nat_lt b r) r b) m (λ n. u (suc n)) n y
 
 -- fewer of them
-pub top_fewer : (b c : ℕ) (m : List ℕ) (u v : ℕ → Bool) → ((n : ℕ) → v n ≡ true → u n ≡ true) → b ≤ c → top b m v ≤ top c m u
+pub top_fewer : (b c : ℕ) (m : List ℕ) (u v : ℕ → Bool) → ((n : ℕ) → v n ≡ true → u n ≡ true) → b ≤ c →
+    top b m v ≤ top c m u
 top_fewer b c [] u v k le = le
 top_fewer b c (r ∷ m) u v k le =
     let s = step c r (u 0) in
-    let first : cond (v 0 && nat_lt b r) r b ≤ cond (u 0 && nat_lt c r) r c = cond_both (v 0 && nat_lt b r) r b (λ x. x ≤ cond (u 0 && nat_lt c r) r c)
+    let first : cond (v 0 && nat_lt b r) r b ≤ cond (u 0 && nat_lt c r) r c =
+    cond_both (v 0 && nat_lt b r) r b (λ x. x ≤ cond (u 0 && nat_lt c r) r c)
     (λ e. s.1 (k 0 (and_parts (v 0) (nat_lt b r) e).0))
     (λ e. omega (arith, s.0, le)) in
-    top_fewer (cond (v 0 && nat_lt b r) r b) (cond (u 0 && nat_lt c r) r c) m (λ n. u (suc n)) (λ n. v (suc n)) (λ n y. k (suc n) y) first
+    top_fewer (cond (v 0 && nat_lt b r) r b) (cond (u 0 && nat_lt c r) r c) m (λ n. u (suc n)) (λ n. v (suc n))
+    (λ n y. k (suc n) y) first
 
 -- a register of a variable that is used is found
 pub busy_place : (r : ℕ) (m : List ℕ) (u : ℕ → Bool) (n : ℕ) → 1 ≤ r → u n ≡ true → place m n ≡ r → busy r m u ≡ true
 busy_place r [] u n le y e = absurd (omega (arith, e))
-busy_place r (q ∷ m) u zero le y e = or_left (u 0 && q == r) (busy r m (λ n. u (suc n))) (and_from (u 0) (q == r) y (eq-eqb q r e))
-busy_place r (q ∷ m) u (suc n) le y e = or_right (u 0 && q == r) (busy r m (λ n. u (suc n))) (busy_place r m (λ n. u (suc n)) n le y e)
+busy_place r (q ∷ m) u zero le y e =
+    or_left (u 0 && q == r) (busy r m (λ n. u (suc n))) (and_from (u 0) (q == r) y (eq-eqb q r e))
+busy_place r (q ∷ m) u (suc n) le y e =
+    or_right (u 0 && q == r) (busy r m (λ n. u (suc n))) (busy_place r m (λ n. u (suc n)) n le y e)
 
 -- and one that is found is that of a variable that is used
 pub busy_found : (r : ℕ) (m : List ℕ) (u : ℕ → Bool) → busy r m u ≡ true → (n : ℕ) × (u n ≡ true) × (place m n ≡ r)
@@ -71,7 +81,8 @@ first_within (suc n) r k m u lt le =
     first_within n (suc r) k m u lt (omega (arith, lt, t, p.2)))
     (λ e. le)
 
-pub first_apart : (n r : ℕ) (m : List ℕ) (u : ℕ → Bool) (i : ℕ) → 1 ≤ r → top 0 m u < r + n → u i ≡ true → place m i ≡ first_free n r m u → ⊥
+pub first_apart : (n r : ℕ) (m : List ℕ) (u : ℕ → Bool) (i : ℕ) → 1 ≤ r → top 0 m u < r + n → u i ≡ true →
+    place m i ≡ first_free n r m u → ⊥
 first_apart zero r m u i le lt y e = let t = top_place 0 m u i y in absurd (omega (arith, t, e))
 first_apart (suc n) r m u i le lt y e =
     cond_both (busy r m u) (first_free n (suc r) m u) r (λ x. place m i ≡ x → ⊥)
@@ -91,7 +102,8 @@ picked_apart h s m u i le y e =
 pub free_apart : (m : List ℕ) (u : ℕ → Bool) (e : ATm) (i : ℕ) → u i ≡ true → place m i ≡ free m u e → ⊥
 free_apart m u e i y z = picked_apart (wanted e 0) (suc (arguments e)) m u i (omega arith) y z
 
-picked_within : (h s k : ℕ) (m : List ℕ) (u : ℕ → Bool) → 1 ≤ s → top 0 m u < k → h ≤ k → s ≤ k → (1 ≤ picked h s m u) × (picked h s m u ≤ k)
+picked_within : (h s k : ℕ) (m : List ℕ) (u : ℕ → Bool) → 1 ≤ s → top 0 m u < k → h ≤ k → s ≤ k →
+    (1 ≤ picked h s m u) × (picked h s m u ≤ k)
 picked_within h s k m u one lt hk sk =
     cond_both (nat_lt 0 h && not (busy h m u)) h (first_free (top 0 m u) s m u) (λ x. (1 ≤ x) × (x ≤ k))
     (λ c. let l = ltb-true 0 h (and_parts (nat_lt 0 h) (not (busy h m u)) c).0 in (omega (arith, l), hk))
@@ -111,7 +123,8 @@ wanted_within (If0 v a b) n = wanted_within a n
 wanted_within (Halt v) n = cond_both (names v n) 1 0 (λ x. x ≤ 1) (λ c. omega arith) (λ c. omega arith)
 
 -- it is above all that are used, or above the arguments of the end, by one at most
-pub free_within : (k : ℕ) (m : List ℕ) (u : ℕ → Bool) (e : ATm) → top 0 m u < k → arguments e < k → (1 ≤ free m u e) × (free m u e ≤ k)
+pub free_within : (k : ℕ) (m : List ℕ) (u : ℕ → Bool) (e : ATm) → top 0 m u < k → arguments e < k →
+    (1 ≤ free m u e) × (free m u e ≤ k)
 free_within k m u e lt more =
     let w = wanted_within e 0 in
     picked_within (wanted e 0) (suc (arguments e)) k m u (omega arith) lt (omega (arith, w, more)) (omega (arith, more))

@@ -1,5 +1,6 @@
 -- How a generated program is laid out.
-use Rattle.std.proofs.Common.{◌≡◌, ℕ, zero, suc, ◌+◌, List, [], ◌∷◌, ◌++◌, Some, length, refl, sym, ap, ◌∙◌, arith, length-append, slice_get}
+use Rattle.std.proofs.Common.{◌≡◌, ℕ, zero, suc, ◌+◌, List, [], ◌∷◌, ◌++◌, Some, length, refl, sym, ap, ◌∙◌, arith}
+use Rattle.std.proofs.Common.{length-append, slice_get}
 use Rattle.std.specs.Prelude.{option_map}
 use Rattle.a_terms.specs.Tree.{ATy, ATm, Let, Call, If0, Halt, ABlk, AConsts, AProg, arity}
 use Rattle.a_terms.specs.Typing.{declared, more_vars, types_of}
@@ -16,25 +17,36 @@ length_seconds p [] at = refl
 length_seconds p (b ∷ bs) at =
     let es = extras p b.owes (rows (arity b.args)) (types_of b.args []) at b.body in
     let rest = seconds p bs (at + thirds b.body) in
-    omega (arith, length-append es rest, length_extras p b.owes (rows (arity b.args)) (types_of b.args []) at b.body, length_seconds p bs (at + thirds b.body))
+    omega (
+      arith,
+      length-append es rest,
+      length_extras p b.owes (rows (arity b.args)) (types_of b.args []) at b.body,
+      length_seconds p bs (at + thirds b.body),
+    )
 
 length_heap : (xs : List AConsts) → length (generated_heap xs) ≡ length xs
 length_heap [] = refl
 length_heap (x ∷ xs) = ap suc (length_heap xs)
 
-tuple_at : (xs : List AConsts) (n : ℕ) (x : AConsts) → slice_get xs n ≡ Some x → slice_get (generated_heap xs) n ≡ Some (data_of x)
+tuple_at : (xs : List AConsts) (n : ℕ) (x : AConsts) → slice_get xs n ≡ Some x →
+    slice_get (generated_heap xs) n ≡ Some (data_of x)
 tuple_at [] n x e = cc
 tuple_at (y ∷ xs) zero x e = ap (option_map data_of) e
 tuple_at (y ∷ xs) (suc n) x e = tuple_at xs n x e
 
-thirds_at : (P : List TBlock) (p : AProg) (k : ℕ) (m : List ℕ) (g : List ATy) (at : ℕ) (e : ATm) → HasAt P at (extras p k m g at e) → ThirdsAt P p k m g at e
+thirds_at : (P : List TBlock) (p : AProg) (k : ℕ) (m : List ℕ) (g : List ATy) (at : ℕ) (e : ATm) →
+    HasAt P at (extras p k m g at e) → ThirdsAt P p k m g at e
 thirds_at P p k m g at (Let x e) h = thirds_at P p (more_vars x k) (target m x e ∷ m) (declared p g x) at e h
 thirds_at P p k m g at (Call v ts vs) h = tt
 thirds_at P p k m g at (If0 v a b) h =
     let ea = extras p k m g (suc at) a in
     let eb = extras p k m g (suc at + thirds a) b in
-    let n = length_extras p k m g (suc at) a in
-    (h.0, thirds_at P p k m g (suc at) a (has_front P (suc at) ea eb h.1), thirds_at P p k m g (suc at + thirds a) b (has_back P (suc at) (suc at + thirds a) ea eb (ap (λ i. suc at + i) (sym n)) h.1))
+    let n = length_extras p k m g (suc at) a in (
+      h.0,
+      thirds_at P p k m g (suc at) a (has_front P (suc at) ea eb h.1),
+      thirds_at P p k m g (suc at + thirds a) b
+          (has_back P (suc at) (suc at + thirds a) ea eb (ap (λ i. suc at + i) (sym n)) h.1),
+    )
 thirds_at P p k m g at (Halt v) h = tt
 
 pub laid_out : LaidOut
@@ -55,9 +67,12 @@ laid_out p main =
     let later = has_back P at at0 es ss (omega (arith, l2)) others in
     record {
       main_block = refl;
-      blocks = λ l b e. (let z : 1 + l ≡ suc l = omega arith in ap (slice_get P) (sym z) ∙ block_at P p.blocks 1 at0 l b there e);
+      blocks = λ l b e.
+          (let z : 1 + l ≡ suc l = omega arith in ap (slice_get P) (sym z) ∙ block_at P p.blocks 1 at0 l b there e);
       main_thirds = thirds_at P p 0 [] [] at main (has_front P at es ss others);
-      block_thirds = λ l b e. thirds_at P p b.owes (rows (arity b.args)) (types_of b.args []) (first_of p.blocks at0 l) b.body (extras_at P p p.blocks at0 l b later e);
+      block_thirds =
+          λ l b e. thirds_at P p b.owes (rows (arity b.args)) (types_of b.args []) (first_of p.blocks at0 l) b.body
+          (extras_at P p p.blocks at0 l b later e);
       count = omega (arith, l1, l2, l3, l4, l5);
       tuples = tuple_at p.tuples;
       tuple_count = length_heap p.tuples;

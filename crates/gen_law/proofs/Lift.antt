@@ -1,5 +1,6 @@
 -- The erased machine with its entries, and the typed machine of an accepted program.
-use Rattle.std.proofs.Common.{◌≡◌, ℕ, zero, suc, ◌==◌, cond, ◌≤◌, List, [], ◌∷◌, Option, Some, None, refl, sym, ap, ◌∙◌, subst, arith, slice_get, ⊎_elim}
+use Rattle.std.proofs.Common.{◌≡◌, ℕ, zero, suc, ◌==◌, cond, ◌≤◌, List, [], ◌∷◌, Option, Some, None, refl, sym, ap}
+use Rattle.std.proofs.Common.{◌∙◌, subst, arith, slice_get, ⊎_elim}
 use Rattle.std.specs.Prelude.{ℤ, count_by, option_map, option_and_then}
 use Rattle.std.proofs.lemmas.List.Sums.{sum_by-cons}
 use Rattle.std.proofs.lemmas.Bool.{cases_eq, eq-eqb, ne_eqb}
@@ -8,7 +9,8 @@ use Rattle.t_terms.specs.Whole.{Whole}
 use Rattle.t_rules.specs.Rules.{Accepted}
 use Rattle.t_rules.specs.Machine.{State, Place, After, HaltsWithin}
 use Rattle.t_rules.specs.Times.{entries}
-use Rattle.t_rules.specs.Erase.{ESeq, EState, EAt, EStep, EGoes, no_ewords, erase, erase_block, erase_blocks, erase_heap, estep, EHaltedWith}
+use Rattle.t_rules.specs.Erase.{ESeq, EState, EAt, EStep, EGoes, no_ewords, erase, erase_block, erase_blocks}
+use Rattle.t_rules.specs.Erase.{erase_heap, estep, EHaltedWith}
 use Rattle.t_rules.specs.ErasedRuns.{ERun, EOn, went, onward, erun_first, begun, RunsErase, HaltsErased, StepsFirst}
 use Rattle.gen_law.specs.Counting.{one, count}
 use Rattle.gen_law.proofs.Leads.{LState, On, logged, lstep, so, after}
@@ -28,7 +30,9 @@ after_placeless : (B : List ESeq) (m : ℕ) (x : ERun) → option_map placeless 
 after_placeless B zero x = refl
 after_placeless B (suc m) x = go (onward B x) (lstep B (placeless x)) (step_placeless B x) (λ y. after_placeless B m y)
   where
-    go : (o : Option ERun) (q : Option LState) → option_map placeless o ≡ q → ((y : ERun) → option_map placeless (erun_first B m y) ≡ after B m (placeless y)) → option_map placeless (option_and_then (erun_first B m) o) ≡ so q (after B m)
+    go : (o : Option ERun) (q : Option LState) → option_map placeless o ≡ q →
+        ((y : ERun) → option_map placeless (erun_first B m y) ≡ after B m (placeless y)) →
+        option_map placeless (option_and_then (erun_first B m) o) ≡ so q (after B m)
     go None q e f = ap (λ r. so r (after B m)) e
     go (Some y) q e f = f y ∙ ap (λ r. so r (after B m)) e
 
@@ -50,27 +54,40 @@ count_same l (x ∷ xs) =
     (cases_eq x l) in
     omega (arith, a, b, count_same l xs)
 
-module _ (runs : RunsErase) (halts : HaltsErased) (first : StepsFirst) (P : TProg) (whole : Whole P) (acc : Accepted P) (b : TBlock) (there : slice_get P.blocks 0 ≡ Some b) where
+module _ (runs : RunsErase) (halts : HaltsErased) (first : StepsFirst) (P : TProg) (whole : Whole P) (acc : Accepted P)
+    (b : TBlock) (there : slice_get P.blocks 0 ≡ Some b) where
   abbrev B : List ESeq
   B = erase_blocks P
 
   -- a run of the typed machine is one of the erased machine, with the same entries
-  pub run_logged : (m : ℕ) (s : State) (p : Place) (run : After P m s p) → after B m (start_of P b) ≡ Some (On (erase s) (entries P m s p run))
+  pub run_logged : (m : ℕ) (s : State) (p : Place) (run : After P m s p) →
+      after B m (start_of P b) ≡ Some (On (erase s) (entries P m s p run))
   run_logged m s p run =
-      sym (after_placeless B m (begun P b)) ∙ ap (option_map placeless) (first B m (begun P b) ∙ runs P whole acc b there m s p run)
+      sym (after_placeless B m (begun P b))
+      ∙ ap (option_map placeless) (first B m (begun P b) ∙ runs P whole acc b there m s p run)
 
   -- where the erased machine halts the typed one does
-  pub halts_typed : (m : ℕ) (e : EState) (log : List ℕ) (i : ℤ) → after B m (start_of P b) ≡ Some (On e log) → EHaltedWith e i → HaltsWithin P m i
+  pub halts_typed : (m : ℕ) (e : EState) (log : List ℕ) (i : ℤ) → after B m (start_of P b) ≡ Some (On e log) →
+      EHaltedWith e i → HaltsWithin P m i
   halts_typed m e log i h k = go (erun_first B m (begun P b)) refl (after_placeless B m (begun P b) ∙ h)
     where
-      go : (o : Option ERun) → erun_first B m (begun P b) ≡ o → option_map placeless o ≡ Some (On e log) → HaltsWithin P m i
+      go : (o : Option ERun) → erun_first B m (begun P b) ≡ o → option_map placeless o ≡ Some (On e log) →
+          HaltsWithin P m i
       go None y x = cc
       go (Some (EOn f p l)) y x =
           let same : f ≡ e = cc in
-          (halts P whole acc b there m i).1 (m, f, p, l, omega arith, sym (first B m (begun P b)) ∙ y, subst (λ z. EHaltedWith z i) (sym same) k)
+          (halts P whole acc b there m i).1
+          (m, f, p, l, omega arith, sym (first B m (begun P b)) ∙ y, subst (λ z. EHaltedWith z i) (sym same) k)
 
   -- and the other way round
-  pub typed_halts : (n : ℕ) (i : ℤ) → HaltsWithin P n i → (m : ℕ) × (t : LState) × (m ≤ n) × (after B m (start_of P b) ≡ Some t) × HaltsAt t i
+  pub typed_halts : (n : ℕ) (i : ℤ) → HaltsWithin P n i → (m : ℕ) × (t : LState) × (m ≤ n)
+      × (after B m (start_of P b) ≡ Some t) × HaltsAt t i
   typed_halts n i h =
-      let z = (halts P whole acc b there n i).0 h in
-      (z.0, On z.1 z.3, z.4, sym (after_placeless B z.0 (begun P b)) ∙ ap (option_map placeless) (first B z.0 (begun P b) ∙ z.5), z.6)
+      let z = (halts P whole acc b there n i).0 h in (
+        z.0,
+        On z.1 z.3,
+        z.4,
+        sym (after_placeless B z.0 (begun P b))
+            ∙ ap (option_map placeless) (first B z.0 (begun P b) ∙ z.5),
+        z.6,
+      )

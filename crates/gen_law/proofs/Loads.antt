@@ -7,7 +7,7 @@ use Rattle.std.proofs.lemmas.Bool.{and_parts, and_cases}
 use Rattle.a_terms.specs.Tree.{ATys, AVal, Var, Num, Lab, Data, Apply, Pack, ATm}
 use Rattle.t_types.specs.Tree.{Ty}
 use Rattle.t_terms.specs.Tree as T
-use Rattle.t_terms.specs.Tree.{TBase, TValue, TSeq, Then, Ends}
+use Rattle.t_terms.specs.Tree.{TValue, TSeq, Then, Ends}
 use Rattle.t_rules.specs.Registers.{with_reg}
 use Rattle.t_rules.specs.Erase.{erase_value}
 use Rattle.gen_law.specs.Gen.{tys, reg, applied_to, place, inside, small, boxed, unnest, stands, move, home, settle}
@@ -215,7 +215,8 @@ settled_is v c m b t rest a =
     }
 
 -- a value's register is that of a variable, or the one that is given
-pub home_applied : (t : ℕ) (x : TValue) (us : List Ty) → (home t (applied_to x us) ≡ home t x) ⊎ (home t (applied_to x us) ≡ t)
+pub home_applied : (t : ℕ) (x : TValue) (us : List Ty) → (home t (applied_to x us) ≡ home t x)
+    ⊎ (home t (applied_to x us) ≡ t)
 home_applied t (T.Plain (T.Reg r) []) [] = inl refl
 home_applied t (T.Plain (T.Reg r) []) (u ∷ us) = inr refl
 home_applied t (T.Plain (T.Reg r) (x ∷ xs)) us = inr refl
@@ -307,7 +308,9 @@ of_first c v vs n e = or_right (uses c n) (uses_any (v ∷ vs) n) (or_left (uses
 
 pub of_rest : (c v : AVal) (vs : List AVal) (n : ℕ) → wants c vs n ≡ true → wants c (v ∷ vs) n ≡ true
 of_rest c v vs n e =
-    ⊎_elim (λ x. or_left (uses c n) (uses_any (v ∷ vs) n) x) (λ x. or_right (uses c n) (uses_any (v ∷ vs) n) (or_right (uses v n) (uses_any vs n) x)) (or_cases (uses c n) (uses_any vs n) e)
+    ⊎_elim (λ x. or_left (uses c n) (uses_any (v ∷ vs) n) x)
+    (λ x. or_right (uses c n) (uses_any (v ∷ vs) n) (or_right (uses v n) (uses_any vs n) x))
+    (or_cases (uses c n) (uses_any vs n) e)
 
 later_holds : (vs : List AVal) (f : AVal) (r : ℕ) (c : Held) (m : List ℕ) (b : ℕ) → Known c m b (wants f vs) →
     later r m vs f ≡ true → (n : ℕ) × (c r ≡ Some (Var n))
@@ -329,13 +332,16 @@ reads_none (Data l) r m n e x z = cc
 reads_none (Apply v ts) r m n e x z = reads_none v r m n e x z
 reads_none (Pack p v s) r m n e x z = reads_none v r m n e x z
 
-pub later_none : (vs : List AVal) (c : AVal) (r : ℕ) (m : List ℕ) (n : ℕ) → later r m vs c ≡ false → wants c vs n ≡ true → place m n ≡ r → ⊥
+pub later_none : (vs : List AVal) (c : AVal) (r : ℕ) (m : List ℕ) (n : ℕ) → later r m vs c ≡ false →
+    wants c vs n ≡ true → place m n ≡ r → ⊥
 later_none [] c r m n e x z = ⊎_elim (λ y. reads_none c r m n e y z) (λ y. cc) (or_cases (uses c n) false x)
 later_none (v ∷ vs) c r m n e x z =
     let p = or_parts (reads r m v) (later r m vs c) e in
     ⊎_elim
     (λ y. later_none vs c r m n p.1 (of_code c vs n y) z)
-    (λ y. ⊎_elim (λ q. reads_none v r m n p.0 q z) (λ q. later_none vs c r m n p.1 (or_right (uses c n) (uses_any vs n) q) z) (or_cases (uses v n) (uses_any vs n) y))
+    (λ y. ⊎_elim (λ q. reads_none v r m n p.0 q z)
+    (λ q. later_none vs c r m n p.1 (or_right (uses c n) (uses_any vs n) q) z)
+    (or_cases (uses v n) (uses_any vs n) y))
     (or_cases (uses c n) (uses_any (v ∷ vs) n) x)
 
 -- a variable in a register stands there
@@ -359,7 +365,8 @@ place_instead (r ∷ m) b j (suc n) l = place_instead m b j n l
 
 pub instead_not : (b j q : ℕ) → j < b → q < b → (instead b j q ≡ j → ⊥) × (instead b j q < suc b)
 instead_not b j q lj lq =
-    cond_both (q == j) b q (λ r. (r ≡ j → ⊥) × (r < suc b)) (λ e. ((λ z. absurd (omega arith)), omega arith)) (λ e. ((λ z. clash (sym (eq-eqb q j z) ∙ e)), omega arith))
+    cond_both (q == j) b q (λ r. (r ≡ j → ⊥) × (r < suc b)) (λ e. ((λ z. absurd (omega arith)), omega arith))
+    (λ e. ((λ z. clash (sym (eq-eqb q j z) ∙ e)), omega arith))
   where
     clash : true ≡ false → ⊥
     clash y = cc

@@ -3,7 +3,8 @@ use Rattle.std.proofs.Common.{◌≡◌, ℕ, suc, List, [], ◌∷◌, Option, 
 use Rattle.std.specs.Prelude.{ℤ, pos}
 use Rattle.std.specs.Int.{int_wrap}
 use Rattle.idx_core.specs.declared.arith.Op.TheVariants.{Add, Sub, Mul}
-use Rattle.a_terms.specs.Tree.{ATy, AInt, AVar, NoATys, MoreATys, AVal, Var, Num, Lab, Arith, ATm, Let, Call, If0, Halt, AProg}
+use Rattle.a_terms.specs.Tree.{ATy, AInt, AVar, NoATys, MoreATys, AVal, Var, Num, Lab, Arith, ATm, Let, Call, If0}
+use Rattle.a_terms.specs.Tree.{Halt, AProg}
 use Rattle.a_terms.specs.Typing.{Fine, type_of, Has, Program-ok}
 use Rattle.a_terms.specs.Meaning.{Halted, meaning}
 use Rattle.t_types.specs.Tree.{IntTy, VarTy, ExistsTy, NoRegs, MoreRegs}
@@ -16,7 +17,8 @@ use Rattle.t_rules.specs.Erase.{EState, erase_blocks, EHaltedWith}
 use Rattle.t_rules.specs.ErasedRuns.{EOn, erun, begun}
 use Rattle.gen_law.specs.Gen.{reg, generated}
 use Rattle.gen_law.specs.Layout.{Layout}
-use Rattle.gen_law.specs.Worked.{factorial, of_five, downs_alone, counting, example, of_eight, exchange, exchanging, alone, nested, assigned, placing, placed}
+use Rattle.gen_law.specs.Worked.{factorial, of_five, downs_alone, counting, example, of_eight, exchange, exchanging}
+use Rattle.gen_law.specs.Worked.{alone, nested, assigned, placing, placed}
 use Rattle.gen_law.proofs.Accepted.{accepted}
 use Rattle.gen_law.proofs.Wholes.{whole}
 
@@ -34,9 +36,77 @@ factorial_means = refl
 
 factorial_typed : Program-ok factorial of_five
 factorial_typed = record {
-  blocks = ((search arith, (has tt refl, ((_, has tt refl), ((_, 0, _, has tt refl, refl, refl, refl), ((_, 1, _, has tt refl, refl, refl, refl), (_, _, has tt refl, tt, refl, (has tt refl, (has tt refl, tt)))))), (search arith, ((_, 0, _, has tt refl, has tt refl, refl, refl), ((_, 1, _, has tt refl, has tt refl, refl, refl), (search arith, ((_, 0, _, has tt refl, has tt refl, refl, refl), ((_, 1, _, has tt refl, has tt refl, refl, refl), ((_, has (_, tt, search arith, search arith, refl, refl) refl), ((has tt refl, has tt refl), (_, _, has tt refl, tt, refl, (has tt refl, (has tt refl, tt))))))))))))), ((search arith, ((_, 0, _, has tt refl, refl, refl, refl), ((_, 1, _, has tt refl, refl, refl, refl), ((has tt refl, has tt refl), ((_, has tt refl), ((_, 0, _, has tt refl, refl, refl, refl), ((_, 1, _, has tt refl, refl, refl, refl), (_, _, has tt refl, tt, refl, (has tt refl, (has tt refl, tt)))))))))), ((search arith, has tt refl), tt)));
+  blocks = (
+    (
+      search arith,
+      (
+        has tt refl,
+        (
+          (_, has tt refl),
+          (
+            (_, 0, _, has tt refl, refl, refl, refl),
+            (
+              (_, 1, _, has tt refl, refl, refl, refl),
+              (_, _, has tt refl, tt, refl, (has tt refl, (has tt refl, tt))),
+            ),
+          ),
+        ),
+        (
+          search arith,
+          (
+            (_, 0, _, has tt refl, has tt refl, refl, refl),
+            (
+              (_, 1, _, has tt refl, has tt refl, refl, refl),
+              (
+                search arith,
+                (
+                  (_, 0, _, has tt refl, has tt refl, refl, refl),
+                  (
+                    (_, 1, _, has tt refl, has tt refl, refl, refl),
+                    (
+                      (_, has (_, tt, search arith, search arith, refl, refl) refl),
+                      (
+                        (has tt refl, has tt refl),
+                        (_, _, has tt refl, tt, refl, (has tt refl, (has tt refl, tt))),
+                      ),
+                    ),
+                  ),
+                ),
+              ),
+            ),
+          ),
+        ),
+      ),
+    ),
+    (
+      (
+        search arith,
+        (
+          (_, 0, _, has tt refl, refl, refl, refl),
+          (
+            (_, 1, _, has tt refl, refl, refl, refl),
+            (
+              (has tt refl, has tt refl),
+              (
+                (_, has tt refl),
+                (
+                  (_, 0, _, has tt refl, refl, refl, refl),
+                  (
+                    (_, 1, _, has tt refl, refl, refl, refl),
+                    (_, _, has tt refl, tt, refl, (has tt refl, (has tt refl, tt))),
+                  ),
+                ),
+              ),
+            ),
+          ),
+        ),
+      ),
+      ((search arith, has tt refl), tt),
+    ),
+  );
   tuples = (tt, (((has tt refl, search arith, tt), ((has tt refl, search arith, tt), tt)), tt));
-  main_ok = (_, _, has tt refl, tt, refl, (has tt refl, (has (_, tt, search arith, search arith, refl, refl) refl, tt)));
+  main_ok =
+      (_, _, has tt refl, tt, refl, (has tt refl, (has (_, tt, search arith, search arith, refl, refl) refl, tt)));
 }
 
 factorial_accepted : Accepted (generated factorial of_five)
@@ -52,9 +122,31 @@ factorial_halts = (_, _, _, _, refl, refl, refl)
 
 down_typed : Program-ok downs_alone counting
 down_typed = record {
-  blocks = ((search arith, (has tt refl, has tt refl, ((has tt refl, has tt refl), (_, _, has tt refl, search arith, refl, (has tt refl, (has tt refl, tt)))))), tt);
+  blocks = (
+    (
+      search arith,
+      (
+        has tt refl,
+        has tt refl,
+        ((has tt refl, has tt refl), (_, _, has tt refl, search arith, refl, (has tt refl, (has tt refl, tt)))),
+      ),
+    ),
+    tt,
+  );
   tuples = tt;
-  main_ok = (search arith, ((_, 0, _, has tt refl, has tt refl, refl, refl), ((_, 0, _, has tt refl, refl, refl, refl), ((AVar 0, has (AVar 0, tt, tt, search arith, refl, refl) refl), (_, _, has (tt, search arith) refl, tt, refl, (has tt refl, (has tt refl, tt)))))));
+  main_ok = (
+    search arith,
+    (
+      (_, 0, _, has tt refl, has tt refl, refl, refl),
+      (
+        (_, 0, _, has tt refl, refl, refl, refl),
+        (
+          (AVar 0, has (AVar 0, tt, tt, search arith, refl, refl) refl),
+          (_, _, has (tt, search arith) refl, tt, refl, (has tt refl, (has tt refl, tt))),
+        ),
+      ),
+    ),
+  );
 }
 
 down_accepted : Accepted (generated downs_alone counting)
@@ -78,25 +170,87 @@ unfolding int_wrap
 example_halts = (_, _, _, _, refl, refl, refl)
 
 -- a register that a later argument reads is saved, and its own argument is not moved twice
-exchanged_is : (generated exchange exchanging).blocks ≡ (record { owes = 0; file = NoRegs; code = (Then (T.Mov 1 (T.Plain (T.Int (pos 3)) [])) (Then (T.Mov 2 (T.Plain (T.Int (pos 0)) [])) (Ends (T.Jmp (T.Plain (T.Label 1) []))))) } ∷ record { owes = 0; file = (MoreRegs 1 IntTy (MoreRegs 2 IntTy NoRegs)); code = (Then (T.Bnz 1 (T.Plain (T.Label 2) [])) (Then (T.Mov 1 (reg 2)) (Ends T.Halt))) } ∷ record { owes = 0; file = (MoreRegs 1 IntTy (MoreRegs 2 IntTy NoRegs)); code = (Then (T.Mov 3 (reg 1)) (Then (T.Mov 1 (reg 2)) (Then (T.Mov 2 (reg 3)) (Ends (T.Jmp (T.Plain (T.Label 1) [])))))) } ∷ [])
+exchanged_is : (generated exchange exchanging).blocks
+    ≡ (record {
+      owes = 0;
+      file = NoRegs;
+      code = (Then (T.Mov 1 (T.Plain (T.Int (pos 3)) []))
+          (Then (T.Mov 2 (T.Plain (T.Int (pos 0)) [])) (Ends (T.Jmp (T.Plain (T.Label 1) [])))));
+    }
+    ∷ record {
+      owes = 0;
+      file = (MoreRegs 1 IntTy (MoreRegs 2 IntTy NoRegs));
+      code = (Then (T.Bnz 1 (T.Plain (T.Label 2) [])) (Then (T.Mov 1 (reg 2)) (Ends T.Halt)));
+    }
+    ∷ record {
+      owes = 0;
+      file = (MoreRegs 1 IntTy (MoreRegs 2 IntTy NoRegs));
+      code = (Then (T.Mov 3 (reg 1))
+          (Then (T.Mov 1 (reg 2)) (Then (T.Mov 2 (reg 3)) (Ends (T.Jmp (T.Plain (T.Label 1) []))))));
+    } ∷ [])
 exchanged_is = refl
 
 -- a package inside a package is put into a register first
-nested_is : (generated alone nested).blocks ≡ (record { owes = 0; file = NoRegs; code = (Then (T.Mov 1 (T.Pack IntTy (T.Plain (T.Int (pos 7)) []) (ExistsTy (VarTy 0)))) (Then (T.Mov 1 (T.Pack (ExistsTy (VarTy 0)) (reg 1) (ExistsTy (VarTy 0)))) (Then (T.Unpack 1 (reg 1)) (Then (T.Mov 1 (T.Plain (T.Int (pos 1)) [])) (Ends T.Halt))))) } ∷ [])
+nested_is : (generated alone nested).blocks
+    ≡ (record {
+      owes = 0;
+      file = NoRegs;
+      code = (Then (T.Mov 1 (T.Pack IntTy (T.Plain (T.Int (pos 7)) []) (ExistsTy (VarTy 0))))
+          (Then (T.Mov 1 (T.Pack (ExistsTy (VarTy 0)) (reg 1) (ExistsTy (VarTy 0))))
+          (Then (T.Unpack 1 (reg 1)) (Then (T.Mov 1 (T.Plain (T.Int (pos 1)) [])) (Ends T.Halt)))));
+    } ∷ [])
 nested_is = refl
 
 -- a tuple stays in its register, and the third part takes the one register that it reads
-assigned_is : (generated alone assigned).blocks ≡ (record { owes = 0; file = NoRegs; code = (Then (T.Malloc 1 (IntTy ∷ [])) (Then (T.Mov 2 (T.Plain (T.Int (pos 3)) [])) (Then (T.St 1 0 2) (Then (T.Mov 2 (T.Plain (T.Int (pos 4)) [])) (Then (T.St 1 0 2) (Then (T.Mov 2 (T.Plain (T.Int (pos 20)) [])) (Then (T.Arith Add 2 2 (T.Plain (T.Int (pos 1)) [])) (Then (T.Ld 1 1 0) (Then (T.Bnz 1 (T.Plain (T.Label 1) [])) (Then (T.Mov 1 (T.Plain (T.Int (pos 0)) [])) (Ends T.Halt))))))))))) } ∷ record { owes = 0; file = (MoreRegs 1 IntTy NoRegs); code = (Ends T.Halt) } ∷ [])
+assigned_is : (generated alone assigned).blocks
+    ≡ (record {
+      owes = 0;
+      file = NoRegs;
+      code = (Then (T.Malloc 1 (IntTy ∷ []))
+          (Then (T.Mov 2 (T.Plain (T.Int (pos 3)) []))
+          (Then (T.St 1 0 2)
+          (Then (T.Mov 2 (T.Plain (T.Int (pos 4)) []))
+          (Then (T.St 1 0 2)
+          (Then (T.Mov 2 (T.Plain (T.Int (pos 20)) []))
+          (Then (T.Arith Add 2 2 (T.Plain (T.Int (pos 1)) []))
+          (Then (T.Ld 1 1 0)
+          (Then (T.Bnz 1 (T.Plain (T.Label 1) []))
+          (Then (T.Mov 1 (T.Plain (T.Int (pos 0)) [])) (Ends T.Halt)))))))))));
+    }
+    ∷ record { owes = 0; file = (MoreRegs 1 IntTy NoRegs); code = (Ends T.Halt) } ∷ [])
 assigned_is = refl
 
 -- variables stand where the call wants them; one whose register is in use, and the code, stand above the arguments
-placed_is : (generated placing placed).blocks ≡ (record { owes = 0; file = NoRegs; code = (Then (T.Mov 1 (T.Plain (T.Int (pos 2)) [])) (Then (T.Arith Mul 2 1 (T.Plain (T.Int (pos 3)) [])) (Then (T.Arith Add 1 2 (T.Plain (T.Int (pos 1)) [])) (Ends (T.Jmp (T.Plain (T.Label 1) [])))))) } ∷ record { owes = 0; file = (MoreRegs 1 IntTy (MoreRegs 2 IntTy NoRegs)); code = (Then (T.Mov 3 (T.Plain (T.Label 2) [])) (Then (T.Arith Sub 4 1 (reg 2)) (Then (T.Mov 5 (reg 1)) (Then (T.Mov 1 (reg 4)) (Then (T.Mov 2 (reg 5)) (Ends (T.Jmp (reg 3)))))))) } ∷ record { owes = 0; file = (MoreRegs 1 IntTy (MoreRegs 2 IntTy NoRegs)); code = (Then (T.Arith Add 1 1 (reg 2)) (Ends T.Halt)) } ∷ [])
+placed_is : (generated placing placed).blocks
+    ≡ (record {
+      owes = 0;
+      file = NoRegs;
+      code = (Then (T.Mov 1 (T.Plain (T.Int (pos 2)) []))
+          (Then (T.Arith Mul 2 1 (T.Plain (T.Int (pos 3)) []))
+          (Then (T.Arith Add 1 2 (T.Plain (T.Int (pos 1)) [])) (Ends (T.Jmp (T.Plain (T.Label 1) []))))));
+    }
+    ∷ record {
+      owes = 0;
+      file = (MoreRegs 1 IntTy (MoreRegs 2 IntTy NoRegs));
+      code = (Then (T.Mov 3 (T.Plain (T.Label 2) []))
+          (Then (T.Arith Sub 4 1 (reg 2))
+          (Then (T.Mov 5 (reg 1)) (Then (T.Mov 1 (reg 4)) (Then (T.Mov 2 (reg 5)) (Ends (T.Jmp (reg 3))))))));
+    }
+    ∷ record {
+      owes = 0;
+      file = (MoreRegs 1 IntTy (MoreRegs 2 IntTy NoRegs));
+      code = (Then (T.Arith Add 1 1 (reg 2)) (Ends T.Halt));
+    } ∷ [])
 placed_is = refl
 
 -- main: if 0 is 0 then L0(5, 2) else halt 1; L0(x: int, y: int). d = x - y; halt d
 abbrev minus : AProg
 minus = record {
-  blocks = record { owes = 0; args = MoreATys AInt (MoreATys AInt NoATys); body = Let (Arith Sub (Var 1) (Var 0)) (Halt (Var 0)) } ∷ [];
+  blocks = record {
+    owes = 0;
+    args = MoreATys AInt (MoreATys AInt NoATys);
+    body = Let (Arith Sub (Var 1) (Var 0)) (Halt (Var 0));
+  } ∷ [];
   tuples = [];
 }
 

@@ -123,16 +123,31 @@ module _ (B : List ESeq) (k : ℕ) (limit : List ℕ → ℕ) where
       record { steps = a.0; state = f.state; runs = a.2 ∙ f.runs; answers = f.answers; counted = f.counted }
   follows_on s t c (Spent log) l f =
       let a = l.by f.steps in
-      record { steps = a.0; many = omega (arith, a.1, f.many); state = f.state; runs = a.2 ∙ f.runs; calls_next = f.calls_next; counted = f.counted }
+      record {
+        steps = a.0;
+        many = omega (arith, a.1, f.many);
+        state = f.state;
+        runs = a.2 ∙ f.runs;
+        calls_next = f.calls_next;
+        counted = f.counted;
+      }
   follows_on s t c (Wrong log) l f = tt
 
-  follows_move : (s t : LState) (c : ℕ) (r : Result) → Moves B s t → Follows B k limit t c r → Follows B k limit s (suc c) r
+  follows_move : (s t : LState) (c : ℕ) (r : Result) → Moves B s t → Follows B k limit t c r →
+      Follows B k limit s (suc c) r
   follows_move s t c (Halted i log) l f =
       let a = l.by f.steps in
       record { steps = a.0; state = f.state; runs = a.2 ∙ f.runs; answers = f.answers; counted = f.counted }
   follows_move s t c (Spent log) l f =
       let a = l.by f.steps in
-      record { steps = a.0; many = omega (arith, a.1, f.many); state = f.state; runs = a.2 ∙ f.runs; calls_next = f.calls_next; counted = f.counted }
+      record {
+        steps = a.0;
+        many = omega (arith, a.1, f.many);
+        state = f.state;
+        runs = a.2 ∙ f.runs;
+        calls_next = f.calls_next;
+        counted = f.counted;
+      }
   follows_move s t c (Wrong log) l f = tt
 
   on_made : (s : LState) (c : ℕ) (log : List ℕ) (tlog : List ℕ) (l : List ℕ) (r : ℕ) (e : ATm) (ρ : ERegs)
@@ -142,39 +157,48 @@ module _ (B : List ESeq) (k : ℕ) (limit : List ℕ → ℕ) where
   on_made s c log tlog l r e ρ env h is rest (Gives w h2) go ok f = f w h2 ok
   on_made s c log tlog l r e ρ env h is rest Fails go ok f = tt
 
-  on_halt : (s : LState) (c : ℕ) (log : List ℕ) (o : Option AWord) → ((i : ℤ) → o ≡ Some (ZInt i) → Halts B k limit s i log) → Follows B k limit s c (halt_with o log)
+  on_halt : (s : LState) (c : ℕ) (log : List ℕ) (o : Option AWord) →
+      ((i : ℤ) → o ≡ Some (ZInt i) → Halts B k limit s i log) → Follows B k limit s c (halt_with o log)
   on_halt s c log None f = tt
   on_halt s c log (Some (ZInt i)) f = f i refl
   on_halt s c log (Some (ZTuple a)) f = tt
   on_halt s c log (Some (ZLabel l)) f = tt
 
-  on_branch : (s : LState) (c : ℕ) (log : List ℕ) (o : Option AWord) (a b : Result) → ((i : ℤ) → o ≡ Some (ZInt i) → Follows B k limit s c (pick (is_zero i) a b)) → Follows B k limit s c (branch o log a b)
+  on_branch : (s : LState) (c : ℕ) (log : List ℕ) (o : Option AWord) (a b : Result) →
+      ((i : ℤ) → o ≡ Some (ZInt i) → Follows B k limit s c (pick (is_zero i) a b)) →
+      Follows B k limit s c (branch o log a b)
   on_branch s c log None a b f = tt
   on_branch s c log (Some (ZInt i)) a b f = f i refl
   on_branch s c log (Some (ZTuple p)) a b f = tt
   on_branch s c log (Some (ZLabel l)) a b f = tt
 
-  on_pick : (s : LState) (c : ℕ) (z : Bool) (a b : Result) → (z ≡ true → Follows B k limit s c a) → (z ≡ false → Follows B k limit s c b) → Follows B k limit s c (pick z a b)
+  on_pick : (s : LState) (c : ℕ) (z : Bool) (a b : Result) → (z ≡ true → Follows B k limit s c a) →
+      (z ≡ false → Follows B k limit s c b) → Follows B k limit s c (pick z a b)
   on_pick s c true a b f g = f refl
   on_pick s c false a b f g = g refl
 
-  on_call : (s : LState) (c : ℕ) (log : List ℕ) (o : Option AWord) (go : ℕ → Result) → ((l : ℕ) → o ≡ Some (ZLabel l) → Follows B k limit s c (go l)) → Follows B k limit s c (call_of o log go)
+  on_call : (s : LState) (c : ℕ) (log : List ℕ) (o : Option AWord) (go : ℕ → Result) →
+      ((l : ℕ) → o ≡ Some (ZLabel l) → Follows B k limit s c (go l)) → Follows B k limit s c (call_of o log go)
   on_call s c log None go f = tt
   on_call s c log (Some (ZInt i)) go f = tt
   on_call s c log (Some (ZTuple a)) go f = tt
   on_call s c log (Some (ZLabel l)) go f = f l refl
 
-  on_args : (s : LState) (c : ℕ) (log : List ℕ) (o : Option (List AWord)) (go : List AWord → Result) → ((ws : List AWord) → o ≡ Some ws → Follows B k limit s c (go ws)) → Follows B k limit s c (call_with o log go)
+  on_args : (s : LState) (c : ℕ) (log : List ℕ) (o : Option (List AWord)) (go : List AWord → Result) →
+      ((ws : List AWord) → o ≡ Some ws → Follows B k limit s c (go ws)) → Follows B k limit s c (call_with o log go)
   on_args s c log None go f = tt
   on_args s c log (Some ws) go f = f ws refl
 
-  on_enter : (s : LState) (c : ℕ) (log : List ℕ) (n : ℕ) (o : Option ABlk) (go : ABlk → Result) → ((b : ABlk) → o ≡ Some b → arity b.args ≡ n → Follows B k limit s c (go b)) → Follows B k limit s c (enter o n log go)
+  on_enter : (s : LState) (c : ℕ) (log : List ℕ) (n : ℕ) (o : Option ABlk) (go : ABlk → Result) →
+      ((b : ABlk) → o ≡ Some b → arity b.args ≡ n → Follows B k limit s c (go b)) →
+      Follows B k limit s c (enter o n log go)
   on_enter s c log n None go f = tt
   on_enter s c log n (Some b) go f =
       on_pick s c (arity b.args == n) (go b) (Wrong log) (λ e. f b refl (eqb-true (arity b.args) n e)) (λ e. tt)
 
 -- where a block of the program stands among the erased ones
-erased_at : (P : List TBlock) (n : ℕ) (b : TBlock) → slice_get P n ≡ Some b → slice_get (map erase_block P) n ≡ Some (erase_seq b.code)
+erased_at : (P : List TBlock) (n : ℕ) (b : TBlock) → slice_get P n ≡ Some b →
+    slice_get (map erase_block P) n ≡ Some (erase_seq b.code)
 erased_at P n b e = slice_get-map erase_block P n ∙ ap (option_map erase_block) e
 
 -- what is known of a program by the rules

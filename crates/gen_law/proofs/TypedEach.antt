@@ -1,17 +1,23 @@
 -- The generated code keeps the bounds on types.
-use Rattle.std.proofs.Common.{◌≡◌, ℕ, suc, ◌+◌, ◌≤◌, List, [], ◌∷◌, Some, None, refl, sym, ap, ap₂, ◌∙◌, arith, inl, inr}
+use Rattle.std.proofs.Common.{◌≡◌, ℕ, suc, ◌+◌, ◌≤◌, List, [], ◌∷◌, Some, None, refl, sym, ap, ap₂, ◌∙◌, arith, inl}
+use Rattle.std.proofs.Common.{inr}
 use Rattle.std.specs.Prelude.{max, ◌==◌, cond, Bool, true, false, nat_lt, if◌then◌else◌}
 use Rattle.std.proofs.lemmas.Bool.{cond_both}
-use Rattle.a_terms.specs.Tree.{ATy, AInt, AVar, ATuple, ACode, AExists, ATys, NoATys, MoreATys, AFields, NoAFields, MoreAFields, AVal, Var, Num, Lab, Data, Apply, Pack, AConsts, AProg, ashift, ashift_types, ashift_fields, aput}
+use Rattle.a_terms.specs.Tree.{ATy, AInt, AVar, ATuple, ACode, AExists, ATys, NoATys, MoreATys, AFields, NoAFields}
+use Rattle.a_terms.specs.Tree.{MoreAFields, AVal, Var, Num, Lab, Data, Apply, Pack, AConsts, AProg, ashift}
+use Rattle.a_terms.specs.Tree.{ashift_types, ashift_fields, aput}
 use Rattle.a_terms.specs.Typing.{type_of, Fine, Data-ok, Tuples-ok}
 use Rattle.a_terms.specs.TypeLaws.{split_applied, args_below}
-use Rattle.a_terms.specs.Each.{AAll, VEach, CsEach, TuplesEach, areach, areaches, areach_fields, abinds, abinds_all, abinds_fields, AWithin}
+use Rattle.a_terms.specs.Each.{AAll, VEach, CsEach, TuplesEach, areach, areaches, areach_fields, abinds, abinds_all}
+use Rattle.a_terms.specs.Each.{abinds_fields, AWithin}
 use Rattle.t_types.specs.Tree.{Ty, TFile, NoRegs, MoreRegs, TFields, NoFields, MoreFields}
 use Rattle.t_types.specs.Fits.{Fits, FieldsFit}
 use Rattle.t_terms.specs.Tree.{TProg}
 use Rattle.t_rules.specs.Registers.{no_types}
-use Rattle.gen_law.specs.Gen.{ty, ty_args, ty_fields, insert, header, constant, data_of, generated_blocks, generated_heap, generated}
-use Rattle.gen_law.specs.TypesEach.{HasEach, DataEach, HeapEach, treach, treach_file, treach_fields, tbinds, tbinds_file, tbinds_fields, TWithin, TypesWithin}
+use Rattle.gen_law.specs.Gen.{ty, ty_args, ty_fields, insert, header, constant, data_of, generated_blocks}
+use Rattle.gen_law.specs.Gen.{generated_heap, generated}
+use Rattle.gen_law.specs.TypesEach.{HasEach, DataEach, HeapEach, treach, treach_file, treach_fields, tbinds}
+use Rattle.gen_law.specs.TypesEach.{tbinds_file, tbinds_fields, TWithin, TypesWithin}
 use Rattle.gen_law.proofs.Values.{All-of, Carried, Labels}
 use Rattle.gen_law.proofs.Typed.{own_q, all_q, each_type, applied_each}
 use Rattle.gen_law.proofs.Accepted.{constant_has, stands, good_each, all_good}
@@ -91,7 +97,8 @@ mutual
   binds_shift_fields (MoreAFields t f fs) k c = ap₂ max (binds_shift t k c) (binds_shift_fields fs k c)
 
 -- a type that fits another has its reach, and binds as many
-reach_fit : (fs gs : TFields) → FieldsFit fs gs → (treach_fields fs ≡ treach_fields gs) × (tbinds_fields fs ≡ tbinds_fields gs)
+reach_fit : (fs gs : TFields) → FieldsFit fs gs → (treach_fields fs ≡ treach_fields gs)
+    × (tbinds_fields fs ≡ tbinds_fields gs)
 reach_fit NoFields NoFields h = (refl, refl)
 reach_fit (MoreFields t x fs) (MoreFields u y gs) h =
     let r = reach_fit fs gs h.2 in (ap₂ max (ap treach h.0) r.0, ap₂ max (ap tbinds h.0) r.1)
@@ -105,21 +112,27 @@ fits_same u s (inr h) =
     (ap treach h.2 ∙ ap suc r.0 ∙ sym (ap treach h.3), ap tbinds h.2 ∙ r.1 ∙ sym (ap tbinds h.3))
 
 -- the file of a header
-insert_most : (r : ℕ) (t : Ty) (f : TFile) (R B : ℕ) → treach t ≤ R → tbinds t ≤ B → (treach_file f ≤ R) × (tbinds_file f ≤ B) → (treach_file (insert r t f) ≤ R) × (tbinds_file (insert r t f) ≤ B)
+insert_most : (r : ℕ) (t : Ty) (f : TFile) (R B : ℕ) → treach t ≤ R → tbinds t ≤ B →
+    (treach_file f ≤ R) × (tbinds_file f ≤ B) → (treach_file (insert r t f) ≤ R) × (tbinds_file (insert r t f) ≤ B)
 insert_most r t NoRegs R B x y h = (omega arith, omega arith)
 insert_most r t (MoreRegs q u f) R B x y h =
-    cond_both (r == q) (MoreRegs r t f) (cond (nat_lt r q) (MoreRegs r t (MoreRegs q u f)) (MoreRegs q u (insert r t f))) (λ z. (treach_file z ≤ R) × (tbinds_file z ≤ B))
+    cond_both (r == q) (MoreRegs r t f)
+    (cond (nat_lt r q) (MoreRegs r t (MoreRegs q u f)) (MoreRegs q u (insert r t f)))
+    (λ z. (treach_file z ≤ R) × (tbinds_file z ≤ B))
     (λ c. (omega (arith, h.0), omega (arith, h.1)))
-    (λ c. cond_both (nat_lt r q) (MoreRegs r t (MoreRegs q u f)) (MoreRegs q u (insert r t f)) (λ z. (treach_file z ≤ R) × (tbinds_file z ≤ B))
+    (λ c. cond_both (nat_lt r q) (MoreRegs r t (MoreRegs q u f)) (MoreRegs q u (insert r t f))
+    (λ z. (treach_file z ≤ R) × (tbinds_file z ≤ B))
     (λ d. (omega (arith, h.0), omega (arith, h.1)))
-    (λ d. let i = insert_most r t f R B x y (omega (arith, h.0), omega (arith, h.1)) in (omega (arith, i.0, h.0), omega (arith, i.1, h.1))))
+    (λ d. let i = insert_most r t f R B x y (omega (arith, h.0), omega (arith, h.1)) in
+    (omega (arith, i.0, h.0), omega (arith, i.1, h.1))))
 
 module _ (N R B : ℕ) where
   -- no type in scope is larger
   abbrev Part : ATy → Type 0
   Part t = (areach t ≤ R) × (abinds t ≤ B)
 
-  header_most : (u : ℕ → Bool) (m : List ℕ) (g : List ATy) → All-of Part g → (treach_file (header u m g) ≤ R) × (tbinds_file (header u m g) ≤ B)
+  header_most : (u : ℕ → Bool) (m : List ℕ) (g : List ATy) → All-of Part g → (treach_file (header u m g) ≤ R)
+      × (tbinds_file (header u m g) ≤ B)
   header_most u m [] s = (omega arith, omega arith)
   header_most u [] (t ∷ g) s = (omega arith, omega arith)
   header_most u (r ∷ m) (t ∷ g) s =
@@ -127,7 +140,8 @@ module _ (N R B : ℕ) where
       let rest = header_most (λ n. u (suc n)) m g s.1 in
       let x = reach_ty t in
       let y = binds_ty t in
-      cond_both (u 0) (insert r (ty t) f) f (λ z. (treach_file z ≤ R) × (tbinds_file z ≤ B)) (λ c. insert_most r (ty t) f R B (omega (arith, x, s.0.0)) (omega (arith, y, s.0.1)) rest) (λ c. rest)
+      cond_both (u 0) (insert r (ty t) f) f (λ z. (treach_file z ≤ R) × (tbinds_file z ≤ B))
+      (λ c. insert_most r (ty t) f R B (omega (arith, x, s.0.0)) (omega (arith, y, s.0.1)) rest) (λ c. rest)
 
   args_most : (k : ℕ) (us : ATys) → AAll (AWithin N R B) k us → (areaches us ≤ R) × (abinds_all us ≤ B)
   args_most k NoATys h = (omega arith, omega arith)
@@ -139,11 +153,14 @@ module _ (N R B : ℕ) where
     part = λ k t a. (a.1, a.2);
     none = λ k n. omega arith;
     ints = λ k n. (omega arith, omega arith);
-    shifted = λ t s. (let x = reach_shift t 1 0 in let y = binds_shift t 1 0 in (omega (arith, x, s.0), omega (arith, y, s.1)));
-    of_type = λ k t u n s f. (let z = fits_same u (ty t) f in let a = reach_ty t in let b = binds_ty t in (n, omega (arith, z.0, a, s.0), omega (arith, z.1, b, s.1)));
+    shifted = λ t s.
+        (let x = reach_shift t 1 0 in let y = binds_shift t 1 0 in (omega (arith, x, s.0), omega (arith, y, s.1)));
+    of_type = λ k t u n s f. (let z = fits_same u (ty t) f in let a = reach_ty t in let b = binds_ty t in
+        (n, omega (arith, z.0, a, s.0), omega (arith, z.1, b, s.1)));
     of_var = λ k i n. (n, omega arith, omega arith);
     of_third = λ k n u m g x y s. (let h = header_most u m g s in (x, omega (arith, h.0), omega (arith, h.1, y)));
-    of_call = λ k us n a. (let x = reach_args us 1 in let y = binds_args us 1 in let z = args_most k us a in (n, omega (arith, x, z.0), omega (arith, y, z.1)));
+    of_call = λ k us n a. (let x = reach_args us 1 in let y = binds_args us 1 in let z = args_most k us a in
+        (n, omega (arith, x, z.0), omega (arith, y, z.1)));
   }
 
   module _ (p : AProg) (P : TProg) (labels : Labels p P) where
@@ -162,7 +179,8 @@ module _ (N R B : ℕ) where
     typed : (v : AVal) (t : ATy) → VEach In p 0 [] v → type_of p [] v ≡ Some t → In 0 t
     typed v t h e = each_type In Names Part Out carried p 0 [] v t h e
 
-    constant_each : (v : AVal) (t : ATy) → Fine p 0 [] v → type_of p [] v ≡ Some t → VEach In p 0 [] v → HasEach Out P 0 no_types (constant v) (ty t)
+    constant_each : (v : AVal) (t : ATy) → Fine p 0 [] v → type_of p [] v ≡ Some t → VEach In p 0 [] v →
+        HasEach Out P 0 no_types (constant v) (ty t)
     constant_each (Var n) t f e h = absurd (impossible e)
       where
         impossible : None ≡ Some t → ⊥
@@ -178,13 +196,25 @@ module _ (N R B : ℕ) where
         let has = constant_has p P labels (Data n) t f e in (has, (ty t, has, q, q, tt))
     constant_each (Apply v ts) t f e h =
         let s = split_applied (type_of p [] v) ts t e in
-        applied_each In Names Part Out carried p P labels 0 no_types (constant v) ts s.0 t s.2 f.1 (own 0 t (typed (Apply v ts) t h e)) (all_q In Names Part Out carried 0 ts h.2) (constant_each v s.0 f.0 s.1 h.1)
-    constant_each (Pack x v s) t f e h =
-        (constant_has p P labels (Pack x v s) t f e, (ty (aput 0 x f.0), constant_each v (aput 0 x f.0) f.1 f.5 h.2, own 0 x h.1, own 0 t (typed (Pack x v s) t h e)))
+        applied_each In Names Part Out carried p P labels 0 no_types (constant v) ts s.0 t s.2 f.1
+        (own 0 t (typed (Apply v ts) t h e)) (all_q In Names Part Out carried 0 ts h.2)
+        (constant_each v s.0 f.0 s.1 h.1)
+    constant_each (Pack x v s) t f e h = (
+      constant_has p P labels (Pack x v s) t f e,
+      (
+        ty (aput 0 x f.0),
+        constant_each v (aput 0 x f.0) f.1 f.5 h.2,
+        own 0 x h.1,
+        own 0 t (typed (Pack x v s) t h e),
+      ),
+    )
 
     data_each : (cs : AConsts) → Data-ok p cs → CsEach In p cs → DataEach Out P (data_of cs)
     data_each [] a h = tt
-    data_each (c ∷ cs) a h = ((own 0 c.kind h.0.0, (ty c.kind, constant_each c.value c.kind a.0.0.fine a.0.0.is h.0.1)), data_each cs a.1 h.1)
+    data_each (c ∷ cs) a h = (
+      (own 0 c.kind h.0.0, (ty c.kind, constant_each c.value c.kind a.0.0.fine a.0.0.is h.0.1)),
+      data_each cs a.1 h.1,
+    )
 
     heap_each : (xs : List AConsts) → Tuples-ok p xs → TuplesEach In p xs → HeapEach Out P (generated_heap xs)
     heap_each [] a h = tt
@@ -195,6 +225,9 @@ types_within N R B p main q each =
     let P = generated p main in
     let there = stands p main in
     let ok = args_below p q.blocks q.tuples in (
-      good_each (AWithin N R B) (λ k. k ≤ N) (Part N R B) (TWithin N (R + 2) (N + B)) (carried N R B) p P there.labels ok (generated_blocks p main) (all_good (AWithin N R B) (λ k. k ≤ N) (Part N R B) (TWithin N (R + 2) (N + B)) (carried N R B) p main q each.0 each.2),
+      good_each (AWithin N R B) (λ k. k ≤ N) (Part N R B) (TWithin N (R + 2) (N + B)) (carried N R B) p P there.labels
+          ok (generated_blocks p main)
+          (all_good (AWithin N R B) (λ k. k ≤ N) (Part N R B) (TWithin N (R + 2) (N + B)) (carried N R B) p main q
+          each.0 each.2),
       heap_each N R B p P there.labels p.tuples q.tuples each.1,
     )

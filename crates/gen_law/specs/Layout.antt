@@ -30,7 +30,8 @@ pub record Layout (p : AProg) (main : ATm) (P : TProg) : Type 0 where
   -- the third parts of the main term's `if0`s are the blocks that come then, and after them come those of each block
   pub main_thirds : ThirdsAt P.blocks p 0 [] [] (suc (length p.blocks)) main
   pub block_thirds : (l : ℕ) (b : ABlk) → slice_get p.blocks l ≡ Some b →
-      ThirdsAt P.blocks p b.owes (rows (arity b.args)) (types_of b.args []) (first_of p.blocks (first_third p main) l) b.body
+      ThirdsAt P.blocks p b.owes (rows (arity b.args)) (types_of b.args []) (first_of p.blocks (first_third p main) l)
+      b.body
   -- there is no other block
   pub count : length P.blocks ≡ suc (length p.blocks) + (thirds main + all_thirds p.blocks)
   -- data tuple n is data tuple n, and there is no other one

@@ -100,17 +100,196 @@ counting =
 -- itself an argument
 abbrev pub example : AProg
 example = record {
-  blocks = record { owes = 1; args = (MoreATys (ATuple NoAFields) (MoreATys (AExists (ATuple (MoreAFields (ACode 0 (MoreATys (AVar 0) (MoreATys (AExists (ATuple (MoreAFields (ACode 0 (MoreATys (AVar 0) (MoreATys (AVar 2) (MoreATys (AExists (ATuple (MoreAFields (ACode 0 (MoreATys (AVar 0) (MoreATys (AVar 3) NoATys))) true (MoreAFields (AVar 0) true NoAFields)))) NoATys)))) true (MoreAFields (AVar 0) true NoAFields)))) NoATys))) true (MoreAFields (AVar 0) true NoAFields)))) NoATys)); body = (Let (Malloc (MoreATys (ACode 0 (MoreATys (ATuple NoAFields) (MoreATys (AVar 0) (MoreATys (AExists (ATuple (MoreAFields (ACode 0 (MoreATys (AVar 0) (MoreATys (AVar 1) NoATys))) true (MoreAFields (AVar 0) true NoAFields)))) NoATys)))) (MoreATys (ATuple NoAFields) NoATys))) (Let (Init (Var 0) 1 (Apply (Lab 1) (MoreATys (AVar 0) NoATys))) (Let (Init (Var 0) 2 (Data 0)) (Let (Value (Pack (ATuple NoAFields) (Var 0) (AExists (ATuple (MoreAFields (ACode 0 (MoreATys (AVar 0) (MoreATys (AVar 1) (MoreATys (AExists (ATuple (MoreAFields (ACode 0 (MoreATys (AVar 0) (MoreATys (AVar 2) NoATys))) true (MoreAFields (AVar 0) true NoAFields)))) NoATys)))) true (MoreAFields (AVar 0) true NoAFields)))))) (Let (Unpack (Var 4)) (Let (Proj 1 (Var 0)) (Let (Proj 2 (Var 1)) (Call (Var 1) NoATys ((Var 0) ∷ (Var 3) ∷ []))))))))) } ∷ record { owes = 1; args = (MoreATys (ATuple NoAFields) (MoreATys (AVar 0) (MoreATys (AExists (ATuple (MoreAFields (ACode 0 (MoreATys (AVar 0) (MoreATys (AVar 1) NoATys))) true (MoreAFields (AVar 0) true NoAFields)))) NoATys))); body = (Let (Malloc (MoreATys (AVar 0) NoATys)) (Let (Init (Var 0) 1 (Var 2)) (Let (Malloc (MoreATys (ACode 0 (MoreATys (ATuple (MoreAFields (AVar 0) true NoAFields)) (MoreATys AInt (MoreATys (AExists (ATuple (MoreAFields (ACode 0 (MoreATys (AVar 0) (MoreATys (AVar 1) NoATys))) true (MoreAFields (AVar 0) true NoAFields)))) NoATys)))) (MoreATys (ATuple (MoreAFields (AVar 0) true NoAFields)) NoATys))) (Let (Init (Var 0) 1 (Apply (Lab 2) (MoreATys (AVar 0) NoATys))) (Let (Init (Var 0) 2 (Var 2)) (Let (Value (Pack (ATuple (MoreAFields (AVar 0) true NoAFields)) (Var 0) (AExists (ATuple (MoreAFields (ACode 0 (MoreATys (AVar 0) (MoreATys AInt (MoreATys (AExists (ATuple (MoreAFields (ACode 0 (MoreATys (AVar 0) (MoreATys (AVar 2) NoATys))) true (MoreAFields (AVar 0) true NoAFields)))) NoATys)))) true (MoreAFields (AVar 0) true NoAFields)))))) (Let (Unpack (Var 0)) (Let (Proj 1 (Var 0)) (Let (Proj 2 (Var 1)) (Call (Var 1) NoATys ((Var 0) ∷ (Num (pos 0)) ∷ (Var 9) ∷ []))))))))))) } ∷ record { owes = 1; args = (MoreATys (ATuple (MoreAFields (AVar 0) true NoAFields)) (MoreATys AInt (MoreATys (AExists (ATuple (MoreAFields (ACode 0 (MoreATys (AVar 0) (MoreATys (AVar 1) NoATys))) true (MoreAFields (AVar 0) true NoAFields)))) NoATys))); body = (Let (Proj 1 (Var 2)) (Let (Unpack (Var 1)) (Let (Proj 1 (Var 0)) (Let (Proj 2 (Var 1)) (Call (Var 1) NoATys ((Var 0) ∷ (Var 3) ∷ [])))))) } ∷ record { owes = 0; args = (MoreATys (ATuple NoAFields) (MoreATys (AExists (ATuple (MoreAFields (ACode 0 (MoreATys (AVar 0) (MoreATys AInt (MoreATys (AExists (ATuple (MoreAFields (ACode 0 (MoreATys (AVar 0) (MoreATys AInt NoATys))) true (MoreAFields (AVar 0) true NoAFields)))) NoATys)))) true (MoreAFields (AVar 0) true NoAFields)))) NoATys)); body = (Let (Unpack (Var 0)) (Let (Proj 1 (Var 0)) (Let (Proj 2 (Var 1)) (Call (Var 1) NoATys ((Var 0) ∷ (Num (pos 8)) ∷ (Pack (ATuple NoAFields) (Data 2) (AExists (ATuple (MoreAFields (ACode 0 (MoreATys (AVar 0) (MoreATys AInt NoATys))) true (MoreAFields (AVar 0) true NoAFields))))) ∷ []))))) } ∷ record { owes = 0; args = (MoreATys (ATuple NoAFields) (MoreATys AInt NoATys)); body = (Let (Arith Add (Var 0) (Num (pos 1))) (Halt (Var 0))) } ∷ [];
-  tuples = ([]) ∷ ([]) ∷ (record { value = (Lab 4); kind = (ACode 0 (MoreATys (ATuple NoAFields) (MoreATys AInt NoATys))) } ∷ record { value = (Data 1); kind = (ATuple NoAFields) } ∷ []) ∷ ([]) ∷ (record { value = (Lab 0); kind = (ACode 1 (MoreATys (ATuple NoAFields) (MoreATys (AExists (ATuple (MoreAFields (ACode 0 (MoreATys (AVar 0) (MoreATys (AExists (ATuple (MoreAFields (ACode 0 (MoreATys (AVar 0) (MoreATys (AVar 2) (MoreATys (AExists (ATuple (MoreAFields (ACode 0 (MoreATys (AVar 0) (MoreATys (AVar 3) NoATys))) true (MoreAFields (AVar 0) true NoAFields)))) NoATys)))) true (MoreAFields (AVar 0) true NoAFields)))) NoATys))) true (MoreAFields (AVar 0) true NoAFields)))) NoATys))) } ∷ record { value = (Data 3); kind = (ATuple NoAFields) } ∷ []) ∷ ([]) ∷ (record { value = (Lab 3); kind = (ACode 0 (MoreATys (ATuple NoAFields) (MoreATys (AExists (ATuple (MoreAFields (ACode 0 (MoreATys (AVar 0) (MoreATys AInt (MoreATys (AExists (ATuple (MoreAFields (ACode 0 (MoreATys (AVar 0) (MoreATys AInt NoATys))) true (MoreAFields (AVar 0) true NoAFields)))) NoATys)))) true (MoreAFields (AVar 0) true NoAFields)))) NoATys))) } ∷ record { value = (Data 5); kind = (ATuple NoAFields) } ∷ []) ∷ [];
+  blocks = record {
+    owes = 1;
+    args = (MoreATys (ATuple NoAFields)
+        (MoreATys (AExists
+        (ATuple (MoreAFields
+        (ACode 0 (MoreATys (AVar 0)
+        (MoreATys (AExists
+        (ATuple (MoreAFields
+        (ACode 0 (MoreATys (AVar 0)
+        (MoreATys (AVar 2)
+        (MoreATys (AExists
+        (ATuple (MoreAFields (ACode 0 (MoreATys (AVar 0) (MoreATys (AVar 3) NoATys)))
+        true (MoreAFields (AVar 0) true NoAFields)))) NoATys)))) true
+        (MoreAFields (AVar 0) true NoAFields)))) NoATys))) true
+        (MoreAFields (AVar 0) true NoAFields)))) NoATys));
+    body =
+        (Let (Malloc
+        (MoreATys (ACode 0
+        (MoreATys (ATuple NoAFields)
+        (MoreATys (AVar 0)
+        (MoreATys (AExists
+        (ATuple (MoreAFields (ACode 0 (MoreATys (AVar 0) (MoreATys (AVar 1) NoATys))) true
+        (MoreAFields (AVar 0) true NoAFields)))) NoATys)))) (MoreATys (ATuple NoAFields) NoATys)))
+        (Let (Init (Var 0) 1 (Apply (Lab 1) (MoreATys (AVar 0) NoATys)))
+        (Let (Init (Var 0) 2 (Data 0))
+        (Let
+        (Value (Pack (ATuple NoAFields) (Var 0)
+        (AExists (ATuple
+        (MoreAFields
+        (ACode 0 (MoreATys (AVar 0)
+        (MoreATys (AVar 1)
+        (MoreATys (AExists
+        (ATuple (MoreAFields (ACode 0 (MoreATys (AVar 0) (MoreATys (AVar 2) NoATys))) true
+        (MoreAFields (AVar 0) true NoAFields)))) NoATys)))) true
+        (MoreAFields (AVar 0) true NoAFields))))))
+        (Let (Unpack (Var 4))
+        (Let (Proj 1 (Var 0)) (Let (Proj 2 (Var 1)) (Call (Var 1) NoATys ((Var 0) ∷ (Var 3) ∷ [])))))))));
+  }
+      ∷ record {
+        owes = 1;
+        args = (MoreATys (ATuple NoAFields)
+            (MoreATys (AVar 0)
+            (MoreATys (AExists
+            (ATuple (MoreAFields (ACode 0 (MoreATys (AVar 0) (MoreATys (AVar 1) NoATys))) true
+            (MoreAFields (AVar 0) true NoAFields)))) NoATys)));
+        body = (Let (Malloc (MoreATys (AVar 0) NoATys))
+            (Let (Init (Var 0) 1 (Var 2))
+            (Let (Malloc
+            (MoreATys (ACode 0
+            (MoreATys (ATuple (MoreAFields (AVar 0) true NoAFields))
+            (MoreATys AInt
+            (MoreATys (AExists
+            (ATuple (MoreAFields (ACode 0 (MoreATys (AVar 0) (MoreATys (AVar 1) NoATys))) true
+            (MoreAFields (AVar 0) true NoAFields)))) NoATys))))
+            (MoreATys (ATuple (MoreAFields (AVar 0) true NoAFields)) NoATys)))
+            (Let (Init (Var 0) 1 (Apply (Lab 2) (MoreATys (AVar 0) NoATys)))
+            (Let (Init (Var 0) 2 (Var 2))
+            (Let (Value (Pack (ATuple (MoreAFields (AVar 0) true NoAFields)) (Var 0)
+            (AExists (ATuple
+            (MoreAFields
+            (ACode 0 (MoreATys (AVar 0)
+            (MoreATys AInt
+            (MoreATys (AExists
+            (ATuple (MoreAFields (ACode 0 (MoreATys (AVar 0) (MoreATys (AVar 2) NoATys)))
+            true (MoreAFields (AVar 0) true NoAFields)))) NoATys)))) true
+            (MoreAFields (AVar 0) true NoAFields))))))
+            (Let (Unpack (Var 0))
+            (Let (Proj 1 (Var 0))
+            (Let (Proj 2 (Var 1)) (Call (Var 1) NoATys ((Var 0) ∷ (Num (pos 0)) ∷ (Var 9) ∷ [])))))))))));
+      }
+      ∷ record {
+        owes = 1;
+        args = (MoreATys (ATuple (MoreAFields (AVar 0) true NoAFields))
+            (MoreATys AInt
+            (MoreATys (AExists
+            (ATuple (MoreAFields (ACode 0 (MoreATys (AVar 0) (MoreATys (AVar 1) NoATys))) true
+            (MoreAFields (AVar 0) true NoAFields)))) NoATys)));
+        body = (Let (Proj 1 (Var 2))
+            (Let (Unpack (Var 1))
+            (Let (Proj 1 (Var 0)) (Let (Proj 2 (Var 1)) (Call (Var 1) NoATys ((Var 0) ∷ (Var 3) ∷ []))))));
+      }
+      ∷ record {
+        owes = 0;
+        args = (MoreATys (ATuple NoAFields)
+            (MoreATys (AExists
+            (ATuple (MoreAFields
+            (ACode 0 (MoreATys (AVar 0)
+            (MoreATys AInt
+            (MoreATys (AExists
+            (ATuple (MoreAFields (ACode 0 (MoreATys (AVar 0) (MoreATys AInt NoATys))) true
+            (MoreAFields (AVar 0) true NoAFields)))) NoATys)))) true
+            (MoreAFields (AVar 0) true NoAFields)))) NoATys));
+        body = (Let (Unpack (Var 0))
+            (Let (Proj 1 (Var 0))
+            (Let (Proj 2 (Var 1))
+            (Call (Var 1) NoATys
+            ((Var 0) ∷ (Num (pos 8))
+            ∷ (Pack (ATuple NoAFields) (Data 2)
+            (AExists (ATuple
+            (MoreAFields (ACode 0 (MoreATys (AVar 0) (MoreATys AInt NoATys))) true
+            (MoreAFields (AVar 0) true NoAFields))))) ∷ [])))));
+      }
+      ∷ record {
+        owes = 0;
+        args = (MoreATys (ATuple NoAFields) (MoreATys AInt NoATys));
+        body = (Let (Arith Add (Var 0) (Num (pos 1))) (Halt (Var 0)));
+      } ∷ [];
+  tuples = ([]) ∷ ([])
+      ∷ (record { value = (Lab 4); kind = (ACode 0 (MoreATys (ATuple NoAFields) (MoreATys AInt NoATys))) }
+      ∷ record { value = (Data 1); kind = (ATuple NoAFields) } ∷ []) ∷ ([])
+      ∷ (record {
+        value = (Lab 0);
+        kind = (ACode 1
+            (MoreATys (ATuple NoAFields)
+            (MoreATys (AExists
+            (ATuple (MoreAFields
+            (ACode 0 (MoreATys (AVar 0)
+            (MoreATys (AExists
+            (ATuple (MoreAFields
+            (ACode 0 (MoreATys (AVar 0)
+            (MoreATys (AVar 2)
+            (MoreATys (AExists
+            (ATuple (MoreAFields (ACode 0 (MoreATys (AVar 0) (MoreATys (AVar 3) NoATys)))
+            true (MoreAFields (AVar 0) true NoAFields)))) NoATys)))) true
+            (MoreAFields (AVar 0) true NoAFields)))) NoATys))) true
+            (MoreAFields (AVar 0) true NoAFields)))) NoATys)));
+      }
+      ∷ record { value = (Data 3); kind = (ATuple NoAFields) } ∷ []) ∷ ([])
+      ∷ (record {
+        value = (Lab 3);
+        kind = (ACode 0
+            (MoreATys (ATuple NoAFields)
+            (MoreATys (AExists
+            (ATuple (MoreAFields
+            (ACode 0 (MoreATys (AVar 0)
+            (MoreATys AInt
+            (MoreATys (AExists
+            (ATuple (MoreAFields (ACode 0 (MoreATys (AVar 0) (MoreATys AInt NoATys))) true
+            (MoreAFields (AVar 0) true NoAFields)))) NoATys)))) true
+            (MoreAFields (AVar 0) true NoAFields)))) NoATys)));
+      }
+      ∷ record { value = (Data 5); kind = (ATuple NoAFields) } ∷ []) ∷ [];
 }
 
 abbrev pub of_eight : ATm
-of_eight = (Let (Value (Pack (ATuple NoAFields) (Data 4) (AExists (ATuple (MoreAFields (ACode 1 (MoreATys (AVar 1) (MoreATys (AExists (ATuple (MoreAFields (ACode 0 (MoreATys (AVar 0) (MoreATys (AExists (ATuple (MoreAFields (ACode 0 (MoreATys (AVar 0) (MoreATys (AVar 2) (MoreATys (AExists (ATuple (MoreAFields (ACode 0 (MoreATys (AVar 0) (MoreATys (AVar 3) NoATys))) true (MoreAFields (AVar 0) true NoAFields)))) NoATys)))) true (MoreAFields (AVar 0) true NoAFields)))) NoATys))) true (MoreAFields (AVar 0) true NoAFields)))) NoATys))) true (MoreAFields (AVar 0) true NoAFields)))))) (Let (Unpack (Var 0)) (Let (Proj 1 (Var 0)) (Let (Proj 2 (Var 1)) (Call (Var 1) (MoreATys AInt NoATys) ((Var 0) ∷ (Pack (ATuple NoAFields) (Data 6) (AExists (ATuple (MoreAFields (ACode 0 (MoreATys (AVar 0) (MoreATys (AExists (ATuple (MoreAFields (ACode 0 (MoreATys (AVar 0) (MoreATys AInt (MoreATys (AExists (ATuple (MoreAFields (ACode 0 (MoreATys (AVar 0) (MoreATys AInt NoATys))) true (MoreAFields (AVar 0) true NoAFields)))) NoATys)))) true (MoreAFields (AVar 0) true NoAFields)))) NoATys))) true (MoreAFields (AVar 0) true NoAFields))))) ∷ []))))))
+of_eight = (Let
+    (Value (Pack (ATuple NoAFields) (Data 4)
+    (AExists (ATuple
+    (MoreAFields
+    (ACode 1 (MoreATys (AVar 1)
+    (MoreATys (AExists
+    (ATuple (MoreAFields
+    (ACode 0 (MoreATys (AVar 0)
+    (MoreATys (AExists
+    (ATuple (MoreAFields
+    (ACode 0 (MoreATys (AVar 0)
+    (MoreATys (AVar 2)
+    (MoreATys (AExists
+    (ATuple (MoreAFields
+    (ACode 0 (MoreATys (AVar 0) (MoreATys (AVar 3) NoATys))) true
+    (MoreAFields (AVar 0) true NoAFields)))) NoATys)))) true
+    (MoreAFields (AVar 0) true NoAFields)))) NoATys))) true
+    (MoreAFields (AVar 0) true NoAFields)))) NoATys))) true
+    (MoreAFields (AVar 0) true NoAFields))))))
+    (Let (Unpack (Var 0))
+    (Let (Proj 1 (Var 0))
+    (Let (Proj 2 (Var 1))
+    (Call (Var 1) (MoreATys AInt NoATys)
+    ((Var 0) ∷ (Pack (ATuple NoAFields) (Data 6)
+    (AExists (ATuple
+    (MoreAFields
+    (ACode 0 (MoreATys (AVar 0)
+    (MoreATys (AExists
+    (ATuple (MoreAFields
+    (ACode 0 (MoreATys (AVar 0)
+    (MoreATys AInt
+    (MoreATys (AExists
+    (ATuple (MoreAFields (ACode 0 (MoreATys (AVar 0) (MoreATys AInt NoATys)))
+    true (MoreAFields (AVar 0) true NoAFields)))) NoATys)))) true
+    (MoreAFields (AVar 0) true NoAFields)))) NoATys))) true
+    (MoreAFields (AVar 0) true NoAFields))))) ∷ []))))))
 
 -- two arguments that change places: L0(x, y) = if x = 0 then y else L0(y, x)
 abbrev pub exchange : AProg
 exchange = record {
-  blocks = record { owes = 0; args = (MoreATys AInt (MoreATys AInt NoATys)); body = (If0 (Var 1) (Halt (Var 0)) (Call (Lab 0) NoATys ((Var 0) ∷ (Var 1) ∷ []))) } ∷ [];
+  blocks = record {
+    owes = 0;
+    args = (MoreATys AInt (MoreATys AInt NoATys));
+    body = (If0 (Var 1) (Halt (Var 0)) (Call (Lab 0) NoATys ((Var 0) ∷ (Var 1) ∷ [])));
+  } ∷ [];
   tuples = [];
 }
 
@@ -123,11 +302,16 @@ alone = record { blocks = []; tuples = [] }
 
 -- a package in a package
 abbrev pub nested : ATm
-nested = (Let (Value (Pack (AExists (AVar 0)) (Pack AInt (Num (pos 7)) (AExists (AVar 0))) (AExists (AVar 0)))) (Let (Unpack (Var 0)) (Halt (Num (pos 1)))))
+nested = (Let (Value (Pack (AExists (AVar 0)) (Pack AInt (Num (pos 7)) (AExists (AVar 0))) (AExists (AVar 0))))
+    (Let (Unpack (Var 0)) (Halt (Num (pos 1)))))
 
 -- a cell that is assigned to, under a name that nothing uses
 abbrev pub assigned : ATm
-assigned = (Let (Malloc (MoreATys AInt NoATys)) (Let (Init (Var 0) 1 (Num (pos 3))) (Let (Init (Var 0) 1 (Num (pos 4))) (Let (Arith Add (Num (pos 20)) (Num (pos 1))) (Let (Proj 1 (Var 2)) (If0 (Var 0) (Halt (Num (pos 0))) (Halt (Var 0))))))))
+assigned = (Let (Malloc (MoreATys AInt NoATys))
+    (Let (Init (Var 0) 1 (Num (pos 3)))
+    (Let (Init (Var 0) 1 (Num (pos 4)))
+    (Let (Arith Add (Num (pos 20)) (Num (pos 1)))
+    (Let (Proj 1 (Var 2)) (If0 (Var 0) (Halt (Num (pos 0))) (Halt (Var 0))))))))
 
 -- L0(x, y) = L1(x - y, x), where the code of the call has a name, and L1(x, y) = x + y
 abbrev pub placing : AProg

@@ -21,16 +21,19 @@ use Rattle.h_pass.specs.Stream.{Found, IsFine, hoisted, whole}
 use Rattle.h_pass.specs.Walk.{Ends, Goes, Steps, Walked, program_of}
 
 -- the nodes of a term in scope are walked to their end
-pub fine_of : (t : CTm) (ns : List CNode) → hoisted (clin_t 0 t []) ≡ whole t → written ns [] ≡ clin_t 0 t [] → IsFine (written ns [])
+pub fine_of : (t : CTm) (ns : List CNode) → hoisted (clin_t 0 t []) ≡ whole t → written ns [] ≡ clin_t 0 t [] →
+    IsFine (written ns [])
 fine_of t ns kept read = ap (λ (r : Found). r.fine) (ap hoisted read ∙ kept)
 
 ended : (ns : List CNode) → length ns ≡ 0 → ns ≡ []
 ended [] h = refl
 ended (n ∷ ns) h = absurd (omega (arith, h))
 
-program_is : (t : CTm) (ns : List CNode) → hoisted (clin_t 0 t []) ≡ whole t → written ns [] ≡ clin_t 0 t [] → program_of (written ns []) ≡ (blocks_of t, main_of t)
+program_is : (t : CTm) (ns : List CNode) → hoisted (clin_t 0 t []) ≡ whole t → written ns [] ≡ clin_t 0 t [] →
+    program_of (written ns []) ≡ (blocks_of t, main_of t)
 program_is t ns kept read =
-    ap (λ (r : Found). (r.blocks, top no_term r.terms)) (ap hoisted read ∙ kept) ∙ ap (λ (ks : HBlks). (ks, main_of t)) (append-nil (blocks_of t))
+    ap (λ (r : Found). (r.blocks, top no_term r.terms)) (ap hoisted read ∙ kept)
+    ∙ ap (λ (ks : HBlks). (ks, main_of t)) (append-nil (blocks_of t))
 
 -- one node more
 pub goes_on : (ms ns : List CNode) (n : CNode) (w v : Walk) (p : HBlks × HTm) → ms ≡ n ∷ ns → Steps w (cnode n) v →
@@ -47,5 +50,6 @@ hoisted_whole t ns rest w v kept read past st none goes =
     at_end w v rest (blocks_of t, main_of t) (ended rest past)
     (subst (Walked w (written rest [])) (program_is t ns kept read) st) none goes
 
-pub bound_of : (t : CTm) (bs : List HBlock) (ns : List HNode) → Whole bs ns (blocks_of t, main_of t) → (CBound t → HBound (blocks_of t) (main_of t)) → ∥ CBound t ∥₁ → ∥ HBound (h_blocks bs) (h_tree ns) ∥₁
+pub bound_of : (t : CTm) (bs : List HBlock) (ns : List HNode) → Whole bs ns (blocks_of t, main_of t) →
+    (CBound t → HBound (blocks_of t) (main_of t)) → ∥ CBound t ∥₁ → ∥ HBound (h_blocks bs) (h_tree ns) ∥₁
 bound_of t bs ns all fits b = subst₂ (λ ks m. ∥ HBound ks m ∥₁) (sym all.blocks) (sym all.main) (∥∥₁_map b fits)

@@ -2,13 +2,16 @@
 use Rattle.std.proofs.Common.{◌≡◌, ◌<◌, ℕ, zero, suc, List, [], ◌∷◌, ◌++◌, Some, refl, sym, ap, ◌∙◌, subst, ap₂, arith}
 use Rattle.term_core.specs.Ends.{lift, under}
 use Rattle.c_terms.proofs.Putting.{lift_suc, lift_zero}
-use Rattle.c_terms.specs.C.{CApply, CArith, CCall, CCell, CCode, CGet, CHalt, CIf, CInt, CLet, CName, CPack, CProj, CSet, CTm, CTuple, CTy, CTys, CUnpack, CVal, CVals, CVar, MoreCTys, MoreCVals, NoCTys, NoCVals, TCCode, TCInt, TCRef, TCSome, TCTuple, TCVar, ccount, ct_next, cv_next}
+use Rattle.c_terms.specs.C.{CApply, CArith, CCall, CCell, CCode, CGet, CHalt, CIf, CInt, CLet, CName, CPack, CProj}
+use Rattle.c_terms.specs.C.{CSet, CTm, CTuple, CTy, CTys, CUnpack, CVal, CVals, CVar, MoreCTys, MoreCVals, NoCTys}
+use Rattle.c_terms.specs.C.{NoCVals, TCCode, TCInt, TCRef, TCSome, TCTuple, TCVar, ccount, ct_next, cv_next}
 use Rattle.c_terms.specs.Each.{CGoodP, CHasP, CHaveP, CProp}
 use Rattle.c_terms.specs.Typing.{CAt, CIn, CIns, cargs_onto, cren, crens, crens_scope}
 use Rattle.h_terms.specs.Each.{AllGoodP, HGoodP, HHasP, HHaveP, HProgramP}
 use Rattle.h_terms.specs.H.{HBlk, HBlks, block_at}
 use Rattle.h_pass.proofs.Hoisting.{HoldsT, HoldsV, HoldsVs, has_all, holds_t}
-use Rattle.h_pass.specs.Hoist.{Code, Lost, Near, Nobody, Own, Self, Spot, block_of, blocks_of, blocks_t, blocks_v, blocks_vs, deeper, hoist_t, hoist_v, hoist_vs, main_of, spot, spot_value}
+use Rattle.h_pass.specs.Hoist.{Code, Lost, Near, Nobody, Own, Self, Spot, block_of, blocks_of, blocks_t, blocks_v}
+use Rattle.h_pass.specs.Hoist.{blocks_vs, deeper, hoist_t, hoist_v, hoist_vs, main_of, spot, spot_value}
 
 -- a renaming that leaves the first n alone changes nothing of a type that has no others
 under_same : (m : ℕ) (r : ℕ → ℕ) (n : ℕ) → ((i : ℕ) → i < n → r i ≡ i) → (i : ℕ) → i < lift m n → under m r i ≡ i
@@ -30,7 +33,10 @@ mutual
   rens_same (MoreCTys t ts) r n f h = ap₂ MoreCTys (ren_same t r n f h.0) (rens_same ts r n f h.1)
 
 closed_same : (owes : ℕ) (args : CTys) (r : ℕ → ℕ) → CIns owes args → cren r (TCCode owes args) ≡ TCCode owes args
-closed_same owes args r h = ap (TCCode owes) (rens_same args (under owes r) (lift owes 0) (under_same owes r 0 (λ i e. absurd (omega arith))) (subst (λ n. CIns n args) (sym (lift_zero owes)) h))
+closed_same owes args r h =
+    ap (TCCode owes)
+    (rens_same args (under owes r) (lift owes 0) (under_same owes r 0 (λ i e. absurd (omega arith)))
+    (subst (λ n. CIns n args) (sym (lift_zero owes)) h))
 
 -- a scope under d variables
 abbrev OwnT : HBlks → Own → List CTy → List CTy → Type 0
@@ -43,55 +49,117 @@ ScopeT ks own (suc d) [] hg = ⊥
 ScopeT ks own (suc d) (c ∷ cg) [] = ⊥
 ScopeT ks own (suc d) (c ∷ cg) (h ∷ hg) = (c ≡ h) × ScopeT ks own d cg hg
 
-scope_ren : (ks : HBlks) (own : Own) (d : ℕ) (cg hg : List CTy) → ScopeT ks own d cg hg → ScopeT ks own d (crens_scope suc cg) (crens_scope suc hg)
+scope_ren : (ks : HBlks) (own : Own) (d : ℕ) (cg hg : List CTy) → ScopeT ks own d cg hg →
+    ScopeT ks own d (crens_scope suc cg) (crens_scope suc hg)
 scope_ren ks Nobody zero cg hg s = ap (crens_scope suc) s
-scope_ren ks (Code l) zero cg hg s = (s.0, s.1, s.2, ap (crens_scope suc) s.3 ∙ ap (λ t. t ∷ []) (closed_same (s.0).owes (s.0).args suc s.2))
+scope_ren ks (Code l) zero cg hg s =
+    (s.0, s.1, s.2, ap (crens_scope suc) s.3 ∙ ap (λ t. t ∷ []) (closed_same (s.0).owes (s.0).args suc s.2))
 scope_ren ks own (suc d) [] hg s = absurd s
 scope_ren ks own (suc d) (c ∷ cg) [] s = absurd s
 scope_ren ks own (suc d) (c ∷ cg) (h ∷ hg) s = (ap (cren suc) s.0, scope_ren ks own d cg hg s.1)
 
-scope_onto : (ks : HBlks) (own : Own) (d : ℕ) (ts : CTys) (cg hg : List CTy) → ScopeT ks own d cg hg → ScopeT ks own (lift (ccount ts) d) (cargs_onto ts cg) (cargs_onto ts hg)
+scope_onto : (ks : HBlks) (own : Own) (d : ℕ) (ts : CTys) (cg hg : List CTy) → ScopeT ks own d cg hg →
+    ScopeT ks own (lift (ccount ts) d) (cargs_onto ts cg) (cargs_onto ts hg)
 scope_onto ks own d NoCTys cg hg s = s
-scope_onto ks own d (MoreCTys t ts) cg hg s = subst (λ k. ScopeT ks own k (cargs_onto ts (t ∷ cg)) (cargs_onto ts (t ∷ hg))) (lift_suc (ccount ts) d) (scope_onto ks own (suc d) ts (t ∷ cg) (t ∷ hg) (refl, s))
+scope_onto ks own d (MoreCTys t ts) cg hg s =
+    subst (λ k. ScopeT ks own k (cargs_onto ts (t ∷ cg)) (cargs_onto ts (t ∷ hg))) (lift_suc (ccount ts) d)
+    (scope_onto ks own (suc d) ts (t ∷ cg) (t ∷ hg) (refl, s))
 
 module _ (P : CProp) where
-  deeper_has : (s : Spot) (ks : HBlks) (n : ℕ) (h t : CTy) (hg : List CTy) → HHasP P ks n hg (spot_value s) t → HHasP P ks n (h ∷ hg) (spot_value (deeper s)) t
+  deeper_has : (s : Spot) (ks : HBlks) (n : ℕ) (h t : CTy) (hg : List CTy) → HHasP P ks n hg (spot_value s) t →
+      HHasP P ks n (h ∷ hg) (spot_value (deeper s)) t
   deeper_has (Near i) ks n h t hg p = p
   deeper_has (Self l) ks n h t hg p = p
   deeper_has Lost ks n h t hg p = p
 
-  var_has : (ks : HBlks) (own : Own) (d i n : ℕ) (cg hg : List CTy) (t : CTy) → ScopeT ks own d cg hg → P n t → CAt cg i t → HHasP P ks n hg (spot_value (spot own d i)) t
+  var_has : (ks : HBlks) (own : Own) (d i n : ℕ) (cg hg : List CTy) (t : CTy) → ScopeT ks own d cg hg → P n t →
+      CAt cg i t → HHasP P ks n hg (spot_value (spot own d i)) t
   var_has ks Nobody zero i n cg hg t s q h = absurd (subst (λ g. CAt g i t) s h)
   var_has ks (Code l) zero zero n cg hg t s q h = (q, s.0, s.1, subst (λ g. CAt g 0 t) s.3 h)
   var_has ks (Code l) zero (suc i) n cg hg t s q h = absurd (subst (λ g. CAt g (suc i) t) s.3 h)
   var_has ks own (suc d) i n [] hg t s q h = absurd s
   var_has ks own (suc d) i n (c ∷ cg) [] t s q h = absurd s
   var_has ks own (suc d) zero n (c ∷ cg) (x ∷ hg) t s q h = (q, h ∙ s.0)
-  var_has ks own (suc d) (suc i) n (c ∷ cg) (x ∷ hg) t s q h = deeper_has (spot own d i) ks n x t hg (var_has ks own d i n cg hg t s.1 q h)
+  var_has ks own (suc d) (suc i) n (c ∷ cg) (x ∷ hg) t s q h =
+      deeper_has (spot own d i) ks n x t hg (var_has ks own d i n cg hg t s.1 q h)
 
   mutual
-    hhas_v : (v : CVal) (ks : HBlks) (own : Own) (d b n : ℕ) (cg hg : List CTy) (t : CTy) → HoldsV ks b v → ScopeT ks own d cg hg → CHasP P n cg v t → HHasP P ks n hg (hoist_v own d b v) t
+    hhas_v : (v : CVal) (ks : HBlks) (own : Own) (d b n : ℕ) (cg hg : List CTy) (t : CTy) → HoldsV ks b v →
+        ScopeT ks own d cg hg → CHasP P n cg v t → HHasP P ks n hg (hoist_v own d b v) t
     hhas_v (CVar i) ks own d b n cg hg t k s h = var_has ks own d i n cg hg t s h.0 h.1
     hhas_v (CInt m) ks own d b n cg hg t k s h = h
     hhas_v (CTuple vs) ks own d b n cg hg t k s h = (h.0, h.1, h.2, hhave_vs vs ks own d b n cg hg h.1 k s h.3)
     hhas_v (CCode owes args body) ks own d b n cg hg t k s h = (h.0, _, k.0, h.1)
-    hhas_v (CApply v ts) ks own d b n cg hg t k s h = (h.0, h.1, h.2, h.3, hhas_v v ks own d b n cg hg _ k s h.4, h.5, h.6)
-    hhas_v (CPack hid v shape) ks own d b n cg hg t k s h = (h.0, h.1, h.2, h.3, h.4, h.5, h.6, hhas_v v ks own d b n cg hg _ k s h.7)
+    hhas_v (CApply v ts) ks own d b n cg hg t k s h =
+        (h.0, h.1, h.2, h.3, hhas_v v ks own d b n cg hg _ k s h.4, h.5, h.6)
+    hhas_v (CPack hid v shape) ks own d b n cg hg t k s h =
+        (h.0, h.1, h.2, h.3, h.4, h.5, h.6, hhas_v v ks own d b n cg hg _ k s h.7)
 
-    hhave_vs : (vs : CVals) (ks : HBlks) (own : Own) (d b n : ℕ) (cg hg : List CTy) (ts : CTys) → HoldsVs ks b vs → ScopeT ks own d cg hg → CHaveP P n cg vs ts → HHaveP P ks n hg (hoist_vs own d b vs) ts
+    hhave_vs : (vs : CVals) (ks : HBlks) (own : Own) (d b n : ℕ) (cg hg : List CTy) (ts : CTys) → HoldsVs ks b vs →
+        ScopeT ks own d cg hg → CHaveP P n cg vs ts → HHaveP P ks n hg (hoist_vs own d b vs) ts
     hhave_vs NoCVals ks own d b n cg hg ts k s h = h
-    hhave_vs (MoreCVals v vs) ks own d b n cg hg ts k s h = (h.0, h.1, h.2, hhas_v v ks own d b n cg hg h.0 k.0 s h.3, hhave_vs vs ks own d (cv_next b v) n cg hg h.1 k.1 s h.4)
+    hhave_vs (MoreCVals v vs) ks own d b n cg hg ts k s h = (
+      h.0,
+      h.1,
+      h.2,
+      hhas_v v ks own d b n cg hg h.0 k.0 s h.3,
+      hhave_vs vs ks own d (cv_next b v) n cg hg h.1 k.1 s h.4,
+    )
 
-  hgood_t : (t : CTm) (ks : HBlks) (own : Own) (d b n : ℕ) (cg hg : List CTy) → HoldsT ks b t → ScopeT ks own d cg hg → CGoodP P n cg t → HGoodP P ks n hg (hoist_t own d b t)
-  hgood_t (CLet (CName v) t) ks own d b n cg hg k s h = (h.0, hhas_v v ks own d b n cg hg h.0 k.0 s h.1, hgood_t t ks own (suc d) (cv_next b v) n (h.0 ∷ cg) (h.0 ∷ hg) k.1 (refl, s) h.2)
-  hgood_t (CLet (CProj i v) t) ks own d b n cg hg k s h = (h.0, h.1, hhas_v v ks own d b n cg hg _ k.0 s h.2, h.3, h.4, hgood_t t ks own (suc d) (cv_next b v) n (h.1 ∷ cg) (h.1 ∷ hg) k.1 (refl, s) h.5)
-  hgood_t (CLet (CArith op v w) t) ks own d b n cg hg k s h = (hhas_v v ks own d b n cg hg TCInt k.0.0 s h.0, hhas_v w ks own d (cv_next b v) n cg hg TCInt k.0.1 s h.1, hgood_t t ks own (suc d) (cv_next (cv_next b v) w) n (TCInt ∷ cg) (TCInt ∷ hg) k.1 (refl, s) h.2)
-  hgood_t (CLet (CUnpack v) t) ks own d b n cg hg k s h = (h.0, hhas_v v ks own d b n cg hg _ k.0 s h.1, h.2, hgood_t t ks own (suc d) (cv_next b v) (suc n) (h.0 ∷ crens_scope suc cg) (h.0 ∷ crens_scope suc hg) k.1 (refl, scope_ren ks own d cg hg s) h.3)
-  hgood_t (CLet (CCell v) t) ks own d b n cg hg k s h = (h.0, hhas_v v ks own d b n cg hg h.0 k.0 s h.1, h.2, hgood_t t ks own (suc d) (cv_next b v) n (TCRef h.0 ∷ cg) (TCRef h.0 ∷ hg) k.1 (refl, s) h.3)
-  hgood_t (CLet (CGet v) t) ks own d b n cg hg k s h = (h.0, hhas_v v ks own d b n cg hg _ k.0 s h.1, h.2, hgood_t t ks own (suc d) (cv_next b v) n (h.0 ∷ cg) (h.0 ∷ hg) k.1 (refl, s) h.3)
-  hgood_t (CLet (CSet v w) t) ks own d b n cg hg k s h = (h.0, hhas_v v ks own d b n cg hg _ k.0.0 s h.1, hhas_v w ks own d (cv_next b v) n cg hg h.0 k.0.1 s h.2, h.3, hgood_t t ks own (suc d) (cv_next (cv_next b v) w) n (TCTuple NoCTys ∷ cg) (TCTuple NoCTys ∷ hg) k.1 (refl, s) h.4)
-  hgood_t (CCall f ts vs) ks own d b n cg hg k s h = (h.0, hhas_v f ks own d b n cg hg _ k.0 s h.1, h.2, h.3, hhave_vs vs ks own d (cv_next b f) n cg hg _ k.1 s h.4)
-  hgood_t (CIf v t u) ks own d b n cg hg k s h = (hhas_v v ks own d b n cg hg TCInt k.0 s h.0, hgood_t t ks own d (cv_next b v) n cg hg k.1 s h.1, hgood_t u ks own d (ct_next (cv_next b v) t) n cg hg k.2 s h.2)
+  hgood_t : (t : CTm) (ks : HBlks) (own : Own) (d b n : ℕ) (cg hg : List CTy) → HoldsT ks b t → ScopeT ks own d cg hg →
+      CGoodP P n cg t → HGoodP P ks n hg (hoist_t own d b t)
+  hgood_t (CLet (CName v) t) ks own d b n cg hg k s h = (
+    h.0,
+    hhas_v v ks own d b n cg hg h.0 k.0 s h.1,
+    hgood_t t ks own (suc d) (cv_next b v) n (h.0 ∷ cg) (h.0 ∷ hg) k.1 (refl, s) h.2,
+  )
+  hgood_t (CLet (CProj i v) t) ks own d b n cg hg k s h = (
+    h.0,
+    h.1,
+    hhas_v v ks own d b n cg hg _ k.0 s h.2,
+    h.3,
+    h.4,
+    hgood_t t ks own (suc d) (cv_next b v) n (h.1 ∷ cg) (h.1 ∷ hg) k.1 (refl, s) h.5,
+  )
+  hgood_t (CLet (CArith op v w) t) ks own d b n cg hg k s h = (
+    hhas_v v ks own d b n cg hg TCInt k.0.0 s h.0,
+    hhas_v w ks own d (cv_next b v) n cg hg TCInt k.0.1 s h.1,
+    hgood_t t ks own (suc d) (cv_next (cv_next b v) w) n (TCInt ∷ cg) (TCInt ∷ hg) k.1 (refl, s) h.2,
+  )
+  hgood_t (CLet (CUnpack v) t) ks own d b n cg hg k s h = (
+    h.0,
+    hhas_v v ks own d b n cg hg _ k.0 s h.1,
+    h.2,
+    hgood_t t ks own (suc d) (cv_next b v) (suc n) (h.0 ∷ crens_scope suc cg) (h.0 ∷ crens_scope suc hg) k.1
+        (refl, scope_ren ks own d cg hg s) h.3,
+  )
+  hgood_t (CLet (CCell v) t) ks own d b n cg hg k s h = (
+    h.0,
+    hhas_v v ks own d b n cg hg h.0 k.0 s h.1,
+    h.2,
+    hgood_t t ks own (suc d) (cv_next b v) n (TCRef h.0 ∷ cg) (TCRef h.0 ∷ hg) k.1 (refl, s) h.3,
+  )
+  hgood_t (CLet (CGet v) t) ks own d b n cg hg k s h = (
+    h.0,
+    hhas_v v ks own d b n cg hg _ k.0 s h.1,
+    h.2,
+    hgood_t t ks own (suc d) (cv_next b v) n (h.0 ∷ cg) (h.0 ∷ hg) k.1 (refl, s) h.3,
+  )
+  hgood_t (CLet (CSet v w) t) ks own d b n cg hg k s h = (
+    h.0,
+    hhas_v v ks own d b n cg hg _ k.0.0 s h.1,
+    hhas_v w ks own d (cv_next b v) n cg hg h.0 k.0.1 s h.2,
+    h.3,
+    hgood_t t ks own (suc d) (cv_next (cv_next b v) w) n (TCTuple NoCTys ∷ cg) (TCTuple NoCTys ∷ hg) k.1
+        (refl, s) h.4,
+  )
+  hgood_t (CCall f ts vs) ks own d b n cg hg k s h =
+      (h.0, hhas_v f ks own d b n cg hg _ k.0 s h.1, h.2, h.3, hhave_vs vs ks own d (cv_next b f) n cg hg _ k.1 s h.4)
+  hgood_t (CIf v t u) ks own d b n cg hg k s h = (
+    hhas_v v ks own d b n cg hg TCInt k.0 s h.0,
+    hgood_t t ks own d (cv_next b v) n cg hg k.1 s h.1,
+    hgood_t u ks own d (ct_next (cv_next b v) t) n cg hg k.2 s h.2,
+  )
   hgood_t (CHalt v) ks own d b n cg hg k s h = hhas_v v ks own d b n cg hg TCInt k s h
 
   -- the blocks
@@ -100,7 +168,8 @@ module _ (P : CProp) where
   all_append ks (x ∷ xs) ys h q = (h.0, all_append ks xs ys h.1 q)
 
   mutual
-    good_v : (v : CVal) (ks : HBlks) (b n : ℕ) (cg : List CTy) (t : CTy) → HoldsV ks b v → CHasP P n cg v t → AllGoodP P ks (blocks_v b v)
+    good_v : (v : CVal) (ks : HBlks) (b n : ℕ) (cg : List CTy) (t : CTy) → HoldsV ks b v → CHasP P n cg v t →
+        AllGoodP P ks (blocks_v b v)
     good_v (CVar i) ks b n cg t k h = tt
     good_v (CInt m) ks b n cg t k h = tt
     good_v (CTuple vs) ks b n cg t k h = good_vs vs ks b n cg h.1 k h.3
@@ -108,28 +177,55 @@ module _ (P : CProp) where
       (
         h.2,
         h.3,
-        hgood_t body ks (Code b) (ccount args) (suc b) owes (cargs_onto args (TCCode owes args ∷ [])) (cargs_onto args []) k.1
-            (subst (λ d. ScopeT ks (Code b) d (cargs_onto args (TCCode owes args ∷ [])) (cargs_onto args [])) (lift_zero (ccount args)) (scope_onto ks (Code b) 0 args (TCCode owes args ∷ []) [] (block_of b owes args body, k.0, h.2, refl))) h.4,
+        hgood_t body ks (Code b) (ccount args) (suc b) owes (cargs_onto args (TCCode owes args ∷ []))
+            (cargs_onto args []) k.1
+            (subst (λ d. ScopeT ks (Code b) d (cargs_onto args (TCCode owes args ∷ [])) (cargs_onto args []))
+            (lift_zero (ccount args))
+            (scope_onto ks (Code b) 0 args (TCCode owes args ∷ []) [] (block_of b owes args body, k.0, h.2, refl)))
+            h.4,
       ),
       good_t body ks (suc b) owes (cargs_onto args (TCCode owes args ∷ [])) k.1 h.4,
     )
     good_v (CApply v ts) ks b n cg t k h = good_v v ks b n cg _ k h.4
     good_v (CPack hid v shape) ks b n cg t k h = good_v v ks b n cg _ k h.7
 
-    good_vs : (vs : CVals) (ks : HBlks) (b n : ℕ) (cg : List CTy) (ts : CTys) → HoldsVs ks b vs → CHaveP P n cg vs ts → AllGoodP P ks (blocks_vs b vs)
+    good_vs : (vs : CVals) (ks : HBlks) (b n : ℕ) (cg : List CTy) (ts : CTys) → HoldsVs ks b vs → CHaveP P n cg vs ts →
+        AllGoodP P ks (blocks_vs b vs)
     good_vs NoCVals ks b n cg ts k h = tt
-    good_vs (MoreCVals v vs) ks b n cg ts k h = all_append ks (blocks_v b v) _ (good_v v ks b n cg h.0 k.0 h.3) (good_vs vs ks (cv_next b v) n cg h.1 k.1 h.4)
+    good_vs (MoreCVals v vs) ks b n cg ts k h =
+        all_append ks (blocks_v b v) _ (good_v v ks b n cg h.0 k.0 h.3) (good_vs vs ks (cv_next b v) n cg h.1 k.1 h.4)
 
-    good_t : (t : CTm) (ks : HBlks) (b n : ℕ) (cg : List CTy) → HoldsT ks b t → CGoodP P n cg t → AllGoodP P ks (blocks_t b t)
-    good_t (CLet (CName v) t) ks b n cg k h = all_append ks (blocks_v b v) _ (good_v v ks b n cg h.0 k.0 h.1) (good_t t ks (cv_next b v) n (h.0 ∷ cg) k.1 h.2)
-    good_t (CLet (CProj i v) t) ks b n cg k h = all_append ks (blocks_v b v) _ (good_v v ks b n cg _ k.0 h.2) (good_t t ks (cv_next b v) n (h.1 ∷ cg) k.1 h.5)
-    good_t (CLet (CArith op v w) t) ks b n cg k h = all_append ks (blocks_v b v ++ blocks_v (cv_next b v) w) _ (all_append ks (blocks_v b v) _ (good_v v ks b n cg TCInt k.0.0 h.0) (good_v w ks (cv_next b v) n cg TCInt k.0.1 h.1)) (good_t t ks (cv_next (cv_next b v) w) n (TCInt ∷ cg) k.1 h.2)
-    good_t (CLet (CUnpack v) t) ks b n cg k h = all_append ks (blocks_v b v) _ (good_v v ks b n cg _ k.0 h.1) (good_t t ks (cv_next b v) (suc n) (h.0 ∷ crens_scope suc cg) k.1 h.3)
-    good_t (CLet (CCell v) t) ks b n cg k h = all_append ks (blocks_v b v) _ (good_v v ks b n cg _ k.0 h.1) (good_t t ks (cv_next b v) n (TCRef h.0 ∷ cg) k.1 h.3)
-    good_t (CLet (CGet v) t) ks b n cg k h = all_append ks (blocks_v b v) _ (good_v v ks b n cg _ k.0 h.1) (good_t t ks (cv_next b v) n (h.0 ∷ cg) k.1 h.3)
-    good_t (CLet (CSet v w) t) ks b n cg k h = all_append ks (blocks_v b v ++ blocks_v (cv_next b v) w) _ (all_append ks (blocks_v b v) _ (good_v v ks b n cg _ k.0.0 h.1) (good_v w ks (cv_next b v) n cg h.0 k.0.1 h.2)) (good_t t ks (cv_next (cv_next b v) w) n (TCTuple NoCTys ∷ cg) k.1 h.4)
-    good_t (CCall f ts vs) ks b n cg k h = all_append ks (blocks_v b f) _ (good_v f ks b n cg _ k.0 h.1) (good_vs vs ks (cv_next b f) n cg _ k.1 h.4)
-    good_t (CIf v t u) ks b n cg k h = all_append ks (blocks_v b v) _ (good_v v ks b n cg TCInt k.0 h.0) (all_append ks (blocks_t (cv_next b v) t) _ (good_t t ks (cv_next b v) n cg k.1 h.1) (good_t u ks (ct_next (cv_next b v) t) n cg k.2 h.2))
+    good_t : (t : CTm) (ks : HBlks) (b n : ℕ) (cg : List CTy) → HoldsT ks b t → CGoodP P n cg t →
+        AllGoodP P ks (blocks_t b t)
+    good_t (CLet (CName v) t) ks b n cg k h =
+        all_append ks (blocks_v b v) _ (good_v v ks b n cg h.0 k.0 h.1)
+        (good_t t ks (cv_next b v) n (h.0 ∷ cg) k.1 h.2)
+    good_t (CLet (CProj i v) t) ks b n cg k h =
+        all_append ks (blocks_v b v) _ (good_v v ks b n cg _ k.0 h.2) (good_t t ks (cv_next b v) n (h.1 ∷ cg) k.1 h.5)
+    good_t (CLet (CArith op v w) t) ks b n cg k h =
+        all_append ks (blocks_v b v ++ blocks_v (cv_next b v) w) _
+        (all_append ks (blocks_v b v) _ (good_v v ks b n cg TCInt k.0.0 h.0)
+        (good_v w ks (cv_next b v) n cg TCInt k.0.1 h.1))
+        (good_t t ks (cv_next (cv_next b v) w) n (TCInt ∷ cg) k.1 h.2)
+    good_t (CLet (CUnpack v) t) ks b n cg k h =
+        all_append ks (blocks_v b v) _ (good_v v ks b n cg _ k.0 h.1)
+        (good_t t ks (cv_next b v) (suc n) (h.0 ∷ crens_scope suc cg) k.1 h.3)
+    good_t (CLet (CCell v) t) ks b n cg k h =
+        all_append ks (blocks_v b v) _ (good_v v ks b n cg _ k.0 h.1)
+        (good_t t ks (cv_next b v) n (TCRef h.0 ∷ cg) k.1 h.3)
+    good_t (CLet (CGet v) t) ks b n cg k h =
+        all_append ks (blocks_v b v) _ (good_v v ks b n cg _ k.0 h.1) (good_t t ks (cv_next b v) n (h.0 ∷ cg) k.1 h.3)
+    good_t (CLet (CSet v w) t) ks b n cg k h =
+        all_append ks (blocks_v b v ++ blocks_v (cv_next b v) w) _
+        (all_append ks (blocks_v b v) _ (good_v v ks b n cg _ k.0.0 h.1)
+        (good_v w ks (cv_next b v) n cg h.0 k.0.1 h.2))
+        (good_t t ks (cv_next (cv_next b v) w) n (TCTuple NoCTys ∷ cg) k.1 h.4)
+    good_t (CCall f ts vs) ks b n cg k h =
+        all_append ks (blocks_v b f) _ (good_v f ks b n cg _ k.0 h.1) (good_vs vs ks (cv_next b f) n cg _ k.1 h.4)
+    good_t (CIf v t u) ks b n cg k h =
+        all_append ks (blocks_v b v) _ (good_v v ks b n cg TCInt k.0 h.0)
+        (all_append ks (blocks_t (cv_next b v) t) _ (good_t t ks (cv_next b v) n cg k.1 h.1)
+        (good_t u ks (ct_next (cv_next b v) t) n cg k.2 h.2))
     good_t (CHalt v) ks b n cg k h = good_v v ks b n cg TCInt k h
 
 pub hoist_each : (P : CProp) (t : CTm) → CGoodP P 0 [] t → HProgramP P (blocks_of t) (main_of t)

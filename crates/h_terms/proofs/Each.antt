@@ -4,7 +4,8 @@ use Rattle.c_terms.specs.C.{CTy, CTys, MoreCTys, NoCTys, TCInt, TCRef, TCSome, T
 use Rattle.c_terms.specs.Each.{CAll, CProp}
 use Rattle.c_terms.specs.Typing.{cargs_onto, crens_scope}
 use Rattle.h_terms.specs.Each.{AllGoodP, HGoodP, HHasP, HHaveP, HProgramP}
-use Rattle.h_terms.specs.H.{HApply, HArith, HBlks, HCall, HCell, HGet, HHalt, HIf, HInt, HLabel, HLet, HName, HPack, HProj, HSet, HTm, HTuple, HUnpack, HVal, HVals, HVar, MoreHVals, NoHVals}
+use Rattle.h_terms.specs.H.{HApply, HArith, HBlks, HCall, HCell, HGet, HHalt, HIf, HInt, HLabel, HLet, HName, HPack}
+use Rattle.h_terms.specs.H.{HProj, HSet, HTm, HTuple, HUnpack, HVal, HVals, HVar, MoreHVals, NoHVals}
 use Rattle.h_terms.specs.Typing.{AllGood, HGood, HHas, HHave, HProgramGood}
 
 module _ (P : CProp) (ks : HBlks) where
@@ -24,11 +25,14 @@ module _ (P : CProp) (ks : HBlks) where
   plain_t : (t : HTm) (n : ℕ) (g : List CTy) → HGoodP P ks n g t → HGood ks n g t
   plain_t (HLet (HName v) t) n g h = (h.0, plain_v v n g h.0 h.1, plain_t t n (h.0 ∷ g) h.2)
   plain_t (HLet (HProj i v) t) n g h = (h.0, h.1, plain_v v n g (TCTuple h.0) h.2, h.3, plain_t t n (h.1 ∷ g) h.5)
-  plain_t (HLet (HArith op v w) t) n g h = (plain_v v n g TCInt h.0, plain_v w n g TCInt h.1, plain_t t n (TCInt ∷ g) h.2)
-  plain_t (HLet (HUnpack v) t) n g h = (h.0, plain_v v n g (TCSome h.0) h.1, plain_t t (suc n) (h.0 ∷ crens_scope suc g) h.3)
+  plain_t (HLet (HArith op v w) t) n g h =
+      (plain_v v n g TCInt h.0, plain_v w n g TCInt h.1, plain_t t n (TCInt ∷ g) h.2)
+  plain_t (HLet (HUnpack v) t) n g h =
+      (h.0, plain_v v n g (TCSome h.0) h.1, plain_t t (suc n) (h.0 ∷ crens_scope suc g) h.3)
   plain_t (HLet (HCell v) t) n g h = (h.0, plain_v v n g h.0 h.1, plain_t t n (TCRef h.0 ∷ g) h.3)
   plain_t (HLet (HGet v) t) n g h = (h.0, plain_v v n g (TCRef h.0) h.1, plain_t t n (h.0 ∷ g) h.3)
-  plain_t (HLet (HSet v w) t) n g h = (h.0, plain_v v n g (TCRef h.0) h.1, plain_v w n g h.0 h.2, plain_t t n (TCTuple NoCTys ∷ g) h.4)
+  plain_t (HLet (HSet v w) t) n g h =
+      (h.0, plain_v v n g (TCRef h.0) h.1, plain_v w n g h.0 h.2, plain_t t n (TCTuple NoCTys ∷ g) h.4)
   plain_t (HCall f ts vs) n g h = (h.0, plain_v f n g _ h.1, h.2, plain_vs vs n g _ h.4)
   plain_t (HIf v t u) n g h = (plain_v v n g TCInt h.0, plain_t t n g h.1, plain_t u n g h.2)
   plain_t (HHalt v) n g h = plain_v v n g TCInt h
@@ -66,17 +70,20 @@ module _ (ks : HBlks) where
   any_t (HLet (HName v) t) n g h = (h.0, any_v v n g h.0 h.1, any_t t n (h.0 ∷ g) h.2)
   any_t (HLet (HProj i v) t) n g h = (h.0, h.1, any_v v n g (TCTuple h.0) h.2, h.3, tt, any_t t n (h.1 ∷ g) h.4)
   any_t (HLet (HArith op v w) t) n g h = (any_v v n g TCInt h.0, any_v w n g TCInt h.1, any_t t n (TCInt ∷ g) h.2)
-  any_t (HLet (HUnpack v) t) n g h = (h.0, any_v v n g (TCSome h.0) h.1, tt, any_t t (suc n) (h.0 ∷ crens_scope suc g) h.2)
+  any_t (HLet (HUnpack v) t) n g h =
+      (h.0, any_v v n g (TCSome h.0) h.1, tt, any_t t (suc n) (h.0 ∷ crens_scope suc g) h.2)
   any_t (HLet (HCell v) t) n g h = (h.0, any_v v n g h.0 h.1, tt, any_t t n (TCRef h.0 ∷ g) h.2)
   any_t (HLet (HGet v) t) n g h = (h.0, any_v v n g (TCRef h.0) h.1, tt, any_t t n (h.0 ∷ g) h.2)
-  any_t (HLet (HSet v w) t) n g h = (h.0, any_v v n g (TCRef h.0) h.1, any_v w n g h.0 h.2, tt, any_t t n (TCTuple NoCTys ∷ g) h.3)
+  any_t (HLet (HSet v w) t) n g h =
+      (h.0, any_v v n g (TCRef h.0) h.1, any_v w n g h.0 h.2, tt, any_t t n (TCTuple NoCTys ∷ g) h.3)
   any_t (HCall f ts vs) n g h = (h.0, any_v f n g _ h.1, h.2, any_types n ts, any_vs vs n g _ h.3)
   any_t (HIf v t u) n g h = (any_v v n g TCInt h.0, any_t t n g h.1, any_t u n g h.2)
   any_t (HHalt v) n g h = any_v v n g TCInt h
 
   any_all : (xs : HBlks) → AllGood ks xs → AllGoodP Any ks xs
   any_all [] h = tt
-  any_all (x ∷ xs) h = ((h.0.0, any_types x.owes x.args, any_t x.body x.owes (cargs_onto x.args []) h.0.1), any_all xs h.1)
+  any_all (x ∷ xs) h =
+      ((h.0.0, any_types x.owes x.args, any_t x.body x.owes (cargs_onto x.args []) h.0.1), any_all xs h.1)
 
 pub any_program : (ks : HBlks) (t : HTm) → HProgramGood ks t → HProgramP Any ks t
 any_program ks t h = (any_all ks ks h.0, any_t ks t 0 [] h.1)

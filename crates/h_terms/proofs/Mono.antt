@@ -6,7 +6,8 @@ use Rattle.c_terms.specs.Reach.{CWithin}
 use Rattle.c_terms.specs.Typing.{cargs_onto, crens_scope}
 use Rattle.h_terms.specs.Bound.{HFits}
 use Rattle.h_terms.specs.Each.{AllGoodP, HGoodP, HHasP, HHaveP, HProgramP}
-use Rattle.h_terms.specs.H.{HApply, HArith, HBlks, HCall, HCell, HGet, HHalt, HIf, HInt, HLabel, HLet, HName, HPack, HProj, HSet, HTm, HTuple, HUnpack, HVal, HVals, HVar, MoreHVals, NoHVals}
+use Rattle.h_terms.specs.H.{HApply, HArith, HBlks, HCall, HCell, HGet, HHalt, HIf, HInt, HLabel, HLet, HName, HPack}
+use Rattle.h_terms.specs.H.{HProj, HSet, HTm, HTuple, HUnpack, HVal, HVals, HVar, MoreHVals, NoHVals}
 use Rattle.h_terms.specs.Size.{HAllSmall}
 
 module _ (P Q : CProp) (f : (n : ℕ) (t : CTy) → P n t → Q n t) (ks : HBlks) where
@@ -29,29 +30,45 @@ module _ (P Q : CProp) (f : (n : ℕ) (t : CTy) → P n t → Q n t) (ks : HBlks
 
   more_t : (t : HTm) (n : ℕ) (g : List CTy) → HGoodP P ks n g t → HGoodP Q ks n g t
   more_t (HLet (HName v) t) n g h = (h.0, more_v v n g h.0 h.1, more_t t n (h.0 ∷ g) h.2)
-  more_t (HLet (HProj i v) t) n g h = (h.0, h.1, more_v v n g (TCTuple h.0) h.2, h.3, f n h.1 h.4, more_t t n (h.1 ∷ g) h.5)
+  more_t (HLet (HProj i v) t) n g h =
+      (h.0, h.1, more_v v n g (TCTuple h.0) h.2, h.3, f n h.1 h.4, more_t t n (h.1 ∷ g) h.5)
   more_t (HLet (HArith op v w) t) n g h = (more_v v n g TCInt h.0, more_v w n g TCInt h.1, more_t t n (TCInt ∷ g) h.2)
-  more_t (HLet (HUnpack v) t) n g h = (h.0, more_v v n g (TCSome h.0) h.1, f (suc n) h.0 h.2, more_t t (suc n) (h.0 ∷ crens_scope suc g) h.3)
+  more_t (HLet (HUnpack v) t) n g h =
+      (h.0, more_v v n g (TCSome h.0) h.1, f (suc n) h.0 h.2, more_t t (suc n) (h.0 ∷ crens_scope suc g) h.3)
   more_t (HLet (HCell v) t) n g h = (h.0, more_v v n g h.0 h.1, f n (TCRef h.0) h.2, more_t t n (TCRef h.0 ∷ g) h.3)
   more_t (HLet (HGet v) t) n g h = (h.0, more_v v n g (TCRef h.0) h.1, f n h.0 h.2, more_t t n (h.0 ∷ g) h.3)
-  more_t (HLet (HSet v w) t) n g h = (h.0, more_v v n g (TCRef h.0) h.1, more_v w n g h.0 h.2, f n (TCTuple NoCTys) h.3, more_t t n (TCTuple NoCTys ∷ g) h.4)
+  more_t (HLet (HSet v w) t) n g h = (
+    h.0,
+    more_v v n g (TCRef h.0) h.1,
+    more_v w n g h.0 h.2,
+    f n (TCTuple NoCTys) h.3,
+    more_t t n (TCTuple NoCTys ∷ g) h.4,
+  )
   more_t (HCall c ts vs) n g h = (h.0, more_v c n g _ h.1, h.2, more_types n ts h.3, more_vs vs n g _ h.4)
   more_t (HIf v t u) n g h = (more_v v n g TCInt h.0, more_t t n g h.1, more_t u n g h.2)
   more_t (HHalt v) n g h = more_v v n g TCInt h
 
   more_all : (xs : HBlks) → AllGoodP P ks xs → AllGoodP Q ks xs
   more_all [] h = tt
-  more_all (x ∷ xs) h = ((h.0.0, more_types x.owes x.args h.0.1, more_t x.body x.owes (cargs_onto x.args []) h.0.2), more_all xs h.1)
+  more_all (x ∷ xs) h =
+      ((h.0.0, more_types x.owes x.args h.0.1, more_t x.body x.owes (cargs_onto x.args []) h.0.2), more_all xs h.1)
 
   pub more_program : (t : HTm) → HProgramP P ks t → HProgramP Q ks t
   more_program t h = (more_all ks h.0, more_t t 0 [] h.1)
 
-pub within_more : (N M R S B C : ℕ) (ks : HBlks) (t : HTm) → N ≤ M → R ≤ S → B ≤ C → HProgramP (CWithin N R B) ks t → HProgramP (CWithin M S C) ks t
-within_more N M R S B C ks t x y z h = more_program (CWithin N R B) (CWithin M S C) (λ n t h. (omega (arith, h.0, x), omega (arith, h.1, y), omega (arith, h.2, z))) ks t h
+pub within_more : (N M R S B C : ℕ) (ks : HBlks) (t : HTm) → N ≤ M → R ≤ S → B ≤ C → HProgramP (CWithin N R B) ks t →
+    HProgramP (CWithin M S C) ks t
+within_more N M R S B C ks t x y z h =
+    more_program (CWithin N R B) (CWithin M S C)
+    (λ n t h. (omega (arith, h.0, x), omega (arith, h.1, y), omega (arith, h.2, z))) ks t h
 
 small_more : (N M : ℕ) (xs : HBlks) → N ≤ M → HAllSmall N xs → HAllSmall M xs
 small_more N M [] le h = tt
 small_more N M (x ∷ xs) le h = (omega (arith, h.0, le), small_more N M xs le h.1)
 
 pub fits_more : (N M R S : ℕ) (ks : HBlks) (t : HTm) → N ≤ M → R ≤ S → HFits N R ks t → HFits M S ks t
-fits_more N M R S ks t le ge h = (within_more N M R S N M ks t le ge le h.0, (small_more N M ks le h.1.0, omega (arith, h.1.1, le)), omega (arith, h.2, le))
+fits_more N M R S ks t le ge h = (
+  within_more N M R S N M ks t le ge le h.0,
+  (small_more N M ks le h.1.0, omega (arith, h.1.1, le)),
+  omega (arith, h.2, le),
+)

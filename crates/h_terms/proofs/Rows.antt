@@ -4,13 +4,15 @@ use Rattle.h_terms.specs.declared.node.HPart.TheVariants as P
 use Rattle.h_terms.specs.declared.node.HForm.TheVariants as F
 use Rattle.term_core.specs.Ends.{Halted, Spent, Stuck}
 use Rattle.c_terms.specs.C.{MoreCTys, NoCTys, TCInt}
-use Rattle.h_terms.specs.H.{HBlks, HCall, HCell, HGet, HHalt, HIf, HInt, HLabel, HLet, HName, HSet, HTm, HTuple, HVal, HVar, MoreHVals, NoHVals}
+use Rattle.h_terms.specs.H.{HBlks, HCall, HCell, HGet, HHalt, HIf, HInt, HLabel, HLet, HName, HSet, HTm, HTuple, HVal}
+use Rattle.h_terms.specs.H.{HVar, MoreHVals, NoHVals}
 use Rattle.h_terms.specs.Meaning.{hrun}
 use Rattle.h_terms.specs.Nodes.{h_build, reads, tied}
 use Rattle.h_terms.specs.Typing.{HProgramGood}
 
 -- parts stand after what they are made of: a tuple takes the last values, the first of them first
-a_pair : reads [] (P.Var 1 ∷ P.Int (pos 3) ∷ P.Tuple 2 ∷ []) ≡ HTuple (MoreHVals (HVar 1) (MoreHVals (HInt (pos 3)) NoHVals)) ∷ []
+a_pair : reads [] (P.Var 1 ∷ P.Int (pos 3) ∷ P.Tuple 2 ∷ [])
+    ≡ HTuple (MoreHVals (HVar 1) (MoreHVals (HInt (pos 3)) NoHVals)) ∷ []
 a_pair = refl
 
 -- what stands before stays
@@ -30,7 +32,11 @@ code_first v w = refl
 
 -- a block that calls itself, and halts where its argument is zero
 loops : HBlks
-loops = record { owes = 0; args = MoreCTys TCInt NoCTys; body = HIf (HVar 0) (HHalt (HInt (pos 7))) (HCall (HLabel 0) NoCTys (MoreHVals (HInt (pos 0)) NoHVals)) } ∷ []
+loops = record {
+  owes = 0;
+  args = MoreCTys TCInt NoCTys;
+  body = HIf (HVar 0) (HHalt (HInt (pos 7))) (HCall (HLabel 0) NoCTys (MoreHVals (HInt (pos 0)) NoHVals));
+} ∷ []
 
 calls : HVal → HTm
 calls v = HCall (HLabel 0) NoCTys (MoreHVals v NoHVals)

@@ -11,7 +11,7 @@ use Rattle.c_terms.specs.C.{CTy}
 use Rattle.c_terms.specs.Read.{ctys}
 use Rattle.c_terms.specs.declared.types.CType.{CType}
 use Rattle.c_writer.specs.Types.{type_text, types_text}
-use Rattle.h_terms.specs.H.{HApply, HPack, HTuple, HVal}
+use Rattle.h_terms.specs.H.{HPack, HTuple, HVal}
 use Rattle.h_terms.specs.Nodes.{at_last, more, reads, tied, tupled}
 use Rattle.h_terms.specs.declared.node.HPart.{HPart}
 use Rattle.page_text.specs.Names.{separator}
@@ -93,12 +93,6 @@ stand_last p n m (y ∷ xs) x [] h = absurd h
 stand_last p n m (y ∷ xs) x (v ∷ vs) h =
     let r = stand_last p n m xs x vs h.1 in (v ∷ r.0, r.1, ap (λ us. v ∷ us) r.2, (h.0, r.3), r.4)
 
-pub wrap_none : (p : Pieces) (n m : ℕ) (xs ys : List ℕ) (vs : List HVal) (f : HVal → HVal) → length ys ≡ 0 →
-    xs ≡ ys ++ [] → Stand p n m xs vs → Stand p n m ys (at_last f vs)
-wrap_none p n m xs [] [] f e is h = tt
-wrap_none p n m xs [] (v ∷ vs) f e is h = absurd (subst (λ zs. Stand p n m zs (v ∷ vs)) is h)
-wrap_none p n m xs (y ∷ ys) vs f e is h = absurd (omega (arith, e))
-
 pub wrap_done : (p q : Pieces) (n m : ℕ) (xs ys zs : List ℕ) (inner whole : ℕ) (vs : List HVal) (f : HVal → HVal)
     (before behind : List ℕ) → xs ≡ ys ++ inner ∷ [] → Keeps p q →
     ((s : List ℕ) → Stands p inner s → Stands q whole (before ++ (s ++ behind))) → zs ≡ ys ++ whole ∷ [] →
@@ -111,14 +105,6 @@ wrap_done p q n m xs ys zs inner whole vs f before behind e k st more is h =
     let same : at_last f vs ≡ r.0 ++ f r.1 ∷ [] = ap (at_last f) r.2 ∙ at_last_snoc f r.0 r.1 in
     subst (λ us. Stand q n m us (at_last f vs)) (sym more)
     (subst (λ us. Stand q n m (ys ++ whole ∷ []) us) (sym same) all)
-
-pub apply_text : (n m : ℕ) (v : HVal) (us ts : List CType) (before behind : List ℕ) → before ≡ [] →
-    behind ≡ applied_text n (ctys us) → us ≡ ts →
-    value_text n m (HApply v (ctys ts)) ≡ before ++ (value_text n m v ++ behind)
-apply_text n m v us ts before behind e f g =
-    ap (λ (xs : List CType). value_text n m v ++ applied_text n (ctys xs)) (sym g)
-    ∙ ap (λ (s : List ℕ). value_text n m v ++ s) (sym f)
-    ∙ ap (λ (s : List ℕ). s ++ (value_text n m v ++ behind)) (sym e)
 
 regrouped : (a b c v d : List ℕ) → a ++ (b ++ (c ++ (v ++ d))) ≡ (a ++ (b ++ c)) ++ (v ++ d)
 regrouped a b c v d = simp append_assoc
@@ -160,13 +146,6 @@ pub record Joining (p q : Pieces) (fields : List ℕ) (i piece : ℕ) : Type 0 w
   pub keeps : Keeps p q
   pub left : (n m : ℕ) (vs : List HVal) → Stand p n m fields vs → (s : List ℕ) × Stands q piece s
       × (s ++ listed (value_item n m) i (drop i vs) ≡ codes "<" ++ listed (value_item n m) 0 vs)
-
-pub joining_start : (p q : Pieces) (fields : List ℕ) (piece : ℕ) (t : List ℕ) → t ≡ codes "<" → Keeps p q →
-    Stands q piece t → Joining p q fields 0 piece
-joining_start p q fields piece t is k st = record {
-  keeps = k;
-  left = λ n m vs h. (codes "<", subst (λ s. Stands q piece s) is st, refl);
-}
 
 pub joining_more : (p q r : Pieces) (fields : List ℕ) (i piece x next : ℕ) → x ≡ get_or fields i x → i < length fields →
     Joining p q fields i piece → Keeps q r →

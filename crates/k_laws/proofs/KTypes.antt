@@ -1,9 +1,11 @@
 -- The conversion of types at a place, and shift, put and scope.
-use Rattle.std.proofs.Common.{◌≡◌, ◌<◌, ◌≤◌, ◌⊎◌, inl, inr, ℕ, zero, suc, ◌+◌, ◌-◌, List, [], ◌∷◌, Some, None, refl, sym, ap, ap₂, ◌∙◌, arith}
+use Rattle.std.proofs.Common.{◌≡◌, ◌<◌, ◌≤◌, ◌⊎◌, inl, inr, ℕ, zero, suc, ◌+◌, ◌-◌, List, [], ◌∷◌, Some, None, refl}
+use Rattle.std.proofs.Common.{sym, ap, ap₂, ◌∙◌, arith}
 use Rattle.std.proofs.lemmas.Bool.{cases_lt, cases_order}
 use Rattle.idx_core.specs.Over.{shifted, putted}
 use Rattle.idx_core.specs.Laws.{shifted_lt, shifted_ge, putted_lt, putted_eq, putted_gt, shift_add_law}
-use Rattle.f_terms.specs.Ty.{Ty, TInt, TVar, TArrow, TAll, TTuple, TSome, TRef, Tys, NoTys, MoreTys, over, over_all, shift, put, Below}
+use Rattle.f_terms.specs.Ty.{Ty, TInt, TVar, TArrow, TAll, TTuple, TSome, TRef, Tys, NoTys, MoreTys, over, over_all}
+use Rattle.f_terms.specs.Ty.{shift, put, Below}
 use Rattle.f_terms.specs.TyLaws.{types_part, types_over, shift_none}
 use Rattle.f_terms.specs.Typing.{ty_at, field_ty}
 use Rattle.term_core.specs.Ends.{lift, under}
@@ -20,21 +22,27 @@ abbrev for_all : KTy → KTy
 for_all b = TKCode 1 (MoreKTys (taking b) NoKTys)
 
 -- renamed, where the renamings agree on the names in scope
-under_on : (n : ℕ) (q r p : ℕ → ℕ) → ((i : ℕ) → i < n → q (r i) ≡ p i) → (i : ℕ) → i < n + 1 → under 1 q (under 1 r i) ≡ under 1 p i
+under_on : (n : ℕ) (q r p : ℕ → ℕ) → ((i : ℕ) → i < n → q (r i) ≡ p i) → (i : ℕ) → i < n + 1 →
+    under 1 q (under 1 r i) ≡ under 1 p i
 under_on n q r p f zero h = refl
 under_on n q r p f (suc i) h = ap suc (f i (omega (arith, h)))
 
 mutual
-  pub ren_kty : (t : Ty) (n : ℕ) (q r p : ℕ → ℕ) → ((i : ℕ) → i < n → q (r i) ≡ p i) → Below n t → kren q (kty r t) ≡ kty p t
+  pub ren_kty : (t : Ty) (n : ℕ) (q r p : ℕ → ℕ) → ((i : ℕ) → i < n → q (r i) ≡ p i) → Below n t →
+      kren q (kty r t) ≡ kty p t
   ren_kty TInt n q r p f b = refl
   ren_kty (TVar a) n q r p f b = ap TKVar (f a b)
-  ren_kty (TArrow x y) n q r p f b = ap₂ arrow (ren_kty x n (under 0 q) r p f b.0) (ren_kty y n (under 0 (under 0 q)) r p f b.1)
-  ren_kty (TAll t) n q r p f b = ap for_all (ren_kty t (n + 1) (under 0 (under 1 q)) (under 1 r) (under 1 p) (under_on n q r p f) b.1)
+  ren_kty (TArrow x y) n q r p f b =
+      ap₂ arrow (ren_kty x n (under 0 q) r p f b.0) (ren_kty y n (under 0 (under 0 q)) r p f b.1)
+  ren_kty (TAll t) n q r p f b =
+      ap for_all (ren_kty t (n + 1) (under 0 (under 1 q)) (under 1 r) (under 1 p) (under_on n q r p f) b.1)
   ren_kty (TTuple ts) n q r p f b = ap TKTuple (ren_ktys ts n q r p f b)
-  ren_kty (TSome t) n q r p f b = ap TKSome (ren_kty t (n + 1) (under 1 q) (under 1 r) (under 1 p) (under_on n q r p f) b.1)
+  ren_kty (TSome t) n q r p f b =
+      ap TKSome (ren_kty t (n + 1) (under 1 q) (under 1 r) (under 1 p) (under_on n q r p f) b.1)
   ren_kty (TRef t) n q r p f b = ap TKRef (ren_kty t n q r p f b)
 
-  ren_ktys : (ts : Tys) (n : ℕ) (q r p : ℕ → ℕ) → ((i : ℕ) → i < n → q (r i) ≡ p i) → Belows n ts → krens q (all_kty r ts) ≡ all_kty p ts
+  ren_ktys : (ts : Tys) (n : ℕ) (q r p : ℕ → ℕ) → ((i : ℕ) → i < n → q (r i) ≡ p i) → Belows n ts →
+      krens q (all_kty r ts) ≡ all_kty p ts
   ren_ktys NoTys n q r p f b = refl
   ren_ktys (MoreTys t ts) n q r p f b = ap₂ MoreKTys (ren_kty t n q r p f b.0) (ren_ktys ts n q r p f b.1)
 
@@ -52,12 +60,14 @@ mutual
   same_kty (TSome t) n r p f b = ap TKSome (same_kty t (n + 1) (under 1 r) (under 1 p) (under_same n r p f) b.1)
   same_kty (TRef t) n r p f b = ap TKRef (same_kty t n r p f b)
 
-  same_ktys : (ts : Tys) (n : ℕ) (r p : ℕ → ℕ) → ((i : ℕ) → i < n → r i ≡ p i) → Belows n ts → all_kty r ts ≡ all_kty p ts
+  same_ktys : (ts : Tys) (n : ℕ) (r p : ℕ → ℕ) → ((i : ℕ) → i < n → r i ≡ p i) → Belows n ts →
+      all_kty r ts ≡ all_kty p ts
   same_ktys NoTys n r p f b = refl
   same_ktys (MoreTys t ts) n r p f b = ap₂ MoreKTys (same_kty t n r p f b.0) (same_ktys ts n r p f b.1)
 
 -- a walk over a source type that shifts by one
-under_one : (r p : ℕ → ℕ) (d : ℕ) → ((i : ℕ) → kty r (shifted TVar 1 d i) ≡ TKVar (p i)) → (i : ℕ) → kty (under 1 r) (shifted TVar 1 (d + 1) i) ≡ TKVar (under 1 p i)
+under_one : (r p : ℕ → ℕ) (d : ℕ) → ((i : ℕ) → kty r (shifted TVar 1 d i) ≡ TKVar (p i)) → (i : ℕ) →
+    kty (under 1 r) (shifted TVar 1 (d + 1) i) ≡ TKVar (under 1 p i)
 under_one r p d f zero = ap (kty (under 1 r)) (shifted_lt TVar 1 (d + 1) 0 (omega arith))
 under_one r p d f (suc i) = here (cases_lt i d)
   where
@@ -71,7 +81,8 @@ under_one r p d f (suc i) = here (cases_lt i d)
         ∙ ap (kren suc) (sym (ap (kty r) (shifted_ge TVar 1 d i l)) ∙ f i)
 
 mutual
-  shift_kty : (t : Ty) (r p : ℕ → ℕ) (d : ℕ) → ((i : ℕ) → kty r (shifted TVar 1 d i) ≡ TKVar (p i)) → kty r (over (shifted TVar 1) d t) ≡ kty p t
+  shift_kty : (t : Ty) (r p : ℕ → ℕ) (d : ℕ) → ((i : ℕ) → kty r (shifted TVar 1 d i) ≡ TKVar (p i)) →
+      kty r (over (shifted TVar 1) d t) ≡ kty p t
   shift_kty TInt r p d f = refl
   shift_kty (TVar i) r p d f = f i
   shift_kty (TArrow a b) r p d f = ap₂ arrow (shift_kty a r p d f) (shift_kty b r p d f)
@@ -80,14 +91,17 @@ mutual
   shift_kty (TSome t) r p d f = ap TKSome (shift_kty t (under 1 r) (under 1 p) (d + 1) (under_one r p d f))
   shift_kty (TRef t) r p d f = ap TKRef (shift_kty t r p d f)
 
-  shift_ktys : (ts : Tys) (r p : ℕ → ℕ) (d : ℕ) → ((i : ℕ) → kty r (shifted TVar 1 d i) ≡ TKVar (p i)) → all_kty r (over_all (shifted TVar 1) d ts) ≡ all_kty p ts
+  shift_ktys : (ts : Tys) (r p : ℕ → ℕ) (d : ℕ) → ((i : ℕ) → kty r (shifted TVar 1 d i) ≡ TKVar (p i)) →
+      all_kty r (over_all (shifted TVar 1) d ts) ≡ all_kty p ts
   shift_ktys NoTys r p d f = refl
   shift_ktys (MoreTys t ts) r p d f = ap₂ MoreKTys (shift_kty t r p d f) (shift_ktys ts r p d f)
 
 -- one more type name in the source
 pub kty_raised : (t : Ty) (r p : ℕ → ℕ) → ((i : ℕ) → r (suc i) ≡ p i) → kty r (shift 1 0 t) ≡ kty p t
 kty_raised t r p f =
-    shift_kty t r p 0 (λ i. let more : i + 1 ≡ suc i = omega arith in ap (kty r) (shifted_ge TVar 1 0 i (omega arith) ∙ ap TVar more) ∙ ap TKVar (f i))
+    shift_kty t r p 0
+    (λ i. let more : i + 1 ≡ suc i = omega arith in ap (kty r) (shifted_ge TVar 1 0 i (omega arith) ∙ ap TVar more)
+    ∙ ap TKVar (f i))
 
 -- every renaming
 under_all : (q r p : ℕ → ℕ) → ((i : ℕ) → q (r i) ≡ p i) → (i : ℕ) → under 1 q (under 1 r i) ≡ under 1 p i
@@ -121,12 +135,15 @@ putted_suc s d i = here (cases_order i d)
         putted_eq TVar over 0 s (d + 1) (suc i) (omega (arith, e)) ∙ ap (λ n. shift n 0 s) (sym sum)
         ∙ sym (shift_add_law types_part types_over (d - 0) 1 0 s) ∙ ap (shift 1 0) (sym (putted_eq TVar over 0 s d i e))
     here (inr (inl l)) =
-        putted_lt TVar over 0 s (d + 1) (suc i) (omega (arith, l)) ∙ sym (up i) ∙ ap (shift 1 0) (sym (putted_lt TVar over 0 s d i l))
+        putted_lt TVar over 0 s (d + 1) (suc i) (omega (arith, l)) ∙ sym (up i)
+        ∙ ap (shift 1 0) (sym (putted_lt TVar over 0 s d i l))
     here (inr (inr l)) =
         let less : suc i - 1 ≡ suc (i - 1) = omega (arith, l) in
-        putted_gt TVar over 0 s (d + 1) (suc i) (omega (arith, l)) ∙ ap TVar less ∙ sym (up (i - 1)) ∙ ap (shift 1 0) (sym (putted_gt TVar over 0 s d i l))
+        putted_gt TVar over 0 s (d + 1) (suc i) (omega (arith, l)) ∙ ap TVar less ∙ sym (up (i - 1))
+        ∙ ap (shift 1 0) (sym (putted_gt TVar over 0 s d i l))
 
-put_up : (s : Ty) (z : ℕ → KTy) (r p : ℕ → ℕ) (d : ℕ) → ((i : ℕ) → z (r i) ≡ kty p (putted TVar over 0 s d i)) → (i : ℕ) → kup 1 z (under 1 r i) ≡ kty (under 1 p) (putted TVar over 0 s (d + 1) i)
+put_up : (s : Ty) (z : ℕ → KTy) (r p : ℕ → ℕ) (d : ℕ) → ((i : ℕ) → z (r i) ≡ kty p (putted TVar over 0 s d i)) →
+    (i : ℕ) → kup 1 z (under 1 r i) ≡ kty (under 1 p) (putted TVar over 0 s (d + 1) i)
 put_up s z r p d f zero = ap (kty (under 1 p)) (sym (putted_lt TVar over 0 s (d + 1) 0 (omega arith)))
 put_up s z r p d f (suc i) =
     let u = putted TVar over 0 s d i in
@@ -134,33 +151,43 @@ put_up s z r p d f (suc i) =
     ∙ sym (ap (kty (under 1 p)) (putted_suc s d i) ∙ kty_raised u (under 1 p) (λ j. suc (p j)) (λ j. refl))
 
 mutual
-  put_kty : (t s : Ty) (z : ℕ → KTy) (r p : ℕ → ℕ) (d : ℕ) → ((i : ℕ) → z (r i) ≡ kty p (putted TVar over 0 s d i)) → ksub z (kty r t) ≡ kty p (over (putted TVar over 0 s) d t)
+  put_kty : (t s : Ty) (z : ℕ → KTy) (r p : ℕ → ℕ) (d : ℕ) → ((i : ℕ) → z (r i) ≡ kty p (putted TVar over 0 s d i)) →
+      ksub z (kty r t) ≡ kty p (over (putted TVar over 0 s) d t)
   put_kty TInt s z r p d f = refl
   put_kty (TVar i) s z r p d f = f i
   put_kty (TArrow a b) s z r p d f = ap₂ arrow (put_kty a s (kup 0 z) r p d f) (put_kty b s (kup 0 (kup 0 z)) r p d f)
-  put_kty (TAll t) s z r p d f = ap for_all (put_kty t s (kup 0 (kup 1 z)) (under 1 r) (under 1 p) (d + 1) (put_up s z r p d f))
+  put_kty (TAll t) s z r p d f =
+      ap for_all (put_kty t s (kup 0 (kup 1 z)) (under 1 r) (under 1 p) (d + 1) (put_up s z r p d f))
   put_kty (TTuple ts) s z r p d f = ap TKTuple (put_ktys ts s z r p d f)
   put_kty (TSome t) s z r p d f = ap TKSome (put_kty t s (kup 1 z) (under 1 r) (under 1 p) (d + 1) (put_up s z r p d f))
   put_kty (TRef t) s z r p d f = ap TKRef (put_kty t s z r p d f)
 
-  put_ktys : (ts : Tys) (s : Ty) (z : ℕ → KTy) (r p : ℕ → ℕ) (d : ℕ) → ((i : ℕ) → z (r i) ≡ kty p (putted TVar over 0 s d i)) → ksubs z (all_kty r ts) ≡ all_kty p (over_all (putted TVar over 0 s) d ts)
+  put_ktys : (ts : Tys) (s : Ty) (z : ℕ → KTy) (r p : ℕ → ℕ) (d : ℕ) →
+      ((i : ℕ) → z (r i) ≡ kty p (putted TVar over 0 s d i)) →
+      ksubs z (all_kty r ts) ≡ all_kty p (over_all (putted TVar over 0 s) d ts)
   put_ktys NoTys s z r p d f = refl
   put_ktys (MoreTys t ts) s z r p d f = ap₂ MoreKTys (put_kty t s z r p d f) (put_ktys ts s z r p d f)
 
 put_first : (s : Ty) (p : ℕ → ℕ) (i : ℕ) → kscons (kty p s) TKVar (under 1 p i) ≡ kty p (putted TVar over 0 s 0 i)
 put_first s p zero = ap (kty p) (sym (putted_eq TVar over 0 s 0 0 refl ∙ shift_none s))
-put_first s p (suc i) = let e : i ≡ suc i - 1 = omega arith in ap (λ j. TKVar (p j)) e ∙ ap (kty p) (sym (putted_gt TVar over 0 s 0 (suc i) (omega arith)))
+put_first s p (suc i) =
+    let e : i ≡ suc i - 1 = omega arith in
+    ap (λ j. TKVar (p j)) e ∙ ap (kty p) (sym (putted_gt TVar over 0 s 0 (suc i) (omega arith)))
 
 -- a type put for the first name
 pub put_in : (s b : Ty) (p : ℕ → ℕ) → ksub (kscons (kty p s) TKVar) (kty (under 1 p) b) ≡ kty p (put 0 s b)
 put_in s b p = put_kty b s (kscons (kty p s) TKVar) (under 1 p) p 0 (put_first s p)
 
 -- the type of a body at a type
-pub put_code : (s b : Ty) (p : ℕ → ℕ) → ksubs (knames (MoreKTys (kty p s) NoKTys) TKVar) (MoreKTys (taking (kty (under 1 p) b)) NoKTys) ≡ MoreKTys (taking (kty p (put 0 s b))) NoKTys
-put_code s b p = ap (λ t. MoreKTys (taking t) NoKTys) (put_kty b s (kup 0 (kscons (kty p s) TKVar)) (under 1 p) p 0 (put_first s p))
+pub put_code : (s b : Ty) (p : ℕ → ℕ) →
+    ksubs (knames (MoreKTys (kty p s) NoKTys) TKVar) (MoreKTys (taking (kty (under 1 p) b)) NoKTys)
+    ≡ MoreKTys (taking (kty p (put 0 s b))) NoKTys
+put_code s b p =
+    ap (λ t. MoreKTys (taking t) NoKTys) (put_kty b s (kup 0 (kscons (kty p s) TKVar)) (under 1 p) p 0 (put_first s p))
 
 pub ren_none : (t : KTy) → kren (lift 0) t ≡ t
-ren_none t = sym (sub_same (kren (lift 0) t) TKVar (λ i. refl)) ∙ sub_ren t TKVar (lift 0) TKVar (λ i. refl) ∙ sub_same t TKVar (λ i. refl)
+ren_none t = sym (sub_same (kren (lift 0) t) TKVar (λ i. refl)) ∙ sub_ren t TKVar (lift 0) TKVar (λ i. refl)
+    ∙ sub_same t TKVar (λ i. refl)
 
 pub scope_none : (g : List KTy) → krens_scope (lift 0) g ≡ g
 scope_none [] = refl
@@ -224,14 +251,19 @@ lift_lift zero k i = refl
 lift_lift (suc j) k i = ap suc (lift_lift j k i)
 
 -- k more type names around
-pub deeper : (t : Ty) (n : ℕ) (tl : List ℕ) (td k : ℕ) → LevelsIn n tl td → Below n t → kren (lift k) (kat td tl t) ≡ kat (lift k td) tl t
-deeper t n tl td k f b = ren_kty t n (lift k) (spot td tl) (spot (lift k td) tl) (λ i h. (let q = f i h in let x = lift_plus k (td - suc (type_level tl i)) in let y = lift_plus k td in omega (arith, q, x, y))) b
+pub deeper : (t : Ty) (n : ℕ) (tl : List ℕ) (td k : ℕ) → LevelsIn n tl td → Below n t →
+    kren (lift k) (kat td tl t) ≡ kat (lift k td) tl t
+deeper t n tl td k f b =
+    ren_kty t n (lift k) (spot td tl) (spot (lift k td) tl)
+    (λ i h. (let q = f i h in let x = lift_plus k (td - suc (type_level tl i)) in let y = lift_plus k td in
+    omega (arith, q, x, y))) b
 
 pub kat_in : (t : Ty) (n : ℕ) (tl : List ℕ) (td : ℕ) → LevelsIn n tl td → Below n t → KIn td (kat td tl t)
 kat_in t n tl td f b = kty_in t n td (spot td tl) (λ i h. let q = f i h in omega (arith, q)) b
 
 -- under a type's own name, and under the name that an unpack or a code gives
-pub opened : (t : Ty) (n : ℕ) (tl : List ℕ) (td : ℕ) → LevelsIn n tl td → Below (n + 1) t → kty (under 1 (spot td tl)) t ≡ kat (suc td) (td ∷ tl) t
+pub opened : (t : Ty) (n : ℕ) (tl : List ℕ) (td : ℕ) → LevelsIn n tl td → Below (n + 1) t →
+    kty (under 1 (spot td tl)) t ≡ kat (suc td) (td ∷ tl) t
 opened t n tl td f b = same_kty t (n + 1) (under 1 (spot td tl)) (spot (suc td) (td ∷ tl)) same b
   where
     same : (i : ℕ) → i < n + 1 → under 1 (spot td tl) i ≡ spot (suc td) (td ∷ tl) i

@@ -1,7 +1,8 @@
 -- How deep the conversions of types nest.
-use Rattle.std.proofs.Common.{◌≡◌, ◌≤◌, ℕ, zero, suc, ◌+◌, ◌*◌, arith, refl}
+use Rattle.std.proofs.Common.{◌≤◌, ℕ, zero, suc, ◌+◌, ◌*◌, arith}
 use Rattle.f_terms.specs.Ty.{Ty, TInt, TVar, TArrow, TAll, TTuple, TSome, TRef, Tys, NoTys, MoreTys, depth, depths}
-use Rattle.f_terms.specs.Tm.{Term, MVar, MNum, MFix, MApp, MGen, MInst, MTuple, MProj, MArith, MIf0, MLet, MPack, MOpen, MRef, MDeref, MAssign, Terms, NoTerms, MoreTerms}
+use Rattle.f_terms.specs.Tm.{Term, MVar, MNum, MFix, MApp, MGen, MInst, MTuple, MProj, MArith, MIf0, MLet, MPack}
+use Rattle.f_terms.specs.Tm.{MOpen, MRef, MDeref, MAssign, Terms, NoTerms, MoreTerms}
 use Rattle.f_terms.specs.Limits.{Shallow, nodes}
 use Rattle.f_terms.specs.Typing.{raised, in_fix, in_open}
 use Rattle.f_terms.specs.Accepted.{KeepsLimits, AllKeepLimits}
@@ -41,10 +42,12 @@ mutual
   binds_ktys (MoreTys t ts) r = let x = binds_kty t r in let y = binds_ktys ts r in omega (arith, x, y)
 
 within_kty : (L n : ℕ) (r : ℕ → ℕ) (t : Ty) → n ≤ L → Shallow t → KWithin L 1600 598 n (kty r t)
-within_kty L n r t le h = let x = reach_kty t r in let y = binds_kty t r in (le, omega (arith, x, h), omega (arith, y, h))
+within_kty L n r t le h =
+    let x = reach_kty t r in let y = binds_kty t r in (le, omega (arith, x, h), omega (arith, y, h))
 
 within_taking : (L n : ℕ) (r : ℕ → ℕ) (t : Ty) → n ≤ L → Shallow t → KWithin L 1600 598 n (taking (kty r t))
-within_taking L n r t le h = let x = reach_kty t r in let y = binds_kty t r in (le, omega (arith, x, h), omega (arith, y, h))
+within_taking L n r t le h =
+    let x = reach_kty t r in let y = binds_kty t r in (le, omega (arith, x, h), omega (arith, y, h))
 
 -- the limits bound the depth of the type of each subexpression
 mutual
@@ -58,10 +61,13 @@ mutual
   shallow_all (MTuple es) n g h = ((λ t k. (h.0 t k).0), all_shallow es n g h.1)
   shallow_all (MProj i e) n g h = ((λ t k. (h.0 t k).0), shallow_all e n g h.1)
   shallow_all (MArith op x y) n g h = ((λ t k. (h.0 t k).0), shallow_all x n g h.1, shallow_all y n g h.2)
-  shallow_all (MIf0 x y z) n g h = ((λ t k. (h.0 t k).0), shallow_all x n g h.1, shallow_all y n g h.2, shallow_all z n g h.3)
-  shallow_all (MLet x y) n g h = ((λ t k. (h.0 t k).0), shallow_all x n g h.1, (λ s k. shallow_all y n (MoreTys s g) (h.2 s k)))
+  shallow_all (MIf0 x y z) n g h =
+      ((λ t k. (h.0 t k).0), shallow_all x n g h.1, shallow_all y n g h.2, shallow_all z n g h.3)
+  shallow_all (MLet x y) n g h =
+      ((λ t k. (h.0 t k).0), shallow_all x n g h.1, (λ s k. shallow_all y n (MoreTys s g) (h.2 s k)))
   shallow_all (MPack hid e s) n g h = ((λ t k. (h.0 t k).0), shallow_all e n g h.1, h.2.0)
-  shallow_all (MOpen x y) n g h = ((λ t k. (h.0 t k).0), shallow_all x n g h.1, (λ u k. shallow_all y (n + 1) (in_open u g) (h.2 u k)))
+  shallow_all (MOpen x y) n g h =
+      ((λ t k. (h.0 t k).0), shallow_all x n g h.1, (λ u k. shallow_all y (n + 1) (in_open u g) (h.2 u k)))
   shallow_all (MRef e) n g h = ((λ t k. (h.0 t k).0), shallow_all e n g h.1)
   shallow_all (MDeref e) n g h = ((λ t k. (h.0 t k).0), shallow_all e n g h.1)
   shallow_all (MAssign x y) n g h = ((λ t k. (h.0 t k).0), shallow_all x n g h.1, shallow_all y n g h.2)
@@ -71,12 +77,11 @@ mutual
   all_shallow (MoreTerms e es) n g h = (shallow_all e n g h.0, all_shallow es n g h.1)
 
 pub reach_kept : KeepsReach
-reach_kept e m acc h = each_type Shallow (nodes e) (KWithin (nodes e) 1600 598) (within_kty (nodes e)) (within_taking (nodes e)) (λ t h. omega (arith, h)) e m h (omega arith) (shallow_all e 0 NoTys acc.1) (omega arith)
+reach_kept e m acc h =
+    each_type Shallow (nodes e) (KWithin (nodes e) 1600 598) (within_kty (nodes e)) (within_taking (nodes e))
+    (λ t h. omega (arith, h)) e m h (omega arith) (shallow_all e 0 NoTys acc.1) (omega arith)
 
 -- the deepest types: a leaf `<>` under so many arrows
 abbrev arrows : ℕ → Ty
 arrows zero = TTuple NoTys
 arrows (suc d) = TArrow TInt (arrows d)
-
-deepest : kreach (taking (kty (λ i. i) (arrows 199))) ≡ 1597
-deepest = refl

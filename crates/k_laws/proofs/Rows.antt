@@ -5,9 +5,11 @@ use Rattle.std.specs.Prelude.{ℤ, false}
 use Rattle.std.specs.Int.{int_wrap}
 use Rattle.idx_core.specs.declared.arith.Op.TheVariants.{Add, Sub, Mul}
 use Rattle.f_terms.specs.Ty.{TInt, TVar, TArrow, TTuple, TSome, NoTys, MoreTys}
-use Rattle.f_terms.specs.Tm.{Term, MVar, MNum, MFix, MApp, MGen, MInst, MTuple, MProj, MArith, MIf0, MLet, MPack, MOpen, MRef, MDeref, MAssign, NoTerms, MoreTerms}
+use Rattle.f_terms.specs.Tm.{Term, MVar, MNum, MFix, MApp, MGen, MInst, MTuple, MProj, MArith, MIf0, MLet, MPack}
+use Rattle.f_terms.specs.Tm.{MOpen, MRef, MDeref, MAssign, NoTerms, MoreTerms}
 use Rattle.term_core.specs.Ends.{Halted}
-use Rattle.k_terms.specs.K.{KTy, TKInt, TKVar, TKCode, TKSome, NoKTys, MoreKTys, KVal, KVar, KInt, KCode, NoKVals, MoreKVals, KName, KArith, KPack, KUnpack, KCell, KGet, KSet, KTm, KLet, KCall, KIf, KHalt}
+use Rattle.k_terms.specs.K.{KTy, TKInt, TKVar, TKCode, TKSome, NoKTys, MoreKTys, KVal, KVar, KInt, KCode, NoKVals}
+use Rattle.k_terms.specs.K.{MoreKVals, KName, KArith, KPack, KUnpack, KCell, KGet, KSet, KTm, KLet, KCall, KIf, KHalt}
 use Rattle.k_terms.specs.Meaning.{krun}
 use Rattle.k_laws.specs.Annotate.{cps_term}
 use Rattle.k_laws.specs.Cps.{Level}
@@ -16,7 +18,10 @@ use Rattle.k_laws.specs.Sites.{sites}
 use Rattle.k_laws.specs.Count.{count}
 
 abbrev factorial : Term
-factorial = MApp (MFix TInt TInt (MIf0 (MVar 0) (MNum (pos 1)) (MArith Mul (MVar 0) (MApp (MVar 1) (MArith Sub (MVar 0) (MNum (pos 1))))))) (MNum (pos 5))
+factorial = MApp
+    (MFix TInt TInt
+    (MIf0 (MVar 0) (MNum (pos 1)) (MArith Mul (MVar 0) (MApp (MVar 1) (MArith Sub (MVar 0) (MNum (pos 1)))))))
+    (MNum (pos 5))
 
 abbrev identity : Term
 identity = MApp (MInst (MGen (MFix (TVar 0) (TVar 0) (MVar 0))) TInt) (MNum (pos 3))
@@ -114,7 +119,8 @@ named_first v rest e = cc
 exchanged_is_none : cps_program difference (minus (KInt (pos 2)) (KInt (pos 5))) → ⊥
 exchanged_is_none (ty, (ta, inl (tb, inl (a, b, rest, ea, eb, e, more)))) = other a b rest ea e
   where
-    other : (a b : KVal) (rest : KTm) → a ≡ KInt (pos 5) → minus (KInt (pos 2)) (KInt (pos 5)) ≡ KLet (KArith Sub a b) rest → ⊥
+    other : (a b : KVal) (rest : KTm) → a ≡ KInt (pos 5) →
+        minus (KInt (pos 2)) (KInt (pos 5)) ≡ KLet (KArith Sub a b) rest → ⊥
     other a b rest ea e = cc
 exchanged_is_none (ty, (ta, inl (tb, inr (v, rest, x, e, more)))) = named_first v rest e
 exchanged_is_none (ty, (ta, inr (v, rest, x, e, more))) = named_first v rest e
@@ -126,8 +132,10 @@ itself = MApp (MFix TInt TInt (MVar 0)) (MNum (pos 7))
 -- f = code(x: int, k: code(int)). k(x); f(7, code(y: int). halt y)
 abbrev calls_with : KVal → KTm
 calls_with given =
-    KLet (KName (KCode 0 (MoreKTys TKInt (MoreKTys (TKCode 0 (MoreKTys TKInt NoKTys)) NoKTys)) (KCall (KVar 0) NoKTys (MoreKVals given NoKVals))))
-    (KCall (KVar 0) NoKTys (MoreKVals (KInt (pos 7)) (MoreKVals (KCode 0 (MoreKTys TKInt NoKTys) (KHalt (KVar 0))) NoKVals)))
+    KLet (KName (KCode 0 (MoreKTys TKInt (MoreKTys (TKCode 0 (MoreKTys TKInt NoKTys)) NoKTys))
+    (KCall (KVar 0) NoKTys (MoreKVals given NoKVals))))
+    (KCall (KVar 0) NoKTys
+    (MoreKVals (KInt (pos 7)) (MoreKVals (KCode 0 (MoreKTys TKInt NoKTys) (KHalt (KVar 0))) NoKVals)))
 
 itself_is_it : cps_term itself ≡ calls_with (KVar 1)
 itself_is_it = refl
@@ -152,7 +160,8 @@ itself_is_one = (
 abbrev square : Term
 square = MLet (MNum (pos 2)) (MLet (MArith Add (MVar 0) (MNum (pos 1))) (MArith Mul (MVar 0) (MVar 0)))
 
-square_is_it : cps_term square ≡ KLet (KArith Add (KInt (pos 2)) (KInt (pos 1))) (KLet (KArith Mul (KVar 0) (KVar 0)) (KHalt (KVar 0)))
+square_is_it : cps_term square
+    ≡ KLet (KArith Add (KInt (pos 2)) (KInt (pos 1))) (KLet (KArith Mul (KVar 0) (KVar 0)) (KHalt (KVar 0)))
 square_is_it = refl
 
 squares : (krun 0 (cps_term square)).end ≡ Halted (pos 9)
@@ -166,7 +175,8 @@ again = refl
 -- open [a, x] = pack [int, <3, fix f(y: int): int. y + 1>] as some a. <a, a -> int> in (#2 x) (#1 x)
 abbrev counter : Term
 counter = MOpen
-    (MPack TInt (MTuple (MoreTerms (MNum (pos 3)) (MoreTerms (MFix TInt TInt (MArith Add (MVar 0) (MNum (pos 1)))) NoTerms)))
+    (MPack TInt (MTuple
+    (MoreTerms (MNum (pos 3)) (MoreTerms (MFix TInt TInt (MArith Add (MVar 0) (MNum (pos 1)))) NoTerms)))
     (TSome (TTuple (MoreTys (TVar 0) (MoreTys (TArrow (TVar 0) TInt) NoTys)))))
     (MApp (MProj 2 (MVar 0)) (MProj 1 (MVar 0)))
 
@@ -177,21 +187,26 @@ opens_to = refl
 two_codes : sites false counter ≡ 2
 two_codes = refl
 
--- (open [a, x] = pack [int, 3] as some a. a in 1) + (gen b. fix f(y: b): b. y)[int] 2: the hidden type has a name in all that
--- comes after, so that the code of `gen b` stands under two
+-- (open [a, x] = pack [int, 3] as some a. a in 1) + (gen b. fix f(y: b): b. y)[int] 2: the hidden type has a name in
+-- all that comes after, so that the code of `gen b` stands under two
 abbrev opened_first : Term
-opened_first = MArith Add (MOpen (MPack TInt (MNum (pos 3)) (TSome (TVar 0))) (MNum (pos 1))) (MApp (MInst (MGen (MFix (TVar 0) (TVar 0) (MVar 0))) TInt) (MNum (pos 2)))
+opened_first =
+    MArith Add (MOpen (MPack TInt (MNum (pos 3)) (TSome (TVar 0))) (MNum (pos 1)))
+    (MApp (MInst (MGen (MFix (TVar 0) (TVar 0) (MVar 0))) TInt) (MNum (pos 2)))
 
--- gen b. open [a, x] = pack [b -> b, fix f(y: b): b. y] as some a. a in fix g(z: b): b. z: b is the first type name and a the
--- second, so that b stands as 1 under both
+-- gen b. open [a, x] = pack [b -> b, fix f(y: b): b. y] as some a. a in fix g(z: b): b. z: b is the first type name
+-- and a the second, so that b stands as 1 under both
 abbrev under_both : Term
-under_both = MGen (MOpen (MPack (TArrow (TVar 0) (TVar 0)) (MFix (TVar 0) (TVar 0) (MVar 0)) (TSome (TVar 0))) (MFix (TVar 1) (TVar 1) (MVar 0)))
+under_both =
+    MGen (MOpen (MPack (TArrow (TVar 0) (TVar 0)) (MFix (TVar 0) (TVar 0) (MVar 0)) (TSome (TVar 0)))
+    (MFix (TVar 1) (TVar 1) (MVar 0)))
 
 abbrev function : KTy → KTy
 function t = TKCode 0 (MoreKTys t (MoreKTys (TKCode 0 (MoreKTys t NoKTys)) NoKTys))
 
 abbrev same_of : KTy → KVal
-same_of t = KCode 0 (MoreKTys t (MoreKTys (TKCode 0 (MoreKTys t NoKTys)) NoKTys)) (KCall (KVar 0) NoKTys (MoreKVals (KVar 1) NoKVals))
+same_of t = KCode 0 (MoreKTys t (MoreKTys (TKCode 0 (MoreKTys t NoKTys)) NoKTys))
+    (KCall (KVar 0) NoKTys (MoreKVals (KVar 1) NoKVals))
 
 under_both_is_it : cps_term under_both
     ≡ KLet (KName (KCode 1 (MoreKTys (TKCode 0 (MoreKTys (function (TKVar 0)) NoKTys)) NoKTys)
@@ -208,10 +223,13 @@ opened_adds = refl
 
 -- let c = ref 1 in (let u = c := 2 in 10) + !c: parts come from left to right
 abbrev left_first : Term
-left_first = MLet (MRef (MNum (pos 1))) (MArith Add (MLet (MAssign (MVar 0) (MNum (pos 2))) (MNum (pos 10))) (MDeref (MVar 0)))
+left_first =
+    MLet (MRef (MNum (pos 1))) (MArith Add (MLet (MAssign (MVar 0) (MNum (pos 2))) (MNum (pos 10))) (MDeref (MVar 0)))
 
 left_first_is_it : cps_term left_first
-    ≡ KLet (KCell (KInt (pos 1))) (KLet (KSet (KVar 0) (KInt (pos 2))) (KLet (KGet (KVar 1)) (KLet (KArith Add (KInt (pos 10)) (KVar 0)) (KHalt (KVar 0)))))
+    ≡ KLet (KCell (KInt (pos 1)))
+    (KLet (KSet (KVar 0) (KInt (pos 2)))
+    (KLet (KGet (KVar 1)) (KLet (KArith Add (KInt (pos 10)) (KVar 0)) (KHalt (KVar 0)))))
 left_first_is_it = refl
 
 gives_twelve : (krun 0 (cps_term left_first)).end ≡ Halted (pos 12)
@@ -221,7 +239,10 @@ gives_twelve = refl
 -- let r = ref (fix f(n: int): int. n) in let u = r := (fix g(n: int): int. if0(n, 0, 1 + (!r) (n - 1))) in (!r) 4
 abbrev through_a_cell : Term
 through_a_cell = MLet (MRef (MFix TInt TInt (MVar 0)))
-    (MLet (MAssign (MVar 0) (MFix TInt TInt (MIf0 (MVar 0) (MNum (pos 0)) (MArith Add (MNum (pos 1)) (MApp (MDeref (MVar 2)) (MArith Sub (MVar 0) (MNum (pos 1))))))))
+    (MLet (MAssign (MVar 0)
+    (MFix TInt TInt
+    (MIf0 (MVar 0) (MNum (pos 0))
+    (MArith Add (MNum (pos 1)) (MApp (MDeref (MVar 2)) (MArith Sub (MVar 0) (MNum (pos 1))))))))
     (MApp (MDeref (MVar 1)) (MNum (pos 4))))
 
 counts_down : (krun 10 (cps_term through_a_cell)).end ≡ Halted (pos 4)

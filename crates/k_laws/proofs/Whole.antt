@@ -22,8 +22,11 @@ reach e h = reach_kept e (cps_term e) h (translated e h.0)
 
 pub fits : CpsFits
 fits e h =
-    let x = size_is e in
-    (within_more (nodes e) (7 * nodes e + 598) 1600 1600 598 (7 * nodes e + 598) (cps_term e) (omega arith) (omega arith) (omega arith) (reach e h), omega (arith, x))
+    let x = size_is e in (
+      within_more (nodes e) (7 * nodes e + 598) 1600 1600 598 (7 * nodes e + 598) (cps_term e) (omega arith)
+          (omega arith) (omega arith) (reach e h),
+      omega (arith, x),
+    )
 
 pub bound : CpsKeepsBound
 bound e h le = fits_more (7 * nodes e + 598) 1099511627776 1600 (cps_term e) (omega (arith, le)) (fits e h)

@@ -1,5 +1,6 @@
 -- The fields of a tuple.
-use Rattle.std.proofs.Common.{◌≡◌, ℕ, zero, suc, ◌+◌, ◌<◌, ◌≤◌, List, [], ◌∷◌, map, length, get_or, drop, refl, ap, ◌∙◌, arith}
+use Rattle.std.proofs.Common.{◌≡◌, ℕ, zero, suc, ◌+◌, ◌<◌, ◌≤◌, List, [], ◌∷◌, map, length, get_or, drop, refl, ap}
+use Rattle.std.proofs.Common.{◌∙◌, arith}
 use Rattle.k_pass.specs.Machine.{atom}
 use Rattle.k_pass.specs.declared.work.Atom.{Atom}
 
@@ -17,4 +18,5 @@ module _ {A : Type 0} where
   pub drop_next : (xs : List A) (i : ℕ) (d : A) → i < length xs → drop i xs ≡ get_or xs i d ∷ drop (i + 1) xs
   drop_next [] i d lt = absurd (omega (arith, lt))
   drop_next (y ∷ xs) zero d lt = refl
-  drop_next (y ∷ xs) (suc i) d lt = drop_next xs i d (omega (arith, lt)) ∙ ap (λ (k : ℕ). get_or xs i d ∷ drop k (y ∷ xs)) (let h : suc (i + 1) ≡ suc i + 1 = omega arith in h)
+  drop_next (y ∷ xs) (suc i) d lt = drop_next xs i d (omega (arith, lt))
+      ∙ ap (λ (k : ℕ). get_or xs i d ∷ drop k (y ∷ xs)) (let h : suc (i + 1) ≡ suc i + 1 = omega arith in h)

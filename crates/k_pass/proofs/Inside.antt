@@ -28,7 +28,8 @@ kids_two m n a b e all =
     let r = all_two (λ k. k < m) a (b ∷ []) (all_same (λ k. k < m) _ _ (sym e) all) in
     (r.0, (all_two (λ k. k < m) b [] r.1).0)
 
-pub kids_three : (m : ℕ) (n : FShape) (a b c : ℕ) → children n ≡ a ∷ b ∷ c ∷ [] → Below m n → (a < m) × (b < m) × (c < m)
+pub kids_three : (m : ℕ) (n : FShape) (a b c : ℕ) → children n ≡ a ∷ b ∷ c ∷ [] → Below m n →
+    (a < m) × (b < m) × (c < m)
 kids_three m n a b c e all =
     let r = all_two (λ k. k < m) a (b ∷ c ∷ []) (all_same (λ k. k < m) _ _ (sym e) all) in
     let s = all_two (λ k. k < m) b (c ∷ []) r.1 in

@@ -1,5 +1,6 @@
 -- The moves of the conversion.
-use Rattle.std.proofs.Common.{◌≡◌, ℕ, IfOk, Result, zero, suc, ◌+◌, ◌-◌, ◌<◌, List, [], ◌∷◌, ◌++◌, Some, None, map, length, take, get_or, refl, sym, ap, ap₂, ◌∙◌, subst, arith, sum_by, Vec, Global, Bor}
+use Rattle.std.proofs.Common.{◌≡◌, ℕ, IfOk, Result, zero, suc, ◌+◌, ◌-◌, ◌<◌, List, [], ◌∷◌, ◌++◌, Some, None, map}
+use Rattle.std.proofs.Common.{length, take, get_or, refl, sym, ap, ap₂, ◌∙◌, subst, arith, sum_by, Vec, Global, Bor}
 use Rattle.std.proofs.lemmas.Result.{IfOk-weaker}
 use Rattle.k_terms.specs.K as K
 use Rattle.k_terms.specs.Stream.{NVar, NCode, NEnd, NName, NElse}
@@ -11,8 +12,11 @@ use Rattle.f_terms.specs.declared.types.FType.{FType}
 use Rattle.f_terms.specs.Noted.{Noted, EFix, EGen, EIf}
 use Rattle.k_laws.specs.Cps as s
 use Rattle.k_laws.specs.Cps.{Level, kat, taking}
-use Rattle.k_pass.specs.Emit.{Rest, Bind, Pass, Scope, deliver, named, as_value, bound_once, rest_args, fix_args, gen_args, emit}
-use Rattle.k_pass.specs.Machine.{Nodes, atom, folded, levels, atoms, inner, at, Rests, top, below, branches, through, rests, Todo, then, todo, says, written, steps, frame_steps, pending_steps, control_steps, owed, Begins, Steps, Goes, Hands, Opens, IsRestless, tail_of}
+use Rattle.k_pass.specs.Emit.{Rest, Bind, Pass, Scope, deliver, named, as_value, bound_once, rest_args, fix_args}
+use Rattle.k_pass.specs.Emit.{gen_args, emit}
+use Rattle.k_pass.specs.Machine.{Nodes, atom, folded, levels, atoms, inner, at, Rests, top, below, branches, through}
+use Rattle.k_pass.specs.Machine.{rests, Todo, then, todo, says, written, steps, frame_steps, pending_steps}
+use Rattle.k_pass.specs.Machine.{control_steps, owed, Begins, Steps, Goes, Hands, Opens, IsRestless, tail_of}
 use Rattle.k_pass.specs.declared.work.Atom.{Atom}
 use Rattle.k_pass.specs.declared.work.Atom.TheVariants as A
 use Rattle.k_pass.specs.declared.work.Frame.{Frame}
@@ -33,10 +37,13 @@ pub pop_is : {A : Type 0} (old rest : List A) (x y : A) → old ≡ rest ++ x �
 pop_is old rest x y e is = e ∙ ap (λ z. rest ++ z ∷ []) is
 
 -- a move to a state whose stacks are known
-pub finish : (t : ℕ → Noted) (w w' : Work) (ns : Nodes) (n : ℕ) (c : Control) (ks : Rests) (td : Todo) (tv : ℕ) (q : Scope) →
+pub finish : (t : ℕ → Noted) (w w' : Work) (ns : Nodes) (n : ℕ) (c : Control) (ks : Rests) (td : Todo) (tv : ℕ)
+    (q : Scope) →
     rests t w'.frames.items ≡ ks → todo t w'.pending.items ≡ td → w'.types ≡ tv → at w' ≡ q →
-    written w' ++ says t ks td tv q c ≡ written w ++ ns → control_steps t c + owed t w' < n + owed t w → Begins t w ns n w' c
-finish t w w' ns n c ks td tv q e f v g same less = (sym same ∙ ap (λ (x : Nodes). written w' ++ x) (sym (arrives t w' c ks td tv q e f v g)), less)
+    written w' ++ says t ks td tv q c ≡ written w ++ ns → control_steps t c + owed t w' < n + owed t w →
+    Begins t w ns n w' c
+finish t w w' ns n c ks td tv q e f v g same less =
+    (sym same ∙ ap (λ (x : Nodes). written w' ++ x) (sym (arrives t w' c ks td tv q e f v g)), less)
 
 -- stacks of names and of type names with one more
 pub atoms_push : (xs ys : List Atom) (a : Atom) → ys ≡ xs ++ a ∷ [] → atoms ys ≡ atom a ∷ atoms xs
@@ -52,11 +59,14 @@ pub scope_is : (ls ms : List ℕ) (xs ys : List s.Atom) → ls ≡ ms → xs ≡
 scope_is ls ms xs ys e f = ap₂ scope_of e f
 
 -- a function: its body comes first, in tail place, under its own name, its argument's and that of what comes after
-pub fixes : (t : ℕ → Noted) (w w' : Work) (arg res : Bor FType) (body d first level inside : ℕ) (xs : List Atom) (tys : K.KTys) →
+pub fixes : (t : ℕ → Noted) (w w' : Work) (arg res : Bor FType) (body d first level inside : ℕ) (xs : List Atom)
+    (tys : K.KTys) →
     ((ns : Nodes) → written w' ++ ns ≡ written w ++ NCode d w.types 0 tys ∷ ns) →
     tys ≡ fix_args w.types (levels w.levels.items) (tree arg.now) (tree res.now) →
-    w'.frames.items ≡ w.frames.items ++ F.Tail level ∷ [] → w'.pending.items ≡ w.pending.items ++ P.Fix d w.types arg res ∷ [] →
-    xs ≡ w.names.items ++ A.Level d ∷ [] → w'.names.items ≡ xs ++ A.Level first ∷ [] → w'.levels.items ≡ w.levels.items → w'.types ≡ w.types →
+    w'.frames.items ≡ w.frames.items ++ F.Tail level ∷ [] →
+    w'.pending.items ≡ w.pending.items ++ P.Fix d w.types arg res ∷ [] →
+    xs ≡ w.names.items ++ A.Level d ∷ [] → w'.names.items ≡ xs ++ A.Level first ∷ [] →
+    w'.levels.items ≡ w.levels.items → w'.types ≡ w.types →
     first ≡ suc d → level ≡ suc first → inside ≡ suc level →
     Goes t w (EFix (tree arg.now) (tree res.now) (t body)) d w' (C.Walk body inside)
 fixes t w w' arg res body d first level inside xs tys wr tyse fse pse xse xse' lse tve e1 e2 e3 =
@@ -69,11 +79,14 @@ fixes t w w' arg res body d first level inside xs tys wr tyse fse pse xse xse' l
     let E : ℕ → ℕ → ℕ → Nodes = λ x y z. emit (t body) tv z (q.0, Level x ∷ Level d ∷ q.1) (Pass y) R in
     let f1 : level ≡ suc (suc d) = e2 ∙ ap suc e1 in
     let f2 : inside ≡ suc (suc (suc d)) = e3 ∙ ap suc f1 in
-    finish t w w' _ (steps (EFix (tree arg.now) (tree res.now) (t body))) (C.Walk body inside) (through t (F.Tail level) ks) (then t (P.Fix d tv arg res) td) tv (q.0, Level first ∷ Level d ∷ q.1)
+    finish t w w' _ (steps (EFix (tree arg.now) (tree res.now) (t body))) (C.Walk body inside)
+    (through t (F.Tail level) ks) (then t (P.Fix d tv arg res) td) tv (q.0, Level first ∷ Level d ∷ q.1)
     (folded_push (through t) [] _ _ (F.Tail level) fse)
     (folded_push (then t) (λ q ks. []) _ _ (P.Fix d tv arg res) pse)
     tve
-    (scope_is _ _ _ _ (ap levels lse) (atoms_push _ _ (A.Level first) xse' ∙ ap (λ (ns : List s.Atom). Level first ∷ ns) (atoms_push _ _ (A.Level d) xse)))
+    (scope_is _ _ _ _ (ap levels lse)
+    (atoms_push _ _ (A.Level first) xse'
+    ∙ ap (λ (ns : List s.Atom). Level first ∷ ns) (atoms_push _ _ (A.Level d) xse)))
     (wr (E first level inside)
     ∙ ap (λ (u : K.KTys). written w ++ NCode d tv 0 u ∷ E first level inside) tyse
     ∙ ap (λ x. written w ++ NCode d tv 0 T ∷ E x level inside) e1
@@ -84,8 +97,10 @@ fixes t w w' arg res body d first level inside xs tys wr tyse fse pse xse xse' l
 pub gens : (t : ℕ → Noted) (w w' : Work) (ty : Bor FType) (body d level inside tv' : ℕ) (tys : K.KTys) →
     ((ns : Nodes) → written w' ++ ns ≡ written w ++ NCode d w.types 1 tys ∷ ns) →
     tys ≡ gen_args tv' (levels w'.levels.items) (tree ty.now) →
-    w'.frames.items ≡ w.frames.items ++ F.Tail level ∷ [] → w'.pending.items ≡ w.pending.items ++ P.Gen d w.types ty ∷ [] → w'.names.items ≡ w.names.items →
-    w'.levels.items ≡ w.levels.items ++ w.types ∷ [] → w'.types ≡ tv' → tv' ≡ suc w.types → level ≡ suc d → inside ≡ suc level →
+    w'.frames.items ≡ w.frames.items ++ F.Tail level ∷ [] → w'.pending.items ≡ w.pending.items ++ P.Gen d w.types ty
+    ∷ [] → w'.names.items ≡ w.names.items →
+    w'.levels.items ≡ w.levels.items ++ w.types ∷ [] → w'.types ≡ tv' → tv' ≡ suc w.types → level ≡ suc d →
+    inside ≡ suc level →
     Goes t w (EGen (t body) (tree ty.now)) d w' (C.Walk body inside)
 gens t w w' ty body d level inside tv' tys wr tyse fse pse xse lse tve tve' e1 e2 =
     let q = at w in
@@ -97,13 +112,15 @@ gens t w w' ty body d level inside tv' tys wr tyse fse pse xse lse tve tve' e1 e
     let R : Nodes = NEnd ∷ named (K.TKCode 1 T) (top ks q) tv d (td q (below ks)) in
     let E : ℕ → ℕ → Nodes = λ y z. emit (t body) (suc tv) z (tv ∷ q.0, q.1) (Pass y) R in
     let f2 : inside ≡ suc (suc d) = e2 ∙ ap suc e1 in
-    finish t w w' _ (steps (EGen (t body) (tree ty.now))) (C.Walk body inside) (through t (F.Tail level) ks) (then t (P.Gen d tv ty) td) (suc tv) (tv ∷ q.0, q.1)
+    finish t w w' _ (steps (EGen (t body) (tree ty.now))) (C.Walk body inside) (through t (F.Tail level) ks)
+    (then t (P.Gen d tv ty) td) (suc tv) (tv ∷ q.0, q.1)
     (folded_push (through t) [] _ _ (F.Tail level) fse)
     (folded_push (then t) (λ q ks. []) _ _ (P.Gen d tv ty) pse)
     (tve ∙ tve')
     (scope_is _ _ _ _ under (ap atoms xse))
     (wr (E level inside)
-    ∙ ap (λ (u : K.KTys). written w ++ NCode d tv 1 u ∷ E level inside) (tyse ∙ ap₂ (λ (x : ℕ) (ls : List ℕ). gen_args x ls (tree ty.now)) tve' under)
+    ∙ ap (λ (u : K.KTys). written w ++ NCode d tv 1 u ∷ E level inside)
+    (tyse ∙ ap₂ (λ (x : ℕ) (ls : List ℕ). gen_args x ls (tree ty.now)) tve' under)
     ∙ ap (λ x. written w ++ NCode d tv 1 T ∷ E x inside) e1
     ∙ ap (λ x. written w ++ NCode d tv 1 T ∷ E (suc d) x) f2)
     (omega (arith, sum_push (frame_steps t) _ _ _ fse, sum_push (pending_steps t) _ _ _ pse))
@@ -115,8 +132,10 @@ pub if_tail : (t : ℕ → Noted) (w : Work) (v v2 : Vec Frame Global) (ty : Ty)
 if_tail t w v v2 ty c a b d l e f =
     let q = at w in
     let td = todo t w.pending.items in (
-      ap (λ (ks : Rests). written w ++ emit (EIf (t c) (t a) (t b) ty) w.types d q (top ks q) (td q (below ks))) (folded_push (through t) [] _ _ (F.Tail l) e)
-          ∙ ap (λ (ks : Rests). written w ++ says t ks td w.types q (C.Walk c d)) (sym (folded_push (through t) [] _ _ (F.Test a b l) f)),
+      ap (λ (ks : Rests). written w ++ emit (EIf (t c) (t a) (t b) ty) w.types d q (top ks q) (td q (below ks)))
+          (folded_push (through t) [] _ _ (F.Tail l) e)
+          ∙ ap (λ (ks : Rests). written w ++ says t ks td w.types q (C.Walk c d))
+          (sym (folded_push (through t) [] _ _ (F.Test a b l) f)),
       omega (arith, sum_push (frame_steps t) _ _ _ e, sum_push (frame_steps t) _ _ _ f),
     )
 
@@ -136,7 +155,8 @@ if_rest t w v w' ty c a b d same restless made =
     let G : Rest → Nodes = λ k. bound_once u k tv d (λ d1 l. emit (t c) tv d1 q (branches (t a) (t b) l q)) R in
     let H : Rest → Nodes = λ k. deliver k tv (suc (suc d)) (Level (suc d)) S in
     let fse : w'.frames.items ≡ w.frames.items = made.same_frames ∙ same in
-    finish t w w' (G (top ks q)) (steps (EIf (t c) (t a) (t b) (tree ty.now))) (C.Give (A.Level (suc d)) (suc (suc d))) ks (then t (P.If0 c a b d tv ty) td) tv q
+    finish t w w' (G (top ks q)) (steps (EIf (t c) (t a) (t b) (tree ty.now))) (C.Give (A.Level (suc d)) (suc (suc d)))
+    ks (then t (P.If0 c a b d tv ty) td) tv q
     (ap (rests t) fse)
     (folded_push (then t) (λ q ks. []) _ _ (P.If0 c a b d tv ty) made.keeps)
     made.same_types
@@ -154,7 +174,8 @@ pub hand_tail : (t : ℕ → Noted) (w : Work) (o : Vec KNode Global) (v : Vec F
 hand_tail t w o v ty d l e wr =
     let q = at w in
     let td = todo t w.pending.items in (
-      ap (λ (ks : Rests). written w ++ as_value ty (top ks q) w.types d (td q (below ks))) (folded_push (through t) [] _ _ (F.Tail l) e)
+      ap (λ (ks : Rests). written w ++ as_value ty (top ks q) w.types d (td q (below ks)))
+          (folded_push (through t) [] _ _ (F.Tail l) e)
           ∙ sym (wr (td q (rests t v.items))),
       omega (arith, sum_push (frame_steps t) _ _ _ e),
     )
@@ -230,12 +251,16 @@ last_is (y ∷ []) (suc n) x e at = absurd (omega (arith, e))
 last_is (y ∷ z ∷ xs) zero x e at = absurd (omega (arith, e))
 last_is (y ∷ z ∷ xs) (suc n) x e at = ap (λ (ys : List _). y ∷ ys) (last_is (z ∷ xs) n x (omega (arith, e)) at)
 
-pub tail_taken : (xs ys : List Frame) (n : ℕ) (x : Frame) (l : ℕ) → length xs ≡ suc n → x ≡ get_or xs n x → tail_of x ≡ Some l → ys ≡ take n xs → xs ≡ ys ++ F.Tail l ∷ []
-tail_taken xs ys n x l e at tail taken = last_is xs n x e at ∙ ap₂ (λ (zs : List Frame) (z : Frame). zs ++ z ∷ []) (sym taken) (is_tail x l tail)
+pub tail_taken : (xs ys : List Frame) (n : ℕ) (x : Frame) (l : ℕ) → length xs ≡ suc n → x ≡ get_or xs n x →
+    tail_of x ≡ Some l → ys ≡ take n xs → xs ≡ ys ++ F.Tail l ∷ []
+tail_taken xs ys n x l e at tail taken =
+    last_is xs n x e at ∙ ap₂ (λ (zs : List Frame) (z : Frame). zs ++ z ∷ []) (sym taken) (is_tail x l tail)
 
-pub restless : (t : ℕ → Noted) (xs : List Frame) (n : ℕ) (x : Frame) → length xs ≡ suc n → x ≡ get_or xs n x → tail_of x ≡ None → IsRestless t xs
+pub restless : (t : ℕ → Noted) (xs : List Frame) (n : ℕ) (x : Frame) → length xs ≡ suc n → x ≡ get_or xs n x →
+    tail_of x ≡ None → IsRestless t xs
 restless t xs n x e at none names =
-    subst (λ (ks : Rests). IsBinding (top ks names)) (sym (folded_push (through t) [] _ _ x (last_is xs n x e at))) (binds t x (rests t (take n xs)) names none)
+    subst (λ (ks : Rests). IsBinding (top ks names)) (sym (folded_push (through t) [] _ _ x (last_is xs n x e at)))
+    (binds t x (rests t (take n xs)) names none)
 
 pub restless_empty : (t : ℕ → Noted) (xs : List Frame) → length xs ≡ 0 → IsRestless t xs
 restless_empty t [] e names = (_, refl)
@@ -252,7 +277,9 @@ module _ {A B : Type 0} (f : A → B) where
 
   pub stack_inner : (xs ys : List A) → ys ≡ take (length xs - 1) xs → stack [] ys ≡ inner (stack [] xs)
   stack_inner [] ys e = ap (stack []) e
-  stack_inner (x ∷ xs) ys e = ap (stack []) (e ∙ ap (λ (n : ℕ). take n (x ∷ xs)) (let h : suc (length xs) - 1 ≡ length xs = omega arith in h)) ∙ inner_go [] x xs
+  stack_inner (x ∷ xs) ys e =
+      ap (stack []) (e ∙ ap (λ (n : ℕ). take n (x ∷ xs)) (let h : suc (length xs) - 1 ≡ length xs = omega arith in h))
+      ∙ inner_go [] x xs
 
 pub atoms_inner : (xs ys : List Atom) → ys ≡ take (length xs - 1) xs → atoms ys ≡ inner (atoms xs)
 atoms_inner xs ys e = stack_inner atom xs ys e
@@ -263,7 +290,8 @@ levels_inner xs ys e = stack_inner (λ (x : ℕ). x) xs ys e
 -- what was kept for later comes
 pub resumed : (t : ℕ → Noted) (w : Work) (v : Vec Pending Global) (p : Pending) (w' : Work) (c' : Control) →
     w.pending.items ≡ v.items ++ p ∷ [] →
-    Begins t (record w { pending = v }) (then t p (todo t v.items) (at w) (rests t w.frames.items)) (pending_steps t p) w' c' →
+    Begins t (record w { pending = v }) (then t p (todo t v.items) (at w) (rests t w.frames.items))
+    (pending_steps t p) w' c' →
     Steps t w C.Ended w' c'
 resumed t w v p w' c' e (b, l) = (
   ap (λ (td : Todo). written w ++ td (at w) (rests t w.frames.items)) (folded_push (then t) (λ q ks. []) _ _ p e) ∙ b,
@@ -271,10 +299,13 @@ resumed t w v p w' c' e (b, l) = (
 )
 
 -- a function or a suspended body is named, where the names and the type names around it are known again
-pub comes_name : (t : ℕ → Noted) (w : Work) (o : Vec KNode Global) (v : Vec Atom Global) (ls : Vec ℕ Global) (tv d inside : ℕ) (q : Scope) (ty u : K.KTy) →
+pub comes_name : (t : ℕ → Noted) (w : Work) (o : Vec KNode Global) (v : Vec Atom Global) (ls : Vec ℕ Global)
+    (tv d inside : ℕ) (q : Scope) (ty u : K.KTy) →
     ((ns : Nodes) → map knode o.items ++ ns ≡ written w ++ NEnd ∷ NName d u ∷ ns) → u ≡ ty →
     scope_of (levels ls.items) (atoms v.items) ≡ q → inside ≡ suc d →
-    Begins t w (NEnd ∷ named ty (top (rests t w.frames.items) q) tv d (todo t w.pending.items q (below (rests t w.frames.items)))) 2 (record w { out = o; names = v; levels = ls; types = tv }) (C.Give (A.Level d) inside)
+    Begins t w (NEnd
+    ∷ named ty (top (rests t w.frames.items) q) tv d (todo t w.pending.items q (below (rests t w.frames.items)))) 2
+    (record w { out = o; names = v; levels = ls; types = tv }) (C.Give (A.Level d) inside)
 comes_name t w o v ls tv d inside q ty u wr tye qe e =
     let w' : Work = record w { out = o; names = v; levels = ls; types = tv } in
     let ks = rests t w.frames.items in
@@ -289,22 +320,33 @@ comes_name t w o v ls tv d inside q ty u wr tye qe e =
 
 pub comes_term : (t : ℕ → Noted) (w : Work) (o : Vec KNode Global) (v : Vec Frame Global) (i d tv l : ℕ) →
     ((ns : Nodes) → map knode o.items ++ ns ≡ written w ++ NElse tv ∷ ns) → v.items ≡ w.frames.items ++ F.Tail l ∷ [] →
-    Begins t w (then t (P.Other i d tv l) (todo t w.pending.items) (at w) (rests t w.frames.items)) (1 + steps (t i)) (record w { out = o; frames = v; types = tv }) (C.Walk i d)
+    Begins t w (then t (P.Other i d tv l) (todo t w.pending.items) (at w) (rests t w.frames.items)) (1 + steps (t i))
+    (record w { out = o; frames = v; types = tv }) (C.Walk i d)
 comes_term t w o v i d tv l wr e =
     let R : Nodes = emit (t i) tv d (at w) (Pass l) (todo t w.pending.items (at w) (rests t w.frames.items)) in
-    wrote t w (record w { out = o; types = tv }) (record w { out = o; frames = v; types = tv }) (C.Walk i d) (1 + steps (t i)) R (NElse tv ∷ R) (wr R) refl
+    wrote t w (record w { out = o; types = tv }) (record w { out = o; frames = v; types = tv }) (C.Walk i d)
+    (1 + steps (t i)) R (NElse tv ∷ R) (wr R) refl
     (pushed t (record w { out = o; types = tv }) v (F.Tail l) R (1 + steps (t i)) (C.Walk i d) e refl (omega arith))
 
-pub comes_test : (t : ℕ → Noted) (w : Work) (o : Vec KNode Global) (v : Vec Frame Global) (c a b d tv inside : ℕ) (ty : Bor FType) (u : K.KTy) →
-    ((ns : Nodes) → map knode o.items ++ ns ≡ written w ++ NEnd ∷ NName d u ∷ ns) → u ≡ taking (kat tv (at w).0 (tree ty.now)) →
+pub comes_test : (t : ℕ → Noted) (w : Work) (o : Vec KNode Global) (v : Vec Frame Global) (c a b d tv inside : ℕ)
+    (ty : Bor FType) (u : K.KTy) →
+    ((ns : Nodes) → map knode o.items ++ ns ≡ written w ++ NEnd ∷ NName d u ∷ ns) →
+    u ≡ taking (kat tv (at w).0 (tree ty.now)) →
     v.items ≡ w.frames.items ++ F.Test a b d ∷ [] → inside ≡ suc d →
-    Begins t w (then t (P.If0 c a b d tv ty) (todo t w.pending.items) (at w) (rests t w.frames.items)) (2 + (steps (t c) + steps (t a) + steps (t b))) (record w { out = o; frames = v; types = tv }) (C.Walk c inside)
+    Begins t w (then t (P.If0 c a b d tv ty) (todo t w.pending.items) (at w) (rests t w.frames.items))
+    (2 + (steps (t c) + steps (t a) + steps (t b))) (record w { out = o; frames = v; types = tv })
+    (C.Walk c inside)
 comes_test t w o v c a b d tv inside ty u wr tye e f =
-    let R : Nodes = emit (t c) tv (suc d) (at w) (branches (t a) (t b) d (at w)) (todo t w.pending.items (at w) (rests t w.frames.items)) in
-    wrote t w (record w { out = o; types = tv }) (record w { out = o; frames = v; types = tv }) (C.Walk c inside) (2 + (steps (t c) + steps (t a) + steps (t b))) R (NEnd ∷ NName d (taking (kat tv (at w).0 (tree ty.now))) ∷ R)
+    let R : Nodes =
+    emit (t c) tv (suc d) (at w) (branches (t a) (t b) d (at w))
+    (todo t w.pending.items (at w) (rests t w.frames.items)) in
+    wrote t w (record w { out = o; types = tv }) (record w { out = o; frames = v; types = tv }) (C.Walk c inside)
+    (2 + (steps (t c) + steps (t a) + steps (t b))) R (NEnd ∷ NName d (taking (kat tv (at w).0 (tree ty.now))) ∷ R)
     (wr R ∙ ap (λ (x : K.KTy). written w ++ NEnd ∷ NName d x ∷ R) tye) refl
-    (pushed t (record w { out = o; types = tv }) v (F.Test a b d) R (2 + (steps (t c) + steps (t a) + steps (t b))) (C.Walk c inside) e
-    (ap (λ (x : ℕ). emit (t c) tv x (at w) (branches (t a) (t b) d (at w)) (todo t w.pending.items (at w) (rests t w.frames.items))) (sym f))
+    (pushed t (record w { out = o; types = tv }) v (F.Test a b d) R (2 + (steps (t c) + steps (t a) + steps (t b)))
+    (C.Walk c inside) e
+    (ap (λ (x : ℕ). emit (t c) tv x (at w) (branches (t a) (t b) d (at w))
+    (todo t w.pending.items (at w) (rests t w.frames.items))) (sym f))
     (omega arith))
 
 pub comes_end : (t : ℕ → Noted) (w : Work) (o : Vec KNode Global) →
@@ -313,6 +355,8 @@ pub comes_end : (t : ℕ → Noted) (w : Work) (o : Vec KNode Global) →
 comes_end t w o wr = (sym (wr (todo t w.pending.items (at w) (rests t w.frames.items))), omega arith)
 
 -- a name goes, or comes again
-pub comes_scope : (t : ℕ → Noted) (w : Work) (v : Vec Atom Global) (ls : Vec ℕ Global) (q : Scope) → scope_of (levels ls.items) (atoms v.items) ≡ q →
+pub comes_scope : (t : ℕ → Noted) (w : Work) (v : Vec Atom Global) (ls : Vec ℕ Global) (q : Scope) →
+    scope_of (levels ls.items) (atoms v.items) ≡ q →
     Begins t w (todo t w.pending.items q (rests t w.frames.items)) 1 (record w { names = v; levels = ls }) C.Ended
-comes_scope t w v ls q e = (ap (λ (p : Scope). written w ++ todo t w.pending.items p (rests t w.frames.items)) (sym e), omega arith)
+comes_scope t w v ls q e =
+    (ap (λ (p : Scope). written w ++ todo t w.pending.items p (rests t w.frames.items)) (sym e), omega arith)

@@ -1,5 +1,6 @@
 -- Lists of types.
-use Rattle.std.proofs.Common.{◌≡◌, ℕ, zero, suc, ◌+◌, ◌-◌, ◌<◌, ◌≤◌, arith, List, [], ◌∷◌, ◌++◌, map, take, length, Vec, Global, refl, sym, ap, ◌∙◌}
+use Rattle.std.proofs.Common.{◌≡◌, ℕ, zero, suc, ◌+◌, ◌-◌, ◌<◌, ◌≤◌, arith, List, [], ◌∷◌, ◌++◌, map, take, length}
+use Rattle.std.proofs.Common.{Vec, Global, refl, sym, ap, ◌∙◌}
 use Rattle.std.proofs.lemmas.List.{take_all}
 use Rattle.f_terms.specs.Ty.{Ty, TTuple, tys}
 use Rattle.f_terms.specs.Read.{tree}
@@ -17,12 +18,16 @@ abbrev list_ktys : List K.KTy → K.KTys
 list_ktys [] = NoKTys
 list_ktys (t ∷ ts) = MoreKTys t (list_ktys ts)
 
-one : (xs : List KType) (t : K.KTy) → ktys xs ≡ MoreKTys t NoKTys → (x : KType) → ktys (xs ++ x ∷ []) ≡ MoreKTys t (MoreKTys (ktree x) NoKTys)
+one : (xs : List KType) (t : K.KTy) → ktys xs ≡ MoreKTys t NoKTys → (x : KType) →
+    ktys (xs ++ x ∷ []) ≡ MoreKTys t (MoreKTys (ktree x) NoKTys)
 one [] t e x = let h : NoKTys ≡ MoreKTys t NoKTys = e in cc
 one (y ∷ []) t e x = let h : MoreKTys (ktree y) NoKTys ≡ MoreKTys t NoKTys = e in cc
-one (y ∷ z ∷ xs) t e x = let h : MoreKTys (ktree y) (MoreKTys (ktree z) (ktys xs)) ≡ MoreKTys t NoKTys = e in let r : MoreKTys (ktree z) (ktys xs) ≡ NoKTys = cc in cc
+one (y ∷ z ∷ xs) t e x =
+    let h : MoreKTys (ktree y) (MoreKTys (ktree z) (ktys xs)) ≡ MoreKTys t NoKTys = e in
+    let r : MoreKTys (ktree z) (ktys xs) ≡ NoKTys = cc in cc
 
-pub ktys_push : (xs ys : List KType) (x : KType) (t : K.KTy) → ktys xs ≡ MoreKTys t NoKTys → ys ≡ xs ++ x ∷ [] → ktys ys ≡ MoreKTys t (MoreKTys (ktree x) NoKTys)
+pub ktys_push : (xs ys : List KType) (x : KType) (t : K.KTy) → ktys xs ≡ MoreKTys t NoKTys → ys ≡ xs ++ x ∷ [] →
+    ktys ys ≡ MoreKTys t (MoreKTys (ktree x) NoKTys)
 ktys_push xs ys x t e f = ap ktys f ∙ one xs t e x
 
 -- under names of its own
@@ -33,16 +38,14 @@ under_more b r = λ j i. each i j
     each zero = refl
     each (suc i) = refl
 
-pub under_none : (r : ℕ → ℕ) → under 0 r ≡ r
-under_none r = λ j i. r i
-
 pub under_low : (b : ℕ) (r : ℕ → ℕ) (i : ℕ) → i < b → under b r i ≡ i
 under_low zero r i lt = absurd (omega (arith, lt))
 under_low (suc b) r zero lt = refl
 under_low (suc b) r (suc i) lt = ap suc (under_low b r i (omega (arith, lt)))
 
 pub under_high : (b : ℕ) (r : ℕ → ℕ) (i : ℕ) → b ≤ i → under b r i ≡ b + r (i - b)
-under_high zero r i le = let e : i ≡ i - 0 = omega arith in let z : r (i - 0) ≡ 0 + r (i - 0) = omega arith in ap r e ∙ z
+under_high zero r i le =
+    let e : i ≡ i - 0 = omega arith in let z : r (i - 0) ≡ 0 + r (i - 0) = omega arith in ap r e ∙ z
 under_high (suc b) r zero le = absurd (omega (arith, le))
 under_high (suc b) r (suc i) le =
     let less : i - b ≡ suc i - suc b = omega arith in
@@ -63,5 +66,8 @@ pub made_tuple : (r : ℕ → ℕ) (t : Ty) (made : Vec KType Global) (xs : List
     ktree (Tuple made) ≡ kty r t
 made_tuple r t made xs n is done all =
     tree_Tuple made
-    ∙ ap TKTuple (of_list made.items ∙ ap list_ktys (done ∙ ap (λ (ys : List FType). map (λ x. kty r (tree x)) ys) (take_all n xs all)) ∙ sym (all_tys r xs))
+    ∙ ap TKTuple
+    (of_list made.items
+    ∙ ap list_ktys (done ∙ ap (λ (ys : List FType). map (λ x. kty r (tree x)) ys) (take_all n xs all))
+    ∙ sym (all_tys r xs))
     ∙ ap (kty r) (sym is)

@@ -15,14 +15,16 @@ use Rattle.k_terms.specs.declared.node.KNode.{KNode}
 use Rattle.k_laws.specs.Annotate.{cps_term}
 use Rattle.k_laws.specs.Annotated.{Annotated}
 use Rattle.k_laws.specs.Cps.{cps_of}
-use Rattle.k_laws.specs.Correct.{IsTranslated, CpsKeepsMeaning, CpsKeepsTypes, CpsKeepsReach, CpsKeepsBound, OneConversion}
+use Rattle.k_laws.specs.Correct.{IsTranslated, CpsKeepsMeaning, CpsKeepsTypes, CpsKeepsReach, CpsKeepsBound}
+use Rattle.k_laws.specs.Correct.{OneConversion}
 use Rattle.k_laws.specs.Sites.{CodesAreSites}
 use Rattle.k_pass.specs.Converted.{Converted}
 use Rattle.k_pass.specs.Emit.{emit_of}
 use Rattle.k_pass.proofs.Holds.{holds_program}
 
 module _ (one : OneConversion) (types : CpsKeepsTypes) (scope : TypedIsInScope) (back : ReadsBack)
-    (e : Noted) (t : Term) (is : bare e ≡ t) (accepted : IsAccepted t TInt) (beside : Beside e NoTys) (xs : List KNode) (made : map knode xs ≡ emit_of e) where
+    (e : Noted) (t : Term) (is : bare e ≡ t) (accepted : IsAccepted t TInt) (beside : Beside e NoTys) (xs : List KNode)
+    (made : map knode xs ≡ emit_of e) where
   same_tree : cps_term (bare e) ≡ cps_term t
   same_tree = ap cps_term is
 
@@ -41,7 +43,8 @@ module _ (one : OneConversion) (types : CpsKeepsTypes) (scope : TypedIsInScope) 
   pub fits : CpsKeepsBound → nodes t ≤ 4294967295 → KBound (decode (map knode xs))
   fits law few = subst KBound (sym tree_is) (law t accepted few)
 
-pub converted : IsTranslated → CpsKeepsMeaning → CpsKeepsTypes → CpsKeepsReach → CpsKeepsBound → CodesAreSites → (t : Term) → IsAccepted t TInt → nodes t ≤ 4294967295 → (m : KTm) → m ≡ cps_term t → Converted t m
+pub converted : IsTranslated → CpsKeepsMeaning → CpsKeepsTypes → CpsKeepsReach → CpsKeepsBound → CodesAreSites →
+    (t : Term) → IsAccepted t TInt → nodes t ≤ 4294967295 → (m : KTm) → m ≡ cps_term t → Converted t m
 converted related meaning types reach bound codes t accepted few m is =
     subst (Converted t) (sym is) (record {
       tree = λ i. cps_term t;

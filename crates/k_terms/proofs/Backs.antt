@@ -2,11 +2,15 @@
 use Rattle.std.proofs.Common.{◌≡◌, ℕ, suc, ◌+◌, List, [], ◌∷◌, refl, sym, ap, ap₂, ◌∙◌, arith}
 use Rattle.term_core.specs.Ends.{lift, after_one}
 use Rattle.term_core.proofs.Levels.{level_below}
-use Rattle.k_terms.specs.K.{KTy, KVal, KVar, KInt, KTuple, KCode, KVals, NoKVals, MoreKVals, KDecl, KName, KProj, KArith, KPack, KUnpack, KCell, KGet, KSet, KTm, KLet, KCall, KIf, KHalt, kcount, kbody_scope, opens, scope_more}
+use Rattle.k_terms.specs.K.{KTy, KVal, KVar, KInt, KTuple, KCode, KVals, NoKVals, MoreKVals, KDecl, KName, KProj}
+use Rattle.k_terms.specs.K.{KArith, KPack, KUnpack, KCell, KGet, KSet, KTm, KLet, KCall, KIf, KHalt, kcount}
+use Rattle.k_terms.specs.K.{kbody_scope, opens, scope_more}
 use Rattle.k_terms.specs.Types.{kd_type}
-use Rattle.k_terms.specs.Stream.{KNd, NTuple, NEnd, NName, NProj, NArith, NPack, NUnpack, NCell, NGet, NSet, NCall, NIf, NElse, NHalt, klin_v, klin_vs, klin_d, klin_t, kwidth}
+use Rattle.k_terms.specs.Stream.{KNd, NTuple, NEnd, NName, NProj, NArith, NPack, NUnpack, NCell, NGet, NSet, NCall}
+use Rattle.k_terms.specs.Stream.{NIf, NElse, NHalt, klin_v, klin_vs, klin_d, klin_t, kwidth}
 use Rattle.k_terms.specs.Scope.{ValueIn, ValuesIn, DeclIn, TermIn}
-use Rattle.k_terms.specs.Decode.{Body, Open, InCode, InThen, taken, past, all, fresh, push, bind, calls, halts, other, run, decode}
+use Rattle.k_terms.specs.Decode.{Body, Open, InCode, InThen, taken, past, all, fresh, push, bind, calls, halts, other}
+use Rattle.k_terms.specs.Decode.{run, decode}
 
 abbrev onto : KVals → List KVal → List KVal
 onto NoKVals ws = ws
@@ -20,7 +24,8 @@ before_none : (vs : KVals) → before vs NoKVals ≡ vs
 before_none NoKVals = refl
 before_none (MoreKVals v vs) = ap (MoreKVals v) (before_none vs)
 
-taken_more : (vs : KVals) (m : ℕ) (ws : List KVal) (more : KVals) → taken (kwidth vs + m) (onto vs ws) more ≡ taken m ws (before vs more)
+taken_more : (vs : KVals) (m : ℕ) (ws : List KVal) (more : KVals) →
+    taken (kwidth vs + m) (onto vs ws) more ≡ taken m ws (before vs more)
 taken_more NoKVals m ws more = ap (λ k. taken k ws more) (let e : 0 + m ≡ m = omega arith in e)
 taken_more (MoreKVals v vs) m ws more =
     ap (λ k. taken k (onto vs (v ∷ ws)) more) (let e : suc (kwidth vs) + m ≡ kwidth vs + suc m = omega arith in e)
@@ -55,10 +60,12 @@ mutual
   run_v (KInt m) n td g ns b os h = refl
   run_v (KTuple vs) n td g ns b os h =
       run_vs vs n td g (NTuple (kwidth vs) ∷ ns) b os h
-      ∙ ap₂ (λ (us : KVals) (ws : List KVal). run ns (record { depth = b.depth; around = b.around; ending = b.ending; waiting = KTuple us ∷ ws }) os)
+      ∙ ap₂ (λ (us : KVals) (ws : List KVal).
+      run ns (record { depth = b.depth; around = b.around; ending = b.ending; waiting = KTuple us ∷ ws }) os)
       (taken_all vs b.waiting) (past_all vs b.waiting)
   run_v (KCode owes args body) n td g ns b os h =
-      run_t body (lift owes n) (lift owes td) (kbody_scope owes args g) (NEnd ∷ ns) (fresh (lift (kcount args) (suc b.depth)))
+      run_t body (lift owes n) (lift owes td) (kbody_scope owes args g) (NEnd ∷ ns)
+      (fresh (lift (kcount args) (suc b.depth)))
       (InCode b owes args ∷ os) (run ns (push b (KCode owes args body)) os) h.1
       (λ c e. ap (λ (t : KTm). run ns (push b (KCode owes args t)) os) e)
 
@@ -83,7 +90,8 @@ mutual
       run_v v n td g (klin_v b.depth td g w (NSet b.depth ∷ ns)) b os h.0
       ∙ run_v w n td g (NSet b.depth ∷ ns) (push b v) os h.1
 
-  run_t : (t : KTm) (n td : ℕ) (g : List KTy) (ns : List KNd) (b : Body) (os : List Open) (r : KTm) → TermIn b.depth n t →
+  run_t : (t : KTm) (n td : ℕ) (g : List KTy) (ns : List KNd) (b : Body) (os : List Open) (r : KTm) →
+      TermIn b.depth n t →
       ((c : Body) → c.ending c.waiting ≡ b.around t → run ns c os ≡ r) → run (klin_t b.depth td g t ns) b os ≡ r
   run_t (KLet x t) n td g ns b os r h k =
       let m = after_one (opens x) td in
@@ -93,7 +101,8 @@ mutual
   run_t (KCall f ts vs) n td g ns b os r h k =
       run_v f n td g (NCall b.depth td ts (kwidth vs) ∷ klin_vs b.depth td g vs ns) b os h.0
       ∙ run_vs vs n td g ns (calls (push b f) ts) os h.2
-      ∙ k (pushes (calls (push b f) ts) vs) (ap (λ (us : KVals). b.around (KCall f ts us)) (all_more vs [] NoKVals ∙ before_none vs))
+      ∙ k (pushes (calls (push b f) ts) vs)
+      (ap (λ (us : KVals). b.around (KCall f ts us)) (all_more vs [] NoKVals ∙ before_none vs))
   run_t (KIf v t u) n td g ns b os r h k =
       run_v v n td g (NIf ∷ klin_t b.depth td g t (NElse td ∷ klin_t b.depth td g u ns)) b os h.0
       ∙ run_t t n td g (NElse td ∷ klin_t b.depth td g u ns) (fresh b.depth) (InThen (push b v) v ∷ os) r h.1

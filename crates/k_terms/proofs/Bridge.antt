@@ -1,5 +1,6 @@
 -- Renaming and substitution are shift and put, and scope is below.
-use Rattle.std.proofs.Common.{◌≡◌, ◌<◌, ◌≤◌, ◌⊎◌, inl, inr, ℕ, zero, suc, ◌+◌, ◌-◌, refl, sym, ap, ap₂, ◌∙◌, subst, arith}
+use Rattle.std.proofs.Common.{◌≡◌, ◌<◌, ◌≤◌, ◌⊎◌, inl, inr, ℕ, zero, suc, ◌+◌, ◌-◌, refl, sym, ap, ap₂, ◌∙◌, subst}
+use Rattle.std.proofs.Common.{arith}
 use Rattle.std.proofs.lemmas.Bool.{cases_lt, cases_order}
 use Rattle.idx_core.specs.Over.{shifted, putted, BelowAt, AnyDepth}
 use Rattle.idx_core.specs.Laws.{shifted_lt, shifted_ge, putted_lt, putted_eq, putted_gt, shift_add_law, shift_zero_law}
@@ -21,10 +22,12 @@ under_one : (r : ℕ → ℕ) (k d : ℕ) → IsShift r k d → (i : ℕ) → TK
 under_one r k d f i = here (cases_lt i d)
   where
     here : (i < d) ⊎ (d ≤ i) → TKVar (suc (r i)) ≡ shifted TKVar k (d + 1) (suc i)
-    here (inl l) = ap (kren suc) (f i ∙ shifted_lt TKVar k d i l) ∙ sym (shifted_lt TKVar k (d + 1) (suc i) (omega (arith, l)))
+    here (inl l) =
+        ap (kren suc) (f i ∙ shifted_lt TKVar k d i l) ∙ sym (shifted_lt TKVar k (d + 1) (suc i) (omega (arith, l)))
     here (inr l) =
         let more : suc (i + k) ≡ suc i + k = omega arith in
-        ap (kren suc) (f i ∙ shifted_ge TKVar k d i l) ∙ ap TKVar more ∙ sym (shifted_ge TKVar k (d + 1) (suc i) (omega (arith, l)))
+        ap (kren suc) (f i ∙ shifted_ge TKVar k d i l) ∙ ap TKVar more
+        ∙ sym (shifted_ge TKVar k (d + 1) (suc i) (omega (arith, l)))
 
 under_more : (n : ℕ) (r : ℕ → ℕ) (k d : ℕ) → IsShift r k d → IsShift (under n r) k (d + n)
 under_more zero r k d f i = let e : d ≡ d + 0 = omega arith in f i ∙ ap (λ x. shifted TKVar k x i) e
@@ -60,7 +63,8 @@ ren_suc t = ren_is t suc 1 0 (λ i. lift_shifts 1 i)
 abbrev IsPut : (ℕ → KTy) → ℕ → KTy → ℕ → Type 0
 IsPut z c s d = (i : ℕ) → z i ≡ putted TKVar over c s d i
 
-up_one : (z : ℕ → KTy) (c : ℕ) (s : KTy) (d : ℕ) → c ≤ d → IsPut z c s d → (i : ℕ) → kren suc (z i) ≡ putted TKVar over c s (d + 1) (suc i)
+up_one : (z : ℕ → KTy) (c : ℕ) (s : KTy) (d : ℕ) → c ≤ d → IsPut z c s d → (i : ℕ) →
+    kren suc (z i) ≡ putted TKVar over c s (d + 1) (suc i)
 up_one z c s d le f i = ap (kren suc) (f i) ∙ here (cases_order i d)
   where
     here : (i ≡ d) ⊎ ((i < d) ⊎ (d < i)) → kren suc (putted TKVar over c s d i) ≡ putted TKVar over c s (d + 1) (suc i)
@@ -68,35 +72,44 @@ up_one z c s d le f i = ap (kren suc) (f i) ∙ here (cases_order i d)
         let sum : d - c + 1 ≡ d + 1 - c = omega (arith, le) in
         ap (kren suc) (putted_eq TKVar over c s d i e)
         ∙ ren_suc (shift (d - c) 0 s)
-        ∙ shift_add_law types_part types_over (d - c) 1 0 s ∙ ap (λ n. shift n 0 s) sum ∙ sym (putted_eq TKVar over c s (d + 1) (suc i) (omega (arith, e)))
-    here (inr (inl l)) = ap (kren suc) (putted_lt TKVar over c s d i l) ∙ sym (putted_lt TKVar over c s (d + 1) (suc i) (omega (arith, l)))
+        ∙ shift_add_law types_part types_over (d - c) 1 0 s ∙ ap (λ n. shift n 0 s) sum
+        ∙ sym (putted_eq TKVar over c s (d + 1) (suc i) (omega (arith, e)))
+    here (inr (inl l)) = ap (kren suc) (putted_lt TKVar over c s d i l)
+        ∙ sym (putted_lt TKVar over c s (d + 1) (suc i) (omega (arith, l)))
     here (inr (inr l)) =
         let less : suc (i - 1) ≡ suc i - 1 = omega (arith, l) in
-        ap (kren suc) (putted_gt TKVar over c s d i l) ∙ ap TKVar less ∙ sym (putted_gt TKVar over c s (d + 1) (suc i) (omega (arith, l)))
+        ap (kren suc) (putted_gt TKVar over c s d i l) ∙ ap TKVar less
+        ∙ sym (putted_gt TKVar over c s (d + 1) (suc i) (omega (arith, l)))
 
 up_more : (n : ℕ) (z : ℕ → KTy) (c : ℕ) (s : KTy) (d : ℕ) → c ≤ d → IsPut z c s d → IsPut (kup n z) c s (d + n)
 up_more zero z c s d le f i = let e : d ≡ d + 0 = omega arith in f i ∙ ap (λ x. putted TKVar over c s x i) e
 up_more (suc n) z c s d le f zero = sym (putted_lt TKVar over c s (d + suc n) 0 (omega arith))
 up_more (suc n) z c s d le f (suc i) =
     let e : d + n + 1 ≡ d + suc n = omega arith in
-    up_one (kup n z) c s (d + n) (omega (arith, le)) (up_more n z c s d le f) i ∙ ap (λ x. putted TKVar over c s x (suc i)) e
+    up_one (kup n z) c s (d + n) (omega (arith, le)) (up_more n z c s d le f) i
+    ∙ ap (λ x. putted TKVar over c s x (suc i)) e
 
 mutual
-  pub sub_is : (t : KTy) (z : ℕ → KTy) (c : ℕ) (s : KTy) (d : ℕ) → c ≤ d → IsPut z c s d → ksub z t ≡ over (putted TKVar over c s) d t
+  pub sub_is : (t : KTy) (z : ℕ → KTy) (c : ℕ) (s : KTy) (d : ℕ) → c ≤ d → IsPut z c s d →
+      ksub z t ≡ over (putted TKVar over c s) d t
   sub_is TKInt z c s d le f = refl
   sub_is (TKVar i) z c s d le f = f i
   sub_is (TKTuple ts) z c s d le f = ap TKTuple (subs_are ts z c s d le f)
-  sub_is (TKCode n ts) z c s d le f = ap (TKCode n) (subs_are ts (kup n z) c s (d + n) (omega (arith, le)) (up_more n z c s d le f))
-  sub_is (TKSome t) z c s d le f = ap TKSome (sub_is t (kup 1 z) c s (d + 1) (omega (arith, le)) (up_more 1 z c s d le f))
+  sub_is (TKCode n ts) z c s d le f =
+      ap (TKCode n) (subs_are ts (kup n z) c s (d + n) (omega (arith, le)) (up_more n z c s d le f))
+  sub_is (TKSome t) z c s d le f =
+      ap TKSome (sub_is t (kup 1 z) c s (d + 1) (omega (arith, le)) (up_more 1 z c s d le f))
   sub_is (TKRef t) z c s d le f = ap TKRef (sub_is t z c s d le f)
 
-  pub subs_are : (ts : KTys) (z : ℕ → KTy) (c : ℕ) (s : KTy) (d : ℕ) → c ≤ d → IsPut z c s d → ksubs z ts ≡ over_all (putted TKVar over c s) d ts
+  pub subs_are : (ts : KTys) (z : ℕ → KTy) (c : ℕ) (s : KTy) (d : ℕ) → c ≤ d → IsPut z c s d →
+      ksubs z ts ≡ over_all (putted TKVar over c s) d ts
   subs_are NoKTys z c s d le f = refl
   subs_are (MoreKTys t ts) z c s d le f = ap₂ MoreKTys (sub_is t z c s d le f) (subs_are ts z c s d le f)
 
 put_first : (s : KTy) → IsPut (kscons s TKVar) 0 s 0
 put_first s zero = sym (putted_eq TKVar over 0 s 0 0 refl ∙ shift_zero_law types_over 0 s)
-put_first s (suc i) = let e : i ≡ suc i - 1 = omega arith in ap TKVar e ∙ sym (putted_gt TKVar over 0 s 0 (suc i) (omega arith))
+put_first s (suc i) =
+    let e : i ≡ suc i - 1 = omega arith in ap TKVar e ∙ sym (putted_gt TKVar over 0 s 0 (suc i) (omega arith))
 
 -- one type put for the last name
 pub sub_put : (s t : KTy) → ksub (kscons s TKVar) t ≡ put 0 s t

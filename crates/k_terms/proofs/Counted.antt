@@ -1,11 +1,15 @@
 -- The codes of a term are its code nodes.
-use Rattle.std.proofs.Common.{◌≡◌, ℕ, suc, ◌+◌, ◌≤◌, List, [], ◌∷◌, map, take, length, count_by, cond, refl, ap, ap₂, ◌∙◌, arith}
+use Rattle.std.proofs.Common.{◌≡◌, ℕ, suc, ◌+◌, ◌≤◌, List, [], ◌∷◌, map, take, length, count_by, cond, refl, ap, ap₂}
+use Rattle.std.proofs.Common.{◌∙◌, arith}
 use Rattle.std.proofs.lemmas.List.{take_all}
 use Rattle.std.proofs.lemmas.List.Sums.{sum_by-cons}
 use Rattle.term_core.specs.Ends.{lift, after_one}
-use Rattle.k_terms.specs.K.{KTy, KVal, KVar, KInt, KTuple, KCode, KVals, NoKVals, MoreKVals, KDecl, KName, KProj, KArith, KPack, KUnpack, KCell, KGet, KSet, KTm, KLet, KCall, KIf, KHalt, kcount, kbody_scope, opens, scope_more}
+use Rattle.k_terms.specs.K.{KTy, KVal, KVar, KInt, KTuple, KCode, KVals, NoKVals, MoreKVals, KDecl, KName, KProj}
+use Rattle.k_terms.specs.K.{KArith, KPack, KUnpack, KCell, KGet, KSet, KTm, KLet, KCall, KIf, KHalt, kcount}
+use Rattle.k_terms.specs.K.{kbody_scope, opens, scope_more}
 use Rattle.k_terms.specs.Types.{kd_type}
-use Rattle.k_terms.specs.Stream.{KNd, NTuple, NCode, NEnd, NName, NProj, NArith, NPack, NUnpack, NCell, NGet, NSet, NCall, NIf, NElse, NHalt, kwidth, klin_v, klin_vs, klin_d, klin_t}
+use Rattle.k_terms.specs.Stream.{KNd, NTuple, NCode, NEnd, NName, NProj, NArith, NPack, NUnpack, NCell, NGet, NSet}
+use Rattle.k_terms.specs.Stream.{NCall, NIf, NElse, NHalt, kwidth, klin_v, klin_vs, klin_d, klin_t}
 use Rattle.k_terms.specs.Size.{codes_v, codes_vs, codes_d, codes_t}
 use Rattle.k_terms.specs.Read.{knode}
 use Rattle.k_terms.specs.Counts.{code_node}
@@ -28,7 +32,8 @@ mutual
   coded_v d td g (KCode owes args body) ns =
       omega (arith, coded_t (lift (kcount args) (suc d)) (lift owes td) (kbody_scope owes args g) body (NEnd ∷ ns))
 
-  coded_vs : (d td : ℕ) (g : List KTy) (vs : KVals) (ns : List KNd) → coded (klin_vs d td g vs ns) ≡ codes_vs vs + coded ns
+  coded_vs : (d td : ℕ) (g : List KTy) (vs : KVals) (ns : List KNd) →
+      coded (klin_vs d td g vs ns) ≡ codes_vs vs + coded ns
   coded_vs d td g NoKVals ns = omega arith
   coded_vs d td g (MoreKVals v vs) ns = omega (arith, coded_v d td g v (klin_vs d td g vs ns), coded_vs d td g vs ns)
 
@@ -47,7 +52,11 @@ mutual
   pub coded_t : (d td : ℕ) (g : List KTy) (t : KTm) (ns : List KNd) → coded (klin_t d td g t ns) ≡ codes_t t + coded ns
   coded_t d td g (KLet x t) ns =
       let rest : List KNd = klin_t (suc d) (after_one (opens x) td) (kd_type g x ∷ scope_more (opens x) g) t ns in
-      omega (arith, coded_d d td g x rest, coded_t (suc d) (after_one (opens x) td) (kd_type g x ∷ scope_more (opens x) g) t ns)
+      omega (
+        arith,
+        coded_d d td g x rest,
+        coded_t (suc d) (after_one (opens x) td) (kd_type g x ∷ scope_more (opens x) g) t ns,
+      )
   coded_t d td g (KCall f ts vs) ns =
       omega (arith, coded_v d td g f (NCall d td ts (kwidth vs) ∷ klin_vs d td g vs ns), coded_vs d td g vs ns)
   coded_t d td g (KIf v t u) ns =
@@ -83,6 +92,7 @@ counted [] = refl
 counted (x ∷ xs) =
     sum_by-cons (λ (y : KNode). cond (code_node y) 1 0) x xs ∙ ap₂ (λ (m n : ℕ). m + n) (own_is x) (counted xs)
 
-pub codes_are : (xs : List KNode) (n : ℕ) (t : KTm) → map knode xs ≡ klin_t 0 0 [] t [] → length xs ≤ n → count_by code_node (take n xs) ≡ codes_t t
+pub codes_are : (xs : List KNode) (n : ℕ) (t : KTm) → map knode xs ≡ klin_t 0 0 [] t [] → length xs ≤ n →
+    count_by code_node (take n xs) ≡ codes_t t
 codes_are xs n t whole all =
     ap (count_by code_node) (take_all n xs all) ∙ counted xs ∙ ap coded whole ∙ omega (arith, coded_t 0 0 [] t [])

@@ -1,7 +1,9 @@
 -- Typing with a property of types is typing.
 use Rattle.std.proofs.Common.{ℕ, List, ◌∷◌}
 use Rattle.term_core.specs.Ends.{lift, after_one}
-use Rattle.k_terms.specs.K.{KTy, KTys, TKTuple, TKInt, TKVar, TKSome, TKRef, NoKTys, MoreKTys, KVal, KVar, KInt, KTuple, KCode, KVals, NoKVals, MoreKVals, KDecl, KName, KProj, KArith, KPack, KUnpack, KCell, KGet, KSet, KTm, KLet, KCall, KIf, KHalt, kbody_scope, opens, scope_more}
+use Rattle.k_terms.specs.K.{KTy, KTys, TKTuple, TKInt, TKVar, TKSome, TKRef, NoKTys, MoreKTys, KVal, KVar, KInt}
+use Rattle.k_terms.specs.K.{KTuple, KCode, KVals, NoKVals, MoreKVals, KDecl, KName, KProj, KArith, KPack, KUnpack}
+use Rattle.k_terms.specs.K.{KCell, KGet, KSet, KTm, KLet, KCall, KIf, KHalt, kbody_scope, opens, scope_more}
 use Rattle.k_terms.specs.Typing.{kscons, ksub, KHas, KHave, KGives, KGood}
 use Rattle.k_terms.specs.Each.{KProp, KAll, KHasP, KHaveP, KGivesP, KGoodP}
 
@@ -27,7 +29,8 @@ mutual
   plain_d P (KSet v w) n g t h = (h.1, h.2, plain_v P v n g (TKRef h.1) h.3, plain_v P w n g h.1 h.4)
 
   pub plain_t : (P : KProp) (t : KTm) (n : ℕ) (g : List KTy) → KGoodP P n g t → KGood n g t
-  plain_t P (KLet d t) n g h = (h.0, plain_d P d n g h.0 h.1, plain_t P t (after_one (opens d) n) (h.0 ∷ scope_more (opens d) g) h.2)
+  plain_t P (KLet d t) n g h =
+      (h.0, plain_d P d n g h.0 h.1, plain_t P t (after_one (opens d) n) (h.0 ∷ scope_more (opens d) g) h.2)
   plain_t P (KCall f ts vs) n g h = (h.0, plain_v P f n g _ h.1, h.2, plain_vs P vs n g _ h.4)
   plain_t P (KIf v t u) n g h = (plain_v P v n g TKInt h.0, plain_t P t n g h.1, plain_t P u n g h.2)
   plain_t P (KHalt v) n g h = plain_v P v n g TKInt h
@@ -62,7 +65,8 @@ mutual
   any_d (KSet v w) n g t h = (tt, h.0, h.1, any_v v n g (TKRef h.0) h.2, any_v w n g h.0 h.3)
 
   pub any_t : (t : KTm) (n : ℕ) (g : List KTy) → KGood n g t → KGoodP Any n g t
-  any_t (KLet d t) n g h = (h.0, any_d d n g h.0 h.1, any_t t (after_one (opens d) n) (h.0 ∷ scope_more (opens d) g) h.2)
+  any_t (KLet d t) n g h =
+      (h.0, any_d d n g h.0 h.1, any_t t (after_one (opens d) n) (h.0 ∷ scope_more (opens d) g) h.2)
   any_t (KCall f ts vs) n g h = (h.0, any_v f n g _ h.1, h.2, any_all n ts, any_vs vs n g _ h.3)
   any_t (KIf v t u) n g h = (any_v v n g TKInt h.0, any_t t n g h.1, any_t u n g h.2)
   any_t (KHalt v) n g h = any_v v n g TKInt h

@@ -1,7 +1,9 @@
 -- Typing with a property is typing with any weaker one.
 use Rattle.std.proofs.Common.{ℕ, suc, ◌≤◌, List, [], ◌∷◌, arith}
 use Rattle.term_core.specs.Ends.{lift, after_one}
-use Rattle.k_terms.specs.K.{KTy, KTys, TKTuple, TKInt, TKVar, TKSome, TKRef, NoKTys, MoreKTys, KVal, KVar, KInt, KTuple, KCode, KVals, NoKVals, MoreKVals, KDecl, KName, KProj, KArith, KPack, KUnpack, KCell, KGet, KSet, KTm, KLet, KCall, KIf, KHalt, kbody_scope, opens, scope_more}
+use Rattle.k_terms.specs.K.{KTy, KTys, TKTuple, TKInt, TKVar, TKSome, TKRef, NoKTys, MoreKTys, KVal, KVar, KInt}
+use Rattle.k_terms.specs.K.{KTuple, KCode, KVals, NoKVals, MoreKVals, KDecl, KName, KProj, KArith, KPack, KUnpack}
+use Rattle.k_terms.specs.K.{KCell, KGet, KSet, KTm, KLet, KCall, KIf, KHalt, kbody_scope, opens, scope_more}
 use Rattle.k_terms.specs.Typing.{kscons, ksub}
 use Rattle.k_terms.specs.Each.{KProp, KAll, KHasP, KHaveP, KGivesP, KGoodP}
 use Rattle.k_terms.specs.Reach.{KWithin}
@@ -27,7 +29,8 @@ module _ (P Q : KProp) (f : (n : ℕ) (t : KTy) → P n t → Q n t) where
     k_d (KName v) n g t h = k_v v n g t h
     k_d (KProj i v) n g t h = (f n t h.0, h.1, k_v v n g (TKTuple h.1) h.2, h.3)
     k_d (KArith op v w) n g t h = (f n t h.0, h.1, k_v v n g TKInt h.2, k_v w n g TKInt h.3)
-    k_d (KPack hid v s) n g t h = (f n t h.0, f n hid h.1, h.2, h.3, h.4, h.5, h.6, k_v v n g (ksub (kscons hid TKVar) h.2) h.7)
+    k_d (KPack hid v s) n g t h =
+        (f n t h.0, f n hid h.1, h.2, h.3, h.4, h.5, h.6, k_v v n g (ksub (kscons hid TKVar) h.2) h.7)
     k_d (KUnpack v) n g t h = (f (suc n) t h.0, k_v v n g (TKSome t) h.1)
     k_d (KCell v) n g t h = (f n t h.0, h.1, h.2, k_v v n g h.1 h.3)
     k_d (KGet v) n g t h = (f n t h.0, k_v v n g (TKRef t) h.1)
@@ -39,8 +42,11 @@ module _ (P Q : KProp) (f : (n : ℕ) (t : KTy) → P n t → Q n t) where
     k_t (KIf v t u) n g h = (k_v v n g TKInt h.0, k_t t n g h.1, k_t u n g h.2)
     k_t (KHalt v) n g h = k_v v n g TKInt h
 
-pub within_more : (N M R S B C : ℕ) (t : KTm) → N ≤ M → R ≤ S → B ≤ C → KGoodP (KWithin N R B) 0 [] t → KGoodP (KWithin M S C) 0 [] t
-within_more N M R S B C t x y z h = k_t (KWithin N R B) (KWithin M S C) (λ n t h. (omega (arith, h.0, x), omega (arith, h.1, y), omega (arith, h.2, z))) t 0 [] h
+pub within_more : (N M R S B C : ℕ) (t : KTm) → N ≤ M → R ≤ S → B ≤ C → KGoodP (KWithin N R B) 0 [] t →
+    KGoodP (KWithin M S C) 0 [] t
+within_more N M R S B C t x y z h =
+    k_t (KWithin N R B) (KWithin M S C)
+    (λ n t h. (omega (arith, h.0, x), omega (arith, h.1, y), omega (arith, h.2, z))) t 0 [] h
 
 pub fits_more : (N M R : ℕ) (t : KTm) → N ≤ M → KFits N R t → KFits M R t
 fits_more N M R t le h = (within_more N M R R N M t le (omega arith) le h.0, omega (arith, h.1, le))

@@ -1,7 +1,11 @@
 -- A typed term has its names and its type variables in scope.
-use Rattle.std.proofs.Common.{◌≡◌, ◌<◌, ℕ, zero, suc, Bool, true, false, List, [], ◌∷◌, length, refl, ap, ◌∙◌, subst, arith}
+use Rattle.std.proofs.Common.{◌≡◌, ◌<◌, ℕ, zero, suc, Bool, true, false, List, [], ◌∷◌, length, refl, ap, ◌∙◌, subst}
+use Rattle.std.proofs.Common.{arith}
 use Rattle.term_core.specs.Ends.{lift, after_one}
-use Rattle.k_terms.specs.K.{KTy, KTys, TKInt, TKCode, NoKTys, MoreKTys, KVal, KVar, KInt, KTuple, KCode, KVals, NoKVals, MoreKVals, KDecl, KName, KProj, KArith, KPack, KUnpack, KCell, KGet, KSet, KTm, KLet, KCall, KIf, KHalt, kcount, kren, krens_scope, kargs_onto, kbody_scope, opens, scope_more}
+use Rattle.k_terms.specs.K.{KTy, KTys, TKInt, TKCode, NoKTys, MoreKTys, KVal, KVar, KInt, KTuple, KCode, KVals}
+use Rattle.k_terms.specs.K.{NoKVals, MoreKVals, KDecl, KName, KProj, KArith, KPack, KUnpack, KCell, KGet, KSet, KTm}
+use Rattle.k_terms.specs.K.{KLet, KCall, KIf, KHalt, kcount, kren, krens_scope, kargs_onto, kbody_scope, opens}
+use Rattle.k_terms.specs.K.{scope_more}
 use Rattle.k_terms.specs.Typing.{KAt, KHas, KHave, KGives, KGood}
 use Rattle.k_terms.specs.Scope.{ValueIn, ValuesIn, DeclIn, TermIn}
 
@@ -26,7 +30,8 @@ args_length : (ts : KTys) (g : List KTy) → length (kargs_onto ts g) ≡ lift (
 args_length NoKTys g = refl
 args_length (MoreKTys t ts) g = args_length ts (t ∷ g) ∙ lift_suc (kcount ts) (length g)
 
-body_length : (owes : ℕ) (args : KTys) (g : List KTy) → length (kbody_scope owes args g) ≡ lift (kcount args) (suc (length g))
+body_length : (owes : ℕ) (args : KTys) (g : List KTy) →
+    length (kbody_scope owes args g) ≡ lift (kcount args) (suc (length g))
 body_length owes args g =
     args_length args (kren (lift owes) (TKCode owes args) ∷ krens_scope (lift owes) g)
     ∙ ap (λ k. lift (kcount args) (suc k)) (krens_length (lift owes) g)
@@ -36,8 +41,11 @@ mutual
   has_in (KVar i) n g t h = at_in g i t h
   has_in (KInt m) n g t h = tt
   has_in (KTuple vs) n g t h = have_in vs n g h.0 h.2
-  has_in (KCode owes args body) n g t h =
-      (h.1, subst (λ k. TermIn k (lift owes n) body) (body_length owes args g) (good_in body (lift owes n) (kbody_scope owes args g) h.2))
+  has_in (KCode owes args body) n g t h = (
+    h.1,
+    subst (λ k. TermIn k (lift owes n) body) (body_length owes args g)
+        (good_in body (lift owes n) (kbody_scope owes args g) h.2),
+  )
 
   have_in : (vs : KVals) (n : ℕ) (g : List KTy) (ts : KTys) → KHave n g vs ts → ValuesIn (length g) n vs
   have_in NoKVals n g ts h = tt
@@ -55,8 +63,10 @@ mutual
 
   pub good_in : (t : KTm) (n : ℕ) (g : List KTy) → KGood n g t → TermIn (length g) n t
   good_in (KLet x t) n g h =
-      let m = after_one (opens x) n in
-      (gives_in x n g h.0 h.1, subst (λ k. TermIn (suc k) m t) (more_length (opens x) g) (good_in t m (h.0 ∷ scope_more (opens x) g) h.2))
+      let m = after_one (opens x) n in (
+        gives_in x n g h.0 h.1,
+        subst (λ k. TermIn (suc k) m t) (more_length (opens x) g) (good_in t m (h.0 ∷ scope_more (opens x) g) h.2),
+      )
   good_in (KCall f ts vs) n g h = (has_in f n g _ h.1, h.2, have_in vs n g _ h.3)
   good_in (KIf v t u) n g h = (has_in v n g TKInt h.0, good_in t n g h.1, good_in u n g h.2)
   good_in (KHalt v) n g h = has_in v n g TKInt h

@@ -1,5 +1,5 @@
 -- Worked lines, proved by computing.
-use Rattle.std.proofs.Common.{◌≡◌, [], refl, codes, None, Some, true, false}
+use Rattle.std.proofs.Common.{◌≡◌, [], refl, codes, None, Some, false}
 use Rattle.std.specs.Fmt.{digits}
 use Rattle.f_terms.specs.Ty.{TInt, TVar, TAll, TTuple, NoTys, MoreTys}
 use Rattle.f_check.specs.Mismatch.{WType, WFunction, WField, WOutside}
@@ -11,12 +11,14 @@ none : source_line None ≡ []
 none = refl
 
 -- of the operand of `1 + <>`
-operand : source_line (Some (record { wanted = WType TInt; found = TTuple NoTys; names = 0 })) ≡ codes "wanted int, found <>"
+operand : source_line (Some (record { wanted = WType TInt; found = TTuple NoTys; names = 0 }))
+    ≡ codes "wanted int, found <>"
 unfolding digits
 operand = refl
 
 -- of what is called in `1 2`
-called : source_line (Some (record { wanted = WFunction; found = TInt; names = 0 })) ≡ codes "wanted T1 -> T2, found int"
+called : source_line (Some (record { wanted = WFunction; found = TInt; names = 0 }))
+    ≡ codes "wanted T1 -> T2, found int"
 unfolding digits
 called = refl
 
@@ -27,7 +29,8 @@ unfolding digits
 field = refl
 
 -- of what an `open` inside one type name hands out
-escape : source_line (Some (record { wanted = WOutside; found = TTuple (MoreTys (TVar 0) (MoreTys (TVar 1) NoTys)); names = 2 }))
+escape : source_line
+    (Some (record { wanted = WOutside; found = TTuple (MoreTys (TVar 0) (MoreTys (TVar 1) NoTys)); names = 2 }))
     ≡ codes "wanted a type without t1, found <t1, t0>"
 unfolding digits
 escape = refl

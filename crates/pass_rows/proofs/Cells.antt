@@ -28,9 +28,12 @@ one t = MoreKTys t NoKTys
 
 -- its types are within any property that these types have
 module _ (P : KProp)
-    (int : P 0 TKInt) (seven : P 0 (TKTuple (one TKInt))) (constants : P 0 (TKTuple (MoreKTys TKInt (one (TKTuple (one TKInt))))))
-    (cell : P 0 (TKRef TKInt)) (with_cell : P 0 inner) (outer : P 0 pair) (opened : P 0 (TKTuple (MoreKTys pair (one TKInt))))
-    (hidden : P 0 (TKSome held)) (int1 : P 1 TKInt) (cell1 : P 1 (TKRef TKInt)) (with_cell1 : P 1 inner) (outer1 : P 1 pair)
+    (int : P 0 TKInt) (seven : P 0 (TKTuple (one TKInt)))
+    (constants : P 0 (TKTuple (MoreKTys TKInt (one (TKTuple (one TKInt))))))
+    (cell : P 0 (TKRef TKInt)) (with_cell : P 0 inner) (outer : P 0 pair)
+    (opened : P 0 (TKTuple (MoreKTys pair (one TKInt))))
+    (hidden : P 0 (TKSome held)) (int1 : P 1 TKInt) (cell1 : P 1 (TKRef TKInt)) (with_cell1 : P 1 inner)
+    (outer1 : P 1 pair)
     (held1 : P 1 held) (code1 : P 1 (TKCode 0 (one pair))) (none1 : P 1 (TKTuple NoKTys)) where
   sets_good : (g : List KTy) → KHasP P 1 g sets (TKCode 0 (one pair))
   sets_good g = (
@@ -59,7 +62,12 @@ module _ (P : KProp)
   example_good : KGoodP P 0 [] example
   example_good = (
     _,
-    (constants, _, refl, (_, _, refl, (int, refl), (_, _, refl, (seven, _, refl, (_, _, refl, (int, refl), refl)), refl))),
+    (
+      constants,
+      _,
+      refl,
+      (_, _, refl, (int, refl), (_, _, refl, (seven, _, refl, (_, _, refl, (int, refl), refl)), refl)),
+    ),
     (
       TKRef TKInt,
       (cell, TKInt, refl, (int, refl)),
@@ -69,7 +77,13 @@ module _ (P : KProp)
           outer,
           _,
           refl,
-          (_, _, refl, (int, refl), (_, _, refl, (with_cell, _, refl, (_, _, refl, (cell, refl), (_, _, refl, (int, refl), refl))), refl)),
+          (
+            _,
+            _,
+            refl,
+            (int, refl),
+            (_, _, refl, (with_cell, _, refl, (_, _, refl, (cell, refl), (_, _, refl, (int, refl), refl))), refl),
+          ),
         ),
         (
           TKSome held,
@@ -86,7 +100,19 @@ module _ (P : KProp)
           (
             held,
             (held1, (hidden, refl)),
-            (pair, (outer1, _, (held1, refl), refl), (_, sets_good (pair ∷ held ∷ TKSome held ∷ pair ∷ TKRef TKInt ∷ TKTuple (MoreKTys TKInt (one (TKTuple (one TKInt)))) ∷ []), tt, tt, (_, _, refl, (outer1, refl), refl))),
+            (
+              pair,
+              (outer1, _, (held1, refl), refl),
+              (
+                _,
+                sets_good
+                    (pair ∷ held ∷ TKSome held ∷ pair ∷ TKRef TKInt
+                    ∷ TKTuple (MoreKTys TKInt (one (TKTuple (one TKInt)))) ∷ []),
+                tt,
+                tt,
+                (_, _, refl, (outer1, refl), refl),
+              ),
+            ),
           ),
         ),
       ),
@@ -96,10 +122,14 @@ module _ (P : KProp)
 -- its types are small, and so is the whole
 example_bound : KBound example
 example_bound = (
-  example_good (KWithin 1099511627776 1600 1099511627776) (omega arith, omega arith, omega arith) (omega arith, omega arith, omega arith) (omega arith, omega arith, omega arith)
-      (omega arith, omega arith, omega arith) (omega arith, omega arith, omega arith) (omega arith, omega arith, omega arith) (omega arith, omega arith, omega arith)
-      (omega arith, omega arith, omega arith) (omega arith, omega arith, omega arith) (omega arith, omega arith, omega arith) (omega arith, omega arith, omega arith)
-      (omega arith, omega arith, omega arith) (omega arith, omega arith, omega arith) (omega arith, omega arith, omega arith) (omega arith, omega arith, omega arith),
+  example_good (KWithin 1099511627776 1600 1099511627776) (omega arith, omega arith, omega arith)
+      (omega arith, omega arith, omega arith) (omega arith, omega arith, omega arith)
+      (omega arith, omega arith, omega arith) (omega arith, omega arith, omega arith)
+      (omega arith, omega arith, omega arith) (omega arith, omega arith, omega arith)
+      (omega arith, omega arith, omega arith) (omega arith, omega arith, omega arith)
+      (omega arith, omega arith, omega arith) (omega arith, omega arith, omega arith)
+      (omega arith, omega arith, omega arith) (omega arith, omega arith, omega arith)
+      (omega arith, omega arith, omega arith) (omega arith, omega arith, omega arith),
   omega arith,
 )
 

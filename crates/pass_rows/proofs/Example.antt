@@ -14,15 +14,18 @@ written_push [] n = refl
 written_push (m ∷ ns) n = ap (λ xs. cnode m ∷ xs) (written_push ns n)
 
 pub later : {ks ls ms : List CNode} {xs ys : List S.CNd} → Adds ks ls xs → Adds ls ms ys → Adds ks ms (xs ++ ys)
-later {ks} {ls} {ms} {xs} {ys} e f = record { same = f.same ∙ ap (λ zs. zs ++ ys) e.same ∙ append_assoc (written ks []) xs ys }
+later {ks} {ls} {ms} {xs} {ys} e f =
+    record { same = f.same ∙ ap (λ zs. zs ++ ys) e.same ∙ append_assoc (written ks []) xs ys }
 
 pub as_these : {ks ls : List CNode} {xs ys : List S.CNd} → xs ≡ ys → Adds ks ls xs → Adds ks ls ys
 as_these {ks} {ls} e h = subst (Adds ks ls) e h
 
 -- its types are within any property that these types have
 module _ (P : CProp)
-    (int : P 0 TCInt) (cell : P 0 (TCRef TCInt)) (code : P 0 (TCCode 0 one_integer)) (pair : P 0 (TCTuple (MoreCTys (TCCode 0 one_integer) one_integer)))
-    (hidden : P 0 hidden_pair) (hid : P 1 (TCVar 0)) (inner : P 1 (TCTuple (MoreCTys (TCCode 0 (MoreCTys (TCVar 0) NoCTys)) (MoreCTys (TCVar 0) NoCTys))))
+    (int : P 0 TCInt) (cell : P 0 (TCRef TCInt)) (code : P 0 (TCCode 0 one_integer))
+    (pair : P 0 (TCTuple (MoreCTys (TCCode 0 one_integer) one_integer)))
+    (hidden : P 0 hidden_pair) (hid : P 1 (TCVar 0))
+    (inner : P 1 (TCTuple (MoreCTys (TCCode 0 (MoreCTys (TCVar 0) NoCTys)) (MoreCTys (TCVar 0) NoCTys))))
     (of_hidden : P 1 (TCCode 0 (MoreCTys (TCVar 0) NoCTys))) where
   done_good : (g : List CTy) → CHasP P 0 g done (TCCode 0 one_integer)
   done_good g = (code, refl, (tt, tt), (int, tt), (int, refl))
@@ -51,7 +54,21 @@ module _ (P : CProp)
       int,
       (
         hidden_pair,
-        (hidden, _, refl, refl, tt, ((omega arith, tt), (omega arith, tt)), int, (pair, _, refl, (TCCode 0 one_integer, one_integer, refl, count_good [], (TCInt, NoCTys, refl, (int, refl), refl)))),
+        (
+          hidden,
+          _,
+          refl,
+          refl,
+          tt,
+          ((omega arith, tt), (omega arith, tt)),
+          int,
+          (
+            pair,
+            _,
+            refl,
+            (TCCode 0 one_integer, one_integer, refl, count_good [], (TCInt, NoCTys, refl, (int, refl), refl)),
+          ),
+        ),
         (
           _,
           (hidden, refl),
@@ -79,7 +96,23 @@ module _ (P : CProp)
 -- its bodies are small, and it has two codes and one choice
 pub example_bound : CBound example
 example_bound = (
-  example_good (CWithin 17592186044416 1604 17592186044416) (omega arith, omega arith, omega arith) (omega arith, omega arith, omega arith) (omega arith, omega arith, omega arith) (omega arith, omega arith, omega arith) (omega arith, omega arith, omega arith) (omega arith, omega arith, omega arith) (omega arith, omega arith, omega arith) (omega arith, omega arith, omega arith),
-  (omega arith, (tt, (tt, (((omega arith, (tt, ((omega arith, tt), (tt, tt)), ((tt, tt), (tt, (tt, tt))))), (tt, tt)), (tt, (tt, (tt, (tt, (tt, tt))))))))),
+  example_good (CWithin 17592186044416 1604 17592186044416) (omega arith, omega arith, omega arith)
+      (omega arith, omega arith, omega arith) (omega arith, omega arith, omega arith)
+      (omega arith, omega arith, omega arith) (omega arith, omega arith, omega arith)
+      (omega arith, omega arith, omega arith) (omega arith, omega arith, omega arith)
+      (omega arith, omega arith, omega arith),
+  (
+    omega arith,
+    (
+      tt,
+      (
+        tt,
+        (
+          ((omega arith, (tt, ((omega arith, tt), (tt, tt)), ((tt, tt), (tt, (tt, tt))))), (tt, tt)),
+          (tt, (tt, (tt, (tt, (tt, tt))))),
+        ),
+      ),
+    ),
+  ),
   omega arith,
 )

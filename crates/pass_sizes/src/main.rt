@@ -1,8 +1,8 @@
 //! The program `pass_sizes SHAPE N PASS`: makes a source term of this shape with about N parts, larger than any text
 //! may be, and takes it through the passes up to PASS: it serves the measuring of the passes one by one. After the last
 //! pass, `generate`, it prints how many declarations the allocated program has and how many instructions the generated
-//! one; else it prints nothing. It ends with 0 where PASS is done, with 1 where memory is wanted or printing fails, with
-//! 2 for other words, and with 3 where the forms of SHAPE are no term of type `int`.
+//! one; else it prints nothing. It ends with 0 where PASS is done, with 1 where memory is wanted or printing fails,
+//! with 2 for other words, and with 3 where the forms of SHAPE are no term of type `int`.
 #![tactic(auto)]
 
 mod counts;

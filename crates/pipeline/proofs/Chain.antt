@@ -1,5 +1,6 @@
 -- What the passes keep, from the source to the machine.
-use Rattle.std.proofs.Common.{◌≡◌, ◌↔◌, ℕ, suc, ℤ, ◌+◌, ◌≤◌, List, [], ◌∷◌, length, refl, sym, ap, ◌∙◌, arith, ◌⊎◌, ⊎_elim}
+use Rattle.std.proofs.Common.{◌≡◌, ◌↔◌, ℕ, suc, ℤ, ◌+◌, ◌≤◌, List, [], ◌∷◌, length, refl, sym, ap, ◌∙◌, arith, ◌⊎◌}
+use Rattle.std.proofs.Common.{⊎_elim}
 use Rattle.f_terms.specs.Tm.{Term}
 use Rattle.term_core.specs.Ends.{End, Halted, Spent, Stuck}
 use Rattle.k_terms.specs.K.{KTm}
@@ -43,7 +44,10 @@ finish_halted Stuck log other i e = absurd (impossible e)
     impossible q = cc
 
 -- what each pass says of its own result, from the source term e to the program P
-module _ (e : Term) (k : KTm) (c : CTm) (ks : HBlks) (t : HTm) (p : AProg) (main : ATm) (P : TProg) (kept : Kept e k) (closed : (n : ℕ) (i : ℤ) → (crun n c).end ≡ Halted i ↔ (krun n k).end ≡ Halted i) (codes : (n : ℕ) → (crun n c).entered ≡ (krun n k).entered) (hoisted : (n : ℕ) → hrun n ks t ≡ crun n c) (allocated : (n : ℕ) → A.meaning p main n ≡ ends [] (hrun n ks t)) (made : Keeps p main P) where
+module _ (e : Term) (k : KTm) (c : CTm) (ks : HBlks) (t : HTm) (p : AProg) (main : ATm) (P : TProg) (kept : Kept e k)
+    (closed : (n : ℕ) (i : ℤ) → (crun n c).end ≡ Halted i ↔ (krun n k).end ≡ Halted i)
+    (codes : (n : ℕ) → (crun n c).entered ≡ (krun n k).entered) (hoisted : (n : ℕ) → hrun n ks t ≡ crun n c)
+    (allocated : (n : ℕ) → A.meaning p main n ≡ ends [] (hrun n ks t)) (made : Keeps p main P) where
   -- the meaning, from the closed calculus to the allocated one
   same : (m : ℕ) → A.meaning p main m ≡ ends [] (crun m c)
   same m = allocated m ∙ ap (ends []) (hoisted m)
@@ -59,14 +63,21 @@ module _ (e : Term) (k : KTm) (c : CTm) (ks : HBlks) (t : HTm) (p : AProg) (main
 
   pub same_meaning : SameMeaning e P
   same_meaning = record {
-    forth = λ n i ev. (let r = kept.forth n i ev in made.forth r.0 i (onto_log (crun r.0 c).entered []) (same r.0 ∙ ap (λ x. finish x (onto_log (crun r.0 c).entered [])) ((closed r.0 i).1 r.1)));
-    back = λ n i h. (let r = made.back n i h in kept.back n i ((closed n i).0 (finish_halted (crun n c).end (onto_log (crun n c).entered []) r.0 i (sym (same n) ∙ r.1))));
+    forth = λ n i ev.
+        (let r = kept.forth n i ev in
+        made.forth r.0 i (onto_log (crun r.0 c).entered [])
+        (same r.0 ∙ ap (λ x. finish x (onto_log (crun r.0 c).entered [])) ((closed r.0 i).1 r.1)));
+    back = λ n i h.
+        (let r = made.back n i h in
+        kept.back n i
+        ((closed n i).0 (finish_halted (crun n c).end (onto_log (crun n c).entered []) r.0 i (sym (same n) ∙ r.1))));
   }
 
   pub seldom : StandsAt → length P.blocks ≡ suc (length p.blocks) + thirds main + all_thirds p.blocks → RunsSeldom e P
   seldom stands long n i ev m s q run block index = ⊎_elim
       (λ (h : FromMain p main block). let x = made.main_places m s q run block index h in omega (arith, x))
-      (λ (h : Found p.blocks (first_third p main) block ⊎ (suc (length p.blocks) + thirds main + all_thirds p.blocks ≤ block)). ⊎_elim
+      (λ (h : Found p.blocks (first_third p main) block
+      ⊎ (suc (length p.blocks) + thirds main + all_thirds p.blocks ≤ block)). ⊎_elim
       (λ (f : Found p.blocks (first_third p main) block).
       let x = made.places m s q run block f.label index f.block f.made in
       let y = entries m f.label in
@@ -78,10 +89,12 @@ module _ (e : Term) (k : KTm) (c : CTm) (ks : HBlks) (t : HTm) (p : AProg) (main
       h)
       (each_block p main block)
 
-  pub entered : StandsAt → length P.blocks ≡ suc (length p.blocks) + thirds main + all_thirds p.blocks → EntersSeldom e P
+  pub entered : StandsAt → length P.blocks ≡ suc (length p.blocks) + thirds main + all_thirds p.blocks →
+      EntersSeldom e P
   entered stands long n i ev m s q run block = ⊎_elim
       (λ (h : FromMain p main block). let x = made.main_entries m s q run block h in omega (arith, x))
-      (λ (h : Found p.blocks (first_third p main) block ⊎ (suc (length p.blocks) + thirds main + all_thirds p.blocks ≤ block)). ⊎_elim
+      (λ (h : Found p.blocks (first_third p main) block
+      ⊎ (suc (length p.blocks) + thirds main + all_thirds p.blocks ≤ block)). ⊎_elim
       (λ (f : Found p.blocks (first_third p main) block).
       let x = made.entries m s q run block f.label f.block f.made in
       let y = entries m f.label in

@@ -1,19 +1,27 @@
 -- What is asked of the types of a program that is spilled, for one whose types are within bounds.
-use Rattle.std.proofs.Common.{◌≡◌, ℕ, suc, ◌+◌, ◌≤◌, nat_lt, Bool, true, false, List, [], ◌∷◌, Some, refl, sym, ap, ◌∙◌, subst, arith, inl, inr}
+use Rattle.std.proofs.Common.{◌≡◌, ℕ, suc, ◌+◌, ◌≤◌, nat_lt, Bool, true, false, List, [], ◌∷◌, Some, refl, sym, ap}
+use Rattle.std.proofs.Common.{◌∙◌, subst, arith, inl, inr}
 use Rattle.std.specs.Prelude.{max, if◌then◌else◌}
 use Rattle.std.proofs.Math.Path.{fun_ext}
 use Rattle.idx_core.specs.Over.{shifted}
-use Rattle.t_types.specs.Tree.{Ty, IntTy, VarTy, CodeTy, ExistsTy, TupleTy, TFile, NoRegs, MoreRegs, TFields, NoFields, MoreFields, over, over_file, over_fields, shift_file, each_fields}
+use Rattle.t_types.specs.Tree.{Ty, IntTy, VarTy, CodeTy, ExistsTy, TupleTy, TFile, NoRegs, MoreRegs, TFields, NoFields}
+use Rattle.t_types.specs.Tree.{MoreFields, over, over_file, over_fields, shift_file, each_fields}
 use Rattle.t_types.specs.Fields.{filled, empty_fields}
 use Rattle.t_types.specs.Fits.{RegTypes, lookup}
 use Rattle.t_types.specs.WellFormed.{max_names}
-use Rattle.t_terms.specs.Tree.{TValue, Plain, Pack, TInstr, Arith, Bnz, Ld, Malloc, Mov, St, Unpack, Jmp, Halt, TSeq, Then, Ends, TBlock, TData, TProg, names_after}
+use Rattle.t_terms.specs.Tree.{TValue, Plain, Pack, TInstr, Arith, Bnz, Ld, Malloc, Mov, St, Unpack, Jmp, Halt, TSeq}
+use Rattle.t_terms.specs.Tree.{Then, Ends, TBlock, TData, TProg, names_after}
 use Rattle.t_rules.specs.Registers.{with_reg, no_types}
 use Rattle.t_rules.specs.Rules.{Has, Typed}
 use Rattle.gen_law.specs.Packs as own
-use Rattle.gen_law.specs.TypesEach.{TWithin, AllTypes, FileTypes, HasEach, InstrEach, SeqEach, BlocksEach, DataEach, HeapEach, TypesEach, treach, treach_file, treach_fields, tbinds, tbinds_file, tbinds_fields}
-use Rattle.spill_law.specs.Spill.{ins, or_int, type_of, type_in, field_type, filled_type, hidden_type, next, FewNames, FewNamesFile, values_of, ValuesFew, SeqFew, BlocksFew, TypesFew}
-use Rattle.spill_law.specs.Reach.{type_reach, regs_reach, fields_reach, types_reach, value_reach, instr_reach, seq_reach, blocks_reach, data_reach, heap_reach, reach, FlatInner, FlatValue, FlatInstr, FlatSeq, FlatBlocks, FlatData, FlatHeap, Flat}
+use Rattle.gen_law.specs.TypesEach.{TWithin, AllTypes, FileTypes, HasEach, InstrEach, SeqEach, BlocksEach, DataEach}
+use Rattle.gen_law.specs.TypesEach.{HeapEach, TypesEach, treach, treach_file, treach_fields, tbinds, tbinds_file}
+use Rattle.gen_law.specs.TypesEach.{tbinds_fields}
+use Rattle.spill_law.specs.Spill.{ins, or_int, type_of, type_in, field_type, filled_type, hidden_type, next, FewNames}
+use Rattle.spill_law.specs.Spill.{FewNamesFile, values_of, ValuesFew, SeqFew, BlocksFew, TypesFew}
+use Rattle.spill_law.specs.Reach.{type_reach, regs_reach, fields_reach, types_reach, value_reach, instr_reach}
+use Rattle.spill_law.specs.Reach.{seq_reach, blocks_reach, data_reach, heap_reach, reach, FlatInner, FlatValue}
+use Rattle.spill_law.specs.Reach.{FlatInstr, FlatSeq, FlatBlocks, FlatData, FlatHeap, Flat}
 use Rattle.spill_law.proofs.Files.{look_same, CaseOf, case_of, ins_less, ins_same, ins_more}
 use Rattle.spill_law.proofs.Computed.{value_is, next_is}
 use Rattle.spill_law.proofs.Kept.{AllIn}
@@ -85,7 +93,8 @@ mutual
   few_file n NoRegs h = tt
   few_file n (MoreRegs r t f) h = (few_type n t (omega (arith, h)), few_file n f (omega (arith, h)))
 
-  few_fields : (n : ℕ) (fs : TFields) → n + tbinds_fields fs ≤ max_names → each_fields (λ d i. Unit {0}) (λ d. d ≤ max_names) n fs
+  few_fields : (n : ℕ) (fs : TFields) → n + tbinds_fields fs ≤ max_names →
+      each_fields (λ d i. Unit {0}) (λ d. d ≤ max_names) n fs
   few_fields n NoFields h = tt
   few_fields n (MoreFields t b fs) h = (few_type n t (omega (arith, h)), few_fields n fs (omega (arith, h)))
 
@@ -112,7 +121,8 @@ mutual
 
   shift_reach_fields : (d : ℕ) (fs : TFields) → treach_fields (over_fields (shifted VarTy 1) d fs) ≡ treach_fields fs
   shift_reach_fields d NoFields = refl
-  shift_reach_fields d (MoreFields t x fs) = let a = shift_reach d t in let b = shift_reach_fields d fs in omega (arith, a, b)
+  shift_reach_fields d (MoreFields t x fs) =
+      let a = shift_reach d t in let b = shift_reach_fields d fs in omega (arith, a, b)
 
 mutual
   shift_binds : (d : ℕ) (t : Ty) → tbinds (over (shifted VarTy 1) d t) ≡ tbinds t
@@ -128,7 +138,8 @@ mutual
 
   shift_binds_fields : (d : ℕ) (fs : TFields) → tbinds_fields (over_fields (shifted VarTy 1) d fs) ≡ tbinds_fields fs
   shift_binds_fields d NoFields = refl
-  shift_binds_fields d (MoreFields t x fs) = let a = shift_binds d t in let b = shift_binds_fields d fs in omega (arith, a, b)
+  shift_binds_fields d (MoreFields t x fs) =
+      let a = shift_binds d t in let b = shift_binds_fields d fs in omega (arith, a, b)
 
 all_ins : (Q : Ty → Type 0) (r : ℕ) (t : Ty) (x : TFile) → Q t → AllIn Q x → AllIn Q (ins r t x)
 all_ins Q r t NoRegs q h = (q, tt)
@@ -154,7 +165,9 @@ module _ (N R B : ℕ) (small : N + B ≤ max_names) where
 
   all_shift : (x : TFile) → AllIn Ok x → AllIn Ok (shift_file 1 0 x)
   all_shift NoRegs h = tt
-  all_shift (MoreRegs r t x) h = let a = shift_reach 0 t in let b = shift_binds 0 t in ((omega (arith, a, h.0.0), omega (arith, b, h.0.1)), all_shift x h.1)
+  all_shift (MoreRegs r t x) h =
+      let a = shift_reach 0 t in
+      let b = shift_binds 0 t in ((omega (arith, a, h.0.0), omega (arith, b, h.0.1)), all_shift x h.1)
 
   few_all : (n : ℕ) (x : TFile) → n ≤ N → AllIn Ok x → FewNamesFile n x
   few_all n NoRegs le h = tt
@@ -191,13 +204,16 @@ module _ (N R B : ℕ) (small : N + B ≤ max_names) where
         omega (arith, a, b, c, same, h.1.2.1, h.1.3.1)
 
     -- a value's type, computed
-    computed : (n : ℕ) (x : TFile) (v : TValue) (t : Ty) → HasEach (TWithin N R B) P n (lookup x) v t → type_of P x v ≡ t
+    computed : (n : ℕ) (x : TFile) (v : TValue) (t : Ty) → HasEach (TWithin N R B) P n (lookup x) v t →
+        type_of P x v ≡ t
     computed n x v t h = value_is P n x v t (value_has n (lookup x) v t h)
 
-    value_few : (n : ℕ) (x : TFile) (v : TValue) (t : Ty) → HasEach (TWithin N R B) P n (lookup x) v t → FewNames n (type_of P x v)
+    value_few : (n : ℕ) (x : TFile) (v : TValue) (t : Ty) → HasEach (TWithin N R B) P n (lookup x) v t →
+        FewNames n (type_of P x v)
     value_few n x v t h = subst (FewNames n) (sym (computed n x v t h)) (few_of n t (value_type n (lookup x) v t h))
 
-    value_most : (n : ℕ) (x : TFile) (v : TValue) (t : Ty) → HasEach (TWithin N R B) P n (lookup x) v t → max (value_reach v) (type_reach (type_of P x v)) ≤ R
+    value_most : (n : ℕ) (x : TFile) (v : TValue) (t : Ty) → HasEach (TWithin N R B) P n (lookup x) v t →
+        max (value_reach v) (type_reach (type_of P x v)) ≤ R
     value_most n x v t h =
         let a = written n (lookup x) v t h in
         let b = ap type_reach (computed n x v t h) in
@@ -221,39 +237,75 @@ module _ (N R B : ℕ) (small : N + B ≤ max_names) where
     some_same : (t u : Ty) → Some t ≡ Some u → t ≡ u
     some_same t u e = cc
 
-    loaded : (n : ℕ) (x : TFile) (rd rs i : ℕ) (t : Ty) → Typed P n (lookup x) (Ld rd rs i) (with_reg (lookup x) rd t) → field_type (or_int (lookup x rs)) i ≡ t
+    loaded : (n : ℕ) (x : TFile) (rd rs i : ℕ) (t : Ty) →
+        Typed P n (lookup x) (Ld rd rs i) (with_reg (lookup x) rd t) → field_type (or_int (lookup x rs)) i ≡ t
     loaded n x rd rs i t k =
-        let same : Some k.1 ≡ Some t = sym (look_same (lookup x) rd k.1) ∙ ap (λ g. g rd) (sym k.4) ∙ look_same (lookup x) rd t in
+        let same : Some k.1 ≡ Some t =
+        sym (look_same (lookup x) rd k.1) ∙ ap (λ g. g rd) (sym k.4) ∙ look_same (lookup x) rd t in
         ap (λ o. field_type (or_int o) i) k.2 ∙ ap type_in k.3 ∙ some_same k.1 t same
 
     goes : (i : TInstr) (n : ℕ) (x : TFile) → InstrEach (TWithin N R B) P n (lookup x) i → AllIn Ok x → Goes n x i
     goes (Arith op rd rs v) n x k h =
         let q = value_type n (lookup x) v IntTy k in
-        record { few = (value_few n x v IntTy k, tt); most = value_most n x v IntTy k; known = all_ins Ok rd IntTy x int_ok h; names = q.0 }
+        record {
+          few = (value_few n x v IntTy k, tt);
+          most = value_most n x v IntTy k;
+          known = all_ins Ok rd IntTy x int_ok h;
+          names = q.0;
+        }
     goes (Bnz r v) n x k h =
         let q = value_type n (lookup x) v (CodeTy 0 k.0) k.1 in
-        record { few = (value_few n x v (CodeTy 0 k.0) k.1, tt); most = value_most n x v (CodeTy 0 k.0) k.1; known = h; names = q.0 }
+        record {
+          few = (value_few n x v (CodeTy 0 k.0) k.1, tt);
+          most = value_most n x v (CodeTy 0 k.0) k.1;
+          known = h;
+          names = q.0;
+        }
     goes (Ld rd rs i) n x k h =
-        record { few = tt; most = omega arith; known = with_type n x rd _ k.0 (loaded n x rd rs i k.0 k.1) k.2 h; names = k.2.0 }
+        record {
+          few = tt;
+          most = omega arith;
+          known = with_type n x rd _ k.0 (loaded n x rd rs i k.0 k.1) k.2 h;
+          names = k.2.0;
+        }
     goes (Malloc rd ts) n x k h =
-        record { few = tt; most = types_in n ts k.0; known = with_type n x rd _ (TupleTy (empty_fields ts)) refl k.1 h; names = k.1.0 }
+        record {
+          few = tt;
+          most = types_in n ts k.0;
+          known = with_type n x rd _ (TupleTy (empty_fields ts)) refl k.1 h;
+          names = k.1.0;
+        }
     goes (Mov rd v) n x k h =
         let q = value_type n (lookup x) v k.0 k.1 in
-        record { few = (value_few n x v k.0 k.1, tt); most = value_most n x v k.0 k.1; known = with_type n x rd _ k.0 (computed n x v k.0 k.1) q h; names = q.0 }
+        record {
+          few = (value_few n x v k.0 k.1, tt);
+          most = value_most n x v k.0 k.1;
+          known = with_type n x rd _ k.0 (computed n x v k.0 k.1) q h;
+          names = q.0;
+        }
     goes (St rd i rs) n x k h =
-        record { few = tt; most = omega arith; known = with_type n x rd _ (TupleTy (filled k.0 i)) (ap (λ o. filled_type (or_int o) i) k.1) k.2 h; names = k.2.0 }
+        record {
+          few = tt;
+          most = omega arith;
+          known = with_type n x rd _ (TupleTy (filled k.0 i)) (ap (λ o. filled_type (or_int o) i) k.1) k.2 h;
+          names =
+              k.2.0;
+        }
     goes (Unpack rd v) n x k h =
         record {
           few = (value_few n x v (ExistsTy k.0) k.1, tt);
           most = value_most n x v (ExistsTy k.0) k.1;
-          known = with_type (suc n) (shift_file 1 0 x) rd _ k.0 (ap hidden_type (computed n x v (ExistsTy k.0) k.1)) k.2 (all_shift x h);
+          known = with_type (suc n) (shift_file 1 0 x) rd _ k.0 (ap hidden_type (computed n x v (ExistsTy k.0) k.1))
+              k.2 (all_shift x h);
           names = omega (arith, k.2.0);
         }
 
-    seq_in : (c : TSeq) (n : ℕ) (x : TFile) → SeqEach (TWithin N R B) P n (lookup x) c → AllIn Ok x → SeqFew P n x c × (seq_reach P x c ≤ R)
+    seq_in : (c : TSeq) (n : ℕ) (x : TFile) → SeqEach (TWithin N R B) P n (lookup x) c → AllIn Ok x →
+        SeqFew P n x c × (seq_reach P x c ≤ R)
     seq_in (Then i c) n x k h =
         let g = goes i n x k.2 h in
-        let rest = seq_in c (names_after i n) (next P x i) (subst (λ f. SeqEach (TWithin N R B) P (names_after i n) f c) (next_is P n x i k.0 k.1) k.3) g.known in
+        let rest = seq_in c (names_after i n) (next P x i)
+        (subst (λ f. SeqEach (TWithin N R B) P (names_after i n) f c) (next_is P n x i k.0 k.1) k.3) g.known in
         let m = reach_all (next P x i) g.known in
         ((g.few, few_all (names_after i n) (next P x i) g.names g.known, rest.0), omega (arith, g.most, m, rest.1))
     seq_in (Ends (Jmp v)) n x k h = (value_few n x v (CodeTy 0 k.1.0) k.1.1, value_most n x v (CodeTy 0 k.1.0) k.1.1)
@@ -271,7 +323,8 @@ module _ (N R B : ℕ) (small : N + B ≤ max_names) where
     data_in : (xs : TData) → DataEach (TWithin N R B) P xs → data_reach P xs ≤ R
     data_in [] h = omega arith
     data_in (x ∷ xs) h =
-        let v = value_most 0 NoRegs x.value h.0.1.0 (subst (λ g. HasEach (TWithin N R B) P 0 g x.value h.0.1.0) none_known h.0.1.1) in
+        let v = value_most 0 NoRegs x.value h.0.1.0
+        (subst (λ g. HasEach (TWithin N R B) P 0 g x.value h.0.1.0) none_known h.0.1.1) in
         let t = reach_most x.ty in
         let r = data_in xs h.1 in
         omega (arith, v, t, r, h.0.0.1)

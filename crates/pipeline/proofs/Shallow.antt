@@ -1,11 +1,17 @@
 -- The text of a program nests as deep as its types, and two or three constructs more.
 use Rattle.std.proofs.Common.{◌≡◌, ℕ, ◌+◌, ◌≤◌, List, [], ◌∷◌, ap, sym, arith}
-use Rattle.t_types.specs.Tree.{Ty, IntTy, VarTy, CodeTy, ExistsTy, TupleTy, TFile, NoRegs, MoreRegs, TFields, NoFields, MoreFields}
+use Rattle.t_types.specs.Tree.{Ty, IntTy, VarTy, CodeTy, ExistsTy, TupleTy, TFile, NoRegs, MoreRegs, TFields, NoFields}
+use Rattle.t_types.specs.Tree.{MoreFields}
 use Rattle.t_types.specs.Fits.{RegTypes, lookup}
-use Rattle.t_terms.specs.Tree.{TValue, Plain, Pack, TInstr, Arith, Bnz, Ld, Malloc, Mov, St, Unpack, TEnd, Jmp, Halt, TSeq, Then, Ends, TBlock, TData, TProg, names_after}
-use Rattle.t_terms.specs.Nesting.{type_nesting, regs_nesting, fields_nesting, types_nesting, value_nesting, instr_nesting, end_nesting, seq_nesting, blocks_nesting, data_nesting, heap_nesting, nesting}
-use Rattle.gen_law.specs.Packs.{NoPack, FlatValue, FlatInstr, FlatEnd, FlatSeq, FlatBlocks, FlatData, FlatHeap, FlatProgram}
-use Rattle.gen_law.specs.TypesEach.{TWithin, AllTypes, FileTypes, HasEach, InstrEach, EndEach, SeqEach, BlocksEach, DataEach, HeapEach, TypesEach, treach, treach_file, treach_fields}
+use Rattle.t_terms.specs.Tree.{TValue, Plain, Pack, TInstr, Arith, Bnz, Ld, Malloc, Mov, St, Unpack, TEnd, Jmp, Halt}
+use Rattle.t_terms.specs.Tree.{TSeq, Then, Ends, TBlock, TData, TProg, names_after}
+use Rattle.t_terms.specs.Nesting.{type_nesting, regs_nesting, fields_nesting, types_nesting, value_nesting}
+use Rattle.t_terms.specs.Nesting.{instr_nesting, end_nesting, seq_nesting, blocks_nesting, data_nesting, heap_nesting}
+use Rattle.t_terms.specs.Nesting.{nesting}
+use Rattle.gen_law.specs.Packs.{NoPack, FlatValue, FlatInstr, FlatEnd, FlatSeq, FlatBlocks, FlatData, FlatHeap}
+use Rattle.gen_law.specs.Packs.{FlatProgram}
+use Rattle.gen_law.specs.TypesEach.{TWithin, AllTypes, FileTypes, HasEach, InstrEach, EndEach, SeqEach, BlocksEach}
+use Rattle.gen_law.specs.TypesEach.{DataEach, HeapEach, TypesEach, treach, treach_file, treach_fields}
 
 mutual
   of_type : (t : Ty) → type_nesting t ≤ treach t
@@ -33,12 +39,14 @@ module _ (N R B : ℕ) where
   of_regs n (MoreRegs r t f) h = let x = of_type t in let y = of_regs n f h.1 in omega (arith, x, y, h.0.1)
 
   module _ (P : TProg) where
-    of_plain : (n : ℕ) (g : RegTypes) (v : TValue) (t : Ty) → NoPack v → HasEach (TWithin N R B) P n g v t → value_nesting v ≤ R + 1
+    of_plain : (n : ℕ) (g : RegTypes) (v : TValue) (t : Ty) → NoPack v → HasEach (TWithin N R B) P n g v t →
+        value_nesting v ≤ R + 1
     of_plain n g (Plain b []) t f h = omega arith
     of_plain n g (Plain b (u ∷ us)) t f h = let x = of_types n (u ∷ us) h.1.4 in omega (arith, x)
     of_plain n g (Pack h v s) t f e = absurd f
 
-    of_value : (n : ℕ) (g : RegTypes) (v : TValue) (t : Ty) → FlatValue v → HasEach (TWithin N R B) P n g v t → value_nesting v ≤ R + 2
+    of_value : (n : ℕ) (g : RegTypes) (v : TValue) (t : Ty) → FlatValue v → HasEach (TWithin N R B) P n g v t →
+        value_nesting v ≤ R + 2
     of_value n g (Plain b ts) t f h = let x = of_plain n g (Plain b ts) t tt h in omega (arith, x)
     of_value n g (Pack u v s) t f h =
         let x = of_plain n g v h.1.0 f h.1.1 in
@@ -47,7 +55,8 @@ module _ (N R B : ℕ) where
         let same : type_nesting s ≡ type_nesting t = ap type_nesting (sym h.0.5) in
         omega (arith, x, y, z, same, h.1.2.1, h.1.3.1)
 
-    of_instr : (n : ℕ) (g : RegTypes) (i : TInstr) → FlatInstr i → InstrEach (TWithin N R B) P n g i → instr_nesting i ≤ R + 2
+    of_instr : (n : ℕ) (g : RegTypes) (i : TInstr) → FlatInstr i → InstrEach (TWithin N R B) P n g i →
+        instr_nesting i ≤ R + 2
     of_instr n g (Arith op rd rs v) f h = of_value n g v IntTy f h
     of_instr n g (Bnz r v) f h = of_value n g v (CodeTy 0 h.0) f h.1
     of_instr n g (Ld rd rs i) f h = omega arith
@@ -61,7 +70,8 @@ module _ (N R B : ℕ) where
     of_end n g Halt f h = omega arith
 
     of_seq : (c : TSeq) (n : ℕ) (g : RegTypes) → FlatSeq c → SeqEach (TWithin N R B) P n g c → seq_nesting c ≤ R + 2
-    of_seq (Then i rest) n g f h = let x = of_instr n g i f.0 h.2 in let y = of_seq rest (names_after i n) h.0 f.1 h.3 in omega (arith, x, y)
+    of_seq (Then i rest) n g f h =
+        let x = of_instr n g i f.0 h.2 in let y = of_seq rest (names_after i n) h.0 f.1 h.3 in omega (arith, x, y)
     of_seq (Ends e) n g f h = of_end n g e f h.1
 
     of_blocks : (bs : List TBlock) → FlatBlocks bs → BlocksEach (TWithin N R B) P bs → blocks_nesting bs ≤ R + 2

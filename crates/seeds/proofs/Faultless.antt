@@ -9,7 +9,8 @@ use Rattle.f_parser.specs.Text.{NoFaultWhereRead, OneTerm}
 use Rattle.seeds.specs.Source.{source}
 use Rattle.seeds.specs.Laws.{SourcesArePrograms, SourcesHaveNoFault}
 
-pub faultless : SourcesArePrograms → NoFaultWhereRead → OneTerm → PassesWhereTyped → NoFaultBesideAPass → SourcesHaveNoFault
+pub faultless : SourcesArePrograms → NoFaultWhereRead → OneTerm → PassesWhereTyped → NoFaultBesideAPass →
+    SourcesHaveNoFault
 faultless programs reads one typing beside n =
     let p = programs n in (
       λ code span fault. reads (source n) p.0 code span p.1 fault,

@@ -1,12 +1,16 @@
--- What the items of a source mean: each is a term of type int, of few nodes, which evaluates to an integer within few turns.
-use Rattle.std.proofs.Common.{◌≡◌, ◌≤◌, ◌<◌, ℕ, ℤ, zero, suc, ◌+◌, ◌-ℤ◌, pos, Bool, true, false, cond, refl, ◌∙◌, ap, subst, arith, lit<, lit≤}
+-- What the items of a source mean: each is a term of type int, of few nodes, which evaluates to an integer within few
+-- turns.
+use Rattle.std.proofs.Common.{◌≡◌, ◌≤◌, ◌<◌, ℕ, ℤ, zero, suc, ◌+◌, ◌-ℤ◌, pos, Bool, true, false, cond, refl, ◌∙◌, ap}
+use Rattle.std.proofs.Common.{subst, arith, lit<, lit≤}
 use Rattle.std.specs.Int.{int_wrap, w64}
 use Rattle.std.proofs.lemmas.Bool.Decides.{nat_tests}
 use Rattle.std.proofs.lemmas.Int.{ints, int_wrap_fits}
 use Rattle.idx_core.specs.declared.arith.Op.TheVariants.{Add, Sub, Mul}
 use Rattle.idx_core.specs.Arith.{compute, is_zero}
 use Rattle.f_terms.specs.Ty.{TInt, TVar, TArrow, NoTys, MoreTys, TTuple}
-use Rattle.f_terms.specs.Tm.{Spn, Tm, SVar, SNum, SFix, SApp, SGen, SInst, STuple, SProj, SArith, SIf0, NoTms, MoreTms, plain, Term, MVar, MNum, MFix, MApp, MGen, MInst, MTuple, MProj, MArith, MIf0, NoTerms, MoreTerms}
+use Rattle.f_terms.specs.Tm.{Spn, Tm, SVar, SNum, SFix, SApp, SGen, SInst, STuple, SProj, SArith, SIf0, NoTms, MoreTms}
+use Rattle.f_terms.specs.Tm.{plain, Term, MVar, MNum, MFix, MApp, MGen, MInst, MTuple, MProj, MArith, MIf0, NoTerms}
+use Rattle.f_terms.specs.Tm.{MoreTerms}
 use Rattle.f_terms.specs.Limits.{nodes}
 use Rattle.f_terms.specs.Typing.{HasType}
 use Rattle.f_terms.specs.Faults.{Passes}
@@ -27,7 +31,10 @@ twice = MApp (MVar 1) (MApp (MVar 1) (MVar 0))
 abbrev pub item_term : Kind → ℕ → Term
 item_term Number c = MNum (pos c)
 item_term Factorial c = MApp (MFix TInt TInt counted) (MNum (pos c))
-item_term Field c = MProj 2 (MTuple (MoreTerms (MNum (pos c)) (MoreTerms (MArith Add (MNum (pos c)) (MNum (pos 1))) (MoreTerms (MTuple NoTerms) NoTerms))))
+item_term Field c =
+    MProj 2 (MTuple
+    (MoreTerms (MNum (pos c))
+    (MoreTerms (MArith Add (MNum (pos c)) (MNum (pos 1))) (MoreTerms (MTuple NoTerms) NoTerms))))
 item_term Identity c = MApp (MInst (MGen (MFix (TVar 0) (TVar 0) (MVar 0))) TInt) (MNum (pos c))
 item_term Branch c = MIf0 (MNum (pos c)) (MNum (pos 1)) (MNum (pos 2))
 item_term Twice c =
@@ -40,9 +47,14 @@ at = (0, 0)
 abbrev placed : Kind → ℕ → Tm
 placed Number c = SNum at (pos c)
 placed Factorial c =
-    SApp at (SFix at TInt TInt (SIf0 at (SVar at 0) (SNum at (pos 1)) (SArith at Mul (SVar at 0) (SApp at (SVar at 1) (SArith at Sub (SVar at 0) (SNum at (pos 1)))))))
+    SApp at (SFix at TInt TInt
+    (SIf0 at (SVar at 0) (SNum at (pos 1))
+    (SArith at Mul (SVar at 0) (SApp at (SVar at 1) (SArith at Sub (SVar at 0) (SNum at (pos 1)))))))
     (SNum at (pos c))
-placed Field c = SProj at 2 (STuple at (MoreTms (SNum at (pos c)) (MoreTms (SArith at Add (SNum at (pos c)) (SNum at (pos 1))) (MoreTms (STuple at NoTms) NoTms))))
+placed Field c =
+    SProj at 2 (STuple at
+    (MoreTms (SNum at (pos c))
+    (MoreTms (SArith at Add (SNum at (pos c)) (SNum at (pos 1))) (MoreTms (STuple at NoTms) NoTms))))
 placed Identity c = SApp at (SInst at (SGen at (SFix at (TVar 0) (TVar 0) (SVar at 0))) TInt) (SNum at (pos c))
 placed Branch c = SIf0 at (SNum at (pos c)) (SNum at (pos 1)) (SNum at (pos 2))
 placed Twice c =
@@ -68,7 +80,13 @@ passes Field c = (
   (
     _,
     refl,
-    (TInt, _, refl, refl, (TInt, _, refl, (refl, refl, refl), (TTuple NoTys, _, refl, (NoTys, refl, refl, (lit≤ tt, lit≤ tt)), refl))),
+    (
+      TInt,
+      _,
+      refl,
+      refl,
+      (TInt, _, refl, (refl, refl, refl), (TTuple NoTys, _, refl, (NoTys, refl, refl, (lit≤ tt, lit≤ tt)), refl)),
+    ),
     (lit≤ tt, lit≤ tt),
   ),
 )
@@ -111,8 +129,8 @@ turns Identity c = 2
 turns Twice c = 3
 turns _ c = 0
 
--- the term has the type int within the limits on types and so many nodes, and uses these turns, whatever is left after them,
--- with any store, which stays as it is; it has no cells
+-- the term has the type int within the limits on types and so many nodes, and uses these turns, whatever is left after
+-- them, with any store, which stays as it is; it has no cells
 pub record Given (e : Term) (used most : ℕ) : Type 0 where
   pub typed : HasType e 0 NoTys TInt
   pub limits : KeepsLimits e 0 NoTys
@@ -130,10 +148,12 @@ abbrev around : ℕ → Vals
 around c = And (VInt (pos c)) (And (VFun Empty counted) Empty)
 
 -- the body of the factorial is entered with c
-entered : KeepsRules → (c n : ℕ) (st : Vals) → apply turn (VFun Empty counted) (VInt (pos c)) (suc c + n) st ≡ eval_by turn (around c) counted (c + n) st
+entered : KeepsRules → (c n : ℕ) (st : Vals) → apply turn (VFun Empty counted) (VInt (pos c)) (suc c + n) st
+    ≡ eval_by turn (around c) counted (c + n) st
 entered rules c n st =
     let same : suc (c + n) ≡ suc c + n = omega arith in
-    subst (λ (m : ℕ). turn (around c) counted m st ≡ eval_by turn (around c) counted (c + n) st) same (rules (c + n) st (around c) counted)
+    subst (λ (m : ℕ). turn (around c) counted m st ≡ eval_by turn (around c) counted (c + n) st) same
+    (rules (c + n) st (around c) counted)
 
 abbrev then_multiply : ℤ → Result → Result
 then_multiply i r = then_eval r (λ w n st. operate Mul (VInt i) w n st)
@@ -141,23 +161,35 @@ then_multiply i r = then_eval r (λ w n st. operate Mul (VInt i) w n st)
 not_zero : (c : ℕ) → is_zero (pos (suc c)) ≡ false
 not_zero c = grind (arith, ints, nat_tests)
 
-counts : KeepsRules → (c n : ℕ) (st : Vals) → c < 20 → apply turn (VFun Empty counted) (VInt (pos c)) (suc c + n) st ≡ Gives (VInt (product_to c)) n st
+counts : KeepsRules → (c n : ℕ) (st : Vals) → c < 20 → apply turn (VFun Empty counted) (VInt (pos c)) (suc c + n) st
+    ≡ Gives (VInt (product_to c)) n st
 counts rules zero n st h = entered rules 0 n st ∙ ap (λ (m : ℕ). Gives (VInt (pos 1)) m st) (omega arith)
 counts rules (suc c) n st h =
-    let smaller : apply turn (VFun Empty counted) (VInt (compute Sub (pos (suc c)) (pos 1))) (suc c + n) st ≡ Gives (VInt (product_to c)) n st =
-    ap (λ (z : ℤ). apply turn (VFun Empty counted) (VInt z) (suc c + n) st) (one_less c (omega arith)) ∙ counts rules c n st (omega arith) in
-    let chosen : eval_by turn (around (suc c)) counted (suc c + n) st ≡ then_multiply (pos (suc c)) (apply turn (VFun Empty counted) (VInt (compute Sub (pos (suc c)) (pos 1))) (suc c + n) st) =
-    ap (λ (b : Bool). cond b (Gives (VInt (pos 1)) (suc c + n) st) (then_multiply (pos (suc c)) (apply turn (VFun Empty counted) (VInt (compute Sub (pos (suc c)) (pos 1))) (suc c + n) st))) (not_zero c) in
+    let smaller : apply turn (VFun Empty counted) (VInt (compute Sub (pos (suc c)) (pos 1))) (suc c + n) st
+    ≡ Gives (VInt (product_to c)) n st =
+    ap (λ (z : ℤ). apply turn (VFun Empty counted) (VInt z) (suc c + n) st) (one_less c (omega arith))
+    ∙ counts rules c n st (omega arith) in
+    let chosen : eval_by turn (around (suc c)) counted (suc c + n) st
+    ≡ then_multiply (pos (suc c))
+    (apply turn (VFun Empty counted) (VInt (compute Sub (pos (suc c)) (pos 1))) (suc c + n) st) =
+    ap (λ (b : Bool). cond b (Gives (VInt (pos 1)) (suc c + n) st)
+    (then_multiply (pos (suc c))
+    (apply turn (VFun Empty counted) (VInt (compute Sub (pos (suc c)) (pos 1))) (suc c + n) st))) (not_zero c) in
     entered rules (suc c) n st ∙ (chosen ∙ ap (λ (r : Result). then_multiply (pos (suc c)) r) smaller)
 
-branch : (b : Bool) (m : ℕ) (st : Vals) → cond b (Gives (VInt (pos 1)) m st) (Gives (VInt (pos 2)) m st) ≡ Gives (VInt (cond b (pos 1) (pos 2))) m st
+branch : (b : Bool) (m : ℕ) (st : Vals) → cond b (Gives (VInt (pos 1)) m st) (Gives (VInt (pos 2)) m st)
+    ≡ Gives (VInt (cond b (pos 1) (pos 2))) m st
 branch true m st = refl
 branch false m st = refl
 
-evaluates : KeepsRules → (kind : Kind) (c : ℕ) → c < 20 → (i : ℤ) × ((n : ℕ) (st : Vals) → eval_by turn Empty (item_term kind c) (turns kind c + n) st ≡ Gives (VInt i) n st)
+evaluates : KeepsRules → (kind : Kind) (c : ℕ) → c < 20 →
+    (i : ℤ) × ((n : ℕ) (st : Vals) → eval_by turn Empty (item_term kind c) (turns kind c + n) st ≡ Gives (VInt i) n st)
 evaluates rules Number c h = (pos c, λ n st. ap (λ (m : ℕ). Gives (VInt (pos c)) m st) (omega arith))
 evaluates rules Factorial c h = (product_to c, λ n st. counts rules c n st h)
-evaluates rules Field c h = (compute Add (pos c) (pos 1), λ n st. ap (λ (m : ℕ). Gives (VInt (compute Add (pos c) (pos 1))) m st) (omega arith))
+evaluates rules Field c h = (
+  compute Add (pos c) (pos 1),
+  λ n st. ap (λ (m : ℕ). Gives (VInt (compute Add (pos c) (pos 1))) m st) (omega arith),
+)
 evaluates rules Identity c h = (
   pos c,
   λ n st.
@@ -166,13 +198,15 @@ evaluates rules Identity c h = (
 )
 evaluates rules Branch c h = (
   cond (is_zero (pos c)) (pos 1) (pos 2),
-  λ n st. branch (is_zero (pos c)) (0 + n) st ∙ ap (λ (m : ℕ). Gives (VInt (cond (is_zero (pos c)) (pos 1) (pos 2))) m st) (omega arith),
+  λ n st. branch (is_zero (pos c)) (0 + n) st
+      ∙ ap (λ (m : ℕ). Gives (VInt (cond (is_zero (pos c)) (pos 1) (pos 2))) m st) (omega arith),
 )
 evaluates rules Twice c h = (
   compute Mul (compute Mul (pos c) (pos 3)) (pos 3),
   λ n st.
       let same : suc (suc (suc n)) ≡ 3 + n = omega arith in
-      subst (λ (m : ℕ). eval_by turn Empty (item_term Twice c) m st ≡ Gives (VInt (compute Mul (compute Mul (pos c) (pos 3)) (pos 3))) n st) same refl,
+      subst (λ (m : ℕ). eval_by turn Empty (item_term Twice c) m st
+      ≡ Gives (VInt (compute Mul (compute Mul (pos c) (pos 3)) (pos 3))) n st) same refl,
 )
 
 no_cells : (kind : Kind) (c : ℕ) → has_cells (item_term kind c) ≡ false
@@ -183,8 +217,17 @@ no_cells Identity c = refl
 no_cells Branch c = refl
 no_cells Twice c = refl
 
-pub item_given : PassesWhereTyped → KeepsRules → (kind : Kind) (c : ℕ) → c < 20 → Given (item_term kind c) (turns kind c) 13
+pub item_given : PassesWhereTyped → KeepsRules → (kind : Kind) (c : ℕ) → c < 20 →
+    Given (item_term kind c) (turns kind c) 13
 item_given typing rules kind c h =
-    let typed = subst (λ (e : Term). HasType e 0 NoTys TInt × KeepsLimits e 0 NoTys) (is_item kind c) ((typing (placed kind c) 0 NoTys TInt tt).0 (passes kind c)) in
+    let typed = subst (λ (e : Term). HasType e 0 NoTys TInt × KeepsLimits e 0 NoTys) (is_item kind c)
+    ((typing (placed kind c) 0 NoTys TInt tt).0 (passes kind c)) in
     let v = evaluates rules kind c h in
-    record { typed = typed.0; limits = typed.1; few = few_nodes kind c; value = v.0; gives = v.1; cell_free = no_cells kind c }
+    record {
+      typed = typed.0;
+      limits = typed.1;
+      few = few_nodes kind c;
+      value = v.0;
+      gives = v.1;
+      cell_free = no_cells kind c;
+    }

@@ -1,5 +1,6 @@
 -- The decimal text of a number is one token.
-use Rattle.std.proofs.Common.{◌≡◌, ◌≤◌, ◌<◌, ◌^◌, ℕ, ◌+◌, List, [], ◌∷◌, ◌++◌, length, true, false, ◌==◌, refl, ap, ◌∙◌, subst, arith, pos, decimal}
+use Rattle.std.proofs.Common.{◌≡◌, ◌≤◌, ◌<◌, ◌^◌, ℕ, ◌+◌, List, [], ◌∷◌, ◌++◌, length, true, false, ◌==◌, refl, ap}
+use Rattle.std.proofs.Common.{◌∙◌, subst, arith, pos, decimal}
 use Rattle.std.specs.List.{prefix_len, list_all}
 use Rattle.std.proofs.lemmas.Bool.{and_parts}
 use Rattle.std.proofs.lemmas.Bool.Decides.{nat_tests}
@@ -53,17 +54,21 @@ pub record Numeral (c : ℕ) : Type 0 where
 taken : (c : ℕ) (s : List ℕ) → decimal c ≡ s → 0 < length s → list_all digit s ≡ true → value s ≡ c → Numeral c
 taken c [] e h a v = absurd (omega arith)
 taken c (d ∷ ds) e h a v =
-    let p = and_parts (digit d) (list_all digit ds) a in record { d = d; ds = ds; text = e; spelled = record { first = p.0; others = p.1; is = v } }
+    let p = and_parts (digit d) (list_all digit ds) a in
+    record { d = d; ds = ds; text = e; spelled = record { first = p.0; others = p.1; is = v } }
 
 pub numeral : (c : ℕ) → c < 20 → Numeral c
 numeral c h =
     let low : c < 2 ^ 64 = omega arith in
-    taken c (decimal c) refl (decimal_nonempty c low) (digits_decimal numerals c low) (digits_value-decimal numerals c low)
+    taken c (decimal c) refl (decimal_nonempty c low) (digits_decimal numerals c low)
+    (digits_value-decimal numerals c low)
 
-run_digits : (ds : List ℕ) (b : ℕ) (r : List ℕ) → AreDigits ds → digit b ≡ false → prefix_len digit (ds ++ b ∷ r) ≡ length ds
+run_digits : (ds : List ℕ) (b : ℕ) (r : List ℕ) → AreDigits ds → digit b ≡ false →
+    prefix_len digit (ds ++ b ∷ r) ≡ length ds
 run_digits [] b r h s = rw s refl
 run_digits (d ∷ ds) b r h s =
-    let p = and_parts (digit d) (list_all digit ds) h in rw p.0 (ap (λ n. 1 + n) (run_digits ds b r p.1 s) ∙ omega arith)
+    let p = and_parts (digit d) (list_all digit ds) h in
+    rw p.0 (ap (λ n. 1 + n) (run_digits ds b r p.1 s) ∙ omega arith)
 
 no_dashes : (b : ℕ) (s : List ℕ) → (b == 45) ≡ false → at_dashes (b ∷ s) ≡ false
 no_dashes b [] e = refl
@@ -81,14 +86,17 @@ no_letter d h = let e = digit_high d h in grind (arith, nat_tests)
 number_item : (c d : ℕ) (ds : List ℕ) (b : ℕ) (r : List ℕ) → Spelled c d ds → digit b ≡ false →
     item source (d ∷ (ds ++ b ∷ r)) ≡ Spelling (k.Plain (pos c)) (length (d ∷ ds))
 number_item c d ds b r h s =
-    let n : 1 + prefix_len digit (ds ++ b ∷ r) ≡ length (d ∷ ds) = ap (λ n. 1 + n) (run_digits ds b r h.others s) ∙ omega arith in
+    let n : 1 + prefix_len digit (ds ++ b ∷ r) ≡ length (d ∷ ds) =
+    ap (λ n. 1 + n) (run_digits ds b r h.others s) ∙ omega arith in
     let p : piece (d ∷ (ds ++ b ∷ r)) ≡ PPlain (1 + prefix_len digit (ds ++ b ∷ r)) =
     rw (no_space d h.first, no_dashes d (ds ++ b ∷ r) (no_dash d h.first), no_letter d h.first, h.first) refl in
     ap (λ (x : Piece). of_piece source (d ∷ (ds ++ b ∷ r)) x) (p ∙ ap PPlain n) ∙
-    (ap (λ u. Spelling (k.Plain (pos (value u))) (length (d ∷ ds))) (take-append_seam (d ∷ ds) (b ∷ r)) ∙ ap (λ v. Spelling (k.Plain (pos v)) (length (d ∷ ds))) h.is)
+    (ap (λ u. Spelling (k.Plain (pos (value u))) (length (d ∷ ds))) (take-append_seam (d ∷ ds) (b ∷ r))
+    ∙ ap (λ v. Spelling (k.Plain (pos v)) (length (d ∷ ds))) h.is)
 
 -- the digits of c before a byte that is no digit are one token
 pub number_next : (c d : ℕ) (ds : List ℕ) (b : ℕ) (r : List ℕ) → Spelled c d ds → digit b ≡ false →
     Next source (d ∷ (ds ++ b ∷ r)) (Spelling (k.Plain (pos c)) (length (d ∷ ds)))
 number_next c d ds b r h s =
-    subst (λ (x : Item Kind). Next source (d ∷ (ds ++ b ∷ r)) x) (number_item c d ds b r h s) (some_next source source_signs d (ds ++ b ∷ r))
+    subst (λ (x : Item Kind). Next source (d ∷ (ds ++ b ∷ r)) x) (number_item c d ds b r h s)
+    (some_next source source_signs d (ds ++ b ∷ r))

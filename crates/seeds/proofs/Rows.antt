@@ -35,7 +35,8 @@ unfolding digits items_to
 beginning = refl
 
 -- the sums don't wrap: the source of 2 ^ 64 - 1 begins with an item of the kind 3, and goes on with one of the kind 4
-last_seed : (item_at 18446744073709551615 0 ≡ codes "(gen a. fix i(x:a):a. x)[int] 15") × (item_at 18446744073709551615 1 ≡ codes "if0(2, 1, 2)")
+last_seed : (item_at 18446744073709551615 0 ≡ codes "(gen a. fix i(x:a):a. x)[int] 15")
+    × (item_at 18446744073709551615 1 ≡ codes "if0(2, 1, 2)")
 unfolding digits
 last_seed = (refl, refl)
 

@@ -7,10 +7,13 @@ use Rattle.t_rules.specs.Registers.{inst_file}
 use Rattle.t_check.proofs.Turns.{in_one}
 
 pub applied_row : (args : List Ty) (k t : Ty) → k ≡ TupleTy (row args) → applied k t ≡ with_types args t
-applied_row args k t e = ap (λ (u : Ty). with_types (types_in u) t) e ∙ ap (λ (us : List Ty). with_types us t) (row_is args)
+applied_row args k t e =
+    ap (λ (u : Ty). with_types (types_in u) t) e ∙ ap (λ (us : List Ty). with_types us t) (row_is args)
 
-pub with_file : (args : List Ty) (t : Ty) (owes : ℕ) (file : TFile) → t ≡ CodeTy owes file → length args ≤ owes → with_types args t ≡ CodeTy (owes - length args) (inst_file args owes file)
-with_file args t owes file e le = ap (with_types args) e ∙ ap (CodeTy (owes - length args)) (sym (in_one args owes file le))
+pub with_file : (args : List Ty) (t : Ty) (owes : ℕ) (file : TFile) → t ≡ CodeTy owes file → length args ≤ owes →
+    with_types args t ≡ CodeTy (owes - length args) (inst_file args owes file)
+with_file args t owes file e le =
+    ap (with_types args) e ∙ ap (CodeTy (owes - length args)) (sym (in_one args owes file le))
 
 pub no_code : (args : List Ty) (t : Ty) → ((owes : ℕ) (f : TFile) → t ≢ CodeTy owes f) → with_types args t ≡ t
 no_code args IntTy none = refl

@@ -14,7 +14,11 @@ use Rattle.t_check.proofs.Noting.{sound_grown, known_grown}
 use Rattle.t_check.proofs.Numbering.{labels_grown}
 
 pub place_grown : (ts us : List Ty) (c : Checker) → Grown ts us → IsPlace ts c → IsPlace us c
-place_grown ts us c g h = record { sound = sound_grown ts us g c.registers h.sound; labels = labels_grown ts us c.program.now c.labels.now g h.labels }
+place_grown ts us c g h =
+    record {
+      sound = sound_grown ts us g c.registers h.sound;
+      labels = labels_grown ts us c.program.now c.labels.now g h.labels;
+    }
 
 -- an item of a list
 pub item_there : {A : Type 0} (xs : List A) (i : ℕ) → i < length xs → (x : A) × (x ≡ get_or xs i x)

@@ -1,5 +1,5 @@
 -- What is known at a place of a program, as a file; and the walk over the places.
-use Rattle.std.specs.Prelude.{◌≡◌, ℕ, ◌≤◌, List, MatchOption}
+use Rattle.std.specs.Prelude.{◌≡◌, ℕ, List, MatchOption}
 use Rattle.t_types.specs.Tree.{Ty, TFile, BelowFile}
 use Rattle.t_types.specs.Fits.{RegTypes, lookup}
 use Rattle.t_terms.specs.Tree.{TInstr, TProg, names_after}

@@ -177,8 +177,8 @@ impl<'a> Walk<'a> {
         })
     }
 
-    /// What is known before an instruction or the end of a block: how many type names are in scope, and the types of the
-    /// registers, as a file whose registers rise.
+    /// What is known before an instruction or the end of a block: how many type names are in scope, and the types of
+    /// the registers, as a file whose registers rise.
     pub fn to(&mut self, block: u64, index: u64) -> Result<(u64, RegFile), OutOfMemory>
         requires walk { IsWalk self.old }
         requires there { (c : TSeq) × (code_at (walked self.old) block index ≡ Some c) }

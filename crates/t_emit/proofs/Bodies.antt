@@ -1,5 +1,6 @@
 -- Instructions in front of a rest.
-use Rattle.std.proofs.Common.{◌≡◌, ℕ, zero, suc, ◌<◌, List, [], ◌∷◌, ◌++◌, length, get_or, slice_set, slice_get, Some, refl, sym, ap, ◌∙◌, arith}
+use Rattle.std.proofs.Common.{◌≡◌, ℕ, zero, suc, ◌<◌, List, [], ◌∷◌, ◌++◌, length, get_or, slice_set, slice_get, Some}
+use Rattle.std.proofs.Common.{refl, sym, ap, ◌∙◌, arith}
 use Rattle.idx_core.specs.declared.span.Span.{Span}
 use Rattle.t_types.specs.Tree.{CodeTy}
 use Rattle.t_types.specs.Read.{file}
@@ -11,7 +12,8 @@ use Rattle.t_emit.specs.Code.{coded, fill}
 use Rattle.t_terms.specs.declared.instr.Instr.{Instr}
 use Rattle.t_emit.specs.Code.{onto}
 
-pub onto_snoc : (xs : List (Instr × Span)) (x : Instr × Span) (rest : TSeq) → onto (xs ++ x ∷ []) rest ≡ onto xs (Then (instr x.0) rest)
+pub onto_snoc : (xs : List (Instr × Span)) (x : Instr × Span) (rest : TSeq) →
+    onto (xs ++ x ∷ []) rest ≡ onto xs (Then (instr x.0) rest)
 onto_snoc [] x rest = refl
 onto_snoc (y ∷ xs) x rest = ap (Then (instr y.0)) (onto_snoc xs x rest)
 
@@ -25,19 +27,24 @@ blocks_snoc [] b = refl
 blocks_snoc (x ∷ xs) b = ap (λ bs. block x ∷ bs) (blocks_snoc xs b)
 
 -- a block that is written in the place of one with the same header
-pub set_filled : (xs : List Block) (i : ℕ) (old new : Block) (c : TSeq) → i < length xs → old ≡ get_or xs i old → block new ≡ coded (block old) c → blocks_of (slice_set xs i new) ≡ fill i c (blocks_of xs)
+pub set_filled : (xs : List Block) (i : ℕ) (old new : Block) (c : TSeq) → i < length xs → old ≡ get_or xs i old →
+    block new ≡ coded (block old) c → blocks_of (slice_set xs i new) ≡ fill i c (blocks_of xs)
 set_filled [] i old new c lt is same = absurd (omega arith)
-set_filled (x ∷ xs) zero old new c lt is same = ap (λ b. b ∷ blocks_of xs) (same ∙ ap (λ (y : Block). coded (block y) c) is)
-set_filled (x ∷ xs) (suc i) old new c lt is same = ap (λ bs. block x ∷ bs) (set_filled xs i old new c (omega arith) is same)
+set_filled (x ∷ xs) zero old new c lt is same =
+    ap (λ b. b ∷ blocks_of xs) (same ∙ ap (λ (y : Block). coded (block y) c) is)
+set_filled (x ∷ xs) (suc i) old new c lt is same =
+    ap (λ bs. block x ∷ bs) (set_filled xs i old new c (omega arith) is same)
 
 -- a block of the slice
-pub block_at : (bs : List Block) (l : ℕ) (x : Block) → l < length bs → x ≡ get_or bs l x → slice_get (blocks_of bs) l ≡ Some (block x)
+pub block_at : (bs : List Block) (l : ℕ) (x : Block) → l < length bs → x ≡ get_or bs l x →
+    slice_get (blocks_of bs) l ≡ Some (block x)
 block_at [] l x lt is = absurd (omega arith)
 block_at (b ∷ bs) zero x lt is = ap (λ (y : Block). Some (block y)) (sym is)
 block_at (b ∷ bs) (suc l) x lt is = block_at bs l x (omega arith) is
 
 -- the type of its label
-pub label_is : (bs : List Block) (l : ℕ) (x : Block) (b : TBlock) → l < length bs → x ≡ get_or bs l x → slice_get (blocks_of bs) l ≡ Some b → CodeTy x.owes (file x.regs.regs.items) ≡ CodeTy b.owes b.file
+pub label_is : (bs : List Block) (l : ℕ) (x : Block) (b : TBlock) → l < length bs → x ≡ get_or bs l x →
+    slice_get (blocks_of bs) l ≡ Some b → CodeTy x.owes (file x.regs.regs.items) ≡ CodeTy b.owes b.file
 label_is bs l x b lt is e =
     let same : Some (block x) ≡ Some b = sym (block_at bs l x lt is) ∙ e in
     let one : block x ≡ b = cc in

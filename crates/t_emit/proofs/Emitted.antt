@@ -1,65 +1,24 @@
 -- Instructions of values.
-use Rattle.std.proofs.Common.{◌≡◌, ℕ, zero, suc, ◌+◌, ◌<◌, ◌≤◌, ◌++◌, List, [], ◌∷◌, length, map, drop, take, get_or, Some, None, refl, sym, ap, ◌∙◌, subst, arith}
-use Rattle.std.specs.Prelude.{Bool, false, ◌==◌, ◌||◌, cond}
+use Rattle.std.proofs.Common.{◌≡◌, ℕ, zero, suc, ◌+◌, ◌<◌, ◌≤◌, ◌++◌, List, [], ◌∷◌, length, map, drop, take, get_or}
+use Rattle.std.proofs.Common.{Some, None, refl, sym, ap, ◌∙◌, subst, arith}
+use Rattle.std.specs.Prelude.{Bool, ◌||◌, cond}
 use Rattle.t_types.specs.Tree.{Ty}
-use Rattle.std.proofs.lemmas.Bool.{eq-eqb, ne_eqb}
 use Rattle.std.proofs.lemmas.List.{drop_more}
 use Rattle.t_terms.specs.Tree as T
-use Rattle.t_terms.specs.Tree.{TValue, TSeq, Then}
-use Rattle.gen_law.specs.Gen.{place, small, unnest, move, home, settle, instead, free, owner, owns, reads, later, call_code, constant}
+use Rattle.t_terms.specs.Tree.{TValue, TSeq}
+use Rattle.gen_law.specs.Gen.{place, small, unnest, instead, free, owner, reads, later}
+use Rattle.gen_law.specs.Gen.{call_code, constant}
 use Rattle.a_terms.specs.Tree as a
 use Rattle.a_terms.specs.NodeTrees.{wrap, wrapped, a_value, a_values}
-use Rattle.a_terms.specs.Row.{others, IsSome}
+use Rattle.a_terms.specs.Row.{others}
 use Rattle.a_terms.specs.declared.nodes.AValue.{AValue}
 use Rattle.a_terms.specs.declared.nodes.AWrap.{AWrap}
 use Rattle.a_terms.specs.declared.nodes.AWrap.TheVariants.{Apply, Pack}
 use Rattle.a_scope.specs.Scope.{homes}
 use Rattle.a_scope.specs.declared.scope.Entry.{Entry}
 use Rattle.a_scope.proofs.Scopes.{wrapped_more, length_homes}
-use Rattle.t_emit.specs.Code.{bare_var, both_used, wrap_small, wrap_boxed, wrap_constant, bare, seen, after_saves, places}
-
--- the register that a value is
-pub move_same : (r q : ℕ) (x : TValue) (rest : TSeq) → Some q ≡ bare x → q ≡ r → move r x rest ≡ rest
-move_same r q (T.Plain (T.Reg p) []) rest e same =
-    let z : q ≡ p = cc in ap (λ b. cond b rest (Then (T.Mov r (T.Plain (T.Reg p) [])) rest)) (eq-eqb r p (sym same ∙ z))
-move_same r q (T.Plain (T.Reg p) (u ∷ us)) rest e same = cc
-move_same r q (T.Plain (T.Int i) us) rest e same = cc
-move_same r q (T.Plain (T.Label l) us) rest e same = cc
-move_same r q (T.Plain (T.Data n) us) rest e same = cc
-move_same r q (T.Pack h v s) rest e same = cc
-
-pub move_other : (r q : ℕ) (x : TValue) (rest : TSeq) → Some q ≡ bare x → (q ≡ r → ⊥) → move r x rest ≡ Then (T.Mov r x) rest
-move_other r q (T.Plain (T.Reg p) []) rest e ne =
-    let z : q ≡ p = cc in ap (λ b. cond b rest (Then (T.Mov r (T.Plain (T.Reg p) [])) rest)) (ne_eqb r p (λ y. ne (z ∙ sym y)))
-move_other r q (T.Plain (T.Reg p) (u ∷ us)) rest e ne = cc
-move_other r q (T.Plain (T.Int i) us) rest e ne = cc
-move_other r q (T.Plain (T.Label l) us) rest e ne = cc
-move_other r q (T.Plain (T.Data n) us) rest e ne = cc
-move_other r q (T.Pack h v s) rest e ne = cc
-
-pub move_none : (r : ℕ) (x : TValue) (rest : TSeq) → None ≡ bare x → move r x rest ≡ Then (T.Mov r x) rest
-move_none r (T.Plain (T.Reg p) []) rest e = cc
-move_none r (T.Plain (T.Reg p) (u ∷ us)) rest e = refl
-move_none r (T.Plain (T.Int i) us) rest e = refl
-move_none r (T.Plain (T.Label l) us) rest e = refl
-move_none r (T.Plain (T.Data n) us) rest e = refl
-move_none r (T.Pack h v s) rest e = refl
-
-pub settle_some : (t r : ℕ) (x : TValue) (rest : TSeq) → Some r ≡ bare x → (r ≡ home t x) × (rest ≡ settle t x rest)
-settle_some t r (T.Plain (T.Reg p) []) rest e = let z : r ≡ p = cc in (z, refl)
-settle_some t r (T.Plain (T.Reg p) (u ∷ us)) rest e = cc
-settle_some t r (T.Plain (T.Int i) us) rest e = cc
-settle_some t r (T.Plain (T.Label l) us) rest e = cc
-settle_some t r (T.Plain (T.Data n) us) rest e = cc
-settle_some t r (T.Pack h v s) rest e = cc
-
-pub settle_none : (t : ℕ) (x : TValue) (rest : TSeq) → None ≡ bare x → (t ≡ home t x) × (Then (T.Mov t x) rest ≡ settle t x rest)
-settle_none t (T.Plain (T.Reg p) []) rest e = cc
-settle_none t (T.Plain (T.Reg p) (u ∷ us)) rest e = (refl, refl)
-settle_none t (T.Plain (T.Int i) us) rest e = (refl, refl)
-settle_none t (T.Plain (T.Label l) us) rest e = (refl, refl)
-settle_none t (T.Plain (T.Data n) us) rest e = (refl, refl)
-settle_none t (T.Pack h v s) rest e = (refl, refl)
+use Rattle.t_emit.specs.Code.{bare_var, both_used, wrap_small, wrap_boxed, wrap_constant, seen, after_saves}
+use Rattle.t_emit.specs.Code.{places}
 
 -- registers of variables
 seen_moved : (xs : List (ℕ × ℕ)) (m : List ℕ) (n : ℕ) → n < length m → seen xs (place m n) ≡ place (after_saves xs m) n
@@ -100,18 +59,24 @@ place_last [] r (suc n) e = absurd (omega arith)
 place_last (q ∷ m) r zero e = absurd (omega arith)
 place_last (q ∷ m) r (suc n) e = place_last m r n (omega arith)
 
-pub home_in : (es : List Entry) (n j : ℕ) (e : Entry) → j + suc n ≡ length es → e ≡ get_or es j e → e.register ≡ place (homes es) n
+pub home_in : (es : List Entry) (n j : ℕ) (e : Entry) → j + suc n ≡ length es → e ≡ get_or es j e →
+    e.register ≡ place (homes es) n
 home_in [] n j e s is = absurd (omega arith)
-home_in (x ∷ es) n zero e s is = ap (λ (y : Entry). y.register) is ∙ sym (place_last (homes es) x.register n (omega (arith, length_homes es)))
-home_in (x ∷ es) n (suc j) e s is = home_in es n j e (omega arith) is ∙ sym (place_front (homes es) (x.register ∷ []) n (omega (arith, length_homes es)))
+home_in (x ∷ es) n zero e s is =
+    ap (λ (y : Entry). y.register) is ∙ sym (place_last (homes es) x.register n (omega (arith, length_homes es)))
+home_in (x ∷ es) n (suc j) e s is = home_in es n j e (omega arith) is
+    ∙ sym (place_front (homes es) (x.register ∷ []) n (omega (arith, length_homes es)))
 
-pub register_in : (es : List Entry) (xs : List (ℕ × ℕ)) (n j : ℕ) (e : Entry) → j + suc n ≡ length es → e ≡ get_or es j e → seen xs e.register ≡ place (places es xs) n
-register_in es xs n j e s is = ap (seen xs) (home_in es n j e s is) ∙ seen_moved xs (homes es) n (omega (arith, length_homes es))
+pub register_in : (es : List Entry) (xs : List (ℕ × ℕ)) (n j : ℕ) (e : Entry) → j + suc n ≡ length es →
+    e ≡ get_or es j e → seen xs e.register ≡ place (places es xs) n
+register_in es xs n j e s is =
+    ap (seen xs) (home_in es n j e s is) ∙ seen_moved xs (homes es) n (omega (arith, length_homes es))
 
 pub register_out : (es : List Entry) (xs : List (ℕ × ℕ)) (n : ℕ) → length es ≤ n → 0 ≡ place (places es xs) n
 register_out es xs n le = place_out (places es xs) n (omega (arith, long_saves xs (homes es), length_homes es))
 
-pub seen_next : (xs : List (ℕ × ℕ)) (i : ℕ) (d : ℕ × ℕ) (r : ℕ) → i < length xs → seen (take (i + 1) xs) r ≡ instead (get_or xs i d).1 (get_or xs i d).0 (seen (take i xs) r)
+pub seen_next : (xs : List (ℕ × ℕ)) (i : ℕ) (d : ℕ × ℕ) (r : ℕ) → i < length xs →
+    seen (take (i + 1) xs) r ≡ instead (get_or xs i d).1 (get_or xs i d).0 (seen (take i xs) r)
 seen_next [] i d r lt = absurd (omega arith)
 seen_next (x ∷ xs) zero d r lt = refl
 seen_next (x ∷ xs) (suc i) d r lt =
@@ -123,26 +88,29 @@ wrap_value : (t : ℕ) (m : List ℕ) (w : AWrap) (v : a.AVal) → small t m (wr
 wrap_value t m (Apply ts) v = refl
 wrap_value t m (Pack h s) v = refl
 
-wrap_code : (t : ℕ) (m : List ℕ) (w : AWrap) (v : a.AVal) (rest : TSeq) → unnest t m (wrap w v) rest ≡ unnest t m v (wrap_boxed t w (small t m v) rest)
+wrap_code : (t : ℕ) (m : List ℕ) (w : AWrap) (v : a.AVal) (rest : TSeq) →
+    unnest t m (wrap w v) rest ≡ unnest t m v (wrap_boxed t w (small t m v) rest)
 wrap_code t m (Apply ts) v rest = refl
 wrap_code t m (Pack h s) v rest = refl
 
-pub small_next : (t : ℕ) (m : List ℕ) (v : a.AVal) (ws xs : List AWrap) → xs ≡ ws → (i : ℕ) (w : AWrap) (x y : TValue) → i < length xs → w ≡ get_or xs i w → x ≡ small t m (wrapped v (take i ws)) → y ≡ wrap_small t w x → y ≡ small t m (wrapped v (take (i + 1) ws))
+pub small_next : (t : ℕ) (m : List ℕ) (v : a.AVal) (ws xs : List AWrap) → xs ≡ ws →
+    (i : ℕ) (w : AWrap) (x y : TValue) → i < length xs → w ≡ get_or xs i w → x ≡ small t m (wrapped v (take i ws)) →
+    y ≡ wrap_small t w x → y ≡ small t m (wrapped v (take (i + 1) ws))
 small_next t m v ws xs same i w x y lt is h e =
-    e ∙ ap (wrap_small t w) h ∙ sym (ap (small t m) (wrapped_more v ws i w (subst (λ ys. i < length ys) same lt) (is ∙ ap (λ ys. get_or ys i w) same)) ∙ wrap_value t m w (wrapped v (take i ws)))
+    e ∙ ap (wrap_small t w) h
+    ∙ sym (ap (small t m)
+    (wrapped_more v ws i w (subst (λ ys. i < length ys) same lt) (is ∙ ap (λ ys. get_or ys i w) same))
+    ∙ wrap_value t m w (wrapped v (take i ws)))
 
-pub unnest_next : (t : ℕ) (m : List ℕ) (v : a.AVal) (ws xs : List AWrap) → xs ≡ ws → (i : ℕ) (w : AWrap) (x : TValue) (rest : TSeq) → i < length xs → w ≡ get_or xs i w → x ≡ small t m (wrapped v (take i ws)) → unnest t m (wrapped v (take i ws)) (wrap_boxed t w x rest) ≡ unnest t m (wrapped v (take (i + 1) ws)) rest
+pub unnest_next : (t : ℕ) (m : List ℕ) (v : a.AVal) (ws xs : List AWrap) → xs ≡ ws →
+    (i : ℕ) (w : AWrap) (x : TValue) (rest : TSeq) → i < length xs → w ≡ get_or xs i w →
+    x ≡ small t m (wrapped v (take i ws)) → unnest t m (wrapped v (take i ws)) (wrap_boxed t w x rest)
+    ≡ unnest t m (wrapped v (take (i + 1) ws)) rest
 unnest_next t m v ws xs same i w x rest lt is h =
     ap (λ y. unnest t m (wrapped v (take i ws)) (wrap_boxed t w y rest)) h
-    ∙ sym (ap (λ u. unnest t m u rest) (wrapped_more v ws i w (subst (λ ys. i < length ys) same lt) (is ∙ ap (λ ys. get_or ys i w) same)) ∙ wrap_code t m w (wrapped v (take i ws)) rest)
-
-pub some_length : (vs : List AValue) → IsSome (a_values vs) → suc (length (others (a_values vs))) ≡ length vs
-some_length [] h = absurd h
-some_length (v ∷ vs) h = ap suc (length_maps vs)
-  where
-    length_maps : (xs : List AValue) → length (a_values xs) ≡ length xs
-    length_maps [] = refl
-    length_maps (x ∷ xs) = ap suc (length_maps xs)
+    ∙ sym (ap (λ u. unnest t m u rest)
+    (wrapped_more v ws i w (subst (λ ys. i < length ys) same lt) (is ∙ ap (λ ys. get_or ys i w) same))
+    ∙ wrap_code t m w (wrapped v (take i ws)) rest)
 
 -- a variable with nothing around it
 pub bare_wrapped : (v : a.AVal) (w : AWrap) (ws : List AWrap) → None ≡ bare_var (wrapped v (w ∷ ws))
@@ -154,10 +122,6 @@ pub bare_some_wraps : (v : a.AVal) (ws : List AWrap) → 0 < length ws → None 
 bare_some_wraps v [] lt = absurd (omega arith)
 bare_some_wraps v (w ∷ ws) lt = bare_wrapped v w ws
 
-pub no_wraps : (v : a.AVal) (ws : List AWrap) → length ws ≤ 0 → v ≡ wrapped v ws
-no_wraps v [] le = refl
-no_wraps v (w ∷ ws) le = absurd (omega arith)
-
 pub owner_none : (m : List ℕ) (v : a.AVal) (u : ℕ → Bool) (e : a.ATm) → None ≡ bare_var v → free m u e ≡ owner m v u e
 owner_none m (a.Var n) u e x = cc
 owner_none m (a.Num i) u e x = refl
@@ -166,29 +130,15 @@ owner_none m (a.Data i) u e x = refl
 owner_none m (a.Apply v ts) u e x = refl
 owner_none m (a.Pack h v s) u e x = refl
 
-pub owner_var : (m : List ℕ) (n : ℕ) (v : a.AVal) (u : ℕ → Bool) (e : a.ATm) (both : Bool) → Some n ≡ bare_var v → both ≡ both_used v e → cond both (free m u e) (place m n) ≡ owner m v u e
-owner_var m n (a.Var i) u e both x y = let z : n ≡ i = cc in ap (λ j. cond both (free m u e) (place m j)) z ∙ ap (λ b. cond b (free m u e) (place m i)) y
+pub owner_var : (m : List ℕ) (n : ℕ) (v : a.AVal) (u : ℕ → Bool) (e : a.ATm) (both : Bool) → Some n ≡ bare_var v →
+    both ≡ both_used v e → cond both (free m u e) (place m n) ≡ owner m v u e
+owner_var m n (a.Var i) u e both x y =
+    let z : n ≡ i = cc in ap (λ j. cond both (free m u e) (place m j)) z ∙ ap (λ b. cond b (free m u e) (place m i)) y
 owner_var m n (a.Num i) u e both x y = cc
 owner_var m n (a.Lab i) u e both x y = cc
 owner_var m n (a.Data i) u e both x y = cc
 owner_var m n (a.Apply v ts) u e both x y = cc
 owner_var m n (a.Pack h v s) u e both x y = cc
-
-pub owns_none : (r : ℕ) (m : List ℕ) (v : a.AVal) → None ≡ bare_var v → false ≡ owns r m v
-owns_none r m (a.Var n) x = cc
-owns_none r m (a.Num i) x = refl
-owns_none r m (a.Lab i) x = refl
-owns_none r m (a.Data i) x = refl
-owns_none r m (a.Apply v ts) x = refl
-owns_none r m (a.Pack h v s) x = refl
-
-pub owns_var : (r : ℕ) (m : List ℕ) (n : ℕ) (v : a.AVal) → Some n ≡ bare_var v → (place m n == r) ≡ owns r m v
-owns_var r m n (a.Var i) x = let z : n ≡ i = cc in ap (λ j. place m j == r) z
-owns_var r m n (a.Num i) x = cc
-owns_var r m n (a.Lab i) x = cc
-owns_var r m n (a.Data i) x = cc
-owns_var r m n (a.Apply v ts) x = cc
-owns_var r m n (a.Pack h v s) x = cc
 
 -- what a value reads is what it begins with
 reads_wrap : (r : ℕ) (m : List ℕ) (w : AWrap) (v : a.AVal) → reads r m (wrap w v) ≡ reads r m v
@@ -200,33 +150,35 @@ reads_base r m v [] = refl
 reads_base r m v (w ∷ ws) = sym (reads_wrap r m w v) ∙ reads_base r m (wrap w v) ws
 
 -- what is read later
-pub later_next : (r : ℕ) (m : List ℕ) (vs : List AValue) (c : a.AVal) (i : ℕ) (v : AValue) → i < length vs → v ≡ get_or vs i v → later r m (a_values (drop i vs)) c ≡ (reads r m (a_value v) || later r m (a_values (drop (i + 1) vs)) c)
+pub later_next : (r : ℕ) (m : List ℕ) (vs : List AValue) (c : a.AVal) (i : ℕ) (v : AValue) → i < length vs →
+    v ≡ get_or vs i v →
+    later r m (a_values (drop i vs)) c ≡ (reads r m (a_value v) || later r m (a_values (drop (i + 1) vs)) c)
 later_next r m vs c i v lt is =
-    ap (λ xs. later r m (a_values xs) c) (drop_more vs i v lt) ∙ ap (λ y. reads r m (a_value y) || later r m (a_values (drop (i + 1) vs)) c) (sym is)
+    ap (λ xs. later r m (a_values xs) c) (drop_more vs i v lt)
+    ∙ ap (λ y. reads r m (a_value y) || later r m (a_values (drop (i + 1) vs)) c) (sym is)
 
-pub later_end : (r : ℕ) (m : List ℕ) (vs : List AValue) (c : a.AVal) (i : ℕ) → length vs ≤ i → reads r m c ≡ later r m (a_values (drop i vs)) c
+pub later_end : (r : ℕ) (m : List ℕ) (vs : List AValue) (c : a.AVal) (i : ℕ) → length vs ≤ i →
+    reads r m c ≡ later r m (a_values (drop i vs)) c
 later_end r m [] c zero le = refl
 later_end r m [] c (suc i) le = refl
 later_end r m (v ∷ vs) c zero le = absurd (omega arith)
 later_end r m (v ∷ vs) c (suc i) le = later_end r m vs c i (omega arith)
 
--- one more argument
-pub call_next : (j b : ℕ) (m : List ℕ) (vs : List AValue) (c : a.AVal) (ts : List Ty) (i : ℕ) (v : AValue) → i < length vs → v ≡ get_or vs i v → call_code j b m (a_values (drop i vs)) c ts ≡ call_code j b m (a_value v ∷ a_values (drop (i + 1) vs)) c ts
-call_next j b m vs c ts i v lt is =
-    ap (λ xs. call_code j b m (a_values xs) c ts) (drop_more vs i v lt) ∙ ap (λ y. call_code j b m (a_value y ∷ a_values (drop (i + 1) vs)) c ts) (sym is)
-
-pub call_end : (j b : ℕ) (m : List ℕ) (vs : List AValue) (c : a.AVal) (ts : List Ty) (i : ℕ) → length vs ≤ i → call_code j b m [] c ts ≡ call_code j b m (a_values (drop i vs)) c ts
+pub call_end : (j b : ℕ) (m : List ℕ) (vs : List AValue) (c : a.AVal) (ts : List Ty) (i : ℕ) → length vs ≤ i →
+    call_code j b m [] c ts ≡ call_code j b m (a_values (drop i vs)) c ts
 call_end j b m [] c ts zero le = refl
 call_end j b m [] c ts (suc i) le = refl
 call_end j b m (v ∷ vs) c ts zero le = absurd (omega arith)
 call_end j b m (v ∷ vs) c ts (suc i) le = call_end j b m vs c ts i (omega arith)
 
-pub call_first : (j b : ℕ) (m : List ℕ) (vs : List AValue) (c : a.AVal) (ts : List Ty) → call_code j b m (a_values (drop 1 vs)) c ts ≡ call_code j b m (others (a_values vs)) c ts
+pub call_first : (j b : ℕ) (m : List ℕ) (vs : List AValue) (c : a.AVal) (ts : List Ty) →
+    call_code j b m (a_values (drop 1 vs)) c ts ≡ call_code j b m (others (a_values vs)) c ts
 call_first j b m [] c ts = refl
 call_first j b m (v ∷ vs) c ts = refl
 
 -- one more register saved
-pub saves_push : (xs : List (ℕ × ℕ)) (s : ℕ × ℕ) (m : List ℕ) → after_saves (xs ++ s ∷ []) m ≡ map (instead s.1 s.0) (after_saves xs m)
+pub saves_push : (xs : List (ℕ × ℕ)) (s : ℕ × ℕ) (m : List ℕ) →
+    after_saves (xs ++ s ∷ []) m ≡ map (instead s.1 s.0) (after_saves xs m)
 saves_push [] s m = refl
 saves_push (x ∷ xs) s m = saves_push xs s (map (instead x.1 x.0) m)
 
@@ -235,6 +187,11 @@ wrap_const : (w : AWrap) (v : a.AVal) → constant (wrap w v) ≡ wrap_constant 
 wrap_const (Apply ts) v = refl
 wrap_const (Pack h s) v = refl
 
-pub const_next_of : (v : a.AVal) (ws xs : List AWrap) → xs ≡ ws → (i : ℕ) (w : AWrap) (u r : TValue) → i < length xs → w ≡ get_or xs i w → u ≡ constant (wrapped v (take i ws)) → r ≡ wrap_constant w u → r ≡ constant (wrapped v (take (i + 1) ws))
+pub const_next_of : (v : a.AVal) (ws xs : List AWrap) → xs ≡ ws → (i : ℕ) (w : AWrap) (u r : TValue) → i < length xs →
+    w ≡ get_or xs i w → u ≡ constant (wrapped v (take i ws)) → r ≡ wrap_constant w u →
+    r ≡ constant (wrapped v (take (i + 1) ws))
 const_next_of v ws xs same i w u r lt is h e =
-    e ∙ ap (wrap_constant w) h ∙ sym (ap constant (wrapped_more v ws i w (subst (λ ys. i < length ys) same lt) (is ∙ ap (λ ys. get_or ys i w) same)) ∙ wrap_const w (wrapped v (take i ws)))
+    e ∙ ap (wrap_constant w) h
+    ∙ sym (ap constant
+    (wrapped_more v ws i w (subst (λ ys. i < length ys) same lt) (is ∙ ap (λ ys. get_or ys i w) same))
+    ∙ wrap_const w (wrapped v (take i ws)))

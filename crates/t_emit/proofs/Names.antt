@@ -5,6 +5,7 @@ use Rattle.t_types.specs.declared.types.TType.{TType}
 use Rattle.t_types.specs.declared.types.TType.TheVariants.{Var}
 use Rattle.gen_law.specs.Gen.{tvars}
 
-pub names_step : (xs : List TType) (n m : ℕ) → n ≡ suc m → map tree (xs ++ Var m ∷ []) ++ tvars m ≡ map tree xs ++ tvars n
+pub names_step : (xs : List TType) (n m : ℕ) → n ≡ suc m → map tree (xs ++ Var m ∷ []) ++ tvars m ≡ map tree xs
+    ++ tvars n
 names_step [] n m e = ap tvars (sym e)
 names_step (x ∷ xs) n m e = ap (λ ts. tree x ∷ ts) (names_step xs n m e)

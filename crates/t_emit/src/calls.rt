@@ -136,7 +136,8 @@ pub fn emit_call(
     types: &[AType],
 ) -> Result<End, OutOfMemory>
     requires some { IsSome (a_values values.now) }
-    ensures { IfOk result (λ r. onto code.new.items (Ends (end_of r)) ≡ onto code.old.items (call_code 1 above (homes vars.now) (others (a_values values.now))
+    ensures { IfOk result (λ r. onto code.new.items (Ends (end_of r)) ≡
+        onto code.old.items (call_code 1 above (homes vars.now) (others (a_values values.now))
         (top no_value (a_values values.now)) (tys (atrees types.now)))) }
 {
     let mut saved = Vec::new(alloc);

@@ -124,8 +124,8 @@ fn small_wrap(
     }
 }
 
-/// A value in place, after the instructions for it: those for packages inside packages, by register `spare`. An error is
-/// want of memory.
+/// A value in place, after the instructions for it: those for packages inside packages, by register `spare`. An error
+/// is want of memory.
 pub fn emit_small(
     alloc: Global,
     code: &mut Vec<(Instr, Span)>,

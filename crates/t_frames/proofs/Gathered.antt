@@ -9,14 +9,13 @@ use Rattle.std.specs.Cmp.{nat_cmp_is}
 use Rattle.std.specs.declared.cmp.Ordering.TheVariants.{Less, Equal, Greater}
 use Rattle.std.proofs.Math.Logic.{⊎_elim}
 use Rattle.std.proofs.lemmas.List.{drop_more}
-use Rattle.std.proofs.lemmas.Bool.{cases_eq, cases_order, eq-eqb, ne_eqb, lt-ltb, le-ltb}
+use Rattle.std.proofs.lemmas.Bool.{cases_order, eq-eqb, ne_eqb, lt-ltb}
 use Rattle.t_types.specs.declared.types.TType.{TType}
 use Rattle.t_types.specs.Read.{file}
-use Rattle.spill_law.specs.Spill.{Held, InFrame, homed, gathered, position, numbers, among, into, first_reg}
-use Rattle.t_frames.specs.Homes.{home, home_or, home_in, has_in, Sets}
+use Rattle.spill_law.specs.Spill.{Held, InFrame, gathered, position, numbers, among, into, first_reg}
+use Rattle.t_frames.specs.Homes.{home_or}
 use Rattle.t_frames.specs.declared.homes.Home.{Home}
 use Rattle.t_frames.specs.declared.homes.Home.TheVariants.{Frame}
-use Rattle.t_frames.specs.declared.homes.Homes.{Homes}
 
 -- keys of a map
 at_is : (k q : ℕ) → is_at (nat_cmp k) q ≡ nat_eq k q
@@ -109,53 +108,6 @@ gathered_has places high r h = ap is_some (h r) ∙ has_from 0 (numbers (file hi
 module _ (m n : BTreeMap ℕ Home) (r : ℕ) (h : Home) (u : Updates nat_cmp m n r (Some h)) where
   put_in : (q : ℕ) → get nat_cmp n q ≡ cond (nat_eq r q) (Some h) (get nat_cmp m q)
   put_in q = u.0 q ∙ ap (λ b. cond b (Some h) (get nat_cmp m q)) (at_is r q)
-
-  pub set_has : (q : ℕ) → is_some (get nat_cmp n q) ≡ cond (nat_eq r q) true (is_some (get nat_cmp m q))
-  set_has q = ap is_some (put_in q) ∙ go (nat_eq r q)
-    where
-      go : (b : Bool) → is_some (cond b (Some h) (get nat_cmp m q)) ≡ cond b true (is_some (get nat_cmp m q))
-      go true = refl
-      go false = refl
-
-  pub set_home : (low count q : ℕ) → low < r → cond (nat_lt low q) (home_or count (get nat_cmp n q)) (Held q)
-      ≡ cond (nat_eq r q) (home h) (cond (nat_lt low q) (home_or count (get nat_cmp m q)) (Held q))
-  set_home low count q lt =
-      ap (λ o. cond (nat_lt low q) (home_or count o) (Held q)) (put_in q)
-      ∙ ⊎_elim
-      (λ (e : r ≡ q).
-      let high : low < q = omega (arith, lt, e) in
-      ap₂ (λ a b. cond a (home_or count (cond b (Some h) (get nat_cmp m q))) (Held q)) (lt-ltb low q high)
-      (eq-eqb r q e)
-      ∙ ap (λ b. cond b (home h) (cond (nat_lt low q) (home_or count (get nat_cmp m q)) (Held q)))
-      (sym (eq-eqb r q e)))
-      (λ (ne : r ≡ q → ⊥).
-      ap (λ b. cond (nat_lt low q) (home_or count (cond b (Some h) (get nat_cmp m q))) (Held q)) (ne_eqb r q ne)
-      ∙ ap (λ b. cond b (home h) (cond (nat_lt low q) (home_or count (get nat_cmp m q)) (Held q)))
-      (sym (ne_eqb r q ne)))
-      (cases_eq r q)
-
--- a register up to the split is its own home already
-pub holds_low : (hs : Homes) (r : ℕ) → r ≤ hs.split.low → Sets hs hs r (Held (into hs.split.low r))
-holds_low hs r le = (refl, same, others)
-  where
-    own : Held (into hs.split.low r) ≡ Held r
-    own = ap (λ b. Held (cond b (first_reg hs.split.low) r)) (le-ltb hs.split.low r le)
-
-    here : (q : ℕ) → r ≡ q → home_in hs q ≡ Held (into hs.split.low r)
-    here q e =
-        let le2 : q ≤ hs.split.low = omega (arith, le, e) in
-        ap (λ b. cond b (home_or hs.count (get nat_cmp hs.places q)) (Held q)) (le-ltb hs.split.low q le2)
-        ∙ ap Held (sym e) ∙ sym own
-
-    same : (q : ℕ) → home_in hs q ≡ homed (home_in hs) r (Held (into hs.split.low r)) q
-    same q =
-        ⊎_elim
-        (λ (e : r ≡ q). here q e ∙ ap (λ b. cond b (Held (into hs.split.low r)) (home_in hs q)) (sym (eq-eqb r q e)))
-        (λ (ne : r ≡ q → ⊥). ap (λ b. cond b (Held (into hs.split.low r)) (home_in hs q)) (sym (ne_eqb r q ne)))
-        (cases_eq r q)
-
-    others : (q : ℕ) → hs.split.low < q → has_in hs q ≡ cond (nat_eq r q) true (has_in hs q)
-    others q lt = ap (λ b. cond b true (has_in hs q)) (sym (ne_eqb r q (λ e. absurd (omega (arith, e, le, lt)))))
 
 pub into_high : (m r : ℕ) → m < r → Held (first_reg m) ≡ Held (into m r)
 into_high m r lt = ap (λ b. Held (cond b (first_reg m) r)) (sym (lt-ltb m r lt))

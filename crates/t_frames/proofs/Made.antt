@@ -118,19 +118,6 @@ divided_suc m (z ∷ xs) lows lows2 fs fs2 zero y t x f lt is same l k h g =
 divided_suc m (z ∷ xs) lows lows2 fs fs2 (suc i) y t x f lt is same l k h g =
     divided_suc m xs lows lows2 fs fs2 i y t x f (omega arith) is same l k h g
 
-pub divided_more : (m : ℕ) (xs lows lows2 : List (ℕ × TType)) (fs fs2 : List (TType × Bool)) (i : ℕ) (y : ℕ × TType)
-    (t : Ty) → i < length xs → y ≡ get_or xs i y → t ≡ sp m (tree y.1) →
-    ((last : TFile) → front lows2 last ≡ front lows (low_part m (MoreRegs y.0 t NoRegs) last)) →
-    ((rest : TFields) → fields_onto fs2 rest ≡ fields_onto fs (field_if (nat_lt m y.0) t rest)) →
-    Divides m xs lows fs i → Divides m xs lows2 fs2 (i + 1)
-divided_more m xs lows lows2 fs fs2 i y t lt is same l k h =
-    let one : suc i ≡ i + 1 = omega arith in
-    let more = divided_suc m xs lows lows2 fs fs2 i y t (sp_regs m (file xs))
-    (framed m (file xs)) lt is same l k h.0 h.1 in (
-      λ last. ap (λ n. front lows2 (low_part m (sp_regs m (file (drop n xs))) last)) (sym one) ∙ more.0 last,
-      ap (λ n. fields_onto fs2 (framed m (file (drop n xs)))) (sym one) ∙ more.1,
-    )
-
 none_left : (xs : List (ℕ × TType)) (n : ℕ) → length xs ≤ n → file (drop n xs) ≡ NoRegs
 none_left [] zero le = refl
 none_left [] (suc n) le = refl
@@ -162,17 +149,3 @@ fill_suc : (m : ℕ) (h : ℕ → Home) (xs : List (ℕ × TType)) (i j : ℕ) (
 fill_suc m h [] i j d rest lt = absurd (omega arith)
 fill_suc m h (x ∷ xs) zero j d rest lt = refl
 fill_suc m h (x ∷ xs) (suc i) j d rest lt = fill_suc m h xs i j d rest (omega arith)
-
-pub fill_one : (m : ℕ) (h : ℕ → Home) (xs : List (ℕ × TType)) (i : ℕ) (d : ℕ × TType) (rest : TSeq) → i < length xs →
-    fill m h (numbers (file (drop i xs))) i rest
-    ≡ load m (second_reg m) (h (get_or xs i d).0) (Then (St (made_reg m) i (second_at m h (get_or xs i d).0))
-    (fill m h (numbers (file (drop (i + 1) xs))) (i + 1) rest))
-fill_one m h xs i d rest lt =
-    let one : suc i ≡ i + 1 = omega arith in
-    fill_suc m h xs i i d rest lt
-    ∙ ap (λ n. load m (second_reg m) (h (get_or xs i d).0) (Then (St (made_reg m) i (second_at m h (get_or xs i d).0))
-    (fill m h (numbers (file (drop n xs))) n rest))) one
-
-pub fill_end : (m : ℕ) (h : ℕ → Home) (xs : List (ℕ × TType)) (n j : ℕ) (rest : TSeq) → length xs ≤ n →
-    fill m h (numbers (file (drop n xs))) j rest ≡ rest
-fill_end m h xs n j rest le = ap (λ x. fill m h (numbers x) j rest) (none_left xs n le)

@@ -1,5 +1,5 @@
 -- The code of a block so far: a slot more, and no slot more.
-use Rattle.std.proofs.Common.{◌≡◌, ℕ, suc, ◌<◌, List, [], ◌∷◌, ◌++◌, refl, sym, ap, ap₂, ◌∙◌, length, arith}
+use Rattle.std.proofs.Common.{◌≡◌, ℕ, suc, List, [], ◌∷◌, ◌++◌, refl, sym, ap, ap₂, ◌∙◌, length, arith}
 use Rattle.idx_core.specs.declared.span.Span.{Span}
 use Rattle.t_types.specs.declared.types.TType.{TType}
 use Rattle.t_types.specs.Tree.{Ty}
@@ -40,16 +40,6 @@ first_filled m done tail done2 tail2 [] ts2 t z d s o more rest =
     ∙ onto_both done tail (Then (Malloc (slot_reg m) (tree t ∷ more)) (onto tail2 rest))
     ∙ ap (λ r. onto done (onto tail (Then (Malloc (slot_reg m) (tree t ∷ more)) r))) (o rest)
 first_filled m done tail done2 tail2 (u ∷ ts) ts2 t z d s o more rest = absurd (omega (arith, z))
-
-pub next_filled : (m : ℕ) (done tail tail2 : List (Instr × Span)) (ts ts2 : List TType) (t : TType) →
-    0 < length ts → ts2 ≡ ts ++ t ∷ [] →
-    ((rest : TSeq) → onto tail2 rest ≡ onto tail (Then (St (slot_reg m) (length ts) (first_reg m)) rest)) →
-    (more : List Ty) (rest : TSeq) → whole m done ts2 tail2 more rest
-    ≡ whole m done ts tail (tree t ∷ more) (fill_slot m (length ts) (tree t ∷ more) rest)
-next_filled m done tail tail2 [] ts2 t lt s o more rest = absurd (omega (arith, lt))
-next_filled m done tail tail2 (u ∷ ts) ts2 t lt s o more rest =
-    ap (λ (us : List TType). onto done (with_slots m (types us) more (onto tail2 rest))) s
-    ∙ ap₂ (λ (us : List Ty) r. onto done (Then (Malloc (slot_reg m) (tree u ∷ us)) r)) (types_snoc ts t more) (o rest)
 
 no_more : (ts : List Ty) → ts ++ [] ≡ ts
 no_more [] = refl

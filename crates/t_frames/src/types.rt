@@ -2,7 +2,8 @@
 ghost use Rattle.std.specs.Prelude.{◌≡◌, IfOk, OnOk, map, nat_lt};
 ghost use Rattle.t_types.specs.Tree.{TFile, TFields};
 ghost use Rattle.t_types.specs.Read.{tree, file, file_tree, fields, types as type_trees};
-ghost use Rattle.spill_law.specs.Spill.{sp, sp_regs, sp_fields, sp_file, cells, high_part as high_of, with_if, without_if};
+ghost use Rattle.spill_law.specs.Spill.{sp, sp_regs, sp_fields, sp_file, cells, high_part as high_of, with_if};
+ghost use Rattle.spill_law.specs.Spill.{without_if};
 ghost use Rattle.t_frames.specs.Onto.{front, fields_onto, field_if};
 
 use crate::split::Split;

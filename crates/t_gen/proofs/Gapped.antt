@@ -1,12 +1,13 @@
 -- What is done to gaps, and to the registers in use.
-use Rattle.std.proofs.Common.{◌≡◌, ℕ, ◌+◌, ◌<◌, ◌≤◌, refl, sym, ap, ◌∙◌, subst, arith, ⊎_elim, ◌⊎◌, inl, inr}
-use Rattle.std.specs.Prelude.{Bool, true, false, ◌&&◌, ◌||◌, ◌==◌, nat_lt, ◌^◌, not, cond, Option, Some, None, IsSome, is_some, IfSome, List, [], ◌∷◌, ◌++◌, slice_get}
+use Rattle.std.proofs.Common.{◌≡◌, ℕ, ◌+◌, ◌<◌, ◌≤◌, refl, sym, ap, ◌∙◌, arith, ⊎_elim, ◌⊎◌, inl, inr}
+use Rattle.std.specs.Prelude.{Bool, true, false, ◌&&◌, ◌||◌, ◌==◌, nat_lt, ◌^◌, not, cond, Option, Some, None, IsSome}
+use Rattle.std.specs.Prelude.{is_some, List, [], ◌∷◌, ◌++◌}
 use Rattle.std.proofs.lemmas.Bool.{eq-eqb, ne_eqb, lt-ltb, le-ltb, cases_lt, cases_eq}
 use Rattle.std.specs.Ordering.{nat_cmp, is_eq, is_gt}
 use Rattle.std.proofs.lemmas.Cmp.{by_ranked, ranked}
 use Rattle.std.proofs.lemmas.Map.Keys.{le_from_not_gt, ge_from_not_lt}
 use Rattle.std.specs.declared.ops.Bound.TheVariants.{Included, Unbounded}
-use Rattle.std.specs.BTreeMap.Range.{IsRangeOf, IsEntryInRange, IsLeBy}
+use Rattle.std.specs.BTreeMap.Range.{IsRangeOf}
 use Rattle.std.specs.Cmp.{unsigned_tied}
 use Rattle.std.specs.BTreeMap.{BTreeMap, get}
 use Rattle.std.specs.BTreeSet.{BTreeSet, contains}
@@ -38,10 +39,13 @@ bool_cases true = inl refl
 bool_cases false = inr refl
 
 -- an entry that is written: it is the new one, or an old one with another key
-is_new : (g n : BTreeMap ℕ ℕ) (k : ℕ) (w : Option ℕ) → ((q : ℕ) → get nat_cmp n q ≡ cond (is_eq (nat_cmp k q)) w (get nat_cmp g q)) → get nat_cmp n k ≡ w
+is_new : (g n : BTreeMap ℕ ℕ) (k : ℕ) (w : Option ℕ) →
+    ((q : ℕ) → get nat_cmp n q ≡ cond (is_eq (nat_cmp k q)) w (get nat_cmp g q)) → get nat_cmp n k ≡ w
 is_new g n k w u = u k ∙ ap (λ b. cond b w (get nat_cmp g k)) (unsigned_tied k k ∙ eq-eqb k k refl)
 
-is_old : (g n : BTreeMap ℕ ℕ) (k : ℕ) (w : Option ℕ) → ((q : ℕ) → get nat_cmp n q ≡ cond (is_eq (nat_cmp k q)) w (get nat_cmp g q)) → (q : ℕ) → (k ≡ q → ⊥) → get nat_cmp n q ≡ get nat_cmp g q
+is_old : (g n : BTreeMap ℕ ℕ) (k : ℕ) (w : Option ℕ) →
+    ((q : ℕ) → get nat_cmp n q ≡ cond (is_eq (nat_cmp k q)) w (get nat_cmp g q)) → (q : ℕ) → (k ≡ q → ⊥) →
+    get nat_cmp n q ≡ get nat_cmp g q
 is_old g n k w u q ne = u q ∙ ap (λ b. cond b w (get nat_cmp g q)) (unsigned_tied k q ∙ ne_eqb k q ne)
 
 some_same : {x : Option ℕ} (a b : ℕ) → x ≡ Some a → x ≡ Some b → a ≡ b
@@ -51,31 +55,19 @@ some_none : {x : Option ℕ} (a : ℕ) → x ≡ Some a → x ≡ None → ⊥
 some_none a y z = cc
 
 -- the same of each register
-pub gaps_same : (g : BTreeMap ℕ ℕ) (h i : ℕ → Bool) → Gaps g h → ((r : ℕ) → 1 ≤ r → r + 1 < 2 ^ 64 → h r ≡ i r) → Gaps g i
+pub gaps_same : (g : BTreeMap ℕ ℕ) (h i : ℕ → Bool) → Gaps g h → ((r : ℕ) → 1 ≤ r → r + 1 < 2 ^ 64 → h r ≡ i r) →
+    Gaps g i
 gaps_same g h i k same = record {
   ends = k.ends;
-  only = λ a b r e le lt. let n = k.ends a b e in sym (same r (omega (arith, n.0)) (omega (arith, n.2))) ∙ k.only a b r e le lt;
+  only = λ a b r e le lt. let n = k.ends a b e in sym (same r (omega (arith, n.0)) (omega (arith, n.2)))
+      ∙ k.only a b r e le lt;
   found = λ r one lt z. k.found r one lt (same r one lt ∙ z);
   apart = k.apart;
 }
 
--- a gap with all
-pub gaps_whole : (n : BTreeMap ℕ ℕ) (g : BTreeMap ℕ ℕ) → ((q : ℕ) → get nat_cmp g q ≡ None) → ((q : ℕ) → get nat_cmp n q ≡ cond (is_eq (nat_cmp 1 q)) (Some 18446744073709551615) (get nat_cmp g q)) → Gaps n (λ r. false)
-gaps_whole n g none u =
-    let one : (a b : ℕ) → get nat_cmp n a ≡ Some b → (a ≡ 1) × (b ≡ 18446744073709551615) =
-    λ a b e. ⊎_elim
-    (λ (y : 1 ≡ a). (sym y, some_same b 18446744073709551615 e (ap (get nat_cmp n) (sym y) ∙ is_new g n 1 (Some 18446744073709551615) u)))
-    (λ (ne : 1 ≡ a → ⊥). absurd (some_none b e (is_old g n 1 (Some 18446744073709551615) u a ne ∙ none a)))
-    (cases_eq 1 a) in
-    record {
-      ends = λ a b e. let p = one a b e in (omega (arith, p.0), omega (arith, p.0, p.1), omega (arith, p.1));
-      only = λ a b r e le lt. refl;
-      found = λ r le lt z. (1, 18446744073709551615, is_new g n 1 (Some 18446744073709551615) u, le, omega (arith, lt));
-      apart = λ a b c d e f le lt. omega (arith, (one a b e).0, (one c d f).0);
-    }
-
 -- a gap more
-pub gaps_put : (g n : BTreeMap ℕ ℕ) (x y : ℕ) (h i : ℕ → Bool) → x < y → y < 2 ^ 64 → ((q : ℕ) → get nat_cmp n q ≡ cond (is_eq (nat_cmp x q)) (Some y) (get nat_cmp g q)) →
+pub gaps_put : (g n : BTreeMap ℕ ℕ) (x y : ℕ) (h i : ℕ → Bool) → x < y → y < 2 ^ 64 →
+    ((q : ℕ) → get nat_cmp n q ≡ cond (is_eq (nat_cmp x q)) (Some y) (get nat_cmp g q)) →
     Gaps g h → 1 ≤ x → ((r : ℕ) → x ≤ r → r < y → (h r ≡ true) × (i r ≡ false)) → Besides x y h i → Gaps n i
 gaps_put g n x y h i lt top u k one own rest =
     let new : get nat_cmp n x ≡ Some y = is_new g n x (Some y) u in
@@ -87,44 +79,59 @@ gaps_put g n x y h i lt top u k one own rest =
     let out : (a b r : ℕ) → get nat_cmp g a ≡ Some b → a ≤ r → r < b → x ≤ r → r < y → ⊥ =
     λ a b r e p q s t. clash (own r s t).0 (k.only a b r e p q) in
     record {
-      ends = λ a b e. ⊎_elim (λ z. (omega (arith, z.0, one), omega (arith, z.0, z.1, lt), omega (arith, z.1, top))) (λ z. k.ends a b z) (each a b e);
+      ends = λ a b e. ⊎_elim (λ z. (omega (arith, z.0, one), omega (arith, z.0, z.1, lt), omega (arith, z.1, top)))
+          (λ z. k.ends a b z) (each a b e);
       only = λ a b r e p q. ⊎_elim
           (λ z. (own r (omega (arith, z.0, p)) (omega (arith, z.1, q))).1)
           (λ z. ⊎_elim
-          (λ (s : x ≤ r). ⊎_elim (λ (t : r < y). absurd (out a b r z p q s t)) (λ (t : y ≤ r). sym (rest r (omega (arith, one, s)) (inr t)) ∙ k.only a b r z p q) (cases_lt r y))
+          (λ (s : x ≤ r). ⊎_elim (λ (t : r < y). absurd (out a b r z p q s t))
+          (λ (t : y ≤ r). sym (rest r (omega (arith, one, s)) (inr t)) ∙ k.only a b r z p q) (cases_lt r y))
           (λ (s : r < x). sym (rest r (omega (arith, p, (k.ends a b z).0)) (inl s)) ∙ k.only a b r z p q)
           (⊎_elim (λ (s : r < x). inr s) (λ (s : x ≤ r). inl s) (cases_lt r x))) (each a b e);
       found = λ r p q z. old r p q z;
       apart = λ a b c d e f p q. ⊎_elim
-          (λ s. ⊎_elim (λ t. omega (arith, s.0, t.0)) (λ t. absurd (out c d c t (omega arith) (k.ends c d t).1 (omega (arith, s.0, p)) (omega (arith, s.1, q)))) (each c d f))
-          (λ s. ⊎_elim (λ t. absurd (out a b c s p q (omega (arith, t.0)) (omega (arith, t.0, lt)))) (λ t. k.apart a b c d s t p q) (each c d f)) (each a b e);
+          (λ s. ⊎_elim (λ t. omega (arith, s.0, t.0))
+          (λ t. absurd
+          (out c d c t (omega arith) (k.ends c d t).1 (omega (arith, s.0, p)) (omega (arith, s.1, q))))
+          (each c d f))
+          (λ s. ⊎_elim (λ t. absurd (out a b c s p q (omega (arith, t.0)) (omega (arith, t.0, lt))))
+          (λ t. k.apart a b c d s t p q) (each c d f)) (each a b e);
     }
   where
-    kept : (a b r : ℕ) → get nat_cmp g a ≡ Some b → a ≤ r → r < b → (a : ℕ) × (b : ℕ) × (get nat_cmp n a ≡ Some b) × (a ≤ r) × (r < b)
+    kept : (a b r : ℕ) → get nat_cmp g a ≡ Some b → a ≤ r → r < b → (a : ℕ) × (b : ℕ) × (get nat_cmp n a ≡ Some b)
+        × (a ≤ r) × (r < b)
     kept a b r e p q = ⊎_elim
-        (λ (z : x ≡ a). absurd (clash (own a (omega (arith, z)) (omega (arith, z, lt))).0 (k.only a b a e (omega arith) (omega (arith, p, q)))))
+        (λ (z : x ≡ a).
+        absurd (clash (own a (omega (arith, z)) (omega (arith, z, lt))).0
+        (k.only a b a e (omega arith) (omega (arith, p, q)))))
         (λ (ne : x ≡ a → ⊥). (a, b, is_old g n x (Some y) u a ne ∙ e, p, q))
         (cases_eq x a)
 
-    beside : (r : ℕ) → 1 ≤ r → r + 1 < 2 ^ 64 → i r ≡ false → (r < x) ⊎ (y ≤ r) → (a : ℕ) × (b : ℕ) × (get nat_cmp n a ≡ Some b) × (a ≤ r) × (r < b)
+    beside : (r : ℕ) → 1 ≤ r → r + 1 < 2 ^ 64 → i r ≡ false → (r < x) ⊎ (y ≤ r) →
+        (a : ℕ) × (b : ℕ) × (get nat_cmp n a ≡ Some b) × (a ≤ r) × (r < b)
     beside r p q z s = let o = k.found r p q (rest r p s ∙ z) in kept o.0 o.1 r o.2 o.3 o.4
 
-    old : (r : ℕ) → 1 ≤ r → r + 1 < 2 ^ 64 → i r ≡ false → (a : ℕ) × (b : ℕ) × (get nat_cmp n a ≡ Some b) × (a ≤ r) × (r < b)
+    old : (r : ℕ) → 1 ≤ r → r + 1 < 2 ^ 64 → i r ≡ false → (a : ℕ) × (b : ℕ) × (get nat_cmp n a ≡ Some b) × (a ≤ r)
+        × (r < b)
     old r p q z = ⊎_elim
         (λ (s : r < x). beside r p q z (inl s))
-        (λ (s : x ≤ r). ⊎_elim (λ (t : r < y). (x, y, is_new g n x (Some y) u, s, t)) (λ (t : y ≤ r). beside r p q z (inr t)) (cases_lt r y))
+        (λ (s : x ≤ r). ⊎_elim (λ (t : r < y). (x, y, is_new g n x (Some y) u, s, t))
+        (λ (t : y ≤ r). beside r p q z (inr t)) (cases_lt r y))
         (cases_lt r x)
 
 -- a gap less
-pub gaps_drop : (g n : BTreeMap ℕ ℕ) (x y : ℕ) (h i : ℕ → Bool) → ((q : ℕ) → get nat_cmp n q ≡ cond (is_eq (nat_cmp x q)) None (get nat_cmp g q)) →
+pub gaps_drop : (g n : BTreeMap ℕ ℕ) (x y : ℕ) (h i : ℕ → Bool) →
+    ((q : ℕ) → get nat_cmp n q ≡ cond (is_eq (nat_cmp x q)) None (get nat_cmp g q)) →
     get nat_cmp g x ≡ Some y → Gaps g h → ((r : ℕ) → x ≤ r → r < y → i r ≡ true) → Besides x y h i → Gaps n i
 gaps_drop g n x y h i u at k own rest =
     record {
       ends = λ a b e. k.ends a b (old a b e).1;
-      only = λ a b r e p q. sym (rest r (omega (arith, (k.ends a b (old a b e).1).0, p)) (apart a b r e p q)) ∙ k.only a b r (old a b e).1 p q;
+      only = λ a b r e p q. sym (rest r (omega (arith, (k.ends a b (old a b e).1).0, p)) (apart a b r e p q))
+          ∙ k.only a b r (old a b e).1 p q;
       found = λ r p q z. ⊎_elim
           (λ (s : r < x). here r p q z (inl s))
-          (λ (s : x ≤ r). ⊎_elim (λ (t : r < y). absurd (clash (own r s t) z)) (λ (t : y ≤ r). here r p q z (inr t)) (cases_lt r y))
+          (λ (s : x ≤ r). ⊎_elim (λ (t : r < y). absurd (clash (own r s t) z)) (λ (t : y ≤ r). here r p q z (inr t))
+          (cases_lt r y))
           (cases_lt r x);
       apart = λ a b c d e f p q. k.apart a b c d (old a b e).1 (old c d f).1 p q;
     }
@@ -149,7 +156,8 @@ gaps_drop g n x y h i u at k own rest =
         (cases_lt r y))
         (cases_lt r x)
 
-    here : (r : ℕ) → 1 ≤ r → r + 1 < 2 ^ 64 → i r ≡ false → (r < x) ⊎ (y ≤ r) → (a : ℕ) × (b : ℕ) × (get nat_cmp n a ≡ Some b) × (a ≤ r) × (r < b)
+    here : (r : ℕ) → 1 ≤ r → r + 1 < 2 ^ 64 → i r ≡ false → (r < x) ⊎ (y ≤ r) →
+        (a : ℕ) × (b : ℕ) × (get nat_cmp n a ≡ Some b) × (a ≤ r) × (r < b)
     here r p q z s =
         let o = k.found r p q (rest r p s ∙ z) in
         (o.0, o.1, is_old g n x None u o.0 (λ v. not_in o.0 o.1 r v s o.2 o.3 o.4) ∙ o.2, o.3, o.4)
@@ -172,9 +180,12 @@ outside a b q = ⊎_elim
     (λ (s : b ≤ q). ap (λ x. not (nat_lt q a) && x) (le-ltb q b s) ∙ and_none (not (nat_lt q a)))
 
 -- a gap without one register
-module _ (g n m o : BTreeMap ℕ ℕ) (x y r : ℕ) (h : ℕ → Bool) (u : (q : ℕ) → get nat_cmp n q ≡ cond (is_eq (nat_cmp x q)) None (get nat_cmp g q))
-    (before : (h i : ℕ → Bool) → Gaps n h → 1 ≤ x → ((q : ℕ) → x ≤ q → q < r → (h q ≡ true) × (i q ≡ false)) → Besides x r h i → Gaps m i)
-    (behind : (h i : ℕ → Bool) → Gaps m h → 1 ≤ r + 1 → ((q : ℕ) → r + 1 ≤ q → q < y → (h q ≡ true) × (i q ≡ false)) → Besides (r + 1) y h i → Gaps o i)
+module _ (g n m o : BTreeMap ℕ ℕ) (x y r : ℕ) (h : ℕ → Bool)
+    (u : (q : ℕ) → get nat_cmp n q ≡ cond (is_eq (nat_cmp x q)) None (get nat_cmp g q))
+    (before : (h i : ℕ → Bool) → Gaps n h → 1 ≤ x → ((q : ℕ) → x ≤ q → q < r → (h q ≡ true) × (i q ≡ false)) →
+    Besides x r h i → Gaps m i)
+    (behind : (h i : ℕ → Bool) → Gaps m h → 1 ≤ r + 1 → ((q : ℕ) → r + 1 ≤ q → q < y → (h q ≡ true) × (i q ≡ false)) →
+    Besides (r + 1) y h i → Gaps o i)
     (lt : r < y) (at : get nat_cmp g x ≡ Some y) (le : x ≤ r) (k : Gaps g h) where
   abbrev all : ℕ → Bool
   all q = within x y q || h q
@@ -223,11 +234,17 @@ module _ (g n m o : BTreeMap ℕ ℕ) (x y r : ℕ) (h : ℕ → Bool) (u : (q :
       lower q b c = ⊎_elim (λ (d : q < r). d) (λ (d : r ≤ q). absurd (c (omega (arith, b, d)))) (cases_lt q r)
 
 -- one register that holds something, and one that does not
-pub busy_more : (s t : BTreeSet ℕ) (h : ℕ → Bool) (r : ℕ) → ((q : ℕ) → contains nat_cmp t q ≡ cond (is_eq (nat_cmp r q)) true (contains nat_cmp s q)) → ((q : ℕ) → 1 ≤ q → contains nat_cmp s q ≡ h q) → (q : ℕ) → 1 ≤ q → contains nat_cmp t q ≡ ((r == q) || h q)
-busy_more s t h r u b q le = u q ∙ ap (λ x. cond x true (contains nat_cmp s q)) (unsigned_tied r q) ∙ ap (λ x. cond (r == q) true x) (b q le) ∙ cond_or (r == q) (h q)
+pub busy_more : (s t : BTreeSet ℕ) (h : ℕ → Bool) (r : ℕ) →
+    ((q : ℕ) → contains nat_cmp t q ≡ cond (is_eq (nat_cmp r q)) true (contains nat_cmp s q)) →
+    ((q : ℕ) → 1 ≤ q → contains nat_cmp s q ≡ h q) → (q : ℕ) → 1 ≤ q → contains nat_cmp t q ≡ ((r == q) || h q)
+busy_more s t h r u b q le = u q ∙ ap (λ x. cond x true (contains nat_cmp s q)) (unsigned_tied r q)
+    ∙ ap (λ x. cond (r == q) true x) (b q le) ∙ cond_or (r == q) (h q)
 
-pub busy_less : (s t : BTreeSet ℕ) (h : ℕ → Bool) (r : ℕ) → ((q : ℕ) → contains nat_cmp t q ≡ cond (is_eq (nat_cmp r q)) false (contains nat_cmp s q)) → ((q : ℕ) → 1 ≤ q → contains nat_cmp s q ≡ h q) → (q : ℕ) → 1 ≤ q → contains nat_cmp t q ≡ (h q && not (r == q))
-busy_less s t h r u b q le = u q ∙ ap (λ x. cond x false (contains nat_cmp s q)) (unsigned_tied r q) ∙ ap (λ x. cond (r == q) false x) (b q le) ∙ cond_and (r == q) (h q)
+pub busy_less : (s t : BTreeSet ℕ) (h : ℕ → Bool) (r : ℕ) →
+    ((q : ℕ) → contains nat_cmp t q ≡ cond (is_eq (nat_cmp r q)) false (contains nat_cmp s q)) →
+    ((q : ℕ) → 1 ≤ q → contains nat_cmp s q ≡ h q) → (q : ℕ) → 1 ≤ q → contains nat_cmp t q ≡ (h q && not (r == q))
+busy_less s t h r u b q le = u q ∙ ap (λ x. cond x false (contains nat_cmp s q)) (unsigned_tied r q)
+    ∙ ap (λ x. cond (r == q) false x) (b q le) ∙ cond_and (r == q) (h q)
 
 -- where that changes nothing
 pub same_less : (h : ℕ → Bool) (r q : ℕ) → (r ≡ q → h q ≡ false) → h q ≡ (h q && not (r == q))
@@ -242,24 +259,14 @@ same_more h r q on = ⊎_elim
     (λ (ne : r ≡ q → ⊥). sym (ap (λ x. x || h q) (ne_eqb r q ne)))
     (cases_eq r q)
 
--- the gap of one register that held something
-pub gap_of_one : (h : ℕ → Bool) (r : ℕ) → h r ≡ true → (q : ℕ) → r ≤ q → q < r + 1 → (h q ≡ true) × ((h q && not (r == q)) ≡ false)
-gap_of_one h r on q le lt =
-    let e : r ≡ q = omega (arith, le, lt) in
-    (ap h (sym e) ∙ on, ap (λ x. h q && not x) (eq-eqb r q e) ∙ and_none (h q))
-
-pub besides_one : (h : ℕ → Bool) (r : ℕ) → Besides r (r + 1) h (λ q. h q && not (r == q))
-besides_one h r q one s = same_less h r q (λ e. absurd (apart e))
-  where
-    apart : r ≡ q → ⊥
-    apart e = ⊎_elim (λ (b : q < r). omega (arith, b, e)) (λ (b : r + 1 ≤ q). omega (arith, b, e)) s
-
 -- a register that is in a gap is the least one from itself on
-pub gap_here : (g : BTreeMap ℕ ℕ) (h : ℕ → Bool) (s a b : ℕ) → Gaps g h → get nat_cmp g a ≡ Some b → a ≤ s → s < b → Least s s h
+pub gap_here : (g : BTreeMap ℕ ℕ) (h : ℕ → Bool) (s a b : ℕ) → Gaps g h → get nat_cmp g a ≡ Some b → a ≤ s → s < b →
+    Least s s h
 gap_here g h s a b k at le lt = (omega arith, k.only a b s at le lt, λ r from to. absurd (omega (arith, from, to)))
 
 -- and where one is in none, the first register of the next gap is
-pub gap_next : (g : BTreeMap ℕ ℕ) (h : ℕ → Bool) (s f b : ℕ) → Gaps g h → 1 ≤ s → (s + 1 < 2 ^ 64 → h s ≡ true) → s ≤ f → get nat_cmp g f ≡ Some b → ((a b : ℕ) → get nat_cmp g a ≡ Some b → s ≤ a → f ≤ a) → Least s f h
+pub gap_next : (g : BTreeMap ℕ ℕ) (h : ℕ → Bool) (s f b : ℕ) → Gaps g h → 1 ≤ s → (s + 1 < 2 ^ 64 → h s ≡ true) →
+    s ≤ f → get nat_cmp g f ≡ Some b → ((a b : ℕ) → get nat_cmp g a ≡ Some b → s ≤ a → f ≤ a) → Least s f h
 gap_next g h s f b k one on le at low = (le, k.only f b f at (omega arith) n.1, λ r from to. held r from to)
   where
     n : (1 ≤ f) × (f < b) × (b < 2 ^ 64)
@@ -270,7 +277,9 @@ gap_next g h s f b k one on le at low = (le, k.only f b f at (omega arith) n.1, 
         (λ z.
         let o = k.found r (omega (arith, one, from)) (omega (arith, to, n.1, n.2)) z in
         ⊎_elim
-        (λ (lt : o.0 < s). absurd (clash (on (omega (arith, from, to, n.1, n.2))) (k.only o.0 o.1 s o.2 (omega (arith, lt)) (omega (arith, from, o.4)))))
+        (λ (lt : o.0 < s).
+        absurd (clash (on (omega (arith, from, to, n.1, n.2)))
+        (k.only o.0 o.1 s o.2 (omega (arith, lt)) (omega (arith, from, o.4)))))
         (λ (ge : s ≤ o.0). (let up = low o.0 o.1 o.2 ge in absurd (omega (arith, up, o.3, to))))
         (cases_lt o.0 s))
         (bool_cases (h r))
@@ -282,19 +291,9 @@ not_gt a b le = by_ranked (a < b) (a ≡ b) (b < a) (nat_cmp a b) (ranked a b (n
 there : {x : Option ℕ} (w : ℕ) → x ≡ Some w → IsSome x
 there w e = ap is_some e
 
--- the first gap of those that begin at r or after it
-pub first_one : (g : BTreeMap ℕ ℕ) (r x y : ℕ) (es t : List (ℕ × ℕ)) → IsRangeOf nat_cmp (Included r) Unbounded g es → es ≡ (x, y) ∷ t →
-    (r ≤ x) × ((b : ℕ) × (get nat_cmp g x ≡ Some b)) × ((a b : ℕ) → get nat_cmp g a ≡ Some b → r ≤ a → x ≤ a)
-first_one g r x y es t p e =
-    let h : slice_get es 0 ≡ Some (x, y) = ap (λ zs. slice_get zs 0) e in
-    let i = subst (λ o. IfSome o (IsEntryInRange nat_cmp (Included r) Unbounded g)) h p.1 in (
-      le_from_not_gt r x i.0.0,
-      (y, i.1),
-      λ a b z le. le_from_not_gt x a (subst (λ o. IfSome o (λ (e : ℕ × ℕ). IsLeBy nat_cmp e.0 a)) h (p.2 a (not_gt r a le, tt) (there b z))),
-    )
-
 -- the last gap of those that begin at r or before it
-pub last_one : (g : BTreeMap ℕ ℕ) (r x y : ℕ) (es t : List (ℕ × ℕ)) → IsRangeOf nat_cmp Unbounded (Included r) g es → es ≡ t ++ (x, y) ∷ [] →
+pub last_one : (g : BTreeMap ℕ ℕ) (r x y : ℕ) (es t : List (ℕ × ℕ)) → IsRangeOf nat_cmp Unbounded (Included r) g es →
+    es ≡ t ++ (x, y) ∷ [] →
     (get nat_cmp g x ≡ Some y) × (x ≤ r) × ((a b : ℕ) → get nat_cmp g a ≡ Some b → a ≤ r → a ≤ x)
 last_one g r x y es t p e =
     let i = p.3 (x, y) t e in

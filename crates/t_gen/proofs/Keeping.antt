@@ -1,5 +1,6 @@
 -- What further variables leave as it is.
-use Rattle.std.proofs.Common.{◌≡◌, ℕ, zero, suc, ◌+◌, ◌≤◌, ◌++◌, List, [], ◌∷◌, length, take, drop, refl, sym, ap, ap₂, ◌∙◌, subst, arith}
+use Rattle.std.proofs.Common.{◌≡◌, ℕ, zero, suc, ◌+◌, ◌≤◌, ◌++◌, List, [], ◌∷◌, length, take, drop, refl, sym, ap, ap₂}
+use Rattle.std.proofs.Common.{◌∙◌, subst, arith}
 use Rattle.t_terms.specs.Tree.{TSeq, TBlock}
 use Rattle.t_emit.specs.Code.{onto}
 use Rattle.t_gen.specs.Filling.{Job, finish, finish_from}
@@ -40,73 +41,121 @@ pub tops_push : (ps : List Place) (p : Place) → tops (ps ++ p ∷ []) ≡ p �
 tops_push [] p = refl
 tops_push (q ∷ ps) p = ap (λ qs. qs ++ q ∷ []) (tops_push ps p)
 
-pub jobs_keep : (b m : ℕ) (es ys : List Entry) (ps : List Place) (ts : List a.ATm) → Fit b es m ps → m ≤ length es → jobs_at (es ++ ys) ps ts ≡ jobs_at es ps ts
+pub jobs_keep : (b m : ℕ) (es ys : List Entry) (ps : List Place) (ts : List a.ATm) → Fit b es m ps → m ≤ length es →
+    jobs_at (es ++ ys) ps ts ≡ jobs_at es ps ts
 jobs_keep b m es ys [] ts f le = refl
 jobs_keep b m es ys (p ∷ ps) ts f le =
-    ap₂ (λ g js. record { block = p.block; names = p.names; places = homes g; vars = scope p.names g; term = top no_term ts } ∷ js) (take_front es ys p.vars (omega (arith, f.1))) (jobs_keep b p.vars es ys ps (others ts) f.3 (omega (arith, f.1)))
+    ap₂ (λ g js. record {
+      block = p.block;
+      names = p.names;
+      places = homes g;
+      vars = scope p.names g;
+      term = top no_term ts;
+    } ∷ js) (take_front es ys p.vars (omega (arith, f.1)))
+    (jobs_keep b p.vars es ys ps (others ts) f.3 (omega (arith, f.1)))
 
-pub fit_keep : (b c m n : ℕ) (es ys : List Entry) (ps : List Place) → Fit b es m ps → m ≤ length es → b ≤ c → m ≤ n → Fit c (es ++ ys) n ps
+pub fit_keep : (b c m n : ℕ) (es ys : List Entry) (ps : List Place) → Fit b es m ps → m ≤ length es → b ≤ c → m ≤ n →
+    Fit c (es ++ ys) n ps
 fit_keep b c m n es ys [] f le bc mn = tt
-fit_keep b c m n es ys (p ∷ ps) f le bc mn =
-    (omega (arith, f.0), omega (arith, f.1), subst (Under p.names) (sym (take_front es ys p.vars (omega (arith, f.1)))) f.2, fit_keep b c p.vars p.vars es ys ps f.3 (omega (arith, f.1)) bc (omega arith))
+fit_keep b c m n es ys (p ∷ ps) f le bc mn = (
+  omega (arith, f.0),
+  omega (arith, f.1),
+  subst (Under p.names) (sym (take_front es ys p.vars (omega (arith, f.1)))) f.2,
+  fit_keep b c p.vars p.vars es ys ps f.3 (omega (arith, f.1)) bc (omega arith),
+)
 
 fit_back : (b m : ℕ) (es ys : List Entry) (ps : List Place) → Fit b (es ++ ys) m ps → m ≤ length es → Fit b es m ps
 fit_back b m es ys [] f le = tt
-fit_back b m es ys (p ∷ ps) f le =
-    (f.0, f.1, subst (Under p.names) (take_front es ys p.vars (omega (arith, f.1))) f.2, fit_back b p.vars es ys ps f.3 (omega (arith, f.1)))
+fit_back b m es ys (p ∷ ps) f le = (
+  f.0,
+  f.1,
+  subst (Under p.names) (take_front es ys p.vars (omega (arith, f.1))) f.2,
+  fit_back b p.vars es ys ps f.3 (omega (arith, f.1)),
+)
 
 -- the same with a bound that is larger
 pub fit_more : (b c m n : ℕ) (es : List Entry) (ps : List Place) → Fit b es m ps → b ≤ c → m ≤ n → Fit c es n ps
 fit_more b c m n es [] f bc mn = tt
-fit_more b c m n es (p ∷ ps) f bc mn = (omega (arith, f.0), omega (arith, f.1), f.2, fit_more b c p.vars p.vars es ps f.3 bc (omega arith))
+fit_more b c m n es (p ∷ ps) f bc mn =
+    (omega (arith, f.0), omega (arith, f.1), f.2, fit_more b c p.vars p.vars es ps f.3 bc (omega arith))
 
 -- the variables of the first place alone
-pub fit_cut : (b : ℕ) (es kept : List Entry) (p : Place) (ps : List Place) → kept ≡ take p.vars es → Fit b es (length es) (p ∷ ps) → Fit b kept (length kept) (p ∷ ps)
+pub fit_cut : (b : ℕ) (es kept : List Entry) (p : Place) (ps : List Place) → kept ≡ take p.vars es →
+    Fit b es (length es) (p ∷ ps) → Fit b kept (length kept) (p ∷ ps)
 fit_cut b es kept p ps cut f =
     let n : length kept ≡ p.vars = ap length cut ∙ length_take_le es p.vars f.1 in
     let same : es ≡ kept ++ drop p.vars es = sym (split es p.vars) ∙ ap (λ xs. xs ++ drop p.vars es) (sym cut) in
-    let g : Fit b (kept ++ drop p.vars es) p.vars ps = subst (λ xs. Fit b xs p.vars ps) same f.3 in
-    (f.0, omega (arith, n), subst (Under p.names) (sym cut ∙ sym (whole kept p.vars (omega (arith, n)))) f.2, fit_back b p.vars kept (drop p.vars es) ps g (omega (arith, n)))
+    let g : Fit b (kept ++ drop p.vars es) p.vars ps = subst (λ xs. Fit b xs p.vars ps) same f.3 in (
+      f.0,
+      omega (arith, n),
+      subst (Under p.names) (sym cut ∙ sym (whole kept p.vars (omega (arith, n)))) f.2,
+      fit_back b p.vars kept (drop p.vars es) ps g (omega (arith, n)),
+    )
 
-pub count_cut : (b : ℕ) (es kept : List Entry) (p : Place) (ps : List Place) → kept ≡ take p.vars es → Fit b es (length es) (p ∷ ps) → p.vars ≡ length kept
+pub count_cut : (b : ℕ) (es kept : List Entry) (p : Place) (ps : List Place) → kept ≡ take p.vars es →
+    Fit b es (length es) (p ∷ ps) → p.vars ≡ length kept
 count_cut b es kept p ps cut f = sym (ap length cut ∙ length_take_le es p.vars f.1)
 
-pub pend_cut : (prog : a.AProg) (b : ℕ) (es kept : List Entry) (out : List TBlock) (pre : TSeq → TSeq) (p : Place) (ps : List Place) (ts : List a.ATm) → kept ≡ take p.vars es → Fit b es (length es) (p ∷ ps) →
+pub pend_cut : (prog : a.AProg) (b : ℕ) (es kept : List Entry) (out : List TBlock) (pre : TSeq → TSeq) (p : Place)
+    (ps : List Place) (ts : List a.ATm) → kept ≡ take p.vars es → Fit b es (length es) (p ∷ ps) →
     pend prog kept out pre (p ∷ ps) ts ≡ pend prog es out pre (p ∷ ps) ts
 pend_cut prog b es kept out pre p ps ts cut f =
     let n : length kept ≡ p.vars = ap length cut ∙ length_take_le es p.vars f.1 in
     let same : es ≡ kept ++ drop p.vars es = sym (split es p.vars) ∙ ap (λ xs. xs ++ drop p.vars es) (sym cut) in
     let g = fit_cut b es kept p ps cut f in
-    let js : jobs_at kept ps (others ts) ≡ jobs_at es ps (others ts) = sym (ap (λ xs. jobs_at xs ps (others ts)) same ∙ jobs_keep b p.vars kept (drop p.vars es) ps (others ts) g.3 (omega (arith, n))) in
-    ap₂ (λ vs ks. finish_from prog (length out) out pre (record { block = p.block; names = p.names; places = homes vs; vars = scope p.names vs; term = top no_term ts }) ks) (whole kept p.vars (omega (arith, n)) ∙ cut) js
+    let js : jobs_at kept ps (others ts) ≡ jobs_at es ps (others ts) =
+    sym (ap (λ xs. jobs_at xs ps (others ts)) same
+    ∙ jobs_keep b p.vars kept (drop p.vars es) ps (others ts) g.3 (omega (arith, n))) in
+    ap₂ (λ vs ks. finish_from prog (length out) out pre
+    (record {
+      block = p.block;
+      names = p.names;
+      places = homes vs;
+      vars = scope p.names vs;
+      term = top no_term ts;
+    }) ks) (whole kept p.vars (omega (arith, n)) ∙ cut) js
 
 -- the registers of the variables that are used
-pub keeps_keep : (b m : ℕ) (es ys : List Entry) (ps : List Place) (ts : List a.ATm) → Fit b es m ps → m ≤ length es → KeepsAll es ps ts → KeepsAll (es ++ ys) ps ts
+pub keeps_keep : (b m : ℕ) (es ys : List Entry) (ps : List Place) (ts : List a.ATm) → Fit b es m ps → m ≤ length es →
+    KeepsAll es ps ts → KeepsAll (es ++ ys) ps ts
 keeps_keep b m es ys [] ts f le k = tt
-keeps_keep b m es ys (p ∷ ps) ts f le k =
-    (subst (λ xs. Keeps p.registers (homes xs) (used (top no_term ts))) (sym (take_front es ys p.vars (omega (arith, f.1)))) k.0, keeps_keep b p.vars es ys ps (others ts) f.3 (omega (arith, f.1)) k.1)
+keeps_keep b m es ys (p ∷ ps) ts f le k = (
+  subst (λ xs. Keeps p.registers (homes xs) (used (top no_term ts)))
+      (sym (take_front es ys p.vars (omega (arith, f.1)))) k.0,
+  keeps_keep b p.vars es ys ps (others ts) f.3 (omega (arith, f.1)) k.1,
+)
 
-keeps_back : (b m : ℕ) (es ys : List Entry) (ps : List Place) (ts : List a.ATm) → Fit b es m ps → m ≤ length es → KeepsAll (es ++ ys) ps ts → KeepsAll es ps ts
+keeps_back : (b m : ℕ) (es ys : List Entry) (ps : List Place) (ts : List a.ATm) → Fit b es m ps → m ≤ length es →
+    KeepsAll (es ++ ys) ps ts → KeepsAll es ps ts
 keeps_back b m es ys [] ts f le k = tt
-keeps_back b m es ys (p ∷ ps) ts f le k =
-    (subst (λ xs. Keeps p.registers (homes xs) (used (top no_term ts))) (take_front es ys p.vars (omega (arith, f.1))) k.0, keeps_back b p.vars es ys ps (others ts) f.3 (omega (arith, f.1)) k.1)
+keeps_back b m es ys (p ∷ ps) ts f le k = (
+  subst (λ xs. Keeps p.registers (homes xs) (used (top no_term ts))) (take_front es ys p.vars (omega (arith, f.1)))
+      k.0,
+  keeps_back b p.vars es ys ps (others ts) f.3 (omega (arith, f.1)) k.1,
+)
 
-pub keeps_cut : (b : ℕ) (es kept : List Entry) (p : Place) (ps : List Place) (ts : List a.ATm) → kept ≡ take p.vars es → Fit b es (length es) (p ∷ ps) → KeepsAll es (p ∷ ps) ts → KeepsAll kept (p ∷ ps) ts
+pub keeps_cut : (b : ℕ) (es kept : List Entry) (p : Place) (ps : List Place) (ts : List a.ATm) →
+    kept ≡ take p.vars es → Fit b es (length es) (p ∷ ps) → KeepsAll es (p ∷ ps) ts → KeepsAll kept (p ∷ ps) ts
 keeps_cut b es kept p ps ts cut f k =
     let n : length kept ≡ p.vars = ap length cut ∙ length_take_le es p.vars f.1 in
     let same : es ≡ kept ++ drop p.vars es = sym (split es p.vars) ∙ ap (λ xs. xs ++ drop p.vars es) (sym cut) in
     let g = fit_cut b es kept p ps cut f in (
-      subst (λ xs. Keeps p.registers (homes xs) (used (top no_term ts))) (sym cut ∙ sym (whole kept p.vars (omega (arith, n)))) k.0,
-      keeps_back b p.vars kept (drop p.vars es) ps (others ts) g.3 (omega (arith, n)) (subst (λ xs. KeepsAll xs ps (others ts)) same k.1),
+      subst (λ xs. Keeps p.registers (homes xs) (used (top no_term ts)))
+          (sym cut ∙ sym (whole kept p.vars (omega (arith, n)))) k.0,
+      keeps_back b p.vars kept (drop p.vars es) ps (others ts) g.3 (omega (arith, n))
+          (subst (λ xs. KeepsAll xs ps (others ts)) same k.1),
     )
 
 -- code that is the same
-pub from_same : (prog : a.AProg) (at : ℕ) (out : List TBlock) (pre pro : TSeq → TSeq) (j : Job) (js : List Job) → ((rest : TSeq) → pre rest ≡ pro rest) → finish_from prog at out pre j js ≡ finish_from prog at out pro j js
+pub from_same : (prog : a.AProg) (at : ℕ) (out : List TBlock) (pre pro : TSeq → TSeq) (j : Job) (js : List Job) →
+    ((rest : TSeq) → pre rest ≡ pro rest) → finish_from prog at out pre j js ≡ finish_from prog at out pro j js
 from_same prog at out pre pro j js h =
-    ap (λ c. finish prog (at + thirds j.term) (fill j.block c out ++ extras prog j.names j.places j.vars at j.term) js) (h (code j.names j.places at j.term))
+    ap (λ c. finish prog (at + thirds j.term) (fill j.block c out ++ extras prog j.names j.places j.vars at j.term) js)
+    (h (code j.names j.places at j.term))
 
 -- where no code stands yet
-pub pend_finish : (prog : a.AProg) (es : List Entry) (out : List TBlock) (ps : List Place) (ts : List a.ATm) → pend prog es out (onto []) ps ts ≡ finish prog (length out) out (jobs_at es ps ts)
+pub pend_finish : (prog : a.AProg) (es : List Entry) (out : List TBlock) (ps : List Place) (ts : List a.ATm) →
+    pend prog es out (onto []) ps ts ≡ finish prog (length out) out (jobs_at es ps ts)
 pend_finish prog es out [] ts = refl
 pend_finish prog es out (p ∷ ps) ts = refl
 

@@ -1,5 +1,6 @@
 -- The walk over the nodes of a body.
-use Rattle.std.proofs.Common.{◌≡◌, ℕ, suc, ◌+◌, ◌<◌, ◌++◌, List, [], ◌∷◌, length, take, drop, get_or, refl, sym, ap, ap₂, ◌∙◌, subst, arith, length-append}
+use Rattle.std.proofs.Common.{◌≡◌, ℕ, suc, ◌+◌, ◌<◌, ◌++◌, List, [], ◌∷◌, length, take, drop, get_or, refl, sym, ap}
+use Rattle.std.proofs.Common.{ap₂, ◌∙◌, subst, arith, length-append}
 use Rattle.std.proofs.lemmas.List.{drop_more}
 use Rattle.idx_core.specs.declared.span.Span.{Span}
 use Rattle.t_terms.specs.Tree.{TBlock}
@@ -22,31 +23,42 @@ use Rattle.gen_law.specs.Gen.{used}
 use Rattle.t_gen.proofs.Keeping.{whole, tops_push, fit_cut, count_cut, keeps_cut, pend_cut}
 
 -- what the loop keeps: with what is left of the nodes, the whole comes out
-pub record Walked (prog : a.AProg) (rest : List ANode) (es : List Entry) (ps : List Place) (o : List Block) (c : List (Instr × Span)) (all : List TBlock) : Type 0 where
+pub record Walked (prog : a.AProg) (rest : List ANode) (es : List Entry) (ps : List Place) (o : List Block)
+    (c : List (Instr × Span)) (all : List TBlock) : Type 0 where
   pub row : ARow rest (length ps)
   pub fit : Fit (length (blocks_of o)) es (length es) (tops ps)
   pub terms : pend prog es (blocks_of o) (onto c) (tops ps) (a_onto rest []) ≡ all
   pub keeps : KeepsAll es (tops ps) (a_onto rest [])
 
-pub walk_begins : (prog : a.AProg) (nodes : List ANode) (es : List Entry) (p : Place) (ps : List Place) (o : List Block) (c : List (Instr × Span)) → ARow nodes 1 → Under p.names es → c ≡ [] → ps ≡ p ∷ [] → p.vars ≡ length es → p.block < length o → Keeps p.registers (homes es) (used (a_tree nodes)) →
-    Walked prog nodes es ps o c (finish prog (length (blocks_of o)) (blocks_of o) (body_job p.block p.names (homes es) (scope p.names es) nodes ∷ []))
+pub walk_begins : (prog : a.AProg) (nodes : List ANode) (es : List Entry) (p : Place) (ps : List Place)
+    (o : List Block) (c : List (Instr × Span)) → ARow nodes 1 → Under p.names es → c ≡ [] → ps ≡ p ∷ [] →
+    p.vars ≡ length es → p.block < length o → Keeps p.registers (homes es) (used (a_tree nodes)) →
+    Walked prog nodes es ps o c
+    (finish prog (length (blocks_of o)) (blocks_of o)
+    (body_job p.block p.names (homes es) (scope p.names es) nodes ∷ []))
 walk_begins prog nodes es p ps o c row under none is count lt keeps =
     let all : take p.vars es ≡ es = whole es p.vars (omega (arith, count)) in
     record {
       row = subst (λ n. ARow nodes n) (sym (ap length is)) row;
-      fit = subst (λ xs. Fit (length (blocks_of o)) es (length es) (tops xs)) (sym is) (omega (arith, lt, blocks_count o), omega (arith, count), subst (Under p.names) (sym all) under, tt);
+      fit = subst (λ xs. Fit (length (blocks_of o)) es (length es) (tops xs)) (sym is)
+          (omega (arith, lt, blocks_count o), omega (arith, count), subst (Under p.names) (sym all) under, tt);
       terms =
           ap₂ (λ x y. pend prog es (blocks_of o) (onto x) (tops y) (a_onto nodes [])) none is
-          ∙ ap (λ xs. finish prog (length (blocks_of o)) (blocks_of o) (body_job p.block p.names (homes xs) (scope p.names xs) nodes ∷ [])) all;
-      keeps = subst (λ xs. KeepsAll es (tops xs) (a_onto nodes [])) (sym is) (subst (λ xs. Keeps p.registers (homes xs) (used (a_tree nodes))) (sym all) keeps, tt);
+          ∙ ap (λ xs. finish prog (length (blocks_of o)) (blocks_of o)
+          (body_job p.block p.names (homes xs) (scope p.names xs) nodes ∷ [])) all;
+      keeps = subst (λ xs. KeepsAll es (tops xs) (a_onto nodes [])) (sym is)
+          (subst (λ xs. Keeps p.registers (homes xs) (used (a_tree nodes))) (sym all) keeps, tt);
     }
 
-pub next_node : (ns : List ANode) (i : ℕ) (x : ANode) → i < length ns → x ≡ get_or ns i x → drop i ns ≡ x ∷ drop (i + 1) ns
+pub next_node : (ns : List ANode) (i : ℕ) (x : ANode) → i < length ns → x ≡ get_or ns i x →
+    drop i ns ≡ x ∷ drop (i + 1) ns
 next_node ns i x lt is = drop_more ns i x lt ∙ ap (λ y. y ∷ drop (i + 1) ns) (sym is)
 
 -- what the next node finds
-module _ (prog : a.AProg) (before rest : List ANode) (node : ANode) (es kept : List Entry) (ps qs : List Place) (p : Place) (o : List Block) (c : List (Instr × Span)) (all : List TBlock)
-    (is : before ≡ node ∷ rest) (popped : ps ≡ qs ++ p ∷ []) (cut : kept ≡ take p.vars es) (walked : Walked prog before es ps o c all) where
+module _ (prog : a.AProg) (before rest : List ANode) (node : ANode) (es kept : List Entry) (ps qs : List Place)
+    (p : Place) (o : List Block) (c : List (Instr × Span)) (all : List TBlock)
+    (is : before ≡ node ∷ rest) (popped : ps ≡ qs ++ p ∷ []) (cut : kept ≡ take p.vars es)
+    (walked : Walked prog before es ps o c all) where
   is_tops : tops ps ≡ p ∷ tops qs
   is_tops = ap tops popped ∙ tops_push qs p
 
@@ -70,15 +82,19 @@ module _ (prog : a.AProg) (before rest : List ANode) (node : ANode) (es kept : L
 
   pub walk_keeps : KeepsAll kept (p ∷ tops qs) (a_build node.form (a_values node.values.items) (a_onto rest []))
   walk_keeps = keeps_cut (length (blocks_of o)) es kept p (tops qs) (a_onto (node ∷ rest) []) cut fits
-      (subst (λ ks. KeepsAll es ks (a_onto (node ∷ rest) [])) is_tops (subst (λ ns. KeepsAll es (tops ps) (a_onto ns [])) is walked.keeps))
+      (subst (λ ks. KeepsAll es ks (a_onto (node ∷ rest) [])) is_tops
+      (subst (λ ns. KeepsAll es (tops ps) (a_onto ns [])) is walked.keeps))
 
-  pub walk_goes : (fs : List Entry) (rs : List Place) (n : List Block) (d : List (Instr × Span)) → Stepped prog p (a_onto rest []) (a_build node.form (a_values node.values.items)) (a_kids node.form) kept fs qs rs o n c d → Walked prog rest fs rs n d all
+  pub walk_goes : (fs : List Entry) (rs : List Place) (n : List Block) (d : List (Instr × Span)) →
+      Stepped prog p (a_onto rest []) (a_build node.form (a_values node.values.items)) (a_kids node.form) kept fs qs rs
+      o n c d → Walked prog rest fs rs n d all
   walk_goes fs rs n d step = record {
     row = subst (ARow rest) (sym step.count) row.1;
     fit = step.fit;
     terms =
         step.walked
-        ∙ pend_cut prog (length (blocks_of o)) es kept (blocks_of o) (onto c) p (tops qs) (a_build node.form (a_values node.values.items) (a_onto rest [])) cut fits
+        ∙ pend_cut prog (length (blocks_of o)) es kept (blocks_of o) (onto c) p (tops qs)
+        (a_build node.form (a_values node.values.items) (a_onto rest [])) cut fits
         ∙ ap (λ ks. pend prog es (blocks_of o) (onto c) ks (a_onto (node ∷ rest) [])) (sym is_tops)
         ∙ ap (λ ns. pend prog es (blocks_of o) (onto c) (tops ps) (a_onto ns [])) (sym is)
         ∙ walked.terms;
@@ -86,14 +102,18 @@ module _ (prog : a.AProg) (before rest : List ANode) (node : ANode) (es kept : L
   }
 
 -- there is a place for each node
-pub walk_stuck : (prog : a.AProg) (before rest : List ANode) (node : ANode) (es : List Entry) (ps : List Place) (o : List Block) (c : List (Instr × Span)) (all : List TBlock) → before ≡ node ∷ rest → length ps ≡ 0 → Walked prog before es ps o c all → ⊥
-walk_stuck prog before rest node es ps o c all is none walked = subst (ARow (node ∷ rest)) none (subst (λ ns. ARow ns (length ps)) is walked.row)
+pub walk_stuck : (prog : a.AProg) (before rest : List ANode) (node : ANode) (es : List Entry) (ps : List Place)
+    (o : List Block) (c : List (Instr × Span)) (all : List TBlock) → before ≡ node ∷ rest → length ps ≡ 0 →
+    Walked prog before es ps o c all → ⊥
+walk_stuck prog before rest node es ps o c all is none walked =
+    subst (ARow (node ∷ rest)) none (subst (λ ns. ARow ns (length ps)) is walked.row)
 
 nil_from : {T : Type 0} (xs : List T) → length xs ≡ 0 → xs ≡ []
 nil_from [] e = refl
 nil_from (x ∷ xs) e = absurd (omega arith)
 
-pub walk_ends : (prog : a.AProg) (rest : List ANode) (es : List Entry) (ps : List Place) (o : List Block) (c : List (Instr × Span)) (all : List TBlock) → rest ≡ [] → Walked prog rest es ps o c all → blocks_of o ≡ all
+pub walk_ends : (prog : a.AProg) (rest : List ANode) (es : List Entry) (ps : List Place) (o : List Block)
+    (c : List (Instr × Span)) (all : List TBlock) → rest ≡ [] → Walked prog rest es ps o c all → blocks_of o ≡ all
 walk_ends prog rest es ps o c all is walked =
     let none : ps ≡ [] = nil_from ps (subst (λ ns. ARow ns (length ps)) is walked.row) in
     ap (λ (qs : List Place). pend prog es (blocks_of o) (onto c) (tops qs) (a_onto rest [])) (sym none) ∙ walked.terms

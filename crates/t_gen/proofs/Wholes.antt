@@ -11,9 +11,13 @@ use Rattle.a_terms.specs.Bound.{ABound}
 use Rattle.gen_law.specs.Gen.{generated_blocks, generated_heap, generated}
 use Rattle.gen_law.specs.Laws.{InvariantKept}
 
-pub both : (p : AProg) (main tree : ATm) (xs : List AConsts) (bs : List Block) (ds : List Data) → blocks_of bs ≡ generated_blocks p tree → tree ≡ main → data_of ds ≡ generated_heap xs → xs ≡ p.tuples → parts bs ds ≡ generated p main
+pub both : (p : AProg) (main tree : ATm) (xs : List AConsts) (bs : List Block) (ds : List Data) →
+    blocks_of bs ≡ generated_blocks p tree → tree ≡ main → data_of ds ≡ generated_heap xs → xs ≡ p.tuples →
+    parts bs ds ≡ generated p main
 both p main tree xs bs ds b same d all =
-    ap₂ (λ (x : List TBlock) (y : List TData). record { blocks = x; heap = y }) (b ∙ ap (generated_blocks p) same) (d ∙ ap generated_heap all)
+    ap₂ (λ (x : List TBlock) (y : List TData). record { blocks = x; heap = y }) (b ∙ ap (generated_blocks p) same)
+    (d ∙ ap generated_heap all)
 
-pub in_range : (p : AProg) (main : ATm) (P : TProg) → InvariantKept → P ≡ generated p main → ∥ ABound p main ∥₁ → Whole P
+pub in_range : (p : AProg) (main : ATm) (P : TProg) → InvariantKept → P ≡ generated p main → ∥ ABound p main ∥₁ →
+    Whole P
 in_range p main P kept same bound = ∥∥₁_elim bound (whole_prop P) (λ b. subst Whole (sym same) (kept p main b.0.0 b.1))

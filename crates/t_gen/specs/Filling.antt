@@ -38,4 +38,6 @@ reserves (b ∷ bs) = reserved b.owes (ty_args b.args 1) ∷ reserves bs
 -- one job for each of the program's blocks
 abbrev pub jobs : ℕ → List ABlk → List Job
 jobs n [] = []
-jobs n (b ∷ bs) = record { block = n; names = b.owes; places = rows (arity b.args); vars = types_of b.args []; term = b.body } ∷ jobs (suc n) bs
+jobs n (b ∷ bs) =
+    record { block = n; names = b.owes; places = rows (arity b.args); vars = types_of b.args []; term = b.body }
+    ∷ jobs (suc n) bs

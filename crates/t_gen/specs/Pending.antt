@@ -62,7 +62,8 @@ Ready o es p ps = Fit (length (blocks_of o)) es (length es) (p ∷ tops ps)
 -- each place has the registers of the variables that its term uses
 abbrev pub KeepsAll : List Entry → List Place → List a.ATm → Type 0
 KeepsAll es [] ts = Unit {0}
-KeepsAll es (p ∷ ps) ts = Keeps p.registers (homes (take p.vars es)) (used (top no_term ts)) × KeepsAll es ps (others ts)
+KeepsAll es (p ∷ ps) ts =
+    Keeps p.registers (homes (take p.vars es)) (used (top no_term ts)) × KeepsAll es ps (others ts)
 
 -- what is told of a choice on a value: the variables that its third part uses, and those that it or its value uses and
 -- its second part does not
@@ -71,7 +72,8 @@ Parting v ts w = Listed (used (top no_term (others ts))) 0 w.third.items
     × ((i : ℕ) → mem w.gone.items i ≡ ((uses v i || used (top no_term (others ts)) i) && not (used (top no_term ts) i)))
 
 -- what one node does, which makes a term of `kids` of these terms
-pub record Stepped (prog : a.AProg) (p : Place) (ts : List a.ATm) (build : List a.ATm → List a.ATm) (kids : ℕ) (es fs : List Entry)
+pub record Stepped (prog : a.AProg) (p : Place) (ts : List a.ATm) (build : List a.ATm → List a.ATm) (kids : ℕ)
+    (es fs : List Entry)
     (ps qs : List Place) (o n : List Block) (c d : List (Instr × Span)) : Type 0 where
   pub walked :
       pend prog fs (blocks_of n) (onto d) (tops qs) ts ≡ pend prog es (blocks_of o) (onto c) (p ∷ tops ps) (build ts)

@@ -9,7 +9,8 @@ use Rattle.t_gen.specs.declared.registers.Registers.{Registers}
 pub record Gaps (g : BTreeMap ℕ ℕ) (h : ℕ → Bool) : Type 0 where
   pub ends : (a b : ℕ) → get nat_cmp g a ≡ Some b → (1 ≤ a) × (a < b) × (b < 2 ^ 64)
   pub only : (a b r : ℕ) → get nat_cmp g a ≡ Some b → a ≤ r → r < b → h r ≡ false
-  pub found : (r : ℕ) → 1 ≤ r → r + 1 < 2 ^ 64 → h r ≡ false → (a : ℕ) × (b : ℕ) × (get nat_cmp g a ≡ Some b) × (a ≤ r) × (r < b)
+  pub found : (r : ℕ) → 1 ≤ r → r + 1 < 2 ^ 64 → h r ≡ false → (a : ℕ) × (b : ℕ) × (get nat_cmp g a ≡ Some b) × (a ≤ r)
+      × (r < b)
   pub apart : (a b c d : ℕ) → get nat_cmp g a ≡ Some b → get nat_cmp g c ≡ Some d → a ≤ c → c < b → a ≡ c
 
 -- the registers of which h is true hold something, and the others are in gaps

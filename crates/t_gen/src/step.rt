@@ -83,7 +83,8 @@ fn step_call(
         → Ready out.old.items walk.old.vars.items place walk.old.places.items
         → KeepsAll walk.old.vars.items (place ∷ tops walk.old.places.items)
         (Call (top no_value (a_values values.now)) (atrees types.now) (others (a_values values.now)) ∷ rest)
-        → Stepped prog place rest (λ ts. Call (top no_value (a_values values.now)) (atrees types.now) (others (a_values values.now)) ∷ ts)
+        → Stepped prog place rest
+        (λ ts. Call (top no_value (a_values values.now)) (atrees types.now) (others (a_values values.now)) ∷ ts)
         0 walk.old.vars.items walk.new.vars.items walk.old.places.items walk.new.places.items
         out.old.items out.new.items walk.old.code.items walk.new.code.items) }
 {

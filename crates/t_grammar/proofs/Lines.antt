@@ -5,7 +5,10 @@ use Rattle.text_core.proofs.Going as step
 use Rattle.t_terms.specs.declared.token.Kind.{Kind}
 use Rattle.t_terms.specs.declared.token.Kind.TheVariants as k
 use Rattle.t_terms.specs.declared.wanted.Wanted.TheVariants as want
-use Rattle.t_terms.specs.GrammarTable.{table, LBinds, LNames, LMoreNames, MakeBinds, MakeFirstName, MakeNextName, MakeClosedNames, LFile, LRegs, LMoreRegs, MakeFile, MakeFirstReg, MakeNextReg, MakeClosedRegs, LT, LFields, LMoreFields, MakeFirstField, MakeNextField, MakeClosedFields, fits, after, type_after, fields_after, fields_tail}
+use Rattle.t_terms.specs.GrammarTable.{table, LBinds, LNames, LMoreNames, MakeBinds, MakeFirstName, MakeNextName}
+use Rattle.t_terms.specs.GrammarTable.{MakeClosedNames, LFile, LRegs, LMoreRegs, MakeFile, MakeFirstReg, MakeNextReg}
+use Rattle.t_terms.specs.GrammarTable.{MakeClosedRegs, LT, LFields, LMoreFields, MakeFirstField, MakeNextField}
+use Rattle.t_terms.specs.GrammarTable.{MakeClosedFields, fits, after, type_after, fields_after, fields_tail}
 use Rattle.t_terms.specs.Text.{most_open}
 use Rattle.t_grammar.specs.Reads.{entry_owed, field_owed}
 use Rattle.t_grammar.proofs.Stepping.{not_fits, Opens, as_token, ListLine}
@@ -13,7 +16,8 @@ use Rattle.t_grammar.proofs.Stepping.{not_fits, Opens, as_token, ListLine}
 pub opens_binds : Opens LBinds want.LeftBracket (Nt LNames ∷ (Mark ∷ (Do MakeBinds ∷ [])))
 opens_binds = record { takes = λ c e. takes c e; no_other = λ c e. no_other c e }
   where
-    takes : (c : Kind) → fits want.LeftBracket c ≡ true → after LBinds c ≡ Some (Nt LNames ∷ (Mark ∷ (Do MakeBinds ∷ [])))
+    takes : (c : Kind) → fits want.LeftBracket c ≡ true →
+        after LBinds c ≡ Some (Nt LNames ∷ (Mark ∷ (Do MakeBinds ∷ [])))
     takes k.LeftBracket e = refl
     takes _ e = absurd (cc)
 
@@ -36,7 +40,8 @@ opens_file = record { takes = λ c e. takes c e; no_other = λ c e. no_other c e
 comma_names : Opens LMoreNames want.Comma (Tm want.Name ∷ (Do MakeNextName ∷ (Nt LMoreNames ∷ [])))
 comma_names = record { takes = λ c e. takes c e; no_other = λ c e. no_other c e }
   where
-    takes : (c : Kind) → fits want.Comma c ≡ true → after LMoreNames c ≡ Some (Tm want.Name ∷ (Do MakeNextName ∷ (Nt LMoreNames ∷ [])))
+    takes : (c : Kind) → fits want.Comma c ≡ true →
+        after LMoreNames c ≡ Some (Tm want.Name ∷ (Do MakeNextName ∷ (Nt LMoreNames ∷ [])))
     takes k.Comma e = refl
     takes _ e = absurd (cc)
 
@@ -47,7 +52,8 @@ comma_names = record { takes = λ c e. takes c e; no_other = λ c e. no_other c 
 comma_regs : Opens LMoreRegs want.Comma (entry_owed ++ (Do MakeNextReg ∷ (Nt LMoreRegs ∷ [])))
 comma_regs = record { takes = λ c e. takes c e; no_other = λ c e. no_other c e }
   where
-    takes : (c : Kind) → fits want.Comma c ≡ true → after LMoreRegs c ≡ Some (entry_owed ++ (Do MakeNextReg ∷ (Nt LMoreRegs ∷ [])))
+    takes : (c : Kind) → fits want.Comma c ≡ true →
+        after LMoreRegs c ≡ Some (entry_owed ++ (Do MakeNextReg ∷ (Nt LMoreRegs ∷ [])))
     takes k.Comma e = refl
     takes _ e = absurd (cc)
 
@@ -58,7 +64,8 @@ comma_regs = record { takes = λ c e. takes c e; no_other = λ c e. no_other c e
 comma_fields : Opens LMoreFields want.Comma (field_owed ++ (Do MakeNextField ∷ (Nt LMoreFields ∷ [])))
 comma_fields = record { takes = λ c e. takes c e; no_other = λ c e. no_other c e }
   where
-    takes : (c : Kind) → fits want.Comma c ≡ true → after LMoreFields c ≡ Some (field_owed ++ (Do MakeNextField ∷ (Nt LMoreFields ∷ [])))
+    takes : (c : Kind) → fits want.Comma c ≡ true →
+        after LMoreFields c ≡ Some (field_owed ++ (Do MakeNextField ∷ (Nt LMoreFields ∷ [])))
     takes k.Comma e = refl
     takes _ e = absurd (cc)
 
@@ -67,12 +74,19 @@ comma_fields = record { takes = λ c e. takes c e; no_other = λ c e. no_other c
     no_other _ e = refl
 
 -- how a list begins that is not empty
-names_begin : (c : Kind) → fits want.RightBracket c ≡ false → after LNames c ≡ (if fits want.Name c then Some (Do MakeFirstName ∷ (Nt LMoreNames ∷ (Tm want.RightBracket ∷ (Do MakeClosedNames ∷ [])))) else None)
+names_begin : (c : Kind) → fits want.RightBracket c ≡ false →
+    after LNames c
+    ≡ (if fits want.Name c then Some
+    (Do MakeFirstName ∷ (Nt LMoreNames ∷ (Tm want.RightBracket ∷ (Do MakeClosedNames ∷ [])))) else None)
 names_begin k.RightBracket e = absurd (cc)
 names_begin k.Name e = refl
 names_begin _ e = refl
 
-regs_begin : (c : Kind) → fits want.RightBrace c ≡ false → after LRegs c ≡ (if fits want.Register c then Some (Tm want.Colon ∷ (Nt LT ∷ (Do MakeFirstReg ∷ (Nt LMoreRegs ∷ (Tm want.RightBrace ∷ (Do MakeClosedRegs ∷ [])))))) else None)
+regs_begin : (c : Kind) → fits want.RightBrace c ≡ false →
+    after LRegs c
+    ≡ (if fits want.Register c then Some
+    (Tm want.Colon ∷ (Nt LT ∷ (Do MakeFirstReg ∷ (Nt LMoreRegs ∷ (Tm want.RightBrace ∷ (Do MakeClosedRegs ∷ []))))))
+    else None)
 regs_begin k.RightBrace e = absurd (cc)
 regs_begin (k.Register r) e = refl
 regs_begin _ e = refl
@@ -81,9 +95,11 @@ fields_begin : (c : Kind) → fits want.RightAngle c ≡ false → fields_after 
 fields_begin k.RightAngle e = absurd (cc)
 fields_begin _ e = refl
 
-pub list_names : ListLine LNames LMoreNames want.RightBracket (Tm want.Name ∷ []) MakeFirstName MakeNextName MakeClosedNames
+pub list_names : ListLine LNames LMoreNames want.RightBracket (Tm want.Name ∷ []) MakeFirstName MakeNextName
+    MakeClosedNames
 list_names = record {
-  begin = λ ts d i e. as_token ts d i LNames want.Name _ refl (λ c q. names_begin c.kind (not_fits want.RightBracket (slice_get ts i) c e q));
+  begin = λ ts d i e. as_token ts d i LNames want.Name _ refl
+      (λ c q. names_begin c.kind (not_fits want.RightBracket (slice_get ts i) c e q));
   comma = comma_names;
   ends = refl;
   flat = refl;
@@ -91,7 +107,8 @@ list_names = record {
 
 pub list_regs : ListLine LRegs LMoreRegs want.RightBrace entry_owed MakeFirstReg MakeNextReg MakeClosedRegs
 list_regs = record {
-  begin = λ ts d i e. as_token ts d i LRegs want.Register _ refl (λ c q. regs_begin c.kind (not_fits want.RightBrace (slice_get ts i) c e q));
+  begin = λ ts d i e. as_token ts d i LRegs want.Register _ refl
+      (λ c q. regs_begin c.kind (not_fits want.RightBrace (slice_get ts i) c e q));
   comma = comma_regs;
   ends = refl;
   flat = refl;
@@ -99,7 +116,8 @@ list_regs = record {
 
 pub list_fields : ListLine LFields LMoreFields want.RightAngle field_owed MakeFirstField MakeNextField MakeClosedFields
 list_fields = record {
-  begin = λ ts d i e. step.as_any table most_open ts d i LT LFields fields_tail [] [] refl refl (λ c q. fields_begin c.kind (not_fits want.RightAngle (slice_get ts i) c e q));
+  begin = λ ts d i e. step.as_any table most_open ts d i LT LFields fields_tail [] [] refl refl
+      (λ c q. fields_begin c.kind (not_fits want.RightAngle (slice_get ts i) c e q));
   comma = comma_fields;
   ends = refl;
   flat = refl;

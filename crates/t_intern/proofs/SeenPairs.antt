@@ -1,5 +1,6 @@
 -- Pairs of types that were seen to fit, after a note and as the list grows.
-use Rattle.std.proofs.Common.{◌≡◌, ℕ, ◌<◌, Bool, true, false, List, length, refl, sym, ◌∙◌, ap, ap₂, arith, subst, cond, true≢false, Result, Ok, Err, OnOk, OnErr}
+use Rattle.std.proofs.Common.{◌≡◌, ℕ, ◌<◌, Bool, true, false, List, length, refl, sym, ◌∙◌, ap, ap₂, arith, subst}
+use Rattle.std.proofs.Common.{cond, true≢false, Result, Ok, Err, OnOk, OnErr}
 use Rattle.std.specs.Cmp.{unsigned_Decides}
 use Rattle.std.proofs.lemmas.Bool.Decides.{Decides-and}
 use Rattle.t_types.specs.Tree.{Ty}
@@ -17,7 +18,8 @@ pub same_pairs : (old new : ℕ × ℕ → Bool) (ts : List Ty) → ((k : ℕ ×
 same_pairs old new ts u all k h = all k (sym (u k) ∙ h)
 
 pub pair_noted : (old new : ℕ × ℕ → Bool) (ts : List Ty) (a b : ℕ) →
-    ((q : ℕ × ℕ) → new q ≡ cond (same_key (a, b) q) true (old q)) → AllFit old ts → a < length ts → b < length ts → Fits (at ts a) (at ts b) → AllFit new ts
+    ((q : ℕ × ℕ) → new q ≡ cond (same_key (a, b) q) true (old q)) → AllFit old ts → a < length ts → b < length ts →
+    Fits (at ts a) (at ts b) → AllFit new ts
 pair_noted old new ts a b u all l m fit k h = by_test (same_key (a, b) k) refl (u k)
   where
     by_test : (t : Bool) → same_key (a, b) k ≡ t → new k ≡ cond (same_key (a, b) k) true (old k) →

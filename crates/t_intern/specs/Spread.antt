@@ -1,6 +1,6 @@
 -- Several types put in one walk.
-use Rattle.std.specs.Prelude.{◌≡◌, ℕ, ◌+◌, ◌-◌, ◌<◌, ◌≤◌, List}
-use Rattle.std.specs.Prelude.{[], ◌∷◌, length, map, nat_lt, if◌then◌else◌, slice_index_or}
+use Rattle.std.specs.Prelude.{ℕ, ◌+◌, ◌-◌, ◌<◌, ◌≤◌, List}
+use Rattle.std.specs.Prelude.{length, map, nat_lt, if◌then◌else◌, slice_index_or}
 use Rattle.idx_core.specs.Over.{At}
 use Rattle.t_types.specs.Tree.{Ty, IntTy, VarTy, shift, ShiftFits}
 use Rattle.t_intern.specs.Nodes.{at}

@@ -20,20 +20,26 @@ pub at_most_one_cut : AtMostOneCut
 at_most_one_cut text w v x y = once.one_cut assembly assembly_signs x v y
 
 pub no_token_fault_where_cut : NoTokenFaultWhereCut
-no_token_fault_where_cut text w c span x f = once.cut_or_wrong assembly assembly_signs text w f.why span.start span.end x f.wrong
+no_token_fault_where_cut text w c span x f =
+    once.cut_or_wrong assembly assembly_signs text w f.why span.start span.end x f.wrong
 
 pub at_most_one_token_fault : AtMostOneTokenFault
 at_most_one_token_fault text c c' span span' f h =
-    let e = once.one_wrong assembly assembly_signs text f.why span.start span.end h.why span'.start span'.end f.wrong h.wrong in
+    let e = once.one_wrong assembly assembly_signs text f.why span.start span.end h.why span'.start span'.end f.wrong
+    h.wrong in
     (f.is_code ∙ (ap (λ (y : Reason). code_of y) e.reason ∙ sym h.is_code), same_span span span' e.starts e.ends)
 
-pub same_fault : (text : List ℕ) (c c' : TCode) (span span' : Span) → FirstTokenFault text c span → FirstTokenFault text c' span' → Refused c span ≡ Refused c' span'
-same_fault text c c' span span' f h = let e = at_most_one_token_fault text c c' span span' f h in let p = e.0 in let q = e.1 in cc
+pub same_fault : (text : List ℕ) (c c' : TCode) (span span' : Span) → FirstTokenFault text c span →
+    FirstTokenFault text c' span' → Refused c span ≡ Refused c' span'
+same_fault text c c' span span' f h =
+    let e = at_most_one_token_fault text c c' span span' f h in let p = e.0 in let q = e.1 in cc
 
 -- the faults that a walk through a text comes to
 module _ (t : List ℕ) (i : ℕ) (out : List Token) (h : SoFar assembly t i out) (l : i < length t) where
   pub is_bad : item assembly (drop i t) ≡ Nothing → FirstTokenFault t T01 (record { start = i; end = i + 1 })
   is_bad e = record { why = NoToken; is_code = refl; wrong = bad assembly assembly_signs t i out h l e }
 
-  pub is_large : (j : ℕ) → Within t i j × ((k : Kind) × (item assembly (drop i t) ≡ Spelling k (j - i)) × ¬ Keeps k) → FirstTokenFault t T02 (record { start = i; end = j })
-  is_large j (w, (k, e, b)) = record { why = OutOfRange; is_code = refl; wrong = large assembly assembly_signs t i out h l j k w e b }
+  pub is_large : (j : ℕ) → Within t i j × ((k : Kind) × (item assembly (drop i t) ≡ Spelling k (j - i)) × ¬ Keeps k) →
+      FirstTokenFault t T02 (record { start = i; end = j })
+  is_large j (w, (k, e, b)) =
+      record { why = OutOfRange; is_code = refl; wrong = large assembly assembly_signs t i out h l j k w e b }

@@ -4,8 +4,7 @@ ghost use Rattle.std.specs.List.{prefix_len};
 ghost use Rattle.text_core.specs.Byte as byte;
 ghost use Rattle.text_core.specs.Lexeme.{IsValue};
 
-use crate::bytes::is_digit;
-use text_core::{Digits, read_digits};
+use text_core::{Digits, is_digit, read_digits};
 
 // The least value to which no digit is added without a look at its bound: a tenth of 2 to the power of 63.
 const TENTH: u64 = 922337203685477580;

@@ -1,7 +1,6 @@
 //! The tokens of an assembly text.
 #![tactic(auto)]
 
-mod bytes;
 mod cut;
 mod digits;
 mod kept;

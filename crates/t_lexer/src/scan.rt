@@ -9,10 +9,11 @@ ghost use Rattle.t_lexer.specs.Scan.{plain_found, negative_found, register_found
 ghost use Rattle.t_lexer.specs.Scan.{goes_on, words_of_a, words_of_bcd, words_of_hij, words_of_lp};
 ghost use Rattle.t_lexer.specs.Scan.{words_of_m, words_of_s, words_of_tu};
 
-use crate::bytes::{is_digit, is_letter, is_of_word, is_space, word_end};
 use crate::digits::digits_at;
 use crate::tagged::{Tag, Tagged};
-use text_core::{Digits, Found, Lexeme, next_lexeme};
+use text_core::{
+    Digits, Found, Lexeme, is_digit, is_letter, is_of_word, is_space, next_lexeme, word_end,
+};
 
 // this reserved word, or a name
 fn word_or_name(bytes: &[u8], reserved: &[u8], tag: Tag) -> Tag

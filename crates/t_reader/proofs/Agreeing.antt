@@ -7,9 +7,13 @@ use Rattle.t_terms.specs.declared.fault.TCode.{TCode}
 use Rattle.t_terms.specs.declared.fault.TCode.TheVariants.{T05}
 use Rattle.t_terms.specs.Tree.{TBase, TValue, Plain, Pack, TInstr, Arith, Bnz, Mov, Unpack, Jmp}
 use Rattle.t_terms.specs.Spanned.{SDatum}
-use Rattle.t_terms.specs.Raw.{RawBase, RReg, RNum, RLabel, RawValue, RPlain, RPack, RawInstr, RArith, RBnz, RLd, RMalloc, RMov, RSt, RUnpack, RawEnd, RJmp, RHalt, RawBlock, RawDatum, RawData, RawItem, BlockItem, DataItem, item_name}
-use Rattle.t_terms.specs.Names.{Labels, spelled, or_first, bind, type_of, types_of, base_of, value_of, instr_of, body_of, end_of, names_after, names_after_all, block_of, datum_of, data_of}
-use Rattle.t_terms.specs.NameFaults.{only_if, type_faults, types_faults, base_faults, value_faults, instr_faults, body_faults, end_faults, block_faults, data_faults, item_faults}
+use Rattle.t_terms.specs.Raw.{RawBase, RReg, RNum, RLabel, RawValue, RPlain, RPack, RawInstr, RArith, RBnz, RLd}
+use Rattle.t_terms.specs.Raw.{RMalloc, RMov, RSt, RUnpack, RawEnd, RJmp, RHalt, RawBlock, RawDatum, RawData, RawItem}
+use Rattle.t_terms.specs.Raw.{BlockItem, DataItem, item_name}
+use Rattle.t_terms.specs.Names.{Labels, spelled, or_first, bind, type_of, types_of, base_of, value_of, instr_of}
+use Rattle.t_terms.specs.Names.{body_of, end_of, names_after, names_after_all, block_of, datum_of, data_of}
+use Rattle.t_terms.specs.NameFaults.{only_if, type_faults, types_faults, base_faults, value_faults, instr_faults}
+use Rattle.t_terms.specs.NameFaults.{body_faults, end_faults, block_faults, data_faults, item_faults}
 use Rattle.t_reader.specs.Labelled.{NameTheSame}
 use Rattle.t_reader.specs.Resolve.{numbered_faults}
 
@@ -34,14 +38,20 @@ module _ (text : List ℕ) (ls ms : Labels) (same : NameTheSame ls ms) where
 
   body_same : (a : List Name) (is : List (RawInstr × Span)) → body_of text ls a is ≡ body_of text ms a is
   body_same a [] = refl
-  body_same a (i ∷ is) = ap₂ (λ (x : TInstr) (xs : List (TInstr × Span)). (x, i.1) ∷ xs) (instr_same a i.0) (body_same (names_after text i.0 a) is)
+  body_same a (i ∷ is) =
+      ap₂ (λ (x : TInstr) (xs : List (TInstr × Span)). (x, i.1) ∷ xs) (instr_same a i.0)
+      (body_same (names_after text i.0 a) is)
 
   end_same : (a : List Name) (e : RawEnd) → end_of text ls a e ≡ end_of text ms a e
   end_same a (RJmp v) = ap Jmp (value_same a v)
   end_same a RHalt = refl
 
   pub block_same : (b : RawBlock) → block_of text ls b ≡ block_of text ms b
-  block_same b = rw (body_same (bind text b.names []) b.body, end_same (names_after_all text b.body (bind text b.names [])) b.last.0) refl
+  block_same b =
+      rw (
+        body_same (bind text b.names []) b.body,
+        end_same (names_after_all text b.body (bind text b.names [])) b.last.0,
+      ) refl
 
   -- and its faults
   base_faults_same : (b : RawBase) → base_faults text ls b ≡ base_faults text ms b
@@ -51,7 +61,8 @@ module _ (text : List ℕ) (ls ms : Labels) (same : NameTheSame ls ms) where
 
   value_faults_same : (a : List Name) (v : RawValue) → value_faults text ls a v ≡ value_faults text ms a v
   value_faults_same a (RPlain b ts) = ap (λ (x : List (TCode × Span)). x ++ types_faults text a ts) (base_faults_same b)
-  value_faults_same a (RPack t v s) = ap (λ (x : List (TCode × Span)). type_faults text a t ++ (x ++ type_faults text a s)) (value_faults_same a v)
+  value_faults_same a (RPack t v s) =
+      ap (λ (x : List (TCode × Span)). type_faults text a t ++ (x ++ type_faults text a s)) (value_faults_same a v)
 
   instr_faults_same : (a : List Name) (i : RawInstr) → instr_faults text ls a i ≡ instr_faults text ms a i
   instr_faults_same a (RArith op rd rs v) = value_faults_same a v
@@ -64,14 +75,20 @@ module _ (text : List ℕ) (ls ms : Labels) (same : NameTheSame ls ms) where
 
   body_faults_same : (a : List Name) (is : List (RawInstr × Span)) → body_faults text ls a is ≡ body_faults text ms a is
   body_faults_same a [] = refl
-  body_faults_same a (i ∷ is) = ap₂ (λ (x y : List (TCode × Span)). x ++ y) (instr_faults_same a i.0) (body_faults_same (names_after text i.0 a) is)
+  body_faults_same a (i ∷ is) =
+      ap₂ (λ (x y : List (TCode × Span)). x ++ y) (instr_faults_same a i.0)
+      (body_faults_same (names_after text i.0 a) is)
 
   end_faults_same : (a : List Name) (e : RawEnd) → end_faults text ls a e ≡ end_faults text ms a e
   end_faults_same a (RJmp v) = value_faults_same a v
   end_faults_same a RHalt = refl
 
   block_faults_same : (b : RawBlock) → block_faults text ls b ≡ block_faults text ms b
-  block_faults_same b = rw (body_faults_same (bind text b.names []) b.body, end_faults_same (names_after_all text b.body (bind text b.names [])) b.last.0) refl
+  block_faults_same b =
+      rw (
+        body_faults_same (bind text b.names []) b.body,
+        end_faults_same (names_after_all text b.body (bind text b.names [])) b.last.0,
+      ) refl
 
   -- data tuples
   datum_same : (x : RawDatum) → datum_of text ls x ≡ datum_of text ms x

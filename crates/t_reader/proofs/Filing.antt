@@ -1,5 +1,7 @@
 -- Register files in ascending order: how one grows by an entry.
-use Rattle.std.proofs.Common.{◌≡◌, ◌≢◌, ℕ, ◌+◌, ◌<◌, ◌≤◌, List, [], ◌∷◌, ◌++◌, length, map, drop, get_or, refl, sym, ◌∙◌, ap, Bool, true, false, ◌||◌, if◌then◌else◌, arith, cond, is_some, Some, ◌⊎◌, inl, inr, ⊎_elim, Less, Equal, Greater}
+use Rattle.std.proofs.Common.{◌≡◌, ◌≢◌, ℕ, ◌+◌, ◌<◌, ◌≤◌, List, [], ◌∷◌, ◌++◌, length, map, drop, get_or, refl, sym}
+use Rattle.std.proofs.Common.{◌∙◌, ap, Bool, true, false, ◌||◌, if◌then◌else◌, arith, cond, is_some, Some, ◌⊎◌, inl}
+use Rattle.std.proofs.Common.{inr, ⊎_elim, Less, Equal, Greater}
 use Rattle.std.specs.Prelude.{nat_lt, nat_eq}
 use Rattle.std.specs.List.{list_any}
 use Rattle.std.proofs.lemmas.Bool.{eqb-true, eqb-false, eq-eqb, lt-ltb, le-ltb, ltb-true, ltb-false}
@@ -63,8 +65,10 @@ pub is_there : (r : ℕ) (xs : Entries) → is_some (lookup (λ k. is_eq (nat_cm
 is_there r [] = refl
 is_there r (x ∷ xs) = by_tests (nat_lt r x.0) (nat_eq r x.0) refl refl (is_there r xs)
   where
-    by_tests : (a b : Bool) → nat_lt r x.0 ≡ a → nat_eq r x.0 ≡ b → is_some (lookup (λ k. is_eq (nat_cmp r k)) xs) ≡ has r xs →
-        is_some (cond (is_eq (cond a Less (cond b Equal Greater))) (Some x.1) (lookup (λ k. is_eq (nat_cmp r k)) xs)) ≡ (b || has r xs)
+    by_tests : (a b : Bool) → nat_lt r x.0 ≡ a → nat_eq r x.0 ≡ b →
+        is_some (lookup (λ k. is_eq (nat_cmp r k)) xs) ≡ has r xs →
+        is_some (cond (is_eq (cond a Less (cond b Equal Greater))) (Some x.1) (lookup (λ k. is_eq (nat_cmp r k)) xs))
+        ≡ (b || has r xs)
     by_tests true true p q h = absurd (let l = ltb-true r x.0 p in let e = eqb-true r x.0 q in omega (arith, l, e))
     by_tests true false p q h = h
     by_tests false true p q h = refl
@@ -72,22 +76,28 @@ is_there r (x ∷ xs) = by_tests (nat_lt r x.0) (nat_eq r x.0) refl refl (is_the
 
 -- a new register goes in front of a greater one, and behind a smaller one
 put_at : (r : ℕ) (t : TType) (x : ℕ × TType) (xs : Entries) → has r (x ∷ xs) ≡ false →
-    ((r < x.0) × (put r t (x ∷ xs) ≡ (r, t) ∷ (x ∷ xs))) ⊎ ((x.0 < r) × (has r xs ≡ false) × (put r t (x ∷ xs) ≡ x ∷ put r t xs))
+    ((r < x.0) × (put r t (x ∷ xs) ≡ (r, t) ∷ (x ∷ xs)))
+    ⊎ ((x.0 < r) × (has r xs ≡ false) × (put r t (x ∷ xs) ≡ x ∷ put r t xs))
 put_at r t x xs n = by_tests (nat_lt r x.0) (nat_eq r x.0) refl refl n
   where
     by_tests : (a b : Bool) → nat_lt r x.0 ≡ a → nat_eq r x.0 ≡ b → (b || has r xs) ≡ false →
-        ((r < x.0) × (match_ordering (cond a Less (cond b Equal Greater)) ((r, t) ∷ (x ∷ xs)) ((x.0, t) ∷ xs) (x ∷ put r t xs) ≡ (r, t) ∷ (x ∷ xs)))
-        ⊎ ((x.0 < r) × (has r xs ≡ false) × (match_ordering (cond a Less (cond b Equal Greater)) ((r, t) ∷ (x ∷ xs)) ((x.0, t) ∷ xs) (x ∷ put r t xs) ≡ x ∷ put r t xs))
+        ((r < x.0) × (match_ordering (cond a Less (cond b Equal Greater)) ((r, t) ∷ (x ∷ xs)) ((x.0, t) ∷ xs)
+        (x ∷ put r t xs) ≡ (r, t) ∷ (x ∷ xs)))
+        ⊎ ((x.0 < r) × (has r xs ≡ false)
+        × (match_ordering (cond a Less (cond b Equal Greater)) ((r, t) ∷ (x ∷ xs)) ((x.0, t) ∷ xs) (x ∷ put r t xs)
+        ≡ x ∷ put r t xs))
     by_tests true b p q m = inl (ltb-true r x.0 p, refl)
     by_tests false true p q m = absurd (cc)
-    by_tests false false p q m = inr (let l = ltb-false r x.0 p in let u = eqb-false r x.0 q in omega (arith, l, u), m, refl)
+    by_tests false false p q m =
+        inr (let l = ltb-false r x.0 p in let u = eqb-false r x.0 q in omega (arith, l, u), m, refl)
 
 has_put : (q r : ℕ) (t : TType) (xs : Entries) → has r xs ≡ false → has q (put r t xs) ≡ (nat_eq q r || has q xs)
 has_put q r t [] n = refl
 has_put q r t (x ∷ xs) n =
     ⊎_elim
     (λ f. rw f.1 refl)
-    (λ f. rw f.2 (ap (λ (b : Bool). nat_eq q x.0 || b) (has_put q r t xs f.1) ∙ swap_or (nat_eq q x.0) (nat_eq q r) (has q xs)))
+    (λ f. rw f.2
+    (ap (λ (b : Bool). nat_eq q x.0 || b) (has_put q r t xs f.1) ∙ swap_or (nat_eq q x.0) (nat_eq q r) (has q xs)))
     (put_at r t x xs n)
 
 rises_put : (low r : ℕ) (t : TType) (xs : Entries) → Rises low xs → has r xs ≡ false → low < r → Rises low (put r t xs)
@@ -107,11 +117,13 @@ sorted_put r t (x ∷ xs) h n =
     (put_at r t x xs n)
 
 -- two entries may be put in either order
-swap_lt : (r q : ℕ) (t u : Ty) (f : TFile) → q < r → insert_reg r t (insert_reg q u f) ≡ insert_reg q u (insert_reg r t f)
+swap_lt : (r q : ℕ) (t u : Ty) (f : TFile) → q < r →
+    insert_reg r t (insert_reg q u f) ≡ insert_reg q u (insert_reg r t f)
 swap_lt r q t u NoRegs l = let x = lt-ltb q r l in let y = le-ltb r q (omega arith) in simp (x, y)
 swap_lt r q t u (MoreRegs p v f) l = by_tests (nat_lt p q) (nat_lt p r) refl refl (swap_lt r q t u f l)
   where
-    by_tests : (x y : Bool) → nat_lt p q ≡ x → nat_lt p r ≡ y → insert_reg r t (insert_reg q u f) ≡ insert_reg q u (insert_reg r t f) →
+    by_tests : (x y : Bool) → nat_lt p q ≡ x → nat_lt p r ≡ y →
+        insert_reg r t (insert_reg q u f) ≡ insert_reg q u (insert_reg r t f) →
         insert_reg r t (insert_reg q u (MoreRegs p v f)) ≡ insert_reg q u (insert_reg r t (MoreRegs p v f))
     by_tests true true a b h = simp (a, b) (ap (MoreRegs p v) h)
     by_tests true false a b h = absurd (let m = ltb-true p q a in let n = ltb-false p r b in omega (arith, m, n, l))
@@ -125,15 +137,21 @@ swap r q t u f n = by_test (nat_lt q r) refl
     by_test true e = swap_lt r q t u f (ltb-true q r e)
     by_test false e = let m = ltb-false q r e in sym (swap_lt q r u t f (omega (arith, m, n)))
 
-pushed : (v : Entries) (y : ℕ × TType) (f : TFile) → has y.0 v ≡ false → merged v (insert_reg y.0 (tree y.1) f) ≡ insert_reg y.0 (tree y.1) (merged v f)
+pushed : (v : Entries) (y : ℕ × TType) (f : TFile) → has y.0 v ≡ false →
+    merged v (insert_reg y.0 (tree y.1) f) ≡ insert_reg y.0 (tree y.1) (merged v f)
 pushed [] y f h = refl
 pushed (x ∷ v) y f h = by_test (nat_eq y.0 x.0) refl h (λ g. pushed v y f g)
   where
-    by_test : (b : Bool) → nat_eq y.0 x.0 ≡ b → (b || has y.0 v) ≡ false → (has y.0 v ≡ false → merged v (insert_reg y.0 (tree y.1) f) ≡ insert_reg y.0 (tree y.1) (merged v f)) → insert_reg x.0 (tree x.1) (merged v (insert_reg y.0 (tree y.1) f)) ≡ insert_reg y.0 (tree y.1) (insert_reg x.0 (tree x.1) (merged v f))
+    by_test : (b : Bool) → nat_eq y.0 x.0 ≡ b → (b || has y.0 v) ≡ false →
+        (has y.0 v ≡ false → merged v (insert_reg y.0 (tree y.1) f) ≡ insert_reg y.0 (tree y.1) (merged v f)) →
+        insert_reg x.0 (tree x.1) (merged v (insert_reg y.0 (tree y.1) f))
+        ≡ insert_reg y.0 (tree y.1) (insert_reg x.0 (tree x.1) (merged v f))
     by_test true e g i = absurd (cc)
-    by_test false e g i = ap (insert_reg x.0 (tree x.1)) (i g) ∙ swap x.0 y.0 (tree x.1) (tree y.1) (merged v f) (λ q. absurd (let z = eq-eqb y.0 x.0 (sym q) in cc))
+    by_test false e g i = ap (insert_reg x.0 (tree x.1)) (i g)
+        ∙ swap x.0 y.0 (tree x.1) (tree y.1) (merged v f) (λ q. absurd (let z = eq-eqb y.0 x.0 (sym q) in cc))
 
-merged_put : (r : ℕ) (t : TType) (xs : Entries) (f : TFile) → has r xs ≡ false → merged (put r t xs) f ≡ merged xs (insert_reg r (tree t) f)
+merged_put : (r : ℕ) (t : TType) (xs : Entries) (f : TFile) → has r xs ≡ false →
+    merged (put r t xs) f ≡ merged xs (insert_reg r (tree t) f)
 merged_put r t [] f n = refl
 merged_put r t (x ∷ xs) f n =
     ⊎_elim
@@ -154,31 +172,43 @@ sorted_file [] h = refl
 sorted_file (x ∷ xs) h = ap (insert_reg x.0 (tree x.1)) (rising_file x.0 xs h) ∙ in_front x xs h
 
 -- a file, of which the entries from k on are left
-pub record FileLeft (text : List ℕ) (a : List Name) (xs : List (ℕ × Span × RawType)) (k : ℕ) (b : List Name) (made : Entries) : Type 0 where
+pub record FileLeft (text : List ℕ) (a : List Name) (xs : List (ℕ × Span × RawType)) (k : ℕ) (b : List Name)
+    (made : Entries) : Type 0 where
   pub kept : b ≡ a
   pub before : List ℕ
   pub known : (r : ℕ) → list_any (nat_eq r) before ≡ has r made
   pub sorted : Sorted made
-  pub faults : regs_faults text a [] (raw_regs (map raw_reg xs)) ≡ regs_faults text a before (raw_regs (map raw_reg (drop k xs)))
-  pub trees : file_of text a (raw_regs (map raw_reg xs)) ≡ merged made (file_of text a (raw_regs (map raw_reg (drop k xs))))
+  pub faults : regs_faults text a [] (raw_regs (map raw_reg xs))
+      ≡ regs_faults text a before (raw_regs (map raw_reg (drop k xs)))
+  pub trees : file_of text a (raw_regs (map raw_reg xs))
+      ≡ merged made (file_of text a (raw_regs (map raw_reg (drop k xs))))
 
 module _ (text : List ℕ) (a : List Name) (xs : List (ℕ × Span × RawType)) where
   pub file_start : FileLeft text a xs 0 a []
   file_start = record { kept = refl; before = []; known = λ r. refl; sorted = tt; faults = refl; trees = refl }
 
-  module _ (k : ℕ) (b : List Name) (made : Entries) (x : ℕ × Span × RawType) (l : k < length xs) (i : x ≡ get_or xs k x) (h : FileLeft text a xs k b made) where
+  module _ (k : ℕ) (b : List Name) (made : Entries) (x : ℕ × Span × RawType) (l : k < length xs)
+      (i : x ≡ get_or xs k x) (h : FileLeft text a xs k b made) where
     at_entry : regs_faults text a [] (raw_regs (map raw_reg xs)) ≡
-        (if has x.0 made then (T07, x.1) ∷ [] else []) ++ (type_faults text a (raw x.2) ++ regs_faults text a (x.0 ∷ h.before) (raw_regs (map raw_reg (drop (k + 1) xs))))
+        (if has x.0 made then (T07, x.1) ∷ [] else [])
+        ++ (type_faults text a (raw x.2)
+        ++ regs_faults text a (x.0 ∷ h.before) (raw_regs (map raw_reg (drop (k + 1) xs))))
     at_entry = h.faults ∙ rw (here_at xs k x l i, h.known x.0) refl
 
     pub file_twice : has x.0 made ≡ true → StopsAt (regs_faults text a [] (raw_regs (map raw_reg xs))) (Refused T07 x.1)
-    file_twice t = (type_faults text a (raw x.2) ++ regs_faults text a (x.0 ∷ h.before) (raw_regs (map raw_reg (drop (k + 1) xs))), at_entry ∙ rw t refl)
+    file_twice t = (
+      type_faults text a (raw x.2)
+          ++ regs_faults text a (x.0 ∷ h.before) (raw_regs (map raw_reg (drop (k + 1) xs))),
+      at_entry ∙ rw t refl,
+    )
 
     module _ (once : has x.0 made ≡ false) where
-      pub file_stop : (s : TFault) → StopsAt (type_faults text b (raw x.2)) s → StopsAt (regs_faults text a [] (raw_regs (map raw_reg xs))) s
+      pub file_stop : (s : TFault) → StopsAt (type_faults text b (raw x.2)) s →
+          StopsAt (regs_faults text a [] (raw_regs (map raw_reg xs))) s
       file_stop s g = rw (at_entry, once) (stop_left _ _ s (rw h.kept at g))
 
-      pub file_next : (c : List Name) (t : TType) (more : Entries) → Done text b x.2 c t → more ≡ insert_entry nat_cmp made x.0 t → FileLeft text a xs (k + 1) c more
+      pub file_next : (c : List Name) (t : TType) (more : Entries) → Done text b x.2 c t →
+          more ≡ insert_entry nat_cmp made x.0 t → FileLeft text a xs (k + 1) c more
       file_next c t more d m =
           let e : tree t ≡ type_of text a (raw x.2) = d.2 ∙ ap (λ (z : List Name). type_of text z (raw x.2)) h.kept in
           record {
@@ -187,11 +217,18 @@ module _ (text : List ℕ) (a : List Name) (xs : List (ℕ × Span × RawType)) 
             known = λ r. rw (m, has_put r x.0 t made once, h.known r) refl;
             sorted = rw m (sorted_put x.0 t made h.sorted once);
             faults = at_entry ∙ rw (once, rw h.kept at d.1) refl;
-            trees = h.trees ∙ rw (m, merged_put x.0 t made (file_of text a (raw_regs (map raw_reg (drop (k + 1) xs)))) once, here_at xs k x l i, e) refl;
+            trees = h.trees
+                ∙ rw (
+                  m,
+                  merged_put x.0 t made (file_of text a (raw_regs (map raw_reg (drop (k + 1) xs)))) once,
+                  here_at xs k x l i,
+                  e,
+                ) refl;
           }
 
   pub file_whole : (k : ℕ) (b : List Name) (made : Entries) → length xs ≤ k → FileLeft text a xs k b made →
-      (b ≡ a) × (regs_faults text a [] (raw_regs (map raw_reg xs)) ≡ []) × (file made ≡ file_of text a (raw_regs (map raw_reg xs)))
+      (b ≡ a) × (regs_faults text a [] (raw_regs (map raw_reg xs)) ≡ [])
+      × (file made ≡ file_of text a (raw_regs (map raw_reg xs)))
   file_whole k b made l h =
       let n : drop k xs ≡ [] = drop_of_length-le xs l in
       (h.kept, h.faults ∙ rw n refl, sym (h.trees ∙ (rw n refl ∙ sorted_file made h.sorted)))

@@ -1,5 +1,6 @@
 -- What is read keeps the bounds of its numbers, and does not bind too many names.
-use Rattle.std.proofs.Common.{◌≡◌, ℕ, ◌+◌, ◌*◌, ◌≤◌, ℤ, pos, negsuc, List, [], ◌∷◌, ◌++◌, length, refl, subst, arith, Bool, true, false, if◌then◌else◌, Some, ◌==◌}
+use Rattle.std.proofs.Common.{◌≡◌, ℕ, ◌+◌, ◌*◌, ◌≤◌, ℤ, pos, negsuc, List, [], ◌∷◌, ◌++◌, length, refl, subst, arith}
+use Rattle.std.proofs.Common.{Bool, true, false, if◌then◌else◌, Some, ◌==◌}
 use Rattle.std.specs.Prelude.{nat_abs, bytes_eq}
 use Rattle.std.proofs.lemmas.List.{length-append}
 use Rattle.std.proofs.lemmas.Int.{ints}
@@ -9,10 +10,21 @@ use Rattle.t_terms.specs.declared.token.Kind.{Kind}
 use Rattle.t_terms.specs.declared.token.Kind.TheVariants as k
 use Rattle.t_terms.specs.declared.token.Token.{Token}
 use Rattle.text_core.specs.Byte.{value}
-use Rattle.text_core.specs.Tokens.{Cut, c_end, c_gap, c_token, Next, n_spelling, Spelling, Spells, s_word, s_plain, s_negative, s_sign, s_pair, look}
+use Rattle.text_core.specs.Tokens.{Cut, c_end, c_gap, c_token, Next, n_spelling, Spelling, Spells, s_word, s_plain}
+use Rattle.text_core.specs.Tokens.{s_negative, s_sign, s_pair, look}
 use Rattle.t_terms.specs.Tokens.{assembly, Keeps, words, word, word_in, is_register, after_first, signs}
-use Rattle.t_terms.specs.Raw.{RawTy, RInt, RName, RCode, RSome, RTuple, RawRegs, NoRawRegs, MoreRawRegs, RawFields, NoRawFields, MoreRawFields, RawReg, RawField, raw_regs, raw_fields, RawBase, RReg, RNum, RLabel, RawValue, RPlain, RPack, RawInstr, RArith, RBnz, RLd, RMalloc, RMov, RSt, RUnpack, RawEnd, RJmp, RHalt, RawBlock, RawDatum, RawItem, BlockItem, DataItem, blocks_in, block_items, Piece}
-use Rattle.t_terms.specs.Grammar.{Names, ns_one, ns_more, Binds, bs_none, bs_names, T, t_int, t_name, t_code, t_some, t_unit, t_tuple, File, f_none, f_regs, Rs, rs_one, rs_more, Fs, fs_one, fs_more, Ts, ts_one, ts_more, N, n_reg, n_plain, n_negative, n_label, V, v_base, v_apply, v_pack, I, i_arith, i_bnz, i_ld, i_malloc_none, i_malloc, i_mov, i_st, i_unpack, Is, is_none, is_more, End, e_jmp, e_halt, Block, b_block, Blocks, W, Ds, ds_one, ds_more, Tuple, tu_none, tu_fields, Item, it_block, it_data, Items, its_none, its_more, Program, p_blocks, p_items}
+use Rattle.t_terms.specs.Raw.{RawTy, RInt, RName, RCode, RSome, RTuple, RawRegs, NoRawRegs, MoreRawRegs, RawFields}
+use Rattle.t_terms.specs.Raw.{NoRawFields, MoreRawFields, RawReg, RawField, raw_regs, raw_fields, RawBase, RReg, RNum}
+use Rattle.t_terms.specs.Raw.{RLabel, RawValue, RPlain, RPack, RawInstr, RArith, RBnz, RLd, RMalloc, RMov, RSt}
+use Rattle.t_terms.specs.Raw.{RUnpack, RawEnd, RJmp, RHalt, RawBlock, RawDatum, RawItem, BlockItem, DataItem}
+use Rattle.t_terms.specs.Raw.{blocks_in, block_items, Piece}
+use Rattle.t_terms.specs.Grammar.{Names, ns_one, ns_more, Binds, bs_none, bs_names, T, t_int, t_name, t_code, t_some}
+use Rattle.t_terms.specs.Grammar.{t_unit, t_tuple, File, f_none, f_regs, Rs, rs_one, rs_more, Fs, fs_one, fs_more, Ts}
+use Rattle.t_terms.specs.Grammar.{ts_one, ts_more, N, n_reg, n_plain, n_negative, n_label, V, v_base, v_apply, v_pack}
+use Rattle.t_terms.specs.Grammar.{I, i_arith, i_bnz, i_ld, i_malloc_none, i_malloc, i_mov, i_st, i_unpack, Is, is_none}
+use Rattle.t_terms.specs.Grammar.{is_more, End, e_jmp, e_halt, Block, b_block, Blocks, W, Ds, ds_one, ds_more, Tuple}
+use Rattle.t_terms.specs.Grammar.{tu_none, tu_fields, Item, it_block, it_data, Items, its_none, its_more, Program}
+use Rattle.t_terms.specs.Grammar.{p_blocks, p_items}
 use Rattle.t_terms.specs.Grammar as g
 use Rattle.t_terms.proofs.ItemLaws.{as_value, blocks_alone}
 
@@ -78,7 +90,8 @@ FitsEnd n (RJmp v) = FitsValue n v
 FitsEnd n RHalt = Unit {0}
 
 abbrev pub FitsBlock : RawBlock → Type 0
-FitsBlock b = (length b.names ≤ max_names) × FitsRegs (length b.names) b.file × FitsSteps (length b.names) b.body × FitsEnd (after_steps b.body (length b.names)) b.last.0
+FitsBlock b = (length b.names ≤ max_names) × FitsRegs (length b.names) b.file × FitsSteps (length b.names) b.body
+    × FitsEnd (after_steps b.body (length b.names)) b.last.0
 
 abbrev pub FitsBlocks : List RawBlock → Type 0
 FitsBlocks [] = Unit {0}
@@ -130,11 +143,13 @@ binds_count : {w : List Token} {ns : List Span} → Binds w ns → 2 * length ns
 binds_count (bs_none o c) = omega arith
 binds_count (bs_names {w} {ns} o c x) = let h = names_count x in simp length-append (omega (arith, h))
 
-regs_append : (n : ℕ) (xs ys : List RawReg) → FitsRegs n (raw_regs xs) → FitsRegs n (raw_regs ys) → FitsRegs n (raw_regs (xs ++ ys))
+regs_append : (n : ℕ) (xs ys : List RawReg) → FitsRegs n (raw_regs xs) → FitsRegs n (raw_regs ys) →
+    FitsRegs n (raw_regs (xs ++ ys))
 regs_append n [] ys h g = g
 regs_append n (x ∷ xs) ys h g = (h.0, h.1, regs_append n xs ys h.2 g)
 
-fields_append : (n : ℕ) (xs ys : List RawField) → FitsFields n (raw_fields xs) → FitsFields n (raw_fields ys) → FitsFields n (raw_fields (xs ++ ys))
+fields_append : (n : ℕ) (xs ys : List RawField) → FitsFields n (raw_fields xs) → FitsFields n (raw_fields ys) →
+    FitsFields n (raw_fields (xs ++ ys))
 fields_append n [] ys h g = g
 fields_append n (x ∷ xs) ys h g = (h.0, fields_append n xs ys h.1 g)
 
@@ -151,7 +166,8 @@ mutual
       let l = length-append u v in
       let q : Room (n + length ns) v = omega (arith, b, l, r) in
       (omega (arith, q), fits_File y (n + length ns) (kept_right u v h.1) q)
-  fits_T (t_some {w} s m d x) n h r = let q : Room (n + 1) w = omega (arith, r) in (omega (arith, q), fits_T x (n + 1) h.1.1.1 q)
+  fits_T (t_some {w} s m d x) n h r =
+      let q : Room (n + 1) w = omega (arith, r) in (omega (arith, q), fits_T x (n + 1) h.1.1.1 q)
   fits_T (t_unit o c) n h r = tt
   fits_T (t_tuple {w} o c x) n h r = fits_Fs x n (kept_left w _ h.1) (omega (arith, length-append {A = Token}, r))
 
@@ -163,19 +179,22 @@ mutual
   fits_Rs (rs_one {w} q s c x) n h r = (h.0.0, fits_T x n h.1.1 (omega (arith, length-append {A = Token}, r)), tt)
   fits_Rs (rs_more {u} {v} {rs} c q s d x y) n h r =
       let k = kept_right u _ h in
-      regs_append n rs _ (fits_Rs x n (kept_left u _ h) (omega (arith, length-append {A = Token}, r))) (k.1.0.0, fits_T y n k.1.1.1 (omega (arith, length-append {A = Token}, r)), tt)
+      regs_append n rs _ (fits_Rs x n (kept_left u _ h) (omega (arith, length-append {A = Token}, r)))
+      (k.1.0.0, fits_T y n k.1.1.1 (omega (arith, length-append {A = Token}, r)), tt)
 
   fits_Fs : {w : List Token} {fs : List RawField} → Fs w fs → (n : ℕ) → Kept w → Room n w → FitsFields n (raw_fields fs)
   fits_Fs (fs_one {w} a s x f) n h r = (fits_T x n (kept_left w _ h) (omega (arith, length-append {A = Token}, r)), tt)
   fits_Fs (fs_more {u} {v} {fs} c a s x y f) n h r =
       let k = kept_right u _ h in
-      fields_append n fs _ (fits_Fs x n (kept_left u _ h) (omega (arith, length-append {A = Token}, r))) (fits_T y n (kept_left v _ k.1) (omega (arith, length-append {A = Token}, r)), tt)
+      fields_append n fs _ (fits_Fs x n (kept_left u _ h) (omega (arith, length-append {A = Token}, r)))
+      (fits_T y n (kept_left v _ k.1) (omega (arith, length-append {A = Token}, r)), tt)
 
 fits_Ts : {w : List Token} {ts : List RawTy} → Ts w ts → (n : ℕ) → Kept w → Room n w → FitsTys n ts
 fits_Ts (ts_one x) n h r = (fits_T x n h r, tt)
 fits_Ts (ts_more {u} {v} {ts} c x y) n h r =
     let k = kept_right u _ h in
-    tys_append n ts _ (fits_Ts x n (kept_left u _ h) (omega (arith, length-append {A = Token}, r))) (fits_T y n k.1 (omega (arith, length-append {A = Token}, r)), tt)
+    tys_append n ts _ (fits_Ts x n (kept_left u _ h) (omega (arith, length-append {A = Token}, r)))
+    (fits_T y n k.1 (omega (arith, length-append {A = Token}, r)), tt)
 
 fits_N : {b : Token} {base : RawBase} → N b base → Keeps b.kind → FitsBase base
 fits_N (n_reg r s) h = h
@@ -185,26 +204,33 @@ fits_N (n_label s) h = tt
 
 fits_V : {w : List Token} {v : Piece RawValue} → V w v → (n : ℕ) → Kept w → Room n w → FitsValue n v.tree
 fits_V (v_base b) n h r = (fits_N b h.0.0, tt)
-fits_V (v_apply {w} o c b x) n h r = (fits_N b h.0.0, fits_Ts x n (kept_left w _ h.1.1) (omega (arith, length-append {A = Token}, r)))
+fits_V (v_apply {w} o c b x) n h r =
+    (fits_N b h.0.0, fits_Ts x n (kept_left w _ h.1.1) (omega (arith, length-append {A = Token}, r)))
 fits_V (v_pack {u} {v} {w} p o m c a x y z) n h r =
     let h1 = h.1.1 in
     let h2 = (kept_right u _ h1).1 in
-    let h3 = (kept_right v _ h2).1.1 in
-    (fits_T x n (kept_left u _ h1) (omega (arith, length-append {A = Token}, r)), fits_V y n (kept_left v _ h2) (omega (arith, length-append {A = Token}, r)), fits_T z n h3 (omega (arith, length-append {A = Token}, r)))
+    let h3 = (kept_right v _ h2).1.1 in (
+      fits_T x n (kept_left u _ h1) (omega (arith, length-append {A = Token}, r)),
+      fits_V y n (kept_left v _ h2) (omega (arith, length-append {A = Token}, r)),
+      fits_T z n h3 (omega (arith, length-append {A = Token}, r)),
+    )
 
 small_number : (z : ℤ) → Keeps (k.Plain z) × IsMade (k.Plain z) → nat_abs z ≤ max_number
 small_number (pos n) h = let l = h.0 in omega (arith, ints, l)
 small_number (negsuc n) h = absurd h.1
 
 fits_I : {w : List Token} {i : RawInstr × Span} → I w i → (n : ℕ) → Kept w → Room n w → FitsInstr n i.0
-fits_I (i_arith {w} a b c d e rd rs o x) n h r = (h.1.0.0, h.1.1.1.0.0, fits_V x n h.1.1.1.1.1 (omega (arith, length-append {A = Token}, r)))
+fits_I (i_arith {w} a b c d e rd rs o x) n h r =
+    (h.1.0.0, h.1.1.1.0.0, fits_V x n h.1.1.1.1.1 (omega (arith, length-append {A = Token}, r)))
 fits_I (i_bnz {w} a b c q x) n h r = (h.1.0.0, fits_V x n h.1.1.1 (omega (arith, length-append {A = Token}, r)))
 fits_I (i_ld a b c d o f e rd rs z) n h r = (h.1.0.0, h.1.1.1.0.0, small_number z h.1.1.1.1.1.0)
 fits_I (i_malloc_none a b o c rd) n h r = (h.1.0.0, tt)
-fits_I (i_malloc {w} a b o c rd x) n h r = (h.1.0.0, fits_Ts x n (kept_left w _ h.1.1.1) (omega (arith, length-append {A = Token}, r)))
+fits_I (i_malloc {w} a b o c rd x) n h r =
+    (h.1.0.0, fits_Ts x n (kept_left w _ h.1.1.1) (omega (arith, length-append {A = Token}, r)))
 fits_I (i_mov {w} a b c rd x) n h r = (h.1.0.0, fits_V x n h.1.1.1 (omega (arith, length-append {A = Token}, r)))
 fits_I (i_st a b o f e c d rd rs z) n h r = (h.1.0.0, small_number z h.1.1.1.0, h.1.1.1.1.1.1.0.0)
-fits_I (i_unpack {w} a o m b d c e rd x) n h r = (h.1.1.1.1.0.0, fits_V x n h.1.1.1.1.1.1.1 (omega (arith, length-append {A = Token}, r)))
+fits_I (i_unpack {w} a o m b d c e rd x) n h r =
+    (h.1.1.1.1.0.0, fits_V x n h.1.1.1.1.1.1.1 (omega (arith, length-append {A = Token}, r)))
 
 -- an instruction takes room for the name that it binds
 after_I : {w : List Token} {i : RawInstr × Span} → I w i → (n : ℕ) → 2 * after_raw i.0 n ≤ 2 * n + length w
@@ -217,7 +243,8 @@ after_I (i_mov a b c rd x) n = omega arith
 after_I (i_st a b o f e c d rd rs z) n = omega arith
 after_I (i_unpack a o m b d c e rd x) n = omega arith
 
-steps_append : (n : ℕ) (is js : List (RawInstr × Span)) → FitsSteps n is → FitsSteps (after_steps is n) js → FitsSteps n (is ++ js)
+steps_append : (n : ℕ) (is js : List (RawInstr × Span)) → FitsSteps n is → FitsSteps (after_steps is n) js →
+    FitsSteps n (is ++ js)
 steps_append n [] js h g = g
 steps_append n (i ∷ is) js h g = (h.0, h.1, steps_append (after_raw i.0 n) is js h.2 g)
 
@@ -240,7 +267,8 @@ fits_Is (is_more {u} {v} {is} {i} x y) n h r =
     let l = length-append u v in
     let q : Room (after_steps is n) v = omega (arith, a, l, r) in
     let b = after_I y (after_steps is n) in
-    steps_append n is (i ∷ []) (fits_Is x n (kept_left u v h) (omega (arith, length-append {A = Token}, r))) (fits_I y (after_steps is n) (kept_right u v h) q, omega (arith, b, q), tt)
+    steps_append n is (i ∷ []) (fits_Is x n (kept_left u v h) (omega (arith, length-append {A = Token}, r)))
+    (fits_I y (after_steps is n) (kept_right u v h) q, omega (arith, b, q), tt)
 
 fits_End : {w : List Token} {e : RawEnd × Span} → End w e → (n : ℕ) → Kept w → Room n w → FitsEnd n e.0
 fits_End (e_jmp a x) n h r = fits_V x n h.1 (omega (arith, length-append {A = Token}, r))
@@ -258,8 +286,12 @@ fits_Block (b_block {u} {v} {w} {x} {ns} {file} {is} {last} l c d p names f body
     let h3 = (kept_right v _ h2).1 in
     let r1 : Room (length ns) v = omega (arith, count, lu, lv, lw, r) in
     let r2 : Room (length ns) w = omega (arith, count, lu, lv, lw, r) in
-    let r3 : Room (after_steps is (length ns)) x = omega (arith, count, lu, lv, lw, after, r) in
-    (omega (arith, r1), fits_File f (length ns) (kept_left v _ h2) r1, fits_Is body (length ns) (kept_left w x h3) r2, fits_End end (after_steps is (length ns)) (kept_right w x h3) r3)
+    let r3 : Room (after_steps is (length ns)) x = omega (arith, count, lu, lv, lw, after, r) in (
+      omega (arith, r1),
+      fits_File f (length ns) (kept_left v _ h2) r1,
+      fits_Is body (length ns) (kept_left w x h3) r2,
+      fits_End end (after_steps is (length ns)) (kept_right w x h3) r3,
+    )
 
 blocks_append : (xs ys : List RawBlock) → FitsBlocks xs → FitsBlocks ys → FitsBlocks (xs ++ ys)
 blocks_append [] ys h q = q
@@ -268,8 +300,10 @@ blocks_append (x ∷ xs) ys h q = (h.0, blocks_append xs ys h.1 q)
 fits_Blocks : {w : List Token} {bs : List RawBlock} → Blocks w bs → Kept w → Room 0 w → FitsBlocks bs × (1 ≤ length bs)
 fits_Blocks (g.bs_one x) h r = ((fits_Block x h r, tt), omega arith)
 fits_Blocks (g.bs_more {u} {v} {bs} x y) h r =
-    let p = fits_Blocks x (kept_left u v h) (omega (arith, length-append {A = Token}, r)) in
-    (blocks_append bs _ p.0 (fits_Block y (kept_right u v h) (omega (arith, length-append {A = Token}, r)), tt), simp length-append (omega (arith, p.1)))
+    let p = fits_Blocks x (kept_left u v h) (omega (arith, length-append {A = Token}, r)) in (
+      blocks_append bs _ p.0 (fits_Block y (kept_right u v h) (omega (arith, length-append {A = Token}, r)), tt),
+      simp length-append (omega (arith, p.1)),
+    )
 
 blocks_items : (bs : List RawBlock) → FitsBlocks bs → FitsItems (block_items bs)
 blocks_items [] h = tt
@@ -281,13 +315,25 @@ data_append (x ∷ xs) ys h q = (h.0, data_append xs ys h.1 q)
 
 fits_Ds : {w : List Token} {xs : List RawDatum} → Ds w xs → Kept w → Room 0 w → FitsData xs
 fits_Ds (ds_one {u} {v} c x y) h r =
-    let k = kept_right u _ h in
-    ((fits_V (as_value x) 0 (kept_left u _ h) (omega (arith, length-append {A = Token}, r)), fits_T y 0 k.1 (omega (arith, length-append {A = Token}, r)), (u, x)), tt)
+    let k = kept_right u _ h in (
+      (
+        fits_V (as_value x) 0 (kept_left u _ h) (omega (arith, length-append {A = Token}, r)),
+        fits_T y 0 k.1 (omega (arith, length-append {A = Token}, r)),
+        (u, x),
+      ),
+      tt,
+    )
 fits_Ds (ds_more {u} {v} {w} {xs} m c x y z) h r =
     let k = kept_right u _ h in
     let e = kept_right v _ k.1 in
-    data_append xs _ (fits_Ds x (kept_left u _ h) (omega (arith, length-append {A = Token}, r)))
-    ((fits_V (as_value y) 0 (kept_left v _ k.1) (omega (arith, length-append {A = Token}, r)), fits_T z 0 e.1 (omega (arith, length-append {A = Token}, r)), (v, y)), tt)
+    data_append xs _ (fits_Ds x (kept_left u _ h) (omega (arith, length-append {A = Token}, r))) (
+      (
+        fits_V (as_value y) 0 (kept_left v _ k.1) (omega (arith, length-append {A = Token}, r)),
+        fits_T z 0 e.1 (omega (arith, length-append {A = Token}, r)),
+        (v, y),
+      ),
+      tt,
+    )
 
 fits_Tuple : {w : List Token} {xs : List RawDatum} → Tuple w xs → Kept w → Room 0 w → FitsData xs
 fits_Tuple (tu_none o c) h r = tt
@@ -307,7 +353,8 @@ fits_Items (its_more {u} {v} {xs} x y) h r =
     items_append xs _ (fits_Items x (kept_left u v h) (omega (arith, length-append {A = Token}, r)))
     (fits_Item y (kept_right u v h) (omega (arith, length-append {A = Token}, r)), tt)
 
-pub fits_Program : {w : List Token} {xs : List RawItem} → Program w xs → Kept w → length w ≤ 9223372036854775807 → FitsItems xs × (1 ≤ length (blocks_in xs))
+pub fits_Program : {w : List Token} {xs : List RawItem} → Program w xs → Kept w → length w ≤ 9223372036854775807 →
+    FitsItems xs × (1 ≤ length (blocks_in xs))
 fits_Program (p_blocks {w} {bs} t n x) h l =
     let k = fits_Blocks x h.1.1 (omega (arith, l)) in
     (blocks_items bs k.0, rw (blocks_alone bs) k.1)

@@ -1,5 +1,6 @@
 -- Names that are bound and taken away, and stops in a part.
-use Rattle.std.proofs.Common.{◌≡◌, ℕ, ◌+◌, ◌<◌, ◌≤◌, List, [], ◌∷◌, ◌++◌, length, drop, get_or, refl, sym, ◌∙◌, arith, drop-cons, add-one}
+use Rattle.std.proofs.Common.{◌≡◌, ℕ, ◌+◌, ◌<◌, ◌≤◌, List, [], ◌∷◌, ◌++◌, length, drop, get_or, refl, sym, ◌∙◌, arith}
+use Rattle.std.proofs.Common.{drop-cons, add-one}
 use Rattle.std.proofs.lemmas.List.{drop-drop}
 use Rattle.std.proofs.Math.ListN.{drop_of_length-le}
 use Rattle.idx_core.specs.declared.span.Span.{Span}
@@ -11,7 +12,8 @@ use Rattle.t_terms.specs.declared.fault.TFault.{TFault}
 use Rattle.t_terms.specs.declared.fault.TFault.TheVariants.{Memory, Refused}
 
 -- the rest of a list from an element on
-pub here_at : {A : Type 0} (xs : List A) (k : ℕ) (x : A) → k < length xs → x ≡ get_or xs k x → drop k xs ≡ x ∷ drop (k + 1) xs
+pub here_at : {A : Type 0} (xs : List A) (k : ℕ) (x : A) → k < length xs → x ≡ get_or xs k x →
+    drop k xs ≡ x ∷ drop (k + 1) xs
 here_at xs k x l e = rw (drop-cons xs k x l, ← e, ← add-one k) refl
 
 pub here_is : {A : Type 0} (xs : List A) (k : ℕ) (d x : A) → k < length xs → get_or xs k d ≡ x →
@@ -37,8 +39,11 @@ pub none_both : (a b : List (TCode × Span)) → a ≡ [] → b ≡ [] → a ++ 
 none_both a b p q = rw (p, q) refl
 
 -- names that are bound in turn
-pub bind_next : (text : List ℕ) (ns : List Span) (k : ℕ) (a b c : List Name) → bind text ns a ≡ bind text (drop k ns) b → k < length ns → c ≡ spelled text (get_or ns k (record { start = 0; end = 0 })) ∷ b → bind text ns a ≡ bind text (drop (k + 1) ns) c
+pub bind_next : (text : List ℕ) (ns : List Span) (k : ℕ) (a b c : List Name) →
+    bind text ns a ≡ bind text (drop k ns) b → k < length ns →
+    c ≡ spelled text (get_or ns k (record { start = 0; end = 0 })) ∷ b → bind text ns a ≡ bind text (drop (k + 1) ns) c
 bind_next text ns k a b c h l e = h ∙ rw (drop-cons ns k (record { start = 0; end = 0 }) l, ← add-one k, e) refl
 
-pub bind_done : (text : List ℕ) (ns : List Span) (k : ℕ) (a b : List Name) → bind text ns a ≡ bind text (drop k ns) b → length ns ≤ k → b ≡ bind text ns a
+pub bind_done : (text : List ℕ) (ns : List Span) (k : ℕ) (a b : List Name) → bind text ns a ≡ bind text (drop k ns) b →
+    length ns ≤ k → b ≡ bind text ns a
 bind_done text ns k a b h l = let n : drop k ns ≡ [] = drop_of_length-le ns l in sym (h ∙ rw n refl)

@@ -1,5 +1,6 @@
 -- The names of values and of bodies: how a whole follows from its parts.
-use Rattle.std.proofs.Common.{◌≡◌, ℕ, ◌+◌, ◌<◌, ◌≤◌, List, [], ◌∷◌, ◌++◌, length, map, drop, get_or, Vec, Global, refl, sym, ◌∙◌, ap, append_assoc, Box, Some, None}
+use Rattle.std.proofs.Common.{◌≡◌, ℕ, ◌+◌, ◌<◌, ◌≤◌, List, [], ◌∷◌, ◌++◌, length, map, drop, get_or, Vec, Global, refl}
+use Rattle.std.proofs.Common.{sym, ◌∙◌, ap, append_assoc, Box, Some, None}
 use Rattle.std.proofs.lemmas.List.{append-nil}
 use Rattle.std.proofs.Math.ListN.{drop_of_length-le}
 use Rattle.idx_core.specs.declared.span.Span.{Span}
@@ -13,7 +14,8 @@ use Rattle.t_terms.specs.declared.value.Value.TheVariants as V
 use Rattle.t_terms.specs.declared.instr.Instr.{Instr}
 use Rattle.t_terms.specs.Tree.{TBase, TInstr, Pack}
 use Rattle.t_terms.specs.Read as read
-use Rattle.t_terms.specs.Names.{Labels, spelled, named_by, types_of, base_of, value_of, instr_of, body_of, names_after, names_after_all}
+use Rattle.t_terms.specs.Names.{Labels, spelled, named_by, types_of, base_of, value_of, instr_of, body_of, names_after}
+use Rattle.t_terms.specs.Names.{names_after_all}
 use Rattle.t_terms.specs.NameFaults.{type_faults, types_faults, base_faults, value_faults, instr_faults, body_faults}
 use Rattle.t_grammar.specs.declared.raw.RawType.{RawType}
 use Rattle.t_grammar.specs.Raw.{raw}
@@ -31,42 +33,55 @@ use Rattle.t_reader.proofs.Found.{here_at, stop_left, stop_right, none_both}
 use Rattle.t_reader.proofs.Naming.{Done}
 
 module _ (text : List ℕ) (ls : Labels) (b : RawBase) (s : Span) where
-  pub label_stop : b ≡ RB.Label s → named_by (spelled text s) ls ≡ None → StopsAt (base_faults text ls (raw_base b)) (Refused T05 s)
+  pub label_stop : b ≡ RB.Label s → named_by (spelled text s) ls ≡ None →
+      StopsAt (base_faults text ls (raw_base b)) (Refused T05 s)
   label_stop e f = ([], rw (e, f) refl)
 
-  pub label_whole : (t : TBase) (r : Base) → b ≡ RB.Label s → named_by (spelled text s) ls ≡ Some t → read.base r ≡ t → (base_faults text ls (raw_base b) ≡ []) × (read.base r ≡ base_of text ls (raw_base b))
+  pub label_whole : (t : TBase) (r : Base) → b ≡ RB.Label s → named_by (spelled text s) ls ≡ Some t → read.base r ≡ t →
+      (base_faults text ls (raw_base b) ≡ []) × (read.base r ≡ base_of text ls (raw_base b))
   label_whole t r e f q = (rw (e, f) refl, q ∙ rw (e, f) refl)
 
 -- the value that was found, with the names in scope after it
 abbrev pub Valued : List ℕ → Labels → List Name → RawValue → List Name → Value → Type 0
-Valued text ls a v b x = (b ≡ a) × (value_faults text ls a (raw_value v) ≡ []) × (read.value x ≡ value_of text ls a (raw_value v))
+Valued text ls a v b x =
+    (b ≡ a) × (value_faults text ls a (raw_value v) ≡ []) × (read.value x ≡ value_of text ls a (raw_value v))
 
 module _ (text : List ℕ) (ls : Labels) (a : List Name) (v : RawValue) where
-  module _ (rb : RawBase) (ts : Vec RawType Global) (us : List RawType) (e : v ≡ RV.Plain rb ts) (p : us ≡ ts.items) where
-    pub plain_base_stop : (s : TFault) → StopsAt (base_faults text ls (raw_base rb)) s → StopsAt (value_faults text ls a (raw_value v)) s
+  module _ (rb : RawBase) (ts : Vec RawType Global) (us : List RawType) (e : v ≡ RV.Plain rb ts)
+      (p : us ≡ ts.items) where
+    pub plain_base_stop : (s : TFault) → StopsAt (base_faults text ls (raw_base rb)) s →
+        StopsAt (value_faults text ls a (raw_value v)) s
     plain_base_stop s h = rw (e, ← p) (stop_left _ _ s h)
 
     module _ (b : Base) where
-      pub plain_types_stop : (s : TFault) → (base_faults text ls (raw_base rb) ≡ []) × (read.base b ≡ base_of text ls (raw_base rb)) → StopsAt (types_faults text a (map raw us)) s → StopsAt (value_faults text ls a (raw_value v)) s
+      pub plain_types_stop : (s : TFault) → (base_faults text ls (raw_base rb) ≡ [])
+          × (read.base b ≡ base_of text ls (raw_base rb)) → StopsAt (types_faults text a (map raw us)) s →
+          StopsAt (value_faults text ls a (raw_value v)) s
       plain_types_stop s g h = rw (e, ← p) (stop_right _ _ s g.0 h)
 
-      pub plain_whole : (made : Vec TType Global) (c : List Name) → (base_faults text ls (raw_base rb) ≡ []) × (read.base b ≡ base_of text ls (raw_base rb)) →
-          (c ≡ a) × (types_faults text a (map raw us) ≡ []) × (types made.items ≡ types_of text a (map raw us)) → Valued text ls a v c (V.Plain b made)
+      pub plain_whole : (made : Vec TType Global) (c : List Name) → (base_faults text ls (raw_base rb) ≡ [])
+          × (read.base b ≡ base_of text ls (raw_base rb)) →
+          (c ≡ a) × (types_faults text a (map raw us) ≡ []) × (types made.items ≡ types_of text a (map raw us)) →
+          Valued text ls a v c (V.Plain b made)
       plain_whole made c g h = (h.0, rw (e, ← p) (none_both _ _ g.0 h.1), rw (e, ← p, g.1, h.2) refl)
 
   module _ (box : Box RawPack Global) (pack : RawPack) (e : v ≡ RV.Pack box) (y : box.value ≡ pack) where
-    pub pack_1_stop : (s : TFault) → StopsAt (type_faults text a (raw pack.hidden)) s → StopsAt (value_faults text ls a (raw_value v)) s
+    pub pack_1_stop : (s : TFault) → StopsAt (type_faults text a (raw pack.hidden)) s →
+        StopsAt (value_faults text ls a (raw_value v)) s
     pack_1_stop s h = rw (e, y) (stop_left _ _ s h)
 
     module _ (b : List Name) (t : TType) (d : Done text a pack.hidden b t) where
-      pub pack_2_stop : (s : TFault) → StopsAt (value_faults text ls b (raw_value pack.inner)) s → StopsAt (value_faults text ls a (raw_value v)) s
+      pub pack_2_stop : (s : TFault) → StopsAt (value_faults text ls b (raw_value pack.inner)) s →
+          StopsAt (value_faults text ls a (raw_value v)) s
       pack_2_stop s h = rw (e, y) (stop_right _ _ s d.1 (stop_left _ _ s (rw d.0 at h)))
 
       module _ (c : List Name) (x : Value) (g : Valued text ls b pack.inner c x) where
-        pub pack_3_stop : (s : TFault) → StopsAt (type_faults text c (raw pack.shape)) s → StopsAt (value_faults text ls a (raw_value v)) s
+        pub pack_3_stop : (s : TFault) → StopsAt (type_faults text c (raw pack.shape)) s →
+            StopsAt (value_faults text ls a (raw_value v)) s
         pack_3_stop s h = rw (e, y) (stop_right _ _ s d.1 (stop_right _ _ s (rw d.0 at g.1) (rw (g.0, d.0) at h)))
 
-        pub pack_whole : (f : List Name) (u : TType) → Done text c pack.shape f u → (z : Value) → read.value z ≡ Pack (tree t) (read.value x) (tree u) → Valued text ls a v f z
+        pub pack_whole : (f : List Name) (u : TType) → Done text c pack.shape f u → (z : Value) →
+            read.value z ≡ Pack (tree t) (read.value x) (tree u) → Valued text ls a v f z
         pack_whole f u h z q = (
           h.0 ∙ (g.0 ∙ d.0),
           rw (e, y) (none_both _ _ d.1 (none_both _ _ (rw d.0 at g.1) (rw (g.0, d.0) at h.1))),
@@ -74,7 +89,8 @@ module _ (text : List ℕ) (ls : Labels) (a : List Name) (v : RawValue) where
         )
 
 -- a body, of which the instructions from k on are left
-pub record BodyLeft (text : List ℕ) (ls : Labels) (a : List Name) (xs : List (RawInstr × Span)) (k : ℕ) (b : List Name) (made : List (Instr × Span)) : Type 0 where
+pub record BodyLeft (text : List ℕ) (ls : Labels) (a : List Name) (xs : List (RawInstr × Span)) (k : ℕ) (b : List Name)
+    (made : List (Instr × Span)) : Type 0 where
   pub names : names_after_all text (map raw_step xs) a ≡ names_after_all text (map raw_step (drop k xs)) b
   pub faults : body_faults text ls a (map raw_step xs) ≡ body_faults text ls b (map raw_step (drop k xs))
   pub trees : body_of text ls a (map raw_step xs) ≡ read.body made ++ body_of text ls b (map raw_step (drop k xs))
@@ -87,23 +103,39 @@ module _ (text : List ℕ) (ls : Labels) (a : List Name) (xs : List (RawInstr ×
   pub body_start : BodyLeft text ls a xs 0 a []
   body_start = record { names = refl; faults = refl; trees = refl }
 
-  module _ (k : ℕ) (b : List Name) (made : List (Instr × Span)) (x : RawInstr × Span) (l : k < length xs) (i : x ≡ get_or xs k x) (h : BodyLeft text ls a xs k b made) where
-    at_step : body_faults text ls a (map raw_step xs) ≡ instr_faults text ls b (raw_instr x.0) ++ body_faults text ls (names_after text (raw_instr x.0) b) (map raw_step (drop (k + 1) xs))
+  module _ (k : ℕ) (b : List Name) (made : List (Instr × Span)) (x : RawInstr × Span) (l : k < length xs)
+      (i : x ≡ get_or xs k x) (h : BodyLeft text ls a xs k b made) where
+    at_step : body_faults text ls a (map raw_step xs) ≡ instr_faults text ls b (raw_instr x.0)
+        ++ body_faults text ls (names_after text (raw_instr x.0) b) (map raw_step (drop (k + 1) xs))
     at_step = h.faults ∙ rw (here_at xs k x l i) refl
 
-    pub body_stop : (s : TFault) → StopsAt (instr_faults text ls b (raw_instr x.0)) s → StopsAt (body_faults text ls a (map raw_step xs)) s
+    pub body_stop : (s : TFault) → StopsAt (instr_faults text ls b (raw_instr x.0)) s →
+        StopsAt (body_faults text ls a (map raw_step xs)) s
     body_stop s f = rw at_step (stop_left _ _ s f)
 
     pub body_next : (c : List Name) (t : Instr) (more : List (Instr × Span)) →
-        (c ≡ names_after text (raw_instr x.0) b) × (instr_faults text ls b (raw_instr x.0) ≡ []) × (read.instr t ≡ instr_of text ls b (raw_instr x.0)) → more ≡ made ++ (t, x.1) ∷ [] → BodyLeft text ls a xs (k + 1) c more
+        (c ≡ names_after text (raw_instr x.0) b) × (instr_faults text ls b (raw_instr x.0) ≡ [])
+        × (read.instr t ≡ instr_of text ls b (raw_instr x.0)) → more ≡ made ++ (t, x.1) ∷ [] →
+        BodyLeft text ls a xs (k + 1) c more
     body_next c t more d m = record {
       names = h.names ∙ rw (here_at xs k x l i, d.0) refl;
       faults = at_step ∙ rw (d.1, d.0) refl;
-      trees = h.trees ∙ rw (here_at xs k x l i, m, body_append made ((t, x.1) ∷ []), append_assoc (read.body made) ((read.instr t, x.1) ∷ []) (body_of text ls c (map raw_step (drop (k + 1) xs))), d.2, d.0) refl;
+      trees = h.trees
+          ∙ rw (
+            here_at xs k x l i,
+            m,
+            body_append made ((t, x.1) ∷ []),
+            append_assoc (read.body made) ((read.instr t, x.1) ∷ [])
+                (body_of text ls c (map raw_step (drop (k + 1) xs))),
+            d.2,
+            d.0,
+          ) refl;
     }
 
-  pub body_whole : (k : ℕ) (b : List Name) (made : List (Instr × Span)) → length xs ≤ k → BodyLeft text ls a xs k b made →
-      (b ≡ names_after_all text (map raw_step xs) a) × (body_faults text ls a (map raw_step xs) ≡ []) × (read.body made ≡ body_of text ls a (map raw_step xs))
+  pub body_whole : (k : ℕ) (b : List Name) (made : List (Instr × Span)) → length xs ≤ k →
+      BodyLeft text ls a xs k b made →
+      (b ≡ names_after_all text (map raw_step xs) a) × (body_faults text ls a (map raw_step xs) ≡ [])
+      × (read.body made ≡ body_of text ls a (map raw_step xs))
   body_whole k b made l h =
       let n : drop k xs ≡ [] = drop_of_length-le xs l in
       (sym (h.names ∙ rw n refl), h.faults ∙ rw n refl, sym (h.trees ∙ (rw n refl ∙ append-nil (read.body made))))

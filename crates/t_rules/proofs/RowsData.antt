@@ -26,13 +26,18 @@ abbrev tuple : Span → List SDatum → SData
 tuple s xs = record { name = s; fields = xs }
 
 -- The first data tuple names the second; the program reads through both.
--- tal 2 | D0: data <5 : int, D1 : <int^1>> | D1: data <6 : int> | L0: code[]{}. mov r2, D0 ld r3, r2[1] ld r1, r3[0] halt[int]
+-- tal 2 | D0: data <5 : int, D1 : <int^1>> | D1: data <6 : int> | L0: code[]{}. mov r2, D0 ld r3, r2[1] ld r1, r3[0]
+-- halt[int]
 abbrev pub through_data : SProg
 through_data = record {
   blocks =
-      block (span 58 60) 0 NoRegs ((Mov 2 (Plain (Data 0) []), span 72 82) ∷ (Ld 3 2 1, span 83 95) ∷ (Ld 1 3 0, span 96 108) ∷ []) Halt (span 109 118) ∷ [];
+      block (span 58 60) 0 NoRegs
+      ((Mov 2 (Plain (Data 0) []), span 72 82) ∷ (Ld 3 2 1, span 83 95) ∷ (Ld 1 3 0, span 96 108) ∷ []) Halt
+      (span 109 118) ∷ [];
   heap =
-      tuple (span 6 8) (datum (Plain (Int (pos 5)) []) IntTy (span 16 17) ∷ datum (Plain (Data 1) []) (TupleTy (MoreFields IntTy true NoFields)) (span 25 27) ∷ [])
+      tuple (span 6 8)
+      (datum (Plain (Int (pos 5)) []) IntTy (span 16 17)
+      ∷ datum (Plain (Data 1) []) (TupleTy (MoreFields IntTy true NoFields)) (span 25 27) ∷ [])
       ∷ tuple (span 39 41) (datum (Plain (Int (pos 6)) []) IntTy (span 49 50) ∷ []) ∷ [];
 }
 
@@ -43,7 +48,10 @@ through_data_accepted : Accepted (plain_program through_data)
 through_data_accepted = (
   (refl, refl),
   (
-    ((IntTy, refl, inl refl, tt), ((TupleTy (MoreFields IntTy true NoFields), (_, refl, refl), inl refl, search arith), tt)),
+    (
+      (IntTy, refl, inl refl, tt),
+      ((TupleTy (MoreFields IntTy true NoFields), (_, refl, refl), inl refl, search arith), tt),
+    ),
     (((IntTy, refl, inl refl, tt), tt), tt),
   ),
   (
@@ -51,7 +59,11 @@ through_data_accepted = (
       tt,
       (
         _,
-        (TupleTy (MoreFields IntTy true (MoreFields (TupleTy (MoreFields IntTy true NoFields)) true NoFields)), (_, refl, refl), refl),
+        (
+          TupleTy (MoreFields IntTy true (MoreFields (TupleTy (MoreFields IntTy true NoFields)) true NoFields)),
+          (_, refl, refl),
+          refl,
+        ),
         (_, (_, _, refl, refl, refl), (_, (_, _, refl, refl, refl), refl)),
       ),
     ),
@@ -60,16 +72,21 @@ through_data_accepted = (
 )
 
 -- the types of its heap at the start
-through_data_types : start_types (plain_program through_data) ≡ MoreFields IntTy true (MoreFields (TupleTy (MoreFields IntTy true NoFields)) true NoFields) ∷ MoreFields IntTy true NoFields ∷ []
+through_data_types : start_types (plain_program through_data)
+    ≡ MoreFields IntTy true (MoreFields (TupleTy (MoreFields IntTy true NoFields)) true NoFields)
+    ∷ MoreFields IntTy true NoFields ∷ []
 through_data_types = refl
 
 -- its heap at the start
-through_data_starts : start_heap (plain_program through_data) ≡ (IntWord (pos 5) ∷ AddressWord 1 ∷ []) ∷ (IntWord (pos 6) ∷ []) ∷ []
+through_data_starts : start_heap (plain_program through_data) ≡ (IntWord (pos 5) ∷ AddressWord 1 ∷ [])
+    ∷ (IntWord (pos 6) ∷ []) ∷ []
 through_data_starts = refl
 
 -- before its last load r3 is known as the second tuple
 through_data_known : KnownAt (plain_program through_data) 0 2 0
-    (with_reg (with_reg (lookup NoRegs) 2 (TupleTy (MoreFields IntTy true (MoreFields (TupleTy (MoreFields IntTy true NoFields)) true NoFields)))) 3 (TupleTy (MoreFields IntTy true NoFields)))
+    (with_reg (with_reg (lookup NoRegs) 2
+    (TupleTy (MoreFields IntTy true (MoreFields (TupleTy (MoreFields IntTy true NoFields)) true NoFields)))) 3
+    (TupleTy (MoreFields IntTy true NoFields)))
 through_data_known = (_, refl, (_, (_, (_, refl, refl), refl), (_, (_, _, refl, refl, refl), (refl, refl))))
 
 through_data_halts : HaltsWithin (plain_program through_data) 3 (pos 6)
@@ -81,11 +98,13 @@ through_data_halts =
     (3, omega arith, (_, _, s3.after, refl))
 
 -- the erased machine: its heap, and that it halts with 6 after 3 steps
-through_data_heap : erase_heap (plain_program through_data) ≡ (EInt (pos 5) ∷ EAddress 1 ∷ []) ∷ (EInt (pos 6) ∷ []) ∷ []
+through_data_heap : erase_heap (plain_program through_data) ≡ (EInt (pos 5) ∷ EAddress 1 ∷ []) ∷ (EInt (pos 6) ∷ [])
+    ∷ []
 through_data_heap = refl
 
 through_data_erased : (b : TBlock) × (e : _) × (slice_get (plain_program through_data).blocks 0 ≡ Some b)
-    × (erun (erase_blocks (plain_program through_data)) 3 (begun (plain_program through_data) b) ≡ Some (EOn e (Spot 0 3) (0 ∷ []))) × EHaltedWith e (pos 6)
+    × (erun (erase_blocks (plain_program through_data)) 3 (begun (plain_program through_data) b)
+    ≡ Some (EOn e (Spot 0 3) (0 ∷ []))) × EHaltedWith e (pos 6)
 through_data_erased = (_, _, refl, refl, refl)
 
 -- The word is no tuple. Data come before the blocks, so its fault is the first, and not that register 1 is no integer.
@@ -97,7 +116,8 @@ word_of_another_type = record {
 }
 
 word_of_another_type_fault : ProgramFault word_of_another_type T13 (span 16 17)
-word_of_another_type_fault = inr ((refl, refl), inl (inl (inl (inr (_, refl, inl (no_fit _ _ (λ e. cc) (λ fs gs e k. cc), (refl, refl)))))))
+word_of_another_type_fault =
+    inr ((refl, refl), inl (inl (inl (inr (_, refl, inl (no_fit _ _ (λ e. cc) (λ fs gs e k. cc), (refl, refl)))))))
 
 -- A number takes no types.
 -- tal 2 | D0: data <5[int] : int> | L0: code[]{}. halt[int]
@@ -115,11 +135,17 @@ word_with_types_fault = inr ((refl, refl), inl (inl (inl (inl (inr (_, refl, (re
 abbrev word_of_no_package : SProg
 word_of_no_package = record {
   blocks = block (span 56 58) 0 NoRegs [] Halt (span 70 79) ∷ [];
-  heap = tuple (span 6 8) (datum (Pack IntTy (Plain (Int (pos 5)) []) (ExistsTy (TupleTy NoFields))) (ExistsTy (TupleTy NoFields)) (span 16 41) ∷ []) ∷ [];
+  heap = tuple (span 6 8)
+      (datum (Pack IntTy (Plain (Int (pos 5)) []) (ExistsTy (TupleTy NoFields))) (ExistsTy (TupleTy NoFields))
+      (span 16 41) ∷ []) ∷ [];
 }
 
 word_of_no_package_fault : ProgramFault word_of_no_package T15 (span 16 41)
-word_of_no_package_fault = inr ((refl, refl), inl (inl (inl (inl (inr (_, refl, inl (no_fit _ _ (λ e. cc) (λ fs gs e k. cc), (refl, refl))))))))
+word_of_no_package_fault =
+    inr (
+      (refl, refl),
+      inl (inl (inl (inl (inr (_, refl, inl (no_fit _ _ (λ e. cc) (λ fs gs e k. cc), (refl, refl))))))),
+    )
 
 -- The first block is checked before the data, and the data before the blocks.
 -- tal 2 | D0: data <5 : <>> | L0: code[]{r1:int}. halt[int]

@@ -18,9 +18,11 @@ HasKind blocks tuples (CodeTy owes file) w = (l : ℕ) × (w ≡ ELabel l) × (l
 HasKind blocks tuples (VarTy i) w = w ≢ EEmpty
 HasKind blocks tuples (ExistsTy t) w = w ≢ EEmpty
 
--- in an erased state of an accepted program each register that is known at its place has a word, of the kind of its type
+-- in an erased state of an accepted program each register that is known at its place has a word, of the kind of its
+-- type
 abbrev pub KnownWordsHaveKinds : Type 0
 KnownWordsHaveKinds =
-    (P : TProg) → Whole P → Accepted P → (m : ℕ) (blocks : List ESeq) (h : EHeap) (r : ERegs) (c : ESeq) (block index : ℕ) →
+    (P : TProg) → Whole P → Accepted P →
+    (m : ℕ) (blocks : List ESeq) (h : EHeap) (r : ERegs) (c : ESeq) (block index : ℕ) →
     Erased P m blocks (EAt h r c) (Spot block index) → (n : ℕ) (g : RegTypes) → KnownAt P block index n g →
     (q : ℕ) (t : Ty) → g q ≡ Some t → (w : EWord) × (r q ≡ Some w) × HasKind (length P.blocks) (length h) t w

@@ -8,7 +8,8 @@ use Rattle.t_terms.specs.GrammarTable.{Stack, Val, Line, LTo, MakeTo, LAt, MakeA
 use Rattle.t_grammar.specs.declared.cursor.Stopped.{Stopped}
 use Rattle.t_grammar.specs.Reads.{Reads, Fails}
 use Rattle.t_grammar.specs.Cursor.{Next, IsMissed, TwoMissed}
-use Rattle.t_grammar.proofs.Stepping.{Moves, within, as_token, by_two, by_do, by_mark, by_same, stop_two, Opens, opening}
+use Rattle.t_grammar.proofs.Stepping.{Moves, within, as_token, by_two, by_do, by_mark, by_same, stop_two, Opens}
+use Rattle.t_grammar.proofs.Stepping.{opening}
 use Rattle.t_shapes.proofs.Lines.{to_begins, at_begins}
 
 pub starting : (ts : List Token) (d i : ℕ) (owed : Stack) (vs : List Val) → Moves ts d i owed vs i owed vs
@@ -22,7 +23,9 @@ module _ (ts : List Token) (i : ℕ) where
   at_goes = as_token ts 0 i LAt want.Register (Nt LIndex ∷ (Do MakeAt ∷ [])) refl (λ c q. at_begins c.kind)
 
 -- a line that is an opening bracket, two tokens, and an action
-module _ (ts : List Token) (i : ℕ) (n : Line) (v w : Wanted) (x : Act) (o : Opens n want.LeftBracket (Tm v ∷ (Tm w ∷ (Mark ∷ (Do x ∷ []))))) (c : Token) (e : Next ts i want.LeftBracket c) where
+module _ (ts : List Token) (i : ℕ) (n : Line) (v w : Wanted) (x : Act)
+    (o : Opens n want.LeftBracket (Tm v ∷ (Tm w ∷ (Mark ∷ (Do x ∷ []))))) (c : Token)
+    (e : Next ts i want.LeftBracket c) where
   inside : Moves ts 0 i (Nt n ∷ []) [] (i + 1) (Tm v ∷ (Tm w ∷ (Mark ∷ (Do x ∷ [])))) (OfToken c ∷ [])
   inside = opening ts 0 i c n want.LeftBracket (Tm v ∷ (Tm w ∷ (Mark ∷ (Do x ∷ [])))) o e (omega arith)
 
@@ -30,13 +33,17 @@ module _ (ts : List Token) (i : ℕ) (n : Line) (v w : Wanted) (x : Act) (o : Op
   two_stop s f = stop_two s v w (Mark ∷ (Do x ∷ [])) (OfToken c ∷ []) inside (omega arith) f
 
   -- the first token is there, and the second is not
-  pub second_stop : (a : Token) (k : ℕ) → k ≡ i + 1 + 1 → Next ts (i + 1) v a → (s : Stopped) → IsMissed ts k w s → Fails ts 0 i (Nt n ∷ []) [] s
+  pub second_stop : (a : Token) (k : ℕ) → k ≡ i + 1 + 1 → Next ts (i + 1) v a → (s : Stopped) → IsMissed ts k w s →
+      Fails ts 0 i (Nt n ∷ []) [] s
   second_stop a k q f s g = two_stop s (inr (rw q at g.0, (a, f, rw q at g.1)))
 
-  pub two_read : (a b : Token) (u : Val) → Next ts (i + 1) v a × Next ts (i + 1 + 1) w b → ((below : List Val) → act x (OfToken b ∷ (OfToken a ∷ (OfToken c ∷ below))) ≡ u ∷ below) → Reads n ts 0 i (i + 3) (u ∷ [])
+  pub two_read : (a b : Token) (u : Val) → Next ts (i + 1) v a × Next ts (i + 1 + 1) w b →
+      ((below : List Val) → act x (OfToken b ∷ (OfToken a ∷ (OfToken c ∷ below))) ≡ u ∷ below) →
+      Reads n ts 0 i (i + 3) (u ∷ [])
   two_read a b u f k = record {
     forward = omega arith;
     in_range = (let l = within ts (i + 1 + 1) w b f.1 in omega arith);
     same = by_same (omega arith) (by_do x [] (OfToken b ∷ (OfToken a ∷ (OfToken c ∷ []))) (u ∷ [])
-        (by_mark (Do x ∷ []) (OfToken b ∷ (OfToken a ∷ (OfToken c ∷ []))) (by_two v w a b (Mark ∷ (Do x ∷ [])) (OfToken c ∷ []) inside f (omega arith))) k);
+        (by_mark (Do x ∷ []) (OfToken b ∷ (OfToken a ∷ (OfToken c ∷ [])))
+        (by_two v w a b (Mark ∷ (Do x ∷ [])) (OfToken c ∷ []) inside f (omega arith))) k);
   }

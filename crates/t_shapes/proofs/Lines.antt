@@ -6,7 +6,16 @@ use Rattle.t_terms.specs.declared.token.Token.{Token}
 use Rattle.t_terms.specs.declared.token.Kind.{Kind}
 use Rattle.t_terms.specs.declared.token.Kind.TheVariants as k
 use Rattle.t_terms.specs.declared.wanted.Wanted.TheVariants as want
-use Rattle.t_terms.specs.GrammarTable.{table, LT, LTypes, LTypeList, LSomeTypes, LMoreTypes, MakeTypes, MakeFirstType, MakeNextType, MakeClosedTypes, MakeNoTypes, LV, LArgs, LPacked, MakeApply, MakePacked, LTo, MakeTo, LAt, MakeAt, LIndex, MakeIndex, LTarget, MakeTarget, LInt, MakeInt, LBlock, LMoreBlocks, LProgram, LHeader, MakeProgram, LW, LWordArgs, LWordPacked, MakeWordApply, MakeWordPacked, LDatums, LMoreDatums, MakeNoDatums, MakeFirstDatum, MakeNextDatum, MakeClosedDatums, LSomeItems, LMoreItems, LFirst, LItem, MakeNextItem, fits, after, type_list_after, some_types_after, types_tail, value_after, base_owed, instr_after, block_owed, blocks_tail, end_after, word_after, word_owed, datums_after, datums_tail, tuple_after, items_tail, item_after}
+use Rattle.t_terms.specs.GrammarTable.{table, LT, LTypes, LTypeList, LSomeTypes, LMoreTypes, MakeTypes, MakeFirstType}
+use Rattle.t_terms.specs.GrammarTable.{MakeNextType, MakeClosedTypes, MakeNoTypes, LV, LArgs, LPacked, MakeApply}
+use Rattle.t_terms.specs.GrammarTable.{MakePacked, LTo, MakeTo, LAt, MakeAt, LIndex, MakeIndex, LTarget, MakeTarget}
+use Rattle.t_terms.specs.GrammarTable.{LInt, MakeInt, LBlock, LMoreBlocks, LProgram, LHeader, MakeProgram, LW}
+use Rattle.t_terms.specs.GrammarTable.{LWordArgs, LWordPacked, MakeWordApply, MakeWordPacked, LDatums, LMoreDatums}
+use Rattle.t_terms.specs.GrammarTable.{MakeNoDatums, MakeFirstDatum, MakeNextDatum, MakeClosedDatums, LSomeItems}
+use Rattle.t_terms.specs.GrammarTable.{LMoreItems, LFirst, LItem, MakeNextItem, fits, after, type_list_after}
+use Rattle.t_terms.specs.GrammarTable.{some_types_after, types_tail, value_after, base_owed, instr_after, block_owed}
+use Rattle.t_terms.specs.GrammarTable.{blocks_tail, end_after, word_after, word_owed, datums_after, datums_tail}
+use Rattle.t_terms.specs.GrammarTable.{tuple_after, items_tail, item_after}
 use Rattle.t_terms.specs.Text.{most_open}
 use Rattle.t_grammar.specs.Cursor.{Misses}
 use Rattle.t_grammar.proofs.Stepping.{Moves, not_fits, Opens, ListLine}
@@ -16,7 +25,8 @@ use Rattle.t_shapes.specs.Reads.{datum_owed, items_line}
 pub opens_types : Opens LTypes want.LeftBracket (Nt LTypeList ∷ (Mark ∷ (Do MakeTypes ∷ [])))
 opens_types = record { takes = λ c e. takes c e; no_other = λ c e. no_other c e }
   where
-    takes : (c : Kind) → fits want.LeftBracket c ≡ true → after LTypes c ≡ Some (Nt LTypeList ∷ (Mark ∷ (Do MakeTypes ∷ [])))
+    takes : (c : Kind) → fits want.LeftBracket c ≡ true →
+        after LTypes c ≡ Some (Nt LTypeList ∷ (Mark ∷ (Do MakeTypes ∷ [])))
     takes k.LeftBracket e = refl
     takes _ e = absurd (cc)
 
@@ -27,7 +37,8 @@ opens_types = record { takes = λ c e. takes c e; no_other = λ c e. no_other c 
 pub comma_types : Opens LMoreTypes want.Comma (Nt LT ∷ (Do MakeNextType ∷ (Nt LMoreTypes ∷ [])))
 comma_types = record { takes = λ c e. takes c e; no_other = λ c e. no_other c e }
   where
-    takes : (c : Kind) → fits want.Comma c ≡ true → after LMoreTypes c ≡ Some (Nt LT ∷ (Do MakeNextType ∷ (Nt LMoreTypes ∷ [])))
+    takes : (c : Kind) → fits want.Comma c ≡ true →
+        after LMoreTypes c ≡ Some (Nt LT ∷ (Do MakeNextType ∷ (Nt LMoreTypes ∷ [])))
     takes k.Comma e = refl
     takes _ e = absurd (cc)
 
@@ -38,15 +49,19 @@ comma_types = record { takes = λ c e. takes c e; no_other = λ c e. no_other c 
 pub some_begin : (ts : List Token) (d i : ℕ) → Moves ts d i (Nt LSomeTypes ∷ []) [] i (Nt LT ∷ types_tail) []
 some_begin ts d i = step.as_any table most_open ts d i LT LSomeTypes types_tail [] [] refl refl (λ c q. refl)
 
-pub list_types : ListLine LSomeTypes LMoreTypes want.RightBracket (Nt LT ∷ []) MakeFirstType MakeNextType MakeClosedTypes
+pub list_types : ListLine LSomeTypes LMoreTypes want.RightBracket (Nt LT ∷ []) MakeFirstType MakeNextType
+    MakeClosedTypes
 list_types = record { begin = λ ts d i e. some_begin ts d i; comma = comma_types; ends = refl; flat = refl }
 
 types_begin : (c : Kind) → fits want.RightBracket c ≡ false → type_list_after c ≡ then_more (some_types_after c) []
 types_begin k.RightBracket e = absurd (cc)
 types_begin _ e = refl
 
-pub as_some : (ts : List Token) (d i : ℕ) → Misses ts i want.RightBracket → Moves ts d i (Nt LTypeList ∷ []) [] i (Nt LSomeTypes ∷ []) []
-as_some ts d i e = step.as_any table most_open ts d i LSomeTypes LTypeList [] [] [] refl refl (λ c q. types_begin c.kind (not_fits want.RightBracket (slice_get ts i) c e q))
+pub as_some : (ts : List Token) (d i : ℕ) → Misses ts i want.RightBracket →
+    Moves ts d i (Nt LTypeList ∷ []) [] i (Nt LSomeTypes ∷ []) []
+as_some ts d i e =
+    step.as_any table most_open ts d i LSomeTypes LTypeList [] [] [] refl refl
+    (λ c q. types_begin c.kind (not_fits want.RightBracket (slice_get ts i) c e q))
 
 pub no_types : (c : Kind) → fits want.RightBracket c ≡ true → type_list_after c ≡ Some (Do MakeNoTypes ∷ [])
 no_types k.RightBracket e = refl
@@ -55,7 +70,8 @@ no_types _ e = absurd (cc)
 pub opens_args : Opens LArgs want.LeftBracket (Nt LSomeTypes ∷ (Mark ∷ (Do MakeApply ∷ [])))
 opens_args = record { takes = λ c e. takes c e; no_other = λ c e. no_other c e }
   where
-    takes : (c : Kind) → fits want.LeftBracket c ≡ true → after LArgs c ≡ Some (Nt LSomeTypes ∷ (Mark ∷ (Do MakeApply ∷ [])))
+    takes : (c : Kind) → fits want.LeftBracket c ≡ true →
+        after LArgs c ≡ Some (Nt LSomeTypes ∷ (Mark ∷ (Do MakeApply ∷ [])))
     takes k.LeftBracket e = refl
     takes _ e = absurd (cc)
 
@@ -63,10 +79,13 @@ opens_args = record { takes = λ c e. takes c e; no_other = λ c e. no_other c e
     no_other k.LeftBracket e = absurd (cc)
     no_other _ e = refl
 
-pub opens_packed : Opens LPacked want.LeftBracket (Nt LT ∷ (Tm want.Comma ∷ (Nt LV ∷ (Tm want.RightBracket ∷ (Mark ∷ (Do MakePacked ∷ []))))))
+pub opens_packed : Opens LPacked want.LeftBracket
+    (Nt LT ∷ (Tm want.Comma ∷ (Nt LV ∷ (Tm want.RightBracket ∷ (Mark ∷ (Do MakePacked ∷ []))))))
 opens_packed = record { takes = λ c e. takes c e; no_other = λ c e. no_other c e }
   where
-    takes : (c : Kind) → fits want.LeftBracket c ≡ true → after LPacked c ≡ Some (Nt LT ∷ (Tm want.Comma ∷ (Nt LV ∷ (Tm want.RightBracket ∷ (Mark ∷ (Do MakePacked ∷ []))))))
+    takes : (c : Kind) → fits want.LeftBracket c ≡ true →
+        after LPacked c
+        ≡ Some (Nt LT ∷ (Tm want.Comma ∷ (Nt LV ∷ (Tm want.RightBracket ∷ (Mark ∷ (Do MakePacked ∷ []))))))
     takes k.LeftBracket e = refl
     takes _ e = absurd (cc)
 
@@ -77,7 +96,8 @@ opens_packed = record { takes = λ c e. takes c e; no_other = λ c e. no_other c
 pub opens_index : Opens LIndex want.LeftBracket (Tm want.Number ∷ (Tm want.RightBracket ∷ (Mark ∷ (Do MakeIndex ∷ []))))
 opens_index = record { takes = λ c e. takes c e; no_other = λ c e. no_other c e }
   where
-    takes : (c : Kind) → fits want.LeftBracket c ≡ true → after LIndex c ≡ Some (Tm want.Number ∷ (Tm want.RightBracket ∷ (Mark ∷ (Do MakeIndex ∷ []))))
+    takes : (c : Kind) → fits want.LeftBracket c ≡ true →
+        after LIndex c ≡ Some (Tm want.Number ∷ (Tm want.RightBracket ∷ (Mark ∷ (Do MakeIndex ∷ []))))
     takes k.LeftBracket e = refl
     takes _ e = absurd (cc)
 
@@ -85,10 +105,14 @@ opens_index = record { takes = λ c e. takes c e; no_other = λ c e. no_other c 
     no_other k.LeftBracket e = absurd (cc)
     no_other _ e = refl
 
-pub opens_target : Opens LTarget want.LeftBracket (Tm want.Name ∷ (Tm want.Comma ∷ (Tm want.Register ∷ (Tm want.RightBracket ∷ (Mark ∷ (Do MakeTarget ∷ []))))))
+pub opens_target : Opens LTarget want.LeftBracket
+    (Tm want.Name ∷ (Tm want.Comma ∷ (Tm want.Register ∷ (Tm want.RightBracket ∷ (Mark ∷ (Do MakeTarget ∷ []))))))
 opens_target = record { takes = λ c e. takes c e; no_other = λ c e. no_other c e }
   where
-    takes : (c : Kind) → fits want.LeftBracket c ≡ true → after LTarget c ≡ Some (Tm want.Name ∷ (Tm want.Comma ∷ (Tm want.Register ∷ (Tm want.RightBracket ∷ (Mark ∷ (Do MakeTarget ∷ []))))))
+    takes : (c : Kind) → fits want.LeftBracket c ≡ true →
+        after LTarget c
+        ≡ Some (Tm want.Name
+        ∷ (Tm want.Comma ∷ (Tm want.Register ∷ (Tm want.RightBracket ∷ (Mark ∷ (Do MakeTarget ∷ []))))))
     takes k.LeftBracket e = refl
     takes _ e = absurd (cc)
 
@@ -99,7 +123,8 @@ opens_target = record { takes = λ c e. takes c e; no_other = λ c e. no_other c
 pub opens_int : Opens LInt want.LeftBracket (Tm want.Int ∷ (Tm want.RightBracket ∷ (Mark ∷ (Do MakeInt ∷ []))))
 opens_int = record { takes = λ c e. takes c e; no_other = λ c e. no_other c e }
   where
-    takes : (c : Kind) → fits want.LeftBracket c ≡ true → after LInt c ≡ Some (Tm want.Int ∷ (Tm want.RightBracket ∷ (Mark ∷ (Do MakeInt ∷ []))))
+    takes : (c : Kind) → fits want.LeftBracket c ≡ true →
+        after LInt c ≡ Some (Tm want.Int ∷ (Tm want.RightBracket ∷ (Mark ∷ (Do MakeInt ∷ []))))
     takes k.LeftBracket e = refl
     takes _ e = absurd (cc)
 
@@ -107,7 +132,8 @@ opens_int = record { takes = λ c e. takes c e; no_other = λ c e. no_other c e 
     no_other k.LeftBracket e = absurd (cc)
     no_other _ e = refl
 
-pub to_begins : (c : Kind) → after LTo c ≡ (if fits want.Register c then Some (Tm want.Comma ∷ (Do MakeTo ∷ [])) else None)
+pub to_begins : (c : Kind) →
+    after LTo c ≡ (if fits want.Register c then Some (Tm want.Comma ∷ (Do MakeTo ∷ [])) else None)
 to_begins (k.Register r) = refl
 to_begins _ = refl
 
@@ -119,7 +145,8 @@ pub block_begins : (c : Kind) → after LBlock c ≡ (if fits want.Name c then S
 block_begins k.Name = refl
 block_begins _ = refl
 
-pub program_begins : (c : Kind) → after LProgram c ≡ (if fits want.Tal c then Some (Nt LHeader ∷ (Do MakeProgram ∷ [])) else None)
+pub program_begins : (c : Kind) →
+    after LProgram c ≡ (if fits want.Tal c then Some (Nt LHeader ∷ (Do MakeProgram ∷ [])) else None)
 program_begins k.Tal = refl
 program_begins _ = refl
 
@@ -139,7 +166,8 @@ no_value k.Name e n = absurd (cc)
 no_value k.Pack e n = absurd (n refl)
 no_value _ e n = refl
 
-pub no_step : (c : Kind) → c ≢ k.Add → c ≢ k.Sub → c ≢ k.Mul → c ≢ k.Bnz → c ≢ k.Ld → c ≢ k.Malloc → c ≢ k.Mov → c ≢ k.St → c ≢ k.Unpack → instr_after c ≡ None
+pub no_step : (c : Kind) → c ≢ k.Add → c ≢ k.Sub → c ≢ k.Mul → c ≢ k.Bnz → c ≢ k.Ld → c ≢ k.Malloc → c ≢ k.Mov →
+    c ≢ k.St → c ≢ k.Unpack → instr_after c ≡ None
 no_step k.Add a b d e f g h i j = absurd (a refl)
 no_step k.Sub a b d e f g h i j = absurd (b refl)
 no_step k.Mul a b d e f g h i j = absurd (d refl)
@@ -157,7 +185,8 @@ no_end k.Halt a b = absurd (b refl)
 no_end _ a b = refl
 
 -- a block that follows on blocks, and none
-pub block_follows : (c : Kind) → fits want.Name c ≡ true → (after LBlock c ≡ Some block_owed) × (after LMoreBlocks c ≡ Some (block_owed ++ blocks_tail))
+pub block_follows : (c : Kind) → fits want.Name c ≡ true → (after LBlock c ≡ Some block_owed)
+    × (after LMoreBlocks c ≡ Some (block_owed ++ blocks_tail))
 block_follows k.Name e = (refl, refl)
 block_follows _ e = absurd (cc)
 
@@ -169,7 +198,8 @@ no_block _ e = refl
 pub opens_word_args : Opens LWordArgs want.LeftBracket (Nt LSomeTypes ∷ (Mark ∷ (Do MakeWordApply ∷ [])))
 opens_word_args = record { takes = λ c e. takes c e; no_other = λ c e. no_other c e }
   where
-    takes : (c : Kind) → fits want.LeftBracket c ≡ true → after LWordArgs c ≡ Some (Nt LSomeTypes ∷ (Mark ∷ (Do MakeWordApply ∷ [])))
+    takes : (c : Kind) → fits want.LeftBracket c ≡ true →
+        after LWordArgs c ≡ Some (Nt LSomeTypes ∷ (Mark ∷ (Do MakeWordApply ∷ [])))
     takes k.LeftBracket e = refl
     takes _ e = absurd (cc)
 
@@ -177,10 +207,13 @@ opens_word_args = record { takes = λ c e. takes c e; no_other = λ c e. no_othe
     no_other k.LeftBracket e = absurd (cc)
     no_other _ e = refl
 
-pub opens_word_packed : Opens LWordPacked want.LeftBracket (Nt LT ∷ (Tm want.Comma ∷ (Nt LW ∷ (Tm want.RightBracket ∷ (Mark ∷ (Do MakeWordPacked ∷ []))))))
+pub opens_word_packed : Opens LWordPacked want.LeftBracket
+    (Nt LT ∷ (Tm want.Comma ∷ (Nt LW ∷ (Tm want.RightBracket ∷ (Mark ∷ (Do MakeWordPacked ∷ []))))))
 opens_word_packed = record { takes = λ c e. takes c e; no_other = λ c e. no_other c e }
   where
-    takes : (c : Kind) → fits want.LeftBracket c ≡ true → after LWordPacked c ≡ Some (Nt LT ∷ (Tm want.Comma ∷ (Nt LW ∷ (Tm want.RightBracket ∷ (Mark ∷ (Do MakeWordPacked ∷ []))))))
+    takes : (c : Kind) → fits want.LeftBracket c ≡ true →
+        after LWordPacked c
+        ≡ Some (Nt LT ∷ (Tm want.Comma ∷ (Nt LW ∷ (Tm want.RightBracket ∷ (Mark ∷ (Do MakeWordPacked ∷ []))))))
     takes k.LeftBracket e = refl
     takes _ e = absurd (cc)
 
@@ -205,7 +238,8 @@ no_word _ e n = refl
 comma_datums : Opens LMoreDatums want.Comma (datum_owed ++ (Do MakeNextDatum ∷ (Nt LMoreDatums ∷ [])))
 comma_datums = record { takes = λ c e. takes c e; no_other = λ c e. no_other c e }
   where
-    takes : (c : Kind) → fits want.Comma c ≡ true → after LMoreDatums c ≡ Some (datum_owed ++ (Do MakeNextDatum ∷ (Nt LMoreDatums ∷ [])))
+    takes : (c : Kind) → fits want.Comma c ≡ true →
+        after LMoreDatums c ≡ Some (datum_owed ++ (Do MakeNextDatum ∷ (Nt LMoreDatums ∷ [])))
     takes k.Comma e = refl
     takes _ e = absurd (cc)
 
@@ -219,7 +253,8 @@ datums_begin _ e = refl
 
 pub list_datums : ListLine LDatums LMoreDatums want.RightAngle datum_owed MakeFirstDatum MakeNextDatum MakeClosedDatums
 list_datums = record {
-  begin = λ ts d i e. step.as_any table most_open ts d i LW LDatums datums_tail [] [] refl refl (λ c q. datums_begin c.kind (not_fits want.RightAngle (slice_get ts i) c e q));
+  begin = λ ts d i e. step.as_any table most_open ts d i LW LDatums datums_tail [] [] refl refl
+      (λ c q. datums_begin c.kind (not_fits want.RightAngle (slice_get ts i) c e q));
   comma = comma_datums;
   ends = refl;
   flat = refl;
@@ -234,11 +269,13 @@ no_tuple k.LeftAngle a = absurd (a refl)
 no_tuple _ a = refl
 
 -- items
-pub items_begin : (c : Kind) → after LSomeItems c ≡ (if fits want.Name c then Some (Tm want.Colon ∷ (Nt LFirst ∷ [])) else None)
+pub items_begin : (c : Kind) →
+    after LSomeItems c ≡ (if fits want.Name c then Some (Tm want.Colon ∷ (Nt LFirst ∷ [])) else None)
 items_begin k.Name = refl
 items_begin _ = refl
 
-pub item_follows : (c : Kind) → fits want.Name c ≡ true → after LMoreItems c ≡ Some (Tm want.Colon ∷ (Nt LItem ∷ items_tail))
+pub item_follows : (c : Kind) → fits want.Name c ≡ true →
+    after LMoreItems c ≡ Some (Tm want.Colon ∷ (Nt LItem ∷ items_tail))
 item_follows k.Name e = refl
 item_follows _ e = absurd (cc)
 
@@ -247,7 +284,8 @@ no_more_items k.Name e = absurd (cc)
 no_more_items _ e = refl
 
 -- as long as no block stood, an item goes on as any, and then with what is owed after it
-pub first_as_item : (c : Kind) → after LFirst c ≡ then_more (after LItem c) (Do MakeNextItem ∷ (Nt (items_line (fits want.Code c)) ∷ []))
+pub first_as_item : (c : Kind) →
+    after LFirst c ≡ then_more (after LItem c) (Do MakeNextItem ∷ (Nt (items_line (fits want.Code c)) ∷ []))
 first_as_item k.Code = refl
 first_as_item k.Data = refl
 first_as_item _ = refl

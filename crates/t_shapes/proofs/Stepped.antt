@@ -13,7 +13,8 @@ use Rattle.t_shapes.specs.Raw.{raw_step}
 use Rattle.t_shapes.specs.Reads.{ReadsStep}
 use Rattle.t_shapes.specs.declared.steps.FoundStep.{FoundStep}
 
-pub as_step : (ts : List Token) (i : ℕ) (word : Token) (left : Stack) (r : Result FoundStep Stopped) → slice_get ts i ≡ Some word → instr_after word.kind ≡ Some left → marks table left ≡ 0 →
+pub as_step : (ts : List Token) (i : ℕ) (word : Token) (left : Stack) (r : Result FoundStep Stopped) →
+    slice_get ts i ≡ Some word → instr_after word.kind ≡ Some left → marks table left ≡ 0 →
     MatchResult r (λ f. ReadsStep left ts (i + 1) word f) (λ e. Fails ts 0 (i + 1) left (OfToken word ∷ []) e) →
     MatchResult r (λ f. Reads LI ts 0 i f.next (OfStep (raw_step f.step) ∷ [])) (λ e. Fails ts 0 i (Nt LI ∷ []) [] e)
 as_step ts i word left (Ok f) e a m r = record {

@@ -10,10 +10,10 @@ use Rattle.t_terms.specs.declared.token.Token.{Token}
 use Rattle.t_terms.specs.declared.wanted.Wanted.{Wanted}
 use Rattle.t_terms.specs.declared.wanted.Wanted.TheVariants as want
 use Rattle.t_terms.specs.Raw as tree
-use Rattle.t_terms.specs.Raw.{BlockItem, block_items}
-use Rattle.t_terms.specs.GrammarTable.{table, Stack, LProgram, LHeader, LMoreBlocks, LSomeItems, MakeFirstBlock}
+use Rattle.t_terms.specs.Raw.{BlockItem}
+use Rattle.t_terms.specs.GrammarTable.{table, Stack, LHeader, LMoreBlocks, LSomeItems, MakeFirstBlock}
 use Rattle.t_terms.specs.GrammarTable.{MakeNextBlock, MakeNoItems, MakeNextItem, MakeHeaded, MakeProgram}
-use Rattle.t_terms.specs.GrammarTable.{header_after, OfItems, OfBlocks, blocks_owed, items_owed}
+use Rattle.t_terms.specs.GrammarTable.{header_after, OfItems, blocks_owed, items_owed}
 use Rattle.t_terms.specs.Text.{most_open}
 use Rattle.t_grammar.specs.Cursor.{Next, Misses}
 use Rattle.t_grammar.specs.Reads.{ReadsOwed}

@@ -10,18 +10,23 @@ use Rattle.t_types.specs.Read.{file}
 use Rattle.t_rules.specs.Rules.{label_type, data_type, data_fields}
 use Rattle.spill_law.specs.Spill.{or_int}
 
-block_at : (bs : List Block) (l : ℕ) (x : Block) → l < length bs → x ≡ get_or bs l x → slice_get (blocks_of bs) l ≡ Some (block x)
+block_at : (bs : List Block) (l : ℕ) (x : Block) → l < length bs → x ≡ get_or bs l x →
+    slice_get (blocks_of bs) l ≡ Some (block x)
 block_at [] l x lt is = absurd (omega arith)
 block_at (b ∷ bs) zero x lt is = ap (λ (y : Block). Some (block y)) (sym is)
 block_at (b ∷ bs) (suc l) x lt is = block_at bs l x (omega arith) is
 
-data_at : (xs : List Data) (d : ℕ) (x : Data) → d < length xs → x ≡ get_or xs d x → slice_get (data_of xs) d ≡ Some (plain_fields (spanned_data x).fields)
+data_at : (xs : List Data) (d : ℕ) (x : Data) → d < length xs → x ≡ get_or xs d x →
+    slice_get (data_of xs) d ≡ Some (plain_fields (spanned_data x).fields)
 data_at [] d x lt is = absurd (omega arith)
 data_at (y ∷ xs) zero x lt is = ap (λ (z : Data). Some (plain_fields (spanned_data z).fields)) (sym is)
 data_at (y ∷ xs) (suc d) x lt is = data_at xs d x (omega arith) is
 
-pub label_is : (bs : List Block) (l : ℕ) (x : Block) → l < length bs → x ≡ get_or bs l x → CodeTy x.owes (file x.regs.regs.items) ≡ or_int (option_map label_type (slice_get (blocks_of bs) l))
+pub label_is : (bs : List Block) (l : ℕ) (x : Block) → l < length bs → x ≡ get_or bs l x →
+    CodeTy x.owes (file x.regs.regs.items) ≡ or_int (option_map label_type (slice_get (blocks_of bs) l))
 label_is bs l x lt is = sym (ap (λ o. or_int (option_map label_type o)) (block_at bs l x lt is))
 
-pub datum_is : (xs : List Data) (d : ℕ) (x : Data) → d < length xs → x ≡ get_or xs d x → TupleTy (data_fields (plain_fields (spanned_data x).fields)) ≡ or_int (option_map data_type (slice_get (data_of xs) d))
+pub datum_is : (xs : List Data) (d : ℕ) (x : Data) → d < length xs → x ≡ get_or xs d x →
+    TupleTy (data_fields (plain_fields (spanned_data x).fields))
+    ≡ or_int (option_map data_type (slice_get (data_of xs) d))
 datum_is xs d x lt is = sym (ap (λ o. or_int (option_map data_type o)) (data_at xs d x lt is))

@@ -13,9 +13,13 @@ use Rattle.t_rules.specs.Rules.{data_fields}
 abbrev pub filled_flag : Value × TType × Span → Ty × Bool
 filled_flag x = (tree x.1, true)
 
-fields_are : (xs : List (Value × TType × Span)) → flagged (map filled_flag xs) ≡ data_fields (plain_fields (data_items xs))
+fields_are : (xs : List (Value × TType × Span)) →
+    flagged (map filled_flag xs) ≡ data_fields (plain_fields (data_items xs))
 fields_are [] = refl
 fields_are (x ∷ xs) = ap (MoreFields (tree x.1) true) (fields_are xs)
 
-pub made_data : (ys : List (TType × Bool)) (xs : List (Value × TType × Span)) (n : ℕ) → map flag ys ≡ map filled_flag (take n xs) → length xs ≤ n → fields ys ≡ data_fields (plain_fields (data_items xs))
-made_data ys xs n done all = ap flagged (done ∙ ap (λ (zs : List (Value × TType × Span)). map filled_flag zs) (take_all n xs all)) ∙ fields_are xs
+pub made_data : (ys : List (TType × Bool)) (xs : List (Value × TType × Span)) (n : ℕ) →
+    map flag ys ≡ map filled_flag (take n xs) → length xs ≤ n → fields ys ≡ data_fields (plain_fields (data_items xs))
+made_data ys xs n done all =
+    ap flagged (done ∙ ap (λ (zs : List (Value × TType × Span)). map filled_flag zs) (take_all n xs all))
+    ∙ fields_are xs

@@ -2,8 +2,7 @@
 use Rattle.std.proofs.Common.{◌≡◌, ℕ, ◌+◌, ◌-◌, ◌<◌, ◌≤◌, cond, Option, Some, None, List, [], ◌∷◌, drop, length}
 use Rattle.std.proofs.Common.{get_or, refl, sym, ap, ap₂, ◌∙◌, subst, arith}
 use Rattle.std.specs.Prelude.{option_map, unwrap_or}
-use Rattle.std.specs.BTreeMap.{BTreeMap, get, is_at, IsEmpty, Updates}
-use Rattle.std.specs.Map.{lookup as found_in}
+use Rattle.std.specs.BTreeMap.{BTreeMap, get, Updates}
 use Rattle.std.specs.Ordering.{nat_cmp}
 use Rattle.std.proofs.Math.Logic.{⊎_elim}
 use Rattle.std.proofs.lemmas.Bool.{cases_eq, eq-eqb, ne_eqb}
@@ -40,14 +39,6 @@ seen_more : (n : ℕ) (e : Entry) → e.names ≤ n → seen (n + 1) e ≡ shift
 seen_more n e le =
     let by : n - e.names + 1 ≡ n + 1 - e.names = omega arith in
     sym (shift_add_law types_part types_over (n - e.names) 1 0 (tree e.ty) ∙ ap (λ k. shift k 0 (tree e.ty)) by)
-
-pub knows_none : (n : ℕ) (k : Known) → k.names ≡ 0 → IsEmpty k.entries → Knows n k NoRegs
-knows_none n k zero e =
-    let none : (r : ℕ) → get nat_cmp k.entries r ≡ None = λ r. ap (found_in (is_at (nat_cmp r))) e in (
-      omega (arith, zero),
-      λ r. ap (option_map (seen k.names)) (none r),
-      λ r x is. let no : Some x ≡ None = sym is ∙ none r in cc,
-    )
 
 abbrev KnownAt : Known → TFile → ℕ → Type 0
 KnownAt k x r = option_map (seen k.names) (get nat_cmp k.entries r) ≡ lookup x r
@@ -169,14 +160,6 @@ fits_now n k x r e s few formed is =
     let here : lookup x r ≡ Some (seen k.names e) = sym (s.1 r) ∙ ap (option_map (seen k.names)) is in
     unshift (k.names - e.names) 0 n (tree e.ty) few (omega arith) (subst (OneFormed n r) here
     (found_formed n 0 x r formed)).2
-
-pub part_some : (n : ℕ) (k : Known) (x : TFile) (r : ℕ) (e : Entry) → Knows n k x →
-    get nat_cmp k.entries r ≡ Some e → one r (Some (seen k.names e)) ≡ alone (Some r) x
-part_some n k x r e s is = ap (one r) (sym (ap (option_map (seen k.names)) is) ∙ s.1 r)
-
-pub part_none : (n : ℕ) (k : Known) (x : TFile) (r : ℕ) → Knows n k x → get nat_cmp k.entries r ≡ None →
-    NoRegs ≡ alone (Some r) x
-part_none n k x r s is = ap (one r) (sym (ap (option_map (seen k.names)) is) ∙ s.1 r)
 
 -- what an instruction needs of a file is the same of that register alone
 one_same : (r : ℕ) (o : Option Ty) → lookup (one r o) r ≡ o

@@ -47,7 +47,8 @@ module _ (P : TProg) (labels : LabelsScoped P) (tuples : DataScoped P) where
       (scoped_next P (length P.blocks) (length P.heap) labels tuples i n x k.0 (scoped_regs 0 n x h) w.0 k.1) f.1 in (
         (few, w.1, h, w.0, instr_applies P n x i k.0 k.1),
         ready c (names_after i n)
-            (next P x i) w.1 nx w.2 (subst (λ g. SeqAccepted P (names_after i n) g c) (next_is P n x i k.0 k.1) k.2) f.2,
+            (next P x i) w.1 nx w.2 (subst (λ g. SeqAccepted P (names_after i n) g c) (next_is P n x i k.0 k.1) k.2)
+            f.2,
       )
   ready (Ends (Jmp v)) n x few h w k f = end_ready n x (Jmp v) few h w k
   ready (Ends Halt) n x few h w k f = end_ready n x Halt few h w k

@@ -1,5 +1,6 @@
 -- Registers one by one.
-use Rattle.std.proofs.Common.{◌≡◌, ℕ, zero, suc, ◌+◌, ◌<◌, ◌≤◌, List, [], ◌∷◌, ◌++◌, refl, ap, ◌∙◌, drop, length, get_or, arith}
+use Rattle.std.proofs.Common.{◌≡◌, ℕ, zero, suc, ◌+◌, ◌<◌, ◌≤◌, List, [], ◌∷◌, ◌++◌, refl, ap, drop, length}
+use Rattle.std.proofs.Common.{get_or, arith}
 use Rattle.t_types.specs.declared.types.TType.{TType}
 use Rattle.t_types.specs.Read.{file}
 use Rattle.spill_law.specs.Spill.{numbers}
@@ -13,13 +14,11 @@ pub join_is : (xs ys : List ℕ) → join xs ys ≡ xs ++ ys
 join_is [] ys = refl
 join_is (x ∷ xs) ys = ap (λ (zs : List ℕ). x ∷ zs) (join_is xs ys)
 
-numbers_suc : (xs : List (ℕ × TType)) (i : ℕ) (d : ℕ × TType) → i < length xs → numbers (file (drop i xs)) ≡ (get_or xs i d).0 ∷ numbers (file (drop (suc i) xs))
+numbers_suc : (xs : List (ℕ × TType)) (i : ℕ) (d : ℕ × TType) → i < length xs →
+    numbers (file (drop i xs)) ≡ (get_or xs i d).0 ∷ numbers (file (drop (suc i) xs))
 numbers_suc [] i d lt = absurd (omega arith)
 numbers_suc (x ∷ xs) zero d lt = refl
 numbers_suc (x ∷ xs) (suc i) d lt = numbers_suc xs i d (omega arith)
-
-pub numbers_one : (xs : List (ℕ × TType)) (i : ℕ) (d : ℕ × TType) → i < length xs → numbers (file (drop i xs)) ≡ (get_or xs i d).0 ∷ numbers (file (drop (i + 1) xs))
-numbers_one xs i d lt = let one : suc i ≡ i + 1 = omega arith in numbers_suc xs i d lt ∙ ap (λ n. (get_or xs i d).0 ∷ numbers (file (drop n xs))) one
 
 pub numbers_none : (xs : List (ℕ × TType)) (n : ℕ) → length xs ≤ n → numbers (file (drop n xs)) ≡ []
 numbers_none [] zero le = refl

@@ -21,7 +21,8 @@ Filled old new rd t =
     × ((more : List Ty) (rest : TSeq) → text old.homes.split.low new.body more rest
     ≡ text old.homes.split.low old.body (t ∷ more) (fill_slot old.homes.split.low (used old) (t ∷ more) rest))
 
--- the words of all registers of x that ws has are at hand, where the one of rd was just computed; y knows as much of them
+-- the words of all registers of x that ws has are at hand, where the one of rd was just computed; y knows as much of
+-- them
 abbrev pub Frames : Homes → ℕ → List ℕ → TFile → TFile → Type 0
 Frames hs rd ws y x =
     Ascends x × Agree ws x y

@@ -85,7 +85,8 @@ fn spilled_fields(
 fn spilled_tuple(alloc: Global, split: Split, tuple: &Data) -> Result<Data, OutOfMemory>
     requires { DataReady (plain_fields (data_items tuple.now.fields.items)) }
     ensures { IfOk result (λ r.
-        plain_fields (data_items r.fields.items) ≡ sp_data split.low (plain_fields (data_items tuple.now.fields.items))) }
+        plain_fields (data_items r.fields.items) ≡
+        sp_data split.low (plain_fields (data_items tuple.now.fields.items))) }
 {
     let fields = spilled_fields(alloc, split, &tuple.fields)?;
     Ok(Data {

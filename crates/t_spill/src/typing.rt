@@ -2,7 +2,8 @@
 ghost use Rattle.std.specs.Prelude.{◌≡◌, ◌<◌, ℕ, IfOk, length, slice_get, option_map};
 ghost use Rattle.t_types.specs.Read.{tree, file, fields};
 ghost use Rattle.t_terms.specs.Whole.{WellFormedBase};
-ghost use Rattle.t_terms.specs.Read.{base as base_tree, value as value_tree, instr as instr_tree, end_of as end_tree, data_fields as data_items};
+ghost use Rattle.t_terms.specs.Read.{base as base_tree, value as value_tree, instr as instr_tree, end_of as end_tree};
+ghost use Rattle.t_terms.specs.Read.{data_fields as data_items};
 ghost use Rattle.t_terms.specs.Spanned.{plain_fields};
 ghost use Rattle.t_terms.specs.ReadProgram.{program as program_tree};
 ghost use Rattle.t_types.specs.Fits.{lookup};

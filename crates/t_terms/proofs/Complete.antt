@@ -1,5 +1,6 @@
 -- Each shape is read whole.
-use Rattle.std.proofs.Common.{pos, ◌≡◌, ℕ, suc, ◌||◌, List, [], ◌∷◌, ◌++◌, refl, ◌∙◌, ap, append_assoc, Option, Some, Bool, true, false, arith}
+use Rattle.std.proofs.Common.{pos, ◌≡◌, ℕ, suc, ◌||◌, List, [], ◌∷◌, ◌++◌, refl, ◌∙◌, ap, append_assoc, Option, Some}
+use Rattle.std.proofs.Common.{Bool, true, false, arith}
 use Rattle.std.proofs.lemmas.List.{append-nil}
 use Rattle.idx_core.specs.declared.span.Span.{Span}
 use Rattle.idx_core.specs.declared.arith.Op.{Op}
@@ -7,17 +8,48 @@ use Rattle.t_terms.specs.declared.token.Kind.{Kind}
 use Rattle.t_terms.specs.declared.token.Kind.TheVariants as k
 use Rattle.t_terms.specs.declared.token.Token.{Token}
 use Rattle.t_terms.specs.declared.wanted.Wanted.TheVariants as want
-use Rattle.t_terms.specs.Raw.{RawTy, RawRegs, RawReg, RawField, RawBase, RawValue, RPlain, RawInstr, RawEnd, RawBlock, RawDatum, RawItem, BlockItem, DataItem, block_items, Piece, ending}
-use Rattle.t_terms.specs.Grammar.{tok, Names, ns_one, ns_more, Binds, bs_none, bs_names, IsFlag, is_zero, is_one, is_minus_zero, T, t_int, t_name, t_code, t_some, t_unit, t_tuple, File, f_none, f_regs, Rs, rs_one, rs_more, Fs, fs_one, fs_more, Ts, ts_one, ts_more, N, n_reg, n_plain, n_negative, n_label, V, v_base, v_apply, v_pack, IsOp, is_add, is_sub, is_mul, I, i_arith, i_bnz, i_ld, i_malloc_none, i_malloc, i_mov, i_st, i_unpack, Is, is_none, is_more, End, e_jmp, e_halt, Block, b_block, Blocks, bs_one, bs_more, Q, q_plain, q_negative, q_label, W, w_base, w_apply, w_pack, Ds, ds_one, ds_more, Tuple, tu_none, tu_fields, Item, it_block, it_data, Items, its_none, its_more, HasBlock, Program, p_blocks, p_items, open_Names, open_Binds, open_T, open_File, open_Rs, open_Fs, open_Ts, open_V, open_I, open_Is, open_End, open_Block, open_Blocks, open_W, open_Ds, open_Tuple, open_Item, open_Items, open_Program}
+use Rattle.t_terms.specs.Raw.{RawTy, RawRegs, RawReg, RawField, RawBase, RawValue, RPlain, RawInstr, RawEnd, RawBlock}
+use Rattle.t_terms.specs.Raw.{RawDatum, RawItem, BlockItem, DataItem, block_items, Piece, ending}
+use Rattle.t_terms.specs.Grammar.{tok, Names, ns_one, ns_more, Binds, bs_none, bs_names, IsFlag, is_zero, is_one}
+use Rattle.t_terms.specs.Grammar.{is_minus_zero, T, t_int, t_name, t_code, t_some, t_unit, t_tuple, File, f_none}
+use Rattle.t_terms.specs.Grammar.{f_regs, Rs, rs_one, rs_more, Fs, fs_one, fs_more, Ts, ts_one, ts_more, N, n_reg}
+use Rattle.t_terms.specs.Grammar.{n_plain, n_negative, n_label, V, v_base, v_apply, v_pack, IsOp, is_add, is_sub}
+use Rattle.t_terms.specs.Grammar.{is_mul, I, i_arith, i_bnz, i_ld, i_malloc_none, i_malloc, i_mov, i_st, i_unpack, Is}
+use Rattle.t_terms.specs.Grammar.{is_none, is_more, End, e_jmp, e_halt, Block, b_block, Blocks, bs_one, bs_more, Q}
+use Rattle.t_terms.specs.Grammar.{q_plain, q_negative, q_label, W, w_base, w_apply, w_pack, Ds, ds_one, ds_more, Tuple}
+use Rattle.t_terms.specs.Grammar.{tu_none, tu_fields, Item, it_block, it_data, Items, its_none, its_more, HasBlock}
+use Rattle.t_terms.specs.Grammar.{Program, p_blocks, p_items, open_Names, open_Binds, open_T, open_File, open_Rs}
+use Rattle.t_terms.specs.Grammar.{open_Fs, open_Ts, open_V, open_I, open_Is, open_End, open_Block, open_Blocks, open_W}
+use Rattle.t_terms.specs.Grammar.{open_Ds, open_Tuple, open_Item, open_Items, open_Program}
 use Rattle.text_core.specs.Table.{Tm, Nt, Do, Mark, Done, Seen, then_more}
 use Rattle.text_core.proofs.Reading as reading
 use Rattle.text_core.proofs.Reading.{Opens, opens}
-use Rattle.t_terms.specs.GrammarTable.{table, Line, LProgram, LBlock, LMoreBlocks, LBinds, LNames, LMoreNames, LFile, LRegs, LMoreRegs, LT, LFields, LMoreFields, LTypeList, LSomeTypes, LMoreTypes, LV, LArgs, LTo, LI, LMoreSteps, LEnd, LSomeItems, LMoreItems, LTuple, LDatums, LMoreDatums, LW, LWordArgs, Act, MakeNoNames, MakeFirstName, MakeNextName, MakeClosedNames, MakeBinds, MakeNoRegs, MakeFirstReg, MakeNextReg, MakeClosedRegs, MakeFile, MakeTypeInt, MakeTypeName, MakeTypeCode, MakeTypeSome, MakeNoFields, MakeFirstField, MakeNextField, MakeClosedFields, MakeTypeTuple, MakeNoTypes, MakeFirstType, MakeNextType, MakeClosedTypes, MakeTypes, MakeBase, MakeApply, MakePacked, MakePack, MakeTo, MakeIndex, MakeAt, MakeInt, MakeArith, MakeBnz, MakeLd, MakeMalloc, MakeMov, MakeSt, MakeUnpack, MakeNoSteps, MakeNextStep, MakeJmp, MakeHalt, MakeBlock, MakeFirstBlock, MakeNextBlock, MakeWord, MakeWordApply, MakeWordPacked, MakeWordPack, MakeNoDatums, MakeFirstDatum, MakeNextDatum, MakeClosedDatums, MakeTuple, MakeBlockItem, MakeDataItem, MakeNoItems, MakeNextItem, MakeHeaded, MakeProgram, Stack, Val, OfToken, OfNames, OfType, OfRegs, OfFile, OfFields, OfTypes, OfValue, OfStep, OfSteps, OfEnd, OfBlock, OfBlocks, OfWord, OfDatums, OfTuple, OfItems, act, type_after, fields_after, fields_tail, type_list_after, some_types_after, types_tail, instr_after, steps_after, steps_tail, block_after, blocks_after, blocks_tail, code_owed, word_after, datums_after, datums_tail, items_tail, Outcome, marks, seen, exec}
+use Rattle.t_terms.specs.GrammarTable.{table, Line, LProgram, LBlock, LMoreBlocks, LBinds, LNames, LMoreNames, LFile}
+use Rattle.t_terms.specs.GrammarTable.{LRegs, LMoreRegs, LT, LFields, LMoreFields, LTypeList, LSomeTypes, LMoreTypes}
+use Rattle.t_terms.specs.GrammarTable.{LV, LArgs, LTo, LI, LMoreSteps, LEnd, LSomeItems, LMoreItems, LTuple, LDatums}
+use Rattle.t_terms.specs.GrammarTable.{LMoreDatums, LW, LWordArgs, Act, MakeNoNames, MakeFirstName, MakeNextName}
+use Rattle.t_terms.specs.GrammarTable.{MakeClosedNames, MakeBinds, MakeNoRegs, MakeFirstReg, MakeNextReg}
+use Rattle.t_terms.specs.GrammarTable.{MakeClosedRegs, MakeFile, MakeTypeInt, MakeTypeName, MakeTypeCode, MakeTypeSome}
+use Rattle.t_terms.specs.GrammarTable.{MakeNoFields, MakeFirstField, MakeNextField, MakeClosedFields, MakeTypeTuple}
+use Rattle.t_terms.specs.GrammarTable.{MakeNoTypes, MakeFirstType, MakeNextType, MakeClosedTypes, MakeTypes, MakeBase}
+use Rattle.t_terms.specs.GrammarTable.{MakeApply, MakePacked, MakePack, MakeTo, MakeIndex, MakeAt, MakeInt, MakeArith}
+use Rattle.t_terms.specs.GrammarTable.{MakeBnz, MakeLd, MakeMalloc, MakeMov, MakeSt, MakeUnpack, MakeNoSteps}
+use Rattle.t_terms.specs.GrammarTable.{MakeNextStep, MakeJmp, MakeHalt, MakeBlock, MakeFirstBlock, MakeNextBlock}
+use Rattle.t_terms.specs.GrammarTable.{MakeWord, MakeWordApply, MakeWordPacked, MakeWordPack, MakeNoDatums}
+use Rattle.t_terms.specs.GrammarTable.{MakeFirstDatum, MakeNextDatum, MakeClosedDatums, MakeTuple, MakeBlockItem}
+use Rattle.t_terms.specs.GrammarTable.{MakeDataItem, MakeNoItems, MakeNextItem, MakeHeaded, MakeProgram, Stack, Val}
+use Rattle.t_terms.specs.GrammarTable.{OfToken, OfNames, OfType, OfRegs, OfFile, OfFields, OfTypes, OfValue, OfStep}
+use Rattle.t_terms.specs.GrammarTable.{OfSteps, OfEnd, OfBlock, OfBlocks, OfWord, OfDatums, OfTuple, OfItems, act}
+use Rattle.t_terms.specs.GrammarTable.{type_after, fields_after, fields_tail, type_list_after, some_types_after}
+use Rattle.t_terms.specs.GrammarTable.{types_tail, instr_after, steps_after, steps_tail, block_after, blocks_after}
+use Rattle.t_terms.specs.GrammarTable.{blocks_tail, code_owed, word_after, datums_after, datums_tail, items_tail}
+use Rattle.t_terms.specs.GrammarTable.{Outcome, marks, seen, exec}
 
 pub do_now : (w : List Token) (a : Act) (s : Stack) (vs : List Val) → exec w (Do a ∷ s) vs ≡ exec w s (act a vs)
 do_now w a s vs = reading.do_now table w a s vs
 
-pub marked : (w : List Token) (a : Act) (s : Stack) (vs : List Val) → exec w (Mark ∷ (Do a ∷ s)) vs ≡ exec w s (act a vs)
+pub marked : (w : List Token) (a : Act) (s : Stack) (vs : List Val) →
+    exec w (Mark ∷ (Do a ∷ s)) vs ≡ exec w s (act a vs)
 marked w a s vs = reading.marked table w a s vs
 
 seen_append : (a b : List ℕ) (o : Outcome) → seen (a ++ b) o ≡ seen a (seen b o)
@@ -54,19 +86,24 @@ pub datums_word : (c : Kind) (r : Stack) → word_after c ≡ Some r → datums_
 datums_word k.RightAngle r e = absurd (cc)
 datums_word _ r e = ap (λ (o : Option Stack). then_more o datums_tail) e
 
-fields_as_type : {w : List Token} → Opens table LT w → (s : Stack) (vs : List Val) → exec w (Nt LFields ∷ s) vs ≡ exec w (Nt LT ∷ (fields_tail ++ s)) vs
+fields_as_type : {w : List Token} → Opens table LT w → (s : Stack) (vs : List Val) →
+    exec w (Nt LFields ∷ s) vs ≡ exec w (Nt LT ∷ (fields_tail ++ s)) vs
 fields_as_type o s vs = reading.as_line table LT LFields fields_tail (λ c r e. fields_type c.kind r e) o s vs
 
-list_as_type : {w : List Token} → Opens table LT w → (s : Stack) (vs : List Val) → exec w (Nt LTypeList ∷ s) vs ≡ exec w (Nt LT ∷ (types_tail ++ s)) vs
+list_as_type : {w : List Token} → Opens table LT w → (s : Stack) (vs : List Val) →
+    exec w (Nt LTypeList ∷ s) vs ≡ exec w (Nt LT ∷ (types_tail ++ s)) vs
 list_as_type o s vs = reading.as_line table LT LTypeList types_tail (λ c r e. list_type c.kind r e) o s vs
 
-some_as_type : {w : List Token} → Opens table LT w → (s : Stack) (vs : List Val) → exec w (Nt LSomeTypes ∷ s) vs ≡ exec w (Nt LT ∷ (types_tail ++ s)) vs
+some_as_type : {w : List Token} → Opens table LT w → (s : Stack) (vs : List Val) →
+    exec w (Nt LSomeTypes ∷ s) vs ≡ exec w (Nt LT ∷ (types_tail ++ s)) vs
 some_as_type o s vs = reading.as_line table LT LSomeTypes types_tail (λ c r e. some_type c.kind r e) o s vs
 
-steps_as_instr : {w : List Token} → Opens table LI w → (s : Stack) (vs : List Val) → exec w (Nt LMoreSteps ∷ s) vs ≡ exec w (Nt LI ∷ (steps_tail ++ s)) vs
+steps_as_instr : {w : List Token} → Opens table LI w → (s : Stack) (vs : List Val) →
+    exec w (Nt LMoreSteps ∷ s) vs ≡ exec w (Nt LI ∷ (steps_tail ++ s)) vs
 steps_as_instr o s vs = reading.as_line table LI LMoreSteps steps_tail (λ c r e. steps_instr c.kind r e) o s vs
 
-blocks_as_block : {w : List Token} → Opens table LBlock w → (s : Stack) (vs : List Val) → exec w (Nt LMoreBlocks ∷ s) vs ≡ exec w (Nt LBlock ∷ (blocks_tail ++ s)) vs
+blocks_as_block : {w : List Token} → Opens table LBlock w → (s : Stack) (vs : List Val) →
+    exec w (Nt LMoreBlocks ∷ s) vs ≡ exec w (Nt LBlock ∷ (blocks_tail ++ s)) vs
 blocks_as_block o s vs = reading.as_line table LBlock LMoreBlocks blocks_tail (λ c r e. blocks_block c.kind r e) o s vs
 
 datums_as_word : {w : List Token} → Opens table LW w → (s : Stack) (vs : List Val) →
@@ -87,7 +124,8 @@ first_T (t_tuple o c x) = opens _ _ _ refl
 
 first_Fs : {w : List Token} {fs : List RawField} → Fs w fs → Opens table LT w
 first_Fs (fs_one {n} h s x f) = more LT (tok k.Caret h ∷ (tok n s ∷ [])) (first_T x)
-first_Fs (fs_more {u} {v} {n} c h s x y f) = more LT (tok k.Comma c ∷ (v ++ tok k.Caret h ∷ (tok n s ∷ []))) (first_Fs x)
+first_Fs (fs_more {u} {v} {n} c h s x y f) =
+    more LT (tok k.Comma c ∷ (v ++ tok k.Caret h ∷ (tok n s ∷ []))) (first_Fs x)
 
 first_Ts : {w : List Token} {ts : List RawTy} → Ts w ts → Opens table LT w
 first_Ts (ts_one x) = first_T x
@@ -150,31 +188,51 @@ leaves_Item (it_block x) rest = leaves_Block x rest
 leaves_Item (it_data l c d x) rest = λ _ _. refl
 
 read_Names : {w : List Token} {ns : List Span} (x : Names w ns) (s : Stack) (vs : List Val) (rest : List Token) →
-    exec (w ++ rest) (Nt LNames ∷ s) vs ≡ seen (open_Names x (marks s)) (exec rest (Nt LMoreNames ∷ (Tm want.RightBracket ∷ (Do MakeClosedNames ∷ s))) (OfNames ns ∷ vs))
+    exec (w ++ rest) (Nt LNames ∷ s) vs
+    ≡ seen (open_Names x (marks s))
+    (exec rest (Nt LMoreNames ∷ (Tm want.RightBracket ∷ (Do MakeClosedNames ∷ s))) (OfNames ns ∷ vs))
 read_Names (ns_one n) s vs rest = next (marks s) (do_now rest MakeFirstName _ _)
 read_Names (ns_more {w} {ns} c n x) s vs rest =
-    rw (append_assoc w (tok k.Comma c ∷ (tok k.Name n ∷ [])) rest, seen_append (open_Names x (marks s)) (marks s ∷ (marks s ∷ [])))
-    (read_Names x s vs (tok k.Comma c ∷ (tok k.Name n ∷ rest)) ∙ under (open_Names x (marks s)) (next (marks s) (next (marks s) (do_now rest MakeNextName _ _))))
+    rw (
+      append_assoc w (tok k.Comma c ∷ (tok k.Name n ∷ [])) rest,
+      seen_append (open_Names x (marks s)) (marks s ∷ (marks s ∷ [])),
+    )
+    (read_Names x s vs (tok k.Comma c ∷ (tok k.Name n ∷ rest))
+    ∙ under (open_Names x (marks s)) (next (marks s) (next (marks s) (do_now rest MakeNextName _ _))))
 
 read_Binds : {w : List Token} {ns : List Span} (x : Binds w ns) (s : Stack) (vs : List Val) (rest : List Token) →
     exec (w ++ rest) (Nt LBinds ∷ s) vs ≡ seen (open_Binds x (marks s)) (exec rest s (OfNames ns ∷ vs))
-read_Binds (bs_none o c) s vs rest = next (suc (marks s)) (next (suc (marks s)) (do_now rest MakeNoNames _ _ ∙ marked rest MakeBinds s _))
+read_Binds (bs_none o c) s vs rest =
+    next (suc (marks s)) (next (suc (marks s)) (do_now rest MakeNoNames _ _ ∙ marked rest MakeBinds s _))
 read_Binds (bs_names {w} o c x) s vs rest = next (suc (marks s))
-    (rw (append_assoc w (tok k.RightBracket c ∷ []) rest, seen_append (open_Names x (suc (marks s))) (suc (marks s) ∷ []))
+    (rw (
+      append_assoc w (tok k.RightBracket c ∷ []) rest,
+      seen_append (open_Names x (suc (marks s))) (suc (marks s) ∷ []),
+    )
     (read_Names x (Mark ∷ (Do MakeBinds ∷ s)) (OfToken (tok k.LeftBracket o) ∷ vs) (tok k.RightBracket c ∷ rest) ∙
-    under (open_Names x (suc (marks s))) (next (suc (marks s)) (do_now rest MakeClosedNames _ _ ∙ marked rest MakeBinds s _))))
+    under (open_Names x (suc (marks s)))
+    (next (suc (marks s)) (do_now rest MakeClosedNames _ _ ∙ marked rest MakeBinds s _))))
 
 -- ^ and a flag
-read_flag : {n : Kind} {flag : Bool} → IsFlag n flag → (h p : Span) (t : Piece RawTy) (s : Stack) (vs : List Val) (rest : List Token) →
+read_flag : {n : Kind} {flag : Bool} → IsFlag n flag →
+    (h p : Span) (t : Piece RawTy) (s : Stack) (vs : List Val) (rest : List Token) →
     exec (tok k.Caret h ∷ (tok n p ∷ rest)) (fields_tail ++ s) (OfType t ∷ vs) ≡
-    Seen (marks s) (Seen (marks s) (exec rest (Nt LMoreFields ∷ (Tm want.RightAngle ∷ (Do MakeClosedFields ∷ s))) (OfFields (record { ty = t.tree; flag = flag } ∷ []) ∷ vs)))
+    Seen (marks s)
+    (Seen (marks s)
+    (exec rest (Nt LMoreFields ∷ (Tm want.RightAngle ∷ (Do MakeClosedFields ∷ s)))
+    (OfFields (record { ty = t.tree; flag = flag } ∷ []) ∷ vs)))
 read_flag is_zero h p t s vs rest = next (marks s) (next (marks s) (do_now rest MakeFirstField _ _))
 read_flag is_one h p t s vs rest = next (marks s) (next (marks s) (do_now rest MakeFirstField _ _))
 read_flag is_minus_zero h p t s vs rest = next (marks s) (next (marks s) (do_now rest MakeFirstField _ _))
 
-read_next_flag : {n : Kind} {flag : Bool} → IsFlag n flag → (h p : Span) (t : Piece RawTy) (c : Token) (fs : List RawField) (s : Stack) (vs : List Val) (rest : List Token) →
-    exec (tok k.Caret h ∷ (tok n p ∷ rest)) (Tm want.Caret ∷ (Tm want.Flag ∷ (Do MakeNextField ∷ (Nt LMoreFields ∷ s)))) (OfType t ∷ (OfToken c ∷ (OfFields fs ∷ vs))) ≡
-    Seen (marks s) (Seen (marks s) (exec rest (Nt LMoreFields ∷ s) (OfFields (fs ++ record { ty = t.tree; flag = flag } ∷ []) ∷ vs)))
+read_next_flag : {n : Kind} {flag : Bool} → IsFlag n flag →
+    (h p : Span) (t : Piece RawTy) (c : Token) (fs : List RawField) (s : Stack) (vs : List Val) (rest : List Token) →
+    exec (tok k.Caret h ∷ (tok n p ∷ rest))
+    (Tm want.Caret ∷ (Tm want.Flag ∷ (Do MakeNextField ∷ (Nt LMoreFields ∷ s))))
+    (OfType t ∷ (OfToken c ∷ (OfFields fs ∷ vs))) ≡
+    Seen (marks s)
+    (Seen (marks s)
+    (exec rest (Nt LMoreFields ∷ s) (OfFields (fs ++ record { ty = t.tree; flag = flag } ∷ []) ∷ vs)))
 read_next_flag is_zero h p t c fs s vs rest = next (marks s) (next (marks s) (do_now rest MakeNextField _ _))
 read_next_flag is_one h p t c fs s vs rest = next (marks s) (next (marks s) (do_now rest MakeNextField _ _))
 read_next_flag is_minus_zero h p t c fs s vs rest = next (marks s) (next (marks s) (do_now rest MakeNextField _ _))
@@ -186,41 +244,65 @@ mutual
   read_T (t_name p) s vs rest = next (marks s) (do_now rest MakeTypeName s _)
   read_T (t_code {u} {v} {ns} a x y) s vs rest = next (marks s)
       (rw (append_assoc u v rest, seen_append (open_Binds x (marks s)) (open_File y (marks s)))
-      (read_Binds x (Nt LFile ∷ (Do MakeTypeCode ∷ s)) (OfToken (tok k.All a) ∷ vs) (v ++ rest) ∙ under (open_Binds x (marks s))
-      (read_File y (Do MakeTypeCode ∷ s) (OfNames ns ∷ (OfToken (tok k.All a) ∷ vs)) rest ∙ under (open_File y (marks s)) (do_now rest MakeTypeCode s _))))
+      (read_Binds x (Nt LFile ∷ (Do MakeTypeCode ∷ s)) (OfToken (tok k.All a) ∷ vs) (v ++ rest)
+      ∙ under (open_Binds x (marks s))
+      (read_File y (Do MakeTypeCode ∷ s) (OfNames ns ∷ (OfToken (tok k.All a) ∷ vs)) rest
+      ∙ under (open_File y (marks s)) (do_now rest MakeTypeCode s _))))
   read_T (t_some p n d x) s vs rest = next (suc (marks s)) (next (suc (marks s)) (next (suc (marks s))
-      (read_T x (Mark ∷ (Do MakeTypeSome ∷ s)) (OfToken (tok k.Dot d) ∷ (OfToken (tok k.Name n) ∷ (OfToken (tok k.Some p) ∷ vs))) rest ∙ under (open_T x (suc (marks s))) (marked rest MakeTypeSome s _))))
-  read_T (t_unit o c) s vs rest = next (suc (marks s)) (next (suc (marks s)) (do_now rest MakeNoFields _ _ ∙ marked rest MakeTypeTuple s _))
+      (read_T x (Mark ∷ (Do MakeTypeSome ∷ s))
+      (OfToken (tok k.Dot d) ∷ (OfToken (tok k.Name n) ∷ (OfToken (tok k.Some p) ∷ vs))) rest
+      ∙ under (open_T x (suc (marks s))) (marked rest MakeTypeSome s _))))
+  read_T (t_unit o c) s vs rest =
+      next (suc (marks s)) (next (suc (marks s)) (do_now rest MakeNoFields _ _ ∙ marked rest MakeTypeTuple s _))
   read_T (t_tuple {w} o c x) s vs rest = next (suc (marks s))
       (rw (append_assoc w (tok k.RightAngle c ∷ []) rest, seen_append (open_Fs x (suc (marks s))) (suc (marks s) ∷ []))
-      (fields_as_type (more LT (tok k.RightAngle c ∷ rest) (first_Fs x)) (Mark ∷ (Do MakeTypeTuple ∷ s)) (OfToken (tok k.LeftAngle o) ∷ vs) ∙
+      (fields_as_type (more LT (tok k.RightAngle c ∷ rest) (first_Fs x)) (Mark ∷ (Do MakeTypeTuple ∷ s))
+      (OfToken (tok k.LeftAngle o) ∷ vs) ∙
       (read_Fs x (Mark ∷ (Do MakeTypeTuple ∷ s)) (OfToken (tok k.LeftAngle o) ∷ vs) (tok k.RightAngle c ∷ rest) ∙
-      under (open_Fs x (suc (marks s))) (next (suc (marks s)) (do_now rest MakeClosedFields _ _ ∙ marked rest MakeTypeTuple s _)))))
+      under (open_Fs x (suc (marks s)))
+      (next (suc (marks s)) (do_now rest MakeClosedFields _ _ ∙ marked rest MakeTypeTuple s _)))))
 
   pub read_File : {w : List Token} {t : Piece RawRegs} (x : File w t) (s : Stack) (vs : List Val) (rest : List Token) →
       exec (w ++ rest) (Nt LFile ∷ s) vs ≡ seen (open_File x (marks s)) (exec rest s (OfFile t ∷ vs))
-  read_File (f_none o c) s vs rest = next (suc (marks s)) (next (suc (marks s)) (do_now rest MakeNoRegs _ _ ∙ marked rest MakeFile s _))
+  read_File (f_none o c) s vs rest =
+      next (suc (marks s)) (next (suc (marks s)) (do_now rest MakeNoRegs _ _ ∙ marked rest MakeFile s _))
   read_File (f_regs {w} o c x) s vs rest = next (suc (marks s))
       (rw (append_assoc w (tok k.RightBrace c ∷ []) rest, seen_append (open_Rs x (suc (marks s))) (suc (marks s) ∷ []))
       (read_Rs x (Mark ∷ (Do MakeFile ∷ s)) (OfToken (tok k.LeftBrace o) ∷ vs) (tok k.RightBrace c ∷ rest) ∙
-      under (open_Rs x (suc (marks s))) (next (suc (marks s)) (do_now rest MakeClosedRegs _ _ ∙ marked rest MakeFile s _))))
+      under (open_Rs x (suc (marks s)))
+      (next (suc (marks s)) (do_now rest MakeClosedRegs _ _ ∙ marked rest MakeFile s _))))
 
   pub read_Rs : {w : List Token} {rs : List RawReg} (x : Rs w rs) (s : Stack) (vs : List Val) (rest : List Token) →
-      exec (w ++ rest) (Nt LRegs ∷ s) vs ≡ seen (open_Rs x (marks s)) (exec rest (Nt LMoreRegs ∷ (Tm want.RightBrace ∷ (Do MakeClosedRegs ∷ s))) (OfRegs rs ∷ vs))
+      exec (w ++ rest) (Nt LRegs ∷ s) vs
+      ≡ seen (open_Rs x (marks s))
+      (exec rest (Nt LMoreRegs ∷ (Tm want.RightBrace ∷ (Do MakeClosedRegs ∷ s))) (OfRegs rs ∷ vs))
   read_Rs (rs_one r p c x) s vs rest = next (marks s) (next (marks s)
-      (read_T x (Do MakeFirstReg ∷ (Nt LMoreRegs ∷ (Tm want.RightBrace ∷ (Do MakeClosedRegs ∷ s)))) (OfToken (tok k.Colon c) ∷ (OfToken (tok (k.Register r) p) ∷ vs)) rest ∙
+      (read_T x (Do MakeFirstReg ∷ (Nt LMoreRegs ∷ (Tm want.RightBrace ∷ (Do MakeClosedRegs ∷ s))))
+      (OfToken (tok k.Colon c) ∷ (OfToken (tok (k.Register r) p) ∷ vs)) rest ∙
       under (open_T x (marks s)) (do_now rest MakeFirstReg _ _)))
   read_Rs (rs_more {u} {v} {rs} c r p d x y) s vs rest =
-      rw (append_assoc u (tok k.Comma c ∷ (tok (k.Register r) p ∷ (tok k.Colon d ∷ v))) rest, seen_append (open_Rs x (marks s)) (marks s ∷ (marks s ∷ (marks s ∷ open_T y (marks s)))))
-      (read_Rs x s vs (tok k.Comma c ∷ (tok (k.Register r) p ∷ (tok k.Colon d ∷ (v ++ rest)))) ∙ under (open_Rs x (marks s)) (next (marks s) (next (marks s) (next (marks s)
-      (read_T y (Do MakeNextReg ∷ (Nt LMoreRegs ∷ (Tm want.RightBrace ∷ (Do MakeClosedRegs ∷ s)))) (OfToken (tok k.Colon d) ∷ (OfToken (tok (k.Register r) p) ∷ (OfToken (tok k.Comma c) ∷ (OfRegs rs ∷ vs)))) rest ∙
+      rw (
+        append_assoc u (tok k.Comma c ∷ (tok (k.Register r) p ∷ (tok k.Colon d ∷ v))) rest,
+        seen_append (open_Rs x (marks s)) (marks s ∷ (marks s ∷ (marks s ∷ open_T y (marks s)))),
+      )
+      (read_Rs x s vs (tok k.Comma c ∷ (tok (k.Register r) p ∷ (tok k.Colon d ∷ (v ++ rest))))
+      ∙ under (open_Rs x (marks s)) (next (marks s) (next (marks s) (next (marks s)
+      (read_T y (Do MakeNextReg ∷ (Nt LMoreRegs ∷ (Tm want.RightBrace ∷ (Do MakeClosedRegs ∷ s))))
+      (OfToken (tok k.Colon d) ∷ (OfToken (tok (k.Register r) p) ∷ (OfToken (tok k.Comma c) ∷ (OfRegs rs ∷ vs))))
+      rest ∙
       under (open_T y (marks s)) (do_now rest MakeNextReg _ _))))))
 
   pub read_Fs : {w : List Token} {fs : List RawField} (x : Fs w fs) (s : Stack) (vs : List Val) (rest : List Token) →
-      exec (w ++ rest) (Nt LT ∷ (fields_tail ++ s)) vs ≡ seen (open_Fs x (marks s)) (exec rest (Nt LMoreFields ∷ (Tm want.RightAngle ∷ (Do MakeClosedFields ∷ s))) (OfFields fs ∷ vs))
+      exec (w ++ rest) (Nt LT ∷ (fields_tail ++ s)) vs
+      ≡ seen (open_Fs x (marks s))
+      (exec rest (Nt LMoreFields ∷ (Tm want.RightAngle ∷ (Do MakeClosedFields ∷ s))) (OfFields fs ∷ vs))
   read_Fs (fs_one {w} {t} {n} h p x f) s vs rest =
-      rw (append_assoc w (tok k.Caret h ∷ (tok n p ∷ [])) rest, seen_append (open_T x (marks s)) (marks s ∷ (marks s ∷ [])))
-      (read_T x (fields_tail ++ s) vs (tok k.Caret h ∷ (tok n p ∷ rest)) ∙ under (open_T x (marks s)) (read_flag f h p t s vs rest))
+      rw (
+        append_assoc w (tok k.Caret h ∷ (tok n p ∷ [])) rest,
+        seen_append (open_T x (marks s)) (marks s ∷ (marks s ∷ [])),
+      )
+      (read_T x (fields_tail ++ s) vs (tok k.Caret h ∷ (tok n p ∷ rest))
+      ∙ under (open_T x (marks s)) (read_flag f h p t s vs rest))
   read_Fs (fs_more {u} {v} {fs} {t} {n} c h p x y f) s vs rest =
       rw (
         append_assoc u (tok k.Comma c ∷ (v ++ tok k.Caret h ∷ (tok n p ∷ []))) rest,
@@ -228,39 +310,55 @@ mutual
         seen_append (open_Fs x (marks s)) (marks s ∷ (open_T y (marks s) ++ marks s ∷ (marks s ∷ []))),
         seen_append (open_T y (marks s)) (marks s ∷ (marks s ∷ [])),
       )
-      (read_Fs x s vs (tok k.Comma c ∷ (v ++ tok k.Caret h ∷ (tok n p ∷ rest))) ∙ under (open_Fs x (marks s)) (next (marks s)
-      (read_T y (Tm want.Caret ∷ (Tm want.Flag ∷ (Do MakeNextField ∷ (Nt LMoreFields ∷ (Tm want.RightAngle ∷ (Do MakeClosedFields ∷ s)))))) (OfToken (tok k.Comma c) ∷ (OfFields fs ∷ vs)) (tok k.Caret h ∷ (tok n p ∷ rest)) ∙
-      under (open_T y (marks s)) (read_next_flag f h p t (tok k.Comma c) fs (Tm want.RightAngle ∷ (Do MakeClosedFields ∷ s)) vs rest))))
+      (read_Fs x s vs (tok k.Comma c ∷ (v ++ tok k.Caret h ∷ (tok n p ∷ rest)))
+      ∙ under (open_Fs x (marks s)) (next (marks s)
+      (read_T y (Tm want.Caret
+      ∷ (Tm want.Flag
+      ∷ (Do MakeNextField ∷ (Nt LMoreFields ∷ (Tm want.RightAngle ∷ (Do MakeClosedFields ∷ s))))))
+      (OfToken (tok k.Comma c) ∷ (OfFields fs ∷ vs)) (tok k.Caret h ∷ (tok n p ∷ rest)) ∙
+      under (open_T y (marks s))
+      (read_next_flag f h p t (tok k.Comma c) fs (Tm want.RightAngle ∷ (Do MakeClosedFields ∷ s)) vs rest))))
 
 read_Ts : {w : List Token} {ts : List RawTy} (x : Ts w ts) (s : Stack) (vs : List Val) (rest : List Token) →
-    exec (w ++ rest) (Nt LT ∷ (types_tail ++ s)) vs ≡ seen (open_Ts x (marks s)) (exec rest (Nt LMoreTypes ∷ (Tm want.RightBracket ∷ (Do MakeClosedTypes ∷ s))) (OfTypes ts ∷ vs))
-read_Ts (ts_one x) s vs rest = read_T x (types_tail ++ s) vs rest ∙ under (open_T x (marks s)) (do_now rest MakeFirstType _ _)
+    exec (w ++ rest) (Nt LT ∷ (types_tail ++ s)) vs
+    ≡ seen (open_Ts x (marks s))
+    (exec rest (Nt LMoreTypes ∷ (Tm want.RightBracket ∷ (Do MakeClosedTypes ∷ s))) (OfTypes ts ∷ vs))
+read_Ts (ts_one x) s vs rest =
+    read_T x (types_tail ++ s) vs rest ∙ under (open_T x (marks s)) (do_now rest MakeFirstType _ _)
 read_Ts (ts_more {u} {v} {ts} c x y) s vs rest =
     rw (append_assoc u (tok k.Comma c ∷ v) rest, seen_append (open_Ts x (marks s)) (marks s ∷ open_T y (marks s)))
     (read_Ts x s vs (tok k.Comma c ∷ (v ++ rest)) ∙ under (open_Ts x (marks s)) (next (marks s)
-    (read_T y (Do MakeNextType ∷ (Nt LMoreTypes ∷ (Tm want.RightBracket ∷ (Do MakeClosedTypes ∷ s)))) (OfToken (tok k.Comma c) ∷ (OfTypes ts ∷ vs)) rest ∙ under (open_T y (marks s)) (do_now rest MakeNextType _ _))))
+    (read_T y (Do MakeNextType ∷ (Nt LMoreTypes ∷ (Tm want.RightBracket ∷ (Do MakeClosedTypes ∷ s))))
+    (OfToken (tok k.Comma c) ∷ (OfTypes ts ∷ vs)) rest
+    ∙ under (open_T y (marks s)) (do_now rest MakeNextType _ _))))
 
 -- a base, with type arguments to come
 read_base : {b : Token} {base : RawBase} → N b base → (s : Stack) (vs : List Val) (rest : List Token) →
-    exec (b ∷ rest) (Nt LV ∷ s) vs ≡ Seen (marks s) (exec rest (Nt LArgs ∷ s) (OfValue (ending (RPlain base []) b.span.end) ∷ vs))
+    exec (b ∷ rest) (Nt LV ∷ s) vs
+    ≡ Seen (marks s) (exec rest (Nt LArgs ∷ s) (OfValue (ending (RPlain base []) b.span.end) ∷ vs))
 read_base (n_reg r p) s vs rest = next (marks s) (do_now rest MakeBase _ _)
 read_base (n_plain z p) s vs rest = next (marks s) (do_now rest MakeBase _ _)
 read_base (n_negative z p) s vs rest = next (marks s) (do_now rest MakeBase _ _)
 read_base (n_label p) s vs rest = next (marks s) (do_now rest MakeBase _ _)
 
-read_V : {w : List Token} {v : Piece RawValue} (x : V w v) (s : Stack) (vs : List Val) (rest : List Token) → Leaves LArgs rest →
+read_V : {w : List Token} {v : Piece RawValue} (x : V w v) (s : Stack) (vs : List Val) (rest : List Token) →
+    Leaves LArgs rest →
     exec (w ++ rest) (Nt LV ∷ s) vs ≡ seen (open_V x (marks s)) (exec rest s (OfValue v ∷ vs))
 read_V (v_base n) s vs rest g = read_base n s vs rest ∙ next (marks s) (g s _)
 read_V (v_apply {b} {base} {w} o c n x) s vs rest g =
-    read_base n s vs (tok k.LeftBracket o ∷ ((w ++ tok k.RightBracket c ∷ []) ++ rest)) ∙ next (marks s) (next (suc (marks s))
+    read_base n s vs (tok k.LeftBracket o ∷ ((w ++ tok k.RightBracket c ∷ []) ++ rest))
+    ∙ next (marks s) (next (suc (marks s))
     (rw (append_assoc w (tok k.RightBracket c ∷ []) rest, seen_append (open_Ts x (suc (marks s))) (suc (marks s) ∷ []))
     (some_as_type (more LT (tok k.RightBracket c ∷ rest) (first_Ts x)) (Mark ∷ (Do MakeApply ∷ s)) _ ∙
     (read_Ts x (Mark ∷ (Do MakeApply ∷ s)) _ (tok k.RightBracket c ∷ rest) ∙
-    under (open_Ts x (suc (marks s))) (next (suc (marks s)) (do_now rest MakeClosedTypes _ _ ∙ marked rest MakeApply s _))))))
+    under (open_Ts x (suc (marks s)))
+    (next (suc (marks s)) (do_now rest MakeClosedTypes _ _ ∙ marked rest MakeApply s _))))))
 read_V (v_pack {u} {v} {w} {t} {s = t'} {x = i} p o m c a x y z) s vs rest g =
     let n = marks s in
     let us = OfToken (tok k.LeftBracket o) ∷ (OfToken (tok k.Pack p) ∷ vs) in
-    let after_t = Tm want.Comma ∷ (Nt LV ∷ (Tm want.RightBracket ∷ (Mark ∷ (Do MakePacked ∷ (Tm want.As ∷ (Nt LT ∷ (Do MakePack ∷ s))))))) in
+    let after_t =
+    Tm want.Comma
+    ∷ (Nt LV ∷ (Tm want.RightBracket ∷ (Mark ∷ (Do MakePacked ∷ (Tm want.As ∷ (Nt LT ∷ (Do MakePack ∷ s))))))) in
     let after_v = Tm want.RightBracket ∷ (Mark ∷ (Do MakePacked ∷ (Tm want.As ∷ (Nt LT ∷ (Do MakePack ∷ s))))) in
     next n (next (suc n)
     (rw (
@@ -269,61 +367,95 @@ read_V (v_pack {u} {v} {w} {t} {s = t'} {x = i} p o m c a x y z) s vs rest g =
       seen_append (open_T x (suc n)) (suc n ∷ (open_V y (suc n) ++ suc n ∷ (n ∷ open_T z n))),
       seen_append (open_V y (suc n)) (suc n ∷ (n ∷ open_T z n)),
     )
-    (read_T x after_t us (tok k.Comma m ∷ (v ++ tok k.RightBracket c ∷ (tok k.As a ∷ (w ++ rest)))) ∙ under (open_T x (suc n)) (next (suc n)
-    (read_V y after_v (OfToken (tok k.Comma m) ∷ (OfType t ∷ us)) (tok k.RightBracket c ∷ (tok k.As a ∷ (w ++ rest))) (λ _ _. refl) ∙ under (open_V y (suc n)) (next (suc n) (next n
+    (read_T x after_t us (tok k.Comma m ∷ (v ++ tok k.RightBracket c ∷ (tok k.As a ∷ (w ++ rest))))
+    ∙ under (open_T x (suc n)) (next (suc n)
+    (read_V y after_v (OfToken (tok k.Comma m) ∷ (OfType t ∷ us)) (tok k.RightBracket c ∷ (tok k.As a ∷ (w ++ rest)))
+    (λ _ _. refl) ∙ under (open_V y (suc n)) (next (suc n) (next n
     (read_T z (Do MakePack ∷ s) _ rest ∙ under (open_T z n) (do_now rest MakePack s _)))))))))
 
 -- an operation, with its operands to come
 read_op : {n : Kind} {op : Op} → IsOp n op → (a : Span) (s : Stack) (vs : List Val) (rest : List Token) →
-    exec (tok n a ∷ rest) (Nt LI ∷ s) vs ≡ Seen (marks s) (exec rest (Nt LTo ∷ (Nt LTo ∷ (Nt LV ∷ (Do (MakeArith op) ∷ s)))) (OfToken (tok n a) ∷ vs))
+    exec (tok n a ∷ rest) (Nt LI ∷ s) vs
+    ≡ Seen (marks s) (exec rest (Nt LTo ∷ (Nt LTo ∷ (Nt LV ∷ (Do (MakeArith op) ∷ s)))) (OfToken (tok n a) ∷ vs))
 read_op is_add a s vs rest = refl
 read_op is_sub a s vs rest = refl
 read_op is_mul a s vs rest = refl
 
-read_I : {w : List Token} {i : RawInstr × Span} (x : I w i) (s : Stack) (vs : List Val) (rest : List Token) → Leaves LArgs rest →
+read_I : {w : List Token} {i : RawInstr × Span} (x : I w i) (s : Stack) (vs : List Val) (rest : List Token) →
+    Leaves LArgs rest →
     exec (w ++ rest) (Nt LI ∷ s) vs ≡ seen (open_I x (marks s)) (exec rest s (OfStep i ∷ vs))
 read_I (i_arith {n} {op} {w} a b c d e rd rs o x) s vs rest g =
     let m = marks s in
-    read_op o a s vs (tok (k.Register rd) b ∷ (tok k.Comma c ∷ (tok (k.Register rs) d ∷ (tok k.Comma e ∷ (w ++ rest))))) ∙ next m (next m (next m (next m (next m
-    (do_now (w ++ rest) MakeTo (Nt LV ∷ (Do (MakeArith op) ∷ s)) _ ∙ (read_V x (Do (MakeArith op) ∷ s) _ rest g ∙ under (open_V x m) (do_now rest (MakeArith op) s _)))))))
+    read_op o a s vs
+    (tok (k.Register rd) b ∷ (tok k.Comma c ∷ (tok (k.Register rs) d ∷ (tok k.Comma e ∷ (w ++ rest)))))
+    ∙ next m (next m (next m (next m (next m
+    (do_now (w ++ rest) MakeTo (Nt LV ∷ (Do (MakeArith op) ∷ s)) _
+    ∙ (read_V x (Do (MakeArith op) ∷ s) _ rest g ∙ under (open_V x m) (do_now rest (MakeArith op) s _)))))))
 read_I (i_bnz {w} a b c r x) s vs rest g =
     let m = marks s in
-    next m (next m (next m (do_now (w ++ rest) MakeTo (Nt LV ∷ (Do MakeBnz ∷ s)) _ ∙ (read_V x (Do MakeBnz ∷ s) _ rest g ∙ under (open_V x m) (do_now rest MakeBnz s _)))))
+    next m (next m
+    (next m (do_now (w ++ rest) MakeTo (Nt LV ∷ (Do MakeBnz ∷ s)) _
+    ∙ (read_V x (Do MakeBnz ∷ s) _ rest g ∙ under (open_V x m) (do_now rest MakeBnz s _)))))
 read_I (i_ld a b c d o f e rd rs n) s vs rest g =
     let m = marks s in
-    next m (next m (next m (next m (next (suc m) (next (suc m) (next (suc m) (marked rest MakeIndex _ _ ∙ (do_now rest MakeAt _ _ ∙ do_now rest MakeLd s _))))))))
+    next m (next m
+    (next m (next m
+    (next (suc m)
+    (next (suc m)
+    (next (suc m) (marked rest MakeIndex _ _ ∙ (do_now rest MakeAt _ _ ∙ do_now rest MakeLd s _))))))))
 read_I (i_malloc_none a b o c rd) s vs rest g =
-    let m = marks s in next m (next m (next (suc m) (next (suc m) (do_now rest MakeNoTypes _ _ ∙ (marked rest MakeTypes _ _ ∙ do_now rest MakeMalloc s _)))))
+    let m = marks s in
+    next m (next m
+    (next (suc m)
+    (next (suc m) (do_now rest MakeNoTypes _ _ ∙ (marked rest MakeTypes _ _ ∙ do_now rest MakeMalloc s _)))))
 read_I (i_malloc {w} a b o c rd x) s vs rest g =
     let m = marks s in
-    next m (next m (next (suc m) (rw (append_assoc w (tok k.RightBracket c ∷ []) rest, seen_append (open_Ts x (suc m)) (suc m ∷ []))
+    next m (next m
+    (next (suc m)
+    (rw (append_assoc w (tok k.RightBracket c ∷ []) rest, seen_append (open_Ts x (suc m)) (suc m ∷ []))
     (list_as_type (more LT (tok k.RightBracket c ∷ rest) (first_Ts x)) (Mark ∷ (Do MakeTypes ∷ (Do MakeMalloc ∷ s))) _ ∙
     (read_Ts x (Mark ∷ (Do MakeTypes ∷ (Do MakeMalloc ∷ s))) _ (tok k.RightBracket c ∷ rest) ∙
-    under (open_Ts x (suc m)) (next (suc m) (do_now rest MakeClosedTypes _ _ ∙ (marked rest MakeTypes _ _ ∙ do_now rest MakeMalloc s _))))))))
+    under (open_Ts x (suc m))
+    (next (suc m)
+    (do_now rest MakeClosedTypes _ _ ∙ (marked rest MakeTypes _ _ ∙ do_now rest MakeMalloc s _))))))))
 read_I (i_mov {w} a b c rd x) s vs rest g =
     let m = marks s in
-    next m (next m (next m (do_now (w ++ rest) MakeTo (Nt LV ∷ (Do MakeMov ∷ s)) _ ∙ (read_V x (Do MakeMov ∷ s) _ rest g ∙ under (open_V x m) (do_now rest MakeMov s _)))))
+    next m (next m
+    (next m (do_now (w ++ rest) MakeTo (Nt LV ∷ (Do MakeMov ∷ s)) _
+    ∙ (read_V x (Do MakeMov ∷ s) _ rest g ∙ under (open_V x m) (do_now rest MakeMov s _)))))
 read_I (i_st a b o f e c d rd rs n) s vs rest g =
     let m = marks s in
     next m (next m (next (suc m) (next (suc m) (next (suc m) (next m (next m (do_now rest MakeSt s _)))))))
 read_I (i_unpack {w} a o n b d c e rd x) s vs rest g =
     let m = marks s in
-    next m (next (suc m) (next (suc m) (next (suc m) (next (suc m) (next (suc m) (next m (read_V x (Do MakeUnpack ∷ s) _ rest g ∙ under (open_V x m) (do_now rest MakeUnpack s _))))))))
+    next m (next (suc m)
+    (next (suc m)
+    (next (suc m)
+    (next (suc m)
+    (next (suc m)
+    (next m (read_V x (Do MakeUnpack ∷ s) _ rest g ∙ under (open_V x m) (do_now rest MakeUnpack s _))))))))
 
-read_Is : {w : List Token} {is : List (RawInstr × Span)} (x : Is w is) (s : Stack) (vs : List Val) (rest : List Token) → Leaves LArgs rest →
-    exec (w ++ rest) (Nt LMoreSteps ∷ s) (OfSteps [] ∷ vs) ≡ seen (open_Is x (marks s)) (exec rest (Nt LMoreSteps ∷ s) (OfSteps is ∷ vs))
+read_Is : {w : List Token} {is : List (RawInstr × Span)} (x : Is w is) (s : Stack) (vs : List Val)
+    (rest : List Token) → Leaves LArgs rest →
+    exec (w ++ rest) (Nt LMoreSteps ∷ s) (OfSteps [] ∷ vs)
+    ≡ seen (open_Is x (marks s)) (exec rest (Nt LMoreSteps ∷ s) (OfSteps is ∷ vs))
 read_Is is_none s vs rest g = refl
 read_Is (is_more {u} {v} {is} x y) s vs rest g =
     rw (append_assoc u v rest, seen_append (open_Is x (marks s)) (open_I y (marks s)))
     (read_Is x s vs (v ++ rest) (leaves_I y rest) ∙ under (open_Is x (marks s))
     (steps_as_instr (more LI rest (first_I y)) s (OfSteps is ∷ vs) ∙
-    (read_I y (steps_tail ++ s) (OfSteps is ∷ vs) rest g ∙ under (open_I y (marks s)) (do_now rest MakeNextStep (Nt LMoreSteps ∷ s) _))))
+    (read_I y (steps_tail ++ s) (OfSteps is ∷ vs) rest g
+    ∙ under (open_I y (marks s)) (do_now rest MakeNextStep (Nt LMoreSteps ∷ s) _))))
 
-read_End : {w : List Token} {e : RawEnd × Span} (x : End w e) (s : Stack) (vs : List Val) (rest : List Token) → Leaves LArgs rest →
+read_End : {w : List Token} {e : RawEnd × Span} (x : End w e) (s : Stack) (vs : List Val) (rest : List Token) →
+    Leaves LArgs rest →
     exec (w ++ rest) (Nt LEnd ∷ s) vs ≡ seen (open_End x (marks s)) (exec rest s (OfEnd e ∷ vs))
-read_End (e_jmp a x) s vs rest g = next (marks s) (read_V x (Do MakeJmp ∷ s) _ rest g ∙ under (open_V x (marks s)) (do_now rest MakeJmp s _))
+read_End (e_jmp a x) s vs rest g =
+    next (marks s) (read_V x (Do MakeJmp ∷ s) _ rest g ∙ under (open_V x (marks s)) (do_now rest MakeJmp s _))
 read_End (e_halt a o i c) s vs rest g =
-    let m = marks s in next m (next (suc m) (next (suc m) (next (suc m) (marked rest MakeInt (Do MakeHalt ∷ s) _ ∙ do_now rest MakeHalt s _))))
+    let m = marks s in
+    next m (next (suc m)
+    (next (suc m) (next (suc m) (marked rest MakeInt (Do MakeHalt ∷ s) _ ∙ do_now rest MakeHalt s _))))
 
 -- what follows on the word of a block
 read_code : {u v w x : List Token} {ns : List Span} {file : Piece RawRegs} {is : List (RawInstr × Span)}
@@ -359,14 +491,18 @@ read_Block : {w : List Token} {b : RawBlock} (x : Block w b) (s : Stack) (vs : L
 read_Block (b_block l c d p a f i e) s vs rest g =
     next (marks s) (next (marks s) (next (marks s) (read_code l c d p a f i e s vs rest g)))
 
-read_Blocks : {w : List Token} {bs : List RawBlock} (x : Blocks w bs) (s : Stack) (vs : List Val) (rest : List Token) → Leaves LArgs rest →
-    exec (w ++ rest) (Nt LBlock ∷ (Do MakeFirstBlock ∷ (Nt LMoreBlocks ∷ s))) vs ≡ seen (open_Blocks x (marks s)) (exec rest (Nt LMoreBlocks ∷ s) (OfBlocks bs ∷ vs))
-read_Blocks (bs_one x) s vs rest g = read_Block x (Do MakeFirstBlock ∷ (Nt LMoreBlocks ∷ s)) vs rest g ∙ under (open_Block x (marks s)) (do_now rest MakeFirstBlock _ _)
+read_Blocks : {w : List Token} {bs : List RawBlock} (x : Blocks w bs) (s : Stack) (vs : List Val) (rest : List Token) →
+    Leaves LArgs rest →
+    exec (w ++ rest) (Nt LBlock ∷ (Do MakeFirstBlock ∷ (Nt LMoreBlocks ∷ s))) vs
+    ≡ seen (open_Blocks x (marks s)) (exec rest (Nt LMoreBlocks ∷ s) (OfBlocks bs ∷ vs))
+read_Blocks (bs_one x) s vs rest g = read_Block x (Do MakeFirstBlock ∷ (Nt LMoreBlocks ∷ s)) vs rest g
+    ∙ under (open_Block x (marks s)) (do_now rest MakeFirstBlock _ _)
 read_Blocks (bs_more {u} {v} {bs} x y) s vs rest g =
     rw (append_assoc u v rest, seen_append (open_Blocks x (marks s)) (open_Block y (marks s)))
     (read_Blocks x s vs (v ++ rest) (leaves_Block y rest) ∙ under (open_Blocks x (marks s))
     (blocks_as_block (more LBlock rest (first_Block y)) s (OfBlocks bs ∷ vs) ∙
-    (read_Block y (blocks_tail ++ s) (OfBlocks bs ∷ vs) rest g ∙ under (open_Block y (marks s)) (do_now rest MakeNextBlock (Nt LMoreBlocks ∷ s) _))))
+    (read_Block y (blocks_tail ++ s) (OfBlocks bs ∷ vs) rest g
+    ∙ under (open_Block y (marks s)) (do_now rest MakeNextBlock (Nt LMoreBlocks ∷ s) _))))
 
 -- the value of a data field, with type arguments to come
 read_word : {b : Token} {base : RawBase} → Q b base → (s : Stack) (vs : List Val) (rest : List Token) →

@@ -1,5 +1,6 @@
 -- What was begun can be completed.
-use Rattle.std.proofs.Common.{ℤ, pos, negsuc, ◌≡◌, ℕ, suc, ◌<◌, ◌==◌, if◌then◌else◌, List, [], ◌∷◌, ◌++◌, refl, ◌∙◌, Some, None, Bool, true, false, arith}
+use Rattle.std.proofs.Common.{ℤ, pos, negsuc, ◌≡◌, ℕ, suc, ◌<◌, ◌==◌, if◌then◌else◌, List, [], ◌∷◌, ◌++◌, refl, ◌∙◌}
+use Rattle.std.proofs.Common.{Some, None, Bool, true, false, arith}
 use Rattle.idx_core.specs.declared.span.Span.{Span}
 use Rattle.t_terms.specs.declared.token.Kind.{Kind}
 use Rattle.t_terms.specs.declared.token.Kind.TheVariants as k
@@ -12,7 +13,18 @@ use Rattle.text_core.specs.Table.{Nt, Do}
 use Rattle.t_terms.proofs.Complete.{do_now, marked, next, under}
 use Rattle.text_core.proofs.Rules as rules
 use Rattle.text_core.proofs.Rules.{Filling, quiet_row, good_row, AtLeast, Least}
-use Rattle.t_terms.specs.GrammarTable.{table, Line, LProgram, LBlock, LMoreBlocks, LBinds, LNames, LMoreNames, LFile, LRegs, LMoreRegs, LT, LFields, LMoreFields, LTypes, LTypeList, LSomeTypes, LMoreTypes, LV, LArgs, LPacked, LTo, LAt, LIndex, LTarget, LInt, LI, LMoreSteps, LEnd, LHeader, LSomeItems, LFirst, LMoreItems, LItem, LTuple, LDatums, LMoreDatums, LW, LWordArgs, LWordPacked, Stack, Val, OfToken, OfNames, OfFile, OfSteps, OfValue, OfWord, code_owed, items_tail, act, seen, blocks_owed, items_owed, headed, fits, after, may_end, marks, exec, MakeBinds, MakeFile, MakeNoNames, MakeNoRegs, MakeTypeInt, MakeNoFields, MakeTypes, MakeNoTypes, MakeBase, MakePacked, MakeTo, MakeIndex, MakeAt, MakeTarget, MakeInt, MakeMalloc, MakeHalt, MakeBlock, MakeFirstBlock, MakeWord, MakeWordPacked, MakeNoDatums, MakeTuple, MakeBlockItem, MakeDataItem, MakeNextItem, MakeHeaded, MakeProgram, MakeClosedTypes}
+use Rattle.t_terms.specs.GrammarTable.{table, Line, LProgram, LBlock, LMoreBlocks, LBinds, LNames, LMoreNames, LFile}
+use Rattle.t_terms.specs.GrammarTable.{LRegs, LMoreRegs, LT, LFields, LMoreFields, LTypes, LTypeList, LSomeTypes}
+use Rattle.t_terms.specs.GrammarTable.{LMoreTypes, LV, LArgs, LPacked, LTo, LAt, LIndex, LTarget, LInt, LI, LMoreSteps}
+use Rattle.t_terms.specs.GrammarTable.{LEnd, LHeader, LSomeItems, LFirst, LMoreItems, LItem, LTuple, LDatums}
+use Rattle.t_terms.specs.GrammarTable.{LMoreDatums, LW, LWordArgs, LWordPacked, Stack, Val, OfToken, OfNames, OfFile}
+use Rattle.t_terms.specs.GrammarTable.{OfSteps, OfValue, OfWord, code_owed, items_tail, act, seen, blocks_owed}
+use Rattle.t_terms.specs.GrammarTable.{items_owed, headed, fits, after, may_end, marks, exec, MakeBinds, MakeFile}
+use Rattle.t_terms.specs.GrammarTable.{MakeNoNames, MakeNoRegs, MakeTypeInt, MakeNoFields, MakeTypes, MakeNoTypes}
+use Rattle.t_terms.specs.GrammarTable.{MakeBase, MakePacked, MakeTo, MakeIndex, MakeAt, MakeTarget, MakeInt}
+use Rattle.t_terms.specs.GrammarTable.{MakeMalloc, MakeHalt, MakeBlock, MakeFirstBlock, MakeWord, MakeWordPacked}
+use Rattle.t_terms.specs.GrammarTable.{MakeNoDatums, MakeTuple, MakeBlockItem, MakeDataItem, MakeNextItem, MakeHeaded}
+use Rattle.t_terms.specs.GrammarTable.{MakeProgram, MakeClosedTypes}
 
 abbrev here : Span
 here = record { start = 0; end = 0 }
@@ -80,11 +92,13 @@ least LTypes = brackets
 least LTypeList = one k.RightBracket
 least LSomeTypes = tok k.Int here ∷ one k.RightBracket
 least LV = one (k.Plain (pos 0))
-least LPacked = tok k.LeftBracket here ∷ (tok k.Int here ∷ (tok k.Comma here ∷ (tok (k.Plain (pos 0)) here ∷ one k.RightBracket)))
+least LPacked =
+    tok k.LeftBracket here ∷ (tok k.Int here ∷ (tok k.Comma here ∷ (tok (k.Plain (pos 0)) here ∷ one k.RightBracket)))
 least LTo = tok (k.Register 1) here ∷ one k.Comma
 least LAt = tok (k.Register 1) here ∷ index
 least LIndex = index
-least LTarget = tok k.LeftBracket here ∷ (tok k.Name here ∷ (tok k.Comma here ∷ (tok (k.Register 1) here ∷ one k.RightBracket)))
+least LTarget =
+    tok k.LeftBracket here ∷ (tok k.Name here ∷ (tok k.Comma here ∷ (tok (k.Register 1) here ∷ one k.RightBracket)))
 least LInt = int
 least LI = tok k.Malloc here ∷ (tok (k.Register 1) here ∷ brackets)
 least LEnd = tok k.Halt here ∷ int
@@ -208,7 +222,8 @@ wanted LHeader = omega arith
 wanted LProgram = omega arith
 wanted _ = omega arith
 
-silent : (n : Line) → may_end n ≡ true → (w : List Token) → AtLeast table filling (wants n) w → (s : Stack) (vs : List Val) → exec w (Nt n ∷ s) vs ≡ exec w s vs
+silent : (n : Line) → may_end n ≡ true → (w : List Token) → AtLeast table filling (wants n) w →
+    (s : Stack) (vs : List Val) → exec w (Nt n ∷ s) vs ≡ exec w s vs
 silent n e w h s vs = rules.silent table filling (λ m c. quiet m c.kind c.span) n e w h s vs
 
 -- what a block that takes nothing makes of what stands below its word
@@ -239,7 +254,8 @@ read_first w h s vs =
 abbrev Filled : Line → List Token → Stack → List Val → Type 0
 Filled n w s vs = Least table n (least n) w s vs
 
-pub reads : (n : Line) → may_end n ≡ false → (w : List Token) → AtLeast table filling (wants n) w → (s : Stack) (vs : List Val) → Filled n w s vs
+pub reads : (n : Line) → may_end n ≡ false → (w : List Token) → AtLeast table filling (wants n) w →
+    (s : Stack) (vs : List Val) → Filled n w s vs
 reads LProgram e w h s vs = record {
   made = _;
   counts = _ ∷ (_ ∷ (_ ∷ (_ ∷ (_ ∷ (_ ∷ (_ ∷ (_ ∷ (_ ∷ (_ ∷ (_ ∷ (_ ∷ (_ ∷ (_ ∷ [])))))))))))));
@@ -294,22 +310,72 @@ reads LWordPacked e w h s vs = record {
   counts = _ ∷ (_ ∷ (_ ∷ (_ ∷ (_ ∷ []))));
   leads = next _ (next _ (next _ (next _ (next _ (marked w MakeWordPacked s _)))));
 }
-reads LBinds e w h s vs = record { made = _; counts = _ ∷ (_ ∷ []); leads = next _ (next _ (do_now w MakeNoNames _ _ ∙ marked w MakeBinds s _)) }
+reads LBinds e w h s vs =
+    record {
+      made = _;
+      counts = _ ∷ (_ ∷ []);
+      leads = next _ (next _ (do_now w MakeNoNames _ _ ∙ marked w MakeBinds s _));
+    }
 reads LNames e w h s vs = record { made = _; counts = _ ∷ []; leads = next _ (do_now w MakeNoNames s _) }
-reads LFile e w h s vs = record { made = _; counts = _ ∷ (_ ∷ []); leads = next _ (next _ (do_now w MakeNoRegs _ _ ∙ marked w MakeFile s _)) }
+reads LFile e w h s vs =
+    record {
+      made = _;
+      counts = _ ∷ (_ ∷ []);
+      leads = next _ (next _ (do_now w MakeNoRegs _ _ ∙ marked w MakeFile s _));
+    }
 reads LRegs e w h s vs = record { made = _; counts = _ ∷ []; leads = next _ (do_now w MakeNoRegs s _) }
 reads LT e w h s vs = record { made = _; counts = _ ∷ []; leads = next _ (do_now w MakeTypeInt s _) }
 reads LFields e w h s vs = record { made = _; counts = _ ∷ []; leads = next _ (do_now w MakeNoFields s _) }
-reads LTypes e w h s vs = record { made = _; counts = _ ∷ (_ ∷ []); leads = next _ (next _ (do_now w MakeNoTypes _ _ ∙ marked w MakeTypes s _)) }
+reads LTypes e w h s vs =
+    record {
+      made = _;
+      counts = _ ∷ (_ ∷ []);
+      leads = next _ (next _ (do_now w MakeNoTypes _ _ ∙ marked w MakeTypes s _));
+    }
 reads LTypeList e w h s vs = record { made = _; counts = _ ∷ []; leads = next _ (do_now w MakeNoTypes s _) }
-reads LSomeTypes e w h s vs = record { made = _; counts = _ ∷ (_ ∷ []); leads = next _ (next _ (do_now w MakeClosedTypes s _)) }
-reads LV e w h s vs = record { made = OfValue (ending (RPlain (RNum (pos 0)) []) 0) ∷ vs; counts = marks s ∷ []; leads = next _ (do_now w MakeBase (Nt LArgs ∷ s) _ ∙ silent LArgs refl w h s _) }
-reads LPacked e w h s vs = record { made = _; counts = _ ∷ (_ ∷ (_ ∷ (_ ∷ (_ ∷ [])))); leads = next _ (next _ (next _ (next _ (next _ (marked w MakePacked s _))))) }
+reads LSomeTypes e w h s vs =
+    record { made = _; counts = _ ∷ (_ ∷ []); leads = next _ (next _ (do_now w MakeClosedTypes s _)) }
+reads LV e w h s vs =
+    record {
+      made = OfValue (ending (RPlain (RNum (pos 0)) []) 0) ∷ vs;
+      counts = marks s ∷ [];
+      leads = next _ (do_now w MakeBase (Nt LArgs ∷ s) _ ∙ silent LArgs refl w h s _);
+    }
+reads LPacked e w h s vs =
+    record {
+      made = _;
+      counts = _ ∷ (_ ∷ (_ ∷ (_ ∷ (_ ∷ []))));
+      leads = next _ (next _ (next _ (next _ (next _ (marked w MakePacked s _)))));
+    }
 reads LTo e w h s vs = record { made = _; counts = _ ∷ (_ ∷ []); leads = next _ (next _ (do_now w MakeTo s _)) }
-reads LAt e w h s vs = record { made = _; counts = _ ∷ (_ ∷ (_ ∷ (_ ∷ []))); leads = next _ (next _ (next _ (next _ (marked w MakeIndex (Do MakeAt ∷ s) _ ∙ do_now w MakeAt s _)))) }
-reads LIndex e w h s vs = record { made = _; counts = _ ∷ (_ ∷ (_ ∷ [])); leads = next _ (next _ (next _ (marked w MakeIndex s _))) }
-reads LTarget e w h s vs = record { made = _; counts = _ ∷ (_ ∷ (_ ∷ (_ ∷ (_ ∷ [])))); leads = next _ (next _ (next _ (next _ (next _ (marked w MakeTarget s _))))) }
-reads LInt e w h s vs = record { made = _; counts = _ ∷ (_ ∷ (_ ∷ [])); leads = next _ (next _ (next _ (marked w MakeInt s _))) }
-reads LI e w h s vs = record { made = _; counts = _ ∷ (_ ∷ (_ ∷ (_ ∷ []))); leads = next _ (next _ (next _ (next _ (do_now w MakeNoTypes _ _ ∙ (marked w MakeTypes (Do MakeMalloc ∷ s) _ ∙ do_now w MakeMalloc s _))))) }
-reads LEnd e w h s vs = record { made = _; counts = _ ∷ (_ ∷ (_ ∷ (_ ∷ []))); leads = next _ (next _ (next _ (next _ (marked w MakeInt (Do MakeHalt ∷ s) _ ∙ do_now w MakeHalt s _)))) }
+reads LAt e w h s vs =
+    record {
+      made = _;
+      counts = _ ∷ (_ ∷ (_ ∷ (_ ∷ [])));
+      leads = next _ (next _ (next _ (next _ (marked w MakeIndex (Do MakeAt ∷ s) _ ∙ do_now w MakeAt s _))));
+    }
+reads LIndex e w h s vs =
+    record { made = _; counts = _ ∷ (_ ∷ (_ ∷ [])); leads = next _ (next _ (next _ (marked w MakeIndex s _))) }
+reads LTarget e w h s vs =
+    record {
+      made = _;
+      counts = _ ∷ (_ ∷ (_ ∷ (_ ∷ (_ ∷ []))));
+      leads = next _ (next _ (next _ (next _ (next _ (marked w MakeTarget s _)))));
+    }
+reads LInt e w h s vs =
+    record { made = _; counts = _ ∷ (_ ∷ (_ ∷ [])); leads = next _ (next _ (next _ (marked w MakeInt s _))) }
+reads LI e w h s vs =
+    record {
+      made = _;
+      counts = _ ∷ (_ ∷ (_ ∷ (_ ∷ [])));
+      leads = next _
+          (next _ (next _
+          (next _ (do_now w MakeNoTypes _ _ ∙ (marked w MakeTypes (Do MakeMalloc ∷ s) _ ∙ do_now w MakeMalloc s _)))));
+    }
+reads LEnd e w h s vs =
+    record {
+      made = _;
+      counts = _ ∷ (_ ∷ (_ ∷ (_ ∷ [])));
+      leads = next _ (next _ (next _ (next _ (marked w MakeInt (Do MakeHalt ∷ s) _ ∙ do_now w MakeHalt s _))));
+    }
 reads _ e w h s vs = absurd (cc)

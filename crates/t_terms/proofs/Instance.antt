@@ -10,7 +10,8 @@ use Rattle.text_core.proofs.Unique as unique
 use Rattle.t_terms.specs.GrammarTable.{table, Val, LProgram}
 use Rattle.text_core.proofs.Rules.{Rules, claims_of, exact_by}
 use Rattle.t_terms.proofs.Complete.{read_shape}
-use Rattle.t_terms.proofs.TableRows.{Sem, sem_program, meaning, is_of, row, empty}
+use Rattle.t_terms.proofs.TableRows.{row, empty}
+use Rattle.t_terms.proofs.TableLines.{Sem, sem_program, meaning, is_of}
 use Rattle.t_terms.proofs.Filling.{filling, fits_token, goods, quiet, reads, wanted}
 
 shape : (w : List Token) (r : List Val) → Sem LProgram [] w r → Sound table w r
@@ -42,5 +43,6 @@ assembly_exact limit w = exact_by table rules limit w
 pub one_tree : {w : List Token} {t r : List RawItem} → Program w t → Program w r → t ≡ r
 one_tree x y = unique.one_tree table claims x y
 
-pub one_verdict : (limit : ℕ) (w : List Token) (a b : Verdict table) → Says table limit w a → Says table limit w b → a ≡ b
+pub one_verdict : (limit : ℕ) (w : List Token) (a b : Verdict table) → Says table limit w a → Says table limit w b →
+    a ≡ b
 one_verdict limit w a b x y = unique.one_verdict table claims limit w a b x y

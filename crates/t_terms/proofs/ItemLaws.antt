@@ -1,12 +1,15 @@
 -- Items, their blocks and their data; and that no register stands in the values of data.
-use Rattle.std.proofs.Common.{◌≡◌, ℕ, suc, ◌+◌, ◌<◌, List, [], ◌∷◌, ◌++◌, length, refl, ap, arith, Bool, true, false, if◌then◌else◌, bytes_eq, Option, Some, None}
+use Rattle.std.proofs.Common.{◌≡◌, ℕ, suc, ◌+◌, ◌<◌, List, [], ◌∷◌, ◌++◌, length, refl, ap, arith, Bool, true, false}
+use Rattle.std.proofs.Common.{if◌then◌else◌, bytes_eq, Option, Some, None}
 use Rattle.idx_core.specs.declared.span.Span.{Span}
 use Rattle.idx_core.specs.Names.{Name}
 use Rattle.t_terms.specs.declared.token.Token.{Token}
 use Rattle.t_terms.specs.Tree.{TBase, Reg, Int, Label, Data, Plain}
 use Rattle.t_terms.specs.Whole.{HasNoRegister}
-use Rattle.t_terms.specs.Raw.{RawTy, RawBase, RawValue, RPlain, RawBlock, RawData, RawItem, BlockItem, DataItem, blocks_in, data_in, block_items, ending}
-use Rattle.t_terms.specs.Grammar.{N, n_plain, n_negative, n_label, V, v_base, v_apply, v_pack, Q, q_plain, q_negative, q_label, W, w_base, w_apply, w_pack}
+use Rattle.t_terms.specs.Raw.{RawTy, RawBase, RawValue, RPlain, RawBlock, RawData, RawItem, BlockItem, DataItem}
+use Rattle.t_terms.specs.Raw.{blocks_in, data_in, block_items, ending}
+use Rattle.t_terms.specs.Grammar.{N, n_plain, n_negative, n_label, V, v_base, v_apply, v_pack, Q, q_plain, q_negative}
+use Rattle.t_terms.specs.Grammar.{q_label, W, w_base, w_apply, w_pack}
 use Rattle.t_terms.specs.Names.{spelled, named_by, or_first, types_of, value_of, item_labels, labels_of}
 
 pub blocks_in-append : (xs ys : List RawItem) → blocks_in (xs ++ ys) ≡ blocks_in xs ++ blocks_in ys

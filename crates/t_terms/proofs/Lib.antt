@@ -8,6 +8,7 @@ pub mod Filling
 pub mod Instance
 pub mod ItemLaws
 pub mod Nested
+pub mod TableLines
 pub mod TableRows
 pub mod TextExact
 pub mod TokenLaws

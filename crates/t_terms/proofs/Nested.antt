@@ -1,5 +1,6 @@
 -- The constructs that are open at the tokens of a text, counted by the program that the text stands for.
-use Rattle.std.proofs.Common.{◌≡◌, ◌≤◌, ℕ, zero, suc, ◌+◌, max, nat_lt, if◌then◌else◌, List, [], ◌∷◌, ◌++◌, length, map, slice_index, Bool, true, false, refl, sym, ap, ap₂, ◌∙◌, arith, subst, append_assoc}
+use Rattle.std.proofs.Common.{◌≡◌, ◌≤◌, ℕ, zero, suc, ◌+◌, max, nat_lt, if◌then◌else◌, List, [], ◌∷◌, ◌++◌, length}
+use Rattle.std.proofs.Common.{map, slice_index, Bool, true, false, refl, sym, ap, ap₂, ◌∙◌, arith, subst, append_assoc}
 use Rattle.std.proofs.lemmas.Bool.{ltb-false}
 use Rattle.idx_core.specs.declared.span.Span.{Span}
 use Rattle.idx_core.specs.Names.{Name}
@@ -10,16 +11,32 @@ use Rattle.t_types.specs.Tree.{Ty, TFile, NoRegs, MoreRegs}
 use Rattle.t_terms.specs.declared.token.Token.{Token}
 use Rattle.t_terms.specs.Tree.{TProg}
 use Rattle.t_terms.specs.Spanned.{SProg, seq_of, plain_blocks, plain_fields, plain_heap, plain_program}
-use Rattle.t_terms.specs.Raw.{RawTy, RInt, RName, RCode, RSome, RTuple, RawRegs, NoRawRegs, MoreRawRegs, RawFields, NoRawFields, MoreRawFields, RawReg, RawField, raw_regs, raw_fields, RawBase, RawValue, RPlain, RPack, RawInstr, RArith, RBnz, RLd, RMalloc, RMov, RSt, RUnpack, RawEnd, RJmp, RHalt, RawBlock, RawDatum, RawData, RawItem, BlockItem, DataItem, blocks_in, data_in, block_items, Piece}
-use Rattle.t_terms.specs.Grammar.{Names, ns_one, ns_more, Binds, bs_none, bs_names, T, t_int, t_name, t_code, t_some, t_unit, t_tuple, File, f_none, f_regs, Rs, rs_one, rs_more, Fs, fs_one, fs_more, Ts, ts_one, ts_more, V, v_base, v_apply, v_pack, I, i_arith, i_bnz, i_ld, i_malloc_none, i_malloc, i_mov, i_st, i_unpack, Is, is_none, is_more, End, e_jmp, e_halt, Block, b_block, Blocks, bs_one, bs_more, W, w_base, w_apply, w_pack, datum, Ds, ds_one, ds_more, Tuple, tu_none, tu_fields, Item, it_block, it_data, Items, its_none, its_more, Program, p_blocks, p_items, open_Names, open_Binds, open_T, open_File, open_Rs, open_Fs, open_Ts, open_V, open_I, open_Is, open_End, open_Block, open_Blocks, open_W, open_Ds, open_Tuple, open_Item, open_Items, open_Program}
+use Rattle.t_terms.specs.Raw.{RawTy, RInt, RName, RCode, RSome, RTuple, RawRegs, NoRawRegs, MoreRawRegs, RawFields}
+use Rattle.t_terms.specs.Raw.{NoRawFields, MoreRawFields, RawReg, RawField, raw_regs, raw_fields, RawBase, RawValue}
+use Rattle.t_terms.specs.Raw.{RPlain, RPack, RawInstr, RArith, RBnz, RLd, RMalloc, RMov, RSt, RUnpack, RawEnd, RJmp}
+use Rattle.t_terms.specs.Raw.{RHalt, RawBlock, RawDatum, RawData, RawItem, BlockItem, DataItem, blocks_in, data_in}
+use Rattle.t_terms.specs.Raw.{block_items, Piece}
+use Rattle.t_terms.specs.Grammar.{Names, ns_one, ns_more, Binds, bs_none, bs_names, T, t_int, t_name, t_code, t_some}
+use Rattle.t_terms.specs.Grammar.{t_unit, t_tuple, File, f_none, f_regs, Rs, rs_one, rs_more, Fs, fs_one, fs_more, Ts}
+use Rattle.t_terms.specs.Grammar.{ts_one, ts_more, V, v_base, v_apply, v_pack, I, i_arith, i_bnz, i_ld, i_malloc_none}
+use Rattle.t_terms.specs.Grammar.{i_malloc, i_mov, i_st, i_unpack, Is, is_none, is_more, End, e_jmp, e_halt, Block}
+use Rattle.t_terms.specs.Grammar.{b_block, Blocks, bs_one, bs_more, W, w_base, w_apply, w_pack, datum, Ds, ds_one}
+use Rattle.t_terms.specs.Grammar.{ds_more, Tuple, tu_none, tu_fields, Item, it_block, it_data, Items, its_none}
+use Rattle.t_terms.specs.Grammar.{its_more, Program, p_blocks, p_items, open_Names, open_Binds, open_T, open_File}
+use Rattle.t_terms.specs.Grammar.{open_Rs, open_Fs, open_Ts, open_V, open_I, open_Is, open_End, open_Block}
+use Rattle.t_terms.specs.Grammar.{open_Blocks, open_W, open_Ds, open_Tuple, open_Item, open_Items, open_Program}
 use Rattle.t_terms.specs.Grammar.{assembly_grammar}
 use Rattle.t_terms.specs.GrammarTable.{table, Val, OfItems}
-use Rattle.t_terms.specs.Names.{insert_reg, type_of, file_of, fields_of, types_of, value_of, instr_of, names_after, names_after_all, body_of, end_of, block_of, datum_of, data_of, program_of, labels_of, Labels, bind, spelled}
+use Rattle.t_terms.specs.Names.{insert_reg, type_of, file_of, fields_of, types_of, value_of, instr_of, names_after}
+use Rattle.t_terms.specs.Names.{names_after_all, body_of, end_of, block_of, datum_of, data_of, program_of, labels_of}
+use Rattle.t_terms.specs.Names.{Labels, bind, spelled}
 use Rattle.t_terms.specs.Text.{most_open, Stands, StandsFor, KeepsLimit}
 use Rattle.t_terms.proofs.Complete.{read_shape}
 use Rattle.t_terms.proofs.Instance.{assembly_exact, one_verdict}
 use Rattle.t_terms.proofs.TextExact.{one_cut}
-use Rattle.t_terms.specs.Nesting.{blocks_nesting, data_nesting, heap_nesting, type_nesting, regs_nesting, fields_nesting, types_nesting, value_nesting, instr_nesting, end_nesting, seq_nesting, nesting, greatest, CountsOpen, KeepsByNesting}
+use Rattle.t_terms.specs.Nesting.{blocks_nesting, data_nesting, heap_nesting, type_nesting, regs_nesting}
+use Rattle.t_terms.specs.Nesting.{fields_nesting, types_nesting, value_nesting, instr_nesting, end_nesting}
+use Rattle.t_terms.specs.Nesting.{seq_nesting, nesting, greatest, CountsOpen, KeepsByNesting}
 
 greatest-append : (a b : List ℕ) → greatest (a ++ b) ≡ max (greatest a) (greatest b)
 greatest-append [] b = omega arith
@@ -105,12 +122,14 @@ blocks_alone [] = refl
 blocks_alone (b ∷ bs) = ap (λ (n : ℕ). max (raw_block b) n) (blocks_alone bs)
 
 -- it is that of the trees that are resolved
-insert_nesting : (r : ℕ) (t : Ty) (file : TFile) → regs_nesting (insert_reg r t file) ≡ max (type_nesting t) (regs_nesting file)
+insert_nesting : (r : ℕ) (t : Ty) (file : TFile) →
+    regs_nesting (insert_reg r t file) ≡ max (type_nesting t) (regs_nesting file)
 insert_nesting r t NoRegs = refl
 insert_nesting r t (MoreRegs q u file) = by_order (nat_lt q r) (insert_nesting r t file)
   where
     by_order : (b : Bool) → regs_nesting (insert_reg r t file) ≡ max (type_nesting t) (regs_nesting file) →
-        regs_nesting (if b then MoreRegs q u (insert_reg r t file) else MoreRegs r t (MoreRegs q u file)) ≡ max (type_nesting t) (max (type_nesting u) (regs_nesting file))
+        regs_nesting (if b then MoreRegs q u (insert_reg r t file) else MoreRegs r t (MoreRegs q u file))
+        ≡ max (type_nesting t) (max (type_nesting u) (regs_nesting file))
     by_order true ih = rw ih (omega arith)
     by_order false ih = refl
 
@@ -125,7 +144,8 @@ module _ (text : List ℕ) where
 
     file_same : (a : List Name) (rs : RawRegs) → regs_nesting (file_of text a rs) ≡ raw_file rs
     file_same a NoRawRegs = refl
-    file_same a (MoreRawRegs r s t rs) = insert_nesting r (type_of text a t) (file_of text a rs) ∙ ap₂ max (type_same a t) (file_same a rs)
+    file_same a (MoreRawRegs r s t rs) =
+        insert_nesting r (type_of text a t) (file_of text a rs) ∙ ap₂ max (type_same a t) (file_same a rs)
 
     tuple_same : (a : List Name) (fs : RawFields) → fields_nesting (fields_of text a fs) ≡ raw_tuple fs
     tuple_same a NoRawFields = refl
@@ -154,14 +174,17 @@ module _ (text : List ℕ) where
     end_same a (RJmp v) = value_same a v
     end_same a RHalt = refl
 
-    seq_same : (a : List Name) (is : List (RawInstr × Span)) (e : RawEnd) → seq_nesting (seq_of (body_of text ls a is) (end_of text ls (names_after_all text is a) e)) ≡ max (raw_body is) (raw_end e)
+    seq_same : (a : List Name) (is : List (RawInstr × Span)) (e : RawEnd) →
+        seq_nesting (seq_of (body_of text ls a is) (end_of text ls (names_after_all text is a) e))
+        ≡ max (raw_body is) (raw_end e)
     seq_same a [] e = end_same a e ∙ omega arith
     seq_same a (i ∷ is) e = ap₂ max (instr_same a i.0) (seq_same (names_after text i.0 a) is e) ∙ omega arith
 
     blocks_same : (bs : List RawBlock) → blocks_nesting (plain_blocks (map (block_of text ls) bs)) ≡ raw_blocks bs
     blocks_same [] = refl
     blocks_same (b ∷ bs) =
-        ap₂ max (ap₂ (λ m n. max (1 + m) n) (file_same (bind text b.names []) b.file) (seq_same (bind text b.names []) b.body b.last.0)) (blocks_same bs)
+        ap₂ max (ap₂ (λ m n. max (1 + m) n) (file_same (bind text b.names []) b.file)
+        (seq_same (bind text b.names []) b.body b.last.0)) (blocks_same bs)
 
     datums_same : (xs : List RawDatum) → data_nesting (plain_fields (map (datum_of text ls) xs)) ≡ raw_datums xs
     datums_same [] = refl
@@ -177,11 +200,13 @@ module _ (text : List ℕ) where
       sym (items_apart xs)
 
 -- lists grow at their end
-file-append : (rs : List RawReg) (r : RawReg) → raw_file (raw_regs (rs ++ r ∷ [])) ≡ max (raw_file (raw_regs rs)) (raw_type r.ty)
+file-append : (rs : List RawReg) (r : RawReg) →
+    raw_file (raw_regs (rs ++ r ∷ [])) ≡ max (raw_file (raw_regs rs)) (raw_type r.ty)
 file-append [] r = omega arith
 file-append (q ∷ rs) r = omega (arith, file-append rs r)
 
-tuple-append : (fs : List RawField) (f : RawField) → raw_tuple (raw_fields (fs ++ f ∷ [])) ≡ max (raw_tuple (raw_fields fs)) (raw_type f.ty)
+tuple-append : (fs : List RawField) (f : RawField) →
+    raw_tuple (raw_fields (fs ++ f ∷ [])) ≡ max (raw_tuple (raw_fields fs)) (raw_type f.ty)
 tuple-append [] f = omega arith
 tuple-append (q ∷ fs) f = omega (arith, tuple-append fs f)
 
@@ -189,7 +214,8 @@ types-append : (ts : List RawTy) (t : RawTy) → raw_types (ts ++ t ∷ []) ≡ 
 types-append [] t = omega arith
 types-append (u ∷ ts) t = omega (arith, types-append ts t)
 
-body-append : (is : List (RawInstr × Span)) (i : RawInstr × Span) → raw_body (is ++ i ∷ []) ≡ max (raw_body is) (raw_instr i.0)
+body-append : (is : List (RawInstr × Span)) (i : RawInstr × Span) →
+    raw_body (is ++ i ∷ []) ≡ max (raw_body is) (raw_instr i.0)
 body-append [] i = omega arith
 body-append (j ∷ is) i = omega (arith, body-append is i)
 
@@ -218,33 +244,58 @@ mutual
   type_open : {w : List Token} {t : Piece RawTy} (x : T w t) (d : ℕ) → greatest (open_T x d) ≡ d + raw_type t.tree
   type_open (t_int s) d = omega arith
   type_open (t_name s) d = omega arith
-  type_open (t_code a x y) d = omega (arith, greatest-append (open_Binds x d) (open_File y d), binds_open x d, file_open y d)
+  type_open (t_code a x y) d =
+      omega (arith, greatest-append (open_Binds x d) (open_File y d), binds_open x d, file_open y d)
   type_open (t_some s n e x) d = omega (arith, type_open x (suc d))
   type_open (t_unit o c) d = omega arith
   type_open (t_tuple o c x) d = omega (arith, greatest-append (open_Fs x (suc d)) (suc d ∷ []), tuple_open x (suc d))
 
-  file_open : {w : List Token} {t : Piece RawRegs} (x : File w t) (d : ℕ) → greatest (open_File x d) ≡ d + (1 + raw_file t.tree)
+  file_open : {w : List Token} {t : Piece RawRegs} (x : File w t) (d : ℕ) →
+      greatest (open_File x d) ≡ d + (1 + raw_file t.tree)
   file_open (f_none o c) d = omega arith
   file_open (f_regs o c x) d = omega (arith, greatest-append (open_Rs x (suc d)) (suc d ∷ []), regs_open x (suc d))
 
-  regs_open : {w : List Token} {rs : List RawReg} (x : Rs w rs) (d : ℕ) → greatest (open_Rs x d) ≡ d + raw_file (raw_regs rs)
+  regs_open : {w : List Token} {rs : List RawReg} (x : Rs w rs) (d : ℕ) →
+      greatest (open_Rs x d) ≡ d + raw_file (raw_regs rs)
   regs_open (rs_one r s c x) d = omega (arith, type_open x d)
   regs_open (rs_more {rs} {t} c r s e x y) d =
       let q : RawReg = record { reg = r; place = s; ty = t.tree } in
-      omega (arith, greatest-append (open_Rs x d) (d ∷ (d ∷ (d ∷ open_T y d))), regs_open x d, type_open y d, file-append rs q)
+      omega (
+        arith,
+        greatest-append (open_Rs x d) (d ∷ (d ∷ (d ∷ open_T y d))),
+        regs_open x d,
+        type_open y d,
+        file-append rs q,
+      )
 
-  tuple_open : {w : List Token} {fs : List RawField} (x : Fs w fs) (d : ℕ) → greatest (open_Fs x d) ≡ d + raw_tuple (raw_fields fs)
+  tuple_open : {w : List Token} {fs : List RawField} (x : Fs w fs) (d : ℕ) →
+      greatest (open_Fs x d) ≡ d + raw_tuple (raw_fields fs)
   tuple_open (fs_one h s x f) d = omega (arith, greatest-append (open_T x d) (d ∷ (d ∷ [])), type_open x d)
   tuple_open (fs_more {fs} {t} {flag} c h s x y f) d =
       let q : RawField = record { ty = t.tree; flag = flag } in
-      omega (arith, greatest-append (open_Fs x d) (d ∷ (open_T y d ++ d ∷ (d ∷ []))), greatest-append (open_T y d) (d ∷ (d ∷ [])), tuple_open x d, type_open y d, tuple-append fs q)
+      omega (
+        arith,
+        greatest-append (open_Fs x d) (d ∷ (open_T y d ++ d ∷ (d ∷ []))),
+        greatest-append (open_T y d) (d ∷ (d ∷ [])),
+        tuple_open x d,
+        type_open y d,
+        tuple-append fs q,
+      )
 
 types_open : {w : List Token} {ts : List RawTy} (x : Ts w ts) (d : ℕ) → greatest (open_Ts x d) ≡ d + raw_types ts
 types_open (ts_one x) d = omega (arith, type_open x d)
-types_open (ts_more {ts} {t} c x y) d = omega (arith, greatest-append (open_Ts x d) (d ∷ open_T y d), types_open x d, type_open y d, types-append ts t.tree)
+types_open (ts_more {ts} {t} c x y) d =
+    omega (
+      arith,
+      greatest-append (open_Ts x d) (d ∷ open_T y d),
+      types_open x d,
+      type_open y d,
+      types-append ts t.tree,
+    )
 
 -- a base with types
-applied_more : (b : RawBase) (ts : List RawTy) (t : RawTy) → raw_value (RPlain b (ts ++ t ∷ [])) ≡ 1 + raw_types (ts ++ t ∷ [])
+applied_more : (b : RawBase) (ts : List RawTy) (t : RawTy) →
+    raw_value (RPlain b (ts ++ t ∷ [])) ≡ 1 + raw_types (ts ++ t ∷ [])
 applied_more b [] t = refl
 applied_more b (u ∷ ts) t = refl
 
@@ -254,16 +305,25 @@ applied b (ts_more {ts} {t} c x y) = applied_more b ts t.tree
 
 value_open : {w : List Token} {v : Piece RawValue} (x : V w v) (d : ℕ) → greatest (open_V x d) ≡ d + raw_value v.tree
 value_open (v_base n) d = omega arith
-value_open (v_apply {base} o c n x) d = omega (arith, greatest-append (open_Ts x (suc d)) (suc d ∷ []), types_open x (suc d), applied base x)
+value_open (v_apply {base} o c n x) d =
+    omega (arith, greatest-append (open_Ts x (suc d)) (suc d ∷ []), types_open x (suc d), applied base x)
 value_open (v_pack p o m c a x y z) d =
-    omega (arith, greatest-append (open_T x (suc d)) (suc d ∷ (open_V y (suc d) ++ suc d ∷ (d ∷ open_T z d))), greatest-append (open_V y (suc d)) (suc d ∷ (d ∷ open_T z d)), type_open x (suc d), value_open y (suc d), type_open z d)
+    omega (
+      arith,
+      greatest-append (open_T x (suc d)) (suc d ∷ (open_V y (suc d) ++ suc d ∷ (d ∷ open_T z d))),
+      greatest-append (open_V y (suc d)) (suc d ∷ (d ∷ open_T z d)),
+      type_open x (suc d),
+      value_open y (suc d),
+      type_open z d,
+    )
 
 instr_open : {w : List Token} {i : RawInstr × Span} (x : I w i) (d : ℕ) → greatest (open_I x d) ≡ d + raw_instr i.0
 instr_open (i_arith a b c e f rd rs o x) d = omega (arith, value_open x d)
 instr_open (i_bnz a b c r x) d = omega (arith, value_open x d)
 instr_open (i_ld a b c e o f g rd rs n) d = omega arith
 instr_open (i_malloc_none a b o c rd) d = omega arith
-instr_open (i_malloc a b o c rd x) d = omega (arith, greatest-append (open_Ts x (suc d)) (suc d ∷ []), types_open x (suc d))
+instr_open (i_malloc a b o c rd x) d =
+    omega (arith, greatest-append (open_Ts x (suc d)) (suc d ∷ []), types_open x (suc d))
 instr_open (i_mov a b c rd x) d = omega (arith, value_open x d)
 instr_open (i_st a b o f e c g rd rs n) d = omega arith
 instr_open (i_unpack a o n b e c f rd x) d = omega (arith, value_open x d)
@@ -274,7 +334,8 @@ end_open (e_halt a o i c) d = omega arith
 
 body_open : {w : List Token} {is : List (RawInstr × Span)} (x : Is w is) → greatest (open_Is x 0) ≡ raw_body is
 body_open is_none = refl
-body_open (is_more {is} {i} x y) = omega (arith, greatest-append (open_Is x 0) (open_I y 0), body_open x, instr_open y 0, body-append is i)
+body_open (is_more {is} {i} x y) =
+    omega (arith, greatest-append (open_Is x 0) (open_I y 0), body_open x, instr_open y 0, body-append is i)
 
 block_open : {w : List Token} {b : RawBlock} (x : Block w b) → greatest (open_Block x 0) ≡ raw_block b
 block_open (b_block l c e p x y z last) =
@@ -291,7 +352,8 @@ block_open (b_block l c e p x y z last) =
 
 blocks_open : {w : List Token} {bs : List RawBlock} (x : Blocks w bs) → greatest (open_Blocks x 0) ≡ raw_blocks bs
 blocks_open (bs_one x) = omega (arith, block_open x)
-blocks_open (bs_more {bs} {b} x y) = omega (arith, greatest-append (open_Blocks x 0) (open_Block y 0), blocks_open x, block_open y, blocks-append bs b)
+blocks_open (bs_more {bs} {b} x y) =
+    omega (arith, greatest-append (open_Blocks x 0) (open_Block y 0), blocks_open x, block_open y, blocks-append bs b)
 
 -- data
 word_open : {w : List Token} {v : RawValue × Span} (x : W w v) (d : ℕ) → greatest (open_W x d) ≡ d + raw_value v.0
@@ -342,7 +404,8 @@ program_open (p_blocks {bs} t n x) = omega (arith, blocks_open x, blocks_alone b
 program_open (p_items t n x h) = omega (arith, items_open x)
 
 pub counts_open : CountsOpen
-counts_open text P s = program_open s.shape ∙ (sym (program_same text s.raw) ∙ ap (λ (Q : SProg). nesting (plain_program Q)) (sym s.is))
+counts_open text P s =
+    program_open s.shape ∙ (sym (program_same text s.raw) ∙ ap (λ (Q : SProg). nesting (plain_program Q)) (sym s.is))
 
 -- a number at a place is at most the greatest
 at_most_greatest : (ns : List ℕ) (i : ℕ) → slice_index ns i ≤ greatest ns
@@ -351,13 +414,16 @@ at_most_greatest (n ∷ ns) zero = omega arith
 at_most_greatest (n ∷ ns) (suc i) = omega (arith, at_most_greatest ns i)
 
 -- no more than the limit are open anywhere, where the machine takes the tokens
-never_more : (ns : List ℕ) (w : List Token) (vs us : List Val) → bounded table most_open w (seen table ns (Done vs)) ≡ Fine us → greatest ns ≤ most_open
+never_more : (ns : List ℕ) (w : List Token) (vs us : List Val) → bounded table most_open w (seen table ns (Done vs))
+    ≡ Fine us → greatest ns ≤ most_open
 never_more [] w vs us e = omega arith
 never_more (n ∷ ns) [] vs us e = absurd (cc)
 never_more (n ∷ ns) (c ∷ w) vs us e = by_test (nat_lt most_open n) refl e (never_more ns w vs us)
   where
-    by_test : (x : Bool) → nat_lt most_open n ≡ x → (if x then Passed (c ∷ w) else bounded table most_open w (seen table ns (Done vs))) ≡ Fine us →
-        (bounded table most_open w (seen table ns (Done vs)) ≡ Fine us → greatest ns ≤ most_open) → max n (greatest ns) ≤ most_open
+    by_test : (x : Bool) → nat_lt most_open n ≡ x →
+        (if x then Passed (c ∷ w) else bounded table most_open w (seen table ns (Done vs))) ≡ Fine us →
+        (bounded table most_open w (seen table ns (Done vs)) ≡ Fine us → greatest ns ≤ most_open) →
+        max n (greatest ns) ≤ most_open
     by_test true f e ih = absurd (cc)
     by_test false f e ih = omega (arith, ltb-false most_open n f, ih e)
 
@@ -367,7 +433,10 @@ module _ (text : List ℕ) (P : TProg) (stand : StandsFor text P) where
 
   -- the greatest number in any shape with the raw tree of the text
   all_open : {w : List Token} (p : Program w it.raw) → greatest (open_Program p 0) ≡ nesting P
-  all_open p = program_open p ∙ (sym (program_same text it.raw) ∙ (ap (λ (R : SProg). nesting (plain_program R)) (sym it.is) ∙ ap nesting stand.2))
+  all_open p =
+      program_open p
+      ∙ (sym (program_same text it.raw)
+      ∙ (ap (λ (R : SProg). nesting (plain_program R)) (sym it.is) ∙ ap nesting stand.2))
 
   pub keeps : nesting P ≤ most_open → NonePasses assembly_grammar most_open it.tokens
   keeps h u c z e x =
@@ -380,11 +449,14 @@ module _ (text : List ℕ) (P : TProg) (stand : StandsFor text P) where
 
   pub kept : KeepsLimit text → nesting P ≤ most_open
   kept k =
-      let none = subst (λ (w : List Token). NonePasses assembly_grammar most_open w) (one_cut text k.0 it.tokens k.1 it.cut) k.2 in
+      let none = subst (λ (w : List Token). NonePasses assembly_grammar most_open w)
+      (one_cut text k.0 it.tokens k.1 it.cut) k.2 in
       let says = assembly_exact most_open it.tokens in
-      let fine : Says table most_open it.tokens (Fine (OfItems it.raw ∷ [])) = record { value = it.raw; shape = it.shape; is = refl; within = none } in
+      let fine : Says table most_open it.tokens (Fine (OfItems it.raw ∷ [])) =
+      record { value = it.raw; shape = it.shape; is = refl; within = none } in
       let q = one_verdict most_open it.tokens _ _ says fine in
-      let r : bounded table most_open it.tokens (seen table (open_Program it.shape 0) (Done (OfItems it.raw ∷ []))) ≡ Fine (OfItems it.raw ∷ []) =
+      let r : bounded table most_open it.tokens (seen table (open_Program it.shape 0) (Done (OfItems it.raw ∷ [])))
+      ≡ Fine (OfItems it.raw ∷ []) =
       ap (bounded table most_open it.tokens) (sym (read_shape it.shape)) ∙ q in
       let most = never_more (open_Program it.shape 0) it.tokens (OfItems it.raw ∷ []) (OfItems it.raw ∷ []) r in
       omega (arith, all_open it.shape)

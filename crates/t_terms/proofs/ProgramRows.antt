@@ -7,13 +7,18 @@ use Rattle.t_terms.specs.Nesting.{nesting}
 
 -- a block that reads through two data tuples, of which the first holds a label and the address of the second
 abbrev block : TBlock
-block = record { owes = 0; file = NoRegs; code = Then (Mov 2 (Plain (Data 0) [])) (Then (Ld 2 2 1) (Then (Ld 1 2 0) (Ends Halt))) }
+block = record {
+  owes = 0;
+  file = NoRegs;
+  code = Then (Mov 2 (Plain (Data 0) [])) (Then (Ld 2 2 1) (Then (Ld 1 2 0) (Ends Halt)));
+}
 
 abbrev heap : TProg
 heap = record {
   blocks = block ∷ [];
   heap =
-      (record { value = Plain (Label 0) []; ty = CodeTy 0 NoRegs } ∷ (record { value = Plain (Data 1) []; ty = TupleTy (MoreFields IntTy true NoFields) } ∷ []))
+      (record { value = Plain (Label 0) []; ty = CodeTy 0 NoRegs }
+      ∷ (record { value = Plain (Data 1) []; ty = TupleTy (MoreFields IntTy true NoFields) } ∷ []))
       ∷ ((record { value = Plain (Int (pos 6)) []; ty = IntTy } ∷ []) ∷ []);
 }
 

@@ -20,7 +20,8 @@ module _ (g : RegTypes) where
   file_fits [] h = tt
   file_fits (x ∷ xs) h = (All-head (RegFits g) x xs h, file_fits xs (All-tail (RegFits g) x xs h))
 
-  pub file_fits_all : (xs : List (ℕ × TType)) (n : ℕ) → All (RegFits g) (take n xs) → length xs ≤ n → FitsFile g (file xs)
+  pub file_fits_all : (xs : List (ℕ × TType)) (n : ℕ) → All (RegFits g) (take n xs) → length xs ≤ n →
+      FitsFile g (file xs)
   file_fits_all xs n h all = file_fits xs (subst (λ (ys : List (ℕ × TType)). All (RegFits g) ys) (take_all n xs all) h)
 
 -- an entry that fits, by the type that is known of its register

@@ -1,5 +1,6 @@
 -- Laws of fits: it is an order, it goes through each walk, and fields are found and filled through it.
-use Rattle.std.proofs.Common.{◌≡◌, ℕ, zero, suc, Bool, true, false, List, [], ◌∷◌, Some, inl, inr, refl, ap, ap₂, ◌∙◌, IsTrue}
+use Rattle.std.proofs.Common.{◌≡◌, ℕ, zero, suc, Bool, true, false, List, [], ◌∷◌, Some, inl, inr, refl, ap, ap₂, ◌∙◌}
+use Rattle.std.proofs.Common.{IsTrue}
 use Rattle.idx_core.specs.Over.{At}
 use Rattle.t_types.specs.Tree.{Ty, TFields, NoFields, MoreFields, over, over_fields, over_types}
 use Rattle.t_types.specs.Fields.{AField, field, filled, empty_fields}
@@ -11,7 +12,8 @@ fields_fit_same (MoreFields t flag fs) = (refl, (λ x. x), fields_fit_same fs)
 
 pub fields_fit_next : (a b c : TFields) → FieldsFit a b → FieldsFit b c → FieldsFit a c
 fields_fit_next NoFields NoFields c h k = k
-fields_fit_next (MoreFields t x a) (MoreFields u y b) (MoreFields v z c) h k = (h.0 ∙ k.0, (λ e. h.1 (k.1 e)), fields_fit_next a b c h.2 k.2)
+fields_fit_next (MoreFields t x a) (MoreFields u y b) (MoreFields v z c) h k =
+    (h.0 ∙ k.0, (λ e. h.1 (k.1 e)), fields_fit_next a b c h.2 k.2)
 fields_fit_next (MoreFields t x a) (MoreFields u y b) NoFields h k = k
 fields_fit_next NoFields (MoreFields u y b) c h k = absurd h
 fields_fit_next (MoreFields t x a) NoFields c h k = absurd h
@@ -30,7 +32,8 @@ both_filled NoFields (MoreFields u flag fs) i h = absurd h
 both_filled (MoreFields t own gs) NoFields i h = absurd h
 
 -- a field that the older type has is there, with its type, and a flag that is no lower
-pub field_fits : (gs fs : TFields) (i : ℕ) (t : Ty) (flag : Bool) → FieldsFit gs fs → field fs i ≡ Some (AField t flag) → (own : Bool) × (field gs i ≡ Some (AField t own)) × (IsTrue flag → IsTrue own)
+pub field_fits : (gs fs : TFields) (i : ℕ) (t : Ty) (flag : Bool) → FieldsFit gs fs →
+    field fs i ≡ Some (AField t flag) → (own : Bool) × (field gs i ≡ Some (AField t own)) × (IsTrue flag → IsTrue own)
 field_fits NoFields NoFields i t flag h e = cc
 field_fits (MoreFields u x gs) (MoreFields v y fs) zero t flag h e =
     let e1 : v ≡ t = cc in let e2 : y ≡ flag = cc in (x, ap (λ z. Some (AField z x)) (h.0 ∙ e1), (λ k. h.1 (e2 ∙ k)))
@@ -39,13 +42,15 @@ field_fits NoFields (MoreFields u y fs) i t flag h e = absurd h
 field_fits (MoreFields u x gs) NoFields i t flag h e = absurd h
 
 -- the field that is filled has its flag at 1
-pub filled_field : (fs : TFields) (i : ℕ) (t : Ty) (flag : Bool) → field fs i ≡ Some (AField t flag) → field (filled fs i) i ≡ Some (AField t true)
+pub filled_field : (fs : TFields) (i : ℕ) (t : Ty) (flag : Bool) → field fs i ≡ Some (AField t flag) →
+    field (filled fs i) i ≡ Some (AField t true)
 filled_field NoFields i t flag e = cc
 filled_field (MoreFields u x fs) zero t flag e = let e1 : u ≡ t = cc in ap (λ z. Some (AField z true)) e1
 filled_field (MoreFields u x fs) (suc i) t flag e = filled_field fs i t flag e
 
 -- walks
-pub fields_fit_over : (f : At Ty) (d : ℕ) (fs gs : TFields) → FieldsFit fs gs → FieldsFit (over_fields f d fs) (over_fields f d gs)
+pub fields_fit_over : (f : At Ty) (d : ℕ) (fs gs : TFields) → FieldsFit fs gs →
+    FieldsFit (over_fields f d fs) (over_fields f d gs)
 fields_fit_over f d NoFields NoFields h = tt
 fields_fit_over f d (MoreFields t x fs) (MoreFields u y gs) h = (ap (over f d) h.0, h.1, fields_fit_over f d fs gs h.2)
 fields_fit_over f d NoFields (MoreFields u y gs) h = h
@@ -53,18 +58,29 @@ fields_fit_over f d (MoreFields t x fs) NoFields h = h
 
 pub fits_over : (f : At Ty) (d : ℕ) (t u : Ty) → Fits t u → Fits (over f d t) (over f d u)
 fits_over f d t u (inl e) = inl (ap (over f d) e)
-fits_over f d t u (inr h) = inr (over_fields f d h.0, over_fields f d h.1, ap (over f d) h.2, ap (over f d) h.3, fields_fit_over f d h.0 h.1 h.4)
+fits_over f d t u (inr h) =
+    inr (
+      over_fields f d h.0,
+      over_fields f d h.1,
+      ap (over f d) h.2,
+      ap (over f d) h.3,
+      fields_fit_over f d h.0 h.1 h.4,
+    )
 
-pub field_over : (f : At Ty) (d : ℕ) (fs : TFields) (i : ℕ) (t : Ty) (flag : Bool) → field fs i ≡ Some (AField t flag) → field (over_fields f d fs) i ≡ Some (AField (over f d t) flag)
+pub field_over : (f : At Ty) (d : ℕ) (fs : TFields) (i : ℕ) (t : Ty) (flag : Bool) →
+    field fs i ≡ Some (AField t flag) → field (over_fields f d fs) i ≡ Some (AField (over f d t) flag)
 field_over f d NoFields i t flag e = cc
-field_over f d (MoreFields u x fs) zero t flag e = let e1 : u ≡ t = cc in let e2 : x ≡ flag = cc in ap₂ (λ y z. Some (AField (over f d y) z)) e1 e2
+field_over f d (MoreFields u x fs) zero t flag e =
+    let e1 : u ≡ t = cc in let e2 : x ≡ flag = cc in ap₂ (λ y z. Some (AField (over f d y) z)) e1 e2
 field_over f d (MoreFields u x fs) (suc i) t flag e = field_over f d fs i t flag e
 
-pub filled_over : (f : At Ty) (d : ℕ) (fs : TFields) (i : ℕ) → over_fields f d (filled fs i) ≡ filled (over_fields f d fs) i
+pub filled_over : (f : At Ty) (d : ℕ) (fs : TFields) (i : ℕ) →
+    over_fields f d (filled fs i) ≡ filled (over_fields f d fs) i
 filled_over f d NoFields i = refl
 filled_over f d (MoreFields u x fs) zero = refl
 filled_over f d (MoreFields u x fs) (suc i) = ap (MoreFields (over f d u) x) (filled_over f d fs i)
 
-pub empty_over : (f : At Ty) (d : ℕ) (ts : List Ty) → over_fields f d (empty_fields ts) ≡ empty_fields (over_types f d ts)
+pub empty_over : (f : At Ty) (d : ℕ) (ts : List Ty) →
+    over_fields f d (empty_fields ts) ≡ empty_fields (over_types f d ts)
 empty_over f d [] = refl
 empty_over f d (t ∷ ts) = ap (MoreFields (over f d t) false) (empty_over f d ts)

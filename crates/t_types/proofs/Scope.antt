@@ -1,6 +1,7 @@
 -- What is well formed under n type names has no other free index.
 use Rattle.std.specs.Prelude.{ℕ, ◌+◌}
-use Rattle.t_types.specs.Tree.{Ty, IntTy, VarTy, CodeTy, ExistsTy, TupleTy, TFile, NoRegs, MoreRegs, TFields, NoFields, MoreFields, Below, BelowFile, each_fields}
+use Rattle.t_types.specs.Tree.{Ty, IntTy, VarTy, CodeTy, ExistsTy, TupleTy, TFile, NoRegs, MoreRegs, TFields, NoFields}
+use Rattle.t_types.specs.Tree.{MoreFields, Below, BelowFile, each_fields}
 use Rattle.t_types.specs.WellFormed.{WellFormed, RegsAbove, WellFormedFields}
 use Rattle.idx_core.specs.Over.{BelowAt, AnyDepth}
 

@@ -1,5 +1,6 @@
 -- What stands at the start of written bytes: each lexeme is one item, where what follows it ends it.
-use Rattle.std.proofs.Common.{◌≡◌, ◌≤◌, ◌<◌, ◌^◌, ℕ, suc, ◌+◌, List, [], ◌∷◌, ◌++◌, length, take, drop, Bool, true, false, ◌&&◌, ◌||◌, not, ◌==◌, refl, ap, ◌∙◌, arith, pos, negsuc, neg_ℤ, decimal, Some}
+use Rattle.std.proofs.Common.{◌≡◌, ◌≤◌, ◌<◌, ◌^◌, ℕ, suc, ◌+◌, List, [], ◌∷◌, ◌++◌, length, take, drop, Bool, true}
+use Rattle.std.proofs.Common.{false, ◌&&◌, ◌||◌, not, ◌==◌, refl, ap, ◌∙◌, arith, pos, negsuc, neg_ℤ, decimal, Some}
 use Rattle.std.specs.List.{prefix_len, list_all}
 use Rattle.std.proofs.lemmas.Bool.{and_parts}
 use Rattle.std.proofs.lemmas.Bool.Decides.{nat_tests}
@@ -9,13 +10,15 @@ use Rattle.std.proofs.lemmas.Fmt.{digits_decimal, digits_value-decimal, decimal_
 use Rattle.std.proofs.Math.Seq.{take-append_seam}
 use Rattle.text_core.specs.Byte.{space, digit, letter, of_word, value, value_from}
 use Rattle.text_core.specs.Tokens.{Item, Gap, Spelling, look}
-use Rattle.text_core.specs.Lexeme.{Piece, PWord, PPlain, PNegative, POther, at_dashes, at_negative, piece, of_piece, sign_item, item}
+use Rattle.text_core.specs.Lexeme.{Piece, PWord, PPlain, PNegative, POther, at_dashes, at_negative, piece, of_piece}
+use Rattle.text_core.specs.Lexeme.{sign_item, item}
 use Rattle.t_types.specs.WellFormed.{IsRegister}
 use Rattle.t_terms.specs.declared.token.Kind.{Kind}
 use Rattle.t_terms.specs.declared.token.Kind.TheVariants as k
 use Rattle.t_terms.specs.Tokens.{assembly, Keeps, word, signs}
 use Rattle.t_writer.specs.Ints.{IntFits}
-use Rattle.t_writer.specs.Lexeme.{Lexeme, Reserved, TypeName, LabelName, DataName, Register, Number, Digit, Sign, Blank, bytes, number_kind}
+use Rattle.t_writer.specs.Lexeme.{Lexeme, Reserved, TypeName, LabelName, DataName, Register, Number, Digit, Sign}
+use Rattle.t_writer.specs.Lexeme.{Blank, bytes, number_kind}
 
 -- all bytes are digits
 abbrev AreDigits : List ℕ → Type 0
@@ -57,12 +60,14 @@ no_digit b e = grind (arith, nat_tests)
 run_digits : (ds r : List ℕ) → AreDigits ds → Stops r → prefix_len digit (ds ++ r) ≡ length ds
 run_digits [] [] h s = refl
 run_digits [] (b ∷ r) h s = rw (no_digit b s) refl
-run_digits (d ∷ ds) r h s = let p = and_parts (digit d) (list_all digit ds) h in rw p.0 (ap (λ n. 1 + n) (run_digits ds r p.1 s) ∙ omega arith)
+run_digits (d ∷ ds) r h s =
+    let p = and_parts (digit d) (list_all digit ds) h in rw p.0 (ap (λ n. 1 + n) (run_digits ds r p.1 s) ∙ omega arith)
 
 run_word : (u r : List ℕ) → list_all of_word u ≡ true → Stops r → prefix_len of_word (u ++ r) ≡ length u
 run_word [] [] h s = refl
 run_word [] (b ∷ r) h s = rw s refl
-run_word (c ∷ u) r h s = let p = and_parts (of_word c) (list_all of_word u) h in rw p.0 (ap (λ n. 1 + n) (run_word u r p.1 s) ∙ omega arith)
+run_word (c ∷ u) r h s =
+    let p = and_parts (of_word c) (list_all of_word u) h in rw p.0 (ap (λ n. 1 + n) (run_word u r p.1 s) ∙ omega arith)
 
 no_dashes : (b : ℕ) (s : List ℕ) → (b == 45) ≡ false → at_dashes (b ∷ s) ≡ false
 no_dashes b [] e = refl
@@ -95,25 +100,33 @@ digit_of_word b h = grind (arith, nat_tests)
 
 digits_of_word : (ds : List ℕ) → AreDigits ds → list_all of_word ds ≡ true
 digits_of_word [] h = refl
-digits_of_word (d ∷ ds) h = let p = and_parts (digit d) (list_all digit ds) h in rw (digit_of_word d p.0) (digits_of_word ds p.1)
+digits_of_word (d ∷ ds) h =
+    let p = and_parts (digit d) (list_all digit ds) h in rw (digit_of_word d p.0) (digits_of_word ds p.1)
 
 -- a word
-word_item : (b : ℕ) (u r : List ℕ) → letter b ≡ true → list_all of_word u ≡ true → Stops r → item assembly (b ∷ (u ++ r)) ≡ Spelling (word (b ∷ u)) (length (b ∷ u))
+word_item : (b : ℕ) (u r : List ℕ) → letter b ≡ true → list_all of_word u ≡ true → Stops r →
+    item assembly (b ∷ (u ++ r)) ≡ Spelling (word (b ∷ u)) (length (b ∷ u))
 word_item b u r l h s =
     let n : 1 + prefix_len of_word (u ++ r) ≡ length (b ∷ u) = ap (λ n. 1 + n) (run_word u r h s) ∙ omega arith in
-    let p : piece (b ∷ (u ++ r)) ≡ PWord (1 + prefix_len of_word (u ++ r)) = rw (letter_no_space b l, no_dashes b (u ++ r) (letter_no_dash b l), l) refl in
-    ap (λ (x : Piece). of_piece assembly (b ∷ (u ++ r)) x) (p ∙ ap PWord n) ∙ ap (λ v. Spelling (word v) (length (b ∷ u))) (take-append_seam (b ∷ u) r)
+    let p : piece (b ∷ (u ++ r)) ≡ PWord (1 + prefix_len of_word (u ++ r)) =
+    rw (letter_no_space b l, no_dashes b (u ++ r) (letter_no_dash b l), l) refl in
+    ap (λ (x : Piece). of_piece assembly (b ∷ (u ++ r)) x) (p ∙ ap PWord n)
+    ∙ ap (λ v. Spelling (word v) (length (b ∷ u))) (take-append_seam (b ∷ u) r)
 
 -- digits, and a tilde with digits
-plain_item : (ds r : List ℕ) → 0 < length ds → AreDigits ds → Stops r → item assembly (ds ++ r) ≡ Spelling (k.Plain (pos (value ds))) (length ds)
+plain_item : (ds r : List ℕ) → 0 < length ds → AreDigits ds → Stops r →
+    item assembly (ds ++ r) ≡ Spelling (k.Plain (pos (value ds))) (length ds)
 plain_item [] r some h s = absurd (omega arith)
 plain_item (d ∷ ds) r some h s =
     let q = and_parts (digit d) (list_all digit ds) h in
     let n : 1 + prefix_len digit (ds ++ r) ≡ length (d ∷ ds) = ap (λ n. 1 + n) (run_digits ds r q.1 s) ∙ omega arith in
-    let p : piece (d ∷ (ds ++ r)) ≡ PPlain (1 + prefix_len digit (ds ++ r)) = rw (digit_no_space d q.0, no_dashes d (ds ++ r) (digit_no_dash d q.0), digit_no_letter d q.0, q.0) refl in
-    ap (λ (x : Piece). of_piece assembly (d ∷ (ds ++ r)) x) (p ∙ ap PPlain n) ∙ ap (λ u. Spelling (k.Plain (pos (value u))) (length (d ∷ ds))) (take-append_seam (d ∷ ds) r)
+    let p : piece (d ∷ (ds ++ r)) ≡ PPlain (1 + prefix_len digit (ds ++ r)) =
+    rw (digit_no_space d q.0, no_dashes d (ds ++ r) (digit_no_dash d q.0), digit_no_letter d q.0, q.0) refl in
+    ap (λ (x : Piece). of_piece assembly (d ∷ (ds ++ r)) x) (p ∙ ap PPlain n)
+    ∙ ap (λ u. Spelling (k.Plain (pos (value u))) (length (d ∷ ds))) (take-append_seam (d ∷ ds) r)
 
-negative_item : (ds r : List ℕ) → 0 < length ds → AreDigits ds → Stops r → item assembly (126 ∷ (ds ++ r)) ≡ Spelling (k.Negative (neg_ℤ (pos (value ds)))) (1 + length ds)
+negative_item : (ds r : List ℕ) → 0 < length ds → AreDigits ds → Stops r →
+    item assembly (126 ∷ (ds ++ r)) ≡ Spelling (k.Negative (neg_ℤ (pos (value ds)))) (1 + length ds)
 negative_item [] r some h s = absurd (omega arith)
 negative_item (d ∷ ds) r some h s =
     let q = and_parts (digit d) (list_all digit ds) h in
@@ -144,12 +157,14 @@ sign_is : (b : ℕ) (s : List ℕ) (x : Kind) → look signs b ≡ Some x → si
 sign_is b [] x e = rw e refl
 sign_is b (c ∷ s) x e = rw e refl
 
-sign_read : (b : ℕ) (s : List ℕ) (x : Kind) → plain_sign b ≡ true → look signs b ≡ Some x → item assembly (b ∷ s) ≡ Spelling x 1
+sign_read : (b : ℕ) (s : List ℕ) (x : Kind) → plain_sign b ≡ true → look signs b ≡ Some x →
+    item assembly (b ∷ s) ≡ Spelling x 1
 sign_read b s x p e = ap (λ (y : Piece). of_piece assembly (b ∷ s) y) (other_piece b s p) ∙ sign_is b s x e
 
 -- the word of a name, and of a register
 register_word : (n : ℕ) → n < 2 ^ 64 → word (114 ∷ decimal n) ≡ k.Register n
-register_word n h = of_digits (decimal n) (decimal_nonempty n h) (are_digits n h) ∙ ap (λ m. k.Register m) (value_is n h)
+register_word n h =
+    of_digits (decimal n) (decimal_nonempty n h) (are_digits n h) ∙ ap (λ m. k.Register m) (value_is n h)
   where
     of_digits : (ds : List ℕ) → 0 < length ds → AreDigits ds → word (114 ∷ ds) ≡ k.Register (value ds)
     of_digits [] some e = absurd (omega arith)
@@ -215,19 +230,25 @@ digit_value n h = omega arith
 
 pub lexeme_item : (l : Lexeme) (r : List ℕ) → Valid l → Ended l r → item assembly (bytes l ++ r) ≡ item_of l
 lexeme_item (Reserved u kind) r v s = reserved_item u r v.0 s ∙ ap (λ x. Spelling x (length u)) v.1
-lexeme_item (TypeName n) r v s = word_item 84 (decimal n) r refl (digits_of_word (decimal n) (are_digits n v)) s ∙ ap (λ x. Spelling x (length (84 ∷ decimal n))) (type_word (decimal n))
-lexeme_item (LabelName n) r v s = word_item 76 (decimal n) r refl (digits_of_word (decimal n) (are_digits n v)) s ∙ ap (λ x. Spelling x (length (76 ∷ decimal n))) (label_word (decimal n))
-lexeme_item (DataName n) r v s = word_item 68 (decimal n) r refl (digits_of_word (decimal n) (are_digits n v)) s ∙ ap (λ x. Spelling x (length (68 ∷ decimal n))) (data_word (decimal n))
+lexeme_item (TypeName n) r v s = word_item 84 (decimal n) r refl (digits_of_word (decimal n) (are_digits n v)) s
+    ∙ ap (λ x. Spelling x (length (84 ∷ decimal n))) (type_word (decimal n))
+lexeme_item (LabelName n) r v s = word_item 76 (decimal n) r refl (digits_of_word (decimal n) (are_digits n v)) s
+    ∙ ap (λ x. Spelling x (length (76 ∷ decimal n))) (label_word (decimal n))
+lexeme_item (DataName n) r v s = word_item 68 (decimal n) r refl (digits_of_word (decimal n) (are_digits n v)) s
+    ∙ ap (λ x. Spelling x (length (68 ∷ decimal n))) (data_word (decimal n))
 lexeme_item (Register n) r v s =
     let h : n < 2 ^ 64 = omega (arith, v.1) in
-    word_item 114 (decimal n) r refl (digits_of_word (decimal n) (are_digits n h)) s ∙ ap (λ x. Spelling x (length (114 ∷ decimal n))) (register_word n h)
+    word_item 114 (decimal n) r refl (digits_of_word (decimal n) (are_digits n h)) s
+    ∙ ap (λ x. Spelling x (length (114 ∷ decimal n))) (register_word n h)
 lexeme_item (Number (pos n)) r v s =
     let h : n < 2 ^ 64 = omega (arith, ints, v.1) in
-    plain_item (decimal n) r (decimal_nonempty n h) (are_digits n h) s ∙ ap (λ m. Spelling (k.Plain (pos m)) (length (decimal n))) (value_is n h)
+    plain_item (decimal n) r (decimal_nonempty n h) (are_digits n h) s
+    ∙ ap (λ m. Spelling (k.Plain (pos m)) (length (decimal n))) (value_is n h)
 lexeme_item (Number (negsuc n)) r v s =
     let h : suc n < 2 ^ 64 = omega (arith, ints, v.0) in
     let long : 1 + length (decimal (suc n)) ≡ length (126 ∷ decimal (suc n)) = omega arith in
-    negative_item (decimal (suc n)) r (decimal_nonempty (suc n) h) (are_digits (suc n) h) s ∙ ap (λ m. Spelling (k.Negative (neg_ℤ (pos m))) (1 + length (decimal (suc n)))) (value_is (suc n) h)
+    negative_item (decimal (suc n)) r (decimal_nonempty (suc n) h) (are_digits (suc n) h) s
+    ∙ ap (λ m. Spelling (k.Negative (neg_ℤ (pos m))) (1 + length (decimal (suc n)))) (value_is (suc n) h)
     ∙ ap (λ m. Spelling (k.Negative (negsuc n)) m) long
 lexeme_item (Digit n) r v s =
     let d : digit (48 + n) ≡ true = is_digit (48 + n) (omega arith) (omega arith) in

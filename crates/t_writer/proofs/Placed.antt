@@ -1,5 +1,6 @@
 -- The tokens of written bytes, with their places, and that the bytes are cut into them.
-use Rattle.std.proofs.Common.{◌≡◌, ℕ, ◌+◌, ◌-◌, List, [], ◌∷◌, ◌++◌, length, drop, Bool, true, false, refl, sym, ap, ◌∙◌, arith, subst, append_assoc, length-append}
+use Rattle.std.proofs.Common.{◌≡◌, ℕ, ◌+◌, ◌-◌, List, [], ◌∷◌, ◌++◌, length, drop, Bool, true, false, refl, sym, ap}
+use Rattle.std.proofs.Common.{◌∙◌, arith, subst, append_assoc, length-append}
 use Rattle.std.specs.Prelude.{slice_range}
 use Rattle.std.proofs.lemmas.List.{drop-drop}
 use Rattle.std.proofs.lemmas.Bool.Decides.{nat_tests}
@@ -14,7 +15,8 @@ use Rattle.t_terms.specs.declared.token.Token.{Token}
 use Rattle.t_terms.specs.Tokens.{assembly}
 use Rattle.t_terms.specs.Grammar.{tok}
 use Rattle.t_terms.proofs.TokenLaws.{assembly_signs}
-use Rattle.t_writer.specs.Lexeme.{Lexeme, Reserved, TypeName, LabelName, DataName, Register, Number, Digit, Sign, Blank, bytes, render}
+use Rattle.t_writer.specs.Lexeme.{Lexeme, Reserved, TypeName, LabelName, DataName, Register, Number, Digit, Sign}
+use Rattle.t_writer.specs.Lexeme.{Blank, bytes, render}
 use Rattle.t_writer.proofs.Items.{Stops, Valid, plain_sign, kind_of, lexeme_item, lexeme_keeps}
 
 -- the length of what is written
@@ -109,38 +111,61 @@ next_gap [] n e = absurd (cc)
 next_gap (b ∷ s) n e = subst (Next assembly (b ∷ s)) e (some_next assembly assembly_signs b s)
 
 -- the bytes are cut into the tokens
-module _ (i : ℕ) (l : Lexeme) (ls : List Lexeme) (v : Valid l) (w : List Token) (c : Cut assembly (i + length (bytes l)) (render ls) w) where
-  cut_token : item assembly (bytes l ++ render ls) ≡ Spelling (kind_of l) (length (bytes l)) → Cut assembly i (bytes l ++ render ls) (tok (kind_of l) (place_of i l) ∷ w)
-  cut_token e = c_token (next_spelling (bytes l ++ render ls) (kind_of l) (length (bytes l)) e) (lexeme_keeps l v) (rw (drop-append_seam (bytes l) (render ls)) c)
+module _ (i : ℕ) (l : Lexeme) (ls : List Lexeme) (v : Valid l) (w : List Token)
+    (c : Cut assembly (i + length (bytes l)) (render ls) w) where
+  cut_token : item assembly (bytes l ++ render ls) ≡ Spelling (kind_of l) (length (bytes l)) →
+      Cut assembly i (bytes l ++ render ls) (tok (kind_of l) (place_of i l) ∷ w)
+  cut_token e =
+      c_token (next_spelling (bytes l ++ render ls) (kind_of l) (length (bytes l)) e) (lexeme_keeps l v)
+      (rw (drop-append_seam (bytes l) (render ls)) c)
 
 pub cut_placed : (i : ℕ) (ls : List Lexeme) → Fine ls true → Cut assembly i (render ls) (placed i ls)
 cut_placed i [] h = c_end
-cut_placed i (Blank b ∷ ls) h = c_gap (next_gap (b ∷ render ls) 1 (lexeme_item (Blank b) (render ls) h.0 tt)) (cut_placed (i + 1) ls h.2)
-cut_placed i (Reserved u kind ∷ ls) h = cut_token i (Reserved u kind) ls h.0 _ (cut_placed (i + length u) ls h.2) (lexeme_item (Reserved u kind) (render ls) h.0 (stops_bytes ls h.1 h.2))
-cut_placed i (TypeName n ∷ ls) h = cut_token i (TypeName n) ls h.0 _ (cut_placed _ ls h.2) (lexeme_item (TypeName n) (render ls) h.0 (stops_bytes ls h.1 h.2))
-cut_placed i (LabelName n ∷ ls) h = cut_token i (LabelName n) ls h.0 _ (cut_placed _ ls h.2) (lexeme_item (LabelName n) (render ls) h.0 (stops_bytes ls h.1 h.2))
-cut_placed i (DataName n ∷ ls) h = cut_token i (DataName n) ls h.0 _ (cut_placed _ ls h.2) (lexeme_item (DataName n) (render ls) h.0 (stops_bytes ls h.1 h.2))
-cut_placed i (Register r ∷ ls) h = cut_token i (Register r) ls h.0 _ (cut_placed _ ls h.2) (lexeme_item (Register r) (render ls) h.0 (stops_bytes ls h.1 h.2))
-cut_placed i (Number z ∷ ls) h = cut_token i (Number z) ls h.0 _ (cut_placed _ ls h.2) (lexeme_item (Number z) (render ls) h.0 (stops_bytes ls h.1 h.2))
-cut_placed i (Digit n ∷ ls) h = cut_token i (Digit n) ls h.0 _ (cut_placed _ ls h.2) (lexeme_item (Digit n) (render ls) h.0 (stops_bytes ls h.1 h.2))
-cut_placed i (Sign c kind ∷ ls) h = cut_token i (Sign c kind) ls h.0 _ (cut_placed _ ls h.2) (lexeme_item (Sign c kind) (render ls) h.0 tt)
+cut_placed i (Blank b ∷ ls) h =
+    c_gap (next_gap (b ∷ render ls) 1 (lexeme_item (Blank b) (render ls) h.0 tt)) (cut_placed (i + 1) ls h.2)
+cut_placed i (Reserved u kind ∷ ls) h =
+    cut_token i (Reserved u kind) ls h.0 _ (cut_placed (i + length u) ls h.2)
+    (lexeme_item (Reserved u kind) (render ls) h.0 (stops_bytes ls h.1 h.2))
+cut_placed i (TypeName n ∷ ls) h =
+    cut_token i (TypeName n) ls h.0 _ (cut_placed _ ls h.2)
+    (lexeme_item (TypeName n) (render ls) h.0 (stops_bytes ls h.1 h.2))
+cut_placed i (LabelName n ∷ ls) h =
+    cut_token i (LabelName n) ls h.0 _ (cut_placed _ ls h.2)
+    (lexeme_item (LabelName n) (render ls) h.0 (stops_bytes ls h.1 h.2))
+cut_placed i (DataName n ∷ ls) h =
+    cut_token i (DataName n) ls h.0 _ (cut_placed _ ls h.2)
+    (lexeme_item (DataName n) (render ls) h.0 (stops_bytes ls h.1 h.2))
+cut_placed i (Register r ∷ ls) h =
+    cut_token i (Register r) ls h.0 _ (cut_placed _ ls h.2)
+    (lexeme_item (Register r) (render ls) h.0 (stops_bytes ls h.1 h.2))
+cut_placed i (Number z ∷ ls) h =
+    cut_token i (Number z) ls h.0 _ (cut_placed _ ls h.2)
+    (lexeme_item (Number z) (render ls) h.0 (stops_bytes ls h.1 h.2))
+cut_placed i (Digit n ∷ ls) h =
+    cut_token i (Digit n) ls h.0 _ (cut_placed _ ls h.2)
+    (lexeme_item (Digit n) (render ls) h.0 (stops_bytes ls h.1 h.2))
+cut_placed i (Sign c kind ∷ ls) h =
+    cut_token i (Sign c kind) ls h.0 _ (cut_placed _ ls h.2) (lexeme_item (Sign c kind) (render ls) h.0 tt)
 
 -- each lexeme stands in the text, from the place i on
 abbrev pub Written : List ℕ → ℕ → List Lexeme → Type 0
 Written text i [] = Unit {0}
 Written text i (l ∷ ls) = (slice_range text i (i + length (bytes l)) ≡ bytes l) × Written text (i + length (bytes l)) ls
 
-pub written_append : (text : List ℕ) (i : ℕ) (a b : List Lexeme) → Written text i (a ++ b) → Written text i a × Written text (i + size a) b
+pub written_append : (text : List ℕ) (i : ℕ) (a b : List Lexeme) → Written text i (a ++ b) →
+    Written text i a × Written text (i + size a) b
 written_append text i [] b h = let e : i + 0 ≡ i = omega arith in (tt, rw e h)
 written_append text i (l ∷ a) b h =
     let p = written_append text (i + length (bytes l)) a b h.1 in
     ((h.0, p.0), subst (λ n. Written text n b) (size_append i l a) p.1)
 
 -- what stands in the text at a place is written there
-pub written_at : (text : List ℕ) (i : ℕ) (ls : List Lexeme) (r : List ℕ) → drop i text ≡ render ls ++ r → Written text i ls
+pub written_at : (text : List ℕ) (i : ℕ) (ls : List Lexeme) (r : List ℕ) → drop i text ≡ render ls ++ r →
+    Written text i ls
 written_at text i [] r e = tt
 written_at text i (l ∷ ls) r e =
     let q : drop i text ≡ bytes l ++ (render ls ++ r) = e ∙ append_assoc (bytes l) (render ls) r in
     let m : i + length (bytes l) - i ≡ length (bytes l) = omega arith in
-    let d : drop (i + length (bytes l)) text ≡ render ls ++ r = sym (drop-drop (length (bytes l)) i text) ∙ (ap (λ (s : List ℕ). drop (length (bytes l)) s) q ∙ drop-append_seam (bytes l) (render ls ++ r)) in
+    let d : drop (i + length (bytes l)) text ≡ render ls ++ r = sym (drop-drop (length (bytes l)) i text)
+    ∙ (ap (λ (s : List ℕ). drop (length (bytes l)) s) q ∙ drop-append_seam (bytes l) (render ls ++ r)) in
     (rw (m, q) (take-append_seam (bytes l) (render ls ++ r)), written_at text (i + length (bytes l)) ls r d)

@@ -1,5 +1,6 @@
 -- The names that are written: each stands for the number that it is written for.
-use Rattle.std.proofs.Common.{◌≡◌, ◌≢◌, ◌≤◌, ◌<◌, ◌^◌, ℕ, zero, suc, ◌+◌, ◌-◌, List, [], ◌∷◌, ◌++◌, Bool, true, false, refl, sym, ap, ◌∙◌, arith, subst, decimal, add-one, Some, if◌then◌else◌}
+use Rattle.std.proofs.Common.{◌≡◌, ◌≢◌, ◌≤◌, ◌<◌, ◌^◌, ℕ, zero, suc, ◌+◌, ◌-◌, List, [], ◌∷◌, ◌++◌, Bool, true, false}
+use Rattle.std.proofs.Common.{refl, sym, ap, ◌∙◌, arith, subst, decimal, add-one, Some, if◌then◌else◌}
 use Rattle.std.specs.Str.{bytes_eq}
 use Rattle.std.proofs.lemmas.Slice.Eq.{bytes_eq-Decides}
 use Rattle.std.proofs.lemmas.Fmt.{decimal_injective}
@@ -58,7 +59,8 @@ same_number b m n h k e =
 
 other_number : (b m n : ℕ) → bytes_eq (b ∷ decimal m) (b ∷ decimal n) ≡ false → m ≢ n
 other_number b m n e q =
-    let r : bytes_eq (b ∷ decimal m) (b ∷ decimal n) ≡ true = subst (λ i. bytes_eq (b ∷ decimal m) (b ∷ decimal i) ≡ true) q (eq_self (b ∷ decimal m)) in
+    let r : bytes_eq (b ∷ decimal m) (b ∷ decimal n) ≡ true =
+    subst (λ i. bytes_eq (b ∷ decimal m) (b ∷ decimal i) ≡ true) q (eq_self (b ∷ decimal m)) in
     let f : true ≡ false = sym r ∙ e in cc
 
 -- a name is found at its place
@@ -76,7 +78,9 @@ pub in_scope : (d j : ℕ) → j < d → d < 2 ^ 64 → Found (type_name j) (sco
 in_scope zero j lt h = absurd (omega arith)
 in_scope (suc d) j lt h = by_test (bytes_eq (type_name j) (type_name d)) refl (in_scope d j)
   where
-    by_test : (x : Bool) → bytes_eq (type_name j) (type_name d) ≡ x → (j < d → d < 2 ^ 64 → Found (type_name j) (scope d) (d - 1 - j)) → Found (type_name j) (scope (suc d)) (suc d - 1 - j)
+    by_test : (x : Bool) → bytes_eq (type_name j) (type_name d) ≡ x →
+        (j < d → d < 2 ^ 64 → Found (type_name j) (scope d) (d - 1 - j)) →
+        Found (type_name j) (scope (suc d)) (suc d - 1 - j)
     by_test true e ih =
         let q : j ≡ d = same_number 84 j d (omega arith) (omega arith) e in
         let z : 0 ≡ suc d - 1 - j = omega arith in
@@ -85,15 +89,20 @@ in_scope (suc d) j lt h = by_test (bytes_eq (type_name j) (type_name d)) refl (i
         let q : j ≢ d = other_number 84 j d e in
         let less : j < d = omega (arith, q) in
         let z : 1 + (d - 1 - j) ≡ suc d - 1 - j = omega (arith, less) in
-        subst (λ i. Found (type_name j) (scope (suc d)) i) z (found_next (type_name j) (type_name d) (scope d) (d - 1 - j) e (ih less (omega arith)))
+        subst (λ i. Found (type_name j) (scope (suc d)) i) z
+        (found_next (type_name j) (type_name d) (scope d) (d - 1 - j) e (ih less (omega arith)))
 
-pub in_labels : (l n m : ℕ) → l ≤ m → m < l + n → l + n ≤ 2 ^ 64 → named_by (label_name m) (labels_from l n) ≡ Some (Label m)
+pub in_labels : (l n m : ℕ) → l ≤ m → m < l + n → l + n ≤ 2 ^ 64 →
+    named_by (label_name m) (labels_from l n) ≡ Some (Label m)
 in_labels l zero m low high h = absurd (omega arith)
 in_labels l (suc n) m low high h = by_test (bytes_eq (label_name m) (label_name l)) refl (in_labels (suc l) n m)
   where
-    by_test : (x : Bool) → bytes_eq (label_name m) (label_name l) ≡ x → (suc l ≤ m → m < suc l + n → suc l + n ≤ 2 ^ 64 → named_by (label_name m) (labels_from (suc l) n) ≡ Some (Label m)) →
+    by_test : (x : Bool) → bytes_eq (label_name m) (label_name l) ≡ x →
+        (suc l ≤ m → m < suc l + n → suc l + n ≤ 2 ^ 64 → named_by (label_name m) (labels_from (suc l) n)
+        ≡ Some (Label m)) →
         (if x then Some (Label l) else named_by (label_name m) (labels_from (suc l) n)) ≡ Some (Label m)
-    by_test true e ih = let q : m ≡ l = same_number 76 m l (omega arith) (omega arith) e in ap (λ (i : ℕ). Some (Label i)) (sym q)
+    by_test true e ih =
+        let q : m ≡ l = same_number 76 m l (omega arith) (omega arith) e in ap (λ (i : ℕ). Some (Label i)) (sym q)
     by_test false e ih =
         let q : m ≢ l = other_number 76 m l e in
         let more : suc l ≤ m = omega (arith, q) in
@@ -104,13 +113,17 @@ pub past_data : (d n m : ℕ) (ls : Labels) → named_by (label_name m) (data_fr
 past_data d zero m ls = refl
 past_data d (suc n) m ls = past_data (suc d) n m ls
 
-pub in_data : (d n m : ℕ) (ls : Labels) → d ≤ m → m < d + n → d + n ≤ 2 ^ 64 → named_by (data_name m) (data_from d n ++ ls) ≡ Some (Data m)
+pub in_data : (d n m : ℕ) (ls : Labels) → d ≤ m → m < d + n → d + n ≤ 2 ^ 64 →
+    named_by (data_name m) (data_from d n ++ ls) ≡ Some (Data m)
 in_data d zero m ls low high h = absurd (omega arith)
 in_data d (suc n) m ls low high h = by_test (bytes_eq (data_name m) (data_name d)) refl (in_data (suc d) n m ls)
   where
-    by_test : (x : Bool) → bytes_eq (data_name m) (data_name d) ≡ x → (suc d ≤ m → m < suc d + n → suc d + n ≤ 2 ^ 64 → named_by (data_name m) (data_from (suc d) n ++ ls) ≡ Some (Data m)) →
+    by_test : (x : Bool) → bytes_eq (data_name m) (data_name d) ≡ x →
+        (suc d ≤ m → m < suc d + n → suc d + n ≤ 2 ^ 64 → named_by (data_name m) (data_from (suc d) n ++ ls)
+        ≡ Some (Data m)) →
         (if x then Some (Data d) else named_by (data_name m) (data_from (suc d) n ++ ls)) ≡ Some (Data m)
-    by_test true e ih = let q : m ≡ d = same_number 68 m d (omega arith) (omega arith) e in ap (λ (i : ℕ). Some (Data i)) (sym q)
+    by_test true e ih =
+        let q : m ≡ d = same_number 68 m d (omega arith) (omega arith) e in ap (λ (i : ℕ). Some (Data i)) (sym q)
     by_test false e ih =
         let q : m ≢ d = other_number 68 m d e in
         let more : suc d ≤ m = omega (arith, q) in
@@ -119,9 +132,11 @@ in_data d (suc n) m ls low high h = by_test (bytes_eq (data_name m) (data_name d
 -- no label is that of a data tuple or a block before
 pub not_data_before : (d m : ℕ) → m ≤ d → d < 2 ^ 64 → is_among (data_name d) (data_before m) ≡ false
 not_data_before d zero le h = refl
-not_data_before d (suc m) le h = by_test (bytes_eq (data_name d) (data_name m)) refl (not_data_before d m (omega arith) h)
+not_data_before d (suc m) le h =
+    by_test (bytes_eq (data_name d) (data_name m)) refl (not_data_before d m (omega arith) h)
   where
-    by_test : (x : Bool) → bytes_eq (data_name d) (data_name m) ≡ x → is_among (data_name d) (data_before m) ≡ false → is_among (data_name d) (data_before (suc m)) ≡ false
+    by_test : (x : Bool) → bytes_eq (data_name d) (data_name m) ≡ x → is_among (data_name d) (data_before m) ≡ false →
+        is_among (data_name d) (data_before (suc m)) ≡ false
     by_test true e ih = let q : d ≡ m = same_number 68 d m h (omega arith) e in absurd (omega arith)
     by_test false e ih = rw e ih
 
@@ -133,6 +148,7 @@ pub not_before : (q l m : ℕ) → m ≤ l → l < 2 ^ 64 → is_among (label_na
 not_before q l zero le h = no_data l q
 not_before q l (suc m) le h = by_test (bytes_eq (label_name l) (label_name m)) refl (not_before q l m (omega arith) h)
   where
-    by_test : (x : Bool) → bytes_eq (label_name l) (label_name m) ≡ x → is_among (label_name l) (before q m) ≡ false → is_among (label_name l) (before q (suc m)) ≡ false
+    by_test : (x : Bool) → bytes_eq (label_name l) (label_name m) ≡ x → is_among (label_name l) (before q m) ≡ false →
+        is_among (label_name l) (before q (suc m)) ≡ false
     by_test true e ih = let same : l ≡ m = same_number 76 l m h (omega arith) e in absurd (omega arith)
     by_test false e ih = rw e ih

@@ -1,5 +1,6 @@
 -- Blocks that are written stand for themselves.
-use Rattle.std.proofs.Common.{◌≡◌, ◌≤◌, ◌<◌, ◌^◌, ℕ, suc, ◌+◌, List, [], ◌∷◌, ◌++◌, length, map, codes, Bool, true, refl, sym, ap, ap₂, ◌∙◌, arith, append_assoc, zero-add}
+use Rattle.std.proofs.Common.{◌≡◌, ◌≤◌, ◌<◌, ◌^◌, ℕ, suc, ◌+◌, List, [], ◌∷◌, ◌++◌, length, map, codes, Bool, true}
+use Rattle.std.proofs.Common.{refl, sym, ap, ap₂, ◌∙◌, arith, append_assoc, zero-add}
 use Rattle.std.proofs.lemmas.List.{append-nil}
 use Rattle.idx_core.specs.declared.span.Span.{Span}
 use Rattle.idx_core.specs.Names.{Name}
@@ -16,7 +17,8 @@ use Rattle.t_terms.specs.NameFaults.{body_faults, end_faults, block_faults, item
 use Rattle.t_terms.specs.Whole.{WellFormedSeq, WellFormedBlock, WellFormedBlocks}
 use Rattle.t_writer.specs.Ints.{SeqFits, BlocksFit}
 use Rattle.t_writer.specs.Lexeme.{Reserved, LabelName, Sign, bytes}
-use Rattle.t_writer.specs.Written.{line_end, binds_written, file_written, instr_written, end_written, seq_written, block_written, blocks_written}
+use Rattle.t_writer.specs.Written.{line_end, binds_written, file_written, instr_written, end_written, seq_written}
+use Rattle.t_writer.specs.Written.{block_written, blocks_written}
 use Rattle.t_writer.proofs.Placed as placing
 use Rattle.t_writer.proofs.Placed.{size, placed, placed_append, stops, Fine, fine_append, Written, written_append}
 use Rattle.t_writer.proofs.Scopes.{label_name, labels_from, before, not_before, scope}
@@ -24,11 +26,13 @@ use Rattle.t_writer.proofs.WroteTypes.{wrote_binds, wrote_file}
 use Rattle.t_writer.proofs.WroteCode.{labels, wrote_instr, wrote_end}
 
 -- one item more, and then others
-pub items_along : (u x y : List Token) (rs more : List RawItem) (r : RawItem) → Items ((u ++ x) ++ y) ((rs ++ r ∷ []) ++ more) → Items (u ++ (x ++ y)) (rs ++ r ∷ more)
+pub items_along : (u x y : List Token) (rs more : List RawItem) (r : RawItem) →
+    Items ((u ++ x) ++ y) ((rs ++ r ∷ []) ++ more) → Items (u ++ (x ++ y)) (rs ++ r ∷ more)
 items_along u x y rs more r h = simp append_assoc at h
 
 -- one block more, and then others
-blocks_along : (u x y : List Token) (rs more : List RawBlock) (r : RawBlock) → Blocks ((u ++ x) ++ y) ((rs ++ r ∷ []) ++ more) → Blocks (u ++ (x ++ y)) (rs ++ r ∷ more)
+blocks_along : (u x y : List Token) (rs more : List RawBlock) (r : RawBlock) →
+    Blocks ((u ++ x) ++ y) ((rs ++ r ∷ []) ++ more) → Blocks (u ++ (x ++ y)) (rs ++ r ∷ more)
 blocks_along u x y rs more r h = simp append_assoc at h
 
 module _ (text : List ℕ) (p q : ℕ) (few : p ≤ 2 ^ 64) (small : q ≤ 2 ^ 64) where
@@ -45,11 +49,13 @@ module _ (text : List ℕ) (p q : ℕ) (few : p ≤ 2 ^ 64) (small : q ≤ 2 ^ 6
     extend : (u : List Token) (is : List (RawInstr × Span)) → Is u is → Is (u ++ code) (is ++ body)
     ends : End tail last
     fine : (b : Bool) → Fine (seq_written d c) b
-    means : seq_of (body_of text names (scope d) body) (end_of text names (names_after_all text body (scope d)) last.0) ≡ c
+    means : seq_of (body_of text names (scope d) body) (end_of text names (names_after_all text body (scope d)) last.0)
+        ≡ c
     none : body_faults text names (scope d) body ≡ []
     none_last : end_faults text names (names_after_all text body (scope d)) last.0 ≡ []
 
-  wrote_seq : (i d : ℕ) (c : TSeq) → d ≤ max_names → WellFormedSeq p q d c → SeqFits c → Written text i (seq_written d c) → WroteSeq i d c
+  wrote_seq : (i d : ℕ) (c : TSeq) → d ≤ max_names → WellFormedSeq p q d c → SeqFits c →
+      Written text i (seq_written d c) → WroteSeq i d c
   wrote_seq i d (Ends e) n h f w =
       let r = wrote_end text p q few small i d e n h f (written_append text i (end_written d e) (line_end ∷ []) w).0 in
       record {
@@ -77,8 +83,11 @@ module _ (text : List ℕ) (p q : ℕ) (few : p ≤ 2 ^ 64) (small : q ≤ 2 ^ 6
         last = r.last;
         code = placed i (instr_written d x) ++ r.code;
         tail = r.tail;
-        at = placed_append i (instr_written d x) rest ∙ (ap (λ (ts : List Token). placed i (instr_written d x) ++ ts) r.at ∙ sym (append_assoc (placed i (instr_written d x)) r.code r.tail));
-        extend = λ u is y. simp append_assoc at (r.extend (u ++ placed i (instr_written d x)) (is ++ a.raw ∷ []) (is_more y a.whole));
+        at = placed_append i (instr_written d x) rest
+            ∙ (ap (λ (ts : List Token). placed i (instr_written d x) ++ ts) r.at
+            ∙ sym (append_assoc (placed i (instr_written d x)) r.code r.tail));
+        extend = λ u is y.
+            simp append_assoc at (r.extend (u ++ placed i (instr_written d x)) (is ++ a.raw ∷ []) (is_more y a.whole));
         ends = r.ends;
         fine = λ b. fine_append (instr_written d x) rest b a.fine (refl, tt, r.fine b);
         means = rw (a.means, a.after) (ap (Then x) r.means);
@@ -94,7 +103,8 @@ module _ (text : List ℕ) (p q : ℕ) (few : p ≤ 2 ^ 64) (small : q ≤ 2 ^ 6
     pub none : block_faults text names raw ≡ []
     pub name : spelled text raw.name ≡ label_name l
 
-  pub wrote_block : (l i : ℕ) (b : TBlock) → l < 2 ^ 64 → WellFormedBlock p q b → SeqFits b.code → Written text i (block_written l b) → WroteBlock l i b
+  pub wrote_block : (l i : ℕ) (b : TBlock) → l < 2 ^ 64 → WellFormedBlock p q b → SeqFits b.code →
+      Written text i (block_written l b) → WroteBlock l i b
   wrote_block l i b low h f w =
       let bs = binds_written 0 b.owes in
       let fs = file_written b.owes b.file in
@@ -113,7 +123,9 @@ module _ (text : List ℕ) (p q : ℕ) (few : p ≤ 2 ^ 64) (small : q ≤ 2 ^ 6
       record {
         raw = record { name = s; names = a.spans; file = file.piece.tree; body = c.body; last = c.last };
         whole = rw (placed_append j bs (fs ++ dot), placed_append m fs dot, c.at)
-            (b_block s (placing.place_of (i + length (bytes (LabelName l))) (Sign 58 k.Colon)) (placing.place_of (i + length (bytes (LabelName l)) + 1 + 1) (Reserved (codes "code") k.Code)) (placing.place_of n (Sign 46 k.Dot))
+            (b_block s (placing.place_of (i + length (bytes (LabelName l))) (Sign 58 k.Colon))
+            (placing.place_of (i + length (bytes (LabelName l)) + 1 + 1) (Reserved (codes "code") k.Code))
+            (placing.place_of n (Sign 46 k.Dot))
             a.whole file.whole (c.extend [] [] is_none) c.ends);
         fine = λ x. (
           low,
@@ -127,7 +139,8 @@ module _ (text : List ℕ) (p q : ℕ) (few : p ≤ 2 ^ 64) (small : q ≤ 2 ^ 6
               (
                 (refl, refl, tt),
                 refl,
-                fine_append bs (fs ++ dot) x (a.fine true) (fine_append fs dot x (file.fine true) ((refl, refl, tt), tt, (refl, tt, c.fine x))),
+                fine_append bs (fs ++ dot) x (a.fine true)
+                    (fine_append fs dot x (file.fine true) ((refl, refl, tt), tt, (refl, tt, c.fine x))),
               ),
             ),
           ),
@@ -140,15 +153,18 @@ module _ (text : List ℕ) (p q : ℕ) (few : p ≤ 2 ^ 64) (small : q ≤ 2 ^ 6
   -- blocks in turn
   pub record MoreBlocks (l i : ℕ) (bs : List TBlock) : Type 0 where
     pub raw : List RawBlock
-    pub extend : (u : List Token) (rs : List RawBlock) → Blocks u rs → Blocks (u ++ placed i (blocks_written l bs)) (rs ++ raw)
-    pub items : (u : List Token) (rs : List RawItem) → Items u rs → Items (u ++ placed i (blocks_written l bs)) (rs ++ block_items raw)
+    pub extend : (u : List Token) (rs : List RawBlock) → Blocks u rs →
+        Blocks (u ++ placed i (blocks_written l bs)) (rs ++ raw)
+    pub items : (u : List Token) (rs : List RawItem) → Items u rs →
+        Items (u ++ placed i (blocks_written l bs)) (rs ++ block_items raw)
     pub fine : (x : Bool) → Fine (blocks_written l bs) x
     pub means : plain_blocks (map (block_of text names) raw) ≡ bs
     pub count : length raw ≡ length bs
     pub spell : (d : ℕ) → item_labels text l d (block_items raw) ≡ labels_from l (length bs)
     pub none : items_faults text names (before q l) (block_items raw) ≡ []
 
-  pub more_blocks : (l i : ℕ) (bs : List TBlock) → l + length bs ≤ 2 ^ 64 → WellFormedBlocks p q bs → BlocksFit bs → Written text i (blocks_written l bs) → MoreBlocks l i bs
+  pub more_blocks : (l i : ℕ) (bs : List TBlock) → l + length bs ≤ 2 ^ 64 → WellFormedBlocks p q bs → BlocksFit bs →
+      Written text i (blocks_written l bs) → MoreBlocks l i bs
   more_blocks l i [] low h f w = record {
     raw = [];
     extend = λ u rs x. rw (append-nil, append-nil) x;
@@ -167,10 +183,13 @@ module _ (text : List ℕ) (p q : ℕ) (few : p ≤ 2 ^ 64) (small : q ≤ 2 ^ 6
       let rest = placed (i + size (block_written l b)) (blocks_written (suc l) bs) in
       record {
         raw = a.raw ∷ r.raw;
-        extend = λ u rs x. rw (placed_append i (block_written l b) (blocks_written (suc l) bs)) (blocks_along u here rest rs r.raw a.raw (r.extend _ _ (bs_more x a.whole)));
+        extend = λ u rs x. rw (placed_append i (block_written l b) (blocks_written (suc l) bs))
+            (blocks_along u here rest rs r.raw a.raw (r.extend _ _ (bs_more x a.whole)));
         items = λ u rs x. rw (placed_append i (block_written l b) (blocks_written (suc l) bs))
-            (items_along u here rest rs (block_items r.raw) (BlockItem a.raw) (r.items _ _ (its_more x (it_block a.whole))));
-        fine = λ x. fine_append (block_written l b) (blocks_written (suc l) bs) x (a.fine (stops (blocks_written (suc l) bs) x)) (r.fine x);
+            (items_along u here rest rs (block_items r.raw) (BlockItem a.raw)
+            (r.items _ _ (its_more x (it_block a.whole))));
+        fine = λ x. fine_append (block_written l b) (blocks_written (suc l) bs) x
+            (a.fine (stops (blocks_written (suc l) bs) x)) (r.fine x);
         means = ap₂ (λ (c : TBlock) (cs : List TBlock). c ∷ cs) a.means r.means;
         count = ap (λ n. suc n) r.count;
         spell = λ d. ap₂ (λ (x : Name) (xs : Labels). (x, Label l) ∷ xs) a.name (r.spell d);

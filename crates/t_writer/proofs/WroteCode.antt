@@ -1,6 +1,7 @@
 -- A value, an instruction and an end that are written stand for themselves, where the names around them are those of
 -- their depth and the labels those of the blocks in turn.
-use Rattle.std.proofs.Common.{◌≡◌, ◌≤◌, ◌^◌, pos, negsuc, ℕ, ◌+◌, List, [], ◌∷◌, ◌++◌, length, codes, true, refl, sym, ap, ap₂, ◌∙◌, arith, Some}
+use Rattle.std.proofs.Common.{◌≡◌, ◌≤◌, ◌^◌, pos, negsuc, ℕ, ◌+◌, List, [], ◌∷◌, ◌++◌, length, codes, true, refl, sym}
+use Rattle.std.proofs.Common.{ap, ap₂, ◌∙◌, arith, Some}
 use Rattle.std.proofs.lemmas.Int.{ints}
 use Rattle.idx_core.specs.declared.span.Span.{Span}
 use Rattle.idx_core.specs.declared.arith.Op.{Op}
@@ -11,19 +12,25 @@ use Rattle.t_types.specs.WellFormed.{max_names, max_number}
 use Rattle.t_terms.specs.declared.token.Kind.{Kind}
 use Rattle.t_terms.specs.declared.token.Kind.TheVariants as k
 use Rattle.t_terms.specs.declared.token.Token.{Token}
-use Rattle.t_terms.specs.Tree.{TBase, Reg, Int, Label, Data, TValue, Plain, Pack, TInstr, Arith, Bnz, Ld, Malloc, Mov, St, Unpack, TEnd, Jmp, Halt}
+use Rattle.t_terms.specs.Tree.{TBase, Reg, Int, Label, Data, TValue, Plain, Pack, TInstr, Arith, Bnz, Ld, Malloc, Mov}
+use Rattle.t_terms.specs.Tree.{St, Unpack, TEnd, Jmp, Halt}
 use Rattle.t_terms.specs.Tree as tree_of
-use Rattle.t_terms.specs.Raw.{RawBase, RReg, RNum, RLabel, RawValue, RPlain, RPack, RawInstr, RArith, RBnz, RLd, RMalloc, RMov, RSt, RUnpack, RawEnd, RJmp, RHalt, Piece, ending, up_to}
-use Rattle.t_terms.specs.Grammar.{tok, N, n_reg, n_plain, n_negative, n_label, V, v_base, v_apply, v_pack, IsOp, is_add, is_sub, is_mul, I, i_arith, i_bnz, i_ld, i_malloc_none, i_malloc, i_mov, i_st, i_unpack, End, e_jmp, e_halt}
+use Rattle.t_terms.specs.Raw.{RawBase, RReg, RNum, RLabel, RawValue, RPlain, RPack, RawInstr, RArith, RBnz, RLd}
+use Rattle.t_terms.specs.Raw.{RMalloc, RMov, RSt, RUnpack, RawEnd, RJmp, RHalt, Piece, ending, up_to}
+use Rattle.t_terms.specs.Grammar.{tok, N, n_reg, n_plain, n_negative, n_label, V, v_base, v_apply, v_pack, IsOp}
+use Rattle.t_terms.specs.Grammar.{is_add, is_sub, is_mul, I, i_arith, i_bnz, i_ld, i_malloc_none, i_malloc, i_mov}
+use Rattle.t_terms.specs.Grammar.{i_st, i_unpack, End, e_jmp, e_halt}
 use Rattle.t_terms.specs.Names.{Labels, spelled, named_by, base_of, value_of, instr_of, names_after, end_of}
 use Rattle.t_terms.specs.NameFaults.{base_faults, value_faults, instr_faults, end_faults}
 use Rattle.t_terms.specs.Whole.{WellFormedBase, WellFormedValue, WellFormedInstr, WellFormedEnd}
 use Rattle.t_writer.specs.Ints.{IntFits, BaseFits, ValueFits, InstrFits, EndFits}
 use Rattle.t_writer.specs.Lexeme.{Lexeme, Reserved, TypeName, LabelName, DataName, Register, Number, Sign, bytes}
-use Rattle.t_writer.specs.Written.{comma, space, type_written, types_written, list_written, base_written, value_written, op_written, instr_written, end_written}
+use Rattle.t_writer.specs.Written.{comma, space, type_written, types_written, list_written, base_written}
+use Rattle.t_writer.specs.Written.{value_written, op_written, instr_written, end_written}
 use Rattle.t_writer.proofs.Items.{Valid}
 use Rattle.t_writer.proofs.Placed as placing
-use Rattle.t_writer.proofs.Placed.{size, placed, token_of, placed_append, stops, Follows, Fine, fine_append, Written, written_append}
+use Rattle.t_writer.proofs.Placed.{size, placed, token_of, placed_append, stops, Follows, Fine, fine_append, Written}
+use Rattle.t_writer.proofs.Placed.{written_append}
 use Rattle.t_writer.proofs.Scopes.{data_from, labels_from, scope, scope_next, past_data, in_data, in_labels}
 use Rattle.t_writer.proofs.WroteTypes.{wrote_type, wrote_types}
 
@@ -63,7 +70,8 @@ module _ (text : List ℕ) (p q : ℕ) (few : p ≤ 2 ^ 64) (small : q ≤ 2 ^ 6
     pub means : base_of text labels raw ≡ b
     pub none : base_faults text labels raw ≡ []
 
-  pub wrote_base : (i : ℕ) (b : TBase) → WellFormedBase p q b → BaseFits b → Written text i (base_written b ∷ []) → WroteBase i b
+  pub wrote_base : (i : ℕ) (b : TBase) → WellFormedBase p q b → BaseFits b → Written text i (base_written b ∷ []) →
+      WroteBase i b
   wrote_base i (Reg r) h f w = record {
     token = tok (k.Register r) (placing.place_of i (Register r));
     raw = RReg r;
@@ -96,7 +104,8 @@ module _ (text : List ℕ) (p q : ℕ) (few : p ≤ 2 ^ 64) (small : q ≤ 2 ^ 6
   }
   wrote_base i (Label l) h f w =
       let s = placing.place_of i (LabelName l) in
-      let g : named_by (spelled text s) labels ≡ Some (Label l) = rw w.0 (past_data 0 q l (labels_from 0 p) ∙ in_labels 0 p l (omega arith) (omega arith) (omega arith)) in
+      let g : named_by (spelled text s) labels ≡ Some (Label l) =
+      rw w.0 (past_data 0 q l (labels_from 0 p) ∙ in_labels 0 p l (omega arith) (omega arith) (omega arith)) in
       record {
         token = tok k.Name s;
         raw = RLabel s;
@@ -109,7 +118,8 @@ module _ (text : List ℕ) (p q : ℕ) (few : p ≤ 2 ^ 64) (small : q ≤ 2 ^ 6
       }
   wrote_base i (Data d) h f w =
       let s = placing.place_of i (DataName d) in
-      let g : named_by (spelled text s) labels ≡ Some (Data d) = rw w.0 (in_data 0 q d (labels_from 0 p) (omega arith) (omega arith) (omega arith)) in
+      let g : named_by (spelled text s) labels ≡ Some (Data d) =
+      rw w.0 (in_data 0 q d (labels_from 0 p) (omega arith) (omega arith) (omega arith)) in
       record {
         token = tok k.Name s;
         raw = RLabel s;
@@ -128,7 +138,8 @@ module _ (text : List ℕ) (p q : ℕ) (few : p ≤ 2 ^ 64) (small : q ≤ 2 ^ 6
     pub means : value_of text labels (scope d) piece.tree ≡ v
     pub none : value_faults text labels (scope d) piece.tree ≡ []
 
-  pub wrote_value : (i d : ℕ) (v : TValue) → d ≤ max_names → WellFormedValue p q d v → ValueFits v → Written text i (value_written d v) → WroteValue i d v
+  pub wrote_value : (i d : ℕ) (v : TValue) → d ≤ max_names → WellFormedValue p q d v → ValueFits v →
+      Written text i (value_written d v) → WroteValue i d v
   wrote_value i d (Plain b []) n h f w =
       let a = wrote_base i b h.0 f (w.0, tt) in
       record {
@@ -149,7 +160,11 @@ module _ (text : List ℕ) (p q : ℕ) (few : p ≤ 2 ^ 64) (small : q ≤ 2 ^ 6
       record {
         piece = ending (RPlain a.raw r.raw) c.end;
         whole = rw (a.at, placed_append j ls last) (v_apply o c a.whole r.whole);
-        fine = (a.valid, a.follows (list_written d (t ∷ ts)) refl, ((refl, refl, tt), tt, fine_append ls last true r.fine ((refl, refl, tt), tt, tt)));
+        fine = (
+          a.valid,
+          a.follows (list_written d (t ∷ ts)) refl,
+          ((refl, refl, tt), tt, fine_append ls last true r.fine ((refl, refl, tt), tt, tt)),
+        );
         means = ap₂ (λ (x : TBase) (us : List Ty). Plain x us) a.means r.means;
         none = rw (a.none, r.none) refl;
       }
@@ -167,15 +182,24 @@ module _ (text : List ℕ) (p q : ℕ) (few : p ≤ 2 ^ 64) (small : q ≤ 2 ^ 6
       let r = wrote_type text (e + 1 + 1 + 2 + 1) d s n h.2 y.1.1.1.1.1 in
       record {
         piece = ending (RPack a.piece.tree b.piece.tree r.piece.tree) r.piece.end;
-        whole = rw (placed_append j (type_written d t) rest, placed_append m (value_written d v) last) (v_pack _ _ _ _ _ a.whole b.whole r.whole);
+        whole = rw (placed_append j (type_written d t) rest, placed_append m (value_written d v) last)
+            (v_pack _ _ _ _ _ a.whole b.whole r.whole);
         fine = (
           (refl, refl, tt),
           refl,
           (
             (refl, refl, tt),
             tt,
-            fine_append (type_written d t) rest true a.fine
-                ((refl, refl, tt), tt, (refl, tt, fine_append (value_written d v) last true b.fine ((refl, refl, tt), tt, (refl, tt, ((refl, refl, tt), refl, (refl, tt, r.fine)))))),
+            fine_append (type_written d t) rest true a.fine (
+              (refl, refl, tt),
+              tt,
+              (
+                refl,
+                tt,
+                fine_append (value_written d v) last true b.fine
+                    ((refl, refl, tt), tt, (refl, tt, ((refl, refl, tt), refl, (refl, tt, r.fine)))),
+              ),
+            ),
           ),
         );
         means = rw (a.means, b.means, r.means) refl;
@@ -190,7 +214,8 @@ module _ (text : List ℕ) (p q : ℕ) (few : p ≤ 2 ^ 64) (small : q ≤ 2 ^ 6
     pub none : instr_faults text labels (scope d) raw.0 ≡ []
     pub after : names_after text raw.0 (scope d) ≡ scope (tree_of.names_after x d)
 
-  pub wrote_instr : (i d : ℕ) (x : TInstr) → d ≤ max_names → WellFormedInstr p q d x → InstrFits x → Written text i (instr_written d x) → WroteInstr i d x
+  pub wrote_instr : (i d : ℕ) (x : TInstr) → d ≤ max_names → WellFormedInstr p q d x → InstrFits x →
+      Written text i (instr_written d x) → WroteInstr i d x
   wrote_instr i d (Arith op rd rs v) n h f w =
       let o = wrote_op i op in
       let a = i + length (bytes (op_written op)) in
@@ -199,7 +224,19 @@ module _ (text : List ℕ) (p q : ℕ) (few : p ≤ 2 ^ 64) (small : q ≤ 2 ^ 6
       record {
         raw = (RArith op rd rs r.piece.tree, up_to (placing.place_of i (op_written op)) r.piece.end);
         whole = rw o.at (i_arith _ _ _ _ _ rd rs o.is r.whole);
-        fine = (o.valid, o.follows _, (refl, tt, (h.0, refl, ((refl, refl, tt), tt, (refl, tt, (h.1, refl, ((refl, refl, tt), tt, (refl, tt, r.fine))))))));
+        fine = (
+          o.valid,
+          o.follows _,
+          (
+            refl,
+            tt,
+            (
+              h.0,
+              refl,
+              ((refl, refl, tt), tt, (refl, tt, (h.1, refl, ((refl, refl, tt), tt, (refl, tt, r.fine))))),
+            ),
+          ),
+        );
         means = ap (Arith op rd rs) r.means;
         none = r.none;
         after = refl;
@@ -215,15 +252,46 @@ module _ (text : List ℕ) (p q : ℕ) (few : p ≤ 2 ^ 64) (small : q ≤ 2 ^ 6
         after = refl;
       }
   wrote_instr i d (Ld rd rs x) n h f w = record {
-    raw = (RLd rd rs x, up_to (placing.place_of i (Reserved (codes "ld") k.Ld)) (after_reg (after_reg (i + 2 + 1) rd + 1 + 1) rs + 1 + length (bytes (Number (pos x))) + 1));
+    raw = (
+      RLd rd rs x,
+      up_to (placing.place_of i (Reserved (codes "ld") k.Ld))
+          (after_reg (after_reg (i + 2 + 1) rd + 1 + 1) rs + 1 + length (bytes (Number (pos x))) + 1),
+    );
     whole = i_ld _ _ _ _ _ _ _ rd rs (pos x);
-    fine = ((refl, refl, tt), refl, (refl, tt, (h.0, refl, ((refl, refl, tt), tt, (refl, tt, (h.1, refl, ((refl, refl, tt), tt, (number_fits x h.2, refl, ((refl, refl, tt), tt, tt)))))))));
+    fine = (
+      (refl, refl, tt),
+      refl,
+      (
+        refl,
+        tt,
+        (
+          h.0,
+          refl,
+          (
+            (refl, refl, tt),
+            tt,
+            (
+              refl,
+              tt,
+              (
+                h.1,
+                refl,
+                ((refl, refl, tt), tt, (number_fits x h.2, refl, ((refl, refl, tt), tt, tt))),
+              ),
+            ),
+          ),
+        ),
+      ),
+    );
     means = refl;
     none = refl;
     after = refl;
   }
   wrote_instr i d (Malloc rd []) n h f w = record {
-    raw = (RMalloc rd [], up_to (placing.place_of i (Reserved (codes "malloc") k.Malloc)) (after_reg (i + 6 + 1) rd + 1 + 1));
+    raw = (
+      RMalloc rd [],
+      up_to (placing.place_of i (Reserved (codes "malloc") k.Malloc)) (after_reg (i + 6 + 1) rd + 1 + 1),
+    );
     whole = i_malloc_none _ _ _ _ rd;
     fine = ((refl, refl, tt), refl, (refl, tt, (h.0, refl, ((refl, refl, tt), tt, ((refl, refl, tt), tt, tt)))));
     means = refl;
@@ -238,7 +306,19 @@ module _ (text : List ℕ) (p q : ℕ) (few : p ≤ 2 ^ 64) (small : q ≤ 2 ^ 6
       record {
         raw = (RMalloc rd r.raw, up_to (placing.place_of i (Reserved (codes "malloc") k.Malloc)) (j + size ls + 1));
         whole = rw (placed_append j ls last) (i_malloc _ _ _ _ rd r.whole);
-        fine = ((refl, refl, tt), refl, (refl, tt, (h.0, refl, ((refl, refl, tt), tt, fine_append ls last true r.fine ((refl, refl, tt), tt, tt)))));
+        fine = (
+          (refl, refl, tt),
+          refl,
+          (
+            refl,
+            tt,
+            (
+              h.0,
+              refl,
+              ((refl, refl, tt), tt, fine_append ls last true r.fine ((refl, refl, tt), tt, tt)),
+            ),
+          ),
+        );
         means = ap (Malloc rd) r.means;
         none = r.none;
         after = refl;
@@ -254,9 +334,33 @@ module _ (text : List ℕ) (p q : ℕ) (few : p ≤ 2 ^ 64) (small : q ≤ 2 ^ 6
         after = refl;
       }
   wrote_instr i d (St rd x rs) n h f w = record {
-    raw = (RSt rd x rs, up_to (placing.place_of i (Reserved (codes "st") k.St)) (after_reg (after_reg (i + 2 + 1) rd + 1 + length (bytes (Number (pos x))) + 1 + 1 + 1) rs));
+    raw = (
+      RSt rd x rs,
+      up_to (placing.place_of i (Reserved (codes "st") k.St))
+          (after_reg (after_reg (i + 2 + 1) rd + 1 + length (bytes (Number (pos x))) + 1 + 1 + 1) rs),
+    );
     whole = i_st _ _ _ _ _ _ _ rd rs (pos x);
-    fine = ((refl, refl, tt), refl, (refl, tt, (h.0, refl, ((refl, refl, tt), tt, (number_fits x h.1, refl, ((refl, refl, tt), tt, ((refl, refl, tt), tt, (refl, tt, (h.2, refl, tt)))))))));
+    fine = (
+      (refl, refl, tt),
+      refl,
+      (
+        refl,
+        tt,
+        (
+          h.0,
+          refl,
+          (
+            (refl, refl, tt),
+            tt,
+            (
+              number_fits x h.1,
+              refl,
+              ((refl, refl, tt), tt, ((refl, refl, tt), tt, (refl, tt, (h.2, refl, tt)))),
+            ),
+          ),
+        ),
+      ),
+    );
     means = refl;
     none = refl;
     after = refl;
@@ -268,7 +372,23 @@ module _ (text : List ℕ) (p q : ℕ) (few : p ≤ 2 ^ 64) (small : q ≤ 2 ^ 6
       record {
         raw = (RUnpack s rd r.piece.tree, up_to (placing.place_of i (Reserved (codes "unpack") k.Unpack)) r.piece.end);
         whole = i_unpack _ _ _ _ _ _ _ rd r.whole;
-        fine = ((refl, refl, tt), refl, ((refl, refl, tt), tt, (omega arith, refl, ((refl, refl, tt), tt, (refl, tt, (h.0, refl, ((refl, refl, tt), tt, ((refl, refl, tt), tt, (refl, tt, r.fine)))))))));
+        fine = (
+          (refl, refl, tt),
+          refl,
+          (
+            (refl, refl, tt),
+            tt,
+            (
+              omega arith,
+              refl,
+              (
+                (refl, refl, tt),
+                tt,
+                (refl, tt, (h.0, refl, ((refl, refl, tt), tt, ((refl, refl, tt), tt, (refl, tt, r.fine))))),
+              ),
+            ),
+          ),
+        );
         means = ap (Unpack rd) r.means;
         none = r.none;
         after = ap (λ (x : Name). x ∷ scope d) w.1.1.0 ∙ sym (scope_next d);
@@ -281,7 +401,8 @@ module _ (text : List ℕ) (p q : ℕ) (few : p ≤ 2 ^ 64) (small : q ≤ 2 ^ 6
     pub means : end_of text labels (scope d) raw.0 ≡ e
     pub none : end_faults text labels (scope d) raw.0 ≡ []
 
-  pub wrote_end : (i d : ℕ) (e : TEnd) → d ≤ max_names → WellFormedEnd p q d e → EndFits e → Written text i (end_written d e) → WroteEnd i d e
+  pub wrote_end : (i d : ℕ) (e : TEnd) → d ≤ max_names → WellFormedEnd p q d e → EndFits e →
+      Written text i (end_written d e) → WroteEnd i d e
   wrote_end i d (Jmp v) n h f w =
       let r = wrote_value (i + 3 + 1) d v n h f w.1.1 in
       record {

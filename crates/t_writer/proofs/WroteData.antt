@@ -1,5 +1,6 @@
 -- Data tuples that are written stand for themselves.
-use Rattle.std.proofs.Common.{◌≡◌, ◌≤◌, ◌<◌, ◌^◌, ℕ, suc, ◌+◌, List, [], ◌∷◌, ◌++◌, length, map, codes, Bool, true, refl, sym, ap, ap₂, ◌∙◌, arith, subst, append_assoc}
+use Rattle.std.proofs.Common.{◌≡◌, ◌≤◌, ◌<◌, ◌^◌, ℕ, suc, ◌+◌, List, [], ◌∷◌, ◌++◌, length, map, codes, Bool, true}
+use Rattle.std.proofs.Common.{refl, sym, ap, ap₂, ◌∙◌, arith, subst, append_assoc}
 use Rattle.std.proofs.lemmas.List.{append-nil}
 use Rattle.idx_core.specs.declared.span.Span.{Span}
 use Rattle.idx_core.specs.Names.{Name}
@@ -8,14 +9,18 @@ use Rattle.t_terms.specs.declared.token.Kind.TheVariants as k
 use Rattle.t_terms.specs.declared.token.Token.{Token}
 use Rattle.t_terms.specs.Tree.{TBase, TValue, Plain, Pack, TDatum, TData, Data}
 use Rattle.t_terms.specs.Spanned.{plain_fields, plain_heap}
-use Rattle.t_terms.specs.Raw.{RawTy, RawBase, RawValue, RPlain, RPack, RawDatum, RawItem, DataItem, blocks_in, data_in, Piece, up_to}
-use Rattle.t_terms.specs.Grammar.{tok, T, N, n_reg, n_plain, n_negative, n_label, Q, q_plain, q_negative, q_label, W, w_base, w_apply, w_pack, datum, Ds, ds_one, ds_more, Tuple, tu_none, tu_fields, Item, it_data, Items, its_more}
+use Rattle.t_terms.specs.Raw.{RawTy, RawBase, RawValue, RPlain, RPack, RawDatum, RawItem, DataItem, blocks_in, data_in}
+use Rattle.t_terms.specs.Raw.{Piece, up_to}
+use Rattle.t_terms.specs.Grammar.{tok, T, N, n_reg, n_plain, n_negative, n_label, Q, q_plain, q_negative, q_label, W}
+use Rattle.t_terms.specs.Grammar.{w_base, w_apply, w_pack, datum, Ds, ds_one, ds_more, Tuple, tu_none, tu_fields, Item}
+use Rattle.t_terms.specs.Grammar.{it_data, Items, its_more}
 use Rattle.t_terms.specs.Names.{spelled, Labels, base_of, value_of, datum_of, data_of, item_labels}
 use Rattle.t_terms.specs.NameFaults.{value_faults, data_faults, items_faults}
 use Rattle.t_terms.specs.Whole.{WellFormedValue, HasNoRegister, WellFormedDatum, WellFormedData, WellFormedHeap}
 use Rattle.t_writer.specs.Ints.{ValueFits, DataFit, HeapFits}
 use Rattle.t_writer.specs.Lexeme.{Reserved, DataName, Sign, bytes}
-use Rattle.t_writer.specs.Written.{comma, space, line_end, base_written, type_written, types_written, list_written, value_written, datum_written, data_fields_written, data_written, heap_written}
+use Rattle.t_writer.specs.Written.{comma, space, line_end, base_written, type_written, types_written, list_written}
+use Rattle.t_writer.specs.Written.{value_written, datum_written, data_fields_written, data_written, heap_written}
 use Rattle.t_writer.proofs.Placed as placing
 use Rattle.t_writer.proofs.Placed.{size, placed, placed_append, stops, Fine, fine_append, Written, written_append}
 use Rattle.t_writer.proofs.Scopes.{data_name, data_from, data_before, not_data_before}
@@ -28,7 +33,8 @@ stops_fields i [] = refl
 stops_fields i (x ∷ xs) = refl
 
 -- one field more, and then others
-fields_along : (u v w y : List Token) (m c : Span) (rs more : List RawDatum) (r : RawDatum) → Ds ((u ++ tok k.Comma m ∷ (v ++ tok k.Colon c ∷ w)) ++ y) ((rs ++ r ∷ []) ++ more) →
+fields_along : (u v w y : List Token) (m c : Span) (rs more : List RawDatum) (r : RawDatum) →
+    Ds ((u ++ tok k.Comma m ∷ (v ++ tok k.Colon c ∷ w)) ++ y) ((rs ++ r ∷ []) ++ more) →
     Ds (u ++ tok k.Comma m ∷ ((v ++ tok k.Colon c ∷ w) ++ y)) (rs ++ r ∷ more)
 fields_along u v w y m c rs more r h = rw (append_assoc v (tok k.Colon c ∷ w) y) (simp append_assoc at h)
 
@@ -38,7 +44,8 @@ module _ (text : List ℕ) (p q : ℕ) (few : p ≤ 2 ^ 64) (small : q ≤ 2 ^ 6
   names = labels text p q few small
 
   -- a base that is no register may stand in data
-  quiet : {t : Token} {raw : RawBase} (b : TBase) (ts : List Ty) → HasNoRegister (Plain b ts) → base_of text names raw ≡ b → N t raw → Q t raw
+  quiet : {t : Token} {raw : RawBase} (b : TBase) (ts : List Ty) → HasNoRegister (Plain b ts) →
+      base_of text names raw ≡ b → N t raw → Q t raw
   quiet b ts h e (n_reg r s) = absurd (subst (λ x. HasNoRegister (Plain x ts)) (sym e) h)
   quiet b ts h e (n_plain z s) = q_plain z s
   quiet b ts h e (n_negative z s) = q_negative z s
@@ -51,7 +58,8 @@ module _ (text : List ℕ) (p q : ℕ) (few : p ≤ 2 ^ 64) (small : q ≤ 2 ^ 6
     means : value_of text names [] raw.0 ≡ v
     none : value_faults text names [] raw.0 ≡ []
 
-  wrote_word : (i : ℕ) (v : TValue) → WellFormedValue p q 0 v → HasNoRegister v → ValueFits v → Written text i (value_written 0 v) → WroteWord i v
+  wrote_word : (i : ℕ) (v : TValue) → WellFormedValue p q 0 v → HasNoRegister v → ValueFits v →
+      Written text i (value_written 0 v) → WroteWord i v
   wrote_word i (Plain b []) h r f w =
       let a = wrote_base text p q few small i b h.0 f (w.0, tt) in
       record {
@@ -72,7 +80,11 @@ module _ (text : List ℕ) (p q : ℕ) (few : p ≤ 2 ^ 64) (small : q ≤ 2 ^ 6
       record {
         raw = (RPlain a.raw y.raw, up_to a.token.span c.end);
         whole = rw (a.at, placed_append j ls last) (w_apply o c (quiet b (t ∷ ts) r a.means a.whole) y.whole);
-        fine = (a.valid, a.follows (list_written 0 (t ∷ ts)) refl, ((refl, refl, tt), tt, fine_append ls last true y.fine ((refl, refl, tt), tt, tt)));
+        fine = (
+          a.valid,
+          a.follows (list_written 0 (t ∷ ts)) refl,
+          ((refl, refl, tt), tt, fine_append ls last true y.fine ((refl, refl, tt), tt, tt)),
+        );
         means = ap₂ (λ (x : TBase) (us : List Ty). Plain x us) a.means y.means;
         none = rw (a.none, y.none) refl;
       }
@@ -89,16 +101,28 @@ module _ (text : List ℕ) (p q : ℕ) (few : p ≤ 2 ^ 64) (small : q ≤ 2 ^ 6
       let b = wrote_word m v h.1 r f y.0 in
       let z = wrote_type text (e + 1 + 1 + 2 + 1) 0 s (omega arith) h.2 y.1.1.1.1.1 in
       record {
-        raw = (RPack a.piece.tree b.raw.0 z.piece.tree, up_to (placing.place_of i (Reserved (codes "pack") k.Pack)) z.piece.end);
-        whole = rw (placed_append j (type_written 0 t) rest, placed_append m (value_written 0 v) last) (w_pack _ _ _ _ _ a.whole b.whole z.whole);
+        raw = (
+          RPack a.piece.tree b.raw.0 z.piece.tree,
+          up_to (placing.place_of i (Reserved (codes "pack") k.Pack)) z.piece.end,
+        );
+        whole = rw (placed_append j (type_written 0 t) rest, placed_append m (value_written 0 v) last)
+            (w_pack _ _ _ _ _ a.whole b.whole z.whole);
         fine = (
           (refl, refl, tt),
           refl,
           (
             (refl, refl, tt),
             tt,
-            fine_append (type_written 0 t) rest true a.fine
-                ((refl, refl, tt), tt, (refl, tt, fine_append (value_written 0 v) last true b.fine ((refl, refl, tt), tt, (refl, tt, ((refl, refl, tt), refl, (refl, tt, z.fine)))))),
+            fine_append (type_written 0 t) rest true a.fine (
+              (refl, refl, tt),
+              tt,
+              (
+                refl,
+                tt,
+                fine_append (value_written 0 v) last true b.fine
+                    ((refl, refl, tt), tt, (refl, tt, ((refl, refl, tt), refl, (refl, tt, z.fine)))),
+              ),
+            ),
           ),
         );
         means = rw (a.means, b.means, z.means) refl;
@@ -119,7 +143,8 @@ module _ (text : List ℕ) (p q : ℕ) (few : p ≤ 2 ^ 64) (small : q ≤ 2 ^ 6
     means : record { value = value_of text names [] word.0; ty = (datum_of text names (datum word ty.tree)).ty } ≡ x
     none : data_faults text names (datum word ty.tree ∷ []) ≡ []
 
-  wrote_datum : (i : ℕ) (x : TDatum) → WellFormedDatum p q x → ValueFits x.value → Written text i (datum_written x) → WroteDatum i x
+  wrote_datum : (i : ℕ) (x : TDatum) → WellFormedDatum p q x → ValueFits x.value → Written text i (datum_written x) →
+      WroteDatum i x
   wrote_datum i x h f w =
       let rest = space ∷ (Sign 58 k.Colon ∷ (space ∷ type_written 0 x.ty)) in
       let c = i + size (value_written 0 x.value) + 1 in
@@ -136,7 +161,8 @@ module _ (text : List ℕ) (p q : ℕ) (few : p ≤ 2 ^ 64) (small : q ≤ 2 ^ 6
         at = placed_append i (value_written 0 x.value) rest;
         whole_word = a.whole;
         whole_type = t.whole;
-        fine = fine_append (value_written 0 x.value) rest true a.fine (refl, tt, ((refl, refl, tt), tt, (refl, tt, t.fine)));
+        fine = fine_append (value_written 0 x.value) rest true a.fine
+            (refl, tt, ((refl, refl, tt), tt, (refl, tt, t.fine)));
         means = ap₂ (λ (u : TValue) (s : Ty). record { value = u; ty = s }) a.means t.means;
         none = rw (a.none, t.none) refl;
       }
@@ -144,15 +170,18 @@ module _ (text : List ℕ) (p q : ℕ) (few : p ≤ 2 ^ 64) (small : q ≤ 2 ^ 6
   -- the fields after the first
   record MoreFields (i nth : ℕ) (xs : TData) : Type 0 where
     raw : List RawDatum
-    extend : (u : List Token) (rs : List RawDatum) → Ds u rs → Ds (u ++ placed i (data_fields_written (suc nth) xs)) (rs ++ raw)
+    extend : (u : List Token) (rs : List RawDatum) → Ds u rs →
+        Ds (u ++ placed i (data_fields_written (suc nth) xs)) (rs ++ raw)
     fine : Fine (data_fields_written (suc nth) xs) true
     means : plain_fields (map (datum_of text names) raw) ≡ xs
     none : data_faults text names raw ≡ []
 
-  one_more : (x : RawDatum) (xs : List RawDatum) → data_faults text names (x ∷ []) ≡ [] → data_faults text names xs ≡ [] → data_faults text names (x ∷ xs) ≡ []
+  one_more : (x : RawDatum) (xs : List RawDatum) → data_faults text names (x ∷ []) ≡ [] →
+      data_faults text names xs ≡ [] → data_faults text names (x ∷ xs) ≡ []
   one_more x xs e g = let a = rw append-nil at e in rw (a, g) refl
 
-  more_fields : (i nth : ℕ) (xs : TData) → WellFormedData p q xs → DataFit xs → Written text i (data_fields_written (suc nth) xs) → MoreFields i nth xs
+  more_fields : (i nth : ℕ) (xs : TData) → WellFormedData p q xs → DataFit xs →
+      Written text i (data_fields_written (suc nth) xs) → MoreFields i nth xs
   more_fields i nth [] h f w = record {
     raw = [];
     extend = λ u rs x. rw (append-nil, append-nil) x;
@@ -169,9 +198,14 @@ module _ (text : List ℕ) (p q : ℕ) (few : p ≤ 2 ^ 64) (small : q ≤ 2 ^ 6
       record {
         raw = datum a.word a.ty.tree ∷ r.raw;
         extend = λ u rs y. rw (placed_append j (datum_written x) rest, a.at)
-            (fields_along u a.value_tokens a.type_tokens (placed (j + size (datum_written x)) rest) (placing.place_of i comma) a.colon rs r.raw (datum a.word a.ty.tree)
+            (fields_along u a.value_tokens a.type_tokens (placed (j + size (datum_written x)) rest)
+            (placing.place_of i comma) a.colon rs r.raw (datum a.word a.ty.tree)
             (r.extend _ _ (ds_more (placing.place_of i comma) a.colon y a.whole_word a.whole_type)));
-        fine = ((refl, refl, tt), tt, (refl, tt, fine_append (datum_written x) rest true (rw (stops_fields (suc nth) xs) a.fine) r.fine));
+        fine = (
+          (refl, refl, tt),
+          tt,
+          (refl, tt, fine_append (datum_written x) rest true (rw (stops_fields (suc nth) xs) a.fine) r.fine),
+        );
         means = ap₂ (λ (y : TDatum) (ys : TData). y ∷ ys) a.means r.means;
         none = one_more (datum a.word a.ty.tree) r.raw a.none r.none;
       }
@@ -179,12 +213,14 @@ module _ (text : List ℕ) (p q : ℕ) (few : p ≤ 2 ^ 64) (small : q ≤ 2 ^ 6
   -- < fields >
   record WroteTuple (i : ℕ) (xs : TData) : Type 0 where
     raw : List RawDatum
-    whole : Tuple (placed i (Sign 60 k.LeftAngle ∷ (data_fields_written 0 xs ++ (Sign 62 k.RightAngle ∷ (line_end ∷ []))))) raw
+    whole : Tuple
+        (placed i (Sign 60 k.LeftAngle ∷ (data_fields_written 0 xs ++ (Sign 62 k.RightAngle ∷ (line_end ∷ []))))) raw
     fine : (b : Bool) → Fine (data_fields_written 0 xs ++ (Sign 62 k.RightAngle ∷ (line_end ∷ []))) b
     means : plain_fields (map (datum_of text names) raw) ≡ xs
     none : data_faults text names raw ≡ []
 
-  wrote_tuple : (i : ℕ) (xs : TData) → WellFormedData p q xs → DataFit xs → Written text (i + 1) (data_fields_written 0 xs) → WroteTuple i xs
+  wrote_tuple : (i : ℕ) (xs : TData) → WellFormedData p q xs → DataFit xs →
+      Written text (i + 1) (data_fields_written 0 xs) → WroteTuple i xs
   wrote_tuple i [] h f w = record {
     raw = [];
     whole = tu_none _ _;
@@ -202,8 +238,12 @@ module _ (text : List ℕ) (p q : ℕ) (few : p ≤ 2 ^ 64) (small : q ≤ 2 ^ 6
       record {
         raw = datum a.word a.ty.tree ∷ r.raw;
         whole = rw (placed_append j (datum_written x ++ rest) last, placed_append j (datum_written x) rest)
-            (tu_fields _ _ (r.extend (placed j (datum_written x)) (datum a.word a.ty.tree ∷ []) (rw a.at (ds_one a.colon a.whole_word a.whole_type))));
-        fine = λ b. fine_append (datum_written x ++ rest) last b (fine_append (datum_written x) rest true (rw (stops_fields 0 xs) a.fine) r.fine) ((refl, refl, tt), tt, (refl, tt, tt));
+            (tu_fields _ _
+            (r.extend (placed j (datum_written x)) (datum a.word a.ty.tree ∷ [])
+            (rw a.at (ds_one a.colon a.whole_word a.whole_type))));
+        fine = λ b. fine_append (datum_written x ++ rest) last b
+            (fine_append (datum_written x) rest true (rw (stops_fields 0 xs) a.fine) r.fine)
+            ((refl, refl, tt), tt, (refl, tt, tt));
         means = ap₂ (λ (y : TDatum) (ys : TData). y ∷ ys) a.means r.means;
         none = one_more (datum a.word a.ty.tree) r.raw a.none r.none;
       }
@@ -218,17 +258,28 @@ module _ (text : List ℕ) (p q : ℕ) (few : p ≤ 2 ^ 64) (small : q ≤ 2 ^ 6
     none : data_faults text names raw ≡ []
     spell : spelled text name ≡ data_name d
 
-  wrote_data : (d i : ℕ) (xs : TData) → d < 2 ^ 64 → WellFormedData p q xs → DataFit xs → Written text i (data_written d xs) → WroteData d i xs
+  wrote_data : (d i : ℕ) (xs : TData) → d < 2 ^ 64 → WellFormedData p q xs → DataFit xs →
+      Written text i (data_written d xs) → WroteData d i xs
   wrote_data d i xs low h f w =
       let j = i + length (bytes (DataName d)) in
       let m = j + 1 + 1 + 4 + 1 in
-      let v = written_append text (m + 1) (data_fields_written 0 xs) (Sign 62 k.RightAngle ∷ (line_end ∷ [])) w.1.1.1.1.1.1 in
+      let v = written_append text (m + 1) (data_fields_written 0 xs) (Sign 62 k.RightAngle ∷ (line_end ∷ []))
+      w.1.1.1.1.1.1 in
       let a = wrote_tuple m xs h f v.0 in
       record {
         name = placing.place_of i (DataName d);
         raw = a.raw;
-        whole = it_data (placing.place_of i (DataName d)) (placing.place_of j (Sign 58 k.Colon)) (placing.place_of (j + 1 + 1) (Reserved (codes "data") k.Data)) a.whole;
-        fine = λ x. (low, refl, ((refl, refl, tt), tt, (refl, tt, ((refl, refl, tt), refl, (refl, tt, ((refl, refl, tt), tt, a.fine x))))));
+        whole = it_data (placing.place_of i (DataName d)) (placing.place_of j (Sign 58 k.Colon))
+            (placing.place_of (j + 1 + 1) (Reserved (codes "data") k.Data)) a.whole;
+        fine = λ x. (
+          low,
+          refl,
+          (
+            (refl, refl, tt),
+            tt,
+            (refl, tt, ((refl, refl, tt), refl, (refl, tt, ((refl, refl, tt), tt, a.fine x)))),
+          ),
+        );
         means = a.means;
         none = a.none;
         spell = w.0;
@@ -237,14 +288,18 @@ module _ (text : List ℕ) (p q : ℕ) (few : p ≤ 2 ^ 64) (small : q ≤ 2 ^ 6
   -- data tuples in turn, as the first items of a text
   pub record WroteHeap (d i : ℕ) (xs : List TData) : Type 0 where
     pub raw : List RawItem
-    pub extend : (u : List Token) (rs : List RawItem) → Items u rs → Items (u ++ placed i (heap_written d xs)) (rs ++ raw)
+    pub extend : (u : List Token) (rs : List RawItem) → Items u rs →
+        Items (u ++ placed i (heap_written d xs)) (rs ++ raw)
     pub fine : (x : Bool) → Fine (heap_written d xs) x
     pub means : plain_heap (map (data_of text names) (data_in raw)) ≡ xs
     pub no_blocks : blocks_in raw ≡ []
-    pub spell : (more : List RawItem) → item_labels text 0 d (raw ++ more) ≡ data_from d (length xs) ++ item_labels text 0 (d + length xs) more
-    pub none : (more : List RawItem) → items_faults text names (data_before d) (raw ++ more) ≡ items_faults text names (data_before (d + length xs)) more
+    pub spell : (more : List RawItem) → item_labels text 0 d (raw ++ more) ≡ data_from d (length xs)
+        ++ item_labels text 0 (d + length xs) more
+    pub none : (more : List RawItem) → items_faults text names (data_before d) (raw ++ more)
+        ≡ items_faults text names (data_before (d + length xs)) more
 
-  pub wrote_heap : (d i : ℕ) (xs : List TData) → d + length xs ≤ 2 ^ 64 → WellFormedHeap p q xs → HeapFits xs → Written text i (heap_written d xs) → WroteHeap d i xs
+  pub wrote_heap : (d i : ℕ) (xs : List TData) → d + length xs ≤ 2 ^ 64 → WellFormedHeap p q xs → HeapFits xs →
+      Written text i (heap_written d xs) → WroteHeap d i xs
   wrote_heap d i [] low h f w =
       let e : d ≡ d + 0 = omega arith in
       record {
@@ -265,8 +320,11 @@ module _ (text : List ℕ) (p q : ℕ) (few : p ≤ 2 ^ 64) (small : q ≤ 2 ^ 6
       record {
         raw = item ∷ r.raw;
         extend = λ u rs y. rw (placed_append i (data_written d x) (heap_written (suc d) xs))
-            (items_along u (placed i (data_written d x)) (placed (i + size (data_written d x)) (heap_written (suc d) xs)) rs r.raw item (r.extend _ _ (its_more y a.whole)));
-        fine = λ y. fine_append (data_written d x) (heap_written (suc d) xs) y (a.fine (stops (heap_written (suc d) xs) y)) (r.fine y);
+            (items_along u (placed i (data_written d x))
+            (placed (i + size (data_written d x)) (heap_written (suc d) xs)) rs r.raw item
+            (r.extend _ _ (its_more y a.whole)));
+        fine = λ y. fine_append (data_written d x) (heap_written (suc d) xs) y
+            (a.fine (stops (heap_written (suc d) xs) y)) (r.fine y);
         means = ap₂ (λ (y : TData) (ys : List TData). y ∷ ys) a.means r.means;
         no_blocks = r.no_blocks;
         spell = λ more.

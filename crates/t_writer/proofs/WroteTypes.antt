@@ -1,21 +1,28 @@
 -- A type that is written stands for itself, where the names around it are those of its depth.
-use Rattle.std.proofs.Common.{◌≡◌, ◌≤◌, ◌<◌, pos, ℕ, zero, suc, ◌+◌, ◌-◌, List, [], ◌∷◌, ◌++◌, length, codes, Bool, true, false, nat_eq, refl, sym, ap, ap₂, ◌∙◌, arith, append_assoc}
+use Rattle.std.proofs.Common.{◌≡◌, ◌≤◌, ◌<◌, pos, ℕ, zero, suc, ◌+◌, ◌-◌, List, [], ◌∷◌, ◌++◌, length, codes, Bool}
+use Rattle.std.proofs.Common.{true, false, nat_eq, refl, sym, ap, ap₂, ◌∙◌, arith, append_assoc}
 use Rattle.std.specs.List.{list_any}
 use Rattle.std.proofs.lemmas.List.{append-nil}
 use Rattle.std.proofs.lemmas.Bool.{le-ltb, ne_eqb}
 use Rattle.idx_core.specs.declared.span.Span.{Span}
 use Rattle.idx_core.specs.Names.{Name}
-use Rattle.t_types.specs.Tree.{Ty, IntTy, VarTy, CodeTy, ExistsTy, TupleTy, TFile, NoRegs, MoreRegs, TFields, NoFields, MoreFields}
-use Rattle.t_types.specs.WellFormed.{max_names, WellFormed, WellFormedFile, RegsAbove, WellFormedFields, WellFormedTypes}
+use Rattle.t_types.specs.Tree.{Ty, IntTy, VarTy, CodeTy, ExistsTy, TupleTy, TFile, NoRegs, MoreRegs, TFields, NoFields}
+use Rattle.t_types.specs.Tree.{MoreFields}
+use Rattle.t_types.specs.WellFormed.{max_names, WellFormed, WellFormedFile, RegsAbove, WellFormedFields}
+use Rattle.t_types.specs.WellFormed.{WellFormedTypes}
 use Rattle.t_terms.specs.declared.token.Kind.{Kind}
 use Rattle.t_terms.specs.declared.token.Kind.TheVariants as k
 use Rattle.t_terms.specs.declared.token.Token.{Token}
-use Rattle.t_terms.specs.Raw.{RawTy, RInt, RName, RCode, RSome, RTuple, RawRegs, RawReg, raw_regs, RawField, raw_fields, Piece, ending}
-use Rattle.t_terms.specs.Grammar.{tok, Names, ns_one, ns_more, Binds, bs_none, bs_names, IsFlag, is_zero, is_one, T, t_int, t_name, t_code, t_some, t_unit, t_tuple, File, f_none, f_regs, Rs, rs_one, rs_more, Fs, fs_one, fs_more, Ts, ts_one, ts_more}
+use Rattle.t_terms.specs.Raw.{RawTy, RInt, RName, RCode, RSome, RTuple, RawRegs, RawReg, raw_regs, RawField}
+use Rattle.t_terms.specs.Raw.{raw_fields, Piece, ending}
+use Rattle.t_terms.specs.Grammar.{tok, Names, ns_one, ns_more, Binds, bs_none, bs_names, IsFlag, is_zero, is_one, T}
+use Rattle.t_terms.specs.Grammar.{t_int, t_name, t_code, t_some, t_unit, t_tuple, File, f_none, f_regs, Rs, rs_one}
+use Rattle.t_terms.specs.Grammar.{rs_more, Fs, fs_one, fs_more, Ts, ts_one, ts_more}
 use Rattle.t_terms.specs.Names.{spelled, bind, insert_reg, type_of, file_of, fields_of, types_of}
 use Rattle.t_terms.specs.NameFaults.{type_faults, regs_faults, fields_faults, types_faults}
 use Rattle.t_writer.specs.Lexeme.{Reserved, TypeName, Register, Sign, bytes}
-use Rattle.t_writer.specs.Written.{comma, bit, flag_written, names_written, binds_written, type_written, regs_written, fields_written, file_written, types_written}
+use Rattle.t_writer.specs.Written.{comma, bit, flag_written, names_written, binds_written, type_written, regs_written}
+use Rattle.t_writer.specs.Written.{fields_written, file_written, types_written}
 use Rattle.t_writer.proofs.Placed as placing
 use Rattle.t_writer.proofs.Placed.{size, placed, placed_append, stops, Fine, fine_append, Written, written_append}
 use Rattle.t_writer.proofs.Scopes.{scope, scope_next, Found, in_scope}
@@ -23,7 +30,8 @@ use Rattle.t_writer.proofs.Scopes.{scope, scope_next, Found, in_scope}
 -- the names of a binder after the first
 record MoreNames (i d n nth : ℕ) : Type 0 where
   spans : List Span
-  extend : (w : List Token) (ns : List Span) → Names w ns → Names (w ++ placed i (names_written (suc nth) d n)) (ns ++ spans)
+  extend : (w : List Token) (ns : List Span) → Names w ns →
+      Names (w ++ placed i (names_written (suc nth) d n)) (ns ++ spans)
   count : length spans ≡ n
   fine : Fine (names_written (suc nth) d n) true
   bound : (text : List ℕ) → Written text i (names_written (suc nth) d n) → bind text spans (scope d) ≡ scope (d + n)
@@ -51,7 +59,8 @@ more_names i d (suc n) nth h =
       count = ap (λ m. suc m) r.count;
       fine = ((refl, refl, tt), tt, (refl, tt, (omega arith, stops_names (suc nth) (d + 1) n, r.fine)));
       bound = λ text w.
-          let e : spelled text s ∷ scope d ≡ scope (d + 1) = ap (λ (x : Name). x ∷ scope d) w.1.1.0 ∙ sym (scope_next d) in
+          let e : spelled text s ∷ scope d ≡ scope (d + 1) =
+          ap (λ (x : Name). x ∷ scope d) w.1.1.0 ∙ sym (scope_next d) in
           ap (λ (a : List Name). bind text r.spans a) e ∙ (r.bound text w.1.1.1 ∙ ap scope (omega arith));
     }
 
@@ -77,9 +86,15 @@ wrote_binds i d (suc n) h =
     let ls = names_written 0 d (suc n) in
     record {
       spans = s ∷ r.spans;
-      whole = rw (placed_append (i + 1) ls (Sign 93 k.RightBracket ∷ [])) (bs_names _ _ (r.extend (tok k.Name s ∷ []) (s ∷ []) (ns_one s)));
+      whole = rw (placed_append (i + 1) ls (Sign 93 k.RightBracket ∷ []))
+          (bs_names _ _ (r.extend (tok k.Name s ∷ []) (s ∷ []) (ns_one s)));
       count = ap (λ m. suc m) r.count;
-      fine = λ b. ((refl, refl, tt), tt, fine_append ls (Sign 93 k.RightBracket ∷ []) b (omega arith, stops_names 0 (d + 1) n, r.fine) ((refl, refl, tt), tt, tt));
+      fine = λ b. (
+        (refl, refl, tt),
+        tt,
+        fine_append ls (Sign 93 k.RightBracket ∷ []) b (omega arith, stops_names 0 (d + 1) n, r.fine)
+            ((refl, refl, tt), tt, tt),
+      );
       bound = λ text w.
           let v = (written_append text (i + 1) ls (Sign 93 k.RightBracket ∷ []) w.1).0 in
           let e : spelled text s ∷ scope d ≡ scope (d + 1) = ap (λ (x : Name). x ∷ scope d) v.0 ∙ sym (scope_next d) in
@@ -149,20 +164,23 @@ module _ (text : List ℕ) where
   -- registers after the first of a file, and fields and types after the first of a list
   record MoreFile (i d nth low : ℕ) (file : TFile) : Type 0 where
     regs : List RawReg
-    extend : (u : List Token) (rs : List RawReg) → Rs u rs → Rs (u ++ placed i (regs_written (suc nth) d file)) (rs ++ regs)
+    extend : (u : List Token) (rs : List RawReg) → Rs u rs →
+        Rs (u ++ placed i (regs_written (suc nth) d file)) (rs ++ regs)
     fine : Fine (regs_written (suc nth) d file) true
     means : file_of text (scope d) (raw_regs regs) ≡ file
     none : (before : List ℕ) → UpTo low before → regs_faults text (scope d) before (raw_regs regs) ≡ []
 
   record MoreTuple (i d nth : ℕ) (fields : TFields) : Type 0 where
     raw : List RawField
-    extend : (u : List Token) (fs : List RawField) → Fs u fs → Fs (u ++ placed i (fields_written (suc nth) d fields)) (fs ++ raw)
+    extend : (u : List Token) (fs : List RawField) → Fs u fs →
+        Fs (u ++ placed i (fields_written (suc nth) d fields)) (fs ++ raw)
     fine : Fine (fields_written (suc nth) d fields) true
     means : fields_of text (scope d) (raw_fields raw) ≡ fields
     none : fields_faults text (scope d) (raw_fields raw) ≡ []
 
   mutual
-    pub wrote_type : (i d : ℕ) (t : Ty) → d ≤ max_names → WellFormed d t → Written text i (type_written d t) → WroteType i d t
+    pub wrote_type : (i d : ℕ) (t : Ty) → d ≤ max_names → WellFormed d t → Written text i (type_written d t) →
+        WroteType i d t
     wrote_type i d IntTy n h w = record {
       piece = ending RInt (i + 3);
       whole = t_int _;
@@ -172,7 +190,8 @@ module _ (text : List ℕ) where
     }
     wrote_type i d (VarTy v) n h w =
         let s = placing.place_of i (TypeName (d - 1 - v)) in
-        let f : Found (spelled text s) (scope d) (d - 1 - (d - 1 - v)) = rw w.0 (in_scope d (d - 1 - v) (omega arith) (omega arith)) in
+        let f : Found (spelled text s) (scope d) (d - 1 - (d - 1 - v)) =
+        rw w.0 (in_scope d (d - 1 - v) (omega arith) (omega arith)) in
         record {
           piece = ending (RName s) s.end;
           whole = t_name s;
@@ -189,7 +208,8 @@ module _ (text : List ℕ) where
         let e : bind text b.spans (scope d) ≡ scope (d + owes) = b.bound text v.0 in
         record {
           piece = ending (RCode b.spans f.piece.tree) f.piece.end;
-          whole = rw (placed_append (i + 3) bs fs) (t_code (placing.place_of i (Reserved (codes "all") k.All)) b.whole f.whole);
+          whole = rw (placed_append (i + 3) bs fs)
+              (t_code (placing.place_of i (Reserved (codes "all") k.All)) b.whole f.whole);
           fine = ((refl, refl, tt), refl, fine_append bs fs true (b.fine true) (f.fine true));
           means = rw (b.count, e, f.means) refl;
           none = rw (e, f.none) refl;
@@ -198,10 +218,12 @@ module _ (text : List ℕ) where
         let s = placing.place_of (i + 4 + 1) (TypeName d) in
         let j = i + 4 + 1 + length (bytes (TypeName d)) + 1 + 1 in
         let r = wrote_type j (d + 1) t h.0 h.1 w.1.1.1.1.1 in
-        let e : spelled text s ∷ scope d ≡ scope (d + 1) = ap (λ (x : Name). x ∷ scope d) w.1.1.0 ∙ sym (scope_next d) in
+        let e : spelled text s ∷ scope d ≡ scope (d + 1) =
+        ap (λ (x : Name). x ∷ scope d) w.1.1.0 ∙ sym (scope_next d) in
         record {
           piece = ending (RSome s r.piece.tree) r.piece.end;
-          whole = t_some (placing.place_of i (Reserved (codes "some") k.Some)) s (placing.place_of (i + 4 + 1 + length (bytes (TypeName d))) (Sign 46 k.Dot)) r.whole;
+          whole = t_some (placing.place_of i (Reserved (codes "some") k.Some)) s
+              (placing.place_of (i + 4 + 1 + length (bytes (TypeName d))) (Sign 46 k.Dot)) r.whole;
           fine = ((refl, refl, tt), refl, (refl, tt, (omega arith, refl, ((refl, refl, tt), tt, (refl, tt, r.fine)))));
           means = rw (e, r.means) refl;
           none = rw (e, r.none) refl;
@@ -225,15 +247,30 @@ module _ (text : List ℕ) where
         let f : RawField = record { ty = a.piece.tree; flag = flag } in
         record {
           piece = ending (RTuple (raw_fields (f ∷ r.raw))) (i + 1 + size ls + 1);
-          whole = rw (placed_append (i + 1) ls last, placed_append (i + 1) (type_written d t) (Sign 94 k.Caret ∷ (flag_written flag ∷ more)))
-              (t_tuple (placing.place_of i (Sign 60 k.LeftAngle)) (placing.place_of (i + 1 + size ls) (Sign 62 k.RightAngle))
-              (simp append_assoc at (r.extend _ (f ∷ []) (fs_one (placing.place_of m (Sign 94 k.Caret)) (placing.place_of (m + 1) (flag_written flag)) a.whole (flag_is flag)))));
-          fine = ((refl, refl, tt), tt, fine_append ls last true (fine_append (type_written d t) (Sign 94 k.Caret ∷ (flag_written flag ∷ more)) true a.fine ((refl, refl, tt), tt, (flag_valid flag, stops_fields 0 d fields, r.fine))) ((refl, refl, tt), tt, tt));
+          whole = rw (
+            placed_append (i + 1) ls last,
+            placed_append (i + 1) (type_written d t) (Sign 94 k.Caret ∷ (flag_written flag ∷ more)),
+          )
+              (t_tuple (placing.place_of i (Sign 60 k.LeftAngle))
+              (placing.place_of (i + 1 + size ls) (Sign 62 k.RightAngle))
+              (simp append_assoc at
+              (r.extend _ (f ∷ [])
+              (fs_one (placing.place_of m (Sign 94 k.Caret)) (placing.place_of (m + 1) (flag_written flag))
+              a.whole (flag_is flag)))));
+          fine = (
+            (refl, refl, tt),
+            tt,
+            fine_append ls last true
+                (fine_append (type_written d t) (Sign 94 k.Caret ∷ (flag_written flag ∷ more)) true a.fine
+                ((refl, refl, tt), tt, (flag_valid flag, stops_fields 0 d fields, r.fine)))
+                ((refl, refl, tt), tt, tt),
+          );
           means = ap₂ (λ (u : Ty) (us : TFields). TupleTy (MoreFields u flag us)) a.means r.means;
           none = rw (a.none, r.none) refl;
         }
 
-    pub wrote_file : (i d : ℕ) (file : TFile) → d ≤ max_names → WellFormedFile d file → Written text i (file_written d file) → WroteFile i d file
+    pub wrote_file : (i d : ℕ) (file : TFile) → d ≤ max_names → WellFormedFile d file →
+        Written text i (file_written d file) → WroteFile i d file
     wrote_file i d NoRegs n h w = record {
       piece = ending (raw_regs []) (i + 1 + 1);
       whole = f_none (placing.place_of i (Sign 123 k.LeftBrace)) (placing.place_of (i + 1) (Sign 125 k.RightBrace));
@@ -255,19 +292,30 @@ module _ (text : List ℕ) where
         record {
           piece = ending (raw_regs (f ∷ q.regs)) (i + 1 + size ls + 1);
           whole = rw (placed_append (i + 1) ls last, placed_append j (type_written d t) more)
-              (f_regs (placing.place_of i (Sign 123 k.LeftBrace)) (placing.place_of (i + 1 + size ls) (Sign 125 k.RightBrace))
-              (q.extend _ (f ∷ []) (rs_one r s (placing.place_of (i + 1 + length (bytes (Register r))) (Sign 58 k.Colon)) a.whole)));
+              (f_regs (placing.place_of i (Sign 123 k.LeftBrace))
+              (placing.place_of (i + 1 + size ls) (Sign 125 k.RightBrace))
+              (q.extend _ (f ∷ [])
+              (rs_one r s (placing.place_of (i + 1 + length (bytes (Register r))) (Sign 58 k.Colon)) a.whole)));
           fine = λ b. (
             (refl, refl, tt),
             tt,
-            fine_append ls last b
-                ((omega (arith, h.0), h.1), refl, ((refl, refl, tt), tt, fine_append (type_written d t) more true (rw (stops_regs 0 d file) a.fine) q.fine)) ((refl, refl, tt), tt, tt),
+            fine_append ls last b (
+              (omega (arith, h.0), h.1),
+              refl,
+              (
+                (refl, refl, tt),
+                tt,
+                fine_append (type_written d t) more true (rw (stops_regs 0 d file) a.fine) q.fine,
+              ),
+            )
+                ((refl, refl, tt), tt, tt),
           );
           means = rw (a.means, q.means) (insert_low r d t file h.3);
           none = rw (a.none, q.none (r ∷ []) (omega arith, tt)) refl;
         }
 
-    more_file : (i d nth low : ℕ) (file : TFile) → d ≤ max_names → RegsAbove low d file → Written text i (regs_written (suc nth) d file) → MoreFile i d nth low file
+    more_file : (i d nth low : ℕ) (file : TFile) → d ≤ max_names → RegsAbove low d file →
+        Written text i (regs_written (suc nth) d file) → MoreFile i d nth low file
     more_file i d nth low NoRegs n h w = record {
       regs = [];
       extend = λ u rs x. rw (append-nil, append-nil) x;
@@ -287,13 +335,37 @@ module _ (text : List ℕ) where
         record {
           regs = f ∷ q.regs;
           extend = λ u rs y. rw (placed_append j (type_written d t) more)
-              (simp append_assoc at (q.extend _ _ (rs_more (placing.place_of i comma) r s (placing.place_of c (Sign 58 k.Colon)) y a.whole)));
-          fine = ((refl, refl, tt), tt, (refl, tt, ((omega (arith, h.0), h.1), refl, ((refl, refl, tt), tt, fine_append (type_written d t) more true (rw (stops_regs (suc nth) d file) a.fine) q.fine))));
+              (simp append_assoc at
+              (q.extend _ _
+              (rs_more (placing.place_of i comma) r s (placing.place_of c (Sign 58 k.Colon)) y a.whole)));
+          fine = (
+            (refl, refl, tt),
+            tt,
+            (
+              refl,
+              tt,
+              (
+                (omega (arith, h.0), h.1),
+                refl,
+                (
+                  (refl, refl, tt),
+                  tt,
+                  fine_append (type_written d t) more true (rw (stops_regs (suc nth) d file) a.fine) q.fine,
+                ),
+              ),
+            ),
+          );
           means = rw (a.means, q.means) (insert_low r d t file h.3);
-          none = λ before u. rw (is_new low r before h.0 u, a.none, q.none (r ∷ before) (omega arith, up_to_more low r before (omega (arith, h.0)) u)) refl;
+          none = λ before u.
+              rw (
+                is_new low r before h.0 u,
+                a.none,
+                q.none (r ∷ before) (omega arith, up_to_more low r before (omega (arith, h.0)) u),
+              ) refl;
         }
 
-    more_tuple : (i d nth : ℕ) (fields : TFields) → d ≤ max_names → WellFormedFields d fields → Written text i (fields_written (suc nth) d fields) → MoreTuple i d nth fields
+    more_tuple : (i d nth : ℕ) (fields : TFields) → d ≤ max_names → WellFormedFields d fields →
+        Written text i (fields_written (suc nth) d fields) → MoreTuple i d nth fields
     more_tuple i d nth NoFields n h w = record {
       raw = [];
       extend = λ u fs x. rw (append-nil, append-nil) x;
@@ -312,8 +384,20 @@ module _ (text : List ℕ) where
         record {
           raw = f ∷ r.raw;
           extend = λ u fs y. rw (placed_append j (type_written d t) rest)
-              (simp append_assoc at (r.extend _ _ (fs_more (placing.place_of i comma) (placing.place_of m (Sign 94 k.Caret)) (placing.place_of (m + 1) (flag_written flag)) y a.whole (flag_is flag))));
-          fine = ((refl, refl, tt), tt, (refl, tt, fine_append (type_written d t) rest true a.fine ((refl, refl, tt), tt, (flag_valid flag, stops_fields (suc nth) d fields, r.fine))));
+              (simp append_assoc at
+              (r.extend _ _
+              (fs_more (placing.place_of i comma) (placing.place_of m (Sign 94 k.Caret))
+              (placing.place_of (m + 1) (flag_written flag)) y a.whole (flag_is flag))));
+          fine = (
+            (refl, refl, tt),
+            tt,
+            (
+              refl,
+              tt,
+              fine_append (type_written d t) rest true a.fine
+                  ((refl, refl, tt), tt, (flag_valid flag, stops_fields (suc nth) d fields, r.fine)),
+            ),
+          );
           means = ap₂ (λ (u : Ty) (us : TFields). MoreFields u flag us) a.means r.means;
           none = rw (a.none, r.none) refl;
         }
@@ -321,12 +405,14 @@ module _ (text : List ℕ) where
   -- types after the first of a list
   record MoreList (i d nth : ℕ) (ts : List Ty) : Type 0 where
     raw : List RawTy
-    extend : (u : List Token) (rs : List RawTy) → Ts u rs → Ts (u ++ placed i (types_written (suc nth) d ts)) (rs ++ raw)
+    extend : (u : List Token) (rs : List RawTy) → Ts u rs →
+        Ts (u ++ placed i (types_written (suc nth) d ts)) (rs ++ raw)
     fine : Fine (types_written (suc nth) d ts) true
     means : types_of text (scope d) raw ≡ ts
     none : types_faults text (scope d) raw ≡ []
 
-  more_list : (i d nth : ℕ) (ts : List Ty) → d ≤ max_names → WellFormedTypes d ts → Written text i (types_written (suc nth) d ts) → MoreList i d nth ts
+  more_list : (i d nth : ℕ) (ts : List Ty) → d ≤ max_names → WellFormedTypes d ts →
+      Written text i (types_written (suc nth) d ts) → MoreList i d nth ts
   more_list i d nth [] n h w = record {
     raw = [];
     extend = λ u rs x. rw (append-nil, append-nil) x;
@@ -342,8 +428,13 @@ module _ (text : List ℕ) where
       let r = more_list (j + size (type_written d t)) d (suc nth) ts n h.1 x.1 in
       record {
         raw = a.piece.tree ∷ r.raw;
-        extend = λ u rs y. rw (placed_append j (type_written d t) rest) (simp append_assoc at (r.extend _ _ (ts_more (placing.place_of i comma) y a.whole)));
-        fine = ((refl, refl, tt), tt, (refl, tt, fine_append (type_written d t) rest true (rw (stops_types (suc nth) d ts) a.fine) r.fine));
+        extend = λ u rs y. rw (placed_append j (type_written d t) rest)
+            (simp append_assoc at (r.extend _ _ (ts_more (placing.place_of i comma) y a.whole)));
+        fine = (
+          (refl, refl, tt),
+          tt,
+          (refl, tt, fine_append (type_written d t) rest true (rw (stops_types (suc nth) d ts) a.fine) r.fine),
+        );
         means = ap₂ (λ (u : Ty) (us : List Ty). u ∷ us) a.means r.means;
         none = rw (a.none, r.none) refl;
       }
@@ -356,7 +447,8 @@ module _ (text : List ℕ) where
     pub means : types_of text (scope d) raw ≡ ts
     pub none : types_faults text (scope d) raw ≡ []
 
-  pub wrote_types : (i d : ℕ) (t : Ty) (ts : List Ty) → d ≤ max_names → WellFormedTypes d (t ∷ ts) → Written text i (types_written 0 d (t ∷ ts)) → WroteTypes i d (t ∷ ts)
+  pub wrote_types : (i d : ℕ) (t : Ty) (ts : List Ty) → d ≤ max_names → WellFormedTypes d (t ∷ ts) →
+      Written text i (types_written 0 d (t ∷ ts)) → WroteTypes i d (t ∷ ts)
   wrote_types i d t ts n h w =
       let rest = types_written 1 d ts in
       let x = written_append text i (type_written d t) rest w in

@@ -22,11 +22,15 @@ use Rattle.talc_core.specs.Lines.{accepted_line}
 use Rattle.talc_core.specs.Shown.{AcceptedShown}
 
 -- a text is refused whose program is
-pub refused : (text : List ℕ) (p : TProgram) (fault : TFault) (why : Refusal) → IsAssembly text (spanned_program p) → Says fault (ProgramFault (spanned_program p)) → why ≡ refusal_of_assembly fault → RefusedBy AnAssembly text why
+pub refused : (text : List ℕ) (p : TProgram) (fault : TFault) (why : Refusal) → IsAssembly text (spanned_program p) →
+    Says fault (ProgramFault (spanned_program p)) → why ≡ refusal_of_assembly fault → RefusedBy AnAssembly text why
 refused text p Memory why read says is = subst (RefusedBy AnAssembly text) (sym is) tt
-refused text p (Refused code span) why read says is = subst (RefusedBy AnAssembly text) (sym is) (inr (record { program = spanned_program p; read = read; fault = says }))
+refused text p (Refused code span) why read says is =
+    subst (RefusedBy AnAssembly text) (sym is)
+    (inr (record { program = spanned_program p; read = read; fault = says }))
 
-pub accepted_shown : NothingSticks → (text line : List ℕ) (p : TProgram) → Whole (program p) → IsAcceptedText text (spanned_program p) → line ≡ accepted_line → AcceptedShown text line
+pub accepted_shown : NothingSticks → (text line : List ℕ) (p : TProgram) → Whole (program p) →
+    IsAcceptedText text (spanned_program p) → line ≡ accepted_line → AcceptedShown text line
 accepted_shown sticks text line p whole accepted is = record {
   program = spanned_program p;
   accepted = accepted;

@@ -5,7 +5,7 @@ use Rattle.std.proofs.Math.Logic.{∥∥₁_elim, ∥∥₁_map}
 use Rattle.std.proofs.Math.IntN.{ℤ_set}
 use Rattle.f_terms.specs.Tm.{Term}
 use Rattle.f_terms.specs.Typing.{IsProgram}
-use Rattle.f_terms.specs.Eval.{Empty, VInt, Gives, Spent, eval, Evaluates, IsSpent}
+use Rattle.f_terms.specs.Eval.{VInt, Gives, Spent, Evaluates, IsSpent}
 use Rattle.t_terms.specs.Tree.{TProg, Then, Ends, Jmp, Halt}
 use Rattle.t_terms.specs.Whole.{Whole}
 use Rattle.t_rules.specs.Rules.{Accepted}

@@ -1,5 +1,5 @@
--- What `compile` wrote: its program is the one that is read of it, and its term the one that is read of the source. What
--- `upgrade` wrote: its program is that of the old text.
+-- What `compile` wrote: its program is the one that is read of it, and its term the one that is read of the source.
+-- What `upgrade` wrote: its program is that of the old text.
 use Rattle.std.proofs.Common.{◌≡◌, ◌∙◌, ◌+◌, ◌*◌, ◌-◌, ◌≤◌, ℕ, ℤ, List, refl, sym, ap, subst, arith}
 use Rattle.std.proofs.Math.Logic.{∥∥₁_map, ∥∥₁_elim}
 use Rattle.std.proofs.Math.IntN.{ℤ_set}
@@ -16,9 +16,10 @@ use Rattle.t_rules.specs.Times.{program_size}
 use Rattle.spill_law.specs.Bound.{RegistersUpTo}
 use Rattle.pipeline.specs.Meaning.{SameMeaning, RunsSeldom, HaltsSoon}
 use Rattle.t_machine.specs.Seldom.{SeldomRunsAreCovered}
-use Rattle.talc_core.specs.FirstFault.{AnAssembly, IsChecked, IsAcceptedText, IsTaken}
+use Rattle.talc_core.specs.FirstFault.{IsChecked, IsAcceptedText}
 use Rattle.talc_core.specs.declared.status.Status.{Status}
-use Rattle.talc_core.specs.declared.status.Status.TheVariants.{Done, Refused, Usage, Limit, Budget, ReadFault, WriteFault, Memory}
+use Rattle.talc_core.specs.declared.status.Status.TheVariants.{Done, Refused, Usage, Limit, Budget, ReadFault}
+use Rattle.talc_core.specs.declared.status.Status.TheVariants.{WriteFault, Memory}
 use Rattle.talc_core.specs.Written.{IsWritten}
 use Rattle.talc_core.specs.Compiled.{IsCompiled}
 use Rattle.talc_core.specs.Upgraded.{IsUpgraded}
@@ -28,7 +29,8 @@ use Rattle.talc_core.specs.Traced.{HaltedStates, RunningStates}
 use Rattle.talc_core.specs.Composition.{CompiledIsTaken, CompiledMeansTheSame, CompiledShowsTheSame}
 use Rattle.talc_core.specs.Composition.{CompiledRunsAreEvaluations, CompiledRunsAreShown, CompiledEvaluationsRun}
 use Rattle.talc_core.specs.Composition.{CompiledValuesRun, CompiledIsCovered, CompiledNeverSticks, CompiledGoesOn}
-use Rattle.talc_core.specs.Composition.{BoundedIsTaken, BoundedMeansTheSame, BoundedShowsTheSame, BoundedHasFewRegisters}
+use Rattle.talc_core.specs.Composition.{BoundedIsTaken, BoundedMeansTheSame, BoundedShowsTheSame}
+use Rattle.talc_core.specs.Composition.{BoundedHasFewRegisters}
 use Rattle.talc_core.specs.Composition.{UpgradedIsTaken, UpgradedNeverSticks, UpgradedIsTheSame, UpgradedRunsTheSame}
 use Rattle.talc_core.specs.Composition.{UpgradedTracesTheSame}
 use Rattle.talc_core.specs.TextLaws.{TextLaws}
@@ -154,13 +156,16 @@ compiled_goes_on laws source target made term checked program accepted =
     )
 
 -- where the meaning is the same, the integers are
-one_integer : OneAnswer → (e : Term) (P : TProg) (n m : ℕ) (i j : ℤ) → SameMeaning e P → Evaluates e n i → HaltsWithin P m j → i ≡ j
+one_integer : OneAnswer → (e : Term) (P : TProg) (n m : ℕ) (i j : ℤ) → SameMeaning e P → Evaluates e n i →
+    HaltsWithin P m j → i ≡ j
 one_integer one e P n m i j same evaluates halts = one e n m i j evaluates (same.back m j halts)
 
 pub compiled_shows_the_same : TextLaws → OneAnswer → CompiledShowsTheSame
 compiled_shows_the_same laws one source target evaluated ran made turns fuel value halted =
-    ∥∥₁_elim (compiled_means_the_same laws source target made value.term value.checked halted.program halted.accepted) (ℤ_set value.value halted.value) (λ same.
-    one_integer one (plain value.term) (plain_program halted.program) turns fuel value.value halted.value same (value.left, value.evaluates) halted.halts)
+    ∥∥₁_elim (compiled_means_the_same laws source target made value.term value.checked halted.program halted.accepted)
+    (ℤ_set value.value halted.value) (λ same.
+    one_integer one (plain value.term) (plain_program halted.program) turns fuel value.value halted.value same
+    (value.left, value.evaluates) halted.halts)
 
 -- the same within registers
 
@@ -199,7 +204,8 @@ upgraded_never_sticks laws source target made program accepted =
     laws.nothing_sticks (plain_program program) (subst Whole (sym same) made.whole) accepted.1
 
 -- what is shown of one text is shown of another whose program is the same
-shows_the_same : (a b : List ℕ) (there : SProg) → IsAcceptedText b there → ((here : SProg) → IsAcceptedText a here → plain_program here ≡ plain_program there) →
+shows_the_same : (a b : List ℕ) (there : SProg) → IsAcceptedText b there →
+    ((here : SProg) → IsAcceptedText a here → plain_program here ≡ plain_program there) →
     (fuel : ℕ) (status : Status) (line : List ℕ) → ShowsRun fuel status a line → ShowsRun fuel status b line
 shows_the_same a b there read same fuel Done line shown = record {
   program = there;
@@ -221,10 +227,14 @@ shows_the_same a b there read same fuel ReadFault line shown = shown
 shows_the_same a b there read same fuel WriteFault line shown = shown
 shows_the_same a b there read same fuel Memory line shown = shown
 
-traces_the_same : (a b : List ℕ) (there : SProg) → IsAcceptedText b there → ((here : SProg) → IsAcceptedText a here → plain_program here ≡ plain_program there) →
-    (from to : ℕ) (status : Status) (lines : List ℕ) → ShowsTrace from to status a lines → ShowsTrace from to status b lines
-traces_the_same a b there read same from to Done lines shown = (there, read, subst (λ P. HaltedStates P from to lines) (same shown.0 shown.1) shown.2)
-traces_the_same a b there read same from to Budget lines shown = (there, read, subst (λ P. RunningStates P from to lines) (same shown.0 shown.1) shown.2)
+traces_the_same : (a b : List ℕ) (there : SProg) → IsAcceptedText b there →
+    ((here : SProg) → IsAcceptedText a here → plain_program here ≡ plain_program there) →
+    (from to : ℕ) (status : Status) (lines : List ℕ) → ShowsTrace from to status a lines →
+    ShowsTrace from to status b lines
+traces_the_same a b there read same from to Done lines shown =
+    (there, read, subst (λ P. HaltedStates P from to lines) (same shown.0 shown.1) shown.2)
+traces_the_same a b there read same from to Budget lines shown =
+    (there, read, subst (λ P. RunningStates P from to lines) (same shown.0 shown.1) shown.2)
 traces_the_same a b there read same from to Refused lines shown = shown
 traces_the_same a b there read same from to Usage lines shown = shown
 traces_the_same a b there read same from to Limit lines shown = shown
@@ -235,13 +245,21 @@ traces_the_same a b there read same from to Memory lines shown = shown
 pub upgraded_runs_the_same : TextLaws → UpgradedRunsTheSame
 upgraded_runs_the_same laws source target made fuel status line =
     let accepted : IsAcceptedText target made.written.reads.0 = upgraded_accepted source target made in (
-      shows_the_same source target made.written.reads.0 accepted (λ old read. upgraded_is_the_same laws source target made old made.written.reads.0 read accepted) fuel status line,
-      shows_the_same target source made.program made.accepted (λ new read. sym (upgraded_is_the_same laws source target made made.program new made.accepted read)) fuel status line,
+      shows_the_same source target made.written.reads.0 accepted
+          (λ old read. upgraded_is_the_same laws source target made old made.written.reads.0 read accepted) fuel status
+          line,
+      shows_the_same target source made.program made.accepted
+          (λ new read. sym (upgraded_is_the_same laws source target made made.program new made.accepted read)) fuel
+          status line,
     )
 
 pub upgraded_traces_the_same : TextLaws → UpgradedTracesTheSame
 upgraded_traces_the_same laws source target made from to status lines =
     let accepted : IsAcceptedText target made.written.reads.0 = upgraded_accepted source target made in (
-      traces_the_same source target made.written.reads.0 accepted (λ old read. upgraded_is_the_same laws source target made old made.written.reads.0 read accepted) from to status lines,
-      traces_the_same target source made.program made.accepted (λ new read. sym (upgraded_is_the_same laws source target made made.program new made.accepted read)) from to status lines,
+      traces_the_same source target made.written.reads.0 accepted
+          (λ old read. upgraded_is_the_same laws source target made old made.written.reads.0 read accepted) from to
+          status lines,
+      traces_the_same target source made.program made.accepted
+          (λ new read. sym (upgraded_is_the_same laws source target made made.program new made.accepted read)) from to
+          status lines,
     )

@@ -15,7 +15,8 @@ use Rattle.t_rules.specs.Rules.{Accepted}
 use Rattle.t_rules.specs.Faults as checking
 use Rattle.talc_core.specs.declared.fault.Fault.{Fault}
 use Rattle.talc_core.specs.declared.fault.Fault.TheVariants.{Source, Tal}
-use Rattle.talc_core.specs.FirstFault.{AnyText, AnyTerm, AProgram, CellFree, AnAssembly, IsParsed, IsChecked, IsAssembly, TermFault}
+use Rattle.talc_core.specs.FirstFault.{AnyText, AnyTerm, AProgram, CellFree, AnAssembly, IsParsed, IsChecked}
+use Rattle.talc_core.specs.FirstFault.{IsAssembly, TermFault}
 use Rattle.talc_core.specs.FirstFault.{IsTaken, FirstFault, KeepsBounds, TakenOrFault}
 use Rattle.talc_core.specs.TextLaws.{TextLaws}
 
@@ -29,13 +30,17 @@ module _ (laws : TextLaws) where
   Checked text = ((term : Tm) × (type : Ty) × IsChecked text term type) ⊎ ((c : Code) × (s : Span) × TermFault text c s)
 
   by_check : (text : List ℕ) (term : Tm) → IsParsed text term →
-      ((t : Ty) × typing.Passes term 0 NoTys t) ⊎ ((c : Code) × (p : Spn) × typing.Fault term 0 NoTys c p) → Checked text
-  by_check text term read (inl (t, passes)) = inl (term, t, (read, (laws.passes_where_typed term 0 NoTys t tt).0 passes))
-  by_check text term read (inr (c, p, fault)) = inr (c, spanned p, inr (record { term = term; read = read; fault = fault }))
+      ((t : Ty) × typing.Passes term 0 NoTys t) ⊎ ((c : Code) × (p : Spn) × typing.Fault term 0 NoTys c p) →
+      Checked text
+  by_check text term read (inl (t, passes)) =
+      inl (term, t, (read, (laws.passes_where_typed term 0 NoTys t tt).0 passes))
+  by_check text term read (inr (c, p, fault)) =
+      inr (c, spanned p, inr (record { term = term; read = read; fault = fault }))
 
   by_reading : (text : List ℕ) →
       ((a : Tm) × parser.SourceWithin text a) ⊎ ((c : Code) × (s : Span) × parser.FirstFault text c s) → Checked text
-  by_reading text (inl (term, read)) = by_check text term read (laws.pass_or_fault term (laws.closed_terms text term read.source))
+  by_reading text (inl (term, read)) =
+      by_check text term read (laws.pass_or_fault term (laws.closed_terms text term read.source))
   by_reading text (inr (c, s, fault)) = inr (c, s, inl fault)
 
   any_term : (text : List ℕ) → Checked text → IsTaken AnyTerm text ⊎ ((a : Fault) × FirstFault AnyTerm text a)
@@ -86,7 +91,8 @@ module _ (laws : TextLaws) where
       Accepted (plain_program P) ⊎ ((c : TCode) × (s : Span) × checking.ProgramFault P c s) →
       IsTaken AnAssembly text ⊎ ((a : Fault) × FirstFault AnAssembly text a)
   by_acceptance text P read (inl accepted) = inl (P, (read, accepted))
-  by_acceptance text P read (inr (c, s, fault)) = inr (Tal c s, inr (record { program = P; read = read; fault = fault }))
+  by_acceptance text P read (inr (c, s, fault)) =
+      inr (Tal c s, inr (record { program = P; read = read; fault = fault }))
 
   an_assembly : (text : List ℕ) → KeepsBounds AnAssembly text →
       ((P : SProg) × assembly.ReadsAs text P) ⊎ ((c : TCode) × (s : Span) × assembly.FirstFault text c s) →

@@ -1,25 +1,31 @@
 -- The cause of each status, from what a call does by its status.
-use Rattle.std.proofs.Common.{◌≡◌, ◌⊎◌, ◌↔◌, ℕ, Bool, true, false, cond, List, [], Option, Some, None, MatchOption, refl, sym, subst, ap, ◌∙◌, inl, inr}
+use Rattle.std.proofs.Common.{◌≡◌, ◌⊎◌, ◌↔◌, ℕ, Bool, true, false, cond, List, [], Option, Some, None, MatchOption}
+use Rattle.std.proofs.Common.{refl, sym, subst, ap, ◌∙◌, inl, inr}
 use Rattle.io_core.specs.Outside.{FileMap, Faulted, IsAbsent, Holds}
 use Rattle.talc_core.specs.declared.fault.Fault.{Fault}
 use Rattle.talc_core.specs.declared.status.Status.{Status}
-use Rattle.talc_core.specs.declared.status.Status.TheVariants.{Done, Refused, Usage, Limit, Budget, ReadFault, WriteFault, Memory}
+use Rattle.talc_core.specs.declared.status.Status.TheVariants.{Done, Refused, Usage, Limit, Budget, ReadFault}
+use Rattle.talc_core.specs.declared.status.Status.TheVariants.{WriteFault, Memory}
 use Rattle.talc_core.specs.Fault.{is_limit, status_of}
 use Rattle.f_terms.specs.Tm.{plain}
 use Rattle.f_terms.specs.Eval.{Gives, Spent, EvaluatesLeaving, IsSpent}
 use Rattle.t_terms.specs.Spanned.{plain_program}
 use Rattle.t_rules.specs.Machine.{GoesOnAfter}
 use Rattle.talc_core.specs.FirstFault.{Need, AnyText, AnyTerm, AProgram, CellFree, AnAssembly, IsTaken}
-use Rattle.talc_core.specs.Command.{Asked, Compiles, CompilesWithin, Types, Evaluates, Checks, Runs, Generates, Upgrades, Traces, Shows, Explains, command_of, need_of}
+use Rattle.talc_core.specs.Command.{Asked, Compiles, CompilesWithin, Types, Evaluates, Checks, Runs, Generates}
+use Rattle.talc_core.specs.Command.{Upgrades, Traces, Shows, Explains, command_of, need_of}
 use Rattle.talc_core.specs.CompiledText.{CompiledText, CompiledTextWithin}
 use Rattle.talc_core.specs.Upgraded.{IsUpgraded}
-use Rattle.talc_core.specs.Shown.{Showing, ShowsType, ShowsValue, ValueShown, ShowsAccepted, ShowsRun, ShowsTrace, HaltedShown}
+use Rattle.talc_core.specs.Shown.{Showing, ShowsType, ShowsValue, ValueShown, ShowsAccepted, ShowsRun, ShowsTrace}
+use Rattle.talc_core.specs.Shown.{HaltedShown}
 use Rattle.words.specs.declared.form.Form.{Form}
 use Rattle.talc_core.specs.FormShown.{ShowsForm}
 use Rattle.talc_core.specs.Explained.{ShowsExplained}
 use Rattle.talc_core.specs.OnTexts.{Making}
-use Rattle.talc_core.specs.Headline.{Outside, Headline, TextRefused, TextAnswer, LineAnswer, SeedAnswer, UsageAnswer, Does}
-use Rattle.talc_core.specs.Exact.{IsSettled, Tells, WorksOn, IsMissing, CannotRead, LeadsTo, CannotWrite, HasBudget, GoesOn, NoFaults, Works, HeadlineIsExact}
+use Rattle.talc_core.specs.Headline.{Outside, Headline, TextRefused, TextAnswer, LineAnswer, SeedAnswer, UsageAnswer}
+use Rattle.talc_core.specs.Headline.{Does}
+use Rattle.talc_core.specs.Exact.{IsSettled, Tells, WorksOn, IsMissing, CannotRead, LeadsTo, CannotWrite, HasBudget}
+use Rattle.talc_core.specs.Exact.{GoesOn, NoFaults, Works, HeadlineIsExact}
 use Rattle.talc_core.specs.TextLaws.{TextLaws}
 use Rattle.talc_core.proofs.FaultLemmas.{one_fault, no_fault_where_taken, same_term, same_program}
 use Rattle.talc_core.proofs.RunLemmas.{going_not_halted}
@@ -67,7 +73,8 @@ pub record IsOver (asked : Asked) (source : List ℕ) (status : Status) : Type 0
 
 -- or the text has a first fault, and this is the status of it
 abbrev Judged : Asked → List ℕ → Status → Type 0
-Judged asked source status = IsDone asked source status ⊎ (IsOver asked source status ⊎ LeadsTo (need_of asked) source status)
+Judged asked source status =
+    IsDone asked source status ⊎ (IsOver asked source status ⊎ LeadsTo (need_of asked) source status)
 
 -- what goes on after the budget is what is needed
 goes_on_taken : (asked : Asked) (source : List ℕ) → GoesOn asked source → IsTaken (need_of asked) source
@@ -84,7 +91,8 @@ goes_on_taken (Generates seed output) source more = absurd more
 goes_on_taken (Upgrades input output) source more = absurd more
 
 -- a text whose first fault leads to one status has none that leads to another
-one_status : TextLaws → (need : Need) (source : List ℕ) (a b : Status) → LeadsTo need source a → LeadsTo need source b → a ≡ b
+one_status : TextLaws → (need : Need) (source : List ℕ) (a b : Status) → LeadsTo need source a →
+    LeadsTo need source b → a ≡ b
 one_status laws need source a b x y = sym x.2 ∙ ap status_of (one_fault laws need source x.0 y.0 x.1 y.1) ∙ y.2
 
 -- a fault leads to no other status than these
@@ -97,10 +105,20 @@ leads_there s fault e = go (is_limit fault) e
 
 module _ (laws : TextLaws) (asked : Asked) (source : List ℕ) (status : Status) where
   -- a status that a fault leads to comes exactly where the first fault leads to it
-  leads_at : (wanted : Status) → Judged asked source status → (wanted ≡ Done → ⊥) → (wanted ≡ Budget → ⊥) → (status ≡ wanted) ↔ LeadsTo (need_of asked) source wanted
-  leads_at wanted (inl is) other over = (λ e. absurd (other (sym e ∙ is.done)), λ fault. absurd (no_fault_where_taken laws (need_of asked) source fault.0 is.taken fault.1))
-  leads_at wanted (inr (inl is)) other over = (λ e. absurd (over (sym e ∙ is.over)), λ fault. absurd (no_fault_where_taken laws (need_of asked) source fault.0 is.taken fault.1))
-  leads_at wanted (inr (inr found)) other over = (λ e. subst (LeadsTo (need_of asked) source) e found, λ fault. one_status laws (need_of asked) source status wanted found fault)
+  leads_at : (wanted : Status) → Judged asked source status → (wanted ≡ Done → ⊥) → (wanted ≡ Budget → ⊥) →
+      (status ≡ wanted) ↔ LeadsTo (need_of asked) source wanted
+  leads_at wanted (inl is) other over = (
+    λ e. absurd (other (sym e ∙ is.done)),
+    λ fault. absurd (no_fault_where_taken laws (need_of asked) source fault.0 is.taken fault.1),
+  )
+  leads_at wanted (inr (inl is)) other over = (
+    λ e. absurd (over (sym e ∙ is.over)),
+    λ fault. absurd (no_fault_where_taken laws (need_of asked) source fault.0 is.taken fault.1),
+  )
+  leads_at wanted (inr (inr found)) other over = (
+    λ e. subst (LeadsTo (need_of asked) source) e found,
+    λ fault. one_status laws (need_of asked) source status wanted found fault,
+  )
 
   refused_judged : Judged asked source status → (status ≡ Refused) ↔ LeadsTo (need_of asked) source Refused
   refused_judged judged = leads_at Refused judged (λ e. cc) (λ e. cc)
@@ -115,8 +133,11 @@ module _ (laws : TextLaws) (asked : Asked) (source : List ℕ) (status : Status)
   budget_judged : Judged asked source status → (status ≡ Budget) ↔ GoesOn asked source
   budget_judged (inl is) = (λ e. let done = is.done in cc, λ more. absurd (is.ends more))
   budget_judged (inr (inl is)) = (λ e. is.goes_on, λ more. is.over)
-  budget_judged (inr (inr found)) =
-      (λ e. absurd (no_budget_by_fault found e), λ more. absurd (no_fault_where_taken laws (need_of asked) source found.0 (goes_on_taken asked source more) found.1))
+  budget_judged (inr (inr found)) = (
+    λ e. absurd (no_budget_by_fault found e),
+    λ more. absurd
+        (no_fault_where_taken laws (need_of asked) source found.0 (goes_on_taken asked source more) found.1),
+  )
 
   works_judged : Judged asked source status → IsTaken (need_of asked) source → Works asked status
   works_judged (inl is) taken = inl is.done
@@ -126,7 +147,8 @@ module _ (laws : TextLaws) (asked : Asked) (source : List ℕ) (status : Status)
 -- ---- what the lines say
 
 -- a text that stands for a program has no other
-value_ends : TextLaws → (turns : ℕ) (source line : List ℕ) → ValueShown turns source line → GoesOn (Evaluates [] turns) source → ⊥
+value_ends : TextLaws → (turns : ℕ) (source line : List ℕ) → ValueShown turns source line →
+    GoesOn (Evaluates [] turns) source → ⊥
 value_ends laws turns source line shown more =
     let same : shown.term ≡ more.0 = same_term laws source shown.term more.0 shown.checked.0 more.1.0 in
     let spent : IsSpent (plain shown.term) turns = subst (λ t. IsSpent (plain t) turns) (sym same) more.3 in
@@ -137,21 +159,26 @@ value_ends laws turns source line shown more =
 run_ends : TextLaws → (fuel : ℕ) (text line : List ℕ) → HaltedShown fuel text line → GoesOn (Runs [] fuel) text → ⊥
 run_ends laws fuel text line shown more =
     let same : shown.program ≡ more.0 = same_program laws text shown.program more.0 shown.accepted.0 more.1.0 in
-    let goes_on : GoesOnAfter (plain_program shown.program) fuel = subst (λ P. GoesOnAfter (plain_program P) fuel) (sym same) more.2 in
+    let goes_on : GoesOnAfter (plain_program shown.program) fuel =
+    subst (λ P. GoesOnAfter (plain_program P) fuel) (sym same) more.2 in
     let halts = shown.halts in
     going_not_halted laws (plain_program shown.program) halts.0 fuel shown.value halts.2 goes_on halts.1
 
-trace_ends : TextLaws → (from to : ℕ) (text lines : List ℕ) → ShowsTrace from to Done text lines → GoesOn (Traces [] from to) text → ⊥
+trace_ends : TextLaws → (from to : ℕ) (text lines : List ℕ) → ShowsTrace from to Done text lines →
+    GoesOn (Traces [] from to) text → ⊥
 trace_ends laws from to text lines shown more =
     let same : shown.0 ≡ more.0 = same_program laws text shown.0 more.0 shown.1.0 more.1.0 in
-    let goes_on : GoesOnAfter (plain_program shown.0) to = subst (λ P. GoesOnAfter (plain_program P) to) (sym same) more.2 in
+    let goes_on : GoesOnAfter (plain_program shown.0) to =
+    subst (λ P. GoesOnAfter (plain_program P) to) (sym same) more.2 in
     let states = shown.2 in
     going_not_halted laws (plain_program shown.0) states.steps to states.value states.halted goes_on states.within
 
--- a line with the status 0 is shown of a text that is what is needed and ends within the budget, one with 4 of a text that goes on
+-- a line with the status 0 is shown of a text that is what is needed and ends within the budget, one with 4 of a text
+-- that goes on
 pub record IsSound (asked : Asked) (Says : Showing) : Type 0 where
   pub done : (source line : List ℕ) → Says Done source line → IsTaken (need_of asked) source × (¬ GoesOn asked source)
-  pub over : (source line : List ℕ) → Says Budget source line → IsTaken (need_of asked) source × GoesOn asked source × HasBudget asked
+  pub over : (source line : List ℕ) → Says Budget source line → IsTaken (need_of asked) source × GoesOn asked source
+      × HasBudget asked
 
 type_sound : (input : List ℕ) → IsSound (Types input) ShowsType
 type_sound input = record {
@@ -162,7 +189,8 @@ type_sound input = record {
 value_sound : TextLaws → (input : List ℕ) (turns : ℕ) → IsSound (Evaluates input turns) (ShowsValue turns)
 value_sound laws input turns = record {
   done = λ source line shown. ((shown.term, shown.checked, shown.cell_free), value_ends laws turns source line shown);
-  over = λ source line shown. ((shown.term, shown.checked, shown.cell_free), (shown.term, shown.checked, shown.cell_free, shown.spent), tt);
+  over = λ source line shown.
+      ((shown.term, shown.checked, shown.cell_free), (shown.term, shown.checked, shown.cell_free, shown.spent), tt);
 }
 
 accepted_sound : (input : List ℕ) → IsSound (Checks input) ShowsAccepted
@@ -201,32 +229,51 @@ pub record Makers (asked : Asked) (Makes : Making) : Type 0 where
   pub ends : (source : List ℕ) → ¬ GoesOn asked source
 
 compiled_sound : (input output : List ℕ) → Makers (Compiles input output) CompiledText
-compiled_sound input output = record { made = λ source target made. (made.compiled.term, made.compiled.checked); ends = λ source more. more }
+compiled_sound input output =
+    record { made = λ source target made. (made.compiled.term, made.compiled.checked); ends = λ source more. more }
 
 bounded_sound : (input output : List ℕ) (k : ℕ) → Makers (CompilesWithin input output k) (CompiledTextWithin k)
-bounded_sound input output k = record { made = λ source target made. (made.compiled.compiled.term, made.compiled.compiled.checked); ends = λ source more. more }
+bounded_sound input output k =
+    record {
+      made = λ source target made. (made.compiled.compiled.term, made.compiled.compiled.checked);
+      ends = λ source more. more;
+    }
 
 upgraded_sound : (input output : List ℕ) → Makers (Upgrades input output) IsUpgraded
-upgraded_sound input output = record { made = λ source target made. (made.program, made.accepted); ends = λ source more. more }
+upgraded_sound input output =
+    record { made = λ source target made. (made.program, made.accepted); ends = λ source more. more }
 
 -- ---- by the command and the status
 
 module _ (laws : TextLaws) (old new : Outside) where
-  leads : (asked : Asked) (input source : List ℕ) (status : Status) → TextRefused status (need_of asked) input old new → Tells old.files.told input source → Judged asked source status
+  leads : (asked : Asked) (input source : List ℕ) (status : Status) →
+      TextRefused status (need_of asked) input old new → Tells old.files.told input source → Judged asked source status
   leads asked input source status refused tells =
       let same : refused.source ≡ source = same_content old.files.told input refused.source source refused.read tells in
       inr (inr (subst (λ text. LeadsTo (need_of asked) text status) same (refused.fault, refused.first, refused.leads)))
 
   -- of the commands that show a line
-  line_judged : (asked : Asked) (input : List ℕ) (Says : Showing) → IsSound asked Says → (source : List ℕ) (status : Status) → LineAnswer Says (need_of asked) input old new status → Tells old.files.told input source → IsSettled status → Judged asked source status
+  line_judged : (asked : Asked) (input : List ℕ) (Says : Showing) → IsSound asked Says →
+      (source : List ℕ) (status : Status) → LineAnswer Says (need_of asked) input old new status →
+      Tells old.files.told input source → IsSettled status → Judged asked source status
   line_judged asked input Says sound source Done answer tells settled =
       let same : answer.source ≡ source = same_content old.files.told input answer.source source answer.read tells in
       let shown = sound.done answer.source answer.line answer.says in
-      inl (record { taken = subst (IsTaken (need_of asked)) same shown.0; ends = subst (λ text. ¬ GoesOn asked text) same shown.1; done = refl })
+      inl (record {
+        taken = subst (IsTaken (need_of asked)) same shown.0;
+        ends = subst (λ text. ¬ GoesOn asked text) same shown.1;
+        done = refl;
+      })
   line_judged asked input Says sound source Budget answer tells settled =
       let same : answer.source ≡ source = same_content old.files.told input answer.source source answer.read tells in
       let shown = sound.over answer.source answer.line answer.says in
-      inr (inl (record { taken = subst (IsTaken (need_of asked)) same shown.0; goes_on = subst (GoesOn asked) same shown.1; has = shown.2; over = refl }))
+      inr
+      (inl (record {
+        taken = subst (IsTaken (need_of asked)) same shown.0;
+        goes_on = subst (GoesOn asked) same shown.1;
+        has = shown.2;
+        over = refl;
+      }))
   line_judged asked input Says sound source Refused answer tells settled = leads asked input source Refused answer tells
   line_judged asked input Says sound source Limit answer tells settled = leads asked input source Limit answer tells
   line_judged asked input Says sound source Usage answer tells settled = absurd answer
@@ -235,32 +282,61 @@ module _ (laws : TextLaws) (old new : Outside) where
   line_judged asked input Says sound source Memory answer tells settled = absurd settled
 
   -- of those that write a text made of another
-  text_judged : (asked : Asked) (input output : List ℕ) (Makes : Making) → Makers asked Makes → (source : List ℕ) (status : Status) → TextAnswer Makes (need_of asked) input output old new status → Tells old.files.told input source → IsSettled status → Judged asked source status
+  text_judged : (asked : Asked) (input output : List ℕ) (Makes : Making) → Makers asked Makes →
+      (source : List ℕ) (status : Status) → TextAnswer Makes (need_of asked) input output old new status →
+      Tells old.files.told input source → IsSettled status → Judged asked source status
   text_judged asked input output Makes sound source Done answer tells settled =
       let same : answer.source ≡ source = same_content old.files.told input answer.source source answer.read tells in
-      inl (record { taken = subst (IsTaken (need_of asked)) same (sound.made answer.source answer.target answer.made); ends = sound.ends source; done = refl })
-  text_judged asked input output Makes sound source Refused answer tells settled = leads asked input source Refused answer tells
-  text_judged asked input output Makes sound source Limit answer tells settled = leads asked input source Limit answer tells
+      inl (record {
+        taken = subst (IsTaken (need_of asked)) same (sound.made answer.source answer.target answer.made);
+        ends = sound.ends source;
+        done = refl;
+      })
+  text_judged asked input output Makes sound source Refused answer tells settled =
+      leads asked input source Refused answer tells
+  text_judged asked input output Makes sound source Limit answer tells settled =
+      leads asked input source Limit answer tells
   text_judged asked input output Makes sound source Usage answer tells settled = absurd answer
   text_judged asked input output Makes sound source Budget answer tells settled = absurd answer
   text_judged asked input output Makes sound source ReadFault answer tells settled = absurd settled
   text_judged asked input output Makes sound source WriteFault answer tells settled = absurd settled
   text_judged asked input output Makes sound source Memory answer tells settled = absurd settled
 
-  judged : (asked : Asked) (source : List ℕ) (status : Status) → Does old new status asked → WorksOn asked old source → IsSettled status → Judged asked source status
-  judged (Types input) source status answer tells settled = line_judged (Types input) input ShowsType (type_sound input) source status answer tells settled
-  judged (Evaluates input turns) source status answer tells settled = line_judged (Evaluates input turns) input (ShowsValue turns) (value_sound laws input turns) source status answer tells settled
-  judged (Checks input) source status answer tells settled = line_judged (Checks input) input ShowsAccepted (accepted_sound input) source status answer tells settled
-  judged (Runs input fuel) source status answer tells settled = line_judged (Runs input fuel) input (ShowsRun fuel) (run_sound laws input fuel) source status answer tells settled
-  judged (Traces input from to) source status answer tells settled = line_judged (Traces input from to) input (ShowsTrace from to) (trace_sound laws input from to) source status answer tells settled
-  judged (Shows input form) source status answer tells settled = line_judged (Shows input form) input (ShowsForm form) (form_sound input form) source status answer tells settled
-  judged (Explains input) source status answer tells settled = line_judged (Explains input) input ShowsExplained (explain_sound input) source status answer tells settled
-  judged (Compiles input output) source status answer tells settled = text_judged (Compiles input output) input output CompiledText (compiled_sound input output) source status answer tells settled
-  judged (CompilesWithin input output k) source status answer tells settled = text_judged (CompilesWithin input output k) input output (CompiledTextWithin k) (bounded_sound input output k) source status answer tells settled
-  judged (Upgrades input output) source status answer tells settled = text_judged (Upgrades input output) input output IsUpgraded (upgraded_sound input output) source status answer tells settled
+  judged : (asked : Asked) (source : List ℕ) (status : Status) → Does old new status asked → WorksOn asked old source →
+      IsSettled status → Judged asked source status
+  judged (Types input) source status answer tells settled =
+      line_judged (Types input) input ShowsType (type_sound input) source status answer tells settled
+  judged (Evaluates input turns) source status answer tells settled =
+      line_judged (Evaluates input turns) input (ShowsValue turns) (value_sound laws input turns) source status answer
+      tells settled
+  judged (Checks input) source status answer tells settled =
+      line_judged (Checks input) input ShowsAccepted (accepted_sound input) source status answer tells settled
+  judged (Runs input fuel) source status answer tells settled =
+      line_judged (Runs input fuel) input (ShowsRun fuel) (run_sound laws input fuel) source status answer tells
+      settled
+  judged (Traces input from to) source status answer tells settled =
+      line_judged (Traces input from to) input (ShowsTrace from to) (trace_sound laws input from to) source status
+      answer tells settled
+  judged (Shows input form) source status answer tells settled =
+      line_judged (Shows input form) input (ShowsForm form) (form_sound input form) source status answer tells settled
+  judged (Explains input) source status answer tells settled =
+      line_judged (Explains input) input ShowsExplained (explain_sound input) source status answer tells settled
+  judged (Compiles input output) source status answer tells settled =
+      text_judged (Compiles input output) input output CompiledText (compiled_sound input output) source status answer
+      tells settled
+  judged (CompilesWithin input output k) source status answer tells settled =
+      text_judged (CompilesWithin input output k) input output (CompiledTextWithin k) (bounded_sound input output k)
+      source status answer tells settled
+  judged (Upgrades input output) source status answer tells settled =
+      text_judged (Upgrades input output) input output IsUpgraded (upgraded_sound input output) source status answer
+      tells settled
   judged (Generates seed output) source Done answer is settled =
       let done = answer.says in
-      inl (record { taken = subst (IsTaken AProgram) (sym is) (done.term, done.checked); ends = λ more. more; done = refl })
+      inl (record {
+        taken = subst (IsTaken AProgram) (sym is) (done.term, done.checked);
+        ends = λ more. more;
+        done = refl;
+      })
   judged (Generates seed output) source Refused answer is settled = absurd answer
   judged (Generates seed output) source Limit answer is settled = absurd answer
   judged (Generates seed output) source Usage answer is settled = absurd answer
@@ -270,37 +346,56 @@ module _ (laws : TextLaws) (old new : Outside) where
   judged (Generates seed output) source Memory answer is settled = absurd settled
 
   -- only these statuses come where the file is absent
-  line_absent : (Says : Showing) (need : Need) (input : List ℕ) (status : Status) → LineAnswer Says need input old new status → IsAbsent old.files.told input → (status ≡ ReadFault) ⊎ (status ≡ Memory)
-  line_absent Says need input Done answer absent = absurd (not_absent old.files.told input answer.source answer.read absent)
-  line_absent Says need input Budget answer absent = absurd (not_absent old.files.told input answer.source answer.read absent)
-  line_absent Says need input Refused answer absent = absurd (not_absent old.files.told input answer.source answer.read absent)
-  line_absent Says need input Limit answer absent = absurd (not_absent old.files.told input answer.source answer.read absent)
-  line_absent Says need input WriteFault answer absent = absurd (not_absent old.files.told input answer.source answer.read absent)
+  line_absent : (Says : Showing) (need : Need) (input : List ℕ) (status : Status) →
+      LineAnswer Says need input old new status → IsAbsent old.files.told input →
+      (status ≡ ReadFault) ⊎ (status ≡ Memory)
+  line_absent Says need input Done answer absent =
+      absurd (not_absent old.files.told input answer.source answer.read absent)
+  line_absent Says need input Budget answer absent =
+      absurd (not_absent old.files.told input answer.source answer.read absent)
+  line_absent Says need input Refused answer absent =
+      absurd (not_absent old.files.told input answer.source answer.read absent)
+  line_absent Says need input Limit answer absent =
+      absurd (not_absent old.files.told input answer.source answer.read absent)
+  line_absent Says need input WriteFault answer absent =
+      absurd (not_absent old.files.told input answer.source answer.read absent)
   line_absent Says need input Usage answer absent = absurd answer
   line_absent Says need input ReadFault answer absent = inl refl
   line_absent Says need input Memory answer absent = inr refl
 
-  text_absent : (Makes : Making) (need : Need) (input output : List ℕ) (status : Status) → TextAnswer Makes need input output old new status → IsAbsent old.files.told input → (status ≡ ReadFault) ⊎ (status ≡ Memory)
-  text_absent Makes need input output Done answer absent = absurd (not_absent old.files.told input answer.source answer.read absent)
-  text_absent Makes need input output Refused answer absent = absurd (not_absent old.files.told input answer.source answer.read absent)
-  text_absent Makes need input output Limit answer absent = absurd (not_absent old.files.told input answer.source answer.read absent)
-  text_absent Makes need input output WriteFault answer absent = absurd (not_absent old.files.told input answer.source answer.read absent)
+  text_absent : (Makes : Making) (need : Need) (input output : List ℕ) (status : Status) →
+      TextAnswer Makes need input output old new status → IsAbsent old.files.told input →
+      (status ≡ ReadFault) ⊎ (status ≡ Memory)
+  text_absent Makes need input output Done answer absent =
+      absurd (not_absent old.files.told input answer.source answer.read absent)
+  text_absent Makes need input output Refused answer absent =
+      absurd (not_absent old.files.told input answer.source answer.read absent)
+  text_absent Makes need input output Limit answer absent =
+      absurd (not_absent old.files.told input answer.source answer.read absent)
+  text_absent Makes need input output WriteFault answer absent =
+      absurd (not_absent old.files.told input answer.source answer.read absent)
   text_absent Makes need input output Usage answer absent = absurd answer
   text_absent Makes need input output Budget answer absent = absurd answer
   text_absent Makes need input output ReadFault answer absent = inl refl
   text_absent Makes need input output Memory answer absent = inr refl
 
-  absent_at : (asked : Asked) (status : Status) → Does old new status asked → IsMissing asked old → (status ≡ ReadFault) ⊎ (status ≡ Memory)
+  absent_at : (asked : Asked) (status : Status) → Does old new status asked → IsMissing asked old →
+      (status ≡ ReadFault) ⊎ (status ≡ Memory)
   absent_at (Types input) status answer absent = line_absent ShowsType AnyTerm input status answer absent
-  absent_at (Evaluates input turns) status answer absent = line_absent (ShowsValue turns) CellFree input status answer absent
+  absent_at (Evaluates input turns) status answer absent =
+      line_absent (ShowsValue turns) CellFree input status answer absent
   absent_at (Checks input) status answer absent = line_absent ShowsAccepted AnAssembly input status answer absent
   absent_at (Runs input fuel) status answer absent = line_absent (ShowsRun fuel) AnAssembly input status answer absent
-  absent_at (Traces input from to) status answer absent = line_absent (ShowsTrace from to) AnAssembly input status answer absent
+  absent_at (Traces input from to) status answer absent =
+      line_absent (ShowsTrace from to) AnAssembly input status answer absent
   absent_at (Shows input form) status answer absent = line_absent (ShowsForm form) AProgram input status answer absent
   absent_at (Explains input) status answer absent = line_absent ShowsExplained AnyText input status answer absent
-  absent_at (Compiles input output) status answer absent = text_absent CompiledText AProgram input output status answer absent
-  absent_at (CompilesWithin input output k) status answer absent = text_absent (CompiledTextWithin k) AProgram input output status answer absent
-  absent_at (Upgrades input output) status answer absent = text_absent IsUpgraded AnAssembly input output status answer absent
+  absent_at (Compiles input output) status answer absent =
+      text_absent CompiledText AProgram input output status answer absent
+  absent_at (CompilesWithin input output k) status answer absent =
+      text_absent (CompiledTextWithin k) AProgram input output status answer absent
+  absent_at (Upgrades input output) status answer absent =
+      text_absent IsUpgraded AnAssembly input output status answer absent
   absent_at (Generates seed output) status answer absent = absurd absent
 
   read_fault_at : (asked : Asked) → Does old new ReadFault asked → CannotRead asked old new
@@ -345,11 +440,13 @@ module _ (laws : TextLaws) (old new : Outside) where
   cannot (Generates seed output) none (inr rose) = none.puts rose
 
   -- a file that is told is read, where no count rises
-  told_is_read : (input source : List ℕ) → NoFaults old new → Tells old.files.told input source → Faulted old.files.reads new.files.reads ⊎ IsAbsent old.files.told input → ⊥
+  told_is_read : (input source : List ℕ) → NoFaults old new → Tells old.files.told input source →
+      Faulted old.files.reads new.files.reads ⊎ IsAbsent old.files.told input → ⊥
   told_is_read input source none tells (inl rose) = none.reads rose
   told_is_read input source none tells (inr absent) = told_not_absent old.files.told input source tells absent
 
-  cannot_read : (asked : Asked) (source : List ℕ) → NoFaults old new → WorksOn asked old source → CannotRead asked old new → ⊥
+  cannot_read : (asked : Asked) (source : List ℕ) → NoFaults old new → WorksOn asked old source →
+      CannotRead asked old new → ⊥
   cannot_read (Compiles input output) source none tells why = told_is_read input source none tells why
   cannot_read (CompilesWithin input output k) source none tells why = told_is_read input source none tells why
   cannot_read (Upgrades input output) source none tells why = told_is_read input source none tells why
@@ -388,7 +485,8 @@ module _ (laws : TextLaws) (old new : Outside) where
   budget_has (Explains input) answer = answer.says
   budget_has (Generates seed output) answer = answer
 
-  generates_at : (seed : ℕ) (output : List ℕ) (status : Status) → SeedAnswer seed output old new status → (status ≡ Done) ⊎ ((status ≡ WriteFault) ⊎ (status ≡ Memory))
+  generates_at : (seed : ℕ) (output : List ℕ) (status : Status) → SeedAnswer seed output old new status →
+      (status ≡ Done) ⊎ ((status ≡ WriteFault) ⊎ (status ≡ Memory))
   generates_at seed output Done answer = inl refl
   generates_at seed output WriteFault answer = inr (inl refl)
   generates_at seed output Memory answer = inr (inr refl)
@@ -398,7 +496,8 @@ module _ (laws : TextLaws) (old new : Outside) where
   generates_at seed output Budget answer = absurd answer
   generates_at seed output ReadFault answer = absurd answer
 
-  explains_at : (input : List ℕ) (status : Status) → LineAnswer ShowsExplained AnyText input old new status → (status ≡ Done) ⊎ ((status ≡ ReadFault) ⊎ ((status ≡ WriteFault) ⊎ (status ≡ Memory)))
+  explains_at : (input : List ℕ) (status : Status) → LineAnswer ShowsExplained AnyText input old new status →
+      (status ≡ Done) ⊎ ((status ≡ ReadFault) ⊎ ((status ≡ WriteFault) ⊎ (status ≡ Memory)))
   explains_at input Done answer = inl refl
   explains_at input ReadFault answer = inr (inl refl)
   explains_at input WriteFault answer = inr (inr (inl refl))
@@ -409,15 +508,22 @@ module _ (laws : TextLaws) (old new : Outside) where
   explains_at input Usage answer = absurd answer
 
   -- a settled status is that of the text, any other has its cause
-  complete_at : (asked : Asked) (source : List ℕ) (status : Status) → Does old new status asked → WorksOn asked old source → IsTaken (need_of asked) source → NoFaults old new → Works asked status ⊎ (status ≡ Memory)
-  complete_at asked source ReadFault answer tells taken none = absurd (cannot_read asked source none tells (read_fault_at asked answer))
+  complete_at : (asked : Asked) (source : List ℕ) (status : Status) → Does old new status asked →
+      WorksOn asked old source → IsTaken (need_of asked) source → NoFaults old new →
+      Works asked status ⊎ (status ≡ Memory)
+  complete_at asked source ReadFault answer tells taken none =
+      absurd (cannot_read asked source none tells (read_fault_at asked answer))
   complete_at asked source WriteFault answer tells taken none = absurd (cannot asked none (write_fault_at asked answer))
   complete_at asked source Memory answer tells taken none = inr refl
-  complete_at asked source Done answer tells taken none = inl (works_judged laws asked source Done (judged asked source Done answer tells tt) taken)
-  complete_at asked source Refused answer tells taken none = inl (works_judged laws asked source Refused (judged asked source Refused answer tells tt) taken)
-  complete_at asked source Limit answer tells taken none = inl (works_judged laws asked source Limit (judged asked source Limit answer tells tt) taken)
+  complete_at asked source Done answer tells taken none =
+      inl (works_judged laws asked source Done (judged asked source Done answer tells tt) taken)
+  complete_at asked source Refused answer tells taken none =
+      inl (works_judged laws asked source Refused (judged asked source Refused answer tells tt) taken)
+  complete_at asked source Limit answer tells taken none =
+      inl (works_judged laws asked source Limit (judged asked source Limit answer tells tt) taken)
   complete_at asked source Usage answer tells taken none = absurd (no_usage asked answer)
-  complete_at asked source Budget answer tells taken none = inl (works_judged laws asked source Budget (judged asked source Budget answer tells tt) taken)
+  complete_at asked source Budget answer tells taken none =
+      inl (works_judged laws asked source Budget (judged asked source Budget answer tells tt) taken)
 
   -- ---- where the words are none
 
@@ -435,11 +541,14 @@ module _ (laws : TextLaws) (old new : Outside) where
   settled_usage status (inl usage) settled = usage
   settled_usage status (inr memory) settled = absurd (subst IsSettled memory settled)
 
-  usage_at : (o : Option Asked) (status : Status) → MatchOption o (UsageAnswer old new status) (Does old new status) → IsSettled status → (status ≡ Usage) ↔ (o ≡ None)
+  usage_at : (o : Option Asked) (status : Status) → MatchOption o (UsageAnswer old new status) (Does old new status) →
+      IsSettled status → (status ≡ Usage) ↔ (o ≡ None)
   usage_at None status answer settled = (λ _. refl, λ _. settled_usage status (no_command_at status answer) settled)
-  usage_at (Some asked) status answer settled = (λ e. absurd (no_usage asked (subst (λ s. Does old new s asked) e answer)), λ e. cc)
+  usage_at (Some asked) status answer settled =
+      (λ e. absurd (no_usage asked (subst (λ s. Does old new s asked) e answer)), λ e. cc)
 
-  has_budget_at : (o : Option Asked) → MatchOption o (UsageAnswer old new Budget) (Does old new Budget) → (asked : Asked) × (o ≡ Some asked) × HasBudget asked
+  has_budget_at : (o : Option Asked) → MatchOption o (UsageAnswer old new Budget) (Does old new Budget) →
+      (asked : Asked) × (o ≡ Some asked) × HasBudget asked
   has_budget_at None answer = absurd answer
   has_budget_at (Some asked) answer = (asked, refl, budget_has asked answer)
 
@@ -447,14 +556,22 @@ pub exactly : TextLaws → HeadlineIsExact
 exactly laws words old new status headline = record {
   usage = usage_at laws old new (command_of words) status headline;
   no_command = λ none. no_command_at laws old new status (at_none _ _ _ headline none);
-  refused = λ asked source asks settled. refused_judged laws asked source status (judged laws old new asked source status (at_some _ _ _ _ headline asks.0) asks.1 settled);
-  limit = λ asked source asks settled. limit_judged laws asked source status (judged laws old new asked source status (at_some _ _ _ _ headline asks.0) asks.1 settled);
-  budget = λ asked source asks settled. budget_judged laws asked source status (judged laws old new asked source status (at_some _ _ _ _ headline asks.0) asks.1 settled);
+  refused = λ asked source asks settled. refused_judged laws asked source status
+      (judged laws old new asked source status (at_some _ _ _ _ headline asks.0) asks.1 settled);
+  limit = λ asked source asks settled. limit_judged laws asked source status
+      (judged laws old new asked source status (at_some _ _ _ _ headline asks.0) asks.1 settled);
+  budget = λ asked source asks settled. budget_judged laws asked source status
+      (judged laws old new asked source status (at_some _ _ _ _ headline asks.0) asks.1 settled);
   has_budget = λ e. has_budget_at laws old new (command_of words) (subst (Headline words old new) e headline);
-  read_fault = λ asked asks e. read_fault_at laws old new asked (subst (λ s. Does old new s asked) e (at_some _ _ _ _ headline asks));
+  read_fault =
+      λ asked asks e. read_fault_at laws old new asked
+      (subst (λ s. Does old new s asked) e (at_some _ _ _ _ headline asks));
   absent = λ asked asks absent. absent_at laws old new asked status (at_some _ _ _ _ headline asks) absent;
-  write_fault = λ asked asks e. write_fault_at laws old new asked (subst (λ s. Does old new s asked) e (at_some _ _ _ _ headline asks));
+  write_fault =
+      λ asked asks e. write_fault_at laws old new asked
+      (subst (λ s. Does old new s asked) e (at_some _ _ _ _ headline asks));
   generates = λ seed output asks. generates_at laws old new seed output status (at_some _ _ _ _ headline asks);
   explains = λ input asks. explains_at laws old new input status (at_some _ _ _ _ headline asks);
-  complete = λ asked source asks taken none. complete_at laws old new asked source status (at_some _ _ _ _ headline asks.0) asks.1 taken none;
+  complete = λ asked source asks taken none. complete_at laws old new asked source status
+      (at_some _ _ _ _ headline asks.0) asks.1 taken none;
 }

@@ -6,10 +6,10 @@ use Rattle.idx_core.specs.declared.memory.OutOfMemory.{OutOfMemory}
 use Rattle.f_terms.specs.declared.fault.Code.{Code}
 use Rattle.f_terms.specs.Faults as typing
 use Rattle.f_terms.specs.Ty.{NoTys}
-use Rattle.f_terms.specs.Tm.{Tm, plain}
+use Rattle.f_terms.specs.Tm.{plain}
 use Rattle.f_terms.specs.Read.{place}
 use Rattle.f_terms.specs.Accepted.{IsAccepted}
-use Rattle.f_check.specs.Mismatch.{FaultWith, Mismatch as SourceMismatch}
+use Rattle.f_check.specs.Mismatch.{FaultWith}
 use Rattle.f_check.specs.Laws as source_at_odds
 use Rattle.t_terms.specs.declared.fault.TCode.{TCode}
 use Rattle.t_terms.specs.Spanned.{SProg}
@@ -19,7 +19,7 @@ use Rattle.mismatch_text.specs.Line.{source_line, not_int_line, assembly_line}
 use Rattle.talc_core.specs.declared.fault.Fault.{Fault}
 use Rattle.talc_core.specs.declared.fault.Fault.TheVariants.{Source, Tal}
 use Rattle.talc_core.specs.declared.finding.Finding.{Finding}
-use Rattle.talc_core.specs.FirstFault.{FirstFault, AProgram, AnAssembly, IsParsed, IsAssembly}
+use Rattle.talc_core.specs.FirstFault.{FirstFault, AProgram, AnAssembly, IsAssembly}
 use Rattle.talc_core.specs.AtOdds.{AtOdds}
 use Rattle.talc_core.specs.Explained.{is_assembly, looked_for, explained, OneExplanation}
 use Rattle.talc_core.specs.Steps.{IsFinding}
@@ -31,23 +31,6 @@ pub looks : (text : List ℕ) (found : Result Finding OutOfMemory) (b : Bool) �
     IfOk found (IsFinding (if b then AnAssembly else AProgram) text) → IfOk found (IsFinding (looked_for text) text)
 looks text found b is finds =
     subst (λ (c : Bool). IfOk found (IsFinding (if c then AnAssembly else AProgram) text)) (sym is) finds
-
--- the fault of a term that is refused, with what is at odds in it
-pub refused_term : source_at_odds.EachFaultSays → (text : List ℕ) (e : Tm) (code : Code) (span : Span)
-    (found : Option SourceMismatch) (types : List ℕ) → IsParsed text e → typing.Fault e 0 NoTys code (place span) →
-    ((m : Option SourceMismatch) → FaultWith e 0 NoTys code (place span) m → found ≡ m) → types ≡ source_line found →
-    FirstFault AProgram text (Source code span) × AtOdds text (Source code span) types
-refused_term says text e code span found types read fault right is =
-    let told = says e 0 NoTys code (place span) fault in (
-      inl (inr (record { term = e; read = read; fault = fault })),
-      inr (inl (record {
-        term = e;
-        read = read;
-        mismatch = told.0;
-        fault = told.1;
-        is = is ∙ ap source_line (right told.0 told.1);
-      })),
-    )
 
 -- and of an assembly program
 pub refused_program : (text : List ℕ) (P : SProg) (code : TCode) (span : Span) (found : Option Mismatch)
@@ -69,14 +52,17 @@ module _ (laws : TextLaws) (odds : MismatchLaws) where
   one_of_source text c s a b (inr (inl x)) (inr (inl y)) =
       let same : x.term ≡ y.term = same_term laws text x.term y.term x.read y.read in
       let fault = subst (λ e. FaultWith e 0 NoTys c (place s) x.mismatch) same x.fault in
-      x.is ∙ ap source_line (odds.one_of_a_source y.term 0 NoTys c c (place s) (place s) x.mismatch y.mismatch fault y.fault)
+      x.is ∙ ap source_line
+      (odds.one_of_a_source y.term 0 NoTys c c (place s) (place s) x.mismatch y.mismatch fault y.fault)
       ∙ sym y.is
   one_of_source text c s a b (inr (inl x)) (inr (inr y)) =
       let fault = odds.of_a_source_fault x.term 0 NoTys c (place s) x.mismatch x.fault in
-      absurd (no_term_fault laws text c s y.term y.type y.checked (inr (record { term = x.term; read = x.read; fault = fault })))
+      absurd (no_term_fault laws text c s y.term y.type y.checked
+      (inr (record { term = x.term; read = x.read; fault = fault })))
   one_of_source text c s a b (inr (inr x)) (inr (inl y)) =
       let fault = odds.of_a_source_fault y.term 0 NoTys c (place s) y.mismatch y.fault in
-      absurd (no_term_fault laws text c s x.term x.type x.checked (inr (record { term = y.term; read = y.read; fault = fault })))
+      absurd (no_term_fault laws text c s x.term x.type x.checked
+      (inr (record { term = y.term; read = y.read; fault = fault })))
   one_of_source text c s a b (inr (inr x)) (inr (inr y)) =
       let same : x.term ≡ y.term = same_term laws text x.term y.term x.checked.0 y.checked.0 in
       let accepted = subst (λ e. IsAccepted (plain e) x.type) same x.checked.1 in

@@ -15,13 +15,15 @@ use Rattle.talc_core.specs.Explained.{explained, is_assembly}
 
 -- a name without a binder, from the byte 19 up to the byte 20
 unbound : explained (codes "(fix f(x:int):int. g x) 3") (Source E05 (record { start = 19; end = 20 })) []
-    ≡ codes "E05 unbound name: line 1, column 20 (bytes 19..20)\n1 | (fix f(x:int):int. g x) 3\n  |                    ^\nno `fix`, `let` or `open` around it binds this name\n"
+    ≡ codes
+    "E05 unbound name: line 1, column 20 (bytes 19..20)\n1 | (fix f(x:int):int. g x) 3\n  |                    ^\nno `fix`, `let` or `open` around it binds this name\n"
 unfolding digits
 unbound = refl
 
 -- a version that is none
 version : explained (codes "tal 3\nL0: code[]{}. halt[int]") (Tal T03 (record { start = 4; end = 5 })) []
-    ≡ codes "T03 unexpected token or end: line 1, column 5 (bytes 4..5)\n1 | tal 3\n  |     ^\nno program goes on so here: a token is missing or too much, or the version has it not\n"
+    ≡ codes
+    "T03 unexpected token or end: line 1, column 5 (bytes 4..5)\n1 | tal 3\n  |     ^\nno program goes on so here: a token is missing or too much, or the version has it not\n"
 unfolding digits
 version = refl
 

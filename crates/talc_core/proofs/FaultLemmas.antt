@@ -13,7 +13,9 @@ use Rattle.talc_core.specs.declared.fault.Fault.TheVariants.{Source, Tal}
 use Rattle.t_terms.specs.declared.fault.TCode.{TCode}
 use Rattle.t_terms.specs.Spanned.{SProg}
 use Rattle.t_rules.specs.Faults as checking
-use Rattle.talc_core.specs.FirstFault.{AnyText, AnyTerm, AProgram, CellFree, AnAssembly, IsParsed, IsChecked, IsAssembly, IsAcceptedText, TermFault, ProgramFault, CellFault, AssemblyFault, OneFault, NoFaultWhereTaken}
+use Rattle.talc_core.specs.FirstFault.{AnyText, AnyTerm, AProgram, CellFree, AnAssembly, IsParsed, IsChecked}
+use Rattle.talc_core.specs.FirstFault.{IsAssembly, IsAcceptedText, TermFault, ProgramFault, CellFault, AssemblyFault}
+use Rattle.talc_core.specs.FirstFault.{OneFault, NoFaultWhereTaken}
 use Rattle.talc_core.specs.TextLaws.{TextLaws}
 
 -- code and place of two faults agree
@@ -40,20 +42,25 @@ module _ (laws : TextLaws) where
 
   -- ---- no fault beside a text that is what is needed
 
-  pub no_term_fault : (text : List ℕ) (c : Code) (s : Span) (term : Tm) (type : Ty) → IsChecked text term type → TermFault text c s → ⊥
+  pub no_term_fault : (text : List ℕ) (c : Code) (s : Span) (term : Tm) (type : Ty) → IsChecked text term type →
+      TermFault text c s → ⊥
   no_term_fault text c s term type checked (inl reading) = laws.no_fault_of_a_term text term c s checked.0 reading
   no_term_fault text c s term type checked (inr checking) =
       let same : checking.term ≡ term = same_term text checking.term term checking.read checked.0 in
-      laws.no_fault_beside_a_pass term 0 NoTys type c (place s) (passes term type checked.1) (subst (λ e. typing.Fault e 0 NoTys c (place s)) same checking.fault)
+      laws.no_fault_beside_a_pass term 0 NoTys type c (place s) (passes term type checked.1)
+      (subst (λ e. typing.Fault e 0 NoTys c (place s)) same checking.fault)
 
-  no_program_fault : (text : List ℕ) (c : Code) (s : Span) (term : Tm) → IsChecked text term TInt → ProgramFault text c s → ⊥
+  no_program_fault : (text : List ℕ) (c : Code) (s : Span) (term : Tm) → IsChecked text term TInt →
+      ProgramFault text c s → ⊥
   no_program_fault text c s term checked (inl fault) = no_term_fault text c s term TInt checked fault
   no_program_fault text c s term checked (inr other) =
       let same : other.term ≡ term = same_term text other.term term other.checked.0 checked.0 in
-      other.other (laws.one_type (plain term) 0 NoTys other.type TInt (subst (λ e. IsAccepted (plain e) other.type) same other.checked.1).0 checked.1.0)
+      other.other (laws.one_type (plain term) 0 NoTys other.type TInt
+      (subst (λ e. IsAccepted (plain e) other.type) same other.checked.1).0 checked.1.0)
 
   -- a program without cells is no other with cells
-  no_cell_fault : (text : List ℕ) (c : Code) (s : Span) (term : Tm) → IsChecked text term TInt → has_cells (plain term) ≡ false → CellFault text c s → ⊥
+  no_cell_fault : (text : List ℕ) (c : Code) (s : Span) (term : Tm) → IsChecked text term TInt →
+      has_cells (plain term) ≡ false → CellFault text c s → ⊥
   no_cell_fault text c s term checked free (inl fault) = no_program_fault text c s term checked fault
   no_cell_fault text c s term checked free (inr other) =
       let same : other.term ≡ term = same_term text other.term term other.checked.0 checked.0 in
@@ -65,8 +72,10 @@ module _ (laws : TextLaws) where
   pub same_program : (text : List ℕ) (a b : SProg) → IsAssembly text a → IsAssembly text b → a ≡ b
   same_program text a b x y = laws.one_program text a b x.stands y.stands
 
-  no_assembly_fault : (text : List ℕ) (c : TCode) (s : Span) (program : SProg) → IsAcceptedText text program → AssemblyFault text c s → ⊥
-  no_assembly_fault text c s program accepted (inl reading) = laws.no_fault_of_a_program text program c s accepted.0 reading
+  no_assembly_fault : (text : List ℕ) (c : TCode) (s : Span) (program : SProg) → IsAcceptedText text program →
+      AssemblyFault text c s → ⊥
+  no_assembly_fault text c s program accepted (inl reading) =
+      laws.no_fault_of_a_program text program c s accepted.0 reading
   no_assembly_fault text c s program accepted (inr found) =
       let same : found.program ≡ program = same_program text found.program program found.read accepted.0 in
       laws.no_fault_where_accepted program c s accepted.1 (subst (λ P. checking.ProgramFault P c s) same found.fault)
@@ -85,14 +94,17 @@ module _ (laws : TextLaws) where
   -- ---- one fault
 
   one_term_fault : (text : List ℕ) (c d : Code) (s t : Span) → TermFault text c s → TermFault text d t → Same c s d t
-  one_term_fault text c d s t (inl x) (inl y) = let same = laws.one_reading_fault text c d s t x y in (same.0, ap place same.1)
+  one_term_fault text c d s t (inl x) (inl y) =
+      let same = laws.one_reading_fault text c d s t x y in (same.0, ap place same.1)
   one_term_fault text c d s t (inl x) (inr y) = absurd (laws.no_fault_of_a_term text y.term c s y.read x)
   one_term_fault text c d s t (inr x) (inl y) = absurd (laws.no_fault_of_a_term text x.term d t x.read y)
   one_term_fault text c d s t (inr x) (inr y) =
       let same : x.term ≡ y.term = same_term text x.term y.term x.read y.read in
-      laws.one_typing_fault y.term 0 NoTys c d (place s) (place t) (subst (λ e. typing.Fault e 0 NoTys c (place s)) same x.fault) y.fault
+      laws.one_typing_fault y.term 0 NoTys c d (place s) (place t)
+      (subst (λ e. typing.Fault e 0 NoTys c (place s)) same x.fault) y.fault
 
-  one_program_fault : (text : List ℕ) (c d : Code) (s t : Span) → ProgramFault text c s → ProgramFault text d t → Same c s d t
+  one_program_fault : (text : List ℕ) (c d : Code) (s t : Span) → ProgramFault text c s → ProgramFault text d t →
+      Same c s d t
   one_program_fault text c d s t (inl x) (inl y) = one_term_fault text c d s t x y
   one_program_fault text c d s t (inl x) (inr y) = absurd (no_term_fault text c s y.term y.type y.checked x)
   one_program_fault text c d s t (inr x) (inl y) = absurd (no_term_fault text d t x.term x.type x.checked y)
@@ -108,7 +120,8 @@ module _ (laws : TextLaws) where
       let same : x.term ≡ y.term = same_term text x.term y.term x.checked.0 y.checked.0 in
       (x.is_code ∙ sym y.is_code, x.whole ∙ ap span_of same ∙ sym y.whole)
 
-  one_assembly_fault : (text : List ℕ) (c d : TCode) (s t : Span) → AssemblyFault text c s → AssemblyFault text d t → (c ≡ d) × (s ≡ t)
+  one_assembly_fault : (text : List ℕ) (c d : TCode) (s t : Span) → AssemblyFault text c s → AssemblyFault text d t →
+      (c ≡ d) × (s ≡ t)
   one_assembly_fault text c d s t (inl x) (inl y) = laws.one_assembly_fault text c d s t x y
   one_assembly_fault text c d s t (inl x) (inr y) = absurd (laws.no_fault_of_a_program text y.program c s y.read x)
   one_assembly_fault text c d s t (inr x) (inl y) = absurd (laws.no_fault_of_a_program text x.program d t x.read y)

@@ -1,31 +1,29 @@
--- What `show` shows: one text of each form, for `assembly` the one that `compile` writes, and for `source` a text of the
--- same term.
+-- What `show` shows: one text of each form, for `assembly` the one that `compile` writes, and for `source` a text of
+-- the same term.
 use Rattle.std.proofs.Common.{◌≡◌, ◌∙◌, ℕ, Bool, true, false, List, refl, sym, ap, subst, true≢false}
 use Rattle.std.proofs.Math.Logic.{∥∥₁_elim}
 use Rattle.std.proofs.lemmas.Slice.Eq.{bytes_eq-Decides}
 use Rattle.std.specs.Str.{bytes_eq}
 use Rattle.f_terms.specs.Ty.{TInt}
-use Rattle.f_terms.specs.Tm.{Term, Tm, plain}
+use Rattle.f_terms.specs.Tm.{Tm, plain}
 use Rattle.f_terms.specs.Accepted.{IsAccepted}
 use Rattle.f_parser.specs.Text.{Source as StandsFor, FewBytes}
 use Rattle.f_writer.specs.Laws.{WrittenTwiceIsWrittenOnce, WrittenTextsAreWithin}
-use Rattle.f_writer.specs.Notation.{term_text}
 use Rattle.words.specs.declared.form.Form.{Form}
 use Rattle.words.specs.declared.form.Form.TheVariants.{Source, Assembly}
-use Rattle.t_terms.specs.Tree.{TProg}
 use Rattle.pipeline.specs.Made.{IsMade}
 use Rattle.forms.specs.Forms.{assembly_text, form_text}
 use Rattle.forms.specs.Translated.{FormsAreOfTranslations, IsFormOf}
 use Rattle.talc_core.specs.FirstFault.{AProgram, IsChecked, IsTaken}
 use Rattle.talc_core.specs.FormShown.{FormShown}
-use Rattle.talc_core.specs.Translated.{IsTranslated}
 use Rattle.talc_core.specs.Composition.{OneForm, ShownAssemblyIsCompiled, ShownSourceIsTheSame, ShownSourceIsTaken}
 use Rattle.talc_core.specs.Composition.{ShownSourceShowsTheSame, ShownSourceIsKept}
 use Rattle.talc_core.specs.TextLaws.{TextLaws}
 use Rattle.talc_core.proofs.FaultLemmas.{same_term}
 
 -- what is shown of a text, from the text of its program's form
-pub form_shown : FormsAreOfTranslations → (form : Form) (source text : List ℕ) (term : Tm) → IsChecked source term TInt →
+pub form_shown : FormsAreOfTranslations → (form : Form) (source text : List ℕ) (term : Tm) →
+    IsChecked source term TInt →
     text ≡ form_text form (plain term) → FormShown form source text
 form_shown laws form source text term checked is = record {
   term = term;

@@ -21,10 +21,13 @@ short [] e = let h = short_end e in omega arith
 short (x ∷ xs) e = let h = short xs e in omega arith
 
 -- one more block is counted
-pub counted : (all size i : ℕ) (bs : List Block) (b : Block) → i < length bs → b ≡ get_or bs i b → all ≤ size + code_size (drop i bs) → all ≤ size + (length b.body.items + 1) + code_size (drop (i + 1) bs)
+pub counted : (all size i : ℕ) (bs : List Block) (b : Block) → i < length bs → b ≡ get_or bs i b →
+    all ≤ size + code_size (drop i bs) → all ≤ size + (length b.body.items + 1) + code_size (drop (i + 1) bs)
 counted all size i bs b low is h =
-    let parts : drop i bs ≡ b ∷ drop (i + 1) bs = drop_more bs i b low ∙ ap (λ (x : Block). x ∷ drop (i + 1) bs) (sym is) in
-    let now : all ≤ size + code_size (b ∷ drop (i + 1) bs) = subst (λ (xs : List Block). all ≤ size + code_size xs) parts h in
+    let parts : drop i bs ≡ b ∷ drop (i + 1) bs =
+    drop_more bs i b low ∙ ap (λ (x : Block). x ∷ drop (i + 1) bs) (sym is) in
+    let now : all ≤ size + code_size (b ∷ drop (i + 1) bs) =
+    subst (λ (xs : List Block). all ≤ size + code_size xs) parts h in
     let small = short b.body.items (end_of b.end) in
     omega arith
 

@@ -22,9 +22,13 @@ pub few : (text : List ℕ) (term : Tm) → IsParsed text term → nodes (plain 
 few text term read = let small : nodes (plain term) ≤ 100000 = read.few_nodes in omega arith
 
 -- a term of another type than int is no program
-pub no_program : (text : List ℕ) (term : Tm) (type : Ty) (span : Span) → IsChecked text term type → (type ≡ TInt → ⊥) → place span ≡ span_of term → RefusedBy AProgram text (refusal.Fault (Source E15 span))
-no_program text term type span checked other whole = inr (record { term = term; type = type; checked = checked; other = other; is_code = refl; whole = whole })
+pub no_program : (text : List ℕ) (term : Tm) (type : Ty) (span : Span) → IsChecked text term type → (type ≡ TInt → ⊥) →
+    place span ≡ span_of term → RefusedBy AProgram text (refusal.Fault (Source E15 span))
+no_program text term type span checked other whole =
+    inr (record { term = term; type = type; checked = checked; other = other; is_code = refl; whole = whole })
 
 -- one with cells is no program that is evaluated
-pub of_cells : (text : List ℕ) (term : Tm) (span : Span) → IsChecked text term TInt → has_cells (plain term) ≡ true → place span ≡ span_of term → RefusedBy CellFree text (refusal.Fault (Source E19 span))
-of_cells text term span checked cells whole = inr (record { term = term; checked = checked; cells = cells; is_code = refl; whole = whole })
+pub of_cells : (text : List ℕ) (term : Tm) (span : Span) → IsChecked text term TInt → has_cells (plain term) ≡ true →
+    place span ≡ span_of term → RefusedBy CellFree text (refusal.Fault (Source E19 span))
+of_cells text term span checked cells whole =
+    inr (record { term = term; checked = checked; cells = cells; is_code = refl; whole = whole })

@@ -1,9 +1,11 @@
 -- What `trace` shows of a text is one answer, and ends as what `run` shows.
-use Rattle.std.proofs.Common.{◌≡◌, ◌∙◌, ℕ, ℤ, zero, suc, ◌+◌, ◌-◌, ◌≤◌, List, ◌++◌, Some, refl, sym, ap, ap₂, subst, arith}
+use Rattle.std.proofs.Common.{◌≡◌, ◌∙◌, ℕ, ℤ, zero, suc, ◌+◌, ◌-◌, ◌≤◌, List, ◌++◌, Some, refl, sym, ap, ap₂, subst}
+use Rattle.std.proofs.Common.{arith}
 use Rattle.t_terms.specs.Tree.{TProg, Then, Ends, Jmp, Halt}
 use Rattle.t_terms.specs.Spanned.{SProg, plain_program}
 use Rattle.t_rules.specs.Machine.{IntWord, State, At, HaltedWith, HaltedAfter}
-use Rattle.talc_core.specs.declared.status.Status.TheVariants.{Done, Refused, Usage, Limit, Budget, ReadFault, WriteFault, Memory}
+use Rattle.talc_core.specs.declared.status.Status.TheVariants.{Done, Refused, Usage, Limit, Budget, ReadFault}
+use Rattle.talc_core.specs.declared.status.Status.TheVariants.{WriteFault, Memory}
 use Rattle.talc_core.specs.FirstFault.{IsAcceptedText}
 use Rattle.talc_core.specs.Lines.{integer_line, more_instructions_line}
 use Rattle.talc_core.specs.TextLaws.{TextLaws}
@@ -54,7 +56,8 @@ same_lines : OneLine → (P : TProg) (m count : ℕ) (a b : List ℕ) → AreLin
 same_lines one P m zero a b x y = x ∙ sym y
 same_lines one P m (suc count) a b x y =
     x.4
-    ∙ ap₂ (λ (before line : List ℕ). before ++ line) (same_lines one P m count x.0 y.0 x.2 y.2) (one P (m + count) x.1 y.1 x.3 y.3)
+    ∙ ap₂ (λ (before line : List ℕ). before ++ line) (same_lines one P m count x.0 y.0 x.2 y.2)
+    (one P (m + count) x.1 y.1 x.3 y.3)
     ∙ sym y.4
 
 module _ (laws : TextLaws) (one : OneLine) where
@@ -65,25 +68,32 @@ module _ (laws : TextLaws) (one : OneLine) where
       omega (arith, le, ge)
 
   same_value : (P : TProg) (n : ℕ) (i j : ℤ) → HaltedAfter P n i → HaltedAfter P n j → i ≡ j
-  same_value P n i j x y = one_integer x.0 i j x.3 (subst (λ s. HaltedWith s j) (laws.one_run P n y.0 x.0 y.1 x.1 y.2 x.2).0 y.3)
+  same_value P n i j x y =
+      one_integer x.0 i j x.3 (subst (λ s. HaltedWith s j) (laws.one_run P n y.0 x.0 y.1 x.1 y.2 x.2).0 y.3)
 
   same_halted : (P : TProg) (from to : ℕ) (a b : List ℕ) → HaltedStates P from to a → HaltedStates P from to b → a ≡ b
   same_halted P from to a b x y =
       let steps : y.steps ≡ x.steps = same_steps P y.steps x.steps y.value x.value y.halted x.halted in
-      let value : x.value ≡ y.value = same_value P x.steps x.value y.value x.halted (subst (λ n. HaltedAfter P n y.value) steps y.halted) in
-      let states : AreLines P from (suc x.steps - from) y.shown = subst (λ n. AreLines P from (suc n - from) y.shown) steps y.states in
+      let value : x.value ≡ y.value =
+      same_value P x.steps x.value y.value x.halted (subst (λ n. HaltedAfter P n y.value) steps y.halted) in
+      let states : AreLines P from (suc x.steps - from) y.shown =
+      subst (λ n. AreLines P from (suc n - from) y.shown) steps y.states in
       x.is
-      ∙ ap₂ (λ (s : List ℕ) (i : ℤ). s ++ integer_line i) (same_lines one P from (suc x.steps - from) x.shown y.shown x.states states) value
+      ∙ ap₂ (λ (s : List ℕ) (i : ℤ). s ++ integer_line i)
+      (same_lines one P from (suc x.steps - from) x.shown y.shown x.states states) value
       ∙ sym y.is
 
-  same_running : (P : TProg) (from to : ℕ) (a b : List ℕ) → RunningStates P from to a → RunningStates P from to b → a ≡ b
+  same_running : (P : TProg) (from to : ℕ) (a b : List ℕ) → RunningStates P from to a → RunningStates P from to b →
+      a ≡ b
   same_running P from to a b x y =
       x.is
-      ∙ ap (λ (s : List ℕ). s ++ more_instructions_line to) (same_lines one P from (suc to - from) x.shown y.shown x.states y.states)
+      ∙ ap (λ (s : List ℕ). s ++ more_instructions_line to)
+      (same_lines one P from (suc to - from) x.shown y.shown x.states y.states)
       ∙ sym y.is
 
   -- one program is read of a text
-  there : (text : List ℕ) (a b : SProg) → IsAcceptedText text a → IsAcceptedText text b → plain_program a ≡ plain_program b
+  there : (text : List ℕ) (a b : SProg) → IsAcceptedText text a → IsAcceptedText text b →
+      plain_program a ≡ plain_program b
   there text a b x y = ap plain_program (same_program laws text a b x.0 y.0)
 
   -- which doesn't both halt and go on

@@ -5,7 +5,6 @@ use Rattle.idx_core.specs.declared.span.Span.{Span}
 use Rattle.fault_page.specs.Page.{page}
 use Rattle.talc_core.specs.declared.fault.Fault.{Fault}
 use Rattle.talc_core.specs.declared.fault.Fault.TheVariants.{Source, Tal}
-use Rattle.talc_core.specs.declared.status.Status.{Status}
 use Rattle.talc_core.specs.declared.status.Status.TheVariants.{Done}
 use Rattle.talc_core.specs.Lines.{source_code, source_words, tal_code, tal_words}
 use Rattle.talc_core.specs.Hints.{source_hint, tal_hint}

@@ -5,14 +5,13 @@ use Rattle.f_terms.specs.Tm.{Tm, plain}
 use Rattle.words.specs.declared.form.Form.{Form}
 use Rattle.forms.specs.Forms.{form_text}
 use Rattle.forms.specs.Translated.{IsFormOf}
-use Rattle.talc_core.specs.declared.status.Status.{Status}
 use Rattle.talc_core.specs.declared.status.Status.TheVariants.{Done}
 use Rattle.talc_core.specs.FirstFault.{IsChecked}
 use Rattle.talc_core.specs.Shown.{Showing}
 
--- The source text is a text of a program, and the text shown is the notation of that form of it: of the program of that
--- form on the way of a translation by the rules of the passes in turn. A text stands for one term at most, so both parts
--- speak of the same.
+-- The source text is a text of a program, and the text shown is the notation of that form of it: of the program of
+-- that form on the way of a translation by the rules of the passes in turn. A text stands for one term at most, so
+-- both parts speak of the same.
 pub record FormShown (form : Form) (source text : List ℕ) : Type 0 where
   pub term : Tm
   pub checked : IsChecked source term TInt

@@ -1,13 +1,17 @@
 -- The first bytes decide what stands next: something does wherever a text is not at its end, and one thing at most.
-use Rattle.std.proofs.Common.{◌≡◌, ◌≤◌, ◌==◌, ℕ, suc, ◌+◌, List, [], ◌∷◌, ◌++◌, length, take, drop, Bool, true, false, if◌then◌else◌, not, ◌||◌, refl, sym, ◌∙◌, ap, subst, arith, Option, Some, None}
+use Rattle.std.proofs.Common.{◌≡◌, ◌≤◌, ◌==◌, ℕ, suc, ◌+◌, List, [], ◌∷◌, ◌++◌, length, take, drop, Bool, true, false}
+use Rattle.std.proofs.Common.{if◌then◌else◌, not, ◌||◌, refl, sym, ◌∙◌, ap, subst, arith, Option, Some, None}
 use Rattle.std.specs.List.{prefix_len, take_while, list_all}
 use Rattle.std.proofs.lemmas.Bool.{eqb-true, and_parts, or_parts, not-true}
 use Rattle.std.proofs.lemmas.Bool.Decides.{nat_tests}
 use Rattle.std.proofs.lemmas.List.{take-append-drop, length-take-le}
 use Rattle.std.proofs.lemmas.List.Sums.{prefix_len-le-length, take_while-cons}
 use Rattle.text_core.specs.Byte.{space, digit, letter, of_word, of_line, mark, value}
-use Rattle.text_core.specs.Tokens.{Tokens, Spells, s_word, s_plain, s_negative, s_sign, s_pair, EndsLine, IsGap, g_space, g_comment, NoGap, IsLongest, Item, Gap, Spelling, Next, n_gap, n_spelling, n_nothing, HasSigns}
-use Rattle.text_core.specs.Lexeme.{PGap, PWord, PPlain, PNegative, POther, at_dashes, at_negative, sign_item, of_sign, of_pair, of_piece, item}
+use Rattle.text_core.specs.Tokens.{Tokens, Spells, s_word, s_plain, s_negative, s_sign, s_pair, EndsLine, IsGap}
+use Rattle.text_core.specs.Tokens.{g_space, g_comment, NoGap, IsLongest, Item, Gap, Spelling, Next, n_gap, n_spelling}
+use Rattle.text_core.specs.Tokens.{n_nothing, HasSigns}
+use Rattle.text_core.specs.Lexeme.{PGap, PWord, PPlain, PNegative, POther, at_dashes, at_negative, sign_item, of_sign}
+use Rattle.text_core.specs.Lexeme.{of_pair, of_piece, item}
 use Rattle.text_core.proofs.Runs.{run_all, run_longest}
 
 -- kinds of bytes
@@ -32,11 +36,13 @@ ends_line : (s : List ℕ) → EndsLine (drop (prefix_len of_line s) s)
 ends_line [] = tt
 ends_line (b ∷ s) = go (b == 10) refl (ends_line s)
   where
-    go : (x : Bool) → (b == 10) ≡ x → EndsLine (drop (prefix_len of_line s) s) → EndsLine (drop (if not x then 1 + prefix_len of_line s else 0) (b ∷ s))
+    go : (x : Bool) → (b == 10) ≡ x → EndsLine (drop (prefix_len of_line s) s) →
+        EndsLine (drop (if not x then 1 + prefix_len of_line s else 0) (b ∷ s))
     go true e h = eqb-true b 10 e
     go false e h = let z : 1 + prefix_len of_line s ≡ suc (prefix_len of_line s) = omega arith in rw z h
 
-same_comment : (c r d q : List ℕ) → c ++ r ≡ d ++ q → list_all of_line c ≡ true → EndsLine r → list_all of_line d ≡ true → EndsLine q → length c ≡ length d
+same_comment : (c r d q : List ℕ) → c ++ r ≡ d ++ q → list_all of_line c ≡ true → EndsLine r →
+    list_all of_line d ≡ true → EndsLine q → length c ≡ length d
 same_comment [] r [] q e f g h i = refl
 same_comment [] [] (b ∷ d) q e f g h i = absurd (cc)
 same_comment [] (a ∷ r) (b ∷ d) q e f g h i =
@@ -50,13 +56,17 @@ same_comment (a ∷ c) r [] (b ∷ q) e f g h i =
     let z : of_line a ≡ false = rw x refl in absurd (cc)
 same_comment (a ∷ c) r (b ∷ d) q e f g h i =
     let y : c ++ r ≡ d ++ q = cc in
-    ap (λ (n : ℕ). suc n) (same_comment c r d q y (and_parts (of_line a) (list_all of_line c) f).1 g (and_parts (of_line b) (list_all of_line d) h).1 i)
+    ap (λ (n : ℕ). suc n)
+    (same_comment c r d q y (and_parts (of_line a) (list_all of_line c) f).1 g
+    (and_parts (of_line b) (list_all of_line d) h).1 i)
 
 -- two gaps at one place have one length
 same_gap : (g r d q : List ℕ) → g ++ r ≡ d ++ q → IsGap g r → IsGap d q → length g ≡ length d
 same_gap _ r _ q e (g_space b h) (g_space c k) = refl
-same_gap _ r _ q e (g_space b h) (g_comment f l) = let x : b ≡ 45 = cc in let y : space b ≡ false = rw x refl in absurd (cc)
-same_gap _ r _ q e (g_comment f l) (g_space b h) = let x : b ≡ 45 = cc in let y : space b ≡ false = rw x refl in absurd (cc)
+same_gap _ r _ q e (g_space b h) (g_comment f l) =
+    let x : b ≡ 45 = cc in let y : space b ≡ false = rw x refl in absurd (cc)
+same_gap _ r _ q e (g_comment f l) (g_space b h) =
+    let x : b ≡ 45 = cc in let y : space b ≡ false = rw x refl in absurd (cc)
 same_gap _ r _ q e (g_comment {c} f l) (g_comment {c = d} k m) =
     let x : c ++ r ≡ d ++ q = cc in ap (λ (n : ℕ). suc (suc n)) (same_comment c r d q x f l k m)
 
@@ -65,7 +75,8 @@ at_comment c r = refl
 
 no_gap : (b : ℕ) (s : List ℕ) → space b ≡ false → at_dashes (b ∷ s) ≡ false → NoGap (b ∷ s)
 no_gap b s e f _ r q (g_space c h) = let x : b ≡ c = cc in let y : space c ≡ false = rw (← x) e in absurd (cc)
-no_gap b s e f _ r q (g_comment {c} h l) = let x : at_dashes (b ∷ s) ≡ true = ap (λ (w : List ℕ). at_dashes w) q ∙ at_comment c r in absurd (cc)
+no_gap b s e f _ r q (g_comment {c} h l) =
+    let x : at_dashes (b ∷ s) ≡ true = ap (λ (w : List ℕ). at_dashes w) q ∙ at_comment c r in absurd (cc)
 
 same_length : (u r v q : List ℕ) → u ++ r ≡ v ++ q → length u ≡ length v → u ≡ v
 same_length [] r [] q e l = refl
@@ -105,7 +116,8 @@ module _ (g : Tokens) (signs : HasSigns g) where
   gap_same s u r _ e h (n_spelling n l) = absurd (n u r e h)
   gap_same s u r _ e h (n_nothing z n f) = absurd (n u r e h)
 
-  spelled_same : (s u r : List ℕ) (k : g.Kind) (x : Item g.Kind) → s ≡ u ++ r → NoGap s → IsLongest g u r k → Next g s x → Spelling k (length u) ≡ x
+  spelled_same : (s u r : List ℕ) (k : g.Kind) (x : Item g.Kind) → s ≡ u ++ r → NoGap s → IsLongest g u r k →
+      Next g s x → Spelling k (length u) ≡ x
   spelled_same s u r k _ e n l (n_gap {u = d} {r = q} h) = absurd (n d q refl h)
   spelled_same s u r k _ e n l (n_spelling {u = v} {r = q} {k = j} m h) =
       let a = l.longest v q j (sym e) h.spells in
@@ -135,34 +147,53 @@ module _ (g : Tokens) (signs : HasSigns g) where
   spelling_next s n k l empty h f =
       let e = take-append-drop n s in
       let m = length-take-le n s l in
-      let long : IsLongest g (take n s) (drop n s) k = record { spells = h; longest = λ v q j d x. let y = f v q j (sym e ∙ d) x in omega arith } in
+      let long : IsLongest g (take n s) (drop n s) k =
+      record { spells = h; longest = λ v q j d x. let y = f v q j (sym e ∙ d) x in omega arith } in
       subst (λ (w : List ℕ). Next g w (Spelling k n)) e
-      (subst (λ (m : ℕ). Next g (take n s ++ drop n s) (Spelling k m)) m (n_spelling (subst (λ (w : List ℕ). NoGap w) (sym e) empty) long))
+      (subst (λ (m : ℕ). Next g (take n s ++ drop n s) (Spelling k m)) m
+      (n_spelling (subst (λ (w : List ℕ). NoGap w) (sym e) empty) long))
 
   module _ (b : ℕ) (s : List ℕ) where
-    word_longest : letter b ≡ true → (v q : List ℕ) (j : g.Kind) → b ∷ s ≡ v ++ q → Spells g v j → length v ≤ 1 + prefix_len of_word s
-    word_longest l _ q _ e (s_word c v h i) = let x : s ≡ v ++ q = cc in let y = run_longest of_word v q i in rw x (omega arith)
+    word_longest : letter b ≡ true → (v q : List ℕ) (j : g.Kind) → b ∷ s ≡ v ++ q → Spells g v j →
+        length v ≤ 1 + prefix_len of_word s
+    word_longest l _ q _ e (s_word c v h i) =
+        let x : s ≡ v ++ q = cc in let y = run_longest of_word v q i in rw x (omega arith)
     word_longest l _ q _ e (s_plain c v h) =
         let x : b ≡ c = cc in let y : letter c ≡ true = rw (← x) l in
         let z = digit_letter c (and_parts (digit c) (list_all digit v) h).0 in absurd (cc)
-    word_longest l _ q _ e (s_negative c v h) = let x : b ≡ 126 = cc in let y : letter b ≡ false = rw x refl in absurd (cc)
+    word_longest l _ q _ e (s_negative c v h) =
+        let x : b ≡ 126 = cc in let y : letter b ≡ false = rw x refl in absurd (cc)
     word_longest l _ q _ e (s_sign c k i) = omega arith
-    word_longest l _ q _ e (s_pair c d k i) = let x : b ≡ c = cc in let y : letter c ≡ true = rw (← x) l in let z = (marked c (signs.of_pair c d k i)).no_letter in absurd (cc)
+    word_longest l _ q _ e (s_pair c d k i) =
+        let x : b ≡ c = cc in
+        let y : letter c ≡ true = rw (← x) l in let z = (marked c (signs.of_pair c d k i)).no_letter in absurd (cc)
 
-    plain_longest : digit b ≡ true → (v q : List ℕ) (j : g.Kind) → b ∷ s ≡ v ++ q → Spells g v j → length v ≤ 1 + prefix_len digit s
-    plain_longest l _ q _ e (s_word c v h i) = let x : b ≡ c = cc in let y : digit c ≡ true = rw (← x) l in let z = digit_letter c y in absurd (cc)
-    plain_longest l _ q _ e (s_plain c v h) = let x : s ≡ v ++ q = cc in let y = run_longest digit v q (and_parts (digit c) (list_all digit v) h).1 in rw x (omega arith)
-    plain_longest l _ q _ e (s_negative c v h) = let x : b ≡ 126 = cc in let y : digit b ≡ false = rw x refl in absurd (cc)
+    plain_longest : digit b ≡ true → (v q : List ℕ) (j : g.Kind) → b ∷ s ≡ v ++ q → Spells g v j →
+        length v ≤ 1 + prefix_len digit s
+    plain_longest l _ q _ e (s_word c v h i) =
+        let x : b ≡ c = cc in let y : digit c ≡ true = rw (← x) l in let z = digit_letter c y in absurd (cc)
+    plain_longest l _ q _ e (s_plain c v h) =
+        let x : s ≡ v ++ q = cc in
+        let y = run_longest digit v q (and_parts (digit c) (list_all digit v) h).1 in rw x (omega arith)
+    plain_longest l _ q _ e (s_negative c v h) =
+        let x : b ≡ 126 = cc in let y : digit b ≡ false = rw x refl in absurd (cc)
     plain_longest l _ q _ e (s_sign c k i) = omega arith
-    plain_longest l _ q _ e (s_pair c d k i) = let x : b ≡ c = cc in let y : digit c ≡ true = rw (← x) l in let z = (marked c (signs.of_pair c d k i)).no_digit in absurd (cc)
+    plain_longest l _ q _ e (s_pair c d k i) =
+        let x : b ≡ c = cc in
+        let y : digit c ≡ true = rw (← x) l in let z = (marked c (signs.of_pair c d k i)).no_digit in absurd (cc)
 
-    negative_longest : b ≡ 126 → (v q : List ℕ) (j : g.Kind) → b ∷ s ≡ v ++ q → Spells g v j → length v ≤ 1 + prefix_len digit s
-    negative_longest l _ q _ e (s_word c v h i) = let x : c ≡ 126 = cc in let y : letter c ≡ false = rw x refl in absurd (cc)
+    negative_longest : b ≡ 126 → (v q : List ℕ) (j : g.Kind) → b ∷ s ≡ v ++ q → Spells g v j →
+        length v ≤ 1 + prefix_len digit s
+    negative_longest l _ q _ e (s_word c v h i) =
+        let x : c ≡ 126 = cc in let y : letter c ≡ false = rw x refl in absurd (cc)
     negative_longest l _ q _ e (s_plain c v h) =
-        let x : c ≡ 126 = cc in let y : digit c ≡ false = rw x refl in let z = (and_parts (digit c) (list_all digit v) h).0 in absurd (cc)
-    negative_longest l _ q _ e (s_negative c v h) = let x : s ≡ (c ∷ v) ++ q = cc in let y = run_longest digit (c ∷ v) q h in rw x (omega arith)
+        let x : c ≡ 126 = cc in
+        let y : digit c ≡ false = rw x refl in let z = (and_parts (digit c) (list_all digit v) h).0 in absurd (cc)
+    negative_longest l _ q _ e (s_negative c v h) =
+        let x : s ≡ (c ∷ v) ++ q = cc in let y = run_longest digit (c ∷ v) q h in rw x (omega arith)
     negative_longest l _ q _ e (s_sign c k i) = omega arith
-    negative_longest l _ q _ e (s_pair c d k i) = let x : c ≡ 126 = cc in let y : mark c ≡ false = rw x refl in let z = signs.of_pair c d k i in absurd (cc)
+    negative_longest l _ q _ e (s_pair c d k i) =
+        let x : c ≡ 126 = cc in let y : mark c ≡ false = rw x refl in let z = signs.of_pair c d k i in absurd (cc)
 
   -- where neither a word nor a number begins
   record Else (b : ℕ) (s : List ℕ) : Type 0 where
@@ -176,18 +207,24 @@ module _ (g : Tokens) (signs : HasSigns g) where
     one : g.sign b ≡ Some j → length v ≡ 1 → Sign b s v j
     two : (c : ℕ) (r : List ℕ) → s ≡ c ∷ r → g.pair b c ≡ Some j → length v ≡ 2 → Sign b s v j
 
-  only_sign : (b : ℕ) (s : List ℕ) → Else b s → (v q : List ℕ) (j : g.Kind) → b ∷ s ≡ v ++ q → Spells g v j → Sign b s v j
-  only_sign b s h _ q _ e (s_word c v l i) = let x : b ≡ c = cc in let y : letter c ≡ false = rw (← x) h.no_letter in absurd (cc)
+  only_sign : (b : ℕ) (s : List ℕ) → Else b s → (v q : List ℕ) (j : g.Kind) → b ∷ s ≡ v ++ q → Spells g v j →
+      Sign b s v j
+  only_sign b s h _ q _ e (s_word c v l i) =
+      let x : b ≡ c = cc in let y : letter c ≡ false = rw (← x) h.no_letter in absurd (cc)
   only_sign b s h _ q _ e (s_plain c v l) =
-      let x : b ≡ c = cc in let y : digit c ≡ false = rw (← x) h.no_digit in let z = (and_parts (digit c) (list_all digit v) l).0 in absurd (cc)
+      let x : b ≡ c = cc in
+      let y : digit c ≡ false = rw (← x) h.no_digit in
+      let z = (and_parts (digit c) (list_all digit v) l).0 in absurd (cc)
   only_sign b s h _ q _ e (s_negative c v l) =
       let x : at_negative (126 ∷ (c ∷ (v ++ q))) ≡ false = ap (λ (w : List ℕ). at_negative w) (sym e) ∙ h.no_negative in
       let z = (and_parts (digit c) (list_all digit v) l).0 in absurd (cc)
   only_sign b s h _ q _ e (s_sign c k i) = let x : b ≡ c = cc in one (rw x i) refl
   only_sign b s h _ q _ e (s_pair c d k i) = let x : b ≡ c = cc in let y : s ≡ d ∷ q = cc in two d q y (rw x i) refl
 
-  by_one : (b : ℕ) (s : List ℕ) → Else b s → ((c : ℕ) (r : List ℕ) → s ≡ c ∷ r → g.pair b c ≡ None) → (o : Option g.Kind) → g.sign b ≡ o → Next g (b ∷ s) (of_sign o)
-  by_one b s h alone (Some k) e = spelling_next (b ∷ s) 1 k (omega arith) h.gap (s_sign b k e) (λ v q j d x. short v j (only_sign b s h v q j d x))
+  by_one : (b : ℕ) (s : List ℕ) → Else b s → ((c : ℕ) (r : List ℕ) → s ≡ c ∷ r → g.pair b c ≡ None) →
+      (o : Option g.Kind) → g.sign b ≡ o → Next g (b ∷ s) (of_sign o)
+  by_one b s h alone (Some k) e =
+      spelling_next (b ∷ s) 1 k (omega arith) h.gap (s_sign b k e) (λ v q j d x. short v j (only_sign b s h v q j d x))
     where
       short : (v : List ℕ) (j : g.Kind) → Sign b s v j → length v ≤ 1
       short v j (one i l) = omega arith
@@ -198,8 +235,11 @@ module _ (g : Tokens) (signs : HasSigns g) where
       none u k (one i l) = cc
       none u k (two c r p i l) = let z = alone c r p in cc
 
-  by_two : (b c : ℕ) (s : List ℕ) → Else b (c ∷ s) → (o : Option g.Kind) → g.pair b c ≡ o → Next g (b ∷ (c ∷ s)) (of_pair o (of_sign (g.sign b)))
-  by_two b c s h (Some k) e = spelling_next (b ∷ (c ∷ s)) 2 k (omega arith) h.gap (s_pair b c k e) (λ v q j d x. short v j (only_sign b (c ∷ s) h v q j d x))
+  by_two : (b c : ℕ) (s : List ℕ) → Else b (c ∷ s) → (o : Option g.Kind) → g.pair b c ≡ o →
+      Next g (b ∷ (c ∷ s)) (of_pair o (of_sign (g.sign b)))
+  by_two b c s h (Some k) e =
+      spelling_next (b ∷ (c ∷ s)) 2 k (omega arith) h.gap (s_pair b c k e)
+      (λ v q j d x. short v j (only_sign b (c ∷ s) h v q j d x))
     where
       short : (v : List ℕ) (j : g.Kind) → Sign b (c ∷ s) v j → length v ≤ 2
       short v j (one i l) = omega arith
@@ -210,7 +250,8 @@ module _ (g : Tokens) (signs : HasSigns g) where
   other b [] h = by_one b [] h (λ c r p. absurd (cc)) (g.sign b) refl
   other b (c ∷ s) h = by_two b c s h (g.pair b c) refl
 
-  by_negative : (b : ℕ) (s : List ℕ) → NoGap (b ∷ s) → letter b ≡ false → digit b ≡ false → (x : Bool) → at_negative (b ∷ s) ≡ x →
+  by_negative : (b : ℕ) (s : List ℕ) → NoGap (b ∷ s) → letter b ≡ false → digit b ≡ false → (x : Bool) →
+      at_negative (b ∷ s) ≡ x →
       Next g (b ∷ s) (of_piece g (b ∷ s) (if x then PNegative (1 + prefix_len digit s) else POther))
   by_negative b [] n l d true e = absurd (cc)
   by_negative b (c ∷ s) n l d true e =
@@ -218,47 +259,69 @@ module _ (g : Tokens) (signs : HasSigns g) where
       let p = eqb-true b 126 t.0 in
       let m = prefix_len-le-length digit (c ∷ s) in
       let z : 1 + prefix_len digit (c ∷ s) ≡ suc (prefix_len digit (c ∷ s)) = omega arith in
-      let cons : take (prefix_len digit (c ∷ s)) (c ∷ s) ≡ c ∷ take_while digit s = take_while-cons digit c s ∙ rw t.1 refl in
+      let cons : take (prefix_len digit (c ∷ s)) (c ∷ s) ≡ c ∷ take_while digit s =
+      take_while-cons digit c s ∙ rw t.1 refl in
       let all : list_all digit (c ∷ take_while digit s) ≡ true = rw (t.1, run_all digit s) refl in
-      let sp : Spells g (take (1 + prefix_len digit (c ∷ s)) (b ∷ (c ∷ s))) (g.negative (value (drop 1 (take (1 + prefix_len digit (c ∷ s)) (b ∷ (c ∷ s)))))) =
+      let sp : Spells g (take (1 + prefix_len digit (c ∷ s)) (b ∷ (c ∷ s)))
+      (g.negative (value (drop 1 (take (1 + prefix_len digit (c ∷ s)) (b ∷ (c ∷ s)))))) =
       rw z (rw (cons, p) (s_negative c (take_while digit s) all)) in
-      spelling_next (b ∷ (c ∷ s)) (1 + prefix_len digit (c ∷ s)) (g.negative (value (drop 1 (take (1 + prefix_len digit (c ∷ s)) (b ∷ (c ∷ s)))))) (omega arith) n sp
+      spelling_next (b ∷ (c ∷ s)) (1 + prefix_len digit (c ∷ s))
+      (g.negative (value (drop 1 (take (1 + prefix_len digit (c ∷ s)) (b ∷ (c ∷ s)))))) (omega arith) n sp
       (negative_longest b (c ∷ s) p)
   by_negative b s n l d false e = other b s (record { gap = n; no_letter = l; no_digit = d; no_negative = e })
 
   by_digit : (b : ℕ) (s : List ℕ) → NoGap (b ∷ s) → letter b ≡ false → (x : Bool) → digit b ≡ x →
-      Next g (b ∷ s) (of_piece g (b ∷ s) (if x then PPlain (1 + prefix_len digit s) else if at_negative (b ∷ s) then PNegative (1 + prefix_len digit s) else POther))
+      Next g (b ∷ s)
+      (of_piece g (b ∷ s)
+      (if x then PPlain (1 + prefix_len digit s) else if at_negative (b ∷ s) then PNegative
+      (1 + prefix_len digit s) else POther))
   by_digit b s n l true e =
       let m = prefix_len-le-length digit s in
       let z : 1 + prefix_len digit s ≡ suc (prefix_len digit s) = omega arith in
       let all : list_all digit (b ∷ take_while digit s) ≡ true = rw (e, run_all digit s) refl in
-      spelling_next (b ∷ s) (1 + prefix_len digit s) (g.plain (value (take (1 + prefix_len digit s) (b ∷ s)))) (omega arith) n (rw z (s_plain b (take_while digit s) all)) (plain_longest b s e)
+      spelling_next (b ∷ s) (1 + prefix_len digit s) (g.plain (value (take (1 + prefix_len digit s) (b ∷ s))))
+      (omega arith) n (rw z (s_plain b (take_while digit s) all)) (plain_longest b s e)
   by_digit b s n l false e = by_negative b s n l e (at_negative (b ∷ s)) refl
 
   by_letter : (b : ℕ) (s : List ℕ) → NoGap (b ∷ s) → (x : Bool) → letter b ≡ x →
-      Next g (b ∷ s) (of_piece g (b ∷ s) (if x then PWord (1 + prefix_len of_word s) else if digit b then PPlain (1 + prefix_len digit s) else if at_negative (b ∷ s) then PNegative (1 + prefix_len digit s) else POther))
+      Next g (b ∷ s)
+      (of_piece g (b ∷ s)
+      (if x then PWord (1 + prefix_len of_word s) else if digit b then PPlain (1 + prefix_len digit s) else if
+      at_negative (b ∷ s) then PNegative (1 + prefix_len digit s) else POther))
   by_letter b s n true e =
       let m = prefix_len-le-length of_word s in
       let z : 1 + prefix_len of_word s ≡ suc (prefix_len of_word s) = omega arith in
-      spelling_next (b ∷ s) (1 + prefix_len of_word s) (g.word (take (1 + prefix_len of_word s) (b ∷ s))) (omega arith) n (rw z (s_word b (take_while of_word s) e (run_all of_word s))) (word_longest b s e)
+      spelling_next (b ∷ s) (1 + prefix_len of_word s) (g.word (take (1 + prefix_len of_word s) (b ∷ s)))
+      (omega arith) n (rw z (s_word b (take_while of_word s) e (run_all of_word s))) (word_longest b s e)
   by_letter b s n false e = by_digit b s n e (digit b) refl
 
-  comment : (c : ℕ) (b : ℕ) (s : List ℕ) → (b == 45) ≡ true → (c == 45) ≡ true → Next g (b ∷ (c ∷ s)) (Gap (2 + prefix_len of_line s))
+  comment : (c : ℕ) (b : ℕ) (s : List ℕ) → (b == 45) ≡ true → (c == 45) ≡ true →
+      Next g (b ∷ (c ∷ s)) (Gap (2 + prefix_len of_line s))
   comment c b s p q =
       let m = prefix_len-le-length of_line s in
       let z : 2 + prefix_len of_line s ≡ suc (suc (prefix_len of_line s)) = omega arith in
       let h : IsGap (take (2 + prefix_len of_line s) (b ∷ (c ∷ s))) (drop (2 + prefix_len of_line s) (b ∷ (c ∷ s))) =
-      rw (z, eqb-true b 45 p, eqb-true c 45 q) (g_comment {c = take_while of_line s} {r = drop (prefix_len of_line s) s} (run_all of_line s) (ends_line s)) in
+      rw (z, eqb-true b 45 p, eqb-true c 45 q)
+      (g_comment {c = take_while of_line s} {r = drop (prefix_len of_line s) s} (run_all of_line s)
+      (ends_line s)) in
       gap_next (b ∷ (c ∷ s)) (2 + prefix_len of_line s) (omega arith) h
 
   by_dashes : (b : ℕ) (s : List ℕ) → space b ≡ false → (x : Bool) → at_dashes (b ∷ s) ≡ x →
-      Next g (b ∷ s) (of_piece g (b ∷ s) (if x then PGap (2 + prefix_len of_line (drop 1 s)) else if letter b then PWord (1 + prefix_len of_word s) else if digit b then PPlain (1 + prefix_len digit s) else if at_negative (b ∷ s) then PNegative (1 + prefix_len digit s) else POther))
+      Next g (b ∷ s)
+      (of_piece g (b ∷ s)
+      (if x then PGap (2 + prefix_len of_line (drop 1 s)) else if letter b then PWord (1 + prefix_len of_word s)
+      else if digit b then PPlain (1 + prefix_len digit s) else if at_negative (b ∷ s) then PNegative
+      (1 + prefix_len digit s) else POther))
   by_dashes b [] p true e = absurd (cc)
   by_dashes b (c ∷ s) p true e = let t = and_parts (b == 45) (c == 45) e in comment c b s t.0 t.1
   by_dashes b s p false e = by_letter b s (no_gap b s p e) (letter b) refl
 
   by_space : (b : ℕ) (s : List ℕ) (x : Bool) → space b ≡ x →
-      Next g (b ∷ s) (of_piece g (b ∷ s) (if x then PGap 1 else if at_dashes (b ∷ s) then PGap (2 + prefix_len of_line (drop 1 s)) else if letter b then PWord (1 + prefix_len of_word s) else if digit b then PPlain (1 + prefix_len digit s) else if at_negative (b ∷ s) then PNegative (1 + prefix_len digit s) else POther))
+      Next g (b ∷ s)
+      (of_piece g (b ∷ s)
+      (if x then PGap 1 else if at_dashes (b ∷ s) then PGap (2 + prefix_len of_line (drop 1 s)) else if letter b
+      then PWord (1 + prefix_len of_word s) else if digit b then PPlain (1 + prefix_len digit s) else if
+      at_negative (b ∷ s) then PNegative (1 + prefix_len digit s) else POther))
   by_space b s true e = gap_next (b ∷ s) 1 (omega arith) (g_space b e)
   by_space b s false e = by_dashes b s e (at_dashes (b ∷ s)) refl
 

@@ -1,6 +1,9 @@
 -- A text is cut in one way, and not at all where a fault stands; its first fault is one.
 use Rattle.std.proofs.Common.{◌≡◌, ◌<◌, ℕ, ◌+◌, List, [], ◌∷◌, ◌++◌, length, drop, refl, sym, ◌∙◌, subst, arith}
-use Rattle.text_core.specs.Tokens.{Tokens, Spells, s_word, s_plain, s_negative, s_sign, s_pair, IsGap, g_space, g_comment, Item, Gap, Spelling, Nothing, Next, n_gap, n_spelling, n_nothing, Cut, c_end, c_gap, c_token, Reaches, r_here, r_gap, r_token, Reason, Wrong, w_none, w_bounds, FirstWrong, HasSigns}
+use Rattle.text_core.specs.Tokens.{Tokens, Spells, s_word, s_plain, s_negative, s_sign, s_pair, IsGap, g_space}
+use Rattle.text_core.specs.Tokens.{g_comment, Item, Gap, Spelling, Nothing, Next, n_gap, n_spelling, n_nothing, Cut}
+use Rattle.text_core.specs.Tokens.{c_end, c_gap, c_token, Reaches, r_here, r_gap, r_token, Reason, Wrong, w_none}
+use Rattle.text_core.specs.Tokens.{w_bounds, FirstWrong, HasSigns}
 use Rattle.text_core.proofs.Items.{one_next}
 
 -- an item is not empty
@@ -32,7 +35,8 @@ module _ (g : Tokens) (signs : HasSigns g) where
   data Begun (i : ℕ) (s : List ℕ) (w : List g.Token) : Type 0 where
     b_end : s ≡ [] → w ≡ [] → Begun i s w
     b_gap : (n : ℕ) → Next g s (Gap n) → Cut g (i + n) (drop n s) w → Begun i s w
-    b_token : (n : ℕ) (k : g.Kind) (v : List g.Token) → Next g s (Spelling k n) → g.Keeps k → Cut g (i + n) (drop n s) v → w ≡ g.token k i (i + n) ∷ v → Begun i s w
+    b_token : (n : ℕ) (k : g.Kind) (v : List g.Token) → Next g s (Spelling k n) → g.Keeps k →
+        Cut g (i + n) (drop n s) v → w ≡ g.token k i (i + n) ∷ v → Begun i s w
 
   begun : {i : ℕ} {s : List ℕ} {w : List g.Token} → Cut g i s w → Begun i s w
   begun c_end = b_end refl refl
@@ -53,7 +57,9 @@ module _ (g : Tokens) (signs : HasSigns g) where
     where
       gaps : (Cut g (i + n) (drop n s) v → w ≡ v) → Begun i s v → w ≡ v
       gaps r (b_end p q) = absurd (no_item h p)
-      gaps r (b_gap m o x) = let e = one_next g signs s (Gap n) (Gap m) h o in let f : m ≡ n = cc in r (subst (λ (a : ℕ). Cut g (i + a) (drop a s) v) f x)
+      gaps r (b_gap m o x) =
+          let e = one_next g signs s (Gap n) (Gap m) h o in
+          let f : m ≡ n = cc in r (subst (λ (a : ℕ). Cut g (i + a) (drop a s) v) f x)
       gaps r (b_token m k u o q x e) = let e = one_next g signs s (Gap n) (Spelling k m) h o in absurd (cc)
   one_cut {i} {s} (c_token {n} {k} {w} h q c) v d = tokens (one_cut c) (begun d)
     where
@@ -78,14 +84,18 @@ module _ (g : Tokens) (signs : HasSigns g) where
     where
       gap : ((v : List g.Token) → Cut g (i + n) (drop n s) v → GoesOn j r) → Begun i s w → GoesOn j r
       gap f (b_end p q) = absurd (no_item h p)
-      gap f (b_gap m o y) = let e = one_next g signs s (Gap n) (Gap m) h o in let z : m ≡ n = cc in f w (subst (λ (a : ℕ). Cut g (i + a) (drop a s) w) z y)
+      gap f (b_gap m o y) =
+          let e = one_next g signs s (Gap n) (Gap m) h o in
+          let z : m ≡ n = cc in f w (subst (λ (a : ℕ). Cut g (i + a) (drop a s) w) z y)
       gap f (b_token m k u o q y e) = let e = one_next g signs s (Gap n) (Spelling k m) h o in absurd (cc)
   goes_on {i} {j} {s} {r} (r_token {n} {k} h q x) w c = token (goes_on x) (begun c)
     where
       token : ((v : List g.Token) → Cut g (i + n) (drop n s) v → GoesOn j r) → Begun i s w → GoesOn j r
       token f (b_end p e) = absurd (no_item h p)
       token f (b_gap m o y) = let e = one_next g signs s (Spelling k n) (Gap m) h o in absurd (cc)
-      token f (b_token m l u o p y e) = let e = one_next g signs s (Spelling k n) (Spelling l m) h o in let z : m ≡ n = cc in f u (subst (λ (a : ℕ). Cut g (i + a) (drop a s) u) z y)
+      token f (b_token m l u o p y e) =
+          let e = one_next g signs s (Spelling k n) (Spelling l m) h o in
+          let z : m ≡ n = cc in f u (subst (λ (a : ℕ). Cut g (i + a) (drop a s) u) z y)
 
   not_cut : {j : ℕ} {r : List ℕ} {why : Reason} {n : ℕ} → Wrong g r why n → (w : List g.Token) → Cut g j r w → ⊥
   not_cut {j} (w_none {s} h) w c = none (begun c)
@@ -104,7 +114,8 @@ module _ (g : Tokens) (signs : HasSigns g) where
           let q : l ≡ k = cc in f (subst (λ (x : g.Kind). g.Keeps x) q p)
 
   -- a cut text has no fault
-  pub cut_or_wrong : (text : List ℕ) (w : List g.Token) (why : Reason) (start end : ℕ) → Cut g 0 text w → FirstWrong g text why start end → ⊥
+  pub cut_or_wrong : (text : List ℕ) (w : List g.Token) (why : Reason) (start end : ℕ) → Cut g 0 text w →
+      FirstWrong g text why start end → ⊥
   cut_or_wrong text w why start end c f = let o = goes_on f.reached w c in not_cut f.wrong o.tokens o.cut
 
   -- two things that are wrong at one place
@@ -114,9 +125,12 @@ module _ (g : Tokens) (signs : HasSigns g) where
 
   same_wrong : {r : List ℕ} {why why' : Reason} {n m : ℕ} → Wrong g r why n → Wrong g r why' m → SameWrong why n why' m
   same_wrong (w_none h) (w_none k) = record { reason = refl; length = refl }
-  same_wrong (w_none {s} h) (w_bounds {k} {n} o f) = let e = one_next g signs s Nothing (Spelling k n) h o in absurd (cc)
-  same_wrong (w_bounds {s} {k} {n} o f) (w_none h) = let e = one_next g signs s Nothing (Spelling k n) h o in absurd (cc)
-  same_wrong (w_bounds {s} {k} {n} o f) (w_bounds {k = l} {n = m} p q) = let e = one_next g signs s (Spelling k n) (Spelling l m) o p in record { reason = refl; length = cc }
+  same_wrong (w_none {s} h) (w_bounds {k} {n} o f) =
+      let e = one_next g signs s Nothing (Spelling k n) h o in absurd (cc)
+  same_wrong (w_bounds {s} {k} {n} o f) (w_none h) =
+      let e = one_next g signs s Nothing (Spelling k n) h o in absurd (cc)
+  same_wrong (w_bounds {s} {k} {n} o f) (w_bounds {k = l} {n = m} p q) =
+      let e = one_next g signs s (Spelling k n) (Spelling l m) o p in record { reason = refl; length = cc }
 
   -- what is reached with something wrong there, from a place with something wrong there, is that place
   record SamePlace (i : ℕ) (s : List ℕ) (j : ℕ) (r : List ℕ) : Type 0 where
@@ -126,8 +140,10 @@ module _ (g : Tokens) (signs : HasSigns g) where
   stays : {i j : ℕ} {s r : List ℕ} {why : Reason} {n : ℕ} → Wrong g s why n → Reaches g i s j r → SamePlace i s j r
   stays h r_here = record { place = refl; rest = refl }
   stays (w_none {s} h) (r_gap {n = m} o x) = let e = one_next g signs s Nothing (Gap m) h o in absurd (cc)
-  stays (w_none {s} h) (r_token {n = m} {k = l} o p x) = let e = one_next g signs s Nothing (Spelling l m) h o in absurd (cc)
-  stays (w_bounds {s} {k} {n} h f) (r_gap {n = m} o x) = let e = one_next g signs s (Spelling k n) (Gap m) h o in absurd (cc)
+  stays (w_none {s} h) (r_token {n = m} {k = l} o p x) =
+      let e = one_next g signs s Nothing (Spelling l m) h o in absurd (cc)
+  stays (w_bounds {s} {k} {n} h f) (r_gap {n = m} o x) =
+      let e = one_next g signs s (Spelling k n) (Gap m) h o in absurd (cc)
   stays (w_bounds {s} {k} {n} h f) (r_token {n = m} {k = l} o p x) =
       let e = one_next g signs s (Spelling k n) (Spelling l m) h o in
       let q : l ≡ k = cc in absurd (f (subst (λ (y : g.Kind). g.Keeps y) q p))
@@ -143,25 +159,31 @@ module _ (g : Tokens) (signs : HasSigns g) where
   leads (r_gap {n} h x) = l_gap n h x
   leads (r_token {n} {k} h p x) = l_token n k h x
 
-  here_only : {i j j' : ℕ} {s r r' : List ℕ} {why : Reason} {n : ℕ} → SamePlace i s j' r' → Wrong g r' why n → Reaches g i s j r → SamePlace j r j' r'
+  here_only : {i j j' : ℕ} {s r r' : List ℕ} {why : Reason} {n : ℕ} → SamePlace i s j' r' → Wrong g r' why n →
+      Reaches g i s j r → SamePlace j r j' r'
   here_only {s} {why} {n} e k x =
       let f = stays (subst (λ (z : List ℕ). Wrong g z why n) (sym e.rest) k) x in
       record { place = sym f.place ∙ e.place; rest = sym f.rest ∙ e.rest }
 
-  one_place : {i j j' : ℕ} {s r r' : List ℕ} {why why' : Reason} {n n' : ℕ} → Reaches g i s j r → Wrong g r why n → Reaches g i s j' r' → Wrong g r' why' n' → SamePlace j r j' r'
+  one_place : {i j j' : ℕ} {s r r' : List ℕ} {why why' : Reason} {n n' : ℕ} → Reaches g i s j r → Wrong g r why n →
+      Reaches g i s j' r' → Wrong g r' why' n' → SamePlace j r j' r'
   one_place r_here h y k = stays h y
   one_place {i} {j} {j'} {s} {r} {r'} (r_gap {n} o x) h y k = gap (λ z. one_place x h z k) (leads y)
     where
       gap : (Reaches g (i + n) (drop n s) j' r' → SamePlace j r j' r') → Leads i s j' r' → SamePlace j r j' r'
       gap f (l_here e) = here_only e k (r_gap o x)
-      gap f (l_gap m p z) = let e = one_next g signs s (Gap n) (Gap m) o p in let q : m ≡ n = cc in f (subst (λ (a : ℕ). Reaches g (i + a) (drop a s) j' r') q z)
+      gap f (l_gap m p z) =
+          let e = one_next g signs s (Gap n) (Gap m) o p in
+          let q : m ≡ n = cc in f (subst (λ (a : ℕ). Reaches g (i + a) (drop a s) j' r') q z)
       gap f (l_token m l p z) = let e = one_next g signs s (Gap n) (Spelling l m) o p in absurd (cc)
   one_place {i} {j} {j'} {s} {r} {r'} (r_token {n} {k = kind} o b x) h y k = token (λ z. one_place x h z k) (leads y)
     where
       token : (Reaches g (i + n) (drop n s) j' r' → SamePlace j r j' r') → Leads i s j' r' → SamePlace j r j' r'
       token f (l_here e) = here_only e k (r_token o b x)
       token f (l_gap m p z) = let e = one_next g signs s (Spelling kind n) (Gap m) o p in absurd (cc)
-      token f (l_token m l p z) = let e = one_next g signs s (Spelling kind n) (Spelling l m) o p in let q : m ≡ n = cc in f (subst (λ (a : ℕ). Reaches g (i + a) (drop a s) j' r') q z)
+      token f (l_token m l p z) =
+          let e = one_next g signs s (Spelling kind n) (Spelling l m) o p in
+          let q : m ≡ n = cc in f (subst (λ (a : ℕ). Reaches g (i + a) (drop a s) j' r') q z)
 
   -- two first faults are equal
   pub record SameFault (why : Reason) (start end : ℕ) (why' : Reason) (start' end' : ℕ) : Type 0 where
@@ -169,7 +191,8 @@ module _ (g : Tokens) (signs : HasSigns g) where
     pub starts : start ≡ start'
     pub ends : end ≡ end'
 
-  pub one_wrong : (text : List ℕ) (why : Reason) (start end : ℕ) (why' : Reason) (start' end' : ℕ) → FirstWrong g text why start end → FirstWrong g text why' start' end' →
+  pub one_wrong : (text : List ℕ) (why : Reason) (start end : ℕ) (why' : Reason) (start' end' : ℕ) →
+      FirstWrong g text why start end → FirstWrong g text why' start' end' →
       SameFault why start end why' start' end'
   one_wrong text why start end why' start' end' f h =
       let p = one_place f.reached f.wrong h.reached h.wrong in

@@ -49,7 +49,8 @@ module _ {Code Place : Type 0} where
       go c d p q (inr h) (inr k) = y.one c d p q h.1 k.1
 
   pub one_part : {A : Type 0} {f : Refusal Code Place} {Gives : A → Type 0} {r : A → Refusal Code Place} →
-      One f → ((x : A) → Gives x → Clear f) → ((x y : A) → Gives x → Gives y → x ≡ y) → ((x : A) → One (r x)) → One (part f Gives r)
+      One f → ((x : A) → Gives x → Clear f) → ((x y : A) → Gives x → Gives y → x ≡ y) → ((x : A) → One (r x)) →
+      One (part f Gives r)
   one_part {A = A} {f = f} {Gives = Gives} {r = r} x z same y = record { one = go }
     where
       go : (c d : Code) (p q : Place) → part f Gives r c p → part f Gives r d q → (c ≡ d) × (p ≡ q)
@@ -71,7 +72,8 @@ module _ {Code Place : Type 0} where
   pub refused : {G : Type 0} {code : Code} {place : Place} → Settles G (refuse code place)
   refused {code = code} {place = place} = comes code place (refl, refl)
 
-  pub settle_check : {P G : Type 0} {f r : Refusal Code Place} → P ⊎ (P → ⊥) → Settles ⊥ f → (P → Settles G r) → Settles G (check P f r)
+  pub settle_check : {P G : Type 0} {f r : Refusal Code Place} → P ⊎ (P → ⊥) → Settles ⊥ f → (P → Settles G r) →
+      Settles G (check P f r)
   settle_check {P = P} {G = G} {f = f} {r = r} (inl x) fault go = after (go x)
     where
       after : Settles G r → Settles G (check P f r)

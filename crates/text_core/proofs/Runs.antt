@@ -1,13 +1,12 @@
 -- Runs of bytes of one kind, by place.
-use Rattle.std.proofs.Common.{◌≡◌, ◌≤◌, ◌<◌, ℕ, ◌+◌, ◌-◌, ◌*◌, ◌/◌, ◌^◌, List, [], ◌∷◌, ◌++◌, length, drop, get_or, Bool, true, false, refl, sym, ◌∙◌, ap, arith, lit≤, drop-cons, add-one}
+use Rattle.std.proofs.Common.{◌≡◌, ◌≤◌, ◌<◌, ℕ, ◌+◌, ◌-◌, ◌*◌, ◌/◌, ◌^◌, List, [], ◌∷◌, ◌++◌, length, drop, get_or}
+use Rattle.std.proofs.Common.{Bool, true, false, refl, sym, ◌∙◌, ap, arith, lit≤, drop-cons, add-one}
 use Rattle.std.specs.Prelude.{nat_lt}
 use Rattle.std.specs.List.{prefix_len, take_while, list_all}
 use Rattle.std.proofs.lemmas.Bool.{ltb-true, and_parts}
 use Rattle.std.proofs.lemmas.List.Sums.{prefix_len-drop_yes, take_while-cons}
 use Rattle.std.proofs.Math.Nat.{le_trans, lt_of_lt_of_le}
-use Rattle.std.proofs.Math.ListN.{drop_of_length-le}
 use Rattle.text_core.specs.Byte.{digit, value, value_from}
-use Rattle.text_core.specs.Lexeme.{IsValue}
 
 pub here : (t : List ℕ) (i : ℕ) → i < length t → drop i t ≡ get_or t i 0 ∷ drop (i + 1) t
 here t i h = rw (drop-cons t i 0 h, ← add-one i) refl
@@ -18,14 +17,9 @@ run_yes p b s e = take_while-cons p b s ∙ rw e refl
 pub run_no : (p : ℕ → Bool) (b : ℕ) (s : List ℕ) → p b ≡ false → take_while p (b ∷ s) ≡ []
 run_no p b s e = take_while-cons p b s ∙ rw e refl
 
-pub run_more : (p : ℕ → Bool) (t : List ℕ) (i : ℕ) → i < length t → p (get_or t i 0) ≡ true → take_while p (drop i t) ≡ get_or t i 0 ∷ take_while p (drop (i + 1) t)
+pub run_more : (p : ℕ → Bool) (t : List ℕ) (i : ℕ) → i < length t → p (get_or t i 0) ≡ true →
+    take_while p (drop i t) ≡ get_or t i 0 ∷ take_while p (drop (i + 1) t)
 run_more p t i l e = rw (here t i l) (run_yes p (get_or t i 0) (drop (i + 1) t) e)
-
-pub run_none : (p : ℕ → Bool) (t : List ℕ) (i : ℕ) → i < length t → p (get_or t i 0) ≡ false → take_while p (drop i t) ≡ []
-run_none p t i l e = rw (here t i l) (run_no p (get_or t i 0) (drop (i + 1) t) e)
-
-pub run_end : (p : ℕ → Bool) (t : List ℕ) (i : ℕ) → length t ≤ i → take_while p (drop i t) ≡ []
-run_end p t i l = let d : drop i t ≡ [] = drop_of_length-le t l in rw d refl
 
 -- all of a run pass, and it is the longest that does
 pub run_all : (p : ℕ → Bool) (s : List ℕ) → list_all p (take_while p s) ≡ true
@@ -65,7 +59,8 @@ pub record DigitsSoFar (text : List ℕ) (at i v : ℕ) (fits : Bool) : Type 0 w
   pub small : fits ≡ true → value_from v (take_while digit (drop i text)) ≡ value (take_while digit (drop at text))
   pub large : fits ≡ false → 2 ^ 63 < value (take_while digit (drop at text))
 
-module _ (t : List ℕ) (at i v : ℕ) (f : Bool) (h : DigitsSoFar t at i v f) (l : i < length t) (n : digit (get_or t i 0) ≡ true) where
+module _ (t : List ℕ) (at i v : ℕ) (f : Bool) (h : DigitsSoFar t at i v f) (l : i < length t)
+    (n : digit (get_or t i 0) ≡ true) where
   ends : i + 1 + prefix_len digit (drop (i + 1) t) ≡ at + prefix_len digit (drop at t)
   ends = let e = prefix_len-drop_yes digit t i 0 l n in omega (arith, h.same_end)
 
@@ -95,15 +90,7 @@ module _ (t : List ℕ) (at i v : ℕ) (f : Bool) (h : DigitsSoFar t at i v f) (
       by_flag true p =
           let a = grows (take_while digit (drop (i + 1) t)) (v * 10 + (get_or t i 0 - 48)) in
           let b = no_room (2 ^ 63) v (get_or t i 0 - 48) (m p) in
-          let c : value_from v (take_while digit (drop i t)) ≡ value_from (v * 10 + (get_or t i 0 - 48)) (take_while digit (drop (i + 1) t)) = ap (λ (w : List ℕ). value_from v w) (run_more digit t i l n) in
+          let c : value_from v (take_while digit (drop i t))
+          ≡ value_from (v * 10 + (get_or t i 0 - 48)) (take_while digit (drop (i + 1) t)) =
+          ap (λ (w : List ℕ). value_from v w) (run_more digit t i l n) in
           rw (← h.small p, c) (lt_of_lt_of_le b a)
-
-pub digits_start : (t : List ℕ) (at : ℕ) → at ≤ length t → DigitsSoFar t at at 0 true
-digits_start t at l = record { in_range = l; same_end = refl; bound = lit≤ tt; small = λ x. refl; large = λ x. absurd (cc) }
-
--- where the digits end
-pub digits_done : (t : List ℕ) (at i v : ℕ) (f : Bool) → DigitsSoFar t at i v f → take_while digit (drop i t) ≡ [] → IsValue v f (take_while digit (drop at t))
-digits_done t at i v f h e = record {
-  small = λ x. let q : v ≡ value (take_while digit (drop at t)) = ap (λ (w : List ℕ). value_from v w) (sym e) ∙ h.small x in (q, rw q at h.bound);
-  large = h.large;
-}

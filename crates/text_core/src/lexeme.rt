@@ -45,6 +45,7 @@ pub enum Found<K> {
 }
 
 /// Whether a byte is a space, a tab, a line feed or a carriage return.
+#[inline(always)]
 pub fn is_space(b: u8) -> bool
     ensures { result ≡ byte.space b }
 {
@@ -52,6 +53,7 @@ pub fn is_space(b: u8) -> bool
 }
 
 /// Whether a byte is a decimal digit.
+#[inline(always)]
 pub fn is_digit(b: u8) -> bool
     ensures { result ≡ byte.digit b }
 {
@@ -59,6 +61,7 @@ pub fn is_digit(b: u8) -> bool
 }
 
 /// Whether a byte is an ASCII letter.
+#[inline(always)]
 pub fn is_letter(b: u8) -> bool
     ensures { result ≡ byte.letter b }
 {
@@ -66,6 +69,7 @@ pub fn is_letter(b: u8) -> bool
 }
 
 /// Whether a byte may stand in a word: a letter, a digit or an underscore.
+#[inline(always)]
 pub fn is_of_word(b: u8) -> bool
     ensures { result ≡ byte.of_word b }
 {
@@ -85,6 +89,7 @@ pub fn line_end(text: &[u8], at: usize) -> usize
 }
 
 /// The place after the letters, digits and underscores that stand from `at` on.
+#[inline(always)]
 pub fn word_end(text: &[u8], at: usize) -> usize
     requires { at ≤ length text.now }
     ensures { result ≡ at + prefix_len byte.of_word (drop at text.now) }

@@ -4,4 +4,7 @@
 
 mod lexeme;
 
-pub use lexeme::{Digits, Found, Lexeme, next_lexeme, read_digits};
+pub use lexeme::{
+    Digits, Found, Lexeme, is_digit, is_letter, is_of_word, is_space, next_lexeme, read_digits,
+    word_end,
+};

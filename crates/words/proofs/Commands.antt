@@ -1,8 +1,10 @@
 -- What `clap` takes by the description is a command.
-use Rattle.std.proofs.Common.{◌≡◌, ◌≤◌, ◌||◌, ℕ, Bool, true, false, not, cond, List, [], ◌∷◌, drop, Option, Some, None, IsSome, IfSome, MatchOption, is_some, option_map, refl, sym, subst, inl, inr, codes}
+use Rattle.std.proofs.Common.{◌≡◌, ◌≤◌, ◌||◌, ℕ, Bool, true, false, not, cond, List, [], ◌∷◌, drop, Option, Some, None}
+use Rattle.std.proofs.Common.{IsSome, IfSome, MatchOption, is_some, option_map, refl, sym, subst, inl, inr, codes}
 use Rattle.std.specs.Option.{option_map_or}
 use Rattle.std.proofs.lemmas.Slice.Eq.{bytes_eq-Decides}
-use Rattle.clap.specs.Walk.{Row, Rule, Text, Held, answers_to, finished, rows_after, settled, walk, walk_from, nothing_held}
+use Rattle.clap.specs.Walk.{Row, Rule, Text, Held, answers_to, finished, rows_after, settled, walk, walk_from}
+use Rattle.clap.specs.Walk.{nothing_held}
 use Rattle.clap.specs.Simple.{App, Shape, built, entered, names_of, rows_at, subcommand_of}
 use Rattle.clap.specs.Takes.{is_given}
 use Rattle.clap.specs.Words.{first_of, one_of}
@@ -12,9 +14,12 @@ use Rattle.clap.specs.Kinds.{Kinds}
 use Rattle.clap.specs.declared.error.kind.ErrorKind.TheVariants.{MissingRequiredArgument}
 use Rattle.words.specs.Description.{talc_app}
 use Rattle.words.specs.declared.form.Form.{Form}
-use Rattle.words.specs.Command.{Asked, CompilesWithin, EnoughRegisters, Evaluates, Generates, NamesForm, Runs, Shows, asked_between, asked_in, asked_of, asked_with, asked_within, command_of, form_in, number_in, number_of, where_none}
+use Rattle.words.specs.Command.{Asked, CompilesWithin, EnoughRegisters, Evaluates, Generates, NamesForm, Runs, Shows}
+use Rattle.words.specs.Command.{asked_between, asked_in, asked_of, asked_with, asked_within, command_of, form_in}
+use Rattle.words.specs.Command.{number_in, number_of, where_none}
 use Rattle.words.specs.Laws.{CommandWhereTaken, RegistersAreEnough}
-use Rattle.words.proofs.Taken.{IsAmong, IsPlain, ArePlain, AreRows, Each, IsNumberIf, IsRegistersIf, each, enough_given, none_first, none_next, level_rows, level_given, first_given, number_given}
+use Rattle.words.proofs.Taken.{IsAmong, IsPlain, ArePlain, AreRows, Each, IsNumberIf, IsRegistersIf, each}
+use Rattle.words.proofs.Taken.{enough_given, none_first, none_next, level_rows, level_given, first_given, number_given}
 
 abbrev leaf : List Shape → Shape
 leaf [] = (built talc_app).top
@@ -56,7 +61,8 @@ abbrev IsOrdinary : Rule → Type 0
 IsOrdinary a = IsPlain a × (a.defaults ≡ [])
 
 compile_ordinary : Each IsOrdinary compile_leaf.rules
-compile_ordinary = ((inl (refl, refl), refl), ((inl (refl, refl), refl), ((inl (refl, refl), refl), ((inr refl, refl), tt))))
+compile_ordinary =
+    ((inl (refl, refl), refl), ((inl (refl, refl), refl), ((inl (refl, refl), refl), ((inr refl, refl), tt))))
 
 check_ordinary : Each IsOrdinary check_leaf.rules
 check_ordinary = ((inl (refl, refl), refl), ((inr refl, refl), tt))
@@ -77,7 +83,8 @@ upgrade_ordinary : Each IsOrdinary upgrade_leaf.rules
 upgrade_ordinary = ((inl (refl, refl), refl), ((inl (refl, refl), refl), ((inr refl, refl), tt)))
 
 trace_ordinary : Each IsOrdinary trace_leaf.rules
-trace_ordinary = ((inl (refl, refl), refl), ((inl (refl, refl), refl), ((inl (refl, refl), refl), ((inr refl, refl), tt))))
+trace_ordinary =
+    ((inl (refl, refl), refl), ((inl (refl, refl), refl), ((inl (refl, refl), refl), ((inr refl, refl), tt))))
 
 show_ordinary : Each IsOrdinary show_leaf.rules
 show_ordinary = ((inl (refl, refl), refl), ((inl (refl, refl), refl), ((inr refl, refl), tt)))
@@ -104,13 +111,15 @@ last_numbers : Each (IsNumberIf (codes "to")) trace_leaf.rules
 last_numbers = (λ named. cc, (λ named. cc, (λ named. (refl, refl), (λ named. cc, tt))))
 
 -- nothing that is required is missing
-all_given : (a b c : Bool) → cond (not a || (not b || (not c || false))) (MissingRequiredArgument ∷ []) [] ≡ [] → (a ≡ true) × (b ≡ true) × (c ≡ true)
+all_given : (a b c : Bool) → cond (not a || (not b || (not c || false))) (MissingRequiredArgument ∷ []) [] ≡ [] →
+    (a ≡ true) × (b ≡ true) × (c ≡ true)
 all_given true true true e = (refl, refl, refl)
 all_given true true false e = cc
 all_given true false c e = cc
 all_given false b c e = cc
 
-both_given : (a b : Bool) → cond (not a || (not b || false)) (MissingRequiredArgument ∷ []) [] ≡ [] → (a ≡ true) × (b ≡ true)
+both_given : (a b : Bool) → cond (not a || (not b || false)) (MissingRequiredArgument ∷ []) [] ≡ [] →
+    (a ≡ true) × (b ≡ true)
 both_given true true e = (refl, refl)
 both_given true false e = cc
 both_given false b e = cc
@@ -125,7 +134,8 @@ Asks None = ⊥
 Asks (Some asked) = EnoughRegisters asked
 
 -- the values of a level in which no error is found
-within : (input output : Text) (o : Option Text) → IfSome o (λ t. MatchOption (number_of t) ⊥ (λ k. 8 ≤ k)) → Asks (asked_within (Some input) (Some output) o)
+within : (input output : Text) (o : Option Text) → IfSome o (λ t. MatchOption (number_of t) ⊥ (λ k. 8 ≤ k)) →
+    Asks (asked_within (Some input) (Some output) o)
 within input output None enough = tt
 within input output (Some text) enough = go (number_of text) enough
   where
@@ -133,120 +143,180 @@ within input output (Some text) enough = go (number_of text) enough
     go None enough = absurd enough
     go (Some k) enough = enough
 
-compile_asks : (rows : List Row) → AreRows compile_leaf.rules rows → f.check_fault compile_leaf rows false ≡ [] → Asks (asked_in (codes "compile") rows)
+compile_asks : (rows : List Row) → AreRows compile_leaf.rules rows → f.check_fault compile_leaf rows false ≡ [] →
+    Asks (asked_in (codes "compile") rows)
 compile_asks rows held none =
     let given = both_given (is_given (codes "IN") rows) (is_given (codes "OUT") rows) none in
     let input = first_given compile_leaf.rules (codes "IN") rows held given.0 in
     let output = first_given compile_leaf.rules (codes "OUT") rows held given.1 in
-    rw (input.1, output.1) (within input.0 output.0 (one_of (codes "registers") rows) (enough_given compile_leaf.rules (codes "registers") rows (each (IsRegistersIf (codes "registers")) compile_leaf.rules compile_numbers) held))
+    rw (input.1, output.1)
+    (within input.0 output.0 (one_of (codes "registers") rows)
+    (enough_given compile_leaf.rules (codes "registers") rows
+    (each (IsRegistersIf (codes "registers")) compile_leaf.rules compile_numbers) held))
 
-upgrade_asks : (rows : List Row) → AreRows upgrade_leaf.rules rows → f.check_fault upgrade_leaf rows false ≡ [] → Asks (asked_in (codes "upgrade") rows)
+upgrade_asks : (rows : List Row) → AreRows upgrade_leaf.rules rows → f.check_fault upgrade_leaf rows false ≡ [] →
+    Asks (asked_in (codes "upgrade") rows)
 upgrade_asks rows held none =
     let given = both_given (is_given (codes "IN") rows) (is_given (codes "OUT") rows) none in
     let input = first_given upgrade_leaf.rules (codes "IN") rows held given.0 in
     let output = first_given upgrade_leaf.rules (codes "OUT") rows held given.1 in
     rw (input.1, output.1) tt
 
-check_asks : (rows : List Row) → AreRows check_leaf.rules rows → f.check_fault check_leaf rows false ≡ [] → Asks (asked_in (codes "check") rows)
+check_asks : (rows : List Row) → AreRows check_leaf.rules rows → f.check_fault check_leaf rows false ≡ [] →
+    Asks (asked_in (codes "check") rows)
 check_asks rows held none =
     let input = first_given check_leaf.rules (codes "IN") rows held (one_given (is_given (codes "IN") rows) none) in
     rw input.1 tt
 
-typeof_asks : (rows : List Row) → AreRows typeof_leaf.rules rows → f.check_fault typeof_leaf rows false ≡ [] → Asks (asked_in (codes "typeof") rows)
+typeof_asks : (rows : List Row) → AreRows typeof_leaf.rules rows → f.check_fault typeof_leaf rows false ≡ [] →
+    Asks (asked_in (codes "typeof") rows)
 typeof_asks rows held none =
     let input = first_given typeof_leaf.rules (codes "IN") rows held (one_given (is_given (codes "IN") rows) none) in
     rw input.1 tt
 
-numbered : (asks : Text → ℕ → Asked) → ((t : Text) (n : ℕ) → EnoughRegisters (asks t n)) → (input : Text) (number : Option ℕ) → IsSome number → Asks (asked_with asks (Some input) number)
+numbered : (asks : Text → ℕ → Asked) → ((t : Text) (n : ℕ) → EnoughRegisters (asks t n)) →
+    (input : Text) (number : Option ℕ) → IsSome number → Asks (asked_with asks (Some input) number)
 numbered asks free input None some = cc
 numbered asks free input (Some n) some = free input n
 
-run_asks : (rows : List Row) → AreRows run_leaf.rules rows → f.check_fault run_leaf rows false ≡ [] → Asks (asked_in (codes "run") rows)
+run_asks : (rows : List Row) → AreRows run_leaf.rules rows → f.check_fault run_leaf rows false ≡ [] →
+    Asks (asked_in (codes "run") rows)
 run_asks rows held none =
     let given = both_given (is_given (codes "IN") rows) (is_given (codes "fuel") rows) none in
     let input = first_given run_leaf.rules (codes "IN") rows held given.0 in
-    let fuel = number_given run_leaf.rules (codes "fuel") rows (each (IsNumberIf (codes "fuel")) run_leaf.rules run_numbers) held given.1 in
+    let fuel = number_given run_leaf.rules (codes "fuel") rows
+    (each (IsNumberIf (codes "fuel")) run_leaf.rules run_numbers) held given.1 in
     rw input.1 (numbered Runs (λ t n. tt) input.0 (number_in (codes "fuel") rows) fuel)
 
-eval_asks : (rows : List Row) → AreRows eval_leaf.rules rows → f.check_fault eval_leaf rows false ≡ [] → Asks (asked_in (codes "eval") rows)
+eval_asks : (rows : List Row) → AreRows eval_leaf.rules rows → f.check_fault eval_leaf rows false ≡ [] →
+    Asks (asked_in (codes "eval") rows)
 eval_asks rows held none =
     let given = both_given (is_given (codes "IN") rows) (is_given (codes "turns") rows) none in
     let input = first_given eval_leaf.rules (codes "IN") rows held given.0 in
-    let turns = number_given eval_leaf.rules (codes "turns") rows (each (IsNumberIf (codes "turns")) eval_leaf.rules eval_numbers) held given.1 in
+    let turns = number_given eval_leaf.rules (codes "turns") rows
+    (each (IsNumberIf (codes "turns")) eval_leaf.rules eval_numbers) held given.1 in
     rw input.1 (numbered Evaluates (λ t n. tt) input.0 (number_in (codes "turns") rows) turns)
 
-gen_asks : (rows : List Row) → AreRows gen_leaf.rules rows → f.check_fault gen_leaf rows false ≡ [] → Asks (asked_in (codes "gen") rows)
+gen_asks : (rows : List Row) → AreRows gen_leaf.rules rows → f.check_fault gen_leaf rows false ≡ [] →
+    Asks (asked_in (codes "gen") rows)
 gen_asks rows held none =
     let given = both_given (is_given (codes "OUT") rows) (is_given (codes "seed") rows) none in
     let output = first_given gen_leaf.rules (codes "OUT") rows held given.0 in
-    let seed = number_given gen_leaf.rules (codes "seed") rows (each (IsNumberIf (codes "seed")) gen_leaf.rules gen_numbers) held given.1 in
-    rw output.1 (numbered (λ output seed. Generates seed output) (λ t n. tt) output.0 (number_in (codes "seed") rows) seed)
+    let seed = number_given gen_leaf.rules (codes "seed") rows
+    (each (IsNumberIf (codes "seed")) gen_leaf.rules gen_numbers) held given.1 in
+    rw output.1 (numbered (λ output seed. Generates seed output) (λ t n. tt) output.0 (number_in (codes "seed") rows)
+    seed)
 
 between : (input : Text) (from to : Option ℕ) → IsSome from → IsSome to → Asks (asked_between (Some input) from to)
 between input None to some more = cc
 between input (Some a) None some more = cc
 between input (Some a) (Some b) some more = tt
 
-trace_asks : (rows : List Row) → AreRows trace_leaf.rules rows → f.check_fault trace_leaf rows false ≡ [] → Asks (asked_in (codes "trace") rows)
+trace_asks : (rows : List Row) → AreRows trace_leaf.rules rows → f.check_fault trace_leaf rows false ≡ [] →
+    Asks (asked_in (codes "trace") rows)
 trace_asks rows held none =
-    let given = all_given (is_given (codes "IN") rows) (is_given (codes "from") rows) (is_given (codes "to") rows) none in
+    let given =
+    all_given (is_given (codes "IN") rows) (is_given (codes "from") rows) (is_given (codes "to") rows) none in
     let input = first_given trace_leaf.rules (codes "IN") rows held given.0 in
-    let first = number_given trace_leaf.rules (codes "from") rows (each (IsNumberIf (codes "from")) trace_leaf.rules first_numbers) held given.1 in
-    let last = number_given trace_leaf.rules (codes "to") rows (each (IsNumberIf (codes "to")) trace_leaf.rules last_numbers) held given.2 in
+    let first = number_given trace_leaf.rules (codes "from") rows
+    (each (IsNumberIf (codes "from")) trace_leaf.rules first_numbers) held given.1 in
+    let last = number_given trace_leaf.rules (codes "to") rows
+    (each (IsNumberIf (codes "to")) trace_leaf.rules last_numbers) held given.2 in
     rw input.1 (between input.0 (number_in (codes "from") rows) (number_in (codes "to") rows) first last)
 
 shows_form : (input : Text) (form : Option Form) → IsSome form → Asks (asked_with Shows (Some input) form)
 shows_form input None some = cc
 shows_form input (Some form) some = tt
 
-show_asks : (rows : List Row) → AreRows show_leaf.rules rows → f.check_fault show_leaf rows false ≡ [] → IsSome (form_in rows) → Asks (asked_in (codes "show") rows)
+show_asks : (rows : List Row) → AreRows show_leaf.rules rows → f.check_fault show_leaf rows false ≡ [] →
+    IsSome (form_in rows) → Asks (asked_in (codes "show") rows)
 show_asks rows held none form =
     let given = both_given (is_given (codes "IN") rows) (is_given (codes "form") rows) none in
     let input = first_given show_leaf.rules (codes "IN") rows held given.0 in
     rw input.1 (shows_form input.0 (form_in rows) form)
 
-explain_asks : (rows : List Row) → AreRows explain_leaf.rules rows → f.check_fault explain_leaf rows false ≡ [] → Asks (asked_in (codes "explain") rows)
+explain_asks : (rows : List Row) → AreRows explain_leaf.rules rows → f.check_fault explain_leaf rows false ≡ [] →
+    Asks (asked_in (codes "explain") rows)
 explain_asks rows held none =
     let input = first_given explain_leaf.rules (codes "IN") rows held (one_given (is_given (codes "IN") rows) none) in
     rw input.1 tt
 
 -- a level of the parse of a subcommand, no error in it, and a form that has its name
-level_asks : (s : Shape) → Each IsOrdinary s.rules → ((rows : List Row) → AreRows s.rules rows → f.check_fault s rows false ≡ [] → NamesForm (Some (s.name, rows)) → Asks (asked_in s.name rows))
-    → (words : List Text) → f.level_fault s [] nothing_held words false [] ≡ [] → NamesForm (Some (rows_at s words)) → Asks (asked_of (Some (rows_at s words)))
+level_asks : (s : Shape) → Each IsOrdinary s.rules →
+    ((rows : List Row) → AreRows s.rules rows → f.check_fault s rows false ≡ [] → NamesForm (Some (s.name, rows)) →
+    Asks (asked_in s.name rows))
+    → (words : List Text) → f.level_fault s [] nothing_held words false [] ≡ [] → NamesForm (Some (rows_at s words)) →
+    Asks (asked_of (Some (rows_at s words)))
 level_asks s ordinary asks words none form =
     let plain : ArePlain s.rules = λ a among. (each IsOrdinary s.rules ordinary a among).0 in
-    let defaults : (a : Rule) → IsAmong a s.rules → a.defaults ≡ [] = λ a among. (each IsOrdinary s.rules ordinary a among).1 in
+    let defaults : (a : Rule) → IsAmong a s.rules → a.defaults ≡ [] =
+    λ a among. (each IsOrdinary s.rules ordinary a among).1 in
     asks (rows_after s.rules [] words) (level_rows s plain defaults words none) (level_given s plain words none) form
 
 -- a level without a form
-formless_asks : (s : Shape) → Each IsOrdinary s.rules → ((rows : List Row) → AreRows s.rules rows → f.check_fault s rows false ≡ [] → Asks (asked_in s.name rows))
-    → (words : List Text) → f.level_fault s [] nothing_held words false [] ≡ [] → NamesForm (Some (rows_at s words)) → Asks (asked_of (Some (rows_at s words)))
+formless_asks : (s : Shape) → Each IsOrdinary s.rules →
+    ((rows : List Row) → AreRows s.rules rows → f.check_fault s rows false ≡ [] → Asks (asked_in s.name rows))
+    → (words : List Text) → f.level_fault s [] nothing_held words false [] ≡ [] → NamesForm (Some (rows_at s words)) →
+    Asks (asked_of (Some (rows_at s words)))
 formless_asks s ordinary asks = level_asks s ordinary (λ rows held none form. asks rows held none)
 
 -- the first subcommand for which its test holds
 abbrev chosen : (compiles checks runs types evaluates generates upgrades traces shows explains : Bool) → Option Shape
 chosen compiles checks runs types evaluates generates upgrades traces shows explains =
-    cond compiles (Some compile_leaf) (cond checks (Some check_leaf) (cond runs (Some run_leaf) (cond types (Some typeof_leaf) (cond evaluates (Some eval_leaf) (cond generates (Some gen_leaf) (cond upgrades (Some upgrade_leaf) (cond traces (Some trace_leaf) (cond shows (Some show_leaf) (cond explains (Some explain_leaf) None)))))))))
+    cond compiles (Some compile_leaf)
+    (cond checks (Some check_leaf)
+    (cond runs (Some run_leaf)
+    (cond types (Some typeof_leaf)
+    (cond evaluates (Some eval_leaf)
+    (cond generates (Some gen_leaf)
+    (cond upgrades (Some upgrade_leaf)
+    (cond traces (Some trace_leaf)
+    (cond shows (Some show_leaf) (cond explains (Some explain_leaf) None)))))))))
 
-entered_asks : (compiles checks runs types evaluates generates upgrades traces shows explains : Bool) (words : List Text) → option_map_or (λ s. f.level_fault s [] nothing_held words false []) (chosen compiles checks runs types evaluates generates upgrades traces shows explains) [] ≡ []
-    → NamesForm (option_map (λ s. rows_at s words) (chosen compiles checks runs types evaluates generates upgrades traces shows explains))
-    → (is_some (option_map (λ s. rows_at s words) (chosen compiles checks runs types evaluates generates upgrades traces shows explains)) ≡ true) → Asks (asked_of (option_map (λ s. rows_at s words) (chosen compiles checks runs types evaluates generates upgrades traces shows explains)))
-entered_asks true b1 b2 b3 b4 b5 b6 b7 b8 b9 words none form entered = formless_asks compile_leaf compile_ordinary compile_asks words none form
-entered_asks false true b2 b3 b4 b5 b6 b7 b8 b9 words none form entered = formless_asks check_leaf check_ordinary check_asks words none form
-entered_asks false false true b3 b4 b5 b6 b7 b8 b9 words none form entered = formless_asks run_leaf run_ordinary run_asks words none form
-entered_asks false false false true b4 b5 b6 b7 b8 b9 words none form entered = formless_asks typeof_leaf typeof_ordinary typeof_asks words none form
-entered_asks false false false false true b5 b6 b7 b8 b9 words none form entered = formless_asks eval_leaf eval_ordinary eval_asks words none form
-entered_asks false false false false false true b6 b7 b8 b9 words none form entered = formless_asks gen_leaf gen_ordinary gen_asks words none form
-entered_asks false false false false false false true b7 b8 b9 words none form entered = formless_asks upgrade_leaf upgrade_ordinary upgrade_asks words none form
-entered_asks false false false false false false false true b8 b9 words none form entered = formless_asks trace_leaf trace_ordinary trace_asks words none form
-entered_asks false false false false false false false false true b9 words none form entered = level_asks show_leaf show_ordinary (λ rows held given named. show_asks rows held given (named refl)) words none form
-entered_asks false false false false false false false false false true words none form entered = formless_asks explain_leaf explain_ordinary explain_asks words none form
+entered_asks : (compiles checks runs types evaluates generates upgrades traces shows explains : Bool)
+    (words : List Text) →
+    option_map_or (λ s. f.level_fault s [] nothing_held words false [])
+    (chosen compiles checks runs types evaluates generates upgrades traces shows explains) [] ≡ []
+    → NamesForm (option_map (λ s. rows_at s words)
+    (chosen compiles checks runs types evaluates generates upgrades traces shows explains))
+    →
+    (is_some (option_map (λ s. rows_at s words)
+    (chosen compiles checks runs types evaluates generates upgrades traces shows explains)) ≡ true) →
+    Asks (asked_of
+    (option_map (λ s. rows_at s words)
+    (chosen compiles checks runs types evaluates generates upgrades traces shows explains)))
+entered_asks true b1 b2 b3 b4 b5 b6 b7 b8 b9 words none form entered =
+    formless_asks compile_leaf compile_ordinary compile_asks words none form
+entered_asks false true b2 b3 b4 b5 b6 b7 b8 b9 words none form entered =
+    formless_asks check_leaf check_ordinary check_asks words none form
+entered_asks false false true b3 b4 b5 b6 b7 b8 b9 words none form entered =
+    formless_asks run_leaf run_ordinary run_asks words none form
+entered_asks false false false true b4 b5 b6 b7 b8 b9 words none form entered =
+    formless_asks typeof_leaf typeof_ordinary typeof_asks words none form
+entered_asks false false false false true b5 b6 b7 b8 b9 words none form entered =
+    formless_asks eval_leaf eval_ordinary eval_asks words none form
+entered_asks false false false false false true b6 b7 b8 b9 words none form entered =
+    formless_asks gen_leaf gen_ordinary gen_asks words none form
+entered_asks false false false false false false true b7 b8 b9 words none form entered =
+    formless_asks upgrade_leaf upgrade_ordinary upgrade_asks words none form
+entered_asks false false false false false false false true b8 b9 words none form entered =
+    formless_asks trace_leaf trace_ordinary trace_asks words none form
+entered_asks false false false false false false false false true b9 words none form entered =
+    level_asks show_leaf show_ordinary (λ rows held given named. show_asks rows held given (named refl)) words none
+    form
+entered_asks false false false false false false false false false true words none form entered =
+    formless_asks explain_leaf explain_ordinary explain_asks words none form
 entered_asks false false false false false false false false false false words none form entered = cc
 
-stopped_asks : (stop : Option (Text × List Text)) → entered_fault (built talc_app) stop ≡ [] → NamesForm (entered (built talc_app) stop) → is_some (entered (built talc_app) stop) ≡ true → Asks (asked_of (entered (built talc_app) stop))
+stopped_asks : (stop : Option (Text × List Text)) → entered_fault (built talc_app) stop ≡ [] →
+    NamesForm (entered (built talc_app) stop) → is_some (entered (built talc_app) stop) ≡ true →
+    Asks (asked_of (entered (built talc_app) stop))
 stopped_asks None none form entered = cc
 stopped_asks (Some p) none form entered =
-    entered_asks (answers_to p.0 (codes "compile", [])) (answers_to p.0 (codes "check", [])) (answers_to p.0 (codes "run", [])) (answers_to p.0 (codes "typeof", [])) (answers_to p.0 (codes "eval", [])) (answers_to p.0 (codes "gen", [])) (answers_to p.0 (codes "upgrade", [])) (answers_to p.0 (codes "trace", [])) (answers_to p.0 (codes "show", [])) (answers_to p.0 (codes "explain", [])) p.1 none form entered
+    entered_asks (answers_to p.0 (codes "compile", [])) (answers_to p.0 (codes "check", []))
+    (answers_to p.0 (codes "run", [])) (answers_to p.0 (codes "typeof", [])) (answers_to p.0 (codes "eval", []))
+    (answers_to p.0 (codes "gen", [])) (answers_to p.0 (codes "upgrade", [])) (answers_to p.0 (codes "trace", []))
+    (answers_to p.0 (codes "show", [])) (answers_to p.0 (codes "explain", [])) p.1 none form entered
 
 -- a subcommand is required
 met : (rows : List Row) (has : Bool) → f.check_fault (built talc_app).top rows has ≡ [] → has ≡ true
@@ -257,7 +327,8 @@ where_taken : (kinds : Kinds) (o : Option Asked) → kinds ≡ [] → Asks o →
 where_taken [] o none asks = asks
 where_taken (k ∷ ks) o none asks = cc
 
-taken_asks : (words : List Text) → fault_of talc_app words ≡ [] → NamesForm (subcommand_of talc_app words) → Asks (command_of words)
+taken_asks : (words : List Text) → fault_of talc_app words ≡ [] → NamesForm (subcommand_of talc_app words) →
+    Asks (command_of words)
 unfolding command_of
 taken_asks words none form =
     let app : App = built talc_app in
@@ -266,8 +337,12 @@ taken_asks words none form =
     let stop : Option (Text × List Text) = (walk app.top.rules (names_of app) nothing_held after).stopped in
     let walked_on = none_next (walk_fault app.top (names_of app) (walk_from nothing_held) after) _ none in
     let below : entered_fault app stop ≡ [] = none_first (entered_fault app stop) _ walked_on in
-    let checked = none_next (f.defaults_fault (settled app.top.rules end).rows app.top.rules) _ (none_next (settle_fault app.top.rules app.top.args_override_self end) _ (none_next (entered_fault app stop) _ walked_on)) in
-    where_taken (fault_of talc_app words) (asked_of (entered app stop)) none (stopped_asks stop below form (met (finished app.top.rules end) (is_some (entered app stop)) checked))
+    let checked =
+    none_next (f.defaults_fault (settled app.top.rules end).rows app.top.rules) _
+    (none_next (settle_fault app.top.rules app.top.args_override_self end) _
+    (none_next (entered_fault app stop) _ walked_on)) in
+    where_taken (fault_of talc_app words) (asked_of (entered app stop)) none
+    (stopped_asks stop below form (met (finished app.top.rules end) (is_some (entered app stop)) checked))
 
 there : (o : Option Asked) → Asks o → IsSome o
 there None asks = absurd asks
@@ -302,11 +377,14 @@ asked_form (Some p) some = λ named. show_form p.0 p.1 some ((bytes_eq-Decides p
 command_form : (words : List Text) → IsSome (command_of words) → NamesForm (subcommand_of talc_app words)
 unfolding command_of
 command_form words asks =
-    asked_form (subcommand_of talc_app words) (some_where (fault_of talc_app words) (asked_of (subcommand_of talc_app words)) asks)
+    asked_form (subcommand_of talc_app words)
+    (some_where (fault_of talc_app words) (asked_of (subcommand_of talc_app words)) asks)
 
 pub command_where_taken : CommandWhereTaken
-command_where_taken words =
-    (λ asks. (command_taken words asks, command_form words asks), λ taken. there (command_of words) (taken_asks words taken.0 taken.1))
+command_where_taken words = (
+  λ asks. (command_taken words asks, command_form words asks),
+  λ taken. there (command_of words) (taken_asks words taken.0 taken.1),
+)
 
 pub registers_are_enough : RegistersAreEnough
 registers_are_enough words asked is =

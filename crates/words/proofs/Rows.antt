@@ -2,33 +2,44 @@
 use Rattle.std.proofs.Common.{◌≡◌, [], ◌∷◌, Some, None, refl}
 use Rattle.std.specs.Prelude.{codes}
 use Rattle.clap.proofs.OnLiterals.{clap_on_literals}
-use Rattle.words.specs.Command.{Checks, Compiles, CompilesWithin, Evaluates, Explains, Generates, Runs, Shows, Traces, Types, Upgrades, command_of}
+use Rattle.words.specs.Command.{Checks, Compiles, CompilesWithin, Evaluates, Explains, Generates, Runs, Shows, Traces}
+use Rattle.words.specs.Command.{Types, Upgrades, command_of}
 use Rattle.words.specs.declared.form.Form.TheVariants as form
 
 -- talc compile x.f x.tal
-compile_words : command_of (codes "talc" ∷ codes "compile" ∷ codes "x.f" ∷ codes "x.tal" ∷ []) ≡ Some (Compiles (codes "x.f") (codes "x.tal"))
+compile_words : command_of (codes "talc" ∷ codes "compile" ∷ codes "x.f" ∷ codes "x.tal" ∷ [])
+    ≡ Some (Compiles (codes "x.f") (codes "x.tal"))
 unfolding command_of clap_on_literals
 compile_words = refl
 
 -- the same within registers, 8 at least
-within_words : command_of (codes "talc" ∷ codes "compile" ∷ codes "--registers" ∷ codes "8" ∷ codes "x.f" ∷ codes "x.tal" ∷ []) ≡ Some (CompilesWithin (codes "x.f") (codes "x.tal") 8)
+within_words :
+    command_of (codes "talc" ∷ codes "compile" ∷ codes "--registers" ∷ codes "8" ∷ codes "x.f" ∷ codes "x.tal" ∷ [])
+    ≡ Some (CompilesWithin (codes "x.f") (codes "x.tal") 8)
 unfolding command_of clap_on_literals
 within_words = refl
 
-within_few : command_of (codes "talc" ∷ codes "compile" ∷ codes "--registers" ∷ codes "7" ∷ codes "x.f" ∷ codes "x.tal" ∷ []) ≡ None
+within_few :
+    command_of (codes "talc" ∷ codes "compile" ∷ codes "--registers" ∷ codes "7" ∷ codes "x.f" ∷ codes "x.tal" ∷ [])
+    ≡ None
 unfolding command_of clap_on_literals
 within_few = refl
 
-within_no_number : command_of (codes "talc" ∷ codes "compile" ∷ codes "--registers" ∷ codes "x" ∷ codes "x.f" ∷ codes "x.tal" ∷ []) ≡ None
+within_no_number :
+    command_of (codes "talc" ∷ codes "compile" ∷ codes "--registers" ∷ codes "x" ∷ codes "x.f" ∷ codes "x.tal" ∷ [])
+    ≡ None
 unfolding command_of clap_on_literals
 within_no_number = refl
 
-within_twice : command_of (codes "talc" ∷ codes "compile" ∷ codes "--registers" ∷ codes "8" ∷ codes "--registers" ∷ codes "8" ∷ codes "x.f" ∷ codes "x.tal" ∷ []) ≡ None
+within_twice :
+    command_of (codes "talc" ∷ codes "compile" ∷ codes "--registers" ∷ codes "8" ∷ codes "--registers" ∷ codes "8"
+    ∷ codes "x.f" ∷ codes "x.tal" ∷ []) ≡ None
 unfolding command_of clap_on_literals
 within_twice = refl
 
 -- the option on another command
-within_elsewhere : command_of (codes "talc" ∷ codes "check" ∷ codes "--registers" ∷ codes "8" ∷ codes "x.tal" ∷ []) ≡ None
+within_elsewhere : command_of (codes "talc" ∷ codes "check" ∷ codes "--registers" ∷ codes "8" ∷ codes "x.tal" ∷ [])
+    ≡ None
 unfolding command_of clap_on_literals
 within_elsewhere = refl
 
@@ -38,20 +49,24 @@ unfolding command_of clap_on_literals
 check_words = refl
 
 -- talc run x.tal --fuel 100
-run_words : command_of (codes "talc" ∷ codes "run" ∷ codes "x.tal" ∷ codes "--fuel" ∷ codes "100" ∷ []) ≡ Some (Runs (codes "x.tal") 100)
+run_words : command_of (codes "talc" ∷ codes "run" ∷ codes "x.tal" ∷ codes "--fuel" ∷ codes "100" ∷ [])
+    ≡ Some (Runs (codes "x.tal") 100)
 unfolding command_of clap_on_literals
 run_words = refl
 
 -- the same with the option first and in one word
-run_equals : command_of (codes "talc" ∷ codes "run" ∷ codes "--fuel=100" ∷ codes "x.tal" ∷ []) ≡ Some (Runs (codes "x.tal") 100)
+run_equals : command_of (codes "talc" ∷ codes "run" ∷ codes "--fuel=100" ∷ codes "x.tal" ∷ [])
+    ≡ Some (Runs (codes "x.tal") 100)
 unfolding command_of clap_on_literals
 run_equals = refl
 
-run_most : command_of (codes "talc" ∷ codes "run" ∷ codes "x.tal" ∷ codes "--fuel" ∷ codes "18446744073709551615" ∷ []) ≡ Some (Runs (codes "x.tal") 18446744073709551615)
+run_most : command_of (codes "talc" ∷ codes "run" ∷ codes "x.tal" ∷ codes "--fuel" ∷ codes "18446744073709551615" ∷ [])
+    ≡ Some (Runs (codes "x.tal") 18446744073709551615)
 unfolding command_of clap_on_literals
 run_most = refl
 
-run_more : command_of (codes "talc" ∷ codes "run" ∷ codes "x.tal" ∷ codes "--fuel" ∷ codes "18446744073709551616" ∷ []) ≡ None
+run_more : command_of (codes "talc" ∷ codes "run" ∷ codes "x.tal" ∷ codes "--fuel" ∷ codes "18446744073709551616" ∷ [])
+    ≡ None
 unfolding command_of clap_on_literals
 run_more = refl
 
@@ -75,34 +90,42 @@ unfolding command_of clap_on_literals
 dashed_name = refl
 
 -- talc eval x.f --turns 6
-eval_words : command_of (codes "talc" ∷ codes "eval" ∷ codes "x.f" ∷ codes "--turns" ∷ codes "6" ∷ []) ≡ Some (Evaluates (codes "x.f") 6)
+eval_words : command_of (codes "talc" ∷ codes "eval" ∷ codes "x.f" ∷ codes "--turns" ∷ codes "6" ∷ [])
+    ≡ Some (Evaluates (codes "x.f") 6)
 unfolding command_of clap_on_literals
 eval_words = refl
 
 -- the option may be one word, stand before the file's name, and its number after a plus or zeros
-eval_equals : command_of (codes "talc" ∷ codes "eval" ∷ codes "x.f" ∷ codes "--turns=6" ∷ []) ≡ Some (Evaluates (codes "x.f") 6)
+eval_equals : command_of (codes "talc" ∷ codes "eval" ∷ codes "x.f" ∷ codes "--turns=6" ∷ [])
+    ≡ Some (Evaluates (codes "x.f") 6)
 unfolding command_of clap_on_literals
 eval_equals = refl
 
-eval_option_first : command_of (codes "talc" ∷ codes "eval" ∷ codes "--turns" ∷ codes "6" ∷ codes "x.f" ∷ []) ≡ Some (Evaluates (codes "x.f") 6)
+eval_option_first : command_of (codes "talc" ∷ codes "eval" ∷ codes "--turns" ∷ codes "6" ∷ codes "x.f" ∷ [])
+    ≡ Some (Evaluates (codes "x.f") 6)
 unfolding command_of clap_on_literals
 eval_option_first = refl
 
-eval_plus : command_of (codes "talc" ∷ codes "eval" ∷ codes "x.f" ∷ codes "--turns" ∷ codes "+6" ∷ []) ≡ Some (Evaluates (codes "x.f") 6)
+eval_plus : command_of (codes "talc" ∷ codes "eval" ∷ codes "x.f" ∷ codes "--turns" ∷ codes "+6" ∷ [])
+    ≡ Some (Evaluates (codes "x.f") 6)
 unfolding command_of clap_on_literals
 eval_plus = refl
 
-eval_zeros : command_of (codes "talc" ∷ codes "eval" ∷ codes "x.f" ∷ codes "--turns" ∷ codes "006" ∷ []) ≡ Some (Evaluates (codes "x.f") 6)
+eval_zeros : command_of (codes "talc" ∷ codes "eval" ∷ codes "x.f" ∷ codes "--turns" ∷ codes "006" ∷ [])
+    ≡ Some (Evaluates (codes "x.f") 6)
 unfolding command_of clap_on_literals
 eval_zeros = refl
 
 -- the most turns
-eval_most : command_of (codes "talc" ∷ codes "eval" ∷ codes "x.f" ∷ codes "--turns" ∷ codes "18446744073709551615" ∷ []) ≡ Some (Evaluates (codes "x.f") 18446744073709551615)
+eval_most : command_of
+    (codes "talc" ∷ codes "eval" ∷ codes "x.f" ∷ codes "--turns" ∷ codes "18446744073709551615" ∷ [])
+    ≡ Some (Evaluates (codes "x.f") 18446744073709551615)
 unfolding command_of clap_on_literals
 eval_most = refl
 
 -- more than the most
-eval_more : command_of (codes "talc" ∷ codes "eval" ∷ codes "x.f" ∷ codes "--turns" ∷ codes "18446744073709551616" ∷ []) ≡ None
+eval_more : command_of
+    (codes "talc" ∷ codes "eval" ∷ codes "x.f" ∷ codes "--turns" ∷ codes "18446744073709551616" ∷ []) ≡ None
 unfolding command_of clap_on_literals
 eval_more = refl
 
@@ -132,7 +155,9 @@ eval_missing_file : command_of (codes "talc" ∷ codes "eval" ∷ codes "--turns
 unfolding command_of clap_on_literals
 eval_missing_file = refl
 
-eval_twice : command_of (codes "talc" ∷ codes "eval" ∷ codes "x.f" ∷ codes "--turns" ∷ codes "6" ∷ codes "--turns" ∷ codes "6" ∷ []) ≡ None
+eval_twice :
+    command_of (codes "talc" ∷ codes "eval" ∷ codes "x.f" ∷ codes "--turns" ∷ codes "6" ∷ codes "--turns" ∷ codes "6"
+    ∷ []) ≡ None
 unfolding command_of clap_on_literals
 eval_twice = refl
 
@@ -165,11 +190,13 @@ unfolding command_of clap_on_literals
 missing_fuel = refl
 
 -- talc gen --seed 0 g.f, and the same with the option last
-gen_words : command_of (codes "talc" ∷ codes "gen" ∷ codes "--seed" ∷ codes "0" ∷ codes "g.f" ∷ []) ≡ Some (Generates 0 (codes "g.f"))
+gen_words : command_of (codes "talc" ∷ codes "gen" ∷ codes "--seed" ∷ codes "0" ∷ codes "g.f" ∷ [])
+    ≡ Some (Generates 0 (codes "g.f"))
 unfolding command_of clap_on_literals
 gen_words = refl
 
-gen_last : command_of (codes "talc" ∷ codes "gen" ∷ codes "g.f" ∷ codes "--seed=18446744073709551615" ∷ []) ≡ Some (Generates 18446744073709551615 (codes "g.f"))
+gen_last : command_of (codes "talc" ∷ codes "gen" ∷ codes "g.f" ∷ codes "--seed=18446744073709551615" ∷ [])
+    ≡ Some (Generates 18446744073709551615 (codes "g.f"))
 unfolding command_of clap_on_literals
 gen_last = refl
 
@@ -183,7 +210,8 @@ unfolding command_of clap_on_literals
 gen_missing_file = refl
 
 -- talc upgrade x.tal y.tal, and without the second file
-upgrade_words : command_of (codes "talc" ∷ codes "upgrade" ∷ codes "x.tal" ∷ codes "y.tal" ∷ []) ≡ Some (Upgrades (codes "x.tal") (codes "y.tal"))
+upgrade_words : command_of (codes "talc" ∷ codes "upgrade" ∷ codes "x.tal" ∷ codes "y.tal" ∷ [])
+    ≡ Some (Upgrades (codes "x.tal") (codes "y.tal"))
 unfolding command_of clap_on_literals
 upgrade_words = refl
 
@@ -192,11 +220,14 @@ unfolding command_of clap_on_literals
 upgrade_missing_file = refl
 
 -- talc trace x.tal --from 3 --to 4, the same with the options first, and without one of the numbers
-trace_words : command_of (codes "talc" ∷ codes "trace" ∷ codes "x.tal" ∷ codes "--from" ∷ codes "3" ∷ codes "--to" ∷ codes "4" ∷ []) ≡ Some (Traces (codes "x.tal") 3 4)
+trace_words :
+    command_of (codes "talc" ∷ codes "trace" ∷ codes "x.tal" ∷ codes "--from" ∷ codes "3" ∷ codes "--to" ∷ codes "4"
+    ∷ []) ≡ Some (Traces (codes "x.tal") 3 4)
 unfolding command_of clap_on_literals
 trace_words = refl
 
-trace_first : command_of (codes "talc" ∷ codes "trace" ∷ codes "--to=4" ∷ codes "--from=3" ∷ codes "x.tal" ∷ []) ≡ Some (Traces (codes "x.tal") 3 4)
+trace_first : command_of (codes "talc" ∷ codes "trace" ∷ codes "--to=4" ∷ codes "--from=3" ∷ codes "x.tal" ∷ [])
+    ≡ Some (Traces (codes "x.tal") 3 4)
 unfolding command_of clap_on_literals
 trace_first = refl
 
@@ -208,41 +239,52 @@ trace_missing_to : command_of (codes "talc" ∷ codes "trace" ∷ codes "x.tal" 
 unfolding command_of clap_on_literals
 trace_missing_to = refl
 
-trace_no_number : command_of (codes "talc" ∷ codes "trace" ∷ codes "x.tal" ∷ codes "--from" ∷ codes "3" ∷ codes "--to" ∷ codes "x" ∷ []) ≡ None
+trace_no_number :
+    command_of (codes "talc" ∷ codes "trace" ∷ codes "x.tal" ∷ codes "--from" ∷ codes "3" ∷ codes "--to" ∷ codes "x"
+    ∷ []) ≡ None
 unfolding command_of clap_on_literals
 trace_no_number = refl
 
-trace_twice : command_of (codes "talc" ∷ codes "trace" ∷ codes "x.tal" ∷ codes "--from" ∷ codes "3" ∷ codes "--to" ∷ codes "4" ∷ codes "--to" ∷ codes "4" ∷ []) ≡ None
+trace_twice :
+    command_of (codes "talc" ∷ codes "trace" ∷ codes "x.tal" ∷ codes "--from" ∷ codes "3" ∷ codes "--to" ∷ codes "4"
+    ∷ codes "--to" ∷ codes "4" ∷ []) ≡ None
 unfolding command_of clap_on_literals
 trace_twice = refl
 
 -- talc show x.f --form F, for each of the six forms
-show_source : command_of (codes "talc" ∷ codes "show" ∷ codes "x.f" ∷ codes "--form" ∷ codes "source" ∷ []) ≡ Some (Shows (codes "x.f") form.Source)
+show_source : command_of (codes "talc" ∷ codes "show" ∷ codes "x.f" ∷ codes "--form" ∷ codes "source" ∷ [])
+    ≡ Some (Shows (codes "x.f") form.Source)
 unfolding command_of clap_on_literals
 show_source = refl
 
-show_cps : command_of (codes "talc" ∷ codes "show" ∷ codes "x.f" ∷ codes "--form" ∷ codes "cps" ∷ []) ≡ Some (Shows (codes "x.f") form.Cps)
+show_cps : command_of (codes "talc" ∷ codes "show" ∷ codes "x.f" ∷ codes "--form" ∷ codes "cps" ∷ [])
+    ≡ Some (Shows (codes "x.f") form.Cps)
 unfolding command_of clap_on_literals
 show_cps = refl
 
-show_closed : command_of (codes "talc" ∷ codes "show" ∷ codes "x.f" ∷ codes "--form" ∷ codes "closed" ∷ []) ≡ Some (Shows (codes "x.f") form.Closed)
+show_closed : command_of (codes "talc" ∷ codes "show" ∷ codes "x.f" ∷ codes "--form" ∷ codes "closed" ∷ [])
+    ≡ Some (Shows (codes "x.f") form.Closed)
 unfolding command_of clap_on_literals
 show_closed = refl
 
-show_hoisted : command_of (codes "talc" ∷ codes "show" ∷ codes "x.f" ∷ codes "--form" ∷ codes "hoisted" ∷ []) ≡ Some (Shows (codes "x.f") form.Hoisted)
+show_hoisted : command_of (codes "talc" ∷ codes "show" ∷ codes "x.f" ∷ codes "--form" ∷ codes "hoisted" ∷ [])
+    ≡ Some (Shows (codes "x.f") form.Hoisted)
 unfolding command_of clap_on_literals
 show_hoisted = refl
 
-show_allocated : command_of (codes "talc" ∷ codes "show" ∷ codes "x.f" ∷ codes "--form" ∷ codes "allocated" ∷ []) ≡ Some (Shows (codes "x.f") form.Allocated)
+show_allocated : command_of (codes "talc" ∷ codes "show" ∷ codes "x.f" ∷ codes "--form" ∷ codes "allocated" ∷ [])
+    ≡ Some (Shows (codes "x.f") form.Allocated)
 unfolding command_of clap_on_literals
 show_allocated = refl
 
-show_assembly : command_of (codes "talc" ∷ codes "show" ∷ codes "x.f" ∷ codes "--form" ∷ codes "assembly" ∷ []) ≡ Some (Shows (codes "x.f") form.Assembly)
+show_assembly : command_of (codes "talc" ∷ codes "show" ∷ codes "x.f" ∷ codes "--form" ∷ codes "assembly" ∷ [])
+    ≡ Some (Shows (codes "x.f") form.Assembly)
 unfolding command_of clap_on_literals
 show_assembly = refl
 
 -- the same with the option first and in one word
-show_first : command_of (codes "talc" ∷ codes "show" ∷ codes "--form=cps" ∷ codes "x.f" ∷ []) ≡ Some (Shows (codes "x.f") form.Cps)
+show_first : command_of (codes "talc" ∷ codes "show" ∷ codes "--form=cps" ∷ codes "x.f" ∷ [])
+    ≡ Some (Shows (codes "x.f") form.Cps)
 unfolding command_of clap_on_literals
 show_first = refl
 
@@ -267,7 +309,9 @@ show_empty : command_of (codes "talc" ∷ codes "show" ∷ codes "x.f" ∷ codes
 unfolding command_of clap_on_literals
 show_empty = refl
 
-show_twice : command_of (codes "talc" ∷ codes "show" ∷ codes "x.f" ∷ codes "--form" ∷ codes "cps" ∷ codes "--form" ∷ codes "cps" ∷ []) ≡ None
+show_twice :
+    command_of (codes "talc" ∷ codes "show" ∷ codes "x.f" ∷ codes "--form" ∷ codes "cps" ∷ codes "--form" ∷ codes "cps"
+    ∷ []) ≡ None
 unfolding command_of clap_on_literals
 show_twice = refl
 

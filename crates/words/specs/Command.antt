@@ -12,10 +12,10 @@ use Rattle.words.specs.Description.{talc_app, whole_number}
 
 -- what the words ask for: to compile the source text of the file IN into the file OUT, or into a text that uses the
 -- registers up to a number alone, to check the TAL text of IN, to run it for so many instructions, to show the type of
--- the source text of IN, to evaluate it within so many turns, to put the source of a seed through all of that and write
--- it to the file OUT, to write the program of the TAL text of IN to the file OUT in the newest version of the language,
--- to run the TAL text of IN and show its states from one number of instructions to another, to show a form of the program
--- of the source text of IN, or to show what is wrong with the source or TAL text of IN
+-- the source text of IN, to evaluate it within so many turns, to put the source of a seed through all of that and
+-- write it to the file OUT, to write the program of the TAL text of IN to the file OUT in the newest version of the
+-- language, to run the TAL text of IN and show its states from one number of instructions to another, to show a form
+-- of the program of the source text of IN, or to show what is wrong with the source or TAL text of IN
 pub data Asked : Type 0 where
   Compiles : (input output : Text) → Asked
   CompilesWithin : (input output : Text) (registers : ℕ) → Asked

@@ -4,8 +4,8 @@ use Rattle.clap.specs.Words.{Text, fault_of, subcommand_of}
 use Rattle.words.specs.Description.{talc_app}
 use Rattle.words.specs.Command.{Asked, EnoughRegisters, NamesForm, command_of}
 
--- the words are a command exactly where `clap`'s rules find no error in them by the description and, where they are those
--- of `show`, the form has one of the six names
+-- the words are a command exactly where `clap`'s rules find no error in them by the description and, where they are
+-- those of `show`, the form has one of the six names
 abbrev pub CommandWhereTaken : Type 0
 CommandWhereTaken = (words : List Text) → IsSome (command_of words)
     ↔ ((fault_of talc_app words ≡ []) × NamesForm (subcommand_of talc_app words))

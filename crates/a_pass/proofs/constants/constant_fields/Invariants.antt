@@ -5,4 +5,6 @@ use Rattle.a_pass.proofs.Every.{a_const}
 use Rattle.a_pass.proofs.constants.constant_fields.Given as goal
 
 abbrev pub invariant-loop-field : goal.invariant-loop-field
-invariant-loop-field l = map a_const l.made.items ++ map (field_at (scope l.binders l.names) (knowns l.names)) (into_iter_items l.field-iterator) ≡ map (field_at (scope l.binders l.names) (knowns l.names)) l.fn.fields.items
+invariant-loop-field l =
+    map a_const l.made.items ++ map (field_at (scope l.binders l.names) (knowns l.names))
+    (into_iter_items l.field-iterator) ≡ map (field_at (scope l.binders l.names) (knowns l.names)) l.fn.fields.items

@@ -12,7 +12,13 @@ pub loop-field-init : goal.loop-field-init
 loop-field-init c = ap afields c.in_ok-made.ensures.items
 
 pub loop-field-preserved : goal.loop-field-preserved
-loop-field-preserved c = fields_next c.args.fields.now c.loop-field.made.items _ c.loop-field.field-index c.field-item.result c.in_ok-one.one c.loop-field-test.true c.field-item.is c.in_ok-push.ensures.items c.in_ok-one.ensures c.loop-field.invariant
+loop-field-preserved c =
+    fields_next c.args.fields.now c.loop-field.made.items _ c.loop-field.field-index c.field-item.result
+    c.in_ok-one.one c.loop-field-test.true c.field-item.is c.in_ok-push.ensures.items c.in_ok-one.ensures
+    c.loop-field.invariant
 
 pub returns : goal.returns
-returns c = a_tuple c.loop-field.made ∙ ap ATuple (c.loop-field.invariant ∙ ap (λ xs. data_fields (a_consts xs)) (take_all c.loop-field.field-index c.args.fields.now c.loop-field-test.false))
+returns c = a_tuple c.loop-field.made
+    ∙ ap ATuple (c.loop-field.invariant
+    ∙ ap (λ xs. data_fields (a_consts xs))
+    (take_all c.loop-field.field-index c.args.fields.now c.loop-field-test.false))

@@ -8,7 +8,8 @@ use Rattle.a_pass.proofs.emit.under_all.Goals as goal
 
 pub loop-value-preserved : goal.loop-value-preserved
 loop-value-preserved c =
-    mapped_step a_value (value_at c.args.depth) c.loop-value.made.items _ c.under.result _ _ c.in-Some.value _ c.in-Some.ensures.steps.0 c.in_ok-push.ensures.items c.under.ensures c.loop-value.invariant
+    mapped_step a_value (value_at c.args.depth) c.loop-value.made.items _ c.under.result _ _ c.in-Some.value _
+    c.in-Some.ensures.steps.0 c.in_ok-push.ensures.items c.under.ensures c.loop-value.invariant
 
 pub returns : goal.returns
 returns c =

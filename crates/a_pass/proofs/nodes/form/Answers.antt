@@ -6,19 +6,23 @@ pub returns-in_ok-name-in-Name : goal.returns-in_ok-name-in-Name
 returns-in_ok-name-in-Name c = steps_for _ _ _ _ _ _ _ _ _ _ _ _ (sym c.in-Name.is) c.in_ok-name-in-Name.ensures
 
 pub returns-in_ok-project-in-Proj : goal.returns-in_ok-project-in-Proj
-returns-in_ok-project-in-Proj c = steps_for _ _ _ _ _ _ _ _ _ _ _ _ (sym c.in-Proj.is) c.in_ok-project-in-Proj.ensures.field
+returns-in_ok-project-in-Proj c =
+    steps_for _ _ _ _ _ _ _ _ _ _ _ _ (sym c.in-Proj.is) c.in_ok-project-in-Proj.ensures.field
 
 pub returns-in_ok-operate-in-Arith : goal.returns-in_ok-operate-in-Arith
-returns-in_ok-operate-in-Arith c = steps_for _ _ _ _ _ _ _ _ _ _ _ _ (sym c.in-Arith.is) c.in_ok-operate-in-Arith.ensures
+returns-in_ok-operate-in-Arith c =
+    steps_for _ _ _ _ _ _ _ _ _ _ _ _ (sym c.in-Arith.is) c.in_ok-operate-in-Arith.ensures
 
 pub returns-in_ok-unpack-in-Unpack : goal.returns-in_ok-unpack-in-Unpack
-returns-in_ok-unpack-in-Unpack c = steps_for _ _ _ _ _ _ _ _ _ _ _ _ (sym c.in-Unpack.is) c.in_ok-unpack-in-Unpack.ensures
+returns-in_ok-unpack-in-Unpack c =
+    steps_for _ _ _ _ _ _ _ _ _ _ _ _ (sym c.in-Unpack.is) c.in_ok-unpack-in-Unpack.ensures
 
 pub returns-in_ok-cell-in-Cell : goal.returns-in_ok-cell-in-Cell
 returns-in_ok-cell-in-Cell c = steps_for _ _ _ _ _ _ _ _ _ _ _ _ (sym c.in-Cell.is) c.in_ok-cell-in-Cell.ensures
 
 pub returns-in_ok-project-in-Get : goal.returns-in_ok-project-in-Get
-returns-in_ok-project-in-Get c = steps_for _ _ _ _ _ _ _ _ _ _ _ _ (sym c.in-Get.is) (c.in_ok-project-in-Get.ensures.cell refl)
+returns-in_ok-project-in-Get c =
+    steps_for _ _ _ _ _ _ _ _ _ _ _ _ (sym c.in-Get.is) (c.in_ok-project-in-Get.ensures.cell refl)
 
 pub returns-in_ok-set-in-Set : goal.returns-in_ok-set-in-Set
 returns-in_ok-set-in-Set c = steps_for _ _ _ _ _ _ _ _ _ _ _ _ (sym c.in-Set.is) c.in_ok-set-in-Set.ensures

@@ -12,9 +12,13 @@ returns c = λ ks g out tuples.
     let ls = knowns c.args.names.now in
     let h = ctree c.args.hidden.now in
     let s = ctree c.args.shape.now in
-    reads_deep ks g ls _ _ _ _ _ _ _ _ out out tuples tuples (sym (c.in_ok-made.ensures.depth ∙ c.pop_leaf.ensures.depth))
-    (reads_wrap ks g ls (λ v. HPack h v s) (λ v. a.Pack (atype h) v (atype s)) (λ t. atype s) (λ x o. of_pack (atype h) (atype s) o)
-    (λ d v. refl) (λ b v. refl) (λ b v. refl) (λ b d v r. refl) (λ b d e v. refl) (λ v. refl) (λ b d v. pack_const ls h s b v)
-    _ _ _ _ _ _ c.args.run.depth out tuples c.in-Some.leaf.value c.in_ok-leaf.leaf.value c.in-Some.leaf.seen c.in_ok-leaf.leaf.seen
+    reads_deep ks g ls _ _ _ _ _ _ _ _ out out tuples tuples
+    (sym (c.in_ok-made.ensures.depth ∙ c.pop_leaf.ensures.depth))
+    (reads_wrap ks g ls (λ v. HPack h v s) (λ v. a.Pack (atype h) v (atype s)) (λ t. atype s)
+    (λ x o. of_pack (atype h) (atype s) o)
+    (λ d v. refl) (λ b v. refl) (λ b v. refl) (λ b d v r. refl) (λ b d e v. refl) (λ v. refl)
+    (λ b d v. pack_const ls h s b v)
+    _ _ _ _ _ _ c.args.run.depth out tuples c.in-Some.leaf.value c.in_ok-leaf.leaf.value c.in-Some.leaf.seen
+    c.in_ok-leaf.leaf.seen
     c.in-Some.ensures.values c.in_ok-made.ensures.values c.in-Some.ensures.types c.in_ok-made.ensures.types
     c.in_ok-leaf.ensures.value (c.in_ok-leaf.ensures.ty g) c.in_ok-leaf.ensures.constant)

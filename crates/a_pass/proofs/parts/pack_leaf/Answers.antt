@@ -4,7 +4,8 @@ use Rattle.a_pass.specs.Scope.{value_at}
 use Rattle.a_pass.proofs.parts.pack_leaf.Goals as goal
 
 pub returns-clause-value : goal.returns-clause-value
-returns-clause-value c = λ d. c.in_ok-value.ensures.value d ∙ ap₂ (λ h s. a.Pack h (value_at d c.args.leaf.value) s) c.in_ok-hidden.ensures c.in_ok-shape.ensures
+returns-clause-value c = λ d. c.in_ok-value.ensures.value d
+    ∙ ap₂ (λ h s. a.Pack h (value_at d c.args.leaf.value) s) c.in_ok-hidden.ensures c.in_ok-shape.ensures
 
 pub returns-clause-ty : goal.returns-clause-ty
 returns-clause-ty c = λ g. refl

@@ -7,9 +7,16 @@ use Rattle.a_pass.proofs.term.body.Goals as goal
 pub returns-clause-tree : goal.returns-clause-tree
 returns-clause-tree c =
     let long : c.len-depth.result ≡ length c.in_ok-names.names.items = search rules in
-    c.in_ok-out.ensures.tree ∙ (body_is (h_blocks c.args.blocks.now) c.args.args.now c.in_ok-names.names.items (length c.args.tuples.now.items) c.len-depth.result (h_tree c.args.nodes.now) long c.in_ok-names.ensures.knowns c.in_ok-names.ensures.scope c.in_ok-names.ensures.depth).0
+    c.in_ok-out.ensures.tree
+    ∙ (body_is (h_blocks c.args.blocks.now) c.args.args.now c.in_ok-names.names.items (length c.args.tuples.now.items)
+    c.len-depth.result (h_tree c.args.nodes.now) long c.in_ok-names.ensures.knowns c.in_ok-names.ensures.scope
+    c.in_ok-names.ensures.depth).0
 
 pub returns-clause-keeps : goal.returns-clause-keeps
 returns-clause-keeps c =
     let long : c.len-depth.result ≡ length c.in_ok-names.names.items = search rules in
-    c.in_ok-out.ensures.keeps ∙ ap (λ zs. a_data c.args.tuples.now.items ++ zs) (body_is (h_blocks c.args.blocks.now) c.args.args.now c.in_ok-names.names.items (length c.args.tuples.now.items) c.len-depth.result (h_tree c.args.nodes.now) long c.in_ok-names.ensures.knowns c.in_ok-names.ensures.scope c.in_ok-names.ensures.depth).1
+    c.in_ok-out.ensures.keeps
+    ∙ ap (λ zs. a_data c.args.tuples.now.items ++ zs)
+    (body_is (h_blocks c.args.blocks.now) c.args.args.now c.in_ok-names.names.items
+    (length c.args.tuples.now.items) c.len-depth.result (h_tree c.args.nodes.now) long c.in_ok-names.ensures.knowns
+    c.in_ok-names.ensures.scope c.in_ok-names.ensures.depth).1

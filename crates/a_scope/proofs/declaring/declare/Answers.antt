@@ -18,5 +18,9 @@ returns-clause-scope c =
     )
 
 pub returns-clause-more : goal.returns-clause-more
-returns-clause-more c =
-    (c.placed-entry.result, omega (arith, c.placed-entry.ensures.names, c.in_ok-made.ensures.1, c.in_ok-after.ensures), c.placed-entry.ensures.register, c.in_ok-push.ensures.items)
+returns-clause-more c = (
+  c.placed-entry.result,
+  omega (arith, c.placed-entry.ensures.names, c.in_ok-made.ensures.1, c.in_ok-after.ensures),
+  c.placed-entry.ensures.register,
+  c.in_ok-push.ensures.items,
+)

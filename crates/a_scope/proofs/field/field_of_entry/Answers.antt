@@ -30,4 +30,5 @@ returns-in-Room c =
 pub returns-in_ok-made-in-Made : goal.returns-in_ok-made-in-Made
 returns-in_ok-made-in-Made c =
     field_made c.args.names c.args.i c.saturating_sub-by.result c.args.entry.now c.in_ok-made-in-Made.made _
-    c.saturating_sub-by.ensures (ap atree c.deref.ensures ∙ ap noted_type (sym c.in-Made.is)) c.in_ok-made-in-Made.ensures
+    c.saturating_sub-by.ensures (ap atree c.deref.ensures ∙ ap noted_type (sym c.in-Made.is))
+    c.in_ok-made-in-Made.ensures

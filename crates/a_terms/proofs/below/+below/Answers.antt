@@ -19,35 +19,53 @@ pub type_below-returns-in-None : goal.type_below-returns-in-None
 type_below-returns-in-None t c =
     let e = is_code _ _ _ _ c.in-Code.is c.deref-in-None.ensures.value in
     let past = c.in-None.ensures in
-    let more : 2 ^ 64 ≤ c.args.n + c.in-Code.owes = omega arith in
-    (λ h. subst (ABelow c.args.n) (sym e) (tt, c.all_have_words.ensures.below _ more), λ h. c.all_have_words.ensures.is_true)
+    let more : 2 ^ 64 ≤ c.args.n + c.in-Code.owes = omega arith in (
+      λ h. subst (ABelow c.args.n) (sym e) (tt, c.all_have_words.ensures.below _ more),
+      λ h. c.all_have_words.ensures.is_true,
+    )
 
 pub type_below-returns-in-Tuple : goal.type_below-returns-in-Tuple
-type_below-returns-in-Tuple t c = let e = is_tuple _ _ _ c.in-Tuple.is c.deref.ensures.value in
-    (λ h. subst (ABelow c.args.n) (sym e) (c.fields_below.ensures.0 h), λ h. c.fields_below.ensures.1 (subst (ABelow c.args.n) e h))
+type_below-returns-in-Tuple t c = let e = is_tuple _ _ _ c.in-Tuple.is c.deref.ensures.value in (
+  λ h. subst (ABelow c.args.n) (sym e) (c.fields_below.ensures.0 h),
+  λ h. c.fields_below.ensures.1 (subst (ABelow c.args.n) e h),
+)
 
 pub all_below-returns-then-not-type_below : goal.all_below-returns-then-not-type_below
 all_below-returns-then-not-type_below t c = (
   λ h. absurd (true≢false (sym h)),
-  λ h. c.if-not-type_below.ensures.1 (item_has (λ (x : AType). ABelow c.args.n (atree x)) _ _ _ c.t-item.is c.loop-t-test.true (types_have BelowAt AnyDepth c.args.n _ h)),
+  λ h. c.if-not-type_below.ensures.1
+      (item_has (λ (x : AType). ABelow c.args.n (atree x)) _ _ _ c.t-item.is c.loop-t-test.true
+      (types_have BelowAt AnyDepth c.args.n _ h)),
 )
 
 pub all_below-loop-t-preserved : goal.all_below-loop-t-preserved
 all_below-loop-t-preserved m c =
-    items_more (λ (x : AType). ABelow c.args.n (atree x)) _ _ _ c.t-item.is c.loop-t-test.true c.loop-t.invariant (c.if-not-type_below.ensures.0 refl)
+    items_more (λ (x : AType). ABelow c.args.n (atree x)) _ _ _ c.t-item.is c.loop-t-test.true c.loop-t.invariant
+    (c.if-not-type_below.ensures.0 refl)
 
 pub all_below-returns : goal.all_below-returns
-all_below-returns t c = (λ h. types_have_all BelowAt AnyDepth c.args.n c.args.ts.now c.loop-t.t-index c.loop-t.invariant c.loop-t-test.false, λ h. refl)
+all_below-returns t c = (
+  λ h. types_have_all BelowAt AnyDepth c.args.n c.args.ts.now c.loop-t.t-index c.loop-t.invariant
+      c.loop-t-test.false,
+  λ h. refl,
+)
 
 pub fields_below-returns-then-not-type_below : goal.fields_below-returns-then-not-type_below
 fields_below-returns-then-not-type_below t c = (
   λ h. absurd (true≢false (sym h)),
-  λ h. c.if-not-type_below.ensures.1 (item_has (λ (x : AType × Bool). ABelow c.args.n (atree x.0)) _ _ _ c.field-item.is c.loop-field-test.true (fields_have BelowAt AnyDepth c.args.n _ h)),
+  λ h. c.if-not-type_below.ensures.1
+      (item_has (λ (x : AType × Bool). ABelow c.args.n (atree x.0)) _ _ _ c.field-item.is c.loop-field-test.true
+      (fields_have BelowAt AnyDepth c.args.n _ h)),
 )
 
 pub fields_below-loop-field-preserved : goal.fields_below-loop-field-preserved
 fields_below-loop-field-preserved t c =
-    items_more (λ (x : AType × Bool). ABelow c.args.n (atree x.0)) _ _ _ c.field-item.is c.loop-field-test.true c.loop-field.invariant (c.if-not-type_below.ensures.0 refl)
+    items_more (λ (x : AType × Bool). ABelow c.args.n (atree x.0)) _ _ _ c.field-item.is c.loop-field-test.true
+    c.loop-field.invariant (c.if-not-type_below.ensures.0 refl)
 
 pub fields_below-returns : goal.fields_below-returns
-fields_below-returns t c = (λ h. fields_have_all BelowAt AnyDepth c.args.n c.args.fs.now c.loop-field.field-index c.loop-field.invariant c.loop-field-test.false, λ h. refl)
+fields_below-returns t c = (
+  λ h. fields_have_all BelowAt AnyDepth c.args.n c.args.fs.now c.loop-field.field-index c.loop-field.invariant
+      c.loop-field-test.false,
+  λ h. refl,
+)

@@ -6,4 +6,6 @@ use Rattle.a_terms.proofs.Fields.{applied_one}
 use Rattle.a_terms.proofs.parts.apply_code.Goals as goal
 
 pub returns : goal.returns
-returns c = ap Some (a_code (c.args.owes - 1) c.in_ok-made.made ∙ ap (a.ACode (c.args.owes - 1)) c.in_ok-made.ensures) ∙ applied_one c.args.owes (c.args.owes - 1) (atrees c.args.args.now) (atree c.args.t.now) (omega (arith, c.if-owes-eq0.false))
+returns c = ap Some (a_code (c.args.owes - 1) c.in_ok-made.made ∙ ap (a.ACode (c.args.owes - 1)) c.in_ok-made.ensures)
+    ∙ applied_one c.args.owes (c.args.owes - 1) (atrees c.args.args.now) (atree c.args.t.now)
+    (omega (arith, c.if-owes-eq0.false))

@@ -6,4 +6,6 @@ use Rattle.a_terms.proofs.parts.field_of.Goals as goal
 
 pub returns-in_ok-made-in-Tuple : goal.returns-in_ok-made-in-Tuple
 returns-in_ok-made-in-Tuple c =
-    c.in_ok-made-in-Tuple.ensures ∙ ap (λ t. ashift c.args.by 0 (field_of c.args.i (Some t))) (sym (is_tuple _ _ _ c.in-Tuple.is c.deref.ensures.value))
+    c.in_ok-made-in-Tuple.ensures
+    ∙ ap (λ t. ashift c.args.by 0 (field_of c.args.i (Some t)))
+    (sym (is_tuple _ _ _ c.in-Tuple.is c.deref.ensures.value))

@@ -8,7 +8,12 @@ use Rattle.a_terms.proofs.Fields.{unset_push}
 use Rattle.a_terms.proofs.parts.unset_tuple.Goals as goal
 
 pub loop-t-preserved : goal.loop-t-preserved
-loop-t-preserved c = unset_push _ _ c.args.types.now c.loop-t.t-index c.t-item.result _ c.loop-t-test.true c.t-item.is c.in_ok-push.ensures.items c.in_ok-one.ensures c.loop-t.invariant
+loop-t-preserved c =
+    unset_push _ _ c.args.types.now c.loop-t.t-index c.t-item.result _ c.loop-t-test.true c.t-item.is
+    c.in_ok-push.ensures.items c.in_ok-one.ensures c.loop-t.invariant
 
 pub returns : goal.returns
-returns c = a_tuple _ ∙ ap a.ATuple (c.loop-t.invariant ∙ ap (λ xs. aunset (atrees xs)) (take_all c.loop-t.t-index c.args.types.now c.loop-t-test.false))
+returns c = a_tuple _
+    ∙ ap a.ATuple
+    (c.loop-t.invariant
+    ∙ ap (λ xs. aunset (atrees xs)) (take_all c.loop-t.t-index c.args.types.now c.loop-t-test.false))

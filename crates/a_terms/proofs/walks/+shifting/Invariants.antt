@@ -8,4 +8,5 @@ abbrev pub invariant-shift_all-loop-t : goal.invariant-shift_all-loop-t
 invariant-shift_all-loop-t l = atrees l.made.items ≡ over_types (shifted AVar l.by) l.d (atrees (take l.t-index l.ts))
 
 abbrev pub invariant-shift_fields-loop-t : goal.invariant-shift_fields-loop-t
-invariant-shift_fields-loop-t l = afields l.made.items ≡ over_fields (shifted AVar l.by) l.d (afields (take l.t-index l.ts))
+invariant-shift_fields-loop-t l =
+    afields l.made.items ≡ over_fields (shifted AVar l.by) l.d (afields (take l.t-index l.ts))

@@ -18,6 +18,12 @@ returns-in_ok-made-in-Call c = λ ts h.
     let w = c.in_ok-made-in-Call.made in
     let same = c.as_slice-values.ensures.value in
     let some = subst (λ (f : AForm). AArity f vs) c.in-Call.is c.requires in
-    let leads = subst (λ (xs : List AValue). Leads c.in_ok-wants-in-Call.wants (a.Call (top no_value (a_values xs)) us (others (a_values xs)))) same (c.in_ok-wants-in-Call.ensures us) in
-    subst (λ (f : AForm). Tells f vs ts w × AllHold (newest c.before_end.new.sets.items) (a_build f vs ts)) (sym c.in-Call.is)
-    (tt, c.in_ok-made-in-Call.ensures ts (a.Call (top no_value vs) us (others vs)) (λ n. call_uses vs n some ∙ ap (λ (xs : List AValue). uses_any (a_values xs) n) (sym same)) leads h)
+    let leads = subst
+    (λ (xs : List AValue). Leads c.in_ok-wants-in-Call.wants
+    (a.Call (top no_value (a_values xs)) us (others (a_values xs)))) same (c.in_ok-wants-in-Call.ensures us) in
+    subst (λ (f : AForm). Tells f vs ts w × AllHold (newest c.before_end.new.sets.items) (a_build f vs ts))
+    (sym c.in-Call.is) (
+      tt,
+      c.in_ok-made-in-Call.ensures ts (a.Call (top no_value vs) us (others vs))
+          (λ n. call_uses vs n some ∙ ap (λ (xs : List AValue). uses_any (a_values xs) n) (sym same)) leads h,
+    )

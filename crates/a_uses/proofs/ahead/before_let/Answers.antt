@@ -17,9 +17,15 @@ returns c = λ ts h.
       (
         c.in_ok-named.ensures e p.0,
         c.in_ok-new.ensures ∙ p.0 0,
-        let_gone f vs e c.in-Some.rest.used c.outside.new.used (mem c.missing.new.numbers.items) c.requires.form c.requires.arity p.0 c.in_ok-outside.ensures (λ i. c.in_ok-missing.ensures i ∙ ap (λ xs. mem xs i || (uses_any vs i && not (has c.outside.new.used i))) c.new-gone.ensures.items),
+        let_gone f vs e c.in-Some.rest.used c.outside.new.used (mem c.missing.new.numbers.items) c.requires.form
+            c.requires.arity p.0 c.in_ok-outside.ensures
+            (λ i. c.in_ok-missing.ensures i
+            ∙ ap (λ xs. mem xs i || (uses_any vs i && not (has c.outside.new.used i))) c.new-gone.ensures.items),
         c.last_wanted-wanted.ensures ∙ p.1.1 0,
         p.1.0,
       ),
-      pushed c.pop.new.self.items _ _ (a.Let (a_decl f vs) e) (others ts) c.in_ok-push.ensures.items (let_holds f vs e c.in-Some.rest.used c.note_all.new.used (has c.outside.new.used) c.requires.form c.requires.arity p.0 c.in_ok-outside.ensures c.in_ok-note_all.ensures) (c.in_ok-leave.ensures (a_decl f vs) e p.1) p.2,
+      pushed c.pop.new.self.items _ _ (a.Let (a_decl f vs) e) (others ts) c.in_ok-push.ensures.items
+          (let_holds f vs e c.in-Some.rest.used c.note_all.new.used (has c.outside.new.used) c.requires.form
+          c.requires.arity p.0 c.in_ok-outside.ensures c.in_ok-note_all.ensures)
+          (c.in_ok-leave.ensures (a_decl f vs) e p.1) p.2,
     )

@@ -7,5 +7,6 @@ use Rattle.a_uses.proofs.ahead.look_ahead.Goals as goal
 pub returns-clause-first : goal.returns-clause-first
 returns-clause-first c =
     let ns = c.args.nodes.now in
-    let h = popped c.look_back.new.sets.items c.pop.new.self.items c.in-Some.whole (a_onto ns []) c.in-Some.ensures.items c.in_ok-each.ensures.sets in
+    let h = popped c.look_back.new.sets.items c.pop.new.self.items c.in-Some.whole
+    (a_onto ns []) c.in-Some.ensures.items c.in_ok-each.ensures.sets in
     c.in_ok-first.ensures (used (a_tree ns)) h.0

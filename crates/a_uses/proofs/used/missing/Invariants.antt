@@ -6,4 +6,6 @@ use Rattle.a_uses.specs.Uses.{has, mem}
 use Rattle.a_uses.proofs.used.missing.Given as goal
 
 abbrev pub invariant-loop-v : goal.invariant-loop-v
-invariant-loop-v l = (i : ℕ) → mem l.numbers.items i ≡ (mem l.fn.numbers.items i || (uses_any (a_values (take l.v-index l.values)) i && not (has l.used i)))
+invariant-loop-v l = (i : ℕ) →
+    mem l.numbers.items i
+    ≡ (mem l.fn.numbers.items i || (uses_any (a_values (take l.v-index l.values)) i && not (has l.used i)))

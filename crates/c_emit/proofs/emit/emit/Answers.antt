@@ -7,5 +7,7 @@ use Rattle.c_emit.proofs.emit.emit.Goals as goal
 pub loop-node-preserved : goal.loop-node-preserved
 loop-node-preserved c =
     c.in_ok-step.ensures (map knode (drop (c.loop-node.node-index + 1) c.args.nodes.now))
-    ∙ ap (walked c.loop-node.walk) (sym (read_drop c.args.nodes.now c.loop-node.node-index c.node-item.result c.loop-node-test.true c.node-item.is))
+    ∙ ap (walked c.loop-node.walk)
+    (sym (read_drop c.args.nodes.now c.loop-node.node-index c.node-item.result c.loop-node-test.true
+    c.node-item.is))
     ∙ c.loop-node.invariant

@@ -6,4 +6,5 @@ use Rattle.c_emit.specs.Walked.{walked}
 use Rattle.c_emit.proofs.emit.emit.Given as goal
 
 abbrev pub invariant-loop-node : goal.invariant-loop-node
-invariant-loop-node l = walked l.walk (map knode (drop l.node-index l.nodes)) ≡ E.emit (map knode l.nodes) (frame l.fn.top) [] (infos_of l.fn.infos.items) (notes_of l.fn.notes.items)
+invariant-loop-node l = walked l.walk (map knode (drop l.node-index l.nodes))
+    ≡ E.emit (map knode l.nodes) (frame l.fn.top) [] (infos_of l.fn.infos.items) (notes_of l.fn.notes.items)

@@ -5,4 +5,5 @@ use Rattle.c_free.specs.Names.{joined, renaming}
 use Rattle.c_free.proofs.close_type.+close.Given as goal
 
 abbrev pub invariant-close_types-loop-t : goal.invariant-close_types-loop-t
-invariant-close_types-loop-t l = joined l.made.items (L.ctypes (renaming l.names) (ktys (drop l.t-index l.ts))) ≡ joined l.initial.made.items (L.ctypes (renaming l.names) (ktys l.ts))
+invariant-close_types-loop-t l = joined l.made.items (L.ctypes (renaming l.names) (ktys (drop l.t-index l.ts)))
+    ≡ joined l.initial.made.items (L.ctypes (renaming l.names) (ktys l.ts))

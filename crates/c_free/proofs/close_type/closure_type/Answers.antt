@@ -9,5 +9,9 @@ use Rattle.c_free.proofs.close_type.closure_type.Goals as goal
 pub returns : goal.returns
 returns c =
     ap C.TCSome (ap ctree c.in_ok-pair.ensures.ok ∙ c_tuple c.push-2.new.self
-    ∙ ap (λ (xs : List CType). C.TCTuple (ctys xs)) (c.in_ok-push-2.ensures.items ∙ ap (λ (xs : List CType). xs ++ CT.Var 0 ∷ []) (c.in_ok-push.ensures.items ∙ ap (λ (xs : List CType). xs ++ CT.Code c.args.owes c.args.args ∷ []) c.in_ok-parts.ensures.items))
+    ∙ ap (λ (xs : List CType). C.TCTuple (ctys xs))
+    (c.in_ok-push-2.ensures.items
+    ∙ ap (λ (xs : List CType). xs ++ CT.Var 0 ∷ [])
+    (c.in_ok-push.ensures.items
+    ∙ ap (λ (xs : List CType). xs ++ CT.Code c.args.owes c.args.args ∷ []) c.in_ok-parts.ensures.items))
     ∙ ap (λ x. C.TCTuple (C.MoreCTys x (C.MoreCTys (C.TCVar 0) C.NoCTys))) (c_code c.args.owes c.args.args))

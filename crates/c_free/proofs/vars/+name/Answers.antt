@@ -14,16 +14,20 @@ returns-in_ok-at-in-Here t c =
 pub returns-in_ok-at-in-Outside : goal.returns-in_ok-at-in-Outside
 returns-in_ok-at-in-Outside t c =
     c.in_ok-at-in-Outside.ensures
-    ∙ ap (W.outer_var (side c.in-Outside.side.now)) (c.in_ok-j-in-Outside.ensures ∙ sym (lift_add c.in-Outside.raise c.args.i))
+    ∙ ap (W.outer_var (side c.in-Outside.side.now))
+    (c.in_ok-j-in-Outside.ensures ∙ sym (lift_add c.in-Outside.raise c.args.i))
     ∙ ap (λ n. renaming n c.args.i) (sym c.in-Outside.is)
 
 pub returns-then-i-owes : goal.returns-then-i-owes
 returns-then-i-owes t c =
-    under_in c.in-Under.owes (λ j. suc (renaming c.in-Under.around.now j)) c.args.i c.if-i-owes.true ∙ ap (λ n. renaming n c.args.i) (sym c.in-Under.is)
+    under_in c.in-Under.owes (λ j. suc (renaming c.in-Under.around.now j)) c.args.i c.if-i-owes.true
+    ∙ ap (λ n. renaming n c.args.i) (sym c.in-Under.is)
 
 pub returns-in_ok-at-in-Under-3 : goal.returns-in_ok-at-in-Under-3
 returns-in_ok-at-in-Under-3 t c =
     c.in_ok-at-in-Under-3.ensures
-    ∙ ap (λ n. c.in-Under.owes + n) (let q : c.in_ok-at-in-Under-2.at ≡ suc c.in_ok-at-in-Under.at = omega (arith, c.in_ok-at-in-Under-2.ensures) in q ∙ ap suc c.in_ok-at-in-Under.ensures)
+    ∙ ap (λ n. c.in-Under.owes + n)
+    (let q : c.in_ok-at-in-Under-2.at ≡ suc c.in_ok-at-in-Under.at =
+    omega (arith, c.in_ok-at-in-Under-2.ensures) in q ∙ ap suc c.in_ok-at-in-Under.ensures)
     ∙ under_out c.in-Under.owes (λ j. suc (renaming c.in-Under.around.now j)) c.args.i c.if-i-owes.false
     ∙ ap (λ n. renaming n c.args.i) (sym c.in-Under.is)

@@ -5,7 +5,9 @@ use Rattle.c_free.proofs.Trees.{under_in, under_out}
 use Rattle.c_free.proofs.vars.plain_var.Goals as goal
 
 pub returns-then-i-f : goal.returns-then-i-f
-returns-then-i-f c = under_in c.args.f.now.owes (λ j. W.above (level_of c.args.f.now.depth j) c.args.f.now.kept.list.items) c.args.i c.if-i-f.true
+returns-then-i-f c =
+    under_in c.args.f.now.owes (λ j. W.above (level_of c.args.f.now.depth j) c.args.f.now.kept.list.items) c.args.i
+    c.if-i-f.true
 
 pub returns-in_ok-at : goal.returns-in_ok-at
 returns-in_ok-at c =

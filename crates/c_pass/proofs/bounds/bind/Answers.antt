@@ -9,4 +9,5 @@ pub returns : goal.returns
 returns c =
     let x : Bound = record { ty = c.args.ty; depth = c.args.depth } in
     ap (λ (xs : List Bound). bounds xs) c.in_ok-push.ensures.items ∙ bounds_push _ x
-    ∙ ap (λ (xs : List W.Bound). xs ++ bound x ∷ []) (ap (λ (xs : List Bound). bounds xs) c.truncate.ensures.items ∙ bounds_take c.args.level c.args.xs.now.items)
+    ∙ ap (λ (xs : List W.Bound). xs ++ bound x ∷ [])
+    (ap (λ (xs : List Bound). bounds xs) c.truncate.ensures.items ∙ bounds_take c.args.level c.args.xs.now.items)

@@ -12,7 +12,9 @@ pub returns-in-None : goal.returns-in-None
 returns-in-None c =
     let e : c.loop-f.types.items ≡ [] = search rules in
     sym (clues_all c.loop-f.made.items)
-    ∙ ap (clues_onto c.loop-f.made.items) (sym (ap₂ T.zipped (ap (λ (xs : List Found). founds xs) c.in-Some.ensures.items) (ap (λ (xs : List Levels). lists xs) e)))
+    ∙ ap (clues_onto c.loop-f.made.items)
+    (sym (ap₂ T.zipped (ap (λ (xs : List Found). founds xs) c.in-Some.ensures.items)
+    (ap (λ (xs : List Levels). lists xs) e)))
     ∙ c.loop-f.invariant
 
 pub loop-f-preserved : goal.loop-f-preserved
@@ -20,12 +22,15 @@ loop-f-preserved c =
     let rest = T.zipped (founds c.pop_front.new.self.items) (lists c.pop_front-in-Some.new.self.items) in
     ap (λ (xs : List Clue). clues_onto xs rest) c.in_ok-push_back-in-Some-pop_front.ensures.items
     ∙ clues_push c.loop-f.made.items _ rest
-    ∙ ap (clues_onto c.loop-f.made.items) (sym (ap₂ T.zipped (ap (λ (xs : List Found). founds xs) c.in-Some.ensures.items) (ap (λ (xs : List Levels). lists xs) c.in-Some-pop_front.ensures.items)))
+    ∙ ap (clues_onto c.loop-f.made.items)
+    (sym (ap₂ T.zipped (ap (λ (xs : List Found). founds xs) c.in-Some.ensures.items)
+    (ap (λ (xs : List Levels). lists xs) c.in-Some-pop_front.ensures.items)))
     ∙ c.loop-f.invariant
 
 pub returns : goal.returns
 returns c =
     let e : c.loop-f.found.items ≡ [] = search rules in
     sym (clues_all c.loop-f.made.items)
-    ∙ ap (clues_onto c.loop-f.made.items) (sym (ap (λ (xs : List Found). T.zipped (founds xs) (lists c.loop-f.types.items)) e))
+    ∙ ap (clues_onto c.loop-f.made.items)
+    (sym (ap (λ (xs : List Found). T.zipped (founds xs) (lists c.loop-f.types.items)) e))
     ∙ c.loop-f.invariant

@@ -23,7 +23,8 @@ returns c =
     (ctree c.in_ok-inner.inner.hidden) (ctree c.in_ok-inner.inner.shape) (ctys c.in_ok-inner.inner.apply.items)
     c.in_ok-owes.owes (ctys c.in_ok-args.args.items)
     j.hidden j.shape j.apply j.hidden_in j.shape_in j.apply_in j.owes j.args
-    (c.in_ok-hidden.ensures ∙ ap (λ (ls : List ℕ). C.TCTuple (W.bound_types (W.side_var f) h.depth xs ls)) c.deref.ensures.value)
+    (c.in_ok-hidden.ensures
+    ∙ ap (λ (ls : List ℕ). C.TCTuple (W.bound_types (W.side_var f) h.depth xs ls)) c.deref.ensures.value)
     (c.in_ok-shape.ensures ∙ ap (L.ctype (W.side_var f)) c.requires)
     (c.in_ok-apply.ensures ∙ ap (λ (ls : List ℕ). W.variables (W.side_var f) h.depth ls) c.deref-2.ensures.value)
     c.in_ok-inner.ensures.hidden

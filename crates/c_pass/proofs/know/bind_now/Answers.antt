@@ -7,4 +7,5 @@ use Rattle.c_pass.proofs.know.bind_now.Goals as goal
 
 pub returns : goal.returns
 returns c =
-    c.in_ok-bind.ensures ∙ ap (W.bind (bounds c.args.xs.now.items) c.args.level (ktree c.args.ty)) (c.in_ok-depth.ensures ∙ sym (lift_add c.args.f.now.owes c.args.f.now.depth))
+    c.in_ok-bind.ensures ∙ ap (W.bind (bounds c.args.xs.now.items) c.args.level (ktree c.args.ty))
+    (c.in_ok-depth.ensures ∙ sym (lift_add c.args.f.now.owes c.args.f.now.depth))

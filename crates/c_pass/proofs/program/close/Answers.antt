@@ -13,15 +13,19 @@ pub returns-clause-types : goal.returns-clause-types
 returns-clause-types c =
     let p = c.args.program.now in
     let t = K.term_of p in
-    ∥∥₁_map p.fits (λ b. subst (CGood 0 []) (sym c.in_ok-made.ensures.same) (c.types_law.ensures.typed t (c.within_is_typed_law.ensures 1099511627776 1600 1099511627776 t b.0)))
+    ∥∥₁_map p.fits
+    (λ b. subst (CGood 0 []) (sym c.in_ok-made.ensures.same)
+    (c.types_law.ensures.typed t (c.within_is_typed_law.ensures 1099511627776 1600 1099511627776 t b.0)))
 
 pub returns-clause-reach : goal.returns-clause-reach
 returns-clause-reach c = λ N R B h.
-    subst (CGoodP (CWithin (N + 1) (R + 4) (N + B + 1)) 0 []) (sym c.in_ok-made.ensures.same) (c.types_law.ensures.reach N R B (K.term_of c.args.program.now) h)
+    subst (CGoodP (CWithin (N + 1) (R + 4) (N + B + 1)) 0 []) (sym c.in_ok-made.ensures.same)
+    (c.types_law.ensures.reach N R B (K.term_of c.args.program.now) h)
 
 pub returns-clause-bound : goal.returns-clause-bound
 returns-clause-bound c = λ N R h.
-    subst (CFits (10 * N + 1) (R + 4)) (sym c.in_ok-made.ensures.same) (c.bound_law.ensures.fits N R (K.term_of c.args.program.now) h)
+    subst (CFits (10 * N + 1) (R + 4)) (sym c.in_ok-made.ensures.same)
+    (c.bound_law.ensures.fits N R (K.term_of c.args.program.now) h)
 
 pub returns-clause-halts : goal.returns-clause-halts
 returns-clause-halts c = λ n i.

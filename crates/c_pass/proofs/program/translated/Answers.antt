@@ -22,6 +22,8 @@ pub returns-clause-rules : goal.returns-clause-rules
 returns-clause-rules c =
     let p = c.args.program.now in
     let t = K.term_of p in
-    let closed : IsClosed t = ∥∥₁_elim p.fits (hlevel props) (λ b. c.scope_law.ensures.before t (c.within_is_typed_law.ensures 1099511627776 1600 1099511627776 t b.0)) in
+    let closed : IsClosed t =
+    ∥∥₁_elim p.fits (hlevel props)
+    (λ b. c.scope_law.ensures.before t (c.within_is_typed_law.ensures 1099511627776 1600 1099511627776 t b.0)) in
     subst (IsTranslation t) (sym (c.new.ensures (close_of t) (c.scope_law.ensures.after t) c.in_ok-out.ensures))
     (c.translation_law.ensures t closed)

@@ -18,4 +18,6 @@ returns-in_ok-t c =
     ∙ ap (W.bound_type r c.args.depth) (sym (at_in c.args.xs.now c.args.l x c.if-l-xs.true c.index-xs-l.is))
 
 pub returns-else-l-xs : goal.returns-else-l-xs
-returns-else-l-xs c = ap (W.bound_type (var_of c.args.outside (side c.args.f.now)) c.args.depth) (sym (at_out c.args.xs.now c.args.l c.if-l-xs.false))
+returns-else-l-xs c =
+    ap (W.bound_type (var_of c.args.outside (side c.args.f.now)) c.args.depth)
+    (sym (at_out c.args.xs.now c.args.l c.if-l-xs.false))

@@ -5,4 +5,6 @@ use Rattle.c_pass.specs.Read.{bounds, var_of}
 use Rattle.c_pass.proofs.translate.types_at.Given as goal
 
 abbrev pub invariant-loop-l : goal.invariant-loop-l
-invariant-loop-l l = joined l.made.items (W.bound_types (var_of l.outside (side l.f)) l.depth (bounds l.xs) (drop l.l-index l.levels)) ≡ W.bound_types (var_of l.outside (side l.f)) l.depth (bounds l.xs) l.levels
+invariant-loop-l l =
+    joined l.made.items (W.bound_types (var_of l.outside (side l.f)) l.depth (bounds l.xs) (drop l.l-index l.levels))
+    ≡ W.bound_types (var_of l.outside (side l.f)) l.depth (bounds l.xs) l.levels

@@ -28,5 +28,7 @@ invariant_of-result c =
     (ordered_from 0 xs (λ i lt. omega arith) (λ i j le lt. up i j 0 le lt))
     (λ l. sym (list_any-IsPermutation (λ x. nat_eq l x) c.args.levels.items xs c.in_ok-sort.ensures.permutation)) in
     record {
-      climbs = subst Climbs (sym is) (climbs 0 (W.known_below c.args.d c.args.levels.items) (rising_levels (λ i. W.has (level_of c.args.d i) c.args.levels.items) c.args.d [] tt));
+      climbs = subst Climbs (sym is)
+          (climbs 0 (W.known_below c.args.d c.args.levels.items)
+          (rising_levels (λ i. W.has (level_of c.args.d i) c.args.levels.items) c.args.d [] tt));
     }

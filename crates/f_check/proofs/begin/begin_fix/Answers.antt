@@ -32,9 +32,14 @@ returns-in_err-limit-clause-goes c =
 
 pub enter-requires : goal.enter-requires
 enter-requires c =
-    let w = within (TArrow (tree c.args.head.arg.now) (tree c.args.head.res.now)) _ _ (omega (arith, c.saturating_add-deep.ensures, c.max.ensures, c.depth.ensures, c.depth-2.ensures)) (omega (arith, c.saturating_add-wide.ensures, c.saturating_add.ensures, c.size.ensures, c.size-2.ensures)) c.in_ok-limit.ensures.ok in
-    fix_enters c.args.term.now c.args.state.now c.args.head c.args.body c.bind_function.new.scope c.requires.opens c.requires.inside w c.in_ok-bind_function.ensures
+    let w = within (TArrow (tree c.args.head.arg.now) (tree c.args.head.res.now)) _ _
+    (omega (arith, c.saturating_add-deep.ensures, c.max.ensures, c.depth.ensures, c.depth-2.ensures))
+    (omega (arith, c.saturating_add-wide.ensures, c.saturating_add.ensures, c.size.ensures, c.size-2.ensures))
+    c.in_ok-limit.ensures.ok in
+    fix_enters c.args.term.now c.args.state.now c.args.head c.args.body c.bind_function.new.scope c.requires.opens
+    c.requires.inside w c.in_ok-bind_function.ensures
 
 pub returns-clause-frames : goal.returns-clause-frames
 returns-clause-frames c =
-    begun _ (S.Fix c.args.head.arg.now c.args.head.res.now c.args.body) _ _ (C.Fix c.args.head) c.args.body c.enter.ensures.frames (c.args.body, c.args.head.arg.now, c.args.head.res.now, refl, refl, refl) refl
+    begun _ (S.Fix c.args.head.arg.now c.args.head.res.now c.args.body) _ _ (C.Fix c.args.head) c.args.body
+    c.enter.ensures.frames (c.args.body, c.args.head.arg.now, c.args.head.res.now, refl, refl, refl) refl

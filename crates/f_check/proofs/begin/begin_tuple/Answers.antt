@@ -1,5 +1,5 @@
 use Rattle.std.proofs.Common.{◌∙◌, ap, map}
-use Rattle.f_terms.specs.Ty.{TTuple, TSome, TRef, tys}
+use Rattle.f_terms.specs.Ty.{TTuple, tys}
 use Rattle.f_terms.specs.Read.{tree}
 use Rattle.f_terms.specs.declared.types.FType.TheVariants as T
 use Rattle.f_terms.proofs.Trees.{tree_Tuple}
@@ -11,19 +11,26 @@ use Rattle.f_terms.specs.declared.node.FShape.TheVariants as S
 use Rattle.f_check.proofs.begin.begin_tuple.Goals as goal
 
 pub enter-requires : goal.enter-requires
-enter-requires c = (tuple_enters c.args.term.now c.args.state.now c.args.span c.args.es.now c.in-Some.e.now c.new-types.result c.in-Some.rest c.requires.opens c.requires.inside c.in-Some.ensures.cases.0 c.new-types.ensures.items).0
+enter-requires c =
+    (tuple_enters c.args.term.now c.args.state.now c.args.span c.args.es.now c.in-Some.e.now c.new-types.result
+    c.in-Some.rest c.requires.opens c.requires.inside c.in-Some.ensures.cases.0 c.new-types.ensures.items).0
 
 pub returns-in-None-clause-goes : goal.returns-in-None-clause-goes
 returns-in-None-clause-goes c =
-    tuple_empty c.args.term.now c.args.state.now c.args.span c.args.es.now (T.Tuple c.new-types.result) c.in-None.ensures.cases
+    tuple_empty c.args.term.now c.args.state.now c.args.span c.args.es.now (T.Tuple c.new-types.result)
+    c.in-None.ensures.cases
     (tree_Tuple c.new-types.result ∙ ap (λ ts. TTuple (tys (map tree ts))) c.new-types.ensures.items) c.requires.opens
 
 pub returns-in-Some-clause-goes : goal.returns-in-Some-clause-goes
-returns-in-Some-clause-goes c = c.enter.ensures.goes _ (tuple_enters c.args.term.now c.args.state.now c.args.span c.args.es.now c.in-Some.e.now c.new-types.result c.in-Some.rest c.requires.opens c.requires.inside c.in-Some.ensures.cases.0 c.new-types.ensures.items).1
+returns-in-Some-clause-goes c =
+    c.enter.ensures.goes _
+    (tuple_enters c.args.term.now c.args.state.now c.args.span c.args.es.now c.in-Some.e.now c.new-types.result
+    c.in-Some.rest c.requires.opens c.requires.inside c.in-Some.ensures.cases.0 c.new-types.ensures.items).1
 
 pub returns-in-Some-clause-frames : goal.returns-in-Some-clause-frames
 returns-in-Some-clause-frames c = λ es is.
-    begun _ (S.Tuple es) _ _ (C.Fields c.args.span c.new-types.result c.in-Some.rest) c.in-Some.e.now c.enter.ensures.frames (es, refl) (is ∙ c.in-Some.ensures.cases.0)
+    begun _ (S.Tuple es) _ _ (C.Fields c.args.span c.new-types.result c.in-Some.rest) c.in-Some.e.now
+    c.enter.ensures.frames (es, refl) (is ∙ c.in-Some.ensures.cases.0)
 
 pub returns-in-None-clause-frames : goal.returns-in-None-clause-frames
 returns-in-None-clause-frames c = λ es is. (refl, is ∙ none _ c.in-None.ensures.cases)

@@ -12,5 +12,6 @@ pub returns-clause-goes : goal.returns-clause-goes
 returns-clause-goes c =
     let n = c.args.state.now.around in
     let t = tree c.in_ok-ty.ty in
-    let found = subst (λ (bs : List Binder). (ty_at (names n NoTys (map bound bs)) c.args.name ≡ Some t) × Below n t × Within t) c.deref.ensures.value c.in_ok-ty.ensures in
+    let found = subst (λ (bs : List Binder). (ty_at (names n NoTys (map bound bs)) c.args.name ≡ Some t) × Below n t
+    × Within t) c.deref.ensures.value c.in_ok-ty.ensures in
     ((SVar (place c.args.span) c.args.name, (found, refl, c.requires.1)), omega arith)

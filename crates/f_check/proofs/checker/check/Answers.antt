@@ -21,11 +21,13 @@ invariant_of-result c = record {
 
 pub returns-in-Ok-clause-typed : goal.returns-in-Ok-clause-typed
 returns-in-Ok-clause-typed c = λ t h.
-    c.one_type.ensures (term_of c.args.term) 0 NoTys (tree c.in-Ok.ty) t (accepted c.passes_where_typed.ensures (spanned c.args.term) (tree c.in-Ok.ty) c.in-Ok.ensures.0.0).0 h.0
+    c.one_type.ensures (term_of c.args.term) 0 NoTys (tree c.in-Ok.ty) t
+    (accepted c.passes_where_typed.ensures (spanned c.args.term) (tree c.in-Ok.ty) c.in-Ok.ensures.0.0).0 h.0
 
 pub returns-in-Ok-clause-refused : goal.returns-in-Ok-clause-refused
 returns-in-Ok-clause-refused c = λ code span h.
-    c.no_fault_beside_a_pass.ensures (spanned c.args.term) 0 NoTys (tree c.in-Ok.ty) code (place span) c.in-Ok.ensures.0.0 h
+    c.no_fault_beside_a_pass.ensures (spanned c.args.term) 0 NoTys (tree c.in-Ok.ty) code
+    (place span) c.in-Ok.ensures.0.0 h
 
 pub returns-in-Err-clause-right : goal.returns-in-Err-clause-right
 returns-in-Err-clause-right c = (

@@ -5,4 +5,5 @@ use Rattle.f_check.specs.Counts.{put_depths}
 use Rattle.f_check.proofs.count.+put_depth.Given as goal
 
 abbrev pub invariant-loop-part : goal.invariant-loop-part
-invariant-loop-part l = l.most ≡ min (put_depths l.what l.at (tys (map tree (take l.part-index l.part-items)))) (2 ^ 64 - 1)
+invariant-loop-part l =
+    l.most ≡ min (put_depths l.what l.at (tys (map tree (take l.part-index l.part-items)))) (2 ^ 64 - 1)

@@ -36,7 +36,8 @@ returns-in_err-limit-2 c =
     let s = tree c.args.what.now in
     let t = tree c.args.body.now in
     let p = place c.args.span in
-    let w = within s c.depth-deep.result c.size-wide.result c.depth-deep.ensures c.size-wide.ensures c.in_ok-limit.ensures.ok in
+    let w = within s c.depth-deep.result c.size-wide.result c.depth-deep.ensures c.size-wide.ensures
+    c.in_ok-limit.ensures.ok in
     let e = c.in_err-limit-2.field-0.0 in
     passed s t p c.from_residual-in_err-limit-2.result r.0 e r.1 r.2
     (tells_map e _ (λ m. limits_with m s p (limits_with m (put 0 s t) p nothing))
@@ -45,7 +46,8 @@ returns-in_err-limit-2 c =
       inr (
         w.1,
         limits_of (put 0 s t) _ _ p
-            (depth_made s t c.depth-deep.result _ c.depth-deep.ensures c.in_ok-limit.ensures.ok.0 c.put_depth-made_deep.ensures)
+            (depth_made s t c.depth-deep.result _ c.depth-deep.ensures c.in_ok-limit.ensures.ok.0
+            c.put_depth-made_deep.ensures)
             (size_made s t c.size-wide.result _ c.size-wide.ensures c.in_ok-limit.ensures.ok.1
             c.put_size-made_wide.ensures) m d q h,
       ),
@@ -59,7 +61,9 @@ returns c =
       c.in_ok-put.ensures,
       within s c.depth-deep.result c.size-wide.result c.depth-deep.ensures c.size-wide.ensures c.in_ok-limit.ensures.ok,
       within (put 0 s t) c.put_depth-made_deep.result c.put_size-made_wide.result
-          (depth_made s t c.depth-deep.result _ c.depth-deep.ensures c.in_ok-limit.ensures.ok.0 c.put_depth-made_deep.ensures)
-          (size_made s t c.size-wide.result _ c.size-wide.ensures c.in_ok-limit.ensures.ok.1 c.put_size-made_wide.ensures)
+          (depth_made s t c.depth-deep.result _ c.depth-deep.ensures c.in_ok-limit.ensures.ok.0
+          c.put_depth-made_deep.ensures)
+          (size_made s t c.size-wide.result _ c.size-wide.ensures c.in_ok-limit.ensures.ok.1
+          c.put_size-made_wide.ensures)
           c.in_ok-limit-2.ensures.ok,
     )

@@ -11,7 +11,9 @@ returns-then-not-eq-clause-goes c =
     (λ e. absurd (true≢false (sym (c.if-not-eq.ensures.1 e))))
 
 pub returns-clause-goes : goal.returns-clause-goes
-returns-clause-goes c = arg_given c.args.term.now c.args.state.now c.args.part.ty c.args.part.span c.args.span c.args.arg c.args.res c.requires (c.if-not-eq.ensures.0 refl)
+returns-clause-goes c =
+    arg_given c.args.term.now c.args.state.now c.args.part.ty c.args.part.span c.args.span c.args.arg c.args.res
+    c.requires (c.if-not-eq.ensures.0 refl)
 
 pub returns-then-not-eq-clause-frames : goal.returns-then-not-eq-clause-frames
 returns-then-not-eq-clause-frames c = gone _ _ _ c.refused.ensures

@@ -15,5 +15,6 @@ returns-then-not-eq-clause-goes c =
 
 pub returns-clause-goes : goal.returns-clause-goes
 returns-clause-goes c =
-    assigned_given c.args.term.now c.args.state.now c.args.part.ty c.args.part.span c.args.span c.args.held c.requires (T.Tuple c.new.result)
+    assigned_given c.args.term.now c.args.state.now c.args.part.ty c.args.part.span c.args.span c.args.held c.requires
+    (T.Tuple c.new.result)
     (tree_Tuple c.new.result ∙ ap (λ ts. TTuple (tys (map tree ts))) c.new.ensures.items) (c.if-not-eq.ensures.0 refl)

@@ -16,29 +16,41 @@ use Rattle.f_check.specs.declared.frame.Frame.TheVariants as C
 use Rattle.f_check.proofs.resume.after_field.Goals as goal
 
 pub enter-requires : goal.enter-requires
-enter-requires c = field_enters c.args.term.now c.args.state.now c.args.part.ty c.args.part.span c.args.span c.args.types c.push.new.types c.args.rest c.requires c.in_ok-push.ensures c.in-Some.e.now c.in-Some.rest c.in-Some.ensures.cases.0
+enter-requires c =
+    field_enters c.args.term.now c.args.state.now c.args.part.ty c.args.part.span c.args.span c.args.types
+    c.push.new.types c.args.rest c.requires c.in_ok-push.ensures c.in-Some.e.now c.in-Some.rest
+    c.in-Some.ensures.cases.0
 
 pub returns-in_ok-limit-in-None-clause-goes : goal.returns-in_ok-limit-in-None-clause-goes
 returns-in_ok-limit-in-None-clause-goes c =
     let us = c.push.new.types in
     let e = tree_Tuple us in
-    field_given c.args.term.now c.args.state.now c.args.part.ty c.args.part.span c.args.span c.args.types us c.args.rest c.requires c.in_ok-push.ensures c.in-None.ensures.cases
-    (within (TTuple (tys (map tree us.items))) _ _ (c.depth.ensures ∙ ap (λ t. min (depth t) 18446744073709551615) e) (c.size.ensures ∙ ap (λ t. min (size t) 18446744073709551615) e) c.in_ok-limit-in-None.ensures.ok)
+    field_given c.args.term.now c.args.state.now c.args.part.ty c.args.part.span c.args.span c.args.types us
+    c.args.rest c.requires c.in_ok-push.ensures c.in-None.ensures.cases
+    (within (TTuple (tys (map tree us.items))) _ _ (c.depth.ensures ∙ ap (λ t. min (depth t) 18446744073709551615) e)
+    (c.size.ensures ∙ ap (λ t. min (size t) 18446744073709551615) e) c.in_ok-limit-in-None.ensures.ok)
 
 pub returns-in_err-limit-in-None-clause-goes : goal.returns-in_err-limit-in-None-clause-goes
 returns-in_err-limit-in-None-clause-goes c =
-    let q = err_from_is_err_and c.from_residual-in_err-limit-in-None.result c.from_residual-in_err-limit-in-None.ensures.1 in
+    let q = err_from_is_err_and c.from_residual-in_err-limit-in-None.result
+    c.from_residual-in_err-limit-in-None.ensures.1 in
     let f = c.in_err-limit-in-None.field-0.0 in
     let us = c.push.new.types in
     let e = tree_Tuple us in
-    rw (q.1, q.2) (field_faulty c.args.term.now c.args.state.now c.args.part.ty c.args.part.span c.args.span c.args.types us c.args.rest c.requires c.in_ok-push.ensures c.in-None.ensures.cases f
+    rw (q.1, q.2)
+    (field_faulty c.args.term.now c.args.state.now c.args.part.ty c.args.part.span c.args.span c.args.types us
+    c.args.rest c.requires c.in_ok-push.ensures c.in-None.ensures.cases f
     (tells_map f _ (λ m. limits_with m (TTuple (tys (map tree us.items))) (place c.args.span) nothing)
-    (limits_of (TTuple (tys (map tree us.items))) _ _ (place c.args.span) (c.depth.ensures ∙ ap (λ t. min (depth t) 18446744073709551615) e) (c.size.ensures ∙ ap (λ t. min (size t) 18446744073709551615) e))
+    (limits_of (TTuple (tys (map tree us.items))) _ _ (place c.args.span)
+    (c.depth.ensures ∙ ap (λ t. min (depth t) 18446744073709551615) e)
+    (c.size.ensures ∙ ap (λ t. min (size t) 18446744073709551615) e))
     c.in_err-limit-in-None.ensures.fault))
 
 pub returns-in-Some-clause-frames : goal.returns-in-Some-clause-frames
 returns-in-Some-clause-frames c =
-    resumed _ (C.Fields c.args.span c.args.types c.args.rest) (C.Fields c.args.span c.push.new.types c.in-Some.rest) (map bound c.args.state.now.scope.items) _ _ c.in-Some.e.now c.enter.ensures.frames c.in-Some.ensures.cases.0 (λ n k. k) (λ f n g. refl)
+    resumed _ (C.Fields c.args.span c.args.types c.args.rest) (C.Fields c.args.span c.push.new.types c.in-Some.rest)
+    (map bound c.args.state.now.scope.items) _ _ c.in-Some.e.now c.enter.ensures.frames c.in-Some.ensures.cases.0
+    (λ n k. k) (λ f n g. refl)
 
 pub returns-in_ok-limit-in-None-clause-frames : goal.returns-in_ok-limit-in-None-clause-frames
 returns-in_ok-limit-in-None-clause-frames c = (refl, none _ c.in-None.ensures.cases, tt)

@@ -17,7 +17,9 @@ returns-then-not-eq-clause-goes c =
     (λ e. absurd (true≢false (sym (c.if-not-eq.ensures.1 e))))
 
 pub returns-clause-goes : goal.returns-clause-goes
-returns-clause-goes c = fix_given c.args.term.now c.args.state.now c.args.part.ty c.args.part.span c.args.head c.requires c.leave.new.scope c.in_ok-ty.ty c.leave.ensures (c.if-not-eq.ensures.0 refl) c.in_ok-ty.ensures
+returns-clause-goes c =
+    fix_given c.args.term.now c.args.state.now c.args.part.ty c.args.part.span c.args.head c.requires c.leave.new.scope
+    c.in_ok-ty.ty c.leave.ensures (c.if-not-eq.ensures.0 refl) c.in_ok-ty.ensures
 
 pub returns-then-not-eq-clause-frames : goal.returns-then-not-eq-clause-frames
 returns-then-not-eq-clause-frames c = gone _ _ _ c.refused.ensures

@@ -16,4 +16,6 @@ pub returns-then-not-is_int-clause-frames : goal.returns-then-not-is_int-clause-
 returns-then-not-is_int-clause-frames c = gone _ _ _ c.refused.ensures
 
 pub returns-clause-frames : goal.returns-clause-frames
-returns-clause-frames c = resumed _ (C.Left c.args.span c.args.b) (C.Right c.args.span) (map bound c.args.state.now.scope.items) _ _ c.args.b c.enter.ensures.frames refl (λ n k. k) (λ f n g. refl)
+returns-clause-frames c =
+    resumed _ (C.Left c.args.span c.args.b) (C.Right c.args.span) (map bound c.args.state.now.scope.items) _ _ c.args.b
+    c.enter.ensures.frames refl (λ n k. k) (λ f n g. refl)

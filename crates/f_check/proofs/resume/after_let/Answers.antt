@@ -12,5 +12,6 @@ enter-requires c =
 
 pub returns-clause-frames : goal.returns-clause-frames
 returns-clause-frames c =
-    resumed _ (C.Let c.args.span c.args.b) (C.Body c.args.span) (map bound c.args.state.now.scope.items) _ _ c.args.b c.enter.ensures.frames refl
+    resumed _ (C.Let c.args.span c.args.b) (C.Body c.args.span) (map bound c.args.state.now.scope.items) _ _ c.args.b
+    c.enter.ensures.frames refl
     (λ n k. k) (λ f n g. refl)

@@ -25,5 +25,6 @@ enter-requires c =
 
 pub returns-clause-frames : goal.returns-clause-frames
 returns-clause-frames c =
-    resumed _ (C.Open c.args.span c.args.b) (C.Opened c.args.span) (map bound c.args.state.now.scope.items) _ _ c.args.b c.enter.ensures.frames refl
+    resumed _ (C.Open c.args.span c.args.b) (C.Opened c.args.span) (map bound c.args.state.now.scope.items) _ _
+    c.args.b c.enter.ensures.frames refl
     (λ n k. k) (λ f n g. refl)

@@ -23,7 +23,8 @@ outer-requires-clause-shifts c =
 pub returns-in-Some-clause-goes : goal.returns-in-Some-clause-goes
 returns-in-Some-clause-goes c =
     let a = c.args in
-    opened_given a.term.now a.state.now a.part.ty a.part.span a.span c.requires c.leave_last-bound.new.scope c.in-Some.ty
+    opened_given a.term.now a.state.now a.part.ty a.part.span a.span c.requires c.leave_last-bound.new.scope
+    c.in-Some.ty
     c.leave_last-bound.result c.leave_last-bound.ensures.0 c.leave_last-bound.ensures.1
     (subst (IsOuter (tree a.part.ty)) c.in-Some.is c.in_ok-outside.ensures)
 

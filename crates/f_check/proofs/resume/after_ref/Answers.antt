@@ -15,10 +15,14 @@ returns-in_err-limit-clause-goes c =
     let e = c.in_err-limit.field-0.0 in
     rw (q.1, q.2) (ref_refused c.args.term.now c.args.state.now c.args.part.ty c.args.part.span c.args.span c.requires e
     (tells_map e _ (λ m. limits_with m (TRef (tree c.args.part.ty)) (place c.args.span) nothing)
-    (limits_of (TRef (tree c.args.part.ty)) _ _ (place c.args.span) (omega (arith, c.saturating_add-deep.ensures, c.depth.ensures)) (omega (arith, c.saturating_add-wide.ensures, c.size.ensures)))
+    (limits_of (TRef (tree c.args.part.ty)) _ _ (place c.args.span)
+    (omega (arith, c.saturating_add-deep.ensures, c.depth.ensures))
+    (omega (arith, c.saturating_add-wide.ensures, c.size.ensures)))
     c.in_err-limit.ensures.fault))
 
 pub returns-clause-goes : goal.returns-clause-goes
 returns-clause-goes c =
-    ref_given c.args.term.now c.args.state.now c.args.part.ty c.args.part.span c.args.span c.requires (T.Ref c.in_ok-new.field-0) (ap TRef (ap tree c.in_ok-new.ensures.ok))
-    (within (TRef (tree c.args.part.ty)) _ _ (omega (arith, c.saturating_add-deep.ensures, c.depth.ensures)) (omega (arith, c.saturating_add-wide.ensures, c.size.ensures)) c.in_ok-limit.ensures.ok)
+    ref_given c.args.term.now c.args.state.now c.args.part.ty c.args.part.span c.args.span c.requires
+    (T.Ref c.in_ok-new.field-0) (ap TRef (ap tree c.in_ok-new.ensures.ok))
+    (within (TRef (tree c.args.part.ty)) _ _ (omega (arith, c.saturating_add-deep.ensures, c.depth.ensures))
+    (omega (arith, c.saturating_add-wide.ensures, c.size.ensures)) c.in_ok-limit.ensures.ok)

@@ -10,7 +10,9 @@ returns-then-not-is_int-clause-goes c =
     (λ e. absurd (true≢false (sym (c.if-not-is_int.ensures.1 e))))
 
 pub returns-clause-goes : goal.returns-clause-goes
-returns-clause-goes c = right_given c.args.term.now c.args.state.now c.args.part.ty c.args.part.span c.args.span c.requires (c.if-not-is_int.ensures.0 refl)
+returns-clause-goes c =
+    right_given c.args.term.now c.args.state.now c.args.part.ty c.args.part.span c.args.span c.requires
+    (c.if-not-is_int.ensures.0 refl)
 
 pub returns-then-not-is_int-clause-frames : goal.returns-then-not-is_int-clause-frames
 returns-then-not-is_int-clause-frames c = gone _ _ _ c.refused.ensures

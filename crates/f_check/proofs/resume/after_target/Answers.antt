@@ -5,7 +5,8 @@ use Rattle.f_check.proofs.resume.after_target.Goals as goal
 
 pub returns-in-Err-clause-goes : goal.returns-in-Err-clause-goes
 returns-in-Err-clause-goes c =
-    target_refused c.args.term.now c.args.state.now c.args.part.ty c.args.part.span c.args.span c.args.b c.requires _ _ (
+    let part = c.args.part in
+    target_refused c.args.term.now c.args.state.now part.ty part.span c.args.span c.args.b c.requires _ _ (
       c.odds-mismatch.result,
       c.refused.ensures,
       c.odds-mismatch.ensures ∙ ap (odds c.args.state.now.around WReference)

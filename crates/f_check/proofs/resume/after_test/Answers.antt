@@ -17,4 +17,6 @@ pub returns-then-not-is_int-clause-frames : goal.returns-then-not-is_int-clause-
 returns-then-not-is_int-clause-frames c = gone _ _ _ c.refused.ensures
 
 pub returns-clause-frames : goal.returns-clause-frames
-returns-clause-frames c = resumed _ (C.Test c.args.span c.args.a c.args.b) (C.Zero c.args.span c.args.b) (map bound c.args.state.now.scope.items) _ _ c.args.a c.enter.ensures.frames refl (λ n k. k) (λ f n g. refl)
+returns-clause-frames c =
+    resumed _ (C.Test c.args.span c.args.a c.args.b) (C.Zero c.args.span c.args.b)
+    (map bound c.args.state.now.scope.items) _ _ c.args.a c.enter.ensures.frames refl (λ n k. k) (λ f n g. refl)

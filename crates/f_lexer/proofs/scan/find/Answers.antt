@@ -2,7 +2,11 @@ use Rattle.f_lexer.proofs.Finding.{plain_is_found, negative_is_found}
 use Rattle.f_lexer.proofs.scan.find.Goals as goal
 
 pub returns-in-Plain : goal.returns-in-Plain
-returns-in-Plain c = let (w, p, v) = c.in-Plain.ensures in rw c.plain.ensures (plain_is_found c.args.text.now c.args.at c.in-Plain.digits w p v)
+returns-in-Plain c =
+    let (w, p, v) = c.in-Plain.ensures in
+    rw c.plain.ensures (plain_is_found c.args.text.now c.args.at c.in-Plain.digits w p v)
 
 pub returns-in-Negative : goal.returns-in-Negative
-returns-in-Negative c = let (w, p, v) = c.in-Negative.ensures in rw c.negative.ensures (negative_is_found c.args.text.now c.args.at c.in-Negative.digits w p v)
+returns-in-Negative c =
+    let (w, p, v) = c.in-Negative.ensures in
+    rw c.negative.ensures (negative_is_found c.args.text.now c.args.at c.in-Negative.digits w p v)

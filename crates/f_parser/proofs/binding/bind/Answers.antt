@@ -14,16 +14,21 @@ returns-in_err-do_task c =
     let l = c.loop-task in
     let t = todo c.in-Some.task in
     rw (p.1, p.2)
-    (stop_of_whole text (tree_of c.args.term.now) (stand (todos l.tasks.items) l.values l.types (trees_of l.stack)) (uses_of text t l.values l.types)
-    (uses_left text (todos c.pop.new.tasks.items) (values_left text t l.values) (types_left text t l.types)) _ l.invariant (ap (λ tds. uses_left text tds l.values l.types) c.in-Some.ensures) c.in_err-do_task.ensures)
+    (stop_of_whole text (tree_of c.args.term.now) (stand (todos l.tasks.items) l.values l.types (trees_of l.stack))
+    (uses_of text t l.values l.types)
+    (uses_left text (todos c.pop.new.tasks.items) (values_left text t l.values) (types_left text t l.types)) _
+    l.invariant (ap (λ tds. uses_left text tds l.values l.types) c.in-Some.ensures) c.in_err-do_task.ensures)
 
 pub loop-task-preserved : goal.loop-task-preserved
 loop-task-preserved c =
     let text = c.args.text.now in
     let l = c.loop-task in
     let start = stand (Bind (tree_of c.args.term.now) ∷ []) [] [] [] in
-    then text start (stand (todo c.in-Some.task ∷ todos c.pop.new.tasks.items) l.values l.types (trees_of l.stack)) (stand (todos c.do_task.new.tasks.items) c.do_task.new.values c.do_task.new.types (trees_of c.do_task.new.stack))
-    (subst (λ tds. Follows text start (stand tds l.values l.types (trees_of l.stack))) c.in-Some.ensures l.invariant) c.in_ok-do_task.ensures.0
+    then text start (stand (todo c.in-Some.task ∷ todos c.pop.new.tasks.items) l.values l.types (trees_of l.stack))
+    (stand (todos c.do_task.new.tasks.items) c.do_task.new.values c.do_task.new.types
+    (trees_of c.do_task.new.stack))
+    (subst (λ tds. Follows text start (stand tds l.values l.types (trees_of l.stack))) c.in-Some.ensures l.invariant)
+    c.in_ok-do_task.ensures.0
 
 pub returns : goal.returns
 returns c =
@@ -31,4 +36,5 @@ returns c =
     let l = c.loop-task in
     let start = stand (Bind (tree_of c.args.term.now) ∷ []) [] [] [] in
     ended text (tree_of c.args.term.now) l.values l.types (trees_of l.stack) (spanned c.done.result)
-    (subst (λ tds. Follows text start (stand tds l.values l.types (trees_of l.stack))) c.in_default.ensures l.invariant) c.done.ensures
+    (subst (λ tds. Follows text start (stand tds l.values l.types (trees_of l.stack))) c.in_default.ensures
+    l.invariant) c.done.ensures

@@ -5,7 +5,9 @@ use Rattle.f_parser.specs.Binding.{Bind, todos, stand, steps, Follows}
 use Rattle.f_parser.proofs.binding.bind.Given as goal
 
 abbrev pub invariant-loop-task : goal.invariant-loop-task
-invariant-loop-task l = Follows l.text (stand (Bind (tree_of l.term) ∷ []) [] [] []) (stand (todos l.tasks.items) l.values l.types (trees_of l.stack))
+invariant-loop-task l =
+    Follows l.text (stand (Bind (tree_of l.term) ∷ []) [] [] [])
+    (stand (todos l.tasks.items) l.values l.types (trees_of l.stack))
 
 abbrev pub decreases-loop-task : goal.decreases-loop-task
 decreases-loop-task l = steps (todos l.tasks.items)

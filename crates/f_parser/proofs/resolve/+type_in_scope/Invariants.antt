@@ -9,5 +9,6 @@ use Rattle.f_parser.proofs.resolve.+type_in_scope.Given as goal
 abbrev pub invariant-loop-part : goal.invariant-loop-part
 invariant-loop-part l = record {
   kept : l.types ≡ l.initial.types;
-  resolved : TypesOf l.text l.initial.types (raw_tys (map type_of (take l.part-index l.part-items))) (tys (map tree l.found.items));
+  resolved : TypesOf l.text l.initial.types (raw_tys (map type_of (take l.part-index l.part-items)))
+      (tys (map tree l.found.items));
 }

@@ -14,5 +14,6 @@ returns-in_err-name c =
 pub returns : goal.returns
 returns c =
     let e = c.in_ok-push.ensures in
-    let r = gen_begun c.args.reader.now.tokens.now c.args.word c.in_ok-name.name e c.in_ok-name.ensures c.requires.stays in
+    let r =
+    gen_begun c.args.reader.now.tokens.now c.args.word c.in_ok-name.name e c.in_ok-name.ensures c.requires.stays in
     (refl, r, omega (arith, one_more _ _ _ e, r.in_range))

@@ -12,17 +12,22 @@ use Rattle.f_reader.proofs.begin.begin_if0.Goals as goal
 pub returns-in_err-expect : goal.returns-in_err-expect
 returns-in_err-expect c =
     let p = err_from_is_err_and c.from_residual.result c.from_residual.ensures.1 in
-    rw (p.1, p.2) (no_branches c.args.reader.now.tokens.now _ c.in_err-expect.ensures (branches_open c.args.reader.now.tokens.now c.args.word c.requires.token c.requires.stays c.requires.kind))
+    rw (p.1, p.2)
+    (no_branches c.args.reader.now.tokens.now _ c.in_err-expect.ensures
+    (branches_open c.args.reader.now.tokens.now c.args.word c.requires.token c.requires.stays c.requires.kind))
 
 pub returns-in_err-reader : goal.returns-in_err-reader
 returns-in_err-reader c =
     let p = err_from_is_err_and c.from_residual-in_err-reader.result c.from_residual-in_err-reader.ensures.1 in
     rw (p.1, p.2) (let o = c.in_ok-expect.ensures in
-    stops_deep c.args.reader.now.tokens.now LBranches _ branches_owed _ c.in_err-reader.ensures (is_next table c.args.reader.now.tokens.now (c.args.reader.now.at + 1) want.LeftParen _ o)
-    (after_paren _ (is_of table c.args.reader.now.tokens.now (c.args.reader.now.at + 1) want.LeftParen _ o)) refl (branches_open c.args.reader.now.tokens.now c.args.word c.requires.token c.requires.stays c.requires.kind))
+    stops_deep c.args.reader.now.tokens.now LBranches _ branches_owed _ c.in_err-reader.ensures
+    (is_next table c.args.reader.now.tokens.now (c.args.reader.now.at + 1) want.LeftParen _ o)
+    (after_paren _ (is_of table c.args.reader.now.tokens.now (c.args.reader.now.at + 1) want.LeftParen _ o)) refl
+    (branches_open c.args.reader.now.tokens.now c.args.word c.requires.token c.requires.stays c.requires.kind))
 
 pub returns : goal.returns
 returns c =
     let e = c.in_ok-push.ensures in
-    let r = test_begun c.args.reader.now.tokens.now c.args.word c.requires.token c.requires.stays _ c.requires.kind c.in_ok-expect.ensures c.in_ok-reader.ensures e in
+    let r = test_begun c.args.reader.now.tokens.now c.args.word c.requires.token c.requires.stays _ c.requires.kind
+    c.in_ok-expect.ensures c.in_ok-reader.ensures e in
     (refl, r, omega (arith, one_more _ _ _ e, r.in_range))

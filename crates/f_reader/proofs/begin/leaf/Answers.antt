@@ -7,5 +7,6 @@ put-requires c = λ f. leaf_children c.args.token.kind c.args.shape _ c.requires
 
 pub returns : goal.returns
 returns c =
-    let g = leaf_given c.args.reader.now.tokens.now c.args.token c.requires.token c.requires.stays c.requires.leaf c.in_ok-part.ensures in
+    let g = leaf_given c.args.reader.now.tokens.now c.args.token c.requires.token c.requires.stays c.requires.leaf
+    c.in_ok-part.ensures in
     (refl, (g.piece, g.stands, g.reached), omega (arith, g.reached.in_range))

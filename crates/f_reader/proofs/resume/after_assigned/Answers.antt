@@ -9,5 +9,6 @@ pub returns : goal.returns
 returns c =
     let x = c.requires in
     let h = x.3 in
-    let g = assign_given c.args.reader.now.tokens.now h.1 x.0 h.0 h.2 x.2 c.in_ok-part.ensures (got_are x.0 x.1 _ h.3 x.4) in
+    let g = assign_given c.args.reader.now.tokens.now h.1 x.0 h.0 h.2 x.2 c.in_ok-part.ensures
+    (got_are x.0 x.1 _ h.3 x.4) in
     (refl, (g.piece, g.stands, g.reached), omega (arith, g.reached.in_range))

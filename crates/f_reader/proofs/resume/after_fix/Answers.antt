@@ -13,5 +13,6 @@ returns c =
     let x = c.requires in
     let h = x.3 in
     let m = has_mark (omega arith) x.4 in
-    let g = fix_given c.args.reader.now.tokens.now c.args.head x.1 x.0 h x.2 (omega (arith, m)) c.in_ok-part.ensures x.4 in
+    let g =
+    fix_given c.args.reader.now.tokens.now c.args.head x.1 x.0 h x.2 (omega (arith, m)) c.in_ok-part.ensures x.4 in
     (refl, (g.piece, g.stands, g.reached), omega (arith, g.reached.in_range))

@@ -19,5 +19,6 @@ returns c =
     let h = x.3 in
     let e = c.in_ok-push.ensures in
     let m = has_mark (omega arith) x.4 in
-    let r = open_body_begun c.args.reader.now.tokens.now x.0 h.0 _ h.1 h.2 h.3 x.2 c.in_ok-expect.ensures (omega (arith, m)) e (got_are x.0 x.1 _ h.4 x.4) in
+    let r = open_body_begun c.args.reader.now.tokens.now x.0 h.0 _ h.1 h.2 h.3 x.2 c.in_ok-expect.ensures
+    (omega (arith, m)) e (got_are x.0 x.1 _ h.4 x.4) in
     (refl, r, omega (arith, one_more _ _ _ e, r.in_range))

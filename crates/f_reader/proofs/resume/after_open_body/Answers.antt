@@ -9,5 +9,6 @@ pub returns : goal.returns
 returns c =
     let x = c.requires in
     let h = x.3 in
-    let g = open_given c.args.reader.now.tokens.now h.2 x.0 h.0 h.1 h.3 h.4 h.5 h.6 x.2 c.in_ok-part.ensures (got_are x.0 x.1 _ h.7 x.4) in
+    let g = open_given c.args.reader.now.tokens.now h.2 x.0 h.0 h.1 h.3 h.4 h.5 h.6 x.2 c.in_ok-part.ensures
+    (got_are x.0 x.1 _ h.7 x.4) in
     (refl, (g.piece, g.stands, g.reached), omega (arith, g.reached.in_range))

@@ -21,5 +21,6 @@ returns c =
     let x = c.requires in
     let h = x.3 in
     let m = has_mark (omega arith) x.4 in
-    let g = if0_given c.args.reader.now.tokens.now h.4 h.5 x.0 h.0 h.1 h.2 h.3 c.in_ok-close.close h.6 h.7 h.8 x.2 c.in_ok-close.ensures (omega (arith, m)) c.in_ok-part.ensures (got_are x.0 x.1 _ h.9 x.4) in
+    let g = if0_given c.args.reader.now.tokens.now h.4 h.5 x.0 h.0 h.1 h.2 h.3 c.in_ok-close.close h.6 h.7 h.8 x.2
+    c.in_ok-close.ensures (omega (arith, m)) c.in_ok-part.ensures (got_are x.0 x.1 _ h.9 x.4) in
     (refl, (g.piece, g.stands, g.reached), omega (arith, g.reached.in_range))

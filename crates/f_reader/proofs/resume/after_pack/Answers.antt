@@ -21,14 +21,18 @@ returns-in_err-expect-2 c =
     let x = c.requires in
     let h = x.3 in
     let m = has_mark (omega arith) x.4 in
-    rw (p.1, p.2) (stops_token c.args.reader.now.tokens.now want.As _ c.in_err-expect-2.ensures (pack_closed c.args.reader.now.tokens.now (c.args.reader.now.depth - 1) c.args.hidden h.3 x.0 h.0 h.1 h.2 _ c.in_ok-expect.ensures (omega (arith, m)) (got_are x.0 x.1 _ h.5 x.4)))
+    rw (p.1, p.2)
+    (stops_token c.args.reader.now.tokens.now want.As _ c.in_err-expect-2.ensures
+    (pack_closed c.args.reader.now.tokens.now (c.args.reader.now.depth - 1) c.args.hidden h.3 x.0 h.0 h.1 h.2 _
+    c.in_ok-expect.ensures (omega (arith, m)) (got_are x.0 x.1 _ h.5 x.4)))
 
 pub whole_type-requires : goal.whole_type-requires
 whole_type-requires c =
     let x = c.requires in
     let h = x.3 in
     let m = has_mark (omega arith) x.4 in
-    let r = pack_as c.args.reader.now.tokens.now (c.args.reader.now.depth - 1) c.args.hidden h.3 x.0 h.0 h.1 h.2 _ c.in_ok-expect.ensures (omega (arith, m)) (got_are x.0 x.1 _ h.5 x.4) _ c.in_ok-expect-2.ensures in
+    let r = pack_as c.args.reader.now.tokens.now (c.args.reader.now.depth - 1) c.args.hidden h.3 x.0 h.0 h.1 h.2 _
+    c.in_ok-expect.ensures (omega (arith, m)) (got_are x.0 x.1 _ h.5 x.4) _ c.in_ok-expect-2.ensures in
     record { depth = r.room; at = r.in_range }
 
 pub returns-in_err-found : goal.returns-in_err-found
@@ -37,7 +41,10 @@ returns-in_err-found c =
     let x = c.requires in
     let h = x.3 in
     let m = has_mark (omega arith) x.4 in
-    rw (p.1, p.2) (stops c.args.reader.now.tokens.now (Do MakePack ∷ []) (Nt LT ∷ []) _ refl c.in_err-found.ensures (pack_as c.args.reader.now.tokens.now (c.args.reader.now.depth - 1) c.args.hidden h.3 x.0 h.0 h.1 h.2 _ c.in_ok-expect.ensures (omega (arith, m)) (got_are x.0 x.1 _ h.5 x.4) _ c.in_ok-expect-2.ensures))
+    rw (p.1, p.2)
+    (stops c.args.reader.now.tokens.now (Do MakePack ∷ []) (Nt LT ∷ []) _ refl c.in_err-found.ensures
+    (pack_as c.args.reader.now.tokens.now (c.args.reader.now.depth - 1) c.args.hidden h.3 x.0 h.0 h.1 h.2 _
+    c.in_ok-expect.ensures (omega (arith, m)) (got_are x.0 x.1 _ h.5 x.4) _ c.in_ok-expect-2.ensures))
 
 pub put-requires : goal.put-requires
 put-requires c = λ f. one_child c.requires.2 f
@@ -48,5 +55,7 @@ returns c =
     let h = x.3 in
     let m = has_mark (omega arith) x.4 in
     let t = c.in_ok-found.ensures in
-    let g = pack_given c.args.reader.now.tokens.now _ c.args.hidden h.3 x.0 h.0 h.1 h.2 _ c.in_ok-expect.ensures (omega (arith, m)) (got_are x.0 x.1 _ h.5 x.4) _ c.in_ok-expect-2.ensures c.in_ok-found.found h.4 x.2 t c.in_ok-part.ensures in
+    let g = pack_given c.args.reader.now.tokens.now _ c.args.hidden h.3 x.0 h.0 h.1 h.2 _ c.in_ok-expect.ensures
+    (omega (arith, m)) (got_are x.0 x.1 _ h.5 x.4) _ c.in_ok-expect-2.ensures c.in_ok-found.found h.4 x.2 t
+    c.in_ok-part.ensures in
     (refl, (g.piece, g.stands, g.reached), omega (arith, t.forward, g.reached.in_range))

@@ -13,5 +13,6 @@ returns c =
     let x = c.requires in
     let h = x.3 in
     let m = has_mark (omega arith) x.4 in
-    let g = ref_given c.args.reader.now.tokens.now x.0 h.0 h.1 x.2 (omega (arith, m)) c.in_ok-part.ensures (got_are x.0 x.1 _ h.2 x.4) in
+    let g = ref_given c.args.reader.now.tokens.now x.0 h.0 h.1 x.2 (omega (arith, m)) c.in_ok-part.ensures
+    (got_are x.0 x.1 _ h.2 x.4) in
     (refl, (g.piece, g.stands, g.reached), omega (arith, g.reached.in_range))

@@ -15,5 +15,6 @@ returns c =
     let x = c.requires in
     let h = x.3 in
     let e = c.in_ok-push.ensures in
-    let r = zero_begun c.args.reader.now.tokens.now x.0 h.0 h.1 _ h.2 x.2 c.in_ok-expect.ensures e (got_are x.0 x.1 _ h.3 x.4) in
+    let r = zero_begun c.args.reader.now.tokens.now x.0 h.0 h.1 _ h.2 x.2 c.in_ok-expect.ensures e
+    (got_are x.0 x.1 _ h.3 x.4) in
     (refl, r, omega (arith, one_more _ _ _ e, r.in_range))

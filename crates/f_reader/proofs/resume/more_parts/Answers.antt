@@ -15,5 +15,13 @@ returns-in_ok-push-in-Some-Part-2 c =
 
 pub returns-in-None : goal.returns-in-None
 returns-in-None c =
-    let x = c.requires in
-    (refl, (x.0, x.2, parts_end c.args.reader.now.tokens.now (sym c.next_argument.ensures ∙ c.in-None.is) (got_are x.0 x.1 [] x.3 x.4)), omega arith)
+    let x = c.requires in (
+      refl,
+      (
+        x.0,
+        x.2,
+        parts_end c.args.reader.now.tokens.now (sym c.next_argument.ensures ∙ c.in-None.is)
+            (got_are x.0 x.1 [] x.3 x.4),
+      ),
+      omega arith,
+    )

@@ -14,11 +14,14 @@ returns-then-is_of_cells c =
     let n = c.node-item.result in
     let lt : i < count f = omega (arith, c.loop-node-test.true, ap length same) in
     sym (with_cells f i lt
-    (ap (λ (m : FNode). is_of_cells m.shape) (get_or_default f.nodes.items i no_node n lt ∙ ap (λ (ys : List FNode). get_or ys i n) (sym same) ∙ sym c.node-item.is)
+    (ap (λ (m : FNode). is_of_cells m.shape)
+    (get_or_default f.nodes.items i no_node n lt ∙ ap (λ (ys : List FNode). get_or ys i n) (sym same)
+    ∙ sym c.node-item.is)
     ∙ sym c.if-is_of_cells.ensures))
 
 pub returns : goal.returns
 returns c =
     let f = c.args.term.now in
     let same = c.deref-node-items.ensures.value in
-    sym (no_cells f (λ k lt. ap (λ (ys : List FNode). is_of_cells (get_or ys k no_node).shape) (sym same) ∙ c.loop-node.invariant k (omega (arith, lt, c.loop-node-test.false, ap length same))))
+    sym (no_cells f (λ k lt. ap (λ (ys : List FNode). is_of_cells (get_or ys k no_node).shape) (sym same)
+    ∙ c.loop-node.invariant k (omega (arith, lt, c.loop-node-test.false, ap length same))))

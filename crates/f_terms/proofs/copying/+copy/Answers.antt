@@ -10,5 +10,6 @@ pub returns-after-loop-part : goal.returns-after-loop-part
 returns-after-loop-part t c =
     let whole = tree_parts _ _ _ c.in-Tuple.is c.deref-part-items.ensures.value in
     tree_Tuple c.loop-part.parts
-    ∙ ap (λ (ts : List Ty). TTuple (tys ts)) (c.loop-part.invariant ∙ ap (λ (ts : List FType). map tree ts) (take_all _ _ c.loop-part-test.false))
+    ∙ ap (λ (ts : List Ty). TTuple (tys ts))
+    (c.loop-part.invariant ∙ ap (λ (ts : List FType). map tree ts) (take_all _ _ c.loop-part-test.false))
     ∙ sym whole

@@ -10,5 +10,6 @@ pub returns-after-loop-part : goal.returns-after-loop-part
 returns-after-loop-part t c =
     let whole = tree_parts _ _ _ c.in-Tuple.is c.deref-part-items.ensures.value in
     let xs = c.deref-part-items.result.now in
-    let all = ap (λ (ys : List FType). sum_by (λ t. size (tree t)) ys) (take_all c.loop-part.part-index xs c.loop-part-test.false) in
+    let all = ap (λ (ys : List FType). sum_by (λ t. size (tree t)) ys)
+    (take_all c.loop-part.part-index xs c.loop-part-test.false) in
     omega (arith, c.loop-part.invariant, all, size_tys xs, ap size whole)

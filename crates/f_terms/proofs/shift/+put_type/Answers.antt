@@ -10,11 +10,13 @@ loop-part-init t c =
     let whole = tree_parts _ _ _ c.in-Tuple.is c.deref-part-items.ensures.value in
     let what = tree c.args.what.now in
     record {
-      fits = each_tys (PutFitsAt each c.args.at what) IsWord c.args.depth _ (subst (PutFits c.args.at what c.args.depth) whole c.requires.fits);
+      fits = each_tys (PutFitsAt each c.args.at what) IsWord c.args.depth _
+          (subst (PutFits c.args.at what c.args.depth) whole c.requires.fits);
       made = search rules;
     }
 
 pub returns-after-loop-part : goal.returns-after-loop-part
 returns-after-loop-part t c =
     let whole = tree_parts _ _ _ c.in-Tuple.is c.deref-part-items.ensures.value in
-    made_tuple (putted TVar over c.args.at (tree c.args.what.now)) c.args.depth _ c.loop-part.parts _ _ whole c.loop-part.invariant.made c.loop-part-test.false
+    made_tuple (putted TVar over c.args.at (tree c.args.what.now)) c.args.depth _ c.loop-part.parts _ _ whole
+    c.loop-part.invariant.made c.loop-part-test.false

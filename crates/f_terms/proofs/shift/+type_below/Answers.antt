@@ -9,12 +9,15 @@ pub returns-then-not-type_below : goal.returns-then-not-type_below
 returns-then-not-type_below t c =
     let whole = tree_parts _ _ _ c.in-Tuple.is c.deref-part-items.ensures.value in (
       λ h. absurd (true≢false (sym h)),
-      λ h. c.if-not-type_below.ensures.1 (item_has (λ t. Below c.args.n (tree t)) _ _ _ c.part-item.is c.loop-part-test.true (parts_have BelowAt AnyDepth c.args.n _ _ whole h)),
+      λ h. c.if-not-type_below.ensures.1
+          (item_has (λ t. Below c.args.n (tree t)) _ _ _ c.part-item.is c.loop-part-test.true
+          (parts_have BelowAt AnyDepth c.args.n _ _ whole h)),
     )
 
 pub loop-part-preserved : goal.loop-part-preserved
 loop-part-preserved t c =
-    items_more (λ t. Below c.args.n (tree t)) _ _ _ c.part-item.is c.loop-part-test.true c.loop-part.invariant (c.if-not-type_below.ensures.0 refl)
+    items_more (λ t. Below c.args.n (tree t)) _ _ _ c.part-item.is c.loop-part-test.true c.loop-part.invariant
+    (c.if-not-type_below.ensures.0 refl)
 
 pub returns-after-loop-part : goal.returns-after-loop-part
 returns-after-loop-part t c =

@@ -1,4 +1,4 @@
-use Rattle.std.proofs.Common.{◌≡◌, ◌∙◌, sym, ap}
+use Rattle.std.proofs.Common.{◌∙◌, ap}
 use Rattle.h_pass.specs.Hoist.{blocks_of, main_of}
 use Rattle.h_pass.proofs.laws.closed_never_stuck_law.Goals as goal
 

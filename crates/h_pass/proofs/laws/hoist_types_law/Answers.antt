@@ -5,7 +5,9 @@ use Rattle.h_pass.proofs.Types.{hoist_each}
 use Rattle.h_pass.specs.Hoist.{blocks_of, main_of}
 
 pub returns-clause-types : goal.returns-clause-types
-returns-clause-types c = λ t h. (c.h_typed_is_any_law.ensures (blocks_of t) (main_of t)).1 (hoist_each _ t ((c.typed_is_any_law.ensures t).0 h))
+returns-clause-types c =
+    λ t h. (c.h_typed_is_any_law.ensures (blocks_of t) (main_of t)).1
+    (hoist_each _ t ((c.typed_is_any_law.ensures t).0 h))
 
 pub returns-clause-reach : goal.returns-clause-reach
 returns-clause-reach c = λ N R B t h. hoist_each (CWithin N R B) t h

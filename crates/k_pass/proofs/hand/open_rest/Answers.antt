@@ -14,7 +14,9 @@ returns c =
     let two : c.in_ok-inside.inside ≡ suc (suc c.args.depth) = c.in_ok-inside.ensures ∙ ap suc one in (
       ap₂ (λ l d. C.Give (A.Level l) d) one two,
       record {
-        writes = λ ns. c.in_ok-put.ensures ns ∙ ap (λ (u : K.KTys). written c.args.work.now ++ NCode c.args.depth c.args.work.now.types 0 u ∷ ns) c.in_ok-args.ensures;
+        writes = λ ns. c.in_ok-put.ensures ns
+            ∙ ap (λ (u : K.KTys). written c.args.work.now ++ NCode c.args.depth c.args.work.now.types 0 u ∷ ns)
+            c.in_ok-args.ensures;
         same_frames = refl {A = List Frame};
         keeps = c.in_ok-push.ensures.items;
         same_place = refl {A = Scope};

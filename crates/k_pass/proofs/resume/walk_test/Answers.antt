@@ -7,7 +7,8 @@ use Rattle.k_pass.proofs.resume.walk_test.Goals as goal
 pub returns-clause-steps : goal.returns-clause-steps
 returns-clause-steps c =
     next_is c.enter.result (C.Walk c.args.test c.in_ok-inside.inside) _ c.enter.ensures
-    (λ waits t. comes_test t c.args.work.now c.put_name.new.out c.enter.new.frames c.args.test c.args.zero c.args.other c.args.depth c.args.types c.in_ok-inside.inside c.args.ty _
+    (λ waits t. comes_test t c.args.work.now c.put_name.new.out c.enter.new.frames c.args.test c.args.zero c.args.other
+    c.args.depth c.args.types c.in_ok-inside.inside c.args.ty _
     c.in_ok-put_name.ensures c.in_ok-ty.ensures waits c.in_ok-inside.ensures)
 
 pub returns-clause-inside : goal.returns-clause-inside

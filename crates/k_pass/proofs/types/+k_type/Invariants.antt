@@ -8,4 +8,5 @@ use Rattle.k_pass.proofs.types.+k_type.Given as goal
 
 abbrev pub invariant-loop-part : goal.invariant-loop-part
 invariant-loop-part l =
-    map ktree l.parts.items ≡ map (λ t. kty (under l.bound (spot l.types (levels_of l.levels.items))) (tree t)) (take l.part-index l.part-items)
+    map ktree l.parts.items ≡ map (λ t. kty (under l.bound (spot l.types (levels_of l.levels.items))) (tree t))
+    (take l.part-index l.part-items)

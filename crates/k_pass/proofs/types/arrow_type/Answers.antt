@@ -10,5 +10,7 @@ pub returns : goal.returns
 returns c =
     tree_Code 0 c.push-2.new.self
     ∙ ap (λ (xs : List KType). TKCode 0 (ktys xs))
-    (c.in_ok-push-2.ensures.items ∙ ap (λ (xs : List KType). xs ++ c.in_ok-rest.rest ∷ []) (c.in_ok-push.ensures.items ∙ ap (λ (xs : List KType). xs ++ c.args.a ∷ []) c.in_ok-args.ensures.items))
+    (c.in_ok-push-2.ensures.items
+    ∙ ap (λ (xs : List KType). xs ++ c.in_ok-rest.rest ∷ [])
+    (c.in_ok-push.ensures.items ∙ ap (λ (xs : List KType). xs ++ c.args.a ∷ []) c.in_ok-args.ensures.items))
     ∙ ap (λ (t : K.KTy). TKCode 0 (MoreKTys (ktree c.args.a) (MoreKTys t NoKTys))) c.in_ok-rest.ensures

@@ -6,4 +6,6 @@ use Rattle.k_terms.proofs.Trees.{tree_Code}
 use Rattle.k_pass.proofs.types.taking_type.Goals as goal
 
 pub returns : goal.returns
-returns c = tree_Code 0 c.push.new.self ∙ ap (λ (xs : List KType). TKCode 0 (ktys xs)) (c.in_ok-push.ensures.items ∙ ap (λ (xs : List KType). xs ++ c.args.t ∷ []) c.in_ok-args.ensures.items)
+returns c = tree_Code 0 c.push.new.self
+    ∙ ap (λ (xs : List KType). TKCode 0 (ktys xs))
+    (c.in_ok-push.ensures.items ∙ ap (λ (xs : List KType). xs ++ c.args.t ∷ []) c.in_ok-args.ensures.items)

@@ -11,4 +11,6 @@ returns c = λ ns.
     c.in_ok-put-2.ensures ns
     ∙ c.in_ok-put.ensures _
     ∙ c.in_ok-put_atoms.ensures _
-    ∙ ap (λ (n : _). map knode c.args.out.now.items ++ atom_nodes (map atom c.args.done.now) (NTuple n ∷ NName c.args.depth (ktree c.args.ty) ∷ ns)) (length_map c.args.done.now)
+    ∙ ap (λ (n : _). map knode c.args.out.now.items
+    ++ atom_nodes (map atom c.args.done.now) (NTuple n ∷ NName c.args.depth (ktree c.args.ty) ∷ ns))
+    (length_map c.args.done.now)

@@ -12,7 +12,8 @@ put_type-put_types-requires t c = (
   search (rules, the_lemmas),
   (
     c.requires.deep,
-    subst (PutFits c.args.at (ktree c.args.what.now) c.args.depth) (tree_is_tuple _ _ _ c.in-Tuple.is c.deref.ensures.value) c.requires.fits,
+    subst (PutFits c.args.at (ktree c.args.what.now) c.args.depth)
+        (tree_is_tuple _ _ _ c.in-Tuple.is c.deref.ensures.value) c.requires.fits,
   ),
 )
 
@@ -21,19 +22,22 @@ put_type-put_types-requires-in-Code t c = (
   search (rules, the_lemmas),
   (
     omega (arith, c.requires.deep),
-    (subst (PutFits c.args.at (ktree c.args.what.now) c.args.depth) (tree_is_code _ _ _ _ c.in-Code.is c.deref-in-Code.ensures.value) c.requires.fits).1,
+    (subst (PutFits c.args.at (ktree c.args.what.now) c.args.depth)
+        (tree_is_code _ _ _ _ c.in-Code.is c.deref-in-Code.ensures.value) c.requires.fits).1,
   ),
 )
 
 pub put_type-returns-in_ok-ts-in-Tuple : goal.put_type-returns-in_ok-ts-in-Tuple
 put_type-returns-in_ok-ts-in-Tuple t c =
     tree_Tuple c.in_ok-ts-in-Tuple.ts ∙ ap TKTuple c.in_ok-ts-in-Tuple.ensures
-    ∙ ap (put_from c.args.at (ktree c.args.what.now) c.args.depth) (sym (tree_is_tuple _ _ _ c.in-Tuple.is c.deref.ensures.value))
+    ∙ ap (put_from c.args.at (ktree c.args.what.now) c.args.depth)
+    (sym (tree_is_tuple _ _ _ c.in-Tuple.is c.deref.ensures.value))
 
 pub put_type-returns-in_ok-args-in-Code : goal.put_type-returns-in_ok-args-in-Code
 put_type-returns-in_ok-args-in-Code t c =
     tree_Code c.in-Code.owes c.in_ok-args-in-Code.args ∙ ap (TKCode c.in-Code.owes) c.in_ok-args-in-Code.ensures
-    ∙ ap (put_from c.args.at (ktree c.args.what.now) c.args.depth) (sym (tree_is_code _ _ _ _ c.in-Code.is c.deref-in-Code.ensures.value))
+    ∙ ap (put_from c.args.at (ktree c.args.what.now) c.args.depth)
+    (sym (tree_is_code _ _ _ _ c.in-Code.is c.deref-in-Code.ensures.value))
 
 pub put_types-loop-t-init : goal.put_types-loop-t-init
 put_types-loop-t-init t c = record {
@@ -43,4 +47,5 @@ put_types-loop-t-init t c = record {
 
 pub put_types-returns : goal.put_types-returns
 put_types-returns t c =
-    made_all (putted TKVar over c.args.at (ktree c.args.what.now)) c.args.depth c.loop-t.made.items c.args.ts.now c.loop-t.t-index c.loop-t.invariant.made c.loop-t-test.false
+    made_all (putted TKVar over c.args.at (ktree c.args.what.now)) c.args.depth c.loop-t.made.items c.args.ts.now
+    c.loop-t.t-index c.loop-t.invariant.made c.loop-t-test.false

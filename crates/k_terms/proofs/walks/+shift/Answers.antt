@@ -15,7 +15,8 @@ shift_type-shift_types-requires t c = (
 pub shift_type-shift_types-requires-in-Code : goal.shift_type-shift_types-requires-in-Code
 shift_type-shift_types-requires-in-Code t c = (
   search (rules, the_lemmas),
-  (subst (ShiftFits c.args.by c.args.cut) (tree_is_code _ _ _ _ c.in-Code.is c.deref-in-Code.ensures.value) c.requires).1,
+  (subst (ShiftFits c.args.by c.args.cut) (tree_is_code _ _ _ _ c.in-Code.is c.deref-in-Code.ensures.value)
+      c.requires).1,
 )
 
 pub shift_type-returns-in_ok-ts-in-Tuple : goal.shift_type-returns-in_ok-ts-in-Tuple
@@ -36,4 +37,5 @@ shift_types-loop-t-init t c = record {
 
 pub shift_types-returns : goal.shift_types-returns
 shift_types-returns t c =
-    made_all (shifted TKVar c.args.by) c.args.cut c.loop-t.made.items c.args.ts.now c.loop-t.t-index c.loop-t.invariant.made c.loop-t-test.false
+    made_all (shifted TKVar c.args.by) c.args.cut c.loop-t.made.items c.args.ts.now c.loop-t.t-index
+    c.loop-t.invariant.made c.loop-t-test.false

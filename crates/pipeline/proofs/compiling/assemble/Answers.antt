@@ -51,7 +51,8 @@ returns-clause-entered c =
     ∥∥₁_elim allocated.meaning ∥∥₁_prop (λ means.
     ∥∥₁_elim a.bound ∥∥₁_prop (λ bound.
     ∥∥₁_map₂ made.accepted made.keeps (λ accepted keeps.
-    enters_seldom e k d (H.blocks_in h) (H.main_in h) (A.program_in a) (A.main_in a) (program c.in_ok-generated.generated)
+    enters_seldom e k d (H.blocks_in h) (H.main_in h) (A.program_in a) (A.main_in a)
+    (program c.in_ok-generated.generated)
     c.erased_code_stands_at_its_place.ensures c.runs_stay_within_times.ensures c.programs_are_laid_out.ensures
     c.in_ok-converted.ensures closed.rules closed.halts closed.codes hoisted.back hoisted.meaning stands means made.is
     (subst (Generates (A.program_in a) (A.main_in a)) (sym made.is)

@@ -18,7 +18,8 @@ seal-requires c = ∥∥₁_map c.in_ok-made.ensures.compiled (λ made. made.acc
 
 pub returns-clause-compiled : goal.returns-clause-compiled
 returns-clause-compiled c =
-    subst (λ (x : TProgram). ∥ IsCompilation (source.term_of (program_term c.args.program.now)) (program x) ∥₁) (sym c.seal.ensures) c.in_ok-made.ensures.compiled
+    subst (λ (x : TProgram). ∥ IsCompilation (source.term_of (program_term c.args.program.now)) (program x) ∥₁)
+    (sym c.seal.ensures) c.in_ok-made.ensures.compiled
 
 pub returns-clause-shallow : goal.returns-clause-shallow
 returns-clause-shallow c =

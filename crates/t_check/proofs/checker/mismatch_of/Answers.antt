@@ -3,19 +3,25 @@ use Rattle.t_check.proofs.Exact.{told, one_told}
 use Rattle.t_check.proofs.checker.mismatch_of.Goals as goal
 
 pub returns-in-Ok-clause-told : goal.returns-in-Ok-clause-told
-returns-in-Ok-clause-told c = λ code span h. absurd (c.no_fault_where_accepted.ensures (spanned_program c.args.program.now) code span c.in-Ok.ensures h)
+returns-in-Ok-clause-told c =
+    λ code span h.
+    absurd (c.no_fault_where_accepted.ensures (spanned_program c.args.program.now) code span c.in-Ok.ensures h)
 
 pub returns-in-Ok-clause-one : goal.returns-in-Ok-clause-one
 returns-in-Ok-clause-one c = λ code span m h.
     let P = spanned_program c.args.program.now in
-    absurd (c.no_fault_where_accepted.ensures P code span c.in-Ok.ensures (c.mismatch_is_of_the_fault.ensures P code span m h))
+    absurd (c.no_fault_where_accepted.ensures P code span c.in-Ok.ensures
+    (c.mismatch_is_of_the_fault.ensures P code span m h))
 
 pub returns-in-Err-clause-told : goal.returns-in-Err-clause-told
 returns-in-Err-clause-told c = λ code span h.
-    told (spanned_program c.args.program.now) c.mismatch_is_of_the_fault.ensures c.at_most_one_fault.ensures code span h c.in-Err.refusal c.in-Err.ensures c.mismatch.result c.mismatch.ensures
+    told (spanned_program c.args.program.now) c.mismatch_is_of_the_fault.ensures c.at_most_one_fault.ensures code span
+    h c.in-Err.refusal c.in-Err.ensures c.mismatch.result c.mismatch.ensures
 
 pub returns-in-Err-clause-one : goal.returns-in-Err-clause-one
 returns-in-Err-clause-one c = λ code span m h.
     let P = spanned_program c.args.program.now in
     one_told P c.at_most_one_mismatch.ensures code span m h c.mismatch.result
-    (told P c.mismatch_is_of_the_fault.ensures c.at_most_one_fault.ensures code span (c.mismatch_is_of_the_fault.ensures P code span m h) c.in-Err.refusal c.in-Err.ensures c.mismatch.result c.mismatch.ensures)
+    (told P c.mismatch_is_of_the_fault.ensures c.at_most_one_fault.ensures code span
+    (c.mismatch_is_of_the_fault.ensures P code span m h) c.in-Err.refusal c.in-Err.ensures c.mismatch.result
+    c.mismatch.ensures)

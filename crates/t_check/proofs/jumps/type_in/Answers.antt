@@ -15,11 +15,14 @@ returns-in-Ok-clause-found c = λ ts rises.
     let xs = c.args.regs.now in
     let rise = names_rise ts 0 xs rises in
     let lt = c.in-Ok.ensures.bound in
-    let found = found_at xs rise c.args.r c.in-Ok.i (c.in-Ok.ensures.position (λ x. x.0) (answers_always _ _ _ (λ f a r g called. search rules))) in
+    let found = found_at xs rise c.args.r c.in-Ok.i
+    (c.in-Ok.ensures.position (λ x. x.0) (answers_always _ _ _ (λ f a r g called. search rules))) in
     sym (lookup_there ts xs c.args.r c.in-Ok.i lt found (none_before xs rise c.args.r c.in-Ok.i lt found))
 
 pub returns-in-Err-clause-found : goal.returns-in-Err-clause-found
 returns-in-Err-clause-found c = λ ts rises.
     let xs = c.args.regs.now in
     let rise = names_rise ts 0 xs rises in
-    sym (lookup_none ts xs c.args.r (found_none xs rise c.args.r c.in-Err.field-0 (c.in-Err.ensures.position (λ x. x.0) (answers_always _ _ _ (λ f a r g called. search rules)))))
+    sym (lookup_none ts xs c.args.r
+    (found_none xs rise c.args.r c.in-Err.field-0
+    (c.in-Err.ensures.position (λ x. x.0) (answers_always _ _ _ (λ f a r g called. search rules)))))

@@ -14,4 +14,5 @@ note_mark-requires-clause-set c =
 
 pub note_mark-requires-clause-number : goal.note_mark-requires-clause-number
 note_mark-requires-clause-number c =
-    made_next marked c.args.types.now c.mark_anew.new.types c.args.n c.args.set c.in_ok-made.made c.in_ok-made.ensures.grown c.requires.there c.requires.set c.in_ok-made.ensures.number
+    made_next marked c.args.types.now c.mark_anew.new.types c.args.n c.args.set c.in_ok-made.made
+    c.in_ok-made.ensures.grown c.requires.there c.requires.set c.in_ok-made.ensures.number

@@ -6,4 +6,5 @@ use Rattle.t_check.proofs.marking.mark_fields.Given as goal
 
 abbrev pub invariant-loop-i : goal.invariant-loop-i
 invariant-loop-i l =
-    l.made.items ++ marked_list (has (at l.types l.set)) (l.i + 1) (drop l.i l.fields) ≡ marked_list (has (at l.types l.set)) 1 l.fields
+    l.made.items ++ marked_list (has (at l.types l.set)) (l.i + 1) (drop l.i l.fields)
+    ≡ marked_list (has (at l.types l.set)) 1 l.fields

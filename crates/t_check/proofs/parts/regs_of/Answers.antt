@@ -14,4 +14,5 @@ returns-in-Code c =
     let there = c.requires in
     let code = c.shape.ensures.is ∙ ap (λ (s : Shape). type_at ts (node s)) c.in-Code.is in
     let parts = subst (λ (s : Shape). PartsBelow n (node s)) c.in-Code.is c.shape.ensures.parts in
-    subst (λ (xs : List (ℕ × ℕ)). IsRegsOf ts n xs) (sym c.deref.ensures.value) ((c.in-Code.owes, code), regs_below_more n (length ts) (omega arith) regs parts)
+    subst (λ (xs : List (ℕ × ℕ)). IsRegsOf ts n xs) (sym c.deref.ensures.value)
+    ((c.in-Code.owes, code), regs_below_more n (length ts) (omega arith) regs parts)

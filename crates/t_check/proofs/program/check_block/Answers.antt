@@ -20,7 +20,8 @@ use Rattle.t_check.specs.Verdict.{FormedInstr, FormedEnd, IsEnd}
 use Rattle.t_rules.specs.Rules.{Typed}
 use Rattle.t_check.proofs.Numbering.{labels_grown}
 use Rattle.t_check.proofs.Typing.{says_map}
-use Rattle.t_check.proofs.Bodies.{IsLeft, left_all, left_fault, left_more, formed_more, formed_instr, formed_names, end_formed, block_end}
+use Rattle.t_check.proofs.Bodies.{IsLeft, left_all, left_fault, left_more, formed_more, formed_instr, formed_names}
+use Rattle.t_check.proofs.Bodies.{end_formed, block_end}
 use Rattle.t_check.proofs.program.check_block.Goals as goal
 
 pub loop-step-init : goal.loop-step-init
@@ -36,9 +37,13 @@ loop-step-init c =
       sound = c.in_ok-registers.ensures.1;
       same = refl;
       labels = refl;
-      formed = subst (λ (ys : List (Instr × Span)). WellFormedSeq (length p.blocks.items) (length p.heap.items) k.names (seq_of (body ys) (end_of b.«end»))) (sym c.deref-step-items.ensures.value)
-          (subst (λ m. WellFormedSeq (length p.blocks.items) (length p.heap.items) m (seq_of (body b.body.items) (end_of b.«end»))) (sym c.in_ok-registers.ensures.2) formed);
-      left = left_all P (end_of b.«end») b.end_span b.owes k.names (lookup (file b.regs.regs.items)) (known c.args.types.now k) xs c.in_ok-registers.ensures.2 c.in_ok-registers.ensures.0;
+      formed = subst
+          (λ (ys : List (Instr × Span)). WellFormedSeq (length p.blocks.items) (length p.heap.items) k.names
+          (seq_of (body ys) (end_of b.«end»))) (sym c.deref-step-items.ensures.value)
+          (subst (λ m. WellFormedSeq (length p.blocks.items) (length p.heap.items) m
+          (seq_of (body b.body.items) (end_of b.«end»))) (sym c.in_ok-registers.ensures.2) formed);
+      left = left_all P (end_of b.«end») b.end_span b.owes k.names (lookup (file b.regs.regs.items))
+          (known c.args.types.now k) xs c.in_ok-registers.ensures.2 c.in_ok-registers.ensures.0;
     }
 
 pub check_instr-requires : goal.check_instr-requires
@@ -55,15 +60,19 @@ check_instr-requires c =
     record {
       place = record {
         sound = l.invariant.sound;
-        labels = subst (λ (q : TProgram). AreLabels l.types q l.checker.labels.now) (sym l.invariant.same) (subst (λ (z : Labels). AreLabels l.types p z) (sym l.invariant.labels) labels);
+        labels = subst (λ (q : TProgram). AreLabels l.types q l.checker.labels.now) (sym l.invariant.same)
+            (subst (λ (z : Labels). AreLabels l.types p z) (sym l.invariant.labels) labels);
       };
       instr = subst (λ (q : TProgram). FormedInstr q k.names (instr x.0)) (sym l.invariant.same)
-          (formed_instr (program p) e b.end_span b.owes k.names g h c.deref-step-items.result.now l.step-index x c.loop-step-test.true c.step-item.is (length p.blocks.items) (length p.heap.items) l.invariant.formed);
-      few = formed_names (program p) e b.end_span b.owes k.names g h c.deref-step-items.result.now l.step-index x c.loop-step-test.true c.step-item.is (length p.blocks.items) (length p.heap.items) l.invariant.formed;
+          (formed_instr (program p) e b.end_span b.owes k.names g h c.deref-step-items.result.now l.step-index x
+          c.loop-step-test.true c.step-item.is (length p.blocks.items) (length p.heap.items) l.invariant.formed);
+      few = formed_names (program p) e b.end_span b.owes k.names g h c.deref-step-items.result.now l.step-index x
+          c.loop-step-test.true c.step-item.is (length p.blocks.items) (length p.heap.items) l.invariant.formed;
     }
 
 pub returns-in_err-check_instr-clause-grown : goal.returns-in_err-check_instr-clause-grown
-returns-in_err-check_instr-clause-grown c = grown_next _ _ _ c.loop-step.invariant.grown c.in_err-check_instr.ensures.grown
+returns-in_err-check_instr-clause-grown c =
+    grown_next _ _ _ c.loop-step.invariant.grown c.in_err-check_instr.ensures.grown
 
 pub returns-in_err-check_instr-clause-block : goal.returns-in_err-check_instr-clause-block
 returns-in_err-check_instr-clause-block c =
@@ -74,13 +83,22 @@ returns-in_err-check_instr-clause-block c =
     let h = known l.types k in
     let x = c.step-item.result in
     let e = c.in_err-check_instr.field-0.0 in
-    let q = err_from_is_err_and c.from_residual-in_err-check_instr.result c.from_residual-in_err-check_instr.ensures.1 in
-    let items = subst (λ (ys : List (Instr × Span)). IsLeft P (end_of b.«end») b.end_span b.owes k.names (lookup (file b.regs.regs.items)) h ys (drop l.step-index ys)) c.deref-step-items.ensures.value l.invariant.left in
-    let lt : l.step-index < length b.body.items = subst (λ (ys : List (Instr × Span)). l.step-index < length ys) c.deref-step-items.ensures.value c.loop-step-test.true in
+    let q =
+    err_from_is_err_and c.from_residual-in_err-check_instr.result c.from_residual-in_err-check_instr.ensures.1 in
+    let items = subst
+    (λ (ys : List (Instr × Span)). IsLeft P (end_of b.«end») b.end_span b.owes k.names
+    (lookup (file b.regs.regs.items)) h ys (drop l.step-index ys)) c.deref-step-items.ensures.value
+    l.invariant.left in
+    let lt : l.step-index < length b.body.items =
+    subst (λ (ys : List (Instr × Span)). l.step-index < length ys) c.deref-step-items.ensures.value
+    c.loop-step-test.true in
     rw (q.1, q.2) (says_map e _ (BlockFaultWith P (spanned b))
-    (left_fault P (end_of b.«end») b.end_span b.owes k.names (lookup (file b.regs.regs.items)) h b.body.items l.step-index x lt
-    (subst (λ (ys : List (Instr × Span)). x ≡ get_or ys l.step-index x) c.deref-step-items.ensures.value c.step-item.is) items)
-    (subst (λ (p : TProgram). SaysWith e (InstrFaultWith (program p) k.names h x.1 (instr x.0))) l.invariant.same c.in_err-check_instr.ensures.step))
+    (left_fault P (end_of b.«end») b.end_span b.owes k.names (lookup (file b.regs.regs.items)) h b.body.items
+    l.step-index x lt
+    (subst (λ (ys : List (Instr × Span)). x ≡ get_or ys l.step-index x) c.deref-step-items.ensures.value
+    c.step-item.is) items)
+    (subst (λ (p : TProgram). SaysWith e (InstrFaultWith (program p) k.names h x.1 (instr x.0))) l.invariant.same
+    c.in_err-check_instr.ensures.step))
 
 pub loop-step-preserved : goal.loop-step-preserved
 loop-step-preserved c =
@@ -96,14 +114,17 @@ loop-step-preserved c =
     let xs = c.deref-step-items.result.now in
     let g = lookup (file b.regs.regs.items) in
     let step = c.in_ok-check_instr.ensures.step in
-    let typed = subst (λ (q : TProgram). Typed (program q) k.names g0 (instr x.0) (known us h)) l.invariant.same step.0 in
+    let typed =
+    subst (λ (q : TProgram). Typed (program q) k.names g0 (instr x.0) (known us h)) l.invariant.same step.0 in
     record {
       grown = grown_next _ _ _ l.invariant.grown c.in_ok-check_instr.ensures.grown;
       sound = step.1;
       same = ap (λ q. q.now) c.check_instr.ensures.program ∙ l.invariant.same;
       labels = ap (λ q. q.now) c.check_instr.ensures.labels ∙ l.invariant.labels;
-      formed = formed_more P (end_of b.«end») b.end_span b.owes k.names g g0 xs l.step-index x c.loop-step-test.true c.step-item.is (length p.blocks.items) (length p.heap.items) l.invariant.formed h.names step.2;
-      left = left_more P (end_of b.«end») b.end_span b.owes k.names g g0 xs l.step-index x c.loop-step-test.true c.step-item.is (known us h) h.names step.2 typed l.invariant.left;
+      formed = formed_more P (end_of b.«end») b.end_span b.owes k.names g g0 xs l.step-index x c.loop-step-test.true
+          c.step-item.is (length p.blocks.items) (length p.heap.items) l.invariant.formed h.names step.2;
+      left = left_more P (end_of b.«end») b.end_span b.owes k.names g g0 xs l.step-index x c.loop-step-test.true
+          c.step-item.is (known us h) h.names step.2 typed l.invariant.left;
     }
 
 pub check_end-requires : goal.check_end-requires
@@ -116,10 +137,13 @@ check_end-requires c =
     record {
       place = record {
         sound = l.invariant.sound;
-        labels = subst (λ (q : TProgram). AreLabels l.types q l.checker.labels.now) (sym l.invariant.same) (subst (λ (z : Labels). AreLabels l.types p z) (sym l.invariant.labels) labels);
+        labels = subst (λ (q : TProgram). AreLabels l.types q l.checker.labels.now) (sym l.invariant.same)
+            (subst (λ (z : Labels). AreLabels l.types p z) (sym l.invariant.labels) labels);
       };
       «end» = subst (λ (q : TProgram). FormedEnd q k.names (end_of b.«end»)) (sym l.invariant.same)
-          (end_formed (program p) (end_of b.«end») b.end_span b.owes k.names (lookup (file b.regs.regs.items)) (known l.types k) c.deref-step-items.result.now l.step-index c.loop-step-test.false (length p.blocks.items) (length p.heap.items) l.invariant.formed);
+          (end_formed (program p) (end_of b.«end») b.end_span b.owes k.names (lookup (file b.regs.regs.items))
+          (known l.types k) c.deref-step-items.result.now l.step-index c.loop-step-test.false
+          (length p.blocks.items) (length p.heap.items) l.invariant.formed);
     }
 
 pub returns-clause-grown : goal.returns-clause-grown
@@ -132,6 +156,13 @@ returns-clause-block c =
     let l = c.loop-step in
     let k = l.checker.registers in
     let h = known l.types k in
-    let items = subst (λ (ys : List (Instr × Span)). IsLeft P (end_of b.«end») b.end_span b.owes k.names (lookup (file b.regs.regs.items)) h ys (drop l.step-index ys)) c.deref-step-items.ensures.value l.invariant.left in
-    let last = subst (λ (p : TProgram). IsEnd (program p) k.names h b.end_span (end_of b.«end») c.check_end.result) l.invariant.same c.check_end.ensures.ended in
-    block_end P b k.names h l.step-index (subst (λ (ys : List (Instr × Span)). length ys ≤ l.step-index) c.deref-step-items.ensures.value c.loop-step-test.false) (regs_below 0 b.owes (file b.regs.regs.items) c.requires.formed.1) items c.check_end.result last
+    let items = subst
+    (λ (ys : List (Instr × Span)). IsLeft P (end_of b.«end») b.end_span b.owes k.names
+    (lookup (file b.regs.regs.items)) h ys (drop l.step-index ys)) c.deref-step-items.ensures.value
+    l.invariant.left in
+    let last = subst (λ (p : TProgram). IsEnd (program p) k.names h b.end_span (end_of b.«end») c.check_end.result)
+    l.invariant.same c.check_end.ensures.ended in
+    block_end P b k.names h l.step-index
+    (subst (λ (ys : List (Instr × Span)). length ys ≤ l.step-index) c.deref-step-items.ensures.value
+    c.loop-step-test.false) (regs_below 0 b.owes (file b.regs.regs.items) c.requires.formed.1) items
+    c.check_end.result last

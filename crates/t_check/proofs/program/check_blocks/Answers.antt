@@ -17,10 +17,13 @@ check_block-requires-clause-formed c =
     let p = c.args.program.now in
     let i = c.loop-i.i in
     let x = c.index-blocks-i.result in
-    formed_at p i x (subst (λ (xs : List Block). i < length xs) c.requires.blocks c.loop-i-test.true) (subst (λ (xs : List Block). x ≡ get_or xs i x) c.requires.blocks c.index-blocks-i.is) p.whole
+    formed_at p i x (subst (λ (xs : List Block). i < length xs) c.requires.blocks c.loop-i-test.true)
+    (subst (λ (xs : List Block). x ≡ get_or xs i x) c.requires.blocks c.index-blocks-i.is) p.whole
 
 pub check_block-requires-clause-labels : goal.check_block-requires-clause-labels
-check_block-requires-clause-labels c = labels_grown c.args.types.now c.loop-i.types c.args.program.now c.args.labels.now c.loop-i.invariant.grown c.requires.labels
+check_block-requires-clause-labels c =
+    labels_grown c.args.types.now c.loop-i.types c.args.program.now c.args.labels.now c.loop-i.invariant.grown
+    c.requires.labels
 
 pub check_block-requires-clause-code : goal.check_block-requires-clause-code
 check_block-requires-clause-code c =
@@ -31,22 +34,28 @@ check_block-requires-clause-code c =
     let labels = labels_grown c.args.types.now us p c.args.labels.now c.loop-i.invariant.grown c.requires.labels in
     let lt = subst (λ (xs : List Block). i < length xs) c.requires.blocks c.loop-i-test.true in
     let is = subst (λ (xs : List Block). x ≡ get_or xs i x) c.requires.blocks c.index-blocks-i.is in
-    numbered_at us code_type p.blocks.items c.args.labels.now.blocks.items labels.blocks i x c.index.result.now lt is c.index.ensures
+    numbered_at us code_type p.blocks.items c.args.labels.now.blocks.items labels.blocks i x c.index.result.now lt is
+    c.index.ensures
 
 pub returns-in_err-check_block : goal.returns-in_err-check_block
 returns-in_err-check_block c =
     let p = err_from_is_err_and c.from_residual.result c.from_residual.ensures.1 in
     let P = program c.args.program.now in
     let x = c.index-blocks-i.result in
-    rw (p.1, p.2) (says_map c.in_err-check_block.field-0.0 (BlockFaultWith P (spanned x)) (BlocksFaultWith P (spanned_blocks c.args.blocks.now))
-    (block_fault P c.args.blocks.now c.loop-i.i x c.loop-i-test.true c.index-blocks-i.is c.loop-i.invariant.left) c.in_err-check_block.ensures.block)
+    rw (p.1, p.2)
+    (says_map c.in_err-check_block.field-0.0 (BlockFaultWith P (spanned x))
+    (BlocksFaultWith P (spanned_blocks c.args.blocks.now))
+    (block_fault P c.args.blocks.now c.loop-i.i x c.loop-i-test.true c.index-blocks-i.is c.loop-i.invariant.left)
+    c.in_err-check_block.ensures.block)
 
 pub loop-i-preserved : goal.loop-i-preserved
 loop-i-preserved c =
     record {
       grown = grown_next _ _ _ c.loop-i.invariant.grown c.in_ok-check_block.ensures.grown;
-      left = block_more (program c.args.program.now) c.args.blocks.now c.loop-i.i c.index-blocks-i.result c.loop-i-test.true c.index-blocks-i.is c.in_ok-check_block.ensures.block c.loop-i.invariant.left;
+      left = block_more (program c.args.program.now) c.args.blocks.now c.loop-i.i c.index-blocks-i.result
+          c.loop-i-test.true c.index-blocks-i.is c.in_ok-check_block.ensures.block c.loop-i.invariant.left;
     }
 
 pub returns : goal.returns
-returns c = blocks_end (program c.args.program.now) c.args.blocks.now c.loop-i.i c.loop-i-test.false c.loop-i.invariant.left
+returns c =
+    blocks_end (program c.args.program.now) c.args.blocks.now c.loop-i.i c.loop-i-test.false c.loop-i.invariant.left

@@ -21,32 +21,46 @@ check_data-requires-clause-formed c =
     let i = c.loop-tuple.tuple-index in
     let x = c.tuple-item.result in
     subst (λ (xs : List Field). FormedData p (data_fields xs)) (sym c.deref.ensures.value)
-    (formed_data_at p i x (subst (λ (xs : List Data). i < length xs) c.requires.heap c.loop-tuple-test.true) (subst (λ (xs : List Data). x ≡ get_or xs i x) c.requires.heap c.tuple-item.is) p.whole)
+    (formed_data_at p i x (subst (λ (xs : List Data). i < length xs) c.requires.heap c.loop-tuple-test.true)
+    (subst (λ (xs : List Data). x ≡ get_or xs i x) c.requires.heap c.tuple-item.is) p.whole)
 
 pub check_data-requires-clause-place : goal.check_data-requires-clause-place
 check_data-requires-clause-place c =
-    record { sound = c.none.ensures.sound c.loop-tuple.types; labels = labels_grown c.args.types.now c.loop-tuple.types c.args.program.now c.args.labels.now c.loop-tuple.invariant.grown c.requires.labels }
+    record {
+      sound = c.none.ensures.sound c.loop-tuple.types;
+      labels = labels_grown c.args.types.now c.loop-tuple.types c.args.program.now c.args.labels.now
+          c.loop-tuple.invariant.grown c.requires.labels;
+    }
 
 pub returns-in_err-check_data-clause-heap : goal.returns-in_err-check_data-clause-heap
 returns-in_err-check_data-clause-heap c =
     let p = err_from_is_err_and c.from_residual.result c.from_residual.ensures.1 in
     let P = program c.args.program.now in
     let x = c.tuple-item.result in
-    rw (p.1, p.2) (says_map c.in_err-check_data.field-0.0 (DataFaultWith P (spanned_data x).fields) (HeapFaultWith P (spanned_heap c.args.heap.now))
-    (data_fault P c.args.heap.now c.loop-tuple.tuple-index x c.loop-tuple-test.true c.tuple-item.is c.loop-tuple.invariant.left)
-    (subst (λ (xs : List Field). SaysWith c.in_err-check_data.field-0.0 (DataFaultWith P (data_fields xs))) c.deref.ensures.value c.in_err-check_data.ensures.words))
+    rw (p.1, p.2)
+    (says_map c.in_err-check_data.field-0.0 (DataFaultWith P (spanned_data x).fields)
+    (HeapFaultWith P (spanned_heap c.args.heap.now))
+    (data_fault P c.args.heap.now c.loop-tuple.tuple-index x c.loop-tuple-test.true c.tuple-item.is
+    c.loop-tuple.invariant.left)
+    (subst (λ (xs : List Field). SaysWith c.in_err-check_data.field-0.0 (DataFaultWith P (data_fields xs)))
+    c.deref.ensures.value c.in_err-check_data.ensures.words))
 
 pub returns-in_err-check_data-clause-grown : goal.returns-in_err-check_data-clause-grown
-returns-in_err-check_data-clause-grown c = grown_next _ _ _ c.loop-tuple.invariant.grown c.in_err-check_data.ensures.grown
+returns-in_err-check_data-clause-grown c =
+    grown_next _ _ _ c.loop-tuple.invariant.grown c.in_err-check_data.ensures.grown
 
 pub loop-tuple-preserved : goal.loop-tuple-preserved
 loop-tuple-preserved c =
     let P = program c.args.program.now in
     record {
       grown = grown_next _ _ _ c.loop-tuple.invariant.grown c.in_ok-check_data.ensures.grown;
-      left = data_more P c.args.heap.now c.loop-tuple.tuple-index c.tuple-item.result c.loop-tuple-test.true c.tuple-item.is
-          (subst (λ (xs : List Field). DataAccepted P (plain_fields (data_fields xs))) c.deref.ensures.value c.in_ok-check_data.ensures.words) c.loop-tuple.invariant.left;
+      left = data_more P c.args.heap.now c.loop-tuple.tuple-index c.tuple-item.result c.loop-tuple-test.true
+          c.tuple-item.is
+          (subst (λ (xs : List Field). DataAccepted P (plain_fields (data_fields xs))) c.deref.ensures.value
+          c.in_ok-check_data.ensures.words) c.loop-tuple.invariant.left;
     }
 
 pub returns-clause-heap : goal.returns-clause-heap
-returns-clause-heap c = data_end (program c.args.program.now) c.args.heap.now c.loop-tuple.tuple-index c.loop-tuple-test.false c.loop-tuple.invariant.left
+returns-clause-heap c =
+    data_end (program c.args.program.now) c.args.heap.now c.loop-tuple.tuple-index c.loop-tuple-test.false
+    c.loop-tuple.invariant.left

@@ -15,7 +15,9 @@ use Rattle.t_check.proofs.Numbering.{labels_grown}
 use Rattle.t_check.proofs.program.check_program.Goals as goal
 
 pub check_blocks-requires-clause-labels : goal.check_blocks-requires-clause-labels
-check_blocks-requires-clause-labels c = labels_grown c.of_program.new.types c.check_heap.new.types c.args.program.now c.in_ok-labels.labels c.in_ok-check_heap.ensures.grown c.in_ok-labels.ensures.labels
+check_blocks-requires-clause-labels c =
+    labels_grown c.of_program.new.types c.check_heap.new.types c.args.program.now c.in_ok-labels.labels
+    c.in_ok-check_heap.ensures.grown c.in_ok-labels.ensures.labels
 
 pub returns-then-not-takes_nothing : goal.returns-then-not-takes_nothing
 returns-then-not-takes_nothing c =
@@ -23,23 +25,32 @@ returns-then-not-takes_nothing c =
     let some = p.whole.0 in
     let lt : 0 < length p.blocks.items = omega (arith, blocks_count p.blocks.items) in
     subst (λ (r : Result (Unit {0}) Refusal). IsProgram (spanned_program p) r) (sym c.refused.ensures)
-    (first_fault p c.index-first.result.now lt c.index-first.ensures (λ h. true≢false (sym (c.if-not-takes_nothing.ensures.1 h))))
+    (first_fault p c.index-first.result.now lt c.index-first.ensures
+    (λ h. true≢false (sym (c.if-not-takes_nothing.ensures.1 h))))
 
 pub returns : goal.returns
 returns c =
     let p = c.args.program.now in
     let some = p.whole.0 in
     let lt : 0 < length p.blocks.items = omega (arith, blocks_count p.blocks.items) in
-    let first = first_takes p.blocks.items c.index-first.result.now lt c.index-first.ensures (c.if-not-takes_nothing.ensures.0 refl) in
-    let heap = subst (λ (xs : List Data). HeapAccepted (program p) (data_of xs)) c.deref.ensures.value c.in_ok-check_heap.ensures.heap in
-    program_is p first heap c.check_blocks.result (subst (λ (bs : List Block). AreBlocks (program p) (spanned_blocks bs) c.check_blocks.result) c.deref-2.ensures.value c.check_blocks.ensures)
+    let first = first_takes p.blocks.items c.index-first.result.now lt c.index-first.ensures
+    (c.if-not-takes_nothing.ensures.0 refl) in
+    let heap = subst (λ (xs : List Data). HeapAccepted (program p) (data_of xs)) c.deref.ensures.value
+    c.in_ok-check_heap.ensures.heap in
+    program_is p first heap c.check_blocks.result
+    (subst (λ (bs : List Block). AreBlocks (program p) (spanned_blocks bs) c.check_blocks.result)
+    c.deref-2.ensures.value c.check_blocks.ensures)
 
 pub returns-in_err-check_heap : goal.returns-in_err-check_heap
 returns-in_err-check_heap c =
     let p = c.args.program.now in
     let some = p.whole.0 in
     let lt : 0 < length p.blocks.items = omega (arith, blocks_count p.blocks.items) in
-    let first = first_takes p.blocks.items c.index-first.result.now lt c.index-first.ensures (c.if-not-takes_nothing.ensures.0 refl) in
+    let first = first_takes p.blocks.items c.index-first.result.now lt c.index-first.ensures
+    (c.if-not-takes_nothing.ensures.0 refl) in
     let q = err_from_is_err_and c.from_residual-in_err-check_heap.result c.from_residual-in_err-check_heap.ensures.1 in
     let e = c.in_err-check_heap.field-0.0 in
-    rw (q.1, q.2) (heap_fault p first e (subst (λ (xs : List Data). SaysWith e (HeapFaultWith (program p) (spanned_heap xs))) c.deref.ensures.value c.in_err-check_heap.ensures.heap))
+    rw (q.1, q.2)
+    (heap_fault p first e
+    (subst (λ (xs : List Data). SaysWith e (HeapFaultWith (program p) (spanned_heap xs))) c.deref.ensures.value
+    c.in_err-check_heap.ensures.heap))

@@ -9,7 +9,8 @@ use Rattle.t_check.proofs.program.header.Goals as goal
 pub unreachable-requires : goal.unreachable-requires
 unreachable-requires c =
     let b = c.args.block.now in
-    let none = subst (λ (o : Option CodeParts). IsCode c.args.types.now c.args.code o) c.in-None.is c.in_ok-parts.ensures in
+    let none =
+    subst (λ (o : Option CodeParts). IsCode c.args.types.now c.args.code o) c.in-None.is c.in_ok-parts.ensures in
     none b.owes (file b.regs.regs.items) c.requires.code.1
 
 pub returns : goal.returns
@@ -21,5 +22,7 @@ returns c =
     let both = sym code.0 ∙ c.requires.code.1 in
     let same : regs_at ts parts.regs.items ≡ file b.regs.regs.items = cc in
     IfOk-weaker c.of_block.result _ _
-    (λ k h. h ts (file b.regs.regs.items) (subst (λ (xs : List (ℕ × ℕ)). RegsBelow (length ts) xs) (sym c.deref.ensures.value) code.1) (ap (λ (xs : List (ℕ × ℕ)). regs_at ts xs) c.deref.ensures.value ∙ same) c.requires.file)
+    (λ k h. h ts (file b.regs.regs.items)
+    (subst (λ (xs : List (ℕ × ℕ)). RegsBelow (length ts) xs) (sym c.deref.ensures.value) code.1)
+    (ap (λ (xs : List (ℕ × ℕ)). regs_at ts xs) c.deref.ensures.value ∙ same) c.requires.file)
     c.of_block.ensures

@@ -5,9 +5,12 @@ use Rattle.t_types.specs.Read.{file}
 use Rattle.t_types.specs.declared.types.TType.{TType}
 use Rattle.t_check.proofs.program.takes_nothing.Goals as goal
 
-no_regs : (xs : List (ℕ × TType)) (b : Bool) → b ≡ (length xs == 0) → (IsTrue b → file xs ≡ NoRegs) × (file xs ≡ NoRegs → IsTrue b)
+no_regs : (xs : List (ℕ × TType)) (b : Bool) → b ≡ (length xs == 0) → (IsTrue b → file xs ≡ NoRegs)
+    × (file xs ≡ NoRegs → IsTrue b)
 no_regs [] b e = ((λ h. refl), λ h. e)
-no_regs (x ∷ xs) b e = let more : (length (x ∷ xs) == 0) ≡ false = grind (arith, nat_tests) in ((λ h. let here : false ≡ true = cc in cc), λ h. cc)
+no_regs (x ∷ xs) b e =
+    let more : (length (x ∷ xs) == 0) ≡ false = grind (arith, nat_tests) in
+    ((λ h. let here : false ≡ true = cc in cc), λ h. cc)
 
 pub returns-then-block-eq0 : goal.returns-then-block-eq0
 returns-then-block-eq0 c =

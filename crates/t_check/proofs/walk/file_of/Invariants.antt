@@ -8,5 +8,6 @@ abbrev pub invariant-loop-pair : goal.invariant-loop-pair
 invariant-loop-pair l = record {
   grown : Grown l.fn.types l.types;
   valid : AreEntries l.fn.types l.registers.names l.pair-iterator;
-  made : map reg l.regs.items ++ shown l.fn.types l.registers.names l.pair-iterator ≡ shown l.fn.types l.registers.names l.registers.entries.entries;
+  made : map reg l.regs.items ++ shown l.fn.types l.registers.names l.pair-iterator
+      ≡ shown l.fn.types l.registers.names l.registers.entries.entries;
 }

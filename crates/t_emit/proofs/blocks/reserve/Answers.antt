@@ -12,7 +12,8 @@ use Rattle.t_emit.proofs.blocks.reserve.Goals as goal
 pub returns : goal.returns
 returns c =
     ap blocks_of c.in_ok-push.ensures.items ∙ blocks_snoc c.args.out.now.items _
-    ∙ ap (λ (xs : List (Instr × Span)). blocks_of c.args.out.now.items ++ (made (seq_of (body xs) T.Halt)) ∷ []) c.new.ensures.items
+    ∙ ap (λ (xs : List (Instr × Span)). blocks_of c.args.out.now.items ++ (made (seq_of (body xs) T.Halt)) ∷ [])
+    c.new.ensures.items
   where
     made : T.TSeq → TBlock
     made s = record { owes = c.args.owes; file = file c.args.file_regs.items; code = s }

@@ -23,7 +23,9 @@ pub loop-i-preserved : goal.loop-i-preserved
 loop-i-preserved c = λ ts.
     let vs = c.args.values.now in
     let more : c.loop-i.i + 1 ≡ suc c.loop-i.i = omega arith in
-    ap (λ j. onto c.emit_argument.new.code.items (call_code j c.in_ok-free.free (places c.args.vars.now c.emit_argument.new.saved.items) (a_values (drop (c.loop-i.i + 1) vs)) (top no_value (a_values vs)) ts)) more
+    ap (λ j. onto c.emit_argument.new.code.items
+    (call_code j c.in_ok-free.free (places c.args.vars.now c.emit_argument.new.saved.items)
+    (a_values (drop (c.loop-i.i + 1) vs)) (top no_value (a_values vs)) ts)) more
     ∙ c.in_ok-free.ensures ts ∙ c.loop-i.invariant ts
 
 pub returns : goal.returns

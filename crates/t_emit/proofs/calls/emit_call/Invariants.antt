@@ -8,4 +8,9 @@ use Rattle.a_terms.specs.Row.{top, others}
 use Rattle.t_emit.proofs.calls.emit_call.Given as goal
 
 abbrev pub invariant-loop-i : goal.invariant-loop-i
-invariant-loop-i l = (ts : List Ty) → onto l.code.items (call_code l.i l.free (places l.vars l.saved.items) (a_values (drop l.i l.values)) (top no_value (a_values l.values)) ts) ≡ onto l.fn.code.items (call_code 1 l.fn.above (homes l.vars) (others (a_values l.values)) (top no_value (a_values l.values)) ts)
+invariant-loop-i l = (ts : List Ty) →
+    onto l.code.items
+    (call_code l.i l.free (places l.vars l.saved.items) (a_values (drop l.i l.values))
+    (top no_value (a_values l.values)) ts)
+    ≡ onto l.fn.code.items
+    (call_code 1 l.fn.above (homes l.vars) (others (a_values l.values)) (top no_value (a_values l.values)) ts)

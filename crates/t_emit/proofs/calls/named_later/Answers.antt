@@ -14,7 +14,9 @@ returns-then-names c =
     let k = top no_value (a_values vs) in
     let i = c.loop-i.i in
     let rest = later c.args.r m (a_values (drop (i + 1) vs)) k in
-    sym (ap (λ b. b || rest) (sym c.names.ensures ∙ c.if-names.true)) ∙ sym (later_next c.args.r m vs k i c.index-values-i.result c.loop-i-test.true c.index-values-i.is) ∙ c.loop-i.invariant
+    sym (ap (λ b. b || rest) (sym c.names.ensures ∙ c.if-names.true))
+    ∙ sym (later_next c.args.r m vs k i c.index-values-i.result c.loop-i-test.true c.index-values-i.is)
+    ∙ c.loop-i.invariant
 
 pub loop-i-preserved : goal.loop-i-preserved
 loop-i-preserved c =
@@ -23,10 +25,13 @@ loop-i-preserved c =
     let k = top no_value (a_values vs) in
     let i = c.loop-i.i in
     let rest = later c.args.r m (a_values (drop (i + 1) vs)) k in
-    sym (ap (λ b. b || rest) (sym c.names.ensures ∙ c.if-names.false)) ∙ sym (later_next c.args.r m vs k i c.index-values-i.result c.loop-i-test.true c.index-values-i.is) ∙ c.loop-i.invariant
+    sym (ap (λ b. b || rest) (sym c.names.ensures ∙ c.if-names.false))
+    ∙ sym (later_next c.args.r m vs k i c.index-values-i.result c.loop-i-test.true c.index-values-i.is)
+    ∙ c.loop-i.invariant
 
 pub returns : goal.returns
 returns c =
     let m = places c.args.vars.now c.args.saved.now in
     let vs = c.args.values.now in
-    c.names-2.ensures ∙ ap (reads c.args.r m) c.first.ensures ∙ later_end c.args.r m vs (top no_value (a_values vs)) c.loop-i.i c.loop-i-test.false ∙ c.loop-i.invariant
+    c.names-2.ensures ∙ ap (reads c.args.r m) c.first.ensures
+    ∙ later_end c.args.r m vs (top no_value (a_values vs)) c.loop-i.i c.loop-i-test.false ∙ c.loop-i.invariant

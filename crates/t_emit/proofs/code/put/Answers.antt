@@ -4,4 +4,5 @@ use Rattle.t_emit.proofs.Bodies.{onto_snoc}
 use Rattle.t_emit.proofs.code.put.Goals as goal
 
 pub returns : goal.returns
-returns c = λ rest. ap (λ xs. onto xs rest) c.in_ok-push.ensures.items ∙ onto_snoc c.args.code.now.items (c.args.i, _) rest
+returns c =
+    λ rest. ap (λ xs. onto xs rest) c.in_ok-push.ensures.items ∙ onto_snoc c.args.code.now.items (c.args.i, _) rest

@@ -4,4 +4,6 @@ use Rattle.t_emit.proofs.Emitted.{bare_some_wraps}
 use Rattle.t_emit.proofs.decls.bare_variable.Goals as goal
 
 pub returns-then-wraps-gt0 : goal.returns-then-wraps-gt0
-returns-then-wraps-gt0 c = bare_some_wraps (base c.args.v.now.base) c.args.v.now.wraps.items (omega (arith, c.if-wraps-gt0.true, ap length c.as_slice-wraps.ensures.value))
+returns-then-wraps-gt0 c =
+    bare_some_wraps (base c.args.v.now.base) c.args.v.now.wraps.items
+    (omega (arith, c.if-wraps-gt0.true, ap length c.as_slice-wraps.ensures.value))

@@ -17,6 +17,14 @@ returns c = λ rest.
     let t = c.in_ok-next.next in
     let less : c.saturating_sub-field.result ≡ i - 1 = omega (arith, c.saturating_sub-field.ensures) in
     c.in_ok-put.ensures rest ∙ c.in_ok-rs.ensures.code _ ∙ c.in_ok-emit_into.ensures _
-    ∙ ap (λ f. onto c.args.code.now.items (unnest t m v (move r (small t m v) (unnest t m w (settle t (small t m w) (Then (T.St r f c.in_ok-rs.rs) rest)))))) less
-    ∙ ap (λ q. onto c.args.code.now.items (unnest t m v (move r (small t m v) (unnest t m w (settle t (small t m w) (Then (T.St r (i - 1) q) rest)))))) c.in_ok-rs.ensures.value
-    ∙ ap (λ t. onto c.args.code.now.items (unnest t m v (move r (small t m v) (unnest t m w (settle t (small t m w) (Then (T.St r (i - 1) (home t (small t m w))) rest)))))) c.in_ok-next.ensures
+    ∙ ap (λ f. onto c.args.code.now.items
+    (unnest t m v
+    (move r (small t m v) (unnest t m w (settle t (small t m w) (Then (T.St r f c.in_ok-rs.rs) rest)))))) less
+    ∙ ap (λ q. onto c.args.code.now.items
+    (unnest t m v (move r (small t m v) (unnest t m w (settle t (small t m w) (Then (T.St r (i - 1) q) rest))))))
+    c.in_ok-rs.ensures.value
+    ∙ ap (λ t. onto c.args.code.now.items
+    (unnest t m v
+    (move r (small t m v)
+    (unnest t m w (settle t (small t m w) (Then (T.St r (i - 1) (home t (small t m w))) rest))))))
+    c.in_ok-next.ensures

@@ -18,11 +18,20 @@ returns-clause-code c = λ rest.
     let t0 = c.args.spare in
     let count : c.len-block.result ≡ length c.args.out.now.items = search rules in
     c.in_ok-put.ensures rest ∙ c.in_ok-r.ensures.code _
-    ∙ ap₂ (λ q ts. onto old (unnest t0 m v (settle t0 (small t0 m v) (Then (T.Bnz q (T.Plain (T.Label c.len-block.result) ts)) rest)))) c.in_ok-r.ensures.value c.in_ok-types.ensures
-    ∙ ap (λ n. onto old (unnest t0 m v (settle t0 (small t0 m v) (Then (T.Bnz (home t0 (small t0 m v)) (T.Plain (T.Label n) (tvars c.args.names))) rest)))) count
+    ∙ ap₂ (λ q ts.
+    onto old (unnest t0 m v
+    (settle t0 (small t0 m v) (Then (T.Bnz q (T.Plain (T.Label c.len-block.result) ts)) rest))))
+    c.in_ok-r.ensures.value c.in_ok-types.ensures
+    ∙ ap (λ n. onto old
+    (unnest t0 m v
+    (settle t0 (small t0 m v)
+    (Then (T.Bnz (home t0 (small t0 m v)) (T.Plain (T.Label n) (tvars c.args.names))) rest)))) count
 
 pub returns-clause-out : goal.returns-clause-out
 returns-clause-out c = λ u h.
     let m = homes c.args.vars.now in
     let g = scope c.args.names c.args.vars.now in
-    c.in_ok-reserve.ensures ∙ ap (λ f. blocks_of c.args.out.now.items ++ reserved c.args.names f ∷ []) (c.in_ok-registers.ensures ∙ chosen_is m g c.args.third.now u (omega (arith, length_homes c.args.vars.now, length_scope c.args.names c.args.vars.now)) h)
+    c.in_ok-reserve.ensures ∙ ap (λ f. blocks_of c.args.out.now.items ++ reserved c.args.names f ∷ [])
+    (c.in_ok-registers.ensures
+    ∙ chosen_is m g c.args.third.now u
+    (omega (arith, length_homes c.args.vars.now, length_scope c.args.names c.args.vars.now)) h)

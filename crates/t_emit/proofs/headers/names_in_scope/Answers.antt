@@ -8,6 +8,7 @@ pub loop-left-preserved : goal.loop-left-preserved
 loop-left-preserved c = record {
   made =
       ap (λ xs. map tree xs ++ tvars (c.loop-left.left - 1)) c.in_ok-push.ensures.items
-      ∙ names_step c.loop-left.types.items c.loop-left.left (c.loop-left.left - 1) (omega (arith, c.loop-left-test.true))
+      ∙ names_step c.loop-left.types.items c.loop-left.left (c.loop-left.left - 1)
+      (omega (arith, c.loop-left-test.true))
       ∙ c.loop-left.invariant.made;
 }

@@ -11,7 +11,8 @@ use Rattle.t_emit.proofs.Written.{args_push, written_push}
 use Rattle.t_emit.proofs.types.+writing.Goals as goal
 
 pub written-returns-in_ok-parts-in-Tuple : goal.written-returns-in_ok-parts-in-Tuple
-written-returns-in_ok-parts-in-Tuple t c = tree_Tuple c.in_ok-parts-in-Tuple.parts ∙ ap TupleTy c.in_ok-parts-in-Tuple.ensures ∙ ap ty (sym (is_tuple _ _ _ c.in-Tuple.is c.deref.ensures.value))
+written-returns-in_ok-parts-in-Tuple t c = tree_Tuple c.in_ok-parts-in-Tuple.parts
+    ∙ ap TupleTy c.in_ok-parts-in-Tuple.ensures ∙ ap ty (sym (is_tuple _ _ _ c.in-Tuple.is c.deref.ensures.value))
 
 pub written-returns-in_ok-regs-in-Code : goal.written-returns-in_ok-regs-in-Code
 written-returns-in_ok-regs-in-Code t c =
@@ -26,14 +27,21 @@ written-returns-in_ok-new-in-Exists t c =
 pub written_args-loop-t-preserved : goal.written_args-loop-t-preserved
 written_args-loop-t-preserved m c = record {
   at = omega (arith, c.loop-t.invariant.at);
-  made = args_push _ _ _ c.args.ts.now c.loop-t.t-index c.t-item.result _ c.loop-t.invariant.at c.loop-t-test.true c.t-item.is c.in_ok-push.ensures.items c.in_ok-one.ensures c.loop-t.invariant.made;
+  made = args_push _ _ _ c.args.ts.now c.loop-t.t-index c.t-item.result _ c.loop-t.invariant.at c.loop-t-test.true
+      c.t-item.is c.in_ok-push.ensures.items c.in_ok-one.ensures c.loop-t.invariant.made;
 }
 
 pub written_args-returns : goal.written_args-returns
-written_args-returns t c = c.loop-t.invariant.made ∙ ap (λ xs. ty_args (atrees xs) 1) (take_all c.loop-t.t-index c.args.ts.now c.loop-t-test.false)
+written_args-returns t c =
+    c.loop-t.invariant.made
+    ∙ ap (λ xs. ty_args (atrees xs) 1) (take_all c.loop-t.t-index c.args.ts.now c.loop-t-test.false)
 
 pub written_fields-loop-t-preserved : goal.written_fields-loop-t-preserved
-written_fields-loop-t-preserved m c = written_push _ _ c.args.ts.now c.loop-t.t-index c.t-item.result _ c.loop-t-test.true c.t-item.is c.in_ok-push.ensures.items c.in_ok-one.ensures c.loop-t.invariant
+written_fields-loop-t-preserved m c =
+    written_push _ _ c.args.ts.now c.loop-t.t-index c.t-item.result _ c.loop-t-test.true c.t-item.is
+    c.in_ok-push.ensures.items c.in_ok-one.ensures c.loop-t.invariant
 
 pub written_fields-returns : goal.written_fields-returns
-written_fields-returns t c = c.loop-t.invariant ∙ ap (λ xs. ty_fields (afields xs)) (take_all c.loop-t.t-index c.args.ts.now c.loop-t-test.false)
+written_fields-returns t c =
+    c.loop-t.invariant
+    ∙ ap (λ xs. ty_fields (afields xs)) (take_all c.loop-t.t-index c.args.ts.now c.loop-t-test.false)

@@ -10,7 +10,11 @@ pub loop-t-init : goal.loop-t-init
 loop-t-init c = types_none (types c.args.before.items)
 
 pub loop-t-preserved : goal.loop-t-preserved
-loop-t-preserved c = types_push _ _ _ c.args.ts.now c.loop-t.t-index c.t-item.result _ c.loop-t-test.true c.t-item.is c.in_ok-push.ensures.items c.in_ok-one.ensures c.loop-t.invariant
+loop-t-preserved c =
+    types_push _ _ _ c.args.ts.now c.loop-t.t-index c.t-item.result _ c.loop-t-test.true c.t-item.is
+    c.in_ok-push.ensures.items c.in_ok-one.ensures c.loop-t.invariant
 
 pub returns : goal.returns
-returns c = c.loop-t.invariant ∙ ap (λ xs. types c.args.before.items ++ tys (atrees xs)) (take_all c.loop-t.t-index c.args.ts.now c.loop-t-test.false)
+returns c = c.loop-t.invariant
+    ∙ ap (λ xs. types c.args.before.items ++ tys (atrees xs))
+    (take_all c.loop-t.t-index c.args.ts.now c.loop-t-test.false)

@@ -8,4 +8,6 @@ use Rattle.t_emit.proofs.values.emit_into.Goals as goal
 pub returns : goal.returns
 returns c = λ rest.
     c.in_ok-emit_move.ensures rest ∙ c.in_ok-held.ensures.code _
-    ∙ ap (λ x. onto c.args.code.now.items (unnest c.args.spare (homes c.args.vars.now) (a_value c.args.v.now) (move c.args.r x rest))) c.in_ok-held.ensures.value
+    ∙ ap (λ x. onto c.args.code.now.items
+    (unnest c.args.spare (homes c.args.vars.now) (a_value c.args.v.now) (move c.args.r x rest)))
+    c.in_ok-held.ensures.value

@@ -11,4 +11,6 @@ returns-clause-value c = c.in_ok-r.ensures.value ∙ ap (home c.args.spare) c.in
 pub returns-clause-code : goal.returns-clause-code
 returns-clause-code c = λ rest.
     c.in_ok-r.ensures.code rest ∙ c.in_ok-held.ensures.code _
-    ∙ ap (λ x. onto c.args.code.now.items (unnest c.args.spare (homes c.args.vars.now) (a_value c.args.v.now) (settle c.args.spare x rest))) c.in_ok-held.ensures.value
+    ∙ ap (λ x. onto c.args.code.now.items
+    (unnest c.args.spare (homes c.args.vars.now) (a_value c.args.v.now) (settle c.args.spare x rest)))
+    c.in_ok-held.ensures.value

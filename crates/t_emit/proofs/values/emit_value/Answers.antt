@@ -7,8 +7,13 @@ use Rattle.t_emit.proofs.values.emit_value.Goals as goal
 
 pub returns-clause-value : goal.returns-clause-value
 returns-clause-value c =
-    c.in_ok-made.ensures.value ∙ ap (λ xs. small c.args.spare (after_saves xs (homes c.args.vars.now)) (a_value c.args.v.now)) (c.deref.ensures.value ∙ c.new-saved.ensures.items)
+    c.in_ok-made.ensures.value
+    ∙ ap (λ xs. small c.args.spare (after_saves xs (homes c.args.vars.now)) (a_value c.args.v.now))
+    (c.deref.ensures.value ∙ c.new-saved.ensures.items)
 
 pub returns-clause-code : goal.returns-clause-code
 returns-clause-code c = λ rest.
-    c.in_ok-made.ensures.code rest ∙ ap (λ xs. onto c.args.code.now.items (unnest c.args.spare (after_saves xs (homes c.args.vars.now)) (a_value c.args.v.now) rest)) (c.deref.ensures.value ∙ c.new-saved.ensures.items)
+    c.in_ok-made.ensures.code rest
+    ∙ ap (λ xs. onto c.args.code.now.items
+    (unnest c.args.spare (after_saves xs (homes c.args.vars.now)) (a_value c.args.v.now) rest))
+    (c.deref.ensures.value ∙ c.new-saved.ensures.items)

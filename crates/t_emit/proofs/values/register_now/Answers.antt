@@ -4,7 +4,8 @@ use Rattle.t_emit.proofs.values.register_now.Goals as goal
 
 pub returns-then-n-count : goal.returns-then-n-count
 returns-then-n-count c =
-    register_in c.args.vars.now [] c.args.n (length c.args.vars.now - 1 - c.args.n) c.index-vars-count.result (omega (arith, c.if-n-count.true)) c.index-vars-count.is
+    register_in c.args.vars.now [] c.args.n (length c.args.vars.now - 1 - c.args.n) c.index-vars-count.result
+    (omega (arith, c.if-n-count.true)) c.index-vars-count.is
 
 pub returns-else-n-count : goal.returns-else-n-count
 returns-else-n-count c = register_out c.args.vars.now [] c.args.n (omega (arith, c.if-n-count.false))

@@ -32,4 +32,5 @@ spilled_type-returns-in_ok-fs-in-Tuple t c =
 
 pub spilled_fields-returns : goal.spilled_fields-returns
 spilled_fields-returns t c =
-    made_fields c.args.split.low c.loop-field.made.items c.args.fs.now c.loop-field.field-index c.loop-field.invariant c.loop-field-test.false
+    made_fields c.args.split.low c.loop-field.made.items c.args.fs.now c.loop-field.field-index c.loop-field.invariant
+    c.loop-field-test.false

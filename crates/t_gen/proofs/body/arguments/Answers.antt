@@ -12,11 +12,21 @@ use Rattle.t_gen.proofs.body.arguments.Goals as goal
 
 pub loop-t-preserved : goal.loop-t-preserved
 loop-t-preserved c = record {
-  made = argument_push c.args.owes _ _ c.placed.result c.args.args.now c.loop-t.t-index c.t-item.result c.loop-t-test.true
+  made =
+      argument_push c.args.owes _ _ c.placed.result c.args.args.now c.loop-t.t-index c.t-item.result c.loop-t-test.true
       c.t-item.is c.in_ok-push.ensures.items (c.placed.ensures.names ∙ c.noted_lent-noted.ensures.names)
-      (c.placed.ensures.shown c.args.owes ∙ shown_own c.args.owes c.noted_lent-noted.result c.noted_lent-noted.ensures.names ∙ c.noted_lent-noted.ensures.ty) c.loop-t.invariant.made;
-  homes = home_push _ _ c.placed.result c.args.args.now c.loop-t.t-index c.t-item.result c.loop-t-test.true c.t-item.is c.in_ok-push.ensures.items (omega (arith, c.placed.ensures.register, c.loop-t.invariant.long)) c.loop-t.invariant.homes;
-  long = omega (arith, c.loop-t.invariant.long, ap length c.in_ok-push.ensures.items, length-append c.loop-t.vars.items (c.placed.result ∷ []));
+      (c.placed.ensures.shown c.args.owes
+      ∙ shown_own c.args.owes c.noted_lent-noted.result c.noted_lent-noted.ensures.names
+      ∙ c.noted_lent-noted.ensures.ty) c.loop-t.invariant.made;
+  homes = home_push _ _ c.placed.result c.args.args.now c.loop-t.t-index c.t-item.result c.loop-t-test.true c.t-item.is
+      c.in_ok-push.ensures.items (omega (arith, c.placed.ensures.register, c.loop-t.invariant.long))
+      c.loop-t.invariant.homes;
+  long = omega (
+    arith,
+    c.loop-t.invariant.long,
+    ap length c.in_ok-push.ensures.items,
+    length-append c.loop-t.vars.items (c.placed.result ∷ []),
+  );
   under = subst (Under c.args.owes) (sym c.in_ok-push.ensures.items)
       (under_push c.args.owes c.args.owes c.loop-t.vars.items _ c.loop-t.invariant.under (omega arith)
       (omega (arith, c.placed.ensures.names, c.noted_lent-noted.ensures.names)));

@@ -11,6 +11,8 @@ use Rattle.t_gen.proofs.body.emit_body.Given as goal
 abbrev pub invariant-loop-node : goal.invariant-loop-node
 invariant-loop-node l = record {
   told : Told (drop l.node-index l.nodes) (back l.aheads.items);
-  walked : Walked (program_in l.program) (drop l.node-index l.nodes) l.walk.vars.items l.walk.places.items l.out.items l.walk.code.items
-      (finish (program_in l.program) (length (blocks_of l.fn.out.items)) (blocks_of l.fn.out.items) (body_job l.block l.names (homes l.fn.vars.items) (scope l.names l.fn.vars.items) l.nodes ∷ []));
+  walked : Walked (program_in l.program) (drop l.node-index l.nodes) l.walk.vars.items l.walk.places.items l.out.items
+      l.walk.code.items
+      (finish (program_in l.program) (length (blocks_of l.fn.out.items)) (blocks_of l.fn.out.items)
+      (body_job l.block l.names (homes l.fn.vars.items) (scope l.names l.fn.vars.items) l.nodes ∷ []));
 }

@@ -19,5 +19,7 @@ returns c = λ h k.
     let m = homes c.args.vars.now in
     let n = c.args.n in
     let it = sym c.is_it.ensures ∙ c.if-is_it.false in
-    holds_same c.release.new.self (λ r. h r && not (c.register_now.result == r)) (λ r. h r && not (not (is_one c.args.but n) && place m n == r)) (c.in_ok-release.ensures h k)
-    (λ r le. ap (λ q. h r && not (q == r)) c.register_now.ensures ∙ sym (ap (λ b. h r && not (not b && place m n == r)) it))
+    holds_same c.release.new.self (λ r. h r && not (c.register_now.result == r))
+    (λ r. h r && not (not (is_one c.args.but n) && place m n == r)) (c.in_ok-release.ensures h k)
+    (λ r le. ap (λ q. h r && not (q == r)) c.register_now.ensures
+    ∙ sym (ap (λ b. h r && not (not b && place m n == r)) it))

@@ -17,7 +17,8 @@ emit_body-requires c = record {
 
 pub emit_block-requires : goal.emit_block-requires
 emit_block-requires c = record {
-  one = rows_at c.args.blocks.now c.loop-i.i c.index-blocks-i.result c.loop-i-test.true c.index-blocks-i.is c.requires.rows;
+  one = rows_at c.args.blocks.now c.loop-i.i c.index-blocks-i.result c.loop-i-test.true c.index-blocks-i.is
+      c.requires.rows;
   at = omega (arith, c.loop-i.invariant.long, c.loop-i-test.true);
 }
 
@@ -25,17 +26,33 @@ pub loop-i-init : goal.loop-i-init
 loop-i-init c =
     let prog = program_in c.args.program.now in
     record {
-      long = omega (arith, begins_long prog c.args.blocks.now c.args.main.now c.new.result.items (blocks_of c.in_ok-out.out.items) _ c.in_ok-out.ensures c.in_ok-emit_body.ensures, blocks_count c.emit_body.new.out.items);
-      rest = begins prog c.args.blocks.now c.args.main.now c.new.result.items (blocks_of c.in_ok-out.out.items) _ c.requires.same c.in_ok-out.ensures c.new.ensures.items c.in_ok-emit_body.ensures;
+      long = omega (
+        arith,
+        begins_long prog c.args.blocks.now c.args.main.now c.new.result.items
+            (blocks_of c.in_ok-out.out.items) _ c.in_ok-out.ensures c.in_ok-emit_body.ensures,
+        blocks_count c.emit_body.new.out.items,
+      );
+      rest = begins prog c.args.blocks.now c.args.main.now c.new.result.items (blocks_of c.in_ok-out.out.items) _
+          c.requires.same c.in_ok-out.ensures c.new.ensures.items c.in_ok-emit_body.ensures;
     }
 
 pub loop-i-preserved : goal.loop-i-preserved
 loop-i-preserved c =
     let prog = program_in c.args.program.now in
     record {
-      long = omega (arith, c.loop-i.invariant.long, block_long prog (c.loop-i.i + 1) c.index-blocks-i.result (blocks_of c.loop-i.out.items) (blocks_of c.emit_block.new.out.items) c.in_ok-emit_block.ensures, blocks_count c.loop-i.out.items, blocks_count c.emit_block.new.out.items);
-      rest = block_next prog c.args.blocks.now c.loop-i.i c.index-blocks-i.result (blocks_of c.loop-i.out.items) (blocks_of c.emit_block.new.out.items) _ c.loop-i-test.true c.index-blocks-i.is c.in_ok-emit_block.ensures c.loop-i.invariant.rest;
+      long = omega (
+        arith,
+        c.loop-i.invariant.long,
+        block_long prog (c.loop-i.i + 1) c.index-blocks-i.result (blocks_of c.loop-i.out.items)
+            (blocks_of c.emit_block.new.out.items) c.in_ok-emit_block.ensures,
+        blocks_count c.loop-i.out.items,
+        blocks_count c.emit_block.new.out.items,
+      );
+      rest = block_next prog c.args.blocks.now c.loop-i.i c.index-blocks-i.result (blocks_of c.loop-i.out.items)
+          (blocks_of c.emit_block.new.out.items) _ c.loop-i-test.true c.index-blocks-i.is c.in_ok-emit_block.ensures
+          c.loop-i.invariant.rest;
     }
 
 pub returns : goal.returns
-returns c = blocks_end (program_in c.args.program.now) c.args.blocks.now c.loop-i.i (blocks_of c.loop-i.out.items) _ c.loop-i-test.false c.loop-i.invariant.rest
+returns c = blocks_end (program_in c.args.program.now) c.args.blocks.now c.loop-i.i (blocks_of c.loop-i.out.items) _
+    c.loop-i-test.false c.loop-i.invariant.rest

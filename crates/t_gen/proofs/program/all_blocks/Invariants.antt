@@ -9,5 +9,6 @@ use Rattle.t_gen.proofs.program.all_blocks.Given as goal
 abbrev pub invariant-loop-i : goal.invariant-loop-i
 invariant-loop-i l = record {
   long : suc (length l.blocks) ≤ length l.out.items;
-  rest : finish (program_in l.program) (length (blocks_of l.out.items)) (blocks_of l.out.items) (jobs (l.i + 1) (a_blocks (drop l.i l.blocks))) ≡ generated_blocks (program_in l.program) (a_tree l.main);
+  rest : finish (program_in l.program) (length (blocks_of l.out.items)) (blocks_of l.out.items)
+      (jobs (l.i + 1) (a_blocks (drop l.i l.blocks))) ≡ generated_blocks (program_in l.program) (a_tree l.main);
 }

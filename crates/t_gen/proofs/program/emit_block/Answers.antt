@@ -23,5 +23,10 @@ returns c =
     let prog = program_in c.args.program.now in
     let o = blocks_of c.args.out.now.items in
     c.in_ok-emit_body.ensures
-    ∙ ap (λ m. finish prog (length o) o (body_job c.args.at c.args.block.now.owes m (scope c.args.block.now.owes c.in_ok-vars.vars.items) c.deref-2.result.now ∷ [])) (c.in_ok-vars.ensures.homes ∙ ap (λ xs. rows (arity (atrees xs))) c.deref.ensures.value)
-    ∙ ap₂ (λ g ns. finish prog (length o) o (body_job c.args.at c.args.block.now.owes (rows (arity (atrees c.args.block.now.args.items))) g ns ∷ [])) (c.in_ok-vars.ensures.scope ∙ ap (λ xs. types_of (atrees xs) []) c.deref.ensures.value) c.deref-2.ensures.value
+    ∙ ap (λ m. finish prog (length o) o
+    (body_job c.args.at c.args.block.now.owes m (scope c.args.block.now.owes c.in_ok-vars.vars.items)
+    c.deref-2.result.now ∷ []))
+    (c.in_ok-vars.ensures.homes ∙ ap (λ xs. rows (arity (atrees xs))) c.deref.ensures.value)
+    ∙ ap₂ (λ g ns. finish prog (length o) o
+    (body_job c.args.at c.args.block.now.owes (rows (arity (atrees c.args.block.now.args.items))) g ns ∷ []))
+    (c.in_ok-vars.ensures.scope ∙ ap (λ xs. types_of (atrees xs) []) c.deref.ensures.value) c.deref-2.ensures.value

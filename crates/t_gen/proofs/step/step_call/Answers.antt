@@ -26,9 +26,13 @@ returns c = λ bs rest f k.
     let t = a.Call v ts vs in
     let m = homes es in
     let k0 = keeps_first p (tops ps) es t rest c.requires.vars k in
-    let free : c.in_ok-above.above ≡ above m v vs = c.in_ok-above.ensures m (used t) k0 ∙ ap (λ b. suc (greatest b m (used t))) (sym (length_arguments c.args.values.now)) in
+    let free : c.in_ok-above.above ≡ above m v vs = c.in_ok-above.ensures m (used t) k0
+    ∙ ap (λ b. suc (greatest b m (used t))) (sym (length_arguments c.args.values.now)) in
     end_stepped bs p t rest es ps c.args.out.now.items c.close_block.new.out.items old c.close_block.new.code.items
     c.requires.vars c.close_block.ensures.empty
     (c.close_block.ensures.filled
-    ∙ ap (λ x. fill p.block x o) (c.in_ok-end.ensures ∙ ap (λ (xs : List Entry). onto old (call_code 1 c.in_ok-above.above (homes xs) vs v (tys ts))) c.deref.ensures.value ∙ ap (λ b. onto old (call_code 1 b m vs v (tys ts))) free))
+    ∙ ap (λ x. fill p.block x o)
+    (c.in_ok-end.ensures
+    ∙ ap (λ (xs : List Entry). onto old (call_code 1 c.in_ok-above.above (homes xs) vs v (tys ts)))
+    c.deref.ensures.value ∙ ap (λ b. onto old (call_code 1 b m vs v (tys ts))) free))
     f (λ out at k m g js. call_step bs at out (onto old) p.block k m g v ts vs js) k

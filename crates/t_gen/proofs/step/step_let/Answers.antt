@@ -15,7 +15,9 @@ use Rattle.t_gen.specs.declared.state.Place.{Place}
 use Rattle.t_gen.proofs.step.step_let.Goals as goal
 
 pub declare-requires-clause-under : goal.declare-requires-clause-under
-declare-requires-clause-under c = subst (Under c.args.place.names) (whole c.args.walk.now.vars.items c.args.place.vars (omega (arith, c.requires.vars))) c.requires.fit.1.2
+declare-requires-clause-under c =
+    subst (Under c.args.place.names)
+    (whole c.args.walk.now.vars.items c.args.place.vars (omega (arith, c.requires.vars))) c.requires.fit.1.2
 
 pub returns : goal.returns
 returns c = λ o ts told f k.
@@ -26,15 +28,22 @@ returns c = λ o ts told f k.
     let p = c.args.place in
     let rd = c.in_ok-rd.rd in
     let old = c.args.walk.now.code.items in
-    let k0 : Keeps p.registers m (used (a.Let x e)) = keeps_first p (tops c.args.walk.now.places.items) es (a.Let x e) (others ts) c.requires.vars k in
+    let k0 : Keeps p.registers m (used (a.Let x e)) =
+    keeps_first p (tops c.args.walk.now.places.items) es (a.Let x e) (others ts) c.requires.vars k in
     let spare : c.in_ok-spare.spare ≡ over m (used (a.Let x e)) = c.in_ok-spare.ensures m (used (a.Let x e)) k0 in
     let rs = c.choose.new.registers in
-    let r = subst (λ (xs : List Entry). (rd ≡ target (homes xs) x e) × Keeps rs (rd ∷ homes xs) (used e)) c.deref.ensures.value
-    (c.in_ok-rd.ensures e told (subst (λ (xs : List Entry). Keeps p.registers (homes xs) (used (a.Let x e))) (sym c.deref.ensures.value) k0)) in
+    let r = subst (λ (xs : List Entry). (rd ≡ target (homes xs) x e) × Keeps rs (rd ∷ homes xs) (used e))
+    c.deref.ensures.value
+    (c.in_ok-rd.ensures e told
+    (subst (λ (xs : List Entry). Keeps p.registers (homes xs) (used (a.Let x e))) (sym c.deref.ensures.value)
+    k0)) in
     let all : c.len-vars.result ≡ length c.declare.new.vars.items = search rules in
     let q : Place = record { block = p.block; names = c.in_ok-names.names; vars = c.len-vars.result; registers = rs } in
     let n = c.in_ok-names.ensures.more in
-    let_stepped (program_in c.args.program.now) p q x ts es c.declare.new.vars.items n.0 c.args.walk.now.places.items _ o old _
+    let_stepped (program_in c.args.program.now) p q x ts es c.declare.new.vars.items n.0 c.args.walk.now.places.items _
+    o old _
     c.requires.vars n.3 n.1 c.in_ok-names.ensures.scope (n.2 ∙ r.0)
-    (λ rest. c.in_ok-emit_declaration.ensures rest ∙ ap (λ (xs : List Entry). onto old (decl_code c.in_ok-spare.spare (homes xs) rd x rest)) c.deref-2.ensures.value ∙ ap₂ (λ t i. onto old (decl_code t m i x rest)) spare r.0)
+    (λ rest. c.in_ok-emit_declaration.ensures rest
+    ∙ ap (λ (xs : List Entry). onto old (decl_code c.in_ok-spare.spare (homes xs) rd x rest))
+    c.deref-2.ensures.value ∙ ap₂ (λ t i. onto old (decl_code t m i x rest)) spare r.0)
     c.in_ok-push.ensures.items refl c.in_ok-names.ensures.names all f k (subst (λ i. Keeps rs (i ∷ m) (used e)) r.0 r.1)

@@ -7,7 +7,9 @@ use Rattle.t_lexer.specs.Kept.{tokens_of}
 use Rattle.t_grammar.proofs.names.names.Given as goal
 
 abbrev pub invariant-loop-names : goal.invariant-loop-names
-invariant-loop-names l = ReadsSome LNames (Nt LMoreNames ∷ (Tm want.RightBracket ∷ (Do MakeClosedNames ∷ []))) (tokens_of l.tokens) l.depth l.at l.next (OfNames l.names.items)
+invariant-loop-names l =
+    ReadsSome LNames (Nt LMoreNames ∷ (Tm want.RightBracket ∷ (Do MakeClosedNames ∷ []))) (tokens_of l.tokens) l.depth
+    l.at l.next (OfNames l.names.items)
 
 abbrev pub decreases-loop-names : goal.decreases-loop-names
 decreases-loop-names l = length (tokens_of l.tokens) - l.next

@@ -5,10 +5,16 @@ use Rattle.idx_core.specs.declared.span.Span.{Span}
 use Rattle.text_core.specs.Table.{Tm, Nt, Do, Mark}
 use Rattle.text_core.specs.Going.{at_the_end, other}
 use Rattle.t_terms.specs.declared.wanted.Wanted.TheVariants as want
-use Rattle.t_terms.specs.GrammarTable.{LBinds, LFile, LRegs, LMoreRegs, MakeFile, MakeFirstReg, MakeNextReg, MakeClosedRegs, LT, LFields, LMoreFields, MakeFirstField, MakeNextField, MakeClosedFields, MakeTypeInt, MakeTypeName, MakeTypeCode, MakeTypeSome, MakeTypeTuple, type_after}
+use Rattle.t_terms.specs.GrammarTable.{LBinds, LFile, LRegs, LMoreRegs, MakeFile, MakeFirstReg, MakeNextReg}
+use Rattle.t_terms.specs.GrammarTable.{MakeClosedRegs, LT, LFields, LMoreFields, MakeFirstField, MakeNextField}
+use Rattle.t_terms.specs.GrammarTable.{MakeClosedFields, MakeTypeInt, MakeTypeName, MakeTypeCode, MakeTypeSome}
+use Rattle.t_terms.specs.GrammarTable.{MakeTypeTuple, type_after}
 use Rattle.t_grammar.specs.declared.raw.RawType.{RawType}
 use Rattle.t_grammar.specs.Reads.{entry_owed, field_owed}
-use Rattle.t_grammar.proofs.Stepping.{within, start, begins, by_token, by_two, by_call, by_do, by_mark, by_same, stop_token, stop_two, stop_call, stop_deep, stop_lacks, not_opening, too_deep, bracketed, bracketed_stops, list_first, list_first_stops, list_next, list_next_stops, list_whole, list_close_stops}
+use Rattle.t_grammar.proofs.Stepping.{within, start, begins, by_token, by_two, by_call, by_do, by_mark, by_same}
+use Rattle.t_grammar.proofs.Stepping.{stop_token, stop_two, stop_call, stop_deep, stop_lacks, not_opening, too_deep}
+use Rattle.t_grammar.proofs.Stepping.{bracketed, bracketed_stops, list_first, list_first_stops, list_next}
+use Rattle.t_grammar.proofs.Stepping.{list_next_stops, list_whole, list_close_stops}
 use Rattle.t_grammar.proofs.Lines.{opens_file, list_regs, list_fields, no_type}
 use Rattle.t_grammar.proofs.Empty.{regs_empty, fields_empty}
 use Rattle.t_grammar.proofs.Raws.{raw_Tuple, raw_Code, regs_more, fields_more, reg_is, field_is}
@@ -21,7 +27,8 @@ entry-returns-in_err-reg t c =
     let d = c.args.depth in
     let i = c.args.at in
     let p = err_from_is_err_and c.from_residual.result c.from_residual.ensures.1 in
-    rw (p.1, p.2) (stop_token _ want.Register (Tm want.Colon ∷ (Nt LT ∷ [])) [] (start ts d i entry_owed) c.in_err-reg.ensures)
+    rw (p.1, p.2)
+    (stop_token _ want.Register (Tm want.Colon ∷ (Nt LT ∷ [])) [] (start ts d i entry_owed) c.in_err-reg.ensures)
 
 pub entry-returns-in_err-expect : goal.entry-returns-in_err-expect
 entry-returns-in_err-expect t c =
@@ -46,7 +53,8 @@ entry-returns-in_err-found t c =
     let d = c.args.depth in
     let i = c.args.at in
     let g = c.in_ok-reg.ensures in
-    let m = by_two want.Register want.Colon g.0 _ (Nt LT ∷ []) [] (start ts d i entry_owed) (g.1, c.in_ok-expect.ensures) (omega arith) in
+    let m = by_two want.Register want.Colon g.0 _ (Nt LT ∷ []) [] (start ts d i entry_owed)
+    (g.1, c.in_ok-expect.ensures) (omega arith) in
     let p = err_from_is_err_and c.from_residual-in_err-found.result c.from_residual-in_err-found.ensures.1 in
     rw (p.1, p.2) (stop_call _ (Nt LT ∷ []) d [] _ m (omega arith) c.in_err-found.ensures)
 
@@ -56,7 +64,8 @@ entry-returns t c =
     let d = c.args.depth in
     let i = c.args.at in
     let g = c.in_ok-reg.ensures in
-    let m = by_two want.Register want.Colon g.0 _ (Nt LT ∷ []) [] (start ts d i entry_owed) (g.1, c.in_ok-expect.ensures) (omega arith) in
+    let m = by_two want.Register want.Colon g.0 _ (Nt LT ∷ []) [] (start ts d i entry_owed)
+    (g.1, c.in_ok-expect.ensures) (omega arith) in
     let f = c.in_ok-found.found in
     let r = c.in_ok-found.ensures in
     record {
@@ -64,7 +73,11 @@ entry-returns t c =
       colon = _;
       ty = _;
       is = reg_is _ g.0 f.ty g.2;
-      reads = record { forward = omega (arith, r.forward); in_range = r.in_range; same = by_call d [] _ m (omega arith) r.same };
+      reads = record {
+        forward = omega (arith, r.forward);
+        in_range = r.in_range;
+        same = by_call d [] _ m (omega arith) r.same;
+      };
     }
 
 pub field-returns-in_err-expect : goal.field-returns-in_err-expect
@@ -72,7 +85,8 @@ field-returns-in_err-expect t c =
     let ts = tokens_of c.args.tokens.now in
     let d = c.args.depth in
     let i = c.args.at in
-    let m = by_call d (Tm want.Caret ∷ (Tm want.Flag ∷ [])) [] (start ts d i field_owed) (omega arith) c.in_ok-found.ensures.same in
+    let m = by_call d (Tm want.Caret ∷ (Tm want.Flag ∷ [])) [] (start ts d i field_owed)
+    (omega arith) c.in_ok-found.ensures.same in
     let p = err_from_is_err_and c.from_residual-in_err-expect.result c.from_residual-in_err-expect.ensures.1 in
     rw (p.1, p.2) (stop_token _ want.Caret (Tm want.Flag ∷ []) _ m c.in_err-expect.ensures)
 
@@ -81,7 +95,8 @@ field-returns-in_err-flag t c =
     let ts = tokens_of c.args.tokens.now in
     let d = c.args.depth in
     let i = c.args.at in
-    let m = by_call d (Tm want.Caret ∷ (Tm want.Flag ∷ [])) [] (start ts d i field_owed) (omega arith) c.in_ok-found.ensures.same in
+    let m = by_call d (Tm want.Caret ∷ (Tm want.Flag ∷ [])) [] (start ts d i field_owed)
+    (omega arith) c.in_ok-found.ensures.same in
     let n = by_token want.Caret _ (Tm want.Flag ∷ []) _ m c.in_ok-expect.ensures (omega arith) in
     let p = err_from_is_err_and c.from_residual-in_err-flag.result c.from_residual-in_err-flag.ensures.1 in
     rw (p.1, p.2) (stop_token _ want.Flag [] _ n c.in_err-flag.ensures)
@@ -91,7 +106,8 @@ field-returns t c =
     let ts = tokens_of c.args.tokens.now in
     let d = c.args.depth in
     let i = c.args.at in
-    let m = by_call d (Tm want.Caret ∷ (Tm want.Flag ∷ [])) [] (start ts d i field_owed) (omega arith) c.in_ok-found.ensures.same in
+    let m = by_call d (Tm want.Caret ∷ (Tm want.Flag ∷ [])) [] (start ts d i field_owed)
+    (omega arith) c.in_ok-found.ensures.same in
     let f = c.in_ok-found.found in
     let r = c.in_ok-found.ensures in
     let g = c.in_ok-flag.ensures in
@@ -101,7 +117,11 @@ field-returns t c =
       caret = _;
       flag = g.0;
       is = field_is _ g.0 f.ty g.2;
-      reads = record { forward = omega (arith, r.forward); in_range = omega (arith, l); same = by_two want.Caret want.Flag _ g.0 [] _ m (c.in_ok-expect.ensures, g.1) (omega arith) };
+      reads = record {
+        forward = omega (arith, r.forward);
+        in_range = omega (arith, l);
+        same = by_two want.Caret want.Flag _ g.0 [] _ m (c.in_ok-expect.ensures, g.1) (omega arith);
+      };
     }
 
 pub regs-returns-in-Some : goal.regs-returns-in-Some
@@ -117,7 +137,9 @@ regs-returns-in_err-first t c =
     let d = c.args.depth in
     let i = c.args.at in
     let p = err_from_is_err_and c.from_residual.result c.from_residual.ensures.1 in
-    rw (p.1, p.2) (list_first_stops LRegs LMoreRegs want.RightBrace entry_owed MakeFirstReg MakeNextReg MakeClosedRegs list_regs ts d i _ (sym c.take.ensures ∙ c.in_default.is) c.in_err-first.ensures)
+    rw (p.1, p.2)
+    (list_first_stops LRegs LMoreRegs want.RightBrace entry_owed MakeFirstReg MakeNextReg MakeClosedRegs list_regs
+    ts d i _ (sym c.take.ensures ∙ c.in_default.is) c.in_err-first.ensures)
 
 pub regs-loop-regs-init : goal.regs-loop-regs-init
 regs-loop-regs-init t c =
@@ -126,8 +148,11 @@ regs-loop-regs-init t c =
     let i = c.args.at in
     let f = c.in_ok-first.first in
     let r = c.in_ok-first.ensures in
-    let e : c.push.new.self.items ≡ f.entry ∷ [] = c.in_ok-push.ensures.items ∙ ap (λ (xs : List (ℕ × Span × RawType)). xs ++ f.entry ∷ []) c.new-regs.ensures.items in
-    rw (e, r.is) (list_first LRegs LMoreRegs want.RightBrace entry_owed MakeFirstReg MakeNextReg MakeClosedRegs list_regs ts d i f.next _ _ (sym c.take.ensures ∙ c.in_default.is) r.reads (λ below. refl))
+    let e : c.push.new.self.items ≡ f.entry ∷ [] = c.in_ok-push.ensures.items
+    ∙ ap (λ (xs : List (ℕ × Span × RawType)). xs ++ f.entry ∷ []) c.new-regs.ensures.items in
+    rw (e, r.is)
+    (list_first LRegs LMoreRegs want.RightBrace entry_owed MakeFirstReg MakeNextReg MakeClosedRegs list_regs ts d i
+    f.next _ _ (sym c.take.ensures ∙ c.in_default.is) r.reads (λ below. refl))
 
 pub regs-entry-requires-in-Some-take : goal.regs-entry-requires-in-Some-take
 regs-entry-requires-in-Some-take t c =
@@ -145,7 +170,10 @@ regs-returns-in_err-found t c =
     let d = c.args.depth in
     let i = c.args.at in
     let p = err_from_is_err_and c.from_residual-in_err-found.result c.from_residual-in_err-found.ensures.1 in
-    rw (p.1, p.2) (list_next_stops LRegs LMoreRegs want.RightBrace entry_owed MakeFirstReg MakeNextReg MakeClosedRegs list_regs ts d i c.loop-regs.next _ _ _ c.requires.depth c.loop-regs.invariant (sym c.take-in-loop-regs.ensures ∙ c.in-Some-take.is) c.in_err-found.ensures)
+    rw (p.1, p.2)
+    (list_next_stops LRegs LMoreRegs want.RightBrace entry_owed MakeFirstReg MakeNextReg MakeClosedRegs list_regs
+    ts d i c.loop-regs.next _ _ _ c.requires.depth c.loop-regs.invariant
+    (sym c.take-in-loop-regs.ensures ∙ c.in-Some-take.is) c.in_err-found.ensures)
 
 pub regs-loop-regs-preserved : goal.regs-loop-regs-preserved
 regs-loop-regs-preserved t c =
@@ -155,7 +183,9 @@ regs-loop-regs-preserved t c =
     let f = c.in_ok-found.found in
     let r = c.in_ok-found.ensures in
     rw (regs_more c.loop-regs.regs.items _ f.entry c.in_ok-push-2.ensures.items, r.is)
-    (list_next LRegs LMoreRegs want.RightBrace entry_owed MakeFirstReg MakeNextReg MakeClosedRegs list_regs ts d i c.loop-regs.next f.next _ _ _ _ c.requires.depth c.loop-regs.invariant (sym c.take-in-loop-regs.ensures ∙ c.in-Some-take.is) r.reads (λ below. refl))
+    (list_next LRegs LMoreRegs want.RightBrace entry_owed MakeFirstReg MakeNextReg MakeClosedRegs list_regs ts d i
+    c.loop-regs.next f.next _ _ _ _ c.requires.depth c.loop-regs.invariant
+    (sym c.take-in-loop-regs.ensures ∙ c.in-Some-take.is) r.reads (λ below. refl))
 
 pub regs-returns-in_err-close : goal.regs-returns-in_err-close
 regs-returns-in_err-close t c =
@@ -163,21 +193,27 @@ regs-returns-in_err-close t c =
     let d = c.args.depth in
     let i = c.args.at in
     let p = err_from_is_err_and c.from_residual-in_err-close.result c.from_residual-in_err-close.ensures.1 in
-    rw (p.1, p.2) (list_close_stops LRegs LMoreRegs want.RightBrace entry_owed MakeFirstReg MakeNextReg MakeClosedRegs list_regs ts d i c.loop-regs.next _ _ c.loop-regs.invariant (sym c.take-in-loop-regs.ensures ∙ c.in_default-take.is) c.in_err-close.ensures)
+    rw (p.1, p.2)
+    (list_close_stops LRegs LMoreRegs want.RightBrace entry_owed MakeFirstReg MakeNextReg MakeClosedRegs list_regs
+    ts d i c.loop-regs.next _ _ c.loop-regs.invariant (sym c.take-in-loop-regs.ensures ∙ c.in_default-take.is)
+    c.in_err-close.ensures)
 
 pub regs-returns : goal.regs-returns
 regs-returns t c =
     let ts = tokens_of c.args.tokens.now in
     let d = c.args.depth in
     let i = c.args.at in
-    (list_whole LRegs LMoreRegs want.RightBrace entry_owed MakeFirstReg MakeNextReg MakeClosedRegs list_regs ts d i c.loop-regs.next _ _ _ c.requires.depth c.loop-regs.invariant (sym c.take-in-loop-regs.ensures ∙ c.in_default-take.is) c.in_ok-close.ensures (λ below. refl))
+    (list_whole LRegs LMoreRegs want.RightBrace entry_owed MakeFirstReg MakeNextReg MakeClosedRegs list_regs ts d i
+    c.loop-regs.next _ _ _ c.requires.depth c.loop-regs.invariant
+    (sym c.take-in-loop-regs.ensures ∙ c.in_default-take.is) c.in_ok-close.ensures (λ below. refl))
 
 pub fields-returns-in-Some : goal.fields-returns-in-Some
 fields-returns-in-Some t c =
     let ts = tokens_of c.args.tokens.now in
     let d = c.args.depth in
     let i = c.args.at in
-    rw (raw_Tuple c.new-fields.result, c.new-fields.ensures.items) (fields_empty ts d i _ c.requires.depth (sym c.take.ensures ∙ c.in-Some.is))
+    rw (raw_Tuple c.new-fields.result, c.new-fields.ensures.items)
+    (fields_empty ts d i _ c.requires.depth (sym c.take.ensures ∙ c.in-Some.is))
 
 pub fields-returns-in_err-first : goal.fields-returns-in_err-first
 fields-returns-in_err-first t c =
@@ -185,7 +221,9 @@ fields-returns-in_err-first t c =
     let d = c.args.depth in
     let i = c.args.at in
     let p = err_from_is_err_and c.from_residual.result c.from_residual.ensures.1 in
-    rw (p.1, p.2) (list_first_stops LFields LMoreFields want.RightAngle field_owed MakeFirstField MakeNextField MakeClosedFields list_fields ts d i _ (sym c.take.ensures ∙ c.in_default.is) c.in_err-first.ensures)
+    rw (p.1, p.2)
+    (list_first_stops LFields LMoreFields want.RightAngle field_owed MakeFirstField MakeNextField MakeClosedFields
+    list_fields ts d i _ (sym c.take.ensures ∙ c.in_default.is) c.in_err-first.ensures)
 
 pub fields-loop-fields-init : goal.fields-loop-fields-init
 fields-loop-fields-init t c =
@@ -194,8 +232,11 @@ fields-loop-fields-init t c =
     let i = c.args.at in
     let f = c.in_ok-first.first in
     let r = c.in_ok-first.ensures in
-    let e : c.push.new.self.items ≡ f.field ∷ [] = c.in_ok-push.ensures.items ∙ ap (λ (xs : List (RawType × Bool)). xs ++ f.field ∷ []) c.new-fields.ensures.items in
-    rw (e, r.is) (list_first LFields LMoreFields want.RightAngle field_owed MakeFirstField MakeNextField MakeClosedFields list_fields ts d i f.next _ _ (sym c.take.ensures ∙ c.in_default.is) r.reads (λ below. refl))
+    let e : c.push.new.self.items ≡ f.field ∷ [] = c.in_ok-push.ensures.items
+    ∙ ap (λ (xs : List (RawType × Bool)). xs ++ f.field ∷ []) c.new-fields.ensures.items in
+    rw (e, r.is)
+    (list_first LFields LMoreFields want.RightAngle field_owed MakeFirstField MakeNextField MakeClosedFields
+    list_fields ts d i f.next _ _ (sym c.take.ensures ∙ c.in_default.is) r.reads (λ below. refl))
 
 pub fields-field-requires-in-Some-take : goal.fields-field-requires-in-Some-take
 fields-field-requires-in-Some-take t c =
@@ -213,7 +254,10 @@ fields-returns-in_err-found t c =
     let d = c.args.depth in
     let i = c.args.at in
     let p = err_from_is_err_and c.from_residual-in_err-found.result c.from_residual-in_err-found.ensures.1 in
-    rw (p.1, p.2) (list_next_stops LFields LMoreFields want.RightAngle field_owed MakeFirstField MakeNextField MakeClosedFields list_fields ts d i c.loop-fields.next _ _ _ c.requires.depth c.loop-fields.invariant (sym c.take-in-loop-fields.ensures ∙ c.in-Some-take.is) c.in_err-found.ensures)
+    rw (p.1, p.2)
+    (list_next_stops LFields LMoreFields want.RightAngle field_owed MakeFirstField MakeNextField MakeClosedFields
+    list_fields ts d i c.loop-fields.next _ _ _ c.requires.depth c.loop-fields.invariant
+    (sym c.take-in-loop-fields.ensures ∙ c.in-Some-take.is) c.in_err-found.ensures)
 
 pub fields-loop-fields-preserved : goal.fields-loop-fields-preserved
 fields-loop-fields-preserved t c =
@@ -223,7 +267,9 @@ fields-loop-fields-preserved t c =
     let f = c.in_ok-found.found in
     let r = c.in_ok-found.ensures in
     rw (fields_more c.loop-fields.fields.items _ f.field c.in_ok-push-2.ensures.items, r.is)
-    (list_next LFields LMoreFields want.RightAngle field_owed MakeFirstField MakeNextField MakeClosedFields list_fields ts d i c.loop-fields.next f.next _ _ _ _ c.requires.depth c.loop-fields.invariant (sym c.take-in-loop-fields.ensures ∙ c.in-Some-take.is) r.reads (λ below. refl))
+    (list_next LFields LMoreFields want.RightAngle field_owed MakeFirstField MakeNextField MakeClosedFields list_fields
+    ts d i c.loop-fields.next f.next _ _ _ _ c.requires.depth c.loop-fields.invariant
+    (sym c.take-in-loop-fields.ensures ∙ c.in-Some-take.is) r.reads (λ below. refl))
 
 pub fields-returns-in_err-close : goal.fields-returns-in_err-close
 fields-returns-in_err-close t c =
@@ -231,14 +277,20 @@ fields-returns-in_err-close t c =
     let d = c.args.depth in
     let i = c.args.at in
     let p = err_from_is_err_and c.from_residual-in_err-close.result c.from_residual-in_err-close.ensures.1 in
-    rw (p.1, p.2) (list_close_stops LFields LMoreFields want.RightAngle field_owed MakeFirstField MakeNextField MakeClosedFields list_fields ts d i c.loop-fields.next _ _ c.loop-fields.invariant (sym c.take-in-loop-fields.ensures ∙ c.in_default-take.is) c.in_err-close.ensures)
+    rw (p.1, p.2)
+    (list_close_stops LFields LMoreFields want.RightAngle field_owed MakeFirstField MakeNextField MakeClosedFields
+    list_fields ts d i c.loop-fields.next _ _ c.loop-fields.invariant
+    (sym c.take-in-loop-fields.ensures ∙ c.in_default-take.is) c.in_err-close.ensures)
 
 pub fields-returns : goal.fields-returns
 fields-returns t c =
     let ts = tokens_of c.args.tokens.now in
     let d = c.args.depth in
     let i = c.args.at in
-    rw (raw_Tuple c.loop-fields.fields) (list_whole LFields LMoreFields want.RightAngle field_owed MakeFirstField MakeNextField MakeClosedFields list_fields ts d i c.loop-fields.next _ _ _ c.requires.depth c.loop-fields.invariant (sym c.take-in-loop-fields.ensures ∙ c.in_default-take.is) c.in_ok-close.ensures (λ below. refl))
+    rw (raw_Tuple c.loop-fields.fields)
+    (list_whole LFields LMoreFields want.RightAngle field_owed MakeFirstField MakeNextField MakeClosedFields
+    list_fields ts d i c.loop-fields.next _ _ _ c.requires.depth c.loop-fields.invariant
+    (sym c.take-in-loop-fields.ensures ∙ c.in_default-take.is) c.in_ok-close.ensures (λ below. refl))
 
 pub file-returns-in_err-expect : goal.file-returns-in_err-expect
 file-returns-in_err-expect t c =
@@ -254,7 +306,8 @@ file-returns-in_err-inner t c =
     let d = c.args.depth in
     let i = c.args.at in
     let p = err_from_is_err_and c.from_residual-in_err-inner.result c.from_residual-in_err-inner.ensures.1 in
-    rw (p.1, p.2) (too_deep ts d i _ _ LFile want.LeftBrace _ opens_file c.in_ok-expect.ensures refl c.in_err-inner.ensures)
+    rw (p.1, p.2)
+    (too_deep ts d i _ _ LFile want.LeftBrace _ opens_file c.in_ok-expect.ensures refl c.in_err-inner.ensures)
 
 pub file-regs-requires : goal.file-regs-requires
 file-regs-requires t c =
@@ -271,14 +324,17 @@ file-returns-in_err-found t c =
     let d = c.args.depth in
     let i = c.args.at in
     let p = err_from_is_err_and c.from_residual-in_err-found.result c.from_residual-in_err-found.ensures.1 in
-    rw (p.1, p.2) (bracketed_stops ts d i _ LFile LRegs want.LeftBrace MakeFile opens_file c.in_ok-expect.ensures _ c.in_ok-inner.ensures.1 c.in_ok-inner.ensures.0 _ c.in_err-found.ensures)
+    rw (p.1, p.2)
+    (bracketed_stops ts d i _ LFile LRegs want.LeftBrace MakeFile opens_file c.in_ok-expect.ensures _
+    c.in_ok-inner.ensures.1 c.in_ok-inner.ensures.0 _ c.in_err-found.ensures)
 
 pub file-returns : goal.file-returns
 file-returns t c =
     let ts = tokens_of c.args.tokens.now in
     let d = c.args.depth in
     let i = c.args.at in
-    bracketed ts d i _ LFile LRegs want.LeftBrace MakeFile opens_file c.in_ok-expect.ensures _ c.in_ok-inner.ensures.1 c.in_ok-inner.ensures.0 c.in_ok-found.found.next _ _ c.in_ok-found.ensures (λ below. refl)
+    bracketed ts d i _ LFile LRegs want.LeftBrace MakeFile opens_file c.in_ok-expect.ensures _ c.in_ok-inner.ensures.1
+    c.in_ok-inner.ensures.0 c.in_ok-found.found.next _ _ c.in_ok-found.ensures (λ below. refl)
 
 pub whole_type-returns-in-None : goal.whole_type-returns-in-None
 whole_type-returns-in-None t c =
@@ -319,7 +375,8 @@ code_type-returns-in_err-names t c = λ w e k.
     let a : type_after w.kind ≡ Some (Nt LBinds ∷ (Nt LFile ∷ (Do MakeTypeCode ∷ []))) = rw k refl in
     let m = begins ts d i w LT (Nt LBinds ∷ (Nt LFile ∷ (Do MakeTypeCode ∷ []))) e a (omega arith) in
     let p = err_from_is_err_and c.from_residual.result c.from_residual.ensures.1 in
-    rw (p.1, p.2) (stop_call _ (Nt LBinds ∷ []) d (Nt LFile ∷ (Do MakeTypeCode ∷ [])) _ m (omega arith) c.in_err-names.ensures)
+    rw (p.1, p.2)
+    (stop_call _ (Nt LBinds ∷ []) d (Nt LFile ∷ (Do MakeTypeCode ∷ [])) _ m (omega arith) c.in_err-names.ensures)
 
 pub code_type-file-requires : goal.code_type-file-requires
 code_type-file-requires t c =
@@ -358,20 +415,27 @@ some_type-returns-in_err-inner t c = λ w e k.
     let ts = tokens_of c.args.tokens.now in
     let d = c.args.depth in
     let i = c.args.at in
-    let a : type_after w.kind ≡ Some (Tm want.Name ∷ (Tm want.Dot ∷ (Nt LT ∷ (Mark ∷ (Do MakeTypeSome ∷ []))))) = rw k refl in
+    let a : type_after w.kind ≡ Some (Tm want.Name ∷ (Tm want.Dot ∷ (Nt LT ∷ (Mark ∷ (Do MakeTypeSome ∷ []))))) =
+    rw k refl in
     let p = err_from_is_err_and c.from_residual.result c.from_residual.ensures.1 in
-    rw (p.1, p.2) (stop_deep _ w LT (Tm want.Name ∷ (Tm want.Dot ∷ (Nt LT ∷ (Mark ∷ (Do MakeTypeSome ∷ []))))) [] [] (start ts d i (Nt LT ∷ [])) e a refl c.in_err-inner.ensures)
+    rw (p.1, p.2)
+    (stop_deep _ w LT (Tm want.Name ∷ (Tm want.Dot ∷ (Nt LT ∷ (Mark ∷ (Do MakeTypeSome ∷ []))))) [] []
+    (start ts d i (Nt LT ∷ [])) e a refl c.in_err-inner.ensures)
 
 pub some_type-returns-in_err-name : goal.some_type-returns-in_err-name
 some_type-returns-in_err-name t c = λ w e k.
     let ts = tokens_of c.args.tokens.now in
     let d = c.args.depth in
     let i = c.args.at in
-    let a : type_after w.kind ≡ Some (Tm want.Name ∷ (Tm want.Dot ∷ (Nt LT ∷ (Mark ∷ (Do MakeTypeSome ∷ []))))) = rw k refl in
+    let a : type_after w.kind ≡ Some (Tm want.Name ∷ (Tm want.Dot ∷ (Nt LT ∷ (Mark ∷ (Do MakeTypeSome ∷ []))))) =
+    rw k refl in
     let q = c.in_ok-inner.ensures in
-    let m = begins ts d i w LT (Tm want.Name ∷ (Tm want.Dot ∷ (Nt LT ∷ (Mark ∷ (Do MakeTypeSome ∷ []))))) e a (omega (arith, q.1)) in
+    let m = begins ts d i w LT (Tm want.Name ∷ (Tm want.Dot ∷ (Nt LT ∷ (Mark ∷ (Do MakeTypeSome ∷ []))))) e a
+    (omega (arith, q.1)) in
     let p = err_from_is_err_and c.from_residual-in_err-name.result c.from_residual-in_err-name.ensures.1 in
-    rw (p.1, p.2) (stop_two _ want.Name want.Dot (Nt LT ∷ (Mark ∷ (Do MakeTypeSome ∷ []))) _ m (omega (arith, q.1)) c.in_err-name.ensures)
+    rw (p.1, p.2)
+    (stop_two _ want.Name want.Dot (Nt LT ∷ (Mark ∷ (Do MakeTypeSome ∷ []))) _ m
+    (omega (arith, q.1)) c.in_err-name.ensures)
 
 pub some_type-whole_type-requires : goal.some_type-whole_type-requires
 some_type-whole_type-requires t c =
@@ -386,29 +450,38 @@ some_type-returns-in_err-body t c = λ w e k.
     let ts = tokens_of c.args.tokens.now in
     let d = c.args.depth in
     let i = c.args.at in
-    let a : type_after w.kind ≡ Some (Tm want.Name ∷ (Tm want.Dot ∷ (Nt LT ∷ (Mark ∷ (Do MakeTypeSome ∷ []))))) = rw k refl in
+    let a : type_after w.kind ≡ Some (Tm want.Name ∷ (Tm want.Dot ∷ (Nt LT ∷ (Mark ∷ (Do MakeTypeSome ∷ []))))) =
+    rw k refl in
     let q = c.in_ok-inner.ensures in
-    let m = begins ts d i w LT (Tm want.Name ∷ (Tm want.Dot ∷ (Nt LT ∷ (Mark ∷ (Do MakeTypeSome ∷ []))))) e a (omega (arith, q.1)) in
-    let n = by_two want.Name want.Dot _ _ (Nt LT ∷ (Mark ∷ (Do MakeTypeSome ∷ []))) _ m c.in_ok-name.ensures (omega (arith, q.1)) in
+    let m = begins ts d i w LT (Tm want.Name ∷ (Tm want.Dot ∷ (Nt LT ∷ (Mark ∷ (Do MakeTypeSome ∷ []))))) e a
+    (omega (arith, q.1)) in
+    let n = by_two want.Name want.Dot _ _ (Nt LT ∷ (Mark ∷ (Do MakeTypeSome ∷ []))) _ m c.in_ok-name.ensures
+    (omega (arith, q.1)) in
     let n3 = by_same {k = i + 3} (omega arith) n in
     let p = err_from_is_err_and c.from_residual-in_err-body.result c.from_residual-in_err-body.ensures.1 in
-    rw (p.1, p.2) (stop_call _ (Nt LT ∷ []) _ (Mark ∷ (Do MakeTypeSome ∷ [])) _ n3 (omega (arith, q.0)) c.in_err-body.ensures)
+    rw (p.1, p.2)
+    (stop_call _ (Nt LT ∷ []) _ (Mark ∷ (Do MakeTypeSome ∷ [])) _ n3 (omega (arith, q.0)) c.in_err-body.ensures)
 
 pub some_type-returns : goal.some_type-returns
 some_type-returns t c = λ w e k.
     let ts = tokens_of c.args.tokens.now in
     let d = c.args.depth in
     let i = c.args.at in
-    let a : type_after w.kind ≡ Some (Tm want.Name ∷ (Tm want.Dot ∷ (Nt LT ∷ (Mark ∷ (Do MakeTypeSome ∷ []))))) = rw k refl in
+    let a : type_after w.kind ≡ Some (Tm want.Name ∷ (Tm want.Dot ∷ (Nt LT ∷ (Mark ∷ (Do MakeTypeSome ∷ []))))) =
+    rw k refl in
     let q = c.in_ok-inner.ensures in
-    let m = begins ts d i w LT (Tm want.Name ∷ (Tm want.Dot ∷ (Nt LT ∷ (Mark ∷ (Do MakeTypeSome ∷ []))))) e a (omega (arith, q.1)) in
-    let n = by_two want.Name want.Dot _ _ (Nt LT ∷ (Mark ∷ (Do MakeTypeSome ∷ []))) _ m c.in_ok-name.ensures (omega (arith, q.1)) in
+    let m = begins ts d i w LT (Tm want.Name ∷ (Tm want.Dot ∷ (Nt LT ∷ (Mark ∷ (Do MakeTypeSome ∷ []))))) e a
+    (omega (arith, q.1)) in
+    let n = by_two want.Name want.Dot _ _ (Nt LT ∷ (Mark ∷ (Do MakeTypeSome ∷ []))) _ m c.in_ok-name.ensures
+    (omega (arith, q.1)) in
     let n3 = by_same {k = i + 3} (omega arith) n in
     let r = c.in_ok-body.ensures in
     rw c.in_ok-ty.ensures (record {
       forward = omega (arith, r.forward);
       in_range = r.in_range;
-      same = by_do MakeTypeSome [] _ _ (by_mark (Do MakeTypeSome ∷ []) _ (by_call _ (Mark ∷ (Do MakeTypeSome ∷ [])) _ n3 (omega (arith, q.0)) r.same)) (λ below. refl);
+      same = by_do MakeTypeSome [] _ _
+          (by_mark (Do MakeTypeSome ∷ []) _
+          (by_call _ (Mark ∷ (Do MakeTypeSome ∷ [])) _ n3 (omega (arith, q.0)) r.same)) (λ below. refl);
     })
 
 pub whole_type-returns-in_err-inner-in-LeftAngle : goal.whole_type-returns-in_err-inner-in-LeftAngle
@@ -417,9 +490,12 @@ whole_type-returns-in_err-inner-in-LeftAngle t c =
     let d = c.args.depth in
     let i = c.args.at in
     let e : slice_get ts i ≡ Some c.in-Some.token = sym c.peek.ensures ∙ c.in-Some.is in
-    let a : type_after c.in-Some.token.kind ≡ Some (Nt LFields ∷ (Mark ∷ (Do MakeTypeTuple ∷ []))) = rw c.in-LeftAngle.is refl in
+    let a : type_after c.in-Some.token.kind ≡ Some (Nt LFields ∷ (Mark ∷ (Do MakeTypeTuple ∷ []))) =
+    rw c.in-LeftAngle.is refl in
     let p = err_from_is_err_and c.from_residual.result c.from_residual.ensures.1 in
-    rw (p.1, p.2) (stop_deep _ c.in-Some.token LT (Nt LFields ∷ (Mark ∷ (Do MakeTypeTuple ∷ []))) [] [] (start ts d i (Nt LT ∷ [])) e a refl c.in_err-inner-in-LeftAngle.ensures)
+    rw (p.1, p.2)
+    (stop_deep _ c.in-Some.token LT (Nt LFields ∷ (Mark ∷ (Do MakeTypeTuple ∷ []))) [] []
+    (start ts d i (Nt LT ∷ [])) e a refl c.in_err-inner-in-LeftAngle.ensures)
 
 pub whole_type-fields-requires : goal.whole_type-fields-requires
 whole_type-fields-requires t c =
@@ -437,11 +513,15 @@ whole_type-returns-in_err-found-in-LeftAngle t c =
     let d = c.args.depth in
     let i = c.args.at in
     let e : slice_get ts i ≡ Some c.in-Some.token = sym c.peek.ensures ∙ c.in-Some.is in
-    let a : type_after c.in-Some.token.kind ≡ Some (Nt LFields ∷ (Mark ∷ (Do MakeTypeTuple ∷ []))) = rw c.in-LeftAngle.is refl in
+    let a : type_after c.in-Some.token.kind ≡ Some (Nt LFields ∷ (Mark ∷ (Do MakeTypeTuple ∷ []))) =
+    rw c.in-LeftAngle.is refl in
     let q = c.in_ok-inner-in-LeftAngle.ensures in
     let m = begins ts d i c.in-Some.token LT (Nt LFields ∷ (Mark ∷ (Do MakeTypeTuple ∷ []))) e a (omega (arith, q.1)) in
-    let p = err_from_is_err_and c.from_residual-in_err-found-in-LeftAngle.result c.from_residual-in_err-found-in-LeftAngle.ensures.1 in
-    rw (p.1, p.2) (stop_call _ (Nt LFields ∷ []) _ (Mark ∷ (Do MakeTypeTuple ∷ [])) _ m (omega (arith, q.0)) c.in_err-found-in-LeftAngle.ensures)
+    let p = err_from_is_err_and c.from_residual-in_err-found-in-LeftAngle.result
+    c.from_residual-in_err-found-in-LeftAngle.ensures.1 in
+    rw (p.1, p.2)
+    (stop_call _ (Nt LFields ∷ []) _ (Mark ∷ (Do MakeTypeTuple ∷ [])) _ m
+    (omega (arith, q.0)) c.in_err-found-in-LeftAngle.ensures)
 
 pub whole_type-returns-in_ok-found-in-LeftAngle : goal.whole_type-returns-in_ok-found-in-LeftAngle
 whole_type-returns-in_ok-found-in-LeftAngle t c =
@@ -449,14 +529,17 @@ whole_type-returns-in_ok-found-in-LeftAngle t c =
     let d = c.args.depth in
     let i = c.args.at in
     let e : slice_get ts i ≡ Some c.in-Some.token = sym c.peek.ensures ∙ c.in-Some.is in
-    let a : type_after c.in-Some.token.kind ≡ Some (Nt LFields ∷ (Mark ∷ (Do MakeTypeTuple ∷ []))) = rw c.in-LeftAngle.is refl in
+    let a : type_after c.in-Some.token.kind ≡ Some (Nt LFields ∷ (Mark ∷ (Do MakeTypeTuple ∷ []))) =
+    rw c.in-LeftAngle.is refl in
     let q = c.in_ok-inner-in-LeftAngle.ensures in
     let m = begins ts d i c.in-Some.token LT (Nt LFields ∷ (Mark ∷ (Do MakeTypeTuple ∷ []))) e a (omega (arith, q.1)) in
     let r = c.in_ok-found-in-LeftAngle.ensures in
     record {
       forward = omega (arith, r.forward);
       in_range = r.in_range;
-      same = by_do MakeTypeTuple [] _ _ (by_mark (Do MakeTypeTuple ∷ []) _ (by_call _ (Mark ∷ (Do MakeTypeTuple ∷ [])) _ m (omega (arith, q.0)) r.same)) (λ below. refl);
+      same = by_do MakeTypeTuple [] _ _
+          (by_mark (Do MakeTypeTuple ∷ []) _
+          (by_call _ (Mark ∷ (Do MakeTypeTuple ∷ [])) _ m (omega (arith, q.0)) r.same)) (λ below. refl);
     }
 
 pub whole_type-returns-in-Int : goal.whole_type-returns-in-Int
@@ -470,7 +553,8 @@ whole_type-returns-in-Int t c =
     record {
       forward = omega arith;
       in_range = omega (arith, l);
-      same = by_do MakeTypeInt [] _ _ (begins ts d i c.in-Some.token LT (Do MakeTypeInt ∷ []) e a (omega arith)) (λ below. refl);
+      same = by_do MakeTypeInt [] _ _ (begins ts d i c.in-Some.token LT (Do MakeTypeInt ∷ []) e a (omega arith))
+          (λ below. refl);
     }
 
 pub whole_type-returns-in-Name : goal.whole_type-returns-in-Name
@@ -484,7 +568,8 @@ whole_type-returns-in-Name t c =
     record {
       forward = omega arith;
       in_range = omega (arith, l);
-      same = by_do MakeTypeName [] _ _ (begins ts d i c.in-Some.token LT (Do MakeTypeName ∷ []) e a (omega arith)) (λ below. refl);
+      same = by_do MakeTypeName [] _ _ (begins ts d i c.in-Some.token LT (Do MakeTypeName ∷ []) e a (omega arith))
+          (λ below. refl);
     }
 
 pub whole_type-returns-in_default : goal.whole_type-returns-in_default
@@ -494,4 +579,6 @@ whole_type-returns-in_default t c =
     let i = c.args.at in
     let e : slice_get ts i ≡ Some c.in-Some.token = sym c.peek.ensures ∙ c.in-Some.is in
     let n = c.in_default in
-    stop_lacks _ LT [] [] (start ts d i (Nt LT ∷ [])) refl (other c.in-Some.token e (no_type c.in-Some.token.kind n.not-Int n.not-Name n.not-All n.not-Some n.not-LeftAngle)) refl
+    stop_lacks _ LT [] [] (start ts d i (Nt LT ∷ [])) refl
+    (other c.in-Some.token e
+    (no_type c.in-Some.token.kind n.not-Int n.not-Name n.not-All n.not-Some n.not-LeftAngle)) refl

@@ -1,7 +1,8 @@
 use Rattle.std.proofs.Common.{◌+◌, length, ◌-◌, ◌*◌, map, [], ◌∷◌}
 use Rattle.text_core.specs.Table.{Nt, Tm, Do}
 use Rattle.t_terms.specs.declared.wanted.Wanted.TheVariants as want
-use Rattle.t_terms.specs.GrammarTable.{LRegs, LFields, LMoreRegs, LMoreFields, MakeClosedRegs, MakeClosedFields, OfRegs, OfFields}
+use Rattle.t_terms.specs.GrammarTable.{LRegs, LFields, LMoreRegs, LMoreFields, MakeClosedRegs, MakeClosedFields}
+use Rattle.t_terms.specs.GrammarTable.{OfRegs, OfFields}
 use Rattle.t_grammar.specs.Raw.{raw_reg, raw_field}
 use Rattle.t_grammar.specs.Reads.{ReadsSome}
 use Rattle.t_lexer.specs.Kept.{tokens_of}
@@ -32,13 +33,17 @@ abbrev pub decreases-file : goal.decreases-file
 decreases-file l = 5 * (length (tokens_of l.tokens.now) - l.at) + 4
 
 abbrev pub invariant-regs-loop-regs : goal.invariant-regs-loop-regs
-invariant-regs-loop-regs l = ReadsSome LRegs (Nt LMoreRegs ∷ (Tm want.RightBrace ∷ (Do MakeClosedRegs ∷ []))) (tokens_of l.tokens) l.depth l.at l.next (OfRegs (map raw_reg l.regs.items))
+invariant-regs-loop-regs l =
+    ReadsSome LRegs (Nt LMoreRegs ∷ (Tm want.RightBrace ∷ (Do MakeClosedRegs ∷ []))) (tokens_of l.tokens) l.depth l.at
+    l.next (OfRegs (map raw_reg l.regs.items))
 
 abbrev pub decreases-regs-loop-regs : goal.decreases-regs-loop-regs
 decreases-regs-loop-regs l = length (tokens_of l.tokens) - l.next
 
 abbrev pub invariant-fields-loop-fields : goal.invariant-fields-loop-fields
-invariant-fields-loop-fields l = ReadsSome LFields (Nt LMoreFields ∷ (Tm want.RightAngle ∷ (Do MakeClosedFields ∷ []))) (tokens_of l.tokens) l.depth l.at l.next (OfFields (map raw_field l.fields.items))
+invariant-fields-loop-fields l =
+    ReadsSome LFields (Nt LMoreFields ∷ (Tm want.RightAngle ∷ (Do MakeClosedFields ∷ []))) (tokens_of l.tokens) l.depth
+    l.at l.next (OfFields (map raw_field l.fields.items))
 
 abbrev pub decreases-fields-loop-fields : goal.decreases-fields-loop-fields
 decreases-fields-loop-fields l = length (tokens_of l.tokens) - l.next

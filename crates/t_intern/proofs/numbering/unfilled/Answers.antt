@@ -10,9 +10,12 @@ loop-i-preserved c =
     let l = c.loop-i in
     let xs = c.args.ns.now in
     let lt = c.loop-i-test.true in
-    unfilled_next xs l.i (get_or xs l.i 0) l.made.items c.push.new.self.items _ lt (item xs l.i 0 lt) l.invariant c.in_ok-push.ensures.items
+    unfilled_next xs l.i (get_or xs l.i 0) l.made.items c.push.new.self.items _ lt (item xs l.i 0 lt) l.invariant
+    c.in_ok-push.ensures.items
 
 pub returns : goal.returns
 returns c =
     let l = c.loop-i in
-    sym (append-nil l.made.items) ∙ ap (λ (ys : List ℕ). l.made.items ++ unfilled_fields ys) (sym (drop_all l.i c.args.ns.now c.loop-i-test.false)) ∙ l.invariant
+    sym (append-nil l.made.items)
+    ∙ ap (λ (ys : List ℕ). l.made.items ++ unfilled_fields ys) (sym (drop_all l.i c.args.ns.now c.loop-i-test.false))
+    ∙ l.invariant

@@ -4,7 +4,8 @@ use Rattle.t_lexer.proofs.scan.find_rare.Goals as goal
 pub returns-in-Word : goal.returns-in-Word
 returns-in-Word c =
     let (w, p) = c.in-Word.ensures in
-    rw c.bare.ensures (word_is_found c.args.text.now c.args.at c.in-Word.end _ c.requires.at c.requires.register w p c.word.ensures)
+    rw c.bare.ensures
+    (word_is_found c.args.text.now c.args.at c.in-Word.end _ c.requires.at c.requires.register w p c.word.ensures)
 
 pub returns-in-Plain : goal.returns-in-Plain
 returns-in-Plain c =

@@ -35,5 +35,6 @@ loop-head-preserved c =
 pub returns : goal.returns
 returns c =
     let l = c.loop-head in
-    λ same. turned c.args.text.now c.args.labels.now (tokens_of c.args.tokens.now) c.args.heads.now l.head-index l.so_far
+    λ same. turned c.args.text.now c.args.labels.now (tokens_of c.args.tokens.now) c.args.heads.now l.head-index
+    l.so_far
     l.blocks.items l.heap.items c.loop-head-test.false l.invariant (c.if-not-is_all.ensures refl) same

@@ -35,7 +35,10 @@ invariant_of-result c =
       length-map t.words.items
           (λ (w : Word). token_in t.long.items w),
     )) in
-    record { whole = is_whole c.args.text.now h.raw c.in_ok-parts.parts.blocks.items c.in_ok-parts.parts.heap.items s h.named h.is }
+    record {
+      whole = is_whole c.args.text.now h.raw c.in_ok-parts.parts.blocks.items c.in_ok-parts.parts.heap.items s
+          h.named h.is;
+    }
 
 pub returns : goal.returns
 returns c =

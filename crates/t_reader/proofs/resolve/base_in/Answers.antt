@@ -16,8 +16,11 @@ returns-in-Num c =
 
 pub returns-in-None : goal.returns-in-None
 returns-in-None c =
-    rw c.refused.ensures (label_stop c.args.text.now c.args.labels.now c.args.base.now c.in-Label.span c.in-Label.is (rw c.spelling.ensures at c.in-None.ensures))
+    rw c.refused.ensures
+    (label_stop c.args.text.now c.args.labels.now c.args.base.now c.in-Label.span c.in-Label.is
+    (rw c.spelling.ensures at c.in-None.ensures))
 
 pub returns-in-Some : goal.returns-in-Some
 returns-in-Some c =
-    label_whole c.args.text.now c.args.labels.now c.args.base.now c.in-Label.span (target_base c.in-Some.target) c.named.result c.in-Label.is (rw c.spelling.ensures at c.in-Some.ensures) c.named.ensures
+    label_whole c.args.text.now c.args.labels.now c.args.base.now c.in-Label.span (target_base c.in-Some.target)
+    c.named.result c.in-Label.is (rw c.spelling.ensures at c.in-Some.ensures) c.named.ensures

@@ -31,16 +31,19 @@ returns-in_ok-v-in-Mov c =
 
 pub returns-in_err-v-in-Unpack : goal.returns-in_err-v-in-Unpack
 returns-in_err-v-in-Unpack c =
-    let p = err_from_is_err_and c.from_residual-in_err-v-in-Unpack.result c.from_residual-in_err-v-in-Unpack.ensures.1 in
+    let p =
+    err_from_is_err_and c.from_residual-in_err-v-in-Unpack.result c.from_residual-in_err-v-in-Unpack.ensures.1 in
     rw (p.1, p.2) (rw c.in-Unpack.is c.in_err-v-in-Unpack.ensures)
 
 pub returns-in_ok-push-in-Unpack : goal.returns-in_ok-push-in-Unpack
 returns-in_ok-push-in-Unpack c =
-    let r = c.in_ok-v-in-Unpack.ensures in rw (c.in-Unpack.is, r.2) (c.in_ok-push-in-Unpack.ensures.pushed ∙ rw (c.spelling.ensures, r.0) refl, r.1, refl)
+    let r = c.in_ok-v-in-Unpack.ensures in
+    rw (c.in-Unpack.is, r.2) (c.in_ok-push-in-Unpack.ensures.pushed ∙ rw (c.spelling.ensures, r.0) refl, r.1, refl)
 
 pub returns-in_err-types-in-Malloc : goal.returns-in_err-types-in-Malloc
 returns-in_err-types-in-Malloc c =
-    let p = err_from_is_err_and c.from_residual-in_err-types-in-Malloc.result c.from_residual-in_err-types-in-Malloc.ensures.1 in
+    let p = err_from_is_err_and c.from_residual-in_err-types-in-Malloc.result
+    c.from_residual-in_err-types-in-Malloc.ensures.1 in
     rw (p.1, p.2) (rw (c.in-Malloc.is, ← c.deref.ensures.value) c.in_err-types-in-Malloc.ensures)
 
 pub returns-in_ok-types-in-Malloc : goal.returns-in_ok-types-in-Malloc

@@ -13,4 +13,5 @@ loop-preserved c =
 
 pub returns : goal.returns
 returns c =
-    let q : c.loop.counter ≡ c.args.count = omega (arith, c.loop.auto.counter-end, c.loop-test.false) in rw (← q) c.loop.invariant
+    let q : c.loop.counter ≡ c.args.count = omega (arith, c.loop.auto.counter-end, c.loop-test.false) in
+    rw (← q) c.loop.invariant

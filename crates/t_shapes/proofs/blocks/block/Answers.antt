@@ -3,7 +3,8 @@ use Rattle.std.proofs.lemmas.Result.{err_from_is_err_and}
 use Rattle.text_core.specs.Table.{Do}
 use Rattle.t_terms.specs.declared.wanted.Wanted.TheVariants as want
 use Rattle.t_terms.specs.GrammarTable.{MakeBlock, block_owed, code_owed}
-use Rattle.t_grammar.proofs.Stepping.{within, by_token, by_two, by_call, by_do, by_same, stop_token, stop_two, stop_call}
+use Rattle.t_grammar.proofs.Stepping.{within, by_token, by_two, by_call, by_do, by_same, stop_token, stop_two}
+use Rattle.t_grammar.proofs.Stepping.{stop_call}
 use Rattle.t_shapes.specs.Reads.{code_parts}
 use Rattle.t_shapes.proofs.Blocked.{block_goes}
 use Rattle.t_lexer.specs.Kept.{tokens_of}
@@ -35,7 +36,8 @@ returns-in_err-found c =
     let ts = tokens_of c.args.tokens.now in
     let i = c.args.at in
     let m1 = by_token want.Name _ block_owed [] (block_goes ts i) c.in_ok-label.ensures (omega arith) in
-    let m2 = by_same {k = i + 3} (omega arith) (by_two want.Colon want.Code _ _ code_owed _ m1 c.in_ok-expect_two.ensures (omega arith)) in
+    let m2 = by_same {k = i + 3} (omega arith)
+    (by_two want.Colon want.Code _ _ code_owed _ m1 c.in_ok-expect_two.ensures (omega arith)) in
     let p = err_from_is_err_and c.from_residual-in_err-found.result c.from_residual-in_err-found.ensures.1 in
     rw (p.1, p.2) (stop_call _ code_parts 0 (Do MakeBlock ∷ []) _ m2 (omega arith) c.in_err-found.ensures)
 
@@ -44,7 +46,8 @@ returns c =
     let ts = tokens_of c.args.tokens.now in
     let i = c.args.at in
     let m1 = by_token want.Name _ block_owed [] (block_goes ts i) c.in_ok-label.ensures (omega arith) in
-    let m2 = by_same {k = i + 3} (omega arith) (by_two want.Colon want.Code _ _ code_owed _ m1 c.in_ok-expect_two.ensures (omega arith)) in
+    let m2 = by_same {k = i + 3} (omega arith)
+    (by_two want.Colon want.Code _ _ code_owed _ m1 c.in_ok-expect_two.ensures (omega arith)) in
     let f = c.in_ok-found.ensures in
     rw f.is (record {
       forward = omega (arith, f.reads.forward);

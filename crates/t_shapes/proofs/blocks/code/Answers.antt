@@ -13,7 +13,9 @@ returns-in_err-head c =
     let i = c.args.at in
     let s = start ts 0 i code_parts in
     let p = err_from_is_err_and c.from_residual.result c.from_residual.ensures.1 in
-    rw (p.1, p.2) (stop_call _ head_owed 0 (Do MakeNoSteps ∷ (Nt LMoreSteps ∷ (Nt LEnd ∷ []))) [] s (omega arith) c.in_err-head.ensures)
+    rw (p.1, p.2)
+    (stop_call _ head_owed 0 (Do MakeNoSteps ∷ (Nt LMoreSteps ∷ (Nt LEnd ∷ []))) [] s
+    (omega arith) c.in_err-head.ensures)
 
 pub steps-requires : goal.steps-requires
 steps-requires c =
@@ -24,7 +26,8 @@ returns-in_err-body c =
     let ts = tokens_of c.args.tokens.now in
     let i = c.args.at in
     let s = start ts 0 i code_parts in
-    let m1 = by_call 0 (Do MakeNoSteps ∷ (Nt LMoreSteps ∷ (Nt LEnd ∷ []))) [] s (omega arith) c.in_ok-head.ensures.reads.same in
+    let m1 = by_call 0 (Do MakeNoSteps ∷ (Nt LMoreSteps ∷ (Nt LEnd ∷ []))) [] s
+    (omega arith) c.in_ok-head.ensures.reads.same in
     let p = err_from_is_err_and c.from_residual-in_err-body.result c.from_residual-in_err-body.ensures.1 in
     rw (p.1, p.2) (stop_call _ steps_owed 0 (Nt LEnd ∷ []) _ m1 (omega arith) c.in_err-body.ensures)
 
@@ -37,7 +40,8 @@ returns-in_err-end c =
     let ts = tokens_of c.args.tokens.now in
     let i = c.args.at in
     let s = start ts 0 i code_parts in
-    let m1 = by_call 0 (Do MakeNoSteps ∷ (Nt LMoreSteps ∷ (Nt LEnd ∷ []))) [] s (omega arith) c.in_ok-head.ensures.reads.same in
+    let m1 = by_call 0 (Do MakeNoSteps ∷ (Nt LMoreSteps ∷ (Nt LEnd ∷ []))) [] s
+    (omega arith) c.in_ok-head.ensures.reads.same in
     let m2 = by_call 0 (Nt LEnd ∷ []) _ m1 (omega arith) c.in_ok-body.ensures.same in
     let p = err_from_is_err_and c.from_residual-in_err-end.result c.from_residual-in_err-end.ensures.1 in
     rw (p.1, p.2) (stop_call _ (Nt LEnd ∷ []) 0 [] _ m2 (omega arith) c.in_err-end.ensures)
@@ -47,7 +51,8 @@ returns c =
     let ts = tokens_of c.args.tokens.now in
     let i = c.args.at in
     let s = start ts 0 i code_parts in
-    let m1 = by_call 0 (Do MakeNoSteps ∷ (Nt LMoreSteps ∷ (Nt LEnd ∷ []))) [] s (omega arith) c.in_ok-head.ensures.reads.same in
+    let m1 = by_call 0 (Do MakeNoSteps ∷ (Nt LMoreSteps ∷ (Nt LEnd ∷ []))) [] s
+    (omega arith) c.in_ok-head.ensures.reads.same in
     let m2 = by_call 0 (Nt LEnd ∷ []) _ m1 (omega arith) c.in_ok-body.ensures.same in
     let r = c.in_ok-end.ensures in
     record {

@@ -12,7 +12,13 @@ pub loop-alloc-init : goal.loop-alloc-init
 loop-alloc-init c =
     let ts = tokens_of c.args.tokens.now in
     let i = c.args.at in
-    rw c.new-steps.ensures.items (record { forward = omega arith; in_range = c.requires; same = by_do MakeNoSteps (Nt LMoreSteps ∷ []) [] (OfSteps [] ∷ []) (start ts 0 i steps_owed) (λ below. refl) })
+    rw c.new-steps.ensures.items
+    (record {
+      forward = omega arith;
+      in_range = c.requires;
+      same =
+          by_do MakeNoSteps (Nt LMoreSteps ∷ []) [] (OfSteps [] ∷ []) (start ts 0 i steps_owed) (λ below. refl);
+    })
 
 pub returns-in_err-found : goal.returns-in_err-found
 returns-in_err-found c =
@@ -43,7 +49,8 @@ loop-alloc-preserved c =
     rw (steps_more c.loop-alloc.steps.items _ c.in_ok-found.found.step c.in_ok-push.ensures.items) (record {
       forward = omega (arith, s.forward, r.forward);
       in_range = r.in_range;
-      same = by_do MakeNextStep (Nt LMoreSteps ∷ []) _ _ (by_call 0 steps_tail _ m (omega arith) r.same) (λ below. refl);
+      same =
+          by_do MakeNextStep (Nt LMoreSteps ∷ []) _ _ (by_call 0 steps_tail _ m (omega arith) r.same) (λ below. refl);
     })
 
 pub returns : goal.returns
@@ -52,4 +59,8 @@ returns c =
     let i = c.args.at in
     let s = c.loop-alloc.invariant in
     let j = c.loop-alloc.next in
-    record { forward = s.forward; in_range = s.in_range; same = no_instr s.same (sym c.begins_step.ensures ∙ c.loop-alloc-test.false) }
+    record {
+      forward = s.forward;
+      in_range = s.in_range;
+      same = no_instr s.same (sym c.begins_step.ensures ∙ c.loop-alloc-test.false);
+    }

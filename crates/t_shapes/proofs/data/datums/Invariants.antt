@@ -8,7 +8,9 @@ use Rattle.t_lexer.specs.Kept.{tokens_of}
 use Rattle.t_shapes.proofs.data.datums.Given as goal
 
 abbrev pub invariant-loop-fields : goal.invariant-loop-fields
-invariant-loop-fields l = ReadsSome LDatums (Nt LMoreDatums ∷ (Tm want.RightAngle ∷ (Do MakeClosedDatums ∷ []))) (tokens_of l.tokens) 1 l.at l.next (OfDatums (map raw_datum l.fields.items))
+invariant-loop-fields l =
+    ReadsSome LDatums (Nt LMoreDatums ∷ (Tm want.RightAngle ∷ (Do MakeClosedDatums ∷ []))) (tokens_of l.tokens) 1 l.at
+    l.next (OfDatums (map raw_datum l.fields.items))
 
 abbrev pub decreases-loop-fields : goal.decreases-loop-fields
 decreases-loop-fields l = length (tokens_of l.tokens) - l.next

@@ -60,7 +60,8 @@ returns-in_err-close-in-Halt c =
     let e : slice_get ts i ≡ Some c.in-Some.word = sym c.peek.ensures ∙ c.in-Some.is in
     let a : end_after c.in-Some.word.kind ≡ Some (Nt LInt ∷ (Do MakeHalt ∷ [])) = rw c.in-Halt.is refl in
     let m = begins ts 0 i c.in-Some.word LEnd (Nt LInt ∷ (Do MakeHalt ∷ [])) e a (omega arith) in
-    let p = err_from_is_err_and c.from_residual-in_err-close-in-Halt.result c.from_residual-in_err-close-in-Halt.ensures.1 in
+    let p = err_from_is_err_and c.from_residual-in_err-close-in-Halt.result
+    c.from_residual-in_err-close-in-Halt.ensures.1 in
     rw (p.1, p.2) (stop_call _ (Nt LInt ∷ []) 0 (Do MakeHalt ∷ []) _ m (omega arith) c.in_err-close-in-Halt.ensures)
 
 pub returns-in_ok-close-in-Halt : goal.returns-in_ok-close-in-Halt
@@ -74,7 +75,8 @@ returns-in_ok-close-in-Halt c =
     rw c.up_to-in-Halt.ensures (record {
       forward = omega arith;
       in_range = omega (arith, r.in_range);
-      same = by_same (omega arith) (by_do MakeHalt [] _ _ (by_call 0 (Do MakeHalt ∷ []) _ m (omega arith) r.same) (λ below. refl));
+      same = by_same (omega arith)
+          (by_do MakeHalt [] _ _ (by_call 0 (Do MakeHalt ∷ []) _ m (omega arith) r.same) (λ below. refl));
     })
 
 pub returns-in_default : goal.returns-in_default
@@ -82,4 +84,5 @@ returns-in_default c =
     let ts = tokens_of c.args.tokens.now in
     let i = c.args.at in
     let e : slice_get ts i ≡ Some c.in-Some.word = sym c.peek.ensures ∙ c.in-Some.is in
-    stop_lacks _ LEnd [] [] (start ts 0 i (Nt LEnd ∷ [])) refl (other c.in-Some.word e (no_end c.in-Some.word.kind c.in_default.not-Jmp c.in_default.not-Halt)) refl
+    stop_lacks _ LEnd [] [] (start ts 0 i (Nt LEnd ∷ [])) refl
+    (other c.in-Some.word e (no_end c.in-Some.word.kind c.in_default.not-Jmp c.in_default.not-Halt)) refl

@@ -14,7 +14,8 @@ returns-in_err-names c =
     let i = c.args.at in
     let s = start ts 0 i head_owed in
     let p = err_from_is_err_and c.from_residual.result c.from_residual.ensures.1 in
-    rw (p.1, p.2) (stop_call _ (Nt LBinds ∷ []) 0 (Nt LFile ∷ (Tm want.Dot ∷ [])) _ s (omega arith) c.in_err-names.ensures)
+    rw (p.1, p.2)
+    (stop_call _ (Nt LBinds ∷ []) 0 (Nt LFile ∷ (Tm want.Dot ∷ [])) _ s (omega arith) c.in_err-names.ensures)
 
 pub returns-in_err-found : goal.returns-in_err-found
 returns-in_err-found c =

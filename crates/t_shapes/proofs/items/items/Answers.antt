@@ -29,7 +29,8 @@ pub returns-in_err-found : goal.returns-in_err-found
 returns-in_err-found c =
     let ts = tokens_of c.args.tokens.now in
     let l = c.loop-alloc in
-    let m = step.then_goes table most_open ts 0 l.invariant.same (as_item ts l.next l.has_block _ (sym c.wants_item.ensures ∙ c.loop-alloc-test.true)) in
+    let m = step.then_goes table most_open ts 0 l.invariant.same
+    (as_item ts l.next l.has_block _ (sym c.wants_item.ensures ∙ c.loop-alloc-test.true)) in
     let p = err_from_is_err_and c.from_residual.result c.from_residual.ensures.1 in
     rw (p.1, p.2) (stop_call _ item_owed 0 (item_left ts l.next l.has_block) _ m (omega arith) c.in_err-found.ensures)
 
@@ -41,13 +42,19 @@ pub loop-alloc-preserved : goal.loop-alloc-preserved
 loop-alloc-preserved c =
     let ts = tokens_of c.args.tokens.now in
     let l = c.loop-alloc in
-    let m = step.then_goes table most_open ts 0 l.invariant.same (as_item ts l.next l.has_block _ (sym c.wants_item.ensures ∙ c.loop-alloc-test.true)) in
+    let m = step.then_goes table most_open ts 0 l.invariant.same
+    (as_item ts l.next l.has_block _ (sym c.wants_item.ensures ∙ c.loop-alloc-test.true)) in
     let f = c.in_ok-found.ensures in
-    rw (items_more l.items.items _ c.in_ok-found.found.item c.in_ok-push.ensures.items, c.with_block-has_block.ensures, f.kind) (record {
+    rw (
+      items_more l.items.items _ c.in_ok-found.found.item c.in_ok-push.ensures.items,
+      c.with_block-has_block.ensures,
+      f.kind,
+    ) (record {
       forward = omega (arith, l.invariant.forward, f.reads.forward);
       moved = λ e. omega (arith, l.invariant.forward, f.reads.forward);
       in_range = f.reads.in_range;
-      same = by_do MakeNextItem _ _ _ (by_call 0 (item_left ts l.next l.has_block) _ m (omega arith) f.reads.same) (λ below. refl);
+      same = by_do MakeNextItem _ _ _ (by_call 0 (item_left ts l.next l.has_block) _ m (omega arith) f.reads.same)
+          (λ below. refl);
     })
 
 pub returns : goal.returns

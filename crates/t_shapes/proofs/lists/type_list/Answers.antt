@@ -27,4 +27,8 @@ returns c =
     let d = c.args.depth in
     let i = c.args.at in
     let r = c.in_ok-found.ensures in
-    record { forward = r.forward; in_range = r.in_range; same = by_call d [] [] (as_some ts d i (sym c.take.ensures ∙ c.in_default.is)) (omega arith) r.same }
+    record {
+      forward = r.forward;
+      in_range = r.in_range;
+      same = by_call d [] [] (as_some ts d i (sym c.take.ensures ∙ c.in_default.is)) (omega arith) r.same;
+    }

@@ -21,7 +21,8 @@ returns-in_err-inner c =
     let d = c.args.depth in
     let i = c.args.at in
     let p = err_from_is_err_and c.from_residual-in_err-inner.result c.from_residual-in_err-inner.ensures.1 in
-    rw (p.1, p.2) (too_deep ts d i _ _ LTypes want.LeftBracket _ opens_types c.in_ok-expect.ensures refl c.in_err-inner.ensures)
+    rw (p.1, p.2)
+    (too_deep ts d i _ _ LTypes want.LeftBracket _ opens_types c.in_ok-expect.ensures refl c.in_err-inner.ensures)
 
 pub type_list-requires-clause-at : goal.type_list-requires-clause-at
 type_list-requires-clause-at c =
@@ -36,11 +37,15 @@ returns-in_err-found c =
     let d = c.args.depth in
     let i = c.args.at in
     let p = err_from_is_err_and c.from_residual-in_err-found.result c.from_residual-in_err-found.ensures.1 in
-    rw (p.1, p.2) (bracketed_stops ts d i _ LTypes LTypeList want.LeftBracket MakeTypes opens_types c.in_ok-expect.ensures _ c.in_ok-inner.ensures.1 c.in_ok-inner.ensures.0 _ c.in_err-found.ensures)
+    rw (p.1, p.2)
+    (bracketed_stops ts d i _ LTypes LTypeList want.LeftBracket MakeTypes opens_types c.in_ok-expect.ensures _
+    c.in_ok-inner.ensures.1 c.in_ok-inner.ensures.0 _ c.in_err-found.ensures)
 
 pub returns : goal.returns
 returns c =
     let ts = tokens_of c.args.tokens.now in
     let d = c.args.depth in
     let i = c.args.at in
-    bracketed ts d i _ LTypes LTypeList want.LeftBracket MakeTypes opens_types c.in_ok-expect.ensures _ c.in_ok-inner.ensures.1 c.in_ok-inner.ensures.0 c.in_ok-found.found.next _ _ c.in_ok-found.ensures (λ below. refl)
+    bracketed ts d i _ LTypes LTypeList want.LeftBracket MakeTypes opens_types c.in_ok-expect.ensures _
+    c.in_ok-inner.ensures.1 c.in_ok-inner.ensures.0 c.in_ok-found.found.next _ _ c.in_ok-found.ensures
+    (λ below. refl)

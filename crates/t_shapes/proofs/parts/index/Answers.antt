@@ -20,7 +20,9 @@ returns-in_err-field c =
     let ts = tokens_of c.args.tokens.now in
     let i = c.args.at in
     let p = err_from_is_err_and c.from_residual-in_err-field.result c.from_residual-in_err-field.ensures.1 in
-    rw (p.1, p.2) (two_stop ts i LIndex want.Number want.RightBracket MakeIndex opens_index _ c.in_ok-expect.ensures _ (inl c.in_err-field.ensures))
+    rw (p.1, p.2)
+    (two_stop ts i LIndex want.Number want.RightBracket MakeIndex opens_index _ c.in_ok-expect.ensures _
+    (inl c.in_err-field.ensures))
 
 pub returns-in_err-close : goal.returns-in_err-close
 returns-in_err-close c =
@@ -28,7 +30,9 @@ returns-in_err-close c =
     let i = c.args.at in
     let g = c.in_ok-field.ensures in
     let p = err_from_is_err_and c.from_residual-in_err-close.result c.from_residual-in_err-close.ensures.1 in
-    rw (p.1, p.2) (second_stop ts i LIndex want.Number want.RightBracket MakeIndex opens_index _ c.in_ok-expect.ensures g.0 (i + 2) (omega arith) g.1 _ c.in_err-close.ensures)
+    rw (p.1, p.2)
+    (second_stop ts i LIndex want.Number want.RightBracket MakeIndex opens_index _ c.in_ok-expect.ensures g.0
+    (i + 2) (omega arith) g.1 _ c.in_err-close.ensures)
 
 pub returns : goal.returns
 returns c =
@@ -36,4 +40,5 @@ returns c =
     let i = c.args.at in
     let g = c.in_ok-field.ensures in
     let q : i + 2 ≡ i + 1 + 1 = omega arith in
-    rw g.2 (two_read ts i LIndex want.Number want.RightBracket MakeIndex opens_index _ c.in_ok-expect.ensures g.0 c.in_ok-close.close _ (g.1, rw q at c.in_ok-close.ensures) (λ below. refl))
+    rw g.2 (two_read ts i LIndex want.Number want.RightBracket MakeIndex opens_index _ c.in_ok-expect.ensures g.0
+    c.in_ok-close.close _ (g.1, rw q at c.in_ok-close.ensures) (λ below. refl))

@@ -20,10 +20,13 @@ returns-in_err-close c =
     let ts = tokens_of c.args.tokens.now in
     let i = c.args.at in
     let p = err_from_is_err_and c.from_residual-in_err-close.result c.from_residual-in_err-close.ensures.1 in
-    rw (p.1, p.2) (two_stop ts i LInt want.Int want.RightBracket MakeInt opens_int _ c.in_ok-expect.ensures _ c.in_err-close.ensures)
+    rw (p.1, p.2)
+    (two_stop ts i LInt want.Int want.RightBracket MakeInt opens_int _ c.in_ok-expect.ensures _
+    c.in_err-close.ensures)
 
 pub returns : goal.returns
 returns c =
     let ts = tokens_of c.args.tokens.now in
     let i = c.args.at in
-    two_read ts i LInt want.Int want.RightBracket MakeInt opens_int _ c.in_ok-expect.ensures _ c.in_ok-close.close _ c.in_ok-close.ensures (λ below. refl)
+    two_read ts i LInt want.Int want.RightBracket MakeInt opens_int _ c.in_ok-expect.ensures _ c.in_ok-close.close _
+    c.in_ok-close.ensures (λ below. refl)

@@ -35,5 +35,7 @@ returns c =
     rw e (record {
       forward = omega arith;
       in_range = omega (arith, l);
-      same = by_do MakeTo [] _ _ (by_two want.Register want.Comma g.0 _ (Do MakeTo ∷ []) [] (to_goes ts i) (g.1, c.in_ok-expect.ensures) (omega arith)) (λ below. refl);
+      same = by_do MakeTo [] _ _
+          (by_two want.Register want.Comma g.0 _ (Do MakeTo ∷ []) [] (to_goes ts i) (g.1, c.in_ok-expect.ensures)
+          (omega arith)) (λ below. refl);
     })

@@ -26,7 +26,8 @@ pub returns-in_err-found : goal.returns-in_err-found
 returns-in_err-found c =
     let ts = tokens_of c.args.tokens.now in
     let i = c.args.at in
-    let m = by_token want.Register c.in_ok-reg.ensures.0 (Nt LIndex ∷ (Do MakeAt ∷ [])) [] (at_goes ts i) c.in_ok-reg.ensures.1 (omega arith) in
+    let m = by_token want.Register c.in_ok-reg.ensures.0 (Nt LIndex ∷ (Do MakeAt ∷ [])) []
+    (at_goes ts i) c.in_ok-reg.ensures.1 (omega arith) in
     let p = err_from_is_err_and c.from_residual-in_err-found.result c.from_residual-in_err-found.ensures.1 in
     rw (p.1, p.2) (stop_call _ (Nt LIndex ∷ []) 0 (Do MakeAt ∷ []) _ m (omega arith) c.in_err-found.ensures)
 
@@ -34,11 +35,13 @@ pub returns : goal.returns
 returns c =
     let ts = tokens_of c.args.tokens.now in
     let i = c.args.at in
-    let m = by_token want.Register c.in_ok-reg.ensures.0 (Nt LIndex ∷ (Do MakeAt ∷ [])) [] (at_goes ts i) c.in_ok-reg.ensures.1 (omega arith) in
+    let m = by_token want.Register c.in_ok-reg.ensures.0 (Nt LIndex ∷ (Do MakeAt ∷ [])) []
+    (at_goes ts i) c.in_ok-reg.ensures.1 (omega arith) in
     let r = c.in_ok-found.ensures in
     let e = ap (λ (p : ℕ × Span). p.0) c.in_ok-reg.ensures.2 in
     rw e (record {
       forward = omega arith;
       in_range = omega (arith, r.in_range);
-      same = by_same (omega arith) (by_do MakeAt [] _ _ (by_call 0 (Do MakeAt ∷ []) _ m (omega arith) r.same) (λ below. refl));
+      same = by_same (omega arith)
+          (by_do MakeAt [] _ _ (by_call 0 (Do MakeAt ∷ []) _ m (omega arith) r.same) (λ below. refl));
     })

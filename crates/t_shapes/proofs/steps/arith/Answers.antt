@@ -15,7 +15,9 @@ returns-in_err-rd c =
     let w = c.args.word in
     let s = starting ts 0 i (arith_left c.args.op) (OfToken w ∷ []) in
     let p = err_from_is_err_and c.from_residual.result c.from_residual.ensures.1 in
-    rw (p.1, p.2) (stop_call _ (Nt LTo ∷ []) 0 (Nt LTo ∷ (Nt LV ∷ (Do (MakeArith c.args.op) ∷ []))) (OfToken w ∷ []) s (omega arith) c.in_err-rd.ensures)
+    rw (p.1, p.2)
+    (stop_call _ (Nt LTo ∷ []) 0 (Nt LTo ∷ (Nt LV ∷ (Do (MakeArith c.args.op) ∷ []))) (OfToken w ∷ []) s
+    (omega arith) c.in_err-rd.ensures)
 
 pub returns-in_err-rs : goal.returns-in_err-rs
 returns-in_err-rs c =
@@ -23,9 +25,11 @@ returns-in_err-rs c =
     let i = c.args.at in
     let w = c.args.word in
     let s = starting ts 0 i (arith_left c.args.op) (OfToken w ∷ []) in
-    let m1 = by_call 0 (Nt LTo ∷ (Nt LV ∷ (Do (MakeArith c.args.op) ∷ []))) (OfToken w ∷ []) s (omega arith) c.in_ok-rd.ensures.same in
+    let m1 = by_call 0 (Nt LTo ∷ (Nt LV ∷ (Do (MakeArith c.args.op) ∷ []))) (OfToken w ∷ []) s
+    (omega arith) c.in_ok-rd.ensures.same in
     let p = err_from_is_err_and c.from_residual-in_err-rs.result c.from_residual-in_err-rs.ensures.1 in
-    rw (p.1, p.2) (stop_call _ (Nt LTo ∷ []) 0 (Nt LV ∷ (Do (MakeArith c.args.op) ∷ [])) _ m1 (omega arith) c.in_err-rs.ensures)
+    rw (p.1, p.2)
+    (stop_call _ (Nt LTo ∷ []) 0 (Nt LV ∷ (Do (MakeArith c.args.op) ∷ [])) _ m1 (omega arith) c.in_err-rs.ensures)
 
 pub value-requires-clause-at : goal.value-requires-clause-at
 value-requires-clause-at c =
@@ -39,8 +43,10 @@ returns-in_err-found c =
     let i = c.args.at in
     let w = c.args.word in
     let s = starting ts 0 i (arith_left c.args.op) (OfToken w ∷ []) in
-    let m1 = by_call 0 (Nt LTo ∷ (Nt LV ∷ (Do (MakeArith c.args.op) ∷ []))) (OfToken w ∷ []) s (omega arith) c.in_ok-rd.ensures.same in
-    let m2 = by_same {k = i + 4} (omega arith) (by_call 0 (Nt LV ∷ (Do (MakeArith c.args.op) ∷ [])) _ m1 (omega arith) c.in_ok-rs.ensures.same) in
+    let m1 = by_call 0 (Nt LTo ∷ (Nt LV ∷ (Do (MakeArith c.args.op) ∷ []))) (OfToken w ∷ []) s
+    (omega arith) c.in_ok-rd.ensures.same in
+    let m2 = by_same {k = i + 4} (omega arith)
+    (by_call 0 (Nt LV ∷ (Do (MakeArith c.args.op) ∷ [])) _ m1 (omega arith) c.in_ok-rs.ensures.same) in
     let p = err_from_is_err_and c.from_residual-in_err-found.result c.from_residual-in_err-found.ensures.1 in
     rw (p.1, p.2) (stop_call _ (Nt LV ∷ []) 0 (Do (MakeArith c.args.op) ∷ []) _ m2 (omega arith) c.in_err-found.ensures)
 
@@ -50,11 +56,14 @@ returns c =
     let i = c.args.at in
     let w = c.args.word in
     let s = starting ts 0 i (arith_left c.args.op) (OfToken w ∷ []) in
-    let m1 = by_call 0 (Nt LTo ∷ (Nt LV ∷ (Do (MakeArith c.args.op) ∷ []))) (OfToken w ∷ []) s (omega arith) c.in_ok-rd.ensures.same in
-    let m2 = by_same {k = i + 4} (omega arith) (by_call 0 (Nt LV ∷ (Do (MakeArith c.args.op) ∷ [])) _ m1 (omega arith) c.in_ok-rs.ensures.same) in
+    let m1 = by_call 0 (Nt LTo ∷ (Nt LV ∷ (Do (MakeArith c.args.op) ∷ []))) (OfToken w ∷ []) s
+    (omega arith) c.in_ok-rd.ensures.same in
+    let m2 = by_same {k = i + 4} (omega arith)
+    (by_call 0 (Nt LV ∷ (Do (MakeArith c.args.op) ∷ [])) _ m1 (omega arith) c.in_ok-rs.ensures.same) in
     let r = c.in_ok-found.ensures in
     rw c.up_to.ensures (record {
       forward = omega (arith, r.forward);
       in_range = r.in_range;
-      same = by_do (MakeArith c.args.op) [] _ _ (by_call 0 (Do (MakeArith c.args.op) ∷ []) _ m2 (omega arith) r.same) (λ below. refl);
+      same = by_do (MakeArith c.args.op) [] _ _ (by_call 0 (Do (MakeArith c.args.op) ∷ []) _ m2 (omega arith) r.same)
+          (λ below. refl);
     })

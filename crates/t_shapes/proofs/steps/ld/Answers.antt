@@ -15,7 +15,8 @@ returns-in_err-reg c =
     let w = c.args.word in
     let s = starting ts 0 i (ld_left) (OfToken w ∷ []) in
     let p = err_from_is_err_and c.from_residual.result c.from_residual.ensures.1 in
-    rw (p.1, p.2) (stop_call _ (Nt LTo ∷ []) 0 (Nt LAt ∷ (Do MakeLd ∷ [])) (OfToken w ∷ []) s (omega arith) c.in_err-reg.ensures)
+    rw (p.1, p.2)
+    (stop_call _ (Nt LTo ∷ []) 0 (Nt LAt ∷ (Do MakeLd ∷ [])) (OfToken w ∷ []) s (omega arith) c.in_err-reg.ensures)
 
 pub place-requires : goal.place-requires
 place-requires c =
@@ -44,5 +45,6 @@ returns c =
     rw c.up_to.ensures (record {
       forward = omega arith;
       in_range = omega (arith, r.in_range);
-      same = by_same (omega arith) (by_do MakeLd [] _ _ (by_call 0 (Do MakeLd ∷ []) _ m1 (omega arith) r.same) (λ below. refl));
+      same = by_same (omega arith)
+          (by_do MakeLd [] _ _ (by_call 0 (Do MakeLd ∷ []) _ m1 (omega arith) r.same) (λ below. refl));
     })

@@ -17,7 +17,8 @@ returns-in_err-reg c =
     let w = c.args.word in
     let s = starting ts 0 i (malloc_left) (OfToken w ∷ []) in
     let p = err_from_is_err_and c.from_residual.result c.from_residual.ensures.1 in
-    rw (p.1, p.2) (stop_token _ want.Register (Nt LTypes ∷ (Do MakeMalloc ∷ [])) (OfToken w ∷ []) s c.in_err-reg.ensures)
+    rw (p.1, p.2)
+    (stop_token _ want.Register (Nt LTypes ∷ (Do MakeMalloc ∷ [])) (OfToken w ∷ []) s c.in_err-reg.ensures)
 
 pub types-requires-clause-at : goal.types-requires-clause-at
 types-requires-clause-at c =
@@ -31,7 +32,8 @@ returns-in_err-found c =
     let i = c.args.at in
     let w = c.args.word in
     let s = starting ts 0 i (malloc_left) (OfToken w ∷ []) in
-    let m1 = by_token want.Register c.in_ok-reg.ensures.0 (Nt LTypes ∷ (Do MakeMalloc ∷ [])) (OfToken w ∷ []) s c.in_ok-reg.ensures.1 (omega arith) in
+    let m1 = by_token want.Register c.in_ok-reg.ensures.0 (Nt LTypes ∷ (Do MakeMalloc ∷ []))
+    (OfToken w ∷ []) s c.in_ok-reg.ensures.1 (omega arith) in
     let p = err_from_is_err_and c.from_residual-in_err-found.result c.from_residual-in_err-found.ensures.1 in
     rw (p.1, p.2) (stop_call _ (Nt LTypes ∷ []) 0 (Do MakeMalloc ∷ []) _ m1 (omega arith) c.in_err-found.ensures)
 
@@ -41,7 +43,8 @@ returns c =
     let i = c.args.at in
     let w = c.args.word in
     let s = starting ts 0 i (malloc_left) (OfToken w ∷ []) in
-    let m1 = by_token want.Register c.in_ok-reg.ensures.0 (Nt LTypes ∷ (Do MakeMalloc ∷ [])) (OfToken w ∷ []) s c.in_ok-reg.ensures.1 (omega arith) in
+    let m1 = by_token want.Register c.in_ok-reg.ensures.0 (Nt LTypes ∷ (Do MakeMalloc ∷ []))
+    (OfToken w ∷ []) s c.in_ok-reg.ensures.1 (omega arith) in
     let r = c.in_ok-found.ensures in
     let e = ap (λ (p : ℕ × Span). p.0) c.in_ok-reg.ensures.2 in
     rw (e, c.up_to.ensures) (record {

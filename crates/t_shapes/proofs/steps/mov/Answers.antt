@@ -15,7 +15,8 @@ returns-in_err-reg c =
     let w = c.args.word in
     let s = starting ts 0 i (mov_left) (OfToken w ∷ []) in
     let p = err_from_is_err_and c.from_residual.result c.from_residual.ensures.1 in
-    rw (p.1, p.2) (stop_call _ (Nt LTo ∷ []) 0 (Nt LV ∷ (Do MakeMov ∷ [])) (OfToken w ∷ []) s (omega arith) c.in_err-reg.ensures)
+    rw (p.1, p.2)
+    (stop_call _ (Nt LTo ∷ []) 0 (Nt LV ∷ (Do MakeMov ∷ [])) (OfToken w ∷ []) s (omega arith) c.in_err-reg.ensures)
 
 pub value-requires-clause-at : goal.value-requires-clause-at
 value-requires-clause-at c =

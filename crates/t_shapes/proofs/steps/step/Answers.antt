@@ -85,4 +85,7 @@ returns-in_default c =
     let i = c.args.at in
     let e : slice_get ts i ≡ Some c.in-Some.word = sym c.peek.ensures ∙ c.in-Some.is in
     let n = c.in_default in
-    stop_lacks _ LI [] [] (start ts 0 i (Nt LI ∷ [])) refl (other c.in-Some.word e (no_step c.in-Some.word.kind n.not-Add n.not-Sub n.not-Mul n.not-Bnz n.not-Ld n.not-Malloc n.not-Mov n.not-St n.not-Unpack)) refl
+    stop_lacks _ LI [] [] (start ts 0 i (Nt LI ∷ [])) refl
+    (other c.in-Some.word e
+    (no_step c.in-Some.word.kind n.not-Add n.not-Sub n.not-Mul n.not-Bnz n.not-Ld n.not-Malloc n.not-Mov n.not-St
+    n.not-Unpack)) refl

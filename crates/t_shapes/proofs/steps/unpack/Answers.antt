@@ -16,7 +16,9 @@ returns-in_err-to c =
     let w = c.args.word in
     let s = starting ts 0 i (unpack_left) (OfToken w ∷ []) in
     let p = err_from_is_err_and c.from_residual.result c.from_residual.ensures.1 in
-    rw (p.1, p.2) (stop_call _ (Nt LTarget ∷ []) 0 (Tm want.Comma ∷ (Nt LV ∷ (Do MakeUnpack ∷ []))) (OfToken w ∷ []) s (omega arith) c.in_err-to.ensures)
+    rw (p.1, p.2)
+    (stop_call _ (Nt LTarget ∷ []) 0 (Tm want.Comma ∷ (Nt LV ∷ (Do MakeUnpack ∷ []))) (OfToken w ∷ []) s
+    (omega arith) c.in_err-to.ensures)
 
 pub returns-in_err-expect : goal.returns-in_err-expect
 returns-in_err-expect c =
@@ -24,7 +26,8 @@ returns-in_err-expect c =
     let i = c.args.at in
     let w = c.args.word in
     let s = starting ts 0 i (unpack_left) (OfToken w ∷ []) in
-    let m1 = by_call 0 (Tm want.Comma ∷ (Nt LV ∷ (Do MakeUnpack ∷ []))) (OfToken w ∷ []) s (omega arith) c.in_ok-to.ensures.same in
+    let m1 = by_call 0 (Tm want.Comma ∷ (Nt LV ∷ (Do MakeUnpack ∷ []))) (OfToken w ∷ []) s
+    (omega arith) c.in_ok-to.ensures.same in
     let p = err_from_is_err_and c.from_residual-in_err-expect.result c.from_residual-in_err-expect.ensures.1 in
     rw (p.1, p.2) (stop_token _ want.Comma (Nt LV ∷ (Do MakeUnpack ∷ [])) _ m1 c.in_err-expect.ensures)
 
@@ -40,8 +43,10 @@ returns-in_err-found c =
     let i = c.args.at in
     let w = c.args.word in
     let s = starting ts 0 i (unpack_left) (OfToken w ∷ []) in
-    let m1 = by_call 0 (Tm want.Comma ∷ (Nt LV ∷ (Do MakeUnpack ∷ []))) (OfToken w ∷ []) s (omega arith) c.in_ok-to.ensures.same in
-    let m2 = by_same {k = i + 6} (omega arith) (by_token want.Comma _ (Nt LV ∷ (Do MakeUnpack ∷ [])) _ m1 c.in_ok-expect.ensures (omega arith)) in
+    let m1 = by_call 0 (Tm want.Comma ∷ (Nt LV ∷ (Do MakeUnpack ∷ []))) (OfToken w ∷ []) s
+    (omega arith) c.in_ok-to.ensures.same in
+    let m2 = by_same {k = i + 6} (omega arith)
+    (by_token want.Comma _ (Nt LV ∷ (Do MakeUnpack ∷ [])) _ m1 c.in_ok-expect.ensures (omega arith)) in
     let p = err_from_is_err_and c.from_residual-in_err-found.result c.from_residual-in_err-found.ensures.1 in
     rw (p.1, p.2) (stop_call _ (Nt LV ∷ []) 0 (Do MakeUnpack ∷ []) _ m2 (omega arith) c.in_err-found.ensures)
 
@@ -51,8 +56,10 @@ returns c =
     let i = c.args.at in
     let w = c.args.word in
     let s = starting ts 0 i (unpack_left) (OfToken w ∷ []) in
-    let m1 = by_call 0 (Tm want.Comma ∷ (Nt LV ∷ (Do MakeUnpack ∷ []))) (OfToken w ∷ []) s (omega arith) c.in_ok-to.ensures.same in
-    let m2 = by_same {k = i + 6} (omega arith) (by_token want.Comma _ (Nt LV ∷ (Do MakeUnpack ∷ [])) _ m1 c.in_ok-expect.ensures (omega arith)) in
+    let m1 = by_call 0 (Tm want.Comma ∷ (Nt LV ∷ (Do MakeUnpack ∷ []))) (OfToken w ∷ []) s
+    (omega arith) c.in_ok-to.ensures.same in
+    let m2 = by_same {k = i + 6} (omega arith)
+    (by_token want.Comma _ (Nt LV ∷ (Do MakeUnpack ∷ [])) _ m1 c.in_ok-expect.ensures (omega arith)) in
     let r = c.in_ok-found.ensures in
     rw c.up_to.ensures (record {
       forward = omega (arith, r.forward);

@@ -5,7 +5,8 @@ use Rattle.text_core.specs.Table.{Tm, Nt, Do, Mark}
 use Rattle.text_core.specs.Going.{at_the_end, other}
 use Rattle.t_terms.specs.declared.wanted.Wanted.TheVariants as want
 use Rattle.t_terms.specs.GrammarTable.{LT, LV, LPacked, MakePacked, MakePack, value_after}
-use Rattle.t_grammar.proofs.Stepping.{within, start, begins, by_token, by_call, by_do, by_mark, stop_token, stop_call, stop_lacks, opening, not_opening, too_deep}
+use Rattle.t_grammar.proofs.Stepping.{within, start, begins, by_token, by_call, by_do, by_mark, stop_token, stop_call}
+use Rattle.t_grammar.proofs.Stepping.{stop_lacks, opening, not_opening, too_deep}
 use Rattle.t_shapes.proofs.Lines.{opens_packed, no_value}
 use Rattle.t_lexer.specs.Kept.{tokens_of}
 use Rattle.t_shapes.proofs.values.+values.Goals as goal
@@ -24,7 +25,9 @@ packed-returns-in_err-inner t c =
     let d = c.args.depth in
     let i = c.args.at in
     let p = err_from_is_err_and c.from_residual-in_err-inner.result c.from_residual-in_err-inner.ensures.1 in
-    rw (p.1, p.2) (too_deep ts d i _ _ LPacked want.LeftBracket _ opens_packed c.in_ok-expect.ensures refl c.in_err-inner.ensures)
+    rw (p.1, p.2)
+    (too_deep ts d i _ _ LPacked want.LeftBracket _ opens_packed c.in_ok-expect.ensures refl
+    c.in_err-inner.ensures)
 
 pub packed-whole_type-requires-clause-at : goal.packed-whole_type-requires-clause-at
 packed-whole_type-requires-clause-at t c =
@@ -39,9 +42,13 @@ packed-returns-in_err-hidden t c =
     let d = c.args.depth in
     let i = c.args.at in
     let q = c.in_ok-inner.ensures in
-    let m1 = opening ts d i _ LPacked want.LeftBracket (Nt LT ∷ (Tm want.Comma ∷ (Nt LV ∷ (Tm want.RightBracket ∷ (Mark ∷ (Do MakePacked ∷ [])))))) opens_packed c.in_ok-expect.ensures (omega (arith, q.1)) in
+    let m1 = opening ts d i _ LPacked want.LeftBracket
+    (Nt LT ∷ (Tm want.Comma ∷ (Nt LV ∷ (Tm want.RightBracket ∷ (Mark ∷ (Do MakePacked ∷ [])))))) opens_packed
+    c.in_ok-expect.ensures (omega (arith, q.1)) in
     let p = err_from_is_err_and c.from_residual-in_err-hidden.result c.from_residual-in_err-hidden.ensures.1 in
-    rw (p.1, p.2) (stop_call _ (Nt LT ∷ []) _ (Tm want.Comma ∷ (Nt LV ∷ (Tm want.RightBracket ∷ (Mark ∷ (Do MakePacked ∷ []))))) _ m1 (omega (arith, q.0)) c.in_err-hidden.ensures)
+    rw (p.1, p.2)
+    (stop_call _ (Nt LT ∷ []) _ (Tm want.Comma ∷ (Nt LV ∷ (Tm want.RightBracket ∷ (Mark ∷ (Do MakePacked ∷ [])))))
+    _ m1 (omega (arith, q.0)) c.in_err-hidden.ensures)
 
 pub packed-returns-in_err-expect-2 : goal.packed-returns-in_err-expect-2
 packed-returns-in_err-expect-2 t c =
@@ -49,10 +56,15 @@ packed-returns-in_err-expect-2 t c =
     let d = c.args.depth in
     let i = c.args.at in
     let q = c.in_ok-inner.ensures in
-    let m1 = opening ts d i _ LPacked want.LeftBracket (Nt LT ∷ (Tm want.Comma ∷ (Nt LV ∷ (Tm want.RightBracket ∷ (Mark ∷ (Do MakePacked ∷ [])))))) opens_packed c.in_ok-expect.ensures (omega (arith, q.1)) in
-    let m2 = by_call _ (Tm want.Comma ∷ (Nt LV ∷ (Tm want.RightBracket ∷ (Mark ∷ (Do MakePacked ∷ []))))) _ m1 (omega (arith, q.0)) c.in_ok-hidden.ensures.same in
+    let m1 = opening ts d i _ LPacked want.LeftBracket
+    (Nt LT ∷ (Tm want.Comma ∷ (Nt LV ∷ (Tm want.RightBracket ∷ (Mark ∷ (Do MakePacked ∷ [])))))) opens_packed
+    c.in_ok-expect.ensures (omega (arith, q.1)) in
+    let m2 = by_call _ (Tm want.Comma ∷ (Nt LV ∷ (Tm want.RightBracket ∷ (Mark ∷ (Do MakePacked ∷ []))))) _ m1
+    (omega (arith, q.0)) c.in_ok-hidden.ensures.same in
     let p = err_from_is_err_and c.from_residual-in_err-expect-2.result c.from_residual-in_err-expect-2.ensures.1 in
-    rw (p.1, p.2) (stop_token _ want.Comma (Nt LV ∷ (Tm want.RightBracket ∷ (Mark ∷ (Do MakePacked ∷ [])))) _ m2 c.in_err-expect-2.ensures)
+    rw (p.1, p.2)
+    (stop_token _ want.Comma (Nt LV ∷ (Tm want.RightBracket ∷ (Mark ∷ (Do MakePacked ∷ [])))) _ m2
+    c.in_err-expect-2.ensures)
 
 pub packed-value-requires : goal.packed-value-requires
 packed-value-requires t c =
@@ -71,11 +83,17 @@ packed-returns-in_err-found t c =
     let d = c.args.depth in
     let i = c.args.at in
     let q = c.in_ok-inner.ensures in
-    let m1 = opening ts d i _ LPacked want.LeftBracket (Nt LT ∷ (Tm want.Comma ∷ (Nt LV ∷ (Tm want.RightBracket ∷ (Mark ∷ (Do MakePacked ∷ [])))))) opens_packed c.in_ok-expect.ensures (omega (arith, q.1)) in
-    let m2 = by_call _ (Tm want.Comma ∷ (Nt LV ∷ (Tm want.RightBracket ∷ (Mark ∷ (Do MakePacked ∷ []))))) _ m1 (omega (arith, q.0)) c.in_ok-hidden.ensures.same in
-    let m3 = by_token want.Comma _ (Nt LV ∷ (Tm want.RightBracket ∷ (Mark ∷ (Do MakePacked ∷ [])))) _ m2 c.in_ok-expect-2.ensures (omega (arith, q.1)) in
+    let m1 = opening ts d i _ LPacked want.LeftBracket
+    (Nt LT ∷ (Tm want.Comma ∷ (Nt LV ∷ (Tm want.RightBracket ∷ (Mark ∷ (Do MakePacked ∷ [])))))) opens_packed
+    c.in_ok-expect.ensures (omega (arith, q.1)) in
+    let m2 = by_call _ (Tm want.Comma ∷ (Nt LV ∷ (Tm want.RightBracket ∷ (Mark ∷ (Do MakePacked ∷ []))))) _ m1
+    (omega (arith, q.0)) c.in_ok-hidden.ensures.same in
+    let m3 = by_token want.Comma _ (Nt LV ∷ (Tm want.RightBracket ∷ (Mark ∷ (Do MakePacked ∷ [])))) _ m2
+    c.in_ok-expect-2.ensures (omega (arith, q.1)) in
     let p = err_from_is_err_and c.from_residual-in_err-found.result c.from_residual-in_err-found.ensures.1 in
-    rw (p.1, p.2) (stop_call _ (Nt LV ∷ []) _ (Tm want.RightBracket ∷ (Mark ∷ (Do MakePacked ∷ []))) _ m3 (omega (arith, q.0)) c.in_err-found.ensures)
+    rw (p.1, p.2)
+    (stop_call _ (Nt LV ∷ []) _ (Tm want.RightBracket ∷ (Mark ∷ (Do MakePacked ∷ []))) _ m3
+    (omega (arith, q.0)) c.in_err-found.ensures)
 
 pub packed-returns-in_err-expect-3 : goal.packed-returns-in_err-expect-3
 packed-returns-in_err-expect-3 t c =
@@ -83,10 +101,15 @@ packed-returns-in_err-expect-3 t c =
     let d = c.args.depth in
     let i = c.args.at in
     let q = c.in_ok-inner.ensures in
-    let m1 = opening ts d i _ LPacked want.LeftBracket (Nt LT ∷ (Tm want.Comma ∷ (Nt LV ∷ (Tm want.RightBracket ∷ (Mark ∷ (Do MakePacked ∷ [])))))) opens_packed c.in_ok-expect.ensures (omega (arith, q.1)) in
-    let m2 = by_call _ (Tm want.Comma ∷ (Nt LV ∷ (Tm want.RightBracket ∷ (Mark ∷ (Do MakePacked ∷ []))))) _ m1 (omega (arith, q.0)) c.in_ok-hidden.ensures.same in
-    let m3 = by_token want.Comma _ (Nt LV ∷ (Tm want.RightBracket ∷ (Mark ∷ (Do MakePacked ∷ [])))) _ m2 c.in_ok-expect-2.ensures (omega (arith, q.1)) in
-    let m4 = by_call _ (Tm want.RightBracket ∷ (Mark ∷ (Do MakePacked ∷ []))) _ m3 (omega (arith, q.0)) c.in_ok-found.ensures.same in
+    let m1 = opening ts d i _ LPacked want.LeftBracket
+    (Nt LT ∷ (Tm want.Comma ∷ (Nt LV ∷ (Tm want.RightBracket ∷ (Mark ∷ (Do MakePacked ∷ [])))))) opens_packed
+    c.in_ok-expect.ensures (omega (arith, q.1)) in
+    let m2 = by_call _ (Tm want.Comma ∷ (Nt LV ∷ (Tm want.RightBracket ∷ (Mark ∷ (Do MakePacked ∷ []))))) _ m1
+    (omega (arith, q.0)) c.in_ok-hidden.ensures.same in
+    let m3 = by_token want.Comma _ (Nt LV ∷ (Tm want.RightBracket ∷ (Mark ∷ (Do MakePacked ∷ [])))) _ m2
+    c.in_ok-expect-2.ensures (omega (arith, q.1)) in
+    let m4 = by_call _ (Tm want.RightBracket ∷ (Mark ∷ (Do MakePacked ∷ []))) _ m3
+    (omega (arith, q.0)) c.in_ok-found.ensures.same in
     let p = err_from_is_err_and c.from_residual-in_err-expect-3.result c.from_residual-in_err-expect-3.ensures.1 in
     rw (p.1, p.2) (stop_token _ want.RightBracket (Mark ∷ (Do MakePacked ∷ [])) _ m4 c.in_err-expect-3.ensures)
 
@@ -96,11 +119,17 @@ packed-returns t c =
     let d = c.args.depth in
     let i = c.args.at in
     let q = c.in_ok-inner.ensures in
-    let m1 = opening ts d i _ LPacked want.LeftBracket (Nt LT ∷ (Tm want.Comma ∷ (Nt LV ∷ (Tm want.RightBracket ∷ (Mark ∷ (Do MakePacked ∷ [])))))) opens_packed c.in_ok-expect.ensures (omega (arith, q.1)) in
-    let m2 = by_call _ (Tm want.Comma ∷ (Nt LV ∷ (Tm want.RightBracket ∷ (Mark ∷ (Do MakePacked ∷ []))))) _ m1 (omega (arith, q.0)) c.in_ok-hidden.ensures.same in
-    let m3 = by_token want.Comma _ (Nt LV ∷ (Tm want.RightBracket ∷ (Mark ∷ (Do MakePacked ∷ [])))) _ m2 c.in_ok-expect-2.ensures (omega (arith, q.1)) in
-    let m4 = by_call _ (Tm want.RightBracket ∷ (Mark ∷ (Do MakePacked ∷ []))) _ m3 (omega (arith, q.0)) c.in_ok-found.ensures.same in
-    let m5 = by_token want.RightBracket _ (Mark ∷ (Do MakePacked ∷ [])) _ m4 c.in_ok-expect-3.ensures (omega (arith, q.1)) in
+    let m1 = opening ts d i _ LPacked want.LeftBracket
+    (Nt LT ∷ (Tm want.Comma ∷ (Nt LV ∷ (Tm want.RightBracket ∷ (Mark ∷ (Do MakePacked ∷ [])))))) opens_packed
+    c.in_ok-expect.ensures (omega (arith, q.1)) in
+    let m2 = by_call _ (Tm want.Comma ∷ (Nt LV ∷ (Tm want.RightBracket ∷ (Mark ∷ (Do MakePacked ∷ []))))) _ m1
+    (omega (arith, q.0)) c.in_ok-hidden.ensures.same in
+    let m3 = by_token want.Comma _ (Nt LV ∷ (Tm want.RightBracket ∷ (Mark ∷ (Do MakePacked ∷ [])))) _ m2
+    c.in_ok-expect-2.ensures (omega (arith, q.1)) in
+    let m4 = by_call _ (Tm want.RightBracket ∷ (Mark ∷ (Do MakePacked ∷ []))) _ m3
+    (omega (arith, q.0)) c.in_ok-found.ensures.same in
+    let m5 = by_token want.RightBracket _ (Mark ∷ (Do MakePacked ∷ [])) _ m4 c.in_ok-expect-3.ensures
+    (omega (arith, q.1)) in
     let l = within ts c.in_ok-found.found.next want.RightBracket _ c.in_ok-expect-3.ensures in
     record {
       forward = omega (arith, c.in_ok-hidden.ensures.forward, c.in_ok-found.ensures.forward);
@@ -130,10 +159,15 @@ value-returns-in_err-packed-in-Pack t c =
     let d = c.args.depth in
     let i = c.args.at in
     let e : slice_get ts i ≡ Some c.in-Some.token = sym c.peek.ensures ∙ c.in-Some.is in
-    let a : value_after c.in-Some.token.kind ≡ Some (Nt LPacked ∷ (Tm want.As ∷ (Nt LT ∷ (Do MakePack ∷ [])))) = rw c.in-Pack.is refl in
-    let m1 = begins ts d i c.in-Some.token LV (Nt LPacked ∷ (Tm want.As ∷ (Nt LT ∷ (Do MakePack ∷ [])))) e a (omega arith) in
-    let p = err_from_is_err_and c.from_residual-in_err-packed-in-Pack.result c.from_residual-in_err-packed-in-Pack.ensures.1 in
-    rw (p.1, p.2) (stop_call _ (Nt LPacked ∷ []) d (Tm want.As ∷ (Nt LT ∷ (Do MakePack ∷ []))) _ m1 (omega arith) c.in_err-packed-in-Pack.ensures)
+    let a : value_after c.in-Some.token.kind ≡ Some (Nt LPacked ∷ (Tm want.As ∷ (Nt LT ∷ (Do MakePack ∷ [])))) =
+    rw c.in-Pack.is refl in
+    let m1 = begins ts d i c.in-Some.token LV (Nt LPacked ∷ (Tm want.As ∷ (Nt LT ∷ (Do MakePack ∷ [])))) e a
+    (omega arith) in
+    let p = err_from_is_err_and c.from_residual-in_err-packed-in-Pack.result
+    c.from_residual-in_err-packed-in-Pack.ensures.1 in
+    rw (p.1, p.2)
+    (stop_call _ (Nt LPacked ∷ []) d (Tm want.As ∷ (Nt LT ∷ (Do MakePack ∷ []))) _ m1
+    (omega arith) c.in_err-packed-in-Pack.ensures)
 
 pub value-returns-in_err-expect-in-Pack : goal.value-returns-in_err-expect-in-Pack
 value-returns-in_err-expect-in-Pack t c =
@@ -141,10 +175,14 @@ value-returns-in_err-expect-in-Pack t c =
     let d = c.args.depth in
     let i = c.args.at in
     let e : slice_get ts i ≡ Some c.in-Some.token = sym c.peek.ensures ∙ c.in-Some.is in
-    let a : value_after c.in-Some.token.kind ≡ Some (Nt LPacked ∷ (Tm want.As ∷ (Nt LT ∷ (Do MakePack ∷ [])))) = rw c.in-Pack.is refl in
-    let m1 = begins ts d i c.in-Some.token LV (Nt LPacked ∷ (Tm want.As ∷ (Nt LT ∷ (Do MakePack ∷ [])))) e a (omega arith) in
-    let m2 = by_call d (Tm want.As ∷ (Nt LT ∷ (Do MakePack ∷ []))) _ m1 (omega arith) c.in_ok-packed-in-Pack.ensures.same in
-    let p = err_from_is_err_and c.from_residual-in_err-expect-in-Pack.result c.from_residual-in_err-expect-in-Pack.ensures.1 in
+    let a : value_after c.in-Some.token.kind ≡ Some (Nt LPacked ∷ (Tm want.As ∷ (Nt LT ∷ (Do MakePack ∷ [])))) =
+    rw c.in-Pack.is refl in
+    let m1 = begins ts d i c.in-Some.token LV (Nt LPacked ∷ (Tm want.As ∷ (Nt LT ∷ (Do MakePack ∷ [])))) e a
+    (omega arith) in
+    let m2 =
+    by_call d (Tm want.As ∷ (Nt LT ∷ (Do MakePack ∷ []))) _ m1 (omega arith) c.in_ok-packed-in-Pack.ensures.same in
+    let p = err_from_is_err_and c.from_residual-in_err-expect-in-Pack.result
+    c.from_residual-in_err-expect-in-Pack.ensures.1 in
     rw (p.1, p.2) (stop_token _ want.As (Nt LT ∷ (Do MakePack ∷ [])) _ m2 c.in_err-expect-in-Pack.ensures)
 
 pub value-whole_type-requires-clause-at : goal.value-whole_type-requires-clause-at
@@ -160,11 +198,15 @@ value-returns-in_err-shape-in-Pack t c =
     let d = c.args.depth in
     let i = c.args.at in
     let e : slice_get ts i ≡ Some c.in-Some.token = sym c.peek.ensures ∙ c.in-Some.is in
-    let a : value_after c.in-Some.token.kind ≡ Some (Nt LPacked ∷ (Tm want.As ∷ (Nt LT ∷ (Do MakePack ∷ [])))) = rw c.in-Pack.is refl in
-    let m1 = begins ts d i c.in-Some.token LV (Nt LPacked ∷ (Tm want.As ∷ (Nt LT ∷ (Do MakePack ∷ [])))) e a (omega arith) in
-    let m2 = by_call d (Tm want.As ∷ (Nt LT ∷ (Do MakePack ∷ []))) _ m1 (omega arith) c.in_ok-packed-in-Pack.ensures.same in
+    let a : value_after c.in-Some.token.kind ≡ Some (Nt LPacked ∷ (Tm want.As ∷ (Nt LT ∷ (Do MakePack ∷ [])))) =
+    rw c.in-Pack.is refl in
+    let m1 = begins ts d i c.in-Some.token LV (Nt LPacked ∷ (Tm want.As ∷ (Nt LT ∷ (Do MakePack ∷ [])))) e a
+    (omega arith) in
+    let m2 =
+    by_call d (Tm want.As ∷ (Nt LT ∷ (Do MakePack ∷ []))) _ m1 (omega arith) c.in_ok-packed-in-Pack.ensures.same in
     let m3 = by_token want.As _ (Nt LT ∷ (Do MakePack ∷ [])) _ m2 c.in_ok-expect-in-Pack.ensures (omega arith) in
-    let p = err_from_is_err_and c.from_residual-in_err-shape-in-Pack.result c.from_residual-in_err-shape-in-Pack.ensures.1 in
+    let p = err_from_is_err_and c.from_residual-in_err-shape-in-Pack.result
+    c.from_residual-in_err-shape-in-Pack.ensures.1 in
     rw (p.1, p.2) (stop_call _ (Nt LT ∷ []) d (Do MakePack ∷ []) _ m3 (omega arith) c.in_err-shape-in-Pack.ensures)
 
 pub value-returns-in_ok-value-in-Pack : goal.value-returns-in_ok-value-in-Pack
@@ -173,9 +215,12 @@ value-returns-in_ok-value-in-Pack t c =
     let d = c.args.depth in
     let i = c.args.at in
     let e : slice_get ts i ≡ Some c.in-Some.token = sym c.peek.ensures ∙ c.in-Some.is in
-    let a : value_after c.in-Some.token.kind ≡ Some (Nt LPacked ∷ (Tm want.As ∷ (Nt LT ∷ (Do MakePack ∷ [])))) = rw c.in-Pack.is refl in
-    let m1 = begins ts d i c.in-Some.token LV (Nt LPacked ∷ (Tm want.As ∷ (Nt LT ∷ (Do MakePack ∷ [])))) e a (omega arith) in
-    let m2 = by_call d (Tm want.As ∷ (Nt LT ∷ (Do MakePack ∷ []))) _ m1 (omega arith) c.in_ok-packed-in-Pack.ensures.same in
+    let a : value_after c.in-Some.token.kind ≡ Some (Nt LPacked ∷ (Tm want.As ∷ (Nt LT ∷ (Do MakePack ∷ [])))) =
+    rw c.in-Pack.is refl in
+    let m1 = begins ts d i c.in-Some.token LV (Nt LPacked ∷ (Tm want.As ∷ (Nt LT ∷ (Do MakePack ∷ [])))) e a
+    (omega arith) in
+    let m2 =
+    by_call d (Tm want.As ∷ (Nt LT ∷ (Do MakePack ∷ []))) _ m1 (omega arith) c.in_ok-packed-in-Pack.ensures.same in
     let m3 = by_token want.As _ (Nt LT ∷ (Do MakePack ∷ [])) _ m2 c.in_ok-expect-in-Pack.ensures (omega arith) in
     let r = c.in_ok-shape-in-Pack.ensures in
     rw c.in_ok-value-in-Pack.ensures (record {
@@ -190,4 +235,5 @@ value-returns-in_default-kind t c =
     let d = c.args.depth in
     let i = c.args.at in
     let e : slice_get ts i ≡ Some c.in-Some.token = sym c.peek.ensures ∙ c.in-Some.is in
-    stop_lacks _ LV [] [] (start ts d i (Nt LV ∷ [])) refl (other c.in-Some.token e (no_value c.in-Some.token.kind c.in_default.ensures c.in_default-kind.not-Pack)) refl
+    stop_lacks _ LV [] [] (start ts d i (Nt LV ∷ [])) refl
+    (other c.in-Some.token e (no_value c.in-Some.token.kind c.in_default.ensures c.in_default-kind.not-Pack)) refl

@@ -15,7 +15,9 @@ returns-in_err-first c =
     let ts = tokens_of c.args.tokens.now in
     let i = c.args.at in
     let p = err_from_is_err_and c.from_residual.result c.from_residual.ensures.1 in
-    rw (p.1, p.2) (stop_call _ (Nt LBlock ∷ []) 0 (Do MakeFirstBlock ∷ (Nt LMoreBlocks ∷ [])) [] (start ts 0 i all_blocks) (omega arith) c.in_err-first.ensures)
+    rw (p.1, p.2)
+    (stop_call _ (Nt LBlock ∷ []) 0 (Do MakeFirstBlock ∷ (Nt LMoreBlocks ∷ [])) [] (start ts 0 i all_blocks)
+    (omega arith) c.in_err-first.ensures)
 
 pub loop-items-init : goal.loop-items-init
 loop-items-init c =
@@ -23,13 +25,16 @@ loop-items-init c =
     let i = c.args.at in
     let f = c.in_ok-first.first in
     let r = c.in_ok-first.ensures in
-    let e : c.push.new.self.items ≡ It.Block f.block ∷ [] = c.in_ok-push.ensures.items ∙ ap (λ (xs : List RawItem). xs ++ It.Block f.block ∷ []) c.new-items.ensures.items in
+    let e : c.push.new.self.items ≡ It.Block f.block ∷ [] = c.in_ok-push.ensures.items
+    ∙ ap (λ (xs : List RawItem). xs ++ It.Block f.block ∷ []) c.new-items.ensures.items in
     rw e (record {
       blocks = _;
       are = refl;
       forward = r.forward;
       in_range = r.in_range;
-      same = by_do MakeFirstBlock (Nt LMoreBlocks ∷ []) _ _ (by_call 0 (Do MakeFirstBlock ∷ (Nt LMoreBlocks ∷ [])) [] (start ts 0 i all_blocks) (omega arith) r.same) (λ below. refl);
+      same = by_do MakeFirstBlock (Nt LMoreBlocks ∷ []) _ _
+          (by_call 0 (Do MakeFirstBlock ∷ (Nt LMoreBlocks ∷ [])) [] (start ts 0 i all_blocks) (omega arith) r.same)
+          (λ below. refl);
     })
 
 pub block-requires-in-Some : goal.block-requires-in-Some
@@ -41,7 +46,9 @@ returns-in_err-found c =
     let v = c.loop-items.invariant in
     let m = as_block v.same (sym c.take.ensures ∙ c.in-Some.is) in
     let p = err_from_is_err_and c.from_residual-in_err-found.result c.from_residual-in_err-found.ensures.1 in
-    rw (p.1, p.2) (stop_call _ (Nt LBlock ∷ []) 0 (Do MakeNextBlock ∷ (Nt LMoreBlocks ∷ [])) _ m (omega arith) c.in_err-found.ensures)
+    rw (p.1, p.2)
+    (stop_call _ (Nt LBlock ∷ []) 0 (Do MakeNextBlock ∷ (Nt LMoreBlocks ∷ [])) _ m
+    (omega arith) c.in_err-found.ensures)
 
 pub loop-items-smaller : goal.loop-items-smaller
 loop-items-smaller c =
@@ -54,10 +61,12 @@ loop-items-preserved c =
     let r = c.in_ok-found.ensures in
     record {
       blocks = _;
-      are = blocks_more c.loop-items.items.items _ c.in_ok-found.found.block v.blocks c.in_ok-push-2.ensures.items v.are;
+      are =
+          blocks_more c.loop-items.items.items _ c.in_ok-found.found.block v.blocks c.in_ok-push-2.ensures.items v.are;
       forward = omega (arith, v.forward, r.forward);
       in_range = r.in_range;
-      same = by_do MakeNextBlock (Nt LMoreBlocks ∷ []) _ _ (by_call 0 (Do MakeNextBlock ∷ (Nt LMoreBlocks ∷ [])) _ m (omega arith) r.same) (λ below. refl);
+      same = by_do MakeNextBlock (Nt LMoreBlocks ∷ []) _ _
+          (by_call 0 (Do MakeNextBlock ∷ (Nt LMoreBlocks ∷ [])) _ m (omega arith) r.same) (λ below. refl);
     }
 
 pub returns : goal.returns
@@ -66,5 +75,9 @@ returns c =
     record {
       blocks = v.blocks;
       are = v.are;
-      reads = record { forward = v.forward; in_range = v.in_range; same = no_more_blocks v.same (sym c.take.ensures ∙ c.in_default.is) };
+      reads = record {
+        forward = v.forward;
+        in_range = v.in_range;
+        same = no_more_blocks v.same (sym c.take.ensures ∙ c.in_default.is);
+      };
     }

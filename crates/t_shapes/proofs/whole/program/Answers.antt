@@ -12,7 +12,9 @@ pub returns-in_err-expect : goal.returns-in_err-expect
 returns-in_err-expect c =
     let ts = tokens_of c.args.tokens.now in
     let p = err_from_is_err_and c.from_residual.result c.from_residual.ensures.1 in
-    rw (p.1, p.2) (is_stop ts _ (stop_token _ want.Tal (Nt LHeader ∷ (Do MakeProgram ∷ [])) [] (program_goes ts) c.in_err-expect.ensures))
+    rw (p.1, p.2)
+    (is_stop ts _
+    (stop_token _ want.Tal (Nt LHeader ∷ (Do MakeProgram ∷ [])) [] (program_goes ts) c.in_err-expect.ensures))
 
 pub headed-requires : goal.headed-requires
 headed-requires c =
@@ -21,20 +23,25 @@ headed-requires c =
 pub returns-in_err-found : goal.returns-in_err-found
 returns-in_err-found c =
     let ts = tokens_of c.args.tokens.now in
-    let m1 = by_token want.Tal _ (Nt LHeader ∷ (Do MakeProgram ∷ [])) [] (program_goes ts) c.in_ok-expect.ensures (omega arith) in
+    let m1 = by_token want.Tal _ (Nt LHeader ∷ (Do MakeProgram ∷ [])) [] (program_goes ts) c.in_ok-expect.ensures
+    (omega arith) in
     let p = err_from_is_err_and c.from_residual-in_err-found.result c.from_residual-in_err-found.ensures.1 in
-    rw (p.1, p.2) (is_stop ts _ (stop_call _ (Nt LHeader ∷ []) 0 (Do MakeProgram ∷ []) _ m1 (omega arith) c.in_err-found.ensures))
+    rw (p.1, p.2)
+    (is_stop ts _
+    (stop_call _ (Nt LHeader ∷ []) 0 (Do MakeProgram ∷ []) _ m1 (omega arith) c.in_err-found.ensures))
 
 pub returns-then-found-len : goal.returns-then-found-len
 returns-then-found-len c =
     let ts = tokens_of c.args.tokens.now in
-    let m1 = by_token want.Tal _ (Nt LHeader ∷ (Do MakeProgram ∷ [])) [] (program_goes ts) c.in_ok-expect.ensures (omega arith) in
+    let m1 = by_token want.Tal _ (Nt LHeader ∷ (Do MakeProgram ∷ [])) [] (program_goes ts) c.in_ok-expect.ensures
+    (omega arith) in
     let m2 = by_call 0 (Do MakeProgram ∷ []) _ m1 (omega arith) c.in_ok-found.ensures.same in
     more_left ts _ _ m2 (rw c.len.ensures at c.if-found-len.true)
 
 pub returns : goal.returns
 returns c =
     let ts = tokens_of c.args.tokens.now in
-    let m1 = by_token want.Tal _ (Nt LHeader ∷ (Do MakeProgram ∷ [])) [] (program_goes ts) c.in_ok-expect.ensures (omega arith) in
+    let m1 = by_token want.Tal _ (Nt LHeader ∷ (Do MakeProgram ∷ [])) [] (program_goes ts) c.in_ok-expect.ensures
+    (omega arith) in
     let m2 = by_call 0 (Do MakeProgram ∷ []) _ m1 (omega arith) c.in_ok-found.ensures.same in
     all_read ts _ _ m2 (rw c.len.ensures at c.if-found-len.false)

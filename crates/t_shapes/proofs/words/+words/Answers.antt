@@ -5,7 +5,8 @@ use Rattle.text_core.specs.Table.{Tm, Nt, Do, Mark}
 use Rattle.text_core.specs.Going.{at_the_end, other}
 use Rattle.t_terms.specs.declared.wanted.Wanted.TheVariants as want
 use Rattle.t_terms.specs.GrammarTable.{LT, LW, LWordPacked, MakeWordPacked, MakeWordPack, word_after}
-use Rattle.t_grammar.proofs.Stepping.{within, start, begins, by_token, by_call, by_do, by_mark, stop_token, stop_call, stop_lacks, opening, not_opening, too_deep}
+use Rattle.t_grammar.proofs.Stepping.{within, start, begins, by_token, by_call, by_do, by_mark, stop_token, stop_call}
+use Rattle.t_grammar.proofs.Stepping.{stop_lacks, opening, not_opening, too_deep}
 use Rattle.t_shapes.proofs.Lines.{opens_word_packed, no_word}
 use Rattle.t_lexer.specs.Kept.{tokens_of}
 use Rattle.t_shapes.proofs.words.+words.Goals as goal
@@ -24,7 +25,9 @@ packed_word-returns-in_err-inner t c =
     let d = c.args.depth in
     let i = c.args.at in
     let p = err_from_is_err_and c.from_residual-in_err-inner.result c.from_residual-in_err-inner.ensures.1 in
-    rw (p.1, p.2) (too_deep ts d i _ _ LWordPacked want.LeftBracket _ opens_word_packed c.in_ok-expect.ensures refl c.in_err-inner.ensures)
+    rw (p.1, p.2)
+    (too_deep ts d i _ _ LWordPacked want.LeftBracket _ opens_word_packed c.in_ok-expect.ensures refl
+    c.in_err-inner.ensures)
 
 pub packed_word-whole_type-requires-clause-at : goal.packed_word-whole_type-requires-clause-at
 packed_word-whole_type-requires-clause-at t c =
@@ -39,9 +42,14 @@ packed_word-returns-in_err-hidden t c =
     let d = c.args.depth in
     let i = c.args.at in
     let q = c.in_ok-inner.ensures in
-    let m1 = opening ts d i _ LWordPacked want.LeftBracket (Nt LT ∷ (Tm want.Comma ∷ (Nt LW ∷ (Tm want.RightBracket ∷ (Mark ∷ (Do MakeWordPacked ∷ [])))))) opens_word_packed c.in_ok-expect.ensures (omega (arith, q.1)) in
+    let m1 = opening ts d i _ LWordPacked want.LeftBracket
+    (Nt LT ∷ (Tm want.Comma ∷ (Nt LW ∷ (Tm want.RightBracket ∷ (Mark ∷ (Do MakeWordPacked ∷ []))))))
+    opens_word_packed c.in_ok-expect.ensures (omega (arith, q.1)) in
     let p = err_from_is_err_and c.from_residual-in_err-hidden.result c.from_residual-in_err-hidden.ensures.1 in
-    rw (p.1, p.2) (stop_call _ (Nt LT ∷ []) _ (Tm want.Comma ∷ (Nt LW ∷ (Tm want.RightBracket ∷ (Mark ∷ (Do MakeWordPacked ∷ []))))) _ m1 (omega (arith, q.0)) c.in_err-hidden.ensures)
+    rw (p.1, p.2)
+    (stop_call _ (Nt LT ∷ []) _
+    (Tm want.Comma ∷ (Nt LW ∷ (Tm want.RightBracket ∷ (Mark ∷ (Do MakeWordPacked ∷ []))))) _ m1
+    (omega (arith, q.0)) c.in_err-hidden.ensures)
 
 pub packed_word-returns-in_err-expect-2 : goal.packed_word-returns-in_err-expect-2
 packed_word-returns-in_err-expect-2 t c =
@@ -49,10 +57,15 @@ packed_word-returns-in_err-expect-2 t c =
     let d = c.args.depth in
     let i = c.args.at in
     let q = c.in_ok-inner.ensures in
-    let m1 = opening ts d i _ LWordPacked want.LeftBracket (Nt LT ∷ (Tm want.Comma ∷ (Nt LW ∷ (Tm want.RightBracket ∷ (Mark ∷ (Do MakeWordPacked ∷ [])))))) opens_word_packed c.in_ok-expect.ensures (omega (arith, q.1)) in
-    let m2 = by_call _ (Tm want.Comma ∷ (Nt LW ∷ (Tm want.RightBracket ∷ (Mark ∷ (Do MakeWordPacked ∷ []))))) _ m1 (omega (arith, q.0)) c.in_ok-hidden.ensures.same in
+    let m1 = opening ts d i _ LWordPacked want.LeftBracket
+    (Nt LT ∷ (Tm want.Comma ∷ (Nt LW ∷ (Tm want.RightBracket ∷ (Mark ∷ (Do MakeWordPacked ∷ []))))))
+    opens_word_packed c.in_ok-expect.ensures (omega (arith, q.1)) in
+    let m2 = by_call _ (Tm want.Comma ∷ (Nt LW ∷ (Tm want.RightBracket ∷ (Mark ∷ (Do MakeWordPacked ∷ []))))) _ m1
+    (omega (arith, q.0)) c.in_ok-hidden.ensures.same in
     let p = err_from_is_err_and c.from_residual-in_err-expect-2.result c.from_residual-in_err-expect-2.ensures.1 in
-    rw (p.1, p.2) (stop_token _ want.Comma (Nt LW ∷ (Tm want.RightBracket ∷ (Mark ∷ (Do MakeWordPacked ∷ [])))) _ m2 c.in_err-expect-2.ensures)
+    rw (p.1, p.2)
+    (stop_token _ want.Comma (Nt LW ∷ (Tm want.RightBracket ∷ (Mark ∷ (Do MakeWordPacked ∷ [])))) _ m2
+    c.in_err-expect-2.ensures)
 
 pub packed_word-word-requires : goal.packed_word-word-requires
 packed_word-word-requires t c =
@@ -71,11 +84,17 @@ packed_word-returns-in_err-found t c =
     let d = c.args.depth in
     let i = c.args.at in
     let q = c.in_ok-inner.ensures in
-    let m1 = opening ts d i _ LWordPacked want.LeftBracket (Nt LT ∷ (Tm want.Comma ∷ (Nt LW ∷ (Tm want.RightBracket ∷ (Mark ∷ (Do MakeWordPacked ∷ [])))))) opens_word_packed c.in_ok-expect.ensures (omega (arith, q.1)) in
-    let m2 = by_call _ (Tm want.Comma ∷ (Nt LW ∷ (Tm want.RightBracket ∷ (Mark ∷ (Do MakeWordPacked ∷ []))))) _ m1 (omega (arith, q.0)) c.in_ok-hidden.ensures.same in
-    let m3 = by_token want.Comma _ (Nt LW ∷ (Tm want.RightBracket ∷ (Mark ∷ (Do MakeWordPacked ∷ [])))) _ m2 c.in_ok-expect-2.ensures (omega (arith, q.1)) in
+    let m1 = opening ts d i _ LWordPacked want.LeftBracket
+    (Nt LT ∷ (Tm want.Comma ∷ (Nt LW ∷ (Tm want.RightBracket ∷ (Mark ∷ (Do MakeWordPacked ∷ []))))))
+    opens_word_packed c.in_ok-expect.ensures (omega (arith, q.1)) in
+    let m2 = by_call _ (Tm want.Comma ∷ (Nt LW ∷ (Tm want.RightBracket ∷ (Mark ∷ (Do MakeWordPacked ∷ []))))) _ m1
+    (omega (arith, q.0)) c.in_ok-hidden.ensures.same in
+    let m3 = by_token want.Comma _ (Nt LW ∷ (Tm want.RightBracket ∷ (Mark ∷ (Do MakeWordPacked ∷ [])))) _ m2
+    c.in_ok-expect-2.ensures (omega (arith, q.1)) in
     let p = err_from_is_err_and c.from_residual-in_err-found.result c.from_residual-in_err-found.ensures.1 in
-    rw (p.1, p.2) (stop_call _ (Nt LW ∷ []) _ (Tm want.RightBracket ∷ (Mark ∷ (Do MakeWordPacked ∷ []))) _ m3 (omega (arith, q.0)) c.in_err-found.ensures)
+    rw (p.1, p.2)
+    (stop_call _ (Nt LW ∷ []) _ (Tm want.RightBracket ∷ (Mark ∷ (Do MakeWordPacked ∷ []))) _ m3
+    (omega (arith, q.0)) c.in_err-found.ensures)
 
 pub packed_word-returns-in_err-expect-3 : goal.packed_word-returns-in_err-expect-3
 packed_word-returns-in_err-expect-3 t c =
@@ -83,10 +102,15 @@ packed_word-returns-in_err-expect-3 t c =
     let d = c.args.depth in
     let i = c.args.at in
     let q = c.in_ok-inner.ensures in
-    let m1 = opening ts d i _ LWordPacked want.LeftBracket (Nt LT ∷ (Tm want.Comma ∷ (Nt LW ∷ (Tm want.RightBracket ∷ (Mark ∷ (Do MakeWordPacked ∷ [])))))) opens_word_packed c.in_ok-expect.ensures (omega (arith, q.1)) in
-    let m2 = by_call _ (Tm want.Comma ∷ (Nt LW ∷ (Tm want.RightBracket ∷ (Mark ∷ (Do MakeWordPacked ∷ []))))) _ m1 (omega (arith, q.0)) c.in_ok-hidden.ensures.same in
-    let m3 = by_token want.Comma _ (Nt LW ∷ (Tm want.RightBracket ∷ (Mark ∷ (Do MakeWordPacked ∷ [])))) _ m2 c.in_ok-expect-2.ensures (omega (arith, q.1)) in
-    let m4 = by_call _ (Tm want.RightBracket ∷ (Mark ∷ (Do MakeWordPacked ∷ []))) _ m3 (omega (arith, q.0)) c.in_ok-found.ensures.same in
+    let m1 = opening ts d i _ LWordPacked want.LeftBracket
+    (Nt LT ∷ (Tm want.Comma ∷ (Nt LW ∷ (Tm want.RightBracket ∷ (Mark ∷ (Do MakeWordPacked ∷ []))))))
+    opens_word_packed c.in_ok-expect.ensures (omega (arith, q.1)) in
+    let m2 = by_call _ (Tm want.Comma ∷ (Nt LW ∷ (Tm want.RightBracket ∷ (Mark ∷ (Do MakeWordPacked ∷ []))))) _ m1
+    (omega (arith, q.0)) c.in_ok-hidden.ensures.same in
+    let m3 = by_token want.Comma _ (Nt LW ∷ (Tm want.RightBracket ∷ (Mark ∷ (Do MakeWordPacked ∷ [])))) _ m2
+    c.in_ok-expect-2.ensures (omega (arith, q.1)) in
+    let m4 = by_call _ (Tm want.RightBracket ∷ (Mark ∷ (Do MakeWordPacked ∷ []))) _ m3
+    (omega (arith, q.0)) c.in_ok-found.ensures.same in
     let p = err_from_is_err_and c.from_residual-in_err-expect-3.result c.from_residual-in_err-expect-3.ensures.1 in
     rw (p.1, p.2) (stop_token _ want.RightBracket (Mark ∷ (Do MakeWordPacked ∷ [])) _ m4 c.in_err-expect-3.ensures)
 
@@ -96,11 +120,17 @@ packed_word-returns t c =
     let d = c.args.depth in
     let i = c.args.at in
     let q = c.in_ok-inner.ensures in
-    let m1 = opening ts d i _ LWordPacked want.LeftBracket (Nt LT ∷ (Tm want.Comma ∷ (Nt LW ∷ (Tm want.RightBracket ∷ (Mark ∷ (Do MakeWordPacked ∷ [])))))) opens_word_packed c.in_ok-expect.ensures (omega (arith, q.1)) in
-    let m2 = by_call _ (Tm want.Comma ∷ (Nt LW ∷ (Tm want.RightBracket ∷ (Mark ∷ (Do MakeWordPacked ∷ []))))) _ m1 (omega (arith, q.0)) c.in_ok-hidden.ensures.same in
-    let m3 = by_token want.Comma _ (Nt LW ∷ (Tm want.RightBracket ∷ (Mark ∷ (Do MakeWordPacked ∷ [])))) _ m2 c.in_ok-expect-2.ensures (omega (arith, q.1)) in
-    let m4 = by_call _ (Tm want.RightBracket ∷ (Mark ∷ (Do MakeWordPacked ∷ []))) _ m3 (omega (arith, q.0)) c.in_ok-found.ensures.same in
-    let m5 = by_token want.RightBracket _ (Mark ∷ (Do MakeWordPacked ∷ [])) _ m4 c.in_ok-expect-3.ensures (omega (arith, q.1)) in
+    let m1 = opening ts d i _ LWordPacked want.LeftBracket
+    (Nt LT ∷ (Tm want.Comma ∷ (Nt LW ∷ (Tm want.RightBracket ∷ (Mark ∷ (Do MakeWordPacked ∷ []))))))
+    opens_word_packed c.in_ok-expect.ensures (omega (arith, q.1)) in
+    let m2 = by_call _ (Tm want.Comma ∷ (Nt LW ∷ (Tm want.RightBracket ∷ (Mark ∷ (Do MakeWordPacked ∷ []))))) _ m1
+    (omega (arith, q.0)) c.in_ok-hidden.ensures.same in
+    let m3 = by_token want.Comma _ (Nt LW ∷ (Tm want.RightBracket ∷ (Mark ∷ (Do MakeWordPacked ∷ [])))) _ m2
+    c.in_ok-expect-2.ensures (omega (arith, q.1)) in
+    let m4 = by_call _ (Tm want.RightBracket ∷ (Mark ∷ (Do MakeWordPacked ∷ []))) _ m3
+    (omega (arith, q.0)) c.in_ok-found.ensures.same in
+    let m5 = by_token want.RightBracket _ (Mark ∷ (Do MakeWordPacked ∷ [])) _ m4 c.in_ok-expect-3.ensures
+    (omega (arith, q.1)) in
     let l = within ts c.in_ok-found.found.next want.RightBracket _ c.in_ok-expect-3.ensures in
     record {
       forward = omega (arith, c.in_ok-hidden.ensures.forward, c.in_ok-found.ensures.forward);
@@ -130,10 +160,15 @@ word-returns-in_err-packed-in-Pack t c =
     let d = c.args.depth in
     let i = c.args.at in
     let e : slice_get ts i ≡ Some c.in-Some.token = sym c.peek.ensures ∙ c.in-Some.is in
-    let a : word_after c.in-Some.token.kind ≡ Some (Nt LWordPacked ∷ (Tm want.As ∷ (Nt LT ∷ (Do MakeWordPack ∷ [])))) = rw c.in-Pack.is refl in
-    let m1 = begins ts d i c.in-Some.token LW (Nt LWordPacked ∷ (Tm want.As ∷ (Nt LT ∷ (Do MakeWordPack ∷ [])))) e a (omega arith) in
-    let p = err_from_is_err_and c.from_residual-in_err-packed-in-Pack.result c.from_residual-in_err-packed-in-Pack.ensures.1 in
-    rw (p.1, p.2) (stop_call _ (Nt LWordPacked ∷ []) d (Tm want.As ∷ (Nt LT ∷ (Do MakeWordPack ∷ []))) _ m1 (omega arith) c.in_err-packed-in-Pack.ensures)
+    let a : word_after c.in-Some.token.kind ≡ Some (Nt LWordPacked ∷ (Tm want.As ∷ (Nt LT ∷ (Do MakeWordPack ∷ [])))) =
+    rw c.in-Pack.is refl in
+    let m1 = begins ts d i c.in-Some.token LW (Nt LWordPacked ∷ (Tm want.As ∷ (Nt LT ∷ (Do MakeWordPack ∷ [])))) e a
+    (omega arith) in
+    let p = err_from_is_err_and c.from_residual-in_err-packed-in-Pack.result
+    c.from_residual-in_err-packed-in-Pack.ensures.1 in
+    rw (p.1, p.2)
+    (stop_call _ (Nt LWordPacked ∷ []) d (Tm want.As ∷ (Nt LT ∷ (Do MakeWordPack ∷ []))) _ m1
+    (omega arith) c.in_err-packed-in-Pack.ensures)
 
 pub word-returns-in_err-expect-in-Pack : goal.word-returns-in_err-expect-in-Pack
 word-returns-in_err-expect-in-Pack t c =
@@ -141,10 +176,14 @@ word-returns-in_err-expect-in-Pack t c =
     let d = c.args.depth in
     let i = c.args.at in
     let e : slice_get ts i ≡ Some c.in-Some.token = sym c.peek.ensures ∙ c.in-Some.is in
-    let a : word_after c.in-Some.token.kind ≡ Some (Nt LWordPacked ∷ (Tm want.As ∷ (Nt LT ∷ (Do MakeWordPack ∷ [])))) = rw c.in-Pack.is refl in
-    let m1 = begins ts d i c.in-Some.token LW (Nt LWordPacked ∷ (Tm want.As ∷ (Nt LT ∷ (Do MakeWordPack ∷ [])))) e a (omega arith) in
-    let m2 = by_call d (Tm want.As ∷ (Nt LT ∷ (Do MakeWordPack ∷ []))) _ m1 (omega arith) c.in_ok-packed-in-Pack.ensures.same in
-    let p = err_from_is_err_and c.from_residual-in_err-expect-in-Pack.result c.from_residual-in_err-expect-in-Pack.ensures.1 in
+    let a : word_after c.in-Some.token.kind ≡ Some (Nt LWordPacked ∷ (Tm want.As ∷ (Nt LT ∷ (Do MakeWordPack ∷ [])))) =
+    rw c.in-Pack.is refl in
+    let m1 = begins ts d i c.in-Some.token LW (Nt LWordPacked ∷ (Tm want.As ∷ (Nt LT ∷ (Do MakeWordPack ∷ [])))) e a
+    (omega arith) in
+    let m2 = by_call d (Tm want.As ∷ (Nt LT ∷ (Do MakeWordPack ∷ []))) _ m1
+    (omega arith) c.in_ok-packed-in-Pack.ensures.same in
+    let p = err_from_is_err_and c.from_residual-in_err-expect-in-Pack.result
+    c.from_residual-in_err-expect-in-Pack.ensures.1 in
     rw (p.1, p.2) (stop_token _ want.As (Nt LT ∷ (Do MakeWordPack ∷ [])) _ m2 c.in_err-expect-in-Pack.ensures)
 
 pub word-whole_type-requires-clause-at : goal.word-whole_type-requires-clause-at
@@ -160,11 +199,15 @@ word-returns-in_err-shape-in-Pack t c =
     let d = c.args.depth in
     let i = c.args.at in
     let e : slice_get ts i ≡ Some c.in-Some.token = sym c.peek.ensures ∙ c.in-Some.is in
-    let a : word_after c.in-Some.token.kind ≡ Some (Nt LWordPacked ∷ (Tm want.As ∷ (Nt LT ∷ (Do MakeWordPack ∷ [])))) = rw c.in-Pack.is refl in
-    let m1 = begins ts d i c.in-Some.token LW (Nt LWordPacked ∷ (Tm want.As ∷ (Nt LT ∷ (Do MakeWordPack ∷ [])))) e a (omega arith) in
-    let m2 = by_call d (Tm want.As ∷ (Nt LT ∷ (Do MakeWordPack ∷ []))) _ m1 (omega arith) c.in_ok-packed-in-Pack.ensures.same in
+    let a : word_after c.in-Some.token.kind ≡ Some (Nt LWordPacked ∷ (Tm want.As ∷ (Nt LT ∷ (Do MakeWordPack ∷ [])))) =
+    rw c.in-Pack.is refl in
+    let m1 = begins ts d i c.in-Some.token LW (Nt LWordPacked ∷ (Tm want.As ∷ (Nt LT ∷ (Do MakeWordPack ∷ [])))) e a
+    (omega arith) in
+    let m2 = by_call d (Tm want.As ∷ (Nt LT ∷ (Do MakeWordPack ∷ []))) _ m1
+    (omega arith) c.in_ok-packed-in-Pack.ensures.same in
     let m3 = by_token want.As _ (Nt LT ∷ (Do MakeWordPack ∷ [])) _ m2 c.in_ok-expect-in-Pack.ensures (omega arith) in
-    let p = err_from_is_err_and c.from_residual-in_err-shape-in-Pack.result c.from_residual-in_err-shape-in-Pack.ensures.1 in
+    let p = err_from_is_err_and c.from_residual-in_err-shape-in-Pack.result
+    c.from_residual-in_err-shape-in-Pack.ensures.1 in
     rw (p.1, p.2) (stop_call _ (Nt LT ∷ []) d (Do MakeWordPack ∷ []) _ m3 (omega arith) c.in_err-shape-in-Pack.ensures)
 
 pub word-returns-in_ok-value-in-Pack : goal.word-returns-in_ok-value-in-Pack
@@ -173,9 +216,12 @@ word-returns-in_ok-value-in-Pack t c =
     let d = c.args.depth in
     let i = c.args.at in
     let e : slice_get ts i ≡ Some c.in-Some.token = sym c.peek.ensures ∙ c.in-Some.is in
-    let a : word_after c.in-Some.token.kind ≡ Some (Nt LWordPacked ∷ (Tm want.As ∷ (Nt LT ∷ (Do MakeWordPack ∷ [])))) = rw c.in-Pack.is refl in
-    let m1 = begins ts d i c.in-Some.token LW (Nt LWordPacked ∷ (Tm want.As ∷ (Nt LT ∷ (Do MakeWordPack ∷ [])))) e a (omega arith) in
-    let m2 = by_call d (Tm want.As ∷ (Nt LT ∷ (Do MakeWordPack ∷ []))) _ m1 (omega arith) c.in_ok-packed-in-Pack.ensures.same in
+    let a : word_after c.in-Some.token.kind ≡ Some (Nt LWordPacked ∷ (Tm want.As ∷ (Nt LT ∷ (Do MakeWordPack ∷ [])))) =
+    rw c.in-Pack.is refl in
+    let m1 = begins ts d i c.in-Some.token LW (Nt LWordPacked ∷ (Tm want.As ∷ (Nt LT ∷ (Do MakeWordPack ∷ [])))) e a
+    (omega arith) in
+    let m2 = by_call d (Tm want.As ∷ (Nt LT ∷ (Do MakeWordPack ∷ []))) _ m1
+    (omega arith) c.in_ok-packed-in-Pack.ensures.same in
     let m3 = by_token want.As _ (Nt LT ∷ (Do MakeWordPack ∷ [])) _ m2 c.in_ok-expect-in-Pack.ensures (omega arith) in
     let r = c.in_ok-shape-in-Pack.ensures in
     rw (c.in_ok-value-in-Pack.ensures, c.up_to.ensures) (record {
@@ -190,4 +236,5 @@ word-returns-in_default-kind t c =
     let d = c.args.depth in
     let i = c.args.at in
     let e : slice_get ts i ≡ Some c.in-Some.token = sym c.peek.ensures ∙ c.in-Some.is in
-    stop_lacks _ LW [] [] (start ts d i (Nt LW ∷ [])) refl (other c.in-Some.token e (no_word c.in-Some.token.kind c.in_default.ensures c.in_default-kind.not-Pack)) refl
+    stop_lacks _ LW [] [] (start ts d i (Nt LW ∷ [])) refl
+    (other c.in-Some.token e (no_word c.in-Some.token.kind c.in_default.ensures c.in_default-kind.not-Pack)) refl

@@ -12,7 +12,9 @@ returns-in_err-inner-in-Some c =
     let d = c.args.depth in
     let i = c.args.at in
     let p = err_from_is_err_and c.from_residual.result c.from_residual.ensures.1 in
-    rw (p.1, p.2) (args_too_deep ts d i _ c.requires.token c.requires.kind c.requires.depth _ (sym c.take.ensures ∙ c.in-Some.is) _ c.in_err-inner-in-Some.ensures)
+    rw (p.1, p.2)
+    (args_too_deep ts d i _ c.requires.token c.requires.kind c.requires.depth _ (sym c.take.ensures ∙ c.in-Some.is)
+    _ c.in_err-inner-in-Some.ensures)
 
 pub some_types-requires-clause-at : goal.some_types-requires-clause-at
 some_types-requires-clause-at c =
@@ -26,19 +28,26 @@ returns-in_err-found-in-Some c =
     let ts = tokens_of c.args.tokens.now in
     let d = c.args.depth in
     let i = c.args.at in
-    let p = err_from_is_err_and c.from_residual-in_err-found-in-Some.result c.from_residual-in_err-found-in-Some.ensures.1 in
-    rw (p.1, p.2) (args_stop ts d i _ c.requires.token c.requires.kind c.requires.depth _ (sym c.take.ensures ∙ c.in-Some.is) c.in_ok-inner-in-Some.ensures.1 _ c.in_ok-inner-in-Some.ensures.0 _ c.in_err-found-in-Some.ensures)
+    let p = err_from_is_err_and c.from_residual-in_err-found-in-Some.result
+    c.from_residual-in_err-found-in-Some.ensures.1 in
+    rw (p.1, p.2)
+    (args_stop ts d i _ c.requires.token c.requires.kind c.requires.depth _ (sym c.take.ensures ∙ c.in-Some.is)
+    c.in_ok-inner-in-Some.ensures.1 _ c.in_ok-inner-in-Some.ensures.0 _ c.in_err-found-in-Some.ensures)
 
 pub returns-in-None : goal.returns-in-None
 returns-in-None c =
     let ts = tokens_of c.args.tokens.now in
     let d = c.args.depth in
     let i = c.args.at in
-    rw (c.requires.base, c.new.ensures.items) (word_alone ts d i _ c.requires.token c.requires.kind c.requires.depth (sym c.take.ensures ∙ c.in-None.is))
+    rw (c.requires.base, c.new.ensures.items)
+    (word_alone ts d i _ c.requires.token c.requires.kind c.requires.depth (sym c.take.ensures ∙ c.in-None.is))
 
 pub returns-in_ok-found-in-Some : goal.returns-in_ok-found-in-Some
 returns-in_ok-found-in-Some c =
     let ts = tokens_of c.args.tokens.now in
     let d = c.args.depth in
     let i = c.args.at in
-    rw (c.requires.base, c.up_to.ensures) (word_applied_read ts d i _ c.requires.token c.requires.kind c.requires.depth _ (sym c.take.ensures ∙ c.in-Some.is) c.in_ok-inner-in-Some.ensures.1 _ c.in_ok-inner-in-Some.ensures.0 _ _ _ c.in_ok-found-in-Some.ensures)
+    rw (c.requires.base, c.up_to.ensures)
+    (word_applied_read ts d i _ c.requires.token c.requires.kind c.requires.depth _
+    (sym c.take.ensures ∙ c.in-Some.is) c.in_ok-inner-in-Some.ensures.1 _ c.in_ok-inner-in-Some.ensures.0 _ _ _
+    c.in_ok-found-in-Some.ensures)

@@ -6,6 +6,7 @@ use Rattle.t_spill.proofs.applied.instantiate.Given as goal
 
 abbrev pub invariant-loop-t : goal.invariant-loop-t
 invariant-loop-t l = record {
-  same : inst_file (types l.types) l.owes (file l.fn.regs.items) ≡ inst_file (types (drop l.t-index l.types)) l.left (file l.made.items);
+  same : inst_file (types l.types) l.owes (file l.fn.regs.items) ≡ inst_file (types (drop l.t-index l.types)) l.left
+      (file l.made.items);
   can : CanApply l.left (file l.made.items) (types (drop l.t-index l.types));
 }

@@ -16,14 +16,16 @@ spill_instr-requires-clause-stands c =
     let h = c.requires.stands in
     let at = c.loop-entry.entry-index in
     let k = c.loop-entry.invariant h.0 h.1 h.2 h.3 in
-    let here = tail_one c.args.body.now c.args.«end».now at c.entry-item.result c.loop-entry-test.true c.entry-item.is in
+    let here =
+    tail_one c.args.body.now c.args.«end».now at c.entry-item.result c.loop-entry-test.true c.entry-item.is in
     (k.0, k.1, k.2, _, subst (Before P k.0 k.1 k.2 c.loop-entry.walk) here k.3)
 
 pub loop-entry-preserved : goal.loop-entry-preserved
 loop-entry-preserved c =
     let P = program c.args.program.now in
     let at = c.loop-entry.entry-index in
-    let here = tail_one c.args.body.now c.args.«end».now at c.entry-item.result c.loop-entry-test.true c.entry-item.is in
+    let here =
+    tail_one c.args.body.now c.args.«end».now at c.entry-item.result c.loop-entry-test.true c.entry-item.is in
     reach_more P c.args.walk.now c.loop-entry.walk c.spill_instr.new.walk _ _
     (instr c.entry-item.result.0) _ here c.loop-entry.invariant
     (λ n y x b. c.in_ok-spill_instr.ensures n y x _ b)

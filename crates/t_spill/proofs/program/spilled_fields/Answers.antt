@@ -6,8 +6,10 @@ use Rattle.t_spill.proofs.program.spilled_fields.Goals as goal
 pub moved_base-base-requires : goal.moved_base-base-requires
 moved_base-base-requires c =
     subst BaseFits (sym c.base_of.ensures)
-    (field_ready c.args.fields.now c.loop-field.field-index c.field-item.result c.loop-field-test.true c.field-item.is c.requires)
+    (field_ready c.args.fields.now c.loop-field.field-index c.field-item.result c.loop-field-test.true c.field-item.is
+    c.requires)
 
 pub returns : goal.returns
 returns c =
-    all_fields c.args.split.low c.loop-field.made.items c.args.fields.now c.loop-field.field-index c.loop-field.invariant c.loop-field-test.false
+    all_fields c.args.split.low c.loop-field.made.items c.args.fields.now c.loop-field.field-index
+    c.loop-field.invariant c.loop-field-test.false

@@ -5,4 +5,5 @@ use Rattle.t_spill.specs.Wants.{join}
 use Rattle.t_spill.proofs.reads.note_file.Given as goal
 
 abbrev pub invariant-loop-reg : goal.invariant-loop-reg
-invariant-loop-reg l = (rest : List ℕ) → join l.wants.items (join (numbers (file (drop l.reg-index l.regs))) rest) ≡ join l.initial.wants.items (join (numbers (file l.regs)) rest)
+invariant-loop-reg l = (rest : List ℕ) → join l.wants.items (join (numbers (file (drop l.reg-index l.regs))) rest)
+    ≡ join l.initial.wants.items (join (numbers (file l.regs)) rest)

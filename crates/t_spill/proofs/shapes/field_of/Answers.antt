@@ -7,5 +7,8 @@ use Rattle.t_spill.proofs.shapes.field_of.Goals as goal
 
 pub returns-in-Tuple : goal.returns-in-Tuple
 returns-in-Tuple c =
-    IfOk-weaker c.field_at.result _ _ (λ r h. h ∙ sym (ap (λ (t : Ty). field_type t c.args.i) (tree_is_tuple c.args.t.now c.in-Tuple.fs c.deref.result.now c.in-Tuple.is c.deref.ensures.value)))
+    IfOk-weaker c.field_at.result _ _
+    (λ r h. h ∙ sym
+    (ap (λ (t : Ty). field_type t c.args.i)
+    (tree_is_tuple c.args.t.now c.in-Tuple.fs c.deref.result.now c.in-Tuple.is c.deref.ensures.value)))
     c.field_at.ensures

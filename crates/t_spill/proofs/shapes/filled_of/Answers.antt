@@ -7,4 +7,5 @@ use Rattle.t_spill.proofs.shapes.filled_of.Goals as goal
 pub returns-in_ok-fs-in-Tuple : goal.returns-in_ok-fs-in-Tuple
 returns-in_ok-fs-in-Tuple c =
     tree_Tuple c.in_ok-fs-in-Tuple.fs ∙ ap TupleTy c.in_ok-fs-in-Tuple.ensures
-    ∙ sym (ap (λ (t : Ty). filled_type t c.args.i) (tree_is_tuple c.args.t.now c.in-Tuple.fs c.deref.result.now c.in-Tuple.is c.deref.ensures.value))
+    ∙ sym (ap (λ (t : Ty). filled_type t c.args.i)
+    (tree_is_tuple c.args.t.now c.in-Tuple.fs c.deref.result.now c.in-Tuple.is c.deref.ensures.value))

@@ -29,7 +29,9 @@ pass_instr-requires c =
     let i = instr c.args.i.now in
     let ahead = c.args.walk.now.ahead in
     let ws = live P (next P h.2 i) h.3 in
-    let entered = entered_is P h.1 c.args.read.now.regs.items c.deref.result.now i c.in_ok-entered.entered.items c.in_ok-entered.ensures c.deref.ensures.value h.5 in (
+    let entered =
+    entered_is P h.1 c.args.read.now.regs.items c.deref.result.now i c.in_ok-entered.entered.items
+    c.in_ok-entered.ensures c.deref.ensures.value h.5 in (
       ws,
       subst (λ (xs : List (ℕ × TType)). Tells ahead (reads i ++ numbers (file xs) ++ ws)) (sym c.deref-2.ensures.value)
           (subst (Tells ahead) (wants_here P h.2 h.1 i h.3 c.in_ok-entered.entered.items b.agrees entered) b.told),
@@ -56,7 +58,9 @@ returns c =
     let w = c.args.walk.now in
     let m = w.code.homes.split.low in
     let ws = live P (next P x i) s in
-    let entered = entered_is P y c.args.read.now.regs.items c.deref.result.now i c.in_ok-entered.entered.items c.in_ok-entered.ensures c.deref.ensures.value e in
+    let entered =
+    entered_is P y c.args.read.now.regs.items c.deref.result.now i c.in_ok-entered.entered.items
+    c.in_ok-entered.ensures c.deref.ensures.value e in
     let told = c.pass_instr.ensures ws
     (subst (λ (xs : List (ℕ × TType)). Tells w.ahead (reads i ++ numbers (file xs) ++ ws))
     (sym c.deref-2.ensures.value)

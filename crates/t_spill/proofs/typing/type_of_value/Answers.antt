@@ -17,6 +17,14 @@ applied-requires c =
     let ts = c.in-Plain.types.items in
     let typable = subst (λ (v : Value). Typable P x (value v)) c.in-Plain.is c.requires in
     let n = not_empty _ c.is_empty.result c.is_empty.ensures c.if-is_empty.false in
-    let some : 0 < length (types ts) = omega (arith, n, length-map ts tree, c.deref.ensures.len, ap (λ (us : List TType). length us) c.deref.ensures.value) in
+    let some : 0 < length (types ts) =
+    omega (
+      arith,
+      n,
+      length-map ts tree,
+      c.deref.ensures.len,
+      ap (λ (us : List TType). length us) c.deref.ensures.value,
+    ) in
     subst (λ (us : List TType). MayApply (tree c.in_ok-found-in-Plain.found) (types us)) (sym c.deref.ensures.value)
-    (may_apply P c.args.program.now.whole x (base c.in-Plain.base) (types ts) (tree c.in_ok-found-in-Plain.found) some c.in_ok-found-in-Plain.ensures typable)
+    (may_apply P c.args.program.now.whole x (base c.in-Plain.base) (types ts) (tree c.in_ok-found-in-Plain.found) some
+    c.in_ok-found-in-Plain.ensures typable)

@@ -1,6 +1,6 @@
-use Rattle.std.proofs.Common.{◌≡◌, ◌≤◌, ◌++◌, ◌+◌, length, ap₂, arith, codes, decimal}
+use Rattle.std.proofs.Common.{◌≤◌, ◌++◌, ◌+◌, length, ap₂, arith, codes, decimal}
 use Rattle.t_trace.specs.Line.{names_text}
-use Rattle.t_trace.proofs.Rendered.{grown, grown_by, names_more, names_none}
+use Rattle.t_trace.proofs.Rendered.{grown, grown_by, names_more}
 use Rattle.t_trace.proofs.types.write_names.Goals as goal
 
 pub loop-i-init : goal.loop-i-init
@@ -20,5 +20,6 @@ loop-i-preserved c =
     let end = grown_by (d + i) 1 _ _ _ mid some c.in_ok-write_name.ensures in
     record {
       room = omega (arith, end);
-      written = names_more _ _ _ i d c.args.count _ c.loop-i-test.true c.loop-i.invariant.written c.in_ok-write_separator.ensures c.in_ok-write_name.ensures;
+      written = names_more _ _ _ i d c.args.count _ c.loop-i-test.true c.loop-i.invariant.written
+          c.in_ok-write_separator.ensures c.in_ok-write_name.ensures;
     }

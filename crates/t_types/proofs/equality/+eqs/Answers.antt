@@ -13,7 +13,8 @@ eq-returns-then-m-n t c =
     let a = tree_is_code _ _ _ _ c.in-Code-Code.is-0 c.deref.ensures.value in
     let b = tree_is_code _ _ _ _ c.in-Code-Code.is-1 c.deref-then-m-n.ensures.value in (
       (λ h. a ∙ ap₂ CodeTy c.if-m-n.true (c.eq_regs.ensures.0 h) ∙ sym b),
-      (λ h. let z : CodeTy c.in-Code-Code.m (file c.deref.result.now) ≡ CodeTy c.in-Code-Code.n (file c.deref-then-m-n.result.now) = sym a ∙ h ∙ b in
+      (λ h. let z : CodeTy c.in-Code-Code.m (file c.deref.result.now)
+          ≡ CodeTy c.in-Code-Code.n (file c.deref-then-m-n.result.now) = sym a ∙ h ∙ b in
           let y : file c.deref.result.now ≡ file c.deref-then-m-n.result.now = cc in c.eq_regs.ensures.1 y),
     )
 
@@ -22,8 +23,10 @@ eq-returns-in-Tuple-Tuple t c =
     let a = tree_is_tuple _ _ _ c.in-Tuple-Tuple.is-0 c.deref-in-Tuple-Tuple.ensures.value in
     let b = tree_is_tuple _ _ _ c.in-Tuple-Tuple.is-1 c.deref-in-Tuple-Tuple-2.ensures.value in (
       (λ h. a ∙ ap TupleTy (c.eq_fields.ensures.0 h) ∙ sym b),
-      (λ h. let z : TupleTy (fields c.deref-in-Tuple-Tuple.result.now) ≡ TupleTy (fields c.deref-in-Tuple-Tuple-2.result.now) = sym a ∙ h ∙ b in
-          let y : fields c.deref-in-Tuple-Tuple.result.now ≡ fields c.deref-in-Tuple-Tuple-2.result.now = cc in c.eq_fields.ensures.1 y),
+      (λ h. let z : TupleTy (fields c.deref-in-Tuple-Tuple.result.now)
+          ≡ TupleTy (fields c.deref-in-Tuple-Tuple-2.result.now) = sym a ∙ h ∙ b in
+          let y : fields c.deref-in-Tuple-Tuple.result.now ≡ fields c.deref-in-Tuple-Tuple-2.result.now = cc in
+          c.eq_fields.ensures.1 y),
     )
 
 pub eq_fields-returns-then-a-b : goal.eq_fields-returns-then-a-b

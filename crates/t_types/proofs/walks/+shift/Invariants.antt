@@ -13,5 +13,6 @@ invariant-shift_regs-loop-reg l = record {
 abbrev pub invariant-shift_flagged-loop-field : goal.invariant-shift_flagged-loop-field
 invariant-shift_flagged-loop-field l = record {
   fits : All (λ (x : TType × Bool). ShiftFits l.by l.cut (tree x.0)) l.fs;
-  made : map flag l.made.items ≡ map (λ (x : TType × Bool). (shift l.by l.cut (tree x.0), x.1)) (take l.field-index l.fs);
+  made : map flag l.made.items ≡ map (λ (x : TType × Bool). (shift l.by l.cut (tree x.0), x.1))
+      (take l.field-index l.fs);
 }

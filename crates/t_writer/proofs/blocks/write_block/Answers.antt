@@ -4,5 +4,7 @@ use Rattle.t_writer.proofs.blocks.write_block.Goals as goal
 
 pub returns-clause-written : goal.returns-clause-written
 returns-clause-written c =
-    block_done c.args.number (block c.args.block.now) _ _ _ _ _ _ _ c.in_ok-write_name.ensures c.in_ok-extend_from_slice.ensures.items c.in_ok-write_binds.ensures
-    (rw c.deref.ensures.value at c.in_ok-write_file.ensures) c.in_ok-extend_from_slice-2.ensures.items (rw c.deref-2.ensures.value at c.in_ok-write_code.ensures.written)
+    block_done c.args.number (block c.args.block.now) _ _ _ _ _ _ _ c.in_ok-write_name.ensures
+    c.in_ok-extend_from_slice.ensures.items c.in_ok-write_binds.ensures
+    (rw c.deref.ensures.value at c.in_ok-write_file.ensures) c.in_ok-extend_from_slice-2.ensures.items
+    (rw c.deref-2.ensures.value at c.in_ok-write_code.ensures.written)

@@ -6,4 +6,5 @@ use Rattle.t_writer.proofs.Coded.{Blocking}
 use Rattle.t_writer.proofs.blocks.write_blocks.Given as goal
 
 abbrev pub invariant-loop-i : goal.invariant-loop-i
-invariant-loop-i l = Blocking l.blocks l.i l.text.items (l.initial.text.items ++ render (blocks_written 0 (blocks_of l.blocks)))
+invariant-loop-i l =
+    Blocking l.blocks l.i l.text.items (l.initial.text.items ++ render (blocks_written 0 (blocks_of l.blocks)))

@@ -8,4 +8,6 @@ use Rattle.t_writer.proofs.blocks.write_code.Given as goal
 
 abbrev pub invariant-loop-entry : goal.invariant-loop-entry
 invariant-loop-entry l =
-    Coding l.body (end_of l.end) l.entry-index l.names l.text.items (l.initial.text.items ++ render (seq_written l.depth (seq_of (body l.body) (end_of l.end)))) (seq_of (body l.body) (end_of l.end))
+    Coding l.body (end_of l.end) l.entry-index l.names l.text.items
+    (l.initial.text.items ++ render (seq_written l.depth (seq_of (body l.body) (end_of l.end))))
+    (seq_of (body l.body) (end_of l.end))

@@ -5,4 +5,5 @@ use Rattle.t_writer.proofs.Filled.{Filling, fields_in}
 use Rattle.t_writer.proofs.heap.write_data_fields.Given as goal
 
 abbrev pub invariant-loop-i : goal.invariant-loop-i
-invariant-loop-i l = Filling l.fields l.i l.text.items (l.initial.text.items ++ render (data_fields_written 0 (fields_in l.fields)))
+invariant-loop-i l =
+    Filling l.fields l.i l.text.items (l.initial.text.items ++ render (data_fields_written 0 (fields_in l.fields)))

@@ -5,4 +5,5 @@ use Rattle.t_writer.proofs.heap.write_datum.Goals as goal
 
 pub returns-clause-written : goal.returns-clause-written
 returns-clause-written c =
-    datum_done (value c.args.value.now) (tree c.args.ty.now) _ _ _ _ c.in_ok-write_value.ensures.written c.in_ok-extend_from_slice.ensures.items c.in_ok-write_type.ensures
+    datum_done (value c.args.value.now) (tree c.args.ty.now) _ _ _ _ c.in_ok-write_value.ensures.written
+    c.in_ok-extend_from_slice.ensures.items c.in_ok-write_type.ensures

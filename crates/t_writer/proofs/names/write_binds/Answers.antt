@@ -9,8 +9,11 @@ loop-i-init c = ap₂ (λ d n. c.push.new.self.items ++ render (names_written 0 
 
 pub loop-i-preserved : goal.loop-i-preserved
 loop-i-preserved c =
-    names_more _ _ _ c.loop-i.i c.args.depth c.args.count _ c.loop-i-test.true c.loop-i.invariant c.in_ok-write_separator.ensures c.in_ok-write_name.ensures
+    names_more _ _ _ c.loop-i.i c.args.depth c.args.count _ c.loop-i-test.true c.loop-i.invariant
+    c.in_ok-write_separator.ensures c.in_ok-write_name.ensures
 
 pub returns : goal.returns
 returns c =
-    binds_done _ _ _ _ c.args.depth c.args.count c.in_ok-push.ensures.items (names_none _ c.loop-i.i c.args.depth c.args.count _ c.loop-i-test.false c.loop-i.invariant) c.in_ok-push-2.ensures.items
+    binds_done _ _ _ _ c.args.depth c.args.count c.in_ok-push.ensures.items
+    (names_none _ c.loop-i.i c.args.depth c.args.count _ c.loop-i-test.false c.loop-i.invariant)
+    c.in_ok-push-2.ensures.items

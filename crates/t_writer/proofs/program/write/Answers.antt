@@ -12,8 +12,10 @@ write_blocks-requires c =
 
 stands : (c : goal.In_ok-write_blocks) → StandsFor c.write_blocks.new.text.items (program c.args.program.now)
 stands c =
-    let few : length c.args.program.now.blocks.items < 2 ^ 63 = omega (arith, c.args.program.now.blocks.ok.0, c.args.program.now.blocks.ok.1, c.args.program.now.blocks.small) in
-    first_text _ _ c.args.program.now.blocks.items c.args.program.now.heap.items few c.requires.no_data c.args.program.now.whole (rw c.deref.ensures.value at c.in_ok-write_blocks.ensures.ints)
+    let few : length c.args.program.now.blocks.items < 2 ^ 63 =
+    omega (arith, c.args.program.now.blocks.ok.0, c.args.program.now.blocks.ok.1, c.args.program.now.blocks.small) in
+    first_text _ _ c.args.program.now.blocks.items c.args.program.now.heap.items few c.requires.no_data
+    c.args.program.now.whole (rw c.deref.ensures.value at c.in_ok-write_blocks.ensures.ints)
     c.in_ok-text.ensures.items (rw c.deref.ensures.value at c.in_ok-write_blocks.ensures.written)
 
 pub returns-clause-stands : goal.returns-clause-stands
@@ -25,4 +27,5 @@ returns-clause-reads c = reads_back c.keeps_by_nesting.ensures _ _ (stands c)
 pub returns-clause-same : goal.returns-clause-same
 returns-clause-same c =
     let p = c.args.program.now in
-    first_is _ _ p.blocks.items p.heap.items c.in_ok-text.ensures.items (rw c.deref.ensures.value at c.in_ok-write_blocks.ensures.written)
+    first_is _ _ p.blocks.items p.heap.items c.in_ok-text.ensures.items
+    (rw c.deref.ensures.value at c.in_ok-write_blocks.ensures.written)

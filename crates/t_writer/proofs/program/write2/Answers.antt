@@ -20,8 +20,11 @@ stands c =
     let p = c.args.program.now in
     let few : length p.blocks.items < 2 ^ 63 = omega (arith, p.blocks.ok.0, p.blocks.ok.1, p.blocks.small) in
     let small : length p.heap.items < 2 ^ 63 = omega (arith, p.heap.ok.0, p.heap.ok.1, p.heap.small) in
-    second_text _ _ _ p.blocks.items p.heap.items few small p.whole (rw c.deref-2.ensures.value at c.in_ok-write_blocks.ensures.ints) (rw c.deref.ensures.value at c.in_ok-write_heap.ensures.ints)
-    c.in_ok-text.ensures.items (rw c.deref.ensures.value at c.in_ok-write_heap.ensures.written) (rw c.deref-2.ensures.value at c.in_ok-write_blocks.ensures.written)
+    second_text _ _ _ p.blocks.items p.heap.items few small p.whole
+    (rw c.deref-2.ensures.value at c.in_ok-write_blocks.ensures.ints)
+    (rw c.deref.ensures.value at c.in_ok-write_heap.ensures.ints)
+    c.in_ok-text.ensures.items (rw c.deref.ensures.value at c.in_ok-write_heap.ensures.written)
+    (rw c.deref-2.ensures.value at c.in_ok-write_blocks.ensures.written)
 
 pub returns-clause-stands : goal.returns-clause-stands
 returns-clause-stands c = stands c
@@ -32,4 +35,6 @@ returns-clause-reads c = reads_back c.keeps_by_nesting.ensures _ _ (stands c)
 pub returns-clause-same : goal.returns-clause-same
 returns-clause-same c =
     let p = c.args.program.now in
-    second_is _ _ _ p.blocks.items p.heap.items c.in_ok-text.ensures.items (rw c.deref.ensures.value at c.in_ok-write_heap.ensures.written) (rw c.deref-2.ensures.value at c.in_ok-write_blocks.ensures.written)
+    second_is _ _ _ p.blocks.items p.heap.items c.in_ok-text.ensures.items
+    (rw c.deref.ensures.value at c.in_ok-write_heap.ensures.written)
+    (rw c.deref-2.ensures.value at c.in_ok-write_blocks.ensures.written)

@@ -8,8 +8,10 @@ loop-i-init c = record { fits = types_fit c.args.depth c.args.list.now c.require
 pub loop-i-preserved : goal.loop-i-preserved
 loop-i-preserved c = record {
   fits = c.loop-i.invariant.fits;
-  written = type_more c.args.depth _ _ _ c.loop-i.i c.args.list.now _ _ c.index-list-i.is c.loop-i-test.true c.loop-i.invariant.written c.in_ok-write_separator.ensures c.in_ok-write_type.ensures;
+  written = type_more c.args.depth _ _ _ c.loop-i.i c.args.list.now _ _ c.index-list-i.is c.loop-i-test.true
+      c.loop-i.invariant.written c.in_ok-write_separator.ensures c.in_ok-write_type.ensures;
 }
 
 pub returns : goal.returns
-returns c = list_done c.args.depth c.args.list.now _ _ _ _ c.loop-i.i c.in_ok-push.ensures.items c.loop-i.invariant.written c.loop-i-test.false c.in_ok-push-2.ensures.items
+returns c = list_done c.args.depth c.args.list.now _ _ _ _ c.loop-i.i c.in_ok-push.ensures.items
+    c.loop-i.invariant.written c.loop-i-test.false c.in_ok-push-2.ensures.items

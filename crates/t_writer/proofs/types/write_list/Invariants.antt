@@ -10,5 +10,6 @@ use Rattle.t_writer.proofs.types.write_list.Given as goal
 abbrev pub invariant-loop-i : goal.invariant-loop-i
 invariant-loop-i l = record {
   fits : All (λ (t : TType). WellFormed l.depth (tree t)) l.list;
-  written : Left (λ (t : TType). type_written l.depth (tree t)) l.text.items l.i l.list (l.initial.text.items ++ render (listed (λ (t : TType). type_written l.depth (tree t)) 0 l.list));
+  written : Left (λ (t : TType). type_written l.depth (tree t)) l.text.items l.i l.list
+      (l.initial.text.items ++ render (listed (λ (t : TType). type_written l.depth (tree t)) 0 l.list));
 }

@@ -5,7 +5,8 @@ use Rattle.talc_core.proofs.SourceLemmas.{closed}
 use Rattle.talc_core.proofs.finding.find_in_source.Goals as goal
 
 pub check-requires-clause-closed : goal.check-requires-clause-closed
-check-requires-clause-closed c = closed c.closed_terms.ensures c.args.text.now (spanned c.in-Ok.term) c.in-Ok.ensures.right
+check-requires-clause-closed c =
+    closed c.closed_terms.ensures c.args.text.now (spanned c.in-Ok.term) c.in-Ok.ensures.right
 
 pub find_in_refused-requires-clause-closed : goal.find_in_refused-requires-clause-closed
 find_in_refused-requires-clause-closed c =

@@ -12,4 +12,5 @@ returns-in-Err c =
     let typed = c.in_ok-typed.typed in
     let refused = c.in-Err.ensures in
     subst (RefusedBy AProgram c.args.source.now) (sym c.not_a_program.ensures)
-    (no_program c.args.source.now (spanned (typed_term typed)) (tree (typed_type typed)) c.in-Err.refused.1 c.in_ok-typed.ensures refused.2 refused.1)
+    (no_program c.args.source.now (spanned (typed_term typed)) (tree (typed_type typed)) c.in-Err.refused.1
+    c.in_ok-typed.ensures refused.2 refused.1)

@@ -5,7 +5,10 @@ use Rattle.clap.specs.declared.builder.command.Command.{Command}
 use Rattle.words.proofs.description.talc_words.Goals as goal
 
 -- a plain subcommand is the last of those that there are
-added : {E : Type 0} (old new : Command) (sub : Result Command E) (above below : App) → IsOkAnd sub (λ s. (app_of s).top.is_plain ≡ true → app_of new ≡ with_subcommand (app_of old) (app_of s).top) → app_of old ≡ above → IfOk sub (λ s. app_of s ≡ below) → below.top.is_plain ≡ true → app_of new ≡ with_subcommand above below.top
+added : {E : Type 0} (old new : Command) (sub : Result Command E) (above below : App) →
+    IsOkAnd sub (λ s. (app_of s).top.is_plain ≡ true → app_of new ≡ with_subcommand (app_of old) (app_of s).top) →
+    app_of old ≡ above → IfOk sub (λ s. app_of s ≡ below) → below.top.is_plain ≡ true →
+    app_of new ≡ with_subcommand above below.top
 added old new (Ok s) above below adds old_is sub_is plain =
     adds (ap (λ (a : App). a.top.is_plain) sub_is ∙ plain) ∙ ap₂ with_subcommand old_is (ap (λ (a : App). a.top) sub_is)
 added old new (Err e) above below adds old_is sub_is plain = absurd adds

@@ -14,7 +14,8 @@ kept f (Some x) = refl
 as_read : (id : Text) (rows : List Row) → is_some (first_of id rows) ≡ is_some (one_of id rows)
 as_read id rows = go (find (λ (r : Row). bytes_eq r.id id) rows)
   where
-    go : (o : Option Row) → is_some (option_and_then (λ (r : Row). slice_get r.values 0) o) ≡ is_some (option_and_then row_text o)
+    go : (o : Option Row) → is_some (option_and_then (λ (r : Row). slice_get r.values 0) o)
+        ≡ is_some (option_and_then row_text o)
     go None = refl
     go (Some r) = kept (read_as r.reading) (slice_get r.values 0)
 

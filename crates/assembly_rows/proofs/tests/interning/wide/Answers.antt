@@ -2,7 +2,7 @@ use Rattle.std.proofs.Common.{List, Bool, false, subst, sym}
 use Rattle.idx_core.specs.Over.{ShiftFitsAt, IsWord}
 use Rattle.t_types.specs.declared.types.TType.{TType}
 use Rattle.t_types.specs.declared.types.TType.TheVariants.{Int}
-use Rattle.t_types.specs.Read.{tree, fields}
+use Rattle.t_types.specs.Read.{fields}
 use Rattle.t_types.specs.Tree.{ShiftFits, TupleTy}
 use Rattle.t_types.proofs.Trees.{tree_Tuple}
 use Rattle.assembly_rows.proofs.Wide.{each_snoc}

@@ -11,12 +11,14 @@ use Rattle.c_emit.specs.Read.{info}
 use Rattle.c_free.specs.Names.{side}
 use Rattle.c_pass.proofs.Lists.{k_code}
 use Rattle.c_pass.specs.declared.state.Bound.{Bound}
-use Rattle.c_pass.specs.Read.{all_told, bounds, clue, clues_of, sides, infos_onto, infos_with, notes_onto, side_from, info_parts, told}
+use Rattle.c_pass.specs.Read.{all_told, bounds, clue, clues_of, sides, infos_onto, infos_with, notes_onto, side_from}
+use Rattle.c_pass.specs.Read.{info_parts, told}
 use Rattle.c_pass.proofs.Bounding.{infos_push}
 use Rattle.c_pass.proofs.state.Knowledge.open.Goals as goal
 
 pub info_from-requires : goal.info_from-requires
-info_from-requires c = k_code c.args.owes c.in_ok-all_copied.field-0 ∙ ap (K.TKCode c.args.owes) c.in_ok-all_copied.ensures
+info_from-requires c =
+    k_code c.args.owes c.in_ok-all_copied.field-0 ∙ ap (K.TKCode c.args.owes) c.in_ok-all_copied.ensures
 
 abbrev known : List E.Info → List E.Note → W.Known
 known is cs = record { infos = is; notes = cs }
@@ -41,7 +43,10 @@ returns c = λ rest.
     let cl = clue c.args.c in
     let g = W.side_of td owes cl xs in
     let cs = clues_of w.clues.items in
-    let ge : side c.in_ok-g.g ≡ g = c.in_ok-g.ensures ∙ ap₂ (λ (ks : List ℕ) (ys : List Bound). side_from td owes c.args.c.types.list.items ks (bounds ys)) c.deref-2.ensures.value c.deref.ensures.value in
+    let ge : side c.in_ok-g.g ≡ g =
+    c.in_ok-g.ensures
+    ∙ ap₂ (λ (ks : List ℕ) (ys : List Bound). side_from td owes c.args.c.types.list.items ks (bounds ys))
+    c.deref-2.ensures.value c.deref.ensures.value in
     let ie : info c.in_ok-known.known ≡ told (W.info_from td owes args cl xs f g) =
     c.in_ok-known.ensures
     ∙ ap (λ (ys : List Bound). told (info_parts td owes args c.args.c.kept.list.items c.args.c.own (bounds ys) f
@@ -50,16 +55,28 @@ returns c = λ rest.
     let own = k_code owes c.in_ok-all_copied.field-0 ∙ ap (K.TKCode owes) c.in_ok-all_copied.ensures in
     let n1 : c.in_ok-first.first ≡ suc c.args.level = omega (arith, c.in_ok-first.ensures) in
     let n2 : c.in_ok-inside.inside ≡ lift owes td = omega (arith, c.in_ok-inside.ensures, lift_add owes td) in
-    let be : bounds c.bind_all.new.xs.items ≡ W.bind_all (W.bind xs c.args.level (K.TKCode owes args) td) (suc c.args.level) args (lift owes td) =
+    let be : bounds c.bind_all.new.xs.items ≡ W.bind_all (W.bind xs c.args.level (K.TKCode owes args) td)
+    (suc c.args.level) args (lift owes td) =
     c.in_ok-bind_all.ensures
-    ∙ ap (λ (ys : List W.Bound). W.bind_all ys c.in_ok-first.first args c.in_ok-inside.inside) (c.in_ok-bind.ensures ∙ ap (λ t. W.bind xs c.args.level t td) own)
+    ∙ ap (λ (ys : List W.Bound). W.bind_all ys c.in_ok-first.first args c.in_ok-inside.inside)
+    (c.in_ok-bind.ensures ∙ ap (λ t. W.bind xs c.args.level t td) own)
     ∙ ap₂ (λ n m. W.bind_all (W.bind xs c.args.level (K.TKCode owes args) td) n args m) n1 n2 in
     let se : side c.replace-around.new.dest ≡ g = ap side c.replace-around.ensures.after ∙ ge in
-    let oe : sides c.push_front.new.self.items ≡ f ∷ sides w.outer.items = ap (λ (ss : List Side). sides ss) c.in_ok-push_front.ensures.items ∙ ap (λ s. side s ∷ sides w.outer.items) c.replace-around.ensures.value in
-    opened_is w.infos.items c.push_back.new.self.items c.in_ok-known.known (W.info_from td owes args cl xs f g) (notes_onto w.notes.items)
-    (W.know rest (bounds c.bind_all.new.xs.items) (side c.replace-around.new.dest) (sides c.push_front.new.self.items) cs)
-    (W.know rest (W.bind_all (W.bind xs c.args.level (K.TKCode owes args) td) (suc c.args.level) args (lift owes td)) g (f ∷ sides w.outer.items) cs)
+    let oe : sides c.push_front.new.self.items ≡ f ∷ sides w.outer.items =
+    ap (λ (ss : List Side). sides ss) c.in_ok-push_front.ensures.items
+    ∙ ap (λ s. side s ∷ sides w.outer.items) c.replace-around.ensures.value in
+    opened_is w.infos.items c.push_back.new.self.items c.in_ok-known.known (W.info_from td owes args cl xs f g)
+    (notes_onto w.notes.items)
+    (W.know rest (bounds c.bind_all.new.xs.items) (side c.replace-around.new.dest) (sides c.push_front.new.self.items)
+    cs)
+    (W.know rest (W.bind_all (W.bind xs c.args.level (K.TKCode owes args) td) (suc c.args.level) args (lift owes td)) g
+    (f ∷ sides w.outer.items) cs)
     c.in_ok-push_back.ensures.items ie
-    (ap (λ (ys : List W.Bound). W.know rest ys (side c.replace-around.new.dest) (sides c.push_front.new.self.items) cs) be
-    ∙ ap (λ s. W.know rest (W.bind_all (W.bind xs c.args.level (K.TKCode owes args) td) (suc c.args.level) args (lift owes td)) s (sides c.push_front.new.self.items) cs) se
-    ∙ ap (λ (ss : List W.Side). W.know rest (W.bind_all (W.bind xs c.args.level (K.TKCode owes args) td) (suc c.args.level) args (lift owes td)) g ss cs) oe)
+    (ap (λ (ys : List W.Bound). W.know rest ys (side c.replace-around.new.dest) (sides c.push_front.new.self.items) cs)
+    be
+    ∙ ap (λ s. W.know rest
+    (W.bind_all (W.bind xs c.args.level (K.TKCode owes args) td) (suc c.args.level) args (lift owes td)) s
+    (sides c.push_front.new.self.items) cs) se
+    ∙ ap (λ (ss : List W.Side).
+    W.know rest (W.bind_all (W.bind xs c.args.level (K.TKCode owes args) td) (suc c.args.level) args
+    (lift owes td)) g ss cs) oe)

@@ -22,9 +22,11 @@ returns c = λ rest depth.
     let ys = W.bind xs c.args.level (ktree c.args.shape.now) (W.side_depth f) in
     let k = W.know rest ys f fs cs in
     let is = infos_with w.infos.items k.infos in
-    let be : bounds c.bind_now.new.xs.items ≡ ys = c.in_ok-bind_now.ensures ∙ ap (λ t. W.bind xs c.args.level t (W.side_depth f)) c.in_ok-copied.ensures in
+    let be : bounds c.bind_now.new.xs.items ≡ ys =
+    c.in_ok-bind_now.ensures ∙ ap (λ t. W.bind xs c.args.level t (W.side_depth f)) c.in_ok-copied.ensures in
     ap (λ (zs : List W.Bound). known (infos_with w.infos.items (W.know rest zs f fs cs).infos)
     (notes_onto c.push_back.new.self.items (W.know rest zs f fs cs).notes)) be
     ∙ ap (λ (vs : List Note). known is (notes_onto vs k.notes)) c.in_ok-push_back.ensures.items
     ∙ ap (known is) (notes_push w.notes.items (Packs c.in_ok-closed.field-0 c.in_ok-closed-2.field-0) k.notes)
-    ∙ ap₂ (λ x y. known is (notes_onto w.notes.items (E.Packs x y ∷ k.notes))) c.in_ok-closed.ensures c.in_ok-closed-2.ensures
+    ∙ ap₂ (λ x y. known is (notes_onto w.notes.items (E.Packs x y ∷ k.notes))) c.in_ok-closed.ensures
+    c.in_ok-closed-2.ensures

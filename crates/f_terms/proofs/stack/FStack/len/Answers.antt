@@ -4,4 +4,9 @@ use Rattle.f_terms.proofs.Stacking.{long}
 use Rattle.f_terms.proofs.stack.FStack.len.Goals as goal
 
 pub returns : goal.returns
-returns c = omega (arith, c.len.ensures, c.args.self.now.numbers.ok.0, long (part c.args.self.now.parts) c.args.self.now.numbers.items)
+returns c = omega (
+  arith,
+  c.len.ensures,
+  c.args.self.now.numbers.ok.0,
+  long (part c.args.self.now.parts) c.args.self.now.numbers.items,
+)

@@ -15,7 +15,8 @@ returns c = λ rest p st.
     let deep =
     c.in_ok-push_front.ensures.items ∙ ap (λ n. n ∷ c.emit.new.self.depths.items) c.depth-here.ensures
     ∙ ap (λ (x : Open). top 0 x.depths.items ∷ x.depths.items) same in
-    subst (λ (x : Open). Walked (record c.args.self.now { current = record x { depths = c.push_front.new.self } }) rest p) (sym same)
+    subst (λ (x : Open). Walked (record c.args.self.now { current = record x { depths = c.push_front.new.self } }) rest
+    p) (sym same)
     (emits F.If0 is_some c.args.self.now.current.parts S.MIf (λ xs. top 0 xs ∷ xs) rest _ _ ds _ _ _ _ _ _ _ _ _ p
     c.in_ok-emit.ensures.nodes c.in_ok-emit.ensures.parts deep due (λ s. ap suc (some_long ds s))
     (λ ns b own xs vs w fs. refl) st)

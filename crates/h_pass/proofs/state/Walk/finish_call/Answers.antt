@@ -11,7 +11,8 @@ returns-in_ok-emit-in-Some-clause-goes c = λ rest ends p st.
     let was : c.args.self.now.current.call ≡ Some c.in-Some.types = search rules in
     let now : c.replace.new.dest ≡ None = search rules in
     let deep = c.shorten.ensures ∙ ap (λ (x : Open). others x.depths.items) same in
-    subst (λ (x : Open). Walked (record c.args.self.now { current = record x { depths = c.shorten.new.depths } }) rest p) (sym same)
+    subst (λ (x : Open). Walked (record c.args.self.now { current = record x { depths = c.shorten.new.depths } }) rest
+    p) (sym same)
     (calls c.in-Some.types c.args.self.now.current.parts rest _ _ _ _ _ _ _ _ _ _ _ _ _ _ ends was now
     c.in_ok-emit-in-Some.ensures.nodes c.in_ok-emit-in-Some.ensures.parts deep st)
 

@@ -12,6 +12,7 @@ pub returns : goal.returns
 returns c = λ rest p st.
     let same = c.in_ok-emit.ensures.same in
     let deep = c.shorten.ensures ∙ ap (λ (x : Open). others x.depths.items) same in
-    subst (λ (x : Open). Walked (record c.args.self.now { current = record x { depths = c.shorten.new.depths } }) rest p) (sym same)
+    subst (λ (x : Open). Walked (record c.args.self.now { current = record x { depths = c.shorten.new.depths } }) rest
+    p) (sym same)
     (emits F.Halt is_some c.args.self.now.current.parts S.MHalt others rest _ _ _ _ _ _ _ _ _ _ _ _ p
     c.in_ok-emit.ensures.nodes c.in_ok-emit.ensures.parts deep due (λ s. refl) (λ ns b own xs vs w fs. refl) st)

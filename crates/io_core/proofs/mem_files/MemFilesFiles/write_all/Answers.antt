@@ -7,5 +7,6 @@ use Rattle.io_core.proofs.mem_files.MemFilesFiles.write_all.Goals as goal
 pub returns-in_ok-set_file-in-Some-clause-written :
     goal.returns-in_ok-set_file-in-Some-clause-written
 returns-in_ok-set_file-in-Some-clause-written c =
-    let same = SameBut-insert c.args.self.now.files (file_map c.set_file.new.files) c.args.name.now (take c.in-Some.most c.args.bytes.now) (grind (arith, common_steps)) in
+    let same = SameBut-insert c.args.self.now.files (file_map c.set_file.new.files) c.args.name.now
+    (take c.in-Some.most c.args.bytes.now) (grind (arith, common_steps)) in
     (grind (arith, common_steps), same, grind (arith, common_steps), grind (arith, common_steps))

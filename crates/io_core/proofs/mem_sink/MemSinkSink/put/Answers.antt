@@ -5,5 +5,9 @@ use Rattle.io_core.proofs.mem_sink.MemSinkSink.put.Goals as goal
 
 pub returns-in_ok-extend_from_slice-in-Some-clause-put :
     goal.returns-in_ok-extend_from_slice-in-Some-clause-put
-returns-in_ok-extend_from_slice-in-Some-clause-put c =
-    (grind (arith, common_steps), GainedPart-take c.args.self.now.taken c.args.bytes.now c.extend_from_slice.new.self.items c.in-Some.most (grind (arith, common_steps)), grind (arith, common_steps))
+returns-in_ok-extend_from_slice-in-Some-clause-put c = (
+  grind (arith, common_steps),
+  GainedPart-take c.args.self.now.taken c.args.bytes.now c.extend_from_slice.new.self.items c.in-Some.most
+      (grind (arith, common_steps)),
+  grind (arith, common_steps),
+)

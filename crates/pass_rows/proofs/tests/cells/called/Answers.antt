@@ -6,4 +6,6 @@ use Rattle.pass_rows.proofs.Cells.{as_these, later}
 use Rattle.pass_rows.proofs.tests.cells.called.Goals as goal
 
 pub returns : goal.returns
-returns c = later (as_these (ap (λ (ts : List KType). S.NCall 6 1 (ktys ts) 1 ∷ []) c.new-types.ensures.items) c.in_ok-add.ensures) c.in_ok-add-2.ensures
+returns c = later
+    (as_these (ap (λ (ts : List KType). S.NCall 6 1 (ktys ts) 1 ∷ []) c.new-types.ensures.items) c.in_ok-add.ensures)
+    c.in_ok-add-2.ensures

@@ -6,4 +6,6 @@ use Rattle.c_terms.specs.Read.{ctys}
 use Rattle.pass_rows.proofs.Example.{as_these, later}
 
 pub returns : goal.returns
-returns c = later (as_these (ap (λ (ts : List CType). S.MCall (ctys ts) 1 ∷ []) c.new-types.ensures.items) c.in_ok-add.ensures) c.in_ok-add-2.ensures
+returns c = later
+    (as_these (ap (λ (ts : List CType). S.MCall (ctys ts) 1 ∷ []) c.new-types.ensures.items) c.in_ok-add.ensures)
+    c.in_ok-add-2.ensures

@@ -4,4 +4,12 @@ use Rattle.pass_rows.proofs.tests.hoisting.outer.Goals as goal
 use Rattle.pass_rows.proofs.Example.{as_these, later}
 
 pub returns : goal.returns
-returns c = later (later (later (later (later (later (later (later (later (later (later (as_these (ap (λ ts. S.MCode 0 ts ∷ []) c.in_ok-args.ensures) c.in_ok-add.ensures) c.in_ok-add-2.ensures) c.in_ok-add-3.ensures) c.in_ok-inner.ensures) c.in_ok-call.ensures) c.in_ok-add-4.ensures) c.in_ok-add-5.ensures) c.in_ok-add-6.ensures) c.in_ok-add-7.ensures) c.in_ok-add-8.ensures) c.in_ok-call-2.ensures) c.in_ok-add-9.ensures
+returns c = later
+    (later (later
+    (later (later
+    (later (later
+    (later (later
+    (later (later (as_these (ap (λ ts. S.MCode 0 ts ∷ []) c.in_ok-args.ensures) c.in_ok-add.ensures)
+    c.in_ok-add-2.ensures) c.in_ok-add-3.ensures) c.in_ok-inner.ensures) c.in_ok-call.ensures)
+    c.in_ok-add-4.ensures) c.in_ok-add-5.ensures) c.in_ok-add-6.ensures) c.in_ok-add-7.ensures)
+    c.in_ok-add-8.ensures) c.in_ok-call-2.ensures) c.in_ok-add-9.ensures

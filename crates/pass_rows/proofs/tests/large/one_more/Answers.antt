@@ -16,4 +16,5 @@ add-requires-2-clause-differ c =
 pub returns : goal.returns
 returns c =
     let two = with_leaf _ c.add.new.parts _ (c.args.sum ∷ []) _ _ refl c.requires c.in_ok-one.ensures in
-    IfOk-weaker c.add-2.result _ _ (with_both c.add.new.parts c.add-2.new.parts _ c.args.sum c.in_ok-one.one two _ refl) c.add-2.ensures
+    IfOk-weaker c.add-2.result _ _
+    (with_both c.add.new.parts c.add-2.new.parts _ c.args.sum c.in_ok-one.one two _ refl) c.add-2.ensures

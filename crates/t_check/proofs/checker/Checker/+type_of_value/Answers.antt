@@ -11,7 +11,8 @@ use Rattle.t_check.proofs.Typing.{pack_is}
 use Rattle.t_check.proofs.checker.Checker.+type_of_value.Goals as goal
 
 pub returns-in_ok-found-in-Pack-clause-grown : goal.returns-in_ok-found-in-Pack-clause-grown
-returns-in_ok-found-in-Pack-clause-grown t c = grown_next _ _ _ c.in_ok-found-in-Pack.ensures.grown c.type_of_package.ensures.grown
+returns-in_ok-found-in-Pack-clause-grown t c =
+    grown_next _ _ _ c.in_ok-found-in-Pack.ensures.grown c.type_of_package.ensures.grown
 
 pub returns-in_ok-found-in-Pack-clause-typed : goal.returns-in_ok-found-in-Pack-clause-typed
 returns-in_ok-found-in-Pack-clause-typed t c =
@@ -27,7 +28,8 @@ returns-in_ok-found-in-Pack-clause-typed t c =
     cc (c.deref-in-Pack.ensures, c.deref-in-Pack-2.ensures, c.deref-in-Pack-3.ensures) in
     let is = ap value c.in-Pack.is ∙ same in
     let formed = subst (λ (v : TValue). FormedValue c.args.self.now.program.now k.names v) is c.requires.value in
-    subst (λ (v : TValue). IsTypeOf P c.type_of_package.new.types k.names g c.args.span v c.type_of_package.result) (sym is)
+    subst (λ (v : TValue). IsTypeOf P c.type_of_package.new.types k.names g c.args.span v c.type_of_package.result)
+    (sym is)
     (pack_is P k.names g c.args.span c.type_of_package.new.types hidden shape
     (at c.type_of_value.new.types c.in_ok-found-in-Pack.found) inner found.1 formed.0 formed.2 c.type_of_package.result
     c.type_of_package.ensures.packed)

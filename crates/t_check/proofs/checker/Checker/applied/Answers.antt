@@ -15,22 +15,35 @@ apply_anew-requires-clause-found c =
 
 pub apply_anew-requires-clause-bounded : goal.apply_anew-requires-clause-bounded
 apply_anew-requires-clause-bounded c =
-    subst (Bounded c.args.self.now.registers.names) (sym (grown_at c.args.types.now c.number_row.new.self c.in_ok-row.ensures.grown c.args.found c.requires.found)) c.requires.bounded
+    subst (Bounded c.args.self.now.registers.names)
+    (sym (grown_at c.args.types.now c.number_row.new.self c.in_ok-row.ensures.grown c.args.found c.requires.found))
+    c.requires.bounded
 
 pub apply_anew-requires-clause-enough : goal.apply_anew-requires-clause-enough
 apply_anew-requires-clause-enough c = λ owes f e.
-    c.requires.enough owes f (sym (grown_at c.args.types.now c.number_row.new.self c.in_ok-row.ensures.grown c.args.found c.requires.found) ∙ e)
+    c.requires.enough owes f
+    (sym (grown_at c.args.types.now c.number_row.new.self c.in_ok-row.ensures.grown c.args.found c.requires.found)
+    ∙ e)
 
 pub note_applied-requires-clause-there : goal.note_applied-requires-clause-there
 note_applied-requires-clause-there c =
     let ts = c.args.types.now in
     let us = c.number_row.new.self in
     let vs = c.apply_anew.new.types in
-    omega (arith, c.requires.found, grown_length ts us c.in_ok-row.ensures.grown, grown_length us vs c.in_ok-made.ensures.grown)
+    omega (
+      arith,
+      c.requires.found,
+      grown_length ts us c.in_ok-row.ensures.grown,
+      grown_length us vs c.in_ok-made.ensures.grown,
+    )
 
 pub note_applied-requires-clause-args : goal.note_applied-requires-clause-args
 note_applied-requires-clause-args c =
-    omega (arith, c.in_ok-row.ensures.number.0, grown_length c.number_row.new.self c.apply_anew.new.types c.in_ok-made.ensures.grown)
+    omega (
+      arith,
+      c.in_ok-row.ensures.number.0,
+      grown_length c.number_row.new.self c.apply_anew.new.types c.in_ok-made.ensures.grown,
+    )
 
 pub note_applied-requires-clause-number : goal.note_applied-requires-clause-number
 note_applied-requires-clause-number c =
@@ -63,5 +76,6 @@ returns-clause-number c =
     let vs = c.apply_anew.new.types in
     let args = types c.args.args.now in
     let same = ap (with_types args) (grown_at ts us c.in_ok-row.ensures.grown c.args.found c.requires.found) in
-    subst (λ (ws : List Ty). IsNumber ws (with_types args (at ts c.args.found)) c.in_ok-made.made) (sym c.note_applied.ensures)
+    subst (λ (ws : List Ty). IsNumber ws (with_types args (at ts c.args.found)) c.in_ok-made.made)
+    (sym c.note_applied.ensures)
     (subst (λ (t : Ty). IsNumber vs t c.in_ok-made.made) same c.in_ok-made.ensures.number)

@@ -30,6 +30,8 @@ returns-clause-applied c = λ g b h.
     let small = subst (Bounded n) code.1 c.requires.bounded in
     let few : n ≤ max_names = search in
     let owed = inst_owed n owes args file le small.0 few c.requires.args small.1 in
-    let number = subst (λ (u : Ty). IsNumber us u c.in_ok-n.n) (with_file args t owes file code.1 le) c.in_ok-n.ensures.number in
+    let number =
+    subst (λ (u : Ty). IsNumber us u c.in_ok-n.n) (with_file args t owes file code.1 le) c.in_ok-n.ensures.number in
     plain_ok P n g c.args.span b us args t owes (owes - length args) c.in_ok-n.n file (inst_file args owes file)
-    (omega (arith, len, c.requires.some)) h c.requires.bounded code.1 le refl refl (types_below n c.args.args.now c.requires.args) owed number
+    (omega (arith, len, c.requires.some)) h c.requires.bounded code.1 le refl refl
+    (types_below n c.args.args.now c.requires.args) owed number

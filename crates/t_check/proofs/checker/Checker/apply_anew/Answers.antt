@@ -19,13 +19,17 @@ returns-clause-number c =
     let len : length (types args) ≡ length args = length-map args tree in
     let code = subst (λ (o : Option CodeParts). IsCode ts c.args.found o) c.in-Some.is c.in_ok-parts.ensures in
     let file = regs_at ts parts.regs.items in
-    let made = subst (λ (xs : List (ℕ × ℕ)). IsInstantiated us n (types args) parts.owes (regs_at ts xs) c.in_ok-regs.regs.items) c.deref.ensures.value c.in_ok-regs.ensures.made in
+    let made = subst
+    (λ (xs : List (ℕ × ℕ)). IsInstantiated us n (types args) parts.owes (regs_at ts xs) c.in_ok-regs.regs.items)
+    c.deref.ensures.value c.in_ok-regs.ensures.made in
     let enough = c.requires.enough parts.owes file code.0 in
     let left : parts.owes - length (types args) ≡ parts.owes - length args = omega (arith, len) in
-    let same = with_file (types args) (at ts c.args.found) parts.owes file code.0 (omega (arith, len, enough)) ∙ ap₂ CodeTy left (sym made.0.0) in
+    let same = with_file (types args) (at ts c.args.found) parts.owes file code.0 (omega (arith, len, enough))
+    ∙ ap₂ CodeTy left (sym made.0.0) in
     subst (λ (t : Ty). IfOk c.intern.result (IsNumber c.intern.new.types t)) (sym same) c.intern.ensures.number
 
 pub returns-in-None-clause-number : goal.returns-in-None-clause-number
 returns-in-None-clause-number c =
-    let none = subst (λ (o : Option CodeParts). IsCode c.args.types.now c.args.found o) c.in-None.is c.in_ok-parts.ensures in
+    let none =
+    subst (λ (o : Option CodeParts). IsCode c.args.types.now c.args.found o) c.in-None.is c.in_ok-parts.ensures in
     (c.requires.found, sym (no_code (types c.args.args.now) (at c.args.types.now c.args.found) none))

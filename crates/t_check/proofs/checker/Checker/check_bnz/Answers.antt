@@ -12,5 +12,7 @@ returns-clause-step c =
     let us = c.check_target.new.types in
     let k = c.args.self.now.registers in
     let done = c.check_target.ensures in
-    bnz_is (program c.args.self.now.program.now) k.names (known ts k) c.args.span us c.check_target.new.self.registers c.args.r (value c.args.v.now) c.in_ok-check_int.ensures
-    (done.known us ∙ known_grown ts us done.grown k c.requires.place.sound) done.names c.check_target.result done.sound done.entered
+    bnz_is (program c.args.self.now.program.now) k.names (known ts k) c.args.span us c.check_target.new.self.registers
+    c.args.r (value c.args.v.now) c.in_ok-check_int.ensures
+    (done.known us ∙ known_grown ts us done.grown k c.requires.place.sound) done.names c.check_target.result done.sound
+    done.entered

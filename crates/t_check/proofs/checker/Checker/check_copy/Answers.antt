@@ -10,4 +10,6 @@ returns-in_ok-set-in-Some-clause-step c = λ ts sound.
     let h = c.set.new.self in
     let e = c.in-Some.entry in
     let found = c.in-Some.ensures.found ts sound in
-    copy_is (program c.args.self.now.program.now) k.names (known ts k) c.args.span ts h c.args.rd c.args.r (seen ts k.names e) found.0 (set_known ts k h c.args.rd e c.in_ok-set-in-Some.ensures) (set_sound ts k h c.args.rd e c.in_ok-set-in-Some.ensures found.1 sound) c.in_ok-set-in-Some.ensures.1
+    copy_is (program c.args.self.now.program.now) k.names (known ts k) c.args.span ts h c.args.rd c.args.r
+    (seen ts k.names e) found.0 (set_known ts k h c.args.rd e c.in_ok-set-in-Some.ensures)
+    (set_sound ts k h c.args.rd e c.in_ok-set-in-Some.ensures found.1 sound) c.in_ok-set-in-Some.ensures.1

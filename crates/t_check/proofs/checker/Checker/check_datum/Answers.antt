@@ -17,7 +17,8 @@ use Rattle.t_check.proofs.checker.Checker.check_datum.Goals as goal
 
 pub type_of_value-requires-clause-value : goal.type_of_value-requires-clause-value
 type_of_value-requires-clause-value c =
-    subst (λ n. FormedValue c.args.self.now.program.now n (datum c.args.field.now).value) (sym c.requires.names) c.requires.formed.0
+    subst (λ n. FormedValue c.args.self.now.program.now n (datum c.args.field.now).value)
+    (sym c.requires.names) c.requires.formed.0
 
 pub returns-then-fits_once-clause-word : goal.returns-then-fits_once-clause-word
 returns-then-fits_once-clause-word c =
@@ -27,8 +28,12 @@ returns-then-fits_once-clause-word c =
     let k = c.args.self.now.registers in
     let typed = c.in_ok-found.ensures.typed in
     let found = grown_at us vs c.in_ok-wanted.ensures.grown c.in_ok-found.found typed.0 in
-    let fits = subst (λ (t : Ty). Fits t (tree c.args.field.now.1)) found (subst (Fits (at vs c.in_ok-found.found)) c.in_ok-wanted.ensures.number.1 (c.if-fits_once.ensures.fit.0 refl)) in
-    datum_ok (program c.args.self.now.program.now) k.names (known ts k) c.requires.names (empty_known ts k c.requires.empty) (datum c.args.field.now) (at us c.in_ok-found.found) typed.1 fits c.requires.formed.2
+    let fits = subst (λ (t : Ty). Fits t (tree c.args.field.now.1)) found
+    (subst (Fits (at vs c.in_ok-found.found)) c.in_ok-wanted.ensures.number.1
+    (c.if-fits_once.ensures.fit.0 refl)) in
+    datum_ok (program c.args.self.now.program.now) k.names (known ts k) c.requires.names
+    (empty_known ts k c.requires.empty) (datum c.args.field.now) (at us c.in_ok-found.found) typed.1 fits
+    c.requires.formed.2
 
 pub returns-clause-word : goal.returns-clause-word
 returns-clause-word c =
@@ -48,11 +53,16 @@ returns-clause-word c =
     says_types c.types_at_odds.result T13 0 x.span (DatumFaultWith P x) (at ws m) (at ws n) x.ty (at us n)
     (ap (λ (xs : List Ty). at xs m) same ∙ wanted) (ap (λ (xs : List Ty). at xs n) same ∙ own) c.types_at_odds.ensures
     (datum_unfit P k.names (known ts k) c.requires.names (empty_known ts k c.requires.empty) x (at us n) typed.1
-    (λ h. true≢false (sym (c.if-fits_once.ensures.fit.1 (subst (λ (t : Ty). Fits t (at vs m)) (sym own) (subst (Fits (at us n)) (sym wanted) h))))))
+    (λ h. true≢false
+    (sym (c.if-fits_once.ensures.fit.1
+    (subst (λ (t : Ty). Fits t (at vs m)) (sym own) (subst (Fits (at us n)) (sym wanted) h))))))
 
 pub returns-in_err-found-clause-word : goal.returns-in_err-found-clause-word
 returns-in_err-found-clause-word c =
     let ts = c.args.types.now in
     let k = c.args.self.now.registers in
     let p = err_from_is_err_and c.from_residual.result c.from_residual.ensures.1 in
-    rw (p.1, p.2) (datum_fault (program c.args.self.now.program.now) k.names (known ts k) c.requires.names (empty_known ts k c.requires.empty) (datum c.args.field.now) c.in_err-found.field-0.0 c.in_err-found.ensures.typed)
+    rw (p.1, p.2)
+    (datum_fault (program c.args.self.now.program.now) k.names (known ts k) c.requires.names
+    (empty_known ts k c.requires.empty) (datum c.args.field.now) c.in_err-found.field-0.0
+    c.in_err-found.ensures.typed)

@@ -13,7 +13,9 @@ use Rattle.t_check.proofs.checker.Checker.check_halt.Goals as goal
 pub returns-then-is_int : goal.returns-then-is_int
 returns-then-is_int c =
     let found = c.in-Some.ensures.found c.args.types.now c.requires in
-    found.0 ∙ ap (λ (t : Ty). Some (shift (c.args.self.now.registers.names - c.in-Some.entry.names) 0 t)) (int_marked c.args.types.now c.in-Some.entry.marks (at c.args.types.now c.in-Some.entry.ty) (c.if-is_int.ensures.0 refl))
+    found.0 ∙ ap (λ (t : Ty). Some (shift (c.args.self.now.registers.names - c.in-Some.entry.names) 0 t))
+    (int_marked c.args.types.now c.in-Some.entry.marks (at c.args.types.now c.in-Some.entry.ty)
+    (c.if-is_int.ensures.0 refl))
 
 pub returns-else-is_int : goal.returns-else-is_int
 returns-else-is_int c =
@@ -21,5 +23,7 @@ returns-else-is_int c =
     let k = c.args.self.now.registers in
     let e = c.in-Some.entry in
     let found = c.in-Some.ensures.found ts c.requires in
-    subst (λ (r : Result (Unit {0}) Refusal). IsEnd (program c.args.self.now.program.now) k.names (known ts k) c.args.span Halt r) (sym c.refused.ensures)
-    (no_halt (known ts k) (k.names - e.names) c.args.span (own ts e) found.0 (λ h. true≢false (sym (c.if-is_int.ensures.1 (unmarked_int ts e.marks (at ts e.ty) h)))))
+    subst (λ (r : Result (Unit {0}) Refusal). IsEnd (program c.args.self.now.program.now) k.names
+    (known ts k) c.args.span Halt r) (sym c.refused.ensures)
+    (no_halt (known ts k) (k.names - e.names) c.args.span (own ts e) found.0
+    (λ h. true≢false (sym (c.if-is_int.ensures.1 (unmarked_int ts e.marks (at ts e.ty) h)))))

@@ -13,5 +13,14 @@ returns-clause-step c =
     let grown = c.in_ok-loaded.ensures.grown in
     let h = c.in_ok-loaded.ensures.field in
     let t = at us c.in_ok-loaded.loaded in
-    let noted = c.in_ok-note.ensures us (sound_grown ts us grown k sound) h.4 h.3 in
-    ((h.0, t, h.1, h.2 ∙ ap (λ (b : Bool). Some (AField t b)) c.if-not-flag.false, noted_since ts us k c.note.new.self c.args.rd t grown sound noted), noted.1, noted.2)
+    let noted = c.in_ok-note.ensures us (sound_grown ts us grown k sound) h.4 h.3 in (
+      (
+        h.0,
+        t,
+        h.1,
+        h.2 ∙ ap (λ (b : Bool). Some (AField t b)) c.if-not-flag.false,
+        noted_since ts us k c.note.new.self c.args.rd t grown sound noted,
+      ),
+      noted.1,
+      noted.2,
+    )

@@ -11,7 +11,9 @@ pub returns-in-Some-clause-step : goal.returns-in-Some-clause-step
 returns-in-Some-clause-step c =
     let k = c.args.self.now.registers in
     let ts = c.args.types.now in
-    subst (λ (v : TValue). IsStep (program c.args.self.now.program.now) ts k.names (known ts k) c.check_copy.new.self.registers c.args.span (Mov c.args.rd v) c.check_copy.result) (sym c.in-Some.ensures) (c.check_copy.ensures.step ts c.requires.place.sound)
+    subst (λ (v : TValue). IsStep (program c.args.self.now.program.now) ts k.names
+    (known ts k) c.check_copy.new.self.registers c.args.span (Mov c.args.rd v) c.check_copy.result)
+    (sym c.in-Some.ensures) (c.check_copy.ensures.step ts c.requires.place.sound)
 
 pub returns-clause-step : goal.returns-clause-step
 returns-clause-step c =

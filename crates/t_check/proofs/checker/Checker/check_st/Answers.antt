@@ -10,22 +10,29 @@ use Rattle.t_check.proofs.Noting.{known_grown, sound_grown}
 use Rattle.t_check.proofs.checker.Checker.check_st.Goals as goal
 
 pub fill-requires-clause-sound : goal.fill-requires-clause-sound
-fill-requires-clause-sound c = sound_grown c.args.types.now c.check_stored.new.types c.in_ok-is_initialised.ensures.grown c.args.self.now.registers c.requires.place.sound
+fill-requires-clause-sound c =
+    sound_grown c.args.types.now c.check_stored.new.types c.in_ok-is_initialised.ensures.grown
+    c.args.self.now.registers c.requires.place.sound
 
 pub fill-requires-clause-there : goal.fill-requires-clause-there
 fill-requires-clause-there c =
     let ts = c.args.types.now in
     let us = c.check_stored.new.types in
     let h = c.in_ok-is_initialised.ensures.stored in
-    let same = known_grown ts us c.in_ok-is_initialised.ensures.grown c.args.self.now.registers c.requires.place.sound in
-    (TupleTy h.0, ap (λ (g : RegTypes). g c.args.rd) same ∙ h.3, (h.0, h.1, c.in_ok-is_initialised.is_initialised, refl, h.4))
+    let same =
+    known_grown ts us c.in_ok-is_initialised.ensures.grown c.args.self.now.registers c.requires.place.sound in (
+      TupleTy h.0,
+      ap (λ (g : RegTypes). g c.args.rd) same ∙ h.3,
+      (h.0, h.1, c.in_ok-is_initialised.is_initialised, refl, h.4),
+    )
 
 pub returns-clause-step : goal.returns-clause-step
 returns-clause-step c =
     let ts = c.args.types.now in
     let us = c.check_stored.new.types in
     let h = c.in_ok-is_initialised.ensures.stored in
-    let same = known_grown ts us c.in_ok-is_initialised.ensures.grown c.args.self.now.registers c.requires.place.sound in
+    let same =
+    known_grown ts us c.in_ok-is_initialised.ensures.grown c.args.self.now.registers c.requires.place.sound in
     let filled_is = c.in_ok-fill.ensures.filled in (
       (
         h.0,
@@ -36,7 +43,8 @@ returns-clause-step c =
         h.4,
         h.5,
         h.6,
-        filled_is.0 h.0 (ap (λ (g : RegTypes). g c.args.rd) same ∙ h.3) ∙ ap (λ (g : RegTypes). with_reg g c.args.rd (TupleTy (filled h.0 c.args.field))) same,
+        filled_is.0 h.0 (ap (λ (g : RegTypes). g c.args.rd) same ∙ h.3)
+            ∙ ap (λ (g : RegTypes). with_reg g c.args.rd (TupleTy (filled h.0 c.args.field))) same,
       ),
       filled_is.1,
       filled_is.2,

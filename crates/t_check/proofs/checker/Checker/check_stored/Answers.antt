@@ -13,10 +13,16 @@ use Rattle.t_check.proofs.checker.Checker.check_stored.Goals as goal
 
 pub shown-requires-clause-entry : goal.shown-requires-clause-entry
 shown-requires-clause-entry c =
-    entry_grown c.args.types.now c.field_of.new.types c.in_ok-wanted.ensures.grown c.args.self.now.registers.names c.in-Some.entry (c.in-Some.ensures.found c.args.types.now c.requires).1
+    entry_grown c.args.types.now c.field_of.new.types c.in_ok-wanted.ensures.grown c.args.self.now.registers.names
+    c.in-Some.entry (c.in-Some.ensures.found c.args.types.now c.requires).1
 
 pub fits_once-requires-clause-right : goal.fits_once-requires-clause-right
-fits_once-requires-clause-right c = omega (arith, c.in_ok-wanted.ensures.field.4, grown_length c.field_of.new.types c.shown.new.types c.in_ok-found.ensures.grown)
+fits_once-requires-clause-right c =
+    omega (
+      arith,
+      c.in_ok-wanted.ensures.field.4,
+      grown_length c.field_of.new.types c.shown.new.types c.in_ok-found.ensures.grown,
+    )
 
 pub returns-clause-stored : goal.returns-clause-stored
 returns-clause-stored c =
@@ -30,8 +36,15 @@ returns-clause-stored c =
     let found = c.in-Some.ensures.found ts c.requires in
     let own = c.in_ok-found.ensures.number.1 ∙ seen_grown ts us c.in_ok-wanted.ensures.grown k.names e found.1 in
     let kept = grown_at us vs c.in_ok-found.ensures.grown w h.4 in
-    let fits = c.fits_once.ensures.fit.0 c.if-not-fits_once.false in
-    (h.0, at us w, seen ts k.names e, h.1, h.2, found.0, subst (λ (t : Ty). Fits t (at us w)) own (subst (Fits (at vs c.in_ok-found.found)) kept fits))
+    let fits = c.fits_once.ensures.fit.0 c.if-not-fits_once.false in (
+      h.0,
+      at us w,
+      seen ts k.names e,
+      h.1,
+      h.2,
+      found.0,
+      subst (λ (t : Ty). Fits t (at us w)) own (subst (Fits (at vs c.in_ok-found.found)) kept fits),
+    )
 
 pub returns-then-not-fits_once-clause-stored : goal.returns-then-not-fits_once-clause-stored
 returns-then-not-fits_once-clause-stored c =
@@ -52,8 +65,12 @@ returns-then-not-fits_once-clause-stored c =
     let own = c.in_ok-found.ensures.number.1 ∙ seen_grown ts us c.in_ok-wanted.ensures.grown n e found.1 in
     let kept = grown_at us vs c.in_ok-found.ensures.grown w h.4 in
     let same = c.fits_once.ensures.same in
-    says_types c.types_at_odds.result T13 n s (StoreFaultWith n g s c.args.rd c.args.field c.args.rs) (at ws w) (at ws m) (at us w) t
+    says_types c.types_at_odds.result T13 n s (StoreFaultWith n g s c.args.rd c.args.field c.args.rs) (at ws w)
+    (at ws m) (at us w) t
     (ap (λ (xs : List Ty). at xs w) same ∙ kept) (ap (λ (xs : List Ty). at xs m) same ∙ own) c.types_at_odds.ensures
-    (field_follows g c.args.rd c.args.field s (λ fs u flag. register g c.args.rs s (λ x. fitting T13 n s u x)) h.0 h.1 (at us w) c.in_ok-wanted.is_initialised _ s h.2
+    (field_follows g c.args.rd c.args.field s (λ fs u flag. register g c.args.rs s (λ x. fitting T13 n s u x)) h.0 h.1
+    (at us w) c.in_ok-wanted.is_initialised _ s h.2
     (unfit T13 n g c.args.rs s t (at us w) found.0
-    (λ f. true≢false (sym (c.fits_once.ensures.fit.1 (subst (λ (u : Ty). Fits u (at vs w)) (sym own) (subst (Fits t) (sym kept) f))) ∙ c.if-not-fits_once.true))))
+    (λ f. true≢false
+    (sym (c.fits_once.ensures.fit.1 (subst (λ (u : Ty). Fits u (at vs w)) (sym own) (subst (Fits t) (sym kept) f)))
+    ∙ c.if-not-fits_once.true))))

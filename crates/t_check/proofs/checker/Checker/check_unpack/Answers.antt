@@ -22,8 +22,10 @@ returns-in-None-clause-step c =
     let g = known c.args.types.now k in
     let us = c.type_of_value.new.types in
     let v = value c.args.v.now in
-    subst (λ (r : Result (Unit {0}) Refusal). IsStep P us k.names g k c.args.span (Unpack c.args.rd v) r) (sym c.refused.ensures)
-    (unpack_other P k.names g c.args.span c.args.rd v (at us c.in_ok-found.found) c.in_ok-found.ensures.typed.1 c.in-None.ensures)
+    subst (λ (r : Result (Unit {0}) Refusal). IsStep P us k.names g k c.args.span (Unpack c.args.rd v) r)
+    (sym c.refused.ensures)
+    (unpack_other P k.names g c.args.span c.args.rd v (at us c.in_ok-found.found) c.in_ok-found.ensures.typed.1
+    c.in-None.ensures)
 
 pub returns-clause-step : goal.returns-clause-step
 returns-clause-step c =
@@ -36,10 +38,18 @@ returns-clause-step c =
     let typed = c.in_ok-found.ensures.typed in
     let t = at us c.in-Some.body in
     let sound = sound_grown ts us c.in_ok-found.ensures.grown k c.requires.place.sound in
-    let bounded = subst (λ (m : ℕ). Bounded m t) (sym c.bind.ensures.names) (unpacked k.names t (subst (Bounded k.names) c.in-Some.ensures.0 typed.2)) in
+    let bounded =
+    subst (λ (m : ℕ). Bounded m t) (sym c.bind.ensures.names)
+    (unpacked k.names t (subst (Bounded k.names) c.in-Some.ensures.0 typed.2)) in
     let noted = c.in_ok-note.ensures us (c.bind.ensures.sound us sound) c.in-Some.ensures.1 bounded in
-    let before = c.bind.ensures.known us sound ∙ ap raised (known_grown ts us c.in_ok-found.ensures.grown k c.requires.place.sound) in (
-      (t, subst (Has P k.names g v) c.in-Some.ensures.0 typed.1, noted.0 ∙ ap (λ (x : RegTypes). with_reg x c.args.rd t) before),
+    let before = c.bind.ensures.known us sound
+    ∙ ap raised (known_grown ts us c.in_ok-found.ensures.grown k c.requires.place.sound) in (
+      (
+        t,
+        subst (Has P k.names g v) c.in-Some.ensures.0 typed.1,
+        noted.0
+            ∙ ap (λ (x : RegTypes). with_reg x c.args.rd t) before,
+      ),
       noted.1,
       noted.2 ∙ c.bind.ensures.names,
     )

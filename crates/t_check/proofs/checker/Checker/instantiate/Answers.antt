@@ -15,11 +15,14 @@ use Rattle.t_check.proofs.checker.Checker.instantiate.Goals as goal
 
 pub put_file-requires-clause-parts : goal.put_file-requires-clause-parts
 put_file-requires-clause-parts c =
-    regs_below_more (length c.args.types.now) (length c.number_all.new.self) (grown_length c.args.types.now c.number_all.new.self c.in_ok-args.ensures.grown) c.args.regs.now c.requires.regs
+    regs_below_more (length c.args.types.now) (length c.number_all.new.self)
+    (grown_length c.args.types.now c.number_all.new.self c.in_ok-args.ensures.grown) c.args.regs.now
+    c.requires.regs
 
 pub put_file-requires-clause-args : goal.put_file-requires-clause-args
 put_file-requires-clause-args c =
-    subst (λ (ns : List ℕ). All (λ a. a < length c.number_all.new.self) ns) (sym c.deref.ensures.value) c.in_ok-args.ensures.numbers.1
+    subst (λ (ns : List ℕ). All (λ a. a < length c.number_all.new.self) ns) (sym c.deref.ensures.value)
+    c.in_ok-args.ensures.numbers.1
 
 pub put_file-requires-clause-fits : goal.put_file-requires-clause-fits
 put_file-requires-clause-fits c =
@@ -32,10 +35,12 @@ put_file-requires-clause-fits c =
     let len : length (types args) ≡ length args = length-map args tree in
     let enough : length (types args) ≤ owes = omega (arith, len, c.requires.enough) in
     let same = ap (λ (ns : List ℕ). types_at us ns) c.deref.ensures.value ∙ c.in_ok-args.ensures.numbers.0 in
-    let fits = spread_fits n owes (types args) (regs_at ts regs) enough c.requires.owes c.requires.few c.requires.args c.requires.file in
+    let fits = spread_fits n owes (types args) (regs_at ts regs) enough c.requires.owes c.requires.few c.requires.args
+    c.requires.file in
     subst (λ (xs : List Ty). each_file (SpreadFitsAt 0 xs) IsWord (owes - length args) (regs_at us regs)) (sym same)
     (subst (λ (m : ℕ). each_file (SpreadFitsAt 0 (types args)) IsWord (owes - m) (regs_at us regs)) len
-    (subst (λ (f : TFile). each_file (SpreadFitsAt 0 (types args)) IsWord (owes - length (types args)) f) (sym (grown_regs ts us c.in_ok-args.ensures.grown regs c.requires.regs)) fits))
+    (subst (λ (f : TFile). each_file (SpreadFitsAt 0 (types args)) IsWord (owes - length (types args)) f)
+    (sym (grown_regs ts us c.in_ok-args.ensures.grown regs c.requires.regs)) fits))
 
 pub returns-clause-made : goal.returns-clause-made
 returns-clause-made c =
@@ -50,7 +55,11 @@ returns-clause-made c =
     let same = ap (λ (ns : List ℕ). types_at us ns) c.deref.ensures.value ∙ c.in_ok-args.ensures.numbers.0 in
     let eq = ap (λ (xs : List Ty). over_file (spread 0 xs) (owes - length args) (regs_at us regs)) same
     ∙ ap (λ (m : ℕ). over_file (spread 0 (types args)) (owes - m) (regs_at us regs)) (sym len)
-    ∙ ap (over_file (spread 0 (types args)) (owes - length (types args))) (grown_regs ts us c.in_ok-args.ensures.grown regs c.requires.regs)
+    ∙ ap (over_file (spread 0 (types args)) (owes - length (types args)))
+    (grown_regs ts us c.in_ok-args.ensures.grown regs c.requires.regs)
     ∙ sym (in_one (types args) owes (regs_at ts regs) enough) in
-    let owed = inst_owed n owes (types args) (regs_at ts regs) enough c.requires.owes c.requires.few c.requires.args c.requires.file in
-    IfOk-weaker c.put_file.result _ _ (λ made k. (subst (λ (f : TFile). AreRegs c.put_file.new.self f made.items) eq k, owed)) c.put_file.ensures.numbers
+    let owed = inst_owed n owes (types args) (regs_at ts regs) enough c.requires.owes c.requires.few c.requires.args
+    c.requires.file in
+    IfOk-weaker c.put_file.result _ _
+    (λ made k. (subst (λ (f : TFile). AreRegs c.put_file.new.self f made.items) eq k, owed))
+    c.put_file.ensures.numbers

@@ -20,8 +20,11 @@ unreachable-requires c =
     let none : IsProp ⊥ = hlevel in
     let code = c.in-Err-Refused.field-0-0 in
     let span = c.in-Err-Refused.field-0-1 in
-    let fault = subst (λ (f : Refusal). SaysWith f (InstrFaultWith P n g s i)) c.in-Err-Refused.field-0-is c.in-Err-Refused.ensures.step in
-    ∥∥₁_elim c.requires.typed none (λ t. c.no_fault_where_typed.ensures P n g i t.0 s code span t.1 ((instr_beside P n g s i).forget code None span fault))
+    let fault = subst (λ (f : Refusal). SaysWith f (InstrFaultWith P n g s i)) c.in-Err-Refused.field-0-is
+    c.in-Err-Refused.ensures.step in
+    ∥∥₁_elim c.requires.typed none
+    (λ t. c.no_fault_where_typed.ensures P n g i t.0 s code span t.1
+    ((instr_beside P n g s i).forget code None span fault))
 
 pub unreachable-requires-in-Err-AtOdds : goal.unreachable-requires-in-Err-AtOdds
 unreachable-requires-in-Err-AtOdds c =
@@ -33,8 +36,11 @@ unreachable-requires-in-Err-AtOdds c =
     let s = c.args.span in
     let none : IsProp ⊥ = hlevel in
     let odds = c.in-Err-AtOdds.field-0-0.value in
-    let fault = subst (λ (f : Refusal). SaysWith f (InstrFaultWith P n g s i)) c.in-Err-AtOdds.field-0-is c.in-Err-AtOdds.ensures.step in
-    ∥∥₁_elim c.requires.typed none (λ t. c.no_fault_where_typed.ensures P n g i t.0 s odds.code odds.span t.1 ((instr_beside P n g s i).forget odds.code (Some (mismatch odds.mismatch)) odds.span fault))
+    let fault = subst (λ (f : Refusal). SaysWith f (InstrFaultWith P n g s i)) c.in-Err-AtOdds.field-0-is
+    c.in-Err-AtOdds.ensures.step in
+    ∥∥₁_elim c.requires.typed none
+    (λ t. c.no_fault_where_typed.ensures P n g i t.0 s odds.code odds.span t.1
+    ((instr_beside P n g s i).forget odds.code (Some (mismatch odds.mismatch)) odds.span fault))
 
 pub unreachable-requires-in-Err-Untold : goal.unreachable-requires-in-Err-Untold
 unreachable-requires-in-Err-Untold c =
@@ -47,5 +53,8 @@ unreachable-requires-in-Err-Untold c =
     let none : IsProp ⊥ = hlevel in
     let code = c.in-Err-Untold.field-0-0 in
     let span = c.in-Err-Untold.field-0-1 in
-    let fault = subst (λ (f : Refusal). SaysWith f (InstrFaultWith P n g s i)) c.in-Err-Untold.field-0-is c.in-Err-Untold.ensures.step in
-    ∥∥₁_elim c.requires.typed none (λ t. c.no_fault_where_typed.ensures P n g i t.0 s code span t.1 ((instr_beside P n g s i).forget code fault.0 span fault.1))
+    let fault = subst (λ (f : Refusal). SaysWith f (InstrFaultWith P n g s i)) c.in-Err-Untold.field-0-is
+    c.in-Err-Untold.ensures.step in
+    ∥∥₁_elim c.requires.typed none
+    (λ t. c.no_fault_where_typed.ensures P n g i t.0 s code span t.1
+    ((instr_beside P n g s i).forget code fault.0 span fault.1))

@@ -26,7 +26,8 @@ returns-in_ok-n-in-Some-clause-typed c =
     let found = c.in-Some.ensures.found ts c.requires.place.sound in
     let number = c.in_ok-n-in-Some.ensures.number in (
       number.0,
-      subst (λ (b : Base). BaseHas (program c.args.self.now.program.now) (known ts k) (base b) t) (sym c.in-Reg.is) (found.0 ∙ ap Some (sym number.1)),
+      subst (λ (b : Base). BaseHas (program c.args.self.now.program.now) (known ts k) (base b) t) (sym c.in-Reg.is)
+          (found.0 ∙ ap Some (sym number.1)),
       entry_bounded ts k.names e t found.1 number.1,
     )
 
@@ -41,10 +42,13 @@ returns-in-Label-clause-typed c =
     let lt : l < length bs = subst (λ (x : Base). FormedBase p (base x)) c.in-Label.is c.requires.base in
     let there = item_there bs l lt in
     let b = there.0 in
-    let number = numbered_at ts code_type bs c.args.self.now.labels.now.blocks.items c.requires.place.labels.blocks l b n lt there.1 c.index.ensures in
+    let number =
+    numbered_at ts code_type bs c.args.self.now.labels.now.blocks.items c.requires.place.labels.blocks l b n lt there.1
+    c.index.ensures in
     let formed = formed_at p l b lt there.1 p.whole in (
       number.0,
-      subst (λ (x : Base). BaseHas (program p) (known ts k) (base x) (at ts n)) (sym c.in-Label.is) (block b, block_at bs l b lt there.1, number.1),
+      subst (λ (x : Base). BaseHas (program p) (known ts k) (base x) (at ts n)) (sym c.in-Label.is)
+          (block b, block_at bs l b lt there.1, number.1),
       subst (Bounded k.names) (sym number.1) (label_bounded k.names b.owes (file b.regs.regs.items) formed.0 formed.1),
     )
 
@@ -59,11 +63,16 @@ returns-in-Data-clause-typed c =
     let lt : d < length xs = subst (λ (b : Base). FormedBase p (base b)) c.in-Data.is c.requires.base in
     let there = item_there xs d lt in
     let x = there.0 in
-    let number = numbered_at ts tuple_type xs c.args.self.now.labels.now.tuples.items c.requires.place.labels.tuples d x n lt there.1 c.index-in-Data.ensures in
+    let number =
+    numbered_at ts tuple_type xs c.args.self.now.labels.now.tuples.items c.requires.place.labels.tuples d x n lt
+    there.1 c.index-in-Data.ensures in
     let formed = formed_data_at p d x lt there.1 p.whole in (
       number.0,
-      subst (λ (b : Base). BaseHas (program p) (known ts k) (base b) (at ts n)) (sym c.in-Data.is) (plain_fields (spanned_data x).fields, data_at xs d x lt there.1, number.1),
-      subst (Bounded k.names) (sym number.1) (data_bounded k.names (plain_fields (spanned_data x).fields) (length p.blocks.items) (length p.heap.items) formed),
+      subst (λ (b : Base). BaseHas (program p) (known ts k) (base b) (at ts n)) (sym c.in-Data.is)
+          (plain_fields (spanned_data x).fields, data_at xs d x lt there.1, number.1),
+      subst (Bounded k.names) (sym number.1)
+          (data_bounded k.names (plain_fields (spanned_data x).fields) (length p.blocks.items)
+          (length p.heap.items) formed),
     )
 
 pub returns-in-Int-clause-typed : goal.returns-in-Int-clause-typed
@@ -73,6 +82,7 @@ returns-in-Int-clause-typed c =
     let n = c.args.self.now.labels.now.int in
     let number = c.requires.place.labels.int in (
       number.0,
-      subst (λ (x : Base). BaseHas (program c.args.self.now.program.now) (known ts k) (base x) (at ts n)) (sym c.in-Int.is) number.1,
+      subst (λ (x : Base). BaseHas (program c.args.self.now.program.now) (known ts k) (base x) (at ts n))
+          (sym c.in-Int.is) number.1,
       subst (Bounded k.names) (sym number.1) tt,
     )

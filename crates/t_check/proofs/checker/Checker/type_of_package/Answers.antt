@@ -18,10 +18,12 @@ put-requires-clause-fits c =
     let us = c.number.new.self in
     let ws = c.number-2.new.self in
     let is = sym c.in_ok-shape.ensures.number.1 ∙ c.in-Some.ensures.0 in
-    let fits = pack_put_fits n (tree c.args.hidden.now) (at us c.in-Some.body) c.requires.few (shallow n (tree c.args.hidden.now) c.requires.hidden)
+    let fits = pack_put_fits n (tree c.args.hidden.now) (at us c.in-Some.body) c.requires.few
+    (shallow n (tree c.args.hidden.now) c.requires.hidden)
     (subst (Shallow n) is (shallow n (tree c.args.shape.now) c.requires.shape)) in
     subst (λ (t : Ty). PutFits 0 t 0 (at ws c.in-Some.body)) (sym c.in_ok-hidden.ensures.number.1)
-    (subst (λ (t : Ty). PutFits 0 (tree c.args.hidden.now) 0 t) (sym (grown_at us ws c.in_ok-hidden.ensures.grown c.in-Some.body c.in-Some.ensures.1)) fits)
+    (subst (λ (t : Ty). PutFits 0 (tree c.args.hidden.now) 0 t)
+    (sym (grown_at us ws c.in_ok-hidden.ensures.grown c.in-Some.body c.in-Some.ensures.1)) fits)
 
 pub returns-clause-packed : goal.returns-clause-packed
 returns-clause-packed c =
@@ -32,12 +34,16 @@ returns-clause-packed c =
     let later = grown_next us ws vs c.in_ok-hidden.ensures.grown c.in_ok-wanted.ensures.grown in
     let all = grown_next ts us vs c.in_ok-shape.ensures.grown later in
     let is = sym c.in_ok-shape.ensures.number.1 ∙ c.in-Some.ensures.0 in
-    let wanted = c.in_ok-wanted.ensures.number.1 ∙ ap₂ (put 0) c.in_ok-hidden.ensures.number.1 (grown_at us ws c.in_ok-hidden.ensures.grown c.in-Some.body c.in-Some.ensures.1) in
+    let wanted = c.in_ok-wanted.ensures.number.1
+    ∙ ap₂ (put 0) c.in_ok-hidden.ensures.number.1
+    (grown_at us ws c.in_ok-hidden.ensures.grown c.in-Some.body c.in-Some.ensures.1) in
     let fits = c.fits_once.ensures.fit.0 c.if-not-fits_once.false in (
       at us c.in-Some.body,
       is,
-      subst (λ (t : Ty). Fits t (put 0 (tree c.args.hidden.now) (at us c.in-Some.body))) (grown_at ts vs all c.args.found c.requires.found) (subst (Fits (at vs c.args.found)) wanted fits),
-      subst (λ (ts : List Ty). IsNumber ts (tree c.args.shape.now) c.in_ok-shape.shape) (sym c.fits_once.ensures.same) (grown_number us vs later (tree c.args.shape.now) c.in_ok-shape.shape c.in_ok-shape.ensures.number),
+      subst (λ (t : Ty). Fits t (put 0 (tree c.args.hidden.now) (at us c.in-Some.body)))
+          (grown_at ts vs all c.args.found c.requires.found) (subst (Fits (at vs c.args.found)) wanted fits),
+      subst (λ (ts : List Ty). IsNumber ts (tree c.args.shape.now) c.in_ok-shape.shape) (sym c.fits_once.ensures.same)
+          (grown_number us vs later (tree c.args.shape.now) c.in_ok-shape.shape c.in_ok-shape.ensures.number),
     )
 
 pub returns-in-None-clause-packed : goal.returns-in-None-clause-packed
@@ -50,8 +56,10 @@ returns-in-None-clause-packed c =
     let shape = tree c.args.shape.now in
     let t = at ts c.args.found in
     let is = c.in_ok-shape.ensures.number.1 in
-    says_noted c.no_package.result (T15, Some (NoPackage (at us c.in_ok-shape.shape) n)) s (PackFaultWith n s hidden t shape) c.no_package.ensures
-    (subst (λ (u : Ty). PackFaultWith n s hidden t shape (T15, Some (NoPackage u n)) s) (sym is) (pack_none n s hidden t shape (λ body e. c.in-None.ensures body (is ∙ e))))
+    says_noted c.no_package.result (T15, Some (NoPackage (at us c.in_ok-shape.shape) n)) s
+    (PackFaultWith n s hidden t shape) c.no_package.ensures
+    (subst (λ (u : Ty). PackFaultWith n s hidden t shape (T15, Some (NoPackage u n)) s) (sym is)
+    (pack_none n s hidden t shape (λ body e. c.in-None.ensures body (is ∙ e))))
 
 pub returns-then-not-fits_once-clause-packed : goal.returns-then-not-fits_once-clause-packed
 returns-then-not-fits_once-clause-packed c =
@@ -65,7 +73,9 @@ returns-then-not-fits_once-clause-packed c =
     let later = grown_next us ws vs c.in_ok-hidden.ensures.grown c.in_ok-wanted.ensures.grown in
     let all = grown_next ts us vs c.in_ok-shape.ensures.grown later in
     let is = sym c.in_ok-shape.ensures.number.1 ∙ c.in-Some.ensures.0 in
-    let wanted = c.in_ok-wanted.ensures.number.1 ∙ ap₂ (put 0) c.in_ok-hidden.ensures.number.1 (grown_at us ws c.in_ok-hidden.ensures.grown c.in-Some.body c.in-Some.ensures.1) in
+    let wanted = c.in_ok-wanted.ensures.number.1
+    ∙ ap₂ (put 0) c.in_ok-hidden.ensures.number.1
+    (grown_at us ws c.in_ok-hidden.ensures.grown c.in-Some.body c.in-Some.ensures.1) in
     let hidden = tree c.args.hidden.now in
     let shape = tree c.args.shape.now in
     let m = c.args.found in
@@ -74,7 +84,11 @@ returns-then-not-fits_once-clause-packed c =
     let body = at us c.in-Some.body in
     let own = grown_at ts vs all m c.requires.found in
     let same = c.fits_once.ensures.same in
-    says_types c.types_at_odds.result T15 n s (PackFaultWith n s hidden t shape) (at xs w) (at xs m) (put 0 hidden body) t
+    says_types c.types_at_odds.result T15 n s (PackFaultWith n s hidden t shape) (at xs w) (at xs m)
+    (put 0 hidden body) t
     (ap (λ (ys : List Ty). at ys w) same ∙ wanted) (ap (λ (ys : List Ty). at ys m) same ∙ own) c.types_at_odds.ensures
     (pack_unfit n s hidden t shape body is
-    (λ h. true≢false (sym (c.fits_once.ensures.fit.1 (subst (λ (u : Ty). Fits u (at vs w)) (sym own) (subst (Fits t) (sym wanted) h))) ∙ c.if-not-fits_once.true)))
+    (λ h. true≢false
+    (sym (c.fits_once.ensures.fit.1
+    (subst (λ (u : Ty). Fits u (at vs w)) (sym own) (subst (Fits t) (sym wanted) h)))
+    ∙ c.if-not-fits_once.true)))

@@ -9,5 +9,6 @@ use Rattle.t_check.proofs.registers.Registers.agree_since.Given as goal
 abbrev pub invariant-loop-i : goal.invariant-loop-i
 invariant-loop-i l = record {
   grown : Grown l.fn.types l.types;
-  fit : (f : TFile) → at l.fn.types l.code ≡ CodeTy 0 f → (j : ℕ) → l.from ≤ j → j < l.i → AgreesAt (known l.fn.types l.self) f (get_or l.self.changed.items j 0);
+  fit : (f : TFile) → at l.fn.types l.code ≡ CodeTy 0 f → (j : ℕ) → l.from ≤ j → j < l.i →
+      AgreesAt (known l.fn.types l.self) f (get_or l.self.changed.items j 0);
 }

@@ -12,7 +12,8 @@ returns-in-Some-clause-fit c = λ f e.
     let g = known ts c.args.self.now in
     let w = at ts c.in-Some.wanted in
     let named = c.in-Some.ensures.wanted f e (c.requires.rises f e) in
-    IfOk-weaker c.fits_reg.result (λ (b : Bool). IsTrue b ↔ KnownFits g c.args.r w) (λ (b : Bool). IsTrue b ↔ AgreesAt g f c.args.r)
+    IfOk-weaker c.fits_reg.result (λ (b : Bool). IsTrue b ↔ KnownFits g c.args.r w)
+    (λ (b : Bool). IsTrue b ↔ AgreesAt g f c.args.r)
     (λ b h. agrees_by g f c.args.r w b (sym named) h) c.fits_reg.ensures.fit
 
 pub returns-in-None-clause-fit : goal.returns-in-None-clause-fit

@@ -8,7 +8,8 @@ use Rattle.t_check.proofs.registers.Registers.check_code.Goals as goal
 
 pub unreachable-requires : goal.unreachable-requires
 unreachable-requires c =
-    let none = subst (λ (o : Option CodeParts). IsCode c.args.types.now c.args.code o) c.in-None.is c.in_ok-parts.ensures in
+    let none =
+    subst (λ (o : Option CodeParts). IsCode c.args.types.now c.args.code o) c.in-None.is c.in_ok-parts.ensures in
     none 0 c.requires.code.0 c.requires.code.1
 
 pub check_file-requires-clause-regs : goal.check_file-requires-clause-regs
@@ -25,4 +26,5 @@ returns-clause-fit c = λ f e.
     let code = subst (λ (o : Option CodeParts). IsCode ts c.args.code o) c.in-Some.is c.in_ok-parts.ensures in
     let both : CodeTy p.owes (regs_at ts p.regs.items) ≡ CodeTy 0 f = sym code.0 ∙ e in
     let is : regs_at ts p.regs.items ≡ f = cc in
-    subst (λ (x : TFile). IsFileFit k.names (known ts k) c.args.span x c.check_file.result) (ap (regs_at ts) c.deref.ensures.value ∙ is) c.check_file.ensures.fit
+    subst (λ (x : TFile). IsFileFit k.names (known ts k) c.args.span x c.check_file.result)
+    (ap (regs_at ts) c.deref.ensures.value ∙ is) c.check_file.ensures.fit

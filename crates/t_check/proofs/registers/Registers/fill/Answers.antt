@@ -17,8 +17,12 @@ returns-clause-filled c =
     let ts = c.args.types.now in
     let found = c.in-Some.ensures.found ts c.requires.sound in
     on_ok_weaker c.set.result
-    (λ set. is_filled ts c.with.new.types c.args.self.now c.set.new.self c.args.r c.args.field c.in-Some.entry c.in_ok-set-in-Some-2.set (grown_next _ _ _ c.in_ok-set-in-Some.ensures.grown c.in_ok-set-in-Some-2.ensures.grown) c.requires.sound found c.requires.there c.in_ok-set-in-Some-2.ensures.number.0
-    (λ q some. c.in_ok-set-in-Some-2.ensures.number.1 q some ∙ ap (λ (b : Bool). nat_eq q (c.args.field + 1) || b) (c.in_ok-set-in-Some.ensures.same q)) set)
+    (λ set. is_filled ts c.with.new.types c.args.self.now c.set.new.self c.args.r c.args.field c.in-Some.entry
+    c.in_ok-set-in-Some-2.set
+    (grown_next _ _ _ c.in_ok-set-in-Some.ensures.grown c.in_ok-set-in-Some-2.ensures.grown) c.requires.sound found
+    c.requires.there c.in_ok-set-in-Some-2.ensures.number.0
+    (λ q some. c.in_ok-set-in-Some-2.ensures.number.1 q some
+    ∙ ap (λ (b : Bool). nat_eq q (c.args.field + 1) || b) (c.in_ok-set-in-Some.ensures.same q)) set)
     c.set.ensures
 
 pub returns-clause-grown : goal.returns-clause-grown

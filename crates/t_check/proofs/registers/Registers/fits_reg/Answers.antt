@@ -14,8 +14,10 @@ returns-in-Some-clause-fit c =
     let t = seen ts k.names c.in-Some.entry in
     let w = at ts c.args.wanted in
     let found = c.in-Some.ensures.found ts c.requires.sound in
-    IfOk-weaker c.fits_entry.result (λ (b : Bool). IsTrue b ↔ Fits t w) (λ (b : Bool). IsTrue b ↔ KnownFits (known ts k) c.args.r w)
-    (λ b h. ((λ y. (t, found.0, h.0 y)), λ x. h.1 (known_fit (known ts k) c.args.r t w found.0 x))) c.fits_entry.ensures.fit
+    IfOk-weaker c.fits_entry.result (λ (b : Bool). IsTrue b ↔ Fits t w)
+    (λ (b : Bool). IsTrue b ↔ KnownFits (known ts k) c.args.r w)
+    (λ b h. ((λ y. (t, found.0, h.0 y)), λ x. h.1 (known_fit (known ts k) c.args.r t w found.0 x)))
+    c.fits_entry.ensures.fit
 
 pub returns-in-None-clause-fit : goal.returns-in-None-clause-fit
 returns-in-None-clause-fit c =

@@ -3,4 +3,5 @@ use Rattle.t_check.proofs.Noting.{noted}
 use Rattle.t_check.proofs.registers.Registers.note.Goals as goal
 
 pub returns : goal.returns
-returns c = on_ok_weaker c.set.result (λ set ts h l b. noted ts c.args.self.now c.set.new.self c.args.r c.args.ty set h l b) c.set.ensures
+returns c = on_ok_weaker c.set.result
+    (λ set ts h l b. noted ts c.args.self.now c.set.new.self c.args.r c.args.ty set h l b) c.set.ensures

@@ -12,11 +12,13 @@ shift-requires-clause-fits c =
     let by = c.args.self.now.names - e.names in
     let le = c.requires.entry.1 in
     let few = c.requires.few in
-    subst (λ (t : Ty). ShiftFits by 0 t) (sym c.in_ok-ty.ensures.number.1) (shift_fits e.names by (own c.args.types.now e) (omega arith) c.requires.entry.2)
+    subst (λ (t : Ty). ShiftFits by 0 t) (sym c.in_ok-ty.ensures.number.1)
+    (shift_fits e.names by (own c.args.types.now e) (omega arith) c.requires.entry.2)
 
 pub returns-clause-grown : goal.returns-clause-grown
 returns-clause-grown c = grown_next _ _ _ c.in_ok-ty.ensures.grown c.shift.ensures.grown
 
 pub returns-clause-number : goal.returns-clause-number
 returns-clause-number c =
-    subst (λ (t : Ty). IfOk c.shift.result (IsNumber c.shift.new.self t)) (ap (shift (c.args.self.now.names - c.args.entry.names) 0) c.in_ok-ty.ensures.number.1) c.shift.ensures.number
+    subst (λ (t : Ty). IfOk c.shift.result (IsNumber c.shift.new.self t))
+    (ap (shift (c.args.self.now.names - c.args.entry.names) 0) c.in_ok-ty.ensures.number.1) c.shift.ensures.number

@@ -12,7 +12,8 @@ returns c =
     on_ok_weaker c.put.result
     (λ h. (
       one_more b.slots.items c.push.new.self.items c.args.ty pushed ∙ ap suc c.requires,
-      first_filled c.args.split.low b.done.items b.tail.items c.append.new.self.items c.put.new.code.items b.slots.items c.push.new.self.items c.args.ty c.requires c.in_ok-append.ensures.items pushed
+      first_filled c.args.split.low b.done.items b.tail.items c.append.new.self.items c.put.new.code.items
+          b.slots.items c.push.new.self.items c.args.ty c.requires c.in_ok-append.ensures.items pushed
           (λ rest. h rest ∙ onto_none c.append.new.other.items _ none
           ∙ ap₂ (λ r q. Then (St r 0 q) rest) c.slots.ensures c.first.ensures),
     )) c.put.ensures

@@ -9,4 +9,5 @@ returns-in-Some c = λ h k one.
 pub returns-in_ok-first-in-None : goal.returns-in_ok-first-in-None
 returns-in_ok-first-in-None c = λ h k one.
     let i = c.in_ok-first-in-None.ensures in
-    gap_next c.args.self.now.gaps h c.args.from c.in_ok-first-in-None.first i.1.0 k.gaps one (c.in-None.ensures.none h k.gaps one) i.0 i.1.1 i.2
+    gap_next c.args.self.now.gaps h c.args.from c.in_ok-first-in-None.first i.1.0 k.gaps one
+    (c.in-None.ensures.none h k.gaps one) i.0 i.1.1 i.2

@@ -12,4 +12,5 @@ returns-then-is_free c = λ m u k one.
 pub returns : goal.returns
 returns c = λ m u k one.
     let held = sym (c.is_free.ensures (λ r. busy r m u) k) ∙ c.if-is_free.false in
-    picked_is m u c.args.wanted c.args.from c.in_ok-first.first one (λ e. absurd (clash e held)) (λ e. c.in_ok-first.ensures (λ r. busy r m u) k one)
+    picked_is m u c.args.wanted c.args.from c.in_ok-first.first one (λ e. absurd (clash e held))
+    (λ e. c.in_ok-first.ensures (λ r. busy r m u) k one)

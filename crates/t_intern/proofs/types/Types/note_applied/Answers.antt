@@ -10,4 +10,12 @@ invariant_of-self c =
     let old = subst (AreApplied (made_found c.self.inside.applied)) c.self.view_is i.applied in
     let new = c.note.ensures applied_to c.args.self.now old c.requires.there c.requires.args c.requires.number in
     let applied = subst (AreApplied (made_found c.note.new.self)) (sym c.self.view_is) new in
-    record { parts = i.parts; once = i.once; bounds = i.bounds; fitted = i.fitted; shifted = i.shifted; marked = i.marked; applied = applied }
+    record {
+      parts = i.parts;
+      once = i.once;
+      bounds = i.bounds;
+      fitted = i.fitted;
+      shifted = i.shifted;
+      marked = i.marked;
+      applied = applied;
+    }

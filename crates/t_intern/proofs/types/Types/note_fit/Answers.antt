@@ -9,4 +9,12 @@ invariant_of-self c =
     let old = subst (AllFit (seen c.self.inside.fitted)) c.self.view_is i.fitted in
     let new = c.note.ensures c.args.self.now old c.requires.left c.requires.right c.requires.fit in
     let fitted = subst (AllFit (seen c.note.new.self)) (sym c.self.view_is) new in
-    record { parts = i.parts; once = i.once; bounds = i.bounds; fitted = fitted; shifted = i.shifted; marked = i.marked; applied = i.applied }
+    record {
+      parts = i.parts;
+      once = i.once;
+      bounds = i.bounds;
+      fitted = fitted;
+      shifted = i.shifted;
+      marked = i.marked;
+      applied = i.applied;
+    }

@@ -10,4 +10,12 @@ invariant_of-self c =
     let old = subst (AreMarked (made_found c.self.inside.marked)) c.self.view_is i.marked in
     let new = c.note.ensures with_marks c.args.self.now old c.requires.there c.requires.set c.requires.number in
     let marked = subst (AreMarked (made_found c.note.new.self)) (sym c.self.view_is) new in
-    record { parts = i.parts; once = i.once; bounds = i.bounds; fitted = i.fitted; shifted = i.shifted; marked = marked; applied = i.applied }
+    record {
+      parts = i.parts;
+      once = i.once;
+      bounds = i.bounds;
+      fitted = i.fitted;
+      shifted = i.shifted;
+      marked = marked;
+      applied = i.applied;
+    }

@@ -9,4 +9,5 @@ returns-clause-grown c = grown_next _ _ _ c.in_ok-regs.ensures.grown c.interned.
 
 pub returns-clause-number : goal.returns-clause-number
 returns-clause-number c =
-    subst (λ u. IfOk c.interned.result (IsNumber c.interned.new.self u)) (ap (CodeTy c.args.owes) c.in_ok-regs.ensures.numbers.0) c.interned.ensures.number
+    subst (λ u. IfOk c.interned.result (IsNumber c.interned.new.self u))
+    (ap (CodeTy c.args.owes) c.in_ok-regs.ensures.numbers.0) c.interned.ensures.number

@@ -11,12 +11,14 @@ interned-requires c =
     let us = c.number_all.new.self in
     let ns = c.in_ok-numbers.numbers.items in
     let is = c.in_ok-fields.ensures ∙ ap unfilled c.deref.ensures.value in
-    subst (λ (ys : List (ℕ × Bool)). FieldsBelow (length us) ys) (sym is) (row_below (length us) ns c.in_ok-numbers.ensures.numbers.1)
+    subst (λ (ys : List (ℕ × Bool)). FieldsBelow (length us) ys) (sym is)
+    (row_below (length us) ns c.in_ok-numbers.ensures.numbers.1)
 
 pub returns-clause-number : goal.returns-clause-number
 returns-clause-number c =
     let us = c.number_all.new.self in
     let ns = c.in_ok-numbers.numbers.items in
     let is = c.in_ok-fields.ensures ∙ ap unfilled c.deref.ensures.value in
-    let same = ap (λ (ys : List (ℕ × Bool)). TupleTy (fields_at us ys)) is ∙ ap TupleTy (row_at us ns) ∙ ap (λ (ts : List Ty). TupleTy (row ts)) c.in_ok-numbers.ensures.numbers.0 in
+    let same = ap (λ (ys : List (ℕ × Bool)). TupleTy (fields_at us ys)) is ∙ ap TupleTy (row_at us ns)
+    ∙ ap (λ (ts : List Ty). TupleTy (row ts)) c.in_ok-numbers.ensures.numbers.0 in
     subst (λ (t : Ty). IfOk c.interned.result (IsNumber c.interned.new.self t)) same c.interned.ensures.number

@@ -8,4 +8,5 @@ use Rattle.t_intern.proofs.types.Types.recalls_applied.Goals as goal
 pub returns : goal.returns
 returns c =
     let all = subst (AreApplied (made_found c.self.inside.applied)) c.self.view_is c.self.invariant.applied in
-    made_recalled applied (made_found c.self.inside.applied) c.args.self.now c.args.n c.args.args c.recall.result c.recall.ensures all
+    made_recalled applied (made_found c.self.inside.applied) c.args.self.now c.args.n c.args.args c.recall.result
+    c.recall.ensures all

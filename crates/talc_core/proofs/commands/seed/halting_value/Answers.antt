@@ -12,5 +12,9 @@ use Rattle.talc_core.proofs.commands.seed.halting_value.Goals as goal
 pub unreachable-requires : goal.unreachable-requires
 unreachable-requires c =
     let fuel = c.in-Some.fuel in
-    let enough = subst (λ (p : TProgram). (seed_turns + 1) * program_size (program_of p) ≤ fuel) c.program.ensures.same c.in-Some.ensures in
-    c.requires.soon fuel enough (subst (λ (r : Ran). FirstRun (program_of (checked_program c.args.program.now)) fuel r) c.in-Spent.is c.in_ok-value.ensures)
+    let enough =
+    subst (λ (p : TProgram). (seed_turns + 1) * program_size (program_of p) ≤ fuel) c.program.ensures.same
+    c.in-Some.ensures in
+    c.requires.soon fuel enough
+    (subst (λ (r : Ran). FirstRun (program_of (checked_program c.args.program.now)) fuel r) c.in-Spent.is
+    c.in_ok-value.ensures)

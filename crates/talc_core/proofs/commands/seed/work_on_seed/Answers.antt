@@ -10,7 +10,8 @@ use Rattle.talc_core.proofs.commands.seed.work_on_seed.Goals as goal
 pub check_target-requires : goal.check_target-requires
 check_target-requires c =
     let target = c.in_ok-target.target.items in
-    subst (λ (t : List ℕ). ∥ IsTaken AnAssembly t ∥₁) (sym c.deref.ensures.value) (target_taken (source c.args.seed) target c.in_ok-target.ensures)
+    subst (λ (t : List ℕ). ∥ IsTaken AnAssembly t ∥₁) (sym c.deref.ensures.value)
+    (target_taken (source c.args.seed) target c.in_ok-target.ensures)
 
 pub halting_value-requires-clause-soon : goal.halting_value-requires-clause-soon
 halting_value-requires-clause-soon c =
@@ -18,7 +19,8 @@ halting_value-requires-clause-soon c =
     let evaluation = c.in_ok-evaluation.evaluation in
     let program = spanned_program (checked_program c.in_ok-program.program) in
     let accepted = subst (λ (t : List ℕ). IsAcceptedText t program) c.deref.ensures.value c.in_ok-program.ensures in
-    soon c.texts_keep_laws.ensures c.args.seed target c.in_ok-target.ensures evaluation.value evaluation.used c.in_ok-evaluation.ensures program accepted
+    soon c.texts_keep_laws.ensures c.args.seed target c.in_ok-target.ensures evaluation.value evaluation.used
+    c.in_ok-evaluation.ensures program accepted
 
 pub returns : goal.returns
 returns c =
@@ -28,6 +30,8 @@ returns c =
     let accepted = subst (λ (t : List ℕ). IsAcceptedText t program) c.deref.ensures.value c.in_ok-program.ensures in
     let value_same : to_z w64 (of_z w64 evaluation.value) ≡ evaluation.value = search rules in
     let halted_same : to_z w64 (of_z w64 c.in_ok-halted.halted) ≡ c.in_ok-halted.halted = search rules in
-    let lines = c.in_ok-lines.ensures ∙ ap₂ (λ (i j : ℤ). seed_lines (length c.args.text.now) i evaluation.used j) value_same halted_same in
-    shown c.texts_keep_laws.ensures c.one_answer.ensures c.args.seed target c.in_ok-target.ensures evaluation.value evaluation.used c.in_ok-evaluation.ensures program accepted c.in_ok-halted.halted c.in_ok-halted.ensures
+    let lines = c.in_ok-lines.ensures
+    ∙ ap₂ (λ (i j : ℤ). seed_lines (length c.args.text.now) i evaluation.used j) value_same halted_same in
+    shown c.texts_keep_laws.ensures c.one_answer.ensures c.args.seed target c.in_ok-target.ensures evaluation.value
+    evaluation.used c.in_ok-evaluation.ensures program accepted c.in_ok-halted.halted c.in_ok-halted.ensures
     c.args.text.now c.in_ok-lines.lines.items c.requires lines

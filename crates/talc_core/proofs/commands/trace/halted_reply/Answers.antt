@@ -7,5 +7,6 @@ pub returns : goal.returns
 returns c =
     let same : to_z w64 (of_z w64 c.args.value) ≡ c.args.value = search (rules, c.ranges.value) in
     λ P from to steps within halted states.
-    halted_shown P from to steps c.args.value c.args.lines.items c.in_ok-last.last.items c.extend_from_slice.new.self.items within halted states (c.in_ok-last.ensures ∙ ap integer_line same)
+    halted_shown P from to steps c.args.value c.args.lines.items c.in_ok-last.last.items
+    c.extend_from_slice.new.self.items within halted states (c.in_ok-last.ensures ∙ ap integer_line same)
     (c.in_ok-extend_from_slice.ensures.items ∙ ap (λ (s : List ℕ). c.args.lines.items ++ s) c.deref.ensures.value)

@@ -14,4 +14,5 @@ returns-in_ok-reply-in-Halted c =
     let kept : i ≡ to_z w64 (of_z w64 i) = search (rules, c.first_run.type_inv, c.in_ok-value.is, c.in-Halted.is) in
     let h = subst (λ (r : Ran). FirstRun P c.args.window.to r) c.in-Halted.is c.in_ok-value.ensures in
     let before : h.0 < c.args.window.from = omega (arith, h.1, c.requires.order) in
-    c.in_ok-reply-in-Halted.ensures P c.args.window.from c.args.window.to h.0 h.1 (subst (HaltedAfter P h.0) kept h.2) (no_lines P c.args.window.from h.0 c.new.result.items before c.new.ensures.items)
+    c.in_ok-reply-in-Halted.ensures P c.args.window.from c.args.window.to h.0 h.1 (subst (HaltedAfter P h.0) kept h.2)
+    (no_lines P c.args.window.from h.0 c.new.result.items before c.new.ensures.items)

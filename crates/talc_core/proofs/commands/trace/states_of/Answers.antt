@@ -19,7 +19,9 @@ returns-then-made-window c =
     let at : 0 + k ≡ k = omega arith in
     let before : k < c.args.window.from = omega (arith, c.if-made-window.true) in
     let within : k ≤ c.args.window.to = omega (arith, before, c.requires.order) in
-    c.in_ok-reply-in-Halted.ensures P c.args.window.from c.args.window.to k within (subst (HaltedAfter P k) kept (subst (λ n. HaltedAfter P n i) at h.1)) (no_lines P c.args.window.from k c.new.result.items before c.new.ensures.items)
+    c.in_ok-reply-in-Halted.ensures P c.args.window.from c.args.window.to k within
+    (subst (HaltedAfter P k) kept (subst (λ n. HaltedAfter P n i) at h.1))
+    (no_lines P c.args.window.from k c.new.result.items before c.new.ensures.items)
 
 pub states_from-requires-clause-stands : goal.states_from-requires-clause-stands
 states_from-requires-clause-stands c =
@@ -30,9 +32,11 @@ states_from-requires-clause-stands c =
       | in-Halted+else-made-window w ↦
           let h = w.in-Halted.ensures.answer P p.whole c.requires.accepted 0 c.requires.stands in
           let same : 0 + w.in-Halted.made ≡ from = omega (arith, h.0, w.if-made-window.false) in
-          subst (λ k. Stands P k c.run.new.self) same (w.in-Halted.ensures.stands P p.whole c.requires.accepted 0 c.requires.stands)
+          subst (λ k. Stands P k c.run.new.self) same
+          (w.in-Halted.ensures.stands P p.whole c.requires.accepted 0 c.requires.stands)
       | in-Spent w ↦
           let same : 0 + from ≡ from = omega arith in
-          subst (λ k. Stands P k c.run.new.self) same (w.in-Spent.ensures.stands P p.whole c.requires.accepted 0 c.requires.stands)
+          subst (λ k. Stands P k c.run.new.self) same
+          (w.in-Spent.ensures.stands P p.whole c.requires.accepted 0 c.requires.stands)
     ] in
     subst (λ (Q : TProg). Stands Q from c.run.new.self) (sym c.in_ok-walk.ensures.program) stands

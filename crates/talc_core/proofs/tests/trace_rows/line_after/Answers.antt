@@ -9,4 +9,5 @@ line_at-requires-clause-stands c =
     let p = checked_program c.in-Ok.program in
     let P = program p in
     let same : 0 + c.args.m ≡ c.args.m = omega arith in
-    subst (λ k. Stands P k c.run.new.self) same (c.in-Spent.ensures.stands P p.whole c.in-Ok.ensures.1 0 c.in_ok-machine.ensures.stands)
+    subst (λ k. Stands P k c.run.new.self) same
+    (c.in-Spent.ensures.stands P p.whole c.in-Ok.ensures.1 0 c.in_ok-machine.ensures.stands)

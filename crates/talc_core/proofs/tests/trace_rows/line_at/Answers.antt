@@ -14,7 +14,8 @@ types_at-requires c =
     let b = c.place-block.result.0 in
     let i = c.place-block.result.1 in
     let place = c.place-block.ensures (program p) c.args.m c.requires.stands in
-    place_there (program p) p.whole c.requires.accepted c.args.m c.args.machine.now c.requires.stands b i place c.states_are_typed.ensures
+    place_there (program p) p.whole c.requires.accepted c.args.m c.args.machine.now c.requires.stands b i place
+    c.states_are_typed.ensures
 
 pub words_of-requires : goal.words_of-requires
 words_of-requires c =
@@ -24,10 +25,12 @@ words_of-requires c =
     let place = c.place-block.ensures (program p) c.args.m c.requires.stands in
     let f = file c.in_ok-vars.known.regs.items in
     subst (λ (xs : Regs). HaveAll (words_in c.args.machine.now) (file xs)) (sym c.deref.ensures.value)
-    (known_have (program p) p.whole c.requires.accepted c.args.m c.args.machine.now c.requires.stands b i place c.in_ok-vars.vars f c.in_ok-vars.ensures c.erased_words_are_of_their_kind.ensures)
+    (known_have (program p) p.whole c.requires.accepted c.args.m c.args.machine.now c.requires.stands b i place
+    c.in_ok-vars.vars f c.in_ok-vars.ensures c.erased_words_are_of_their_kind.ensures)
 
 pub line-requires-clause-words : goal.line-requires-clause-words
 line-requires-clause-words c =
     let f = file c.in_ok-vars.known.regs.items in
-    let have = subst (λ (xs : Regs). HaveWords (words_in c.args.machine.now) c.in_ok-words.words.items (file xs)) c.deref.ensures.value c.in_ok-words.ensures in
+    let have = subst (λ (xs : Regs). HaveWords (words_in c.args.machine.now) c.in_ok-words.words.items (file xs))
+    c.deref.ensures.value c.in_ok-words.ensures in
     words_are (words_in c.args.machine.now) c.in_ok-words.words.items f have

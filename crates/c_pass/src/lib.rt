@@ -9,4 +9,4 @@ mod program;
 mod state;
 mod translate;
 
-pub use program::{close, close_nodes};
+pub use program::close;

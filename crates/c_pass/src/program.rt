@@ -7,12 +7,10 @@ ghost use Rattle.k_terms.specs.Meaning.{krun};
 ghost use Rattle.k_terms.specs.Reach.{KWithin};
 ghost use Rattle.k_terms.specs.Whole as K;
 ghost use Rattle.k_terms.specs.Read.{knode};
-ghost use Rattle.c_terms.specs.Bound.{CBound, CFits};
+ghost use Rattle.c_terms.specs.Bound.{CFits};
 ghost use Rattle.c_terms.specs.Each.{CGoodP};
 ghost use Rattle.c_terms.specs.Meaning.{crun};
-ghost use Rattle.c_terms.specs.Program.{closed_of, CWhole};
 ghost use Rattle.c_terms.specs.Reach.{CWithin};
-ghost use Rattle.c_terms.specs.Stream.{clin_t};
 ghost use Rattle.c_terms.specs.Typing.{CGood};
 ghost use Rattle.c_terms.specs.Read.{written};
 ghost use Rattle.c_terms.specs.Term as C;
@@ -30,7 +28,6 @@ use c_emit::{Frame, Info, Note};
 use c_free::sweep::sweep;
 use c_free::tsweep::tsweep;
 use c_law::laws::{bound_law, meaning_law, scope_law, translation_law, types_law};
-use c_terms::laws::read_back_law;
 use c_terms::{CNode, CProgram, CType};
 use c_walk::Levels;
 use c_walk::laws::walks_law;
@@ -85,17 +82,6 @@ fn converted(alloc: Global, nodes: &[KNode]) -> Result<Vec<CNode>, OutOfMemory>
     Ok(out)
 }
 
-// The nodes of the closed term, by its translation alone.
-fn translated_nodes(alloc: Global, program: &KProgram) -> Result<Vec<CNode>, OutOfMemory>
-    ensures { IfOk result (λ r. written r.items [] ≡ clin_t 0 (close_of (K.term_of program.now)) []) }
-{
-    within_is_typed_law();
-    scope_law();
-    walks_law();
-    let out = converted(alloc, program.nodes())?;
-    Ok(out)
-}
-
 // The closed program, by its translation alone.
 fn translated(alloc: Global, program: &KProgram) -> Result<CProgram, OutOfMemory>
     ensures same { IfOk result (λ r. C.term_of r ≡ close_of (K.term_of program.now)) }
@@ -105,7 +91,8 @@ fn translated(alloc: Global, program: &KProgram) -> Result<CProgram, OutOfMemory
     scope_law();
     bound_law();
     translation_law();
-    let out = translated_nodes(alloc, program)?;
+    walks_law();
+    let out = converted(alloc, program.nodes())?;
     Ok(CProgram::new(out))
 }
 
@@ -133,26 +120,4 @@ pub fn close(alloc: Global, program: &KProgram) -> Result<CProgram, OutOfMemory>
     meaning_law();
     let made = translated(alloc, program)?;
     Ok(made)
-}
-
-/// The nodes of that closed program, which hoisting takes.
-pub fn close_nodes(alloc: Global, program: &KProgram) -> Result<Vec<CNode>, OutOfMemory>
-    ensures whole { IfOk result (λ r. CWhole r.items) }
-    ensures bound { IfOk result (λ r. ∥ CBound (closed_of r.items) ∥₁) }
-    ensures same { IfOk result (λ r. closed_of r.items ≡ close_of (K.term_of program.now)) }
-    ensures rules { IfOk result (λ r. IsTranslation (K.term_of program.now) (closed_of r.items)) }
-    ensures halts { IfOk result
-        (λ r. (n : ℕ) (i : ℤ) →
-        (crun n (closed_of r.items)).end ≡ Halted i ↔ (krun n (K.term_of program.now)).end ≡ Halted i) }
-    ensures codes { IfOk result (λ r. (n : ℕ) →
-        (crun n (closed_of r.items)).entered ≡ (krun n (K.term_of program.now)).entered) }
-{
-    within_is_typed_law();
-    scope_law();
-    bound_law();
-    translation_law();
-    meaning_law();
-    read_back_law();
-    let out = translated_nodes(alloc, program)?;
-    Ok(out)
 }

@@ -27,4 +27,12 @@ impl CProgram {
     {
         &self.nodes
     }
+
+    /// The nodes of the program's term, taken out of it.
+    pub fn into_nodes(self) -> Vec<CNode>
+        ensures read { written result.items [] ≡ clin_t 0 (term_of self) [] }
+        ensures bound { ∥ CBound (term_of self) ∥₁ }
+    {
+        self.nodes
+    }
 }

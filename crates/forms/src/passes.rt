@@ -37,7 +37,7 @@ pub(crate) fn hoisted(alloc: Global, program: &Program) -> Result<HProgram, OutO
     ensures main { IfOk result (λ r. H.main_in r ≡ main_of (closed_term (term_of (program_term program.now)))) }
 {
     let closed = closed(alloc, program)?;
-    let hoisted = hoist(alloc, &closed)?;
+    let hoisted = hoist(alloc, closed)?;
     Ok(hoisted)
 }
 

@@ -1,4 +1,3 @@
-pub mod Copying
 pub mod Spots
 pub mod Hoisting
 pub mod Types

@@ -1,14 +1,11 @@
 // Hoisting.
 ghost use Rattle.std.specs.Prelude.{◌≡◌, ℕ, List, [], IfOk};
-ghost use Rattle.c_terms.specs.Bound.{CBound, CFits};
-ghost use Rattle.c_terms.specs.C.{CTm};
+ghost use Rattle.c_terms.specs.Bound.{CFits};
 ghost use Rattle.c_terms.specs.Meaning.{crun};
 ghost use Rattle.c_terms.specs.Each.{CGoodP};
 ghost use Rattle.c_terms.specs.Reach.{CWithin};
-ghost use Rattle.c_terms.specs.Program.{closed_of, CWhole};
 ghost use Rattle.c_terms.specs.Stream as S;
 ghost use Rattle.c_terms.specs.Term.{term_of};
-ghost use Rattle.h_terms.specs.H.{HBlks, HTm};
 ghost use Rattle.h_terms.specs.Meaning.{hrun};
 ghost use Rattle.h_terms.specs.Each.{HProgramP};
 ghost use Rattle.h_terms.specs.Bound.{HBound, HFits};
@@ -19,10 +16,9 @@ ghost use Rattle.h_pass.specs.Back.{IsHoisted};
 ghost use Rattle.h_pass.specs.Stream.{IsFine};
 ghost use Rattle.h_pass.specs.Walk.{Walked, program_of};
 
-use crate::copies::copied;
 use crate::laws::{bound_is_small_law, hoist_meaning_law, hoist_types_law, scoped_is_back_law};
 use crate::state::{Open, Walk};
-use c_terms::{CNode, CProgram};
+use c_terms::CProgram;
 use h_terms::HProgram;
 use idx_core::OutOfMemory;
 use std::alloc::Global;
@@ -30,43 +26,24 @@ use std::collections::VecDeque;
 
 /// The hoisted form of a closed program: a block for each code, in order, and the main term. Each block's code put back
 /// for its label gives the closed program. It is typed, each bound on the program before is one on it, and within any
-/// number of calls it ends as the program before, and enters the blocks of the codes entered. The one other answer is
-/// want of memory.
-pub fn hoist(alloc: Global, program: &CProgram) -> Result<HProgram, OutOfMemory>
-    ensures blocks { IfOk result (λ r. blocks_in r ≡ blocks_of (term_of program.now)) }
-    ensures main { IfOk result (λ r. main_in r ≡ main_of (term_of program.now)) }
-    ensures back { IfOk result (λ r. IsHoisted (blocks_in r) (main_in r) (term_of program.now)) }
-    ensures meaning { IfOk result (λ r. (n : ℕ) → hrun n (blocks_in r) (main_in r) ≡ crun n (term_of program.now)) }
+/// number of calls it ends as the program before, and enters the blocks of the codes entered. The program's types
+/// become those of the blocks and of the main term. The one other answer is want of memory.
+pub fn hoist(alloc: Global, program: CProgram) -> Result<HProgram, OutOfMemory>
+    ensures blocks { IfOk result (λ r. blocks_in r ≡ blocks_of (term_of program)) }
+    ensures main { IfOk result (λ r. main_in r ≡ main_of (term_of program)) }
+    ensures back { IfOk result (λ r. IsHoisted (blocks_in r) (main_in r) (term_of program)) }
+    ensures meaning { IfOk result (λ r. (n : ℕ) → hrun n (blocks_in r) (main_in r) ≡ crun n (term_of program)) }
     ensures reach { IfOk result (λ r. (N R B : ℕ) →
-        CGoodP (CWithin N R B) 0 [] (term_of program.now) → HProgramP (CWithin N R B) (blocks_in r) (main_in r)) }
+        CGoodP (CWithin N R B) 0 [] (term_of program) → HProgramP (CWithin N R B) (blocks_in r) (main_in r)) }
     ensures bound { IfOk result (λ r. (N R : ℕ) →
-        CFits N R (term_of program.now) → HFits N R (blocks_in r) (main_in r)) }
-{
-    let nodes = copied(alloc, program.nodes())?;
-    let made = hoist_nodes(alloc, nodes)?;
-    Ok(made)
-}
-
-/// The same of the nodes of a closed program, whose types become those of the hoisted program.
-pub fn hoist_nodes(alloc: Global, nodes: Vec<CNode>) -> Result<HProgram, OutOfMemory>
-    requires whole { CWhole nodes.items }
-    requires bound { ∥ CBound (closed_of nodes.items) ∥₁ }
-    ensures blocks { IfOk result (λ r. blocks_in r ≡ blocks_of (closed_of nodes.items)) }
-    ensures main { IfOk result (λ r. main_in r ≡ main_of (closed_of nodes.items)) }
-    ensures back { IfOk result (λ r. IsHoisted (blocks_in r) (main_in r) (closed_of nodes.items)) }
-    ensures meaning { IfOk result (λ r. (n : ℕ) →
-        hrun n (blocks_in r) (main_in r) ≡ crun n (closed_of nodes.items)) }
-    ensures reach { IfOk result (λ r. (N R B : ℕ) →
-        CGoodP (CWithin N R B) 0 [] (closed_of nodes.items) → HProgramP (CWithin N R B) (blocks_in r) (main_in r)) }
-    ensures bound { IfOk result (λ r. (N R : ℕ) →
-        CFits N R (closed_of nodes.items) → HFits N R (blocks_in r) (main_in r)) }
+        CFits N R (term_of program) → HFits N R (blocks_in r) (main_in r)) }
 {
     bound_is_small_law();
     scoped_is_back_law();
     hoist_meaning_law();
     hoist_types_law();
     let mut walk = start(alloc)?;
-    for node in nodes {
+    for node in program.into_nodes() {
         walk.step(alloc, node)?;
     }
     walk.finish_call(alloc)?;

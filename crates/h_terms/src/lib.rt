@@ -2,7 +2,6 @@
 #![tactic(auto)]
 
 mod access;
-pub mod copying;
 pub mod laws;
 mod node;
 mod program;

@@ -67,7 +67,7 @@ fn converted(alloc: Global, program: &Program, last: Pass) -> Result<Option<Size
     if last == Pass::Close {
         return Ok(None);
     }
-    let hoisted = hoist(alloc, &closed)?;
+    let hoisted = hoist(alloc, closed)?;
     if last == Pass::Hoist {
         return Ok(None);
     }

@@ -14,9 +14,9 @@ ghost use Rattle.pipeline.specs.Compilation.{IsCompilation, IsCompilationWithin}
 ghost use Rattle.pipeline.specs.Work.{HasBlocks, SameWeights, WorkWithin};
 
 use a_pass::allocate;
-use c_pass::close_nodes;
+use c_pass::close;
 use f_check::Program;
-use h_pass::hoist_nodes;
+use h_pass::hoist;
 use idx_core::OutOfMemory;
 use k_pass::cps;
 use std::alloc::Global;
@@ -42,9 +42,9 @@ fn assemble(alloc: Global, program: &Program) -> Result<TProgram, OutOfMemory>
     gen_law::programs_are_laid_out();
     gen_law::generated_programs_are_by_rules();
     let converted = cps(alloc, program)?;
-    let closed = close_nodes(alloc, &converted)?;
+    let closed = close(alloc, &converted)?;
     drop(converted);
-    let hoisted = hoist_nodes(alloc, closed)?;
+    let hoisted = hoist(alloc, closed)?;
     let allocated = allocate(alloc, &hoisted)?;
     drop(hoisted);
     let generated = generate(alloc, &allocated)?;

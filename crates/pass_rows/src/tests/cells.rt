@@ -409,7 +409,7 @@ fn cells_and_packages_pass(rt: HostRuntime) -> Result<(), Fail> {
     is_form(&rt, &write_cps(alloc, &given)?, GIVEN)?;
     let closed = close(alloc, &given)?;
     is_form(&rt, &write_closed(alloc, &closed)?, CLOSED)?;
-    let hoisted = hoist(alloc, &closed)?;
+    let hoisted = hoist(alloc, closed)?;
     is_form(&rt, &write_hoisted(alloc, &hoisted)?, HOISTED)?;
     let allocated = allocate(alloc, &hoisted)?;
     is_form(&rt, &write_allocated(alloc, &allocated)?, ALLOCATED)

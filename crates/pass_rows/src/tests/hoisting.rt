@@ -222,7 +222,7 @@ fn program(alloc: Global) -> Result<CProgram, OutOfMemory> {
 #[test]
 fn a_program_is_hoisted_and_allocated(rt: HostRuntime) -> Result<(), Fail> {
     let alloc = rt.alloc();
-    let hoisted = hoist(alloc, &program(alloc)?)?;
+    let hoisted = hoist(alloc, program(alloc)?)?;
     is_form(&rt, &write_hoisted(alloc, &hoisted)?, HOISTED)?;
     let allocated = allocate(alloc, &hoisted)?;
     is_form(&rt, &write_allocated(alloc, &allocated)?, ALLOCATED)

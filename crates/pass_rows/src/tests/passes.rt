@@ -58,7 +58,7 @@ pub fn closed(alloc: Global, program: &Program) -> Result<CProgram, OutOfMemory>
 
 pub fn hoisted(alloc: Global, program: &Program) -> Result<HProgram, OutOfMemory> {
     let closed = closed(alloc, program)?;
-    hoist(alloc, &closed)
+    hoist(alloc, closed)
 }
 
 pub fn allocated(alloc: Global, program: &Program) -> Result<AProgram, OutOfMemory> {

@@ -1,65 +1,108 @@
-use Rattle.std.proofs.Common.{◌≡◌, ◌∙◌, ap, sym, subst, []}
-use Rattle.c_terms.specs.Bound.{CBound, CFits}
-use Rattle.c_terms.specs.C.{CTm}
-use Rattle.c_terms.specs.Each.{CGoodP}
+use Rattle.std.proofs.Common.{◌≡◌, ◌∙◌, sym, subst, subst₂, [], length, rules, List}
+use Rattle.std.specs.Vec.Iter.{into_iter_items}
+use Rattle.h_pass.proofs.program.hoist.Goals as goal
 use Rattle.c_terms.specs.Meaning.{crun}
 use Rattle.c_terms.specs.Reach.{CWithin}
-use Rattle.c_terms.specs.Stream.{clin_t}
+use Rattle.c_terms.specs.Read.{written}
+use Rattle.c_terms.specs.Term.{term_of}
+use Rattle.c_terms.specs.declared.node.CNode.{CNode}
+use Rattle.h_terms.specs.Bound.{HFits}
+use Rattle.h_terms.specs.Each.{HProgramP}
 use Rattle.h_terms.specs.Meaning.{hrun}
-use Rattle.h_terms.specs.Program.{blocks_in, main_in}
-use Rattle.h_pass.proofs.Copying.{same_term}
-use Rattle.h_pass.proofs.program.hoist.Goals as goal
+use Rattle.h_pass.proofs.Finishing.{begins, bound_of, goes_on, hoisted_whole}
 use Rattle.h_pass.specs.Back.{IsHoisted}
 use Rattle.h_pass.specs.Hoist.{blocks_of, main_of}
+use Rattle.h_pass.specs.Walk.{Walked}
 
-pub hoist_nodes-requires-clause-whole : goal.hoist_nodes-requires-clause-whole
-hoist_nodes-requires-clause-whole c =
-    let e = same_term c.args.program.now _ _ (c.in_ok-nodes.ensures []) c.nodes.ensures.read in
-    ap (λ t. clin_t 0 t []) e ∙ sym (c.in_ok-nodes.ensures [] ∙ c.nodes.ensures.read)
+pub loop-node-init : goal.loop-node-init
+loop-node-init c =
+    let ns = c.into_nodes-node-items.result.items in
+    let t = term_of c.args.program in
+    let ok = c.bound_is_small_law.ensures t c.into_nodes-node-items.ensures.bound in
+    let kept = c.scoped_is_back_law.ensures.nodes t ok.0 ok.1 in
+    let all : into_iter_items c.into_iter-node-iterator.result ≡ ns = search rules in
+    subst (λ (xs : List CNode). Walked c.in_ok-walk.walk (written xs []) (blocks_of t, main_of t)) (sym all)
+    (begins t ns c.in_ok-walk.walk kept c.into_nodes-node-items.ensures.read c.in_ok-walk.ensures)
 
-pub hoist_nodes-requires-clause-bound : goal.hoist_nodes-requires-clause-bound
-hoist_nodes-requires-clause-bound c =
-    let e = same_term c.args.program.now _ _ (c.in_ok-nodes.ensures []) c.nodes.ensures.read in
-    subst (λ t. ∥ CBound t ∥₁) (sym e) c.nodes.ensures.bound
+pub loop-node-preserved : goal.loop-node-preserved
+loop-node-preserved c =
+    let t = term_of c.args.program in
+    goes_on _ _ c.in-Some.node c.loop-node.walk c.step.new.self (blocks_of t, main_of t)
+    c.in-Some.ensures.steps.0 c.in_ok-step.ensures c.loop-node.invariant
+
+pub made-requires-clause-blocks : goal.made-requires-clause-blocks
+made-requires-clause-blocks c =
+    let t = term_of c.args.program in
+    let past : length (into_iter_items c.loop-node.node-iterator) ≡ 0 = search rules in
+    let all = hoisted_whole t _ c.loop-node.walk c.finish_call.new.self past c.loop-node.invariant
+    c.in_ok-finish_call.ensures.none c.in_ok-finish_call.ensures.goes in
+    all.rows
+
+pub made-requires-clause-main : goal.made-requires-clause-main
+made-requires-clause-main c =
+    let t = term_of c.args.program in
+    let past : length (into_iter_items c.loop-node.node-iterator) ≡ 0 = search rules in
+    let all = hoisted_whole t _ c.loop-node.walk c.finish_call.new.self past c.loop-node.invariant
+    c.in_ok-finish_call.ensures.none c.in_ok-finish_call.ensures.goes in
+    all.row
+
+pub made-requires-clause-bound : goal.made-requires-clause-bound
+made-requires-clause-bound c =
+    let t = term_of c.args.program in
+    let past : length (into_iter_items c.loop-node.node-iterator) ≡ 0 = search rules in
+    let all = hoisted_whole t _ c.loop-node.walk c.finish_call.new.self past c.loop-node.invariant
+    c.in_ok-finish_call.ensures.none c.in_ok-finish_call.ensures.goes in
+    bound_of t _ _ all (λ h. c.hoist_types_law.ensures.fits _ _ t h) c.into_nodes-node-items.ensures.bound
 
 pub returns-clause-blocks : goal.returns-clause-blocks
 returns-clause-blocks c =
-    let p = c.args.program.now in
-    let r = c.in_ok-made.made in
-    let e = same_term p _ _ (c.in_ok-nodes.ensures []) c.nodes.ensures.read in
-    c.in_ok-made.ensures.blocks ∙ ap blocks_of e
+    let t = term_of c.args.program in
+    let past : length (into_iter_items c.loop-node.node-iterator) ≡ 0 = search rules in
+    let all = hoisted_whole t _ c.loop-node.walk c.finish_call.new.self past c.loop-node.invariant
+    c.in_ok-finish_call.ensures.none c.in_ok-finish_call.ensures.goes in
+    c.made.ensures.blocks ∙ all.blocks
 
 pub returns-clause-main : goal.returns-clause-main
 returns-clause-main c =
-    let p = c.args.program.now in
-    let r = c.in_ok-made.made in
-    let e = same_term p _ _ (c.in_ok-nodes.ensures []) c.nodes.ensures.read in
-    c.in_ok-made.ensures.main ∙ ap main_of e
+    let t = term_of c.args.program in
+    let past : length (into_iter_items c.loop-node.node-iterator) ≡ 0 = search rules in
+    let all = hoisted_whole t _ c.loop-node.walk c.finish_call.new.self past c.loop-node.invariant
+    c.in_ok-finish_call.ensures.none c.in_ok-finish_call.ensures.goes in
+    c.made.ensures.main ∙ all.main
 
 pub returns-clause-back : goal.returns-clause-back
 returns-clause-back c =
-    let p = c.args.program.now in
-    let r = c.in_ok-made.made in
-    let e = same_term p _ _ (c.in_ok-nodes.ensures []) c.nodes.ensures.read in
-    subst (λ (t : CTm). IsHoisted (blocks_in r) (main_in r) t) e c.in_ok-made.ensures.back
+    let t = term_of c.args.program in
+    let past : length (into_iter_items c.loop-node.node-iterator) ≡ 0 = search rules in
+    let all = hoisted_whole t _ c.loop-node.walk c.finish_call.new.self past c.loop-node.invariant
+    c.in_ok-finish_call.ensures.none c.in_ok-finish_call.ensures.goes in
+    let ok = c.bound_is_small_law.ensures t c.into_nodes-node-items.ensures.bound in
+    subst₂ (λ ks m. IsHoisted ks m t) (sym (c.made.ensures.blocks ∙ all.blocks))
+    (sym (c.made.ensures.main ∙ all.main)) (c.scoped_is_back_law.ensures.back t ok.0)
 
 pub returns-clause-meaning : goal.returns-clause-meaning
 returns-clause-meaning c =
-    let p = c.args.program.now in
-    let r = c.in_ok-made.made in
-    let e = same_term p _ _ (c.in_ok-nodes.ensures []) c.nodes.ensures.read in
-    λ n. subst (λ (t : CTm). hrun n (blocks_in r) (main_in r) ≡ crun n t) e (c.in_ok-made.ensures.meaning n)
+    let t = term_of c.args.program in
+    let past : length (into_iter_items c.loop-node.node-iterator) ≡ 0 = search rules in
+    let all = hoisted_whole t _ c.loop-node.walk c.finish_call.new.self past c.loop-node.invariant
+    c.in_ok-finish_call.ensures.none c.in_ok-finish_call.ensures.goes in
+    λ n. subst₂ (λ ks m. hrun n ks m ≡ crun n t) (sym (c.made.ensures.blocks ∙ all.blocks))
+    (sym (c.made.ensures.main ∙ all.main)) (c.hoist_meaning_law.ensures t n)
 
 pub returns-clause-reach : goal.returns-clause-reach
 returns-clause-reach c =
-    let p = c.args.program.now in
-    let r = c.in_ok-made.made in
-    let e = same_term p _ _ (c.in_ok-nodes.ensures []) c.nodes.ensures.read in
-    λ N R B h. c.in_ok-made.ensures.reach N R B (subst (CGoodP (CWithin N R B) 0 []) (sym e) h)
+    let t = term_of c.args.program in
+    let past : length (into_iter_items c.loop-node.node-iterator) ≡ 0 = search rules in
+    let all = hoisted_whole t _ c.loop-node.walk c.finish_call.new.self past c.loop-node.invariant
+    c.in_ok-finish_call.ensures.none c.in_ok-finish_call.ensures.goes in
+    λ N R B h. subst₂ (HProgramP (CWithin N R B)) (sym (c.made.ensures.blocks ∙ all.blocks))
+    (sym (c.made.ensures.main ∙ all.main)) (c.hoist_types_law.ensures.reach N R B t h)
 
 pub returns-clause-bound : goal.returns-clause-bound
 returns-clause-bound c =
-    let p = c.args.program.now in
-    let r = c.in_ok-made.made in
-    let e = same_term p _ _ (c.in_ok-nodes.ensures []) c.nodes.ensures.read in
-    λ N R h. c.in_ok-made.ensures.bound N R (subst (CFits N R) (sym e) h)
+    let t = term_of c.args.program in
+    let past : length (into_iter_items c.loop-node.node-iterator) ≡ 0 = search rules in
+    let all = hoisted_whole t _ c.loop-node.walk c.finish_call.new.self past c.loop-node.invariant
+    c.in_ok-finish_call.ensures.none c.in_ok-finish_call.ensures.goes in
+    λ N R h. subst₂ (HFits N R) (sym (c.made.ensures.blocks ∙ all.blocks))
+    (sym (c.made.ensures.main ∙ all.main)) (c.hoist_types_law.ensures.fits N R t h)

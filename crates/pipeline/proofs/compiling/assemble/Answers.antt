@@ -3,7 +3,7 @@ use Rattle.std.proofs.Math.Logic.{∥∥₁_elim, ∥∥₁_map₂, ∥∥₁_pr
 use Rattle.f_check.specs.Typed.{program_term}
 use Rattle.f_terms.specs.ReadTerm as source
 use Rattle.k_terms.specs.Whole as K
-use Rattle.c_terms.specs.Program.{closed_of}
+use Rattle.c_terms.specs.Term as C
 use Rattle.h_terms.specs.Program as H
 use Rattle.a_terms.specs.Program as A
 use Rattle.t_terms.specs.ReadProgram.{program}
@@ -16,7 +16,7 @@ pub returns-clause-compiled : goal.returns-clause-compiled
 returns-clause-compiled c =
     let e = source.term_of (program_term c.args.program.now) in
     let k = K.term_of c.in_ok-converted.converted in
-    let d = closed_of c.in_ok-closed.closed.items in
+    let d = C.term_of c.in_ok-closed.closed in
     let h = c.in_ok-hoisted.hoisted in
     let a = c.in_ok-allocated.allocated in
     let closed = c.in_ok-closed.ensures in
@@ -40,7 +40,7 @@ pub returns-clause-entered : goal.returns-clause-entered
 returns-clause-entered c =
     let e = source.term_of (program_term c.args.program.now) in
     let k = K.term_of c.in_ok-converted.converted in
-    let d = closed_of c.in_ok-closed.closed.items in
+    let d = C.term_of c.in_ok-closed.closed in
     let h = c.in_ok-hoisted.hoisted in
     let a = c.in_ok-allocated.allocated in
     let closed = c.in_ok-closed.ensures in
@@ -65,7 +65,7 @@ pub returns-clause-made : goal.returns-clause-made
 returns-clause-made c =
     let e = source.term_of (program_term c.args.program.now) in
     let k = K.term_of c.in_ok-converted.converted in
-    let d = closed_of c.in_ok-closed.closed.items in
+    let d = C.term_of c.in_ok-closed.closed in
     let h = c.in_ok-hoisted.hoisted in
     let a = c.in_ok-allocated.allocated in
     let hoisted = c.in_ok-hoisted.ensures in
@@ -78,7 +78,7 @@ pub returns-clause-work : goal.returns-clause-work
 returns-clause-work c =
     let e = source.term_of (program_term c.args.program.now) in
     let k = K.term_of c.in_ok-converted.converted in
-    let d = closed_of c.in_ok-closed.closed.items in
+    let d = C.term_of c.in_ok-closed.closed in
     let h = c.in_ok-hoisted.hoisted in
     let a = c.in_ok-allocated.allocated in
     let converted = c.in_ok-converted.ensures in
@@ -95,7 +95,7 @@ pub returns-clause-weights : goal.returns-clause-weights
 returns-clause-weights c =
     let e = source.term_of (program_term c.args.program.now) in
     let k = K.term_of c.in_ok-converted.converted in
-    let d = closed_of c.in_ok-closed.closed.items in
+    let d = C.term_of c.in_ok-closed.closed in
     let h = c.in_ok-hoisted.hoisted in
     let a = c.in_ok-allocated.allocated in
     let converted = c.in_ok-converted.ensures in

@@ -1,5 +1,5 @@
 use Rattle.pass_rows.proofs.tests.hoisting.code_of.Goals as goal
-use Rattle.h_terms.proofs.TypeTrees.{type_code}
+use Rattle.c_terms.proofs.Trees.{tree_Code}
 
 pub returns : goal.returns
-returns c = type_code 0 c.args.args
+returns c = tree_Code 0 c.args.args

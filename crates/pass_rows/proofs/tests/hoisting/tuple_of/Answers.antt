@@ -1,5 +1,5 @@
 use Rattle.pass_rows.proofs.tests.hoisting.tuple_of.Goals as goal
-use Rattle.h_terms.proofs.TypeTrees.{type_tuple}
+use Rattle.c_terms.proofs.Trees.{tree_Tuple}
 
 pub returns : goal.returns
-returns c = type_tuple c.args.fields
+returns c = tree_Tuple c.args.fields

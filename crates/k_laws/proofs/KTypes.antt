@@ -1,6 +1,6 @@
 -- The conversion of types at a place, and shift, put and scope.
-use Rattle.std.proofs.Common.{◌≡◌, ◌<◌, ◌≤◌, ◌⊎◌, inl, inr, ℕ, zero, suc, ◌+◌, ◌-◌, List, [], ◌∷◌, Some, None, refl}
-use Rattle.std.proofs.Common.{sym, ap, ap₂, ◌∙◌, arith}
+use Rattle.std.proofs.Common.{◌≡◌, ◌<◌, ◌≤◌, ◌⊎◌, inl, inr, ℕ, zero, suc, ◌+◌, ◌-◌, List, [], ◌∷◌, Some, refl, sym, ap}
+use Rattle.std.proofs.Common.{ap₂, ◌∙◌, arith}
 use Rattle.std.proofs.lemmas.Bool.{cases_lt, cases_order}
 use Rattle.idx_core.specs.Over.{shifted, putted}
 use Rattle.idx_core.specs.Laws.{shifted_lt, shifted_ge, putted_lt, putted_eq, putted_gt, shift_add_law}
@@ -13,7 +13,8 @@ use Rattle.k_terms.specs.K.{KTy, TKVar, TKTuple, TKCode, TKSome, TKRef, NoKTys, 
 use Rattle.k_terms.specs.Typing.{kscons, kup, ksub, ksubs, knames, KIn, KIns, KField}
 use Rattle.k_terms.proofs.Sound.{sub_ren, sub_same}
 use Rattle.k_laws.specs.Cps.{kty, all_kty, taking, type_level, spot, kat}
-use Rattle.k_laws.proofs.Below.{Belows}
+use Rattle.k_laws.proofs.Below.{Belows, none_is}
+use Rattle.f_terms.specs.OneType.{some_is}
 
 abbrev arrow : KTy → KTy → KTy
 arrow a b = TKCode 0 (MoreKTys a (MoreKTys (taking b) NoKTys))
@@ -194,15 +195,9 @@ scope_none [] = refl
 scope_none (t ∷ g) = ap₂ (λ x y. x ∷ y) (ren_none t) (scope_none g)
 
 -- fields
-none_is : (t : Ty) → None ≡ Some t → ⊥
-none_is t e = cc
-
-some_is : (u t : Ty) → Some u ≡ Some t → u ≡ t
-some_is u t e = cc
-
 field_at : (ts : Tys) (r : ℕ → ℕ) (i : ℕ) (t : Ty) → ty_at ts i ≡ Some t → KField (suc i) (all_kty r ts) (kty r t)
 field_at NoTys r i t e = absurd (none_is t e)
-field_at (MoreTys u ts) r zero t e = ap (kty r) (sym (some_is u t e))
+field_at (MoreTys u ts) r zero t e = ap (kty r) (sym (some_is e))
 field_at (MoreTys u ts) r (suc i) t e = field_at ts r i t e
 
 pub field_ktys : (ts : Tys) (r : ℕ → ℕ) (i : ℕ) (t : Ty) → field_ty ts i ≡ Some t → KField i (all_kty r ts) (kty r t)

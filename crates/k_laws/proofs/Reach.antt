@@ -1,5 +1,5 @@
 -- How deep the conversions of types nest.
-use Rattle.std.proofs.Common.{◌≤◌, ℕ, zero, suc, ◌+◌, ◌*◌, arith}
+use Rattle.std.proofs.Common.{◌≡◌, ◌≤◌, ℕ, zero, suc, ◌+◌, ◌*◌, arith, refl}
 use Rattle.f_terms.specs.Ty.{Ty, TInt, TVar, TArrow, TAll, TTuple, TSome, TRef, Tys, NoTys, MoreTys, depth, depths}
 use Rattle.f_terms.specs.Tm.{Term, MVar, MNum, MFix, MApp, MGen, MInst, MTuple, MProj, MArith, MIf0, MLet, MPack}
 use Rattle.f_terms.specs.Tm.{MOpen, MRef, MDeref, MAssign, Terms, NoTerms, MoreTerms}
@@ -85,3 +85,6 @@ reach_kept e m acc h =
 abbrev arrows : ℕ → Ty
 arrows zero = TTuple NoTys
 arrows (suc d) = TArrow TInt (arrows d)
+
+deepest : kreach (taking (kty (λ i. i) (arrows 199))) ≡ 1597
+deepest = refl

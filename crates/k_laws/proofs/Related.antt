@@ -10,6 +10,7 @@ use Rattle.k_terms.specs.Meaning.{hold, one_more, kv_value, kvs_value}
 use Rattle.k_laws.specs.Cps.{Atom, Level, Literal}
 use Rattle.k_laws.specs.Translates.{Thing, Plain, Made, Things, NoThings, MoreThings, stands, named, stand, tuple_of}
 use Rattle.k_laws.specs.Translates.{Pass, atom_of, cps}
+use Rattle.f_terms.specs.OneType.{some_is}
 
 -- the name of this level stands for that word
 abbrev pub Has : KWords → ℕ → KWord → Type 0
@@ -148,9 +149,6 @@ held_of Empty kst i v r h = absurd (none v h)
     none : (v : Val) → None ≡ Some v → ⊥
     none v e = cc
 held_of (And u us) kst zero v r h = (r.0, ap (held 0) r.2, subst (λ u. Rel u r.0) (some_is h) r.3)
-  where
-    some_is : {a b : Val} → Some a ≡ Some b → a ≡ b
-    some_is e = cc
 held_of (And u us) kst (suc i) v r h =
     let f = held_of us r.1 i v r.4 h in
     (f.0, ap (held (suc i)) r.2 ∙ f.1, f.2)
@@ -189,9 +187,6 @@ field_of Empty ws i v r h = absurd (none_is_no_some v h)
     none_is_no_some v e = cc
 field_of (And u vs) ws zero v r h =
     (r.0, subst (λ ws. field 1 ws ≡ Some r.0) (sym r.2) refl, subst (λ u. Rel u r.0) (some_is h) r.3)
-  where
-    some_is : {a b : Val} → Some a ≡ Some b → a ≡ b
-    some_is e = cc
 field_of (And u vs) ws (suc i) v r h =
     let f = field_of vs r.1 i v r.4 h in
     (f.0, subst (λ ws. field (suc (suc i)) ws ≡ Some f.0) (sym r.2) f.1, f.2)

@@ -5,7 +5,7 @@ use Rattle.f_terms.specs.Limits.{nodes}
 use Rattle.k_terms.proofs.Mono.{within_more, fits_more}
 use Rattle.k_laws.specs.Annotate.{cps_term}
 use Rattle.k_laws.specs.Correct.{CpsKeepsMeaning, CpsKeepsTypes, CpsKeepsReach, CpsFits, CpsKeepsBound}
-use Rattle.k_laws.proofs.Sim.{kept}
+use Rattle.k_laws.proofs.Kept.{kept}
 use Rattle.k_laws.proofs.Typed.{types_kept}
 use Rattle.k_laws.proofs.Reach.{reach_kept}
 use Rattle.k_laws.proofs.Size.{size_is}

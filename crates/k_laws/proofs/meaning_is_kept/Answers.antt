@@ -1,4 +1,4 @@
-use Rattle.k_laws.proofs.Sim.{kept}
+use Rattle.k_laws.proofs.Kept.{kept}
 use Rattle.k_laws.proofs.meaning_is_kept.Goals as goal
 
 pub returns : goal.returns

@@ -1,6 +1,6 @@
 -- What is generated is accepted.
-use Rattle.std.proofs.Common.{◌≡◌, ℕ, zero, suc, ◌+◌, List, [], ◌∷◌, ◌++◌, length, Some, None, refl, sym, ap, ◌∙◌}
-use Rattle.std.proofs.Common.{arith, inl, slice_get}
+use Rattle.std.proofs.Common.{◌≡◌, ℕ, suc, ◌+◌, List, [], ◌∷◌, ◌++◌, length, Some, None, refl, sym, ap, ◌∙◌, arith}
+use Rattle.std.proofs.Common.{inl, slice_get}
 use Rattle.std.specs.Prelude.{Bool, true}
 use Rattle.a_terms.specs.Tree.{ATy, AInt, ATys, NoATys, MoreATys, AVal, Var, Num, Lab, Data, Apply, Pack, ADecl, Value}
 use Rattle.a_terms.specs.Tree.{Proj, Arith, Unpack, Malloc, Init, ATm, Let, Call, If0, Halt, ABlk, AConsts, AProg}
@@ -24,7 +24,9 @@ use Rattle.gen_law.proofs.TypeLaws.{ty_put}
 use Rattle.gen_law.proofs.Covers.{Live, Apart}
 use Rattle.gen_law.proofs.Places.{HasAt, has_all, has_front, has_back, length_firsts, block_at}
 use Rattle.gen_law.proofs.Values.{below_ty, Labels, applied_has, Carried}
-use Rattle.gen_law.proofs.Typed.{term_each, Good, good_both, extras_good, firsts_good}
+use Rattle.gen_law.proofs.Typed.{term_each}
+use Rattle.gen_law.proofs.Parts.{Good, good_both, extras_good, firsts_good}
+use Rattle.gen_law.proofs.Laying.{tuple_at}
 
 -- the data
 module _ (p : AProg) (P : TProg) (labels : Labels p P) where
@@ -70,12 +72,6 @@ fields_are : (x : AConsts) → R.data_fields (data_of x) ≡ ty_fields (data_fie
 fields_are [] = refl
 fields_are (c ∷ cs) = ap (MoreFields (ty c.kind) true) (fields_are cs)
 
-tuple_there : (xs : List AConsts) (n : ℕ) (x : AConsts) → slice_get xs n ≡ Some x →
-    slice_get (generated_heap xs) n ≡ Some (data_of x)
-tuple_there [] n x e = cc
-tuple_there (y ∷ xs) zero x e = let z : y ≡ x = cc in ap (λ q. Some (data_of q)) z
-tuple_there (y ∷ xs) (suc n) x e = tuple_there xs n x e
-
 -- where the generated blocks stand
 pub record Stands (p : AProg) (main : ATm) : Type 0 where
   pub labels : Labels p (generated p main)
@@ -101,7 +97,7 @@ stands p main =
         blocks = λ l b e.
             (let z : 1 + l ≡ suc l = omega arith in
             (_, ap (slice_get P) (sym z) ∙ block_at P p.blocks 1 at0 l b blocks e, refl));
-        tuples = λ n x e. (data_of x, tuple_there p.tuples n x e, ap TupleTy (sym (fields_are x)));
+        tuples = λ n x e. (data_of x, tuple_at p.tuples n x e, ap TupleTy (sym (fields_are x)));
       };
       of_main = has_front P at es ss rest;
       of_blocks = has_back P at at0 es ss (omega arith) rest;

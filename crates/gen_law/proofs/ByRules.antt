@@ -32,7 +32,7 @@ use Rattle.gen_law.proofs.Loads.{Known, known_kept, known_fewer, known_above, br
 use Rattle.gen_law.proofs.Loads.{reads_same}
 use Rattle.gen_law.proofs.Loads.{unnest_is, move_is, settled_is, named_is, home_low, call_comes}
 use Rattle.gen_law.proofs.Places.{HasAt, has_all, has_front, has_back, length_firsts, main_block, extras_at}
-use Rattle.gen_law.proofs.Typed.{apart_next}
+use Rattle.gen_law.proofs.OneMore.{apart_next}
 
 -- the variables of typed values, declarations and terms are in scope
 module _ (p : AProg) (k : ℕ) (g : List ATy) (n : ℕ) where

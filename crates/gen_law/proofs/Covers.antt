@@ -246,9 +246,9 @@ live_args ts =
     none : (n : ℕ) (t : ATy) → slice_get [] n ≡ Some t → ⊥
     none n t e = cc
 
-long_rows : (n : ℕ) → length (rows n) ≡ n
-long_rows zero = refl
-long_rows (suc n) = ap suc (long_rows n)
+pub length_rows : (n : ℕ) → length (rows n) ≡ n
+length_rows zero = refl
+length_rows (suc n) = ap suc (length_rows n)
 
 place_rows : (n i : ℕ) → i < n → place (rows n) i + i ≡ n
 place_rows zero i lt = absurd (omega arith)
@@ -257,7 +257,7 @@ place_rows (suc n) (suc i) lt = let r = place_rows n i (omega arith) in omega (a
 
 pub apart_args : (ts : ATys) (u : ℕ → Bool) → Apart (rows (arity ts)) (types_of ts []) u
 apart_args ts u =
-    let n = long_rows (arity ts) in
+    let n = length_rows (arity ts) in
     record {
       same = n ∙ sym (length_types_of ts);
       own = λ i j x y li lj e.

@@ -24,11 +24,11 @@ length_seconds p (b ∷ bs) at =
       length_seconds p bs (at + thirds b.body),
     )
 
-length_heap : (xs : List AConsts) → length (generated_heap xs) ≡ length xs
+pub length_heap : (xs : List AConsts) → length (generated_heap xs) ≡ length xs
 length_heap [] = refl
 length_heap (x ∷ xs) = ap suc (length_heap xs)
 
-tuple_at : (xs : List AConsts) (n : ℕ) (x : AConsts) → slice_get xs n ≡ Some x →
+pub tuple_at : (xs : List AConsts) (n : ℕ) (x : AConsts) → slice_get xs n ≡ Some x →
     slice_get (generated_heap xs) n ≡ Some (data_of x)
 tuple_at [] n x e = cc
 tuple_at (y ∷ xs) zero x e = ap (option_map data_of) e

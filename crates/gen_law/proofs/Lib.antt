@@ -9,7 +9,10 @@ mod Laying
 mod Leads
 mod Lift
 mod Loads
+mod Moves
 pub mod Own
+mod OneMore
+mod Parts
 mod Places
 mod Rows
 mod RulesRows

@@ -1,6 +1,6 @@
 -- The machine follows the allocated program, where its code is so by the rules.
-use Rattle.std.proofs.Common.{◌≡◌, ℕ, zero, suc, ◌+◌, ◌≤◌, ◌==◌, List, [], ◌∷◌, length, Option, Some, None, refl}
-use Rattle.std.proofs.Common.{sym, ap, ◌∙◌, subst, arith, slice_get}
+use Rattle.std.proofs.Common.{◌≡◌, ℕ, zero, suc, ◌+◌, ◌≤◌, ◌==◌, List, [], ◌∷◌, length, Option, Some, None, refl, sym}
+use Rattle.std.proofs.Common.{ap, ◌∙◌, subst, arith, slice_get}
 use Rattle.std.specs.Prelude.{ℤ, Bool, true, false, option_map, map, ◌||◌}
 use Rattle.std.proofs.lemmas.Bool.{eqb-true, or_left, or_right}
 use Rattle.std.proofs.lemmas.Option.{slice_get-map}
@@ -8,8 +8,7 @@ use Rattle.idx_core.specs.Arith.{is_zero}
 use Rattle.a_terms.specs.Tree.{ATy, AVal, Apply, ATm, Let, Call, If0, Halt, ABlk, AProg, arity}
 use Rattle.a_terms.specs.Meaning.{AWord, ZInt, ZTuple, ZLabel, AHeap, Result, Halted, Spent, Wrong, Made, Gives, Fails}
 use Rattle.a_terms.specs.Meaning.{value, values, with_first, decl, made, halt_with, pick, branch, call_with, call_of}
-use Rattle.a_terms.specs.Meaning.{term}
-use Rattle.a_terms.specs.Meaning.{push_all, enter, calls}
+use Rattle.a_terms.specs.Meaning.{term, push_all, enter, calls}
 use Rattle.a_terms.specs.Typing.{declared, more_vars, types_of}
 use Rattle.a_terms.specs.Bound.{thirds}
 use Rattle.t_terms.specs.Tree as T
@@ -23,6 +22,7 @@ use Rattle.gen_law.proofs.Leads.{LState, On, lstep, after, Leads, Moves, leads_o
 use Rattle.gen_law.proofs.Lift.{HaltsAt}
 use Rattle.gen_law.proofs.Words.{word, heap, Agree, Fits, agree_fewer, agree_stay, fits_start}
 use Rattle.gen_law.proofs.Decls.{at, Moved, Does, OK, decl_runs, moves_run, reads_this}
+use Rattle.gen_law.proofs.Covers.{length_rows}
 
 -- values in registers one after another
 abbrev Holds : ERegs → ℕ → List AWord → Type 0
@@ -66,10 +66,6 @@ agree_push ρ ws h = push_more ρ ws [] (λ n w y x. absurd (none_at n w x)) h
 length_push_all : (ws env : List AWord) → length (push_all ws env) ≡ length ws + length env
 length_push_all [] env = omega arith
 length_push_all (w ∷ ws) env = length_push_all ws (w ∷ env) ∙ omega arith
-
-pub length_rows : (n : ℕ) → length (rows n) ≡ n
-length_rows zero = refl
-length_rows (suc n) = ap suc (length_rows n)
 
 pub spare_add : (k b n m : ℕ) → spare k b (n + m) ≡ spare k b n + spare k (b + n) m
 spare_add k b zero m =

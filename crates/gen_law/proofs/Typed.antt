@@ -1,126 +1,43 @@
 -- The generated code has the types of the program, and any property of them that is carried over.
 use Rattle.std.proofs.Common.{◌≡◌, ℕ, zero, suc, ◌+◌, ◌-◌, ◌<◌, ◌≤◌, List, [], ◌∷◌, ◌++◌, length, map, Some, refl, sym}
 use Rattle.std.proofs.Common.{ap, ◌∙◌, subst, arith, inl, inr, ⊎_elim, slice_get}
-use Rattle.std.specs.Prelude.{◌≢◌, ◌==◌, nat_lt, Bool, true, false, cond, not, ◌&&◌, ◌||◌}
-use Rattle.std.proofs.lemmas.Bool.{eq-eqb, eqb-true, cond_both, cases_eq, or_cases, or_left, or_right, and_from}
-use Rattle.std.proofs.lemmas.Bool.{and_parts, and_cases}
+use Rattle.std.specs.Prelude.{◌≢◌, ◌==◌, Bool, true, false, not, ◌&&◌, ◌||◌}
+use Rattle.std.proofs.lemmas.Bool.{eq-eqb, eqb-true, cond_both, cases_eq, or_cases, or_left, or_right, and_parts}
+use Rattle.std.proofs.lemmas.Bool.{and_cases}
 use Rattle.a_terms.specs.Tree.{ATy, AInt, ATuple, ACode, AExists, ATys, NoATys, MoreATys, AVal, Var, Num, Lab, Data}
 use Rattle.a_terms.specs.Tree.{Apply, Pack, ADecl, Value, Proj, Arith, Unpack, Malloc, Init, ATm, Let, Call, If0, Halt}
-use Rattle.a_terms.specs.Tree.{ABlk, AProg, arity, ashift, aput, ABelow-types}
+use Rattle.a_terms.specs.Tree.{AProg, ashift, aput, ABelow-types}
 use Rattle.a_terms.specs.Typing.{aapply, afield_flag, afilled, aunset, type_of, Fine, or_int, field_of, body_of}
-use Rattle.a_terms.specs.Typing.{filled_of, declared, more_vars, Decl-ok, All-have, Term-ok, types_of, Blocks-ok}
-use Rattle.a_terms.specs.TypeLaws.{All-below, below_args, split_code, split_data, split_applied, Args-below}
-use Rattle.a_terms.specs.TypeLaws.{declared_below, length_declared, field_is, filled_is}
-use Rattle.a_terms.specs.Each.{AProp, AAll, VEach, VsEach, DEach, TEach, BsEach}
+use Rattle.a_terms.specs.Typing.{filled_of, declared, more_vars, Decl-ok, All-have, Term-ok, types_of}
+use Rattle.a_terms.specs.TypeLaws.{All-below, split_code, split_data, split_applied, Args-below, declared_below}
+use Rattle.a_terms.specs.TypeLaws.{field_is, filled_is}
+use Rattle.a_terms.specs.Each.{AProp, AAll, VEach, VsEach, DEach, TEach}
 use Rattle.a_terms.specs.Bound.{thirds}
-use Rattle.t_types.specs.Tree.{Ty, IntTy, CodeTy, ExistsTy, TupleTy, TFile, NoRegs, MoreRegs, BelowFile}
+use Rattle.t_types.specs.Tree.{Ty, IntTy, CodeTy, ExistsTy, TupleTy, TFile}
 use Rattle.t_types.specs.Fields.{AField, field, filled, empty_fields}
-use Rattle.t_types.specs.Fits.{Fits, FitsFile, RegTypes, lookup}
+use Rattle.t_types.specs.Fits.{Fits, FitsFile, RegTypes}
 use Rattle.t_types.proofs.FitsLaws.{fields_fit_next, filled_fits, both_filled, field_fits}
 use Rattle.t_terms.specs.Tree as T
-use Rattle.t_terms.specs.Tree.{TValue, TSeq, Then, Ends, TBlock, TProg}
+use Rattle.t_terms.specs.Tree.{TValue, TSeq, Then, Ends, TProg}
 use Rattle.t_rules.specs.Registers.{with_reg, raised}
 use Rattle.t_rules.specs.Rules as R
 use Rattle.gen_law.specs.Gen.{ty, ty_args, ty_fields, tys, reg, applied_to, place, inside, small, boxed, unnest}
-use Rattle.gen_law.specs.Gen.{stands, move, home, settle, uses, uses_decl, used, over, free, owner, target, spare}
-use Rattle.gen_law.specs.Gen.{decl_code, tvars, reads, later, owns, saved, above_saved, instead, places_saved}
-use Rattle.gen_law.specs.Gen.{call_code, above, code, insert, header, block, extras, rows, firsts, seconds}
-use Rattle.gen_law.specs.GenLaws.{length_extras}
-use Rattle.gen_law.specs.TypesEach.{TProp, AllTypes, FileTypes, HasEach, SeqEach}
+use Rattle.gen_law.specs.Gen.{stands, move, home, settle, uses, used, over, free, owner, target, spare, decl_code}
+use Rattle.gen_law.specs.Gen.{tvars, reads, later, owns, saved, above_saved, instead, places_saved, call_code, above}
+use Rattle.gen_law.specs.Gen.{code, header, block, extras}
+use Rattle.gen_law.specs.TypesEach.{TProp, AllTypes, HasEach, SeqEach}
 use Rattle.gen_law.proofs.TypeLaws.{ty_put, ty_field, ty_filled, ty_unset}
 use Rattle.gen_law.proofs.Covers.{look_same, look_other, Live, live_kept, live_fewer, live_above, live_next}
-use Rattle.gen_law.proofs.Covers.{live_shift, fits_header, Apart, apart_fewer, in_scope, live_header, live_args}
-use Rattle.gen_law.proofs.Covers.{apart_args, Keeps, live_stays, live_over}
-use Rattle.gen_law.proofs.Places.{HasAt, has_front, has_back}
+use Rattle.gen_law.proofs.Covers.{live_shift, fits_header, Apart, apart_fewer, in_scope, Keeps, live_stays, live_over}
+use Rattle.gen_law.proofs.Places.{HasAt, has_front}
 use Rattle.gen_law.proofs.Loads.{home_applied, wants, of_code, of_first, of_rest, later_none, owns_stands}
 use Rattle.gen_law.proofs.Loads.{true_from_not, place_instead, instead_not}
 use Rattle.gen_law.proofs.Free.{top_least, top_place, top_fewer, free_apart, spare_apart}
-use Rattle.gen_law.proofs.Values.{below_ty, below_ty_args, below_tys, below_header, same_fits, tuple_fits}
-use Rattle.gen_law.proofs.Values.{int_no_tuple, code_no_tuple, exists_no_tuple, Labels, has_vars, applied_none}
-use Rattle.gen_law.proofs.Values.{takes_types, applied_has, All-of, Carried, some_same}
-
--- the register in which a value is left is a variable's own, where a variable that is still used has it
-owner_shared : (v : AVal) (m : List ℕ) (u : ℕ → Bool) (e : ATm) (j : ℕ) → u j ≡ true → place m j ≡ owner m v u e →
-    (n : ℕ) × (v ≡ Var n) × (place m j ≡ place m n)
-owner_shared (Var n) m u e j y x =
-    cond_both (used e (suc n) && used e 0) (free m u e) (place m n)
-    (λ r. place m j ≡ r → (i : ℕ) × (Var n ≡ Var i) × (place m j ≡ place m i))
-    (λ c z. absurd (free_apart m u e j y z)) (λ c z. (n, refl, z)) x
-owner_shared (Num i) m u e j y x = absurd (free_apart m u e j y x)
-owner_shared (Lab i) m u e j y x = absurd (free_apart m u e j y x)
-owner_shared (Data i) m u e j y x = absurd (free_apart m u e j y x)
-owner_shared (Apply v ts) m u e j y x = absurd (free_apart m u e j y x)
-owner_shared (Pack h v s) m u e j y x = absurd (free_apart m u e j y x)
-
--- one more variable, in register r
-apart_push : (m : List ℕ) (g g2 : List ATy) (u v : ℕ → Bool) (r : ℕ) → Apart m g u →
-    ((n : ℕ) → v (suc n) ≡ true → u n ≡ true) → length g2 ≡ suc (length g) →
-    ((j : ℕ) → v 0 ≡ true → v (suc j) ≡ true → j < length m → r ≡ place m j → ⊥) → Apart (r ∷ m) g2 v
-apart_push m g g2 u v r a k len new = record { same = omega (arith, a.same, len); own = own }
-  where
-    own : (i j : ℕ) → v i ≡ true → v j ≡ true → i < length (r ∷ m) → j < length (r ∷ m) →
-        place (r ∷ m) i ≡ place (r ∷ m) j → i ≡ j
-    own zero zero x y li lj e = refl
-    own zero (suc j) x y li lj e = absurd (new j x y (omega arith) e)
-    own (suc i) zero x y li lj e = absurd (new i y x (omega arith) (sym e))
-    own (suc i) (suc j) x y li lj e = ap suc (a.own i j (k i x) (k j y) (omega arith) (omega arith) e)
-
-not_both : true ≡ false → ⊥
-not_both y = cc
-
--- where w tells what is still used, the rest's variables among them
-owner_apart : (p : AProg) (g : List ATy) (v : AVal) (t : ATy) (m : List ℕ) (w : ℕ → Bool) (e : ATm) (u : ℕ → Bool) →
-    Apart m g u → ((n : ℕ) → used e (suc n) ≡ true → u n ≡ true) → ((n : ℕ) → uses v n ≡ true → u n ≡ true) →
-    ((n : ℕ) → used e (suc n) ≡ true → w n ≡ true) → type_of p g v ≡ Some t → (j : ℕ) → used e 0 ≡ true →
-    used e (suc j) ≡ true → j < length m → owner m v w e ≡ place m j → ⊥
-owner_apart p g (Var n) t m w e u a k l kw x =
-    cond_both (used e (suc n) && used e 0) (free m w e) (place m n)
-    (λ r. (j : ℕ) → used e 0 ≡ true → used e (suc j) ≡ true → j < length m → r ≡ place m j → ⊥)
-    (λ c j y z lt q. free_apart m w e j (kw j z) (sym q))
-    (λ c j y z lj q.
-    let lt = in_scope m g u n t a x in
-    let same : n ≡ j = a.own n j (l n (eq-eqb n n refl)) (k j z) lt lj q in
-    not_both (sym (and_from (used e (suc n)) (used e 0) (ap (λ i. used e (suc i)) same ∙ z) y) ∙ c))
-owner_apart p g (Num i) t m w e u a k l kw x = λ j y z lt q. free_apart m w e j (kw j z) (sym q)
-owner_apart p g (Lab i) t m w e u a k l kw x = λ j y z lt q. free_apart m w e j (kw j z) (sym q)
-owner_apart p g (Data i) t m w e u a k l kw x = λ j y z lt q. free_apart m w e j (kw j z) (sym q)
-owner_apart p g (Apply v ts) t m w e u a k l kw x = λ j y z lt q. free_apart m w e j (kw j z) (sym q)
-owner_apart p g (Pack h v s) t m w e u a k l kw x = λ j y z lt q. free_apart m w e j (kw j z) (sym q)
-
-fresh_apart : (m : List ℕ) (e : ATm) (j : ℕ) → used e (suc j) ≡ true → free m (λ n. used e (suc n)) e ≡ place m j → ⊥
-fresh_apart m e j y q = free_apart m (λ n. used e (suc n)) e j y (sym q)
-
-pub apart_next : (p : AProg) (k : ℕ) (g : List ATy) (m : List ℕ) (x : ADecl) (e : ATm) → Apart m g (used (Let x e)) →
-    Decl-ok p k g x → Apart (target m x e ∷ m) (declared p g x) (used e)
-apart_next p k g m (Value v) e a d =
-    apart_push m g (declared p g (Value v)) (used (Let (Value v) e)) (used e) (owner m v (λ n. used e (suc n)) e) a
-    (λ n y. or_right (uses v n) (used e (suc n)) y) (length_declared p g (Value v))
-    (owner_apart p g v d.0 m (λ n. used e (suc n)) e (used (Let (Value v) e)) a
-    (λ n y. or_right (uses v n) (used e (suc n)) y) (λ n y. or_left (uses v n) (used e (suc n)) y)
-    (λ n y. y) d.1.is)
-apart_next p k g m (Init v i w) e a d =
-    apart_push m g (declared p g (Init v i w)) (used (Let (Init v i w) e)) (used e)
-    (owner m v (λ n. uses w n || used e (suc n)) e) a (λ n y. or_right (uses v n || uses w n) (used e (suc n)) y)
-    (length_declared p g (Init v i w))
-    (owner_apart p g v (ATuple d.0) m (λ n. uses w n || used e (suc n)) e (used (Let (Init v i w) e)) a
-    (λ n y. or_right (uses v n || uses w n) (used e (suc n)) y)
-    (λ n y. or_left (uses v n || uses w n) (used e (suc n)) (or_left (uses v n) (uses w n) y))
-    (λ n y. or_right (uses w n) (used e (suc n)) y) d.3.is)
-apart_next p k g m (Proj i v) e a d =
-    apart_push m g (declared p g (Proj i v)) (used (Let (Proj i v) e)) (used e) (free m (λ n. used e (suc n)) e) a
-    (λ n y. or_right (uses_decl (Proj i v) n) (used e (suc n)) y) (length_declared p g (Proj i v))
-    (λ j y z lt q. fresh_apart m e j z q)
-apart_next p k g m (Arith o v w) e a d =
-    apart_push m g (declared p g (Arith o v w)) (used (Let (Arith o v w) e)) (used e) (free m (λ n. used e (suc n)) e)
-    a (λ n y. or_right (uses_decl (Arith o v w) n) (used e (suc n)) y) (length_declared p g (Arith o v w))
-    (λ j y z lt q. fresh_apart m e j z q)
-apart_next p k g m (Unpack v) e a d =
-    apart_push m g (declared p g (Unpack v)) (used (Let (Unpack v) e)) (used e) (free m (λ n. used e (suc n)) e) a
-    (λ n y. or_right (uses_decl (Unpack v) n) (used e (suc n)) y) (length_declared p g (Unpack v))
-    (λ j y z lt q. fresh_apart m e j z q)
-apart_next p k g m (Malloc ts) e a d =
-    apart_push m g (declared p g (Malloc ts)) (used (Let (Malloc ts) e)) (used e) (free m (λ n. used e (suc n)) e) a
-    (λ n y. y) (length_declared p g (Malloc ts)) (λ j y z lt q. fresh_apart m e j z q)
+use Rattle.gen_law.proofs.Values.{below_ty, below_tys, below_header, same_fits, tuple_fits, int_no_tuple}
+use Rattle.gen_law.proofs.Values.{code_no_tuple, exists_no_tuple, Labels, has_vars, applied_none, takes_types}
+use Rattle.gen_law.proofs.Values.{applied_has, All-of, Carried, some_same}
+use Rattle.gen_law.proofs.OneMore.{owner_shared, apart_next, below, next_live}
+use Rattle.gen_law.proofs.Moves.{each_has, reg_each, mov_each, box_each, stands_type, move_each, settle_each}
 
 module _ (A : AProp) (N : ℕ → Type 0) (S : ATy → Type 0) (Q : TProp) (C : Carried A N S Q) where
   to_q : (k : ℕ) (t : ATy) (u : Ty) → A k t → Fits u (ty t) → Q k u
@@ -133,35 +50,13 @@ module _ (A : AProp) (N : ℕ → Type 0) (S : ATy → Type 0) (Q : TProp) (C : 
   all_q k NoATys h = tt
   all_q k (MoreATys t ts) h = (own_q k t h.0, all_q k ts h.1)
 
-  args_q : (k : ℕ) (ts : ATys) (r : ℕ) → AAll A k ts → FileTypes Q k (ty_args ts r)
-  args_q k NoATys r h = tt
-  args_q k (MoreATys t ts) r h = (own_q k t h.0, args_q k ts (suc r) h.1)
-
   parts_shift : (g : List ATy) → All-of S g → All-of S (map (ashift 1 0) g)
   parts_shift [] s = tt
   parts_shift (t ∷ g) s = (C.shifted t s.0, parts_shift g s.1)
 
-  parts_args : (k : ℕ) (ts : ATys) (g : List ATy) → AAll A k ts → All-of S g → All-of S (types_of ts g)
+  pub parts_args : (k : ℕ) (ts : ATys) (g : List ATy) → AAll A k ts → All-of S g → All-of S (types_of ts g)
   parts_args k NoATys g h s = s
   parts_args k (MoreATys t ts) g h s = parts_args k ts (t ∷ g) h.1 (C.part k t h.0, s)
-
-  insert_q : (k r : ℕ) (t : Ty) (f : TFile) → Q k t → FileTypes Q k f → FileTypes Q k (insert r t f)
-  insert_q k r t NoRegs q h = (q, tt)
-  insert_q k r t (MoreRegs p u f) q h =
-      cond_both (r == p) (MoreRegs r t f)
-      (cond (nat_lt r p) (MoreRegs r t (MoreRegs p u f)) (MoreRegs p u (insert r t f))) (FileTypes Q k)
-      (λ c. (q, h.1))
-      (λ c. cond_both (nat_lt r p) (MoreRegs r t (MoreRegs p u f)) (MoreRegs p u (insert r t f)) (FileTypes Q k)
-      (λ d. (q, h)) (λ d. (h.0, insert_q k r t f q h.1)))
-
-  header_q : (k : ℕ) (u : ℕ → Bool) (m : List ℕ) (g : List ATy) → N k → All-of S g → FileTypes Q k (header u m g)
-  header_q k u m [] n s = tt
-  header_q k u [] (t ∷ g) n s = tt
-  header_q k u (r ∷ m) (t ∷ g) n s =
-      let f = header (λ n. u (suc n)) m g in
-      let rest = header_q k (λ n. u (suc n)) m g n s.1 in
-      cond_both (u 0) (insert r (ty t) f) f (FileTypes Q k)
-      (λ c. insert_q k r (ty t) f (C.of_type k t (ty t) n s.0 (inl refl)) rest) (λ c. rest)
 
   tvars_q : (k i : ℕ) → N k → AllTypes Q k (tvars i)
   tvars_q k zero n = tt
@@ -187,7 +82,7 @@ module _ (A : AProp) (N : ℕ → Type 0) (S : ATy → Type 0) (Q : TProp) (C : 
     each_types k g (v ∷ vs) NoATys h a = absurd a
     each_types k g (v ∷ vs) (MoreATys t ts) h a = (each_type k g v t h.0 a.0.is, each_types k g vs ts h.1 a.1)
 
-    names_in : (k : ℕ) (g : List ATy) (v : AVal) → VEach A p k g v → N k
+    pub names_in : (k : ℕ) (g : List ATy) (v : AVal) → VEach A p k g v → N k
     names_in k g (Var n) h = C.names k _ h
     names_in k g (Num i) h = C.names k _ h
     names_in k g (Lab l) h = C.names k _ h
@@ -195,7 +90,7 @@ module _ (A : AProp) (N : ℕ → Type 0) (S : ATy → Type 0) (Q : TProp) (C : 
     names_in k g (Apply v ts) h = C.names k _ h.0
     names_in k g (Pack hid v s) h = C.names k _ h.0
 
-    parts_declared : (k : ℕ) (g : List ATy) (x : ADecl) → DEach A p k g x → Decl-ok p k g x → All-of S g →
+    pub parts_declared : (k : ℕ) (g : List ATy) (x : ADecl) → DEach A p k g x → Decl-ok p k g x → All-of S g →
         All-of S (declared p g x)
     parts_declared k g (Value v) h d s =
         (C.part k _ (subst (A k) (sym (ap or_int d.1.is)) (each_type k g v d.0 h d.1.is)), s)
@@ -206,13 +101,6 @@ module _ (A : AProp) (N : ℕ → Type 0) (S : ATy → Type 0) (Q : TProp) (C : 
     parts_declared k g (Init v i w) h d s = (C.part k _ h.2, s)
 
     module _ (P : TProg) (labels : Labels p P) where
-      each_has : (k : ℕ) (f : RegTypes) (x : TValue) (u : Ty) → HasEach Q P k f x u → R.Has P k f x u
-      each_has k f (T.Plain b us) u h = h.0
-      each_has k f (T.Pack hid v s) u h = h.0
-
-      reg_each : (k : ℕ) (f : RegTypes) (r : ℕ) (u : Ty) → f r ≡ Some u → Q k u → HasEach Q P k f (reg r) u
-      reg_each k f r u e q = (e, (u, e, q, q, tt))
-
       pub applied_each : (k : ℕ) (f : RegTypes) (x : TValue) (ts : ATys) (s t : ATy) → aapply s ts ≡ Some t →
           ABelow-types k ts → Q k (ty t) → AllTypes Q k (tys ts) → HasEach Q P k f x (ty s) →
           HasEach Q P k f (applied_to x (tys ts)) (ty t)
@@ -242,51 +130,6 @@ module _ (A : AProp) (N : ℕ → Type 0) (S : ATy → Type 0) (Q : TProp) (C : 
           same_fits u (ty s) fit (λ fs y. code_no_tuple c.0 (ty_args c.1 1) fs (sym (ap ty c.2) ∙ y)) in
           (ty t, applied_each k f x (MoreATys v ts) s t e z q qs (subst (HasEach Q P k f x) same h), inl refl)
 
-      mov_each : (k : ℕ) (f : RegTypes) (r : ℕ) (x : TValue) (u : Ty) (rest : TSeq) → HasEach Q P k f x u →
-          ((h : RegTypes) → h r ≡ Some u → ((q : ℕ) → q ≢ r → h q ≡ f q) → SeqEach Q P k h rest) →
-          SeqEach Q P k f (Then (T.Mov r x) rest)
-      mov_each k f r x u rest h go = (
-        with_reg f r u,
-        (u, each_has k f x u h, refl),
-        (u, h),
-        go (with_reg f r u) (look_same f r u) (λ q ne. look_other f r q u ne),
-      )
-
-      box_each : (k : ℕ) (f : RegTypes) (s : ℕ) (x : TValue) (u : Ty) (rest : TSeq) → HasEach Q P k f x u → Q k u →
-          ((h : RegTypes) → HasEach Q P k h (inside s x) u → ((q : ℕ) → q ≢ s → h q ≡ f q) → SeqEach Q P k h rest) →
-          SeqEach Q P k f (boxed s x rest)
-      box_each k f s (T.Plain b us) u rest h q go = go f h (λ q ne. refl)
-      box_each k f s (T.Pack y v w) u rest h q go =
-          mov_each k f s (T.Pack y v w) u rest h (λ f2 e o. go f2 (reg_each k f2 s u e q) o)
-
-      stands_type : (k : ℕ) (f : RegTypes) (r : ℕ) (x : TValue) (u : Ty) → stands r x ≡ true → HasEach Q P k f x u →
-          f r ≡ Some u
-      stands_type k f r (T.Plain (T.Reg q) []) u e h = ap f (eqb-true r q e) ∙ h.0
-      stands_type k f r (T.Plain (T.Reg q) (t ∷ ts)) u e h = cc
-      stands_type k f r (T.Plain (T.Int i) us) u e h = cc
-      stands_type k f r (T.Plain (T.Label l) us) u e h = cc
-      stands_type k f r (T.Plain (T.Data n) us) u e h = cc
-      stands_type k f r (T.Pack y v w) u e h = cc
-
-      move_each : (k : ℕ) (f : RegTypes) (r : ℕ) (x : TValue) (u : Ty) (rest : TSeq) → HasEach Q P k f x u →
-          ((h : RegTypes) → h r ≡ Some u → ((q : ℕ) → q ≢ r → h q ≡ f q) → SeqEach Q P k h rest) →
-          SeqEach Q P k f (move r x rest)
-      move_each k f r x u rest h go =
-          cond_both (stands r x) rest (Then (T.Mov r x) rest) (SeqEach Q P k f)
-          (λ c. go f (stands_type k f r x u c h) (λ q ne. refl))
-          (λ c. mov_each k f r x u rest h go)
-
-      settle_each : (k : ℕ) (f : RegTypes) (s : ℕ) (x : TValue) (u : Ty) (rest : TSeq) → HasEach Q P k f x u →
-          ((h : RegTypes) → h (home s x) ≡ Some u → ((q : ℕ) → q ≢ s → h q ≡ f q) → SeqEach Q P k h rest) →
-          SeqEach Q P k f (settle s x rest)
-      settle_each k f s (T.Plain (T.Reg r) []) u rest h go = go f h.0 (λ q ne. refl)
-      settle_each k f s (T.Plain (T.Reg r) (t ∷ ts)) u rest h go =
-          mov_each k f s (T.Plain (T.Reg r) (t ∷ ts)) u rest h go
-      settle_each k f s (T.Plain (T.Int i) us) u rest h go = mov_each k f s (T.Plain (T.Int i) us) u rest h go
-      settle_each k f s (T.Plain (T.Label l) us) u rest h go = mov_each k f s (T.Plain (T.Label l) us) u rest h go
-      settle_each k f s (T.Plain (T.Data n) us) u rest h go = mov_each k f s (T.Plain (T.Data n) us) u rest h go
-      settle_each k f s (T.Pack y v w) u rest h go = mov_each k f s (T.Pack y v w) u rest h go
-
       module _ (k : ℕ) (g : List ATy) where
         unnest_each : (v : AVal) (t : ATy) (f : RegTypes) (m : List ℕ) (b s : ℕ) (rest : TSeq) →
             Live f m g b (uses v) → Fine p k g v → type_of p g v ≡ Some t → VEach A p k g v →
@@ -294,7 +137,7 @@ module _ (A : AProp) (N : ℕ → Type 0) (S : ATy → Type 0) (Q : TProp) (C : 
             ((q : ℕ) → q ≢ s → h q ≡ f q) → SeqEach Q P k h rest) → SeqEach Q P k f (unnest s m v rest)
         unnest_each (Var n) t f m b s rest c a e h go =
             let l = c n t (eq-eqb n n refl) e in
-            go f l.0 (reg_each k f (place m n) l.0 l.1 (to_q k t l.0 (each_type k g (Var n) t h e) l.2)) l.2
+            go f l.0 (reg_each Q P k f (place m n) l.0 l.1 (to_q k t l.0 (each_type k g (Var n) t h e) l.2)) l.2
             (λ q ne. refl)
         unnest_each (Num i) t f m b s rest c a e h go =
             let q = own_q k t (each_type k g (Num i) t h e) in
@@ -325,11 +168,11 @@ module _ (A : AProp) (N : ℕ → Type 0) (S : ATy → Type 0) (Q : TProp) (C : 
             let inner = each_type k g v (aput 0 hid u0) he.2 a.5 in
             unnest_each v (aput 0 hid u0) f m b s (boxed s (small s m v) rest) c a.1 a.5 he.2 (λ f2 u x fit o.
             let qu = to_q k (aput 0 hid u0) u inner fit in
-            box_each k f2 s (small s m v) u rest x qu (λ f3 z o2.
+            box_each Q P k f2 s (small s m v) u rest x qu (λ f3 z o2.
             let has : R.Has P k f3 (T.Pack (ty hid) (inside s (small s m v)) (ty w)) (ty t) = (
               ty u0,
               u,
-              each_has k f3 (inside s (small s m v)) u z,
+              each_has Q P k f3 (inside s (small s m v)) u z,
               ap ty a.4,
               subst (Fits u) (ty_put u0 0 hid) fit,
               ap ty (sym y),
@@ -345,7 +188,7 @@ module _ (A : AProp) (N : ℕ → Type 0) (S : ATy → Type 0) (Q : TProp) (C : 
             SeqEach Q P k f (unnest s m v (settle s (small s m v) rest))
         settled_each v t f m b s rest c a e h go =
             unnest_each v t f m b s (settle s (small s m v) rest) c a e h (λ f2 u x fit o.
-            settle_each k f2 s (small s m v) u rest x (λ f3 y o2. go f3 u y fit (λ q ne. o2 q ne ∙ o q ne)))
+            settle_each Q P k f2 s (small s m v) u rest x (λ f3 y o2. go f3 u y fit (λ q ne. o2 q ne ∙ o q ne)))
 
         home_low : (v : AVal) (t : ATy) (f : RegTypes) (m : List ℕ) (b s : ℕ) → Live f m g b (uses v) → Fine p k g v →
             type_of p g v ≡ Some t → b ≤ s → home s (small s m v) ≤ s
@@ -391,30 +234,9 @@ module _ (A : AProp) (N : ℕ → Type 0) (S : ATy → Type 0) (Q : TProp) (C : 
             let r = owner m v w e in
             unnest_each v t f m b s (move r (small s m v) rest) c a x h (λ f2 u y fit o.
             let same : (q : ℕ) → q < b → f2 q ≡ f q = λ q l. o q (λ z. absurd (omega arith)) in
-            move_each k f2 r (small s m v) u rest y (λ f3 here o2.
+            move_each Q P k f2 r (small s m v) u rest y (λ f3 here o2.
             let own = owner_kept v t u s f2 f3 m b w e (live_kept f f2 m g b (uses v) same c) x y here o2 in
             go f3 u here fit (λ n z. own n z ∙ same (place m n) (far n z))))
-
-        -- the variables that the rest uses are below the spare registers
-        below : (m : List ℕ) (x : ADecl) (e : ATm) (n : ℕ) → used e (suc n) ≡ true → place m n < over m (used (Let x e))
-        below m x e n y =
-            let t = top_place 0 m (used (Let x e)) n (or_right (uses_decl x n) (used e (suc n)) y) in omega (arith, t)
-
-        -- one more variable, in a free register
-        next_live : (f h : RegTypes) (m : List ℕ) (x : ADecl) (e : ATm) (t : ATy) (u : Ty) →
-            Live f m g (over m (used (Let x e))) (used (Let x e)) → Keeps f h m (λ n. used e (suc n)) → Fits u (ty t) →
-            Live (with_reg h (free m (λ n. used e (suc n)) e) u) (free m (λ n. used e (suc n)) e ∷ m) (t ∷ g)
-            (over (free m (λ n. used e (suc n)) e ∷ m) (used e)) (used e)
-        next_live f h m x e t u c o fit =
-            let d = over m (used (Let x e)) in
-            let r = free m (λ n. used e (suc n)) e in
-            let h2 = with_reg h r u in
-            live_next h2 m g d (used e) r t u
-            (live_stays f h2 m g d (λ n. used e (suc n))
-            (λ n y. look_other h r (place m n) u (λ z. absurd (free_apart m (λ n. used e (suc n)) e n y z))
-            ∙ o n y) (live_fewer f m g d (used (Let x e)) (λ n. used e (suc n))
-            (λ n y. or_right (uses_decl x n) (used e (suc n)) y) c))
-            (look_same h r u) fit
 
         decl_each : (x : ADecl) (e : ATm) (f : RegTypes) (m : List ℕ) (rest : TSeq) → Apart m g (used (Let x e)) →
             Live f m g (over m (used (Let x e))) (used (Let x e)) → Decl-ok p k g x → DEach A p k g x →
@@ -454,7 +276,7 @@ module _ (A : AProp) (N : ℕ → Type 0) (S : ATy → Type 0) (Q : TProp) (C : 
               (tup.0, ty a.2, there, read, refl),
               (ty a.2, (tup.0, ty a.2, there, read, refl), q),
               go (with_reg f2 r (ty a.2))
-                  (next_live f f2 m (Proj i v) e (field_of i (type_of p g v)) (ty a.2) c
+                  (next_live g f f2 m (Proj i v) e (field_of i (type_of p g v)) (ty a.2) c
                   (λ n y. o (place m n) (λ z. absurd (free_apart m (λ n. used e (suc n)) e n y z))) fit2),
             ))
         decl_each (Arith op v w) e f m rest ap_ c a h go =
@@ -475,10 +297,10 @@ module _ (A : AProp) (N : ℕ → Type 0) (S : ATy → Type 0) (Q : TProp) (C : 
             o2 r (λ z. absurd (omega (arith, low))) ∙ x ∙ ap Some (same_fits u IntTy fit int_no_tuple) in
             let right = subst (HasEach Q P k f3 (small (suc d) m w)) (same_fits u2 IntTy fit2 int_no_tuple) y in (
               with_reg f3 to IntTy,
-              (left, each_has k f3 (small (suc d) m w) IntTy right, refl),
+              (left, each_has Q P k f3 (small (suc d) m w) IntTy right, refl),
               right,
               go (with_reg f3 to IntTy)
-                  (next_live f f3 m (Arith op v w) e AInt IntTy c
+                  (next_live g f f3 m (Arith op v w) e AInt IntTy c
                   (λ n y. (let lt = below m (Arith op v w) e n y in o2 (place m n) (λ z. absurd (omega (arith, lt)))
                   ∙ o (place m n) (λ z. absurd (omega (arith, lt))))) (inl refl)),
             )))
@@ -507,7 +329,7 @@ module _ (A : AProp) (N : ℕ → Type 0) (S : ATy → Type 0) (Q : TProp) (C : 
             let fit2 : Fits (ty a.0) (ty t) = inl (ap (λ s. ty (body_of s)) (sym a.1.is)) in
             let more : suc k ≡ k + 1 = omega arith in (
               f4,
-              (ty a.0, each_has k f2 (small r m v) (ExistsTy (ty a.0)) y, refl),
+              (ty a.0, each_has Q P k f2 (small r m v) (ExistsTy (ty a.0)) y, refl),
               (ty a.0, y, qt),
               subst (λ m. SeqEach Q P m f4 rest) more
                   (go f4 (live_next f4 m g2 d (used e) r t (ty a.0) c3 (look_same f3 r (ty a.0)) fit2)),
@@ -519,7 +341,7 @@ module _ (A : AProp) (N : ℕ → Type 0) (S : ATy → Type 0) (Q : TProp) (C : 
               with_reg f d u,
               (refl, below_tys ts k a),
               (all_q k ts h.0, subst (λ fs. Q k (TupleTy fs)) (ty_unset ts) (own_q k (ATuple (aunset ts)) h.1)),
-              go (with_reg f d u) (next_live f f m (Malloc ts) e (ATuple (aunset ts)) u c (λ n y. refl) fit),
+              go (with_reg f d u) (next_live g f f m (Malloc ts) e (ATuple (aunset ts)) u c (λ n y. refl) fit),
             )
         decl_each (Init v i w) e f m rest ap_ c a h go =
             let all = used (Let (Init v i w) e) in
@@ -659,12 +481,12 @@ module _ (A : AProp) (N : ℕ → Type 0) (S : ATy → Type 0) (Q : TProp) (C : 
                 unnest_each v t f m b b (move j x rest)
                 (live_fewer f m g b (wants c (v ∷ vs)) (uses v) (of_first c v vs) l) v_fine v_is v_each
                 (λ f2 u y fit o.
-                move_each k f2 j x u rest y (λ f3 here o2.
+                move_each Q P k f2 j x u rest y (λ f3 here o2.
                 let live : Live f3 m g b (wants c vs) = λ n z w e.
                 (let own = l n z (of_rest c v vs n w) e in
                 let kept : f3 (place m n) ≡ Some own.0 =
                 ⊎_elim
-                (λ eq. ap f3 eq ∙ here ∙ sym (stands_type k f2 j x u (read n z w e eq) y)
+                (λ eq. ap f3 eq ∙ here ∙ sym (stands_type Q P k f2 j x u (read n z w e eq) y)
                 ∙ o j (λ q. absurd (omega arith)) ∙ ap f (sym eq) ∙ own.1)
                 (λ ne. o2 (place m n) ne ∙ o (place m n) (λ q. absurd (omega (arith, own.3))) ∙ own.1)
                 (cases_eq (place m n) j) in
@@ -696,7 +518,7 @@ module _ (A : AProp) (N : ℕ → Type 0) (S : ATy → Type 0) (Q : TProp) (C : 
                 let l2 = map (instead b j) m in
                 let rest =
                 unnest (suc b) l2 v (move j (small (suc b) l2 v) (call_code (suc j) (suc b) l2 vs c (tys ts))) in
-                mov_each k f b (reg j) own_j.0 rest (reg_each k f j own_j.0 own_j.1 own_j.2) (λ f2 here o.
+                mov_each Q P k f b (reg j) own_j.0 rest (reg_each Q P k f j own_j.0 own_j.1 own_j.2) (λ f2 here o.
                 let live : Live f2 l2 g (suc b) (wants c (v ∷ vs)) = λ n i r z.
                 (let own = l n i r z in
                 let pl = place_instead m b j n one in
@@ -750,7 +572,7 @@ module _ (A : AProp) (N : ℕ → Type 0) (S : ATy → Type 0) (Q : TProp) (C : 
               top_fewer 0 (length vs) m (used (Call v ts vs)) (used (Call v ts vs)) (λ n y. y)
                   (omega arith),
             )) c) t.5 te.2 (λ h x y file below.
-            ((ty_args us 1, each_has k h x (CodeTy 0 (ty_args us 1)) y, file), (ty_args us 1, y)))
+            ((ty_args us 1, each_has Q P k h x (CodeTy 0 (ty_args us 1)) y, file), (ty_args us 1, y)))
         term_each (If0 v x y) k g m at f ap_ c b t te sm has =
             let d = over m (used (If0 v x y)) in
             let rest = code k m (suc at) x in
@@ -793,73 +615,5 @@ module _ (A : AProp) (N : ℕ → Type 0) (S : ATy → Type 0) (Q : TProp) (C : 
         term_each (Halt v) k g m at f ap_ c b t te sm has =
             let d = over m (uses v) in
             unnest_each k g v AInt f m d d (move 1 (small d m v) (Ends T.Halt)) c t.fine t.is te (λ f2 u x fit o.
-            move_each k f2 1 (small d m v) u (Ends T.Halt) x
+            move_each Q P k f2 1 (small d m v) u (Ends T.Halt) x
             (λ f3 here o2. (here ∙ ap Some (same_fits u IntTy fit int_no_tuple), tt)))
-
-        -- the file and the sequence of each block
-        abbrev pub Good : List TBlock → Type 0
-        Good [] = Unit {0}
-        Good (b ∷ bs) =
-            (BelowFile b.owes b.file × FileTypes Q b.owes b.file × SeqEach Q P b.owes (lookup b.file) b.code) × Good bs
-
-        pub good_both : (xs ys : List TBlock) → Good xs → Good ys → Good (xs ++ ys)
-        good_both [] ys a b = b
-        good_both (x ∷ xs) ys a b = (a.0, good_both xs ys a.1 b)
-
-        pub extras_good : (e : ATm) (k : ℕ) (g : List ATy) (m : List ℕ) (at : ℕ) → Apart m g (used e) → All-below k g →
-            Term-ok p k g e → TEach A p k g e → All-of S g → HasAt P.blocks at (extras p k m g at e) →
-            Good (extras p k m g at e)
-        extras_good (Let x e) k g m at ap_ b t te sm has =
-            extras_good e (more_vars x k) (declared p g x) (target m x e ∷ m) at (apart_next p k g m x e ap_ t.0)
-            (declared_below p ok k g b x t.0) t.1 te.1 (parts_declared k g x te.0 t.0 sm) has
-        extras_good (Call v ts vs) k g m at ap_ b t te sm has = tt
-        extras_good (If0 v x y) k g m at ap_ b t te sm has =
-            let ex = extras p k m g (suc at) x in
-            let ey = extras p k m g (suc at + thirds x) y in
-            let len = length_extras p k m g (suc at) x in
-            let front = has_front P.blocks (suc at) ex ey has.1 in
-            let back = has_back P.blocks (suc at) (suc at + thirds x) ex ey (ap (λ q. suc at + q) (sym len)) has.1 in
-            let apx = apart_fewer m g (used (If0 v x y)) (used x)
-            (λ n z. or_right (uses v n) (used x n || used y n) (or_left (used x n) (used y n) z)) ap_ in
-            let apy = apart_fewer m g (used (If0 v x y)) (used y)
-            (λ n z. or_right (uses v n) (used x n || used y n) (or_right (used x n) (used y n) z)) ap_ in (
-              (
-                below_header k (used y) m g b,
-                header_q k (used y) m g (names_in k g v te.0) sm,
-                term_each y k g m (suc at + thirds x) (lookup (header (used y) m g)) apy
-                    (live_header m g (used y) apy) b t.2 te.2 sm back,
-              ),
-              good_both ex ey (extras_good x k g m (suc at) apx b t.1 te.1 sm front)
-                  (extras_good y k g m (suc at + thirds x) apy b t.2 te.2 sm back),
-            )
-        extras_good (Halt v) k g m at ap_ b t te sm has = tt
-
-        -- the blocks of the program, and then their third parts
-        pub firsts_good : (some : List ABlk) (at : ℕ) → Blocks-ok p some → BsEach A p some →
-            HasAt P.blocks at (seconds p some at) → Good (firsts some at) × Good (seconds p some at)
-        firsts_good [] at a be has = (tt, tt)
-        firsts_good (b ∷ some) at a be has =
-            let g = types_of b.args [] in
-            let m = rows (arity b.args) in
-            let es = extras p b.owes m g at b.body in
-            let len = length_extras p b.owes m g at b.body in
-            let front = has_front P.blocks at es _ has in
-            let back = has_back P.blocks at (at + thirds b.body) es (seconds p some (at + thirds b.body))
-            (ap (λ q. at + q) (sym len)) has in
-            let below = below_args b.owes b.args [] a.0.0 tt in
-            let apart = apart_args b.args (used b.body) in
-            let c = live_over (lookup (ty_args b.args 1)) m g (suc (length g)) (used b.body)
-            (live_fewer (lookup (ty_args b.args 1)) m g (suc (length g)) (λ n. true) (used b.body) (λ n z. refl)
-            (live_args b.args)) in
-            let rest = firsts_good some (at + thirds b.body) a.1 be.1 back in
-            let sm = parts_args b.owes b.args [] be.0.0 tt in (
-              (
-                (
-                  below_ty_args b.args b.owes 1 a.0.0,
-                  args_q b.owes b.args 1 be.0.0,
-                  term_each b.body b.owes g m at (lookup (ty_args b.args 1)) apart c below a.0.1 be.0.1 sm front,
-                ),
-                rest.0,
-              ),
-              good_both es _ (extras_good b.body b.owes g m at apart below a.0.1 be.0.1 sm front) rest.1,
-            )

@@ -28,10 +28,11 @@ use Rattle.gen_law.specs.Gen.{owns, saved, above_saved, instead, places_saved, c
 use Rattle.gen_law.specs.Gen.{header, extras, rows, firsts, seconds, generated_blocks, applied_to, constant, data_of}
 use Rattle.gen_law.specs.Gen.{generated_heap, generated}
 use Rattle.a_terms.specs.Bound.{thirds}
-use Rattle.gen_law.proofs.Runs.{length_rows}
+use Rattle.gen_law.proofs.Covers.{length_rows}
 use Rattle.gen_law.proofs.Free.{free_within, spare_apart}
 use Rattle.gen_law.proofs.Places.{length_firsts}
 use Rattle.gen_law.specs.GenLaws.{length_extras}
+use Rattle.gen_law.proofs.Laying.{length_heap}
 
 mutual
   type_whole : (t : ATy) (n : ℕ) → ABelow n t → n + bulk t ≤ max_names → WellFormed n (ty t)
@@ -522,10 +523,6 @@ data_small low [] f l x e = cc
 data_small low (y ∷ xs) f zero x e =
     let z : y ≡ x = cc in omega (arith, fields_small low y f.0, ap (λ q. bulk_fields (data_fields q)) z)
 data_small low (y ∷ xs) f (suc l) x e = data_small low xs f.1 l x e
-
-length_heap : (xs : List AConsts) → length (generated_heap xs) ≡ length xs
-length_heap [] = refl
-length_heap (x ∷ xs) = ap suc (length_heap xs)
 
 pub whole : (p : AProg) (main : ATm) → Program-ok p main → Fits-in max_names p main → Whole (generated p main)
 whole p main q f =
